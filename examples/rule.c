@@ -43,7 +43,7 @@ int main(int count, char **words) {
     size_t len = strlen(words[1]), asked = (size_t)count - 2;
     uint32_t refused = zoned_parse(ZONED_TEXT, text, len);
     if (refused) {
-        fprintf(stderr, "%s is refused: %" PRIu32 "\n", words[1], refused);
+        fprintf(stderr, "%s is rejected: %" PRIu32 "\n", words[1], refused);
         return 1;
     }
     int64_t *seconds = malloc(asked * sizeof *seconds);
@@ -58,7 +58,7 @@ int main(int count, char **words) {
     refused = zoned_at(ZONED_TEXT, text, len, seconds, asked, offsets, asked);
     if (!refused) refused = zoned_wall(ZONED_TEXT, text, len, seconds, asked, answers, 3 * asked);
     if (refused) { /* the text was read before, so there is no memory now */
-        fprintf(stderr, "%s is refused: %" PRIu32 "\n", words[1], refused);
+        fprintf(stderr, "%s is rejected: %" PRIu32 "\n", words[1], refused);
         return 1;
     }
     for (size_t i = 0; i < asked; i++) print_answers(seconds[i], offsets[i], &answers[3 * i]);

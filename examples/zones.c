@@ -86,7 +86,7 @@ int main(int count, char **words) {
     if (refused) {
         char text[128];
         zoned_error_text(refused, text, sizeof text);
-        fprintf(stderr, "%s is refused: %" PRIu32 ", %s\n", words[1], refused, text);
+        fprintf(stderr, "%s is rejected: %" PRIu32 ", %s\n", words[1], refused, text);
         return 1;
     }
     return 0;

@@ -53,7 +53,7 @@ int main(int count, char **words) {
             print_taken(zone, second);
         }
     } catch (const zoned::error &error) {
-        std::cerr << words[1] << " is refused: " << error.number << ", " << error.what() << '\n';
+        std::cerr << words[1] << " is rejected: " << error.number << ", " << error.what() << '\n';
         return 1;
     }
 }

@@ -137,7 +137,7 @@ def main():
         with zones.open(file) as zone:
             answers = zip(seconds, zone.types(seconds), zone.wall_clocks(seconds), zone.instants(seconds))
     except Refused as refused:
-        sys.exit(f"{path} is refused: {refused}")
+        sys.exit(f"{path} is rejected: {refused}")
     for second, local_type, clock, taken in answers:
         print(f"instant {second}: {local_type}")
         print(f"wall clock {second}: {clock}")

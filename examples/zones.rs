@@ -188,5 +188,5 @@ fn answer(words: &[String]) -> Result<(), String> {
         .collect::<Result<Vec<i64>, String>>()?;
     Zone::open(&bytes)
         .and_then(|zone| print_answers(&zone, &seconds))
-        .map_err(|refused| format!("{path} is refused: {refused}"))
+        .map_err(|refused| format!("{path} is rejected: {refused}"))
 }

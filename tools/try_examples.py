@@ -94,7 +94,7 @@ def told_by_rule(lines):
 
 
 def zone_of_text(text):
-    """The zone of a TZ text for zoneinfo: a TZif file of version 2 without transitions, whose footer is the text."""
+    """The zone of a TZ string for zoneinfo: a TZif file of version 2 without transitions, whose footer is the text."""
     counts = struct.pack(">6L", 0, 0, 0, 0, 1, 4)
     block = b"TZif2" + bytes(15) + counts + struct.pack(">lBB", 0, 0, 0) + b"UTC\0"
     return ZoneInfo.from_file(BytesIO(block + block + b"\n" + text.encode() + b"\n"))
@@ -128,7 +128,7 @@ def differences(name, what, command, lines):
 
 def unrefused(name, what, command, number):
     ended = run(command)
-    if ended.returncode != 1 or not re.search(rf"is refused: {number}\b", ended.stderr):
+    if ended.returncode != 1 or not re.search(rf"is rejected: {number}\b", ended.stderr):
         yield f"{name}: {what} ends with {ended.returncode}: {ended.stderr}"
 
 

@@ -1,6 +1,6 @@
 /* Tries the calls of zoned_ffi.h by handle, as a C program makes them. tools/try_handles.py builds and runs it.
 
-     try_handles CALLS SEED FILE ..       of these TZif files, and of TZ texts
+     try_handles CALLS SEED FILE ..       of these TZif files, and of TZ strings
 
    Random calls: handles are opened on zones, on parts of their bytes and on bytes with faults, by kinds that are and that
    aren't, shared, closed and asked, with counts that fit and that don't. What a handle answers is compared with what the

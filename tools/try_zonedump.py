@@ -171,7 +171,7 @@ def try_names(program, folder):
           run(program, "good", "caf\udce9", "good", folder=folder))
     for option in ("--write", "--svg"):
         check(f"{option} to one", (1, "", f"zonedump: {odd}"), run(program, option, "caf\udce9", "good", folder=folder))
-    check("--text of one", (1, "", "zonedump: A\\xe9B0: not a TZ text: not UTF-8\n"), run(program, "--text", "A\udce9B0"))
+    check("--text of one", (1, "", "zonedump: A\\xe9B0: not a TZ string: not UTF-8\n"), run(program, "--text", "A\udce9B0"))
     status, output, errors = run(program, "--from", "\udce9", "good", folder=folder)
     check("--from of one", (2, "", True, False), (status, output, "'\\xe9'" in errors, "\0" in errors))
 
@@ -373,7 +373,7 @@ def main():
         check(" ".join(words) or "no arguments", (2, "", True), (status, output, errors != ""))
     for text in WRONG_TEXTS:
         status, output, errors = run(program, "--text", text)
-        check(f"--text {text!r}", (1, "", True), (status, output, f"{text}: not a TZ text: " in errors))
+        check(f"--text {text!r}", (1, "", True), (status, output, f"{text}: not a TZ string: " in errors))
     return exit_status()
 
 

@@ -4,7 +4,7 @@
 usage: tools/write_large_input.py mixed [FILE]     a zone line, then `at`, `wall` and `show` in turn, a million lines in all
        tools/write_large_input.py file [QUESTIONS] one TZif file as a `data` line, then QUESTIONS lines (0) near its changes
 
-The zone of `mixed` is New York's by TZ text, or that of the TZif file FILE; the instants lie from 1900 to 2100. The TZif
+The zone of `mixed` is New York's by TZ string, or that of the TZif file FILE; the instants lie from 1900 to 2100. The TZif
 file of `file` has version 2, 100,000 transitions and 1,000 leap second entries.
 """
 

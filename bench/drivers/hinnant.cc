@@ -1,4 +1,4 @@
-// Howard Hinnant's date as Debian builds it, which reads the system's zones by name alone, and its ptz.h for the TZ text; with
+// Howard Hinnant's date as Debian builds it, which reads the system's zones by name alone, and its ptz.h for the TZ string; with
 // -DSTANDARD_ZONES the zones of C++20, which have the same calls.
 #include "common.h"
 #ifdef STANDARD_ZONES

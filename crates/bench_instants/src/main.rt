@@ -5,9 +5,9 @@
 //! `bench_instants kept ZONE LOOKUP COUNT`, with `borrowed` for `kept`. The zones are names of files,
 //! each a TZif file or a TZ string. `times` prints a line for each question, its words parted by tabs:
 //! its name, the nanoseconds for all answers, how many there are, and their sum. `answers` prints the
-//! name and the answer of each question about each of the first values, so many as COUNT says. `kept`
-//! and `borrowed` ask such a zone for an `instant`, for a `wall` clock or in a `gap`, so often as COUNT
-//! says, and print what the answers sum up to: `bench/time_instants.py` times them. With other words,
+//! name and the answer of each question about each of the first COUNT values. `kept`
+//! and `borrowed` ask such a zone for an `instant`, for a `wall` clock or in a `gap`, COUNT
+//! times, and print what the answers sum up to: `bench/time_instants.py` times them. With other words,
 //! or other files, it ends with status 1.
 #![tactic(auto)]
 

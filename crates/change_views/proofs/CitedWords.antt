@@ -15,7 +15,7 @@ pub use Rattle.naive_base.proofs.Words.{suc, sym, to_z-of_z, w32, w64, year_step
 unfoldable pub use Rattle.naive_base.proofs.Words.{year_start}
 pub use Rattle.tz_base.specs.LocalTypes.{IsUtOffset, LocalType}
 pub use Rattle.tz_base.specs.declared.change.Change.{Change}
-pub use Rattle.change_views.specs.ChangeLines.{change_lines, line}
+pub use Rattle.change_views.specs.ChangeLines.{change_lines, ended_line}
 pub use Rattle.change_views.specs.ChangeValues.{change_value, name_value, type_value}
 pub use Rattle.change_views.specs.JsonSteps.{Puts}
 pub use Rattle.change_views.specs.Spans.{AreYears, IsInYears, IsNearYears, year_second, year_until}

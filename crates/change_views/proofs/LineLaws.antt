@@ -1,7 +1,7 @@
 -- Lines one after the other, and seconds in years.
 use Rattle.change_views.proofs.CitedWords.{Change, FitsSigned, IsInYears, IsNearYears, List, ap, append-nil, append_assoc, arith, flat_map, flat_map-append}
-use Rattle.change_views.proofs.CitedWords.{floors, get_or, ints, length, line, neg_ℤ, pair_lines, pos, refl, second_text, starts_rise, suc, sym, take, take-suc}
-use Rattle.change_views.proofs.CitedWords.{w64, year_second, year_start, year_until, ℕ, ℤ, [], ◌++◌, ◌+ℤ◌, ◌+◌, ◌-ℤ◌, ◌<◌, ◌∙◌, ◌∷◌, ◌≡◌, ◌≤ℤ◌}
+use Rattle.change_views.proofs.CitedWords.{floors, get_or, ints, length, ended_line, neg_ℤ, pair_lines, pos, refl, second_text, starts_rise, suc, sym, take}
+use Rattle.change_views.proofs.CitedWords.{take-suc, w64, year_second, year_start, year_until, ℕ, ℤ, [], ◌++◌, ◌+ℤ◌, ◌+◌, ◌-ℤ◌, ◌<◌, ◌∙◌, ◌∷◌, ◌≡◌, ◌≤ℤ◌}
 
 -- one more piece is appended
 pub piece_next : {X : Type 0} (f : X → List ℕ) (start before after : List ℕ) (xs : List X) (i : ℕ) (d : X) → i < length xs
@@ -48,8 +48,8 @@ two_pieces start one two a b first second = second ∙ ap (λ t. t ++ b) first �
 
 -- a pair of lines is appended, one by one
 pub pair_told : (name : List ℕ) (c : Change) (start one two : List ℕ) (before at : ℤ) → before ≡ c.at -ℤ pos 1 → at ≡ c.at
-    → one ≡ start ++ line (second_text name before c.before) → two ≡ one ++ line (second_text name at c.after) → two ≡ start ++ pair_lines name c
+    → one ≡ start ++ ended_line (second_text name before c.before) → two ≡ one ++ ended_line (second_text name at c.after) → two ≡ start ++ pair_lines name c
 pair_told name c start one two before at is_before is_at first second =
-    two_pieces start one two (line (second_text name (c.at -ℤ pos 1) c.before)) (line (second_text name c.at c.after))
-    (first ∙ ap (λ u. start ++ line (second_text name u c.before)) is_before)
-    (second ∙ ap (λ u. one ++ line (second_text name u c.after)) is_at)
+    two_pieces start one two (ended_line (second_text name (c.at -ℤ pos 1) c.before)) (ended_line (second_text name c.at c.after))
+    (first ∙ ap (λ u. start ++ ended_line (second_text name u c.before)) is_before)
+    (second ∙ ap (λ u. one ++ ended_line (second_text name u c.after)) is_at)

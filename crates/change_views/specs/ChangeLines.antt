@@ -29,9 +29,9 @@ change_text c =
     ++ codes "  " ++ step_text c
 
 -- a line
-abbrev pub line : List ℕ → List ℕ
-line text = text ++ codes "\n"
+abbrev pub ended_line : List ℕ → List ℕ
+ended_line text = text ++ codes "\n"
 
 -- a line for each change
 abbrev pub change_lines : List Change → List ℕ
-change_lines changes = flat_map (λ c. line (change_text c)) changes
+change_lines changes = flat_map (λ c. ended_line (change_text c)) changes

@@ -9,7 +9,7 @@ use Rattle.naive_base.specs.Text.{time_text}
 use Rattle.naive_base.specs.Weekday.{weekday_of}
 use Rattle.tz_base.specs.LocalTypes.{LocalType}
 use Rattle.tz_base.specs.declared.change.Change.{Change}
-use Rattle.change_views.specs.ChangeLines.{line}
+use Rattle.change_views.specs.ChangeLines.{ended_line}
 use Rattle.change_views.specs.Words.{name_words}
 
 -- a weekday in three letters, 0 for Sunday
@@ -32,12 +32,12 @@ unfoldable pub short_day : ℕ → List ℕ
 short_day day = if nat_lt day 10 then codes " " ++ decimal day else decimal day
 
 -- the date of a day, but its year: `Sun Apr  3`
-abbrev pub day_text : ℤ → List ℕ
-day_text day = short_weekday (weekday_of day) ++ codes " " ++ short_month (month_of day) ++ codes " " ++ short_day (day_of_month day)
+abbrev pub zdump_day_text : ℤ → List ℕ
+zdump_day_text day = short_weekday (weekday_of day) ++ codes " " ++ short_month (month_of day) ++ codes " " ++ short_day (day_of_month day)
 
 -- a reading, as asctime of the C library has it: `Sun Apr  3 07:00:00 2005`
 abbrev pub asctime_text : Reading → List ℕ
-asctime_text r = day_text (day_at r) ++ codes " " ++ time_text (second_at r) r.f ++ codes " " ++ signed_decimal (year_of (day_at r))
+asctime_text r = zdump_day_text (day_at r) ++ codes " " ++ time_text (second_at r) r.f ++ codes " " ++ signed_decimal (year_of (day_at r))
 
 -- what a clock of UTC and one at that offset show at the second
 abbrev pub clocks_text : ℤ → ℤ → List ℕ
@@ -58,11 +58,11 @@ second_text name at t = name ++ codes "  " ++ clocks_text at t.offset ++ codes "
 
 -- the second before a change, and its own
 abbrev pub pair_lines : List ℕ → Change → List ℕ
-pair_lines name c = line (second_text name (c.at -ℤ pos 1) c.before) ++ line (second_text name c.at c.after)
+pair_lines name c = ended_line (second_text name (c.at -ℤ pos 1) c.before) ++ ended_line (second_text name c.at c.after)
 
 -- a second that is too far away for a date
 abbrev pub null_line : List ℕ → List ℕ → List ℕ
-null_line name second = line (name ++ codes "  " ++ second ++ codes " = NULL")
+null_line name second = ended_line (name ++ codes "  " ++ second ++ codes " = NULL")
 
 -- the first second of 64 bits, and that a day later
 abbrev pub first_lines : List ℕ → List ℕ

@@ -17,9 +17,9 @@ const LAST_SECOND: i128 = 8_210_266_876_799;
 
 /// What UTC shows at the second of a change.
 #[derive(Clone, Copy)]
-pub(crate) struct Utc<'a>(pub(crate) &'a Change);
+pub(crate) struct ClockOfChange<'a>(pub(crate) &'a Change);
 
-impl fmt::Display for Utc<'_> {
+impl fmt::Display for ClockOfChange<'_> {
     ghost output = { λ utc. Some (clock_words utc.0.now.at) };
 
     fn fmt<W: fmt::Write>(&self, f: &mut fmt::Formatter<W>) -> fmt::Result {

@@ -9,7 +9,7 @@ ghost use Rattle.change_views.specs.JsonSteps.{Puts};
 ghost use Rattle.change_views.specs.ChangeValues.{change_value, list_value, name_value, step_name, type_value};
 ghost use Rattle.change_views.specs.Clocks.{clock_words};
 
-use crate::clocks::Utc;
+use crate::clocks::ClockOfChange;
 use json::Writer;
 use std::alloc::{AllocError, Global};
 use tz_base::{Change, LocalTimeType};
@@ -63,7 +63,7 @@ fn put_clock(writer: &mut Writer, alloc: Global, change: &Change) -> Result<(), 
     ensures { Puts result writer.old writer.new
         (key (codes "utc") ∷ string (clock_words change.now.at) ∷ []) }
 {
-    let utc = Utc(change);
+    let utc = ClockOfChange(change);
     let text = format!(in alloc; "{utc}")?;
     put_string(writer, "utc", text.as_str())
 }

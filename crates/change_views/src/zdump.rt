@@ -6,8 +6,10 @@ ghost use Rattle.naive_base.specs.NaiveDateTime.{reading};
 ghost use Rattle.naive_base.specs.Reading.{day_at};
 ghost use Rattle.change_views.specs.Spans.{IsInYears, IsNearYears};
 ghost use Rattle.change_views.specs.Steps.Seconds.{clocks_of};
-ghost use Rattle.change_views.specs.ChangeLines.{line};
-ghost use Rattle.change_views.specs.ZdumpLines.{short_weekday, short_month, short_day, day_text, asctime_text, type_fields, second_text, pair_lines, null_line, first_lines, last_lines, zdump_text};
+ghost use Rattle.change_views.specs.ChangeLines.{ended_line};
+ghost use Rattle.change_views.specs.ZdumpLines.{short_weekday, short_month, short_day, zdump_day_text, asctime_text};
+ghost use Rattle.change_views.specs.ZdumpLines.{type_fields, second_text, pair_lines, null_line, first_lines};
+ghost use Rattle.change_views.specs.ZdumpLines.{last_lines, zdump_text};
 
 use crate::change_lines::{shown, utc_at};
 use naive_base::{Datelike, NaiveDateTime};
@@ -87,7 +89,7 @@ fn second_before(at: i64) -> i64
 fn push_second(out: &mut String, name: &str, at: i64, t: &LocalTimeType) -> Result<(), AllocError>
     requires { IsNearYears at }
     ensures { OnOk result (string_bytes out.new
-        ≡ string_bytes out.old ++ line (second_text name.now at t.now)) }
+        ≡ string_bytes out.old ++ ended_line (second_text name.now at t.now)) }
 {
     let clocks = ClocksText(utc_at(at), shown(at, t));
     writeln!(out, "{}", SecondText(name, clocks, TypeFields(t)))
@@ -150,7 +152,7 @@ impl fmt::Display for Asctime {
 struct DayText(NaiveDateTime);
 
 impl fmt::Display for DayText {
-    ghost output = { λ text. Some (day_text (day_at (reading text.0))) };
+    ghost output = { λ text. Some (zdump_day_text (day_at (reading text.0))) };
 
     fn fmt<W: fmt::Write>(&self, f: &mut fmt::Formatter<W>) -> fmt::Result {
         let weekday = weekday_name(self.0.weekday().num_days_from_sunday());

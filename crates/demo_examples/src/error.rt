@@ -7,7 +7,7 @@ use zoned::{KeepError, ResolveError, SeriesError, tz_info};
 /// What can go wrong.
 #[derive(Clone, Copy, Debug, PartialEq, Eq, Error)]
 pub enum MyError {
-    #[error("the zone is refused: {0}")]
+    #[error("the zone is rejected: {0}")]
     Zone(#[from] tz_info::Error),
     #[error("the zone has an offset of a day or more")]
     WideZone,

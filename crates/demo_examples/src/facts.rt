@@ -1,5 +1,6 @@
 //! Facts about instants, stated in the words that the library passes on. None has a proof file.
-ghost use Rattle.std.specs.Prelude.{◌≡◌, ℤ, pos, ◌+ℤ◌, ◌≤ℤ◌, ◌<ℤ◌, ◌++◌, ◌∷◌, IfErr, IfOk, IfSome, option_map, string_bytes, FitsSigned};
+ghost use Rattle.std.specs.Prelude.{◌≡◌, ℤ, pos, ◌+ℤ◌, ◌≤ℤ◌, ◌<ℤ◌, ◌++◌, ◌∷◌, IfErr, IfOk, IfSome, option_map};
+ghost use Rattle.std.specs.Prelude.{string_bytes, FitsSigned};
 ghost use Rattle.std.specs.Int.{w64};
 ghost use Rattle.zoned.specs.Choice.{IsUnresolved};
 ghost use Rattle.zoned.specs.DateTime.{zoned, wall_of, IsIn};
@@ -14,7 +15,7 @@ ghost use Rattle.zoned.specs.NaiveDate.{day_of};
 ghost use Rattle.zoned.specs.NaiveDateTime.{reading};
 ghost use Rattle.zoned.specs.Range.{IsInRange};
 ghost use Rattle.zoned.specs.Reading.{reading_at, total};
-ghost use Rattle.zoned.specs.Zone.{Shows};
+ghost use Rattle.zoned.specs.Zone.{ShowsByOffset};
 ghost use Rattle.zoned.specs.Zoned.{in_seconds};
 ghost use Rattle.zoned.specs.Zones.{TypeAt};
 
@@ -126,7 +127,7 @@ pub fn place<Tz: TimeZone>(
     ensures shown { IfSome result (λ d. wall_of d ≡ reading shown.now) }
     // It isn't earlier than the line before, if the clock shows that then or later.
     ensures in_order { let s = (zoned before.now).utc.s in (u k : ℤ)
-        → Shows (Tz.law zone.now).off (reading shown.now).s u k → s ≤ℤ u
+        → ShowsByOffset (Tz.law zone.now).off (reading shown.now).s u k → s ≤ℤ u
         → IfSome result (λ d. s ≤ℤ (zoned d).utc.s) }
 {
     let instants = zone.from_local_datetime(shown);

@@ -1,6 +1,6 @@
 -- What the clocks of the odd zone show.
-use Rattle.demo_own_zone.proofs.Words.{IsBeforeGap, IsShownBetween, IsWide, Shows, arith, floor_div, floor_mod, ints, negsuc, odd_offset, pos, refl, ℤ, ◌*ℤ◌}
-use Rattle.demo_own_zone.proofs.Words.{◌+ℤ◌, ◌-ℤ◌, ◌<◌, ◌≡◌}
+use Rattle.demo_own_zone.proofs.Words.{IsBeforeGap, IsShownBetween, IsWide, ShowsByOffset, arith, floor_div, floor_mod, ints, negsuc, odd_offset, pos, refl, ℤ}
+use Rattle.demo_own_zone.proofs.Words.{◌*ℤ◌, ◌+ℤ◌, ◌-ℤ◌, ◌<◌, ◌≡◌}
 
 -- a second is twice its half, and one more where it is odd
 pub two_halves : (u : ℤ) → (pos 2 *ℤ floor_div u 2 +ℤ odd_offset u ≡ u) × (floor_mod u 2 < 2)
@@ -14,7 +14,7 @@ odd_before l even =
     omega (arith, ints)
 
 -- an even second is shown at the second before it, with the offset 1, and at itself, with the offset 0
-pub shown_twice : (l : ℤ) → IsWide l → floor_mod l 2 ≡ 0 → IsShownBetween (Shows odd_offset l) (pos 1) (pos 0)
+pub shown_twice : (l : ℤ) → IsWide l → floor_mod l 2 ≡ 0 → IsShownBetween (ShowsByOffset odd_offset l) (pos 1) (pos 0)
 shown_twice l wide even = record {
   first = l -ℤ pos 1;
   last = l;

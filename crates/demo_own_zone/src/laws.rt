@@ -3,7 +3,7 @@ ghost use Rattle.std.specs.Prelude.{◌≡◌, ◌↔◌, IsTrue, ℤ, pos};
 ghost use Rattle.offset_core.specs.WallAnswer.{IsNeverShown, IsShownBetween};
 ghost use Rattle.naive_base.specs.Range.{IsWide};
 ghost use Rattle.naive_base.specs.Year.{floor_mod};
-ghost use Rattle.zoned_time.specs.Zone.{Shows};
+ghost use Rattle.zoned_time.specs.Zone.{ShowsByOffset};
 ghost use Rattle.demo_own_zone.specs.Odd.{odd_offset};
 ghost use Rattle.demo_own_zone.specs.declared.offset.OddOffset.{OddOffset as AnyOffset};
 
@@ -12,9 +12,9 @@ use crate::{Odd, OddOffset};
 /// The clocks of the odd zone show no odd second, and each even one twice: first with the offset 1,
 /// then with 0.
 pub fn odd_seconds_are_gaps_and_even_ones_folds()
-    ensures odd { (l : ℤ) → floor_mod l 2 ≡ 1 → IsNeverShown (Shows odd_offset l) }
+    ensures odd { (l : ℤ) → floor_mod l 2 ≡ 1 → IsNeverShown (ShowsByOffset odd_offset l) }
     ensures even { (l : ℤ) → IsWide l → floor_mod l 2 ≡ 0
-        → IsShownBetween (Shows odd_offset l) (pos 1) (pos 0) }
+        → IsShownBetween (ShowsByOffset odd_offset l) (pos 1) (pos 0) }
 {}
 
 /// Offsets are equal if and only if they are the same one, and a clone is the offset.

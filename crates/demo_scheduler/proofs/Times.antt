@@ -9,7 +9,7 @@ use Rattle.naive_base.specs.Range.{IsInRange}
 use Rattle.naive_base.specs.Reading.{Reading, IsEarlier}
 use Rattle.naive_base.specs.declared.time.NaiveTime.{NaiveTime}
 use Rattle.demo_scheduler.specs.Fires.{local_on, RunsOn, IsFireOn}
-use Rattle.demo_scheduler.specs.Steps.{IsReachedAfter, IsEarlierOf, HasNoFireOn, IsFirstFireOn}
+use Rattle.demo_scheduler.specs.Steps.{IsReachedAfter, IsEarlierInstantOf, HasNoFireOn, IsFirstFireOn}
 use Rattle.demo_scheduler.specs.declared.schedule.Schedule.{Schedule}
 
 module _ {D : Type 0} (utc : D → Reading) (Given : D → Type 0) (off : ℤ → ℤ) (s : Schedule) (day : ℤ) (after : Reading) where
@@ -50,7 +50,7 @@ module _ {D : Type 0} (utc : D → Reading) (Given : D → Type 0) (off : ℤ �
       (record { runs = runs; time = time; listed = listed; first = reached.first }, reached.later, given)
 
   one_more : (n : ℕ) (d : NaiveTime) (found fire result : Option D) → n < length s.times.items → RunsOn s.days day → IsFoundAmong n found
-      → IsFirstAfter (local_on day (get_or s.times.items n d)) fire → IsEarlierOf utc found fire result → IsFoundAmong (n + 1) result
+      → IsFirstAfter (local_on day (get_or s.times.items n d)) fire → IsEarlierInstantOf utc found fire result → IsFoundAmong (n + 1) result
   one_more n d None None result place runs (is, tried) none same =
       subst (IsFoundAmong (n + 1)) (sym same) (is, All-more (IsTried None) s.times.items n d place tried none)
   one_more n d None (Some b) result place runs (is, tried) (reached, given) same =
@@ -71,7 +71,7 @@ module _ {D : Type 0} (utc : D → Reading) (Given : D → Type 0) (off : ℤ �
 
   -- what a day's run at one time adds
   pub more : (n : ℕ) (d : NaiveTime) (l : Reading) (found fire result : Option D) → n < length s.times.items → RunsOn s.days day
-      → l ≡ local_on day (get_or s.times.items n d) → IsFoundAmong n found → IsFirstAfter l fire → IsEarlierOf utc found fire result
+      → l ≡ local_on day (get_or s.times.items n d) → IsFoundAmong n found → IsFirstAfter l fire → IsEarlierInstantOf utc found fire result
       → IsFoundAmong (n + 1) result
   more n d l found fire result place runs at among told least =
       one_more n d found fire result place runs among (subst (λ l. IsFirstAfter l fire) at told) least

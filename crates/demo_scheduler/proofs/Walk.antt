@@ -1,7 +1,7 @@
 -- The walk from date to date: each run on a day before has come.
 use Rattle.std.proofs.Common.{◌≡◌, ◌<◌, ◌+◌, ℕ, ℤ, pos, negsuc, ◌+ℤ◌, ◌*ℤ◌, ◌≤ℤ◌, ◌<ℤ◌, inl, inr, arith, subst}
 use Rattle.std.proofs.lemmas.Int.{ints, by_lt_z}
-use Rattle.zoned_time.specs.Days.{IsFirstAtOrAfter}
+use Rattle.zoned_time.specs.Days.{IsFirstInstantFrom}
 use Rattle.naive_base.specs.NaiveTime.{second_of}
 use Rattle.naive_base.specs.Range.{IsInRange, last_day}
 use Rattle.naive_base.specs.Reading.{Reading, ahead, IsEarlier}
@@ -49,7 +49,7 @@ later_day time other_time day other short h (inl less) = omega (arith, ints)
 later_day time other_time day other short h (inr same) = let e = same.0 in omega (arith, ints)
 
 abbrev Rises : (ℤ → ℤ) → Type 0
-Rises off = (l m a b : Reading) → ¬ (IsEarlier m l) → IsFirstAtOrAfter off l a → IsFirstAtOrAfter off m b → ¬ (IsEarlier b a)
+Rises off = (l m a b : Reading) → ¬ (IsEarlier m l) → IsFirstInstantFrom off l a → IsFirstInstantFrom off m b → ¬ (IsEarlier b a)
 
 in_between : (a q r : Reading) → IsInRange a.s → IsInRange r.s → IsEarlier a q → IsEarlier q r → IsInRange q.s
 in_between a q r low high (inl x) (inl y) = (omega (arith, ints, low), omega (arith, ints, high))

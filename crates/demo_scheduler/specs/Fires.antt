@@ -1,7 +1,7 @@
 -- When a schedule runs, and when it runs next.
 use Rattle.std.specs.Prelude.{ℤ, ◌≡◌, ◌≤◌, ◌≤ℤ◌, ⊤, Contains}
 use Rattle.naive_base.specs.DateOf.{day_of_month}
-use Rattle.zoned_time.specs.Days.{IsFirstAtOrAfter}
+use Rattle.zoned_time.specs.Days.{IsFirstInstantFrom}
 use Rattle.naive_base.specs.NaiveTime.{second_of, fraction_of}
 use Rattle.naive_base.specs.Range.{IsInRange, last_day}
 use Rattle.naive_base.specs.Reading.{Reading, reading_at, IsEarlier}
@@ -27,7 +27,7 @@ pub record IsFireOn (off : ℤ → ℤ) (s : Schedule) (day : ℤ) (r : Reading)
   pub runs : RunsOn s.days day
   pub time : NaiveTime
   pub listed : Contains s.times.items time
-  pub first : IsFirstAtOrAfter off (local_on day time) r
+  pub first : IsFirstInstantFrom off (local_on day time) r
 
 -- r is the first after `after` of all instants at which it runs: no other one comes between
 pub record IsNextFire (off : ℤ → ℤ) (s : Schedule) (after r : Reading) : Type 0 where

@@ -1,7 +1,7 @@
 //! When a job runs.
 ghost use Rattle.std.specs.Prelude.{◌≡◌, MatchOption};
 ghost use Rattle.demo_scheduler.specs.Fires.{IsNextFire, IsNoFire};
-ghost use Rattle.demo_scheduler.specs.Steps.{IsEarlierOf, IsReachedAfter, IsFirstFireOn, HasNoFireOn};
+ghost use Rattle.demo_scheduler.specs.Steps.{IsEarlierInstantOf, IsReachedAfter, IsFirstFireOn, HasNoFireOn};
 ghost use Rattle.zoned_time.specs.DateTime.{zoned, IsIn};
 ghost use Rattle.naive_base.specs.NaiveDate.{day_of};
 ghost use Rattle.naive_base.specs.NaiveDateTime.{reading};
@@ -89,7 +89,7 @@ fn earlier<Tz: TimeZone>(
     one: Option<DateTime<Tz>>,
     other: Option<DateTime<Tz>>,
 ) -> Option<DateTime<Tz>>
-    ensures { IsEarlierOf (λ d. (zoned d).utc) one other result }
+    ensures { IsEarlierInstantOf (λ d. (zoned d).utc) one other result }
 {
     laws::earlier_is_less();
     match one {

@@ -38,7 +38,7 @@ pub fn year_day_of(day: i64) -> YearDay
     }
 }
 
-// Whether the year after so many centuries and years ends a cycle of four, but of the centuries
+// Whether the year after that many centuries and years ends a cycle of four, but of the centuries
 // only every fourth.
 fn is_leap_place(century: u64, year: u32) -> bool
     ensures { result ≡ (year % 4 == 3) && (not (year == 99) || (century % 4 == 3)) }

@@ -4,19 +4,19 @@ use Rattle.naive_base.specs.declared.month.Month.{Month}
 use Rattle.naive_base.specs.declared.month.Month.TheVariants.{January, February, March, April, May, June, July, August, September, October, November, December}
 
 -- the number of a month, 1 for January to 12
-abbrev pub number_of : Month → ℕ
-number_of January = 1
-number_of February = 2
-number_of March = 3
-number_of April = 4
-number_of May = 5
-number_of June = 6
-number_of July = 7
-number_of August = 8
-number_of September = 9
-number_of October = 10
-number_of November = 11
-number_of December = 12
+abbrev pub number_of_month : Month → ℕ
+number_of_month January = 1
+number_of_month February = 2
+number_of_month March = 3
+number_of_month April = 4
+number_of_month May = 5
+number_of_month June = 6
+number_of_month July = 7
+number_of_month August = 8
+number_of_month September = 9
+number_of_month October = 10
+number_of_month November = 11
+number_of_month December = 12
 
 -- its name, and the bytes of its `Display`
 abbrev pub month_name : Month → List ℕ

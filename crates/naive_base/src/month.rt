@@ -2,7 +2,7 @@
 ghost use Rattle.std.specs.Prelude.{◌≡◌, ◌+◌, ◌%◌, ◌<◌, ◌≤◌, ◌⊎◌, Some, SomeIff, MatchResult};
 ghost use Rattle.gregorian.specs.Year.{is_leap};
 ghost use Rattle.gregorian.specs.Month.{days_in_month};
-ghost use Rattle.naive_base.specs.MonthNames.{number_of, month_name};
+ghost use Rattle.naive_base.specs.MonthNames.{number_of_month, month_name};
 ghost use Rattle.naive_base.specs.Range.{IsYearInRange};
 
 use crate::OutOfRange;
@@ -42,7 +42,7 @@ impl Month {
     // The month of a number from 1 to 12.
     fn of_number(number: u32) -> Month
         requires { (1 ≤ number) × (number ≤ 12) }
-        ensures { number_of result ≡ number }
+        ensures { number_of_month result ≡ number }
     {
         match number {
             1 => Month::January,
@@ -62,21 +62,21 @@ impl Month {
 
     /// Returns the next month, which is January after December.
     pub fn succ(&self) -> Month
-        ensures { number_of result ≡ number_of self.now % 12 + 1 }
+        ensures { number_of_month result ≡ number_of_month self.now % 12 + 1 }
     {
         Month::of_number(self.number_from_month() % 12 + 1)
     }
 
     /// Returns the month before, which is December before January.
     pub fn pred(&self) -> Month
-        ensures { number_of result ≡ (number_of self.now + 10) % 12 + 1 }
+        ensures { number_of_month result ≡ (number_of_month self.now + 10) % 12 + 1 }
     {
         Month::of_number((self.number_from_month() + 10) % 12 + 1)
     }
 
     /// Returns the number of the month, from 1 for January to 12.
     pub fn number_from_month(&self) -> u32
-        ensures value { result ≡ number_of self.now }
+        ensures value { result ≡ number_of_month self.now }
         ensures bound { (1 ≤ result) × (result ≤ 12) }
     {
         match self {
@@ -123,7 +123,7 @@ impl Month {
     /// to 262142.
     pub fn num_days(&self, year: i32) -> Option<u8>
         ensures { SomeIff result (IsYearInRange year)
-            (days_in_month (is_leap year) (number_of self.now)) }
+            (days_in_month (is_leap year) (number_of_month self.now)) }
     {
         if year < FIRST_YEAR || year > LAST_YEAR {
             return None;
@@ -144,7 +144,7 @@ impl TryFrom<u8> for Month {
     type Error = OutOfRange;
 
     ghost try_from_gives = { λ number r. MatchResult r
-        (λ month. number_of month ≡ number) (λ _. (number ≡ 0) ⊎ (12 < number)) };
+        (λ month. number_of_month month ≡ number) (λ _. (number ≡ 0) ⊎ (12 < number)) };
 
     // A number from 1, for January, to 12.
     fn try_from(value: u8) -> Result<Month, OutOfRange> {

@@ -1,7 +1,7 @@
 -- What shows a local time, kind by kind, and what a choice takes of it.
 use Rattle.std.proofs.Common.{Err, MatchResult, Ok, Result, ap, refl, subst, sym, ◌↔◌, ◌∙◌, ◌≡◌, ℤ}
 use Rattle.std.specs.Prelude.{⊤}
-use Rattle.offset_core.specs.Around.{AreAlike, HoldsOfEach, IsAround, Takes, taken_in_fold, taken_in_gap, taken_of}
+use Rattle.offset_core.specs.Around.{AreAlikeAround, HoldsOfEachAround, IsAround, Takes, taken_in_fold, taken_in_gap, taken_of}
 use Rattle.offset_core.specs.WallAnswer.{IsNeverShown}
 use Rattle.offset_core.specs.declared.around.Around.{Around}
 use Rattle.offset_core.specs.declared.around.Around.TheVariants.{Ambiguous, Gap, Single}
@@ -25,7 +25,7 @@ pub alike_by : {T G : Type 0} (R : T → T → Type 0) (S : G → G → Type 0) 
     → ((a c d : T) → E (Single a) (Ambiguous c d) → ⊥) → ((a : T) (b : G) → E (Single a) (Gap b) → ⊥)
     → ((a b c : T) → E (Ambiguous a b) (Single c) → ⊥) → ((a b : T) (c : G) → E (Ambiguous a b) (Gap c) → ⊥)
     → ((a : G) (b : T) → E (Gap a) (Single b) → ⊥) → ((a : G) (c d : T) → E (Gap a) (Ambiguous c d) → ⊥)
-    → (x y : Around T G) → E x y ↔ AreAlike R S x y
+    → (x y : Around T G) → E x y ↔ AreAlikeAround R S x y
 alike_by R S E one two gap p q r s t u (Single a) (Single b) = one a b
 alike_by R S E one two gap p q r s t u (Ambiguous a b) (Ambiguous c d) = two a b c d
 alike_by R S E one two gap p q r s t u (Gap a) (Gap b) = gap a b
@@ -74,14 +74,14 @@ gap_holds : {T G : Type 0} (P : T → Type 0) (Q : G → Type 0) (c : GapChoice)
 gap_holds P Q gaps.Refuse g q = tt {0}
 gap_holds P Q gaps.ShiftForward g q = q
 
-pub taken_holds : {T G : Type 0} (P : T → Type 0) (Q : G → Type 0) (choice : Choice) (a : Around T G) → HoldsOfEach P Q a
+pub taken_holds : {T G : Type 0} (P : T → Type 0) (Q : G → Type 0) (choice : Choice) (a : Around T G) → HoldsOfEachAround P Q a
     → MatchResult (taken_of choice a) (HoldsOfTaken P Q) (λ _. ⊤)
 taken_holds P Q choice (Single a) h = h
 taken_holds P Q choice (Ambiguous a b) h = fold_holds P Q choice.fold a b h.0 h.1
 taken_holds P Q choice (Gap g) h = gap_holds P Q choice.gap g h
 
 each_shown : {T G : Type 0} (shows : ℤ → T → Type 0) (skips : G → Type 0) (a : Around T G) → IsAround shows skips a
-    → HoldsOfEach (λ t. (u : ℤ) × shows u t) skips a
+    → HoldsOfEachAround (λ t. (u : ℤ) × shows u t) skips a
 each_shown shows skips (Single a) h = (h.second, h.shown)
 each_shown shows skips (Ambiguous a b) h = ((h.first, h.at_first), (h.last, h.at_last))
 each_shown shows skips (Gap g) h = h

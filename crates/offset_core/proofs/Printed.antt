@@ -5,16 +5,16 @@ use Rattle.std.proofs.lemmas.Bool.Decides.{nat_tests}
 use Rattle.std.proofs.lemmas.Int.{ints, by_lt_z}
 use Rattle.offset_core.specs.Digits.{in_digits, sign_byte}
 use Rattle.offset_core.specs.FixedOffset.{seconds_of, printed_offset}
-use Rattle.offset_core.specs.Offset.{IsWithinDay, clock_text, offset_text}
+use Rattle.offset_core.specs.Offset.{IsWithinDay, offset_text, short_clock_text}
 use Rattle.offset_core.specs.declared.fixed_offset.FixedOffset.{FixedOffset}
 use Rattle.offset_core.proofs.Digits.{split_left, length-in_digits, in_digits_once}
 use Rattle.offset_core.proofs.FixedOffsets.{one_offset}
 
-clock_text-whole : (n : ℕ) → n % 60 ≡ 0 → clock_text n ≡ in_digits 2 (n / 3600) ++ (58 ∷ in_digits 2 (n / 60 % 60))
+clock_text-whole : (n : ℕ) → n % 60 ≡ 0 → short_clock_text n ≡ in_digits 2 (n / 3600) ++ (58 ∷ in_digits 2 (n / 60 % 60))
 clock_text-whole n whole = grind (arith, nat_tests)
 
 clock_text-more : (n : ℕ) → 0 < n % 60
-    → clock_text n ≡ in_digits 2 (n / 3600) ++ (58 ∷ (in_digits 2 (n / 60 % 60) ++ (58 ∷ in_digits 2 (n % 60))))
+    → short_clock_text n ≡ in_digits 2 (n / 3600) ++ (58 ∷ (in_digits 2 (n / 60 % 60) ++ (58 ∷ in_digits 2 (n % 60))))
 clock_text-more n more = grind (arith, nat_tests)
 
 -- two digits, and what comes after them
@@ -37,24 +37,24 @@ not_alike m n e =
     let longer = length-append (in_digits 2 (n / 60 % 60)) (58 ∷ in_digits 2 (n % 60)) in
     omega (arith, ap length e, longer, length-in_digits 2 (m / 60 % 60), length-in_digits 2 (n / 60 % 60))
 
-whole_once : (m n : ℕ) → m < 86_400 → n < 86_400 → m % 60 ≡ 0 → n % 60 ≡ 0 → clock_text m ≡ clock_text n → m ≡ n
+whole_once : (m n : ℕ) → m < 86_400 → n < 86_400 → m % 60 ≡ 0 → n % 60 ≡ 0 → short_clock_text m ≡ short_clock_text n → m ≡ n
 whole_once m n low high a b e =
     let parts = after_hours m n _ _ low high (sym (clock_text-whole m a) ∙ e ∙ clock_text-whole n b) in
     let minutes = in_digits_once 2 (m / 60 % 60) (n / 60 % 60) (omega arith) (omega arith) parts.1 in
     omega (arith, parts.0, minutes)
 
-mixed_never : (m n : ℕ) → m < 86_400 → n < 86_400 → m % 60 ≡ 0 → 0 < n % 60 → clock_text m ≡ clock_text n → ⊥
+mixed_never : (m n : ℕ) → m < 86_400 → n < 86_400 → m % 60 ≡ 0 → 0 < n % 60 → short_clock_text m ≡ short_clock_text n → ⊥
 mixed_never m n low high a b e =
     not_alike m n (after_hours m n _ _ low high (sym (clock_text-whole m a) ∙ e ∙ clock_text-more n b)).1
 
-more_once : (m n : ℕ) → m < 86_400 → n < 86_400 → 0 < m % 60 → 0 < n % 60 → clock_text m ≡ clock_text n → m ≡ n
+more_once : (m n : ℕ) → m < 86_400 → n < 86_400 → 0 < m % 60 → 0 < n % 60 → short_clock_text m ≡ short_clock_text n → m ≡ n
 more_once m n low high a b e =
     let parts = after_hours m n _ _ low high (sym (clock_text-more m a) ∙ e ∙ clock_text-more n b) in
     let minutes = same_pair (m / 60 % 60) (n / 60 % 60) (58 ∷ _) (58 ∷ _) (omega arith) (omega arith) parts.1 in
     let seconds = in_digits_once 2 (m % 60) (n % 60) (omega arith) (omega arith) (cc (minutes.1)) in
     omega (arith, parts.0, minutes.0, seconds)
 
-clock_once : (m n : ℕ) → m < 86_400 → n < 86_400 → clock_text m ≡ clock_text n → m ≡ n
+clock_once : (m n : ℕ) → m < 86_400 → n < 86_400 → short_clock_text m ≡ short_clock_text n → m ≡ n
 clock_once m n low high e = elim (cases_lt (m % 60) 1) [
   | inl a ↦ elim (cases_lt (n % 60) 1) [
     | inl b ↦ whole_once m n low high (omega arith) (omega arith) e
@@ -85,7 +85,7 @@ signed_once y z signs e = by_lt_z y (pos 0)
 pub offset_text_once : (y z : ℤ) → IsWithinDay y → IsWithinDay z → offset_text y ≡ offset_text z → y ≡ z
 offset_text_once y z low high e =
     let signs : sign_byte y ≡ sign_byte z = cc (e) in
-    let clocks : clock_text (unsigned_abs y) ≡ clock_text (unsigned_abs z) = cc (e) in
+    let clocks : short_clock_text (unsigned_abs y) ≡ short_clock_text (unsigned_abs z) = cc (e) in
     let low_y : unsigned_abs y < 86_400 = omega (arith, ints) in
     let low_z : unsigned_abs z < 86_400 = omega (arith, ints) in
     signed_once y z signs (clock_once (unsigned_abs y) (unsigned_abs z) low_y low_z clocks)

@@ -44,19 +44,19 @@ pub record Takes {T G : Type 0} (shows : ℤ → T → Type 0) (skips : G → Ty
   pub taken : taken_of choice around ≡ outcome
 
 -- values of one kind, related in turn
-abbrev pub AreAlike : {T G : Type 0} → (T → T → Type 0) → (G → G → Type 0) → Around T G → Around T G → Type 0
-AreAlike R S (Single a) (Single b) = R a b
-AreAlike R S (Ambiguous a b) (Ambiguous c d) = R a c × R b d
-AreAlike R S (Gap a) (Gap b) = S a b
-AreAlike R S (Single a) (Ambiguous c d) = ⊥
-AreAlike R S (Single a) (Gap b) = ⊥
-AreAlike R S (Ambiguous a b) (Single c) = ⊥
-AreAlike R S (Ambiguous a b) (Gap c) = ⊥
-AreAlike R S (Gap a) (Single b) = ⊥
-AreAlike R S (Gap a) (Ambiguous c d) = ⊥
+abbrev pub AreAlikeAround : {T G : Type 0} → (T → T → Type 0) → (G → G → Type 0) → Around T G → Around T G → Type 0
+AreAlikeAround R S (Single a) (Single b) = R a b
+AreAlikeAround R S (Ambiguous a b) (Ambiguous c d) = R a c × R b d
+AreAlikeAround R S (Gap a) (Gap b) = S a b
+AreAlikeAround R S (Single a) (Ambiguous c d) = ⊥
+AreAlikeAround R S (Single a) (Gap b) = ⊥
+AreAlikeAround R S (Ambiguous a b) (Single c) = ⊥
+AreAlikeAround R S (Ambiguous a b) (Gap c) = ⊥
+AreAlikeAround R S (Gap a) (Single b) = ⊥
+AreAlikeAround R S (Gap a) (Ambiguous c d) = ⊥
 
 -- each value has the property, and the gap has the other
-abbrev pub HoldsOfEach : {T G : Type 0} → (T → Type 0) → (G → Type 0) → Around T G → Type 0
-HoldsOfEach P Q (Single a) = P a
-HoldsOfEach P Q (Ambiguous a b) = P a × P b
-HoldsOfEach P Q (Gap gap) = Q gap
+abbrev pub HoldsOfEachAround : {T G : Type 0} → (T → Type 0) → (G → Type 0) → Around T G → Type 0
+HoldsOfEachAround P Q (Single a) = P a
+HoldsOfEachAround P Q (Ambiguous a b) = P a × P b
+HoldsOfEachAround P Q (Gap gap) = Q gap

@@ -7,8 +7,8 @@ abbrev pub IsWithinDay : ℤ → Type 0
 IsWithinDay secs = (neg_ℤ (pos 86_400) <ℤ secs) × (secs <ℤ pos 86_400)
 
 -- `HH:MM`, and `:SS` where the seconds of the minute aren't 0 (':' is 58)
-abbrev pub clock_text : ℕ → List ℕ
-clock_text secs =
+abbrev pub short_clock_text : ℕ → List ℕ
+short_clock_text secs =
     let hour = in_digits 2 (secs / 3600) in
     let minute = in_digits 2 (secs / 60 % 60) in
     if secs % 60 == 0 then hour ++ (58 ∷ minute)
@@ -16,4 +16,4 @@ clock_text secs =
 
 -- the sign, `+` for 0, and how far from UTC
 abbrev pub offset_text : ℤ → List ℕ
-offset_text secs = sign_byte secs ∷ clock_text (unsigned_abs secs)
+offset_text secs = sign_byte secs ∷ short_clock_text (unsigned_abs secs)

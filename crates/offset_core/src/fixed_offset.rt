@@ -1,6 +1,6 @@
 //! Fixed offsets from UTC.
 ghost use Rattle.std.specs.Prelude.{◌≡◌, neg_ℤ, ◌+◌, ◌<◌, ◌≤◌, ◌++◌, length, Some};
-ghost use Rattle.offset_core.specs.Offset.{IsWithinDay, clock_text};
+ghost use Rattle.offset_core.specs.Offset.{IsWithinDay, short_clock_text};
 
 use crate::ShortText;
 use std::fmt;
@@ -123,7 +123,7 @@ impl fmt::Debug for FixedOffset {
 fn push_clock(seconds: u32, text: &mut ShortText)
     requires seconds { seconds < 86_400 }
     requires room { length text.old + 8 ≤ 32 }
-    ensures { text.new ≡ text.old ++ clock_text seconds }
+    ensures { text.new ≡ text.old ++ short_clock_text seconds }
 {
     text.push_two_digits(seconds / 3600);
     text.push(b':');

@@ -1,6 +1,6 @@
 //! Why a wall clock gives no instant under a choice.
 ghost use Rattle.std.specs.Prelude.{◌≡◌};
-ghost use Rattle.offset_core.specs.ResolveNumbers.{number_of};
+ghost use Rattle.offset_core.specs.ResolveNumbers.{resolve_error_number};
 
 use thiserror::Error;
 
@@ -21,7 +21,7 @@ pub enum ResolveError {
 impl ResolveError {
     /// 21 for a gap, 22 for a fold, 23 for an instant out of range.
     pub fn number(&self) -> u8
-        ensures { result ≡ number_of self.now }
+        ensures { result ≡ resolve_error_number self.now }
     {
         match self {
             ResolveError::Gap => 21,

@@ -5,7 +5,7 @@
 //! status 17. If it returns anything else, the status is 0, and the lines must be those of a run
 //! with memory enough.
 //!
-//! Headers come first, whose counts say more than there is. They are refused before any memory is
+//! Headers come first, whose counts say more than there is. They are rejected before any memory is
 //! asked for, and so their lines are the same when the first request is refused.
 #![tactic(auto)]
 

@@ -1,17 +1,17 @@
 -- What examples compute with: to unfold one of these words is to unfold all that its line names.
-use Rattle.tz_info.specs.TzGrammar.{day_number as day_of_text, hours_minutes_seconds, minutes_seconds, more, name, optional_minutes, quoted, rule_day, sign}
-use Rattle.tz_info.specs.TzGrammar.{time_sign}
+use Rattle.tz_info.specs.TzGrammar.{checked_day, hours_minutes_seconds, minutes_seconds, more, name, numbered_day, optional_minutes, quoted, sign, time_sign}
 use Rattle.tz_timeline.specs.Digits.{digits as binary_digits}
-use Rattle.zoneq_lib.specs.Questions.{date as date_of_line, fold, gap, seconds as seconds_of_line, text as text_of_line}
-use Rattle.zoneq_lib.proofs.CitedWords.{Begins, Word, at, data_of_file, int_at, integer, local_time, next, question, resolve, show, tag_at, wall}
+use Rattle.zoneq_lib.specs.Questions.{calendar_day, fold, gap, text_query, unix_seconds}
+use Rattle.zoneq_lib.proofs.CitedWords.{Begins, Word, at_query, data_query, int_at, integer, local_time, next, question, resolve_query, show_query, tag_at}
+use Rattle.zoneq_lib.proofs.CitedWords.{wall_query}
 use Rattle.tz_info.proofs.Words.{alternate, date, day, days, dst_offset, duration, end, fixed, given_offset, julian_date, month_date, named, next_hour, offset}
 use Rattle.tz_info.proofs.Words.{optional_time, time}
 use Rattle.tz_write.proofs.Words.{begins, counts_bytes, file_bytes, first_half, header_bytes, later_version, leap_bytes, number_bytes, second_half}
 use Rattle.tz_write.proofs.Words.{signed_bytes, type_bytes}
 use Rattle.zonedump_lib.specs.RuleWords.{moment_words, month_words, week_words, weekday_words}
 use Rattle.tests_pins.proofs.Words.{after_first_block, be_u32, block, choice, clock_words, day_number, days_of_months, digits, escape_byte, exact_at, file}
-use Rattle.tests_pins.proofs.Words.{first_version, header, in_digits, line, offset_words, optional_tag_at, print_from, rule, seconds, short_day, short_month}
-use Rattle.tests_pins.proofs.Words.{short_weekday, signed, six_counts, step_words, text, tzif, version, version_1, year_start, year_text, ℕ}
+use Rattle.tests_pins.proofs.Words.{first_version, header, in_digits, offset_words, optional_tag_at, print_from, query_line, rule, seconds, short_day}
+use Rattle.tests_pins.proofs.Words.{short_month, short_weekday, signed, six_counts, step_words, text, tzif, version, version_1, year_start, year_text, ℕ}
 
 -- the day numbers of dates
 unfoldable pub calendar : ℕ
@@ -36,8 +36,8 @@ binary = 0
 
 -- TZ strings
 unfoldable pub texts : ℕ
-unfolding name quoted seconds minutes_seconds optional_minutes hours_minutes_seconds sign duration offset time_sign time rule_day month_date julian_date
-    day_of_text date optional_time day days next_hour more given_offset dst_offset named end fixed alternate rule text int_at tag_at optional_tag_at
+unfolding name quoted seconds minutes_seconds optional_minutes hours_minutes_seconds sign duration offset time_sign time checked_day month_date julian_date
+    numbered_day date optional_time day days next_hour more given_offset dst_offset named end fixed alternate rule text int_at tag_at optional_tag_at
 texts = 0
 
 -- files, read and written
@@ -51,6 +51,7 @@ written = 0
 
 -- the lines of `zoneq`
 unfoldable pub lines : ℕ
-unfolding calendar Word Begins integer seconds_of_line next date_of_line local_time gap fold choice text_of_line data_of_file at resolve wall show question
-    line int_at tag_at optional_tag_at
+unfolding calendar Word Begins integer unix_seconds next calendar_day local_time gap fold choice text_query data_query at_query resolve_query wall_query
+    show_query question
+    query_line int_at tag_at optional_tag_at
 lines = 0

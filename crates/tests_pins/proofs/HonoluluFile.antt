@@ -4,17 +4,17 @@ use Rattle.tz_base.specs.declared.error.Expected.TheVariants.{NothingAfterBlockO
 use Rattle.tz_info.specs.declared.file.header.Version.TheVariants.{Two}
 use Rattle.tz_base.specs.Names.{is_name, name_from}
 use Rattle.tests_pins.proofs.Words.{Bool, Error, HasPieces, IndicatorsAgree, IsAscii-cons, IsAscii-nil, IsFooter, IsMark, IsTzFile, IsUtf8-from_ascii, List}
-use Rattle.tests_pins.proofs.Words.{None, PieceFault, Place, SpellTransitions, SpellTypes, Spells, SpellsType, Version, Zone, apart, arith, be_u32}
-use Rattle.tests_pins.proofs.Words.{block as a_block, counts, counts_test, designations, false, file as a_file, file_with, first_pieces, from_be_bytes}
-use Rattle.tests_pins.proofs.Words.{header as a_header, honolulu, honolulu_file, honolulu_from, hst10, hst_footer, indicators, inl, inr, lawful, least_offset}
-use Rattle.tests_pins.proofs.Words.{length, long_times, magic, neg_ℤ, parts, pieces, pos, refl, short_file, short_times, signed, six_counts, true, type_indexes}
-use Rattle.tests_pins.proofs.Words.{type_records, tzif, version, w32, ℕ, ℤ, [], ◌++◌, ◌<ℤ◌, ◌<◌, ◌∷◌, ◌≡◌, Transition}
+use Rattle.tests_pins.proofs.Words.{LocalType, None, PieceFault, Place, SpellTransitions, SpellTypes, Spells, SpellsType, Transition, Version, Zone, [], apart}
+use Rattle.tests_pins.proofs.Words.{arith, be_u32, block as a_block, counts, counts_test, designations, false, file as a_file, file_with, first_pieces}
+use Rattle.tests_pins.proofs.Words.{from_be_bytes, header as a_header, honolulu, honolulu_file, honolulu_from, hst10, hst_footer, indicators, inl, inr, lawful}
+use Rattle.tests_pins.proofs.Words.{least_offset, length, long_times, magic, neg_ℤ, parts, pieces, pos, refl, short_file, short_times, signed, six_counts, true}
+use Rattle.tests_pins.proofs.Words.{type_indexes, type_records, tzif, version, w32, ℕ, ℤ, ◌++◌, ◌<ℤ◌, ◌<◌, ◌∷◌, ◌≡◌}
 use Rattle.tests_pins.proofs.Computed.{files}
 use Rattle.std.proofs.Common.{drop, map, sym, take}
 use Rattle.std.proofs.lemmas.List.{take-append-drop}
-use Rattle.tz_info.specs.FileContents.{AreRecords, time_of}
-use Rattle.tests_pins.specs.Honolulu.{block, header}
-use Rattle.tests_pins.specs.Zones.{named}
+use Rattle.tz_info.specs.FileContents.{AreRecords, file_time}
+use Rattle.tests_pins.specs.Honolulu.{honolulu_block, honolulu_header}
+use Rattle.tests_pins.specs.Zones.{honolulu_type, hst}
 use Rattle.tests_pins.proofs.FileParts.{parts_are}
 use Rattle.tests_pins.proofs.SpelledTexts.{hst_10, some_bytes}
 
@@ -29,7 +29,7 @@ counted rest =
     (_, _, four_bytes 0 0 0 6 _, (_, _, four_bytes 0 0 0 6 _, (_, _, four_bytes 0 0 0 0 _, (_, _, four_bytes 0 0 0 7 _, (_, _, four_bytes 0 0 0 6 _, (_, _, four_bytes 0 0 0 20 _, (refl, refl)))))))
 
 pub is_header : (place : Place) (byte : ℕ) (v : Version) (rest : List ℕ) → ((after : List ℕ) → Spells (version place) (byte ∷ after) v after)
-    → Spells (a_header place) (header byte ++ rest) (record { version = v; counts = counts }) rest
+    → Spells (a_header place) (honolulu_header byte ++ rest) (record { version = v; counts = counts }) rest
 unfolding a_header tzif
 is_header place byte v rest stands =
     (tt, _, (magic, _, (refl, refl), (refl, refl, refl)), (v, _, stands _, (0 ∷ 0 ∷ 0 ∷ 0 ∷ 0 ∷ 0 ∷ 0 ∷ 0 ∷ 0 ∷ 0 ∷ 0 ∷ 0 ∷ 0 ∷ 0 ∷ 0 ∷ [], _, (refl, refl), (counts, _, counted rest, ((counts_test counts).decides.0 refl, refl, refl)))))
@@ -39,10 +39,10 @@ unfolding version
 version_2 place after = inr ((λ e. absurd (omega arith)), inl (after, refl, (refl, refl)))
 
 -- ---- blocks
-pub first_block : (rest : List ℕ) → Spells (a_block 4 counts) (block short_times ++ rest) (parts short_times) rest
+pub first_block : (rest : List ℕ) → Spells (a_block 4 counts) (honolulu_block short_times ++ rest) (parts short_times) rest
 first_block rest = parts_are 4 counts (parts short_times) rest refl refl refl refl refl refl refl
 
-pub second_block : (rest : List ℕ) → Spells (a_block 8 counts) (block long_times ++ rest) (parts long_times) rest
+pub second_block : (rest : List ℕ) → Spells (a_block 8 counts) (honolulu_block long_times ++ rest) (parts long_times) rest
 second_block rest = parts_are 8 counts (parts long_times) rest refl refl refl refl refl refl refl
 
 -- ---- what the blocks say
@@ -57,10 +57,10 @@ sizes_of size (t ∷ ts) = size ∷ sizes_of size ts
 
 abbrev times_in : ℕ → List ℕ → List Transition → List ℤ
 times_in size bytes [] = []
-times_in size bytes (t ∷ ts) = time_of size (take size bytes) ∷ times_in size (drop size bytes) ts
+times_in size bytes (t ∷ ts) = file_time size (take size bytes) ∷ times_in size (drop size bytes) ts
 
 times_spelled : (size : ℕ) (bytes : List ℕ) (ts : List Transition) → sizes_in size bytes ts ≡ sizes_of size ts
-    → times_in size bytes ts ≡ map (λ t. t.unix_leap_time) ts → AreRecords size (λ b t. time_of size b ≡ t.unix_leap_time) bytes ts
+    → times_in size bytes ts ≡ map (λ t. t.unix_leap_time) ts → AreRecords size (λ b t. file_time size b ≡ t.unix_leap_time) bytes ts
 times_spelled size [] [] sizes times = refl
 times_spelled size (b ∷ bytes) [] sizes times = let none : length (b ∷ bytes) ≡ 0 = cc in absurd (omega arith)
 times_spelled size bytes (t ∷ ts) sizes times =
@@ -79,7 +79,7 @@ spells : (a b mark : ℕ) (before after : List ℕ) (west : ℤ) (dst : Bool) (f
     → signed w32 (255 ∷ 255 ∷ a ∷ b ∷ []) ≡ neg_ℤ west → least_offset <ℤ neg_ℤ west → IsMark mark dst
     → designations ≡ before ++ (first ∷ second ∷ 84 ∷ 0 ∷ after)
     → 0 < first → 0 < second → is_name (first ∷ second ∷ 84 ∷ []) ≡ true
-    → SpellsType designations (255 ∷ 255 ∷ a ∷ b ∷ mark ∷ length before ∷ []) (named west dst first second)
+    → SpellsType designations (255 ∷ 255 ∷ a ∷ b ∷ mark ∷ length before ∷ []) (honolulu_type west dst first second)
 spells a b mark before after west dst first second offset above marked whole some some₂ letters = record {
   text = first ∷ second ∷ 84 ∷ [];
   offset = offset;
@@ -96,51 +96,33 @@ spells a b mark before after west dst first second offset above marked whole som
   name_fits = name_from (first ∷ second ∷ 84 ∷ []) letters;
 }
 
+pub hst_spelled : SpellsType designations (255 ∷ 255 ∷ 115 ∷ 96 ∷ 0 ∷ 4 ∷ []) hst
+unfolding signed
+hst_spelled = spells 115 96 0 (76 ∷ 77 ∷ 84 ∷ 0 ∷ []) _ (pos 36_000) false 72 83 refl (omega arith) refl refl (omega arith) (omega arith) refl
+
+-- the records of types, one in front of others
+record AreTypes (bytes : List ℕ) (ts : List LocalType) : Type 0 where
+  are : SpellTypes designations bytes ts
+
+none : AreTypes [] []
+none = record { are = refl }
+
+then_type : {rest : List ℕ} {t : LocalType} {ts : List LocalType} (a b mark place : ℕ) → SpellsType designations (255 ∷ 255 ∷ a ∷ b ∷ mark ∷ place ∷ []) t
+    → AreTypes rest ts → AreTypes (255 ∷ 255 ∷ a ∷ b ∷ mark ∷ place ∷ rest) (t ∷ ts)
+then_type {rest = rest} a b mark place here others = record { are = (255 ∷ 255 ∷ a ∷ b ∷ mark ∷ place ∷ [], rest, refl, refl, here, others.are) }
+
 pub types : SpellTypes designations type_records (honolulu hst10).types
 unfolding signed
-types = (
-  255 ∷ 255 ∷ 108 ∷ 2 ∷ 0 ∷ 0 ∷ [],
-  _,
-  refl,
-  refl,
-  spells 108 2 0 [] _ (pos 37_886) false 76 77 refl (omega arith) refl refl (omega arith) (omega arith) refl,
-  (
-    255 ∷ 255 ∷ 108 ∷ 88 ∷ 0 ∷ 4 ∷ [],
-    _,
-    refl,
-    refl,
-    spells 108 88 0 (76 ∷ 77 ∷ 84 ∷ 0 ∷ []) _ (pos 37_800) false 72 83 refl (omega arith) refl refl (omega arith) (omega arith) refl,
-    (
-      255 ∷ 255 ∷ 122 ∷ 104 ∷ 1 ∷ 8 ∷ [],
-      _,
-      refl,
-      refl,
-      spells 122 104 1 (76 ∷ 77 ∷ 84 ∷ 0 ∷ 72 ∷ 83 ∷ 84 ∷ 0 ∷ []) _ (pos 34_200) true 72 68 refl (omega arith) refl refl (omega arith) (omega arith) refl,
-      (
-        255 ∷ 255 ∷ 122 ∷ 104 ∷ 1 ∷ 12 ∷ [],
-        _,
-        refl,
-        refl,
-        spells 122 104 1 (76 ∷ 77 ∷ 84 ∷ 0 ∷ 72 ∷ 83 ∷ 84 ∷ 0 ∷ 72 ∷ 68 ∷ 84 ∷ 0 ∷ []) _ (pos 34_200) true 72 87 refl (omega arith) refl refl (omega arith) (omega arith) refl,
-        (
-          255 ∷ 255 ∷ 122 ∷ 104 ∷ 1 ∷ 16 ∷ [],
-          _,
-          refl,
-          refl,
-          spells 122 104 1 (76 ∷ 77 ∷ 84 ∷ 0 ∷ 72 ∷ 83 ∷ 84 ∷ 0 ∷ 72 ∷ 68 ∷ 84 ∷ 0 ∷ 72 ∷ 87 ∷ 84 ∷ 0 ∷ []) _ (pos 34_200) true 72 80 refl (omega arith) refl refl (omega arith) (omega arith) refl,
-          (
-            255 ∷ 255 ∷ 115 ∷ 96 ∷ 0 ∷ 4 ∷ [],
-            _,
-            refl,
-            refl,
-            spells 115 96 0 (76 ∷ 77 ∷ 84 ∷ 0 ∷ []) _ (pos 36_000) false 72 83 refl (omega arith) refl refl (omega arith) (omega arith) refl,
-            refl,
-          ),
-        ),
-      ),
-    ),
-  ),
-)
+types =
+    (then_type 108 2 0 0 (spells 108 2 0 [] _ (pos 37_886) false 76 77 refl (omega arith) refl refl (omega arith) (omega arith) refl)
+    (then_type 108 88 0 4 (spells 108 88 0 (76 ∷ 77 ∷ 84 ∷ 0 ∷ []) _ (pos 37_800) false 72 83 refl (omega arith) refl refl (omega arith) (omega arith) refl)
+    (then_type 122 104 1 8
+    (spells 122 104 1 (76 ∷ 77 ∷ 84 ∷ 0 ∷ 72 ∷ 83 ∷ 84 ∷ 0 ∷ []) _ (pos 34_200) true 72 68 refl (omega arith) refl refl (omega arith) (omega arith) refl)
+    (then_type 122 104 1 12 (spells 122 104 1 (76 ∷ 77 ∷ 84 ∷ 0 ∷ 72 ∷ 83 ∷ 84 ∷ 0 ∷ 72 ∷ 68 ∷ 84 ∷ 0 ∷ []) _ (pos 34_200) true 72 87 refl
+    (omega arith) refl refl (omega arith) (omega arith) refl)
+    (then_type 122 104 1 16 (spells 122 104 1 (76 ∷ 77 ∷ 84 ∷ 0 ∷ 72 ∷ 83 ∷ 84 ∷ 0 ∷ 72 ∷ 68 ∷ 84 ∷ 0 ∷ 72 ∷ 87 ∷ 84 ∷ 0 ∷ []) _ (pos 34_200) true 72 80 refl
+    (omega arith) refl refl (omega arith) (omega arith) refl)
+    (then_type 115 96 0 4 hst_spelled none)))))).are
 
 pub footer : IsFooter false hst_footer hst10
 footer = record {

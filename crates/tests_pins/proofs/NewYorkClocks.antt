@@ -1,6 +1,6 @@
 -- What New York's clocks show in 2021.
 use Rattle.tz_info.proofs.RuleLaws.{rule_once}
-use Rattle.tz_info.specs.Gaps.{IsBeforeGap}
+use Rattle.tz_info.specs.Gaps.{IsTypeBeforeGap}
 use Rattle.tz_info.specs.WallClocks.{Shows}
 use Rattle.tests_pins.proofs.Words.{Bool, FitsSigned, IsNeverShown, IsShownBetween, IsShownOnce, LocalType, RuleAt, ShowsMore, TypeAt, ap, arith, by_lt_z, edt}
 use Rattle.tests_pins.proofs.Words.{est, false, false≢true, fits_signed_from_abs, inl, inr, ints, new_york, new_york_rule, new_york_zone, pos, refl, true}
@@ -70,7 +70,7 @@ none_earlier l low u m = by_lt_z u (pos 1_615_705_200)
     ])
     (λ ge. ge)
 
-pub before_gap : (l : ℤ) → pos 1_615_687_200 ≤ℤ l → l <ℤ pos 1_615_690_800 → IsBeforeGap (TypeAt new_york_zone) l est
+pub before_gap : (l : ℤ) → pos 1_615_687_200 ≤ℤ l → l <ℤ pos 1_615_690_800 → IsTypeBeforeGap (TypeAt new_york_zone) l est
 before_gap l low high = record {
   never = in_gap l low high;
   first = pos 1_615_705_200;
@@ -81,7 +81,7 @@ before_gap l low high = record {
 
 -- the first second at which clocks show more is that of the change
 changes_at : (l : ℤ) (t : LocalType) → pos 1_615_687_200 ≤ℤ l → l <ℤ pos 1_615_690_800
-    → (b : IsBeforeGap (TypeAt new_york_zone) l t) → b.first ≡ pos 1_615_705_200
+    → (b : IsTypeBeforeGap (TypeAt new_york_zone) l t) → b.first ≡ pos 1_615_705_200
 changes_at l t low high b =
     let at_most = b.least (pos 1_615_705_200) (more_at_change l high) in
     elim (either b.first b.more.type b.more.here) [
@@ -92,7 +92,7 @@ changes_at l t low high b =
     ]
 
 pub only_before_gap : (l : ℤ) → pos 1_615_687_200 ≤ℤ l → l <ℤ pos 1_615_690_800
-    → (t : LocalType) → IsBeforeGap (TypeAt new_york_zone) l t → t ≡ est
+    → (t : LocalType) → IsTypeBeforeGap (TypeAt new_york_zone) l t → t ≡ est
 only_before_gap l low high t b =
     let second : b.first -ℤ pos 1 ≡ pos 1_615_705_199 = ap (λ u. u -ℤ pos 1) (changes_at l t low high b) in
     let here : TypeAt new_york_zone (pos 1_615_705_199) t = rw second at b.before in

@@ -21,7 +21,7 @@ unfoldable pub use Rattle.change_views.specs.Clocks.{clock_words}
 unfoldable pub use Rattle.change_views.specs.Words.{offset_words}
 unfoldable pub use Rattle.change_views.specs.ZdumpLines.{short_day, short_month, short_weekday}
 pub use Rattle.tz_info.proofs.Words.{AllAdjacentBelow, AreLeapSeconds, AreTransitions, Contains, IndicatorsAgree, IsAskedAt, IsAskedFor, IsByRuleFor}
-pub use Rattle.tz_info.proofs.Words.{IsFromUntil, IsInSomeYear, IsInSpan, IsNextLeap, IsOneStep, IsSpan, IsSpanAt, IsTextFault, IsYearOf, LiesIn, PieceFault}
+pub use Rattle.tz_info.proofs.Words.{IsChange, IsFromUntil, IsInSomeYear, IsInSpan, IsNextLeap, IsOneStep, IsSpan, IsSpanAt, IsTextFault, IsYearOf, LiesIn, PieceFault}
 pub use Rattle.tz_info.proofs.Words.{RuleAt, TypeFault, add-one, apart, corrections, days_at_least, end_in, one_year, start_in, weekday_of, year_step}
 unfoldable pub use Rattle.tz_info.proofs.Words.{closed_day, days_of_months, moment, rule, text, year_start}
 pub use Rattle.tz_info.specs.FilePieces.{first_pieces}
@@ -34,14 +34,14 @@ pub use Rattle.tz_info.specs.declared.file.header.Version.{Version}
 pub use Rattle.tz_info.specs.declared.rule.transition_rule.TransitionRule.{TransitionRule}
 pub use Rattle.tz_info.specs.declared.zone.leap_second.LeapSecond.{LeapSecond}
 pub use Rattle.tz_info.specs.declared.zone.transition.Transition.{Transition}
-pub use Rattle.zoned_time.proofs.Words.{IsEarlier, IsFirstAtOrAfter, IsGiven, IsNeverShown, IsShownOnce, ahead, day_at, day_of_year_is}
+pub use Rattle.zoned_time.proofs.Words.{IsEarlier, IsFirstInstantFrom, IsGiven, IsNeverShown, IsShownOnce, ahead, day_at, day_of_year_is}
 unfoldable pub use Rattle.zoned_time.proofs.Words.{day_number, day_of_month, month_of}
 pub use Rattle.zoned_time.specs.Years.{IsEarlierInYear, IsWholeYears}
 pub use Rattle.offset_core.specs.declared.resolve_error.ResolveError.{ResolveError}
-pub use Rattle.zoned_round.proofs.Words.{IsRefusal, floor_mod_parts}
+pub use Rattle.zoned_round.proofs.Words.{IsRoundingFault, floor_mod_parts}
 pub use Rattle.zoned_round.specs.declared.error.RoundingError.{RoundingError}
-pub use Rattle.demo_own_zone.proofs.Words.{IsShownBetween, Shows, midnight}
-pub use Rattle.zoned_ref.proofs.Words.{AreEndsOfDay, IsBeforeGap, IsChange, IsNeverOnDay, SomeIff, lies_in, type_when, ◌*ℤ◌}
+pub use Rattle.demo_own_zone.proofs.Words.{IsShownBetween, ShowsByOffset, midnight}
+pub use Rattle.zoned_ref.proofs.Words.{AreEndsOfDay, IsBeforeGap, IsNeverOnDay, SomeIff, lies_in, type_when, ◌*ℤ◌}
 unfoldable pub use Rattle.zoned_ref.proofs.Words.{year_of}
 pub use Rattle.tz_write.proofs.Words.{AreInPairs, AreShortest, HasPieces, IsFooter, IsMark, IsNamedIn, IsTzText, IsUtf8-from_ascii, IsWrittenText}
 pub use Rattle.tz_write.proofs.Words.{IsWrittenZone, Parts, SpellTransitions, SpellTypes, SpellsType, counts_test, false≢true, least_offset, magic, negsuc}
@@ -50,9 +50,9 @@ unfoldable pub use Rattle.tz_write.proofs.Words.{after_first_block, be_u32, bloc
 pub use Rattle.zonedump_lib.proofs.Words.{AreChanges, TypeAt, floors, ◌+ℤ◌}
 pub use Rattle.zoneq_lib.proofs.CitedWords.{Asks, At, Bool, Data, FitsSigned, IsBadLine, IsPosixZone, IsTaken, IsTzFile, IsUnresolved, IsZoneSecond, List}
 pub use Rattle.zoneq_lib.proofs.CitedWords.{LocalType, Query, Reading, Resolve, Show, Spells, Wall, Zone, Zoned, ap, arith, behind, by_lt_z, codes, false}
-pub use Rattle.zoneq_lib.proofs.CitedWords.{get_or, inl, inr, ints, lawful, length, neg_ℤ, number_of, of_secs, pos, read, refl, slice_index, subst, suc, sym}
+pub use Rattle.zoneq_lib.proofs.CitedWords.{get_or, inl, inr, ints, lawful, length, neg_ℤ, error_number, of_secs, pos, read, refl, slice_index, subst, suc, sym}
 pub use Rattle.zoneq_lib.proofs.CitedWords.{text_fault_or_zone, true, w32, w64, zero, ℕ, ℤ, [], ◌*◌, ◌++◌, ◌+◌, ◌-ℤ◌, ◌<◌, ◌∙◌, ◌∷◌, ◌≡◌, ◌≢◌, ◌≤◌, ◌⊎◌}
-unfoldable pub use Rattle.zoneq_lib.proofs.CitedWords.{exact_at, line, optional_tag_at}
+unfoldable pub use Rattle.zoneq_lib.proofs.CitedWords.{exact_at, optional_tag_at, query_line}
 unfoldable pub use Rattle.zoneq_lib.specs.Questions.{choice}
 pub use Rattle.tests_pins.specs.Changes.{autumn, cet, change_at, renamed, spring}
 pub use Rattle.tests_pins.specs.Choices.{half_past, refuse, set_back, set_forward}

@@ -10,7 +10,7 @@ itself n = n
 
 -- and what it is given comes of it
 abbrev pub given : Option ℤ → Option ℤ → Type 0
-given day answer = answer ≡ day
+given march_day answer = answer ≡ march_day
 
 -- that hour, minute, second and nanoseconds
 abbrev pub clock : ℕ → ℕ → ℕ → ℕ → TimeOfDay
@@ -20,5 +20,5 @@ clock hour minute second nanos = record {
 }
 
 -- that day of March 2021
-abbrev pub day : ℕ → ℤ
-day d = day_number (pos 2021) 3 d
+abbrev pub march_day : ℕ → ℤ
+march_day d = day_number (pos 2021) 3 d

@@ -22,8 +22,8 @@ hst_record isdst = 255 ∷ 255 ∷ 115 ∷ 96 ∷ isdst ∷ 4 ∷ []
 abbrev pub first_time : List ℕ
 first_time = 255 ∷ 255 ∷ 255 ∷ 255 ∷ 116 ∷ 224 ∷ 112 ∷ 190 ∷ []
 
-abbrev pub least_time : List ℕ
-least_time = 128 ∷ 0 ∷ 0 ∷ 0 ∷ []
+abbrev pub least_time_bytes : List ℕ
+least_time_bytes = 128 ∷ 0 ∷ 0 ∷ 0 ∷ []
 
 -- `HST10` between newlines
 abbrev pub hst_footer : List ℕ
@@ -41,8 +41,8 @@ counts = record {
 }
 
 -- a header of that version's byte, fifteen 0 bytes, and the counts
-abbrev pub header : ℕ → List ℕ
-header version =
+abbrev pub honolulu_header : ℕ → List ℕ
+honolulu_header version =
     84 ∷ 90 ∷ 105 ∷ 102 ∷
     version ∷ 0 ∷ 0 ∷ 0 ∷ 0 ∷ 0 ∷ 0 ∷ 0 ∷ 0 ∷ 0 ∷ 0 ∷ 0 ∷ 0 ∷ 0 ∷ 0 ∷ 0 ∷
     0 ∷ 0 ∷ 0 ∷ 6 ∷
@@ -109,14 +109,14 @@ parts times = record {
 }
 
 -- the bytes of that block: there are no leap seconds
-abbrev pub block : List ℕ → List ℕ
-block times =
+abbrev pub honolulu_block : List ℕ → List ℕ
+honolulu_block times =
     times ++ (type_indexes ++ (type_records ++ (designations ++ (indicators ++ indicators))))
 
 -- the file, with that version's byte in its second header
 abbrev pub file_with : ℕ → List ℕ
 file_with version =
-    header 50 ++ (block short_times ++ (header version ++ (block long_times ++ hst_footer)))
+    honolulu_header 50 ++ (honolulu_block short_times ++ (honolulu_header version ++ (honolulu_block long_times ++ hst_footer)))
 
 -- the file as it is: both headers say version 2
 abbrev pub honolulu_file : List ℕ
@@ -124,7 +124,7 @@ honolulu_file = file_with 50
 
 -- its first block alone, as a file of version 1
 abbrev pub short_file : List ℕ
-short_file = header 0 ++ block short_times
+short_file = honolulu_header 0 ++ honolulu_block short_times
 
 -- the pieces that say the zone: the second block and the footer
 abbrev pub pieces : FilePieces

@@ -5,8 +5,8 @@ use Rattle.naive_base.specs.Reading.{Reading, reading_at}
 use Rattle.zoned_time.specs.Zoned.{Zoned}
 
 -- an offset is nothing but its seconds
-abbrev pub seconds : ℤ → ℤ
-seconds k = k
+abbrev pub own_seconds : ℤ → ℤ
+own_seconds k = k
 
 -- five nanoseconds after that second of UTC, in New York's winter
 abbrev pub in_new_york : ℤ → Zoned ℤ

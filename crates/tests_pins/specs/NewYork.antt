@@ -1,4 +1,4 @@
--- New York's clocks since 2007, by the TZ text `EST5EDT,M3.2.0,M11.1.0`.
+-- New York's clocks since 2007, by the TZ string `EST5EDT,M3.2.0,M11.1.0`.
 use Rattle.std.specs.Prelude.{pos, neg_ℤ, true, false, [], ◌∷◌, Some}
 use Rattle.tz_base.specs.LocalTypes.{LocalType}
 use Rattle.tz_info.specs.Rules.{Alternate}

@@ -5,8 +5,8 @@ use Rattle.naive_base.specs.Reading.{Reading}
 
 -- that hour, minute and second, and so many milliseconds after it; from 1,000 on they are those of
 -- a leap second
-abbrev pub at : ℕ → ℕ → ℕ → ℕ → Reading
-at hour minute second millis = record {
+abbrev pub clock_reading : ℕ → ℕ → ℕ → ℕ → Reading
+clock_reading hour minute second millis = record {
   s = pos (clock_second hour minute second);
   f = millis * 1_000_000;
 }

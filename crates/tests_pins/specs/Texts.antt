@@ -1,4 +1,4 @@
--- TZ texts, as bytes, and the rules that they spell.
+-- TZ strings, as bytes, and the rules that they spell.
 use Rattle.std.specs.Prelude.{ℕ, pos, neg_ℤ, true, false, List, [], ◌∷◌, Some}
 use Rattle.tz_info.specs.declared.rule.day.DayForm.TheVariants.{Julian1, Julian0, MonthWeekday}
 use Rattle.tz_info.specs.declared.rule.transition_rule.TransitionRule.{TransitionRule}

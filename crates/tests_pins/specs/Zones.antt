@@ -10,21 +10,21 @@ use Rattle.tests_pins.specs.LeapSeconds.{utc_leaps}
 use Rattle.tests_pins.specs.Texts.{utc_rule}
 
 -- `LMT`, `HST` of both offsets, `HDT`, `HWT` and `HPT`
-abbrev pub named : ℤ → Bool → ℕ → ℕ → LocalType
-named west dst first second = record {
+abbrev pub honolulu_type : ℤ → Bool → ℕ → ℕ → LocalType
+honolulu_type west dst first second = record {
   offset = neg_ℤ west;
   dst = dst;
   name = Some (first ∷ second ∷ 84 ∷ []);
 }
 
 abbrev pub lmt : LocalType
-lmt = named (pos 37_886) false 76 77
+lmt = honolulu_type (pos 37_886) false 76 77
 
 abbrev pub early_hst : LocalType
-early_hst = named (pos 37_800) false 72 83
+early_hst = honolulu_type (pos 37_800) false 72 83
 
 abbrev pub hst : LocalType
-hst = named (pos 36_000) false 72 83
+hst = honolulu_type (pos 36_000) false 72 83
 
 abbrev pub change : ℤ → ℕ → Transition
 change time index = record { unix_leap_time = time; type_index = index }
@@ -44,9 +44,9 @@ honolulu_from first rule = record {
   types =
       lmt
       ∷ early_hst
-      ∷ named (pos 34_200) true 72 68
-      ∷ named (pos 34_200) true 72 87
-      ∷ named (pos 34_200) true 72 80
+      ∷ honolulu_type (pos 34_200) true 72 68
+      ∷ honolulu_type (pos 34_200) true 72 87
+      ∷ honolulu_type (pos 34_200) true 72 80
       ∷ hst
       ∷ [];
   leaps = [];

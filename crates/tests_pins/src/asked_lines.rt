@@ -6,10 +6,11 @@ ghost use Rattle.offset_core.specs.declared.choice.FoldChoice.TheVariants as fol
 ghost use Rattle.offset_core.specs.declared.local_result.LocalResult.TheVariants as results;
 ghost use Rattle.naive_base.specs.Stamp.{of_secs};
 ghost use Rattle.tz_base.specs.Grammar.{Spells};
-ghost use Rattle.zoneq_lib.specs.Answers.{AnswersAt, AnswersWall, instant_text, refusal_text, type_text, wall_text, zone_text};
+ghost use Rattle.zoneq_lib.specs.Answers.{AnswersAt, AnswersWall, shown_date_time, shown_refusal, shown_type};
+ghost use Rattle.zoneq_lib.specs.Answers.{shown_wall, shown_zone};
 ghost use Rattle.zoneq_lib.specs.Endings.{message_of, status_of};
 ghost use Rattle.zoneq_lib.specs.Faults.{fault_text};
-ghost use Rattle.zoneq_lib.specs.Lines.{IsCut, ended_lines, last_line};
+ghost use Rattle.zoneq_lib.specs.Lines.{IsSplit, ended_lines, last_line};
 ghost use Rattle.zoneq_lib.specs.Questions.{Asks, At, Data, Wall, Resolve, Show, IsBadLine, choice};
 ghost use Rattle.zoneq_lib.specs.declared.run_error.RunError.TheVariants as errors;
 ghost use Rattle.tests_pins.specs.Changes.{unnamed};
@@ -42,17 +43,17 @@ pub fn bad_lines()
 
 /// How types, zones, instants and errors are written.
 pub fn words()
-    ensures edt { type_text edt ≡ codes "-14400 dst EDT" }
-    ensures unnamed { type_text unnamed ≡ codes "3600 std -" }
-    ensures none { wall_text results.None ≡ codes "none" }
-    ensures single { wall_text (results.Single est) ≡ codes "single -18000 std EST" }
-    ensures ambiguous { wall_text (results.Ambiguous edt est)
+    ensures edt { shown_type edt ≡ codes "-14400 dst EDT" }
+    ensures unnamed { shown_type unnamed ≡ codes "3600 std -" }
+    ensures none { shown_wall results.None ≡ codes "none" }
+    ensures single { shown_wall (results.Single est) ≡ codes "single -18000 std EST" }
+    ensures ambiguous { shown_wall (results.Ambiguous edt est)
         ≡ codes "ambiguous -14400 dst EDT, -18000 std EST" }
-    ensures new_york { zone_text new_york_zone ≡ codes "ok 0 2 0 alternate" }
-    ensures honolulu { zone_text (honolulu hst10) ≡ codes "ok 7 6 0 fixed" }
-    ensures no_rule { zone_text (honolulu None) ≡ codes "ok 7 6 0 none" }
-    ensures refused { refusal_text 17 ≡ codes "refused 17" }
-    ensures instant { instant_text (of_secs (pos 1_615_705_200) 0) (neg_ℤ (pos 14_400))
+    ensures new_york { shown_zone new_york_zone ≡ codes "ok 0 2 0 alternate" }
+    ensures honolulu { shown_zone (honolulu hst10) ≡ codes "ok 7 6 0 fixed" }
+    ensures no_rule { shown_zone (honolulu None) ≡ codes "ok 7 6 0 none" }
+    ensures refused { shown_refusal 17 ≡ codes "refused 17" }
+    ensures instant { shown_date_time (of_secs (pos 1_615_705_200) 0) (neg_ℤ (pos 14_400))
         ≡ codes "2021-03-14 03:00:00 -04:00" }
 {}
 
@@ -78,7 +79,7 @@ pub fn answers()
 
 /// A carriage return before a newline is no part of a line; what follows the last newline is one.
 pub fn lines()
-    ensures cut { IsCut (codes "at 1\r\nat 2") (codes "at 1\r" ∷ []) (codes "at 2") }
+    ensures cut { IsSplit (codes "at 1\r\nat 2") (codes "at 1\r" ∷ []) (codes "at 2") }
     ensures ended { ended_lines (codes "at 1\r" ∷ codes "at 2" ∷ [])
         ≡ codes "at 1" ∷ codes "at 2" ∷ [] }
     ensures last { last_line (codes "at 2") ≡ codes "at 2" ∷ [] }

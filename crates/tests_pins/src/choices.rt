@@ -4,11 +4,12 @@
 ghost use Rattle.std.specs.Prelude.{◌≡◌, ℤ, pos, neg_ℤ};
 ghost use Rattle.naive_base.specs.Range.{first_second, last_second, first_reading};
 ghost use Rattle.zoned_time.specs.Choice.{IsBeforeGap, IsTaken, IsResolved, IsUnresolved};
-ghost use Rattle.offset_core.specs.ResolveNumbers.{number_of};
+ghost use Rattle.offset_core.specs.ResolveNumbers.{resolve_error_number};
 ghost use Rattle.zoned_time.specs.Zoned.{Zoned};
 ghost use Rattle.offset_core.specs.declared.resolve_error.ResolveError.{ResolveError};
 ghost use Rattle.offset_core.specs.declared.resolve_error.ResolveError.TheVariants.{Gap, Fold, OutOfRange};
-ghost use Rattle.tests_pins.specs.Choices.{set_forward, set_back, forward, back, half_past, refuse, shift, earliest, latest};
+ghost use Rattle.tests_pins.specs.Choices.{set_forward, set_back, forward, back, half_past, refuse, shift, earliest};
+ghost use Rattle.tests_pins.specs.Choices.{latest};
 
 /// Before the gap clocks were at 0, and by no other offset 00:30 is taken.
 pub fn gaps()
@@ -44,7 +45,7 @@ pub fn range()
 
 /// The numbers of the reasons.
 pub fn numbers()
-    ensures gap { number_of Gap ≡ 21 }
-    ensures fold { number_of Fold ≡ 22 }
-    ensures out_of_range { number_of OutOfRange ≡ 23 }
+    ensures gap { resolve_error_number Gap ≡ 21 }
+    ensures fold { resolve_error_number Fold ≡ 22 }
+    ensures out_of_range { resolve_error_number OutOfRange ≡ 23 }
 {}

@@ -3,8 +3,8 @@
 
 ghost use Rattle.std.specs.Prelude.{◌≡◌, ℤ, pos, neg_ℤ};
 ghost use Rattle.naive_base.specs.Stamp.{of_secs};
-ghost use Rattle.zoned_time.specs.Days.{AreEndsOfDay, IsNeverOnDay, IsFirstAtOrAfter, IsInDay, midnight};
-ghost use Rattle.zoned_time.specs.DayEnds.{IsFirstOfWeek, first_of_month, first_of_year};
+ghost use Rattle.zoned_time.specs.Days.{AreEndsOfDay, IsNeverOnDay, IsFirstInstantFrom, IsInDay, midnight};
+ghost use Rattle.zoned_time.specs.DayEnds.{IsFirstOfWeek, first_day_of_year, first_of_month};
 ghost use Rattle.tests_pins.specs.Days.{AreSetAt};
 
 /// In Apia clocks went from 10 hours behind UTC to 14 ahead at 2011-12-30 10:00:00 UTC. The date
@@ -15,10 +15,10 @@ pub fn apia()
         → IsNeverOnDay off (pos 15_338) }
     ensures empty { (off : ℤ → ℤ)
         → AreSetAt off (pos 1_325_239_200) (neg_ℤ (pos 36_000)) (pos 50_400)
-        → IsFirstAtOrAfter off (midnight (pos 15_338)) (of_secs (pos 1_325_239_200) 0) }
+        → IsFirstInstantFrom off (midnight (pos 15_338)) (of_secs (pos 1_325_239_200) 0) }
     ensures next { (off : ℤ → ℤ)
         → AreSetAt off (pos 1_325_239_200) (neg_ℤ (pos 36_000)) (pos 50_400)
-        → IsFirstAtOrAfter off (midnight (pos 15_339)) (of_secs (pos 1_325_239_200) 0) }
+        → IsFirstInstantFrom off (midnight (pos 15_339)) (of_secs (pos 1_325_239_200) 0) }
 {}
 
 /// In Toronto clocks went from 5 hours behind UTC to 4 at 1919-03-31 04:30:00 UTC, when they showed
@@ -26,7 +26,7 @@ pub fn apia()
 pub fn toronto()
     ensures starts { (off : ℤ → ℤ)
         → AreSetAt off (neg_ℤ (pos 1_601_753_400)) (neg_ℤ (pos 18_000)) (neg_ℤ (pos 14_400))
-        → IsFirstAtOrAfter off (midnight (neg_ℤ (pos 18_539)))
+        → IsFirstInstantFrom off (midnight (neg_ℤ (pos 18_539)))
         (of_secs (neg_ℤ (pos 1_601_753_400)) 0) }
     ensures ends { (off : ℤ → ℤ)
         → AreSetAt off (neg_ℤ (pos 1_601_753_400)) (neg_ℤ (pos 18_000)) (neg_ℤ (pos 14_400))
@@ -40,7 +40,7 @@ pub fn toronto()
 pub fn st_johns()
     ensures starts { (off : ℤ → ℤ)
         → AreSetAt off (pos 1_130_639_460) (neg_ℤ (pos 9_000)) (neg_ℤ (pos 12_600))
-        → IsFirstAtOrAfter off (midnight (pos 13_086)) (of_secs (pos 1_130_639_400) 0) }
+        → IsFirstInstantFrom off (midnight (pos 13_086)) (of_secs (pos 1_130_639_400) 0) }
     ensures shown_again { (off : ℤ → ℤ)
         → AreSetAt off (pos 1_130_639_460) (neg_ℤ (pos 9_000)) (neg_ℤ (pos 12_600))
         → IsInDay off (pos 13_086) (of_secs (pos 1_130_640_060) 0) }
@@ -55,5 +55,5 @@ pub fn first_days()
     ensures monday { IsFirstOfWeek 1 (pos 18_703) (pos 18_701) }
     ensures sunday { IsFirstOfWeek 0 (pos 18_703) (pos 18_700) }
     ensures month { first_of_month (pos 18_703) ≡ pos 18_687 }
-    ensures year { first_of_year (pos 18_703) ≡ pos 18_628 }
+    ensures year { first_day_of_year (pos 18_703) ≡ pos 18_628 }
 {}

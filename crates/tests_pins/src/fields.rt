@@ -4,11 +4,12 @@
 
 ghost use Rattle.std.specs.Prelude.{◌≡◌, ℤ, pos, neg_ℤ, Option, Some, None};
 ghost use Rattle.naive_base.specs.Date.{day_number};
-ghost use Rattle.naive_base.specs.Fields.{IsDateGiven, IsOrdinalGiven, IsMonthsLater, IsDaysLater, with_hour, with_minute, with_second, with_fraction};
+ghost use Rattle.naive_base.specs.Fields.{IsDateGiven, IsOrdinalGiven, IsMonthsLater, IsDaysLater, with_hour};
+ghost use Rattle.naive_base.specs.Fields.{with_minute, with_second, with_fraction};
 ghost use Rattle.naive_base.specs.Months.{month_number, year_of_number, month_of_number};
 ghost use Rattle.naive_base.specs.Weekday.{weekday_of, weekday_number, days_from_monday};
 ghost use Rattle.naive_base.specs.declared.weekday.Weekday.TheVariants.{Mon, Tue, Wed, Thu, Fri, Sat, Sun};
-ghost use Rattle.tests_pins.specs.Fields.{itself, day, given, clock};
+ghost use Rattle.tests_pins.specs.Fields.{itself, march_day, given, clock};
 
 /// Months are counted from January of the year 0.
 pub fn months_counted()
@@ -73,13 +74,13 @@ pub fn times()
 
 /// The weekdays of the week of 2021-03-14, and how many days each comes after Monday.
 pub fn weekdays()
-    ensures sunday { weekday_of (day 14) ≡ weekday_number Sun }
-    ensures monday { weekday_of (day 15) ≡ weekday_number Mon }
-    ensures tuesday { weekday_of (day 16) ≡ weekday_number Tue }
-    ensures wednesday { weekday_of (day 17) ≡ weekday_number Wed }
-    ensures thursday { weekday_of (day 18) ≡ weekday_number Thu }
-    ensures friday { weekday_of (day 19) ≡ weekday_number Fri }
-    ensures saturday { weekday_of (day 20) ≡ weekday_number Sat }
+    ensures sunday { weekday_of (march_day 14) ≡ weekday_number Sun }
+    ensures monday { weekday_of (march_day 15) ≡ weekday_number Mon }
+    ensures tuesday { weekday_of (march_day 16) ≡ weekday_number Tue }
+    ensures wednesday { weekday_of (march_day 17) ≡ weekday_number Wed }
+    ensures thursday { weekday_of (march_day 18) ≡ weekday_number Thu }
+    ensures friday { weekday_of (march_day 19) ≡ weekday_number Fri }
+    ensures saturday { weekday_of (march_day 20) ≡ weekday_number Sat }
     ensures after_itself { days_from_monday Mon ≡ 0 }
     ensures after_monday { days_from_monday Sun ≡ 6 }
 {}

@@ -3,8 +3,10 @@
 ghost use Rattle.std.specs.Prelude.{◌≡◌, ℕ, Bool, true, false, [], ◌∷◌, ◌++◌, List, None, pos, neg_ℤ};
 ghost use Rattle.tz_base.specs.LocalTypes.{LocalType};
 ghost use Rattle.tz_base.specs.declared.error.Error.TheVariants.{InvalidTzFile, LocalTimeType};
-ghost use Rattle.tz_base.specs.declared.error.Expected.TheVariants.{OffsetAboveI32Min, TzTextInFooter, ZeroOrOneAsIsDst};
-ghost use Rattle.tz_info.specs.FileContents.{IsMark, SpellsType, TypeFault, SpellsLeapSecond, IndicatorsAgree, time_of};
+ghost use Rattle.tz_base.specs.declared.error.Expected.TheVariants.{OffsetAboveI32Min, TzTextInFooter};
+ghost use Rattle.tz_base.specs.declared.error.Expected.TheVariants.{ZeroOrOneAsIsDst};
+ghost use Rattle.tz_info.specs.FileContents.{IsMark, SpellsType, TypeFault, SpellsLeapSecond, IndicatorsAgree};
+ghost use Rattle.tz_info.specs.FileContents.{file_time};
 ghost use Rattle.tz_base.specs.Grammar.{Spells, be_u32};
 ghost use Rattle.tz_info.specs.FileHeaders.{version, six_counts, CountsAgree};
 ghost use Rattle.tz_info.specs.FilePieces.{FilePieces, after_first_block, is_extended};
@@ -15,8 +17,9 @@ ghost use Rattle.tz_info.specs.declared.file.header.Counts.{Counts};
 ghost use Rattle.tz_info.specs.declared.file.header.Version.{Version};
 ghost use Rattle.tz_info.specs.declared.file.header.Version.TheVariants.{One, Two, Three};
 ghost use Rattle.tz_info.specs.Footers.{IsFooter, FooterFault};
-ghost use Rattle.tests_pins.specs.Honolulu.{designations, hst_record, hst_footer, first_time, least_time};
-ghost use Rattle.tests_pins.specs.Files.{one_to_six, of_types, short_record, long_record, one_leap_second, with_leap_second};
+ghost use Rattle.tests_pins.specs.Honolulu.{designations, hst_record, hst_footer, first_time, least_time_bytes};
+ghost use Rattle.tests_pins.specs.Files.{one_to_six, of_types, short_record, long_record, one_leap_second};
+ghost use Rattle.tests_pins.specs.Files.{with_leap_second};
 ghost use Rattle.tests_pins.specs.LeapSeconds.{entry};
 ghost use Rattle.tests_pins.specs.Zones.{hst, hst10};
 
@@ -57,6 +60,7 @@ pub fn counts_that_agree()
 {}
 
 /// The isdst byte is 0 or 1.
+#[tactic(auto, using(crate::proofs::FileParts::no_flag))]
 pub fn flags()
     ensures standard { IsMark 0 false }
     ensures daylight { IsMark 1 true }
@@ -66,8 +70,8 @@ pub fn flags()
 /// Times are numbers in two's complement, the highest byte first.
 #[tactic(auto, unfolding(crate::proofs::Computed::files))]
 pub fn times()
-    ensures eight_bytes { time_of 8 first_time ≡ neg_ℤ (pos 2_334_101_314) }
-    ensures four_bytes { time_of 4 least_time ≡ neg_ℤ (pos 2_147_483_648) }
+    ensures eight_bytes { file_time 8 first_time ≡ neg_ℤ (pos 2_334_101_314) }
+    ensures four_bytes { file_time 4 least_time_bytes ≡ neg_ℤ (pos 2_147_483_648) }
 {}
 
 /// Only version 3 has the extensions of TZ strings.

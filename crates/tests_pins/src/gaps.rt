@@ -2,7 +2,7 @@
 
 ghost use Rattle.std.specs.Prelude.{◌≡◌, pos};
 ghost use Rattle.tz_base.specs.LocalTypes.{LocalType};
-ghost use Rattle.tz_info.specs.Around.{IsAround};
+ghost use Rattle.tz_info.specs.Around.{AreTypesAround};
 ghost use Rattle.tz_info.specs.Gaps.{IsShown, HasGap};
 ghost use Rattle.tz_info.specs.Zones.{TypeAt};
 ghost use Rattle.offset_core.specs.declared.around.Around.TheVariants.{Single, Ambiguous, Gap};
@@ -10,18 +10,19 @@ ghost use Rattle.tests_pins.specs.NewYork.{new_york_zone, est, edt};
 
 /// 02:30 on 14 March 2021 lies in the gap at 1615705200, from EST to EDT; 01:59:59 is shown once.
 pub fn gap()
-    ensures half_past_two { IsAround (TypeAt new_york_zone) (pos 1_615_689_000)
+    ensures half_past_two { AreTypesAround (TypeAt new_york_zone) (pos 1_615_689_000)
         (Gap (record { before = est; after = edt; at = pos 1_615_705_200 })) }
-    ensures not_first { ¬ (IsAround (TypeAt new_york_zone) (pos 1_615_689_000)
+    ensures not_first { ¬ (AreTypesAround (TypeAt new_york_zone) (pos 1_615_689_000)
         (Gap (record { before = est; after = edt; at = pos 1_615_705_199 }))) }
     ensures not_shown { ¬ (IsShown (TypeAt new_york_zone) (pos 1_615_689_000)) }
-    ensures before { IsAround (TypeAt new_york_zone) (pos 1_615_687_199) (Single est) }
+    ensures before { AreTypesAround (TypeAt new_york_zone) (pos 1_615_687_199) (Single est) }
     ensures shown { IsShown (TypeAt new_york_zone) (pos 1_615_687_199) }
 {}
 
 /// 01:30 on 7 November 2021 is shown first by EDT and last by EST.
+#[tactic(auto, using(crate::proofs::NewYorkClocks::in_fold, crate::proofs::NewYorkClocks::est_once_late))]
 pub fn fold()
-    ensures half_past_one { IsAround (TypeAt new_york_zone) (pos 1_636_248_600)
+    ensures half_past_one { AreTypesAround (TypeAt new_york_zone) (pos 1_636_248_600)
         (Ambiguous edt est) }
-    ensures after { IsAround (TypeAt new_york_zone) (pos 1_636_250_400) (Single est) }
+    ensures after { AreTypesAround (TypeAt new_york_zone) (pos 1_636_250_400) (Single est) }
 {}

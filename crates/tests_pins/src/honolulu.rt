@@ -4,7 +4,8 @@
 ghost use Rattle.std.specs.Prelude.{◌≡◌, ℕ, List, [], ◌∷◌, ◌++◌, None, pos, neg_ℤ};
 ghost use Rattle.tz_base.specs.Grammar.{Spells};
 ghost use Rattle.tz_base.specs.declared.error.Error.TheVariants.{InvalidTzFile, UnsupportedTzFile};
-ghost use Rattle.tz_base.specs.declared.error.Expected.TheVariants.{NothingAfterBlockOfVersion1, Version1To3, Version2Or3InSecondHeader};
+ghost use Rattle.tz_base.specs.declared.error.Expected.TheVariants.{NothingAfterBlockOfVersion1, Version1To3};
+ghost use Rattle.tz_base.specs.declared.error.Expected.TheVariants.{Version2Or3InSecondHeader};
 ghost use Rattle.tz_info.specs.FileBlocks.{block as a_block};
 ghost use Rattle.tz_info.specs.FileContents.{SpellTransitions, SpellTypes, IndicatorsAgree};
 ghost use Rattle.tz_info.specs.FileHeaders.{header as a_header};
@@ -13,23 +14,25 @@ ghost use Rattle.tz_info.specs.TzFiles.{IsTzFile, IsZoneFault};
 ghost use Rattle.tz_info.specs.Zones.{Zone, IsValid};
 ghost use Rattle.tz_info.specs.declared.file.header.Place.TheVariants.{First, Second};
 ghost use Rattle.tz_info.specs.declared.file.header.Version.TheVariants.{Two};
-ghost use Rattle.tests_pins.specs.Honolulu.{counts, header, short_times, long_times, type_indexes, type_records, designations, indicators, parts, block, pieces, file_with, honolulu_file, short_file};
+ghost use Rattle.tests_pins.specs.Honolulu.{counts, honolulu_header, short_times, long_times, type_indexes};
+ghost use Rattle.tests_pins.specs.Honolulu.{type_records, designations, indicators, parts, honolulu_block, pieces};
+ghost use Rattle.tests_pins.specs.Honolulu.{file_with, honolulu_file, short_file};
 ghost use Rattle.tests_pins.specs.Zones.{honolulu, honolulu_from, hst10};
 
 /// Both headers are of version 2, and have the same counts.
 pub fn headers()
     ensures first { (rest : List ℕ)
-        → Spells (a_header First) (header 50 ++ rest) (record { version = Two; counts = counts }) rest }
+        → Spells (a_header First) (honolulu_header 50 ++ rest) (record { version = Two; counts = counts }) rest }
     ensures second { (rest : List ℕ)
-        → Spells (a_header Second) (header 50 ++ rest) (record { version = Two; counts = counts }) rest }
+        → Spells (a_header Second) (honolulu_header 50 ++ rest) (record { version = Two; counts = counts }) rest }
 {}
 
 /// The blocks differ in their times, of four bytes and of eight.
 pub fn blocks()
     ensures first { (rest : List ℕ)
-        → Spells (a_block 4 counts) (block short_times ++ rest) (parts short_times) rest }
+        → Spells (a_block 4 counts) (honolulu_block short_times ++ rest) (parts short_times) rest }
     ensures second { (rest : List ℕ)
-        → Spells (a_block 8 counts) (block long_times ++ rest) (parts long_times) rest }
+        → Spells (a_block 8 counts) (honolulu_block long_times ++ rest) (parts long_times) rest }
 {}
 
 /// The second block and the footer say what the zone is.

@@ -13,15 +13,15 @@ ghost use Rattle.zoned_time.specs.Years.{IsWholeYears};
 ghost use Rattle.naive_base.specs.declared.date.NaiveDate.{NaiveDate};
 ghost use Rattle.zoned_time.specs.Zone.{midnight_of};
 ghost use Rattle.zoned_time.specs.Zoned.{Zoned, local_of};
-ghost use Rattle.tests_pins.specs.Readings.{at};
-ghost use Rattle.tests_pins.specs.Instants.{seconds, in_new_york, noon};
+ghost use Rattle.tests_pins.specs.Readings.{clock_reading};
+ghost use Rattle.tests_pins.specs.Instants.{own_seconds, in_new_york, noon};
 
 /// New York's clocks show 2021-11-07 01:30:00 five hours and a half after 06:30:00 of UTC began to
 /// be shown at Greenwich: at an offset of five hours behind.
 pub fn shown()
-    ensures local { local_of seconds (in_new_york (pos 1_636_266_600))
+    ensures local { local_of own_seconds (in_new_york (pos 1_636_266_600))
         ≡ record { s = pos 1_636_248_600; f = 5 } }
-    ensures instant { instant_of seconds (record { s = pos 1_636_248_600; f = 5 })
+    ensures instant { instant_of own_seconds (record { s = pos 1_636_248_600; f = 5 })
         (neg_ℤ (pos 18_000))
         ≡ in_new_york (pos 1_636_266_600) }
 {}
@@ -38,22 +38,22 @@ pub fn midnights()
 
 /// By the second first, then by the nanoseconds.
 pub fn order()
-    ensures second { compared (at 3 0 1 0) (at 3 0 0 999) ≡ orders.Greater }
-    ensures nanoseconds { compared (at 3 0 0 998) (at 3 0 0 999) ≡ orders.Less }
-    ensures leap_second { compared (at 2 59 59 1_999) (at 3 0 0 0) ≡ orders.Less }
-    ensures same { compared (at 3 0 0 0) (at 3 0 0 0) ≡ orders.Equal }
+    ensures second { compared (clock_reading 3 0 1 0) (clock_reading 3 0 0 999) ≡ orders.Greater }
+    ensures nanoseconds { compared (clock_reading 3 0 0 998) (clock_reading 3 0 0 999) ≡ orders.Less }
+    ensures leap_second { compared (clock_reading 2 59 59 1_999) (clock_reading 3 0 0 0) ≡ orders.Less }
+    ensures same { compared (clock_reading 3 0 0 0) (clock_reading 3 0 0 0) ≡ orders.Equal }
 {}
 
 /// 1,444 milliseconds after 1970 began, a nanosecond before, and a leap second.
 pub fn stamps()
-    ensures millis { millis_of (at 0 0 1 444) ≡ pos 1_444 }
-    ensures micros { micros_of (at 0 0 1 444) ≡ pos 1_444_000 }
+    ensures millis { millis_of (clock_reading 0 0 1 444) ≡ pos 1_444 }
+    ensures micros { micros_of (clock_reading 0 0 1 444) ≡ pos 1_444_000 }
     ensures millis_before_1970 { millis_of (record { s = neg_ℤ (pos 1); f = 999_999_999 })
         ≡ neg_ℤ (pos 1) }
     ensures micros_before_1970 { micros_of (record { s = neg_ℤ (pos 1); f = 999_999_999 })
         ≡ neg_ℤ (pos 1) }
-    ensures millis_of_leap { millis_of (at 0 0 59 1_300) ≡ pos 60_300 }
-    ensures micros_of_leap { micros_of (at 0 0 59 1_300) ≡ pos 60_300_000 }
+    ensures millis_of_leap { millis_of (clock_reading 0 0 59 1_300) ≡ pos 60_300 }
+    ensures micros_of_leap { micros_of (clock_reading 0 0 59 1_300) ≡ pos 60_300_000 }
     ensures of_millis { of_millis (neg_ℤ (pos 1)) ≡ record { s = neg_ℤ (pos 1); f = 999_000_000 } }
     ensures of_micros { of_micros (neg_ℤ (pos 1)) ≡ record { s = neg_ℤ (pos 1); f = 999_999_000 } }
 {}

@@ -3,7 +3,7 @@
 ghost use Rattle.std.specs.Prelude.{◌≡◌, ◌∷◌, [], pos, neg_ℤ};
 ghost use Rattle.naive_base.specs.Range.{first_second, last_second};
 ghost use Rattle.naive_base.specs.Stamp.{of_secs};
-ghost use Rattle.zoned_ref.specs.ZoneChange.{IsAfter, IsUpTo, change_between};
+ghost use Rattle.zoned_ref.specs.ZoneChange.{IsAfter, IsUpTo, change_of_instants};
 ghost use Rattle.zoned_ref.specs.Offsets.{IsNarrow};
 ghost use Rattle.zoned_kept.specs.KeepError.{IsRefused, given_back};
 ghost use Rattle.zoned_kept.specs.declared.keep_error.KeepError.TheVariants.{WideZone, OutOfMemory};
@@ -13,7 +13,7 @@ ghost use Rattle.tests_pins.specs.Zones.{utc_zone};
 
 /// 06:59:59 UTC with EST and 07:00:00 UTC with EDT are New York's change of 14 March 2021.
 pub fn changes()
-    ensures spring { change_between (λ t. t)
+    ensures spring { change_of_instants (λ t. t)
         (record { utc = of_secs (pos 1_615_705_199) 0; offset = est })
         (record { utc = of_secs (pos 1_615_705_200) 0; offset = edt }) ≡ spring }
     ensures next { IsAfter (pos 5) (pos 6) }

@@ -2,7 +2,7 @@
 
 ghost use Rattle.std.specs.Prelude.{◌≡◌, pos, neg_ℤ};
 ghost use Rattle.offset_core.specs.WallAnswer.{IsNeverShown, IsShownBetween};
-ghost use Rattle.zoned_time.specs.Zone.{Shows};
+ghost use Rattle.zoned_time.specs.Zone.{ShowsByOffset};
 ghost use Rattle.demo_own_zone.specs.Odd.{odd_offset};
 
 /// Before 1970 too.
@@ -15,6 +15,6 @@ pub fn offsets()
 
 /// The local time 1 is shown at no second, and 2 at two, first with the offset 1 and then with 0.
 pub fn clocks()
-    ensures odd { IsNeverShown (Shows odd_offset (pos 1)) }
-    ensures even { IsShownBetween (Shows odd_offset (pos 2)) (pos 1) (pos 0) }
+    ensures odd { IsNeverShown (ShowsByOffset odd_offset (pos 1)) }
+    ensures even { IsShownBetween (ShowsByOffset odd_offset (pos 2)) (pos 1) (pos 0) }
 {}

@@ -7,7 +7,8 @@ ghost use Rattle.json.specs.Tree.{json_tokens};
 ghost use Rattle.change_views.specs.ChangeLines.{change_lines};
 ghost use Rattle.change_views.specs.ChangeValues.{change_value, step_name, type_value};
 ghost use Rattle.change_views.specs.Words.{offset_words, type_words, step_words};
-ghost use Rattle.change_views.specs.ZdumpLines.{pair_lines, first_lines, last_lines, short_month, short_weekday, short_day, flag_text};
+ghost use Rattle.change_views.specs.ZdumpLines.{pair_lines, first_lines, last_lines, short_month, short_weekday};
+ghost use Rattle.change_views.specs.ZdumpLines.{short_day, flag_text};
 ghost use Rattle.tests_pins.specs.Changes.{change_at, spring, unnamed};
 ghost use Rattle.tests_pins.specs.NewYork.{est, edt};
 

@@ -1,13 +1,15 @@
 //! Multiples and digits, as chrono's documentation of rounding has them.
 
 ghost use Rattle.std.specs.Prelude.{◌≡◌, pos, neg_ℤ, codes};
-ghost use Rattle.zoned_round.specs.Durations.{IsSpan};
-ghost use Rattle.zoned_round.specs.Errors.{IsRefusal, message};
+ghost use Rattle.zoned_round.specs.Durations.{IsRoundingLength};
+ghost use Rattle.zoned_round.specs.Errors.{IsRoundingFault, message};
 ghost use Rattle.zoned_round.specs.Multiples.{multiple_below, multiple_above, nearest_multiple};
 ghost use Rattle.zoned_round.specs.Subseconds.{rounded, cut};
 ghost use Rattle.zoned_round.specs.declared.error.RoundingError.{RoundingError};
-ghost use Rattle.zoned_round.specs.declared.error.RoundingError.TheVariants.{DurationExceedsLimit, DurationExceedsTimestamp, TimestampExceedsLimit};
-ghost use Rattle.tests_pins.specs.Readings.{at};
+ghost use Rattle.zoned_round.specs.declared.error.RoundingError.TheVariants.{DurationExceedsLimit};
+ghost use Rattle.zoned_round.specs.declared.error.RoundingError.TheVariants.{DurationExceedsTimestamp};
+ghost use Rattle.zoned_round.specs.declared.error.RoundingError.TheVariants.{TimestampExceedsLimit};
+ghost use Rattle.tests_pins.specs.Readings.{clock_reading};
 
 /// 12:00:00.154 to ten milliseconds is 12:00:00.150, and to a day the next midnight. A tie goes up,
 /// before 1970 too.
@@ -26,11 +28,11 @@ pub fn multiples()
 /// A length of nothing, and a clock whose nanoseconds don't fit: the length's fault is returned. What
 /// each fault prints is chrono's text.
 pub fn refusals()
-    ensures no_length { ¬ (IsSpan (pos 0)) }
-    ensures shortest { IsSpan (pos 1) }
-    ensures longest { IsSpan (pos 9_223_372_036_854_775_807) }
-    ensures too_long { ¬ (IsSpan (pos 9_223_372_036_854_775_808)) }
-    ensures both { (e : RoundingError) → IsRefusal ⊥ ⊥ e → e ≡ DurationExceedsLimit }
+    ensures no_length { ¬ (IsRoundingLength (pos 0)) }
+    ensures shortest { IsRoundingLength (pos 1) }
+    ensures longest { IsRoundingLength (pos 9_223_372_036_854_775_807) }
+    ensures too_long { ¬ (IsRoundingLength (pos 9_223_372_036_854_775_808)) }
+    ensures both { (e : RoundingError) → IsRoundingFault ⊥ ⊥ e → e ≡ DurationExceedsLimit }
     ensures limit { message DurationExceedsLimit
         ≡ codes "duration exceeds num_nanoseconds limit" }
     ensures timestamp { message TimestampExceedsLimit
@@ -42,11 +44,11 @@ pub fn refusals()
 /// 12:00:00.154 rounded to two digits is 12:00:00.150, and cut after one it is 12:00:00.100.
 /// 23:59:60.300 is a leap second, and stays in it.
 pub fn digits()
-    ensures two_digits { rounded (at 12 0 0 154) 2 ≡ at 12 0 0 150 }
-    ensures tie { rounded (at 12 0 0 155) 2 ≡ at 12 0 0 160 }
-    ensures next_second { rounded (at 12 0 0 500) 0 ≡ at 12 0 1 0 }
-    ensures nine_digits { rounded (at 12 0 0 154) 9 ≡ at 12 0 0 154 }
-    ensures one_digit { cut (at 12 0 0 154) 1 ≡ at 12 0 0 100 }
-    ensures leap_second { cut (at 23 59 59 1_300) 0 ≡ at 23 59 59 1_000 }
-    ensures leap_second_rounded { rounded (at 23 59 59 1_300) 0 ≡ at 23 59 59 1_000 }
+    ensures two_digits { rounded (clock_reading 12 0 0 154) 2 ≡ clock_reading 12 0 0 150 }
+    ensures tie { rounded (clock_reading 12 0 0 155) 2 ≡ clock_reading 12 0 0 160 }
+    ensures next_second { rounded (clock_reading 12 0 0 500) 0 ≡ clock_reading 12 0 1 0 }
+    ensures nine_digits { rounded (clock_reading 12 0 0 154) 9 ≡ clock_reading 12 0 0 154 }
+    ensures one_digit { cut (clock_reading 12 0 0 154) 1 ≡ clock_reading 12 0 0 100 }
+    ensures leap_second { cut (clock_reading 23 59 59 1_300) 0 ≡ clock_reading 23 59 59 1_000 }
+    ensures leap_second_rounded { rounded (clock_reading 23 59 59 1_300) 0 ≡ clock_reading 23 59 59 1_000 }
 {}

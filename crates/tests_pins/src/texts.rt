@@ -2,14 +2,21 @@
 
 ghost use Rattle.std.specs.Prelude.{◌≡◌, ℕ, [], ◌∷◌, ◌++◌, List, Bool, true, false, codes, pos, neg_ℤ};
 ghost use Rattle.tz_base.specs.Names.{IsName};
-ghost use Rattle.tz_base.specs.declared.error.Error.TheVariants.{InvalidTzString, LocalTimeType, ParseInt, TransitionRule as RuleError, UnsupportedTzString};
-ghost use Rattle.tz_base.specs.declared.error.Expected.TheVariants.{DayFromJ1ToJ365, DaysWhenDaylightSavingTimeStartsAndEnds, Digit, HoursMinutesAndSecondsWithinTheirLimits, NameOfThreeToSevenBytes};
-ghost use Rattle.tz_info.specs.TzGrammar.{time_limit, seconds_of, IsTzText, IsTextFault};
+ghost use Rattle.tz_base.specs.declared.error.Error.TheVariants.{InvalidTzString, LocalTimeType, ParseInt};
+ghost use Rattle.tz_base.specs.declared.error.Error.TheVariants.{TransitionRule as RuleError, UnsupportedTzString};
+ghost use Rattle.tz_base.specs.declared.error.Expected.TheVariants.{DayFromJ1ToJ365};
+ghost use Rattle.tz_base.specs.declared.error.Expected.TheVariants.{DaysWhenDaylightSavingTimeStartsAndEnds, Digit};
+ghost use Rattle.tz_base.specs.declared.error.Expected.TheVariants.{HoursMinutesAndSecondsWithinTheirLimits};
+ghost use Rattle.tz_base.specs.declared.error.Expected.TheVariants.{NameOfThreeToSevenBytes};
+ghost use Rattle.tz_info.specs.TzGrammar.{time_limit, signed_seconds, IsTzText, IsTextFault};
 ghost use Rattle.tz_info.specs.PosixZones.{IsPosixZone, posix_zone, types_of};
 ghost use Rattle.tz_info.specs.Zones.{Zone, plain_zone};
 ghost use Rattle.tz_info.specs.declared.rule.transition_rule.TransitionRule.{TransitionRule};
 ghost use Rattle.tests_pins.specs.NewYork.{new_york_rule, new_york_zone, est, edt};
-ghost use Rattle.tests_pins.specs.Texts.{new_york_text, no_days, foo_23, foo_23_rule, foo_24, foo_5_60, foo, fo_5, day_0, utc_text, utc_rule, jerusalem_text, jerusalem_rule, nuuk_text, nuuk_rule, foo_plus_5, foo_minus_5, foo_behind, foo_ahead, foo_5_06_07, foo_5_30, small, numbered_text, numbered_rule};
+ghost use Rattle.tests_pins.specs.Texts.{new_york_text, no_days, foo_23, foo_23_rule, foo_24, foo_5_60, foo, fo_5};
+ghost use Rattle.tests_pins.specs.Texts.{day_0, utc_text, utc_rule, jerusalem_text, jerusalem_rule, nuuk_text};
+ghost use Rattle.tests_pins.specs.Texts.{nuuk_rule, foo_plus_5, foo_minus_5, foo_behind, foo_ahead, foo_5_06_07};
+ghost use Rattle.tests_pins.specs.Texts.{foo_5_30, small, numbered_text, numbered_rule};
 
 /// `EST5EDT,M3.2.0,M11.1.0` spells that rule, as it does with the offset of EDT in it; and `UTC0` one
 /// of one type.
@@ -48,13 +55,13 @@ pub fn names()
     ensures underscore { ¬ (IsName (codes "E_T")) }
 {}
 
-/// Hours of a time of day go to 24, and with extensions to 167. Of an offset 1:30:15 west is less
-/// than UTC by so many seconds.
+/// Hours of a time of day go to 24, and with extensions to 167. An offset of 1:30:15 west is
+/// 5,415 seconds less than UTC.
 pub fn times()
     ensures plain { time_limit false ≡ 24 }
     ensures extended { time_limit true ≡ 167 }
-    ensures west { seconds_of true 1 30 15 ≡ neg_ℤ (pos 5_415) }
-    ensures east { seconds_of false 1 30 15 ≡ pos 5_415 }
+    ensures west { signed_seconds true 1 30 15 ≡ neg_ℤ (pos 5_415) }
+    ensures east { signed_seconds false 1 30 15 ≡ pos 5_415 }
 {}
 
 /// RFC 8536's examples of its extensions: a time of 26 hours, and times before midnight.

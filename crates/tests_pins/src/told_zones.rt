@@ -8,7 +8,8 @@ ghost use Rattle.tz_info.specs.declared.rule.day.DayForm.TheVariants.{Julian1, J
 ghost use Rattle.change_views.specs.ZdumpLines.{zdump_text};
 ghost use Rattle.zonedump_lib.specs.Forms.{IsTold};
 ghost use Rattle.zonedump_lib.specs.JsonValues.{day_value, rule_value, zone_value, leap_value};
-ghost use Rattle.zonedump_lib.specs.RuleWords.{rule_words, day_words, moment_words, month_words, week_words, weekday_words};
+ghost use Rattle.zonedump_lib.specs.RuleWords.{rule_words, day_words, moment_words, month_words, week_words};
+ghost use Rattle.zonedump_lib.specs.RuleWords.{weekday_words};
 ghost use Rattle.zonedump_lib.specs.Tables.{head_text, leap_text, table_text};
 ghost use Rattle.zonedump_lib.specs.Zdump.{IsZdump};
 ghost use Rattle.zonedump_lib.specs.declared.form.Form.TheVariants as forms;

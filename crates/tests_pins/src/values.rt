@@ -2,7 +2,9 @@
 
 ghost use Rattle.std.specs.Prelude.{◌≡◌, ℕ, pos, neg_ℤ, ◌*ℤ◌, Some, None};
 ghost use Rattle.offset_core.specs.LocalResult.{single_of, earliest_of, latest_of, all_or_none};
-ghost use Rattle.offset_core.specs.Nanoseconds.{FitsTimeDelta, nanos_per_microsecond, nanos_per_millisecond, nanos_per_second, nanos_per_minute, nanos_per_hour, nanos_per_day, nanos_per_week};
+ghost use Rattle.offset_core.specs.Nanoseconds.{FitsTimeDelta, nanos_per_microsecond, nanos_per_millisecond};
+ghost use Rattle.offset_core.specs.Nanoseconds.{nanos_per_second, nanos_per_minute, nanos_per_hour, nanos_per_day};
+ghost use Rattle.offset_core.specs.Nanoseconds.{nanos_per_week};
 ghost use Rattle.offset_core.specs.declared.local_result.LocalResult.TheVariants as results;
 
 /// Of the values 1 and 2 of a fold there is no single one, the earliest is 1 and the latest 2. One

@@ -5,7 +5,7 @@ ghost use Rattle.std.specs.Prelude.{◌≡◌, pos};
 ghost use Rattle.offset_core.specs.WallAnswer.{IsWallAnswer};
 ghost use Rattle.offset_core.specs.declared.local_result.LocalResult.TheVariants as results;
 ghost use Rattle.tz_base.specs.LocalTypes.{LocalType};
-ghost use Rattle.tz_info.specs.Gaps.{IsBeforeGap};
+ghost use Rattle.tz_info.specs.Gaps.{IsTypeBeforeGap};
 ghost use Rattle.tz_info.specs.WallClocks.{Shows};
 ghost use Rattle.tz_info.specs.Zones.{TypeAt};
 ghost use Rattle.tests_pins.specs.NewYork.{new_york_zone, est, edt};
@@ -20,12 +20,13 @@ pub fn gap()
     ensures last { IsWallAnswer (Shows (TypeAt new_york_zone) (pos 1_615_690_799)) results.None }
     ensures after { IsWallAnswer (Shows (TypeAt new_york_zone) (pos 1_615_690_800))
         (results.Single edt) }
-    ensures type_before { IsBeforeGap (TypeAt new_york_zone) (pos 1_615_689_000) est }
+    ensures type_before { IsTypeBeforeGap (TypeAt new_york_zone) (pos 1_615_689_000) est }
     ensures no_other_before { (t : LocalType)
-        → IsBeforeGap (TypeAt new_york_zone) (pos 1_615_689_000) t → t ≡ est }
+        → IsTypeBeforeGap (TypeAt new_york_zone) (pos 1_615_689_000) t → t ≡ est }
 {}
 
 /// Two seconds show 01:30, the first by EDT and the last by EST. So it is from 01:00 on.
+#[tactic(auto, using(crate::proofs::NewYorkClocks::edt_once, crate::proofs::NewYorkClocks::in_fold))]
 pub fn fold()
     ensures before { IsWallAnswer (Shows (TypeAt new_york_zone) (pos 1_636_246_799))
         (results.Single edt) }

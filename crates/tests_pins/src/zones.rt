@@ -3,7 +3,8 @@
 ghost use Rattle.std.specs.Prelude.{◌≡◌, [], ◌∷◌, pos, neg_ℤ, true, Some, None};
 ghost use Rattle.tz_info.specs.Zones.{TypeAt, IsValid};
 ghost use Rattle.tz_info.specs.declared.rule.transition_rule.TransitionRule.TheVariants as rules;
-ghost use Rattle.tests_pins.specs.Zones.{honolulu, hst10, lmt, early_hst, hst, named, change, listed, two_types};
+ghost use Rattle.tests_pins.specs.Zones.{honolulu, hst10, lmt, early_hst, hst, honolulu_type, change, listed};
+ghost use Rattle.tests_pins.specs.Zones.{two_types};
 
 /// The first type before the first transition, and the transition's own type from its second on.
 pub fn honolulu_types()
@@ -41,7 +42,7 @@ pub fn lists()
 /// A rule has the last transition's type then, in its offset, its DST flag and its name.
 pub fn valid()
     ensures other_flag { ¬ (IsValid (two_types (pos 78_796_801)
-        (Some (rules.Fixed (named (pos 36_000) true 72 83))))) }
+        (Some (rules.Fixed (honolulu_type (pos 36_000) true 72 83))))) }
     ensures other_offset { ¬ (IsValid (two_types (pos 78_796_801)
         (Some (rules.Fixed early_hst)))) }
 {}

@@ -1,7 +1,7 @@
 -- What is read, decided: its value is what is meant, or its error is that of the fault. And how such laws go together.
 use Rattle.std.proofs.Common.{◌≡◌, ℕ, ◌≤◌, List, Bool, true, false, cond, Ok, Err, Result, refl, sym, ap, ◌∙◌, inl, inr, ◌⊎◌}
 use Rattle.std.specs.Bool.{Decides}
-use Rattle.tz_base.specs.Errors.{number_of}
+use Rattle.tz_base.specs.Errors.{error_number}
 use Rattle.tz_base.specs.Fronts.{◌>>=◌}
 use Rattle.tz_base.specs.declared.error.Error.{Error}
 use Rattle.tz_base.proofs.ReadLaws.{bind_ok, bind_err, ok_same, err_same}
@@ -13,7 +13,7 @@ pub record Decided (X : Type 0) (r : Result X Error) (P : X → Type 0) (F : Err
   pub again : (x : X) → P x → r ≡ Ok x
   pub fails : (err : Error) → r ≡ Err err → F err
   pub refuses : (err : Error) → F err → r ≡ Err err
-  pub low : (err : Error) → r ≡ Err err → number_of err ≤ 16
+  pub low : (err : Error) → r ≡ Err err → error_number err ≤ 16
 
 -- one value or one fault, never both, and one of them
 pub value_once : {X : Type 0} {r : Result X Error} {P : X → Type 0} {F : Error → Type 0} → Decided X r P F → (x y : X) → P x → P y → x ≡ y
@@ -31,7 +31,7 @@ either {r = r} d = by r (λ x e. d.takes x e) (λ err e. d.fails err e) where
   by (Ok x) p f = inl (x, p x refl)
   by (Err err) p f = inr (err, f err refl)
 
-pub fault_low : {X : Type 0} {r : Result X Error} {P : X → Type 0} {F : Error → Type 0} → Decided X r P F → (err : Error) → F err → number_of err ≤ 16
+pub fault_low : {X : Type 0} {r : Result X Error} {P : X → Type 0} {F : Error → Type 0} → Decided X r P F → (err : Error) → F err → error_number err ≤ 16
 fault_low d err f = d.low err (d.refuses err f)
 
 -- the same in other words
@@ -75,7 +75,7 @@ bind {r = r} {f = f} d e = record {
 pub done : {X : Type 0} (x : X) → Decided X (Ok x) (λ y. x ≡ y) (λ _. ⊥)
 done x = record { takes = λ y h. ok_same (Ok x) x y refl h; again = λ y h. ap (λ z. Ok z) h; fails = λ err h. cc; refuses = λ err h. absurd h; low = λ err h. cc }
 
-pub refused : {X : Type 0} (err : Error) → number_of err ≤ 16 → Decided X (Err err) (λ _. ⊥) (λ other. other ≡ err)
+pub refused : {X : Type 0} (err : Error) → error_number err ≤ 16 → Decided X (Err err) (λ _. ⊥) (λ other. other ≡ err)
 refused err l = record {
   takes = λ y h. cc;
   again = λ y h. absurd h;
@@ -103,7 +103,7 @@ choice {b = false} d e f = like f
     (λ err h. elim h [ inl k ↦ let t = d.1 k.0 in cc | inr k ↦ k.1 ])
 
 -- a value if the test holds, the error if it does not
-pub guard : {X A : Type 0} {b : Bool} (x : X) (err : Error) → number_of err ≤ 16 → Decides b A → Decided X (cond b (Ok x) (Err err)) (λ y. A × (x ≡ y)) (λ other. ¬ A × (other ≡ err))
+pub guard : {X A : Type 0} {b : Bool} (x : X) (err : Error) → error_number err ≤ 16 → Decides b A → Decided X (cond b (Ok x) (Err err)) (λ y. A × (x ≡ y)) (λ other. ¬ A × (other ≡ err))
 guard x err l d = like (choice d (done x) (refused err l))
     (λ y h. elim h [ inl k ↦ k | inr k ↦ absurd k.1 ])
     (λ y h. inl h)

@@ -5,7 +5,7 @@ use Rattle.std.proofs.Math.Seq.{take-append_seam}
 use Rattle.std.proofs.lemmas.Bool.Decides.{Decides-ltb, nat_tests}
 use Rattle.std.proofs.lemmas.List.{length-append, length-take, take-append-drop}
 use Rattle.std.specs.Bool.{Decides}
-use Rattle.tz_base.specs.Errors.{number_of}
+use Rattle.tz_base.specs.Errors.{error_number}
 use Rattle.tz_base.specs.Fronts.{AllOf, NoneFirst, after_run, exact_at, int_at, is_digit, number_within, optional_tag_at, run_of, tag_at, value_from}
 use Rattle.tz_base.specs.Grammar.{Byte, ByteFault, Check, Ended, Exact, Grammar, HasFault, IsNumber, IsRun, Marked, Nothing, Number, NumberFault, Refused, Rest}
 use Rattle.tz_base.specs.Grammar.{Run, Spells, Then, Without, is_end, read}
@@ -27,7 +27,7 @@ Lawful g = Reads (read g) (Spells g) (HasFault g)
 pub same_pair : {X Y : Type 0} (a b : X) (c d : Y) → a ≡ b → c ≡ d → ◌≡◌ {A = X × Y} (a, c) (b, d)
 same_pair a b c d p q = cc
 
-low : (refusal : Refusal) → number_of (error refusal) ≤ 16
+low : (refusal : Refusal) → error_number (error refusal) ≤ 16
 low (LocalTimeType x) = omega arith
 low (InvalidTzFile x) = omega arith
 low (InvalidTzString x) = omega arith

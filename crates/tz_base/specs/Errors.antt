@@ -4,24 +4,24 @@ use Rattle.tz_base.specs.declared.error.Error.{Error}
 use Rattle.tz_base.specs.declared.error.Error.TheVariants as errors
 
 -- the number of an error, by its variant
-abbrev pub number_of : Error → ℕ
-number_of (errors.DateTime _) = 1
-number_of (errors.FindLocalTimeType _) = 2
-number_of (errors.LocalTimeType _) = 3
-number_of (errors.InvalidSlice _) = 4
-number_of (errors.InvalidTzFile _) = 5
-number_of (errors.InvalidTzString _) = 6
-number_of (errors.UnexpectedEnd _) = 7
-number_of (errors.MissingTag _) = 8
-number_of (errors.OutOfRange _) = 9
-number_of (errors.ParseInt _) = 10
-number_of (errors.ProjectDateTime _) = 11
-number_of (errors.TimeZone _) = 12
-number_of (errors.TransitionRule _) = 13
-number_of (errors.UnsupportedTzFile _) = 14
-number_of (errors.UnsupportedTzString _) = 15
-number_of (errors.Utf8 _) = 16
-number_of errors.OutOfMemory = 17
+abbrev pub error_number : Error → ℕ
+error_number (errors.DateTime _) = 1
+error_number (errors.FindLocalTimeType _) = 2
+error_number (errors.LocalTimeType _) = 3
+error_number (errors.InvalidSlice _) = 4
+error_number (errors.InvalidTzFile _) = 5
+error_number (errors.InvalidTzString _) = 6
+error_number (errors.UnexpectedEnd _) = 7
+error_number (errors.MissingTag _) = 8
+error_number (errors.OutOfRange _) = 9
+error_number (errors.ParseInt _) = 10
+error_number (errors.ProjectDateTime _) = 11
+error_number (errors.TimeZone _) = 12
+error_number (errors.TransitionRule _) = 13
+error_number (errors.UnsupportedTzFile _) = 14
+error_number (errors.UnsupportedTzString _) = 15
+error_number (errors.Utf8 _) = 16
+error_number errors.OutOfMemory = 17
 
 abbrev pub IsOutOfMemory : Error → Type 0
-IsOutOfMemory e = number_of e ≡ 17
+IsOutOfMemory e = error_number e ≡ 17

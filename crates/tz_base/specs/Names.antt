@@ -1,9 +1,10 @@
--- Names of local time types: the "time zone designations" of RFC 8536 section 3.2, and the `std` and `dst` of a TZ text
+-- Names of local time types: the "time zone designations" of RFC 8536 section 3.2, and the `std` and `dst` of a TZ string
 -- (POSIX.1 section 8.3). Here they are three to seven letters, digits, `+` or `-` of ASCII; RFC 8536 says that they should
 -- have three to six.
 use Rattle.std.proofs.Common.{ℕ, zero, suc, ◌≡◌, ◌<◌, ◌≤◌, ◌==◌, nat_le, Bool, true, ◌&&◌, ◌||◌, List, [], ◌∷◌, Option, Some, None, length, slice_index, get_or}
 use Rattle.std.proofs.Common.{arith, refl}
-use Rattle.std.specs.Prelude.{if◌then◌else◌}
+use Rattle.std.specs.Prelude.{if◌then◌else◌, ◌++◌, ◌-◌}
+use Rattle.std.proofs.Math.ListN.{replicate}
 use Rattle.std.specs.List.{list_all}
 use Rattle.std.proofs.lemmas.Bool.Decides.{nat_tests}
 use Rattle.tz_base.specs.Tests.{Test}
@@ -22,6 +23,10 @@ IsName text = (3 ≤ length text) × (length text ≤ 7) × ((i : ℕ) → i < l
 abbrev pub IsNameOrNone : Option (List ℕ) → Type 0
 IsNameOrNone (Some text) = IsName text
 IsNameOrNone None = Unit {0}
+
+-- eight bytes: a name, which has at most seven, and zeros after it
+abbrev pub zero_ended : List ℕ → List ℕ
+zero_ended name = name ++ replicate (8 - length name) 0
 
 -- what is expected of bytes that are no name: another length, or else other bytes
 abbrev pub expected_of_name : List ℕ → Expected

@@ -1,9 +1,11 @@
 //! A cursor over bytes.
 
-ghost use Rattle.std.specs.Prelude.{◌≡◌, ◌≤◌, ◌<◌, ◌++◌, [], true, false, length, slice_get, slice_index, OnErr, IfOk, IsTrue, ◌↔◌, EachIndex};
+ghost use Rattle.std.specs.Prelude.{◌≡◌, ◌≤◌, ◌<◌, ◌++◌, [], true, false, length, slice_get, slice_index, OnErr, IfOk};
+ghost use Rattle.std.specs.Prelude.{IsTrue, ◌↔◌, EachIndex};
 ghost use Rattle.std.specs.Option.{option_copied};
 ghost use Rattle.tz_base.specs.Grammar.{be_u32, read};
-ghost use Rattle.tz_base.specs.Fronts.{Gives, exact_at, tag_at, optional_tag_at, int_at, number_within, is_digit, AllDigits};
+ghost use Rattle.tz_base.specs.Fronts.{Gives, exact_at, tag_at, optional_tag_at, int_at, number_within, is_digit};
+ghost use Rattle.tz_base.specs.Fronts.{AllDigits};
 
 use crate::error::{Error, Expected};
 use std::marker::Model;

@@ -1,7 +1,7 @@
 //! Why bytes, values or instants give an error.
 
 ghost use Rattle.std.specs.Prelude.{◌≡◌};
-ghost use Rattle.tz_base.specs.Errors.{number_of};
+ghost use Rattle.tz_base.specs.Errors.{error_number};
 ghost use Rattle.tz_base.specs.declared.error.Error.TheVariants.{OutOfMemory};
 
 use std::alloc::{AllocError, AllocFailed};
@@ -108,7 +108,7 @@ impl Expected {
             Expected::StandardTimeWhereTimeIsUt => "standard time where the time is UT",
             Expected::FooterInUtf8 => "a footer in UTF-8",
             Expected::FooterBetweenNewlines => "a footer between newlines",
-            Expected::TzTextInFooter => "a TZ text in the footer",
+            Expected::TzTextInFooter => "a TZ string in the footer",
             Expected::CountsThatAgree => "counts that agree",
             Expected::TZifAtFrontOfHeader => "TZif at the front of a header",
             Expected::Version2Or3InSecondHeader => "version 2 or 3 in a second header",
@@ -183,7 +183,7 @@ pub enum Error {
     #[error("invalid TZif file: expected {0}")]
     InvalidTzFile(Expected),
     /// A time or offset of a TZ string is out of its limits, or extra bytes follow the string.
-    #[error("invalid TZ text: expected {0}")]
+    #[error("invalid TZ string: expected {0}")]
     InvalidTzString(Expected),
     /// Unexpected end of input.
     #[error("unexpected end: expected {0}")]
@@ -211,7 +211,7 @@ pub enum Error {
     #[error("unsupported TZif version: expected {0}")]
     UnsupportedTzFile(Expected),
     /// A TZ string names daylight saving time but has no rule for it.
-    #[error("unsupported TZ text: expected {0}")]
+    #[error("unsupported TZ string: expected {0}")]
     UnsupportedTzString(Expected),
     /// A TZ string that is not UTF-8.
     #[error("invalid UTF-8: expected {0}")]
@@ -224,7 +224,7 @@ pub enum Error {
 impl Error {
     /// Returns the number of the error, from 1 to 17 in the order of the variants.
     pub fn number(&self) -> u8
-        ensures { result ≡ number_of self.now }
+        ensures { result ≡ error_number self.now }
     {
         match self {
             Error::DateTime(_) => 1,

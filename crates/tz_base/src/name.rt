@@ -4,7 +4,7 @@ ghost use Rattle.std.specs.Prelude.{◌≡◌, ℕ, ◌<◌, ◌≤◌, length, 
 ghost use Rattle.std.specs.Bool.{nat_eq};
 ghost use Rattle.std.specs.Cmp.{partial_equiv_from_equiv};
 ghost use Rattle.std.specs.Cmp.Lexicographic.{pointwise, nat_list_eq_equiv};
-ghost use Rattle.tz_base.specs.Names.{IsName, is_name_byte, expected_of_name};
+ghost use Rattle.tz_base.specs.Names.{IsName, is_name_byte, expected_of_name, zero_ended};
 ghost use Rattle.tz_base.specs.declared.error.Error.TheVariants.{LocalTimeType};
 
 use crate::error::{Error, Expected};
@@ -15,7 +15,8 @@ use std::marker::Model;
 /// `+` or `-` (RFC 8536 section 3.2 says that it should have three to six).
 #[derive(Clone, Copy)]
 pub struct TimeZoneName {
-    buffer: [u8; 7],
+    // The bytes, and zeros after them.
+    buffer: [u8; 8],
     len: u8,
 }
 
@@ -24,13 +25,14 @@ impl Model for TimeZoneName {
 
     ghost Value = { List ℕ };
 
-    ghost use Rattle.tz_base.specs.Steps.StoredNames.{Holds, padded, padded_back, length_back};
+    ghost use Rattle.tz_base.specs.Names.{zero_ended};
+    ghost use Rattle.tz_base.specs.Steps.StoredNames.{Holds, padded_back, length_back};
 
     ghost view = { λ n. take n.len n.buffer };
 
     ghost invariant = { λ n. Holds n.buffer n.len };
 
-    ghost inverse = { λ text. record { buffer = padded text; len = length text } };
+    ghost inverse = { λ text. record { buffer = zero_ended text; len = length text } };
 
     ghost use Rattle.std.proofs.Common.{ap, ◌≡◌, refl};
 
@@ -58,7 +60,7 @@ impl TimeZoneName {
         if !name.iter().all(|byte| is_name_byte(*byte)) {
             return Err(Error::LocalTimeType(Expected::LettersDigitsPlusOrMinusInName));
         }
-        let mut buffer = [0; 7];
+        let mut buffer = [0; 8];
         buffer[..len].copy_from_slice(name);
         Ok(TimeZoneName {
             buffer,
@@ -72,6 +74,14 @@ impl TimeZoneName {
         ensures name { IsName self.now }
     {
         &self.buffer[..self.len as usize]
+    }
+
+    /// Returns the bytes of the name, and zeros after them.
+    #[inline(always)]
+    pub fn zero_ended(&self) -> [u8; 8]
+        ensures { result ≡ zero_ended self.now }
+    {
+        self.buffer
     }
 
     /// Returns the name as text.

@@ -1,6 +1,6 @@
 -- Answers of wall clocks: equal sets of seconds, and two sets of which one comes before the other.
 use Rattle.offset_core.specs.declared.local_result.LocalResult.TheVariants.{Ambiguous, None, Single}
-use Rattle.tz_info.proofs.Words.{IsWallAnswer, LocalResult, arith, inl, inr, ints, joined, refl, ℤ, ⊎_elim, ◌<ℤ◌, ◌≡◌, ◌⊎◌}
+use Rattle.tz_info.proofs.Words.{IsWallAnswer, LocalResult, arith, inl, inr, ints, joined, refl, ℤ, ⊎_elim, ◌<ℤ◌, ◌≡◌, ◌≤ℤ◌, ◌⊎◌}
 
 -- p and q take the same seconds
 pub same_answer : {T : Type 0} (p q : ℤ → T → Type 0) (a : LocalResult T) → ((u : ℤ) (t : T) → p u t → q u t) → ((u : ℤ) (t : T) → q u t → p u t) → IsWallAnswer p a → IsWallAnswer q a
@@ -23,70 +23,48 @@ pub record Parts {T : Type 0} (p q r : ℤ → T → Type 0) : Type 0 where
   pub all : (u : ℤ) (t : T) → r u t → p u t ⊎ q u t
   pub order : (u v : ℤ) (s t : T) → p u s → q v t → u <ℤ v
 
+-- the first and the last second that p takes
+record Ends {T : Type 0} (p : ℤ → T → Type 0) (first last : ℤ) (a b : T) : Type 0 where
+  pub at_first : p first a
+  pub at_last : p last b
+  pub not_before : (u : ℤ) (t : T) → p u t → first ≤ℤ u
+  pub not_after : (u : ℤ) (t : T) → p u t → u ≤ℤ last
+
+of_one : {T : Type 0} (p : ℤ → T → Type 0) (a : T) → (h : IsWallAnswer p (Single a)) → Ends p h.second h.second a a
+of_one p a h = record {
+  at_first = h.shown;
+  at_last = h.shown;
+  not_before = λ u t k. let e = h.only u t k in omega (arith, ints);
+  not_after = λ u t k. let e = h.only u t k in omega (arith, ints);
+}
+
+of_several : {T : Type 0} (p : ℤ → T → Type 0) (a b : T) → (h : IsWallAnswer p (Ambiguous a b)) → Ends p h.first h.last a b
+of_several p a b h = record { at_first = h.at_first; at_last = h.at_last; not_before = h.not_before; not_after = h.not_after }
+
+-- r takes the first of p's seconds first, and the last of q's last
+both : {T : Type 0} (p q r : ℤ → T → Type 0) (f l m n : ℤ) (a b c d : T) → Parts p q r → Ends p f l a b → Ends q m n c d → IsWallAnswer r (Ambiguous a d)
+both p q r f l m n a b c d o x y = record {
+  first = f;
+  last = n;
+  several = o.order f n a d x.at_first y.at_last;
+  at_first = o.first f a x.at_first;
+  at_last = o.last n d y.at_last;
+  not_before = λ u t k. ⊎_elim (x.not_before u t) (λ h. let e = o.order f u a t x.at_first h in omega (arith, ints)) (o.all u t k);
+  not_after = λ u t k. ⊎_elim (λ h. let e = o.order u n t d h y.at_last in omega (arith, ints)) (y.not_after u t) (o.all u t k);
+}
+
+-- where q takes none
+first_alone : {T : Type 0} (p q r : ℤ → T → Type 0) (a : LocalResult T) → Parts p q r → IsWallAnswer p a → IsWallAnswer q None → IsWallAnswer r a
+first_alone p q r a o x y = same_answer p r a o.first (λ u t k. ⊎_elim (λ h. h) (λ h. absurd (y u t h)) (o.all u t k)) x
+
 pub joined_answer : {T : Type 0} (p q r : ℤ → T → Type 0) (a b : LocalResult T) → Parts p q r → IsWallAnswer p a → IsWallAnswer q b → IsWallAnswer r (joined a b)
-joined_answer p q r None None o x y = λ u t k. ⊎_elim (x u t) (y u t) (o.all u t k)
-joined_answer p q r None (Single c) o x y = record { second = y.second; shown = o.last _ _ y.shown; only = λ u t k. ⊎_elim (λ h. absurd (x u t h)) (y.only u t) (o.all u t k) }
-joined_answer p q r None (Ambiguous c d) o x y = record {
-  first = y.first;
-  last = y.last;
-  several = y.several;
-  at_first = o.last _ _ y.at_first;
-  at_last = o.last _ _ y.at_last;
-  not_before = λ u t k. ⊎_elim (λ h. absurd (x u t h)) (y.not_before u t) (o.all u t k);
-  not_after = λ u t k. ⊎_elim (λ h. absurd (x u t h)) (y.not_after u t) (o.all u t k);
-}
-joined_answer p q r (Single a) None o x y = record { second = x.second; shown = o.first _ _ x.shown; only = λ u t k. ⊎_elim (x.only u t) (λ h. absurd (y u t h)) (o.all u t k) }
-joined_answer p q r (Single a) (Single c) o x y = let less = o.order x.second y.second a c x.shown y.shown in record {
-  first = x.second;
-  last = y.second;
-  several = less;
-  at_first = o.first _ _ x.shown;
-  at_last = o.last _ _ y.shown;
-  not_before = λ u t k. ⊎_elim (λ h. let e = x.only u t h in omega (arith, ints)) (λ h. let e = y.only u t h in omega (arith, ints)) (o.all u t k);
-  not_after = λ u t k. ⊎_elim (λ h. let e = x.only u t h in omega (arith, ints)) (λ h. let e = y.only u t h in omega (arith, ints)) (o.all u t k);
-}
-joined_answer p q r (Single a) (Ambiguous c d) o x y =
-    let less = o.order x.second y.first a c x.shown y.at_first in let more = y.several in
-    record {
-      first = x.second;
-      last = y.last;
-      several = omega (arith, ints);
-      at_first = o.first _ _ x.shown;
-      at_last = o.last _ _ y.at_last;
-      not_before = λ u t k. ⊎_elim (λ h. let e = x.only u t h in omega (arith, ints)) (λ h. let e = y.not_before u t h in omega (arith, ints)) (o.all u t k);
-      not_after = λ u t k. ⊎_elim (λ h. let e = x.only u t h in omega (arith, ints)) (y.not_after u t) (o.all u t k);
-    }
-joined_answer p q r (Ambiguous a b) None o x y = record {
-  first = x.first;
-  last = x.last;
-  several = x.several;
-  at_first = o.first _ _ x.at_first;
-  at_last = o.first _ _ x.at_last;
-  not_before = λ u t k. ⊎_elim (x.not_before u t) (λ h. absurd (y u t h)) (o.all u t k);
-  not_after = λ u t k. ⊎_elim (x.not_after u t) (λ h. absurd (y u t h)) (o.all u t k);
-}
-joined_answer p q r (Ambiguous a b) (Single c) o x y =
-    let less = o.order x.last y.second b c x.at_last y.shown in let more = x.several in
-    record {
-      first = x.first;
-      last = y.second;
-      several = omega (arith, ints);
-      at_first = o.first _ _ x.at_first;
-      at_last = o.last _ _ y.shown;
-      not_before = λ u t k. ⊎_elim (x.not_before u t) (λ h. let e = y.only u t h in omega (arith, ints)) (o.all u t k);
-      not_after = λ u t k. ⊎_elim (λ h. let e = x.not_after u t h in omega (arith, ints)) (λ h. let e = y.only u t h in omega (arith, ints)) (o.all u t k);
-    }
-joined_answer p q r (Ambiguous a b) (Ambiguous c d) o x y =
-    let less = o.order x.last y.first b c x.at_last y.at_first in let more = x.several in let most = y.several in
-    record {
-      first = x.first;
-      last = y.last;
-      several = omega (arith, ints);
-      at_first = o.first _ _ x.at_first;
-      at_last = o.last _ _ y.at_last;
-      not_before = λ u t k. ⊎_elim (x.not_before u t) (λ h. let e = y.not_before u t h in omega (arith, ints)) (o.all u t k);
-      not_after = λ u t k. ⊎_elim (λ h. let e = x.not_after u t h in omega (arith, ints)) (y.not_after u t) (o.all u t k);
-    }
+joined_answer p q r None b o x y = same_answer q r b o.last (λ u t k. ⊎_elim (λ h. absurd (x u t h)) (λ h. h) (o.all u t k)) y
+joined_answer p q r (Single a) None o x y = first_alone p q r (Single a) o x y
+joined_answer p q r (Single a) (Single c) o x y = both p q r _ _ _ _ a a c c o (of_one p a x) (of_one q c y)
+joined_answer p q r (Single a) (Ambiguous c d) o x y = both p q r _ _ _ _ a a c d o (of_one p a x) (of_several q c d y)
+joined_answer p q r (Ambiguous a b) None o x y = first_alone p q r (Ambiguous a b) o x y
+joined_answer p q r (Ambiguous a b) (Single c) o x y = both p q r _ _ _ _ a b c c o (of_several p a b x) (of_one q c y)
+joined_answer p q r (Ambiguous a b) (Ambiguous c d) o x y = both p q r _ _ _ _ a b c d o (of_several p a b x) (of_several q c d y)
 
 -- q takes the second c more, which comes behind all others
 pub behind_answer : {T : Type 0} (p q : ℤ → T → Type 0) (c : ℤ) (t : T) (answer : LocalResult T) → ((u : ℤ) (f : T) → p u f → q u f) → ((u : ℤ) (f : T) → q u f → p u f ⊎ (u ≡ c)) → q c t → ((u : ℤ) (f : T) → p u f → u <ℤ c) → IsWallAnswer p answer → IsWallAnswer q (joined answer (Single t))

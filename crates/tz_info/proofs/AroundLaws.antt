@@ -1,5 +1,5 @@
 -- A local time has one answer with both sides of its gap.
-use Rattle.tz_info.proofs.Words.{Around, Change, HasGap, IsAround, LocalType, Shows, TypeAt, Zone, arith, ints, one_around, pos, subst, ℤ, ◌-ℤ◌, ◌≡◌}
+use Rattle.tz_info.proofs.Words.{AreTypesAround, Around, Change, HasGap, LocalType, Shows, TypeAt, Zone, arith, ints, one_around, pos, subst, ℤ, ◌-ℤ◌, ◌≡◌}
 use Rattle.tz_info.specs.Around.{Skips}
 use Rattle.tz_info.proofs.WallLaws.{shown_once}
 use Rattle.tz_info.proofs.ZoneLaws.{type_once}
@@ -17,5 +17,5 @@ one_gap z l g h a b =
     (type_once z h.at g.after h.after (subst (λ (u : ℤ). TypeAt z u g.after) same a.here) b.here)
     same
 
-pub one_answer_around : (z : Zone) (l : ℤ) (a b : Around LocalType Change) → IsAround (TypeAt z) l a → IsAround (TypeAt z) l b → a ≡ b
+pub one_answer_around : (z : Zone) (l : ℤ) (a b : Around LocalType Change) → AreTypesAround (TypeAt z) l a → AreTypesAround (TypeAt z) l b → a ≡ b
 one_answer_around z l = one_around (Shows (TypeAt z) l) (Skips (TypeAt z) l) (shown_once z l) (λ g gap. gap.never) (one_gap z l)

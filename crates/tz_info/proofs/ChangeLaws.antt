@@ -1,6 +1,8 @@
 -- At a second there is one change, and so one next change, one previous change and one list of them.
-use Rattle.tz_info.proofs.Words.{AllPairs, AreChanges, Change, Contains, IsBeforeGap, IsChange, IsFirst, IsLast, List, LocalType, None, Option, Some, TypeAt}
-use Rattle.tz_info.proofs.Words.{Zone, ap, arith, by_lt_z, inl, inr, ints, pos, refl, subst, suc, sym, zero, ℤ, [], ◌-ℤ◌, ◌<ℤ◌, ◌∷◌, ◌≡◌, ◌≤ℤ◌, ◌⊎◌}
+use Rattle.tz_info.proofs.Words.{AllPairs, AreChanges, Bool, Change, Contains, IsTypeBeforeGap, IsChange, IsFirst, IsNearest, List, LocalType, None, Option}
+use Rattle.tz_info.proofs.Words.{Precedes, Some, TypeAt}
+use Rattle.tz_info.proofs.Words.{Zone, ap, arith, by_lt_z, false, inl, inr, ints, pos, refl, subst, suc, sym, true, zero, ℤ, [], ◌-ℤ◌, ◌<ℤ◌, ◌∷◌, ◌≡◌, ◌≤ℤ◌}
+use Rattle.tz_info.proofs.Words.{◌⊎◌}
 use Rattle.tz_info.proofs.ZoneLaws.{type_once}
 
 same_parts : (c d : Change) → c.at ≡ d.at → c.before ≡ d.before → c.after ≡ d.after → c ≡ d
@@ -11,18 +13,17 @@ one_change z c d a b same = same_parts c d same
     (type_once z (d.at -ℤ pos 1) c.before d.before (subst (λ (u : ℤ). TypeAt z (u -ℤ pos 1) c.before) same a.before) b.before)
     (type_once z d.at c.after d.after (subst (λ (u : ℤ). TypeAt z u c.after) same a.after) b.after)
 
--- ---- the first and the last one
-pub one_first : (z : Zone) (within : ℤ → Type 0) (a b : Option Change) → IsFirst (TypeAt z) within a → IsFirst (TypeAt z) within b → a ≡ b
-one_first z within None None h k = refl
-one_first z within None (Some d) h k = absurd (h d k.is k.inside)
-one_first z within (Some c) None h k = absurd (k c h.is h.inside)
-one_first z within (Some c) (Some d) h k = let l = h.first d k.is k.inside in let m = k.first c h.is h.inside in ap Some (one_change z c d h.is k.is (omega (arith, ints, l, m)))
+-- ---- the nearest one
+each_way : (w : Bool) (x y : ℤ) → Precedes w x y → Precedes w y x → x ≡ y
+each_way true x y h k = omega (arith, ints)
+each_way false x y h k = omega (arith, ints)
 
-pub one_last : (z : Zone) (within : ℤ → Type 0) (a b : Option Change) → IsLast (TypeAt z) within a → IsLast (TypeAt z) within b → a ≡ b
-one_last z within None None h k = refl
-one_last z within None (Some d) h k = absurd (h d k.is k.inside)
-one_last z within (Some c) None h k = absurd (k c h.is h.inside)
-one_last z within (Some c) (Some d) h k = let l = h.last d k.is k.inside in let m = k.last c h.is h.inside in ap Some (one_change z c d h.is k.is (omega (arith, ints, l, m)))
+pub one_nearest : (w : Bool) (z : Zone) (within : ℤ → Type 0) (a b : Option Change) → IsNearest w (TypeAt z) within a → IsNearest w (TypeAt z) within b → a ≡ b
+one_nearest w z within None None h k = refl
+one_nearest w z within None (Some d) h k = absurd (h d k.is k.inside)
+one_nearest w z within (Some c) None h k = absurd (k c h.is h.inside)
+one_nearest w z within (Some c) (Some d) h k = ap Some (one_change z c d h.is k.is
+    (each_way w c.at d.at (h.nearest d k.is k.inside) (k.nearest c h.is h.inside)))
 
 -- ---- lists
 abbrev Rise : List Change → Type 0
@@ -85,11 +86,13 @@ front_is_first z from until c cs h =
     record {
       is = here.0;
       inside = omega (arith, ints, low);
-      first = λ d is inside. by_lt_z {P = c.at ≤ℤ d.at} d.at until (λ before. not_before c d cs h.rising ((h.each d).1 (is, (omega (arith, ints, inside), before)))) (λ from_on. let high = here.1.1 in omega (arith, ints, high, from_on));
+      nearest = λ d is inside. by_lt_z {P = c.at ≤ℤ d.at} d.at until
+          (λ before. not_before c d cs h.rising ((h.each d).1 (is, (omega (arith, ints, inside), before))))
+          (λ from_on. let high = here.1.1 in omega (arith, ints, high, from_on));
     }
 
 -- ---- the type before a gap
-pub one_type_before_gap : (z : Zone) (l : ℤ) (s t : LocalType) → IsBeforeGap (TypeAt z) l s → IsBeforeGap (TypeAt z) l t → s ≡ t
+pub one_type_before_gap : (z : Zone) (l : ℤ) (s t : LocalType) → IsTypeBeforeGap (TypeAt z) l s → IsTypeBeforeGap (TypeAt z) l t → s ≡ t
 one_type_before_gap z l s t a b =
     let less = a.least b.first b.more in
     let more = b.least a.first a.more in

@@ -1,9 +1,9 @@
 -- The list of a stretch's changes: there is no other, and how it begins and ends.
 use Rattle.tz_info.proofs.Words.{AreChanges, Change, Changes, Contains, Contains-append_left, Contains-get_or, Contains-push, Contains-push_cases, HasNoChange}
-use Rattle.tz_info.proofs.Words.{IsChange, IsFirst, IsFirstChange, IsFromUntil, IsLast, IsLastChange, IsRuleOrNone, IsValid, List, LocalType, MatchOption, None}
-use Rattle.tz_info.proofs.Words.{Option, SFits, Some, TypeAt, Zone, add-suc, add-zero, all_pairs_push, ap, append-nil, append_assoc, arith, by_lt_z}
+use Rattle.tz_info.proofs.Words.{IsChange, IsFirstChange, IsFromUntil, IsInStretch, IsLastChange, IsRuleOrNone, IsValid, List, LocalType}
+use Rattle.tz_info.proofs.Words.{Option, TypeAt, Zone, add-suc, add-zero, all_pairs_push, ap, append-nil, append_assoc, arith, by_lt_z}
 use Rattle.tz_info.proofs.Words.{change_here, changes_in, changes_left, changes_of, get_or, inl, inr, ints, least_time, length, length-append, lt_false}
-use Rattle.tz_info.proofs.Words.{lt_true, pos, refl, seconds_between, subst, suc, sym, type_or_none, w64, zero, ℕ, ℤ, [], ◌++◌, ◌+ℤ◌, ◌+◌, ◌-ℤ◌, ◌<ℤ◌, ◌<◌, ◌↔◌}
+use Rattle.tz_info.proofs.Words.{lt_true, pos, refl, seconds_between, subst, suc, sym, type_or_none, zero, ℕ, ℤ, [], ◌++◌, ◌+ℤ◌, ◌+◌, ◌-ℤ◌, ◌<ℤ◌, ◌<◌, ◌↔◌}
 use Rattle.tz_info.proofs.Words.{◌∙◌, ◌∷◌, ◌≡◌, ◌≤ℤ◌}
 use Rattle.tz_info.proofs.ChangeSearch.{InForce, IsOnce}
 use Rattle.tz_info.proofs.SecondTypes.{AreTypes, here_listed, types_told}
@@ -121,78 +121,69 @@ around z from until c valid limits is inside =
     ] in
     rw split (parts (type_or_none z) from m (1 + n) ∙ rw first (ap (λ cs. changes_in (type_or_none z) from m ++ cs) (parts (type_or_none z) c.at 1 n ∙ rw (at, here) refl)))
 
-pub first_left : (z : Zone) (from until : ℤ) (c : Change) → IsValid z → IsRuleOrNone z.rule → IsFirstChange (TypeAt z) (IsFromUntil from until) c → changes_of z from until ≡ c ∷ changes_of z (c.at +ℤ pos 1) until
-first_left z from until c valid limits h =
-    let none = none_left z from c.at valid limits (λ d is k. let u = h.inside.1 in let l = k.1 in let m = h.first d is (k.0, omega (arith, ints)) in omega (arith, ints)) in
-    rw none at (around z from until c valid limits h.is h.inside)
+-- ---- a step of the iterator
+pub steps_first : (s t : Changes) (c : Change) → IsValid s.zone.now → IsRuleOrNone s.zone.now.rule
+    → IsFirstChange (TypeAt s.zone.now) (IsInStretch s.after s.last) c
+    → t ≡ record { zone = s.zone; after = c.at; last = s.last } → changes_left s ≡ c ∷ changes_left t
+unfolding changes_left
+steps_first s t c valid limits h e =
+    let low = h.inside.0 in let high = h.inside.1 in
+    let none = none_left s.zone.now (s.after +ℤ pos 1) c.at valid limits
+    (λ d is k. let l = k.0 in let u = k.1 in let m = h.nearest d is (omega (arith, ints), omega (arith, ints)) in omega (arith, ints)) in
+    rw e (rw none at (around s.zone.now (s.after +ℤ pos 1) (s.last +ℤ pos 1) c valid limits h.is (omega (arith, ints), omega (arith, ints))))
 
-pub last_left : (z : Zone) (from until : ℤ) (c : Change) → IsValid z → IsRuleOrNone z.rule → IsLastChange (TypeAt z) (IsFromUntil from until) c → changes_of z from until ≡ changes_of z from c.at ++ c ∷ []
-last_left z from until c valid limits h =
-    let none = none_left z (c.at +ℤ pos 1) until valid limits (λ d is k. let u = h.inside.0 in let l = k.0 in let m = h.last d is (omega (arith, ints), k.1) in omega (arith, ints)) in
-    rw none at (around z from until c valid limits h.is h.inside)
+pub steps_last : (s t : Changes) (c : Change) → IsValid s.zone.now → IsRuleOrNone s.zone.now.rule
+    → IsLastChange (TypeAt s.zone.now) (IsInStretch s.after s.last) c
+    → t ≡ record { zone = s.zone; after = s.after; last = c.at -ℤ pos 1 } → changes_left s ≡ changes_left t ++ c ∷ []
+unfolding changes_left
+steps_last s t c valid limits h e =
+    let low = h.inside.0 in let high = h.inside.1 in
+    let none = none_left s.zone.now (c.at +ℤ pos 1) (s.last +ℤ pos 1) valid limits
+    (λ d is k. let l = k.0 in let u = k.1 in let m = h.nearest d is (omega (arith, ints), omega (arith, ints)) in omega (arith, ints)) in
+    let until : (c.at -ℤ pos 1) +ℤ pos 1 ≡ c.at = omega (arith, ints) in
+    rw (e, until) (rw none at (around s.zone.now (s.after +ℤ pos 1) (s.last +ℤ pos 1) c valid limits h.is (omega (arith, ints), omega (arith, ints))))
 
--- ---- the first and the last change of a stretch
-change_late : (f : InForce) (d : Change) → IsChange f d → least_time <ℤ d.at
-change_late f d is = let fits = is.fits_before in omega (arith, ints)
+pub steps_none : (s : Changes) → IsValid s.zone.now → IsRuleOrNone s.zone.now.rule → HasNoChange (TypeAt s.zone.now) (IsInStretch s.after s.last)
+    → changes_left s ≡ []
+unfolding changes_left
+steps_none s valid limits none =
+    none_left s.zone.now (s.after +ℤ pos 1) (s.last +ℤ pos 1) valid limits
+    (λ d is k. let l = k.0 in let u = k.1 in none d is (omega (arith, ints), omega (arith, ints)))
 
--- of the seconds after the first one of 64 bits exactly those from `from` on come after `after`
-abbrev pub IsBefore : ℤ → ℤ → Type 0
+-- ---- the changes from one second on and before another
+-- of the seconds after the first one of 64 bits, before which no change comes, exactly those from `from` on come after `after`
+abbrev IsBefore : ℤ → ℤ → Type 0
 IsBefore after from = (u : ℤ) → least_time <ℤ u → (after <ℤ u) ↔ (from ≤ℤ u)
 
-pub first_of_stretch : (f : InForce) (from until after : ℤ) (c : Change) (r : Option Change) → IsBefore after from → IsFirstChange f (λ u. after <ℤ u) c
-    → MatchOption r (until ≤ℤ c.at) (λ d. (c.at <ℤ until) × (d ≡ c)) → IsFirst f (IsFromUntil from until) r
-first_of_stretch f from until after c None before h late = λ d is inside.
-    let l = h.first d is ((before d.at (change_late f d is)).1 inside.0) in
-    let m = inside.1 in
-    omega (arith, ints, l, m, late)
-first_of_stretch f from until after c (Some r) before h early = rw early.1 (record {
-  is = h.is;
-  inside = ((before c.at (change_late f c h.is)).0 h.inside, early.0);
-  first = λ d is inside. h.first d is ((before d.at (change_late f d is)).1 inside.0);
-})
-
-pub none_of_stretch : (f : InForce) (from until after : ℤ) → IsBefore after from → HasNoChange f (λ u. after <ℤ u) → HasNoChange f (IsFromUntil from until)
-none_of_stretch f from until after before none = λ d is inside. none d is ((before d.at (change_late f d is)).1 inside.0)
-
-pub last_of_stretch : (f : InForce) (from until last : ℤ) (c : Change) (r : Option Change) → last ≡ until -ℤ pos 1 → IsLastChange f (λ u. u ≤ℤ last) c
-    → MatchOption r (c.at <ℤ from) (λ d. (from ≤ℤ c.at) × (d ≡ c)) → IsLast f (IsFromUntil from until) r
-last_of_stretch f from until last c None e h early = λ d is inside.
-    let m = inside.0 in let u = inside.1 in let l = h.last d is (omega (arith, ints, e, u)) in
-    omega (arith, ints, l, m, early)
-last_of_stretch f from until last c (Some r) e h late = rw late.1 (record {
-  is = h.is;
-  inside = let m = h.inside in (late.0, omega (arith, ints, e, m));
-  last = λ d is inside. let u = inside.1 in h.last d is (omega (arith, ints, e, u));
-})
-
-pub none_up_to : (f : InForce) (from until last : ℤ) → last ≡ until -ℤ pos 1 → HasNoChange f (λ u. u ≤ℤ last) → HasNoChange f (IsFromUntil from until)
-none_up_to f from until last e none = λ d is inside. let u = inside.1 in none d is (omega (arith, ints, e, u))
-
--- no change comes before the first second of 64 bits
-pub none_before_all : (f : InForce) (from until : ℤ) → SFits w64 until → (SFits w64 (until -ℤ pos 1) → ⊥) → HasNoChange f (IsFromUntil from until)
-none_before_all f from until fits out = λ d is inside.
-    let l = inside.1 in
-    let m = change_late f d is in
-    out (omega (arith, ints, l, m))
-
--- ---- a step of the iterator
-pub steps_first : (s t : Changes) (c : Change) → IsValid s.zone.now → IsRuleOrNone s.zone.now.rule → IsFirstChange (TypeAt s.zone.now) (IsFromUntil s.from s.until) c
-    → t ≡ record { zone = s.zone; from = c.at +ℤ pos 1; until = s.until } → changes_left s ≡ c ∷ changes_left t
+pub all_left : (s : Changes) (from until : ℤ) → IsValid s.zone.now → IsRuleOrNone s.zone.now.rule → IsBefore s.after from → IsBefore s.last until
+    → AreChanges (TypeAt s.zone.now) from until (changes_left s)
 unfolding changes_left
-steps_first s t c valid limits h e = rw e (first_left s.zone.now s.from s.until c valid limits h)
-
-pub steps_last : (s t : Changes) (c : Change) → IsValid s.zone.now → IsRuleOrNone s.zone.now.rule → IsLastChange (TypeAt s.zone.now) (IsFromUntil s.from s.until) c
-    → t ≡ record { zone = s.zone; from = s.from; until = c.at } → changes_left s ≡ changes_left t ++ c ∷ []
-unfolding changes_left
-steps_last s t c valid limits h e = rw e (last_left s.zone.now s.from s.until c valid limits h)
-
-pub steps_none : (s : Changes) → IsValid s.zone.now → IsRuleOrNone s.zone.now.rule → HasNoChange (TypeAt s.zone.now) (IsFromUntil s.from s.until) → changes_left s ≡ []
-unfolding changes_left
-steps_none s valid limits none = none_left s.zone.now s.from s.until valid limits none
-
-pub all_left : (s : Changes) → IsValid s.zone.now → IsRuleOrNone s.zone.now.rule → AreChanges (TypeAt s.zone.now) s.from s.until (changes_left s)
-unfolding changes_left
-all_left s valid limits = changes_are s.zone.now s.from s.until valid limits
+all_left s from until valid limits before end =
+    let all = changes_are s.zone.now (s.after +ℤ pos 1) (s.last +ℤ pos 1) valid limits in
+    record {
+      rising = all.rising;
+      each = λ c. (
+        λ inside.
+            let (is, i) = (all.each c).0 inside in let fits = is.fits_before in let l = i.0 in let u = i.1 in (
+              is,
+              (
+                (before c.at (omega (arith, ints))).0 (omega (arith, ints)),
+                by_lt_z c.at until (λ k. k)
+                    (λ k. let m = (end c.at (omega (arith, ints))).1 k in absurd (omega (arith, ints))),
+              ),
+            ),
+        λ k.
+            let fits = k.0.fits_before in let l = (before c.at (omega (arith, ints))).1 k.1.0 in let u = k.1.1 in
+            (all.each c).1 (
+              k.0,
+              (
+                omega (arith, ints),
+                by_lt_z c.at (s.last +ℤ pos 1) (λ m. m)
+                    (λ m. let n = (end c.at (omega (arith, ints))).0 (omega (arith, ints)) in absurd (omega (arith, ints))),
+              ),
+            ),
+      );
+    }
 
 -- without its last element a list is shorter
 pub shorter : (cs ds : List Change) (c : Change) → cs ≡ ds ++ c ∷ [] → length ds < length cs

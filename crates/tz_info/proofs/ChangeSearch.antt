@@ -1,6 +1,6 @@
 -- The first and the last change among seconds, and in a stretch.
 use Rattle.tz_base.specs.contracts.local_time_type.LocalTimeTypePartialEq.TheImpl.{eq-value as type_eq}
-use Rattle.tz_info.proofs.Words.{Bool, Change, HasNoChange, IfSome, IsAhead, IsChange, IsFirst, IsIdle, IsInStretch, IsLast, IsNearest, IsOneOf}
+use Rattle.tz_info.proofs.Words.{Bool, Change, HasNoChange, IfSome, IsAhead, IsChange, IsIdle, IsInStretch, IsNearest, IsOneOf}
 use Rattle.tz_info.proofs.Words.{IsStretchAhead, List, LocalType, MatchOption, None, Option, Precedes, SFits, Some, arith, by_lt_z, cases_lt, false, get_or}
 use Rattle.tz_info.proofs.Words.{inl, inr, ints, lt_false, lt_true, near_end, nearer_one, neg_ℤ, negsuc, pos, refl, subst, suc, sym, true, type_exact, w64}
 use Rattle.tz_info.proofs.Words.{zero, ℕ, ℤ, ⊎_elim}
@@ -91,39 +91,28 @@ nearest_of_all w f s found = nearest_moved w f f (λ u. (neg_ℤ (pos 9_223_372_
     (λ d is k. let m = is.fits_before in (is, (omega (arith, ints), k)))
     (λ d is k. (is, k.1))
 
+-- the seconds of a stretch are ahead of where it begins, and so are those before a second of it
+ahead_within : (w : Bool) (after last u : ℤ) → IsInStretch after last u → IsAhead w (near_end w after last) u
+ahead_within true after last u k = k.0
+ahead_within false after last u k = k.1
+
+within_too : (w : Bool) (after last u v : ℤ) → IsAhead w (near_end w after last) u → Precedes w u v → IsInStretch after last v → IsInStretch after last u
+within_too true after last u v h p k = let b = k.1 in (h, omega (arith, ints))
+within_too false after last u v h p k = let a = k.0 in (omega (arith, ints), h)
+
 -- the nearest change ahead of where a stretch begins is its nearest one, if it lies in it
 pub nearest_within : (w : Bool) (f : InForce) (after last : ℤ) (found r : Option Change) → IsNearest w f (IsAhead w (near_end w after last)) found
     → MatchOption r (IfSome found (λ c. IsInStretch after last c.at → ⊥)) (λ c. IsInStretch after last c.at × (found ≡ Some c))
     → IsNearest w f (IsInStretch after last) r
-nearest_within true f after last None None h out = λ d is k. h d is k.0
-nearest_within false f after last None None h out = λ d is k. h d is k.1
-nearest_within true f after last (Some c) None h out = λ d is k. let a = h.inside in let n = h.nearest d is k.0 in let b = k.1 in out (a, omega (arith, ints))
-nearest_within false f after last (Some c) None h out = λ d is k. let a = h.inside in let n = h.nearest d is k.1 in let b = k.0 in out (omega (arith, ints), a)
-nearest_within true f after last found (Some c) h within = let k = rw within.1 at h in record {
-  is = k.is;
-  inside = within.0;
-  nearest = λ d is i. k.nearest d
-      is i.0;
-}
-nearest_within false f after last found (Some c) h within = let k = rw within.1 at h in record {
-  is = k.is;
-  inside = within.0;
-  nearest = λ d is i. k.nearest
-      d is i.1;
-}
+nearest_within w f after last None None h out = λ d is k. h d is (ahead_within w after last d.at k)
+nearest_within w f after last (Some c) None h out = λ d is k. out
+    (within_too w after last c.at d.at h.inside (h.nearest d is (ahead_within w after last d.at k)) k)
+nearest_within w f after last found (Some c) h within = let k = rw within.1 at h in
+    record { is = k.is; inside = within.0; nearest = λ d is i. k.nearest d is (ahead_within w after last d.at i) }
 
 -- where the stretch is empty, it has none
 pub none_in_empty : (f : InForce) (after last : ℤ) → last ≤ℤ after → HasNoChange f (IsInStretch after last)
 none_in_empty f after last h d is k = let a = k.0 in let b = k.1 in omega (arith, ints)
-
--- the nearest one forwards is the first one, and the nearest one backwards the last
-pub first_nearest : (f : InForce) (p : ℤ → Type 0) (found : Option Change) → IsNearest true f p found → IsFirst f p found
-first_nearest f p None h = h
-first_nearest f p (Some c) h = record { is = h.is; inside = h.inside; first = h.nearest }
-
-pub last_nearest : (f : InForce) (p : ℤ → Type 0) (found : Option Change) → IsNearest false f p found → IsLast f p found
-last_nearest f p None h = h
-last_nearest f p (Some c) h = record { is = h.is; inside = h.inside; last = h.nearest }
 
 -- ---- the change at one second
 -- at each second one type is in force
@@ -148,21 +137,6 @@ none_before f second without d is at = without d.before (rw at at is.before)
 
 pub none_here : (f : InForce) (second : ℤ) → ((t : LocalType) → f second t → ⊥) → HasNoChange f (λ u. u ≡ second)
 none_here f second without d is at = without d.after (rw at at is.after)
-
--- the same changes, told otherwise
-pub first_moved : (f g : InForce) (p q : ℤ → Type 0) (found : Option Change) → ((d : Change) → IsChange g d → q d.at → IsChange f d × p d.at) → ((d : Change) → IsChange f d → p d.at → IsChange g d × q d.at)
-    → IsFirst f p found → IsFirst g q found
-first_moved f g p q None to from h = λ d is k. let m = to d is k in h d m.0 m.1
-first_moved f g p q (Some c) to from h =
-    let m = from c h.is h.inside in
-    record { is = m.0; inside = m.1; first = λ d is k. let n = to d is k in h.first d n.0 n.1 }
-
-pub last_moved : (f g : InForce) (p q : ℤ → Type 0) (found : Option Change) → ((d : Change) → IsChange g d → q d.at → IsChange f d × p d.at) → ((d : Change) → IsChange f d → p d.at → IsChange g d × q d.at)
-    → IsLast f p found → IsLast g q found
-last_moved f g p q None to from h = λ d is k. let m = to d is k in h d m.0 m.1
-last_moved f g p q (Some c) to from h =
-    let m = from c h.is h.inside in
-    record { is = m.0; inside = m.1; last = λ d is k. let n = to d is k in h.last d n.0 n.1 }
 
 -- ---- where no change comes the type stays
 -- some type is in force at the second

@@ -4,13 +4,13 @@ use Rattle.tz_base.specs.declared.error.Expected.TheVariants.{StandardTimeWhereT
 use Rattle.tz_info.proofs.Words.{Bool, Decided, IndicatorsAgree, LeapSecond, List, Ok, SpellLeapSeconds, SpellTransitions, SpellsLeapSecond, Transition}
 use Rattle.tz_info.proofs.Words.{all_below, and_parts, ap, arith, cases_lt, done, drop, exact_cut, get_or, get_or-eq_default, guard, indicators_of, inl, inr}
 use Rattle.tz_info.proofs.Words.{leap_second_in, leap_second_of, length, length-take, like, map, nat_tests, nil_from_length, not, pair_agrees, refl, said}
-use Rattle.tz_info.proofs.Words.{slice_index, subst, suc, sym, take, take-append-drop, time_of, transition_in, true, values_below, zero, ℕ, [], ◌&&◌, ◌*◌, ◌+◌}
-use Rattle.tz_info.proofs.Words.{◌<◌, ◌==◌, ◌∙◌, ◌∷◌, ◌≡◌, ◌≢◌}
+use Rattle.tz_info.proofs.Words.{slice_index, subst, suc, sym, take, take-append-drop, file_time, transition_in, true, values_below, zero, ℕ, [], ◌&&◌, ◌*◌}
+use Rattle.tz_info.proofs.Words.{◌+◌, ◌<◌, ◌==◌, ◌∙◌, ◌∷◌, ◌≡◌, ◌≢◌}
 use Rattle.tz_info.proofs.RecordLaws.{behind_first, first_and_more, first_record, next_record, records}
 
 -- ---- transitions
 -- the first one and the others
-first_transition : (w : ℕ) (times : List ℕ) (i : ℕ) (is : List ℕ) (ts : List Transition) → SpellTransitions w times (i ∷ is) ts → (t : Transition) × (record { unix_leap_time = time_of w (take w times); type_index = i } ≡ t) × ((more : List Transition) × SpellTransitions w (drop w times) is more × (t ∷ more ≡ ts))
+first_transition : (w : ℕ) (times : List ℕ) (i : ℕ) (is : List ℕ) (ts : List Transition) → SpellTransitions w times (i ∷ is) ts → (t : Transition) × (record { unix_leap_time = file_time w (take w times); type_index = i } ≡ t) × ((more : List Transition) × SpellTransitions w (drop w times) is more × (t ∷ more ≡ ts))
 first_transition w times i is [] h = let e = h.indexes_are in cc
 first_transition w times i is (t ∷ ts) h =
     let r = h.times_are in let e = h.indexes_are in
@@ -32,9 +32,9 @@ transitions_law (suc n) w times [] l m = absurd (omega arith)
 transitions_law (suc n) w times (i ∷ is) l m =
     let sizes = behind_first n w times l in
     like (first_and_more n (transition_in w times (i ∷ is)) (transition_in w (drop w times) is) _
-    (ap (λ (b : List ℕ). Ok (record { unix_leap_time = time_of w b; type_index = i })) (first_record w times))
-    (λ k. ap (λ (b : List ℕ). Ok (record { unix_leap_time = time_of w b; type_index = slice_index is k })) (next_record w times k))
-    (done (record { unix_leap_time = time_of w (take w times); type_index = i }))
+    (ap (λ (b : List ℕ). Ok (record { unix_leap_time = file_time w b; type_index = i })) (first_record w times))
+    (λ k. ap (λ (b : List ℕ). Ok (record { unix_leap_time = file_time w b; type_index = slice_index is k })) (next_record w times k))
+    (done (record { unix_leap_time = file_time w (take w times); type_index = i }))
     (transitions_law n w (drop w times) is sizes.1 (omega arith)))
     (λ ts h. subst (SpellTransitions w times (i ∷ is)) h.2.2 (record {
       times_are = (take w times, drop w times, sym (take-append-drop w times), sizes.0, ap (λ (t : Transition). t.unix_leap_time) h.1, h.2.1.times_are);

@@ -34,7 +34,7 @@ no_zero_again : (text : List ℕ) → HasNoZero text → list_any is_zero text �
 no_zero_again [] h = refl
 no_zero_again (b ∷ bs) h = let n = h.0 in let e : (b == 0) ≡ false = grind (arith, nat_tests) in rw e (no_zero_again bs h.1)
 
--- what the reader of TZ texts answers
+-- what the reader of TZ strings answers
 pub rule_given : (extended : Bool) (text rest : List ℕ) (r : Result TransitionRule Error) → Gives (λ rule. (rule, rest)) r (read (tz_text extended) text) → Gives (λ rule. rule) r (rule_in extended text)
 unfolding rule_in
 rule_given extended text rest (Ok rule) g = rw g refl

@@ -1,6 +1,7 @@
 -- Lemmas for the crates above.
 pub use Rattle.tz_info.proofs.TzFileLaws.{fault_or_zone as file_fault_or_zone, fault_once as file_fault_once}
-pub use Rattle.tz_info.proofs.ChangeLaws.{one_first, one_last}
+pub use Rattle.tz_info.proofs.ChangeLaws.{one_nearest}
+pub use Rattle.tz_info.proofs.ChangeSearch.{stays}
 pub use Rattle.tz_info.proofs.Equalities.{zone_exact}
 pub use Rattle.tz_info.proofs.FilePieceLaws.{has_lengths}
 pub use Rattle.tz_info.proofs.FileZoneLaws.{file_rule_fits}

@@ -1,9 +1,8 @@
 -- Gaps: where the first second lies at which clocks show more than a local time that they never show.
-use Rattle.tz_info.proofs.Words.{AreLess, HasGap, HasType, IsFirstAtOrAfter, IsLastBefore}
-use Rattle.tz_info.proofs.Words.{IsNear, IsNeverShown, IsRefusedBy, IsRuleOrNone, IsStart, IsTypeBefore, IsTypeRefused, IsValid}
-use Rattle.tz_info.proofs.Words.{IsWindowOf, Jump, Jumps, LocalType, None, Option, RuleOrElse, Shows, Some, TransitionRule, TypeAt, Zone, arith}
-use Rattle.tz_info.proofs.Words.{by_leap_time, by_lt_z, by_rule, floor_div, index_of, inl, inr, ints, length, lies_in, pos, segment_of}
-use Rattle.tz_info.proofs.Words.{slice_get, subst, sym, table_count, year_of, ℕ, ℤ, ◌+ℤ◌, ◌-ℤ◌, ◌<ℤ◌, ◌<◌, ◌∙◌, ◌≡◌, ◌≤ℤ◌, ◌⊎◌}
+use Rattle.tz_info.proofs.Words.{AreLess, HasGap, HasType, IsFirstAtOrAfter, IsLastSecondBefore, IsNear, IsNeverShown, IsRefusedBy, IsRuleOrNone, IsStart}
+use Rattle.tz_info.proofs.Words.{IsTypeBefore, IsTypeRefused, IsValid, IsWindowOf, Jump, Jumps, LocalType, None, Option, RuleOrElse, Shows, Some}
+use Rattle.tz_info.proofs.Words.{TransitionRule, TypeAt, Zone, arith, by_leap_time, by_lt_z, by_rule, floor_div, index_of, inl, inr, ints, length, lies_in, pos}
+use Rattle.tz_info.proofs.Words.{segment_of, slice_get, subst, sym, table_count, year_of, ℕ, ℤ, ◌+ℤ◌, ◌-ℤ◌, ◌<ℤ◌, ◌<◌, ◌∙◌, ◌≡◌, ◌≤ℤ◌, ◌⊎◌}
 use Rattle.tz_info.specs.declared.rule.transition_rule.TransitionRule.TheVariants.{Alternate, Fixed}
 use Rattle.tz_info.proofs.ExtremeLaws.{at_least_least, at_most_greatest}
 use Rattle.tz_info.proofs.LeapOrder.{leap_times_answer}
@@ -89,7 +88,7 @@ gap_found z l low high c s t never reach far all here more before = record {
 
 -- where a segment begins at c, the type before is the one before the segment
 gap_at_begin : (z : Zone) (l low high c : ℤ) (k index : ℕ) (s t : LocalType) → IsValid z → IsRuleOrNone z.rule → IsNever z l → IsWindowOf z l l low high
-    → AreLess z l (c -ℤ pos 1) → IsLastBefore z k (c -ℤ pos 1) → IsTypeBefore z k index → HasType z index t
+    → AreLess z l (c -ℤ pos 1) → IsLastSecondBefore z k (c -ℤ pos 1) → IsTypeBefore z k index → HasType z index t
     → TypeAt z c s → l <ℤ (c +ℤ s.offset) → HasGap (TypeAt z) l t s c
 gap_at_begin z l low high c k index s t valid limits never reach less last before has here more =
     let back : (c -ℤ pos 1) +ℤ pos 1 ≡ c = omega (arith, ints) in
@@ -110,7 +109,7 @@ jump_found z l low high start j s t valid limits never reach jump begins has has
     let near_before : IsNear (start -ℤ pos 1) = (omega (arith, ints, jump.near), omega (arith, ints, reach.near_high)) in
     let back : (start -ℤ pos 1) +ℤ pos 1 ≡ start = omega (arith, ints) in
     let before = (not_begun z k start (start -ℤ pos 1) valid begins near_before).1 (omega (arith, ints)) in
-    let last : IsLastBefore z k (start -ℤ pos 1) = record { near = near_before; near_next = rw back near; before = before; from = rw back ((begun z k start start valid begins near).1 (omega (arith, ints))) } in
+    let last : IsLastSecondBefore z k (start -ℤ pos 1) = record { near = near_before; near_next = rw back near; before = before; from = rw back ((begun z k start start valid begins near).1 (omega (arith, ints))) } in
     let f = near_type z start valid limits near in
     let same : f.0 ≡ s = type_here z k start f.0 s valid jump.inside has (rw back at (jump.first (start -ℤ pos 1) last)) f.1 in
     let here : TypeAt z start s = subst (TypeAt z start) same f.1 in

@@ -1,15 +1,14 @@
 -- Runs of transitions that change nothing.
-use Rattle.tz_info.proofs.Words.{AreAlike, AreStartsUpTo, IsCarried, IsRun, List, LocalType, Transition, arith, cases_eq, get_or-set_at}
-use Rattle.tz_info.proofs.Words.{get_or-set_other}
-use Rattle.tz_info.proofs.Words.{index_of, inl, inr, length-set, refl, set, slice_get, ℕ, ◌+◌, ◌-◌, ◌<◌, ◌∙◌, ◌≡◌}
+use Rattle.tz_info.proofs.Words.{AreStartsUpTo, HaveOneType, IsCarried, IsIdleRun, List, LocalType, Transition, arith, cases_eq, get_or-set_at}
+use Rattle.tz_info.proofs.Words.{get_or-set_other, index_of, inl, inr, length-set, refl, set, slice_get, ℕ, ◌+◌, ◌-◌, ◌<◌, ◌∙◌, ◌≡◌}
 
 -- one segment is as itself
-pub alike_one : (ts : List Transition) (types : List LocalType) (place : ℕ) → AreAlike ts types place place
+pub alike_one : (ts : List Transition) (types : List LocalType) (place : ℕ) → HaveOneType ts types place place
 alike_one ts types place k low high = let e : k ≡ place = omega arith in rw e refl
 
 -- a run goes on with a transition that changes nothing
 pub run_more : (ts : List Transition) (types : List LocalType) (place start : ℕ) → 0 < place → IsCarried ts types place start
-    → slice_get types (index_of ts (place + 1)) ≡ slice_get types (index_of ts place) → IsRun ts types place start
+    → slice_get types (index_of ts (place + 1)) ≡ slice_get types (index_of ts place) → IsIdleRun ts types place start
 run_more ts types place start some carried idle =
     let run = carried (place - 1) (omega arith) in
     let least = run.0 in (
@@ -20,7 +19,7 @@ run_more ts types place start some carried idle =
       ],
     )
 
-pub starts_more : (ts : List Transition) (types : List LocalType) (starts : List ℕ) (n start : ℕ) → AreStartsUpTo ts types starts n → IsRun ts types n start
+pub starts_more : (ts : List Transition) (types : List LocalType) (starts : List ℕ) (n start : ℕ) → AreStartsUpTo ts types starts n → IsIdleRun ts types n start
     → AreStartsUpTo ts types (set starts n start) (n + 1)
 starts_more ts types starts n start up run k below inside =
     let long = length-set starts n start in

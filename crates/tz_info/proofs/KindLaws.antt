@@ -1,8 +1,8 @@
 -- A rule's moments, counted from the first second of their year, depend on the year's kind alone.
 use Rattle.tz_info.proofs.Words.{Alternate, Bool, DayForm, DayTime, IsAlternateRule, IsRuleDay, List, and_parts, ap, are_calm, arith, by_lt_z, closed_day, cond}
-use Rattle.tz_info.proofs.Words.{day_number, days_in_month, days_of_months, end_in, false, floors, get_or, inl, inr, int_le, int_lt, ints, is_calm}
-use Rattle.tz_info.proofs.Words.{is_calm_kind, is_inside, is_leap, kind_place, le_false, le_true, margin_of, moment, neg_ℤ, place_by, pos, refl, rule_day}
-use Rattle.tz_info.proofs.Words.{second_at, second_in, seconds_by_kind, start_in, suc, sym, true, weekday_below, weekday_later, weekday_of, weekday_place}
+use Rattle.tz_info.proofs.Words.{day_number, day_time_second, days_in_month, days_of_months, end_in, false, floors, get_or, inl, inr, int_le, int_lt, ints}
+use Rattle.tz_info.proofs.Words.{is_calm, is_calm_kind, is_inside, is_leap, kind_place, le_false, le_true, margin_of, moment, neg_ℤ, place_by, pos, refl}
+use Rattle.tz_info.proofs.Words.{rule_day, second_in, seconds_by_kind, start_in, suc, sym, true, weekday_below, weekday_later, weekday_of, weekday_place}
 use Rattle.tz_info.proofs.Words.{year_start, zero, ℕ, ℤ, ◌%◌, ◌&&◌, ◌*ℤ◌, ◌+ℤ◌, ◌+◌, ◌-ℤ◌, ◌-◌, ◌<ℤ◌, ◌<◌, ◌∙◌, ◌≡◌, ◌≤ℤ◌, ◌⊎◌}
 use Rattle.tz_info.specs.declared.rule.day.DayForm.TheVariants.{Julian0, Julian1, MonthWeekday}
 use Rattle.tz_info.proofs.ListLaws.{one_true}
@@ -31,7 +31,7 @@ rule_day_by : (form : DayForm) (year : ℤ) → IsRuleDay form → rule_day form
 rule_day_by form year fits = rule_day_closed form year fits ∙ closed_day_by form year
 
 unfoldable second_by : DayTime → ℤ → Bool → ℕ → ℤ
-second_by t offset leap first = second_at t offset (place_by t.day leap first)
+second_by t offset leap first = day_time_second t offset (place_by t.day leap first)
 
 second_is : (t : DayTime) (offset year : ℤ) → IsRuleDay t.day → second_in t offset year ≡ second_by t offset (is_leap year) (weekday_of (year_start year))
 unfolding moment second_by
@@ -41,9 +41,9 @@ in_kind : (t : DayTime) (offset year : ℤ) (leap : Bool) (first : ℕ) → IsRu
 in_kind t offset year leap first fits e f = second_is t offset year fits ∙ ap (λ l. second_by t offset l (weekday_of (year_start year))) e ∙ ap (second_by t offset leap) f
 
 -- what is kept for a kind of years is the second in each year of that kind
-pub second_kept : (t : DayTime) (offset year : ℤ) (leap : Bool) (first place : ℕ) (second : ℤ) → IsRuleDay t.day → is_leap year ≡ leap → weekday_of (year_start year) ≡ first → place ≡ place_by t.day leap first → second ≡ second_at t offset place → second ≡ second_in t offset year
+pub second_kept : (t : DayTime) (offset year : ℤ) (leap : Bool) (first place : ℕ) (second : ℤ) → IsRuleDay t.day → is_leap year ≡ leap → weekday_of (year_start year) ≡ first → place ≡ place_by t.day leap first → second ≡ day_time_second t offset place → second ≡ second_in t offset year
 unfolding second_by
-second_kept t offset year leap first place second fits e f g h = h ∙ ap (second_at t offset) g ∙ sym (in_kind t offset year leap first fits e f)
+second_kept t offset year leap first place second fits e f g h = h ∙ ap (day_time_second t offset) g ∙ sym (in_kind t offset year leap first fits e f)
 
 kind_at : (t : DayTime) (offset : ℤ) (leap : Bool) (first : ℕ) (d : ℤ) → IsRuleDay t.day → first < 7 → get_or (seconds_by_kind t offset) (cond leap 7 0 + first) d ≡ second_by t offset leap first
 unfolding seconds_by_kind year_start

@@ -10,6 +10,7 @@ pub mod RuleChanges
 pub mod RuleGaps
 pub mod ChangeSearch
 pub mod SeasonChanges
+pub mod BesideLaws
 pub mod Prefixes
 pub mod LeapEntries
 pub mod LeapOrder

@@ -4,8 +4,8 @@ use Rattle.tz_base.specs.declared.error.Expected.TheVariants.{AtLeastOneLocalTim
 use Rattle.tz_base.specs.declared.error.Expected.TheVariants.{TransitionTimesThatRise, TypeIndexesWithinTypes}
 use Rattle.tz_info.proofs.Words.{All, AllAdjacentBelow, AllPairs, AllPairs-cons, AreLeapSeconds, AreTransitions, Decides-int_eq, Error, IsFirstLeap, IsNextLeap}
 use Rattle.tz_info.proofs.Words.{IsOneStep, IsValid, LeapSecond, List, ListFault, No_type, Not_rising, Other_index, Other_leaps, Other_rule, Transition, Zone}
-use Rattle.tz_info.proofs.Words.{add-one, arith, by_lt_z, cases_lt, false, inl, inr, int_eq, int_le, ints, length, number_of, pos, refl, suc, true, zero, ℕ, ℤ}
-use Rattle.tz_info.proofs.Words.{[], ◌+ℤ◌, ◌-ℤ◌, ◌<ℤ◌, ◌<◌, ◌∷◌, ◌≡◌, ◌≤ℤ◌, ◌≤◌, ◌⊎◌}
+use Rattle.tz_info.proofs.Words.{add-one, arith, by_lt_z, cases_lt, false, inl, inr, int_eq, int_le, ints, length, error_number, pos, refl, suc, true, zero, ℕ}
+use Rattle.tz_info.proofs.Words.{ℤ, [], ◌+ℤ◌, ◌-ℤ◌, ◌<ℤ◌, ◌<◌, ◌∷◌, ◌≡◌, ◌≤ℤ◌, ◌≤◌, ◌⊎◌}
 
 -- ---- what can be tested holds or does not
 abbrev Known : Type 0 → Type 0
@@ -111,7 +111,7 @@ list_fault_or_valid z e (Other_rule some transitions leaps bad) v = bad v.agrees
 pub with_fault : {z : Zone} {e : Error} → ListFault z e → ListFault z e × ¬ (IsValid z)
 with_fault {z = z} {e = e} f = (f, list_fault_or_valid z e f)
 
-pub list_fault_low : (z : Zone) (e : Error) → ListFault z e → number_of e ≤ 16
+pub list_fault_low : (z : Zone) (e : Error) → ListFault z e → error_number e ≤ 16
 list_fault_low z e (No_type none) = omega arith
 list_fault_low z e (Other_index some bad) = omega arith
 list_fault_low z e (Not_rising some indexes bad) = omega arith

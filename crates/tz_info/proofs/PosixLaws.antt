@@ -1,8 +1,8 @@
--- The zone of a TZ text.
+-- The zone of a TZ string.
 use Rattle.tz_info.proofs.Words.{Bool, Decided, Err, Error, IfErr, IfOk, IsPosixFault, IsPosixZone, IsTextFault, IsTrimAscii, IsTzText, List, MatchResult, Ok}
 use Rattle.tz_info.proofs.Words.{Result, TransitionRule, Zone, apart, arith, done, false, fault_low, fault_once, inl, inr, length, like, made, nat_tests}
-use Rattle.tz_info.proofs.Words.{number_of, plain_zone, pos, posix_zone, refl, rule_in, sym, trimmed, true, value_once, ℕ, [], ◌==◌, ◌>>=◌, ◌∙◌, ◌∷◌, ◌≡◌, ◌≢◌}
-use Rattle.tz_info.proofs.Words.{◌≤◌}
+use Rattle.tz_info.proofs.Words.{error_number, plain_zone, pos, posix_zone, refl, rule_in, sym, trimmed, true, value_once, ℕ, [], ◌==◌, ◌>>=◌, ◌∙◌, ◌∷◌, ◌≡◌}
+use Rattle.tz_info.proofs.Words.{◌≢◌, ◌≤◌}
 use Rattle.tz_info.proofs.FooterLaws.{spelled_law}
 use Rattle.tz_info.proofs.TrimLaws.{trim_again, trim_is, trims_both}
 
@@ -32,7 +32,7 @@ one_posix_fault text = fault_once (posix_law text)
 pub fault_or_zone : (text : List ℕ) (e : Error) (z : Zone) → IsPosixFault text e → IsPosixZone text z → ⊥
 fault_or_zone text e z fault zone = apart (posix_law text) z e zone fault
 
-pub posix_low : (text : List ℕ) (e : Error) → IsPosixFault text e → number_of e ≤ 16
+pub posix_low : (text : List ℕ) (e : Error) → IsPosixFault text e → error_number e ≤ 16
 posix_low text = fault_low (posix_law text)
 
 -- ---- what a reader answers
@@ -47,20 +47,20 @@ pub fault_of_text : (text trimmed : List ℕ) (e : Error) (b : Bool) → b ≡ (
 fault_of_text text trimmed e b is some trims fault = record { some = not_empty text b is some; trimmed = trimmed; trims = trims_both text trimmed trims; fault = fault }
 
 -- a zone that is the text's, the only one, unless memory ran out
-pub zone_found : (text : List ℕ) (z : Zone) (r : Result Zone Error) → IsPosixZone text z → MatchResult r (λ y. y ≡ z) (λ e. number_of e ≡ 17) → IfOk r (λ y. IsPosixZone text y)
+pub zone_found : (text : List ℕ) (z : Zone) (r : Result Zone Error) → IsPosixZone text z → MatchResult r (λ y. y ≡ z) (λ e. error_number e ≡ 17) → IfOk r (λ y. IsPosixZone text y)
 zone_found text z (Ok y) is same = rw same is
 zone_found text z (Err x) is memory = tt
 
-pub only_found : (text : List ℕ) (z : Zone) (r : Result Zone Error) → IsPosixZone text z → MatchResult r (λ y. y ≡ z) (λ e. number_of e ≡ 17) → (other : Zone) → IsPosixZone text other → MatchResult r (λ y. y ≡ other) (λ e. number_of e ≡ 17)
+pub only_found : (text : List ℕ) (z : Zone) (r : Result Zone Error) → IsPosixZone text z → MatchResult r (λ y. y ≡ z) (λ e. error_number e ≡ 17) → (other : Zone) → IsPosixZone text other → MatchResult r (λ y. y ≡ other) (λ e. error_number e ≡ 17)
 only_found text z (Ok y) is same other p = same ∙ one_zone text z other is p
 only_found text z (Err x) is memory other p = memory
 
 -- running out of memory is reported only where there is a zone
-pub zone_memory : (P : Zone → Type 0) (z : Zone) (r : Result Zone Error) → P z → IfErr r (λ e. number_of e ≡ 17 → (y : Zone) × P y)
+pub zone_memory : (P : Zone → Type 0) (z : Zone) (r : Result Zone Error) → P z → IfErr r (λ e. error_number e ≡ 17 → (y : Zone) × P y)
 zone_memory P z (Ok y) is = tt
 zone_memory P z (Err x) is = λ m. (z, is)
 
-pub refused_memory : (text : List ℕ) (e : Error) → IsPosixFault text e → number_of e ≡ 17 → (z : Zone) × IsPosixZone text z
+pub refused_memory : (text : List ℕ) (e : Error) → IsPosixFault text e → error_number e ≡ 17 → (z : Zone) × IsPosixZone text z
 refused_memory text e fault m = let low = posix_low text e fault in absurd (omega arith)
 
 pub is_empty : (text : List ℕ) (b : Bool) → b ≡ (length text == 0) → b ≡ true → text ≡ []

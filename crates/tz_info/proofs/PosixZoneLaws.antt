@@ -1,4 +1,4 @@
--- What a TZ text gives is a zone whose rule's numbers are in their limits.
+-- What a TZ string gives is a zone whose rule's numbers are in their limits.
 use Rattle.tz_info.proofs.Words.{IsPosixZone, IsRuleOrNone, IsValid, List, None, Some, TransitionRule, Zone, arith, false, inl, inr, length, subst, sym}
 use Rattle.tz_info.proofs.Words.{types_of, ℕ, ◌<◌}
 use Rattle.tz_info.specs.declared.rule.transition_rule.TransitionRule.TheVariants as rules

@@ -1,5 +1,5 @@
 -- Each year has one day that is the rule's, and the closed form finds it.
-use Rattle.tz_info.proofs.Words.{Bool, DayForm, IsDayOf, IsRuleDay, IsWeekdayOfMonth, LiesIn, ap, arith, cases_lt, closed_day, closed_day_is, date_lies}
+use Rattle.tz_info.proofs.Words.{Bool, DayForm, IsDayOf, IsRuleDay, IsWeekdayInWeek, LiesIn, ap, arith, cases_lt, closed_day, closed_day_is, date_lies}
 use Rattle.tz_info.proofs.Words.{day_number, days_at_least, days_at_most, days_in_month, days_in_year, floors, inl, inr, is_leap, julian_is, julian_place}
 use Rattle.tz_info.proofs.Words.{leap_at_most, months_all, months_step, nat_le, nat_tests, number_after, pos, rule_day, rule_day_with, starts_rise, sym}
 use Rattle.tz_info.proofs.Words.{weekday_at, weekday_below, weekday_is, weekday_of, weekday_place, year_start, year_step, ℕ, ℤ, ◌%◌, ◌&&◌, ◌*◌, ◌+ℤ◌, ◌+◌, ◌-◌}
@@ -14,7 +14,7 @@ behind_december year = omega (arith, floors, months_step (is_leap year) 12 (omeg
 same_week : (first week a b weekday : ℕ) → (first + (a - 1)) % 7 ≡ weekday → (first + (b - 1)) % 7 ≡ weekday → first < 7 → 7 * (week - 1) + 1 ≤ a → a ≤ 7 * week → 7 * (week - 1) + 1 ≤ b → b ≤ 7 * week → a ≡ b
 same_week first week a b weekday h k low c d e f = omega arith
 
-one_weekday : (year : ℤ) (month week weekday a b : ℕ) → week ≤ 5 → IsWeekdayOfMonth year month week weekday a → IsWeekdayOfMonth year month week weekday b → a ≡ b
+one_weekday : (year : ℤ) (month week weekday a b : ℕ) → week ≤ 5 → IsWeekdayInWeek year month week weekday a → IsWeekdayInWeek year month week weekday b → a ≡ b
 one_weekday year month week weekday a b most h k =
     elim (cases_lt week 5) [
       | inl lt ↦

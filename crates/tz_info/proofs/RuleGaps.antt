@@ -1,6 +1,9 @@
 -- A rule's gaps: where a season's moments decide at both seconds that could show a local time and neither does, one moment lies between them.
+use Rattle.std.specs.Prelude.{⊤}
 use Rattle.tz_info.proofs.Words.{Alternate as AlternateRule, AlternateAt, AreLess, AreLessAmong, Bool, Change, HasGap, IsAmidFrom, IsDecidedIn, IsNear}
-use Rattle.tz_info.proofs.Words.{IsNeverFrom, IsRuleGap, IsSeason, IsStart, IsValid, IsWindowOf, LocalType, Season, Some, TypeAt, Zone}
+use Rattle.tz_info.proofs.Words.{IsNeverFrom, IsRuleGap, IsSeason, IsSeasonFor, IsSeasonIn, IsSeasonOf, IsStart, IsValid, IsWindowOf, LocalType}
+use Rattle.tz_info.proofs.Words.{MatchOption, None, Option}
+use Rattle.tz_info.proofs.Words.{Season, Some, TransitionRule, TypeAt, Zone}
 use Rattle.tz_info.proofs.Words.{ap, arith, by_lt_z, false, ints, is_dst_by_one, length, not, pos, refl, subst, sym, table_count, true, true≢false, type_when}
 use Rattle.tz_info.proofs.Words.{ℤ, ◌+ℤ◌, ◌-ℤ◌, ◌<ℤ◌, ◌∙◌, ◌≡◌, ◌≤ℤ◌}
 use Rattle.tz_info.specs.declared.rule.transition_rule.TransitionRule.TheVariants.{Alternate}
@@ -71,33 +74,42 @@ rule_gap a s from l u v moment dst season near_u near_v amid_u amid_v order show
     }
 
 -- to daylight saving time, if its second comes first
-pub gap_at_start : (a : AlternateRule) (s : Season) (from l u v : ℤ) → IsSeason a s → IsNear u → IsNear v → IsAmidFrom s from u → IsAmidFrom s from v → u <ℤ v
-    → (u +ℤ a.dst.offset) ≡ l → (v +ℤ a.std.offset) ≡ l → IsNeverFrom a from l
-    → IsRuleGap a from l (record { at = s.turns.start; before = a.std; after = a.dst })
-gap_at_start a s from l u v season near_u near_v amid_u amid_v order shown_u shown_v never =
-    rule_gap a s from l u v s.turns.start true season near_u near_v amid_u amid_v order shown_u shown_v
-    (starts s.turns.start s.turns.end u v order (other_at a s from l u true season near_u amid_u never shown_u) (other_at a s from l v false season near_v amid_v never shown_v))
+pub gap_at_start : (a : AlternateRule) (s : Season) (from l : ℤ) → IsNear (l -ℤ a.std.offset) → IsNear (l -ℤ a.dst.offset) → IsSeasonFor a from l s
+    → IsNeverFrom a from l → a.std.offset <ℤ a.dst.offset → IsRuleGap a from l (record { at = s.turns.start; before = a.std; after = a.dst })
+gap_at_start a s from l near_std near_dst h never less =
+    let u = l -ℤ a.dst.offset in let v = l -ℤ a.std.offset in
+    let shown_u : (u +ℤ a.dst.offset) ≡ l = omega (arith, ints) in let shown_v : (v +ℤ a.std.offset) ≡ l = omega (arith, ints) in
+    let order : u <ℤ v = omega (arith, ints) in
+    rule_gap a s from l u v s.turns.start true h.season near_dst near_std h.daylight h.standard order shown_u shown_v
+    (starts s.turns.start s.turns.end u v order (other_at a s from l u true h.season near_dst h.daylight never shown_u) (other_at a s from l v false h.season near_std h.standard never shown_v))
 
 -- or else to standard time
-pub gap_at_end : (a : AlternateRule) (s : Season) (from l u v : ℤ) → IsSeason a s → IsNear u → IsNear v → IsAmidFrom s from u → IsAmidFrom s from v → u ≤ℤ v
-    → (u +ℤ a.std.offset) ≡ l → (v +ℤ a.dst.offset) ≡ l → IsNeverFrom a from l
-    → IsRuleGap a from l (record { at = s.turns.end; before = a.dst; after = a.std })
-gap_at_end a s from l u v season near_u near_v amid_u amid_v order shown_u shown_v never =
-    let at_u : is_dst_by_one s.turns.start s.turns.end u ≡ true = other_at a s from l u false season near_u amid_u never shown_u in
-    let at_v : is_dst_by_one s.turns.start s.turns.end v ≡ false = other_at a s from l v true season near_v amid_v never shown_v in
+pub gap_at_end : (a : AlternateRule) (s : Season) (from l : ℤ) → IsNear (l -ℤ a.std.offset) → IsNear (l -ℤ a.dst.offset) → IsSeasonFor a from l s
+    → IsNeverFrom a from l → a.dst.offset ≤ℤ a.std.offset → IsRuleGap a from l (record { at = s.turns.end; before = a.dst; after = a.std })
+gap_at_end a s from l near_std near_dst h never less =
+    let u = l -ℤ a.std.offset in let v = l -ℤ a.dst.offset in
+    let shown_u : (u +ℤ a.std.offset) ≡ l = omega (arith, ints) in let shown_v : (v +ℤ a.dst.offset) ≡ l = omega (arith, ints) in
+    let at_u : is_dst_by_one s.turns.start s.turns.end u ≡ true = other_at a s from l u false h.season near_std h.standard never shown_u in
+    let at_v : is_dst_by_one s.turns.start s.turns.end v ≡ false = other_at a s from l v true h.season near_dst h.daylight never shown_v in
     by_lt_z u v
-    (λ sooner. rule_gap a s from l u v s.turns.end false season near_u near_v amid_u amid_v sooner shown_u shown_v (ends s.turns.start s.turns.end u v sooner at_u at_v))
+    (λ sooner. rule_gap a s from l u v s.turns.end false h.season near_std near_dst h.standard h.daylight sooner shown_u shown_v (ends s.turns.start s.turns.end u v sooner at_u at_v))
     (λ not. let e : u ≡ v = omega (arith, ints) in absurd (true≢false (sym at_u ∙ ap (is_dst_by_one s.turns.start s.turns.end) e ∙ at_v)))
 
 -- ---- of a zone with the rule
+-- the season of the rule is the zone's
+pub season_in : (z : Zone) (rule : TransitionRule) (from l : ℤ) (s : Option Season) → z.rule ≡ Some rule
+    → IsStart z.transitions z.leaps (length z.transitions) from → MatchOption s ⊤ (IsSeasonOf (Some rule) from l) → MatchOption s ⊤ (IsSeasonIn z l)
+season_in z rule from l None is start h = h
+season_in z rule from l (Some s) is start h = (from, start, rw is h)
+
 -- by the rule no near second shows the local time
-pub never_from : (z : Zone) (a : AlternateRule) (l from : ℤ) → IsValid z → z.rule ≡ Some (Alternate a)
+never_from : (z : Zone) (a : AlternateRule) (l from : ℤ) → IsValid z → z.rule ≡ Some (Alternate a)
     → IsStart z.transitions z.leaps (length z.transitions) from → IsNever z l → IsNeverFrom a from l
 never_from z a l from valid rule start never u t near since k shown =
     never u t (record { fits = omega (arith, ints, near); type = from_rule z a u t valid rule ((rule_begun z u from valid near start).1 since) k; shown = shown })
 
 -- the rule's gap is the zone's, if clocks show less before the rule begins
-pub gap_by_rule : (z : Zone) (a : AlternateRule) (l low high from : ℤ) (c : Change) → IsValid z → z.rule ≡ Some (Alternate a)
+gap_by_rule : (z : Zone) (a : AlternateRule) (l low high from : ℤ) (c : Change) → IsValid z → z.rule ≡ Some (Alternate a)
     → IsStart z.transitions z.leaps (length z.transitions) from → IsNever z l → IsWindowOf z l l low high
     → AreLessAmong z 0 (table_count z) l → IsRuleGap a from l c → HasGap (TypeAt z) l c.before c.after c.at
 gap_by_rule z a l low high from c valid rule start never reach all g =
@@ -108,3 +120,10 @@ gap_by_rule z a l low high from c valid rule start never reach all g =
     (λ h. let m = (not_begun z (length z.transitions) from u valid start near).1 h in all u t near (omega arith) (omega arith) k)
     (λ h. g.less u t h (omega (arith, ints)) (to_rule z a u t valid rule ((rule_begun z u from valid near start).1 h) k)) in
     gap_found z l low high c.at c.after c.before never reach g.near less (by c.at c.after g.near (omega (arith, ints)) g.after) g.more (by (c.at -ℤ pos 1) c.before g.near_before since g.before)
+
+-- so is that of a season of the zone
+pub gap_by_season : (z : Zone) (a : AlternateRule) (l low high : ℤ) (s : Season) (c : Change) → IsValid z → z.rule ≡ Some (Alternate a) → IsSeasonIn z l s
+    → IsNever z l → IsWindowOf z l l low high → AreLessAmong z 0 (table_count z) l
+    → ((from : ℤ) → IsSeasonFor a from l s → IsNeverFrom a from l → IsRuleGap a from l c) → HasGap (TypeAt z) l c.before c.after c.at
+gap_by_season z a l low high s c valid rule (from, start, season) never reach all made =
+    gap_by_rule z a l low high from c valid rule start never reach all (made from (rw rule at season) (never_from z a l from valid rule start never))

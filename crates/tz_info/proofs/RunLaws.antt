@@ -34,7 +34,7 @@ pub run_to_change : (z : Zone) (at limit : ℤ) (c : Change) → IsValid z → I
 run_to_change z at limit c valid limits near near_limit first h =
     let later = first.inside in
     let near_c : IsNear c.at = (omega (arith, ints, near, later), omega (arith, ints, near_limit, h)) in
-    let same = same_until z at c.at valid limits near near_c later first.first in
+    let same = same_until z at c.at valid limits near near_c later first.nearest in
     record {
       later = later;
       most = omega (arith, ints);

@@ -1,6 +1,6 @@
 -- Changes of a rule where the moments of one season decide: only these come with one.
 use Rattle.tz_info.proofs.Words.{Alternate, AlternateAt, Bool, Change, HasNoChange, IsAhead, IsAmid, IsChange, IsDecidedIn, IsIdleTo, IsLimit, IsNearest}
-use Rattle.tz_info.proofs.Words.{IsNearestChange, IsNearestMoment, IsRuleTime, IsSeason, IsUpTo, MatchOption, None, Option, Some, Precedes, Season, ap}
+use Rattle.tz_info.proofs.Words.{IsNearestChange, IsNearestMoment, IsRuleTime, IsSeason, IsAheadUpTo, MatchOption, None, Option, Some, Precedes, Season, ap}
 use Rattle.tz_info.proofs.Words.{arith, by_lt_z, false, far_side}
 use Rattle.tz_info.proofs.Words.{inl, inr, int_le, int_lt, ints, is_dst_by_one, near_side, nearer_moment, neg_ℤ, pos, refl, sym, true, type_when, ℤ, ⊎_elim}
 use Rattle.tz_info.proofs.Words.{◌+ℤ◌, ◌-ℤ◌, ◌<ℤ◌, ◌∙◌, ◌≡◌, ◌≤ℤ◌, ◌⊎◌}
@@ -52,7 +52,7 @@ pub record IsMomentAhead (w : Bool) (a : Alternate) (s : Season) (second limit m
   pub least : neg_ℤ (pos 67_768_100_504_812_800) ≤ℤ moment
   pub amid : (moment ≡ limit → ⊥) → IsAmid s moment
 
-moment_is : (w : Bool) (a : Alternate) (s : Season) (second limit moment : ℤ) → IsSeason a s → IsRuleTime second → IsDecidedIn s second
+pub moment_is : (w : Bool) (a : Alternate) (s : Season) (second limit moment : ℤ) → IsSeason a s → IsRuleTime second → IsDecidedIn s second
     → IsLimit w s limit → IsNearestMoment w s.turns.start s.turns.end second limit moment → IsMomentAhead w a s second limit moment
 moment_is true a s second limit moment season time decides is h =
     let (until, last) = (is limit).0 (omega (arith, ints)) in
@@ -119,7 +119,7 @@ idle_over false f second moment idle none = record {
 }
 
 -- ---- where none comes up to a second, the nearest one from there on is the nearest one
-ahead_or : (w : Bool) (s other u : ℤ) → IsAhead w s u → IsUpTo w s other u ⊎ IsAhead w other u
+ahead_or : (w : Bool) (s other u : ℤ) → IsAhead w s u → IsAheadUpTo w s other u ⊎ IsAhead w other u
 ahead_or true s other u h = by_lt_z other u (λ m. inr m) (λ m. inl (h, m))
 ahead_or false s other u h = by_lt_z other u (λ m. inl (m, h)) (λ m. inr m)
 

@@ -1,10 +1,10 @@
 -- What neighbouring segments show of a local time, put together.
-use Rattle.tz_info.proofs.Words.{AreLessAmong, IsSideAmong, Jump, Jumps, Shown, Zone, arith, cases_lt, inl, inr, joined, refl, segment_of, together, wall_of, ℕ}
-use Rattle.tz_info.proofs.Words.{ℤ, ◌<◌, ◌≡◌, ◌≤◌}
+use Rattle.tz_info.proofs.Words.{AreLessAmong, IsSideAmong, Jump, Jumps, Shown, Zone, arith, cases_lt, inl, inr, joined, refl, segment_of, shown_indexes}
+use Rattle.tz_info.proofs.Words.{together, ℕ, ℤ, ◌<◌, ◌≡◌, ◌≤◌}
 use Rattle.tz_info.specs.declared.zone.shown.Shown.TheVariants.{Less, Once, Several, Skipped}
 
 -- the wall clock's answers are joined
-pub wall_together : (a b : Shown) → wall_of (together a b) ≡ joined (wall_of a) (wall_of b)
+pub wall_together : (a b : Shown) → shown_indexes (together a b) ≡ joined (shown_indexes a) (shown_indexes b)
 wall_together (Less x) b = refl
 wall_together (Skipped j) (Less y) = refl
 wall_together (Skipped j) (Skipped k) = refl

@@ -127,17 +127,18 @@ until_next f u (Some c) h = h.inside
 idle_since : (f : InForce) (u v : ℤ) (last : Option Change) → IsLast f (λ w. w ≤ℤ u) last → IsSince (seconds_of last) v
     → HasNoChange f (λ w. (v <ℤ w) × (w ≤ℤ u))
 idle_since f u v None h since d is i = h d is i.1
-idle_since f u v (Some c) h since d is i = let l = h.last d is i.1 in let a = i.0 in omega (arith, ints)
+idle_since f u v (Some c) h since d is i = let l = h.nearest d is i.1 in let a = i.0 in omega (arith, ints)
 
 idle_until : (f : InForce) (u v : ℤ) (next : Option Change) → IsFirst f (λ w. u <ℤ w) next → IsUntil (seconds_of next) v
     → HasNoChange f (λ w. (u <ℤ w) × (w ≤ℤ v))
 idle_until f u v None h until d is i = h d is i.0
-idle_until f u v (Some c) h until d is i = let l = h.first d is i.0 in let b = i.1 in omega (arith, ints)
+idle_until f u v (Some c) h until d is i = let l = h.nearest d is i.0 in let b = i.1 in omega (arith, ints)
 
 pub last_type : (z : Zone) (u : ℤ) (t : LocalType) (c : Change) → IsValid z → IsRuleOrNone z.rule → SFits w64 u → TypeAt z u t
     → IsLastChange (TypeAt z) (λ v. v ≤ℤ u) c → c.after ≡ t
 last_type z u t c valid limits fits h last =
-    no_change z c.at u c.after t valid limits last.is.fits fits last.inside (λ d is i. let l = last.last d is i.1 in let a = i.0 in omega (arith, ints)) last.is.after h
+    no_change z c.at u c.after t valid limits last.is.fits fits last.inside
+    (λ d is i. let l = last.nearest d is i.1 in let a = i.0 in omega (arith, ints)) last.is.after h
 
 begins_with : (z : Zone) (u : ℤ) (t : LocalType) (last : Option Change) → IsValid z → IsRuleOrNone z.rule → SFits w64 u → TypeAt z u t
     → IsLast (TypeAt z) (λ v. v ≤ℤ u) last
@@ -151,7 +152,8 @@ ends_with : (z : Zone) (u : ℤ) (t : LocalType) (next : Option Change) → IsVa
 ends_with z u t None valid limits fits h next = tt
 ends_with z u t (Some c) valid limits fits h next =
     let later = next.inside in
-    let same : t ≡ c.before = no_change z u (c.at -ℤ pos 1) t c.before valid limits fits next.is.fits_before (omega (arith, ints)) (λ d is i. let l = next.first d is i.0 in let b = i.1 in omega (arith, ints)) h next.is.before in
+    let same : t ≡ c.before = no_change z u (c.at -ℤ pos 1) t c.before valid limits fits next.is.fits_before (omega (arith, ints))
+    (λ d is i. let l = next.nearest d is i.0 in let b = i.1 in omega (arith, ints)) h next.is.before in
     (c.after, rw (← same) at next.is)
 
 pub span_between : (z : Zone) (u : ℤ) (t : LocalType) (last next : Option Change) → IsValid z → IsRuleOrNone z.rule → SFits w64 u → TypeAt z u t

@@ -1,16 +1,16 @@
--- The numbers of a rule that a TZ text spells are in their limits.
+-- The numbers of a rule that a TZ string spells are in their limits.
 use Rattle.tz_info.proofs.Words.{Bool, DayForm, DayTime, IsAlternateRule, IsRule, IsRuleDay, IsTzText, IsWithinDay, IsWithinWeek, List, LocalType, Spells}
 use Rattle.tz_info.proofs.Words.{TransitionRule, alternate, arith, date, day, days, dst_offset, duration, false, fixed, given_offset, inl, inr, ints}
-use Rattle.tz_info.proofs.Words.{julian_date, month_date, named, named_type, next_hour, not, offset, optional_time, pos, rule, seconds_of, subst}
-use Rattle.tz_info.proofs.Words.{sym, text, time, time_limit, true, ℕ, ℤ, ◌+ℤ◌, ◌≡◌, ◌≤ℤ◌, ◌≤◌}
-use Rattle.tz_info.specs.TzGrammar.{day_number, rule_day}
+use Rattle.tz_info.proofs.Words.{julian_date, month_date, named, named_type, next_hour, not, offset, optional_time, pos, rule, signed_seconds, subst, sym, text}
+use Rattle.tz_info.proofs.Words.{time, time_limit, true, ℕ, ℤ, ◌+ℤ◌, ◌≡◌, ◌≤ℤ◌, ◌≤◌}
+use Rattle.tz_info.specs.TzGrammar.{numbered_day, checked_day}
 
 -- ---- offsets and times
-within_day : (negative : Bool) (h m s : ℕ) → (h ≤ 23) × (m ≤ 59) × (s ≤ 59) → IsWithinDay (seconds_of negative h m s)
+within_day : (negative : Bool) (h m s : ℕ) → (h ≤ 23) × (m ≤ 59) × (s ≤ 59) → IsWithinDay (signed_seconds negative h m s)
 within_day true h m s (a, b, c) = (omega (arith, ints), omega (arith, ints))
 within_day false h m s (a, b, c) = (omega (arith, ints), omega (arith, ints))
 
-within_week : (extended negative : Bool) (h m s : ℕ) → (h ≤ time_limit extended) × (m ≤ 59) × (s ≤ 59) → IsWithinWeek (seconds_of negative h m s)
+within_week : (extended negative : Bool) (h m s : ℕ) → (h ≤ time_limit extended) × (m ≤ 59) × (s ≤ 59) → IsWithinWeek (signed_seconds negative h m s)
 within_week true true h m s (a, b, c) = (omega (arith, ints), omega (arith, ints))
 within_week true false h m s (a, b, c) = (omega (arith, ints), omega (arith, ints))
 within_week false true h m s (a, b, c) = (omega (arith, ints), omega (arith, ints))
@@ -34,12 +34,12 @@ dst_offset_fits std bytes z rest w (inl (_, _, (is, value, _))) = subst IsWithin
 dst_offset_fits std bytes z rest w (inr (_, (_, here, _, (east, after, o, (_, _, _, (_, _, _, (value, _))))))) = subst IsWithinDay (sym value) (offset_fits here east after o)
 
 -- ---- days
-form_fits : (form : DayForm) (bytes : List ℕ) (x : DayForm) (rest : List ℕ) → Spells (rule_day form) bytes x rest → IsRuleDay x
-unfolding rule_day
+form_fits : (form : DayForm) (bytes : List ℕ) (x : DayForm) (rest : List ℕ) → Spells (checked_day form) bytes x rest → IsRuleDay x
+unfolding checked_day
 form_fits form bytes x rest (is, value, _) = subst IsRuleDay (sym value) is
 
 date_fits : (bytes : List ℕ) (form : DayForm) (rest : List ℕ) → Spells date bytes form rest → IsRuleDay form
-unfolding date month_date julian_date day_number
+unfolding date month_date julian_date numbered_day
 date_fits bytes form rest (inl (_, _, (_, _, _, (_, _, _, (_, _, _, (_, _, _, (_, _, _, r))))))) = form_fits _ _ form rest r
 date_fits bytes form rest (inr (_, inl (_, _, (_, _, _, r)))) = form_fits _ _ form rest r
 date_fits bytes form rest (inr (_, inr (_, (_, _, _, r)))) = form_fits _ _ form rest r

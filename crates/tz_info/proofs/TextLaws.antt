@@ -1,6 +1,6 @@
--- The law of a whole TZ text, and what it says of a reader.
+-- The law of a whole TZ string, and what it says of a reader.
 use Rattle.tz_info.proofs.Words.{Bool, Decided, Err, Error, Gives, IfErr, IfOk, IsOkAnd, IsTextFault, IsTzText, List, Ok, Result, Spells, TransitionRule}
-use Rattle.tz_info.proofs.Words.{alternate, ap, apart, end, fault_low, fault_once, fixed, inl, inr, lawful, named, number_of, read, rule, said, subst, sym}
+use Rattle.tz_info.proofs.Words.{alternate, ap, apart, end, fault_low, fault_once, fixed, inl, inr, lawful, named, error_number, read, rule, said, subst, sym}
 use Rattle.tz_info.proofs.Words.{text, value_once, ℕ, ℤ, [], ◌∙◌, ◌≡◌, ◌≤◌}
 
 -- nothing stands after a text
@@ -27,7 +27,7 @@ pub one_fault : (extended : Bool) (bytes : List ℕ) (d e : Error) → IsTextFau
 one_fault extended bytes = fault_once (lawful (text extended) bytes)
 
 -- it is not running out of memory
-pub text_low : (extended : Bool) (bytes : List ℕ) (e : Error) → IsTextFault extended bytes e → number_of e ≤ 16
+pub text_low : (extended : Bool) (bytes : List ℕ) (e : Error) → IsTextFault extended bytes e → error_number e ≤ 16
 text_low extended bytes = fault_low (lawful (text extended) bytes)
 
 -- no bytes spell two rules

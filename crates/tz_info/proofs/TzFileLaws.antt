@@ -5,9 +5,9 @@ use Rattle.tz_info.proofs.Words.{Bool, ContentFault, Decided, Err, Error, FilePi
 use Rattle.tz_info.proofs.Words.{IfErr, IfOk, In_contents, In_file, In_footer, In_indicators, In_piece, In_type, IndicatorsAgree, IsErrAnd, IsFileFault}
 use Rattle.tz_info.proofs.Words.{IsOutOfMemory, IsTzFile, IsValid, IsZoneFault, LeapSecond, List, ListFault, Lists, LocalType, MatchResult, No_memory, None}
 use Rattle.tz_info.proofs.Words.{Not_valid, Ok, Option, PieceFault, Reads, Result, SayZone, Some, SpellTransitions, SpellTypes, TimeZone, Transition}
-use Rattle.tz_info.proofs.Words.{TransitionRule, Zone, ap, apart, arith, bind, done, either, fault_low as low, fault_once as one_fault, file_at, footer_of, inl}
-use Rattle.tz_info.proofs.Words.{inr, like, lists_in, made, number_of, ok_same, pieces_at, refl, subst, sym, value_once, with_rule, with_types, zone_of, ℕ, ◌≡◌}
-use Rattle.tz_info.proofs.Words.{◌≤◌, ◌⊎◌}
+use Rattle.tz_info.proofs.Words.{TransitionRule, Zone, ap, apart, arith, bind, done, either, error_number, fault_low as low, fault_once as one_fault, file_at}
+use Rattle.tz_info.proofs.Words.{footer_of, inl, inr, like, lists_in, made, ok_same, pieces_at, refl, subst, sym, value_once, with_rule, with_types}
+use Rattle.tz_info.proofs.Words.{zone_of_lists, ℕ, ◌≡◌, ◌≤◌, ◌⊎◌}
 use Rattle.tz_info.proofs.ContentLaws.{indicators_law, leap_seconds_law, transitions_law}
 use Rattle.tz_info.proofs.FilePieceLaws.{has_lengths, pieces_law}
 use Rattle.tz_info.proofs.FooterLaws.{footer_law as footer_bytes_law}
@@ -117,11 +117,11 @@ has_fault bytes none = elim (either (file_law bytes)) [
 ]
 
 -- it is not running out of memory
-pub fault_low : (bytes : List ℕ) (e : Error) → IsFileFault bytes e → number_of e ≤ 16
+pub fault_low : (bytes : List ℕ) (e : Error) → IsFileFault bytes e → error_number e ≤ 16
 fault_low bytes e f = elim (kind_of bytes e f) [ inl a ↦ low (file_law bytes) e a | inr a ↦ list_fault_low a.0 e a.2 ]
 
 -- ---- what the reader of the lists answers
-pub reads : (bytes : List ℕ) (p : FilePieces) (r : Result Lists Error) → pieces_at bytes ≡ Ok p → GivesInMemory zone_of r (lists_in p) → Reads r bytes
+pub reads : (bytes : List ℕ) (p : FilePieces) (r : Result Lists Error) → pieces_at bytes ≡ Ok p → GivesInMemory zone_of_lists r (lists_in p) → Reads r bytes
 unfolding file_at
 reads bytes p (Ok lists) h g = rw h g
 reads bytes p (Err e) h g = elim g [ inl memory ↦ inr (memory, p, h) | inr refused ↦ inl (rw h refused) ]
@@ -130,11 +130,11 @@ pub no_pieces : (bytes : List ℕ) (e : Error) → pieces_at bytes ≡ Err e →
 unfolding file_at
 no_pieces bytes e h = inl (rw h refl)
 
-pub found : (bytes : List ℕ) (r : Result Lists Error) → Reads r bytes → IfOk r (λ lists. IsTzFile bytes (zone_of lists))
-found bytes (Ok lists) s = (file_law bytes).takes (zone_of lists) s
+pub found : (bytes : List ℕ) (r : Result Lists Error) → Reads r bytes → IfOk r (λ lists. IsTzFile bytes (zone_of_lists lists))
+found bytes (Ok lists) s = (file_law bytes).takes (zone_of_lists lists) s
 found bytes (Err e) s = tt
 
-pub only : (bytes : List ℕ) (r : Result Lists Error) → Reads r bytes → (z : Zone) → IsTzFile bytes z → MatchResult r (λ lists. zone_of lists ≡ z) (λ e. e ≡ OutOfMemory)
+pub only : (bytes : List ℕ) (r : Result Lists Error) → Reads r bytes → (z : Zone) → IsTzFile bytes z → MatchResult r (λ lists. zone_of_lists lists ≡ z) (λ e. e ≡ OutOfMemory)
 only bytes (Ok lists) s z file = ok_same _ _ _ s ((file_law bytes).again z file)
 only bytes (Err e) s z file = elim s [ inl refused ↦ let read = (file_law bytes).again z file in cc | inr memory ↦ memory.0 ]
 
@@ -148,7 +148,7 @@ fault bytes (Err e) s = elim s [
 pub memory : (bytes : List ℕ) (r : Result Lists Error) → Reads r bytes → IfErr r (λ e. e ≡ OutOfMemory → (p : FilePieces) × HasPieces bytes p)
 memory bytes (Ok lists) s = tt
 memory bytes (Err e) s = λ is. elim s [
-  | inl refused ↦ let low = (file_law bytes).low e refused in let n : number_of e ≡ 17 = ap number_of is in absurd (omega arith)
+  | inl refused ↦ let low = (file_law bytes).low e refused in let n : error_number e ≡ 17 = ap error_number is in absurd (omega arith)
   | inr whole ↦ (whole.1, (pieces_law bytes).takes whole.1 whole.2)
 ]
 

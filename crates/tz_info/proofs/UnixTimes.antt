@@ -6,7 +6,10 @@ use Rattle.tz_info.proofs.Words.{get_or, get_or_append_left, get_or_default, get
 use Rattle.tz_info.proofs.Words.{length_push, map, mapped_at, passed, pos, take, times_ordered, ℕ, ℤ, [], ◌++◌, ◌+◌, ◌-◌, ◌<◌, ◌↔◌, ◌∙◌, ◌∷◌}
 use Rattle.tz_info.proofs.Words.{◌≡◌, ◌≤ℤ◌, ◌≤◌}
 use Rattle.tz_info.proofs.PassedTransitions.{NamesLast, first_come_at, last_named}
+use Rattle.tz_info.proofs.Words.{AreInTurn, HasType, IsSpanAt, LocalType, TypeAt, index_of, sym, ◌-ℤ◌, ◌<ℤ◌, ◌≢◌}
+use Rattle.tz_info.proofs.SegmentLaws.{IsWithin, begin_next, between_of, index_next, type_in_before}
 use Rattle.tz_info.proofs.WallSegments.{leap_time_of}
+use Rattle.tz_info.proofs.ZoneLaws.{type_once}
 
 -- the first k of them were made, the last of which comes at `start`
 pub record AreMade (ts : List Transition) (leaps : List LeapSecond) (entries : List Transition) (k : ℕ) (start : ℤ) : Type 0 where
@@ -118,3 +121,84 @@ come_at_second z entries u n latest valid made near come last =
     let first = come_by_unix_time z.transitions entries z.leaps u time.0 n made near time.1 come in
     first_come_at z u time.0 n latest valid time.1 within first
     (named_last z.transitions entries z.leaps n latest made within (last_named entries n latest last))
+
+-- ---- from one of them to the next
+type_index_of : (z : Zone) (entries : List Transition) (k : ℕ) (t : Transition) → AreByUnixTime z.transitions z.leaps entries → k < length z.transitions
+    → t ≡ get_or entries k t → index_of z.transitions (k + 1) ≡ t.type_index
+type_index_of z entries k t made some item =
+    index_next z.transitions k t some ∙ sym (made.types k t some) ∙ ap (λ (s : Transition). s.type_index) (sym item)
+
+-- at a near second from one of them on and before the next the type that it names is in force
+type_from : (z : Zone) (entries : List Transition) (u : ℤ) (k : ℕ) (t next : Transition) (s : LocalType) → IsValid z
+    → AreByUnixTime z.transitions z.leaps entries → IsNear u → k + 1 < length z.transitions → t ≡ get_or entries k t → next ≡ get_or entries (k + 1) next
+    → t.unix_leap_time ≤ℤ u → u <ℤ next.unix_leap_time → HasType z t.type_index s → TypeAt z u s
+type_from z entries u k t next s valid made near more item item_next from until has =
+    let (y, l) = leap_time_of z u valid near in
+    let time = ap (λ (d : Transition). d.unix_leap_time) item in
+    let time_next = ap (λ (d : Transition). d.unix_leap_time) item_next in
+    let come = (made.come k t (omega arith) u y near l).1 (omega (arith, ints)) in
+    let within : IsWithin z.transitions (k + 1) y = record {
+      since = rw (begin_next z.transitions k t (omega arith)) come;
+      until = λ d h. by_lt_z y (get_or z.transitions (k + 1) d).unix_leap_time (λ q. q) (λ q.
+          let same = get_or_default entries (k + 1) d next (let c = made.count in omega arith) in
+          let r = (made.come (k + 1) d h u y near l).0 q in
+          let e = ap (λ (c : Transition). c.unix_leap_time) same in
+          absurd (omega (arith, ints)));
+    } in
+    (type_in_before z (k + 1) u y s l (between_of z.transitions (k + 1) y valid.transitions.rising (omega arith) within) more
+    (rw (type_index_of z entries k t made (omega arith) item) has)).type
+
+-- and each names a type
+pub named_within : (z : Zone) (entries : List Transition) (k : ℕ) (t : Transition) → IsValid z → AreByUnixTime z.transitions z.leaps entries
+    → k < length z.transitions → t ≡ get_or entries k t → t.type_index < length z.types
+named_within z entries k t valid made some item =
+    let i = valid.transitions.indexes k t some in
+    rw (ap (λ (s : Transition). s.type_index) item ∙ made.types k t some) i
+
+-- so it is the span's, if those beside these two come at other seconds
+pub span_in_turn : (z : Zone) (u : ℤ) (before first end after : Transition) (r s t : LocalType) → IsValid z → AreInTurn z before first end after
+    → IsNear before.unix_leap_time → IsNear end.unix_leap_time → before.unix_leap_time <ℤ first.unix_leap_time → first.unix_leap_time ≤ℤ u
+    → u <ℤ end.unix_leap_time → end.unix_leap_time <ℤ after.unix_leap_time → HasType z before.type_index r → HasType z first.type_index s
+    → HasType z end.type_index t → r ≢ s → s ≢ t
+    → IsSpanAt (TypeAt z) u (record { local_time_type = s; from = Some first.unix_leap_time; until = Some end.unix_leap_time })
+span_in_turn z u before first end after r s t valid turn near_before near_end rising since until later has_r has_s has_t one other =
+    let k = turn.place in let some = turn.some in
+    let e1 : k + 1 + 1 ≡ k + 2 = omega arith in
+    let e2 : k + 2 + 1 ≡ k + 3 = omega arith in
+    let low = near_before.0 in let high = near_end.1 in
+    let here : (v : ℤ) → first.unix_leap_time ≤ℤ v → v <ℤ end.unix_leap_time → TypeAt z v s =
+    λ v a b. type_from z turn.entries v (k + 1) first end s valid turn.made (omega (arith, ints), omega (arith, ints)) (omega arith) turn.at_first
+    (rw e1 turn.at_end) a b has_s in
+    record {
+      in_force_then = here u since until;
+      inside = record { fits = omega (arith, ints); since = since; until = until };
+      span = record {
+        each = λ v d i at. type_once z v d s at (here v i.since i.until);
+        begins = (
+          r,
+          record {
+            fits = omega (arith, ints);
+            fits_before = omega (arith, ints);
+            before = type_from z turn.entries (first.unix_leap_time -ℤ pos 1) k before first r valid turn.made (omega (arith, ints), omega (arith, ints))
+                (omega arith) turn.at_before turn.at_first (omega (arith, ints)) (omega (arith, ints)) has_r;
+            after = here first.unix_leap_time (omega (arith, ints)) (omega (arith, ints));
+            differ = one;
+          },
+        );
+        ends = (
+          t,
+          record {
+            fits = omega (arith, ints);
+            fits_before = omega (arith, ints);
+            before = here (end.unix_leap_time -ℤ pos 1) (omega (arith, ints)) (omega (arith, ints));
+            after = type_from z turn.entries end.unix_leap_time (k + 2) end after t valid turn.made near_end (omega arith) turn.at_end
+                (rw e2 turn.at_after) (omega (arith, ints)) later has_t;
+            differ = other;
+          },
+        );
+      };
+    }
+
+-- an entry, whatever stands in for a missing one
+pub at_place : (entries : List Transition) (i k : ℕ) (d : Transition) → i ≡ k → i < length entries → get_or entries i d ≡ get_or entries k (get_or entries i d)
+at_place entries i k d e some = rw (← e) (get_or_default entries i d (get_or entries i d) some)

@@ -2,9 +2,9 @@
 use Rattle.offset_core.specs.declared.local_result.LocalResult.TheVariants.{None as Never}
 use Rattle.tz_info.proofs.Words.{AreRising, AreUtOffsets, Bool, Counts, HasType, IsAskedLast, IsNear, IsShownIn, IsStart, IsTried, IsValid, IsWallAnswer}
 use Rattle.tz_info.proofs.Words.{IsWide, IsWindow, List, LocalResult, LocalType, None, RoseByWalk, RoseWithin, RuleAt, Shows, Some, Transition, TransitionRule}
-use Rattle.tz_info.proofs.Words.{TypeAt, TypeFrom, TypeIn, Zone, ap, arith, begin_of, between, cases_lt, cond, digits, false, filter, get_or, get_or_default}
-use Rattle.tz_info.proofs.Words.{index_of, inl, inr, int_le, int_lt, ints, le_true, least_time, length, lt_true, reads_more, refl, segment_of, suc, sym}
-use Rattle.tz_info.proofs.Words.{table_count, true, zero, ℕ, ℤ, [], ◌&&◌, ◌+ℤ◌, ◌+◌, ◌-ℤ◌, ◌<ℤ◌, ◌<◌, ◌∙◌, ◌∷◌, ◌≡◌, ◌≤ℤ◌, ◌≤◌}
+use Rattle.tz_info.proofs.Words.{TypeAt, TypeFrom, TypeIn, Zone, ap, arith, begin_of, come_between, cases_lt, cond, digits, false, filter, get_or}
+use Rattle.tz_info.proofs.Words.{get_or_default, index_of, inl, inr, int_le, int_lt, ints, le_true, least_time, length, lt_true, reads_more, refl, segment_of}
+use Rattle.tz_info.proofs.Words.{suc, sym, table_count, true, zero, ℕ, ℤ, [], ◌&&◌, ◌+ℤ◌, ◌+◌, ◌-ℤ◌, ◌<ℤ◌, ◌<◌, ◌∙◌, ◌∷◌, ◌≡◌, ◌≤ℤ◌, ◌≤◌}
 use Rattle.tz_info.proofs.AnswerLaws.{Parts, same_answer}
 use Rattle.tz_info.proofs.Candidates.{Gains, gained, offset_of_rule}
 use Rattle.tz_info.proofs.ExtremeLaws.{at_least_least, at_most_greatest}
@@ -144,7 +144,7 @@ window_least p (x ∷ xs) (suc a) (suc b) h all =
     omega arith
 
 -- the transitions walked through lie in the window
-pub walked_most : (ts : List Transition) (low high : ℤ) (first place : ℕ) → Between ts low first first → place ≤ length ts → ((k : ℕ) (d : Transition) → first ≤ k → k < place → (get_or ts k d).unix_leap_time ≤ℤ high) → place ≤ first + length (between ts low high)
+pub walked_most : (ts : List Transition) (low high : ℤ) (first place : ℕ) → Between ts low first first → place ≤ length ts → ((k : ℕ) (d : Transition) → first ≤ k → k < place → (get_or ts k d).unix_leap_time ≤ℤ high) → place ≤ first + length (come_between ts low high)
 walked_most ts low high first place b w inside =
     window_least (λ (t : Transition). int_lt low t.unix_leap_time && int_le t.unix_leap_time high) ts first place w
     (λ k d l m. rw (lt_true low (get_or ts k d).unix_leap_time (b.above k d l (omega arith)), le_true (get_or ts k d).unix_leap_time high (inside k d l m)) refl)
@@ -181,7 +181,7 @@ pub rose_by_walk : (z : Zone) (l low high : ℤ) (first place n : ℕ) (a b c : 
 rose_by_walk z l low high first place n a b c window split within w one r =
     let walked = walked_most z.transitions low high first place split within w.inside in
     record {
-      window = length (between z.transitions low high);
+      window = length (come_between z.transitions low high);
       counted = record { low = low; high = high; window = window; count = refl };
       most = record { reads_kept = omega arith; reads_most = omega arith; questions_kept = omega arith; questions_most = omega arith; pieces_same = r.pieces_same ∙ w.pieces };
       least = λ h. let k = w.looked h in omega arith;

@@ -1,11 +1,12 @@
 -- The pieces of a zone's segments: what one segment answers, and how neighbours' pieces make those of both.
 use Rattle.offset_core.specs.declared.local_result.LocalResult.TheVariants.{Ambiguous, None, Single}
-use Rattle.tz_info.proofs.Words.{AreBelow, AreInOrder, AreListed, ArePieces, AreRising, HasType, IsCut, IsCutFrom, IsIndex, IsLastBefore, IsLeapTime, IsMerged}
-use Rattle.tz_info.proofs.Words.{IsNear, IsReachedFrom, IsShownAmong, IsShownIn, IsStart, IsTypeBefore, IsUtOffset, IsValid, IsWallAnswer, IsWide, LeapSecond}
-use Rattle.tz_info.proofs.Words.{List, ListedAmong, LocalResult, LocalType, None as none, Option, Piece, Shown, ShownAmong, Shows, Some as some, Transition}
-use Rattle.tz_info.proofs.Words.{TransitionRule, TypeAt, TypeIn, Zone, ap, arith, by_lt_z, cases_lt, closing, false, get_or, index_of, inl, inr, ints, le_false}
-use Rattle.tz_info.proofs.Words.{le_true, length, nat_lt, nat_tests, neg_ℤ, pos, refl, segment_of, subst, suc, sym, table_count, table_count_by, together, true}
-use Rattle.tz_info.proofs.Words.{wall_of, zero, ℕ, ℤ, [], ⊎_elim, ◌+ℤ◌, ◌-ℤ◌, ◌-◌, ◌<ℤ◌, ◌<◌, ◌↔◌, ◌∷◌, ◌≡◌, ◌≤ℤ◌, ◌≤◌, ◌⊎◌}
+use Rattle.tz_info.proofs.Words.{AreBelow, AreInOrder, AreListed, ArePieces, AreRising, HasType, HaveComeFrom, IsCutFrom, IsIndex, IsLastSecondBefore}
+use Rattle.tz_info.proofs.Words.{IsLeapTime, IsMerged, IsNear, IsReachedFrom, IsShownAmong, IsShownIn, IsStart, IsTypeBefore, IsUtOffset, IsValid, IsWallAnswer}
+use Rattle.tz_info.proofs.Words.{IsWide, LeapSecond, List, ListedAmong, LocalResult, LocalType, None as none, Option, Piece, Shown, ShownAmong, Shows}
+use Rattle.tz_info.proofs.Words.{Some as some, Transition, TransitionRule, TypeAt, TypeIn, Zone, ap, arith, by_lt_z, cases_lt, closing, false, get_or, index_of}
+use Rattle.tz_info.proofs.Words.{inl, inr, ints, le_false, le_true, length, nat_lt, nat_tests, neg_ℤ, pos, refl, segment_of, subst, suc, sym, table_count}
+use Rattle.tz_info.proofs.Words.{table_count_by, together, true, shown_indexes, zero, ℕ, ℤ, [], ⊎_elim, ◌+ℤ◌, ◌-ℤ◌, ◌-◌, ◌<ℤ◌, ◌<◌, ◌↔◌, ◌∷◌, ◌≡◌, ◌≤ℤ◌, ◌≤◌}
+use Rattle.tz_info.proofs.Words.{◌⊎◌}
 use Rattle.tz_info.specs.declared.zone.shown.Shown.TheVariants.{Less, Once, Skipped}
 use Rattle.tz_info.proofs.AnswerLaws.{Parts, joined_answer, same_answer}
 use Rattle.tz_info.proofs.LeapOrder.{leap_times_answer}
@@ -33,7 +34,7 @@ parts_listed z low middle high l valid h k = record {
 
 shown_joined : (z : Zone) (low middle high : ℕ) (l : ℤ) (a b : Shown) → IsValid z → low ≤ middle → middle ≤ high → IsShownAmong z low middle l a → IsShownAmong z middle high l b → IsShownAmong z low high l (together a b)
 shown_joined z low middle high l a b valid h k x y = record {
-  wall = rw (wall_together a b) (joined_answer _ _ _ (wall_of a) (wall_of b) (parts_listed z low middle high l valid h k) x.wall y.wall);
+  wall = rw (wall_together a b) (joined_answer _ _ _ (shown_indexes a) (shown_indexes b) (parts_listed z low middle high l valid h k) x.wall y.wall);
   side = side_together z low middle high l a b k x.side y.side;
 }
 
@@ -100,7 +101,7 @@ start_found ts leaps (suc k) d s rising later h reached = λ u x near l.
     let q = come_by_time ts x k d rising h in
     ((λ c. r.0 (q.0 c)), (λ c. q.1 (r.1 c)))
 
-pub cut_from : (z : Zone) (count : ℕ) (o cut : ℤ) → IsUtOffset o → IsCutFrom z count o cut → IsCut z.transitions z.leaps count o cut
+pub cut_from : (z : Zone) (count : ℕ) (o cut : ℤ) → IsUtOffset o → IsCutFrom z count o cut → HaveComeFrom z.transitions z.leaps count o cut
 cut_from z count o cut offset c = λ l x wide time.
     let near : IsNear l = let a = wide.0 in let b = wide.1 in (omega (arith, ints), omega (arith, ints)) in
     let h = saturated (c.second +ℤ o) l near in
@@ -136,7 +137,7 @@ cuts_rise z j k o a b start end h = by_lt_z start.second end.second (λ m. m) (�
     absurd (omega (arith, ints)))
 
 -- a segment that begins before the next one has the first second from its beginning on
-first_inner : (z : Zone) (k : ℕ) (s next : ℤ) → IsValid z → IsStart z.transitions z.leaps k s → IsStart z.transitions z.leaps (suc k) next → s <ℤ next → (u : ℤ) → IsLastBefore z k u → segment_of z (u +ℤ pos 1) ≡ k
+first_inner : (z : Zone) (k : ℕ) (s next : ℤ) → IsValid z → IsStart z.transitions z.leaps k s → IsStart z.transitions z.leaps (suc k) next → s <ℤ next → (u : ℤ) → IsLastSecondBefore z k u → segment_of z (u +ℤ pos 1) ≡ k
 first_inner z k s next valid start end less u last =
     let from = last.from in
     let not_yet = (not_begun z k s u valid start last.near).0 last.before in
@@ -145,7 +146,7 @@ first_inner z k s next valid start end less u last =
 
 -- the last second before a segment lies in that one or an earlier one
 abbrev pub AreUpTo : Zone → ℕ → ℕ → Type 0
-AreUpTo z place latest = (u : ℤ) → IsLastBefore z place u → segment_of z u ≤ latest
+AreUpTo z place latest = (u : ℤ) → IsLastSecondBefore z place u → segment_of z u ≤ latest
 
 -- it lies before a segment that begins no earlier
 pub up_to_less : (z : Zone) (place latest : ℕ) (next s : ℤ) → IsValid z → IsStart z.transitions z.leaps place next → IsStart z.transitions z.leaps latest s → next ≤ℤ s → 0 < latest → AreUpTo z place latest → AreUpTo z place (latest - 1)
@@ -215,7 +216,7 @@ shown_behind z k l b i t valid own has offset wide cut h last =
 
 -- where it comes before its beginning, clocks jump over it there
 shown_before : (z : Zone) (k x : ℕ) (l a : ℤ) (t : LocalType) → IsValid z → k < table_count z → 0 < k → HasType z (index_of z.transitions k) t → IsUtOffset t.offset → IsWide l → IsCutFrom z k t.offset a → l <ℤ a
-    → ((u : ℤ) → IsLastBefore z k u → segment_of z (u +ℤ pos 1) ≡ k) → IsTypeBefore z k x → IsShownAmong z k (suc k) l (Skipped (record { place = k; before = x }))
+    → ((u : ℤ) → IsLastSecondBefore z k u → segment_of z (u +ℤ pos 1) ≡ k) → IsTypeBefore z k x → IsShownAmong z k (suc k) l (Skipped (record { place = k; before = x }))
 shown_before z k x l a t valid own inner has offset wide cut h first before =
     let later : segment_of z (l -ℤ t.offset) < k = ⊎_elim (λ m. m) (λ m. let g = (cut_begun z k l t.offset a valid offset wide cut).0 m in absurd (omega (arith, ints))) (cases_lt (segment_of z (l -ℤ t.offset)) k) in
     record {

@@ -1,6 +1,6 @@
 -- A local time has one window, and one count of the transitions in it.
-use Rattle.tz_info.proofs.Words.{All-contains, IsGreatest, IsLeast, IsWindowCount, List, Zone, ap, arith, between, correction_at, ints, length, sym, ℕ, ℤ, ◌+ℤ◌}
-use Rattle.tz_info.proofs.Words.{◌-ℤ◌, ◌∙◌, ◌≡◌, ◌≤ℤ◌}
+use Rattle.tz_info.proofs.Words.{All-contains, IsGreatest, IsLeast, IsWindowCount, List, Zone, ap, arith, come_between, correction_at, ints, length, sym, ℕ, ℤ}
+use Rattle.tz_info.proofs.Words.{◌+ℤ◌, ◌-ℤ◌, ◌∙◌, ◌≡◌, ◌≤ℤ◌}
 
 greatest_once : (xs : List ℤ) (g h : ℤ) → IsGreatest xs g → IsGreatest xs h → g ≡ h
 greatest_once xs g h a b =
@@ -21,4 +21,4 @@ window_count_once z local j k a b =
     let leap : ℤ → ℤ = λ o. (local -ℤ o) +ℤ correction_at z.leaps (local -ℤ o) in
     let low = v.is_low.sum ∙ ap leap (greatest_once _ v.greatest w.greatest v.is_greatest w.is_greatest) ∙ sym w.is_low.sum in
     let high = v.is_high.sum ∙ ap leap (least_once _ v.least w.least v.is_least w.is_least) ∙ sym w.is_high.sum in
-    a.count ∙ ap (λ x. length (between z.transitions x a.high)) low ∙ ap (λ y. length (between z.transitions b.low y)) high ∙ sym b.count
+    a.count ∙ ap (λ x. length (come_between z.transitions x a.high)) low ∙ ap (λ y. length (come_between z.transitions b.low y)) high ∙ sym b.count

@@ -2,11 +2,11 @@
 pub use Rattle.std.proofs.Common.{All, AllPairs, Contains, Err, IfErr, IfOk, IfSome, IsTrue, MatchResult, None, Ok, Option, Result, Some, add-one, int_eq}
 pub use Rattle.std.proofs.Common.{length-take, nat_le, nat_lt, not, slice_get, vec_capacity, vec_len, ⊎_elim, ◌&&◌, ◌==◌, ◌||◌, ◌↔◌}
 pub use Rattle.std.proofs.Math.ListN.{get_or-eq_default}
-pub use Rattle.std.proofs.Math.Seq.{take-append_seam}
+pub use Rattle.std.proofs.Math.Seq.{take-append_seam, take-suc}
 pub use Rattle.std.proofs.lemmas.Bool.{and_parts, false≢true, not-false, or_cases, or_left, or_right, true≢false}
 pub use Rattle.std.proofs.lemmas.Bool.Decides.{Decides-and, Decides-eqb, Decides-int_eq, Decides-ltb, Decides-or}
 pub use Rattle.std.proofs.lemmas.List.{append-nil, drop-drop, get_or-map, get_or_append_left, get_or_default, get_or_push, length-drop, length_push, nil_from_length, take-append-drop}
-pub use Rattle.std.proofs.lemmas.List.{take_more}
+pub use Rattle.std.proofs.lemmas.List.{take_all, take_more}
 pub use Rattle.std.proofs.lemmas.List.Elements.{All-append, All-contains, All-push, Contains-append_left, Contains-append_right, Contains-get_or, Contains-push}
 pub use Rattle.std.proofs.lemmas.List.Elements.{Contains-push_cases}
 pub use Rattle.std.proofs.lemmas.List.Kept.{AllPairs-cons}
@@ -45,7 +45,7 @@ pub use Rattle.offset_core.specs.LocalResult.{map_of}
 pub use Rattle.tz_base.proofs.ForCallers.{Decided, IsExact, and_both, and_left, and_right, apart, bind, bind_err, by_error, choice, done, drop_front, either}
 pub use Rattle.tz_base.proofs.ForCallers.{exact_cut, false_unless, fault_low, fault_once, guard, lawful, like, made, ok_same, refused, runs_are, said}
 pub use Rattle.tz_base.proofs.ForCallers.{same_byte, type_exact, value_once}
-pub use Rattle.tz_base.specs.Errors.{IsOutOfMemory, number_of}
+pub use Rattle.tz_base.specs.Errors.{IsOutOfMemory, error_number}
 pub use Rattle.tz_base.specs.Fronts.{Gives, ◌>>=◌}
 unfoldable pub use Rattle.tz_base.specs.Fronts.{exact_at}
 pub use Rattle.tz_base.specs.Grammar.{Exact, Spells, checked, read}
@@ -64,20 +64,22 @@ pub use Rattle.tz_timeline.proofs.Words.{rules, slice_index, suc, sum_by-cons, s
 pub use Rattle.tz_timeline.proofs.Words.{◌<ℤ◌, ◌<◌, ◌∙◌, ◌∷◌, ◌≡◌, ◌≢◌, ◌≤ℤ◌, ◌≤◌, ◌⊎◌}
 unfoldable pub use Rattle.tz_timeline.proofs.Words.{digits}
 pub use Rattle.tz_timeline.specs.Counts.{RoseWithin, reads_more}
-pub use Rattle.tz_info.specs.Around.{IsAround}
-pub use Rattle.tz_info.specs.Changes.{AreChanges, HasNoChange, IsChange, IsFirst, IsFirstChange, IsFromUntil, IsLast, IsLastChange}
+pub use Rattle.tz_info.specs.Around.{AreTypesAround}
+pub use Rattle.tz_info.specs.Changes.{AreChanges, HasNoChange, IsChange, IsFirst, IsFirstChange, IsFromUntil, IsLast, IsLastChange, IsNearest}
+pub use Rattle.tz_info.specs.Changes.{IsNearestChange, Precedes}
 unfoldable pub use Rattle.tz_info.specs.ChangesLeft.{changes_left}
 pub use Rattle.tz_info.specs.Differences.{AreDifferences, IsDifference, IsInDifference}
 pub use Rattle.tz_info.specs.FileBlocks.{Parts}
 unfoldable pub use Rattle.tz_info.specs.FileBlocks.{block}
 pub use Rattle.tz_info.specs.FileContents.{AreRecords, HasNoZero, HasRecordFault, HasTypeFault, IndicatorsAgree, IsMark, No_text, Other_mark, Other_type}
 pub use Rattle.tz_info.specs.FileContents.{SpellLeapSeconds, SpellTransitions, SpellTypes, SpellsLeapSecond, SpellsType, StandsAt, TypeFault, designation_of}
-pub use Rattle.tz_info.specs.FileContents.{expected_of_place, least_offset, mark_in, offset_in, place_in, time_of}
+pub use Rattle.tz_info.specs.FileContents.{expected_of_place, file_time, least_offset, mark_in, offset_in, place_in}
 pub use Rattle.tz_info.specs.FileHeaders.{HasOtherMagic, is_magic, magic, magic_test}
 pub use Rattle.tz_info.specs.FilePieces.{FilePieces, HasPieces, PieceFault}
 unfoldable pub use Rattle.tz_info.specs.FilePieces.{after_first_block, file, first_version, later_version}
 pub use Rattle.tz_info.specs.Footers.{Colon, FooterFault, HasText, In_text, IsBetweenNewlines, IsFooter, No_newlines, Not_utf8, SaysRule, Zero}
-pub use Rattle.tz_info.specs.Gaps.{HasGap, IsBeforeGap}
+pub use Rattle.tz_info.specs.Gaps.{HasGap, IsTypeBeforeGap}
+pub use Rattle.tz_info.specs.HeldChanges.{change_held}
 pub use Rattle.tz_info.specs.Leaps.{AreCounted, AreLeapSeconds, IsFirstLeap, IsLeapTime, IsLeapTimeRefused, IsNear, IsNextLeap, IsOneStep, IsUnixTime}
 pub use Rattle.tz_info.specs.Leaps.{IsUnixTimeRefused, correction_at, correction_before, corrections, expected_of_leap_time, least_time, passed_count}
 pub use Rattle.tz_info.specs.Leaps.{thresholds}
@@ -90,7 +92,7 @@ pub use Rattle.tz_info.specs.PosixZones.{IsExtendedZone, IsPosixFault, IsPosixZo
 pub use Rattle.tz_info.specs.Questions.{IsAskedAt, IsAskedAtEach, IsAskedFor, IsByRuleFor}
 pub use Rattle.tz_info.specs.RuleDayOf.{rule_day_with}
 unfoldable pub use Rattle.tz_info.specs.RuleDayOf.{rule_day}
-pub use Rattle.tz_info.specs.RuleDays.{IsDayOf, IsRuleDay, IsWeekdayOfMonth}
+pub use Rattle.tz_info.specs.RuleDays.{IsDayOf, IsRuleDay, IsWeekdayInWeek}
 pub use Rattle.tz_info.specs.RuleTypes.{IsRule, IsRuleRefused, RuleAt}
 pub use Rattle.tz_info.specs.Rules.{Alternate, IsAlternate, IsAlternateRule, IsWithinWeek, expected_of_alternate}
 pub use Rattle.tz_info.specs.Segments.{table_count, table_count_by}
@@ -101,29 +103,29 @@ pub use Rattle.tz_info.specs.Spans.{IsInSpan, IsSince, IsSpan, IsSpanAt, IsUntil
 pub use Rattle.tz_info.specs.Steps.Answers.{joined, shown_if}
 pub use Rattle.tz_info.specs.Steps.Asked.{IsAskedAtLeapTime}
 pub use Rattle.tz_info.specs.Steps.Below.{all_below}
-pub use Rattle.tz_info.specs.Steps.Beside.{HasNoTurnsAt, IsNearestMomentOf, IsSecondOfNearest, change_found}
+pub use Rattle.tz_info.specs.Steps.Beside.{AreInside, HasNoTurnsAt, IsNearestMomentOf, IsOrder, IsOrderOf, IsSecondOfNearest, change_found}
 pub use Rattle.tz_info.specs.Steps.ChangeLists.{all_fit, alternate_type, change_between, change_here, changes_in, is_dst_by_three, is_rule_year, is_second}
 pub use Rattle.tz_info.specs.Steps.ChangeLists.{rule_type, rule_type_or, type_at_leap_time}
 unfoldable pub use Rattle.tz_info.specs.Steps.ChangeLists.{changes_of, seconds_between, type_or_none}
 pub use Rattle.tz_info.specs.Steps.Held.{IsEndOrTyped}
-pub use Rattle.tz_info.specs.Steps.Idle.{AreAlike, AreStarts, AreStartsUpTo, IsCarried, IsRun}
-pub use Rattle.tz_info.specs.Steps.Changes.{AreAhead, AreComeAt, AreComeOrAll, AreIn, ComesAt, HasNoneAt, IsAhead, IsAtEnd, IsBegin, IsByRule}
-pub use Rattle.tz_info.specs.Steps.Changes.{IsEarlierOf, IsIdle}
-pub use Rattle.tz_info.specs.Steps.Changes.{IsIdleTo, IsInStretch, IsInTable, IsLaterOf, IsNearRuleTime, IsNearest, IsNearestChange, IsOfYear, IsOneOf}
-pub use Rattle.tz_info.specs.Steps.Changes.{IsStretchAhead, IsUpTo, Precedes, far_side, near_end, near_side, nearer_one, new_year, year_at}
+pub use Rattle.tz_info.specs.Steps.Idle.{AreStarts, AreStartsUpTo, HaveOneType, IsCarried, IsIdleRun}
+pub use Rattle.tz_info.specs.Steps.Changes.{AreAhead, AreComeAt, AreComeOrAll, AreIn, ComesAt, HasNoneAt, IsAhead, IsAheadUpTo, IsAtEnd, IsBegin}
+pub use Rattle.tz_info.specs.Steps.Changes.{IsChangeByRule, IsEarlierOf, IsIdle, IsIdleTo, IsInStretch, IsInTable, IsLaterOf, IsNearRuleTime, IsOfYear, IsOneOf}
+pub use Rattle.tz_info.specs.Steps.Changes.{IsStretchAhead, far_side, near_end, near_side, nearer_one, new_year, year_at}
 unfoldable pub use Rattle.tz_info.specs.Steps.Changes.{moments_near}
 pub use Rattle.tz_info.specs.Steps.ContentReading.{GivesInMemory, front_of, is_name_or_none, is_zero, leap_second_in, leap_second_of, mark_of, pair_agrees}
 pub use Rattle.tz_info.specs.Steps.ContentReading.{record_at, transition_in, type_in, values_below, with_next_type}
 unfoldable pub use Rattle.tz_info.specs.Steps.ContentReading.{designation_at, indicators_of, text_before_zero, type_of, type_of_record}
 pub use Rattle.tz_info.specs.Steps.Differences.{AreListedTo, IsListedIf, IsPairUntil}
 pub use Rattle.tz_info.specs.Steps.Extremes.{AreExtremes, AreExtremesUntil, AreJoined, AreJoinedByRule, offsets_of}
-pub use Rattle.tz_info.specs.Steps.FileLists.{HasLengths, Reads, pieces_of, zone_of}
+pub use Rattle.tz_info.specs.Steps.FileLists.{HasLengths, Reads, pieces_of, zone_of_lists}
 unfoldable pub use Rattle.tz_info.specs.Steps.FileLists.{file_at, lists_in, pieces_at, with_rule, with_types}
 pub use Rattle.tz_info.specs.Steps.FooterReading.{footer_of, is_between_newlines, is_no_text, rule_or_none, trimmed_back, trimmed_front, unless_space}
 unfoldable pub use Rattle.tz_info.specs.Steps.FooterReading.{footer_at, rule_in, trimmed}
-pub use Rattle.tz_info.specs.Steps.Gaps.{AreLess, HasReach, IsNeverFrom, IsRuleGap, change_at}
+pub use Rattle.tz_info.specs.HeldChanges.{change_held}
+pub use Rattle.tz_info.specs.Steps.Gaps.{AreLess, HasReach, IsNeverFrom, IsRuleGap, moment_change}
 unfoldable pub use Rattle.tz_info.specs.Steps.KindPlaces.{place_by, places_by_kind}
-pub use Rattle.tz_info.specs.Steps.Kinds.{is_calm, is_calm_kind, is_inside, kind_place, second_at, second_in}
+pub use Rattle.tz_info.specs.Steps.Kinds.{day_time_second, is_calm, is_calm_kind, is_inside, kind_place, second_in}
 unfoldable pub use Rattle.tz_info.specs.Steps.Kinds.{are_calm, margin_of, seconds_by_kind}
 pub use Rattle.tz_info.specs.Steps.Merging.{IsMerged, IsNext, IsStep}
 pub use Rattle.tz_info.specs.Steps.NextMoments.{IsNearestMoment, IsOutside, nearer_moment}
@@ -131,12 +133,12 @@ pub use Rattle.tz_info.specs.Steps.Pieces.{AreBelow, AreCutsCrossed, AreListed, 
 pub use Rattle.tz_info.specs.Steps.Pieces.{zone_in}
 pub use Rattle.tz_info.specs.Steps.RuleDays.{closed_day_is, julian_is, julian_place, number_after, weekday_at, weekday_is, weekday_place}
 unfoldable pub use Rattle.tz_info.specs.Steps.RuleDays.{closed_day}
-pub use Rattle.tz_info.specs.Steps.RuleSeconds.{AreUtOffsets, IsAmidFrom, IsAskedFrom, IsAskedSince, IsSecondFrom, TypeFrom}
+pub use Rattle.tz_info.specs.Steps.RuleSeconds.{AreUtOffsets, IsAskedFrom, IsAskedSince, IsSecondFrom, TypeFrom}
 pub use Rattle.tz_info.specs.Steps.Runs.{AreNoneBefore, AreNoneFrom, IsBeyondJumps, IsEnd, IsRunSince, IsRunUntil, IsWindowOf, IsWithinRun}
-pub use Rattle.tz_info.specs.Steps.Seasons.{IsAmid, IsDecidedIn, IsLimit, IsSeason, IsSeasonFor, IsSeasonOf}
+pub use Rattle.tz_info.specs.Steps.Seasons.{IsAmid, IsAmidFrom, IsDecidedIn, IsLimit, IsSeason, IsSeasonFor, IsSeasonIn, IsSeasonOf}
 pub use Rattle.tz_info.specs.Steps.Segments.{begin_of, index_of}
 pub use Rattle.tz_info.specs.Steps.Shown.{together}
-pub use Rattle.tz_info.specs.Steps.Starts.{AreByUnixTime, HaveCome, HaveComeAt, IsCut, IsLeapless, IsReachedFrom, leap_time_at}
+pub use Rattle.tz_info.specs.Steps.Starts.{AreByUnixTime, AreInTurn, HaveCome, HaveComeAt, HaveComeFrom, IsLeapless, IsReachedFrom, leap_time_at}
 pub use Rattle.tz_info.specs.Steps.Turns.{is_between, is_dst_by_one, is_in_three}
 pub use Rattle.tz_info.specs.Steps.Validity.{Stands}
 pub use Rattle.tz_info.specs.Steps.Walk.{IsAskedLast, IsShownIn, IsTried, TypeIn}
@@ -144,20 +146,22 @@ pub use Rattle.tz_info.specs.Transitions.{AreRising, AreTransitions, passed}
 pub use Rattle.tz_info.specs.Trims.{BeginsBare, EndsBare, IsSpace, IsTrimmed}
 pub use Rattle.tz_info.specs.TzFiles.{ContentFault, HasRule, In_contents, In_file, In_footer, In_indicators, In_piece, In_type, IsFileFault, IsTzFile}
 pub use Rattle.tz_info.specs.TzFiles.{IsZoneFault, No_memory, Not_valid, SayZone}
-pub use Rattle.tz_info.specs.TzGrammar.{IsTextFault, IsTzText, is_letter, is_not_greater, named_type, seconds_of, time_limit}
+pub use Rattle.tz_info.specs.TzGrammar.{IsTextFault, IsTzText, is_letter, is_not_greater, named_type, signed_seconds, time_limit}
 unfoldable pub use Rattle.tz_info.specs.TzGrammar.{alternate, date, day, days, dst_offset, duration, end, fixed, given_offset, julian_date, month_date, named}
 unfoldable pub use Rattle.tz_info.specs.TzGrammar.{next_hour, offset, optional_time, rule, text, time}
 pub use Rattle.tz_info.specs.WallClocks.{AreShown, IsAmongShown, Shows}
-pub use Rattle.tz_info.specs.WallPieces.{AreInOrder, AreLessAmong, IsIndex, IsLastBefore, IsShownAmong, IsSideAmong, IsStart, IsTypeBefore, Jumps, ListedAmong}
-pub use Rattle.tz_info.specs.WallPieces.{ShownAmong, WallIndex, answer_at, answer_before, wall_of}
-pub use Rattle.tz_info.specs.Windows.{IsGreatest, IsLeast, IsWindow, IsWindowCount, between, offsets, rule_offsets}
+pub use Rattle.tz_info.specs.WallPieces.{AreInOrder, AreLessAmong, IsIndex, IsLastSecondBefore, IsShownAmong, IsSideAmong, IsStart, IsTypeBefore, Jumps}
+pub use Rattle.tz_info.specs.WallPieces.{ListedAmong, ShownAmong, WallIndex, answer_at, answer_before, shown_indexes}
+pub use Rattle.tz_info.specs.Windows.{IsGreatest, IsLeast, IsWindow, IsWindowCount, come_between, offsets, rule_offsets}
 pub use Rattle.tz_info.specs.ZoneEquality.{zone_eq}
 pub use Rattle.tz_info.specs.Zones.{Agrees, HasType, IsBeforeLast, IsFromLast, IsRefusedBy, IsRuleOrNone, IsTypeError, IsTypeOf, IsTypeRefused, IsValid}
 pub use Rattle.tz_info.specs.Zones.{ListFault, No_type, Not_rising, Other_index, Other_leaps, Other_rule, RuleOrElse, RuleOrType, TypeAt, TypeAtLeapTime, Zone}
 pub use Rattle.tz_info.specs.Zones.{by_leap_time, by_rule, index_at, last_transition, plain_zone, type_error, zone_of_rule}
 pub use Rattle.tz_info.specs.declared.file.header.Version.{Version}
 pub use Rattle.tz_info.specs.declared.file.reader.Lists.{Lists}
-pub use Rattle.tz_info.specs.declared.rule.alternate.Season.{Season}
+pub use Rattle.tz_info.specs.declared.rule.season.Season.{Season}
+pub use Rattle.tz_info.specs.declared.rule.season.Turns.{Turns}
+pub use Rattle.tz_info.specs.declared.rule.beside.Order.{Order}
 pub use Rattle.tz_info.specs.declared.rule.day.DayForm.{DayForm}
 pub use Rattle.tz_info.specs.declared.rule.day.DayTime.{DayTime}
 pub use Rattle.tz_info.specs.declared.rule.transition_rule.TransitionRule.{TransitionRule}

@@ -1,16 +1,12 @@
 -- Where a zone's types change: at its transitions, and behind them where the rule's types do.
-use Rattle.tz_info.proofs.Words.{Alternate as AlternateRule, AlternateAt, AreAhead, AreAlike, AreComeAt, AreComeOrAll, AreLeapSeconds, Change}
-use Rattle.tz_info.proofs.Words.{Bool, ComesAt, HasNoChange}
-use Rattle.tz_info.proofs.Words.{HasNoneAt, HaveCome, IsAhead, IsAtEnd, IsBegin, IsByRule, IsChange, IsFirst, IsFirstChange, IsInTable, IsLast, IsLastChange}
-use Rattle.tz_info.proofs.Words.{IsLeapTime, IsLeapTimeRefused, IsNearest, IsRuleTime, IsValid, LeapSecond, List, LocalType, MatchOption, None, Option}
-use Rattle.tz_info.proofs.Words.{RuleOrType, SFits}
-use Rattle.tz_info.proofs.Words.{Some, Transition, TransitionRule, TypeAt, Zone, ap, arith, by_lt_z, cases_lt, cond, count_by, get_or, index_of, inl}
-use Rattle.tz_info.proofs.Words.{inr, int_le, ints}
-use Rattle.tz_info.proofs.Words.{length, nat_tests, passed, passed_count, pos, refl, segment_of, slice_get, suc, sum_by-cons, sym}
-use Rattle.tz_info.proofs.Words.{thresholds, w64}
-use Rattle.tz_info.proofs.Words.{zero, ℕ, ℤ, [], ◌+◌, ◌-ℤ◌, ◌-◌, ◌<ℤ◌, ◌<◌, ◌↔◌, ◌∙◌, ◌∷◌, ◌≡◌, ◌≤ℤ◌, ◌≤◌, ◌⊎◌}
+use Rattle.tz_info.proofs.Words.{Alternate as AlternateRule, AlternateAt, AreAhead, HaveOneType, AreComeAt, AreComeOrAll, AreLeapSeconds, Change, Bool, ComesAt}
+use Rattle.tz_info.proofs.Words.{HasNoChange, false, true, HasNoneAt, HaveCome, IsAhead, IsAtEnd, IsBegin, IsChangeByRule, IsChange, IsFirst, IsFirstChange}
+use Rattle.tz_info.proofs.Words.{IsInTable, IsLast, IsLastChange, IsLeapTime, IsLeapTimeRefused, IsNearest, IsRuleTime, IsValid, LeapSecond, List, LocalType}
+use Rattle.tz_info.proofs.Words.{MatchOption, None, Option, RuleOrType, SFits, Some, Transition, TransitionRule, TypeAt, Zone, ap, arith, by_lt_z, cases_lt}
+use Rattle.tz_info.proofs.Words.{cond, count_by, get_or, index_of, inl, inr, int_le, ints, length, nat_tests, passed_count, pos, refl, segment_of, slice_get}
+use Rattle.tz_info.proofs.Words.{suc, sum_by-cons, sym, thresholds, w64, zero, ℕ, ℤ, [], ◌+◌, ◌-ℤ◌, ◌-◌, ◌<ℤ◌, ◌<◌, ◌↔◌, ◌∙◌, ◌∷◌, ◌≡◌, ◌≤ℤ◌, ◌≤◌, ◌⊎◌}
 use Rattle.tz_info.specs.declared.rule.transition_rule.TransitionRule.TheVariants.{Alternate, Fixed}
-use Rattle.tz_info.proofs.ChangeSearch.{first_moved, last_moved, nearest_moved}
+use Rattle.tz_info.proofs.ChangeSearch.{nearest_moved}
 use Rattle.tz_info.proofs.GapLaws.{HasOneType, IsSteady, one_type}
 use Rattle.tz_info.proofs.LeapEntries.{follow, threshold_at}
 use Rattle.tz_info.proofs.LeapOrder.{bounded}
@@ -74,7 +70,7 @@ comes_with z place start d some comes is low high =
     (λ m. let come = (comes (d.at -ℤ pos 1) is.before.leap_time (time_of z (d.at -ℤ pos 1) d.before (omega arith) is.before)).1 m in absurd (omega arith))
 
 -- no change leads from one segment to another where they have one type
-no_change_alike : (z : Zone) (d : Change) (first last : ℕ) → IsValid z → last < length z.transitions → AreAlike z.transitions z.types first last
+no_change_alike : (z : Zone) (d : Change) (first last : ℕ) → IsValid z → last < length z.transitions → HaveOneType z.transitions z.types first last
     → IsChange (TypeAt z) d
     → first ≤ segment_of z (d.at -ℤ pos 1) → segment_of z (d.at -ℤ pos 1) ≤ last → first ≤ segment_of z d.at → segment_of z d.at ≤ last → ⊥
 no_change_alike z d first last valid some alike is a b c e =
@@ -108,7 +104,8 @@ yet_come z after place valid (inl come) d is inside =
 yet_come z after place valid (inr r) d is inside = absurd (refused_after z after valid r.0 d is inside)
 
 -- nor do they come with the next ones, if these change nothing
-pub yet_after : (z : Zone) (after : ℤ) (place next : ℕ) → IsValid z → AreYet z after place → HasNoneAt z place → AreAlike z.transitions z.types (place + 1) next
+pub yet_after : (z : Zone) (after : ℤ) (place next : ℕ) → IsValid z → AreYet z after place → HasNoneAt z place
+    → HaveOneType z.transitions z.types (place + 1) next
     → (length z.transitions ≤ next → next ≡ place + 1) → AreYet z after next
 yet_after z after place next valid yet none alike end d is inside =
     let table = inside.table in
@@ -134,7 +131,7 @@ yet_found z after first place c some (inl count) at yet is comes =
     record {
       is = is;
       inside = record { inside = by_lt_z after c.at (λ k. k) (λ m. let b = begun.1 m in absurd (omega arith)); table = not_come z place c some is comes };
-      first = λ d is_d inside. (comes d.at is_d.after.leap_time (time_of z d.at d.after (omega arith) is_d.after)).0 (yet d is_d inside);
+      nearest = λ d is_d inside. (comes d.at is_d.after.leap_time (time_of z d.at d.after (omega arith) is_d.after)).0 (yet d is_d inside);
     }
 
 pub yet_none : (z : Zone) (after : ℤ) (place : ℕ) → IsValid z → length z.transitions ≤ place → AreYet z after place
@@ -162,7 +159,8 @@ not_alternate (Some (Fixed t)) not = tt
 not_alternate (Some (Alternate a)) not = not a refl
 
 -- without a rule of two types nothing changes there
-pub steady : (z : Zone) (within : ℤ → Type 0) → IsValid z → ((a : AlternateRule) → z.rule ≡ Some (Alternate a) → ⊥) → HasNoChange (TypeAt z) (IsByRule z within)
+pub steady : (z : Zone) (within : ℤ → Type 0) → IsValid z → ((a : AlternateRule) → z.rule ≡ Some (Alternate a) → ⊥)
+    → HasNoChange (TypeAt z) (IsChangeByRule z within)
 steady z within valid not d is inside =
     let e = inside.by_rule in
     let l = changes_segment z d valid is (inr (not_alternate z.rule not, e)) in
@@ -249,21 +247,21 @@ by_rule z a begin d valid rule h = (
 )
 
 pub rule_found : (z : Zone) (a : AlternateRule) (w : Bool) (s begin : ℤ) (found : Option Change) → IsValid z → z.rule ≡ Some (Alternate a) → IsBegin z begin
-    → IsNearest w (AlternateAt a) (λ u. (begin <ℤ u) × IsAhead w s u) found → IsNearest w (TypeAt z) (IsByRule z (IsAhead w s)) found
+    → IsNearest w (AlternateAt a) (λ u. (begin <ℤ u) × IsAhead w s u) found → IsNearest w (TypeAt z) (IsChangeByRule z (IsAhead w s)) found
 rule_found z a w s begin found valid rule h =
-    nearest_moved w (AlternateAt a) (TypeAt z) (λ u. (begin <ℤ u) × IsAhead w s u) (IsByRule z (IsAhead w s)) found
+    nearest_moved w (AlternateAt a) (TypeAt z) (λ u. (begin <ℤ u) × IsAhead w s u) (IsChangeByRule z (IsAhead w s)) found
     (λ d is inside. let k = (by_rule z a begin d valid rule h).0 (is, inside.by_rule) in (k.0, (k.1, inside.inside)))
     (λ d is inside. let k = (by_rule z a begin d valid rule h).1 (is, inside.0) in (k.0, record { inside = inside.1; by_rule = k.1 }))
 
 -- where none of those seconds comes after `begin`, no change comes at one behind the last transition
-pub none_begun : (z : Zone) (within : ℤ → Type 0) (begin : ℤ) → IsValid z → IsBegin z begin → ((u : ℤ) → SFits w64 u → within u → u ≤ℤ begin) → HasNoChange (TypeAt z) (IsByRule z within)
+pub none_begun : (z : Zone) (within : ℤ → Type 0) (begin : ℤ) → IsValid z → IsBegin z begin → ((u : ℤ) → SFits w64 u → within u → u ≤ℤ begin) → HasNoChange (TypeAt z) (IsChangeByRule z within)
 none_begun z within begin valid h most d is inside =
     let b = begun z begin (d.at -ℤ pos 1) d.before valid h is.fits_before is.before inside.by_rule in
     let m = most d.at is.fits inside.inside in
     omega (arith, ints)
 
 -- ---- the table's changes come before the rule's
-in_either : (z : Zone) (within : ℤ → Type 0) (u : ℤ) → IsValid z → within u → IsInTable z within u ⊎ IsByRule z within u
+in_either : (z : Zone) (within : ℤ → Type 0) (u : ℤ) → IsValid z → within u → IsInTable z within u ⊎ IsChangeByRule z within u
 in_either z within u valid inside =
     let m = segment_most z (u -ℤ pos 1) valid.transitions.rising in
     elim (cases_lt (segment_of z (u -ℤ pos 1)) (length z.transitions)) [
@@ -271,7 +269,7 @@ in_either z within u valid inside =
       | inr k ↦ inr (record { inside = inside; by_rule = omega arith })
     ]
 
-table_sooner : (z : Zone) (within : ℤ → Type 0) (u v : ℤ) → IsValid z → IsInTable z within u → IsByRule z within v → u ≤ℤ v
+table_sooner : (z : Zone) (within : ℤ → Type 0) (u v : ℤ) → IsValid z → IsInTable z within u → IsChangeByRule z within v → u ≤ℤ v
 table_sooner z within u v valid t r =
     let l = t.table in let m = r.by_rule in
     let k = later_segment z (u -ℤ pos 1) (v -ℤ pos 1) valid (omega arith) in
@@ -281,12 +279,12 @@ pub table_first : (z : Zone) (within : ℤ → Type 0) (c : Change) → IsValid 
 table_first z within c valid h = record {
   is = h.is;
   inside = h.inside.inside;
-  first = λ d is inside. elim (in_either z within d.at valid inside) [ inl t ↦ h.first d is t | inr r ↦ table_sooner z within c.at d.at valid h.inside r ];
+  nearest = λ d is inside. elim (in_either z within d.at valid inside) [ inl t ↦ h.nearest d is t | inr r ↦ table_sooner z within c.at d.at valid h.inside r ];
 }
 
-pub rule_first : (z : Zone) (within : ℤ → Type 0) (found : Option Change) → IsValid z → HasNoChange (TypeAt z) (IsInTable z within) → IsFirst (TypeAt z) (IsByRule z within) found → IsFirst (TypeAt z) within found
+pub rule_first : (z : Zone) (within : ℤ → Type 0) (found : Option Change) → IsValid z → HasNoChange (TypeAt z) (IsInTable z within) → IsFirst (TypeAt z) (IsChangeByRule z within) found → IsFirst (TypeAt z) within found
 rule_first z within found valid none =
-    first_moved (TypeAt z) (TypeAt z) (IsByRule z within) within found
+    nearest_moved true (TypeAt z) (TypeAt z) (IsChangeByRule z within) within found
     (λ d is inside. elim (in_either z within d.at valid inside) [ inl t ↦ absurd (none d is t) | inr r ↦ (is, r) ])
     (λ d is inside. (is, inside.inside))
 
@@ -330,7 +328,7 @@ ahead_come z last count valid (inr (refused, all)) = rw all (ahead_all z last va
 
 -- nor do they come with the last ones of these, if they change nothing
 pub ahead_less : (z : Zone) (last : ℤ) (place left : ℕ) → IsValid z → AreAhead z last (place + 1) → HasNoneAt z place → left ≤ place
-    → AreAlike z.transitions z.types left place
+    → HaveOneType z.transitions z.types left place
     → AreAhead z last left
 ahead_less z last place left valid h none low alike =
     let w = h.within in
@@ -359,23 +357,24 @@ table_last z last place c valid h is comes =
     record {
       is = is;
       inside = record { inside = up_to; table = not_come z place c (omega arith) is comes };
-      last = λ d is_d inside.
+      nearest = λ d is_d inside.
           let a = h.ahead d is_d inside.inside inside.table in
           let come = comes (d.at -ℤ pos 1) is_d.before.leap_time (time_of z (d.at -ℤ pos 1) d.before (omega arith) is_d.before) in
           by_lt_z c.at d.at (λ less. let k = come.1 (omega (arith, ints)) in absurd (omega arith)) (λ m. m);
     }
 
 -- ---- the rule's changes come after the table's
-pub rule_is_last : (z : Zone) (within : ℤ → Type 0) (c : Change) → IsValid z → IsLastChange (TypeAt z) (IsByRule z within) c → IsLastChange (TypeAt z) within c
+pub rule_is_last : (z : Zone) (within : ℤ → Type 0) (c : Change) → IsValid z → IsLastChange (TypeAt z) (IsChangeByRule z within) c
+    → IsLastChange (TypeAt z) within c
 rule_is_last z within c valid h = record {
   is = h.is;
   inside = h.inside.inside;
-  last = λ d is inside. elim (in_either z within d.at valid inside) [ inl t ↦ table_sooner z within d.at c.at valid t h.inside | inr r ↦ h.last d is r ];
+  nearest = λ d is inside. elim (in_either z within d.at valid inside) [ inl t ↦ table_sooner z within d.at c.at valid t h.inside | inr r ↦ h.nearest d is r ];
 }
 
-pub table_is_last : (z : Zone) (within : ℤ → Type 0) (found : Option Change) → IsValid z → HasNoChange (TypeAt z) (IsByRule z within) → IsLast (TypeAt z) (IsInTable z within) found → IsLast (TypeAt z) within found
+pub table_is_last : (z : Zone) (within : ℤ → Type 0) (found : Option Change) → IsValid z → HasNoChange (TypeAt z) (IsChangeByRule z within) → IsLast (TypeAt z) (IsInTable z within) found → IsLast (TypeAt z) within found
 table_is_last z within found valid none =
-    last_moved (TypeAt z) (TypeAt z) (IsInTable z within) within found
+    nearest_moved false (TypeAt z) (TypeAt z) (IsInTable z within) within found
     (λ d is inside. elim (in_either z within d.at valid inside) [ inl t ↦ (is, t) | inr r ↦ absurd (none d is r) ])
     (λ d is inside. (is, inside.inside))
 

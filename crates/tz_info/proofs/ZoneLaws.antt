@@ -3,8 +3,8 @@ use Rattle.tz_info.proofs.Words.{AreLeapSeconds, AreTransitions, HasType, IsBefo
 use Rattle.tz_info.proofs.Words.{IsTypeOf, IsTypeRefused, IsValid, LeapSecond, List, LocalType, None, Option, RuleOrElse, SFits, Some, Transition}
 use Rattle.tz_info.proofs.Words.{TransitionRule, TypeAt, Zone, ap, arith, by_leap_time, by_lt_z, by_rule, cases_lt, correction_at, corrections}
 use Rattle.tz_info.proofs.Words.{count_by-le-length, get_or, index_at, inl, inr, int_le, ints, last_else, le_false, le_true, length, length-filter, map, neg_ℤ}
-use Rattle.tz_info.proofs.Words.{number_of, passed, passed_count, pos, refl, slice_get, suc, sym, type_error, w64, zero, zone_of_rule, ℕ, ℤ, [], ⊎_elim, ◌+ℤ◌}
-use Rattle.tz_info.proofs.Words.{◌<◌, ◌∙◌, ◌∷◌, ◌≡◌, ◌≤◌, ◌⊎◌}
+use Rattle.tz_info.proofs.Words.{error_number, passed, passed_count, pos, refl, slice_get, suc, sym, type_error, w64, zero, zone_of_rule, ℕ, ℤ, [], ⊎_elim}
+use Rattle.tz_info.proofs.Words.{◌+ℤ◌, ◌<◌, ◌∙◌, ◌∷◌, ◌≡◌, ◌≤◌, ◌⊎◌}
 use Rattle.tz_info.proofs.PassedTransitions.{no_items}
 use Rattle.tz_info.proofs.RuleLaws.{rule_decided, rule_not_refused, rule_once}
 
@@ -114,7 +114,7 @@ decided_at z u x valid limits of_second =
       ]
     ]
 
-pub type_error_number : (z : Zone) (u : ℤ) (refused : IsTypeRefused z u) → number_of (type_error refused) ≡ 2
+pub type_error_number : (z : Zone) (u : ℤ) (refused : IsTypeRefused z u) → error_number (type_error refused) ≡ 2
 type_error_number z u (by_leap_time some refused) = refl
 type_error_number z u (by_rule x of_second last refused) = refl
 

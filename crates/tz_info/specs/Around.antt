@@ -5,7 +5,7 @@ use Rattle.offset_core.specs.declared.around.Around.{Around}
 use Rattle.offset_core.specs.declared.around.Around.TheVariants.{Single, Ambiguous, Gap}
 use Rattle.tz_base.specs.LocalTypes.{LocalType}
 use Rattle.tz_base.specs.declared.change.Change.{Change}
-use Rattle.tz_info.specs.Gaps.{HasGap, IsBeforeGap}
+use Rattle.tz_info.specs.Gaps.{HasGap, IsTypeBeforeGap}
 use Rattle.tz_info.specs.WallClocks.{Shows}
 
 -- a change at which clocks skip the local time
@@ -13,12 +13,12 @@ abbrev pub Skips : (ℤ → LocalType → Type 0) → ℤ → Change → Type 0
 Skips in_force local change = HasGap in_force local change.before change.after change.at
 
 -- exactly one second shows the local time, or several do, or it lies in the gap of that change
-abbrev pub IsAround : (ℤ → LocalType → Type 0) → ℤ → Around LocalType Change → Type 0
-IsAround in_force local = any.IsAround (Shows in_force local) (Skips in_force local)
+abbrev pub AreTypesAround : (ℤ → LocalType → Type 0) → ℤ → Around LocalType Change → Type 0
+AreTypesAround in_force local = any.IsAround (Shows in_force local) (Skips in_force local)
 
 -- the same, with the type before the gap
 abbrev pub IsAroundOrBefore : (ℤ → LocalType → Type 0) → ℤ → Around LocalType LocalType → Type 0
-IsAroundOrBefore in_force local = any.IsAround (Shows in_force local) (IsBeforeGap in_force local)
+IsAroundOrBefore in_force local = any.IsAround (Shows in_force local) (IsTypeBeforeGap in_force local)
 
 -- each value replaced by its image, and the gap by its own
 abbrev pub map_both : {T U G H : Type 0} → (T → U) → (G → H) → Around T G → Around U H

@@ -1,5 +1,5 @@
 -- Changes: the seconds at which clocks change to another type of local time.
-use Rattle.std.specs.Prelude.{ℤ, pos, ◌≢◌, ◌-ℤ◌, ◌≤ℤ◌, ◌<ℤ◌, ◌↔◌, FitsSigned, List, AllPairs, Contains, Option, MatchOption}
+use Rattle.std.specs.Prelude.{ℤ, pos, ◌≢◌, ◌-ℤ◌, ◌≤ℤ◌, ◌<ℤ◌, ◌↔◌, FitsSigned, List, AllPairs, Bool, true, false, Contains, Option, MatchOption}
 use Rattle.std.specs.Int.{w64}
 use Rattle.tz_base.specs.LocalTypes.{LocalType}
 use Rattle.tz_base.specs.declared.change.Change.{Change}
@@ -17,25 +17,35 @@ pub record IsChange (in_force : ℤ → LocalType → Type 0) (c : Change) : Typ
 abbrev pub HasNoChange : (ℤ → LocalType → Type 0) → (ℤ → Type 0) → Type 0
 HasNoChange in_force within = (d : Change) → IsChange in_force d → within d.at → ⊥
 
--- of the changes at seconds that `within` takes c is the first one
-pub record IsFirstChange (in_force : ℤ → LocalType → Type 0) (within : ℤ → Type 0) (c : Change) : Type 0 where
-  pub is : IsChange in_force c
-  pub inside : within c.at
-  pub first : (d : Change) → IsChange in_force d → within d.at → c.at ≤ℤ d.at
+-- in that direction, which is forward or back, x does not come after y
+abbrev pub Precedes : Bool → ℤ → ℤ → Type 0
+Precedes true x y = x ≤ℤ y
+Precedes false x y = y ≤ℤ x
 
--- of the changes at seconds that `within` takes c is the last one
-pub record IsLastChange (in_force : ℤ → LocalType → Type 0) (within : ℤ → Type 0) (c : Change) : Type 0 where
+-- of the changes at seconds that `within` takes c is the one that comes first in that direction
+pub record IsNearestChange (forward : Bool) (in_force : ℤ → LocalType → Type 0) (within : ℤ → Type 0) (c : Change) : Type 0 where
   pub is : IsChange in_force c
   pub inside : within c.at
-  pub last : (d : Change) → IsChange in_force d → within d.at → d.at ≤ℤ c.at
+  pub nearest : (d : Change) → IsChange in_force d → within d.at → Precedes forward c.at d.at
+
+-- it is the first one, or the last one
+abbrev pub IsFirstChange : (ℤ → LocalType → Type 0) → (ℤ → Type 0) → Change → Type 0
+IsFirstChange in_force within c = IsNearestChange true in_force within c
+
+abbrev pub IsLastChange : (ℤ → LocalType → Type 0) → (ℤ → Type 0) → Change → Type 0
+IsLastChange in_force within c = IsNearestChange false in_force within c
+
+-- that change, or nothing if no change comes at a second that `within` takes
+abbrev pub IsNearest : Bool → (ℤ → LocalType → Type 0) → (ℤ → Type 0) → Option Change → Type 0
+IsNearest forward in_force within found = MatchOption found (HasNoChange in_force within) (IsNearestChange forward in_force within)
 
 -- the first change at a second that `within` takes, or nothing if there is none
 abbrev pub IsFirst : (ℤ → LocalType → Type 0) → (ℤ → Type 0) → Option Change → Type 0
-IsFirst in_force within found = MatchOption found (HasNoChange in_force within) (IsFirstChange in_force within)
+IsFirst in_force within found = IsNearest true in_force within found
 
 -- the last change at a second that `within` takes, or nothing if there is none
 abbrev pub IsLast : (ℤ → LocalType → Type 0) → (ℤ → Type 0) → Option Change → Type 0
-IsLast in_force within found = MatchOption found (HasNoChange in_force within) (IsLastChange in_force within)
+IsLast in_force within found = IsNearest false in_force within found
 
 -- from the second `from` on, and before `until`
 abbrev pub IsFromUntil : ℤ → ℤ → ℤ → Type 0

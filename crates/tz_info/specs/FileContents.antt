@@ -15,13 +15,14 @@ unfoldable pub signed : Width → List ℕ → ℤ
 signed w bytes = cast_signed w (from_be_bytes w bytes)
 
 -- a time of four or eight bytes
-abbrev pub time_of : ℕ → List ℕ → ℤ
-time_of size bytes = if size == 4 then signed w32 bytes else signed w64 bytes
+abbrev pub file_time : ℕ → List ℕ → ℤ
+file_time size bytes = if size == 4 then signed w32 bytes else signed w64 bytes
 
 -- records of one size laid end to end, and what each of them spells
 abbrev pub AreRecords : {X : Type 0} → ℕ → (List ℕ → X → Type 0) → List ℕ → List X → Type 0
 AreRecords size Spells bytes [] = bytes ≡ []
-AreRecords size Spells bytes (x ∷ xs) = (first : List ℕ) × (rest : List ℕ) × (bytes ≡ first ++ rest) × (length first ≡ size) × Spells first x × AreRecords size Spells rest xs
+AreRecords size Spells bytes (x ∷ xs) =
+    (first : List ℕ) × (rest : List ℕ) × (bytes ≡ first ++ rest) × (length first ≡ size) × Spells first x × AreRecords size Spells rest xs
 
 -- the first record that spells nothing has that fault
 pub record HasRecordFault {X : Type 0} (size : ℕ) (Spells : List ℕ → X → Type 0) (Fault : List ℕ → Error → Type 0) (bytes : List ℕ) (e : Error) : Type 0 where
@@ -37,7 +38,7 @@ pub record HasRecordFault {X : Type 0} (size : ℕ) (Spells : List ℕ → X →
 -- ---- transitions and leap seconds
 -- the times in one part, in the other a byte for each type index
 pub record SpellTransitions (time_size : ℕ) (times type_indexes : List ℕ) (ts : List Transition) : Type 0 where
-  pub times_are : AreRecords time_size (λ bytes t. time_of time_size bytes ≡ t.unix_leap_time) times ts
+  pub times_are : AreRecords time_size (λ bytes t. file_time time_size bytes ≡ t.unix_leap_time) times ts
   pub indexes_are : type_indexes ≡ map (λ t. t.type_index) ts
 
 -- a time, and a correction of four bytes
@@ -46,7 +47,7 @@ pub record SpellsLeapSecond (time_size : ℕ) (bytes : List ℕ) (leap : LeapSec
   pub correction : List ℕ
   pub whole : bytes ≡ time ++ correction
   pub size : length time ≡ time_size
-  pub time_is : time_of time_size time ≡ leap.unix_leap_time
+  pub time_is : file_time time_size time ≡ leap.unix_leap_time
   pub correction_is : signed w32 correction ≡ leap.correction
 
 abbrev pub SpellLeapSeconds : ℕ → List ℕ → List LeapSecond → Type 0

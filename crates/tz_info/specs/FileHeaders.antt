@@ -42,7 +42,8 @@ version_1 Second = Refused (refused.InvalidTzFile expected.Version2Or3InSecondHe
 
 -- a 0 byte is version 1, the digits 2 and 3 are versions 2 and 3, and another byte is none
 unfoldable pub version : Place → Grammar Version
-version place = Marked 0 (version_1 place) (Marked 50 (Nothing Two) (Marked 51 (Nothing Three) (do Exact 1; Refused (refused.UnsupportedTzFile expected.Version1To3))))
+version place = Marked 0 (version_1 place)
+    (Marked 50 (Nothing Two) (Marked 51 (Nothing Three) (do Exact 1; Refused (refused.UnsupportedTzFile expected.Version1To3))))
 
 unfoldable pub six_counts : Grammar Counts
 six_counts = do

@@ -40,4 +40,5 @@ pub data FooterFault (extended : Bool) (bytes : List ℕ) : Error → Type 0 whe
   No_newlines : IsUtf8 bytes → ¬ (IsBetweenNewlines bytes) → FooterFault extended bytes (InvalidTzFile FooterBetweenNewlines)
   Colon : (text : List ℕ) → HasText bytes text → slice_index text 0 ≡ 58 → FooterFault extended bytes (InvalidTzFile TzTextInFooter)
   Zero : (text : List ℕ) → HasText bytes text → ¬ (HasNoZero text) → FooterFault extended bytes (InvalidTzFile TzTextInFooter)
-  In_text : (text : List ℕ) (e : Error) → HasText bytes text → slice_index text 0 ≢ 58 → HasNoZero text → text ≢ [] → IsTextFault extended text e → FooterFault extended bytes e
+  In_text : (text : List ℕ) (e : Error) → HasText bytes text → slice_index text 0 ≢ 58 → HasNoZero text → text ≢ [] → IsTextFault extended text e
+      → FooterFault extended bytes e

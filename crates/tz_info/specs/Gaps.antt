@@ -12,7 +12,7 @@ pub record ShowsMore (in_force : ℤ → LocalType → Type 0) (local u : ℤ) :
 
 -- No second shows the local time. Of the seconds at which clocks show more, `first` is the least, and t is the type in force at the
 -- second before it.
-pub record IsBeforeGap (in_force : ℤ → LocalType → Type 0) (local : ℤ) (t : LocalType) : Type 0 where
+pub record IsTypeBeforeGap (in_force : ℤ → LocalType → Type 0) (local : ℤ) (t : LocalType) : Type 0 where
   pub never : IsNeverShown (Shows in_force local)
   pub first : ℤ
   pub more : ShowsMore in_force local first

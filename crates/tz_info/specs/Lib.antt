@@ -12,6 +12,7 @@ pub mod WallClocks
 pub mod Gaps
 pub mod Around
 pub mod Changes
+pub mod HeldChanges
 pub mod ChangesLeft
 pub mod Spans
 pub mod ShownSeconds

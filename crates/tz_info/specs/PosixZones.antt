@@ -1,4 +1,4 @@
--- The zones of TZ texts (POSIX.1 section 8.3, "TZ").
+-- The zones of TZ strings (POSIX.1 section 8.3, "TZ").
 use Rattle.std.specs.Prelude.{ℕ, pos, ◌≡◌, ◌≢◌, ◌⊎◌, false, true, List, [], ◌∷◌, Some}
 use Rattle.tz_base.specs.LocalTypes.{LocalType}
 use Rattle.tz_base.specs.declared.error.Error.{Error}

@@ -26,7 +26,8 @@ is_rule_day (MonthWeekday month week weekday) = nat_le 1 month && nat_le month 1
 pub rule_day_from : (form : DayForm) → is_rule_day form ≡ true → IsRuleDay form
 rule_day_from (Julian1 n) h = (grind (arith, nat_tests), grind (arith, nat_tests))
 rule_day_from (Julian0 n) h = grind (arith, nat_tests)
-rule_day_from (MonthWeekday m w d) h = (grind (arith, nat_tests), grind (arith, nat_tests), grind (arith, nat_tests), grind (arith, nat_tests), grind (arith, nat_tests))
+rule_day_from (MonthWeekday m w d) h =
+    (grind (arith, nat_tests), grind (arith, nat_tests), grind (arith, nat_tests), grind (arith, nat_tests), grind (arith, nat_tests))
 
 pub rule_day_to : (form : DayForm) → IsRuleDay form → is_rule_day form ≡ true
 rule_day_to (Julian1 n) h = let a = h.0 in let b = h.1 in grind (arith, nat_tests)
@@ -50,7 +51,7 @@ IsCommonDate n month day =
 
 -- the day of the month has the weekday and lies in the week: week w has the days 7 (w - 1) + 1 to 7 w, and week 5 the
 -- last such weekday of the month
-pub record IsWeekdayOfMonth (year : ℤ) (month week weekday day : ℕ) : Type 0 where
+pub record IsWeekdayInWeek (year : ℤ) (month week weekday day : ℕ) : Type 0 where
   pub date : IsDate year month day
   pub falls : weekday_of (day_number year month day) ≡ weekday
   pub in_week : week < 5 → (7 * (week - 1) + 1 ≤ day) × (day ≤ 7 * week)
@@ -61,7 +62,7 @@ abbrev pub IsDayOf : DayForm → ℤ → ℤ → Type 0
 IsDayOf (Julian1 n) year number = (month : ℕ) × (day : ℕ) × IsCommonDate n month day × (number ≡ day_number year month day)
 IsDayOf (Julian0 n) year number = number ≡ day_number year 1 1 +ℤ pos n
 IsDayOf (MonthWeekday month week weekday) year number =
-    (day : ℕ) × IsWeekdayOfMonth year month week weekday day × (number ≡ day_number year month day)
+    (day : ℕ) × IsWeekdayInWeek year month week weekday day × (number ≡ day_number year month day)
 
 -- the month and the day of the month of a day number in that year; the day after 31 December is written as the 32nd
 abbrev pub IsWrittenDate : ℤ → ℤ → ℕ → ℤ → Type 0

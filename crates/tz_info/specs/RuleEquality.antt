@@ -14,6 +14,7 @@ alternate_eq types days =
     (eq_of_both (on (λ a. a.dst) types) (eq_of_both (on (λ a. a.start) days) (on (λ a. a.end) days)))
 
 -- that test is an equivalence
-pub alternate_eq_equiv : {T : LocalType → LocalType → Bool} {D : DayTime → DayTime → Bool} → IsEquivalence T → IsEquivalence D → IsEquivalence (alternate_eq T D)
+pub alternate_eq_equiv : {T : LocalType → LocalType → Bool} {D : DayTime → DayTime → Bool} → IsEquivalence T → IsEquivalence D
+    → IsEquivalence (alternate_eq T D)
 alternate_eq_equiv t d =
     and_equiv (on_equiv (λ a. a.std) t) (and_equiv (on_equiv (λ a. a.dst) t) (and_equiv (on_equiv (λ a. a.start) d) (on_equiv (λ a. a.end) d)))

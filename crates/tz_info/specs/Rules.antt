@@ -26,14 +26,14 @@ pub record IsAlternate (a : Alternate) : Type 0 where
   pub end_time : IsWithinWeek a.end.time
 
 -- strictly between the number and its negative
-abbrev pub is_between : ℤ → ℤ → Bool
-is_between limit n = int_lt (neg_ℤ limit) n && int_lt n limit
+abbrev pub is_strictly_within : ℤ → ℤ → Bool
+is_strictly_within limit n = int_lt (neg_ℤ limit) n && int_lt n limit
 
 -- what is expected of numbers that are not in these limits: of the offsets, the start and the end the first that is not
 abbrev pub expected_of_alternate : Alternate → Expected
 expected_of_alternate a =
-    if is_between (pos 86_400) a.std.offset && is_between (pos 86_400) a.dst.offset
-    then (if is_between (pos 604_800) a.start.time then EndWithinWeek else StartWithinWeek)
+    if is_strictly_within (pos 86_400) a.std.offset && is_strictly_within (pos 86_400) a.dst.offset
+    then (if is_strictly_within (pos 604_800) a.start.time then EndWithinWeek else StartWithinWeek)
     else OffsetsWithinDay
 
 -- the numbers of an alternate rule, those of its days too, are in their limits

@@ -21,7 +21,6 @@ pub mod FooterReading
 pub mod FileLists
 pub mod Gaps
 pub mod Changes
-pub mod HeldChanges
 pub mod ChangeLists
 pub mod Beside
 pub mod Held

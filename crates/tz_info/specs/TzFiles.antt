@@ -33,7 +33,8 @@ pub data ContentFault (p : FilePieces) : Error → Type 0 where
   In_type : (e : Error) → HasTypeFault p.parts.designations p.parts.types e → ContentFault p e
   In_indicators : (types : List LocalType) → SpellTypes p.parts.designations p.parts.types types → ¬ (IndicatorsAgree p.parts.standard_wall p.parts.ut_local)
       → ContentFault p (InvalidTzFile StandardTimeWhereTimeIsUt)
-  In_footer : (types : List LocalType) (footer : List ℕ) (e : Error) → SpellTypes p.parts.designations p.parts.types types → IndicatorsAgree p.parts.standard_wall p.parts.ut_local
+  In_footer : (types : List LocalType) (footer : List ℕ) (e : Error) → SpellTypes p.parts.designations p.parts.types types
+      → IndicatorsAgree p.parts.standard_wall p.parts.ut_local
       → p.footer ≡ Some footer → FooterFault p.extended footer e → ContentFault p e
 
 -- the first fault of bytes that spell no valid zone: of a piece; else of what the pieces say; else of the lists that they say

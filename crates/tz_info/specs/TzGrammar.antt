@@ -1,4 +1,4 @@
--- TZ texts, stdoffset[dst[offset],start[/time],end[/time]] (POSIX.1 section 8.3, "TZ"), with the extensions of RFC 8536
+-- TZ strings, stdoffset[dst[offset],start[/time],end[/time]] (POSIX.1 section 8.3, "TZ"), with the extensions of RFC 8536
 -- section 3.3.1 where `extended` holds. Each line is a piece of the text, in the order in which it stands there.
 use Rattle.std.specs.Prelude.{ℕ, ℤ, pos, neg_ℤ, ◌+ℤ◌, ◌+◌, ◌*◌, ◌≡◌, ◌≤◌, ◌≤ℤ◌, ◌==◌, nat_le, int_le, Bool, true, false, not, ◌&&◌, ◌||◌, if◌then◌else◌, List}
 use Rattle.std.specs.Prelude.{[], Some}
@@ -92,8 +92,8 @@ hours_minutes_seconds = do
 unfoldable pub sign : Grammar Bool
 sign = Marked plus (Nothing false) (Marked minus (Nothing true) (Nothing false))
 
-abbrev pub seconds_of : Bool → ℕ → ℕ → ℕ → ℤ
-seconds_of negative h m s = if negative then neg_ℤ (pos (3600 * h + 60 * m + s)) else pos (3600 * h + 60 * m + s)
+abbrev pub signed_seconds : Bool → ℕ → ℕ → ℕ → ℤ
+signed_seconds negative h m s = if negative then neg_ℤ (pos (3600 * h + 60 * m + s)) else pos (3600 * h + 60 * m + s)
 
 -- hours up to the limit, minutes and seconds up to 59
 abbrev pub AreWithin : ℕ → ℕ → ℕ → ℕ → Type 0
@@ -115,7 +115,8 @@ within_test limit h m s = record { passes = are_within limit h m s; decides = (w
 unfoldable pub duration : ℕ → Bool → Grammar ℤ
 duration limit negative = do
   (h, m, s) ← hours_minutes_seconds
-  Check (AreWithin limit h m s) (within_test limit h m s) (refused.InvalidTzString expected.HoursMinutesAndSecondsWithinTheirLimits) (seconds_of negative h m s)
+  Check (AreWithin limit h m s) (within_test limit h m s) (refused.InvalidTzString expected.HoursMinutesAndSecondsWithinTheirLimits)
+      (signed_seconds negative h m s)
 
 -- an offset, in seconds east of UTC: a text counts west, and so a minus leads east; its hours go to 23 (POSIX allows 24)
 unfoldable pub offset : Grammar ℤ
@@ -150,8 +151,8 @@ unfoldable pub name : Grammar (List ℕ)
 name = Marked less quoted (Run is_letter)
 
 -- ---- dates
-unfoldable pub rule_day : DayForm → Grammar DayForm
-rule_day form = Check (IsRuleDay form) (rule_day_test form) (refused.TransitionRule (expected_of_day form)) form
+unfoldable pub checked_day : DayForm → Grammar DayForm
+checked_day form = Check (IsRuleDay form) (rule_day_test form) (refused.TransitionRule (expected_of_day form)) form
 
 -- after `M`: month, week and weekday
 unfoldable pub month_date : Grammar DayForm
@@ -161,22 +162,22 @@ month_date = do
   week ← Number date_max
   Byte dot
   weekday ← Number date_max
-  rule_day (MonthWeekday month week weekday)
+  checked_day (MonthWeekday month week weekday)
 
 -- after `J`: the day of a common year
 unfoldable pub julian_date : Grammar DayForm
 julian_date = do
   n ← Number day_max
-  rule_day (Julian1 n)
+  checked_day (Julian1 n)
 
 -- the days after 1 January
-unfoldable pub day_number : Grammar DayForm
-day_number = do
+unfoldable pub numbered_day : Grammar DayForm
+numbered_day = do
   n ← Number day_max
-  rule_day (Julian0 n)
+  checked_day (Julian0 n)
 
 unfoldable pub date : Grammar DayForm
-date = Marked letter_M month_date (Marked letter_J julian_date day_number)
+date = Marked letter_M month_date (Marked letter_J julian_date numbered_day)
 
 -- the time is 2 o'clock where it is left out
 unfoldable pub optional_time : Bool → Grammar ℤ
@@ -268,10 +269,10 @@ text extended = do
   std_offset ← offset
   rule extended std_name std_offset
 
--- the bytes are a TZ text, with extensions or without, that spells the rule
+-- the bytes are a TZ string, with extensions or without, that spells the rule
 abbrev pub IsTzText : Bool → List ℕ → TransitionRule → Type 0
 IsTzText extended bytes rule = Spells (text extended) bytes rule []
 
--- what is wrong with a TZ text
+-- what is wrong with a TZ string
 abbrev pub IsTextFault : Bool → List ℕ → Error → Type 0
 IsTextFault extended bytes e = HasFault (text extended) bytes e

@@ -43,18 +43,18 @@ pub record ListedAmong (z : Zone) (low high : ℕ) (local u : ℤ) (index : ℕ)
   pub listed : HasType z index local_type
 
 -- the wall clock's answer, by indexes of types
-abbrev pub wall_of : Shown → LocalResult ℕ
-wall_of (Less before) = None
-wall_of (Skipped jump) = None
-wall_of (Once i) = Single i
-wall_of (Several i j) = Ambiguous i j
+abbrev pub shown_indexes : Shown → LocalResult ℕ
+shown_indexes (Less before) = None
+shown_indexes (Skipped jump) = None
+shown_indexes (Once i) = Single i
+shown_indexes (Several i j) = Ambiguous i j
 
 -- at each near second of the segments from `low` on and before `high` clocks show less than the local time
 abbrev pub AreLessAmong : Zone → ℕ → ℕ → ℤ → Type 0
 AreLessAmong z low high local = (u : ℤ) (t : LocalType) → IsNear u → low ≤ segment_of z u → segment_of z u < high → TypeAt z u t → (u +ℤ t.offset) <ℤ local
 
 -- the near second u is the last that lies before the segment at that place
-pub record IsLastBefore (z : Zone) (place : ℕ) (u : ℤ) : Type 0 where
+pub record IsLastSecondBefore (z : Zone) (place : ℕ) (u : ℤ) : Type 0 where
   pub near : IsNear u
   pub near_next : IsNear (u +ℤ pos 1)
   pub before : segment_of z u < place
@@ -63,7 +63,7 @@ pub record IsLastBefore (z : Zone) (place : ℕ) (u : ℤ) : Type 0 where
 -- the type at the last second before the segment at that place has the index
 pub record IsTypeBefore (z : Zone) (place index : ℕ) : Type 0 where
   pub below : index < length z.types
-  pub type : (u : ℤ) (t : LocalType) → IsLastBefore z place u → TypeAt z u t → HasType z index t
+  pub type : (u : ℤ) (t : LocalType) → IsLastSecondBefore z place u → TypeAt z u t → HasType z index t
 
 -- where the segment at the jump's place begins, clocks jump over the local time: at the seconds of the segments from `low` on and before it they show less, and at
 -- its first second they show more
@@ -74,8 +74,8 @@ pub record Jumps (z : Zone) (low high : ℕ) (local : ℤ) (jump : Jump) : Type 
   pub seen : ℤ
   pub near : IsNear seen
   pub later : segment_of z seen < jump.place
-  pub first : (u : ℤ) → IsLastBefore z jump.place u → segment_of z (u +ℤ pos 1) ≡ jump.place
-  pub more : (u : ℤ) (t : LocalType) → IsLastBefore z jump.place u → TypeAt z (u +ℤ pos 1) t → local <ℤ ((u +ℤ pos 1) +ℤ t.offset)
+  pub first : (u : ℤ) → IsLastSecondBefore z jump.place u → segment_of z (u +ℤ pos 1) ≡ jump.place
+  pub more : (u : ℤ) (t : LocalType) → IsLastSecondBefore z jump.place u → TypeAt z (u +ℤ pos 1) t → local <ℤ ((u +ℤ pos 1) +ℤ t.offset)
   pub before : IsTypeBefore z jump.place jump.before
 
 -- on which side of a local time that they do not show the segments from `low` on and before `high` are, or where in them it is jumped over
@@ -87,7 +87,7 @@ IsSideAmong z low high local (Several i j) = Unit {0}
 
 -- what clocks show of the local time in the segments from `low` on and before `high`
 pub record IsShownAmong (z : Zone) (low high : ℕ) (local : ℤ) (shown : Shown) : Type 0 where
-  pub wall : IsWallAnswer (ListedAmong z low high local) (wall_of shown)
+  pub wall : IsWallAnswer (ListedAmong z low high local) (shown_indexes shown)
   pub side : IsSideAmong z low high local shown
 
 -- of the seconds near now, `count` transitions have come if and only if the second is `start` or later

@@ -28,8 +28,8 @@ pub record IsLeast (xs : List ℤ) (g : ℤ) : Type 0 where
   pub fewest : All (λ x. g ≤ℤ x) xs
 
 -- the transitions after the one leap time that are not after the other
-abbrev pub between : List Transition → ℤ → ℤ → List Transition
-between transitions low high = filter (λ t. int_lt low t.unix_leap_time && int_le t.unix_leap_time high) transitions
+abbrev pub come_between : List Transition → ℤ → ℤ → List Transition
+come_between transitions low high = filter (λ t. int_lt low t.unix_leap_time && int_le t.unix_leap_time high) transitions
 
 -- the leap times of the local time less the greatest offset, and less the least
 pub record IsWindow (z : Zone) (local low high : ℤ) : Type 0 where
@@ -45,4 +45,4 @@ pub record IsWindowCount (z : Zone) (local : ℤ) (k : ℕ) : Type 0 where
   pub low : ℤ
   pub high : ℤ
   pub window : IsWindow z local low high
-  pub count : k ≡ length (between z.transitions low high)
+  pub count : k ≡ length (come_between z.transitions low high)

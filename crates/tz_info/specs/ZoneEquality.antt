@@ -19,7 +19,8 @@ zone_eq transitions types leaps rules =
     (eq_of_both (on (λ z. z.leaps) (pointwise leaps)) (on (λ z. z.rule) (option_eq rules))))
 
 -- that test is an equivalence
-pub zone_eq_equiv : {T : Transition → Transition → Bool} {L : LocalType → LocalType → Bool} {S : LeapSecond → LeapSecond → Bool} {R : TransitionRule → TransitionRule → Bool} → IsEquivalence T → IsEquivalence L → IsEquivalence S → IsEquivalence R → IsEquivalence (zone_eq T L S R)
+pub zone_eq_equiv : {T : Transition → Transition → Bool} {L : LocalType → LocalType → Bool} {S : LeapSecond → LeapSecond → Bool}
+    {R : TransitionRule → TransitionRule → Bool} → IsEquivalence T → IsEquivalence L → IsEquivalence S → IsEquivalence R → IsEquivalence (zone_eq T L S R)
 zone_eq_equiv t l s r =
     and_equiv (on_equiv (λ z. z.transitions) (lists_equiv t))
     (and_equiv (on_equiv (λ z. z.types) (lists_equiv l))

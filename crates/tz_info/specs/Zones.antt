@@ -13,7 +13,7 @@ use Rattle.tz_info.specs.declared.rule.transition_rule.TransitionRule.{Transitio
 use Rattle.tz_info.specs.declared.zone.leap_second.LeapSecond.{LeapSecond}
 use Rattle.tz_info.specs.declared.zone.transition.Transition.{Transition}
 
--- what a zone shows: its transitions, its types of local time, its leap seconds, and the rule of its TZ text if it has one
+-- what a zone shows: its transitions, its types of local time, its leap seconds, and the rule of its TZ string if it has one
 pub record Zone : Type 0 where
   pub transitions : List Transition
   pub types : List LocalType

@@ -1,22 +1,27 @@
 //! Changes of the clocks, made of two types, and chosen by their seconds.
 
-ghost use Rattle.std.specs.Prelude.{◌≡◌, ◌≢◌, ◌≤ℤ◌, ◌<ℤ◌, IsTrue, ◌↔◌, IfSome, MatchOption, Some};
-ghost use Rattle.tz_info.specs.Steps.HeldChanges.{change_held};
+ghost use Rattle.std.specs.Prelude.{◌≡◌, ◌≢◌, IsTrue, ◌↔◌, IfSome, MatchOption, Some, option_map};
+ghost use Rattle.tz_info.specs.HeldChanges.{change_held};
+ghost use Rattle.tz_info.specs.Steps.Changes.{IsInStretch};
 
 use tz_base::{Change, LocalTimeType};
 
-// A clock change with references to the types that the zone holds.
+/// A clock change with references to the types that the zone holds: a [`Change`] without a copy of
+/// them.
 #[derive(Clone, Copy)]
-pub(crate) struct HeldChange<'a> {
-    pub(crate) at: i64,
-    pub(crate) before: &'a LocalTimeType,
-    pub(crate) after: &'a LocalTimeType,
+pub struct HeldChange<'a> {
+    /// The first second at which the new type is in force, as a Unix time.
+    pub at: i64,
+    /// The type in force at the second before.
+    pub before: &'a LocalTimeType,
+    /// The type in force at that second.
+    pub after: &'a LocalTimeType,
 }
 
 impl HeldChange<'_> {
-    // The change with the types themselves.
+    /// The change with the types themselves.
     #[inline(always)]
-    pub(crate) fn copied(self) -> Change
+    pub fn copied(self) -> Change
         ensures { result ≡ change_held self.entry }
     {
         Change {
@@ -28,35 +33,44 @@ impl HeldChange<'_> {
 }
 
 // The change at that second, if the types differ.
-pub(crate) fn change_between(at: i64, before: LocalTimeType, after: LocalTimeType) -> Option<Change>
-    ensures { MatchOption result (before ≡ after) (λ c. (before ≢ after)
-        × (c ≡ record { at = at; before = before; after = after })) }
+pub(crate) fn change_between<'a>(
+    at: i64,
+    before: &'a LocalTimeType,
+    after: &'a LocalTimeType,
+) -> Option<HeldChange<'a>>
+    ensures { MatchOption (option_map change_held result) (before.now ≡ after.now)
+        (λ c. (before.now ≢ after.now)
+        × (c ≡ record { at = at; before = before.now; after = after.now })) }
 {
-    if is_same_type(&before, &after) {
+    if is_same_type(before, after) {
         return None;
     }
-    Some(Change { at, before, after })
+    Some(HeldChange { at, before, after })
 }
 
-// The change, if it comes at that second or later.
-pub(crate) fn if_from(change: Change, second: i64) -> Option<Change>
-    ensures { MatchOption result (change.at <ℤ second) (λ c. (second ≤ℤ change.at) × (c ≡ change)) }
+// The changes with the types themselves.
+pub(crate) fn copied(change: Option<HeldChange<'_>>) -> Option<Change>
+    ensures { result ≡ option_map change_held change.entry }
 {
-    if change.at < second {
-        None
-    } else {
-        Some(change)
+    match change {
+        Some(change) => Some(change.copied()),
+        None => None,
     }
 }
 
-// The change, if it comes before that second.
-pub(crate) fn if_before(change: Change, second: i64) -> Option<Change>
-    ensures { MatchOption result (second ≤ℤ change.at) (λ c. (change.at <ℤ second) × (c ≡ change)) }
+// The change that was found, if it comes after that second, and up to `last`.
+pub(crate) fn if_within(found: Option<HeldChange<'_>>, after: i64, last: i64) -> Option<Change>
+    ensures { MatchOption result
+        (IfSome (option_map change_held found.entry) (λ c. ¬ (IsInStretch after last c.at)))
+        (λ c. IsInStretch after last c.at × (option_map change_held found.entry ≡ Some c)) }
 {
-    if second <= change.at {
-        None
+    let Some(change) = found else {
+        return None;
+    };
+    if after < change.at && change.at <= last {
+        Some(change.copied())
     } else {
-        Some(change)
+        None
     }
 }
 

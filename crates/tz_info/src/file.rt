@@ -58,7 +58,7 @@ impl TimeZone {
             → MatchResult result (λ y. y ≡ z) (λ e. e ≡ OutOfMemory) }
         // An error is the first fault of the file, or says that memory ran out.
         ensures fault { IfErr result (λ e. IsZoneFault bytes.now e) }
-        // A file with a fault is refused by its first one, unless memory runs out.
+        // A file with a fault is rejected by its first one, unless memory runs out.
         ensures first { (fault : Fault) → IsFileFault bytes.now fault
             → IsErrAnd result (λ e. (e ≡ fault) ⊎ IsOutOfMemory e) }
         // Running out of memory is answered only where every piece of the file is there.

@@ -8,11 +8,12 @@ mod day_places;
 mod kinds;
 mod next_moment;
 pub(crate) mod reader;
+mod season;
 mod transition_rule;
 mod wall_clock;
 mod years;
 
 pub use alternate::AlternateTime;
-pub(crate) use alternate::Season;
 pub use day::{DayForm, RuleDay};
+pub(crate) use season::Season;
 pub use transition_rule::TransitionRule;

@@ -7,6 +7,7 @@ mod extremes;
 mod gap;
 mod idle;
 mod index;
+mod kept;
 mod leap_second;
 mod leap_time;
 mod lookup;

@@ -1,9 +1,9 @@
 -- What hints say of a search.
 use Rattle.tz_timeline.proofs.Words.{AreEnds, AreFilled, AreHints, AreMarked, AreOrdered, AreRaised, AreRaisedUntil, Ends, Hints, IsHinted, IsLastBefore}
-use Rattle.tz_timeline.proofs.Words.{IsNear, List, Near, ap, arith, cases_eq, cases_lt, div-lt_iff_lt-mul, div-mul-le_self, get_or-set_at, get_or-set_other}
-use Rattle.tz_timeline.proofs.Words.{inl, inr, ints, length, length-set, lt-suc_self, max, mul-le-mul_right, nat_abs, nat_cmp, negsuc, ord_max, pos, pow_pos}
-use Rattle.tz_timeline.proofs.Words.{refl, set, shr_mono, slice_index, stretch_of, suc, sym, time_at, ℕ, ℤ, ◌*◌, ◌+ℤ◌, ◌+◌, ◌-ℤ◌, ◌-◌, ◌/◌, ◌<ℤ◌, ◌<◌, ◌^◌, ◌∙◌}
-use Rattle.tz_timeline.proofs.Words.{◌≡◌, ◌≢◌, ◌≤ℤ◌, ◌≤◌, ◌⊎◌}
+use Rattle.tz_timeline.proofs.Words.{IsNarrowedTo, List, Near, ap, arith, cases_eq, cases_lt, div-lt_iff_lt-mul, div-mul-le_self, get_or-set_at}
+use Rattle.tz_timeline.proofs.Words.{get_or-set_other, inl, inr, ints, item_time, length, length-set, lt-suc_self, max, mul-le-mul_right, nat_abs, nat_cmp}
+use Rattle.tz_timeline.proofs.Words.{negsuc, ord_max, pos, pow_pos, refl, set, shr_mono, slice_index, stretch_of, suc, sym, ℕ, ℤ, ◌*◌, ◌+ℤ◌, ◌+◌, ◌-ℤ◌, ◌-◌}
+use Rattle.tz_timeline.proofs.Words.{◌/◌, ◌<ℤ◌, ◌<◌, ◌^◌, ◌∙◌, ◌≡◌, ◌≢◌, ◌≤ℤ◌, ◌≤◌, ◌⊎◌}
 use Rattle.tz_timeline.proofs.SearchSteps.{not_before}
 
 -- the seconds of a stretch
@@ -15,7 +15,8 @@ before_next n m h = (div-lt_iff_lt-mul h).0 (lt-suc_self (n / m))
 
 -- the latest item is one of those of the hint
 pub near_hinted : (times : List ℤ) (v : ℤ) (hints : Hints) (ends : Ends) (seconds : ℕ) (near : Near) → AreOrdered times → length times < 2 ^ 64 → 0 < length times → AreEnds times ends → AreHints times hints
-    → ends.first ≤ℤ v → pos seconds ≡ v -ℤ ends.first → 0 < 2 ^ hints.shift → IsHinted hints.places.items (seconds / 2 ^ hints.shift) near → IsNear times v near
+    → ends.first ≤ℤ v → pos seconds ≡ v -ℤ ends.first → 0 < 2 ^ hints.shift → IsHinted hints.places.items (seconds / 2 ^ hints.shift) near
+    → IsNarrowedTo times v near
 near_hinted times v hints ends seconds near ordered fits some are h from is positive hinted =
     let m : ℕ = 2 ^ hints.shift in
     let b : ℕ = seconds / m in
@@ -58,17 +59,17 @@ stretch_most first time last span shift h k e =
     shr_mono {a = nat_abs (time -ℤ first)} {b = span} shift (omega (arith, ints))
 
 -- no item comes before the first, and none lies in a stretch behind that of the last
-pub first_least : (times : List ℤ) (first : ℤ) (k : ℕ) → AreOrdered times → first ≡ time_at times 0 → k < length times → first ≤ℤ time_at times k
+pub first_least : (times : List ℤ) (first : ℤ) (k : ℕ) → AreOrdered times → first ≡ item_time times 0 → k < length times → first ≤ℤ item_time times k
 first_least times first k ordered from l = let low = not_before times 0 k ordered (omega arith) l in omega (arith, ints)
 
-pub slots : (times : List ℤ) (first : ℤ) (span shift k : ℕ) → AreOrdered times → first ≡ time_at times 0 → pos span ≡ time_at times (length times - 1) -ℤ first → k < length times → stretch_of first (time_at times k) shift ≤ span / 2 ^ shift
+pub slots : (times : List ℤ) (first : ℤ) (span shift k : ℕ) → AreOrdered times → first ≡ item_time times 0 → pos span ≡ item_time times (length times - 1) -ℤ first → k < length times → stretch_of first (item_time times k) shift ≤ span / 2 ^ shift
 slots times first span shift k ordered from is l =
     let high = not_before times k (length times - 1) ordered (omega arith) (omega arith) in
-    stretch_most first (time_at times k) (time_at times (length times - 1)) span shift (first_least times first k ordered from l) high is
+    stretch_most first (item_time times k) (item_time times (length times - 1)) span shift (first_least times first k ordered from l) high is
 
 -- the last item noted up to a stretch is the last one before it
-pub last_before : (times : List ℤ) (first : ℤ) (shift : ℕ) (marked raised : List ℕ) (most b : ℕ) → 0 < 2 ^ shift → ((k : ℕ) → k < length times → first ≤ℤ time_at times k)
-    → ((k : ℕ) → k < length times → suc (stretch_of first (time_at times k) shift) < length marked) → 0 < length times
+pub last_before : (times : List ℤ) (first : ℤ) (shift : ℕ) (marked raised : List ℕ) (most b : ℕ) → 0 < 2 ^ shift → ((k : ℕ) → k < length times → first ≤ℤ item_time times k)
+    → ((k : ℕ) → k < length times → suc (stretch_of first (item_time times k) shift) < length marked) → 0 < length times
     → AreMarked times first shift (length times) marked → AreRaised marked raised most → b < length marked → IsLastBefore times (first +ℤ pos (b * 2 ^ shift)) (slice_index raised b)
 last_before times first shift marked raised most b positive from room some m r h =
     let m2 : ℕ = 2 ^ shift in
@@ -87,15 +88,16 @@ last_before times first shift marked raised most b positive from room some m r h
         | inr i ↦
             let below = i.0 in
             let at = from (slice_index marked j) below in
-            let next = before_next (nat_abs (time_at times (slice_index marked j) -ℤ first)) m2 positive in
-            rw same (early (time_at times (slice_index marked j)) first m2 (stretch_of first (time_at times (slice_index marked j)) shift) j b at next i.1 j_le)
+            let next = before_next (nat_abs (item_time times (slice_index marked j) -ℤ first)) m2 positive in
+            rw same (early (item_time times (slice_index marked j)) first m2 (stretch_of first (item_time times (slice_index marked j)) shift) j b at next i.1
+            j_le)
       ];
       behind = λ k l n.
           let noted = m.latest k n in
           let to = room k n in
-          elim (cases_lt (stretch_of first (time_at times k) shift) b) [
-            | inl lt ↦ let a = r.above b (suc (stretch_of first (time_at times k) shift)) h lt in absurd (omega arith)
-            | inr ge ↦ late (time_at times k) first m2 b (from k n) (from_stretch (nat_abs (time_at times k -ℤ first)) m2) (omega arith)
+          elim (cases_lt (stretch_of first (item_time times k) shift) b) [
+            | inl lt ↦ let a = r.above b (suc (stretch_of first (item_time times k) shift)) h lt in absurd (omega arith)
+            | inr ge ↦ late (item_time times k) first m2 b (from k n) (from_stretch (nat_abs (item_time times k -ℤ first)) m2) (omega arith)
           ];
     } where
       early : (time first : ℤ) (m s j b : ℕ) → first ≤ℤ time → nat_abs (time -ℤ first) < suc s * m → suc s ≡ j → j ≤ b → time <ℤ (first +ℤ pos (b * m))
@@ -105,7 +107,7 @@ last_before times first shift marked raised most b positive from room some m r h
       late time first m b h le ge = let size = size_of_rise first time h in let more = mul-le-mul_right m ge in omega (arith, ints)
 
 -- one item more is noted
-pub marked_more : (times : List ℤ) (first : ℤ) (shift n stretch : ℕ) (places : List ℕ) → AreMarked times first shift n places → stretch ≡ stretch_of first (time_at times n) shift → stretch + 1 < length places → AreMarked times first shift (n + 1) (set places (stretch + 1) n)
+pub marked_more : (times : List ℤ) (first : ℤ) (shift n stretch : ℕ) (places : List ℕ) → AreMarked times first shift n places → stretch ≡ stretch_of first (item_time times n) shift → stretch + 1 < length places → AreMarked times first shift (n + 1) (set places (stretch + 1) n)
 marked_more times first shift n stretch places m e h =
     let long = length-set places (stretch + 1) n in
     record {
@@ -118,7 +120,7 @@ marked_more times first shift n stretch places m e h =
           | inr i ↦ let below = i.0 in inr (omega arith, rw here i.1)
         ]
       ];
-      latest = λ k l. let slot : ℕ = suc (stretch_of first (time_at times k) shift) in elim (cases_eq slot (stretch + 1)) [
+      latest = λ k l. let slot : ℕ = suc (stretch_of first (item_time times k) shift) in elim (cases_eq slot (stretch + 1)) [
         | inl same ↦ let here = get_or-set_at places (stretch + 1) slot n 0 same h in omega arith
         | inr other ↦ let here = get_or-set_other places (stretch + 1) slot n 0 other in elim (cases_lt k n) [
           | inl m2 ↦ let old = m.latest k m2 in omega arith
@@ -193,7 +195,7 @@ raising_more before after most most_after greatest n here r h is_here is_most =
     }
 
 -- the hints at items, by the places that were filled in
-pub hints_made : (times : List ℤ) (hints : Hints) (first : ℤ) (span most : ℕ) (before : List ℕ) → AreOrdered times → 4 ≤ length times → hints.shift < 64 → first ≡ time_at times 0 → pos span ≡ time_at times (length times - 1) -ℤ first
+pub hints_made : (times : List ℤ) (hints : Hints) (first : ℤ) (span most : ℕ) (before : List ℕ) → AreOrdered times → 4 ≤ length times → hints.shift < 64 → first ≡ item_time times 0 → pos span ≡ item_time times (length times - 1) -ℤ first
     → length before ≡ span / 2 ^ hints.shift + 2 → AreFilled times first hints.shift before hints.places.items most → 2 * (most + 1) ≤ length times → AreHints times hints
 hints_made times hints first span most before ordered many shift from is long filled narrow =
     let r = filled.are_raised in

@@ -1,12 +1,12 @@
 -- What each step of a search among items in order of time keeps.
-use Rattle.tz_timeline.proofs.Words.{AreEnds, AreOrdered, ArePassed, Ends, IsLeft, IsNear, List, Near, ap, arith, cases_lt, digits, filter, get_or, inl, inr}
-use Rattle.tz_timeline.proofs.Words.{int_le, ints, length, length-map, map, pos, refl, suc, sym, take, time_at, zero, ℕ, ℤ, ◌*◌, ◌+◌, ◌-◌, ◌/◌, ◌<ℤ◌, ◌<◌, ◌^◌}
-use Rattle.tz_timeline.proofs.Words.{◌∙◌, ◌≡◌, ◌≤ℤ◌, ◌≤◌}
+use Rattle.tz_timeline.proofs.Words.{AreEnds, AreOrdered, ArePassed, Ends, IsLeft, IsNarrowedTo, List, Near, ap, arith, cases_lt, digits, filter, get_or, inl}
+use Rattle.tz_timeline.proofs.Words.{inr, int_le, ints, item_time, length, length-map, map, pos, refl, suc, sym, take, zero, ℕ, ℤ, ◌*◌, ◌+◌, ◌-◌, ◌/◌, ◌<ℤ◌}
+use Rattle.tz_timeline.proofs.Words.{◌<◌, ◌^◌, ◌∙◌, ◌≡◌, ◌≤ℤ◌, ◌≤◌}
 use Rattle.tz_timeline.proofs.DigitLaws.{digits-half, digits-less, digits-more}
 use Rattle.tz_timeline.proofs.Prefixes.{filter_first, le_false, le_true, mapped_at}
 
 -- the time of an item that was read
-pub time_read : {A : Type 0} (time : A → ℤ) (items : List A) (place : ℕ) (x : A) → place < length items → x ≡ get_or items place x → time x ≡ time_at (map time items) place
+pub time_read : {A : Type 0} (time : A → ℤ) (items : List A) (place : ℕ) (x : A) → place < length items → x ≡ get_or items place x → time x ≡ item_time (map time items) place
 time_read time items place x h e = ap time e ∙ sym (mapped_at time items place x (pos 0) h)
 
 -- the times of items in order come in order
@@ -30,7 +30,7 @@ first_come {A = A} time items v n come =
     (λ k d l m. let e = mapped_at time items k d (pos 0) m in le_false _ v (rw e at (come.behind k l (omega arith))))
 
 -- no time comes before an earlier one
-pub not_before : (times : List ℤ) (i k : ℕ) → AreOrdered times → i ≤ k → k < length times → time_at times i ≤ℤ time_at times k
+pub not_before : (times : List ℤ) (i k : ℕ) → AreOrdered times → i ≤ k → k < length times → item_time times i ≤ℤ item_time times k
 not_before times i k ordered h l = elim (cases_lt i k) [
   | inl m ↦ ordered i k (pos 0) m l
   | inr g ↦ let e : i ≡ k = omega arith in rw e (omega (arith, ints))
@@ -70,7 +70,7 @@ all_left times v ends ordered fits some are lt =
     }
 
 -- a look at one that has come
-pub left_later : (times : List ℤ) (v : ℤ) (first middle high : ℕ) → IsLeft times v first high → middle < high → time_at times middle ≤ℤ v → IsLeft times v (middle + 1) high
+pub left_later : (times : List ℤ) (v : ℤ) (first middle high : ℕ) → IsLeft times v first high → middle < high → item_time times middle ≤ℤ v → IsLeft times v (middle + 1) high
 left_later times v first middle high left h le = let w = left.within in record {
   ordered = left.ordered;
   rising = omega arith;
@@ -81,7 +81,7 @@ left_later times v first middle high left h le = let w = left.within in record {
 }
 
 -- and at one that has not
-pub left_earlier : (times : List ℤ) (v : ℤ) (first middle high : ℕ) → IsLeft times v first high → first ≤ middle → middle < high → v <ℤ time_at times middle → IsLeft times v first middle
+pub left_earlier : (times : List ℤ) (v : ℤ) (first middle high : ℕ) → IsLeft times v first high → first ≤ middle → middle < high → v <ℤ item_time times middle → IsLeft times v first middle
 left_earlier times v first middle high left h l lt = let w = left.within in record {
   ordered = left.ordered;
   rising = h;
@@ -92,7 +92,7 @@ left_earlier times v first middle high left h l lt = let w = left.within in reco
 }
 
 -- the same among neighbours, the first of which has come
-pub near_later : (times : List ℤ) (v : ℤ) (near after : Near) → IsNear times v near → near.first ≤ after.first → after.first < near.first + near.count → after.first + after.count ≡ near.first + near.count → time_at times after.first ≤ℤ v → IsNear times v after
+pub near_later : (times : List ℤ) (v : ℤ) (near after : Near) → IsNarrowedTo times v near → near.first ≤ after.first → after.first < near.first + near.count → after.first + after.count ≡ near.first + near.count → item_time times after.first ≤ℤ v → IsNarrowedTo times v after
 near_later times v near after n h l e le = let w = n.within in record {
   ordered = n.ordered;
   some = omega arith;
@@ -102,7 +102,7 @@ near_later times v near after n h l e le = let w = n.within in record {
   behind = λ k m o. n.behind k (omega arith) o;
 }
 
-pub near_earlier : (times : List ℤ) (v : ℤ) (near after : Near) (middle : ℕ) → IsNear times v near → after.first ≡ near.first → 0 < after.count → middle ≤ after.first + after.count → middle < near.first + near.count → after.first + after.count ≤ near.first + near.count → v <ℤ time_at times middle → IsNear times v after
+pub near_earlier : (times : List ℤ) (v : ℤ) (near after : Near) (middle : ℕ) → IsNarrowedTo times v near → after.first ≡ near.first → 0 < after.count → middle ≤ after.first + after.count → middle < near.first + near.count → after.first + after.count ≤ near.first + near.count → v <ℤ item_time times middle → IsNarrowedTo times v after
 near_earlier times v near after middle n e some m l h lt = let w = n.within in record {
   ordered = n.ordered;
   some = some;
@@ -112,7 +112,7 @@ near_earlier times v near after middle n e some m l h lt = let w = n.within in r
   behind = λ k a b. let o = not_before times middle k n.ordered (omega arith) b in omega (arith, ints);
 }
 
-pub near_one : (times : List ℤ) (v : ℤ) (near : Near) → near.count ≤ 1 → IsNear times v near → ArePassed times v (near.first + 1)
+pub near_one : (times : List ℤ) (v : ℤ) (near : Near) → near.count ≤ 1 → IsNarrowedTo times v near → ArePassed times v (near.first + 1)
 near_one times v near h n = let w = n.within in let s = n.some in record {
   within = omega arith;
   before = λ k l. let m = not_before times k near.first n.ordered (omega arith) (omega arith) in let c = n.come in omega (arith, ints);

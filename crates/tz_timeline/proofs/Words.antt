@@ -17,9 +17,9 @@ pub use mir.Val.{SFits}
 pub use Rattle.tz_timeline.specs.Counts.{Counts}
 pub use Rattle.tz_timeline.specs.Digits.{digits_within}
 unfoldable pub use Rattle.tz_timeline.specs.Digits.{digits}
-pub use Rattle.tz_timeline.specs.Search.{AreOrdered, ArePassed, IsLastOf, time_at}
+pub use Rattle.tz_timeline.specs.Search.{AreOrdered, ArePassed, IsLastOf, item_time}
 pub use Rattle.tz_timeline.specs.Steps.Hints.{AreFilled, AreHints, AreMarked, AreRaised, AreRaisedUntil, IsHinted, IsLastBefore, stretch_of}
-pub use Rattle.tz_timeline.specs.Steps.Search.{AreEnds, IsLeft, IsNear}
+pub use Rattle.tz_timeline.specs.Steps.Search.{AreEnds, IsLeft, IsNarrowedTo}
 pub use Rattle.tz_timeline.specs.declared.hints.Hints.{Hints}
 pub use Rattle.tz_timeline.specs.declared.hints.Near.{Near}
 pub use Rattle.tz_timeline.specs.declared.timeline.Ends.{Ends}

@@ -7,14 +7,14 @@ abbrev pub AreOrdered : List ℤ → Type 0
 AreOrdered times = AllPairs (λ a b. a ≤ℤ b) times
 
 -- the time at that place
-abbrev pub time_at : List ℤ → ℕ → ℤ
-time_at times place = slice_index_or times place (pos 0)
+abbrev pub item_time : List ℤ → ℕ → ℤ
+item_time times place = slice_index_or times place (pos 0)
 
 -- the first `count` come at or before v, the others after it
 pub record ArePassed (times : List ℤ) (v : ℤ) (count : ℕ) : Type 0 where
   pub within : count ≤ length times
-  pub before : (k : ℕ) → k < count → time_at times k ≤ℤ v
-  pub behind : (k : ℕ) → count ≤ k → k < length times → v <ℤ time_at times k
+  pub before : (k : ℕ) → k < count → item_time times k ≤ℤ v
+  pub behind : (k : ℕ) → count ≤ k → k < length times → v <ℤ item_time times k
 
 -- the last of the first `count` items
 pub record IsLastOf {A : Type 0} (items : List A) (count : ℕ) (last : Option A) : Type 0 where
@@ -22,7 +22,7 @@ pub record IsLastOf {A : Type 0} (items : List A) (count : ℕ) (last : Option A
   pub some : 0 < count → (x : A) × (last ≡ Some x) × (x ≡ slice_index_or items (count - 1) x)
 
 -- so many looks were counted, at most `most`
-pub record AreCounted (counted : Counts → ℕ → Counts) (before after : Counts) (most : ℕ) : Type 0 where
+pub record AreProbesCounted (counted : Counts → ℕ → Counts) (before after : Counts) (most : ℕ) : Type 0 where
   pub looks : ℕ
   pub some : 0 < looks
   pub within : looks ≤ most

@@ -1,16 +1,22 @@
 //! Hints at the places of items that come in order of time.
 //!
 //! The time from the first item on is cut into stretches of equal length, one for each item or for
-//! two of them, and of each stretch a hint says which item is the last one before it. The latest item at a
-//! second of a stretch is then the one of its hint, or one of the few up to that of the next hint.
+//! two of them, or in a long list for up to four, and of each stretch a hint says which item is the
+//! last one before it. The latest item at a second of a stretch is then the one of its hint, or one
+//! of the few up to that of the next hint.
 
-ghost use Rattle.std.specs.Prelude.{◌≡◌, ◌+◌, ◌*◌, ◌/◌, ◌^◌, ◌<◌, ◌≤◌, ◌≤ℤ◌, ◌-ℤ◌, pos, suc, length, map, List, ℤ, ℕ, slice_index, MatchOption, MatchResult, ⊤};
-ghost use Rattle.tz_timeline.specs.Steps.Hints.{AreFilled, AreHints, AreMarked, AreRaised, AreRising, IsHinted, stretch_of};
-ghost use Rattle.tz_timeline.specs.Search.{AreOrdered, time_at};
+ghost use Rattle.std.specs.Prelude.{◌≡◌, ◌+◌, ◌*◌, ◌/◌, ◌^◌, ◌<◌, ◌≤◌, ◌≤ℤ◌, ◌-ℤ◌, pos, suc, length, map, List, ℤ, ℕ};
+ghost use Rattle.std.specs.Prelude.{slice_index, MatchOption, MatchResult, ⊤};
+ghost use Rattle.tz_timeline.specs.Steps.Hints.{AreFilled, AreHints, AreMarked, AreNonDecreasing, AreRaised, IsHinted};
+ghost use Rattle.tz_timeline.specs.Steps.Hints.{stretch_of};
+ghost use Rattle.tz_timeline.specs.Search.{AreOrdered, item_time};
 
 use crate::timeline::Timed;
 use std::alloc::{AllocError, Global};
 use std::cmp::max;
+
+// A longer list has a stretch for two to four items, so that its hints take half as much memory.
+const LONG: usize = 65_536;
 
 // The place of the last item before each stretch, or of the first item where none comes before it.
 // There are no hints where they would leave more than half of the items between two of them, or
@@ -51,7 +57,7 @@ impl Hints {
         }
         let first = items[0].second();
         let span = seconds_between(first, items[count - 1].second());
-        let shift = shift_for(span, count as u64);
+        let shift = shift_for(span, most_stretches(count));
         let mut places = vec![in alloc; 0; (span >> shift) as usize + 2]?;
         let most = fill(&mut places, items, first, shift);
         if 2 * (most as usize + 1) > count {
@@ -60,12 +66,12 @@ impl Hints {
         Ok(Hints { places, shift })
     }
 
-    // The items among which the latest one is at so many seconds after the first item, if there is
+    // The items among which the latest one is that many seconds after the first item, if there is
     // a hint.
     #[inline(always)]
     pub(crate) fn near(&self, seconds: u64) -> Option<Near>
         requires shift { self.now.shift < 64 }
-        requires rising { AreRising self.now.places.items }
+        requires rising { AreNonDecreasing self.now.places.items }
         ensures { MatchOption result ⊤
             (λ near. IsHinted self.now.places.items (seconds / 2 ^ self.now.shift) near) }
     {
@@ -88,7 +94,17 @@ pub(crate) fn seconds_between(first: i64, second: i64) -> u64
     (second as i128 - first as i128) as u64
 }
 
-// The least power of two by which the span has at most so many stretches.
+// How many stretches there are at most, beside two more, for that many items.
+fn most_stretches(count: usize) -> u64
+    ensures { result ≤ count }
+{
+    if count > LONG {
+        return count as u64 / 2;
+    }
+    count as u64
+}
+
+// The least power of two by which the span has at most `most` stretches.
 fn shift_for(span: u64, most: u64) -> u32
     ensures shift { result < 64 }
     ensures stretches { span / 2 ^ result ≤ most + 1 }
@@ -106,9 +122,9 @@ fn shift_for(span: u64, most: u64) -> u32
 fn fill<T: Timed>(places: &mut [u32], items: &[T], first: i64, shift: u32) -> u32
     requires shift { shift < 64 }
     requires ordered { AreOrdered (map T.time items.now) }
-    requires first { (k : ℕ) → k < length items.now → first ≤ℤ time_at (map T.time items.now) k }
+    requires first { (k : ℕ) → k < length items.now → first ≤ℤ item_time (map T.time items.now) k }
     requires room { (k : ℕ) → k < length items.now → suc (stretch_of first
-        (time_at (map T.time items.now) k) shift) < length places.old }
+        (item_time (map T.time items.now) k) shift) < length places.old }
     requires none { (b : ℕ) → slice_index places.old b ≡ 0 }
     requires few { length items.now < 2 ^ 32 }
     ensures { AreFilled (map T.time items.now) first shift places.old places.new result }
@@ -122,9 +138,9 @@ fn fill<T: Timed>(places: &mut [u32], items: &[T], first: i64, shift: u32) -> u3
 fn mark<T: Timed>(places: &mut [u32], items: &[T], first: i64, shift: u32)
     requires shift { shift < 64 }
     requires ordered { AreOrdered (map T.time items.now) }
-    requires first { (k : ℕ) → k < length items.now → first ≤ℤ time_at (map T.time items.now) k }
+    requires first { (k : ℕ) → k < length items.now → first ≤ℤ item_time (map T.time items.now) k }
     requires room { (k : ℕ) → k < length items.now → suc (stretch_of first
-        (time_at (map T.time items.now) k) shift) < length places.old }
+        (item_time (map T.time items.now) k) shift) < length places.old }
     requires none { (b : ℕ) → slice_index places.old b ≡ 0 }
     requires few { length items.now < 2 ^ 32 }
     ensures marked { AreMarked (map T.time items.now) first shift (length items.now) places.new }

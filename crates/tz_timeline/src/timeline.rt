@@ -5,11 +5,12 @@
 //! others. A search compares with these two first, and if one of them decides, that counts as a
 //! probe of its item. Hints are not counted.
 
-ghost use Rattle.std.specs.Prelude.{◌≡◌, ◌+◌, ◌-◌, ◌*◌, ◌/◌, ◌<◌, ◌≤◌, [], length, map, option_map, slice_index_or, MatchResult, ℕ, ⊤};
+ghost use Rattle.std.specs.Prelude.{◌≡◌, ◌+◌, ◌-◌, ◌*◌, ◌/◌, ◌<◌, ◌≤◌, [], length, map, option_map, slice_index_or};
+ghost use Rattle.std.specs.Prelude.{MatchResult, ℕ, ⊤};
 ghost use Rattle.tz_timeline.specs.Counts.{Counts, HasRoomFor};
 ghost use Rattle.tz_timeline.specs.Digits.{digits};
-ghost use Rattle.tz_timeline.specs.Search.{AreCounted, AreOrdered, ArePassed, IsLastOf};
-ghost use Rattle.tz_timeline.specs.Steps.Search.{AreEnds, IsLeft, IsNear};
+ghost use Rattle.tz_timeline.specs.Search.{AreOrdered, ArePassed, AreProbesCounted, IsLastOf};
+ghost use Rattle.tz_timeline.specs.Steps.Search.{AreEnds, IsLeft, IsNarrowedTo};
 
 use crate::hints::{Hints, Near, seconds_between};
 use crate::probes::Probes;
@@ -23,7 +24,7 @@ pub trait Timed: Drop {
     // when it comes
     ghost time: { Self → ℤ };
 
-    // counts with so many looks more
+    // counts with that many more looks
     ghost counted: { Counts → ℕ → Counts };
 
     // how many looks there were
@@ -154,7 +155,7 @@ impl<T: Timed> Timeline<T> {
         ensures passed { ArePassed (map T.time self.now) second result.count }
         ensures latest { IsLastOf self.now result.count (option_map (λ r. r.now) result.latest) }
         ensures cost { 0 < length self.now
-            → AreCounted T.counted probes.old probes.new (digits (length self.now)) }
+            → AreProbesCounted T.counted probes.old probes.new (digits (length self.now)) }
         ensures free { length self.now ≡ 0 → probes.new ≡ probes.old }
     {
         let count = self.len();
@@ -189,13 +190,13 @@ impl<T: Timed> Timeline<T> {
     // loop a branch, which the processor would guess wrong every other time. More are rarely due.
     #[inline(always)]
     fn passed_near(&self, second: i64, near: Near, probes: &mut Probes) -> Passed<'_, T>
-        requires near { IsNear (map T.time self.now) second near }
+        requires near { IsNarrowedTo (map T.time self.now) second near }
         requires narrow { 2 * near.count ≤ length self.now }
         requires many { 4 ≤ length self.now }
         requires room { HasRoomFor (digits (length self.now)) (T.looks probes.old) }
         ensures passed { ArePassed (map T.time self.now) second result.count }
         ensures latest { IsLastOf self.now result.count (option_map (λ r. r.now) result.latest) }
-        ensures cost { AreCounted T.counted probes.old probes.new (digits (length self.now)) }
+        ensures cost { AreProbesCounted T.counted probes.old probes.new (digits (length self.now)) }
     {
         let once = self.narrowed(second, near, probes);
         let mut left = self.narrowed(second, once, probes);
@@ -211,9 +212,9 @@ impl<T: Timed> Timeline<T> {
     // What is left after a look at the item in the middle.
     #[inline(always)]
     fn narrowed(&self, second: i64, left: Near, probes: &mut Probes) -> Near
-        requires near { IsNear (map T.time self.now) second left }
+        requires near { IsNarrowedTo (map T.time self.now) second left }
         requires room { HasRoomFor 1 (T.looks probes.old) }
-        ensures near { IsNear (map T.time self.now) second result }
+        ensures near { IsNarrowedTo (map T.time self.now) second result }
         ensures count { result.count ≡ left.count - left.count / 2 }
         ensures cost { probes.new ≡ T.counted probes.old 1 }
     {
@@ -238,7 +239,7 @@ impl<T: Timed> Timeline<T> {
         requires room { HasRoomFor (digits (length self.now)) (T.looks probes.old) }
         ensures passed { ArePassed (map T.time self.now) second result.count }
         ensures latest { IsLastOf self.now result.count (option_map (λ r. r.now) result.latest) }
-        ensures cost { AreCounted T.counted probes.old probes.new (digits (length self.now)) }
+        ensures cost { AreProbesCounted T.counted probes.old probes.new (digits (length self.now)) }
     {
         let mut left = Left {
             first: 0,

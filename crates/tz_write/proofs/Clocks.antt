@@ -1,11 +1,11 @@
 -- The texts of offsets and of times of day.
 use Rattle.tz_base.specs.Grammar.{Grammar, Nothing, Number, Then}
 use Rattle.tz_info.specs.TzGrammar as tz
-use Rattle.tz_write.proofs.Words.{AreInPairs, Bool, IsPlainTime, IsTimeOf, IsWithinDay, List, NoneFirst, Spells, Without, ap, arith, both_ways, clock_max}
-use Rattle.tz_write.proofs.Words.{clock_text, clock_text_of, colon, cond, false, false≢true, inl, inr, ints, is_digit, is_negative, is_positive, minus}
-use Rattle.tz_write.proofs.Words.{minutes_text, nat_tests, neg_ℤ, negsuc, not, offset_text, pair_text, plus, pos, refl, seconds_of, seconds_text, signed_text}
-use Rattle.tz_write.proofs.Words.{subst, suc, sym, time_limit, time_text, true, unsigned_abs, zero, ℕ, ℤ, [], ◌%◌, ◌&&◌, ◌*◌, ◌++◌, ◌+◌, ◌/◌, ◌<ℤ◌, ◌<◌, ◌==◌}
-use Rattle.tz_write.proofs.Words.{◌∙◌, ◌∷◌, ◌≡◌, ◌≤◌, ◌⊎◌}
+use Rattle.tz_write.proofs.Words.{AreInPairs, Bool, IsPlainTime, IsTextTime, IsWithinDay, List, NoneFirst, Spells, Without, ap, arith, both_ways, clock_max}
+use Rattle.tz_write.proofs.Words.{spelled_clock, spelled_hands, colon, cond, false, false≢true, inl, inr, ints, is_digit, is_negative, is_positive, minus}
+use Rattle.tz_write.proofs.Words.{spelled_minutes, nat_tests, neg_ℤ, negsuc, not, spelled_offset, spelled_pair, plus, pos, refl, signed_seconds}
+use Rattle.tz_write.proofs.Words.{spelled_seconds, spelled_signed, subst, suc, sym, time_limit, spelled_time, true, unsigned_abs, zero, ℕ, ℤ, [], ◌%◌, ◌&&◌}
+use Rattle.tz_write.proofs.Words.{◌*◌, ◌++◌, ◌+◌, ◌/◌, ◌<ℤ◌, ◌<◌, ◌==◌, ◌∙◌, ◌∷◌, ◌≡◌, ◌≤◌, ◌⊎◌}
 use Rattle.tz_write.proofs.Decimals.{digit_least, digit_most, first_digit, number_front, number_writes, pair_front, pair_writes, two_digits}
 use Rattle.tz_write.proofs.Shortest.{Front, front_cons, front_longer, front_on, front_optional}
 use Rattle.tz_write.proofs.TextBytes.{Writes, writes_colon, writes_last, writes_nothing, writes_other, writes_then}
@@ -15,17 +15,17 @@ abbrev pub Stops : List ℕ → Type 0
 Stops rest = NoneFirst is_digit rest × Without colon rest
 
 -- ---- seconds
-seconds_writes : (s : ℕ) (rest : List ℕ) → s ≤ 59 → Stops rest → Writes tz.seconds (seconds_text s) s rest
+seconds_writes : (s : ℕ) (rest : List ℕ) → s ≤ 59 → Stops rest → Writes tz.seconds (spelled_seconds s) s rest
 unfolding tz.seconds
-seconds_writes s rest h stops = elim (s == 0) as (λ t. (s == 0) ≡ t → Writes tz.seconds (cond t [] (pair_text s)) s rest) [
+seconds_writes s rest h stops = elim (s == 0) as (λ t. (s == 0) ≡ t → Writes tz.seconds (cond t [] (spelled_pair s)) s rest) [
   | true ↦ λ e. let z : s ≡ 0 = grind (arith, nat_tests) in writes_other stops.1 (writes_nothing z)
   | false ↦ λ e. writes_colon (two_digits s rest (omega arith) stops.0) (pair_writes clock_max s rest (omega arith) (omega arith) stops.0)
 ] refl
 
-seconds_stop : (s : ℕ) (rest : List ℕ) → Stops rest → NoneFirst is_digit (seconds_text s ++ rest)
-seconds_stop s rest stops = elim (s == 0) as (λ t. NoneFirst is_digit (cond t [] (pair_text s) ++ rest)) [ true ↦ stops.0 | false ↦ refl ]
+seconds_stop : (s : ℕ) (rest : List ℕ) → Stops rest → NoneFirst is_digit (spelled_seconds s ++ rest)
+seconds_stop s rest stops = elim (s == 0) as (λ t. NoneFirst is_digit (cond t [] (spelled_pair s) ++ rest)) [ true ↦ stops.0 | false ↦ refl ]
 
-seconds_front : (bytes : List ℕ) (s : ℕ) (rest : List ℕ) → AreInPairs bytes → Spells tz.seconds bytes s rest → Front (seconds_text s) bytes rest
+seconds_front : (bytes : List ℕ) (s : ℕ) (rest : List ℕ) → AreInPairs bytes → Spells tz.seconds bytes s rest → Front (spelled_seconds s) bytes rest
 unfolding tz.seconds
 seconds_front bytes s rest pairs h =
     front_optional colon 0 (Number clock_max) (s == 0) (λ after is p. pair_front clock_max bytes after s rest is pairs p) (λ e z. grind (arith, nat_tests)) h
@@ -34,41 +34,41 @@ seconds_front bytes s rest pairs h =
 both_zero : (m s : ℕ) → ((m == 0) && (s == 0)) ≡ true → (m ≡ 0) × (s ≡ 0)
 both_zero m s e = (grind (arith, nat_tests), grind (arith, nat_tests))
 
-minutes_writes : (m s : ℕ) (rest : List ℕ) → m ≤ 59 → s ≤ 59 → Stops rest → Writes tz.optional_minutes (minutes_text m s) (m, s) rest
+minutes_writes : (m s : ℕ) (rest : List ℕ) → m ≤ 59 → s ≤ 59 → Stops rest → Writes tz.optional_minutes (spelled_minutes m s) (m, s) rest
 unfolding tz.optional_minutes tz.minutes_seconds
-minutes_writes m s rest a b stops = elim ((m == 0) && (s == 0)) as (λ t. ((m == 0) && (s == 0)) ≡ t → Writes tz.optional_minutes (cond t [] (pair_text m ++ seconds_text s)) (m, s) rest) [
+minutes_writes m s rest a b stops = elim ((m == 0) && (s == 0)) as (λ t. ((m == 0) && (s == 0)) ≡ t → Writes tz.optional_minutes (cond t [] (spelled_pair m ++ spelled_seconds s)) (m, s) rest) [
   | true ↦ λ e. let (x, y) = both_zero m s e in writes_other stops.1 (writes_nothing (rw (x, y) refl))
   | false ↦ λ e.
       let stop = seconds_stop s rest stops in
-      let seconds : Writes (Then tz.seconds (λ t. Nothing (m, t))) (seconds_text s) (m, s) rest = writes_last (seconds_writes s rest b stops) (refl, refl) in
-      writes_colon (two_digits m (seconds_text s ++ rest) (omega arith) stop)
-      (writes_then (pair_writes clock_max m (seconds_text s ++ rest) (omega arith) (omega arith) stop) seconds)
+      let seconds : Writes (Then tz.seconds (λ t. Nothing (m, t))) (spelled_seconds s) (m, s) rest = writes_last (seconds_writes s rest b stops) (refl, refl) in
+      writes_colon (two_digits m (spelled_seconds s ++ rest) (omega arith) stop)
+      (writes_then (pair_writes clock_max m (spelled_seconds s ++ rest) (omega arith) (omega arith) stop) seconds)
 ] refl
 
-minutes_stop : (m s : ℕ) (rest : List ℕ) → Stops rest → NoneFirst is_digit (minutes_text m s ++ rest)
-minutes_stop m s rest stops = elim ((m == 0) && (s == 0)) as (λ t. NoneFirst is_digit (cond t [] (pair_text m ++ seconds_text s) ++ rest)) [ true ↦ stops.0 | false ↦ refl ]
+minutes_stop : (m s : ℕ) (rest : List ℕ) → Stops rest → NoneFirst is_digit (spelled_minutes m s ++ rest)
+minutes_stop m s rest stops = elim ((m == 0) && (s == 0)) as (λ t. NoneFirst is_digit (cond t [] (spelled_pair m ++ spelled_seconds s) ++ rest)) [ true ↦ stops.0 | false ↦ refl ]
 
-minutes_given : (bytes after : List ℕ) (m s : ℕ) (rest : List ℕ) → bytes ≡ colon ∷ after → AreInPairs bytes → Spells tz.minutes_seconds after (m, s) rest → Front (pair_text m ++ seconds_text s) bytes rest
+minutes_given : (bytes after : List ℕ) (m s : ℕ) (rest : List ℕ) → bytes ≡ colon ∷ after → AreInPairs bytes → Spells tz.minutes_seconds after (m, s) rest → Front (spelled_pair m ++ spelled_seconds s) bytes rest
 unfolding tz.minutes_seconds
 minutes_given bytes after m s rest e pairs (x, behind, minutes, (y, end, seconds, (value, same))) =
     let l : m ≡ x = ap (λ (t : ℕ × ℕ). t.0) value in
     let r : s ≡ y = ap (λ (t : ℕ × ℕ). t.1) value in
     rw (l, r, ← same) (front_on pairs (pair_front clock_max bytes after x behind e pairs minutes) (λ p. seconds_front behind y end p seconds))
 
-minutes_front : (bytes : List ℕ) (m s : ℕ) (rest : List ℕ) → AreInPairs bytes → Spells tz.optional_minutes bytes (m, s) rest → Front (minutes_text m s) bytes rest
+minutes_front : (bytes : List ℕ) (m s : ℕ) (rest : List ℕ) → AreInPairs bytes → Spells tz.optional_minutes bytes (m, s) rest → Front (spelled_minutes m s) bytes rest
 unfolding tz.optional_minutes
 minutes_front bytes m s rest pairs h =
     front_optional colon (0, 0) tz.minutes_seconds ((m == 0) && (s == 0)) (λ after is p. minutes_given bytes after m s rest is pairs p)
     (λ e same. let x : m ≡ 0 = ap (λ (p : ℕ × ℕ). p.0) same in let y : s ≡ 0 = ap (λ (p : ℕ × ℕ). p.1) same in grind (arith, nat_tests)) h
 
 -- ---- hours, minutes and seconds
-hours_writes : (h m s : ℕ) (rest : List ℕ) → h < 1000 → m ≤ 59 → s ≤ 59 → Stops rest → Writes tz.hours_minutes_seconds (clock_text_of h m s) (h, m, s) rest
+hours_writes : (h m s : ℕ) (rest : List ℕ) → h < 1000 → m ≤ 59 → s ≤ 59 → Stops rest → Writes tz.hours_minutes_seconds (spelled_hands h m s) (h, m, s) rest
 unfolding tz.hours_minutes_seconds
 hours_writes h m s rest l a b stops =
-    writes_then (number_writes clock_max h (minutes_text m s ++ rest) l (omega arith) (minutes_stop m s rest stops))
+    writes_then (number_writes clock_max h (spelled_minutes m s ++ rest) l (omega arith) (minutes_stop m s rest stops))
     (writes_last (minutes_writes m s rest a b stops) (refl, refl))
 
-hours_front : (bytes : List ℕ) (h m s : ℕ) (rest : List ℕ) → h < 1000 → AreInPairs bytes → Spells tz.hours_minutes_seconds bytes (h, m, s) rest → Front (clock_text_of h m s) bytes rest
+hours_front : (bytes : List ℕ) (h m s : ℕ) (rest : List ℕ) → h < 1000 → AreInPairs bytes → Spells tz.hours_minutes_seconds bytes (h, m, s) rest → Front (spelled_hands h m s) bytes rest
 unfolding tz.hours_minutes_seconds
 hours_front bytes h m s rest l pairs (x, after, hours, (t, end, others, (value, same))) =
     let first : h ≡ x = ap (λ (u : ℕ × ℕ × ℕ). u.0) value in
@@ -80,8 +80,8 @@ abbrev signed : Bool → ℕ → ℤ
 signed negative n = cond negative (neg_ℤ (pos n)) (pos n)
 
 pub duration_writes : (limit : ℕ) (negative : Bool) (n : ℕ) (z : ℤ) (rest : List ℕ) → n / 3600 ≤ limit → limit < 1000 → signed negative n ≡ z → Stops rest
-    → Writes (tz.duration limit negative) (clock_text n) z rest
-unfolding clock_text tz.duration
+    → Writes (tz.duration limit negative) (spelled_clock n) z rest
+unfolding spelled_clock tz.duration
 duration_writes limit negative n z rest l k v stops =
     let e : 3600 * (n / 3600) + 60 * (n / 60 % 60) + n % 60 ≡ n = omega arith in
     writes_last (hours_writes (n / 3600) (n / 60 % 60) (n % 60) rest (omega arith) (omega arith) (omega arith) stops)
@@ -95,8 +95,8 @@ abs_signed : (negative : Bool) (n : ℕ) → unsigned_abs (signed negative n) �
 abs_signed true n = abs_neg n
 abs_signed false n = refl
 
-pub duration_front : (limit : ℕ) (negative : Bool) (bytes : List ℕ) (z : ℤ) (rest : List ℕ) → limit < 1000 → AreInPairs bytes → Spells (tz.duration limit negative) bytes z rest → Front (clock_text (unsigned_abs z)) bytes rest
-unfolding clock_text tz.duration
+pub duration_front : (limit : ℕ) (negative : Bool) (bytes : List ℕ) (z : ℤ) (rest : List ℕ) → limit < 1000 → AreInPairs bytes → Spells (tz.duration limit negative) bytes z rest → Front (spelled_clock (unsigned_abs z)) bytes rest
+unfolding spelled_clock tz.duration
 duration_front limit negative bytes z rest l pairs ((h, m, s), after, spelled, (test, value, same)) =
     let (c, a, b) = test in
     let f = hours_front bytes h m s after (omega arith) pairs spelled in
@@ -107,11 +107,11 @@ duration_front limit negative bytes z rest l pairs ((h, m, s), after, spelled, (
     rw (x, y, w, ← same) f
 
 -- a time begins with a digit
-pub clock_first : (n : ℕ) (rest : List ℕ) → n / 3600 < 1000 → (d : ℕ) × (ds : List ℕ) × (clock_text n ++ rest ≡ d ∷ ds) × (is_digit d ≡ true)
-unfolding clock_text
-clock_first n rest l = let f = first_digit (n / 3600) l in let e = f.2 in (f.0, (f.1 ++ minutes_text (n / 60 % 60) (n % 60)) ++ rest, rw e refl, f.3)
+pub clock_first : (n : ℕ) (rest : List ℕ) → n / 3600 < 1000 → (d : ℕ) × (ds : List ℕ) × (spelled_clock n ++ rest ≡ d ∷ ds) × (is_digit d ≡ true)
+unfolding spelled_clock
+clock_first n rest l = let f = first_digit (n / 3600) l in let e = f.2 in (f.0, (f.1 ++ spelled_minutes (n / 60 % 60) (n % 60)) ++ rest, rw e refl, f.3)
 
-pub clock_without : (t n : ℕ) (rest : List ℕ) → t < 48 → n / 3600 < 1000 → Without t (clock_text n ++ rest)
+pub clock_without : (t n : ℕ) (rest : List ℕ) → t < 48 → n / 3600 < 1000 → Without t (spelled_clock n ++ rest)
 clock_without t n rest h l = let f = clock_first n rest l in let m = digit_least f.0 f.3 in rw f.2 (λ e. absurd (omega arith))
 
 -- ---- signs
@@ -142,32 +142,32 @@ unsigned_pairs bytes negative unsigned h pairs = elim h [
 ]
 
 -- a minus stands where one is needed, and else nothing
-signed_front : (want negative : Bool) (n : ℕ) (bytes unsigned rest : List ℕ) → SignRead bytes negative unsigned → Front (clock_text n) unsigned rest → (want ≡ true → negative ≡ true) → Front (signed_text want n) bytes rest
+signed_front : (want negative : Bool) (n : ℕ) (bytes unsigned rest : List ℕ) → SignRead bytes negative unsigned → Front (spelled_clock n) unsigned rest → (want ≡ true → negative ≡ true) → Front (spelled_signed want n) bytes rest
 signed_front true negative n bytes unsigned rest h f need = elim h [
   | inl a ↦ absurd (both_ways negative a.1 (need refl))
   | inr b ↦ elim b [
-    | inl c ↦ front_cons minus (clock_text n) bytes unsigned rest c.0 f
+    | inl c ↦ front_cons minus (spelled_clock n) bytes unsigned rest c.0 f
     | inr d ↦ absurd (both_ways negative d.1 (need refl))
   ]
 ]
 signed_front false negative n bytes unsigned rest h f need = elim h [
-  | inl a ↦ front_longer plus (clock_text n) bytes unsigned rest a.0 f
+  | inl a ↦ front_longer plus (spelled_clock n) bytes unsigned rest a.0 f
   | inr b ↦ elim b [
-    | inl c ↦ front_longer minus (clock_text n) bytes unsigned rest c.0 f
+    | inl c ↦ front_longer minus (spelled_clock n) bytes unsigned rest c.0 f
     | inr d ↦ rw d.0 f
   ]
 ]
 
 signed_writes : {X : Type 0} {f : Bool → Grammar X} (negative : Bool) (n : ℕ) (x : X) (rest : List ℕ) → n / 3600 < 1000
-    → Writes (f negative) (clock_text n) x rest → Writes (Then tz.sign f) (signed_text negative n) x rest
+    → Writes (f negative) (spelled_clock n) x rest → Writes (Then tz.sign f) (spelled_signed negative n) x rest
 unfolding tz.sign
 signed_writes true n x rest l p = record {
-  spelled = (true, clock_text n ++ rest, inr ((λ e. absurd (omega arith)), inl (clock_text n ++ rest, refl, (refl, refl))), p.spelled);
+  spelled = (true, spelled_clock n ++ rest, inr ((λ e. absurd (omega arith)), inl (spelled_clock n ++ rest, refl, (refl, refl))), p.spelled);
   bytes = (refl, p.bytes);
   pairs = λ r. ((λ e. absurd (omega arith)), p.pairs r);
 }
 signed_writes false n x rest l p = record {
-  spelled = (false, clock_text n ++ rest, inr (clock_without plus n rest (omega arith) l, inr (clock_without minus n rest (omega arith) l, (refl, refl))), p.spelled);
+  spelled = (false, spelled_clock n ++ rest, inr (clock_without plus n rest (omega arith) l, inr (clock_without minus n rest (omega arith) l, (refl, refl))), p.spelled);
   bytes = p.bytes;
   pairs = p.pairs;
 }
@@ -183,14 +183,14 @@ offset_value (pos zero) = refl
 offset_value (pos (suc n)) = refl
 offset_value (negsuc n) = refl
 
-pub offset_writes : (east : ℤ) (rest : List ℕ) → IsWithinDay east → Stops rest → Writes tz.offset (offset_text east) east rest
-unfolding offset_text tz.offset
+pub offset_writes : (east : ℤ) (rest : List ℕ) → IsWithinDay east → Stops rest → Writes tz.offset (spelled_offset east) east rest
+unfolding spelled_offset tz.offset
 offset_writes east rest h stops =
     let l : unsigned_abs east / 3600 ≤ 23 = omega (arith, hours_within 24 east h) in
     signed_writes (is_positive east) (unsigned_abs east) east rest (omega arith)
     (duration_writes 23 (not (is_positive east)) (unsigned_abs east) east rest l (omega arith) (offset_value east) stops)
 
-needs_minus : (is_minus : Bool) (h m s : ℕ) (east : ℤ) → seconds_of (not is_minus) h m s ≡ east → is_positive east ≡ true → is_minus ≡ true
+needs_minus : (is_minus : Bool) (h m s : ℕ) (east : ℤ) → signed_seconds (not is_minus) h m s ≡ east → is_positive east ≡ true → is_minus ≡ true
 needs_minus true h m s east v e = refl
 needs_minus false h m s east v e = absurd (west _ (subst (λ (z : ℤ). is_positive z ≡ true) (sym v) e))
   where
@@ -198,8 +198,8 @@ needs_minus false h m s east v e = absurd (west _ (subst (λ (z : ℤ). is_posit
     west zero e = false≢true e
     west (suc n) e = false≢true e
 
-pub offset_front : (bytes : List ℕ) (east : ℤ) (rest : List ℕ) → AreInPairs bytes → Spells tz.offset bytes east rest → Front (offset_text east) bytes rest
-unfolding offset_text tz.offset tz.duration
+pub offset_front : (bytes : List ℕ) (east : ℤ) (rest : List ℕ) → AreInPairs bytes → Spells tz.offset bytes east rest → Front (spelled_offset east) bytes rest
+unfolding spelled_offset tz.offset tz.duration
 offset_front bytes east rest pairs (is_minus, unsigned, sign, d) =
     let s = sign_read bytes is_minus unsigned sign in
     let ((x, y, z), _, _, (_, value, _)) = d in
@@ -208,10 +208,10 @@ offset_front bytes east rest pairs (is_minus, unsigned, sign, d) =
     (needs_minus is_minus x y z east (sym value))
 
 -- an offset begins with a digit or a minus
-pub offset_first : (east : ℤ) (rest : List ℕ) → IsWithinDay east → (b : ℕ) × (bs : List ℕ) × (offset_text east ++ rest ≡ b ∷ bs) × (b ≤ 57)
-unfolding offset_text
+pub offset_first : (east : ℤ) (rest : List ℕ) → IsWithinDay east → (b : ℕ) × (bs : List ℕ) × (spelled_offset east ++ rest ≡ b ∷ bs) × (b ≤ 57)
+unfolding spelled_offset
 offset_first (pos zero) rest h = let f = clock_first 0 rest (omega arith) in (f.0, f.1, f.2, digit_most f.0 f.3)
-offset_first (pos (suc n)) rest h = (minus, clock_text (suc n) ++ rest, refl, omega arith)
+offset_first (pos (suc n)) rest h = (minus, spelled_clock (suc n) ++ rest, refl, omega arith)
 offset_first (negsuc n) rest h =
     let a = h.0 in let b : suc n < 86400 = omega (arith, ints) in
     let f = clock_first (suc n) rest (omega arith) in (f.0, f.1, f.2, digit_most f.0 f.3)
@@ -222,8 +222,8 @@ time_value (pos zero) = refl
 time_value (pos (suc n)) = refl
 time_value (negsuc n) = refl
 
-pub time_writes : (extended : Bool) (time : ℤ) (rest : List ℕ) → IsTimeOf extended time → Stops rest → Writes (tz.time extended) (time_text time) time rest
-unfolding time_text tz.time tz.time_sign
+pub time_writes : (extended : Bool) (time : ℤ) (rest : List ℕ) → IsTextTime extended time → Stops rest → Writes (tz.time extended) (spelled_time time) time rest
+unfolding spelled_time tz.time tz.time_sign
 time_writes true time rest h stops =
     let l : unsigned_abs time / 3600 ≤ 167 = omega (arith, hours_within 168 time h) in
     signed_writes (is_negative time) (unsigned_abs time) time rest (omega arith)
@@ -231,7 +231,7 @@ time_writes true time rest h stops =
 time_writes false (pos n) rest h stops =
     let a = h.1 in let b : n < 90_000 = omega (arith, ints) in
     let d = duration_writes 24 false n (pos n) rest (omega arith) (omega arith) refl stops in
-    record { spelled = (false, clock_text n ++ rest, (refl, refl), d.spelled); bytes = d.bytes; pairs = d.pairs }
+    record { spelled = (false, spelled_clock n ++ rest, (refl, refl), d.spelled); bytes = d.bytes; pairs = d.pairs }
 time_writes false (negsuc n) rest h stops = let a = h.0 in absurd (omega (arith, ints))
 
 -- a text without extensions has no other times
@@ -239,9 +239,9 @@ pub time_plain : (bytes : List ℕ) (time : ℤ) (rest : List ℕ) → Spells (t
 unfolding tz.time tz.time_sign tz.duration
 time_plain bytes time rest (is_minus, _, sign, ((h, m, s), _, _, (test, value, _))) =
     let (a, b, c) = test in
-    subst IsPlainTime (sym value) (subst (λ (x : Bool). IsPlainTime (seconds_of x h m s)) (sym sign.0) (omega (arith, ints), omega (arith, ints)))
+    subst IsPlainTime (sym value) (subst (λ (x : Bool). IsPlainTime (signed_seconds x h m s)) (sym sign.0) (omega (arith, ints), omega (arith, ints)))
 
-time_minus : (is_minus : Bool) (h m s : ℕ) (time : ℤ) → seconds_of is_minus h m s ≡ time → is_negative time ≡ true → is_minus ≡ true
+time_minus : (is_minus : Bool) (h m s : ℕ) (time : ℤ) → signed_seconds is_minus h m s ≡ time → is_negative time ≡ true → is_minus ≡ true
 time_minus true h m s time v e = refl
 time_minus false h m s time v e = absurd (false≢true (subst (λ (z : ℤ). is_negative z ≡ true) (sym v) e))
 
@@ -249,8 +249,8 @@ limit_small : (extended : Bool) → time_limit extended < 1000
 limit_small true = omega arith
 limit_small false = omega arith
 
-pub time_front : (extended : Bool) (bytes : List ℕ) (time : ℤ) (rest : List ℕ) → AreInPairs bytes → Spells (tz.time extended) bytes time rest → Front (time_text time) bytes rest
-unfolding time_text tz.time tz.duration
+pub time_front : (extended : Bool) (bytes : List ℕ) (time : ℤ) (rest : List ℕ) → AreInPairs bytes → Spells (tz.time extended) bytes time rest → Front (spelled_time time) bytes rest
+unfolding spelled_time tz.time tz.duration
 time_front extended bytes time rest pairs (is_minus, unsigned, sign, d) =
     let s = time_sign_read extended bytes is_minus unsigned sign in
     let ((x, y, z), _, _, (_, value, _)) = d in

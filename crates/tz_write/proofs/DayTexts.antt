@@ -2,10 +2,11 @@
 use Rattle.tz_base.specs.Grammar.{Grammar, Then}
 use Rattle.tz_info.specs.TzGrammar as tz
 use Rattle.tz_info.specs.declared.rule.day.DayForm.TheVariants.{Julian0, Julian1, MonthWeekday}
-use Rattle.tz_write.proofs.Words.{AreInPairs, Bool, DayForm, DayTime, Decides-int_eq, IsNumber, IsPlainTime, IsRuleDay, IsTimeOf, IsWithinDay, List, NoneFirst}
-use Rattle.tz_write.proofs.Words.{Spells, Without, ap, append_assoc, arith, both_ways, comma, cond, date_max, date_text, day_max, day_text, decimal, dot}
-use Rattle.tz_write.proofs.Words.{dst_offset_text, false, inl, inr, int_eq, ints, is_digit, letter_J, letter_M, negsuc, offset_text, pos, refl, slash, subst}
-use Rattle.tz_write.proofs.Words.{suc, sym, time_after, time_text, true, zero, ℕ, ℤ, [], ◌++◌, ◌+ℤ◌, ◌<◌, ◌∙◌, ◌∷◌, ◌≡◌, ◌≢◌, ◌≤ℤ◌, ◌≤◌, ◌⊎◌}
+use Rattle.tz_write.proofs.Words.{AreInPairs, Bool, DayForm, DayTime, Decides-int_eq, IsNumber, IsPlainTime, IsRuleDay, IsTextTime, IsWithinDay, List}
+use Rattle.tz_write.proofs.Words.{NoneFirst, Spells, Without, ap, append_assoc, arith, both_ways, comma, cond, date_max, spelled_date, day_max, spelled_day}
+use Rattle.tz_write.proofs.Words.{decimal, dot, spelled_dst_offset, false, inl, inr, int_eq, ints, is_digit, letter_J, letter_M, negsuc, spelled_offset, pos}
+use Rattle.tz_write.proofs.Words.{refl, slash, subst, suc, sym, time_after, spelled_time, true, zero, ℕ, ℤ, [], ◌++◌, ◌+ℤ◌, ◌<◌, ◌∙◌, ◌∷◌, ◌≡◌, ◌≢◌, ◌≤ℤ◌, ◌≤◌}
+use Rattle.tz_write.proofs.Words.{◌⊎◌}
 use Rattle.tz_write.proofs.Clocks.{Stops, clock_without, offset_first, offset_front, offset_writes, time_front, time_plain, time_writes}
 use Rattle.tz_write.proofs.Decimals.{digit_most, first_digit, number_front, number_writes}
 use Rattle.tz_write.proofs.Shortest.{Front, front_any, front_cons, front_nothing, front_on, front_optional, front_then}
@@ -31,8 +32,8 @@ no_slash rest h = elim h [
 no_letters : (t n : ℕ) (rest : List ℕ) → 57 < t → n < 1000 → Without t (decimal n ++ rest)
 no_letters t n rest h l = let f = first_digit n l in let m = digit_most f.0 f.3 in rw f.2 (λ e. absurd (omega arith))
 
-date_writes : (form : DayForm) (rest : List ℕ) → IsRuleDay form → NoneFirst is_digit rest → Writes tz.date (date_text form) form rest
-unfolding tz.date tz.month_date tz.julian_date tz.day_number tz.rule_day
+date_writes : (form : DayForm) (rest : List ℕ) → IsRuleDay form → NoneFirst is_digit rest → Writes tz.date (spelled_date form) form rest
+unfolding tz.date tz.month_date tz.julian_date tz.numbered_day tz.checked_day
 date_writes (Julian1 n) rest h none = let l = h.1 in
     writes_other (λ e. absurd (omega arith)) (writes_mark refl (writes_last (number_writes day_max n rest (omega arith) (omega arith) none) (h, refl, refl)))
 date_writes (Julian0 n) rest h none =
@@ -54,8 +55,8 @@ month_front bytes rest m w d at_week at_weekday h x y z =
     let weeks = front_then (decimal w) (dot ∷ decimal d) at_week (dot ∷ at_weekday) rest g last in
     front_then (decimal m) (dot ∷ decimal w ++ (dot ∷ decimal d)) bytes (dot ∷ at_week) rest f (front_cons dot (decimal w ++ (dot ∷ decimal d)) (dot ∷ at_week) at_week rest refl weeks)
 
-pub date_front : (bytes : List ℕ) (form : DayForm) (rest : List ℕ) → Spells tz.date bytes form rest → Front (date_text form) bytes rest
-unfolding tz.date tz.month_date tz.julian_date tz.day_number tz.rule_day
+pub date_front : (bytes : List ℕ) (form : DayForm) (rest : List ℕ) → Spells tz.date bytes form rest → Front (spelled_date form) bytes rest
+unfolding tz.date tz.month_date tz.julian_date tz.numbered_day tz.checked_day
 date_front bytes form rest (inl (after, is, (m, x, month, (_, at_week, first, (w, y, week, (_, at_weekday, second, (d, end, weekday, (test, value, same)))))))) =
     let fits = test in
     rw (value, ← same) (front_cons letter_M _ bytes after end is (month_front after end m w d at_week at_weekday fits (rw (← first) month) (rw (← second) week) weekday))
@@ -69,19 +70,19 @@ date_front bytes form rest (inr (_, inr (_, (n, end, number, (test, value, same)
 is_two : (time : ℤ) → int_eq time (pos 7_200) ≡ true → time ≡ pos 7_200
 is_two time e = (Decides-int_eq time (pos 7_200)).0 e
 
-after_writes : (extended : Bool) (time : ℤ) (rest : List ℕ) → IsTimeOf extended time → IsEndOrComma rest
+after_writes : (extended : Bool) (time : ℤ) (rest : List ℕ) → IsTextTime extended time → IsEndOrComma rest
     → Writes (tz.optional_time extended) (time_after time) time rest
 unfolding tz.optional_time
-after_writes extended time rest h c = elim (int_eq time (pos 7_200)) as (λ t. int_eq time (pos 7_200) ≡ t → Writes (tz.optional_time extended) (cond t [] (slash ∷ time_text time)) time rest) [
+after_writes extended time rest h c = elim (int_eq time (pos 7_200)) as (λ t. int_eq time (pos 7_200) ≡ t → Writes (tz.optional_time extended) (cond t [] (slash ∷ spelled_time time)) time rest) [
   | true ↦ λ e. writes_other (no_slash rest c) (writes_nothing (is_two time e))
   | false ↦ λ e. writes_mark refl (time_writes extended time rest h (stops rest c))
 ] refl
 
 after_stops : (time : ℤ) (rest : List ℕ) → IsEndOrComma rest → NoneFirst is_digit (time_after time ++ rest)
-after_stops time rest c = elim (int_eq time (pos 7_200)) as (λ t. NoneFirst is_digit (cond t [] (slash ∷ time_text time) ++ rest)) [ true ↦ (stops rest c).0 | false ↦ refl ]
+after_stops time rest c = elim (int_eq time (pos 7_200)) as (λ t. NoneFirst is_digit (cond t [] (slash ∷ spelled_time time) ++ rest)) [ true ↦ (stops rest c).0 | false ↦ refl ]
 
-after_given : (extended : Bool) (bytes after : List ℕ) (time : ℤ) (rest : List ℕ) → bytes ≡ slash ∷ after → AreInPairs bytes → Spells (tz.time extended) after time rest → Front (slash ∷ time_text time) bytes rest
-after_given extended bytes after time rest e pairs h = front_cons slash (time_text time) bytes after rest e (time_front extended after time rest (subst AreInPairs e pairs).1 h)
+after_given : (extended : Bool) (bytes after : List ℕ) (time : ℤ) (rest : List ℕ) → bytes ≡ slash ∷ after → AreInPairs bytes → Spells (tz.time extended) after time rest → Front (slash ∷ spelled_time time) bytes rest
+after_given extended bytes after time rest e pairs h = front_cons slash (spelled_time time) bytes after rest e (time_front extended after time rest (subst AreInPairs e pairs).1 h)
 
 after_front : (extended : Bool) (bytes : List ℕ) (time : ℤ) (rest : List ℕ) → AreInPairs bytes → Spells (tz.optional_time extended) bytes time rest → Front (time_after time) bytes rest
 unfolding tz.optional_time
@@ -97,13 +98,13 @@ after_plain bytes time rest h = elim h [
 ]
 
 -- ---- days
-pub day_writes : (extended : Bool) (d : DayTime) (rest : List ℕ) → IsRuleDay d.day → IsTimeOf extended d.time → IsEndOrComma rest
-    → Writes (tz.day extended) (day_text d) d rest
+pub day_writes : (extended : Bool) (d : DayTime) (rest : List ℕ) → IsRuleDay d.day → IsTextTime extended d.time → IsEndOrComma rest
+    → Writes (tz.day extended) (spelled_day d) d rest
 unfolding tz.day
 day_writes extended d rest h t c = writes_then (date_writes d.day (time_after d.time ++ rest) h (after_stops d.time rest c))
     (writes_last (after_writes extended d.time rest t c) (refl, refl))
 
-pub day_front : (extended : Bool) (bytes : List ℕ) (d : DayTime) (rest : List ℕ) → AreInPairs bytes → Spells (tz.day extended) bytes d rest → Front (day_text d) bytes rest
+pub day_front : (extended : Bool) (bytes : List ℕ) (d : DayTime) (rest : List ℕ) → AreInPairs bytes → Spells (tz.day extended) bytes d rest → Front (spelled_day d) bytes rest
 unfolding tz.day
 day_front extended bytes d rest pairs (form, after, date, (at, end, time, (value, same))) =
     rw (value, ← same) (front_on pairs (date_front bytes form after date) (λ p. after_front extended after at end p time))
@@ -113,8 +114,8 @@ unfolding tz.day
 day_plain bytes d rest (_, after, _, (at, end, time, (value, _))) = rw value (after_plain after at end time)
 
 -- ---- the offset of daylight saving time
-no_comma : (east : ℤ) (rest : List ℕ) → IsWithinDay east → Without comma (offset_text east ++ rest)
-unfolding offset_text
+no_comma : (east : ℤ) (rest : List ℕ) → IsWithinDay east → Without comma (spelled_offset east ++ rest)
+unfolding spelled_offset
 no_comma (pos zero) rest h = clock_without comma 0 rest (omega arith) (omega arith)
 no_comma (pos (suc n)) rest h = λ e. absurd (omega arith)
 no_comma (negsuc n) rest h = let a = h.0 in let b : suc n < 86400 = omega (arith, ints) in clock_without comma (suc n) rest (omega arith) (omega arith)
@@ -122,14 +123,14 @@ no_comma (negsuc n) rest h = let a = h.0 in let b : suc n < 86400 = omega (arith
 next_within : (std dst : ℤ) → dst ≡ std +ℤ pos 3_600 → IsWithinDay dst → (std +ℤ pos 3_600) ≤ℤ pos 86_399
 next_within std dst v h = let l = h.1 in omega (arith, ints)
 
-some_offset : (east : ℤ) (rest : List ℕ) → IsWithinDay east → offset_text east ++ rest ≢ []
+some_offset : (east : ℤ) (rest : List ℕ) → IsWithinDay east → spelled_offset east ++ rest ≢ []
 some_offset east rest h = let f = offset_first east rest h in λ e. let k = f.2 in cc
 
 -- the offset has its comma after it
 pub dst_offset_writes : {X : Type 0} {f : ℤ → Grammar X} (std dst : ℤ) (after : List ℕ) (x : X) (rest : List ℕ) → IsWithinDay dst → Writes (f dst) after x rest
-    → Writes (Then (tz.dst_offset std) f) (dst_offset_text std dst ++ (comma ∷ after)) x rest
+    → Writes (Then (tz.dst_offset std) f) (spelled_dst_offset std dst ++ (comma ∷ after)) x rest
 unfolding tz.dst_offset tz.next_hour tz.given_offset tz.more
-dst_offset_writes {f = f} std dst after x rest h p = elim (int_eq dst (std +ℤ pos 3_600)) as (λ t. int_eq dst (std +ℤ pos 3_600) ≡ t → Writes (Then (tz.dst_offset std) f) (cond t [] (offset_text dst) ++ (comma ∷ after)) x rest) [
+dst_offset_writes {f = f} std dst after x rest h p = elim (int_eq dst (std +ℤ pos 3_600)) as (λ t. int_eq dst (std +ℤ pos 3_600) ≡ t → Writes (Then (tz.dst_offset std) f) (cond t [] (spelled_offset dst) ++ (comma ∷ after)) x rest) [
   | true ↦ λ e. let v = (Decides-int_eq dst _).0 e in record {
     spelled = (dst, after ++ rest, inl (after ++ rest, refl, (next_within std dst v h, v, refl)), p.spelled);
     bytes = (refl, p.bytes);
@@ -137,29 +138,29 @@ dst_offset_writes {f = f} std dst after x rest h p = elim (int_eq dst (std +ℤ 
   }
   | false ↦ λ e.
       let o = offset_writes dst (comma ∷ (after ++ rest)) h (refl, λ x. absurd (omega arith)) in
-      let given : Spells tz.given_offset (offset_text dst ++ (comma ∷ (after ++ rest))) dst (after ++ rest) =
+      let given : Spells tz.given_offset (spelled_offset dst ++ (comma ∷ (after ++ rest))) dst (after ++ rest) =
       (tt, _, inr (some_offset dst (comma ∷ (after ++ rest)) h, (refl, refl)), (dst, comma ∷ (after ++ rest), o.spelled, (tt, _, inr ((λ e. cc), (refl, refl)), (tt, after ++ rest, refl, (refl, refl))))) in
       record {
-        spelled = rw (append_assoc (offset_text dst) (comma ∷ after) rest)
+        spelled = rw (append_assoc (spelled_offset dst) (comma ∷ after) rest)
             (dst, after ++ rest, inr (no_comma dst (comma ∷ (after ++ rest)) h, given), p.spelled);
-        bytes = all_append is_text_byte (offset_text dst) (comma ∷ after) o.bytes (refl, p.bytes);
-        pairs = λ r. rw (append_assoc (offset_text dst) (comma ∷ after) rest) (o.pairs ((λ e. absurd (omega arith)), p.pairs r));
+        bytes = all_append is_text_byte (spelled_offset dst) (comma ∷ after) o.bytes (refl, p.bytes);
+        pairs = λ r. rw (append_assoc (spelled_offset dst) (comma ∷ after) rest) (o.pairs ((λ e. absurd (omega arith)), p.pairs r));
       }
 ] refl
 
-given_front : (bytes : List ℕ) (dst : ℤ) (rest : List ℕ) → AreInPairs bytes → Spells tz.given_offset bytes dst rest → Front (offset_text dst) bytes (comma ∷ rest)
+given_front : (bytes : List ℕ) (dst : ℤ) (rest : List ℕ) → AreInPairs bytes → Spells tz.given_offset bytes dst rest → Front (spelled_offset dst) bytes (comma ∷ rest)
 unfolding tz.given_offset tz.more
 given_front bytes dst rest pairs (_, _, inl (_, never), _) = absurd never
 given_front bytes dst rest pairs (_, start, inr (_, (_, at)), (east, after, offset, (_, _, inl (_, never), _))) = absurd never
 given_front bytes dst rest pairs (_, start, inr (_, (_, at)), (east, after, offset, (_, behind, inr (_, (_, here)), (_, end, is, (value, same))))) =
     rw (value, ← same, ← is, ← here, at) (offset_front start east after (subst AreInPairs at pairs) offset)
 
-pub dst_offset_front : (std : ℤ) (bytes : List ℕ) (dst : ℤ) (rest : List ℕ) → AreInPairs bytes → Spells (tz.dst_offset std) bytes dst rest → Front (dst_offset_text std dst) bytes (comma ∷ rest)
+pub dst_offset_front : (std : ℤ) (bytes : List ℕ) (dst : ℤ) (rest : List ℕ) → AreInPairs bytes → Spells (tz.dst_offset std) bytes dst rest → Front (spelled_dst_offset std dst) bytes (comma ∷ rest)
 unfolding tz.dst_offset tz.next_hour
-dst_offset_front std bytes dst rest pairs h = elim (int_eq dst (std +ℤ pos 3_600)) as (λ t. int_eq dst (std +ℤ pos 3_600) ≡ t → Front (cond t [] (offset_text dst)) bytes (comma ∷ rest)) [
+dst_offset_front std bytes dst rest pairs h = elim (int_eq dst (std +ℤ pos 3_600)) as (λ t. int_eq dst (std +ℤ pos 3_600) ≡ t → Front (cond t [] (spelled_offset dst)) bytes (comma ∷ rest)) [
   | true ↦ λ e. elim h [
     | inl a ↦ front_nothing bytes (comma ∷ rest) (a.1 ∙ ap (λ (z : List ℕ). comma ∷ z) a.2.2)
-    | inr b ↦ front_any (offset_text dst) bytes (comma ∷ rest) (given_front bytes dst rest pairs b.1)
+    | inr b ↦ front_any (spelled_offset dst) bytes (comma ∷ rest) (given_front bytes dst rest pairs b.1)
   ]
   | false ↦ λ e. elim h [
     | inl a ↦ absurd (both_ways _ e ((Decides-int_eq dst _).1 a.2.1))

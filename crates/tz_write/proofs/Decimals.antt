@@ -3,8 +3,8 @@ use Rattle.std.proofs.lemmas.Fmt.{decimal-digits_value, decimal_nonempty, digits
 use Rattle.std.proofs.lemmas.Str.Parse.{IsNumeralModel, numerals_by_fold}
 use Rattle.tz_base.specs.Grammar.{Number}
 use Rattle.tz_write.proofs.Words.{AllDigits, AreInPairs, IsNumber, List, NoneFirst, TwoDigits, ap, arith, both_ways, cases_eq, colon, decimal, inl, inr}
-use Rattle.tz_write.proofs.Words.{is_digit, length, nat_tests, pair_text, refl, rules, subst, sym, true, value_from, ℕ, [], ◌%◌, ◌++◌, ◌+◌, ◌/◌, ◌<◌, ◌∙◌, ◌∷◌}
-use Rattle.tz_write.proofs.Words.{◌≡◌, ◌≤◌}
+use Rattle.tz_write.proofs.Words.{is_digit, length, nat_tests, spelled_pair, refl, rules, subst, sym, true, value_from, ℕ, [], ◌%◌, ◌++◌, ◌+◌, ◌/◌, ◌<◌, ◌∙◌}
+use Rattle.tz_write.proofs.Words.{◌∷◌, ◌≡◌, ◌≤◌}
 use Rattle.tz_write.proofs.Shortest.{Best, Front, at_most, front_cons}
 use Rattle.tz_write.proofs.TextBytes.{Writes, digits_are}
 
@@ -78,7 +78,7 @@ paired (d ∷ e ∷ []) rest n each some none value pair =
     rw (x, y) refl
 paired (d ∷ e ∷ f ∷ ds) rest n each some none value pair = absurd (both_ways _ pair.2 each.1.1.0)
 
-pub pair_front : (max : ℕ) (bytes after : List ℕ) (n : ℕ) (rest : List ℕ) → bytes ≡ colon ∷ after → AreInPairs bytes → IsNumber max after n rest → Front (pair_text n) bytes rest
+pub pair_front : (max : ℕ) (bytes after : List ℕ) (n : ℕ) (rest : List ℕ) → bytes ≡ colon ∷ after → AreInPairs bytes → IsNumber max after n rest → Front (spelled_pair n) bytes rest
 pair_front max bytes after n rest e pairs p =
     let h : AreInPairs (colon ∷ after) = subst AreInPairs e pairs in
     let d = paired p.digits rest n p.each p.some p.longest p.value (subst TwoDigits p.whole (h.0 refl)) in

@@ -1,12 +1,12 @@
 -- What every file's zone has room for.
 use Rattle.tz_info.specs.declared.file.header.Place.TheVariants.{First, Second}
 use Rattle.tz_info.specs.declared.file.header.Version.TheVariants.{One, Three, Two}
-use Rattle.tz_write.proofs.Words.{All, All-cons, All-nil, All-tail, AreNamesIn, AreRecords, Bool, Counts, FilePieces, HasIndex, HasPieces, HasRule, HasText}
-use Rattle.tz_write.proofs.Words.{Header, IsNamedIn, IsTzFile, IsWritable, List, LocalType, None, Option, Parts, Place, Some, SpellTypes, Spells}
-use Rattle.tz_write.proofs.Words.{SpellsLeapSecond, SpellsType, StandsAt, Transition, TransitionRule, Version, Zone, after_first_block, ap, arith, be_u32}
-use Rattle.tz_write.proofs.Words.{block, designation_of, file, first_version, get_or_append_left, header, inl, inr, later_version, length, length-append}
-use Rattle.tz_write.proofs.Words.{length-map, map, name_or_none, place_in, refl, six_counts, subst, suc, sym, tzif, version, zero, ℕ, [], ◌*◌, ◌++◌, ◌+◌, ◌<◌}
-use Rattle.tz_write.proofs.Words.{◌^◌, ◌∙◌, ◌∷◌, ◌≡◌}
+use Rattle.tz_write.proofs.Words.{All, All-cons, All-nil, All-tail, AreNamesIn, AreRecords, Bool, Counts, FilePieces, HasIndex, HasPieces, HasRule}
+use Rattle.tz_write.proofs.Words.{IsSpellableOrNone, Header, IsNamedIn, IsTzFile, IsWritable, List, LocalType, None, Option, Parts, Place, Some, SpellTypes}
+use Rattle.tz_write.proofs.Words.{Spells, SpellsLeapSecond, SpellsType, StandsAt, Transition, TransitionRule, Version, Zone, after_first_block, ap, arith}
+use Rattle.tz_write.proofs.Words.{be_u32, block, designation_of, file, first_version, get_or_append_left, header, inl, inr, later_version, length}
+use Rattle.tz_write.proofs.Words.{length-append, length-map, map, name_or_none, place_in, refl, six_counts, subst, suc, sym, tzif, version, zero, ℕ, [], ◌*◌}
+use Rattle.tz_write.proofs.Words.{◌++◌, ◌+◌, ◌<◌, ◌^◌, ◌∙◌, ◌∷◌, ◌≡◌}
 use Rattle.std.proofs.lemmas.List.{get_or-map}
 use Rattle.tz_base.specs.Grammar.{Byte, Check, Ended, Exact, Grammar, Marked, Nothing, Number, Refused, Rest, Run, Then}
 use Rattle.tz_info.proofs.ForCallers.{has_lengths}
@@ -120,7 +120,7 @@ indexes_fit : (ts : List Transition) (indexes : List ℕ) → indexes ≡ map (�
 indexes_fit ts indexes e b = λ i d l.
     subst IsByte (get_or-map (λ (t : Transition). t.type_index) ts i d 0 l) (subst Bytes e b i 0 (omega (arith, l, length-map ts (λ t. t.type_index))))
 
-rule_spelled : (extended : Bool) (footer : Option (List ℕ)) (rule : Option TransitionRule) → HasRule extended footer rule → HasText rule
+rule_spelled : (extended : Bool) (footer : Option (List ℕ)) (rule : Option TransitionRule) → HasRule extended footer rule → IsSpellableOrNone rule
 rule_spelled extended footer None h = tt
 rule_spelled extended None (Some rule) h = let none : Some rule ≡ None = h in cc
 rule_spelled extended (Some footer) (Some rule) h = rule_named extended h.text rule h.says.1

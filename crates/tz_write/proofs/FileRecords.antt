@@ -1,13 +1,13 @@
 -- Records that are written spell their items.
 use Rattle.std.proofs.lemmas.Int.{to_z-of_z}
 use Rattle.tz_write.proofs.Words.{All, All-head, All-tail, AreRecords, Bool, Decides-eqb, Fits-of_z, FitsSigned, HasNoZero, HasPlace, IsEntry, IsMark}
-use Rattle.tz_write.proofs.Words.{IsNameOrNone, IsTime, IsType, IsUtOffset, LeapSecond, List, LocalType, None, Option, Some, SpellLeapSeconds, SpellTransitions}
-use Rattle.tz_write.proofs.Words.{SpellTypes, Spells, SpellsLeapSecond, SpellsType, StandsAt, Transition, and_parts, ap, arith, be_u32, begins, cast_signed}
-use Rattle.tz_write.proofs.Words.{cast_unsigned, cond, designation_of, drop, drop_more, eqb-true, false, false≢true, flat_map, flat_map_more, flat_map_single}
-use Rattle.tz_write.proofs.Words.{from_be_bytes-to_be_bytes_4, from_be_bytes-to_be_bytes_8, get_or, index_bytes, ints, is_name_byte, leap_bytes, least_offset}
-use Rattle.tz_write.proofs.Words.{length, length-append, ltb-true, mark_byte, name_of, name_or_none, nat_eq, nat_lt, number_bytes, place_of, refl, signed}
-use Rattle.tz_write.proofs.Words.{signed_bytes, starts_is, starts_with, subst, suc, sym, take, take_more, time_bytes, time_of, true, type_bytes, w32, w64, ℕ, ℤ}
-use Rattle.tz_write.proofs.Words.{[], ◌&&◌, ◌*◌, ◌++◌, ◌+◌, ◌<ℤ◌, ◌<◌, ◌==◌, ◌^◌, ◌∙◌, ◌∷◌, ◌≡◌, ◌≢◌}
+use Rattle.tz_write.proofs.Words.{IsNameOrNone, HasTimeOf64Bits, IsType, IsUtOffset, LeapSecond, List, LocalType, None, Option, Some, SpellLeapSeconds}
+use Rattle.tz_write.proofs.Words.{SpellTransitions, SpellTypes, Spells, SpellsLeapSecond, SpellsType, StandsAt, Transition, and_parts, ap, arith, be_u32}
+use Rattle.tz_write.proofs.Words.{begins, cast_signed, cast_unsigned, cond, designation_of, drop, drop_more, eqb-true, false, false≢true, flat_map}
+use Rattle.tz_write.proofs.Words.{flat_map_more, flat_map_single, from_be_bytes-to_be_bytes_4, from_be_bytes-to_be_bytes_8, get_or, index_bytes, ints}
+use Rattle.tz_write.proofs.Words.{is_name_byte, leap_bytes, least_offset, length, length-append, ltb-true, mark_byte, name_of, name_or_none, nat_eq, nat_lt}
+use Rattle.tz_write.proofs.Words.{number_bytes, place_of, refl, signed, signed_bytes, starts_is, starts_with, subst, suc, sym, take, take_more, time_bytes}
+use Rattle.tz_write.proofs.Words.{file_time, true, type_bytes, w32, w64, ℕ, ℤ, [], ◌&&◌, ◌*◌, ◌++◌, ◌+◌, ◌<ℤ◌, ◌<◌, ◌==◌, ◌^◌, ◌∙◌, ◌∷◌, ◌≡◌, ◌≢◌}
 
 -- a count
 pub number_is : (n : ℕ) (rest : List ℕ) → n < 2 ^ 32 → Spells be_u32 (number_bytes n ++ rest) n rest
@@ -48,9 +48,10 @@ size_of_records size f (x ∷ xs) h =
     let more = size_of_records size f xs h in let one = h x in let joined = length-append (f x) (flat_map f xs) in omega arith
 
 -- ---- transitions and leap seconds
-pub transitions_are : (ts : List Transition) → All IsTime ts → SpellTransitions 8 (flat_map time_bytes ts) (flat_map index_bytes ts) ts
+pub transitions_are : (ts : List Transition) → All HasTimeOf64Bits ts → SpellTransitions 8 (flat_map time_bytes ts) (flat_map index_bytes ts) ts
 transitions_are ts h = record {
-  times_are = records_are 8 (λ bytes t. time_of 8 bytes ≡ t.unix_leap_time) time_bytes ts (λ k d l. record { sized = size_64 _; says = signed_64 _ (h k d l) });
+  times_are = records_are 8 (λ bytes t. file_time 8 bytes ≡ t.unix_leap_time) time_bytes ts
+      (λ k d l. record { sized = size_64 _; says = signed_64 _ (h k d l) });
   indexes_are = flat_map_single (λ (t : Transition). t.type_index) ts;
 }
 

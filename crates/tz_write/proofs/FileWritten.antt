@@ -1,9 +1,9 @@
 -- What is written of a zone.
-use Rattle.tz_write.proofs.Words.{All-weaker, Bool, Err, HasRoom, HasText, HavePlaces, HaveVersion, IfOk, In_order, IsFirstPlaced, IsFooterText, IsInNoFile}
-use Rattle.tz_write.proofs.Words.{IsLaid, IsNameOrNone, IsRuleOrNone, IsSound, IsType, IsTzFile, IsWritable, IsWrittenFile, List, LocalType, NeedsExtensions}
-use Rattle.tz_write.proofs.Words.{None, Ok, OnOk, Option, Otherwise, Result, Room, SaysRule, Some, TransitionRule, Zone, ap, arith, cases_lt, counts_bytes}
-use Rattle.tz_write.proofs.Words.{false, file_bytes, first_half, get_or, header_bytes, inl, inr, laid_from, length, number_bytes, refl, second_half, subst, sym}
-use Rattle.tz_write.proofs.Words.{true, ℕ, [], ◌<◌, ◌∙◌, ◌≡◌}
+use Rattle.tz_write.proofs.Words.{All-weaker, Bool, Err, IsRoomOf, IsSpellableOrNone, HavePlaces, HaveVersion, IfOk, In_order, IsFirstPlaced, IsFooterText}
+use Rattle.tz_write.proofs.Words.{IsInNoFile, IsLaid, IsNameOrNone, IsRuleOrNone, IsSound, IsType, IsTzFile, IsWritable, IsWrittenFile, List, LocalType}
+use Rattle.tz_write.proofs.Words.{NeedsExtensions, None, Ok, OnOk, Option, Otherwise, Result, Room, SaysRule, Some, TransitionRule, Zone, ap, arith, cases_lt}
+use Rattle.tz_write.proofs.Words.{counts_bytes, false, file_bytes, first_half, get_or, header_bytes, inl, inr, laid_from, length, number_bytes, refl}
+use Rattle.tz_write.proofs.Words.{second_half, subst, sym, true, ℕ, [], ◌<◌, ◌∙◌, ◌≡◌}
 use Rattle.tz_write.proofs.FileLayouts.{laid_of, laid_size}
 use Rattle.tz_write.proofs.FileLimits.{writable}
 use Rattle.tz_write.proofs.FileSpelled.{IsPlain, file_is}
@@ -28,7 +28,7 @@ has_version : (extended : Bool) (text d : List ℕ) (z : Zone) → HaveVersion e
 unfolding file_bytes first_half second_half header_bytes counts_bytes number_bytes
 has_version extended text d z = record { first = refl; second = refl }
 
-written_is : (z : Zone) (room : Room) (text : List ℕ) (extended : Bool) (bytes : List ℕ) → HasRoom z room → IsSound z → 0 < length z.types → IsRuleOrNone z.rule → IsFooterText z.rule text extended
+written_is : (z : Zone) (room : Room) (text : List ℕ) (extended : Bool) (bytes : List ℕ) → IsRoomOf z room → IsSound z → 0 < length z.types → IsRuleOrNone z.rule → IsFooterText z.rule text extended
     → bytes ≡ file_bytes extended text room.designations z → IsWrittenFile z bytes
 written_is z room text extended bytes h sound some fits footer e =
     let p = text_is z.rule text extended fits footer in
@@ -45,7 +45,7 @@ written_is z room text extended bytes h sound some fits footer e =
     }
 
 -- the same of what a function answers
-pub file_result : {X E : Type 0} (view : X → List ℕ) (r : Result X E) (z : Zone) (room : Room) (text : List ℕ) (extended : Bool) → HasRoom z room → 0 < length z.types → IsRuleOrNone z.rule → IsFooterText z.rule text extended
+pub file_result : {X E : Type 0} (view : X → List ℕ) (r : Result X E) (z : Zone) (room : Room) (text : List ℕ) (extended : Bool) → IsRoomOf z room → 0 < length z.types → IsRuleOrNone z.rule → IsFooterText z.rule text extended
     → IfOk r (λ v. view v ≡ file_bytes extended text room.designations z) → OnOk r (IsSound z) → IfOk r (λ v. IsWrittenFile z (view v))
 file_result view (Ok v) z room text extended h some fits footer e sound = written_is z room text extended (view v) h sound some fits footer e
 file_result view (Err y) z room text extended h some fits footer e sound = tt
@@ -97,17 +97,18 @@ pub no_file : (z : Zone) → ¬ (IsWritable z) → IsInNoFile z
 no_file z none = λ bytes b h. none (writable bytes z b h)
 
 -- ---- a zone that can be written
-pub can_be_written : (z : Zone) (room : Room) → HasRoom z room → HasText z.rule → IsWritable z
+pub can_be_written : (z : Zone) (room : Room) → IsRoomOf z room → IsSpellableOrNone z.rule → IsWritable z
 can_be_written z room h text = record {
   room = record { counts = h.counts; indexes = h.indexes; designations = room.designations; names = h.shortest.names };
   rule = text;
 }
 
-pub footer_spelled : (rule : Option TransitionRule) (text : List ℕ) (extended : Bool) → IsFooterText rule text extended → HasText rule
+pub footer_spelled : (rule : Option TransitionRule) (text : List ℕ) (extended : Bool) → IsFooterText rule text extended → IsSpellableOrNone rule
 footer_spelled (Some rule) text extended h = rule_named extended text rule h.spells
 footer_spelled None text extended h = tt
 
-footer_some : (rule : Option TransitionRule) → IsRuleOrNone rule → HasText rule → (text : List ℕ) × (extended : Bool) × IsFooterText rule text extended
+footer_some : (rule : Option TransitionRule) → IsRuleOrNone rule → IsSpellableOrNone rule
+    → (text : List ℕ) × (extended : Bool) × IsFooterText rule text extended
 footer_some (Some rule) fits h = text_some rule fits h
 footer_some None fits h = ([], false, (refl, refl))
 

@@ -3,7 +3,7 @@ use Rattle.tz_base.proofs.RunLaws.{all_of}
 use Rattle.tz_info.specs.TzGrammar as tz
 use Rattle.tz_write.proofs.Words.{AllOf, AreInPairs, Bool, IsName, List, NoneFirst, Spells, Without, and_from, and_parts, ap, append_assoc, arith, both_ways}
 use Rattle.tz_write.proofs.Words.{colon, cond, false, greater, inl, inr, is_letter, is_name_byte, is_not_greater, length, length-append, less, list_all}
-use Rattle.tz_write.proofs.Words.{name_text, nat_tests, refl, subst, sym, true, ℕ, [], ◌++◌, ◌<◌, ◌∙◌, ◌∷◌, ◌≡◌, ◌≢◌, ◌≤◌}
+use Rattle.tz_write.proofs.Words.{spelled_name, nat_tests, refl, subst, sym, true, ℕ, [], ◌++◌, ◌<◌, ◌∙◌, ◌∷◌, ◌≡◌, ◌≢◌, ◌≤◌}
 use Rattle.tz_write.proofs.Shortest.{Front, front_cons}
 use Rattle.tz_write.proofs.TextBytes.{AreTextBytes, Writes, all_append, all_others, is_text_byte, names_are, writes_mark, writes_other}
 
@@ -35,7 +35,7 @@ not_less : (bs rest : List ℕ) → 0 < length bs → AllOf is_letter bs → Wit
 not_less [] rest some h = absurd (omega arith)
 not_less (b ∷ bs) rest some h = let l = letter_least b h.0 in λ e. absurd (omega arith)
 
-pub name_writes : (name rest : List ℕ) → IsName name → NoneFirst is_letter rest → Writes tz.name (name_text name) name rest
+pub name_writes : (name rest : List ℕ) → IsName name → NoneFirst is_letter rest → Writes tz.name (spelled_name name) name rest
 unfolding tz.name tz.quoted
 name_writes name rest h none = elim (list_all is_letter name) as (λ t. list_all is_letter name ≡ t → Writes tz.name (cond t name (less ∷ name ++ (greater ∷ []))) name rest) [
   | true ↦ λ e. let each = all_from is_letter name e in let l = h.0 in
@@ -59,7 +59,7 @@ quoted_whole : (bytes name rest : List ℕ) → Spells tz.quoted bytes name rest
 unfolding tz.quoted
 quoted_whole bytes name rest (text, after, run, (_, end, close, (value, same))) = rw (value, ← same) (run.whole ∙ ap (λ (r : List ℕ). text ++ r) close ∙ sym (append_assoc text (greater ∷ []) end))
 
-pub name_front : (bytes name rest : List ℕ) → Spells tz.name bytes name rest → Front (name_text name) bytes rest
+pub name_front : (bytes name rest : List ℕ) → Spells tz.name bytes name rest → Front (spelled_name name) bytes rest
 unfolding tz.name tz.quoted
 name_front bytes name rest h = elim (list_all is_letter name) as (λ t. list_all is_letter name ≡ t → Front (cond t name (less ∷ name ++ (greater ∷ []))) bytes rest) [
   | true ↦ λ e. elim h [
@@ -77,7 +77,7 @@ name_front bytes name rest h = elim (list_all is_letter name) as (λ t. list_all
 ] refl
 
 -- a name begins with a letter, a digit or a sign, and its text with a letter or `<`
-pub name_first : (name rest : List ℕ) → IsName name → (b : ℕ) × (bs : List ℕ) × (name_text name ++ rest ≡ b ∷ bs) × (58 < b)
+pub name_first : (name rest : List ℕ) → IsName name → (b : ℕ) × (bs : List ℕ) × (spelled_name name ++ rest ≡ b ∷ bs) × (58 < b)
 name_first name rest h = elim (list_all is_letter name) as (λ t. list_all is_letter name ≡ t → (b : ℕ) × (bs : List ℕ) × (cond t name (less ∷ name ++ (greater ∷ [])) ++ rest ≡ b ∷ bs) × (58 < b)) [
   | true ↦ λ e. let l = h.0 in first name (omega arith) (all_from is_letter name e)
   | false ↦ λ e. (less, (name ++ (greater ∷ [])) ++ rest, refl, omega arith)

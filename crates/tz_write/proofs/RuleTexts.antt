@@ -2,11 +2,11 @@
 use Rattle.tz_info.specs.TzGrammar as tz
 use Rattle.tz_info.specs.declared.rule.transition_rule.TransitionRule.TheVariants as rules
 use Rattle.tz_write.proofs.Words.{Alternate, AreInPairs, AreTimesOf, Bool, CanBeSpelled, DayTime, IsAlternateRule, IsName, IsNamed, IsPlainTime, IsRule}
-use Rattle.tz_write.proofs.Words.{IsTimeOf, IsTzText, IsUnspelled, IsWithinDay, IsWrittenText, List, LocalType, NoneFirst, Some, Spells, TransitionRule}
-use Rattle.tz_write.proofs.Words.{alternate_text, ap, append-nil, append_assoc, arith, both_ways, cases_lt, comma, cond, day_text, dst_offset_text, false, inl}
-use Rattle.tz_write.proofs.Words.{inr, int_eq, ints, is_digit, is_letter, length, name_of, name_or_none, name_text, named_type, nat_tests, negsuc, not}
-use Rattle.tz_write.proofs.Words.{offset_fits, offset_text, pos, refl, subst, sym, text_of, true, type_text, ℕ, ℤ, [], ◌++◌, ◌+ℤ◌, ◌<◌, ◌↔◌, ◌∙◌, ◌∷◌, ◌≡◌, ◌≢◌}
-use Rattle.tz_write.proofs.Words.{◌≤◌, ◌⊎◌}
+use Rattle.tz_write.proofs.Words.{IsTextTime, IsTzText, IsUnspelled, IsWithinDay, IsWrittenText, List, LocalType, NoneFirst, Some, Spells, TransitionRule}
+use Rattle.tz_write.proofs.Words.{spelled_alternate, ap, append-nil, append_assoc, arith, both_ways, cases_lt, comma, cond, spelled_day, spelled_dst_offset}
+use Rattle.tz_write.proofs.Words.{false, inl, inr, int_eq, ints, is_digit, is_letter, length, name_of, name_or_none, spelled_name, named_type, nat_tests}
+use Rattle.tz_write.proofs.Words.{negsuc, not, offset_fits, spelled_offset, pos, refl, subst, sym, spelled_rule, true, spelled_type, ℕ, ℤ, [], ◌++◌, ◌+ℤ◌, ◌<◌}
+use Rattle.tz_write.proofs.Words.{◌↔◌, ◌∙◌, ◌∷◌, ◌≡◌, ◌≢◌, ◌≤◌, ◌⊎◌}
 use Rattle.tz_write.proofs.Clocks.{Stops, offset_first, offset_front, offset_writes}
 use Rattle.tz_write.proofs.DayTexts.{day_front, day_plain, day_writes, dst_offset_front, dst_offset_writes}
 use Rattle.tz_write.proofs.NameTexts.{name_first, name_front, name_writes}
@@ -77,11 +77,11 @@ parts_of extended bytes r (name, after, n, (east, end, o, inr (_, (dst_name, at_
 not_letter : (b : ℕ) → b ≤ 57 → is_letter b ≡ false
 not_letter b h = grind (arith, nat_tests)
 
-offset_ends_name : (east : ℤ) (rest : List ℕ) → IsWithinDay east → NoneFirst is_letter (offset_text east ++ rest)
+offset_ends_name : (east : ℤ) (rest : List ℕ) → IsWithinDay east → NoneFirst is_letter (spelled_offset east ++ rest)
 offset_ends_name east rest h = let f = offset_first east rest h in rw f.2 (not_letter f.0 f.3)
 
-dst_ends_name : (std dst : ℤ) (rest : List ℕ) → IsWithinDay dst → NoneFirst is_letter (dst_offset_text std dst ++ (comma ∷ rest))
-dst_ends_name std dst rest h = elim (int_eq dst (std +ℤ pos 3_600)) as (λ t. NoneFirst is_letter (cond t [] (offset_text dst) ++ (comma ∷ rest))) [
+dst_ends_name : (std dst : ℤ) (rest : List ℕ) → IsWithinDay dst → NoneFirst is_letter (spelled_dst_offset std dst ++ (comma ∷ rest))
+dst_ends_name std dst rest h = elim (int_eq dst (std +ℤ pos 3_600)) as (λ t. NoneFirst is_letter (cond t [] (spelled_offset dst) ++ (comma ∷ rest))) [
   | true ↦ refl
   | false ↦ offset_ends_name dst (comma ∷ rest) h
 ]
@@ -90,7 +90,7 @@ not_digit : (b : ℕ) → 58 < b → is_digit b ≡ false
 not_digit b h = grind (arith, nat_tests)
 
 -- ---- a type's name and offset
-type_front : (t : LocalType) (name bytes middle rest : List ℕ) → t.name ≡ Some name → AreInPairs bytes → Spells tz.name bytes name middle → Spells tz.offset middle t.offset rest → Front (type_text t) bytes rest
+type_front : (t : LocalType) (name bytes middle rest : List ℕ) → t.name ≡ Some name → AreInPairs bytes → Spells tz.name bytes name middle → Spells tz.offset middle t.offset rest → Front (spelled_type t) bytes rest
 type_front t name bytes middle rest e pairs n o =
     let x : name_of t ≡ name = ap name_or_none e in
     rw x (front_on pairs (name_front bytes name middle n) (λ p. offset_front middle t.offset rest p o))
@@ -99,63 +99,63 @@ type_front t name bytes middle rest e pairs n o =
 front_whole : (text bytes : List ℕ) → Front text bytes [] → Best text bytes
 front_whole text bytes f = subst (Best text) (sym (append-nil f.front) ∙ sym f.whole) f.best
 
-fixed_front : (bytes : List ℕ) (t : LocalType) → AreInPairs bytes → IsFixedText bytes t → Best (type_text t) bytes
-fixed_front bytes t pairs h = front_whole (type_text t) bytes (type_front t h.name bytes h.after_name [] h.named.named pairs h.name_spelled h.offset_spelled)
+fixed_front : (bytes : List ℕ) (t : LocalType) → AreInPairs bytes → IsFixedText bytes t → Best (spelled_type t) bytes
+fixed_front bytes t pairs h = front_whole (spelled_type t) bytes (type_front t h.name bytes h.after_name [] h.named.named pairs h.name_spelled h.offset_spelled)
 
-name_stops : (name rest : List ℕ) → IsName name → Stops (name_text name ++ rest)
+name_stops : (name rest : List ℕ) → IsName name → Stops (spelled_name name ++ rest)
 name_stops name rest h = let f = name_first name rest h in rw f.2 (not_digit f.0 f.3, λ e. absurd (omega (arith, f.3)))
 
 -- the parts of the text, each with what stands after it
 abbrev days_of : Alternate → List ℕ
-days_of a = day_text a.start ++ (comma ∷ day_text a.end)
+days_of a = spelled_day a.start ++ (comma ∷ spelled_day a.end)
 
 abbrev from_offset : Alternate → List ℕ
-from_offset a = dst_offset_text a.std.offset a.dst.offset ++ (comma ∷ days_of a)
+from_offset a = spelled_dst_offset a.std.offset a.dst.offset ++ (comma ∷ days_of a)
 
 abbrev from_name : Alternate → List ℕ
-from_name a = name_text (name_of a.dst) ++ from_offset a
+from_name a = spelled_name (name_of a.dst) ++ from_offset a
 
 -- the type that the parts say
 type_is : (name : List ℕ) (dst : Bool) (t : LocalType) → IsNamed name dst t → t ≡ named_type name dst t.offset
 type_is name dst t h = rw (← h.flag, ← h.named) refl
 
-name_some : (name more : List ℕ) → IsName name → (name_text name ++ more) ++ [] ≢ []
-name_some name more h = λ e. let f = name_first name more h in let is = f.2 in let none = sym (append-nil (name_text name ++ more)) ∙ e in cc
+name_some : (name more : List ℕ) → IsName name → (spelled_name name ++ more) ++ [] ≢ []
+name_some name more h = λ e. let f = name_first name more h in let is = f.2 in let none = sym (append-nil (spelled_name name ++ more)) ∙ e in cc
 
-days_write : (extended : Bool) (a : Alternate) → IsAlternateRule a → IsTimeOf extended a.start.time → IsTimeOf extended a.end.time
+days_write : (extended : Bool) (a : Alternate) → IsAlternateRule a → IsTextTime extended a.start.time → IsTextTime extended a.end.time
     → Writes (tz.days extended) (days_of a) (a.start, a.end) []
 unfolding tz.days
 days_write extended a h start end =
-    writes_then (day_writes extended a.start (comma ∷ (day_text a.end ++ [])) h.start_day start (inr (day_text a.end ++ [], refl)))
+    writes_then (day_writes extended a.start (comma ∷ (spelled_day a.end ++ [])) h.start_day start (inr (spelled_day a.end ++ [], refl)))
     (writes_byte refl (writes_last (day_writes extended a.end [] h.end_day end (inl refl)) (refl, refl)))
 
 rule_writes : (extended : Bool) (rule : TransitionRule) → IsRule rule → CanBeSpelled rule → AreTimesOf extended rule
-    → Writes (tz.text extended) (text_of rule) rule []
+    → Writes (tz.text extended) (spelled_rule rule) rule []
 unfolding tz.text tz.rule tz.fixed tz.alternate tz.named tz.end
 rule_writes extended (rules.Fixed t) fits ((name, h), w) times =
     let n : name_of t ≡ name = ap name_or_none h.named in
-    rw n (writes_then (name_writes name (offset_text t.offset ++ []) h.allowed (offset_ends_name t.offset [] w))
+    rw n (writes_then (name_writes name (spelled_offset t.offset ++ []) h.allowed (offset_ends_name t.offset [] w))
     (writes_last (offset_writes t.offset [] w (tt, tt)) (inl (refl, (t, [], (h.allowed, type_is name false t h, refl), (refl, refl))))))
 rule_writes extended (rules.Alternate a) fits ((m, s), (n, d)) (start, end) =
     let first : name_of a.std ≡ m = ap name_or_none s.named in let second : name_of a.dst ≡ n = ap name_or_none d.named in
-    let std = a.std.offset in let dst = a.dst.offset in let tail = name_text n ++ from_offset a in
-    rw (first, second, append_assoc (name_text m) (offset_text std) tail)
-    (writes_then (name_writes m ((offset_text std ++ tail) ++ []) s.allowed (rw (append_assoc (offset_text std) tail []) (offset_ends_name std (tail ++ []) fits.within.std_offset)))
-    (writes_then (offset_writes std (tail ++ []) fits.within.std_offset (rw (append_assoc (name_text n) (from_offset a) []) (name_stops n (from_offset a ++ []) d.allowed)))
+    let std = a.std.offset in let dst = a.dst.offset in let tail = spelled_name n ++ from_offset a in
+    rw (first, second, append_assoc (spelled_name m) (spelled_offset std) tail)
+    (writes_then (name_writes m ((spelled_offset std ++ tail) ++ []) s.allowed (rw (append_assoc (spelled_offset std) tail []) (offset_ends_name std (tail ++ []) fits.within.std_offset)))
+    (writes_then (offset_writes std (tail ++ []) fits.within.std_offset (rw (append_assoc (spelled_name n) (from_offset a) []) (name_stops n (from_offset a ++ []) d.allowed)))
     (writes_more (name_some n (from_offset a) d.allowed)
-    (writes_then (name_writes n (from_offset a ++ []) d.allowed (rw (append_assoc (dst_offset_text std dst) (comma ∷ days_of a) []) (dst_ends_name std dst (days_of a ++ []) fits.within.dst_offset)))
+    (writes_then (name_writes n (from_offset a ++ []) d.allowed (rw (append_assoc (spelled_dst_offset std dst) (comma ∷ days_of a) []) (dst_ends_name std dst (days_of a ++ []) fits.within.dst_offset)))
     (dst_offset_writes std dst (days_of a) (rules.Alternate a) [] fits.within.dst_offset (writes_last (days_write extended a fits start end)
     (tt, [], inl (refl, (refl, refl)), (a.std, [], (s.allowed, type_is m false a.std s, refl), (a.dst, [], (d.allowed, type_is n true a.dst d, refl), (refl, refl))))))))))
 
-alternate_front : (extended : Bool) (bytes : List ℕ) (a : Alternate) → AreInPairs bytes → IsAlternateText extended bytes a → Best (alternate_text a) bytes
+alternate_front : (extended : Bool) (bytes : List ℕ) (a : Alternate) → AreInPairs bytes → IsAlternateText extended bytes a → Best (spelled_alternate a) bytes
 alternate_front extended bytes a pairs h =
     let n : name_of a.dst ≡ h.dst_name = ap name_or_none h.dst_named.named in
     let std = type_front a.std h.std_name bytes h.after_std_name h.after_std h.std_named.named pairs h.std_name_spelled h.std_offset_spelled in
-    front_whole (alternate_text a) bytes
+    front_whole (spelled_alternate a) bytes
     (rw n (front_on pairs std (λ p. front_on p (name_front h.after_std h.dst_name h.after_dst_name h.dst_name_spelled) (λ p.
     front_on p (dst_offset_front a.std.offset h.after_dst_name a.dst.offset h.at_start p h.dst_offset_spelled)
     (λ p. front_cons comma (days_of a) (comma ∷ h.at_start) h.at_start [] refl
-    (front_on p.1 (day_front extended h.at_start a.start (comma ∷ h.at_end) p.1 h.start_spelled) (λ p. front_cons comma (day_text a.end) (comma ∷ h.at_end) h.at_end [] refl
+    (front_on p.1 (day_front extended h.at_start a.start (comma ∷ h.at_end) p.1 h.start_spelled) (λ p. front_cons comma (spelled_day a.end) (comma ∷ h.at_end) h.at_end [] refl
     (day_front extended h.at_end a.end [] p.1 h.end_spelled))))))))
 
 -- ---- rules
@@ -163,25 +163,25 @@ pub times_extended : (rule : TransitionRule) → IsRule rule → AreTimesOf true
 times_extended (rules.Fixed t) fits = tt
 times_extended (rules.Alternate a) fits = (fits.within.start_time, fits.within.end_time)
 
-pub rule_spelled : (extended : Bool) (rule : TransitionRule) → IsRule rule → CanBeSpelled rule → AreTimesOf extended rule → IsTzText extended (text_of rule) rule
-rule_spelled extended rule fits h times = subst (λ bytes. IsTzText extended bytes rule) (append-nil (text_of rule))
+pub rule_spelled : (extended : Bool) (rule : TransitionRule) → IsRule rule → CanBeSpelled rule → AreTimesOf extended rule → IsTzText extended (spelled_rule rule) rule
+rule_spelled extended rule fits h times = subst (λ bytes. IsTzText extended bytes rule) (append-nil (spelled_rule rule))
     (rule_writes extended rule fits h times).spelled
 
-pub rule_pairs : (rule : TransitionRule) → IsRule rule → CanBeSpelled rule → AreInPairs (text_of rule)
-rule_pairs rule fits h = subst AreInPairs (append-nil (text_of rule)) ((rule_writes true rule fits h (times_extended rule fits)).pairs tt)
+pub rule_pairs : (rule : TransitionRule) → IsRule rule → CanBeSpelled rule → AreInPairs (spelled_rule rule)
+rule_pairs rule fits h = subst AreInPairs (append-nil (spelled_rule rule)) ((rule_writes true rule fits h (times_extended rule fits)).pairs tt)
 
-pub text_are : (rule : TransitionRule) → IsRule rule → CanBeSpelled rule → AreTextBytes (text_of rule)
+pub text_are : (rule : TransitionRule) → IsRule rule → CanBeSpelled rule → AreTextBytes (spelled_rule rule)
 text_are rule fits h = (rule_writes true rule fits h (times_extended rule fits)).bytes
 
 -- it begins with a letter or `<`
-pub text_first : (rule : TransitionRule) → CanBeSpelled rule → (b : ℕ) × (bs : List ℕ) × (text_of rule ≡ b ∷ bs) × (58 < b)
-text_first (rules.Fixed t) ((name, h), _) = let n : name_of t ≡ name = ap name_or_none h.named in rw n (name_first name (offset_text t.offset) h.allowed)
+pub text_first : (rule : TransitionRule) → CanBeSpelled rule → (b : ℕ) × (bs : List ℕ) × (spelled_rule rule ≡ b ∷ bs) × (58 < b)
+text_first (rules.Fixed t) ((name, h), _) = let n : name_of t ≡ name = ap name_or_none h.named in rw n (name_first name (spelled_offset t.offset) h.allowed)
 text_first (rules.Alternate a) ((name, h), _) =
     let n : name_of a.std ≡ name = ap name_or_none h.named in
-    rw (append_assoc (name_text (name_of a.std)) (offset_text a.std.offset) (from_name a), n)
-    (name_first name (offset_text a.std.offset ++ from_name a) h.allowed)
+    rw (append_assoc (spelled_name (name_of a.std)) (spelled_offset a.std.offset) (from_name a), n)
+    (name_first name (spelled_offset a.std.offset ++ from_name a) h.allowed)
 
-pub rule_best : (extended : Bool) (bytes : List ℕ) (rule : TransitionRule) → AreInPairs bytes → IsTzText extended bytes rule → Best (text_of rule) bytes
+pub rule_best : (extended : Bool) (bytes : List ℕ) (rule : TransitionRule) → AreInPairs bytes → IsTzText extended bytes rule → Best (spelled_rule rule) bytes
 rule_best extended bytes (rules.Fixed t) pairs h = fixed_front bytes t pairs (parts_of extended bytes (rules.Fixed t) h)
 rule_best extended bytes (rules.Alternate a) pairs h = alternate_front extended bytes a pairs (parts_of extended bytes (rules.Alternate a) h)
 
@@ -199,7 +199,7 @@ pub unspelled : (rule : TransitionRule) → ¬ (CanBeSpelled rule) → IsUnspell
 unspelled rule none = λ extended bytes h. none (rule_named extended bytes rule h)
 
 -- the text has extensions where one without doesn't have room for the times
-pub written : (rule : TransitionRule) (plain : Bool) → IsRule rule → CanBeSpelled rule → (plain ≡ true → AreTimesOf false rule) → (AreTimesOf false rule → plain ≡ true) → IsWrittenText rule (text_of rule) (not plain)
+pub written : (rule : TransitionRule) (plain : Bool) → IsRule rule → CanBeSpelled rule → (plain ≡ true → AreTimesOf false rule) → (AreTimesOf false rule → plain ≡ true) → IsWrittenText rule (spelled_rule rule) (not plain)
 written rule true fits h to from = record {
   spells = rule_spelled false rule fits h (to refl);
   pairs = rule_pairs rule fits h;
@@ -241,20 +241,23 @@ plain_times (rules.Alternate a) = elim (plain_time a.start.time) [
   | inr n ↦ inr (λ h. n h.0)
 ]
 
-text_is : (rule : TransitionRule) → IsRule rule → CanBeSpelled rule → (needed : Bool) × IsWrittenText rule (text_of rule) needed
+text_is : (rule : TransitionRule) → IsRule rule → CanBeSpelled rule → (needed : Bool) × IsWrittenText rule (spelled_rule rule) needed
 text_is rule fits named = elim (plain_times rule) [
   | inl p ↦ (false, written rule true fits named (λ e. p) (λ h. refl))
   | inr n ↦ (true, written rule false fits named (λ e. absurd (both_ways false refl e)) (λ h. absurd (n h)))
 ]
 
 pub text_some : (rule : TransitionRule) → IsRule rule → CanBeSpelled rule → (text : List ℕ) × (needed : Bool) × IsWrittenText rule text needed
-text_some rule fits named = let s = text_is rule fits named in (text_of rule, s.0, s.1)
+text_some rule fits named = let s = text_is rule fits named in (spelled_rule rule, s.0, s.1)
 
-pub rule_text : (rule : TransitionRule) (text : List ℕ) (extended : Bool) → IsRule rule → IsWrittenText rule text extended → text ≡ text_of rule
+pub rule_text : (rule : TransitionRule) (text : List ℕ) (extended : Bool) → IsRule rule → IsWrittenText rule text extended → text ≡ spelled_rule rule
 rule_text rule text extended fits h =
-    let s = text_is rule fits (rule_named extended text rule h.spells) in (text_once rule text (text_of rule) extended s.0 h s.1).0
+    let s = text_is rule fits (rule_named extended text rule h.spells) in (text_once rule text (spelled_rule rule) extended s.0 h s.1).0
 
 -- a text has extensions where the rule's times need them
 pub extensions : (rule : TransitionRule) (text : List ℕ) (extended : Bool) → IsRule rule → IsWrittenText rule text extended → (extended ≡ true) ↔ (¬ (AreTimesOf false rule))
-extensions rule text true fits h = ((λ e times. h.needed e (text_of rule) (rule_spelled false rule fits (rule_named true text rule h.spells) times)), λ n. refl)
+extensions rule text true fits h = (
+  (λ e times. h.needed e (spelled_rule rule) (rule_spelled false rule fits (rule_named true text rule h.spells) times)),
+  λ n. refl,
+)
 extensions rule text false fits h = ((λ e. absurd (both_ways false refl e)), λ n. absurd (n (rule_plain text rule h.spells)))

@@ -29,11 +29,10 @@ pub use Rattle.tz_info.proofs.Words.{MatchOption, MatchResult, Parts, SFits, Say
 pub use Rattle.tz_info.proofs.Words.{SpellsLeapSecond, SpellsType, StandsAt, Zone, and_parts, ap, append-nil, append_assoc, arith, cases_lt, cond}
 pub use Rattle.tz_info.proofs.Words.{designation_of, drop, false, false_unless, false≢true, get_or, inl, inr, int_eq, int_lt, ints, is_ascii_whitespace}
 pub use Rattle.tz_info.proofs.Words.{is_letter, is_not_greater, least_offset, length, length-append, length-map, length-take, list_all, magic, map, named_type}
-pub use Rattle.tz_info.proofs.Words.{nat_eq}
-pub use Rattle.tz_info.proofs.Words.{nat_lt, nat_tests, neg_ℤ, negsuc, nil_from_length, not, number_of, place_in, pos, posix_zone, refl, rules, seconds_of}
-pub use Rattle.tz_info.proofs.Words.{starts_with, subst}
-pub use Rattle.tz_info.proofs.Words.{suc, sym, take, take_more, time_limit, time_of, true, types_of, unsigned_abs, w32, w64, zero, zone_of_rule, ℕ, ℤ, [], ◌%◌}
-pub use Rattle.tz_info.proofs.Words.{◌&&◌, ◌*◌, ◌++◌, ◌+ℤ◌, ◌+◌, ◌/◌, ◌<ℤ◌, ◌<◌, ◌==◌, ◌||◌, ◌↔◌, ◌∙◌, ◌∷◌, ◌≡◌, ◌≢◌, ◌≤ℤ◌, ◌≤◌, ◌⊎◌}
+pub use Rattle.tz_info.proofs.Words.{nat_eq, nat_lt, nat_tests, neg_ℤ, negsuc, nil_from_length, not, error_number, place_in, pos, posix_zone, refl, rules}
+pub use Rattle.tz_info.proofs.Words.{signed_seconds, starts_with, subst, suc, sym, take, take_more, time_limit, file_time, true, types_of, unsigned_abs, w32}
+pub use Rattle.tz_info.proofs.Words.{w64, zero, zone_of_rule, ℕ, ℤ, [], ◌%◌, ◌&&◌, ◌*◌, ◌++◌, ◌+ℤ◌, ◌+◌, ◌/◌, ◌<ℤ◌, ◌<◌, ◌==◌, ◌||◌, ◌↔◌, ◌∙◌, ◌∷◌, ◌≡◌, ◌≢◌}
+pub use Rattle.tz_info.proofs.Words.{◌≤ℤ◌, ◌≤◌, ◌⊎◌}
 unfoldable pub use Rattle.tz_info.proofs.Words.{after_first_block, block, file, first_version, later_version}
 unfoldable pub use Rattle.tz_info.specs.FileContents.{signed}
 pub use Rattle.tz_info.specs.FileHeaders.{CountsAgree, counts_test}
@@ -58,13 +57,13 @@ unfoldable pub use Rattle.tz_write.specs.FileDesignations.{begins}
 pub use Rattle.tz_write.specs.FileLayouts.{AreNotPlacedBefore, ArePlaced, HasPlace, HavePlaces, In_order, IsFirstPlaced, IsLaid, IsPlacedFrom, Otherwise}
 pub use Rattle.tz_write.specs.FileLayouts.{before_zero, ends, laid_from, text_at, with_text_of}
 unfoldable pub use Rattle.tz_write.specs.FileLayouts.{before_last, laid, with_text, with_texts}
-pub use Rattle.tz_write.specs.Steps.FileParts.{HasRoom}
-pub use Rattle.tz_write.specs.Steps.TextPieces.{alternate_text, clock_text_of, date_text, day_text, days_text, dst_offset_text, is_negative, is_positive}
-pub use Rattle.tz_write.specs.Steps.TextPieces.{minutes_text, name_text, pair_text, seconds_text, signed_text, text_of, time_after}
-pub use Rattle.tz_write.specs.Steps.TextPieces.{type_text}
-unfoldable pub use Rattle.tz_write.specs.Steps.TextPieces.{clock_text, offset_text, time_text}
-pub use Rattle.tz_write.specs.WrittenFiles.{HasCounts, HasIndex, HasText, HaveVersion, IsEntry, IsFooterText, IsInNoFile, IsSound, IsTime, IsType, IsWritable}
-pub use Rattle.tz_write.specs.WrittenFiles.{IsWrittenFile, NeedsExtensions}
+pub use Rattle.tz_write.specs.Steps.FileParts.{IsRoomOf}
+pub use Rattle.tz_write.specs.Steps.TextPieces.{is_negative, is_positive, spelled_alternate, spelled_date, spelled_day, spelled_days, spelled_dst_offset}
+pub use Rattle.tz_write.specs.Steps.TextPieces.{spelled_hands, spelled_minutes, spelled_name, spelled_pair, spelled_rule, spelled_seconds, spelled_signed}
+pub use Rattle.tz_write.specs.Steps.TextPieces.{spelled_type, time_after}
+unfoldable pub use Rattle.tz_write.specs.Steps.TextPieces.{spelled_clock, spelled_offset, spelled_time}
+pub use Rattle.tz_write.specs.WrittenFiles.{HasCounts, HasIndex, HasTimeOf64Bits, HaveVersion, IsEntry, IsFooterText, IsInNoFile, IsSound, IsSpellableOrNone}
+pub use Rattle.tz_write.specs.WrittenFiles.{IsType, IsWritable, IsWrittenFile, NeedsExtensions}
 pub use Rattle.tz_write.specs.WrittenTexts.{AreInPairs, AreTimesOf, CanBeSpelled, HasZoneText, IsNamed, IsNamedType, IsNoPosixZone, IsOfText, IsPlainTime}
-pub use Rattle.tz_write.specs.WrittenTexts.{IsTimeOf, IsUnspelled, IsWrittenText, IsWrittenZone, TwoDigits}
+pub use Rattle.tz_write.specs.WrittenTexts.{IsTextTime, IsUnspelled, IsWrittenText, IsWrittenZone, TwoDigits}
 pub use Rattle.tz_write.specs.declared.file.writer.Room.{Room}

@@ -2,7 +2,8 @@
 use Rattle.tz_write.proofs.Words.{AreInPairs, CanBeSpelled, Err, HasZoneText, IsNoPosixZone, IsOfText, IsPosixZone, IsRule, IsRuleOrNone, IsSpace, IsTrimmed}
 use Rattle.tz_write.proofs.Words.{IsTzText, IsWrittenZone, LeapSecond, List, LocalType, None, NoneFirst, Ok, OnErr, Option, Result, Some, Transition}
 use Rattle.tz_write.proofs.Words.{TransitionRule, TwoDigits, Zone, ap, append-nil, arith, false, inl, inr, is_ascii_whitespace, is_digit, length, length-append}
-use Rattle.tz_write.proofs.Words.{nat_tests, posix_zone, refl, subst, sym, text_of, true, types_of, zone_of_rule, ℕ, [], ◌++◌, ◌<◌, ◌∙◌, ◌∷◌, ◌≡◌, ◌≢◌, ◌⊎◌}
+use Rattle.tz_write.proofs.Words.{nat_tests, posix_zone, refl, subst, sym, spelled_rule, true, types_of, zone_of_rule, ℕ, [], ◌++◌, ◌<◌, ◌∙◌, ◌∷◌, ◌≡◌, ◌≢◌}
+use Rattle.tz_write.proofs.Words.{◌⊎◌}
 use Rattle.tz_write.proofs.RuleTexts.{both_shortest, rule_best, rule_named, rule_pairs, rule_plain, rule_spelled, text_are, text_first}
 use Rattle.tz_write.proofs.Shortest.{Best, pairs_rest}
 use Rattle.tz_write.proofs.TextBytes.{trimmed_text}
@@ -45,7 +46,7 @@ best_of_trimmed text bytes trimmed t best =
     ])
 
 -- ---- the zone of types and a rule
-pub not_empty : (rule : TransitionRule) → CanBeSpelled rule → text_of rule ≢ []
+pub not_empty : (rule : TransitionRule) → CanBeSpelled rule → spelled_rule rule ≢ []
 not_empty rule h e = let f = text_first rule h in let k = ap length (sym e ∙ f.2) in omega arith
 
 of_types : (types : List LocalType) (rule s : TransitionRule) → zone_of_rule types (Some rule) ≡ posix_zone s → (s ≡ rule) × (types ≡ types_of rule)
@@ -63,22 +64,22 @@ spells_rule text types rule gives = elim gives [
       (b.trimmed, b.trims, subst (λ (r : TransitionRule). IsTzText false b.trimmed r) same.0 b.spells, same.1)
 ]
 
-pub written_zone : (types : List LocalType) (rule : TransitionRule) → IsRule rule → HasZoneText types (Some rule) → IsWrittenZone (zone_of_rule types (Some rule)) (text_of rule)
+pub written_zone : (types : List LocalType) (rule : TransitionRule) → IsRule rule → HasZoneText types (Some rule) → IsWrittenZone (zone_of_rule types (Some rule)) (spelled_rule rule)
 written_zone types rule fits h =
     let named = h.1.0 in
     record {
       gives = inr (record {
         some = not_empty rule named;
-        trimmed = text_of rule;
+        trimmed = spelled_rule rule;
         rule = rule;
-        trims = trimmed_text (text_of rule) (text_are rule fits named);
+        trims = trimmed_text (spelled_rule rule) (text_are rule fits named);
         spells = rule_spelled false rule fits named h.1.1;
         zone = ap (λ (x : List LocalType). zone_of_rule x (Some rule)) h.0;
       });
       pairs = rule_pairs rule fits named;
       shortest = λ other gives pairs.
           let s = spells_rule other types rule gives in
-          best_of_trimmed (text_of rule) other s.0 s.1 (rule_best false s.0 rule (trimmed_pairs other s.0 s.1 pairs) s.2);
+          best_of_trimmed (spelled_rule rule) other s.0 s.1 (rule_best false s.0 rule (trimmed_pairs other s.0 s.1 pairs) s.2);
     }
 
 -- ---- which zones a text gives
@@ -102,7 +103,7 @@ empty_or_longer [] = inl refl
 empty_or_longer (b ∷ bs) = inr (omega arith)
 
 rule_some : (types : List LocalType) (rule : Option TransitionRule) → IsRuleOrNone rule → HasZoneText types rule → (text : List ℕ) × IsWrittenZone (zone_of_rule types rule) text
-rule_some types (Some rule) fits h = (text_of rule, written_zone types rule fits h)
+rule_some types (Some rule) fits h = (spelled_rule rule, written_zone types rule fits h)
 rule_some types None fits h = (
   [],
   record {
@@ -122,7 +123,7 @@ zone_text_once z s t p q = both_shortest s t (p.shortest t q.gives q.pairs) (q.s
 
 -- ---- running out of memory
 pub gives_same_zone : (types : List LocalType) (rule : TransitionRule) (z : Zone) → IsRule rule → HasZoneText types (Some rule) → zone_of_rule types (Some rule) ≡ z → (text : List ℕ) × IsPosixZone text z
-gives_same_zone types rule z fits h e = (text_of rule, subst (IsPosixZone (text_of rule)) e (written_zone types rule fits h).gives)
+gives_same_zone types rule z fits h e = (spelled_rule rule, subst (IsPosixZone (spelled_rule rule)) e (written_zone types rule fits h).gives)
 
 pub on_err : {A E : Type 0} (r : Result A E) (P : Type 0) → P → OnErr r P
 on_err (Ok a) P h = tt

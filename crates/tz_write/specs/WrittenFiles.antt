@@ -34,14 +34,14 @@ pub record FitsBlock (z : Zone) : Type 0 where
   pub names : AreNamesIn designations z.types
 
 -- there is no rule, or some text spells it
-abbrev pub HasText : Option TransitionRule → Type 0
-HasText (Some rule) = CanBeSpelled rule
-HasText None = Unit {0}
+abbrev pub IsSpellableOrNone : Option TransitionRule → Type 0
+IsSpellableOrNone (Some rule) = CanBeSpelled rule
+IsSpellableOrNone None = Unit {0}
 
 -- the zone can be written
 pub record IsWritable (z : Zone) : Type 0 where
   pub room : FitsBlock z
-  pub rule : HasText z.rule
+  pub rule : IsSpellableOrNone z.rule
 
 -- numbers below 256
 abbrev pub AreBytes : List ℕ → Type 0
@@ -81,8 +81,8 @@ NeedsExtensions None = ⊥
 
 -- ---- what the program's types ensure
 -- a time of 64 bits
-abbrev pub IsTime : Transition → Type 0
-IsTime t = FitsSigned w64 t.unix_leap_time
+abbrev pub HasTimeOf64Bits : Transition → Type 0
+HasTimeOf64Bits t = FitsSigned w64 t.unix_leap_time
 
 -- a time of 64 bits and a correction of 32
 pub record IsEntry (leap : LeapSecond) : Type 0 where
@@ -96,6 +96,6 @@ pub record IsType (t : LocalType) : Type 0 where
 
 -- the numbers of each list are those of their types
 pub record IsSound (z : Zone) : Type 0 where
-  pub times : All IsTime z.transitions
+  pub times : All HasTimeOf64Bits z.transitions
   pub types : All IsType z.types
   pub leaps : All IsEntry z.leaps

@@ -1,4 +1,4 @@
--- The TZ text that is written of a rule, or of a zone that a TZ text gives (POSIX.1 section 8.3, "TZ"; RFC 8536 section 3.3.1
+-- The TZ string that is written of a rule, or of a zone that a TZ string gives (POSIX.1 section 8.3, "TZ"; RFC 8536 section 3.3.1
 -- has the extensions).
 use Rattle.std.specs.Prelude.{ℕ, ◌≡◌, ◌<◌, ◌⊎◌, ℤ, pos, ◌≤ℤ◌, ◌<ℤ◌, Bool, true, false, List, [], ◌∷◌, length, Option, Some, None}
 use Rattle.offset_core.specs.Offset.{IsWithinDay}
@@ -45,14 +45,14 @@ abbrev pub IsPlainTime : ℤ → Type 0
 IsPlainTime time = (pos 0 ≤ℤ time) × (time <ℤ pos 90_000)
 
 -- a time of day of a text with extensions, or without
-abbrev pub IsTimeOf : Bool → ℤ → Type 0
-IsTimeOf true time = IsWithinWeek time
-IsTimeOf false time = IsPlainTime time
+abbrev pub IsTextTime : Bool → ℤ → Type 0
+IsTextTime true time = IsWithinWeek time
+IsTextTime false time = IsPlainTime time
 
 -- a text with extensions, or without, has room for the rule's times
 abbrev pub AreTimesOf : Bool → TransitionRule → Type 0
 AreTimesOf extended (rules.Fixed t) = Unit {0}
-AreTimesOf extended (rules.Alternate a) = IsTimeOf extended a.start.time × IsTimeOf extended a.end.time
+AreTimesOf extended (rules.Alternate a) = IsTextTime extended a.start.time × IsTextTime extended a.end.time
 
 -- a text without extensions spells the rule
 abbrev pub HasPlainText : TransitionRule → Type 0

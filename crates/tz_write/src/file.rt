@@ -3,8 +3,8 @@
 ghost use Rattle.std.specs.Prelude.{IfOk, MatchOption, MatchResult, OnErr, option_map, string_bytes};
 ghost use Rattle.tz_base.specs.Errors.{IsOutOfMemory};
 ghost use Rattle.tz_info.specs.Zones.{Zone};
-ghost use Rattle.tz_write.specs.Steps.FileParts.{HasRoom};
-ghost use Rattle.tz_write.specs.WrittenFiles.{HasText, IsFooterText, IsInNoFile, IsWritable, IsWrittenFile};
+ghost use Rattle.tz_write.specs.Steps.FileParts.{IsRoomOf};
+ghost use Rattle.tz_write.specs.WrittenFiles.{IsFooterText, IsInNoFile, IsSpellableOrNone, IsWritable, IsWrittenFile};
 
 mod contents;
 mod designations;
@@ -75,10 +75,10 @@ impl ToTzData for TimeZone {
 fn footer_of(alloc: Global, rule: Option<&TransitionRule>) -> Result<Option<TzText>, Error>
     ensures written { let ruled = option_map (λ r. r.now) rule.entry in
         MatchResult result
-        (λ answer. MatchOption answer (¬ (HasText ruled))
+        (λ answer. MatchOption answer (¬ (IsSpellableOrNone ruled))
         (λ t. IsFooterText ruled (string_bytes t.text) t.extended))
         (λ e. IsOutOfMemory e) }
-    ensures memory { OnErr result (HasText (option_map (λ r. r.now) rule.entry)) }
+    ensures memory { OnErr result (IsSpellableOrNone (option_map (λ r. r.now) rule.entry)) }
 {
     match rule {
         None => Ok(Some(TzText {
@@ -95,7 +95,7 @@ fn file_of(
     room: &Room,
     footer: &TzText,
 ) -> Result<Vec<u8>, AllocError>
-    requires room { HasRoom zone.now room.now }
+    requires room { IsRoomOf zone.now room.now }
     requires footer { IsFooterText zone.now.rule (string_bytes footer.now.text) footer.now.extended }
     ensures { IfOk result (λ v. IsWrittenFile zone.now v.items) }
 {

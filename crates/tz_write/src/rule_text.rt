@@ -1,6 +1,7 @@
 //! The TZ string of a rule.
 
-ghost use Rattle.std.specs.Prelude.{◌≡◌, ◌∷◌, ◌++◌, List, ℕ, true, false, OnOk, IsTrue, MatchBool, ◌↔◌, MatchResult, MatchOption, IfOk, OnErr, Bool, Some, None, string_bytes};
+ghost use Rattle.std.specs.Prelude.{◌≡◌, ◌∷◌, ◌++◌, List, ℕ, true, false, OnOk, IsTrue, MatchBool, ◌↔◌, MatchResult};
+ghost use Rattle.std.specs.Prelude.{MatchOption, IfOk, OnErr, Bool, Some, None, string_bytes};
 ghost use Rattle.tz_base.specs.Errors.{IsOutOfMemory};
 ghost use Rattle.tz_base.specs.Names.{IsName};
 ghost use Rattle.tz_info.specs.RuleTypes.{IsRule};
@@ -8,9 +9,11 @@ ghost use Rattle.tz_info.specs.Rules.{IsAlternateRule};
 ghost use Rattle.tz_info.specs.declared.rule.transition_rule.TransitionRule.{TransitionRule as Rule};
 ghost use Rattle.offset_core.specs.Offset.{IsWithinDay};
 ghost use Rattle.tz_info.specs.TzGrammar.{IsTzText};
-ghost use Rattle.tz_write.specs.WrittenTexts.{IsWrittenText, IsUnspelled, IsNamedType, IsPlainTime, CanBeSpelled, AreTimesOf, HasPlainText};
+ghost use Rattle.tz_write.specs.WrittenTexts.{IsWrittenText, IsUnspelled, IsNamedType, IsPlainTime, CanBeSpelled};
+ghost use Rattle.tz_write.specs.WrittenTexts.{AreTimesOf, HasPlainText};
 ghost use Rattle.tz_write.specs.FileDesignations.{name_of};
-ghost use Rattle.tz_write.specs.Steps.TextPieces.{name_text, type_text, days_text, alternate_text, text_of};
+ghost use Rattle.tz_write.specs.Steps.TextPieces.{spelled_name, spelled_type, spelled_days, spelled_alternate};
+ghost use Rattle.tz_write.specs.Steps.TextPieces.{spelled_rule};
 
 use crate::pieces::day::push_day;
 use crate::pieces::name::push_name;
@@ -81,7 +84,7 @@ impl ToTzString for TransitionRule {
 // The rule's text.
 pub(crate) fn text_of(alloc: Global, rule: &TransitionRule) -> Result<String, Error>
     ensures { MatchResult result
-        (λ text. string_bytes text ≡ text_of rule.now)
+        (λ text. string_bytes text ≡ spelled_rule rule.now)
         (λ e. IsOutOfMemory e) }
 {
     let mut text = String::new(alloc);
@@ -169,7 +172,7 @@ fn is_plain_time(time: i32) -> bool
 
 // The rule's text.
 fn push_rule(text: &mut String, rule: &TransitionRule) -> Result<(), AllocError>
-    ensures { OnOk result (string_bytes text.new ≡ string_bytes text.old ++ text_of rule.now) }
+    ensures { OnOk result (string_bytes text.new ≡ string_bytes text.old ++ spelled_rule rule.now) }
 {
     match rule {
         TransitionRule::Fixed(local) => push_type(text, local),
@@ -179,7 +182,7 @@ fn push_rule(text: &mut String, rule: &TransitionRule) -> Result<(), AllocError>
 
 fn push_alternate(text: &mut String, alternate: &AlternateTime) -> Result<(), AllocError>
     ensures { OnOk result
-        (string_bytes text.new ≡ string_bytes text.old ++ alternate_text alternate.now) }
+        (string_bytes text.new ≡ string_bytes text.old ++ spelled_alternate alternate.now) }
 {
     push_type(text, alternate.std())?;
     push_name_of(text, alternate.dst())?;
@@ -190,7 +193,7 @@ fn push_alternate(text: &mut String, alternate: &AlternateTime) -> Result<(), Al
 // The days when daylight saving time starts and ends, each after a comma.
 fn push_days(text: &mut String, alternate: &AlternateTime) -> Result<(), AllocError>
     ensures { OnOk result
-        (string_bytes text.new ≡ string_bytes text.old ++ days_text alternate.now) }
+        (string_bytes text.new ≡ string_bytes text.old ++ spelled_days alternate.now) }
 {
     push_day(text, alternate.dst_start(), alternate.dst_start_time())?;
     push_day(text, alternate.dst_end(), alternate.dst_end_time())
@@ -198,7 +201,7 @@ fn push_days(text: &mut String, alternate: &AlternateTime) -> Result<(), AllocEr
 
 // A type's name and offset.
 fn push_type(text: &mut String, local: &LocalTimeType) -> Result<(), AllocError>
-    ensures { OnOk result (string_bytes text.new ≡ string_bytes text.old ++ type_text local.now) }
+    ensures { OnOk result (string_bytes text.new ≡ string_bytes text.old ++ spelled_type local.now) }
 {
     push_name_of(text, local)?;
     push_offset(text, local.offset())
@@ -206,7 +209,7 @@ fn push_type(text: &mut String, local: &LocalTimeType) -> Result<(), AllocError>
 
 fn push_name_of(text: &mut String, local: &LocalTimeType) -> Result<(), AllocError>
     ensures { OnOk result
-        (string_bytes text.new ≡ string_bytes text.old ++ name_text (name_of local.now)) }
+        (string_bytes text.new ≡ string_bytes text.old ++ spelled_name (name_of local.now)) }
 {
     match local.name() {
         Some(name) => push_name(text, name),

@@ -1,6 +1,7 @@
 //! The TZ string of a zone.
 
-ghost use Rattle.std.specs.Prelude.{◌≡◌, [], ◌∷◌, IsTrue, ◌↔◌, MatchOption, MatchResult, IfOk, OnErr, List, ℕ, Some, None, pos, true, false, string_bytes};
+ghost use Rattle.std.specs.Prelude.{◌≡◌, [], ◌∷◌, IsTrue, ◌↔◌, MatchOption, MatchResult, IfOk, OnErr, List, ℕ, Some};
+ghost use Rattle.std.specs.Prelude.{None, pos, true, false, string_bytes};
 ghost use Rattle.tz_base.specs.Errors.{IsOutOfMemory};
 ghost use Rattle.tz_base.specs.LocalTypes.{plain_type};
 ghost use Rattle.tz_info.specs.PosixZones.{types_of, IsPosixZone};

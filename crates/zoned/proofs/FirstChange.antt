@@ -30,7 +30,7 @@ first_listed z from until (d ∷ rest) None h p to =
 first_listed z from until (d ∷ rest) (Some c) h p to =
     let head = (h.each d).0 (0, omega arith, refl) in
     let after = head.1.0 in let before = head.1.1 in
-    let first = p.first d head.0 (omega (arith, ints, after), omega (arith, ints, before, to)) in (
+    let first = p.nearest d head.0 (omega (arith, ints, after), omega (arith, ints, before, to)) in (
       λ late. absurd (omega (arith, ints, late, first, before)),
       λ early. let inside = p.inside.0 in let found = (h.each c).1 (p.is, (omega (arith, ints, inside), early)) in
           at_place z from until c d rest h first found.0 found.1 found.2,

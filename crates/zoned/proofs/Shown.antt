@@ -1,34 +1,34 @@
 -- The instants at which the clocks of a zone show a local time, told by their seconds.
 use Rattle.offset_core.specs.declared.local_result.LocalResult.TheVariants.{Ambiguous, None as none, Single}
-use Rattle.zoned.proofs.Words.{AreInstantsOf, Each, HasInstant, IsInRange, IsNeverShown, IsRelocal, IsShownBetween, IsShownOnce, IsWallAnswer, IsWithin, Law}
-use Rattle.zoned.proofs.Words.{LocalResult, Meaning, None, Option, Reading, Shows, Some, SomeIff, Zoned, all_or_none, ap, arith, inl, inr, instant_of, ints}
-use Rattle.zoned.proofs.Words.{map_of, refl, subst, sym, ℤ, ◌-ℤ◌, ◌∙◌, ◌≡◌, ◌≢◌, ◌⊎◌}
+use Rattle.zoned.proofs.Words.{AreInstantsOf, Each, HasInstant, IsFromFirstToLast, IsInRange, IsNeverShown, IsRelocal, IsShownBetween, IsShownOnce}
+use Rattle.zoned.proofs.Words.{IsWallAnswer, Law, LocalResult, Meaning, None, Option, Reading, ShowsByOffset, Some, SomeIff, Zoned, all_or_none, ap, arith, inl}
+use Rattle.zoned.proofs.Words.{inr, instant_of, ints, map_of, refl, subst, sym, ℤ, ◌-ℤ◌, ◌∙◌, ◌≡◌, ◌≢◌, ◌⊎◌}
 
 -- the second u shows l, and is s
 abbrev pub IsSecond : (ℤ → ℤ) → ℤ → ℤ → ℤ → Type 0
-IsSecond off l u s = Shows off l u (l -ℤ s) × (s ≡ u)
+IsSecond off l u s = ShowsByOffset off l u (l -ℤ s) × (s ≡ u)
 
 -- a second that shows l and is out of range
 abbrev pub ShowsOutside : (ℤ → ℤ) → ℤ → Type 0
-ShowsOutside off l = (u : ℤ) × (k : ℤ) × Shows off l u k × (IsInRange u → ⊥)
+ShowsOutside off l = (u : ℤ) × (k : ℤ) × ShowsByOffset off l u k × (IsInRange u → ⊥)
 
-second_of : (off : ℤ → ℤ) (l u k : ℤ) → Shows off l u k → l -ℤ k ≡ u
+second_of : (off : ℤ → ℤ) (l u k : ℤ) → ShowsByOffset off l u k → l -ℤ k ≡ u
 second_of off l u k shows = let shown = shows.shown in omega (arith, ints, shown)
 
-at_second : (off : ℤ → ℤ) (l u k s : ℤ) → Shows off l u k → s ≡ l -ℤ k → IsSecond off l u s
+at_second : (off : ℤ → ℤ) (l u k s : ℤ) → ShowsByOffset off l u k → s ≡ l -ℤ k → IsSecond off l u s
 at_second off l u k s shows is =
     let shown = shows.shown in
     let offset : k ≡ l -ℤ s = omega (arith, ints, is) in
-    (subst (λ j. Shows off l u j) offset shows, is ∙ second_of off l u k shows)
+    (subst (λ j. ShowsByOffset off l u j) offset shows, is ∙ second_of off l u k shows)
 
-once_second : (off : ℤ → ℤ) (l k s : ℤ) → IsShownOnce (Shows off l) k → s ≡ l -ℤ k → IsShownOnce (IsSecond off l) s
+once_second : (off : ℤ → ℤ) (l k s : ℤ) → IsShownOnce (ShowsByOffset off l) k → s ≡ l -ℤ k → IsShownOnce (IsSecond off l) s
 once_second off l k s h is = record {
   second = h.second;
   shown = at_second off l h.second k s h.shown is;
   only = λ u b there. h.only u (l -ℤ b) there.0;
 }
 
-between_seconds : (off : ℤ → ℤ) (l j k s t : ℤ) → IsShownBetween (Shows off l) j k → s ≡ l -ℤ j → t ≡ l -ℤ k → IsShownBetween (IsSecond off l) s t
+between_seconds : (off : ℤ → ℤ) (l j k s t : ℤ) → IsShownBetween (ShowsByOffset off l) j k → s ≡ l -ℤ j → t ≡ l -ℤ k → IsShownBetween (IsSecond off l) s t
 between_seconds off l j k s t h is also = record {
   first = h.first;
   last = h.last;
@@ -39,22 +39,23 @@ between_seconds off l j k s t h is also = record {
   not_after = λ u c there. h.not_after u (l -ℤ c) there.0;
 }
 
-outside : (off : ℤ → ℤ) (l u k : ℤ) → Shows off l u k → (IsInRange (l -ℤ k) → ⊥) → ShowsOutside off l
+outside : (off : ℤ → ℤ) (l u k : ℤ) → ShowsByOffset off l u k → (IsInRange (l -ℤ k) → ⊥) → ShowsOutside off l
 outside off l u k shows out = (u, k, shows, λ inside. out (subst IsInRange (sym (second_of off l u k shows)) inside))
 
 -- what is shown of the instants, if there are some and if there are none
 abbrev pub AreAllSeconds : {O : Type 0} → (ℤ → ℤ) → ℤ → LocalResult (Zoned O) → Type 0
-AreAllSeconds off l none = IsNeverShown (Shows off l) ⊎ ShowsOutside off l
+AreAllSeconds off l none = IsNeverShown (ShowsByOffset off l) ⊎ ShowsOutside off l
 AreAllSeconds off l (Single d) = IsShownOnce (IsSecond off l) d.utc.s
 AreAllSeconds off l (Ambiguous d e) = IsShownBetween (IsSecond off l) d.utc.s e.utc.s
 
 one_of : {O : Type 0} (seconds : O → ℤ) (off : ℤ → ℤ) (l : Reading) (o : O) (d : Option (Zoned O))
-    → IsShownOnce (Shows off l.s) (seconds o) → SomeIff d (HasInstant seconds l o) (instant_of seconds l o) → AreAllSeconds off l.s (all_or_none (Single d))
+    → IsShownOnce (ShowsByOffset off l.s) (seconds o) → SomeIff d (HasInstant seconds l o) (instant_of seconds l o)
+    → AreAllSeconds off l.s (all_or_none (Single d))
 one_of seconds off l o (Some d) h is = once_second off l.s (seconds o) d.utc.s h (ap (λ e. e.utc.s) is.1)
 one_of seconds off l o None h is = inr (outside off l.s h.second (seconds o) h.shown is)
 
 two_of : {O : Type 0} (seconds : O → ℤ) (off : ℤ → ℤ) (l : Reading) (o p : O) (d e : Option (Zoned O))
-    → IsShownBetween (Shows off l.s) (seconds o) (seconds p) → SomeIff d (HasInstant seconds l o) (instant_of seconds l o)
+    → IsShownBetween (ShowsByOffset off l.s) (seconds o) (seconds p) → SomeIff d (HasInstant seconds l o) (instant_of seconds l o)
     → SomeIff e (HasInstant seconds l p) (instant_of seconds l p) → AreAllSeconds off l.s (all_or_none (Ambiguous d e))
 two_of seconds off l o p (Some d) (Some e) h is also =
     between_seconds off l.s (seconds o) (seconds p) d.utc.s e.utc.s h (ap (λ f. f.utc.s) is.1) (ap (λ f. f.utc.s) also.1)
@@ -62,7 +63,7 @@ two_of seconds off l o p (Some d) None h is also = inr (outside off l.s h.last (
 two_of seconds off l o p None e h is also = inr (outside off l.s h.first (seconds o) h.at_first is)
 
 all_of : {O : Type 0} {m : Meaning O} (law : Law m) (l : Reading) (offsets : LocalResult O) (answer : LocalResult (Zoned O))
-    → IsWallAnswer (Shows law.off l.s) (map_of m.seconds offsets) → AreInstantsOf m.seconds l offsets answer → AreAllSeconds law.off l.s answer
+    → IsWallAnswer (ShowsByOffset law.off l.s) (map_of m.seconds offsets) → AreInstantsOf m.seconds l offsets answer → AreAllSeconds law.off l.s answer
 all_of {O} {m} law l none answer wall h = rw (h.kept, h.asked) (inl wall)
 all_of {O} {m} law l (Single o) answer wall h = rw (h.kept, h.asked.3) (one_of m.seconds law.off l o h.asked.0 wall h.asked.2)
 all_of {O} {m} law l (Ambiguous o p) answer wall h =
@@ -79,14 +80,14 @@ some_shown show off l (Single t) h some = h
 some_shown show off l (Ambiguous t u) h some = h
 
 pub none_shown : {T O : Type 0} (show : T → Zoned O) (off : ℤ → ℤ) (l : ℤ) (a : LocalResult T)
-    → AreAllSeconds off l (map_of show a) → a ≡ none → IsNeverShown (Shows off l) ⊎ ShowsOutside off l
+    → AreAllSeconds off l (map_of show a) → a ≡ none → IsNeverShown (ShowsByOffset off l) ⊎ ShowsOutside off l
 none_shown show off l none h is = h
 none_shown show off l (Single t) h is = absurd (let e = is in cc)
 none_shown show off l (Ambiguous t u) h is = absurd (let e = is in cc)
 
 -- a second that shows l lies among them
-pub within_shown : {T O : Type 0} (show : T → Zoned O) (off : ℤ → ℤ) (l u k : ℤ) → Shows off l u k → (a : LocalResult T)
-    → AreAllSeconds off l (map_of show a) → IsWithin u (map_of (λ t. (show t).utc.s) a)
+pub within_shown : {T O : Type 0} (show : T → Zoned O) (off : ℤ → ℤ) (l u k : ℤ) → ShowsByOffset off l u k → (a : LocalResult T)
+    → AreAllSeconds off l (map_of show a) → IsFromFirstToLast u (map_of (λ t. (show t).utc.s) a)
 within_shown show off l u k shows none h = tt
 within_shown show off l u k shows (Single t) h =
     h.only u u (at_second off l u k u shows (sym (second_of off l u k shows))) ∙ sym h.shown.1

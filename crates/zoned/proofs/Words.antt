@@ -6,7 +6,7 @@ pub use Rattle.naive_base.specs.Range.{last_second}
 pub use Rattle.tz_base.specs.declared.change.Change.{Change}
 pub use Rattle.tz_info.proofs.Words.{AreChanges, Contains}
 pub use Rattle.zoned_time.proofs.ForCallers.{relocal_shown, resolved_once, stays}
-pub use Rattle.zoned_time.proofs.Words.{AreInstantsOf, Each, IsNeverShown, IsRelocal, IsShownBetween, IsShownOnce, Shows, ahead, home_of, wall_of}
+pub use Rattle.zoned_time.proofs.Words.{AreInstantsOf, Each, IsNeverShown, IsRelocal, IsShownBetween, IsShownOnce, ShowsByOffset, ahead, home_law_of, wall_of}
 pub use Rattle.zoned_time.specs.DateTime.{IsIn, IsMoved, IsOnlyDaysLater}
 pub use Rattle.zoned_time.specs.declared.datetime.Instant.{Instant}
 pub use Rattle.zoned_round.proofs.Words.{IsGone, IsMultiple, by_lt_z, floor_mod_parts, floors, moved, moved-leap, moved_leap, moved_leap-within, multiple_below}
@@ -18,4 +18,4 @@ pub use Rattle.zoned_kept.specs.KeepError.{IsRefused}
 pub use Rattle.zoned_kept.specs.declared.keep_error.KeepError.{KeepError}
 pub use Rattle.tz_write.proofs.Words.{List, MatchOption, Zone, ap, arith, cases_lt, get_or, inl, inr, ints, length, negsuc, pos, refl, subst, suc, sym}
 pub use Rattle.tz_write.proofs.Words.{unsigned_abs, zero, ℕ, ℤ, [], ◌+ℤ◌, ◌<ℤ◌, ◌<◌, ◌∙◌, ◌∷◌, ◌≡◌, ◌≢◌, ◌≤ℤ◌, ◌⊎◌}
-pub use Rattle.zoned.specs.Within.{IsWithin}
+pub use Rattle.zoned.specs.Within.{IsFromFirstToLast}

@@ -4,7 +4,7 @@ use Rattle.offset_core.specs.declared.local_result.LocalResult.{LocalResult}
 use Rattle.offset_core.specs.declared.local_result.LocalResult.TheVariants.{Single, Ambiguous, None}
 
 -- the second u is the only one, or not before the first and not after the last; of no seconds nothing is said
-abbrev pub IsWithin : ℤ → LocalResult ℤ → Type 0
-IsWithin u None = ⊤
-IsWithin u (Single s) = u ≡ s
-IsWithin u (Ambiguous s t) = (s ≤ℤ u) × (u ≤ℤ t)
+abbrev pub IsFromFirstToLast : ℤ → LocalResult ℤ → Type 0
+IsFromFirstToLast u None = ⊤
+IsFromFirstToLast u (Single s) = u ≡ s
+IsFromFirstToLast u (Ambiguous s t) = (s ≤ℤ u) × (u ≤ℤ t)

@@ -1,7 +1,8 @@
 //! Theorems for a client's own contracts: that a question has one answer, that an instant made from
 //! one of a zone is one of that zone, and some in the shape of a client's clauses. Calling one makes
 //! its statement available in the caller's proof, and does nothing when it runs.
-ghost use Rattle.std.specs.Prelude.{◌≡◌, ◌≢◌, ◌⊎◌, ◌∷◌, [], ℕ, ℤ, pos, ◌+ℤ◌, ◌-ℤ◌, ◌≤ℤ◌, ◌<ℤ◌, List, MatchOption, Ok, Option, Some};
+ghost use Rattle.std.specs.Prelude.{◌≡◌, ◌≢◌, ◌⊎◌, ◌∷◌, [], ℕ, ℤ, pos, ◌+ℤ◌, ◌-ℤ◌, ◌≤ℤ◌, ◌<ℤ◌, List, MatchOption, Ok};
+ghost use Rattle.std.specs.Prelude.{Option, Some};
 ghost use Rattle.offset_core.specs.declared.local_result.LocalResult.TheVariants.{None as NoInstant};
 ghost use Rattle.offset_core.specs.LocalResult.{map_of};
 ghost use Rattle.offset_core.specs.TimeDelta.{nanos_of};
@@ -13,15 +14,15 @@ ghost use Rattle.tz_base.specs.declared.change.Change.{Change};
 ghost use Rattle.tz_info.specs.Changes.{AreChanges, IsFirst};
 ghost use Rattle.tz_info.specs.Zones.{Zone, TypeAt};
 ghost use Rattle.zoned_time.specs.Choice.{IsResolved};
-ghost use Rattle.zoned_time.specs.DateTime.{zoned, wall_of, home_of, IsIn, IsDaysAdded};
+ghost use Rattle.zoned_time.specs.DateTime.{zoned, wall_of, home_law_of, IsIn, IsDaysAdded};
 ghost use Rattle.zoned_time.specs.Relocal.{IsRelocal};
-ghost use Rattle.zoned_time.specs.Zone.{Each, Shows};
+ghost use Rattle.zoned_time.specs.Zone.{Each, ShowsByOffset};
 ghost use Rattle.zoned_time.specs.Zoned.{in_seconds, IsAt};
 ghost use Rattle.zoned_ref.specs.ZoneChange.{IsAfter};
 ghost use Rattle.zoned_round.specs.Durations.{IsRoundedTo};
 ghost use Rattle.zoned_round.specs.Laws.{IsMultiple};
 ghost use Rattle.zoned_round.specs.Multiples.{multiple_below, IsItselfOr};
-ghost use Rattle.zoned.specs.Within.{IsWithin};
+ghost use Rattle.zoned.specs.Within.{IsFromFirstToLast};
 
 use crate::{
     Choice, DateTime, DurationRound, LocalResult, NaiveDateTime, Offset, TimeDelta, TimeZone,
@@ -104,11 +105,11 @@ pub fn shown_only<Tz: TimeZone>(
         (map_of (λ d. zoned d) instants.now) }
     // The second `u` shows it at the offset `l - s`, and is the instant's second `s`.
     ensures some { let off = (Tz.law zone.now).off in let l = (reading local.now).s in
-        instants.now ≢ NoInstant → IsWallAnswer (λ u s. Shows off l u (l -ℤ s) × (s ≡ u))
+        instants.now ≢ NoInstant → IsWallAnswer (λ u s. ShowsByOffset off l u (l -ℤ s) × (s ≡ u))
         (map_of (λ d. (zoned d).utc.s) instants.now) }
     ensures none { let off = (Tz.law zone.now).off in let l = (reading local.now).s in
-        instants.now ≡ NoInstant → IsNeverShown (Shows off l)
-        ⊎ ((u : ℤ) × (k : ℤ) × Shows off l u k × (IsInRange u → ⊥)) }
+        instants.now ≡ NoInstant → IsNeverShown (ShowsByOffset off l)
+        ⊎ ((u : ℤ) × (k : ℤ) × ShowsByOffset off l u k × (IsInRange u → ⊥)) }
 {}
 
 /// A second at which a zone's clocks show a local time is that of its only instant, or isn't before
@@ -120,8 +121,8 @@ pub fn shown_within<Tz: TimeZone>(
 )
     requires { IsRelocal (Tz.law zone.now) (reading local.now)
         (map_of (λ d. zoned d) instants.now) }
-    ensures { (u k : ℤ) → Shows (Tz.law zone.now).off (reading local.now).s u k
-        → IsWithin u (map_of (λ d. (zoned d).utc.s) instants.now) }
+    ensures { (u k : ℤ) → ShowsByOffset (Tz.law zone.now).off (reading local.now).s u k
+        → IsFromFirstToLast u (map_of (λ d. (zoned d).utc.s) instants.now) }
 {}
 
 /// The instants at which the clocks of a zone show a local time are instants of that zone: their
@@ -190,7 +191,7 @@ pub fn in_zone_after_rounding<Tz: TimeZone>(
 pub fn in_zone_after_digits<Tz: TimeZone>(zone: &Tz, before: &DateTime<Tz>, after: &DateTime<Tz>)
     requires before { IsIn (Tz.law zone.now) before.now }
     requires after { (behind : ℕ) × (r : Reading) × IsItselfOr (behind ≡ 0)
-        (λ e. IsAt (home_of Tz.meaning before.now) r (zoned e))
+        (λ e. IsAt (home_law_of Tz.meaning before.now) r (zoned e))
         before.now after.now }
     ensures { IsIn (Tz.law zone.now) after.now }
 {}

@@ -11,7 +11,7 @@ ghost use Rattle.offset_core.specs.WallAnswer.{IsWallAnswer};
 ghost use Rattle.offset_core.specs.declared.local_result.LocalResult.{LocalResult as Answer};
 ghost use Rattle.naive_base.specs.NaiveDateTime.{reading};
 ghost use Rattle.naive_base.specs.Range.{IsWide};
-ghost use Rattle.tz_base.specs.Errors.{number_of};
+ghost use Rattle.tz_base.specs.Errors.{error_number};
 ghost use Rattle.tz_base.specs.LocalTypes.{LocalType};
 ghost use Rattle.tz_base.specs.declared.error.Error.{Error as Fault};
 ghost use Rattle.tz_base.specs.declared.error.Error.TheVariants.{OutOfMemory};
@@ -109,11 +109,11 @@ pub fn answer_of_text(
     // A text that gives a zone is answered, unless memory runs out.
     ensures only { (z : Zone) → IsPosixZone text.now z → MatchResult result
         (IsWallAnswer (Shows (TypeAt z) (reading local.now).s))
-        (λ e. number_of e ≡ 17) }
+        (λ e. error_number e ≡ 17) }
     // An error is the first fault of the text, or says that memory ran out.
-    ensures fault { IfErr result (λ e. (number_of e ≡ 17) ⊎ IsPosixFault text.now e) }
+    ensures fault { IfErr result (λ e. (error_number e ≡ 17) ⊎ IsPosixFault text.now e) }
     // Running out of memory is answered only for a text that gives a zone.
-    ensures memory { IfErr result (λ e. number_of e ≡ 17
+    ensures memory { IfErr result (λ e. error_number e ≡ 17
         → (z : Zone) × IsPosixZone text.now z) }
     // An error leaves the counts as they were.
     ensures kept { IfErr result (λ _. probes.new ≡ probes.old) }
@@ -200,5 +200,5 @@ pub fn lawful()
     ensures answers { (z : Zone) (off : ℤ → ℤ) (local : ℤ) → IsNarrow z → AreOffsetsOf z off
         → IsWide local → (types : Answer LocalType)
         → IsWallAnswer (Shows (TypeAt z) local) types
-        → IsWallAnswer (zones.Shows off local) (map_of (λ t. t.offset) types) }
+        → IsWallAnswer (zones.ShowsByOffset off local) (map_of (λ t. t.offset) types) }
 {}

@@ -137,8 +137,8 @@ extern "C" {
 
 /* The version of this header, as a text and as a number: a million times its first number, a thousand times the second, and the
    third. The soname of the library changes with the first. */
-#define ZONED_VERSION "0.3.0"
-#define ZONED_VERSION_NUMBER 3000
+#define ZONED_VERSION "0.4.0"
+#define ZONED_VERSION_NUMBER 4000
 
 /* How bytes are read: `kind`. */
 enum {

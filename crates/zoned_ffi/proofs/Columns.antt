@@ -1,11 +1,9 @@
 -- Answers to a column's times: by a lookup, and by what is kept of a stretch.
-use Rattle.zoned_ffi.proofs.Words.{List, cases_lt, get_or, ◌+◌}
-use Rattle.zoned_ffi.proofs.Words.{All-contains, AreWithin, Choice, FitsSigned, IsCounted}
-use Rattle.zoned_ffi.proofs.Words.{IsGreatest, IsInRange, IsInstantOf, IsInstantTaken, IsKeptOf, IsLeast}
-use Rattle.zoned_ffi.proofs.Words.{IsLocal, IsNoInstant, IsNoneTaken, IsOffsetStretch, IsRowNumber, IsShownOnce, IsTakenAs, IsWithout, Kept}
-use Rattle.zoned_ffi.proofs.Words.{LieWithin, LocalType, MatchOption, None, OffsetStretch, Option, Shows, Some, Taken, TypeAt, Unit, Zone, ℕ, ℤ, ap, arith}
-use Rattle.zoned_ffi.proofs.Words.{first_second, floor_div, floors, inl, inr, ints, neg_ℤ, offsets, per_second, pos, refl, second_of, subst, sym}
-use Rattle.zoned_ffi.proofs.Words.{taken_instant, uncounted, w64, ◌*ℤ◌, ◌+ℤ◌, ◌-ℤ◌, ◌<ℤ◌, ◌∙◌, ◌≡◌, ◌≤ℤ◌}
+use Rattle.zoned_ffi.proofs.Words.{All-contains, AreKeptTimes, Choice, FitsSigned, IsCounted, IsGreatest, IsInRange, IsInstantOf, IsInstantTaken, IsKeptOf}
+use Rattle.zoned_ffi.proofs.Words.{IsLeast, IsLocal, IsNoInstant, IsNoneTaken, IsOffsetStretch, IsRowNumber, IsShownOnce, IsTakenAs, IsWithout, Kept, LieWithin}
+use Rattle.zoned_ffi.proofs.Words.{List, LocalType, MatchOption, None, OffsetStretch, Option, Shows, Some, Taken, TypeAt, Unit, Zone, ap, arith, cases_lt}
+use Rattle.zoned_ffi.proofs.Words.{first_second, floor_div, floors, get_or, inl, inr, ints, neg_ℤ, offsets, per_second, pos, refl, second_holding, subst, sym}
+use Rattle.zoned_ffi.proofs.Words.{taken_instant, uncounted, w64, ℕ, ℤ, ◌*ℤ◌, ◌+ℤ◌, ◌+◌, ◌-ℤ◌, ◌<ℤ◌, ◌∙◌, ◌≡◌, ◌≤ℤ◌}
 use Rattle.zoned_ffi.proofs.Resolving.{none_is, taken_once}
 use Rattle.tz_info.proofs.ExtremeLaws.{at_least_least, at_most_greatest}
 use Rattle.tz_info.proofs.ForCallers.{type_once}
@@ -53,8 +51,8 @@ lie_within from until add k a b d e f g same = record {
 }
 
 -- the stretch has one row more
-pub within_more : (times : List ℤ) (from row : ℕ) (k : Kept) → AreWithin times from row k
-    → (k.low ≤ℤ get_or times row (pos 0)) × (get_or times row (pos 0) <ℤ k.high) → AreWithin times from (row + 1) k
+pub within_more : (times : List ℤ) (from row : ℕ) (k : Kept) → AreKeptTimes times from row k
+    → (k.low ≤ℤ get_or times row (pos 0)) × (get_or times row (pos 0) <ℤ k.high) → AreKeptTimes times from (row + 1) k
 within_more times from row k before this i since below = elim (cases_lt i row) [
   | inl earlier ↦ before i since earlier
   | inr later ↦
@@ -150,13 +148,13 @@ local_times_kept z unit choice s low high p q r t f e from until add k stretch f
     (counted, at.2, answered)
 
 -- the instant by what is taken
-taken_gives : (z : Zone) (unit : Unit) (choice : Choice) (local : ℤ) (taken : Taken) → IsTakenAs z (second_of unit local) choice taken → IsInstantTaken z unit choice local (taken_instant unit local taken)
+taken_gives : (z : Zone) (unit : Unit) (choice : Choice) (local : ℤ) (taken : Taken) → IsTakenAs z (second_holding unit local) choice taken → IsInstantTaken z unit choice local (taken_instant unit local taken)
 taken_gives z unit choice local (InForce offset) is = IsInstantTaken.by_offset is.0.0 is.0.1 (ap (λ (o : ℤ). local -ℤ (o *ℤ pos (per_second unit))) is.0.2)
 taken_gives z unit choice local (BeforeGap offset) is = IsInstantTaken.by_offset is.0 is.1 (ap (λ (o : ℤ). local -ℤ (o *ℤ pos (per_second unit))) is.2)
 taken_gives z unit choice local (GapEnd at offset) is = IsInstantTaken.by_gap_end at is.0 is.1 refl
 
 -- it is the local time's, if it can be counted
-pub instant_told : (z : Zone) (unit : Unit) (choice : Choice) (local : ℤ) (taken : Taken) (r : Option ℤ) → IsInRange (second_of unit local) → IsTakenAs z (second_of unit local) choice taken
+pub instant_told : (z : Zone) (unit : Unit) (choice : Choice) (local : ℤ) (taken : Taken) (r : Option ℤ) → IsInRange (second_holding unit local) → IsTakenAs z (second_holding unit local) choice taken
     → MatchOption r (¬ (IsCounted (taken_instant unit local taken))) (λ i. (i ≡ taken_instant unit local taken) × IsCounted i) → MatchOption r (IsNoInstant z unit choice local 23) (IsInstantOf z unit choice local)
 instant_told z unit choice local taken None in_range is none = IsNoInstant.uncounted (taken_instant unit local taken) in_range (taken_gives z unit choice local taken is) none
 instant_told z unit choice local taken (Some i) in_range is found = record {
@@ -173,5 +171,5 @@ none_number z local choice n none = elim (none_is z local choice n none) [
 
 pub row_number : (z : Zone) (unit : Unit) (choice : Choice) (local : ℤ) (n : ℕ) → IsNoInstant z unit choice local n → IsRowNumber n
 row_number z unit choice local n (IsNoInstant.outside _) = (omega arith, omega arith)
-row_number z unit choice local n (IsNoInstant.refused k _ none) = none_number z (second_of unit local) choice k none
+row_number z unit choice local n (IsNoInstant.refused k _ none) = none_number z (second_holding unit local) choice k none
 row_number z unit choice local n (IsNoInstant.uncounted _ _ _ _) = (omega arith, omega arith)

@@ -7,7 +7,7 @@ use Rattle.gregorian.specs.Year.{floor_mod, year_start}
 use Rattle.naive_base.specs.Clock.{clock_second}
 use Rattle.zoned_ffi.proofs.Words.{ap, arith, floor_div, floors, ints, pos, sym, ℕ, ℤ, ◌*ℤ◌, ◌+ℤ◌, ◌+◌, ◌<◌, ◌∙◌, ◌≡◌}
 use Rattle.std.proofs.Common.{◌/◌, ◌%◌}
-use Rattle.zoned_ffi.specs.Fields.{AreFieldsOf, day_of, local_of}
+use Rattle.zoned_ffi.specs.Fields.{AreFieldsOf, day_of_fields, local_of_fields}
 use Rattle.zoned_ffi.specs.declared.fields.Fields.{Fields}
 
 -- a second lies in its day, at its time of day
@@ -34,8 +34,8 @@ fields_are local day time f day_is time_is date number year h m s w y =
     }
 
 -- the sum of the seconds of the whole days and of those of the time of day
-pub local_is : (f : Fields) (day time sum : ℤ) → day ≡ day_of f → time ≡ pos (clock_second f.hour f.minute f.second)
-    → sum ≡ (day *ℤ pos 86_400) +ℤ time → sum ≡ local_of f
+pub local_is : (f : Fields) (day time sum : ℤ) → day ≡ day_of_fields f → time ≡ pos (clock_second f.hour f.minute f.second)
+    → sum ≡ (day *ℤ pos 86_400) +ℤ time → sum ≡ local_of_fields f
 local_is f day time sum day_is time_is sum_is =
     let same : sum ≡ (pos 86_400 *ℤ day) +ℤ time = omega (arith, ints, sum_is) in
-    same ∙ (ap (λ (d : ℤ). (pos 86_400 *ℤ d) +ℤ time) day_is ∙ ap (λ (t : ℤ). (pos 86_400 *ℤ day_of f) +ℤ t) time_is)
+    same ∙ (ap (λ (d : ℤ). (pos 86_400 *ℤ d) +ℤ time) day_is ∙ ap (λ (t : ℤ). (pos 86_400 *ℤ day_of_fields f) +ℤ t) time_is)

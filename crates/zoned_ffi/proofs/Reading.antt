@@ -1,28 +1,28 @@
 -- What comes of reading, as a call tells it.
 use Rattle.tz_base.specs.declared.error.Error.TheVariants as errors
-use Rattle.zoned_ffi.proofs.Words.{Bool, Err, Error, IfErr, IsExtendedFault, IsFalse, IsFault, IsFileError, IsOutOfMemory, IsPosixFault, IsPosixZone}
-use Rattle.zoned_ffi.proofs.Words.{IsReaderNumber, IsRefusal, IsTextFault, IsTrue, IsUtf8, IsZoneFault, IsZoneOf, Kind, List, Ok, Refusal, Result, Spells, Zone}
-use Rattle.zoned_ffi.proofs.Words.{arith, inl, inr, number_of, refl, refusal_number, subst, sym, true, ℕ, ◌↔◌, ◌≡◌, ◌≢◌, ◌⊎◌}
+use Rattle.zoned_ffi.proofs.Words.{Bool, Err, Error, IfErr, IsErrorOfKind, IsExtendedFault, IsFalse, IsFault, IsFileError, IsOutOfMemory, IsPosixFault}
+use Rattle.zoned_ffi.proofs.Words.{IsPosixZone, IsReaderNumber, IsStringError, IsTrue, IsUtf8, IsZoneFault, IsZoneOf, Kind, List, Ok, Refusal, Result}
+use Rattle.zoned_ffi.proofs.Words.{SpellsZone, Zone, arith, error_number, inl, inr, refl, refusal_number, subst, sym, true, ℕ, ◌↔◌, ◌≡◌, ◌≢◌, ◌⊎◌}
 use Rattle.tz_info.specs.PosixZones.{IsExtendedZone}
-use Rattle.tz_info.specs.TzGrammar.{IsTextFault as IsStringFault}
-use Rattle.zoned_ffi.specs.Kinds.{number_of as kind_number}
+use Rattle.tz_info.specs.TzGrammar.{IsTextFault}
+use Rattle.zoned_ffi.specs.Kinds.{kind_number}
 use Rattle.zoned_ffi.specs.declared.kind.Kind.TheVariants as kinds
 
 -- the number of a text's error is that of its fault
-pub text_refused : (bytes : List ℕ) (e : Error) → IsUtf8 bytes → IsOutOfMemory e ⊎ IsPosixFault bytes e → (IsOutOfMemory e → (z : Zone) × IsPosixZone bytes z) → IsTextFault bytes (number_of e)
+pub text_refused : (bytes : List ℕ) (e : Error) → IsUtf8 bytes → IsOutOfMemory e ⊎ IsPosixFault bytes e → (IsOutOfMemory e → (z : Zone) × IsPosixZone bytes z) → IsStringError bytes (error_number e)
 text_refused bytes e utf8 fault memory = elim fault [
-  | inl is ↦ let zone = memory is in subst (IsTextFault bytes) (sym is) (IsTextFault.No_memory zone.0 utf8 zone.1)
-  | inr there ↦ IsTextFault.In_text e utf8 there
+  | inl is ↦ let zone = memory is in subst (IsStringError bytes) (sym is) (IsStringError.No_memory zone.0 utf8 zone.1)
+  | inr there ↦ IsStringError.In_text e utf8 there
 ]
 
 -- and so is that of a TZ string with extensions
-pub extended_refused : (bytes : List ℕ) (e : Error) → IsOutOfMemory e ⊎ IsStringFault true bytes e → (IsOutOfMemory e → (z : Zone) × IsExtendedZone bytes z) → IsExtendedFault bytes (number_of e)
+pub extended_refused : (bytes : List ℕ) (e : Error) → IsOutOfMemory e ⊎ IsTextFault true bytes e → (IsOutOfMemory e → (z : Zone) × IsExtendedZone bytes z) → IsExtendedFault bytes (error_number e)
 extended_refused bytes e fault memory = elim fault [
   | inl is ↦ let zone = memory is in subst (IsExtendedFault bytes) (sym is) (IsExtendedFault.No_memory zone.0 zone.1)
   | inr there ↦ IsExtendedFault.In_string e there
 ]
 
-pub reader_number : (e : Error) → IsReaderNumber (number_of e)
+pub reader_number : (e : Error) → IsReaderNumber (error_number e)
 reader_number (errors.DateTime _) = (omega arith, omega arith)
 reader_number (errors.FindLocalTimeType _) = (omega arith, omega arith)
 reader_number (errors.LocalTimeType _) = (omega arith, omega arith)
@@ -46,16 +46,16 @@ pub not_fitting : (fits : Bool) (wanted room : ℕ) → IsFalse fits → IsTrue 
 not_fitting fits wanted room is same equal = absurd (grind (arith, is, same.1 equal))
 
 -- where there is no memory for a zone that is spelled, that is the fault
-no_memory : (kind : Kind) (bytes : List ℕ) (z : Zone) → Spells kind bytes z → IsFault kind bytes 17
+no_memory : (kind : Kind) (bytes : List ℕ) (z : Zone) → SpellsZone kind bytes z → IsFault kind bytes 17
 no_memory kinds.File bytes z spells = IsFileError.In_file errors.OutOfMemory (IsZoneFault.No_memory spells.0.0 spells.0.1)
-no_memory kinds.Text bytes z spells = IsTextFault.No_memory z spells.0 spells.1
+no_memory kinds.Text bytes z spells = IsStringError.No_memory z spells.0 spells.1
 no_memory kinds.ExtendedText bytes z spells = IsExtendedFault.No_memory z spells
 
-pub no_memory_refused : (number : ℕ) (bytes : List ℕ) (z : Zone) → IsZoneOf number bytes z → IsRefusal number bytes 0 0 17
+pub no_memory_refused : (number : ℕ) (bytes : List ℕ) (z : Zone) → IsZoneOf number bytes z → IsErrorOfKind number bytes 0 0 17
 no_memory_refused number bytes z of_kind =
-    IsRefusal.Not_read of_kind.0 17 of_kind.1 refl (no_memory of_kind.0 bytes z of_kind.2) (omega arith, omega arith)
+    IsErrorOfKind.Not_read of_kind.0 17 of_kind.1 refl (no_memory of_kind.0 bytes z of_kind.2) (omega arith, omega arith)
 
 -- bytes that are refused are why the call is
-pub not_read : (number : ℕ) (bytes : List ℕ) (fits : Bool) (kind : Kind) (read : Result Zone Refusal) → number ≡ kind_number kind → IsTrue fits → IfErr read (λ e. IsFault kind bytes (refusal_number e)) → IfErr read (λ e. IsReaderNumber (refusal_number e)) → IfErr read (λ e. (wanted room : ℕ) → IsTrue fits ↔ wanted ≡ room → IsRefusal number bytes wanted room (refusal_number e))
+pub not_read : (number : ℕ) (bytes : List ℕ) (fits : Bool) (kind : Kind) (read : Result Zone Refusal) → number ≡ kind_number kind → IsTrue fits → IfErr read (λ e. IsFault kind bytes (refusal_number e)) → IfErr read (λ e. IsReaderNumber (refusal_number e)) → IfErr read (λ e. (wanted room : ℕ) → IsTrue fits ↔ wanted ≡ room → IsErrorOfKind number bytes wanted room (refusal_number e))
 not_read number bytes fits kind (Ok z) is fit fault reader = tt
-not_read number bytes fits kind (Err e) is fit fault reader = λ wanted room same. IsRefusal.Not_read kind (refusal_number e) is (same.0 fit) fault reader
+not_read number bytes fits kind (Err e) is fit fault reader = λ wanted room same. IsErrorOfKind.Not_read kind (refusal_number e) is (same.0 fit) fault reader

@@ -1,5 +1,5 @@
 -- What a choice takes, told by instants.
-use Rattle.offset_core.specs.ResolveNumbers.{number_of}
+use Rattle.offset_core.specs.ResolveNumbers.{resolve_error_number}
 use Rattle.offset_core.specs.declared.around.Around.{Around}
 use Rattle.offset_core.specs.declared.around.Around.TheVariants.{Ambiguous, Gap, Single}
 use Rattle.offset_core.specs.declared.around.Taken.{Taken as Found}
@@ -9,35 +9,35 @@ use Rattle.offset_core.specs.declared.choice.GapChoice.TheVariants as gaps
 use Rattle.offset_core.specs.declared.resolve_error.ResolveError.{ResolveError}
 use Rattle.offset_core.specs.declared.resolve_error.ResolveError.TheVariants as reasons
 use Rattle.tz_base.specs.declared.change.Change.{Change}
-use Rattle.tz_info.specs.Around.{IsAround}
-use Rattle.zoned_ffi.proofs.Words.{Choice, IsFirstAtOrAfter, IsGapEnd, IsNoneTaken, IsInRange, IsOffsetAt, IsReachedAt, IsResolvedAt, IsShownOnce, IsStamp, IsTaken}
-use Rattle.zoned_ffi.proofs.Words.{IsTakenAs, IsUtOffset, LocalType, Resolved, Shows, TypeAt, Zone, ap, inl, inr, subst, sym, ℤ, +ℤ-neg_ℤ_cancel, ◌-ℤ◌, ◌∙◌}
-use Rattle.zoned_ffi.proofs.Words.{Err, Result, TakesOf, policy_of, refl, taken_in_range, taken_of, ℕ, ◌≡◌, ◌⊎◌}
+use Rattle.tz_info.specs.Around.{AreTypesAround}
+use Rattle.zoned_ffi.proofs.Words.{Choice, IsFirstAtOrAfter, IsTakenGapEnd, IsNoneTaken, IsInRange, IsWrittenOffsetAt, IsReachedAt, IsResolvedAt, IsShownOnce}
+use Rattle.zoned_ffi.proofs.Words.{IsResolvedStamp, IsTakenType, IsTakenAs, IsUtOffset, LocalType, Resolved, Shows, TypeAt, Zone, ap, inl, inr, subst, sym, ℤ}
+use Rattle.zoned_ffi.proofs.Words.{+ℤ-neg_ℤ_cancel, ◌-ℤ◌, ◌∙◌, Err, Result, TakesOf, policy_of, refl, taken_in_range, taken_of, ℕ, ◌≡◌, ◌⊎◌}
 use Rattle.zoned_ffi.specs.declared.resolved.Taken.TheVariants.{InForce}
 
 -- the instant by the offset that is taken, and the offset in force there
-pub resolved_by : (z : Zone) (choice : Choice) (local : ℤ) (t : LocalType) (offset : ℤ) (w : Resolved) → IsInRange local → IsTaken z local choice t
-    → IsOffsetAt z (local -ℤ t.offset) offset → IsStamp (local -ℤ t.offset) offset w → IsResolvedAt z choice local w
+pub resolved_by : (z : Zone) (choice : Choice) (local : ℤ) (t : LocalType) (offset : ℤ) (w : Resolved) → IsInRange local → IsTakenType z local choice t
+    → IsWrittenOffsetAt z (local -ℤ t.offset) offset → IsResolvedStamp (local -ℤ t.offset) offset w → IsResolvedAt z choice local w
 resolved_by z choice local t offset w in_range taken there stamp = elim stamp [
   | inl found ↦ IsResolvedAt.found t offset in_range taken found.0 there found.1
   | inr outside ↦ IsResolvedAt.taken_outside t in_range taken outside.0 outside.1
 ]
 
 -- the gap's end
-pub ended_by : (z : Zone) (choice : Choice) (local at : ℤ) (after : LocalType) (w : Resolved) → IsInRange local → IsGapEnd z local choice at after → IsStamp at after.offset w → IsResolvedAt z choice local w
+pub ended_by : (z : Zone) (choice : Choice) (local at : ℤ) (after : LocalType) (w : Resolved) → IsInRange local → IsTakenGapEnd z local choice at after → IsResolvedStamp at after.offset w → IsResolvedAt z choice local w
 ended_by z choice local at after w in_range end stamp = elim stamp [
   | inl found ↦ IsResolvedAt.ended at after in_range end found.0 found.1
   | inr outside ↦ IsResolvedAt.ended_outside at after in_range end outside.0 outside.1
 ]
 
-pub reached_by : (z : Zone) (local u : ℤ) (t : LocalType) (w : Resolved) → IsInRange local → IsFirstAtOrAfter (TypeAt z) local u t → IsStamp u t.offset w → IsReachedAt z local w
+pub reached_by : (z : Zone) (local u : ℤ) (t : LocalType) (w : Resolved) → IsInRange local → IsFirstAtOrAfter (TypeAt z) local u t → IsResolvedStamp u t.offset w → IsReachedAt z local w
 reached_by z local u t w in_range first stamp = elim stamp [
   | inl found ↦ IsReachedAt.reached u t in_range first found.0 found.1
   | inr outside ↦ IsReachedAt.reached_outside u t in_range first outside.0 outside.1
 ]
 
 -- a type that shows the local time is in force at that time less its offset
-pub in_force : (z : Zone) (local u : ℤ) (choice : Choice) (t : LocalType) (offset : ℤ) → Shows (TypeAt z) local u t → IsTaken z local choice t → offset ≡ t.offset
+pub in_force : (z : Zone) (local u : ℤ) (choice : Choice) (t : LocalType) (offset : ℤ) → Shows (TypeAt z) local u t → IsTakenType z local choice t → offset ≡ t.offset
     → IsUtOffset t.offset → IsTakenAs z local choice (InForce offset)
 in_force z local u choice t offset shows taken same bound =
     let second : u ≡ local -ℤ t.offset = sym (+ℤ-neg_ℤ_cancel u t.offset) ∙ ap (λ v. v -ℤ t.offset) shows.shown in
@@ -46,15 +46,16 @@ in_force z local u choice t offset shows taken same bound =
 
 -- what is taken of the answer around the local time
 pub taken_as : (z : Zone) (local : ℤ) (choice : Choice) (a : Around LocalType Change) (p : any_choice.Choice) (r o : Result (Found LocalType Change) ResolveError)
-    → IsAround (TypeAt z) local a → p ≡ policy_of choice → r ≡ taken_of p a → r ≡ o → TakesOf z local choice o
+    → AreTypesAround (TypeAt z) local a → p ≡ policy_of choice → r ≡ taken_of p a → r ≡ o → TakesOf z local choice o
 taken_as z local choice a p r o right policy found is = record { around = a; right = right; taken = ap (λ q. taken_of q a) (sym policy) ∙ sym found ∙ is }
 
 -- a local time that one second shows is taken by every choice
-pub taken_once : (z : Zone) (local : ℤ) (choice : Choice) (t : LocalType) → IsShownOnce (Shows (TypeAt z) local) t → IsTaken z local choice t
-taken_once z local choice t once = IsTaken.shown (record { around = Single t; right = once; taken = refl })
+pub taken_once : (z : Zone) (local : ℤ) (choice : Choice) (t : LocalType) → IsShownOnce (Shows (TypeAt z) local) t → IsTakenType z local choice t
+taken_once z local choice t once = IsTakenType.shown (record { around = Single t; right = once; taken = refl })
 
 -- why nothing is taken, in numbers
-number_is : (choice : any_choice.Choice) (a : Around LocalType Change) (e : ResolveError) → taken_of choice a ≡ Err e → (number_of e ≡ 21) ⊎ (number_of e ≡ 22)
+number_is : (choice : any_choice.Choice) (a : Around LocalType Change) (e : ResolveError) → taken_of choice a ≡ Err e
+    → (resolve_error_number e ≡ 21) ⊎ (resolve_error_number e ≡ 22)
 number_is choice a reasons.Gap refused = inl refl
 number_is choice a reasons.Fold refused = inr refl
 number_is choice a reasons.OutOfRange refused = absurd (taken_in_range choice a refused)

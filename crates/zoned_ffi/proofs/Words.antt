@@ -71,27 +71,27 @@ pub use Rattle.naive_base.specs.Range.{first_second}
 pub use Rattle.tz_base.specs.declared.change.Change.{Change}
 pub use Rattle.tz_base.specs.declared.error.Error.{Error}
 pub use Rattle.tz_info.proofs.ForCallers.{file_fault_once, text_fault_once}
-pub use Rattle.tz_info.proofs.Words.{AreChanges, Bool, Bor, Contains-get_or, FitsSigned, IfErr, IsFirstAtOrAfter, IsOutOfMemory}
-pub use Rattle.tz_info.proofs.Words.{IsPosixFault, IsPosixZone, IsTrue, IsTypeRefused, IsTzText, IsUtOffset, IsUtf8, IsWallAnswer, IsZoneFault, List, LocalType}
-pub use Rattle.tz_info.proofs.Words.{MatchOption, MatchResult, Shows, TypeAt, Zone, ap, append-nil, append_assoc, arith, cases_lt, floor_div, floors, get_or}
-pub use Rattle.tz_info.proofs.Words.{inl, inr, ints, length, length-append, length-map, map, neg_ℤ, number_of, of_z, pos, posix_zone, refl, rules, subst, suc}
-pub use Rattle.tz_info.proofs.Words.{sym, take, take-append_seam, to_z, to_z-of_z, true, w128, w32, w64, zero, ℕ, ℤ, [], ◌&&◌, ◌*ℤ◌, ◌*◌, ◌++◌, ◌+ℤ◌, ◌+◌, ◌-ℤ◌}
-pub use Rattle.tz_info.proofs.Words.{◌<ℤ◌, ◌<◌, ◌↔◌, ◌∙◌, ◌∷◌, ◌≡◌, ◌≢◌, ◌≤ℤ◌, ◌≤◌, ◌⊎◌}
+pub use Rattle.tz_info.proofs.Words.{AreChanges, Bool, Bor, Contains-get_or, FitsSigned, IfErr, IsFirstAtOrAfter, IsOutOfMemory, IsPosixFault, IsPosixZone}
+pub use Rattle.tz_info.proofs.Words.{IsTrue, IsTypeRefused, IsTzText, IsUtOffset, IsUtf8, IsWallAnswer, IsZoneFault, List, LocalType, MatchOption, MatchResult}
+pub use Rattle.tz_info.proofs.Words.{Shows, TypeAt, Zone, ap, append-nil, append_assoc, arith, cases_lt, floor_div, floors, get_or, inl, inr, ints, length}
+pub use Rattle.tz_info.proofs.Words.{length-append, length-map, map, neg_ℤ, error_number, of_z, pos, posix_zone, refl, rules, subst, suc, sym, take}
+pub use Rattle.tz_info.proofs.Words.{take-append_seam, to_z, to_z-of_z, true, w128, w32, w64, zero, ℕ, ℤ, [], ◌&&◌, ◌*ℤ◌, ◌*◌, ◌++◌, ◌+ℤ◌, ◌+◌, ◌-ℤ◌, ◌<ℤ◌, ◌<◌}
+pub use Rattle.tz_info.proofs.Words.{◌↔◌, ◌∙◌, ◌∷◌, ◌≡◌, ◌≢◌, ◌≤ℤ◌, ◌≤◌, ◌⊎◌}
 unfoldable pub use Rattle.tz_info.proofs.Words.{changes_left}
 pub use Rattle.tz_info.specs.Windows.{IsGreatest, IsLeast, offsets}
 pub use Rattle.tz_info.specs.declared.rule.transition_rule.TransitionRule.{TransitionRule}
 pub use Rattle.tz_info.specs.declared.zone.offset_stretch.OffsetStretch.{OffsetStretch}
 pub use Rattle.zoned_ffi.specs.Columns.{AreAnswered, IsAnswered, IsAnsweredOrNone, IsInstantOf, IsInstantTaken, IsNoInstant, IsNotAnswered, IsRowNumber}
-pub use Rattle.zoned_ffi.specs.Columns.{second_of}
+pub use Rattle.zoned_ffi.specs.Columns.{second_holding}
 pub use Rattle.zoned_ffi.specs.Handles.{IsLent}
-pub use Rattle.zoned_ffi.specs.Instants.{AreOffsetsAt, IsOffsetAt}
-pub use Rattle.zoned_ffi.specs.Kinds.{IsZoneOf, Spells}
+pub use Rattle.zoned_ffi.specs.Instants.{AreOffsetsAt, IsWrittenOffsetAt}
+pub use Rattle.zoned_ffi.specs.Kinds.{IsZoneOf, SpellsZone}
 pub use Rattle.zoned_ffi.specs.Owned.{boxed, held, lent, loan, shared_row}
-pub use Rattle.zoned_ffi.specs.Refusals.{IsExtendedFault, IsFault, IsFileError, IsReaderNumber, IsRefusal, IsRefusalInDetail, IsTextFault, refusal_number}
-pub use Rattle.zoned_ffi.specs.Resolved.{AreResolved, IsGapEnd, IsNoneTaken, IsReachedAt, IsResolvedAt, IsTaken, TakesOf, policy_of}
-pub use Rattle.zoned_ffi.specs.Steps.KeptTimes.{AreKept, AreWithin, AreWritten, IsAnsweredBy, IsKept, IsKeptOf, IsNotAnsweredBy, IsNotWritten}
-pub use Rattle.zoned_ffi.specs.Steps.KeptTimes.{IsWritten, LieWithin}
-pub use Rattle.zoned_ffi.specs.Steps.ResolvedInstants.{IsStamp, IsTakenAs, taken_instant}
+pub use Rattle.zoned_ffi.specs.Refusals.{IsErrorOfKind, IsExtendedFault, IsFault, IsFileError, IsReaderNumber, IsRefusalInDetail, IsStringError, refusal_number}
+pub use Rattle.zoned_ffi.specs.Resolved.{AreResolved, IsNoneTaken, IsReachedAt, IsResolvedAt, IsTakenGapEnd, IsTakenType, TakesOf, policy_of}
+pub use Rattle.zoned_ffi.specs.Steps.KeptTimes.{AreKept, AreKeptTimes, AreWritten, IsAnsweredBy, IsKept, IsKeptOf, IsNotAnsweredBy, IsNotWritten, IsWritten}
+pub use Rattle.zoned_ffi.specs.Steps.KeptTimes.{LieWithin}
+pub use Rattle.zoned_ffi.specs.Steps.ResolvedInstants.{IsResolvedStamp, IsTakenAs, taken_instant}
 pub use Rattle.zoned_ffi.specs.Steps.Told.{told_of}
 pub use Rattle.zoned_ffi.specs.Texts.{IsSaidOf, IsTextOf}
 pub use Rattle.zoned_ffi.specs.Units.{IsCounted, IsLocal, IsOffsetStretch, IsWithout, no_time, no_type, per_second, uncounted}

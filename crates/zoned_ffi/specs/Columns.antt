@@ -5,7 +5,7 @@ use Rattle.gregorian.specs.Year.{floor_div}
 use Rattle.naive_base.specs.Range.{IsInRange}
 use Rattle.tz_base.specs.LocalTypes.{LocalType}
 use Rattle.tz_info.specs.Zones.{Zone}
-use Rattle.zoned_ffi.specs.Resolved.{IsGapEnd, IsNoneTaken, IsTaken}
+use Rattle.zoned_ffi.specs.Resolved.{IsNoneTaken, IsTakenGapEnd, IsTakenType}
 use Rattle.zoned_ffi.specs.Units.{IsCounted, IsLocal, IsWithout, no_time, per_second}
 use Rattle.zoned_ffi.specs.declared.choice.Choice.{Choice}
 use Rattle.zoned_ffi.specs.declared.column.Way.{Way}
@@ -13,28 +13,28 @@ use Rattle.zoned_ffi.specs.declared.column.Way.TheVariants as ways
 use Rattle.zoned_ffi.specs.declared.unit.Unit.{Unit}
 
 -- the second that a time lies in
-abbrev pub second_of : Unit → ℤ → ℤ
-second_of unit x = floor_div x (per_second unit)
+abbrev pub second_holding : Unit → ℤ → ℤ
+second_holding unit x = floor_div x (per_second unit)
 
 -- the choice takes the instant for the local time: by the offset of a type, or the second at which the gap ends
 pub data IsInstantTaken (z : Zone) (unit : Unit) (choice : Choice) (local instant : ℤ) : Type 0 where
-  by_offset : (t : LocalType) → IsTaken z (second_of unit local) choice t → instant ≡ local -ℤ (t.offset *ℤ pos (per_second unit))
+  by_offset : (t : LocalType) → IsTakenType z (second_holding unit local) choice t → instant ≡ local -ℤ (t.offset *ℤ pos (per_second unit))
       → IsInstantTaken z unit choice local instant
-  by_gap_end : (at : ℤ) (after : LocalType) → IsGapEnd z (second_of unit local) choice at after → instant ≡ at *ℤ pos (per_second unit)
+  by_gap_end : (at : ℤ) (after : LocalType) → IsTakenGapEnd z (second_holding unit local) choice at after → instant ≡ at *ℤ pos (per_second unit)
       → IsInstantTaken z unit choice local instant
 
 -- the instant of the local time under the choice: the second of the local time is in the calendar's range, and the instant can be
 -- counted
 pub record IsInstantOf (z : Zone) (unit : Unit) (choice : Choice) (local instant : ℤ) : Type 0 where
-  pub in_range : IsInRange (second_of unit local)
+  pub in_range : IsInRange (second_holding unit local)
   pub taken : IsInstantTaken z unit choice local instant
   pub counted : IsCounted instant
 
 -- why the local time has none, by its number
 pub data IsNoInstant (z : Zone) (unit : Unit) (choice : Choice) (local : ℤ) : ℕ → Type 0 where
-  outside : ¬ (IsInRange (second_of unit local)) → IsNoInstant z unit choice local 23
-  refused : (n : ℕ) → IsInRange (second_of unit local) → IsNoneTaken z (second_of unit local) choice n → IsNoInstant z unit choice local n
-  uncounted : (instant : ℤ) → IsInRange (second_of unit local) → IsInstantTaken z unit choice local instant → ¬ (IsCounted instant)
+  outside : ¬ (IsInRange (second_holding unit local)) → IsNoInstant z unit choice local 23
+  refused : (n : ℕ) → IsInRange (second_holding unit local) → IsNoneTaken z (second_holding unit local) choice n → IsNoInstant z unit choice local n
+  uncounted : (instant : ℤ) → IsInRange (second_holding unit local) → IsInstantTaken z unit choice local instant → ¬ (IsCounted instant)
       → IsNoInstant z unit choice local 23
 
 -- the answer to a time of a column: the local time of an instant, or the instant of a local time

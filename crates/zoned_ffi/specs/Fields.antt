@@ -10,12 +10,12 @@ use Rattle.tz_info.specs.Zones.{Zone, TypeAt, IsTypeRefused}
 use Rattle.zoned_ffi.specs.declared.fields.Fields.{Fields}
 
 -- the day of the date, counted from 1970-01-01
-abbrev pub day_of : Fields → ℤ
-day_of f = day_number f.year f.month f.day
+abbrev pub day_of_fields : Fields → ℤ
+day_of_fields f = day_number f.year f.month f.day
 
 -- the seconds from 1970-01-01 00:00:00 to the date and the time of day, every day counted as 86,400
-abbrev pub local_of : Fields → ℤ
-local_of f = (pos 86_400 *ℤ day_of f) +ℤ pos (clock_second f.hour f.minute f.second)
+abbrev pub local_of_fields : Fields → ℤ
+local_of_fields f = (pos 86_400 *ℤ day_of_fields f) +ℤ pos (clock_second f.hour f.minute f.second)
 
 -- the calendar has the date, and a clock shows the time
 pub record IsDateTime (f : Fields) : Type 0 where
@@ -25,20 +25,20 @@ pub record IsDateTime (f : Fields) : Type 0 where
 -- the fields of the local time: its date and time of day, the weekday of the date, 0 for Sunday, and its day of the year, 1 for 1 January
 pub record AreFieldsOf (local : ℤ) (f : Fields) : Type 0 where
   pub date_time : IsDateTime f
-  pub names : local_of f ≡ local
-  pub weekday : f.weekday ≡ weekday_of (day_of f)
-  pub day_of_year : year_start f.year +ℤ pos f.day_of_year ≡ day_of f +ℤ pos 1
+  pub names : local_of_fields f ≡ local
+  pub weekday : f.weekday ≡ weekday_of (day_of_fields f)
+  pub day_of_year : year_start f.year +ℤ pos f.day_of_year ≡ day_of_fields f +ℤ pos 1
 
 -- the local time of the date and the time of day, in the calendar's range
 pub record IsLocalOf (f : Fields) (local : ℤ) : Type 0 where
   pub date_time : IsDateTime f
-  pub named : local ≡ local_of f
+  pub named : local ≡ local_of_fields f
   pub in_range : IsInRange local
 
 -- why there is none, by its number
 pub data IsNoLocalOf (f : Fields) : ℕ → Type 0 where
   no_date_time : ¬ (IsDateTime f) → IsNoLocalOf f 39
-  outside : IsDateTime f → ¬ (IsInRange (local_of f)) → IsNoLocalOf f 23
+  outside : IsDateTime f → ¬ (IsInRange (local_of_fields f)) → IsNoLocalOf f 23
 
 -- the fields of the local time that a clock of the zone shows at the second u
 pub record AreFieldsAt (z : Zone) (u : ℤ) (f : Fields) : Type 0 where

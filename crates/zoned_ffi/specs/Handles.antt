@@ -10,13 +10,13 @@ use Rattle.zoned_ffi.specs.declared.handle.Handle.{Handle}
 use Rattle.zoned_ffi.specs.declared.lent.Lent.{Lent}
 
 -- the zone of a share
-abbrev pub zone_of : Option (Arc Zone Global) → Option Zone
-zone_of None = None
-zone_of (Some share) = Some (arc_value share)
+abbrev pub shared_zone : Option (Arc Zone Global) → Option Zone
+shared_zone None = None
+shared_zone (Some share) = Some (arc_value share)
 
 -- the zone is open
 abbrev pub IsOpen : Handle → Zone → Type 0
-IsOpen handle z = zone_of handle.shared ≡ Some z
+IsOpen handle z = shared_zone handle.shared ≡ Some z
 
 -- none is
 abbrev pub IsClosed : Handle → Type 0
@@ -24,7 +24,7 @@ IsClosed handle = handle.shared ≡ None
 
 -- the zone of a handle that is only read
 abbrev pub IsLent : Lent → Zone → Type 0
-IsLent lent z = zone_of lent.shared ≡ Some z
+IsLent lent z = shared_zone lent.shared ≡ Some z
 
 -- a handle that is only read has none
 abbrev pub IsNoneLent : Lent → Type 0

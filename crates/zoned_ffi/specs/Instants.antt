@@ -9,11 +9,11 @@ abbrev pub no_offset : ℤ
 no_offset = neg_ℤ (pos 2_147_483_648)
 
 -- the offset of the type in force at the second u, or the mark where the zone has no type there
-abbrev pub IsOffsetAt : Zone → ℤ → ℤ → Type 0
-IsOffsetAt z u offset =
+abbrev pub IsWrittenOffsetAt : Zone → ℤ → ℤ → Type 0
+IsWrittenOffsetAt z u offset =
     ((t : LocalType) × TypeAt z u t × (offset ≡ t.offset) × IsUtOffset offset)
     ⊎ (IsTypeRefused z u × (offset ≡ no_offset))
 
 -- one for each instant, in their order
 abbrev pub AreOffsetsAt : Zone → List ℤ → List ℤ → Type 0
-AreOffsetsAt z instants offsets = AllZip (IsOffsetAt z) instants offsets
+AreOffsetsAt z instants offsets = AllZip (IsWrittenOffsetAt z) instants offsets

@@ -3,7 +3,7 @@ use Rattle.std.specs.Prelude.{ℕ, ℤ, ◌≡◌, ◌≢◌, ◌-ℤ◌, pos, L
 use Rattle.std.specs.List.{AllZip}
 use Rattle.naive_base.specs.Range.{IsInRange}
 use Rattle.offset_core.specs.Around.{Takes}
-use Rattle.offset_core.specs.ResolveNumbers.{number_of}
+use Rattle.offset_core.specs.ResolveNumbers.{resolve_error_number}
 use Rattle.offset_core.specs.declared.around.Taken.{Taken}
 use Rattle.offset_core.specs.declared.around.Taken.TheVariants.{Shown, InGap}
 use Rattle.offset_core.specs.declared.choice.Choice as any_choice
@@ -18,7 +18,7 @@ use Rattle.tz_info.specs.Around.{Skips}
 use Rattle.tz_info.specs.ShownSeconds.{IsFirstAtOrAfter}
 use Rattle.tz_info.specs.WallClocks.{Shows}
 use Rattle.tz_info.specs.Zones.{Zone, TypeAt}
-use Rattle.zoned_ffi.specs.Instants.{IsOffsetAt}
+use Rattle.zoned_ffi.specs.Instants.{IsWrittenOffsetAt}
 use Rattle.zoned_ffi.specs.declared.choice.Choice.{Choice}
 use Rattle.zoned_ffi.specs.declared.choice.GapChoice.{GapChoice}
 use Rattle.zoned_ffi.specs.declared.choice.GapChoice.TheVariants as gaps
@@ -57,19 +57,19 @@ TakesOf z local choice = Takes (Shows (TypeAt z) local) (Skips (TypeAt z) local)
 
 -- the type by whose offset a choice takes the local time for an instant: that of the only second which shows it; in a fold that
 -- of the first, or of the last; in a gap the one before it
-pub data IsTaken (z : Zone) (local : ℤ) (choice : Choice) (t : LocalType) : Type 0 where
-  shown : TakesOf z local choice (Ok (Shown t)) → IsTaken z local choice t
-  shifted : (change : Change) → TakesOf z local choice (Ok (InGap change)) → choice.gap ≢ gaps.End → t ≡ change.before → IsTaken z local choice t
+pub data IsTakenType (z : Zone) (local : ℤ) (choice : Choice) (t : LocalType) : Type 0 where
+  shown : TakesOf z local choice (Ok (Shown t)) → IsTakenType z local choice t
+  shifted : (change : Change) → TakesOf z local choice (Ok (InGap change)) → choice.gap ≢ gaps.End → t ≡ change.before → IsTakenType z local choice t
 
 -- the choice takes the second `at`, at which the gap that the local time lies in ends, and `after` is in force from then on
-pub record IsGapEnd (z : Zone) (local : ℤ) (choice : Choice) (at : ℤ) (after : LocalType) : Type 0 where
+pub record IsTakenGapEnd (z : Zone) (local : ℤ) (choice : Choice) (at : ℤ) (after : LocalType) : Type 0 where
   pub before : LocalType
   pub takes : TakesOf z local choice (Ok (InGap (record { at = at; before = before; after = after })))
   pub end : choice.gap ≡ gaps.End
 
 -- why the choice takes none, by its number: a gap, or a fold, is refused
 abbrev pub IsNoneTaken : Zone → ℤ → Choice → ℕ → Type 0
-IsNoneTaken z local choice n = (e : ResolveError) × TakesOf z local choice (Err e) × (n ≡ number_of e)
+IsNoneTaken z local choice n = (e : ResolveError) × TakesOf z local choice (Err e) × (n ≡ resolve_error_number e)
 
 -- what is written where there is no instant: the number that says why
 abbrev pub unresolved : ℕ → Resolved
@@ -78,14 +78,17 @@ unresolved n = record { number = n; offset = pos 0; instant = pos 0 }
 -- What is written of a local time. The instant is the local time less the offset that is taken, or the gap's end, and the offset is the
 -- one in force there: in a gap mostly the one after it. The number is 23 where the local time or the instant is outside the calendar's range.
 pub data IsResolvedAt (z : Zone) (choice : Choice) (local : ℤ) (w : Resolved) : Type 0 where
-  found : (t : LocalType) (offset : ℤ) → IsInRange local → IsTaken z local choice t → IsInRange (local -ℤ t.offset) → IsOffsetAt z (local -ℤ t.offset) offset
+  found : (t : LocalType) (offset : ℤ) → IsInRange local → IsTakenType z local choice t → IsInRange (local -ℤ t.offset)
+      → IsWrittenOffsetAt z (local -ℤ t.offset) offset
       → w ≡ record { number = 0; offset = offset; instant = local -ℤ t.offset } → IsResolvedAt z choice local w
-  ended : (at : ℤ) (after : LocalType) → IsInRange local → IsGapEnd z local choice at after → IsInRange at
+  ended : (at : ℤ) (after : LocalType) → IsInRange local → IsTakenGapEnd z local choice at after → IsInRange at
       → w ≡ record { number = 0; offset = after.offset; instant = at } → IsResolvedAt z choice local w
   none : (n : ℕ) → IsInRange local → IsNoneTaken z local choice n → w ≡ unresolved n → IsResolvedAt z choice local w
   outside : ¬ (IsInRange local) → w ≡ unresolved 23 → IsResolvedAt z choice local w
-  taken_outside : (t : LocalType) → IsInRange local → IsTaken z local choice t → ¬ (IsInRange (local -ℤ t.offset)) → w ≡ unresolved 23 → IsResolvedAt z choice local w
-  ended_outside : (at : ℤ) (after : LocalType) → IsInRange local → IsGapEnd z local choice at after → ¬ (IsInRange at) → w ≡ unresolved 23 → IsResolvedAt z choice local w
+  taken_outside : (t : LocalType) → IsInRange local → IsTakenType z local choice t → ¬ (IsInRange (local -ℤ t.offset)) → w ≡ unresolved 23
+      → IsResolvedAt z choice local w
+  ended_outside : (at : ℤ) (after : LocalType) → IsInRange local → IsTakenGapEnd z local choice at after → ¬ (IsInRange at) → w ≡ unresolved 23
+      → IsResolvedAt z choice local w
 
 -- one for each local time, in their order
 abbrev pub AreResolved : Zone → Choice → List ℤ → List Resolved → Type 0

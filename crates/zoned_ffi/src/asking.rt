@@ -5,7 +5,7 @@ ghost use Rattle.std.specs.Prelude.{◌≡◌, ◌≢◌, ◌*◌, ◌⊎◌, �
 ghost use Rattle.tz_info.specs.Changes.{HasNoChange};
 ghost use Rattle.tz_info.specs.Zones.{Zone, TypeAt, IsTypeRefused};
 ghost use Rattle.zoned_ffi.specs.Handles.{IsLent, IsNoneLent, IsUnanswered};
-ghost use Rattle.zoned_ffi.specs.Instants.{AreOffsetsAt, IsOffsetAt};
+ghost use Rattle.zoned_ffi.specs.Instants.{AreOffsetsAt, IsWrittenOffsetAt};
 ghost use Rattle.zoned_ffi.specs.Columns.{AreAnswered, IsFirstWithout};
 ghost use Rattle.zoned_ffi.specs.Fields.{AreFieldsAt, AreNoFieldsAt};
 ghost use Rattle.zoned_ffi.specs.Units.{IsUnit, per_second};
@@ -35,7 +35,7 @@ use crate::wall_clock::{WallClock, answer_triples, answer_wall_clocks};
 #[unsafe(no_mangle)]
 pub extern "C" fn zoned_zone_offset(zone: &Lent, instant: i64, offset: &mut i32) -> u32
     // 0: the answer is the zone's.
-    ensures answered { result ≡ 0 → (z : Zone) × IsLent zone.now z × IsOffsetAt z instant offset.new }
+    ensures answered { result ≡ 0 → (z : Zone) × IsLent zone.now z × IsWrittenOffsetAt z instant offset.new }
     // 33: no zone is open, and nothing is written.
     ensures refused { result ≢ 0 → (result ≡ 33) × IsNoneLent zone.now × (offset.new ≡ offset.old) }
 {

@@ -3,10 +3,11 @@
 ghost use Rattle.std.specs.Prelude.{◌≡◌, ◌≢◌, ◌≤ℤ◌, ◌<ℤ◌, slice_set};
 ghost use Rattle.tz_info.specs.Changes.{HasNoChange};
 ghost use Rattle.tz_info.specs.Zones.{TypeAt};
-ghost use Rattle.zoned_ffi.specs.WrittenChanges.{AreFirstWritten, AreWrittenChanges, IsFirstWritten, IsGapWritten, IsLastWritten, IsNoGap, written_change};
+ghost use Rattle.zoned_ffi.specs.WrittenChanges.{AreFirstWritten, AreWrittenChanges, IsFirstWritten, IsGapWritten};
+ghost use Rattle.zoned_ffi.specs.WrittenChanges.{IsLastWritten, IsNoGap, written_change};
 
 use crate::local_type::WrittenType;
-use crate::refusal::{NO_CHANGE, NO_GAP, OUT_OF_RANGE};
+use crate::refusal::{INSTANT_OUT_OF_RANGE, NO_CHANGE, NO_GAP};
 use naive_base::NaiveDateTime;
 use tz_info::{Around, Change, TimeZone};
 
@@ -71,7 +72,7 @@ pub fn answer_gap(zone: &TimeZone, local: i64, gap: &mut WrittenChange) -> u32
     ensures refused { result ≢ 0 → IsNoGap zone.now local result × (gap.new ≡ gap.old) }
 {
     let Some(reading) = NaiveDateTime::from_timestamp_opt(local, 0) else {
-        return OUT_OF_RANGE;
+        return INSTANT_OUT_OF_RANGE;
     };
     match zone.find_local_time_type_around(reading) {
         Around::Gap(found) => {

@@ -45,8 +45,8 @@ impl Choice {
     }
 }
 
-/// The choice of those numbers: of a gap 0 is refused, 1 shifts forward, and 2 takes its end; of a
-/// fold 0 is refused, 1 takes the earliest and 2 the latest.
+/// The choice of those numbers: of a gap 0 is rejected, 1 shifts forward, and 2 takes its end; of a
+/// fold 0 is rejected, 1 takes the earliest and 2 the latest.
 pub fn choice_of(gap: u32, fold: u32) -> Option<Choice>
     ensures { MatchOption result (¬ (IsChoice gap fold)) (λ choice. IsChoiceOf gap fold choice) }
 {

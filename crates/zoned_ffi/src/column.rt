@@ -177,6 +177,7 @@ pub fn answer_locals(
 
 /// Writes the instant of each local time if there is room for as many: 0, or why not. If a local time
 /// has none, the row of the first such local time is written too.
+#[tactic(auto, using(crate::proofs::Columns::row_number))]
 pub fn answer_times(
     zone: &TimeZone,
     unit: Unit,

@@ -5,7 +5,7 @@ ghost use Rattle.gregorian.specs.Year.{floor_div, floor_mod};
 ghost use Rattle.naive_base.specs.Range.{IsInRange};
 ghost use Rattle.zoned_ffi.specs.Fields.{AreFieldsAt, AreFieldsOf, AreNoFieldsAt, IsDateTime, IsLocalOf, IsNoLocalOf};
 
-use crate::refusal::{NO_DATE_TIME, NO_LOCAL_TIME, OUT_OF_RANGE};
+use crate::refusal::{INSTANT_OUT_OF_RANGE, NO_DATE_TIME, NO_LOCAL_TIME};
 use gregorian::{date_of, day_number, day_of_year, is_date, weekday_of};
 use tz_info::TimeZone;
 
@@ -82,7 +82,7 @@ impl Fields {
         if is_in_range(local) {
             Ok(local)
         } else {
-            Err(OUT_OF_RANGE)
+            Err(INSTANT_OUT_OF_RANGE)
         }
     }
 }
@@ -117,7 +117,7 @@ pub extern "C" fn zoned_fields_of(local: i64, fields: &mut Fields) -> u32
     ensures refused { result ≢ 0 → (result ≡ 23) × ¬ (IsInRange local) × (fields.new ≡ fields.old) }
 {
     if !is_in_range(local) {
-        return OUT_OF_RANGE;
+        return INSTANT_OUT_OF_RANGE;
     }
     *fields = Fields::of(local);
     0
@@ -167,7 +167,7 @@ fn answer_shown(instant: i64, offset: i32, fields: &mut Fields) -> u32
             *fields = Fields::of(local);
             0
         }
-        None => OUT_OF_RANGE,
+        None => INSTANT_OUT_OF_RANGE,
     }
 }
 

@@ -1,7 +1,7 @@
 //! The offsets at instants.
 
 ghost use Rattle.std.specs.Prelude.{◌≡◌, ◌≢◌, length};
-ghost use Rattle.zoned_ffi.specs.Instants.{AreOffsetsAt, IsOffsetAt};
+ghost use Rattle.zoned_ffi.specs.Instants.{AreOffsetsAt, IsWrittenOffsetAt};
 
 use crate::refusal::OTHER_SIZE;
 use tz_info::TimeZone;
@@ -35,7 +35,7 @@ pub fn answer_instants(zone: &TimeZone, instants: &[i64], offsets: &mut [i32]) -
 /// The offset in force at the instant, in seconds east of UTC.
 #[inline(always)]
 pub fn offset_at(zone: &TimeZone, instant: i64) -> i32
-    ensures { IsOffsetAt zone.now instant result }
+    ensures { IsWrittenOffsetAt zone.now instant result }
 {
     match zone.find_local_time_type(instant) {
         Ok(found) => found.offset(),

@@ -2,8 +2,8 @@
 
 ghost use Rattle.std.specs.Prelude.{◌≡◌, ◌↔◌, ℕ, IsTrue, IfOk, IfErr, MatchOption, MatchResult};
 ghost use Rattle.tz_info.specs.Zones.{Zone};
-ghost use Rattle.zoned_ffi.specs.Kinds.{IsKind, IsZoneOf, Spells, number_of};
-ghost use Rattle.zoned_ffi.specs.Refusals.{IsFault, IsReaderNumber, IsRefusal, refusal_number};
+ghost use Rattle.zoned_ffi.specs.Kinds.{IsKind, IsZoneOf, SpellsZone, kind_number};
+ghost use Rattle.zoned_ffi.specs.Refusals.{IsErrorOfKind, IsFault, IsReaderNumber, refusal_number};
 ghost use Rattle.zoned_ffi.specs.declared.kind.Kind.TheVariants.{ExtendedText, File, Text};
 
 use crate::refusal::Refusal;
@@ -25,7 +25,7 @@ pub enum Kind {
 impl Kind {
     /// The kind of that number.
     pub fn from_number(number: u32) -> Option<Kind>
-        ensures { MatchOption result (¬ (IsKind number)) (λ kind. number ≡ number_of kind) }
+        ensures { MatchOption result (¬ (IsKind number)) (λ kind. number ≡ kind_number kind) }
     {
         match number {
             0 => Some(Kind::File),
@@ -37,8 +37,8 @@ impl Kind {
 
     /// The zone that bytes of this kind spell.
     pub fn read(self, alloc: Global, bytes: &[u8]) -> Result<TimeZone, Refusal>
-        ensures found { IfOk result (λ z. Spells self bytes.now z) }
-        ensures only { (z : Zone) → Spells self bytes.now z
+        ensures found { IfOk result (λ z. SpellsZone self bytes.now z) }
+        ensures only { (z : Zone) → SpellsZone self bytes.now z
             → MatchResult result (λ y. y ≡ z) (λ e. refusal_number e ≡ 17) }
         ensures fault { IfErr result (λ e. IsFault self bytes.now (refusal_number e)) }
         ensures number { IfErr result (λ e. IsReaderNumber (refusal_number e)) }
@@ -53,15 +53,15 @@ impl Kind {
 
 /// Whether the kind of that number is a TZif file.
 pub fn is_file(number: u32) -> bool
-    ensures { IsTrue result ↔ (number ≡ number_of File) }
+    ensures { IsTrue result ↔ (number ≡ kind_number File) }
 {
     number == 0
 }
 
 // The zone of a TZif file.
 fn read_file(alloc: Global, bytes: &[u8]) -> Result<TimeZone, Refusal>
-    ensures found { IfOk result (λ z. Spells File bytes.now z) }
-    ensures only { (z : Zone) → Spells File bytes.now z
+    ensures found { IfOk result (λ z. SpellsZone File bytes.now z) }
+    ensures only { (z : Zone) → SpellsZone File bytes.now z
         → MatchResult result (λ y. y ≡ z) (λ e. refusal_number e ≡ 17) }
     ensures fault { IfErr result (λ e. IsFault File bytes.now (refusal_number e)) }
     ensures number { IfErr result (λ e. IsReaderNumber (refusal_number e)) }
@@ -72,10 +72,10 @@ fn read_file(alloc: Global, bytes: &[u8]) -> Result<TimeZone, Refusal>
     }
 }
 
-// The zone of a TZ text.
+// The zone of a TZ string.
 fn read_text(alloc: Global, bytes: &[u8]) -> Result<TimeZone, Refusal>
-    ensures found { IfOk result (λ z. Spells Text bytes.now z) }
-    ensures only { (z : Zone) → Spells Text bytes.now z
+    ensures found { IfOk result (λ z. SpellsZone Text bytes.now z) }
+    ensures only { (z : Zone) → SpellsZone Text bytes.now z
         → MatchResult result (λ y. y ≡ z) (λ e. refusal_number e ≡ 17) }
     ensures fault { IfErr result (λ e. IsFault Text bytes.now (refusal_number e)) }
     ensures number { IfErr result (λ e. IsReaderNumber (refusal_number e)) }
@@ -90,9 +90,10 @@ fn read_text(alloc: Global, bytes: &[u8]) -> Result<TimeZone, Refusal>
 }
 
 // The zone of a TZ string with extensions.
+#[tactic(auto, using(crate::proofs::Reading::extended_refused))]
 fn read_extended(alloc: Global, bytes: &[u8]) -> Result<TimeZone, Refusal>
-    ensures found { IfOk result (λ z. Spells ExtendedText bytes.now z) }
-    ensures only { (z : Zone) → Spells ExtendedText bytes.now z
+    ensures found { IfOk result (λ z. SpellsZone ExtendedText bytes.now z) }
+    ensures only { (z : Zone) → SpellsZone ExtendedText bytes.now z
         → MatchResult result (λ y. y ≡ z) (λ e. refusal_number e ≡ 17) }
     ensures fault { IfErr result (λ e. IsFault ExtendedText bytes.now (refusal_number e)) }
     ensures number { IfErr result (λ e. IsReaderNumber (refusal_number e)) }
@@ -110,7 +111,7 @@ pub fn read_zone(alloc: Global, number: u32, bytes: &[u8], fits: bool) -> Result
     ensures only { (z : Zone) → IsZoneOf number bytes.now z → IsTrue fits
         → MatchResult result (λ y. y ≡ z) (λ e. refusal_number e ≡ 17) }
     ensures fault { IfErr result (λ e. (wanted room : ℕ) → (IsTrue fits ↔ (wanted ≡ room))
-        → IsRefusal number bytes.now wanted room (refusal_number e)) }
+        → IsErrorOfKind number bytes.now wanted room (refusal_number e)) }
 {
     let Some(kind) = Kind::from_number(number) else {
         return Err(Refusal::UnknownKind);

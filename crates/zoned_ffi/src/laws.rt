@@ -2,11 +2,12 @@
 //! called.
 
 ghost use Rattle.std.specs.Prelude.{◌≡◌, ◌⊎◌, List, ℕ};
-ghost use Rattle.zoned_ffi.specs.Refusals.{IsRefusal};
+ghost use Rattle.zoned_ffi.specs.Refusals.{IsErrorOfKind};
 
 /// A call that is rejected returns one number, or 17 if memory runs out first.
+#[tactic(auto, using(crate::proofs::OneNumber::one_number))]
 pub fn one_number()
     ensures { (kind : ℕ) (bytes : List ℕ) (wanted room m n : ℕ)
-        → IsRefusal kind bytes wanted room m → IsRefusal kind bytes wanted room n
+        → IsErrorOfKind kind bytes wanted room m → IsErrorOfKind kind bytes wanted room n
         → (m ≡ n) ⊎ (m ≡ 17) ⊎ (n ≡ 17) }
 {}

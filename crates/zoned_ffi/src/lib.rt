@@ -7,8 +7,8 @@ ghost use Rattle.tz_info.specs.Zones.{Zone};
 ghost use Rattle.zoned_ffi.specs.Instants.{AreOffsetsAt};
 ghost use Rattle.tz_base.specs.declared.error.Error.{Error};
 ghost use Rattle.tz_info.specs.TzFiles.{IsZoneFault};
-ghost use Rattle.zoned_ffi.specs.Kinds.{IsZoneOf, Spells};
-ghost use Rattle.zoned_ffi.specs.Refusals.{IsRefusal, IsRefusalInDetail, detail_number};
+ghost use Rattle.zoned_ffi.specs.Kinds.{IsZoneOf, SpellsZone};
+ghost use Rattle.zoned_ffi.specs.Refusals.{IsErrorOfKind, IsRefusalInDetail, detail_number};
 ghost use Rattle.zoned_ffi.specs.declared.kind.Kind.TheVariants.{File};
 ghost use Rattle.zoned_ffi.specs.WallClocks.{AreTriples, AreWallClocks};
 
@@ -48,7 +48,7 @@ pub extern "C" fn zoned_parse(alloc: Global, kind: u32, zone: &[u8]) -> u32
     // 0: the bytes spell a zone.
     ensures answered { result ≡ 0 → (z : Zone) × IsZoneOf kind zone.now z }
     // Another number says what is wrong.
-    ensures refused { result ≢ 0 → IsRefusal kind zone.now 0 0 result }
+    ensures refused { result ≢ 0 → IsErrorOfKind kind zone.now 0 0 result }
     // The zone that is spelled is read, unless memory runs out.
     ensures only { (z : Zone) → IsZoneOf kind zone.now z → (result ≡ 0) ⊎ (result ≡ 17) }
 {
@@ -78,10 +78,10 @@ pub extern "C" fn zoned_fault(alloc: Global, kind: u32, zone: &[u8]) -> u32
 
 // What is wrong with a file, or 0.
 fn file_fault(alloc: Global, file: &[u8]) -> u32
-    ensures answered { result ≡ 0 → (z : Zone) × Spells File file.now z }
+    ensures answered { result ≡ 0 → (z : Zone) × SpellsZone File file.now z }
     ensures refused { result ≢ 0
         → (e : Error) × IsZoneFault file.now e × (result ≡ detail_number e) }
-    ensures only { (z : Zone) → Spells File file.now z → (result ≡ 0) ⊎ (result ≡ 17) }
+    ensures only { (z : Zone) → SpellsZone File file.now z → (result ≡ 0) ⊎ (result ≡ 17) }
 {
     match TimeZone::from_tz_data(alloc, file) {
         Ok(_) => 0,
@@ -105,7 +105,7 @@ pub extern "C" fn zoned_at(
         → (z : Zone) × IsZoneOf kind zone.now z × AreOffsetsAt z instants.now offsets.new }
     // Another number says what is wrong, and nothing is written.
     ensures refused { result ≢ 0
-        → IsRefusal kind zone.now (length instants.now) (length offsets.old) result
+        → IsErrorOfKind kind zone.now (length instants.now) (length offsets.old) result
         × (offsets.new ≡ offsets.old) }
     // The zone that is spelled is asked, unless memory runs out.
     ensures only { (z : Zone) → IsZoneOf kind zone.now z
@@ -135,7 +135,7 @@ pub extern "C" fn zoned_wall(
         → (z : Zone) × IsZoneOf kind zone.now z × AreTriples z locals.now answers.new }
     // Another number says what is wrong, and nothing is written.
     ensures refused { result ≢ 0
-        → IsRefusal kind zone.now (3 * length locals.now) (length answers.old) result
+        → IsErrorOfKind kind zone.now (3 * length locals.now) (length answers.old) result
         × (answers.new ≡ answers.old) }
     // The zone that is spelled is asked, unless memory runs out.
     ensures only { (z : Zone) → IsZoneOf kind zone.now z
@@ -164,7 +164,7 @@ pub extern "C" fn zoned_wall_instants(
         → (z : Zone) × IsZoneOf kind zone.now z × AreWallClocks z locals.now answers.new }
     // Another number says what is wrong, and nothing is written.
     ensures refused { result ≢ 0
-        → IsRefusal kind zone.now (length locals.now) (length answers.old) result
+        → IsErrorOfKind kind zone.now (length locals.now) (length answers.old) result
         × (answers.new ≡ answers.old) }
     // The zone that is spelled is asked, unless memory runs out.
     ensures only { (z : Zone) → IsZoneOf kind zone.now z

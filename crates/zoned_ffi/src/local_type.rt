@@ -1,11 +1,12 @@
 //! The local time types at instants, as C reads them.
 
-ghost use Rattle.std.specs.Prelude.{◌≡◌, ◌≢◌, Some, length};
-ghost use Rattle.zoned_ffi.specs.WrittenTypes.{AreWrittenTypesAt, IsWrittenTypeAt, mark, no_type, written_type, zero_ended};
+ghost use Rattle.std.specs.Prelude.{◌≡◌, ◌≢◌, length};
+ghost use Rattle.zoned_ffi.specs.WrittenTypes.{AreWrittenTypesAt, IsWrittenTypeAt, mark, no_type, written_type};
+ghost use Rattle.zoned_ffi.specs.WrittenTypes.{zero_ended};
 
 use crate::instants::NO_OFFSET;
 use crate::refusal::OTHER_SIZE;
-use tz_info::{LocalTimeType, Lookups, TimeZone, TimeZoneName};
+use tz_info::{LocalTimeType, Lookups, TimeZone};
 
 /// A local time type.
 #[repr(C)]
@@ -75,18 +76,9 @@ fn zero_ended(local_type: &LocalTimeType) -> [u8; 8]
     ensures { result ≡ zero_ended local_type.now.name }
 {
     match local_type.name() {
-        Some(name) => padded(name),
+        Some(name) => name.zero_ended(),
         None => [0; 8],
     }
-}
-
-fn padded(name: &TimeZoneName) -> [u8; 8]
-    ensures { result ≡ zero_ended (Some name.now) }
-{
-    let name = name.as_bytes();
-    let mut bytes = [0; 8];
-    bytes[..name.len()].copy_from_slice(name);
-    bytes
 }
 
 /// Writes the type at each instant, where there is room for as many: 0, or why not.

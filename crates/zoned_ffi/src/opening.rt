@@ -5,7 +5,7 @@ ghost use Rattle.std.specs.Arc.{arc_value};
 ghost use Rattle.tz_info.specs.Zones.{Zone};
 ghost use Rattle.zoned_ffi.specs.Handles.{IsClosed, IsLent, IsNoneLent, IsOpen};
 ghost use Rattle.zoned_ffi.specs.Kinds.{IsZoneOf};
-ghost use Rattle.zoned_ffi.specs.Refusals.{IsRefusal, refusal_number};
+ghost use Rattle.zoned_ffi.specs.Refusals.{IsErrorOfKind, refusal_number};
 
 use crate::handle::Handle;
 use crate::kind::read_zone;
@@ -21,7 +21,7 @@ pub extern "C" fn zoned_open(alloc: Global, kind: u32, zone: &[u8], out: &mut Ha
     // 0: the zone that the bytes spell is open.
     ensures opened { result ≡ 0 → (z : Zone) × IsZoneOf kind zone.now z × IsOpen out.new z }
     // Another number says what is wrong, and `out` is as it was.
-    ensures refused { result ≢ 0 → IsRefusal kind zone.now 0 0 result × (out.new ≡ out.old) }
+    ensures refused { result ≢ 0 → IsErrorOfKind kind zone.now 0 0 result × (out.new ≡ out.old) }
     // The zone that is spelled is opened, unless memory runs out.
     ensures only { (z : Zone) → IsZoneOf kind zone.now z → (result ≡ 0) ⊎ (result ≡ 17) }
 {
@@ -39,7 +39,7 @@ fn opened(alloc: Global, kind: u32, bytes: &[u8]) -> Result<Handle, Refusal>
     ensures found { IfOk result (λ handle. (z : Zone) × IsZoneOf kind bytes.now z × IsOpen handle z) }
     ensures only { (z : Zone) → IsZoneOf kind bytes.now z
         → IfErr result (λ e. refusal_number e ≡ 17) }
-    ensures fault { IfErr result (λ e. IsRefusal kind bytes.now 0 0 (refusal_number e)) }
+    ensures fault { IfErr result (λ e. IsErrorOfKind kind bytes.now 0 0 (refusal_number e)) }
 {
     match read_zone(alloc, kind, bytes, true) {
         Ok(zone) => match boxed(alloc, zone) {

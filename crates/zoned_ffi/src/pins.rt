@@ -9,7 +9,7 @@ ghost use Rattle.tz_info.specs.Zones.{Zone};
 ghost use Rattle.zoned_ffi.specs.Fields.{AreFieldsOf, IsNoLocalOf};
 ghost use Rattle.zoned_ffi.specs.Handles.{IsUnanswered};
 ghost use Rattle.zoned_ffi.specs.Instants.{no_offset};
-ghost use Rattle.zoned_ffi.specs.Kinds.{IsKind, number_of};
+ghost use Rattle.zoned_ffi.specs.Kinds.{IsKind, kind_number};
 ghost use Rattle.zoned_ffi.specs.Resolved.{IsChoice, IsChoiceOf, IsNoneTaken, unresolved};
 ghost use Rattle.zoned_ffi.specs.WallClocks.{written, out_of_range};
 ghost use Rattle.zoned_ffi.specs.WrittenChanges.{written_change, written_into};
@@ -22,9 +22,9 @@ ghost use Rattle.zoned_ffi.specs.declared.kind.Kind.TheVariants as kinds;
 
 /// A file is of kind 0, a TZ string of kind 1, and one with extensions of kind 2; there is no kind 3.
 pub fn kind_numbers()
-    ensures file { number_of kinds.File ≡ 0 }
-    ensures text { number_of kinds.Text ≡ 1 }
-    ensures extended { number_of kinds.ExtendedText ≡ 2 }
+    ensures file { kind_number kinds.File ≡ 0 }
+    ensures text { kind_number kinds.Text ≡ 1 }
+    ensures extended { kind_number kinds.ExtendedText ≡ 2 }
     ensures three { ¬ (IsKind 3) }
 {}
 

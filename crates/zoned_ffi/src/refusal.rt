@@ -30,7 +30,7 @@ pub const NO_GAP: u32 = 38;
 pub const NO_DATE_TIME: u32 = 39;
 
 /// The number of a local time that is outside the calendar's range, or whose instant is.
-pub const OUT_OF_RANGE: u32 = 23;
+pub const INSTANT_OUT_OF_RANGE: u32 = 23;
 
 /// What a call returns where memory runs out.
 pub const OUT_OF_MEMORY: u32 = 17;
@@ -49,7 +49,7 @@ pub enum Refusal {
 }
 
 impl Refusal {
-    /// The number that a call returns: from 1 to 17 for bytes that are refused, 31 for a kind, 32
+    /// The number that a call returns: from 1 to 17 for bytes that are rejected, 31 for a kind, 32
     /// for a size.
     pub fn number(self) -> u32
         ensures value { result ≡ refusal_number self }

@@ -4,11 +4,11 @@ ghost use Rattle.std.specs.Prelude.{◌≡◌, ◌≢◌, ◌-ℤ◌, pos, lengt
 ghost use Rattle.naive_base.specs.NaiveDateTime.{reading};
 ghost use Rattle.naive_base.specs.Range.{IsInRange};
 ghost use Rattle.zoned_ffi.specs.Resolved.{AreResolved, IsNoneTaken, IsReachedAt, IsResolvedAt, unresolved};
-ghost use Rattle.zoned_ffi.specs.Steps.ResolvedInstants.{IsStamp, IsTakenAs};
+ghost use Rattle.zoned_ffi.specs.Steps.ResolvedInstants.{IsResolvedStamp, IsTakenAs};
 
 use crate::choice::{Choice, GapChoice};
 use crate::instants::offset_at;
-use crate::refusal::{OTHER_SIZE, OUT_OF_RANGE};
+use crate::refusal::{INSTANT_OUT_OF_RANGE, OTHER_SIZE};
 use naive_base::NaiveDateTime;
 use offset_core::Taken as Found;
 use tz_info::{Probes, TimeZone};
@@ -32,7 +32,7 @@ impl Resolved {
         ensures { IsResolvedAt zone.now choice local result }
     {
         let Some(reading) = NaiveDateTime::from_timestamp_opt(local, 0) else {
-            return Resolved::none(OUT_OF_RANGE);
+            return Resolved::none(INSTANT_OUT_OF_RANGE);
         };
         match take(zone, choice, reading) {
             Ok(Taken::InForce(offset)) => Resolved::within(instant_by(local, offset), offset),
@@ -50,7 +50,7 @@ impl Resolved {
         ensures { IsReachedAt zone.now local result }
     {
         let Some(reading) = NaiveDateTime::from_timestamp_opt(local, 0) else {
-            return Resolved::none(OUT_OF_RANGE);
+            return Resolved::none(INSTANT_OUT_OF_RANGE);
         };
         let reached = zone.find_first_at_or_after(reading);
         Resolved::within(reached.at, reached.local_time_type.offset())
@@ -58,7 +58,7 @@ impl Resolved {
 
     // The instant and the offset in force then, if the instant is in range.
     fn within(instant: i64, offset: i32) -> Resolved
-        ensures { IsStamp instant offset result }
+        ensures { IsResolvedStamp instant offset result }
     {
         match NaiveDateTime::from_timestamp_opt(instant, 0) {
             Some(_) => Resolved {
@@ -66,7 +66,7 @@ impl Resolved {
                 offset,
                 instant,
             },
-            None => Resolved::none(OUT_OF_RANGE),
+            None => Resolved::none(INSTANT_OUT_OF_RANGE),
         }
     }
 

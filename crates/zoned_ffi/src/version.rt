@@ -6,7 +6,7 @@ ghost use Rattle.std.specs.Prelude.{◌≡◌};
 /// second, and the third.
 #[unsafe(no_mangle)]
 pub extern "C" fn zoned_version() -> u32
-    ensures { result ≡ 3_000 }
+    ensures { result ≡ 4_000 }
 {
-    3_000
+    4_000
 }

@@ -2,13 +2,14 @@
 
 ghost use Rattle.std.specs.Prelude.{◌≡◌, ◌≢◌, ◌↔◌, IsTrue, ◌*◌, ◌-ℤ◌, pos, length};
 ghost use Rattle.naive_base.specs.Range.{IsInRange};
+ghost use Rattle.offset_core.specs.LocalResult.{map_of};
 ghost use Rattle.zoned_ffi.specs.Steps.Told.{told_of};
 ghost use Rattle.zoned_ffi.specs.WallClocks.{AreTriples, AreWallClocks, IsWallClockAt, written};
 
 use crate::refusal::OTHER_SIZE;
 use naive_base::NaiveDateTime;
 use offset_core::MappedLocalTime;
-use tz_info::{LocalTimeType, Probes, TimeZone};
+use tz_info::{LocalTimeType, TimeZone};
 
 // The number of seconds that show a local time, as [`WallClock::shown`] has it: none.
 const NEVER: i32 = 0;
@@ -50,17 +51,13 @@ impl WallClock {
         let Some(reading) = NaiveDateTime::from_timestamp_opt(local, 0) else {
             return WallClock::nowhere(OUT_OF_RANGE);
         };
-        let mut probes = Probes::new();
-        match zone.find_local_time_type_from_local_counted(reading, &mut probes) {
-            Ok(types) => WallClock::of_types(local, types),
-            Err(_) => unreachable!(),
-        }
+        WallClock::of_types(local, zone.local_time_types_at(reading))
     }
 
     // That of the types in force at the first and the last second that show it.
-    fn of_types(local: i64, types: MappedLocalTime<LocalTimeType>) -> WallClock
+    fn of_types(local: i64, types: MappedLocalTime<&LocalTimeType>) -> WallClock
         requires { IsInRange local }
-        ensures { result ≡ written (told_of local types) }
+        ensures { result ≡ written (told_of local (map_of (λ r. r.now) types.entry)) }
     {
         match types {
             MappedLocalTime::None => WallClock::nowhere(NEVER),

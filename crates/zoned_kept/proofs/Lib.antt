@@ -1,1 +1,1 @@
-mod Gaps
+mod Kept

@@ -1,22 +1,15 @@
 //! When the clocks of a kept zone change, as instants.
 ghost use Rattle.std.specs.Prelude.{◌≡◌, ◌≤ℤ◌, ◌<ℤ◌, IfSome, option_map};
-ghost use Rattle.tz_info.specs.Changes.{IsChange, IsFirst, IsLast};
+ghost use Rattle.tz_info.specs.Changes.{IsFirst, IsLast};
 ghost use Rattle.tz_info.specs.Zones.{TypeAt};
 ghost use Rattle.zoned_time.specs.DateTime.{zoned};
 ghost use Rattle.zoned_kept.specs.KeptChange.{IsOfZone, change_of};
 ghost use Rattle.zoned_kept.specs.KeptZone.{zone_of, off_of};
 ghost use Rattle.zoned_ref.specs.ZoneChange as borrowed;
-ghost use Rattle.zoned_kept.specs.KeptOffset.{type_of, law_of};
-ghost use Rattle.zoned_time.specs.Zoned.{IsAt};
-ghost use Rattle.offset_core.specs.Offset.{IsWithinDay};
-ghost use Rattle.naive_base.specs.Range.{IsInRange};
-ghost use Rattle.naive_base.specs.NaiveDateTime.{reading};
 ghost use Rattle.zoned_ref.specs.ZoneChange.{IsAfter, IsUpTo, StandWithin};
 
 use crate::{KeptOffset, KeptZone};
-use naive_base::NaiveDateTime;
-use tz_info::LocalTimeType;
-use zoned_ref::ZoneChange;
+use zoned_ref::{TimeZoneRef, ZoneChange};
 use zoned_time::{DateTime, TimeZone};
 
 /// A change of the clocks of a kept zone: the last second before it, and its first one.
@@ -85,30 +78,24 @@ impl KeptZone {
 
     // The change of the borrowed zone as one of this zone.
     fn kept(&self, change: &ZoneChange<'static>) -> KeptChange
-        requires is { IsChange (TypeAt (zone_of self.now)) (borrowed.change_of change.now) }
-        requires instants { borrowed.IsOfZone self.now.borrowed change.now }
+        requires { borrowed.IsOfZone self.now.borrowed change.now }
         ensures change { change_of result ≡ borrowed.change_of change.now }
         ensures instants { IsOfZone self.now result }
     {
         KeptChange {
-            before: self.made(
-                &change.before.naive_utc(),
-                change.before.offset().local_type(),
-            ),
-            at: self.made(&change.at.naive_utc(), change.at.offset().local_type()),
+            before: kept_instant(&change.before),
+            at: kept_instant(&change.at),
         }
     }
+}
 
-    // The instant of a UTC date-time at which that type is in force.
-    fn made(&self, utc: &NaiveDateTime, local_type: &LocalTimeType) -> DateTime<KeptZone>
-        requires in_range { IsInRange (reading utc.now).s }
-        requires narrow { IsWithinDay local_type.now.offset }
-        requires offset { local_type.now.offset ≡ off_of self.now (reading utc.now).s }
-        requires in_force { TypeAt (zone_of self.now) (reading utc.now).s local_type.now }
-        ensures at { IsAt (law_of self.now) (reading utc.now) (zoned result) }
-        ensures local_type { type_of (zoned result).offset ≡ local_type.now }
-    {
-        let offset = KeptOffset::of(self, local_type);
-        DateTime::of_parts(utc, &offset)
-    }
+// The instant of a borrowed zone that is kept.
+fn kept_instant(instant: &DateTime<TimeZoneRef<'static>>) -> DateTime<KeptZone>
+    ensures utc { (zoned result).utc ≡ (zoned instant.now).utc }
+    ensures offset { (zoned result).offset.borrowed ≡ (zoned instant.now).offset }
+{
+    let offset = KeptOffset {
+        borrowed: *instant.offset(),
+    };
+    DateTime::of_parts(&instant.naive_utc(), &offset)
 }

@@ -1,17 +1,11 @@
 //! The offsets of a kept zone.
 ghost use Rattle.std.specs.Prelude.{◌≡◌, Some, option_map};
-ghost use Rattle.std.specs.Cmp.Rules.{hashing};
-ghost use Rattle.std.specs.Hash as fed;
-ghost use Rattle.std.specs.Ordering.{on};
-ghost use Rattle.std.proofs.Common.{rules};
-ghost use Rattle.offset_core.specs.FixedOffset.{printed_offset, seconds_of};
-ghost use Rattle.offset_core.specs.Offset.{IsWithinDay};
+ghost use Rattle.offset_core.specs.Offset.{offset_text};
 
-use crate::KeptZone;
 use offset_core::FixedOffset;
 use std::fmt;
-use std::hash::{Hash, Hasher};
-use tz_info::{LocalTimeType, TimeZoneName};
+use tz_info::TimeZoneName;
+use zoned_ref::ZoneOffset;
 use zoned_time::Offset;
 
 /// How far the clocks of a kept zone are from UTC at some instant.
@@ -25,79 +19,27 @@ use zoned_time::Offset;
 /// fold.offset().name(); // EDT
 /// fold.offset().is_dst(); // true
 /// ```
-#[derive(Clone, Copy)]
+#[derive(Clone, Copy, PartialEq, Eq, Hash)]
 pub struct KeptOffset {
-    pub(crate) zone: KeptZone,
-    fixed: FixedOffset,
-    local_type: LocalTimeType,
-    // The two agree.
-    pub ghost agreed: { seconds_of fixed ≡ local_type.offset },
+    pub(crate) borrowed: ZoneOffset<'static>,
 }
 
 impl KeptOffset {
-    ghost use Rattle.zoned_kept.specs.KeptOffset.{ahead_of, type_of};
-
-    // The offset of a type of the zone.
-    pub(crate) fn of(zone: &KeptZone, local_type: &LocalTimeType) -> KeptOffset
-        requires { IsWithinDay local_type.now.offset }
-        ensures seconds { ahead_of result ≡ local_type.now.offset }
-        ensures zone { result.zone ≡ zone.now }
-        ensures local_type { type_of result ≡ local_type.now }
-    {
-        KeptOffset {
-            zone: *zone,
-            fixed: FixedOffset::east(local_type.offset()),
-            local_type: *local_type,
-        }
-    }
+    ghost use Rattle.zoned_kept.specs.KeptOffset.{type_of};
 
     /// The abbreviation of the type of local time, such as `EST` or `-03`. `None` if the zone
     /// gives it none.
-    pub fn name(&self) -> Option<&TimeZoneName>
+    pub fn name(&self) -> Option<&'static TimeZoneName>
         ensures { option_map (λ n. n.now) result ≡ (type_of self.now).name }
     {
-        self.local_type.name()
+        self.borrowed.name()
     }
 
     /// Whether the type of local time is daylight saving time, by its DST flag.
     pub fn is_dst(&self) -> bool
         ensures { result ≡ (type_of self.now).dst }
     {
-        self.local_type.is_dst()
-    }
-}
-
-impl PartialEq for KeptOffset {
-    ghost use Rattle.std.specs.Cmp.{on_per};
-    ghost use Rattle.tz_base.specs.contracts.local_time_type.LocalTimeTypePartialEq.TheImpl.Laws.{laws-law};
-    ghost use Rattle.zoned_kept.specs.KeptOffset.{type_of};
-
-    ghost eq = { on type_of ⟦<LocalTimeType as PartialEq>⟧.eq };
-
-    ghost laws = { on_per type_of laws-law };
-
-    fn eq(&self, other: &KeptOffset) -> bool {
-        self.local_type == other.local_type
-    }
-}
-
-impl Eq for KeptOffset {
-    ghost use Rattle.std.specs.Cmp.{on_equiv};
-    ghost use Rattle.tz_base.specs.contracts.local_time_type.LocalTimeTypeEq.TheImpl.Laws.{laws-law};
-    ghost use Rattle.zoned_kept.specs.KeptOffset.{type_of};
-
-    ghost laws = { on_equiv type_of laws-law };
-}
-
-impl Hash for KeptOffset {
-    ghost use Rattle.zoned_kept.specs.KeptOffset.{type_of};
-
-    ghost hash_input = { λ o. fed.i32 (type_of o).offset };
-
-    ghost respects_eq = { Prim.search (hashing, rules) };
-
-    fn hash<H: Hasher>(&self, state: &mut H) {
-        self.local_type.offset().hash(state);
+        self.borrowed.is_dst()
     }
 }
 
@@ -107,28 +49,28 @@ impl Offset for KeptOffset {
     ghost seconds = { ahead_of };
 
     fn fix(&self) -> FixedOffset {
-        self.fixed
+        self.borrowed.fix()
     }
 }
 
 impl fmt::Display for KeptOffset {
-    ghost use Rattle.zoned_kept.specs.KeptOffset.{fixed_of};
+    ghost use Rattle.zoned_kept.specs.KeptOffset.{ahead_of};
 
-    ghost output = { λ offset. Some (printed_offset (fixed_of offset)) };
+    ghost output = { λ offset. Some (offset_text (ahead_of offset)) };
 
-    ghost styled_output = { λ offset _. Some (printed_offset (fixed_of offset)) };
+    ghost styled_output = { λ offset _. Some (offset_text (ahead_of offset)) };
 
     fn fmt<W: fmt::Write>(&self, f: &mut fmt::Formatter<W>) -> fmt::Result {
-        fmt::Display::fmt(&self.fixed, f)
+        fmt::Display::fmt(&self.borrowed, f)
     }
 }
 
 impl fmt::Debug for KeptOffset {
-    ghost use Rattle.zoned_kept.specs.KeptOffset.{fixed_of};
+    ghost use Rattle.zoned_kept.specs.KeptOffset.{ahead_of};
 
-    ghost debug_output = { λ offset. Some (printed_offset (fixed_of offset)) };
+    ghost debug_output = { λ offset. Some (offset_text (ahead_of offset)) };
 
     fn fmt<W: fmt::Write>(&self, f: &mut fmt::Formatter<W>) -> fmt::Result {
-        write!(f, "{:?}", self.fixed)
+        fmt::Display::fmt(self, f)
     }
 }

@@ -8,6 +8,11 @@ ghost use Rattle.zoned_kept.specs.declared.kept_zone.KeptZone.{KeptZone as AnyZo
 
 use crate::{KeptChange, KeptOffset, KeptZone};
 use std::hash::Hash;
+use std::mem::size_of;
+use zoned_time::DateTime;
+
+// An instant is a date-time of UTC, and references to the zone and to the type in force.
+const _: () = prove!(size_of::<DateTime<KeptZone>>() == 32);
 
 /// Offsets are equal if and only if their types of local time are, a hash looks at the seconds, and
 /// a clone is the offset, and making it never fails.

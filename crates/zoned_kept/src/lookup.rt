@@ -3,7 +3,7 @@ ghost use Rattle.std.specs.Prelude.{◌≡◌, MatchOption, refl};
 ghost use Rattle.offset_core.specs.LocalResult.{map_of};
 ghost use Rattle.offset_core.specs.WallAnswer.{IsWallAnswer};
 ghost use Rattle.naive_base.specs.NaiveDateTime.{reading};
-ghost use Rattle.tz_info.specs.Gaps.{IsBeforeGap, IsShown};
+ghost use Rattle.tz_info.specs.Gaps.{IsTypeBeforeGap, IsShown};
 ghost use Rattle.tz_info.specs.WallClocks.{Shows};
 ghost use Rattle.tz_info.specs.Zones.{TypeAt};
 ghost use Rattle.zoned_time.specs.Choice.{AreOffsetsAround, IsOffsetBeforeGap};
@@ -14,6 +14,7 @@ ghost use Rattle.zoned_kept.specs.KeptZone.{zone_of};
 use crate::{KeptOffset, KeptZone};
 use naive_base::{NaiveDate, NaiveDateTime, NaiveTime};
 use offset_core::{Around, LocalResult};
+use zoned_ref::TimeZoneRef;
 use zoned_time::TimeZone;
 
 impl TimeZone for KeptZone {
@@ -28,7 +29,9 @@ impl TimeZone for KeptZone {
     ghost told = { λ _. refl };
 
     fn from_offset(offset: &KeptOffset) -> KeptZone {
-        offset.zone
+        KeptZone {
+            borrowed: TimeZoneRef::from_offset(&offset.borrowed),
+        }
     }
 
     fn offset_from_utc_datetime(&self, utc: &NaiveDateTime) -> KeptOffset
@@ -36,10 +39,9 @@ impl TimeZone for KeptZone {
         // It is the offset of the type in force.
         ensures local_type { TypeAt (zone_of self.now) (reading utc.now).s (type_of result) }
     {
-        KeptOffset::of(
-            self,
-            self.borrowed.offset_from_utc_datetime(utc).local_type(),
-        )
+        KeptOffset {
+            borrowed: self.borrowed.offset_from_utc_datetime(utc),
+        }
     }
 
     fn offset_from_utc_date(&self, utc: &NaiveDate) -> KeptOffset
@@ -57,13 +59,10 @@ impl TimeZone for KeptZone {
     {
         match self.borrowed.offset_from_local_datetime(local) {
             LocalResult::None => LocalResult::None,
-            LocalResult::Single(only) => LocalResult::Single(KeptOffset::of(
-                self,
-                only.local_type(),
-            )),
+            LocalResult::Single(borrowed) => LocalResult::Single(KeptOffset { borrowed }),
             LocalResult::Ambiguous(first, last) => LocalResult::Ambiguous(
-                KeptOffset::of(self, first.local_type()),
-                KeptOffset::of(self, last.local_type()),
+                KeptOffset { borrowed: first },
+                KeptOffset { borrowed: last },
             ),
         }
     }
@@ -80,12 +79,12 @@ impl TimeZone for KeptZone {
         ensures { AreOffsetsAround (law_of self.now) (reading local.now).s result }
     {
         match self.borrowed.offsets_around(local) {
-            Around::Single(only) => Around::Single(KeptOffset::of(self, only.local_type())),
+            Around::Single(borrowed) => Around::Single(KeptOffset { borrowed }),
             Around::Ambiguous(first, last) => Around::Ambiguous(
-                KeptOffset::of(self, first.local_type()),
-                KeptOffset::of(self, last.local_type()),
+                KeptOffset { borrowed: first },
+                KeptOffset { borrowed: last },
             ),
-            Around::Gap(before) => Around::Gap(KeptOffset::of(self, before.local_type())),
+            Around::Gap(borrowed) => Around::Gap(KeptOffset { borrowed }),
         }
     }
 
@@ -94,10 +93,10 @@ impl TimeZone for KeptZone {
         // It is the offset of the type before the gap.
         ensures local_type { MatchOption result
             (IsShown (TypeAt (zone_of self.now)) (reading local.now).s)
-            (λ o. IsBeforeGap (TypeAt (zone_of self.now)) (reading local.now).s (type_of o)) }
+            (λ o. IsTypeBeforeGap (TypeAt (zone_of self.now)) (reading local.now).s (type_of o)) }
     {
         match self.borrowed.offset_before_gap(local) {
-            Some(before) => Some(KeptOffset::of(self, before.local_type())),
+            Some(borrowed) => Some(KeptOffset { borrowed }),
             None => None,
         }
     }

@@ -1,21 +1,19 @@
 -- The type before a gap tells the offset before it.
 use Rattle.tz_info.specs.Gaps as types
 use Rattle.zoned_ref.proofs.Words.{AreOffsetsOf, IsBeforeGap, IsNarrow, IsOffsetBeforeGap, IsWide, IsWithinDay, IsZoneSecond, Law, LocalType, Meaning, None}
-use Rattle.zoned_ref.proofs.Words.{SameLaw, Some, TypeAt, Zone, ap, arith, home_law, ints, pos, subst, sym, type_once, ℤ, ◌+ℤ◌, ◌-ℤ◌, ◌∙◌, ◌≡◌}
+use Rattle.zoned_ref.proofs.Words.{Some, TimeZoneRef, TypeAt, Zone, ZoneOffset, ap, arith, ints, law_of, off_of, pos, sym, type_of, type_once, zone_of, ℤ, ◌+ℤ◌}
+use Rattle.zoned_ref.proofs.Words.{◌-ℤ◌, ◌∙◌, ◌≡◌}
 use Rattle.zoned_ref.proofs.Offsets.{type_within}
-use Rattle.zoned_ref.proofs.Walls.{shown_by_offset, shown_by_type}
+use Rattle.zoned_ref.proofs.Walls.{same_law, shown_by_offset, shown_by_type}
 
 -- the offset at a second is that of the type in force
 offset_is : (z : Zone) (off : ℤ → ℤ) (u : ℤ) (t : LocalType) → AreOffsetsOf z off → IsZoneSecond u → TypeAt z u t → off u ≡ t.offset
 offset_is z off u t of_zone inside k = let there = of_zone u inside in there.offset ∙ ap (λ y. y.offset) (type_once z u there.type t there.in_force k)
 
-pub before_of : (z : Zone) (l : ℤ) (before after : LocalType) (at : ℤ) → types.HasGap (TypeAt z) l before after at → types.IsBeforeGap (TypeAt z) l before
-before_of z l before after at g = record { never = g.never; first = at; more = record { type = after; here = g.here; more = g.more }; least = g.least; before = g.earlier }
-
-pub before_within : (z : Zone) (l : ℤ) (t : LocalType) → IsNarrow z → types.IsBeforeGap (TypeAt z) l t → IsWithinDay t.offset
+pub before_within : (z : Zone) (l : ℤ) (t : LocalType) → IsNarrow z → types.IsTypeBeforeGap (TypeAt z) l t → IsWithinDay t.offset
 before_within z l t narrow g = type_within z (g.first -ℤ pos 1) t narrow g.before
 
-pub before_gap : (z : Zone) (off : ℤ → ℤ) (l : ℤ) (t : LocalType) → IsNarrow z → AreOffsetsOf z off → IsWide l → types.IsBeforeGap (TypeAt z) l t
+pub before_gap : (z : Zone) (off : ℤ → ℤ) (l : ℤ) (t : LocalType) → IsNarrow z → AreOffsetsOf z off → IsWide l → types.IsTypeBeforeGap (TypeAt z) l t
     → (gap : IsBeforeGap off l t.offset) × TypeAt z (gap.first -ℤ pos 1) t
 before_gap z off l t narrow of_zone wide g =
     let c = g.first in
@@ -39,12 +37,9 @@ before_gap z off l t narrow of_zone wide g =
       g.before,
     )
 
-pub gap_given : {O : Type 0} {m : Meaning O} (law : Law m) (z : Zone) (l : ℤ) (t : LocalType) (o : O) → IsNarrow z → AreOffsetsOf z law.off → IsWide l
-    → m.seconds o ≡ t.offset → ((u : ℤ) → TypeAt z u t → law.in_force u o) → SameLaw (home_law m o) law
-    → types.IsBeforeGap (TypeAt z) l t → IsOffsetBeforeGap law l (Some o)
-gap_given law z l t o narrow of_zone wide same in_force home g =
-    let gap = subst (λ k. (h : IsBeforeGap law.off l k) × TypeAt z (h.first -ℤ pos 1) t) (sym same) (before_gap z law.off l t narrow of_zone wide g) in
-    (gap.0, in_force (gap.0.first -ℤ pos 1) gap.1, home)
+pub gap_given : (r : TimeZoneRef) (l : ℤ) (o : ZoneOffset) → AreOffsetsOf (zone_of r) (off_of r) → IsWide l → o.zone ≡ r
+    → types.IsTypeBeforeGap (TypeAt (zone_of r)) l (type_of o) → IsOffsetBeforeGap (law_of r) l (Some o)
+gap_given r l o of_zone wide home g = let gap = before_gap (zone_of r) (off_of r) l (type_of o) r.narrow of_zone wide g in (gap.0, gap.1, same_law r o home)
 
 pub no_gap : {O : Type 0} {m : Meaning O} (law : Law m) (z : Zone) (l : ℤ) → IsNarrow z → AreOffsetsOf z law.off → IsWide l → types.IsShown (TypeAt z) l → IsOffsetBeforeGap law l None
 no_gap law z l narrow of_zone wide (u, t, s) = (u, t.offset, shown_by_type z law.off l narrow of_zone wide u t s)

@@ -1,6 +1,5 @@
 pub mod Words
 pub mod ForCallers
-mod Homes
 mod Narrow
 pub mod Instants
 pub mod Offsets

@@ -2,7 +2,7 @@
 use Rattle.tz_info.specs.declared.rule.transition_rule.TransitionRule.TheVariants.{Alternate, Fixed}
 use Rattle.zoned_ref.proofs.Words.{All, All-append, All-contains, All-contains_itself, All-map, Contains-append_left, Contains-append_right, IsGreatest}
 use Rattle.zoned_ref.proofs.Words.{IsLeast, IsNarrow, IsWithinDay, List, LocalType, None, Option, Some, TransitionRule, Zone, arith, get_or, get_or-map, ints}
-use Rattle.zoned_ref.proofs.Words.{length, length-map, map, offsets, refl, rule_offsets, rule_types, subst, sym, ℤ, ◌++◌, ◌<◌, ◌≡◌}
+use Rattle.zoned_ref.proofs.Words.{length-map, map, offsets, refl, rule_offsets, rule_types, subst, sym, ℤ, ◌++◌, ◌<◌, ◌≡◌}
 
 abbrev of_types : List LocalType → List ℤ
 of_types types = map (λ t. t.offset) types

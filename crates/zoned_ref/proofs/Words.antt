@@ -6,13 +6,14 @@ pub use Rattle.std.specs.Coded.{Coded-set, coded_ℤ}
 pub use Rattle.offset_core.proofs.ForCallers.{IsWallAnswer-map_of}
 pub use Rattle.offset_core.specs.declared.choice.Choice.{Choice}
 pub use Rattle.offset_core.specs.declared.local_result.LocalResult.{LocalResult}
-pub use Rattle.naive_base.proofs.ForCallers.{gap_of}
 pub use Rattle.tz_base.specs.declared.change.Change.{Change}
-pub use Rattle.tz_info.proofs.ForCallers.{leap_times_answer, one_first, one_last, rule_year, type_decided, type_listed, type_not_refused, type_once}
+pub use Rattle.tz_info.proofs.ForCallers.{leap_times_answer, one_nearest, rule_year, stays, type_decided, type_listed, type_not_refused, type_once}
 pub use Rattle.tz_info.proofs.ForCallers.{wall_decided}
 pub use Rattle.tz_info.proofs.Words.{All, All-append, All-contains, Alternate, AreEndsWithin, Bool, Contains-append_left, Contains-append_right, FitsSigned}
-pub use Rattle.tz_info.proofs.Words.{HasNoChange, IfSome, IsChange, IsFirst, IsFirstAtOrAfter, IsFirstChange, IsGreatest, IsLast, IsLastChange, IsLeast}
-pub use Rattle.tz_info.proofs.Words.{IsNeverWithin, IsRefusedBy, IsRuleOrNone, IsTypeOf, IsTypeRefused, IsValid, LocalType, Shows, ShowsAtOrAfter, ShowsWithin}
+pub use Rattle.tz_info.specs.HeldChanges.{change_held}
+pub use Rattle.tz_info.proofs.Words.{HasNoChange, IfSome, IsAhead, IsFirst, IsFirstAtOrAfter, IsGreatest, IsLeast, IsNearest, IsNearestChange}
+pub use Rattle.tz_info.proofs.Words.{IsNeverWithin, Precedes, IsRefusedBy, IsRuleOrNone, IsTypeOf, IsTypeRefused, IsValid, LocalType, Shows, ShowsAtOrAfter}
+pub use Rattle.tz_info.proofs.Words.{ShowsWithin}
 pub use Rattle.tz_info.proofs.Words.{TypeAt, Zone, by_leap_time, by_rule, false, false≢true, get_or, length, length-map, lies_in, map, offsets, rule_offsets}
 pub use Rattle.tz_info.proofs.Words.{slice_get, true, type_when, unsigned_abs, ◌<◌, ◌≢◌}
 pub use Rattle.tz_info.specs.declared.rule.transition_rule.TransitionRule.{TransitionRule}
@@ -31,8 +32,8 @@ pub use Rattle.zoned_ref.specs.OffsetAt.{offset_at, offset_with}
 pub use Rattle.zoned_ref.specs.Offsets.{AreOffsetsOf, HasOffset, HasOffsets, HasOneOffset, IsNarrow, rule_types}
 pub use Rattle.zoned_ref.specs.Steps.OffsetAt.{one_offset}
 pub use Rattle.zoned_ref.specs.TimeZoneRef.{off_of, zone_of}
-pub use Rattle.zoned_ref.specs.WallClock.{Tells}
-pub use Rattle.zoned_ref.specs.ZoneChange.{AreAround, IsAfter, IsOfZone, IsUpTo, StandAlike, StandWithin, change_between, change_of}
+pub use Rattle.zoned_ref.specs.WallClock.{IsWallClockOf}
+pub use Rattle.zoned_ref.specs.ZoneChange.{AreAround, IsAfter, IsOfZone, IsUpTo, StandAlike, StandWithin, change_of, change_of_instants}
 pub use Rattle.zoned_ref.specs.ZoneOffset.{IsInForce, law_of, meaning_of, type_of}
 pub use Rattle.zoned_ref.specs.declared.time_zone_ref.TimeZoneRef.{TimeZoneRef}
 pub use Rattle.zoned_ref.specs.declared.zone_offset.ZoneOffset.{ZoneOffset}

@@ -10,6 +10,6 @@ use Rattle.zoned_ref.specs.Instants.{AreTypesFor, AreInstantsFor}
 use Rattle.zoned_ref.specs.declared.wall_clock.WallClock.{WallClock}
 
 -- it tells when the clocks of the zone show l, and with which types
-pub record Tells (z : Zone) (l : Reading) (w : WallClock) : Type 0 where
+pub record IsWallClockOf (z : Zone) (l : Reading) (w : WallClock) : Type 0 where
   pub types : AreTypesFor z l w.types
   pub instants : AreInstantsFor z l (option_map (map_of (λ d. in_seconds seconds_of (zoned d))) w.instants)

@@ -22,8 +22,8 @@ IsUpTo s u = (first_second <ℤ u) × (u ≤ℤ s)
 
 -- the change that two instants tell: it comes at the second of the latter, and leads from the type of the former's offset to
 -- that of the latter's
-abbrev pub change_between : {O : Type 0} → (O → LocalType) → Zoned O → Zoned O → Change
-change_between type_of before at = record { at = at.utc.s; before = type_of before.offset; after = type_of at.offset }
+abbrev pub change_of_instants : {O : Type 0} → (O → LocalType) → Zoned O → Zoned O → Change
+change_of_instants type_of before at = record { at = at.utc.s; before = type_of before.offset; after = type_of at.offset }
 
 -- they are whole seconds, one right after the other, each with the offset that the zone gives there
 pub record AreAround {O : Type 0} {m : Meaning O} (law : Law m) (d e : Zoned O) : Type 0 where
@@ -32,7 +32,7 @@ pub record AreAround {O : Type 0} {m : Meaning O} (law : Law m) (d e : Zoned O) 
 
 -- the change that a `ZoneChange` tells
 abbrev pub change_of : ZoneChange → Change
-change_of c = change_between type_of (zoned c.before) (zoned c.at)
+change_of c = change_of_instants type_of (zoned c.before) (zoned c.at)
 
 -- its instants are those of the zone
 abbrev pub IsOfZone : TimeZoneRef → ZoneChange → Type 0

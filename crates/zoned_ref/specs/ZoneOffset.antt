@@ -1,7 +1,5 @@
 -- What a `ZoneOffset` shows.
 use Rattle.std.specs.Prelude.{ℤ}
-use Rattle.offset_core.specs.declared.fixed_offset.FixedOffset.{FixedOffset}
-use Rattle.offset_core.specs.FixedOffset.{seconds_of}
 use Rattle.tz_base.specs.LocalTypes.{LocalType}
 use Rattle.tz_info.specs.Zones.{TypeAt}
 use Rattle.zoned_time.specs.Zone.{Meaning, Law}
@@ -9,17 +7,13 @@ use Rattle.zoned_ref.specs.TimeZoneRef.{zone_of, off_of}
 use Rattle.zoned_ref.specs.declared.time_zone_ref.TimeZoneRef.{TimeZoneRef}
 use Rattle.zoned_ref.specs.declared.zone_offset.ZoneOffset.{ZoneOffset}
 
--- the offset as nothing but its seconds
-abbrev pub fixed_of : ZoneOffset → FixedOffset
-fixed_of o = o.fixed
+-- the type of local time that it is the offset of
+abbrev pub type_of : ZoneOffset → LocalType
+type_of o = o.local_type.now
 
 -- how many seconds clocks are ahead of UTC
 abbrev pub ahead_of : ZoneOffset → ℤ
-ahead_of o = seconds_of (fixed_of o)
-
--- the type of local time that it is the offset of
-abbrev pub type_of : ZoneOffset → LocalType
-type_of o = o.local_type
+ahead_of o = (type_of o).offset
 
 -- the offsets of the zone that it came from
 abbrev pub home_of : ZoneOffset → ℤ → ℤ

@@ -10,6 +10,11 @@ ghost use Rattle.zoned_ref.specs.declared.zone_offset.ZoneOffset.{ZoneOffset as 
 
 use crate::{TimeZoneRef, WallClock, ZoneChange, ZoneOffset};
 use std::hash::Hash;
+use std::mem::size_of;
+use zoned_time::DateTime;
+
+// An instant is a date-time of UTC, and references to the zone and to the type in force.
+const _: () = prove!(size_of::<DateTime<TimeZoneRef<'static>>>() == 32);
 
 /// Offsets are equal if and only if their types of local time are, a hash looks at the seconds, and
 /// a clone is the offset.

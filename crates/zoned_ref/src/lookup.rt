@@ -3,7 +3,7 @@ ghost use Rattle.std.specs.Prelude.{◌≡◌, MatchOption, refl};
 ghost use Rattle.offset_core.specs.LocalResult.{map_of};
 ghost use Rattle.offset_core.specs.WallAnswer.{IsWallAnswer};
 ghost use Rattle.naive_base.specs.NaiveDateTime.{reading};
-ghost use Rattle.tz_info.specs.Gaps.{IsBeforeGap, IsShown};
+ghost use Rattle.tz_info.specs.Gaps.{IsTypeBeforeGap, IsShown};
 ghost use Rattle.tz_info.specs.WallClocks.{Shows};
 ghost use Rattle.tz_info.specs.Zones.{TypeAt};
 ghost use Rattle.zoned_time.specs.Choice.{AreOffsetsAround, IsOffsetBeforeGap};
@@ -54,16 +54,12 @@ impl<'a> TimeZone for TimeZoneRef<'a> {
         ensures local_types { IsWallAnswer (Shows (TypeAt (zone_of self.now)) (reading local.now).s)
             (map_of type_of result) }
     {
-        let types = match self.zone().find_local_time_type_from_local(*local) {
-            Ok(types) => types,
-            Err(_) => unreachable!(),
-        };
-        match types {
+        match self.zone().local_time_types_at(*local) {
             LocalResult::None => LocalResult::None,
-            LocalResult::Single(only) => LocalResult::Single(ZoneOffset::new(*self, &only)),
+            LocalResult::Single(only) => LocalResult::Single(ZoneOffset::new(*self, only)),
             LocalResult::Ambiguous(first, last) => LocalResult::Ambiguous(
-                ZoneOffset::new(*self, &first),
-                ZoneOffset::new(*self, &last),
+                ZoneOffset::new(*self, first),
+                ZoneOffset::new(*self, last),
             ),
         }
     }
@@ -79,13 +75,13 @@ impl<'a> TimeZone for TimeZoneRef<'a> {
     fn offsets_around(&self, local: &NaiveDateTime) -> Around<ZoneOffset<'a>, ZoneOffset<'a>>
         ensures { AreOffsetsAround (law_of self.now) (reading local.now).s result }
     {
-        match self.zone().find_local_time_type_around(*local) {
-            Around::Single(only) => Around::Single(ZoneOffset::new(*self, &only)),
+        match self.zone().local_time_types_around(*local) {
+            Around::Single(only) => Around::Single(ZoneOffset::new(*self, only)),
             Around::Ambiguous(first, last) => Around::Ambiguous(
-                ZoneOffset::new(*self, &first),
-                ZoneOffset::new(*self, &last),
+                ZoneOffset::new(*self, first),
+                ZoneOffset::new(*self, last),
             ),
-            Around::Gap(gap) => Around::Gap(ZoneOffset::new(*self, &gap.before)),
+            Around::Gap(before) => Around::Gap(ZoneOffset::new(*self, before)),
         }
     }
 
@@ -94,11 +90,12 @@ impl<'a> TimeZone for TimeZoneRef<'a> {
         // It is the offset of the type before the gap.
         ensures local_type { MatchOption result
             (IsShown (TypeAt (zone_of self.now)) (reading local.now).s)
-            (λ o. IsBeforeGap (TypeAt (zone_of self.now)) (reading local.now).s (type_of o)) }
+            (λ o. IsTypeBeforeGap (TypeAt (zone_of self.now)) (reading local.now).s (type_of o)) }
     {
-        match self.zone().find_local_time_type_before_gap(*local) {
-            Some(before) => Some(ZoneOffset::new(*self, &before)),
-            None => None,
+        match self.zone().local_time_types_around(*local) {
+            Around::Gap(before) => Some(ZoneOffset::new(*self, before)),
+            Around::Single(_) => None,
+            Around::Ambiguous(_, _) => None,
         }
     }
 }
@@ -117,7 +114,7 @@ impl<'a> TimeZoneRef<'a> {
     }
 
     // The offset of that type, which is in force at the second.
-    pub(crate) fn offset_of(&self, second: i64, local_type: &LocalTimeType) -> ZoneOffset<'a>
+    pub(crate) fn offset_of(&self, second: i64, local_type: &'a LocalTimeType) -> ZoneOffset<'a>
         requires second { IsZoneSecond second }
         requires in_force { TypeAt (zone_of self.now) second local_type.now }
         requires offsets { AreOffsetsOf (zone_of self.now) (off_of self.now) }

@@ -4,7 +4,7 @@ ghost use Rattle.std.specs.Prelude.{◌≡◌, ◌⊎◌, IfOk, IfErr, MatchResu
 ghost use Rattle.offset_core.specs.FixedOffset.{seconds_of};
 ghost use Rattle.offset_core.specs.LocalResult.{map_of};
 ghost use Rattle.naive_base.specs.NaiveDateTime.{reading};
-ghost use Rattle.tz_base.specs.Errors.{number_of};
+ghost use Rattle.tz_base.specs.Errors.{error_number};
 ghost use Rattle.tz_base.specs.declared.error.Error.TheVariants.{OutOfMemory};
 ghost use Rattle.tz_timeline.specs.Counts.{HasRoom};
 ghost use Rattle.tz_info.specs.FilePieces.{FilePieces, HasPieces};
@@ -42,7 +42,7 @@ pub struct WallClock {
 }
 
 impl WallClock {
-    ghost use Rattle.zoned_ref.specs.WallClock.{Tells};
+    ghost use Rattle.zoned_ref.specs.WallClock.{IsWallClockOf};
 
     /// Returns when the clocks of a TZif file's zone show a local time. The probes that find the
     /// types are counted, as by [`WallClock::in_zone`].
@@ -61,10 +61,10 @@ impl WallClock {
         requires { HasRoom probes.old }
         // The answer, and how many probes it took, are those of the file's zone.
         ensures found { IfOk result (λ told. (z : Zone) × IsTzFile bytes.now z × IsValid z
-            × Tells z (reading local.now) told × RoseByWallClock z probes.old probes.new) }
+            × IsWallClockOf z (reading local.now) told × RoseByWallClock z probes.old probes.new) }
         // A file that has a valid zone has an answer, unless memory runs out.
         ensures only { (z : Zone) → IsTzFile bytes.now z → IsValid z
-            → MatchResult result (λ told. Tells z (reading local.now) told) (λ e. e ≡ OutOfMemory) }
+            → MatchResult result (λ told. IsWallClockOf z (reading local.now) told) (λ e. e ≡ OutOfMemory) }
         // An error is the first fault of the file, or says that memory ran out.
         ensures fault { IfErr result (λ e. IsZoneFault bytes.now e) }
         // Memory runs out only where every piece of the file is there.
@@ -95,18 +95,18 @@ impl WallClock {
         requires { HasRoom probes.old }
         // The answer, and how many probes it took, are those of the string's zone.
         ensures found { IfOk result (λ told. (z : Zone) × IsPosixZone text.now z
-            × Tells z (reading local.now) told × RoseByWallClock z probes.old probes.new) }
+            × IsWallClockOf z (reading local.now) told × RoseByWallClock z probes.old probes.new) }
         // A string that has a zone has an answer, unless memory runs out.
         ensures only { (z : Zone) → IsPosixZone text.now z
             → MatchResult result
-            (λ told. Tells z (reading local.now) told)
-            (λ e. number_of e ≡ 17) }
+            (λ told. IsWallClockOf z (reading local.now) told)
+            (λ e. error_number e ≡ 17) }
         // An error is the first fault of the text, or says that memory ran out.
         ensures fault { IfErr result
-            (λ e. (number_of e ≡ 17) ⊎ IsPosixFault text.now e) }
+            (λ e. (error_number e ≡ 17) ⊎ IsPosixFault text.now e) }
         // Memory runs out only for a text that has a zone.
         ensures memory { IfErr result
-            (λ e. number_of e ≡ 17 → (z : Zone) × IsPosixZone text.now z) }
+            (λ e. error_number e ≡ 17 → (z : Zone) × IsPosixZone text.now z) }
         ensures kept { IfErr result (λ _. probes.new ≡ probes.old) }
     {
         match tz_info::TimeZone::from_posix_tz(alloc, text) {
@@ -126,7 +126,7 @@ impl WallClock {
         probes: &mut Probes,
     ) -> WallClock
         requires { HasRoom probes.old }
-        ensures told { Tells zone.now (reading local.now) result }
+        ensures told { IsWallClockOf zone.now (reading local.now) result }
         ensures cost { RoseByWallClock zone.now probes.old probes.new }
     {
         let types = match zone.find_local_time_type_from_local_counted(*local, probes) {

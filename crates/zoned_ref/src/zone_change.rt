@@ -1,9 +1,9 @@
 //! When the clocks of a borrowed zone change, as instants.
-ghost use Rattle.std.specs.Prelude.{◌≡◌, ◌≢◌, ◌⊎◌, pos, ◌-ℤ◌, ◌≤ℤ◌, ◌<ℤ◌, IfSome, MatchOption, option_map};
+ghost use Rattle.std.specs.Prelude.{◌≡◌, pos, ◌-ℤ◌, ◌≤ℤ◌, ◌<ℤ◌, IfSome, MatchOption, option_map};
 ghost use Rattle.naive_base.specs.Range.{IsInRange};
 ghost use Rattle.naive_base.specs.Stamp.{of_secs};
-ghost use Rattle.tz_base.specs.LocalTypes.{LocalType};
 ghost use Rattle.tz_info.specs.Changes.{IsChange, IsFirst, IsLast};
+ghost use Rattle.tz_info.specs.HeldChanges.{change_held};
 ghost use Rattle.tz_info.specs.Zones.{TypeAt};
 ghost use Rattle.zoned_time.specs.DateTime.{zoned};
 ghost use Rattle.zoned_time.specs.Zoned.{IsAt};
@@ -14,7 +14,7 @@ ghost use Rattle.zoned_ref.specs.ZoneOffset.{law_of, type_of};
 
 use crate::TimeZoneRef;
 use naive_base::NaiveDateTime;
-use tz_info::{Change, LocalTimeType};
+use tz_info::{HeldChange, LocalTimeType};
 use zoned_time::{DateTime, TimeZone};
 
 /// A clock change of a borrowed zone: the last second before it, and its first one.
@@ -64,9 +64,8 @@ impl<'a> TimeZoneRef<'a> {
             (λ u. (s ≤ℤ u) × IfSome result (λ c. u <ℤ (zoned c.at).utc.s)) }
     {
         let zone = self.zone();
-        types_are_decided();
-        let change = zone.next_change(after.timestamp())?;
-        self.instants_around(&change)
+        let change = zone.next_held_change(after.timestamp())?;
+        self.instants_around(change)
     }
 
     /// Returns the last clock change at an instant or before it, which may be one of any zone.
@@ -93,22 +92,22 @@ impl<'a> TimeZoneRef<'a> {
             (λ u. (u ≤ℤ s) × IfSome result (λ c. (zoned c.at).utc.s ≤ℤ u)) }
     {
         let zone = self.zone();
-        types_are_decided();
-        let change = zone.previous_change(before_or_at.timestamp())?;
-        self.instants_around(&change)
+        let change = zone.previous_held_change(before_or_at.timestamp())?;
+        self.instants_around(change)
     }
 
     // A change of the zone's types as instants, if both are in range.
-    fn instants_around(&self, change: &Change) -> Option<ZoneChange<'a>>
-        requires change { IsChange (TypeAt (zone_of self.now)) change.now }
+    #[inline(always)]
+    fn instants_around(&self, change: HeldChange<'a>) -> Option<ZoneChange<'a>>
+        requires change { IsChange (TypeAt (zone_of self.now)) (change_held change) }
         requires offsets { AreOffsetsOf (zone_of self.now) (off_of self.now) }
-        ensures { MatchOption result
-            (IsInRange (change.now.at -ℤ pos 1) → IsInRange change.now.at → ⊥)
-            (λ c. (change_of c ≡ change.now) × IsOfZone self.now c
-            × IsInRange (change.now.at -ℤ pos 1) × IsInRange change.now.at) }
+        ensures { let told = change_held change.entry in
+            MatchOption result (IsInRange (told.at -ℤ pos 1) → IsInRange told.at → ⊥)
+            (λ c. (change_of c ≡ told) × IsOfZone self.now c
+            × IsInRange (told.at -ℤ pos 1) × IsInRange told.at) }
     {
-        let before = self.instant_of(change.at - 1, &change.before)?;
-        let at = self.instant_of(change.at, &change.after)?;
+        let before = self.instant_of(change.at - 1, change.before)?;
+        let at = self.instant_of(change.at, change.after)?;
         Some(ZoneChange { before, at })
     }
 
@@ -116,7 +115,7 @@ impl<'a> TimeZoneRef<'a> {
     fn instant_of(
         &self,
         second: i64,
-        local_type: &LocalTimeType,
+        local_type: &'a LocalTimeType,
     ) -> Option<DateTime<TimeZoneRef<'a>>>
         requires in_force { TypeAt (zone_of self.now) second local_type.now }
         requires offsets { AreOffsetsOf (zone_of self.now) (off_of self.now) }
@@ -128,11 +127,4 @@ impl<'a> TimeZoneRef<'a> {
         let offset = self.offset_of(second, local_type);
         Some(DateTime::of_parts(&utc, &offset))
     }
-}
-
-// Types of local time are equal or not. This does nothing: its contract is a law.
-fn types_are_decided()
-    ensures { (s t : LocalType) → (s ≡ t) ⊎ (s ≢ t) }
-{
-    tz_base::laws::local_time_types();
 }

@@ -4,8 +4,7 @@ ghost use Rattle.std.specs.Cmp.Rules.{hashing};
 ghost use Rattle.std.specs.Hash as fed;
 ghost use Rattle.std.specs.Ordering.{on};
 ghost use Rattle.std.proofs.Common.{rules};
-ghost use Rattle.offset_core.specs.FixedOffset.{printed_offset, seconds_of};
-ghost use Rattle.offset_core.specs.Offset.{IsWithinDay};
+ghost use Rattle.offset_core.specs.Offset.{IsWithinDay, offset_text};
 
 use crate::TimeZoneRef;
 use offset_core::FixedOffset;
@@ -31,47 +30,40 @@ use zoned_time::Offset;
 #[derive(Clone, Copy)]
 pub struct ZoneOffset<'a> {
     zone: TimeZoneRef<'a>,
-    fixed: FixedOffset,
-    local_type: LocalTimeType,
-    // The two agree.
-    pub ghost agreed: { seconds_of fixed ≡ local_type.offset },
+    local_type: &'a LocalTimeType,
+    pub ghost within_day: { IsWithinDay local_type.now.offset },
 }
 
 impl<'a> ZoneOffset<'a> {
-    ghost use Rattle.zoned_ref.specs.ZoneOffset.{ahead_of, type_of};
+    ghost use Rattle.zoned_ref.specs.ZoneOffset.{type_of};
 
     // The offset of a type of the zone.
-    pub(crate) fn new(zone: TimeZoneRef<'a>, local_type: &LocalTimeType) -> ZoneOffset<'a>
+    pub(crate) fn new(zone: TimeZoneRef<'a>, local_type: &'a LocalTimeType) -> ZoneOffset<'a>
         requires { IsWithinDay local_type.now.offset }
-        ensures seconds { ahead_of result ≡ local_type.now.offset }
         ensures zone { result.zone ≡ zone.entry }
         ensures local_type { type_of result ≡ local_type.now }
     {
-        ZoneOffset {
-            zone,
-            fixed: FixedOffset::east(local_type.offset()),
-            local_type: *local_type,
-        }
+        ZoneOffset { zone, local_type }
     }
 
-    // The zone that it came from.
-    pub(crate) fn zone(&self) -> TimeZoneRef<'a>
+    /// Returns the zone that it came from.
+    pub fn zone(&self) -> TimeZoneRef<'a>
         ensures { result ≡ self.now.zone }
     {
         self.zone
     }
 
     /// Returns the local time type that it is the offset of.
-    pub fn local_type(&self) -> &LocalTimeType
+    pub fn local_type(&self) -> &'a LocalTimeType
         ensures local_type { result.now ≡ type_of self.now }
         ensures within_day { IsWithinDay result.now.offset }
     {
-        &self.local_type
+        self.local_type
     }
 
     /// Returns the abbreviation of the local time type, such as `EST` or `-03`. `None` if the zone
     /// gives it none.
-    pub fn name(&self) -> Option<&TimeZoneName>
+    pub fn name(&self) -> Option<&'a TimeZoneName>
         ensures { option_map (λ n. n.now) result ≡ (type_of self.now).name }
     {
         self.local_type.name()
@@ -95,7 +87,7 @@ impl PartialEq for ZoneOffset<'_> {
     ghost laws = { on_per type_of laws-law };
 
     fn eq(&self, other: &ZoneOffset<'_>) -> bool {
-        self.local_type == other.local_type
+        *self.local_type == *other.local_type
     }
 }
 
@@ -125,28 +117,28 @@ impl Offset for ZoneOffset<'_> {
     ghost seconds = { ahead_of };
 
     fn fix(&self) -> FixedOffset {
-        self.fixed
+        FixedOffset::east(self.local_type.offset())
     }
 }
 
 impl fmt::Display for ZoneOffset<'_> {
-    ghost use Rattle.zoned_ref.specs.ZoneOffset.{fixed_of};
+    ghost use Rattle.zoned_ref.specs.ZoneOffset.{ahead_of};
 
-    ghost output = { λ offset. Some (printed_offset (fixed_of offset)) };
+    ghost output = { λ offset. Some (offset_text (ahead_of offset)) };
 
-    ghost styled_output = { λ offset _. Some (printed_offset (fixed_of offset)) };
+    ghost styled_output = { λ offset _. Some (offset_text (ahead_of offset)) };
 
     fn fmt<W: fmt::Write>(&self, f: &mut fmt::Formatter<W>) -> fmt::Result {
-        fmt::Display::fmt(&self.fixed, f)
+        fmt::Display::fmt(&self.fix(), f)
     }
 }
 
 impl fmt::Debug for ZoneOffset<'_> {
-    ghost use Rattle.zoned_ref.specs.ZoneOffset.{fixed_of};
+    ghost use Rattle.zoned_ref.specs.ZoneOffset.{ahead_of};
 
-    ghost debug_output = { λ offset. Some (printed_offset (fixed_of offset)) };
+    ghost debug_output = { λ offset. Some (offset_text (ahead_of offset)) };
 
     fn fmt<W: fmt::Write>(&self, f: &mut fmt::Formatter<W>) -> fmt::Result {
-        write!(f, "{:?}", self.fixed)
+        fmt::Display::fmt(self, f)
     }
 }

@@ -1,6 +1,6 @@
 -- Values that went some way, as instants.
-use Rattle.zoned_round.proofs.Words.{IsGone, IsRefusal, Reading, RoundingError, ap, arith, by_lt_z, floors, moved, pos, refl, sym, total, total-moved, ℤ, ◌+ℤ◌}
-use Rattle.zoned_round.proofs.Words.{◌<◌, ◌∙◌, ◌≡◌}
+use Rattle.zoned_round.proofs.Words.{IsGone, IsRoundingFault, Reading, RoundingError, ap, arith, by_lt_z, floors, moved, pos, refl, sym, total, total-moved, ℤ}
+use Rattle.zoned_round.proofs.Words.{◌+ℤ◌, ◌<◌, ◌∙◌, ◌≡◌}
 use Rattle.zoned_round.specs.declared.error.RoundingError.TheVariants.{DurationExceedsLimit, DurationExceedsTimestamp, TimestampExceedsLimit}
 
 -- outside leap seconds a value is that much later
@@ -35,7 +35,7 @@ gone-once instant IsMoved value a b way moves h k =
     ap instant (h.itself none) ∙ sym (ap instant (k.itself none))))
 
 -- one reason at most
-pub refusal-once : (p q : Type 0) (e f : RoundingError) → IsRefusal p q e → IsRefusal p q f → e ≡ f
+pub refusal-once : (p q : Type 0) (e f : RoundingError) → IsRoundingFault p q e → IsRoundingFault p q f → e ≡ f
 refusal-once p q DurationExceedsLimit DurationExceedsLimit h k = refl
 refusal-once p q DurationExceedsLimit TimestampExceedsLimit h k = absurd (h k.0)
 refusal-once p q DurationExceedsLimit DurationExceedsTimestamp h k = absurd k
@@ -45,7 +45,7 @@ refusal-once p q TimestampExceedsLimit DurationExceedsTimestamp h k = absurd k
 refusal-once p q DurationExceedsTimestamp f h k = absurd h
 
 -- and none where both fit
-pub not-refused : (p q : Type 0) (e : RoundingError) → p → q → IsRefusal p q e → ⊥
+pub not-refused : (p q : Type 0) (e : RoundingError) → p → q → IsRoundingFault p q e → ⊥
 not-refused p q DurationExceedsLimit x y h = h x
 not-refused p q TimestampExceedsLimit x y h = h.1 y
 not-refused p q DurationExceedsTimestamp x y h = h

@@ -1,6 +1,6 @@
 -- The multiples about a number are the greatest, the least and the nearest of all multiples.
 use Rattle.std.proofs.Math.Nat.{add-mul, mul-le-mul_right}
-use Rattle.zoned_round.proofs.Words.{IsGreatest, IsLeast, IsMultiple, ap, apart, arith, by_lt_z, down, floor_div, floors, inl, inr, multiple_above}
+use Rattle.zoned_round.proofs.Words.{IsGreatestWith, IsLeastWith, IsMultiple, ap, apart, arith, by_lt_z, down, floor_div, floors, inl, inr, multiple_above}
 use Rattle.zoned_round.proofs.Words.{multiple_below, nearest_multiple, neg_ℤ, negsuc, pos, refl, unsigned_abs, up, ℕ, ℤ, ◌*ℤ◌, ◌*◌, ◌+ℤ◌, ◌+◌, ◌-ℤ◌, ◌<ℤ◌, ◌<◌}
 use Rattle.zoned_round.proofs.Words.{◌∙◌, ◌≡◌, ◌≤ℤ◌, ◌≤◌}
 use Rattle.zoned_round.proofs.Multiples.{above-is, above-near, below-near, nearest-is}
@@ -43,7 +43,7 @@ not_below n k span some h =
           (λ within. let less = scaled k (floor_div n span) span within in absurd (omega (arith, floors)))
     ]
 
-pub below-greatest : (n : ℤ) (span : ℕ) → 0 < span → IsGreatest (λ m. IsMultiple span m × (m ≤ℤ n)) (multiple_below n span)
+pub below-greatest : (n : ℤ) (span : ℕ) → 0 < span → IsGreatestWith (λ m. IsMultiple span m × (m ≤ℤ n)) (multiple_below n span)
 below-greatest n span some = record {
   holds = ((floor_div n span, refl), (below-near n span some).0);
   greatest = λ k p. let e = p.0.1 in rw (e) (not_above n p.0.0 span some (rw (e) at p.1));
@@ -55,7 +55,7 @@ above-multiple n span some = elim (above-is n span some) [
   | inr next ↦ (floor_div n span +ℤ pos 1, next.0 ∙ next-is (floor_div n span) span)
 ]
 
-pub above-least : (n : ℤ) (span : ℕ) → 0 < span → IsLeast (λ m. IsMultiple span m × (n ≤ℤ m)) (multiple_above n span)
+pub above-least : (n : ℤ) (span : ℕ) → 0 < span → IsLeastWith (λ m. IsMultiple span m × (n ≤ℤ m)) (multiple_above n span)
 above-least n span some = record {
   holds = (above-multiple n span some, (above-near n span some).0);
   least = λ k p. let e = p.0.1 in rw (e) (not_below n p.0.0 span some (rw (e) at p.1));

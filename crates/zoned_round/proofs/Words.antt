@@ -6,8 +6,8 @@ pub use Rattle.naive_base.proofs.Words.{floor_mod, floor_mod_parts, moved, moved
 pub use Rattle.zoned_time.proofs.Words.{IsInRange, Reading, ap, arith, by_lt_z, floor_div, floors, inl, inr, ints, neg_ℤ, negsuc, pos, reading, refl, sym, w64}
 pub use Rattle.zoned_time.proofs.Words.{ℕ, ℤ, ◌*ℤ◌, ◌+ℤ◌, ◌-ℤ◌, ◌<ℤ◌, ◌∙◌, ◌≡◌, ◌≤ℤ◌, ◌⊎◌}
 pub use Rattle.zoned_round.specs.Durations.{IsGone, IsReadingMoved}
-pub use Rattle.zoned_round.specs.Errors.{IsRefusal}
-pub use Rattle.zoned_round.specs.Laws.{IsGreatest, IsLeast, IsMultiple, apart}
+pub use Rattle.zoned_round.specs.Errors.{IsRoundingFault}
+pub use Rattle.zoned_round.specs.Laws.{IsGreatestWith, IsLeastWith, IsMultiple, apart}
 pub use Rattle.zoned_round.specs.Multiples.{multiple_above, multiple_below, nearest_multiple}
 pub use Rattle.zoned_round.specs.Subseconds.{nanos_per_digit, rounded}
 pub use Rattle.zoned_round.specs.declared.error.RoundingError.{RoundingError}

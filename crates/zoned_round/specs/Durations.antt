@@ -5,12 +5,12 @@ use Rattle.naive_base.specs.declared.datetime.NaiveDateTime.{NaiveDateTime}
 use Rattle.naive_base.specs.NaiveDateTime.{reading}
 use Rattle.naive_base.specs.Reading.{moved}
 use Rattle.zoned_round.specs.declared.error.RoundingError.{RoundingError}
-use Rattle.zoned_round.specs.Errors.{IsRefusal}
+use Rattle.zoned_round.specs.Errors.{IsRoundingFault}
 use Rattle.zoned_round.specs.Multiples.{IsItselfOr}
 
 -- a span in nanoseconds
-abbrev pub IsSpan : ℤ → Type 0
-IsSpan nanos = (pos 0 <ℤ nanos) × FitsSigned w64 nanos
+abbrev pub IsRoundingLength : ℤ → Type 0
+IsRoundingLength nanos = (pos 0 <ℤ nanos) × FitsSigned w64 nanos
 
 -- the value, gone so far: itself where that is nowhere
 abbrev pub IsGone : {T : Type 0} → (ℤ → T → Type 0) → ℤ → T → T → Type 0
@@ -25,7 +25,7 @@ IsReadingMoved value way answer = reading answer ≡ moved (reading value) way
 abbrev pub IsRoundedTo : {T E : Type 0}
     → (ℤ → ℕ → ℤ) → (E → RoundingError) → (ℤ → T → Type 0) → ℤ → ℤ → T → Result T E → Type 0
 IsRoundedTo choose fault IsMoved stamp span value (Ok answer) =
-    IsSpan span × FitsSigned w64 stamp
+    IsRoundingLength span × FitsSigned w64 stamp
     × IsGone IsMoved (choose stamp (unsigned_abs span) -ℤ stamp) value answer
 IsRoundedTo choose fault IsMoved stamp span value (Err error) =
-    IsRefusal (IsSpan span) (FitsSigned w64 stamp) (fault error)
+    IsRoundingFault (IsRoundingLength span) (FitsSigned w64 stamp) (fault error)

@@ -4,10 +4,10 @@ use Rattle.zoned_round.specs.declared.error.RoundingError.{RoundingError}
 use Rattle.zoned_round.specs.declared.error.RoundingError.TheVariants.{DurationExceedsTimestamp, DurationExceedsLimit, TimestampExceedsLimit}
 
 -- The span's fault comes first, the stamp's only where the span has none.
-abbrev pub IsRefusal : Type 0 → Type 0 → RoundingError → Type 0
-IsRefusal span_fits stamp_fits DurationExceedsLimit = span_fits → ⊥
-IsRefusal span_fits stamp_fits TimestampExceedsLimit = span_fits × (stamp_fits → ⊥)
-IsRefusal span_fits stamp_fits DurationExceedsTimestamp = ⊥
+abbrev pub IsRoundingFault : Type 0 → Type 0 → RoundingError → Type 0
+IsRoundingFault span_fits stamp_fits DurationExceedsLimit = span_fits → ⊥
+IsRoundingFault span_fits stamp_fits TimestampExceedsLimit = span_fits × (stamp_fits → ⊥)
+IsRoundingFault span_fits stamp_fits DurationExceedsTimestamp = ⊥
 
 -- what each error prints
 abbrev pub message : RoundingError → List ℕ

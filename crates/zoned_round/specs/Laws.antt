@@ -6,11 +6,11 @@ abbrev pub IsMultiple : ℕ → ℤ → Type 0
 IsMultiple span m = (k : ℤ) × (m ≡ k *ℤ pos span)
 
 -- m is the greatest, or the least, for which P holds
-pub record IsGreatest (P : ℤ → Type 0) (m : ℤ) : Type 0 where
+pub record IsGreatestWith (P : ℤ → Type 0) (m : ℤ) : Type 0 where
   pub holds : P m
   pub greatest : (k : ℤ) → P k → k ≤ℤ m
 
-pub record IsLeast (P : ℤ → Type 0) (m : ℤ) : Type 0 where
+pub record IsLeastWith (P : ℤ → Type 0) (m : ℤ) : Type 0 where
   pub holds : P m
   pub least : (k : ℤ) → P k → m ≤ℤ k
 

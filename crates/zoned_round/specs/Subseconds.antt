@@ -29,6 +29,6 @@ IsRounded IsShowing r digits value answer =
     IsItselfOr (nanos_behind r digits ≡ 0) (IsShowing (rounded r digits)) value answer
 
 -- what comes of a value that shows r where it is cut after so many digits
-abbrev pub IsCut : {T : Type 0} → (Reading → T → Type 0) → Reading → ℕ → T → T → Type 0
-IsCut IsShowing r digits value answer =
+abbrev pub IsTruncated : {T : Type 0} → (Reading → T → Type 0) → Reading → ℕ → T → T → Type 0
+IsTruncated IsShowing r digits value answer =
     IsItselfOr (nanos_behind r digits ≡ 0) (IsShowing (cut r digits)) value answer

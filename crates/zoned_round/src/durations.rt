@@ -4,12 +4,12 @@ ghost use Rattle.std.specs.Int.{w64};
 ghost use Rattle.offset_core.specs.TimeDelta.{nanos_of};
 ghost use Rattle.naive_base.specs.NaiveDateTime.{reading};
 ghost use Rattle.naive_base.specs.Reading.{Reading, total, moved};
-ghost use Rattle.zoned_time.specs.DateTime.{zoned, wall_of, home_of};
+ghost use Rattle.zoned_time.specs.DateTime.{zoned, wall_of, home_law_of};
 ghost use Rattle.zoned_time.specs.Zoned.{IsAt};
 ghost use Rattle.zoned_round.specs.declared.error.RoundingError.{RoundingError as Fault};
 ghost use Rattle.zoned_round.specs.Durations.{IsRoundedTo, IsGone, IsReadingMoved};
 ghost use Rattle.zoned_round.specs.Multiples.{multiple_below, multiple_above, nearest_multiple};
-ghost use Rattle.zoned_round.specs.Steps.Stamps.{IsNear};
+ghost use Rattle.zoned_round.specs.Steps.Stamps.{IsNearRange};
 
 use crate::RoundingError;
 use crate::stamp::Stamp;
@@ -139,7 +139,7 @@ impl<Tz: TimeZone> DurationRound for DateTime<Tz> {
     ghost instant = { λ d. (zoned d).utc };
 
     ghost IsMoved = { λ d way answer.
-        IsAt (home_of Tz.meaning d) (moved (zoned d).utc way) (zoned answer) };
+        IsAt (home_law_of Tz.meaning d) (moved (zoned d).utc way) (zoned answer) };
 
     ghost moves = { λ _ _ _ is. is.utc };
 
@@ -161,7 +161,7 @@ impl<Tz: TimeZone> DurationRound for DateTime<Tz> {
 
 // The reading so much later.
 fn reading_after(here: NaiveDateTime, way: TimeDelta) -> NaiveDateTime
-    requires near { IsNear (reading here) }
+    requires near { IsNearRange (reading here) }
     requires short { FitsSigned w64 (nanos_of way) }
     ensures { IsGone (IsReadingMoved here) (nanos_of way) here result }
 {
@@ -174,17 +174,17 @@ fn reading_after(here: NaiveDateTime, way: TimeDelta) -> NaiveDateTime
 // What the instant's clock shows. It is less than a day from UTC.
 fn clock_of<Tz: TimeZone>(here: &DateTime<Tz>) -> NaiveDateTime
     ensures is { reading result ≡ wall_of here.now }
-    ensures near { FitsSigned w64 (total (wall_of here.now)) → IsNear (zoned here.now).utc }
+    ensures near { FitsSigned w64 (total (wall_of here.now)) → IsNearRange (zoned here.now).utc }
 {
     here.naive_utc().overflowing_add_offset(here.offset().fix())
 }
 
 // The instant so much later.
 fn instant_after<Tz: TimeZone>(instant: DateTime<Tz>, way: TimeDelta) -> DateTime<Tz>
-    requires near { IsNear (zoned instant).utc }
+    requires near { IsNearRange (zoned instant).utc }
     requires short { FitsSigned w64 (nanos_of way) }
     ensures { let utc = (zoned instant).utc in
-        IsGone (λ d answer. IsAt (home_of Tz.meaning instant) (moved utc d) (zoned answer))
+        IsGone (λ d answer. IsAt (home_law_of Tz.meaning instant) (moved utc d) (zoned answer))
         (nanos_of way) instant result }
 {
     if way.whole_nanoseconds() == 0 {

@@ -6,7 +6,7 @@ ghost use Rattle.naive_base.specs.Range.{IsInRange};
 ghost use Rattle.naive_base.specs.Reading.{Reading, total};
 ghost use Rattle.zoned_round.specs.declared.error.RoundingError.{RoundingError as Fault};
 ghost use Rattle.zoned_round.specs.Durations.{IsRoundedTo};
-ghost use Rattle.zoned_round.specs.Laws.{IsMultiple, IsGreatest, IsLeast, apart, IsShortOf, IsWithinHalf};
+ghost use Rattle.zoned_round.specs.Laws.{IsMultiple, IsGreatestWith, IsLeastWith, apart, IsShortOf, IsWithinHalf};
 ghost use Rattle.zoned_round.specs.Multiples.{multiple_below, multiple_above, nearest_multiple};
 ghost use Rattle.zoned_round.specs.Subseconds.{MayRound};
 ghost use Rattle.zoned_time.specs.DateTime.{zoned, wall_of};
@@ -49,9 +49,9 @@ pub fn stamps_are_in_range()
 /// below, and the nearest, of two as near the greater.
 pub fn multiples()
     ensures below { (n : ℤ) (span : ℕ) → 0 < span
-        → IsGreatest (λ m. IsMultiple span m × (m ≤ℤ n)) (multiple_below n span) }
+        → IsGreatestWith (λ m. IsMultiple span m × (m ≤ℤ n)) (multiple_below n span) }
     ensures above { (n : ℤ) (span : ℕ) → 0 < span
-        → IsLeast (λ m. IsMultiple span m × (n ≤ℤ m)) (multiple_above n span) }
+        → IsLeastWith (λ m. IsMultiple span m × (n ≤ℤ m)) (multiple_above n span) }
     ensures nearest { (n m : ℤ) (span : ℕ) → 0 < span → IsMultiple span m
         → apart n (nearest_multiple n span) ≤ apart n m }
     ensures tie { (n m : ℤ) (span : ℕ) → 0 < span → IsMultiple span m

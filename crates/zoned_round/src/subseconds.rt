@@ -6,10 +6,10 @@ ghost use Rattle.naive_base.specs.Reading.{Reading};
 ghost use Rattle.naive_base.specs.NaiveDateTime.{reading};
 ghost use Rattle.naive_base.specs.NaiveTime.{time_of};
 ghost use Rattle.naive_base.specs.Range.{IsInRange};
-ghost use Rattle.zoned_time.specs.DateTime.{zoned, home_of};
+ghost use Rattle.zoned_time.specs.DateTime.{zoned, home_law_of};
 ghost use Rattle.zoned_time.specs.Zoned.{IsAt};
 ghost use Rattle.zoned_round.specs.Multiples.{nearest_multiple};
-ghost use Rattle.zoned_round.specs.Subseconds.{nanos_per_digit, MayRound, IsRounded, IsCut};
+ghost use Rattle.zoned_round.specs.Subseconds.{nanos_per_digit, MayRound, IsRounded, IsTruncated};
 
 use naive_base::{NaiveDateTime, NaiveTime, Timelike};
 use offset_core::TimeDelta;
@@ -51,7 +51,7 @@ pub trait SubsecRound: Sized {
     /// let tenths = noon.trunc_subsecs(1); // 2018-01-11 12:00:00.100
     /// ```
     fn trunc_subsecs(self, digits: u16) -> Self
-        ensures { IsCut (IsShowing self) (shown self) digits self result };
+        ensures { IsTruncated (IsShowing self) (shown self) digits self result };
 }
 
 fn nanos_per_digit(digits: u16) -> u32
@@ -123,7 +123,7 @@ impl SubsecRound for NaiveDateTime {
 impl<Tz: TimeZone> SubsecRound for DateTime<Tz> {
     ghost shown = { λ d. (zoned d).utc };
 
-    ghost IsShowing = { λ d r answer. IsAt (home_of Tz.meaning d) r (zoned answer) };
+    ghost IsShowing = { λ d r answer. IsAt (home_law_of Tz.meaning d) r (zoned answer) };
 
     ghost MayShow = { λ _ r. IsInRange r.s };
 
@@ -178,7 +178,7 @@ fn on_day_0(time: NaiveTime) -> NaiveDateTime
 fn instant_cut<Tz: TimeZone>(here: DateTime<Tz>, behind: u32) -> DateTime<Tz>
     requires { behind ≤ (zoned here).utc.f }
     ensures { let utc = (zoned here).utc in
-        IsAt (home_of Tz.meaning here) (record { s = utc.s; f = utc.f - behind }) (zoned result) }
+        IsAt (home_law_of Tz.meaning here) (record { s = utc.s; f = utc.f - behind }) (zoned result) }
 {
     here.checked_sub_signed(TimeDelta::nanoseconds(behind as i64))
         .unwrap()

@@ -44,8 +44,8 @@ pub record Items (Z : Type 0) : Type 0 where
   pub end : ℕ
 
 -- a step gave the next item, or nothing if and only if none is left
-abbrev pub Gives : {Z O D : Type 0} {m : Meaning O} → Law m → (D → Zoned O) → Items Z → Option (Result D SeriesError) → Items Z → Type 0
-Gives law zoned before answer after = MatchOption answer
+abbrev pub GivesNext : {Z O D : Type 0} {m : Meaning O} → Law m → (D → Zoned O) → Items Z → Option (Result D SeriesError) → Items Z → Type 0
+GivesNext law zoned before answer after = MatchOption answer
     ((before.end ≤ before.next) × (after ≡ before))
     (λ item. (before.next < before.end) × IsItemOrError law zoned before.series before.next item
     × (after ≡ record before { next = before.next + 1 }))

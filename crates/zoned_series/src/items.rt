@@ -3,7 +3,7 @@ ghost use Rattle.std.specs.Prelude.{◌≡◌, ◌-◌, Some, IfSome};
 ghost use Rattle.std.specs.Iterator.{at_most, UpTo};
 ghost use Rattle.std.specs.Iterator.SizeHint.{IsWithinCount};
 ghost use Rattle.zoned_series.specs.DailySeries.{series_of, items_of};
-ghost use Rattle.zoned_series.specs.Series.{Gives, GivesBack};
+ghost use Rattle.zoned_series.specs.Series.{GivesNext, GivesBack};
 ghost use Rattle.zoned_time.specs.DateTime.{zoned};
 
 use crate::{DailySeries, SeriesError};
@@ -35,7 +35,7 @@ impl<Tz: TimeZone> DailyItems<Tz> {
 impl<Tz: TimeZone> Iterator for DailyItems<Tz> {
     type Item = Result<DateTime<Tz>, SeriesError>;
 
-    ghost next_gives = { λ s r t. Gives (Tz.law (items_of s).series.zone) zoned (items_of s) r
+    ghost next_gives = { λ s r t. GivesNext (Tz.law (items_of s).series.zone) zoned (items_of s) r
         (items_of t) };
 
     ghost remaining = { λ s. at_most ((items_of s).end - (items_of s).next) };

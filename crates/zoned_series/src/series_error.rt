@@ -1,6 +1,6 @@
 //! Why a day has no instant of a series.
 ghost use Rattle.std.specs.Prelude.{◌≡◌};
-ghost use Rattle.zoned_series.specs.Numbers.{number_of};
+ghost use Rattle.zoned_series.specs.Numbers.{series_error_number};
 
 use thiserror::Error;
 use zoned_time::ResolveError;
@@ -19,7 +19,7 @@ pub enum SeriesError {
 impl SeriesError {
     /// Returns 24 for a day out of range, or the number of the error within.
     pub fn number(&self) -> u8
-        ensures { result ≡ number_of self.now }
+        ensures { result ≡ series_error_number self.now }
     {
         match self {
             SeriesError::Date => 24,

@@ -4,8 +4,8 @@ use Rattle.offset_core.specs.declared.around.Around.TheVariants.{Ambiguous as Tw
 use Rattle.offset_core.specs.declared.local_result.LocalResult.TheVariants.{Ambiguous, None, Single}
 use Rattle.offset_core.specs.declared.resolve_error.ResolveError.TheVariants.{OutOfRange}
 use Rattle.zoned_time.proofs.Words.{Around, Choice, Err, IsBeforeGap, IsInRange, IsNeverShown, IsTaken, IsUnresolved, IsWallAnswer, IsWide, IsWithinDay}
-use Rattle.zoned_time.proofs.Words.{IsZoneSecond, LocalResult, Ok, ResolveError, Result, Shows, Taken, Takes, arith, by_lt_z, in_range_or_not, inl, inr, ints}
-use Rattle.zoned_time.proofs.Words.{offset_taken, out_of_range, pos, refl, refused, suc, taken_of, zero, ℕ, ℤ, ◌+ℤ◌, ◌-ℤ◌, ◌<ℤ◌, ◌≡◌, ◌≤ℤ◌, ◌⊎◌}
+use Rattle.zoned_time.proofs.Words.{IsZoneSecond, LocalResult, Ok, ResolveError, Result, ShowsByOffset, Taken, Takes, arith, by_lt_z, in_range_or_not, inl, inr}
+use Rattle.zoned_time.proofs.Words.{ints, offset_taken, out_of_range, pos, refl, refused, suc, taken_of, zero, ℕ, ℤ, ◌+ℤ◌, ◌-ℤ◌, ◌<ℤ◌, ◌≡◌, ◌≤ℤ◌, ◌⊎◌}
 
 -- the first second from a start on of which p holds, where p is decided and holds of some later second
 first_from : (p : ℤ → Type 0) → ((u : ℤ) → p u ⊎ (p u → ⊥)) → (n : ℕ) (start end : ℤ) → end ≡ start +ℤ pos n → p end
@@ -30,7 +30,7 @@ less_or_not : (a b : ℤ) → (a <ℤ b) ⊎ (a <ℤ b → ⊥)
 less_or_not a b = by_lt_z a b (λ less. inl less) (λ more. inr (λ less. absurd (omega (arith, ints, more, less))))
 
 -- a reading that no clock shows has an offset before it
-pub gap_has_offset : (off : ℤ → ℤ) (l : ℤ) → ((u : ℤ) → IsZoneSecond u → IsWithinDay (off u)) → IsWide l → IsNeverShown (Shows off l) → (k : ℤ) × IsBeforeGap off l k
+pub gap_has_offset : (off : ℤ → ℤ) (l : ℤ) → ((u : ℤ) → IsZoneSecond u → IsWithinDay (off u)) → IsWide l → IsNeverShown (ShowsByOffset off l) → (k : ℤ) × IsBeforeGap off l k
 gap_has_offset off l day wide never =
     let p = λ (u : ℤ). l <ℤ (u +ℤ off u) in
     let start : ℤ = l -ℤ pos 86_399 in
@@ -61,19 +61,21 @@ by_offset off l choice k taken = elim (in_range_or_not (l -ℤ k)) [
   | inr outside ↦ inr (OutOfRange, out_of_range k taken outside refl)
 ]
 
-by_outcome : (off : ℤ → ℤ) (l : ℤ) (choice : Choice) (outcome : Result (Taken ℤ ℤ) ResolveError) → Takes (Shows off l) (IsBeforeGap off l) choice outcome
+by_outcome : (off : ℤ → ℤ) (l : ℤ) (choice : Choice) (outcome : Result (Taken ℤ ℤ) ResolveError)
+    → Takes (ShowsByOffset off l) (IsBeforeGap off l) choice outcome
     → IsDecided off l choice
 by_outcome off l choice (Ok t) takes = by_offset off l choice (offset_taken t) (record { taken = t; takes = takes; offset = refl })
 by_outcome off l choice (Err e) takes = inr (e, refused takes)
 
-around_shown : (off : ℤ → ℤ) (l : ℤ) → ((u : ℤ) → IsZoneSecond u → IsWithinDay (off u)) → IsWide l → (shown : LocalResult ℤ) → IsWallAnswer (Shows off l) shown
-    → (a : Around ℤ ℤ) × IsAround (Shows off l) (IsBeforeGap off l) a
+around_shown : (off : ℤ → ℤ) (l : ℤ) → ((u : ℤ) → IsZoneSecond u → IsWithinDay (off u)) → IsWide l → (shown : LocalResult ℤ)
+    → IsWallAnswer (ShowsByOffset off l) shown
+    → (a : Around ℤ ℤ) × IsAround (ShowsByOffset off l) (IsBeforeGap off l) a
 around_shown off l day wide (Single k) wall = (Once k, wall)
 around_shown off l day wide (Ambiguous a b) wall = (Twice a b, wall)
 around_shown off l day wide None wall = let before = gap_has_offset off l day wide wall in (Gap before.0, before.1)
 
 pub choice_decided : (off : ℤ → ℤ) (l : ℤ) (choice : Choice) → ((u : ℤ) → IsZoneSecond u → IsWithinDay (off u)) → IsWide l
-    → (shown : LocalResult ℤ) → IsWallAnswer (Shows off l) shown → IsDecided off l choice
+    → (shown : LocalResult ℤ) → IsWallAnswer (ShowsByOffset off l) shown → IsDecided off l choice
 choice_decided off l choice day wide shown wall =
     let a = around_shown off l day wide shown wall in
     by_outcome off l choice (taken_of choice a.0) (record { around = a.0; right = a.1; taken = refl })

@@ -3,17 +3,17 @@ use Rattle.offset_core.specs.declared.around.Around.TheVariants.{Ambiguous, Gap,
 use Rattle.offset_core.specs.declared.around.Taken.TheVariants.{InGap, Shown}
 use Rattle.offset_core.specs.declared.resolve_error.ResolveError.TheVariants.{OutOfRange}
 use Rattle.std.specs.Prelude.{⊤}
-use Rattle.zoned_time.proofs.Words.{AreOffsetsAround, Around, Choice, Err, HasInstant, HoldsOfEach, HoldsOfTaken, IsAt, IsBeforeGap, IsInRange, IsResolved}
-use Rattle.zoned_time.proofs.Words.{IsTaken, IsUnresolved, Law, MatchResult, Meaning, Ok, Reading, ResolveError, Result, SameLaw, Shows, Taken, Takes, Zoned, behind}
-use Rattle.zoned_time.proofs.Words.{home_law, instant_of, map_outcome, map_taken, offset_taken, out_of_range, refl, refused, subst, sym, taken_holds}
-use Rattle.zoned_time.proofs.Words.{taken_of, taken_of_images, ℤ, ◌-ℤ◌, ◌≡◌}
+use Rattle.zoned_time.proofs.Words.{AreOffsetsAround, Around, Choice, Err, HasInstant, HoldsOfEachAround, HoldsOfTaken, IsAt, IsBeforeGap, IsInRange}
+use Rattle.zoned_time.proofs.Words.{IsResolved, IsTaken, IsUnresolved, Law, MatchResult, Meaning, Ok, Reading, ResolveError, Result, SameLaw, ShowsByOffset}
+use Rattle.zoned_time.proofs.Words.{Taken, Takes, Zoned, behind, home_law, instant_of, map_outcome, map_taken, offset_taken, out_of_range, refl, refused, subst}
+use Rattle.zoned_time.proofs.Words.{sym, taken_holds, taken_of, taken_of_images, ℤ, ◌-ℤ◌, ◌≡◌}
 use Rattle.zoned_time.proofs.Relocals.{at_shown}
 
 -- an offset at which clocks show the reading, in force then
 abbrev IsShownBy : {O : Type 0} {m : Meaning O} → Law m → ℤ → O → Type 0
-IsShownBy {m = m} law l o = (u : ℤ) × Shows law.off l u (m.seconds o) × law.in_force (l -ℤ m.seconds o) o × SameLaw (home_law m o) law
+IsShownBy {m = m} law l o = (u : ℤ) × ShowsByOffset law.off l u (m.seconds o) × law.in_force (l -ℤ m.seconds o) o × SameLaw (home_law m o) law
 
-each_shown_by : {O : Type 0} {m : Meaning O} (law : Law m) (l : ℤ) (a : Around O O) → AreOffsetsAround law l a → HoldsOfEach (IsShownBy law l) (λ _. ⊤) a
+each_shown_by : {O : Type 0} {m : Meaning O} (law : Law m) (l : ℤ) (a : Around O O) → AreOffsetsAround law l a → HoldsOfEachAround (IsShownBy law l) (λ _. ⊤) a
 each_shown_by law l (Single o) h = (h.wall.second, h.wall.shown, h.in_force, h.same_home)
 each_shown_by law l (Ambiguous o p) h =
     ((h.wall.first, h.wall.at_first, h.in_force.0, h.same_home.0), (h.wall.last, h.wall.at_last, h.in_force.1, h.same_home.1))
@@ -21,7 +21,7 @@ each_shown_by law l (Gap o) h = tt {0}
 
 -- in seconds
 takes_seconds : {O : Type 0} {m : Meaning O} (law : Law m) (l : ℤ) (choice : Choice) (a : Around O O) → AreOffsetsAround law l a
-    → Takes (Shows law.off l) (IsBeforeGap law.off l) choice (map_outcome m.seconds m.seconds (taken_of choice a))
+    → Takes (ShowsByOffset law.off l) (IsBeforeGap law.off l) choice (map_outcome m.seconds m.seconds (taken_of choice a))
 takes_seconds {m = m} law l choice (Single o) h = record { around = Single (m.seconds o); right = h.wall; taken = refl }
 takes_seconds {m = m} law l choice (Ambiguous o p) h =
     record { around = Ambiguous (m.seconds o) (m.seconds p); right = h.wall; taken = taken_of_images m.seconds m.seconds choice (Ambiguous o p) }
@@ -32,7 +32,7 @@ is_taken : {O : Type 0} {m : Meaning O} (law : Law m) (l : ℤ) (choice : Choice
     → taken_of choice a ≡ Ok t → IsTaken law.off l choice (offset_taken (map_taken m.seconds m.seconds t))
 is_taken {m = m} law l choice a t h e = record {
   taken = map_taken m.seconds m.seconds t;
-  takes = subst (λ r. Takes (Shows law.off l) (IsBeforeGap law.off l) choice (map_outcome m.seconds m.seconds r)) e (takes_seconds law l choice a h);
+  takes = subst (λ r. Takes (ShowsByOffset law.off l) (IsBeforeGap law.off l) choice (map_outcome m.seconds m.seconds r)) e (takes_seconds law l choice a h);
   offset = refl;
 }
 
@@ -73,4 +73,5 @@ gap_resolved {O} {D} {m} {seconds} told law l choice a o show (Err f) around e h
 pub refused_of : {O : Type 0} {m : Meaning O} (law : Law m) (l : ℤ) (choice : Choice) (a : Around O O) (e : ResolveError) → AreOffsetsAround law l a
     → taken_of choice a ≡ Err e → IsUnresolved law.off l choice e
 refused_of {m = m} law l choice a e h none =
-    refused (subst (λ r. Takes (Shows law.off l) (IsBeforeGap law.off l) choice (map_outcome m.seconds m.seconds r)) none (takes_seconds law l choice a h))
+    refused (subst (λ r. Takes (ShowsByOffset law.off l) (IsBeforeGap law.off l) choice (map_outcome m.seconds m.seconds r)) none
+    (takes_seconds law l choice a h))

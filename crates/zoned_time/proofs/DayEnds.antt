@@ -1,9 +1,9 @@
 -- Days from their starts: the last instant, and first days before the range.
-use Rattle.zoned_time.proofs.Words.{AreStartsOfDays, HasNoEnd, IsAt, IsDateOn, IsDaysLater, IsEarlier, IsEndOfDay, IsFirstAtOrAfter, IsFirstOutOfRange}
-use Rattle.zoned_time.proofs.Words.{IsFirstToReach, IsGapEnd, IsInDay, IsInRange, IsNeverShown, IsShownBetween, IsShownOnce, IsWideDay, IsZoneSecond}
-use Rattle.zoned_time.proofs.Words.{IsZonedAtOrAfter, IsZonedEnd, Law, MatchOption, MayShowDay, Meaning, NaiveDate, None, NonePassed, Option, Reading, SameLaw}
-use Rattle.zoned_time.proofs.Words.{SameOffsets, Shows, ShowsAtOrAfter, Some, SomeIff, Zoned, ahead, ap, arith, behind, by_lt_z, day_of, first_day, inl, inr}
-use Rattle.zoned_time.proofs.Words.{ints, last_day, midnight, neg_ℤ, of_secs, pos, refl, subst, sym, ℕ, ℤ, ◌*ℤ◌, ◌+ℤ◌, ◌-ℤ◌, ◌<ℤ◌, ◌∙◌, ◌≡◌, ◌≤ℤ◌}
+use Rattle.zoned_time.proofs.Words.{AreStartsOfDays, HasNoEnd, IsAt, IsDateOn, IsDaysLater, IsEarlier, IsEndOfDay, IsFirstInstantFrom, IsFirstOutOfRange}
+use Rattle.zoned_time.proofs.Words.{IsFirstToReach, IsGapEnd, IsInDay, IsInRange, IsInstantFrom, IsNeverShown, IsShownBetween, IsShownOnce, IsWideDay}
+use Rattle.zoned_time.proofs.Words.{IsZoneSecond, IsZonedAtOrAfter, IsZonedEnd, Law, MatchOption, MayShowDay, Meaning, NaiveDate, None, NonePassed, Option}
+use Rattle.zoned_time.proofs.Words.{Reading, SameLaw, SameOffsets, ShowsByOffset, Some, SomeIff, Zoned, ahead, ap, arith, behind, by_lt_z, day_of, first_day}
+use Rattle.zoned_time.proofs.Words.{inl, inr, ints, last_day, midnight, neg_ℤ, of_secs, pos, refl, subst, sym, ℕ, ℤ, ◌*ℤ◌, ◌+ℤ◌, ◌-ℤ◌, ◌<ℤ◌, ◌∙◌, ◌≡◌, ◌≤ℤ◌}
 use Rattle.zoned_time.proofs.DayStarts.{StayWithinDay, first_until, in_day, one_first, same_reading}
 use Rattle.zoned_time.proofs.Days.{first_exact, first_whole, out_of_range, to_reached}
 use Rattle.zoned_time.proofs.Homes.{offset_home_at}
@@ -108,10 +108,10 @@ earlier_day old n date h =
     let same = (subst (λ (w : Option ℤ). SomeIff w (MayShowDay old (old +ℤ neg_ℤ (pos n))) (old +ℤ neg_ℤ (pos n))) h.shown h.there).1 in omega (arith, ints)
 
 -- ---- a zone of the same offsets
-shows_home : (off home : ℤ → ℤ) (l r : Reading) → SameOffsets off home → ShowsAtOrAfter off l r → ShowsAtOrAfter home l r
+shows_home : (off home : ℤ → ℤ) (l r : Reading) → SameOffsets off home → IsInstantFrom off l r → IsInstantFrom home l r
 shows_home off home l r same h = record { in_zone = h.in_zone; not_before = subst (λ (k : ℤ). ¬ (IsEarlier (ahead r k) l)) (same r.s h.in_zone) h.not_before }
 
-first_home : (off home : ℤ → ℤ) (l r : Reading) → SameOffsets off home → IsFirstAtOrAfter off l r → IsFirstAtOrAfter home l r
+first_home : (off home : ℤ → ℤ) (l r : Reading) → SameOffsets off home → IsFirstInstantFrom off l r → IsFirstInstantFrom home l r
 first_home off home l r same h = record {
   shown = shows_home off home l r same h.shown;
   first = λ q k. h.first q (shows_home home off l q (λ v zone. sym (same v zone)) k);
@@ -126,7 +126,7 @@ start_home law home l told (Some d) same h = record {
 }
 
 -- ---- gaps and folds
-first_second : (off : ℤ → ℤ) (l u : ℤ) → IsZoneSecond u → (u +ℤ off u) ≡ l → NonePassed off l u → ((v : ℤ) → Shows off l v (off v) → u ≤ℤ v) → IsFirstToReach off l u
+first_second : (off : ℤ → ℤ) (l u : ℤ) → IsZoneSecond u → (u +ℤ off u) ≡ l → NonePassed off l u → ((v : ℤ) → ShowsByOffset off l v (off v) → u ≤ℤ v) → IsFirstToReach off l u
 first_second off l u inside shown none least = record {
   reached = record { in_zone = inside; reached = omega (arith, ints) };
   first = λ v h. by_lt_z v u
@@ -134,21 +134,21 @@ first_second off l u inside shown none least = record {
       (λ more. more);
 }
 
-first_shown : (off : ℤ → ℤ) (l a : Reading) (u k : ℤ) → Shows off l.s u k → NonePassed off l.s (l.s -ℤ k) → ((v : ℤ) → Shows off l.s v (off v) → u ≤ℤ v) → IsFirstAtOrAfter off l a → a ≡ behind l k
+first_shown : (off : ℤ → ℤ) (l a : Reading) (u k : ℤ) → ShowsByOffset off l.s u k → NonePassed off l.s (l.s -ℤ k) → ((v : ℤ) → ShowsByOffset off l.s v (off v) → u ≤ℤ v) → IsFirstInstantFrom off l a → a ≡ behind l k
 first_shown off l a u k h none least first =
     let shown = h.shown in
     let back : u ≡ l.s -ℤ k = omega (arith, ints) in
     let there : (u +ℤ off u) ≡ l.s = ap (λ (x : ℤ). u +ℤ x) (sym h.offset) ∙ h.shown in
     let reaches = first_second off l.s u h.in_zone there (subst (NonePassed off l.s) (sym back) none) least in
-    one_first off l a (behind l k) first (subst (λ (v : ℤ). IsFirstAtOrAfter off l (record { s = v; f = l.f })) back (first_exact off l u reaches there))
+    one_first off l a (behind l k) first (subst (λ (v : ℤ). IsFirstInstantFrom off l (record { s = v; f = l.f })) back (first_exact off l u reaches there))
 
-pub first_of_one : (off : ℤ → ℤ) (l a : Reading) (k : ℤ) → IsShownOnce (Shows off l.s) k → NonePassed off l.s (l.s -ℤ k) → IsFirstAtOrAfter off l a → a ≡ behind l k
+pub first_of_one : (off : ℤ → ℤ) (l a : Reading) (k : ℤ) → IsShownOnce (ShowsByOffset off l.s) k → NonePassed off l.s (l.s -ℤ k) → IsFirstInstantFrom off l a → a ≡ behind l k
 first_of_one off l a k h none first = first_shown off l a h.second k h.shown none (λ v s. let same = h.only v (off v) s in omega (arith, ints)) first
 
-pub first_of_fold : (off : ℤ → ℤ) (l a : Reading) (k last : ℤ) → IsShownBetween (Shows off l.s) k last → NonePassed off l.s (l.s -ℤ k) → IsFirstAtOrAfter off l a → a ≡ behind l k
+pub first_of_fold : (off : ℤ → ℤ) (l a : Reading) (k last : ℤ) → IsShownBetween (ShowsByOffset off l.s) k last → NonePassed off l.s (l.s -ℤ k) → IsFirstInstantFrom off l a → a ≡ behind l k
 first_of_fold off l a k last h none first = first_shown off l a h.first k h.at_first none (λ v s. h.not_before v (off v) s) first
 
-pub not_later : (off : ℤ → ℤ) (l a : Reading) (u k : ℤ) → Shows off l.s u k → IsFirstAtOrAfter off l a → ¬ (IsEarlier (behind l k) a)
+pub not_later : (off : ℤ → ℤ) (l a : Reading) (u k : ℤ) → ShowsByOffset off l.s u k → IsFirstInstantFrom off l a → ¬ (IsEarlier (behind l k) a)
 not_later off l a u k h first =
     let shown = h.shown in
     let back : l.s -ℤ k ≡ u = omega (arith, ints) in
@@ -161,7 +161,7 @@ not_later off l a u k h first =
       ];
     }))
 
-pub gap_end : (off : ℤ → ℤ) (l a : Reading) → IsNeverShown (Shows off l.s) → IsFirstAtOrAfter off l a → IsGapEnd off l.s a
+pub gap_end : (off : ℤ → ℤ) (l a : Reading) → IsNeverShown (ShowsByOffset off l.s) → IsFirstInstantFrom off l a → IsGapEnd off l.s a
 gap_end off l a never h =
     let reached = to_reached off l a h.shown in
     let past : l.s <ℤ (a.s +ℤ off a.s) = by_lt_z l.s (a.s +ℤ off a.s) (λ less. less) (λ not. let there = reached.reached in absurd (never a.s (off a.s) (record { in_zone = h.shown.in_zone; offset = refl; shown = omega (arith, ints) }))) in

@@ -1,7 +1,7 @@
 -- The starts of days divide time: each instant lies in one day.
-use Rattle.zoned_time.proofs.Words.{AreEndsOfDay, HasReached, IsEarlier, IsFirstAtOrAfter, IsFirstToReach, IsInDay, IsInRange, IsNeverOnDay, IsOnDay}
-use Rattle.zoned_time.proofs.Words.{IsWithinDay, IsZoneSecond, Reading, ShowsAtOrAfter, ahead, arith, by_lt_z, floor_div, floors, inl, inr, ints, midnight}
-use Rattle.zoned_time.proofs.Words.{neg_ℤ, negsuc, of_secs, pos, refl, subst, suc, zero, ℕ, ℤ, ◌*ℤ◌, ◌+ℤ◌, ◌-ℤ◌, ◌<ℤ◌, ◌≡◌, ◌≤ℤ◌, ◌⊎◌}
+use Rattle.zoned_time.proofs.Words.{AreEndsOfDay, HasReached, IsEarlier, IsFirstInstantFrom, IsFirstToReach, IsInDay, IsInRange, IsInstantFrom, IsNeverOnDay}
+use Rattle.zoned_time.proofs.Words.{IsOnDay, IsWithinDay, IsZoneSecond, Reading, ahead, arith, by_lt_z, floor_div, floors, inl, inr, ints, midnight, neg_ℤ}
+use Rattle.zoned_time.proofs.Words.{negsuc, of_secs, pos, refl, subst, suc, zero, ℕ, ℤ, ◌*ℤ◌, ◌+ℤ◌, ◌-ℤ◌, ◌<ℤ◌, ◌≡◌, ◌≤ℤ◌, ◌⊎◌}
 use Rattle.zoned_time.proofs.Days.{first_whole, to_reached}
 
 -- ---- the order of instants
@@ -29,10 +29,10 @@ not_earlier_than x y whole h (inl less) = omega (arith, ints)
 not_earlier_than x y whole h (inr (_, less)) = omega (arith, ints)
 
 -- ---- laws of the first instant at or after a local time
-pub rises : (off : ℤ → ℤ) (l m a b : Reading) → ¬ (IsEarlier m l) → IsFirstAtOrAfter off l a → IsFirstAtOrAfter off m b → ¬ (IsEarlier b a)
+pub rises : (off : ℤ → ℤ) (l m a b : Reading) → ¬ (IsEarlier m l) → IsFirstInstantFrom off l a → IsFirstInstantFrom off m b → ¬ (IsEarlier b a)
 rises off l m a b later h k = h.first b (record { in_zone = k.shown.in_zone; not_before = through _ m l k.shown.not_before later })
 
-pub one_first : (off : ℤ → ℤ) (l a b : Reading) → IsFirstAtOrAfter off l a → IsFirstAtOrAfter off l b → a ≡ b
+pub one_first : (off : ℤ → ℤ) (l a b : Reading) → IsFirstInstantFrom off l a → IsFirstInstantFrom off l b → a ≡ b
 one_first off l a b h k = equal a b (k.first a h.shown) (h.first b k.shown)
 
 -- ---- days
@@ -40,7 +40,7 @@ not_earlier_day : (c d : ℤ) → c ≤ℤ d → ¬ (IsEarlier (midnight d) (mid
 not_earlier_day c d h = not_earlier_than (midnight d) (midnight c) refl (omega (arith, ints))
 
 -- clocks that show the second of a midnight or a later one
-at_midnight : (off : ℤ → ℤ) (day : ℤ) (r : Reading) → IsZoneSecond r.s → (day *ℤ pos 86_400) ≤ℤ (r.s +ℤ off r.s) → ShowsAtOrAfter off (midnight day) r
+at_midnight : (off : ℤ → ℤ) (day : ℤ) (r : Reading) → IsZoneSecond r.s → (day *ℤ pos 86_400) ≤ℤ (r.s +ℤ off r.s) → IsInstantFrom off (midnight day) r
 at_midnight off day r inside past = record { in_zone = inside; not_before = not_earlier_than (ahead r (off r.s)) (midnight day) refl (omega (arith, ints)) }
 
 -- a later day starts no earlier than the next day
@@ -52,7 +52,7 @@ pub one_day : (off : ℤ → ℤ) (r : Reading) (c d : ℤ) → IsInDay off c r 
 one_day off r c d h k = by_lt_z c d (λ less. absurd (not_in_both off c d r less h k)) (λ more. by_lt_z d c (λ less. absurd (not_in_both off d c r less k h)) (λ most. omega (arith, ints)))
 
 -- a day that is never shown starts with the next one
-pub skipped : (off : ℤ → ℤ) (day : ℤ) (a b : Reading) → IsNeverOnDay off day → IsFirstAtOrAfter off (midnight day) a → IsFirstAtOrAfter off (midnight (day +ℤ pos 1)) b → a ≡ b
+pub skipped : (off : ℤ → ℤ) (day : ℤ) (a b : Reading) → IsNeverOnDay off day → IsFirstInstantFrom off (midnight day) a → IsFirstInstantFrom off (midnight (day +ℤ pos 1)) b → a ≡ b
 skipped off day a b never h k =
     let reached = (to_reached off (midnight day) a h.shown).reached in
     let past : ((day +ℤ pos 1) *ℤ pos 86_400) ≤ℤ (a.s +ℤ off a.s) =
@@ -68,7 +68,7 @@ no_later_date off day r inside h = by_lt_z (r.s +ℤ off r.s) ((day +ℤ pos 1) 
     (λ past. absurd (h.ends.first r (at_midnight off (day +ℤ pos 1) r inside past) h.before))
 
 -- if the date is shown when its day starts, that is the first second that shows it
-pub starts_with_first : (off : ℤ → ℤ) (day first last : ℤ) (r : Reading) → IsFirstAtOrAfter off (midnight day) r → IsOnDay off day r.s → AreEndsOfDay off day first last → r.s ≡ first
+pub starts_with_first : (off : ℤ → ℤ) (day first last : ℤ) (r : Reading) → IsFirstInstantFrom off (midnight day) r → IsOnDay off day r.s → AreEndsOfDay off day first last → r.s ≡ first
 starts_with_first off day first last r h on ends =
     let least = ends.not_before r.s on in
     let since = ends.shown_first.since in

@@ -1,7 +1,7 @@
 -- Days of zones: from seconds to instants.
-use Rattle.zoned_time.proofs.Words.{AreEndsOfDay, AreInstantsOfDay, HasInstant, HasReached, IsAt, IsFirstAtOrAfter, IsFirstOutOfRange, IsFirstToReach, IsFixed}
-use Rattle.zoned_time.proofs.Words.{IsInRange, IsNoDay, IsOffsetAt, IsOnDay, IsZoneSecond, IsZonedAtOrAfter, Law, MatchOption, Meaning, None, Option, Reading}
-use Rattle.zoned_time.proofs.Words.{ShowsAtOrAfter, Some, SomeIff, Zoned, ap, arith, by_lt_z, floor_div, floors, inl, inr, instant_of, ints, of_secs}
+use Rattle.zoned_time.proofs.Words.{AreEndsOfDay, AreInstantsOfDay, HasInstant, HasReached, IsAt, IsFirstInstantFrom, IsFirstOutOfRange, IsFirstToReach}
+use Rattle.zoned_time.proofs.Words.{IsFixed, IsInRange, IsInstantFrom, IsNoDay, IsOffsetAt, IsOnDay, IsZoneSecond, IsZonedAtOrAfter, Law, MatchOption, Meaning}
+use Rattle.zoned_time.proofs.Words.{None, Option, Reading, Some, SomeIff, Zoned, ap, arith, by_lt_z, floor_div, floors, inl, inr, instant_of, ints, of_secs}
 use Rattle.zoned_time.proofs.Words.{option_map, pos, refl, subst, sym, ℤ, ◌*ℤ◌, ◌+ℤ◌, ◌-ℤ◌, ◌<ℤ◌, ◌∙◌, ◌≡◌, ◌≤ℤ◌}
 
 -- ---- days
@@ -37,11 +37,11 @@ day_of_told law first last u day found inside is h =
     told_of law first last u (floor_div (u +ℤ law.off u) 86_400) found (on_own_day law.off u (omega (arith, ints, inside), omega (arith, ints, inside))) (subst (λ n. DayTold law first last n found) is h)
 
 -- ---- the first instant at or after a local time
-pub to_reached : (off : ℤ → ℤ) (l q : Reading) → ShowsAtOrAfter off l q → HasReached off l.s q.s
+pub to_reached : (off : ℤ → ℤ) (l q : Reading) → IsInstantFrom off l q → HasReached off l.s q.s
 to_reached off l q h = record { in_zone = h.in_zone; reached = by_lt_z (q.s +ℤ off q.s) l.s (λ less. absurd (h.not_before (inl less))) (λ m. m) }
 
 -- clocks show the second of the local time then: its nanoseconds are kept
-pub first_exact : (off : ℤ → ℤ) (l : Reading) (u : ℤ) → IsFirstToReach off l.s u → (u +ℤ off u) ≡ l.s → IsFirstAtOrAfter off l (record { s = u; f = l.f })
+pub first_exact : (off : ℤ → ℤ) (l : Reading) (u : ℤ) → IsFirstToReach off l.s u → (u +ℤ off u) ≡ l.s → IsFirstInstantFrom off l (record { s = u; f = l.f })
 first_exact off l u h same = record {
   shown = record {
     in_zone = h.reached.in_zone;
@@ -57,7 +57,7 @@ first_exact off l u h same = record {
 }
 
 -- they show a later second
-pub first_later : (off : ℤ → ℤ) (l : Reading) (u : ℤ) → IsFirstToReach off l.s u → l.s <ℤ (u +ℤ off u) → IsFirstAtOrAfter off l (of_secs u 0)
+pub first_later : (off : ℤ → ℤ) (l : Reading) (u : ℤ) → IsFirstToReach off l.s u → l.s <ℤ (u +ℤ off u) → IsFirstInstantFrom off l (of_secs u 0)
 first_later off l u h later = record {
   shown = record {
     in_zone = h.reached.in_zone;
@@ -73,13 +73,14 @@ first_later off l u h later = record {
 }
 
 -- the local time has no nanoseconds, as a midnight
-pub first_whole : (off : ℤ → ℤ) (l : Reading) (u : ℤ) → l.f ≡ 0 → IsFirstToReach off l.s u → IsFirstAtOrAfter off l (of_secs u 0)
+pub first_whole : (off : ℤ → ℤ) (l : Reading) (u : ℤ) → l.f ≡ 0 → IsFirstToReach off l.s u → IsFirstInstantFrom off l (of_secs u 0)
 first_whole off l u zero h = by_lt_z l.s (u +ℤ off u)
     (λ later. first_later off l u h later)
-    (λ not. let reached = h.reached.reached in subst (λ f. IsFirstAtOrAfter off l (record { s = u; f = f })) zero (first_exact off l u h (omega (arith, ints))))
+    (λ not. let reached = h.reached.reached in subst (λ f. IsFirstInstantFrom off l (record { s = u; f = f })) zero
+    (first_exact off l u h (omega (arith, ints))))
 
 -- in any case it comes at that second
-first_at : (off : ℤ → ℤ) (l : Reading) (u : ℤ) → IsFirstToReach off l.s u → (r : Reading) × IsFirstAtOrAfter off l r × (r.s ≡ u)
+first_at : (off : ℤ → ℤ) (l : Reading) (u : ℤ) → IsFirstToReach off l.s u → (r : Reading) × IsFirstInstantFrom off l r × (r.s ≡ u)
 first_at off l u h = by_lt_z l.s (u +ℤ off u)
     (λ later. (of_secs u 0, first_later off l u h later, refl))
     (λ not. let reached = h.reached.reached in (record { s = u; f = l.f }, first_exact off l u h (omega (arith, ints)), refl))
@@ -96,7 +97,7 @@ told_exact law l u seconds o told (Some d) h inside at ahead shown is =
     let back : u ≡ l.s -ℤ seconds o = omega (arith, ints) in
     let there : (u +ℤ law.off u) ≡ l.s = ap (λ k. u +ℤ k) (sym ahead) ∙ shown in
     subst (IsZonedAtOrAfter law l) (sym is.1) (record {
-      first = subst (λ v. IsFirstAtOrAfter law.off l (record { s = v; f = l.f })) back (first_exact law.off l u h there);
+      first = subst (λ v. IsFirstInstantFrom law.off l (record { s = v; f = l.f })) back (first_exact law.off l u h there);
       offset = subst (λ v. IsOffsetAt law v o) back at;
     })
 
@@ -105,7 +106,7 @@ pub told_later : {O : Type 0} {m : Meaning O} (law : Law m) (l : Reading) (u : �
 told_later law l u d h at differs =
     let reached = h.reached.reached in
     let later : l.s <ℤ (u +ℤ law.off u) = by_lt_z l.s (u +ℤ law.off u) (λ less. less) (λ not. absurd (differs (omega (arith, ints)))) in
-    record { first = subst (IsFirstAtOrAfter law.off l) (sym at.utc) (first_later law.off l u h later); offset = at.offset }
+    record { first = subst (IsFirstInstantFrom law.off l) (sym at.utc) (first_later law.off l u h later); offset = at.offset }
 
 -- ---- a zone whose clocks are never set
 fixed_first : {O : Type 0} {m : Meaning O} (law : Law m) (l noon u : ℤ) → IsFixed law → IsZoneSecond noon → IsZoneSecond u → u +ℤ law.off noon ≡ l → IsFirstToReach law.off l u

@@ -1,7 +1,8 @@
 -- What zones of the same law give, and zones of the same offsets in seconds.
 use Rattle.offset_core.specs.declared.local_result.LocalResult.TheVariants.{Ambiguous, None, Single}
 use Rattle.zoned_time.proofs.Words.{AreOffsetsFor, Each, IsAt, IsInRange, IsOffsetAt, IsRelocal, IsWallAnswer, IsZoneSecond, Law, LocalResult, Meaning, Reading}
-use Rattle.zoned_time.proofs.Words.{SameLaw, SameOffsets, Shows, Zoned, arith, home_law, ints, map_of, refl, seconds_alone, subst, sym, ℤ, ◌+ℤ◌, ◌-ℤ◌, ◌∙◌, ◌≡◌}
+use Rattle.zoned_time.proofs.Words.{SameLaw, SameOffsets, ShowsByOffset, Zoned, arith, home_law, ints, map_of, refl, seconds_alone, subst, sym, ℤ, ◌+ℤ◌, ◌-ℤ◌}
+use Rattle.zoned_time.proofs.Words.{◌∙◌, ◌≡◌}
 
 -- a law is the same as itself, and as what is the same as the same
 pub same_itself : {O : Type 0} {m : Meaning O} (law : Law m) → SameLaw law law
@@ -31,11 +32,11 @@ pub at_home : {O : Type 0} {m : Meaning O} (law home : Law m) (r : Reading) (d :
 at_home law home r d same range at =
     record { utc = at.utc; offset = offset_home law home d.utc.s d.offset same (subst (λ k. IsInRange k.s) (sym at.utc) range) at.offset }
 
-shows_home : (off home : ℤ → ℤ) (l u k : ℤ) → SameOffsets off home → Shows off l u k → Shows home l u k
+shows_home : (off home : ℤ → ℤ) (l u k : ℤ) → SameOffsets off home → ShowsByOffset off l u k → ShowsByOffset home l u k
 shows_home off home l u k same s = record { in_zone = s.in_zone; offset = s.offset ∙ same u s.in_zone; shown = s.shown }
 
 wall_home : (off home : ℤ → ℤ) (l : ℤ) (answer : LocalResult ℤ)
-    → SameOffsets off home → IsWallAnswer (Shows off l) answer → IsWallAnswer (Shows home l) answer
+    → SameOffsets off home → IsWallAnswer (ShowsByOffset off l) answer → IsWallAnswer (ShowsByOffset home l) answer
 wall_home off home l None same wall = λ u k s. wall u k (shows_home home off l u k (λ v zone. sym (same v zone)) s)
 wall_home off home l (Single a) same wall = record {
   second = wall.second;
@@ -60,13 +61,13 @@ each_home law home (Ambiguous a b) same h = (same_through h.0 same, same_through
 
 -- an offset that is in force at the second that shows l by it
 in_force_home : {O : Type 0} {m : Meaning O} (law home : Law m) (l u : ℤ) (o : O) → SameLaw law home
-    → Shows law.off l u (m.seconds o) → law.in_force (l -ℤ m.seconds o) o → home.in_force (l -ℤ m.seconds o) o
+    → ShowsByOffset law.off l u (m.seconds o) → law.in_force (l -ℤ m.seconds o) o → home.in_force (l -ℤ m.seconds o) o
 in_force_home {m = m} law home l u o same shows h =
     let second : l -ℤ m.seconds o ≡ u = let shown : u +ℤ m.seconds o ≡ l = shows.shown in omega (arith, ints) in
     (same.in_force (l -ℤ m.seconds o) (rw second shows.in_zone) o).0 h
 
 each_in_force : {O : Type 0} {m : Meaning O} (law home : Law m) (l : ℤ) (offsets : LocalResult O) → SameLaw law home
-    → IsWallAnswer (Shows law.off l) (map_of m.seconds offsets)
+    → IsWallAnswer (ShowsByOffset law.off l) (map_of m.seconds offsets)
     → Each (λ o. law.in_force (l -ℤ m.seconds o) o) offsets → Each (λ o. home.in_force (l -ℤ m.seconds o) o) offsets
 each_in_force law home l None same wall h = tt
 each_in_force law home l (Single a) same wall h = in_force_home law home l wall.second a same wall.shown h
@@ -107,7 +108,7 @@ at_seconds law other r d same range at =
 
 -- an offset of a second that shows l is the one at that second
 there_seconds : {O : Type 0} {m : Meaning O} (law other : Law m) (l u : ℤ) (o : O) → SameOffsets law.off other.off
-    → Shows law.off l u (m.seconds o) → m.seconds o ≡ other.off (l -ℤ m.seconds o)
+    → ShowsByOffset law.off l u (m.seconds o) → m.seconds o ≡ other.off (l -ℤ m.seconds o)
 there_seconds {m = m} law other l u o same shows =
     let second : l -ℤ m.seconds o ≡ u = let shown : u +ℤ m.seconds o ≡ l = shows.shown in omega (arith, ints) in
     rw second (shows.offset ∙ same u shows.in_zone)

@@ -2,8 +2,8 @@
 use Rattle.offset_core.specs.declared.local_result.LocalResult.TheVariants.{Ambiguous, None as none, Single}
 use Rattle.naive_base.specs.NaiveDateTime.{day_shown_by}
 use Rattle.zoned_time.proofs.Words.{AreInstantsOf, HasOneValue, IsGiven, IsMonthsLater, IsOnly, IsOnlyWhere, IsReadingOnDay, IsRelocal, IsSome, Law}
-use Rattle.zoned_time.proofs.Words.{LocalResult, Meaning, None, Option, Reading, Shows, Some, SomeIff, Zoned, all_or_none, ap, day_at, in_seconds, map_all}
-use Rattle.zoned_time.proofs.Words.{map_of, one_wall_answer, option_map, reading_at, refl, second_at, single_of, subst, sym, ℤ, ◌∙◌, ◌≡◌}
+use Rattle.zoned_time.proofs.Words.{LocalResult, Meaning, None, Option, Reading, ShowsByOffset, Some, SomeIff, Zoned, all_or_none, ap, day_at, in_seconds}
+use Rattle.zoned_time.proofs.Words.{map_all, map_of, one_wall_answer, option_map, reading_at, refl, second_at, single_of, subst, sym, ℤ, ◌∙◌, ◌≡◌}
 
 -- one value at most is given where p holds
 given_once : {T : Type 0} (a b : Option T) (p : Type 0) (v : T) → SomeIff a p v → SomeIff b p v → a ≡ b
@@ -43,7 +43,7 @@ instants_once seconds l (Ambiguous o p) a b h k =
     let last = given_once h.asked.1 k.asked.1 _ _ h.asked.5 k.asked.5 in
     rw (h.kept, h.asked.6, k.kept, k.asked.6) (ap (λ x. all_or_none (Ambiguous x h.asked.1)) first ∙ ap (λ y. all_or_none (Ambiguous k.asked.0 y)) last)
 
-pub offsets_once : (off : ℤ → ℤ) (l : ℤ) → HasOneValue (Shows off l)
+pub offsets_once : (off : ℤ → ℤ) (l : ℤ) → HasOneValue (ShowsByOffset off l)
 offsets_once off l u a b x y = x.offset ∙ sym y.offset
 
 -- what a zone gives for a wall clock is determined
@@ -51,7 +51,7 @@ pub relocal_once : {O : Type 0} {m : Meaning O} (law : Law m) (l : Reading) (a b
     → IsRelocal law l a → IsRelocal law l b → map_of (in_seconds m.seconds) a ≡ map_of (in_seconds m.seconds) b
 relocal_once {m = m} law l a b h k =
     let same : map_of m.seconds h.offsets ≡ map_of m.seconds k.offsets =
-    one_wall_answer (Shows law.off l.s) (offsets_once law.off l.s) _ _ h.wall.wall k.wall.wall in
+    one_wall_answer (ShowsByOffset law.off l.s) (offsets_once law.off l.s) _ _ h.wall.wall k.wall.wall in
     instants_once (λ s. s) l (map_of m.seconds k.offsets) _ _
     (rw (← same) (told_in_seconds m.seconds l h.offsets a h.instants)) (told_in_seconds m.seconds l k.offsets b k.instants)
 

@@ -1,8 +1,8 @@
 -- What a zone gives for a wall clock, and what a choice takes, is determined.
 use Rattle.offset_core.specs.declared.local_result.LocalResult.TheVariants.{Ambiguous, None, Single}
 use Rattle.zoned_time.proofs.Words.{Choice, Err, IsAt, IsBeforeGap, IsInRange, IsRelocal, IsResolved, IsTaken, IsUnresolved, Law, LocalResult, Meaning, Ok}
-use Rattle.zoned_time.proofs.Words.{Reading, ResolveError, Result, Shows, Taken, Takes, Zoned, ap, arith, behind, in_seconds, ints, map_of, offset_taken}
-use Rattle.zoned_time.proofs.Words.{one_outcome, out_of_range, pos, refl, refused, subst, sym, ℤ, ◌-ℤ◌, ◌∙◌, ◌≡◌}
+use Rattle.zoned_time.proofs.Words.{Reading, ResolveError, Result, ShowsByOffset, Taken, Takes, Zoned, ap, arith, behind, in_seconds, ints, map_of}
+use Rattle.zoned_time.proofs.Words.{offset_taken, one_outcome, out_of_range, pos, refl, refused, subst, sym, ℤ, ◌-ℤ◌, ◌∙◌, ◌≡◌}
 use Rattle.zoned_time.proofs.Instants.{offsets_once, relocal_once}
 
 -- by seconds that agree
@@ -30,9 +30,9 @@ one_before_gap off l j k a b =
     a.before ∙ ap (λ u. off (u -ℤ pos 1)) same ∙ sym b.before
 
 -- what a choice takes
-pub one_taken : (off : ℤ → ℤ) (l : ℤ) (choice : Choice) (a b : Result (Taken ℤ ℤ) ResolveError) → Takes (Shows off l) (IsBeforeGap off l) choice a
-    → Takes (Shows off l) (IsBeforeGap off l) choice b → a ≡ b
-one_taken off l choice = one_outcome (Shows off l) (IsBeforeGap off l) (offsets_once off l) (λ k gap. gap.never) (one_before_gap off l) choice
+pub one_taken : (off : ℤ → ℤ) (l : ℤ) (choice : Choice) (a b : Result (Taken ℤ ℤ) ResolveError) → Takes (ShowsByOffset off l) (IsBeforeGap off l) choice a
+    → Takes (ShowsByOffset off l) (IsBeforeGap off l) choice b → a ≡ b
+one_taken off l choice = one_outcome (ShowsByOffset off l) (IsBeforeGap off l) (offsets_once off l) (λ k gap. gap.never) (one_before_gap off l) choice
 
 pub taken_once : (off : ℤ → ℤ) (l : ℤ) (choice : Choice) (j k : ℤ) → IsTaken off l choice j → IsTaken off l choice k → j ≡ k
 taken_once off l choice j k p q =
@@ -41,7 +41,7 @@ taken_once off l choice j k p q =
     p.offset ∙ ap offset_taken same ∙ sym q.offset
 
 taken_or_refused : (off : ℤ → ℤ) (l : ℤ) (choice : Choice) (k : ℤ) (e : ResolveError) → IsTaken off l choice k
-    → Takes (Shows off l) (IsBeforeGap off l) choice (Err e) → ⊥
+    → Takes (ShowsByOffset off l) (IsBeforeGap off l) choice (Err e) → ⊥
 taken_or_refused off l choice k e p q = let one = one_taken off l choice (Ok p.taken) (Err e) p.takes q in cc
 
 at_told : {O : Type 0} {m : Meaning O} (law : Law m) (r : Reading) (d : Zoned O) → IsAt law r d

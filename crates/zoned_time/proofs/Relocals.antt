@@ -1,9 +1,9 @@
 -- Readings brought back to UTC by clocks whose offset never changes.
 use Rattle.offset_core.specs.declared.local_result.LocalResult.TheVariants.{Ambiguous, None as none, Single}
 use Rattle.zoned_time.proofs.Words.{AreInstantsOf, AreOffsetsFor, Each, HasInstant, IsAndThen, IsAt, IsFixed, IsInRange, IsOffsetAt, IsRelocal, IsShownBetween}
-use Rattle.zoned_time.proofs.Words.{IsSome, IsWallAnswer, IsZoneSecond, Law, LocalResult, Meaning, None, Option, Reading, SameLaw, Shows, SingleIff, Some}
-use Rattle.zoned_time.proofs.Words.{SomeIff, Utc, Zoned, all_or_none, and_then_told, ap, arith, home_law, in_utc, inl, inr, instant_of, ints, local_of, map_of}
-use Rattle.zoned_time.proofs.Words.{option_map, pos, refl, single_of, subst, sym, ℤ, ◌+ℤ◌, ◌-ℤ◌, ◌∙◌, ◌≡◌, ◌⊎◌}
+use Rattle.zoned_time.proofs.Words.{IsSome, IsWallAnswer, IsZoneSecond, Law, LocalResult, Meaning, None, Option, Reading, SameLaw, ShowsByOffset, SingleIff}
+use Rattle.zoned_time.proofs.Words.{Some, SomeIff, Utc, Zoned, all_or_none, and_then_told, ap, arith, home_law, in_utc, inl, inr, instant_of, ints, local_of}
+use Rattle.zoned_time.proofs.Words.{map_of, option_map, pos, refl, single_of, subst, sym, ℤ, ◌+ℤ◌, ◌-ℤ◌, ◌∙◌, ◌≡◌, ◌⊎◌}
 
 -- one offset gives one instant, or none
 single_kept : {T : Type 0} (a : Option T) (p : Type 0) (v : T) → SomeIff a p v → SingleIff (all_or_none (Single a)) p v
@@ -16,7 +16,7 @@ single_instant seconds l o answer h =
     rw (h.kept, h.asked.3) (single_kept h.asked.0 (HasInstant seconds l o) (instant_of seconds l o) h.asked.2)
 
 -- two seconds can't show the same
-not_between : {O : Type 0} {m : Meaning O} (law : Law m) (l a b : ℤ) → IsFixed law → IsShownBetween (Shows law.off l) a b → ⊥
+not_between : {O : Type 0} {m : Meaning O} (law : Law m) (l a b : ℤ) → IsFixed law → IsShownBetween (ShowsByOffset law.off l) a b → ⊥
 not_between law l a b fixed between =
     let first : a ≡ law.off between.first = between.at_first.offset in
     let last : b ≡ law.off between.last = between.at_last.offset in
@@ -30,7 +30,7 @@ epoch_in_zone = (omega (arith, ints), omega (arith, ints))
 
 -- and a second in range shows its reading
 shown_in_range : {O : Type 0} {m : Meaning O} (law : Law m) (l : ℤ) → IsFixed law → IsInRange (l -ℤ law.off (pos 0))
-    → Shows law.off l (l -ℤ law.off (pos 0)) (law.off (pos 0))
+    → ShowsByOffset law.off l (l -ℤ law.off (pos 0)) (law.off (pos 0))
 shown_in_range law l fixed range =
     let inside : IsZoneSecond (l -ℤ law.off (pos 0)) = (omega (arith, ints, range), omega (arith, ints, range)) in
     record { in_zone = inside; offset = fixed (pos 0) (l -ℤ law.off (pos 0)) epoch_in_zone inside; shown = omega (arith, ints) }
@@ -42,7 +42,7 @@ GivenOnce {O} {m} law l answer =
     ⊎ ((IsInRange (l.s -ℤ law.off (pos 0)) → ⊥) × (answer ≡ none))
 
 given_once : {O : Type 0} {m : Meaning O} (law : Law m) (l : Reading) (offsets : LocalResult O) (answer : LocalResult (Zoned O)) → IsFixed law
-    → IsWallAnswer (Shows law.off l.s) (map_of m.seconds offsets) → AreInstantsOf m.seconds l offsets answer → GivenOnce law l answer
+    → IsWallAnswer (ShowsByOffset law.off l.s) (map_of m.seconds offsets) → AreInstantsOf m.seconds l offsets answer → GivenOnce law l answer
 given_once law l none answer fixed wall instants =
     inr (λ range. wall (l.s -ℤ law.off (pos 0)) (law.off (pos 0)) (shown_in_range law l.s fixed range), rw (instants.kept, instants.asked) refl)
 given_once {m = m} law l (Single o) answer fixed wall instants =
@@ -86,7 +86,7 @@ utc_instant l answer h =
 
 -- an instant of an offset that a zone gives at the second u for the wall clock l
 pub at_shown : {O : Type 0} {m : Meaning O} (law : Law m) (l : Reading) (o : O) (d : Zoned O) (u : ℤ)
-    → Shows law.off l.s u (m.seconds o) → law.in_force (l.s -ℤ m.seconds o) o → SameLaw (home_law m o) law → d ≡ instant_of m.seconds l o
+    → ShowsByOffset law.off l.s u (m.seconds o) → law.in_force (l.s -ℤ m.seconds o) o → SameLaw (home_law m o) law → d ≡ instant_of m.seconds l o
     → (local_of m.seconds d ≡ l) × IsAt law d.utc d
 at_shown {O} {m} law l o d u shows in_force same is =
     let Good : Zoned O → Type 0 = λ e. (local_of m.seconds e ≡ l) × IsAt law e.utc e in
@@ -108,7 +108,7 @@ two_kept G (Some d) None p q v w h i g j = tt
 two_kept G None b p q v w h i g j = tt
 
 instants_shown : {O : Type 0} {m : Meaning O} (law : Law m) (l : Reading) (offsets : LocalResult O) (answer : LocalResult (Zoned O))
-    → IsWallAnswer (Shows law.off l.s) (map_of m.seconds offsets) → Each (λ o. law.in_force (l.s -ℤ m.seconds o) o) offsets
+    → IsWallAnswer (ShowsByOffset law.off l.s) (map_of m.seconds offsets) → Each (λ o. law.in_force (l.s -ℤ m.seconds o) o) offsets
     → Each (λ o. SameLaw (home_law m o) law) offsets → AreInstantsOf m.seconds l offsets answer
     → Each (λ d. (local_of m.seconds d ≡ l) × IsAt law d.utc d) answer
 instants_shown law l none answer wall there same h = rw (h.kept, h.asked) tt

@@ -6,7 +6,7 @@ pub use Rattle.std.specs.declared.fmt.Error.{Error}
 pub use Rattle.std.specs.declared.fmt.Formatter.{Formatter}
 pub use Rattle.offset_core.proofs.ForCallers.{HasOneValue, HoldsOfTaken, and_then_told, map_all, map_outcome, map_taken, one_offset, one_outcome}
 pub use Rattle.offset_core.proofs.ForCallers.{one_wall_answer, taken_holds, taken_of_images}
-pub use Rattle.offset_core.specs.Around.{HoldsOfEach, Takes, taken_of}
+pub use Rattle.offset_core.specs.Around.{HoldsOfEachAround, Takes, taken_of}
 pub use Rattle.offset_core.specs.FixedOffset.{seconds_of}
 pub use Rattle.offset_core.specs.LocalResult.{IsAndThen, all_or_none, map_of, single_of}
 pub use Rattle.offset_core.specs.Offset.{IsWithinDay}
@@ -31,14 +31,14 @@ pub use Rattle.naive_base.specs.Stamp.{of_secs}
 pub use Rattle.naive_base.specs.declared.date.NaiveDate.{NaiveDate}
 pub use Rattle.zoned_time.specs.Choice.{AreOffsetsAround, IsBeforeGap, IsOffsetBeforeGap, IsResolved, IsTaken, IsUnresolved}
 pub use Rattle.zoned_time.specs.Choice.{offset_taken, out_of_range, refused}
-pub use Rattle.zoned_time.specs.DateTime.{day_shown_by, home_of, wall_of, zoned}
-pub use Rattle.zoned_time.specs.DayEnds.{AreStartsOfDays, HasNoEnd, IsEndOfDay, IsGapEnd, IsZonedEnd, NonePassed, first_of_month, first_of_year}
-pub use Rattle.zoned_time.specs.Days.{AreEndsOfDay, AreInstantsOfDay, HasReached, IsFirstAtOrAfter, IsFirstOutOfRange, IsFirstToReach, IsInDay, IsNeverOnDay}
-pub use Rattle.zoned_time.specs.Days.{IsNoDay, IsOnDay, IsZonedAtOrAfter, ShowsAtOrAfter, midnight}
+pub use Rattle.zoned_time.specs.DateTime.{day_shown_by, home_law_of, wall_of, zoned}
+pub use Rattle.zoned_time.specs.DayEnds.{AreStartsOfDays, HasNoEnd, IsEndOfDay, IsGapEnd, IsZonedEnd, NonePassed, first_day_of_year, first_of_month}
+pub use Rattle.zoned_time.specs.Days.{AreEndsOfDay, AreInstantsOfDay, HasReached, IsFirstInstantFrom, IsFirstOutOfRange, IsFirstToReach, IsInDay, IsInstantFrom}
+pub use Rattle.zoned_time.specs.Days.{IsNeverOnDay, IsNoDay, IsOnDay, IsZonedAtOrAfter, midnight}
 pub use Rattle.zoned_time.specs.Fields.{IsOnly, IsOnlyWhere}
 pub use Rattle.zoned_time.specs.Relocal.{AreInstantsOf, HasInstant, IsRelocal, SingleIff, instant_of}
 pub use Rattle.zoned_time.specs.Stamps.{in_utc}
-pub use Rattle.zoned_time.specs.Zone.{AreOffsetsFor, Each, IsFixed, IsOffsetAt, IsZoneSecond, Law, Meaning, SameLaw, SameOffsets, Shows, home_law}
+pub use Rattle.zoned_time.specs.Zone.{AreOffsetsFor, Each, IsFixed, IsOffsetAt, IsZoneSecond, Law, Meaning, SameLaw, SameOffsets, ShowsByOffset, home_law}
 pub use Rattle.zoned_time.specs.Zone.{law_by_seconds, meaning_by_seconds, seconds_alone}
 pub use Rattle.zoned_time.specs.Zoned.{IsAt, Zoned, in_seconds, local_of, shown}
 pub use Rattle.offset_core.specs.declared.resolve_error.ResolveError.{ResolveError}

@@ -12,12 +12,12 @@ use Rattle.offset_core.specs.declared.resolve_error.ResolveError.TheVariants.{Ou
 use Rattle.naive_base.specs.Range.{IsInRange}
 use Rattle.naive_base.specs.Reading.{Reading, behind}
 use Rattle.offset_core.specs.declared.local_result.LocalResult.TheVariants.{Single as Once, Ambiguous as Twice}
-use Rattle.zoned_time.specs.Zone.{Meaning, Law, home_law, IsZoneSecond, SameLaw, Shows, AreOffsetsFor}
+use Rattle.zoned_time.specs.Zone.{Meaning, Law, home_law, IsZoneSecond, SameLaw, ShowsByOffset, AreOffsetsFor}
 use Rattle.zoned_time.specs.Zoned.{Zoned, IsAt}
 
 -- No clock shows l, `first` is the first second at which one shows more, and k is the offset at the second before it.
 pub record IsBeforeGap (off : ℤ → ℤ) (l k : ℤ) : Type 0 where
-  pub never : IsNeverShown (Shows off l)
+  pub never : IsNeverShown (ShowsByOffset off l)
   pub first : ℤ
   pub in_zone : IsZoneSecond first × IsZoneSecond (first -ℤ pos 1)
   pub more : l <ℤ (first +ℤ off first)
@@ -28,7 +28,7 @@ pub record IsBeforeGap (off : ℤ → ℤ) (l k : ℤ) : Type 0 where
 abbrev pub IsOffsetBeforeGap : {O : Type 0} {m : Meaning O} → Law m → ℤ → Option O → Type 0
 IsOffsetBeforeGap {m = m} law l (Some o) =
     (gap : IsBeforeGap law.off l (m.seconds o)) × law.in_force (gap.first -ℤ pos 1) o × SameLaw (home_law m o) law
-IsOffsetBeforeGap law l None = (u : ℤ) × (k : ℤ) × Shows law.off l u k
+IsOffsetBeforeGap law l None = (u : ℤ) × (k : ℤ) × ShowsByOffset law.off l u k
 
 -- the offsets that a zone gives for the wall clock l, or the one before the gap
 abbrev pub AreOffsetsAround : {O : Type 0} {m : Meaning O} → Law m → ℤ → Around O O → Type 0
@@ -45,7 +45,7 @@ offset_taken (InGap k) = k
 -- of the last; in a gap the one before it
 pub record IsTaken (off : ℤ → ℤ) (l : ℤ) (choice : Choice) (k : ℤ) : Type 0 where
   pub taken : Taken ℤ ℤ
-  pub takes : Takes (Shows off l) (IsBeforeGap off l) choice (Ok taken)
+  pub takes : Takes (ShowsByOffset off l) (IsBeforeGap off l) choice (Ok taken)
   pub offset : k ≡ offset_taken taken
 
 -- the instant of the reading l under a choice: the offset is the zone's own there, which in a gap is the one after it
@@ -57,5 +57,5 @@ pub record IsResolved {O : Type 0} {m : Meaning O} (law : Law m) (l : Reading) (
 
 -- why there is none: the choice takes nothing of l, or what it takes is out of range
 pub data IsUnresolved (off : ℤ → ℤ) (l : ℤ) (choice : Choice) (e : ResolveError) : Type 0 where
-  refused : Takes (Shows off l) (IsBeforeGap off l) choice (Err e) → IsUnresolved off l choice e
+  refused : Takes (ShowsByOffset off l) (IsBeforeGap off l) choice (Err e) → IsUnresolved off l choice e
   out_of_range : (k : ℤ) → IsTaken off l choice k → ¬ (IsInRange (l -ℤ k)) → e ≡ OutOfRange → IsUnresolved off l choice e

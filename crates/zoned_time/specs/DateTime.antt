@@ -19,8 +19,8 @@ abbrev pub wall_of : {Tz O : Type 0} {f : offset.Ghosts O} {g : debug.Ghosts O} 
 wall_of {f = f} d = local_of f.seconds (zoned d)
 
 -- the law of the zone that its offset came from, which need not be the zone's offset at that instant
-abbrev pub home_of : {Tz O : Type 0} {f : offset.Ghosts O} {g : debug.Ghosts O} (m : Meaning O) → Instant Tz O f g → Law m
-home_of m d = home_law m (zoned d).offset
+abbrev pub home_law_of : {Tz O : Type 0} {f : offset.Ghosts O} {g : debug.Ghosts O} (m : Meaning O) → Instant Tz O f g → Law m
+home_law_of m d = home_law m (zoned d).offset
 
 -- its offset is one that a zone gives at that instant
 abbrev pub IsIn : {Tz O : Type 0} {f : offset.Ghosts O} {g : debug.Ghosts O} {m : Meaning O} → Law m → Instant Tz O f g → Type 0
@@ -32,7 +32,7 @@ CanMove d by = IsInRange (moved (zoned d).utc by).s
 
 -- the instant then, with the offset of that zone
 abbrev pub IsMoved : {Tz O : Type 0} {f : offset.Ghosts O} {g : debug.Ghosts O} (m : Meaning O) → Instant Tz O f g → ℤ → Instant Tz O f g → Type 0
-IsMoved m d by new = IsAt (home_of m d) (moved (zoned d).utc by) (zoned new)
+IsMoved m d by new = IsAt (home_law_of m d) (moved (zoned d).utc by) (zoned new)
 
 -- the instant of another reading of UTC, with the same offset
 abbrev pub IsSetTo : {Tz O : Type 0} {f : offset.Ghosts O} {g : debug.Ghosts O} → Instant Tz O f g → Reading → Instant Tz O f g → Type 0
@@ -47,12 +47,12 @@ day_shown_by d = day_at (wall_of d)
 abbrev pub IsOnlyOnDay : {Tz O : Type 0} {f : offset.Ghosts O} {g : debug.Ghosts O} (m : Meaning O)
     → Instant Tz O f g → Option ℤ → Option (Instant Tz O f g) → Type 0
 IsOnlyOnDay m d day new =
-    let l = wall_of d in IsOnlyWhere (home_of m d) (option_map (λ n. reading_at n (second_at l) l.f) day) (option_map (λ e. zoned e) new)
+    let l = wall_of d in IsOnlyWhere (home_law_of m d) (option_map (λ n. reading_at n (second_at l) l.f) day) (option_map (λ e. zoned e) new)
 
 -- the only instant at which they show the time given, on the day that this clock shows
 abbrev pub IsOnlyAtTime : {Tz O : Type 0} {f : offset.Ghosts O} {g : debug.Ghosts O} (m : Meaning O)
     → Instant Tz O f g → Option TimeOfDay → Option (Instant Tz O f g) → Type 0
-IsOnlyAtTime m d time new = IsOnlyWhere (home_of m d) (option_map (reading_on (day_at (wall_of d))) time) (option_map (λ e. zoned e) new)
+IsOnlyAtTime m d time new = IsOnlyWhere (home_law_of m d) (option_map (reading_on (day_at (wall_of d))) time) (option_map (λ e. zoned e) new)
 
 -- the only instant at which they show that time so many months later, or earlier for a negative number
 abbrev pub IsOnlyMonthsLater : {Tz O : Type 0} {f : offset.Ghosts O} {g : debug.Ghosts O} (m : Meaning O)

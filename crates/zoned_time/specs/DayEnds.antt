@@ -58,5 +58,5 @@ pub record IsFirstOfWeek (weekday : ℕ) (day first : ℤ) : Type 0 where
 abbrev pub first_of_month : ℤ → ℤ
 first_of_month day = day_number (year_of day) (month_of day) 1
 
-abbrev pub first_of_year : ℤ → ℤ
-first_of_year day = year_start (year_of day)
+abbrev pub first_day_of_year : ℤ → ℤ
+first_day_of_year day = year_start (year_of day)

@@ -44,22 +44,22 @@ pub record IsFirstToReach (off : ℤ → ℤ) (l u : ℤ) : Type 0 where
   pub first : (v : ℤ) → HasReached off l v → u ≤ℤ v
 
 -- at the instant r, at a second at which zones have offsets, the clocks show the local time l or a later one
-pub record ShowsAtOrAfter (off : ℤ → ℤ) (l r : Reading) : Type 0 where
+pub record IsInstantFrom (off : ℤ → ℤ) (l r : Reading) : Type 0 where
   pub in_zone : IsZoneSecond r.s
   pub not_before : ¬ (IsEarlier (ahead r (off r.s)) l)
 
 -- r is the first such instant
-pub record IsFirstAtOrAfter (off : ℤ → ℤ) (l r : Reading) : Type 0 where
-  pub shown : ShowsAtOrAfter off l r
-  pub first : (q : Reading) → ShowsAtOrAfter off l q → ¬ (IsEarlier q r)
+pub record IsFirstInstantFrom (off : ℤ → ℤ) (l r : Reading) : Type 0 where
+  pub shown : IsInstantFrom off l r
+  pub first : (q : Reading) → IsInstantFrom off l q → ¬ (IsEarlier q r)
 
 -- that instant is out of range
 abbrev pub IsFirstOutOfRange : (ℤ → ℤ) → Reading → Type 0
-IsFirstOutOfRange off l = (r : Reading) × IsFirstAtOrAfter off l r × (IsInRange r.s → ⊥)
+IsFirstOutOfRange off l = (r : Reading) × IsFirstInstantFrom off l r × (IsInRange r.s → ⊥)
 
 -- the first instant of a zone at or after l, with the offset that the zone gives then
 pub record IsZonedAtOrAfter {O : Type 0} {m : Meaning O} (law : Law m) (l : Reading) (d : Zoned O) : Type 0 where
-  pub first : IsFirstAtOrAfter law.off l d.utc
+  pub first : IsFirstInstantFrom law.off l d.utc
   pub offset : IsOffsetAt law d.utc.s d.offset
 
 -- the midnight that begins a day
@@ -70,7 +70,7 @@ midnight day = reading_at day 0 0
 pub record IsInDay (off : ℤ → ℤ) (day : ℤ) (r : Reading) : Type 0 where
   pub start : Reading
   pub next : Reading
-  pub starts : IsFirstAtOrAfter off (midnight day) start
-  pub ends : IsFirstAtOrAfter off (midnight (day +ℤ pos 1)) next
+  pub starts : IsFirstInstantFrom off (midnight day) start
+  pub ends : IsFirstInstantFrom off (midnight (day +ℤ pos 1)) next
   pub not_before : ¬ (IsEarlier r start)
   pub before : IsEarlier r next

@@ -67,7 +67,7 @@ pub record IsOffsetAt {O : Type 0} {m : Meaning O} (law : Law m) (u : ℤ) (offs
   pub same_home : SameLaw (home_law m offset) law
 
 -- at second u a clock of the zone shows l, and is k seconds ahead of UTC
-pub record Shows (off : ℤ → ℤ) (l u k : ℤ) : Type 0 where
+pub record ShowsByOffset (off : ℤ → ℤ) (l u k : ℤ) : Type 0 where
   pub in_zone : IsZoneSecond u
   pub offset : k ≡ off u
   pub shown : u +ℤ k ≡ l
@@ -81,6 +81,6 @@ Each p (Ambiguous a b) = p a × p b
 -- the offsets that a zone gives for the wall clock l: the one at the only second at which its clocks show l, or those at
 -- the first and at the last of several, each in force when a clock with it shows l
 pub record AreOffsetsFor {O : Type 0} {m : Meaning O} (law : Law m) (l : ℤ) (offsets : LocalResult O) : Type 0 where
-  pub wall : IsWallAnswer (Shows law.off l) (map_of m.seconds offsets)
+  pub wall : IsWallAnswer (ShowsByOffset law.off l) (map_of m.seconds offsets)
   pub in_force : Each (λ o. law.in_force (l -ℤ m.seconds o) o) offsets
   pub same_home : Each (λ o. SameLaw (home_law m o) law) offsets

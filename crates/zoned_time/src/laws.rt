@@ -21,7 +21,7 @@ ghost use Rattle.zoned_time.specs.declared.utc.Utc.{Utc as TheUtc};
 ghost use Rattle.zoned_time.specs.Choice.{IsBeforeGap, IsResolved, IsUnresolved};
 ghost use Rattle.zoned_time.specs.Relocal.{IsRelocal, HasInstant, instant_of, SingleIff};
 ghost use Rattle.zoned_time.specs.Stamps.{millis_of, micros_of, of_millis, of_micros, in_utc};
-ghost use Rattle.zoned_time.specs.DateTime.{zoned, home_of, IsIn, IsOnlyOnDay, IsOnlyAtTime};
+ghost use Rattle.zoned_time.specs.DateTime.{zoned, home_law_of, IsIn, IsOnlyOnDay, IsOnlyAtTime};
 ghost use Rattle.zoned_time.specs.Order.{compared};
 ghost use Rattle.zoned_time.specs.Zone.{Each, SameOffsets, SameLaw, seconds_alone};
 ghost use Rattle.zoned_time.specs.Zoned.{Zoned, local_of, in_seconds, IsAt, IsFixedFrom};
@@ -119,7 +119,7 @@ pub fn local_times_come_back<Tz: TimeZone>()
 /// the zone that the offset came from.
 pub fn in_zone_after_move<Tz: TimeZone>(zone: &Tz, before: &DateTime<Tz>, after: &DateTime<Tz>)
     requires before { IsIn (Tz.law zone.now) before.now }
-    requires after { IsIn (home_of Tz.meaning before.now) after.now }
+    requires after { IsIn (home_law_of Tz.meaning before.now) after.now }
     ensures { IsIn (Tz.law zone.now) after.now }
 {}
 

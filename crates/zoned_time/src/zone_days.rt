@@ -200,7 +200,7 @@ pub trait ZoneDays: TimeZone {
     /// ```
     final fn start_of_year(&self, date: NaiveDate) -> Option<DateTime<Self>>
         ensures { let law = Self.law self.now in
-            let first = ends.first_of_year (day_of date) in
+            let first = ends.first_day_of_year (day_of date) in
             MatchOption result (instants.IsFirstOutOfRange law.off (instants.midnight first))
             (λ d. instants.IsZonedAtOrAfter law (instants.midnight first) (zoned d)) }
     {

@@ -123,7 +123,7 @@ fn draws_over(rt: &HostRuntime, what: What<'_>, files: &[&str]) -> bool {
     false
 }
 
-// Tells each of the files. One that is refused leaves the others as they are.
+// Tells each of the files. One that is rejected leaves the others as they are.
 fn tell_each(rt: &HostRuntime, files: &[&str], asked: Asked<'_>) -> io::Result<u8> {
     let mut status = TOLD;
     for file in files {

@@ -72,7 +72,7 @@ impl Source<'_> {
 
     fn kind(self) -> &'static str {
         match self {
-            Source::Text(_) | Source::Extended(_) => "TZ text",
+            Source::Text(_) | Source::Extended(_) => "TZ string",
             Source::File(_) => "TZif file",
         }
     }
@@ -101,7 +101,7 @@ pub fn tell_text(
     asked: Asked<'_>,
 ) -> io::Result<bool> {
     if let Some(name) = words::escaped(text) {
-        eprintln!(rt; "zonedump: {name}: not a TZ text: not UTF-8")?;
+        eprintln!(rt; "zonedump: {name}: not a TZ string: not UTF-8")?;
         return Ok(false);
     }
     let source = if is_extended {

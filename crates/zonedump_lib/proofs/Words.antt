@@ -8,8 +8,8 @@ pub use Rattle.std.proofs.lemmas.Iterator.{items_from_collect}
 pub use Rattle.std.proofs.lemmas.Iterator.Consumers.{YieldsList-from_first}
 pub use Rattle.std.proofs.lemmas.Result.{IfOk-weaker}
 pub use Rattle.tz_base.specs.declared.change.Change.{Change}
-pub use Rattle.change_views.proofs.CitedWords.{AreYears, IsInYears, IsNearYears, Json, Token, change_value, depth, flat_map, json_tokens, line, on_ok_weaker}
-pub use Rattle.change_views.proofs.CitedWords.{string_bytes, year_second, year_until}
+pub use Rattle.change_views.proofs.CitedWords.{AreYears, IsInYears, IsNearYears, Json, Token, change_value, depth, ended_line, flat_map, json_tokens}
+pub use Rattle.change_views.proofs.CitedWords.{on_ok_weaker, string_bytes, year_second, year_until}
 pub use Rattle.change_views.proofs.ForCallers.{change_shallow, from_first, items_all, items_shallow, piece_next, pushed, puts_then, type_shallow, until_last}
 pub use Rattle.change_views.proofs.ForCallers.{wrote}
 pub use Rattle.tz_info.proofs.Words.{All, AreChanges, Contains-get_or, FitsSigned, List, LocalType, SFits, TypeAt, Zone, ap, append-nil, append_assoc, arith}

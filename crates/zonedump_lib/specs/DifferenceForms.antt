@@ -8,7 +8,7 @@ use Rattle.json.specs.Tree.{json_tokens}
 use Rattle.tz_info.specs.Differences.{AreDifferences}
 use Rattle.tz_info.specs.Zones.{Zone, TypeAt}
 use Rattle.tz_info.specs.declared.zone.differences.Difference.{Difference}
-use Rattle.change_views.specs.ChangeLines.{line}
+use Rattle.change_views.specs.ChangeLines.{ended_line}
 use Rattle.change_views.specs.ChangeValues.{fields, list_value, type_value}
 use Rattle.change_views.specs.Clocks.{clock_words}
 use Rattle.change_views.specs.Spans.{year_second, year_until}
@@ -30,7 +30,7 @@ difference_text d =
 
 -- a line for each difference
 abbrev pub difference_lines : List Difference → List ℕ
-difference_lines ds = flat_map (λ d. line (difference_text d)) ds
+difference_lines ds = flat_map (λ d. ended_line (difference_text d)) ds
 
 -- a difference: its first second and the second after its last one, in Unix time and as UTC shows them, both types, and the seconds by
 -- which clocks move

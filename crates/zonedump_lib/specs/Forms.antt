@@ -1,4 +1,4 @@
--- The forms in which a zone is told, and the zones of files and of TZ texts told in them.
+-- The forms in which a zone is told, and the zones of files and of TZ strings told in them.
 use Rattle.std.specs.Prelude.{◌≡◌, ℕ, ℤ, List, ◌++◌, ◌⊎◌}
 use Rattle.tz_base.specs.Errors.{IsOutOfMemory}
 use Rattle.tz_base.specs.declared.error.Error.{Error}
@@ -15,7 +15,7 @@ abbrev pub IsTold : Form → Zone → ℤ → ℤ → List ℕ → Type 0
 IsTold forms.Table zone first last text = IsTable zone first last text
 IsTold (forms.Zdump name) zone first last text = IsZdump name.now zone first last text
 
--- the zone of a file, and that of a TZ text
+-- the zone of a file, and that of a TZ string
 abbrev pub IsFileTold : Form → List ℕ → ℤ → ℤ → List ℕ → Type 0
 IsFileTold form bytes first last text = (zone : Zone) × IsTzFile bytes zone × IsValid zone × IsTold form zone first last text
 
@@ -23,8 +23,8 @@ abbrev pub IsTextTold : Form → List ℕ → ℤ → ℤ → List ℕ → Type 
 IsTextTold form tz first last text = (zone : Zone) × IsPosixZone tz zone × IsTold form zone first last text
 
 -- a text is told after what was there before
-abbrev pub Tells : (List ℕ → Type 0) → List ℕ → List ℕ → Type 0
-Tells is_text before after = (text : List ℕ) × is_text text × (after ≡ before ++ text)
+abbrev pub AddsText : (List ℕ → Type 0) → List ℕ → List ℕ → Type 0
+AddsText is_text before after = (text : List ℕ) × is_text text × (after ≡ before ++ text)
 
 -- why nothing is written of a file: memory ran out, or the first fault of the file
 abbrev pub IsFileRefused : List ℕ → Error → Type 0

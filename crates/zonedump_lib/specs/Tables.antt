@@ -6,7 +6,7 @@ use Rattle.tz_info.specs.Changes.{AreChanges}
 use Rattle.tz_info.specs.Zones.{Zone, TypeAt}
 use Rattle.tz_base.specs.declared.change.Change.{Change}
 use Rattle.tz_info.specs.declared.zone.leap_second.LeapSecond.{LeapSecond}
-use Rattle.change_views.specs.ChangeLines.{change_lines, line}
+use Rattle.change_views.specs.ChangeLines.{change_lines, ended_line}
 use Rattle.change_views.specs.Spans.{year_second, year_until}
 use Rattle.zonedump_lib.specs.RuleWords.{rule_words}
 
@@ -31,12 +31,12 @@ years_text first last count =
 
 -- a line for each leap second
 abbrev pub leap_lines : List LeapSecond → List ℕ
-leap_lines leaps = flat_map (λ e. line (leap_text e)) leaps
+leap_lines leaps = flat_map (λ e. ended_line (leap_text e)) leaps
 
 -- the head of a table
 abbrev pub head_text : Zone → ℤ → ℤ → ℕ → List ℕ
 head_text zone first last count =
-    line (counts_text zone) ++ line (rule_text zone) ++ leap_lines zone.leaps ++ line (years_text first last count)
+    ended_line (counts_text zone) ++ ended_line (rule_text zone) ++ leap_lines zone.leaps ++ ended_line (years_text first last count)
 
 abbrev pub table_text : Zone → ℤ → ℤ → List Change → List ℕ
 table_text zone first last changes = head_text zone first last (length changes) ++ change_lines changes

@@ -8,7 +8,8 @@ ghost use Rattle.json.specs.Tree.{json_tokens};
 ghost use Rattle.change_views.specs.ChangeValues.{list_value};
 ghost use Rattle.change_views.specs.Clocks.{clock_words};
 ghost use Rattle.change_views.specs.JsonSteps.{Puts};
-ghost use Rattle.zonedump_lib.specs.DifferenceForms.{IsDifferencesJson, IsLoneJson, difference_value, differences_value, lone_value, moved_by};
+ghost use Rattle.zonedump_lib.specs.DifferenceForms.{IsDifferencesJson, IsLoneJson, difference_value};
+ghost use Rattle.zonedump_lib.specs.DifferenceForms.{differences_value, lone_value, moved_by};
 
 use crate::differences::seconds_ahead;
 use crate::json_text::put_years;

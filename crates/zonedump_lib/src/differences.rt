@@ -5,7 +5,8 @@ ghost use Rattle.std.specs.Fmt.{signed_decimal};
 ghost use Rattle.tz_base.specs.declared.error.Error.TheVariants.{OutOfMemory};
 ghost use Rattle.change_views.specs.Clocks.{clock_words};
 ghost use Rattle.change_views.specs.Words.{type_words};
-ghost use Rattle.zonedump_lib.specs.DifferenceForms.{AreDifferencesInYears, difference_text, difference_lines, moved_by};
+ghost use Rattle.zonedump_lib.specs.DifferenceForms.{AreDifferencesInYears, difference_text, difference_lines};
+ghost use Rattle.zonedump_lib.specs.DifferenceForms.{moved_by};
 
 use change_views::{Clock, TypeWords, Years};
 use std::alloc::{AllocError, Global};

@@ -5,7 +5,7 @@ ghost use Rattle.tz_base.specs.Errors.{IsOutOfMemory};
 ghost use Rattle.tz_info.specs.FilePieces.{FilePieces, HasPieces};
 ghost use Rattle.tz_info.specs.PosixZones.{IsPosixZone};
 ghost use Rattle.tz_info.specs.Zones.{Zone};
-ghost use Rattle.zonedump_lib.specs.Forms.{IsTold, IsFileTold, IsTextTold, Tells, IsFileRefused, IsTextRefused};
+ghost use Rattle.zonedump_lib.specs.Forms.{IsTold, IsFileTold, IsTextTold, AddsText, IsFileRefused, IsTextRefused};
 
 use crate::form::{Form, told};
 use change_views::Years;
@@ -25,7 +25,7 @@ pub fn tell_file(
     out: &mut String,
 ) -> Result<(), Error>
     // The file's zone is written in that form.
-    ensures told { OnOk result (Tells (IsFileTold form.entry bytes.now years.first years.last)
+    ensures told { OnOk result (AddsText (IsFileTold form.entry bytes.now years.first years.last)
         (string_bytes out.old) (string_bytes out.new)) }
     // Nothing is written if there is an error.
     ensures kept { OnErr result (string_bytes out.new ≡ string_bytes out.old) }
@@ -55,7 +55,7 @@ pub fn tell_text(
     out: &mut String,
 ) -> Result<(), Error>
     // The string's zone is written in that form.
-    ensures told { OnOk result (Tells (IsTextTold form.entry text.now years.first years.last)
+    ensures told { OnOk result (AddsText (IsTextTold form.entry text.now years.first years.last)
         (string_bytes out.old) (string_bytes out.new)) }
     // Nothing is written if there is an error.
     ensures kept { OnErr result (string_bytes out.new ≡ string_bytes out.old) }
@@ -78,7 +78,7 @@ fn tell_zone(
     form: Form<'_>,
     out: &mut String,
 ) -> Result<(), Error>
-    ensures told { OnOk result (Tells (IsTold form.entry zone.now years.first years.last)
+    ensures told { OnOk result (AddsText (IsTold form.entry zone.now years.first years.last)
         (string_bytes out.old) (string_bytes out.new)) }
     ensures kept { OnErr result (string_bytes out.new ≡ string_bytes out.old) }
     ensures fault { IfErr result (λ e. IsOutOfMemory e) }

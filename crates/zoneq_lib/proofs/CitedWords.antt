@@ -27,8 +27,8 @@ pub use Rattle.tz_base.specs.declared.error.Error.{Error}
 pub use Rattle.tz_info.proofs.ForCallers.{file_fault_or_zone, file_rule_fits, posix_zone_valid, text_fault_or_zone, type_error_number}
 pub use Rattle.tz_info.proofs.Words.{Decides, Decides-and, Decides-eqb, Decides-ltb, Exact, IfErr, IfOk, In_file, IsErrAnd, IsFileFault, IsOutOfMemory}
 pub use Rattle.tz_info.proofs.Words.{IsPosixFault, IsPosixZone, IsTzFile, IsZoneFault, No_memory, Spells, append-nil, append_assoc, cases_lt, checked, cond}
-pub use Rattle.tz_info.proofs.Words.{days_in_month, drop, exact_cut, floor_mod, is_leap, lawful, length-append, length-take, nat_le, nat_lt, nat_tests}
-pub use Rattle.tz_info.proofs.Words.{nil_from_length, number_of, read, slice_index, take, take-append-drop, true≢false, ◌%◌, ◌&&◌, ◌*◌, ◌+◌, ◌-◌, ◌==◌, ◌||◌}
+pub use Rattle.tz_info.proofs.Words.{days_in_month, drop, error_number, exact_cut, floor_mod, is_leap, lawful, length-append, length-take, nat_le, nat_lt}
+pub use Rattle.tz_info.proofs.Words.{nat_tests, nil_from_length, read, slice_index, take, take-append-drop, true≢false, ◌%◌, ◌&&◌, ◌*◌, ◌+◌, ◌-◌, ◌==◌, ◌||◌}
 pub use Rattle.tz_info.proofs.Words.{◌≤◌}
 unfoldable pub use Rattle.tz_info.proofs.Words.{exact_at}
 pub use Rattle.tz_info.specs.declared.zone.time_zone.TimeZone.{TimeZone}
@@ -42,14 +42,15 @@ pub use Rattle.zoned_ref.proofs.Words.{in_seconds, inl, inr, ints, law_of, lengt
 pub use Rattle.zoned_ref.proofs.Words.{suc, sym, to_z-of_z, true, type_decided, w32, w64, wall_decided, zero, zoned, ℕ, ℤ, [], ◌++◌, ◌-ℤ◌, ◌<◌, ◌∙◌, ◌∷◌, ◌≡◌}
 pub use Rattle.zoned_ref.proofs.Words.{◌≢◌, ◌⊎◌}
 pub use Rattle.zoned_ref.specs.ZoneOffset.{ahead_of}
-pub use Rattle.zoneq_lib.specs.Answers.{AnswersData, AnswersLine, AnswersLines, AnswersRead, AnswersResolve, AnswersShow, AnswersText, instant_text, law_by}
-pub use Rattle.zoneq_lib.specs.Answers.{refusal_text, type_text, wall_text, zone_text}
+pub use Rattle.zoneq_lib.specs.Answers.{AnswersData, AnswersLine, AnswersLines, AnswersRead, AnswersResolve, AnswersShow, AnswersText, law_by, shown_date_time}
+pub use Rattle.zoneq_lib.specs.Answers.{shown_refusal, shown_type, shown_wall, shown_zone}
 pub use Rattle.zoneq_lib.specs.Endings.{WritesUnlessFailed}
 pub use Rattle.zoneq_lib.specs.Faults.{fault_text}
 pub use Rattle.zoneq_lib.specs.Hex.{are_hex, bytes_of, bytes_test, spells_bytes}
-pub use Rattle.zoneq_lib.specs.Lines.{HasNoNewline, IsCut, ended_lines, without_return}
+pub use Rattle.zoneq_lib.specs.Lines.{HasNoNewline, IsSplit, ended_lines, without_return}
 pub use Rattle.zoneq_lib.specs.Questions.{After, Asks, At, Data, IsBadLine, Query, Resolve, Show, Text, Wall, utf8_test}
-unfoldable pub use Rattle.zoneq_lib.specs.Questions.{Begins, Word, at, data_of_file, date, integer, line, local_time, next, question, resolve, show, text, wall}
+unfoldable pub use Rattle.zoneq_lib.specs.Questions.{Begins, Word, at_query, calendar_day, data_query, integer, local_time, next, query_line, question}
+unfoldable pub use Rattle.zoneq_lib.specs.Questions.{resolve_query, show_query, text_query, wall_query}
 pub use Rattle.zoneq_lib.specs.Runs.{Answers, AnswersBefore, BeginsAnswers, StopsWith}
 pub use Rattle.zoneq_lib.specs.Steps.Blocks.{Answered, AnswersIn, StopsIn}
 pub use Rattle.zoneq_lib.specs.Steps.Hopeless.{IsHopeless, IsKeptFor}

@@ -1,10 +1,10 @@
 -- Every line has an answer, so that answers to a front of an input can be carried on to its end.
 use Rattle.tz_base.specs.declared.error.Error.TheVariants as errors
 use Rattle.zoneq_lib.proofs.CitedWords.{All-cons, All-head, All-nil, All-tail, Answered, AnswersBefore, AnswersLast, AnswersLine, AnswersLines, Asks, At}
-use Rattle.zoneq_lib.proofs.CitedWords.{BeginsAnswers, Data, HasNoNewline, IsCut, IsKeptFor, IsRuleOrNone, IsValid, List, None, Option, Query, Resolve, Show}
+use Rattle.zoneq_lib.proofs.CitedWords.{BeginsAnswers, Data, HasNoNewline, IsSplit, IsKeptFor, IsRuleOrNone, IsValid, List, None, Option, Query, Resolve, Show}
 use Rattle.zoneq_lib.proofs.CitedWords.{Some, Text, Wall, Zone, ap, append-nil, append_assoc, arith, cases_eq, codes, ended_lines, file_rule_fits, flat_map}
-use Rattle.zoneq_lib.proofs.CitedWords.{inl, inr, length, length-append, posix_zone_valid, refl, refusal_text, subst, sym, type_decided, type_text}
-use Rattle.zoneq_lib.proofs.CitedWords.{wall_decided, wall_text, ℕ, [], ◌++◌, ◌<◌, ◌∙◌, ◌∷◌, ◌≡◌, ◌≢◌}
+use Rattle.zoneq_lib.proofs.CitedWords.{inl, inr, length, length-append, posix_zone_valid, refl, shown_refusal, subst, sym, type_decided, shown_type}
+use Rattle.zoneq_lib.proofs.CitedWords.{wall_decided, shown_wall, ℕ, [], ◌++◌, ◌<◌, ◌∙◌, ◌∷◌, ◌≡◌, ◌≢◌}
 use Rattle.zoneq_lib.proofs.Joining.{answered_join, answers_all}
 use Rattle.zoneq_lib.proofs.LineLaws.{asks_or_bad, resolved_in_range}
 use Rattle.zoneq_lib.proofs.Showing.{resolve_covered, show_covered}
@@ -31,17 +31,17 @@ lines_give z (line ∷ lines) output after given h = lines_give h.1 lines h.2 af
 
 -- each line has an answer that leaves the zone
 query_covered : (z : Option Zone) (line : List ℕ) (query : Query) → IsGiven z → Asks line query → (answer : List ℕ) × AnswersLine z line answer z
-query_covered z line (Text text) given asks = (refusal_text 17, inl (Text text, asks, inr (errors.OutOfMemory, inl refl, refl, refl)))
-query_covered z line (Data bytes) given asks = (refusal_text 17, inl (Data bytes, asks, inr (errors.OutOfMemory, inl refl, refl, refl)))
+query_covered z line (Text text) given asks = (shown_refusal 17, inl (Text text, asks, inr (errors.OutOfMemory, inl refl, refl, refl)))
+query_covered z line (Data bytes) given asks = (shown_refusal 17, inl (Data bytes, asks, inr (errors.OutOfMemory, inl refl, refl, refl)))
 query_covered None line (At seconds) given asks = (codes "no zone", inl (At seconds, asks, (refl, refl)))
 query_covered (Some zone) line (At seconds) given asks = elim (type_decided zone seconds given.0 given.1) [
-  | inl found ↦ (type_text found.0, inl (At seconds, asks, (inl (found.0, found.1, refl), refl)))
-  | inr refused ↦ (refusal_text 2, inl (At seconds, asks, (inr (refused, refl), refl)))
+  | inl found ↦ (shown_type found.0, inl (At seconds, asks, (inl (found.0, found.1, refl), refl)))
+  | inr refused ↦ (shown_refusal 2, inl (At seconds, asks, (inr (refused, refl), refl)))
 ]
 query_covered None line (Wall local) given asks = (codes "no zone", inl (Wall local, asks, (refl, refl)))
 query_covered (Some zone) line (Wall local) given asks =
     let types = wall_decided zone local given.0 given.1 in
-    (wall_text types.0, inl (Wall local, asks, ((types.0, types.1, refl), refl)))
+    (shown_wall types.0, inl (Wall local, asks, ((types.0, types.1, refl), refl)))
 query_covered None line (Resolve l choice) given asks = (codes "no zone", inl (Resolve l choice, asks, (refl, refl)))
 query_covered (Some zone) line (Resolve l choice) given asks =
     let resolved = resolve_covered zone l choice given.0 given.1 (resolved_in_range line l choice asks) in
@@ -69,7 +69,7 @@ last_covered z [] given = ([], refl)
 last_covered z (c ∷ rest) given = let first = line_covered z (c ∷ rest) given in (first.0 ++ codes "\n", (first.0, z, first.1, refl))
 
 -- every input is cut into lines
-behind : (c : ℕ) (bytes : List ℕ) (pieces : List (List ℕ)) (rest : List ℕ) → c ≢ 10 → IsCut bytes pieces rest → (pieces' : List (List ℕ)) × (rest' : List ℕ) × IsCut (c ∷ bytes) pieces' rest'
+behind : (c : ℕ) (bytes : List ℕ) (pieces : List (List ℕ)) (rest : List ℕ) → c ≢ 10 → IsSplit bytes pieces rest → (pieces' : List (List ℕ)) × (rest' : List ℕ) × IsSplit (c ∷ bytes) pieces' rest'
 behind c bytes [] rest h cut = ([], c ∷ rest, record { whole = ap (λ w. c ∷ w) cut.whole; each = cut.each; last = All-cons (λ b. b ≢ 10) c rest h cut.last })
 behind c bytes (p ∷ pieces) rest h cut = (
   (c ∷ p) ∷ pieces,
@@ -81,7 +81,7 @@ behind c bytes (p ∷ pieces) rest h cut = (
   },
 )
 
-is_cut : (bytes : List ℕ) → (pieces : List (List ℕ)) × (rest : List ℕ) × IsCut bytes pieces rest
+is_cut : (bytes : List ℕ) → (pieces : List (List ℕ)) × (rest : List ℕ) × IsSplit bytes pieces rest
 is_cut [] = ([], [], record { whole = refl; each = All-nil HasNoNewline; last = All-nil (λ b. b ≢ 10) })
 is_cut (c ∷ bytes) =
     let t = is_cut bytes in

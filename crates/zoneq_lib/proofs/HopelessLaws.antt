@@ -1,6 +1,6 @@
 -- Which beginnings of a line let no line ask anything.
 use Rattle.zoneq_lib.proofs.CitedWords.{Begins, Err, IsBadLine, IsHopeless, List, Spells, after_byte, ap, append-nil, append_assoc, arith, cases_eq, codes}
-use Rattle.zoneq_lib.proofs.CitedWords.{drop, false, inl, inr, length, length-append, line, nat_tests, question, refl, slice_index, subst, sym, take}
+use Rattle.zoneq_lib.proofs.CitedWords.{drop, false, inl, inr, length, length-append, query_line, nat_tests, question, refl, slice_index, subst, sym, take}
 use Rattle.zoneq_lib.proofs.CitedWords.{take-append-add, take-append-drop, true, without_return, ℕ, [], ◌++◌, ◌+◌, ◌-◌, ◌<◌, ◌==◌, ◌∙◌, ◌∷◌, ◌≡◌, ◌⊎◌}
 use Rattle.zoneq_lib.specs.Steps.LineReading.{scan}
 use Rattle.zoneq_lib.specs.declared.bad_line.BadLine.TheVariants.{Hopeless}
@@ -34,14 +34,14 @@ from_front_ended front (c ∷ more) = elim (cut_or_whole (front ++ (c ∷ more))
   | inr whole ↦ subst (GoesOn (without_return front)) (sym whole) (from_front front (c ∷ more))
 ]
 
-some_bytes : (front : List ℕ) → scan line (without_return front) ≡ Err Hopeless → 0 < length front
-some_bytes [] h = absurd (rw h at (stops line))
+some_bytes : (front : List ℕ) → scan query_line (without_return front) ≡ Err Hopeless → 0 < length front
+some_bytes [] h = absurd (rw h at (stops query_line))
 some_bytes (c ∷ front) h = omega arith
 
-still_bad : (front bytes : List ℕ) → scan line front ≡ Err Hopeless → GoesOn front bytes → IsBadLine bytes
-still_bad front bytes h on = λ query asks. never line front on.0 h query [] (subst (λ (l : List ℕ). Spells line l query []) on.1 asks)
+still_bad : (front bytes : List ℕ) → scan query_line front ≡ Err Hopeless → GoesOn front bytes → IsBadLine bytes
+still_bad front bytes h on = λ query asks. never query_line front on.0 h query [] (subst (λ (l : List ℕ). Spells query_line l query []) on.1 asks)
 
-pub hopeless : (front : List ℕ) → scan line (without_return front) ≡ Err Hopeless → IsHopeless front
+pub hopeless : (front : List ℕ) → scan query_line (without_return front) ≡ Err Hopeless → IsHopeless front
 hopeless front h = record {
   some = some_bytes front h;
   whole = λ more. still_bad (without_return front) (front ++ more) h (from_front front more);
@@ -50,7 +50,7 @@ hopeless front h = record {
 
 -- what is kept in place of a hopeless line
 pub mark_hopeless : IsHopeless (codes "?")
-unfolding line question Begins after_byte
+unfolding query_line question Begins after_byte
 mark_hopeless = hopeless (codes "?") refl
 
 -- more of a hopeless line is as hopeless

@@ -1,6 +1,6 @@
 -- How the answers to the parts of an input make the answers to the whole.
 use Rattle.zoneq_lib.proofs.CitedWords.{All-append, All-cons, All-head, All-nil, All-tail, Answered, Answers, AnswersLast, AnswersLine, AnswersLines}
-use Rattle.zoneq_lib.proofs.CitedWords.{HasNoNewline, IsBadLine, IsCut, IsHopeless, IsKeptFor, List, None, Option, Zone, ap, append-nil, append_assoc, arith}
+use Rattle.zoneq_lib.proofs.CitedWords.{HasNoNewline, IsBadLine, IsSplit, IsHopeless, IsKeptFor, List, None, Option, Zone, ap, append-nil, append_assoc, arith}
 use Rattle.zoneq_lib.proofs.CitedWords.{codes, ended_lines, flat_map, flat_map-append, inl, inr, map-append, refl, subst, sym, without_return, ℕ, [], ◌++◌, ◌∙◌}
 use Rattle.zoneq_lib.proofs.CitedWords.{◌∷◌, ◌≡◌, ◌≢◌}
 use Rattle.zoneq_lib.proofs.HopelessLaws.{more_hopeless}
@@ -74,7 +74,7 @@ hopeless_rest r front k ys k' h h' e (inr both) = inr (more_hopeless k' ys h', b
 
 -- the answers to some bytes after a hopeless beginning are those after each other
 rebased_hopeless : (m : Option Zone) (k k' ys p : List ℕ) (a : Option Zone) (r : List ℕ) (pieces : List (List ℕ)) (front : List ℕ) → IsHopeless k → IsHopeless k' → HasNoNewline k → HasNoNewline k'
-    → IsCut (k ++ ys) pieces front → IsKeptFor r front → HasNoNewline r → AnswersLines m (ended_lines pieces) p a → Answered m k' ys p a r
+    → IsSplit (k ++ ys) pieces front → IsKeptFor r front → HasNoNewline r → AnswersLines m (ended_lines pieces) p a → Answered m k' ys p a r
 rebased_hopeless m k k' ys p a r [] front h h' n n' cut kept lone answered = record {
   pieces = [];
   front = k' ++ ys;
@@ -138,7 +138,7 @@ last_answer z (c ∷ r) [] last (inr both) h = let none = both.0.some in absurd 
 last_answer z (c ∷ r) (d ∷ front) last (inr both) h =
     (h.0, h.1, same_answer z (c ∷ r) (d ∷ front) h.0 h.1 (subst IsBadLine (append-nil (c ∷ r)) (both.1.whole [])) (subst IsBadLine (append-nil (d ∷ front)) (both.0.whole [])) h.2, h.3)
 
-all_answered : (input o : List ℕ) (z : Option Zone) (pieces : List (List ℕ)) (front last : List ℕ) → IsCut input pieces front → AnswersLines None (ended_lines pieces) o z → AnswersLast z front last → Answers input (o ++ last)
+all_answered : (input o : List ℕ) (z : Option Zone) (pieces : List (List ℕ)) (front last : List ℕ) → IsSplit input pieces front → AnswersLines None (ended_lines pieces) o z → AnswersLast z front last → Answers input (o ++ last)
 all_answered input o z pieces [] last cut answered h = (pieces, [], z, cut, rw (append-nil, h, append-nil) answered)
 all_answered input o z pieces (c ∷ front) last cut answered h = (
   pieces,

@@ -1,24 +1,24 @@
 -- Each line asks something or is bad, and a local time that is asked for is in range.
 use Rattle.zoneq_lib.proofs.CitedWords.{Asks, BadLine, Choice, Err, IsBadLine, IsDateOf, IsDayInRange, IsInRange, IsYearInRange, List, NaiveDate, None, Ok}
-use Rattle.zoneq_lib.proofs.CitedWords.{Query, Reading, Resolve, Result, Some, Spells, ap, arith, at, between, data_of_file, date, date_in_years, days_in_month}
-use Rattle.zoneq_lib.proofs.CitedWords.{false, inl, inr, integer, ints, is_leap, line, local_time, nat_le, next, question, refl, resolve, show, subst, sym}
-use Rattle.zoneq_lib.proofs.CitedWords.{text, true, wall, ℕ, ℤ, [], ◌&&◌, ◌∙◌, ◌≡◌, ◌≤◌, ◌⊎◌}
+use Rattle.zoneq_lib.proofs.CitedWords.{Query, Reading, Resolve, Result, Some, Spells, ap, arith, at_query, between, data_query, calendar_day, date_in_years}
+use Rattle.zoneq_lib.proofs.CitedWords.{days_in_month, false, inl, inr, integer, ints, is_leap, query_line, local_time, nat_le, next, question, refl}
+use Rattle.zoneq_lib.proofs.CitedWords.{resolve_query, show_query, subst, sym, text_query, true, wall_query, ℕ, ℤ, [], ◌&&◌, ◌∙◌, ◌≡◌, ◌≤◌, ◌⊎◌}
 use Rattle.zoneq_lib.specs.Steps.LineReading.{scan}
 use Rattle.zoneq_lib.proofs.HexLaws.{refuted}
 use Rattle.zoneq_lib.proofs.ScanLaws.{not_scanned, scanned}
 
 -- ---- each line
-ends : (bytes rest : List ℕ) (query : Query) → Spells line bytes query rest → rest ≡ []
-unfolding line
+ends : (bytes rest : List ℕ) (query : Query) → Spells query_line bytes query rest → rest ≡ []
+unfolding query_line
 ends bytes rest query (q, after, asked, (u, end, inl (nil, (one, stays)), (value, same))) = sym same ∙ sym stays ∙ nil
 ends bytes rest query (q, after, asked, (u, end, inr (some, none), (value, same))) = absurd none
 
 pub asks_or_bad : (bytes : List ℕ) → ((query : Query) × Asks bytes query) ⊎ IsBadLine bytes
-asks_or_bad bytes = decided (scan line bytes) refl
+asks_or_bad bytes = decided (scan query_line bytes) refl
   where
-    decided : (r : Result (Query × List ℕ) BadLine) → scan line bytes ≡ r → ((query : Query) × Asks bytes query) ⊎ IsBadLine bytes
-    decided (Ok (query, rest)) e = let asked = scanned line bytes query rest e in inl (query, subst (λ r. Spells line bytes query r) (ends bytes rest query asked) asked)
-    decided (Err fault) e = inr (λ query. not_scanned line bytes fault e query [])
+    decided : (r : Result (Query × List ℕ) BadLine) → scan query_line bytes ≡ r → ((query : Query) × Asks bytes query) ⊎ IsBadLine bytes
+    decided (Ok (query, rest)) e = let asked = scanned query_line bytes query rest e in inl (query, subst (λ r. Spells query_line bytes query r) (ends bytes rest query asked) asked)
+    decided (Err fault) e = inr (λ query. not_scanned query_line bytes fault e query [])
 
 -- ---- dates and times
 year_in_range : (bytes rest : List ℕ) (y : ℤ) → Spells (integer 262_143 262_142) bytes y rest → IsYearInRange y
@@ -30,8 +30,8 @@ within : (max : ℕ) (bytes rest : List ℕ) (n : ℕ) → Spells (next max) byt
 unfolding next
 within max bytes rest n (u, after, space, number) = number.limit
 
-date_in_range : (bytes rest : List ℕ) (day : ℤ) → Spells date bytes day rest → IsDayInRange day
-unfolding date
+date_in_range : (bytes rest : List ℕ) (day : ℤ) → Spells calendar_day bytes day rest → IsDayInRange day
+unfolding calendar_day
 date_in_range bytes rest day (y, a, year, (m, b, month, (u, c, (first, one, stays), (d, e, number, (exists, value, same))))) =
     rw value (date_in_years y m d (year_in_range bytes a y year) (first, within 12 a b m month, exists.0, exists.1))
 
@@ -54,7 +54,7 @@ undated y m d year first last none = refuted (nat_le 1 d && nat_le d (days_in_mo
 
 -- only `wall` asks for an instant, and of a local time that it read
 pub resolved_in_range : (bytes : List ℕ) (l : Reading) (choice : Choice) → Asks bytes (Resolve l choice) → IsInRange l.s
-unfolding line question text data_of_file at wall resolve show
+unfolding query_line question text_query data_query at_query wall_query resolve_query show_query
 resolved_in_range bytes l choice (q, _, (true, _, _, (t, _, _, (_, is, _))), (_, _, _, (same, _))) = cc
 resolved_in_range bytes l choice (q, _, (false, _, _, (true, _, _, (t, _, _, (_, is, _)))), (_, _, _, (same, _))) = cc
 resolved_in_range bytes l choice (q, _, (false, _, _, (false, _, _, (true, _, _, (t, _, _, (is, _))))), (_, _, _, (same, _))) = cc

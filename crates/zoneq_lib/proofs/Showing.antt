@@ -1,11 +1,11 @@
 -- Every instant that is asked for has an answer.
 use Rattle.offset_core.specs.declared.local_result.LocalResult.TheVariants.{Ambiguous, None, Single}
-use Rattle.offset_core.specs.ResolveNumbers.{number_of}
+use Rattle.offset_core.specs.ResolveNumbers.{resolve_error_number}
 use Rattle.zoneq_lib.proofs.CitedWords.{All, All-cons, All-head, All-nil, All-tail, AnswersResolve, AnswersShow, AreOffsetsOf, Choice, IsAtWhere, IsInRange}
 use Rattle.zoneq_lib.proofs.CitedWords.{IsNarrow, IsResolved, IsRuleOrNone, IsStamp, IsSubsecond, IsTaken, IsUnresolved, IsValid, IsWide, IsWithinDay}
 use Rattle.zoneq_lib.proofs.CitedWords.{IsZoneSecond, Law, List, LocalResult, LocalType, Meaning, Reading, ResolveError, Some, Zone, Zoned, arith, behind}
-use Rattle.zoneq_lib.proofs.CitedWords.{by_lt_z, cases_eq, cases_lt, choice_covered, codes, floor_mod, in_range_or_not, in_seconds, inl, inr, instant_text}
-use Rattle.zoneq_lib.proofs.CitedWords.{ints, law_by, map_of, neg_ℤ, of_secs, pos, refl, refusal_text, rule_types, same_itself, zone_has_offsets, ℕ, ℤ, []}
+use Rattle.zoneq_lib.proofs.CitedWords.{by_lt_z, cases_eq, cases_lt, choice_covered, codes, floor_mod, in_range_or_not, in_seconds, inl, inr, shown_date_time}
+use Rattle.zoneq_lib.proofs.CitedWords.{ints, law_by, map_of, neg_ℤ, of_secs, pos, refl, shown_refusal, rule_types, same_itself, zone_has_offsets, ℕ, ℤ, []}
 use Rattle.zoneq_lib.proofs.CitedWords.{◌-ℤ◌, ◌∷◌, ◌≡◌, ◌⊎◌}
 
 within_or_not : (k : ℤ) → IsWithinDay k ⊎ (IsWithinDay k → ⊥)
@@ -54,7 +54,7 @@ show_covered z seconds nanos valid rule = elim (narrow_or_not z) [
     | inl stamp ↦
         let has = zone_has_offsets z valid rule seconds (zone_second seconds stamp.0) in
         let t = has.1.type in
-        (instant_text (of_secs seconds nanos) t.offset, inr (inr (narrow, stamp, (t, has.1.in_force, refl))))
+        (shown_date_time (of_secs seconds nanos) t.offset, inr (inr (narrow, stamp, (t, has.1.in_force, refl))))
     | inr none ↦ (codes "out of range", inr (inl (narrow, none, refl)))
   ]
   | inr wide ↦ (codes "wide zone", inl (wide, refl))
@@ -62,7 +62,7 @@ show_covered z seconds nanos valid rule = elim (narrow_or_not z) [
 
 -- what is written of the instant that a lawful zone gives
 pub shown_instant : (z : Zone) (off : ℤ → ℤ) (seconds : ℤ) (nanos : ℕ) (utc : Reading) (k : ℤ) → IsNarrow z → AreOffsetsOf z off → IsStamp (of_secs seconds nanos)
-    → utc ≡ of_secs seconds nanos → k ≡ off seconds → AnswersShow (Some z) seconds nanos (instant_text utc k)
+    → utc ≡ of_secs seconds nanos → k ≡ off seconds → AnswersShow (Some z) seconds nanos (shown_date_time utc k)
 shown_instant z off seconds nanos utc k narrow offsets stamp same there =
     let at_second = offsets seconds (zone_second seconds stamp.0) in
     inr (inr (narrow, stamp, (at_second.type, at_second.in_force, rw (same, there, at_second.offset) refl)))
@@ -89,15 +89,15 @@ resolve_covered z l choice valid rule inside = elim (narrow_or_not z) [
       elim has.2 [
         | inl taken ↦
             let d = taken_instant has.0 l choice taken.0 taken.1 taken.2 in
-            (instant_text d.0.utc d.0.offset, inr (narrow, has.0, has.1, inl (d.0, d.1, refl)))
-        | inr refused ↦ (refusal_text (number_of refused.0), inr (narrow, has.0, has.1, inr (refused.0, refused.1, refl)))
+            (shown_date_time d.0.utc d.0.offset, inr (narrow, has.0, has.1, inl (d.0, d.1, refl)))
+        | inr refused ↦ (shown_refusal (resolve_error_number refused.0), inr (narrow, has.0, has.1, inr (refused.0, refused.1, refl)))
       ]
   | inr wide ↦ (codes "wide zone", inl (wide, refl))
 ]
 
 -- what is written of the instant that a lawful zone gives, and of a refusal
 pub resolved_instant : {O : Type 0} {m : Meaning O} (z : Zone) (law : Law m) (l : Reading) (choice : Choice) (d : Zoned O) → IsNarrow z → AreOffsetsOf z law.off
-    → IsResolved law l choice d → AnswersResolve (Some z) l choice (instant_text d.utc (m.seconds d.offset))
+    → IsResolved law l choice d → AnswersResolve (Some z) l choice (shown_date_time d.utc (m.seconds d.offset))
 resolved_instant {O} {m} z law l choice d narrow offsets h =
     let resolved : IsResolved (law_by law.off) l choice (in_seconds m.seconds d) = record {
       offset = h.offset;
@@ -108,5 +108,5 @@ resolved_instant {O} {m} z law l choice d narrow offsets h =
     inr (narrow, law.off, offsets, inl (in_seconds m.seconds d, resolved, refl))
 
 pub refused_reading : (z : Zone) (off : ℤ → ℤ) (l : Reading) (choice : Choice) (e : ResolveError) → IsNarrow z → AreOffsetsOf z off
-    → IsUnresolved off l.s choice e → AnswersResolve (Some z) l choice (refusal_text (number_of e))
+    → IsUnresolved off l.s choice e → AnswersResolve (Some z) l choice (shown_refusal (resolve_error_number e))
 refused_reading z off l choice e narrow offsets h = inr (narrow, off, offsets, inr (e, h, refl))

@@ -1,12 +1,12 @@
 -- The answer to what sets the zone, by what was read.
 use Rattle.zoneq_lib.proofs.CitedWords.{AnswersData, AnswersRead, AnswersText, Err, Error, IfErr, IfOk, In_file, IsFileFault, IsOutOfMemory, IsPosixFault}
 use Rattle.zoneq_lib.proofs.CitedWords.{IsPosixZone, IsTzFile, IsValid, IsZoneFault, List, MatchResult, No_memory, Ok, Option, Result, Some, TimeZone, Zone}
-use Rattle.zoneq_lib.proofs.CitedWords.{file_fault_or_zone, inl, inr, number_of, refl, refusal_text, text_fault_or_zone, zone_text, ℕ, ◌≡◌, ◌⊎◌}
+use Rattle.zoneq_lib.proofs.CitedWords.{error_number, file_fault_or_zone, inl, inr, refl, shown_refusal, shown_zone, text_fault_or_zone, ℕ, ◌≡◌, ◌⊎◌}
 
 -- what is written and kept of what was read
 abbrev Sets : Option Zone → Result TimeZone Error → List ℕ → Option Zone → Type 0
 Sets before read answer after =
-    MatchResult read (λ found. (answer ≡ zone_text found) × (after ≡ Some found)) (λ fault. (answer ≡ refusal_text (number_of fault)) × (after ≡ before))
+    MatchResult read (λ found. (answer ≡ shown_zone found) × (after ≡ Some found)) (λ fault. (answer ≡ shown_refusal (error_number fault)) × (after ≡ before))
 
 -- of a file either memory runs out, or its first fault is returned
 pub memory_or_fault : (bytes : List ℕ) (e : Error) → IsZoneFault bytes e → IsOutOfMemory e ⊎ IsFileFault bytes e

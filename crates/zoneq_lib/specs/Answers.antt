@@ -8,7 +8,7 @@ use Rattle.offset_core.specs.declared.local_result.LocalResult.{LocalResult}
 use Rattle.offset_core.specs.declared.local_result.LocalResult.TheVariants as results
 use Rattle.naive_base.specs.Reading.{Reading, ahead}
 use Rattle.naive_base.specs.Text.{reading_text}
-use Rattle.tz_base.specs.Errors.{number_of, IsOutOfMemory}
+use Rattle.tz_base.specs.Errors.{error_number, IsOutOfMemory}
 use Rattle.tz_base.specs.LocalTypes.{LocalType}
 use Rattle.tz_base.specs.declared.error.Error.{Error}
 use Rattle.tz_info.specs.PosixZones.{IsPosixZone, IsPosixFault}
@@ -18,7 +18,7 @@ use Rattle.tz_info.specs.Zones.{Zone, IsValid, TypeAt, IsTypeRefused}
 use Rattle.tz_info.specs.declared.rule.transition_rule.TransitionRule.{TransitionRule}
 use Rattle.tz_info.specs.declared.rule.transition_rule.TransitionRule.TheVariants as rules
 use Rattle.zoned_time.specs.Choice.{IsResolved, IsUnresolved}
-use Rattle.offset_core.specs.ResolveNumbers.{number_of as resolve_number}
+use Rattle.offset_core.specs.ResolveNumbers.{resolve_error_number as resolve_number}
 use Rattle.zoned_time.specs.Zone.{Meaning, Law, meaning_by_seconds, law_by_seconds}
 use Rattle.zoned_time.specs.Zoned.{Zoned}
 use Rattle.offset_core.specs.declared.resolve_error.ResolveError.{ResolveError}
@@ -26,50 +26,51 @@ use Rattle.zoned_ref.specs.Offsets.{IsNarrow, AreOffsetsOf}
 use Rattle.naive_base.specs.Stamp.{IsStamp, of_secs}
 use Rattle.zoneq_lib.specs.Questions.{Query, Text, Data, At, Wall, Resolve, Show, Asks, IsBadLine}
 
-abbrev pub mark_text : Bool → List ℕ
-mark_text true = codes "dst"
-mark_text false = codes "std"
+abbrev pub shown_mark : Bool → List ℕ
+shown_mark true = codes "dst"
+shown_mark false = codes "std"
 
-abbrev pub name_text : Option (List ℕ) → List ℕ
-name_text None = codes "-"
-name_text (Some name) = name
+abbrev pub shown_name : Option (List ℕ) → List ℕ
+shown_name None = codes "-"
+shown_name (Some name) = name
 
 -- a local time type: `OFFSET std NAME` or `OFFSET dst NAME`, with `-` for no name
-abbrev pub type_text : LocalType → List ℕ
-type_text t = signed_decimal t.offset ++ codes " " ++ mark_text t.dst ++ codes " " ++ name_text t.name
+abbrev pub shown_type : LocalType → List ℕ
+shown_type t = signed_decimal t.offset ++ codes " " ++ shown_mark t.dst ++ codes " " ++ shown_name t.name
 
 -- the types at the seconds at which a clock shows a local time: at none, at one, or at the first and the last of several
-abbrev pub wall_text : LocalResult LocalType → List ℕ
-wall_text results.None = codes "none"
-wall_text (results.Single t) = codes "single " ++ type_text t
-wall_text (results.Ambiguous first last) = codes "ambiguous " ++ type_text first ++ codes ", " ++ type_text last
+abbrev pub shown_wall : LocalResult LocalType → List ℕ
+shown_wall results.None = codes "none"
+shown_wall (results.Single t) = codes "single " ++ shown_type t
+shown_wall (results.Ambiguous first last) = codes "ambiguous " ++ shown_type first ++ codes ", " ++ shown_type last
 
 -- a reading of UTC as a clock shows it that is so many seconds ahead, and that offset: `YYYY-MM-DD HH:MM:SS +HH:MM`
-abbrev pub instant_text : Reading → ℤ → List ℕ
-instant_text utc offset = reading_text 32 (ahead utc offset) ++ codes " " ++ offset_text offset
+abbrev pub shown_date_time : Reading → ℤ → List ℕ
+shown_date_time utc offset = reading_text 32 (ahead utc offset) ++ codes " " ++ offset_text offset
 
-abbrev pub rule_text : Option TransitionRule → List ℕ
-rule_text None = codes "none"
-rule_text (Some (rules.Fixed _)) = codes "fixed"
-rule_text (Some (rules.Alternate _)) = codes "alternate"
+abbrev pub shown_rule : Option TransitionRule → List ℕ
+shown_rule None = codes "none"
+shown_rule (Some (rules.Fixed _)) = codes "fixed"
+shown_rule (Some (rules.Alternate _)) = codes "alternate"
 
 -- a zone that was accepted: `ok TRANSITIONS TYPES LEAPS RULE`
-abbrev pub zone_text : Zone → List ℕ
-zone_text zone =
-    codes "ok " ++ decimal (length zone.transitions) ++ codes " " ++ decimal (length zone.types) ++ codes " " ++ decimal (length zone.leaps) ++ codes " " ++ rule_text zone.rule
+abbrev pub shown_zone : Zone → List ℕ
+shown_zone zone =
+    codes "ok " ++ decimal (length zone.transitions) ++ codes " " ++ decimal (length zone.types) ++ codes " " ++ decimal (length zone.leaps)
+    ++ codes " " ++ shown_rule zone.rule
 
-abbrev pub refusal_text : ℕ → List ℕ
-refusal_text number = codes "refused " ++ decimal number
+abbrev pub shown_refusal : ℕ → List ℕ
+shown_refusal number = codes "refused " ++ decimal number
 
 -- a zone is read, which is the zone from here on; or an error is returned by its number, and the earlier zone stays: memory ran
 -- out, or the error is the first fault of what was to be read, and then no zone is spelled there
 abbrev pub AnswersRead : (Zone → Type 0) → (Error → Type 0) → Option Zone → List ℕ → Option Zone → Type 0
 AnswersRead is_zone is_fault zone answer after =
-    ((found : Zone) × is_zone found × (answer ≡ zone_text found) × (after ≡ Some found))
-    ⊎ ((e : Error) × (IsOutOfMemory e ⊎ (is_fault e × ((found : Zone) → ¬ (is_zone found)))) × (answer ≡ refusal_text (number_of e))
+    ((found : Zone) × is_zone found × (answer ≡ shown_zone found) × (after ≡ Some found))
+    ⊎ ((e : Error) × (IsOutOfMemory e ⊎ (is_fault e × ((found : Zone) → ¬ (is_zone found)))) × (answer ≡ shown_refusal (error_number e))
     × (after ≡ zone))
 
--- a TZ text is read
+-- a TZ string is read
 abbrev pub AnswersText : Option Zone → List ℕ → List ℕ → Option Zone → Type 0
 AnswersText zone text answer after = AnswersRead (IsPosixZone text) (IsPosixFault text) zone answer after
 
@@ -81,14 +82,14 @@ AnswersData zone bytes answer after = AnswersRead (λ found. IsTzFile bytes foun
 abbrev pub AnswersAt : Option Zone → ℤ → List ℕ → Type 0
 AnswersAt None seconds answer = answer ≡ codes "no zone"
 AnswersAt (Some zone) seconds answer =
-    ((t : LocalType) × TypeAt zone seconds t × (answer ≡ type_text t))
-    ⊎ (IsTypeRefused zone seconds × (answer ≡ refusal_text 2))
+    ((t : LocalType) × TypeAt zone seconds t × (answer ≡ shown_type t))
+    ⊎ (IsTypeRefused zone seconds × (answer ≡ shown_refusal 2))
 
 -- the types in force when a clock shows that local time
 abbrev pub AnswersWall : Option Zone → ℤ → List ℕ → Type 0
 AnswersWall None local answer = answer ≡ codes "no zone"
 AnswersWall (Some zone) local answer =
-    (types : LocalResult LocalType) × IsWallAnswer (Shows (TypeAt zone) local) types × (answer ≡ wall_text types)
+    (types : LocalResult LocalType) × IsWallAnswer (Shows (TypeAt zone) local) types × (answer ≡ shown_wall types)
 
 -- the law of a zone with these offsets, each of them nothing but its seconds
 abbrev pub seconds_in : (ℤ → ℤ) → Meaning ℤ
@@ -100,8 +101,8 @@ law_by off = law_by_seconds off
 -- the instant that the choice takes for that reading, as `show` prints it; or the number of why there is none
 abbrev pub AnswersChoice : (ℤ → ℤ) → Reading → Choice → List ℕ → Type 0
 AnswersChoice off l choice answer =
-    ((d : Zoned ℤ) × IsResolved (law_by off) l choice d × (answer ≡ instant_text d.utc d.offset))
-    ⊎ ((e : ResolveError) × IsUnresolved off l.s choice e × (answer ≡ refusal_text (resolve_number e)))
+    ((d : Zoned ℤ) × IsResolved (law_by off) l choice d × (answer ≡ shown_date_time d.utc d.offset))
+    ⊎ ((e : ResolveError) × IsUnresolved off l.s choice e × (answer ≡ shown_refusal (resolve_number e)))
 
 -- that over the offsets of the zone, one at each second; or that some clock of the zone is a day or more away from UTC
 abbrev pub AnswersResolve : Option Zone → Reading → Choice → List ℕ → Type 0
@@ -118,7 +119,7 @@ AnswersShow (Some zone) seconds nanos answer =
     (¬ (IsNarrow zone) × (answer ≡ codes "wide zone"))
     ⊎ (IsNarrow zone × ¬ (IsStamp (of_secs seconds nanos)) × (answer ≡ codes "out of range"))
     ⊎ (IsNarrow zone × IsStamp (of_secs seconds nanos)
-    × ((t : LocalType) × TypeAt zone seconds t × (answer ≡ instant_text (of_secs seconds nanos) t.offset)))
+    × ((t : LocalType) × TypeAt zone seconds t × (answer ≡ shown_date_time (of_secs seconds nanos) t.offset)))
 
 abbrev pub AnswersQuery : Option Zone → Query → List ℕ → Option Zone → Type 0
 AnswersQuery zone (Text text) answer after = AnswersText zone text answer after

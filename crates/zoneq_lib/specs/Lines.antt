@@ -6,7 +6,7 @@ abbrev pub HasNoNewline : List ℕ → Type 0
 HasNoNewline bytes = All (λ b. b ≢ 10) bytes
 
 -- the input is these pieces, each with a newline after it, and a rest; no newline stands in a piece or in the rest
-pub record IsCut (input : List ℕ) (pieces : List (List ℕ)) (rest : List ℕ) : Type 0 where
+pub record IsSplit (input : List ℕ) (pieces : List (List ℕ)) (rest : List ℕ) : Type 0 where
   pub whole : input ≡ flat_map (λ piece. piece ++ codes "\n") pieces ++ rest
   pub each : All HasNoNewline pieces
   pub last : HasNoNewline rest

@@ -17,9 +17,10 @@ use Rattle.tz_base.specs.Grammar.{Grammar, Nothing, Marked, Ended, End, Byte, Nu
 use Rattle.tz_base.specs.Refusals.{Refusal, InvalidTzString}
 use Rattle.tz_base.specs.Tests.{Test, at_most, between}
 use Rattle.tz_base.specs.declared.error.Expected.TheVariants.{OtherBytes}
+use Rattle.tz_info.specs.TzGrammar.{minus, slash}
 use Rattle.zoneq_lib.specs.Hex.{SpellBytes, bytes_test, bytes_of}
 
--- a question: to read a TZ text or the bytes of a TZif file as the zone; for the type in force at a Unix time; for the
+-- a question: to read a TZ string or the bytes of a TZif file as the zone; for the type in force at a Unix time; for the
 -- types that are in force when a clock shows a local time, the seconds from 1970-01-01 00:00:00 on the clock, every day
 -- counted as 86,400; for the instant that a choice for gaps and folds takes for a reading of a clock; or for what the
 -- zone's clocks show at a Unix time, and nanoseconds beside it
@@ -56,12 +57,6 @@ abbrev pub After : {X : Type 0} → List ℕ → Grammar X → Grammar X → Gra
 After word g h = Begins word >>= chosen g h
 
 -- ---- numbers: decimal digits, with any leading zeros
-abbrev pub minus : ℕ
-minus = 45
-
-abbrev pub slash : ℕ
-slash = 47
-
 abbrev pub space : ℕ
 space = 32
 
@@ -80,8 +75,8 @@ unfoldable pub integer : ℕ → ℕ → Grammar ℤ
 integer least most = Marked minus (negative least) (positive most)
 
 -- seconds of 64 bits
-unfoldable pub seconds : Grammar ℤ
-seconds = integer (2 ^ 63) (2 ^ 63 - 1)
+unfoldable pub unix_seconds : Grammar ℤ
+unix_seconds = integer (2 ^ 63) (2 ^ 63 - 1)
 
 -- one more number, after one space
 unfoldable pub next : ℕ → Grammar ℕ
@@ -91,8 +86,8 @@ next max = do
 
 -- ---- dates and times
 -- a year, a month and a day that the calendar has, as days from 1970-01-01
-unfoldable pub date : Grammar ℤ
-date = do
+unfoldable pub calendar_day : Grammar ℤ
+calendar_day = do
   y ← integer 262_143 262_142
   m ← next 12
   Check (1 ≤ m) (at_most 1 m) bad (tt {0})
@@ -103,7 +98,7 @@ date = do
 -- a date, an hour, a minute and a second, as the local time that a clock shows
 unfoldable pub local_time : Grammar Reading
 local_time = do
-  day ← date
+  day ← calendar_day
   h ← next 23
   min ← next 59
   s ← next 59
@@ -129,53 +124,53 @@ choice = do
 abbrev pub utf8_test : (bytes : List ℕ) → Test (IsUtf8 bytes)
 utf8_test bytes = record { passes = is_utf8 bytes; decides = (IsUtf8-from_is_utf8 bytes, is_utf8-from_IsUtf8 bytes) }
 
-unfoldable pub text : Grammar Query
-text = do
+unfoldable pub text_query : Grammar Query
+text_query = do
   bytes ← Rest
   Check (IsUtf8 bytes) (utf8_test bytes) bad (Text bytes)
 
-unfoldable pub data_of_file : Grammar Query
-data_of_file = do
+unfoldable pub data_query : Grammar Query
+data_query = do
   digits ← Rest
   Check (SpellBytes digits) (bytes_test digits) bad (Data (bytes_of digits))
 
-unfoldable pub at : Grammar Query
-at = do
-  seconds ← seconds
+unfoldable pub at_query : Grammar Query
+at_query = do
+  seconds ← unix_seconds
   Nothing (At seconds)
 
-unfoldable pub resolve : Reading → Grammar Query
-resolve local = do
+unfoldable pub resolve_query : Reading → Grammar Query
+resolve_query local = do
   Byte space
   choice ← choice
   Nothing (Resolve local choice)
 
-unfoldable pub wall : Grammar Query
-wall = do
+unfoldable pub wall_query : Grammar Query
+wall_query = do
   local ← local_time
-  Ended (Nothing (Wall local.s)) (resolve local)
+  Ended (Nothing (Wall local.s)) (resolve_query local)
 
-unfoldable pub show : Grammar Query
-show = do
-  seconds ← seconds
+unfoldable pub show_query : Grammar Query
+show_query = do
+  seconds ← unix_seconds
   nanos ← next (2 ^ 32 - 1)
   Nothing (Show seconds nanos)
 
 -- ---- the whole
 unfoldable pub question : Grammar Query
 question =
-    After (codes "text ") text (After (codes "data ") data_of_file (After (codes "at ") at
-    (After (codes "wall ") wall (After (codes "show ") show (Refused bad)))))
+    After (codes "text ") text_query (After (codes "data ") data_query (After (codes "at ") at_query
+    (After (codes "wall ") wall_query (After (codes "show ") show_query (Refused bad)))))
 
-unfoldable pub line : Grammar Query
-line = do
+unfoldable pub query_line : Grammar Query
+query_line = do
   query ← question
   End bad
   Nothing query
 
 -- the line asks this
 abbrev pub Asks : List ℕ → Query → Type 0
-Asks bytes query = Spells line bytes query []
+Asks bytes query = Spells query_line bytes query []
 
 -- the line asks nothing
 abbrev pub IsBadLine : List ℕ → Type 0

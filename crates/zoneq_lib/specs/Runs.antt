@@ -3,7 +3,7 @@
 use Rattle.std.specs.Prelude.{◌≡◌, ℕ, ◌<◌, ◌^◌, ◌-◌, List, [], ◌++◌, Bool, true, false, Option, None, length}
 use Rattle.tz_info.specs.Zones.{Zone}
 use Rattle.zoneq_lib.specs.Answers.{AnswersLines}
-use Rattle.zoneq_lib.specs.Lines.{IsCut, ended_lines, last_line}
+use Rattle.zoneq_lib.specs.Lines.{IsSplit, ended_lines, last_line}
 use Rattle.zoneq_lib.specs.declared.run_error.RunError.{RunError}
 use Rattle.zoneq_lib.specs.declared.run_error.RunError.TheVariants as errors
 
@@ -11,13 +11,13 @@ use Rattle.zoneq_lib.specs.declared.run_error.RunError.TheVariants as errors
 abbrev pub Answers : List ℕ → List ℕ → Type 0
 Answers input output =
     (pieces : List (List ℕ)) × (rest : List ℕ) × (after : Option Zone)
-    × IsCut input pieces rest × AnswersLines None (ended_lines pieces ++ last_line rest) output after
+    × IsSplit input pieces rest × AnswersLines None (ended_lines pieces ++ last_line rest) output after
 
 -- the output answers each line that a newline ends
 abbrev pub AnswersEnded : List ℕ → List ℕ → Type 0
 AnswersEnded input output =
     (pieces : List (List ℕ)) × (rest : List ℕ) × (after : Option Zone)
-    × IsCut input pieces rest × AnswersLines None (ended_lines pieces) output after
+    × IsSplit input pieces rest × AnswersLines None (ended_lines pieces) output after
 
 -- the output is a beginning of answers to each line
 abbrev pub BeginsAnswers : List ℕ → List ℕ → Type 0
@@ -27,7 +27,7 @@ BeginsAnswers input output = (more : List ℕ) × Answers input (output ++ more)
 abbrev pub AnswersBefore : List ℕ → List ℕ → Type 0
 AnswersBefore input output =
     (pieces : List (List ℕ)) × (done : List ℕ) × (failed : List ℕ) × (after : Option Zone)
-    × (input ≡ done ++ failed) × (0 < length failed) × IsCut done pieces [] × AnswersLines None (ended_lines pieces) output after
+    × (input ≡ done ++ failed) × (0 < length failed) × IsSplit done pieces [] × AnswersLines None (ended_lines pieces) output after
 
 -- why a run stopped: by the one end that failed, by running out of memory, or by a count of reads that can't go on; and what it
 -- has written for what it has read

@@ -1,15 +1,18 @@
 //! The answer to a line.
 
-ghost use Rattle.std.specs.Prelude.{◌≡◌, ℕ, List, [], ◌∷◌, ◌++◌, ◌⊎◌, OnOk, IfOk, IfErr, IfSome, MatchResult, codes, string_bytes, Some};
+ghost use Rattle.std.specs.Prelude.{◌≡◌, ℕ, List, [], ◌∷◌, ◌++◌, ◌⊎◌, OnOk, IfOk, IfErr, IfSome, MatchResult, codes};
+ghost use Rattle.std.specs.Prelude.{string_bytes, Some};
 ghost use Rattle.naive_base.specs.NaiveDateTime.{reading};
 ghost use Rattle.naive_base.specs.Text.{reading_text};
 ghost use Rattle.zoned_time.specs.DateTime.{zoned};
 ghost use Rattle.zoned_time.specs.Zoned.{local_of};
-ghost use Rattle.tz_base.specs.Errors.{IsOutOfMemory, number_of};
+ghost use Rattle.tz_base.specs.Errors.{IsOutOfMemory, error_number};
 ghost use Rattle.tz_info.specs.TzFiles.{IsTzFile, IsFileFault};
 ghost use Rattle.tz_info.specs.Zones.{IsValid};
 ghost use Rattle.zoneq_lib.specs.Hex.{bytes_of};
-ghost use Rattle.zoneq_lib.specs.Answers.{AnswersLine, AnswersText, AnswersData, AnswersAt, AnswersWall, AnswersResolve, AnswersShow, type_text, wall_text, zone_text, rule_text, refusal_text};
+ghost use Rattle.zoneq_lib.specs.Answers.{AnswersLine, AnswersText, AnswersData, AnswersAt, AnswersWall};
+ghost use Rattle.zoneq_lib.specs.Answers.{AnswersResolve, AnswersShow, shown_type, shown_wall, shown_zone, shown_rule};
+ghost use Rattle.zoneq_lib.specs.Answers.{shown_refusal};
 
 use crate::question::Question;
 use naive_base::NaiveDateTime;
@@ -46,7 +49,7 @@ pub fn answer(
     }
 }
 
-// Reads a TZ text. A call of its own, so that no other line pays for the room of a zone that is
+// Reads a TZ string. A call of its own, so that no other line pays for the room of a zone that is
 // read.
 #[inline(never)]
 fn take_text(
@@ -98,8 +101,8 @@ fn set_zone(
     ensures { OnOk result ((answer : List ℕ)
         × (string_bytes out.new ≡ string_bytes out.old ++ (answer ++ 10 ∷ []))
         × MatchResult outcome
-        (λ found. (answer ≡ zone_text found) × (zone.new ≡ Some found))
-        (λ fault. (answer ≡ refusal_text (number_of fault)) × (zone.new ≡ zone.old))) }
+        (λ found. (answer ≡ shown_zone found) × (zone.new ≡ Some found))
+        (λ fault. (answer ≡ shown_refusal (error_number fault)) × (zone.new ≡ zone.old))) }
 {
     match outcome {
         Ok(found) => {
@@ -208,7 +211,7 @@ where
 struct Accepted<'a>(&'a TimeZone);
 
 impl fmt::Display for Accepted<'_> {
-    ghost output = { λ accepted. Some (zone_text accepted.0.now) };
+    ghost output = { λ accepted. Some (shown_zone accepted.0.now) };
 
     fn fmt<W: fmt::Write>(&self, f: &mut fmt::Formatter<W>) -> fmt::Result {
         let transitions = self.0.transition_count();
@@ -228,7 +231,7 @@ impl fmt::Display for Accepted<'_> {
 struct Shown<'a>(&'a LocalTimeType);
 
 impl fmt::Display for Shown<'_> {
-    ghost output = { λ shown. Some (type_text shown.0.now) };
+    ghost output = { λ shown. Some (shown_type shown.0.now) };
 
     fn fmt<W: fmt::Write>(&self, f: &mut fmt::Formatter<W>) -> fmt::Result {
         let offset = self.0.offset();
@@ -243,7 +246,7 @@ impl fmt::Display for Shown<'_> {
 struct ShownAll(MappedLocalTime<LocalTimeType>);
 
 impl fmt::Display for ShownAll {
-    ghost output = { λ shown. Some (wall_text shown.0) };
+    ghost output = { λ shown. Some (shown_wall shown.0) };
 
     fn fmt<W: fmt::Write>(&self, f: &mut fmt::Formatter<W>) -> fmt::Result {
         match &self.0 {

@@ -2,7 +2,7 @@
 
 ghost use Rattle.std.specs.Prelude.{◌≡◌};
 ghost use Rattle.zoneq_lib.specs.Questions.{gap, fold, choice};
-ghost use Rattle.zoneq_lib.specs.Steps.LineReading.{Gives, scan};
+ghost use Rattle.zoneq_lib.specs.Steps.LineReading.{ReadsAs, scan};
 
 use crate::bad_line::{BadLine, stop};
 use crate::words::{expect_byte, strip_word};
@@ -11,7 +11,7 @@ use offset_core::{Choice, FoldChoice, GapChoice};
 /// Returns the choice that a text begins with, and the bytes after it.
 #[tactic(auto, unfolding(crate::specs::Questions::choice))]
 pub fn choice(text: &[u8]) -> Result<(Choice, &[u8]), BadLine>
-    ensures { Gives (λ p. (p.0, p.1.now)) result (scan choice text.now) }
+    ensures { ReadsAs (λ p. (p.0, p.1.now)) result (scan choice text.now) }
 {
     let (gap, rest) = gap(text)?;
     let rest = expect_byte(rest, b'/')?;
@@ -21,7 +21,7 @@ pub fn choice(text: &[u8]) -> Result<(Choice, &[u8]), BadLine>
 
 #[tactic(auto, unfolding(crate::specs::Questions::gap))]
 fn gap(text: &[u8]) -> Result<(GapChoice, &[u8]), BadLine>
-    ensures { Gives (λ p. (p.0, p.1.now)) result (scan gap text.now) }
+    ensures { ReadsAs (λ p. (p.0, p.1.now)) result (scan gap text.now) }
 {
     let (found, rest) = strip_word(text, b"refuse")?;
     if found {
@@ -36,7 +36,7 @@ fn gap(text: &[u8]) -> Result<(GapChoice, &[u8]), BadLine>
 
 #[tactic(auto, unfolding(crate::specs::Questions::fold))]
 fn fold(text: &[u8]) -> Result<(FoldChoice, &[u8]), BadLine>
-    ensures { Gives (λ p. (p.0, p.1.now)) result (scan fold text.now) }
+    ensures { ReadsAs (λ p. (p.0, p.1.now)) result (scan fold text.now) }
 {
     let (found, rest) = strip_word(text, b"refuse")?;
     if found {

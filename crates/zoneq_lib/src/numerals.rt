@@ -4,8 +4,8 @@ ghost use Rattle.std.specs.Prelude.{◌≡◌, ◌+◌, ◌-◌, ◌*◌, ◌^�
 ghost use Rattle.std.specs.Option.{SomeIff};
 ghost use Rattle.tz_base.specs.Fronts.{is_digit};
 ghost use Rattle.tz_base.specs.Grammar.{Number};
-ghost use Rattle.zoneq_lib.specs.Questions.{seconds, integer, next};
-ghost use Rattle.zoneq_lib.specs.Steps.LineReading.{Gives, scan};
+ghost use Rattle.zoneq_lib.specs.Questions.{unix_seconds, integer, next};
+ghost use Rattle.zoneq_lib.specs.Steps.LineReading.{ReadsAs, scan};
 
 use crate::bad_line::BadLine;
 use crate::words::{expect_byte, strip_byte};
@@ -14,9 +14,9 @@ use crate::words::{expect_byte, strip_byte};
 const MOST_NEGATIVE: u64 = 1 << 63;
 
 /// Returns seconds of 64 bits and the bytes after them.
-#[tactic(auto, unfolding(crate::specs::Questions::seconds))]
+#[tactic(auto, unfolding(crate::specs::Questions::unix_seconds))]
 pub fn seconds(text: &[u8]) -> Result<(i64, &[u8]), BadLine>
-    ensures { Gives (λ p. (p.0, p.1.now)) result (scan seconds text.now) }
+    ensures { ReadsAs (λ p. (p.0, p.1.now)) result (scan unix_seconds text.now) }
 {
     integer(text, MOST_NEGATIVE, MOST_NEGATIVE - 1)
 }
@@ -27,7 +27,7 @@ pub fn seconds(text: &[u8]) -> Result<(i64, &[u8]), BadLine>
 pub fn integer(text: &[u8], least: u64, most: u64) -> Result<(i64, &[u8]), BadLine>
     requires least { least ≤ 2 ^ 63 }
     requires most { most < 2 ^ 63 }
-    ensures value { Gives (λ p. (p.0, p.1.now)) result (scan (integer least most) text.now) }
+    ensures value { ReadsAs (λ p. (p.0, p.1.now)) result (scan (integer least most) text.now) }
     ensures least { IfOk result (λ p. neg_ℤ (pos least) ≤ℤ p.0) }
     ensures most { IfOk result (λ p. p.0 ≤ℤ pos most) }
 {
@@ -47,7 +47,7 @@ pub fn integer(text: &[u8], least: u64, most: u64) -> Result<(i64, &[u8]), BadLi
 /// after it.
 #[tactic(auto, unfolding(crate::specs::Questions::next))]
 pub fn next_number(text: &[u8], max: u32) -> Result<(u32, &[u8]), BadLine>
-    ensures value { Gives (λ p. (p.0, p.1.now)) result (scan (next max) text.now) }
+    ensures value { ReadsAs (λ p. (p.0, p.1.now)) result (scan (next max) text.now) }
     ensures bound { IfOk result (λ p. p.0 ≤ max) }
 {
     let rest = expect_byte(text, b' ')?;
@@ -57,7 +57,7 @@ pub fn next_number(text: &[u8], max: u32) -> Result<(u32, &[u8]), BadLine>
 
 // The number that the longest run of digits spells, up to `max`, and the bytes after it.
 fn number(text: &[u8], max: u64) -> Result<(u64, &[u8]), BadLine>
-    ensures value { Gives (λ p. (p.0, p.1.now)) result (scan (Number max) text.now) }
+    ensures value { ReadsAs (λ p. (p.0, p.1.now)) result (scan (Number max) text.now) }
     ensures bound { IfOk result (λ p. p.0 ≤ max) }
 {
     let mut value = 0;

@@ -3,8 +3,9 @@
 ghost use Rattle.std.specs.Prelude.{◌≡◌, [], MatchOption};
 ghost use Rattle.naive_base.specs.NaiveDate.{day_of};
 ghost use Rattle.naive_base.specs.NaiveDateTime.{reading};
-ghost use Rattle.zoneq_lib.specs.Questions.{text, data_of_file, at, wall, resolve, show, local_time, date};
-ghost use Rattle.zoneq_lib.specs.Steps.LineReading.{Gives, scan};
+ghost use Rattle.zoneq_lib.specs.Questions.{text_query, data_query, at_query, wall_query, resolve_query, show_query};
+ghost use Rattle.zoneq_lib.specs.Questions.{local_time, calendar_day};
+ghost use Rattle.zoneq_lib.specs.Steps.LineReading.{ReadsAs, scan};
 ghost use Rattle.zoneq_lib.specs.Steps.QueryOf.{query_of};
 
 use crate::bad_line::{BadLine, stop};
@@ -36,7 +37,7 @@ pub enum Question<'a> {
 }
 
 impl<'a> Question<'a> {
-    ghost use Rattle.zoneq_lib.specs.Questions.{Asks, IsBadLine, line, question};
+    ghost use Rattle.zoneq_lib.specs.Questions.{Asks, IsBadLine, query_line, question};
 
     /// Returns the question that a line asks, or `None` for a bad line.
     ///
@@ -54,9 +55,9 @@ impl<'a> Question<'a> {
     }
 
     /// Returns the question that a line asks, or why it asks nothing.
-    #[tactic(auto, unfolding(crate::specs::Questions::line))]
+    #[tactic(auto, unfolding(crate::specs::Questions::query_line))]
     pub fn read(bytes: &'a [u8]) -> Result<Question<'a>, BadLine>
-        ensures { Gives (λ q. (query_of q, [])) result (scan line bytes.now) }
+        ensures { ReadsAs (λ q. (query_of q, [])) result (scan query_line bytes.now) }
     {
         let (question, rest) = Question::read_front(bytes)?;
         if !rest.is_empty() {
@@ -68,7 +69,7 @@ impl<'a> Question<'a> {
     // The question, by the word that the line begins with, and the bytes after it.
     #[tactic(auto, unfolding(crate::specs::Questions::question))]
     fn read_front(bytes: &'a [u8]) -> Result<(Question<'a>, &'a [u8]), BadLine>
-        ensures { Gives (λ p. (query_of p.0, p.1.now)) result (scan question bytes.now) }
+        ensures { ReadsAs (λ p. (query_of p.0, p.1.now)) result (scan question bytes.now) }
     {
         let (found, rest) = strip_word(bytes, b"text ")?;
         if found {
@@ -95,9 +96,9 @@ impl<'a> Question<'a> {
 }
 
 // The question about a TZ string, which is all that is left.
-#[tactic(auto, unfolding(crate::specs::Questions::text))]
+#[tactic(auto, unfolding(crate::specs::Questions::text_query))]
 fn read_text(bytes: &[u8]) -> Result<(Question<'_>, &[u8]), BadLine>
-    ensures { Gives (λ p. (query_of p.0, p.1.now)) result (scan text bytes.now) }
+    ensures { ReadsAs (λ p. (query_of p.0, p.1.now)) result (scan text_query bytes.now) }
 {
     match str::from_utf8(bytes) {
         Ok(text) => Ok((Question::Text(text), b"")),
@@ -106,9 +107,9 @@ fn read_text(bytes: &[u8]) -> Result<(Question<'_>, &[u8]), BadLine>
 }
 
 // The question on a file, whose hex digits are all that is left.
-#[tactic(auto, unfolding(crate::specs::Questions::data_of_file))]
+#[tactic(auto, unfolding(crate::specs::Questions::data_query))]
 fn read_data(digits: &[u8]) -> Result<(Question<'_>, &[u8]), BadLine>
-    ensures { Gives (λ p. (query_of p.0, p.1.now)) result (scan data_of_file digits.now) }
+    ensures { ReadsAs (λ p. (query_of p.0, p.1.now)) result (scan data_query digits.now) }
 {
     if spell_bytes(digits) {
         Ok((Question::Data(digits), b""))
@@ -118,18 +119,18 @@ fn read_data(digits: &[u8]) -> Result<(Question<'_>, &[u8]), BadLine>
 }
 
 // The question on seconds.
-#[tactic(auto, unfolding(crate::specs::Questions::at))]
+#[tactic(auto, unfolding(crate::specs::Questions::at_query))]
 fn read_at(text: &[u8]) -> Result<(Question<'_>, &[u8]), BadLine>
-    ensures { Gives (λ p. (query_of p.0, p.1.now)) result (scan at text.now) }
+    ensures { ReadsAs (λ p. (query_of p.0, p.1.now)) result (scan at_query text.now) }
 {
     let (seconds, rest) = seconds(text)?;
     Ok((Question::At(seconds), rest))
 }
 
 // The question on a date and time, with a choice after it or none.
-#[tactic(auto, unfolding(crate::specs::Questions::wall, crate::specs::Questions::resolve))]
+#[tactic(auto, unfolding(crate::specs::Questions::wall_query, crate::specs::Questions::resolve_query))]
 fn read_wall(text: &[u8]) -> Result<(Question<'_>, &[u8]), BadLine>
-    ensures { Gives (λ p. (query_of p.0, p.1.now)) result (scan wall text.now) }
+    ensures { ReadsAs (λ p. (query_of p.0, p.1.now)) result (scan wall_query text.now) }
 {
     let (local, rest) = local_time(text)?;
     if rest.is_empty() {
@@ -141,9 +142,9 @@ fn read_wall(text: &[u8]) -> Result<(Question<'_>, &[u8]), BadLine>
 }
 
 // The question on the seconds and the nanoseconds `SECS NANOS`.
-#[tactic(auto, unfolding(crate::specs::Questions::show))]
+#[tactic(auto, unfolding(crate::specs::Questions::show_query))]
 fn read_show(text: &[u8]) -> Result<(Question<'_>, &[u8]), BadLine>
-    ensures { Gives (λ p. (query_of p.0, p.1.now)) result (scan show text.now) }
+    ensures { ReadsAs (λ p. (query_of p.0, p.1.now)) result (scan show_query text.now) }
 {
     let (seconds, rest) = seconds(text)?;
     let (nanoseconds, rest) = next_number(rest, u32::MAX)?;
@@ -153,7 +154,7 @@ fn read_show(text: &[u8]) -> Result<(Question<'_>, &[u8]), BadLine>
 // The date and time `Y M D h m s` that a text begins with, and the bytes after it.
 #[tactic(auto, unfolding(crate::specs::Questions::local_time))]
 fn local_time(text: &[u8]) -> Result<(NaiveDateTime, &[u8]), BadLine>
-    ensures { Gives (λ p. (reading p.0, p.1.now)) result (scan local_time text.now) }
+    ensures { ReadsAs (λ p. (reading p.0, p.1.now)) result (scan local_time text.now) }
 {
     let (date, rest) = date(text)?;
     let (hour, rest) = next_number(rest, 23)?;
@@ -166,9 +167,9 @@ fn local_time(text: &[u8]) -> Result<(NaiveDateTime, &[u8]), BadLine>
 }
 
 // The date `Y M D` that a text begins with, and the bytes after it.
-#[tactic(auto, unfolding(crate::specs::Questions::date))]
+#[tactic(auto, unfolding(crate::specs::Questions::calendar_day))]
 fn date(text: &[u8]) -> Result<(NaiveDate, &[u8]), BadLine>
-    ensures { Gives (λ p. (day_of p.0, p.1.now)) result (scan date text.now) }
+    ensures { ReadsAs (λ p. (day_of p.0, p.1.now)) result (scan calendar_day text.now) }
 {
     let (year, rest) = integer(text, 262_143, 262_142)?;
     let (month, rest) = next_number(rest, 12)?;

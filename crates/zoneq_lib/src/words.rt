@@ -3,14 +3,14 @@
 ghost use Rattle.std.specs.Prelude.{◌≡◌};
 ghost use Rattle.tz_base.specs.Grammar.{Byte};
 ghost use Rattle.zoneq_lib.specs.Questions.{Begins, Word};
-ghost use Rattle.zoneq_lib.specs.Steps.LineReading.{Gives, GivesSome, after_byte, scan};
+ghost use Rattle.zoneq_lib.specs.Steps.LineReading.{GivesSome, ReadsAs, after_byte, scan};
 
 use crate::bad_line::{BadLine, stop};
 
 /// Returns whether a text begins with a word, as its first byte says, and the bytes after the word.
 #[tactic(auto, unfolding(crate::specs::Questions::Begins))]
 pub fn strip_word<'a>(text: &'a [u8], word: &[u8]) -> Result<(bool, &'a [u8]), BadLine>
-    ensures { Gives (λ p. (p.0, p.1.now)) result (scan (Begins word.now) text.now) }
+    ensures { ReadsAs (λ p. (p.0, p.1.now)) result (scan (Begins word.now) text.now) }
 {
     match word.split_first() {
         Some((first, others)) => match strip_byte(text, *first) {
@@ -27,7 +27,7 @@ pub fn strip_word<'a>(text: &'a [u8], word: &[u8]) -> Result<(bool, &'a [u8]), B
 // The bytes after these ones.
 #[tactic(auto, unfolding(crate::specs::Questions::Word))]
 fn strip_bytes<'a>(text: &'a [u8], word: &[u8]) -> Result<&'a [u8], BadLine>
-    ensures { Gives (λ rest. (tt, rest.now)) result (scan (Word word.now) text.now) }
+    ensures { ReadsAs (λ rest. (tt, rest.now)) result (scan (Word word.now) text.now) }
 {
     let mut rest = text;
     for byte in word {
@@ -52,7 +52,7 @@ pub fn strip_byte(text: &[u8], byte: u8) -> Option<&[u8]>
 
 /// Returns the bytes after that one, which must come.
 pub fn expect_byte(text: &[u8], byte: u8) -> Result<&[u8], BadLine>
-    ensures { Gives (λ rest. (tt, rest.now)) result (scan (Byte byte) text.now) }
+    ensures { ReadsAs (λ rest. (tt, rest.now)) result (scan (Byte byte) text.now) }
 {
     match strip_byte(text, byte) {
         Some(rest) => Ok(rest),

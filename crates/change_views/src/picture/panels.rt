@@ -1,6 +1,6 @@
 //! The panels of a picture: what wall clocks show at each change of a year.
 
-use crate::clocks::Utc;
+use crate::clocks::ClockOfChange;
 use crate::picture::words::{Local, Name, Step};
 use crate::words::TypeWords;
 use std::alloc::AllocError;
@@ -61,7 +61,7 @@ fn put_head(out: &mut String, place: usize, change: &Change, kind: &str) -> Resu
     let step = Step(change);
     let before = TypeWords(&change.before);
     let after = TypeWords(&change.after);
-    let utc = Utc(change);
+    let utc = ClockOfChange(change);
     write!(
         out,
         "<g class='{kind}' transform='translate({x} {y})'><rect class='frame' width='420' height='250' rx='6'/>\n"

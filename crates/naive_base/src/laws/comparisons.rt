@@ -14,7 +14,7 @@ ghost use Rattle.naive_base.specs.declared.date.days.NaiveDateWeeksIterator.{Nai
 ghost use Rattle.naive_base.specs.declared.month.Month.{Month as AnyMonth};
 ghost use Rattle.naive_base.specs.declared.out_of_range.OutOfRange.{OutOfRange as AnyFault};
 ghost use Rattle.naive_base.specs.declared.week.NaiveWeek.{NaiveWeek as AnyNaiveWeek};
-ghost use Rattle.naive_base.specs.MonthNames.{number_of};
+ghost use Rattle.naive_base.specs.MonthNames.{number_of_month};
 ghost use Rattle.naive_base.specs.Runs.{days_from, weeks_from};
 ghost use Rattle.naive_base.specs.Week.{first_of};
 ghost use Rattle.naive_base.specs.Reading.{IsEarlier, IsEarlierTime};
@@ -135,11 +135,11 @@ pub fn iso_weeks()
 /// hash looks at the months before it, and a clone is the month.
 pub fn months_by_name()
     ensures equal { (a b : AnyMonth) → IsTrue (⟦<Month as PartialEq>⟧.eq a b) ↔ (a ≡ b) }
-    ensures numbered { (a b : AnyMonth) → number_of a ≡ number_of b → a ≡ b }
+    ensures numbered { (a b : AnyMonth) → number_of_month a ≡ number_of_month b → a ≡ b }
     ensures order { (a b : AnyMonth) → ⟦<Month as Ord>⟧.cmp a b
-        ≡ nat_cmp (number_of a) (number_of b) }
+        ≡ nat_cmp (number_of_month a) (number_of_month b) }
     ensures hashed { (a : AnyMonth) → ⟦<Month as Hash>⟧.hash_input a
-        ≡ fed.isize (pos (number_of a - 1)) }
+        ≡ fed.isize (pos (number_of_month a - 1)) }
     ensures cloned { (a b : AnyMonth) → ⟦<Month as Clone>⟧.is_clone a b ↔ (a ≡ b) }
     ensures infallible { (a : AnyMonth) → ⟦<Month as Clone>⟧.is_infallible a }
 {}

@@ -107,10 +107,10 @@ pub fn resolve_errors()
 /// the gaps, are equal; a clone is of one kind with clones of these, and fails only if one of these does.
 pub fn arounds<T: PartialEq + Clone, G: PartialEq + Clone>()
     ensures equal { (x y : AnyAround T G) → IsTrue (⟦<Around<T, G> as PartialEq>⟧.eq x y)
-        ↔ around.AreAlike (λ a b. IsTrue (T.PartialEq.eq a b)) (λ a b. IsTrue (G.PartialEq.eq a b)) x y }
+        ↔ around.AreAlikeAround (λ a b. IsTrue (T.PartialEq.eq a b)) (λ a b. IsTrue (G.PartialEq.eq a b)) x y }
     ensures cloned { (x y : AnyAround T G) → ⟦<Around<T, G> as Clone>⟧.is_clone x y
-        ↔ around.AreAlike T.Clone.is_clone G.Clone.is_clone x y }
+        ↔ around.AreAlikeAround T.Clone.is_clone G.Clone.is_clone x y }
     ensures infallible { (x : AnyAround T G)
-        → around.HoldsOfEach T.Clone.is_infallible G.Clone.is_infallible x
+        → around.HoldsOfEachAround T.Clone.is_infallible G.Clone.is_infallible x
         → ⟦<Around<T, G> as Clone>⟧.is_infallible x }
 {}

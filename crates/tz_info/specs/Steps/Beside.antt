@@ -1,20 +1,24 @@
 -- What a rule says of a second: the type in force, and the seconds on both sides at which clocks change.
-use Rattle.std.specs.Prelude.{◌≡◌, ◌≢◌, Bool, true, false, ℤ, MatchOption, Option, Some, option_map}
+use Rattle.std.specs.Prelude.{◌≡◌, ◌≢◌, ◌⊎◌, Bool, true, false, ℤ, pos, neg_ℤ, ◌≤ℤ◌, ◌<ℤ◌, MatchOption, Option, Some, option_map}
 use Rattle.tz_base.specs.LocalTypes.{LocalType}
 use Rattle.tz_info.specs.Changes.{HasNoChange, IsChange}
 use Rattle.tz_info.specs.Moments.{AlternateAt, type_when}
 use Rattle.tz_info.specs.Rules.{Alternate}
-use Rattle.tz_info.specs.Steps.Changes.{IsAhead, IsNearest}
-use Rattle.tz_info.specs.Steps.Gaps.{change_at}
+use Rattle.tz_info.specs.Changes.{IsNearest}
+use Rattle.tz_info.specs.Steps.Changes.{IsAhead}
+use Rattle.tz_info.specs.Steps.Gaps.{moment_change}
 use Rattle.tz_info.specs.Zones.{Zone, TypeAt}
 use Rattle.tz_base.specs.declared.change.Change.{Change}
+use Rattle.tz_info.specs.declared.rule.season.Season.{Season}
+use Rattle.tz_info.specs.declared.rule.season.Turns.{Turns}
 use Rattle.tz_info.specs.declared.rule.beside.Beside.{Beside}
+use Rattle.tz_info.specs.declared.rule.beside.Order.{Order}
 use Rattle.tz_info.specs.declared.rule.transition_rule.TransitionRule.TheVariants.{Alternate as AlternateRule}
 use Rattle.tz_info.specs.declared.rule.wall_clock.Moment.{Moment}
 
 -- the change at the moment that was found, if one was
 abbrev pub change_found : Alternate → Option Moment → Option Change
-change_found a found = option_map (change_at a) found
+change_found a found = option_map (moment_change a) found
 
 -- of the changes at seconds that `within` takes the first one in that direction, or nothing if there is none
 abbrev pub IsNearestMomentOf : Bool → Alternate → (ℤ → Type 0) → Option Moment → Type 0
@@ -34,6 +38,24 @@ pub record IsBeside (a : Alternate) (u : ℤ) (b : Beside) : Type 0 where
   pub in_force : AlternateAt a u (type_when a b.is_dst)
   pub previous : IsSecondOfNearest false (AlternateAt a) (IsAhead false u) b.previous
   pub next : IsSecondOfNearest true (AlternateAt a) (IsAhead true u) b.next
+
+-- the moments of a season in their order
+abbrev pub IsOrderOf : Turns → Order → Type 0
+IsOrderOf t o = ((o.first ≡ t.start) × (o.last ≡ t.end)) ⊎ ((o.first ≡ t.end) × (o.last ≡ t.start))
+
+-- they lie in the season one after the other, and the season in the rule's years
+pub record AreInside (s : Season) (o : Order) : Type 0 where
+  pub since : neg_ℤ (pos 67_768_100_504_812_800) ≤ℤ s.from
+  pub first : s.from <ℤ o.first
+  pub rising : o.first <ℤ o.last
+  pub last : o.last <ℤ s.until
+  pub until : s.until ≤ℤ pos 67_767_976_170_460_799
+
+-- and clocks change at both
+pub record IsOrder (a : Alternate) (s : Season) (o : Order) : Type 0 where
+  pub ordered : IsOrderOf s.turns o
+  pub inside : AreInside s o
+  pub differ : a.std ≢ a.dst
 
 -- where a type is in force at the second u, the zone has no rule of two types
 abbrev pub HasNoTurnsAt : Zone → ℤ → Type 0

@@ -1,9 +1,9 @@
 -- The way to the next and to the previous change.
-use Rattle.std.specs.Prelude.{ℕ, ◌<◌, ◌≤◌, ◌+◌, length, neg_ℤ, List, [], ◌∷◌, slice_index_or, MatchOption, ℤ, pos, ◌+ℤ◌, ◌-ℤ◌, ◌*ℤ◌, ◌≤ℤ◌, ◌<ℤ◌, ◌↔◌, ◌≡◌, ◌⊎◌}
+use Rattle.std.specs.Prelude.{ℕ, ◌<◌, ◌≤◌, ◌+◌, length, neg_ℤ, List, [], ◌∷◌, slice_index_or, ℤ, pos, ◌+ℤ◌, ◌-ℤ◌, ◌*ℤ◌, ◌≤ℤ◌, ◌<ℤ◌, ◌↔◌, ◌≡◌, ◌⊎◌}
 use Rattle.std.specs.Prelude.{Option, Some, None, Bool, true, false, if◌then◌else◌, int_lt}
 use Rattle.naive_base.specs.Year.{year_start}
 use Rattle.tz_base.specs.LocalTypes.{LocalType}
-use Rattle.tz_info.specs.Changes.{IsChange, HasNoChange}
+use Rattle.tz_info.specs.Changes.{IsChange, HasNoChange, Precedes}
 use Rattle.tz_info.specs.Leaps.{IsLeapTime, IsLeapTimeRefused}
 use Rattle.tz_info.specs.Moments.{AlternateAt, IsRuleTime, IsYearOf, start_in, end_in}
 use Rattle.tz_info.specs.Rules.{Alternate}
@@ -49,21 +49,6 @@ IsLaterOf one other later = (u : ℤ) → (later ≤ℤ u) ↔ ((one ≤ℤ u) �
 abbrev pub IsEarlierOf : ℤ → ℤ → ℤ → Type 0
 IsEarlierOf one other earlier = (u : ℤ) → (u ≤ℤ earlier) ↔ ((u ≤ℤ one) × (u ≤ℤ other))
 
--- in that direction x does not come after y
-abbrev pub Precedes : Bool → ℤ → ℤ → Type 0
-Precedes true x y = x ≤ℤ y
-Precedes false x y = y ≤ℤ x
-
--- of the changes at seconds that `within` takes c is the first one in that direction
-pub record IsNearestChange (forward : Bool) (in_force : ℤ → LocalType → Type 0) (within : ℤ → Type 0) (c : Change) : Type 0 where
-  pub is : IsChange in_force c
-  pub inside : within c.at
-  pub nearest : (d : Change) → IsChange in_force d → within d.at → Precedes forward c.at d.at
-
--- that change, or nothing if there is none
-abbrev pub IsNearest : Bool → (ℤ → LocalType → Type 0) → (ℤ → Type 0) → Option Change → Type 0
-IsNearest forward in_force within found = MatchOption found (HasNoChange in_force within) (IsNearestChange forward in_force within)
-
 -- of two changes the one that comes first in that direction
 abbrev pub nearer_one : Bool → Option Change → Option Change → Option Change
 nearer_one forward None other = other
@@ -77,14 +62,14 @@ IsAhead true s u = s <ℤ u
 IsAhead false s u = u ≤ℤ s
 
 -- u is ahead of s, and not beyond the second `end`
-abbrev pub IsUpTo : Bool → ℤ → ℤ → ℤ → Type 0
-IsUpTo true s end u = (s <ℤ u) × (u ≤ℤ end)
-IsUpTo false s end u = (end <ℤ u) × (u ≤ℤ s)
+abbrev pub IsAheadUpTo : Bool → ℤ → ℤ → ℤ → Type 0
+IsAheadUpTo true s end u = (s <ℤ u) × (u ≤ℤ end)
+IsAheadUpTo false s end u = (end <ℤ u) × (u ≤ℤ s)
 
 -- in that direction no change comes from the second s up to `end`
 pub record IsIdleTo (forward : Bool) (in_force : ℤ → LocalType → Type 0) (s end : ℤ) : Type 0 where
   pub reached : Precedes forward s end
-  pub none : HasNoChange in_force (IsUpTo forward s end)
+  pub none : HasNoChange in_force (IsAheadUpTo forward s end)
 
 -- of the second at which a change may come and the one before it, the one that comes first in that direction, and the other one
 abbrev pub near_side : Bool → ℤ → ℤ
@@ -148,7 +133,7 @@ abbrev pub HasNoneAt : Zone → ℕ → Type 0
 HasNoneAt z place = (d : Change) → IsChange (TypeAt z) d → segment_of z (d.at -ℤ pos 1) ≤ place → place < segment_of z d.at → ⊥
 
 -- u is a second that `within` takes, and at the second before u all transitions have come
-pub record IsByRule (z : Zone) (within : ℤ → Type 0) (u : ℤ) : Type 0 where
+pub record IsChangeByRule (z : Zone) (within : ℤ → Type 0) (u : ℤ) : Type 0 where
   pub inside : within u
   pub by_rule : segment_of z (u -ℤ pos 1) ≡ length z.transitions
 

@@ -10,7 +10,7 @@ use Rattle.tz_base.specs.declared.error.Error.TheVariants.{InvalidTzFile, LocalT
 use Rattle.tz_base.specs.declared.error.Expected.TheVariants.{ZeroOrOneAsIsDst, NameWithinDesignations, ZeroByteAfterName, StandardTimeWhereTimeIsUt}
 use Rattle.tz_info.specs.Steps.Below.{all_below}
 use Rattle.tz_base.specs.Names.{is_name}
-use Rattle.tz_info.specs.FileContents.{signed, time_of, designation_of, offset_in, mark_in, place_in, least_offset}
+use Rattle.tz_info.specs.FileContents.{signed, file_time, designation_of, offset_in, mark_in, place_in, least_offset}
 use Rattle.tz_info.specs.declared.zone.transition.Transition.{Transition}
 use Rattle.tz_info.specs.declared.zone.leap_second.LeapSecond.{LeapSecond}
 
@@ -31,11 +31,11 @@ values_below (suc n) read = values_below n read >>= λ xs. read n >>= λ x. Ok (
 -- ---- transitions and leap seconds
 abbrev pub transition_in : ℕ → List ℕ → List ℕ → ℕ → Result Transition Error
 transition_in time_size times type_indexes k =
-    Ok (record { unix_leap_time = time_of time_size (record_at time_size times k); type_index = slice_index type_indexes k })
+    Ok (record { unix_leap_time = file_time time_size (record_at time_size times k); type_index = slice_index type_indexes k })
 
 abbrev pub leap_second_of : ℕ → List ℕ → LeapSecond
 leap_second_of time_size bytes =
-    record { unix_leap_time = time_of time_size (take time_size bytes); correction = signed w32 (drop time_size bytes) }
+    record { unix_leap_time = file_time time_size (take time_size bytes); correction = signed w32 (drop time_size bytes) }
 
 abbrev pub leap_second_in : ℕ → List ℕ → ℕ → Result LeapSecond Error
 leap_second_in time_size part k = Ok (leap_second_of time_size (record_at (time_size + 4) part k))
@@ -66,7 +66,8 @@ unfoldable pub text_before_zero : List ℕ → Result (List ℕ) Error
 text_before_zero bytes = front_of bytes (position_from is_zero 0 bytes)
 
 unfoldable pub designation_at : List ℕ → ℕ → Result (List ℕ) Error
-designation_at designations place = if nat_lt place (length designations) then text_before_zero (drop place designations) else Err (InvalidTzFile NameWithinDesignations)
+designation_at designations place =
+    if nat_lt place (length designations) then text_before_zero (drop place designations) else Err (InvalidTzFile NameWithinDesignations)
 
 unfoldable pub type_of_record : List ℕ → List ℕ → Result LocalType Error
 type_of_record designations bytes = do
@@ -85,4 +86,5 @@ abbrev pub pair_agrees : List ℕ → List ℕ → ℕ → Bool
 pair_agrees standard_wall ut_local k = not ((slice_index standard_wall k == 0) && (slice_index ut_local k == 1))
 
 unfoldable pub indicators_of : List ℕ → List ℕ → Result Unit Error
-indicators_of standard_wall ut_local = if all_below (length ut_local) (pair_agrees standard_wall ut_local) then Ok tt else Err (InvalidTzFile StandardTimeWhereTimeIsUt)
+indicators_of standard_wall ut_local =
+    if all_below (length ut_local) (pair_agrees standard_wall ut_local) then Ok tt else Err (InvalidTzFile StandardTimeWhereTimeIsUt)

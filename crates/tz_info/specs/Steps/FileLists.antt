@@ -23,8 +23,8 @@ pieces_of p = record {
   footer = option_map (λ f. f.now) p.footer;
 }
 
-abbrev pub zone_of : Lists → Zone
-zone_of l = record { transitions = l.transitions.items; types = l.types.items; leaps = l.leap_seconds.items; rule = l.rule }
+abbrev pub zone_of_lists : Lists → Zone
+zone_of_lists l = record { transitions = l.transitions.items; types = l.types.items; leaps = l.leap_seconds.items; rule = l.rule }
 
 -- the parts are as long as the counts say
 pub record HasLengths (p : FilePieces) : Type 0 where
@@ -58,5 +58,5 @@ file_at bytes = pieces_at bytes >>= lists_in
 
 -- they are read, unless memory runs out, which is answered only where every piece is there
 abbrev pub Reads : Result Lists Error → List ℕ → Type 0
-Reads (Ok lists) bytes = file_at bytes ≡ Ok (zone_of lists)
+Reads (Ok lists) bytes = file_at bytes ≡ Ok (zone_of_lists lists)
 Reads (Err e) bytes = (file_at bytes ≡ Err e) ⊎ ((e ≡ OutOfMemory) × (p : FilePieces) × (pieces_at bytes ≡ Ok p))

@@ -35,7 +35,7 @@ is_between_newlines bytes = starts_with nat_eq bytes (10 ∷ []) && ends_with na
 abbrev pub is_no_text : List ℕ → Bool
 is_no_text text = (slice_index text 0 == 58) || list_any is_zero text
 
--- the rule of a TZ text, which goes to the end
+-- the rule of a TZ string, which goes to the end
 unfoldable pub rule_in : Bool → List ℕ → Result TransitionRule Error
 rule_in extended bytes = read (text extended) bytes >>= λ p. Ok p.0
 

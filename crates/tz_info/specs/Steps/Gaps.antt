@@ -32,5 +32,5 @@ pub record IsRuleGap (a : Alternate) (from local : ℤ) (c : Change) : Type 0 wh
   pub less : (u : ℤ) (t : LocalType) → from ≤ℤ u → u <ℤ c.at → AlternateAt a u t → (u +ℤ t.offset) <ℤ local
 
 -- the change at that moment
-abbrev pub change_at : Alternate → Moment → Change
-change_at a m = record { at = m.at; before = type_when a (not m.to_dst); after = type_when a m.to_dst }
+abbrev pub moment_change : Alternate → Moment → Change
+moment_change a m = record { at = m.at; before = type_when a (not m.to_dst); after = type_when a m.to_dst }

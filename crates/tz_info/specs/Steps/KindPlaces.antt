@@ -6,15 +6,15 @@ use Rattle.tz_info.specs.declared.rule.day.DayForm.{DayForm}
 use Rattle.tz_info.specs.declared.rule.day.DayForm.TheVariants.{Julian1, Julian0, MonthWeekday}
 
 -- the place of the week's weekday in a month of so many days that begins so many days after the year
-abbrev pub place_from : ℕ → ℕ → ℕ → ℕ → ℕ → ℕ
-place_from before days first week weekday = before + weekday_place days ((first + before) % 7) week weekday
+abbrev pub weekday_place_from : ℕ → ℕ → ℕ → ℕ → ℕ → ℕ
+weekday_place_from before days first week weekday = before + weekday_place days ((first + before) % 7) week weekday
 
 -- how many days of a year of that kind come before the rule's day
 unfoldable pub place_by : DayForm → Bool → ℕ → ℕ
 place_by (Julian1 n) leap first = julian_place leap n
 place_by (Julian0 n) leap first = n
 place_by (MonthWeekday month week weekday) leap first =
-    place_from (days_of_months leap (month - 1)) (days_in_month leap month) first week weekday
+    weekday_place_from (days_of_months leap (month - 1)) (days_in_month leap month) first week weekday
 
 -- in years of each kind: the common years that begin with Sunday to Saturday, and then the leap years
 unfoldable pub places_by_kind : DayForm → List ℕ

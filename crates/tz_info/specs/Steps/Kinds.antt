@@ -21,8 +21,8 @@ abbrev pub second_in : DayTime → ℤ → ℤ → ℤ
 second_in t offset year = moment t offset year -ℤ pos 86_400 *ℤ year_start year
 
 -- that second where so many days of the year come before the day
-abbrev pub second_at : DayTime → ℤ → ℕ → ℤ
-second_at t offset place = pos 86_400 *ℤ pos place +ℤ (t.time -ℤ offset)
+abbrev pub day_time_second : DayTime → ℤ → ℕ → ℤ
+day_time_second t offset place = pos 86_400 *ℤ pos place +ℤ (t.time -ℤ offset)
 
 -- that second in a year of each kind
 unfoldable pub seconds_by_kind : DayTime → ℤ → List ℤ

@@ -1,6 +1,7 @@
 -- From one moment of a rule to the next, and to the one before.
 use Rattle.std.specs.Prelude.{Bool, true, false, ◌&&◌, if◌then◌else◌, int_le, int_lt, ℤ, ◌≤ℤ◌, ◌<ℤ◌, ◌⊎◌}
-use Rattle.tz_info.specs.Steps.Changes.{IsAhead, Precedes}
+use Rattle.tz_info.specs.Changes.{Precedes}
+use Rattle.tz_info.specs.Steps.Changes.{IsAhead}
 
 -- the moment, if it is ahead of the second s in that direction and before the limit, or else the limit
 abbrev pub nearer_moment : Bool → ℤ → ℤ → ℤ → ℤ

@@ -6,7 +6,7 @@ use Rattle.offset_core.specs.declared.local_result.LocalResult.{LocalResult}
 use Rattle.offset_core.specs.declared.local_result.LocalResult.TheVariants.{None, Single, Ambiguous}
 use Rattle.tz_base.specs.LocalTypes.{LocalType, IsUtOffset}
 use Rattle.tz_info.specs.Steps.Segments.{index_of}
-use Rattle.tz_info.specs.Steps.Starts.{IsCut}
+use Rattle.tz_info.specs.Steps.Starts.{HaveComeFrom}
 use Rattle.tz_info.specs.WallPieces.{AreInOrder, IsShownAmong, IsStart, answer_at}
 use Rattle.tz_info.specs.Zones.{Zone, HasType}
 use Rattle.tz_info.specs.declared.zone.segments.Segment.{Segment}
@@ -91,7 +91,7 @@ pub record ArePiecesAt (z : Zone) (place : ℕ) (first last : Piece) : Type 0 wh
 pub record IsCutAt (z : Zone) (place : ℕ) (cut : ℤ) : Type 0 where
   pub type : LocalType
   pub listed : HasType z (index_of z.transitions (place - 1)) type ⊎ HasType z (index_of z.transitions place) type
-  pub is_cut : IsCut z.transitions z.leaps place type.offset cut
+  pub is_cut : HaveComeFrom z.transitions z.leaps place type.offset cut
 
 -- of two neighbouring transitions the later one cuts the axis where the earlier one does, or before it
 pub record AreCutsCrossed (z : Zone) : Type 0 where

@@ -9,7 +9,7 @@ use Rattle.naive_base.specs.Date.{day_number}
 use Rattle.naive_base.specs.Weekday.{weekday_of}
 use Rattle.naive_base.proofs.ForCallers.{floors, leap_day, months_early, months_late, month_bounds, months_step, months_rise, place_is, number_at}
 use Rattle.naive_base.proofs.ForCallers.{weekday_later, weekday_below}
-use Rattle.tz_info.specs.RuleDays.{IsRuleDay, IsCommonDate, IsWeekdayOfMonth, IsDayOf}
+use Rattle.tz_info.specs.RuleDays.{IsRuleDay, IsCommonDate, IsWeekdayInWeek, IsDayOf}
 use Rattle.tz_info.specs.declared.rule.day.DayForm.{DayForm}
 use Rattle.tz_info.specs.declared.rule.day.DayForm.TheVariants.{Julian1, Julian0, MonthWeekday}
 
@@ -54,7 +54,7 @@ number_after year month place = let back : place + 1 - 1 ≡ place = omega arith
 before_last : (first days place other weekday : ℕ) → first < 7 → (first + place) % 7 ≡ weekday → days ≤ place + 7 → 1 ≤ other → other ≤ days → (first + (other - 1)) % 7 ≡ weekday → other ≤ place + 1
 before_last first days place other weekday a b c e f g = omega arith
 
-pub weekday_is : (year : ℤ) (month week weekday : ℕ) → 1 ≤ month → month ≤ 12 → 1 ≤ week → week ≤ 5 → weekday ≤ 6 → IsWeekdayOfMonth year month week weekday (weekday_place (days_in_month (is_leap year) month) (weekday_of (day_number year month 1)) week weekday + 1)
+pub weekday_is : (year : ℤ) (month week weekday : ℕ) → 1 ≤ month → month ≤ 12 → 1 ≤ week → week ≤ 5 → weekday ≤ 6 → IsWeekdayInWeek year month week weekday (weekday_place (days_in_month (is_leap year) month) (weekday_of (day_number year month 1)) week weekday + 1)
 weekday_is year month week weekday first_month last_month first_week last_week last_day =
     let days = days_in_month (is_leap year) month in
     let first = weekday_of (day_number year month 1) in

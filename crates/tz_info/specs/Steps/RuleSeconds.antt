@@ -3,9 +3,7 @@ use Rattle.std.specs.Prelude.{ℕ, ℤ, ◌≡◌, ◌+◌, ◌-ℤ◌, ◌≤�
 use Rattle.tz_base.specs.LocalTypes.{LocalType, IsUtOffset}
 use Rattle.tz_info.specs.Questions.{IsAskedAtEach}
 use Rattle.tz_info.specs.RuleTypes.{RuleAt}
-use Rattle.tz_info.specs.Steps.Seasons.{IsDecidedIn}
 use Rattle.tz_info.specs.Windows.{rule_offsets}
-use Rattle.tz_info.specs.declared.rule.alternate.Season.{Season}
 use Rattle.tz_info.specs.declared.rule.transition_rule.TransitionRule.{TransitionRule}
 
 -- the second u comes at `from` or later, and the rule's type there is t
@@ -22,11 +20,6 @@ pub record IsSecondFrom (rule : TransitionRule) (from local u : ℤ) : Type 0 wh
   pub offset : ℤ
   pub of_rule : Contains (rule_offsets (Some rule)) offset
   pub of_second : u ≡ local -ℤ offset
-  pub since : from ≤ℤ u
-
--- the second u comes at `from` or later, and the season's moments decide there
-pub record IsAmidFrom (s : Season) (from u : ℤ) : Type 0 where
-  pub decided : IsDecidedIn s u
   pub since : from ≤ℤ u
 
 -- one question more for each such second

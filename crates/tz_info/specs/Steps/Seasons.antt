@@ -1,10 +1,12 @@
 -- Seasons: the moments of one year, for several seconds near it.
-use Rattle.std.specs.Prelude.{Bool, true, false, Option, Some, ℤ, pos, neg_ℤ, ◌-ℤ◌, ◌≤ℤ◌, ◌<ℤ◌}
+use Rattle.std.specs.Prelude.{Bool, true, false, Option, Some, ℤ, pos, neg_ℤ, length, ◌-ℤ◌, ◌≤ℤ◌, ◌<ℤ◌}
 use Rattle.tz_info.specs.Moments.{AlternateAt, IsRuleTime, type_when}
 use Rattle.tz_info.specs.Rules.{Alternate}
 use Rattle.tz_info.specs.Steps.Changes.{IsEarlierOf, IsLaterOf}
 use Rattle.tz_info.specs.Steps.Turns.{is_dst_by_one}
-use Rattle.tz_info.specs.declared.rule.alternate.Season.{Season}
+use Rattle.tz_info.specs.WallPieces.{IsStart}
+use Rattle.tz_info.specs.Zones.{Zone}
+use Rattle.tz_info.specs.declared.rule.season.Season.{Season}
 use Rattle.tz_info.specs.declared.rule.transition_rule.TransitionRule.{TransitionRule}
 use Rattle.tz_info.specs.declared.rule.transition_rule.TransitionRule.TheVariants as rules
 
@@ -25,13 +27,22 @@ abbrev pub IsLimit : Bool → Season → ℤ → Type 0
 IsLimit true s limit = IsEarlierOf s.until (pos 67_767_976_170_460_800) limit
 IsLimit false s limit = IsLaterOf s.from (neg_ℤ (pos 67_768_100_504_812_800)) limit
 
--- the season's moments decide at both seconds that could show the local time
-pub record IsSeasonFor (a : Alternate) (local : ℤ) (s : Season) : Type 0 where
+-- the second u comes at `from` or later, and the season's moments decide there
+pub record IsAmidFrom (s : Season) (from u : ℤ) : Type 0 where
+  pub decided : IsDecidedIn s u
+  pub since : from ≤ℤ u
+
+-- so it is with both seconds that could show the local time
+pub record IsSeasonFor (a : Alternate) (from local : ℤ) (s : Season) : Type 0 where
   pub season : IsSeason a s
-  pub standard : IsDecidedIn s (local -ℤ a.std.offset)
-  pub daylight : IsDecidedIn s (local -ℤ a.dst.offset)
+  pub standard : IsAmidFrom s from (local -ℤ a.std.offset)
+  pub daylight : IsAmidFrom s from (local -ℤ a.dst.offset)
 
 -- the same of a rule that has two types
-abbrev pub IsSeasonOf : Option TransitionRule → ℤ → Season → Type 0
-IsSeasonOf (Some (rules.Alternate a)) local s = IsSeasonFor a local s
-IsSeasonOf _ local s = ⊥
+abbrev pub IsSeasonOf : Option TransitionRule → ℤ → ℤ → Season → Type 0
+IsSeasonOf (Some (rules.Alternate a)) from local s = IsSeasonFor a from local s
+IsSeasonOf _ from local s = ⊥
+
+-- the same of a zone's rule, from the last transition on
+abbrev pub IsSeasonIn : Zone → ℤ → Season → Type 0
+IsSeasonIn z local s = (from : ℤ) × IsStart z.transitions z.leaps (length z.transitions) from × IsSeasonOf z.rule from local s

@@ -1,4 +1,5 @@
--- What earlier segments and later ones show of a local time together.
+-- What earlier segments and later ones show of a local time together, and the four answers by number.
+use Rattle.std.specs.Prelude.{ℕ, zero, suc}
 use Rattle.tz_info.specs.declared.zone.shown.Shown.{Shown}
 use Rattle.tz_info.specs.declared.zone.shown.Shown.TheVariants.{Less, Skipped, Once, Several}
 
@@ -16,3 +17,10 @@ together (Several i k) (Less b) = Several i k
 together (Several i k) (Skipped j) = Several i k
 together (Several i k) (Once m) = Several i m
 together (Several i k) (Several m n) = Several i n
+
+-- the answer of that number, of the indexes or places that it needs
+abbrev pub unpacked : ℕ → ℕ → ℕ → Shown
+unpacked zero i j = Less i
+unpacked (suc zero) i j = Skipped (record { place = i; before = j })
+unpacked (suc (suc zero)) i j = Once i
+unpacked (suc (suc (suc kind))) i j = Several i j

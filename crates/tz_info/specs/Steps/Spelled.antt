@@ -1,4 +1,4 @@
--- What the reader of a TZ text hands from one function to the next: the rule of it, and its limits.
+-- What the reader of a TZ string hands from one function to the next: the rule of it, and its limits.
 use Rattle.std.specs.Prelude.{ℤ}
 use Rattle.offset_core.specs.Offset.{IsWithinDay}
 use Rattle.tz_base.specs.LocalTypes.{LocalType}

@@ -1,5 +1,5 @@
 -- From which second on a transition has come, and which local time a clock shows then.
-use Rattle.std.specs.Prelude.{ℕ, ℤ, pos, neg_ℤ, ◌≡◌, ◌<◌, ◌≤◌, ◌+ℤ◌, ◌-ℤ◌, ◌≤ℤ◌, ◌<ℤ◌, ◌↔◌, List, length, slice_index_or, Option, MatchOption}
+use Rattle.std.specs.Prelude.{ℕ, ℤ, pos, neg_ℤ, ◌≡◌, ◌+◌, ◌<◌, ◌≤◌, ◌+ℤ◌, ◌-ℤ◌, ◌≤ℤ◌, ◌<ℤ◌, ◌↔◌, List, length, slice_index_or, Option, MatchOption}
 use Rattle.naive_base.specs.Range.{IsWide}
 use Rattle.tz_info.specs.Leaps.{IsLeapTime, IsNear, correction_at}
 use Rattle.tz_info.specs.Transitions.{passed}
@@ -17,6 +17,17 @@ pub record AreByUnixTime (transitions : List Transition) (leaps : List LeapSecon
   pub types : (k : ℕ) (d : Transition) → k < length transitions → (slice_index_or entries k d).type_index ≡ (slice_index_or transitions k d).type_index
   pub come : (k : ℕ) (d : Transition) → k < length transitions
       → IsReachedFrom leaps (slice_index_or transitions k d).unix_leap_time (slice_index_or entries k d).unix_leap_time
+
+-- four transitions by Unix time, one after the other
+pub record AreInTurn (z : Zone) (before first end after : Transition) : Type 0 where
+  pub entries : List Transition
+  pub made : AreByUnixTime z.transitions z.leaps entries
+  pub place : ℕ
+  pub some : place + 3 < length z.transitions
+  pub at_before : before ≡ slice_index_or entries place before
+  pub at_first : first ≡ slice_index_or entries (place + 1) first
+  pub at_end : end ≡ slice_index_or entries (place + 2) end
+  pub at_after : after ≡ slice_index_or entries (place + 3) after
 
 -- the leap time of the second u, if it has one
 abbrev pub leap_time_at : Zone → ℤ → ℤ
@@ -43,8 +54,8 @@ pub record AreBefore (leaps : List LeapSecond) (x : ℤ) (n : ℕ) : Type 0 wher
   pub from : (d : LeapSecond) → n < length leaps → x ≤ℤ (slice_index_or leaps n d).unix_leap_time
 
 -- where clocks of that offset show `cut` or later, `count` transitions have come, and where they show less, fewer
-abbrev pub IsCut : List Transition → List LeapSecond → ℕ → ℤ → ℤ → Type 0
-IsCut transitions leaps count offset cut = (local x : ℤ) → IsWide local → IsLeapTime leaps (local -ℤ offset) x → (count ≤ length (passed transitions x)) ↔ (cut ≤ℤ local)
+abbrev pub HaveComeFrom : List Transition → List LeapSecond → ℕ → ℤ → ℤ → Type 0
+HaveComeFrom transitions leaps count offset cut = (local x : ℤ) → IsWide local → IsLeapTime leaps (local -ℤ offset) x → (count ≤ length (passed transitions x)) ↔ (cut ≤ℤ local)
 
 -- the time and any offset are a sum of 64 bits
 abbrev pub IsFarFromEnds : ℤ → Type 0

@@ -2,7 +2,8 @@
 
 ghost use Rattle.std.specs.Prelude.{◌≡◌, ◌≤◌, ◌*◌, ◌+◌, ◌⊎◌, length, slice_index};
 ghost use Rattle.tz_base.specs.Fronts.{Gives};
-ghost use Rattle.tz_info.specs.Steps.ContentReading.{GivesInMemory, values_below, transition_in, leap_second_in, leap_second_of, pair_agrees, indicators_of};
+ghost use Rattle.tz_info.specs.Steps.ContentReading.{GivesInMemory, values_below, transition_in, leap_second_in};
+ghost use Rattle.tz_info.specs.Steps.ContentReading.{leap_second_of, pair_agrees, indicators_of};
 ghost use Rattle.tz_info.specs.Steps.Below.{all_below};
 
 use crate::file::numbers::{record_at, signed_32, time_of};

@@ -5,7 +5,8 @@ ghost use Rattle.std.specs.List.{list_any};
 ghost use Rattle.std.specs.Str.{is_utf8};
 ghost use Rattle.tz_base.specs.Fronts.{Gives};
 ghost use Rattle.tz_info.specs.Steps.ContentReading.{is_zero};
-ghost use Rattle.tz_info.specs.Steps.FooterReading.{trimmed, is_between_newlines, is_no_text, rule_in, rule_or_none, text_or_none, footer_at};
+ghost use Rattle.tz_info.specs.Steps.FooterReading.{trimmed, is_between_newlines, is_no_text, rule_in, rule_or_none};
+ghost use Rattle.tz_info.specs.Steps.FooterReading.{text_or_none, footer_at};
 
 use crate::file::contents::byte_or_zero;
 use crate::rule::TransitionRule;
@@ -74,7 +75,7 @@ fn trimmed(bytes: &[u8]) -> &[u8]
     bytes.trim_ascii()
 }
 
-// A colon in front would name a file, and a 0 byte is in no TZ text.
+// A colon in front would name a file, and a 0 byte is in no TZ string.
 fn is_no_text(text: &[u8]) -> bool
     ensures { result ≡ is_no_text text.now }
 {

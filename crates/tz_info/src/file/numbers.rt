@@ -2,7 +2,7 @@
 
 ghost use Rattle.std.specs.Prelude.{◌≡◌, ◌≤◌, ◌*◌, ◌+◌, ◌⊎◌, length};
 ghost use Rattle.std.specs.Int.{w32, w64};
-ghost use Rattle.tz_info.specs.FileContents.{signed, time_of};
+ghost use Rattle.tz_info.specs.FileContents.{signed, file_time};
 ghost use Rattle.tz_info.specs.Steps.ContentReading.{record_at};
 
 /// The record of that place, where each has that size.
@@ -18,7 +18,7 @@ pub fn record_at(part: &[u8], size: usize, place: usize) -> &[u8]
 pub fn time_of(size: usize, bytes: &[u8]) -> i64
     requires size { (size ≡ 4) ⊎ (size ≡ 8) }
     requires room { size ≤ length bytes.now }
-    ensures { result ≡ time_of size bytes.now }
+    ensures { result ≡ file_time size bytes.now }
 {
     if size == 4 {
         signed_32(bytes) as i64

@@ -10,9 +10,11 @@ ghost use Rattle.tz_info.specs.FileBlocks.{parts_of};
 ghost use Rattle.tz_base.specs.Grammar.{read};
 ghost use Rattle.tz_info.specs.Steps.ContentReading.{GivesInMemory};
 ghost use Rattle.tz_info.specs.Steps.FooterReading.{footer_of};
-ghost use Rattle.tz_info.specs.Steps.FileLists.{pieces_of, pieces_at, zone_of, lists_in, with_types, with_rule, HasLengths, Reads};
+ghost use Rattle.tz_info.specs.Steps.FileLists.{pieces_of, pieces_at, zone_of_lists, lists_in, with_types, with_rule};
+ghost use Rattle.tz_info.specs.Steps.FileLists.{HasLengths, Reads};
 ghost use Rattle.tz_info.specs.FileHeaders.{HasOtherMagic};
-ghost use Rattle.tz_info.specs.FilePieces.{FilePieces, HasPieces, is_extended, first_version, later_version, after_first_block};
+ghost use Rattle.tz_info.specs.FilePieces.{FilePieces, HasPieces, is_extended, first_version, later_version};
+ghost use Rattle.tz_info.specs.FilePieces.{after_first_block};
 ghost use Rattle.tz_info.specs.TzFiles.{IsTzFile, IsZoneFault};
 
 use crate::file::block::{Block, read_block};
@@ -38,9 +40,9 @@ impl Lists {
     /// The zone of the lists, if they make a valid one.
     pub fn into_zone(self, alloc: Global) -> Result<TimeZone, Error>
         ensures { MatchResult result
-            (λ z. IsValid (zone_of self) × (z ≡ zone_of self))
-            (λ e. (ListFault (zone_of self) e × ¬ (IsValid (zone_of self)))
-            ⊎ ((e ≡ OutOfMemory) × IsValid (zone_of self))) }
+            (λ z. IsValid (zone_of_lists self) × (z ≡ zone_of_lists self))
+            (λ e. (ListFault (zone_of_lists self) e × ¬ (IsValid (zone_of_lists self)))
+            ⊎ ((e ≡ OutOfMemory) × IsValid (zone_of_lists self))) }
     {
         let Lists {
             transitions,
@@ -55,10 +57,10 @@ impl Lists {
 /// The lists that the bytes of a file spell.
 pub fn read_lists(alloc: Global, bytes: &[u8]) -> Result<Lists, Error>
     // What is answered is spelled.
-    ensures found { IfOk result (λ lists. IsTzFile bytes.now (zone_of lists)) }
+    ensures found { IfOk result (λ lists. IsTzFile bytes.now (zone_of_lists lists)) }
     // What is spelled is answered, unless memory runs out.
     ensures only { (z : Zone) → IsTzFile bytes.now z
-        → MatchResult result (λ lists. zone_of lists ≡ z) (λ e. e ≡ OutOfMemory) }
+        → MatchResult result (λ lists. zone_of_lists lists ≡ z) (λ e. e ≡ OutOfMemory) }
     // A refusal names a fault that is there.
     ensures fault { IfErr result (λ e. IsZoneFault bytes.now e) }
     // Running out of memory is answered only where every piece of the file is there.
@@ -156,7 +158,7 @@ fn later_version<'a>(cursor: &mut Cursor<'a>) -> Result<Pieces<'a>, Error>
     })
 }
 
-// From version 3 on the TZ text has the extensions of RFC 8536 section 3.3.1.
+// From version 3 on the TZ string has the extensions of RFC 8536 section 3.3.1.
 fn is_extended(version: Version) -> bool
     ensures { result ≡ is_extended version }
 {
@@ -168,7 +170,7 @@ fn is_extended(version: Version) -> bool
 #[tactic(auto, unfolding(crate::specs::Steps::FileLists::lists_in))]
 fn lists_of(alloc: Global, pieces: &Pieces<'_>) -> Result<Lists, Error>
     requires { HasLengths (pieces_of pieces.now) }
-    ensures { GivesInMemory zone_of result (lists_in (pieces_of pieces.now)) }
+    ensures { GivesInMemory zone_of_lists result (lists_in (pieces_of pieces.now)) }
 {
     let block = pieces.block;
     let count = pieces.counts.types as usize;
@@ -179,7 +181,7 @@ fn lists_of(alloc: Global, pieces: &Pieces<'_>) -> Result<Lists, Error>
 #[tactic(auto, unfolding(crate::specs::Steps::FileLists::with_types))]
 fn with_types(alloc: Global, pieces: &Pieces<'_>, types: Vec<LocalTimeType>) -> Result<Lists, Error>
     requires { HasLengths (pieces_of pieces.now) }
-    ensures { GivesInMemory zone_of result (with_types (pieces_of pieces.now) types.items) }
+    ensures { GivesInMemory zone_of_lists result (with_types (pieces_of pieces.now) types.items) }
 {
     check_indicators(pieces.block.standard_wall, pieces.block.ut_local)?;
     let rule = read_rule(pieces.extended, pieces.footer)?;
@@ -194,7 +196,7 @@ fn with_rule(
     rule: Option<TransitionRule>,
 ) -> Result<Lists, Error>
     requires { HasLengths (pieces_of pieces.now) }
-    ensures { GivesInMemory zone_of result (with_rule (pieces_of pieces.now) types.items rule) }
+    ensures { GivesInMemory zone_of_lists result (with_rule (pieces_of pieces.now) types.items rule) }
 {
     let time_size = pieces.time_size;
     let block = pieces.block;

@@ -4,7 +4,9 @@ ghost use Rattle.std.specs.Prelude.{◌≡◌, ◌≤◌, ◌<◌, ◌*◌, leng
 ghost use Rattle.std.specs.List.{position_from};
 ghost use Rattle.tz_base.specs.Fronts.{Gives};
 ghost use Rattle.tz_info.specs.FileContents.{designation_of};
-ghost use Rattle.tz_info.specs.Steps.ContentReading.{GivesInMemory, values_below, type_in, type_of_record, with_next_type, mark_of, type_of, text_before_zero, designation_at, is_zero};
+ghost use Rattle.tz_info.specs.Steps.ContentReading.{GivesInMemory, values_below, type_in, type_of_record};
+ghost use Rattle.tz_info.specs.Steps.ContentReading.{with_next_type, mark_of, type_of, text_before_zero};
+ghost use Rattle.tz_info.specs.Steps.ContentReading.{designation_at, is_zero};
 
 use crate::file::numbers::{record_at, signed_32};
 use std::alloc::Global;

@@ -5,7 +5,7 @@ ghost use Rattle.std.specs.Prelude.{◌≡◌, ◌∷◌, ◌-ℤ◌, ◌≤ℤ�
 ghost use Rattle.tz_base.specs.LocalTypes.{LocalType};
 ghost use Rattle.tz_base.specs.declared.change.Change.{Change};
 ghost use Rattle.tz_info.specs.Changes.{AreChanges, IsChange, IsFirst, IsLast};
-ghost use Rattle.tz_info.specs.Gaps.{IsBeforeGap};
+ghost use Rattle.tz_info.specs.Gaps.{IsTypeBeforeGap};
 ghost use Rattle.tz_info.specs.Zones.{Zone, TypeAt};
 
 /// At a second there is one change. So a second has one next change and one previous change, and a
@@ -27,6 +27,6 @@ pub fn one_change_law()
 
 /// One type is in force before a gap.
 pub fn one_type_before_gap_law()
-    ensures { (z : Zone) (local : ℤ) (s t : LocalType) → IsBeforeGap (TypeAt z) local s
-        → IsBeforeGap (TypeAt z) local t → s ≡ t }
+    ensures { (z : Zone) (local : ℤ) (s t : LocalType) → IsTypeBeforeGap (TypeAt z) local s
+        → IsTypeBeforeGap (TypeAt z) local t → s ≡ t }
 {}

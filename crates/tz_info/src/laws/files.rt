@@ -1,7 +1,7 @@
 //! Theorems of time zone files: each function is empty, its contract is proved; never called.
 
 ghost use Rattle.std.specs.Prelude.{◌≡◌, ◌≤◌, List, ℕ};
-ghost use Rattle.tz_base.specs.Errors.{number_of};
+ghost use Rattle.tz_base.specs.Errors.{error_number};
 ghost use Rattle.tz_base.specs.declared.error.Error.{Error as Fault};
 ghost use Rattle.tz_info.specs.TzFiles.{IsTzFile, IsFileFault};
 ghost use Rattle.tz_info.specs.Zones.{Zone, IsValid, IsRuleOrNone};
@@ -25,5 +25,5 @@ pub fn fault_or_zone()
         → d ≡ e }
     ensures some { (bytes : List ℕ) → ((zone : Zone) → IsTzFile bytes zone → ¬ (IsValid zone))
         → (e : Fault) × IsFileFault bytes e }
-    ensures low { (bytes : List ℕ) (e : Fault) → IsFileFault bytes e → number_of e ≤ 16 }
+    ensures low { (bytes : List ℕ) (e : Fault) → IsFileFault bytes e → error_number e ≤ 16 }
 {}

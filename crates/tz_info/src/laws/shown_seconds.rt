@@ -4,7 +4,8 @@
 ghost use Rattle.std.specs.Prelude.{◌≡◌, ◌↔◌, ℤ, pos, ◌+ℤ◌, ◌-ℤ◌, ◌≤ℤ◌, ◌<ℤ◌, FitsSigned, Option, Some};
 ghost use Rattle.std.specs.Int.{w64};
 ghost use Rattle.tz_base.specs.LocalTypes.{LocalType};
-ghost use Rattle.tz_info.specs.ShownSeconds.{ShowsWithin, IsFirstWithin, IsNeverWithin, AreEndsWithin, AreShownWithin, IsFirstAtOrAfter};
+ghost use Rattle.tz_info.specs.ShownSeconds.{ShowsWithin, IsFirstWithin, IsNeverWithin, AreEndsWithin, AreShownWithin};
+ghost use Rattle.tz_info.specs.ShownSeconds.{IsFirstAtOrAfter};
 ghost use Rattle.tz_info.specs.WallClocks.{Shows};
 ghost use Rattle.tz_info.specs.Windows.{IsGreatest, IsLeast, offsets};
 ghost use Rattle.tz_info.specs.Zones.{Zone, TypeAt};

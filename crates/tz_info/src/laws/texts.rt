@@ -2,7 +2,7 @@
 //! proved; never called.
 
 ghost use Rattle.std.specs.Prelude.{◌≡◌, ◌≤◌, List, ℕ, Bool};
-ghost use Rattle.tz_base.specs.Errors.{number_of};
+ghost use Rattle.tz_base.specs.Errors.{error_number};
 ghost use Rattle.tz_base.specs.declared.error.Error.{Error as Fault};
 ghost use Rattle.tz_info.specs.TzGrammar.{IsTzText, IsTextFault};
 ghost use Rattle.tz_info.specs.PosixZones.{IsPosixZone, IsPosixFault};
@@ -34,7 +34,7 @@ pub fn fault_or_rule()
     ensures once { (extended : Bool) (bytes : List ℕ) (d e : Fault) → IsTextFault extended bytes d
         → IsTextFault extended bytes e → d ≡ e }
     ensures low { (extended : Bool) (bytes : List ℕ) (e : Fault) → IsTextFault extended bytes e
-        → number_of e ≤ 16 }
+        → error_number e ≤ 16 }
 {}
 
 /// A text with a fault gives no zone. It has one first fault, and that is not running out of memory.
@@ -43,5 +43,5 @@ pub fn fault_or_zone()
         → ¬ (IsPosixZone text zone) }
     ensures once { (text : List ℕ) (d e : Fault) → IsPosixFault text d → IsPosixFault text e
         → d ≡ e }
-    ensures low { (text : List ℕ) (e : Fault) → IsPosixFault text e → number_of e ≤ 16 }
+    ensures low { (text : List ℕ) (e : Fault) → IsPosixFault text e → error_number e ≤ 16 }
 {}

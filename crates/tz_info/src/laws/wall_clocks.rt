@@ -8,7 +8,7 @@ ghost use Rattle.offset_core.specs.declared.around.Around.{Around};
 ghost use Rattle.offset_core.specs.declared.local_result.LocalResult.{LocalResult};
 ghost use Rattle.tz_base.specs.LocalTypes.{LocalType};
 ghost use Rattle.tz_base.specs.declared.change.Change.{Change};
-ghost use Rattle.tz_info.specs.Around.{IsAround};
+ghost use Rattle.tz_info.specs.Around.{AreTypesAround};
 ghost use Rattle.tz_info.specs.WallClocks.{Shows, AreShown, IsAmongShown};
 ghost use Rattle.tz_info.specs.Windows.{IsWindowCount};
 ghost use Rattle.tz_info.specs.Zones.{Zone, IsValid, IsRuleOrNone, TypeAt};
@@ -42,7 +42,7 @@ pub fn one_wall_clock_law()
 /// And it has one answer with both sides of its gap.
 pub fn one_answer_around_law()
     ensures { (z : Zone) (local : ℤ) (a b : Around LocalType Change)
-        → IsAround (TypeAt z) local a → IsAround (TypeAt z) local b → a ≡ b }
+        → AreTypesAround (TypeAt z) local a → AreTypesAround (TypeAt z) local b → a ≡ b }
 {}
 
 /// A local time has one count of the transitions that come near it.

@@ -1,62 +1,31 @@
 //! Two types that take turns each year.
 
-ghost use Rattle.std.specs.Prelude.{◌≡◌, ◌<◌, ℤ, pos, neg_ℤ, ◌+ℤ◌, ◌≤ℤ◌, ◌<ℤ◌, int_le, MatchOption, MatchResult, ⊤, IsTrue, ◌↔◌, ◌||◌, not, if◌then◌else◌};
-ghost use Rattle.naive_base.specs.DateOf.{year_of, day_of_year};
-ghost use Rattle.naive_base.specs.Year.{floor_div, year_start, LiesIn, IsDay};
+ghost use Rattle.std.specs.Prelude.{◌≡◌, MatchResult, IsTrue, ◌↔◌};
 ghost use Rattle.offset_core.specs.Offset.{IsWithinDay};
 ghost use Rattle.tz_base.specs.declared.error.Error.TheVariants.{OutOfRange, TransitionRule};
 ghost use Rattle.tz_base.specs.declared.error.Expected.TheVariants.{YearThatRuleAnswersIn};
-ghost use Rattle.tz_info.specs.Rules.{Alternate, expected_of_alternate, IsAlternate, IsAlternateRule, IsWithinWeek};
-ghost use Rattle.tz_info.specs.Moments.{IsRuleTime};
-ghost use Rattle.tz_info.specs.Steps.Kinds.{kind_place};
-ghost use Rattle.tz_info.specs.Steps.Seasons.{IsDecidedIn};
-ghost use Rattle.tz_info.specs.Steps.Turns.{is_between, is_dst_by_one};
+ghost use Rattle.tz_info.specs.Rules.{Alternate, expected_of_alternate, IsAlternate, IsAlternateRule};
 
 use crate::rule::day::{DayTime, RuleDay};
-use crate::rule::kinds::{kind_by, kind_of, margin_of};
-use gregorian::{year_day_of, year_of, year_start};
+use crate::rule::kinds::margin_of;
+use crate::rule::season::is_rule_time;
 use std::fmt;
 use std::marker::Model;
 use tz_base::{Error, Expected, LocalTimeType};
-
-// The first and the last second of the years that a rule answers in.
-pub(super) const FIRST_RULE_TIME: i64 = -67_768_100_504_812_800;
-
-pub(super) const LAST_RULE_TIME: i64 = 67_767_976_170_460_799;
-
-// How long before 1970 they begin, in seconds and in days.
-const SECONDS_BEFORE_1970: i64 = 67_768_100_504_812_800;
-
-const DAYS_BEFORE_1970: i64 = 784_353_015_102;
 
 /// Standard time and daylight saving time, and when in each year the one gives way to the other.
 #[derive(Clone, Copy)]
 pub struct AlternateTime {
     pub(super) std_type: LocalTimeType,
-    dst_type: LocalTimeType,
+    pub(super) dst_type: LocalTimeType,
     dst_start: DayTime,
     dst_end: DayTime,
     // When in the year daylight saving time starts, by the year's kind.
-    starts: [i64; 14],
+    pub(super) starts: [i64; 14],
     // When it ends.
-    ends: [i64; 14],
+    pub(super) ends: [i64; 14],
     // How far inside its year each moment lies at least; below 0, how far outside at most.
-    margin: i64,
-}
-
-// The seconds at which daylight saving time starts and ends in one year.
-#[derive(Clone, Copy)]
-pub(super) struct Turns {
-    pub(super) start: i64,
-    pub(super) end: i64,
-}
-
-// The moments of one year, and from when until when these alone decide.
-#[derive(Clone, Copy)]
-pub(crate) struct Season {
-    pub(super) from: i64,
-    pub(super) until: i64,
-    pub(super) turns: Turns,
+    pub(super) margin: i64,
 }
 
 impl Model for AlternateTime {
@@ -196,8 +165,7 @@ impl AlternateTime {
 }
 
 impl AlternateTime {
-    ghost use Rattle.tz_info.specs.Moments.{AlternateAt, IsAlternateRefused, IsRuleYear, IsDstAt, start_in, end_in, type_when};
-    ghost use Rattle.tz_info.specs.Steps.Seasons.{IsSeason};
+    ghost use Rattle.tz_info.specs.Moments.{AlternateAt, IsAlternateRefused};
 
     /// The type in force at the second of Unix time, as `TransitionRule::find_local_time_type` has
     /// it.
@@ -216,116 +184,6 @@ impl AlternateTime {
             return Err(Error::OutOfRange(Expected::YearThatRuleAnswersIn));
         }
         Ok(self.type_in(self.season(unix_time), unix_time))
-    }
-
-    // The type in force at the second: a function of its own, for seconds that are seldom asked.
-    #[inline(never)]
-    pub(crate) fn type_at(&self, unix_time: i64) -> &LocalTimeType
-        requires { IsRuleTime unix_time }
-        ensures { AlternateAt self.now unix_time result.now }
-    {
-        self.type_in(self.season(unix_time), unix_time)
-    }
-
-    // The moments of the second's year, for questions about several seconds near it.
-    #[inline(always)]
-    pub(crate) fn season(&self, unix_time: i64) -> Season
-        requires { IsRuleTime unix_time }
-        ensures { IsSeason self.now result }
-    {
-        let day = day_of(unix_time);
-        let place = year_day_of(day);
-        let first = first_of_year(day, place.day_of_year);
-        let midnight = 86_400 * first;
-        Season {
-            from: midnight - self.margin,
-            until: midnight + 31_536_000 + self.margin,
-            turns: self.turns_from(first, kind_by(place.is_leap, place.first_weekday)),
-        }
-    }
-
-    // The type in force at the second, by the season's moments where these decide.
-    #[inline(always)]
-    fn type_in(&self, season: Season, unix_time: i64) -> &LocalTimeType
-        requires season { IsSeason self.now season }
-        requires time { IsRuleTime unix_time }
-        ensures { AlternateAt self.now unix_time result.now }
-    {
-        if self.is_dst_in(season, unix_time) {
-            &self.dst_type
-        } else {
-            &self.std_type
-        }
-    }
-
-    // Whether it is daylight saving time at the second, by the season's moments where these
-    // decide.
-    #[inline(always)]
-    pub(super) fn is_dst_in(&self, season: Season, unix_time: i64) -> bool
-        requires season { IsSeason self.now season }
-        requires time { IsRuleTime unix_time }
-        ensures { AlternateAt self.now unix_time (type_when self.now result) }
-    {
-        if season.decides(unix_time) {
-            return self.is_dst_amid(season, unix_time);
-        }
-        let day = day_of(unix_time);
-        self.is_dst(year_of(day), day, unix_time)
-    }
-
-    // Whether it is daylight saving time at a second at which the season's moments decide.
-    #[inline(always)]
-    pub(crate) fn is_dst_amid(&self, season: Season, unix_time: i64) -> bool
-        requires season { IsSeason self.now season }
-        requires time { IsRuleTime unix_time }
-        requires decides { IsDecidedIn season unix_time }
-        ensures { AlternateAt self.now unix_time (type_when self.now result) }
-    {
-        season.turns.is_dst(unix_time)
-    }
-
-    // Whether it is daylight saving time at the second, which lies on that day of that year.
-    //
-    // A rule's moments lie less than eight days outside their year, so that near the year's ends
-    // those of its neighbours decide as well.
-    #[inline(never)]
-    fn is_dst(&self, year: i32, day: i64, unix_time: i64) -> bool
-        requires day { day ≡ floor_div unix_time 86_400 }
-        requires lies { LiesIn day year }
-        requires inside { IsRuleYear year }
-        ensures { IsDstAt (start_in self.now) (end_in self.now) year unix_time result }
-    {
-        let here = self.turns(year);
-        is_dst_by_three(self.turns(year - 1), here, self.turns(year + 1), unix_time)
-    }
-
-    // The moments of the year, by its kind.
-    #[inline(always)]
-    pub(super) fn turns(&self, year: i32) -> Turns
-        ensures start { result.start ≡ start_in self.now year }
-        ensures end { result.end ≡ end_in self.now year }
-        ensures rule { IsAlternateRule self.now }
-    {
-        let first = year_start(year);
-        self.turns_from(first, kind_of(year, first))
-    }
-
-    // The moments of the year that begins on that day and is of that kind.
-    #[inline(always)]
-    fn turns_from(&self, first: i64, kind: usize) -> Turns
-        requires first { first ≡ year_start (year_of first) }
-        requires day { IsDay first }
-        requires kind { kind ≡ kind_place (year_of first) }
-        requires below { kind < 14 }
-        ensures start { result.start ≡ start_in self.now (year_of first) }
-        ensures end { result.end ≡ end_in self.now (year_of first) }
-        ensures rule { IsAlternateRule self.now }
-    {
-        let midnight = 86_400 * first;
-        Turns {
-            start: midnight + self.starts[kind],
-            end: midnight + self.ends[kind],
-        }
     }
 }
 
@@ -375,143 +233,6 @@ impl AlternateTime {
     {
         self.dst_end.time
     }
-}
-
-impl Season {
-    // Whether the season's moments alone decide at the second.
-    #[inline(always)]
-    pub(crate) fn decides(self, unix_time: i64) -> bool
-        ensures { IsTrue result ↔ IsDecidedIn self unix_time }
-    {
-        (self.from <= unix_time) & (unix_time < self.until)
-    }
-
-    // The season, if its moments alone decide at the second.
-    #[inline(always)]
-    pub(super) fn if_decides(self, unix_time: i64) -> Option<Season>
-        ensures { MatchOption result ⊤ (λ s. (s ≡ self) × IsDecidedIn s unix_time) }
-    {
-        if self.decides(unix_time) {
-            Some(self)
-        } else {
-            None
-        }
-    }
-}
-
-impl Turns {
-    // Whether it is daylight saving time at the second, where no other year's moments matter.
-    fn is_dst(self, unix_time: i64) -> bool
-        ensures { result ≡ is_dst_by_one self.start self.end unix_time }
-    {
-        let has_started = self.start <= unix_time;
-        let has_not_ended = unix_time < self.end;
-        if self.is_start_first() {
-            has_started & has_not_ended
-        } else {
-            has_started | has_not_ended
-        }
-    }
-
-    // Whether the start does not come after the end.
-    fn is_start_first(self) -> bool
-        ensures { result ≡ int_le self.start self.end }
-    {
-        self.start <= self.end
-    }
-
-    // Whether the second lies from the start to the end.
-    fn is_from_start(self, unix_time: i64) -> bool
-        ensures { result ≡ is_between self.start self.end unix_time }
-    {
-        self.start <= unix_time && unix_time < self.end
-    }
-
-    // Whether the second lies from the end to the start.
-    fn is_from_end(self, unix_time: i64) -> bool
-        ensures { result ≡ is_between self.end self.start unix_time }
-    {
-        self.end <= unix_time && unix_time < self.start
-    }
-}
-
-// Whether it is daylight saving time at the second by the moments of its year and of the years
-// before and after it.
-fn is_dst_by_three(before: Turns, here: Turns, after: Turns, unix_time: i64) -> bool
-    ensures { result ≡ (if int_le here.start here.end
-        then is_between before.start before.end unix_time
-        || is_between here.start here.end unix_time || is_between after.start after.end unix_time
-        else not (is_between before.end before.start unix_time
-        || is_between here.end here.start unix_time
-        || is_between after.end after.start unix_time)) }
-{
-    if here.is_start_first() {
-        is_any(
-            before.is_from_start(unix_time),
-            here.is_from_start(unix_time),
-            after.is_from_start(unix_time),
-        )
-    } else {
-        !is_any(
-            before.is_from_end(unix_time),
-            here.is_from_end(unix_time),
-            after.is_from_end(unix_time),
-        )
-    }
-}
-
-// Whether one of them holds: a function of its own, so that no case is made of each.
-fn is_any(a: bool, b: bool, c: bool) -> bool
-    ensures { result ≡ (a || b || c) }
-{
-    a || b || c
-}
-
-// Whether the second lies in a year that a rule answers in.
-pub(super) fn is_rule_time(unix_time: i64) -> bool
-    ensures { IsTrue result ↔ IsRuleTime unix_time }
-{
-    FIRST_RULE_TIME <= unix_time && unix_time <= LAST_RULE_TIME
-}
-
-// The second, counted from the first of the years that a rule answers in.
-fn since_first(unix_time: i64) -> u64
-    requires { IsRuleTime unix_time }
-    ensures value { unix_time +ℤ pos 67_768_100_504_812_800 ≡ pos result }
-    ensures bound { result < 135_536_076_675_273_600 }
-{
-    (unix_time + SECONDS_BEFORE_1970) as u64
-}
-
-// The day number of the day that many days after the first of those years.
-fn day_from_first(days: u64) -> i64
-    requires { days < 1_568_704_591_149 }
-    ensures { result +ℤ pos 784_353_015_102 ≡ pos days }
-{
-    days as i64 - DAYS_BEFORE_1970
-}
-
-// The day number of the second. Counted from the first of those years no second is negative, so
-// that one division is enough.
-#[inline(always)]
-pub(super) fn day_of(unix_time: i64) -> i64
-    requires { IsRuleTime unix_time }
-    ensures value { result ≡ floor_div unix_time 86_400 }
-    ensures bound { IsDay result }
-{
-    day_from_first(since_first(unix_time) / 86_400)
-}
-
-// The day number of the first day of the year that the day lies in.
-#[inline(always)]
-fn first_of_year(day: i64, passed: u32) -> i64
-    requires day { IsDay day }
-    requires place { passed ≡ day_of_year day }
-    requires bound { passed < 366 }
-    ensures value { result ≡ year_start (year_of day) }
-    ensures bound { IsDay result }
-{
-    day - passed as i64
 }
 
 // Whether the type's offset is strictly within a day.

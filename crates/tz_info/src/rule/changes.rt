@@ -1,27 +1,33 @@
 //! When a rule's types give way to each other: mostly at moments of the year of the second, or of the
 //! next one.
 
-ghost use Rattle.std.specs.Prelude.{◌≡◌, ◌≢◌, ◌≤◌, pos, ◌<ℤ◌, ◌≤ℤ◌, MatchOption, MatchResult, Some, neg_ℤ, ⊤};
+ghost use Rattle.std.specs.Prelude.{◌≡◌, ◌≢◌, ◌≤◌, pos, ◌<ℤ◌, ◌≤ℤ◌, MatchOption, MatchResult, Some, neg_ℤ, option_map, ⊤};
+ghost use Rattle.tz_info.specs.Changes.{IsNearest, IsNearestChange};
 ghost use Rattle.tz_info.specs.Moments.{AlternateAt, IsRuleTime, type_when};
 ghost use Rattle.tz_info.specs.Steps.Beside.{IsMomentAt, IsNearestMomentOf, change_found};
-ghost use Rattle.tz_info.specs.Steps.Changes.{IsAhead, IsIdleTo, IsNearest, IsNearestChange, far_side, near_end, near_side};
-ghost use Rattle.tz_info.specs.Steps.Gaps.{change_at};
+ghost use Rattle.tz_info.specs.Steps.Changes.{IsAhead, IsIdleTo, far_side, near_end, near_side};
+ghost use Rattle.tz_info.specs.Steps.Gaps.{moment_change};
+ghost use Rattle.tz_info.specs.HeldChanges.{change_held};
 ghost use Rattle.tz_info.specs.Steps.Seasons.{IsAmid, IsDecidedIn, IsLimit, IsSeason};
 
-use crate::change::is_same_type;
-use crate::rule::alternate::{
-    AlternateTime, FIRST_RULE_TIME, LAST_RULE_TIME, Season, is_rule_time,
-};
+use crate::change::{HeldChange, is_same_type};
+use crate::rule::alternate::AlternateTime;
+use crate::rule::season::{FIRST_RULE_TIME, LAST_RULE_TIME, Season, is_rule_time};
 use crate::rule::wall_clock::Moment;
 use crate::rule::years::{earlier_of, later_of, stretch_ahead};
-use tz_base::{Change, LocalTimeType};
+use tz_base::LocalTimeType;
 
 impl AlternateTime {
     // The nearest change ahead of the second in that direction, of those that come after `begin`.
     #[inline(always)]
-    pub(crate) fn nearest_change(&self, begin: i64, second: i64, forward: bool) -> Option<Change>
+    pub(crate) fn nearest_change(
+        &self,
+        begin: i64,
+        second: i64,
+        forward: bool,
+    ) -> Option<HeldChange<'_>>
         ensures { IsNearest forward (AlternateAt self.now)
-            (λ u. (begin <ℤ u) × IsAhead forward second u) result }
+            (λ u. (begin <ℤ u) × IsAhead forward second u) (option_map change_held result) }
     {
         let ahead = stretch_ahead(begin, second, forward);
         if ahead.is_empty() {
@@ -29,7 +35,7 @@ impl AlternateTime {
         }
         let near = ahead.near_end(forward);
         match ahead.moment_within(self.nearest_moment(self.season_at(near), near, forward)) {
-            Some(moment) => Some(self.change_of(moment).copied()),
+            Some(moment) => Some(self.change_of(moment)),
             None => None,
         }
     }
@@ -89,7 +95,7 @@ impl AlternateTime {
         requires decides { IsDecidedIn season second }
         ensures { MatchResult result
             (λ m. IsNearestChange forward (AlternateAt self.now) (IsAhead forward second)
-            (change_at self.now m))
+            (moment_change self.now m))
             (IsIdleTo forward (AlternateAt self.now) second) }
     {
         let limit = season.limit(forward);

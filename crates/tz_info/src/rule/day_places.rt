@@ -7,7 +7,7 @@ ghost use Rattle.naive_base.specs.Month.{days_in_month};
 ghost use Rattle.naive_base.specs.Date.{day_number};
 ghost use Rattle.naive_base.specs.Weekday.{weekday_of};
 ghost use Rattle.tz_info.specs.RuleDays.{IsWrittenDate};
-ghost use Rattle.tz_info.specs.Steps.KindPlaces.{place_from, places_by_kind};
+ghost use Rattle.tz_info.specs.Steps.KindPlaces.{weekday_place_from, places_by_kind};
 ghost use Rattle.tz_info.specs.Steps.RuleDays.{julian_place, weekday_place};
 ghost use Rattle.tz_info.specs.declared.rule.day.DayForm.TheVariants.{MonthWeekday};
 
@@ -88,7 +88,7 @@ fn place_from(before: u32, days: u32, first: u32, week: u32, weekday: u32) -> u3
     requires first_in { first < 7 }
     requires week_in { IsInRange 1 5 week }
     requires weekday_in { weekday ≤ 6 }
-    ensures { result ≡ place_from before days first week weekday }
+    ensures { result ≡ weekday_place_from before days first week weekday }
 {
     before + weekday_place(days, (first + before) % 7, week, weekday)
 }

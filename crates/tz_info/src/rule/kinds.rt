@@ -7,7 +7,8 @@ ghost use Rattle.std.specs.Prelude.{◌≡◌, ◌+◌, ◌<◌, if◌then◌els
 ghost use Rattle.naive_base.specs.Year.{year_start, IsDay};
 ghost use Rattle.offset_core.specs.Offset.{IsWithinDay};
 ghost use Rattle.tz_info.specs.Rules.{IsWithinWeek};
-ghost use Rattle.tz_info.specs.Steps.Kinds.{kind_place, second_in, seconds_by_kind, is_inside, is_calm, is_calm_kind, are_calm, margin_of, second_at};
+ghost use Rattle.tz_info.specs.Steps.Kinds.{kind_place, second_in, seconds_by_kind, is_inside, is_calm, is_calm_kind};
+ghost use Rattle.tz_info.specs.Steps.Kinds.{are_calm, margin_of, day_time_second};
 
 use crate::rule::day::DayTime;
 use gregorian::{is_leap_year, weekday_of};
@@ -66,7 +67,7 @@ impl DayTime {
     fn second_at(&self, offset: i32, place: u32) -> i64
         requires time { IsWithinWeek self.now.time }
         requires offset { IsWithinDay offset }
-        ensures { result ≡ second_at self.now offset place }
+        ensures { result ≡ day_time_second self.now offset place }
     {
         86_400 * place as i64 + (self.time as i64 - offset as i64)
     }

@@ -3,7 +3,7 @@
 ghost use Rattle.std.specs.Prelude.{◌≡◌};
 ghost use Rattle.tz_info.specs.Steps.NextMoments.{nearer_moment};
 
-use crate::rule::alternate::Turns;
+use crate::rule::season::Turns;
 
 impl Turns {
     // In that direction the first one of the two moments and the limit, of those that are ahead of

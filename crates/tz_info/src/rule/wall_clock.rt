@@ -1,6 +1,6 @@
 //! The wall clock of a rule.
 
-ghost use Rattle.std.specs.Prelude.{◌≡◌, ◌≢◌, ◌-ℤ◌, MatchOption, Some, not, ⊤};
+ghost use Rattle.std.specs.Prelude.{◌≡◌, ◌≢◌, ◌-ℤ◌, ℤ, MatchOption, Some, not, ⊤};
 ghost use Rattle.std.specs.Result.{IsOkAnd};
 ghost use Rattle.naive_base.specs.NaiveDateTime.{reading};
 ghost use Rattle.naive_base.specs.Range.{IsWide};
@@ -11,16 +11,18 @@ ghost use Rattle.tz_timeline.specs.Counts.{RoseWithin, HasRoomFor};
 ghost use Rattle.tz_info.specs.Moments.{type_when};
 ghost use Rattle.tz_info.specs.RuleTypes.{RuleAt};
 ghost use Rattle.tz_info.specs.Rules.{IsAlternateRule};
-ghost use Rattle.tz_info.specs.Steps.Gaps.{IsNeverFrom, IsRuleGap, change_at};
-ghost use Rattle.tz_info.specs.Steps.RuleSeconds.{TypeFrom, IsAskedSince, IsAskedFrom, IsAmidFrom, AreUtOffsets};
-ghost use Rattle.tz_info.specs.Steps.Seasons.{IsSeason, IsSeasonFor, IsSeasonOf};
+ghost use Rattle.tz_info.specs.Steps.Gaps.{IsNeverFrom, IsRuleGap};
+ghost use Rattle.tz_info.specs.HeldChanges.{change_held};
+ghost use Rattle.tz_info.specs.Steps.RuleSeconds.{TypeFrom, IsAskedSince, IsAskedFrom, AreUtOffsets};
+ghost use Rattle.tz_info.specs.Steps.Seasons.{IsSeasonFor, IsSeasonOf};
 ghost use Rattle.tz_info.specs.Steps.Walk.{IsAskedLast};
 ghost use Rattle.tz_info.specs.WallClocks.{Shows};
 ghost use Rattle.tz_info.specs.declared.rule.transition_rule.TransitionRule.TheVariants.{Fixed, Alternate};
 
 use crate::answers::{answer_of_two, copied, joined, second_showing};
 use crate::change::HeldChange;
-use crate::rule::alternate::{AlternateTime, Season};
+use crate::rule::alternate::AlternateTime;
+use crate::rule::season::Season;
 use crate::rule::transition_rule::TransitionRule;
 use naive_base::NaiveDateTime;
 use offset_core::MappedLocalTime;
@@ -59,46 +61,31 @@ impl TransitionRule {
         ensures { IsWallAnswer (Shows (RuleAt self.now) local)
             (map_of (λ r. r.now) result) }
     {
-        let season = self.season_for(i64::MIN, local);
-        self.answer_from(season, i64::MIN, local, &mut Probes::new())
-    }
-
-    // The moments of the local time's year, if these decide at both seconds that could show it, and
-    // neither comes before that one.
-    #[inline(always)]
-    pub(crate) fn season_for(&self, from: i64, local: i64) -> Option<Season>
-        requires { IsWide local }
-        ensures { MatchOption result ⊤ (IsSeasonOf (Some self.now) local) }
-    {
-        match self {
-            TransitionRule::Fixed(_) => None,
-            TransitionRule::Alternate(turns) => turns.season_for(from, local),
-        }
+        self.answer_from(i64::MIN, local, &mut Probes::new()).1
     }
 
     // The types in force at the seconds from that one on at which a clock by this rule shows the
-    // local time.
+    // local time; before them the moments of its year, if these alone decided.
     #[inline(always)]
     pub(crate) fn answer_from(
         &self,
-        season: Option<Season>,
         from: i64,
         local: i64,
         probes: &mut Probes,
-    ) -> MappedLocalTime<&LocalTimeType>
-        requires season { MatchOption season ⊤ (IsSeasonOf (Some self.now) local) }
+    ) -> (Option<Season>, MappedLocalTime<&LocalTimeType>)
         requires local { IsWide local }
         requires room { HasRoomFor 2 probes.old.rule_questions }
+        ensures season { MatchOption result.0 ⊤ (IsSeasonOf (Some self.now) from local) }
         ensures found { IsWallAnswer (Shows (TypeFrom self.now from) local)
-            (map_of (λ r. r.now) result) }
+            (map_of (λ r. r.now) result.1) }
         ensures cost { RoseWithin probes.old probes.new 0 2 }
         ensures counted { IsAskedFrom self.now from local
             probes.old.rule_questions probes.new.rule_questions }
         ensures offsets { AreUtOffsets self.now }
     {
         match self {
-            TransitionRule::Fixed(only) => answer_of_one(only, from, local, probes),
-            TransitionRule::Alternate(turns) => turns.answer_from(season, from, local, probes),
+            TransitionRule::Fixed(only) => (None, answer_of_one(only, from, local, probes)),
+            TransitionRule::Alternate(turns) => turns.answer_from(from, local, probes),
         }
     }
 }
@@ -128,40 +115,19 @@ fn answer_of_one<'a>(
 }
 
 impl AlternateTime {
-    // The moments of the local time's year, if these decide at both seconds that could show it, and
-    // neither comes before that one.
-    #[inline(always)]
-    fn season_for(&self, from: i64, local: i64) -> Option<Season>
-        requires { IsWide local }
-        ensures { MatchOption result ⊤ (IsSeasonFor self.now local) }
-    {
-        let by_std = second_showing(local, self.std().offset());
-        let by_dst = second_showing(local, self.dst().offset());
-        if by_std < from || by_dst < from {
-            return None;
-        }
-        let season = self.season(local);
-        if season.decides(by_std) & season.decides(by_dst) {
-            Some(season)
-        } else {
-            None
-        }
-    }
-
     // Asks for the two seconds that could show the local time.
     #[inline(always)]
     fn answer_from(
         &self,
-        season: Option<Season>,
         from: i64,
         local: i64,
         probes: &mut Probes,
-    ) -> MappedLocalTime<&LocalTimeType>
-        requires season { MatchOption season ⊤ (IsSeasonFor self.now local) }
+    ) -> (Option<Season>, MappedLocalTime<&LocalTimeType>)
         requires local { IsWide local }
         requires room { HasRoomFor 2 probes.old.rule_questions }
+        ensures season { MatchOption result.0 ⊤ (IsSeasonFor self.now from local) }
         ensures found { IsWallAnswer (Shows (TypeFrom (Alternate self.now) from) local)
-            (map_of (λ r. r.now) result) }
+            (map_of (λ r. r.now) result.1) }
         ensures cost { RoseWithin probes.old probes.new 0 2 }
         ensures counted { IsAskedFrom (Alternate self.now) from local
             probes.old.rule_questions probes.new.rule_questions }
@@ -172,27 +138,29 @@ impl AlternateTime {
         let by_std = second_showing(local, standard);
         let by_dst = second_showing(local, daylight);
         if by_std < from && by_dst < from {
-            return MappedLocalTime::None;
+            return (None, MappedLocalTime::None);
         }
         if standard == daylight {
-            return self.ask(from, local, standard, MappedLocalTime::None, probes);
+            let only = self.ask(from, local, standard, MappedLocalTime::None, probes);
+            return (None, only);
         }
-        if let Some(season) = season {
-            if from <= by_std && from <= by_dst {
+        if from <= by_std && from <= by_dst {
+            let season = self.season(local);
+            if season.decides(by_std) & season.decides(by_dst) {
                 return self.answer_amid(season, from, local, probes);
             }
         }
         // The greater offset has the earlier second.
         if standard < daylight {
             let one = self.ask(from, local, daylight, MappedLocalTime::None, probes);
-            return self.ask(from, local, standard, one, probes);
+            return (None, self.ask(from, local, standard, one, probes));
         }
         let one = self.ask(from, local, standard, MappedLocalTime::None, probes);
-        self.ask(from, local, daylight, one, probes)
+        (None, self.ask(from, local, daylight, one, probes))
     }
 
     // Asks for the two seconds that could show the local time, where the season's moments decide at
-    // both.
+    // both, and hands the season on.
     #[inline(always)]
     fn answer_amid(
         &self,
@@ -200,15 +168,14 @@ impl AlternateTime {
         from: i64,
         local: i64,
         probes: &mut Probes,
-    ) -> MappedLocalTime<&LocalTimeType>
+    ) -> (Option<Season>, MappedLocalTime<&LocalTimeType>)
         requires local { IsWide local }
         requires room { HasRoomFor 2 probes.old.rule_questions }
-        requires season { IsSeason self.now season }
+        requires season { IsSeasonFor self.now from local season }
         requires other { self.now.std.offset ≢ self.now.dst.offset }
-        requires standard { IsAmidFrom season from (local -ℤ self.now.std.offset) }
-        requires daylight { IsAmidFrom season from (local -ℤ self.now.dst.offset) }
+        ensures season { MatchOption result.0 ⊤ (IsSeasonFor self.now from local) }
         ensures found { IsWallAnswer (Shows (TypeFrom (Alternate self.now) from) local)
-            (map_of (λ r. r.now) result) }
+            (map_of (λ r. r.now) result.1) }
         ensures cost { RoseWithin probes.old probes.new 0 2 }
         ensures counted { IsAskedFrom (Alternate self.now) from local
             probes.old.rule_questions probes.new.rule_questions }
@@ -221,40 +188,38 @@ impl AlternateTime {
         let is_dst = self.is_dst_amid(season, second_showing(local, daylight));
         // The greater offset has the earlier second.
         if standard < daylight {
-            answer_of_two(self.dst(), is_dst, self.std(), is_std)
+            (
+                Some(season),
+                answer_of_two(self.dst(), is_dst, self.std(), is_std),
+            )
         } else {
-            answer_of_two(self.std(), is_std, self.dst(), is_dst)
+            (
+                Some(season),
+                answer_of_two(self.std(), is_std, self.dst(), is_dst),
+            )
         }
     }
 
-    // The moment at which clocks jump over the local time, among the seconds from that one on, if
-    // the moments of its year decide at both seconds that could show it.
+    // The change at which clocks jump over the local time, where the season's moments decide at both
+    // seconds that could show it.
     //
     // At the earlier of these two the type of the lesser offset is in force, and at the later one
     // the other type, since neither shows the local time. So one moment lies between them.
     #[inline(always)]
-    pub(crate) fn gap_from(&self, season: Option<Season>, from: i64, local: i64) -> Option<Moment>
-        requires season { MatchOption season ⊤ (IsSeasonFor self.now local) }
-        requires local { IsWide local }
-        requires never { IsNeverFrom self.now from local }
-        ensures { MatchOption result ⊤
-            (λ m. IsRuleGap self.now from local (change_at self.now m)) }
+    pub(crate) fn gap_in(&self, season: Season, local: i64) -> HeldChange<'_>
+        requires { IsWide local }
+        ensures { (from : ℤ) → IsSeasonFor self.now from local season → IsNeverFrom self.now from local
+            → IsRuleGap self.now from local (change_held result) }
     {
-        let Some(season) = season else {
-            return None;
-        };
-        let by_std = second_showing(local, self.std().offset());
-        let by_dst = second_showing(local, self.dst().offset());
-        if by_std < from || by_dst < from {
-            return None;
-        }
-        if by_dst < by_std {
-            return Some(Moment {
+        let standard = self.std().offset();
+        let daylight = self.dst().offset();
+        if standard < daylight {
+            return self.change_of(Moment {
                 at: season.turns.start,
                 to_dst: true,
             });
         }
-        Some(Moment {
+        self.change_of(Moment {
             at: season.turns.end,
             to_dst: false,
         })

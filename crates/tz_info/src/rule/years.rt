@@ -10,8 +10,9 @@ ghost use Rattle.tz_info.specs.Rules.{Alternate, IsAlternateRule};
 ghost use Rattle.tz_info.specs.Steps.Beside.{IsMomentAt, IsNearestMomentOf, change_found};
 ghost use Rattle.tz_info.specs.Steps.Changes.{IsAhead, IsIdle, IsInStretch, IsEarlierOf, IsLaterOf, IsNearRuleTime, IsOfYear, IsOneOf, IsStretchAhead, moments_near, near_end, new_year, year_at};
 
-use crate::rule::alternate::{AlternateTime, FIRST_RULE_TIME, LAST_RULE_TIME, day_of};
+use crate::rule::alternate::AlternateTime;
 use crate::rule::beside::nearer;
+use crate::rule::season::{FIRST_RULE_TIME, LAST_RULE_TIME, day_of};
 use crate::rule::wall_clock::Moment;
 use gregorian::{year_of, year_start};
 

@@ -2,12 +2,13 @@
 
 ghost use Rattle.std.specs.Prelude.{ℤ, ◌≤ℤ◌, ◌<ℤ◌, ◌↔◌};
 ghost use Rattle.std.specs.Iterator.{YieldsFirst, YieldsLast, item_count};
-ghost use Rattle.tz_info.specs.Changes.{AreChanges, IsFirst, IsFromUntil, IsLast};
+ghost use Rattle.tz_info.specs.Changes.{AreChanges, IsNearest};
 ghost use Rattle.tz_info.specs.ChangesLeft.{changes_left};
 ghost use Rattle.tz_info.specs.Leaps.{least_time};
+ghost use Rattle.tz_info.specs.Steps.Changes.{IsInStretch};
 ghost use Rattle.tz_info.specs.Zones.{IsRuleOrNone, IsValid, TypeAt};
 
-use crate::change::{if_before, if_from};
+use crate::change::if_within;
 use crate::zone::time_zone::TimeZone;
 use std::iter::{DoubleEndedIterator, FusedIterator};
 use tz_base::Change;
@@ -16,8 +17,9 @@ use tz_base::Change;
 #[derive(Clone, Drop)]
 pub struct Changes<'a> {
     zone: &'a TimeZone,
-    from: i64,
-    until: i64,
+    // Those that come after the second `after`, and up to the second `last`, are left.
+    after: i64,
+    last: i64,
 }
 
 impl TimeZone {
@@ -42,37 +44,8 @@ impl TimeZone {
         let _ = &self.table;
         Changes {
             zone: self,
-            from,
-            until,
-        }
-    }
-
-    // The first change of the stretch.
-    fn first_change_in(&self, from: i64, until: i64) -> Option<Change>
-        ensures found { IsFirst (TypeAt self.now) (IsFromUntil from until) result }
-        ensures valid { IsValid self.now }
-        ensures rule { IsRuleOrNone self.now.rule }
-    {
-        let _ = &self.table;
-        match self.next_change(second_before(from)) {
-            Some(change) => if_before(change, until),
-            None => None,
-        }
-    }
-
-    // The last change of the stretch.
-    fn last_change_in(&self, from: i64, until: i64) -> Option<Change>
-        ensures found { IsLast (TypeAt self.now) (IsFromUntil from until) result }
-        ensures valid { IsValid self.now }
-        ensures rule { IsRuleOrNone self.now.rule }
-    {
-        let _ = &self.table;
-        match until.checked_sub(1) {
-            Some(last) => match self.previous_change(last) {
-                Some(change) => if_from(change, from),
-                None => None,
-            },
-            None => None,
+            after: second_before(from),
+            last: second_before(until),
         }
     }
 }
@@ -88,6 +61,32 @@ fn second_before(second: i64) -> i64
     }
 }
 
+impl Changes<'_> {
+    // The change that is left and comes first in that direction.
+    #[inline(always)]
+    fn nearest(&self, forward: bool) -> Option<Change>
+        ensures found { IsNearest forward (TypeAt self.now.zone.now)
+            (IsInStretch self.now.after self.now.last) result }
+        ensures valid { IsValid self.now.zone.now }
+        ensures rule { IsRuleOrNone self.now.zone.now.rule }
+    {
+        self.zone.valid_law();
+        if forward {
+            if_within(
+                self.zone.next_held_change(self.after),
+                self.after,
+                self.last,
+            )
+        } else {
+            if_within(
+                self.zone.previous_held_change(self.last),
+                self.after,
+                self.last,
+            )
+        }
+    }
+}
+
 impl<'a> Iterator for Changes<'a> {
     type Item = Change;
 
@@ -96,9 +95,9 @@ impl<'a> Iterator for Changes<'a> {
     ghost remaining = { item_count changes_left };
 
     fn next(&mut self) -> Option<Change> {
-        match self.zone.first_change_in(self.from, self.until) {
+        match self.nearest(true) {
             Some(change) => {
-                self.from = change.at + 1;
+                self.after = change.at;
                 Some(change)
             }
             None => None,
@@ -110,9 +109,9 @@ impl<'a> DoubleEndedIterator for Changes<'a> {
     ghost next_back_gives = { YieldsLast changes_left };
 
     fn next_back(&mut self) -> Option<Change> {
-        match self.zone.last_change_in(self.from, self.until) {
+        match self.nearest(false) {
             Some(change) => {
-                self.until = change.at;
+                self.last = change.at - 1;
                 Some(change)
             }
             None => None,

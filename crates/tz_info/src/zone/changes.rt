@@ -4,17 +4,18 @@
 //! transition need not: two of them may come at one second, or name types that are equal. So each
 //! second at which one comes is asked.
 
-ghost use Rattle.std.specs.Prelude.{◌≡◌, ◌≢◌, ◌<◌, length, ℤ, pos, neg_ℤ, ◌<ℤ◌, ◌-ℤ◌, ◌≤ℤ◌, ◌↔◌, FitsSigned, MatchOption, Some};
+ghost use Rattle.std.specs.Prelude.{◌≡◌, ◌≢◌, ◌<◌, length, ℤ, pos, neg_ℤ, ◌<ℤ◌, ◌-ℤ◌, ◌≤ℤ◌, ◌↔◌, FitsSigned, MatchOption, Some, option_map};
 ghost use Rattle.std.specs.Int.{w64};
-ghost use Rattle.tz_info.specs.Changes.{IsChange, HasNoChange, IsFirst, IsLast};
+ghost use Rattle.tz_info.specs.Changes.{IsChange, HasNoChange, IsFirst, IsLast, IsNearest};
 ghost use Rattle.tz_info.specs.Leaps.{AreLeapSeconds, IsLeapTime};
 ghost use Rattle.tz_info.specs.Rules.{Alternate as AlternateRule};
-ghost use Rattle.tz_info.specs.Steps.Changes.{AreComeOrAll, ComesAt, HasNoneAt};
-ghost use Rattle.tz_info.specs.Steps.Changes.{IsAhead, IsBegin, IsByRule, IsInTable, IsNearest};
+ghost use Rattle.tz_info.specs.Steps.Changes.{AreComeOrAll, ComesAt, HasNoneAt, IsAhead, IsBegin, IsChangeByRule};
+ghost use Rattle.tz_info.specs.Steps.Changes.{IsInTable};
+ghost use Rattle.tz_info.specs.HeldChanges.{change_held};
 ghost use Rattle.tz_info.specs.Zones.{HasType, TypeAt};
 ghost use Rattle.tz_info.specs.declared.rule.transition_rule.TransitionRule.TheVariants.{Alternate};
 
-use crate::change::change_between;
+use crate::change::{HeldChange, change_between, copied};
 use crate::rule::{AlternateTime, TransitionRule};
 use crate::zone::leap_second::LeapSecond;
 use crate::zone::starts::{correction_behind, entries_come};
@@ -39,15 +40,23 @@ impl TimeZone {
     pub fn next_change(&self, after: i64) -> Option<Change>
         ensures { IsFirst (TypeAt self.now) (λ u. after <ℤ u) result }
     {
+        copied(self.next_held_change(after))
+    }
+
+    /// As [`TimeZone::next_change`], with references to the zone's types.
+    #[inline(always)]
+    pub fn next_held_change(&self, after: i64) -> Option<HeldChange<'_>>
+        ensures { IsFirst (TypeAt self.now) (λ u. after <ℤ u) (option_map change_held result) }
+    {
         let come = self.come_at(after);
         self.next_from(after, come)
     }
 
     // The first change after a second at which that number of transitions have come.
     #[inline(always)]
-    pub(super) fn next_from(&self, after: i64, come: usize) -> Option<Change>
+    pub(super) fn next_from(&self, after: i64, come: usize) -> Option<HeldChange<'_>>
         requires { AreComeOrAll self.now after come }
-        ensures { IsFirst (TypeAt self.now) (λ u. after <ℤ u) result }
+        ensures { IsFirst (TypeAt self.now) (λ u. after <ℤ u) (option_map change_held result) }
     {
         let _ = &self.table;
         match self.next_in_table(after, come) {
@@ -58,9 +67,10 @@ impl TimeZone {
 
     // The first one of those that come with a transition.
     #[inline(always)]
-    fn next_in_table(&self, after: i64, come: usize) -> Option<Change>
+    fn next_in_table(&self, after: i64, come: usize) -> Option<HeldChange<'_>>
         requires { AreComeOrAll self.now after come }
-        ensures { IsFirst (TypeAt self.now) (IsInTable self.now (λ u. after <ℤ u)) result }
+        ensures { IsFirst (TypeAt self.now) (IsInTable self.now (λ u. after <ℤ u))
+            (option_map change_held result) }
     {
         let _ = &self.table;
         let count = self.transition_count();
@@ -76,9 +86,9 @@ impl TimeZone {
 
     // The nearest change ahead of the second in that direction, of those that come after all
     // transitions.
-    fn change_by_rule(&self, second: i64, forward: bool) -> Option<Change>
-        ensures { IsNearest forward (TypeAt self.now) (IsByRule self.now (IsAhead forward second))
-            result }
+    fn change_by_rule(&self, second: i64, forward: bool) -> Option<HeldChange<'_>>
+        ensures { IsNearest forward (TypeAt self.now) (IsChangeByRule self.now (IsAhead forward second))
+            (option_map change_held result) }
     {
         let _ = &self.table;
         let Some(turns) = self.turns() else {
@@ -102,6 +112,15 @@ impl TimeZone {
     pub fn previous_change(&self, before_or_at: i64) -> Option<Change>
         ensures { IsLast (TypeAt self.now) (λ u. u ≤ℤ before_or_at) result }
     {
+        copied(self.previous_held_change(before_or_at))
+    }
+
+    /// As [`TimeZone::previous_change`], with references to the zone's types.
+    #[inline(always)]
+    pub fn previous_held_change(&self, before_or_at: i64) -> Option<HeldChange<'_>>
+        ensures { IsLast (TypeAt self.now) (λ u. u ≤ℤ before_or_at)
+            (option_map change_held result) }
+    {
         let _ = &self.table;
         match self.change_by_rule(before_or_at, false) {
             Some(change) => Some(change),
@@ -114,9 +133,10 @@ impl TimeZone {
 
     // The last change with a transition up to a second at which that number of them have come.
     #[inline(always)]
-    pub(super) fn previous_in_table(&self, last: i64, come: usize) -> Option<Change>
+    pub(super) fn previous_in_table(&self, last: i64, come: usize) -> Option<HeldChange<'_>>
         requires { AreComeOrAll self.now last come }
-        ensures { IsLast (TypeAt self.now) (IsInTable self.now (λ u. u ≤ℤ last)) result }
+        ensures { IsLast (TypeAt self.now) (IsInTable self.now (λ u. u ≤ℤ last))
+            (option_map change_held result) }
     {
         let _ = &self.table;
         let mut left = come;
@@ -154,9 +174,9 @@ impl TimeZone {
     }
 
     // The change that comes with the transition at that place, if it changes the type.
-    pub(super) fn change_with(&self, place: usize) -> Option<Change>
+    pub(super) fn change_with(&self, place: usize) -> Option<HeldChange<'_>>
         requires { place < length self.now.transitions }
-        ensures { MatchOption result (HasNoneAt self.now place)
+        ensures { MatchOption (option_map change_held result) (HasNoneAt self.now place)
             (λ c. IsChange (TypeAt self.now) c × ComesAt self.now place c.at) }
     {
         if self.leap_seconds.is_empty() {
@@ -171,10 +191,10 @@ impl TimeZone {
 
     // The same without leap seconds: each transition comes at its own time, and they come one after
     // another, so that the transitions tell both types.
-    fn change_without_leaps(&self, place: usize) -> Option<Change>
+    fn change_without_leaps(&self, place: usize) -> Option<HeldChange<'_>>
         requires place { place < length self.now.transitions }
         requires leaps { length self.now.leaps ≡ 0 }
-        ensures { MatchOption result (HasNoneAt self.now place)
+        ensures { MatchOption (option_map change_held result) (HasNoneAt self.now place)
             (λ c. IsChange (TypeAt self.now) c × ComesAt self.now place c.at) }
     {
         let _ = &self.table;
@@ -186,8 +206,8 @@ impl TimeZone {
         let before = self.latest(place, &mut probes);
         change_between(
             here.unix_leap_time,
-            *self.listed(before.type_index),
-            *self.listed(here.type_index),
+            self.listed(before.type_index),
+            self.listed(here.type_index),
         )
     }
 
@@ -200,8 +220,8 @@ impl TimeZone {
     }
 
     // The change at that second, if there is one.
-    fn change_at(&self, second: i64) -> Option<Change>
-        ensures { MatchOption result
+    fn change_at(&self, second: i64) -> Option<HeldChange<'_>>
+        ensures { MatchOption (option_map change_held result)
             (HasNoChange (TypeAt self.now) (λ u. u ≡ second))
             (λ c. IsChange (TypeAt self.now) c × (c.at ≡ second)) }
     {
@@ -214,7 +234,7 @@ impl TimeZone {
         let Ok(after) = self.find_local_time_type(second) else {
             return None;
         };
-        change_between(second, *before, *after)
+        change_between(second, before, after)
     }
 
     // The first second at which all transitions have come, or the first one of 64 bits if there is
@@ -231,6 +251,7 @@ impl TimeZone {
     }
 
     // The first second at which the transition at that place has come.
+    #[inline(never)]
     fn start_of(&self, place: usize) -> i128
         requires { place < length self.now.transitions }
         ensures comes { ComesAt self.now place result }

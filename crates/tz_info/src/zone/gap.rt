@@ -5,14 +5,14 @@ ghost use Rattle.naive_base.specs.NaiveDateTime.{reading};
 ghost use Rattle.naive_base.specs.Range.{IsWide};
 ghost use Rattle.offset_core.specs.WallAnswer.{IsNeverShown};
 ghost use Rattle.tz_timeline.specs.Counts.{HasRoom, RoseWithin, HasRoomFor};
-ghost use Rattle.tz_info.specs.Around.{IsAround, IsAroundOrBefore, map_both};
-ghost use Rattle.tz_info.specs.Steps.HeldChanges.{change_held};
-ghost use Rattle.tz_info.specs.Gaps.{IsBeforeGap, HasGap, IsShown};
+ghost use Rattle.tz_info.specs.Around.{AreTypesAround, IsAroundOrBefore, map_both};
+ghost use Rattle.tz_info.specs.HeldChanges.{change_held};
+ghost use Rattle.tz_info.specs.Gaps.{IsTypeBeforeGap, HasGap, IsShown};
 ghost use Rattle.tz_info.specs.Looks.{RoseAround};
 ghost use Rattle.tz_info.specs.Questions.{IsAskedFor};
 ghost use Rattle.tz_info.specs.Segments.{table_count};
 ghost use Rattle.tz_info.specs.Steps.Gaps.{HasReach};
-ghost use Rattle.tz_info.specs.Steps.Seasons.{IsSeasonOf};
+ghost use Rattle.tz_info.specs.Steps.Seasons.{IsSeasonIn};
 ghost use Rattle.tz_info.specs.WallClocks.{Shows};
 ghost use Rattle.tz_info.specs.WallPieces.{AreLessAmong, Jumps, IsShownAmong};
 ghost use Rattle.tz_info.specs.Zones.{TypeAt};
@@ -35,7 +35,7 @@ impl TimeZone {
     /// In New York clocks were set forward from 02:00 to 03:00 on 14 March 2021. For 02:30 that day
     /// it returns the change at 1615705200 from EST to EDT, and for 03:30 EDT.
     pub fn find_local_time_type_around(&self, local: NaiveDateTime) -> Around<LocalTimeType, Change>
-        ensures { IsAround (TypeAt self.now) (reading local).s result }
+        ensures { AreTypesAround (TypeAt self.now) (reading local).s result }
     {
         self.find_local_time_type_around_counted(local, &mut Probes::new())
     }
@@ -54,7 +54,7 @@ impl TimeZone {
         probes: &mut Probes,
     ) -> Around<LocalTimeType, Change>
         requires { HasRoom probes.old }
-        ensures found { IsAround (TypeAt self.now) (reading local).s result }
+        ensures found { AreTypesAround (TypeAt self.now) (reading local).s result }
         ensures cost { RoseAround self.now result probes.old probes.new }
         ensures questions { IsAskedFor self.now (reading local).s
             probes.old.rule_questions probes.new.rule_questions }
@@ -87,15 +87,14 @@ impl TimeZone {
     fn around(&self, local: i64, probes: &mut Probes) -> Around<&LocalTimeType, HeldChange<'_>>
         requires local { IsWide local }
         requires room { HasRoom probes.old }
-        ensures found { IsAround (TypeAt self.now) local
+        ensures found { AreTypesAround (TypeAt self.now) local
             (map_both (λ r. r.now) change_held result) }
         ensures cost { RoseAround self.now (map_both (λ r. r.now) change_held result)
             probes.old probes.new }
         ensures questions { IsAskedFor self.now local
             probes.old.rule_questions probes.new.rule_questions }
     {
-        let season = self.season_for(local);
-        let (shown, answer) = self.wall_answer_of(season, local, probes);
+        let (shown, season, answer) = self.wall_answer_of(local, probes);
         match answer {
             MappedLocalTime::None => Around::Gap(self.gap_at(local, shown, season, probes)),
             MappedLocalTime::Single(only) => Around::Single(only),
@@ -112,7 +111,7 @@ impl TimeZone {
     pub fn find_local_time_type_before_gap(&self, local: NaiveDateTime) -> Option<LocalTimeType>
         ensures { MatchOption result
             (IsShown (TypeAt self.now) (reading local).s)
-            (λ t. IsBeforeGap (TypeAt self.now) (reading local).s t) }
+            (λ t. IsTypeBeforeGap (TypeAt self.now) (reading local).s t) }
     {
         match self.find_local_time_type_around(local) {
             Around::Gap(gap) => Some(gap.before),
@@ -131,7 +130,7 @@ impl TimeZone {
         probes: &mut Probes,
     ) -> HeldChange<'_>
         requires local { IsWide local }
-        requires season { MatchOption season ⊤ (IsSeasonOf self.now.rule local) }
+        requires season { MatchOption season ⊤ (IsSeasonIn self.now local) }
         requires never { IsNeverShown (Shows (TypeAt self.now) local) }
         requires shown { IsShownAmong self.now 0 (table_count self.now) local shown }
         requires room { HasRoomFor 1 probes.old.reads }
@@ -172,7 +171,7 @@ impl TimeZone {
     #[inline(always)]
     fn gap_behind_table(&self, local: i64, season: Option<Season>) -> HeldChange<'_>
         requires local { IsWide local }
-        requires season { MatchOption season ⊤ (IsSeasonOf self.now.rule local) }
+        requires season { MatchOption season ⊤ (IsSeasonIn self.now local) }
         requires never { IsNeverShown (Shows (TypeAt self.now) local) }
         requires reach { HasReach self.now local }
         requires less { AreLessAmong self.now 0 (table_count self.now) local }
@@ -183,10 +182,10 @@ impl TimeZone {
         let Some(turns) = self.turns() else {
             return self.gap_by_search(local);
         };
-        match turns.gap_from(season, self.index.rule_from(), local) {
-            Some(moment) => turns.change_of(moment),
-            None => self.gap_by_search(local),
-        }
+        let Some(season) = season else {
+            return self.gap_by_search(local);
+        };
+        turns.gap_in(season, local)
     }
 
     // The gap by the first second at which clocks show the local time or a later one.

@@ -2,7 +2,7 @@
 
 ghost use Rattle.std.specs.Prelude.{◌≡◌, ◌⊎◌, ◌<◌, ◌≤◌, ◌+◌, ◌^◌, length, IsTrue, MatchResult, ⊤};
 ghost use Rattle.std.specs.List.{slice_get};
-ghost use Rattle.tz_info.specs.Steps.Idle.{AreAlike, AreStarts, IsCarried, IsRun};
+ghost use Rattle.tz_info.specs.Steps.Idle.{AreStarts, HaveOneType, IsCarried, IsIdleRun};
 ghost use Rattle.tz_info.specs.Steps.Segments.{index_of};
 ghost use Rattle.tz_info.specs.Steps.Pieces.{zone_in};
 ghost use Rattle.tz_info.specs.Zones.{IsValid};
@@ -62,6 +62,7 @@ fn has_idle(lists: Lists) -> bool
 }
 
 // Whether the transition at that place changes nothing: it names the type in force before it.
+#[inline(always)]
 fn is_idle(lists: Lists, place: usize) -> bool
     requires valid { IsValid (zone_in lists) }
     requires place { place < length lists.transitions.now }
@@ -93,7 +94,7 @@ fn run_start(lists: Lists, place: usize, start: usize) -> usize
     requires valid { IsValid (zone_in lists) }
     requires place { place < length lists.transitions.now }
     requires carried { IsCarried lists.transitions.now lists.types.now place start }
-    ensures { IsRun lists.entry.transitions.now lists.entry.types.now place result }
+    ensures { IsIdleRun lists.entry.transitions.now lists.entry.types.now place result }
 {
     if place > 0 && is_idle(lists, place) {
         start
@@ -108,7 +109,7 @@ impl TimeZone {
         requires { place < length self.now.transitions }
         ensures later { place < result }
         ensures end { result ≤ length self.now.transitions }
-        ensures alike { AreAlike self.now.transitions self.now.types (place + 1) result }
+        ensures alike { HaveOneType self.now.transitions self.now.types (place + 1) result }
         ensures inside { length self.now.transitions ≤ result → result ≡ place + 1 }
     {
         let count = self.transition_count();
@@ -130,10 +131,10 @@ impl TimeZone {
         requires count { count ≡ length self.now.transitions }
         requires inside { (next ≡ first) ⊎ (next < count) }
         requires within { first ≤ count }
-        requires alike { AreAlike self.now.transitions self.now.types first next }
+        requires alike { HaveOneType self.now.transitions self.now.types first next }
         ensures low { first ≤ result }
         ensures inside { (result ≡ first) ⊎ (result < count) }
-        ensures alike { AreAlike self.now.transitions self.now.types first result }
+        ensures alike { HaveOneType self.now.transitions self.now.types first result }
     {
         if step < count - next && self.is_idle_from(first, next + step - 1) {
             next + step
@@ -146,7 +147,7 @@ impl TimeZone {
     pub(super) fn count_before(&self, place: usize) -> usize
         requires { place < length self.now.transitions }
         ensures count { result ≤ place }
-        ensures alike { AreAlike self.now.transitions self.now.types result place }
+        ensures alike { HaveOneType self.now.transitions self.now.types result place }
     {
         let _ = &self.table;
         if place == 0 {
@@ -162,7 +163,7 @@ impl TimeZone {
     fn is_idle_from(&self, first: usize, last: usize) -> bool
         requires { first ≤ last }
         ensures { IsTrue result
-            → AreAlike self.now.transitions self.now.types first (last + 1) }
+            → HaveOneType self.now.transitions self.now.types first (last + 1) }
     {
         let _ = &self.table;
         match self.idle.starts.get(last) {

@@ -6,10 +6,12 @@ ghost use Rattle.tz_timeline.specs.Counts.{RoseByPieces, HasRoomFor};
 ghost use Rattle.tz_timeline.specs.Digits.{digits};
 ghost use Rattle.tz_info.specs.Segments.{table_count};
 ghost use Rattle.tz_info.specs.Steps.Pieces.{zone_in, ArePieces};
+ghost use Rattle.tz_info.specs.Steps.Starts.{AreByUnixTime};
 ghost use Rattle.tz_info.specs.WallPieces.{answer_at, IsIndex};
 ghost use Rattle.tz_info.specs.Zones.{IsValid};
 
 use crate::rule::TransitionRule;
+use crate::zone::kept::Kept;
 use crate::zone::leap_second::LeapSecond;
 use crate::zone::one_pass::pieces_in_one_pass;
 use crate::zone::pieces::Piece;
@@ -72,15 +74,18 @@ impl Timed for Piece {
 }
 
 impl Index {
-    // The index of the zone of those lists.
-    pub(super) fn new(alloc: Global, lists: Lists) -> Result<Index, Error>
-        requires { IsValid (zone_in lists) }
+    // The index of the zone of those lists, whose transitions by Unix time are those if there are
+    // leap seconds.
+    pub(super) fn new(alloc: Global, lists: Lists, starts: &[Kept]) -> Result<Index, Error>
+        requires valid { IsValid (zone_in lists) }
+        requires starts { 0 < length lists.leaps.now → AreByUnixTime lists.transitions.now
+            lists.leaps.now starts.now }
         ensures { MatchResult result (λ i. IsIndex (zone_in lists.entry) i) (λ e. e ≡ OutOfMemory) }
     {
         if lists.transitions.is_empty() {
             return Ok(Index::without_pieces(alloc, lists));
         }
-        let all = match pieces_in_one_pass(alloc, lists)? {
+        let all = match pieces_in_one_pass(alloc, lists, starts)? {
             Some(pieces) => pieces,
             None => pieces_of(alloc, lists, 0, table_count(lists))?,
         };
@@ -149,7 +154,7 @@ impl Index {
             return self.before;
         }
         match self.pieces.passed(local, probes).latest {
-            Some(piece) => piece.answer,
+            Some(piece) => piece.answer.shown(),
             None => self.before,
         }
     }

@@ -14,6 +14,7 @@ ghost use Rattle.tz_info.specs.Transitions.{passed};
 ghost use Rattle.tz_info.specs.Zones.{RuleOrType, IsRefusedBy, IsFromLast, TypeAtLeapTime, TypeAt, IsTypeError};
 ghost use Rattle.tz_info.specs.declared.rule.transition_rule.TransitionRule.{TransitionRule};
 
+use crate::zone::kept::Kept;
 use crate::zone::leap_time::leap_time;
 use crate::zone::time_zone::TimeZone;
 use crate::zone::transition::Transition;
@@ -21,7 +22,7 @@ use tz_base::{Error, Expected, LocalTimeType};
 use tz_timeline::{Passed, Probes};
 
 // No leap time of a second up to this one leaves 64 bits, nor of one down to its negative.
-const NEAR: i64 = 10_000_000_000_000;
+pub(super) const NEAR: i64 = 10_000_000_000_000;
 
 impl TimeZone {
     /// The type in force at the second of Unix time.
@@ -98,14 +99,9 @@ impl TimeZone {
         }
     }
 
-    // The transitions that have come at the second, if it has a leap time. Only a second far from now
-    // needs it.
+    // The transitions that have come at the second, if it has a leap time.
     #[inline(always)]
-    pub(super) fn passed_at(
-        &self,
-        unix_time: i64,
-        probes: &mut Probes,
-    ) -> Option<Passed<'_, Transition>>
+    pub(super) fn passed_at(&self, unix_time: i64, probes: &mut Probes) -> Option<Passed<'_, Kept>>
         requires { HasRoomFor (digits (length self.now.transitions)) probes.old.reads }
         ensures come { MatchOption result (IsLeapTimeRefused self.now.leaps unix_time)
             (λ p. HaveComeAt self.now unix_time p.count (option_map (λ r. r.now) p.latest)) }
@@ -113,9 +109,25 @@ impl TimeZone {
         ensures looked { IfSome result (λ _. 0 < length self.now.transitions
             → probes.old.reads < probes.new.reads) }
     {
-        if !self.leap_seconds.is_empty() && -NEAR <= unix_time && unix_time <= NEAR {
+        if self.leap_seconds.is_empty() {
+            return Some(self.table.passed(unix_time, probes));
+        }
+        if -NEAR <= unix_time && unix_time <= NEAR {
             return Some(self.by_unix_time.passed(unix_time, probes));
         }
+        self.passed_by_leap_time(unix_time, probes)
+    }
+
+    // The same by the second's leap time, which only one far from now needs.
+    #[inline(never)]
+    fn passed_by_leap_time(&self, unix_time: i64, probes: &mut Probes) -> Option<Passed<'_, Kept>>
+        requires { HasRoomFor (digits (length self.now.transitions)) probes.old.reads }
+        ensures come { MatchOption result (IsLeapTimeRefused self.now.leaps unix_time)
+            (λ p. HaveComeAt self.now unix_time p.count (option_map (λ r. r.now) p.latest)) }
+        ensures cost { RoseWithin probes.old probes.new (digits (length self.now.transitions)) 0 }
+        ensures looked { IfSome result (λ _. 0 < length self.now.transitions
+            → probes.old.reads < probes.new.reads) }
+    {
         match leap_time(&self.leap_seconds, unix_time) {
             Ok(leap_time) => Some(self.table.passed(leap_time, probes)),
             Err(_) => None,
@@ -127,7 +139,7 @@ impl TimeZone {
     fn type_after(
         &self,
         unix_time: i64,
-        passed: Passed<'_, Transition>,
+        passed: Passed<'_, Kept>,
         probes: &mut Probes,
     ) -> Result<&LocalTimeType, Error>
         requires some { 0 < length self.now.transitions }
@@ -147,9 +159,9 @@ impl TimeZone {
             return Ok(&self.local_types[0]);
         };
         if passed.count < self.table.len() {
-            return Ok(&self.local_types[latest.type_index]);
+            return Ok(&self.local_types[latest.type_index()]);
         }
-        self.rule_or_type(unix_time, latest.type_index, probes)
+        self.rule_or_type(unix_time, latest.type_index(), probes)
     }
 
     // The rule's type at the second, or without a rule the type of that index.

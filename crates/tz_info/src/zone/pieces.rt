@@ -1,19 +1,31 @@
 //! Pieces of the wall-clock axis: on each of them local times have one answer.
 
-ghost use Rattle.std.specs.Prelude.{◌≡◌, ◌+◌, ◌<◌, ◌≤◌, length, take, IsTrue, IsFalse, MatchResult};
+ghost use Rattle.std.specs.Prelude.{◌≡◌, ◌+◌, ◌<◌, ◌≤◌, length, take, IsTrue, IsFalse, MatchResult, ⊤};
 ghost use Rattle.tz_base.specs.declared.error.Error.TheVariants.{OutOfMemory};
 ghost use Rattle.tz_info.specs.Steps.Merging.{IsMerged, IsNext, IsStep};
 ghost use Rattle.tz_info.specs.WallPieces.{answer_before, AreInOrder};
 
-use crate::zone::shown::{Shown, together};
-use std::alloc::Global;
+use crate::zone::shown::{Packed, Shown, together};
+use std::alloc::{AllocError, Global};
 use tz_base::Error;
 
 // From its start on, and until the next piece starts, a local time has this answer.
-#[derive(Clone, Copy, Debug)]
+#[derive(Debug, Drop)]
 pub(super) struct Piece {
     pub(super) start: i64,
-    pub(super) answer: Shown,
+    pub(super) answer: Packed,
+}
+
+impl Piece {
+    // The piece from there on, if the answer's numbers are small enough.
+    #[inline(always)]
+    pub(super) fn new(start: i64, shown: Shown) -> Result<Piece, AllocError>
+        ensures { MatchResult result
+            (λ p. p ≡ record { start = start; answer = shown }) (λ _. ⊤) }
+    {
+        let answer = Packed::new(shown)?;
+        Ok(Piece { start, answer })
+    }
 }
 
 // The pieces of earlier seconds and those of later ones, merged: where one of either starts, so
@@ -43,7 +55,8 @@ pub(super) fn merged(
             answer_before(before_first, first, i),
             answer_before(before_last, last, j),
         );
-        pieces.push(Piece { start, answer })?;
+        let piece = Piece::new(start, answer)?;
+        pieces.push(piece)?;
     }
     Ok(pieces)
 }
@@ -56,7 +69,7 @@ fn answer_before(before: &Shown, pieces: &[Piece], place: usize) -> Shown
     if place == 0 {
         return *before;
     }
-    pieces[place - 1].answer
+    pieces[place - 1].answer.shown()
 }
 
 // The start of the next piece of the two lists, and the places up to which they have been passed

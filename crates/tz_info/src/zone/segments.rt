@@ -56,6 +56,7 @@ pub(super) fn segment_at(lists: Lists, place: usize) -> Segment
 }
 
 // The index of the type in force after so many transitions.
+#[inline(always)]
 pub(super) fn index_of_segment(lists: Lists, place: usize) -> usize
     requires valid { IsValid (zone_in lists) }
     requires place { place ≤ length lists.transitions.now }
@@ -125,11 +126,9 @@ fn first_pieces(alloc: Global, lists: Lists) -> Result<Pieces, Error>
             pieces: Vec::new(alloc),
         });
     }
-    let end = Piece {
-        start: cut_at(start_of(lists.transitions, lists.leaps, 1), segment.offset),
-        answer: Shown::Less(segment.index),
-    };
-    let pieces = vec![in alloc; end]?;
+    let end = cut_at(start_of(lists.transitions, lists.leaps, 1), segment.offset);
+    let piece = Piece::new(end, Shown::Less(segment.index))?;
+    let pieces = vec![in alloc; piece]?;
     Ok(Pieces { before, pieces })
 }
 
@@ -148,10 +147,7 @@ fn last_pieces(alloc: Global, lists: Lists) -> Result<Pieces, Error>
     let before = index_before(lists, place);
     let segment = segment_at(lists, place);
     let second = start_of(lists.transitions, lists.leaps, place);
-    let start = Piece {
-        start: cut_at(second, segment.offset),
-        answer: Shown::Once(segment.index),
-    };
+    let start = Piece::new(cut_at(second, segment.offset), Shown::Once(segment.index))?;
     let pieces = vec![in alloc; start]?;
     Ok(Pieces {
         before: Shown::Skipped(Jump { place, before }),
@@ -178,14 +174,8 @@ fn inner_pieces(alloc: Global, lists: Lists, place: usize) -> Result<Pieces, Err
             pieces: Vec::new(alloc),
         });
     }
-    let start = Piece {
-        start: cut_at(first, segment.offset),
-        answer: Shown::Once(segment.index),
-    };
-    let end = Piece {
-        start: cut_at(next, segment.offset),
-        answer: Shown::Less(segment.index),
-    };
+    let start = Piece::new(cut_at(first, segment.offset), Shown::Once(segment.index))?;
+    let end = Piece::new(cut_at(next, segment.offset), Shown::Less(segment.index))?;
     let before = index_before(lists, place);
     let pieces = vec![in alloc; start, end]?;
     Ok(Pieces {

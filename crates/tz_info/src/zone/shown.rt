@@ -1,7 +1,13 @@
 //! What neighbouring segments show of a local time.
 
-ghost use Rattle.std.specs.Prelude.{◌≡◌};
-ghost use Rattle.tz_info.specs.Steps.Shown.{together};
+ghost use Rattle.std.specs.Prelude.{◌≡◌, ◌<◌, MatchResult, ⊤};
+ghost use Rattle.tz_info.specs.Steps.Shown.{together, unpacked};
+
+use std::alloc::AllocError;
+use std::marker::Model;
+
+// Places and indexes from this number on aren't packed.
+const TOO_GREAT: usize = 1 << 30;
 
 // Clocks jump over a local time: at the first second of the segment at that place they show more,
 // and at the second before it less, by the type of that index.
@@ -22,6 +28,79 @@ pub(super) enum Shown {
     Once(usize),
     // The local time itself: the types at the first and at the last second.
     Several(usize, usize),
+}
+
+// The same in eight bytes: the first number and which of the four it is, and the second number.
+#[derive(Debug, Drop)]
+pub(super) struct Packed {
+    first: u32,
+    second: u32,
+}
+
+impl Model for Packed {
+    ghost use Rattle.std.specs.Prelude.{◌/◌, ◌%◌};
+    ghost use Rattle.tz_info.specs.declared.zone.shown.Shown.{Shown};
+    ghost use Rattle.tz_info.specs.Steps.Shown.{unpacked};
+
+    ghost Value = { Shown };
+
+    ghost view = { λ p. unpacked (p.first % 4) (p.first / 4) p.second };
+}
+
+impl Packed {
+    // What is shown, if its numbers are small enough.
+    #[inline(always)]
+    pub(super) fn new(shown: Shown) -> Result<Packed, AllocError>
+        ensures { MatchResult result (λ p. p ≡ shown) (λ _. ⊤) }
+    {
+        match shown {
+            Shown::Less(before) => Packed::of(0, before, 0),
+            Shown::Skipped(jump) => Packed::of(1, jump.place, jump.before),
+            Shown::Once(only) => Packed::of(2, only, 0),
+            Shown::Several(first, last) => Packed::of(3, first, last),
+        }
+    }
+
+    #[inline(always)]
+    fn of(kind: u32, first: usize, second: usize) -> Result<Packed, AllocError>
+        requires { kind < 4 }
+        ensures { MatchResult result (λ p. p ≡ unpacked kind first second) (λ _. ⊤) }
+    {
+        if first >= TOO_GREAT || second >= TOO_GREAT {
+            return Err(AllocError);
+        }
+        Ok(Packed {
+            first: first as u32 * 4 + kind,
+            second: second as u32,
+        })
+    }
+
+    // What is packed.
+    #[inline(always)]
+    pub(super) fn shown(&self) -> Shown
+        ensures { result ≡ self.now }
+    {
+        shown_of(
+            self.first % 4,
+            (self.first / 4) as usize,
+            self.second as usize,
+        )
+    }
+}
+
+#[inline(always)]
+fn shown_of(kind: u32, first: usize, second: usize) -> Shown
+    ensures { result ≡ unpacked kind first second }
+{
+    match kind {
+        0 => Shown::Less(first),
+        1 => Shown::Skipped(Jump {
+            place: first,
+            before: second,
+        }),
+        2 => Shown::Once(first),
+        _ => Shown::Several(first, second),
+    }
 }
 
 // What earlier segments and later ones show together.

@@ -8,6 +8,7 @@ ghost use Rattle.tz_info.specs.Steps.Starts.{AreByUnixTime, HaveCome, IsReachedF
 ghost use Rattle.tz_info.specs.Transitions.{AreRising};
 ghost use Rattle.tz_info.specs.WallPieces.{IsStart};
 
+use crate::zone::kept::Kept;
 use crate::zone::leap_second::LeapSecond;
 use crate::zone::leap_time::correction_after;
 use crate::zone::transition::Transition;
@@ -20,7 +21,7 @@ pub(super) fn by_unix_time(
     alloc: Global,
     transitions: &[Transition],
     leaps: &[LeapSecond],
-) -> Result<Timeline<Transition>, AllocError>
+) -> Result<Timeline<Kept>, AllocError>
     requires leaps { AreLeapSeconds leaps.now }
     requires rising { AreRising transitions.now }
     ensures { MatchResult result (λ t. 0 < length leaps.now → AreByUnixTime transitions.now
@@ -33,10 +34,11 @@ pub(super) fn by_unix_time(
     let mut start = i64::MIN;
     for transition in transitions {
         start = later(start, first_second(leaps, transition.unix_leap_time));
-        entries.push_reserved(Transition {
+        let entry = Kept::new(Transition {
             unix_leap_time: start,
             type_index: transition.type_index,
-        });
+        })?;
+        entries.push_reserved(entry);
     }
     Timeline::new(alloc, entries)
 }

@@ -7,17 +7,18 @@ ghost use Rattle.tz_timeline.specs.Search.{IsLastOf};
 ghost use Rattle.tz_timeline.specs.Digits.{digits};
 ghost use Rattle.tz_info.specs.Transitions.{AreRising, passed};
 
+use crate::zone::kept::{Kept, all_kept};
 use crate::zone::transition::Transition;
 use std::alloc::Global;
 use std::fmt;
 use std::marker::Model;
 use tz_base::Error;
-use tz_timeline::{Passed, Probes, Timed, Timeline};
+use tz_timeline::{Passed, Probes, Timeline};
 
 // Transitions whose times rise.
 #[derive(Drop)]
 pub(super) struct Table {
-    entries: Timeline<Transition>,
+    entries: Timeline<Kept>,
 }
 
 impl Model for Table {
@@ -30,32 +31,6 @@ impl Model for Table {
     ghost view = { λ t. t.entries };
 
     ghost invariant = { λ t. AreRising t.entries };
-}
-
-impl Timed for Transition {
-    ghost use Rattle.tz_timeline.specs.Counts.{reads_more, reads_more_on, reads_more_none, reads_more_looks};
-
-    ghost time = { λ t. t.unix_leap_time };
-
-    ghost counted = { reads_more };
-
-    ghost looks = { λ c. c.reads };
-
-    ghost counts_up = { reads_more_on };
-
-    ghost counts_none = { reads_more_none };
-
-    ghost counts_looks = { reads_more_looks };
-
-    #[inline(always)]
-    fn second(&self) -> i64 {
-        self.unix_leap_time
-    }
-
-    #[inline(always)]
-    fn count_look(probes: &mut Probes) {
-        probes.count_read();
-    }
 }
 
 // Of only the transitions: what else is kept follows from them.
@@ -88,7 +63,8 @@ impl Table {
         requires { AreRising entries.items }
         ensures { MatchResult result (λ t. t ≡ entries.items) (λ e. e ≡ OutOfMemory) }
     {
-        let entries = Timeline::new(alloc, entries)?;
+        let kept = all_kept(alloc, &entries)?;
+        let entries = Timeline::new(alloc, kept)?;
         Ok(Table { entries })
     }
 
@@ -118,12 +94,12 @@ impl Table {
         ensures item { result ≡ slice_index_or self.now place result }
         ensures count { probes.new ≡ record probes.old { reads = probes.old.reads + 1 } }
     {
-        *self.entries.read(place, probes)
+        self.entries.read(place, probes).transition()
     }
 
     // How many transitions come at or before the leap time, and the last of them.
     #[inline(always)]
-    pub(super) fn passed(&self, leap_time: i64, probes: &mut Probes) -> Passed<'_, Transition>
+    pub(super) fn passed(&self, leap_time: i64, probes: &mut Probes) -> Passed<'_, Kept>
         requires { HasRoomFor (digits (length self.now)) probes.old.reads }
         ensures within { result.count ≤ length self.now }
         ensures passed { passed self.now leap_time ≡ take result.count self.now }

@@ -12,6 +12,7 @@ use crate::rule::TransitionRule;
 use crate::zone::extremes::{Extremes, extremes_of};
 use crate::zone::idle::Idle;
 use crate::zone::index::Index;
+use crate::zone::kept::Kept;
 use crate::zone::leap_second::LeapSecond;
 use crate::zone::segments::Lists;
 use crate::zone::starts::by_unix_time;
@@ -37,7 +38,7 @@ use tz_timeline::Timeline;
 pub struct TimeZone {
     pub(super) table: Table,
     // The transitions by Unix time, if there are leap seconds.
-    pub(super) by_unix_time: Timeline<Transition>,
+    pub(super) by_unix_time: Timeline<Kept>,
     pub(super) local_types: Vec<LocalTimeType>,
     pub(super) leap_seconds: Vec<LeapSecond>,
     pub(super) last_rule: Option<TransitionRule>,
@@ -126,7 +127,8 @@ impl TimeZone {
     ///
     /// [`Error::TimeZone`] if the lists are otherwise, with what was expected of the first one with
     /// a fault: the types, the type indexes, then the times of the transitions, the leap seconds,
-    /// the rule. [`Error::OutOfMemory`] if there is no memory for the zone's index and hints.
+    /// the rule. [`Error::OutOfMemory`] if there is no memory for the zone's index and hints,
+    /// or if there are 1,073,741,824 transitions or types, or more: the index numbers no more of them.
     pub fn new(
         alloc: Global,
         transitions: Vec<Transition>,
@@ -151,10 +153,10 @@ impl TimeZone {
             leaps: &leaps,
             rule: &rule,
         };
-        let index = Index::new(alloc, lists)?;
+        let by_unix_time = by_unix_time(alloc, lists.transitions, lists.leaps)?;
+        let index = Index::new(alloc, lists, by_unix_time.items())?;
         let idle = Idle::new(alloc, lists)?;
         let extremes = extremes_of(&types, &rule);
-        let by_unix_time = by_unix_time(alloc, &transitions, &leaps)?;
         Ok(TimeZone {
             table: Table::new(alloc, transitions)?,
             by_unix_time,

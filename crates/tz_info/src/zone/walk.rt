@@ -209,7 +209,7 @@ impl TimeZone {
     {
         match &self.last_rule {
             None => self.try_from(local, current, answer),
-            Some(rule) => self.try_rule(rule, self.season_for(local), local, answer, probes),
+            Some(rule) => self.try_rule(rule, local, answer, probes).1,
         }
     }
 }

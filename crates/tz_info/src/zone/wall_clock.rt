@@ -12,9 +12,9 @@ ghost use Rattle.tz_info.specs.Looks.{RoseByWallClock};
 ghost use Rattle.tz_info.specs.Questions.{IsAskedFor};
 ghost use Rattle.tz_info.specs.Segments.{table_count};
 ghost use Rattle.tz_info.specs.WallClocks.{Shows};
-ghost use Rattle.tz_info.specs.WallPieces.{IsShownAmong, ShownAmong, wall_of};
+ghost use Rattle.tz_info.specs.WallPieces.{IsShownAmong, ShownAmong, shown_indexes};
 ghost use Rattle.tz_info.specs.Steps.Pieces.{AreBelow, AreListed};
-ghost use Rattle.tz_info.specs.Steps.Seasons.{IsSeasonOf};
+ghost use Rattle.tz_info.specs.Steps.Seasons.{IsSeasonIn};
 ghost use Rattle.tz_info.specs.Steps.Walk.{IsShownIn};
 ghost use Rattle.tz_info.specs.Zones.{IsValid, TypeAt};
 
@@ -104,44 +104,34 @@ impl TimeZone {
         ensures counted { IsAskedFor self.now local
             probes.old.rule_questions probes.new.rule_questions }
     {
-        self.wall_answer_of(self.season_for(local), local, probes).1
+        self.wall_answer_of(local, probes).2
     }
 
-    // The moments of the local time's year, if there is a rule and they decide at both seconds at
-    // which it could show the local time.
-    #[inline(always)]
-    pub(super) fn season_for(&self, local: i64) -> Option<Season>
-        requires { IsWide local }
-        ensures { MatchOption result ⊤ (IsSeasonOf self.now.rule local) }
-    {
-        match &self.last_rule {
-            None => None,
-            Some(rule) => rule.season_for(self.index.rule_from(), local),
-        }
-    }
-
-    // What the table shows of the local time, and the answer of all seconds.
+    // What the table shows of the local time, the moments of its year if the rule's part was
+    // decided by these alone, and the answer of all seconds.
     #[inline(always)]
     pub(super) fn wall_answer_of(
         &self,
-        season: Option<Season>,
         local: i64,
         probes: &mut Probes,
-    ) -> (Shown, MappedLocalTime<&LocalTimeType>)
-        requires season { MatchOption season ⊤ (IsSeasonOf self.now.rule local) }
+    ) -> (Shown, Option<Season>, MappedLocalTime<&LocalTimeType>)
         requires local { IsWide local }
         requires room { HasRoom probes.old }
         ensures shown { IsShownAmong self.now 0 (table_count self.now) local result.0 }
+        ensures season { MatchOption result.1 ⊤ (IsSeasonIn self.now local) }
         ensures found { IsWallAnswer (Shows (TypeAt self.now) local)
-            (map_of (λ r. r.now) result.1) }
+            (map_of (λ r. r.now) result.2) }
         ensures cost { RoseByWallClock self.now probes.old probes.new }
         ensures counted { IsAskedFor self.now local
             probes.old.rule_questions probes.new.rule_questions }
     {
         let (shown, table) = self.table_answer(local, probes);
         match &self.last_rule {
-            None => (shown, table),
-            Some(rule) => (shown, self.try_rule(rule, season, local, table, probes)),
+            None => (shown, None, table),
+            Some(rule) => {
+                let (season, all) = self.try_rule(rule, local, table, probes);
+                (shown, season, all)
+            }
         }
     }
 
@@ -168,39 +158,38 @@ impl TimeZone {
     }
 
     // The answer with the seconds at which the rule's types show the local time, from the last
-    // transition on.
+    // transition on; before it the moments of the local time's year, if these alone decided there.
     #[inline(always)]
     pub(super) fn try_rule<'a>(
         &'a self,
         rule: &'a TransitionRule,
-        season: Option<Season>,
         local: i64,
         answer: MappedLocalTime<&'a LocalTimeType>,
         probes: &mut Probes,
-    ) -> MappedLocalTime<&'a LocalTimeType>
-        requires season { MatchOption season ⊤ (IsSeasonOf self.now.rule local) }
+    ) -> (Option<Season>, MappedLocalTime<&'a LocalTimeType>)
         requires local { IsWide local }
         requires room { HasRoomFor 2 probes.old.rule_questions }
         requires rule { self.now.rule ≡ Some rule.now }
         requires seen { IsWallAnswer
             (IsShownIn self.now local (length self.now.transitions))
             (map_of (λ r. r.now) answer) }
+        ensures season { MatchOption result.0 ⊤ (IsSeasonIn self.now local) }
         ensures found { IsWallAnswer (IsShownIn self.now local
-            (length self.now.transitions + 1)) (map_of (λ r. r.now) result) }
+            (length self.now.transitions + 1)) (map_of (λ r. r.now) result.1) }
         ensures cost { RoseWithin probes.old probes.new 0 2 }
         ensures counted { IsAskedFor self.now local
             probes.old.rule_questions probes.new.rule_questions }
     {
-        let by_rule = rule.answer_from(season, self.index.rule_from(), local, probes);
-        joined(answer, by_rule)
+        let (season, by_rule) = rule.answer_from(self.index.rule_from(), local, probes);
+        (season, joined(answer, by_rule))
     }
 }
 
 // The types of the indexes.
 #[inline(always)]
 fn types_of(types: &[LocalTimeType], shown: Shown) -> MappedLocalTime<&LocalTimeType>
-    requires { AreBelow (length types.now) (wall_of shown) }
-    ensures { AreListed types.now (wall_of shown) (map_of (λ r. r.now) result) }
+    requires { AreBelow (length types.now) (shown_indexes shown) }
+    ensures { AreListed types.now (shown_indexes shown) (map_of (λ r. r.now) result) }
 {
     match shown {
         Shown::Less(_) | Shown::Skipped(_) => MappedLocalTime::None,

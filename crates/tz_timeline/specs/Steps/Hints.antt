@@ -1,27 +1,28 @@
 -- Hints at the places of items that come in order of time. The time from the first item on is cut into stretches of equal
 -- length, and a hint says which item is the last one before a stretch.
 use Rattle.std.specs.Prelude.{ℕ, suc, ◌≡◌, ◌⊎◌, ◌+◌, ◌*◌, ◌/◌, ◌^◌, ◌<◌, ◌≤◌, List, length, slice_index, ℤ, pos, nat_abs, ◌+ℤ◌, ◌-ℤ◌, ◌≤ℤ◌, ◌<ℤ◌}
-use Rattle.tz_timeline.specs.Search.{time_at}
+use Rattle.tz_timeline.specs.Search.{item_time}
 use Rattle.tz_timeline.specs.declared.hints.Hints.{Hints}
 use Rattle.tz_timeline.specs.declared.hints.Near.{Near}
 
 -- the last item before that time stands at the place, or where none comes before it the first does
 pub record IsLastBefore (times : List ℤ) (time : ℤ) (place : ℕ) : Type 0 where
   pub within : place < length times
-  pub before : 0 < place → time_at times place <ℤ time
-  pub behind : (k : ℕ) → place < k → k < length times → time ≤ℤ time_at times k
+  pub before : 0 < place → item_time times place <ℤ time
+  pub behind : (k : ℕ) → place < k → k < length times → time ≤ℤ item_time times k
 
 -- no number is less than the one before it
-abbrev pub AreRising : List ℕ → Type 0
-AreRising numbers = (b : ℕ) → suc b < length numbers → slice_index numbers b ≤ slice_index numbers (suc b)
+abbrev pub AreNonDecreasing : List ℕ → Type 0
+AreNonDecreasing numbers = (b : ℕ) → suc b < length numbers → slice_index numbers b ≤ slice_index numbers (suc b)
 
 -- each hint is that of its stretch, and no two neighbours leave more than half of the items between them
 pub record AreHints (times : List ℤ) (hints : Hints) : Type 0 where
   pub shift : hints.shift < 64
-  pub rising : AreRising hints.places.items
-  pub places : (b : ℕ) → b < length hints.places.items → IsLastBefore times (time_at times 0 +ℤ pos (b * 2 ^ hints.shift)) (slice_index hints.places.items b)
+  pub rising : AreNonDecreasing hints.places.items
+  pub places : (b : ℕ) → b < length hints.places.items → IsLastBefore times (item_time times 0 +ℤ pos (b * 2 ^ hints.shift)) (slice_index hints.places.items b)
   pub some : 0 < length hints.places.items → 4 ≤ length times
-  pub narrow : (b : ℕ) → suc b < length hints.places.items → 2 * (slice_index hints.places.items (suc b) + 1) ≤ 2 * slice_index hints.places.items b + length times
+  pub narrow : (b : ℕ) → suc b < length hints.places.items
+      → 2 * (slice_index hints.places.items (suc b) + 1) ≤ 2 * slice_index hints.places.items b + length times
 
 -- the items from the stretch's hint on, up to that of the next
 pub record IsHinted (places : List ℕ) (stretch : ℕ) (near : Near) : Type 0 where
@@ -35,8 +36,9 @@ stretch_of first time shift = nat_abs (time -ℤ first) / 2 ^ shift
 
 -- of the first n items the last one in each stretch is noted after it, and 0 where there is none
 pub record AreMarked (times : List ℤ) (first : ℤ) (shift n : ℕ) (places : List ℕ) : Type 0 where
-  pub of_item : (b : ℕ) → b < length places → (slice_index places b ≡ 0) ⊎ ((slice_index places b < n) × (suc (stretch_of first (time_at times (slice_index places b)) shift) ≡ b))
-  pub latest : (k : ℕ) → k < n → k ≤ slice_index places (suc (stretch_of first (time_at times k) shift))
+  pub of_item : (b : ℕ) → b < length places
+      → (slice_index places b ≡ 0) ⊎ ((slice_index places b < n) × (suc (stretch_of first (item_time times (slice_index places b)) shift) ≡ b))
+  pub latest : (k : ℕ) → k < n → k ≤ slice_index places (suc (stretch_of first (item_time times k) shift))
 
 -- each number of the first n is raised to the greatest up to it, by at most so much from one to the next
 pub record AreRaisedUntil (before after : List ℕ) (most n : ℕ) : Type 0 where

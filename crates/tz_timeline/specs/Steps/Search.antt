@@ -1,22 +1,22 @@
 -- What the steps of a search keep.
 use Rattle.std.specs.Prelude.{ℕ, ◌≡◌, ◌+◌, ◌-◌, ◌^◌, ◌<◌, ◌≤◌, List, length, ℤ, ◌≤ℤ◌, ◌<ℤ◌}
-use Rattle.tz_timeline.specs.Search.{AreOrdered, time_at}
+use Rattle.tz_timeline.specs.Search.{AreOrdered, item_time}
 use Rattle.tz_timeline.specs.declared.hints.Near.{Near}
 use Rattle.tz_timeline.specs.declared.timeline.Ends.{Ends}
 
 -- the first and the last of the times, where there is one
 pub record AreEnds (times : List ℤ) (ends : Ends) : Type 0 where
-  pub first : 0 < length times → ends.first ≡ time_at times 0
-  pub last : 0 < length times → ends.last ≡ time_at times (length times - 1)
+  pub first : 0 < length times → ends.first ≡ item_time times 0
+  pub last : 0 < length times → ends.last ≡ item_time times (length times - 1)
 
 -- the last one that comes at or before v is one of these
-pub record IsNear (times : List ℤ) (v : ℤ) (near : Near) : Type 0 where
+pub record IsNarrowedTo (times : List ℤ) (v : ℤ) (near : Near) : Type 0 where
   pub ordered : AreOrdered times
   pub some : 0 < near.count
   pub within : near.first + near.count ≤ length times
   pub fits : near.first + near.count < 2 ^ 64
-  pub come : time_at times near.first ≤ℤ v
-  pub behind : (k : ℕ) → near.first + near.count ≤ k → k < length times → v <ℤ time_at times k
+  pub come : item_time times near.first ≤ℤ v
+  pub behind : (k : ℕ) → near.first + near.count ≤ k → k < length times → v <ℤ item_time times k
 
 -- those before `first` come at or before v, those from `high` on after it
 pub record IsLeft (times : List ℤ) (v : ℤ) (first high : ℕ) : Type 0 where
@@ -24,5 +24,5 @@ pub record IsLeft (times : List ℤ) (v : ℤ) (first high : ℕ) : Type 0 where
   pub rising : first ≤ high
   pub within : high ≤ length times
   pub fits : high < 2 ^ 64
-  pub before : (k : ℕ) → k < first → time_at times k ≤ℤ v
-  pub behind : (k : ℕ) → high ≤ k → k < length times → v <ℤ time_at times k
+  pub before : (k : ℕ) → k < first → item_time times k ≤ℤ v
+  pub behind : (k : ℕ) → high ≤ k → k < length times → v <ℤ item_time times k

@@ -13,7 +13,7 @@ abbrev pub counts_in : Sizes → Counts
 counts_in s = counts_of s.leap_seconds s.transitions s.types s.designations
 
 -- the second block has room for the zone with those designations, and has those counts
-pub record HasRoom (z : Zone) (room : Room) : Type 0 where
+pub record IsRoomOf (z : Zone) (room : Room) : Type 0 where
   pub counts : HasCounts z
   pub indexes : All HasIndex z.transitions
   pub places : HavePlaces room.designations z.types

@@ -3,7 +3,7 @@
 ghost use Rattle.std.specs.Prelude.{◌≡◌, ◌<◌, ◌↔◌, ◌++◌, length, slice_index_or, All, IsTrue, OnOk};
 ghost use Rattle.std.specs.List.{flat_map};
 ghost use Rattle.tz_write.specs.FileBytes.{time_bytes, index_bytes, leap_bytes};
-ghost use Rattle.tz_write.specs.WrittenFiles.{HasIndex, IsTime, IsEntry};
+ghost use Rattle.tz_write.specs.WrittenFiles.{HasIndex, HasTimeOf64Bits, IsEntry};
 ghost use Rattle.tz_info.specs.declared.zone.transition.Transition.{Transition as AnyTransition};
 
 use crate::file::numbers::{push_signed_32, push_signed_64};
@@ -34,7 +34,7 @@ pub fn have_indexes(zone: &TimeZone) -> bool
 
 fn push_time(bytes: &mut Vec<u8>, transition: Transition) -> Result<(), AllocError>
     ensures appended { OnOk result (bytes.new.items ≡ bytes.old.items ++ time_bytes transition) }
-    ensures sound { OnOk result (IsTime transition) }
+    ensures sound { OnOk result (HasTimeOf64Bits transition) }
 {
     push_signed_64(bytes, transition.unix_leap_time)
 }
@@ -44,7 +44,7 @@ fn push_time(bytes: &mut Vec<u8>, transition: Transition) -> Result<(), AllocErr
 pub fn push_times(bytes: &mut Vec<u8>, zone: &TimeZone) -> Result<(), AllocError>
     ensures appended { OnOk result
         (bytes.new.items ≡ bytes.old.items ++ flat_map time_bytes zone.now.transitions) }
-    ensures sound { OnOk result (All IsTime zone.now.transitions) }
+    ensures sound { OnOk result (All HasTimeOf64Bits zone.now.transitions) }
 {
     for place in 0..zone.transition_count() {
         push_time(bytes, transition(zone, place))?;

@@ -4,7 +4,9 @@
 ghost use Rattle.std.specs.Prelude.{◌≡◌, ◌<◌, ◌≤◌, ◌+◌, ◌↔◌, [], ◌∷◌, ◌++◌, length, All, IsTrue, List, ℕ, MatchOption};
 ghost use Rattle.tz_base.specs.Names.{IsNameOrNone};
 ghost use Rattle.tz_write.specs.FileDesignations.{name_of, begins, place_of, AreNamesIn, AreShortest};
-ghost use Rattle.tz_write.specs.FileLayouts.{HasPlace, HavePlaces, with_text, ends, with_text_of, with_texts, before_last, laid, text_at, laid_from, ArePlaced, IsPlacedFrom, AreNotPlacedBefore, IsFirstPlaced, IsLaid};
+ghost use Rattle.tz_write.specs.FileLayouts.{HasPlace, HavePlaces, with_text, ends, with_text_of, with_texts};
+ghost use Rattle.tz_write.specs.FileLayouts.{before_last, laid, text_at, laid_from, ArePlaced, IsPlacedFrom};
+ghost use Rattle.tz_write.specs.FileLayouts.{AreNotPlacedBefore, IsFirstPlaced, IsLaid};
 
 use std::marker::Model;
 use tz_info::LocalTimeType;

@@ -5,7 +5,7 @@ ghost use Rattle.tz_info.specs.Zones.{IsValid, IsRuleOrNone};
 ghost use Rattle.tz_write.specs.FileBytes.{zone_counts, zone_parts, block_bytes, footer_bytes, second_half, file_bytes};
 ghost use Rattle.tz_write.specs.WrittenFiles.{IsCount, HasCounts, HasIndex, FitsBlock, IsSound};
 ghost use Rattle.tz_write.specs.FileLayouts.{HavePlaces};
-ghost use Rattle.tz_write.specs.Steps.FileParts.{counts_in, HasRoom};
+ghost use Rattle.tz_write.specs.Steps.FileParts.{counts_in, IsRoomOf};
 
 use crate::file::contents::{have_indexes, push_indexes, push_leap_seconds, push_times};
 use crate::file::designations::{Designations, designations_of};
@@ -50,7 +50,7 @@ fn sizes_of(zone: &TimeZone, designations: &[u8]) -> Option<Sizes>
 pub fn room_for(zone: &TimeZone) -> Option<Room>
     ensures { MatchOption result
         (¬ (FitsBlock zone.now))
-        (λ room. HasRoom zone.now room) }
+        (λ room. IsRoomOf zone.now room) }
 {
     if !have_indexes(zone) {
         return None;
@@ -97,7 +97,7 @@ fn push_second_half(
     text: &[u8],
     extended: bool,
 ) -> Result<(), AllocError>
-    requires { HasRoom zone.now room.now }
+    requires { IsRoomOf zone.now room.now }
     ensures appended { OnOk result
         (bytes.new.items ≡ bytes.old.items ++ second_half extended text.now room.now.designations zone.now) }
     ensures sound { OnOk result (IsSound zone.now) }
@@ -116,7 +116,7 @@ pub fn write_file(
     text: &[u8],
     extended: bool,
 ) -> Result<Vec<u8>, AllocError>
-    requires { HasRoom zone.now room.now }
+    requires { IsRoomOf zone.now room.now }
     ensures bytes { IfOk result (λ v. v.items ≡ file_bytes extended text.now room.now.designations zone.now) }
     ensures sound { OnOk result (IsSound zone.now) }
     ensures valid { IsValid zone.now }

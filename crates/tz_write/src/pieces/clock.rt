@@ -2,7 +2,8 @@
 
 ghost use Rattle.std.specs.Prelude.{◌≡◌, ◌+◌, ◌<◌, [], ◌∷◌, ◌++◌, OnOk, string_bytes};
 ghost use Rattle.std.specs.Fmt.{decimal};
-ghost use Rattle.tz_write.specs.Steps.TextPieces.{pair_text, seconds_text, minutes_text, clock_text, signed_text};
+ghost use Rattle.tz_write.specs.Steps.TextPieces.{spelled_pair, spelled_seconds, spelled_minutes, spelled_clock};
+ghost use Rattle.tz_write.specs.Steps.TextPieces.{spelled_signed};
 
 use std::alloc::AllocError;
 use std::fmt::Write;
@@ -25,7 +26,7 @@ pub(crate) fn push_number(text: &mut String, number: u32) -> Result<(), AllocErr
 // A colon and two digits.
 fn push_pair(text: &mut String, number: u32) -> Result<(), AllocError>
     requires { number < 100 }
-    ensures { OnOk result (string_bytes text.new ≡ string_bytes text.old ++ pair_text number) }
+    ensures { OnOk result (string_bytes text.new ≡ string_bytes text.old ++ spelled_pair number) }
 {
     push_byte(text, b':')?;
     push_byte(text, b'0' + (number / 10) as u8)?;
@@ -36,7 +37,7 @@ fn push_pair(text: &mut String, number: u32) -> Result<(), AllocError>
 fn push_seconds(text: &mut String, seconds: u32) -> Result<(), AllocError>
     requires { seconds < 60 }
     ensures { OnOk result
-        (string_bytes text.new ≡ string_bytes text.old ++ seconds_text seconds) }
+        (string_bytes text.new ≡ string_bytes text.old ++ spelled_seconds seconds) }
 {
     if seconds == 0 {
         return Ok(());
@@ -49,7 +50,7 @@ fn push_minutes(text: &mut String, minutes: u32, seconds: u32) -> Result<(), All
     requires minutes { minutes < 60 }
     requires seconds { seconds < 60 }
     ensures { OnOk result
-        (string_bytes text.new ≡ string_bytes text.old ++ minutes_text minutes seconds) }
+        (string_bytes text.new ≡ string_bytes text.old ++ spelled_minutes minutes seconds) }
 {
     if minutes == 0 && seconds == 0 {
         return Ok(());
@@ -59,10 +60,10 @@ fn push_minutes(text: &mut String, minutes: u32, seconds: u32) -> Result<(), All
 }
 
 // So many seconds, as hours, minutes and seconds.
-#[tactic(auto, unfolding(crate::specs::Steps::TextPieces::clock_text))]
+#[tactic(auto, unfolding(crate::specs::Steps::TextPieces::spelled_clock))]
 fn push_clock(text: &mut String, seconds: u32) -> Result<(), AllocError>
     ensures { OnOk result
-        (string_bytes text.new ≡ string_bytes text.old ++ clock_text seconds) }
+        (string_bytes text.new ≡ string_bytes text.old ++ spelled_clock seconds) }
 {
     push_number(text, seconds / 3600)?;
     push_minutes(text, seconds / 60 % 60, seconds % 60)
@@ -71,7 +72,7 @@ fn push_clock(text: &mut String, seconds: u32) -> Result<(), AllocError>
 // So many seconds, with a minus in front or with nothing.
 pub(crate) fn push_signed(text: &mut String, negative: bool, seconds: u32) -> Result<(), AllocError>
     ensures { OnOk result
-        (string_bytes text.new ≡ string_bytes text.old ++ signed_text negative seconds) }
+        (string_bytes text.new ≡ string_bytes text.old ++ spelled_signed negative seconds) }
 {
     if negative {
         push_byte(text, b'-')?;

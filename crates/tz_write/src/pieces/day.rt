@@ -4,7 +4,7 @@ ghost use Rattle.std.specs.Prelude.{◌≡◌, ◌∷◌, ◌++◌, pos, OnOk, s
 ghost use Rattle.std.specs.Fmt.{decimal};
 ghost use Rattle.tz_info.specs.TzGrammar.{comma};
 ghost use Rattle.tz_info.specs.declared.rule.day.DayForm.TheVariants.{Julian1, MonthWeekday};
-ghost use Rattle.tz_write.specs.Steps.TextPieces.{date_text, time_after};
+ghost use Rattle.tz_write.specs.Steps.TextPieces.{spelled_date, time_after};
 
 use crate::pieces::clock::{push_byte, push_number};
 use crate::pieces::offset::push_time;
@@ -13,7 +13,7 @@ use tz_info::{DayForm, RuleDay};
 
 // A date.
 fn push_date(text: &mut String, day: RuleDay) -> Result<(), AllocError>
-    ensures { OnOk result (string_bytes text.new ≡ string_bytes text.old ++ date_text day) }
+    ensures { OnOk result (string_bytes text.new ≡ string_bytes text.old ++ spelled_date day) }
 {
     match day.form() {
         DayForm::Julian1(n) => push_julian(text, n),
@@ -26,7 +26,7 @@ fn push_date(text: &mut String, day: RuleDay) -> Result<(), AllocError>
 
 fn push_julian(text: &mut String, n: u16) -> Result<(), AllocError>
     ensures { OnOk result
-        (string_bytes text.new ≡ string_bytes text.old ++ date_text (Julian1 n)) }
+        (string_bytes text.new ≡ string_bytes text.old ++ spelled_date (Julian1 n)) }
 {
     push_byte(text, b'J')?;
     push_number(text, n as u32)
@@ -35,7 +35,7 @@ fn push_julian(text: &mut String, n: u16) -> Result<(), AllocError>
 fn push_month_weekday(text: &mut String, month: u8, week: u8, weekday: u8) -> Result<(), AllocError>
     ensures { OnOk result
         (string_bytes text.new
-        ≡ string_bytes text.old ++ date_text (MonthWeekday month week weekday)) }
+        ≡ string_bytes text.old ++ spelled_date (MonthWeekday month week weekday)) }
 {
     push_byte(text, b'M')?;
     push_number(text, month as u32)?;
@@ -60,7 +60,7 @@ fn push_time_after(text: &mut String, time: i32) -> Result<(), AllocError>
 pub(crate) fn push_day(text: &mut String, day: RuleDay, time: i32) -> Result<(), AllocError>
     ensures { OnOk result
         (string_bytes text.new
-        ≡ string_bytes text.old ++ (comma ∷ date_text day ++ time_after time)) }
+        ≡ string_bytes text.old ++ (comma ∷ spelled_date day ++ time_after time)) }
 {
     push_byte(text, b',')?;
     push_date(text, day)?;

@@ -4,7 +4,7 @@ ghost use Rattle.std.specs.Prelude.{◌≡◌, ◌++◌, OnOk, IsTrue, MatchOpti
 ghost use Rattle.std.specs.List.{list_all};
 ghost use Rattle.tz_base.specs.Names.{IsName};
 ghost use Rattle.tz_info.specs.TzGrammar.{is_letter};
-ghost use Rattle.tz_write.specs.Steps.TextPieces.{name_text};
+ghost use Rattle.tz_write.specs.Steps.TextPieces.{spelled_name};
 
 use crate::pieces::clock::push_byte;
 use std::alloc::AllocError;
@@ -13,7 +13,7 @@ use tz_info::TimeZoneName;
 // A name, between `<` and `>` unless it has letters alone.
 pub(crate) fn push_name(text: &mut String, name: &TimeZoneName) -> Result<(), AllocError>
     ensures { OnOk result
-        (string_bytes text.new ≡ string_bytes text.old ++ name_text name.now) }
+        (string_bytes text.new ≡ string_bytes text.old ++ spelled_name name.now) }
 {
     if are_letters(name.as_bytes()) {
         return text.push_str(name.as_str());

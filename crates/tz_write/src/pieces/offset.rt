@@ -1,24 +1,25 @@
 //! Offsets and times of day.
 
 ghost use Rattle.std.specs.Prelude.{◌≡◌, ◌++◌, ◌+ℤ◌, pos, OnOk, string_bytes};
-ghost use Rattle.tz_write.specs.Steps.TextPieces.{is_positive, is_negative, offset_text, time_text, dst_offset_text};
+ghost use Rattle.tz_write.specs.Steps.TextPieces.{is_positive, is_negative, spelled_offset, spelled_time};
+ghost use Rattle.tz_write.specs.Steps.TextPieces.{spelled_dst_offset};
 
 use crate::pieces::clock::push_signed;
 use std::alloc::AllocError;
 use tz_info::AlternateTime;
 
 // An offset east of UTC, which a text counts west of it.
-#[tactic(auto, unfolding(crate::specs::Steps::TextPieces::offset_text))]
+#[tactic(auto, unfolding(crate::specs::Steps::TextPieces::spelled_offset))]
 pub(crate) fn push_offset(text: &mut String, east: i32) -> Result<(), AllocError>
-    ensures { OnOk result (string_bytes text.new ≡ string_bytes text.old ++ offset_text east) }
+    ensures { OnOk result (string_bytes text.new ≡ string_bytes text.old ++ spelled_offset east) }
 {
     push_signed(text, is_positive(east), east.unsigned_abs())
 }
 
 // A time of day, which may lie before midnight.
-#[tactic(auto, unfolding(crate::specs::Steps::TextPieces::time_text))]
+#[tactic(auto, unfolding(crate::specs::Steps::TextPieces::spelled_time))]
 pub(crate) fn push_time(text: &mut String, time: i32) -> Result<(), AllocError>
-    ensures { OnOk result (string_bytes text.new ≡ string_bytes text.old ++ time_text time) }
+    ensures { OnOk result (string_bytes text.new ≡ string_bytes text.old ++ spelled_time time) }
 {
     push_signed(text, is_negative(time), time.unsigned_abs())
 }
@@ -27,7 +28,7 @@ pub(crate) fn push_time(text: &mut String, time: i32) -> Result<(), AllocError>
 pub(crate) fn push_dst_offset(text: &mut String, rule: &AlternateTime) -> Result<(), AllocError>
     ensures { OnOk result
         (string_bytes text.new
-        ≡ string_bytes text.old ++ dst_offset_text rule.now.std.offset rule.now.dst.offset) }
+        ≡ string_bytes text.old ++ spelled_dst_offset rule.now.std.offset rule.now.dst.offset) }
 {
     let (std, dst) = (rule.std().offset(), rule.dst().offset());
     if dst == std + 3_600 {

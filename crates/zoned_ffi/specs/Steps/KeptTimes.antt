@@ -41,8 +41,8 @@ abbrev pub AreKept : Question → List Kept → Type 0
 AreKept q table = All (IsKept q) table
 
 -- the rows from `from` on and before `to` are such times
-abbrev pub AreWithin : List ℤ → ℕ → ℕ → Kept → Type 0
-AreWithin times from to k = (i : ℕ) → from ≤ i → i < to → (k.low ≤ℤ slice_index_or times i (pos 0)) × (slice_index_or times i (pos 0) <ℤ k.high)
+abbrev pub AreKeptTimes : List ℤ → ℕ → ℕ → Kept → Type 0
+AreKeptTimes times from to k = (i : ℕ) → from ≤ i → i < to → (k.low ≤ℤ slice_index_or times i (pos 0)) × (slice_index_or times i (pos 0) <ℤ k.high)
 
 -- such a time comes from `from` on, and before `until`, and can be counted, also with `add` more
 pub record LieWithin (from until add : ℤ) (k : Kept) : Type 0 where

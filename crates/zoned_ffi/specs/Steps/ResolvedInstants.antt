@@ -3,8 +3,8 @@ use Rattle.std.specs.Prelude.{ℤ, ◌-ℤ◌, ◌*ℤ◌, ◌≡◌, ◌⊎◌,
 use Rattle.naive_base.specs.Range.{IsInRange}
 use Rattle.tz_base.specs.LocalTypes.{LocalType}
 use Rattle.tz_info.specs.Zones.{Zone}
-use Rattle.zoned_ffi.specs.Instants.{IsOffsetAt}
-use Rattle.zoned_ffi.specs.Resolved.{IsGapEnd, IsTaken, unresolved}
+use Rattle.zoned_ffi.specs.Instants.{IsWrittenOffsetAt}
+use Rattle.zoned_ffi.specs.Resolved.{IsTakenGapEnd, IsTakenType, unresolved}
 use Rattle.zoned_ffi.specs.Units.{per_second}
 use Rattle.zoned_ffi.specs.declared.choice.Choice.{Choice}
 use Rattle.zoned_ffi.specs.declared.resolved.Resolved.{Resolved}
@@ -13,15 +13,16 @@ use Rattle.zoned_ffi.specs.declared.resolved.Taken.TheVariants.{InForce, BeforeG
 use Rattle.zoned_ffi.specs.declared.unit.Unit.{Unit}
 
 -- the second u and an offset, or that u is out of range
-abbrev pub IsStamp : ℤ → ℤ → Resolved → Type 0
-IsStamp u offset w =
+abbrev pub IsResolvedStamp : ℤ → ℤ → Resolved → Type 0
+IsResolvedStamp u offset w =
     (IsInRange u × (w ≡ record { number = 0; offset = offset; instant = u })) ⊎ (¬ (IsInRange u) × (w ≡ unresolved 23))
 
 -- the choice takes a type of that offset; one that shows the local time is in force at the instant
 abbrev pub IsTakenAs : Zone → ℤ → Choice → Taken → Type 0
-IsTakenAs z local choice (InForce offset) = ((t : LocalType) × IsTaken z local choice t × (offset ≡ t.offset)) × IsOffsetAt z (local -ℤ offset) offset
-IsTakenAs z local choice (BeforeGap offset) = (t : LocalType) × IsTaken z local choice t × (offset ≡ t.offset)
-IsTakenAs z local choice (GapEnd at offset) = (after : LocalType) × IsGapEnd z local choice at after × (offset ≡ after.offset)
+IsTakenAs z local choice (InForce offset) = ((t : LocalType) × IsTakenType z local choice t × (offset ≡ t.offset)) × IsWrittenOffsetAt z (local -ℤ offset)
+    offset
+IsTakenAs z local choice (BeforeGap offset) = (t : LocalType) × IsTakenType z local choice t × (offset ≡ t.offset)
+IsTakenAs z local choice (GapEnd at offset) = (after : LocalType) × IsTakenGapEnd z local choice at after × (offset ≡ after.offset)
 
 -- the instant by what is taken of the local time, counted in the unit
 abbrev pub taken_instant : Unit → ℤ → Taken → ℤ

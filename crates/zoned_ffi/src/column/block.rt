@@ -1,7 +1,7 @@
 //! Rows that follow one another, answered together.
 
 ghost use Rattle.std.specs.Prelude.{◌≡◌, ◌≤◌, ◌<◌, length, take, IsTrue, MatchOption};
-ghost use Rattle.zoned_ffi.specs.Steps.KeptTimes.{AreKept, AreWithin, AreWritten, IsKept, IsStop};
+ghost use Rattle.zoned_ffi.specs.Steps.KeptTimes.{AreKept, AreKeptTimes, AreWritten, IsKept, IsStop};
 
 use crate::column::kept::Kept;
 use crate::column::table::{Search, answer, kept_for};
@@ -52,7 +52,7 @@ pub fn write_block(
 #[inline(always)]
 fn are_in(kept: Kept, times: &[i64], from: usize, to: usize) -> bool
     requires { (from < to) × (to ≤ length times.now) }
-    ensures { IsTrue result → AreWithin times.now from to kept }
+    ensures { IsTrue result → AreKeptTimes times.now from to kept }
 {
     if !kept.has(times[to - 1]) {
         return false;
@@ -79,7 +79,7 @@ fn write_sums(
     requires size { length answers.old ≡ length times.now }
     requires rows { (from < to) × (to ≤ length times.now) }
     requires kept { IsKept question kept }
-    requires within { AreWithin times.now from to kept }
+    requires within { AreKeptTimes times.now from to kept }
     requires before { AreWritten question (take from times.now) (take from answers.old) }
     ensures size { length answers.new ≡ length times.now }
     ensures answered { AreWritten question.entry (take to times.now) (take to answers.new) }

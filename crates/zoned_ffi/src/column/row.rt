@@ -8,7 +8,7 @@ ghost use Rattle.zoned_ffi.specs.Units.{IsCounted, IsLocal, IsWithout};
 
 use crate::choice::Choice;
 use crate::column::{NO_TIME, Question, Way};
-use crate::refusal::{NO_LOCAL_TIME, OUT_OF_RANGE};
+use crate::refusal::{INSTANT_OUT_OF_RANGE, NO_LOCAL_TIME};
 use crate::resolved::{Taken, take};
 use crate::unit::{GREATEST, LEAST, Unit};
 use naive_base::NaiveDateTime;
@@ -61,12 +61,12 @@ fn instant_of(zone: &TimeZone, unit: Unit, choice: Choice, local: i64) -> Result
         (λ n. IsNoInstant zone.now unit choice local n) }
 {
     let Some(reading) = NaiveDateTime::from_timestamp_opt(unit.second_of(local), 0) else {
-        return Err(OUT_OF_RANGE);
+        return Err(INSTANT_OUT_OF_RANGE);
     };
     match take(zone, choice, reading) {
         Ok(taken) => match instant_taken(unit, local, taken) {
             Some(instant) => Ok(instant),
-            None => Err(OUT_OF_RANGE),
+            None => Err(INSTANT_OUT_OF_RANGE),
         },
         Err(number) => Err(number),
     }

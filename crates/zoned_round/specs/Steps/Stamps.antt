@@ -4,16 +4,16 @@ use Rattle.std.specs.Int.{w64}
 use Rattle.naive_base.specs.Reading.{Reading, total}
 use Rattle.zoned_round.specs.declared.error.RoundingError.{RoundingError}
 use Rattle.zoned_round.specs.declared.stamp.Stamp.{Stamp}
-use Rattle.zoned_round.specs.Errors.{IsRefusal}
-use Rattle.zoned_round.specs.Durations.{IsSpan}
+use Rattle.zoned_round.specs.Errors.{IsRoundingFault}
+use Rattle.zoned_round.specs.Durations.{IsRoundingLength}
 
 -- the stamp and the span, or why there are none
 abbrev pub IsStampOf : ℤ → ℤ → Result Stamp RoundingError → Type 0
 IsStampOf stamp span (Ok found) =
-    IsSpan span × FitsSigned w64 stamp × (found.nanos ≡ stamp) × (found.span ≡ span)
-IsStampOf stamp span (Err error) = IsRefusal (IsSpan span) (FitsSigned w64 stamp) error
+    IsRoundingLength span × FitsSigned w64 stamp × (found.nanos ≡ stamp) × (found.span ≡ span)
+IsStampOf stamp span (Err error) = IsRoundingFault (IsRoundingLength span) (FitsSigned w64 stamp) error
 
 -- not far past 64 bits
-abbrev pub IsNear : Reading → Type 0
-IsNear r =
+abbrev pub IsNearRange : Reading → Type 0
+IsNearRange r =
     (neg_ℤ (pos 10_000_000_000_000_000_000) ≤ℤ total r) × (total r ≤ℤ pos 10_000_000_000_000_000_000)

@@ -5,7 +5,7 @@ ghost use Rattle.offset_core.specs.TimeDelta.{nanos_of};
 ghost use Rattle.naive_base.specs.NaiveDateTime.{reading};
 ghost use Rattle.naive_base.specs.Range.{IsInRange};
 ghost use Rattle.naive_base.specs.Reading.{moved, difference};
-ghost use Rattle.zoned_time.specs.DateTime.{zoned, home_of};
+ghost use Rattle.zoned_time.specs.DateTime.{zoned, home_law_of};
 ghost use Rattle.zoned_time.specs.Relocal.{IsRelocal};
 ghost use Rattle.zoned_time.specs.Zoned.{IsAt, IsAtInRange};
 
@@ -18,14 +18,14 @@ impl<Tz: TimeZone> DateTime<Tz> {
     // The instant of a UTC reading in range, in the zone that this one's offset came from.
     pub(super) fn at(&self, utc: &NaiveDateTime) -> DateTime<Tz>
         requires { IsInRange (reading utc.now).s }
-        ensures { IsAt (home_of Tz.meaning self.now) (reading utc.now) (zoned result) }
+        ensures { IsAt (home_law_of Tz.meaning self.now) (reading utc.now) (zoned result) }
     {
         self.timezone().from_utc_datetime(utc)
     }
 
     // The instant when the clocks of that zone show a reading.
     pub(super) fn relocal(&self, local: &NaiveDateTime) -> LocalResult<DateTime<Tz>>
-        ensures { IsRelocal (home_of Tz.meaning self.now) (reading local.now)
+        ensures { IsRelocal (home_law_of Tz.meaning self.now) (reading local.now)
             (map_of zoned result) }
     {
         self.timezone().from_local_datetime(local)
@@ -42,7 +42,7 @@ impl<Tz: TimeZone> DateTime<Tz> {
     /// let after = before.checked_add_signed(TimeDelta::hours(1))?; // 2021-11-07 01:30:00 -05:00
     /// ```
     pub fn checked_add_signed(&self, rhs: TimeDelta) -> Option<DateTime<Tz>>
-        ensures { IsAtInRange (home_of Tz.meaning self.now)
+        ensures { IsAtInRange (home_law_of Tz.meaning self.now)
             (moved (zoned self.now).utc (nanos_of rhs))
             (option_map zoned result) }
     {
@@ -53,7 +53,7 @@ impl<Tz: TimeZone> DateTime<Tz> {
     /// Returns what [`DateTime::checked_add_signed`] of the opposite length does. `None` if that is
     /// out of range.
     pub fn checked_sub_signed(&self, rhs: TimeDelta) -> Option<DateTime<Tz>>
-        ensures { IsAtInRange (home_of Tz.meaning self.now)
+        ensures { IsAtInRange (home_law_of Tz.meaning self.now)
             (moved (zoned self.now).utc (neg_ℤ (nanos_of rhs)))
             (option_map zoned result) }
     {

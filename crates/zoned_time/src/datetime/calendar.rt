@@ -6,7 +6,8 @@ ghost use Rattle.naive_base.specs.NaiveDateTime.{reading};
 ghost use Rattle.naive_base.specs.NaiveTime.{second_of, fraction_of};
 ghost use Rattle.naive_base.specs.Reading.{reading_at, day_at};
 ghost use Rattle.naive_base.specs.DateOf.{year_of};
-ghost use Rattle.zoned_time.specs.DateTime.{zoned, wall_of, home_of, IsOnlyMonthsLater, IsOnlyDaysLater, IsDaysAdded};
+ghost use Rattle.zoned_time.specs.DateTime.{zoned, wall_of, home_law_of, IsOnlyMonthsLater, IsOnlyDaysLater};
+ghost use Rattle.zoned_time.specs.DateTime.{IsDaysAdded};
 ghost use Rattle.zoned_time.specs.Relocal.{IsRelocal};
 ghost use Rattle.zoned_time.specs.Years.{IsEarlierInYear, IsWholeYears, IsYearsSince};
 
@@ -78,7 +79,7 @@ impl<Tz: TimeZone> DateTime<Tz> {
     /// noon.with_time(NaiveTime::from_hms_opt(3, 30, 0)?) // Single(2021-03-14 03:30:00 -04:00)
     /// ```
     pub fn with_time(&self, time: NaiveTime) -> LocalResult<DateTime<Tz>>
-        ensures { IsRelocal (home_of Tz.meaning self.now) (reading_at (day_at (wall_of self.now))
+        ensures { IsRelocal (home_law_of Tz.meaning self.now) (reading_at (day_at (wall_of self.now))
             (second_of time) (fraction_of time))
             (map_of zoned result) }
     {

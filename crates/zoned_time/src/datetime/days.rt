@@ -1,6 +1,6 @@
 //! When the day of an instant starts.
 ghost use Rattle.std.specs.Prelude.{MatchOption};
-ghost use Rattle.zoned_time.specs.DateTime.{zoned, day_shown_by, home_of};
+ghost use Rattle.zoned_time.specs.DateTime.{zoned, day_shown_by, home_law_of};
 ghost use Rattle.zoned_time.specs.Days.{IsFirstOutOfRange, IsZonedAtOrAfter, midnight};
 
 use super::DateTime;
@@ -15,7 +15,7 @@ impl<Tz: ZoneDays> DateTime<Tz> {
     /// let start = noon.start_of_day()?; // 2021-03-14 00:00:00 -05:00, eleven hours earlier
     /// ```
     pub fn start_of_day(&self) -> Option<DateTime<Tz>>
-        ensures { let law = home_of Tz.meaning self.now in
+        ensures { let law = home_law_of Tz.meaning self.now in
             MatchOption result (IsFirstOutOfRange law.off (midnight (day_shown_by self.now)))
             (λ d. IsZonedAtOrAfter law (midnight (day_shown_by self.now)) (zoned d)) }
     {

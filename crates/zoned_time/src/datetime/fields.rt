@@ -2,7 +2,7 @@
 ghost use Rattle.std.specs.Prelude.{◌≡◌, IfSome, option_map};
 ghost use Rattle.naive_base.specs.Fields.{time_at};
 ghost use Rattle.naive_base.specs.NaiveDateTime.{reading};
-ghost use Rattle.zoned_time.specs.DateTime.{zoned, wall_of, home_of, day_shown_by, IsOnlyOnDay, IsOnlyAtTime};
+ghost use Rattle.zoned_time.specs.DateTime.{zoned, wall_of, home_law_of, day_shown_by, IsOnlyOnDay, IsOnlyAtTime};
 ghost use Rattle.zoned_time.specs.Fields.{IsOnly};
 
 use super::DateTime;
@@ -12,7 +12,7 @@ use naive_base::{Datelike, IsoWeek, NaiveDateTime, Timelike, Weekday};
 impl<Tz: TimeZone> DateTime<Tz> {
     // The only instant when the clocks of the zone that the offset came from show the reading.
     pub(super) fn only_at(&self, local: &NaiveDateTime) -> Option<DateTime<Tz>>
-        ensures only { IsOnly (home_of Tz.meaning self.now) (reading local.now)
+        ensures only { IsOnly (home_law_of Tz.meaning self.now) (reading local.now)
             (option_map zoned result) }
         ensures shown { IfSome result (λ new. wall_of new ≡ reading local.now) }
     {

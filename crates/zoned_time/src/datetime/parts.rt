@@ -5,7 +5,7 @@ ghost use Rattle.naive_base.specs.NaiveDateTime.{reading};
 ghost use Rattle.naive_base.specs.NaiveTime.{second_of, fraction_of};
 ghost use Rattle.naive_base.specs.Range.{IsInRange};
 ghost use Rattle.naive_base.specs.Reading.{day_at, second_at};
-ghost use Rattle.zoned_time.specs.DateTime.{zoned, wall_of, home_of};
+ghost use Rattle.zoned_time.specs.DateTime.{zoned, wall_of, home_law_of};
 ghost use Rattle.zoned_time.specs.Relocal.{HasInstant, instant_of};
 ghost use Rattle.zoned_time.specs.Zone.{SameLaw};
 ghost use Rattle.zoned_time.specs.Zoned.{shown};
@@ -85,7 +85,7 @@ impl<Tz: TimeZone> DateTime<Tz> {
 
     /// Returns a zone of the same offsets as the one that the offset came from.
     pub fn timezone(&self) -> Tz
-        ensures { SameLaw (Tz.law result) (home_of Tz.meaning self.now) }
+        ensures { SameLaw (Tz.law result) (home_law_of Tz.meaning self.now) }
     {
         Tz::from_offset(&self.offset)
     }

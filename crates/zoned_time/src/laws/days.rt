@@ -5,19 +5,19 @@ ghost use Rattle.offset_core.specs.WallAnswer.{IsNeverShown, IsShownOnce, IsShow
 ghost use Rattle.naive_base.specs.Range.{IsInRange};
 ghost use Rattle.naive_base.specs.Reading.{Reading, behind, IsEarlier};
 ghost use Rattle.naive_base.specs.Year.{floor_div};
-ghost use Rattle.zoned_time.specs.Days.{IsOnDay, AreEndsOfDay, IsNeverOnDay, IsFirstAtOrAfter, IsInDay, midnight};
+ghost use Rattle.zoned_time.specs.Days.{IsOnDay, AreEndsOfDay, IsNeverOnDay, IsFirstInstantFrom, IsInDay, midnight};
 ghost use Rattle.zoned_time.specs.DayEnds.{IsGapEnd, NonePassed};
-ghost use Rattle.zoned_time.specs.Zone.{IsZoneSecond, Shows};
+ghost use Rattle.zoned_time.specs.Zone.{IsZoneSecond, ShowsByOffset};
 ghost use Rattle.zoned_time.specs.declared.zone_days.ShownDay.{ShownDay as AnyDay};
 
 use crate::{ShownDay, TimeZone};
 
 /// A local time has one first instant at or after it, and a later local time no earlier one.
 pub fn first_instants()
-    ensures once { (off : ℤ → ℤ) (l a b : Reading) → IsFirstAtOrAfter off l a
-        → IsFirstAtOrAfter off l b → a ≡ b }
+    ensures once { (off : ℤ → ℤ) (l a b : Reading) → IsFirstInstantFrom off l a
+        → IsFirstInstantFrom off l b → a ≡ b }
     ensures rises { (off : ℤ → ℤ) (l m a b : Reading) → ¬ (IsEarlier m l)
-        → IsFirstAtOrAfter off l a → IsFirstAtOrAfter off m b → ¬ (IsEarlier b a) }
+        → IsFirstInstantFrom off l a → IsFirstInstantFrom off m b → ¬ (IsEarlier b a) }
 {}
 
 /// The first instant at or after a local time, as a policy for gaps and folds. A local time that is
@@ -25,15 +25,15 @@ pub fn first_instants()
 /// instant at which the gap ends. If clocks had been set forward over a local time before they first
 /// showed it, the instant is an earlier one, when they were.
 pub fn gaps_and_folds()
-    ensures once { (off : ℤ → ℤ) (l a : Reading) (k : ℤ) → IsShownOnce (Shows off l.s) k
-        → NonePassed off l.s (l.s -ℤ k) → IsFirstAtOrAfter off l a → a ≡ behind l k }
+    ensures once { (off : ℤ → ℤ) (l a : Reading) (k : ℤ) → IsShownOnce (ShowsByOffset off l.s) k
+        → NonePassed off l.s (l.s -ℤ k) → IsFirstInstantFrom off l a → a ≡ behind l k }
     ensures fold { (off : ℤ → ℤ) (l a : Reading) (k last : ℤ)
-        → IsShownBetween (Shows off l.s) k last → NonePassed off l.s (l.s -ℤ k)
-        → IsFirstAtOrAfter off l a → a ≡ behind l k }
-    ensures gap { (off : ℤ → ℤ) (l a : Reading) → IsNeverShown (Shows off l.s)
-        → IsFirstAtOrAfter off l a → IsGapEnd off l.s a }
-    ensures not_later { (off : ℤ → ℤ) (l a : Reading) (u k : ℤ) → Shows off l.s u k
-        → IsFirstAtOrAfter off l a → ¬ (IsEarlier (behind l k) a) }
+        → IsShownBetween (ShowsByOffset off l.s) k last → NonePassed off l.s (l.s -ℤ k)
+        → IsFirstInstantFrom off l a → a ≡ behind l k }
+    ensures gap { (off : ℤ → ℤ) (l a : Reading) → IsNeverShown (ShowsByOffset off l.s)
+        → IsFirstInstantFrom off l a → IsGapEnd off l.s a }
+    ensures not_later { (off : ℤ → ℤ) (l a : Reading) (u k : ℤ) → ShowsByOffset off l.s u k
+        → IsFirstInstantFrom off l a → ¬ (IsEarlier (behind l k) a) }
 {}
 
 /// The starts of days divide time: each instant in range lies in exactly one day.
@@ -49,12 +49,12 @@ pub fn days_partition<Tz: TimeZone>()
 /// its date when it starts, that is the first second at which they do.
 pub fn dates_in_days()
     ensures skipped { (off : ℤ → ℤ) (day : ℤ) (a b : Reading) → IsNeverOnDay off day
-        → IsFirstAtOrAfter off (midnight day) a
-        → IsFirstAtOrAfter off (midnight (day +ℤ pos 1)) b → a ≡ b }
+        → IsFirstInstantFrom off (midnight day) a
+        → IsFirstInstantFrom off (midnight (day +ℤ pos 1)) b → a ≡ b }
     ensures no_later_date { (off : ℤ → ℤ) (day : ℤ) (r : Reading) → IsZoneSecond r.s
         → IsInDay off day r → floor_div (r.s +ℤ off r.s) 86_400 ≤ℤ day }
     ensures first { (off : ℤ → ℤ) (day first last : ℤ) (r : Reading)
-        → IsFirstAtOrAfter off (midnight day) r → IsOnDay off day r.s
+        → IsFirstInstantFrom off (midnight day) r → IsOnDay off day r.s
         → AreEndsOfDay off day first last → r.s ≡ first }
 {}
 

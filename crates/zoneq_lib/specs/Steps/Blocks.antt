@@ -3,7 +3,7 @@ use Rattle.std.specs.Prelude.{◌≡◌, ℕ, ◌<◌, List, ◌++◌, Bool, tru
 use Rattle.std.specs.Io.KnownBytes.{Appends}
 use Rattle.tz_info.specs.Zones.{Zone}
 use Rattle.zoneq_lib.specs.Answers.{AnswersLines}
-use Rattle.zoneq_lib.specs.Lines.{HasNoNewline, IsCut, ended_lines}
+use Rattle.zoneq_lib.specs.Lines.{HasNoNewline, IsSplit, ended_lines}
 use Rattle.zoneq_lib.specs.Steps.Hopeless.{IsKeptFor}
 use Rattle.zoneq_lib.specs.declared.run_error.RunError.{RunError}
 use Rattle.zoneq_lib.specs.declared.run_error.RunError.TheVariants as errors
@@ -13,7 +13,7 @@ use Rattle.zoneq_lib.specs.declared.run_error.RunError.TheVariants as errors
 pub record Answered (zone : Option Zone) (begun bytes output : List ℕ) (after : Option Zone) (rest : List ℕ) : Type 0 where
   pub pieces : List (List ℕ)
   pub front : List ℕ
-  pub cut : IsCut (begun ++ bytes) pieces front
+  pub cut : IsSplit (begun ++ bytes) pieces front
   pub kept : IsKeptFor rest front
   pub lone : HasNoNewline rest
   pub answered : AnswersLines zone (ended_lines pieces) output after

@@ -12,9 +12,9 @@ abbrev pub ◌>>=◌ : {A B : Type 0} → Result A BadLine → (A → Result B B
 (Err e) >>= f = Err e
 
 -- what a call returned, seen by `view`, is what is read
-abbrev pub Gives : {X Y : Type 0} → (X → Y) → Result X BadLine → Result Y BadLine → Type 0
-Gives view (Ok x) front = front ≡ Ok (view x)
-Gives view (Err e) front = front ≡ Err e
+abbrev pub ReadsAs : {X Y : Type 0} → (X → Y) → Result X BadLine → Result Y BadLine → Type 0
+ReadsAs view (Ok x) front = front ≡ Ok (view x)
+ReadsAs view (Err e) front = front ≡ Err e
 
 -- the same of an option
 abbrev pub GivesSome : {X Y : Type 0} → (X → Y) → Option X → Option Y → Type 0

@@ -1,6 +1,6 @@
 use Rattle.std.proofs.Common.{rules, ◌≡◌, ◌∙◌, sym, ap, subst, true, false, pos, ◌+ℤ◌, is_lt, is_ge}
 use Rattle.zoned.specs.DateTime.{zoned}
-use Rattle.zoned.specs.Days.{IsFirstAtOrAfter, midnight}
+use Rattle.zoned.specs.Days.{IsFirstInstantFrom, midnight}
 use Rattle.zoned.specs.NaiveDate.{day_of}
 use Rattle.demo_calendar.proofs.InDay.{lies, not_over, less_of}
 use Rattle.demo_calendar.proofs.day.is_in_day.Goals as goal
@@ -13,7 +13,7 @@ returns-then-is_ge g c =
     let start = (zoned c.in_ok-start.start).utc in
     let end = (zoned c.in_ok-end.end).utc in
     let next : day_of c.in_ok-succ_opt.field-0 ≡ day +ℤ pos 1 = search rules in
-    let ends : IsFirstAtOrAfter off (midnight (day +ℤ pos 1)) end = subst (λ n. IsFirstAtOrAfter off (midnight n) end) next c.in_ok-end.ensures.first in
+    let ends : IsFirstInstantFrom off (midnight (day +ℤ pos 1)) end = subst (λ n. IsFirstInstantFrom off (midnight n) end) next c.in_ok-end.ensures.first in
     let less = c.earlier_is_less.ensures.less in (
       λ before. lies off day r start end c.in_ok-start.ensures.first ends
           (λ early. let no : true ≡ false = sym c.if-is_ge.true ∙ c.is_ge.ensures ∙ ap is_ge (c.cmp_instant.ensures ∙ (less r start).1 early) in cc)

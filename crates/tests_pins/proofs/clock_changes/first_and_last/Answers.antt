@@ -7,7 +7,7 @@ returns c = record {
   first = record {
     is = spring_is;
     inside = (omega arith, omega arith);
-    first = λ d is within. elim (change_of_year d within.0 within.1 is) [
+    nearest = λ d is within. elim (change_of_year d within.0 within.1 is) [
       | inl same ↦ rw same (omega arith)
       | inr same ↦ rw same (omega arith)
     ];
@@ -15,13 +15,13 @@ returns c = record {
   last = record {
     is = autumn_is;
     inside = (omega arith, omega arith);
-    last = λ d is within. elim (change_of_year d within.0 within.1 is) [
+    nearest = λ d is within. elim (change_of_year d within.0 within.1 is) [
       | inl same ↦ rw same (omega arith)
       | inr same ↦ rw same (omega arith)
     ];
   };
-  not_first = λ h. let first = h.first spring spring_is (omega arith, omega arith) in absurd (omega (arith, first));
-  not_last = λ h. let last = h.last autumn autumn_is (omega arith, omega arith) in absurd (omega (arith, last));
+  not_first = λ h. let first = h.nearest spring spring_is (omega arith, omega arith) in absurd (omega (arith, first));
+  not_last = λ h. let last = h.nearest autumn autumn_is (omega arith, omega arith) in absurd (omega (arith, last));
   none_first = none_between;
   none_last = none_between;
 }

@@ -1,9 +1,9 @@
 use Rattle.tz_info.specs.FileContents.TypeFault.{No_text, Other_mark, Other_type}
-use Rattle.tests_pins.proofs.Words.{Error, List, TypeFault, arith, number_of, refl, ℕ, [], ◌∷◌, ◌≡◌}
+use Rattle.tests_pins.proofs.Words.{Error, List, TypeFault, arith, error_number, refl, ℕ, [], ◌∷◌, ◌≡◌}
 use Rattle.tests_pins.proofs.FileParts.{no_flag}
 use Rattle.tests_pins.proofs.files.type_faults.Goals as goal
 
-marked : (names : List ℕ) (e : Error) → TypeFault names (128 ∷ 0 ∷ 0 ∷ 0 ∷ 2 ∷ 0 ∷ []) e → number_of e ≡ 3 → ⊥
+marked : (names : List ℕ) (e : Error) → TypeFault names (128 ∷ 0 ∷ 0 ∷ 0 ∷ 2 ∷ 0 ∷ []) e → error_number e ≡ 3 → ⊥
 marked names e (Other_mark none) three = absurd (omega (arith, three))
 marked names e (No_text dst mark none) three = no_flag dst mark
 marked names e (Other_type dst text mark stands bad) three = no_flag dst mark

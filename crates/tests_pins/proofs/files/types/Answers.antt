@@ -1,26 +1,12 @@
-use Rattle.tz_base.specs.Names.{name_from}
-use Rattle.tests_pins.proofs.Words.{arith, ints, refl, signed, [], ◌∷◌}
+use Rattle.tests_pins.proofs.Words.{arith, ints, signed}
 use Rattle.tests_pins.proofs.FileParts.{no_flag}
+use Rattle.tests_pins.proofs.HonoluluFile.{hst_spelled}
 use Rattle.tests_pins.proofs.files.types.Goals as goal
 
 pub returns : goal.returns
 unfolding signed
 returns c = record {
-  hst = record {
-    text = 72 ∷ 83 ∷ 84 ∷ [];
-    offset = refl;
-    above_least = omega arith;
-    mark = refl;
-    stands = record {
-      before = 76 ∷ 77 ∷ 84 ∷ 0 ∷ [];
-      after = 72 ∷ 68 ∷ 84 ∷ 0 ∷ 72 ∷ 87 ∷ 84 ∷ 0 ∷ 72 ∷ 80 ∷ 84 ∷ 0 ∷ [];
-      whole = refl;
-      at = refl;
-      ends = (λ e. absurd (omega (arith, e)), (λ e. absurd (omega (arith, e)), (λ e. absurd (omega (arith, e)), tt)));
-    };
-    name = refl;
-    name_fits = name_from (72 ∷ 83 ∷ 84 ∷ []) refl;
-  };
+  hst = hst_spelled;
   least_offset = λ t h. let above = h.above_least in let is = h.offset in absurd (omega (arith, ints, above, is));
   flag_2 = λ t h. no_flag t.dst h.mark;
 }

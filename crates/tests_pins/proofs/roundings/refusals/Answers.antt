@@ -1,8 +1,8 @@
 use Rattle.zoned_round.specs.declared.error.RoundingError.TheVariants.{DurationExceedsLimit, DurationExceedsTimestamp, TimestampExceedsLimit}
-use Rattle.tests_pins.proofs.Words.{IsRefusal, RoundingError, arith, ints, refl, ◌≡◌}
+use Rattle.tests_pins.proofs.Words.{IsRoundingFault, RoundingError, arith, ints, refl, ◌≡◌}
 use Rattle.tests_pins.proofs.roundings.refusals.Goals as goal
 
-both : (e : RoundingError) → IsRefusal ⊥ ⊥ e → e ≡ DurationExceedsLimit
+both : (e : RoundingError) → IsRoundingFault ⊥ ⊥ e → e ≡ DurationExceedsLimit
 both DurationExceedsLimit h = refl
 both TimestampExceedsLimit h = absurd h.0
 both DurationExceedsTimestamp h = absurd h

@@ -1,5 +1,5 @@
 use Rattle.std.proofs.Common.{◌-◌}
-use Rattle.tz_info.specs.RuleDays.{IsWeekdayOfMonth}
+use Rattle.tz_info.specs.RuleDays.{IsWeekdayInWeek}
 use Rattle.tests_pins.proofs.Words.{◌*◌, ◌+◌, ◌<◌, IsDate, arith, day_number, floors, pos, refl, weekday_of, ℕ, ℤ, ◌≡◌, ◌≤◌}
 use Rattle.tests_pins.proofs.Computed.{calendar}
 use Rattle.tests_pins.proofs.rules.days_themselves.Goals as goal
@@ -11,7 +11,7 @@ last_sunday other date falls = omega (arith, floors, date.2, date.3, falls)
 
 -- a day of a week before the last
 in_a_week : (y : ℤ) (m w weekday d : ℕ) → IsDate y m d → weekday_of (day_number y m d) ≡ weekday → w < 5 → 7 * (w - 1) + 1 ≤ d → d ≤ 7 * w
-    → IsWeekdayOfMonth y m w weekday d
+    → IsWeekdayInWeek y m w weekday d
 in_a_week y m w weekday d date falls early low high = record { date = date; falls = falls; in_week = λ _. (low, high); last = λ e. absurd (omega (arith, e)) }
 
 pub returns : goal.returns

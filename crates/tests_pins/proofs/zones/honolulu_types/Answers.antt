@@ -1,36 +1,22 @@
-use Rattle.tests_pins.proofs.Words.{arith, neg_ℤ, pos, refl}
+use Rattle.tz_info.specs.Leaps.{IsLeapTime}
+use Rattle.tz_info.specs.Zones.{TypeAtLeapTime}
+use Rattle.tests_pins.proofs.Words.{LeapSecond, List, LocalType, TypeAt, Zone, arith, ints, refl, subst, sym, ℤ, [], ◌≡◌}
 use Rattle.tests_pins.proofs.zones.honolulu_types.Goals as goal
+
+leapless : (z : Zone) (u : ℤ) (t : LocalType) → z.leaps ≡ [] → TypeAtLeapTime z u u t → TypeAt z u t
+leapless z u t none in_force = record {
+  leap_time = u;
+  of_second = λ _. subst (λ (ls : List LeapSecond). IsLeapTime ls u u) (sym none)
+      (record { sum = omega (arith, ints); fits = λ k h. absurd (omega (arith, h)) });
+  in_force = in_force;
+}
 
 pub returns : goal.returns
 returns c = record {
-  before_first = record {
-    leap_time = neg_ℤ (pos 2_334_101_315);
-    of_second = λ _. record { sum = refl; fits = λ k h. absurd (omega (arith, h)) };
-    in_force = record { before_last = λ _. refl; from_last = λ e. absurd (omega (arith, e)) };
-  };
-  first = record {
-    leap_time = neg_ℤ (pos 2_334_101_314);
-    of_second = λ _. record { sum = refl; fits = λ k h. absurd (omega (arith, h)) };
-    in_force = record { before_last = λ _. refl; from_last = λ e. absurd (omega (arith, e)) };
-  };
-  before_last = record {
-    leap_time = neg_ℤ (pos 712_150_201);
-    of_second = λ _. record { sum = refl; fits = λ k h. absurd (omega (arith, h)) };
-    in_force = record { before_last = λ _. refl; from_last = λ e. absurd (omega (arith, e)) };
-  };
-  last = record {
-    leap_time = neg_ℤ (pos 712_150_200);
-    of_second = λ _. record { sum = refl; fits = λ k h. absurd (omega (arith, h)) };
-    in_force = record { before_last = λ h. absurd (omega (arith, h)); from_last = λ _. refl };
-  };
-  by_rule = record {
-    leap_time = pos 1_615_705_200;
-    of_second = λ _. record { sum = refl; fits = λ k h. absurd (omega (arith, h)) };
-    in_force = record { before_last = λ h. absurd (omega (arith, h)); from_last = λ _. refl };
-  };
-  without_rule = record {
-    leap_time = pos 1_615_705_200;
-    of_second = λ _. record { sum = refl; fits = λ k h. absurd (omega (arith, h)) };
-    in_force = record { before_last = λ h. absurd (omega (arith, h)); from_last = λ _. refl };
-  };
+  before_first = leapless _ _ _ refl (record { before_last = λ _. refl; from_last = λ e. absurd (omega (arith, e)) });
+  first = leapless _ _ _ refl (record { before_last = λ _. refl; from_last = λ e. absurd (omega (arith, e)) });
+  before_last = leapless _ _ _ refl (record { before_last = λ _. refl; from_last = λ e. absurd (omega (arith, e)) });
+  last = leapless _ _ _ refl (record { before_last = λ h. absurd (omega (arith, h)); from_last = λ _. refl });
+  by_rule = leapless _ _ _ refl (record { before_last = λ h. absurd (omega (arith, h)); from_last = λ _. refl });
+  without_rule = leapless _ _ _ refl (record { before_last = λ h. absurd (omega (arith, h)); from_last = λ _. refl });
 }

@@ -7,7 +7,8 @@ ghost use Rattle.tz_base.specs.Grammar.{read, checked};
 ghost use Rattle.tz_base.specs.Refusals.{InvalidTzString};
 ghost use Rattle.tz_base.specs.declared.error.Expected.TheVariants.{HoursMinutesAndSecondsWithinTheirLimits};
 ghost use Rattle.tz_info.specs.Rules.{IsWithinWeek};
-ghost use Rattle.tz_info.specs.TzGrammar.{sign, seconds, minutes_seconds, optional_minutes, hours_minutes_seconds, are_within, seconds_of, duration, offset, time_sign, time, optional_time};
+ghost use Rattle.tz_info.specs.TzGrammar.{sign, seconds, minutes_seconds, optional_minutes, hours_minutes_seconds};
+ghost use Rattle.tz_info.specs.TzGrammar.{are_within, signed_seconds, duration, offset, time_sign, time, optional_time};
 
 use tz_base::{Cursor, Error, Expected};
 
@@ -123,7 +124,7 @@ fn seconds_of(limit: u32, negative: bool, h: u32, m: u32, s: u32) -> Result<i32,
     requires { limit ≤ 167 }
     ensures value { Gives (λ z. z) result
         (checked (are_within limit h m s) (InvalidTzString HoursMinutesAndSecondsWithinTheirLimits)
-        (seconds_of negative h m s)) }
+        (signed_seconds negative h m s)) }
     ensures day { limit ≤ 23 → IfOk result (λ z. IsWithinDay z) }
     ensures week { IfOk result (λ z. IsWithinWeek z) }
 {

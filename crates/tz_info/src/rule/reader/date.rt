@@ -4,7 +4,7 @@ ghost use Rattle.std.specs.Prelude.{◌≡◌, IfOk};
 ghost use Rattle.tz_base.specs.Fronts.{Gives, int_at};
 ghost use Rattle.tz_base.specs.Grammar.{read};
 ghost use Rattle.tz_info.specs.Rules.{IsWithinWeek};
-ghost use Rattle.tz_info.specs.TzGrammar.{date, month_date, julian_date, day_number, day};
+ghost use Rattle.tz_info.specs.TzGrammar.{date, month_date, julian_date, numbered_day, day};
 ghost use Rattle.tz_info.specs.Steps.Spelled.{day_time_of};
 
 use crate::rule::day::RuleDay;
@@ -42,7 +42,7 @@ fn read_date(cursor: &mut Cursor<'_>) -> Result<RuleDay, Error>
 }
 
 // `month.week.weekday`, after the `M`.
-#[tactic(auto, unfolding(crate::specs::TzGrammar::month_date, crate::specs::TzGrammar::rule_day))]
+#[tactic(auto, unfolding(crate::specs::TzGrammar::month_date, crate::specs::TzGrammar::checked_day))]
 fn read_month_date(cursor: &mut Cursor<'_>) -> Result<RuleDay, Error>
     ensures { Gives (λ d. (d, cursor.new)) result (read month_date cursor.old) }
 {
@@ -61,7 +61,7 @@ fn read_byte(cursor: &mut Cursor<'_>) -> Result<u8, Error>
 }
 
 // The number after the `J`.
-#[tactic(auto, unfolding(crate::specs::TzGrammar::julian_date, crate::specs::TzGrammar::rule_day))]
+#[tactic(auto, unfolding(crate::specs::TzGrammar::julian_date, crate::specs::TzGrammar::checked_day))]
 fn read_julian_date(cursor: &mut Cursor<'_>) -> Result<RuleDay, Error>
     ensures { Gives (λ d. (d, cursor.new)) result (read julian_date cursor.old) }
 {
@@ -69,9 +69,9 @@ fn read_julian_date(cursor: &mut Cursor<'_>) -> Result<RuleDay, Error>
     RuleDay::julian_1(n as u16)
 }
 
-#[tactic(auto, unfolding(crate::specs::TzGrammar::day_number, crate::specs::TzGrammar::rule_day))]
+#[tactic(auto, unfolding(crate::specs::TzGrammar::numbered_day, crate::specs::TzGrammar::checked_day))]
 fn read_day_number(cursor: &mut Cursor<'_>) -> Result<RuleDay, Error>
-    ensures { Gives (λ d. (d, cursor.new)) result (read day_number cursor.old) }
+    ensures { Gives (λ d. (d, cursor.new)) result (read numbered_day cursor.old) }
 {
     let n = cursor.read_int(DAY_MAX)?;
     RuleDay::julian_0(n as u16)

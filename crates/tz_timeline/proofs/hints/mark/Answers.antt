@@ -1,4 +1,4 @@
-use Rattle.tz_timeline.proofs.Words.{SFits, arith, ints, length-set, map, refl, rules, stretch_of, time_at, to_z-of_z, w64, ◌+◌, ◌/◌, ◌^◌, ◌∙◌, ◌≡◌}
+use Rattle.tz_timeline.proofs.Words.{SFits, arith, ints, item_time, length-set, map, refl, rules, stretch_of, to_z-of_z, w64, ◌+◌, ◌/◌, ◌^◌, ◌∙◌, ◌≡◌}
 use Rattle.tz_timeline.proofs.HintLaws.{marked_more, seconds_are}
 use Rattle.tz_timeline.proofs.SearchSteps.{time_read}
 use Rattle.tz_timeline.proofs.hints.mark.Given.{Over}
@@ -13,7 +13,7 @@ seconds_between-requires g c =
     omega (arith, ints)
 
 -- the stretch of the item, which has a slot behind it
-slot : (g : Over) (c : goal.After-seconds_between g) → c.seconds_between.result / 2 ^ c.args.shift ≡ stretch_of c.args.first (time_at (map g.T.Timed.time c.args.items.now) c.loop-place.place) c.args.shift
+slot : (g : Over) (c : goal.After-seconds_between g) → c.seconds_between.result / 2 ^ c.args.shift ≡ stretch_of c.args.first (item_time (map g.T.Timed.time c.args.items.now) c.loop-place.place) c.args.shift
 slot g c =
     let ff = c.ranges.first in
     let fs : SFits w64 c.second.result = search rules in

@@ -1,5 +1,5 @@
 use Rattle.zoned_time.proofs.Stays.{only_where_in}
-use Rattle.zoned.proofs.Words.{Instant, IsIn, IsOnlyDaysLater, Some, arith, home_of, pos, refl, stays, subst, suc, sym, zero, zoned, ℕ, ◌<◌, ◌≡◌}
+use Rattle.zoned.proofs.Words.{Instant, IsIn, IsOnlyDaysLater, Some, arith, home_law_of, pos, refl, stays, subst, suc, sym, zero, zoned, ℕ, ◌<◌, ◌≡◌}
 use Rattle.zoned.proofs.client_laws.in_zone_after_days.Goals as goal
 
 -- no days leave it, and some give another
@@ -12,4 +12,4 @@ pub returns : goal.returns
 returns g c = let d = c.args.before.now in let e = c.args.after.now in let law = g.Tz.TimeZone.law c.args.zone.now in let h = c.requires.after.1 in
     by_days {T = Instant _ _ _ _} (λ x. IsIn law x) (λ n. IsOnlyDaysLater g.Tz.TimeZone.meaning d (pos n) (Some e)) d e c.requires.after.0 c.requires.before
     (λ n k. stays law (zoned d).utc.s (zoned e).utc.s (zoned d).offset (zoned e).offset e.in_range c.requires.before
-    (only_where_in (home_of g.Tz.TimeZone.meaning d) _ (zoned e) k.given)) h.none h.some
+    (only_where_in (home_law_of g.Tz.TimeZone.meaning d) _ (zoned e) k.given)) h.none h.some

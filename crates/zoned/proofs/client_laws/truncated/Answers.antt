@@ -1,5 +1,5 @@
-use Rattle.zoned.proofs.Words.{Instant, IsAt, IsMultiple, arith, floor_div, floors, home_of, moved, multiple_below, nanos_of, refl, subst, total, unsigned_abs}
-use Rattle.zoned.proofs.Words.{wall_of, zoned, ℤ, ◌+ℤ◌, ◌-ℤ◌, ◌∙◌, ◌≡◌}
+use Rattle.zoned.proofs.Words.{Instant, IsAt, IsMultiple, arith, floor_div, floors, home_law_of, moved, multiple_below, nanos_of, refl, subst, total}
+use Rattle.zoned.proofs.Words.{unsigned_abs, wall_of, zoned, ℤ, ◌+ℤ◌, ◌-ℤ◌, ◌∙◌, ◌≡◌}
 use Rattle.zoned.proofs.Buckets.{gone-back, shown-back, way-back}
 use Rattle.zoned.proofs.client_laws.truncated.Given as given
 use Rattle.zoned.proofs.client_laws.truncated.Goals as goal
@@ -16,7 +16,7 @@ went : (g : given.Over) (c : goal.Start g)
     → total (zoned c.args.start.now).utc ≡ total (zoned c.args.instant.now).utc +ℤ (below g c -ℤ stamp g c)
 went g c =
     let d = c.args.instant.now in
-    gone-back {T = Instant _ _ _ _} (λ e. (zoned e).utc) (λ way e. IsAt (home_of g.Tz.TimeZone.meaning d) (moved (zoned d).utc way) (zoned e))
+    gone-back {T = Instant _ _ _ _} (λ e. (zoned e).utc) (λ way e. IsAt (home_law_of g.Tz.TimeZone.meaning d) (moved (zoned d).utc way) (zoned e))
     d c.args.start.now (below g c -ℤ stamp g c) (λ _ _ is. is.utc) d.datetime.in_range.1 (way-back (stamp g c) _ c.requires.0.0).0 c.requires.2
 
 there : (from to : ℤ) → from +ℤ (to -ℤ from) ≡ to

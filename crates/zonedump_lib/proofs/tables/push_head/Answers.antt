@@ -1,4 +1,4 @@
-use Rattle.zonedump_lib.proofs.Words.{counts_text, leap_lines, line, on_ok_weaker, rule_text, years_text}
+use Rattle.zonedump_lib.proofs.Words.{counts_text, ended_line, leap_lines, on_ok_weaker, rule_text, years_text}
 use Rattle.zonedump_lib.proofs.TableLaws.{four_pieces}
 use Rattle.zonedump_lib.proofs.tables.push_head.Goals as goal
 
@@ -6,4 +6,4 @@ pub returns : goal.returns
 returns c =
     let rule = rw c.rule.ensures at c.in_ok-writeln-2.ensures.bytes in
     let leaps = rw c.leap_seconds.ensures at c.in_ok-push_leap_seconds.ensures in
-    on_ok_weaker c.writeln-3.result (λ years. four_pieces _ _ _ _ _ (line (counts_text c.args.zone.now)) (line (rule_text c.args.zone.now)) (leap_lines c.args.zone.now.leaps) (line (years_text c.args.years.first c.args.years.last c.args.count)) c.in_ok-writeln.ensures.bytes rule leaps years) c.writeln-3.ensures.bytes
+    on_ok_weaker c.writeln-3.result (λ years. four_pieces _ _ _ _ _ (ended_line (counts_text c.args.zone.now)) (ended_line (rule_text c.args.zone.now)) (leap_lines c.args.zone.now.leaps) (ended_line (years_text c.args.years.first c.args.years.last c.args.count)) c.in_ok-writeln.ensures.bytes rule leaps years) c.writeln-3.ensures.bytes

@@ -1,4 +1,4 @@
-use Rattle.zoneq_lib.proofs.CitedWords.{Reading, ahead_of, ap, codes, inl, inr, instant_text, off_of, on_ok_weaker, refl, to_z-of_z, zoned, ◌∙◌}
+use Rattle.zoneq_lib.proofs.CitedWords.{Reading, ahead_of, ap, codes, inl, inr, off_of, on_ok_weaker, refl, shown_date_time, to_z-of_z, zoned, ◌∙◌}
 use Rattle.zoneq_lib.proofs.Showing.{no_stamp, shown_instant}
 use Rattle.zoneq_lib.proofs.answer.tell_instant.Goals as goal
 
@@ -18,7 +18,7 @@ returns-in-Single c =
     let of_zone = c.in-Some-new.ensures in
     let there = at.1.offset.there ∙ ap (λ (k : Reading). off_of r k.s) at.1.utc in
     on_ok_weaker c.write_instant.result (λ bytes. (
-      instant_text d.utc (ahead_of d.offset),
+      shown_date_time d.utc (ahead_of d.offset),
       bytes,
       rw c.in-Some.is (shown_instant c.in-Some.zone (off_of r) c.args.seconds c.args.nanoseconds d.utc (ahead_of d.offset) (of_zone.some.0 refl) of_zone.offsets at.0 at.1.utc there),
     )) c.write_instant.ensures

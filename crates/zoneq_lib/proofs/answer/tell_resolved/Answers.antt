@@ -1,5 +1,5 @@
-use Rattle.offset_core.specs.ResolveNumbers.{number_of}
-use Rattle.zoneq_lib.proofs.CitedWords.{ahead_of, codes, inl, instant_text, law_of, off_of, on_ok_weaker, reading, refl, refusal_text, zoned}
+use Rattle.offset_core.specs.ResolveNumbers.{resolve_error_number}
+use Rattle.zoneq_lib.proofs.CitedWords.{ahead_of, codes, inl, law_of, off_of, on_ok_weaker, reading, refl, shown_date_time, shown_refusal, zoned}
 use Rattle.zoneq_lib.proofs.Showing.{refused_reading, resolved_instant}
 use Rattle.zoneq_lib.proofs.answer.tell_resolved.Goals as goal
 
@@ -16,7 +16,7 @@ returns-in-Ok c =
     let of_zone = c.in-Some-new.ensures in
     let d = zoned c.in-Ok.instant in
     on_ok_weaker c.write_instant.result (λ bytes. (
-      instant_text d.utc (ahead_of d.offset),
+      shown_date_time d.utc (ahead_of d.offset),
       bytes,
       rw c.in-Some.is (resolved_instant c.in-Some.zone (law_of r) (reading c.args.local) c.args.choice d (of_zone.some.0 refl) of_zone.offsets c.in-Ok.ensures),
     )) c.write_instant.ensures
@@ -28,7 +28,7 @@ returns-in-Err c =
     let e = c.in-Err.refusal in
     let written = rw c.number.ensures at c.writeln-in-Err.ensures.bytes in
     on_ok_weaker c.writeln-in-Err.result (λ bytes. (
-      refusal_text (number_of e),
+      shown_refusal (resolve_error_number e),
       bytes,
       rw c.in-Some.is (refused_reading c.in-Some.zone (off_of r) (reading c.args.local) c.args.choice e (of_zone.some.0 refl) of_zone.offsets c.in-Err.ensures),
     )) written

@@ -1,4 +1,4 @@
-use Rattle.zoneq_lib.proofs.CitedWords.{ap, codes, inr, number_of, on_ok_weaker, refl, refusal_text, to_z-of_z, type_error_number, ◌∙◌}
+use Rattle.zoneq_lib.proofs.CitedWords.{ap, codes, error_number, inr, on_ok_weaker, refl, shown_refusal, to_z-of_z, type_error_number, ◌∙◌}
 use Rattle.zoneq_lib.proofs.answer.tell_type.Goals as goal
 
 pub returns-in_default : goal.returns-in_default
@@ -8,6 +8,6 @@ pub returns-in-Err : goal.returns-in-Err
 returns-in-Err c =
     let fits = c.ranges.seconds in
     let refused = simp to_z-of_z at c.in-Err.ensures in
-    let number = ap number_of refused.1 ∙ type_error_number c.in-Some.zone c.args.seconds refused.0 in
+    let number = ap error_number refused.1 ∙ type_error_number c.in-Some.zone c.args.seconds refused.0 in
     let written = rw (c.number.ensures, number) at c.writeln-in-Err.ensures.bytes in
-    on_ok_weaker c.writeln-in-Err.result (λ bytes. (refusal_text 2, bytes, rw c.in-Some.is (inr (refused.0, refl)))) written
+    on_ok_weaker c.writeln-in-Err.result (λ bytes. (shown_refusal 2, bytes, rw c.in-Some.is (inr (refused.0, refl)))) written

@@ -1,9 +1,9 @@
-use Rattle.zoneq_lib.proofs.CitedWords.{Err, FitsSigned, Ok, ap, arith, date, ints, nat_le, nat_tests, sym, to_z-of_z, true, w32, w64, ◌≡◌, ◌≤◌}
+use Rattle.zoneq_lib.proofs.CitedWords.{Err, FitsSigned, Ok, ap, arith, calendar_day, ints, nat_le, nat_tests, sym, to_z-of_z, true, w32, w64, ◌≡◌, ◌≤◌}
 use Rattle.zoneq_lib.proofs.LineLaws.{dated, undated}
 use Rattle.zoneq_lib.proofs.question.date.Goals as goal
 
 pub returns-in-Some : goal.returns-in-Some
-unfolding date
+unfolding calendar_day
 returns-in-Some c =
     let fits : FitsSigned w32 c.in_ok-year.year = omega (arith, ints, c.in_ok-year.ensures.least, c.in_ok-year.ensures.most) in
     let wide : FitsSigned w64 c.in_ok-year.year = omega (arith, ints, c.in_ok-year.ensures.least, c.in_ok-year.ensures.most) in
@@ -13,7 +13,7 @@ returns-in-Some c =
     rw (c.in_ok-year.ensures.value, c.in_ok-month.ensures.value, some, c.in_ok-day.ensures.value, day) (ap (λ n. Ok (n, c.in_ok-day.rest.now)) (sym is.2))
 
 pub returns-in-None : goal.returns-in-None
-unfolding date
+unfolding calendar_day
 returns-in-None c =
     let fits : FitsSigned w32 c.in_ok-year.year = omega (arith, ints, c.in_ok-year.ensures.least, c.in_ok-year.ensures.most) in
     let wide : FitsSigned w64 c.in_ok-year.year = omega (arith, ints, c.in_ok-year.ensures.least, c.in_ok-year.ensures.most) in

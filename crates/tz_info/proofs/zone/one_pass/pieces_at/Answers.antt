@@ -14,8 +14,10 @@ returns c =
     let starts = simp to_z-of_z at c.cut_by-start.ensures in
     let found = pieces_found (zone_in c.args.lists) c.args.place c.args.before c.args.behind c.start_by-second.result c.cut_by-end.result c.cut_by-start.result in
     elim c.if-end-start.branch [
-      | then-end-start w ↦ rw w.first-is (simp to_z-of_z (found _ _ c.requires.before c.requires.behind c.start_by-second.ensures.start ends starts
+      | then-end-start w ↦ rw (c.in_ok-earlier.ensures, c.in_ok-later.ensures, w.first-is) (simp to_z-of_z
+          (found _ _ c.requires.before c.requires.behind c.start_by-second.ensures.start ends starts
           (inl (record { order = omega (arith, ints); none = refl; next = refl }))))
-      | else-end-start w ↦ rw w.first-is (simp to_z-of_z (found _ _ c.requires.before c.requires.behind c.start_by-second.ensures.start ends starts
+      | else-end-start w ↦ rw (c.in_ok-earlier.ensures, c.in_ok-later.ensures, w.first-is) (simp to_z-of_z
+          (found _ _ c.requires.before c.requires.behind c.start_by-second.ensures.start ends starts
           (inr (record { order = omega (arith, ints); both = refl; next = refl }))))
     ]

@@ -14,16 +14,17 @@ loop-transition-preserved c =
     let later = simp to_z-of_z at c.later-start.ensures in
     let first = simp to_z-of_z at c.first_second.ensures in
     record {
-      made = rw c.push_reserved.ensures.items (simp to_z-of_z (one_made _ _ _ c.loop-transition.transition-index _ c.first_second.result none _
+      made = rw (c.push_reserved.ensures.items, simp to_z-of_z at c.in_ok-entry.ensures) (simp to_z-of_z
+          (one_made _ _ _ c.loop-transition.transition-index _ c.first_second.result none _
           c.requires.rising (omega arith) c.loop-transition.invariant.made first later refl));
       count = omega (arith, c.push_reserved.ensures.len);
       room = omega (arith, c.push_reserved.ensures.capacity);
     }
 
-pub new-requires : goal.new-requires
-new-requires c = made_in_order _ _ _ _ _ c.loop-transition.invariant.made
+pub new-requires-2 : goal.new-requires-2
+new-requires-2 c = made_in_order _ _ _ _ _ c.loop-transition.invariant.made
 
 pub returns : goal.returns
 returns c =
     all_made _ _ c.loop-transition.entries.items c.loop-transition.transition-index _ _ (omega arith)
-    c.loop-transition.invariant.made c.new.ensures
+    c.loop-transition.invariant.made c.new-2.ensures

@@ -1,5 +1,5 @@
-use Rattle.tz_timeline.proofs.Words.{SFits, ap, arith, drop, length, length-map, length-replicate, map, pos, replicate, rules, take-append-le, take_all}
-use Rattle.tz_timeline.proofs.Words.{time_at, to_z-of_z, w64, ◌+◌, ◌-ℤ◌, ◌-◌, ◌/◌, ◌^◌, ◌∙◌, ◌≡◌}
+use Rattle.tz_timeline.proofs.Words.{SFits, ap, arith, drop, item_time, length, length-map, length-replicate, map, pos, replicate, rules, take-append-le}
+use Rattle.tz_timeline.proofs.Words.{take_all, to_z-of_z, w64, ◌+◌, ◌-ℤ◌, ◌-◌, ◌/◌, ◌^◌, ◌∙◌, ◌≡◌}
 use Rattle.tz_timeline.proofs.HintLaws.{first_least, hints_made, slots}
 use Rattle.tz_timeline.proofs.SearchSteps.{time_read}
 use Rattle.tz_timeline.proofs.hints.Hints.new.Given.{Over}
@@ -7,10 +7,10 @@ use Rattle.tz_timeline.proofs.hints.Hints.new.Goals as goal
 use Rattle.tz_timeline.proofs.hints.Hints.new.Goals.{After-deref_mut}
 
 -- the first item's time, and the span
-first_is : (g : Over) (c : After-deref_mut g) → c.second-first.result ≡ time_at (map g.T.Timed.time c.args.items.now) 0
+first_is : (g : Over) (c : After-deref_mut g) → c.second-first.result ≡ item_time (map g.T.Timed.time c.args.items.now) 0
 first_is g c = c.second-first.ensures ∙ time_read g.T.Timed.time c.args.items.now 0 c.index-items-0.result (omega arith) c.index-items-0.is
 
-span_is : (g : Over) (c : After-deref_mut g) → pos c.seconds_between-span.result ≡ time_at (map g.T.Timed.time c.args.items.now) (length (map g.T.Timed.time c.args.items.now) - 1) -ℤ c.second-first.result
+span_is : (g : Over) (c : After-deref_mut g) → pos c.seconds_between-span.result ≡ item_time (map g.T.Timed.time c.args.items.now) (length (map g.T.Timed.time c.args.items.now) - 1) -ℤ c.second-first.result
 span_is g c =
     let fs : SFits w64 c.second.result = search rules in
     let ff : SFits w64 c.second-first.result = search rules in

@@ -1,9 +1,9 @@
-use Rattle.tz_timeline.proofs.Words.{IsNear, digits, length, map, ℕ, ◌+◌, ◌-◌, ◌≡◌, ◌≤◌}
+use Rattle.tz_timeline.proofs.Words.{IsNarrowedTo, digits, length, map, ℕ, ◌+◌, ◌-◌, ◌≡◌, ◌≤◌}
 use Rattle.tz_timeline.proofs.timeline.Timeline.passed_near.Given as goal
 
 abbrev pub invariant-loop-left : goal.invariant-loop-left
 invariant-loop-left g l = record {
-  near : IsNear (map g.T.Timed.time l.self) l.second l.left;
+  near : IsNarrowedTo (map g.T.Timed.time l.self) l.second l.left;
   looks : ℕ;
   most : looks + digits (l.left.count - 1) + 1 ≤ digits (length l.self);
   counts : l.probes ≡ g.T.Timed.counted l.fn.probes looks;

@@ -1,4 +1,4 @@
-use Rattle.tz_write.proofs.Words.{All-more, IsTime, ap, arith, length, time_bytes, ◌++◌, ◌<◌, ◌∙◌}
+use Rattle.tz_write.proofs.Words.{All-more, HasTimeOf64Bits, ap, arith, length, time_bytes, ◌++◌, ◌<◌, ◌∙◌}
 use Rattle.tz_write.proofs.FileRecords.{flat_map_next}
 use Rattle.tz_write.proofs.file.contents.push_times.Goals as goal
 
@@ -10,5 +10,6 @@ loop-place-preserved c =
     record {
       appended = flat_map_next time_bytes c.args.bytes.now.items c.args.zone.now.transitions c.loop-place.place t c.loop-place.bytes.items c.push_time.new.bytes.items below c.loop-place.invariant.appended
           (c.in_ok-push_time.ensures.appended ∙ ap (λ x. c.loop-place.bytes.items ++ time_bytes x) e);
-      sound = All-more IsTime c.args.zone.now.transitions c.loop-place.place t below c.loop-place.invariant.sound (rw (← e) c.in_ok-push_time.ensures.sound);
+      sound = All-more HasTimeOf64Bits c.args.zone.now.transitions c.loop-place.place t below c.loop-place.invariant.sound
+          (rw (← e) c.in_ok-push_time.ensures.sound);
     }

@@ -1,6 +1,5 @@
-use Rattle.zoned_ffi.proofs.Words.{AreWritten, FitsSigned, IsWritten, and_parts, arith, get_or, inr, length-set, pos}
-use Rattle.zoned_ffi.proofs.Words.{rules, slice_set, subst, take, to_z-of_z, w64}
-use Rattle.zoned_ffi.proofs.Words.{◌+ℤ◌, ◌+◌, ◌∙◌, ◌≡◌}
+use Rattle.zoned_ffi.proofs.Words.{AreWritten, FitsSigned, IsWritten, and_parts, arith, get_or, inr, length-set, pos, rules, slice_set, subst, take, to_z-of_z}
+use Rattle.zoned_ffi.proofs.Words.{w64, ◌+ℤ◌, ◌+◌, ◌∙◌, ◌≡◌}
 use Rattle.zoned_ffi.proofs.Slices.{zip_more}
 use Rattle.zoned_ffi.proofs.column.block.write_pairs.Goals as goal
 

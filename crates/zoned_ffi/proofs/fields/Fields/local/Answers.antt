@@ -1,7 +1,7 @@
 use Rattle.naive_base.specs.Clock.{clock_second}
 use Rattle.zoned_ffi.proofs.Words.{FitsSigned, IsInRange, arith, ints, pos, refl, rules, subst, sym, to_z-of_z, w32, w64, ◌*ℤ◌, ◌+ℤ◌, ◌≡◌}
 use Rattle.zoned_ffi.proofs.FieldLaws.{local_is}
-use Rattle.zoned_ffi.specs.Fields.{IsNoLocalOf, local_of}
+use Rattle.zoned_ffi.specs.Fields.{IsNoLocalOf, local_of_fields}
 use Rattle.zoned_ffi.proofs.fields.Fields.local.Goals as goal
 
 pub returns-then-not-are_date_time : goal.returns-then-not-are_date_time
@@ -35,7 +35,7 @@ returns-else-is_in_range c =
     let bound = c.day_number.ensures.bound in
     let days : FitsSigned w64 (c.day_number.result *ℤ pos 86_400) = omega (arith, ints, bound.0, bound.1) in
     let sum : FitsSigned w64 ((c.day_number.result *ℤ pos 86_400) +ℤ c.from.result) = omega (arith, ints, bound.0, bound.1, from_is, hands.0, hands.1, hands.2) in
-    let named : (c.day_number.result *ℤ pos 86_400) +ℤ c.from.result ≡ local_of f =
+    let named : (c.day_number.result *ℤ pos 86_400) +ℤ c.from.result ≡ local_of_fields f =
     local_is f c.day_number.result c.from.result _ (simp to_z-of_z at c.day_number.ensures.value) from_is refl in
     let tested = simp to_z-of_z at c.is_in_range.ensures in
     IsNoLocalOf.outside date_time (λ inside. let t = tested.1 (subst IsInRange (sym named) inside) in let no = c.if-is_in_range.false in cc)

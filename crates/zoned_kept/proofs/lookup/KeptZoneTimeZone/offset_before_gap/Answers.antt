@@ -1,17 +1,6 @@
-use Rattle.std.proofs.Common.{◌∙◌, sym, ap, subst}
 use Rattle.naive_base.specs.NaiveDateTime.{reading}
-use Rattle.zoned_time.specs.Zone.{SameLaw}
-use Rattle.zoned_time.proofs.ForCallers.{same_itself}
-use Rattle.zoned_kept.specs.KeptOffset.{law_of, ahead_of, type_of}
-use Rattle.zoned_kept.specs.KeptZone.{zone_of, off_of}
-use Rattle.zoned_kept.proofs.Gaps.{gap_of}
+use Rattle.zoned_kept.proofs.Kept.{gap_kept}
 use Rattle.zoned_kept.proofs.lookup.KeptZoneTimeZone.offset_before_gap.Goals as goal
 
 pub returns-in-Some-clause-offset : goal.returns-in-Some-clause-offset
-returns-in-Some-clause-offset c =
-    let zone = c.args.self.now in let before = c.in-Some.before in
-    let type = c.local_type.ensures.local_type in
-    let borrowed = c.in-Some.ensures.offset in
-    let gap = gap_of (zone_of zone) (off_of zone) (reading c.args.local.now).s (ahead_of c.of.result) _ (type_of c.of.result) _
-    (c.of.ensures.seconds ∙ ap (λ t. t.offset) type ∙ sym before.agreed) (c.of.ensures.local_type ∙ type) (borrowed.0, borrowed.1) in
-    (gap.0, gap.1, subst (λ k. SameLaw (law_of k) (law_of zone)) (sym c.of.ensures.zone) (same_itself (law_of zone)))
+returns-in-Some-clause-offset c = gap_kept c.args.self.now (reading c.args.local.now).s c.in-Some.borrowed c.in-Some.ensures.offset

@@ -1,4 +1,4 @@
-use Rattle.zoned_ref.proofs.Words.{IsOffsetAt, TypeAt, subst, to_z-of_z, type_not_refused}
+use Rattle.zoned_ref.proofs.Words.{to_z-of_z, type_not_refused}
 use Rattle.zoned_ref.proofs.time_zone_ref.TimeZoneRef.offset_at.Goals as goal
 
 pub unreachable-requires : goal.unreachable-requires

@@ -1,6 +1,6 @@
-use Rattle.zoned_ref.proofs.Words.{ap, refl, sym, type_once, zone_of, ◌∙◌}
-use Rattle.zoned_ref.proofs.Homes.{in_force_by, same_law}
+use Rattle.zoned_ref.proofs.Words.{ap, sym, type_once, zone_of, ◌∙◌}
 use Rattle.zoned_ref.proofs.Offsets.{type_within}
+use Rattle.zoned_ref.proofs.Walls.{same_law}
 use Rattle.zoned_ref.proofs.time_zone_ref.TimeZoneRef.offset_of.Goals as goal
 
 pub new-requires : goal.new-requires
@@ -11,7 +11,7 @@ returns-clause-offset c =
     let r = c.args.self.now in let z = zone_of r in let t = c.args.local_type.now in
     let there = c.requires.offsets c.args.second c.requires.second in
     record {
-      there = c.new.ensures.seconds ∙ ap (λ t. t.offset) (type_once z c.args.second t there.type c.requires.in_force there.in_force) ∙ sym there.offset;
-      in_force = in_force_by r z t c.new.result refl c.new.ensures.local_type c.args.second c.requires.in_force;
-      same_home = same_law c.new.result r c.new.ensures.zone;
+      there = ap (λ t. t.offset) (c.new.ensures.local_type ∙ type_once z c.args.second t there.type c.requires.in_force there.in_force) ∙ sym there.offset;
+      in_force = rw c.new.ensures.local_type c.requires.in_force;
+      same_home = same_law r c.new.result c.new.ensures.zone;
     }

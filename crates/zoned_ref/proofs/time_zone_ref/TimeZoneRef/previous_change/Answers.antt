@@ -1,23 +1,25 @@
-use Rattle.zoned_ref.proofs.Words.{AreOffsetsOf, IsOfZone, SFits, TypeAt, arith, change_of, ints, off_of, subst, to_z-of_z, w64, zone_of, zoned}
-use Rattle.zoned_ref.proofs.Changes.{last_told, none_up_to, stand_since}
+use Rattle.zoned_ref.proofs.Words.{IsOfZone, SFits, TypeAt, arith, change_held, change_of, false, ints, off_of, to_z-of_z, w64, zone_of, zoned}
+use Rattle.zoned_ref.proofs.Changes.{nearest_told, none_told, stand_within}
+use Rattle.zoned_ref.proofs.Walls.{of_zone}
 use Rattle.zoned_ref.proofs.time_zone_ref.TimeZoneRef.previous_change.Goals as goal
 
 pub returns-clause-change : goal.returns-clause-change
 returns-clause-change g c =
     let r = c.args.self.now in let s = (zoned c.args.before_or_at.now).utc.s in let here = c.args.before_or_at.now.in_range in
     let fits : SFits w64 s = omega (arith, ints, here) in
-    last_told change_of (IsOfZone r) (TypeAt (zone_of r)) s c.in_ok-change.change c.instants_around.result here
+    nearest_told false change_of (IsOfZone r) (TypeAt (zone_of r)) s (change_held c.in_ok-change.change) c.instants_around.result here
     (simp (c.zone-zone.ensures.zone, c.timestamp.ensures, to_z-of_z) at c.in_ok-change.ensures) c.instants_around.ensures
 
 pub returns-clause-since : goal.returns-clause-since
 returns-clause-since g c =
     let r = c.args.self.now in
-    stand_since change_of (zone_of r) (off_of r) c.types_are_decided.ensures (subst (λ z. AreOffsetsOf z (off_of r)) c.zone-zone.ensures.zone c.zone-zone.ensures.offsets)
+    stand_within false change_of (zone_of r) (off_of r) (of_zone r c.zone-zone.result.now c.zone-zone.ensures.zone c.zone-zone.ensures.offsets)
     (zoned c.args.before_or_at.now).utc.s c.args.before_or_at.now.in_range c.instants_around.result (returns-clause-change g c)
 
 pub returns-in_err-change-clause-since : goal.returns-in_err-change-clause-since
 returns-in_err-change-clause-since g c =
     let r = c.args.self.now in let s = (zoned c.args.before_or_at.now).utc.s in let here = c.args.before_or_at.now.in_range in
     let fits : SFits w64 s = omega (arith, ints, here) in
-    stand_since change_of (zone_of r) (off_of r) c.types_are_decided.ensures (subst (λ z. AreOffsetsOf z (off_of r)) c.zone-zone.ensures.zone c.zone-zone.ensures.offsets)
-    s here c.from_residual.result (rw c.from_residual.ensures (none_up_to (TypeAt (zone_of r)) s (simp (c.zone-zone.ensures.zone, c.timestamp.ensures, to_z-of_z) at c.in_err-change.ensures)))
+    stand_within false change_of (zone_of r) (off_of r) (of_zone r c.zone-zone.result.now c.zone-zone.ensures.zone c.zone-zone.ensures.offsets)
+    s here c.from_residual.result (rw c.from_residual.ensures
+    (none_told false (TypeAt (zone_of r)) s here (simp (c.zone-zone.ensures.zone, c.timestamp.ensures, to_z-of_z) at c.in_err-change.ensures)))

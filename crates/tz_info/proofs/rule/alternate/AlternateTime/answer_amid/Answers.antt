@@ -23,11 +23,11 @@ seconds c =
 -- both seconds were asked
 counted : (c : After-second_showing-2) → IsAskedFrom (Alternate c.args.self.now) c.args.from c.args.local c.args.probes.now.rule_questions c.count_question-2.new.self.rule_questions
 counted c = asked_std_dst c.args.self.now c.args.from c.args.local c.args.probes.now.rule_questions c.count_question.new.self.rule_questions c.count_question-2.new.self.rule_questions c.requires.other
-    (inl (c.requires.standard.since, ap (λ (p : Counts). p.rule_questions) c.count_question.ensures))
-    (inl (c.requires.daylight.since, ap (λ (p : Counts). p.rule_questions) c.count_question-2.ensures))
+    (inl (c.requires.season.standard.since, ap (λ (p : Counts). p.rule_questions) c.count_question.ensures))
+    (inl (c.requires.season.daylight.since, ap (λ (p : Counts). p.rule_questions) c.count_question-2.ensures))
 
 pub is_dst_amid-is_dst-requires-clause-decides : goal.is_dst_amid-is_dst-requires-clause-decides
-is_dst_amid-is_dst-requires-clause-decides c = let (fl, ff, fs, fd, gs, gd, vs, vd) = seconds c in simp to_z-of_z (rw vd c.requires.daylight.decided)
+is_dst_amid-is_dst-requires-clause-decides c = let (fl, ff, fs, fd, gs, gd, vs, vd) = seconds c in simp to_z-of_z (rw vd c.requires.season.daylight.decided)
 
 pub returns-then-standard-daylight : goal.returns-then-standard-daylight
 returns-then-standard-daylight c =
@@ -37,8 +37,9 @@ returns-then-standard-daylight c =
     let less : a.std.offset <ℤ a.dst.offset = let other = c.requires.other in omega (arith, ints) in
     let two = rw (c.std-then-standard-daylight.ensures.value, c.dst-then-standard-daylight.ensures.value) at c.answer_of_two.ensures in
     record {
+      season = c.requires.season;
       found = rw two (both_asked (Alternate a) c.args.from c.args.local a.dst a.std _ _ less (dst_or_std a c.args.from c.args.local)
-          (record { fits = rw vd at gd; since = c.requires.daylight.since }) (record { fits = rw vs at gs; since = c.requires.standard.since })
+          (record { fits = rw vd at gd; since = c.requires.season.daylight.since }) (record { fits = rw vs at gs; since = c.requires.season.standard.since })
           (dst_shown a _ _ (rw vd at (simp to_z-of_z at c.is_dst_amid-is_dst.ensures))) (std_shown a _ _ (rw vs at (simp to_z-of_z at c.is_dst_amid-is_std.ensures))));
       cost = search rules;
       counted = counted after;
@@ -52,8 +53,9 @@ returns-else-standard-daylight c =
     let less : a.dst.offset <ℤ a.std.offset = let other = c.requires.other in omega (arith, ints) in
     let two = rw (c.std-else-standard-daylight.ensures.value, c.dst-else-standard-daylight.ensures.value) at c.answer_of_two-else-standard-daylight.ensures in
     record {
+      season = c.requires.season;
       found = rw two (both_asked (Alternate a) c.args.from c.args.local a.std a.dst _ _ less (std_or_dst a c.args.from c.args.local)
-          (record { fits = rw vs at gs; since = c.requires.standard.since }) (record { fits = rw vd at gd; since = c.requires.daylight.since })
+          (record { fits = rw vs at gs; since = c.requires.season.standard.since }) (record { fits = rw vd at gd; since = c.requires.season.daylight.since })
           (std_shown a _ _ (rw vs at (simp to_z-of_z at c.is_dst_amid-is_std.ensures))) (dst_shown a _ _ (rw vd at (simp to_z-of_z at c.is_dst_amid-is_dst.ensures))));
       cost = search rules;
       counted = counted after;

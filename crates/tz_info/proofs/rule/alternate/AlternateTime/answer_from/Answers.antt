@@ -1,4 +1,4 @@
-use Rattle.tz_info.proofs.Words.{LocalType, SFits, TypeFrom, ap, arith, ints, rules, to_z-of_z, w32, w64, ◌-ℤ◌, ◌∙◌, ◌≡◌, ◌≢◌}
+use Rattle.tz_info.proofs.Words.{LocalType, SFits, TypeFrom, and_parts, ap, arith, ints, rules, to_z-of_z, w32, w64, ◌-ℤ◌, ◌∙◌, ◌≡◌, ◌≢◌}
 use Rattle.tz_info.specs.declared.rule.transition_rule.TransitionRule.TheVariants.{Alternate}
 use Rattle.tz_info.proofs.Candidates.{asked_both, asked_one, dst_or_std, none_since, one_second, std_or_dst}
 use Rattle.tz_info.proofs.QuestionLaws.{asked_dst_std, asked_never, asked_once, asked_std_dst}
@@ -26,6 +26,7 @@ pub returns-then-by_dst-from : goal.returns-then-by_dst-from
 returns-then-by_dst-from c =
     let (fl, ff, fs, fd, gs, gd, vs, vd, ss, sd) = offsets (goal.at.returns-then-by_dst-from c).After-second_showing-by_dst in
     record {
+      season = search rules;
       found = none_since c.args.self.now c.args.from c.args.local (omega (arith, ints)) (omega (arith, ints));
       cost = search rules;
       counted = asked_never c.args.self.now c.args.from c.args.local _ (omega (arith, ints)) (omega (arith, ints));
@@ -38,41 +39,45 @@ returns-then-standard-daylight c =
     let a = c.args.self.now in
     let same : a.std.offset ≡ a.dst.offset = omega (arith, ints) in
     record {
+      season = search rules;
       found = asked_one (TypeFrom (Alternate a) c.args.from) c.args.local a.std.offset _ (one_second a c.args.from c.args.local same)
-          (rw vs at (simp to_z-of_z at c.ask.ensures.asked));
+          (rw vs at (simp to_z-of_z at c.ask-only.ensures.asked));
       cost = search rules;
-      counted = asked_once a c.args.from c.args.local _ _ same (rw vs at (simp to_z-of_z at c.ask.ensures.counted));
+      counted = asked_once a c.args.from c.args.local _ _ same (rw vs at (simp to_z-of_z at c.ask-only.ensures.counted));
       rule = search rules;
     }
 
 pub answer_amid-requires-clause-season : goal.answer_amid-requires-clause-season
-answer_amid-requires-clause-season c = (rw c.in-Some.is at c.requires.season).season
+answer_amid-requires-clause-season c =
+    let (fl, ff, fs, fd, gs, gd, vs, vd, ss, sd) = offsets (goal.at.answer_amid-requires-clause-season c).After-second_showing-by_dst in
+    let f0 : SFits w64 c.season-season.result.from = search rules in
+    let f1 : SFits w64 c.season-season.result.until = search rules in
+    let both = and_parts c.decides.result c.decides-then-from-by_dst.result c.if-decides.true in
+    simp to_z-of_z (record {
+      season = c.season-season.ensures;
+      standard = record { decided = rw ss at ((simp to_z-of_z at c.decides.ensures).0 both.0); since = omega (arith, ints) };
+      daylight = record { decided = rw sd at ((simp to_z-of_z at c.decides-then-from-by_dst.ensures).0 both.1); since = omega (arith, ints) };
+    })
 
-pub answer_amid-requires-clause-standard : goal.answer_amid-requires-clause-standard
-answer_amid-requires-clause-standard c =
-    let (fl, ff, fs, fd, gs, gd, vs, vd, ss, sd) = offsets (goal.at.answer_amid-requires-clause-standard c).After-second_showing-by_dst in
-    simp to_z-of_z (record { decided = (rw c.in-Some.is at c.requires.season).standard; since = omega (arith, ints) })
+pub returns-then-decides-clause-season : goal.returns-then-decides-clause-season
+returns-then-decides-clause-season c = let fl = c.ranges.local in let ff = c.ranges.from in simp to_z-of_z at c.answer_amid.ensures.season
 
-pub answer_amid-requires-clause-daylight : goal.answer_amid-requires-clause-daylight
-answer_amid-requires-clause-daylight c =
-    let (fl, ff, fs, fd, gs, gd, vs, vd, ss, sd) = offsets (goal.at.answer_amid-requires-clause-daylight c).After-second_showing-by_dst in
-    simp to_z-of_z (record { decided = (rw c.in-Some.is at c.requires.season).daylight; since = omega (arith, ints) })
+pub returns-then-decides-clause-found : goal.returns-then-decides-clause-found
+returns-then-decides-clause-found c = let fl = c.ranges.local in let ff = c.ranges.from in simp to_z-of_z at c.answer_amid.ensures.found
 
-pub returns-then-from-by_dst-clause-found : goal.returns-then-from-by_dst-clause-found
-returns-then-from-by_dst-clause-found c = let fl = c.ranges.local in let ff = c.ranges.from in simp to_z-of_z at c.answer_amid.ensures.found
-
-pub returns-then-from-by_dst-clause-counted : goal.returns-then-from-by_dst-clause-counted
-returns-then-from-by_dst-clause-counted c = let fl = c.ranges.local in let ff = c.ranges.from in simp to_z-of_z at c.answer_amid.ensures.counted
+pub returns-then-decides-clause-counted : goal.returns-then-decides-clause-counted
+returns-then-decides-clause-counted c = let fl = c.ranges.local in let ff = c.ranges.from in simp to_z-of_z at c.answer_amid.ensures.counted
 
 pub returns-then-standard-daylight-2 : goal.returns-then-standard-daylight-2
 returns-then-standard-daylight-2 c =
     let (fl, ff, fs, fd, gs, gd, vs, vd, ss, sd) = offsets (goal.at.returns-then-standard-daylight-2 c).After-second_showing-by_dst in
     let a = c.args.self.now in
     record {
+      season = search rules;
       found = asked_both (TypeFrom (Alternate a) c.args.from) c.args.local a.dst.offset a.std.offset _ _ (omega (arith, ints))
-          (dst_or_std a c.args.from c.args.local) (rw vd at (simp to_z-of_z at c.ask-one.ensures.asked)) (rw vs at (simp to_z-of_z at c.ask-then-standard-daylight-2.ensures.asked));
+          (dst_or_std a c.args.from c.args.local) (rw vd at (simp to_z-of_z at c.ask-one.ensures.asked)) (rw vs at (simp to_z-of_z at c.ask.ensures.asked));
       cost = search rules;
-      counted = asked_dst_std a c.args.from c.args.local _ _ _ (λ e. omega (arith, ints)) (rw vd at (simp to_z-of_z at c.ask-one.ensures.counted)) (rw vs at (simp to_z-of_z at c.ask-then-standard-daylight-2.ensures.counted));
+      counted = asked_dst_std a c.args.from c.args.local _ _ _ (λ e. omega (arith, ints)) (rw vd at (simp to_z-of_z at c.ask-one.ensures.counted)) (rw vs at (simp to_z-of_z at c.ask.ensures.counted));
       rule = search rules;
     }
 
@@ -82,6 +87,7 @@ returns c =
     let a = c.args.self.now in
     let other : a.std.offset ≢ a.dst.offset = λ e. omega (arith, ints) in
     record {
+      season = search rules;
       found = asked_both (TypeFrom (Alternate a) c.args.from) c.args.local a.std.offset a.dst.offset _ _ (omega (arith, ints))
           (std_or_dst a c.args.from c.args.local) (rw vs at (simp to_z-of_z at c.ask-one-2.ensures.asked)) (rw vd at (simp to_z-of_z at c.ask-2.ensures.asked));
       cost = search rules;
@@ -89,8 +95,8 @@ returns c =
       rule = search rules;
     }
 
-pub ask-requires-then-standard-daylight-2-clause-room : goal.ask-requires-then-standard-daylight-2-clause-room
-ask-requires-then-standard-daylight-2-clause-room c = omega (arith, c.requires.room, c.ask-one.ensures.cost.questions_most)
+pub ask-requires-clause-room : goal.ask-requires-clause-room
+ask-requires-clause-room c = omega (arith, c.requires.room, c.ask-one.ensures.cost.questions_most)
 
 pub ask-requires-2-clause-room : goal.ask-requires-2-clause-room
 ask-requires-2-clause-room c = omega (arith, c.requires.room, c.ask-one-2.ensures.cost.questions_most)

@@ -1,4 +1,4 @@
-use Rattle.tz_info.proofs.Words.{AlternateAt, SFits, ap, change_at, of_z, rules, to_z-of_z, w64}
+use Rattle.tz_info.proofs.Words.{AlternateAt, SFits, ap, moment_change, of_z, rules, to_z-of_z, w64}
 use Rattle.tz_info.proofs.SeasonChanges.{IsMomentAhead, found_at, idle_over, moment_ahead}
 use Rattle.tz_info.proofs.rule.alternate.AlternateTime.moment_in_season.Goals as goal
 use Rattle.tz_info.proofs.rule.alternate.AlternateTime.moment_in_season.Goals.{After-nearest-at}
@@ -42,7 +42,7 @@ returns-in-Some c =
     let fs = c.ranges.second in
     let (fl, fm, h) = moment_of (goal.at.returns-in-Some c).After-nearest-at in
     let is = simp to_z-of_z at c.in-Some.ensures in
-    found_at c.args.forward (AlternateAt c.args.self.now) c.args.second c.nearest-at.result (change_at c.args.self.now c.in-Some.moment) h.idle is.0 is.1
+    found_at c.args.forward (AlternateAt c.args.self.now) c.args.second c.nearest-at.result (moment_change c.args.self.now c.in-Some.moment) h.idle is.0 is.1
 
 pub returns-in-None : goal.returns-in-None
 returns-in-None c =

@@ -1,4 +1,4 @@
-use Rattle.tz_info.proofs.Words.{IsRuleYear, SFits, arith, change_at, ints, refl, rules, to_z-of_z, w32, w64, year_at, ◌≡◌}
+use Rattle.tz_info.proofs.Words.{IsRuleYear, SFits, arith, ints, moment_change, refl, rules, to_z-of_z, w32, w64, year_at, ◌≡◌}
 use Rattle.tz_info.proofs.RuleChanges.{IsStart, found_in, in_first, in_next, never, none_out}
 use Rattle.tz_info.proofs.rule.alternate.AlternateTime.moment_in_years.Goals as goal
 use Rattle.tz_info.proofs.rule.alternate.AlternateTime.moment_in_years.Goals.{After-rule_year_of-first, Else-not-is_rule_year}
@@ -47,7 +47,7 @@ nearest_in-requires c =
 pub returns-in-Some : goal.returns-in-Some
 returns-in-Some c =
     let (ff, fy, fn, e, i) = inside (goal.at.returns-in-Some c).Else-not-is_rule_year in
-    found_in c.args.self.now c.args.forward c.args.stretch.after c.args.stretch.last c.year_at-year.result (change_at c.args.self.now c.in-Some.moment)
+    found_in c.args.self.now c.args.forward c.args.stretch.after c.args.stretch.last c.year_at-year.result (moment_change c.args.self.now c.in-Some.moment)
     (rw e (simp to_z-of_z at c.loop-step.invariant)) (simp to_z-of_z at c.in-Some.ensures)
 
 pub loop-step-preserved : goal.loop-step-preserved

@@ -1,4 +1,4 @@
-use Rattle.tz_info.proofs.Words.{AlternateAt, IsStretchAhead, None, SFits, Some, change_at, change_found, rules, to_z-of_z, w64}
+use Rattle.tz_info.proofs.Words.{AlternateAt, IsStretchAhead, None, SFits, Some, change_found, moment_change, rules, to_z-of_z, w64}
 use Rattle.tz_info.proofs.ChangeSearch.{nearest_ahead, nearest_within, none_in_empty}
 use Rattle.tz_info.proofs.rule.alternate.AlternateTime.nearest_change.Goals as goal
 use Rattle.tz_info.proofs.rule.alternate.AlternateTime.nearest_change.Goals.{After-stretch_ahead-ahead}
@@ -23,9 +23,9 @@ returns-in-Some c =
     let (fa, fl, e) = ahead (goal.at.returns-in-Some c).After-stretch_ahead-ahead in
     let fn : SFits w64 c.near_end-near.result = search rules in
     let a = c.args.self.now in
-    rw (c.copied.ensures, c.change_of.ensures.at, c.change_of.ensures.before, c.change_of.ensures.after)
-    (nearest_ahead c.args.forward (AlternateAt a) c.args.begin c.args.second _ _ (Some (change_at a c.in-Some.moment)) e
-    (nearest_within c.args.forward (AlternateAt a) _ _ (change_found a c.nearest_moment.result) (Some (change_at a c.in-Some.moment))
+    rw (c.change_of.ensures.at, c.change_of.ensures.before, c.change_of.ensures.after)
+    (nearest_ahead c.args.forward (AlternateAt a) c.args.begin c.args.second _ _ (Some (moment_change a c.in-Some.moment)) e
+    (nearest_within c.args.forward (AlternateAt a) _ _ (change_found a c.nearest_moment.result) (Some (moment_change a c.in-Some.moment))
     (rw c.near_end-near.ensures at (simp to_z-of_z at c.nearest_moment.ensures)) (c.in-Some.ensures a)))
 
 pub returns-in-None : goal.returns-in-None

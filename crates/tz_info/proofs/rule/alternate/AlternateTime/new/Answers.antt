@@ -2,7 +2,7 @@ use Rattle.tz_base.specs.declared.error.Error.TheVariants.{TransitionRule}
 use Rattle.tz_base.specs.declared.error.Expected.TheVariants.{EndWithinWeek}
 use Rattle.tz_info.proofs.Words.{Alternate, DayTime, IsAlternate, IsWithinDay, IsWithinWeek, LocalType, SFits, ap, arith, expected_of_alternate, ints, lt_true}
 use Rattle.tz_info.proofs.Words.{neg_ℤ, pos, refl, rules, seconds_by_kind, subst, to_z-of_z, true, w64, ℤ, ◌<ℤ◌, ◌≡◌}
-use Rattle.tz_info.specs.Rules.{is_between}
+use Rattle.tz_info.specs.Rules.{is_strictly_within}
 use Rattle.tz_info.proofs.rule.alternate.AlternateTime.new.Goals as goal
 
 shown : LocalType → LocalType → DayTime → DayTime → Alternate
@@ -39,7 +39,7 @@ returns c =
     let e = same_shown c.args.std c.args.dst _ _ _ _ (simp to_z-of_z at c.in-Some.ensures.2) (simp to_z-of_z at c.in-Some-at.ensures.2) in
     (subst IsAlternate e (invariant_of-result c).0.within, e)
 
-between : (limit n : ℤ) → neg_ℤ limit <ℤ n → n <ℤ limit → is_between limit n ≡ true
+between : (limit n : ℤ) → neg_ℤ limit <ℤ n → n <ℤ limit → is_strictly_within limit n ≡ true
 between limit n low high = rw (lt_true (neg_ℤ limit) n low, lt_true n limit high) refl
 
 end_expected : (a : Alternate) → IsWithinDay a.std.offset → IsWithinDay a.dst.offset → IsWithinWeek a.start.time → EndWithinWeek ≡ expected_of_alternate a

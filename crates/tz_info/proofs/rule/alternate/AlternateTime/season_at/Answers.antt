@@ -1,4 +1,4 @@
-use Rattle.tz_info.proofs.Words.{SFits, rules, to_z-of_z, w64}
+use Rattle.tz_info.proofs.Words.{to_z-of_z}
 use Rattle.tz_info.proofs.SeasonChanges.{season_kept}
 use Rattle.tz_info.proofs.rule.alternate.AlternateTime.season_at.Goals as goal
 

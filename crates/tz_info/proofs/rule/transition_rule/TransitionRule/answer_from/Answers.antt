@@ -13,5 +13,5 @@ returns-in-Alternate-clause-found c = let fl = c.ranges.local in let ff = c.rang
 pub returns-in-Alternate-clause-counted : goal.returns-in-Alternate-clause-counted
 returns-in-Alternate-clause-counted c = let fl = c.ranges.local in let ff = c.ranges.from in rw c.in-Alternate.is (simp to_z-of_z at c.answer_from.ensures.counted)
 
-pub answer_from-requires-clause-season : goal.answer_from-requires-clause-season
-answer_from-requires-clause-season c = let fl = c.ranges.local in simp to_z-of_z (rw c.in-Alternate.is at c.requires.season)
+pub returns-in-Alternate-clause-season : goal.returns-in-Alternate-clause-season
+returns-in-Alternate-clause-season c = let fl = c.ranges.local in let ff = c.ranges.from in rw c.in-Alternate.is (simp to_z-of_z at c.answer_from.ensures.season)

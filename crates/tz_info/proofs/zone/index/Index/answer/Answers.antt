@@ -1,4 +1,4 @@
-use Rattle.tz_info.proofs.Words.{WallIndex, ap, arith, digits-le, length, to_z-of_z, [], ◌≡◌}
+use Rattle.tz_info.proofs.Words.{WallIndex, ap, arith, digits-le, length, to_z-of_z, [], ◌∙◌, ◌≡◌}
 use Rattle.tz_info.proofs.PassedTransitions.{no_items}
 use Rattle.tz_info.proofs.WallPieces.{latest_answers, none_answers}
 use Rattle.tz_info.proofs.zone.index.Index.answer.Goals as goal
@@ -8,7 +8,8 @@ returns-in-Some-clause-answer c =
     let fl = c.ranges.local in
     let latest = rw c.in-Some.is at c.passed.ensures.latest in
     let passed = simp to_z-of_z at c.passed.ensures.passed in
-    rw (← c.self.view_is) (latest_answers c.self.inside.before c.self.inside.pieces c.args.local c.passed.result.count c.in-Some.piece.now passed latest)
+    rw (← c.self.view_is) (c.shown.ensures ∙ latest_answers c.self.inside.before c.self.inside.pieces c.args.local c.passed.result.count
+    c.in-Some.piece.now passed latest)
 
 pub returns-in-None-clause-answer : goal.returns-in-None-clause-answer
 returns-in-None-clause-answer c =

@@ -1,4 +1,4 @@
-use Rattle.tz_info.proofs.Words.{SFits, TypeAt, pos, to_z-of_z, w64, ◌-ℤ◌}
+use Rattle.tz_info.proofs.Words.{SFits, TypeAt, change_held, option_map, pos, to_z-of_z, w64, ◌-ℤ◌}
 use Rattle.tz_info.proofs.ChangeSearch.{change_made, none_before, none_here}
 use Rattle.tz_info.proofs.ZoneLaws.{type_not_refused, type_once}
 use Rattle.tz_info.proofs.zone.time_zone.TimeZone.change_at.Goals as goal
@@ -23,4 +23,5 @@ returns c =
     let s = simp to_z-of_z at c.in-Some.ensures in
     let fb : SFits w64 c.in-Some.second_before = rw s.1 s.0 in
     let before = rw s.1 at (simp to_z-of_z at c.in-Ok.ensures) in
-    change_made (TypeAt c.args.self.now) c.args.second _ _ c.change_between.result (type_once c.args.self.now) fs s.0 before (simp to_z-of_z at c.in-Ok-find_local_time_type.ensures) (simp to_z-of_z at c.change_between.ensures)
+    change_made (TypeAt c.args.self.now) c.args.second _ _ (option_map change_held c.change_between.result) (type_once c.args.self.now) fs s.0 before
+    (simp to_z-of_z at c.in-Ok-find_local_time_type.ensures) (simp to_z-of_z at c.change_between.ensures)

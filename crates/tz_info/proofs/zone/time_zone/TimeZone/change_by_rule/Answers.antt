@@ -1,4 +1,4 @@
-use Rattle.tz_info.proofs.Words.{IsAhead, SFits, arith, ints, rules, to_z-of_z, w128, w64}
+use Rattle.tz_info.proofs.Words.{IsAhead, SFits, arith, change_held, ints, option_map, rules, to_z-of_z, w128, w64}
 use Rattle.tz_info.proofs.ZoneChanges.{none_begun, rule_found, steady}
 use Rattle.tz_info.proofs.zone.time_zone.TimeZone.change_by_rule.Goals as goal
 
@@ -19,6 +19,6 @@ returns c =
     let fw : SFits w128 c.rule_begin-begin.result = search rules in
     let least = c.rule_begin-begin.ensures.bound in
     let fb : SFits w64 c.rule_begin-begin.result = omega (arith, ints) in
-    rule_found c.args.self.now c.in-Some.turns.now c.args.forward c.args.second c.rule_begin-begin.result c.nearest_change.result (rw
+    rule_found c.args.self.now c.in-Some.turns.now c.args.forward c.args.second c.rule_begin-begin.result (option_map change_held c.nearest_change.result) (rw
     (← c.self.view_is) c.self.invariant.valid)
     c.in-Some.ensures c.rule_begin-begin.ensures.begin (simp to_z-of_z at c.nearest_change.ensures)

@@ -1,4 +1,4 @@
-use Rattle.tz_info.proofs.Words.{SFits, arith, ints, rules, to_z-of_z, w128, w64}
+use Rattle.tz_info.proofs.Words.{SFits, arith, change_held, ints, option_map, rules, to_z-of_z, w128, w64}
 use Rattle.tz_info.proofs.ZoneChanges.{none_outside, with_start}
 use Rattle.tz_info.proofs.zone.time_zone.TimeZone.change_with.Goals as goal
 
@@ -12,4 +12,5 @@ returns c =
     let fw : SFits w128 c.start_of-start.result = search rules in
     let least = c.start_of-start.ensures.bound in
     let fs : SFits w64 c.start_of-start.result = omega (arith, ints) in
-    with_start c.args.self.now c.args.place c.start_of-start.result c.change_at.result (rw (← c.self.view_is) c.self.invariant.valid) c.requires c.start_of-start.ensures.comes (simp to_z-of_z at c.change_at.ensures)
+    with_start c.args.self.now c.args.place c.start_of-start.result (option_map change_held c.change_at.result)
+    (rw (← c.self.view_is) c.self.invariant.valid) c.requires c.start_of-start.ensures.comes (simp to_z-of_z at c.change_at.ensures)

@@ -1,4 +1,4 @@
-use Rattle.tz_info.proofs.Words.{SFits, ap, of_z, rules, to_z, to_z-of_z, w64}
+use Rattle.tz_info.proofs.Words.{SFits, ap, change_held, of_z, option_map, rules, to_z, to_z-of_z, w64}
 use Rattle.tz_info.proofs.LeaplessChanges.{made, none_made}
 use Rattle.tz_info.proofs.zone.time_zone.TimeZone.change_without_leaps.Goals as goal
 
@@ -12,5 +12,6 @@ pub returns : goal.returns
 returns c =
     let t = c.transition-here.result in
     let ft : SFits w64 t.unix_leap_time = search rules in
-    made c.args.self.now c.args.place t c.listed.result.now c.listed-2.result.now c.change_between.result (rw (← c.self.view_is) c.self.invariant.valid) c.requires.leaps c.requires.place c.transition-here.ensures.item
+    made c.args.self.now c.args.place t c.listed.result.now c.listed-2.result.now (option_map change_held c.change_between.result)
+    (rw (← c.self.view_is) c.self.invariant.valid) c.requires.leaps c.requires.place c.transition-here.ensures.item
     (λ e. c.if-here.false (ap (of_z w64) e)) ft (rw c.latest-before.ensures.index at c.listed.ensures) c.listed-2.ensures (simp to_z-of_z at c.change_between.ensures)

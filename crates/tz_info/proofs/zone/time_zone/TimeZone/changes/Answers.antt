@@ -1,9 +1,11 @@
-use Rattle.tz_info.proofs.Words.{to_z-of_z}
+use Rattle.tz_info.proofs.Words.{SFits, rules, to_z-of_z, w64}
 use Rattle.tz_info.proofs.ChangeLists.{all_left}
 use Rattle.tz_info.proofs.zone.time_zone.TimeZone.changes.Goals as goal
 
 pub returns : goal.returns
 returns c =
-    let ff = c.ranges.from in
-    let fu = c.ranges.until in
-    simp to_z-of_z (all_left (record { zone = c.args.self; from = c.args.from; until = c.args.until }) (rw (← c.self.view_is) c.self.invariant.valid) (rw (← c.self.view_is) c.self.invariant.limits))
+    let ff = c.ranges.from in let fu = c.ranges.until in
+    let fa : SFits w64 c.second_before.result = search rules in let fl : SFits w64 c.second_before-2.result = search rules in
+    simp to_z-of_z (all_left (record { zone = c.args.self; after = c.second_before.result; last = c.second_before-2.result }) c.args.from c.args.until
+    (rw (← c.self.view_is) c.self.invariant.valid) (rw (← c.self.view_is) c.self.invariant.limits)
+    (simp to_z-of_z at c.second_before.ensures) (simp to_z-of_z at c.second_before-2.ensures))

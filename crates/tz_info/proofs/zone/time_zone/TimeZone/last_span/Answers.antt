@@ -1,4 +1,4 @@
-use Rattle.tz_info.proofs.Words.{HasNoChange, IsByRule, IsRuleOrNone, IsValid, None, TypeAt, refl, to_z-of_z, ◌<ℤ◌, ◌≤ℤ◌}
+use Rattle.tz_info.proofs.Words.{HasNoChange, IsChangeByRule, IsRuleOrNone, IsValid, None, TypeAt, refl, to_z-of_z, ◌<ℤ◌, ◌≤ℤ◌}
 use Rattle.tz_info.proofs.SpanSearch.{span_at_end}
 use Rattle.tz_info.proofs.ZoneChanges.{steady}
 use Rattle.tz_info.proofs.zone.time_zone.TimeZone.last_span.Goals as goal
@@ -7,7 +7,7 @@ pub span_start-requires-clause-by_rule : goal.span_start-requires-clause-by_rule
 span_start-requires-clause-by_rule c =
     let fu = c.ranges.unix_time in
     let z = c.args.self.now in
-    let none : HasNoChange (TypeAt z) (IsByRule z (λ v. v ≤ℤ c.args.unix_time)) =
+    let none : HasNoChange (TypeAt z) (IsChangeByRule z (λ v. v ≤ℤ c.args.unix_time)) =
     steady z (λ v. v ≤ℤ c.args.unix_time) (rw (← c.self.view_is) c.self.invariant.valid) (c.requires.no_turns c.args.local_time_type c.requires.in_force) in
     (None, simp to_z-of_z none, refl)
 

@@ -8,12 +8,12 @@ new-requires-3 c =
 pub by_unix_time-requires-clause-leaps : goal.by_unix_time-requires-clause-leaps
 by_unix_time-requires-clause-leaps c =
     let valid = rw (c.deref.ensures.value, c.deref-2.ensures.value, c.deref-3.ensures.value) at c.in_ok-check.ensures in
-    rw c.deref-9.ensures.value valid.leaps
+    rw c.deref-6.ensures.value valid.leaps
 
 pub by_unix_time-requires-clause-rising : goal.by_unix_time-requires-clause-rising
 by_unix_time-requires-clause-rising c =
     let valid = rw (c.deref.ensures.value, c.deref-2.ensures.value, c.deref-3.ensures.value) at c.in_ok-check.ensures in
-    rw c.deref-8.ensures.value valid.transitions.rising
+    rw c.deref-4.ensures.value valid.transitions.rising
 
 pub invariant_of-result : goal.invariant_of-result
 invariant_of-result c =
@@ -23,5 +23,5 @@ invariant_of-result c =
       extremes = rw c.deref-7.ensures.value at c.extremes_of-extremes.ensures.extremes;
       runs = rw (c.deref-4.ensures.value, c.deref-5.ensures.value) at c.in_ok-idle.ensures;
       index = rw (c.deref-4.ensures.value, c.deref-5.ensures.value, c.deref-6.ensures.value) at c.in_ok-index.ensures;
-      unix_times = rw (c.deref-8.ensures.value, c.deref-9.ensures.value) at c.in_ok-by_unix_time.ensures;
+      unix_times = rw (c.deref-4.ensures.value, c.deref-6.ensures.value) at c.in_ok-by_unix_time.ensures;
     })

@@ -1,12 +1,15 @@
-use Rattle.tz_info.proofs.Words.{IsByRule, TypeAt, to_z-of_z, ◌<ℤ◌}
-use Rattle.tz_info.proofs.ChangeSearch.{first_nearest}
+use Rattle.tz_info.proofs.Words.{change_held, option_map, to_z-of_z, ◌<ℤ◌}
 use Rattle.tz_info.proofs.ZoneChanges.{rule_first, table_first}
 use Rattle.tz_info.proofs.zone.time_zone.TimeZone.next_from.Goals as goal
 
 pub returns-in-Some : goal.returns-in-Some
-returns-in-Some c = let fa = c.ranges.after in table_first c.args.self.now (λ u. c.args.after <ℤ u) c.in-Some.change (rw (← c.self.view_is) c.self.invariant.valid) (simp to_z-of_z at c.in-Some.ensures)
+returns-in-Some c =
+    let fa = c.ranges.after in
+    table_first c.args.self.now (λ u. c.args.after <ℤ u) (change_held c.in-Some.change) (rw (← c.self.view_is) c.self.invariant.valid)
+    (simp to_z-of_z at c.in-Some.ensures)
 
 pub returns-in-None : goal.returns-in-None
-returns-in-None c = let fa = c.ranges.after in rule_first c.args.self.now (λ u. c.args.after <ℤ u) c.change_by_rule.result (rw
-    (← c.self.view_is) c.self.invariant.valid) (simp to_z-of_z at c.in-None.ensures) (first_nearest (TypeAt c.args.self.now) (IsByRule c.args.self.now
-    (λ u. c.args.after <ℤ u)) c.change_by_rule.result (simp to_z-of_z at c.change_by_rule.ensures))
+returns-in-None c =
+    let fa = c.ranges.after in
+    rule_first c.args.self.now (λ u. c.args.after <ℤ u) (option_map change_held c.change_by_rule.result) (rw (← c.self.view_is) c.self.invariant.valid)
+    (simp to_z-of_z at c.in-None.ensures) (simp to_z-of_z at c.change_by_rule.ensures)

@@ -1,4 +1,4 @@
-use Rattle.tz_info.proofs.Words.{arith, to_z-of_z}
+use Rattle.tz_info.proofs.Words.{arith, change_held, to_z-of_z}
 use Rattle.tz_info.proofs.ZoneChanges.{yet_after, yet_come, yet_found, yet_none}
 use Rattle.tz_info.proofs.zone.time_zone.TimeZone.next_in_table.Goals as goal
 
@@ -16,7 +16,8 @@ returns-in-Some c =
     let fa = c.ranges.after in
     let n = c.transition_count-count.ensures in
     let k = c.in-Some.ensures in
-    yet_found c.args.self.now c.args.after c.args.come c.loop-place.place c.in-Some.change (omega arith) c.requires c.loop-place.invariant.from (simp to_z-of_z at c.loop-place.invariant.yet) k.0 k.1
+    yet_found c.args.self.now c.args.after c.args.come c.loop-place.place (change_held c.in-Some.change) (omega arith) c.requires
+    c.loop-place.invariant.from (simp to_z-of_z at c.loop-place.invariant.yet) k.0 k.1
 
 pub loop-place-preserved : goal.loop-place-preserved
 loop-place-preserved c =

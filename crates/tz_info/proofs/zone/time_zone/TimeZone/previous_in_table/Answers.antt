@@ -1,4 +1,4 @@
-use Rattle.tz_info.proofs.Words.{arith, to_z-of_z, ◌+◌, ◌-◌, ◌≡◌}
+use Rattle.tz_info.proofs.Words.{arith, change_held, to_z-of_z, ◌+◌, ◌-◌, ◌≡◌}
 use Rattle.tz_info.proofs.ZoneChanges.{ahead_come, ahead_less, ahead_none, table_last}
 use Rattle.tz_info.proofs.zone.time_zone.TimeZone.previous_in_table.Goals as goal
 
@@ -17,7 +17,7 @@ returns-in-Some c =
     let fa = c.ranges.last in
     let k = c.in-Some.ensures in
     let e : c.loop-left.left ≡ (c.loop-left.left - 1) + 1 = omega arith in
-    table_last c.args.self.now c.args.last (c.loop-left.left - 1) c.in-Some.change (rw (← c.self.view_is) c.self.invariant.valid) (rw e at
+    table_last c.args.self.now c.args.last (c.loop-left.left - 1) (change_held c.in-Some.change) (rw (← c.self.view_is) c.self.invariant.valid) (rw e at
     (simp to_z-of_z at c.loop-left.invariant)) k.0 k.1
 
 pub loop-left-preserved : goal.loop-left-preserved

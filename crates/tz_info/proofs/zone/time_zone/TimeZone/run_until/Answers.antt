@@ -18,7 +18,9 @@ returns-else-change-limit c =
     let fc : SFits w64 c.in-Some.change.at = search rules in
     let first = simp to_z-of_z at c.in-Some.ensures in
     let more = c.if-change-limit.false in
-    simp to_z-of_z (run_to_limit c.args.self.now c.args.second c.args.limit (rw (← c.self.view_is) c.self.invariant.valid) (rw (← c.self.view_is) c.self.invariant.limits) c.requires.near c.requires.limit c.requires.ahead (λ d is h. let a = first.first d is h in omega (arith, ints)))
+    simp to_z-of_z (run_to_limit c.args.self.now c.args.second c.args.limit (rw (← c.self.view_is) c.self.invariant.valid)
+    (rw (← c.self.view_is) c.self.invariant.limits) c.requires.near c.requires.limit c.requires.ahead
+    (λ d is h. let a = first.nearest d is h in omega (arith, ints)))
 
 pub returns-in-None : goal.returns-in-None
 returns-in-None c =

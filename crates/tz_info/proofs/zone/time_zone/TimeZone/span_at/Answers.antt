@@ -1,20 +1,9 @@
 use Rattle.tz_info.proofs.Words.{arith, to_z-of_z}
-use Rattle.tz_info.proofs.SpanSearch.{come_all}
+use Rattle.tz_info.proofs.SpanSearch.{none_come}
 use Rattle.tz_info.proofs.zone.time_zone.TimeZone.span_at.Goals as goal
 
-pub returns-in-Err : goal.returns-in-Err
-returns-in-Err c = let fu = c.ranges.unix_time in simp to_z-of_z at c.in-Err.ensures
-
-pub span_by_turns-requires : goal.span_by_turns-requires
-span_by_turns-requires c =
+pub span_from_last-requires : goal.span_from_last-requires
+span_from_last-requires c =
     let fu = c.ranges.unix_time in
     let n = c.transition_count.ensures in
-    simp to_z-of_z (come_all c.args.self.now c.args.unix_time c.come_at-come.result (rw (← c.self.view_is) c.self.invariant.valid)
-    (simp to_z-of_z at c.come_at-come.ensures) (omega arith))
-
-pub last_span-requires-clause-come : goal.last_span-requires-clause-come
-last_span-requires-clause-come c =
-    let fu = c.ranges.unix_time in
-    let n = c.transition_count.ensures in
-    simp to_z-of_z (come_all c.args.self.now c.args.unix_time c.come_at-come.result (rw (← c.self.view_is) c.self.invariant.valid)
-    (simp to_z-of_z at c.come_at-come.ensures) (omega arith))
+    simp to_z-of_z (none_come c.args.self.now c.args.unix_time (rw (← c.self.view_is) c.self.invariant.valid) (omega arith))

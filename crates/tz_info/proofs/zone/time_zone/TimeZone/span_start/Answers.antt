@@ -12,9 +12,6 @@ returns-in-Some c =
 pub returns-in-None : goal.returns-in-None
 returns-in-None c =
     let fu = c.ranges.unix_time in
-    let valid : IsValid c.args.self.now = rw (← c.self.view_is) c.self.invariant.valid in (
-      c.previous_in_table.result,
-      start_by_table c.args.self.now c.args.unix_time c.previous_in_table.result valid (rw c.in-None.is at c.requires.by_rule)
-          (simp to_z-of_z at c.previous_in_table.ensures),
-      c.second_of.ensures,
-    )
+    let valid : IsValid c.args.self.now = rw (← c.self.view_is) c.self.invariant.valid in
+    let (found, last, same) = c.start_by_table.ensures in
+    (found, start_by_table c.args.self.now c.args.unix_time found valid (rw c.in-None.is at c.requires.by_rule) (simp to_z-of_z at last), same)

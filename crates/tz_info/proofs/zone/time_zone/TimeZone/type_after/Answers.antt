@@ -18,7 +18,8 @@ returns-then-passed-len-clause-found c =
     let all = ap (λ (z : Zone). length z.transitions) c.self.view_is in
     (at_middle c.args.self.now c.args.unix_time _ c.in-Some.latest.now _ come (omega arith)
     (rw (← c.self.view_is)
-    (slice_get_read c.self.inside.local_types.items _ c.in-Some.latest.now.type_index _ refl (omega arith) c.index-then-passed-len.ensures)))
+    (slice_get_read c.self.inside.local_types.items _ c.in-Some.latest.now.type_index _ refl (omega arith)
+    (rw c.type_index.ensures at c.index-then-passed-len.ensures))))
 
 pub returns-clause-found : goal.returns-clause-found
 returns-clause-found c =
@@ -26,4 +27,4 @@ returns-clause-found c =
     let come = rw c.in-Some.is at c.requires.come in
     let all = ap (λ (z : Zone). length z.transitions) c.self.view_is in
     (at_last (λ (t : Bor LocalType). t.now) c.args.self.now c.args.unix_time _ c.in-Some.latest.now c.rule_or_type.result come (omega arith)
-    (simp to_z-of_z at c.rule_or_type.ensures.found))
+    (simp to_z-of_z at (rw c.type_index-2.ensures at c.rule_or_type.ensures.found)))

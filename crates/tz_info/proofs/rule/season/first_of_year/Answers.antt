@@ -1,0 +1,25 @@
+use Rattle.tz_info.proofs.Words.{arith, day_of_year_is, floors, own_start_in_range}
+use Rattle.tz_info.proofs.rule.season.first_of_year.Goals as goal
+
+pub overflow_sub-result : goal.overflow_sub-result
+overflow_sub-result c =
+    let in_range = c.ranges.day in
+    omega (arith, floors, c.requires.day, c.requires.bound)
+
+pub returns-clause-value : goal.returns-clause-value
+returns-clause-value c =
+    let in_range = c.ranges.day in
+    let passed = c.requires.place in
+    let bound = c.requires.bound in
+    let own = rw (← passed) at (day_of_year_is c.args.day).0 in
+    omega (arith, floors, own, bound)
+
+pub returns-clause-bound : goal.returns-clause-bound
+returns-clause-bound c =
+    let in_range = c.ranges.day in
+    let passed = c.requires.place in
+    let bound = c.requires.bound in
+    let own = rw (← passed) at (day_of_year_is c.args.day).0 in
+    let begins = own_start_in_range c.args.day c.requires.day in
+    let low = begins.0 in let high = begins.1 in
+    (omega (arith, floors, own, bound, low), omega (arith, floors, own, bound, high))

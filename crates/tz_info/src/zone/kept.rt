@@ -1,0 +1,124 @@
+//! Transitions as a zone keeps them: twelve bytes each.
+
+ghost use Rattle.std.specs.Prelude.{◌≡◌, MatchResult, ⊤};
+
+use crate::zone::transition::Transition;
+use std::alloc::{AllocError, Global};
+use std::fmt;
+use std::marker::Model;
+use tz_timeline::{Probes, Timed};
+
+// A transition, its time in two halves: a number of eight bytes would be followed by four more, so
+// that the next one begins at a multiple of eight.
+#[derive(Drop)]
+pub(super) struct Kept {
+    low: u32,
+    high: u32,
+    type_index: u32,
+}
+
+impl Model for Kept {
+    ghost use Rattle.std.specs.Prelude.{◌+◌, ◌*◌};
+    ghost use Rattle.std.specs.Int.{cast_signed, w64};
+    ghost use Rattle.tz_info.specs.declared.zone.transition.Transition.{Transition};
+
+    ghost Value = { Transition };
+
+    ghost view = { λ k. record {
+      unix_leap_time = cast_signed w64 (k.high * 4_294_967_296 + k.low);
+      type_index = k.type_index;
+    } };
+}
+
+impl Kept {
+    // The transition, if its type's index is small enough.
+    pub(super) fn new(transition: Transition) -> Result<Kept, AllocError>
+        ensures { MatchResult result (λ k. k ≡ transition) (λ _. ⊤) }
+    {
+        if transition.type_index > 0xffff_ffff {
+            return Err(AllocError);
+        }
+        let time = transition.unix_leap_time.cast_unsigned();
+        Ok(Kept {
+            low: (time % 4_294_967_296) as u32,
+            high: (time / 4_294_967_296) as u32,
+            type_index: transition.type_index as u32,
+        })
+    }
+
+    // The transition that is kept.
+    #[inline(always)]
+    pub(super) fn transition(&self) -> Transition
+        ensures { result ≡ self.now }
+    {
+        Transition {
+            unix_leap_time: self.second(),
+            type_index: self.type_index(),
+        }
+    }
+
+    // Which of the zone's types is in force from the transition on.
+    #[inline(always)]
+    pub(super) fn type_index(&self) -> usize
+        ensures { result ≡ self.now.type_index }
+    {
+        self.type_index as usize
+    }
+}
+
+// All of them as they are kept.
+pub(super) fn all_kept(alloc: Global, transitions: &[Transition]) -> Result<Vec<Kept>, AllocError>
+    ensures { MatchResult result (λ kept. kept.items ≡ transitions.now) (λ _. ⊤) }
+{
+    let mut all = Vec::with_capacity(alloc, transitions.len())?;
+    for transition in transitions {
+        let entry = Kept::new(*transition)?;
+        all.push_reserved(entry);
+    }
+    Ok(all)
+}
+
+impl Timed for Kept {
+    ghost use Rattle.tz_timeline.specs.Counts.{reads_more, reads_more_on, reads_more_none, reads_more_looks};
+
+    ghost time = { λ k. k.unix_leap_time };
+
+    ghost counted = { reads_more };
+
+    ghost looks = { λ c. c.reads };
+
+    ghost counts_up = { reads_more_on };
+
+    ghost counts_none = { reads_more_none };
+
+    ghost counts_looks = { reads_more_looks };
+
+    #[inline(always)]
+    fn second(&self) -> i64 {
+        (self.high as u64 * 4_294_967_296 + self.low as u64).cast_signed()
+    }
+
+    #[inline(always)]
+    fn count_look(probes: &mut Probes) {
+        probes.count_read();
+    }
+}
+
+impl fmt::Debug for Kept {
+    fn fmt<W: fmt::Write>(&self, f: &mut fmt::Formatter<W>) -> fmt::Result {
+        self.transition().fmt(f)
+    }
+}
+
+impl PartialEq for Kept {
+    ghost use Rattle.std.specs.Cmp.{partial_equiv_from_equiv};
+    ghost use Rattle.tz_info.specs.contracts.zone.transition.TransitionEq.TheImpl.Laws.{laws-law};
+
+    ghost eq = { ⟦<Transition as PartialEq>⟧.eq };
+
+    ghost laws = { partial_equiv_from_equiv laws-law };
+
+    fn eq(&self, other: &Kept) -> bool {
+        self.transition() == other.transition()
+    }
+}
