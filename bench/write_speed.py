@@ -56,7 +56,7 @@ def headline(found):
 
 
 def changes(found):
-    """The rows of New York's zones, with the question before."""
+    """The rows of changes, spans and gaps, with the question before."""
     heads = list(dict.fromkeys(head for title in CHANGES.values() for head in found[title][0]))
     rows = [{"question": words} | {head: row.get(head, "-") for head in heads} for words, title in CHANGES.items() for row in found[title]]
     return table(rows)

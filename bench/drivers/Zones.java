@@ -140,16 +140,29 @@ public class Zones {
         time(zone, question, "near", count, call);
     }
 
-    static void changes(Path inputs, Path outputs, String zone, ZoneRules rules) throws IOException {
-        long[] at = seconds(inputs.resolve("at_near.i64")), gap = seconds(inputs.resolve("gap_near.i64"));
+    /** The second of a change; 0 if there is none. */
+    static long second(ZoneOffsetTransition change) {
+        return change == null ? 0 : change.toEpochSecond();
+    }
+
+    static void spans(Path inputs, Path outputs, String zone, ZoneRules rules) throws IOException {
+        long[] at = seconds(inputs.resolve("at_near.i64"));
         Instant[] instants = new Instant[at.length], after = new Instant[at.length];
         Arrays.setAll(instants, i -> Instant.ofEpochSecond(at[i]));
         Arrays.setAll(after, i -> Instant.ofEpochSecond(at[i] + 1));
+        ask(outputs, zone, "span", at.length, i -> {
+            sink += second(rules.nextTransition(instants[i]));
+            return second(rules.previousTransition(after[i]));
+        });
+    }
+
+    static void changes(Path inputs, Path outputs, String zone, ZoneRules rules) throws IOException {
+        long[] at = seconds(inputs.resolve("at_near.i64")), gap = seconds(inputs.resolve("gap_near.i64"));
+        Instant[] instants = new Instant[at.length];
+        Arrays.setAll(instants, i -> Instant.ofEpochSecond(at[i]));
         LocalDateTime[] locals = new LocalDateTime[gap.length];
         Arrays.setAll(locals, i -> LocalDateTime.ofEpochSecond(gap[i], 0, ZoneOffset.UTC));
         ask(outputs, zone, "next", at.length, i -> rules.nextTransition(instants[i]).toEpochSecond());
-        ask(outputs, zone, "span", at.length,
-                i -> rules.nextTransition(instants[i]).toEpochSecond() - rules.previousTransition(after[i]).toEpochSecond());
         ask(outputs, zone, "gap", gap.length, i -> gap[i] - rules.getTransition(locals[i]).getOffsetBefore().getTotalSeconds());
     }
 
@@ -165,6 +178,8 @@ public class Zones {
         for (var zone : zones.entrySet())
             for (String years : Files.readAllLines(inputs.resolve("years")))
                 lookups(inputs, outputs, zone.getKey(), zone.getValue(), years);
+        for (var zone : zones.entrySet())
+            if (!Character.isDigit(zone.getKey().charAt(0))) spans(inputs, outputs, zone.getKey(), zone.getValue());
         for (String zone : List.of("New_York", "Text"))
             if (zones.containsKey(zone)) changes(inputs, outputs, zone, zones.get(zone));
         System.err.println("sum of what was answered: " + sink);

@@ -42,19 +42,26 @@ static void time_lookups(const Run &run, const std::string &name, const absl::Ti
     run.figure(name, "wall", years, took, used);
 }
 
-// A change comes as its two local times; its second takes another call, as the header says. A span has a change at each end.
-static void time_changes(const Run &run, const std::string &name, const absl::TimeZone &zone) {
-    const std::vector<int64_t> instants = run.seconds("at", "near"), gaps = run.seconds("gap", "near");
-    auto second = [&](const absl::TimeZone::CivilTransition &change) { return absl::ToUnixSeconds(zone.At(change.to).trans); };
-    ask(run, name, "next", "near", instants.size(), [&](size_t i) -> int64_t {
-        absl::TimeZone::CivilTransition change;
-        return zone.NextTransition(absl::FromUnixSeconds(instants[i]), &change) ? second(change) : 0;
-    });
+// A change comes as its two local times; its second takes another call, as the header says.
+static int64_t second_of(const absl::TimeZone &zone, const absl::TimeZone::CivilTransition &change) {
+    return absl::ToUnixSeconds(zone.At(change.to).trans);
+}
+
+// A span has a change at each end, if there is one.
+static void time_spans(const Run &run, const std::string &name, const absl::TimeZone &zone) {
+    const std::vector<int64_t> instants = run.seconds("at", "near");
     ask(run, name, "span", "near", instants.size(), [&](size_t i) -> int64_t {
         absl::TimeZone::CivilTransition begin, end;
-        bool found = zone.PrevTransition(absl::FromUnixSeconds(instants[i] + 1), &begin) &&
-                     zone.NextTransition(absl::FromUnixSeconds(instants[i]), &end);
-        return found ? second(end) - second(begin) : 0;
+        if (zone.NextTransition(absl::FromUnixSeconds(instants[i]), &end)) sink = sink + second_of(zone, end);
+        return zone.PrevTransition(absl::FromUnixSeconds(instants[i] + 1), &begin) ? second_of(zone, begin) : 0;
+    });
+}
+
+static void time_changes(const Run &run, const std::string &name, const absl::TimeZone &zone) {
+    const std::vector<int64_t> instants = run.seconds("at", "near"), gaps = run.seconds("gap", "near");
+    ask(run, name, "next", "near", instants.size(), [&](size_t i) -> int64_t {
+        absl::TimeZone::CivilTransition change;
+        return zone.NextTransition(absl::FromUnixSeconds(instants[i]), &change) ? second_of(zone, change) : 0;
     });
     std::vector<absl::CivilSecond> readings(gaps.size());
     for (size_t i = 0; i < gaps.size(); i++) readings[i] = absl::CivilSecond() + gaps[i];
@@ -72,6 +79,7 @@ int main(int count, char **words) {
         unsigned loads = read_file(run.inputs + "/zones/" + name).size() > 100000 ? 3 : 300;
         run.figure(name, "read", "-", least_load(run, name, loads), loads);
         for (const std::string &years : run.words("years")) time_lookups(run, name, zone, years);
+        if (has_spans(name)) time_spans(run, name, zone);
         if (is_new_york(name)) time_changes(run, name, zone);
     }
 }

@@ -3,15 +3,15 @@
 // usage of each driver: DRIVER INPUTS OUTPUTS, the folder of make_inputs.py and one for the answers.
 //
 // It prints a line for each figure, its fields parted by tabs:  PEER  ZONE  QUESTION  YEARS  NANOSECONDS  COUNT
-//   QUESTION     at (an instant), wall (a local time) or read (the zone); of New York's zones also next (the clock change after
-//                an instant), span (of an instant) and gap (the instant of a local time in a gap)
+//   QUESTION     at (an instant), wall (a local time), read (the zone) or span (of an instant); of New York's zones also next
+//                (the clock change after an instant) and gap (the instant of a local time in a gap)
 //   YEARS        wide (1900 to 2099) or near (2020 to 2029); - of read
 //   NANOSECONDS  the processor's time of one call; -1 if the peer rejects the zone
 //   COUNT        how many calls were timed
 // And it writes its answers to the first CHECKED questions, as numbers of 32 bits (of larger ones the low 32 bits), low byte
 // first, into OUTPUTS/PEER.ZONE.QUESTION.YEARS: of an instant the offset; of a local time how often it is shown (2: several
-// times), and the offsets at the first and the last second, 0 if there is none; the second of the next change; the length of
-// the span; the Unix time that the offset before the gap gives. 0 if there is none.
+// times), and the offsets at the first and the last second, 0 if there is none; the second of the next change; the first
+// second of the span; the Unix time that the offset before the gap gives. 0 if there is none.
 #pragma once
 #include <cstdint>
 #include <cstdio>
@@ -114,8 +114,11 @@ inline void tell_wall(std::vector<int32_t> &told, int shown, int64_t first, int6
     told.push_back(shown ? (int32_t)last : 0);
 }
 
-// Whether it is one of New York's zones, which are asked for changes, spans and gaps too.
+// Whether it is one of New York's zones, which are asked for changes and gaps too.
 inline bool is_new_york(const std::string &name) { return name == "Text" || name.compare(0, 8, "New_York") == 0; }
+
+// Whether it is asked for spans: not one of the zones that grow, whose names are numbers.
+inline bool has_spans(const std::string &name) { return name[0] < '0' || name[0] > '9'; }
 
 // The time of call(i), i from 0 on: slices of a millisecond, PASSES times over, and of each slice the least time, so that
 // what another process took in one pass does not show. Where a call is slow, fewer calls.

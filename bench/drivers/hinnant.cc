@@ -33,14 +33,16 @@ template <class Zone> void time_lookups(const Run &run, const std::string &name,
     run.figure(name, "wall", years, took, used);
 }
 
+template <class Zone> void time_spans(const Run &run, const std::string &name, const Zone &zone) {
+    const std::vector<int64_t> instants = run.seconds("at", "near");
+    ask(run, name, "span", "near", instants.size(),
+        [&](size_t i) -> int64_t { return zone.get_info(at(instants[i])).begin.time_since_epoch().count(); });
+}
+
 template <class Zone> void time_changes(const Run &run, const std::string &name, const Zone &zone) {
     const std::vector<int64_t> instants = run.seconds("at", "near"), gaps = run.seconds("gap", "near");
     ask(run, name, "next", "near", instants.size(),
         [&](size_t i) -> int64_t { return zone.get_info(at(instants[i])).end.time_since_epoch().count(); });
-    ask(run, name, "span", "near", instants.size(), [&](size_t i) -> int64_t {
-        auto info = zone.get_info(at(instants[i]));
-        return (info.end - info.begin).count();
-    });
     ask(run, name, "gap", "near", gaps.size(),
         [&](size_t i) -> int64_t { return gaps[i] - zone.get_info(local(gaps[i])).first.offset.count(); });
 }
@@ -56,6 +58,7 @@ static void time_text(const Run &run) {
     run.figure("Text", "read", "-", took, used);
     const Posix::time_zone zone{text};
     for (const std::string &years : run.words("years")) time_lookups(run, "Text", zone, years);
+    time_spans(run, "Text", zone);
     time_changes(run, "Text", zone);
 }
 #endif
@@ -67,8 +70,10 @@ int main(int count, char **words) {
                                                            {"Tehran", "Asia/Tehran"},
                                                            {"Casablanca", "Africa/Casablanca"},
                                                            {"Sao_Paulo", "America/Sao_Paulo"}};
-    for (auto &[name, full_name] : zones)
+    for (auto &[name, full_name] : zones) {
         for (const std::string &years : run.words("years")) time_lookups(run, name, *date::locate_zone(full_name), years);
+        time_spans(run, name, *date::locate_zone(full_name));
+    }
     time_changes(run, "New_York", *date::locate_zone("America/New_York"));
 #ifndef STANDARD_ZONES
     time_text(run);

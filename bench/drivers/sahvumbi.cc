@@ -46,15 +46,19 @@ static void time_changes(const Run &run, const std::string &name, const struct z
         expect_ok(number);
         return change.at;
     });
-    ask(run, name, "span", "near", instants.size(), [&](size_t i) {
-        zoned_span span;
-        expect_ok(zoned_zone_span(zone, instants[i], &span));
-        return span.until - span.from;
-    });
     ask(run, name, "gap", "near", gaps.size(), [&](size_t i) {
         zoned_resolved resolved;
         expect_ok(zoned_zone_instant(zone, ZONED_GAP_SHIFT_FORWARD, ZONED_FOLD_EARLIEST, gaps[i], &resolved));
         return resolved.instant;
+    });
+}
+
+static void time_spans(const Run &run, const std::string &name, const struct zoned_zone *zone) {
+    const std::vector<int64_t> instants = run.seconds("at", "near");
+    ask(run, name, "span", "near", instants.size(), [&](size_t i) {
+        zoned_span span;
+        expect_ok(zoned_zone_span(zone, instants[i], &span));
+        return span.from;
     });
 }
 
@@ -71,6 +75,7 @@ int main(int count, char **words) {
         struct zoned_zone open = {nullptr};
         expect_ok(zoned_open(zone.kind, zone.data(), zone.bytes.size(), &open));
         for (const std::string &years : run.words("years")) time_lookups(run, name, &open, years);
+        if (has_spans(name)) time_spans(run, name, &open);
         if (is_new_york(name)) time_changes(run, name, &open);
         zoned_close(&open);
     }
