@@ -10,8 +10,8 @@
 //   COUNT        how many calls were timed
 // And it writes its answers to the first CHECKED questions, as numbers of 32 bits (of larger ones the low 32 bits), low byte
 // first, into OUTPUTS/PEER.ZONE.QUESTION.YEARS: of an instant the offset; of a local time how often it is shown (2: several
-// times), and the offsets at the first and the last second, 0 if there is none; the second of the next change; the first
-// second of the span; the Unix time that the offset before the gap gives. 0 if there is none.
+// times), and the offsets at the first and the last second; the second of the next change; the first second of the span; the
+// Unix time that the offset before the gap gives. What is missing is 0.
 #pragma once
 #include <cstdint>
 #include <cstdio>

@@ -21,7 +21,7 @@ pub record IsLastOf {A : Type 0} (items : List A) (count : ℕ) (last : Option A
   pub none : count ≡ 0 → last ≡ None
   pub some : 0 < count → (x : A) × (last ≡ Some x) × (x ≡ slice_index_or items (count - 1) x)
 
--- so many looks were counted, at most `most`
+-- at least one look was counted, and at most `most`
 pub record AreProbesCounted (counted : Counts → ℕ → Counts) (before after : Counts) (most : ℕ) : Type 0 where
   pub looks : ℕ
   pub some : 0 < looks

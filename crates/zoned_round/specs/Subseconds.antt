@@ -28,7 +28,7 @@ abbrev pub IsRounded : {T : Type 0} → (Reading → T → Type 0) → Reading �
 IsRounded IsShowing r digits value answer =
     IsItselfOr (nanos_behind r digits ≡ 0) (IsShowing (rounded r digits)) value answer
 
--- what comes of a value that shows r where it is cut after so many digits
+-- a value that shows r, cut after that number of digits
 abbrev pub IsTruncated : {T : Type 0} → (Reading → T → Type 0) → Reading → ℕ → T → T → Type 0
 IsTruncated IsShowing r digits value answer =
     IsItselfOr (nanos_behind r digits ≡ 0) (IsShowing (cut r digits)) value answer

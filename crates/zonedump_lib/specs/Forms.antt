@@ -22,7 +22,7 @@ IsFileTold form bytes first last text = (zone : Zone) × IsTzFile bytes zone × 
 abbrev pub IsTextTold : Form → List ℕ → ℤ → ℤ → List ℕ → Type 0
 IsTextTold form tz first last text = (zone : Zone) × IsPosixZone tz zone × IsTold form zone first last text
 
--- a text is told after what was there before
+-- a text is appended to what was there before
 abbrev pub AddsText : (List ℕ → Type 0) → List ℕ → List ℕ → Type 0
 AddsText is_text before after = (text : List ℕ) × is_text text × (after ≡ before ++ text)
 
