@@ -1,6 +1,6 @@
 -- Spans: at each second between two that have a type there is one, and from the last change to the next one it is the same.
 use Rattle.tz_info.proofs.Words.{Agrees, Alternate as AlternateRule, AreLeapSeconds, Change, HasNoChange, IfSome, IsAlternateRefused, IsChange, IsFirst}
-use Rattle.tz_info.proofs.Words.{IsEndOrTyped, IsFromLast, IsInSpan, IsLast, IsLastChange, IsLeapTime, IsRefusedBy, IsRuleOrNone, IsRuleTime, IsSince, IsSpan, IsSpanAt}
+use Rattle.tz_info.proofs.Words.{IsEndOrTyped, IsFromLast, IsInSpan, IsLast, IsLastSpan, LastSpan, IsLastChange, IsLeapTime, IsRefusedBy, IsRuleOrNone, IsRuleTime, IsSince, IsSpan, IsSpanAt}
 use Rattle.tz_info.proofs.Words.{IsTypeRefused, IsUnixTime, IsUntil, IsValid, LeapSecond, List, LocalType, None, Option, SFits, Some, Span, Transition}
 use Rattle.tz_info.proofs.Words.{TransitionRule, TypeAt, Zone, ap, arith, by_leap_time, by_lt_z, by_rule, cases_lt, correction_before, floor_div, inl, inr}
 use Rattle.tz_info.proofs.Words.{ints, last_transition, length, lies_in, neg_ℤ, option_map, passed_count, pos, refl, segment_of, slice_get, subst, suc, sym}
@@ -257,3 +257,34 @@ span_held z s first end u valid limits h fits from until low high =
     let t = typed_between z first last.0 u begin.0 last.2.0 valid limits low (omega (arith, ints)) begin.1 last.2.1 in
     let inside : IsInSpan s u = record { fits = fits; since = since_end z s.from first u from low; until = until_end z s.until end u until high } in
     subst (TypeAt z u) (h.each u t.0 inside t.1) t.1
+
+-- ---- the span of the last second of 64 bits
+no_end : (f : InForce) (s : Span) (until : Option ℤ) → s.until ≡ until → IsSpanAt f (pos 9_223_372_036_854_775_807) s → s.until ≡ None
+no_end f s None e h = e
+no_end f s (Some end) e h = let over = rw e at h.span.ends in let fits = over.1.fits in let later = rw e at h.inside.until in absurd (omega (arith, ints))
+
+-- it has no end, and each second from its beginning on lies in it
+pub last_spans : (z : Zone) (last : LastSpan) (first : ℤ) → IsValid z → IsRuleOrNone z.rule → IsSpanAt (TypeAt z) (pos 9_223_372_036_854_775_807) last.span
+    → IsEndOrTyped z last.span.from first → ((u : ℤ) → SFits w64 u → last.after <ℤ u → first ≤ℤ u) → IsLastSpan z last
+last_spans z last first valid limits h from after = record {
+  each = λ u fits l.
+      let s = last.span in
+      let begin = typed_from z s first h.span from in
+      let low = after u fits l in
+      let most : u ≤ℤ pos 9_223_372_036_854_775_807 = omega (arith, ints) in
+      let t = typed_between z first (pos 9_223_372_036_854_775_807) u begin.0 s.local_time_type valid limits low most begin.1 h.in_force_then in
+      let inside : IsInSpan s u = record {
+        fits = fits;
+        since = since_end z s.from first u from low;
+        until = sooner s.until u (pos 9_223_372_036_854_775_807) most h.inside.until;
+      } in
+      record { in_force_then = subst (TypeAt z u) (h.span.each u t.0 inside t.1) t.1; inside = inside; span = h.span };
+  endless = no_end (TypeAt z) last.span last.span.until refl h;
+}
+
+-- no change comes after a second of a span without an end
+pub none_after : (f : InForce) (s : Span) (u : ℤ) → IsSpanAt f u s → s.until ≡ None → HasNoChange f (λ v. u <ℤ v)
+none_after f s u h endless d is after =
+    no_change_within f s d h.span (rest (d.at -ℤ pos 1) is.fits_before (omega (arith, ints))) (rest d.at is.fits (omega (arith, ints))) is where
+      rest : (v : ℤ) → SFits w64 v → u ≤ℤ v → IsInSpan s v
+      rest v fits l = record { fits = fits; since = later s.from v u l h.inside.since; until = rw endless tt }

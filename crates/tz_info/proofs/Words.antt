@@ -108,6 +108,7 @@ pub use Rattle.tz_info.specs.Steps.ChangeLists.{all_fit, alternate_type, change_
 pub use Rattle.tz_info.specs.Steps.ChangeLists.{rule_type, rule_type_or, type_at_leap_time}
 unfoldable pub use Rattle.tz_info.specs.Steps.ChangeLists.{changes_of, seconds_between, type_or_none}
 pub use Rattle.tz_info.specs.Steps.Held.{IsEndOrTyped}
+pub use Rattle.tz_info.specs.Steps.LastSpans.{IsLastSpan}
 pub use Rattle.tz_info.specs.Steps.Idle.{AreStarts, AreStartsUpTo, HaveOneType, IsCarried, IsIdleRun}
 pub use Rattle.tz_info.specs.Steps.Changes.{AreAhead, AreComeAt, AreComeOrAll, AreIn, ComesAt, HasNoneAt, IsAhead, IsAheadUpTo, IsAtEnd, IsBegin}
 pub use Rattle.tz_info.specs.Steps.Changes.{IsChangeByRule, IsEarlierOf, IsIdle, IsIdleTo, IsInStretch, IsInTable, IsLaterOf, IsNearRuleTime, IsOfYear, IsOneOf}
@@ -122,7 +123,6 @@ pub use Rattle.tz_info.specs.Steps.FileLists.{HasLengths, Reads, pieces_of, zone
 unfoldable pub use Rattle.tz_info.specs.Steps.FileLists.{file_at, lists_in, pieces_at, with_rule, with_types}
 pub use Rattle.tz_info.specs.Steps.FooterReading.{footer_of, is_between_newlines, is_no_text, rule_or_none, trimmed_back, trimmed_front, unless_space}
 unfoldable pub use Rattle.tz_info.specs.Steps.FooterReading.{footer_at, rule_in, trimmed}
-pub use Rattle.tz_info.specs.HeldChanges.{change_held}
 pub use Rattle.tz_info.specs.Steps.Gaps.{AreLess, HasReach, IsNeverFrom, IsRuleGap, moment_change}
 unfoldable pub use Rattle.tz_info.specs.Steps.KindPlaces.{place_by, places_by_kind}
 pub use Rattle.tz_info.specs.Steps.Kinds.{day_time_second, is_calm, is_calm_kind, is_inside, kind_place, second_in}
@@ -168,6 +168,7 @@ pub use Rattle.tz_info.specs.declared.rule.transition_rule.TransitionRule.{Trans
 pub use Rattle.tz_info.specs.declared.zone.all_changes.Changes.{Changes}
 pub use Rattle.tz_info.specs.declared.zone.differences.Difference.{Difference}
 pub use Rattle.tz_info.specs.declared.zone.extremes.Extremes.{Extremes}
+pub use Rattle.tz_info.specs.declared.zone.last_span.LastSpan.{LastSpan}
 pub use Rattle.tz_info.specs.declared.zone.leap_second.LeapSecond.{LeapSecond}
 pub use Rattle.tz_info.specs.declared.zone.pieces.Piece.{Piece}
 pub use Rattle.tz_info.specs.declared.zone.segments.Segment.{Segment}

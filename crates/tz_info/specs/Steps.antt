@@ -24,6 +24,7 @@ pub mod Changes
 pub mod ChangeLists
 pub mod Beside
 pub mod Held
+pub mod LastSpans
 pub mod Idle
 pub mod Runs
 pub mod Differences

@@ -8,6 +8,7 @@ mod gap;
 mod idle;
 mod index;
 mod kept;
+mod last_span;
 mod leap_second;
 mod leap_time;
 mod lookup;

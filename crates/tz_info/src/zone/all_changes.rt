@@ -51,7 +51,7 @@ impl TimeZone {
 }
 
 // The second before it; before the first one of 64 bits, after which changes begin, that one.
-fn second_before(second: i64) -> i64
+pub(super) fn second_before(second: i64) -> i64
     ensures { (u : ℤ) → least_time <ℤ u → (result <ℤ u) ↔ (second ≤ℤ u) }
 {
     if second == i64::MIN {

@@ -48,8 +48,10 @@ impl TimeZone {
     pub fn next_held_change(&self, after: i64) -> Option<HeldChange<'_>>
         ensures { IsFirst (TypeAt self.now) (λ u. after <ℤ u) (option_map change_held result) }
     {
-        let come = self.come_at(after);
-        self.next_from(after, come)
+        match self.last_span_at(after) {
+            Some(_) => None,
+            None => self.next_from(after, self.come_at(after)),
+        }
     }
 
     // The first change after a second at which that number of transitions have come.

@@ -50,6 +50,9 @@ impl TimeZone {
             (λ t. TypeAt self.now unix_time t.now)
             (IsTypeError self.now unix_time) }
     {
+        if let Some(span) = self.last_span_at(unix_time) {
+            return Ok(&span.local_time_type);
+        }
         let mut probes = Probes::new();
         self.find_local_time_type_counted(unix_time, &mut probes)
     }

@@ -109,7 +109,7 @@ impl TimeZone {
     }
 
     // The span's end, or without one that second if it has a type.
-    fn end_or_typed(&self, end: Option<i64>, second: i64) -> Option<i64>
+    pub(super) fn end_or_typed(&self, end: Option<i64>, second: i64) -> Option<i64>
         ensures { IfSome result (IsEndOrTyped self.now end) }
     {
         if end.is_some() {

@@ -43,6 +43,9 @@ impl TimeZone {
             (IsTypeError self.now unix_time) }
     {
         let _ = &self.table;
+        if let Some(span) = self.last_span_at(unix_time) {
+            return Ok(*span);
+        }
         if self.transition_count() == 0 {
             return self.span_from_last(unix_time);
         }

@@ -13,6 +13,7 @@ use crate::zone::extremes::{Extremes, extremes_of};
 use crate::zone::idle::Idle;
 use crate::zone::index::Index;
 use crate::zone::kept::Kept;
+use crate::zone::last_span::LastSpan;
 use crate::zone::leap_second::LeapSecond;
 use crate::zone::segments::Lists;
 use crate::zone::starts::by_unix_time;
@@ -48,6 +49,8 @@ pub struct TimeZone {
     pub(super) idle: Idle,
     // The pieces of the wall-clock axis.
     pub(super) index: Index,
+    // The span after the last change.
+    pub(super) last_span: LastSpan,
 }
 
 impl Model for TimeZone {
@@ -68,7 +71,7 @@ impl Model for TimeZone {
       types = z.local_types.items;
       leaps = z.leap_seconds.items;
       rule = z.last_rule;
-    }) z.extremes z.idle z.index z.by_unix_time };
+    }) z.extremes z.idle z.index z.by_unix_time z.last_span };
 }
 
 // Of the lists alone: the rest follows from them.
@@ -157,7 +160,7 @@ impl TimeZone {
         let index = Index::new(alloc, lists, by_unix_time.items())?;
         let idle = Idle::new(alloc, lists)?;
         let extremes = extremes_of(&types, &rule);
-        Ok(TimeZone {
+        let mut zone = TimeZone {
             table: Table::new(alloc, transitions)?,
             by_unix_time,
             local_types: types,
@@ -166,7 +169,10 @@ impl TimeZone {
             extremes,
             idle,
             index,
-        })
+            last_span: LastSpan::none(),
+        };
+        zone.keep_last_span();
+        Ok(zone)
     }
 
     /// The zone of UTC: one type, that of [`LocalTimeType::utc`], at every instant.
@@ -211,7 +217,7 @@ impl TimeZone {
         };
         let index = Index::without_pieces(alloc, lists);
         let extremes = extremes_of(&types, &rule);
-        TimeZone {
+        let mut zone = TimeZone {
             table: Table::none(alloc),
             by_unix_time: Timeline::none(alloc),
             local_types: types,
@@ -220,7 +226,10 @@ impl TimeZone {
             extremes,
             idle: Idle::none(alloc),
             index,
-        }
+            last_span: LastSpan::none(),
+        };
+        zone.keep_last_span();
+        zone
     }
 
     // The zone of one type at every instant.

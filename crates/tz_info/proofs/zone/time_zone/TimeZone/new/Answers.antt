@@ -15,13 +15,14 @@ by_unix_time-requires-clause-rising c =
     let valid = rw (c.deref.ensures.value, c.deref-2.ensures.value, c.deref-3.ensures.value) at c.in_ok-check.ensures in
     rw c.deref-4.ensures.value valid.transitions.rising
 
-pub invariant_of-result : goal.invariant_of-result
-invariant_of-result c =
+pub invariant_of-zone : goal.invariant_of-zone
+invariant_of-zone c =
     rw c.in_ok-new.ensures (record {
       valid = rw (c.deref.ensures.value, c.deref-2.ensures.value, c.deref-3.ensures.value) at c.in_ok-check.ensures;
       limits = c.extremes_of-extremes.ensures.limits;
       extremes = rw c.deref-7.ensures.value at c.extremes_of-extremes.ensures.extremes;
       runs = rw (c.deref-4.ensures.value, c.deref-5.ensures.value) at c.in_ok-idle.ensures;
       index = rw (c.deref-4.ensures.value, c.deref-5.ensures.value, c.deref-6.ensures.value) at c.in_ok-index.ensures;
+      last = c.none.ensures _;
       unix_times = rw (c.deref-4.ensures.value, c.deref-6.ensures.value) at c.in_ok-by_unix_time.ensures;
     })

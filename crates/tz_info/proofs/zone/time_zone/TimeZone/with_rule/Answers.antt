@@ -6,13 +6,14 @@ pub without_pieces-index-requires-clause-valid : goal.without_pieces-index-requi
 without_pieces-index-requires-clause-valid c =
     rw (c.deref.ensures.value, c.new-transitions.ensures.items, c.deref-2.ensures.value, c.deref-3.ensures.value, c.new-leaps.ensures.items) (zone_of_rule_valid c.args.types.items c.args.rule c.requires)
 
-pub invariant_of-result : goal.invariant_of-result
-invariant_of-result c =
+pub invariant_of-zone : goal.invariant_of-zone
+invariant_of-zone c =
     rw (c.none.ensures, c.new-leaps.ensures.items) (record {
       valid = zone_of_rule_valid c.args.types.items c.args.rule c.requires;
       limits = c.extremes_of-extremes.ensures.limits;
       extremes = rw c.deref-4.ensures.value at c.extremes_of-extremes.ensures.extremes;
       runs = λ k below. absurd (omega (arith, c.none-3.ensures));
       index = rw (c.deref.ensures.value, c.new-transitions.ensures.items, c.deref-2.ensures.value, c.deref-3.ensures.value, c.new-leaps.ensures.items) at c.without_pieces-index.ensures;
+      last = c.none-4.ensures _;
       unix_times = λ some. absurd (omega arith);
     })

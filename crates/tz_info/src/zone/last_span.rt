@@ -1,0 +1,76 @@
+//! The span that goes on after a zone's last clock change. It is kept, so that a second in it needs
+//! no search.
+
+ghost use Rattle.std.specs.Prelude.{◌≡◌, IfSome, None};
+ghost use Rattle.tz_info.specs.Spans.{IsSpanAt};
+ghost use Rattle.tz_info.specs.Steps.LastSpans.{IsLastSpan};
+ghost use Rattle.tz_info.specs.Zones.{Zone, TypeAt};
+
+use crate::zone::all_changes::second_before;
+use crate::zone::time_zone::TimeZone;
+use tz_base::{LocalTimeType, Span};
+
+// The span of each second later than `after`.
+#[derive(Clone, Copy)]
+pub(super) struct LastSpan {
+    after: i64,
+    span: Span,
+}
+
+impl LastSpan {
+    // The span of no second.
+    pub(super) fn none() -> LastSpan
+        ensures { (z : Zone) → IsLastSpan z result }
+    {
+        LastSpan {
+            after: i64::MAX,
+            span: Span {
+                local_time_type: LocalTimeType::utc(),
+                from: None,
+                until: None,
+            },
+        }
+    }
+}
+
+impl TimeZone {
+    // Keeps the last span, if each second from its beginning on has a type.
+    pub(super) fn keep_last_span(&mut self)
+        ensures { self.new ≡ self.old }
+    {
+        match self.find_last_span() {
+            Some(last_span) => self.last_span = last_span,
+            None => {}
+        }
+    }
+
+    // The span of the last second of 64 bits, if that second has a type, and the first one has, or a
+    // change begins the span.
+    fn find_last_span(&self) -> Option<LastSpan>
+        ensures { IfSome result (IsLastSpan self.now) }
+    {
+        let _ = &self.table;
+        let Ok(span) = self.span_at(i64::MAX) else {
+            return None;
+        };
+        let first = self.end_or_typed(span.from, i64::MIN)?;
+        Some(LastSpan {
+            after: second_before(first),
+            span,
+        })
+    }
+
+    // The last span, if the second is known to lie in it.
+    #[inline(always)]
+    pub(super) fn last_span_at(&self, unix_time: i64) -> Option<&Span>
+        ensures { IfSome result (λ s. IsSpanAt (TypeAt self.now) unix_time s.now
+            × (s.now.until ≡ None)) }
+    {
+        let _ = &self.table;
+        if self.last_span.after < unix_time {
+            Some(&self.last_span.span)
+        } else {
+            None
+        }
+    }
+}
