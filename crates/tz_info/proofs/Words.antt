@@ -103,14 +103,14 @@ pub use Rattle.tz_info.specs.Spans.{IsInSpan, IsSince, IsSpan, IsSpanAt, IsUntil
 pub use Rattle.tz_info.specs.Steps.Answers.{joined, shown_if}
 pub use Rattle.tz_info.specs.Steps.Asked.{IsAskedAtLeapTime}
 pub use Rattle.tz_info.specs.Steps.Below.{all_below}
-pub use Rattle.tz_info.specs.Steps.Beside.{AreInside, HasNoTurnsAt, IsNearestMomentOf, IsOrder, IsOrderOf, IsSecondOfNearest, change_found}
+pub use Rattle.tz_info.specs.Steps.Beside.{AreInside, IsNearestMomentOf, IsOrder, IsOrderOf, IsSecondOfNearest, change_found}
 pub use Rattle.tz_info.specs.Steps.ChangeLists.{all_fit, alternate_type, change_between, change_here, changes_in, is_dst_by_three, is_rule_year, is_second}
 pub use Rattle.tz_info.specs.Steps.ChangeLists.{rule_type, rule_type_or, type_at_leap_time}
 unfoldable pub use Rattle.tz_info.specs.Steps.ChangeLists.{changes_of, seconds_between, type_or_none}
 pub use Rattle.tz_info.specs.Steps.Held.{IsEndOrTyped}
 pub use Rattle.tz_info.specs.Steps.LastSpans.{IsLastSpan}
 pub use Rattle.tz_info.specs.Steps.Idle.{AreStarts, AreStartsUpTo, HaveOneType, IsCarried, IsIdleRun}
-pub use Rattle.tz_info.specs.Steps.Changes.{AreAhead, AreComeAt, AreComeOrAll, AreIn, ComesAt, HasNoneAt, IsAhead, IsAheadUpTo, IsAtEnd, IsBegin}
+pub use Rattle.tz_info.specs.Steps.Changes.{AreAhead, AreComeAt, AreComeOrAll, AreIn, ComesAt, HasNoneAt, IsAhead, IsAheadUpTo, IsBegin}
 pub use Rattle.tz_info.specs.Steps.Changes.{IsChangeByRule, IsEarlierOf, IsIdle, IsIdleTo, IsInStretch, IsInTable, IsLaterOf, IsNearRuleTime, IsOfYear, IsOneOf}
 pub use Rattle.tz_info.specs.Steps.Changes.{IsStretchAhead, far_side, near_end, near_side, nearer_one, new_year, year_at}
 unfoldable pub use Rattle.tz_info.specs.Steps.Changes.{moments_near}

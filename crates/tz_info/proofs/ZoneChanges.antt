@@ -1,6 +1,6 @@
 -- Where a zone's types change: at its transitions, and behind them where the rule's types do.
 use Rattle.tz_info.proofs.Words.{Alternate as AlternateRule, AlternateAt, AreAhead, HaveOneType, AreComeAt, AreComeOrAll, AreLeapSeconds, Change, Bool, ComesAt}
-use Rattle.tz_info.proofs.Words.{HasNoChange, false, true, HasNoneAt, HaveCome, IsAhead, IsAtEnd, IsBegin, IsChangeByRule, IsChange, IsFirst, IsFirstChange}
+use Rattle.tz_info.proofs.Words.{HasNoChange, false, true, HasNoneAt, HaveCome, IsAhead, IsBegin, IsChangeByRule, IsChange, IsFirst, IsFirstChange}
 use Rattle.tz_info.proofs.Words.{IsInTable, IsLast, IsLastChange, IsLeapTime, IsLeapTimeRefused, IsNearest, IsRuleTime, IsValid, LeapSecond, List, LocalType}
 use Rattle.tz_info.proofs.Words.{MatchOption, None, Option, RuleOrType, SFits, Some, Transition, TransitionRule, TypeAt, Zone, ap, arith, by_lt_z, cases_lt}
 use Rattle.tz_info.proofs.Words.{cond, count_by, get_or, index_of, inl, inr, int_le, ints, length, nat_tests, passed_count, pos, refl, segment_of, slice_get}
@@ -199,14 +199,7 @@ begun z begin u t valid h fits k e = elim (cases_lt 0 (length z.transitions)) [
   | inr none ↦ let b = h.alone (omega arith) in omega (arith, ints)
 ]
 
-pub at_end : (z : Zone) (u : ℤ) (t : LocalType) → IsValid z → AreComeOrAll z u (length z.transitions) → TypeAt z u t → IsAtEnd z u
-at_end z u t valid (inl come) k = (sym come.is, t, k)
-at_end z u t valid (inr r) k = elim (cases_lt 0 (length z.transitions)) [
-  | inl some ↦ absurd (refused_on z.leaps u u k.leap_time valid.leaps (omega (arith, ints)) r.0 (time_of z u t some k))
-  | inr none ↦ let m = segment_most z u valid.transitions.rising in (omega arith, t, k)
-]
-
-begins : (z : Zone) (begin u : ℤ) → IsValid z → IsBegin z begin → IsRuleTime u → begin ≤ℤ u → segment_of z u ≡ length z.transitions
+pub begins : (z : Zone) (begin u : ℤ) → IsValid z → IsBegin z begin → IsRuleTime u → begin ≤ℤ u → segment_of z u ≡ length z.transitions
 begins z begin u valid h within from =
     let m = segment_most z u valid.transitions.rising in
     elim (cases_lt 0 (length z.transitions)) [

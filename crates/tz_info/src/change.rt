@@ -33,6 +33,7 @@ impl HeldChange<'_> {
 }
 
 // The change at that second, if the types differ.
+#[inline(always)]
 pub(crate) fn change_between<'a>(
     at: i64,
     before: &'a LocalTimeType,

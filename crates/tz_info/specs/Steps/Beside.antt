@@ -56,7 +56,3 @@ pub record IsOrder (a : Alternate) (s : Season) (o : Order) : Type 0 where
   pub ordered : IsOrderOf s.turns o
   pub inside : AreInside s o
   pub differ : a.std ≢ a.dst
-
--- where a type is in force at the second u, the zone has no rule of two types
-abbrev pub HasNoTurnsAt : Zone → ℤ → Type 0
-HasNoTurnsAt z u = (t : LocalType) → TypeAt z u t → (a : Alternate) → z.rule ≢ Some (AlternateRule a)

@@ -119,10 +119,6 @@ pub record AreComeAt (z : Zone) (u : ℤ) (n : ℕ) : Type 0 where
 abbrev pub AreComeOrAll : Zone → ℤ → ℕ → Type 0
 AreComeOrAll z u n = AreComeAt z u n ⊎ (IsLeapTimeRefused z.leaps u × (n ≡ length z.transitions))
 
--- all transitions have come at the second u, at which some type is in force
-abbrev pub IsAtEnd : Zone → ℤ → Type 0
-IsAtEnd z u = (segment_of z u ≡ length z.transitions) × (t : LocalType) × TypeAt z u t
-
 -- u is a second that `within` takes, and at the second before u some transition has not come
 pub record IsInTable (z : Zone) (within : ℤ → Type 0) (u : ℤ) : Type 0 where
   pub inside : within u

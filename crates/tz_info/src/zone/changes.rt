@@ -56,7 +56,7 @@ impl TimeZone {
 
     // The first change after a second at which that number of transitions have come.
     #[inline(always)]
-    pub(super) fn next_from(&self, after: i64, come: usize) -> Option<HeldChange<'_>>
+    fn next_from(&self, after: i64, come: usize) -> Option<HeldChange<'_>>
         requires { AreComeOrAll self.now after come }
         ensures { IsFirst (TypeAt self.now) (λ u. after <ℤ u) (option_map change_held result) }
     {
@@ -135,7 +135,7 @@ impl TimeZone {
 
     // The last change with a transition up to a second at which that number of them have come.
     #[inline(always)]
-    pub(super) fn previous_in_table(&self, last: i64, come: usize) -> Option<HeldChange<'_>>
+    fn previous_in_table(&self, last: i64, come: usize) -> Option<HeldChange<'_>>
         requires { AreComeOrAll self.now last come }
         ensures { IsLast (TypeAt self.now) (IsInTable self.now (λ u. u ≤ℤ last))
             (option_map change_held result) }
@@ -176,6 +176,7 @@ impl TimeZone {
     }
 
     // The change that comes with the transition at that place, if it changes the type.
+    #[inline(always)]
     pub(super) fn change_with(&self, place: usize) -> Option<HeldChange<'_>>
         requires { place < length self.now.transitions }
         ensures { MatchOption (option_map change_held result) (HasNoneAt self.now place)
@@ -193,6 +194,7 @@ impl TimeZone {
 
     // The same without leap seconds: each transition comes at its own time, and they come one after
     // another, so that the transitions tell both types.
+    #[inline(always)]
     fn change_without_leaps(&self, place: usize) -> Option<HeldChange<'_>>
         requires place { place < length self.now.transitions }
         requires leaps { length self.now.leaps ≡ 0 }

@@ -61,6 +61,8 @@ impl TimeZone {
     /// to the rule: at most as many looks as the number of transitions has binary digits, and one
     /// question if the rule says the type, else none.
     ///
+    /// It always searches: [`TimeZone::find_local_time_type`] needs no search after the last change.
+    ///
     /// The zone keeps the times of its first and its last transition: a comparison with one of them
     /// that does not decide is not counted. Reading a hint is not counted either.
     ///

@@ -1,9 +1,0 @@
-use Rattle.tz_info.proofs.Words.{arith, to_z-of_z}
-use Rattle.tz_info.proofs.SpanSearch.{none_come}
-use Rattle.tz_info.proofs.zone.time_zone.TimeZone.span_at.Goals as goal
-
-pub span_from_last-requires : goal.span_from_last-requires
-span_from_last-requires c =
-    let fu = c.ranges.unix_time in
-    let n = c.transition_count.ensures in
-    simp to_z-of_z (none_come c.args.self.now c.args.unix_time (rw (← c.self.view_is) c.self.invariant.valid) (omega arith))
