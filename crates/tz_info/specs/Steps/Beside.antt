@@ -1,5 +1,5 @@
 -- What a rule says of a second: the type in force, and the seconds on both sides at which clocks change.
-use Rattle.std.specs.Prelude.{◌≡◌, ◌≢◌, ◌⊎◌, Bool, true, false, ℤ, pos, neg_ℤ, ◌≤ℤ◌, ◌<ℤ◌, MatchOption, Option, Some, option_map}
+use Rattle.std.specs.Prelude.{◌≡◌, ◌≢◌, ◌⊎◌, Bool, true, false, ℤ, pos, neg_ℤ, ◌≤ℤ◌, ◌<ℤ◌, MatchOption, Option, option_map}
 use Rattle.tz_base.specs.LocalTypes.{LocalType}
 use Rattle.tz_info.specs.Changes.{HasNoChange, IsChange}
 use Rattle.tz_info.specs.Moments.{AlternateAt, type_when}
@@ -7,13 +7,11 @@ use Rattle.tz_info.specs.Rules.{Alternate}
 use Rattle.tz_info.specs.Changes.{IsNearest}
 use Rattle.tz_info.specs.Steps.Changes.{IsAhead}
 use Rattle.tz_info.specs.Steps.Gaps.{moment_change}
-use Rattle.tz_info.specs.Zones.{Zone, TypeAt}
 use Rattle.tz_base.specs.declared.change.Change.{Change}
 use Rattle.tz_info.specs.declared.rule.season.Season.{Season}
 use Rattle.tz_info.specs.declared.rule.season.Turns.{Turns}
 use Rattle.tz_info.specs.declared.rule.beside.Beside.{Beside}
 use Rattle.tz_info.specs.declared.rule.beside.Order.{Order}
-use Rattle.tz_info.specs.declared.rule.transition_rule.TransitionRule.TheVariants.{Alternate as AlternateRule}
 use Rattle.tz_info.specs.declared.rule.wall_clock.Moment.{Moment}
 
 -- the change at the moment that was found, if one was

@@ -176,7 +176,6 @@ impl TimeZone {
     }
 
     // The change that comes with the transition at that place, if it changes the type.
-    #[inline(always)]
     pub(super) fn change_with(&self, place: usize) -> Option<HeldChange<'_>>
         requires { place < length self.now.transitions }
         ensures { MatchOption (option_map change_held result) (HasNoneAt self.now place)
@@ -195,7 +194,7 @@ impl TimeZone {
     // The same without leap seconds: each transition comes at its own time, and they come one after
     // another, so that the transitions tell both types.
     #[inline(always)]
-    fn change_without_leaps(&self, place: usize) -> Option<HeldChange<'_>>
+    pub(super) fn change_without_leaps(&self, place: usize) -> Option<HeldChange<'_>>
         requires place { place < length self.now.transitions }
         requires leaps { length self.now.leaps ≡ 0 }
         ensures { MatchOption (option_map change_held result) (HasNoneAt self.now place)

@@ -12,9 +12,6 @@ use crate::zone::segments::{Lists, index_of_segment};
 use crate::zone::time_zone::TimeZone;
 use std::alloc::{AllocError, Global};
 
-// Longer steps than this are not tried: no list has that many transitions.
-const LONGEST_STEP: usize = 2_147_483_648;
-
 // Where runs of transitions that change nothing start.
 #[derive(Drop)]
 pub(super) struct Idle {
@@ -115,7 +112,7 @@ impl TimeZone {
         let count = self.transition_count();
         let first = place + 1;
         let mut next = first;
-        let mut step = LONGEST_STEP;
+        let mut step = count;
         while step > 0 {
             next = self.stepped(first, next, step, count);
             step = step / 2;

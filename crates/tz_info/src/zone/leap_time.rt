@@ -82,7 +82,7 @@ fn leap_time_among(entries: &[LeapSecond], unix_time: i64) -> Result<i64, Error>
     Ok(unix_time + correction_after(entries, passed) as i64)
 }
 
-// How many entries are passed at the Unix time: mostly all of them.
+// How many entries are passed at the Unix time.
 fn passed_at(entries: &[LeapSecond], unix_time: i64) -> usize
     requires leaps { AreLeapSeconds entries.now }
     requires some { pos 0 ≤ℤ unix_time }
@@ -91,9 +91,6 @@ fn passed_at(entries: &[LeapSecond], unix_time: i64) -> usize
 {
     let mut first = 0;
     let mut count = entries.len();
-    if count > 0 && is_passed(entries, count - 1, unix_time) {
-        return count;
-    }
     while count > 0 {
         let half = count / 2;
         if is_passed(entries, first + half, unix_time) {

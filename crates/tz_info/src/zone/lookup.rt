@@ -104,7 +104,8 @@ impl TimeZone {
         }
     }
 
-    // The transitions that have come at the second, if it has a leap time.
+    // The transitions that have come at the second, if it has a leap time. Only a second far from now
+    // is converted to it.
     #[inline(always)]
     pub(super) fn passed_at(&self, unix_time: i64, probes: &mut Probes) -> Option<Passed<'_, Kept>>
         requires { HasRoomFor (digits (length self.now.transitions)) probes.old.reads }
@@ -114,25 +115,9 @@ impl TimeZone {
         ensures looked { IfSome result (λ _. 0 < length self.now.transitions
             → probes.old.reads < probes.new.reads) }
     {
-        if self.leap_seconds.is_empty() {
-            return Some(self.table.passed(unix_time, probes));
-        }
-        if -NEAR <= unix_time && unix_time <= NEAR {
+        if !self.leap_seconds.is_empty() && -NEAR <= unix_time && unix_time <= NEAR {
             return Some(self.by_unix_time.passed(unix_time, probes));
         }
-        self.passed_by_leap_time(unix_time, probes)
-    }
-
-    // The same by the second's leap time, which only one far from now needs.
-    #[inline(never)]
-    fn passed_by_leap_time(&self, unix_time: i64, probes: &mut Probes) -> Option<Passed<'_, Kept>>
-        requires { HasRoomFor (digits (length self.now.transitions)) probes.old.reads }
-        ensures come { MatchOption result (IsLeapTimeRefused self.now.leaps unix_time)
-            (λ p. HaveComeAt self.now unix_time p.count (option_map (λ r. r.now) p.latest)) }
-        ensures cost { RoseWithin probes.old probes.new (digits (length self.now.transitions)) 0 }
-        ensures looked { IfSome result (λ _. 0 < length self.now.transitions
-            → probes.old.reads < probes.new.reads) }
-    {
         match leap_time(&self.leap_seconds, unix_time) {
             Ok(leap_time) => Some(self.table.passed(leap_time, probes)),
             Err(_) => None,

@@ -67,17 +67,28 @@ impl TimeZone {
         }
     }
 
-    // The same by a rule of two types: a function of its own, so that the other has few values to
-    // keep.
+    // The same by a rule of two types, if the second comes after one of its changes: a function of
+    // its own, so that the other has few values to keep.
     #[inline(never)]
     fn span_from_last(&self, unix_time: i64) -> Result<Span, Error>
         ensures { MatchResult result (IsSpanAt (TypeAt self.now) unix_time)
             (IsTypeError self.now unix_time) }
     {
-        match self.span_by_turns(unix_time) {
-            Some(span) => Ok(span),
-            None => self.span_by_changes(unix_time),
-        }
+        let _ = &self.table;
+        let Some(turns) = self.turns() else {
+            return self.span_by_changes(unix_time);
+        };
+        let Some(beside) = turns.beside(unix_time) else {
+            return self.span_by_changes(unix_time);
+        };
+        let Some(from) = if_after(beside.previous, self.rule_begin()) else {
+            return self.span_by_changes(unix_time);
+        };
+        Ok(Span {
+            local_time_type: *turns.type_when(beside.is_dst),
+            from: Some(from),
+            until: beside.next,
+        })
     }
 
     // The same by the changes on both sides, for each of which there is a search.
@@ -97,19 +108,20 @@ impl TimeZone {
         }
     }
 
-    // The span from one transition to the next, if both change the type.
+    // The span from one transition to the next without leap seconds, if both change the type.
     #[inline(always)]
     fn span_between(&self, unix_time: i64, come: usize) -> Option<Span>
         requires come { AreComeOrAll self.now unix_time come }
         requires table { come < length self.now.transitions }
+        requires leaps { length self.now.leaps ≡ 0 }
         ensures { IfSome result (IsSpanAt (TypeAt self.now) unix_time) }
     {
         let _ = &self.table;
         if come == 0 {
             return None;
         }
-        let first = self.change_with(come - 1)?;
-        let end = self.change_with(come)?;
+        let first = self.change_without_leaps(come - 1)?;
+        let end = self.change_without_leaps(come)?;
         Some(Span {
             local_time_type: *end.before,
             from: Some(first.at),
@@ -173,22 +185,6 @@ impl TimeZone {
             local_time_type: *here,
             from: Some(first.unix_leap_time),
             until: Some(end.unix_leap_time),
-        })
-    }
-
-    // The span of a second after a change by a rule of two types.
-    #[inline(always)]
-    fn span_by_turns(&self, unix_time: i64) -> Option<Span>
-        ensures { IfSome result (IsSpanAt (TypeAt self.now) unix_time) }
-    {
-        let _ = &self.table;
-        let turns = self.turns()?;
-        let beside = turns.beside(unix_time)?;
-        let from = if_after(beside.previous, self.rule_begin())?;
-        Some(Span {
-            local_time_type: *turns.type_when(beside.is_dst),
-            from: Some(from),
-            until: beside.next,
         })
     }
 }

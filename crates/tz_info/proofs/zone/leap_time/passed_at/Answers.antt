@@ -1,14 +1,6 @@
 use Rattle.tz_info.proofs.Words.{arith, length, to_z-of_z, ◌+◌}
 use Rattle.tz_info.proofs.LeapSearch.{all_between}
-use Rattle.tz_info.proofs.LeapStarts.{passed_at_most}
 use Rattle.tz_info.proofs.zone.leap_time.passed_at.Goals as goal
 
 pub loop-count-init : goal.loop-count-init
 loop-count-init c = let fu = c.ranges.unix_time in simp to_z-of_z (all_between c.args.entries.now c.args.unix_time (0 + length c.args.entries.now) (omega arith))
-
-pub returns-then-is_passed : goal.returns-then-is_passed
-returns-then-is_passed c =
-    let fu = c.ranges.unix_time in
-    let p = simp to_z-of_z at (c.is_passed.ensures.0 c.if-is_passed.true) in
-    let m = passed_at_most c.args.entries.now c.args.unix_time in
-    omega arith

@@ -1,4 +1,4 @@
-use Rattle.tz_info.proofs.Words.{AreByUnixTime, arith, length, refl, rules, ◌+◌, ◌-◌, ◌<◌}
+use Rattle.tz_info.proofs.Words.{AreByUnixTime, arith, length, rules, ◌+◌, ◌-◌, ◌<◌}
 use Rattle.tz_info.proofs.UnixTimes.{at_place}
 use Rattle.tz_info.proofs.zone.time_zone.TimeZone.span_by_unix_time.Goals as goal
 
