@@ -115,7 +115,10 @@ impl TimeZone {
         ensures looked { IfSome result (λ _. 0 < length self.now.transitions
             → probes.old.reads < probes.new.reads) }
     {
-        if !self.leap_seconds.is_empty() && -NEAR <= unix_time && unix_time <= NEAR {
+        if self.leap_seconds.is_empty() {
+            return Some(self.table.passed(unix_time, probes));
+        }
+        if -NEAR <= unix_time && unix_time <= NEAR {
             return Some(self.by_unix_time.passed(unix_time, probes));
         }
         match leap_time(&self.leap_seconds, unix_time) {
