@@ -1,6 +1,7 @@
 -- Spans: at each second between two that have a type there is one, and from the last change to the next one it is the same.
-use Rattle.tz_info.proofs.Words.{Agrees, Alternate as AlternateRule, AreLeapSeconds, Change, HasNoChange, IfSome, IsAlternateRefused, IsChange, IsFirst, IsFirstChange}
-use Rattle.tz_info.proofs.Words.{IsEndOrTyped, IsFromLast, IsInSpan, IsLast, IsLastSpan, LastSpan, IsLastChange, IsLeapTime, IsRefusedBy, IsRuleOrNone, IsRuleTime, IsSince, IsSpan, IsSpanAt}
+use Rattle.tz_info.proofs.Words.{Agrees, Alternate as AlternateRule, AreLeapSeconds, Change, HasNoChange, IfSome, IsAlternateRefused, IsChange}
+use Rattle.tz_info.proofs.Words.{IsEndOrTyped, IsFirst, IsFirstChange, IsFromLast, IsInSpan, IsLast, IsLastChange, IsLastSpan, IsLeapTime, IsRefusedBy}
+use Rattle.tz_info.proofs.Words.{IsRuleOrNone, IsRuleTime, IsSince, IsSpan, IsSpanAt, LastSpan}
 use Rattle.tz_info.proofs.Words.{IsTypeRefused, IsUnixTime, IsUntil, IsValid, LeapSecond, List, LocalType, None, Option, SFits, Some, Span, Transition}
 use Rattle.tz_info.proofs.Words.{TransitionRule, TypeAt, Zone, ap, arith, by_leap_time, by_lt_z, by_rule, cases_lt, correction_before, floor_div, inl, inr}
 use Rattle.tz_info.proofs.Words.{ints, last_transition, length, lies_in, neg_ℤ, option_map, passed_count, pos, refl, segment_of, slice_get, subst, suc, sym}

@@ -7,7 +7,8 @@ use Rattle.tz_info.proofs.ChangeSearch.{nearest_moved}
 use Rattle.tz_info.proofs.RuleChanges.{rule_second}
 use Rattle.tz_info.proofs.SegmentLaws.{segments_rise}
 use Rattle.tz_info.proofs.SpanLaws.{span_between, span_of_changes}
-use Rattle.tz_info.proofs.ZoneChanges.{ahead_come, begins, from_rule, rule_first, rule_found, rule_is_last, table_first, table_is_last, table_last, yet_come, yet_found}
+use Rattle.tz_info.proofs.ZoneChanges.{ahead_come, begins, from_rule, rule_first, rule_found, rule_is_last, table_first, table_is_last}
+use Rattle.tz_info.proofs.ZoneChanges.{table_last, yet_come, yet_found}
 
 -- ---- before the last transition
 no_rule_yet : (z : Zone) (u : ℤ) (k : ℕ) → IsValid z → k < length z.transitions → AreComeOrAll z u k → HasNoChange (TypeAt z) (IsChangeByRule z (λ v. v ≤ℤ u))
