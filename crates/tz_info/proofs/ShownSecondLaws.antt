@@ -1,8 +1,8 @@
 -- When clocks show the local times of a stretch: its first and its last second, from run to run, and the first second at or after a local time.
 use Rattle.tz_info.proofs.Words.{AreEndsWithin, AreNoneBefore, AreNoneFrom, AreShownWithin, IsBeyondJumps, IsFirstAtOrAfter, IsFirstWithin, IsGreatest}
-use Rattle.tz_info.proofs.Words.{IsLastWithin, IsLeast, IsNeverWithin, IsRuleOrNone, IsRunSince, IsRunUntil, IsValid, IsWindowOf, IsWithinRun}
-use Rattle.tz_info.proofs.Words.{LocalType, None, Option, SFits, ShownSeconds, Shows, ShowsAtOrAfter, ShowsWithin, Some, TypeAt, Zone, arith, by_lt_z, ints}
-use Rattle.tz_info.proofs.Words.{offsets, pos, refl, subst, w64, ℤ, ◌+ℤ◌, ◌-ℤ◌, ◌<ℤ◌, ◌↔◌, ◌≡◌, ◌≤ℤ◌}
+use Rattle.tz_info.proofs.Words.{IsLastWithin, IsLeast, IsNeverWithin, IsRuleOrNone, IsRunSince, IsRunUntil, IsValid, IsWindowOf, IsWithinRun, LocalType, None}
+use Rattle.tz_info.proofs.Words.{Option, SFits, ShownSeconds, Shows, ShowsAtOrAfter, ShowsWithin, Some, TypeAt, Zone, arith, by_lt_z, ints, offsets, pos, refl}
+use Rattle.tz_info.proofs.Words.{subst, w64, ℤ, ◌+ℤ◌, ◌-ℤ◌, ◌<ℤ◌, ◌↔◌, ◌≡◌, ◌≤ℤ◌}
 use Rattle.tz_info.proofs.ExtremeLaws.{at_least_least, at_most_greatest}
 use Rattle.tz_info.proofs.GapLaws.{near_type}
 use Rattle.tz_info.proofs.ZoneLaws.{type_once}

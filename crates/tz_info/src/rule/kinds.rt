@@ -44,22 +44,11 @@ impl DayTime {
         ensures { result ≡ seconds_by_kind self.now offset }
     {
         let places = self.day.places_by_kind();
-        [
-            self.second_at(offset, places[0]),
-            self.second_at(offset, places[1]),
-            self.second_at(offset, places[2]),
-            self.second_at(offset, places[3]),
-            self.second_at(offset, places[4]),
-            self.second_at(offset, places[5]),
-            self.second_at(offset, places[6]),
-            self.second_at(offset, places[7]),
-            self.second_at(offset, places[8]),
-            self.second_at(offset, places[9]),
-            self.second_at(offset, places[10]),
-            self.second_at(offset, places[11]),
-            self.second_at(offset, places[12]),
-            self.second_at(offset, places[13]),
-        ]
+        let mut seconds = [0; 14];
+        for kind in 0..14 {
+            seconds[kind] = self.second_at(offset, places[kind]);
+        }
+        seconds
     }
 
     // The second at a place, given how many days of the year come before the day.
@@ -75,6 +64,7 @@ impl DayTime {
 
 // How far inside its year each moment lies at least, where the two also come in one order in all
 // years; else how far outside of it none lies, as a number below 0.
+#[tactic(auto, unfolding(crate::specs::Steps::Kinds::margin_of))]
 pub(super) fn margin_of(starts: &[i64; 14], ends: &[i64; 14]) -> i64
     ensures { result ≡ margin_of starts.now ends.now }
 {

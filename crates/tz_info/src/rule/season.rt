@@ -158,6 +158,7 @@ impl AlternateTime {
 impl Season {
     // Whether the season's moments alone decide at the second.
     #[inline(always)]
+    #[tactic(auto, using(crate::proofs::Ranges::in_range))]
     pub(crate) fn decides(self, unix_time: i64) -> bool
         ensures { IsTrue result ↔ IsDecidedIn self unix_time }
     {
@@ -215,6 +216,7 @@ impl Turns {
 
 // Whether it is daylight saving time at the second by the moments of its year and of the years
 // before and after it.
+#[tactic(auto, using(crate::proofs::Ranges::in_range))]
 fn is_dst_by_three(before: Turns, here: Turns, after: Turns, unix_time: i64) -> bool
     ensures { result ≡ (if int_le here.start here.end
         then is_between before.start before.end unix_time
@@ -272,6 +274,7 @@ fn day_from_first(days: u64) -> i64
 // The day number of the second. Counted from the first of those years no second is negative, so
 // that one division is enough.
 #[inline(always)]
+#[tactic(auto, using(crate::proofs::Words::floors))]
 pub(super) fn day_of(unix_time: i64) -> i64
     requires { IsRuleTime unix_time }
     ensures value { result ≡ floor_div unix_time 86_400 }
