@@ -37,7 +37,8 @@ second_is : (t : DayTime) (offset year : ℤ) → IsRuleDay t.day → second_in 
 unfolding moment second_by
 second_is t offset year fits = let d = rule_day_by t.day year fits in omega (arith, floors)
 
-kind_at : (t : DayTime) (offset : ℤ) (leap : Bool) (first : ℕ) (d : ℤ) → first < 7 → get_or (seconds_by_kind t offset) (cond leap 7 0 + first) d ≡ second_by t offset leap first
+kind_at : (t : DayTime) (offset : ℤ) (leap : Bool) (first : ℕ) (d : ℤ) → first < 7
+    → get_or (seconds_by_kind t offset) (cond leap 7 0 + first) d ≡ second_by t offset leap first
 unfolding seconds_by_kind places_by_kind second_by
 kind_at t offset false zero d h = refl
 kind_at t offset false (suc zero) d h = refl

@@ -24,7 +24,8 @@ none_between : (a : Alternate) (s : Season) (low high : ℤ) → IsSeason a s �
 none_between a s low high season from until start end d is after most =
     let b = season.decided (d.at -ℤ pos 1) (rule_second a (d.at -ℤ pos 1) d.before is.before) (omega (arith, ints), omega (arith, ints)) in
     let h = season.decided d.at (rule_second a d.at d.after is.after) (omega (arith, ints), omega (arith, ints)) in
-    let alike = dst_alike s.turns.start s.turns.end d.at (λ e. start (omega (arith, ints)) (omega (arith, ints))) (λ e. end (omega (arith, ints)) (omega (arith, ints))) in
+    let alike = dst_alike s.turns.start s.turns.end d.at (λ e. start (omega (arith, ints)) (omega (arith, ints)))
+    (λ e. end (omega (arith, ints)) (omega (arith, ints))) in
     is.differ (rule_type_once a (d.at -ℤ pos 1) d.before _ is.before b ∙ ap (type_when a) alike ∙ sym (rule_type_once a d.at d.after _ is.after h))
 
 -- ---- the nearest moment in a direction, or the limit

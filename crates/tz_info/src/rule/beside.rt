@@ -4,7 +4,8 @@
 ghost use Rattle.std.specs.Prelude.{◌≡◌, IsTrue, MatchOption, option_map};
 ghost use Rattle.tz_info.specs.Moments.{AlternateAt, IsRuleTime};
 ghost use Rattle.tz_info.specs.Rules.{Alternate};
-ghost use Rattle.tz_info.specs.Steps.Beside.{HasTwoChanges, IsBeside, IsSecondOfNearest, change_found};
+ghost use Rattle.tz_info.specs.Steps.Beside.{HasTwoChanges, IsBeside, IsSecondOfNearest};
+ghost use Rattle.tz_info.specs.Steps.Beside.{change_found};
 ghost use Rattle.tz_info.specs.Steps.Changes.{IsAhead, nearer_one};
 ghost use Rattle.tz_info.specs.Steps.Seasons.{IsDecidedIn, IsSeason};
 
@@ -33,7 +34,7 @@ impl AlternateTime {
         }
         let season = self.season(second);
         if !self.changes_in(season) || !season.decides(second) {
-            return Some(self.beside_by_years(season, second));
+            return Some(self.beside_by_years(second));
         }
         Some(Beside {
             is_dst: self.is_dst_in(season, second),
@@ -44,17 +45,14 @@ impl AlternateTime {
 
     // The same where the season's moments are not enough.
     #[inline(never)]
-    fn beside_by_years(&self, season: Season, second: i64) -> Beside
-        requires season { IsSeason self.now season }
-        requires time { IsRuleTime second }
+    fn beside_by_years(&self, second: i64) -> Beside
+        requires { IsRuleTime second }
         ensures { IsBeside self.now second result }
     {
-        let decided = season.if_decides(second);
-        let is_dst = self.is_dst_in(season, second);
         Beside {
-            is_dst,
-            previous: second_of(self.nearest_moment(decided, second, false)),
-            next: second_of(self.nearest_moment(decided, second, true)),
+            is_dst: self.is_dst_at(second),
+            previous: self.second_beyond(second, false),
+            next: self.second_beyond(second, true),
         }
     }
 

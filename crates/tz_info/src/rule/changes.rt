@@ -4,7 +4,8 @@
 ghost use Rattle.std.specs.Prelude.{◌≡◌, ◌≢◌, ◌≤◌, pos, ◌<ℤ◌, ◌≤ℤ◌, MatchOption, MatchResult, Some, neg_ℤ, option_map, ⊤};
 ghost use Rattle.tz_info.specs.Changes.{IsNearest, IsNearestChange};
 ghost use Rattle.tz_info.specs.Moments.{AlternateAt, IsRuleTime, type_when};
-ghost use Rattle.tz_info.specs.Steps.Beside.{IsMomentAhead, IsMomentAt, IsNearestMomentOf, change_found};
+ghost use Rattle.tz_info.specs.Steps.Beside.{IsMomentAhead, IsMomentAt, IsNearestMomentOf};
+ghost use Rattle.tz_info.specs.Steps.Beside.{change_found};
 ghost use Rattle.tz_info.specs.Steps.Changes.{IsAhead, IsIdleTo, far_side, near_end, near_side};
 ghost use Rattle.tz_info.specs.Steps.Gaps.{moment_change};
 ghost use Rattle.tz_info.specs.HeldChanges.{change_held};
@@ -34,7 +35,7 @@ impl AlternateTime {
             return None;
         }
         let near = ahead.near_end(forward);
-        match ahead.moment_within(self.nearest_moment(self.season_at(near), near, forward)) {
+        match ahead.moment_within(self.nearest_moment(near, forward)) {
             Some(moment) => Some(self.change_of(moment)),
             None => None,
         }
@@ -52,20 +53,12 @@ impl AlternateTime {
         self.season(second).if_decides(second)
     }
 
-    // The nearest moment at which clocks change, by the season if it decides at the second, or else
-    // by other years.
+    // The nearest moment at which clocks change: mostly one of the second's year or the next one.
     #[inline(always)]
-    pub(super) fn nearest_moment(
-        &self,
-        season: Option<Season>,
-        second: i64,
-        forward: bool,
-    ) -> Option<Moment>
-        requires { MatchOption season ⊤
-            (λ s. IsSeason self.now s × IsRuleTime second × IsDecidedIn s second) }
+    fn nearest_moment(&self, second: i64, forward: bool) -> Option<Moment>
         ensures { IsNearestMomentOf forward self.now (IsAhead forward second) result }
     {
-        let Some(season) = season else {
+        let Some(season) = self.season_at(second) else {
             return self.moment_by_years(second, forward);
         };
         match self.moment_in_season(season, second, forward) {

@@ -6,7 +6,8 @@ pub returns-in-Ok : goal.returns-in-Ok
 returns-in-Ok c =
     let fs = c.ranges.second in
     let ff : SFits w64 c.in-Ok.found = search rules in
-    simp to_z-of_z (found_second c.args.forward c.args.self.now c.args.season c.args.second c.in-Ok.found c.requires.season c.requires.changes (simp to_z-of_z at c.in-Ok.ensures))
+    simp to_z-of_z (found_second c.args.forward c.args.self.now c.args.season c.args.second c.in-Ok.found c.requires.season
+    c.requires.changes (simp to_z-of_z at c.in-Ok.ensures))
 
 pub returns-in-Err : goal.returns-in-Err
 returns-in-Err c =

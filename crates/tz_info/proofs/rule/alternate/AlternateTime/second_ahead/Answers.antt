@@ -13,8 +13,13 @@ next c =
     let f3 : SFits w64 c.args.season.turns.end = search rules in
     let fl : SFits w64 c.limit-limit.result = search rules in
     let fm : SFits w64 c.nearest-at.result = search rules in
-    let is = simp to_z-of_z at c.nearest-at.ensures in
-    (fs, fl, fm, next_in c.args.forward c.args.self.now c.args.season c.args.second _ _ c.requires.season c.requires.time c.requires.decides c.limit-limit.ensures is)
+    let is = simp to_z-of_z at c.nearest-at.ensures in (
+      fs,
+      fl,
+      fm,
+      next_in c.args.forward c.args.self.now c.args.season c.args.second _ _ c.requires.season c.requires.time c.requires.decides
+          c.limit-limit.ensures is,
+    )
 
 pub near_side-requires : goal.near_side-requires
 near_side-requires c = let (fs, fl, fm, h) = next (goal.at.near_side-requires c).After-nearest-at in simp to_z-of_z h.least

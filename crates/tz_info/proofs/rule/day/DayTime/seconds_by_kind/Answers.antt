@@ -28,4 +28,5 @@ returns c =
     let s : length l.seconds ≤ 14 = omega arith in
     let p : length places ≤ 14 = search rules in
     let found = rw all at (simp to_z-of_z at l.invariant.found) in
-    rw (← c.places_by_kind-places.ensures.value) (sym (take_all 14 l.seconds s) ∙ found ∙ ap (map (day_time_second c.args.self.now c.args.offset)) (take_all 14 places p))
+    rw (← c.places_by_kind-places.ensures.value) (sym (take_all 14 l.seconds s) ∙ found
+    ∙ ap (map (day_time_second c.args.self.now c.args.offset)) (take_all 14 places p))
