@@ -1,17 +1,11 @@
 -- Changes of a rule where the moments of one season decide: only these come with one.
 use Rattle.tz_info.proofs.Words.{Alternate, AlternateAt, Bool, Change, HasNoChange, IsAhead, IsAheadUpTo, IsChange, IsDecidedIn, IsIdleTo, IsLimit}
-use Rattle.tz_info.proofs.Words.{IsMomentAhead, IsNearest, IsNearestChange, IsRuleTime, IsSeason, MatchOption, None, Option, Precedes, Season, Some, ap, arith}
+use Rattle.tz_info.proofs.Words.{IsMomentAhead, IsNearest, IsNearestChange, IsRuleTime, IsSeason, Option, Precedes, Season, ap, arith}
 use Rattle.tz_info.proofs.Words.{by_lt_z, false, far_side, inl, inr, ints, is_dst_by_one, near_side, nearer_moment, neg_ℤ, pos, sym, true, type_when, ℤ, ⊎_elim}
 use Rattle.tz_info.proofs.Words.{◌+ℤ◌, ◌-ℤ◌, ◌<ℤ◌, ◌∙◌, ◌≡◌, ◌≤ℤ◌, ◌⊎◌}
-use Rattle.std.specs.Prelude.{⊤}
 use Rattle.tz_info.proofs.ChangeSearch.{InForce, nearest_moved}
 use Rattle.tz_info.proofs.NextMoments.{nearest_moment}
 use Rattle.tz_info.proofs.RuleChanges.{rule_second, rule_type_once}
-
-pub season_kept : (a : Alternate) (season : Season) (second : ℤ) (found : Option Season) → IsSeason a season → IsRuleTime second
-    → MatchOption found ⊤ (λ s. (s ≡ season) × IsDecidedIn s second) → MatchOption found ⊤ (λ s. IsSeason a s × IsRuleTime second × IsDecidedIn s second)
-season_kept a season second None is time h = h
-season_kept a season second (Some s) is time h = (rw h.0 is, time, h.1)
 
 -- ---- where neither moment comes
 dst_alike : (start end u : ℤ) → (start ≡ u → ⊥) → (end ≡ u → ⊥) → is_dst_by_one start end (u -ℤ pos 1) ≡ is_dst_by_one start end u

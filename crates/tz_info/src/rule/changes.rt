@@ -50,7 +50,12 @@ impl AlternateTime {
         if !is_rule_time(second) {
             return None;
         }
-        self.season(second).if_decides(second)
+        let season = self.season(second);
+        if season.decides(second) {
+            Some(season)
+        } else {
+            None
+        }
     }
 
     // The nearest moment at which clocks change: mostly one of the second's year or the next one.

@@ -1,7 +1,7 @@
 //! The moments of one year at which a rule's types give way to each other, and the seconds at which
 //! only these decide.
 
-ghost use Rattle.std.specs.Prelude.{◌≡◌, ◌<◌, pos, ◌+ℤ◌, int_le, MatchOption, ⊤, IsTrue, ◌↔◌, ◌||◌, not, if◌then◌else◌};
+ghost use Rattle.std.specs.Prelude.{◌≡◌, ◌<◌, pos, ◌+ℤ◌, int_le, IsTrue, ◌↔◌, ◌||◌, not, if◌then◌else◌};
 ghost use Rattle.naive_base.specs.DateOf.{year_of, day_of_year};
 ghost use Rattle.naive_base.specs.Year.{floor_div, year_start, LiesIn, IsDay};
 ghost use Rattle.tz_info.specs.Rules.{IsAlternateRule};
@@ -163,18 +163,6 @@ impl Season {
         ensures { IsTrue result ↔ IsDecidedIn self unix_time }
     {
         (self.from <= unix_time) & (unix_time < self.until)
-    }
-
-    // The season, if its moments alone decide at the second.
-    #[inline(always)]
-    pub(super) fn if_decides(self, unix_time: i64) -> Option<Season>
-        ensures { MatchOption result ⊤ (λ s. (s ≡ self) × IsDecidedIn s unix_time) }
-    {
-        if self.decides(unix_time) {
-            Some(self)
-        } else {
-            None
-        }
     }
 }
 
