@@ -84,7 +84,14 @@ impl AlternateTime {
     fn second_beyond(&self, second: i64, forward: bool) -> Option<i64>
         ensures { IsSecondOfNearest forward (AlternateAt self.now) (IsAhead forward second) result }
     {
-        second_of(self.moment_beyond(second, forward))
+        if let Some(season) = self.season_at(second) {
+            if self.changes_in(season) {
+                if let Ok(found) = self.second_ahead(season, second, forward) {
+                    return Some(found);
+                }
+            }
+        }
+        second_of(self.moment_by_years(second, forward))
     }
 }
 

@@ -43,7 +43,7 @@ impl AlternateTime {
 
     // The moments of the second's year, if these decide at it.
     #[inline(always)]
-    fn season_at(&self, second: i64) -> Option<Season>
+    pub(super) fn season_at(&self, second: i64) -> Option<Season>
         ensures { MatchOption result ⊤
             (λ s. IsSeason self.now s × IsRuleTime second × IsDecidedIn s second) }
     {
@@ -73,7 +73,7 @@ impl AlternateTime {
     }
 
     // The nearest moment, by those of the second's year if these decide at it, or else year by year.
-    pub(super) fn moment_beyond(&self, second: i64, forward: bool) -> Option<Moment>
+    fn moment_beyond(&self, second: i64, forward: bool) -> Option<Moment>
         ensures { IsNearestMomentOf forward self.now (IsAhead forward second) result }
     {
         let Some(season) = self.season_at(second) else {
