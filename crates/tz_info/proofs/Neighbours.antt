@@ -1,8 +1,8 @@
 -- Only a year's own moments and those of its two neighbours can enclose a second of the year.
 use Rattle.tz_info.proofs.Words.{Alternate, Bool, DayTime, IsAlternateRule, IsDstAt, IsInSomeYear, IsRuleDay, IsWithinDay, IsWithinWeek, IsYearOf, ap, arith}
-use Rattle.tz_info.proofs.Words.{by_lt_z, cond, days_at_least, end_in, false, floors, inl, inr, int_le, ints, is_between, is_dst_by_one, is_in_three, le_false, le_true}
-use Rattle.tz_info.proofs.Words.{le_is, moment, neg_ℤ, not, not-false, or_cases, or_left, or_right, pos, refl, start_in, starts_rise, sym, true, year_start}
-use Rattle.tz_info.proofs.Words.{year_step, ℤ, ⊎_elim, ◌*ℤ◌, ◌+ℤ◌, ◌-ℤ◌, ◌<ℤ◌, ◌||◌, ◌∙◌, ◌≡◌, ◌≤ℤ◌, ◌⊎◌}
+use Rattle.tz_info.proofs.Words.{by_lt_z, cond, days_at_least, end_in, false, floors, inl, inr, int_le, ints, is_between, is_dst_by_one, is_in_three, le_false}
+use Rattle.tz_info.proofs.Words.{le_true, le_is, moment, neg_ℤ, not, not-false, or_cases, or_left, or_right, pos, refl, start_in, starts_rise, sym, true}
+use Rattle.tz_info.proofs.Words.{year_start, year_step, ℤ, ⊎_elim, ◌*ℤ◌, ◌+ℤ◌, ◌-ℤ◌, ◌<ℤ◌, ◌||◌, ◌∙◌, ◌≡◌, ◌≤ℤ◌, ◌⊎◌}
 use Rattle.tz_info.proofs.RuleDays.{day_within}
 
 -- the moments of each year lie less than eight days outside of it
@@ -160,7 +160,9 @@ dst_by_three starts ends year u dst near_start near_end of_second is =
     by_lt_z (ends year) (starts year)
     (λ less.
     let here = rw (le_false (starts year) (ends year) less) at is in
-    by_end starts ends year u dst (is_in_three ends starts year u) less here (three_found ends starts year u) (three_all ends starts year u near_end near_start of_second))
+    by_end starts ends year u dst (is_in_three ends starts year u) less here (three_found ends starts year u)
+    (three_all ends starts year u near_end near_start of_second))
     (λ order.
     let here = rw (le_true (starts year) (ends year) order) at is in
-    by_start starts ends year u dst order (λ t. three_found starts ends year u (sym here ∙ t)) (λ some. here ∙ three_all starts ends year u near_start near_end of_second some))
+    by_start starts ends year u dst order (λ t. three_found starts ends year u (sym here ∙ t))
+    (λ some. here ∙ three_all starts ends year u near_start near_end of_second some))

@@ -43,7 +43,7 @@ impl AlternateTime {
         })
     }
 
-    // The same where the season's moments are not enough.
+    // What the rule says of the second, if its season's moments are not enough.
     #[inline(never)]
     fn beside_by_years(&self, second: i64) -> Beside
         requires { IsRuleTime second }
@@ -79,7 +79,8 @@ impl AlternateTime {
         }
     }
 
-    // The same from the end of a season on: mostly a moment of the neighbouring year.
+    // The second of the nearest moment from the end of a season on: mostly one of the
+    // neighbouring year.
     #[inline(never)]
     fn second_beyond(&self, second: i64, forward: bool) -> Option<i64>
         ensures { IsSecondOfNearest forward (AlternateAt self.now) (IsAhead forward second) result }

@@ -7,8 +7,8 @@ ghost use Rattle.std.specs.Prelude.{◌≡◌, ◌+◌, ◌<◌, if◌then◌els
 ghost use Rattle.naive_base.specs.Year.{year_start, IsDay};
 ghost use Rattle.offset_core.specs.Offset.{IsWithinDay};
 ghost use Rattle.tz_info.specs.Rules.{IsWithinWeek};
-ghost use Rattle.tz_info.specs.Steps.Kinds.{kind_place, seconds_by_kind, is_inside, is_calm, is_calm_kind};
-ghost use Rattle.tz_info.specs.Steps.Kinds.{are_calm, margin_of, day_time_second};
+ghost use Rattle.tz_info.specs.Steps.Kinds.{kind_place, seconds_by_kind, is_inside, is_calm};
+ghost use Rattle.tz_info.specs.Steps.Kinds.{is_calm_kind, are_calm, margin_of, day_time_second};
 
 use crate::rule::day::DayTime;
 use gregorian::{is_leap_year, weekday_of};

@@ -1,7 +1,8 @@
 //! The moments of one year at which a rule's types give way to each other, and the seconds at which
 //! only these decide.
 
-ghost use Rattle.std.specs.Prelude.{◌≡◌, ◌<◌, pos, ◌+ℤ◌, int_le, IsTrue, ◌↔◌, ◌||◌, not, if◌then◌else◌};
+ghost use Rattle.std.specs.Prelude.{◌≡◌, ◌<◌, pos, ◌+ℤ◌, int_le, IsTrue, ◌↔◌, ◌||◌, not};
+ghost use Rattle.std.specs.Prelude.{if◌then◌else◌};
 ghost use Rattle.naive_base.specs.DateOf.{year_of, day_of_year};
 ghost use Rattle.naive_base.specs.Year.{floor_div, year_start, LiesIn, IsDay};
 ghost use Rattle.tz_info.specs.Rules.{IsAlternateRule};

@@ -4,4 +4,5 @@ use Rattle.tz_info.proofs.rule.alternate.AlternateTime.season_at.Goals as goal
 pub returns-then-decides : goal.returns-then-decides
 returns-then-decides c =
     let fs = c.ranges.second in
-    (c.season-season.ensures, (simp to_z-of_z at c.is_rule_time.ensures).0 c.if-not-is_rule_time.false, (simp to_z-of_z at c.decides.ensures).0 c.if-decides.true)
+    let time = (simp to_z-of_z at c.is_rule_time.ensures).0 c.if-not-is_rule_time.false in
+    (c.season-season.ensures, time, (simp to_z-of_z at c.decides.ensures).0 c.if-decides.true)

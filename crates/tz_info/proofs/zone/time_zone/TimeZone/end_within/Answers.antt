@@ -4,7 +4,8 @@ use Rattle.tz_info.proofs.zone.time_zone.TimeZone.end_within.Goals as goal
 use Rattle.tz_info.proofs.zone.time_zone.TimeZone.end_within.Goals.{After-second_by-before}
 
 -- the seconds between which a clock of the run's type shows a local time of the stretch
-between : (c : After-second_by-before) → SFits w64 c.args.from × SFits w64 c.args.until × SFits w64 c.second_by-since.result × SFits w64 c.second_by-before.result
+between : (c : After-second_by-before)
+    → SFits w64 c.args.from × SFits w64 c.args.until × SFits w64 c.second_by-since.result × SFits w64 c.second_by-before.result
     × (c.second_by-since.result ≡ c.args.from -ℤ c.next_run.result.1.now.offset) × (c.second_by-before.result ≡ c.args.until -ℤ c.next_run.result.1.now.offset)
 between c =
     let ff = c.ranges.from in let fu = c.ranges.until in
