@@ -1,10 +1,9 @@
 -- The first and the last change among seconds, and in a stretch.
 use Rattle.tz_base.specs.contracts.local_time_type.LocalTimeTypePartialEq.TheImpl.{eq-value as type_eq}
-use Rattle.tz_info.proofs.Words.{Bool, Change, HasNoChange, IfSome, IsAhead, IsChange, IsIdle, IsInStretch, IsNearest, IsOneOf}
-use Rattle.tz_info.proofs.Words.{IsStretchAhead, List, LocalType, MatchOption, None, Option, Precedes, SFits, Some, arith, by_lt_z, cases_lt, false, get_or}
-use Rattle.tz_info.proofs.Words.{inl, inr, ints, lt_false, lt_true, near_end, nearer_one, neg_ℤ, negsuc, pos, refl, subst, suc, sym, true, type_exact, w64}
-use Rattle.tz_info.proofs.Words.{zero, ℕ, ℤ, ⊎_elim}
-use Rattle.tz_info.proofs.Words.{◌+ℤ◌, ◌+◌, ◌-ℤ◌, ◌<ℤ◌, ◌∙◌, ◌↔◌, ◌≡◌, ◌≢◌, ◌≤ℤ◌, ◌⊎◌}
+use Rattle.tz_info.proofs.Words.{Bool, Change, HasNoChange, IfSome, IsAhead, IsChange, IsIdle, IsInStretch, IsNearest, IsOneOf, IsStretchAhead, List, LocalType}
+use Rattle.tz_info.proofs.Words.{MatchOption, None, Option, Precedes, SFits, Some, arith, by_lt_z, cases_lt, false, get_or, inl, inr, ints, lt_false, lt_true}
+use Rattle.tz_info.proofs.Words.{near_end, nearer_one, neg_ℤ, negsuc, pos, refl, subst, suc, sym, true, type_exact, w64, zero, ℕ, ℤ, ⊎_elim, ◌+ℤ◌, ◌+◌, ◌-ℤ◌}
+use Rattle.tz_info.proofs.Words.{◌<ℤ◌, ◌∙◌, ◌↔◌, ◌≡◌, ◌≢◌, ◌≤ℤ◌, ◌⊎◌}
 
 abbrev pub InForce : Type 1
 InForce = ℤ → LocalType → Type 0

@@ -1,9 +1,9 @@
 -- A rule's moments, counted from the first second of their year, depend on the year's kind alone.
 use Rattle.tz_info.proofs.Words.{Alternate, Bool, DayForm, DayTime, IsAlternateRule, IsRuleDay, List, and_parts, ap, are_calm, arith, by_lt_z, closed_day, cond}
 use Rattle.tz_info.proofs.Words.{day_number, day_time_second, days_in_month, days_of_months, end_in, false, floors, get_or, inl, inr, int_le, int_lt, ints}
-use Rattle.tz_info.proofs.Words.{is_calm, is_calm_kind, is_inside, is_leap, kind_place, le_false, le_true, margin_of, moment, neg_ℤ, place_by, pos, refl}
-use Rattle.tz_info.proofs.Words.{rule_day, second_in, seconds_by_kind, start_in, suc, sym, true, weekday_below, weekday_later, weekday_of, weekday_place}
-use Rattle.tz_info.proofs.Words.{year_start, zero, ℕ, ℤ, ◌%◌, ◌&&◌, ◌*ℤ◌, ◌+ℤ◌, ◌+◌, ◌-ℤ◌, ◌-◌, ◌<ℤ◌, ◌<◌, ◌∙◌, ◌≡◌, ◌≤ℤ◌, ◌⊎◌}
+use Rattle.tz_info.proofs.Words.{is_calm, is_calm_kind, is_inside, is_leap, kind_place, le_false, le_true, margin_of, moment, neg_ℤ, place_by, places_by_kind}
+use Rattle.tz_info.proofs.Words.{pos, refl, rule_day, second_in, seconds_by_kind, start_in, suc, sym, true, weekday_below, weekday_later, weekday_of}
+use Rattle.tz_info.proofs.Words.{weekday_place, year_start, zero, ℕ, ℤ, ◌%◌, ◌&&◌, ◌*ℤ◌, ◌+ℤ◌, ◌+◌, ◌-ℤ◌, ◌-◌, ◌<ℤ◌, ◌<◌, ◌∙◌, ◌≡◌, ◌≤ℤ◌, ◌⊎◌}
 use Rattle.tz_info.specs.declared.rule.day.DayForm.TheVariants.{Julian0, Julian1, MonthWeekday}
 use Rattle.tz_info.proofs.ListLaws.{one_true}
 use Rattle.tz_info.proofs.Neighbours.{IsNear, KeepsMargin, ends_near, near_margin, starts_near}
@@ -37,36 +37,29 @@ second_is : (t : DayTime) (offset year : ℤ) → IsRuleDay t.day → second_in 
 unfolding moment second_by
 second_is t offset year fits = let d = rule_day_by t.day year fits in omega (arith, floors)
 
-in_kind : (t : DayTime) (offset year : ℤ) (leap : Bool) (first : ℕ) → IsRuleDay t.day → is_leap year ≡ leap → weekday_of (year_start year) ≡ first → second_in t offset year ≡ second_by t offset leap first
-in_kind t offset year leap first fits e f = second_is t offset year fits ∙ ap (λ l. second_by t offset l (weekday_of (year_start year))) e ∙ ap (second_by t offset leap) f
-
--- what is kept for a kind of years is the second in each year of that kind
-pub second_kept : (t : DayTime) (offset year : ℤ) (leap : Bool) (first place : ℕ) (second : ℤ) → IsRuleDay t.day → is_leap year ≡ leap → weekday_of (year_start year) ≡ first → place ≡ place_by t.day leap first → second ≡ day_time_second t offset place → second ≡ second_in t offset year
-unfolding second_by
-second_kept t offset year leap first place second fits e f g h = h ∙ ap (day_time_second t offset) g ∙ sym (in_kind t offset year leap first fits e f)
-
-kind_at : (t : DayTime) (offset : ℤ) (leap : Bool) (first : ℕ) (d : ℤ) → IsRuleDay t.day → first < 7 → get_or (seconds_by_kind t offset) (cond leap 7 0 + first) d ≡ second_by t offset leap first
-unfolding seconds_by_kind year_start
-kind_at t offset false zero d fits h = in_kind t offset (pos 2017) false 0 fits refl refl
-kind_at t offset false (suc zero) d fits h = in_kind t offset (pos 2018) false 1 fits refl refl
-kind_at t offset false (suc (suc zero)) d fits h = in_kind t offset (pos 2013) false 2 fits refl refl
-kind_at t offset false (suc (suc (suc zero))) d fits h = in_kind t offset (pos 2014) false 3 fits refl refl
-kind_at t offset false (suc (suc (suc (suc zero)))) d fits h = in_kind t offset (pos 2015) false 4 fits refl refl
-kind_at t offset false (suc (suc (suc (suc (suc zero))))) d fits h = in_kind t offset (pos 2010) false 5 fits refl refl
-kind_at t offset false (suc (suc (suc (suc (suc (suc zero)))))) d fits h = in_kind t offset (pos 2011) false 6 fits refl refl
-kind_at t offset true zero d fits h = in_kind t offset (pos 2012) true 0 fits refl refl
-kind_at t offset true (suc zero) d fits h = in_kind t offset (pos 2024) true 1 fits refl refl
-kind_at t offset true (suc (suc zero)) d fits h = in_kind t offset (pos 2008) true 2 fits refl refl
-kind_at t offset true (suc (suc (suc zero))) d fits h = in_kind t offset (pos 2020) true 3 fits refl refl
-kind_at t offset true (suc (suc (suc (suc zero)))) d fits h = in_kind t offset (pos 2004) true 4 fits refl refl
-kind_at t offset true (suc (suc (suc (suc (suc zero))))) d fits h = in_kind t offset (pos 2016) true 5 fits refl refl
-kind_at t offset true (suc (suc (suc (suc (suc (suc zero)))))) d fits h = in_kind t offset (pos 2000) true 6 fits refl refl
-kind_at t offset leap (suc (suc (suc (suc (suc (suc (suc n))))))) d fits h = absurd (omega arith)
+kind_at : (t : DayTime) (offset : ℤ) (leap : Bool) (first : ℕ) (d : ℤ) → first < 7
+    → get_or (seconds_by_kind t offset) (cond leap 7 0 + first) d ≡ second_by t offset leap first
+unfolding seconds_by_kind places_by_kind second_by
+kind_at t offset false zero d h = refl
+kind_at t offset false (suc zero) d h = refl
+kind_at t offset false (suc (suc zero)) d h = refl
+kind_at t offset false (suc (suc (suc zero))) d h = refl
+kind_at t offset false (suc (suc (suc (suc zero)))) d h = refl
+kind_at t offset false (suc (suc (suc (suc (suc zero))))) d h = refl
+kind_at t offset false (suc (suc (suc (suc (suc (suc zero)))))) d h = refl
+kind_at t offset true zero d h = refl
+kind_at t offset true (suc zero) d h = refl
+kind_at t offset true (suc (suc zero)) d h = refl
+kind_at t offset true (suc (suc (suc zero))) d h = refl
+kind_at t offset true (suc (suc (suc (suc zero)))) d h = refl
+kind_at t offset true (suc (suc (suc (suc (suc zero))))) d h = refl
+kind_at t offset true (suc (suc (suc (suc (suc (suc zero)))))) d h = refl
+kind_at t offset leap (suc (suc (suc (suc (suc (suc (suc n))))))) d h = absurd (omega arith)
 
 -- the second at the place of the year's kind is the year's
 pub kind_found : (t : DayTime) (offset year d : ℤ) → IsRuleDay t.day → get_or (seconds_by_kind t offset) (kind_place year) d ≡ second_in t offset year
 kind_found t offset year d fits =
-    kind_at t offset (is_leap year) (weekday_of (year_start year)) d fits (weekday_below (year_start year)) ∙ sym (second_is t offset year fits)
+    kind_at t offset (is_leap year) (weekday_of (year_start year)) d (weekday_below (year_start year)) ∙ sym (second_is t offset year fits)
 
 -- the second at the place of the year's kind makes the year's moment, and lies near the year
 abbrev pub IsKept : ℤ → ℤ → ℤ → Type 0

@@ -1,4 +1,5 @@
 pub mod Words
+pub mod Ranges
 pub mod RuleDays
 pub mod Neighbours
 pub mod RuleLaws

@@ -1,8 +1,8 @@
 -- Only a year's own moments and those of its two neighbours can enclose a second of the year.
 use Rattle.tz_info.proofs.Words.{Alternate, Bool, DayTime, IsAlternateRule, IsDstAt, IsInSomeYear, IsRuleDay, IsWithinDay, IsWithinWeek, IsYearOf, ap, arith}
 use Rattle.tz_info.proofs.Words.{by_lt_z, cond, days_at_least, end_in, false, floors, inl, inr, int_le, ints, is_between, is_dst_by_one, is_in_three, le_false}
-use Rattle.tz_info.proofs.Words.{le_is, moment, neg_ℤ, not, not-false, or_cases, or_left, or_right, pos, refl, start_in, starts_rise, sym, true, year_start}
-use Rattle.tz_info.proofs.Words.{year_step, ℤ, ⊎_elim, ◌*ℤ◌, ◌+ℤ◌, ◌-ℤ◌, ◌<ℤ◌, ◌||◌, ◌∙◌, ◌≡◌, ◌≤ℤ◌, ◌⊎◌}
+use Rattle.tz_info.proofs.Words.{le_true, le_is, moment, neg_ℤ, not, not-false, or_cases, or_left, or_right, pos, refl, start_in, starts_rise, sym, true}
+use Rattle.tz_info.proofs.Words.{year_start, year_step, ℤ, ⊎_elim, ◌*ℤ◌, ◌+ℤ◌, ◌-ℤ◌, ◌<ℤ◌, ◌||◌, ◌∙◌, ◌≡◌, ◌≤ℤ◌, ◌⊎◌}
 use Rattle.tz_info.proofs.RuleDays.{day_within}
 
 -- the moments of each year lie less than eight days outside of it
@@ -124,14 +124,6 @@ by_end starts ends year u dst std order is found all = record {
   end_first = λ _. rw is (λ t. found (not-false std t), λ some. ap not (all some));
 }
 
-pub start_first_by_three : (starts ends : ℤ → ℤ) (year u : ℤ) (dst : Bool) → IsNear starts → IsNear ends → IsYearOf u year → starts year ≤ℤ ends year → dst ≡ is_in_three starts ends year u → IsDstAt starts ends year u dst
-start_first_by_three starts ends year u dst near_start near_end of_second order is =
-    by_start starts ends year u dst order (λ t. three_found starts ends year u (sym is ∙ t)) (λ some. is ∙ three_all starts ends year u near_start near_end of_second some)
-
-pub end_first_by_three : (starts ends : ℤ → ℤ) (year u : ℤ) (dst : Bool) → IsNear starts → IsNear ends → IsYearOf u year → ends year <ℤ starts year → dst ≡ not (is_in_three ends starts year u) → IsDstAt starts ends year u dst
-end_first_by_three starts ends year u dst near_start near_end of_second order is =
-    by_end starts ends year u dst (is_in_three ends starts year u) order is (three_found ends starts year u) (three_all ends starts year u near_end near_start of_second)
-
 one_found : (firsts lasts : ℤ → ℤ) (year u : ℤ) → is_between (firsts year) (lasts year) u ≡ true → IsInSomeYear firsts lasts u
 one_found firsts lasts year u h = let b = between_is (firsts year) (lasts year) u h in (year, b.0, b.1)
 
@@ -150,7 +142,7 @@ dst_by_one starts ends margin year own u dst start end beside same is =
     let t = le_false (starts year) (ends year) less in
     by_end starts ends own u dst (is_between (ends year) (starts year) u) (lt_is (starts own) (ends own) (same ∙ t)) (rw t at is) (one_found ends starts year u) (one_all ends starts margin year u end start beside))
     (λ order.
-    let t : int_le (starts year) (ends year) ≡ true = grind (arith, ints) in
+    let t = le_true (starts year) (ends year) order in
     let is_own = rw t at is in
     by_start starts ends own u dst (le_is (starts own) (ends own) (same ∙ t)) (λ h. one_found starts ends year u (sym is_own ∙ h)) (λ some. is_own ∙ one_all starts ends margin year u start end beside some))
 
@@ -162,12 +154,15 @@ one_answer starts ends year u true false h k = by_lt_z (ends year) (starts year)
 one_answer starts ends year u false true h k = by_lt_z (ends year) (starts year) (λ less. sym ((k.end_first less).1 ((h.end_first less).0 refl))) (λ order. (h.start_first order).1 ((k.start_first order).0 refl))
 
 -- the moments of three years decide everywhere
-pub dst_by_three : (starts ends : ℤ → ℤ) (year u : ℤ) (dst : Bool) → IsNear starts → IsNear ends → IsYearOf u year → dst ≡ cond (int_le (starts year) (ends year)) (is_in_three starts ends year u) (not (is_in_three ends starts year u)) → IsDstAt starts ends year u dst
+pub dst_by_three : (starts ends : ℤ → ℤ) (year u : ℤ) (dst : Bool) → IsNear starts → IsNear ends → IsYearOf u year
+    → dst ≡ cond (int_le (starts year) (ends year)) (is_in_three starts ends year u) (not (is_in_three ends starts year u)) → IsDstAt starts ends year u dst
 dst_by_three starts ends year u dst near_start near_end of_second is =
     by_lt_z (ends year) (starts year)
     (λ less.
-    let t : int_le (starts year) (ends year) ≡ false = grind (arith, ints) in
-    end_first_by_three starts ends year u dst near_start near_end of_second less (rw t at is))
+    let here = rw (le_false (starts year) (ends year) less) at is in
+    by_end starts ends year u dst (is_in_three ends starts year u) less here (three_found ends starts year u)
+    (three_all ends starts year u near_end near_start of_second))
     (λ order.
-    let t : int_le (starts year) (ends year) ≡ true = grind (arith, ints) in
-    start_first_by_three starts ends year u dst near_start near_end of_second order (rw t at is))
+    let here = rw (le_true (starts year) (ends year) order) at is in
+    by_start starts ends year u dst order (λ t. three_found starts ends year u (sym here ∙ t))
+    (λ some. here ∙ three_all starts ends year u near_start near_end of_second some))

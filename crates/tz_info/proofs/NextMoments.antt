@@ -1,8 +1,7 @@
 -- A rule has one type from a second on, until the next moment of three years or the year's end; and the nearest of two moments.
-use Rattle.tz_info.proofs.Words.{Alternate, AlternateAt, Bool, IsAhead, IsAlternateRule, IsDstAt, IsInSomeYear, IsNearestMoment, IsOutside, IsRuleYear}
-use Rattle.tz_info.proofs.Words.{IsYearOf, LocalType, Precedes, arith, by_lt_z, end_in, false, floor_div, floors, inl, inr, ints, le_false, le_true, lt_false}
-use Rattle.tz_info.proofs.Words.{lt_true, nearer_moment, one_year, pos, start_in, subst, sym, true, year_start, ℤ, ⊎_elim, ◌*ℤ◌, ◌+ℤ◌, ◌-ℤ◌, ◌<ℤ◌, ◌≡◌, ◌≤ℤ◌}
-use Rattle.tz_info.proofs.Words.{◌⊎◌}
+use Rattle.tz_info.proofs.Words.{Alternate, AlternateAt, Bool, IsAhead, IsAlternateRule, IsDstAt, IsInSomeYear, IsRuleYear, IsYearOf, LocalType, Precedes}
+use Rattle.tz_info.proofs.Words.{arith, cond, end_in, false, floor_div, floors, inl, inr, int_le, int_lt, ints, nearer_moment, one_year, pos, refl, start_in}
+use Rattle.tz_info.proofs.Words.{subst, sym, true, year_start, ℤ, ⊎_elim, ◌&&◌, ◌*ℤ◌, ◌+ℤ◌, ◌-ℤ◌, ◌<ℤ◌, ◌∙◌, ◌≡◌, ◌≤ℤ◌, ◌⊎◌}
 use Rattle.tz_info.proofs.Neighbours.{IsNear, ends_near, not_earlier, not_later, place, second_low, starts_near}
 
 -- in the year and in its neighbours no moment comes after u and before `next`
@@ -62,30 +61,40 @@ steady_until a year u next rule of_u later end out_start out_end = record {
 }
 
 -- ---- the nearest of two moments and a limit
-nearer : (w : Bool) (s limit m : ℤ) → IsAhead w s limit → IsNearestMoment w m m s limit (nearer_moment w s limit m)
-nearer true s limit m h = by_lt_z s m
-    (λ a. by_lt_z m limit
-    (λ b. rw (lt_true s m a, lt_true m limit b) (record { ahead = a; within = omega (arith, ints); of_first = inr (omega (arith, ints)); of_second = inr (omega (arith, ints)) }))
-    (λ b. rw (lt_true s m a, lt_false m limit b) (record { ahead = h; within = omega (arith, ints); of_first = inr b; of_second = inr b })))
-    (λ a. rw (lt_false s m a) (record { ahead = h; within = omega (arith, ints); of_first = inl a; of_second = inl a }))
-nearer false s limit m h = by_lt_z limit m
-    (λ a. by_lt_z s m
-    (λ b. rw (lt_true limit m a, le_false m s b) (record { ahead = h; within = omega (arith, ints); of_first = inl b; of_second = inl b }))
-    (λ b. rw (lt_true limit m a, le_true m s b) (record { ahead = b; within = omega (arith, ints); of_first = inr (omega (arith, ints)); of_second = inr (omega (arith, ints)) })))
-    (λ a. rw (lt_false limit m a) (record { ahead = h; within = omega (arith, ints); of_first = inr a; of_second = inr a }))
+-- `next` is ahead of s, and not beyond the limit, nor beyond those of the two moments that are ahead of s; it is one of them
+pub record IsNearestMoment (forward : Bool) (first second s limit next : ℤ) : Type 0 where
+  pub ahead : IsAhead forward s next
+  pub within : Precedes forward next limit
+  pub of_first : IsAhead forward s first → Precedes forward next first
+  pub of_second : IsAhead forward s second → Precedes forward next second
+  pub one : (next ≡ limit → ⊥) → (next ≡ first) ⊎ (next ≡ second)
 
-still_outside : (w : Bool) (m s one next : ℤ) → Precedes w next one → IsOutside w s one m → IsOutside w s next m
-still_outside true m s one next h = ⊎_elim (λ k. inl k) (λ k. inr (omega (arith, ints)))
-still_outside false m s one next h = ⊎_elim (λ k. inl k) (λ k. inr (omega (arith, ints)))
+picked : (b : Bool) (x y : ℤ) → (cond b x y ≡ x) ⊎ (cond b x y ≡ y)
+picked true x y = inl refl
+picked false x y = inr refl
 
-precedes_on : (w : Bool) (x y z : ℤ) → Precedes w x y → Precedes w y z → Precedes w x z
-precedes_on true x y z h k = omega (arith, ints)
-precedes_on false x y z h k = omega (arith, ints)
+nearer_is : (w : Bool) (s limit m : ℤ) → (nearer_moment w s limit m ≡ m) ⊎ (nearer_moment w s limit m ≡ limit)
+nearer_is true s limit m = picked (int_lt s m && int_lt m limit) m limit
+nearer_is false s limit m = picked (int_lt limit m && int_le m s) m limit
+
+one_of : (w : Bool) (first second s limit : ℤ) → (nearer_moment w s (nearer_moment w s limit first) second ≡ limit → ⊥)
+    → (nearer_moment w s (nearer_moment w s limit first) second ≡ first) ⊎ (nearer_moment w s (nearer_moment w s limit first) second ≡ second)
+one_of w first second s limit other = ⊎_elim (λ e. inr e)
+    (λ e. ⊎_elim (λ f. inl (e ∙ f)) (λ f. absurd (other (e ∙ f))) (nearer_is w s limit first)) (nearer_is w s (nearer_moment w s limit first) second)
 
 pub nearest_moment : (w : Bool) (first second s limit : ℤ) → IsAhead w s limit
     → IsNearestMoment w first second s limit (nearer_moment w s (nearer_moment w s limit first) second)
-nearest_moment w first second s limit h =
-    let one : ℤ = nearer_moment w s limit first in
-    let a = nearer w s limit first h in
-    let b = nearer w s one second a.ahead in
-    record { ahead = b.ahead; within = precedes_on w (nearer_moment w s one second) one limit b.within a.within; of_first = still_outside w first s one (nearer_moment w s one second) b.within a.of_first; of_second = b.of_first }
+nearest_moment true first second s limit h = record {
+  ahead = grind (arith, ints);
+  within = grind (arith, ints);
+  of_first = λ a. grind (arith, ints);
+  of_second = λ a. grind (arith, ints);
+  one = one_of true first second s limit;
+}
+nearest_moment false first second s limit h = record {
+  ahead = grind (arith, ints);
+  within = grind (arith, ints);
+  of_first = λ a. grind (arith, ints);
+  of_second = λ a. grind (arith, ints);
+  one = one_of false first second s limit;
+}

@@ -1,11 +1,9 @@
 -- A rule's gaps: where a season's moments decide at both seconds that could show a local time and neither does, one moment lies between them.
 use Rattle.std.specs.Prelude.{⊤}
 use Rattle.tz_info.proofs.Words.{Alternate as AlternateRule, AlternateAt, AreLess, AreLessAmong, Bool, Change, HasGap, IsAmidFrom, IsDecidedIn, IsNear}
-use Rattle.tz_info.proofs.Words.{IsNeverFrom, IsRuleGap, IsSeason, IsSeasonFor, IsSeasonIn, IsSeasonOf, IsStart, IsValid, IsWindowOf, LocalType}
-use Rattle.tz_info.proofs.Words.{MatchOption, None, Option}
-use Rattle.tz_info.proofs.Words.{Season, Some, TransitionRule, TypeAt, Zone}
-use Rattle.tz_info.proofs.Words.{ap, arith, by_lt_z, false, ints, is_dst_by_one, length, not, pos, refl, subst, sym, table_count, true, true≢false, type_when}
-use Rattle.tz_info.proofs.Words.{ℤ, ◌+ℤ◌, ◌-ℤ◌, ◌<ℤ◌, ◌∙◌, ◌≡◌, ◌≤ℤ◌}
+use Rattle.tz_info.proofs.Words.{IsNeverFrom, IsRuleGap, IsSeason, IsSeasonFor, IsSeasonIn, IsSeasonOf, IsStart, IsValid, IsWindowOf, LocalType, MatchOption}
+use Rattle.tz_info.proofs.Words.{None, Option, Season, Some, TransitionRule, TypeAt, Zone, ap, arith, by_lt_z, false, ints, is_dst_by_one, length, not, pos}
+use Rattle.tz_info.proofs.Words.{refl, subst, sym, table_count, true, true≢false, type_when, ℤ, ◌+ℤ◌, ◌-ℤ◌, ◌<ℤ◌, ◌∙◌, ◌≡◌, ◌≤ℤ◌}
 use Rattle.tz_info.specs.declared.rule.transition_rule.TransitionRule.TheVariants.{Alternate}
 use Rattle.tz_info.proofs.GapLaws.{IsNever, gap_found}
 use Rattle.tz_info.proofs.RuleChanges.{rule_type_once}

@@ -1,10 +1,10 @@
 -- A rule has one type at a second, or is refused there, and never both.
 use Rattle.tz_info.proofs.Words.{Alternate as AlternateRule, AlternateAt, Bool, IsAlternateRefused, IsAlternateRule, IsDstAt, IsRule, IsRuleRefused, IsRuleTime}
 use Rattle.tz_info.proofs.Words.{IsRuleYear, IsYearOf, LiesIn, LocalType, RuleAt, TransitionRule, ap, arith, by_lt_z, end_in, floor_div, floors, inl, inr}
-use Rattle.tz_info.proofs.Words.{is_in_three, lies_in, neg_ℤ, not, one_year, pos, refl, start_in, starts_rise, subst, sym, type_when, year_of, year_start, ℤ}
+use Rattle.tz_info.proofs.Words.{is_dst_by_three, lies_in, neg_ℤ, one_year, pos, refl, start_in, starts_rise, subst, sym, type_when, year_of, year_start, ℤ}
 use Rattle.tz_info.proofs.Words.{◌+ℤ◌, ◌∙◌, ◌≡◌, ◌≤ℤ◌, ◌⊎◌}
 use Rattle.tz_info.specs.declared.rule.transition_rule.TransitionRule.TheVariants.{Alternate, Fixed}
-use Rattle.tz_info.proofs.Neighbours.{IsNear, end_first_by_three, ends_near, one_answer, second_high, second_low, start_first_by_three, starts_near}
+use Rattle.tz_info.proofs.Neighbours.{IsNear, dst_by_three, ends_near, one_answer, second_high, second_low, starts_near}
 
 alternate_once : (a : AlternateRule) (u : ℤ) (s t : LocalType) → AlternateAt a u s → AlternateAt a u t → s ≡ t
 alternate_once a u s t h k =
@@ -23,9 +23,7 @@ rule_not_refused (Alternate a) u t h refused = refused h.year h.of_second h.insi
 -- whether it is daylight saving time has an answer in every year
 dst_decided : (starts ends : ℤ → ℤ) (year u : ℤ) → IsNear starts → IsNear ends → IsYearOf u year → (dst : Bool) × IsDstAt starts ends year u dst
 dst_decided starts ends year u near_start near_end of_second =
-    by_lt_z (ends year) (starts year)
-    (λ less. (_, end_first_by_three starts ends year u (not (is_in_three ends starts year u)) near_start near_end of_second less refl))
-    (λ order. (_, start_first_by_three starts ends year u (is_in_three starts ends year u) near_start near_end of_second order refl))
+    (is_dst_by_three starts ends year u, dst_by_three starts ends year u (is_dst_by_three starts ends year u) near_start near_end of_second refl)
 
 refused_at : (u year : ℤ) → IsYearOf u year → (IsRuleYear year → ⊥) → IsAlternateRefused u
 refused_at u year of_second out = λ other h inside. out (subst IsRuleYear (one_year (floor_div u 86_400) other year h of_second) inside)

@@ -1,8 +1,7 @@
 -- The answer of two seconds at which a season's moments decide.
 use Rattle.offset_core.specs.declared.local_result.LocalResult.TheVariants.{Ambiguous, None, Single}
-use Rattle.tz_info.proofs.Words.{Alternate as AlternateRule, AlternateAt, Bool, FitsSigned, IsAskedLast, IsDecidedIn, IsTrue, IsWallAnswer}
-use Rattle.tz_info.proofs.Words.{LocalResult, LocalType, RuleAt, Season, Shows, TransitionRule, TypeFrom, and_both, and_parts, arith, cond, false, int_le}
-use Rattle.tz_info.proofs.Words.{int_lt, ints, joined, le_is, le_true, lt_is, lt_true, not, refl, shown_if, true, type_when, w64, ℤ, ◌&&◌, ◌-ℤ◌, ◌<ℤ◌, ◌↔◌, ◌≡◌}
+use Rattle.tz_info.proofs.Words.{Alternate as AlternateRule, AlternateAt, Bool, FitsSigned, IsAskedLast, IsWallAnswer, LocalResult, LocalType, RuleAt, Shows}
+use Rattle.tz_info.proofs.Words.{TransitionRule, TypeFrom, arith, cond, false, ints, joined, not, refl, shown_if, true, type_when, w64, ℤ, ◌-ℤ◌, ◌<ℤ◌, ◌≡◌}
 use Rattle.tz_info.proofs.Words.{◌≤ℤ◌, ◌⊎◌}
 use Rattle.tz_info.proofs.Candidates.{asked_both, asked_found, asked_other}
 
@@ -37,10 +36,3 @@ both_asked rule from l x y b c less both first last at_first at_last =
     asked_both (TypeFrom rule from) l x.offset y.offset (shown_if b x) (joined (shown_if b x) (shown_if c y)) less both
     (asked_if rule from l b x y None first.fits first.since (λ e. omega (arith, ints)) at_first)
     (asked_if rule from l c y x (shown_if b x) last.fits last.since (λ e. omega (arith, ints)) at_last)
-
--- the tests of a season's ends
-pub decided_by : (s : Season) (u : ℤ) → IsTrue (int_le s.from u && int_lt u s.until) ↔ IsDecidedIn s u
-decided_by s u = (
-  λ t. let both = and_parts (int_le s.from u) (int_lt u s.until) t in (le_is s.from u both.0, lt_is u s.until both.1),
-  λ h. and_both (int_le s.from u) (int_lt u s.until) (le_true s.from u h.0) (lt_true u s.until h.1),
-)

@@ -1,97 +1,72 @@
 -- Changes of a rule where the moments of one season decide: only these come with one.
-use Rattle.tz_info.proofs.Words.{Alternate, AlternateAt, Bool, Change, HasNoChange, IsAhead, IsAmid, IsChange, IsDecidedIn, IsIdleTo, IsLimit, IsNearest}
-use Rattle.tz_info.proofs.Words.{IsNearestChange, IsNearestMoment, IsRuleTime, IsSeason, IsAheadUpTo, MatchOption, None, Option, Some, Precedes, Season, ap}
-use Rattle.tz_info.proofs.Words.{arith, by_lt_z, false, far_side}
-use Rattle.tz_info.proofs.Words.{inl, inr, int_le, int_lt, ints, is_dst_by_one, near_side, nearer_moment, neg_ℤ, pos, refl, sym, true, type_when, ℤ, ⊎_elim}
+use Rattle.tz_info.proofs.Words.{Alternate, AlternateAt, Bool, Change, HasNoChange, IsAhead, IsAheadUpTo, IsChange, IsDecidedIn, IsIdleTo, IsLimit}
+use Rattle.tz_info.proofs.Words.{IsMomentAhead, IsNearest, IsNearestChange, IsRuleTime, IsSeason, Option, Precedes, Season, ap, arith}
+use Rattle.tz_info.proofs.Words.{by_lt_z, false, far_side, inl, inr, ints, is_dst_by_one, near_side, nearer_moment, neg_ℤ, pos, sym, true, type_when, ℤ, ⊎_elim}
 use Rattle.tz_info.proofs.Words.{◌+ℤ◌, ◌-ℤ◌, ◌<ℤ◌, ◌∙◌, ◌≡◌, ◌≤ℤ◌, ◌⊎◌}
-use Rattle.std.specs.Prelude.{⊤}
 use Rattle.tz_info.proofs.ChangeSearch.{InForce, nearest_moved}
 use Rattle.tz_info.proofs.NextMoments.{nearest_moment}
 use Rattle.tz_info.proofs.RuleChanges.{rule_second, rule_type_once}
 
-pub season_kept : (a : Alternate) (season : Season) (second : ℤ) (found : Option Season) → IsSeason a season → IsRuleTime second
-    → MatchOption found ⊤ (λ s. (s ≡ season) × IsDecidedIn s second) → MatchOption found ⊤ (λ s. IsSeason a s × IsRuleTime second × IsDecidedIn s second)
-season_kept a season second None is time h = h
-season_kept a season second (Some s) is time h = (rw h.0 is, time, h.1)
-
--- ---- seconds at which neither moment comes
--- a moment that does not come at u comes before it and before the second before it, or after both
-from_alike : (m u : ℤ) → (m ≡ u → ⊥) → int_le m (u -ℤ pos 1) ≡ int_le m u
-from_alike m u not = grind (arith, ints)
-
-until_alike : (m u : ℤ) → (m ≡ u → ⊥) → int_lt (u -ℤ pos 1) m ≡ int_lt u m
-until_alike m u not = grind (arith, ints)
-
+-- ---- where neither moment comes
 dst_alike : (start end u : ℤ) → (start ≡ u → ⊥) → (end ≡ u → ⊥) → is_dst_by_one start end (u -ℤ pos 1) ≡ is_dst_by_one start end u
-dst_alike start end u h k = rw (from_alike start u h, until_alike end u k, from_alike end u k, until_alike start u h) refl
+dst_alike start end u h k = grind (arith, ints)
 
--- no change comes there
-none_aside : (a : Alternate) (s : Season) (d : Change) → IsSeason a s → IsDecidedIn s (d.at -ℤ pos 1) → IsDecidedIn s d.at → (s.turns.start ≡ d.at → ⊥) → (s.turns.end ≡ d.at → ⊥)
-    → IsChange (AlternateAt a) d → ⊥
-none_aside a s d season before here start end is =
-    let b = season.decided (d.at -ℤ pos 1) (rule_second a (d.at -ℤ pos 1) d.before is.before) before in
-    let h = season.decided d.at (rule_second a d.at d.after is.after) here in
-    is.differ (rule_type_once a (d.at -ℤ pos 1) d.before _ is.before b ∙ ap (type_when a) (dst_alike s.turns.start s.turns.end d.at start end) ∙ sym (rule_type_once a d.at d.after _ is.after h))
+-- in a season no change comes after `low`, up to `high`
+none_between : (a : Alternate) (s : Season) (low high : ℤ) → IsSeason a s → s.from ≤ℤ low → high <ℤ s.until
+    → (low <ℤ s.turns.start → s.turns.start ≤ℤ high → ⊥) → (low <ℤ s.turns.end → s.turns.end ≤ℤ high → ⊥)
+    → (d : Change) → IsChange (AlternateAt a) d → low <ℤ d.at → d.at ≤ℤ high → ⊥
+none_between a s low high season from until start end d is after most =
+    let b = season.decided (d.at -ℤ pos 1) (rule_second a (d.at -ℤ pos 1) d.before is.before) (omega (arith, ints), omega (arith, ints)) in
+    let h = season.decided d.at (rule_second a d.at d.after is.after) (omega (arith, ints), omega (arith, ints)) in
+    let alike = dst_alike s.turns.start s.turns.end d.at (λ e. start (omega (arith, ints)) (omega (arith, ints)))
+    (λ e. end (omega (arith, ints)) (omega (arith, ints))) in
+    is.differ (rule_type_once a (d.at -ℤ pos 1) d.before _ is.before b ∙ ap (type_when a) alike ∙ sym (rule_type_once a d.at d.after _ is.after h))
 
--- ---- the nearest one of them in a direction
-after_side : (m after next u : ℤ) → after <ℤ u → u <ℤ next → (m ≤ℤ after) ⊎ (next ≤ℤ m) → m ≡ u → ⊥
-after_side m after next u h k side e = ⊎_elim (λ l. omega (arith, ints)) (λ l. omega (arith, ints)) side
-
-up_to_side : (m last u until : ℤ) → last <ℤ u → u ≤ℤ until → (until <ℤ m) ⊎ (m ≤ℤ last) → m ≡ u → ⊥
-up_to_side m last u until h k side e = ⊎_elim (λ l. omega (arith, ints)) (λ l. omega (arith, ints)) side
-
-limit_ahead : (w : Bool) (s : Season) (second limit : ℤ) → IsRuleTime second → IsDecidedIn s second → IsLimit w s limit → IsAhead w second limit
-limit_ahead true s second limit time decides is =
-    let high = time.1 in let until = decides.1 in
-    let l = (is (second +ℤ pos 1)).1 (omega (arith, ints), omega (arith, ints)) in omega (arith, ints)
-limit_ahead false s second limit time decides is = (is second).1 (decides.0, time.0)
-
--- no change comes before the moment, and it is one of the season's seconds unless it is the limit
-pub record IsMomentAhead (w : Bool) (a : Alternate) (s : Season) (second limit moment : ℤ) : Type 0 where
+-- ---- the nearest moment in a direction, or the limit
+-- no change comes before it, and it is one of the season's unless it is the limit
+pub record IsNextIn (w : Bool) (a : Alternate) (s : Season) (second limit moment : ℤ) : Type 0 where
   pub idle : IsIdleTo w (AlternateAt a) second (near_side w moment)
   pub least : neg_ℤ (pos 67_768_100_504_812_800) ≤ℤ moment
-  pub amid : (moment ≡ limit → ⊥) → IsAmid s moment
+  pub ahead : (moment ≡ limit → ⊥) → IsMomentAhead w a s second moment
 
-pub moment_is : (w : Bool) (a : Alternate) (s : Season) (second limit moment : ℤ) → IsSeason a s → IsRuleTime second → IsDecidedIn s second
-    → IsLimit w s limit → IsNearestMoment w s.turns.start s.turns.end second limit moment → IsMomentAhead w a s second limit moment
-moment_is true a s second limit moment season time decides is h =
+pub next_in : (w : Bool) (a : Alternate) (s : Season) (second limit moment : ℤ) → IsSeason a s → IsRuleTime second → IsDecidedIn s second
+    → IsLimit w s limit → moment ≡ nearer_moment w second (nearer_moment w second limit s.turns.start) s.turns.end → IsNextIn w a s second limit moment
+next_in true a s second limit moment season time decides is e =
+    let t0 = time.0 in let t1 = time.1 in let d0 = decides.0 in let d1 = decides.1 in
+    let next = (is (second +ℤ pos 1)).1 (omega (arith, ints), omega (arith, ints)) in
     let (until, last) = (is limit).0 (omega (arith, ints)) in
-    let low = time.0 in let from = decides.0 in let later = h.ahead in let most = h.within in
+    let n = rw (← e) at (nearest_moment true s.turns.start s.turns.end second limit (omega (arith, ints))) in
+    let later = n.ahead in let most = n.within in let first = n.of_first in let end = n.of_second in
+    let idle : IsIdleTo true (AlternateAt a) second (moment -ℤ pos 1) = record {
+      reached = omega (arith, ints);
+      none = λ d is k. none_between a s second (moment -ℤ pos 1) season d0 (omega (arith, ints))
+          (λ l m. let p = first l in omega (arith, ints)) (λ l m. let p = end l in omega (arith, ints)) d is k.0 k.1;
+    } in
     record {
-      idle = record {
-        reached = omega (arith, ints);
-        none = λ d is_d inside.
-            let l = inside.0 in let m = inside.1 in
-            none_aside a s d season (omega (arith, ints), omega (arith, ints)) (omega (arith, ints), omega (arith, ints))
-            (after_side s.turns.start second moment d.at l (omega (arith, ints)) h.of_first) (after_side s.turns.end second moment d.at l (omega (arith, ints)) h.of_second) is_d;
-      };
+      idle = idle;
       least = omega (arith, ints);
-      amid = λ other.
+      ahead = λ other.
           let sooner : moment <ℤ limit = by_lt_z moment limit (λ k. k) (λ k. absurd (other (omega (arith, ints)))) in
-          (((omega (arith, ints), omega (arith, ints)), (omega (arith, ints), omega (arith, ints))), (omega (arith, ints), omega (arith, ints)), (omega (arith, ints), omega (arith, ints)));
+          record { idle = idle; amid = omega (arith, ints); one = n.one other };
     }
-moment_is false a s second limit moment season time decides is h =
+next_in false a s second limit moment season time decides is e =
+    let t0 = time.0 in let t1 = time.1 in let d0 = decides.0 in let d1 = decides.1 in
+    let up_to = (is second).1 (d0, t0) in
     let (from, first) = (is limit).0 (omega (arith, ints)) in
-    let high = time.1 in let until = decides.1 in let up_to = h.ahead in let fewest = h.within in
+    let n = rw (← e) at (nearest_moment false s.turns.start s.turns.end second limit up_to) in
+    let earlier = n.ahead in let fewest = n.within in let start = n.of_first in let end = n.of_second in
+    let idle : IsIdleTo false (AlternateAt a) second moment = record {
+      reached = earlier;
+      none = λ d is k. none_between a s moment second season (omega (arith, ints)) d1
+          (λ l m. let p = start m in omega (arith, ints)) (λ l m. let p = end m in omega (arith, ints)) d is k.0 k.1;
+    } in
     record {
-      idle = record {
-        reached = up_to;
-        none = λ d is_d inside.
-            let l = inside.0 in let m = inside.1 in
-            none_aside a s d season (omega (arith, ints), omega (arith, ints)) (omega (arith, ints), omega (arith, ints))
-            (up_to_side s.turns.start moment d.at second l m h.of_first) (up_to_side s.turns.end moment d.at second l m h.of_second) is_d;
-      };
+      idle = idle;
       least = omega (arith, ints);
-      amid = λ other.
+      ahead = λ other.
           let later : limit <ℤ moment = by_lt_z limit moment (λ k. k) (λ k. absurd (other (omega (arith, ints)))) in
-          (((omega (arith, ints), omega (arith, ints)), (omega (arith, ints), omega (arith, ints))), (omega (arith, ints), omega (arith, ints)), (omega (arith, ints), omega (arith, ints)));
+          record { idle = idle; amid = omega (arith, ints); one = n.one other };
     }
-
-pub moment_ahead : (w : Bool) (a : Alternate) (s : Season) (second limit moment : ℤ) → IsSeason a s → IsRuleTime second → IsDecidedIn s second
-    → IsLimit w s limit
-    → moment ≡ nearer_moment w second (nearer_moment w second limit s.turns.start) s.turns.end → IsMomentAhead w a s second limit moment
-moment_ahead w a s second limit moment season time decides is e =
-    moment_is w a s second limit moment season time decides is (rw e (nearest_moment w s.turns.start s.turns.end second limit (limit_ahead w s second limit time decides is)))
 
 -- ---- a change at the moment behind such a stretch, or none
 pub found_at : (w : Bool) (f : InForce) (second moment : ℤ) (c : Change) → IsIdleTo w f second (near_side w moment) → IsChange f c → c.at ≡ moment

@@ -1,8 +1,9 @@
 -- When clocks show the local times of a stretch: its first and its last second, from run to run, and the first second at or after a local time.
-use Rattle.tz_info.proofs.Words.{AreEndsWithin, AreNoneBefore, AreNoneFrom, AreShownWithin, IsBeyondJumps, IsFirstAtOrAfter, IsFirstWithin, IsGreatest}
-use Rattle.tz_info.proofs.Words.{IsLastWithin, IsLeast, IsNeverWithin, IsRuleOrNone, IsRunSince, IsRunUntil, IsValid, IsWindowOf, IsWithinRun}
-use Rattle.tz_info.proofs.Words.{LocalType, None, Option, SFits, ShownSeconds, Shows, ShowsAtOrAfter, ShowsWithin, Some, TypeAt, Zone, arith, by_lt_z, ints}
-use Rattle.tz_info.proofs.Words.{offsets, pos, refl, subst, w64, ℤ, ◌+ℤ◌, ◌-ℤ◌, ◌<ℤ◌, ◌↔◌, ◌≡◌, ◌≤ℤ◌}
+use Rattle.tz_info.proofs.Words.{AreEndsWithin, AreShownWithin, AreWithin, Bool, HaveOneTypeFrom, IsBeyondJumps, IsEndWithin, IsFirstAtOrAfter, Precedes}
+use Rattle.tz_info.proofs.Words.{IsFirstWithin, IsGreatest, IsLeast, IsNeverWithin, IsNextRun, IsRuleOrNone, IsValid, IsWindowOf, IsWithinRun, LocalType, None}
+use Rattle.tz_info.proofs.Words.{Option, SFits, ShownSeconds, Shows, ShowsAtOrAfter, ShowsWithin, Some, TypeAt, Zone, arith, by_lt_z, false, ints, offsets, pos}
+use Rattle.tz_info.proofs.Words.{refl, subst, true, unsigned_abs, w64, ℤ, ◌<◌, ◌+ℤ◌, ◌-ℤ◌, ◌<ℤ◌, ◌↔◌, ◌≡◌, ◌≤ℤ◌}
+use Rattle.std.specs.Prelude.{if◌then◌else◌}
 use Rattle.tz_info.proofs.ExtremeLaws.{at_least_least, at_most_greatest}
 use Rattle.tz_info.proofs.GapLaws.{near_type}
 use Rattle.tz_info.proofs.ZoneLaws.{type_once}
@@ -14,16 +15,22 @@ shown_from z from until low high u t w h = let g = at_most_greatest z u (from -�
 shown_before : (z : Zone) (from until low high u : ℤ) (t : LocalType) → IsWindowOf z from until low high → ShowsWithin (TypeAt z) from until u t → u <ℤ high
 shown_before z from until low high u t w h = let g = at_least_least z u (until -ℤ high) t w.least h.type in let s = h.before in omega (arith, ints)
 
--- ---- from the first second on
-pub first_begins : (z : Zone) (from until low high : ℤ) → IsWindowOf z from until low high → AreNoneBefore z from until low low
-first_begins z from until low high w = record { reached = omega (arith, ints); none = λ u t h. shown_from z from until low high u t w h }
+-- ---- from run to run, until one shows such a local time
+pub all_within : (z : Zone) (from until low high : ℤ) → IsWindowOf z from until low high → AreWithin z from until low high
+all_within z from until low high w = record {
+  near_low = w.near_low;
+  near_high = w.near_high;
+  within = λ u t h. (shown_from z from until low high u t w h, shown_before z from until low high u t w h);
+}
 
-pub first_ends : (z : Zone) (from until low high at : ℤ) → IsWindowOf z from until low high → AreNoneBefore z from until low at → high ≤ℤ at → IsNeverWithin (TypeAt z) from until
-first_ends z from until low high at w all h u t k = let a = all.none u t k in let b = shown_before z from until low high u t w k in omega (arith, ints)
+pub none_left : (z : Zone) (from until low high : ℤ) → AreWithin z from until low high → high ≤ℤ low → IsNeverWithin (TypeAt z) from until
+none_left z from until low high all h u t k = let w = all.within u t k in let a = w.0 in let b = w.1 in omega (arith, ints)
 
 -- in a run a second shows a local time of the stretch if and only if it lies between two seconds
-of_run : (z : Zone) (from until start end u : ℤ) (s t : LocalType) → s ≡ t → start ≤ℤ u → u <ℤ end → ShowsWithin (TypeAt z) from until u s → IsWithinRun start end (from -ℤ t.offset) (until -ℤ t.offset) u
-of_run z from until start end u s t same low high h =
+in_run : (z : Zone) (from until start end u : ℤ) (s t : LocalType) → HaveOneTypeFrom (TypeAt z) start end t → start ≤ℤ u → u <ℤ end
+    → ShowsWithin (TypeAt z) from until u s → IsWithinRun start end (from -ℤ t.offset) (until -ℤ t.offset) u
+in_run z from until start end u s t type low high h =
+    let same = type_once z u s t h.type (type u low high) in
     let since : from ≤ℤ (u +ℤ t.offset) = subst (λ (x : LocalType). from ≤ℤ (u +ℤ x.offset)) same h.since in
     let before : (u +ℤ t.offset) <ℤ until = subst (λ (x : LocalType). (u +ℤ x.offset) <ℤ until) same h.before in
     record { low = low; high = high; since = omega (arith, ints); before = omega (arith, ints) }
@@ -33,55 +40,49 @@ to_run z from until start end u t fits here h =
     let since = h.since in let before = h.before in
     record { fits = fits; type = here; since = omega (arith, ints); before = omega (arith, ints) }
 
-pub first_goes_on : (z : Zone) (from until low high at end : ℤ) (t : LocalType) → IsWindowOf z from until low high → AreNoneBefore z from until low at → IsRunUntil (TypeAt z) at high end → TypeAt z at t
-    → ((u : ℤ) → IsWithinRun at end (from -ℤ t.offset) (until -ℤ t.offset) u → ⊥) → AreNoneBefore z from until low end
-first_goes_on z from until low high at end t w all run here none = record {
-  reached = let a = all.reached in let b = run.later in omega (arith, ints);
-  none = λ u s h. by_lt_z u end
-      (λ before.
-      let since = all.none u s h in
-      absurd (none u (of_run z from until at end u s t (type_once z u s t h.type (run.same u since before t here)) since before h)))
-      (λ later. later);
+-- what the next run leaves, if it has none
+pub goes_on : (w : Bool) (z : Zone) (from until low high start end : ℤ) (t : LocalType) → AreWithin z from until low high → IsNextRun w low high start end
+    → HaveOneTypeFrom (TypeAt z) start end t → ((u : ℤ) → IsWithinRun start end (from -ℤ t.offset) (until -ℤ t.offset) u → ⊥)
+    → AreWithin z from until (if w then end else low) (if w then high else start)
+goes_on true z from until low high start end t all run type none =
+    let begins = run.0 in let some = run.1 in let most = run.2 in
+    record {
+      near_low = (omega (arith, ints, all.near_low), omega (arith, ints, all.near_high));
+      near_high = all.near_high;
+      within = λ u s h. let (since, before) = all.within u s h in
+          (by_lt_z u end (λ l. absurd (none u (in_run z from until start end u s t type (omega (arith, ints)) l h))) (λ m. m), before);
+    }
+goes_on false z from until low high start end t all run type none =
+    let ends = run.0 in let least = run.1 in let some = run.2 in
+    record {
+      near_low = all.near_low;
+      near_high = (omega (arith, ints, all.near_low), omega (arith, ints, all.near_high));
+      within = λ u s h. let (since, before) = all.within u s h in
+          (since, by_lt_z u start (λ l. l) (λ m. absurd (none u (in_run z from until start end u s t type m (omega (arith, ints)) h))));
+    }
+
+-- it leaves less
+pub leaves_less : (w : Bool) (low high start end : ℤ) → low <ℤ high → IsNextRun w low high start end
+    → unsigned_abs ((if w then high else start) -ℤ (if w then end else low)) < unsigned_abs (high -ℤ low)
+leaves_less true low high start end h run = let some = run.1 in let most = run.2 in omega (arith, ints)
+leaves_less false low high start end h run = let least = run.1 in let some = run.2 in omega (arith, ints)
+
+-- the first such second of the next run is the first of all, or the last one the last of all
+pub found_in_run : (w : Bool) (z : Zone) (from until low high start end u : ℤ) (t : LocalType) → SFits w64 u → AreWithin z from until low high
+    → IsNextRun w low high start end → HaveOneTypeFrom (TypeAt z) start end t → IsWithinRun start end (from -ℤ t.offset) (until -ℤ t.offset) u
+    → ((v : ℤ) → IsWithinRun start end (from -ℤ t.offset) (until -ℤ t.offset) v → Precedes w u v)
+    → IsEndWithin w (TypeAt z) from until u t
+found_in_run true z from until low high start end u t fits all run type is least = record {
+  shown = to_run z from until start end u t fits (type u is.low is.high) is;
+  first = λ v s h. let (since, before) = all.within v s h in let begins = run.0 in by_lt_z v end
+      (λ l. least v (in_run z from until start end v s t type (omega (arith, ints)) l h))
+      (λ m. let b = is.high in omega (arith, ints));
 }
-
-pub first_found : (z : Zone) (from until low high at end u : ℤ) (t : LocalType) → SFits w64 u → AreNoneBefore z from until low at → IsRunUntil (TypeAt z) at high end → TypeAt z at t
-    → IsWithinRun at end (from -ℤ t.offset) (until -ℤ t.offset) u → ((v : ℤ) → IsWithinRun at end (from -ℤ t.offset) (until -ℤ t.offset) v → u ≤ℤ v) → IsFirstWithin (TypeAt z) from until u t
-first_found z from until low high at end u t fits all run here is least = record {
-  shown = to_run z from until at end u t fits (run.same u is.low is.high t here) is;
-  first = λ v s h. by_lt_z v end
-      (λ before.
-      let since = all.none v s h in
-      least v (of_run z from until at end v s t (type_once z v s t h.type (run.same v since before t here)) since before h))
-      (λ later. let b = is.high in omega (arith, ints));
-}
-
--- ---- from the last second back
-pub last_begins : (z : Zone) (from until low high : ℤ) → IsWindowOf z from until low high → AreNoneFrom z from until high high
-last_begins z from until low high w = record { reached = omega (arith, ints); none = λ u t h. shown_before z from until low high u t w h }
-
-pub last_ends : (z : Zone) (from until low high end : ℤ) → IsWindowOf z from until low high → AreNoneFrom z from until high end → end ≤ℤ low → IsNeverWithin (TypeAt z) from until
-last_ends z from until low high end w all h u t k = let a = all.none u t k in let b = shown_from z from until low high u t w k in omega (arith, ints)
-
-pub last_goes_on : (z : Zone) (from until low high end start : ℤ) (t : LocalType) → AreNoneFrom z from until high end → IsRunSince (TypeAt z) (end -ℤ pos 1) low start → TypeAt z (end -ℤ pos 1) t
-    → ((u : ℤ) → IsWithinRun start end (from -ℤ t.offset) (until -ℤ t.offset) u → ⊥) → AreNoneFrom z from until high start
-last_goes_on z from until low high end start t all run here none = record {
-  reached = let a = all.reached in let b = run.earlier in omega (arith, ints);
-  none = λ u s h. by_lt_z u start
-      (λ earlier. earlier)
-      (λ since.
-      let before = all.none u s h in
-      absurd (none u (of_run z from until start end u s t (type_once z u s t h.type (run.same u since (omega (arith, ints)) t here)) since before h)));
-}
-
-pub last_found : (z : Zone) (from until low high end start u : ℤ) (t : LocalType) → SFits w64 u → AreNoneFrom z from until high end → IsRunSince (TypeAt z) (end -ℤ pos 1) low start → TypeAt z (end -ℤ pos 1) t
-    → IsWithinRun start end (from -ℤ t.offset) (until -ℤ t.offset) u → ((v : ℤ) → IsWithinRun start end (from -ℤ t.offset) (until -ℤ t.offset) v → v ≤ℤ u) → IsLastWithin (TypeAt z) from until u t
-last_found z from until low high end start u t fits all run here is greatest = record {
-  shown = let b = is.high in to_run z from until start end u t fits (run.same u is.low (omega (arith, ints)) t here) is;
-  last = λ v s h. by_lt_z v start
-      (λ earlier. let b = is.low in omega (arith, ints))
-      (λ since.
-      let before = all.none v s h in
-      greatest v (of_run z from until start end v s t (type_once z v s t h.type (run.same v since (omega (arith, ints)) t here)) since before h));
+found_in_run false z from until low high start end u t fits all run type is greatest = record {
+  shown = to_run z from until start end u t fits (type u is.low is.high) is;
+  last = λ v s h. let (since, before) = all.within v s h in let ends = run.0 in by_lt_z v start
+      (λ l. let b = is.low in omega (arith, ints))
+      (λ m. greatest v (in_run z from until start end v s t type m (omega (arith, ints)) h));
 }
 
 -- ---- there is no other answer

@@ -103,7 +103,7 @@ pub use Rattle.tz_info.specs.Spans.{IsInSpan, IsSince, IsSpan, IsSpanAt, IsUntil
 pub use Rattle.tz_info.specs.Steps.Answers.{joined, shown_if}
 pub use Rattle.tz_info.specs.Steps.Asked.{IsAskedAtLeapTime}
 pub use Rattle.tz_info.specs.Steps.Below.{all_below}
-pub use Rattle.tz_info.specs.Steps.Beside.{AreInside, IsNearestMomentOf, IsOrder, IsOrderOf, IsSecondOfNearest, change_found}
+pub use Rattle.tz_info.specs.Steps.Beside.{HasTwoChanges, IsMomentAhead, IsNearestMomentOf, IsSecondOfNearest, change_found}
 pub use Rattle.tz_info.specs.Steps.ChangeLists.{all_fit, alternate_type, change_between, change_here, changes_in, is_dst_by_three, is_rule_year, is_second}
 pub use Rattle.tz_info.specs.Steps.ChangeLists.{rule_type, rule_type_or, type_at_leap_time}
 unfoldable pub use Rattle.tz_info.specs.Steps.ChangeLists.{changes_of, seconds_between, type_or_none}
@@ -128,13 +128,14 @@ unfoldable pub use Rattle.tz_info.specs.Steps.KindPlaces.{place_by, places_by_ki
 pub use Rattle.tz_info.specs.Steps.Kinds.{day_time_second, is_calm, is_calm_kind, is_inside, kind_place, second_in}
 unfoldable pub use Rattle.tz_info.specs.Steps.Kinds.{are_calm, margin_of, seconds_by_kind}
 pub use Rattle.tz_info.specs.Steps.Merging.{IsMerged, IsNext, IsStep}
-pub use Rattle.tz_info.specs.Steps.NextMoments.{IsNearestMoment, IsOutside, nearer_moment}
+pub use Rattle.tz_info.specs.Steps.NextMoments.{nearer_moment}
 pub use Rattle.tz_info.specs.Steps.Pieces.{AreBelow, AreCutsCrossed, AreListed, ArePieces, ArePiecesAt, IsCutAt, IsCutFrom, IsFold, IsGap, IsSegment, closing}
 pub use Rattle.tz_info.specs.Steps.Pieces.{zone_in}
 pub use Rattle.tz_info.specs.Steps.RuleDays.{closed_day_is, julian_is, julian_place, number_after, weekday_at, weekday_is, weekday_place}
 unfoldable pub use Rattle.tz_info.specs.Steps.RuleDays.{closed_day}
 pub use Rattle.tz_info.specs.Steps.RuleSeconds.{AreUtOffsets, IsAskedFrom, IsAskedSince, IsSecondFrom, TypeFrom}
-pub use Rattle.tz_info.specs.Steps.Runs.{AreNoneBefore, AreNoneFrom, IsBeyondJumps, IsEnd, IsRunSince, IsRunUntil, IsWindowOf, IsWithinRun}
+pub use Rattle.tz_info.specs.Steps.Runs.{AreWithin, HaveOneTypeFrom, IsBeyondJumps, IsEnd, IsEndWithin, IsNextRun, IsRunSince, IsRunUntil, IsWindowOf}
+pub use Rattle.tz_info.specs.Steps.Runs.{IsWithinRun}
 pub use Rattle.tz_info.specs.Steps.Seasons.{IsAmid, IsAmidFrom, IsDecidedIn, IsLimit, IsSeason, IsSeasonFor, IsSeasonIn, IsSeasonOf}
 pub use Rattle.tz_info.specs.Steps.Segments.{begin_of, index_of}
 pub use Rattle.tz_info.specs.Steps.Shown.{together}
@@ -161,7 +162,6 @@ pub use Rattle.tz_info.specs.declared.file.header.Version.{Version}
 pub use Rattle.tz_info.specs.declared.file.reader.Lists.{Lists}
 pub use Rattle.tz_info.specs.declared.rule.season.Season.{Season}
 pub use Rattle.tz_info.specs.declared.rule.season.Turns.{Turns}
-pub use Rattle.tz_info.specs.declared.rule.beside.Order.{Order}
 pub use Rattle.tz_info.specs.declared.rule.day.DayForm.{DayForm}
 pub use Rattle.tz_info.specs.declared.rule.day.DayTime.{DayTime}
 pub use Rattle.tz_info.specs.declared.rule.transition_rule.TransitionRule.{TransitionRule}

@@ -1,17 +1,16 @@
 -- What a rule says of a second: the type in force, and the seconds on both sides at which clocks change.
-use Rattle.std.specs.Prelude.{◌≡◌, ◌≢◌, ◌⊎◌, Bool, true, false, ℤ, pos, neg_ℤ, ◌≤ℤ◌, ◌<ℤ◌, MatchOption, Option, option_map}
+use Rattle.std.specs.Prelude.{◌≡◌, ◌≢◌, ◌⊎◌, Bool, true, false, ℤ, MatchOption, Option, option_map}
 use Rattle.tz_base.specs.LocalTypes.{LocalType}
 use Rattle.tz_info.specs.Changes.{HasNoChange, IsChange}
 use Rattle.tz_info.specs.Moments.{AlternateAt, type_when}
 use Rattle.tz_info.specs.Rules.{Alternate}
 use Rattle.tz_info.specs.Changes.{IsNearest}
-use Rattle.tz_info.specs.Steps.Changes.{IsAhead}
+use Rattle.tz_info.specs.Steps.Changes.{IsAhead, IsIdleTo, near_side}
 use Rattle.tz_info.specs.Steps.Gaps.{moment_change}
+use Rattle.tz_info.specs.Steps.Seasons.{IsAmid}
 use Rattle.tz_base.specs.declared.change.Change.{Change}
 use Rattle.tz_info.specs.declared.rule.season.Season.{Season}
-use Rattle.tz_info.specs.declared.rule.season.Turns.{Turns}
 use Rattle.tz_info.specs.declared.rule.beside.Beside.{Beside}
-use Rattle.tz_info.specs.declared.rule.beside.Order.{Order}
 use Rattle.tz_info.specs.declared.rule.wall_clock.Moment.{Moment}
 
 -- the change at the moment that was found, if one was
@@ -37,20 +36,12 @@ pub record IsBeside (a : Alternate) (u : ℤ) (b : Beside) : Type 0 where
   pub previous : IsSecondOfNearest false (AlternateAt a) (IsAhead false u) b.previous
   pub next : IsSecondOfNearest true (AlternateAt a) (IsAhead true u) b.next
 
--- the moments of a season in their order
-abbrev pub IsOrderOf : Turns → Order → Type 0
-IsOrderOf t o = ((o.first ≡ t.start) × (o.last ≡ t.end)) ⊎ ((o.first ≡ t.end) × (o.last ≡ t.start))
+-- clocks change at each of the season's moments
+abbrev pub HasTwoChanges : Alternate → Season → Type 0
+HasTwoChanges a season = (season.turns.start ≢ season.turns.end) × (a.std ≢ a.dst)
 
--- they lie in the season one after the other, and the season in the rule's years
-pub record AreInside (s : Season) (o : Order) : Type 0 where
-  pub since : neg_ℤ (pos 67_768_100_504_812_800) ≤ℤ s.from
-  pub first : s.from <ℤ o.first
-  pub rising : o.first <ℤ o.last
-  pub last : o.last <ℤ s.until
-  pub until : s.until ≤ℤ pos 67_767_976_170_460_799
-
--- and clocks change at both
-pub record IsOrder (a : Alternate) (s : Season) (o : Order) : Type 0 where
-  pub ordered : IsOrderOf s.turns o
-  pub inside : AreInside s o
-  pub differ : a.std ≢ a.dst
+-- it is one of the season's moments, which decide there, and in that direction no change comes from the second s up to it
+pub record IsMomentAhead (forward : Bool) (a : Alternate) (season : Season) (s moment : ℤ) : Type 0 where
+  pub idle : IsIdleTo forward (AlternateAt a) s (near_side forward moment)
+  pub amid : IsAmid season moment
+  pub one : (moment ≡ season.turns.start) ⊎ (moment ≡ season.turns.end)

@@ -95,7 +95,7 @@ pub record IsNearRuleTime (near second : ℤ) : Type 0 where
   pub from : (u : ℤ) → IsRuleTime u → near ≤ℤ u → second ≤ℤ u
   pub until : (u : ℤ) → IsRuleTime u → u ≤ℤ near → u ≤ℤ second
 
--- the year so many years on in that direction
+-- the year that many years on in that direction
 abbrev pub year_at : Bool → ℤ → ℕ → ℤ
 year_at true first step = first +ℤ pos step
 year_at false first step = first -ℤ pos step
@@ -138,7 +138,7 @@ pub record IsBegin (z : Zone) (begin : ℤ) : Type 0 where
   pub comes : (place : ℕ) → place + 1 ≡ length z.transitions → ComesAt z place begin
   pub alone : length z.transitions ≡ 0 → begin ≡ neg_ℤ (pos 9_223_372_036_854_775_808)
 
--- the table's changes up to that second come with the first transitions, of which there are so many, and these come at it or
+-- the table's changes up to that second come with the first `count` transitions, and these come at it or
 -- before it
 pub record AreAhead (z : Zone) (last : ℤ) (count : ℕ) : Type 0 where
   pub within : count ≤ length z.transitions

@@ -5,7 +5,7 @@ use Rattle.tz_info.specs.Steps.RuleDays.{julian_place, weekday_place}
 use Rattle.tz_info.specs.declared.rule.day.DayForm.{DayForm}
 use Rattle.tz_info.specs.declared.rule.day.DayForm.TheVariants.{Julian1, Julian0, MonthWeekday}
 
--- the place of the week's weekday in a month of so many days that begins so many days after the year
+-- the place of the week's weekday in a month of `days` days that begins `before` days after the year
 abbrev pub weekday_place_from : ℕ → ℕ → ℕ → ℕ → ℕ → ℕ
 weekday_place_from before days first week weekday = before + weekday_place days ((first + before) % 7) week weekday
 

@@ -17,11 +17,11 @@ use Rattle.tz_info.specs.declared.rule.day.DayForm.TheVariants.{Julian1, Julian0
 abbrev pub julian_place : Bool → ℕ → ℕ
 julian_place leap n = n - 1 + (if leap && nat_le 60 n then 1 else 0)
 
--- a place in a month of so many days, or the place a week earlier if the month is too short
+-- a place in a month of `days` days, or the place a week earlier if the month is too short
 abbrev pub place_within : ℕ → ℕ → ℕ
 place_within days place = if nat_lt place days then place else place - 7
 
--- how many days come before the week's weekday, in a month of so many days that begins with the first weekday
+-- how many days come before the week's weekday, in a month of `days` days that begins with the weekday `first`
 abbrev pub weekday_place : ℕ → ℕ → ℕ → ℕ → ℕ
 weekday_place days first week weekday = place_within days ((weekday + 7 - first) % 7 + 7 * (week - 1))
 

@@ -1,10 +1,11 @@
 -- Runs of seconds at which one type is in force.
-use Rattle.std.specs.Prelude.{◌≡◌, ℤ, pos, neg_ℤ, ◌+ℤ◌, ◌-ℤ◌, ◌≤ℤ◌, ◌<ℤ◌, Option, MatchOption}
+use Rattle.std.specs.Prelude.{◌≡◌, Bool, true, false, ℤ, pos, neg_ℤ, ◌+ℤ◌, ◌-ℤ◌, ◌≤ℤ◌, ◌<ℤ◌, Option, MatchOption}
 use Rattle.tz_base.specs.LocalTypes.{LocalType}
+use Rattle.tz_info.specs.Changes.{Precedes}
 use Rattle.tz_info.specs.Leaps.{IsNear}
 use Rattle.tz_info.specs.Windows.{IsGreatest, IsLeast, offsets}
 use Rattle.tz_info.specs.Zones.{Zone, TypeAt}
-use Rattle.tz_info.specs.ShownSeconds.{ShowsWithin}
+use Rattle.tz_info.specs.ShownSeconds.{IsFirstWithin, IsLastWithin, ShowsWithin}
 
 -- from the second `at` on the type of `at` is in force before `end`; where that comes before `limit`, another one is in force then
 pub record IsRunUntil (in_force : ℤ → LocalType → Type 0) (at limit end : ℤ) : Type 0 where
@@ -26,15 +27,16 @@ pub record IsWithinRun (start end from until u : ℤ) : Type 0 where
   pub since : from ≤ℤ u
   pub before : u <ℤ until
 
--- the first such second of a run
-abbrev pub IsFirstOfRun : ℤ → ℤ → ℤ → ℤ → Option ℤ → Type 0
-IsFirstOfRun start end from until found = MatchOption found ((u : ℤ) → IsWithinRun start end from until u → ⊥)
-    (λ u. IsWithinRun start end from until u × ((v : ℤ) → IsWithinRun start end from until v → u ≤ℤ v))
+-- the first such second of a run, or the last one
+abbrev pub IsEndOfRun : Bool → ℤ → ℤ → ℤ → ℤ → Option ℤ → Type 0
+IsEndOfRun forward start end from until found = MatchOption found ((u : ℤ) → IsWithinRun start end from until u → ⊥)
+    (λ u. IsWithinRun start end from until u × ((v : ℤ) → IsWithinRun start end from until v → Precedes forward u v))
 
--- the last one
+abbrev pub IsFirstOfRun : ℤ → ℤ → ℤ → ℤ → Option ℤ → Type 0
+IsFirstOfRun = IsEndOfRun true
+
 abbrev pub IsLastOfRun : ℤ → ℤ → ℤ → ℤ → Option ℤ → Type 0
-IsLastOfRun start end from until found = MatchOption found ((u : ℤ) → IsWithinRun start end from until u → ⊥)
-    (λ u. IsWithinRun start end from until u × ((v : ℤ) → IsWithinRun start end from until v → v ≤ℤ u))
+IsLastOfRun = IsEndOfRun false
 
 -- by no type clocks show local times of the stretch before `low`, and by none from `high` on
 pub record IsWindowOf (z : Zone) (from until low high : ℤ) : Type 0 where
@@ -43,15 +45,25 @@ pub record IsWindowOf (z : Zone) (from until low high : ℤ) : Type 0 where
   pub near_low : IsNear low
   pub near_high : IsNear high
 
--- before the second `at`, which is `low` or later, none shows a local time of the stretch
-pub record AreNoneBefore (z : Zone) (from until low at : ℤ) : Type 0 where
-  pub reached : low ≤ℤ at
-  pub none : (u : ℤ) (t : LocalType) → ShowsWithin (TypeAt z) from until u t → at ≤ℤ u
+-- each second that shows a local time of the stretch comes from the near second `low` to before the near second `high`
+pub record AreWithin (z : Zone) (from until low high : ℤ) : Type 0 where
+  pub near_low : IsNear low
+  pub near_high : IsNear high
+  pub within : (u : ℤ) (t : LocalType) → ShowsWithin (TypeAt z) from until u t → (low ≤ℤ u) × (u <ℤ high)
 
--- from the second `at` on, which is `high` or earlier, none does
-pub record AreNoneFrom (z : Zone) (from until high at : ℤ) : Type 0 where
-  pub reached : at ≤ℤ high
-  pub none : (u : ℤ) (t : LocalType) → ShowsWithin (TypeAt z) from until u t → u <ℤ at
+-- of the seconds from `low` to before `high` the run has the first ones, or the last ones, and at least one
+abbrev pub IsNextRun : Bool → ℤ → ℤ → ℤ → ℤ → Type 0
+IsNextRun true low high start end = (start ≡ low) × (low <ℤ end) × (end ≤ℤ high)
+IsNextRun false low high start end = (end ≡ high) × (low ≤ℤ start) × (start <ℤ high)
+
+-- at each second from `start` to before `end` the type t is in force
+abbrev pub HaveOneTypeFrom : (ℤ → LocalType → Type 0) → ℤ → ℤ → LocalType → Type 0
+HaveOneTypeFrom in_force start end t = (u : ℤ) → start ≤ℤ u → u <ℤ end → in_force u t
+
+-- of the seconds that show a local time of the stretch u is the first or the last one, and t is its type
+abbrev pub IsEndWithin : Bool → (ℤ → LocalType → Type 0) → ℤ → ℤ → ℤ → LocalType → Type 0
+IsEndWithin true in_force from until u t = IsFirstWithin in_force from until u t
+IsEndWithin false in_force from until u t = IsLastWithin in_force from until u t
 
 -- seconds from which a type's offset leads to a second that is near: each local time, and what `IsBeyondJumps` asks for
 abbrev pub IsEnd : ℤ → Type 0

@@ -4,7 +4,8 @@
 ghost use Rattle.std.specs.Prelude.{◌≡◌, ◌≢◌, ◌≤◌, pos, ◌<ℤ◌, ◌≤ℤ◌, MatchOption, MatchResult, Some, neg_ℤ, option_map, ⊤};
 ghost use Rattle.tz_info.specs.Changes.{IsNearest, IsNearestChange};
 ghost use Rattle.tz_info.specs.Moments.{AlternateAt, IsRuleTime, type_when};
-ghost use Rattle.tz_info.specs.Steps.Beside.{IsMomentAt, IsNearestMomentOf, change_found};
+ghost use Rattle.tz_info.specs.Steps.Beside.{IsMomentAhead, IsMomentAt, IsNearestMomentOf};
+ghost use Rattle.tz_info.specs.Steps.Beside.{change_found};
 ghost use Rattle.tz_info.specs.Steps.Changes.{IsAhead, IsIdleTo, far_side, near_end, near_side};
 ghost use Rattle.tz_info.specs.Steps.Gaps.{moment_change};
 ghost use Rattle.tz_info.specs.HeldChanges.{change_held};
@@ -34,7 +35,7 @@ impl AlternateTime {
             return None;
         }
         let near = ahead.near_end(forward);
-        match ahead.moment_within(self.nearest_moment(self.season_at(near), near, forward)) {
+        match ahead.moment_within(self.nearest_moment(near, forward)) {
             Some(moment) => Some(self.change_of(moment)),
             None => None,
         }
@@ -42,30 +43,27 @@ impl AlternateTime {
 
     // The moments of the second's year, if these decide at it.
     #[inline(always)]
-    fn season_at(&self, second: i64) -> Option<Season>
+    pub(super) fn season_at(&self, second: i64) -> Option<Season>
         ensures { MatchOption result ⊤
             (λ s. IsSeason self.now s × IsRuleTime second × IsDecidedIn s second) }
     {
         if !is_rule_time(second) {
             return None;
         }
-        self.season(second).if_decides(second)
+        let season = self.season(second);
+        if season.decides(second) {
+            Some(season)
+        } else {
+            None
+        }
     }
 
-    // The nearest moment at which clocks change, by the season if it decides at the second, or else
-    // by other years.
+    // The nearest moment at which clocks change: mostly one of the second's year or the next one.
     #[inline(always)]
-    pub(super) fn nearest_moment(
-        &self,
-        season: Option<Season>,
-        second: i64,
-        forward: bool,
-    ) -> Option<Moment>
-        requires { MatchOption season ⊤
-            (λ s. IsSeason self.now s × IsRuleTime second × IsDecidedIn s second) }
+    fn nearest_moment(&self, second: i64, forward: bool) -> Option<Moment>
         ensures { IsNearestMomentOf forward self.now (IsAhead forward second) result }
     {
-        let Some(season) = season else {
+        let Some(season) = self.season_at(second) else {
             return self.moment_by_years(second, forward);
         };
         match self.moment_in_season(season, second, forward) {
@@ -98,14 +96,36 @@ impl AlternateTime {
             (moment_change self.now m))
             (IsIdleTo forward (AlternateAt self.now) second) }
     {
+        match self.second_ahead(season, second, forward) {
+            Ok(at) => match self.moment_amid(season, at) {
+                Some(moment) => Ok(moment),
+                None => Err(far_side(at, forward)),
+            },
+            Err(other) => Err(other),
+        }
+    }
+
+    // The second of the nearest one of the season's moments, or else a second up to which no change
+    // comes.
+    #[inline(always)]
+    pub(super) fn second_ahead(
+        &self,
+        season: Season,
+        second: i64,
+        forward: bool,
+    ) -> Result<i64, i64>
+        requires season { IsSeason self.now season }
+        requires time { IsRuleTime second }
+        requires decides { IsDecidedIn season second }
+        ensures { MatchResult result (IsMomentAhead forward self.now season second)
+            (IsIdleTo forward (AlternateAt self.now) second) }
+    {
         let limit = season.limit(forward);
         let at = season.turns.nearest(second, limit, forward);
         if at == limit {
-            return Err(near_side(at, forward));
-        }
-        match self.moment_amid(season, at) {
-            Some(moment) => Ok(moment),
-            None => Err(far_side(at, forward)),
+            Err(near_side(at, forward))
+        } else {
+            Ok(at)
         }
     }
 
@@ -150,6 +170,7 @@ impl AlternateTime {
 
 impl Season {
     // In that direction the end of the season's seconds in the rule's years.
+    #[tactic(auto, using(crate::proofs::Ranges::in_range))]
     fn limit(self, forward: bool) -> i64
         ensures { IsLimit forward self result }
     {

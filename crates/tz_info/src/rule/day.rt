@@ -27,7 +27,7 @@ pub enum DayForm {
     MonthWeekday(u8, u8, u8),
 }
 
-/// A day of every year on which a rule changes the clock, as `J60`, `59` or `M3.2.0` in a TZ text.
+/// A day of every year on which a rule changes the clock: `J60`, `59` or `M3.2.0` in a TZ string.
 #[derive(Clone, Copy, Debug, PartialEq, Eq)]
 pub struct RuleDay {
     pub(super) form: DayForm,

@@ -79,8 +79,8 @@ fn weekday_places(month: u32, week: u32, weekday: u32) -> [u32; 14]
     ]
 }
 
-// The place of the weekday in that week of a month of so many days, which begins so many days
-// after its year, where the year begins with the first weekday.
+// The place of the weekday in that week of a month of `days` days, which begins `before` days after
+// its year, if the year begins with the weekday `first`.
 #[inline(always)]
 fn place_from(before: u32, days: u32, first: u32, week: u32, weekday: u32) -> u32
     requires before { before < 366 }
@@ -93,8 +93,8 @@ fn place_from(before: u32, days: u32, first: u32, week: u32, weekday: u32) -> u3
     before + weekday_place(days, (first + before) % 7, week, weekday)
 }
 
-// The month and the day of the month that come so many days after the year's 1 January, up to the
-// next 1 January.
+// The month and the day of the month `place` days after the year's 1 January, up to the next
+// 1 January.
 pub(super) fn date_in_year(year: i32, place: u32) -> (usize, i64)
     requires { place ≤ 365 }
     ensures { IsWrittenDate (year_start year +ℤ pos place) year result.0 result.1 }
@@ -133,8 +133,8 @@ pub(super) fn place_in_month(year: i32, month: u32, week: u32, weekday: u32) -> 
     weekday_place(days_in_month(year, month), first, week, weekday)
 }
 
-// How many days come before the weekday of that week, in a month of so many days that begins with
-// the first weekday.
+// How many days come before the weekday of that week, in a month of `days` days that begins with
+// the weekday `first`.
 fn weekday_place(days: u32, first: u32, week: u32, weekday: u32) -> u32
     requires days_in { IsInRange 28 31 days }
     requires first_in { first < 7 }

@@ -7,8 +7,8 @@ ghost use Rattle.std.specs.Prelude.{◌≡◌, ◌+◌, ◌<◌, if◌then◌els
 ghost use Rattle.naive_base.specs.Year.{year_start, IsDay};
 ghost use Rattle.offset_core.specs.Offset.{IsWithinDay};
 ghost use Rattle.tz_info.specs.Rules.{IsWithinWeek};
-ghost use Rattle.tz_info.specs.Steps.Kinds.{kind_place, second_in, seconds_by_kind, is_inside, is_calm, is_calm_kind};
-ghost use Rattle.tz_info.specs.Steps.Kinds.{are_calm, margin_of, day_time_second};
+ghost use Rattle.tz_info.specs.Steps.Kinds.{kind_place, seconds_by_kind, is_inside, is_calm};
+ghost use Rattle.tz_info.specs.Steps.Kinds.{is_calm_kind, are_calm, margin_of, day_time_second};
 
 use crate::rule::day::DayTime;
 use gregorian::{is_leap_year, weekday_of};
@@ -44,22 +44,11 @@ impl DayTime {
         ensures { result ≡ seconds_by_kind self.now offset }
     {
         let places = self.day.places_by_kind();
-        [
-            self.second_at(offset, places[0]),
-            self.second_at(offset, places[1]),
-            self.second_at(offset, places[2]),
-            self.second_at(offset, places[3]),
-            self.second_at(offset, places[4]),
-            self.second_at(offset, places[5]),
-            self.second_at(offset, places[6]),
-            self.second_at(offset, places[7]),
-            self.second_at(offset, places[8]),
-            self.second_at(offset, places[9]),
-            self.second_at(offset, places[10]),
-            self.second_at(offset, places[11]),
-            self.second_at(offset, places[12]),
-            self.second_at(offset, places[13]),
-        ]
+        let mut seconds = [0; 14];
+        for kind in 0..14 {
+            seconds[kind] = self.second_at(offset, places[kind]);
+        }
+        seconds
     }
 
     // The second at a place, given how many days of the year come before the day.
@@ -75,6 +64,7 @@ impl DayTime {
 
 // How far inside its year each moment lies at least, where the two also come in one order in all
 // years; else how far outside of it none lies, as a number below 0.
+#[tactic(auto, unfolding(crate::specs::Steps::Kinds::margin_of))]
 pub(super) fn margin_of(starts: &[i64; 14], ends: &[i64; 14]) -> i64
     ensures { result ≡ margin_of starts.now ends.now }
 {

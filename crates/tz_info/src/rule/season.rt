@@ -1,7 +1,8 @@
 //! The moments of one year at which a rule's types give way to each other, and the seconds at which
 //! only these decide.
 
-ghost use Rattle.std.specs.Prelude.{◌≡◌, ◌<◌, pos, ◌+ℤ◌, int_le, MatchOption, ⊤, IsTrue, ◌↔◌, ◌||◌, not, if◌then◌else◌};
+ghost use Rattle.std.specs.Prelude.{◌≡◌, ◌<◌, pos, ◌+ℤ◌, int_le, IsTrue, ◌↔◌, ◌||◌, not};
+ghost use Rattle.std.specs.Prelude.{if◌then◌else◌};
 ghost use Rattle.naive_base.specs.DateOf.{year_of, day_of_year};
 ghost use Rattle.naive_base.specs.Year.{floor_div, year_start, LiesIn, IsDay};
 ghost use Rattle.tz_info.specs.Rules.{IsAlternateRule};
@@ -158,22 +159,11 @@ impl AlternateTime {
 impl Season {
     // Whether the season's moments alone decide at the second.
     #[inline(always)]
+    #[tactic(auto, using(crate::proofs::Ranges::in_range))]
     pub(crate) fn decides(self, unix_time: i64) -> bool
         ensures { IsTrue result ↔ IsDecidedIn self unix_time }
     {
         (self.from <= unix_time) & (unix_time < self.until)
-    }
-
-    // The season, if its moments alone decide at the second.
-    #[inline(always)]
-    pub(super) fn if_decides(self, unix_time: i64) -> Option<Season>
-        ensures { MatchOption result ⊤ (λ s. (s ≡ self) × IsDecidedIn s unix_time) }
-    {
-        if self.decides(unix_time) {
-            Some(self)
-        } else {
-            None
-        }
     }
 }
 
@@ -215,6 +205,7 @@ impl Turns {
 
 // Whether it is daylight saving time at the second by the moments of its year and of the years
 // before and after it.
+#[tactic(auto, using(crate::proofs::Ranges::in_range))]
 fn is_dst_by_three(before: Turns, here: Turns, after: Turns, unix_time: i64) -> bool
     ensures { result ≡ (if int_le here.start here.end
         then is_between before.start before.end unix_time
@@ -272,6 +263,7 @@ fn day_from_first(days: u64) -> i64
 // The day number of the second. Counted from the first of those years no second is negative, so
 // that one division is enough.
 #[inline(always)]
+#[tactic(auto, using(crate::proofs::Words::floors))]
 pub(super) fn day_of(unix_time: i64) -> i64
     requires { IsRuleTime unix_time }
     ensures value { result ≡ floor_div unix_time 86_400 }

@@ -77,6 +77,7 @@ impl AlternateTime {
 
     // The first moment of the stretch, or the last one, year by year. Every 400 years the rule does
     // the same, so that 401 years tell.
+    #[tactic(auto, using(crate::proofs::Ranges::in_range))]
     fn moment_in_years(&self, stretch: Stretch, forward: bool) -> Option<Moment>
         ensures { IsNearestMomentOf forward self.now (IsInStretch stretch.after stretch.last) result }
     {
@@ -168,7 +169,7 @@ impl AlternateTime {
     }
 
     // Whether it is daylight saving time at the second.
-    fn is_dst_at(&self, second: i64) -> bool
+    pub(super) fn is_dst_at(&self, second: i64) -> bool
         requires { IsRuleTime second }
         ensures { AlternateAt self.now second (type_when self.now result) }
     {
@@ -224,7 +225,7 @@ fn rule_time_near(second: i64) -> i64
     }
 }
 
-// The year that comes so many years after the first one, or before it.
+// The year that comes `step` years after the first one, or before it.
 fn year_at(first: i64, step: u32, forward: bool) -> i64
     requires first { IsRuleYear first }
     requires step { step ≤ 401 }

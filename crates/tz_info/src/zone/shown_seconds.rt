@@ -1,13 +1,15 @@
 //! When clocks show certain local times: the first and the last second of a day or of any other
 //! stretch of local time, and the first second at or after a local time.
 
-ghost use Rattle.std.specs.Prelude.{◌≡◌, pos, ◌+ℤ◌, ◌*ℤ◌, ◌-ℤ◌, ◌<ℤ◌, ◌≤ℤ◌, MatchOption};
+ghost use Rattle.std.specs.Prelude.{◌≡◌, pos, ◌+ℤ◌, ◌*ℤ◌, ◌-ℤ◌, ◌<ℤ◌, MatchOption};
+ghost use Rattle.std.specs.Prelude.{if◌then◌else◌};
 ghost use Rattle.naive_base.specs.NaiveDate.{day_of};
 ghost use Rattle.naive_base.specs.NaiveDateTime.{reading};
 ghost use Rattle.naive_base.specs.Range.{IsWide};
 ghost use Rattle.tz_info.specs.Leaps.{IsNear};
-ghost use Rattle.tz_info.specs.ShownSeconds.{IsFirstWithin, IsLastWithin, IsNeverWithin, AreShownWithin, IsFirstAtOrAfter};
-ghost use Rattle.tz_info.specs.Steps.Runs.{IsEnd, IsBeyondJumps, IsWindowOf};
+ghost use Rattle.tz_info.specs.ShownSeconds.{IsNeverWithin, AreShownWithin, IsFirstAtOrAfter};
+ghost use Rattle.tz_info.specs.Steps.Runs.{HaveOneTypeFrom, IsEnd, IsBeyondJumps, IsEndOfRun};
+ghost use Rattle.tz_info.specs.Steps.Runs.{IsEndWithin, IsNextRun, IsWindowOf};
 ghost use Rattle.tz_info.specs.Zones.{TypeAt};
 
 use crate::zone::runs::{first_of_run, last_of_run};
@@ -103,7 +105,7 @@ impl TimeZone {
         let _ = &self.table;
         let until = self.beyond_jumps(from);
         let window = self.window_of(from, until);
-        match self.first_within(from, until, window) {
+        match self.end_within(from, until, window, true) {
             Some(first) => first,
             None => unreachable!(),
         }
@@ -125,10 +127,10 @@ impl TimeZone {
         ensures { AreShownWithin (TypeAt self.now) from until result }
     {
         let window = self.window_of(from, until);
-        let Some(first) = self.first_within(from, until, window) else {
+        let Some(first) = self.end_within(from, until, window, true) else {
             return None;
         };
-        let Some(last) = self.last_within(from, until, window) else {
+        let Some(last) = self.end_within(from, until, window, false) else {
             return None;
         };
         Some(ShownSeconds { first, last })
@@ -146,57 +148,92 @@ impl TimeZone {
         }
     }
 
-    // Goes from run to run, until one shows such a local time.
-    fn first_within(&self, from: i64, until: i64, window: Window) -> Option<TypedSecond>
+    // The first second of the window that shows such a local time, or the last one: goes from run
+    // to run in that direction, until one has such a second.
+    fn end_within(
+        &self,
+        from: i64,
+        until: i64,
+        window: Window,
+        forward: bool,
+    ) -> Option<TypedSecond>
         requires from { IsEnd from }
         requires until { IsEnd until }
         requires window { IsWindowOf self.now from until window.low window.high }
         ensures { MatchOption result (IsNeverWithin (TypeAt self.now) from until)
-            (λ s. IsFirstWithin (TypeAt self.now) from until s.at s.local_time_type) }
+            (λ s. IsEndWithin forward (TypeAt self.now) from until s.at s.local_time_type) }
     {
         let _ = &self.table;
-        let mut at = window.low;
-        while at < window.high {
-            let local_type = self.type_at(at);
-            let end = self.run_until(at, window.high);
+        let mut left = window;
+        while left.low < left.high {
+            let (run, local_type) = self.next_run(left, forward);
             let since = second_by(from, local_type.offset());
             let before = second_by(until, local_type.offset());
-            if let Some(first) = first_of_run(at, end, since, before) {
+            if let Some(at) = run.end_between(since, before, forward) {
                 return Some(TypedSecond {
-                    at: first,
+                    at,
                     local_time_type: *local_type,
                 });
             }
-            at = end;
+            left = left.without(run, forward);
         }
         None
     }
 
-    // Goes back from the window's end: `end` is the second after those that are left.
-    fn last_within(&self, from: i64, until: i64, window: Window) -> Option<TypedSecond>
-        requires from { IsEnd from }
-        requires until { IsEnd until }
-        requires window { IsWindowOf self.now from until window.low window.high }
-        ensures { MatchOption result (IsNeverWithin (TypeAt self.now) from until)
-            (λ s. IsLastWithin (TypeAt self.now) from until s.at s.local_time_type) }
+    // The first run of the window, or the last one, and its type.
+    fn next_run(&self, left: Window, forward: bool) -> (Window, &LocalTimeType)
+        requires low { IsNear left.low }
+        requires high { IsNear left.high }
+        requires some { left.low <ℤ left.high }
+        ensures run { IsNextRun forward left.low left.high result.0.low result.0.high }
+        ensures one_type { HaveOneTypeFrom (TypeAt self.now)
+            result.0.low result.0.high result.1.now }
     {
         let _ = &self.table;
-        let mut end = window.high;
-        while window.low < end {
-            let last = end - 1;
-            let local_type = self.type_at(last);
-            let start = self.run_since(last, window.low);
-            let since = second_by(from, local_type.offset());
-            let before = second_by(until, local_type.offset());
-            if let Some(greatest) = last_of_run(start, end, since, before) {
-                return Some(TypedSecond {
-                    at: greatest,
-                    local_time_type: *local_type,
-                });
-            }
-            end = start;
+        if forward {
+            let run = Window {
+                low: left.low,
+                high: self.run_until(left.low, left.high),
+            };
+            (run, self.type_at(left.low))
+        } else {
+            let run = Window {
+                low: self.run_since(left.high - 1, left.low),
+                high: left.high,
+            };
+            (run, self.type_at(left.high - 1))
         }
-        None
+    }
+}
+
+impl Window {
+    // The first of its seconds, or the last one, that is `from` or later and comes before `until`.
+    fn end_between(self, from: i64, until: i64, forward: bool) -> Option<i64>
+        ensures { IsEndOfRun forward self.low self.high from until result }
+    {
+        if forward {
+            first_of_run(self.low, self.high, from, until)
+        } else {
+            last_of_run(self.low, self.high, from, until)
+        }
+    }
+
+    // What its first run leaves of it, or its last one.
+    fn without(self, run: Window, forward: bool) -> Window
+        ensures low { result.low ≡ (if forward then run.high else self.low) }
+        ensures high { result.high ≡ (if forward then self.high else run.low) }
+    {
+        if forward {
+            Window {
+                low: run.high,
+                high: self.high,
+            }
+        } else {
+            Window {
+                low: self.low,
+                high: run.low,
+            }
+        }
     }
 }
 

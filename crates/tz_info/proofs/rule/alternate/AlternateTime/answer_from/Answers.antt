@@ -59,14 +59,11 @@ answer_amid-requires-clause-season c =
       daylight = record { decided = rw sd at ((simp to_z-of_z at c.decides-then-from-by_dst.ensures).0 both.1); since = omega (arith, ints) };
     })
 
-pub returns-then-decides-clause-season : goal.returns-then-decides-clause-season
-returns-then-decides-clause-season c = let fl = c.ranges.local in let ff = c.ranges.from in simp to_z-of_z at c.answer_amid.ensures.season
-
-pub returns-then-decides-clause-found : goal.returns-then-decides-clause-found
-returns-then-decides-clause-found c = let fl = c.ranges.local in let ff = c.ranges.from in simp to_z-of_z at c.answer_amid.ensures.found
-
-pub returns-then-decides-clause-counted : goal.returns-then-decides-clause-counted
-returns-then-decides-clause-counted c = let fl = c.ranges.local in let ff = c.ranges.from in simp to_z-of_z at c.answer_amid.ensures.counted
+pub returns-then-decides : goal.returns-then-decides
+returns-then-decides c =
+    let fl = c.ranges.local in let ff = c.ranges.from in
+    let h = simp to_z-of_z at c.answer_amid.ensures in
+    record { season = h.season; found = h.found; cost = h.cost; counted = h.counted; rule = search rules }
 
 pub returns-then-standard-daylight-2 : goal.returns-then-standard-daylight-2
 returns-then-standard-daylight-2 c =

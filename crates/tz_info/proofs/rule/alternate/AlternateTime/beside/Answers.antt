@@ -1,8 +1,8 @@
 use Rattle.tz_info.proofs.Words.{to_z-of_z}
 use Rattle.tz_info.proofs.rule.alternate.AlternateTime.beside.Goals as goal
 
-pub returns-in_default : goal.returns-in_default
-returns-in_default c = let fs = c.ranges.second in simp to_z-of_z at c.beside_by_years.ensures
+pub returns-then-not-changes_in : goal.returns-then-not-changes_in
+returns-then-not-changes_in c = let fs = c.ranges.second in simp to_z-of_z at c.beside_by_years.ensures
 
 pub returns : goal.returns
 returns c =

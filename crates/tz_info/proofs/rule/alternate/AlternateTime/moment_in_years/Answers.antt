@@ -40,9 +40,7 @@ returns-then-not-is_rule_year c =
     (λ i. let t = (simp to_z-of_z at c.is_rule_year.ensures).1 (rw (simp to_z-of_z at c.year_at-year.ensures) i) in let f = c.if-not-is_rule_year.true in cc)
 
 pub nearest_in-requires : goal.nearest_in-requires
-nearest_in-requires c =
-    let (ff, fy, fn, e, i) = inside (goal.at.nearest_in-requires c).Else-not-is_rule_year in
-    simp to_z-of_z i
+nearest_in-requires c = let (ff, fy, fn, e, i) = inside (goal.at.nearest_in-requires c).Else-not-is_rule_year in simp to_z-of_z i
 
 pub returns-in-Some : goal.returns-in-Some
 returns-in-Some c =
@@ -61,12 +59,3 @@ returns c =
     let ff : SFits w64 c.rule_year_of-first.result = search rules in
     let e : c.loop-step.step ≡ 401 = omega arith in
     never c.args.self.now c.args.forward c.args.stretch.after c.args.stretch.last c.rule_year_of-first.result s (rw e at (simp to_z-of_z at c.loop-step.invariant))
-
-pub rule_year_of-first-requires : goal.rule_year_of-first-requires
-rule_year_of-first-requires c = let fs : SFits w64 c.rule_time_near-second.result = search rules in simp to_z-of_z c.rule_time_near-second.ensures.time
-
-pub year_at-year-requires-clause-first : goal.year_at-year-requires-clause-first
-year_at-year-requires-clause-first c = let ff : SFits w64 c.rule_year_of-first.result = search rules in simp to_z-of_z c.rule_year_of-first.ensures.bound
-
-pub overflow_cast-year : goal.overflow_cast-year
-overflow_cast-year c = let (ff, fy, fn, e, i) = inside (goal.at.overflow_cast-year c).Else-not-is_rule_year in simp to_z-of_z fn

@@ -12,31 +12,20 @@ reach c fg fh =
           (rw (← c.self.view_is) c.self.invariant.extremes.greatest) (rw (← c.self.view_is) c.self.invariant.extremes.least),
     )
 
-pub gap_of_jump-requires-clause-reach : goal.gap_of_jump-requires-clause-reach
-gap_of_jump-requires-clause-reach c =
+pub gap_of_jump-requires : goal.gap_of_jump-requires
+gap_of_jump-requires c =
     let fl = c.ranges.local in
     let fg : SFits w32 c.self.inside.extremes.greatest = search rules in
     let fh : SFits w32 c.self.inside.extremes.least = search rules in
-    simp to_z-of_z (reach (goal.at.gap_of_jump-requires-clause-reach c).After-self fg fh)
+    let r = reach (goal.at.gap_of_jump-requires c).After-self fg fh in
+    let shown = rw c.in-Skipped.is at c.requires.shown in
+    simp to_z-of_z (record { local = c.requires.local; never = c.requires.never; reach = r; jump = shown.side; room = c.requires.room })
 
-pub gap_of_jump-requires-clause-never : goal.gap_of_jump-requires-clause-never
-gap_of_jump-requires-clause-never c = let fl = c.ranges.local in simp to_z-of_z c.requires.never
-
-pub gap_of_jump-requires-clause-jump : goal.gap_of_jump-requires-clause-jump
-gap_of_jump-requires-clause-jump c = let fl = c.ranges.local in let shown = rw c.in-Skipped.is at c.requires.shown in simp to_z-of_z shown.side
-
-pub gap_behind_table-requires-clause-reach : goal.gap_behind_table-requires-clause-reach
-gap_behind_table-requires-clause-reach c =
+pub gap_behind_table-requires : goal.gap_behind_table-requires
+gap_behind_table-requires c =
     let fl = c.ranges.local in
     let fg : SFits w32 c.self.inside.extremes.greatest = search rules in
     let fh : SFits w32 c.self.inside.extremes.least = search rules in
-    simp to_z-of_z (reach (goal.at.gap_behind_table-requires-clause-reach c).After-self fg fh)
-
-pub gap_behind_table-requires-clause-never : goal.gap_behind_table-requires-clause-never
-gap_behind_table-requires-clause-never c = let fl = c.ranges.local in simp to_z-of_z c.requires.never
-
-pub gap_behind_table-requires-clause-less : goal.gap_behind_table-requires-clause-less
-gap_behind_table-requires-clause-less c = let fl = c.ranges.local in let shown = rw c.in-Less.is at c.requires.shown in simp to_z-of_z shown.side.0
-
-pub gap_behind_table-requires-clause-season : goal.gap_behind_table-requires-clause-season
-gap_behind_table-requires-clause-season c = let fl = c.ranges.local in simp to_z-of_z c.requires.season
+    let r = reach (goal.at.gap_behind_table-requires c).After-self fg fh in
+    let shown = rw c.in-Less.is at c.requires.shown in
+    simp to_z-of_z (record { local = c.requires.local; season = c.requires.season; never = c.requires.never; reach = r; less = shown.side.0 })
