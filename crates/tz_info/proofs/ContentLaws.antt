@@ -2,10 +2,11 @@
 use Rattle.tz_base.specs.declared.error.Error.TheVariants.{InvalidTzFile}
 use Rattle.tz_base.specs.declared.error.Expected.TheVariants.{StandardTimeWhereTimeIsUt}
 use Rattle.tz_info.proofs.Words.{Bool, Decided, IndicatorsAgree, LeapSecond, List, Ok, SpellLeapSeconds, SpellTransitions, SpellsLeapSecond, Transition}
-use Rattle.tz_info.proofs.Words.{all_below, and_parts, ap, arith, cases_lt, done, drop, exact_cut, get_or, get_or-eq_default, guard, indicators_of, inl, inr}
+use Rattle.tz_info.proofs.Words.{all_below, ap, arith, cases_lt, done, drop, exact_cut, get_or, get_or-eq_default, guard, indicators_of, inl, inr}
 use Rattle.tz_info.proofs.Words.{leap_second_in, leap_second_of, length, length-take, like, map, nat_tests, nil_from_length, not, pair_agrees, refl, said}
 use Rattle.tz_info.proofs.Words.{slice_index, subst, suc, sym, take, take-append-drop, file_time, transition_in, true, values_below, zero, ℕ, [], ◌&&◌, ◌*◌}
-use Rattle.tz_info.proofs.Words.{◌+◌, ◌<◌, ◌==◌, ◌∙◌, ◌∷◌, ◌≡◌, ◌≢◌}
+use Rattle.tz_info.proofs.Words.{◌+◌, ◌<◌, ◌==◌, ◌∷◌, ◌≡◌, ◌≢◌}
+use Rattle.tz_info.proofs.ListLaws.{one_true}
 use Rattle.tz_info.proofs.RecordLaws.{behind_first, first_and_more, first_record, next_record, records}
 
 -- ---- transitions
@@ -65,13 +66,6 @@ pub leap_seconds_law : (n w : ℕ) (part : List ℕ) → length part ≡ n * (w 
 leap_seconds_law n w part l = like (records n (w + 4) part (omega arith) l (leap_law w)) (λ leaps h. h) (λ leaps h. h) (λ e f. f.fault) (λ e f. absurd f)
 
 -- ---- indicators
-below_is : (n : ℕ) (test : ℕ → Bool) → all_below n test ≡ true → (k : ℕ) → k < n → test k ≡ true
-below_is zero test h k l = absurd (omega arith)
-below_is (suc n) test h k l = let p = and_parts (all_below n test) (test n) h in elim (cases_lt k n) as (λ _. test k ≡ true) [
-  | inl m ↦ below_is n test p.0 k m
-  | inr m ↦ let same : k ≡ n = omega arith in ap test same ∙ p.1
-]
-
 below_again : (n : ℕ) (test : ℕ → Bool) → ((k : ℕ) → k < n → test k ≡ true) → all_below n test ≡ true
 below_again zero test h = refl
 below_again (suc n) test h = rw (below_again n test (λ k l. h k (omega arith)), h n (omega arith)) refl
@@ -84,7 +78,7 @@ not_both x y h = grind (arith, nat_tests)
 
 agree_is : (s u : List ℕ) → all_below (length u) (pair_agrees s u) ≡ true → IndicatorsAgree s u
 agree_is s u h = λ k a. elim (cases_lt k (length u)) as (λ _. slice_index u k ≢ 1) [
-  | inl m ↦ pair_is s u k (below_is (length u) (pair_agrees s u) h k m) a
+  | inl m ↦ pair_is s u k (one_true (length u) k (pair_agrees s u) m h) a
   | inr m ↦ let zero_there : get_or u k 0 ≡ 0 = get_or-eq_default u 0 m in λ b. absurd (omega arith)
 ]
 

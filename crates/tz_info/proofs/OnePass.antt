@@ -1,10 +1,10 @@
 -- The pieces of the first segments, as long as the last of them has no end, and one segment more.
 use Rattle.tz_info.proofs.Words.{AreCutsCrossed, AreInOrder, AreLeapSeconds, ArePieces, ArePiecesAt, AreRising, HasType, IsCutAt, IsCutFrom, IsFold, IsGap}
-use Rattle.tz_info.proofs.Words.{IsLeapless, IsMerged, IsSegment, IsStart, IsTrue, IsTypeBefore, IsUtOffset, IsValid, Jump, LeapSecond, List, LocalType}
-use Rattle.tz_info.proofs.Words.{None as none, Option, Piece, Segment, Some as some, Transition, TransitionRule, Zone, all_pairs_push, answer_at, answer_before}
-use Rattle.tz_info.proofs.Words.{ap, arith, by_lt_z, cases_lt, get_or, get_or_default, index_of, inl, inr, int_le, ints, le_false, le_true, length, length_push}
-use Rattle.tz_info.proofs.Words.{neg_ℤ, pos, refl, saturate_signed, suc, sym, table_count, table_count_by, together, true, w64, zero, ℕ, ℤ, [], ⊎_elim, ◌++◌}
-use Rattle.tz_info.proofs.Words.{◌+ℤ◌, ◌-◌, ◌<ℤ◌, ◌<◌, ◌∙◌, ◌∷◌, ◌≡◌, ◌≤ℤ◌, ◌≤◌, ◌⊎◌}
+use Rattle.tz_info.proofs.Words.{IsLeapless, IsMerged, IsSegment, IsStart, IsTypeBefore, IsUtOffset, IsValid, Jump, LeapSecond, List, LocalType, None as none}
+use Rattle.tz_info.proofs.Words.{Option, Piece, Segment, Some as some, Transition, TransitionRule, Zone, all_pairs_push, answer_at, answer_before, ap, arith}
+use Rattle.tz_info.proofs.Words.{by_lt_z, cases_lt, get_or, get_or_default, index_of, inl, inr, ints, le_false, le_true, length, length_push, neg_ℤ, pos, refl}
+use Rattle.tz_info.proofs.Words.{saturate_signed, suc, sym, table_count, table_count_by, together, w64, zero, ℕ, ℤ, [], ⊎_elim, ◌++◌, ◌+ℤ◌, ◌-◌, ◌<ℤ◌, ◌<◌, ◌∙◌}
+use Rattle.tz_info.proofs.Words.{◌∷◌, ◌≡◌, ◌≤ℤ◌, ◌≤◌, ◌⊎◌}
 use Rattle.tz_info.specs.declared.zone.shown.Shown.TheVariants.{Less, Once, Skipped}
 use Rattle.tz_info.proofs.LeapStarts.{reached_first}
 use Rattle.tz_info.proofs.WallPieces.{Answer, StartBy, at_all, at_earlier, at_later, before_pushed, start_by_push}
@@ -17,12 +17,6 @@ use Rattle.tz_info.proofs.WallSegments.{start_found, type_own}
 pub start_leapless : (ts : List Transition) (es : List LeapSecond) (count : ℕ) (d : Transition) → AreLeapSeconds es → AreRising ts → 0 < count → count ≤ length ts → IsLeapless ts es → IsStart ts es count (get_or ts (count - 1) d).unix_leap_time
 start_leapless ts es count d valid rising any h leapless = let none = leapless.none in start_found ts es count d (get_or ts (count - 1) d).unix_leap_time rising any h (λ u y near l.
     reached_first es (get_or ts (count - 1) d).unix_leap_time u y valid (record { within = omega arith; before = λ k d h. absurd (omega arith); after = λ k d h m. absurd (omega arith) }) l)
-
-pub at_least : (x : ℤ) → int_le (neg_ℤ (pos 4_611_686_018_427_387_904)) x ≡ true → neg_ℤ (pos 4_611_686_018_427_387_904) ≤ℤ x
-at_least x h = grind (arith, ints)
-
-pub at_most : (x : ℤ) → IsTrue (int_le x (pos 4_611_686_018_427_387_904)) → x ≤ℤ pos 4_611_686_018_427_387_904
-at_most x h = grind (arith, ints)
 
 -- all times lie from the first to the last
 pub leapless_between : (ts : List Transition) (es : List LeapSecond) (d : Transition) → AreRising ts → length es ≡ 0 → 0 < length ts

@@ -3,9 +3,10 @@ use Rattle.tz_base.specs.declared.error.Error.TheVariants.{FindLocalTimeType}
 use Rattle.tz_base.specs.declared.error.Expected.TheVariants.{YearThatRuleAnswersIn}
 use Rattle.tz_info.proofs.Words.{Err, Error, HasType, HaveComeAt, IsFromLast, IsLastOf, IsLeapTime, IsRefusedBy, IsTypeError, IsValid, List, LocalType}
 use Rattle.tz_info.proofs.Words.{MatchOption, MatchResult, None, Ok, Option, Result, RuleOrType, Some, Transition, TypeAt, TypeAtLeapTime, Zone, ap, arith}
-use Rattle.tz_info.proofs.Words.{by_rule, cases_lt, get_or, index_at, inl, inr, leap_time_at, length, length-take, passed, refl, suc, sym, take, ℕ, ℤ}
-use Rattle.tz_info.proofs.Words.{[], ◌-◌, ◌<◌, ◌∙◌, ◌∷◌, ◌≡◌, ◌≤◌}
+use Rattle.tz_info.proofs.Words.{by_rule, cases_lt, get_or, index_at, inl, inr, leap_time_at, length, length-take, passed, refl, suc, sym, take, ℕ, ℤ, ◌-◌, ◌<◌}
+use Rattle.tz_info.proofs.Words.{◌∙◌, ◌≡◌, ◌≤◌}
 use Rattle.tz_info.proofs.Prefixes.{last_taken}
+pub use Rattle.tz_info.proofs.Words.{nil_from_length as no_items}
 
 -- it names the type of the last of n transitions, or there is none
 abbrev pub NamesLast : List Transition → ℕ → Option Transition → Type 0
@@ -76,10 +77,6 @@ at_last view z u n d (Ok t) c h k = record {
   from_last = λ _. rw c.named.0 k;
 }
 at_last view z u n d (Err e) c h k = let w = c.within in let come = c.come in (k.0, omega arith, k.1)
-
-pub no_items : {X : Type 0} (xs : List X) → length xs ≡ 0 → xs ≡ []
-no_items [] h = refl
-no_items (x ∷ xs) h = absurd (omega arith)
 
 -- without transitions the rule is asked, or there is none
 pub without_transitions : {T : Type 0} (view : T → LocalType) (z : Zone) (u : ℤ) (r : Result T Error) → length z.transitions ≡ 0

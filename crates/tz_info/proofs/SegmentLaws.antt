@@ -6,7 +6,7 @@ use Rattle.tz_info.proofs.Words.{◌≤◌}
 use Rattle.tz_info.proofs.LeapOrder.{leap_sums_rise}
 use Rattle.tz_info.proofs.PassedTransitions.{no_items}
 use Rattle.tz_info.proofs.Prefixes.{last_taken}
-use Rattle.tz_info.proofs.TableSearch.{Between, all_between, search_found}
+use Rattle.tz_info.proofs.TableSearch.{Between, search_found}
 
 -- where the first transition comes later, all do
 all_later : (t : Transition) (ts : List Transition) (x : ℤ) → AreRising (t ∷ ts) → x <ℤ t.unix_leap_time → (k : ℕ) (d : Transition) → 0 ≤ k → k < length (t ∷ ts) → x <ℤ (get_or (t ∷ ts) k d).unix_leap_time
@@ -23,7 +23,7 @@ others_later t ts x n b (suc k) d a l = b.above k d (omega arith) (omega arith)
 
 -- transitions that rise are split by a leap time
 pub split_at : (ts : List Transition) (x : ℤ) → AreRising ts → (n : ℕ) × Between ts x n n
-split_at [] x r = (0, all_between [] x)
+split_at [] x r = (0, record { ordered = omega arith; within = omega arith; below = λ k d h. absurd (omega arith); above = λ k d h l. absurd (omega arith) })
 split_at (t ∷ ts) x r = by_lt_z x t.unix_leap_time
     (λ later. (0, record { ordered = omega arith; within = omega arith; below = λ k d h. absurd (omega arith); above = all_later t ts x r later }))
     (λ come.
