@@ -1,5 +1,5 @@
 -- The least and the greatest of some offsets.
-use Rattle.tz_info.proofs.Words.{All, All-push, All-contains, AreExtremes, AreJoined, AreJoinedByRule, Contains, Contains-append_left, Contains-append_right}
+use Rattle.tz_info.proofs.Words.{All-push, All-contains, AreExtremes, AreJoined, AreJoinedByRule, Contains, Contains-append_left, Contains-append_right}
 use Rattle.tz_info.proofs.Words.{Contains-push, Extremes, IsEnd, IsGreatest, IsLeast, IsTypeOf, IsWindowOf, List, SFits, subst, w32, ◌-ℤ◌, LocalType, None}
 use Rattle.tz_info.proofs.Words.{Option, Some, TransitionRule, TypeAt, Zone, append_assoc, arith, get_or, get_or-map, inl, inr, ints, length, length-map}
 use Rattle.tz_info.proofs.Words.{offsets, offsets_of, refl, rule_offsets, slice_get, slice_get-get_or, sym, ℕ, ℤ, [], ◌++◌, ◌+◌, ◌<◌, ◌∙◌, ◌∷◌, ◌≡◌, ◌≤ℤ◌, ◌≤◌}
@@ -8,9 +8,6 @@ use Rattle.tz_info.specs.declared.rule.transition_rule.TransitionRule.TheVariant
 use Rattle.std.proofs.lemmas.List.{map-append}
 use Rattle.tz_info.proofs.Candidates.{one_of_two}
 use Rattle.tz_info.proofs.ZoneLaws.{type_listed}
-
-all_weaker : (P Q : ℤ → Type 0) (xs : List ℤ) → ((x : ℤ) → P x → Q x) → All P xs → All Q xs
-all_weaker P Q xs w a = λ k d l. w _ (a k d l)
 
 pushed : (xs : List ℤ) (x y o : ℤ) → Contains xs x → (y ≡ x) ⊎ (y ≡ o) → Contains (xs ++ o ∷ []) y
 pushed xs x y o c (inl e) = rw e (Contains-append_left xs (o ∷ []) x c)
@@ -21,11 +18,11 @@ pub joined : (xs : List ℤ) (e : Extremes) (o : ℤ) (r : Extremes) → AreExtr
 joined xs e o r a j = record {
   greatest = record {
     among = pushed xs e.greatest r.greatest o a.greatest.among j.greatest_from;
-    most = All-push (λ x. x ≤ℤ r.greatest) xs o (all_weaker (λ x. x ≤ℤ e.greatest) (λ x. x ≤ℤ r.greatest) xs (λ x h. let m = j.most in omega (arith, ints)) a.greatest.most) j.most_here;
+    most = All-push (λ x. x ≤ℤ r.greatest) xs o (λ k d l. let h = a.greatest.most k d l in let m = j.most in omega (arith, ints)) j.most_here;
   };
   least = record {
     among = pushed xs e.least r.least o a.least.among j.least_from;
-    fewest = All-push (λ x. r.least ≤ℤ x) xs o (all_weaker (λ x. e.least ≤ℤ x) (λ x. r.least ≤ℤ x) xs (λ x h. let m = j.fewest in omega (arith, ints)) a.least.fewest) j.fewest_here;
+    fewest = All-push (λ x. r.least ≤ℤ x) xs o (λ k d l. let h = a.least.fewest k d l in let m = j.fewest in omega (arith, ints)) j.fewest_here;
   };
 }
 

@@ -5,6 +5,7 @@ use Rattle.tz_info.proofs.Words.{Err, Error, HasType, HaveComeAt, IsFromLast, Is
 use Rattle.tz_info.proofs.Words.{MatchOption, MatchResult, None, Ok, Option, Result, RuleOrType, Some, Transition, TypeAt, TypeAtLeapTime, Zone, ap, arith}
 use Rattle.tz_info.proofs.Words.{by_rule, cases_lt, get_or, index_at, inl, inr, leap_time_at, length, length-take, passed, refl, suc, sym, take, ℕ, ℤ, ◌-◌, ◌<◌}
 use Rattle.tz_info.proofs.Words.{◌∙◌, ◌≡◌, ◌≤◌}
+use Rattle.std.proofs.lemmas.Option.{same_Some}
 use Rattle.tz_info.proofs.Prefixes.{last_taken}
 pub use Rattle.tz_info.proofs.Words.{nil_from_length as no_items}
 
@@ -19,11 +20,9 @@ last_named ts n None l = elim (cases_lt 0 n) [
   | inr h ↦ omega arith
 ]
 last_named ts n (Some t) l = elim (cases_lt 0 n) [
-  | inl h ↦ let s = l.some h in let e : t ≡ s.0 = some_is t s.0 s.1 in (h, ap (λ (k : Transition). k.type_index) (rw (← e) at s.2))
+  | inl h ↦ let s = l.some h in let e : t ≡ s.0 = same_Some t s.0 s.1 in (h, ap (λ (k : Transition). k.type_index) (rw (← e) at s.2))
   | inr h ↦ let s = l.none (omega arith) in absurd cc
-] where
-  some_is : (a b : Transition) → Some a ≡ Some b → a ≡ b
-  some_is a b e = cc
+]
 
 -- the first n transitions come at or before the leap time x
 index_named : (z : Zone) (x : ℤ) (n : ℕ) (latest : Option Transition)

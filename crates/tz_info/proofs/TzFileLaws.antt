@@ -7,6 +7,7 @@ use Rattle.tz_info.proofs.Words.{IsOutOfMemory, IsTzFile, IsValid, IsZoneFault, 
 use Rattle.tz_info.proofs.Words.{Option, PieceFault, Reads, Result, SayZone, Some, SpellTransitions, SpellTypes, TimeZone, Transition, TransitionRule, Zone, ap}
 use Rattle.tz_info.proofs.Words.{apart, arith, bind, done, either, error_number, fault_low as low, fault_once as one_fault, file_at, footer_of, inl, inr, like}
 use Rattle.tz_info.proofs.Words.{lists_in, made, pieces_at, refl, subst, sym, value_once, with_rule, with_types, zone_of_lists, ℕ, ◌≡◌, ◌≤◌, ◌⊎◌}
+use Rattle.std.proofs.lemmas.Option.{same_Some}
 use Rattle.tz_info.proofs.ContentLaws.{indicators_law, leap_seconds_law, transitions_law}
 use Rattle.tz_info.proofs.FilePieceLaws.{has_lengths, pieces_law}
 use Rattle.tz_info.proofs.FooterLaws.{footer_law as footer_bytes_law}
@@ -19,10 +20,7 @@ RuleFault extended footer e = (bytes : List ℕ) × (footer ≡ Some bytes) × F
 
 footer_law : (extended : Bool) (footer : Option (List ℕ)) → Decided (Option TransitionRule) (footer_of extended footer) (HasRule extended footer) (RuleFault extended footer)
 footer_law extended None = like (done None) (λ rule h. sym h) (λ rule h. sym h) (λ n f. absurd f) (λ n f. let e = f.1 in cc)
-footer_law extended (Some bytes) = like (footer_bytes_law extended bytes) (λ rule h. h) (λ rule h. h) (λ n f. (bytes, refl, f)) (λ n f. subst (λ b. FooterFault extended b n) (sym (same bytes f.0 f.1)) f.2)
-  where
-    same : (a b : List ℕ) → Some a ≡ Some b → a ≡ b
-    same a b e = cc
+footer_law extended (Some bytes) = like (footer_bytes_law extended bytes) (λ rule h. h) (λ rule h. h) (λ n f. (bytes, refl, f)) (λ n f. subst (λ b. FooterFault extended b n) (sym (same_Some bytes f.0 f.1)) f.2)
 
 abbrev zone_in : List LocalType → Option TransitionRule → List Transition → List LeapSecond → Zone
 zone_in types rule transitions leaps = record { transitions = transitions; types = types; leaps = leaps; rule = rule }
