@@ -1,9 +1,9 @@
 -- What hints say of a search.
-use Rattle.tz_timeline.proofs.Words.{AreEnds, AreFilled, AreHints, AreMarked, AreOrdered, AreRaised, AreRaisedUntil, Ends, Hints, IsHinted, IsLastBefore}
-use Rattle.tz_timeline.proofs.Words.{IsNarrowedTo, List, Near, ap, arith, cases_eq, cases_lt, div-lt_iff_lt-mul, div-mul-le_self, get_or-set_at}
-use Rattle.tz_timeline.proofs.Words.{get_or-set_other, inl, inr, ints, item_time, length, length-set, lt-suc_self, max, mul-le-mul_right, nat_abs, nat_cmp}
-use Rattle.tz_timeline.proofs.Words.{negsuc, ord_max, pos, pow_pos, refl, set, shr_mono, slice_index, stretch_of, suc, sym, ℕ, ℤ, ◌*◌, ◌+ℤ◌, ◌+◌, ◌-ℤ◌, ◌-◌}
-use Rattle.tz_timeline.proofs.Words.{◌/◌, ◌<ℤ◌, ◌<◌, ◌^◌, ◌∙◌, ◌≡◌, ◌≢◌, ◌≤ℤ◌, ◌≤◌, ◌⊎◌}
+use Rattle.tz_timeline.proofs.Words.{AreEnds, AreHints, AreMarked, AreOrdered, AreRaised, AreRaisedUntil, Ends, Hints, IsHinted, IsLastBefore, IsNarrowedTo}
+use Rattle.tz_timeline.proofs.Words.{List, Near, ap, arith, cases_eq, cases_lt, div-lt_iff_lt-mul, div-mul-le_self, get_or-set_at, get_or-set_other, inl, inr}
+use Rattle.tz_timeline.proofs.Words.{ints, item_time, length, length-set, lt-suc_self, max, mul-le-mul_right, nat_abs, nat_cmp, negsuc, ord_max, pos, pow_pos}
+use Rattle.tz_timeline.proofs.Words.{refl, set, shr_mono, slice_index, stretch_of, suc, sym, ℕ, ℤ, ◌*◌, ◌+ℤ◌, ◌+◌, ◌-ℤ◌, ◌-◌, ◌/◌, ◌<ℤ◌, ◌<◌, ◌^◌, ◌∙◌, ◌≡◌}
+use Rattle.tz_timeline.proofs.Words.{◌≢◌, ◌≤ℤ◌, ◌≤◌, ◌⊎◌}
 use Rattle.tz_timeline.proofs.SearchSteps.{not_before}
 
 -- the seconds of a stretch
@@ -195,12 +195,10 @@ raising_more before after most most_after greatest n here r h is_here is_most =
     }
 
 -- the hints at items, by the places that were filled in
-pub hints_made : (times : List ℤ) (hints : Hints) (first : ℤ) (span most : ℕ) (before : List ℕ) → AreOrdered times → 4 ≤ length times → hints.shift < 64 → first ≡ item_time times 0 → pos span ≡ item_time times (length times - 1) -ℤ first
-    → length before ≡ span / 2 ^ hints.shift + 2 → AreFilled times first hints.shift before hints.places.items most → 2 * (most + 1) ≤ length times → AreHints times hints
-hints_made times hints first span most before ordered many shift from is long filled narrow =
-    let r = filled.are_raised in
+pub hints_made : (times : List ℤ) (hints : Hints) (first : ℤ) (span most : ℕ) (marked : List ℕ) → AreOrdered times → 4 ≤ length times → hints.shift < 64 → first ≡ item_time times 0 → pos span ≡ item_time times (length times - 1) -ℤ first
+    → length marked ≡ span / 2 ^ hints.shift + 2 → AreMarked times first hints.shift (length times) marked → AreRaised marked hints.places.items most → 2 * (most + 1) ≤ length times → AreHints times hints
+hints_made times hints first span most marked ordered many shift from is long m r narrow =
     let c = r.count in
-    let d = filled.count in
     record {
       shift = shift;
       rising = λ b h.
@@ -208,10 +206,10 @@ hints_made times hints first span most before ordered many shift from is long fi
           let a = r.above (suc b) s.0 (omega arith) (let j = s.1 in omega arith) in
           let e = s.2 in
           omega arith;
-      places = λ b h. rw (← from) (last_before times first hints.shift filled.marked hints.places.items most b (pow_pos hints.shift)
+      places = λ b h. rw (← from) (last_before times first hints.shift marked hints.places.items most b (pow_pos hints.shift)
           (λ k l. first_least times first k ordered from l)
           (λ k l. let s = slots times first span hints.shift k ordered from is l in omega arith)
-          (omega arith) filled.are_marked r (omega arith));
+          (omega arith) m r (omega arith));
       some = λ h. many;
       narrow = λ b h. let s = r.steps b (omega arith) in omega arith;
     }
