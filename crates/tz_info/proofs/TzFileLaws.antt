@@ -3,9 +3,9 @@ use Rattle.tz_base.specs.declared.error.Error.TheVariants.{InvalidTzFile, OutOfM
 use Rattle.tz_base.specs.declared.error.Expected.TheVariants.{StandardTimeWhereTimeIsUt}
 use Rattle.tz_info.proofs.Words.{Bool, ContentFault, Decided, Err, Error, FilePieces, FooterFault, GivesInMemory, HasLengths, HasPieces, HasRule, HasTypeFault}
 use Rattle.tz_info.proofs.Words.{IfErr, IfOk, In_contents, In_file, In_footer, In_indicators, In_piece, In_type, IndicatorsAgree, IsErrAnd, IsFileFault}
-use Rattle.tz_info.proofs.Words.{IsOutOfMemory, IsTzFile, IsValid, IsZoneFault, LeapSecond, List, ListFault, Lists, LocalType, No_memory, None, Not_valid, Ok}
-use Rattle.tz_info.proofs.Words.{Option, PieceFault, Reads, Result, SayZone, Some, SpellTransitions, SpellTypes, TimeZone, Transition, TransitionRule, Zone, ap}
-use Rattle.tz_info.proofs.Words.{apart, arith, bind, done, either, error_number, fault_low as low, fault_once as one_fault, file_at, footer_of, inl, inr, like}
+use Rattle.tz_info.proofs.Words.{IsOutOfMemory, IsTzFile, IsValid, IsZoneFault, List, ListFault, Lists, LocalType, No_memory, None, Not_valid, Ok, Option}
+use Rattle.tz_info.proofs.Words.{PieceFault, Reads, Result, SayZone, Some, SpellTransitions, SpellTypes, TimeZone, Transition, TransitionRule, Zone, ap, apart}
+use Rattle.tz_info.proofs.Words.{arith, bind, done, either, error_number, fault_low as low, fault_once as one_fault, file_at, footer_of, inl, inr, like}
 use Rattle.tz_info.proofs.Words.{lists_in, made, pieces_at, refl, subst, sym, value_once, with_rule, with_types, zone_of_lists, ℕ, ◌≡◌, ◌≤◌, ◌⊎◌}
 use Rattle.std.proofs.lemmas.Option.{same_Some}
 use Rattle.tz_info.proofs.ContentLaws.{indicators_law, leap_seconds_law, transitions_law}
@@ -21,9 +21,6 @@ RuleFault extended footer e = (bytes : List ℕ) × (footer ≡ Some bytes) × F
 footer_law : (extended : Bool) (footer : Option (List ℕ)) → Decided (Option TransitionRule) (footer_of extended footer) (HasRule extended footer) (RuleFault extended footer)
 footer_law extended None = like (done None) (λ rule h. sym h) (λ rule h. sym h) (λ n f. absurd f) (λ n f. let e = f.1 in cc)
 footer_law extended (Some bytes) = like (footer_bytes_law extended bytes) (λ rule h. h) (λ rule h. h) (λ n f. (bytes, refl, f)) (λ n f. subst (λ b. FooterFault extended b n) (sym (same_Some bytes f.0 f.1)) f.2)
-
-abbrev zone_in : List LocalType → Option TransitionRule → List Transition → List LeapSecond → Zone
-zone_in types rule transitions leaps = record { transitions = transitions; types = types; leaps = leaps; rule = rule }
 
 abbrev ReadFault : FilePieces → Error → Type 0
 ReadFault p n =
@@ -55,7 +52,7 @@ say_law p l = like
     bind (indicators_law p.parts.standard_wall p.parts.ut_local) (λ _ _.
     bind (footer_law p.extended p.footer) (λ rule _.
     bind (transitions_law p.counts.transitions p.time_size p.parts.times p.parts.type_indexes l.times l.type_indexes) (λ transitions _.
-    made (zone_in types rule transitions) (leap_seconds_law p.counts.leap_seconds p.time_size p.parts.leap_seconds l.leap_seconds))))))
+    made (λ leaps. record { transitions = transitions; types = types; leaps = leaps; rule = rule }) (leap_seconds_law p.counts.leap_seconds p.time_size p.parts.leap_seconds l.leap_seconds))))))
     (λ z h.
     let i = h.2 in let r = i.2 in let t = r.2 in let s = t.2 in
     subst (λ (y : Zone). SayZone p y) s.2 (record { transitions = t.1; types = h.1; leaps = s.1; indicators = i.1; rule = r.1 }))

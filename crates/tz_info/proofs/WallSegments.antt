@@ -387,12 +387,7 @@ typed_answer z l (Ambiguous i j) (Ambiguous s t) valid e h = record {
   not_before = λ u y k. let n = listed_of z l u y valid k in h.not_before u n.0 n.1;
   not_after = λ u y k. let n = listed_of z l u y valid k in h.not_after u n.0 n.1;
 }
-typed_answer z l None (Single t) valid e h = absurd e
-typed_answer z l None (Ambiguous s t) valid e h = absurd e
-typed_answer z l (Single i) None valid e h = absurd e
-typed_answer z l (Single i) (Ambiguous s t) valid e h = absurd e
-typed_answer z l (Ambiguous i j) None valid e h = absurd e
-typed_answer z l (Ambiguous i j) (Single t) valid e h = absurd e
+typed_answer z l _ _ valid e h = absurd e
 
 -- ---- the table, and what comes behind it
 
