@@ -163,7 +163,9 @@ opened z place i ps latest p q o a h =
       end_by = last_end;
       start_by = last_start;
       merged = record {
-        ordered = let rise : Piece → Piece → Type 0 = λ a b. a.start ≤ℤ b.start in all_pairs_push rise first q (all_pairs_push rise ps p o.ordered by) (start_by_later first p.start q.start by_first order);
+        ordered =
+            let rise : Piece → Piece → Type 0 = λ a b. a.start ≤ℤ b.start in
+            all_pairs_push rise first q (all_pairs_push rise ps p o.ordered by) (start_by_later first p.start q.start by_first order);
         count = length_push first q ∙ (let m = length_push ps p in let n = length_push ps r in omega arith);
         answers = λ l. by_lt_z l q.start
             (λ until. at_earlier b first q l until ∙ by_lt_z l p.start

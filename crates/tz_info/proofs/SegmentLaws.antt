@@ -9,8 +9,12 @@ use Rattle.tz_info.proofs.Prefixes.{last_taken}
 use Rattle.tz_info.proofs.TableSearch.{Between, search_found}
 
 -- no transition comes later than one that stands behind it
-pub not_later : (ts : List Transition) (i k : ℕ) (d : Transition) → AreRising ts → i ≤ k → k < length ts → (get_or ts i d).unix_leap_time ≤ℤ (get_or ts k d).unix_leap_time
-not_later ts i k d r h l = elim (cases_lt i k) [ inl m ↦ let q = r i k d m l in omega (arith, ints) | inr m ↦ let e : i ≡ k = omega arith in rw e (omega (arith, ints)) ]
+pub not_later : (ts : List Transition) (i k : ℕ) (d : Transition) → AreRising ts → i ≤ k → k < length ts
+    → (get_or ts i d).unix_leap_time ≤ℤ (get_or ts k d).unix_leap_time
+not_later ts i k d r h l = elim (cases_lt i k) [
+  | inl m ↦ let q = r i k d m l in omega (arith, ints)
+  | inr m ↦ let e : i ≡ k = omega arith in rw e (omega (arith, ints))
+]
 
 first_come : (t : Transition) (ts : List Transition) (x : ℤ) (n : ℕ) → t.unix_leap_time ≤ℤ x → Between ts x n n → (k : ℕ) (d : Transition) → k < suc n → (get_or (t ∷ ts) k d).unix_leap_time ≤ℤ x
 first_come t ts x n h b zero d l = h

@@ -12,8 +12,8 @@ pub loop-place-preserved : goal.loop-place-preserved
 loop-place-preserved c =
     let ft : SFits w32 c.offset.result = let b = c.offset.ensures.bound in let v = c.offset.ensures.value in omega (arith, ints) in
     let v = c.offset.ensures.value ∙ ap (λ (t : LocalType). t.offset) c.index-types-place.is in
-    next_type c.args.types.now c.loop-place.place c.index-types-place.result c.loop-place.found c.with-found.result c.loop-place-test.true c.loop-place.invariant
-    (rw v at (simp to_z-of_z at c.with-found.ensures))
+    next_type c.args.types.now c.loop-place.place c.index-types-place.result c.loop-place.found c.with-found.result c.loop-place-test.true
+    c.loop-place.invariant (rw v at (simp to_z-of_z at c.with-found.ensures))
 
 pub returns : goal.returns
 returns c =

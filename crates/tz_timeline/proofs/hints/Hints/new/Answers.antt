@@ -1,5 +1,5 @@
-use Rattle.tz_timeline.proofs.Words.{List, SFits, ap, arith, drop, item_time, length, length-map, length-replicate, map, pos, replicate, rules, take, take-append-le}
-use Rattle.tz_timeline.proofs.Words.{take_all, to_z-of_z, w64, ℕ, ◌++◌, ◌+◌, ◌-ℤ◌, ◌-◌, ◌/◌, ◌^◌, ◌∙◌, ◌≡◌}
+use Rattle.tz_timeline.proofs.Words.{List, SFits, ap, arith, drop, item_time, length, length-map, length-replicate, map, pos, replicate, rules, take}
+use Rattle.tz_timeline.proofs.Words.{take-append-le, take_all, to_z-of_z, w64, ℕ, ◌++◌, ◌+◌, ◌-ℤ◌, ◌-◌, ◌/◌, ◌^◌, ◌∙◌, ◌≡◌}
 use Rattle.tz_timeline.proofs.HintLaws.{first_least, hints_made, slots}
 use Rattle.tz_timeline.proofs.SearchSteps.{time_read}
 use Rattle.tz_timeline.proofs.hints.Hints.new.Given.{Over}
