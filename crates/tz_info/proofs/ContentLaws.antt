@@ -2,10 +2,11 @@
 use Rattle.tz_base.specs.declared.error.Error.TheVariants.{InvalidTzFile}
 use Rattle.tz_base.specs.declared.error.Expected.TheVariants.{StandardTimeWhereTimeIsUt}
 use Rattle.tz_info.proofs.Words.{Bool, Decided, IndicatorsAgree, LeapSecond, List, Ok, SpellLeapSeconds, SpellTransitions, SpellsLeapSecond, Transition}
-use Rattle.tz_info.proofs.Words.{all_below, and_parts, ap, arith, cases_lt, done, drop, exact_cut, get_or, get_or-eq_default, guard, indicators_of, inl, inr}
+use Rattle.tz_info.proofs.Words.{all_below, ap, arith, cases_lt, done, drop, exact_cut, get_or, get_or-eq_default, guard, indicators_of, inl, inr}
 use Rattle.tz_info.proofs.Words.{leap_second_in, leap_second_of, length, length-take, like, map, nat_tests, nil_from_length, not, pair_agrees, refl, said}
 use Rattle.tz_info.proofs.Words.{slice_index, subst, suc, sym, take, take-append-drop, file_time, transition_in, true, values_below, zero, ℕ, [], ◌&&◌, ◌*◌}
-use Rattle.tz_info.proofs.Words.{◌+◌, ◌<◌, ◌==◌, ◌∙◌, ◌∷◌, ◌≡◌, ◌≢◌}
+use Rattle.tz_info.proofs.Words.{◌+◌, ◌<◌, ◌==◌, ◌∷◌, ◌≡◌, ◌≢◌}
+use Rattle.tz_info.proofs.ListLaws.{one_true}
 use Rattle.tz_info.proofs.RecordLaws.{behind_first, first_and_more, first_record, next_record, records}
 
 -- ---- transitions
@@ -55,36 +56,24 @@ leap_takes w bytes l = record {
   correction_is = refl;
 }
 
-leap_again : (w : ℕ) (bytes : List ℕ) (leap : LeapSecond) → SpellsLeapSecond w bytes leap → leap_second_of w bytes ≡ leap
-leap_again w bytes leap h = let cut = exact_cut w bytes h.time h.correction h.whole h.size in rw (cut.0, cut.1, h.time_is, h.correction_is) refl
-
 leap_law : (w : ℕ) (bytes : List ℕ) → length bytes ≡ w + 4 → Decided LeapSecond (Ok (leap_second_of w bytes)) (SpellsLeapSecond w bytes) (λ _. ⊥)
-leap_law w bytes l = said (done (leap_second_of w bytes)) (λ leap h. subst (SpellsLeapSecond w bytes) h (leap_takes w bytes l)) (λ leap h. leap_again w bytes leap h)
+leap_law w bytes l = said (done (leap_second_of w bytes)) (λ leap h. subst (SpellsLeapSecond w bytes) h (leap_takes w bytes l))
+    (λ leap h. let cut = exact_cut w bytes h.time h.correction h.whole h.size in rw (cut.0, cut.1, h.time_is, h.correction_is) refl)
 
 pub leap_seconds_law : (n w : ℕ) (part : List ℕ) → length part ≡ n * (w + 4) → Decided (List LeapSecond) (values_below n (leap_second_in w part)) (SpellLeapSeconds w part) (λ _. ⊥)
 leap_seconds_law n w part l = like (records n (w + 4) part (omega arith) l (leap_law w)) (λ leaps h. h) (λ leaps h. h) (λ e f. f.fault) (λ e f. absurd f)
 
 -- ---- indicators
-below_is : (n : ℕ) (test : ℕ → Bool) → all_below n test ≡ true → (k : ℕ) → k < n → test k ≡ true
-below_is zero test h k l = absurd (omega arith)
-below_is (suc n) test h k l = let p = and_parts (all_below n test) (test n) h in elim (cases_lt k n) as (λ _. test k ≡ true) [
-  | inl m ↦ below_is n test p.0 k m
-  | inr m ↦ let same : k ≡ n = omega arith in ap test same ∙ p.1
-]
-
 below_again : (n : ℕ) (test : ℕ → Bool) → ((k : ℕ) → k < n → test k ≡ true) → all_below n test ≡ true
 below_again zero test h = refl
 below_again (suc n) test h = rw (below_again n test (λ k l. h k (omega arith)), h n (omega arith)) refl
-
-pair_is : (s u : List ℕ) (k : ℕ) → pair_agrees s u k ≡ true → slice_index s k ≡ 0 → slice_index u k ≢ 1
-pair_is s u k h a = λ b. let c = rw (a, b) at h in cc
 
 not_both : (x y : ℕ) → (x ≡ 0 → y ≢ 1) → not ((x == 0) && (y == 1)) ≡ true
 not_both x y h = grind (arith, nat_tests)
 
 agree_is : (s u : List ℕ) → all_below (length u) (pair_agrees s u) ≡ true → IndicatorsAgree s u
 agree_is s u h = λ k a. elim (cases_lt k (length u)) as (λ _. slice_index u k ≢ 1) [
-  | inl m ↦ pair_is s u k (below_is (length u) (pair_agrees s u) h k m) a
+  | inl m ↦ λ b. let c = rw (a, b) at (one_true (length u) k (pair_agrees s u) m h) in cc
   | inr m ↦ let zero_there : get_or u k 0 ≡ 0 = get_or-eq_default u 0 m in λ b. absurd (omega arith)
 ]
 

@@ -1,19 +1,13 @@
 -- The least and the greatest of some offsets.
-use Rattle.tz_info.proofs.Words.{All, All-append, All-contains, AreExtremes, AreExtremesUntil, AreJoined, AreJoinedByRule, Contains, Contains-append_left}
-use Rattle.tz_info.proofs.Words.{Contains-append_right, Contains-push, Extremes, IsEnd, IsGreatest, IsLeast, IsTypeOf, IsWindowOf, List, SFits, subst, w32}
-use Rattle.tz_info.proofs.Words.{◌-ℤ◌, LocalType, None, Option, Some}
-use Rattle.tz_info.proofs.Words.{TransitionRule, TypeAt, Zone, ap, append-nil, append_assoc, arith, cases_lt, get_or, get_or-map, get_or_default, inl, inr}
-use Rattle.tz_info.proofs.Words.{ints, length, length-map, offsets, offsets_of, refl, rule_offsets, slice_get, slice_get-get_or, sym, ℕ, ℤ, [], ◌++◌, ◌+◌, ◌<◌}
-use Rattle.tz_info.proofs.Words.{◌∙◌, ◌∷◌, ◌≡◌, ◌≤ℤ◌, ◌≤◌, ◌⊎◌}
+use Rattle.tz_info.proofs.Words.{All-push, All-contains, AreExtremes, AreJoined, AreJoinedByRule, Contains, Contains-append_left, Contains-append_right}
+use Rattle.tz_info.proofs.Words.{Contains-push, Extremes, IsEnd, IsGreatest, IsLeast, IsTypeOf, IsWindowOf, List, SFits, subst, w32, ◌-ℤ◌, LocalType, None}
+use Rattle.tz_info.proofs.Words.{Option, Some, TransitionRule, TypeAt, Zone, append_assoc, arith, get_or, get_or-map, inl, inr, ints, length, length-map}
+use Rattle.tz_info.proofs.Words.{offsets, offsets_of, refl, rule_offsets, slice_get, slice_get-get_or, sym, ℕ, ℤ, [], ◌++◌, ◌+◌, ◌<◌, ◌∙◌, ◌∷◌, ◌≡◌, ◌≤ℤ◌, ◌≤◌}
+use Rattle.tz_info.proofs.Words.{◌⊎◌, take, take-suc, add-one}
 use Rattle.tz_info.specs.declared.rule.transition_rule.TransitionRule.TheVariants.{Alternate, Fixed}
+use Rattle.std.proofs.lemmas.List.{map-append}
 use Rattle.tz_info.proofs.Candidates.{one_of_two}
 use Rattle.tz_info.proofs.ZoneLaws.{type_listed}
-
-push_all : (P : ℤ → Type 0) (xs : List ℤ) (x : ℤ) → All P xs → P x → All P (xs ++ x ∷ [])
-push_all P xs x a h = All-append P xs (x ∷ []) a (λ k d l. let e : k ≡ 0 = omega arith in rw e h)
-
-all_weaker : (P Q : ℤ → Type 0) (xs : List ℤ) → ((x : ℤ) → P x → Q x) → All P xs → All Q xs
-all_weaker P Q xs w a = λ k d l. w _ (a k d l)
 
 pushed : (xs : List ℤ) (x y o : ℤ) → Contains xs x → (y ≡ x) ⊎ (y ≡ o) → Contains (xs ++ o ∷ []) y
 pushed xs x y o c (inl e) = rw e (Contains-append_left xs (o ∷ []) x c)
@@ -24,61 +18,31 @@ pub joined : (xs : List ℤ) (e : Extremes) (o : ℤ) (r : Extremes) → AreExtr
 joined xs e o r a j = record {
   greatest = record {
     among = pushed xs e.greatest r.greatest o a.greatest.among j.greatest_from;
-    most = push_all (λ x. x ≤ℤ r.greatest) xs o (all_weaker (λ x. x ≤ℤ e.greatest) (λ x. x ≤ℤ r.greatest) xs (λ x h. let m = j.most in omega (arith, ints)) a.greatest.most) j.most_here;
+    most = All-push (λ x. x ≤ℤ r.greatest) xs o (λ k d l. let h = a.greatest.most k d l in let m = j.most in omega (arith, ints)) j.most_here;
   };
   least = record {
     among = pushed xs e.least r.least o a.least.among j.least_from;
-    fewest = push_all (λ x. r.least ≤ℤ x) xs o (all_weaker (λ x. e.least ≤ℤ x) (λ x. r.least ≤ℤ x) xs (λ x h. let m = j.fewest in omega (arith, ints)) a.least.fewest) j.fewest_here;
+    fewest = All-push (λ x. r.least ≤ℤ x) xs o (λ k d l. let h = a.least.fewest k d l in let m = j.fewest in omega (arith, ints)) j.fewest_here;
   };
 }
 
 type_among : (types : List LocalType) (k : ℕ) (d : LocalType) → k < length types → Contains (offsets_of types) (get_or types k d).offset
 type_among types k d h = (k, simp length-map (h), get_or-map (λ (t : LocalType). t.offset) types k d (get_or types k d).offset h)
 
-either_among : (xs : List ℤ) (x o y : ℤ) → Contains xs x → Contains xs o → (y ≡ x) ⊎ (y ≡ o) → Contains xs y
-either_among xs x o y c h (inl e) = rw e c
-either_among xs x o y c h (inr e) = rw e h
-
-pub first_until : (types : List LocalType) (d : LocalType) (e : Extremes) → 0 < length types → e.greatest ≡ (get_or types 0 d).offset
-    → e.least ≡ (get_or types 0 d).offset → AreExtremesUntil types 0 e
-first_until types d e h g l = record {
-  greatest_among = rw g (type_among types 0 d h);
-  least_among = rw l (type_among types 0 d h);
-  most = λ k d m. absurd (omega arith);
-  fewest = λ k d m. absurd (omega arith);
+-- of the first type alone, and of one type more
+pub first_type : (types : List LocalType) (d : LocalType) (e : Extremes) → 0 < length types → e.greatest ≡ (get_or types 0 d).offset
+    → e.least ≡ (get_or types 0 d).offset → AreExtremes (offsets_of (take 1 types)) e
+first_type [] d e h g l = absurd (omega arith)
+first_type (t ∷ ts) d e h g l = record {
+  greatest = record { among = (0, omega arith, sym g); most = λ k f m. let z : k ≡ 0 = omega arith in rw z (omega (arith, ints)) };
+  least = record { among = (0, omega arith, sym l); fewest = λ k f m. let z : k ≡ 0 = omega arith in rw z (omega (arith, ints)) };
 }
 
--- one type more
-pub more_until : (types : List LocalType) (n : ℕ) (d : LocalType) (e r : Extremes) → n < length types → AreExtremesUntil types n e
-    → AreJoined e (get_or types n d).offset r → AreExtremesUntil types (n + 1) r
-more_until types n d e r h a j = record {
-  greatest_among = either_among (offsets_of types) e.greatest (get_or types n d).offset r.greatest a.greatest_among (type_among types n d h) j.greatest_from;
-  least_among = either_among (offsets_of types) e.least (get_or types n d).offset r.least a.least_among (type_among types n d h) j.least_from;
-  most = λ k f m. elim (cases_lt k n) [
-    | inl l ↦ let p = a.most k f l in let q = j.most in omega (arith, ints)
-    | inr g ↦ let s : k ≡ n = omega arith in let q = j.most_here in let w = ap (λ (t : LocalType). t.offset) (get_or_default types n f d h) in rw s (omega (arith, ints))
-  ];
-  fewest = λ k f m. elim (cases_lt k n) [
-    | inl l ↦ let p = a.fewest k f l in let q = j.fewest in omega (arith, ints)
-    | inr g ↦ let s : k ≡ n = omega arith in let q = j.fewest_here in let w = ap (λ (t : LocalType). t.offset) (get_or_default types n f d h) in rw s (omega (arith, ints))
-  ];
-}
-
-all_offsets : (P : ℤ → Type 0) (types : List LocalType) → ((k : ℕ) (d : LocalType) → k < length types → P (get_or types k d).offset) → All P (offsets_of types)
-all_offsets P [] h = λ k e l. absurd (omega arith)
-all_offsets P (t ∷ ts) h = λ k e l. let m : k < length (t ∷ ts) = simp length-map at l in rw (get_or-map (λ (t : LocalType). t.offset) (t ∷ ts) k t e m) (h k t m)
-
-pub all_until : (types : List LocalType) (n : ℕ) (e : Extremes) → length types ≤ n → AreExtremesUntil types n e → AreExtremes (offsets_of types) e
-all_until types n e h a = record {
-  greatest = record { among = a.greatest_among; most = all_offsets (λ x. x ≤ℤ e.greatest) types (λ k d l. a.most k d (omega arith)) };
-  least = record { among = a.least_among; fewest = all_offsets (λ x. e.least ≤ℤ x) types (λ k d l. a.fewest k d (omega arith)) };
-}
+pub next_type : (types : List LocalType) (n : ℕ) (d : LocalType) (e r : Extremes) → n < length types → AreExtremes (offsets_of (take n types)) e
+    → AreJoined e (get_or types n d).offset r → AreExtremes (offsets_of (take (n + 1) types)) r
+next_type types n d e r h a j = rw (add-one, take-suc types n d h, map-append) (joined (offsets_of (take n types)) e (get_or types n d).offset r a j)
 
 -- ---- with the rule's
-pub none_joined : (types : List LocalType) (rule : Option TransitionRule) (e : Extremes) → rule ≡ None → AreExtremes (offsets_of types) e
-    → AreExtremes (offsets types rule) e
-none_joined types rule e is a = rw (is, append-nil) a
-
 by_rule : (types : List LocalType) (rule : TransitionRule) (e r : Extremes) → AreExtremes (offsets_of types) e → AreJoinedByRule e rule r
     → AreExtremes (offsets types (Some rule)) r
 by_rule types (Fixed t) e r h j = joined (offsets_of types) e t.offset r h j

@@ -5,9 +5,9 @@ use Rattle.tz_info.proofs.Words.{Bool, Colon, Decided, Decides, Decides-eqb, Dec
 use Rattle.tz_info.proofs.Words.{IsBetweenNewlines, IsFooter, IsTextFault, IsTzText, IsUtf8, IsUtf8-from_is_utf8, List, No_newlines, None, Not_utf8, Ok, Option}
 use Rattle.tz_info.proofs.Words.{Result, SaysRule, Some, TransitionRule, Zero, and_parts, arith, choice, done, ends_with, false, false_unless, footer_at, inl}
 use Rattle.tz_info.proofs.Words.{inr, is_between_newlines, is_no_text, is_utf8-from_IsUtf8, is_zero, like, list_any, made, nat_eq, nat_tests, read, refl}
-use Rattle.tz_info.proofs.Words.{refused, rule_in, rule_or_none, said, slice_index, starts_with, subst, sym, text as tz_text, trimmed, true, ℕ, [], ◌==◌}
-use Rattle.tz_info.proofs.Words.{◌||◌, ◌∷◌, ◌≡◌, ◌≢◌, ◌⊎◌}
-use Rattle.std.proofs.lemmas.Bool.{and_from}
+use Rattle.tz_info.proofs.Words.{refused, rule_in, rule_or_none, said, slice_index, starts_with, subst, sym, text as tz_text, trimmed, ℕ, [], ◌==◌, ◌∷◌, ◌≡◌}
+use Rattle.tz_info.proofs.Words.{◌≢◌, ◌⊎◌}
+use Rattle.std.proofs.lemmas.Bool.{and_from, or_parts, true_from_ne_false}
 use Rattle.std.proofs.lemmas.Slice.Eq.{ends_is, starts_is}
 use Rattle.tz_info.proofs.TextLaws.{text_law}
 use Rattle.tz_info.proofs.TrimLaws.{trim_again, trim_is}
@@ -22,13 +22,9 @@ between bytes =
     )
 
 -- ---- the text
-or_false : (a b : Bool) → (a || b) ≡ false → (a ≡ false) × (b ≡ false)
-or_false true b h = cc
-or_false false b h = (refl, h)
-
 no_zero_is : (text : List ℕ) → list_any is_zero text ≡ false → HasNoZero text
 no_zero_is [] h = tt
-no_zero_is (b ∷ bs) h = let p = or_false (b == 0) (list_any is_zero bs) h in let e = p.0 in ((λ z. grind (arith, nat_tests)), no_zero_is bs p.1)
+no_zero_is (b ∷ bs) h = let p = or_parts (b == 0) (list_any is_zero bs) h in let e = p.0 in ((λ z. grind (arith, nat_tests)), no_zero_is bs p.1)
 
 no_zero_again : (text : List ℕ) → HasNoZero text → list_any is_zero text ≡ false
 no_zero_again [] h = refl
@@ -67,12 +63,8 @@ rule_law extended (b ∷ bs) = like (made (λ r. Some r) (spelled_law extended (
 abbrev IsNoText : List ℕ → Type 0
 IsNoText text = (slice_index text 0 ≡ 58) ⊎ ¬ (HasNoZero text)
 
-true_unless : (b : Bool) → (b ≡ false → ⊥) → b ≡ true
-true_unless true h = refl
-true_unless false h = absurd (h refl)
-
 has_zero : (text : List ℕ) → Decides (list_any is_zero text) (¬ (HasNoZero text))
-has_zero text = (λ t n. let f = no_zero_again text n in cc, λ n. true_unless (list_any is_zero text) (λ f. n (no_zero_is text f)))
+has_zero text = (λ t n. let f = no_zero_again text n in cc, λ n. true_from_ne_false (list_any is_zero text) (λ f. n (no_zero_is text f)))
 
 no_text : (text : List ℕ) → Decides (is_no_text text) (IsNoText text)
 no_text text = Decides-or (slice_index text 0 == 58) (list_any is_zero text) (Decides-eqb (slice_index text 0) 58) (has_zero text)

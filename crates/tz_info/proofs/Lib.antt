@@ -53,7 +53,6 @@ pub mod RunLaws
 pub mod ShownSecondLaws
 pub mod DifferenceLaws
 pub mod PosixZoneLaws
-pub mod HeaderLaws
 pub mod FilePieceLaws
 pub mod ListLaws
 pub mod RecordLaws

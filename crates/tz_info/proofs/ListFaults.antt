@@ -2,26 +2,22 @@
 use Rattle.tz_base.specs.declared.error.Error.TheVariants.{TimeZone}
 use Rattle.tz_base.specs.declared.error.Expected.TheVariants.{AtLeastOneLocalTimeType, LeapSecondsInOrder, RuleThatAgreesWithLastTransition}
 use Rattle.tz_base.specs.declared.error.Expected.TheVariants.{TransitionTimesThatRise, TypeIndexesWithinTypes}
-use Rattle.tz_info.proofs.Words.{All, AllAdjacentBelow, AllPairs, AllPairs-cons, AreLeapSeconds, AreTransitions, Decides-int_eq, Error, IsFirstLeap, IsNextLeap}
-use Rattle.tz_info.proofs.Words.{IsOneStep, IsValid, LeapSecond, List, ListFault, No_type, Not_rising, Other_index, Other_leaps, Other_rule, Transition, Zone}
-use Rattle.tz_info.proofs.Words.{add-one, arith, by_lt_z, cases_lt, false, inl, inr, int_eq, int_le, ints, length, error_number, pos, refl, suc, true, zero, ℕ}
-use Rattle.tz_info.proofs.Words.{ℤ, [], ◌+ℤ◌, ◌-ℤ◌, ◌<ℤ◌, ◌<◌, ◌∷◌, ◌≡◌, ◌≤ℤ◌, ◌≤◌, ◌⊎◌}
+use Rattle.std.proofs.lemmas.List.Elements.{All-cons}
+use Rattle.tz_info.proofs.Words.{All, AllAdjacentBelow, AllPairs, AllPairs-cons, AreLeapSeconds, AreTransitions, Error, IsFirstLeap, IsNextLeap, IsOneStep}
+use Rattle.tz_info.proofs.Words.{IsValid, LeapSecond, List, ListFault, No_type, Not_rising, Other_index, Other_leaps, Other_rule, Transition, Zone, add-one}
+use Rattle.tz_info.proofs.Words.{arith, by_lt_z, cases_lt, inl, inr, ints, length, error_number, pos, refl, suc, zero, ℕ, ℤ, [], ◌+ℤ◌, ◌-ℤ◌, ◌<ℤ◌, ◌<◌, ◌∷◌}
+use Rattle.tz_info.proofs.Words.{◌≡◌, ◌≤ℤ◌, ◌≤◌, ◌⊎◌}
 
 -- ---- what can be tested holds or does not
 abbrev Known : Type 0 → Type 0
 Known P = P ⊎ ¬ P
 
 at_most_known : (a b : ℤ) → Known (a ≤ℤ b)
-at_most_known a b = elim (int_le a b) as (λ t. int_le a b ≡ t → Known (a ≤ℤ b)) [
-  | true ↦ λ e. inl (grind (arith, ints))
-  | false ↦ λ e. inr (λ l. grind (arith, ints))
-] refl
+at_most_known a b = by_lt_z {P = Known (a ≤ℤ b)} b a (λ m. inr (λ l. absurd (omega (arith, ints, l, m)))) (λ l. inl l)
 
 equal_known : (a b : ℤ) → Known (a ≡ b)
-equal_known a b = elim (int_eq a b) as (λ t. int_eq a b ≡ t → Known (a ≡ b)) [
-  | true ↦ λ e. inl ((Decides-int_eq a b).0 e)
-  | false ↦ λ e. inr (λ same. let t = (Decides-int_eq a b).1 same in cc)
-] refl
+equal_known a b = by_lt_z {P = Known (a ≡ b)} a b (λ l. inr (λ e. absurd (omega (arith, ints, l, e))))
+    (λ m. by_lt_z {P = Known (a ≡ b)} b a (λ l. inr (λ e. absurd (omega (arith, ints, l, e)))) (λ n. inl (omega (arith, ints, m, n))))
 
 either_known : {P Q : Type 0} → Known P → Known Q → Known (P ⊎ Q)
 either_known (inl p) q = inl (inl p)
@@ -35,13 +31,9 @@ all_known {P = P} each (x ∷ xs) = elim (each x) [
   | inr none ↦ inr (λ h. none (h 0 x (omega arith)))
   | inl first ↦ elim (all_known each xs) [
     | inr none ↦ inr (λ h. none (λ k d l. h (suc k) d (omega (arith, l))))
-    | inl more ↦ inl (all_front P x xs first more)
+    | inl more ↦ inl (All-cons P x xs first more)
   ]
 ]
-  where
-    all_front : {X : Type 0} (P : X → Type 0) (x : X) (xs : List X) → P x → All P xs → All P (x ∷ xs)
-    all_front P x xs first more zero d l = first
-    all_front P x xs first more (suc k) d l = more k d (omega (arith, l))
 
 pairs_known : {X : Type 0} {R : X → X → Type 0} → ((x y : X) → Known (R x y)) → (xs : List X) → Known (AllPairs R xs)
 pairs_known each [] = inl (λ i j d l m. absurd (omega (arith, m)))

@@ -1,12 +1,13 @@
 -- The pieces of the first segments, as long as the last of them has no end, and one segment more.
 use Rattle.tz_info.proofs.Words.{AreCutsCrossed, AreInOrder, AreLeapSeconds, ArePieces, ArePiecesAt, AreRising, HasType, IsCutAt, IsCutFrom, IsFold, IsGap}
-use Rattle.tz_info.proofs.Words.{IsLeapless, IsMerged, IsSegment, IsStart, IsTrue, IsTypeBefore, IsUtOffset, IsValid, Jump, LeapSecond, List, LocalType}
-use Rattle.tz_info.proofs.Words.{None as none, Option, Piece, Segment, Some as some, Transition, TransitionRule, Zone, all_pairs_push, answer_at, answer_before}
-use Rattle.tz_info.proofs.Words.{ap, arith, by_lt_z, cases_lt, get_or, get_or_default, index_of, inl, inr, int_le, ints, le_false, le_true, length, length_push}
-use Rattle.tz_info.proofs.Words.{neg_ℤ, pos, refl, saturate_signed, suc, sym, table_count, table_count_by, together, true, w64, zero, ℕ, ℤ, [], ⊎_elim, ◌++◌}
-use Rattle.tz_info.proofs.Words.{◌+ℤ◌, ◌-◌, ◌<ℤ◌, ◌<◌, ◌∙◌, ◌∷◌, ◌≡◌, ◌≤ℤ◌, ◌≤◌, ◌⊎◌}
+use Rattle.tz_info.proofs.Words.{IsLeapless, IsMerged, IsSegment, IsStart, IsTypeBefore, IsUtOffset, IsValid, Jump, LeapSecond, List, LocalType, None as none}
+use Rattle.tz_info.proofs.Words.{Option, Piece, Segment, Some as some, Transition, TransitionRule, Zone, all_pairs_push, answer_at, answer_before, ap, arith}
+use Rattle.tz_info.proofs.Words.{by_lt_z, get_or, get_or_default, index_of, inl, inr, ints, le_false, le_true, length, length_push, neg_ℤ, pos, refl}
+use Rattle.tz_info.proofs.Words.{saturate_signed, suc, sym, table_count, table_count_by, together, w64, zero, ℕ, ℤ, [], ⊎_elim, ◌++◌, ◌+ℤ◌, ◌-◌, ◌<ℤ◌, ◌<◌, ◌∙◌}
+use Rattle.tz_info.proofs.Words.{◌∷◌, ◌≡◌, ◌≤ℤ◌, ◌≤◌, ◌⊎◌}
 use Rattle.tz_info.specs.declared.zone.shown.Shown.TheVariants.{Less, Once, Skipped}
 use Rattle.tz_info.proofs.LeapStarts.{reached_first}
+use Rattle.tz_info.proofs.SegmentLaws.{not_later}
 use Rattle.tz_info.proofs.WallPieces.{Answer, StartBy, at_all, at_earlier, at_later, before_pushed, start_by_push}
 use Rattle.tz_info.proofs.WallSegments.{cut_from, cuts_rise, first_pieces, inner_pieces, last_pieces, listed_once, own_segment, piece, pieces_joined}
 use Rattle.tz_info.proofs.WallSegments.{start_found, type_own}
@@ -18,31 +19,16 @@ pub start_leapless : (ts : List Transition) (es : List LeapSecond) (count : ℕ)
 start_leapless ts es count d valid rising any h leapless = let none = leapless.none in start_found ts es count d (get_or ts (count - 1) d).unix_leap_time rising any h (λ u y near l.
     reached_first es (get_or ts (count - 1) d).unix_leap_time u y valid (record { within = omega arith; before = λ k d h. absurd (omega arith); after = λ k d h m. absurd (omega arith) }) l)
 
-pub at_least : (x : ℤ) → int_le (neg_ℤ (pos 4_611_686_018_427_387_904)) x ≡ true → neg_ℤ (pos 4_611_686_018_427_387_904) ≤ℤ x
-at_least x h = grind (arith, ints)
-
-pub at_most : (x : ℤ) → IsTrue (int_le x (pos 4_611_686_018_427_387_904)) → x ≤ℤ pos 4_611_686_018_427_387_904
-at_most x h = grind (arith, ints)
-
 -- all times lie from the first to the last
 pub leapless_between : (ts : List Transition) (es : List LeapSecond) (d : Transition) → AreRising ts → length es ≡ 0 → 0 < length ts
     → neg_ℤ (pos 4_611_686_018_427_387_904) ≤ℤ (get_or ts 0 d).unix_leap_time → (get_or ts (length ts - 1) d).unix_leap_time ≤ℤ pos 4_611_686_018_427_387_904 → IsLeapless ts es
 leapless_between ts es d rising empty any low high = record {
   none = empty;
   far = λ k e h.
-      let m = from_first ts k d rising h in
-      let n = to_last ts k d rising h in
+      let m = not_later ts 0 k d rising (omega arith) h in
+      let n = not_later ts k (length ts - 1) d rising (omega arith) (omega arith) in
       rw (get_or_default ts k e d h) (omega (arith, ints), omega (arith, ints));
-} where
-  from_first : (ts : List Transition) (k : ℕ) (d : Transition) → AreRising ts → k < length ts → (get_or ts 0 d).unix_leap_time ≤ℤ (get_or ts k d).unix_leap_time
-  from_first ts zero d rising h = omega (arith, ints)
-  from_first ts (suc k) d rising h = let r = rising 0 (suc k) d (omega arith) h in omega (arith, ints)
-
-  to_last : (ts : List Transition) (k : ℕ) (d : Transition) → AreRising ts → k < length ts → (get_or ts k d).unix_leap_time ≤ℤ (get_or ts (length ts - 1) d).unix_leap_time
-  to_last ts k d rising h = ⊎_elim
-      (λ less. let r = rising k (length ts - 1) d less (omega arith) in omega (arith, ints))
-      (λ more. let e : length ts - 1 ≡ k = omega arith in rw e (omega (arith, ints)))
-      (cases_lt k (length ts - 1))
+}
 
 pub pieces_found : (z : Zone) (place : ℕ) (before behind : Segment) (second end start : ℤ) (p q : Piece) → IsSegment z (place - 1) before → IsSegment z place behind → IsStart z.transitions z.leaps place second
     → end ≡ saturate_signed w64 (second +ℤ before.offset) → start ≡ saturate_signed w64 (second +ℤ behind.offset)
@@ -62,9 +48,6 @@ pieces_found z place before behind second end start p q b a s e f pieces = recor
 }
 
 -- ---- pieces that are pushed
-
-pushed_order : (ps : List Piece) (p : Piece) → AreInOrder ps → StartBy ps p.start → AreInOrder (ps ++ (p ∷ []))
-pushed_order ps p order by = all_pairs_push (λ (a b : Piece). a.start ≤ℤ b.start) ps p order by
 
 start_by_later : (ps : List Piece) (a b : ℤ) → StartBy ps a → a ≤ℤ b → StartBy ps b
 start_by_later ps a b by h = λ k d l. let q = by k d l in omega (arith, ints)
@@ -86,7 +69,7 @@ end_merged i xs s t j x y out m by by_xs h ended =
     let p = piece t (Less y) in
     let others = piece s (Once y) ∷ [] in
     record {
-      ordered = pushed_order out p m.ordered by;
+      ordered = all_pairs_push (λ (a b : Piece). a.start ≤ℤ b.start) out p m.ordered by;
       count = length_push out p ∙ (let c = m.count in omega arith);
       answers = λ l. by_lt_z l t
           (λ before. at_earlier (Once i) out p l before ∙ m.answers l ∙ ap (together (answer_at (Once i) xs l)) (sym (at_earlier (Skipped j) others p l before)))
@@ -180,7 +163,9 @@ opened z place i ps latest p q o a h =
       end_by = last_end;
       start_by = last_start;
       merged = record {
-        ordered = pushed_order first q (pushed_order ps p o.ordered by) (start_by_later first p.start q.start by_first order);
+        ordered =
+            let rise : Piece → Piece → Type 0 = λ a b. a.start ≤ℤ b.start in
+            all_pairs_push rise first q (all_pairs_push rise ps p o.ordered by) (start_by_later first p.start q.start by_first order);
         count = length_push first q ∙ (let m = length_push ps p in let n = length_push ps r in omega arith);
         answers = λ l. by_lt_z l q.start
             (λ until. at_earlier b first q l until ∙ by_lt_z l p.start

@@ -3,9 +3,11 @@ use Rattle.tz_base.specs.declared.error.Error.TheVariants.{FindLocalTimeType}
 use Rattle.tz_base.specs.declared.error.Expected.TheVariants.{YearThatRuleAnswersIn}
 use Rattle.tz_info.proofs.Words.{Err, Error, HasType, HaveComeAt, IsFromLast, IsLastOf, IsLeapTime, IsRefusedBy, IsTypeError, IsValid, List, LocalType}
 use Rattle.tz_info.proofs.Words.{MatchOption, MatchResult, None, Ok, Option, Result, RuleOrType, Some, Transition, TypeAt, TypeAtLeapTime, Zone, ap, arith}
-use Rattle.tz_info.proofs.Words.{by_rule, cases_lt, get_or, index_at, inl, inr, leap_time_at, length, length-take, passed, refl, suc, sym, take, ℕ, ℤ}
-use Rattle.tz_info.proofs.Words.{[], ◌-◌, ◌<◌, ◌∙◌, ◌∷◌, ◌≡◌, ◌≤◌}
+use Rattle.tz_info.proofs.Words.{by_rule, cases_lt, get_or, index_at, inl, inr, leap_time_at, length, length-take, passed, refl, suc, sym, take, ℕ, ℤ, ◌-◌, ◌<◌}
+use Rattle.tz_info.proofs.Words.{◌∙◌, ◌≡◌, ◌≤◌}
+use Rattle.std.proofs.lemmas.Option.{same_Some}
 use Rattle.tz_info.proofs.Prefixes.{last_taken}
+pub use Rattle.tz_info.proofs.Words.{nil_from_length as no_items}
 
 -- it names the type of the last of n transitions, or there is none
 abbrev pub NamesLast : List Transition → ℕ → Option Transition → Type 0
@@ -18,11 +20,9 @@ last_named ts n None l = elim (cases_lt 0 n) [
   | inr h ↦ omega arith
 ]
 last_named ts n (Some t) l = elim (cases_lt 0 n) [
-  | inl h ↦ let s = l.some h in let e : t ≡ s.0 = some_is t s.0 s.1 in (h, ap (λ (k : Transition). k.type_index) (rw (← e) at s.2))
+  | inl h ↦ let s = l.some h in let e : t ≡ s.0 = same_Some t s.0 s.1 in (h, ap (λ (k : Transition). k.type_index) (rw (← e) at s.2))
   | inr h ↦ let s = l.none (omega arith) in absurd cc
-] where
-  some_is : (a b : Transition) → Some a ≡ Some b → a ≡ b
-  some_is a b e = cc
+]
 
 -- the first n transitions come at or before the leap time x
 index_named : (z : Zone) (x : ℤ) (n : ℕ) (latest : Option Transition)
@@ -76,10 +76,6 @@ at_last view z u n d (Ok t) c h k = record {
   from_last = λ _. rw c.named.0 k;
 }
 at_last view z u n d (Err e) c h k = let w = c.within in let come = c.come in (k.0, omega arith, k.1)
-
-pub no_items : {X : Type 0} (xs : List X) → length xs ≡ 0 → xs ≡ []
-no_items [] h = refl
-no_items (x ∷ xs) h = absurd (omega arith)
 
 -- without transitions the rule is asked, or there is none
 pub without_transitions : {T : Type 0} (view : T → LocalType) (z : Zone) (u : ℤ) (r : Result T Error) → length z.transitions ≡ 0

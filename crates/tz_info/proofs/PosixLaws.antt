@@ -1,8 +1,8 @@
 -- The zone of a TZ string.
 use Rattle.tz_info.proofs.Words.{Bool, Decided, Err, Error, IfErr, IfOk, IsPosixFault, IsPosixZone, IsTextFault, IsTrimAscii, IsTzText, List, MatchResult, Ok}
-use Rattle.tz_info.proofs.Words.{Result, TransitionRule, Zone, apart, arith, done, false, fault_low, fault_once, inl, inr, length, like, made, nat_tests}
-use Rattle.tz_info.proofs.Words.{error_number, plain_zone, pos, posix_zone, refl, rule_in, sym, trimmed, true, value_once, ℕ, [], ◌==◌, ◌>>=◌, ◌∙◌, ◌∷◌, ◌≡◌}
-use Rattle.tz_info.proofs.Words.{◌≢◌, ◌≤◌}
+use Rattle.tz_info.proofs.Words.{Result, TransitionRule, Zone, apart, arith, done, false, fault_low, fault_once, inl, inr, length, like, made, nil_from_length}
+use Rattle.tz_info.proofs.Words.{nat_tests, error_number, plain_zone, pos, posix_zone, refl, rule_in, sym, trimmed, true, value_once, ℕ, [], ◌==◌, ◌>>=◌, ◌∙◌}
+use Rattle.tz_info.proofs.Words.{◌∷◌, ◌≡◌, ◌≢◌, ◌≤◌}
 use Rattle.tz_info.proofs.FooterLaws.{spelled_law}
 use Rattle.tz_info.proofs.TrimLaws.{trim_again, trim_is, trims_both}
 
@@ -64,5 +64,4 @@ pub refused_memory : (text : List ℕ) (e : Error) → IsPosixFault text e → e
 refused_memory text e fault m = let low = posix_low text e fault in absurd (omega arith)
 
 pub is_empty : (text : List ℕ) (b : Bool) → b ≡ (length text == 0) → b ≡ true → text ≡ []
-is_empty [] b h e = refl
-is_empty (c ∷ cs) b h e = let k : (length (c ∷ cs) == 0) ≡ false = grind (arith, nat_tests) in cc
+is_empty text b h e = nil_from_length text (grind (arith, nat_tests))

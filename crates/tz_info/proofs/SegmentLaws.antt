@@ -6,12 +6,15 @@ use Rattle.tz_info.proofs.Words.{◌≤◌}
 use Rattle.tz_info.proofs.LeapOrder.{leap_sums_rise}
 use Rattle.tz_info.proofs.PassedTransitions.{no_items}
 use Rattle.tz_info.proofs.Prefixes.{last_taken}
-use Rattle.tz_info.proofs.TableSearch.{Between, all_between, search_found}
+use Rattle.tz_info.proofs.TableSearch.{Between, search_found}
 
--- where the first transition comes later, all do
-all_later : (t : Transition) (ts : List Transition) (x : ℤ) → AreRising (t ∷ ts) → x <ℤ t.unix_leap_time → (k : ℕ) (d : Transition) → 0 ≤ k → k < length (t ∷ ts) → x <ℤ (get_or (t ∷ ts) k d).unix_leap_time
-all_later t ts x r h zero d a l = h
-all_later t ts x r h (suc k) d a l = let q = r 0 (suc k) d (omega arith) l in omega (arith, ints)
+-- no transition comes later than one that stands behind it
+pub not_later : (ts : List Transition) (i k : ℕ) (d : Transition) → AreRising ts → i ≤ k → k < length ts
+    → (get_or ts i d).unix_leap_time ≤ℤ (get_or ts k d).unix_leap_time
+not_later ts i k d r h l = elim (cases_lt i k) [
+  | inl m ↦ let q = r i k d m l in omega (arith, ints)
+  | inr m ↦ let e : i ≡ k = omega arith in rw e (omega (arith, ints))
+]
 
 first_come : (t : Transition) (ts : List Transition) (x : ℤ) (n : ℕ) → t.unix_leap_time ≤ℤ x → Between ts x n n → (k : ℕ) (d : Transition) → k < suc n → (get_or (t ∷ ts) k d).unix_leap_time ≤ℤ x
 first_come t ts x n h b zero d l = h
@@ -23,9 +26,9 @@ others_later t ts x n b (suc k) d a l = b.above k d (omega arith) (omega arith)
 
 -- transitions that rise are split by a leap time
 pub split_at : (ts : List Transition) (x : ℤ) → AreRising ts → (n : ℕ) × Between ts x n n
-split_at [] x r = (0, all_between [] x)
+split_at [] x r = (0, record { ordered = omega arith; within = omega arith; below = λ k d h. absurd (omega arith); above = λ k d h l. absurd (omega arith) })
 split_at (t ∷ ts) x r = by_lt_z x t.unix_leap_time
-    (λ later. (0, record { ordered = omega arith; within = omega arith; below = λ k d h. absurd (omega arith); above = all_later t ts x r later }))
+    (λ later. (0, record { ordered = omega arith; within = omega arith; below = λ k d h. absurd (omega arith); above = λ k d a l. let n = not_later (t ∷ ts) 0 k d r a l in omega (arith, ints) }))
     (λ come.
     let p = split_at ts x (λ i j d h l. r (suc i) (suc j) d (omega arith) (omega arith)) in
     let b = p.1 in let w = b.within in
@@ -108,21 +111,11 @@ come_by ts x zero r w h k d l = absurd (omega arith)
 come_by ts x (suc i) r w h k d l =
     let e = last_taken (λ (t : Transition). t.unix_leap_time) least_time ts i d (omega arith) in
     let g : (get_or ts i d).unix_leap_time ≤ℤ x = rw e at h in
-    elim (cases_lt k i) [
-      | inl m ↦ let q = r k i d m (omega arith) in omega (arith, ints)
-      | inr m ↦ let s : k ≡ i = omega arith in rw s g
-    ]
-
-later_from : (ts : List Transition) (x : ℤ) (i : ℕ) → AreRising ts → ((d : Transition) → i < length ts → x <ℤ (get_or ts i d).unix_leap_time) → (k : ℕ) (d : Transition) → i ≤ k → k < length ts → x <ℤ (get_or ts k d).unix_leap_time
-later_from ts x i r h k d a l =
-    let g = h d (omega arith) in
-    elim (cases_lt i k) [
-      | inl m ↦ let q = r i k d m l in omega (arith, ints)
-      | inr m ↦ let s : k ≡ i = omega arith in rw s g
-    ]
+    let n = not_later ts k i d r (omega arith) (omega arith) in
+    omega (arith, ints)
 
 pub between_of : (ts : List Transition) (i : ℕ) (x : ℤ) → AreRising ts → i ≤ length ts → IsWithin ts i x → Between ts x i i
-between_of ts i x r w h = record { ordered = omega arith; within = w; below = come_by ts x i r w h.since; above = later_from ts x i r h.until }
+between_of ts i x r w h = record { ordered = omega arith; within = w; below = come_by ts x i r w h.since; above = λ k d a l. let n = not_later ts i k d r a l in let u = h.until d (omega arith) in omega (arith, ints) }
 
 -- ---- the type in a segment
 passed_once : (z : Zone) (u : ℤ) (t : LocalType) (a : TypeAt z u t) → passed z.transitions a.leap_time ≡ passed z.transitions (u +ℤ correction_at z.leaps u)

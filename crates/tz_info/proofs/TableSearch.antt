@@ -1,6 +1,6 @@
 -- Where a search in transitions whose times rise comes to an end.
-use Rattle.tz_info.proofs.Words.{AreOrdered, ArePassed, AreRising, List, Stands, Transition, arith, cases_lt, filter_first, first_come, get_or, inl, inr}
-use Rattle.tz_info.proofs.Words.{int_le, ints, le_false, le_true, length, map, passed, pos, take, times_ordered, ℕ, ℤ, ◌+◌, ◌-◌, ◌<ℤ◌, ◌<◌, ◌≡◌, ◌≤ℤ◌, ◌≤◌}
+use Rattle.tz_info.proofs.Words.{AreOrdered, AreRising, List, Stands, Transition, arith, cases_lt, filter_first, get_or, inl, inr, int_le, ints, le_false}
+use Rattle.tz_info.proofs.Words.{le_true, length, map, passed, pos, take, times_ordered, ℕ, ℤ, ◌+◌, ◌-◌, ◌<ℤ◌, ◌<◌, ◌≡◌, ◌≤ℤ◌, ◌≤◌}
 
 -- the transitions below `low` come at or before v, those from `high` on after it
 pub record Between (xs : List Transition) (v : ℤ) (low high : ℕ) : Type 0 where
@@ -9,19 +9,12 @@ pub record Between (xs : List Transition) (v : ℤ) (low high : ℕ) : Type 0 wh
   pub below : (k : ℕ) (d : Transition) → k < low → (get_or xs k d).unix_leap_time ≤ℤ v
   pub above : (k : ℕ) (d : Transition) → high ≤ k → k < length xs → v <ℤ (get_or xs k d).unix_leap_time
 
-pub all_between : (xs : List Transition) (v : ℤ) → Between xs v 0 (length xs)
-all_between xs v = record { ordered = omega arith; within = omega arith; below = λ k d h. absurd (omega arith); above = λ k d h l. absurd (omega arith) }
-
 pub search_found : (xs : List Transition) (v : ℤ) (low high : ℕ) → high ≤ low → Between xs v low high → passed xs v ≡ take low xs
 search_found xs v low high h b =
     let o = b.ordered in let w = b.within in
     filter_first (λ (t : Transition). int_le t.unix_leap_time v) xs low (omega arith)
     (λ k d l. le_true _ v (b.below k d l))
     (λ k d l m. le_false _ v (b.above k d (omega arith) m))
-
--- the transitions that have come are the first so many
-pub first_passed : (xs : List Transition) (v : ℤ) (n : ℕ) → ArePassed (map (λ (t : Transition). t.unix_leap_time) xs) v n → passed xs v ≡ take n xs
-first_passed xs v n come = first_come (λ (t : Transition). t.unix_leap_time) xs v n come
 
 -- transitions whose times rise come in order
 pub in_order : (xs : List Transition) → AreRising xs → AreOrdered (map (λ (t : Transition). t.unix_leap_time) xs)

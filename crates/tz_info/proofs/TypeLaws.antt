@@ -5,8 +5,8 @@ use Rattle.tz_info.proofs.Words.{Bool, Decided, Decides-and, Decides-eqb, Decide
 use Rattle.tz_info.proofs.Words.{IsUtOffset, List, LocalType, MatchResult, No_text, None, Ok, Option, Other_mark, Other_type, Result, Some, SpellTypes}
 use Rattle.tz_info.proofs.Words.{SpellsType, StandsAt, TypeFault, and_parts, ap, arith, bind, bind_err, by_error, choice, cond, designation_at, designation_of}
 use Rattle.tz_info.proofs.Words.{done, drop, drop_front, expected_of_place, expected_of_type, false, false_unless, front_of, guard, inl, inr, int_lt, ints}
-use Rattle.tz_info.proofs.Words.{is_name_or_none, is_zero, least_offset, length, length-append, length-take, like, mark_in, mark_of, name_test, nat_lt}
-use Rattle.tz_info.proofs.Words.{nat_tests, offset_in, place_in, pos, position_from, record_at, refl, refused, subst, suc, sym, take, take-append-drop}
+use Rattle.tz_info.proofs.Words.{is_name_or_none, is_zero, least_offset, length, length-append, length-take, like, lt_is, lt_true, mark_in, mark_of, name_test}
+use Rattle.tz_info.proofs.Words.{nat_lt, nat_tests, offset_in, place_in, pos, position_from, record_at, refl, refused, subst, suc, sym, take, take-append-drop}
 use Rattle.tz_info.proofs.Words.{take-append_seam, text_before_zero, true, type_in, type_of, type_of_record, values_below, with_next_type, ℕ, ℤ, [], ◌&&◌, ◌*◌}
 use Rattle.tz_info.proofs.Words.{◌++◌, ◌+◌, ◌<ℤ◌, ◌<◌, ◌==◌, ◌∙◌, ◌∷◌, ◌≡◌, ◌≤ℤ◌, ◌⊎◌}
 use Rattle.tz_info.proofs.ListLaws.{first_refusal}
@@ -87,12 +87,6 @@ mark_law b = by_error (InvalidTzFile ZeroOrOneAsIsDst) (choice (Decides-eqb b 0)
     (mark_again b)
     (λ n h. elim h [ inl k ↦ absurd k.1 | inr k ↦ k.1.1 ])
 
-above : (z : ℤ) → int_lt least_offset z ≡ true → least_offset <ℤ z
-above z h = grind (arith, ints)
-
-above_again : (z : ℤ) → least_offset <ℤ z → int_lt least_offset z ≡ true
-above_again z h = grind (arith, ints)
-
 abbrev ReadFault : List ℕ → List ℕ → Error → Type 0
 ReadFault names bytes e =
     (((d : Bool) → ¬ (IsMark (mark_in bytes) d)) × (e ≡ InvalidTzFile ZeroOrOneAsIsDst))
@@ -118,7 +112,7 @@ unfolding type_of_record type_of
 type_law names bytes = like
     (bind (mark_law (mark_in bytes)) (λ dst _. bind (text_law names (place_in bytes)) (λ text _.
     guard (record { offset = offset_in bytes; dst = dst; name = designation_of text }) (LocalTimeType (expected_of_type (offset_in bytes) (designation_of text))) (omega arith)
-    (Decides-and (int_lt least_offset (offset_in bytes)) (is_name_or_none (designation_of text)) (above (offset_in bytes), above_again (offset_in bytes)) (named_is (designation_of text), named_again (designation_of text))))))
+    (Decides-and (int_lt least_offset (offset_in bytes)) (is_name_or_none (designation_of text)) (lt_is least_offset (offset_in bytes), lt_true least_offset (offset_in bytes)) (named_is (designation_of text), named_again (designation_of text))))))
     (λ t h.
     let x = h.2 in
     subst (λ y. SpellsType names bytes y) x.2.1 (record { text = x.0; offset = refl; above_least = x.2.0.0; mark = h.1; stands = x.1; name = refl; name_fits = x.2.0.1 }))
@@ -148,13 +142,13 @@ pub type_answers : (offset : ℤ) (dst : Bool) (text : List ℕ) (name : Option 
 unfolding type_of
 type_answers offset dst text name (Ok t) low high same h =
     let o = h.0.0 in let n : IsNameOrNone (designation_of text) = subst IsNameOrNone same h.1 in
-    let a = above_again offset (grind (arith, ints)) in let b = named_again (designation_of text) n in
+    let a = lt_true least_offset offset (grind (arith, ints)) in let b = named_again (designation_of text) n in
     rw (a, b) (ap (λ y. Ok y) (sym (h.2 ∙ ap (λ (m : Option (List ℕ)). record { offset = offset; dst = dst; name = m }) same)))
 type_answers offset dst text name (Err e) low high same h =
     elim (int_lt least_offset offset && is_name_or_none (designation_of text)) as (λ b. (int_lt least_offset offset && is_name_or_none (designation_of text)) ≡ b → type_of offset dst text ≡ Err e) [
       | true ↦ λ k.
           let p = and_parts (int_lt least_offset offset) (is_name_or_none (designation_of text)) k in
-          let a = above offset p.0 in
+          let a = lt_is least_offset offset p.0 in
           absurd (h.1 ((grind (arith, ints), high), subst IsNameOrNone (sym same) (named_is (designation_of text) p.1)))
       | false ↦ λ k. rw k (ap (λ y. Err y) (sym (h.0 ∙ ap (λ (m : Option (List ℕ)). LocalTimeType (expected_of_type offset m)) same)))
     ] refl

@@ -3,11 +3,11 @@ use Rattle.tz_base.specs.declared.error.Error.TheVariants.{InvalidTzFile, OutOfM
 use Rattle.tz_base.specs.declared.error.Expected.TheVariants.{StandardTimeWhereTimeIsUt}
 use Rattle.tz_info.proofs.Words.{Bool, ContentFault, Decided, Err, Error, FilePieces, FooterFault, GivesInMemory, HasLengths, HasPieces, HasRule, HasTypeFault}
 use Rattle.tz_info.proofs.Words.{IfErr, IfOk, In_contents, In_file, In_footer, In_indicators, In_piece, In_type, IndicatorsAgree, IsErrAnd, IsFileFault}
-use Rattle.tz_info.proofs.Words.{IsOutOfMemory, IsTzFile, IsValid, IsZoneFault, LeapSecond, List, ListFault, Lists, LocalType, MatchResult, No_memory, None}
-use Rattle.tz_info.proofs.Words.{Not_valid, Ok, Option, PieceFault, Reads, Result, SayZone, Some, SpellTransitions, SpellTypes, TimeZone, Transition}
-use Rattle.tz_info.proofs.Words.{TransitionRule, Zone, ap, apart, arith, bind, done, either, error_number, fault_low as low, fault_once as one_fault, file_at}
-use Rattle.tz_info.proofs.Words.{footer_of, inl, inr, like, lists_in, made, ok_same, pieces_at, refl, subst, sym, value_once, with_rule, with_types}
-use Rattle.tz_info.proofs.Words.{zone_of_lists, ℕ, ◌≡◌, ◌≤◌, ◌⊎◌}
+use Rattle.tz_info.proofs.Words.{IsOutOfMemory, IsTzFile, IsValid, IsZoneFault, List, ListFault, Lists, LocalType, No_memory, None, Not_valid, Ok, Option}
+use Rattle.tz_info.proofs.Words.{PieceFault, Reads, Result, SayZone, Some, SpellTransitions, SpellTypes, TimeZone, Transition, TransitionRule, Zone, ap, apart}
+use Rattle.tz_info.proofs.Words.{arith, bind, done, either, error_number, fault_low as low, fault_once as one_fault, file_at, footer_of, inl, inr, like}
+use Rattle.tz_info.proofs.Words.{lists_in, made, pieces_at, refl, subst, sym, value_once, with_rule, with_types, zone_of_lists, ℕ, ◌≡◌, ◌≤◌, ◌⊎◌}
+use Rattle.std.proofs.lemmas.Option.{same_Some}
 use Rattle.tz_info.proofs.ContentLaws.{indicators_law, leap_seconds_law, transitions_law}
 use Rattle.tz_info.proofs.FilePieceLaws.{has_lengths, pieces_law}
 use Rattle.tz_info.proofs.FooterLaws.{footer_law as footer_bytes_law}
@@ -20,13 +20,7 @@ RuleFault extended footer e = (bytes : List ℕ) × (footer ≡ Some bytes) × F
 
 footer_law : (extended : Bool) (footer : Option (List ℕ)) → Decided (Option TransitionRule) (footer_of extended footer) (HasRule extended footer) (RuleFault extended footer)
 footer_law extended None = like (done None) (λ rule h. sym h) (λ rule h. sym h) (λ n f. absurd f) (λ n f. let e = f.1 in cc)
-footer_law extended (Some bytes) = like (footer_bytes_law extended bytes) (λ rule h. h) (λ rule h. h) (λ n f. (bytes, refl, f)) (λ n f. subst (λ b. FooterFault extended b n) (sym (same bytes f.0 f.1)) f.2)
-  where
-    same : (a b : List ℕ) → Some a ≡ Some b → a ≡ b
-    same a b e = cc
-
-abbrev zone_in : List LocalType → Option TransitionRule → List Transition → List LeapSecond → Zone
-zone_in types rule transitions leaps = record { transitions = transitions; types = types; leaps = leaps; rule = rule }
+footer_law extended (Some bytes) = like (footer_bytes_law extended bytes) (λ rule h. h) (λ rule h. h) (λ n f. (bytes, refl, f)) (λ n f. subst (λ b. FooterFault extended b n) (sym (same_Some bytes f.0 f.1)) f.2)
 
 abbrev ReadFault : FilePieces → Error → Type 0
 ReadFault p n =
@@ -58,7 +52,8 @@ say_law p l = like
     bind (indicators_law p.parts.standard_wall p.parts.ut_local) (λ _ _.
     bind (footer_law p.extended p.footer) (λ rule _.
     bind (transitions_law p.counts.transitions p.time_size p.parts.times p.parts.type_indexes l.times l.type_indexes) (λ transitions _.
-    made (zone_in types rule transitions) (leap_seconds_law p.counts.leap_seconds p.time_size p.parts.leap_seconds l.leap_seconds))))))
+    made (λ leaps. record { transitions = transitions; types = types; leaps = leaps; rule = rule })
+    (leap_seconds_law p.counts.leap_seconds p.time_size p.parts.leap_seconds l.leap_seconds))))))
     (λ z h.
     let i = h.2 in let r = i.2 in let t = r.2 in let s = t.2 in
     subst (λ (y : Zone). SayZone p y) s.2 (record { transitions = t.1; types = h.1; leaps = s.1; indicators = i.1; rule = r.1 }))
@@ -130,27 +125,20 @@ pub no_pieces : (bytes : List ℕ) (e : Error) → pieces_at bytes ≡ Err e →
 unfolding file_at
 no_pieces bytes e h = inl (rw h refl)
 
-pub found : (bytes : List ℕ) (r : Result Lists Error) → Reads r bytes → IfOk r (λ lists. IsTzFile bytes (zone_of_lists lists))
-found bytes (Ok lists) s = (file_law bytes).takes (zone_of_lists lists) s
-found bytes (Err e) s = tt
+pub found : (bytes : List ℕ) (lists : Lists) → Reads (Ok lists) bytes → IsTzFile bytes (zone_of_lists lists)
+found bytes lists = (file_law bytes).takes (zone_of_lists lists)
 
-pub only : (bytes : List ℕ) (r : Result Lists Error) → Reads r bytes → (z : Zone) → IsTzFile bytes z → MatchResult r (λ lists. zone_of_lists lists ≡ z) (λ e. e ≡ OutOfMemory)
-only bytes (Ok lists) s z file = ok_same _ _ _ s ((file_law bytes).again z file)
-only bytes (Err e) s z file = elim s [ inl refused ↦ let read = (file_law bytes).again z file in cc | inr memory ↦ memory.0 ]
+pub only : (bytes : List ℕ) (e : Error) → Reads (Err e) bytes → (z : Zone) → IsTzFile bytes z → e ≡ OutOfMemory
+only bytes e (inl refused) z file = let read = (file_law bytes).again z file in cc
+only bytes e (inr memory) z file = memory.0
 
-pub fault : (bytes : List ℕ) (r : Result Lists Error) → Reads r bytes → IfErr r (λ e. IsZoneFault bytes e)
-fault bytes (Ok lists) s = tt
-fault bytes (Err e) s = elim s [
-  | inl refused ↦ In_file e (spelling_fault bytes e ((file_law bytes).fails e refused))
-  | inr memory ↦ rw memory.0 (No_memory memory.1 ((pieces_law bytes).takes memory.1 memory.2))
-]
+pub fault : (bytes : List ℕ) (e : Error) → Reads (Err e) bytes → IsZoneFault bytes e
+fault bytes e (inl refused) = In_file e (spelling_fault bytes e ((file_law bytes).fails e refused))
+fault bytes e (inr memory) = rw memory.0 (No_memory memory.1 ((pieces_law bytes).takes memory.1 memory.2))
 
-pub memory : (bytes : List ℕ) (r : Result Lists Error) → Reads r bytes → IfErr r (λ e. e ≡ OutOfMemory → (p : FilePieces) × HasPieces bytes p)
-memory bytes (Ok lists) s = tt
-memory bytes (Err e) s = λ is. elim s [
-  | inl refused ↦ let low = (file_law bytes).low e refused in let n : error_number e ≡ 17 = ap error_number is in absurd (omega arith)
-  | inr whole ↦ (whole.1, (pieces_law bytes).takes whole.1 whole.2)
-]
+pub memory : (bytes : List ℕ) (e : Error) → Reads (Err e) bytes → e ≡ OutOfMemory → (p : FilePieces) × HasPieces bytes p
+memory bytes e (inl refused) is = let low = (file_law bytes).low e refused in let n : error_number e ≡ 17 = ap error_number is in absurd (omega arith)
+memory bytes e (inr whole) is = (whole.1, (pieces_law bytes).takes whole.1 whole.2)
 
 -- ---- what a reader of zones answers
 -- of a file with a fault that one is named, unless memory ran out

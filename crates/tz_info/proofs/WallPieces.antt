@@ -117,9 +117,7 @@ step_count xs ys i j i_after j_after start (inr s) = let p = s.passed in let q =
 
 -- pieces in order, by the list of their starts
 pub starts_in_order : (ps : List Piece) → AreInOrder ps → AreOrdered (map (λ (p : Piece). p.start) ps)
-starts_in_order ps order = times_ordered (λ (p : Piece). p.start) ps blank (λ i j h l. order i j blank h l) where
-  blank : Piece
-  blank = record { start = pos 0; answer = Once 0 }
+starts_in_order ps order = times_ordered (λ (p : Piece). p.start) ps (record { start = pos 0; answer = Once 0 }) (λ i j h l. order i j _ h l)
 
 -- the last of the pieces that have started answers, and where none has, what stands before them
 started : (b : Answer) (ps : List Piece) (l : ℤ) (n : ℕ) → ArePassed (map (λ (p : Piece). p.start) ps) l n → answer_at b ps l ≡ answer_before b (take n ps)

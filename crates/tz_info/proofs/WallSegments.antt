@@ -3,10 +3,10 @@ use Rattle.offset_core.specs.declared.local_result.LocalResult.TheVariants.{Ambi
 use Rattle.tz_info.proofs.Words.{AreBelow, AreInOrder, AreListed, ArePieces, AreRising, HasType, HaveComeFrom, IsCutFrom, IsIndex, IsLastSecondBefore}
 use Rattle.tz_info.proofs.Words.{IsLeapTime, IsMerged, IsNear, IsReachedFrom, IsShownAmong, IsShownIn, IsStart, IsTypeBefore, IsUtOffset, IsValid, IsWallAnswer}
 use Rattle.tz_info.proofs.Words.{IsWide, LeapSecond, List, ListedAmong, LocalResult, LocalType, None as none, Option, Piece, Shown, ShownAmong, Shows}
-use Rattle.tz_info.proofs.Words.{Some as some, Transition, TransitionRule, TypeAt, TypeIn, Zone, ap, arith, by_lt_z, cases_lt, closing, false, get_or, index_of}
-use Rattle.tz_info.proofs.Words.{inl, inr, ints, le_false, le_true, length, nat_lt, nat_tests, neg_ℤ, pos, refl, segment_of, subst, suc, sym, table_count}
-use Rattle.tz_info.proofs.Words.{table_count_by, together, true, shown_indexes, zero, ℕ, ℤ, [], ⊎_elim, ◌+ℤ◌, ◌-ℤ◌, ◌-◌, ◌<ℤ◌, ◌<◌, ◌↔◌, ◌∷◌, ◌≡◌, ◌≤ℤ◌, ◌≤◌}
-use Rattle.tz_info.proofs.Words.{◌⊎◌}
+use Rattle.tz_info.proofs.Words.{Some as some, Transition, TransitionRule, TypeAt, TypeIn, Zone, all_pairs_push, ap, arith, by_lt_z, cases_lt, closing, false}
+use Rattle.tz_info.proofs.Words.{get_or, index_of, inl, inr, ints, le_false, le_true, length, nat_lt, nat_tests, neg_ℤ, pos, refl, segment_of, subst, suc, sym}
+use Rattle.tz_info.proofs.Words.{table_count, table_count_by, together, true, shown_indexes, zero, ℕ, ℤ, [], ⊎_elim, ◌+ℤ◌, ◌-ℤ◌, ◌-◌, ◌<ℤ◌, ◌<◌, ◌↔◌, ◌∷◌, ◌≡◌}
+use Rattle.tz_info.proofs.Words.{◌≤ℤ◌, ◌≤◌, ◌⊎◌}
 use Rattle.tz_info.specs.declared.zone.shown.Shown.TheVariants.{Less, Once, Skipped}
 use Rattle.tz_info.proofs.AnswerLaws.{Parts, joined_answer, same_answer}
 use Rattle.tz_info.proofs.LeapOrder.{leap_times_answer}
@@ -239,18 +239,14 @@ shown_before z k x l a t valid own inner has offset wide cut h first before =
 
 -- ---- the pieces of one segment
 
-piece_list_ordered : (p q : Piece) → p.start ≤ℤ q.start → AreInOrder (p ∷ q ∷ [])
-piece_list_ordered p q h zero zero d k l = absurd (omega arith)
-piece_list_ordered p q h zero (suc zero) d k l = h
-piece_list_ordered p q h zero (suc (suc j)) d k l = absurd (omega arith)
-piece_list_ordered p q h (suc i) zero d k l = absurd (omega arith)
-piece_list_ordered p q h (suc i) (suc j) d k l = absurd (omega arith)
+none_ordered : AreInOrder []
+none_ordered i j d k l = absurd (omega arith)
 
 one_ordered : (p : Piece) → AreInOrder (p ∷ [])
 one_ordered p i j d k l = absurd (omega arith)
 
-none_ordered : AreInOrder []
-none_ordered i j d k l = absurd (omega arith)
+piece_list_ordered : (p q : Piece) → p.start ≤ℤ q.start → AreInOrder (p ∷ q ∷ [])
+piece_list_ordered p q h = all_pairs_push (λ (a b : Piece). a.start ≤ℤ b.start) (p ∷ []) q (one_ordered p) (λ k d l. let z : k ≡ 0 = omega arith in rw z h)
 
 closing_below : (n k : ℕ) → k < n → closing n (suc k) ≡ 0
 closing_below n k h = let t : nat_lt n (suc k) ≡ false = grind (arith, nat_tests) in rw t refl
@@ -391,12 +387,7 @@ typed_answer z l (Ambiguous i j) (Ambiguous s t) valid e h = record {
   not_before = λ u y k. let n = listed_of z l u y valid k in h.not_before u n.0 n.1;
   not_after = λ u y k. let n = listed_of z l u y valid k in h.not_after u n.0 n.1;
 }
-typed_answer z l None (Single t) valid e h = absurd e
-typed_answer z l None (Ambiguous s t) valid e h = absurd e
-typed_answer z l (Single i) None valid e h = absurd e
-typed_answer z l (Single i) (Ambiguous s t) valid e h = absurd e
-typed_answer z l (Ambiguous i j) None valid e h = absurd e
-typed_answer z l (Ambiguous i j) (Single t) valid e h = absurd e
+typed_answer z l _ _ valid e h = absurd e
 
 -- ---- the table, and what comes behind it
 

@@ -118,7 +118,7 @@ pub use Rattle.tz_info.specs.Steps.ContentReading.{GivesInMemory, front_of, is_n
 pub use Rattle.tz_info.specs.Steps.ContentReading.{record_at, transition_in, type_in, values_below, with_next_type}
 unfoldable pub use Rattle.tz_info.specs.Steps.ContentReading.{designation_at, indicators_of, text_before_zero, type_of, type_of_record}
 pub use Rattle.tz_info.specs.Steps.Differences.{AreListedTo, IsListedIf, IsPairUntil}
-pub use Rattle.tz_info.specs.Steps.Extremes.{AreExtremes, AreExtremesUntil, AreJoined, AreJoinedByRule, offsets_of}
+pub use Rattle.tz_info.specs.Steps.Extremes.{AreExtremes, AreJoined, AreJoinedByRule, offsets_of}
 pub use Rattle.tz_info.specs.Steps.FileLists.{HasLengths, Reads, pieces_of, zone_of_lists}
 unfoldable pub use Rattle.tz_info.specs.Steps.FileLists.{file_at, lists_in, pieces_at, with_rule, with_types}
 pub use Rattle.tz_info.specs.Steps.FooterReading.{footer_of, is_between_newlines, is_no_text, rule_or_none, trimmed_back, trimmed_front, unless_space}

@@ -1,15 +1,12 @@
 -- What hints say of a search.
-use Rattle.tz_timeline.proofs.Words.{AreEnds, AreFilled, AreHints, AreMarked, AreOrdered, AreRaised, AreRaisedUntil, Ends, Hints, IsHinted, IsLastBefore}
-use Rattle.tz_timeline.proofs.Words.{IsNarrowedTo, List, Near, ap, arith, cases_eq, cases_lt, div-lt_iff_lt-mul, div-mul-le_self, get_or-set_at}
-use Rattle.tz_timeline.proofs.Words.{get_or-set_other, inl, inr, ints, item_time, length, length-set, lt-suc_self, max, mul-le-mul_right, nat_abs, nat_cmp}
-use Rattle.tz_timeline.proofs.Words.{negsuc, ord_max, pos, pow_pos, refl, set, shr_mono, slice_index, stretch_of, suc, sym, ℕ, ℤ, ◌*◌, ◌+ℤ◌, ◌+◌, ◌-ℤ◌, ◌-◌}
-use Rattle.tz_timeline.proofs.Words.{◌/◌, ◌<ℤ◌, ◌<◌, ◌^◌, ◌∙◌, ◌≡◌, ◌≢◌, ◌≤ℤ◌, ◌≤◌, ◌⊎◌}
+use Rattle.tz_timeline.proofs.Words.{AreEnds, AreHints, AreMarked, AreOrdered, AreRaised, AreRaisedUntil, Ends, Hints, IsHinted, IsLastBefore, IsNarrowedTo}
+use Rattle.tz_timeline.proofs.Words.{List, Near, ap, arith, cases_eq, cases_lt, div-lt_iff_lt-mul, div-mul-le_self, get_or-set_at, get_or-set_other, inl, inr}
+use Rattle.tz_timeline.proofs.Words.{ints, item_time, length, length-set, lt-suc_self, max, mul-le-mul_right, nat_abs, nat_cmp, negsuc, ord_max, pos, pow_pos}
+use Rattle.tz_timeline.proofs.Words.{refl, set, shr_mono, slice_index, stretch_of, suc, sym, ℕ, ℤ, ◌*◌, ◌+ℤ◌, ◌+◌, ◌-ℤ◌, ◌-◌, ◌/◌, ◌<ℤ◌, ◌<◌, ◌^◌, ◌∙◌, ◌≡◌}
+use Rattle.tz_timeline.proofs.Words.{◌≢◌, ◌≤ℤ◌, ◌≤◌, ◌⊎◌}
 use Rattle.tz_timeline.proofs.SearchSteps.{not_before}
 
 -- the seconds of a stretch
-pub from_stretch : (n m : ℕ) → n / m * m ≤ n
-from_stretch n m = div-mul-le_self n m
-
 pub before_next : (n m : ℕ) → 0 < m → n < suc (n / m) * m
 before_next n m h = (div-lt_iff_lt-mul h).0 (lt-suc_self (n / m))
 
@@ -35,7 +32,7 @@ near_hinted times v hints ends seconds near ordered fits some are h from is posi
       within = omega arith;
       fits = omega arith;
       come = elim (cases_lt 0 near.first) [
-        | inl l ↦ let c = low.before (omega arith) in let f = from_stretch seconds m in rw p (omega (arith, ints))
+        | inl l ↦ let c = low.before (omega arith) in let f = div-mul-le_self seconds m in rw p (omega (arith, ints))
         | inr g ↦ let z : near.first ≡ 0 = omega arith in rw z (omega (arith, ints))
       ];
       behind = λ k l n. let c = high.behind k (omega arith) n in let f = before_next seconds m positive in omega (arith, ints);
@@ -52,12 +49,6 @@ size_of_rise first time h = size_of (time -ℤ first) (omega (arith, ints))
 pub seconds_are : (first time : ℤ) (seconds : ℕ) → pos seconds ≡ time -ℤ first → nat_abs (time -ℤ first) ≡ seconds
 seconds_are first time seconds e = ap nat_abs (sym e)
 
--- no stretch lies behind that of the last item
-pub stretch_most : (first time last : ℤ) (span shift : ℕ) → first ≤ℤ time → time ≤ℤ last → pos span ≡ last -ℤ first → stretch_of first time shift ≤ span / 2 ^ shift
-stretch_most first time last span shift h k e =
-    let size = size_of_rise first time h in
-    shr_mono {a = nat_abs (time -ℤ first)} {b = span} shift (omega (arith, ints))
-
 -- no item comes before the first, and none lies in a stretch behind that of the last
 pub first_least : (times : List ℤ) (first : ℤ) (k : ℕ) → AreOrdered times → first ≡ item_time times 0 → k < length times → first ≤ℤ item_time times k
 first_least times first k ordered from l = let low = not_before times 0 k ordered (omega arith) l in omega (arith, ints)
@@ -65,7 +56,8 @@ first_least times first k ordered from l = let low = not_before times 0 k ordere
 pub slots : (times : List ℤ) (first : ℤ) (span shift k : ℕ) → AreOrdered times → first ≡ item_time times 0 → pos span ≡ item_time times (length times - 1) -ℤ first → k < length times → stretch_of first (item_time times k) shift ≤ span / 2 ^ shift
 slots times first span shift k ordered from is l =
     let high = not_before times k (length times - 1) ordered (omega arith) (omega arith) in
-    stretch_most first (item_time times k) (item_time times (length times - 1)) span shift (first_least times first k ordered from l) high is
+    let size = size_of_rise first (item_time times k) (first_least times first k ordered from l) in
+    shr_mono {a = nat_abs (item_time times k -ℤ first)} {b = span} shift (omega (arith, ints))
 
 -- the last item noted up to a stretch is the last one before it
 pub last_before : (times : List ℤ) (first : ℤ) (shift : ℕ) (marked raised : List ℕ) (most b : ℕ) → 0 < 2 ^ shift → ((k : ℕ) → k < length times → first ≤ℤ item_time times k)
@@ -97,7 +89,7 @@ last_before times first shift marked raised most b positive from room some m r h
           let to = room k n in
           elim (cases_lt (stretch_of first (item_time times k) shift) b) [
             | inl lt ↦ let a = r.above b (suc (stretch_of first (item_time times k) shift)) h lt in absurd (omega arith)
-            | inr ge ↦ late (item_time times k) first m2 b (from k n) (from_stretch (nat_abs (item_time times k -ℤ first)) m2) (omega arith)
+            | inr ge ↦ late (item_time times k) first m2 b (from k n) (div-mul-le_self (nat_abs (item_time times k -ℤ first)) m2) (omega arith)
           ];
     } where
       early : (time first : ℤ) (m s j b : ℕ) → first ≤ℤ time → nat_abs (time -ℤ first) < suc s * m → suc s ≡ j → j ≤ b → time <ℤ (first +ℤ pos (b * m))
@@ -195,12 +187,10 @@ raising_more before after most most_after greatest n here r h is_here is_most =
     }
 
 -- the hints at items, by the places that were filled in
-pub hints_made : (times : List ℤ) (hints : Hints) (first : ℤ) (span most : ℕ) (before : List ℕ) → AreOrdered times → 4 ≤ length times → hints.shift < 64 → first ≡ item_time times 0 → pos span ≡ item_time times (length times - 1) -ℤ first
-    → length before ≡ span / 2 ^ hints.shift + 2 → AreFilled times first hints.shift before hints.places.items most → 2 * (most + 1) ≤ length times → AreHints times hints
-hints_made times hints first span most before ordered many shift from is long filled narrow =
-    let r = filled.are_raised in
+pub hints_made : (times : List ℤ) (hints : Hints) (first : ℤ) (span most : ℕ) (marked : List ℕ) → AreOrdered times → 4 ≤ length times → hints.shift < 64 → first ≡ item_time times 0 → pos span ≡ item_time times (length times - 1) -ℤ first
+    → length marked ≡ span / 2 ^ hints.shift + 2 → AreMarked times first hints.shift (length times) marked → AreRaised marked hints.places.items most → 2 * (most + 1) ≤ length times → AreHints times hints
+hints_made times hints first span most marked ordered many shift from is long m r narrow =
     let c = r.count in
-    let d = filled.count in
     record {
       shift = shift;
       rising = λ b h.
@@ -208,10 +198,10 @@ hints_made times hints first span most before ordered many shift from is long fi
           let a = r.above (suc b) s.0 (omega arith) (let j = s.1 in omega arith) in
           let e = s.2 in
           omega arith;
-      places = λ b h. rw (← from) (last_before times first hints.shift filled.marked hints.places.items most b (pow_pos hints.shift)
+      places = λ b h. rw (← from) (last_before times first hints.shift marked hints.places.items most b (pow_pos hints.shift)
           (λ k l. first_least times first k ordered from l)
           (λ k l. let s = slots times first span hints.shift k ordered from is l in omega arith)
-          (omega arith) filled.are_marked r (omega arith));
+          (omega arith) m r (omega arith));
       some = λ h. many;
       narrow = λ b h. let s = r.steps b (omega arith) in omega arith;
     }

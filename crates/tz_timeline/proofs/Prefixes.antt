@@ -1,6 +1,6 @@
 -- Lists whose first n items pass a test and whose others do not, and functions that rise from place to place.
-use Rattle.tz_timeline.proofs.Words.{Bool, List, add-suc, add-zero, ap, arith, cond, count_by, false, filter, get_or, int_le, int_lt, ints, length, map, refl}
-use Rattle.tz_timeline.proofs.Words.{suc, sum_by-cons, take, true, zero, ℕ, ℤ, [], ◌+◌, ◌-◌, ◌<ℤ◌, ◌<◌, ◌∙◌, ◌∷◌, ◌≡◌, ◌≤ℤ◌, ◌≤◌}
+use Rattle.tz_timeline.proofs.Words.{Bool, List, add-suc, add-zero, ap, arith, cond, count_by, false, filter, get_or, int_le, int_lt, ints, length, refl, suc}
+use Rattle.tz_timeline.proofs.Words.{sum_by-cons, take, true, zero, ℕ, ℤ, [], ◌+◌, ◌-◌, ◌<ℤ◌, ◌<◌, ◌∙◌, ◌∷◌, ◌≡◌, ◌≤ℤ◌, ◌≤◌}
 
 -- the first n items pass
 abbrev pub PassFirst : {X : Type 0} → (X → Bool) → List X → ℕ → Type 0
@@ -33,11 +33,6 @@ count_least p [] (suc n) h passes = absurd (omega arith)
 count_least p (x ∷ xs) (suc n) h passes =
     let rest = count_least p xs n (omega arith) (λ k d l. passes (suc k) d (omega arith)) in
     rw (sum_by-cons (λ x. cond (p x) 1 0) x xs, passes 0 x (omega arith)) (omega arith)
-
-pub mapped_at : {X Y : Type 0} (f : X → Y) (xs : List X) (i : ℕ) (d : X) (e : Y) → i < length xs → get_or (map f xs) i e ≡ f (get_or xs i d)
-mapped_at f [] i d e h = absurd (omega arith)
-mapped_at f (x ∷ xs) zero d e h = refl
-mapped_at f (x ∷ xs) (suc i) d e h = mapped_at f xs i d e (omega arith)
 
 rises_by : (f : ℕ → ℤ) (n : ℕ) → ((i : ℕ) → suc i < n → f i ≤ℤ f (suc i)) → (i k : ℕ) → i + k < n → f i ≤ℤ f (i + k)
 rises_by f n step i zero h = rw add-zero (omega (arith, ints))

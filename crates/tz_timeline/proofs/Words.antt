@@ -2,7 +2,7 @@
 pub use Rattle.std.proofs.Common.{Bool, List, add-suc, add-zero, ap, arith, cond, div-lt_iff_lt-mul, div-mul-le_self, drop, false, get_or, inl, inr, int_le}
 pub use Rattle.std.proofs.Common.{int_lt, length, lt-suc_self, map, max, mul-le-mul_right, nat_abs, negsuc, option_map, pos, refl, replicate, rules, set, suc}
 pub use Rattle.std.proofs.Common.{sym, take, to_z-of_z, true, w64, zero, ℕ, ℤ, [], ◌*◌, ◌+ℤ◌, ◌+◌, ◌-ℤ◌, ◌-◌, ◌/◌, ◌<ℤ◌, ◌<◌, ◌^◌, ◌∙◌, ◌∷◌, ◌≡◌, ◌≢◌, ◌≤ℤ◌}
-pub use Rattle.std.proofs.Common.{◌≤◌, ◌⊎◌}
+pub use Rattle.std.proofs.Common.{◌++◌, ◌≤◌, ◌⊎◌}
 pub use Rattle.std.proofs.Math.Pow.{shr_mono}
 pub use Rattle.std.proofs.lemmas.Bool.{cases_eq, cases_lt}
 pub use Rattle.std.proofs.lemmas.Grind.{get_or-set_at}
@@ -18,7 +18,7 @@ pub use Rattle.tz_timeline.specs.Counts.{Counts}
 pub use Rattle.tz_timeline.specs.Digits.{digits_within}
 unfoldable pub use Rattle.tz_timeline.specs.Digits.{digits}
 pub use Rattle.tz_timeline.specs.Search.{AreOrdered, ArePassed, IsLastOf, item_time}
-pub use Rattle.tz_timeline.specs.Steps.Hints.{AreFilled, AreHints, AreMarked, AreRaised, AreRaisedUntil, IsHinted, IsLastBefore, stretch_of}
+pub use Rattle.tz_timeline.specs.Steps.Hints.{AreHints, AreMarked, AreRaised, AreRaisedUntil, IsHinted, IsLastBefore, stretch_of}
 pub use Rattle.tz_timeline.specs.Steps.Search.{AreEnds, IsLeft, IsNarrowedTo}
 pub use Rattle.tz_timeline.specs.declared.hints.Hints.{Hints}
 pub use Rattle.tz_timeline.specs.declared.hints.Near.{Near}

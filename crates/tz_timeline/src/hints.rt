@@ -7,7 +7,7 @@
 
 ghost use Rattle.std.specs.Prelude.{◌≡◌, ◌+◌, ◌*◌, ◌/◌, ◌^◌, ◌<◌, ◌≤◌, ◌≤ℤ◌, ◌-ℤ◌, pos, suc, length, map, List, ℤ, ℕ};
 ghost use Rattle.std.specs.Prelude.{slice_index, MatchOption, MatchResult, ⊤};
-ghost use Rattle.tz_timeline.specs.Steps.Hints.{AreFilled, AreHints, AreMarked, AreNonDecreasing, AreRaised, IsHinted};
+ghost use Rattle.tz_timeline.specs.Steps.Hints.{AreHints, AreMarked, AreNonDecreasing, AreRaised, IsHinted};
 ghost use Rattle.tz_timeline.specs.Steps.Hints.{stretch_of};
 ghost use Rattle.tz_timeline.specs.Search.{AreOrdered, item_time};
 
@@ -59,7 +59,8 @@ impl Hints {
         let span = seconds_between(first, items[count - 1].second());
         let shift = shift_for(span, most_stretches(count));
         let mut places = vec![in alloc; 0; (span >> shift) as usize + 2]?;
-        let most = fill(&mut places, items, first, shift);
+        mark(&mut places, items, first, shift);
+        let most = raise(&mut places);
         if 2 * (most as usize + 1) > count {
             return Ok(Hints::none(alloc));
         }
@@ -117,24 +118,8 @@ fn shift_for(span: u64, most: u64) -> u32
     63
 }
 
-// Fills in the places, where there are only zeros, and gives the most by which one is greater than
-// the one before it.
-fn fill<T: Timed>(places: &mut [u32], items: &[T], first: i64, shift: u32) -> u32
-    requires shift { shift < 64 }
-    requires ordered { AreOrdered (map T.time items.now) }
-    requires first { (k : ℕ) → k < length items.now → first ≤ℤ item_time (map T.time items.now) k }
-    requires room { (k : ℕ) → k < length items.now → suc (stretch_of first
-        (item_time (map T.time items.now) k) shift) < length places.old }
-    requires none { (b : ℕ) → slice_index places.old b ≡ 0 }
-    requires few { length items.now < 2 ^ 32 }
-    ensures { AreFilled (map T.time items.now) first shift places.old places.new result }
-{
-    mark(places, items, first, shift);
-    raise(places)
-}
-
-// Notes the place of each item after its stretch. Where several lie in one stretch, the last of
-// them stays.
+// Notes the place of each item after its stretch, where there are only zeros. Where several lie in
+// one stretch, the last of them stays.
 fn mark<T: Timed>(places: &mut [u32], items: &[T], first: i64, shift: u32)
     requires shift { shift < 64 }
     requires ordered { AreOrdered (map T.time items.now) }

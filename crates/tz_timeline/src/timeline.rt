@@ -93,8 +93,7 @@ impl<T: Timed> Model for Timeline<T> {
 }
 
 impl<T: Timed> Timeline<T> {
-    /// Returns the timeline of those items, which are in order of time: none is before one with a lower
-    /// index.
+    /// Returns the timeline of those items, none of which is before one with a lower index.
     ///
     /// # Errors
     ///

@@ -1,5 +1,5 @@
 -- The least and the greatest of some offsets, and how they are found.
-use Rattle.std.specs.Prelude.{ℕ, ◌≡◌, ◌<◌, ◌⊎◌, List, slice_index_or, map, Contains, ℤ, ◌≤ℤ◌}
+use Rattle.std.specs.Prelude.{◌≡◌, ◌⊎◌, List, map, ℤ, ◌≤ℤ◌}
 use Rattle.tz_base.specs.LocalTypes.{LocalType}
 use Rattle.tz_info.specs.Windows.{IsGreatest, IsLeast}
 use Rattle.tz_info.specs.declared.rule.transition_rule.TransitionRule.{TransitionRule}
@@ -27,10 +27,3 @@ pub record AreJoined (old : Extremes) (offset : ℤ) (new : Extremes) : Type 0 w
 abbrev pub AreJoinedByRule : Extremes → TransitionRule → Extremes → Type 0
 AreJoinedByRule old (Fixed only) new = AreJoined old only.offset new
 AreJoinedByRule old (Alternate a) new = (one : Extremes) × AreJoined old a.std.offset one × AreJoined one a.dst.offset new
-
--- they are offsets of the types, and the first n types lie between them
-pub record AreExtremesUntil (types : List LocalType) (n : ℕ) (e : Extremes) : Type 0 where
-  pub greatest_among : Contains (offsets_of types) e.greatest
-  pub least_among : Contains (offsets_of types) e.least
-  pub most : (k : ℕ) (d : LocalType) → k < n → (slice_index_or types k d).offset ≤ℤ e.greatest
-  pub fewest : (k : ℕ) (d : LocalType) → k < n → e.least ≤ℤ (slice_index_or types k d).offset

@@ -46,6 +46,7 @@ fn rule_or_none(extended: bool, text: &[u8]) -> Result<Option<TransitionRule>, E
 }
 
 // A function of its own, since the reader's clause keeps the bytes after the text.
+#[tactic(auto, using(crate::proofs::FooterLaws::rule_given))]
 fn read_rule(extended: bool, text: &[u8]) -> Result<TransitionRule, Error>
     ensures { Gives (λ r. r) result (rule_in extended text.now) }
 {

@@ -1,11 +1,11 @@
 //! A file from its first byte to its last: its pieces, and the lists that they spell.
 
-ghost use Rattle.std.specs.Prelude.{[], ◌≡◌, ◌⊎◌, IfOk, IfErr, MatchResult, option_map};
+ghost use Rattle.std.specs.Prelude.{[], ◌≡◌, ◌⊎◌, MatchResult, option_map};
 ghost use Rattle.std.specs.Result.{IsErrAnd};
 ghost use Rattle.tz_base.specs.Fronts.{Gives};
 ghost use Rattle.tz_base.specs.declared.error.Error.TheVariants.{InvalidTzFile, OutOfMemory};
 ghost use Rattle.tz_base.specs.declared.error.Expected.TheVariants.{TZifAtFrontOfHeader};
-ghost use Rattle.tz_info.specs.Zones.{Zone, IsValid, ListFault};
+ghost use Rattle.tz_info.specs.Zones.{IsValid, ListFault};
 ghost use Rattle.tz_info.specs.FileBlocks.{parts_of};
 ghost use Rattle.tz_base.specs.Grammar.{read};
 ghost use Rattle.tz_info.specs.Steps.ContentReading.{GivesInMemory};
@@ -13,9 +13,8 @@ ghost use Rattle.tz_info.specs.Steps.FooterReading.{footer_of};
 ghost use Rattle.tz_info.specs.Steps.FileLists.{pieces_of, pieces_at, zone_of_lists, lists_in, with_types, with_rule};
 ghost use Rattle.tz_info.specs.Steps.FileLists.{HasLengths, Reads};
 ghost use Rattle.tz_info.specs.FileHeaders.{HasOtherMagic};
-ghost use Rattle.tz_info.specs.FilePieces.{FilePieces, HasPieces, is_extended, first_version, later_version};
+ghost use Rattle.tz_info.specs.FilePieces.{is_extended, first_version, later_version};
 ghost use Rattle.tz_info.specs.FilePieces.{after_first_block};
-ghost use Rattle.tz_info.specs.TzFiles.{IsTzFile, IsZoneFault};
 
 use crate::file::block::{Block, read_block};
 use crate::file::contents::{check_indicators, read_leap_seconds, read_transitions};
@@ -56,24 +55,6 @@ impl Lists {
 
 /// The lists that the bytes of a file spell.
 pub fn read_lists(alloc: Global, bytes: &[u8]) -> Result<Lists, Error>
-    // What is answered is spelled.
-    ensures found { IfOk result (λ lists. IsTzFile bytes.now (zone_of_lists lists)) }
-    // What is spelled is answered, unless memory runs out.
-    ensures only { (z : Zone) → IsTzFile bytes.now z
-        → MatchResult result (λ lists. zone_of_lists lists ≡ z) (λ e. e ≡ OutOfMemory) }
-    // A refusal names a fault that is there.
-    ensures fault { IfErr result (λ e. IsZoneFault bytes.now e) }
-    // Running out of memory is answered only where every piece of the file is there.
-    ensures memory { IfErr result
-        (λ e. e ≡ OutOfMemory → (p : FilePieces) × HasPieces bytes.now p) }
-    ensures magic { HasOtherMagic bytes.now
-        → IsErrAnd result (λ e. e ≡ InvalidTzFile TZifAtFrontOfHeader) }
-{
-    read_file(alloc, bytes)
-}
-
-// The same by one relation, from which the four clauses follow.
-fn read_file(alloc: Global, bytes: &[u8]) -> Result<Lists, Error>
     ensures lists { Reads result bytes.now }
     ensures magic { HasOtherMagic bytes.now
         → IsErrAnd result (λ e. e ≡ InvalidTzFile TZifAtFrontOfHeader) }

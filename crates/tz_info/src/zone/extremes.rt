@@ -72,8 +72,8 @@ fn extremes_of_types(types: &[LocalTimeType]) -> Extremes
         least: first,
         greatest: first,
     };
-    for local_type in types {
-        found = found.with(local_type.offset());
+    for place in 1..types.len() {
+        found = found.with(types[place].offset());
     }
     found
 }

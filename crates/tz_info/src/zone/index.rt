@@ -93,6 +93,7 @@ impl Index {
     }
 
     // The index of the zone of those lists, which has those pieces.
+    #[tactic(auto, using(crate::proofs::WallPieces::starts_in_order))]
     fn of_pieces(alloc: Global, lists: Lists, all: Pieces) -> Result<Index, Error>
         requires valid { IsValid (zone_in lists) }
         requires some { 0 < length lists.transitions.now }

@@ -71,6 +71,7 @@ fn pieces_with_leaps(alloc: Global, lists: Lists, starts: &[Kept]) -> Result<Opt
 
 // The same, where it is known whether there are no leap seconds to be counted.
 #[inline(always)]
+#[tactic(auto, using(crate::proofs::OnePass::within_table))]
 fn pieces_by(
     alloc: Global,
     lists: Lists,

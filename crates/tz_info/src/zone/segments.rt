@@ -57,6 +57,7 @@ pub(super) fn segment_at(lists: Lists, place: usize) -> Segment
 
 // The index of the type in force after so many transitions.
 #[inline(always)]
+#[tactic(auto, using(crate::proofs::SegmentLaws::index_next))]
 pub(super) fn index_of_segment(lists: Lists, place: usize) -> usize
     requires valid { IsValid (zone_in lists) }
     requires place { place ≤ length lists.transitions.now }

@@ -59,6 +59,7 @@ impl PartialEq for Table {
 
 impl Table {
     // The table of those transitions.
+    #[tactic(auto, using(crate::proofs::TableSearch::in_order))]
     pub(super) fn new(alloc: Global, entries: Vec<Transition>) -> Result<Table, Error>
         requires { AreRising entries.items }
         ensures { MatchResult result (λ t. t ≡ entries.items) (λ e. e ≡ OutOfMemory) }

@@ -103,6 +103,7 @@ fn name_types(type_count: usize, transitions: &[Transition]) -> bool
 
 // Whether a zone of that many types may have the transitions, in one pass over them. None is left
 // out where one before it does not stand, so that the loop has no branch.
+#[tactic(auto, using(crate::proofs::TableSearch::stand_more, crate::proofs::TableSearch::stand_less))]
 fn are_transitions(type_count: usize, transitions: &[Transition]) -> bool
     ensures { IsTrue result ↔ AreTransitions type_count transitions.now }
 {

@@ -49,10 +49,3 @@ pub record AreRaisedUntil (before after : List ℕ) (most n : ℕ) : Type 0 wher
 
 abbrev pub AreRaised : List ℕ → List ℕ → ℕ → Type 0
 AreRaised before after most = AreRaisedUntil before after most (length before)
-
--- both of these
-pub record AreFilled (times : List ℤ) (first : ℤ) (shift : ℕ) (before after : List ℕ) (most : ℕ) : Type 0 where
-  pub marked : List ℕ
-  pub count : length marked ≡ length before
-  pub are_marked : AreMarked times first shift (length times) marked
-  pub are_raised : AreRaised marked after most

@@ -1,6 +1,9 @@
-use Rattle.tz_info.proofs.Words.{Exact, arith, is_magic, lawful, not-false, sym, ◌∙◌}
-use Rattle.tz_info.proofs.HeaderLaws.{not_magic}
+use Rattle.tz_info.proofs.Words.{HasOtherMagic, List, Ok, exact_at, exact_cut, magic_test, true, ℕ, ◌≡◌, Exact, arith, is_magic, lawful, not-false, sym, ◌∙◌}
 use Rattle.tz_info.proofs.file.header.read_magic.Goals as goal
+
+-- four other bytes are at the front
+not_magic : (bytes : List ℕ) (x : List ℕ × List ℕ) → HasOtherMagic bytes → exact_at 4 bytes ≡ Ok x → is_magic x.0 ≡ true → ⊥
+not_magic bytes x h k m = let t = (lawful (Exact 4) bytes).takes x k in h.1 ((exact_cut 4 bytes x.0 x.1 t.0 t.1).0 ∙ (magic_test x.0).decides.0 m)
 
 pub returns-in_err-front-clause-magic : goal.returns-in_err-front-clause-magic
 returns-in_err-front-clause-magic c = λ h. absurd (omega (arith, h.0, ((lawful (Exact 4) c.args.cursor.now).fails _ c.in_err-front.ensures.value).0))

@@ -1,14 +1,13 @@
-use Rattle.tz_info.proofs.TzFileLaws.{fault, found, memory, only}
+use Rattle.tz_info.proofs.Words.{err_from_is_err_and, pieces_of}
+use Rattle.tz_info.proofs.FilePieceLaws.{has_lengths, pieces_law}
+use Rattle.tz_info.proofs.TzFileLaws.{no_pieces, reads}
 use Rattle.tz_info.proofs.file.reader.read_lists.Goals as goal
 
-pub returns-clause-found : goal.returns-clause-found
-returns-clause-found c = found c.args.bytes.now c.read_file.result c.read_file.ensures.lists
+pub lists_of-requires : goal.lists_of-requires
+lists_of-requires c = has_lengths c.args.bytes.now _ ((pieces_law c.args.bytes.now).takes _ c.in_ok-pieces.ensures.pieces)
 
-pub returns-clause-only : goal.returns-clause-only
-returns-clause-only c = only c.args.bytes.now c.read_file.result c.read_file.ensures.lists
+pub returns-clause-lists : goal.returns-clause-lists
+returns-clause-lists c = reads c.args.bytes.now (pieces_of c.in_ok-pieces.pieces) c.lists_of.result c.in_ok-pieces.ensures.pieces c.lists_of.ensures
 
-pub returns-clause-fault : goal.returns-clause-fault
-returns-clause-fault c = fault c.args.bytes.now c.read_file.result c.read_file.ensures.lists
-
-pub returns-clause-memory : goal.returns-clause-memory
-returns-clause-memory c = memory c.args.bytes.now c.read_file.result c.read_file.ensures.lists
+pub returns-in_err-pieces-clause-lists : goal.returns-in_err-pieces-clause-lists
+returns-in_err-pieces-clause-lists c = let p = err_from_is_err_and c.from_residual.result c.from_residual.ensures.1 in rw (p.1, p.2) (no_pieces c.args.bytes.now _ c.in_err-pieces.ensures.pieces)

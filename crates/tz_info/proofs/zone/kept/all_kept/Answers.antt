@@ -1,14 +1,11 @@
-use Rattle.tz_info.proofs.Words.{Transition, add-one, arith, pos, refl, take-suc, take_all, ◌∙◌}
+use Rattle.tz_info.proofs.Words.{add-one, arith, pos, refl, take-suc, take_all, ◌∙◌}
 use Rattle.tz_info.proofs.zone.kept.all_kept.Goals as goal
-
-abbrev none : Transition
-none = record { unix_leap_time = pos 0; type_index = 0 }
 
 pub loop-transition-preserved : goal.loop-transition-preserved
 loop-transition-preserved c = record {
   all = rw (
     add-one,
-    take-suc c.args.transitions.now c.loop-transition.transition-index none (omega arith),
+    take-suc c.args.transitions.now c.loop-transition.transition-index (record { unix_leap_time = pos 0; type_index = 0 }) (omega arith),
     c.push_reserved.ensures.items,
     c.loop-transition.invariant.all,
     c.in_ok-entry.ensures,

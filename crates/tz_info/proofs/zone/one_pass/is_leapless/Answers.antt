@@ -1,5 +1,5 @@
-use Rattle.tz_info.proofs.Words.{SFits, Transition, arith, get_or, length, nat_tests, pos, rules, to_z-of_z, w64, ◌-◌, ◌≡◌}
-use Rattle.tz_info.proofs.OnePass.{at_least, at_most, leapless_between}
+use Rattle.tz_info.proofs.Words.{SFits, Transition, arith, get_or, le_is, length, nat_tests, pos, rules, to_z-of_z, w64, ◌-◌, ◌≡◌}
+use Rattle.tz_info.proofs.OnePass.{leapless_between}
 use Rattle.tz_info.proofs.zone.one_pass.is_leapless.Goals as goal
 
 abbrev none : Transition
@@ -12,4 +12,4 @@ returns-then-first c =
     let fa : SFits w64 (get_or c.args.transitions.now 0 none).unix_leap_time = search rules in
     let fb : SFits w64 (get_or c.args.transitions.now (length c.args.transitions.now - 1) none).unix_leap_time = search rules in
     let low = simp to_z-of_z at c.if-first.true in
-    simp to_z-of_z (λ high. leapless_between c.args.transitions.now c.args.leaps.now none c.requires.rising empty some (at_least _ low) (at_most _ high))
+    simp to_z-of_z (λ high. leapless_between c.args.transitions.now c.args.leaps.now none c.requires.rising empty some (le_is _ _ low) (le_is _ _ high))

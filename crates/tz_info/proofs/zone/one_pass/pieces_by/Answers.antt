@@ -82,18 +82,6 @@ returns c =
       | else-count-lists w ↦ rw (w.pieces-is, c.segment_at.ensures.index) (rw all at (c.loop-place.invariant.pieces.whole (let rule = w.if-count-lists.false in omega arith)))
     ]
 
-pub push_reserved-requires : goal.push_reserved-requires
-push_reserved-requires c =
-    let count = c.table_count-count.ensures in
-    let inside = within_table (zone_in c.args.lists) c.loop-place.place (omega arith) in
-    omega arith
-
-pub push_reserved-requires-in-loop-place : goal.push_reserved-requires-in-loop-place
-push_reserved-requires-in-loop-place c =
-    let count = c.table_count-count.ensures in
-    let inside = within_table (zone_in c.args.lists) c.loop-place.place (omega arith) in
-    omega (arith, c.push_reserved.ensures.len, c.push_reserved.ensures.capacity)
-
 pub push_reserved-requires-then-count-lists : goal.push_reserved-requires-then-count-lists
 push_reserved-requires-then-count-lists c =
     let until = c.loop-place.auto.place-end (omega arith) in

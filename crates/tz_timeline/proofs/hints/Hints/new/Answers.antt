@@ -1,5 +1,5 @@
-use Rattle.tz_timeline.proofs.Words.{SFits, ap, arith, drop, item_time, length, length-map, length-replicate, map, pos, replicate, rules, take-append-le}
-use Rattle.tz_timeline.proofs.Words.{take_all, to_z-of_z, w64, ◌+◌, ◌-ℤ◌, ◌-◌, ◌/◌, ◌^◌, ◌∙◌, ◌≡◌}
+use Rattle.tz_timeline.proofs.Words.{List, SFits, ap, arith, drop, item_time, length, length-map, length-replicate, map, pos, replicate, rules, take}
+use Rattle.tz_timeline.proofs.Words.{take-append-le, take_all, to_z-of_z, w64, ℕ, ◌++◌, ◌+◌, ◌-ℤ◌, ◌-◌, ◌/◌, ◌^◌, ◌∙◌, ◌≡◌}
 use Rattle.tz_timeline.proofs.HintLaws.{first_least, hints_made, slots}
 use Rattle.tz_timeline.proofs.SearchSteps.{time_read}
 use Rattle.tz_timeline.proofs.hints.Hints.new.Given.{Over}
@@ -22,19 +22,23 @@ span_is g c =
 zeros_are : (g : Over) (c : After-deref_mut g) → c.deref_mut.result.now ≡ replicate (c.seconds_between-span.result / 2 ^ c.shift_for-shift.result + 2) 0
 zeros_are g c = c.deref_mut.ensures.value ∙ c.in_ok-places.ensures.items_if_clones_equal (λ y e. e)
 
-pub fill-most-requires-clause-first : goal.fill-most-requires-clause-first
-fill-most-requires-clause-first g c = λ k h.
+pub mark-requires-clause-first : goal.mark-requires-clause-first
+mark-requires-clause-first g c = λ k h.
     let ff : SFits w64 c.second-first.result = search rules in
     let long = length-map c.args.items.now g.T.Timed.time in
     simp to_z-of_z (first_least _ c.second-first.result k c.requires (first_is g c) (omega arith))
 
-pub fill-most-requires-clause-room : goal.fill-most-requires-clause-room
-fill-most-requires-clause-room g c = λ k h.
+pub mark-requires-clause-room : goal.mark-requires-clause-room
+mark-requires-clause-room g c = λ k h.
     let ff : SFits w64 c.second-first.result = search rules in
     let long = length-map c.args.items.now g.T.Timed.time in
     let slot = slots (map g.T.Timed.time c.args.items.now) c.second-first.result c.seconds_between-span.result c.shift_for-shift.result k c.requires (first_is g c) (span_is g c) (omega arith) in
     let count = ap length (zeros_are g c) ∙ length-replicate (c.seconds_between-span.result / 2 ^ c.shift_for-shift.result + 2) 0 in
     simp to_z-of_z (omega arith)
+
+-- what a slice of all numbers was written to
+written : (len : ℕ) (new old : List ℕ) → length new ≡ len → take len (new ++ drop (length new) old) ≡ new
+written len new old e = take-append-le len new (drop (length new) old) (omega arith) ∙ take_all len new (omega arith)
 
 pub returns : goal.returns
 returns g c =
@@ -42,9 +46,11 @@ returns g c =
     let ff : SFits w64 c.second-first.result = search rules in
     let long = length-map c.args.items.now g.T.Timed.time in
     let count = ap length (zeros_are g at) ∙ length-replicate (c.seconds_between-span.result / 2 ^ c.shift_for-shift.result + 2) 0 in
-    let filled = simp to_z-of_z at c.fill-most.ensures in
-    let raised = filled.are_raised.count in
-    let marked = filled.count in
+    let m = simp to_z-of_z at c.mark.ensures in
+    let same = m.length in
     let size = c.in_ok-places.ensures.len in
-    let written = take-append-le c.in_ok-places.places.len c.fill-most.new.places (drop (length c.fill-most.new.places) c.in_ok-places.places.items) (omega arith) ∙ take_all c.in_ok-places.places.len c.fill-most.new.places (omega arith) in
-    hints_made _ _ c.second-first.result c.seconds_between-span.result c.fill-most.result c.deref_mut.result.now c.requires (omega arith) c.shift_for-shift.ensures.shift (first_is g at) (span_is g at) count (rw written filled) (omega arith)
+    let marked = c.deref_mut-2.ensures.value ∙ written c.in_ok-places.places.len c.mark.new.places c.in_ok-places.places.items (omega arith) in
+    let raised = rw marked at c.raise-most.ensures in
+    let as_long = raised.count in
+    hints_made _ _ c.second-first.result c.seconds_between-span.result c.raise-most.result c.mark.new.places c.requires (omega arith) c.shift_for-shift.ensures.shift (first_is g at) (span_is g at) (omega arith) (rw long m.marked)
+    (rw (written c.in_ok-places.places.len c.raise-most.new.numbers _ (omega arith)) raised) (omega arith)
