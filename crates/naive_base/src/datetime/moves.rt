@@ -14,24 +14,15 @@ const NANOS_PER_SECOND: i128 = 1_000_000_000;
 // The length of that many seconds and nanoseconds.
 fn sum_of(secs: i64, nanos: i32) -> TimeDelta
     requires secs { IsWithin 20_000_000_000_000 secs }
+    requires nanos { IsWithin 1_999_999_999 nanos }
     ensures { nanos_of result ≡ secs *ℤ pos 1_000_000_000 +ℤ nanos }
 {
-    let (whole, rest) = whole_and_rest(nanos);
-    TimeDelta::new(secs + whole, rest).unwrap()
-}
-
-// The whole seconds, rounded down, and the nanoseconds after them.
-fn whole_and_rest(nanos: i32) -> (i64, u32)
-    ensures value { result.0 *ℤ pos 1_000_000_000 +ℤ pos result.1 ≡ nanos }
-    ensures whole { IsWithin 3 result.0 }
-    ensures rest { result.1 < 1_000_000_000 }
-{
-    // Counted from three seconds before, so that no sign is tested.
-    let above = (nanos as i64 + 3_000_000_000) as u64;
-    (
-        (above / 1_000_000_000) as i64 - 3,
-        (above % 1_000_000_000) as u32,
-    )
+    if nanos < -1_000_000_000 {
+        let (secs, nanos) = carried(secs - 1, nanos + 1_000_000_000);
+        return TimeDelta::from_parts(secs, nanos);
+    }
+    let (secs, nanos) = carried(secs, nanos);
+    TimeDelta::from_parts(secs, nanos)
 }
 
 // The second and the nanoseconds of a reading that is no leap second.
@@ -54,6 +45,8 @@ fn carried(secs: i64, nanos: i32) -> (i64, u32)
     requires greatest { nanos <ℤ pos 2_000_000_000 }
     ensures value { record { s = result.0; f = result.1 }
         ≡ of_total (secs *ℤ pos 1_000_000_000 +ℤ nanos) }
+    ensures sum { result.0 *ℤ pos 1_000_000_000 +ℤ pos result.1
+        ≡ secs *ℤ pos 1_000_000_000 +ℤ nanos }
     ensures second { IsWithin 100_000_000_000_000_000 result.0 }
     ensures fraction { result.1 < 1_000_000_000 }
 {
