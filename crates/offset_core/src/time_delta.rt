@@ -94,7 +94,7 @@ impl TimeDelta {
         if secs == greatest.secs && nanos > greatest.nanos {
             return None;
         }
-        Some(TimeDelta { secs, nanos })
+        Some(TimeDelta::from_parts(secs, nanos))
     }
 
     // The nanoseconds may be a second more than a length has.

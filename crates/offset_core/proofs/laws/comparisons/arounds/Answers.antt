@@ -1,4 +1,4 @@
-use Rattle.std.proofs.Common.{rules, IsTrue}
+use Rattle.offset_core.proofs.Words.{IsTrue, rules}
 use Rattle.offset_core.proofs.Arounds.{alike_by}
 use Rattle.offset_core.proofs.laws.comparisons.arounds.Goals as goal
 
