@@ -67,3 +67,5 @@ month_bounds b m = (grind (arith, nat_tests), grind (arith, nat_tests))
 -- a day before March lies in January or February
 pub first_months : (b : Bool) (k : ℕ) → k < 59 + leap_day b → k % 31 + 1 ≤ days_in_month b (k / 31 + 1)
 first_months b k h = grind (arith, nat_tests)
+
+pub ruleset before_month = (leap_day, before_early, before_late)
