@@ -28,8 +28,7 @@ months_rise b m n h = let same : n - m + m ≡ n = omega arith in rw same at (mo
 pub date_lies : (y : ℤ) (m d : ℕ) → IsDate y m d → LiesIn (day_number y m d) y
 unfolding day_number
 date_lies y m d h =
-    let step = months_step (is_leap y) m h.0 in
-    let rise = months_rise (is_leap y) m 12 h.1 in
+    let step = months_step (is_leap y) m h.0 in let rise = months_rise (is_leap y) m 12 h.1 in
     let all = months_all y in let next = year_step y in
     (omega (arith, floors), omega (arith, floors))
 
@@ -59,8 +58,7 @@ pub one_date : (y : ℤ) (m d : ℕ) (y₂ : ℤ) (m₂ d₂ : ℕ) → IsDate y
     → day_number y m d ≡ day_number y₂ m₂ d₂ → (y ≡ y₂) × (m ≡ m₂) × (d ≡ d₂)
 one_date y m d y₂ m₂ d₂ h k e =
     let same = one_year (day_number y m d) y y₂ (date_lies y m d h) (rw e (date_lies y₂ m₂ d₂ k)) in
-    let here : IsDate y₂ m d = rw same at h in
-    let f : day_number y₂ m d ≡ day_number y₂ m₂ d₂ = rw same at e in
+    let here : IsDate y₂ m d = rw same at h in let f : day_number y₂ m d ≡ day_number y₂ m₂ d₂ = rw same at e in
     let place = same_place (is_leap y₂) m d m₂ d₂ here.0 here.2 here.3 k.0 k.2 k.3 (places_of y₂ m d m₂ d₂ f) in
     (same, place.0, place.1)
 
@@ -86,8 +84,7 @@ date_only day y m d h e =
 pub date_between : (a b y : ℤ) (m d : ℕ) → a ≤ℤ y → y ≤ℤ b → IsDate y m d
     → (year_start a ≤ℤ day_number y m d) × (day_number y m d <ℤ year_start (b +ℤ pos 1))
 date_between a b y m d low high h =
-    let lies = date_lies y m d h in
-    let below = starts_rise a y low in
+    let lies = date_lies y m d h in let below = starts_rise a y low in
     let above = starts_rise (y +ℤ pos 1) (b +ℤ pos 1) (omega (arith, floors)) in
     (omega (arith, floors), omega (arith, floors))
 

@@ -41,8 +41,7 @@ from_march b (suc (suc (suc (suc (suc (suc (suc (suc (suc (suc (suc n)))))))))))
 -- the months from March on lie after a January and a February
 pub months_late : (b : Bool) (m : ℕ) → 3 ≤ m → m ≤ 13 → days_of_months b (m - 1) ≡ march_months m + 59 + leap_day b
 months_late b m low high =
-    let before : m - 1 ≡ suc (suc (m - 3)) = omega arith in
-    let same : m - 3 + 3 ≡ m = omega arith in
+    let before : m - 1 ≡ suc (suc (m - 3)) = omega arith in let same : m - 3 + 3 ≡ m = omega arith in
     rw before (rw same at (from_march b (m - 3) (omega arith)))
 
 -- the n-th day from March, from 0, by its month from 3 to 14 and its day of that month
@@ -68,3 +67,5 @@ month_bounds b m = (grind (arith, nat_tests), grind (arith, nat_tests))
 -- a day before March lies in January or February
 pub first_months : (b : Bool) (k : ℕ) → k < 59 + leap_day b → k % 31 + 1 ≤ days_in_month b (k / 31 + 1)
 first_months b k h = grind (arith, nat_tests)
+
+pub ruleset before_month = (leap_day, before_early, before_late)

@@ -49,8 +49,7 @@ century_end n h = elim (eqb_tells n 99) [
 
 pub leap_by : (y : ℤ) (c n : ℕ) → n < 100 → y +ℤ pos 2_147_484_000 ≡ pos (100 * c + n + 1) → is_leap y ≡ ((n % 4 == 3) && (not (n == 99) || (c % 4 == 3)))
 leap_by y c n h e =
-    let four = by_four y c n e in
-    let hundred = by_hundred y c n h e in
+    let four = by_four y c n e in let hundred = by_hundred y c n h e in
     let last = or_test (n == 99) (floor_mod y 400 == 0) (c % 4 == 3) (λ t. by_four_hundred y c (rw (century_end n t) at e)) in
     rw (four, hundred, last) refl
 

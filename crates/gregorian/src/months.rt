@@ -19,6 +19,7 @@ pub fn days_in_month(year: i32, month: u32) -> u32
 }
 
 /// How many days of the year come before the first of the month. Requires: a month from 1 to 12.
+#[tactic(auto, using(crate::proofs::MonthDays::before_month))]
 pub fn days_before_month(year: i32, month: u32) -> u32
     requires { IsInRange 1 12 month }
     ensures value { result ≡ days_of_months (is_leap year) (month - 1) }

@@ -32,8 +32,7 @@ first_digit n = (_, _, refl)
 
 signed_plain : {P : Type 0} (sign n : ℕ) (rest : List ℕ) → sign < 48 → sign ∷ rest ≡ in_digits 4 n → P
 signed_plain sign n rest h e =
-    let first = first_digit n in
-    let same = heads_alike sign (48 + first.0) rest first.1 (e ∙ first.2) in
+    let first = first_digit n in let same = heads_alike sign (48 + first.0) rest first.1 (e ∙ first.2) in
     absurd (omega arith)
 
 size_small : (y : ℤ) → IsWideYear y → unsigned_abs y < 10 ^ 10
@@ -102,8 +101,7 @@ day_text day = date_text (year_of day) (month_of day) (day_of_month day)
 
 pub day_text-alike : (a b : ℤ) → IsWideDay a → IsWideDay b → day_text a ≡ day_text b → a ≡ b
 day_text-alike a b h k e =
-    let here = date_is a in let there = date_is b in
-    let short = month_short (is_leap (year_of a)) (month_of a) in
+    let here = date_is a in let there = date_is b in let short = month_short (is_leap (year_of a)) (month_of a) in
     let short₂ = month_short (is_leap (year_of b)) (month_of b) in
     let same = date_text-alike _ _ _ _ _ _ (wide_year a h) (wide_year b k) (omega (arith, here.0.1)) (omega (arith, here.0.3)) (omega (arith, there.0.1)) (omega (arith, there.0.3)) e in
     sym here.1 ∙ (rw (same.0, same.1, same.2) there.1)

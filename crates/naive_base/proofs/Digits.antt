@@ -37,8 +37,7 @@ decimal_pair n more low =
 
 decimal-two_more : (n : ℕ) → 100 ≤ n → n < 2 ^ 64 → decimal n ≡ decimal (n / 100) ++ in_digits 2 (n % 100)
 decimal-two_more n more fits =
-    let front : n / 10 / 10 ≡ n / 100 = omega arith in
-    let tens : n % 100 / 10 ≡ n / 10 % 10 = omega arith in
+    let front : n / 10 / 10 ≡ n / 100 = omega arith in let tens : n % 100 / 10 ≡ n / 10 % 10 = omega arith in
     let ones : n % 100 % 10 ≡ n % 10 = omega arith in
     rw (decimal_step n (omega arith) fits, decimal_step (n / 10) (omega arith) (omega arith), two_digits (n % 100) (omega arith), front, tens, ones)
     (append_assoc (decimal (n / 100)) ((48 + n / 10 % 10) ∷ []) ((48 + n % 10) ∷ []))
@@ -46,8 +45,7 @@ decimal-two_more n more fits =
 decimal-four_more : (n : ℕ) → 10_000 ≤ n → n < 2 ^ 64 → decimal n ≡ decimal (n / 10_000) ++ in_digits 4 (n % 10_000)
 decimal-four_more n more fits =
     let front : n / 100 / 100 ≡ n / 10_000 = omega arith in
-    let first : n % 10_000 / 100 ≡ n / 100 % 100 = omega arith in
-    let last : n % 10_000 % 100 ≡ n % 100 = omega arith in
+    let first : n % 10_000 / 100 ≡ n / 100 % 100 = omega arith in let last : n % 10_000 % 100 ≡ n % 100 = omega arith in
     rw (decimal-two_more n (omega arith) fits, decimal-two_more (n / 100) (omega arith) (omega arith), in_digits-two_more 2 (n % 10_000), front, first, last)
     (append_assoc (decimal (n / 10_000)) (in_digits 2 (n / 100 % 100)) (in_digits 2 (n % 100)))
 
@@ -124,6 +122,5 @@ cut_at x _ _ s t nothing nothing other e = (refl, tails_alike x s t e)
 cut_at x _ _ s t nothing (byte_and y b low high k) other e = let same = heads_alike x y s (b ++ (x ∷ t)) e in absurd (omega arith)
 cut_at x _ _ s t (byte_and y a low high h) nothing other e = let same = heads_alike y x (a ++ (x ∷ s)) t e in absurd (omega arith)
 cut_at x _ _ s t (byte_and y a low high h) (byte_and z b low₂ high₂ k) other e =
-    let same = heads_alike y z (a ++ (x ∷ s)) (b ++ (x ∷ t)) e in
-    let rest = cut_at x a b s t h k other (cc) in
+    let same = heads_alike y z (a ++ (x ∷ s)) (b ++ (x ∷ t)) e in let rest = cut_at x a b s t h k other (cc) in
     (cc (rest.0), rest.1)

@@ -17,10 +17,8 @@ fourth y = refl
 -- a Thursday at most three days from 4 January is one of the year's first seven days
 first_days : (y t : ℤ) → year_start y ≤ℤ t → t <ℤ (year_start y +ℤ pos 7) → (year_of t ≡ y) × (day_of_year t < 7)
 first_days y t low high =
-    let step = year_step y in let days = days_at_least y in
-    let lies : LiesIn t y = (low, omega (arith, floors)) in
-    let year = one_year t (year_of t) y (lies_in t) lies in
-    let place = rw year at (day_of_year_is t).0 in
+    let step = year_step y in let days = days_at_least y in let lies : LiesIn t y = (low, omega (arith, floors)) in
+    let year = one_year t (year_of t) y (lies_in t) lies in let place = rw year at (day_of_year_is t).0 in
     (year, omega (arith, floors))
 
 pub first_week : (y : ℤ) (week : IsoWeek) → IsWeekOf (day_number y 1 4) week → (iso_year week ≡ y) × (iso_number week ≡ 1)

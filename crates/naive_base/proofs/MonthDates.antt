@@ -7,8 +7,7 @@ use Rattle.naive_base.proofs.Words.{refl, subst, year_of_number, ℤ, ◌≡◌}
 pub date_in_month : (old n : ℤ) → IsDate (year_of_number n) (month_of_number n)
     (min (day_of_month old) (days_in_month (is_leap (year_of_number n)) (month_of_number n)))
 date_in_month old n =
-    let parts = floor_mod_parts n 12 (omega arith) in
-    let is = date_is old in
+    let parts = floor_mod_parts n 12 (omega arith) in let is = date_is old in
     let days = month_bounds (is_leap (year_of_number n)) (month_of_number n) in
     (omega arith, omega (arith, parts.1), le-min is.0.2 (omega (arith, days.0)), min-le_right _ _)
 
@@ -23,8 +22,7 @@ pub months_found : {T : Type 0} (shows : T → ℤ) (gives : Option ℤ → Opti
 months_found shows gives none old by (Some d) fits h = refl
 months_found shows gives none old by None fits h =
     let n = month_after old by in
-    let y = year_of_number n in
-    let m = month_of_number n in
+    let y = year_of_number n in let m = month_of_number n in
     let d = min (day_of_month old) (days_in_month (is_leap y) m) in
     absurd (subst (λ (v : Option ℤ). SomeIff v (MayShow old y m d) (day_number y m d)) (none h.value h.given) h.there
     (date_in_month old n, inl fits))

@@ -20,8 +20,7 @@ pub found_nth : (y : ℤ) (m w n : ℕ) → w < 7 → 1 ≤ n
     → IsDate y m (nth_day (weekday_of (day_number y m 1)) w n)
     → IsWeekdayOfMonth y m w n (day_number y m (nth_day (weekday_of (day_number y m 1)) w n))
 found_nth y m w n h k date =
-    let f = weekday_of (day_number y m 1) in
-    let d = nth_day f w n in
+    let f = weekday_of (day_number y m 1) in let d = nth_day f w n in
     let only = date_only (day_number y m d) y m d date refl in
     let is = nth_is f w n (weekday_below (day_number y m 1)) h k in
     record {
@@ -58,19 +57,16 @@ place_once f n p h weekday nth = (omega (arith, nth), omega (arith, weekday, nth
 
 in_place : (y : ℤ) (p : ℕ) → p < days_in_year y → (year_of (year_start y +ℤ pos p) ≡ y) × (day_of_year (year_start y +ℤ pos p) ≡ p)
 in_place y p h =
-    let t = year_start y +ℤ pos p in
-    let step = year_step y in
+    let t = year_start y +ℤ pos p in let step = year_step y in
     let lies : LiesIn t y = (omega (arith, floors), omega (arith, floors)) in
-    let year = one_year t (year_of t) y (lies_in t) lies in
-    let place = rw year at (day_of_year_is t).0 in
+    let year = one_year t (year_of t) y (lies_in t) lies in let place = rw year at (day_of_year_is t).0 in
     (year, omega (arith, floors))
 
 pub found_thursday : (y : ℤ) (n : ℕ) → 1 ≤ n → thursday_place (weekday_of (year_start y)) n < days_in_year y
     → IsThursdayOfWeek y n (year_start y +ℤ pos (thursday_place (weekday_of (year_start y)) n))
 found_thursday y n h k =
     let p = thursday_place (weekday_of (year_start y)) n in
-    let is = place_is (weekday_of (year_start y)) n (weekday_below (year_start y)) h in
-    let place = in_place y p k in
+    let is = place_is (weekday_of (year_start y)) n (weekday_below (year_start y)) h in let place = in_place y p k in
     record {
       weekday = weekday_later (year_start y) p ∙ is.0;
       year = place.0;
@@ -142,14 +138,12 @@ pub iso_answer : (y : ℤ) (n w : ℕ) (t day : ℤ) (answer : Option NaiveDate)
     → MatchOption answer ((other : ℤ) → IsDayInRange other → IsDayOfIsoWeek y n w other → ⊥)
     (λ d. IsDayInRange (day_of d) × IsDayOfIsoWeek y n w (day_of d))
 iso_answer y n w t day (Some d) h k e is =
-    let found = found_day t w h k.weekday in
-    let same = is.1 ∙ e in
+    let found = found_day t w h k.weekday in let same = is.1 ∙ e in
     let of_week : IsDayOfIsoWeek y n w (t -ℤ pos 3 +ℤ pos ((w + 6) % 7)) =
     record { weekday = found.1; thursday = t; in_week = found.0; of_year = k } in
     (subst IsDayInRange (sym is.1) is.0, subst (λ (u : ℤ). IsDayOfIsoWeek y n w u) (sym same) of_week)
 iso_answer y n w t day None h k e is = λ other inside in_week.
-    let one = only_thursday y n t k in
-    let two = only_thursday y n in_week.thursday in_week.of_year in
+    let one = only_thursday y n t k in let two = only_thursday y n in_week.thursday in_week.of_year in
     let same : in_week.thursday ≡ t = sym two.2 ∙ one.2 in
     let day_is : t -ℤ pos 3 +ℤ pos ((w + 6) % 7) ≡ other =
     subst (λ (u : ℤ). u -ℤ pos 3 +ℤ pos ((w + 6) % 7) ≡ other) same (only_day other in_week.thursday w in_week.weekday in_week.in_week) in

@@ -46,8 +46,7 @@ inner_years day within =
 
 pub inner_days : (day : ℤ) → IsInnerYear (year_of day) → IsInnerDay day
 inner_days day fits =
-    let y = year_of day in let lies = lies_in day in
-    let low = starts_rise (neg_ℤ (pos 262_142)) y fits.0 in
+    let y = year_of day in let lies = lies_in day in let low = starts_rise (neg_ℤ (pos 262_142)) y fits.0 in
     let high = starts_rise (y +ℤ pos 1) (pos 262_141 +ℤ pos 1) (omega (arith, floors)) in
     (omega (arith, floors, second_year), omega (arith, floors, last_year_start))
 
@@ -80,23 +79,20 @@ years_in_range day within =
 
 pub days_in_range : (day : ℤ) → IsYearInRange (year_of day) → IsDayInRange day
 days_in_range day fits =
-    let y = year_of day in let lies = lies_in day in
-    let low = starts_rise (neg_ℤ (pos 262_143)) y fits.0 in
+    let y = year_of day in let lies = lies_in day in let low = starts_rise (neg_ℤ (pos 262_143)) y fits.0 in
     let high = starts_rise (y +ℤ pos 1) (pos 262_142 +ℤ pos 1) (omega (arith, floors)) in
     (omega (arith, floors, first_day_is), omega (arith, floors, end_day))
 
 pub day_in_years : (y : ℤ) (n : ℕ) → IsYearInRange y → n < days_in_year y → IsDayInRange (year_start y +ℤ pos n)
 day_in_years y n h k =
     let low = starts_rise (neg_ℤ (pos 262_143)) y h.0 in
-    let high = starts_rise (y +ℤ pos 1) (pos 262_142 +ℤ pos 1) (omega (arith, floors)) in
-    let step = year_step y in
+    let high = starts_rise (y +ℤ pos 1) (pos 262_142 +ℤ pos 1) (omega (arith, floors)) in let step = year_step y in
     (omega (arith, floors, first_day_is), omega (arith, floors, end_day))
 
 pub inner_day_in_years : (y : ℤ) (n : ℕ) → IsInnerYear y → n < days_in_year y → IsInnerDay (year_start y +ℤ pos n)
 inner_day_in_years y n h k =
     let low = starts_rise (neg_ℤ (pos 262_142)) y h.0 in
-    let high = starts_rise (y +ℤ pos 1) (pos 262_141 +ℤ pos 1) (omega (arith, floors)) in
-    let step = year_step y in
+    let high = starts_rise (y +ℤ pos 1) (pos 262_141 +ℤ pos 1) (omega (arith, floors)) in let step = year_step y in
     (omega (arith, floors, second_year), omega (arith, floors, last_year_start))
 
 pub in_range_or_not : (s : ℤ) → IsInRange s ⊎ (IsInRange s → ⊥)

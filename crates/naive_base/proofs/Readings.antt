@@ -5,8 +5,7 @@ use Rattle.naive_base.proofs.Words.{◌≡◌}
 pub same_second : (s t : ℤ) → floor_div s 86_400 ≡ floor_div t 86_400 → floor_mod s 86_400 ≡ floor_mod t 86_400
     → s ≡ t
 same_second s t days seconds =
-    let here = floor_mod_parts s 86_400 (omega arith) in
-    let there = floor_mod_parts t 86_400 (omega arith) in
+    let here = floor_mod_parts s 86_400 (omega arith) in let there = floor_mod_parts t 86_400 (omega arith) in
     omega (arith, floors)
 
 pub seconds_in_range : (s : ℤ) → IsInRange s → IsDayInRange (floor_div s 86_400)

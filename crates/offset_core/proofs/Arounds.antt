@@ -1,21 +1,19 @@
 -- What shows a local time, kind by kind, and what a choice takes of it.
-use Rattle.std.proofs.Common.{Err, MatchResult, Ok, Result, ap, refl, subst, sym, ◌↔◌, ◌∙◌, ◌≡◌, ℤ}
-use Rattle.std.specs.Prelude.{⊤}
 use Rattle.offset_core.specs.Around.{AreAlikeAround, HoldsOfEachAround, IsAround, Takes, taken_in_fold, taken_in_gap, taken_of}
-use Rattle.offset_core.specs.WallAnswer.{IsNeverShown}
 use Rattle.offset_core.specs.declared.around.Around.{Around}
 use Rattle.offset_core.specs.declared.around.Around.TheVariants.{Ambiguous, Gap, Single}
 use Rattle.offset_core.specs.declared.around.Taken.{Taken}
 use Rattle.offset_core.specs.declared.around.Taken.TheVariants.{InGap, Shown}
 use Rattle.offset_core.specs.declared.choice.Choice.{Choice}
 use Rattle.offset_core.specs.declared.choice.FoldChoice.{FoldChoice}
-use Rattle.offset_core.specs.declared.choice.FoldChoice.TheVariants as folds
 use Rattle.offset_core.specs.declared.choice.GapChoice.{GapChoice}
+use Rattle.offset_core.specs.declared.resolve_error.ResolveError.{ResolveError}
+use Rattle.offset_core.proofs.Words.{Err, IsNeverShown, MatchResult, Ok, Result, ap, refl, subst, sym, ℤ, ⊤, ◌↔◌, ◌∙◌, ◌≡◌}
+use Rattle.offset_core.proofs.WallAnswers.{HasOneValue, one_wall_answer}
+use Rattle.offset_core.specs.declared.choice.FoldChoice.TheVariants as folds
 use Rattle.offset_core.specs.declared.choice.GapChoice.TheVariants as gaps
 use Rattle.offset_core.specs.declared.local_result.LocalResult.TheVariants as answers
-use Rattle.offset_core.specs.declared.resolve_error.ResolveError.{ResolveError}
 use Rattle.offset_core.specs.declared.resolve_error.ResolveError.TheVariants as reasons
-use Rattle.offset_core.proofs.WallAnswers.{HasOneValue, one_wall_answer}
 
 -- a relation that holds of two of one kind as R does of their values, or S of their gaps, and never of two kinds
 pub alike_by : {T G : Type 0} (R : T → T → Type 0) (S : G → G → Type 0) (E : Around T G → Around T G → Type 0)

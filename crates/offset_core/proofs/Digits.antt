@@ -1,9 +1,8 @@
 -- Printed numbers of a fixed width.
-use Rattle.std.proofs.Common.{◌≡◌, ℕ, zero, suc, ◌+◌, ◌/◌, ◌%◌, ◌^◌, ◌<◌, ◌≤◌, List, [], ◌∷◌, ◌++◌, length, arith, refl, ap, ◌∙◌, append_assoc, length-append}
 use Rattle.std.proofs.Math.Nat.{pow-suc}
-use Rattle.std.specs.Fmt.{decimal}
-use Rattle.std.proofs.lemmas.Fmt.{decimal_digit, decimal_step, length-decimal-le}
 use Rattle.offset_core.specs.Digits.{in_digits}
+use Rattle.offset_core.proofs.Words.{List, [], ap, append_assoc, arith, decimal, decimal_digit, decimal_step, length, length-append, length-decimal-le, refl}
+use Rattle.offset_core.proofs.Words.{suc, zero, ℕ, ◌%◌, ◌++◌, ◌+◌, ◌/◌, ◌<◌, ◌^◌, ◌∙◌, ◌∷◌, ◌≡◌, ◌≤◌}
 
 -- texts that begin with parts of one length are equal only part by part
 pub split_left : (a b s t : List ℕ) → length a ≡ length b → a ++ s ≡ b ++ t → (a ≡ b) × (s ≡ t)
@@ -28,8 +27,7 @@ unfolding in_digits
 in_digits_once zero m n a b e = omega arith
 in_digits_once (suc k) m n a b e =
     let parts = split_right (in_digits k (m / 10)) (in_digits k (n / 10)) (_ ∷ []) (_ ∷ []) refl e in
-    let last : 48 + m % 10 ≡ 48 + n % 10 = cc (parts.1) in
-    let low_m : m / 10 < 10 ^ k = omega (arith, pow-suc 10 k) in
+    let last : 48 + m % 10 ≡ 48 + n % 10 = cc (parts.1) in let low_m : m / 10 < 10 ^ k = omega (arith, pow-suc 10 k) in
     let low_n : n / 10 < 10 ^ k = omega (arith, pow-suc 10 k) in
     let front : m / 10 ≡ n / 10 = in_digits_once k (m / 10) (n / 10) low_m low_n parts.0 in
     omega (arith, last, front)
@@ -40,8 +38,7 @@ in_digits_once (suc k) m n a b e =
 pub in_digits-two_more : (j n : ℕ) → in_digits (suc (suc j)) n ≡ in_digits j (n / 100) ++ in_digits 2 (n % 100)
 unfolding in_digits
 in_digits-two_more j n =
-    let front : n / 10 / 10 ≡ n / 100 = omega arith in
-    let tens : n % 100 / 10 % 10 ≡ n / 10 % 10 = omega arith in
+    let front : n / 10 / 10 ≡ n / 100 = omega arith in let tens : n % 100 / 10 % 10 ≡ n / 10 % 10 = omega arith in
     let ones : n % 100 % 10 ≡ n % 10 = omega arith in
     rw (front, tens, ones) (append_assoc (in_digits j (n / 100)) ((48 + n / 10 % 10) ∷ []) ((48 + n % 10) ∷ []))
 

@@ -1,9 +1,5 @@
 -- Offsets and their seconds.
-use Rattle.std.proofs.Common.{◌≡◌, ℤ, Option, Some, None, ap, subst}
-use Rattle.std.proofs.Props.{props}
-use Rattle.offset_core.specs.declared.fixed_offset.FixedOffset.{FixedOffset}
-use Rattle.offset_core.specs.FixedOffset.{seconds_of, IsOffsetOf}
-use Rattle.offset_core.specs.Offset.{IsWithinDay}
+use Rattle.offset_core.proofs.Words.{FixedOffset, IsOffsetOf, IsWithinDay, None, Option, Some, ap, props, seconds_of, subst, ℤ, ◌≡◌}
 
 IsWithinDay-once : (secs : ℤ) → IsProp (IsWithinDay secs)
 IsWithinDay-once secs = hlevel props

@@ -1,3 +1,4 @@
+pub mod Words
 pub mod Arounds
 pub mod Digits
 pub mod FixedOffsets

@@ -1,8 +1,6 @@
 -- Answers of a lookup, kind by kind.
-use Rattle.std.proofs.Common.{◌↔◌}
-use Rattle.offset_core.specs.declared.local_result.LocalResult.{LocalResult}
-use Rattle.offset_core.specs.declared.local_result.LocalResult.TheVariants.{Single, Ambiguous, None}
-use Rattle.offset_core.specs.LocalResult.{AreAlike}
+use Rattle.offset_core.specs.declared.local_result.LocalResult.TheVariants.{Ambiguous, None, Single}
+use Rattle.offset_core.proofs.Words.{AreAlike, LocalResult, ◌↔◌}
 
 -- a relation that holds of two answers of one kind as R does of their values, and never of two kinds
 pub alike_by : {T : Type 0} (R : T → T → Type 0) (E : LocalResult T → LocalResult T → Type 0)

@@ -1,13 +1,10 @@
 -- Offsets print alike only where they are equal.
-use Rattle.std.proofs.Common.{◌≡◌, ℕ, ◌/◌, ◌%◌, ◌<◌, List, ◌∷◌, ◌++◌, length, arith, sym, ap, ◌∙◌, inl, inr, length-append, ℤ, pos, ◌<ℤ◌, ◌≤ℤ◌, unsigned_abs}
 use Rattle.std.proofs.lemmas.Bool.{cases_lt}
 use Rattle.std.proofs.lemmas.Bool.Decides.{nat_tests}
-use Rattle.std.proofs.lemmas.Int.{ints, by_lt_z}
 use Rattle.offset_core.specs.Digits.{in_digits, sign_byte}
-use Rattle.offset_core.specs.FixedOffset.{seconds_of, printed_offset}
-use Rattle.offset_core.specs.Offset.{IsWithinDay, offset_text, short_clock_text}
-use Rattle.offset_core.specs.declared.fixed_offset.FixedOffset.{FixedOffset}
-use Rattle.offset_core.proofs.Digits.{split_left, length-in_digits, in_digits_once}
+use Rattle.offset_core.proofs.Words.{FixedOffset, IsWithinDay, List, ap, arith, by_lt_z, inl, inr, ints, length, length-append, offset_text, pos}
+use Rattle.offset_core.proofs.Words.{printed_offset, seconds_of, short_clock_text, sym, unsigned_abs, ℕ, ℤ, ◌%◌, ◌++◌, ◌/◌, ◌<ℤ◌, ◌<◌, ◌∙◌, ◌∷◌, ◌≡◌, ◌≤ℤ◌}
+use Rattle.offset_core.proofs.Digits.{in_digits_once, length-in_digits, split_left}
 use Rattle.offset_core.proofs.FixedOffsets.{one_offset}
 
 clock_text-whole : (n : ℕ) → n % 60 ≡ 0 → short_clock_text n ≡ in_digits 2 (n / 3600) ++ (58 ∷ in_digits 2 (n / 60 % 60))

@@ -1,14 +1,10 @@
 -- Lengths of time and their nanoseconds.
-use Rattle.std.proofs.Common.{◌≡◌, ◌<◌, ◌<ℤ◌, ◌+ℤ◌, ◌*ℤ◌, ℕ, ℤ, pos, arith, ap, subst}
-use Rattle.std.proofs.Props.{props}
-use Rattle.std.proofs.lemmas.Int.{ints}
 use Rattle.std.specs.Cmp.{int_cmp_is, int_ranks, ranks}
 use Rattle.std.specs.declared.cmp.Ordering.{Ordering}
-use Rattle.std.specs.declared.cmp.Ordering.TheVariants.{Less, Equal, Greater}
+use Rattle.std.specs.declared.cmp.Ordering.TheVariants.{Equal, Greater, Less}
 use Rattle.std.specs.Ordering.{MatchOrdering, int_cmp, nat_cmp, ordering_then}
 use Rattle.offset_core.specs.declared.time_delta.TimeDelta.{TimeDelta}
-use Rattle.offset_core.specs.Nanoseconds.{AreParts, nanos_per_second}
-use Rattle.offset_core.specs.TimeDelta.{nanos_of}
+use Rattle.offset_core.proofs.Words.{AreParts, ap, arith, ints, nanos_of, nanos_per_second, pos, props, subst, ℕ, ℤ, ◌*ℤ◌, ◌+ℤ◌, ◌<ℤ◌, ◌<◌, ◌≡◌}
 
 AreParts-once : (secs : ℤ) (nanos : ℕ) → IsProp (AreParts secs nanos)
 AreParts-once secs nanos = hlevel props

@@ -1,10 +1,6 @@
 -- Laws of the wall clock's answer, whatever the relation is.
-use Rattle.std.proofs.Common.{◌≡◌, ℤ, ◌≤ℤ◌, arith, ap, subst}
-use Rattle.std.proofs.lemmas.Int.{ints}
-use Rattle.offset_core.specs.declared.local_result.LocalResult.{LocalResult}
-use Rattle.offset_core.specs.declared.local_result.LocalResult.TheVariants.{Single, Ambiguous, None}
-use Rattle.offset_core.specs.LocalResult.{map_of}
-use Rattle.offset_core.specs.WallAnswer.{IsShownOnce, IsShownBetween, IsNeverShown, IsWallAnswer}
+use Rattle.offset_core.specs.declared.local_result.LocalResult.TheVariants.{Ambiguous, None, Single}
+use Rattle.offset_core.proofs.Words.{IsNeverShown, IsShownBetween, IsShownOnce, IsWallAnswer, LocalResult, ap, arith, ints, map_of, subst, ℤ, ◌≡◌, ◌≤ℤ◌}
 
 -- a second has at most one value
 abbrev pub HasOneValue : {T : Type 0} → (ℤ → T → Type 0) → Type 0
@@ -61,8 +57,7 @@ one_wall_answer shows value (Single a) (Ambiguous c d) p q = absurd (once_or_bet
 one_wall_answer shows value (Ambiguous a b) None p q = absurd (never_or_between shows a b q p)
 one_wall_answer shows value (Ambiguous a b) (Single c) p q = absurd (once_or_between shows c a b q p)
 one_wall_answer shows value (Ambiguous a b) (Ambiguous c d) p q =
-    let first : a ≡ c = one_first shows a b c d value p q in
-    let last : b ≡ d = one_last shows a b c d value p q in
+    let first : a ≡ c = one_first shows a b c d value p q in let last : b ≡ d = one_last shows a b c d value p q in
     cc
 
 -- where each value of one relation has its image in another at the same second, and the other shows no more, the images

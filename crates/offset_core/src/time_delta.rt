@@ -71,6 +71,15 @@ impl TimeDelta {
         TimeDelta::of_parts(secs, nanos)
     }
 
+    /// Returns the length of that many seconds and nanoseconds. Requires: [`TimeDelta::new`] returns
+    /// one.
+    pub fn from_parts(secs: i64, nanos: u32) -> TimeDelta
+        requires { lengths.AreParts secs nanos }
+        ensures { nanos_of result ≡ secs *ℤ lengths.nanos_per_second +ℤ pos nanos }
+    {
+        TimeDelta { secs, nanos }
+    }
+
     fn of_parts(secs: i64, nanos: u32) -> Option<TimeDelta>
         requires { nanos < 1_000_000_000 }
         ensures { IsDeltaOf (secs *ℤ lengths.nanos_per_second +ℤ pos nanos) result }
@@ -85,7 +94,7 @@ impl TimeDelta {
         if secs == greatest.secs && nanos > greatest.nanos {
             return None;
         }
-        Some(TimeDelta { secs, nanos })
+        Some(TimeDelta::from_parts(secs, nanos))
     }
 
     // The nanoseconds may be a second more than a length has.

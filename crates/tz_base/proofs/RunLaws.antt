@@ -41,3 +41,6 @@ int_at_is max bytes ds rest r e passes stops h =
 -- the same, of the bytes that both make
 pub runs_are : (p : ℕ → Bool) (bytes xs ys : List ℕ) → xs ++ ys ≡ bytes → ((k : ℕ) → k < length xs → p (get_or xs k 0) ≡ true) → (0 < length ys → p (get_or ys 0 0) ≡ false) → (xs ≡ run_of p bytes) × (ys ≡ after_run p bytes)
 runs_are p bytes xs ys e passes stops = let r = run_is p xs ys passes stops in (rw (← e) (sym r.0), rw (← e) (sym r.1))
+
+-- a number grows with each digit, and stays above its limit
+pub ruleset grown = (next_value, value_grows, above_is)

@@ -183,6 +183,7 @@ impl<'a> Cursor<'a> {
 }
 
 // What the digits stand for.
+#[tactic(auto, using(crate::proofs::RunLaws::grown))]
 fn number(digits: &[u8], max: u32) -> Result<u32, Error>
     requires { AllDigits digits.now }
     ensures value { Gives (λ n. n) result (number_within max digits.now) }

@@ -30,6 +30,7 @@ pub fn local_time_types()
 
 /// Changes of the clocks are equal if and only if their seconds and the types before and after are.
 /// A clone is the value, and does not fail.
+#[tactic(auto, using(crate::proofs::ChangeEquality::change_exact))]
 pub fn changes()
     ensures equal { (a b : ClockChange) → IsTrue (⟦<Change as PartialEq>⟧.eq a b) ↔ (a ≡ b) }
     ensures clone { (a b : ClockChange) → ⟦<Change as Clone>⟧.is_clone a b ↔ (b ≡ a) }
@@ -38,6 +39,7 @@ pub fn changes()
 
 /// Spans are equal if and only if their types and both of their ends are. A clone is the value, and
 /// does not fail.
+#[tactic(auto, using(crate::proofs::ChangeEquality::span_exact))]
 pub fn spans()
     ensures equal { (a b : Stretch) → IsTrue (⟦<Span as PartialEq>⟧.eq a b) ↔ (a ≡ b) }
     ensures clone { (a b : Stretch) → ⟦<Span as Clone>⟧.is_clone a b ↔ (b ≡ a) }
@@ -52,6 +54,7 @@ pub fn expectations()
 {}
 
 /// Errors are equal if they are the same. A clone is the error, and does not fail.
+#[tactic(auto, using(crate::proofs::ErrorEquality::error_exact))]
 pub fn errors()
     ensures equal { (a b : Refusal) → IsTrue (⟦<Error as PartialEq>⟧.eq a b) ↔ (a ≡ b) }
     ensures clone { (a b : Refusal) → ⟦<Error as Clone>⟧.is_clone a b ↔ (b ≡ a) }

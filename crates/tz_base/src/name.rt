@@ -85,6 +85,7 @@ impl TimeZoneName {
     }
 
     /// Returns the name as text.
+    #[tactic(auto, using(crate::proofs::NameLaws::name_is_utf8))]
     pub fn as_str(&self) -> &str
         ensures { result.now ≡ self.now }
     {

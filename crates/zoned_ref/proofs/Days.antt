@@ -15,16 +15,14 @@ same_offset z off u t of_zone inside in_force =
 -- ---- days
 on_day_by_type : (z : Zone) (off : ℤ → ℤ) (day u : ℤ) → AreOffsetsOf z off → IsOnDay off day u → (t : LocalType) × OnDayByType z day u t
 on_day_by_type z off day u of_zone h =
-    let there = of_zone u h.in_zone in
-    let inside = h.in_zone in
+    let there = of_zone u h.in_zone in let inside = h.in_zone in
     let since : (pos 86_400 *ℤ day) ≤ℤ (u +ℤ there.type.offset) = rw (← there.offset) h.since in
     let before : (u +ℤ there.type.offset) <ℤ (pos 86_400 *ℤ day +ℤ pos 86_400) = rw (← there.offset) h.before in
     (there.type, record { fits = omega (arith, ints, inside); type = there.in_force; since = since; before = before })
 
 on_day_by_offset : (z : Zone) (off : ℤ → ℤ) (day u : ℤ) (t : LocalType) → IsNarrow z → AreOffsetsOf z off → IsWideDay day → OnDayByType z day u t → IsOnDay off day u
 on_day_by_offset z off day u t narrow of_zone wide h =
-    let within = type_within z u t narrow h.type in
-    let since = h.since in let before = h.before in
+    let within = type_within z u t narrow h.type in let since = h.since in let before = h.before in
     let inside : IsZoneSecond u = (omega (arith, ints, wide, within, since, before), omega (arith, ints, wide, within, since, before)) in
     let same = same_offset z off u t of_zone inside h.type in
     record { in_zone = inside; since = rw same since; before = rw same before }
@@ -43,8 +41,7 @@ ends_of_day z off day s narrow of_zone wide h = record {
 -- ---- the first second at or after a local time
 reached_by_type : (z : Zone) (off : ℤ → ℤ) (l u : ℤ) → AreOffsetsOf z off → HasReached off l u → (t : LocalType) × ShowsAtOrAfter (TypeAt z) l u t
 reached_by_type z off l u of_zone h =
-    let there = of_zone u h.in_zone in
-    let inside = h.in_zone in
+    let there = of_zone u h.in_zone in let inside = h.in_zone in
     let reached : l ≤ℤ (u +ℤ there.type.offset) = rw (← there.offset) h.reached in
     (there.type, record { fits = omega (arith, ints, inside); type = there.in_force; reached = reached })
 
@@ -59,8 +56,7 @@ reached_a_day_on z off l narrow of_zone wide =
 pub first_to_reach : (z : Zone) (off : ℤ → ℤ) (l u : ℤ) (t : LocalType) → IsNarrow z → AreOffsetsOf z off → IsWide l → IsFirstAtOrAfter (TypeAt z) l u t → IsFirstToReach off l u
 first_to_reach z off l u t narrow of_zone wide h =
     let latest = reached_by_type z off l (l +ℤ pos 86_399) of_zone (reached_a_day_on z off l narrow of_zone wide) in
-    let not_later = h.first (l +ℤ pos 86_399) latest.0 latest.1 in
-    let within = type_within z u t narrow h.shown.type in
+    let not_later = h.first (l +ℤ pos 86_399) latest.0 latest.1 in let within = type_within z u t narrow h.shown.type in
     let reached = h.shown.reached in
     let inside : IsZoneSecond u = (omega (arith, ints, wide, within, reached), omega (arith, ints, wide, not_later)) in
     record {

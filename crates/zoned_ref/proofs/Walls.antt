@@ -10,16 +10,14 @@ use Rattle.zoned_ref.proofs.Offsets.{type_within}
 
 pub shown_by_type : (z : Zone) (off : ℤ → ℤ) (l : ℤ) → IsNarrow z → AreOffsetsOf z off → IsWide l → (u : ℤ) (t : LocalType) → types.Shows (TypeAt z) l u t → offsets.ShowsByOffset off l u t.offset
 shown_by_type z off l narrow of_zone wide u t s =
-    let day = type_within z u t narrow s.type in
-    let shown : u +ℤ t.offset ≡ l = s.shown in
+    let day = type_within z u t narrow s.type in let shown : u +ℤ t.offset ≡ l = s.shown in
     let inside : offsets.IsZoneSecond u = (omega (arith, ints, wide, day), omega (arith, ints, wide, day)) in
     let there = of_zone u inside in
     record { in_zone = inside; offset = ap (λ y. y.offset) (type_once z u t there.type s.type there.in_force) ∙ sym there.offset; shown = shown }
 
 pub shown_by_offset : (z : Zone) (off : ℤ → ℤ) (l : ℤ) → AreOffsetsOf z off → (u k : ℤ) → offsets.ShowsByOffset off l u k → (t : LocalType) × types.Shows (TypeAt z) l u t
 shown_by_offset z off l of_zone u k s =
-    let there = of_zone u s.in_zone in
-    let inside = s.in_zone in
+    let there = of_zone u s.in_zone in let inside = s.in_zone in
     let same : k ≡ there.type.offset = s.offset ∙ there.offset in
     (there.type, record { fits = omega (arith, ints, inside); type = there.in_force; shown = rw (← same) s.shown })
 

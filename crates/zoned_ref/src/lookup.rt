@@ -48,6 +48,7 @@ impl<'a> TimeZone for TimeZoneRef<'a> {
         self.offset_from_utc_datetime(&midnight(utc))
     }
 
+    #[tactic(auto, using(crate::proofs::Walls::each_within))]
     fn offset_from_local_datetime(&self, local: &NaiveDateTime) -> LocalResult<ZoneOffset<'a>>
         ensures offsets { AreOffsetsFor (law_of self.now) (reading local.now).s result }
         // They are the offsets of the types in force.

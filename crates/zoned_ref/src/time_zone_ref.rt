@@ -64,6 +64,7 @@ impl<'a> TimeZoneRef<'a> {
     }
 
     /// Returns the parsed zone.
+    #[tactic(auto, using(crate::proofs::Offsets::are_offsets))]
     pub fn zone(&self) -> &'a tz_info::TimeZone
         ensures zone { result.now ≡ zone_of self.now }
         ensures narrow { IsNarrow result.now }
@@ -77,6 +78,7 @@ impl<'a> TimeZoneRef<'a> {
 
 // Leap times that leave 64 bits, and years that no rule answers in, are far away from the seconds
 // that a zone of `DateTime`s answers at. This does nothing: its contract is a law.
+#[tactic(auto, using(crate::proofs::Offsets::zone_has_offsets))]
 fn has_offsets(zone: &tz_info::TimeZone)
     ensures { HasOffsets zone.now }
 {

@@ -139,6 +139,7 @@ impl WallClock {
 }
 
 // The instants at which clocks of those types show the reading, where the zone is narrow.
+#[tactic(auto, using(crate::proofs::Instants::instants_for, crate::proofs::Walls::each_within))]
 fn instants(
     zone: &tz_info::TimeZone,
     local: &NaiveDateTime,

@@ -20,8 +20,7 @@ scaled-next a b span h =
 
 next-is : (q : ℤ) (span : ℕ) → (q *ℤ pos span +ℤ pos span) ≡ (q +ℤ pos 1) *ℤ pos span
 next-is q span =
-    let n = q +ℤ pos 1 in
-    let e : up n + down q ≡ down n + up q + 1 = omega (arith, floors) in
+    let n = q +ℤ pos 1 in let e : up n + down q ≡ down n + up q + 1 = omega (arith, floors) in
     let m : (up n + down q) * span ≡ (down n + up q + 1) * span = ap (λ (x : ℕ). x * span) e in
     omega (arith, floors, add-mul (up n) (down q) span, add-mul (down n + up q) 1 span, add-mul (down n) (up q) span)
 
@@ -90,15 +89,13 @@ nearest-of_all n k span some =
     let up_is = apart-above n (multiple_above n span) high.0 in
     by_lt_z {P = P} n m
     (λ past.
-    let least = not_below n k span some (omega (arith, floors)) in
-    let is = apart-above n m (omega (arith, floors)) in
+    let least = not_below n k span some (omega (arith, floors)) in let is = apart-above n m (omega (arith, floors)) in
     elim (nearest-is n span some) [
       | inl below ↦ rw (below.0) (omega (arith, floors), λ e. absurd (omega (arith, floors)))
       | inr above ↦ rw (above.0) (omega (arith, floors), λ e. omega (arith, floors))
     ])
     (λ within.
-    let greatest = not_above n k span some within in
-    let is = apart-below n m within in
+    let greatest = not_above n k span some within in let is = apart-below n m within in
     elim (nearest-is n span some) [
       | inl below ↦ rw (below.0) (omega (arith, floors), λ e. omega (arith, floors))
       | inr above ↦ rw (above.0) (omega (arith, floors), λ e. omega (arith, floors))

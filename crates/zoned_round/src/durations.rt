@@ -113,16 +113,19 @@ impl DurationRound for NaiveDateTime {
 
     ghost moves = { λ _ _ _ is. is };
 
+    #[tactic(auto, using(crate::proofs::Ways::gone))]
     fn duration_round(self, duration: TimeDelta) -> Result<NaiveDateTime, RoundingError> {
         let stamp = Stamp::of(self, duration)?;
         Ok(reading_after(self, stamp.way_to_nearest()))
     }
 
+    #[tactic(auto, using(crate::proofs::Ways::gone))]
     fn duration_trunc(self, duration: TimeDelta) -> Result<NaiveDateTime, RoundingError> {
         let stamp = Stamp::of(self, duration)?;
         Ok(reading_after(self, stamp.way_below()))
     }
 
+    #[tactic(auto, using(crate::proofs::Ways::gone))]
     fn duration_round_up(self, duration: TimeDelta) -> Result<NaiveDateTime, RoundingError> {
         let stamp = Stamp::of(self, duration)?;
         Ok(reading_after(self, stamp.way_above()))

@@ -32,13 +32,10 @@ less_or_not a b = by_lt_z a b (λ less. inl less) (λ more. inr (λ less. absurd
 -- a reading that no clock shows has an offset before it
 pub gap_has_offset : (off : ℤ → ℤ) (l : ℤ) → ((u : ℤ) → IsZoneSecond u → IsWithinDay (off u)) → IsWide l → IsNeverShown (ShowsByOffset off l) → (k : ℤ) × IsBeforeGap off l k
 gap_has_offset off l day wide never =
-    let p = λ (u : ℤ). l <ℤ (u +ℤ off u) in
-    let start : ℤ = l -ℤ pos 86_399 in
-    let end : ℤ = l +ℤ pos 86_400 in
+    let p = λ (u : ℤ). l <ℤ (u +ℤ off u) in let start : ℤ = l -ℤ pos 86_399 in let end : ℤ = l +ℤ pos 86_400 in
     let end_day = day end (omega (arith, ints, wide.0, wide.1), omega (arith, ints, wide.0, wide.1)) in
     let found = first_from p (λ u. less_or_not l (u +ℤ off u)) 172_799 start end (omega (arith, ints)) (omega (arith, ints, end_day.0)) in
-    let c = found.0 in
-    let from = found.1 in
+    let c = found.0 in let from = found.1 in
     let to = found.2 in (
       off (c -ℤ pos 1),
       record {

@@ -35,8 +35,7 @@ end_of_day off day start next h some = record {
 -- a day of one second or more has this end, and no other
 pub one_end : (off : ℤ → ℤ) (day start next : ℤ) (r : Reading) → AreStartsOfDays off day start next → IsEndOfDay off day r → (start <ℤ next) × (r.s ≡ next -ℤ pos 1)
 one_end off day start next r h k =
-    let within = starts_are off day start next r h k.in_day in
-    let some : start <ℤ next = omega (arith, ints, within) in
+    let within = starts_are off day start next r h k.in_day in let some : start <ℤ next = omega (arith, ints, within) in
     let own = end_of_day off day start next h some in
     (some, by_lt_z r.s (next -ℤ pos 1) (λ less. absurd (k.last (of_secs (next -ℤ pos 1) 999_999_999) own.in_day own.no_leap (inl less))) (λ more. omega (arith, ints, within)))
 
@@ -49,8 +48,7 @@ end_out_of_range off day start next h out r k inside = out (subst IsInRange (one
 -- the last instant of the buffer day after the range is out of range, since clocks are less than a day ahead
 pub end_of_last_day : (off : ℤ → ℤ) (day : ℤ) → StayWithinDay off → last_day <ℤ day → HasNoEnd off day
 end_of_last_day off day within late r k inside =
-    let next = k.in_day.next in
-    let near = within next.s k.in_day.ends.shown.in_zone in
+    let next = k.in_day.next in let near = within next.s k.in_day.ends.shown.in_zone in
     let reached = (to_reached off (midnight (day +ℤ pos 1)) next k.in_day.ends.shown).reached in
     k.last (of_secs (pos 8_210_266_876_800) 0) (record {
       start = k.in_day.start;
@@ -136,8 +134,7 @@ first_second off l u inside shown none least = record {
 
 first_shown : (off : ℤ → ℤ) (l a : Reading) (u k : ℤ) → ShowsByOffset off l.s u k → NonePassed off l.s (l.s -ℤ k) → ((v : ℤ) → ShowsByOffset off l.s v (off v) → u ≤ℤ v) → IsFirstInstantFrom off l a → a ≡ behind l k
 first_shown off l a u k h none least first =
-    let shown = h.shown in
-    let back : u ≡ l.s -ℤ k = omega (arith, ints) in
+    let shown = h.shown in let back : u ≡ l.s -ℤ k = omega (arith, ints) in
     let there : (u +ℤ off u) ≡ l.s = ap (λ (x : ℤ). u +ℤ x) (sym h.offset) ∙ h.shown in
     let reaches = first_second off l.s u h.in_zone there (subst (NonePassed off l.s) (sym back) none) least in
     one_first off l a (behind l k) first (subst (λ (v : ℤ). IsFirstInstantFrom off l (record { s = v; f = l.f })) back (first_exact off l u reaches there))
@@ -150,8 +147,7 @@ first_of_fold off l a k last h none first = first_shown off l a h.first k h.at_f
 
 pub not_later : (off : ℤ → ℤ) (l a : Reading) (u k : ℤ) → ShowsByOffset off l.s u k → IsFirstInstantFrom off l a → ¬ (IsEarlier (behind l k) a)
 not_later off l a u k h first =
-    let shown = h.shown in
-    let back : l.s -ℤ k ≡ u = omega (arith, ints) in
+    let shown = h.shown in let back : l.s -ℤ k ≡ u = omega (arith, ints) in
     let there : (u +ℤ off u) ≡ l.s = ap (λ (x : ℤ). u +ℤ x) (sym h.offset) ∙ h.shown in
     subst (λ (v : ℤ). ¬ (IsEarlier (record { s = v; f = l.f }) a)) (sym back) (first.first (record { s = u; f = l.f }) (record {
       in_zone = h.in_zone;

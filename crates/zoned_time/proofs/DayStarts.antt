@@ -70,8 +70,7 @@ no_later_date off day r inside h = by_lt_z (r.s +ℤ off r.s) ((day +ℤ pos 1) 
 -- if the date is shown when its day starts, that is the first second that shows it
 pub starts_with_first : (off : ℤ → ℤ) (day first last : ℤ) (r : Reading) → IsFirstInstantFrom off (midnight day) r → IsOnDay off day r.s → AreEndsOfDay off day first last → r.s ≡ first
 starts_with_first off day first last r h on ends =
-    let least = ends.not_before r.s on in
-    let since = ends.shown_first.since in
+    let least = ends.not_before r.s on in let since = ends.shown_first.since in
     by_lt_z first r.s
     (λ less. absurd (h.first (of_secs first 0) (at_midnight off day (of_secs first 0) ends.shown_first.in_zone (omega (arith, ints))) (inl less)))
     (λ more. omega (arith, ints))
@@ -143,8 +142,7 @@ climb : (off : ℤ → ℤ) (r : Reading) (n : ℕ) (day start : ℤ) → StayWi
 climb off r zero day start within range low far h started =
     let near = within start h.reached.in_zone in let reached = h.reached.reached in absurd (omega (arith, ints, near))
 climb off r (suc n) day start within range low far h started =
-    let near = within start h.reached.in_zone in
-    let reached = h.reached.reached in
+    let near = within start h.reached.in_zone in let reached = h.reached.reached in
     let next = reaches off (midnight (day +ℤ pos 1)).s within (omega (arith, ints)) (omega (arith, ints, near, range)) in
     by_lt_z r.s next.0
     (λ less. (day, in_day off r day start next.0 h next.1 started less))
@@ -153,8 +151,7 @@ climb off r (suc n) day start within range low far h started =
 pub some_day : (off : ℤ → ℤ) (r : Reading) → StayWithinDay off → IsInRange r.s → (d : ℤ) × IsInDay off d r
 some_day off r within range =
     let inside : IsZoneSecond r.s = (omega (arith, ints, range), omega (arith, ints, range)) in
-    let near = within r.s inside in
-    let day = floor_div (r.s +ℤ off r.s) 86_400 in
+    let near = within r.s inside in let day = floor_div (r.s +ℤ off r.s) 86_400 in
     let start = reaches off (midnight day).s within (omega (arith, ints, floors, range, near)) (omega (arith, ints, floors, range, near)) in
     climb off r 3 day start.0 within range (omega (arith, ints, floors, range, near)) (omega (arith, ints, floors, range, near)) start.1
     (start.1.first r.s (record { in_zone = inside; reached = omega (arith, ints, floors) }))

@@ -113,8 +113,7 @@ fixed_first : {O : Type 0} {m : Meaning O} (law : Law m) (l noon u : ℤ) → Is
 fixed_first law l noon u fixed here inside shown = record {
   reached = let same = fixed u noon inside here in record { in_zone = inside; reached = rw same (omega (arith, ints)) };
   first = λ v h.
-      let same = fixed v noon h.in_zone here in
-      let reached : l ≤ℤ (v +ℤ law.off noon) = rw (← same) h.reached in
+      let same = fixed v noon h.in_zone here in let reached : l ≤ℤ (v +ℤ law.off noon) = rw (← same) h.reached in
       omega (arith, ints);
 }
 

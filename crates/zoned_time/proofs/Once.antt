@@ -24,8 +24,7 @@ one_relocal {m = m} told law l a b h k = sym (map_seconds m told a) ∙ relocal_
 
 pub one_before_gap : (off : ℤ → ℤ) (l j k : ℤ) → IsBeforeGap off l j → IsBeforeGap off l k → j ≡ k
 one_before_gap off l j k a b =
-    let less = a.least b.first b.in_zone.0 b.more in
-    let more = b.least a.first a.in_zone.0 a.more in
+    let less = a.least b.first b.in_zone.0 b.more in let more = b.least a.first a.in_zone.0 a.more in
     let same : a.first ≡ b.first = omega (arith, ints, less, more) in
     a.before ∙ ap (λ u. off (u -ℤ pos 1)) same ∙ sym b.before
 
@@ -36,8 +35,7 @@ one_taken off l choice = one_outcome (ShowsByOffset off l) (IsBeforeGap off l) (
 
 pub taken_once : (off : ℤ → ℤ) (l : ℤ) (choice : Choice) (j k : ℤ) → IsTaken off l choice j → IsTaken off l choice k → j ≡ k
 taken_once off l choice j k p q =
-    let one = one_taken off l choice (Ok p.taken) (Ok q.taken) p.takes q.takes in
-    let same : p.taken ≡ q.taken = cc in
+    let one = one_taken off l choice (Ok p.taken) (Ok q.taken) p.takes q.takes in let same : p.taken ≡ q.taken = cc in
     p.offset ∙ ap offset_taken same ∙ sym q.offset
 
 taken_or_refused : (off : ℤ → ℤ) (l : ℤ) (choice : Choice) (k : ℤ) (e : ResolveError) → IsTaken off l choice k

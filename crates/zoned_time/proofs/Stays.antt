@@ -23,3 +23,5 @@ pub only_where_in : {O : Type 0} {m : Meaning O} (law : Law m) (l : Option Readi
     → IsOffsetAt law d.utc.s d.offset
 only_where_in law (Some l) d h = only_in law l d h
 only_where_in law None d h = cc
+
+pub ruleset in_zone = (stays, only_where_in)

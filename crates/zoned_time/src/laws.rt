@@ -70,6 +70,7 @@ pub fn one_utc(a: &Utc, b: &Utc)
 {}
 
 /// What a zone gives depends only on its law, and in seconds on its offsets in seconds.
+#[tactic(auto, using(crate::proofs::Homes::homes))]
 pub fn zones_of_the_same_offsets<Tz: TimeZone>()
     ensures at { (zone other : Tz) (r : Reading) (d : Zoned Tz.Offset)
         → SameLaw (Tz.law zone) (Tz.law other) → IsInRange r.s
@@ -117,6 +118,7 @@ pub fn local_times_come_back<Tz: TimeZone>()
 /// An instant of a zone that is moved is one of that zone: its offset is in force there, with its
 /// abbreviation and its DST flag. That holds after `+`, and after each call that looks up the offset in
 /// the zone that the offset came from.
+#[tactic(auto, using(crate::proofs::Stays::stays))]
 pub fn in_zone_after_move<Tz: TimeZone>(zone: &Tz, before: &DateTime<Tz>, after: &DateTime<Tz>)
     requires before { IsIn (Tz.law zone.now) before.now }
     requires after { IsIn (home_law_of Tz.meaning before.now) after.now }
@@ -125,6 +127,7 @@ pub fn in_zone_after_move<Tz: TimeZone>(zone: &Tz, before: &DateTime<Tz>, after:
 
 /// So is one that shows another day at its time: after `checked_add_months`, `checked_add_days` or
 /// a change of a field of its date.
+#[tactic(auto, using(crate::proofs::Stays::in_zone))]
 pub fn in_zone_on_day<Tz: TimeZone>(zone: &Tz, before: &DateTime<Tz>, after: &DateTime<Tz>)
     requires before { IsIn (Tz.law zone.now) before.now }
     requires after { (day : Option ℤ)
@@ -133,6 +136,7 @@ pub fn in_zone_on_day<Tz: TimeZone>(zone: &Tz, before: &DateTime<Tz>, after: &Da
 {}
 
 /// And so is one that shows another time on its day: after a change of a field of its time.
+#[tactic(auto, using(crate::proofs::Stays::in_zone))]
 pub fn in_zone_at_time<Tz: TimeZone>(zone: &Tz, before: &DateTime<Tz>, after: &DateTime<Tz>)
     requires before { IsIn (Tz.law zone.now) before.now }
     requires after { (time : Option TimeOfDay)

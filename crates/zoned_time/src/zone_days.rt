@@ -219,6 +219,7 @@ fn starts_of_days<Tz: ZoneDays>(zone: &Tz, date: NaiveDate) -> Option<(i64, i64)
 }
 
 // The midnight after a date, which may be on the buffer day after the range.
+#[tactic(auto, using(crate::proofs::DayEnds::next_midnight))]
 fn midnight_after(date: NaiveDate) -> Option<NaiveDateTime>
     ensures { MatchOption result (¬ (IsWideDay (day_of date +ℤ pos 1)))
         (λ local. reading local ≡ instants.midnight (day_of date +ℤ pos 1)) }
@@ -233,6 +234,7 @@ fn midnight_after(date: NaiveDate) -> Option<NaiveDateTime>
 }
 
 // The start of the day that many days before that of a date.
+#[tactic(auto, using(crate::proofs::DayEnds::earlier_day))]
 fn start_of_earlier_day<Tz: ZoneDays>(zone: &Tz, date: NaiveDate, days: u32) -> Option<DateTime<Tz>>
     ensures { let law = Tz.law zone.now in
         let first = day_of date -ℤ pos days in

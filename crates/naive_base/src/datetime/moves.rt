@@ -14,24 +14,29 @@ const NANOS_PER_SECOND: i128 = 1_000_000_000;
 // The length of that many seconds and nanoseconds.
 fn sum_of(secs: i64, nanos: i32) -> TimeDelta
     requires secs { IsWithin 20_000_000_000_000 secs }
+    requires nanos { IsWithin 1_999_999_999 nanos }
     ensures { nanos_of result ≡ secs *ℤ pos 1_000_000_000 +ℤ nanos }
 {
-    let (whole, rest) = whole_and_rest(nanos);
-    TimeDelta::new(secs + whole, rest).unwrap()
+    if nanos < -1_000_000_000 {
+        return near_sum(secs - 1, nanos + 1_000_000_000);
+    }
+    if nanos >= 1_000_000_000 {
+        return near_sum(secs + 1, nanos - 1_000_000_000);
+    }
+    near_sum(secs, nanos)
 }
 
-// The whole seconds, rounded down, and the nanoseconds after them.
-fn whole_and_rest(nanos: i32) -> (i64, u32)
-    ensures value { result.0 *ℤ pos 1_000_000_000 +ℤ pos result.1 ≡ nanos }
-    ensures whole { IsWithin 3 result.0 }
-    ensures rest { result.1 < 1_000_000_000 }
+// The same, where the nanoseconds are a second at most.
+fn near_sum(secs: i64, nanos: i32) -> TimeDelta
+    requires secs { IsWithin 20_000_000_000_001 secs }
+    requires least { neg_ℤ (pos 1_000_000_000) ≤ℤ nanos }
+    requires greatest { nanos <ℤ pos 1_000_000_000 }
+    ensures { nanos_of result ≡ secs *ℤ pos 1_000_000_000 +ℤ nanos }
 {
-    // Counted from three seconds before, so that no sign is tested.
-    let above = (nanos as i64 + 3_000_000_000) as u64;
-    (
-        (above / 1_000_000_000) as i64 - 3,
-        (above % 1_000_000_000) as u32,
-    )
+    if nanos < 0 {
+        return TimeDelta::from_parts(secs - 1, (nanos + 1_000_000_000) as u32);
+    }
+    TimeDelta::from_parts(secs, nanos as u32)
 }
 
 // The second and the nanoseconds of a reading that is no leap second.
@@ -201,6 +206,25 @@ impl NaiveDateTime {
     /// let length = date.and_hms_opt(12, 0, 0)?.signed_duration_since(start); // 12,600 seconds
     /// ```
     pub fn signed_duration_since(self, rhs: NaiveDateTime) -> TimeDelta
+        ensures { nanos_of result ≡ difference (reading self) (reading rhs) }
+    {
+        if self.frac < 1_000_000_000 && rhs.frac < 1_000_000_000 {
+            return self.plain_duration_since(rhs);
+        }
+        self.leap_duration_since(rhs)
+    }
+
+    // The same, where neither lies in a leap second.
+    fn plain_duration_since(self, rhs: NaiveDateTime) -> TimeDelta
+        requires this { (reading self).f < 1_000_000_000 }
+        requires other { (reading rhs).f < 1_000_000_000 }
+        ensures { nanos_of result ≡ difference (reading self) (reading rhs) }
+    {
+        near_sum(self.seconds_from(rhs), self.nanos_from(rhs))
+    }
+
+    // The same, where either may.
+    fn leap_duration_since(self, rhs: NaiveDateTime) -> TimeDelta
         ensures { nanos_of result ≡ difference (reading self) (reading rhs) }
     {
         sum_of(self.seconds_from(rhs), self.nanos_from(rhs))

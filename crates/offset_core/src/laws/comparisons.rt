@@ -71,6 +71,7 @@ pub fn out_of_range()
 
 /// Answers of a lookup are equal if and only if they are of one kind and their values are equal,
 /// and a clone is of one kind with clones of the values. A hash looks at the kind and at each value.
+#[tactic(auto, using(crate::proofs::LocalResults::alike_by))]
 pub fn local_results<T: PartialEq + Clone + Hash>()
     ensures equal { (x y : AnyResult T)
         → IsTrue (⟦<LocalResult<T> as PartialEq>⟧.eq x y) ↔ AreAlike
@@ -105,6 +106,7 @@ pub fn resolve_errors()
 
 /// What zones give around local times is equal if and only if it is of one kind and the values, or
 /// the gaps, are equal; a clone is of one kind with clones of these, and fails only if one of these does.
+#[tactic(auto, using(crate::proofs::Arounds::alike_by))]
 pub fn arounds<T: PartialEq + Clone, G: PartialEq + Clone>()
     ensures equal { (x y : AnyAround T G) → IsTrue (⟦<Around<T, G> as PartialEq>⟧.eq x y)
         ↔ around.AreAlikeAround (λ a b. IsTrue (T.PartialEq.eq a b)) (λ a b. IsTrue (G.PartialEq.eq a b)) x y }

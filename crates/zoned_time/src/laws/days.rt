@@ -13,6 +13,7 @@ ghost use Rattle.zoned_time.specs.declared.zone_days.ShownDay.{ShownDay as AnyDa
 use crate::{ShownDay, TimeZone};
 
 /// A local time has one first instant at or after it, and a later local time no earlier one.
+#[tactic(auto, using(crate::proofs::DayStarts::one_first, crate::proofs::DayStarts::rises))]
 pub fn first_instants()
     ensures once { (off : ℤ → ℤ) (l a b : Reading) → IsFirstInstantFrom off l a
         → IsFirstInstantFrom off l b → a ≡ b }
@@ -47,6 +48,7 @@ pub fn days_partition<Tz: TimeZone>()
 /// A date that clocks never show starts when the next one does: no instant lies in it. In a day
 /// clocks show its date or, once they have been set back over midnight, an earlier one. If they show
 /// its date when it starts, that is the first second at which they do.
+#[tactic(auto, using(crate::proofs::DayStarts::no_later_date, crate::proofs::DayStarts::starts_with_first))]
 pub fn dates_in_days()
     ensures skipped { (off : ℤ → ℤ) (day : ℤ) (a b : Reading) → IsNeverOnDay off day
         → IsFirstInstantFrom off (midnight day) a

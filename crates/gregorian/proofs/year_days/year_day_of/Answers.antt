@@ -12,14 +12,12 @@ returns-clause-place c =
 
 pub returns-clause-leap : goal.returns-clause-leap
 returns-clause-leap c =
-    let in_range = c.ranges.day in
-    let place = c.place_of-place.result in
+    let in_range = c.ranges.day in let place = c.place_of-place.result in
     let own = own_year c.args.day place.century place.year place.passed c.days_since_january.result (omega (arith, floors)) c.place_of-place.ensures.value c.place_of-place.ensures.within in
     c.is_leap_place.ensures ∙ sym (leap_by (year_of c.args.day) place.century place.year c.place_of-place.ensures.year own)
 
 pub returns-clause-first : goal.returns-clause-first
 returns-clause-first c =
-    let in_range = c.ranges.day in
-    let place = c.place_of-place.result in
+    let in_range = c.ranges.day in let place = c.place_of-place.result in
     let own = own_year c.args.day place.century place.year place.passed c.days_since_january.result (omega (arith, floors)) c.place_of-place.ensures.value c.place_of-place.ensures.within in
     c.first_weekday.ensures.value ∙ sym (first_by (year_of c.args.day) place.century place.year c.place_of-place.ensures.year own)

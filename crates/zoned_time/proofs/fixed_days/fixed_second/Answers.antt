@@ -4,8 +4,7 @@ use Rattle.zoned_time.proofs.fixed_days.fixed_second.Goals as goal
 
 pub returns : goal.returns
 returns g c =
-    let local = c.args.local.now in
-    let wide = local.in_range.0 in
+    let local = c.args.local.now in let wide = local.in_range.0 in
     let here : IsZoneSecond local.secs = (omega (arith, ints, wide), omega (arith, ints, wide)) in
     let within = g.met.Tz.TimeZone.within_day c.args.zone.now local.secs here in
     let is : c.secs_since_epoch.result ≡ local.secs = c.secs_since_epoch.ensures in

@@ -9,8 +9,7 @@ returns-then-n-eq0-clause-value c = λ fits day h.
 
 pub returns-in-Some-clause-value : goal.returns-in-Some-clause-value
 returns-in-Some-clause-value c =
-    let range = c.ranges.year in
-    let w = weekday_number c.args.weekday in
+    let range = c.ranges.year in let w = weekday_number c.args.weekday in
     let found = simp to_z-of_z at c.in-Some.ensures.value in
     let answer = simp to_z-of_z at c.from_ymd_opt-in-Some.ensures.value in
     let first : weekday_number c.weekday.result ≡ weekday_of (day_number c.args.year c.args.month 1) =
@@ -23,6 +22,5 @@ returns-in-Some-clause-value c =
 
 pub returns-in-None-clause-value : goal.returns-in-None-clause-value
 returns-in-None-clause-value c = λ fits day h.
-    let range = c.ranges.year in
-    let none = simp to_z-of_z at c.in-None.ensures.value in
+    let range = c.ranges.year in let none = simp to_z-of_z at c.in-None.ensures.value in
     none fits (only_nth c.args.year c.args.month (weekday_number c.args.weekday) c.args.n day h).1

@@ -5,15 +5,13 @@ use Rattle.naive_base.proofs.date.found.thursday_of.Goals as goal
 
 pub returns-then-place-days_in_year-clause-value : goal.returns-then-place-days_in_year-clause-value
 returns-then-place-days_in_year-clause-value c = λ t h.
-    let range = c.ranges.year in
-    let place = simp to_z-of_z at c.place_of_thursday-place.ensures in
+    let range = c.ranges.year in let place = simp to_z-of_z at c.place_of_thursday-place.ensures in
     let days = simp to_z-of_z at c.days_in_year.ensures.value in
     omega (arith, (only_thursday c.args.year c.args.week t h).1, c.if-place-days_in_year.true, place, days)
 
 pub returns-clause-value : goal.returns-clause-value
 returns-clause-value c =
-    let range = c.ranges.year in
-    let place = simp to_z-of_z at c.place_of_thursday-place.ensures in
+    let range = c.ranges.year in let place = simp to_z-of_z at c.place_of_thursday-place.ensures in
     let days = simp to_z-of_z at c.days_in_year.ensures.value in
     let day_is = simp to_z-of_z at c.day_at_place.ensures.value in
     let t = found_thursday c.args.year c.args.week (omega (arith, c.if-week-eq0.false))

@@ -1,8 +1,5 @@
-use Rattle.std.proofs.Common.{arith, rules, sym, subst, ap, [], ◌∷◌, ◌<◌, length}
-use Rattle.std.specs.Prelude.{IsAscii}
-use Rattle.std.specs.Str.{IsUtf8}
-use Rattle.std.proofs.lemmas.List.{take_more_set, length-take-le}
-use Rattle.std.proofs.lemmas.Str.{IsUtf8-from_ascii, IsUtf8-append}
+use Rattle.std.proofs.lemmas.List.{length-take-le, take_more_set}
+use Rattle.offset_core.proofs.Words.{IsAscii, IsUtf8, IsUtf8-append, IsUtf8-from_ascii, [], ap, arith, length, rules, subst, sym, ◌<◌, ◌∷◌}
 use Rattle.offset_core.proofs.short_text.ShortText.push.Goals as goal
 
 pub invariant_of-self : goal.invariant_of-self

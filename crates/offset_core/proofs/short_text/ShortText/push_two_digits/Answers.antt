@@ -1,4 +1,4 @@
-use Rattle.std.proofs.Common.{append_assoc}
+use Rattle.offset_core.proofs.Words.{append_assoc}
 use Rattle.offset_core.proofs.Digits.{two_digits}
 use Rattle.offset_core.proofs.short_text.ShortText.push_two_digits.Goals as goal
 

@@ -1,18 +1,7 @@
 use Rattle.offset_core.specs.declared.local_result.LocalResult.TheVariants.{Ambiguous, Single}
 use Rattle.zoned_ref.proofs.Words.{reading}
-use Rattle.zoned_ref.proofs.Walls.{each_within, of_zone, offsets_given}
+use Rattle.zoned_ref.proofs.Walls.{of_zone, offsets_given}
 use Rattle.zoned_ref.proofs.lookup.TimeZoneRefTimeZone.offset_from_local_datetime.Goals as goal
-
-pub new-requires : goal.new-requires
-new-requires c = each_within c.zone.result.now (reading c.args.local.now).s c.zone.ensures.narrow (Single c.in-Single.only.now) c.in-Single.ensures
-
-pub new-requires-in-Ambiguous : goal.new-requires-in-Ambiguous
-new-requires-in-Ambiguous c = let both = c.in-Ambiguous in
-    (each_within c.zone.result.now (reading c.args.local.now).s c.zone.ensures.narrow (Ambiguous both.first.now both.last.now) both.ensures).0
-
-pub new-requires-in-Ambiguous-2 : goal.new-requires-in-Ambiguous-2
-new-requires-in-Ambiguous-2 c = let both = c.in-Ambiguous in
-    (each_within c.zone.result.now (reading c.args.local.now).s c.zone.ensures.narrow (Ambiguous both.first.now both.last.now) both.ensures).1
 
 pub returns-in-Single-clause-offsets : goal.returns-in-Single-clause-offsets
 returns-in-Single-clause-offsets c = let local = c.args.local.now in
@@ -25,7 +14,3 @@ returns-in-Ambiguous-clause-offsets c = let local = c.args.local.now in let firs
     offsets_given c.args.self.now (reading local).s (Ambiguous first.result last.result)
     (of_zone c.args.self.now c.zone.result.now c.zone.ensures.zone c.zone.ensures.offsets) local.in_range.0
     (first.ensures.zone, last.ensures.zone) (rw (first.ensures.local_type, last.ensures.local_type, ← c.zone.ensures.zone) c.in-Ambiguous.ensures)
-
-pub returns-in-Ambiguous-clause-local_types : goal.returns-in-Ambiguous-clause-local_types
-returns-in-Ambiguous-clause-local_types c =
-    rw (c.new-in-Ambiguous.ensures.local_type, c.new-in-Ambiguous-2.ensures.local_type, ← c.zone.ensures.zone) c.in-Ambiguous.ensures

@@ -5,8 +5,7 @@ pub returns-in-Some-and_hms_opt-clause-fixed : goal.returns-in-Some-and_hms_opt-
 returns-in-Some-and_hms_opt-clause-fixed g c = λ fixed inner date clock.
     let a = c.args in
     let ahead = g.met.Self.TimeZone.within_day a.self.now (pos 0) (omega (arith, ints), omega (arith, ints)) in
-    let around = inner_date a.year a.month a.day inner date in
-    let fits = c.ranges.year in
+    let around = inner_date a.year a.month a.day inner date in let fits = c.ranges.year in
     let made = simp to_z-of_z at c.in-Some.ensures.value in
     let day : day_of c.in-Some.date ≡ day_number a.year a.month a.day = made.2 in
     let second : (reading c.in-Some-and_hms_opt.local).s ≡ day_of c.in-Some.date *ℤ pos 86_400 +ℤ pos (clock_second a.hour a.min a.sec) =
@@ -15,12 +14,10 @@ returns-in-Some-and_hms_opt-clause-fixed g c = λ fixed inner date clock.
 
 pub returns-in-Some-and_hms_opt-clause-exists : goal.returns-in-Some-and_hms_opt-clause-exists
 returns-in-Some-and_hms_opt-clause-exists g c = λ _ _ _.
-    let fits = c.ranges.year in
-    let made = simp to_z-of_z at c.in-Some.ensures.value in
+    let fits = c.ranges.year in let made = simp to_z-of_z at c.in-Some.ensures.value in
     rw (sym made.2) (rw (sym c.in-Some-and_hms_opt.ensures.value.2) c.from_local_datetime.ensures.instants)
 
 pub returns-in-Some-and_hms_opt-clause-missing : goal.returns-in-Some-and_hms_opt-clause-missing
 returns-in-Some-and_hms_opt-clause-missing g c = λ none.
-    let fits = c.ranges.year in
-    let made = simp to_z-of_z at c.in-Some.ensures.value in
+    let fits = c.ranges.year in let made = simp to_z-of_z at c.in-Some.ensures.value in
     absurd (none made.0 made.1 c.in-Some-and_hms_opt.ensures.value.0)

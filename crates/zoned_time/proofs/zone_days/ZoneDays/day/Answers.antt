@@ -12,6 +12,5 @@ pub returns : goal.returns
 returns g c =
     let ff : SFits w64 c.in_ok-seconds.seconds.first = search rules in
     let fl : SFits w64 c.in_ok-seconds.seconds.last = search rules in
-    let first = simp to_z-of_z at c.in_ok-first.ensures in
-    let last = simp to_z-of_z at c.in_ok-last.ensures in
+    let first = simp to_z-of_z at c.in_ok-first.ensures in let last = simp to_z-of_z at c.in_ok-last.ensures in
     instants_of_day (g.Self.TimeZone.law c.args.self.now) (day_of c.args.date) c.in_ok-seconds.seconds.first c.in_ok-seconds.seconds.last (zoned c.in_ok-first.first) (zoned c.in_ok-last.last) c.in_ok-seconds.ensures first.1 last.1

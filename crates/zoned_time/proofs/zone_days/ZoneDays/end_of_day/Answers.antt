@@ -10,15 +10,13 @@ returns-in_err-start g c =
 
 pub returns-then-start-next : goal.returns-then-start-next
 returns-then-start-next g c =
-    let fs : SFits w64 c.in_ok-start.start = search rules in
-    let fn : SFits w64 c.in_ok-start.next = search rules in
+    let fs : SFits w64 c.in_ok-start.start = search rules in let fn : SFits w64 c.in_ok-start.next = search rules in
     let same = simp to_z-of_z at (ap (to_z w64) c.if-start-next.true) in
     empty_day (g.Self.TimeZone.law c.args.self.now).off (day_of c.args.date) c.in_ok-start.start c.in_ok-start.next c.in_ok-start.ensures same
 
 pub returns : goal.returns
 returns g c =
-    let fs : SFits w64 c.in_ok-start.start = search rules in
-    let fn : SFits w64 c.in_ok-start.next = search rules in
+    let fs : SFits w64 c.in_ok-start.start = search rules in let fn : SFits w64 c.in_ok-start.next = search rules in
     let ends = c.in_ok-start.ensures.ends.reached.in_zone in
     let fe : SFits w64 (c.in_ok-start.next -ℤ pos 1) = omega (arith, ints, ends) in
     let told = simp to_z-of_z at c.instant_at.ensures in

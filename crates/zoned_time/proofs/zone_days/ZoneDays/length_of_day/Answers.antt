@@ -5,8 +5,7 @@ pub returns : goal.returns
 returns g c =
     let starts = c.in_ok-start.ensures.starts.reached.in_zone in
     let ends = c.in_ok-start.ensures.ends.reached.in_zone in
-    let fs : SFits w64 c.in_ok-start.start = search rules in
-    let fn : SFits w64 c.in_ok-start.next = search rules in
+    let fs : SFits w64 c.in_ok-start.start = search rules in let fn : SFits w64 c.in_ok-start.next = search rules in
     let fd : SFits w64 (c.in_ok-start.next -ℤ c.in_ok-start.start) = omega (arith, ints, starts, ends) in
     record {
       start = c.in_ok-start.start;

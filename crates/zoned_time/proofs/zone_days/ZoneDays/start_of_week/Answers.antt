@@ -5,8 +5,7 @@ use Rattle.zoned_time.proofs.zone_days.ZoneDays.start_of_week.Goals as goal
 pub returns : goal.returns
 returns g c =
     let day = day_of c.args.date in
-    let since = c.days_since.ensures.value in
-    let bound = c.days_since.ensures.bound in
+    let since = c.days_since.ensures.value in let bound = c.days_since.ensures.bound in
     let weekday = c.weekday.ensures in (
       day -ℤ pos c.days_since.result,
       record {
