@@ -5,10 +5,9 @@ use Rattle.tz_write.proofs.Words.{IsFooter, IsSound, IsTzFile, IsUtf8-from_ascii
 use Rattle.tz_write.proofs.Words.{Zone, after_first_block, arith, block, block_bytes, counts_bytes, counts_test, false, false≢true, file, file_bytes}
 use Rattle.tz_write.proofs.Words.{first_half, footer_bytes, get_or, header_bytes, index_bytes, inl, is_extended, later_pieces, later_version, leap_bytes}
 use Rattle.tz_write.proofs.Words.{least_block, least_counts, length, nat_tests, number_bytes, refl, second_half, subst, time_bytes, true, type_bytes}
-use Rattle.tz_write.proofs.Words.{zone_counts, zone_parts, ℕ, [], ◌*◌, ◌++◌, ◌+◌, ◌<◌, ◌∙◌, ◌∷◌, ◌≡◌, ◌≢◌, ◌≤◌}
-use Rattle.tz_write.proofs.FileHeads.{CountsFit, header_is, version_of}
-use Rattle.tz_write.proofs.FileRecords.{leap_size, leaps_are, size_64, size_of_records, transitions_are, type_size, types_are}
-use Rattle.tz_write.proofs.TextBytes.{AreTextBytes, begins_bare, ends_bare, is_text_byte}
+use Rattle.tz_write.proofs.{Words.{zone_counts, zone_parts, ℕ, [], ◌*◌, ◌++◌, ◌+◌, ◌<◌, ◌∙◌, ◌∷◌, ◌≡◌, ◌≢◌, ◌≤◌}, FileHeads.{CountsFit, header_is, version_of}}
+use Rattle.tz_write.proofs.{FileRecords.{leap_size, leaps_are, size_64, size_of_records, transitions_are, type_size, types_are}, TextBytes.{AreTextBytes}}
+use Rattle.tz_write.proofs.TextBytes.{begins_bare, ends_bare, is_text_byte}
 
 -- ---- footers
 -- letters, digits and signs of ASCII, and no colon in front
