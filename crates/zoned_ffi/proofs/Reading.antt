@@ -3,9 +3,8 @@ use Rattle.tz_base.specs.declared.error.Error.TheVariants as errors
 use Rattle.zoned_ffi.proofs.Words.{Bool, Err, Error, IfErr, IsErrorOfKind, IsExtendedFault, IsFalse, IsFault, IsFileError, IsOutOfMemory, IsPosixFault}
 use Rattle.zoned_ffi.proofs.Words.{IsPosixZone, IsReaderNumber, IsStringError, IsTrue, IsUtf8, IsZoneFault, IsZoneOf, Kind, List, Ok, Refusal, Result}
 use Rattle.zoned_ffi.proofs.Words.{SpellsZone, Zone, arith, error_number, inl, inr, refl, refusal_number, subst, sym, true, ℕ, ◌↔◌, ◌≡◌, ◌≢◌, ◌⊎◌}
-use Rattle.tz_info.specs.PosixZones.{IsExtendedZone}
-use Rattle.tz_info.specs.TzGrammar.{IsTextFault}
 use Rattle.zoned_ffi.specs.Kinds.{kind_number}
+use Rattle.tz_info.specs.{PosixZones.{IsExtendedZone}, TzGrammar.{IsTextFault}}
 use Rattle.zoned_ffi.specs.declared.kind.Kind.TheVariants as kinds
 
 -- the number of a text's error is that of its fault

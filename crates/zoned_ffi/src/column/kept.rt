@@ -60,6 +60,7 @@ impl Kept {
     }
 
     // The times from `from` on and before `until` that can be counted, also with `add` more.
+    #[tactic(auto, using(crate::proofs::Words::casts))]
     fn between(from: i128, until: i128, add: i64) -> Kept
         requires { (neg_ℤ (pos 4_611_686_018_427_387_904) ≤ℤ add)
             × (add ≤ℤ pos 4_611_686_018_427_387_904) }

@@ -1,5 +1,4 @@
-use Rattle.zoned_ffi.proofs.Words.{IsPosixZone, IsStringError, IsUtf8, List, error_number, subst, sym, ℕ}
-use Rattle.zoned_ffi.proofs.Reading.{reader_number, text_refused}
+use Rattle.zoned_ffi.proofs.{Words.{IsPosixZone, IsStringError, IsUtf8, List, error_number, subst, sym, ℕ}, Reading.{reader_number, text_refused}}
 use Rattle.zoned_ffi.proofs.kind.read_text.Goals as goal
 
 pub returns-in_default-clause-fault : goal.returns-in_default-clause-fault

@@ -1,5 +1,4 @@
-use Rattle.zoned_ffi.proofs.Words.{IsErrorOfKind}
-use Rattle.zoned_ffi.proofs.Reading.{not_fitting, not_read}
+use Rattle.zoned_ffi.proofs.{Words.{IsErrorOfKind}, Reading.{not_fitting, not_read}}
 use Rattle.zoned_ffi.proofs.kind.read_zone.Goals as goal
 
 pub returns-in_default-clause-fault : goal.returns-in_default-clause-fault
