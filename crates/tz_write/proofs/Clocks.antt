@@ -4,7 +4,7 @@ use Rattle.tz_write.proofs.Words.{AreInPairs, Bool, IsPlainTime, IsTextTime, IsW
 use Rattle.tz_write.proofs.Words.{spelled_clock, spelled_hands, colon, cond, false, false≢true, inl, inr, ints, is_digit, is_negative, is_positive, minus}
 use Rattle.tz_write.proofs.Words.{spelled_minutes, nat_tests, neg_ℤ, negsuc, not, spelled_offset, spelled_pair, plus, pos, refl, signed_seconds}
 use Rattle.tz_write.proofs.Words.{spelled_seconds, spelled_signed, subst, suc, sym, time_limit, spelled_time, true, unsigned_abs, zero, ℕ, ℤ, [], ◌%◌, ◌&&◌}
-use Rattle.tz_write.proofs.{Words.{◌*◌, ◌++◌, ◌+◌, ◌/◌, ◌<ℤ◌, ◌<◌, ◌==◌, ◌∙◌, ◌∷◌, ◌≡◌, ◌≤◌, ◌⊎◌}, Decimals.{digit_least, digit_most, first_digit}}
+use Rattle.tz_write.proofs.{Words.{◌*◌, ◌++◌, ◌+◌, ◌/◌, ◌<ℤ◌, ◌<◌, ◌==◌, ◌∙◌, ◌∷◌, ◌≡◌, ◌≤◌}, Decimals.{digit_least, digit_most, first_digit}}
 use Rattle.tz_write.proofs.{Decimals.{number_front, number_writes, pair_front, pair_writes, two_digits}, Shortest.{Front, front_cons, front_longer, front_on}}
 use Rattle.tz_write.proofs.{Shortest.{front_optional}, TextBytes.{Writes, writes_colon, writes_last, writes_nothing, writes_other, writes_then}}
 use Rattle.tz_info.specs.TzGrammar as tz
@@ -30,13 +30,10 @@ seconds_front bytes s rest pairs h =
     front_optional colon 0 (Number clock_max) (s == 0) (λ after is p. pair_front clock_max bytes after s rest is pairs p) (λ e z. grind (arith, nat_tests)) h
 
 -- ---- minutes and seconds
-both_zero : (m s : ℕ) → ((m == 0) && (s == 0)) ≡ true → (m ≡ 0) × (s ≡ 0)
-both_zero m s e = (grind (arith, nat_tests), grind (arith, nat_tests))
-
 minutes_writes : (m s : ℕ) (rest : List ℕ) → m ≤ 59 → s ≤ 59 → Stops rest → Writes tz.optional_minutes (spelled_minutes m s) (m, s) rest
 unfolding tz.optional_minutes tz.minutes_seconds
 minutes_writes m s rest a b stops = elim ((m == 0) && (s == 0)) as (λ t. ((m == 0) && (s == 0)) ≡ t → Writes tz.optional_minutes (cond t [] (spelled_pair m ++ spelled_seconds s)) (m, s) rest) [
-  | true ↦ λ e. let (x, y) = both_zero m s e in writes_other stops.1 (writes_nothing (rw (x, y) refl))
+  | true ↦ λ e. let x : m ≡ 0 = grind (arith, nat_tests) in let y : s ≡ 0 = grind (arith, nat_tests) in writes_other stops.1 (writes_nothing (rw (x, y) refl))
   | false ↦ λ e.
       let stop = seconds_stop s rest stops in
       let seconds : Writes (Then tz.seconds (λ t. Nothing (m, t))) (spelled_seconds s) (m, s) rest = writes_last (seconds_writes s rest b stops) (refl, refl) in

@@ -4,7 +4,7 @@ use Rattle.tz_write.proofs.Words.{All, All-cons, All-nil, All-tail, AreNamesIn, 
 use Rattle.tz_write.proofs.Words.{IsSpellableOrNone, Header, IsNamedIn, IsTzFile, IsWritable, List, LocalType, None, Option, Parts, Place, Some, SpellTypes}
 use Rattle.tz_write.proofs.Words.{Spells, SpellsLeapSecond, SpellsType, StandsAt, Transition, TransitionRule, Version, Zone, after_first_block, ap, arith}
 use Rattle.tz_write.proofs.Words.{be_u32, block, designation_of, file, first_version, get_or_append_left, header, inl, inr, later_version, length}
-use Rattle.tz_write.proofs.Words.{length-append, length-map, map, name_or_none, place_in, refl, six_counts, subst, suc, sym, tzif, version, zero, ℕ, [], ◌*◌}
+use Rattle.tz_write.proofs.Words.{length-append, length-map, map, name_or_none, place_in, refl, six_counts, subst, sym, tzif, version, ℕ, [], ◌*◌}
 use Rattle.tz_write.proofs.{Words.{◌++◌, ◌+◌, ◌/◌, ◌<◌, ◌^◌, ◌∙◌, ◌∷◌, ◌≡◌}, RuleTexts.{rule_named}}
 use Rattle.std.proofs.{Math.Nat.{mul-div_cancel}, lemmas.List.{get_or-map}}
 use Rattle.tz_base.specs.Grammar.{Byte, Check, Ended, Exact, Grammar, Marked, Nothing, Number, Refused, Rest, Run, Then}

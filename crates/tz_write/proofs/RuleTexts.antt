@@ -2,7 +2,7 @@
 use Rattle.tz_info.specs.TzGrammar as tz
 use Rattle.tz_info.specs.declared.rule.transition_rule.TransitionRule.TheVariants as rules
 use Rattle.tz_write.proofs.Words.{Alternate, AreInPairs, AreTimesOf, Bool, CanBeSpelled, DayTime, IsAlternateRule, IsName, IsNamed, IsPlainTime, IsRule}
-use Rattle.tz_write.proofs.Words.{IsTextTime, IsTzText, IsUnspelled, IsWithinDay, IsWrittenText, List, LocalType, NoneFirst, Some, Spells, TransitionRule}
+use Rattle.tz_write.proofs.Words.{IsTextTime, IsTzText, IsWithinDay, IsWrittenText, List, LocalType, NoneFirst, Some, Spells, TransitionRule}
 use Rattle.tz_write.proofs.Words.{spelled_alternate, ap, append-nil, append_assoc, arith, both_ways, cases_lt, comma, cond, spelled_day, spelled_dst_offset}
 use Rattle.tz_write.proofs.Words.{false, inl, inr, int_eq, ints, is_digit, is_letter, length, name_of, name_or_none, spelled_name, named_type, nat_tests}
 use Rattle.tz_write.proofs.Words.{negsuc, not, offset_fits, spelled_offset, pos, refl, subst, sym, spelled_rule, true, spelled_type, ℕ, ℤ, [], ◌++◌, ◌+ℤ◌, ◌<◌}
@@ -96,9 +96,6 @@ type_front t name bytes middle rest e pairs n o =
 front_whole : (text bytes : List ℕ) → Front text bytes [] → Best text bytes
 front_whole text bytes f = subst (Best text) (sym (append-nil f.front) ∙ sym f.whole) f.best
 
-fixed_front : (bytes : List ℕ) (t : LocalType) → AreInPairs bytes → IsFixedText bytes t → Best (spelled_type t) bytes
-fixed_front bytes t pairs h = front_whole (spelled_type t) bytes (type_front t h.name bytes h.after_name [] h.named.named pairs h.name_spelled h.offset_spelled)
-
 name_stops : (name rest : List ℕ) → IsName name → Stops (spelled_name name ++ rest)
 name_stops name rest h = let f = name_first name rest h in rw f.2 (not_digit f.0 f.3, λ e. absurd (omega (arith, f.3)))
 
@@ -179,7 +176,8 @@ text_first (rules.Alternate a) ((name, h), _) =
     (name_first name (spelled_offset a.std.offset ++ from_name a) h.allowed)
 
 pub rule_best : (extended : Bool) (bytes : List ℕ) (rule : TransitionRule) → AreInPairs bytes → IsTzText extended bytes rule → Best (spelled_rule rule) bytes
-rule_best extended bytes (rules.Fixed t) pairs h = fixed_front bytes t pairs (parts_of extended bytes (rules.Fixed t) h)
+rule_best extended bytes (rules.Fixed t) pairs spelled = let h = parts_of extended bytes (rules.Fixed t) spelled in
+    front_whole (spelled_type t) bytes (type_front t h.name bytes h.after_name [] h.named.named pairs h.name_spelled h.offset_spelled)
 rule_best extended bytes (rules.Alternate a) pairs h = alternate_front extended bytes a pairs (parts_of extended bytes (rules.Alternate a) h)
 
 -- what a text without extensions spells has times that need none
@@ -191,9 +189,6 @@ rule_plain bytes (rules.Alternate a) spelled = let h = parts_of false bytes (rul
 pub rule_named : (extended : Bool) (bytes : List ℕ) (rule : TransitionRule) → IsTzText extended bytes rule → CanBeSpelled rule
 rule_named extended bytes (rules.Fixed t) spelled = let h = parts_of extended bytes (rules.Fixed t) spelled in ((h.name, h.named), offset_fits h.after_name t.offset [] h.offset_spelled)
 rule_named extended bytes (rules.Alternate a) spelled = let h = parts_of extended bytes (rules.Alternate a) spelled in ((h.std_name, h.std_named), (h.dst_name, h.dst_named))
-
-pub unspelled : (rule : TransitionRule) → ¬ (CanBeSpelled rule) → IsUnspelled rule
-unspelled rule none = λ extended bytes h. none (rule_named extended bytes rule h)
 
 -- the text has extensions where one without doesn't have room for the times
 pub written : (rule : TransitionRule) (plain : Bool) → IsRule rule → CanBeSpelled rule → (plain ≡ true → AreTimesOf false rule) → (AreTimesOf false rule → plain ≡ true) → IsWrittenText rule (spelled_rule rule) (not plain)

@@ -1,4 +1,4 @@
-use Rattle.tz_write.proofs.Words.{List, ap, arith, begins, drop, drop_more, false, get_or, length, place_of, refl, sym, true, ℕ, ◌+◌, ◌<◌, ◌∙◌, ◌∷◌, ◌≡◌}
+use Rattle.tz_write.proofs.Words.{List, ap, arith, begins, drop, drop_more, false, length, place_of, refl, sym, true, ℕ, ◌+◌, ◌<◌, ◌∙◌, ◌≡◌}
 use Rattle.tz_write.proofs.file.designations.place_of.Goals as goal
 
 -- it stands here
