@@ -34,8 +34,8 @@ reached_by z local u t w in_range first stamp = elim stamp [
 ]
 
 -- a type that shows the local time is in force at that time less its offset
-pub in_force : (z : Zone) (local u : ℤ) (choice : Choice) (t : LocalType) (offset : ℤ) → Shows (TypeAt z) local u t → IsTakenType z local choice t → offset ≡ t.offset
-    → IsUtOffset t.offset → IsTakenAs z local choice (InForce offset)
+pub in_force : (z : Zone) (local u : ℤ) (choice : Choice) (t : LocalType) (offset : ℤ) → Shows (TypeAt z) local u t → IsTakenType z local choice t
+    → offset ≡ t.offset → IsUtOffset t.offset → IsTakenAs z local choice (InForce offset)
 in_force z local u choice t offset shows taken same bound =
     let second : u ≡ local -ℤ t.offset = sym (+ℤ-neg_ℤ_cancel u t.offset) ∙ ap (λ v. v -ℤ t.offset) shows.shown in
     let there = subst (λ v. TypeAt z (local -ℤ v) t) (sym same) (subst (λ v. TypeAt z v t) second shows.type) in
