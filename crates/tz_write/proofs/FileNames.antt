@@ -1,7 +1,7 @@
 -- Texts that stand in designations.
 use Rattle.tz_write.proofs.Words.{Bool, Decides-eqb, HasNoZero, List, and_from, ap, append_assoc, arith, begins, cond, drop, ends, ends_is, eq-eqb, false}
 use Rattle.tz_write.proofs.Words.{get_or, get_or_at, length, length-append, lt-ltb, nat_eq, place_of, refl, starts_is, starts_with, subst, suc, sym, true, ℕ}
-use Rattle.tz_write.proofs.{Words.{inl, inr, [], ◌++◌, ◌+◌, ◌<◌, ◌∙◌, ◌∷◌, ◌≡◌, ◌≤◌, ◌⊎◌}, FileRecords.{begins_is, has_text}}
+use Rattle.tz_write.proofs.{Words.{inl, inr, nat_tests, [], ◌++◌, ◌+◌, ◌<◌, ◌∙◌, ◌∷◌, ◌≡◌, ◌≤◌, ◌⊎◌}, FileRecords.{begins_is, has_text}}
 
 -- a text and its 0 byte stand in the bytes
 pub record Stands (bytes text : List ℕ) : Type 0 where
@@ -70,8 +70,7 @@ begins_again text rest =
     (eq-eqb (get_or (text ++ (0 ∷ rest)) (length text) 0) 0 (get_or_at text 0 rest 0 (length text) refl)))
 
 at_most : (t : Bool) (n m : ℕ) → n ≤ m → cond t 0 (suc n) ≤ suc m
-at_most true n m h = omega arith
-at_most false n m h = omega arith
+at_most t n m h = grind (arith, nat_tests)
 
 at_front : (text : List ℕ) (b : ℕ) (bs : List ℕ) → begins text (b ∷ bs) ≡ true → place_of text (b ∷ bs) ≤ 0
 at_front text b bs h = rw h (omega arith)

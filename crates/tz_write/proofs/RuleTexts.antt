@@ -3,9 +3,9 @@ use Rattle.tz_info.specs.TzGrammar as tz
 use Rattle.tz_info.specs.declared.rule.transition_rule.TransitionRule.TheVariants as rules
 use Rattle.tz_write.proofs.Words.{Alternate, AreInPairs, AreTimesOf, Bool, CanBeSpelled, DayTime, IsAlternateRule, IsName, IsNamed, IsPlainTime, IsRule}
 use Rattle.tz_write.proofs.Words.{IsTextTime, IsTzText, IsWithinDay, IsWrittenText, List, LocalType, NoneFirst, Some, Spells, TransitionRule}
-use Rattle.tz_write.proofs.Words.{spelled_alternate, ap, append-nil, append_assoc, arith, both_ways, cases_lt, comma, cond, spelled_day, spelled_dst_offset}
+use Rattle.tz_write.proofs.Words.{spelled_alternate, ap, append-nil, append_assoc, arith, both_ways, comma, cond, spelled_day, spelled_dst_offset}
 use Rattle.tz_write.proofs.Words.{false, inl, inr, int_eq, ints, is_digit, is_letter, length, name_of, name_or_none, spelled_name, named_type, nat_tests}
-use Rattle.tz_write.proofs.Words.{negsuc, not, offset_fits, spelled_offset, pos, refl, subst, sym, spelled_rule, true, spelled_type, ℕ, ℤ, [], ◌++◌, ◌+ℤ◌, ◌<◌}
+use Rattle.tz_write.proofs.Words.{not, offset_fits, spelled_offset, pos, refl, subst, sym, spelled_rule, true, spelled_type, ℕ, ℤ, [], ◌++◌, ◌+ℤ◌, ◌<◌}
 use Rattle.tz_write.proofs.{Words.{◌↔◌, ◌∙◌, ◌∷◌, ◌≡◌, ◌≢◌, ◌≤◌, ◌⊎◌}, Clocks.{Stops, offset_first, offset_front, offset_writes}, DayTexts.{day_front}}
 use Rattle.tz_write.proofs.{DayTexts.{day_plain, day_writes, dst_offset_front, dst_offset_writes}, NameTexts.{name_first, name_front, name_writes}}
 use Rattle.tz_write.proofs.{Shortest.{Best, Front, front_cons, front_on}, TextBytes.{AreTextBytes, Writes, writes_byte, writes_last, writes_more, writes_then}}
@@ -207,7 +207,7 @@ written rule false fits h to from = record {
 
 -- each of two is the shortest
 pub both_shortest : (s t : List ℕ) → (t ≡ s) ⊎ (length s < length t) → (s ≡ t) ⊎ (length t < length s) → s ≡ t
-both_shortest s t p q = elim p [ inl e ↦ sym e | inr l ↦ elim q [ inl e ↦ e | inr m ↦ absurd (omega arith) ] ]
+both_shortest s t p q = grind arith
 
 pub text_once : (rule : TransitionRule) (s t : List ℕ) (d e : Bool) → IsWrittenText rule s d → IsWrittenText rule t e → (s ≡ t) × (d ≡ e)
 text_once rule s t true true p q = (both_shortest s t (p.shortest t q.spells q.pairs) (q.shortest s p.spells p.pairs), refl)
@@ -217,8 +217,7 @@ text_once rule s t false true p q = absurd (q.needed refl s p.spells)
 
 -- a rule's times need extensions, or they need none
 plain_time : (time : ℤ) → (IsPlainTime time) ⊎ (IsPlainTime time → ⊥)
-plain_time (negsuc n) = inr (λ h. let l = h.0 in omega (arith, ints))
-plain_time (pos n) = elim (cases_lt n 90_000) [ inl l ↦ inl (omega (arith, ints), omega (arith, ints)) | inr m ↦ inr (λ h. let l = h.1 in omega (arith, ints)) ]
+plain_time time = grind (arith, ints)
 
 plain_times : (rule : TransitionRule) → (AreTimesOf false rule) ⊎ (AreTimesOf false rule → ⊥)
 plain_times (rules.Fixed t) = inl tt
