@@ -36,12 +36,7 @@ trimmed_or_longer [] text (c ∷ cs) = let l = length-append text (c ∷ cs) in 
 trimmed_or_longer (b ∷ bs) text after = let l = length-append text after in let m = length-append bs (text ++ after) in inr (omega arith)
 
 best_of_trimmed : (text bytes trimmed : List ℕ) → IsTrimmed bytes trimmed → Best text trimmed → Best text bytes
-best_of_trimmed text bytes trimmed t best =
-    let whole = trimmed_or_longer t.before trimmed t.after in
-    subst (Best text) (sym t.whole) (elim best [
-      | inl e ↦ elim whole [ inl f ↦ inl (f ∙ e) | inr l ↦ let k = ap length e in inr (omega arith) ]
-      | inr m ↦ elim whole [ inl f ↦ let k = ap length f in inr (omega arith) | inr l ↦ inr (omega arith) ]
-    ])
+best_of_trimmed text bytes trimmed t best = let whole = trimmed_or_longer t.before trimmed t.after in subst (Best text) (sym t.whole) (grind arith)
 
 -- ---- the zone of types and a rule
 pub not_empty : (rule : TransitionRule) → CanBeSpelled rule → spelled_rule rule ≢ []
