@@ -103,13 +103,29 @@ class Clause:
 def imports_of(text):
     """What names mean under the imports of a text: name -> (page, name there)."""
     found = {}
-    for page, names, alias in re.findall(r"(?m)^[ \t]*(?:ghost )?(?:pub )?use ([\w.+-]+?)(?:\.\{([^}]*)\})?(?: as (\S+?))?;?\s*$", text):
-        if not names:
-            found[alias or page.rsplit(".", 1)[-1]] = (page, None)
-        for each in names.split(",") if names else []:
-            there, _, here = each.strip().partition(" as ")
-            found[here or there] = (page, there)
+    for each in re.findall(r"(?m)^[ \t]*(?:ghost )?(?:pub )?use ([\w.+-]+(?:\.\{.*\})?(?: as \S+?)?);?\s*$", text):
+        found |= imported("", each)
     return found
+
+
+def imported(page, each):
+    """The same of one import, or of a part of its braces: `a.{b, c.{d, e as f}}`."""
+    if each.endswith("}"):
+        path, _, inside = each[:-1].partition(".{")
+        return {name: of for part in parts(inside) for name, of in imported(f"{page}.{path}".strip("."), part).items()}
+    there, _, here = each.partition(" as ")
+    above, _, name = there.rpartition(".")
+    return {here or name: (f"{page}.{above}".strip("."), name) if page else (there, None)}
+
+
+def parts(inside):
+    """What stands between the commas outside of braces."""
+    depth, start = 0, 0
+    for place, mark in enumerate(inside + ","):
+        depth += {"{": 1, "}": -1}.get(mark, 0)
+        if mark == "," and not depth:
+            yield inside[start:place].strip()
+            start = place + 1
 
 
 def block_end(text, start):

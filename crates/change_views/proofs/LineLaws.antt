@@ -7,8 +7,7 @@ use Rattle.change_views.proofs.CitedWords.{take-suc, w64, year_second, year_star
 pub piece_next : {X : Type 0} (f : X → List ℕ) (start before after : List ℕ) (xs : List X) (i : ℕ) (d : X) → i < length xs
     → before ≡ start ++ flat_map f (take i xs) → after ≡ before ++ f (get_or xs i d) → after ≡ start ++ flat_map f (take (i + 1) xs)
 piece_next f start before after xs i d within so_far now =
-    let x = get_or xs i d in
-    let so = take i xs in
+    let x = get_or xs i d in let so = take i xs in
     let e : i + 1 ≡ suc i = omega arith in
     let step : flat_map f (take (i + 1) xs) ≡ flat_map f so ++ f x =
     ap (λ n. flat_map f (take n xs)) e ∙ ap (flat_map f) (take-suc xs i d within) ∙ flat_map-append f so (x ∷ []) ∙ ap (λ t. flat_map f so ++ t) (append-nil (f x)) in

@@ -1,7 +1,6 @@
 -- When the clocks of the odd zone reach a local time, and when they show a day.
 use Rattle.demo_own_zone.proofs.Words.{AreEndsOfDay, IsFirstToReach, IsWide, IsWideDay, arith, floor_mod, ints, midnight, odd_offset, pos, ℤ, ◌*ℤ◌, ◌+ℤ◌, ◌-ℤ◌}
-use Rattle.demo_own_zone.proofs.Words.{◌≡◌}
-use Rattle.demo_own_zone.proofs.Walls.{odd_before, two_halves}
+use Rattle.demo_own_zone.proofs.{Words.{◌≡◌}, Walls.{odd_before, two_halves}}
 
 -- an even second is reached a second early
 pub reached_early : (l : ℤ) → IsWide l → floor_mod l 2 ≡ 0 → IsFirstToReach odd_offset l (l -ℤ pos 1)
@@ -21,9 +20,7 @@ reached_itself l wide odd = record {
 pub ends_of_day : (day first last : ℤ) → IsWideDay day → IsFirstToReach odd_offset (midnight day).s first → last ≡ first +ℤ pos 86_399 → AreEndsOfDay odd_offset day first last
 ends_of_day day first last wide h is =
     let least = h.first (day *ℤ pos 86_400 -ℤ pos 1) (record { in_zone = (omega (arith, ints, wide), omega (arith, ints, wide)); reached = let parts = two_halves (day *ℤ pos 86_400 -ℤ pos 1) in omega (arith, ints) }) in
-    let inside = h.reached.in_zone in
-    let reached = h.reached.reached in
-    let parts = two_halves first in
+    let inside = h.reached.in_zone in let reached = h.reached.reached in let parts = two_halves first in
     let at_last = two_halves last in
     record {
       shown_first = record { in_zone = inside; since = omega (arith, ints); before = omega (arith, ints) };

@@ -19,16 +19,8 @@ shown_twice l wide even = record {
   first = l -ℤ pos 1;
   last = l;
   several = omega (arith, ints);
-  at_first = record {
-    in_zone = (omega (arith, ints), omega (arith, ints));
-    offset = rw (odd_before l even) refl;
-    shown = omega (arith, ints);
-  };
-  at_last = record {
-    in_zone = (omega (arith, ints), omega (arith, ints));
-    offset = rw even refl;
-    shown = omega (arith, ints);
-  };
+  at_first = record { in_zone = (omega (arith, ints), omega (arith, ints)); offset = rw (odd_before l even) refl; shown = omega (arith, ints) };
+  at_last = record { in_zone = (omega (arith, ints), omega (arith, ints)); offset = rw even refl; shown = omega (arith, ints) };
   not_before = λ u k s. let parts = two_halves u in let is = s.offset in let there = s.shown in omega (arith, ints);
   not_after = λ u k s. let parts = two_halves u in let is = s.offset in let there = s.shown in omega (arith, ints);
 }

@@ -1,15 +1,8 @@
 -- The times of a day, one after another: the first run that is found.
-use Rattle.std.proofs.Common.{◌≡◌, ◌<◌, ◌≤◌, ◌+◌, ℕ, ℤ, pos, length, get_or, take}
-use Rattle.std.proofs.Common.{sym, subst, inl, inr, arith, Option, Some, None, MatchOption, All}
-use Rattle.std.specs.Prelude.{⊤}
-use Rattle.std.proofs.lemmas.Int.{ints, by_lt_z}
-use Rattle.std.proofs.lemmas.List.{take_all}
-use Rattle.std.proofs.lemmas.List.Elements.{All-more, All-weaker, All-contains, Contains-get_or}
-use Rattle.naive_base.specs.Range.{IsInRange}
-use Rattle.naive_base.specs.Reading.{Reading, IsEarlier}
-use Rattle.naive_base.specs.declared.time.NaiveTime.{NaiveTime}
-use Rattle.demo_scheduler.specs.Fires.{local_on, RunsOn, IsFireOn}
-use Rattle.demo_scheduler.specs.Steps.{IsReachedAfter, IsEarlierInstantOf, HasNoFireOn, IsFirstFireOn}
+use Rattle.std.proofs.Common.{◌≡◌, ◌<◌, ◌≤◌, ◌+◌, ℕ, ℤ, pos, length, get_or, take, sym, subst, inl, inr, arith, Option, Some, None, MatchOption, All}
+use Rattle.std.{specs.Prelude.{⊤}, proofs.lemmas.{Int.{ints, by_lt_z}, List.{take_all, Elements.{All-more, All-weaker, All-contains, Contains-get_or}}}}
+use Rattle.naive_base.specs.{Range.{IsInRange}, Reading.{Reading, IsEarlier}, declared.time.NaiveTime.{NaiveTime}}
+use Rattle.demo_scheduler.specs.{Fires.{local_on, RunsOn, IsFireOn}, Steps.{IsReachedAfter, IsEarlierInstantOf, HasNoFireOn, IsFirstFireOn}}
 use Rattle.demo_scheduler.specs.declared.schedule.Schedule.{Schedule}
 
 module _ {D : Type 0} (utc : D → Reading) (Given : D → Type 0) (off : ℤ → ℤ) (s : Schedule) (day : ℤ) (after : Reading) where
@@ -22,10 +15,7 @@ module _ {D : Type 0} (utc : D → Reading) (Given : D → Type 0) (off : ℤ �
   ]))
 
   not_both : (x y : Reading) → IsEarlier x y → ¬ (IsEarlier y x)
-  not_both x y (inl h) (inl k) = omega (arith, ints)
-  not_both x y (inl h) (inr k) = let e = k.0 in omega (arith, ints)
-  not_both x y (inr h) (inl k) = let e = h.0 in omega (arith, ints)
-  not_both x y (inr h) (inr k) = let f = h.1 in let g = k.1 in omega arith
+  not_both x y h k = grind (arith, ints)
 
   -- no run at that time comes before the one that is found
   abbrev pub IsTried : Option D → NaiveTime → Type 0
@@ -45,8 +35,7 @@ module _ {D : Type 0} (utc : D → Reading) (Given : D → Type 0) (off : ℤ �
   fire_at : (n : ℕ) (d : NaiveTime) (b : D) → n < length s.times.items → RunsOn s.days day
       → IsReachedAfter off (local_on day (get_or s.times.items n d)) after (utc b) → Given b → IsFound (Some b)
   fire_at n d b place runs reached given =
-      let time = get_or s.times.items n d in
-      let listed = Contains-get_or s.times.items n d place in
+      let time = get_or s.times.items n d in let listed = Contains-get_or s.times.items n d place in
       (record { runs = runs; time = time; listed = listed; first = reached.first }, reached.later, given)
 
   one_more : (n : ℕ) (d : NaiveTime) (found fire result : Option D) → n < length s.times.items → RunsOn s.days day → IsFoundAmong n found

@@ -1,16 +1,9 @@
 -- The walk from date to date: each run on a day before has come.
-use Rattle.std.proofs.Common.{◌≡◌, ◌<◌, ◌+◌, ℕ, ℤ, pos, negsuc, ◌+ℤ◌, ◌*ℤ◌, ◌≤ℤ◌, ◌<ℤ◌, inl, inr, arith, subst}
-use Rattle.std.proofs.lemmas.Int.{ints, by_lt_z}
-use Rattle.zoned_time.specs.Days.{IsFirstInstantFrom}
-use Rattle.naive_base.specs.NaiveTime.{second_of}
-use Rattle.naive_base.specs.Range.{IsInRange, last_day}
-use Rattle.naive_base.specs.Reading.{Reading, ahead, IsEarlier}
-use Rattle.naive_base.specs.Year.{floor_div}
+use Rattle.std.proofs.{Common.{◌≡◌, ◌<◌, ◌+◌, ℕ, ℤ, pos, negsuc, ◌+ℤ◌, ◌*ℤ◌, ◌≤ℤ◌, ◌<ℤ◌, inl, inr, arith, subst}, lemmas.Int.{ints, by_lt_z}}
+use Rattle.zoned_time.specs.{Days.{IsFirstInstantFrom}, Zone.{IsZoneSecond}}
+use Rattle.naive_base.specs.{NaiveTime.{second_of}, Range.{IsInRange, last_day}, Reading.{Reading, ahead, IsEarlier}, Year.{floor_div}}
 use Rattle.naive_base.specs.declared.time.NaiveTime.{NaiveTime}
-use Rattle.zoned_time.specs.Zone.{IsZoneSecond}
-use Rattle.demo_scheduler.specs.Fires.{local_on, IsFireOn, IsNextFire, IsNoFire}
-use Rattle.demo_scheduler.specs.Steps.{HasNoFireOn, IsFirstFireOn}
-use Rattle.demo_scheduler.specs.declared.schedule.Schedule.{Schedule}
+use Rattle.demo_scheduler.specs.{Fires.{local_on, IsFireOn, IsNextFire, IsNoFire}, Steps.{HasNoFireOn, IsFirstFireOn}, declared.schedule.Schedule.{Schedule}}
 
 -- each run in range on a day before that day isn't after the instant
 abbrev pub HaveCome : (ℤ → ℤ) → Schedule → Reading → ℤ → Type 0
@@ -22,8 +15,7 @@ whole_days (negsuc n) = omega (arith, ints)
 
 earlier_day : (time : NaiveTime) (l : Reading) (day d : ℤ) → second_of time < 86_400 → (day *ℤ pos 86_400) ≤ℤ l.s → d <ℤ day
     → ¬ (IsEarlier l (local_on d time))
-earlier_day time l day d short today less (inl before) = omega (arith, ints)
-earlier_day time l day d short today less (inr same) = let e = same.0 in omega (arith, ints)
+earlier_day time l day d short today less before = grind (arith, ints)
 
 -- clocks that show a date have shown each time on each date before, or a later one
 pub have_come : (off : ℤ → ℤ) (s : Schedule) (after : Reading) (day : ℤ) → IsZoneSecond after.s
@@ -45,17 +37,13 @@ passed off s after from day n that come none d q less fire range later = by_lt_z
 
 later_day : (time other_time : NaiveTime) (day other : ℤ) → second_of time < 86_400 → day <ℤ other
     → ¬ (IsEarlier (local_on other other_time) (local_on day time))
-later_day time other_time day other short h (inl less) = omega (arith, ints)
-later_day time other_time day other short h (inr same) = let e = same.0 in omega (arith, ints)
+later_day time other_time day other short h before = grind (arith, ints)
 
 abbrev Rises : (ℤ → ℤ) → Type 0
 Rises off = (l m a b : Reading) → ¬ (IsEarlier m l) → IsFirstInstantFrom off l a → IsFirstInstantFrom off m b → ¬ (IsEarlier b a)
 
 in_between : (a q r : Reading) → IsInRange a.s → IsInRange r.s → IsEarlier a q → IsEarlier q r → IsInRange q.s
-in_between a q r low high (inl x) (inl y) = (omega (arith, ints, low), omega (arith, ints, high))
-in_between a q r low high (inl x) (inr y) = let e = y.0 in (omega (arith, ints, low), omega (arith, ints, high))
-in_between a q r low high (inr x) (inl y) = let e = x.0 in (omega (arith, ints, low), omega (arith, ints, high))
-in_between a q r low high (inr x) (inr y) = let e = x.0 in let f = y.0 in (omega (arith, ints, low), omega (arith, ints, high))
+in_between a q r low high x y = grind (arith, ints)
 
 -- the first later run that the walk comes to is the next one
 pub next : (off : ℤ → ℤ) (s : Schedule) (after : Reading) (day until : ℤ) (r : Reading) → Rises off → IsInRange after.s → IsInRange r.s

@@ -47,10 +47,7 @@ two_more = record {
   once = two_apart;
   each = λ u. (
     either_second u,
-    λ h. elim (by_offset (pos 1_615_689_000) u h.offset h.of_rule h.of_second) [
-      | inl at ↦ (0, omega arith, sym at)
-      | inr at ↦ (1, omega arith, sym at)
-    ],
+    λ h. elim (by_offset (pos 1_615_689_000) u h.offset h.of_rule h.of_second) [ inl at ↦ (0, omega arith, sym at) | inr at ↦ (1, omega arith, sym at) ],
   );
   count = refl;
 }

@@ -1,6 +1,5 @@
 -- Days of clock changes, as dates.
-use Rattle.tests_pins.proofs.Words.{arith, date_only, day_of_month, month_of, pos, refl, year_of, ◌≡◌}
-use Rattle.tests_pins.proofs.Computed.{calendar}
+use Rattle.tests_pins.proofs.{Words.{arith, date_only, day_of_month, month_of, pos, refl, year_of, ◌≡◌}, Computed.{calendar}}
 
 -- 2007-03-11 and 2021-03-14
 pub march_2007 : (year_of (pos 13_583) ≡ pos 2007) × (month_of (pos 13_583) ≡ 3) × (day_of_month (pos 13_583) ≡ 11)

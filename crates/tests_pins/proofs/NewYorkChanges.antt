@@ -1,8 +1,7 @@
 -- New York's clock changes in 2021.
 use Rattle.tests_pins.proofs.Words.{AreChanges, Change, Contains, IsChange, IsFromUntil, LocalType, RuleAt, TypeAt, ap, arith, autumn, by_lt_z, change_at, edt}
 use Rattle.tests_pins.proofs.Words.{est, get_or, inl, inr, ints, new_york_rule, new_york_zone, pos, spring, subst, suc, sym, unsigned_abs, zero, ℕ, ℤ, [], ◌-ℤ◌}
-use Rattle.tests_pins.proofs.Words.{◌<ℤ◌, ◌<◌, ◌∙◌, ◌∷◌, ◌≡◌, ◌≤ℤ◌, ◌⊎◌}
-use Rattle.tests_pins.proofs.NewYork.{edt_between, est_2022, est_early, est_late, est_winter}
+use Rattle.tests_pins.proofs.{Words.{◌<ℤ◌, ◌<◌, ◌∙◌, ◌∷◌, ◌≡◌, ◌≤ℤ◌, ◌⊎◌}, NewYork.{edt_between, est_2022, est_early, est_late, est_winter}}
 use Rattle.tests_pins.proofs.NewYorkClocks.{apart, fits, one_type, type_of_rule}
 
 -- the rule's types differ from one second to the next
@@ -112,10 +111,7 @@ both_listed from until low high one_of = record {
       | inl same ↦ subst (λ (x : Change). IsChange (TypeAt new_york_zone) x × IsFromUntil from until x.at) same (spring_is, (low, omega (arith, ints)))
       | inr same ↦ subst (λ (x : Change). IsChange (TypeAt new_york_zone) x × IsFromUntil from until x.at) same (autumn_is, (omega (arith, ints), high))
     ],
-    λ k. elim (one_of c k.1.0 k.1.1 k.0) [
-      | inl same ↦ (0, omega arith, sym same)
-      | inr same ↦ (1, omega arith, sym same)
-    ],
+    λ k. elim (one_of c k.1.0 k.1.1 k.0) [ inl same ↦ (0, omega arith, sym same) | inr same ↦ (1, omega arith, sym same) ],
   );
 }
 

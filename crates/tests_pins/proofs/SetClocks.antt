@@ -1,14 +1,11 @@
 -- Clocks that are set once, by an hour, at 1970-01-01 00:00:00 UTC.
-use Rattle.offset_core.specs.Around.{Takes, taken_in_fold, taken_in_gap}
-use Rattle.offset_core.specs.declared.around.Around.TheVariants.{Ambiguous, Gap, Single}
-use Rattle.offset_core.specs.declared.around.Taken.{Taken}
-use Rattle.offset_core.specs.declared.around.Taken.TheVariants.{InGap, Shown}
-use Rattle.offset_core.specs.declared.choice.Choice.{Choice}
-use Rattle.offset_core.specs.declared.resolve_error.ResolveError.TheVariants as reasons
+use Rattle.offset_core.specs.{Around.{Takes, taken_in_fold, taken_in_gap}, declared.around.{Around.TheVariants.{Ambiguous, Gap, Single}, Taken.{Taken}}}
+use Rattle.offset_core.specs.declared.{around.Taken.TheVariants.{InGap, Shown}, choice.Choice.{Choice}}
 use Rattle.std.proofs.Common.{Err, Ok, Result}
 use Rattle.zoned_time.proofs.ForCallers.{one_taken, taken_once}
 use Rattle.tests_pins.proofs.Words.{IsBeforeGap, IsShownBetween, IsShownOnce, IsTaken, Reading, ResolveError, ShowsByOffset, Zoned, arith, first_second, ints}
 use Rattle.tests_pins.proofs.Words.{last_second, neg_ℤ, negsuc, pos, refl, set_back, set_forward, sym, ℤ, ◌+ℤ◌, ◌-ℤ◌, ◌<ℤ◌, ◌∙◌, ◌≡◌, ◌≤ℤ◌}
+use Rattle.offset_core.specs.declared.resolve_error.ResolveError.TheVariants as reasons
 use Rattle.tests_pins.specs.Choices as choices
 
 -- ---- the gap

@@ -13,25 +13,37 @@ pub fn none()
 
 /// From 03:05:59 and 1.3 seconds on, which is a leap second.
 pub fn moves()
-    ensures back { moved (clock_reading 3 5 59 1_300) (neg_ℤ (pos 500_000_000)) ≡ clock_reading 3 5 59 800 }
-    ensures within { moved (clock_reading 3 5 59 1_300) (pos 500_000_000) ≡ clock_reading 3 5 59 1_800 }
+    ensures back { moved (clock_reading 3 5 59 1_300) (neg_ℤ (pos 500_000_000))
+        ≡ clock_reading 3 5 59 800 }
+    ensures within { moved (clock_reading 3 5 59 1_300) (pos 500_000_000)
+        ≡ clock_reading 3 5 59 1_800 }
     ensures after { moved (clock_reading 3 5 59 1_300) (pos 800_000_000) ≡ clock_reading 3 6 0 100 }
-    ensures far_after { moved (clock_reading 3 5 59 1_300) (pos 10_000_000_000) ≡ clock_reading 3 6 9 300 }
-    ensures far_back { moved (clock_reading 3 5 59 1_300) (neg_ℤ (pos 10_000_000_000)) ≡ clock_reading 3 5 50 300 }
-    ensures out_of { moved (clock_reading 3 5 59 1_000) (pos 1_000_000_000) ≡ clock_reading 3 6 0 0 }
+    ensures far_after { moved (clock_reading 3 5 59 1_300) (pos 10_000_000_000)
+        ≡ clock_reading 3 6 9 300 }
+    ensures far_back { moved (clock_reading 3 5 59 1_300) (neg_ℤ (pos 10_000_000_000))
+        ≡ clock_reading 3 5 50 300 }
+    ensures out_of { moved (clock_reading 3 5 59 1_000) (pos 1_000_000_000)
+        ≡ clock_reading 3 6 0 0 }
     ensures not_into { moved (clock_reading 3 5 59 0) (pos 1_000_000_000) ≡ clock_reading 3 6 0 0 }
 {}
 
 /// A leap second counts if one of the two local date-times lies in it and the other one's second of the
 /// day comes later.
 pub fn differences()
-    ensures plain { difference (clock_reading 3 5 7 950) (clock_reading 3 5 7 900) ≡ pos 50_000_000 }
-    ensures into { difference (clock_reading 3 0 59 1_000) (clock_reading 3 0 59 0) ≡ pos 1_000_000_000 }
-    ensures further_into { difference (clock_reading 3 0 59 1_500) (clock_reading 3 0 59 0) ≡ pos 1_500_000_000 }
-    ensures from_minute { difference (clock_reading 3 0 59 1_000) (clock_reading 3 0 0 0) ≡ pos 60_000_000_000 }
-    ensures out_of { difference (clock_reading 3 0 0 0) (clock_reading 2 59 59 1_000) ≡ pos 1_000_000_000 }
-    ensures far_out_of { difference (clock_reading 3 0 1 0) (clock_reading 2 59 59 1_000) ≡ pos 2_000_000_000 }
-    ensures backwards { difference (clock_reading 2 59 59 1_000) (clock_reading 3 0 0 0) ≡ neg_ℤ (pos 1_000_000_000) }
+    ensures plain { difference (clock_reading 3 5 7 950) (clock_reading 3 5 7 900)
+        ≡ pos 50_000_000 }
+    ensures into { difference (clock_reading 3 0 59 1_000) (clock_reading 3 0 59 0)
+        ≡ pos 1_000_000_000 }
+    ensures further_into { difference (clock_reading 3 0 59 1_500) (clock_reading 3 0 59 0)
+        ≡ pos 1_500_000_000 }
+    ensures from_minute { difference (clock_reading 3 0 59 1_000) (clock_reading 3 0 0 0)
+        ≡ pos 60_000_000_000 }
+    ensures out_of { difference (clock_reading 3 0 0 0) (clock_reading 2 59 59 1_000)
+        ≡ pos 1_000_000_000 }
+    ensures far_out_of { difference (clock_reading 3 0 1 0) (clock_reading 2 59 59 1_000)
+        ≡ pos 2_000_000_000 }
+    ensures backwards { difference (clock_reading 2 59 59 1_000) (clock_reading 3 0 0 0)
+        ≡ neg_ℤ (pos 1_000_000_000) }
 {}
 
 /// A leap second comes after the second before it, and before the next.

@@ -1,10 +1,9 @@
 //! Multiples and digits, as chrono's documentation of rounding has them.
 
 ghost use Rattle.std.specs.Prelude.{◌≡◌, pos, neg_ℤ, codes};
-ghost use Rattle.zoned_round.specs.Durations.{IsRoundingLength};
-ghost use Rattle.zoned_round.specs.Errors.{IsRoundingFault, message};
-ghost use Rattle.zoned_round.specs.Multiples.{multiple_below, multiple_above, nearest_multiple};
-ghost use Rattle.zoned_round.specs.Subseconds.{rounded, cut};
+ghost use Rattle.zoned_round.specs.{Durations.{IsRoundingLength}, Errors.{IsRoundingFault}};
+ghost use Rattle.zoned_round.specs.{Errors.{message}, Multiples.{multiple_below, multiple_above}};
+ghost use Rattle.zoned_round.specs.{Multiples.{nearest_multiple}, Subseconds.{rounded, cut}};
 ghost use Rattle.zoned_round.specs.declared.error.RoundingError.{RoundingError};
 ghost use Rattle.zoned_round.specs.declared.error.RoundingError.TheVariants.{DurationExceedsLimit};
 ghost use Rattle.zoned_round.specs.declared.error.RoundingError.TheVariants.{DurationExceedsTimestamp};
@@ -50,5 +49,6 @@ pub fn digits()
     ensures nine_digits { rounded (clock_reading 12 0 0 154) 9 ≡ clock_reading 12 0 0 154 }
     ensures one_digit { cut (clock_reading 12 0 0 154) 1 ≡ clock_reading 12 0 0 100 }
     ensures leap_second { cut (clock_reading 23 59 59 1_300) 0 ≡ clock_reading 23 59 59 1_000 }
-    ensures leap_second_rounded { rounded (clock_reading 23 59 59 1_300) 0 ≡ clock_reading 23 59 59 1_000 }
+    ensures leap_second_rounded { rounded (clock_reading 23 59 59 1_300) 0
+        ≡ clock_reading 23 59 59 1_000 }
 {}

@@ -1,14 +1,13 @@
 -- The texts of offsets and of times of day.
 use Rattle.tz_base.specs.Grammar.{Grammar, Nothing, Number, Then}
-use Rattle.tz_info.specs.TzGrammar as tz
 use Rattle.tz_write.proofs.Words.{AreInPairs, Bool, IsPlainTime, IsTextTime, IsWithinDay, List, NoneFirst, Spells, Without, ap, arith, both_ways, clock_max}
 use Rattle.tz_write.proofs.Words.{spelled_clock, spelled_hands, colon, cond, false, false≢true, inl, inr, ints, is_digit, is_negative, is_positive, minus}
 use Rattle.tz_write.proofs.Words.{spelled_minutes, nat_tests, neg_ℤ, negsuc, not, spelled_offset, spelled_pair, plus, pos, refl, signed_seconds}
 use Rattle.tz_write.proofs.Words.{spelled_seconds, spelled_signed, subst, suc, sym, time_limit, spelled_time, true, unsigned_abs, zero, ℕ, ℤ, [], ◌%◌, ◌&&◌}
-use Rattle.tz_write.proofs.Words.{◌*◌, ◌++◌, ◌+◌, ◌/◌, ◌<ℤ◌, ◌<◌, ◌==◌, ◌∙◌, ◌∷◌, ◌≡◌, ◌≤◌, ◌⊎◌}
-use Rattle.tz_write.proofs.Decimals.{digit_least, digit_most, first_digit, number_front, number_writes, pair_front, pair_writes, two_digits}
-use Rattle.tz_write.proofs.Shortest.{Front, front_cons, front_longer, front_on, front_optional}
-use Rattle.tz_write.proofs.TextBytes.{Writes, writes_colon, writes_last, writes_nothing, writes_other, writes_then}
+use Rattle.tz_write.proofs.{Words.{◌*◌, ◌++◌, ◌+◌, ◌/◌, ◌<ℤ◌, ◌<◌, ◌==◌, ◌∙◌, ◌∷◌, ◌≡◌, ◌≤◌}, Decimals.{digit_least, digit_most, first_digit}}
+use Rattle.tz_write.proofs.{Decimals.{number_front, number_writes, pair_front, pair_writes, two_digits}, Shortest.{Front, front_cons, front_longer, front_on}}
+use Rattle.tz_write.proofs.{Shortest.{front_optional}, TextBytes.{Writes, writes_colon, writes_last, writes_nothing, writes_other, writes_then}}
+use Rattle.tz_info.specs.TzGrammar as tz
 
 -- nothing that goes on with an offset or a time: no digit and no colon
 abbrev pub Stops : List ℕ → Type 0
@@ -31,13 +30,10 @@ seconds_front bytes s rest pairs h =
     front_optional colon 0 (Number clock_max) (s == 0) (λ after is p. pair_front clock_max bytes after s rest is pairs p) (λ e z. grind (arith, nat_tests)) h
 
 -- ---- minutes and seconds
-both_zero : (m s : ℕ) → ((m == 0) && (s == 0)) ≡ true → (m ≡ 0) × (s ≡ 0)
-both_zero m s e = (grind (arith, nat_tests), grind (arith, nat_tests))
-
 minutes_writes : (m s : ℕ) (rest : List ℕ) → m ≤ 59 → s ≤ 59 → Stops rest → Writes tz.optional_minutes (spelled_minutes m s) (m, s) rest
 unfolding tz.optional_minutes tz.minutes_seconds
 minutes_writes m s rest a b stops = elim ((m == 0) && (s == 0)) as (λ t. ((m == 0) && (s == 0)) ≡ t → Writes tz.optional_minutes (cond t [] (spelled_pair m ++ spelled_seconds s)) (m, s) rest) [
-  | true ↦ λ e. let (x, y) = both_zero m s e in writes_other stops.1 (writes_nothing (rw (x, y) refl))
+  | true ↦ λ e. let x : m ≡ 0 = grind (arith, nat_tests) in let y : s ≡ 0 = grind (arith, nat_tests) in writes_other stops.1 (writes_nothing (rw (x, y) refl))
   | false ↦ λ e.
       let stop = seconds_stop s rest stops in
       let seconds : Writes (Then tz.seconds (λ t. Nothing (m, t))) (spelled_seconds s) (m, s) rest = writes_last (seconds_writes s rest b stops) (refl, refl) in
@@ -116,47 +112,36 @@ clock_without t n rest h l = let f = clock_first n rest l in let m = digit_least
 
 -- ---- signs
 -- how a sign was read: a plus and a number, a minus and a number, or a number alone
-abbrev SignRead : List ℕ → Bool → List ℕ → Type 0
-SignRead bytes negative unsigned = ((bytes ≡ plus ∷ unsigned) × (negative ≡ false)) ⊎ (((bytes ≡ minus ∷ unsigned) × (negative ≡ true)) ⊎ ((bytes ≡ unsigned) × (negative ≡ false)))
+data SignRead (bytes : List ℕ) (negative : Bool) (unsigned : List ℕ) : Type 0 where
+  Plus : bytes ≡ plus ∷ unsigned → negative ≡ false → SignRead bytes negative unsigned
+  Minus : bytes ≡ minus ∷ unsigned → negative ≡ true → SignRead bytes negative unsigned
+  Bare : bytes ≡ unsigned → negative ≡ false → SignRead bytes negative unsigned
 
 sign_read : (bytes : List ℕ) (negative : Bool) (unsigned : List ℕ) → Spells tz.sign bytes negative unsigned → SignRead bytes negative unsigned
 unfolding tz.sign
-sign_read bytes negative unsigned h = elim h [
-  | inl a ↦ inl (a.1 ∙ ap (λ (z : List ℕ). plus ∷ z) a.2.1, a.2.0)
-  | inr b ↦ elim b.1 [
-    | inl c ↦ inr (inl (c.1 ∙ ap (λ (z : List ℕ). minus ∷ z) c.2.1, c.2.0))
-    | inr d ↦ inr (inr (d.1.1, d.1.0))
-  ]
-]
+sign_read bytes negative unsigned (inl (_, is, (value, same))) = Plus (is ∙ ap (λ (z : List ℕ). plus ∷ z) same) value
+sign_read bytes negative unsigned (inr (_, inl (_, is, (value, same)))) = Minus (is ∙ ap (λ (z : List ℕ). minus ∷ z) same) value
+sign_read bytes negative unsigned (inr (_, inr (_, (value, same)))) = Bare same value
 
 time_sign_read : (extended : Bool) (bytes : List ℕ) (negative : Bool) (unsigned : List ℕ) → Spells (tz.time_sign extended) bytes negative unsigned → SignRead bytes negative unsigned
 unfolding tz.time_sign
 time_sign_read true bytes negative unsigned h = sign_read bytes negative unsigned h
-time_sign_read false bytes negative unsigned h = inr (inr (h.1, h.0))
+time_sign_read false bytes negative unsigned h = Bare h.1 h.0
 
 -- the bytes after a sign have their digits in pairs as well
 unsigned_pairs : (bytes : List ℕ) (negative : Bool) (unsigned : List ℕ) → SignRead bytes negative unsigned → AreInPairs bytes → AreInPairs unsigned
-unsigned_pairs bytes negative unsigned h pairs = elim h [
-  | inl a ↦ (subst AreInPairs a.0 pairs).1
-  | inr b ↦ elim b [ inl c ↦ (subst AreInPairs c.0 pairs).1 | inr d ↦ subst AreInPairs d.0 pairs ]
-]
+unsigned_pairs bytes negative unsigned (Plus is _) pairs = (subst AreInPairs is pairs).1
+unsigned_pairs bytes negative unsigned (Minus is _) pairs = (subst AreInPairs is pairs).1
+unsigned_pairs bytes negative unsigned (Bare is _) pairs = subst AreInPairs is pairs
 
 -- a minus stands where one is needed, and else nothing
 signed_front : (want negative : Bool) (n : ℕ) (bytes unsigned rest : List ℕ) → SignRead bytes negative unsigned → Front (spelled_clock n) unsigned rest → (want ≡ true → negative ≡ true) → Front (spelled_signed want n) bytes rest
-signed_front true negative n bytes unsigned rest h f need = elim h [
-  | inl a ↦ absurd (both_ways negative a.1 (need refl))
-  | inr b ↦ elim b [
-    | inl c ↦ front_cons minus (spelled_clock n) bytes unsigned rest c.0 f
-    | inr d ↦ absurd (both_ways negative d.1 (need refl))
-  ]
-]
-signed_front false negative n bytes unsigned rest h f need = elim h [
-  | inl a ↦ front_longer plus (spelled_clock n) bytes unsigned rest a.0 f
-  | inr b ↦ elim b [
-    | inl c ↦ front_longer minus (spelled_clock n) bytes unsigned rest c.0 f
-    | inr d ↦ rw d.0 f
-  ]
-]
+signed_front true negative n bytes unsigned rest (Plus _ none) f need = absurd (both_ways negative none (need refl))
+signed_front true negative n bytes unsigned rest (Minus is _) f need = front_cons minus (spelled_clock n) bytes unsigned rest is f
+signed_front true negative n bytes unsigned rest (Bare _ none) f need = absurd (both_ways negative none (need refl))
+signed_front false negative n bytes unsigned rest (Plus is _) f need = front_longer plus (spelled_clock n) bytes unsigned rest is f
+signed_front false negative n bytes unsigned rest (Minus is _) f need = front_longer minus (spelled_clock n) bytes unsigned rest is f
+signed_front false negative n bytes unsigned rest (Bare is _) f need = rw is f
 
 signed_writes : {X : Type 0} {f : Bool → Grammar X} (negative : Bool) (n : ℕ) (x : X) (rest : List ℕ) → n / 3600 < 1000
     → Writes (f negative) (spelled_clock n) x rest → Writes (Then tz.sign f) (spelled_signed negative n) x rest

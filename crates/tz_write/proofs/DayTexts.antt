@@ -1,32 +1,25 @@
 -- The texts of days and of the times after them, and of the offset of daylight saving time.
 use Rattle.tz_base.specs.Grammar.{Grammar, Then}
-use Rattle.tz_info.specs.TzGrammar as tz
 use Rattle.tz_info.specs.declared.rule.day.DayForm.TheVariants.{Julian0, Julian1, MonthWeekday}
 use Rattle.tz_write.proofs.Words.{AreInPairs, Bool, DayForm, DayTime, Decides-int_eq, IsNumber, IsPlainTime, IsRuleDay, IsTextTime, IsWithinDay, List}
 use Rattle.tz_write.proofs.Words.{NoneFirst, Spells, Without, ap, append_assoc, arith, both_ways, comma, cond, date_max, spelled_date, day_max, spelled_day}
 use Rattle.tz_write.proofs.Words.{decimal, dot, spelled_dst_offset, false, inl, inr, int_eq, ints, is_digit, letter_J, letter_M, negsuc, spelled_offset, pos}
 use Rattle.tz_write.proofs.Words.{refl, slash, subst, suc, sym, time_after, spelled_time, true, zero, ℕ, ℤ, [], ◌++◌, ◌+ℤ◌, ◌<◌, ◌∙◌, ◌∷◌, ◌≡◌, ◌≢◌, ◌≤ℤ◌, ◌≤◌}
-use Rattle.tz_write.proofs.Words.{◌⊎◌}
-use Rattle.tz_write.proofs.Clocks.{Stops, clock_without, offset_first, offset_front, offset_writes, time_front, time_plain, time_writes}
-use Rattle.tz_write.proofs.Decimals.{digit_most, first_digit, number_front, number_writes}
-use Rattle.tz_write.proofs.Shortest.{Front, front_any, front_cons, front_nothing, front_on, front_optional, front_then}
-use Rattle.tz_write.proofs.TextBytes.{Writes, all_append, is_text_byte, writes_byte, writes_last, writes_mark, writes_nothing, writes_other, writes_then}
+use Rattle.tz_write.proofs.{Words.{◌⊎◌}, Clocks.{Stops, clock_without, offset_first, offset_front, offset_writes, time_front, time_plain, time_writes}}
+use Rattle.tz_write.proofs.{Decimals.{digit_most, first_digit, number_front, number_writes}, Shortest.{Front, front_any, front_cons, front_nothing, front_on}}
+use Rattle.tz_write.proofs.{Shortest.{front_optional, front_then}, TextBytes.{Writes, all_append, is_text_byte, writes_byte, writes_last, writes_mark}}
+use Rattle.tz_write.proofs.TextBytes.{writes_nothing, writes_other, writes_then}
+use Rattle.tz_info.specs.TzGrammar as tz
 
 -- what may stand after an offset or a day: nothing, or a comma
 abbrev pub IsEndOrComma : List ℕ → Type 0
 IsEndOrComma rest = (rest ≡ []) ⊎ ((after : List ℕ) × (rest ≡ comma ∷ after))
 
 pub stops : (rest : List ℕ) → IsEndOrComma rest → Stops rest
-stops rest h = elim h [
-  | inl e ↦ subst Stops (sym e) (tt, tt)
-  | inr c ↦ subst Stops (sym c.1) (refl, λ e. absurd (omega arith))
-]
+stops rest h = elim h [ inl e ↦ subst Stops (sym e) (tt, tt) | inr c ↦ subst Stops (sym c.1) (refl, λ e. absurd (omega arith)) ]
 
 no_slash : (rest : List ℕ) → IsEndOrComma rest → Without slash rest
-no_slash rest h = elim h [
-  | inl e ↦ subst (Without slash) (sym e) tt
-  | inr c ↦ subst (Without slash) (sym c.1) (λ e. absurd (omega arith))
-]
+no_slash rest h = elim h [ inl e ↦ subst (Without slash) (sym e) tt | inr c ↦ subst (Without slash) (sym c.1) (λ e. absurd (omega arith)) ]
 
 -- ---- dates
 no_letters : (t n : ℕ) (rest : List ℕ) → 57 < t → n < 1000 → Without t (decimal n ++ rest)
@@ -162,8 +155,5 @@ dst_offset_front std bytes dst rest pairs h = elim (int_eq dst (std +ℤ pos 3_6
     | inl a ↦ front_nothing bytes (comma ∷ rest) (a.1 ∙ ap (λ (z : List ℕ). comma ∷ z) a.2.2)
     | inr b ↦ front_any (spelled_offset dst) bytes (comma ∷ rest) (given_front bytes dst rest pairs b.1)
   ]
-  | false ↦ λ e. elim h [
-    | inl a ↦ absurd (both_ways _ e ((Decides-int_eq dst _).1 a.2.1))
-    | inr b ↦ given_front bytes dst rest pairs b.1
-  ]
+  | false ↦ λ e. elim h [ inl a ↦ absurd (both_ways _ e ((Decides-int_eq dst _).1 a.2.1)) | inr b ↦ given_front bytes dst rest pairs b.1 ]
 ] refl

@@ -1,16 +1,13 @@
 -- What every file's zone has room for.
-use Rattle.tz_info.specs.declared.file.header.Place.TheVariants.{First, Second}
-use Rattle.tz_info.specs.declared.file.header.Version.TheVariants.{One, Three, Two}
+use Rattle.tz_info.{specs.declared.file.header.{Place.TheVariants.{First, Second}, Version.TheVariants.{One, Three, Two}}, proofs.ForCallers.{has_lengths}}
 use Rattle.tz_write.proofs.Words.{All, All-cons, All-nil, All-tail, AreNamesIn, AreRecords, Bool, Counts, FilePieces, HasIndex, HasPieces, HasRule}
 use Rattle.tz_write.proofs.Words.{IsSpellableOrNone, Header, IsNamedIn, IsTzFile, IsWritable, List, LocalType, None, Option, Parts, Place, Some, SpellTypes}
 use Rattle.tz_write.proofs.Words.{Spells, SpellsLeapSecond, SpellsType, StandsAt, Transition, TransitionRule, Version, Zone, after_first_block, ap, arith}
 use Rattle.tz_write.proofs.Words.{be_u32, block, designation_of, file, first_version, get_or_append_left, header, inl, inr, later_version, length}
-use Rattle.tz_write.proofs.Words.{length-append, length-map, map, name_or_none, place_in, refl, six_counts, subst, suc, sym, tzif, version, zero, ℕ, [], ◌*◌}
-use Rattle.tz_write.proofs.Words.{◌++◌, ◌+◌, ◌<◌, ◌^◌, ◌∙◌, ◌∷◌, ◌≡◌}
-use Rattle.std.proofs.lemmas.List.{get_or-map}
+use Rattle.tz_write.proofs.Words.{length-append, length-map, map, name_or_none, place_in, refl, six_counts, subst, sym, tzif, version, ℕ, [], ◌*◌}
+use Rattle.tz_write.proofs.{Words.{◌++◌, ◌+◌, ◌/◌, ◌<◌, ◌^◌, ◌∙◌, ◌∷◌, ◌≡◌}, RuleTexts.{rule_named}}
+use Rattle.std.proofs.{Math.Nat.{mul-div_cancel}, lemmas.List.{get_or-map}}
 use Rattle.tz_base.specs.Grammar.{Byte, Check, Ended, Exact, Grammar, Marked, Nothing, Number, Refused, Rest, Run, Then}
-use Rattle.tz_info.proofs.ForCallers.{has_lengths}
-use Rattle.tz_write.proofs.RuleTexts.{rule_named}
 
 abbrev pub IsByte : ℕ → Type 0
 IsByte b = b < 256
@@ -109,12 +106,7 @@ records_length size Spells part (x ∷ xs) h =
     omega arith
 
 same_factor : (a b c : ℕ) → 0 < c → a * c ≡ b * c → a ≡ b
-same_factor zero zero c p h = refl
-same_factor zero (suc b) c p h = let e : suc b * c ≡ c + b * c = omega arith in absurd (omega arith)
-same_factor (suc a) zero c p h = let e : suc a * c ≡ c + a * c = omega arith in absurd (omega arith)
-same_factor (suc a) (suc b) c p h =
-    let e : suc a * c ≡ c + a * c = omega arith in let f : suc b * c ≡ c + b * c = omega arith in
-    ap (λ n. suc n) (same_factor a b c p (omega arith))
+same_factor a b c p h = sym (mul-div_cancel a p) ∙ (ap (λ n. n / c) h ∙ mul-div_cancel b p)
 
 indexes_fit : (ts : List Transition) (indexes : List ℕ) → indexes ≡ map (λ t. t.type_index) ts → Bytes indexes → All HasIndex ts
 indexes_fit ts indexes e b = λ i d l.
@@ -146,9 +138,7 @@ types_named designations part (t ∷ ts) h b =
 pub writable : (bytes : List ℕ) (z : Zone) → All IsByte bytes → IsTzFile bytes z → IsWritable z
 writable bytes z b h =
     let p = h.0 in let say = h.2 in
-    let limits = pieces_limits bytes p h.1 b in
-    let fit = limits.fit in
-    let l = has_lengths bytes p h.1 in
+    let limits = pieces_limits bytes p h.1 b in let fit = limits.fit in let l = has_lengths bytes p h.1 in
     let transitions : length p.parts.type_indexes ≡ length z.transitions = ap length say.transitions.indexes_are ∙ length-map z.transitions (λ t. t.type_index) in
     let types = records_length 6 (SpellsType p.parts.designations) p.parts.types z.types say.types in
     let leaps : length z.leaps ≡ p.counts.leap_seconds = same_factor (length z.leaps) p.counts.leap_seconds (p.time_size + 4) (omega arith) (sym (records_length (p.time_size + 4) (SpellsLeapSecond p.time_size) p.parts.leap_seconds z.leaps say.leaps) ∙ l.leap_seconds) in

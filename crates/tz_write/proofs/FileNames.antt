@@ -1,8 +1,7 @@
 -- Texts that stand in designations.
 use Rattle.tz_write.proofs.Words.{Bool, Decides-eqb, HasNoZero, List, and_from, ap, append_assoc, arith, begins, cond, drop, ends, ends_is, eq-eqb, false}
 use Rattle.tz_write.proofs.Words.{get_or, get_or_at, length, length-append, lt-ltb, nat_eq, place_of, refl, starts_is, starts_with, subst, suc, sym, true, ℕ}
-use Rattle.tz_write.proofs.Words.{[], ◌++◌, ◌+◌, ◌<◌, ◌∙◌, ◌∷◌, ◌≡◌, ◌≤◌}
-use Rattle.tz_write.proofs.FileRecords.{begins_is, has_text}
+use Rattle.tz_write.proofs.{Words.{inl, inr, nat_tests, [], ◌++◌, ◌+◌, ◌<◌, ◌∙◌, ◌∷◌, ◌≡◌, ◌≤◌, ◌⊎◌}, FileRecords.{begins_is, has_text}}
 
 -- a text and its 0 byte stand in the bytes
 pub record Stands (bytes text : List ℕ) : Type 0 where
@@ -43,25 +42,17 @@ from_front x a [] y d n k e = let r = same_text x a y d n k e in Inside [] r.0 r
 from_front [] a (c ∷ cs) y d n k e = Passed cs (cc) (cc)
 from_front (x ∷ xs) a (c ∷ cs) y d n k e = front_more x c xs a cs y d (cc) (from_front xs a cs y d n.1 k (cc))
 
-x_first : (x a c y d : List ℕ) → Front x a c y d → Meeting [] x a c y d
-x_first x a c y d (Passed e h l) = Behind e l
-x_first x a c y d (Inside m h l) = Is_end m h l
-
-y_first : (b x a y d : List ℕ) → Front y d b x a → Meeting b x a [] y d
-y_first b x a y d (Passed e h l) = In_front e h
-y_first b x a y d (Inside m h l) = Has_end m h (sym l)
-
-one_more : (n k : ℕ) (b x a c y d : List ℕ) → n ≡ k → Meeting b x a c y d → Meeting (n ∷ b) x a (k ∷ c) y d
-one_more n k b x a c y d q (In_front e h) = In_front e (cc)
-one_more n k b x a c y d q (Behind e h) = Behind e h
-one_more n k b x a c y d q (Is_end m h l) = Is_end m h l
-one_more n k b x a c y d q (Has_end m h l) = Has_end m h l
+-- two fronts of the same bytes: one begins with the other
+fronts : (b s c t : List ℕ) → b ++ s ≡ c ++ t → ((m : List ℕ) × (s ≡ m ++ t)) ⊎ ((m : List ℕ) × (b ≡ c ++ m) × (t ≡ m ++ s))
+fronts [] s c t e = inl (c, e)
+fronts (b ∷ bs) s [] t e = inr (b ∷ bs, refl, sym e)
+fronts (b ∷ bs) s (c ∷ cs) t e = elim (fronts bs s cs t (cc)) [ inl p ↦ inl p | inr (m, p, q) ↦ inr (m, cc, q) ]
 
 pub meet : (b x a c y d : List ℕ) → HasNoZero x → HasNoZero y → b ++ (x ++ (0 ∷ a)) ≡ c ++ (y ++ (0 ∷ d)) → Meeting b x a c y d
-meet [] x a c y d n k e = x_first x a c y d (from_front x a c y d n k e)
-meet (b ∷ bs) x a [] y d n k e = y_first (b ∷ bs) x a y d (from_front y d (b ∷ bs) x a k n (sym e))
-meet (b ∷ bs) x a (c ∷ cs) y d n k e =
-    one_more b c bs x a cs y d (cc) (meet bs x a cs y d n k (cc))
+meet b x a c y d n k e = elim (fronts b (x ++ (0 ∷ a)) c (y ++ (0 ∷ d)) e) [
+  | inl (m, q) ↦ elim (from_front x a m y d n k q) [ Passed f h l ↦ Behind f l | Inside f h l ↦ Is_end f h l ]
+  | inr (m, p, q) ↦ elim (from_front y d m x a k n q) [ Passed f h l ↦ In_front f (p ∙ ap (λ (s : List ℕ). c ++ s) h) | Inside f h l ↦ Has_end f h (sym l) ]
+]
 
 -- ---- the end of the last text
 pub ends_of : (last text : List ℕ) → ends last text ≡ true → Ends last text
@@ -79,8 +70,7 @@ begins_again text rest =
     (eq-eqb (get_or (text ++ (0 ∷ rest)) (length text) 0) 0 (get_or_at text 0 rest 0 (length text) refl)))
 
 at_most : (t : Bool) (n m : ℕ) → n ≤ m → cond t 0 (suc n) ≤ suc m
-at_most true n m h = omega arith
-at_most false n m h = omega arith
+at_most t n m h = grind (arith, nat_tests)
 
 at_front : (text : List ℕ) (b : ℕ) (bs : List ℕ) → begins text (b ∷ bs) ≡ true → place_of text (b ∷ bs) ≤ 0
 at_front text b bs h = rw h (omega arith)

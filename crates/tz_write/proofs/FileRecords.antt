@@ -1,13 +1,13 @@
 -- Records that are written spell their items.
-use Rattle.std.proofs.lemmas.Int.{to_z-of_z}
+use Rattle.{std.proofs.lemmas.Int.{to_z-of_z}, tz_base.proofs.RunLaws.{all_of}, tz_write.proofs.TextBytes.{names_are, no_zeros}}
 use Rattle.tz_write.proofs.Words.{All, All-head, All-tail, AreRecords, Bool, Decides-eqb, Fits-of_z, FitsSigned, HasNoZero, HasPlace, IsEntry, IsMark}
 use Rattle.tz_write.proofs.Words.{IsNameOrNone, HasTimeOf64Bits, IsType, IsUtOffset, LeapSecond, List, LocalType, None, Option, Some, SpellLeapSeconds}
 use Rattle.tz_write.proofs.Words.{SpellTransitions, SpellTypes, Spells, SpellsLeapSecond, SpellsType, StandsAt, Transition, and_parts, ap, arith, be_u32}
-use Rattle.tz_write.proofs.Words.{begins, cast_signed, cast_unsigned, cond, designation_of, drop, drop_more, eqb-true, false, false≢true, flat_map}
+use Rattle.tz_write.proofs.Words.{begins, cast_signed, cast_unsigned, cond, designation_of, drop, drop_more, eqb-true, false, flat_map}
 use Rattle.tz_write.proofs.Words.{flat_map_more, flat_map_single, from_be_bytes-to_be_bytes_4, from_be_bytes-to_be_bytes_8, get_or, index_bytes, ints}
 use Rattle.tz_write.proofs.Words.{is_name_byte, leap_bytes, least_offset, length, length-append, ltb-true, mark_byte, name_of, name_or_none, nat_eq, nat_lt}
-use Rattle.tz_write.proofs.Words.{number_bytes, place_of, refl, signed, signed_bytes, starts_is, starts_with, subst, suc, sym, take, take_more, time_bytes}
-use Rattle.tz_write.proofs.Words.{file_time, true, type_bytes, w32, w64, ℕ, ℤ, [], ◌&&◌, ◌*◌, ◌++◌, ◌+◌, ◌<ℤ◌, ◌<◌, ◌==◌, ◌^◌, ◌∙◌, ◌∷◌, ◌≡◌, ◌≢◌}
+use Rattle.tz_write.proofs.Words.{number_bytes, place_of, refl, signed, signed_bytes, starts_is, starts_with, suc, sym, take, take_more, time_bytes}
+use Rattle.tz_write.proofs.Words.{file_time, true, type_bytes, w32, w64, ℕ, ℤ, [], ◌&&◌, ◌*◌, ◌++◌, ◌+◌, ◌<ℤ◌, ◌<◌, ◌==◌, ◌^◌, ◌∙◌, ◌∷◌, ◌≡◌}
 
 -- a count
 pub number_is : (n : ℕ) (rest : List ℕ) → n < 2 ^ 32 → Spells be_u32 (number_bytes n ++ rest) n rest
@@ -102,16 +102,9 @@ mark_is : (dst : Bool) → IsMark (mark_byte dst) dst
 mark_is true = refl
 mark_is false = refl
 
-not_zero : (b : ℕ) → is_name_byte b ≡ true → b ≢ 0
-not_zero b h z = let no : is_name_byte 0 ≡ true = subst (λ n. is_name_byte n ≡ true) z h in false≢true no
-
-bytes_not_zero : (text : List ℕ) → ((i : ℕ) → i < length text → is_name_byte (get_or text i 0) ≡ true) → HasNoZero text
-bytes_not_zero [] h = tt
-bytes_not_zero (b ∷ bs) h = (not_zero b (h 0 (omega arith)), bytes_not_zero bs (λ i l. h (suc i) (omega arith)))
-
 pub no_zero : (name : Option (List ℕ)) → IsNameOrNone name → HasNoZero (name_or_none name)
 no_zero None h = tt
-no_zero (Some text) h = bytes_not_zero text h.2
+no_zero (Some text) h = no_zeros text (names_are text (all_of is_name_byte text h.2))
 
 name_back : (name : Option (List ℕ)) → IsNameOrNone name → designation_of (name_or_none name) ≡ name
 name_back None h = refl

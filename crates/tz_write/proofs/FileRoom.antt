@@ -11,9 +11,6 @@ pub record Room (last designations others : List ℕ) (size : ℕ) : Type 0 wher
   pub fits : length designations + length left ≤ length others
   pub rest : (text : List ℕ) → HasNoZero text → (length text ≤ size) ⊎ Ends last text → Stands others text → length designations ≤ place_of text designations → Stands left text
 
-none_put : (last others : List ℕ) (size : ℕ) → Room last [] others size
-none_put last others size = record { left = others; fits = omega arith; rest = λ text none small stands out. stands }
-
 smaller : (last designations others : List ℕ) (a b : ℕ) → b ≤ a → Room last designations others a → Room last designations others b
 smaller last designations others a b l r = record {
   left = r.left;
@@ -177,7 +174,10 @@ unfolding before_last with_texts
 before_passed last others types g =
     let step = pass last others types g in
     step 3 _ (step 4 _ (step 5 _ (step 6 _
-    (step 7 [] (record { room = none_put last others 8; inside = λ short i e l low high free. absurd (omega (arith, low, high)) })))))
+    (step 7 [] (record {
+      room = record { left = others; fits = omega arith; rest = λ text none small stands out. stands };
+      inside = λ short i e l low high free. absurd (omega (arith, low, high));
+    })))))
 
 pub before_keeps : (P : List ℕ → Type 0) → ((d text : List ℕ) → P d → P (with_text d text)) → (last : List ℕ) (types : List LocalType) → P [] → P (before_last last types)
 unfolding before_last with_texts

@@ -1,30 +1,19 @@
 -- The file that is written spells the zone.
 use Rattle.tz_info.specs.declared.file.header.Place.TheVariants.{First, Second}
-use Rattle.tz_write.proofs.Words.{All, All-cons, All-nil, Bool, Counts, CountsAgree, FilePieces, HasCounts, HasNoZero, HasPieces, HavePlaces, IsAscii-from_all}
+use Rattle.tz_write.proofs.Words.{All, All-cons, All-nil, Bool, Counts, CountsAgree, FilePieces, HasCounts, HasPieces, HavePlaces, IsAscii-from_all}
 use Rattle.tz_write.proofs.Words.{IsFooter, IsSound, IsTzFile, IsUtf8-from_ascii, List, LocalType, Option, Parts, SayZone, SaysRule, Spells, TransitionRule}
-use Rattle.tz_write.proofs.Words.{Zone, after_first_block, arith, block, block_bytes, counts_bytes, counts_test, false, false≢true, file, file_bytes}
+use Rattle.tz_write.proofs.Words.{Zone, after_first_block, arith, block, block_bytes, counts_bytes, counts_test, false, file, file_bytes}
 use Rattle.tz_write.proofs.Words.{first_half, footer_bytes, get_or, header_bytes, index_bytes, inl, is_extended, later_pieces, later_version, leap_bytes}
-use Rattle.tz_write.proofs.Words.{least_block, least_counts, length, nat_tests, number_bytes, refl, second_half, subst, time_bytes, true, type_bytes}
-use Rattle.tz_write.proofs.Words.{zone_counts, zone_parts, ℕ, [], ◌*◌, ◌++◌, ◌+◌, ◌<◌, ◌∙◌, ◌∷◌, ◌≡◌, ◌≢◌, ◌≤◌}
-use Rattle.tz_write.proofs.FileHeads.{CountsFit, header_is, version_of}
-use Rattle.tz_write.proofs.FileRecords.{leap_size, leaps_are, size_64, size_of_records, transitions_are, type_size, types_are}
-use Rattle.tz_write.proofs.TextBytes.{AreTextBytes, begins_bare, ends_bare, is_text_byte}
+use Rattle.tz_write.proofs.Words.{least_block, least_counts, length, number_bytes, refl, second_half, time_bytes, true, type_bytes}
+use Rattle.tz_write.proofs.{Words.{zone_counts, zone_parts, ℕ, [], ◌*◌, ◌++◌, ◌+◌, ◌<◌, ◌∙◌, ◌∷◌, ◌≡◌, ◌≢◌, ◌≤◌}, FileHeads.{CountsFit, header_is, version_of}}
+use Rattle.tz_write.proofs.{FileRecords.{leap_size, leaps_are, size_64, size_of_records, transitions_are, type_size, types_are}, TextBytes.{AreTextBytes}}
+use Rattle.tz_write.proofs.TextBytes.{begins_bare, ends_bare, limits, no_zeros}
 
 -- ---- footers
 -- letters, digits and signs of ASCII, and no colon in front
 pub record IsPlain (text : List ℕ) : Type 0 where
   pub bytes : AreTextBytes text
   pub no_colon : get_or text 0 0 ≢ 58
-
-limits : (b : ℕ) → is_text_byte b ≡ true → (b ≢ 0) × (b < 128)
-limits b h = ((λ z. not_byte (subst (λ n. is_text_byte n ≡ true) z h)), grind (arith, nat_tests))
-  where
-    not_byte : is_text_byte 0 ≡ true → ⊥
-    not_byte h = false≢true h
-
-no_zeros : (text : List ℕ) → AreTextBytes text → HasNoZero text
-no_zeros [] h = tt
-no_zeros (b ∷ bs) h = ((limits b h.0).0, no_zeros bs h.1)
 
 ascii : (text : List ℕ) → AreTextBytes text → All (λ b. b < 128) (text ++ 10 ∷ [])
 ascii [] h = All-cons (λ b. b < 128) 10 [] (omega arith) (All-nil (λ b. b < 128))

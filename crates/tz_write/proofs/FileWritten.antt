@@ -1,20 +1,15 @@
 -- What is written of a zone.
 use Rattle.tz_write.proofs.Words.{All-weaker, Bool, Err, IsRoomOf, IsSpellableOrNone, HavePlaces, HaveVersion, IfOk, In_order, IsFirstPlaced, IsFooterText}
 use Rattle.tz_write.proofs.Words.{IsInNoFile, IsLaid, IsNameOrNone, IsRuleOrNone, IsSound, IsType, IsTzFile, IsWritable, IsWrittenFile, List, LocalType}
-use Rattle.tz_write.proofs.Words.{NeedsExtensions, None, Ok, OnOk, Option, Otherwise, Result, Room, SaysRule, Some, TransitionRule, Zone, ap, arith, cases_lt}
-use Rattle.tz_write.proofs.Words.{counts_bytes, false, file_bytes, first_half, get_or, header_bytes, inl, inr, laid_from, length, number_bytes, refl}
-use Rattle.tz_write.proofs.Words.{second_half, subst, sym, true, ℕ, [], ◌<◌, ◌∙◌, ◌≡◌}
-use Rattle.tz_write.proofs.FileLayouts.{laid_of, laid_size}
-use Rattle.tz_write.proofs.FileLimits.{writable}
-use Rattle.tz_write.proofs.FileSpelled.{IsPlain, file_is}
-use Rattle.tz_write.proofs.RuleTexts.{extensions, rule_named, rule_text, text_are, text_first, text_once, text_some}
-use Rattle.tz_write.proofs.TextBytes.{AreTextBytes}
-use Rattle.tz_write.proofs.ZoneTexts.{not_empty}
+use Rattle.tz_write.proofs.Words.{NeedsExtensions, None, Ok, OnOk, Option, Otherwise, Result, Room, SaysRule, Some, TransitionRule, Zone, ap, arith}
+use Rattle.tz_write.proofs.Words.{counts_bytes, false, file_bytes, first_half, get_or, header_bytes, laid_from, length, number_bytes, refl}
+use Rattle.tz_write.proofs.{Words.{second_half, subst, sym, true, ℕ, [], ◌<◌, ◌∙◌, ◌≡◌}, FileLayouts.{laid_of, laid_size}, FileLimits.{writable}}
+use Rattle.tz_write.proofs.{FileSpelled.{IsPlain, file_is}, RuleTexts.{extensions, rule_named, rule_text, text_are, text_first, text_once, text_some}}
+use Rattle.tz_write.proofs.{TextBytes.{AreTextBytes}, ZoneTexts.{not_empty}}
 
 text_is : (rule : Option TransitionRule) (text : List ℕ) (extended : Bool) → IsRuleOrNone rule → IsFooterText rule text extended → IsPlain text × SaysRule extended text rule
 text_is (Some rule) text extended fits h =
-    let named = rule_named extended text rule h.spells in
-    let same = rule_text rule text extended fits h in
+    let named = rule_named extended text rule h.spells in let same = rule_text rule text extended fits h in
     let first = text_first rule named in (
       record {
         bytes = subst AreTextBytes (sym same) (text_are rule fits named);
@@ -56,13 +51,9 @@ one_footer (Some rule) a b x y h k = text_once rule a b x y h k
 one_footer None a b x y h k = (h.0 ∙ sym k.0, h.1 ∙ sym k.1)
 
 one_place : (types : List LocalType) (a b : List ℕ) → IsFirstPlaced types a → IsFirstPlaced types b → a ≡ b
-one_place types a b h k = elim (cases_lt h.place k.place) [
-  | inl l ↦ absurd (k.first h.place l h.placed)
-  | inr m ↦ elim (cases_lt k.place h.place) [
-    | inl l ↦ absurd (h.first k.place l k.placed)
-    | inr n ↦ let same : h.place ≡ k.place = omega (arith, m, n) in h.laid_is ∙ (ap (λ (p : ℕ). laid_from types p) same ∙ sym k.laid_is)
-  ]
-]
+one_place types a b h k =
+    let low : h.place < k.place → ⊥ = λ l. k.first h.place l h.placed in let high : k.place < h.place → ⊥ = λ l. h.first k.place l k.placed in
+    let same : h.place ≡ k.place = omega (arith, low, high) in h.laid_is ∙ (ap (λ (p : ℕ). laid_from types p) same ∙ sym k.laid_is)
 
 one_layout : (types : List LocalType) (a b : List ℕ) → IsLaid types a → IsLaid types b → a ≡ b
 one_layout types a b (In_order h e) (In_order k f) = e ∙ sym f
@@ -115,8 +106,7 @@ footer_some None fits h = ([], false, (refl, refl))
 pub file_some : (z : Zone) → 0 < length z.types → IsRuleOrNone z.rule → IsSound z → IsWritable z → (bytes : List ℕ) × IsWrittenFile z bytes
 file_some z some fits sound h =
     let names = All-weaker IsType (λ t. IsNameOrNone t.name) (λ t h. h.name) z.types sound.types in
-    let d = laid_of z.types h.room.designations some names h.room.names in
-    let f = footer_some z.rule fits h.rule in
+    let d = laid_of z.types h.room.designations some names h.room.names in let f = footer_some z.rule fits h.rule in
     let room : Room = record {
       designations = d.0;
       sizes = record { leap_seconds = length z.leaps; transitions = length z.transitions; types = length z.types; designations = length d.0 };

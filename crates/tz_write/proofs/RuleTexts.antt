@@ -2,16 +2,13 @@
 use Rattle.tz_info.specs.TzGrammar as tz
 use Rattle.tz_info.specs.declared.rule.transition_rule.TransitionRule.TheVariants as rules
 use Rattle.tz_write.proofs.Words.{Alternate, AreInPairs, AreTimesOf, Bool, CanBeSpelled, DayTime, IsAlternateRule, IsName, IsNamed, IsPlainTime, IsRule}
-use Rattle.tz_write.proofs.Words.{IsTextTime, IsTzText, IsUnspelled, IsWithinDay, IsWrittenText, List, LocalType, NoneFirst, Some, Spells, TransitionRule}
-use Rattle.tz_write.proofs.Words.{spelled_alternate, ap, append-nil, append_assoc, arith, both_ways, cases_lt, comma, cond, spelled_day, spelled_dst_offset}
+use Rattle.tz_write.proofs.Words.{IsTextTime, IsTzText, IsWithinDay, IsWrittenText, List, LocalType, NoneFirst, Some, Spells, TransitionRule}
+use Rattle.tz_write.proofs.Words.{spelled_alternate, ap, append-nil, append_assoc, arith, both_ways, comma, cond, spelled_day, spelled_dst_offset}
 use Rattle.tz_write.proofs.Words.{false, inl, inr, int_eq, ints, is_digit, is_letter, length, name_of, name_or_none, spelled_name, named_type, nat_tests}
-use Rattle.tz_write.proofs.Words.{negsuc, not, offset_fits, spelled_offset, pos, refl, subst, sym, spelled_rule, true, spelled_type, ℕ, ℤ, [], ◌++◌, ◌+ℤ◌, ◌<◌}
-use Rattle.tz_write.proofs.Words.{◌↔◌, ◌∙◌, ◌∷◌, ◌≡◌, ◌≢◌, ◌≤◌, ◌⊎◌}
-use Rattle.tz_write.proofs.Clocks.{Stops, offset_first, offset_front, offset_writes}
-use Rattle.tz_write.proofs.DayTexts.{day_front, day_plain, day_writes, dst_offset_front, dst_offset_writes}
-use Rattle.tz_write.proofs.NameTexts.{name_first, name_front, name_writes}
-use Rattle.tz_write.proofs.Shortest.{Best, Front, front_cons, front_on}
-use Rattle.tz_write.proofs.TextBytes.{AreTextBytes, Writes, writes_byte, writes_last, writes_more, writes_then}
+use Rattle.tz_write.proofs.Words.{not, offset_fits, spelled_offset, pos, refl, subst, sym, spelled_rule, true, spelled_type, ℕ, ℤ, [], ◌++◌, ◌+ℤ◌, ◌<◌}
+use Rattle.tz_write.proofs.{Words.{◌↔◌, ◌∙◌, ◌∷◌, ◌≡◌, ◌≢◌, ◌≤◌, ◌⊎◌}, Clocks.{Stops, offset_first, offset_front, offset_writes}, DayTexts.{day_front}}
+use Rattle.tz_write.proofs.{DayTexts.{day_plain, day_writes, dst_offset_front, dst_offset_writes}, NameTexts.{name_first, name_front, name_writes}}
+use Rattle.tz_write.proofs.{Shortest.{Best, Front, front_cons, front_on}, TextBytes.{AreTextBytes, Writes, writes_byte, writes_last, writes_more, writes_then}}
 
 pub record IsFixedText (bytes : List ℕ) (t : LocalType) : Type 0 where
   pub name : List ℕ
@@ -99,9 +96,6 @@ type_front t name bytes middle rest e pairs n o =
 front_whole : (text bytes : List ℕ) → Front text bytes [] → Best text bytes
 front_whole text bytes f = subst (Best text) (sym (append-nil f.front) ∙ sym f.whole) f.best
 
-fixed_front : (bytes : List ℕ) (t : LocalType) → AreInPairs bytes → IsFixedText bytes t → Best (spelled_type t) bytes
-fixed_front bytes t pairs h = front_whole (spelled_type t) bytes (type_front t h.name bytes h.after_name [] h.named.named pairs h.name_spelled h.offset_spelled)
-
 name_stops : (name rest : List ℕ) → IsName name → Stops (spelled_name name ++ rest)
 name_stops name rest h = let f = name_first name rest h in rw f.2 (not_digit f.0 f.3, λ e. absurd (omega (arith, f.3)))
 
@@ -182,7 +176,8 @@ text_first (rules.Alternate a) ((name, h), _) =
     (name_first name (spelled_offset a.std.offset ++ from_name a) h.allowed)
 
 pub rule_best : (extended : Bool) (bytes : List ℕ) (rule : TransitionRule) → AreInPairs bytes → IsTzText extended bytes rule → Best (spelled_rule rule) bytes
-rule_best extended bytes (rules.Fixed t) pairs h = fixed_front bytes t pairs (parts_of extended bytes (rules.Fixed t) h)
+rule_best extended bytes (rules.Fixed t) pairs spelled = let h = parts_of extended bytes (rules.Fixed t) spelled in
+    front_whole (spelled_type t) bytes (type_front t h.name bytes h.after_name [] h.named.named pairs h.name_spelled h.offset_spelled)
 rule_best extended bytes (rules.Alternate a) pairs h = alternate_front extended bytes a pairs (parts_of extended bytes (rules.Alternate a) h)
 
 -- what a text without extensions spells has times that need none
@@ -194,9 +189,6 @@ rule_plain bytes (rules.Alternate a) spelled = let h = parts_of false bytes (rul
 pub rule_named : (extended : Bool) (bytes : List ℕ) (rule : TransitionRule) → IsTzText extended bytes rule → CanBeSpelled rule
 rule_named extended bytes (rules.Fixed t) spelled = let h = parts_of extended bytes (rules.Fixed t) spelled in ((h.name, h.named), offset_fits h.after_name t.offset [] h.offset_spelled)
 rule_named extended bytes (rules.Alternate a) spelled = let h = parts_of extended bytes (rules.Alternate a) spelled in ((h.std_name, h.std_named), (h.dst_name, h.dst_named))
-
-pub unspelled : (rule : TransitionRule) → ¬ (CanBeSpelled rule) → IsUnspelled rule
-unspelled rule none = λ extended bytes h. none (rule_named extended bytes rule h)
 
 -- the text has extensions where one without doesn't have room for the times
 pub written : (rule : TransitionRule) (plain : Bool) → IsRule rule → CanBeSpelled rule → (plain ≡ true → AreTimesOf false rule) → (AreTimesOf false rule → plain ≡ true) → IsWrittenText rule (spelled_rule rule) (not plain)
@@ -215,10 +207,7 @@ written rule false fits h to from = record {
 
 -- each of two is the shortest
 pub both_shortest : (s t : List ℕ) → (t ≡ s) ⊎ (length s < length t) → (s ≡ t) ⊎ (length t < length s) → s ≡ t
-both_shortest s t p q = elim p [
-  | inl e ↦ sym e
-  | inr l ↦ elim q [ inl e ↦ e | inr m ↦ absurd (omega arith) ]
-]
+both_shortest s t p q = grind arith
 
 pub text_once : (rule : TransitionRule) (s t : List ℕ) (d e : Bool) → IsWrittenText rule s d → IsWrittenText rule t e → (s ≡ t) × (d ≡ e)
 text_once rule s t true true p q = (both_shortest s t (p.shortest t q.spells q.pairs) (q.shortest s p.spells p.pairs), refl)
@@ -228,11 +217,7 @@ text_once rule s t false true p q = absurd (q.needed refl s p.spells)
 
 -- a rule's times need extensions, or they need none
 plain_time : (time : ℤ) → (IsPlainTime time) ⊎ (IsPlainTime time → ⊥)
-plain_time (negsuc n) = inr (λ h. let l = h.0 in omega (arith, ints))
-plain_time (pos n) = elim (cases_lt n 90_000) [
-  | inl l ↦ inl (omega (arith, ints), omega (arith, ints))
-  | inr m ↦ inr (λ h. let l = h.1 in omega (arith, ints))
-]
+plain_time time = grind (arith, ints)
 
 plain_times : (rule : TransitionRule) → (AreTimesOf false rule) ⊎ (AreTimesOf false rule → ⊥)
 plain_times (rules.Fixed t) = inl tt

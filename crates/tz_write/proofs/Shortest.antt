@@ -14,10 +14,7 @@ pub record Front (text bytes rest : List ℕ) : Type 0 where
   pub best : Best text front
 
 best_append : (a b x y : List ℕ) → Best a x → Best b y → Best (a ++ b) (x ++ y)
-best_append a b x y p q = let m = length-append a b in let n = length-append x y in elim p [
-  | inl e ↦ elim q [ inl f ↦ inl (rw (e, f) refl) | inr l ↦ let k = ap length e in inr (omega arith) ]
-  | inr k ↦ elim q [ inl f ↦ let l = ap length f in inr (omega arith) | inr l ↦ inr (omega arith) ]
-]
+best_append a b x y p q = let m = length-append a b in let n = length-append x y in grind arith
 
 pub at_most : (a x : List ℕ) → Best a x → length a ≤ length x
 at_most a x p = elim p [ inl e ↦ let k = ap length e in omega arith | inr l ↦ omega arith ]

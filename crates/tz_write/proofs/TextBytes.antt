@@ -2,8 +2,8 @@
 -- have no white space.
 use Rattle.tz_base.specs.Grammar.{Byte, Ended, Grammar, Marked, Nothing, Then}
 use Rattle.tz_write.proofs.Words.{AllDigits, AllOf, AreInPairs, BeginsBare, Bool, EndsBare, IsTrimmed, List, Spells, TwoDigits, Without, and_parts, append-nil}
-use Rattle.tz_write.proofs.Words.{append_assoc, arith, colon, comma, dot, false, greater, inl, inr, is_ascii_whitespace, is_digit, is_name_byte, less}
-use Rattle.tz_write.proofs.Words.{nat_tests, not, refl, slash, sym, true, ℕ, [], ◌&&◌, ◌++◌, ◌==◌, ◌||◌, ◌∷◌, ◌≡◌, ◌≢◌}
+use Rattle.tz_write.proofs.Words.{HasNoZero, append_assoc, arith, colon, comma, dot, false, greater, inl, inr, is_ascii_whitespace, is_digit, is_name_byte, less}
+use Rattle.tz_write.proofs.Words.{nat_tests, not, refl, slash, sym, true, ℕ, [], ◌&&◌, ◌++◌, ◌==◌, ◌||◌, ◌∷◌, ◌<◌, ◌≡◌, ◌≢◌}
 
 -- a letter, a digit or one of the signs
 abbrev pub is_text_byte : ℕ → Bool
@@ -25,6 +25,13 @@ digits_are = all_others is_digit is_text_byte (λ b h. grind (arith, nat_tests))
 
 pub names_are : (bs : List ℕ) → AllOf is_name_byte bs → AreTextBytes bs
 names_are = all_others is_name_byte is_text_byte (λ b h. rw h refl)
+
+pub limits : (b : ℕ) → is_text_byte b ≡ true → (b ≢ 0) × (b < 128)
+limits b h = (grind (arith, nat_tests), grind (arith, nat_tests))
+
+pub no_zeros : (text : List ℕ) → AreTextBytes text → HasNoZero text
+no_zeros [] h = tt
+no_zeros (b ∷ bs) h = ((limits b h.0).0, no_zeros bs h.1)
 
 -- ---- texts of pieces
 -- the text before that rest spells x; it has only those bytes; and two digits stand after each of its colons, if they do in the rest

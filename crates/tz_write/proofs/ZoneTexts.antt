@@ -3,10 +3,8 @@ use Rattle.tz_write.proofs.Words.{AreInPairs, CanBeSpelled, Err, HasZoneText, Is
 use Rattle.tz_write.proofs.Words.{IsTzText, IsWrittenZone, LeapSecond, List, LocalType, None, NoneFirst, Ok, OnErr, Option, Result, Some, Transition}
 use Rattle.tz_write.proofs.Words.{TransitionRule, TwoDigits, Zone, ap, append-nil, arith, false, inl, inr, is_ascii_whitespace, is_digit, length, length-append}
 use Rattle.tz_write.proofs.Words.{nat_tests, posix_zone, refl, subst, sym, spelled_rule, true, types_of, zone_of_rule, ℕ, [], ◌++◌, ◌<◌, ◌∙◌, ◌∷◌, ◌≡◌, ◌≢◌}
-use Rattle.tz_write.proofs.Words.{◌⊎◌}
-use Rattle.tz_write.proofs.RuleTexts.{both_shortest, rule_best, rule_named, rule_pairs, rule_plain, rule_spelled, text_are, text_first}
-use Rattle.tz_write.proofs.Shortest.{Best, pairs_rest}
-use Rattle.tz_write.proofs.TextBytes.{trimmed_text}
+use Rattle.tz_write.proofs.{Words.{◌⊎◌}, RuleTexts.{both_shortest, rule_best, rule_named, rule_pairs, rule_plain, rule_spelled, text_are, text_first}}
+use Rattle.tz_write.proofs.{Shortest.{Best, pairs_rest}, TextBytes.{trimmed_text}}
 
 -- ---- white space at the ends
 not_both : (b : ℕ) → is_digit b ≡ true → is_ascii_whitespace b ≡ true → ⊥
@@ -38,12 +36,7 @@ trimmed_or_longer [] text (c ∷ cs) = let l = length-append text (c ∷ cs) in 
 trimmed_or_longer (b ∷ bs) text after = let l = length-append text after in let m = length-append bs (text ++ after) in inr (omega arith)
 
 best_of_trimmed : (text bytes trimmed : List ℕ) → IsTrimmed bytes trimmed → Best text trimmed → Best text bytes
-best_of_trimmed text bytes trimmed t best =
-    let whole = trimmed_or_longer t.before trimmed t.after in
-    subst (Best text) (sym t.whole) (elim best [
-      | inl e ↦ elim whole [ inl f ↦ inl (f ∙ e) | inr l ↦ let k = ap length e in inr (omega arith) ]
-      | inr m ↦ elim whole [ inl f ↦ let k = ap length f in inr (omega arith) | inr l ↦ inr (omega arith) ]
-    ])
+best_of_trimmed text bytes trimmed t best = let whole = trimmed_or_longer t.before trimmed t.after in subst (Best text) (sym t.whole) (grind arith)
 
 -- ---- the zone of types and a rule
 pub not_empty : (rule : TransitionRule) → CanBeSpelled rule → spelled_rule rule ≢ []
@@ -106,11 +99,7 @@ rule_some : (types : List LocalType) (rule : Option TransitionRule) → IsRuleOr
 rule_some types (Some rule) fits h = (spelled_rule rule, written_zone types rule fits h)
 rule_some types None fits h = (
   [],
-  record {
-    gives = inl (refl, ap (λ (x : List LocalType). zone_of_rule x None) h);
-    pairs = tt;
-    shortest = λ other gives pairs. empty_or_longer other;
-  },
+  record { gives = inl (refl, ap (λ (x : List LocalType). zone_of_rule x None) h); pairs = tt; shortest = λ other gives pairs. empty_or_longer other },
 )
 
 pub zone_text_some : (z : Zone) → IsRuleOrNone z.rule → IsOfText z → (text : List ℕ) × IsWrittenZone z text

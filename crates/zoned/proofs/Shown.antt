@@ -22,11 +22,7 @@ at_second off l u k s shows is =
     (subst (λ j. ShowsByOffset off l u j) offset shows, is ∙ second_of off l u k shows)
 
 once_second : (off : ℤ → ℤ) (l k s : ℤ) → IsShownOnce (ShowsByOffset off l) k → s ≡ l -ℤ k → IsShownOnce (IsSecond off l) s
-once_second off l k s h is = record {
-  second = h.second;
-  shown = at_second off l h.second k s h.shown is;
-  only = λ u b there. h.only u (l -ℤ b) there.0;
-}
+once_second off l k s h is = record { second = h.second; shown = at_second off l h.second k s h.shown is; only = λ u b there. h.only u (l -ℤ b) there.0 }
 
 between_seconds : (off : ℤ → ℤ) (l j k s t : ℤ) → IsShownBetween (ShowsByOffset off l) j k → s ≡ l -ℤ j → t ≡ l -ℤ k → IsShownBetween (IsSecond off l) s t
 between_seconds off l j k s t h is also = record {

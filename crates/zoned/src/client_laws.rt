@@ -1,26 +1,20 @@
 //! Theorems for a client's own contracts: that a question has one answer, that an instant made from
 //! one of a zone is one of that zone, and some in the shape of a client's clauses. Calling one makes
 //! its statement available in the caller's proof, and does nothing when it runs.
-ghost use Rattle.std.specs.Prelude.{◌≡◌, ◌≢◌, ◌⊎◌, ◌∷◌, [], ℕ, ℤ, pos, ◌+ℤ◌, ◌-ℤ◌, ◌≤ℤ◌, ◌<ℤ◌, List, MatchOption, Ok};
-ghost use Rattle.std.specs.Prelude.{Option, Some};
+ghost use Rattle.std.specs.Prelude.{◌≡◌, ◌≢◌, ◌⊎◌, ◌∷◌, [], ℕ, ℤ, pos, ◌+ℤ◌, ◌-ℤ◌, ◌≤ℤ◌, ◌<ℤ◌};
+ghost use Rattle.std.specs.Prelude.{List, MatchOption, Ok, Option, Some};
 ghost use Rattle.offset_core.specs.declared.local_result.LocalResult.TheVariants.{None as NoInstant};
-ghost use Rattle.offset_core.specs.LocalResult.{map_of};
-ghost use Rattle.offset_core.specs.TimeDelta.{nanos_of};
+ghost use Rattle.offset_core.specs.{LocalResult.{map_of}, TimeDelta.{nanos_of}};
 ghost use Rattle.offset_core.specs.WallAnswer.{IsWallAnswer, IsNeverShown};
-ghost use Rattle.naive_base.specs.NaiveDateTime.{reading};
-ghost use Rattle.naive_base.specs.Range.{IsInRange, last_second};
+ghost use Rattle.naive_base.specs.{NaiveDateTime.{reading}, Range.{IsInRange, last_second}};
 ghost use Rattle.naive_base.specs.Reading.{Reading, total};
 ghost use Rattle.tz_base.specs.declared.change.Change.{Change};
-ghost use Rattle.tz_info.specs.Changes.{AreChanges, IsFirst};
-ghost use Rattle.tz_info.specs.Zones.{Zone, TypeAt};
-ghost use Rattle.zoned_time.specs.Choice.{IsResolved};
-ghost use Rattle.zoned_time.specs.DateTime.{zoned, wall_of, home_law_of, IsIn, IsDaysAdded};
-ghost use Rattle.zoned_time.specs.Relocal.{IsRelocal};
-ghost use Rattle.zoned_time.specs.Zone.{Each, ShowsByOffset};
-ghost use Rattle.zoned_time.specs.Zoned.{in_seconds, IsAt};
+ghost use Rattle.tz_info.specs.{Changes.{AreChanges, IsFirst}, Zones.{Zone, TypeAt}};
+ghost use Rattle.zoned_time.specs.{Choice.{IsResolved}, DateTime.{zoned, wall_of, home_law_of}};
+ghost use Rattle.zoned_time.specs.{DateTime.{IsIn, IsDaysAdded}, Relocal.{IsRelocal}, Zone.{Each}};
+ghost use Rattle.zoned_time.specs.{Zone.{ShowsByOffset}, Zoned.{in_seconds, IsAt}};
 ghost use Rattle.zoned_ref.specs.ZoneChange.{IsAfter};
-ghost use Rattle.zoned_round.specs.Durations.{IsRoundedTo};
-ghost use Rattle.zoned_round.specs.Laws.{IsMultiple};
+ghost use Rattle.zoned_round.specs.{Durations.{IsRoundedTo}, Laws.{IsMultiple}};
 ghost use Rattle.zoned_round.specs.Multiples.{multiple_below, IsItselfOr};
 ghost use Rattle.zoned.specs.Within.{IsFromFirstToLast};
 

@@ -3,12 +3,9 @@ use Rattle.zoned_ffi.proofs.Words.{All-contains, AreKeptTimes, Choice, FitsSigne
 use Rattle.zoned_ffi.proofs.Words.{IsLeast, IsLocal, IsNoInstant, IsNoneTaken, IsOffsetStretch, IsRowNumber, IsShownOnce, IsTakenAs, IsWithout, Kept, LieWithin}
 use Rattle.zoned_ffi.proofs.Words.{List, LocalType, MatchOption, None, OffsetStretch, Option, Shows, Some, Taken, TypeAt, Unit, Zone, ap, arith, cases_lt}
 use Rattle.zoned_ffi.proofs.Words.{first_second, floor_div, floors, get_or, inl, inr, ints, neg_ℤ, offsets, per_second, pos, refl, second_holding, subst, sym}
-use Rattle.zoned_ffi.proofs.Words.{taken_instant, uncounted, w64, ℕ, ℤ, ◌*ℤ◌, ◌+ℤ◌, ◌+◌, ◌-ℤ◌, ◌<ℤ◌, ◌∙◌, ◌≡◌, ◌≤ℤ◌}
-use Rattle.zoned_ffi.proofs.Resolving.{none_is, taken_once}
-use Rattle.tz_info.proofs.ExtremeLaws.{at_least_least, at_most_greatest}
-use Rattle.tz_info.proofs.ForCallers.{type_once}
-use Rattle.zoned_ffi.specs.declared.column.Way.TheVariants.{ToInstants, ToLocal}
-use Rattle.zoned_ffi.specs.declared.resolved.Taken.TheVariants.{BeforeGap, GapEnd, InForce}
+use Rattle.zoned_ffi.proofs.{Words.{taken_instant, uncounted, w64, ℕ, ℤ, ◌*ℤ◌, ◌+ℤ◌, ◌+◌, ◌-ℤ◌, ◌<ℤ◌, ◌∙◌, ◌≡◌, ◌≤ℤ◌}, Resolving.{none_is, taken_once}}
+use Rattle.zoned_ffi.specs.declared.{column.Way.TheVariants.{ToInstants, ToLocal}, resolved.Taken.TheVariants.{BeforeGap, GapEnd, InForce}}
+use Rattle.tz_info.proofs.{ExtremeLaws.{at_least_least, at_most_greatest}, ForCallers.{type_once}}
 use Rattle.zoned_ffi.specs.declared.unit.Unit.TheVariants as units
 
 -- the second that an instant lies in, of one that comes with a second or behind it
@@ -107,8 +104,7 @@ once_shown z s low high local stretch f g is_low is_high since before =
     let most_here = at_most_greatest z (local -ℤ high) high some.0 is_high some.1 in
     let above : low ≤ℤ s.offset = omega (arith, ints, least_here, some.2) in
     let below : s.offset ≤ℤ high = omega (arith, ints, most_here, some.2) in
-    let own = inside s.offset above below in
-    let own_is = own.2 in
+    let own = inside s.offset above below in let own_is = own.2 in
     let shown : Shows (TypeAt z) local (local -ℤ s.offset) own.0 =
     record { fits = omega (arith, ints, f, g, since, before, above, below); type = own.1; shown = omega (arith, ints, own_is) } in
     let only : (u : ℤ) (b : LocalType) → Shows (TypeAt z) local u b → u ≡ local -ℤ s.offset = λ u b v.
@@ -128,9 +124,7 @@ pub local_times_kept : (z : Zone) (unit : Unit) (choice : Choice) (s : OffsetStr
     → (p +ℤ q) ≤ℤ from → f ≤ℤ from → until ≤ℤ (r +ℤ t) → until ≤ℤ e → LieWithin from until add k → IsKeptOf z unit (ToInstants choice) k
 local_times_kept z unit choice s low high p q r t f e from until add k stretch fits_from fits_until is_low is_high ep eq er et ef ee ea a b c d within =
     λ x since before.
-    let at = within.each x since before in
-    let x_from = at.0 in
-    let x_until = at.1 in
+    let at = within.each x since before in let x_from = at.0 in let x_until = at.1 in
     let local = floor_div x (per_second unit) in
     let above = floor_low_sum unit x s.from high (omega (arith, ints, ep, eq, a, x_from)) in
     let below = floor_high_sum unit x s.until low (omega (arith, ints, er, et, c, x_until)) in

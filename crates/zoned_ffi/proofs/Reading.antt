@@ -3,9 +3,8 @@ use Rattle.tz_base.specs.declared.error.Error.TheVariants as errors
 use Rattle.zoned_ffi.proofs.Words.{Bool, Err, Error, IfErr, IsErrorOfKind, IsExtendedFault, IsFalse, IsFault, IsFileError, IsOutOfMemory, IsPosixFault}
 use Rattle.zoned_ffi.proofs.Words.{IsPosixZone, IsReaderNumber, IsStringError, IsTrue, IsUtf8, IsZoneFault, IsZoneOf, Kind, List, Ok, Refusal, Result}
 use Rattle.zoned_ffi.proofs.Words.{SpellsZone, Zone, arith, error_number, inl, inr, refl, refusal_number, subst, sym, true, ℕ, ◌↔◌, ◌≡◌, ◌≢◌, ◌⊎◌}
-use Rattle.tz_info.specs.PosixZones.{IsExtendedZone}
-use Rattle.tz_info.specs.TzGrammar.{IsTextFault}
-use Rattle.zoned_ffi.specs.Kinds.{kind_number}
+use Rattle.zoned_ffi.specs.{Kinds.{kind_number}, Refusals.{IsErrorOfKind.{Other_size, Unknown_kind}, IsFileError.{In_file}, IsStringError.{Not_utf8}}}
+use Rattle.tz_info.specs.{PosixZones.{IsExtendedZone}, TzGrammar.{IsTextFault}}
 use Rattle.zoned_ffi.specs.declared.kind.Kind.TheVariants as kinds
 
 -- the number of a text's error is that of its fault
@@ -59,3 +58,6 @@ no_memory_refused number bytes z of_kind =
 pub not_read : (number : ℕ) (bytes : List ℕ) (fits : Bool) (kind : Kind) (read : Result Zone Refusal) → number ≡ kind_number kind → IsTrue fits → IfErr read (λ e. IsFault kind bytes (refusal_number e)) → IfErr read (λ e. IsReaderNumber (refusal_number e)) → IfErr read (λ e. (wanted room : ℕ) → IsTrue fits ↔ wanted ≡ room → IsErrorOfKind number bytes wanted room (refusal_number e))
 not_read number bytes fits kind (Ok z) is fit fault reader = tt
 not_read number bytes fits kind (Err e) is fit fault reader = λ wanted room same. IsErrorOfKind.Not_read kind (refusal_number e) is (same.0 fit) fault reader
+
+-- why bytes are rejected
+pub ruleset rejections = (In_file, Not_utf8, Other_size, Unknown_kind, not_fitting, not_read, reader_number)

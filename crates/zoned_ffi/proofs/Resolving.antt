@@ -1,19 +1,16 @@
 -- What a choice takes, told by instants.
-use Rattle.offset_core.specs.ResolveNumbers.{resolve_error_number}
-use Rattle.offset_core.specs.declared.around.Around.{Around}
-use Rattle.offset_core.specs.declared.around.Around.TheVariants.{Ambiguous, Gap, Single}
-use Rattle.offset_core.specs.declared.around.Taken.{Taken as Found}
-use Rattle.offset_core.specs.declared.choice.Choice as any_choice
-use Rattle.offset_core.specs.declared.choice.FoldChoice.TheVariants as folds
-use Rattle.offset_core.specs.declared.choice.GapChoice.TheVariants as gaps
-use Rattle.offset_core.specs.declared.resolve_error.ResolveError.{ResolveError}
-use Rattle.offset_core.specs.declared.resolve_error.ResolveError.TheVariants as reasons
+use Rattle.offset_core.specs.{ResolveNumbers.{resolve_error_number}, declared.around.Around.{Around, TheVariants.{Ambiguous, Gap, Single}}}
+use Rattle.offset_core.specs.declared.{around.Taken.{Taken as Found}, resolve_error.ResolveError.{ResolveError}}
 use Rattle.tz_base.specs.declared.change.Change.{Change}
 use Rattle.tz_info.specs.Around.{AreTypesAround}
 use Rattle.zoned_ffi.proofs.Words.{Choice, IsFirstAtOrAfter, IsTakenGapEnd, IsNoneTaken, IsInRange, IsWrittenOffsetAt, IsReachedAt, IsResolvedAt, IsShownOnce}
 use Rattle.zoned_ffi.proofs.Words.{IsResolvedStamp, IsTakenType, IsTakenAs, IsUtOffset, LocalType, Resolved, Shows, TypeAt, Zone, ap, inl, inr, subst, sym, ℤ}
 use Rattle.zoned_ffi.proofs.Words.{+ℤ-neg_ℤ_cancel, ◌-ℤ◌, ◌∙◌, Err, Result, TakesOf, policy_of, refl, taken_in_range, taken_of, ℕ, ◌≡◌, ◌⊎◌}
 use Rattle.zoned_ffi.specs.declared.resolved.Taken.TheVariants.{InForce}
+use Rattle.offset_core.specs.declared.choice.Choice as any_choice
+use Rattle.offset_core.specs.declared.choice.FoldChoice.TheVariants as folds
+use Rattle.offset_core.specs.declared.choice.GapChoice.TheVariants as gaps
+use Rattle.offset_core.specs.declared.resolve_error.ResolveError.TheVariants as reasons
 
 -- the instant by the offset that is taken, and the offset in force there
 pub resolved_by : (z : Zone) (choice : Choice) (local : ℤ) (t : LocalType) (offset : ℤ) (w : Resolved) → IsInRange local → IsTakenType z local choice t
@@ -37,8 +34,8 @@ reached_by z local u t w in_range first stamp = elim stamp [
 ]
 
 -- a type that shows the local time is in force at that time less its offset
-pub in_force : (z : Zone) (local u : ℤ) (choice : Choice) (t : LocalType) (offset : ℤ) → Shows (TypeAt z) local u t → IsTakenType z local choice t → offset ≡ t.offset
-    → IsUtOffset t.offset → IsTakenAs z local choice (InForce offset)
+pub in_force : (z : Zone) (local u : ℤ) (choice : Choice) (t : LocalType) (offset : ℤ) → Shows (TypeAt z) local u t → IsTakenType z local choice t
+    → offset ≡ t.offset → IsUtOffset t.offset → IsTakenAs z local choice (InForce offset)
 in_force z local u choice t offset shows taken same bound =
     let second : u ≡ local -ℤ t.offset = sym (+ℤ-neg_ℤ_cancel u t.offset) ∙ ap (λ v. v -ℤ t.offset) shows.shown in
     let there = subst (λ v. TypeAt z (local -ℤ v) t) (sym same) (subst (λ v. TypeAt z v t) second shows.type) in

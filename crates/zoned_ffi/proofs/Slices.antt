@@ -48,10 +48,7 @@ third_of numbers p a b c within =
 pub triple_more : (z : Zone) (locals numbers : List ℤ) (i : ℕ) (w : WallClock) → length numbers ≡ 3 * length locals → i < length locals → ((k : ℕ) → k < i → IsTripleAt z (get_or locals k (pos 0)) numbers (3 * k)) → IsWallClockAt z (get_or locals i (pos 0)) w → (k : ℕ) → k < i + 1 → IsTripleAt z (get_or locals k (pos 0)) (with_triple numbers (3 * i) w.shown w.first_offset w.last_offset) (3 * k)
 triple_more z locals numbers i w as_many within before this k place = elim (cases_lt k i) [
   | inl earlier ↦
-      let was = before k earlier in
-      let a = w.shown in
-      let b = w.first_offset in
-      let c = w.last_offset in
+      let was = before k earlier in let a = w.shown in let b = w.first_offset in let c = w.last_offset in
       (was.0, was.1, kept numbers (3 * i) (3 * k) a b c (omega arith) ∙ was.2, kept numbers (3 * i) (3 * k + 1) a b c (omega arith) ∙ was.3, kept numbers (3 * i) (3 * k + 2) a b c (omega arith) ∙ was.4)
   | inr later ↦
       let same : i ≡ k = omega arith in

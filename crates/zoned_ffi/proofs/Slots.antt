@@ -1,13 +1,12 @@
 -- A slot by value: what it owns taken out of it, and put into one. Assumes `Logic`.
-use Rattle.core.proofs.alloc.Calls.{Al, handle_tells}
-use Rattle.core.proofs.cell.Inside.{Good}
+use Rattle.core.proofs.{alloc.Calls.{Al, handle_tells}, cell.Inside.{Good}}
 use Rattle.std_alloc.proofs.ResultValues.{and_tt}
-use mir.Raw.{raw as bare}
-use types.Kit.{drop}
 use Rattle.zoned_ffi.proofs.Words.{Fml, Ghosts, Goal, Item, Laws, List, Logic, Ptr, RattleType, RawPtr, Seq, Step, T, Ura, Val, Valss, WT, block_ptr, box_owns}
 use Rattle.zoned_ffi.proofs.Words.{dnil, feq_i, feq_l, fjoin, fpack, fpick, fsplit, fst∗, has_ty, impl, in_a_block, layout, lone, move, never, nothing}
 use Rattle.zoned_ffi.proofs.Words.{null_ptr, of_list, ptr_val, refl, sem, shape, step, subst, tnil, true, vcons, vnil, vptr, vstruct, within, ℕ, [], ‵, ◌$◌}
 use Rattle.zoned_ffi.proofs.Words.{◌&&◌, ◌++◌, ◌∷◌, ◌≡◌}
+use mir.Raw.{raw as bare}
+use types.Kit.{drop}
 use Rattle.zoned_ffi.specs.contracts.slot.Slot as slot
 
 -- the value of a struct of two fields

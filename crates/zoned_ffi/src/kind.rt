@@ -1,4 +1,5 @@
 //! How bytes are read: as a TZif file, or as a TZ string, with extensions or without.
+#![tactic(auto, using(crate::proofs::Reading::rejections))]
 
 ghost use Rattle.std.specs.Prelude.{◌≡◌, ◌↔◌, ℕ, IsTrue, IfOk, IfErr, MatchOption, MatchResult};
 ghost use Rattle.tz_info.specs.Zones.{Zone};

@@ -30,6 +30,7 @@ fn write_text(said: &[u8], text: &mut [u8])
     text[said.len()] = 0;
 }
 
+#[tactic(auto, using(crate::proofs::Sayings::sayings))]
 fn text_of(number: u32) -> &'static str
     ensures { IsTextOf number result.now }
 {

@@ -5,14 +5,16 @@ use Rattle.tz_info.specs.declared.rule.transition_rule.TransitionRule.TheVariant
 use Rattle.zonedump_lib.proofs.Words.{Change, DayForm, DayTime, Difference, Json, LeapSecond, List, None, Option, Some, Token, TransitionRule, Zone, ap}
 use Rattle.zonedump_lib.proofs.Words.{append-nil, arith, change_shallow, change_value, day_value, depth, difference_value, differences_value, document, if_last}
 use Rattle.zonedump_lib.proofs.Words.{items_shallow, json_tokens, leap_value, lone_value, max_depth, moment_value, option_and_then, print, rule_value, sym}
-use Rattle.zonedump_lib.proofs.Words.{tokens, type_shallow, value, zone_value, ℕ, ℤ, [], ◌∙◌, ◌≡◌, ◌≤◌}
+use Rattle.zonedump_lib.proofs.Words.{tokens, type_shallow, value, zone_value, ℕ, ℤ, [], ◌++◌, ◌∙◌, ◌≡◌, ◌≤◌}
 
 -- the printed tokens of a value are a text of that value
-pub read_back : (text : List ℕ) (j : Json) (ts : List Token) → text ≡ print ts → ts ≡ json_tokens j → tokens (print ts) ≡ ts → depth j ≤ max_depth
-    → document text ≡ Some j
-read_back text j ts printed are back shallow =
-    ap document printed
-    ∙ ap (option_and_then (λ p. if_last p.0 p.1)) (ap (value max_depth) (back ∙ are ∙ sym (append-nil (json_tokens j))) ∙ value-json_tokens j max_depth [] shallow)
+pub read_back : (text before : List ℕ) (j : Json) (ts : List Token) → ts ≡ json_tokens j → before ≡ [] → text ≡ before ++ print ts → tokens (print ts) ≡ ts
+    → depth j ≤ max_depth → (document text ≡ Some j) × (text ≡ print (json_tokens j))
+read_back text before j ts are none printed back shallow = let alone = rw none at printed in (
+  ap document alone
+      ∙ ap (option_and_then (λ p. if_last p.0 p.1)) (ap (value max_depth) (back ∙ are ∙ sym (append-nil (json_tokens j))) ∙ value-json_tokens j max_depth [] shallow),
+  alone ∙ ap print are,
+)
 
 -- ---- how deep the value of a zone nests
 

@@ -14,9 +14,7 @@ pub in_years : (in_force : ℤ → LocalType → Type 0) (first last : ℤ) (cha
     → AreChanges in_force (year_second first +ℤ pos 1) (year_until last +ℤ pos 1) changes → All (λ c. IsInYears c.at) changes
 in_years in_force first last changes years are k d within =
     let here = ((are.each (get_or changes k d)).0 (Contains-get_or changes k d within)).1 in
-    let low = from_first first years.after_zero in
-    let high = until_last last years.four_digits in
-    let from = here.0 in
+    let low = from_first first years.after_zero in let high = until_last last years.four_digits in let from = here.0 in
     let until = here.1 in
     (omega (arith, floors, from, low), omega (arith, floors, until, high))
 
@@ -25,8 +23,6 @@ pub near_years : (in_force : ℤ → LocalType → Type 0) (first last : ℤ) (c
     → AreChanges in_force (year_second first) (year_until last) changes → All (λ c. IsNearYears c.at) changes
 near_years in_force first last changes years are k d within =
     let here = ((are.each (get_or changes k d)).0 (Contains-get_or changes k d within)).1 in
-    let low = from_first first years.after_zero in
-    let high = until_last last years.four_digits in
-    let from = here.0 in
+    let low = from_first first years.after_zero in let high = until_last last years.four_digits in let from = here.0 in
     let until = here.1 in
     (omega (arith, floors, from, low), omega (arith, floors, until, high))

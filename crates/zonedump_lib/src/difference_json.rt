@@ -3,13 +3,12 @@
 
 ghost use Rattle.std.specs.Prelude.{◌≡◌, [], ◌∷◌, ◌++◌, IfOk, codes, flat_map};
 ghost use Rattle.std.specs.Fmt.{signed_decimal};
-ghost use Rattle.json.specs.Token.{key, string, number};
-ghost use Rattle.json.specs.Tree.{json_tokens};
-ghost use Rattle.change_views.specs.ChangeValues.{list_value};
-ghost use Rattle.change_views.specs.Clocks.{clock_words};
+ghost use Rattle.json.specs.{Token.{key, string, number}, Tree.{json_tokens}};
+ghost use Rattle.change_views.specs.{ChangeValues.{list_value}, Clocks.{clock_words}};
 ghost use Rattle.change_views.specs.JsonSteps.{Puts};
-ghost use Rattle.zonedump_lib.specs.DifferenceForms.{IsDifferencesJson, IsLoneJson, difference_value};
-ghost use Rattle.zonedump_lib.specs.DifferenceForms.{differences_value, lone_value, moved_by};
+ghost use Rattle.zonedump_lib.specs.DifferenceForms.{IsDifferencesJson, IsLoneJson};
+ghost use Rattle.zonedump_lib.specs.DifferenceForms.{difference_value, differences_value};
+ghost use Rattle.zonedump_lib.specs.DifferenceForms.{lone_value, moved_by};
 
 use crate::differences::seconds_ahead;
 use crate::json_text::put_years;

@@ -4,10 +4,8 @@ use Rattle.zoneq_lib.proofs.CitedWords.{All-cons, All-head, All-nil, All-tail, A
 use Rattle.zoneq_lib.proofs.CitedWords.{BeginsAnswers, Data, HasNoNewline, IsSplit, IsKeptFor, IsRuleOrNone, IsValid, List, None, Option, Query, Resolve, Show}
 use Rattle.zoneq_lib.proofs.CitedWords.{Some, Text, Wall, Zone, ap, append-nil, append_assoc, arith, cases_eq, codes, ended_lines, file_rule_fits, flat_map}
 use Rattle.zoneq_lib.proofs.CitedWords.{inl, inr, length, length-append, posix_zone_valid, refl, shown_refusal, subst, sym, type_decided, shown_type}
-use Rattle.zoneq_lib.proofs.CitedWords.{wall_decided, shown_wall, ℕ, [], ◌++◌, ◌<◌, ◌∙◌, ◌∷◌, ◌≡◌, ◌≢◌}
-use Rattle.zoneq_lib.proofs.Joining.{answered_join, answers_all}
-use Rattle.zoneq_lib.proofs.LineLaws.{asks_or_bad, resolved_in_range}
-use Rattle.zoneq_lib.proofs.Showing.{resolve_covered, show_covered}
+use Rattle.zoneq_lib.proofs.{CitedWords.{wall_decided, shown_wall, ℕ, [], ◌++◌, ◌<◌, ◌∙◌, ◌∷◌, ◌≡◌, ◌≢◌}, Joining.{answered_join, answers_all}}
+use Rattle.zoneq_lib.proofs.{LineLaws.{asks_or_bad, resolved_in_range}, Showing.{resolve_covered, show_covered}}
 
 -- the zone, if there is one, is valid, and the numbers of its rule are in their limits
 abbrev pub IsGiven : Option Zone → Type 0
@@ -60,8 +58,7 @@ line_covered z line given = elim (asks_or_bad line) [
 lines_covered : (z : Option Zone) (lines : List (List ℕ)) → IsGiven z → (output : List ℕ) × AnswersLines z lines output z
 lines_covered z [] given = ([], (refl, refl))
 lines_covered z (line ∷ lines) given =
-    let first = line_covered z line given in
-    let rest = lines_covered z lines given in
+    let first = line_covered z line given in let rest = lines_covered z lines given in
     (first.0 ++ codes "\n" ++ rest.0, (first.0, z, rest.0, first.1, rest.1, refl))
 
 last_covered : (z : Option Zone) (rest : List ℕ) → IsGiven z → (output : List ℕ) × AnswersLast z rest output

@@ -2,10 +2,8 @@
 use Rattle.zoneq_lib.proofs.CitedWords.{Answered, Answers, AnswersAtEnd, Appends, Bool, Consumes, Err, IfErr, IsAtEnd, IsErrAnd, List, MatchResult, None, Ok}
 use Rattle.zoneq_lib.proofs.CitedWords.{OnOk, Option, Result, RunError, StopsAtEnd, StopsIn, StopsWith, Zone, append-nil, append_assoc, arith, false, inl, inr}
 use Rattle.zoneq_lib.proofs.CitedWords.{length, length-append, nat_lt, nat_tests, refl, subst, sym, take, true, ℕ, [], ◌&&◌, ◌++◌, ◌<◌, ◌==◌, ◌||◌, ◌∙◌, ◌≡◌}
+use Rattle.zoneq_lib.proofs.{Bytes.{appends_join, consumes_join}, Covering.{answers_before, begins_answers}, Joining.{answered_join, answers_all}}
 use Rattle.zoneq_lib.specs.declared.run_error.RunError.TheVariants as errors
-use Rattle.zoneq_lib.proofs.Bytes.{appends_join, consumes_join}
-use Rattle.zoneq_lib.proofs.Covering.{answers_before, begins_answers}
-use Rattle.zoneq_lib.proofs.Joining.{answered_join, answers_all}
 
 pub not_failed : (f g : Bool) → f ≡ (g || false) → g ≡ false → f ≡ false
 not_failed f g e h = e ∙ rw h refl

@@ -1,6 +1,5 @@
 -- Which digits spell bytes, and that what the crate `hex` decodes are those bytes.
-use Rattle.hex.proofs.HexLemmas.{decode_of-even, decode_of-ok, decode_of-same}
-use Rattle.hex.proofs.Pairs.{cons_byte, decode_pairs-ok_pair}
+use Rattle.hex.proofs.{HexLemmas.{decode_of-even, decode_of-ok, decode_of-same}, Pairs.{cons_byte, decode_pairs-ok_pair}}
 use Rattle.std.specs.Str.Parse.{AllDigits}
 use Rattle.zoneq_lib.proofs.CitedWords.{All-head, All-tail, AllPass, Bool, Decides, IsNotAsciiHexdigit, List, Ok, Some, ap, arith, bytes_of, cases_lt}
 use Rattle.zoneq_lib.proofs.CitedWords.{decode_of, decode_pairs, digit_value, false, get_or, hex_digit_value, inl, inr, is_hex_digit, length, nat_le, nat_tests}

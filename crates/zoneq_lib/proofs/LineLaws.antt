@@ -3,9 +3,7 @@ use Rattle.zoneq_lib.proofs.CitedWords.{Asks, BadLine, Choice, Err, IsBadLine, I
 use Rattle.zoneq_lib.proofs.CitedWords.{Query, Reading, Resolve, Result, Some, Spells, ap, arith, at_query, between, data_query, calendar_day, date_in_years}
 use Rattle.zoneq_lib.proofs.CitedWords.{days_in_month, false, inl, inr, integer, ints, is_leap, query_line, local_time, nat_le, next, question, refl}
 use Rattle.zoneq_lib.proofs.CitedWords.{resolve_query, show_query, subst, sym, text_query, true, wall_query, ℕ, ℤ, [], ◌&&◌, ◌∙◌, ◌≡◌, ◌≤◌, ◌⊎◌}
-use Rattle.zoneq_lib.specs.Steps.LineReading.{scan}
-use Rattle.zoneq_lib.proofs.HexLaws.{refuted}
-use Rattle.zoneq_lib.proofs.ScanLaws.{not_scanned, scanned}
+use Rattle.zoneq_lib.{specs.Steps.LineReading.{scan}, proofs.{HexLaws.{refuted}, ScanLaws.{not_scanned, scanned}}}
 
 -- ---- each line
 ends : (bytes rest : List ℕ) (query : Query) → Spells query_line bytes query rest → rest ≡ []
@@ -40,8 +38,7 @@ unfolding local_time
 time_in_range bytes rest l (day, a, spelled, (h, b, hour, (min, c, minute, (s, d, second, (value, same))))) =
     let in_range = date_in_range bytes a day spelled in
     let shown = ap (λ (r : Reading). r.s) value in
-    let hours = within 23 a b h hour in
-    let minutes = within 59 b c min minute in
+    let hours = within 23 a b h hour in let minutes = within 59 b c min minute in
     let seconds = within 59 c d s second in
     (omega (arith, ints, in_range.0, shown), omega (arith, ints, in_range.1, shown, hours, minutes, seconds))
 

@@ -2,8 +2,7 @@
 use Rattle.tz_base.proofs.RunLaws.{above_is, value_grows}
 use Rattle.zoneq_lib.proofs.CitedWords.{BadLine, Err, IsAsciiDigit, IsNotAsciiDigit, List, Number, Ok, Result, after_run, ap, arith, cases_lt, drop, drop_all}
 use Rattle.zoneq_lib.proofs.CitedWords.{drop_more, false, get_or, inl, inr, int_at, is_digit, length, nat_le, nat_tests, number_within, refl, run_of, stop, suc}
-use Rattle.zoneq_lib.proofs.CitedWords.{true, value_from, zero, ℕ, [], ◌*◌, ◌+◌, ◌-◌, ◌<◌, ◌∷◌, ◌≡◌, ◌≤◌}
-use Rattle.zoneq_lib.specs.Steps.LineReading.{scan}
+use Rattle.zoneq_lib.{proofs.CitedWords.{true, value_from, zero, ℕ, [], ◌*◌, ◌+◌, ◌-◌, ◌<◌, ◌∷◌, ◌≡◌, ◌≤◌}, specs.Steps.LineReading.{scan}}
 use Rattle.zoneq_lib.specs.declared.bad_line.BadLine.TheVariants.{Hopeless}
 
 -- the first i bytes are digits, and spell n
@@ -37,9 +36,7 @@ pub number_ends : (text : List ℕ) (max i n : ℕ) → 0 < i → n ≤ max → 
     → scan (Number max) text ≡ Ok (n, drop i text)
 unfolding int_at
 number_ends text max i n some limit stops r =
-    let end = ended text i n stops in
-    let size = rw end.0 at r.size in
-    let value = rw end.0 at r.value in
+    let end = ended text i n stops in let size = rw end.0 at r.size in let value = rw end.0 at r.value in
     let is = number_is max n (run_of is_digit text) (omega (arith, some, size)) value limit in
     rw (is, r.rest, end.1) refl
 

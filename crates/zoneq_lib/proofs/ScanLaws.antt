@@ -1,7 +1,5 @@
 -- What is read at the front of a line is what it spells, and no line that goes on from a hopeless front spells anything.
-use Rattle.tz_base.proofs.RunLaws.{value_grows}
-use Rattle.tz_base.specs.Fronts as fronts
-use Rattle.tz_base.specs.declared.error.Error.TheVariants.{MissingTag, ParseInt, UnexpectedEnd}
+use Rattle.tz_base.{proofs.RunLaws.{value_grows}, specs.declared.error.Error.TheVariants.{MissingTag, ParseInt, UnexpectedEnd}}
 use Rattle.tz_base.specs.declared.error.Expected.TheVariants.{NumberWithinItsLimit, OtherBytes, Tag}
 use Rattle.zoneq_lib.proofs.CitedWords.{AllOf, BadLine, Bool, Byte, Check, Ended, Err, Error, Exact, Grammar, IsRun, List, Marked, None, NoneFirst, Nothing}
 use Rattle.zoneq_lib.proofs.CitedWords.{Number, Ok, Refusal, Refused, Rest, Result, Run, Some, Spells, Then, after_byte, after_run, ap, append-nil}
@@ -9,8 +7,8 @@ use Rattle.zoneq_lib.proofs.CitedWords.{append_assoc, arith, cases_lt, checked, 
 use Rattle.zoneq_lib.proofs.CitedWords.{is_digit, lawful, length, length-append, length-take, nat_le, nat_lt, nat_tests, number_within, optional_tag_at}
 use Rattle.zoneq_lib.proofs.CitedWords.{or_stop, or_unfinished, read, refl, run_again, run_of, run_splits, stop, subst, suc, sym, tag_at, take}
 use Rattle.zoneq_lib.proofs.CitedWords.{take-append-drop, true, value_from, zero, ℕ, [], ◌&&◌, ◌*◌, ◌++◌, ◌+◌, ◌-◌, ◌==◌, ◌>>=◌, ◌∙◌, ◌∷◌, ◌≡◌}
-use Rattle.zoneq_lib.specs.Steps.LineReading.{scan}
-use Rattle.zoneq_lib.specs.declared.bad_line.BadLine.TheVariants.{Hopeless, Unfinished}
+use Rattle.zoneq_lib.specs.{Steps.LineReading.{scan}, declared.bad_line.BadLine.TheVariants.{Hopeless, Unfinished}}
+use Rattle.tz_base.specs.Fronts as fronts
 
 -- ---- the same value as `read` gives, or none
 abbrev Same : {A : Type 0} → Result A BadLine → Result A Error → Type 0

@@ -1,6 +1,5 @@
 -- Every instant that is asked for has an answer.
-use Rattle.offset_core.specs.declared.local_result.LocalResult.TheVariants.{Ambiguous, None, Single}
-use Rattle.offset_core.specs.ResolveNumbers.{resolve_error_number}
+use Rattle.offset_core.specs.{declared.local_result.LocalResult.TheVariants.{Ambiguous, None, Single}, ResolveNumbers.{resolve_error_number}}
 use Rattle.zoneq_lib.proofs.CitedWords.{All, All-cons, All-head, All-nil, All-tail, AnswersResolve, AnswersShow, AreOffsetsOf, Choice, IsAtWhere, IsInRange}
 use Rattle.zoneq_lib.proofs.CitedWords.{IsNarrow, IsResolved, IsRuleOrNone, IsStamp, IsSubsecond, IsTaken, IsUnresolved, IsValid, IsWide, IsWithinDay}
 use Rattle.zoneq_lib.proofs.CitedWords.{IsZoneSecond, Law, List, LocalResult, LocalType, Meaning, Reading, ResolveError, Some, Zone, Zoned, arith, behind}

@@ -1,6 +1,5 @@
-use Rattle.zoned_ffi.proofs.Words.{sym, ◌∙◌}
+use Rattle.zoned_ffi.proofs.{Words.{sym, ◌∙◌}, file_fault.Goals.{in-Err, in-Ok}}
 use Rattle.zoned_ffi.proofs.file_fault.Goals as goal
-use Rattle.zoned_ffi.proofs.file_fault.Goals.{in-Err, in-Ok}
 
 pub returns-clause-answered : goal.returns-clause-answered
 returns-clause-answered c = λ none. elim c.match-from_tz_data.branch [

@@ -1,6 +1,5 @@
-use Rattle.zoned_ffi.proofs.Words.{inl, inr, refl, sym, ◌∙◌}
+use Rattle.zoned_ffi.proofs.{Words.{inl, inr, refl, sym, ◌∙◌}, zoned_parse.Goals.{in-Err, in-Ok}}
 use Rattle.zoned_ffi.proofs.zoned_parse.Goals as goal
-use Rattle.zoned_ffi.proofs.zoned_parse.Goals.{in-Err, in-Ok}
 
 pub returns-clause-only : goal.returns-clause-only
 returns-clause-only c = λ z spelled. elim c.match-read_zone.branch [

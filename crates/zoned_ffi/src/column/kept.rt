@@ -47,6 +47,7 @@ impl Kept {
 
     /// The answer to the time if it is one of them.
     #[inline(always)]
+    #[tactic(auto, using(crate::proofs::Words::casts))]
     pub fn answer_to(self, question: Question, time: i64) -> Option<i64>
         requires { IsKept question self }
         ensures { MatchOption result ⊤ (IsWritten question.entry time) }
@@ -60,6 +61,7 @@ impl Kept {
     }
 
     // The times from `from` on and before `until` that can be counted, also with `add` more.
+    #[tactic(auto, using(crate::proofs::Words::casts))]
     fn between(from: i128, until: i128, add: i64) -> Kept
         requires { (neg_ℤ (pos 4_611_686_018_427_387_904) ≤ℤ add)
             × (add ≤ℤ pos 4_611_686_018_427_387_904) }

@@ -1,5 +1,4 @@
-use Rattle.change_views.proofs.CitedWords.{arith, change_value, json_tokens, ◌∙◌}
-use Rattle.change_views.proofs.JsonPutting.{pushed}
+use Rattle.change_views.proofs.{CitedWords.{arith, change_value, json_tokens, ◌∙◌}, JsonPutting.{pushed}}
 use Rattle.change_views.proofs.json_text.put_change_list.Goals as goal
 
 pub loop-change-preserved : goal.loop-change-preserved

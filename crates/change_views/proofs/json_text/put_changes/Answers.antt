@@ -1,5 +1,4 @@
-use Rattle.change_views.proofs.CitedWords.{change_value}
-use Rattle.change_views.proofs.JsonPutting.{items_all, puts_then, wrote}
+use Rattle.change_views.proofs.{CitedWords.{change_value}, JsonPutting.{items_all, puts_then, wrote}}
 use Rattle.change_views.proofs.json_text.put_changes.Goals as goal
 
 pub returns : goal.returns

@@ -1,5 +1,4 @@
-use Rattle.change_views.proofs.CitedWords.{FitsSigned, to_z-of_z, w64}
-use Rattle.change_views.proofs.LineLaws.{start_in_years}
+use Rattle.change_views.proofs.{CitedWords.{FitsSigned, to_z-of_z, w64}, LineLaws.{start_in_years}}
 use Rattle.change_views.proofs.years.start_of.Goals as goal
 
 pub returns-clause-bound : goal.returns-clause-bound

@@ -1,5 +1,4 @@
-use Rattle.change_views.proofs.CitedWords.{FitsSigned, on_ok_weaker, to_z-of_z, w64, ◌∙◌}
-use Rattle.change_views.proofs.LineLaws.{near_fits, near_of, pair_told}
+use Rattle.change_views.proofs.{CitedWords.{FitsSigned, on_ok_weaker, to_z-of_z, w64, ◌∙◌}, LineLaws.{near_fits, near_of, pair_told}}
 use Rattle.change_views.proofs.zdump.push_pair.Goals as goal
 
 pub returns : goal.returns

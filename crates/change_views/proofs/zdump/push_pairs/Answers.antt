@@ -1,5 +1,4 @@
-use Rattle.change_views.proofs.CitedWords.{ap, pair_lines, string_bytes, ◌++◌, ◌∙◌}
-use Rattle.change_views.proofs.LineLaws.{piece_next}
+use Rattle.change_views.proofs.{CitedWords.{ap, pair_lines, string_bytes, ◌++◌, ◌∙◌}, LineLaws.{piece_next}}
 use Rattle.change_views.proofs.zdump.push_pairs.Goals as goal
 
 pub loop-change-preserved : goal.loop-change-preserved

@@ -1,7 +1,5 @@
 use Rattle.std.proofs.Common.{rules, ◌≡◌, ◌∙◌, sym, ap, subst, true, false, pos, ◌+ℤ◌, is_lt, is_ge}
-use Rattle.zoned.specs.DateTime.{zoned}
-use Rattle.zoned.specs.Days.{IsFirstInstantFrom, midnight}
-use Rattle.zoned.specs.NaiveDate.{day_of}
+use Rattle.zoned.specs.{DateTime.{zoned}, Days.{IsFirstInstantFrom, midnight}, NaiveDate.{day_of}}
 use Rattle.demo_calendar.proofs.InDay.{lies, not_over, less_of}
 use Rattle.demo_calendar.proofs.day.is_in_day.Goals as goal
 

@@ -1,7 +1,6 @@
 use Rattle.std.proofs.Common.{◌≡◌, ◌∙◌, sym, ap, subst, false, true, is_lt}
 use Rattle.zoned_time.specs.DateTime.{zoned}
-use Rattle.naive_base.specs.NaiveDateTime.{reading}
-use Rattle.naive_base.specs.Reading.{IsEarlier}
+use Rattle.naive_base.specs.{NaiveDateTime.{reading}, Reading.{IsEarlier}}
 use Rattle.demo_scheduler.proofs.schedule.first_after.Goals as goal
 
 pub returns-else-lt : goal.returns-else-lt

@@ -1,8 +1,5 @@
-use Rattle.tz_base.specs.declared.error.Error.TheVariants.{InvalidTzString, ParseInt}
-use Rattle.tz_base.specs.declared.error.Expected.TheVariants.{NumberWithinItsLimit, OtherBytes}
-use Rattle.tests_pins.proofs.Words.{codes, refl, []}
-use Rattle.tests_pins.proofs.AskedWords.{bad_line}
-use Rattle.tests_pins.proofs.Computed.{lines}
+use Rattle.tz_base.specs.declared.error.{Error.TheVariants.{InvalidTzString, ParseInt}, Expected.TheVariants.{NumberWithinItsLimit, OtherBytes}}
+use Rattle.tests_pins.proofs.{Words.{codes, refl, []}, AskedWords.{bad_line}, Computed.{lines}}
 use Rattle.tests_pins.proofs.asked_lines.bad_lines.Goals as goal
 
 pub returns : goal.returns

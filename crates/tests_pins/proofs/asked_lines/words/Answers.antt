@@ -1,5 +1,4 @@
-use Rattle.tests_pins.proofs.Words.{digits, in_digits, refl, year_text}
-use Rattle.tests_pins.proofs.ChangeDays.{march_2021}
+use Rattle.tests_pins.proofs.{Words.{digits, in_digits, refl, year_text}, ChangeDays.{march_2021}}
 use Rattle.tests_pins.proofs.asked_lines.words.Goals as goal
 
 pub returns : goal.returns

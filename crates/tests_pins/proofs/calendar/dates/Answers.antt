@@ -1,6 +1,4 @@
-use Rattle.tests_pins.proofs.Words.{day_of_year, refl}
-use Rattle.tests_pins.proofs.ChangeDays.{march_2021}
-use Rattle.tests_pins.proofs.Computed.{calendar}
+use Rattle.tests_pins.proofs.{Words.{day_of_year, refl}, ChangeDays.{march_2021}, Computed.{calendar}}
 use Rattle.tests_pins.proofs.calendar.dates.Goals as goal
 
 pub returns-clause-shown : goal.returns-clause-shown

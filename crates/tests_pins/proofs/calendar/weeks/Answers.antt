@@ -1,6 +1,4 @@
-use Rattle.tests_pins.proofs.Words.{arith, pos, refl}
-use Rattle.tests_pins.proofs.Computed.{calendar}
-use Rattle.tests_pins.proofs.Weeks.{first_week, week_is}
+use Rattle.tests_pins.proofs.{Words.{arith, pos, refl}, Computed.{calendar}, Weeks.{first_week, week_is}}
 use Rattle.tests_pins.proofs.calendar.weeks.Goals as goal
 
 pub returns : goal.returns

@@ -26,8 +26,5 @@ returns c = record {
     differ = λ e. false≢true (ap (λ t. t.dst) e);
   };
   none = λ h. h.differ refl;
-  other_second = λ h. elim h.before [
-    | inl early ↦ let late = early.0 in absurd (omega (arith, late))
-    | inr late ↦ names_apart late.1
-  ];
+  other_second = λ h. elim h.before [ inl early ↦ let late = early.0 in absurd (omega (arith, late)) | inr late ↦ names_apart late.1 ];
 }

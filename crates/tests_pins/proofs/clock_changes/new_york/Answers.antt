@@ -1,5 +1,4 @@
-use Rattle.tests_pins.proofs.Words.{change_at, inl, inr, pos, refl}
-use Rattle.tests_pins.proofs.NewYorkChanges.{autumn_is, none_at, spring_is}
+use Rattle.tests_pins.proofs.{Words.{change_at, inl, inr, pos, refl}, NewYorkChanges.{autumn_is, none_at, spring_is}}
 use Rattle.tests_pins.proofs.clock_changes.new_york.Goals as goal
 
 pub returns : goal.returns

@@ -1,5 +1,4 @@
-use Rattle.tests_pins.proofs.Words.{arith, ints, neg_ℤ, pos}
-use Rattle.tests_pins.proofs.SetDays.{at_the_jump, skipped}
+use Rattle.tests_pins.proofs.{Words.{arith, ints, neg_ℤ, pos}, SetDays.{at_the_jump, skipped}}
 use Rattle.tests_pins.proofs.days.apia.Goals as goal
 
 pub returns : goal.returns

@@ -1,5 +1,4 @@
-use Rattle.tests_pins.proofs.Words.{arith, date_only, pos, refl}
-use Rattle.tests_pins.proofs.Computed.{calendar}
+use Rattle.tests_pins.proofs.{Words.{arith, date_only, pos, refl}, Computed.{calendar}}
 use Rattle.tests_pins.proofs.days.first_days.Goals as goal
 
 pub returns-clause-month : goal.returns-clause-month

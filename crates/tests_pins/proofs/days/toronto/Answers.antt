@@ -1,5 +1,4 @@
-use Rattle.tests_pins.proofs.Words.{arith, ints, neg_ℤ, pos}
-use Rattle.tests_pins.proofs.SetDays.{at_the_jump, day_after_the_jump}
+use Rattle.tests_pins.proofs.{Words.{arith, ints, neg_ℤ, pos}, SetDays.{at_the_jump, day_after_the_jump}}
 use Rattle.tests_pins.proofs.days.toronto.Goals as goal
 
 pub returns : goal.returns

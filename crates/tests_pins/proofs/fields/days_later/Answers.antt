@@ -1,6 +1,4 @@
-use Rattle.tests_pins.proofs.Words.{arith, inl}
-use Rattle.tests_pins.proofs.Computed.{calendar}
-use Rattle.tests_pins.proofs.GivenDays.{given_day}
+use Rattle.tests_pins.proofs.{Words.{arith, inl}, Computed.{calendar}, GivenDays.{given_day}}
 use Rattle.tests_pins.proofs.fields.days_later.Goals as goal
 
 pub returns : goal.returns

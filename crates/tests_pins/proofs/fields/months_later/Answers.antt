@@ -1,6 +1,4 @@
-use Rattle.tests_pins.proofs.Words.{arith, date_only, inl, pos, refl}
-use Rattle.tests_pins.proofs.Computed.{calendar}
-use Rattle.tests_pins.proofs.GivenDays.{given_day}
+use Rattle.tests_pins.proofs.{Words.{arith, date_only, inl, pos, refl}, Computed.{calendar}, GivenDays.{given_day}}
 use Rattle.tests_pins.proofs.fields.months_later.Goals as goal
 
 pub returns-clause-later : goal.returns-clause-later

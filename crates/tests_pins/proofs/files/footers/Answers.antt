@@ -1,6 +1,5 @@
 use Rattle.tz_info.specs.Footers.FooterFault.{Colon}
-use Rattle.tests_pins.proofs.Words.{IsAscii-cons, IsAscii-nil, IsUtf8-from_ascii, arith, refl, [], ◌∷◌}
-use Rattle.tests_pins.proofs.HonoluluFile.{footer}
+use Rattle.tests_pins.proofs.{Words.{IsAscii-cons, IsAscii-nil, IsUtf8-from_ascii, arith, refl, [], ◌∷◌}, HonoluluFile.{footer}}
 use Rattle.tests_pins.proofs.files.footers.Goals as goal
 
 pub returns : goal.returns

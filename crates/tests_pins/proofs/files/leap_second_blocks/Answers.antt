@@ -1,5 +1,4 @@
-use Rattle.tests_pins.proofs.Words.{long_record, one_leap_second, refl, short_record, with_leap_second}
-use Rattle.tests_pins.proofs.FileParts.{parts_are}
+use Rattle.tests_pins.proofs.{Words.{long_record, one_leap_second, refl, short_record, with_leap_second}, FileParts.{parts_are}}
 use Rattle.tests_pins.proofs.files.leap_second_blocks.Goals as goal
 
 pub returns : goal.returns

@@ -1,6 +1,5 @@
 use Rattle.tz_info.specs.FileContents.TypeFault.{No_text, Other_mark, Other_type}
-use Rattle.tests_pins.proofs.Words.{Error, List, TypeFault, arith, error_number, refl, ℕ, [], ◌∷◌, ◌≡◌}
-use Rattle.tests_pins.proofs.FileParts.{no_flag}
+use Rattle.tests_pins.proofs.{Words.{Error, List, TypeFault, arith, error_number, refl, ℕ, [], ◌∷◌, ◌≡◌}, FileParts.{no_flag}}
 use Rattle.tests_pins.proofs.files.type_faults.Goals as goal
 
 marked : (names : List ℕ) (e : Error) → TypeFault names (128 ∷ 0 ∷ 0 ∷ 0 ∷ 2 ∷ 0 ∷ []) e → error_number e ≡ 3 → ⊥

@@ -1,6 +1,4 @@
-use Rattle.tests_pins.proofs.Words.{arith, ints, signed}
-use Rattle.tests_pins.proofs.FileParts.{no_flag}
-use Rattle.tests_pins.proofs.HonoluluFile.{hst_spelled}
+use Rattle.tests_pins.proofs.{Words.{arith, ints, signed}, FileParts.{no_flag}, HonoluluFile.{hst_spelled}}
 use Rattle.tests_pins.proofs.files.types.Goals as goal
 
 pub returns : goal.returns

@@ -1,10 +1,6 @@
-use Rattle.tz_info.specs.declared.file.header.Place.TheVariants.{First, Second}
-use Rattle.tz_info.specs.declared.file.header.Version.TheVariants.{Two}
+use Rattle.tz_info.specs.declared.file.header.{Place.TheVariants.{First, Second}, Version.TheVariants.{Two}}
 use Rattle.tests_pins.proofs.HonoluluFile.{is_header, version_2}
 use Rattle.tests_pins.proofs.honolulu.headers.Goals as goal
 
 pub returns : goal.returns
-returns c = record {
-  first = λ rest. is_header First 50 Two rest (version_2 First);
-  second = λ rest. is_header Second 50 Two rest (version_2 Second);
-}
+returns c = record { first = λ rest. is_header First 50 Two rest (version_2 First); second = λ rest. is_header Second 50 Two rest (version_2 Second) }

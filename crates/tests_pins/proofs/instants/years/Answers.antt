@@ -1,6 +1,4 @@
-use Rattle.tests_pins.proofs.Words.{arith, date_only, inl, inr, pos, refl}
-use Rattle.tests_pins.proofs.Computed.{calendar}
-use Rattle.tests_pins.proofs.PassedYears.{years_apart, years_less}
+use Rattle.tests_pins.proofs.{Words.{arith, date_only, inl, inr, pos, refl}, Computed.{calendar}, PassedYears.{years_apart, years_less}}
 use Rattle.tests_pins.proofs.instants.years.Goals as goal
 
 pub returns : goal.returns
@@ -25,10 +23,7 @@ returns c =
             | inl a ↦ absurd (omega arith)
             | inr b ↦ elim b.1 [
               | inl d ↦ absurd (omega arith)
-              | inr t ↦ elim t.1 [
-                | inl s ↦ absurd (omega arith)
-                | inr f ↦ let less = f.1 in absurd (omega arith)
-              ]
+              | inr t ↦ elim t.1 [ inl s ↦ absurd (omega arith) | inr f ↦ let less = f.1 in absurd (omega arith) ]
             ]
           ]) h;
       backwards = λ n h. years_less _ _ (pos 1999) (pos 2000) n february_1999.0 leap_day.0

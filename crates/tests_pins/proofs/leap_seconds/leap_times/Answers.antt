@@ -1,5 +1,4 @@
-use Rattle.tests_pins.proofs.Words.{arith, pos, refl, utc_leaps}
-use Rattle.tests_pins.proofs.LeapSeconds.{small_fits, utc_small}
+use Rattle.tests_pins.proofs.{Words.{arith, pos, refl, utc_leaps}, LeapSeconds.{small_fits, utc_small}}
 use Rattle.tests_pins.proofs.leap_seconds.leap_times.Goals as goal
 
 pub returns-clause-before_last : goal.returns-clause-before_last

@@ -1,5 +1,4 @@
-use Rattle.tests_pins.proofs.Words.{arith, entry, pos}
-use Rattle.tests_pins.proofs.LeapSeconds.{not_one_step}
+use Rattle.tests_pins.proofs.{Words.{arith, entry, pos}, LeapSeconds.{not_one_step}}
 use Rattle.tests_pins.proofs.leap_seconds.limits.Goals as goal
 
 pub returns-clause-too_close : goal.returns-clause-too_close

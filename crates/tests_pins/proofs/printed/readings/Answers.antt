@@ -1,5 +1,4 @@
-use Rattle.tests_pins.proofs.Words.{arith, date_only, pos, refl}
-use Rattle.tests_pins.proofs.Computed.{calendar, printing}
+use Rattle.tests_pins.proofs.{Words.{arith, date_only, pos, refl}, Computed.{calendar, printing}}
 use Rattle.tests_pins.proofs.printed.readings.Goals as goal
 
 pub returns : goal.returns

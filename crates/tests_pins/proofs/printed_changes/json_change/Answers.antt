@@ -1,5 +1,4 @@
-use Rattle.tests_pins.proofs.Words.{clock_words, digits, escape_byte, in_digits, print_from, refl, year_text}
-use Rattle.tests_pins.proofs.ChangeDays.{march_2021}
+use Rattle.tests_pins.proofs.{Words.{clock_words, digits, escape_byte, in_digits, print_from, refl, year_text}, ChangeDays.{march_2021}}
 use Rattle.tests_pins.proofs.printed_changes.json_change.Goals as goal
 
 pub returns : goal.returns

@@ -1,5 +1,4 @@
-use Rattle.tests_pins.proofs.Words.{digits, in_digits, offset_words, refl, step_words, year_text}
-use Rattle.tests_pins.proofs.ChangeDays.{march_2021}
+use Rattle.tests_pins.proofs.{Words.{digits, in_digits, offset_words, refl, step_words, year_text}, ChangeDays.{march_2021}}
 use Rattle.tests_pins.proofs.printed_changes.table_line.Goals as goal
 
 pub returns : goal.returns

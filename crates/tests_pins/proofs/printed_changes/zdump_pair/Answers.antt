@@ -1,5 +1,4 @@
-use Rattle.tests_pins.proofs.Words.{digits, in_digits, refl, short_day, short_month, short_weekday}
-use Rattle.tests_pins.proofs.ChangeDays.{march_2007}
+use Rattle.tests_pins.proofs.{Words.{digits, in_digits, refl, short_day, short_month, short_weekday}, ChangeDays.{march_2007}}
 use Rattle.tests_pins.proofs.printed_changes.zdump_pair.Goals as goal
 
 pub returns : goal.returns

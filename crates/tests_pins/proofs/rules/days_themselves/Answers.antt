@@ -1,7 +1,6 @@
 use Rattle.std.proofs.Common.{◌-◌}
 use Rattle.tz_info.specs.RuleDays.{IsWeekdayInWeek}
-use Rattle.tests_pins.proofs.Words.{◌*◌, ◌+◌, ◌<◌, IsDate, arith, day_number, floors, pos, refl, weekday_of, ℕ, ℤ, ◌≡◌, ◌≤◌}
-use Rattle.tests_pins.proofs.Computed.{calendar}
+use Rattle.tests_pins.proofs.{Words.{◌*◌, ◌+◌, ◌<◌, IsDate, arith, day_number, floors, pos, refl, weekday_of, ℕ, ℤ, ◌≡◌, ◌≤◌}, Computed.{calendar}}
 use Rattle.tests_pins.proofs.rules.days_themselves.Goals as goal
 
 -- no Sunday of March 2021 comes after the 28th

@@ -1,5 +1,4 @@
-use Rattle.tests_pins.proofs.Words.{arith, pos}
-use Rattle.tests_pins.proofs.NewYork.{edt_between, est_early, est_late}
+use Rattle.tests_pins.proofs.{Words.{arith, pos}, NewYork.{edt_between, est_early, est_late}}
 use Rattle.tests_pins.proofs.rules.types.Goals as goal
 
 pub returns : goal.returns

@@ -1,6 +1,4 @@
-use Rattle.tests_pins.proofs.Words.{arith, pos}
-use Rattle.tests_pins.proofs.NewYorkClocks.{fits}
-use Rattle.tests_pins.proofs.NewYorkSpans.{winter_is}
+use Rattle.tests_pins.proofs.{Words.{arith, pos}, NewYorkClocks.{fits}, NewYorkSpans.{winter_is}}
 use Rattle.tests_pins.proofs.spans.new_york.Goals as goal
 
 pub returns : goal.returns

@@ -1,6 +1,4 @@
-use Rattle.tests_pins.proofs.Words.{None, Some, arith, est, pos, refl, span_of}
-use Rattle.tests_pins.proofs.NewYork.{edt_between, edt_until_2020}
-use Rattle.tests_pins.proofs.NewYorkClocks.{fits}
+use Rattle.tests_pins.proofs.{Words.{None, Some, arith, est, pos, refl, span_of}, NewYork.{edt_between, edt_until_2020}, NewYorkClocks.{fits}}
 use Rattle.tests_pins.proofs.NewYorkSpans.{no_change_within, only_est}
 use Rattle.tests_pins.proofs.spans.no_spans.Goals as goal
 

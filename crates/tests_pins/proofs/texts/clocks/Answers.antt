@@ -1,6 +1,4 @@
-use Rattle.tests_pins.proofs.Words.{codes, foo_5_06_07, foo_5_30, refl, seconds, small}
-use Rattle.tests_pins.proofs.Computed.{texts}
-use Rattle.tests_pins.proofs.SpelledTexts.{spelled}
+use Rattle.tests_pins.proofs.{Words.{codes, foo_5_06_07, foo_5_30, refl, small}, Computed.{texts}, SpelledTexts.{spelled}}
 use Rattle.tests_pins.proofs.texts.clocks.Goals as goal
 
 pub returns : goal.returns

@@ -1,8 +1,6 @@
 use Rattle.tz_base.specs.declared.error.Error.TheVariants.{InvalidTzString, LocalTimeType, ParseInt, TransitionRule as RuleError}
 use Rattle.tz_base.specs.declared.error.Expected.TheVariants.{DayFromJ1ToJ365, Digit, HoursMinutesAndSecondsWithinTheirLimits, NameOfThreeToSevenBytes}
-use Rattle.tests_pins.proofs.Words.{day_0, fo_5, foo, foo_5_60, refl}
-use Rattle.tests_pins.proofs.Computed.{texts}
-use Rattle.tests_pins.proofs.SpelledTexts.{faulty}
+use Rattle.tests_pins.proofs.{Words.{day_0, fo_5, foo, foo_5_60, refl}, Computed.{texts}, SpelledTexts.{faulty}}
 use Rattle.tests_pins.proofs.texts.fault_numbers.Goals as goal
 
 pub returns : goal.returns

@@ -1,5 +1,4 @@
-use Rattle.tests_pins.proofs.Words.{no_days, refl, text_fault_or_zone, []}
-use Rattle.tests_pins.proofs.SpelledTexts.{ends_early, some_bytes}
+use Rattle.tests_pins.proofs.{Words.{no_days, refl, text_fault_or_zone, []}, SpelledTexts.{ends_early, some_bytes}}
 use Rattle.tests_pins.proofs.texts.faults.Goals as goal
 
 pub returns : goal.returns

@@ -1,6 +1,4 @@
-use Rattle.tests_pins.proofs.Words.{codes, false, refl}
-use Rattle.tests_pins.proofs.Computed.{texts}
-use Rattle.tests_pins.proofs.SpelledTexts.{not_spelled}
+use Rattle.tests_pins.proofs.{Words.{codes, false, refl}, Computed.{texts}, SpelledTexts.{not_spelled}}
 use Rattle.tests_pins.proofs.texts.no_rules.Goals as goal
 
 pub returns : goal.returns

@@ -1,6 +1,4 @@
-use Rattle.tests_pins.proofs.Words.{codes, new_york_rule, refl}
-use Rattle.tests_pins.proofs.Computed.{texts}
-use Rattle.tests_pins.proofs.SpelledTexts.{new_york, new_york_gives, spelled, utc}
+use Rattle.tests_pins.proofs.{Words.{codes, new_york_rule, refl}, Computed.{texts}, SpelledTexts.{new_york, new_york_gives, spelled, utc}}
 use Rattle.tests_pins.proofs.texts.rules.Goals as goal
 
 pub returns : goal.returns

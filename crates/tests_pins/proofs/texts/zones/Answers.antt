@@ -1,5 +1,4 @@
-use Rattle.tests_pins.proofs.Words.{false, inl, inr, refl, utc_rule, utc_text, [], ◌∷◌}
-use Rattle.tests_pins.proofs.SpelledTexts.{some_bytes, utc}
+use Rattle.tests_pins.proofs.{Words.{false, inl, inr, refl, utc_rule, utc_text, [], ◌∷◌}, SpelledTexts.{some_bytes, utc}}
 use Rattle.tests_pins.proofs.texts.zones.Goals as goal
 
 pub returns : goal.returns

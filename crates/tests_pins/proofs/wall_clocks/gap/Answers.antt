@@ -1,5 +1,4 @@
-use Rattle.tests_pins.proofs.Words.{arith, pos}
-use Rattle.tests_pins.proofs.NewYorkClocks.{before_gap, edt_once, est_once, in_gap, only_before_gap}
+use Rattle.tests_pins.proofs.{Words.{arith, pos}, NewYorkClocks.{before_gap, edt_once, est_once, in_gap, only_before_gap}}
 use Rattle.tests_pins.proofs.wall_clocks.gap.Goals as goal
 
 pub returns : goal.returns

@@ -1,5 +1,4 @@
-use Rattle.tz_info.specs.Leaps.{IsLeapTime}
-use Rattle.tz_info.specs.Zones.{TypeAtLeapTime}
+use Rattle.tz_info.specs.{Leaps.{IsLeapTime}, Zones.{TypeAtLeapTime}}
 use Rattle.tests_pins.proofs.Words.{LeapSecond, List, LocalType, TypeAt, Zone, arith, ints, refl, subst, sym, ℤ, [], ◌≡◌}
 use Rattle.tests_pins.proofs.zones.honolulu_types.Goals as goal
 

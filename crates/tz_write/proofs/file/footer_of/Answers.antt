@@ -1,5 +1,4 @@
-use Rattle.tz_write.proofs.Words.{on_err_weaker}
-use Rattle.tz_write.proofs.RuleTexts.{rule_named}
+use Rattle.tz_write.proofs.{Words.{on_err_weaker}, RuleTexts.{rule_named}}
 use Rattle.tz_write.proofs.file.footer_of.Goals as goal
 
 pub returns-in-Some-clause-memory : goal.returns-in-Some-clause-memory

@@ -1,5 +1,4 @@
-use Rattle.zoned.proofs.Words.{Instant, IsAt, IsIn, home_law_of, stays, zoned}
-use Rattle.zoned.proofs.Buckets.{itself-in}
+use Rattle.zoned.proofs.{Words.{Instant, IsAt, IsIn, home_law_of, stays, zoned}, Buckets.{itself-in}}
 use Rattle.zoned.proofs.client_laws.in_zone_after_digits.Goals as goal
 
 pub returns : goal.returns

@@ -1,5 +1,4 @@
-use Rattle.zoned.proofs.Words.{Instant, IsIn, map_of, reading, relocal_shown, zoned}
-use Rattle.zoned.proofs.Shown.{each_seen}
+use Rattle.zoned.proofs.{Words.{Instant, IsIn, map_of, reading, relocal_shown, zoned}, Shown.{each_seen}}
 use Rattle.zoned.proofs.client_laws.in_zone_by_clock.Goals as goal
 
 pub returns : goal.returns

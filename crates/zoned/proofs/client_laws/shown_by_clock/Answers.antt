@@ -1,6 +1,5 @@
 use Rattle.zoned_time.proofs.Relocals.{shown_by}
-use Rattle.zoned.proofs.Words.{Instant, map_of, reading, relocal_shown, wall_of, zoned, ◌≡◌}
-use Rattle.zoned.proofs.Shown.{each_seen}
+use Rattle.zoned.proofs.{Words.{Instant, map_of, reading, relocal_shown, wall_of, zoned, ◌≡◌}, Shown.{each_seen}}
 use Rattle.zoned.proofs.client_laws.shown_by_clock.Goals as goal
 
 pub returns : goal.returns

@@ -1,5 +1,4 @@
-use Rattle.zoned.proofs.Words.{Instant, LocalResult, map_of, reading, zoned}
-use Rattle.zoned.proofs.Shown.{all_seconds, none_shown, some_shown}
+use Rattle.zoned.proofs.{Words.{Instant, map_of, reading, zoned}, Shown.{all_seconds, none_shown, some_shown}}
 use Rattle.zoned.proofs.client_laws.shown_only.Goals as goal
 
 pub returns-clause-some : goal.returns-clause-some

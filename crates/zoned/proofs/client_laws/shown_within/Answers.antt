@@ -1,5 +1,4 @@
-use Rattle.zoned.proofs.Words.{Instant, map_of, reading, zoned}
-use Rattle.zoned.proofs.Shown.{all_seconds, within_shown}
+use Rattle.zoned.proofs.{Words.{Instant, map_of, reading, zoned}, Shown.{all_seconds, within_shown}}
 use Rattle.zoned.proofs.client_laws.shown_within.Goals as goal
 
 pub returns : goal.returns

@@ -1,5 +1,4 @@
-use Rattle.zoned_ref.proofs.Offsets.{offset_within}
-use Rattle.zoned_ref.proofs.Walls.{zone_wall}
+use Rattle.zoned_ref.proofs.{Offsets.{offset_within}, Walls.{zone_wall}}
 use Rattle.zoned.proofs.Words.{ap, sym, type_once, ◌∙◌}
 use Rattle.zoned.proofs.headline.lawful.Goals as goal
 

@@ -1,5 +1,4 @@
-use Rattle.zoned_ffi.proofs.Words.{FitsSigned, IsInRange, refl, rules, subst, sym, to_z-of_z, w32, w64, ℕ, ℤ, ◌+ℤ◌}
-use Rattle.zoned_ffi.specs.Fields.{AreNoFieldsAt}
+use Rattle.zoned_ffi.{proofs.Words.{FitsSigned, IsInRange, refl, rules, subst, sym, to_z-of_z, w32, w64, ℕ, ℤ, ◌+ℤ◌}, specs.Fields.{AreNoFieldsAt}}
 use Rattle.zoned_ffi.proofs.fields.answer_fields.Goals as goal
 
 pub returns-in-Err-clause-refused : goal.returns-in-Err-clause-refused
@@ -9,8 +8,7 @@ returns-in-Err-clause-refused c = λ some.
 
 pub returns-in-Ok-clause-refused : goal.returns-in-Ok-clause-refused
 returns-in-Ok-clause-refused c = λ some.
-    let instant : FitsSigned w64 c.args.instant = c.ranges.instant in
-    let offset : FitsSigned w32 c.offset.result = search rules in
+    let instant : FitsSigned w64 c.args.instant = c.ranges.instant in let offset : FitsSigned w32 c.offset.result = search rules in
     let told = (simp to_z-of_z at c.answer_shown.ensures.refused) some in
     let in_force = simp to_z-of_z at c.in-Ok.ensures in
     let out = subst (λ (o : ℤ). ¬ (IsInRange (c.args.instant +ℤ o))) c.offset.ensures.value told.1 in

@@ -1,9 +1,5 @@
-use Rattle.zoned_ffi.proofs.Words.{IsPosixZone, IsStringError, IsUtf8, List, error_number, subst, sym, ℕ}
-use Rattle.zoned_ffi.proofs.Reading.{reader_number, text_refused}
+use Rattle.zoned_ffi.proofs.{Words.{IsPosixZone, IsStringError, IsUtf8, List, error_number, subst, sym, ℕ}, Reading.{text_refused}}
 use Rattle.zoned_ffi.proofs.kind.read_text.Goals as goal
-
-pub returns-in_default-clause-fault : goal.returns-in_default-clause-fault
-returns-in_default-clause-fault c = IsStringError.Not_utf8 c.in_default.ensures.cases.0
 
 pub returns-in-Ok-from_posix_tz-clause-only : goal.returns-in-Ok-from_posix_tz-clause-only
 returns-in-Ok-from_posix_tz-clause-only c = λ z spelled.
@@ -20,6 +16,3 @@ returns-in-Err-clause-fault c =
     let utf8 = subst (λ (bytes : List ℕ). IsUtf8 bytes) (sym c.in-Ok.ensures.cases.0) c.in-Ok.ensures.cases.1 in
     let fault = text_refused c.in-Ok.text.now c.in-Err.error utf8 c.in-Err.ensures.fault c.in-Err.ensures.memory in
     subst (λ (bytes : List ℕ). IsStringError bytes (error_number c.in-Err.error)) c.in-Ok.ensures.cases.0 fault
-
-pub returns-in-Err-clause-number : goal.returns-in-Err-clause-number
-returns-in-Err-clause-number c = reader_number c.in-Err.error

@@ -1,5 +1,4 @@
-use Rattle.zoned_ffi.proofs.Words.{refl}
-use Rattle.zoned_ffi.proofs.Reading.{no_memory_refused}
+use Rattle.zoned_ffi.proofs.{Words.{refl}, Reading.{no_memory_refused}}
 use Rattle.zoned_ffi.proofs.opening.opened.Goals as goal
 
 pub returns-in-None-clause-fault : goal.returns-in-None-clause-fault

@@ -1,6 +1,5 @@
 use Rattle.offset_core.specs.ResolveNumbers.{resolve_error_number}
-use Rattle.zoned_ffi.proofs.Words.{ap, ◌∙◌}
-use Rattle.zoned_ffi.proofs.Resolving.{fold_is, gap_is, none_is}
+use Rattle.zoned_ffi.proofs.{Words.{ap, ◌∙◌}, Resolving.{fold_is, gap_is, none_is}}
 use Rattle.zoned_ffi.proofs.pins.refusal_numbers.Goals as goal
 
 pub returns-clause-none_taken : goal.returns-clause-none_taken

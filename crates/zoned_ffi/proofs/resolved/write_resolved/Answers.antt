@@ -1,5 +1,4 @@
-use Rattle.zoned_ffi.proofs.Words.{FitsSigned, IsResolvedAt, arith, get_or, length-set, pos, rules, to_z-of_z, w64, ◌∙◌}
-use Rattle.zoned_ffi.proofs.Slices.{zip_more}
+use Rattle.zoned_ffi.proofs.{Words.{FitsSigned, IsResolvedAt, arith, get_or, length-set, pos, rules, to_z-of_z, w64, ◌∙◌}, Slices.{zip_more}}
 use Rattle.zoned_ffi.proofs.resolved.write_resolved.Goals as goal
 
 pub loop-i-preserved : goal.loop-i-preserved

@@ -1,5 +1,4 @@
-use Rattle.zonedump_lib.proofs.Words.{TypeAt}
-use Rattle.zonedump_lib.proofs.TableLaws.{near_years}
+use Rattle.zonedump_lib.proofs.{Words.{TypeAt}, TableLaws.{near_years}}
 use Rattle.zonedump_lib.proofs.tables.table.Goals as goal
 
 pub push_changes-requires : goal.push_changes-requires

@@ -1,5 +1,4 @@
-use Rattle.zoneq_lib.proofs.CitedWords.{IfErr-weaker, IsFileFault, IsOutOfMemory, IsZoneFault, bytes_of, ◌∙◌, ◌⊎◌}
-use Rattle.zoneq_lib.proofs.HexLaws.{decoded}
+use Rattle.zoneq_lib.proofs.{CitedWords.{IfErr-weaker, IsFileFault, IsOutOfMemory, IsZoneFault, bytes_of, ◌∙◌, ◌⊎◌}, HexLaws.{decoded}}
 use Rattle.zoneq_lib.proofs.ZoneAnswers.{memory_or_fault}
 use Rattle.zoneq_lib.proofs.answer.read_file.Goals as goal
 

@@ -1,5 +1,4 @@
-use Rattle.zoneq_lib.proofs.CitedWords.{bytes_of, on_ok_weaker}
-use Rattle.zoneq_lib.proofs.ZoneAnswers.{data_answered}
+use Rattle.zoneq_lib.proofs.{CitedWords.{bytes_of, on_ok_weaker}, ZoneAnswers.{data_answered}}
 use Rattle.zoneq_lib.proofs.answer.take_file.Goals as goal
 
 pub returns : goal.returns

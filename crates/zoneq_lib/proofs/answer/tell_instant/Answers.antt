@@ -11,11 +11,8 @@ returns-in_default-new c =
 
 pub returns-in-Single : goal.returns-in-Single
 returns-in-Single c =
-    let fits = c.ranges.seconds in
-    let r = c.in-Some-new.zone in
-    let at = simp to_z-of_z at c.in-Single.ensures in
-    let d = zoned c.in-Single.instant in
-    let of_zone = c.in-Some-new.ensures in
+    let fits = c.ranges.seconds in let r = c.in-Some-new.zone in let at = simp to_z-of_z at c.in-Single.ensures in
+    let d = zoned c.in-Single.instant in let of_zone = c.in-Some-new.ensures in
     let there = at.1.offset.there ∙ ap (λ (k : Reading). off_of r k.s) at.1.utc in
     on_ok_weaker c.write_instant.result (λ bytes. (
       shown_date_time d.utc (ahead_of d.offset),
@@ -25,7 +22,6 @@ returns-in-Single c =
 
 pub returns-in_default-timestamp_opt : goal.returns-in_default-timestamp_opt
 returns-in_default-timestamp_opt c =
-    let fits = c.ranges.seconds in
-    let of_zone = c.in-Some-new.ensures in
+    let fits = c.ranges.seconds in let of_zone = c.in-Some-new.ensures in
     let none = no_stamp _ _ _ _ c.timestamp_opt.result c.in_default-timestamp_opt.not-Single (simp to_z-of_z at c.timestamp_opt.ensures) in
     on_ok_weaker c.writeln-in_default-timestamp_opt.result (λ bytes. (codes "out of range", bytes, rw c.in-Some.is (inr (inl (of_zone.some.0 refl, none, refl))))) c.writeln-in_default-timestamp_opt.ensures.bytes

@@ -12,9 +12,7 @@ returns-in_default-new c =
 
 pub returns-in-Ok : goal.returns-in-Ok
 returns-in-Ok c =
-    let r = c.in-Some-new.narrow in
-    let of_zone = c.in-Some-new.ensures in
-    let d = zoned c.in-Ok.instant in
+    let r = c.in-Some-new.narrow in let of_zone = c.in-Some-new.ensures in let d = zoned c.in-Ok.instant in
     on_ok_weaker c.write_instant.result (λ bytes. (
       shown_date_time d.utc (ahead_of d.offset),
       bytes,
@@ -23,9 +21,7 @@ returns-in-Ok c =
 
 pub returns-in-Err : goal.returns-in-Err
 returns-in-Err c =
-    let r = c.in-Some-new.narrow in
-    let of_zone = c.in-Some-new.ensures in
-    let e = c.in-Err.refusal in
+    let r = c.in-Some-new.narrow in let of_zone = c.in-Some-new.ensures in let e = c.in-Err.refusal in
     let written = rw c.number.ensures at c.writeln-in-Err.ensures.bytes in
     on_ok_weaker c.writeln-in-Err.result (λ bytes. (
       shown_refusal (resolve_error_number e),

@@ -6,8 +6,7 @@ returns-in_default c = on_ok_weaker c.writeln.result (λ bytes. (codes "no zone"
 
 pub returns-in-Err : goal.returns-in-Err
 returns-in-Err c =
-    let fits = c.ranges.seconds in
-    let refused = simp to_z-of_z at c.in-Err.ensures in
+    let fits = c.ranges.seconds in let refused = simp to_z-of_z at c.in-Err.ensures in
     let number = ap error_number refused.1 ∙ type_error_number c.in-Some.zone c.args.seconds refused.0 in
     let written = rw (c.number.ensures, number) at c.writeln-in-Err.ensures.bytes in
     on_ok_weaker c.writeln-in-Err.result (λ bytes. (shown_refusal 2, bytes, rw c.in-Some.is (inr (refused.0, refl)))) written

@@ -1,5 +1,4 @@
-use Rattle.zoneq_lib.proofs.CitedWords.{◌∙◌}
-use Rattle.zoneq_lib.proofs.Stopping.{reply_is}
+use Rattle.zoneq_lib.proofs.{CitedWords.{◌∙◌}, Stopping.{reply_is}}
 use Rattle.zoneq_lib.proofs.dialogue.reply.Goals as goal
 
 pub returns-in-Ok : goal.returns-in-Ok

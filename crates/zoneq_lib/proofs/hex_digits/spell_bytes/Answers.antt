@@ -1,5 +1,4 @@
-use Rattle.zoneq_lib.proofs.CitedWords.{arith, bytes_test, get_or, sym}
-use Rattle.zoneq_lib.proofs.HexLaws.{all_hex_from, hex_at, not_hex, refuted}
+use Rattle.zoneq_lib.proofs.{CitedWords.{arith, bytes_test, get_or, sym}, HexLaws.{all_hex_from, hex_at, not_hex, refuted}}
 use Rattle.zoneq_lib.proofs.hex_digits.spell_bytes.Goals as goal
 
 pub returns-then-not-is_ascii_hexdigit : goal.returns-then-not-is_ascii_hexdigit

@@ -1,9 +1,5 @@
-use Rattle.zoneq_lib.proofs.CitedWords.{◌≤◌}
-use Rattle.zoneq_lib.proofs.NumberLaws.{ReadTo}
+use Rattle.zoneq_lib.proofs.{CitedWords.{◌≤◌}, NumberLaws.{ReadTo}}
 use Rattle.zoneq_lib.proofs.numerals.number.Given as goal
 
 abbrev pub invariant-loop-i : goal.invariant-loop-i
-invariant-loop-i l = record {
-  fits : l.value ≤ l.max;
-  read : ReadTo l.text l.i l.value;
-}
+invariant-loop-i l = record { fits : l.value ≤ l.max; read : ReadTo l.text l.i l.value }

@@ -1,11 +1,9 @@
-use Rattle.zoneq_lib.proofs.CitedWords.{Appends, List, arith, subst, take, ℕ}
-use Rattle.zoneq_lib.proofs.Bytes.{appends_more, still_works}
+use Rattle.zoneq_lib.proofs.{CitedWords.{Appends, List, arith, subst, take, ℕ}, Bytes.{appends_more, still_works}}
 use Rattle.zoneq_lib.proofs.output.write_all.Goals as goal
 
 pub loop-written-preserved : goal.loop-written-preserved
 loop-written-preserved g c =
-    let w = g.W.Write.contents in
-    let before = c.loop-written in
+    let w = g.W.Write.contents in let before = c.loop-written in
     record {
       works = still_works c.write.new.self.failed before.writer.failed _ c.in-Ok.n c.in-Ok.ensures.failed before.invariant.works c.in-Ok.n-test.1;
       within = omega (arith, c.in-Ok.ensures.bound, c.split_at.ensures.back_len);

@@ -1,5 +1,4 @@
-use Rattle.zoneq_lib.proofs.CitedWords.{Appends, List, codes, fault_text, subst, take, ℕ, ◌∙◌}
-use Rattle.zoneq_lib.proofs.Sending.{told, told_in_part}
+use Rattle.zoneq_lib.proofs.{CitedWords.{Appends, List, codes, fault_text, subst, take, ℕ, ◌∙◌}, Sending.{told, told_in_part}}
 use Rattle.zoneq_lib.proofs.program.tell.Goals as goal
 
 pub returns-in_err-write_all : goal.returns-in_err-write_all

@@ -1,5 +1,4 @@
-use Rattle.zoneq_lib.proofs.CitedWords.{Ok, Text, ap, refl, sym, text_query, utf8_test, []}
-use Rattle.zoneq_lib.proofs.HexLaws.{refuted}
+use Rattle.zoneq_lib.proofs.{CitedWords.{Ok, Text, ap, refl, sym, text_query, utf8_test, []}, HexLaws.{refuted}}
 use Rattle.zoneq_lib.proofs.question.read_text.Goals as goal
 
 pub returns-in-Ok : goal.returns-in-Ok

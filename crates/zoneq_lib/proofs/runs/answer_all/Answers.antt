@@ -1,17 +1,11 @@
-use Rattle.zoneq_lib.proofs.CitedWords.{None, arith, take, [], ◌++◌}
-use Rattle.zoneq_lib.proofs.Bytes.{appends_join, consumes_join, still_works}
-use Rattle.zoneq_lib.proofs.Ending.{block_stopped, ended_now, not_failed, reader_ended, stop_passed_on}
-use Rattle.zoneq_lib.proofs.Joining.{answered_join}
+use Rattle.zoneq_lib.proofs.{CitedWords.{None, arith, take, [], ◌++◌}, Bytes.{appends_join, consumes_join, still_works}, Ending.{block_stopped, ended_now}}
+use Rattle.zoneq_lib.proofs.{Ending.{not_failed, reader_ended, stop_passed_on}, Joining.{answered_join}}
 use Rattle.zoneq_lib.proofs.runs.answer_all.Goals as goal
 
 pub loop-preserved : goal.loop-preserved
 loop-preserved g c =
-    let w = g.W.Write.contents in
-    let r = g.R.Read.remaining in
-    let kept = c.loop.invariant in
-    let f = kept.answered in
-    let t = c.in_ok-take_block-in-Ok.ensures.ok.1 in
-    let given = take c.in-Ok.n c.read.new.buf in
+    let w = g.W.Write.contents in let r = g.R.Read.remaining in let kept = c.loop.invariant in let f = kept.answered in
+    let t = c.in_ok-take_block-in-Ok.ensures.ok.1 in let given = take c.in-Ok.n c.read.new.buf in
     record {
       reader_works = not_failed c.read.new.self.failed c.loop.reader.failed c.in-Ok.ensures.failed kept.reader_works;
       goes_on = still_works c.read.new.self.ended c.loop.reader.ended _ c.in-Ok.n c.in-Ok.ensures.ended kept.goes_on c.in-Ok.n-test.1;
@@ -31,10 +25,7 @@ loop-preserved g c =
 
 pub returns-in_err-take_block-in-Ok-clause-answers : goal.returns-in_err-take_block-in-Ok-clause-answers
 returns-in_err-take_block-in-Ok-clause-answers g c =
-    let w = g.W.Write.contents in
-    let r = g.R.Read.remaining in
-    let kept = c.loop.invariant in
-    let f = kept.answered in
+    let w = g.W.Write.contents in let r = g.R.Read.remaining in let kept = c.loop.invariant in let f = kept.answered in
     stop_passed_on c.from_residual.result c.in_err-take_block-in-Ok.field-0.0 c.read.new.self.ended c.read.new.self.failed c.take_block.new.writer.failed c.read.new.self.reads (r c.args.reader.now.inner) (r c.read.new.self.inner) (w c.args.writer.now.inner) (w c.take_block.new.writer.inner)
     c.from_residual.ensures.1
     (block_stopped c.read.new.self.failed c.take_block.new.writer.failed c.read.new.self.reads (r c.args.reader.now.inner) (r c.loop.reader.inner) (r c.read.new.self.inner) (w c.args.writer.now.inner) (w c.loop.writer.inner) (w c.take_block.new.writer.inner) f.0 f.1 c.loop.dialogue.zone c.loop.dialogue.begun.items (take c.in-Ok.n c.read.new.buf) c.in_err-take_block-in-Ok.field-0.0
@@ -42,12 +33,8 @@ returns-in_err-take_block-in-Ok-clause-answers g c =
 
 pub returns-in-Ok-eq0-clause-answers : goal.returns-in-Ok-eq0-clause-answers
 returns-in-Ok-eq0-clause-answers g c =
-    let w = g.W.Write.contents in
-    let r = g.R.Read.remaining in
-    let kept = c.loop.invariant in
-    let f = kept.answered in
-    let read = c.in-Ok-eq0 in
-    let none = read.field-0-test in
+    let w = g.W.Write.contents in let r = g.R.Read.remaining in let kept = c.loop.invariant in let f = kept.answered in
+    let read = c.in-Ok-eq0 in let none = read.field-0-test in
     reader_ended c.read.new.self.ended c.read.new.self.failed c.finish.new.writer.failed c.read.new.self.reads (r c.args.reader.now.inner) (r c.loop.reader.inner) (r c.read.new.self.inner) (w c.args.writer.now.inner) (w c.loop.writer.inner) (w c.finish.new.writer.inner) f.0 f.1 c.loop.dialogue.zone c.loop.dialogue.begun.items c.read.new.buf c.finish.result
     (ended_now c.read.new.self.ended c.loop.reader.ended read.field-0 _ read.ensures.ended kept.goes_on none kept.room)
     (read.ensures.bytes.1 none (omega (arith, c.read.auto.buf)))
@@ -57,8 +44,7 @@ returns-in-Ok-eq0-clause-answers g c =
 -- the count of reads was used up
 pub returns-clause-answers : goal.returns-clause-answers
 returns-clause-answers g c =
-    let kept = c.loop.invariant in
-    let f = kept.answered in
+    let kept = c.loop.invariant in let f = kept.answered in
     let below = kept.bounded (omega (arith, c.loop-test.false)) in (
       f.0,
       f.1,

@@ -1,10 +1,6 @@
-use Rattle.std.proofs.Common.{rules, ◌≡◌, ◌∙◌, sym, ap, ℤ, pos, ◌+ℤ◌, inl, inr, arith}
-use Rattle.std.proofs.lemmas.Int.{ints, by_lt_z}
+use Rattle.std.proofs.{Common.{rules, ◌≡◌, ◌∙◌, sym, ap, ℤ, pos, ◌+ℤ◌, inl, inr, arith}, lemmas.Int.{ints, by_lt_z}}
 use Rattle.zoned_time.specs.DateTime.{zoned}
-use Rattle.naive_base.specs.Fields.{MayShowDay}
-use Rattle.naive_base.specs.NaiveDate.{day_of}
-use Rattle.naive_base.specs.Range.{first_day, last_day}
-use Rattle.naive_base.specs.Year.{floor_div}
+use Rattle.naive_base.specs.{Fields.{MayShowDay}, NaiveDate.{day_of}, Range.{first_day, last_day}, Year.{floor_div}}
 use Rattle.demo_scheduler.proofs.Walk.{have_come, passed, next, none}
 use Rattle.demo_scheduler.proofs.schedule.Schedule.next_fire.Goals as goal
 
@@ -12,8 +8,7 @@ pub loop-days-init : goal.loop-days-init
 loop-days-init g c =
     let off = (g.Tz.TimeZone.law c.args.zone.now).off in
     let after = (zoned c.args.after.now).utc in
-    let range = c.args.after.now.in_range in
-    let local = zoned c.with_timezone.result in
+    let range = c.args.after.now.in_range in let local = zoned c.with_timezone.result in
     let at = c.with_timezone.ensures in
     let utc = ap (λ r. r.s) at.utc in
     let ahead = sym (g.met.Tz.TimeZone.told local.offset) ∙ at.offset.there in
@@ -42,15 +37,13 @@ loop-days-preserved g c =
 
 pub returns : goal.returns
 returns g c =
-    let today = c.date_naive-today.result in
-    let shown = today.in_range in
+    let today = c.date_naive-today.result in let shown = today.in_range in
     none (g.Tz.TimeZone.law c.args.zone.now).off c.args.self.now (zoned c.args.after.now).utc
     (day_of today +ℤ pos c.loop-days.days) (omega (arith, ints, shown)) c.loop-days.invariant
 
 pub returns-in_err-date : goal.returns-in_err-date
 returns-in_err-date g c =
-    let today = c.date_naive-today.result in
-    let shown = today.in_range in
+    let today = c.date_naive-today.result in let shown = today.in_range in
     let until = day_of today +ℤ pos c.loop-days.days in
     let out : MayShowDay (day_of today) until → ⊥ = search rules in
     rw c.from_residual.ensures (by_lt_z last_day until

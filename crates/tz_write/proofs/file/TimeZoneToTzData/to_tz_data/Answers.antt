@@ -1,6 +1,4 @@
-use Rattle.tz_write.proofs.Words.{IsSpellableOrNone, subst}
-use Rattle.tz_write.proofs.FileWritten.{can_be_written, footer_spelled, no_file}
-use Rattle.tz_write.proofs.ZoneTexts.{on_err}
+use Rattle.tz_write.proofs.{Words.{IsSpellableOrNone, subst}, FileWritten.{can_be_written, footer_spelled, no_file}, ZoneTexts.{on_err}}
 use Rattle.tz_write.proofs.file.TimeZoneToTzData.to_tz_data.Goals as goal
 
 pub returns-in_default : goal.returns-in_default

@@ -1,5 +1,4 @@
-use Rattle.tz_write.proofs.Words.{ap, arith, index_bytes, length, ◌++◌, ◌<◌, ◌∙◌}
-use Rattle.tz_write.proofs.FileRecords.{flat_map_next}
+use Rattle.tz_write.proofs.{Words.{ap, arith, index_bytes, length, ◌++◌, ◌<◌, ◌∙◌}, FileRecords.{flat_map_next}}
 use Rattle.tz_write.proofs.file.contents.push_indexes.Goals as goal
 
 pub overflow_cast-index : goal.overflow_cast-index

@@ -1,5 +1,4 @@
-use Rattle.tz_write.proofs.Words.{All-more, IsEntry, leap_bytes}
-use Rattle.tz_write.proofs.FileRecords.{flat_map_next}
+use Rattle.tz_write.proofs.{Words.{All-more, IsEntry, leap_bytes}, FileRecords.{flat_map_next}}
 use Rattle.tz_write.proofs.file.contents.push_leap_seconds.Goals as goal
 
 pub loop-leap-preserved : goal.loop-leap-preserved

@@ -1,6 +1,5 @@
 use Rattle.tz_write.proofs.Words.{AreTimesOf, CanBeSpelled, IsWrittenText, List, false, not, rules, spelled_rule, subst, sym, true, ℕ, ◌≡◌}
-use Rattle.tz_write.proofs.RuleTexts.{rule_spelled, times_extended, unspelled, written}
-use Rattle.tz_write.proofs.ZoneTexts.{on_err}
+use Rattle.tz_write.proofs.{RuleTexts.{rule_named, rule_spelled, times_extended, written}, ZoneTexts.{on_err}}
 use Rattle.tz_write.proofs.rule_text.TransitionRuleToTzString.to_tz_string.Goals as goal
 
 pub returns : goal.returns
@@ -13,11 +12,11 @@ returns c =
 
 pub returns-in_err-text-clause-memory : goal.returns-in_err-text-clause-memory
 returns-in_err-text-clause-memory c =
-    let rule = c.args.self.now in
-    let fits = c.can_be_spelled.ensures.rule in
+    let rule = c.args.self.now in let fits = c.can_be_spelled.ensures.rule in
     let spelled = rule_spelled true rule fits (c.can_be_spelled.ensures.answer.0 (search rules)) (times_extended rule fits) in
     on_err c.from_residual.result _ (true, spelled_rule rule, spelled)
 
 pub returns-then-not-can_be_spelled : goal.returns-then-not-can_be_spelled
 returns-then-not-can_be_spelled c =
-    let none : ¬ (CanBeSpelled c.args.self.now) = search (rules, c.can_be_spelled.ensures.answer) in record { written = unspelled c.args.self.now none; reason = none; memory = tt }
+    let rule = c.args.self.now in let none : ¬ (CanBeSpelled rule) = search (rules, c.can_be_spelled.ensures.answer) in
+    record { written = λ extended bytes h. none (rule_named extended bytes rule h); reason = none; memory = tt }

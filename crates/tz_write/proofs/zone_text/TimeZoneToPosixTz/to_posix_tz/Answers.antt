@@ -1,13 +1,10 @@
 use Rattle.tz_write.proofs.Words.{IfOk, IsNoPosixZone, IsOfText, IsOutOfMemory, IsRule, IsWrittenZone, MatchOption, MatchResult, None, Some, Zone}
-use Rattle.tz_write.proofs.Words.{on_err_weaker, rules, string_bytes, subst, [], ◌≡◌}
-use Rattle.tz_write.proofs.ZoneTexts.{gives_same_zone, zone_is}
+use Rattle.tz_write.proofs.{Words.{on_err_weaker, rules, string_bytes, subst, [], ◌≡◌}, ZoneTexts.{gives_same_zone, zone_is}}
 use Rattle.tz_write.proofs.zone_text.TimeZoneToPosixTz.to_posix_tz.Goals as goal
 
 pub returns-in-Some : goal.returns-in-Some
 returns-in-Some c =
-    let z = c.args.self.now in
-    let types = c.local_time_types-types.result.now in
-    let rule = c.in-Some.rule.now in
+    let z = c.args.self.now in let types = c.local_time_types-types.result.now in let rule = c.in-Some.rule.now in
     let alone : (z.transitions ≡ []) × (z.leaps ≡ []) = c.is_rule_alone.ensures.0 (search rules) in
     let is = zone_is z types (Some rule) alone c.local_time_types-types.ensures.types c.in-Some.ensures in
     let fits : IsRule rule = search rules in

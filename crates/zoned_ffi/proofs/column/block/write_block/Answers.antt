@@ -1,5 +1,4 @@
-use Rattle.zoned_ffi.proofs.Words.{FitsSigned, IsWritten, arith, get_or, length-set, pos, rules, to_z-of_z, w64, ◌∙◌}
-use Rattle.zoned_ffi.proofs.Slices.{zip_more}
+use Rattle.zoned_ffi.proofs.{Words.{FitsSigned, IsWritten, arith, get_or, length-set, pos, rules, to_z-of_z, w64, ◌∙◌}, Slices.{zip_more}}
 use Rattle.zoned_ffi.proofs.column.block.write_block.Goals as goal
 
 pub returns-in-Err-clause-answered : goal.returns-in-Err-clause-answered

@@ -1,14 +1,12 @@
 use Rattle.zoned_ffi.proofs.Words.{AreWritten, FitsSigned, IsWritten, and_parts, arith, get_or, inr, length-set, pos, rules, slice_set, subst, take, to_z-of_z}
-use Rattle.zoned_ffi.proofs.Words.{w64, ◌+ℤ◌, ◌+◌, ◌∙◌, ◌≡◌}
-use Rattle.zoned_ffi.proofs.Slices.{zip_more}
+use Rattle.zoned_ffi.proofs.{Words.{w64, ◌+ℤ◌, ◌+◌, ◌∙◌, ◌≡◌}, Slices.{zip_more}}
 use Rattle.zoned_ffi.proofs.column.block.write_pairs.Goals as goal
 
 pub overflow_add-answers : goal.overflow_add-answers
 overflow_add-answers c =
     let at = c.loop-row in
     let x : FitsSigned w64 (get_or c.args.times.now at.row (pos 0)) = search rules in
-    let low : FitsSigned w64 c.kept_for-one.result.low = search rules in
-    let high : FitsSigned w64 c.kept_for-one.result.high = search rules in
+    let low : FitsSigned w64 c.kept_for-one.result.low = search rules in let high : FitsSigned w64 c.kept_for-one.result.high = search rules in
     let add : FitsSigned w64 c.kept_for-one.result.add = search rules in
     let parts = and_parts c.has.result c.has-in-loop-row.result c.if-not-both.false in
     let here = (simp to_z-of_z at c.has.ensures).0 parts.0 in
@@ -20,8 +18,7 @@ pub overflow_add-answers-in-loop-row-2 : goal.overflow_add-answers-in-loop-row-2
 overflow_add-answers-in-loop-row-2 c =
     let at = c.loop-row in
     let y : FitsSigned w64 (get_or c.args.times.now (at.row + 1) (pos 0)) = search rules in
-    let low : FitsSigned w64 c.kept_for-other.result.low = search rules in
-    let high : FitsSigned w64 c.kept_for-other.result.high = search rules in
+    let low : FitsSigned w64 c.kept_for-other.result.low = search rules in let high : FitsSigned w64 c.kept_for-other.result.high = search rules in
     let add : FitsSigned w64 c.kept_for-other.result.add = search rules in
     let parts = and_parts c.has.result c.has-in-loop-row.result c.if-not-both.false in
     let there = (simp to_z-of_z at c.has-in-loop-row.ensures).0 parts.1 in
@@ -31,13 +28,11 @@ overflow_add-answers-in-loop-row-2 c =
 
 pub loop-row-preserved : goal.loop-row-preserved
 loop-row-preserved c =
-    let at = c.loop-row in
-    let q = c.args.question in
+    let at = c.loop-row in let q = c.args.question in
     let x : FitsSigned w64 (get_or c.args.times.now at.row (pos 0)) = search rules in
     let y : FitsSigned w64 (get_or c.args.times.now (at.row + 1) (pos 0)) = search rules in
     let low_one : FitsSigned w64 c.kept_for-one.result.low = search rules in
-    let high_one : FitsSigned w64 c.kept_for-one.result.high = search rules in
-    let one : FitsSigned w64 c.kept_for-one.result.add = search rules in
+    let high_one : FitsSigned w64 c.kept_for-one.result.high = search rules in let one : FitsSigned w64 c.kept_for-one.result.add = search rules in
     let low_other : FitsSigned w64 c.kept_for-other.result.low = search rules in
     let high_other : FitsSigned w64 c.kept_for-other.result.high = search rules in
     let other : FitsSigned w64 c.kept_for-other.result.add = search rules in
@@ -46,8 +41,7 @@ loop-row-preserved c =
     let there = (simp to_z-of_z at c.has-in-loop-row.ensures).0 parts.1 in
     let a = c.kept_for-one.ensures (get_or c.args.times.now at.row (pos 0)) here.0 here.1 in
     let b = c.kept_for-other.ensures (get_or c.args.times.now (at.row + 1) (pos 0)) there.0 there.1 in
-    let fits_a = a.0.0 in
-    let fits_b = b.0.0 in
+    let fits_a = a.0.0 in let fits_b = b.0.0 in
     let first = get_or c.args.times.now at.row (pos 0) +ℤ c.kept_for-one.result.add in
     let second = get_or c.args.times.now (at.row + 1) (pos 0) +ℤ c.kept_for-other.result.add in
     let long = length-set at.answers at.row first ∙ at.invariant.0 in

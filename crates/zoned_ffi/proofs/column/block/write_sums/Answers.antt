@@ -1,5 +1,4 @@
-use Rattle.zoned_ffi.proofs.Words.{FitsSigned, arith, get_or, inr, length-set, pos, rules, to_z-of_z, w64, IsWritten, ◌+ℤ◌, ◌∙◌}
-use Rattle.zoned_ffi.proofs.Slices.{zip_more}
+use Rattle.zoned_ffi.proofs.{Words.{FitsSigned, arith, get_or, inr, length-set, pos, rules, to_z-of_z, w64, IsWritten, ◌+ℤ◌, ◌∙◌}, Slices.{zip_more}}
 use Rattle.zoned_ffi.proofs.column.block.write_sums.Goals as goal
 
 pub loop-row-preserved : goal.loop-row-preserved

@@ -1,7 +1,6 @@
 use Rattle.naive_base.specs.Clock.{clock_second}
 use Rattle.zoned_ffi.proofs.Words.{FitsSigned, IsInRange, arith, ints, pos, refl, rules, subst, sym, to_z-of_z, w32, w64, ◌*ℤ◌, ◌+ℤ◌, ◌≡◌}
-use Rattle.zoned_ffi.proofs.FieldLaws.{local_is}
-use Rattle.zoned_ffi.specs.Fields.{IsNoLocalOf, local_of_fields}
+use Rattle.zoned_ffi.{proofs.FieldLaws.{local_is}, specs.Fields.{IsNoLocalOf, local_of_fields}}
 use Rattle.zoned_ffi.proofs.fields.Fields.local.Goals as goal
 
 pub returns-then-not-are_date_time : goal.returns-then-not-are_date_time
@@ -11,11 +10,9 @@ returns-then-not-are_date_time c =
 pub returns-then-is_in_range : goal.returns-then-is_in_range
 returns-then-is_in_range c =
     let f = c.args.self.now in
-    let year : FitsSigned w32 f.year = search rules in
-    let day : FitsSigned w64 c.day_number.result = search rules in
+    let year : FitsSigned w32 f.year = search rules in let day : FitsSigned w64 c.day_number.result = search rules in
     let time : FitsSigned w64 c.from.result = search rules in
-    let date_time = c.are_date_time.ensures.0 c.if-not-are_date_time.false in
-    let hands = date_time.time in
+    let date_time = c.are_date_time.ensures.0 c.if-not-are_date_time.false in let hands = date_time.time in
     let from_is : c.from.result ≡ pos (clock_second f.hour f.minute f.second) = search rules in
     let bound = c.day_number.ensures.bound in
     let days : FitsSigned w64 (c.day_number.result *ℤ pos 86_400) = omega (arith, ints, bound.0, bound.1) in
@@ -26,11 +23,9 @@ returns-then-is_in_range c =
 pub returns-else-is_in_range : goal.returns-else-is_in_range
 returns-else-is_in_range c =
     let f = c.args.self.now in
-    let year : FitsSigned w32 f.year = search rules in
-    let day : FitsSigned w64 c.day_number.result = search rules in
+    let year : FitsSigned w32 f.year = search rules in let day : FitsSigned w64 c.day_number.result = search rules in
     let time : FitsSigned w64 c.from.result = search rules in
-    let date_time = c.are_date_time.ensures.0 c.if-not-are_date_time.false in
-    let hands = date_time.time in
+    let date_time = c.are_date_time.ensures.0 c.if-not-are_date_time.false in let hands = date_time.time in
     let from_is : c.from.result ≡ pos (clock_second f.hour f.minute f.second) = search rules in
     let bound = c.day_number.ensures.bound in
     let days : FitsSigned w64 (c.day_number.result *ℤ pos 86_400) = omega (arith, ints, bound.0, bound.1) in

@@ -1,15 +1,12 @@
 use Rattle.zoned_ffi.proofs.Words.{FitsSigned, IsNoneTaken, IsResolvedAt, IsResolvedStamp, IsTakenAs, IsWrittenOffsetAt, ap, rules, subst, to_z-of_z, w32, w64}
-use Rattle.zoned_ffi.proofs.Words.{◌-ℤ◌, ◌∙◌, ◌≡◌}
-use Rattle.zoned_ffi.specs.declared.resolved.Taken.TheVariants.{BeforeGap, GapEnd, InForce}
-use Rattle.zoned_ffi.proofs.Resolving.{ended_by, resolved_by}
+use Rattle.zoned_ffi.{proofs.{Words.{◌-ℤ◌, ◌∙◌, ◌≡◌}, Resolving.{ended_by}}, specs.declared.resolved.Taken.TheVariants.{BeforeGap, GapEnd, InForce}}
+use Rattle.zoned_ffi.proofs.Resolving.{resolved_by}
 use Rattle.zoned_ffi.proofs.resolved.Resolved.at.Goals as goal
 
 pub returns-in-Ok-InForce : goal.returns-in-Ok-InForce
 returns-in-Ok-InForce c =
-    let zone = c.args.zone.now in
-    let offset = c.in-Ok-InForce.offset in
-    let local : FitsSigned w64 c.args.local = c.ranges.local in
-    let fits : FitsSigned w32 offset = search rules in
+    let zone = c.args.zone.now in let offset = c.in-Ok-InForce.offset in
+    let local : FitsSigned w64 c.args.local = c.ranges.local in let fits : FitsSigned w32 offset = search rules in
     let instant : FitsSigned w64 c.instant_by.result = search rules in
     let stamp = simp to_z-of_z at c.in-Some.ensures in
     let second = ap (λ r. r.s) stamp.1 in
@@ -22,12 +19,9 @@ returns-in-Ok-InForce c =
 
 pub returns-in-Ok-BeforeGap : goal.returns-in-Ok-BeforeGap
 returns-in-Ok-BeforeGap c =
-    let zone = c.args.zone.now in
-    let offset = c.offset_at.result in
-    let local : FitsSigned w64 c.args.local = c.ranges.local in
-    let taken_offset : FitsSigned w32 c.in-Ok-BeforeGap.offset = search rules in
-    let fits : FitsSigned w32 offset = search rules in
-    let instant : FitsSigned w64 c.instant_by-instant.result = search rules in
+    let zone = c.args.zone.now in let offset = c.offset_at.result in
+    let local : FitsSigned w64 c.args.local = c.ranges.local in let taken_offset : FitsSigned w32 c.in-Ok-BeforeGap.offset = search rules in
+    let fits : FitsSigned w32 offset = search rules in let instant : FitsSigned w64 c.instant_by-instant.result = search rules in
     let stamp = simp to_z-of_z at c.in-Some.ensures in
     let second = ap (λ r. r.s) stamp.1 in
     let taken = subst (λ l. IsTakenAs zone l c.args.choice (BeforeGap c.in-Ok-BeforeGap.offset)) second (subst (IsTakenAs zone c.in-Some.reading.secs c.args.choice) c.in-Ok-BeforeGap.field-0-is c.in-Ok-BeforeGap.ensures) in
@@ -40,11 +34,8 @@ returns-in-Ok-BeforeGap c =
 
 pub returns-in-Ok-GapEnd : goal.returns-in-Ok-GapEnd
 returns-in-Ok-GapEnd c =
-    let zone = c.args.zone.now in
-    let at = c.in-Ok-GapEnd.at in
-    let offset = c.in-Ok-GapEnd.offset in
-    let local : FitsSigned w64 c.args.local = c.ranges.local in
-    let second : FitsSigned w64 at = search rules in
+    let zone = c.args.zone.now in let at = c.in-Ok-GapEnd.at in let offset = c.in-Ok-GapEnd.offset in
+    let local : FitsSigned w64 c.args.local = c.ranges.local in let second : FitsSigned w64 at = search rules in
     let fits : FitsSigned w32 offset = search rules in
     let stamp = simp to_z-of_z at c.in-Some.ensures in
     let taken = subst (λ l. IsTakenAs zone l c.args.choice (GapEnd at offset)) (ap (λ r. r.s) stamp.1) (subst (IsTakenAs zone c.in-Some.reading.secs c.args.choice) c.in-Ok-GapEnd.field-0-is c.in-Ok-GapEnd.ensures) in

@@ -1,11 +1,9 @@
-use Rattle.zoneq_lib.proofs.CitedWords.{IfErr, List, StopsAt, ap, arith, subst, sym, without_return, ℕ, ◌++◌, ◌∙◌, ◌≡◌}
-use Rattle.zoneq_lib.proofs.Stopping.{no_items, same_reply}
+use Rattle.zoneq_lib.proofs.{CitedWords.{IfErr, List, StopsAt, ap, arith, subst, sym, without_return, ℕ, ◌++◌, ◌∙◌, ◌≡◌}, Stopping.{no_items, same_reply}}
 use Rattle.zoneq_lib.proofs.dialogue.Dialogue.end_line.Goals as goal
 
 pub returns-then-is_empty : goal.returns-then-is_empty
 returns-then-is_empty g c =
-    let w = g.W.Write.contents in
-    let begun = c.args.self.now.begun in
+    let w = g.W.Write.contents in let begun = c.args.self.now.begun in
     let none = no_items c.is_empty.result _ begun.items c.is_empty.ensures c.if-is_empty.true begun.ok.0 in
     let whole = c.without_return-line.ensures ∙ ap (λ (b : List ℕ). without_return (b ++ c.args.piece.now)) (sym none) in
     record {

@@ -1,5 +1,4 @@
-use Rattle.zoneq_lib.proofs.CitedWords.{query_line, query_of, []}
-use Rattle.zoneq_lib.proofs.ScanLaws.{not_scanned, scanned}
+use Rattle.zoneq_lib.proofs.{CitedWords.{query_line, query_of, []}, ScanLaws.{not_scanned, scanned}}
 use Rattle.zoneq_lib.proofs.question.Question.parse.Goals as goal
 
 pub returns-in-Ok : goal.returns-in-Ok

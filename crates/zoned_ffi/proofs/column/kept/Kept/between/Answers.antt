@@ -1,52 +1,18 @@
-use Rattle.zoned_ffi.proofs.Words.{FitsSigned, arith, ints, refl, rules, to_z-of_z, w128, w64, ◌-ℤ◌}
-use Rattle.zoned_ffi.proofs.Columns.{greatest, least, lie_within}
+use Rattle.zoned_ffi.proofs.{Words.{FitsSigned, arith, ints, refl, rules, to_z-of_z, w128, w64, ◌-ℤ◌}, Columns.{greatest, least, lie_within}}
 use Rattle.zoned_ffi.proofs.column.kept.Kept.between.Goals as goal
-
-pub overflow_cast-result : goal.overflow_cast-result
-overflow_cast-result c =
-    let add : FitsSigned w64 c.args.add = c.ranges.add in
-    let first : FitsSigned w128 c.greater-first.result = search rules in
-    let last : FitsSigned w128 c.lesser-last.result = search rules in
-    let low : FitsSigned w128 c.greater-low.result = search rules in
-    let high : FitsSigned w128 c.lesser-high.result = search rules in
-    let a = simp to_z-of_z at c.greater-first.ensures in
-    let b = simp to_z-of_z at c.greater-low.ensures in
-    let d = simp to_z-of_z at c.lesser-last.ensures in
-    let e = simp to_z-of_z at c.lesser-high.ensures in
-    let less = simp to_z-of_z at c.if-high-low.false in
-    simp to_z-of_z (omega (arith, ints, a.0, b.1, d.0, e.1, less))
-
-pub overflow_cast-result-2 : goal.overflow_cast-result-2
-overflow_cast-result-2 c =
-    let add : FitsSigned w64 c.args.add = c.ranges.add in
-    let first : FitsSigned w128 c.greater-first.result = search rules in
-    let last : FitsSigned w128 c.lesser-last.result = search rules in
-    let low : FitsSigned w128 c.greater-low.result = search rules in
-    let high : FitsSigned w128 c.lesser-high.result = search rules in
-    let a = simp to_z-of_z at c.greater-first.ensures in
-    let b = simp to_z-of_z at c.greater-low.ensures in
-    let d = simp to_z-of_z at c.lesser-last.ensures in
-    let e = simp to_z-of_z at c.lesser-high.ensures in
-    let less = simp to_z-of_z at c.if-high-low.false in
-    simp to_z-of_z (omega (arith, ints, a.0, b.1, d.0, e.1, less))
 
 pub returns : goal.returns
 returns c =
-    let add : FitsSigned w64 c.args.add = c.ranges.add in
-    let from : FitsSigned w128 c.args.from = c.ranges.from in
-    let until : FitsSigned w128 c.args.until = c.ranges.until in
-    let first : FitsSigned w128 c.greater-first.result = search rules in
-    let last : FitsSigned w128 c.lesser-last.result = search rules in
-    let low : FitsSigned w128 c.greater-low.result = search rules in
+    let add : FitsSigned w64 c.args.add = c.ranges.add in let from : FitsSigned w128 c.args.from = c.ranges.from in
+    let until : FitsSigned w128 c.args.until = c.ranges.until in let first : FitsSigned w128 c.greater-first.result = search rules in
+    let last : FitsSigned w128 c.lesser-last.result = search rules in let low : FitsSigned w128 c.greater-low.result = search rules in
     let high : FitsSigned w128 c.lesser-high.result = search rules in
     let bound = c.requires in
     let wide : FitsSigned w128 c.args.add = omega (arith, ints, bound.0, bound.1) in
     let below : FitsSigned w128 (least -ℤ c.args.add) = omega (arith, ints, bound.0, bound.1) in
     let above : FitsSigned w128 (greatest -ℤ c.args.add) = omega (arith, ints, bound.0, bound.1) in
-    let a = simp to_z-of_z at c.greater-first.ensures in
-    let b = simp to_z-of_z at c.greater-low.ensures in
-    let d = simp to_z-of_z at c.lesser-last.ensures in
-    let e = simp to_z-of_z at c.lesser-high.ensures in
+    let a = simp to_z-of_z at c.greater-first.ensures in let b = simp to_z-of_z at c.greater-low.ensures in
+    let d = simp to_z-of_z at c.lesser-last.ensures in let e = simp to_z-of_z at c.lesser-high.ensures in
     let less = simp to_z-of_z at c.if-high-low.false in
     let fits_low : FitsSigned w64 c.greater-low.result = omega (arith, ints, a.0, b.1, d.0, e.1, less) in
     let fits_high : FitsSigned w64 c.lesser-high.result = omega (arith, ints, a.0, b.1, d.0, e.1, less) in
