@@ -2,8 +2,7 @@
 use Rattle.tz_info.proofs.Words.{Alternate, AlternateAt, Bool, Change, HasTwoChanges, IsAhead, IsChange, IsIdleTo, IsMomentAhead, IsSeason, IsSecondOfNearest}
 use Rattle.tz_info.proofs.Words.{Option, Season, Some, arith, false, inl, inr, ints, is_dst_by_one, not, pos, refl, sym, true, type_when, ℤ, ◌-ℤ◌, ◌≡◌, ◌≢◌}
 use Rattle.tz_info.proofs.Words.{◌⊎◌}
-use Rattle.tz_info.proofs.ChangeSearch.{InForce}
-use Rattle.tz_info.proofs.SeasonChanges.{found_at, nearest_on}
+use Rattle.tz_info.proofs.{ChangeSearch.{InForce}, SeasonChanges.{found_at, nearest_on}}
 
 -- at a moment standard time gives way to daylight saving time, or this to standard time
 turned : (start end m : ℤ) → start ≢ end → (m ≡ start) ⊎ (m ≡ end) → is_dst_by_one start end (m -ℤ pos 1) ≡ not (is_dst_by_one start end m)

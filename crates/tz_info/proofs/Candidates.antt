@@ -4,8 +4,7 @@ use Rattle.tz_info.proofs.Words.{Alternate as AlternateRule, AlternateAt, Bool, 
 use Rattle.tz_info.proofs.Words.{Shows, Some, TransitionRule, TypeFrom, ap, arith, false, inl, inr, ints, joined, refl, rule_offsets, subst, sym, true}
 use Rattle.tz_info.proofs.Words.{type_when, w64, ℤ, ◌+ℤ◌, ◌-ℤ◌, ◌<ℤ◌, ◌≡◌, ◌≤ℤ◌, ◌⊎◌}
 use Rattle.tz_info.specs.declared.rule.transition_rule.TransitionRule.TheVariants.{Alternate, Fixed}
-use Rattle.tz_info.proofs.AnswerLaws.{behind_answer, same_answer}
-use Rattle.tz_info.proofs.RuleLaws.{rule_once}
+use Rattle.tz_info.proofs.{AnswerLaws.{behind_answer, same_answer}, RuleLaws.{rule_once}}
 
 -- q takes what p takes, and besides at most the second c, where that shows the local time; and then c is behind the others
 pub record Gains (at p q : ℤ → LocalType → Type 0) (local c : ℤ) : Type 0 where

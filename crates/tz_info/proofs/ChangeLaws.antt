@@ -1,8 +1,7 @@
 -- At a second there is one change, and so one next change, one previous change and one list of them.
 use Rattle.tz_info.proofs.Words.{AllPairs, AreChanges, Bool, Change, Contains, IsTypeBeforeGap, IsChange, IsFirst, IsNearest, List, LocalType, None, Option}
-use Rattle.tz_info.proofs.Words.{Precedes, Some, TypeAt}
-use Rattle.tz_info.proofs.Words.{Zone, ap, arith, by_lt_z, false, inl, inr, ints, pos, refl, subst, suc, sym, true, zero, ℤ, [], ◌-ℤ◌, ◌<ℤ◌, ◌∷◌, ◌≡◌, ◌≤ℤ◌}
-use Rattle.tz_info.proofs.Words.{◌⊎◌}
+use Rattle.tz_info.proofs.Words.{Precedes, Some, TypeAt, Zone, ap, arith, by_lt_z, false, inl, inr, ints, pos, refl, subst, suc, sym, true, zero, ℤ, [], ◌-ℤ◌}
+use Rattle.tz_info.proofs.Words.{◌<ℤ◌, ◌∷◌, ◌≡◌, ◌≤ℤ◌, ◌⊎◌}
 use Rattle.tz_info.proofs.ZoneLaws.{type_once}
 
 same_parts : (c d : Change) → c.at ≡ d.at → c.before ≡ d.before → c.after ≡ d.after → c ≡ d

@@ -6,8 +6,7 @@ use Rattle.tz_info.proofs.Words.{offsets, offsets_of, refl, rule_offsets, slice_
 use Rattle.tz_info.proofs.Words.{◌⊎◌, take, take-suc, add-one}
 use Rattle.tz_info.specs.declared.rule.transition_rule.TransitionRule.TheVariants.{Alternate, Fixed}
 use Rattle.std.proofs.lemmas.List.{map-append}
-use Rattle.tz_info.proofs.Candidates.{one_of_two}
-use Rattle.tz_info.proofs.ZoneLaws.{type_listed}
+use Rattle.tz_info.proofs.{Candidates.{one_of_two}, ZoneLaws.{type_listed}}
 
 pushed : (xs : List ℤ) (x y o : ℤ) → Contains xs x → (y ≡ x) ⊎ (y ≡ o) → Contains (xs ++ o ∷ []) y
 pushed xs x y o c (inl e) = rw e (Contains-append_left xs (o ∷ []) x c)

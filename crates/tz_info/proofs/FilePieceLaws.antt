@@ -1,8 +1,7 @@
 -- The law of the pieces of a file.
 use Rattle.tz_info.proofs.Words.{Bool, Decided, FilePieces, HasLengths, HasPieces, List, Option, Parts, PieceFault, Spells, Version, after_first_block, block}
 use Rattle.tz_info.proofs.Words.{file, first_version, inl, inr, later_version, lawful, made, pieces_at, refl, said, subst, sym, ℕ, [], ◌∙◌, ◌≡◌, ◌⊎◌}
-use Rattle.tz_info.specs.declared.file.header.Counts.{Counts}
-use Rattle.tz_info.specs.declared.file.header.Version.TheVariants.{One, Three, Two}
+use Rattle.tz_info.specs.{declared.file.header.Counts.{Counts}, declared.file.header.Version.TheVariants.{One, Three, Two}}
 
 -- nothing stands after a file
 after_ends : (v : Version) (c : Counts) (b : Parts) (bytes : List ℕ) (p : FilePieces) (rest : List ℕ) → Spells (after_first_block v c b) bytes p rest → rest ≡ []

@@ -7,10 +7,8 @@ use Rattle.tz_info.proofs.Words.{Result, SaysRule, Some, TransitionRule, Zero, a
 use Rattle.tz_info.proofs.Words.{inr, is_between_newlines, is_no_text, is_utf8-from_IsUtf8, is_zero, like, list_any, made, nat_eq, nat_tests, read, refl}
 use Rattle.tz_info.proofs.Words.{refused, rule_in, rule_or_none, said, slice_index, starts_with, subst, sym, text as tz_text, trimmed, ℕ, [], ◌==◌, ◌∷◌, ◌≡◌}
 use Rattle.tz_info.proofs.Words.{◌≢◌, ◌⊎◌}
-use Rattle.std.proofs.lemmas.Bool.{and_from, or_parts, true_from_ne_false}
-use Rattle.std.proofs.lemmas.Slice.Eq.{ends_is, starts_is}
-use Rattle.tz_info.proofs.TextLaws.{text_law}
-use Rattle.tz_info.proofs.TrimLaws.{trim_again, trim_is}
+use Rattle.std.proofs.{lemmas.Bool.{and_from, or_parts, true_from_ne_false}, lemmas.Slice.Eq.{ends_is, starts_is}}
+use Rattle.tz_info.proofs.{TextLaws.{text_law}, TrimLaws.{trim_again, trim_is}}
 
 -- ---- newlines
 between : (bytes : List ℕ) → Decides (is_between_newlines bytes) (IsBetweenNewlines bytes)

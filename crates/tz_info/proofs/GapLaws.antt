@@ -4,12 +4,8 @@ use Rattle.tz_info.proofs.Words.{IsTypeBefore, IsTypeRefused, IsValid, IsWindowO
 use Rattle.tz_info.proofs.Words.{TransitionRule, TypeAt, Zone, arith, by_leap_time, by_lt_z, by_rule, floor_div, index_of, inl, inr, ints, length, lies_in, pos}
 use Rattle.tz_info.proofs.Words.{segment_of, slice_get, subst, sym, table_count, year_of, ℕ, ℤ, ◌+ℤ◌, ◌-ℤ◌, ◌<ℤ◌, ◌<◌, ◌∙◌, ◌≡◌, ◌≤ℤ◌, ◌⊎◌}
 use Rattle.tz_info.specs.declared.rule.transition_rule.TransitionRule.TheVariants.{Alternate, Fixed}
-use Rattle.tz_info.proofs.ExtremeLaws.{at_least_least, at_most_greatest}
-use Rattle.tz_info.proofs.LeapOrder.{leap_times_answer}
-use Rattle.tz_info.proofs.RuleLaws.{rule_year}
-use Rattle.tz_info.proofs.SegmentLaws.{type_before, type_from}
-use Rattle.tz_info.proofs.WallSegments.{begun, listed_once, not_begun, type_here}
-use Rattle.tz_info.proofs.ZoneLaws.{some_once, type_decided}
+use Rattle.tz_info.proofs.{ExtremeLaws.{at_least_least, at_most_greatest}, LeapOrder.{leap_times_answer}, RuleLaws.{rule_year}}
+use Rattle.tz_info.proofs.{SegmentLaws.{type_before, type_from}, WallSegments.{begun, listed_once, not_begun, type_here}, ZoneLaws.{some_once, type_decided}}
 
 abbrev pub IsNever : Zone → ℤ → Type 0
 IsNever z l = IsNeverShown (Shows (TypeAt z) l)

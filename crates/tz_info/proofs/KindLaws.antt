@@ -5,9 +5,7 @@ use Rattle.tz_info.proofs.Words.{is_calm, is_calm_kind, is_inside, is_leap, kind
 use Rattle.tz_info.proofs.Words.{pos, refl, rule_day, second_in, seconds_by_kind, start_in, suc, sym, true, weekday_below, weekday_later, weekday_of}
 use Rattle.tz_info.proofs.Words.{weekday_place, year_start, zero, ℕ, ℤ, ◌%◌, ◌&&◌, ◌*ℤ◌, ◌+ℤ◌, ◌+◌, ◌-ℤ◌, ◌-◌, ◌<ℤ◌, ◌<◌, ◌∙◌, ◌≡◌, ◌≤ℤ◌, ◌⊎◌}
 use Rattle.tz_info.specs.declared.rule.day.DayForm.TheVariants.{Julian0, Julian1, MonthWeekday}
-use Rattle.tz_info.proofs.ListLaws.{one_true}
-use Rattle.tz_info.proofs.Neighbours.{IsNear, KeepsMargin, ends_near, near_margin, starts_near}
-use Rattle.tz_info.proofs.RuleDays.{rule_day_closed}
+use Rattle.tz_info.proofs.{ListLaws.{one_true}, Neighbours.{IsNear, KeepsMargin, ends_near, near_margin, starts_near}, RuleDays.{rule_day_closed}}
 
 first_of_month : (year : ℤ) (month : ℕ) → day_number year month 1 ≡ year_start year +ℤ pos (days_of_months (is_leap year) (month - 1))
 unfolding day_number

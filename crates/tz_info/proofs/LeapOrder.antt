@@ -4,8 +4,7 @@ use Rattle.tz_info.proofs.Words.{AreCounted, AreLeapSeconds, IsLeapTime, IsLeapT
 use Rattle.tz_info.proofs.Words.{correction_at, correction_before, corrections, count_by, count_by-le-length, filter, filter_first, get_or, inl, inr, int_le}
 use Rattle.tz_info.proofs.Words.{int_lt, ints, last_else, le_false, le_true, length, lt_false, lt_true, mapped_at, neg_ℤ, passed_count, pos, refl, suc}
 use Rattle.tz_info.proofs.Words.{sum_by-cons, sym, take, thresholds, zero, ℕ, ℤ, [], ◌*◌, ◌+ℤ◌, ◌-ℤ◌, ◌<ℤ◌, ◌<◌, ◌∙◌, ◌∷◌, ◌≡◌, ◌≤ℤ◌, ◌≤◌}
-use Rattle.tz_info.proofs.LeapEntries.{Follow, follow, follow_tail, threshold_apart, threshold_at, threshold_count}
-use Rattle.tz_info.proofs.Prefixes.{last_taken}
+use Rattle.tz_info.proofs.{LeapEntries.{Follow, follow, follow_tail, threshold_apart, threshold_at, threshold_count}, Prefixes.{last_taken}}
 
 -- how many entries behind one of correction p are passed at u
 abbrev pub counted_from : ℤ → List LeapSecond → ℤ → ℕ

@@ -1,10 +1,8 @@
 -- The passed entries, by halves.
 use Rattle.std.specs.List.Sorted.{IsPartitionedBy}
 use Rattle.tz_info.proofs.Words.{AreLeapSeconds, IsLeapTime, LeapSecond, List, arith, by_lt_z, cases_lt, false, get_or, inl, inr, int_le, int_lt, ints, le_is}
-use Rattle.tz_info.proofs.Words.{le_true, length, lt_true}
-use Rattle.tz_info.proofs.Words.{nat_tests, passed_count, pos, true, ℕ, ℤ, ◌+ℤ◌, ◌<ℤ◌, ◌<◌, ◌↔◌, ◌==◌, ◌≡◌, ◌≤ℤ◌, ◌≤◌}
-use Rattle.tz_info.proofs.LeapEntries.{follow, threshold_at}
-use Rattle.tz_info.proofs.LeapOrder.{bounded, none_counted, split}
+use Rattle.tz_info.proofs.Words.{le_true, length, lt_true, nat_tests, passed_count, pos, true, ℕ, ℤ, ◌+ℤ◌, ◌<ℤ◌, ◌<◌, ◌↔◌, ◌==◌, ◌≡◌, ◌≤ℤ◌, ◌≤◌}
+use Rattle.tz_info.proofs.{LeapEntries.{follow, threshold_at}, LeapOrder.{bounded, none_counted, split}}
 use Rattle.tz_info.proofs.LeapStarts.{correction_behind, passed_at_most, times_rise}
 
 -- before 1970 the leap time is the Unix time

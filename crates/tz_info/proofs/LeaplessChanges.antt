@@ -3,11 +3,8 @@ use Rattle.tz_info.proofs.Words.{Change, ComesAt, HasNoneAt, HasType, IsChange, 
 use Rattle.tz_info.proofs.Words.{Option, SFits, Some, Transition, TypeAt, Zone, ap, arith, begin_of, cases_lt, get_or, get_or_default, index_of, inl, inr, ints}
 use Rattle.tz_info.proofs.Words.{last_transition, least_time, length, pos, slice_get-get_or, suc, sym, w64, zero, ℕ, ℤ, [], ◌+◌, ◌-ℤ◌, ◌-◌, ◌<ℤ◌, ◌<◌, ◌∙◌, ◌∷◌}
 use Rattle.tz_info.proofs.Words.{◌≡◌, ◌≢◌}
-use Rattle.tz_info.proofs.ChangeSearch.{change_made, none_first}
-use Rattle.tz_info.proofs.LastType.{last_type}
+use Rattle.tz_info.proofs.{ChangeSearch.{change_made, none_first}, LastType.{last_type}, ZoneChanges.{comes_at, none_there, with_start}, ZoneLaws.{type_once}}
 use Rattle.tz_info.proofs.SegmentLaws.{IsWithin, begin_first, begin_next, between_of, index_next, type_in_before}
-use Rattle.tz_info.proofs.ZoneChanges.{comes_at, none_there, with_start}
-use Rattle.tz_info.proofs.ZoneLaws.{type_once}
 
 -- ---- without leap seconds the leap time of a second is that second
 pub own_leap_time : (es : List LeapSecond) (u : ℤ) → length es ≡ 0 → IsLeapTime es u u

@@ -1,8 +1,7 @@
 -- The type in force between two transitions of a zone without leap seconds.
-use Rattle.tz_info.proofs.Words.{HasType, IsValid, LocalType, Transition, TypeAt, Zone, arith, begin_of, get_or, index_of, ints, length}
-use Rattle.tz_info.proofs.Words.{ℕ, ℤ, ◌<ℤ◌, ◌<◌, ◌≡◌, ◌≤ℤ◌}
-use Rattle.tz_info.proofs.LeaplessChanges.{own_leap_time}
-use Rattle.tz_info.proofs.SegmentLaws.{between_of, type_in_before}
+use Rattle.tz_info.proofs.Words.{HasType, IsValid, LocalType, Transition, TypeAt, Zone, arith, begin_of, get_or, index_of, ints, length, ℕ, ℤ, ◌<ℤ◌, ◌<◌, ◌≡◌}
+use Rattle.tz_info.proofs.Words.{◌≤ℤ◌}
+use Rattle.tz_info.proofs.{LeaplessChanges.{own_leap_time}, SegmentLaws.{between_of, type_in_before}}
 
 -- at each second from the first on, and before the end, a type of that offset is in force
 abbrev pub HasOneOffset : Zone → ℤ → ℤ → ℤ → Type 0

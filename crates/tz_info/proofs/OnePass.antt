@@ -6,8 +6,7 @@ use Rattle.tz_info.proofs.Words.{by_lt_z, get_or, get_or_default, index_of, inl,
 use Rattle.tz_info.proofs.Words.{saturate_signed, suc, sym, table_count, table_count_by, together, w64, zero, ℕ, ℤ, [], ⊎_elim, ◌++◌, ◌+ℤ◌, ◌-◌, ◌<ℤ◌, ◌<◌, ◌∙◌}
 use Rattle.tz_info.proofs.Words.{◌∷◌, ◌≡◌, ◌≤ℤ◌, ◌≤◌, ◌⊎◌}
 use Rattle.tz_info.specs.declared.zone.shown.Shown.TheVariants.{Less, Once, Skipped}
-use Rattle.tz_info.proofs.LeapStarts.{reached_first}
-use Rattle.tz_info.proofs.SegmentLaws.{not_later}
+use Rattle.tz_info.proofs.{LeapStarts.{reached_first}, SegmentLaws.{not_later}}
 use Rattle.tz_info.proofs.WallPieces.{Answer, StartBy, at_all, at_earlier, at_later, before_pushed, start_by_push}
 use Rattle.tz_info.proofs.WallSegments.{cut_from, cuts_rise, first_pieces, inner_pieces, last_pieces, listed_once, own_segment, piece, pieces_joined}
 use Rattle.tz_info.proofs.WallSegments.{start_found, type_own}

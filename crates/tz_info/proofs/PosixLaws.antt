@@ -3,8 +3,7 @@ use Rattle.tz_info.proofs.Words.{Bool, Decided, Err, Error, IfErr, IfOk, IsPosix
 use Rattle.tz_info.proofs.Words.{Result, TransitionRule, Zone, apart, arith, done, false, fault_low, fault_once, inl, inr, length, like, made, nil_from_length}
 use Rattle.tz_info.proofs.Words.{nat_tests, error_number, plain_zone, pos, posix_zone, refl, rule_in, sym, trimmed, true, value_once, ℕ, [], ◌==◌, ◌>>=◌, ◌∙◌}
 use Rattle.tz_info.proofs.Words.{◌∷◌, ◌≡◌, ◌≢◌, ◌≤◌}
-use Rattle.tz_info.proofs.FooterLaws.{spelled_law}
-use Rattle.tz_info.proofs.TrimLaws.{trim_again, trim_is, trims_both}
+use Rattle.tz_info.proofs.{FooterLaws.{spelled_law}, TrimLaws.{trim_again, trim_is, trims_both}}
 
 zone_in : List ℕ → Result Zone Error
 zone_in [] = Ok (plain_zone (pos 0))

@@ -4,10 +4,8 @@ use Rattle.tz_info.proofs.Words.{IsAskedAtLeapTime, IsAskedFor, IsAskedFrom, IsA
 use Rattle.tz_info.proofs.Words.{IsValid, IsWide, IsWindow, LocalType, None, Option, Some, Transition, TransitionRule, Zone, ap, arith, cases_lt, get_or, inl}
 use Rattle.tz_info.proofs.Words.{inr, ints, length, none-some, offsets, offsets_of, refl, rule_offsets, segment_of, subst, suc, sym, zero, ℕ, ℤ, [], ◌+◌, ◌-ℤ◌}
 use Rattle.tz_info.proofs.Words.{◌<ℤ◌, ◌<◌, ◌↔◌, ◌∙◌, ◌∷◌, ◌≡◌, ◌≢◌, ◌≤ℤ◌, ◌⊎◌}
-use Rattle.tz_info.specs.Questions.{IsByRule}
-use Rattle.tz_info.specs.declared.rule.transition_rule.TransitionRule.TheVariants.{Alternate, Fixed}
-use Rattle.tz_info.proofs.PassedTransitions.{no_items}
-use Rattle.tz_info.proofs.SegmentLaws.{come_at_time, segment_here, segment_most, segments_rise}
+use Rattle.tz_info.specs.{Questions.{IsByRule}, declared.rule.transition_rule.TransitionRule.TheVariants.{Alternate, Fixed}}
+use Rattle.tz_info.proofs.{PassedTransitions.{no_items}, SegmentLaws.{come_at_time, segment_here, segment_most, segments_rise}}
 use Rattle.tz_info.proofs.WallSegments.{leap_time_of, near_of, rule_begun}
 
 -- ---- from which second on the rule is asked

@@ -6,11 +6,8 @@ use Rattle.tz_info.proofs.Words.{floor_mod_parts, floors, get_or, inl, inr, ints
 use Rattle.tz_info.proofs.Words.{refl, second_in, start_in, starts_rise, suc, sym, true, weekday_of, year_at, year_start, zero, ℕ, ℤ, [], ◌*ℤ◌, ◌+ℤ◌, ◌+◌, ◌-ℤ◌}
 use Rattle.tz_info.proofs.Words.{◌<ℤ◌, ◌<◌, ◌∙◌, ◌∷◌, ◌≡◌, ◌≤ℤ◌, ◌⊎◌}
 use Rattle.tz_info.specs.declared.rule.transition_rule.TransitionRule.TheVariants.{Alternate as AlternateRule}
-use Rattle.tz_info.proofs.ChangeSearch.{nearest_moved}
-use Rattle.tz_info.proofs.KindLaws.{kind_found}
-use Rattle.tz_info.proofs.Neighbours.{second_high, second_low, year_after}
-use Rattle.tz_info.proofs.NextMoments.{outside, steady_until}
-use Rattle.tz_info.proofs.RuleLaws.{rule_once, rule_time}
+use Rattle.tz_info.proofs.{ChangeSearch.{nearest_moved}, KindLaws.{kind_found}, Neighbours.{second_high, second_low, year_after}}
+use Rattle.tz_info.proofs.{NextMoments.{outside, steady_until}, RuleLaws.{rule_once, rule_time}}
 
 -- ---- the calendar repeats every 400 years: k times as many years later, or earlier where k is below 0
 leap_again : (y k : ℤ) → is_leap (y +ℤ pos 400 *ℤ k) ≡ is_leap y

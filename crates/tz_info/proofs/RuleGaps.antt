@@ -5,10 +5,7 @@ use Rattle.tz_info.proofs.Words.{IsNeverFrom, IsRuleGap, IsSeason, IsSeasonFor, 
 use Rattle.tz_info.proofs.Words.{None, Option, Season, Some, TransitionRule, TypeAt, Zone, ap, arith, by_lt_z, false, ints, is_dst_by_one, length, not, pos}
 use Rattle.tz_info.proofs.Words.{refl, subst, sym, table_count, true, true≢false, type_when, ℤ, ◌+ℤ◌, ◌-ℤ◌, ◌<ℤ◌, ◌∙◌, ◌≡◌, ◌≤ℤ◌}
 use Rattle.tz_info.specs.declared.rule.transition_rule.TransitionRule.TheVariants.{Alternate}
-use Rattle.tz_info.proofs.GapLaws.{IsNever, gap_found}
-use Rattle.tz_info.proofs.RuleChanges.{rule_type_once}
-use Rattle.tz_info.proofs.WallSegments.{not_begun, rule_begun}
-use Rattle.tz_info.proofs.ZoneChanges.{from_rule, to_rule}
+use Rattle.tz_info.proofs.{GapLaws.{IsNever, gap_found}, RuleChanges.{rule_type_once}, WallSegments.{not_begun, rule_begun}, ZoneChanges.{from_rule, to_rule}}
 
 -- ---- the moment between two seconds
 -- at v it is daylight saving time as `dst` says and at the earlier second u not, and so up to the moment

@@ -2,8 +2,7 @@
 use Rattle.tz_info.proofs.Words.{Alternate, AlternateAt, Bool, DayTime, IsAlternateRule, IsBetween, IsDayOf, IsDstAt, IsInSomeYear, IsRuleDay, IsRuleYear}
 use Rattle.tz_info.proofs.Words.{IsYearOf, ap, arith, by_lt_z, end_in, false, floors, inl, inr, ints, moment, pos, refl, rule_day, start_in, true, type_when, ℤ}
 use Rattle.tz_info.proofs.Words.{◌*ℤ◌, ◌+ℤ◌, ◌-ℤ◌, ◌<ℤ◌, ◌≡◌, ◌≤ℤ◌}
-use Rattle.tz_info.proofs.Neighbours.{by_end, by_start}
-use Rattle.tz_info.proofs.RuleDays.{day_rises, one_rule_day, rule_day_is}
+use Rattle.tz_info.proofs.{Neighbours.{by_end, by_start}, RuleDays.{day_rises, one_rule_day, rule_day_is}}
 
 abbrev Rise : (ℤ → ℤ) → Type 0
 Rise f = (x y : ℤ) → x ≤ℤ y → f x ≤ℤ f y

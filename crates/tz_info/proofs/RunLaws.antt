@@ -1,9 +1,7 @@
 -- Runs: where no change comes the type stays.
-use Rattle.tz_info.proofs.Words.{Change, IsChange, IsFirstChange, IsNear, IsRuleOrNone, IsRunSince, IsRunUntil, IsValid, LocalType, TypeAt, Zone}
-use Rattle.tz_info.proofs.Words.{SFits, arith, by_lt_z, ints, pos, subst, sym, w64, ℤ, ◌-ℤ◌, ◌<ℤ◌, ◌∙◌, ◌≡◌, ◌≤ℤ◌}
-use Rattle.tz_info.proofs.GapLaws.{near_type}
-use Rattle.tz_info.proofs.SpanLaws.{no_change}
-use Rattle.tz_info.proofs.ZoneLaws.{type_once}
+use Rattle.tz_info.proofs.Words.{Change, IsChange, IsFirstChange, IsNear, IsRuleOrNone, IsRunSince, IsRunUntil, IsValid, LocalType, TypeAt, Zone, SFits, arith}
+use Rattle.tz_info.proofs.Words.{by_lt_z, ints, pos, subst, sym, w64, ℤ, ◌-ℤ◌, ◌<ℤ◌, ◌∙◌, ◌≡◌, ◌≤ℤ◌}
+use Rattle.tz_info.proofs.{GapLaws.{near_type}, SpanLaws.{no_change}, ZoneLaws.{type_once}}
 
 -- from `low` to `high`, where no change comes
 same_within : (z : Zone) (low high u v : ℤ) (t : LocalType) → IsValid z → IsRuleOrNone z.rule → IsNear low → IsNear high

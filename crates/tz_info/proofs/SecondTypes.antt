@@ -8,11 +8,8 @@ use Rattle.tz_info.proofs.Words.{is_dst_by_three, is_rule_year, is_second, lengt
 use Rattle.tz_info.proofs.Words.{rule_type, rule_type_or, slice_get, start_in, subst, suc, sym, true, type_at_leap_time, type_exact, type_or_none, type_when}
 use Rattle.tz_info.proofs.Words.{w64, year_of, zero, ℕ, ℤ, [], ◌+ℤ◌, ◌-ℤ◌, ◌<◌, ◌==◌, ◌∷◌, ◌≡◌, ◌≢◌, ◌⊎◌}
 use Rattle.tz_info.specs.declared.rule.transition_rule.TransitionRule.TheVariants.{Alternate, Fixed}
-use Rattle.tz_info.proofs.ChangeSearch.{InForce, IsOnce, change_made, none_before, none_here}
-use Rattle.tz_info.proofs.Neighbours.{dst_by_three, ends_near, starts_near}
-use Rattle.tz_info.proofs.PassedTransitions.{no_items}
-use Rattle.tz_info.proofs.RuleLaws.{rule_once}
-use Rattle.tz_info.proofs.ZoneLaws.{before_or_from_last, fits_or_not, type_decided, type_not_refused}
+use Rattle.tz_info.proofs.{ChangeSearch.{InForce, IsOnce, change_made, none_before, none_here}, Neighbours.{dst_by_three, ends_near, starts_near}}
+use Rattle.tz_info.proofs.{PassedTransitions.{no_items}, RuleLaws.{rule_once}, ZoneLaws.{before_or_from_last, fits_or_not, type_decided, type_not_refused}}
 
 -- ---- tests
 second_true : (u : ℤ) → SFits w64 u → is_second u ≡ true

@@ -3,10 +3,7 @@ use Rattle.tz_info.proofs.Words.{AreLeapSeconds, AreRising, HasType, IsBeforeLas
 use Rattle.tz_info.proofs.Words.{TypeAt, TypeIn, Zone, ap, arith, begin_of, by_lt_z, cases_lt, correction_at, get_or, index_of, inl, inr, ints, least_time}
 use Rattle.tz_info.proofs.Words.{length, length-take, passed, refl, segment_of, suc, sym, take, zero, ℕ, ℤ, [], ◌+ℤ◌, ◌+◌, ◌<ℤ◌, ◌<◌, ◌↔◌, ◌∙◌, ◌∷◌, ◌≡◌, ◌≤ℤ◌}
 use Rattle.tz_info.proofs.Words.{◌≤◌}
-use Rattle.tz_info.proofs.LeapOrder.{leap_sums_rise}
-use Rattle.tz_info.proofs.PassedTransitions.{no_items}
-use Rattle.tz_info.proofs.Prefixes.{last_taken}
-use Rattle.tz_info.proofs.TableSearch.{Between, search_found}
+use Rattle.tz_info.proofs.{LeapOrder.{leap_sums_rise}, PassedTransitions.{no_items}, Prefixes.{last_taken}, TableSearch.{Between, search_found}}
 
 -- no transition comes later than one that stands behind it
 pub not_later : (ts : List Transition) (i k : ℕ) (d : Transition) → AreRising ts → i ≤ k → k < length ts

@@ -4,9 +4,7 @@ use Rattle.tz_info.proofs.Words.{IsFirstWithin, IsGreatest, IsLeast, IsNeverWith
 use Rattle.tz_info.proofs.Words.{Option, SFits, ShownSeconds, Shows, ShowsAtOrAfter, ShowsWithin, Some, TypeAt, Zone, arith, by_lt_z, false, ints, offsets, pos}
 use Rattle.tz_info.proofs.Words.{refl, subst, true, unsigned_abs, w64, ℤ, ◌<◌, ◌+ℤ◌, ◌-ℤ◌, ◌<ℤ◌, ◌↔◌, ◌≡◌, ◌≤ℤ◌}
 use Rattle.std.specs.Prelude.{if◌then◌else◌}
-use Rattle.tz_info.proofs.ExtremeLaws.{at_least_least, at_most_greatest}
-use Rattle.tz_info.proofs.GapLaws.{near_type}
-use Rattle.tz_info.proofs.ZoneLaws.{type_once}
+use Rattle.tz_info.proofs.{ExtremeLaws.{at_least_least, at_most_greatest}, GapLaws.{near_type}, ZoneLaws.{type_once}}
 
 -- what shows a local time of the stretch lies in the window
 shown_from : (z : Zone) (from until low high u : ℤ) (t : LocalType) → IsWindowOf z from until low high → ShowsWithin (TypeAt z) from until u t → low ≤ℤ u

@@ -1,21 +1,14 @@
 -- Spans: at each second between two that have a type there is one, and from the last change to the next one it is the same.
-use Rattle.tz_info.proofs.Words.{Agrees, Alternate as AlternateRule, AreLeapSeconds, Change, HasNoChange, IfSome, IsAlternateRefused, IsChange}
-use Rattle.tz_info.proofs.Words.{IsEndOrTyped, IsFirst, IsFirstChange, IsFromLast, IsInSpan, IsLast, IsLastChange, IsLastSpan, IsLeapTime, IsRefusedBy}
-use Rattle.tz_info.proofs.Words.{IsRuleOrNone, IsRuleTime, IsSince, IsSpan, IsSpanAt, LastSpan}
-use Rattle.tz_info.proofs.Words.{IsTypeRefused, IsUnixTime, IsUntil, IsValid, LeapSecond, List, LocalType, None, Option, SFits, Some, Span, Transition}
-use Rattle.tz_info.proofs.Words.{TransitionRule, TypeAt, Zone, ap, arith, by_leap_time, by_lt_z, by_rule, cases_lt, correction_before, floor_div, inl, inr}
-use Rattle.tz_info.proofs.Words.{ints, last_transition, length, lies_in, neg_ℤ, option_map, passed_count, pos, refl, segment_of, slice_get, subst, suc, sym}
-use Rattle.tz_info.proofs.Words.{w64, year_of, zero, ℕ, ℤ, [], ◌-ℤ◌, ◌-◌, ◌<ℤ◌, ◌<◌, ◌∙◌, ◌∷◌, ◌≡◌, ◌≤ℤ◌, ◌⊎◌}
+use Rattle.tz_info.proofs.Words.{Agrees, Alternate as AlternateRule, AreLeapSeconds, Change, HasNoChange, IfSome, IsAlternateRefused, IsChange, IsEndOrTyped}
+use Rattle.tz_info.proofs.Words.{IsFirst, IsFirstChange, IsFromLast, IsInSpan, IsLast, IsLastChange, IsLastSpan, IsLeapTime, IsRefusedBy, IsRuleOrNone}
+use Rattle.tz_info.proofs.Words.{IsRuleTime, IsSince, IsSpan, IsSpanAt, LastSpan, IsTypeRefused, IsUnixTime, IsUntil, IsValid, LeapSecond, List, LocalType}
+use Rattle.tz_info.proofs.Words.{None, Option, SFits, Some, Span, Transition, TransitionRule, TypeAt, Zone, ap, arith, by_leap_time, by_lt_z, by_rule, cases_lt}
+use Rattle.tz_info.proofs.Words.{correction_before, floor_div, inl, inr, ints, last_transition, length, lies_in, neg_ℤ, option_map, passed_count, pos, refl}
+use Rattle.tz_info.proofs.Words.{segment_of, slice_get, subst, suc, sym, w64, year_of, zero, ℕ, ℤ, [], ◌-ℤ◌, ◌-◌, ◌<ℤ◌, ◌<◌, ◌∙◌, ◌∷◌, ◌≡◌, ◌≤ℤ◌, ◌⊎◌}
 use Rattle.tz_info.specs.declared.rule.transition_rule.TransitionRule.TheVariants.{Alternate, Fixed}
-use Rattle.tz_info.proofs.ChangeSearch.{InForce, Typed, stays}
-use Rattle.tz_info.proofs.LastType.{last_is}
-use Rattle.tz_info.proofs.LeapEntries.{before_found, follow}
-use Rattle.tz_info.proofs.LeapOrder.{none_counted}
-use Rattle.tz_info.proofs.RuleChanges.{rule_second}
-use Rattle.tz_info.proofs.RuleLaws.{rule_year}
-use Rattle.tz_info.proofs.SegmentLaws.{come_at_time, come_by_time, segment_most, segments_rise}
-use Rattle.tz_info.proofs.ZoneChanges.{refused_on, time_of, to_rule}
-use Rattle.tz_info.proofs.ZoneLaws.{type_decided, type_once}
+use Rattle.tz_info.proofs.{ChangeSearch.{InForce, Typed, stays}, LastType.{last_is}, LeapEntries.{before_found, follow}, LeapOrder.{none_counted}}
+use Rattle.tz_info.proofs.{RuleChanges.{rule_second}, RuleLaws.{rule_year}, SegmentLaws.{come_at_time, come_by_time, segment_most, segments_rise}}
+use Rattle.tz_info.proofs.{ZoneChanges.{refused_on, time_of, to_rule}, ZoneLaws.{type_decided, type_once}}
 
 -- ---- between two seconds that have a type each has one
 -- before 1970 no entry has come

@@ -1,14 +1,11 @@
 -- Spans by the changes on both sides of a second, from the place between transitions where it lies.
 use Rattle.tz_info.proofs.Words.{Alternate, AlternateAt, AreComeOrAll, Change, ComesAt, HasNoChange, IsAhead, IsBegin, IsChange, IsChangeByRule, IsInTable}
-use Rattle.tz_info.proofs.Words.{IsRuleOrNone, IsSecondOfNearest, IsSpanAt, IsValid, LocalType, None, Option, SFits, Some, TypeAt, Zone, arith, false, inl}
-use Rattle.tz_info.proofs.Words.{inr, ints, length, pos, segment_of, sym, true, w64, ℕ, ℤ, ◌+◌, ◌-ℤ◌, ◌<ℤ◌, ◌<◌, ◌∙◌, ◌≡◌, ◌≤ℤ◌}
+use Rattle.tz_info.proofs.Words.{IsRuleOrNone, IsSecondOfNearest, IsSpanAt, IsValid, LocalType, None, Option, SFits, Some, TypeAt, Zone, arith, false, inl, inr}
+use Rattle.tz_info.proofs.Words.{ints, length, pos, segment_of, sym, true, w64, ℕ, ℤ, ◌+◌, ◌-ℤ◌, ◌<ℤ◌, ◌<◌, ◌∙◌, ◌≡◌, ◌≤ℤ◌}
 use Rattle.tz_info.specs.declared.rule.transition_rule.TransitionRule.TheVariants.{Alternate as AlternateRule}
-use Rattle.tz_info.proofs.ChangeSearch.{nearest_moved}
-use Rattle.tz_info.proofs.RuleChanges.{rule_second}
-use Rattle.tz_info.proofs.SegmentLaws.{segments_rise}
-use Rattle.tz_info.proofs.SpanLaws.{span_between, span_of_changes}
-use Rattle.tz_info.proofs.ZoneChanges.{ahead_come, begins, from_rule, rule_first, rule_found, rule_is_last, table_first, table_is_last}
-use Rattle.tz_info.proofs.ZoneChanges.{table_last, yet_come, yet_found}
+use Rattle.tz_info.proofs.{ChangeSearch.{nearest_moved}, RuleChanges.{rule_second}, SegmentLaws.{segments_rise}, SpanLaws.{span_between, span_of_changes}}
+use Rattle.tz_info.proofs.ZoneChanges.{ahead_come, begins, from_rule, rule_first, rule_found, rule_is_last, table_first, table_is_last, table_last, yet_come}
+use Rattle.tz_info.proofs.ZoneChanges.{yet_found}
 
 -- ---- before the last transition
 no_rule_yet : (z : Zone) (u : ℤ) (k : ℕ) → IsValid z → k < length z.transitions → AreComeOrAll z u k → HasNoChange (TypeAt z) (IsChangeByRule z (λ v. v ≤ℤ u))

@@ -9,8 +9,7 @@ use Rattle.tz_info.proofs.Words.{is_name_or_none, is_zero, least_offset, length,
 use Rattle.tz_info.proofs.Words.{nat_lt, nat_tests, offset_in, place_in, pos, position_from, record_at, refl, refused, subst, suc, sym, take, take-append-drop}
 use Rattle.tz_info.proofs.Words.{take-append_seam, text_before_zero, true, type_in, type_of, type_of_record, values_below, with_next_type, ℕ, ℤ, [], ◌&&◌, ◌*◌}
 use Rattle.tz_info.proofs.Words.{◌++◌, ◌+◌, ◌<ℤ◌, ◌<◌, ◌==◌, ◌∙◌, ◌∷◌, ◌≡◌, ◌≤ℤ◌, ◌⊎◌}
-use Rattle.tz_info.proofs.ListLaws.{first_refusal}
-use Rattle.tz_info.proofs.RecordLaws.{records}
+use Rattle.tz_info.proofs.{ListLaws.{first_refusal}, RecordLaws.{records}}
 
 -- ---- the next 0 byte
 zero_takes : (text : List ℕ) (i n : ℕ) → position_from is_zero i text ≡ Some n → (m : ℕ) × (n ≡ i + m) × (after : List ℕ) × (text ≡ take m text ++ (0 ∷ after)) × HasNoZero (take m text)

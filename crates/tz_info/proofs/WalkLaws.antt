@@ -5,14 +5,10 @@ use Rattle.tz_info.proofs.Words.{IsWide, IsWindow, List, LocalResult, LocalType,
 use Rattle.tz_info.proofs.Words.{TypeAt, TypeFrom, TypeIn, Zone, ap, arith, begin_of, come_between, cases_lt, cond, digits, false, filter, get_or}
 use Rattle.tz_info.proofs.Words.{get_or_default, index_of, inl, inr, int_le, int_lt, ints, le_true, least_time, length, lt_true, reads_more, refl, segment_of}
 use Rattle.tz_info.proofs.Words.{suc, sym, table_count, true, zero, ℕ, ℤ, [], ◌&&◌, ◌+ℤ◌, ◌+◌, ◌-ℤ◌, ◌<ℤ◌, ◌<◌, ◌∙◌, ◌∷◌, ◌≡◌, ◌≤ℤ◌, ◌≤◌}
-use Rattle.tz_info.proofs.AnswerLaws.{Parts, same_answer}
-use Rattle.tz_info.proofs.Candidates.{Gains, gained, offset_of_rule}
-use Rattle.tz_info.proofs.ExtremeLaws.{at_least_least, at_most_greatest}
-use Rattle.tz_info.proofs.OnePass.{table_most}
+use Rattle.tz_info.proofs.{AnswerLaws.{Parts, same_answer}, Candidates.{Gains, gained, offset_of_rule}, ExtremeLaws.{at_least_least, at_most_greatest}}
+use Rattle.tz_info.proofs.{OnePass.{table_most}, TableSearch.{Between}, WallSegments.{leap_time_of, near_of, offset_here, rule_begun, type_of_table}}
 use Rattle.tz_info.proofs.SegmentLaws.{between_of, later_segment, segment_at, segment_here, segment_is, segment_most, segments_rise, type_from, type_in_from}
 use Rattle.tz_info.proofs.SegmentLaws.{within_of}
-use Rattle.tz_info.proofs.TableSearch.{Between}
-use Rattle.tz_info.proofs.WallSegments.{leap_time_of, near_of, offset_here, rule_begun, type_of_table}
 
 -- ---- segments
 -- one segment more of the table, of whose seconds at most one shows the local time

@@ -8,14 +8,10 @@ use Rattle.tz_info.proofs.Words.{get_or, index_of, inl, inr, ints, le_false, le_
 use Rattle.tz_info.proofs.Words.{table_count, table_count_by, together, true, shown_indexes, zero, ℕ, ℤ, [], ⊎_elim, ◌+ℤ◌, ◌-ℤ◌, ◌-◌, ◌<ℤ◌, ◌<◌, ◌↔◌, ◌∷◌, ◌≡◌}
 use Rattle.tz_info.proofs.Words.{◌≤ℤ◌, ◌≤◌, ◌⊎◌}
 use Rattle.tz_info.specs.declared.zone.shown.Shown.TheVariants.{Less, Once, Skipped}
-use Rattle.tz_info.proofs.AnswerLaws.{Parts, joined_answer, same_answer}
-use Rattle.tz_info.proofs.LeapOrder.{leap_times_answer}
-use Rattle.tz_info.proofs.LeapStarts.{saturated, saturated_rise}
+use Rattle.tz_info.proofs.{AnswerLaws.{Parts, joined_answer, same_answer}, LeapOrder.{leap_times_answer}, LeapStarts.{saturated, saturated_rise}}
 use Rattle.tz_info.proofs.SegmentLaws.{come_at_time, come_by_time, later_segment, segment_at, segment_most, segments_rise, type_before, type_from}
 use Rattle.tz_info.proofs.SegmentLaws.{type_in_before, type_in_from}
-use Rattle.tz_info.proofs.ShownLaws.{side_together, wall_together}
-use Rattle.tz_info.proofs.TableSearch.{Between}
-use Rattle.tz_info.proofs.ZoneLaws.{leap_time_decided, listed_inside}
+use Rattle.tz_info.proofs.{ShownLaws.{side_together, wall_together}, TableSearch.{Between}, ZoneLaws.{leap_time_decided, listed_inside}}
 
 -- ---- two neighbouring sets of segments
 

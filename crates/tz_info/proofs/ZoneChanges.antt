@@ -1,18 +1,13 @@
 -- Where a zone's types change: at its transitions, and behind them where the rule's types do.
 use Rattle.tz_info.proofs.Words.{Alternate as AlternateRule, AlternateAt, AreAhead, HaveOneType, AreComeAt, AreComeOrAll, AreLeapSeconds, Change, Bool, ComesAt}
-use Rattle.tz_info.proofs.Words.{HasNoChange, false, true, HasNoneAt, HaveCome, IsAhead, IsBegin, IsChangeByRule, IsChange, IsFirst, IsFirstChange}
-use Rattle.tz_info.proofs.Words.{IsInTable, IsLast, IsLastChange, IsLeapTime, IsLeapTimeRefused, IsNearest, IsRuleTime, IsValid, LeapSecond, List, LocalType}
-use Rattle.tz_info.proofs.Words.{MatchOption, None, Option, RuleOrType, SFits, Some, Transition, TransitionRule, TypeAt, Zone, ap, arith, by_lt_z, cases_lt}
-use Rattle.tz_info.proofs.Words.{cond, count_by, get_or, index_of, inl, inr, int_le, ints, length, nat_tests, passed_count, pos, refl, segment_of, slice_get}
-use Rattle.tz_info.proofs.Words.{suc, sum_by-cons, sym, thresholds, w64, zero, ℕ, ℤ, [], ◌+◌, ◌-ℤ◌, ◌-◌, ◌<ℤ◌, ◌<◌, ◌↔◌, ◌∙◌, ◌∷◌, ◌≡◌, ◌≤ℤ◌, ◌≤◌, ◌⊎◌}
+use Rattle.tz_info.proofs.Words.{HasNoChange, false, true, HasNoneAt, HaveCome, IsAhead, IsBegin, IsChangeByRule, IsChange, IsFirst, IsFirstChange, IsInTable}
+use Rattle.tz_info.proofs.Words.{IsLast, IsLastChange, IsLeapTime, IsLeapTimeRefused, IsNearest, IsRuleTime, IsValid, LeapSecond, List, LocalType, MatchOption}
+use Rattle.tz_info.proofs.Words.{None, Option, RuleOrType, SFits, Some, Transition, TransitionRule, TypeAt, Zone, ap, arith, by_lt_z, cases_lt, cond, count_by}
+use Rattle.tz_info.proofs.Words.{get_or, index_of, inl, inr, int_le, ints, length, nat_tests, passed_count, pos, refl, segment_of, slice_get, suc, sum_by-cons}
+use Rattle.tz_info.proofs.Words.{sym, thresholds, w64, zero, ℕ, ℤ, [], ◌+◌, ◌-ℤ◌, ◌-◌, ◌<ℤ◌, ◌<◌, ◌↔◌, ◌∙◌, ◌∷◌, ◌≡◌, ◌≤ℤ◌, ◌≤◌, ◌⊎◌}
 use Rattle.tz_info.specs.declared.rule.transition_rule.TransitionRule.TheVariants.{Alternate, Fixed}
-use Rattle.tz_info.proofs.ChangeSearch.{nearest_moved}
-use Rattle.tz_info.proofs.GapLaws.{HasOneType, IsSteady, one_type}
-use Rattle.tz_info.proofs.LeapEntries.{follow, threshold_at}
-use Rattle.tz_info.proofs.LeapOrder.{bounded}
-use Rattle.tz_info.proofs.LeapStarts.{correction_behind, reached_later, times_rise}
-use Rattle.tz_info.proofs.PassedTransitions.{no_items}
-use Rattle.tz_info.proofs.RuleChanges.{rule_second}
+use Rattle.tz_info.proofs.{ChangeSearch.{nearest_moved}, GapLaws.{HasOneType, IsSteady, one_type}, LeapEntries.{follow, threshold_at}, LeapOrder.{bounded}}
+use Rattle.tz_info.proofs.{LeapStarts.{correction_behind, reached_later, times_rise}, PassedTransitions.{no_items}, RuleChanges.{rule_second}}
 use Rattle.tz_info.proofs.SegmentLaws.{come_at_time, come_by_time, later_segment, segment_at, segment_most, segments_rise, type_before, type_from, type_in_from}
 use Rattle.tz_info.proofs.ZoneLaws.{leap_time_decided, some_once}
 

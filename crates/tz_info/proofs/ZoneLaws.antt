@@ -5,8 +5,7 @@ use Rattle.tz_info.proofs.Words.{TransitionRule, TypeAt, Zone, ap, arith, by_lea
 use Rattle.tz_info.proofs.Words.{count_by-le-length, get_or, index_at, inl, inr, int_le, ints, last_else, le_false, le_true, length, length-filter, map, neg_ℤ}
 use Rattle.tz_info.proofs.Words.{error_number, passed, passed_count, pos, refl, slice_get, suc, sym, type_error, w64, zero, zone_of_rule, ℕ, ℤ, [], ⊎_elim}
 use Rattle.tz_info.proofs.Words.{◌+ℤ◌, ◌<◌, ◌∙◌, ◌∷◌, ◌≡◌, ◌≤◌, ◌⊎◌}
-use Rattle.tz_info.proofs.PassedTransitions.{no_items}
-use Rattle.tz_info.proofs.RuleLaws.{rule_decided, rule_not_refused, rule_once}
+use Rattle.tz_info.proofs.{PassedTransitions.{no_items}, RuleLaws.{rule_decided, rule_not_refused, rule_once}}
 
 passed_at_most : (z : Zone) (x : ℤ) → length (passed z.transitions x) ≤ length z.transitions
 passed_at_most z x = omega (arith, length-filter (λ (t : Transition). int_le t.unix_leap_time x) z.transitions, count_by-le-length (λ (t : Transition). int_le t.unix_leap_time x) z.transitions)

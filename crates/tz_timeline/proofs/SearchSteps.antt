@@ -2,9 +2,8 @@
 use Rattle.tz_timeline.proofs.Words.{AreEnds, AreOrdered, ArePassed, Ends, IsLeft, IsNarrowedTo, List, Near, ap, arith, cases_lt, digits, filter, get_or, inl}
 use Rattle.tz_timeline.proofs.Words.{inr, int_le, ints, item_time, length, length-map, map, pos, refl, suc, sym, take, zero, ℕ, ℤ, ◌*◌, ◌+◌, ◌-◌, ◌/◌, ◌<ℤ◌}
 use Rattle.tz_timeline.proofs.Words.{◌<◌, ◌^◌, ◌∙◌, ◌≡◌, ◌≤ℤ◌, ◌≤◌}
-use Rattle.tz_timeline.proofs.DigitLaws.{digits-half, digits-less, digits-more}
+use Rattle.tz_timeline.proofs.{DigitLaws.{digits-half, digits-less, digits-more}, Prefixes.{filter_first, le_false, le_true}}
 use Rattle.std.proofs.lemmas.List.{get_or-map as mapped_at}
-use Rattle.tz_timeline.proofs.Prefixes.{filter_first, le_false, le_true}
 
 -- the time of an item that was read
 pub time_read : {A : Type 0} (time : A → ℤ) (items : List A) (place : ℕ) (x : A) → place < length items → x ≡ get_or items place x → time x ≡ item_time (map time items) place

@@ -1,6 +1,4 @@
-use Rattle.tz_info.proofs.Words.{arith, ints}
-use Rattle.tz_info.proofs.LeapEntries.{before_first, before_later}
-use Rattle.tz_info.proofs.LeapOrder.{leap_time_undone, leap_times_answer, leap_times_rise}
+use Rattle.tz_info.proofs.{Words.{arith, ints}, LeapEntries.{before_first, before_later}, LeapOrder.{leap_time_undone, leap_times_answer, leap_times_rise}}
 use Rattle.tz_info.proofs.laws.leap_times_law.Goals as goal
 
 pub returns-clause-rise : goal.returns-clause-rise

@@ -1,5 +1,4 @@
-use Rattle.tz_info.proofs.Words.{arith, floors}
-use Rattle.tz_info.proofs.RuleDays.{day_rises, one_rule_day, rule_day_is}
+use Rattle.tz_info.proofs.{Words.{arith, floors}, RuleDays.{day_rises, one_rule_day, rule_day_is}}
 use Rattle.tz_info.proofs.laws.rule_days_law.Goals as goal
 
 pub returns-clause-found : goal.returns-clause-found

@@ -1,5 +1,4 @@
-use Rattle.tz_info.proofs.LastType.{last_type}
-use Rattle.tz_info.proofs.ZoneLaws.{type_decided, type_listed, type_not_refused, type_once}
+use Rattle.tz_info.proofs.{LastType.{last_type}, ZoneLaws.{type_decided, type_listed, type_not_refused, type_once}}
 use Rattle.tz_info.proofs.laws.zone_types_law.Goals as goal
 
 pub returns-clause-once : goal.returns-clause-once

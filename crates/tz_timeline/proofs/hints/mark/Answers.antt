@@ -1,7 +1,5 @@
 use Rattle.tz_timeline.proofs.Words.{SFits, arith, ints, item_time, length-set, map, refl, rules, stretch_of, to_z-of_z, w64, ◌+◌, ◌/◌, ◌^◌, ◌∙◌, ◌≡◌}
-use Rattle.tz_timeline.proofs.HintLaws.{marked_more, seconds_are}
-use Rattle.tz_timeline.proofs.SearchSteps.{time_read}
-use Rattle.tz_timeline.proofs.hints.mark.Given.{Over}
+use Rattle.tz_timeline.proofs.{HintLaws.{marked_more, seconds_are}, SearchSteps.{time_read}, hints.mark.Given.{Over}}
 use Rattle.tz_timeline.proofs.hints.mark.Goals as goal
 
 pub seconds_between-requires : goal.seconds_between-requires

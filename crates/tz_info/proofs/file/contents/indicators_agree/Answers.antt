@@ -1,5 +1,4 @@
-use Rattle.tz_info.proofs.Words.{length, pair_agrees, sym}
-use Rattle.tz_info.proofs.ListLaws.{one_false}
+use Rattle.tz_info.proofs.{Words.{length, pair_agrees, sym}, ListLaws.{one_false}}
 use Rattle.tz_info.proofs.file.contents.indicators_agree.Goals as goal
 
 pub returns-then-not-pair_agrees : goal.returns-then-not-pair_agrees

@@ -1,6 +1,4 @@
-use Rattle.tz_info.proofs.Words.{err_from_is_err_and, pieces_of}
-use Rattle.tz_info.proofs.FilePieceLaws.{has_lengths, pieces_law}
-use Rattle.tz_info.proofs.TzFileLaws.{no_pieces, reads}
+use Rattle.tz_info.proofs.{Words.{err_from_is_err_and, pieces_of}, FilePieceLaws.{has_lengths, pieces_law}, TzFileLaws.{no_pieces, reads}}
 use Rattle.tz_info.proofs.file.reader.read_lists.Goals as goal
 
 pub lists_of-requires : goal.lists_of-requires

@@ -1,5 +1,4 @@
-use Rattle.tz_info.proofs.Words.{arith, ints, to_z-of_z}
-use Rattle.tz_info.proofs.TypeLaws.{type_answers}
+use Rattle.tz_info.proofs.{Words.{arith, ints, to_z-of_z}, TypeLaws.{type_answers}}
 use Rattle.tz_info.proofs.file.types.local_type.Goals as goal
 
 pub returns : goal.returns

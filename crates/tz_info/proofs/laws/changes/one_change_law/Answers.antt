@@ -1,5 +1,4 @@
-use Rattle.tz_info.proofs.ChangeLaws.{front_is_first, one_change, one_list_of_changes, one_nearest}
-use Rattle.tz_info.proofs.Words.{false, true}
+use Rattle.tz_info.proofs.{ChangeLaws.{front_is_first, one_change, one_list_of_changes, one_nearest}, Words.{false, true}}
 use Rattle.tz_info.proofs.laws.changes.one_change_law.Goals as goal
 
 pub returns : goal.returns

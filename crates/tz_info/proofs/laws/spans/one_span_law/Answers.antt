@@ -1,5 +1,4 @@
-use Rattle.tz_info.proofs.Words.{TypeAt}
-use Rattle.tz_info.proofs.SpanLaws.{no_change_within, span_once}
+use Rattle.tz_info.proofs.{Words.{TypeAt}, SpanLaws.{no_change_within, span_once}}
 use Rattle.tz_info.proofs.laws.spans.one_span_law.Goals as goal
 
 pub returns-clause-parted : goal.returns-clause-parted

@@ -1,5 +1,4 @@
-use Rattle.tz_info.proofs.Words.{refl}
-use Rattle.tz_info.proofs.WallLaws.{are_shown, is_among_shown}
+use Rattle.tz_info.proofs.{Words.{refl}, WallLaws.{are_shown, is_among_shown}}
 use Rattle.tz_info.proofs.laws.wall_clocks.wall_clock_law.Goals as goal
 
 pub returns-clause-shown : goal.returns-clause-shown

@@ -1,5 +1,4 @@
-use Rattle.tz_info.proofs.Words.{ap, arith, days_at_least, days_in_year, inr, pos, refl, to_z-of_z, year_start, ◌+ℤ◌, ◌∙◌, ◌≡◌}
-use Rattle.tz_info.proofs.RuleDays.{behind_december}
+use Rattle.tz_info.proofs.{Words.{ap, arith, days_at_least, days_in_year, inr, pos, refl, to_z-of_z, year_start, ◌+ℤ◌, ◌∙◌, ◌≡◌}, RuleDays.{behind_december}}
 use Rattle.tz_info.proofs.rule.day_places.date_in_year.Goals as goal
 
 pub returns-then-place-days_in_year : goal.returns-then-place-days_in_year

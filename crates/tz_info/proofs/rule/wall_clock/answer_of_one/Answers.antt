@@ -1,10 +1,8 @@
 use Rattle.offset_core.specs.declared.local_result.LocalResult.TheVariants.{None, Single}
-use Rattle.tz_info.proofs.Words.{Counts, SFits, TypeFrom, ap, arith, inl, inr, ints, refl, to_z-of_z, w32, w64, ◌-ℤ◌, ◌≡◌}
+use Rattle.tz_info.proofs.{Words.{Counts, SFits, TypeFrom, ap, arith, inl, inr, ints, refl, to_z-of_z, w32, w64, ◌-ℤ◌, ◌≡◌}, QuestionLaws.{asked_fixed}}
 use Rattle.tz_info.specs.declared.rule.transition_rule.TransitionRule.TheVariants.{Fixed}
-use Rattle.tz_info.proofs.Candidates.{asked_found, asked_one, one_fixed}
-use Rattle.tz_info.proofs.QuestionLaws.{asked_fixed}
+use Rattle.tz_info.proofs.{Candidates.{asked_found, asked_one, one_fixed}, rule.wall_clock.answer_of_one.Goals.{After-second_showing}}
 use Rattle.tz_info.proofs.rule.wall_clock.answer_of_one.Goals as goal
-use Rattle.tz_info.proofs.rule.wall_clock.answer_of_one.Goals.{After-second_showing}
 
 -- the second that is asked fits, and is the one of the type's offset
 second : (c : After-second_showing) → SFits w64 c.args.local × SFits w64 c.args.from × SFits w64 (c.args.local -ℤ c.args.only.now.offset) × (c.second_showing.result ≡ c.args.local -ℤ c.args.only.now.offset)

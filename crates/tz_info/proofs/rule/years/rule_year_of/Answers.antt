@@ -1,7 +1,6 @@
-use Rattle.tz_info.proofs.Words.{IsRuleYear, IsYearOf, SFits, arith, floor_div, floors, to_z-of_z, w32, w64, ◌≡◌}
-use Rattle.tz_info.proofs.RuleLaws.{year_found}
-use Rattle.tz_info.proofs.rule.years.rule_year_of.Goals as goal
+use Rattle.tz_info.proofs.{Words.{IsRuleYear, IsYearOf, SFits, arith, floor_div, floors, to_z-of_z, w32, w64, ◌≡◌}, RuleLaws.{year_found}}
 use Rattle.tz_info.proofs.rule.years.rule_year_of.Goals.{After-year_of}
+use Rattle.tz_info.proofs.rule.years.rule_year_of.Goals as goal
 
 found : (c : goal.After-year_of) → SFits w64 c.year_of.result × IsYearOf c.args.second c.year_of.result × IsRuleYear c.year_of.result
 found c =

@@ -1,8 +1,6 @@
 use Rattle.tz_info.proofs.Words.{HaveCome, LeapSecond, SFits, arith, get_or, ints, pos, rules, to_z-of_z, w128, w64, ℤ, ◌-ℤ◌, ◌-◌, ◌↔◌, ◌≤ℤ◌}
-use Rattle.tz_info.proofs.LeapStarts.{both_ways, reached_first}
-use Rattle.tz_info.proofs.ZoneChanges.{entry_late, reached_exactly}
+use Rattle.tz_info.proofs.{LeapStarts.{both_ways, reached_first}, ZoneChanges.{entry_late, reached_exactly}, zone.changes.first_second.Goals.{After-later}}
 use Rattle.tz_info.proofs.zone.changes.first_second.Goals as goal
-use Rattle.tz_info.proofs.zone.changes.first_second.Goals.{After-later}
 
 abbrev none : LeapSecond
 none = record { unix_leap_time = pos 0; correction = pos 0 }

@@ -1,5 +1,4 @@
-use Rattle.tz_info.proofs.Words.{append-nil}
-use Rattle.tz_info.proofs.ExtremeLaws.{rule_joined}
+use Rattle.tz_info.proofs.{Words.{append-nil}, ExtremeLaws.{rule_joined}}
 use Rattle.tz_info.proofs.zone.extremes.extremes_of.Goals as goal
 
 pub returns-in-None-clause-extremes : goal.returns-in-None-clause-extremes

@@ -1,5 +1,4 @@
-use Rattle.tz_info.proofs.Words.{LocalType, SFits, ap, arith, ints, length, take_all, to_z-of_z, w32, ◌∙◌, ◌≡◌}
-use Rattle.tz_info.proofs.ExtremeLaws.{first_type, next_type}
+use Rattle.tz_info.proofs.{Words.{LocalType, SFits, ap, arith, ints, length, take_all, to_z-of_z, w32, ◌∙◌, ◌≡◌}, ExtremeLaws.{first_type, next_type}}
 use Rattle.tz_info.proofs.zone.extremes.extremes_of_types.Goals as goal
 
 pub loop-place-init : goal.loop-place-init

@@ -1,5 +1,4 @@
-use Rattle.tz_info.proofs.Words.{arith, length-set, ◌∙◌, ◌≡◌}
-use Rattle.tz_info.proofs.IdleRuns.{starts_more}
+use Rattle.tz_info.proofs.{Words.{arith, length-set, ◌∙◌, ◌≡◌}, IdleRuns.{starts_more}}
 use Rattle.tz_info.proofs.zone.idle.mark.Goals as goal
 
 pub loop-place-init : goal.loop-place-init

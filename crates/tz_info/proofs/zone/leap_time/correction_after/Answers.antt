@@ -1,6 +1,5 @@
-use Rattle.tz_info.proofs.Words.{LeapSecond, SFits, ap, arith, get_or, ints, pos, rules, suc, sym, to_z-of_z, w32, w64, ◌-◌, ◌∙◌, ◌≡◌}
+use Rattle.tz_info.proofs.{Words.{LeapSecond, SFits, ap, arith, get_or, ints, pos, rules, suc, sym, to_z-of_z, w32, w64, ◌-◌, ◌∙◌, ◌≡◌}, Prefixes.{last_taken}}
 use Rattle.tz_info.proofs.LeapStarts.{correction_behind}
-use Rattle.tz_info.proofs.Prefixes.{last_taken}
 use Rattle.tz_info.proofs.zone.leap_time.correction_after.Goals as goal
 
 pub returns : goal.returns

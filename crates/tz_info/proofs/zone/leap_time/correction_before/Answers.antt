@@ -1,5 +1,4 @@
-use Rattle.tz_info.proofs.Words.{LeapSecond, SFits, arith, pos, rules, to_z-of_z, w32}
-use Rattle.tz_info.proofs.LeapEntries.{before_found}
+use Rattle.tz_info.proofs.{Words.{LeapSecond, SFits, arith, pos, rules, to_z-of_z, w32}, LeapEntries.{before_found}}
 use Rattle.tz_info.proofs.zone.leap_time.correction_before.Goals as goal
 
 abbrev none : LeapSecond

@@ -1,5 +1,4 @@
-use Rattle.tz_info.proofs.Words.{IsPartitionPoint-from_clause, LeapSecond, arith, int_lt, lt_is, rules}
-use Rattle.tz_info.proofs.LeapSearch.{lt_is_not, parted_before}
+use Rattle.tz_info.proofs.{Words.{IsPartitionPoint-from_clause, LeapSecond, arith, int_lt, lt_is, rules}, LeapSearch.{lt_is_not, parted_before}}
 use Rattle.tz_info.proofs.zone.leap_time.entries_before.Goals as goal
 
 pub returns : goal.returns

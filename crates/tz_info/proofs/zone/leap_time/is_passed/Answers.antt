@@ -1,5 +1,4 @@
-use Rattle.tz_info.proofs.Words.{LeapSecond, SFits, arith, get_or, ints, pos, rules, to_z-of_z, w32, w64, ◌+ℤ◌}
-use Rattle.tz_info.proofs.LeapSearch.{passed_here}
+use Rattle.tz_info.proofs.{Words.{LeapSecond, SFits, arith, get_or, ints, pos, rules, to_z-of_z, w32, w64, ◌+ℤ◌}, LeapSearch.{passed_here}}
 use Rattle.tz_info.proofs.zone.leap_time.is_passed.Goals as goal
 
 abbrev none : LeapSecond

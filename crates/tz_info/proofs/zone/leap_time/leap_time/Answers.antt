@@ -1,6 +1,4 @@
-use Rattle.tz_info.proofs.Words.{length, sym, to_z-of_z, ◌∙◌}
-use Rattle.tz_info.proofs.LeapSearch.{is_none}
-use Rattle.tz_info.proofs.LeaplessChanges.{own_leap_time}
+use Rattle.tz_info.proofs.{Words.{length, sym, to_z-of_z, ◌∙◌}, LeapSearch.{is_none}, LeaplessChanges.{own_leap_time}}
 use Rattle.tz_info.proofs.zone.leap_time.leap_time.Goals as goal
 
 pub returns-then-is_empty : goal.returns-then-is_empty

@@ -1,5 +1,4 @@
-use Rattle.tz_info.proofs.Words.{SFits, ap, arith, ints, rules, to_z-of_z, w32, w64, ◌+ℤ◌}
-use Rattle.tz_info.proofs.LeapSearch.{leap_time_by, leap_time_early}
+use Rattle.tz_info.proofs.{Words.{SFits, ap, arith, ints, rules, to_z-of_z, w32, w64, ◌+ℤ◌}, LeapSearch.{leap_time_by, leap_time_early}}
 use Rattle.tz_info.proofs.LeapStarts.{passed_at_most}
 use Rattle.tz_info.proofs.zone.leap_time.leap_time_among.Goals as goal
 

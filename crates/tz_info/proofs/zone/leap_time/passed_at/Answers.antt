@@ -1,5 +1,4 @@
-use Rattle.tz_info.proofs.Words.{arith, length, to_z-of_z, ◌+◌}
-use Rattle.tz_info.proofs.LeapSearch.{all_between}
+use Rattle.tz_info.proofs.{Words.{arith, length, to_z-of_z, ◌+◌}, LeapSearch.{all_between}}
 use Rattle.tz_info.proofs.zone.leap_time.passed_at.Goals as goal
 
 pub loop-count-init : goal.loop-count-init

@@ -1,6 +1,5 @@
 use Rattle.tz_base.specs.declared.error.Error.TheVariants.{OutOfRange}
-use Rattle.tz_info.proofs.Words.{SFits, ap, arith, inr, ints, least_time, of_z, rules, sym, to_z-of_z, w32, w64, ◌-ℤ◌, ◌∙◌, ◌≤ℤ◌}
-use Rattle.tz_info.proofs.LeapEntries.{above_least}
+use Rattle.tz_info.proofs.{Words.{SFits, ap, arith, inr, ints, least_time, of_z, rules, sym, to_z-of_z, w32, w64, ◌-ℤ◌, ◌∙◌, ◌≤ℤ◌}, LeapEntries.{above_least}}
 use Rattle.tz_info.proofs.zone.leap_time.unix_time.Goals as goal
 
 pub returns-in-Some : goal.returns-in-Some

@@ -1,5 +1,4 @@
-use Rattle.tz_info.proofs.Words.{SFits, Transition, arith, get_or, le_is, length, nat_tests, pos, rules, to_z-of_z, w64, ◌-◌, ◌≡◌}
-use Rattle.tz_info.proofs.OnePass.{leapless_between}
+use Rattle.tz_info.proofs.{Words.{SFits, Transition, arith, get_or, le_is, length, nat_tests, pos, rules, to_z-of_z, w64, ◌-◌, ◌≡◌}, OnePass.{leapless_between}}
 use Rattle.tz_info.proofs.zone.one_pass.is_leapless.Goals as goal
 
 abbrev none : Transition

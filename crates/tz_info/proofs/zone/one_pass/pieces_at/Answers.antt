@@ -1,7 +1,6 @@
-use Rattle.tz_info.proofs.Words.{SFits, arith, inl, inr, ints, refl, rules, to_z-of_z, w64, zone_in}
-use Rattle.tz_info.proofs.OnePass.{pieces_found}
-use Rattle.tz_info.proofs.zone.one_pass.pieces_at.Goals as goal
+use Rattle.tz_info.proofs.{Words.{SFits, arith, inl, inr, ints, refl, rules, to_z-of_z, w64, zone_in}, OnePass.{pieces_found}}
 use Rattle.tz_info.proofs.zone.one_pass.pieces_at.Goals.{else-end-start, then-end-start}
+use Rattle.tz_info.proofs.zone.one_pass.pieces_at.Goals as goal
 
 pub returns : goal.returns
 returns c =

@@ -1,9 +1,8 @@
 use Rattle.tz_info.proofs.Words.{IsCutFrom, IsSegment, IsStart, List, Piece, SFits, Segment, Zone, add-one, ap, arith, inl, rules, saturate_signed, suc}
 use Rattle.tz_info.proofs.Words.{table_count, to_z-of_z, w64, zone_in, ℕ, ℤ, [], ◌++◌, ◌+ℤ◌, ◌-◌, ◌∙◌, ◌∷◌, ◌≡◌}
-use Rattle.tz_info.proofs.OnePass.{crossed_by, cuts_of, open_first, open_more, table_most, within_table}
-use Rattle.tz_info.proofs.WallSegments.{cut_from}
-use Rattle.tz_info.proofs.zone.one_pass.pieces_by.Goals as goal
+use Rattle.tz_info.proofs.{OnePass.{crossed_by, cuts_of, open_first, open_more, table_most, within_table}, WallSegments.{cut_from}}
 use Rattle.tz_info.proofs.zone.one_pass.pieces_by.Goals.{else-count-lists, then-count-lists+else-is_crossed-2+in_ok-piece}
+use Rattle.tz_info.proofs.zone.one_pass.pieces_by.Goals as goal
 
 pub loop-place-init : goal.loop-place-init
 loop-place-init c = record {

@@ -1,6 +1,5 @@
 use Rattle.tz_info.proofs.Words.{SFits, Transition, ap, arith, get_or, length, nat_tests, pos, rules, to_z-of_z, w64, ◌-◌, ◌<◌, ◌∙◌, ◌≡◌}
-use Rattle.tz_info.proofs.OnePass.{start_leapless}
-use Rattle.tz_info.proofs.WallSegments.{start_found}
+use Rattle.tz_info.proofs.{OnePass.{start_leapless}, WallSegments.{start_found}}
 use Rattle.tz_info.proofs.zone.one_pass.start_by.Goals as goal
 
 abbrev none : Transition

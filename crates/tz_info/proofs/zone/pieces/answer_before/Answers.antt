@@ -1,5 +1,4 @@
-use Rattle.tz_info.proofs.Words.{Piece, answer_before, ap, arith, suc, sym, take, ◌-◌, ◌∙◌, ◌≡◌}
-use Rattle.tz_info.proofs.Prefixes.{last_taken}
+use Rattle.tz_info.proofs.{Words.{Piece, answer_before, ap, arith, suc, sym, take, ◌-◌, ◌∙◌, ◌≡◌}, Prefixes.{last_taken}}
 use Rattle.tz_info.proofs.zone.pieces.answer_before.Goals as goal
 
 pub returns : goal.returns

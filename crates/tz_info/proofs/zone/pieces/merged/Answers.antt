@@ -1,5 +1,4 @@
-use Rattle.tz_info.proofs.Words.{SFits, ap, arith, refl, rules, to_z-of_z, w64, ℕ, ◌+◌, ◌∙◌}
-use Rattle.tz_info.proofs.WallPieces.{merging_more, step_count}
+use Rattle.tz_info.proofs.{Words.{SFits, ap, arith, refl, rules, to_z-of_z, w64, ℕ, ◌+◌, ◌∙◌}, WallPieces.{merging_more, step_count}}
 use Rattle.tz_info.proofs.zone.pieces.merged.Goals as goal
 
 pub loop-step-preserved : goal.loop-step-preserved

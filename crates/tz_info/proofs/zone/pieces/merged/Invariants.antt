@@ -1,5 +1,4 @@
-use Rattle.tz_info.proofs.Words.{together, ◌+◌, ◌≡◌}
-use Rattle.tz_info.proofs.WallPieces.{Merging}
+use Rattle.tz_info.proofs.{Words.{together, ◌+◌, ◌≡◌}, WallPieces.{Merging}}
 use Rattle.tz_info.proofs.zone.pieces.merged.Given as goal
 
 abbrev pub invariant-loop-step : goal.invariant-loop-step

@@ -1,5 +1,4 @@
-use Rattle.tz_info.proofs.Words.{arith}
-use Rattle.tz_info.proofs.WallSegments.{pieces_joined}
+use Rattle.tz_info.proofs.{Words.{arith}, WallSegments.{pieces_joined}}
 use Rattle.tz_info.proofs.zone.segments.+pieces_of.Goals as goal
 
 pub returns : goal.returns

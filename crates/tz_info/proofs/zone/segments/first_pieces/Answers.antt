@@ -1,5 +1,4 @@
-use Rattle.tz_info.proofs.Words.{SFits, arith, length, nat_tests, rules, to_z-of_z, w64, ◌<◌, ◌≡◌}
-use Rattle.tz_info.proofs.WallSegments.{first_pieces, only_pieces}
+use Rattle.tz_info.proofs.{Words.{SFits, arith, length, nat_tests, rules, to_z-of_z, w64, ◌<◌, ◌≡◌}, WallSegments.{first_pieces, only_pieces}}
 use Rattle.tz_info.proofs.zone.segments.first_pieces.Goals as goal
 
 pub returns-then-is_empty : goal.returns-then-is_empty

@@ -1,7 +1,6 @@
-use Rattle.tz_info.proofs.Words.{SFits, arith, ints, rules, w64, zone_in}
-use Rattle.tz_info.proofs.WallSegments.{type_latest, up_to_less}
-use Rattle.tz_info.proofs.zone.segments.index_before.Goals as goal
+use Rattle.tz_info.proofs.{Words.{SFits, arith, ints, rules, w64, zone_in}, WallSegments.{type_latest, up_to_less}}
 use Rattle.tz_info.proofs.zone.segments.index_before.Goals.{else-loop-latest-test, then-loop-latest-test+else-start_of-start}
+use Rattle.tz_info.proofs.zone.segments.index_before.Goals as goal
 
 pub loop-latest-preserved : goal.loop-latest-preserved
 loop-latest-preserved c =

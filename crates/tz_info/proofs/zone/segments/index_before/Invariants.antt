@@ -1,5 +1,4 @@
-use Rattle.tz_info.proofs.Words.{zone_in, ◌<◌}
-use Rattle.tz_info.proofs.WallSegments.{AreUpTo}
+use Rattle.tz_info.proofs.{Words.{zone_in, ◌<◌}, WallSegments.{AreUpTo}}
 use Rattle.tz_info.proofs.zone.segments.index_before.Given as goal
 
 abbrev pub invariant-loop-latest : goal.invariant-loop-latest

@@ -1,5 +1,4 @@
-use Rattle.tz_info.proofs.Words.{SFits, add-one, arith, ints, rules, to_z-of_z, w64}
-use Rattle.tz_info.proofs.WallSegments.{empty_pieces, inner_pieces}
+use Rattle.tz_info.proofs.{Words.{SFits, add-one, arith, ints, rules, to_z-of_z, w64}, WallSegments.{empty_pieces, inner_pieces}}
 use Rattle.tz_info.proofs.zone.segments.inner_pieces.Goals as goal
 
 pub returns-then-first-next : goal.returns-then-first-next

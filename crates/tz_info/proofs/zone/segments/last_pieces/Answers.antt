@@ -1,5 +1,4 @@
-use Rattle.tz_info.proofs.Words.{SFits, add-one, length, refl, rules, to_z-of_z, w64}
-use Rattle.tz_info.proofs.WallSegments.{last_pieces}
+use Rattle.tz_info.proofs.{Words.{SFits, add-one, length, refl, rules, to_z-of_z, w64}, WallSegments.{last_pieces}}
 use Rattle.tz_info.proofs.zone.segments.last_pieces.Goals as goal
 
 pub returns : goal.returns

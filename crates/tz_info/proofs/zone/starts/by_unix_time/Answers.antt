@@ -1,5 +1,4 @@
-use Rattle.tz_info.proofs.Words.{SFits, Transition, arith, get_or, pos, refl, rules, to_z-of_z, w64}
-use Rattle.tz_info.proofs.UnixTimes.{all_made, made_in_order, one_made}
+use Rattle.tz_info.proofs.{Words.{SFits, Transition, arith, get_or, pos, refl, rules, to_z-of_z, w64}, UnixTimes.{all_made, made_in_order, one_made}}
 use Rattle.tz_info.proofs.zone.starts.by_unix_time.Goals as goal
 
 abbrev none : Transition

@@ -1,5 +1,4 @@
-use Rattle.tz_info.proofs.Words.{length, vec_capacity, vec_len, ◌≡◌}
-use Rattle.tz_info.proofs.UnixTimes.{AreMade}
+use Rattle.tz_info.proofs.{Words.{length, vec_capacity, vec_len, ◌≡◌}, UnixTimes.{AreMade}}
 use Rattle.tz_info.proofs.zone.starts.by_unix_time.Given as goal
 
 abbrev pub invariant-loop-transition : goal.invariant-loop-transition

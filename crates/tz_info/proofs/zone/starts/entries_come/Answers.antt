@@ -1,5 +1,4 @@
-use Rattle.tz_info.proofs.Words.{IsPartitionPoint-from_clause, LeapSecond, arith, int_le, le_is, le_is_not, rules}
-use Rattle.tz_info.proofs.LeapStarts.{parted}
+use Rattle.tz_info.proofs.{Words.{IsPartitionPoint-from_clause, LeapSecond, arith, int_le, le_is, le_is_not, rules}, LeapStarts.{parted}}
 use Rattle.tz_info.proofs.zone.starts.entries_come.Goals as goal
 
 pub returns : goal.returns

@@ -1,5 +1,4 @@
-use Rattle.tz_info.proofs.Words.{SFits, Transition, get_or, pos, rules, to_z-of_z, w64, ◌-◌}
-use Rattle.tz_info.proofs.WallSegments.{start_found}
+use Rattle.tz_info.proofs.{Words.{SFits, Transition, get_or, pos, rules, to_z-of_z, w64, ◌-◌}, WallSegments.{start_found}}
 use Rattle.tz_info.proofs.zone.starts.start_of.Goals as goal
 
 pub returns : goal.returns

@@ -1,5 +1,4 @@
-use Rattle.tz_info.proofs.Words.{IsTrue, ◌↔◌}
-use Rattle.tz_info.proofs.TableSearch.{StandUntil}
+use Rattle.tz_info.proofs.{Words.{IsTrue, ◌↔◌}, TableSearch.{StandUntil}}
 use Rattle.tz_info.proofs.zone.valid.are_transitions.Given as goal
 
 abbrev pub invariant-loop-i : goal.invariant-loop-i

@@ -1,10 +1,8 @@
 use Rattle.tz_timeline.proofs.Words.{List, SFits, ap, arith, drop, item_time, length, length-map, length-replicate, map, pos, replicate, rules, take}
 use Rattle.tz_timeline.proofs.Words.{take-append-le, take_all, to_z-of_z, w64, ℕ, ◌++◌, ◌+◌, ◌-ℤ◌, ◌-◌, ◌/◌, ◌^◌, ◌∙◌, ◌≡◌}
-use Rattle.tz_timeline.proofs.HintLaws.{first_least, hints_made, slots}
-use Rattle.tz_timeline.proofs.SearchSteps.{time_read}
-use Rattle.tz_timeline.proofs.hints.Hints.new.Given.{Over}
-use Rattle.tz_timeline.proofs.hints.Hints.new.Goals as goal
+use Rattle.tz_timeline.proofs.{HintLaws.{first_least, hints_made, slots}, SearchSteps.{time_read}, hints.Hints.new.Given.{Over}}
 use Rattle.tz_timeline.proofs.hints.Hints.new.Goals.{After-deref_mut}
+use Rattle.tz_timeline.proofs.hints.Hints.new.Goals as goal
 
 -- the first item's time, and the span
 first_is : (g : Over) (c : After-deref_mut g) → c.second-first.result ≡ item_time (map g.T.Timed.time c.args.items.now) 0

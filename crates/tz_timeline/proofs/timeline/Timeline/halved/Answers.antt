@@ -1,5 +1,4 @@
-use Rattle.tz_timeline.proofs.Words.{arith, ints, length-map, ◌+◌, ◌-◌, ◌/◌, ◌≡◌}
-use Rattle.tz_timeline.proofs.SearchSteps.{left_earlier, left_later, time_read}
+use Rattle.tz_timeline.proofs.{Words.{arith, ints, length-map, ◌+◌, ◌-◌, ◌/◌, ◌≡◌}, SearchSteps.{left_earlier, left_later, time_read}}
 use Rattle.tz_timeline.proofs.timeline.Timeline.halved.Goals as goal
 
 pub returns-then-second-clause-left : goal.returns-then-second-clause-left

@@ -1,7 +1,6 @@
-use Rattle.tz_timeline.proofs.Words.{arith, ints, length-map, refl, ◌+◌, ◌-◌, ◌/◌}
-use Rattle.tz_timeline.proofs.SearchSteps.{near_earlier, near_later, time_read}
-use Rattle.tz_timeline.proofs.timeline.Timeline.narrowed.Goals as goal
+use Rattle.tz_timeline.proofs.{Words.{arith, ints, length-map, refl, ◌+◌, ◌-◌, ◌/◌}, SearchSteps.{near_earlier, near_later, time_read}}
 use Rattle.tz_timeline.proofs.timeline.Timeline.narrowed.Goals.{else-second, then-second}
+use Rattle.tz_timeline.proofs.timeline.Timeline.narrowed.Goals as goal
 
 pub returns-clause-near : goal.returns-clause-near
 returns-clause-near g c =

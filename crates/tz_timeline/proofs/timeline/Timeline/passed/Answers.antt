@@ -1,9 +1,7 @@
 use Rattle.tz_timeline.proofs.Words.{AreEnds, AreHints, SFits, arith, ints, length, length-map, map, pow_pos, rules, to_z-of_z, w64, ◌≡◌}
-use Rattle.tz_timeline.proofs.HintLaws.{near_hinted}
-use Rattle.tz_timeline.proofs.SearchSteps.{all_left, all_passed, digits-halved, none_passed}
-use Rattle.tz_timeline.proofs.timeline.Timeline.passed.Given.{Over}
-use Rattle.tz_timeline.proofs.timeline.Timeline.passed.Goals as goal
+use Rattle.tz_timeline.proofs.{HintLaws.{near_hinted}, SearchSteps.{all_left, all_passed, digits-halved, none_passed}, timeline.Timeline.passed.Given.{Over}}
 use Rattle.tz_timeline.proofs.timeline.Timeline.passed.Goals.{After-self}
+use Rattle.tz_timeline.proofs.timeline.Timeline.passed.Goals as goal
 
 -- what was given fits, and the first time, the last one and the hints are those of the items
 kept : (g : Over) (c : After-self g) → SFits w64 c.args.second × (length (map g.T.Timed.time c.args.self.now) ≡ length c.args.self.now)

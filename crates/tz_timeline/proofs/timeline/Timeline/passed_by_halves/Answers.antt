@@ -1,6 +1,4 @@
-use Rattle.tz_timeline.proofs.Words.{Counts, ap, arith, length, ◌+◌, ◌-◌, ◌∙◌}
-use Rattle.tz_timeline.proofs.DigitLaws.{digits-less, digits-more}
-use Rattle.tz_timeline.proofs.SearchSteps.{digits-halved}
+use Rattle.tz_timeline.proofs.{Words.{Counts, ap, arith, length, ◌+◌, ◌-◌, ◌∙◌}, DigitLaws.{digits-less, digits-more}, SearchSteps.{digits-halved}}
 use Rattle.tz_timeline.proofs.timeline.Timeline.passed_by_halves.Goals as goal
 
 pub halved-left-requires-clause-room : goal.halved-left-requires-clause-room

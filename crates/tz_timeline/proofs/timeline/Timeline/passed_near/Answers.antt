@@ -1,5 +1,4 @@
-use Rattle.tz_timeline.proofs.Words.{Counts, ap, arith, length, to_z-of_z, ◌+◌, ◌∙◌}
-use Rattle.tz_timeline.proofs.SearchSteps.{digits-three, near_one, one_step, two_steps}
+use Rattle.tz_timeline.proofs.{Words.{Counts, ap, arith, length, to_z-of_z, ◌+◌, ◌∙◌}, SearchSteps.{digits-three, near_one, one_step, two_steps}}
 use Rattle.tz_timeline.proofs.timeline.Timeline.passed_near.Goals as goal
 
 pub narrowed-once-requires-clause-room : goal.narrowed-once-requires-clause-room

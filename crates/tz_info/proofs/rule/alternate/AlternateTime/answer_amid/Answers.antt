@@ -1,10 +1,8 @@
 use Rattle.tz_info.proofs.Words.{Counts, IsAskedFrom, LocalType, SFits, ap, arith, inl, ints, rules, to_z-of_z, w32, w64, ◌-ℤ◌, ◌<ℤ◌, ◌∙◌, ◌≡◌}
 use Rattle.tz_info.specs.declared.rule.transition_rule.TransitionRule.TheVariants.{Alternate}
-use Rattle.tz_info.proofs.Candidates.{dst_or_std, std_or_dst}
-use Rattle.tz_info.proofs.QuestionLaws.{asked_std_dst}
-use Rattle.tz_info.proofs.SeasonAnswers.{both_asked, dst_shown, std_shown}
-use Rattle.tz_info.proofs.rule.alternate.AlternateTime.answer_amid.Goals as goal
+use Rattle.tz_info.proofs.{Candidates.{dst_or_std, std_or_dst}, QuestionLaws.{asked_std_dst}, SeasonAnswers.{both_asked, dst_shown, std_shown}}
 use Rattle.tz_info.proofs.rule.alternate.AlternateTime.answer_amid.Goals.{After-second_showing-2}
+use Rattle.tz_info.proofs.rule.alternate.AlternateTime.answer_amid.Goals as goal
 
 -- what was given fits, and so do the seconds that are asked, which are those of the rule's offsets
 seconds : (c : After-second_showing-2)

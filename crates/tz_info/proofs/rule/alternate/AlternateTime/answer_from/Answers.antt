@@ -2,8 +2,8 @@ use Rattle.tz_info.proofs.Words.{LocalType, SFits, TypeFrom, and_parts, ap, arit
 use Rattle.tz_info.specs.declared.rule.transition_rule.TransitionRule.TheVariants.{Alternate}
 use Rattle.tz_info.proofs.Candidates.{asked_both, asked_one, dst_or_std, none_since, one_second, std_or_dst}
 use Rattle.tz_info.proofs.QuestionLaws.{asked_dst_std, asked_never, asked_once, asked_std_dst}
-use Rattle.tz_info.proofs.rule.alternate.AlternateTime.answer_from.Goals as goal
 use Rattle.tz_info.proofs.rule.alternate.AlternateTime.answer_from.Goals.{After-second_showing-by_dst}
+use Rattle.tz_info.proofs.rule.alternate.AlternateTime.answer_from.Goals as goal
 
 -- what was given fits, and so do the offsets, which are those of the rule's types, and the seconds that are asked, which are theirs
 offsets : (c : After-second_showing-by_dst)

@@ -1,8 +1,7 @@
-use Rattle.tz_info.proofs.Words.{SFits, arith, ints, to_z-of_z, w32, w64, ◌-ℤ◌, ◌≡◌}
+use Rattle.tz_info.proofs.{Words.{SFits, arith, ints, to_z-of_z, w32, w64, ◌-ℤ◌, ◌≡◌}, Candidates.{asked_found, asked_other}}
 use Rattle.tz_info.specs.declared.rule.transition_rule.TransitionRule.TheVariants.{Alternate}
-use Rattle.tz_info.proofs.Candidates.{asked_found, asked_other}
-use Rattle.tz_info.proofs.rule.alternate.AlternateTime.ask.Goals as goal
 use Rattle.tz_info.proofs.rule.alternate.AlternateTime.ask.Goals.{After-offset}
+use Rattle.tz_info.proofs.rule.alternate.AlternateTime.ask.Goals as goal
 
 -- what was given fits, and so do the second and the offset of the type there
 known : (c : After-offset)

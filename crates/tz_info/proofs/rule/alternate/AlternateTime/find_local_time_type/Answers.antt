@@ -1,5 +1,4 @@
-use Rattle.tz_info.proofs.Words.{refl, to_z-of_z, true, ◌≡◌}
-use Rattle.tz_info.proofs.RuleLaws.{refused_outside}
+use Rattle.tz_info.proofs.{Words.{refl, to_z-of_z, true, ◌≡◌}, RuleLaws.{refused_outside}}
 use Rattle.tz_info.proofs.rule.alternate.AlternateTime.find_local_time_type.Goals as goal
 
 pub returns-then-not-is_rule_time : goal.returns-then-not-is_rule_time

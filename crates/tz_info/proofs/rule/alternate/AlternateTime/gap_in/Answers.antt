@@ -1,7 +1,6 @@
-use Rattle.tz_info.proofs.Words.{IsNear, LocalType, SFits, ap, arith, ints, rules, to_z-of_z, w32, w64, ◌-ℤ◌, ◌∙◌, ◌≡◌}
-use Rattle.tz_info.proofs.RuleGaps.{gap_at_end, gap_at_start}
-use Rattle.tz_info.proofs.rule.alternate.AlternateTime.gap_in.Goals as goal
+use Rattle.tz_info.proofs.{Words.{IsNear, LocalType, SFits, ap, arith, ints, rules, to_z-of_z, w32, w64, ◌-ℤ◌, ◌∙◌, ◌≡◌}, RuleGaps.{gap_at_end, gap_at_start}}
 use Rattle.tz_info.proofs.rule.alternate.AlternateTime.gap_in.Goals.{After-offset-daylight}
+use Rattle.tz_info.proofs.rule.alternate.AlternateTime.gap_in.Goals as goal
 
 -- the offsets are those of the rule's types, and the seconds that could show the local time by them are near
 known : (c : After-offset-daylight)

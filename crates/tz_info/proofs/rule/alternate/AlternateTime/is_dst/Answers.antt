@@ -1,5 +1,4 @@
-use Rattle.tz_info.proofs.Words.{SFits, arith, end_in, floors, pos, start_in, to_z-of_z, w32, ◌+ℤ◌, ◌-ℤ◌}
-use Rattle.tz_info.proofs.Neighbours.{dst_by_three, ends_near, starts_near}
+use Rattle.tz_info.proofs.{Words.{SFits, arith, end_in, floors, pos, start_in, to_z-of_z, w32, ◌+ℤ◌, ◌-ℤ◌}, Neighbours.{dst_by_three, ends_near, starts_near}}
 use Rattle.tz_info.proofs.rule.alternate.AlternateTime.is_dst.Goals as goal
 
 pub returns : goal.returns

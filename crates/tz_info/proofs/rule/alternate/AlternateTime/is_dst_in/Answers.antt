@@ -1,7 +1,6 @@
-use Rattle.tz_info.proofs.Words.{IsRuleYear, LiesIn, SFits, arith, floor_div, floors, to_z-of_z, w32, w64, ◌≡◌}
-use Rattle.tz_info.proofs.RuleLaws.{alternate_at, year_found}
-use Rattle.tz_info.proofs.rule.alternate.AlternateTime.is_dst_in.Goals as goal
+use Rattle.tz_info.proofs.{Words.{IsRuleYear, LiesIn, SFits, arith, floor_div, floors, to_z-of_z, w32, w64, ◌≡◌}, RuleLaws.{alternate_at, year_found}}
 use Rattle.tz_info.proofs.rule.alternate.AlternateTime.is_dst_in.Goals.{After-year_of}
+use Rattle.tz_info.proofs.rule.alternate.AlternateTime.is_dst_in.Goals as goal
 
 pub returns-then-decides : goal.returns-then-decides
 returns-then-decides c = let at_second = c.ranges.unix_time in simp to_z-of_z at c.is_dst_amid.ensures

@@ -1,5 +1,4 @@
-use Rattle.tz_info.proofs.Words.{AlternateAt, SFits, arith, change_found, ints, pos, to_z-of_z, w64, ◌-ℤ◌}
-use Rattle.tz_info.proofs.ChangeSearch.{change_made}
+use Rattle.tz_info.proofs.{Words.{AlternateAt, SFits, arith, change_found, ints, pos, to_z-of_z, w64, ◌-ℤ◌}, ChangeSearch.{change_made}}
 use Rattle.tz_info.proofs.RuleChanges.{rule_type_once}
 use Rattle.tz_info.proofs.rule.alternate.AlternateTime.moment_amid.Goals as goal
 

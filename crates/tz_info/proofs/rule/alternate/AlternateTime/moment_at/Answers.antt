@@ -1,9 +1,8 @@
-use Rattle.tz_info.proofs.Words.{AlternateAt, SFits, arith, change_found, ints, pos, to_z-of_z, w64, ◌-ℤ◌}
-use Rattle.tz_info.proofs.ChangeSearch.{change_made}
+use Rattle.tz_info.proofs.{Words.{AlternateAt, SFits, arith, change_found, ints, pos, to_z-of_z, w64, ◌-ℤ◌}, ChangeSearch.{change_made}}
 use Rattle.tz_info.proofs.RuleChanges.{rule_second, rule_type_once}
-use Rattle.tz_info.proofs.rule.alternate.AlternateTime.moment_at.Goals as goal
 use Rattle.tz_info.proofs.rule.alternate.AlternateTime.moment_at.Goals.{then-second-le-FIRST_RULE_TIME-via-then-second-le-FIRST_RULE_TIME}
 use Rattle.tz_info.proofs.rule.alternate.AlternateTime.moment_at.Goals.{then-second-le-FIRST_RULE_TIME-via-else-second-le-FIRST_RULE_TIME+then-second-gt-LAST_RULE_TIME}
+use Rattle.tz_info.proofs.rule.alternate.AlternateTime.moment_at.Goals as goal
 
 pub returns-then-second-le-FIRST_RULE_TIME : goal.returns-then-second-le-FIRST_RULE_TIME
 returns-then-second-le-FIRST_RULE_TIME c = λ d is at.

@@ -1,5 +1,4 @@
-use Rattle.tz_info.proofs.Words.{AlternateAt, SFits, change_found, rules, to_z-of_z, w64}
-use Rattle.tz_info.proofs.SeasonChanges.{nearest_on}
+use Rattle.tz_info.proofs.{Words.{AlternateAt, SFits, change_found, rules, to_z-of_z, w64}, SeasonChanges.{nearest_on}}
 use Rattle.tz_info.proofs.rule.alternate.AlternateTime.moment_beyond.Goals as goal
 
 pub returns-in-Err : goal.returns-in-Err

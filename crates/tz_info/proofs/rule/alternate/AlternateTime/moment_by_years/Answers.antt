@@ -1,5 +1,4 @@
-use Rattle.tz_info.proofs.Words.{AlternateAt, SFits, change_found, rules, to_z-of_z, w64}
-use Rattle.tz_info.proofs.ChangeSearch.{nearest_ahead, nearest_of_all}
+use Rattle.tz_info.proofs.{Words.{AlternateAt, SFits, change_found, rules, to_z-of_z, w64}, ChangeSearch.{nearest_ahead, nearest_of_all}}
 use Rattle.tz_info.proofs.rule.alternate.AlternateTime.moment_by_years.Goals as goal
 
 pub returns : goal.returns

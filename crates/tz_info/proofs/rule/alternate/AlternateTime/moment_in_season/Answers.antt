@@ -1,5 +1,4 @@
-use Rattle.tz_info.proofs.Words.{AlternateAt, SFits, moment_change, rules, to_z-of_z, w64}
-use Rattle.tz_info.proofs.SeasonChanges.{found_at, idle_over}
+use Rattle.tz_info.proofs.{Words.{AlternateAt, SFits, moment_change, rules, to_z-of_z, w64}, SeasonChanges.{found_at, idle_over}}
 use Rattle.tz_info.proofs.rule.alternate.AlternateTime.moment_in_season.Goals as goal
 
 pub returns-in-Some : goal.returns-in-Some

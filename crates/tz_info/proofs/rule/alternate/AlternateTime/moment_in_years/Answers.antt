@@ -1,7 +1,7 @@
 use Rattle.tz_info.proofs.Words.{IsRuleYear, SFits, arith, ints, moment_change, refl, rules, to_z-of_z, w32, w64, year_at, ◌≡◌}
 use Rattle.tz_info.proofs.RuleChanges.{IsStart, found_in, in_first, in_next, never, none_out}
-use Rattle.tz_info.proofs.rule.alternate.AlternateTime.moment_in_years.Goals as goal
 use Rattle.tz_info.proofs.rule.alternate.AlternateTime.moment_in_years.Goals.{After-rule_year_of-first, Else-not-is_rule_year}
+use Rattle.tz_info.proofs.rule.alternate.AlternateTime.moment_in_years.Goals as goal
 
 -- the year of the nearest second that the rule answers at comes first
 start : (c : goal.After-rule_year_of-first) → IsStart c.args.self.now c.args.forward c.args.stretch.after c.args.stretch.last c.rule_year_of-first.result

@@ -1,7 +1,7 @@
 use Rattle.tz_info.proofs.Words.{AlternateAt, IsStretchAhead, None, SFits, Some, change_found, moment_change, rules, to_z-of_z, w64}
 use Rattle.tz_info.proofs.ChangeSearch.{nearest_ahead, nearest_within, none_in_empty}
-use Rattle.tz_info.proofs.rule.alternate.AlternateTime.nearest_change.Goals as goal
 use Rattle.tz_info.proofs.rule.alternate.AlternateTime.nearest_change.Goals.{After-stretch_ahead-ahead}
+use Rattle.tz_info.proofs.rule.alternate.AlternateTime.nearest_change.Goals as goal
 
 ahead : (c : After-stretch_ahead-ahead) → SFits w64 c.stretch_ahead-ahead.result.after × SFits w64 c.stretch_ahead-ahead.result.last
     × IsStretchAhead c.args.forward c.args.begin c.args.second c.stretch_ahead-ahead.result.after c.stretch_ahead-ahead.result.last

@@ -1,5 +1,4 @@
-use Rattle.tz_info.proofs.Words.{SFits, arith, change_found, ints, pos, rules, to_z-of_z, w32, w64, ◌+ℤ◌}
-use Rattle.tz_info.proofs.RuleChanges.{nearest_of_year}
+use Rattle.tz_info.proofs.{Words.{SFits, arith, change_found, ints, pos, rules, to_z-of_z, w32, w64, ◌+ℤ◌}, RuleChanges.{nearest_of_year}}
 use Rattle.tz_info.proofs.rule.alternate.AlternateTime.nearest_in.Goals as goal
 
 pub returns : goal.returns

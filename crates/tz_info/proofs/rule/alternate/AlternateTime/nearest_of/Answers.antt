@@ -1,5 +1,4 @@
-use Rattle.tz_info.proofs.Words.{AlternateAt, SFits, change_found, get_or, pos, rules, to_z-of_z, w64}
-use Rattle.tz_info.proofs.ChangeSearch.{nearest_more, none_of}
+use Rattle.tz_info.proofs.{Words.{AlternateAt, SFits, change_found, get_or, pos, rules, to_z-of_z, w64}, ChangeSearch.{nearest_more, none_of}}
 use Rattle.tz_info.proofs.rule.alternate.AlternateTime.nearest_of.Goals as goal
 
 pub loop-second-init : goal.loop-second-init

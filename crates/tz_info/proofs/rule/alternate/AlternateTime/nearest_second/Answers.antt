@@ -1,5 +1,4 @@
-use Rattle.tz_info.proofs.Words.{AlternateAt, SFits, rules, to_z-of_z, w64}
-use Rattle.tz_info.proofs.BesideLaws.{found_second, second_on}
+use Rattle.tz_info.proofs.{Words.{AlternateAt, SFits, rules, to_z-of_z, w64}, BesideLaws.{found_second, second_on}}
 use Rattle.tz_info.proofs.rule.alternate.AlternateTime.nearest_second.Goals as goal
 
 pub returns-in-Ok : goal.returns-in-Ok

@@ -1,5 +1,4 @@
-use Rattle.tz_base.specs.declared.error.Error.TheVariants.{TransitionRule}
-use Rattle.tz_base.specs.declared.error.Expected.TheVariants.{EndWithinWeek}
+use Rattle.tz_base.specs.{declared.error.Error.TheVariants.{TransitionRule}, declared.error.Expected.TheVariants.{EndWithinWeek}}
 use Rattle.tz_info.proofs.Words.{Alternate, DayTime, IsAlternate, IsWithinDay, IsWithinWeek, LocalType, SFits, ap, arith, expected_of_alternate, ints, lt_true}
 use Rattle.tz_info.proofs.Words.{neg_ℤ, pos, refl, rules, seconds_by_kind, subst, to_z-of_z, true, w64, ℤ, ◌<ℤ◌, ◌≡◌}
 use Rattle.tz_info.specs.Rules.{is_strictly_within}

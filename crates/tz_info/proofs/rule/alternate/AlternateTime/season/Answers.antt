@@ -1,8 +1,7 @@
 use Rattle.tz_info.proofs.Words.{SFits, Season, ap, arith, floors, pos, refl, sym, to_z-of_z, w64, year_of, year_start, ◌*ℤ◌, ◌+ℤ◌, ◌-ℤ◌, ◌∙◌, ◌≡◌}
-use Rattle.tz_info.proofs.KindLaws.{IsMargin, margin_kept}
-use Rattle.tz_info.proofs.SeasonLaws.{own_start, season_made}
-use Rattle.tz_info.proofs.rule.alternate.AlternateTime.season.Goals as goal
+use Rattle.tz_info.proofs.{KindLaws.{IsMargin, margin_kept}, SeasonLaws.{own_start, season_made}}
 use Rattle.tz_info.proofs.rule.alternate.AlternateTime.season.Goals.{After-first_of_year-first, After-self}
+use Rattle.tz_info.proofs.rule.alternate.AlternateTime.season.Goals as goal
 
 -- what was given fits, and so do the day and the first day of its year, which lies in that year
 begun : (c : After-first_of_year-first) → SFits w64 c.args.unix_time × SFits w64 c.day_of-day.result × SFits w64 c.first_of_year-first.result

@@ -1,7 +1,6 @@
-use Rattle.tz_info.proofs.Words.{SFits, ap, of_z, rules, to_z-of_z, w64}
-use Rattle.tz_info.proofs.SeasonChanges.{IsNextIn, next_in}
-use Rattle.tz_info.proofs.rule.alternate.AlternateTime.second_ahead.Goals as goal
+use Rattle.tz_info.proofs.{Words.{SFits, ap, of_z, rules, to_z-of_z, w64}, SeasonChanges.{IsNextIn, next_in}}
 use Rattle.tz_info.proofs.rule.alternate.AlternateTime.second_ahead.Goals.{After-nearest-at}
+use Rattle.tz_info.proofs.rule.alternate.AlternateTime.second_ahead.Goals as goal
 
 next : (c : goal.After-nearest-at) → SFits w64 c.args.second × SFits w64 c.limit-limit.result × SFits w64 c.nearest-at.result
     × IsNextIn c.args.forward c.args.self.now c.args.season c.args.second c.limit-limit.result c.nearest-at.result

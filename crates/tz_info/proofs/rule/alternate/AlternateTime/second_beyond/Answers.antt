@@ -1,5 +1,4 @@
-use Rattle.tz_info.proofs.Words.{SFits, change_found, rules, to_z-of_z, w64}
-use Rattle.tz_info.proofs.BesideLaws.{found_second}
+use Rattle.tz_info.proofs.{Words.{SFits, change_found, rules, to_z-of_z, w64}, BesideLaws.{found_second}}
 use Rattle.tz_info.proofs.rule.alternate.AlternateTime.second_beyond.Goals as goal
 
 pub returns-in-Ok : goal.returns-in-Ok

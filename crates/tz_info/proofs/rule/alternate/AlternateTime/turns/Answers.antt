@@ -1,7 +1,6 @@
-use Rattle.tz_info.proofs.Words.{SFits, ap, arith, floors, sym, to_z-of_z, w64, year_of, year_start, ◌∙◌, ◌≡◌}
-use Rattle.tz_info.proofs.SeasonLaws.{own_start}
-use Rattle.tz_info.proofs.rule.alternate.AlternateTime.turns.Goals as goal
+use Rattle.tz_info.proofs.{Words.{SFits, ap, arith, floors, sym, to_z-of_z, w64, year_of, year_start, ◌∙◌, ◌≡◌}, SeasonLaws.{own_start}}
 use Rattle.tz_info.proofs.rule.alternate.AlternateTime.turns.Goals.{After-year_start-first}
+use Rattle.tz_info.proofs.rule.alternate.AlternateTime.turns.Goals as goal
 
 -- the year's first day lies in it
 first_day : (c : goal.After-year_start-first) → SFits w64 c.year_start-first.result × (c.year_start-first.result ≡ year_start c.args.year) × (year_of c.year_start-first.result ≡ c.args.year)

@@ -1,5 +1,4 @@
-use Rattle.tz_info.proofs.Words.{IsDay, SFits, arith, floors, pos, to_z-of_z, w64, year_of, ℤ, ◌*ℤ◌, ◌+ℤ◌}
-use Rattle.tz_info.proofs.KindLaws.{IsKept, end_by_kind, start_by_kind}
+use Rattle.tz_info.proofs.{Words.{IsDay, SFits, arith, floors, pos, to_z-of_z, w64, year_of, ℤ, ◌*ℤ◌, ◌+ℤ◌}, KindLaws.{IsKept, end_by_kind, start_by_kind}}
 use Rattle.tz_info.proofs.rule.alternate.AlternateTime.turns_from.Goals as goal
 
 -- each of the numbers on the way fits 64 bits

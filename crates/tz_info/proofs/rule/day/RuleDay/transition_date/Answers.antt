@@ -1,6 +1,5 @@
-use Rattle.tz_info.proofs.Words.{IsRuleDay, arith, closed_day, inl, ints, number_after, sym, to_z-of_z, ◌+◌, ◌∙◌, ◌≡◌}
+use Rattle.tz_info.proofs.{Words.{IsRuleDay, arith, closed_day, inl, ints, number_after, sym, to_z-of_z, ◌+◌, ◌∙◌, ◌≡◌}, RuleDays.{rule_day_closed}}
 use Rattle.tz_info.specs.declared.rule.day.DayForm.TheVariants.{Julian0, Julian1, MonthWeekday}
-use Rattle.tz_info.proofs.RuleDays.{rule_day_closed}
 use Rattle.tz_info.proofs.rule.day.RuleDay.transition_date.Goals as goal
 
 pub returns-in-Julian1-clause-date : goal.returns-in-Julian1-clause-date

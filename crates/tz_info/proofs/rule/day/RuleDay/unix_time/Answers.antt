@@ -1,5 +1,4 @@
-use Rattle.tz_info.proofs.Words.{arith, floors, to_z-of_z}
-use Rattle.tz_info.proofs.RuleDays.{rule_day_closed}
+use Rattle.tz_info.proofs.{Words.{arith, floors, to_z-of_z}, RuleDays.{rule_day_closed}}
 use Rattle.tz_info.proofs.rule.day.RuleDay.unix_time.Goals as goal
 
 pub returns-clause-value : goal.returns-clause-value

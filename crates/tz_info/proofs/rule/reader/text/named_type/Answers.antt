@@ -1,5 +1,4 @@
-use Rattle.tz_info.proofs.Words.{rules, to_z-of_z}
-use Rattle.tz_info.proofs.NamedTypes.{named_by}
+use Rattle.tz_info.proofs.{Words.{rules, to_z-of_z}, NamedTypes.{named_by}}
 use Rattle.tz_info.proofs.rule.reader.text.named_type.Goals as goal
 
 pub returns-clause-value : goal.returns-clause-value

@@ -1,5 +1,4 @@
-use Rattle.tz_info.proofs.Words.{arith, ints, to_z-of_z}
-use Rattle.tz_info.proofs.Candidates.{from_least}
+use Rattle.tz_info.proofs.{Words.{arith, ints, to_z-of_z}, Candidates.{from_least}}
 use Rattle.tz_info.proofs.rule.transition_rule.TransitionRule.wall_answer.Goals as goal
 
 pub returns : goal.returns

@@ -1,5 +1,4 @@
-use Rattle.tz_info.proofs.Words.{SFits, TypeAt, change_held, false, option_map, rules, to_z-of_z, true, w64}
-use Rattle.tz_info.proofs.ChangeSearch.{nearest_within}
+use Rattle.tz_info.proofs.{Words.{SFits, TypeAt, change_held, false, option_map, rules, to_z-of_z, true, w64}, ChangeSearch.{nearest_within}}
 use Rattle.tz_info.proofs.zone.all_changes.Changes.nearest.Goals as goal
 
 pub returns-then-forward-clause-found : goal.returns-then-forward-clause-found

@@ -1,5 +1,4 @@
-use Rattle.tz_info.proofs.Words.{SFits, pos, refl, to_z-of_z, w64, ◌-ℤ◌}
-use Rattle.tz_info.proofs.ChangeLists.{shorter, steps_last, steps_none}
+use Rattle.tz_info.proofs.{Words.{SFits, pos, refl, to_z-of_z, w64, ◌-ℤ◌}, ChangeLists.{shorter, steps_last, steps_none}}
 use Rattle.tz_info.proofs.zone.all_changes.ChangesDoubleEndedIterator.next_back.Goals as goal
 
 pub returns-in-Some-clause-steps : goal.returns-in-Some-clause-steps

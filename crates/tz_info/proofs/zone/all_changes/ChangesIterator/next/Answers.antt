@@ -1,5 +1,4 @@
-use Rattle.tz_info.proofs.Words.{ap, arith, length, refl, to_z-of_z}
-use Rattle.tz_info.proofs.ChangeLists.{steps_first, steps_none}
+use Rattle.tz_info.proofs.{Words.{ap, arith, length, refl, to_z-of_z}, ChangeLists.{steps_first, steps_none}}
 use Rattle.tz_info.proofs.zone.all_changes.ChangesIterator.next.Goals as goal
 
 pub returns-in-Some-clause-steps : goal.returns-in-Some-clause-steps

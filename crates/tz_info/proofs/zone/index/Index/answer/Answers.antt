@@ -1,5 +1,4 @@
-use Rattle.tz_info.proofs.Words.{WallIndex, ap, arith, digits-le, length, to_z-of_z, [], ◌∙◌, ◌≡◌}
-use Rattle.tz_info.proofs.PassedTransitions.{no_items}
+use Rattle.tz_info.proofs.{Words.{WallIndex, ap, arith, digits-le, length, to_z-of_z, [], ◌∙◌, ◌≡◌}, PassedTransitions.{no_items}}
 use Rattle.tz_info.proofs.WallPieces.{latest_answers, none_answers}
 use Rattle.tz_info.proofs.zone.index.Index.answer.Goals as goal
 

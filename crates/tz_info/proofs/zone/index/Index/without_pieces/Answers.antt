@@ -1,6 +1,5 @@
-use Rattle.tz_info.proofs.WallSegments.{no_pieces_by_rule, no_pieces_by_type}
+use Rattle.tz_info.proofs.{WallSegments.{no_pieces_by_rule, no_pieces_by_type}, zone.index.Index.without_pieces.Goals.{in-None, in-Some}}
 use Rattle.tz_info.proofs.zone.index.Index.without_pieces.Goals as goal
-use Rattle.tz_info.proofs.zone.index.Index.without_pieces.Goals.{in-None, in-Some}
 
 pub returns : goal.returns
 returns c =

@@ -1,5 +1,4 @@
-use Rattle.tz_info.proofs.Words.{SFits, TypeAt, change_held, option_map, pos, to_z-of_z, w64, ◌-ℤ◌}
-use Rattle.tz_info.proofs.ChangeSearch.{change_made, none_before, none_here}
+use Rattle.tz_info.proofs.{Words.{SFits, TypeAt, change_held, option_map, pos, to_z-of_z, w64, ◌-ℤ◌}, ChangeSearch.{change_made, none_before, none_here}}
 use Rattle.tz_info.proofs.ZoneLaws.{type_not_refused, type_once}
 use Rattle.tz_info.proofs.zone.time_zone.TimeZone.change_at.Goals as goal
 

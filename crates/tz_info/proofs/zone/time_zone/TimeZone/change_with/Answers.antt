@@ -1,5 +1,4 @@
-use Rattle.tz_info.proofs.Words.{SFits, arith, change_held, ints, option_map, rules, to_z-of_z, w128, w64}
-use Rattle.tz_info.proofs.ZoneChanges.{none_outside, with_start}
+use Rattle.tz_info.proofs.{Words.{SFits, arith, change_held, ints, option_map, rules, to_z-of_z, w128, w64}, ZoneChanges.{none_outside, with_start}}
 use Rattle.tz_info.proofs.zone.time_zone.TimeZone.change_with.Goals as goal
 
 pub returns-then-start : goal.returns-then-start

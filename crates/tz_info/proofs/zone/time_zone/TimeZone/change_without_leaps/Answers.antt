@@ -1,5 +1,4 @@
-use Rattle.tz_info.proofs.Words.{SFits, ap, change_held, of_z, option_map, rules, to_z, to_z-of_z, w64}
-use Rattle.tz_info.proofs.LeaplessChanges.{made, none_made}
+use Rattle.tz_info.proofs.{Words.{SFits, ap, change_held, of_z, option_map, rules, to_z, to_z-of_z, w64}, LeaplessChanges.{made, none_made}}
 use Rattle.tz_info.proofs.zone.time_zone.TimeZone.change_without_leaps.Goals as goal
 
 pub returns-then-here : goal.returns-then-here

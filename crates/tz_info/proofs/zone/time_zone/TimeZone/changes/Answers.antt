@@ -1,5 +1,4 @@
-use Rattle.tz_info.proofs.Words.{SFits, rules, to_z-of_z, w64}
-use Rattle.tz_info.proofs.ChangeLists.{all_left}
+use Rattle.tz_info.proofs.{Words.{SFits, rules, to_z-of_z, w64}, ChangeLists.{all_left}}
 use Rattle.tz_info.proofs.zone.time_zone.TimeZone.changes.Goals as goal
 
 pub returns : goal.returns

@@ -1,5 +1,4 @@
-use Rattle.tz_info.proofs.Words.{Counts, ap, arith, digits-le, inl, inr, length, to_z-of_z, ◌∙◌}
-use Rattle.tz_info.proofs.SegmentLaws.{come_at_time}
+use Rattle.tz_info.proofs.{Words.{Counts, ap, arith, digits-le, inl, inr, length, to_z-of_z, ◌∙◌}, SegmentLaws.{come_at_time}}
 use Rattle.tz_info.proofs.zone.time_zone.TimeZone.come_at.Goals as goal
 
 pub passed_at-requires : goal.passed_at-requires

@@ -1,5 +1,4 @@
-use Rattle.tz_info.proofs.Words.{SFits, arith, ints, rules, to_z-of_z, w64}
-use Rattle.tz_info.proofs.DifferenceLaws.{all_listed, listed_more}
+use Rattle.tz_info.proofs.{Words.{SFits, arith, ints, rules, to_z-of_z, w64}, DifferenceLaws.{all_listed, listed_more}}
 use Rattle.tz_info.proofs.zone.time_zone.TimeZone.differences.Goals as goal
 
 pub loop-at-preserved : goal.loop-at-preserved

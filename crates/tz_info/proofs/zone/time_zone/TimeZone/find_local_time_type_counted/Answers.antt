@@ -1,6 +1,5 @@
 use Rattle.tz_info.proofs.Words.{Bor, LocalType, Zone, ap, arith, by_leap_time, digits-le, length, refl, sym, to_z-of_z, ◌∙◌, ◌≡◌}
-use Rattle.tz_info.proofs.PassedTransitions.{with_transitions, without_transitions}
-use Rattle.tz_info.proofs.QuestionLaws.{asked_at_time, asked_without}
+use Rattle.tz_info.proofs.{PassedTransitions.{with_transitions, without_transitions}, QuestionLaws.{asked_at_time, asked_without}}
 use Rattle.tz_info.proofs.zone.time_zone.TimeZone.find_local_time_type_counted.Goals as goal
 
 pub passed_at-requires : goal.passed_at-requires

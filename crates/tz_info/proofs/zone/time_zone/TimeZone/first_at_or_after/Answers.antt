@@ -1,5 +1,4 @@
-use Rattle.tz_info.proofs.Words.{SFits, rules, to_z-of_z, w64}
-use Rattle.tz_info.proofs.ShownSecondLaws.{first_reached, never_before_until}
+use Rattle.tz_info.proofs.{Words.{SFits, rules, to_z-of_z, w64}, ShownSecondLaws.{first_reached, never_before_until}}
 use Rattle.tz_info.proofs.zone.time_zone.TimeZone.first_at_or_after.Goals as goal
 
 pub unreachable-requires : goal.unreachable-requires

@@ -1,6 +1,4 @@
-use Rattle.tz_info.proofs.Words.{IsExtendedZone, arith, refl, true}
-use Rattle.tz_info.proofs.PosixLaws.{zone_memory}
-use Rattle.tz_info.proofs.TextLaws.{text_low}
+use Rattle.tz_info.proofs.{Words.{IsExtendedZone, arith, refl, true}, PosixLaws.{zone_memory}, TextLaws.{text_low}}
 use Rattle.tz_info.proofs.zone.time_zone.TimeZone.from_extended_tz.Goals as goal
 
 pub returns-in-Ok-clause-memory : goal.returns-in-Ok-clause-memory

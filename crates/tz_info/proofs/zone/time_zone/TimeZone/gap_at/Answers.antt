@@ -1,7 +1,6 @@
-use Rattle.tz_info.proofs.Words.{HasReach, SFits, arith, ints, rules, to_z-of_z, w32, ◌-ℤ◌}
-use Rattle.tz_info.proofs.ExtremeLaws.{window_made}
-use Rattle.tz_info.proofs.zone.time_zone.TimeZone.gap_at.Goals as goal
+use Rattle.tz_info.proofs.{Words.{HasReach, SFits, arith, ints, rules, to_z-of_z, w32, ◌-ℤ◌}, ExtremeLaws.{window_made}}
 use Rattle.tz_info.proofs.zone.time_zone.TimeZone.gap_at.Goals.{After-self}
+use Rattle.tz_info.proofs.zone.time_zone.TimeZone.gap_at.Goals as goal
 
 reach : (c : After-self) → SFits w32 c.self.inside.extremes.greatest → SFits w32 c.self.inside.extremes.least → HasReach c.args.self.now c.args.local
 reach c fg fh =

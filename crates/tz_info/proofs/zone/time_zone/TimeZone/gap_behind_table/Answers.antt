@@ -1,5 +1,4 @@
-use Rattle.tz_info.proofs.Words.{IsSeasonIn, change_held, to_z-of_z}
-use Rattle.tz_info.proofs.RuleGaps.{gap_by_season}
+use Rattle.tz_info.proofs.{Words.{IsSeasonIn, change_held, to_z-of_z}, RuleGaps.{gap_by_season}}
 use Rattle.tz_info.proofs.zone.time_zone.TimeZone.gap_behind_table.Goals as goal
 
 pub returns : goal.returns

@@ -1,8 +1,6 @@
-use Rattle.tz_info.proofs.Words.{SFits, arith, ints, pos, rules, to_z-of_z, w64, ◌-ℤ◌, ◌≤ℤ◌}
-use Rattle.tz_info.proofs.GapLaws.{first_near, gap_at_first}
-use Rattle.tz_info.proofs.ZoneLaws.{type_once}
-use Rattle.tz_info.proofs.zone.time_zone.TimeZone.gap_by_search.Goals as goal
+use Rattle.tz_info.proofs.{Words.{SFits, arith, ints, pos, rules, to_z-of_z, w64, ◌-ℤ◌, ◌≤ℤ◌}, GapLaws.{first_near, gap_at_first}, ZoneLaws.{type_once}}
 use Rattle.tz_info.proofs.zone.time_zone.TimeZone.gap_by_search.Goals.{After-first_at_or_after-first}
+use Rattle.tz_info.proofs.zone.time_zone.TimeZone.gap_by_search.Goals as goal
 
 near : (c : After-first_at_or_after-first)
     → SFits w64 c.first_at_or_after-first.result.at × (c.requires.reach.0 ≤ℤ c.first_at_or_after-first.result.at) × (c.first_at_or_after-first.result.at ≤ℤ c.requires.reach.1)

@@ -1,9 +1,6 @@
 use Rattle.tz_info.proofs.Words.{HasType, IsReachedFrom, IsStart, IsValid, SFits, Transition, Zone, ap, arith, index_of, rules, subst, sym, to_z-of_z, w64, ◌+◌}
 use Rattle.tz_info.proofs.Words.{◌-◌, ◌∙◌, ◌≡◌}
-use Rattle.tz_info.proofs.GapLaws.{jump_found}
-use Rattle.tz_info.proofs.OnePass.{within_table}
-use Rattle.tz_info.proofs.SegmentLaws.{index_next}
-use Rattle.tz_info.proofs.WallSegments.{start_found}
+use Rattle.tz_info.proofs.{GapLaws.{jump_found}, OnePass.{within_table}, SegmentLaws.{index_next}, WallSegments.{start_found}}
 use Rattle.tz_info.proofs.zone.time_zone.TimeZone.gap_of_jump.Goals as goal
 
 pub returns-clause-gap : goal.returns-clause-gap

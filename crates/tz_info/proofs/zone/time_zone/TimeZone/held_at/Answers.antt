@@ -1,5 +1,4 @@
-use Rattle.tz_info.proofs.Words.{SFits, arith, ints, rules, to_z-of_z, w64}
-use Rattle.tz_info.proofs.SpanLaws.{span_held}
+use Rattle.tz_info.proofs.{Words.{SFits, arith, ints, rules, to_z-of_z, w64}, SpanLaws.{span_held}}
 use Rattle.tz_info.proofs.zone.time_zone.TimeZone.held_at.Goals as goal
 
 pub returns : goal.returns

@@ -1,5 +1,4 @@
-use Rattle.tz_info.proofs.Words.{Transition, ap, arith, begin_of, index_of, sym, ◌+◌, ◌-◌, ◌∙◌, ◌≡◌}
-use Rattle.tz_info.proofs.SegmentLaws.{begin_next, index_next}
+use Rattle.tz_info.proofs.{Words.{Transition, ap, arith, begin_of, index_of, sym, ◌+◌, ◌-◌, ◌∙◌, ◌≡◌}, SegmentLaws.{begin_next, index_next}}
 use Rattle.tz_info.proofs.zone.time_zone.TimeZone.latest.Goals as goal
 
 pub returns-clause-begin : goal.returns-clause-begin

@@ -1,5 +1,4 @@
-use Rattle.tz_info.proofs.Words.{to_z-of_z}
-use Rattle.tz_info.proofs.LeapOrder.{leap_times_answer}
+use Rattle.tz_info.proofs.{Words.{to_z-of_z}, LeapOrder.{leap_times_answer}}
 use Rattle.tz_info.proofs.zone.time_zone.TimeZone.leap_time_near.Goals as goal
 
 pub unreachable-requires : goal.unreachable-requires

@@ -1,5 +1,4 @@
-use Rattle.tz_info.proofs.Words.{TypeAt, to_z-of_z}
-use Rattle.tz_info.proofs.SpanLaws.{none_after}
+use Rattle.tz_info.proofs.{Words.{TypeAt, to_z-of_z}, SpanLaws.{none_after}}
 use Rattle.tz_info.proofs.zone.time_zone.TimeZone.next_held_change.Goals as goal
 
 pub returns-in-Some : goal.returns-in-Some

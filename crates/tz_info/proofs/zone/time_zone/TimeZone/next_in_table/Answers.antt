@@ -1,5 +1,4 @@
-use Rattle.tz_info.proofs.Words.{arith, change_held, to_z-of_z}
-use Rattle.tz_info.proofs.ZoneChanges.{yet_after, yet_come, yet_found, yet_none}
+use Rattle.tz_info.proofs.{Words.{arith, change_held, to_z-of_z}, ZoneChanges.{yet_after, yet_come, yet_found, yet_none}}
 use Rattle.tz_info.proofs.zone.time_zone.TimeZone.next_in_table.Goals as goal
 
 pub loop-place-init : goal.loop-place-init

@@ -1,5 +1,4 @@
-use Rattle.tz_info.proofs.Words.{◌-◌, ◌≤◌}
-use Rattle.tz_info.proofs.ZoneChanges.{AreYet}
+use Rattle.tz_info.proofs.{Words.{◌-◌, ◌≤◌}, ZoneChanges.{AreYet}}
 use Rattle.tz_info.proofs.zone.time_zone.TimeZone.next_in_table.Given as goal
 
 abbrev pub invariant-loop-place : goal.invariant-loop-place

@@ -1,5 +1,4 @@
-use Rattle.tz_info.proofs.Words.{Counts, SFits, ap, arith, digits-le, length, rules, to_z-of_z, w32, w64, ◌<◌, ◌≡◌}
-use Rattle.tz_info.proofs.LeaplessChanges.{time_at}
+use Rattle.tz_info.proofs.{Words.{Counts, SFits, ap, arith, digits-le, length, rules, to_z-of_z, w32, w64, ◌<◌, ◌≡◌}, LeaplessChanges.{time_at}}
 use Rattle.tz_info.proofs.OffsetStretchLaws.{offset_stretch_between}
 use Rattle.tz_info.proofs.zone.time_zone.TimeZone.offset_stretch_at.Goals as goal
 

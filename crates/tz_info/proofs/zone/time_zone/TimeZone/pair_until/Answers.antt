@@ -1,5 +1,4 @@
-use Rattle.tz_info.proofs.Words.{SFits, TypeAt, rules, to_z-of_z, w64}
-use Rattle.tz_info.proofs.DifferenceLaws.{pair_until}
+use Rattle.tz_info.proofs.{Words.{SFits, TypeAt, rules, to_z-of_z, w64}, DifferenceLaws.{pair_until}}
 use Rattle.tz_info.proofs.zone.time_zone.TimeZone.pair_until.Goals as goal
 
 pub returns : goal.returns

@@ -1,7 +1,5 @@
-use Rattle.tz_info.proofs.Words.{SFits, arith, ints, length, rules, to_z-of_z, w64, ◌<◌, ◌≡◌}
-use Rattle.tz_info.proofs.LeaplessChanges.{own_leap_time}
+use Rattle.tz_info.proofs.{Words.{SFits, arith, ints, length, rules, to_z-of_z, w64, ◌<◌, ◌≡◌}, LeaplessChanges.{own_leap_time}, UnixTimes.{come_at_second}}
 use Rattle.tz_info.proofs.PassedTransitions.{first_come_at, last_named}
-use Rattle.tz_info.proofs.UnixTimes.{come_at_second}
 use Rattle.tz_info.proofs.zone.time_zone.TimeZone.passed_at.Goals as goal
 
 pub passed-requires : goal.passed-requires

@@ -1,5 +1,4 @@
-use Rattle.tz_info.proofs.Words.{arith, inl, inr, refl, ◌≤◌, ◌≡◌, ◌+◌, ◌<◌, ◌⊎◌, ℕ}
-use Rattle.tz_info.proofs.IdleRuns.{alike_one}
+use Rattle.tz_info.proofs.{Words.{arith, inl, inr, refl, ◌≤◌, ◌≡◌, ◌+◌, ◌<◌, ◌⊎◌, ℕ}, IdleRuns.{alike_one}}
 use Rattle.tz_info.proofs.zone.time_zone.TimeZone.place_after.Goals as goal
 
 pub loop-step-init : goal.loop-step-init

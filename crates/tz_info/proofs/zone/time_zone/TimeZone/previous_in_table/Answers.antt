@@ -1,5 +1,4 @@
-use Rattle.tz_info.proofs.Words.{arith, change_held, to_z-of_z, ◌+◌, ◌-◌, ◌≡◌}
-use Rattle.tz_info.proofs.ZoneChanges.{ahead_come, ahead_less, ahead_none, table_last}
+use Rattle.tz_info.proofs.{Words.{arith, change_held, to_z-of_z, ◌+◌, ◌-◌, ◌≡◌}, ZoneChanges.{ahead_come, ahead_less, ahead_none, table_last}}
 use Rattle.tz_info.proofs.zone.time_zone.TimeZone.previous_in_table.Goals as goal
 
 pub loop-left-init : goal.loop-left-init

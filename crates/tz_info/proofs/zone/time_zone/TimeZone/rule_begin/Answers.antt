@@ -1,5 +1,4 @@
-use Rattle.tz_info.proofs.Words.{SFits, arith, rules, to_z-of_z, w128, ◌-◌}
-use Rattle.tz_info.proofs.ZoneChanges.{begin_last}
+use Rattle.tz_info.proofs.{Words.{SFits, arith, rules, to_z-of_z, w128, ◌-◌}, ZoneChanges.{begin_last}}
 use Rattle.tz_info.proofs.zone.time_zone.TimeZone.rule_begin.Goals as goal
 
 pub returns-clause-begin : goal.returns-clause-begin

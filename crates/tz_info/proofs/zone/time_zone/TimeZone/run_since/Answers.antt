@@ -1,5 +1,4 @@
-use Rattle.tz_info.proofs.Words.{SFits, arith, ints, rules, to_z-of_z, w64}
-use Rattle.tz_info.proofs.RunLaws.{run_since}
+use Rattle.tz_info.proofs.{Words.{SFits, arith, ints, rules, to_z-of_z, w64}, RunLaws.{run_since}}
 use Rattle.tz_info.proofs.zone.time_zone.TimeZone.run_since.Goals as goal
 
 pub returns-then-limit-change : goal.returns-then-limit-change

@@ -1,5 +1,4 @@
-use Rattle.tz_info.proofs.Words.{SFits, arith, ints, rules, to_z-of_z, w64}
-use Rattle.tz_info.proofs.RunLaws.{run_to_change, run_to_limit}
+use Rattle.tz_info.proofs.{Words.{SFits, arith, ints, rules, to_z-of_z, w64}, RunLaws.{run_to_change, run_to_limit}}
 use Rattle.tz_info.proofs.zone.time_zone.TimeZone.run_until.Goals as goal
 
 pub returns-then-change-limit : goal.returns-then-change-limit

@@ -1,5 +1,4 @@
-use Rattle.tz_info.proofs.Words.{SFits, arith, ints, rules, to_z-of_z, w64, ◌+◌}
-use Rattle.tz_info.proofs.UnixTimes.{named_within, span_in_turn}
+use Rattle.tz_info.proofs.{Words.{SFits, arith, ints, rules, to_z-of_z, w64, ◌+◌}, UnixTimes.{named_within, span_in_turn}}
 use Rattle.tz_info.proofs.zone.time_zone.TimeZone.span_among.Goals as goal
 
 pub listed-type_before-requires : goal.listed-type_before-requires

@@ -1,5 +1,4 @@
-use Rattle.tz_info.proofs.Words.{AreComeOrAll, arith, change_held, to_z-of_z, ◌+◌, ◌-◌, ◌≡◌}
-use Rattle.tz_info.proofs.SpanSearch.{span_from_to}
+use Rattle.tz_info.proofs.{Words.{AreComeOrAll, arith, change_held, to_z-of_z, ◌+◌, ◌-◌, ◌≡◌}, SpanSearch.{span_from_to}}
 use Rattle.tz_info.proofs.zone.time_zone.TimeZone.span_between.Goals as goal
 
 pub returns : goal.returns

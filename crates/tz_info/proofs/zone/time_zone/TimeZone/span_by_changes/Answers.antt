@@ -1,5 +1,4 @@
-use Rattle.tz_info.proofs.Words.{change_held, option_map, to_z-of_z}
-use Rattle.tz_info.proofs.SpanLaws.{span_between}
+use Rattle.tz_info.proofs.{Words.{change_held, option_map, to_z-of_z}, SpanLaws.{span_between}}
 use Rattle.tz_info.proofs.zone.time_zone.TimeZone.span_by_changes.Goals as goal
 
 pub returns-in-Ok : goal.returns-in-Ok

@@ -1,5 +1,4 @@
-use Rattle.tz_info.proofs.Words.{AreByUnixTime, arith, length, rules, ◌+◌, ◌-◌, ◌<◌}
-use Rattle.tz_info.proofs.UnixTimes.{at_place}
+use Rattle.tz_info.proofs.{Words.{AreByUnixTime, arith, length, rules, ◌+◌, ◌-◌, ◌<◌}, UnixTimes.{at_place}}
 use Rattle.tz_info.proofs.zone.time_zone.TimeZone.span_by_unix_time.Goals as goal
 
 pub span_among-requires : goal.span_among-requires

@@ -1,5 +1,4 @@
-use Rattle.tz_info.proofs.Words.{SFits, rules, to_z-of_z, w128, w64}
-use Rattle.tz_info.proofs.SpanSearch.{span_of_rule}
+use Rattle.tz_info.proofs.{Words.{SFits, rules, to_z-of_z, w128, w64}, SpanSearch.{span_of_rule}}
 use Rattle.tz_info.proofs.zone.time_zone.TimeZone.span_from_last.Goals as goal
 
 pub returns : goal.returns

@@ -1,5 +1,4 @@
-use Rattle.tz_info.proofs.Words.{IsLeapTime, SFits, Zone, ap, rules, subst, to_z-of_z, w128, w64, ℤ, ◌↔◌, ◌≡◌, ◌≤ℤ◌}
-use Rattle.tz_info.proofs.ZoneChanges.{comes_at}
+use Rattle.tz_info.proofs.{Words.{IsLeapTime, SFits, Zone, ap, rules, subst, to_z-of_z, w128, w64, ℤ, ◌↔◌, ◌≡◌, ◌≤ℤ◌}, ZoneChanges.{comes_at}}
 use Rattle.tz_info.proofs.zone.time_zone.TimeZone.start_of.Goals as goal
 
 pub returns-clause-comes : goal.returns-clause-comes

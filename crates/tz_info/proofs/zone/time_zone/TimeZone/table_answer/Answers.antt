@@ -1,5 +1,4 @@
-use Rattle.tz_info.proofs.Words.{Zone, ap, arith, digits-more, length, to_z-of_z, ◌*◌, ◌+◌}
-use Rattle.tz_info.proofs.WallSegments.{indexes_below, typed_answer}
+use Rattle.tz_info.proofs.{Words.{Zone, ap, arith, digits-more, length, to_z-of_z, ◌*◌, ◌+◌}, WallSegments.{indexes_below, typed_answer}}
 use Rattle.tz_info.proofs.zone.time_zone.TimeZone.table_answer.Goals as goal
 
 pub types_of-requires : goal.types_of-requires

@@ -1,6 +1,4 @@
-use Rattle.tz_info.proofs.Words.{Zone, ap, sym, to_z-of_z, ◌∙◌}
-use Rattle.tz_info.proofs.QuestionLaws.{asked_none}
-use Rattle.tz_info.proofs.WalkLaws.{tried_last}
+use Rattle.tz_info.proofs.{Words.{Zone, ap, sym, to_z-of_z, ◌∙◌}, QuestionLaws.{asked_none}, WalkLaws.{tried_last}}
 use Rattle.tz_info.proofs.zone.time_zone.TimeZone.try_last.Goals as goal
 
 pub returns-in-None-clause-found : goal.returns-in-None-clause-found

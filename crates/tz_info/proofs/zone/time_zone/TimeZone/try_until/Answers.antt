@@ -1,6 +1,6 @@
 use Rattle.tz_info.proofs.Words.{SFits, arith, inl, inr, ints, refl, rules, to_z-of_z, w64}
-use Rattle.tz_info.proofs.zone.time_zone.TimeZone.try_until.Goals as goal
 use Rattle.tz_info.proofs.zone.time_zone.TimeZone.try_until.Goals.{After-candidate-candidate}
+use Rattle.tz_info.proofs.zone.time_zone.TimeZone.try_until.Goals as goal
 
 -- what is compared fits
 fits : (c : After-candidate-candidate) → SFits w64 c.args.local × SFits w64 c.candidate-candidate.result.leap_time × SFits w64 c.args.current.unix_leap_time × SFits w64 c.args.until

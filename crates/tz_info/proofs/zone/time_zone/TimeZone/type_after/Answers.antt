@@ -1,5 +1,4 @@
-use Rattle.tz_info.proofs.Words.{Bor, LocalType, Zone, ap, arith, length, refl, slice_get_read, to_z-of_z}
-use Rattle.tz_info.proofs.PassedTransitions.{at_first, at_last, at_middle}
+use Rattle.tz_info.proofs.{Words.{Bor, LocalType, Zone, ap, arith, length, refl, slice_get_read, to_z-of_z}, PassedTransitions.{at_first, at_last, at_middle}}
 use Rattle.tz_info.proofs.zone.time_zone.TimeZone.type_after.Goals as goal
 
 pub returns-in_default-clause-found : goal.returns-in_default-clause-found

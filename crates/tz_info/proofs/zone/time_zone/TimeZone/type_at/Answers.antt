@@ -1,5 +1,4 @@
-use Rattle.tz_info.proofs.Words.{to_z-of_z}
-use Rattle.tz_info.proofs.GapLaws.{near_not_refused}
+use Rattle.tz_info.proofs.{Words.{to_z-of_z}, GapLaws.{near_not_refused}}
 use Rattle.tz_info.proofs.zone.time_zone.TimeZone.type_at.Goals as goal
 
 pub unreachable-requires : goal.unreachable-requires

@@ -1,11 +1,9 @@
-use Rattle.tz_info.proofs.Words.{Counts, IsShownIn, IsWallAnswer, IsWindow, SFits, Transition, ap, arith, digits-le, ints, length, map_of}
-use Rattle.tz_info.proofs.Words.{rules, sym, to_z-of_z, w64, ◌+◌, ◌∙◌, ◌≡◌}
-use Rattle.tz_info.proofs.QuestionLaws.{asked_for_window}
-use Rattle.tz_info.proofs.SegmentLaws.{begin_next, between_passed, index_next}
-use Rattle.tz_info.proofs.TableSearch.{Between}
+use Rattle.tz_info.proofs.Words.{Counts, IsShownIn, IsWallAnswer, IsWindow, SFits, Transition, ap, arith, digits-le, ints, length, map_of, rules, sym}
+use Rattle.tz_info.proofs.Words.{to_z-of_z, w64, ◌+◌, ◌∙◌, ◌≡◌}
+use Rattle.tz_info.proofs.{QuestionLaws.{asked_for_window}, SegmentLaws.{begin_next, between_passed, index_next}, TableSearch.{Between}}
 use Rattle.tz_info.proofs.WalkLaws.{all_segments, none_before, none_behind, one_look, rose_by_walk, tried_before, walked_more}
-use Rattle.tz_info.proofs.zone.time_zone.TimeZone.walked_answer.Goals as goal
 use Rattle.tz_info.proofs.zone.time_zone.TimeZone.walked_answer.Goals.{After-passed_count-first, After-try_until-answer, After-window-window}
+use Rattle.tz_info.proofs.zone.time_zone.TimeZone.walked_answer.Goals as goal
 
 seen : (c : goal.After-window-window) → IsWindow c.args.self.now c.args.local c.window-window.result.low c.window-window.result.high
 seen c =

@@ -1,5 +1,4 @@
-use Rattle.tz_info.proofs.Words.{arith}
-use Rattle.tz_info.proofs.ZoneLaws.{zone_of_rule_valid}
+use Rattle.tz_info.proofs.{Words.{arith}, ZoneLaws.{zone_of_rule_valid}}
 use Rattle.tz_info.proofs.zone.time_zone.TimeZone.with_rule.Goals as goal
 
 pub without_pieces-index-requires-clause-valid : goal.without_pieces-index-requires-clause-valid
