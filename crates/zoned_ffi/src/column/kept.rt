@@ -47,7 +47,6 @@ impl Kept {
 
     /// The answer to the time if it is one of them.
     #[inline(always)]
-    #[tactic(auto, using(crate::proofs::Words::casts))]
     pub fn answer_to(self, question: Question, time: i64) -> Option<i64>
         requires { IsKept question self }
         ensures { MatchOption result ⊤ (IsWritten question.entry time) }
