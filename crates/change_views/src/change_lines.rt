@@ -2,9 +2,13 @@
 
 ghost use Rattle.std.specs.Prelude.{◌≡◌, ◌++◌, ◌∷◌, [], ◌-ℤ◌, All, OnOk, Some, codes, string_bytes};
 ghost use Rattle.std.specs.Fmt.{signed_decimal};
-ghost use Rattle.naive_base.specs.{NaiveDateTime.{reading}, Reading.{ahead}, Stamp.{of_secs}};
-ghost use Rattle.change_views.specs.{Spans.{IsNearYears}, ChangeLines.{change_text, change_lines}};
-ghost use Rattle.change_views.specs.{Steps.Sides.{side_of, sides_of}, Words.{step_words}};
+ghost use Rattle.naive_base.specs.NaiveDateTime.{reading};
+ghost use Rattle.naive_base.specs.Reading.{ahead};
+ghost use Rattle.naive_base.specs.Stamp.{of_secs};
+ghost use Rattle.change_views.specs.Spans.{IsNearYears};
+ghost use Rattle.change_views.specs.ChangeLines.{change_text, change_lines};
+ghost use Rattle.change_views.specs.Steps.Sides.{side_of, sides_of};
+ghost use Rattle.change_views.specs.Words.{step_words};
 
 use crate::words::{StepWords, TypeWords};
 use naive_base::NaiveDateTime;

@@ -1,7 +1,8 @@
 //! What clocks show at the second of a change.
 
 ghost use Rattle.std.specs.Prelude.{◌≡◌, MatchOption, Some, true, false};
-ghost use Rattle.naive_base.specs.{NaiveDateTime.{printed_reading}, Stamp.{of_secs}};
+ghost use Rattle.naive_base.specs.NaiveDateTime.{printed_reading};
+ghost use Rattle.naive_base.specs.Stamp.{of_secs};
 ghost use Rattle.naive_base.specs.Text.{reading_text};
 ghost use Rattle.change_views.specs.Clocks.{clock_words, is_shown};
 

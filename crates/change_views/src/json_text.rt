@@ -2,10 +2,13 @@
 #![tactic(auto, using(crate::proofs::JsonPutting::wrote, crate::proofs::JsonPutting::puts_then))]
 
 ghost use Rattle.std.specs.Prelude.{◌≡◌, [], ◌∷◌, ◌++◌, ◌-ℤ◌, codes, decimal, flat_map};
-ghost use Rattle.std.specs.{Prelude.{unsigned_abs}, Fmt.{signed_decimal}};
-ghost use Rattle.json.specs.{Token.{key, string, number, boolean}, Tree.{json_tokens}};
-ghost use Rattle.change_views.specs.{JsonSteps.{Puts}, ChangeValues.{change_value, list_value}};
-ghost use Rattle.change_views.specs.ChangeValues.{name_value, step_name, type_value};
+ghost use Rattle.std.specs.Prelude.{unsigned_abs};
+ghost use Rattle.std.specs.Fmt.{signed_decimal};
+ghost use Rattle.json.specs.Token.{key, string, number, boolean};
+ghost use Rattle.json.specs.Tree.{json_tokens};
+ghost use Rattle.change_views.specs.JsonSteps.{Puts};
+ghost use Rattle.change_views.specs.ChangeValues.{change_value, list_value, name_value, step_name};
+ghost use Rattle.change_views.specs.ChangeValues.{type_value};
 ghost use Rattle.change_views.specs.Clocks.{clock_words};
 
 use crate::clocks::ClockOfChange;

@@ -1,13 +1,17 @@
 //! The lines that `zdump -v` prints of changes.
 
 ghost use Rattle.std.specs.Prelude.{◌≡◌, ◌++◌, ◌∷◌, [], pos, ◌-ℤ◌, All, OnOk, Some, codes};
-ghost use Rattle.std.specs.{Prelude.{string_bytes}, List.{flat_map}};
-ghost use Rattle.naive_base.specs.{NaiveDateTime.{reading}, Reading.{day_at}};
-ghost use Rattle.change_views.specs.{Spans.{IsInYears, IsNearYears}, Steps.Seconds.{clocks_of}};
-ghost use Rattle.change_views.specs.{ChangeLines.{ended_line}, ZdumpLines.{short_weekday}};
-ghost use Rattle.change_views.specs.ZdumpLines.{short_month, short_day, zdump_day_text};
-ghost use Rattle.change_views.specs.ZdumpLines.{asctime_text, type_fields, second_text, pair_lines};
-ghost use Rattle.change_views.specs.ZdumpLines.{null_line, first_lines, last_lines, zdump_text};
+ghost use Rattle.std.specs.Prelude.{string_bytes};
+ghost use Rattle.std.specs.List.{flat_map};
+ghost use Rattle.naive_base.specs.NaiveDateTime.{reading};
+ghost use Rattle.naive_base.specs.Reading.{day_at};
+ghost use Rattle.change_views.specs.Spans.{IsInYears, IsNearYears};
+ghost use Rattle.change_views.specs.Steps.Seconds.{clocks_of};
+ghost use Rattle.change_views.specs.ChangeLines.{ended_line};
+ghost use Rattle.change_views.specs.ZdumpLines.{short_weekday, short_month, short_day};
+ghost use Rattle.change_views.specs.ZdumpLines.{zdump_day_text, asctime_text, type_fields};
+ghost use Rattle.change_views.specs.ZdumpLines.{second_text, pair_lines, null_line, first_lines};
+ghost use Rattle.change_views.specs.ZdumpLines.{last_lines, zdump_text};
 
 use crate::change_lines::{shown, utc_at};
 use naive_base::{Datelike, NaiveDateTime};

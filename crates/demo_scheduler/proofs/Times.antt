@@ -1,6 +1,8 @@
 -- The times of a day, one after another: the first run that is found.
 use Rattle.std.proofs.Common.{◌≡◌, ◌<◌, ◌≤◌, ◌+◌, ℕ, ℤ, pos, length, get_or, take, sym, subst, inl, inr, arith, Option, Some, None, MatchOption, All}
-use Rattle.std.{specs.Prelude.{⊤}, proofs.lemmas.{Int.{ints, by_lt_z}, List.{take_all, Elements.{All-more, All-weaker, All-contains, Contains-get_or}}}}
+use Rattle.std.specs.Prelude.{⊤}
+use Rattle.std.proofs.{lemmas.Int.{ints, by_lt_z}, lemmas.List.{take_all}}
+use Rattle.std.proofs.lemmas.List.Elements.{All-more, All-weaker, All-contains, Contains-get_or}
 use Rattle.naive_base.specs.{Range.{IsInRange}, Reading.{Reading, IsEarlier}, declared.time.NaiveTime.{NaiveTime}}
 use Rattle.demo_scheduler.specs.{Fires.{local_on, RunsOn, IsFireOn}, Steps.{IsReachedAfter, IsEarlierInstantOf, HasNoFireOn, IsFirstFireOn}}
 use Rattle.demo_scheduler.specs.declared.schedule.Schedule.{Schedule}

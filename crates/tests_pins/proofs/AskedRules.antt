@@ -1,7 +1,7 @@
 -- Where rules answer, and how often they are asked.
-use Rattle.tz_info.specs.declared.rule.transition_rule.TransitionRule.TheVariants as rules
 use Rattle.tests_pins.proofs.Words.{Contains, IsAskedAt, IsAskedFor, IsByRule, IsByRuleFor, ap, arith, get_or, honolulu, hst, hst10, inl, inr, ints, neg_ℤ}
 use Rattle.tests_pins.proofs.Words.{new_york_rule, new_york_zone, pos, refl, suc, sym, unsigned_abs, zero, ℕ, ℤ, [], ◌+ℤ◌, ◌-ℤ◌, ◌<◌, ◌∷◌, ◌≡◌, ◌≢◌, ◌⊎◌}
+use Rattle.tz_info.specs.declared.rule.transition_rule.TransitionRule.TheVariants as rules
 
 pub always : (u : ℤ) → IsByRule new_york_zone u
 always u = record { rule = new_york_rule; of_zone = refl; leap_time = u; of_second = λ h. absurd (omega (arith, h)); from_last = refl }

@@ -3,8 +3,9 @@ use Rattle.tz_info.specs.TzGrammar.{checked_day, hours_minutes_seconds, minutes_
 use Rattle.tz_info.proofs.Words.{alternate, date, day, days, dst_offset, duration, end, fixed, given_offset, julian_date, month_date, named, next_hour, offset}
 use Rattle.tz_info.proofs.Words.{optional_time, time}
 use Rattle.tz_timeline.specs.Digits.{digits as binary_digits}
-use Rattle.zoneq_lib.{specs.Questions.{calendar_day, fold, gap, text_query, unix_seconds}, proofs.CitedWords.{Begins, Word, at_query, data_query, int_at}}
-use Rattle.zoneq_lib.proofs.CitedWords.{integer, local_time, next, question, resolve_query, show_query, tag_at, wall_query}
+use Rattle.zoneq_lib.specs.Questions.{calendar_day, fold, gap, text_query, unix_seconds}
+use Rattle.zoneq_lib.proofs.CitedWords.{Begins, Word, at_query, data_query, int_at, integer, local_time, next, question, resolve_query, show_query, tag_at}
+use Rattle.zoneq_lib.proofs.CitedWords.{wall_query}
 use Rattle.tz_write.proofs.Words.{begins, counts_bytes, file_bytes, first_half, header_bytes, later_version, leap_bytes, number_bytes, second_half}
 use Rattle.tz_write.proofs.Words.{signed_bytes, type_bytes}
 use Rattle.zonedump_lib.specs.RuleWords.{moment_words, month_words, week_words, weekday_words}

@@ -1,15 +1,15 @@
 -- The pieces of Honolulu's file, put together from bytes.
-use Rattle.tz_base.specs.declared.error.{Error.TheVariants.{InvalidTzFile, UnsupportedTzFile}, Expected.TheVariants.{NothingAfterBlockOfVersion1, Version1To3}}
-use Rattle.tz_base.specs.{declared.error.Expected.TheVariants.{Version2Or3InSecondHeader}, Names.{is_name, name_from}}
+use Rattle.tz_base.specs.{declared.error.Error.TheVariants.{InvalidTzFile, UnsupportedTzFile}, Names.{is_name, name_from}}
+use Rattle.tz_base.specs.declared.error.Expected.TheVariants.{NothingAfterBlockOfVersion1, Version1To3, Version2Or3InSecondHeader}
 use Rattle.tz_info.specs.{declared.file.header.Version.TheVariants.{Two}, FileContents.{AreRecords, file_time}}
 use Rattle.tests_pins.proofs.Words.{Bool, Error, HasPieces, IndicatorsAgree, IsAscii-cons, IsAscii-nil, IsFooter, IsMark, IsTzFile, IsUtf8-from_ascii, List}
 use Rattle.tests_pins.proofs.Words.{LocalType, None, PieceFault, Place, SpellTransitions, SpellTypes, Spells, SpellsType, Transition, Version, Zone, [], apart}
 use Rattle.tests_pins.proofs.Words.{arith, be_u32, block as a_block, counts, counts_test, designations, false, file as a_file, file_with, first_pieces}
 use Rattle.tests_pins.proofs.Words.{from_be_bytes, header as a_header, honolulu, honolulu_file, honolulu_from, hst10, hst_footer, indicators, inl, inr, lawful}
 use Rattle.tests_pins.proofs.Words.{least_offset, length, long_times, magic, neg_ℤ, parts, pieces, pos, refl, short_file, short_times, signed, six_counts, true}
-use Rattle.tests_pins.proofs.{Words.{type_indexes, type_records, tzif, version, w32, ℕ, ℤ, ◌++◌, ◌<ℤ◌, ◌<◌, ◌∷◌, ◌≡◌}, Computed.{files}}
-use Rattle.tests_pins.{specs.{Honolulu.{honolulu_block, honolulu_header}, Zones.{honolulu_type, hst}}, proofs.{FileParts.{parts_are}, SpelledTexts.{hst_10}}}
-use Rattle.tests_pins.proofs.SpelledTexts.{some_bytes}
+use Rattle.tests_pins.proofs.Words.{type_indexes, type_records, tzif, version, w32, ℕ, ℤ, ◌++◌, ◌<ℤ◌, ◌<◌, ◌∷◌, ◌≡◌}
+use Rattle.tests_pins.proofs.{Computed.{files}, FileParts.{parts_are}, SpelledTexts.{hst_10, some_bytes}}
+use Rattle.tests_pins.specs.{Honolulu.{honolulu_block, honolulu_header}, Zones.{honolulu_type, hst}}
 use Rattle.std.proofs.{Common.{drop, map, sym, take}, lemmas.List.{take-append-drop}}
 
 -- ---- headers

@@ -1,6 +1,6 @@
 -- New York's moments, and the types between them.
-use Rattle.tz_info.{proofs.RuleDays.{day_rises, rule_day_closed}, specs.{RuleDayOf.{rule_day}, declared.rule.day.DayForm.TheVariants.{MonthWeekday}}}
-use Rattle.tz_info.specs.Moments.{IsRuleYear}
+use Rattle.tz_info.proofs.RuleDays.{day_rises, rule_day_closed}
+use Rattle.tz_info.specs.{RuleDayOf.{rule_day}, declared.rule.day.DayForm.TheVariants.{MonthWeekday}, Moments.{IsRuleYear}}
 use Rattle.tests_pins.proofs.Words.{◌+ℤ◌, IsInSomeYear, IsYearOf, RuleAt, arith, by_lt_z, closed_day, day_number, days_of_months, edt, end_in, est, false}
 use Rattle.tests_pins.proofs.Words.{false≢true, floors, ints, moment, new_york, new_york_rule, pos, refl, start_in, true, year_start, ℤ, ◌<ℤ◌, ◌≡◌, ◌≤ℤ◌}
 

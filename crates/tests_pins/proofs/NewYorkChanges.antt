@@ -1,8 +1,8 @@
 -- New York's clock changes in 2021.
 use Rattle.tests_pins.proofs.Words.{AreChanges, Change, Contains, IsChange, IsFromUntil, LocalType, RuleAt, TypeAt, ap, arith, autumn, by_lt_z, change_at, edt}
 use Rattle.tests_pins.proofs.Words.{est, get_or, inl, inr, ints, new_york_rule, new_york_zone, pos, spring, subst, suc, sym, unsigned_abs, zero, ℕ, ℤ, [], ◌-ℤ◌}
-use Rattle.tests_pins.proofs.{Words.{◌<ℤ◌, ◌<◌, ◌∙◌, ◌∷◌, ◌≡◌, ◌≤ℤ◌, ◌⊎◌}, NewYork.{edt_between, est_2022, est_early, est_late, est_winter}}
-use Rattle.tests_pins.proofs.NewYorkClocks.{apart, fits, one_type, type_of_rule}
+use Rattle.tests_pins.proofs.Words.{◌<ℤ◌, ◌<◌, ◌∙◌, ◌∷◌, ◌≡◌, ◌≤ℤ◌, ◌⊎◌}
+use Rattle.tests_pins.proofs.{NewYork.{edt_between, est_2022, est_early, est_late, est_winter}, NewYorkClocks.{apart, fits, one_type, type_of_rule}}
 
 -- the rule's types differ from one second to the next
 pub change_is : (u : ℤ) (before after : LocalType) → pos 1 ≤ℤ u → u ≤ℤ pos 2_000_000_000 → RuleAt new_york_rule (u -ℤ pos 1) before

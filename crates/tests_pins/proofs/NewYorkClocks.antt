@@ -1,8 +1,10 @@
 -- What New York's clocks show in 2021.
-use Rattle.tz_info.{proofs.RuleLaws.{rule_once}, specs.{Gaps.{IsTypeBeforeGap}, WallClocks.{Shows}}}
+use Rattle.tz_info.proofs.RuleLaws.{rule_once}
+use Rattle.tz_info.specs.{Gaps.{IsTypeBeforeGap}, WallClocks.{Shows}}
 use Rattle.tests_pins.proofs.Words.{Bool, FitsSigned, IsNeverShown, IsShownBetween, IsShownOnce, LocalType, RuleAt, ShowsMore, TypeAt, ap, arith, by_lt_z, edt}
 use Rattle.tests_pins.proofs.Words.{est, false, false≢true, fits_signed_from_abs, inl, inr, ints, new_york, new_york_rule, new_york_zone, pos, refl, true}
-use Rattle.tests_pins.proofs.{Words.{type_when, w64, ℤ, ◌+ℤ◌, ◌-ℤ◌, ◌<ℤ◌, ◌≡◌, ◌≤ℤ◌, ◌⊎◌}, NewYork.{edt_between, est_early, est_late}}
+use Rattle.tests_pins.proofs.Words.{type_when, w64, ℤ, ◌+ℤ◌, ◌-ℤ◌, ◌<ℤ◌, ◌≡◌, ◌≤ℤ◌, ◌⊎◌}
+use Rattle.tests_pins.proofs.NewYork.{edt_between, est_early, est_late}
 
 pub type_of_rule : (u : ℤ) (t : LocalType) → RuleAt new_york_rule u t → TypeAt new_york_zone u t
 type_of_rule u t r = record {

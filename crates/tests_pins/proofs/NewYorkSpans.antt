@@ -1,7 +1,8 @@
 -- New York's span of standard time in the winter of 2020.
 use Rattle.tests_pins.proofs.Words.{IsChange, IsInSpan, IsSpan, IsSpanAt, LocalType, RuleAt, Span, TypeAt, arith, change_at, edt, est, ints, new_york_rule}
-use Rattle.tests_pins.proofs.{Words.{new_york_zone, pos, sym, winter, ℤ, ◌-ℤ◌, ◌<ℤ◌, ◌∙◌, ◌≡◌}, NewYork.{edt_until_2020, est_winter}}
-use Rattle.tests_pins.proofs.{NewYorkChanges.{change_is, no_change, spring_is}, NewYorkClocks.{apart, fits, one_type, type_of_rule}}
+use Rattle.tests_pins.proofs.Words.{new_york_zone, pos, sym, winter, ℤ, ◌-ℤ◌, ◌<ℤ◌, ◌∙◌, ◌≡◌}
+use Rattle.tests_pins.proofs.{NewYork.{edt_until_2020, est_winter}, NewYorkChanges.{change_is, no_change, spring_is}}
+use Rattle.tests_pins.proofs.NewYorkClocks.{apart, fits, one_type, type_of_rule}
 
 winter_begins : IsChange (TypeAt new_york_zone) (change_at (pos 1_604_210_400) edt est)
 winter_begins = change_is (pos 1_604_210_400) edt est (omega arith) (omega arith) edt_until_2020

@@ -1,6 +1,7 @@
 -- Clocks that are set once, by an hour, at 1970-01-01 00:00:00 UTC.
-use Rattle.offset_core.specs.{Around.{Takes, taken_in_fold, taken_in_gap}, declared.around.{Around.TheVariants.{Ambiguous, Gap, Single}, Taken.{Taken}}}
-use Rattle.offset_core.specs.declared.{around.Taken.TheVariants.{InGap, Shown}, choice.Choice.{Choice}}
+use Rattle.offset_core.specs.{Around.{Takes, taken_in_fold, taken_in_gap}, declared.around.Around.TheVariants.{Ambiguous, Gap, Single}}
+use Rattle.offset_core.specs.{declared.around.Taken.{Taken}, declared.choice.Choice.{Choice}}
+use Rattle.offset_core.specs.declared.around.Taken.TheVariants.{InGap, Shown}
 use Rattle.std.proofs.Common.{Err, Ok, Result}
 use Rattle.zoned_time.proofs.ForCallers.{one_taken, taken_once}
 use Rattle.tests_pins.proofs.Words.{IsBeforeGap, IsShownBetween, IsShownOnce, IsTaken, Reading, ResolveError, ShowsByOffset, Zoned, arith, first_second, ints}

@@ -2,8 +2,9 @@
 use Rattle.tz_base.specs.declared.error.Error.TheVariants.{InvalidTzString, UnsupportedTzString}
 use Rattle.tz_base.specs.declared.error.Expected.TheVariants.{DaysWhenDaylightSavingTimeStartsAndEnds, HoursMinutesAndSecondsWithinTheirLimits}
 use Rattle.tests_pins.proofs.Words.{Bool, Err, Error, IsPosixZone, IsTextFault, IsTzText, List, Ok, Result, TransitionRule, ap, false, false≢true, foo_24, hst}
-use Rattle.tests_pins.proofs.Words.{inr, lawful, new_york_rule, new_york_text, new_york_zone, no_days, read, refl, sym, text, true, utc_rule, utc_text, ℕ}
-use Rattle.tests_pins.proofs.{Words.{[], ◌∙◌, ◌∷◌, ◌≡◌}, Computed.{texts}}
+use Rattle.tests_pins.proofs.Words.{inr, lawful, new_york_rule, new_york_text, new_york_zone, no_days, read, refl, sym, text, true, utc_rule, utc_text, ℕ, []}
+use Rattle.tests_pins.proofs.Words.{◌∙◌, ◌∷◌, ◌≡◌}
+use Rattle.tests_pins.proofs.Computed.{texts}
 use Rattle.tz_info.specs.declared.rule.transition_rule.TransitionRule.TheVariants as rules
 
 -- a list with an item is not empty

@@ -2,7 +2,8 @@
 use Rattle.tz_info.proofs.TextLaws.{one_rule}
 use Rattle.tests_pins.proofs.Words.{AreInPairs, AreShortest, Bool, IsNamedIn, IsWrittenText, IsWrittenZone, LocalType, ap, arith, codes, false, false≢true}
 use Rattle.tests_pins.proofs.Words.{get_or, hst, inl, inr, length, new_york_long, new_york_rule, new_york_text, new_york_zone, refl, suc, sym, true, utc_rule}
-use Rattle.tests_pins.proofs.{Words.{utc_text, zero, ℕ, [], ◌<◌, ◌∷◌, ◌≡◌, ◌⊎◌}, SpelledTexts.{new_york, new_york_gives, utc}}
+use Rattle.tests_pins.proofs.Words.{utc_text, zero, ℕ, [], ◌<◌, ◌∷◌, ◌≡◌, ◌⊎◌}
+use Rattle.tests_pins.proofs.SpelledTexts.{new_york, new_york_gives, utc}
 
 no_colons : AreInPairs new_york_text
 no_colons = (λ e. absurd (omega (arith, e)), (λ e. absurd (omega (arith, e)), (λ e. absurd (omega (arith, e)), (λ e. absurd (omega (arith, e)), (λ e. absurd (omega (arith, e)), (λ e. absurd (omega (arith, e)), (λ e. absurd (omega (arith, e)), (λ e. absurd (omega (arith, e)), (λ e. absurd (omega (arith, e)), (λ e. absurd (omega (arith, e)), (λ e. absurd (omega (arith, e)), (λ e. absurd (omega (arith, e)), (λ e. absurd (omega (arith, e)), (λ e. absurd (omega (arith, e)), (λ e. absurd (omega (arith, e)), (λ e. absurd (omega (arith, e)), (λ e. absurd (omega (arith, e)), (λ e. absurd (omega (arith, e)), (λ e. absurd (omega (arith, e)), (λ e. absurd (omega (arith, e)), (λ e. absurd (omega (arith, e)), (λ e. absurd (omega (arith, e)), tt))))))))))))))))))))))

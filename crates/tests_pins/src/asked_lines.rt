@@ -1,19 +1,21 @@
 //! Lines that `zoneq` reads, and their answers.
 
 ghost use Rattle.std.specs.Prelude.{◌≡◌, ◌∷◌, [], codes, pos, neg_ℤ, None, Some, Ok, Err};
-ghost use Rattle.offset_core.specs.declared.choice.GapChoice.TheVariants as gaps;
-ghost use Rattle.offset_core.specs.declared.choice.FoldChoice.TheVariants as folds;
-ghost use Rattle.offset_core.specs.declared.local_result.LocalResult.TheVariants as results;
 ghost use Rattle.naive_base.specs.Stamp.{of_secs};
 ghost use Rattle.tz_base.specs.Grammar.{Spells};
 ghost use Rattle.zoneq_lib.specs.Answers.{AnswersAt, AnswersWall, shown_date_time, shown_refusal};
 ghost use Rattle.zoneq_lib.specs.Answers.{shown_type, shown_wall, shown_zone};
-ghost use Rattle.zoneq_lib.specs.{Endings.{message_of, status_of}, Faults.{fault_text}};
-ghost use Rattle.zoneq_lib.specs.{Lines.{IsSplit, ended_lines, last_line}, Questions.{Asks, At}};
-ghost use Rattle.zoneq_lib.specs.Questions.{Data, Wall, Resolve, Show, IsBadLine, choice};
-ghost use Rattle.zoneq_lib.specs.declared.run_error.RunError.TheVariants as errors;
-ghost use Rattle.tests_pins.specs.{Changes.{unnamed}, NewYork.{new_york_zone, est, edt}};
+ghost use Rattle.zoneq_lib.specs.Endings.{message_of, status_of};
+ghost use Rattle.zoneq_lib.specs.Faults.{fault_text};
+ghost use Rattle.zoneq_lib.specs.Lines.{IsSplit, ended_lines, last_line};
+ghost use Rattle.zoneq_lib.specs.Questions.{Asks, At, Data, Wall, Resolve, Show, IsBadLine, choice};
+ghost use Rattle.tests_pins.specs.Changes.{unnamed};
+ghost use Rattle.tests_pins.specs.NewYork.{new_york_zone, est, edt};
 ghost use Rattle.tests_pins.specs.Zones.{honolulu, hst10, utc_zone};
+ghost use Rattle.offset_core.specs.declared.choice.GapChoice.TheVariants as gaps;
+ghost use Rattle.offset_core.specs.declared.choice.FoldChoice.TheVariants as folds;
+ghost use Rattle.offset_core.specs.declared.local_result.LocalResult.TheVariants as results;
+ghost use Rattle.zoneq_lib.specs.declared.run_error.RunError.TheVariants as errors;
 
 /// A line of each kind but `text`.
 pub fn questions()

@@ -2,10 +2,12 @@
 #![tactic(auto, unfolding(crate::proofs::Computed::calendar))]
 
 ghost use Rattle.std.specs.Prelude.{◌≡◌, ℕ, ◌≤◌, ℤ, pos, neg_ℤ, ◌+ℤ◌, true, false};
-ghost use Rattle.naive_base.specs.{Year.{is_leap, days_in_year, year_start}, Month.{days_in_month}};
-ghost use Rattle.naive_base.specs.{Month.{days_of_months}, Date.{IsDate, day_number}};
+ghost use Rattle.naive_base.specs.Year.{is_leap, days_in_year, year_start};
+ghost use Rattle.naive_base.specs.Month.{days_in_month, days_of_months};
+ghost use Rattle.naive_base.specs.Date.{IsDate, day_number};
 ghost use Rattle.naive_base.specs.DateOf.{year_of, day_of_year, month_of, day_of_month};
-ghost use Rattle.naive_base.specs.{Weekday.{weekday_of}, IsoWeek.{IsWeekOf, iso_year, iso_number}};
+ghost use Rattle.naive_base.specs.Weekday.{weekday_of};
+ghost use Rattle.naive_base.specs.IsoWeek.{IsWeekOf, iso_year, iso_number};
 ghost use Rattle.naive_base.specs.declared.iso_week.IsoWeek.{IsoWeek};
 
 /// Of the full centuries only every fourth is a leap year.

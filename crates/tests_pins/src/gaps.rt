@@ -2,7 +2,9 @@
 
 ghost use Rattle.std.specs.Prelude.{◌≡◌, pos};
 ghost use Rattle.tz_base.specs.LocalTypes.{LocalType};
-ghost use Rattle.tz_info.specs.{Around.{AreTypesAround}, Gaps.{IsShown, HasGap}, Zones.{TypeAt}};
+ghost use Rattle.tz_info.specs.Around.{AreTypesAround};
+ghost use Rattle.tz_info.specs.Gaps.{IsShown, HasGap};
+ghost use Rattle.tz_info.specs.Zones.{TypeAt};
 ghost use Rattle.offset_core.specs.declared.around.Around.TheVariants.{Single, Ambiguous, Gap};
 ghost use Rattle.tests_pins.specs.NewYork.{new_york_zone, est, edt};
 

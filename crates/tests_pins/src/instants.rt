@@ -2,14 +2,19 @@
 //! between what two clocks show.
 
 ghost use Rattle.std.specs.Prelude.{◌≡◌, ℤ, pos, neg_ℤ};
-ghost use Rattle.std.specs.declared.cmp.Ordering.TheVariants as orders;
-ghost use Rattle.naive_base.specs.{NaiveDate.{day_of}, Reading.{Reading}, Stamp.{IsSubsecond}};
+ghost use Rattle.naive_base.specs.NaiveDate.{day_of};
+ghost use Rattle.naive_base.specs.Reading.{Reading};
+ghost use Rattle.naive_base.specs.Stamp.{IsSubsecond};
 ghost use Rattle.naive_base.specs.declared.date.NaiveDate.{NaiveDate};
-ghost use Rattle.zoned_time.specs.{Order.{compared}, Relocal.{instant_of}, Stamps.{millis_of}};
-ghost use Rattle.zoned_time.specs.{Stamps.{micros_of, of_millis, of_micros}, Years.{IsWholeYears}};
-ghost use Rattle.zoned_time.specs.{Zone.{midnight_of}, Zoned.{Zoned, local_of}};
-ghost use Rattle.tests_pins.specs.{Readings.{clock_reading}, Instants.{own_seconds, in_new_york}};
-ghost use Rattle.tests_pins.specs.Instants.{noon};
+ghost use Rattle.zoned_time.specs.Order.{compared};
+ghost use Rattle.zoned_time.specs.Relocal.{instant_of};
+ghost use Rattle.zoned_time.specs.Stamps.{millis_of, micros_of, of_millis, of_micros};
+ghost use Rattle.zoned_time.specs.Years.{IsWholeYears};
+ghost use Rattle.zoned_time.specs.Zone.{midnight_of};
+ghost use Rattle.zoned_time.specs.Zoned.{Zoned, local_of};
+ghost use Rattle.tests_pins.specs.Readings.{clock_reading};
+ghost use Rattle.tests_pins.specs.Instants.{own_seconds, in_new_york, noon};
+ghost use Rattle.std.specs.declared.cmp.Ordering.TheVariants as orders;
 
 /// New York's clocks show 2021-11-07 01:30:00 five hours and a half after 06:30:00 of UTC began to
 /// be shown at Greenwich: at an offset of five hours behind.

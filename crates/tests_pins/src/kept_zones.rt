@@ -1,12 +1,14 @@
 //! Clock changes of parsed zones as two instants, and zones that are not kept.
 
 ghost use Rattle.std.specs.Prelude.{◌≡◌, ◌∷◌, [], pos, neg_ℤ};
-ghost use Rattle.naive_base.specs.{Range.{first_second, last_second}, Stamp.{of_secs}};
+ghost use Rattle.naive_base.specs.Range.{first_second, last_second};
+ghost use Rattle.naive_base.specs.Stamp.{of_secs};
 ghost use Rattle.zoned_ref.specs.ZoneChange.{IsAfter, IsUpTo, change_of_instants};
 ghost use Rattle.zoned_ref.specs.Offsets.{IsNarrow};
 ghost use Rattle.zoned_kept.specs.KeepError.{IsRefused, given_back};
 ghost use Rattle.zoned_kept.specs.declared.keep_error.KeepError.TheVariants.{WideZone, OutOfMemory};
-ghost use Rattle.tests_pins.specs.{Changes.{spring, wide}, NewYork.{new_york_zone, est, edt}};
+ghost use Rattle.tests_pins.specs.Changes.{spring, wide};
+ghost use Rattle.tests_pins.specs.NewYork.{new_york_zone, est, edt};
 ghost use Rattle.tests_pins.specs.Zones.{utc_zone};
 
 /// 06:59:59 UTC with EST and 07:00:00 UTC with EDT are New York's change of 14 March 2021.

@@ -1,10 +1,11 @@
 //! Printed bytes of offsets, times, dates and local date-times.
 #![tactic(auto, unfolding(crate::proofs::Computed::printing))]
 
-ghost use Rattle.std.specs.{Prelude.{◌≡◌, ◌∷◌, pos, neg_ℤ, codes}, Fmt.{decimal}};
+ghost use Rattle.std.specs.Prelude.{◌≡◌, ◌∷◌, pos, neg_ℤ, codes};
+ghost use Rattle.std.specs.Fmt.{decimal};
 ghost use Rattle.offset_core.specs.Offset.{IsWithinDay, offset_text};
-ghost use Rattle.naive_base.specs.{Reading.{Reading}, Text.{year_text, time_text, date_text}};
-ghost use Rattle.naive_base.specs.Text.{reading_text};
+ghost use Rattle.naive_base.specs.Reading.{Reading};
+ghost use Rattle.naive_base.specs.Text.{year_text, time_text, date_text, reading_text};
 
 /// Strictly within a day.
 pub fn limits()

@@ -2,13 +2,15 @@
 #![tactic(auto, unfolding(crate::proofs::Computed::wording))]
 
 ghost use Rattle.std.specs.Prelude.{◌≡◌, ◌∷◌, [], ◌++◌, codes, pos, neg_ℤ, true, false};
-ghost use Rattle.json.specs.{Print.{print}, Tree.{json_tokens}};
-ghost use Rattle.change_views.specs.{ChangeLines.{change_lines}, ChangeValues.{change_value}};
-ghost use Rattle.change_views.specs.{ChangeValues.{step_name, type_value}, Words.{offset_words}};
-ghost use Rattle.change_views.specs.{Words.{type_words, step_words}, ZdumpLines.{pair_lines}};
-ghost use Rattle.change_views.specs.ZdumpLines.{first_lines, last_lines, short_month};
+ghost use Rattle.json.specs.Print.{print};
+ghost use Rattle.json.specs.Tree.{json_tokens};
+ghost use Rattle.change_views.specs.ChangeLines.{change_lines};
+ghost use Rattle.change_views.specs.ChangeValues.{change_value, step_name, type_value};
+ghost use Rattle.change_views.specs.Words.{offset_words, type_words, step_words};
+ghost use Rattle.change_views.specs.ZdumpLines.{pair_lines, first_lines, last_lines, short_month};
 ghost use Rattle.change_views.specs.ZdumpLines.{short_weekday, short_day, flag_text};
-ghost use Rattle.tests_pins.specs.{Changes.{change_at, spring, unnamed}, NewYork.{est, edt}};
+ghost use Rattle.tests_pins.specs.Changes.{change_at, spring, unnamed};
+ghost use Rattle.tests_pins.specs.NewYork.{est, edt};
 
 /// What `zdump -v` prints of New York's change on 11 March 2007.
 pub fn zdump_pair()

@@ -2,7 +2,8 @@
 
 ghost use Rattle.std.specs.Prelude.{◌≡◌, ℕ, ℤ, ◌+◌, ◌-◌, pos, neg_ℤ};
 ghost use Rattle.tz_info.specs.Questions.{IsByRule, IsAskedAt, IsAskedFor};
-ghost use Rattle.tests_pins.specs.{NewYork.{new_york_zone}, Zones.{honolulu, hst10}};
+ghost use Rattle.tests_pins.specs.NewYork.{new_york_zone};
+ghost use Rattle.tests_pins.specs.Zones.{honolulu, hst10};
 
 /// Honolulu's rule answers from the last transition on, and New York's `EST5EDT,M3.2.0,M11.1.0` at
 /// every second.

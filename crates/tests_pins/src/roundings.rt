@@ -1,9 +1,10 @@
 //! Multiples and digits, as chrono's documentation of rounding has them.
 
 ghost use Rattle.std.specs.Prelude.{◌≡◌, pos, neg_ℤ, codes};
-ghost use Rattle.zoned_round.specs.{Durations.{IsRoundingLength}, Errors.{IsRoundingFault}};
-ghost use Rattle.zoned_round.specs.{Errors.{message}, Multiples.{multiple_below, multiple_above}};
-ghost use Rattle.zoned_round.specs.{Multiples.{nearest_multiple}, Subseconds.{rounded, cut}};
+ghost use Rattle.zoned_round.specs.Durations.{IsRoundingLength};
+ghost use Rattle.zoned_round.specs.Errors.{IsRoundingFault, message};
+ghost use Rattle.zoned_round.specs.Multiples.{multiple_below, multiple_above, nearest_multiple};
+ghost use Rattle.zoned_round.specs.Subseconds.{rounded, cut};
 ghost use Rattle.zoned_round.specs.declared.error.RoundingError.{RoundingError};
 ghost use Rattle.zoned_round.specs.declared.error.RoundingError.TheVariants.{DurationExceedsLimit};
 ghost use Rattle.zoned_round.specs.declared.error.RoundingError.TheVariants.{DurationExceedsTimestamp};

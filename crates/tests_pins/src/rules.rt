@@ -3,9 +3,11 @@
 
 ghost use Rattle.std.specs.Prelude.{◌≡◌, pos, neg_ℤ};
 ghost use Rattle.naive_base.specs.Date.{day_number};
-ghost use Rattle.tz_info.specs.{RuleDays.{IsDayOf, IsRuleDay}, RuleDayOf.{rule_day}};
-ghost use Rattle.tz_info.specs.{Rules.{IsWithinWeek}, Moments.{start_in, end_in, IsYearOf}};
-ghost use Rattle.tz_info.specs.{Moments.{IsRuleYear}, RuleTypes.{RuleAt, IsRuleRefused}};
+ghost use Rattle.tz_info.specs.RuleDays.{IsDayOf, IsRuleDay};
+ghost use Rattle.tz_info.specs.RuleDayOf.{rule_day};
+ghost use Rattle.tz_info.specs.Rules.{IsWithinWeek};
+ghost use Rattle.tz_info.specs.Moments.{start_in, end_in, IsYearOf, IsRuleYear};
+ghost use Rattle.tz_info.specs.RuleTypes.{RuleAt, IsRuleRefused};
 ghost use Rattle.tz_info.specs.declared.rule.day.DayForm.TheVariants.{Julian1, Julian0};
 ghost use Rattle.tz_info.specs.declared.rule.day.DayForm.TheVariants.{MonthWeekday};
 ghost use Rattle.tests_pins.specs.NewYork.{new_york, new_york_rule, est, edt};

@@ -1,8 +1,10 @@
 //! Spans: New York's standard time from November 2020 to March 2021.
 
 ghost use Rattle.std.specs.Prelude.{◌≡◌, pos, Some, None};
-ghost use Rattle.tz_info.specs.{Spans.{IsInSpan, IsSpan, IsSpanAt}, Zones.{TypeAt}};
-ghost use Rattle.tests_pins.specs.{NewYork.{new_york_zone, est}, Spans.{winter, span_of}};
+ghost use Rattle.tz_info.specs.Spans.{IsInSpan, IsSpan, IsSpanAt};
+ghost use Rattle.tz_info.specs.Zones.{TypeAt};
+ghost use Rattle.tests_pins.specs.NewYork.{new_york_zone, est};
+ghost use Rattle.tests_pins.specs.Spans.{winter, span_of};
 
 /// The span of 1615705199 is EST, from 1604210400 until 1615705200. It has its first second, and
 /// not its end.

@@ -2,19 +2,23 @@
 #![tactic(auto, unfolding(crate::proofs::Computed::wording))]
 
 ghost use Rattle.std.specs.Prelude.{◌≡◌, ◌∷◌, [], ◌++◌, codes, pos, neg_ℤ, None, Some};
-ghost use Rattle.json.specs.{Print.{print}, Tree.{json_tokens}};
+ghost use Rattle.json.specs.Print.{print};
+ghost use Rattle.json.specs.Tree.{json_tokens};
 ghost use Rattle.tz_info.specs.declared.rule.day.DayForm.TheVariants.{Julian1, Julian0};
 ghost use Rattle.tz_info.specs.declared.rule.day.DayForm.TheVariants.{MonthWeekday};
 ghost use Rattle.change_views.specs.ZdumpLines.{zdump_text};
-ghost use Rattle.zonedump_lib.specs.{Forms.{IsTold}, JsonValues.{day_value, rule_value}};
-ghost use Rattle.zonedump_lib.specs.{JsonValues.{zone_value, leap_value}, RuleWords.{rule_words}};
-ghost use Rattle.zonedump_lib.specs.RuleWords.{day_words, moment_words, month_words, week_words};
-ghost use Rattle.zonedump_lib.specs.{RuleWords.{weekday_words}, Tables.{head_text, leap_text}};
-ghost use Rattle.zonedump_lib.specs.{Tables.{table_text}, Zdump.{IsZdump}};
-ghost use Rattle.zonedump_lib.specs.declared.form.Form.TheVariants as forms;
-ghost use Rattle.tests_pins.specs.{Changes.{spring, autumn}, LeapSeconds.{entry}};
-ghost use Rattle.tests_pins.specs.{NewYork.{new_york_rule, new_york_zone}, Texts.{utc_rule}};
+ghost use Rattle.zonedump_lib.specs.Forms.{IsTold};
+ghost use Rattle.zonedump_lib.specs.JsonValues.{day_value, rule_value, zone_value, leap_value};
+ghost use Rattle.zonedump_lib.specs.RuleWords.{rule_words, day_words, moment_words, month_words};
+ghost use Rattle.zonedump_lib.specs.RuleWords.{week_words, weekday_words};
+ghost use Rattle.zonedump_lib.specs.Tables.{head_text, leap_text, table_text};
+ghost use Rattle.zonedump_lib.specs.Zdump.{IsZdump};
+ghost use Rattle.tests_pins.specs.Changes.{spring, autumn};
+ghost use Rattle.tests_pins.specs.LeapSeconds.{entry};
+ghost use Rattle.tests_pins.specs.NewYork.{new_york_rule, new_york_zone};
+ghost use Rattle.tests_pins.specs.Texts.{utc_rule};
 ghost use Rattle.tests_pins.specs.Zones.{utc_zone};
+ghost use Rattle.zonedump_lib.specs.declared.form.Form.TheVariants as forms;
 
 /// New York's rule, one type, and no rule.
 pub fn rules()

@@ -3,10 +3,12 @@
 
 ghost use Rattle.std.specs.Prelude.{◌≡◌, pos};
 ghost use Rattle.offset_core.specs.WallAnswer.{IsWallAnswer};
-ghost use Rattle.offset_core.specs.declared.local_result.LocalResult.TheVariants as results;
 ghost use Rattle.tz_base.specs.LocalTypes.{LocalType};
-ghost use Rattle.tz_info.specs.{Gaps.{IsTypeBeforeGap}, WallClocks.{Shows}, Zones.{TypeAt}};
+ghost use Rattle.tz_info.specs.Gaps.{IsTypeBeforeGap};
+ghost use Rattle.tz_info.specs.WallClocks.{Shows};
+ghost use Rattle.tz_info.specs.Zones.{TypeAt};
 ghost use Rattle.tests_pins.specs.NewYork.{new_york_zone, est, edt};
+ghost use Rattle.offset_core.specs.declared.local_result.LocalResult.TheVariants as results;
 
 /// No second shows 02:30, nor 02:00. 01:59:59 is shown once, by EST, and 03:00 once, by EDT.
 pub fn gap()

@@ -4,9 +4,10 @@ use Rattle.tz_write.proofs.Words.{AreInPairs, Bool, IsPlainTime, IsTextTime, IsW
 use Rattle.tz_write.proofs.Words.{spelled_clock, spelled_hands, colon, cond, false, false≢true, inl, inr, ints, is_digit, is_negative, is_positive, minus}
 use Rattle.tz_write.proofs.Words.{spelled_minutes, nat_tests, neg_ℤ, negsuc, not, spelled_offset, spelled_pair, plus, pos, refl, signed_seconds}
 use Rattle.tz_write.proofs.Words.{spelled_seconds, spelled_signed, subst, suc, sym, time_limit, spelled_time, true, unsigned_abs, zero, ℕ, ℤ, [], ◌%◌, ◌&&◌}
-use Rattle.tz_write.proofs.{Words.{◌*◌, ◌++◌, ◌+◌, ◌/◌, ◌<ℤ◌, ◌<◌, ◌==◌, ◌∙◌, ◌∷◌, ◌≡◌, ◌≤◌}, Decimals.{digit_least, digit_most, first_digit}}
-use Rattle.tz_write.proofs.{Decimals.{number_front, number_writes, pair_front, pair_writes, two_digits}, Shortest.{Front, front_cons, front_longer, front_on}}
-use Rattle.tz_write.proofs.{Shortest.{front_optional}, TextBytes.{Writes, writes_colon, writes_last, writes_nothing, writes_other, writes_then}}
+use Rattle.tz_write.proofs.Words.{◌*◌, ◌++◌, ◌+◌, ◌/◌, ◌<ℤ◌, ◌<◌, ◌==◌, ◌∙◌, ◌∷◌, ◌≡◌, ◌≤◌}
+use Rattle.tz_write.proofs.Decimals.{digit_least, digit_most, first_digit, number_front, number_writes, pair_front, pair_writes, two_digits}
+use Rattle.tz_write.proofs.Shortest.{Front, front_cons, front_longer, front_on, front_optional}
+use Rattle.tz_write.proofs.TextBytes.{Writes, writes_colon, writes_last, writes_nothing, writes_other, writes_then}
 use Rattle.tz_info.specs.TzGrammar as tz
 
 -- nothing that goes on with an offset or a time: no digit and no colon

@@ -5,10 +5,11 @@ use Rattle.tz_write.proofs.Words.{AreInPairs, Bool, DayForm, DayTime, Decides-in
 use Rattle.tz_write.proofs.Words.{NoneFirst, Spells, Without, ap, append_assoc, arith, both_ways, comma, cond, date_max, spelled_date, day_max, spelled_day}
 use Rattle.tz_write.proofs.Words.{decimal, dot, spelled_dst_offset, false, inl, inr, int_eq, ints, is_digit, letter_J, letter_M, negsuc, spelled_offset, pos}
 use Rattle.tz_write.proofs.Words.{refl, slash, subst, suc, sym, time_after, spelled_time, true, zero, ℕ, ℤ, [], ◌++◌, ◌+ℤ◌, ◌<◌, ◌∙◌, ◌∷◌, ◌≡◌, ◌≢◌, ◌≤ℤ◌, ◌≤◌}
-use Rattle.tz_write.proofs.{Words.{◌⊎◌}, Clocks.{Stops, clock_without, offset_first, offset_front, offset_writes, time_front, time_plain, time_writes}}
-use Rattle.tz_write.proofs.{Decimals.{digit_most, first_digit, number_front, number_writes}, Shortest.{Front, front_any, front_cons, front_nothing, front_on}}
-use Rattle.tz_write.proofs.{Shortest.{front_optional, front_then}, TextBytes.{Writes, all_append, is_text_byte, writes_byte, writes_last, writes_mark}}
-use Rattle.tz_write.proofs.TextBytes.{writes_nothing, writes_other, writes_then}
+use Rattle.tz_write.proofs.Words.{◌⊎◌}
+use Rattle.tz_write.proofs.Clocks.{Stops, clock_without, offset_first, offset_front, offset_writes, time_front, time_plain, time_writes}
+use Rattle.tz_write.proofs.Decimals.{digit_most, first_digit, number_front, number_writes}
+use Rattle.tz_write.proofs.Shortest.{Front, front_any, front_cons, front_nothing, front_on, front_optional, front_then}
+use Rattle.tz_write.proofs.TextBytes.{Writes, all_append, is_text_byte, writes_byte, writes_last, writes_mark, writes_nothing, writes_other, writes_then}
 use Rattle.tz_info.specs.TzGrammar as tz
 
 -- what may stand after an offset or a day: nothing, or a comma

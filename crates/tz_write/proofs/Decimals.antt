@@ -1,9 +1,11 @@
 -- Decimal digits without zeros in front are the shortest that spell a number.
-use Rattle.std.proofs.lemmas.{Fmt.{decimal-digits_value, decimal_nonempty, digits_decimal, digits_value-decimal}, Str.Parse.{IsNumeralModel, numerals_by_fold}}
+use Rattle.std.proofs.lemmas.Fmt.{decimal-digits_value, decimal_nonempty, digits_decimal, digits_value-decimal}
+use Rattle.std.proofs.lemmas.Str.Parse.{IsNumeralModel, numerals_by_fold}
 use Rattle.tz_base.specs.Grammar.{Number}
 use Rattle.tz_write.proofs.Words.{AllDigits, AreInPairs, IsNumber, List, NoneFirst, TwoDigits, ap, arith, both_ways, cases_eq, colon, decimal, inl, inr}
 use Rattle.tz_write.proofs.Words.{is_digit, length, nat_tests, spelled_pair, refl, rules, subst, sym, true, value_from, ℕ, [], ◌%◌, ◌++◌, ◌+◌, ◌/◌, ◌<◌, ◌∙◌}
-use Rattle.tz_write.proofs.{Words.{◌∷◌, ◌≡◌, ◌≤◌}, Shortest.{Best, Front, at_most, front_cons}, TextBytes.{Writes, digits_are}}
+use Rattle.tz_write.proofs.Words.{◌∷◌, ◌≡◌, ◌≤◌}
+use Rattle.tz_write.proofs.{Shortest.{Best, Front, at_most, front_cons}, TextBytes.{Writes, digits_are}}
 
 own : IsNumeralModel AllDigits (value_from 0)
 own = numerals_by_fold AllDigits (search rules) value_from (search rules)

@@ -5,9 +5,11 @@ use Rattle.tz_write.proofs.Words.{IsNameOrNone, IsNamedIn, IsPlacedFrom, List, L
 use Rattle.tz_write.proofs.Words.{append_assoc, arith, before_last, before_zero, both_ways, cases_lt, drop, drop-append_seam, ends, false, false≢true, get_or}
 use Rattle.tz_write.proofs.Words.{inl, inr, laid, laid_from, length, length-append, list_all, name_of, name_or_none, nat_lt, nat_tests, nil_from_length}
 use Rattle.tz_write.proofs.Words.{place_of, refl, subst, suc, sym, text_at, true, with_text, zero, ℕ, [], ◌&&◌, ◌*◌, ◌++◌, ◌+◌, ◌<◌, ◌==◌, ◌∙◌, ◌∷◌, ◌≡◌, ◌≢◌}
-use Rattle.tz_write.proofs.{Words.{◌≤◌, ◌⊎◌}, FileNames.{Behind, Ends, Has_end, In, In_front, Is_end, Meeting, Stands, end_in, ends_again, ends_of, in_stands}}
-use Rattle.tz_write.proofs.{FileNames.{meet, place_behind, place_kept, place_of_put, put_in}, FileRecords.{has_text, no_zero}, FileRoom.{Given, Room}}
-use Rattle.tz_write.proofs.FileRoom.{before_filled, before_keeps, before_passed, by_text, kept, no_front, put, put_is, room_of}
+use Rattle.tz_write.proofs.Words.{◌≤◌, ◌⊎◌}
+use Rattle.tz_write.proofs.FileNames.{Behind, Ends, Has_end, In, In_front, Is_end, Meeting, Stands, end_in, ends_again, ends_of, in_stands, meet, place_behind}
+use Rattle.tz_write.proofs.FileNames.{place_kept, place_of_put, put_in}
+use Rattle.tz_write.proofs.FileRecords.{has_text, no_zero}
+use Rattle.tz_write.proofs.FileRoom.{Given, Room, before_filled, before_keeps, before_passed, by_text, kept, no_front, put, put_is, room_of}
 
 -- ---- texts
 name_size : (name : Option (List ℕ)) → IsNameOrNone name → (length (name_or_none name) ≤ 7) × ((length (name_or_none name) ≡ 0) ⊎ (3 ≤ length (name_or_none name)))

@@ -1,11 +1,13 @@
 -- What every file's zone has room for.
-use Rattle.tz_info.{specs.declared.file.header.{Place.TheVariants.{First, Second}, Version.TheVariants.{One, Three, Two}}, proofs.ForCallers.{has_lengths}}
+use Rattle.tz_info.specs.{declared.file.header.Place.TheVariants.{First, Second}, declared.file.header.Version.TheVariants.{One, Three, Two}}
+use Rattle.tz_info.proofs.ForCallers.{has_lengths}
 use Rattle.tz_write.proofs.Words.{All, All-cons, All-nil, All-tail, AreNamesIn, AreRecords, Bool, Counts, FilePieces, HasIndex, HasPieces, HasRule}
 use Rattle.tz_write.proofs.Words.{IsSpellableOrNone, Header, IsNamedIn, IsTzFile, IsWritable, List, LocalType, None, Option, Parts, Place, Some, SpellTypes}
 use Rattle.tz_write.proofs.Words.{Spells, SpellsLeapSecond, SpellsType, StandsAt, Transition, TransitionRule, Version, Zone, after_first_block, ap, arith}
 use Rattle.tz_write.proofs.Words.{be_u32, block, designation_of, file, first_version, get_or_append_left, header, inl, inr, later_version, length}
-use Rattle.tz_write.proofs.Words.{length-append, length-map, map, name_or_none, place_in, refl, six_counts, subst, sym, tzif, version, ℕ, [], ◌*◌}
-use Rattle.tz_write.proofs.{Words.{◌++◌, ◌+◌, ◌/◌, ◌<◌, ◌^◌, ◌∙◌, ◌∷◌, ◌≡◌}, RuleTexts.{rule_named}}
+use Rattle.tz_write.proofs.Words.{length-append, length-map, map, name_or_none, place_in, refl, six_counts, subst, sym, tzif, version, ℕ, [], ◌*◌, ◌++◌, ◌+◌}
+use Rattle.tz_write.proofs.Words.{◌/◌, ◌<◌, ◌^◌, ◌∙◌, ◌∷◌, ◌≡◌}
+use Rattle.tz_write.proofs.RuleTexts.{rule_named}
 use Rattle.std.proofs.{Math.Nat.{mul-div_cancel}, lemmas.List.{get_or-map}}
 use Rattle.tz_base.specs.Grammar.{Byte, Check, Ended, Exact, Grammar, Marked, Nothing, Number, Refused, Rest, Run, Then}
 

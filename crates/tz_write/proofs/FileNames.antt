@@ -1,7 +1,8 @@
 -- Texts that stand in designations.
 use Rattle.tz_write.proofs.Words.{Bool, Decides-eqb, HasNoZero, List, and_from, ap, append_assoc, arith, begins, cond, drop, ends, ends_is, eq-eqb, false}
 use Rattle.tz_write.proofs.Words.{get_or, get_or_at, length, length-append, lt-ltb, nat_eq, place_of, refl, starts_is, starts_with, subst, suc, sym, true, ℕ}
-use Rattle.tz_write.proofs.{Words.{inl, inr, nat_tests, [], ◌++◌, ◌+◌, ◌<◌, ◌∙◌, ◌∷◌, ◌≡◌, ◌≤◌, ◌⊎◌}, FileRecords.{begins_is, has_text}}
+use Rattle.tz_write.proofs.Words.{inl, inr, nat_tests, [], ◌++◌, ◌+◌, ◌<◌, ◌∙◌, ◌∷◌, ◌≡◌, ◌≤◌, ◌⊎◌}
+use Rattle.tz_write.proofs.FileRecords.{begins_is, has_text}
 
 -- a text and its 0 byte stand in the bytes
 pub record Stands (bytes text : List ℕ) : Type 0 where

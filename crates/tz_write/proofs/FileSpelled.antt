@@ -1,13 +1,13 @@
 -- The file that is written spells the zone.
 use Rattle.tz_info.specs.declared.file.header.Place.TheVariants.{First, Second}
-use Rattle.tz_write.proofs.Words.{All, All-cons, All-nil, Bool, Counts, CountsAgree, FilePieces, HasCounts, HasPieces, HavePlaces, IsAscii-from_all}
-use Rattle.tz_write.proofs.Words.{IsFooter, IsSound, IsTzFile, IsUtf8-from_ascii, List, LocalType, Option, Parts, SayZone, SaysRule, Spells, TransitionRule}
-use Rattle.tz_write.proofs.Words.{Zone, after_first_block, arith, block, block_bytes, counts_bytes, counts_test, false, file, file_bytes}
-use Rattle.tz_write.proofs.Words.{first_half, footer_bytes, get_or, header_bytes, index_bytes, inl, is_extended, later_pieces, later_version, leap_bytes}
-use Rattle.tz_write.proofs.Words.{least_block, least_counts, length, number_bytes, refl, second_half, time_bytes, true, type_bytes}
-use Rattle.tz_write.proofs.{Words.{zone_counts, zone_parts, ℕ, [], ◌*◌, ◌++◌, ◌+◌, ◌<◌, ◌∙◌, ◌∷◌, ◌≡◌, ◌≢◌, ◌≤◌}, FileHeads.{CountsFit, header_is, version_of}}
-use Rattle.tz_write.proofs.{FileRecords.{leap_size, leaps_are, size_64, size_of_records, transitions_are, type_size, types_are}, TextBytes.{AreTextBytes}}
-use Rattle.tz_write.proofs.TextBytes.{begins_bare, ends_bare, limits, no_zeros}
+use Rattle.tz_write.proofs.Words.{All, All-cons, All-nil, Bool, Counts, CountsAgree, FilePieces, HasCounts, HasPieces, HavePlaces, IsAscii-from_all, IsFooter}
+use Rattle.tz_write.proofs.Words.{IsSound, IsTzFile, IsUtf8-from_ascii, List, LocalType, Option, Parts, SayZone, SaysRule, Spells, TransitionRule, Zone}
+use Rattle.tz_write.proofs.Words.{after_first_block, arith, block, block_bytes, counts_bytes, counts_test, false, file, file_bytes, first_half, footer_bytes}
+use Rattle.tz_write.proofs.Words.{get_or, header_bytes, index_bytes, inl, is_extended, later_pieces, later_version, leap_bytes, least_block, least_counts}
+use Rattle.tz_write.proofs.Words.{length, number_bytes, refl, second_half, time_bytes, true, type_bytes, zone_counts, zone_parts, ℕ, [], ◌*◌, ◌++◌, ◌+◌, ◌<◌}
+use Rattle.tz_write.proofs.Words.{◌∙◌, ◌∷◌, ◌≡◌, ◌≢◌, ◌≤◌}
+use Rattle.tz_write.proofs.{FileHeads.{CountsFit, header_is, version_of}, TextBytes.{AreTextBytes, begins_bare, ends_bare, limits, no_zeros}}
+use Rattle.tz_write.proofs.FileRecords.{leap_size, leaps_are, size_64, size_of_records, transitions_are, type_size, types_are}
 
 -- ---- footers
 -- letters, digits and signs of ASCII, and no colon in front

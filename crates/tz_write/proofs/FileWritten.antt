@@ -2,10 +2,10 @@
 use Rattle.tz_write.proofs.Words.{All-weaker, Bool, Err, IsRoomOf, IsSpellableOrNone, HavePlaces, HaveVersion, IfOk, In_order, IsFirstPlaced, IsFooterText}
 use Rattle.tz_write.proofs.Words.{IsInNoFile, IsLaid, IsNameOrNone, IsRuleOrNone, IsSound, IsType, IsTzFile, IsWritable, IsWrittenFile, List, LocalType}
 use Rattle.tz_write.proofs.Words.{NeedsExtensions, None, Ok, OnOk, Option, Otherwise, Result, Room, SaysRule, Some, TransitionRule, Zone, ap, arith}
-use Rattle.tz_write.proofs.Words.{counts_bytes, false, file_bytes, first_half, get_or, header_bytes, laid_from, length, number_bytes, refl}
-use Rattle.tz_write.proofs.{Words.{second_half, subst, sym, true, ℕ, [], ◌<◌, ◌∙◌, ◌≡◌}, FileLayouts.{laid_of, laid_size}, FileLimits.{writable}}
-use Rattle.tz_write.proofs.{FileSpelled.{IsPlain, file_is}, RuleTexts.{extensions, rule_named, rule_text, text_are, text_first, text_once, text_some}}
-use Rattle.tz_write.proofs.{TextBytes.{AreTextBytes}, ZoneTexts.{not_empty}}
+use Rattle.tz_write.proofs.Words.{counts_bytes, false, file_bytes, first_half, get_or, header_bytes, laid_from, length, number_bytes, refl, second_half, subst}
+use Rattle.tz_write.proofs.Words.{sym, true, ℕ, [], ◌<◌, ◌∙◌, ◌≡◌}
+use Rattle.tz_write.proofs.{FileLayouts.{laid_of, laid_size}, FileLimits.{writable}, FileSpelled.{IsPlain, file_is}, TextBytes.{AreTextBytes}}
+use Rattle.tz_write.proofs.{RuleTexts.{extensions, rule_named, rule_text, text_are, text_first, text_once, text_some}, ZoneTexts.{not_empty}}
 
 text_is : (rule : Option TransitionRule) (text : List ℕ) (extended : Bool) → IsRuleOrNone rule → IsFooterText rule text extended → IsPlain text × SaysRule extended text rule
 text_is (Some rule) text extended fits h =

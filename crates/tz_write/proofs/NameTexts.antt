@@ -2,7 +2,8 @@
 use Rattle.tz_base.proofs.RunLaws.{all_of}
 use Rattle.tz_write.proofs.Words.{AllOf, AreInPairs, Bool, IsName, List, NoneFirst, Spells, Without, and_from, and_parts, ap, append_assoc, arith, both_ways}
 use Rattle.tz_write.proofs.Words.{colon, cond, false, greater, inl, inr, is_letter, is_name_byte, is_not_greater, length, length-append, less, list_all}
-use Rattle.tz_write.proofs.{Words.{spelled_name, nat_tests, refl, subst, sym, true, ℕ, [], ◌++◌, ◌<◌, ◌∙◌, ◌∷◌, ◌≡◌, ◌≢◌, ◌≤◌}, Shortest.{Front, front_cons}}
+use Rattle.tz_write.proofs.Words.{spelled_name, nat_tests, refl, subst, sym, true, ℕ, [], ◌++◌, ◌<◌, ◌∙◌, ◌∷◌, ◌≡◌, ◌≢◌, ◌≤◌}
+use Rattle.tz_write.proofs.Shortest.{Front, front_cons}
 use Rattle.tz_write.proofs.TextBytes.{AreTextBytes, Writes, all_append, all_others, is_text_byte, names_are, writes_mark, writes_other}
 use Rattle.tz_info.specs.TzGrammar as tz
 

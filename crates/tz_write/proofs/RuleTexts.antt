@@ -1,14 +1,14 @@
 -- The text of a rule: it spells the rule, and each other one is longer.
+use Rattle.tz_write.proofs.Words.{Alternate, AreInPairs, AreTimesOf, Bool, CanBeSpelled, DayTime, IsAlternateRule, IsName, IsNamed, IsPlainTime, IsRule}
+use Rattle.tz_write.proofs.Words.{IsTextTime, IsTzText, IsWithinDay, IsWrittenText, List, LocalType, NoneFirst, Some, Spells, TransitionRule, spelled_alternate}
+use Rattle.tz_write.proofs.Words.{ap, append-nil, append_assoc, arith, both_ways, comma, cond, spelled_day, spelled_dst_offset, false, inl, inr, int_eq, ints}
+use Rattle.tz_write.proofs.Words.{is_digit, is_letter, length, name_of, name_or_none, spelled_name, named_type, nat_tests, not, offset_fits, spelled_offset}
+use Rattle.tz_write.proofs.Words.{pos, refl, subst, sym, spelled_rule, true, spelled_type, ℕ, ℤ, [], ◌++◌, ◌+ℤ◌, ◌<◌, ◌↔◌, ◌∙◌, ◌∷◌, ◌≡◌, ◌≢◌, ◌≤◌, ◌⊎◌}
+use Rattle.tz_write.proofs.{Clocks.{Stops, offset_first, offset_front, offset_writes}, NameTexts.{name_first, name_front, name_writes}}
+use Rattle.tz_write.proofs.{DayTexts.{day_front, day_plain, day_writes, dst_offset_front, dst_offset_writes}, Shortest.{Best, Front, front_cons, front_on}}
+use Rattle.tz_write.proofs.TextBytes.{AreTextBytes, Writes, writes_byte, writes_last, writes_more, writes_then}
 use Rattle.tz_info.specs.TzGrammar as tz
 use Rattle.tz_info.specs.declared.rule.transition_rule.TransitionRule.TheVariants as rules
-use Rattle.tz_write.proofs.Words.{Alternate, AreInPairs, AreTimesOf, Bool, CanBeSpelled, DayTime, IsAlternateRule, IsName, IsNamed, IsPlainTime, IsRule}
-use Rattle.tz_write.proofs.Words.{IsTextTime, IsTzText, IsWithinDay, IsWrittenText, List, LocalType, NoneFirst, Some, Spells, TransitionRule}
-use Rattle.tz_write.proofs.Words.{spelled_alternate, ap, append-nil, append_assoc, arith, both_ways, comma, cond, spelled_day, spelled_dst_offset}
-use Rattle.tz_write.proofs.Words.{false, inl, inr, int_eq, ints, is_digit, is_letter, length, name_of, name_or_none, spelled_name, named_type, nat_tests}
-use Rattle.tz_write.proofs.Words.{not, offset_fits, spelled_offset, pos, refl, subst, sym, spelled_rule, true, spelled_type, ℕ, ℤ, [], ◌++◌, ◌+ℤ◌, ◌<◌}
-use Rattle.tz_write.proofs.{Words.{◌↔◌, ◌∙◌, ◌∷◌, ◌≡◌, ◌≢◌, ◌≤◌, ◌⊎◌}, Clocks.{Stops, offset_first, offset_front, offset_writes}, DayTexts.{day_front}}
-use Rattle.tz_write.proofs.{DayTexts.{day_plain, day_writes, dst_offset_front, dst_offset_writes}, NameTexts.{name_first, name_front, name_writes}}
-use Rattle.tz_write.proofs.{Shortest.{Best, Front, front_cons, front_on}, TextBytes.{AreTextBytes, Writes, writes_byte, writes_last, writes_more, writes_then}}
 
 pub record IsFixedText (bytes : List ℕ) (t : LocalType) : Type 0 where
   pub name : List ℕ

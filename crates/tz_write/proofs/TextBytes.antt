@@ -2,8 +2,8 @@
 -- have no white space.
 use Rattle.tz_base.specs.Grammar.{Byte, Ended, Grammar, Marked, Nothing, Then}
 use Rattle.tz_write.proofs.Words.{AllDigits, AllOf, AreInPairs, BeginsBare, Bool, EndsBare, IsTrimmed, List, Spells, TwoDigits, Without, and_parts, append-nil}
-use Rattle.tz_write.proofs.Words.{HasNoZero, append_assoc, arith, colon, comma, dot, false, greater, inl, inr, is_ascii_whitespace, is_digit, is_name_byte, less}
-use Rattle.tz_write.proofs.Words.{nat_tests, not, refl, slash, sym, true, ℕ, [], ◌&&◌, ◌++◌, ◌==◌, ◌||◌, ◌∷◌, ◌<◌, ◌≡◌, ◌≢◌}
+use Rattle.tz_write.proofs.Words.{HasNoZero, append_assoc, arith, colon, comma, dot, false, greater, inl, inr, is_ascii_whitespace, is_digit, is_name_byte}
+use Rattle.tz_write.proofs.Words.{less, nat_tests, not, refl, slash, sym, true, ℕ, [], ◌&&◌, ◌++◌, ◌==◌, ◌||◌, ◌∷◌, ◌<◌, ◌≡◌, ◌≢◌}
 
 -- a letter, a digit or one of the signs
 abbrev pub is_text_byte : ℕ → Bool

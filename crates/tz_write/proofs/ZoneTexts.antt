@@ -3,7 +3,8 @@ use Rattle.tz_write.proofs.Words.{AreInPairs, CanBeSpelled, Err, HasZoneText, Is
 use Rattle.tz_write.proofs.Words.{IsTzText, IsWrittenZone, LeapSecond, List, LocalType, None, NoneFirst, Ok, OnErr, Option, Result, Some, Transition}
 use Rattle.tz_write.proofs.Words.{TransitionRule, TwoDigits, Zone, ap, append-nil, arith, false, inl, inr, is_ascii_whitespace, is_digit, length, length-append}
 use Rattle.tz_write.proofs.Words.{nat_tests, posix_zone, refl, subst, sym, spelled_rule, true, types_of, zone_of_rule, ℕ, [], ◌++◌, ◌<◌, ◌∙◌, ◌∷◌, ◌≡◌, ◌≢◌}
-use Rattle.tz_write.proofs.{Words.{◌⊎◌}, RuleTexts.{both_shortest, rule_best, rule_named, rule_pairs, rule_plain, rule_spelled, text_are, text_first}}
+use Rattle.tz_write.proofs.Words.{◌⊎◌}
+use Rattle.tz_write.proofs.RuleTexts.{both_shortest, rule_best, rule_named, rule_pairs, rule_plain, rule_spelled, text_are, text_first}
 use Rattle.tz_write.proofs.{Shortest.{Best, pairs_rest}, TextBytes.{trimmed_text}}
 
 -- ---- white space at the ends

@@ -1,7 +1,9 @@
 //! Theorems of what is written: the contract of each function is proved; none is called.
 
 ghost use Rattle.std.specs.Prelude.{◌≡◌, ◌↔◌, List, ℕ, Bool, true, false};
-ghost use Rattle.tz_info.specs.{TzGrammar.{IsTzText}, PosixZones.{IsPosixZone}, RuleTypes.{IsRule}};
+ghost use Rattle.tz_info.specs.TzGrammar.{IsTzText};
+ghost use Rattle.tz_info.specs.PosixZones.{IsPosixZone};
+ghost use Rattle.tz_info.specs.RuleTypes.{IsRule};
 ghost use Rattle.tz_info.specs.Zones.{Zone, IsRuleOrNone};
 ghost use Rattle.tz_info.specs.declared.rule.transition_rule.TransitionRule.{TransitionRule as Rule};
 ghost use Rattle.tz_write.specs.WrittenTexts.{CanBeSpelled, AreTimesOf, IsWrittenText, IsOfText};

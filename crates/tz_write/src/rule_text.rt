@@ -3,16 +3,18 @@
 ghost use Rattle.std.specs.Prelude.{◌≡◌, ◌∷◌, ◌++◌, List, ℕ, true, false, OnOk, IsTrue, MatchBool};
 ghost use Rattle.std.specs.Prelude.{◌↔◌, MatchResult, MatchOption, IfOk, OnErr, Bool, Some, None};
 ghost use Rattle.std.specs.Prelude.{string_bytes};
-ghost use Rattle.tz_base.specs.{Errors.{IsOutOfMemory}, Names.{IsName}};
-ghost use Rattle.tz_info.specs.{RuleTypes.{IsRule}, Rules.{IsAlternateRule}};
+ghost use Rattle.tz_base.specs.Errors.{IsOutOfMemory};
+ghost use Rattle.tz_base.specs.Names.{IsName};
+ghost use Rattle.tz_info.specs.RuleTypes.{IsRule};
+ghost use Rattle.tz_info.specs.Rules.{IsAlternateRule};
 ghost use Rattle.tz_info.specs.declared.rule.transition_rule.TransitionRule.{TransitionRule as Rule};
 ghost use Rattle.tz_info.specs.TzGrammar.{IsTzText};
 ghost use Rattle.offset_core.specs.Offset.{IsWithinDay};
 ghost use Rattle.tz_write.specs.WrittenTexts.{IsWrittenText, IsUnspelled, IsNamedType, IsPlainTime};
 ghost use Rattle.tz_write.specs.WrittenTexts.{CanBeSpelled, AreTimesOf, HasPlainText};
-ghost use Rattle.tz_write.specs.{FileDesignations.{name_of}, Steps.TextPieces.{spelled_name}};
-ghost use Rattle.tz_write.specs.Steps.TextPieces.{spelled_type, spelled_days, spelled_alternate};
-ghost use Rattle.tz_write.specs.Steps.TextPieces.{spelled_rule};
+ghost use Rattle.tz_write.specs.FileDesignations.{name_of};
+ghost use Rattle.tz_write.specs.Steps.TextPieces.{spelled_name, spelled_type, spelled_days};
+ghost use Rattle.tz_write.specs.Steps.TextPieces.{spelled_alternate, spelled_rule};
 
 use crate::pieces::day::push_day;
 use crate::pieces::name::push_name;

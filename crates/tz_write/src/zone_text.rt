@@ -2,8 +2,10 @@
 
 ghost use Rattle.std.specs.Prelude.{◌≡◌, [], ◌∷◌, IsTrue, ◌↔◌, MatchOption, MatchResult, IfOk};
 ghost use Rattle.std.specs.Prelude.{OnErr, List, ℕ, Some, None, pos, true, false, string_bytes};
-ghost use Rattle.tz_base.specs.{Errors.{IsOutOfMemory}, LocalTypes.{plain_type}};
-ghost use Rattle.tz_info.specs.{PosixZones.{types_of, IsPosixZone}, RuleTypes.{IsRule}};
+ghost use Rattle.tz_base.specs.Errors.{IsOutOfMemory};
+ghost use Rattle.tz_base.specs.LocalTypes.{plain_type};
+ghost use Rattle.tz_info.specs.PosixZones.{types_of, IsPosixZone};
+ghost use Rattle.tz_info.specs.RuleTypes.{IsRule};
 ghost use Rattle.tz_info.specs.Zones.{Zone, zone_of_rule};
 ghost use Rattle.tz_write.specs.WrittenTexts.{IsOfText, IsWrittenZone, IsNoPosixZone, HasZoneText};
 

@@ -6,22 +6,29 @@
 
 ghost use Rattle.std.specs.Prelude.{◌≡◌, ◌↔◌, ℕ, ℤ, List, IfOk, IfErr, IfSome, IsSome, MatchResult};
 ghost use Rattle.std.specs.Prelude.{◌⊎◌};
-ghost use Rattle.offset_core.specs.{LocalResult.{map_of}, Offset.{IsWithinDay}};
+ghost use Rattle.offset_core.specs.LocalResult.{map_of};
+ghost use Rattle.offset_core.specs.Offset.{IsWithinDay};
 ghost use Rattle.offset_core.specs.WallAnswer.{IsWallAnswer};
 ghost use Rattle.offset_core.specs.declared.local_result.LocalResult.{LocalResult as Answer};
-ghost use Rattle.naive_base.specs.{NaiveDateTime.{reading}, Range.{IsWide}};
-ghost use Rattle.tz_base.specs.{Errors.{error_number}, LocalTypes.{LocalType}};
-ghost use Rattle.tz_base.specs.declared.error.Error.{Error as Fault, TheVariants.{OutOfMemory}};
+ghost use Rattle.naive_base.specs.NaiveDateTime.{reading};
+ghost use Rattle.naive_base.specs.Range.{IsWide};
+ghost use Rattle.tz_base.specs.Errors.{error_number};
+ghost use Rattle.tz_base.specs.LocalTypes.{LocalType};
+ghost use Rattle.tz_base.specs.declared.error.Error.{Error as Fault};
+ghost use Rattle.tz_base.specs.declared.error.Error.TheVariants.{OutOfMemory};
 ghost use Rattle.tz_timeline.specs.Counts.{HasRoom};
-ghost use Rattle.tz_info.specs.{FilePieces.{FilePieces, HasPieces}, Looks.{RoseByWallClock}};
-ghost use Rattle.tz_info.specs.{PosixZones.{IsPosixZone, IsPosixFault}, TzFiles.{IsTzFile}};
-ghost use Rattle.tz_info.specs.{TzFiles.{IsFileFault, IsZoneFault}, WallClocks.{Shows}};
+ghost use Rattle.tz_info.specs.FilePieces.{FilePieces, HasPieces};
+ghost use Rattle.tz_info.specs.Looks.{RoseByWallClock};
+ghost use Rattle.tz_info.specs.PosixZones.{IsPosixZone, IsPosixFault};
+ghost use Rattle.tz_info.specs.TzFiles.{IsTzFile, IsFileFault, IsZoneFault};
+ghost use Rattle.tz_info.specs.WallClocks.{Shows};
 ghost use Rattle.tz_info.specs.Zones.{Zone, IsValid, TypeAt};
 ghost use Rattle.zoned_time.specs.Zone.{IsZoneSecond, SameOffsets};
-ghost use Rattle.zoned_time.specs.Zone as zones;
-ghost use Rattle.zoned_ref.specs.{Offsets.{IsNarrow, AreOffsetsOf}, TimeZoneRef.{zone_of, off_of}};
+ghost use Rattle.zoned_ref.specs.Offsets.{IsNarrow, AreOffsetsOf};
+ghost use Rattle.zoned_ref.specs.TimeZoneRef.{zone_of, off_of};
 ghost use Rattle.zoned_kept.specs.KeptZone.{zone_of as kept_zone, off_of as kept_off};
 ghost use Rattle.zoned.specs.NoZone.{IsWhyNoZone, IsOutOfMemory};
+ghost use Rattle.zoned_time.specs.Zone as zones;
 
 use crate::{KeepError, KeptZone, LocalResult, NaiveDateTime, TimeZoneRef};
 use std::alloc::Global;

@@ -3,8 +3,9 @@ use Rattle.zoned_ffi.proofs.Words.{All-contains, AreKeptTimes, Choice, FitsSigne
 use Rattle.zoned_ffi.proofs.Words.{IsLeast, IsLocal, IsNoInstant, IsNoneTaken, IsOffsetStretch, IsRowNumber, IsShownOnce, IsTakenAs, IsWithout, Kept, LieWithin}
 use Rattle.zoned_ffi.proofs.Words.{List, LocalType, MatchOption, None, OffsetStretch, Option, Shows, Some, Taken, TypeAt, Unit, Zone, ap, arith, cases_lt}
 use Rattle.zoned_ffi.proofs.Words.{first_second, floor_div, floors, get_or, inl, inr, ints, neg_ℤ, offsets, per_second, pos, refl, second_holding, subst, sym}
-use Rattle.zoned_ffi.proofs.{Words.{taken_instant, uncounted, w64, ℕ, ℤ, ◌*ℤ◌, ◌+ℤ◌, ◌+◌, ◌-ℤ◌, ◌<ℤ◌, ◌∙◌, ◌≡◌, ◌≤ℤ◌}, Resolving.{none_is, taken_once}}
-use Rattle.zoned_ffi.specs.declared.{column.Way.TheVariants.{ToInstants, ToLocal}, resolved.Taken.TheVariants.{BeforeGap, GapEnd, InForce}}
+use Rattle.zoned_ffi.proofs.Words.{taken_instant, uncounted, w64, ℕ, ℤ, ◌*ℤ◌, ◌+ℤ◌, ◌+◌, ◌-ℤ◌, ◌<ℤ◌, ◌∙◌, ◌≡◌, ◌≤ℤ◌}
+use Rattle.zoned_ffi.proofs.Resolving.{none_is, taken_once}
+use Rattle.zoned_ffi.specs.{declared.column.Way.TheVariants.{ToInstants, ToLocal}, declared.resolved.Taken.TheVariants.{BeforeGap, GapEnd, InForce}}
 use Rattle.tz_info.proofs.{ExtremeLaws.{at_least_least, at_most_greatest}, ForCallers.{type_once}}
 use Rattle.zoned_ffi.specs.declared.unit.Unit.TheVariants as units
 

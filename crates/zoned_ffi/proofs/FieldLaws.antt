@@ -1,9 +1,9 @@
 -- Dates and times of day as fields.
-use Rattle.gregorian.{proofs.ForCallers.{day_of_year_is}, specs.{Date.{IsDate, day_number}, DateOf.{day_of_year, year_of}, Weekdays.{weekday_of}}}
-use Rattle.gregorian.specs.Year.{floor_mod, year_start}
+use Rattle.gregorian.proofs.ForCallers.{day_of_year_is}
+use Rattle.gregorian.specs.{Date.{IsDate, day_number}, DateOf.{day_of_year, year_of}, Weekdays.{weekday_of}, Year.{floor_mod, year_start}}
 use Rattle.naive_base.specs.Clock.{clock_second}
-use Rattle.zoned_ffi.{proofs.Words.{ap, arith, floor_div, floors, ints, pos, sym, ℕ, ℤ, ◌*ℤ◌, ◌+ℤ◌, ◌+◌, ◌<◌, ◌∙◌, ◌≡◌}, specs.Fields.{AreFieldsOf}}
-use Rattle.zoned_ffi.specs.{Fields.{day_of_fields, local_of_fields}, declared.fields.Fields.{Fields}}
+use Rattle.zoned_ffi.proofs.Words.{ap, arith, floor_div, floors, ints, pos, sym, ℕ, ℤ, ◌*ℤ◌, ◌+ℤ◌, ◌+◌, ◌<◌, ◌∙◌, ◌≡◌}
+use Rattle.zoned_ffi.specs.{Fields.{AreFieldsOf, day_of_fields, local_of_fields}, declared.fields.Fields.{Fields}}
 use Rattle.std.proofs.Common.{◌/◌, ◌%◌}
 
 -- a second lies in its day, at its time of day

@@ -1,9 +1,10 @@
 -- A call that is rejected has one number, unless memory runs out.
-use Rattle.tz_info.{proofs.TextLaws.{one_fault as string_fault_once}, specs.TzFiles.IsZoneFault.{In_file as Of_file, No_memory as Of_memory}}
+use Rattle.tz_info.proofs.TextLaws.{one_fault as string_fault_once}
+use Rattle.tz_info.specs.TzFiles.IsZoneFault.{In_file as Of_file, No_memory as Of_memory}
 use Rattle.zoned_ffi.proofs.Words.{IsErrorOfKind, IsExtendedFault, IsFault, IsFileError, IsStringError, Kind, List, ap, arith, error_number, file_fault_once}
-use Rattle.zoned_ffi.{proofs.Words.{inl, inr, refl, sym, text_fault_once, true, ℕ, ◌∙◌, ◌≡◌, ◌⊎◌}, specs.Kinds.{kind_number}}
-use Rattle.zoned_ffi.specs.Refusals.{IsExtendedFault.{In_string, No_memory as Without_memory}, IsFileError.{In_file}, IsErrorOfKind.{Not_read, Other_size}}
-use Rattle.zoned_ffi.specs.Refusals.{IsErrorOfKind.{Unknown_kind}, IsStringError.{In_text, No_memory, Not_utf8}}
+use Rattle.zoned_ffi.proofs.Words.{inl, inr, refl, sym, text_fault_once, true, ℕ, ◌∙◌, ◌≡◌, ◌⊎◌}
+use Rattle.zoned_ffi.specs.{Kinds.{kind_number}, Refusals.IsExtendedFault.{In_string, No_memory as Without_memory}, Refusals.IsFileError.{In_file}}
+use Rattle.zoned_ffi.specs.{Refusals.IsErrorOfKind.{Not_read, Other_size, Unknown_kind}, Refusals.IsStringError.{In_text, No_memory, Not_utf8}}
 use Rattle.zoned_ffi.specs.declared.kind.Kind.TheVariants as kinds
 
 abbrev Alike : ℕ → ℕ → Type 0

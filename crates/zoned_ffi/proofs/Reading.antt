@@ -1,10 +1,11 @@
 -- What comes of reading, as a call tells it.
-use Rattle.tz_base.specs.declared.error.Error.TheVariants as errors
 use Rattle.zoned_ffi.proofs.Words.{Bool, Err, Error, IfErr, IsErrorOfKind, IsExtendedFault, IsFalse, IsFault, IsFileError, IsOutOfMemory, IsPosixFault}
 use Rattle.zoned_ffi.proofs.Words.{IsPosixZone, IsReaderNumber, IsStringError, IsTrue, IsUtf8, IsZoneFault, IsZoneOf, Kind, List, Ok, Refusal, Result}
 use Rattle.zoned_ffi.proofs.Words.{SpellsZone, Zone, arith, error_number, inl, inr, refl, refusal_number, subst, sym, true, ℕ, ◌↔◌, ◌≡◌, ◌≢◌, ◌⊎◌}
-use Rattle.zoned_ffi.specs.{Kinds.{kind_number}, Refusals.{IsErrorOfKind.{Other_size, Unknown_kind}, IsFileError.{In_file}, IsStringError.{Not_utf8}}}
+use Rattle.zoned_ffi.specs.{Kinds.{kind_number}, Refusals.IsErrorOfKind.{Other_size, Unknown_kind}, Refusals.IsFileError.{In_file}}
+use Rattle.zoned_ffi.specs.Refusals.IsStringError.{Not_utf8}
 use Rattle.tz_info.specs.{PosixZones.{IsExtendedZone}, TzGrammar.{IsTextFault}}
+use Rattle.tz_base.specs.declared.error.Error.TheVariants as errors
 use Rattle.zoned_ffi.specs.declared.kind.Kind.TheVariants as kinds
 
 -- the number of a text's error is that of its fault

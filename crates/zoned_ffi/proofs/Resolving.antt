@@ -1,6 +1,6 @@
 -- What a choice takes, told by instants.
-use Rattle.offset_core.specs.{ResolveNumbers.{resolve_error_number}, declared.around.Around.{Around, TheVariants.{Ambiguous, Gap, Single}}}
-use Rattle.offset_core.specs.declared.{around.Taken.{Taken as Found}, resolve_error.ResolveError.{ResolveError}}
+use Rattle.offset_core.specs.{ResolveNumbers.{resolve_error_number}, declared.around.Around.{Around}, declared.around.Taken.{Taken as Found}}
+use Rattle.offset_core.specs.{declared.around.Around.TheVariants.{Ambiguous, Gap, Single}, declared.resolve_error.ResolveError.{ResolveError}}
 use Rattle.tz_base.specs.declared.change.Change.{Change}
 use Rattle.tz_info.specs.Around.{AreTypesAround}
 use Rattle.zoned_ffi.proofs.Words.{Choice, IsFirstAtOrAfter, IsTakenGapEnd, IsNoneTaken, IsInRange, IsWrittenOffsetAt, IsReachedAt, IsResolvedAt, IsShownOnce}

@@ -2,11 +2,13 @@
 //! those that take an instant for a local time.
 
 ghost use Rattle.std.specs.Prelude.{◌≡◌, ◌≢◌, ◌*◌, ◌⊎◌, ◌≤ℤ◌, ◌<ℤ◌, pos, length};
-ghost use Rattle.tz_info.specs.{Changes.{HasNoChange}, Zones.{Zone, TypeAt, IsTypeRefused}};
+ghost use Rattle.tz_info.specs.Changes.{HasNoChange};
+ghost use Rattle.tz_info.specs.Zones.{Zone, TypeAt, IsTypeRefused};
 ghost use Rattle.zoned_ffi.specs.Handles.{IsLent, IsNoneLent, IsUnanswered};
 ghost use Rattle.zoned_ffi.specs.Instants.{AreOffsetsAt, IsWrittenOffsetAt};
-ghost use Rattle.zoned_ffi.specs.{Columns.{AreAnswered, IsFirstWithout}, Fields.{AreFieldsAt}};
-ghost use Rattle.zoned_ffi.specs.{Fields.{AreNoFieldsAt}, Units.{IsUnit, per_second}};
+ghost use Rattle.zoned_ffi.specs.Columns.{AreAnswered, IsFirstWithout};
+ghost use Rattle.zoned_ffi.specs.Fields.{AreFieldsAt, AreNoFieldsAt};
+ghost use Rattle.zoned_ffi.specs.Units.{IsUnit, per_second};
 ghost use Rattle.zoned_ffi.specs.WallClocks.{AreTriples, AreWallClocks, IsWallClockAt};
 ghost use Rattle.zoned_ffi.specs.WrittenChanges.{AreFirstWritten, AreWrittenChanges};
 ghost use Rattle.zoned_ffi.specs.WrittenChanges.{IsFirstWritten, IsLastWritten};

@@ -3,11 +3,13 @@
 #![tactic(auto)]
 
 ghost use Rattle.std.specs.Prelude.{◌≡◌, ◌≢◌, ◌*◌, ◌⊎◌, length};
-ghost use Rattle.tz_info.specs.{Zones.{Zone}, TzFiles.{IsZoneFault}};
-ghost use Rattle.zoned_ffi.specs.{Instants.{AreOffsetsAt}, Kinds.{IsZoneOf, SpellsZone}};
+ghost use Rattle.tz_info.specs.Zones.{Zone};
+ghost use Rattle.tz_info.specs.TzFiles.{IsZoneFault};
+ghost use Rattle.zoned_ffi.specs.Instants.{AreOffsetsAt};
+ghost use Rattle.zoned_ffi.specs.Kinds.{IsZoneOf, SpellsZone};
 ghost use Rattle.zoned_ffi.specs.Refusals.{IsErrorOfKind, IsRefusalInDetail, detail_number};
-ghost use Rattle.zoned_ffi.specs.{declared.kind.Kind.TheVariants.{File}, WallClocks.{AreTriples}};
-ghost use Rattle.zoned_ffi.specs.WallClocks.{AreWallClocks};
+ghost use Rattle.zoned_ffi.specs.declared.kind.Kind.TheVariants.{File};
+ghost use Rattle.zoned_ffi.specs.WallClocks.{AreTriples, AreWallClocks};
 ghost use Rattle.tz_base.specs.declared.error.Error.{Error};
 
 mod asking;

@@ -1,8 +1,10 @@
 //! Zones that C keeps: opened, shared and closed.
 
-ghost use Rattle.std.specs.{Prelude.{◌≡◌, ◌≢◌, ◌⊎◌, IfErr, IfOk, IfSome}, Arc.{arc_value}};
+ghost use Rattle.std.specs.Prelude.{◌≡◌, ◌≢◌, ◌⊎◌, IfErr, IfOk, IfSome};
+ghost use Rattle.std.specs.Arc.{arc_value};
 ghost use Rattle.tz_info.specs.Zones.{Zone};
-ghost use Rattle.zoned_ffi.specs.{Handles.{IsClosed, IsLent, IsNoneLent, IsOpen}, Kinds.{IsZoneOf}};
+ghost use Rattle.zoned_ffi.specs.Handles.{IsClosed, IsLent, IsNoneLent, IsOpen};
+ghost use Rattle.zoned_ffi.specs.Kinds.{IsZoneOf};
 ghost use Rattle.zoned_ffi.specs.Refusals.{IsErrorOfKind, refusal_number};
 
 use crate::handle::Handle;

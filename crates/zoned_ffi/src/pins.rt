@@ -2,20 +2,22 @@
 //! gives to C. The functions are empty, and never called.
 
 ghost use Rattle.std.specs.Prelude.{◌≡◌, ◌∷◌, [], ◌⊎◌, ℕ, ℤ, pos, neg_ℤ, true, false, Some, None};
-ghost use Rattle.offset_core.specs.declared.choice.FoldChoice.TheVariants as folds;
-ghost use Rattle.offset_core.specs.declared.local_result.LocalResult.TheVariants as results;
 ghost use Rattle.tz_base.specs.LocalTypes.{LocalType};
 ghost use Rattle.tz_info.specs.Zones.{Zone};
-ghost use Rattle.zoned_ffi.specs.{Fields.{AreFieldsOf, IsNoLocalOf}, Handles.{IsUnanswered}};
-ghost use Rattle.zoned_ffi.specs.{Instants.{no_offset}, Kinds.{IsKind, kind_number}};
+ghost use Rattle.zoned_ffi.specs.Fields.{AreFieldsOf, IsNoLocalOf};
+ghost use Rattle.zoned_ffi.specs.Handles.{IsUnanswered};
+ghost use Rattle.zoned_ffi.specs.Instants.{no_offset};
+ghost use Rattle.zoned_ffi.specs.Kinds.{IsKind, kind_number};
 ghost use Rattle.zoned_ffi.specs.Resolved.{IsChoice, IsChoiceOf, IsNoneTaken, unresolved};
 ghost use Rattle.zoned_ffi.specs.WallClocks.{written, out_of_range};
 ghost use Rattle.zoned_ffi.specs.WrittenChanges.{written_change, written_into};
-ghost use Rattle.zoned_ffi.specs.{WrittenSpans.{written_span}, WrittenTypes.{mark, no_type}};
-ghost use Rattle.zoned_ffi.specs.WrittenTypes.{written_type, zero_ended, zeros};
+ghost use Rattle.zoned_ffi.specs.WrittenSpans.{written_span};
+ghost use Rattle.zoned_ffi.specs.WrittenTypes.{mark, no_type, written_type, zero_ended, zeros};
 ghost use Rattle.zoned_ffi.specs.declared.choice.Choice.{Choice};
-ghost use Rattle.zoned_ffi.specs.declared.choice.GapChoice.TheVariants as gaps;
 ghost use Rattle.zoned_ffi.specs.declared.lent.Lent.{Lent};
+ghost use Rattle.offset_core.specs.declared.choice.FoldChoice.TheVariants as folds;
+ghost use Rattle.offset_core.specs.declared.local_result.LocalResult.TheVariants as results;
+ghost use Rattle.zoned_ffi.specs.declared.choice.GapChoice.TheVariants as gaps;
 ghost use Rattle.zoned_ffi.specs.declared.kind.Kind.TheVariants as kinds;
 
 /// A file is of kind 0, a TZ string of kind 1, and one with extensions of kind 2; there is no kind 3.

@@ -1,11 +1,11 @@
 -- Tokens that are read back as the value of a zone, and how deep it nests.
 use Rattle.json.proofs.Printed.Trees.{value-json_tokens}
-use Rattle.tz_info.specs.declared.rule.day.DayForm.TheVariants as days
-use Rattle.tz_info.specs.declared.rule.transition_rule.TransitionRule.TheVariants as rules
 use Rattle.zonedump_lib.proofs.Words.{Change, DayForm, DayTime, Difference, Json, LeapSecond, List, None, Option, Some, Token, TransitionRule, Zone, ap}
 use Rattle.zonedump_lib.proofs.Words.{append-nil, arith, change_shallow, change_value, day_value, depth, difference_value, differences_value, document, if_last}
 use Rattle.zonedump_lib.proofs.Words.{items_shallow, json_tokens, leap_value, lone_value, max_depth, moment_value, option_and_then, print, rule_value, sym}
 use Rattle.zonedump_lib.proofs.Words.{tokens, type_shallow, value, zone_value, ℕ, ℤ, [], ◌++◌, ◌∙◌, ◌≡◌, ◌≤◌}
+use Rattle.tz_info.specs.declared.rule.day.DayForm.TheVariants as days
+use Rattle.tz_info.specs.declared.rule.transition_rule.TransitionRule.TheVariants as rules
 
 -- the printed tokens of a value are a text of that value
 pub read_back : (text before : List ℕ) (j : Json) (ts : List Token) → ts ≡ json_tokens j → before ≡ [] → text ≡ before ++ print ts → tokens (print ts) ≡ ts

@@ -1,7 +1,8 @@
 //! The changes of a zone's clocks in some years.
 
 ghost use Rattle.std.specs.Prelude.{◌≡◌, ◌+ℤ◌, pos, IfOk};
-ghost use Rattle.tz_info.specs.{Changes.{AreChanges}, Zones.{TypeAt}};
+ghost use Rattle.tz_info.specs.Changes.{AreChanges};
+ghost use Rattle.tz_info.specs.Zones.{TypeAt};
 ghost use Rattle.change_views.specs.Spans.{IsInYears, year_second, year_until};
 
 use change_views::Years;

@@ -3,8 +3,10 @@
 
 ghost use Rattle.std.specs.Prelude.{◌≡◌, [], ◌∷◌, ◌++◌, IfOk, codes, flat_map};
 ghost use Rattle.std.specs.Fmt.{signed_decimal};
-ghost use Rattle.json.specs.{Token.{key, string, number}, Tree.{json_tokens}};
-ghost use Rattle.change_views.specs.{ChangeValues.{list_value}, Clocks.{clock_words}};
+ghost use Rattle.json.specs.Token.{key, string, number};
+ghost use Rattle.json.specs.Tree.{json_tokens};
+ghost use Rattle.change_views.specs.ChangeValues.{list_value};
+ghost use Rattle.change_views.specs.Clocks.{clock_words};
 ghost use Rattle.change_views.specs.JsonSteps.{Puts};
 ghost use Rattle.zonedump_lib.specs.DifferenceForms.{IsDifferencesJson, IsLoneJson};
 ghost use Rattle.zonedump_lib.specs.DifferenceForms.{difference_value, differences_value};

@@ -1,9 +1,11 @@
 //! The differences of two zones in some years.
 
 ghost use Rattle.std.specs.Prelude.{◌≡◌, ◌++◌, ◌∷◌, [], ◌-ℤ◌, MatchResult, OnOk, Some, codes};
-ghost use Rattle.std.specs.{Prelude.{string_bytes}, Fmt.{signed_decimal}};
+ghost use Rattle.std.specs.Prelude.{string_bytes};
+ghost use Rattle.std.specs.Fmt.{signed_decimal};
 ghost use Rattle.tz_base.specs.declared.error.Error.TheVariants.{OutOfMemory};
-ghost use Rattle.change_views.specs.{Clocks.{clock_words}, Words.{type_words}};
+ghost use Rattle.change_views.specs.Clocks.{clock_words};
+ghost use Rattle.change_views.specs.Words.{type_words};
 ghost use Rattle.zonedump_lib.specs.DifferenceForms.{AreDifferencesInYears, difference_text};
 ghost use Rattle.zonedump_lib.specs.DifferenceForms.{difference_lines, moved_by};
 

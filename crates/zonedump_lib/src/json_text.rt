@@ -2,13 +2,17 @@
 #![tactic(auto, using(change_views::proofs::ForCallers::wrote, change_views::proofs::ForCallers::puts_then))]
 
 ghost use Rattle.std.specs.Prelude.{◌≡◌, [], ◌∷◌, ◌++◌, IfOk, Some, codes, decimal, flat_map};
-ghost use Rattle.std.specs.{Prelude.{length}, Fmt.{signed_decimal}};
-ghost use Rattle.json.specs.{Json.{document}, Print.{print}, Token.{begin_object, end_object, key}};
-ghost use Rattle.json.specs.{Token.{string, number}, Tree.{json_tokens}};
+ghost use Rattle.std.specs.Prelude.{length};
+ghost use Rattle.std.specs.Fmt.{signed_decimal};
+ghost use Rattle.json.specs.Json.{document};
+ghost use Rattle.json.specs.Print.{print};
+ghost use Rattle.json.specs.Token.{begin_object, end_object, key, string, number};
+ghost use Rattle.json.specs.Tree.{json_tokens};
 ghost use Rattle.tz_info.specs.declared.rule.day.DayForm.TheVariants.{MonthWeekday};
 ghost use Rattle.tz_info.specs.declared.rule.transition_rule.TransitionRule.TheVariants.{Fixed};
 ghost use Rattle.tz_info.specs.declared.rule.transition_rule.TransitionRule.TheVariants.{Alternate};
-ghost use Rattle.change_views.specs.{JsonSteps.{Puts}, ChangeValues.{list_value}};
+ghost use Rattle.change_views.specs.JsonSteps.{Puts};
+ghost use Rattle.change_views.specs.ChangeValues.{list_value};
 ghost use Rattle.zonedump_lib.specs.JsonValues.{IsJson, day_value, leap_value, moment_value};
 ghost use Rattle.zonedump_lib.specs.JsonValues.{rule_value, zone_value};
 

@@ -2,7 +2,8 @@
 
 ghost use Rattle.std.specs.Prelude.{◌≡◌, pos, int_le, int_lt, ◌&&◌, unsigned_abs, true, false};
 ghost use Rattle.std.specs.Prelude.{Some, MatchOption, option_map};
-ghost use Rattle.naive_base.specs.{Text.{time_text}, NaiveTime.{printed_time}};
+ghost use Rattle.naive_base.specs.Text.{time_text};
+ghost use Rattle.naive_base.specs.NaiveTime.{printed_time};
 ghost use Rattle.zonedump_lib.specs.RuleWords.{week_words, weekday_words, month_words, day_words};
 ghost use Rattle.zonedump_lib.specs.RuleWords.{moment_words, turn_words, turns_words, rule_words};
 

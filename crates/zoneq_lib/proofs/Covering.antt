@@ -1,11 +1,11 @@
 -- Every line has an answer, so that answers to a front of an input can be carried on to its end.
-use Rattle.tz_base.specs.declared.error.Error.TheVariants as errors
 use Rattle.zoneq_lib.proofs.CitedWords.{All-cons, All-head, All-nil, All-tail, Answered, AnswersBefore, AnswersLast, AnswersLine, AnswersLines, Asks, At}
 use Rattle.zoneq_lib.proofs.CitedWords.{BeginsAnswers, Data, HasNoNewline, IsSplit, IsKeptFor, IsRuleOrNone, IsValid, List, None, Option, Query, Resolve, Show}
 use Rattle.zoneq_lib.proofs.CitedWords.{Some, Text, Wall, Zone, ap, append-nil, append_assoc, arith, cases_eq, codes, ended_lines, file_rule_fits, flat_map}
 use Rattle.zoneq_lib.proofs.CitedWords.{inl, inr, length, length-append, posix_zone_valid, refl, shown_refusal, subst, sym, type_decided, shown_type}
-use Rattle.zoneq_lib.proofs.{CitedWords.{wall_decided, shown_wall, ℕ, [], ◌++◌, ◌<◌, ◌∙◌, ◌∷◌, ◌≡◌, ◌≢◌}, Joining.{answered_join, answers_all}}
-use Rattle.zoneq_lib.proofs.{LineLaws.{asks_or_bad, resolved_in_range}, Showing.{resolve_covered, show_covered}}
+use Rattle.zoneq_lib.proofs.CitedWords.{wall_decided, shown_wall, ℕ, [], ◌++◌, ◌<◌, ◌∙◌, ◌∷◌, ◌≡◌, ◌≢◌}
+use Rattle.zoneq_lib.proofs.{Joining.{answered_join, answers_all}, LineLaws.{asks_or_bad, resolved_in_range}, Showing.{resolve_covered, show_covered}}
+use Rattle.tz_base.specs.declared.error.Error.TheVariants as errors
 
 -- the zone, if there is one, is valid, and the numbers of its rule are in their limits
 abbrev pub IsGiven : Option Zone → Type 0

@@ -2,7 +2,8 @@
 use Rattle.zoneq_lib.proofs.CitedWords.{Begins, Err, IsBadLine, IsHopeless, List, Spells, after_byte, ap, append-nil, append_assoc, arith, cases_eq, codes}
 use Rattle.zoneq_lib.proofs.CitedWords.{drop, false, inl, inr, length, length-append, query_line, nat_tests, question, refl, slice_index, subst, sym, take}
 use Rattle.zoneq_lib.proofs.CitedWords.{take-append-add, take-append-drop, true, without_return, ℕ, [], ◌++◌, ◌+◌, ◌-◌, ◌<◌, ◌==◌, ◌∙◌, ◌∷◌, ◌≡◌, ◌⊎◌}
-use Rattle.zoneq_lib.{specs.{Steps.LineReading.{scan}, declared.bad_line.BadLine.TheVariants.{Hopeless}}, proofs.ScanLaws.{never, stops}}
+use Rattle.zoneq_lib.specs.{Steps.LineReading.{scan}, declared.bad_line.BadLine.TheVariants.{Hopeless}}
+use Rattle.zoneq_lib.proofs.ScanLaws.{never, stops}
 
 cut_or_whole : (bytes : List ℕ) → (without_return bytes ≡ take (length bytes - 1) bytes) ⊎ (without_return bytes ≡ bytes)
 cut_or_whole bytes = elim (cases_eq (slice_index bytes (length bytes - 1)) 13) [

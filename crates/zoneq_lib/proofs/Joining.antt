@@ -2,7 +2,8 @@
 use Rattle.zoneq_lib.proofs.CitedWords.{All-append, All-cons, All-head, All-nil, All-tail, Answered, Answers, AnswersLast, AnswersLine, AnswersLines}
 use Rattle.zoneq_lib.proofs.CitedWords.{HasNoNewline, IsBadLine, IsSplit, IsHopeless, IsKeptFor, List, None, Option, Zone, ap, append-nil, append_assoc, arith}
 use Rattle.zoneq_lib.proofs.CitedWords.{codes, ended_lines, flat_map, flat_map-append, inl, inr, map-append, refl, subst, sym, without_return, ℕ, [], ◌++◌, ◌∙◌}
-use Rattle.zoneq_lib.proofs.{CitedWords.{◌∷◌, ◌≡◌, ◌≢◌}, HopelessLaws.{more_hopeless}}
+use Rattle.zoneq_lib.proofs.CitedWords.{◌∷◌, ◌≡◌, ◌≢◌}
+use Rattle.zoneq_lib.proofs.HopelessLaws.{more_hopeless}
 
 -- the answers to some lines, and then to more
 pub lines_join : (z : Option Zone) (lines : List (List ℕ)) (o : List ℕ) (m : Option Zone) (more : List (List ℕ)) (p : List ℕ) (a : Option Zone) → AnswersLines z lines o m → AnswersLines m more p a → AnswersLines z (lines ++ more) (o ++ p) a

@@ -3,7 +3,8 @@ use Rattle.zoneq_lib.proofs.CitedWords.{Asks, BadLine, Choice, Err, IsBadLine, I
 use Rattle.zoneq_lib.proofs.CitedWords.{Query, Reading, Resolve, Result, Some, Spells, ap, arith, at_query, between, data_query, calendar_day, date_in_years}
 use Rattle.zoneq_lib.proofs.CitedWords.{days_in_month, false, inl, inr, integer, ints, is_leap, query_line, local_time, nat_le, next, question, refl}
 use Rattle.zoneq_lib.proofs.CitedWords.{resolve_query, show_query, subst, sym, text_query, true, wall_query, ℕ, ℤ, [], ◌&&◌, ◌∙◌, ◌≡◌, ◌≤◌, ◌⊎◌}
-use Rattle.zoneq_lib.{specs.Steps.LineReading.{scan}, proofs.{HexLaws.{refuted}, ScanLaws.{not_scanned, scanned}}}
+use Rattle.zoneq_lib.specs.Steps.LineReading.{scan}
+use Rattle.zoneq_lib.proofs.{HexLaws.{refuted}, ScanLaws.{not_scanned, scanned}}
 
 -- ---- each line
 ends : (bytes rest : List ℕ) (query : Query) → Spells query_line bytes query rest → rest ≡ []

@@ -2,8 +2,8 @@
 use Rattle.tz_base.proofs.RunLaws.{above_is, value_grows}
 use Rattle.zoneq_lib.proofs.CitedWords.{BadLine, Err, IsAsciiDigit, IsNotAsciiDigit, List, Number, Ok, Result, after_run, ap, arith, cases_lt, drop, drop_all}
 use Rattle.zoneq_lib.proofs.CitedWords.{drop_more, false, get_or, inl, inr, int_at, is_digit, length, nat_le, nat_tests, number_within, refl, run_of, stop, suc}
-use Rattle.zoneq_lib.{proofs.CitedWords.{true, value_from, zero, ℕ, [], ◌*◌, ◌+◌, ◌-◌, ◌<◌, ◌∷◌, ◌≡◌, ◌≤◌}, specs.Steps.LineReading.{scan}}
-use Rattle.zoneq_lib.specs.declared.bad_line.BadLine.TheVariants.{Hopeless}
+use Rattle.zoneq_lib.proofs.CitedWords.{true, value_from, zero, ℕ, [], ◌*◌, ◌+◌, ◌-◌, ◌<◌, ◌∷◌, ◌≡◌, ◌≤◌}
+use Rattle.zoneq_lib.specs.{Steps.LineReading.{scan}, declared.bad_line.BadLine.TheVariants.{Hopeless}}
 
 -- the first i bytes are digits, and spell n
 pub record ReadTo (text : List ℕ) (i n : ℕ) : Type 0 where

@@ -1,5 +1,6 @@
 -- What is read at the front of a line is what it spells, and no line that goes on from a hopeless front spells anything.
-use Rattle.tz_base.{proofs.RunLaws.{value_grows}, specs.declared.error.Error.TheVariants.{MissingTag, ParseInt, UnexpectedEnd}}
+use Rattle.tz_base.proofs.RunLaws.{value_grows}
+use Rattle.tz_base.specs.declared.error.Error.TheVariants.{MissingTag, ParseInt, UnexpectedEnd}
 use Rattle.tz_base.specs.declared.error.Expected.TheVariants.{NumberWithinItsLimit, OtherBytes, Tag}
 use Rattle.zoneq_lib.proofs.CitedWords.{AllOf, BadLine, Bool, Byte, Check, Ended, Err, Error, Exact, Grammar, IsRun, List, Marked, None, NoneFirst, Nothing}
 use Rattle.zoneq_lib.proofs.CitedWords.{Number, Ok, Refusal, Refused, Rest, Result, Run, Some, Spells, Then, after_byte, after_run, ap, append-nil}

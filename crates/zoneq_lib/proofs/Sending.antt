@@ -1,7 +1,8 @@
 -- What stands written where answers were sent on their way, or could not be.
 use Rattle.zoneq_lib.proofs.CitedWords.{AnswersAtEnd, AnswersIn, Appends, Bool, Err, IfErr, IsSentOf, Keeps, List, Ok, OnOk, Option, Result, RunError}
 use Rattle.zoneq_lib.proofs.CitedWords.{StopsAtEnd, StopsIn, WritesUnlessFailed, Zone, ap, append-nil, append_assoc, drop, false, inl, inr, refl, sym, take}
-use Rattle.zoneq_lib.proofs.{CitedWords.{take-append-drop, true, true≢false, ℕ, [], ◌++◌, ◌∙◌, ◌≡◌}, Bytes.{appends_join, appends_kept}}
+use Rattle.zoneq_lib.proofs.CitedWords.{take-append-drop, true, true≢false, ℕ, [], ◌++◌, ◌∙◌, ◌≡◌}
+use Rattle.zoneq_lib.proofs.Bytes.{appends_join, appends_kept}
 use Rattle.zoneq_lib.specs.declared.run_error.RunError.TheVariants as errors
 
 -- a block stopped the run, or the answers to it could not be sent

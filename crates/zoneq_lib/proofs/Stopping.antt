@@ -2,8 +2,8 @@
 use Rattle.zoneq_lib.proofs.CitedWords.{Answered, AnswersAtEnd, AnswersLast, AnswersLine, Appends, Bool, Err, HasNoNewline, IfErr, IsKeptFor, List, Ok, OnOk}
 use Rattle.zoneq_lib.proofs.CitedWords.{Option, Replies, Result, RunError, StopsAt, StopsAtEnd, StopsIn, Zone, ap, append-nil, append_assoc, arith, codes, drop}
 use Rattle.zoneq_lib.proofs.CitedWords.{false, inl, length, length-append, nat_tests, nil_from_length, refl, subst, sym, take, take-append-drop, true}
-use Rattle.zoneq_lib.proofs.{CitedWords.{without_return, ℕ, [], ◌++◌, ◌<◌, ◌==◌, ◌∙◌, ◌∷◌, ◌≡◌}, Bytes.{appends_join}, Joining.{answered_join, answered_line}}
-use Rattle.zoneq_lib.proofs.Joining.{answered_more}
+use Rattle.zoneq_lib.proofs.CitedWords.{without_return, ℕ, [], ◌++◌, ◌<◌, ◌==◌, ◌∙◌, ◌∷◌, ◌≡◌}
+use Rattle.zoneq_lib.proofs.{Bytes.{appends_join}, Joining.{answered_join, answered_line, answered_more}}
 use Rattle.zoneq_lib.specs.declared.run_error.RunError.TheVariants as errors
 
 -- what `is_empty` says of a vector's items

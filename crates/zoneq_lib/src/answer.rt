@@ -2,14 +2,17 @@
 
 ghost use Rattle.std.specs.Prelude.{◌≡◌, ℕ, List, [], ◌∷◌, ◌++◌, ◌⊎◌, OnOk, IfOk, IfErr, IfSome};
 ghost use Rattle.std.specs.Prelude.{MatchResult, codes, string_bytes, Some};
-ghost use Rattle.naive_base.specs.{NaiveDateTime.{reading}, Text.{reading_text}};
-ghost use Rattle.zoned_time.specs.{DateTime.{zoned}, Zoned.{local_of}};
+ghost use Rattle.naive_base.specs.NaiveDateTime.{reading};
+ghost use Rattle.naive_base.specs.Text.{reading_text};
+ghost use Rattle.zoned_time.specs.DateTime.{zoned};
+ghost use Rattle.zoned_time.specs.Zoned.{local_of};
 ghost use Rattle.tz_base.specs.Errors.{IsOutOfMemory, error_number};
-ghost use Rattle.tz_info.specs.{TzFiles.{IsTzFile, IsFileFault}, Zones.{IsValid}};
-ghost use Rattle.zoneq_lib.specs.{Hex.{bytes_of}, Answers.{AnswersLine, AnswersText, AnswersData}};
-ghost use Rattle.zoneq_lib.specs.Answers.{AnswersAt, AnswersWall, AnswersResolve, AnswersShow};
-ghost use Rattle.zoneq_lib.specs.Answers.{shown_type, shown_wall, shown_zone, shown_rule};
-ghost use Rattle.zoneq_lib.specs.Answers.{shown_refusal};
+ghost use Rattle.tz_info.specs.TzFiles.{IsTzFile, IsFileFault};
+ghost use Rattle.tz_info.specs.Zones.{IsValid};
+ghost use Rattle.zoneq_lib.specs.Hex.{bytes_of};
+ghost use Rattle.zoneq_lib.specs.Answers.{AnswersLine, AnswersText, AnswersData, AnswersAt};
+ghost use Rattle.zoneq_lib.specs.Answers.{AnswersWall, AnswersResolve, AnswersShow, shown_type};
+ghost use Rattle.zoneq_lib.specs.Answers.{shown_wall, shown_zone, shown_rule, shown_refusal};
 
 use crate::question::Question;
 use naive_base::NaiveDateTime;

@@ -1,6 +1,7 @@
 //! Numbers in a file, the highest byte first.
 
-ghost use Rattle.std.specs.{Prelude.{◌≡◌, ◌++◌, OnOk, FitsSigned}, Int.{w32, w64}};
+ghost use Rattle.std.specs.Prelude.{◌≡◌, ◌++◌, OnOk, FitsSigned};
+ghost use Rattle.std.specs.Int.{w32, w64};
 ghost use Rattle.tz_write.specs.FileBytes.{number_bytes, signed_bytes};
 
 use std::alloc::AllocError;

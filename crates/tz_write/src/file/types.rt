@@ -1,8 +1,10 @@
 //! The local time types of a data block (RFC 8536 section 3.2).
 
-ghost use Rattle.std.specs.{Prelude.{◌≡◌, ◌++◌, All, OnOk}, List.{flat_map}};
-ghost use Rattle.tz_write.specs.{FileBytes.{mark_byte, type_bytes}, FileLayouts.{HasPlace}};
-ghost use Rattle.tz_write.specs.{FileLayouts.{HavePlaces}, WrittenFiles.{IsType}};
+ghost use Rattle.std.specs.Prelude.{◌≡◌, ◌++◌, All, OnOk};
+ghost use Rattle.std.specs.List.{flat_map};
+ghost use Rattle.tz_write.specs.FileBytes.{mark_byte, type_bytes};
+ghost use Rattle.tz_write.specs.FileLayouts.{HasPlace, HavePlaces};
+ghost use Rattle.tz_write.specs.WrittenFiles.{IsType};
 
 use crate::file::designations::{name_of, place_of};
 use crate::file::numbers::push_signed_32;

@@ -3,8 +3,10 @@
 ghost use Rattle.std.specs.Prelude.{◌≡◌, ℕ, pos, neg_ℤ, false, true, List, [], ◌∷◌, slice_index};
 ghost use Rattle.std.specs.Prelude.{Some, IfOk, IfSome, MatchOption, MatchResult, codes};
 ghost use Rattle.tz_base.specs.Errors.{IsOutOfMemory};
-ghost use Rattle.tz_info.specs.{TzFiles.{IsTzFile}, Zones.{Zone, IsValid, IsRuleOrNone}};
-ghost use Rattle.tz_write.specs.{FileBytes.{counts_of, header_bytes}, FileLayouts.{laid}};
+ghost use Rattle.tz_info.specs.TzFiles.{IsTzFile};
+ghost use Rattle.tz_info.specs.Zones.{Zone, IsValid, IsRuleOrNone};
+ghost use Rattle.tz_write.specs.FileBytes.{counts_of, header_bytes};
+ghost use Rattle.tz_write.specs.FileLayouts.{laid};
 ghost use Rattle.tz_write.specs.WrittenFiles.{AreBytes, IsInNoFile, IsWritable, IsWrittenFile};
 ghost use Rattle.tz_write.specs.WrittenFiles.{NeedsExtensions, IsSound};
 

@@ -1,8 +1,9 @@
 //! Days, and the times of day after them.
 
-ghost use Rattle.std.specs.{Prelude.{◌≡◌, ◌∷◌, ◌++◌, pos, OnOk, string_bytes}, Fmt.{decimal}};
-ghost use Rattle.tz_info.specs.{TzGrammar.{comma}, declared.rule.day.DayForm.TheVariants.{Julian1}};
-ghost use Rattle.tz_info.specs.declared.rule.day.DayForm.TheVariants.{MonthWeekday};
+ghost use Rattle.std.specs.Prelude.{◌≡◌, ◌∷◌, ◌++◌, pos, OnOk, string_bytes};
+ghost use Rattle.std.specs.Fmt.{decimal};
+ghost use Rattle.tz_info.specs.TzGrammar.{comma};
+ghost use Rattle.tz_info.specs.declared.rule.day.DayForm.TheVariants.{Julian1, MonthWeekday};
 ghost use Rattle.tz_write.specs.Steps.TextPieces.{spelled_date, time_after};
 
 use crate::pieces::clock::{push_byte, push_number};

@@ -1,4 +1,5 @@
-use Rattle.zoned_ffi.{proofs.Words.{IsRefusalInDetail, subst, sym, ℕ}, specs.Refusals.IsRefusalInDetail.{Of_file, Of_other}}
+use Rattle.zoned_ffi.proofs.Words.{IsRefusalInDetail, subst, sym, ℕ}
+use Rattle.zoned_ffi.specs.Refusals.IsRefusalInDetail.{Of_file, Of_other}
 use Rattle.zoned_ffi.proofs.zoned_fault.Goals as goal
 
 pub returns-then-is_file-clause-refused : goal.returns-then-is_file-clause-refused

@@ -1,5 +1,5 @@
-use Rattle.offset_core.specs.declared.local_result.LocalResult.TheVariants as results
 use Rattle.tests_pins.proofs.{Words.{arith, digits, edt, est, inl, pos, refl}, NewYork.{edt_between}, NewYorkClocks.{in_fold, in_gap, type_of_rule}}
+use Rattle.offset_core.specs.declared.local_result.LocalResult.TheVariants as results
 use Rattle.tests_pins.proofs.asked_lines.answers.Goals as goal
 
 pub returns : goal.returns

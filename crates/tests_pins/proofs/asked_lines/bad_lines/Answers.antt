@@ -1,4 +1,4 @@
-use Rattle.tz_base.specs.declared.error.{Error.TheVariants.{InvalidTzString, ParseInt}, Expected.TheVariants.{NumberWithinItsLimit, OtherBytes}}
+use Rattle.tz_base.specs.{declared.error.Error.TheVariants.{InvalidTzString, ParseInt}, declared.error.Expected.TheVariants.{NumberWithinItsLimit, OtherBytes}}
 use Rattle.tests_pins.proofs.{Words.{codes, refl, []}, AskedWords.{bad_line}, Computed.{lines}}
 use Rattle.tests_pins.proofs.asked_lines.bad_lines.Goals as goal
 

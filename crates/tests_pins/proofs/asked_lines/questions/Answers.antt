@@ -1,6 +1,6 @@
+use Rattle.tests_pins.proofs.{Words.{At, Data, Resolve, Show, Wall, codes, neg_ℤ, of_secs, pos, refl, [], ◌∷◌}, AskedWords.{asks}, Computed.{lines}}
 use Rattle.offset_core.specs.declared.choice.FoldChoice.TheVariants as folds
 use Rattle.offset_core.specs.declared.choice.GapChoice.TheVariants as gaps
-use Rattle.tests_pins.proofs.{Words.{At, Data, Resolve, Show, Wall, codes, neg_ℤ, of_secs, pos, refl, [], ◌∷◌}, AskedWords.{asks}, Computed.{lines}}
 use Rattle.tests_pins.proofs.asked_lines.questions.Goals as goal
 
 pub returns : goal.returns

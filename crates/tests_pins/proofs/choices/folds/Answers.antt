@@ -1,8 +1,9 @@
 use Rattle.offset_core.specs.declared.resolve_error.ResolveError.TheVariants.{Fold}
 use Rattle.std.proofs.Common.{Err, refl}
-use Rattle.zoned_time.{proofs.ForCallers.{unresolved_once}, specs.Choice.{refused}}
-use Rattle.tests_pins.proofs.{Words.{ap, behind, half_past, neg_ℤ, pos, refuse, set_back, ◌∙◌, ◌≡◌}, SetClocks.{none_taken_twice, taken_earliest, taken_latest}}
-use Rattle.tests_pins.proofs.SetClocks.{takes_fold, zoned_is}
+use Rattle.zoned_time.proofs.ForCallers.{unresolved_once}
+use Rattle.zoned_time.specs.Choice.{refused}
+use Rattle.tests_pins.proofs.Words.{ap, behind, half_past, neg_ℤ, pos, refuse, set_back, ◌∙◌, ◌≡◌}
+use Rattle.tests_pins.proofs.SetClocks.{none_taken_twice, taken_earliest, taken_latest, takes_fold, zoned_is}
 use Rattle.tests_pins.proofs.choices.folds.Goals as goal
 
 pub returns : goal.returns

@@ -1,8 +1,9 @@
 use Rattle.offset_core.specs.declared.resolve_error.ResolveError.TheVariants.{Gap}
 use Rattle.std.proofs.Common.{Err, refl}
-use Rattle.zoned_time.{proofs.ForCallers.{unresolved_once}, specs.Choice.{refused}}
-use Rattle.tests_pins.proofs.{Words.{ap, behind, half_past, pos, refuse, set_forward, ◌∙◌, ◌≡◌}, SetClocks.{before_gap, none_taken, only_before_gap}}
-use Rattle.tests_pins.proofs.SetClocks.{taken_shifted, takes_gap, zoned_is}
+use Rattle.zoned_time.proofs.ForCallers.{unresolved_once}
+use Rattle.zoned_time.specs.Choice.{refused}
+use Rattle.tests_pins.proofs.Words.{ap, behind, half_past, pos, refuse, set_forward, ◌∙◌, ◌≡◌}
+use Rattle.tests_pins.proofs.SetClocks.{before_gap, none_taken, only_before_gap, taken_shifted, takes_gap, zoned_is}
 use Rattle.tests_pins.proofs.choices.gaps.Goals as goal
 
 pub returns : goal.returns

@@ -1,6 +1,7 @@
 use Rattle.offset_core.specs.declared.around.Taken.TheVariants.{Shown}
 use Rattle.std.proofs.Common.{Err, Ok}
-use Rattle.zoned_time.{proofs.ForCallers.{one_taken, taken_once}, specs.Choice.{out_of_range, refused}}
+use Rattle.zoned_time.proofs.ForCallers.{one_taken, taken_once}
+use Rattle.zoned_time.specs.Choice.{out_of_range, refused}
 use Rattle.tests_pins.proofs.Words.{IsUnresolved, ResolveError, arith, first_second, ints, last_second, pos, refl, refuse, set_back, set_forward}
 use Rattle.tests_pins.proofs.SetClocks.{is_taken_below, takes_last}
 use Rattle.tests_pins.proofs.choices.range.Goals as goal

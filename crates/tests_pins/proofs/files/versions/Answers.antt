@@ -1,4 +1,5 @@
-use Rattle.tz_base.specs.declared.error.{Error.TheVariants.{InvalidTzFile, UnsupportedTzFile}, Expected.TheVariants.{NothingAfterBlockOfVersion1, Version1To3}}
+use Rattle.tz_base.specs.declared.error.Error.TheVariants.{InvalidTzFile, UnsupportedTzFile}
+use Rattle.tz_base.specs.declared.error.Expected.TheVariants.{NothingAfterBlockOfVersion1, Version1To3}
 use Rattle.tz_info.specs.declared.file.header.Place.TheVariants.{First}
 use Rattle.tests_pins.proofs.Words.{after_first_block, apart, exact_at, first_version, lawful, optional_tag_at, refl, version, version_1, [], ◌∷◌}
 use Rattle.tests_pins.proofs.files.versions.Goals as goal

@@ -1,5 +1,5 @@
-use Rattle.tests_pins.proofs.{Words.{arith, edt, est, pos, sym}, NewYork.{edt_between, est_early}, NewYorkClocks.{apart, est_once, in_gap, none_earlier}}
-use Rattle.tests_pins.proofs.NewYorkClocks.{one_type, type_of_rule}
+use Rattle.tests_pins.proofs.{Words.{arith, edt, est, pos, sym}, NewYork.{edt_between, est_early}}
+use Rattle.tests_pins.proofs.NewYorkClocks.{apart, est_once, in_gap, none_earlier, one_type, type_of_rule}
 use Rattle.tests_pins.proofs.gaps.gap.Goals as goal
 
 pub returns : goal.returns

@@ -1,4 +1,4 @@
-use Rattle.tz_info.specs.TzFiles.{IsFileFault.{In_piece}, IsZoneFault.{In_file}}
+use Rattle.tz_info.specs.{TzFiles.IsFileFault.{In_piece}, TzFiles.IsZoneFault.{In_file}}
 use Rattle.tests_pins.proofs.HonoluluFile.{no_file, other_version, version_1_again}
 use Rattle.tests_pins.proofs.honolulu.second_versions.Goals as goal
 

@@ -1,4 +1,4 @@
-use Rattle.tz_info.specs.TzFiles.{IsFileFault.{In_piece}, IsZoneFault.{In_file}}
+use Rattle.tz_info.specs.{TzFiles.IsFileFault.{In_piece}, TzFiles.IsZoneFault.{In_file}}
 use Rattle.tests_pins.proofs.HonoluluFile.{byte_after, no_file, of_version_1}
 use Rattle.tests_pins.proofs.honolulu.version_1.Goals as goal
 

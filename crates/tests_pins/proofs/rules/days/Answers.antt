@@ -1,4 +1,5 @@
-use Rattle.tz_info.{proofs.RuleDays.{rule_day_closed}, specs.declared.rule.day.DayForm.TheVariants.{Julian0, Julian1, MonthWeekday}}
+use Rattle.tz_info.proofs.RuleDays.{rule_day_closed}
+use Rattle.tz_info.specs.declared.rule.day.DayForm.TheVariants.{Julian0, Julian1, MonthWeekday}
 use Rattle.tests_pins.proofs.Words.{arith, closed_day, day_number, days_of_months, pos, year_start}
 use Rattle.tests_pins.proofs.rules.days.Goals as goal
 

@@ -1,5 +1,5 @@
-use Rattle.tests_pins.proofs.{Words.{false, foo_23, foo_23_rule, foo_24, refl, text_fault_or_zone, []}, Computed.{texts}, SpelledTexts.{over_23, some_bytes}}
-use Rattle.tests_pins.proofs.SpelledTexts.{spelled}
+use Rattle.tests_pins.proofs.{Words.{false, foo_23, foo_23_rule, foo_24, refl, text_fault_or_zone, []}, Computed.{texts}}
+use Rattle.tests_pins.proofs.SpelledTexts.{over_23, some_bytes, spelled}
 use Rattle.tests_pins.proofs.texts.limits.Goals as goal
 
 pub returns : goal.returns

@@ -1,5 +1,6 @@
 use Rattle.zoned.proofs.Words.{Instant, IsAt, IsMultiple, arith, floor_div, floors, home_law_of, moved, multiple_below, nanos_of, refl, subst, total}
-use Rattle.zoned.proofs.{Words.{unsigned_abs, wall_of, zoned, ℤ, ◌+ℤ◌, ◌-ℤ◌, ◌∙◌, ◌≡◌}, Buckets.{gone-back, shown-back, way-back}}
+use Rattle.zoned.proofs.Words.{unsigned_abs, wall_of, zoned, ℤ, ◌+ℤ◌, ◌-ℤ◌, ◌∙◌, ◌≡◌}
+use Rattle.zoned.proofs.Buckets.{gone-back, shown-back, way-back}
 use Rattle.zoned.proofs.client_laws.truncated.Given as given
 use Rattle.zoned.proofs.client_laws.truncated.Goals as goal
 

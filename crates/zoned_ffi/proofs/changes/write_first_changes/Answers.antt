@@ -1,5 +1,6 @@
 use Rattle.zoned_ffi.proofs.Words.{AreChanges, FitsSigned, TypeAt, ap, append_assoc, arith, changes_left, inl, inr, length, length-append, subst, sym}
-use Rattle.zoned_ffi.proofs.{Words.{to_z-of_z, w64, [], ◌++◌, ◌+◌, ◌<◌, ◌∙◌, ◌∷◌, ◌≡◌, ◌≤◌}, ChangesWritten.{first_written, more_written, place_fits}}
+use Rattle.zoned_ffi.proofs.Words.{to_z-of_z, w64, [], ◌++◌, ◌+◌, ◌<◌, ◌∙◌, ◌∷◌, ◌≡◌, ◌≤◌}
+use Rattle.zoned_ffi.proofs.ChangesWritten.{first_written, more_written, place_fits}
 use Rattle.zoned_ffi.proofs.changes.write_first_changes.Goals as goal
 
 pub overflow_add-count : goal.overflow_add-count

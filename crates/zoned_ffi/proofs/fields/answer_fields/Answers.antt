@@ -1,4 +1,5 @@
-use Rattle.zoned_ffi.{proofs.Words.{FitsSigned, IsInRange, refl, rules, subst, sym, to_z-of_z, w32, w64, ℕ, ℤ, ◌+ℤ◌}, specs.Fields.{AreNoFieldsAt}}
+use Rattle.zoned_ffi.proofs.Words.{FitsSigned, IsInRange, refl, rules, subst, sym, to_z-of_z, w32, w64, ℕ, ℤ, ◌+ℤ◌}
+use Rattle.zoned_ffi.specs.Fields.{AreNoFieldsAt}
 use Rattle.zoned_ffi.proofs.fields.answer_fields.Goals as goal
 
 pub returns-in-Err-clause-refused : goal.returns-in-Err-clause-refused

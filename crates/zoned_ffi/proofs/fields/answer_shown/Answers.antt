@@ -1,4 +1,5 @@
-use Rattle.zoned_ffi.{proofs.Words.{FitsSigned, IsInRange, arith, ints, refl, rules, subst, to_z-of_z, w128, w32, w64, ℤ, ◌+ℤ◌}, specs.Fields.{AreFieldsOf}}
+use Rattle.zoned_ffi.proofs.Words.{FitsSigned, IsInRange, arith, ints, refl, rules, subst, to_z-of_z, w128, w32, w64, ℤ, ◌+ℤ◌}
+use Rattle.zoned_ffi.specs.Fields.{AreFieldsOf}
 use Rattle.zoned_ffi.proofs.fields.answer_shown.Goals as goal
 
 pub returns-in-Some-clause-answered : goal.returns-in-Some-clause-answered

@@ -1,4 +1,4 @@
-use Rattle.zoned_ffi.proofs.{Reading.{not_read}}
+use Rattle.zoned_ffi.proofs.Reading.{not_read}
 use Rattle.zoned_ffi.proofs.kind.read_zone.Goals as goal
 
 pub returns-clause-fault : goal.returns-clause-fault

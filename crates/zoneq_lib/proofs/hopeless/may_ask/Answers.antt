@@ -1,4 +1,5 @@
-use Rattle.zoneq_lib.{proofs.{CitedWords.{Err, ap, query_line, sym, ◌∙◌}, HopelessLaws.{hopeless}}, specs.Steps.LineReading.{scan}}
+use Rattle.zoneq_lib.proofs.{CitedWords.{Err, ap, query_line, sym, ◌∙◌}, HopelessLaws.{hopeless}}
+use Rattle.zoneq_lib.specs.Steps.LineReading.{scan}
 use Rattle.zoneq_lib.proofs.hopeless.may_ask.Goals as goal
 
 pub returns-in-Err-Hopeless : goal.returns-in-Err-Hopeless

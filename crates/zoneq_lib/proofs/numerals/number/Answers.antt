@@ -1,5 +1,5 @@
-use Rattle.zoneq_lib.proofs.{CitedWords.{Ok, ap, arith, drop_all, int_at, length, refl, sym, ◌∙◌}, NumberLaws.{a_digit, no_number, not_digit, number_ends}}
-use Rattle.zoneq_lib.proofs.{NumberLaws.{number_stops}, Stopping.{no_items, some_items}}
+use Rattle.zoneq_lib.proofs.{CitedWords.{Ok, ap, arith, drop_all, int_at, length, refl, sym, ◌∙◌}, Stopping.{no_items, some_items}}
+use Rattle.zoneq_lib.proofs.NumberLaws.{a_digit, no_number, not_digit, number_ends, number_stops}
 use Rattle.zoneq_lib.proofs.numerals.number.Goals as goal
 
 pub returns-then-i-eq0-clause-value : goal.returns-then-i-eq0-clause-value

@@ -1,5 +1,5 @@
-use Rattle.zoneq_lib.proofs.{CitedWords.{None, arith, take, [], ◌++◌}, Bytes.{appends_join, consumes_join, still_works}, Ending.{block_stopped, ended_now}}
-use Rattle.zoneq_lib.proofs.{Ending.{not_failed, reader_ended, stop_passed_on}, Joining.{answered_join}}
+use Rattle.zoneq_lib.proofs.{CitedWords.{None, arith, take, [], ◌++◌}, Bytes.{appends_join, consumes_join, still_works}, Joining.{answered_join}}
+use Rattle.zoneq_lib.proofs.Ending.{block_stopped, ended_now, not_failed, reader_ended, stop_passed_on}
 use Rattle.zoneq_lib.proofs.runs.answer_all.Goals as goal
 
 pub loop-preserved : goal.loop-preserved

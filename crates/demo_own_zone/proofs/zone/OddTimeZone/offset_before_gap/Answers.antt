@@ -1,5 +1,5 @@
-use Rattle.demo_own_zone.{proofs.Words.{gap_by_seconds, law_of, odd_offset, pos, rules, same_itself}, specs.declared.offset.OddOffset.TheVariants.{Even}}
-use Rattle.demo_own_zone.proofs.Walls.{shown_never, shown_twice}
+use Rattle.demo_own_zone.proofs.{Words.{gap_by_seconds, law_of, odd_offset, pos, rules, same_itself}, Walls.{shown_never, shown_twice}}
+use Rattle.demo_own_zone.specs.declared.offset.OddOffset.TheVariants.{Even}
 use Rattle.demo_own_zone.proofs.zone.OddTimeZone.offset_before_gap.Goals as goal
 
 pub returns-in-Even : goal.returns-in-Even

@@ -1,6 +1,6 @@
 use Rattle.offset_core.specs.declared.local_result.LocalResult.TheVariants.{Ambiguous}
-use Rattle.demo_own_zone.{proofs.Words.{law_of, odd_offset, rules, same_itself, wall_by_seconds}, specs.declared.offset.OddOffset.TheVariants.{Even, Odd}}
-use Rattle.demo_own_zone.proofs.Walls.{shown_twice}
+use Rattle.demo_own_zone.proofs.{Words.{law_of, odd_offset, rules, same_itself, wall_by_seconds}, Walls.{shown_twice}}
+use Rattle.demo_own_zone.specs.declared.offset.OddOffset.TheVariants.{Even, Odd}
 use Rattle.demo_own_zone.proofs.zone.OddTimeZone.offset_from_local_datetime.Goals as goal
 
 pub returns-in-Even : goal.returns-in-Even

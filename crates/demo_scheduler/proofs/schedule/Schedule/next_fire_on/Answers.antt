@@ -1,7 +1,8 @@
 use Rattle.std.proofs.Common.{rules, ◌≡◌, ◌∙◌, ap, arith, ◌<◌, ◌≤◌, length, get_or, List}
 use Rattle.zoned_time.specs.DateTime.{zoned, IsIn}
 use Rattle.naive_base.specs.{NaiveDate.{day_of}, NaiveDateTime.{reading}, declared.time.NaiveTime.{NaiveTime}}
-use Rattle.demo_scheduler.{specs.Fires.{local_on, RunsOn}, proofs.Times.{more, all}}
+use Rattle.demo_scheduler.specs.Fires.{local_on, RunsOn}
+use Rattle.demo_scheduler.proofs.Times.{more, all}
 use Rattle.demo_scheduler.proofs.schedule.Schedule.next_fire_on.Goals as goal
 
 pub loop-time-preserved : goal.loop-time-preserved

@@ -1,5 +1,6 @@
 use Rattle.tz_write.proofs.Words.{IfOk, IsNoPosixZone, IsOfText, IsOutOfMemory, IsRule, IsWrittenZone, MatchOption, MatchResult, None, Some, Zone}
-use Rattle.tz_write.proofs.{Words.{on_err_weaker, rules, string_bytes, subst, [], ◌≡◌}, ZoneTexts.{gives_same_zone, zone_is}}
+use Rattle.tz_write.proofs.Words.{on_err_weaker, rules, string_bytes, subst, [], ◌≡◌}
+use Rattle.tz_write.proofs.ZoneTexts.{gives_same_zone, zone_is}
 use Rattle.tz_write.proofs.zone_text.TimeZoneToPosixTz.to_posix_tz.Goals as goal
 
 pub returns-in-Some : goal.returns-in-Some

@@ -1,5 +1,5 @@
-use Rattle.zoned_ffi.proofs.{Words.{FitsSigned, arith, get_or, pos, rules, to_z-of_z, w64}, Columns.{within_more}, column.block.are_in.Goals.{else-has}}
-use Rattle.zoned_ffi.proofs.column.block.are_in.Goals.{then-has}
+use Rattle.zoned_ffi.proofs.{Words.{FitsSigned, arith, get_or, pos, rules, to_z-of_z, w64}, Columns.{within_more}}
+use Rattle.zoned_ffi.proofs.column.block.are_in.Goals.{else-has, then-has}
 use Rattle.zoned_ffi.proofs.column.block.are_in.Goals as goal
 
 pub loop-row-preserved : goal.loop-row-preserved

@@ -1,5 +1,6 @@
 use Rattle.zoned_ffi.proofs.Words.{AreWritten, FitsSigned, IsWritten, and_parts, arith, get_or, inr, length-set, pos, rules, slice_set, subst, take, to_z-of_z}
-use Rattle.zoned_ffi.proofs.{Words.{w64, ◌+ℤ◌, ◌+◌, ◌∙◌, ◌≡◌}, Slices.{zip_more}}
+use Rattle.zoned_ffi.proofs.Words.{w64, ◌+ℤ◌, ◌+◌, ◌∙◌, ◌≡◌}
+use Rattle.zoned_ffi.proofs.Slices.{zip_more}
 use Rattle.zoned_ffi.proofs.column.block.write_pairs.Goals as goal
 
 pub overflow_add-answers : goal.overflow_add-answers

@@ -1,5 +1,5 @@
-use Rattle.zoned_ffi.proofs.Words.{Err, FitsSigned, IsAnsweredBy, IsNotAnsweredBy, IsNotWritten, IsWritten, MatchResult, Ok, Question, Result}
-use Rattle.zoned_ffi.proofs.Words.{ap, inr, no_time, of_z, to_z-of_z, w64, ℕ, ℤ, ◌≢◌}
+use Rattle.zoned_ffi.proofs.Words.{Err, FitsSigned, IsAnsweredBy, IsNotAnsweredBy, IsNotWritten, IsWritten, MatchResult, Ok, Question, Result, ap, inr, no_time}
+use Rattle.zoned_ffi.proofs.Words.{of_z, to_z-of_z, w64, ℕ, ℤ, ◌≢◌}
 use Rattle.zoned_ffi.proofs.column.table.answer_by_zone.Goals as goal
 
 either : (q : Question) (x : ℤ) (r : Result ℤ ℕ) → x ≢ no_time → MatchResult r (IsAnsweredBy q x) (IsNotAnsweredBy q x)

@@ -1,10 +1,11 @@
-use Rattle.std.proofs.Crossing as crossing
-use Rattle.std.proofs.alloc.Global.TheSendSync as heap
-use Rattle.std.specs.declared.{alloc.Global.{Global}, option.Option.{Option, TheVariants.{None, Some}}}
+use Rattle.std.specs.{declared.alloc.Global.{Global}, declared.option.Option.{Option}}
+use Rattle.std.specs.declared.option.Option.TheVariants.{None, Some}
 use Rattle.std_alloc.proofs.SendSync.{lies, quiet}
 use Rattle.zoned_ffi.proofs.Words.{IsSend, Keyless, Ptr, RawPtr, exits_of, fields, held, lone, owning_send, sendable, shape, shared_row, struct_send, to}
 use Rattle.zoned_ffi.specs.contracts.handle.Handle.{the_row, the_type}
 use mir.Raw.{raw}
+use Rattle.std.proofs.Crossing as crossing
+use Rattle.std.proofs.alloc.Global.TheSendSync as heap
 use Rattle.tz_info.proofs.zone.time_zone.TimeZone.TheSendSync as zone_crosses
 use Rattle.tz_info.specs.contracts.zone.time_zone.TimeZone as zone
 

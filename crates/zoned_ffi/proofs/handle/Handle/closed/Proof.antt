@@ -3,8 +3,8 @@ use Rattle.std.specs.{contracts.impls.GlobalAllocator.TheImpl.{ghosts}, declared
 use Rattle.zoned_ffi.proofs.Words.{Goes-dropped, List, SProp, Stays, Val, WpFn, agg, alloc_all, and_then, by, emp, ent, enter, fact, fact_i, fjoin, fpack}
 use Rattle.zoned_ffi.proofs.Words.{free_all, fsep, fsplit, ftrue, get, handle_tells, id⊢, keep, leaves, lit, look_at, move, no_more, nothing, null_ptr}
 use Rattle.zoned_ffi.proofs.Words.{pass_all, plain, proved_at, ptr_val, qed, raw, refl, returns, sets, split, stay_dropped, subst, suffices, sym, tables, use0}
-use Rattle.zoned_ffi.proofs.{Words.{walk_of, yes, !, [], ‵, ◌$◌, ◌++◌, ◌∵◌, ◌∷◌, ◌≡◌, ◌⊛◌}, Handles.{LZ, R, Z, handle_in, null_fits}, Slots.{allocator, two}}
-use Rattle.zoned_ffi.proofs.handle.Handle.closed.Statement.{statement}
+use Rattle.zoned_ffi.proofs.Words.{walk_of, yes, !, [], ‵, ◌$◌, ◌++◌, ◌∵◌, ◌∷◌, ◌≡◌, ◌⊛◌}
+use Rattle.zoned_ffi.proofs.{Handles.{LZ, R, Z, handle_in, null_fits}, Slots.{allocator, two}, handle.Handle.closed.Statement.{statement}}
 use Rattle.zoned_ffi.specs.contracts.handle.Handle.closed as f
 use Rattle.zoned_ffi.proofs.handle.Handle.closed.Code as code
 

@@ -3,8 +3,8 @@ use Rattle.std.specs.{contracts.impls.GlobalAllocator.TheImpl.{ghosts}, declared
 use Rattle.zoned_ffi.proofs.Words.{Goes-dropped, List, RattleType, SProp, Stays, Val, WpFn, agg, alloc_all, and_then, block_ptr, by, emp, ent, enter, fact}
 use Rattle.zoned_ffi.proofs.Words.{fact_i, fjoin, fld, free_all, fsep, fsplit, ftrue, get, get_in, id⊢, keep, leaves, look_at, move, no_more, nothing, of_opd}
 use Rattle.zoned_ffi.proofs.Words.{pass_all, plain, proved_at, qed, raw, refl, returns, sets, split, stay_dropped, stop, sub, subst, suffices, sym, tables}
-use Rattle.zoned_ffi.proofs.{Words.{use0, vptr, walk_of, whole, yes, !, [], ‵, ◌$◌, ◌++◌, ◌∵◌, ◌∷◌, ◌≡◌, ◌⊛◌}, Handles.{LZ, R, Z, handle_in}, Slots.{Slot}}
-use Rattle.zoned_ffi.proofs.{Slots.{slot_fits, slot_out, two}, handle.Handle.from_slot.Statement.{statement}}
+use Rattle.zoned_ffi.proofs.Words.{use0, vptr, walk_of, whole, yes, !, [], ‵, ◌$◌, ◌++◌, ◌∵◌, ◌∷◌, ◌≡◌, ◌⊛◌}
+use Rattle.zoned_ffi.proofs.{Handles.{LZ, R, Z, handle_in}, Slots.{Slot, slot_fits, slot_out, two}, handle.Handle.from_slot.Statement.{statement}}
 use Rattle.zoned_ffi.specs.contracts.handle.Handle.from_slot as f
 use Rattle.zoned_ffi.proofs.handle.Handle.from_slot.Code as code
 

@@ -5,8 +5,9 @@ use Rattle.zoned_ffi.proofs.Words.{at_ret, bin, block_ptr, branches, by, emp, en
 use Rattle.zoned_ffi.proofs.Words.{ftrue, get, get_in, id⊢, keep, layout, leaves, lit, lit<, live, look_at, move, no_more, none_of, nothing, null_ptr, of_opd}
 use Rattle.zoned_ffi.proofs.Words.{pass_all, plain, proved_at, ptr_val, qed, raw, refl, returns, sets, sets_last, split, stay_dropped, stop, sub, subst}
 use Rattle.zoned_ffi.proofs.Words.{suffices, sym, tables, tests_null, type_at, use0, use1, vcons, vnil, vptr, walk_of, whole, yes, !, [], ‵, ◌$◌, ◌++◌, ◌∙◌}
-use Rattle.zoned_ffi.proofs.{Words.{◌∵◌, ◌∷◌, ◌≡◌, ◌⊛◌}, Handles.{Hd, LZ, R, Z, handle_out, null_fits, null_fits_word, null_or_block}, Slots.{Slot, slot_fits}}
-use Rattle.zoned_ffi.proofs.{Slots.{slot_in, two}, handle.Handle.into_slot.Statement.{statement}}
+use Rattle.zoned_ffi.proofs.Words.{◌∵◌, ◌∷◌, ◌≡◌, ◌⊛◌}
+use Rattle.zoned_ffi.proofs.{Handles.{Hd, LZ, R, Z, handle_out, null_fits, null_fits_word, null_or_block}, Slots.{Slot, slot_fits, slot_in, two}}
+use Rattle.zoned_ffi.proofs.handle.Handle.into_slot.Statement.{statement}
 use Rattle.zoned_ffi.specs.contracts.handle.Handle.into_slot as f
 use Rattle.zoned_ffi.proofs.handle.Handle.into_slot.Code as code
 

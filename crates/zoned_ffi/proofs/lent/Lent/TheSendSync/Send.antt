@@ -1,8 +1,9 @@
-use Rattle.std.proofs.Crossing as crossing
-use Rattle.std.specs.declared.option.Option.{Option, TheVariants.{None, Some}}
+use Rattle.std.specs.declared.option.Option.{Option}
+use Rattle.std.specs.declared.option.Option.TheVariants.{None, Some}
 use Rattle.std_alloc.proofs.SendSync.{quiet, seen}
 use Rattle.zoned_ffi.proofs.Words.{IsSend, Keyless, Ptr, RawPtr, exits_of, fields, lent, owning_send, sendable, shape, shared_row, struct_send, to, ℕ, [], ◌∷◌}
 use Rattle.zoned_ffi.specs.contracts.lent.Lent.{the_row, the_type}
+use Rattle.std.proofs.Crossing as crossing
 use Rattle.tz_info.proofs.zone.time_zone.TimeZone.TheSendSync as zone_crosses
 use Rattle.tz_info.specs.contracts.zone.time_zone.TimeZone as zone
 

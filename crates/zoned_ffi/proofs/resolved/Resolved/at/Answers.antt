@@ -1,6 +1,7 @@
 use Rattle.zoned_ffi.proofs.Words.{FitsSigned, IsNoneTaken, IsResolvedAt, IsResolvedStamp, IsTakenAs, IsWrittenOffsetAt, ap, rules, subst, to_z-of_z, w32, w64}
-use Rattle.zoned_ffi.{proofs.{Words.{◌-ℤ◌, ◌∙◌, ◌≡◌}, Resolving.{ended_by}}, specs.declared.resolved.Taken.TheVariants.{BeforeGap, GapEnd, InForce}}
-use Rattle.zoned_ffi.proofs.Resolving.{resolved_by}
+use Rattle.zoned_ffi.proofs.Words.{◌-ℤ◌, ◌∙◌, ◌≡◌}
+use Rattle.zoned_ffi.proofs.Resolving.{ended_by, resolved_by}
+use Rattle.zoned_ffi.specs.declared.resolved.Taken.TheVariants.{BeforeGap, GapEnd, InForce}
 use Rattle.zoned_ffi.proofs.resolved.Resolved.at.Goals as goal
 
 pub returns-in-Ok-InForce : goal.returns-in-Ok-InForce

@@ -7,11 +7,12 @@ use Rattle.zoned_ffi.proofs.Words.{fsplit, fst∗, ftrue, get, get_in, heard, id
 use Rattle.zoned_ffi.proofs.Words.{move, never, no, no_more, nothing, null_ptr, of_list, of_opd, only, owns, param, param_laws, pass_all, pick, plain}
 use Rattle.zoned_ffi.proofs.Words.{proved_at, ptr_val, qed, raw, refl, returns, rewrite, sem, sets, some, split, split3, stay_dropped, stop, sub, subst}
 use Rattle.zoned_ffi.proofs.Words.{suffices, sym, tables, triple_of, types_at, use0, use1, vptr, vstruct, walk_of, whole, !, [], ‵, ◌$◌, ◌++◌, ◌∙◌, ◌∵◌, ◌∷◌}
-use Rattle.zoned_ffi.proofs.{Words.{◌≡◌, ◌⊛◌}, Slots.{block, slot_fits, slot_in, two}, slot.Slot.from_box.Statement.{statement}}
-use Rattle.std_alloc.proofs.BoxSteps.Form as box
-use Rattle.std_alloc.specs.contracts.boxed.Box.into_raw_with_allocator as taken
+use Rattle.zoned_ffi.proofs.Words.{◌≡◌, ◌⊛◌}
+use Rattle.zoned_ffi.proofs.{Slots.{block, slot_fits, slot_in, two}, slot.Slot.from_box.Statement.{statement}}
 use mir.Raw.{raw as bare}
 use types.Kit.{drop}
+use Rattle.std_alloc.proofs.BoxSteps.Form as box
+use Rattle.std_alloc.specs.contracts.boxed.Box.into_raw_with_allocator as taken
 use Rattle.zoned_ffi.specs.contracts.slot.Slot.from_box as f
 use Rattle.zoned_ffi.proofs.slot.Slot.from_box.Code as code
 

@@ -1,5 +1,5 @@
-use Rattle.zoneq_lib.proofs.{CitedWords.{codes, refl, [], ◌++◌}, Bytes.{appends_join, appends_same}, Joining.{answered_none}, Stopping.{line_stops, line_taken}}
-use Rattle.zoneq_lib.proofs.Stopping.{rest_kept}
+use Rattle.zoneq_lib.proofs.{CitedWords.{codes, refl, [], ◌++◌}, Bytes.{appends_join, appends_same}, Joining.{answered_none}}
+use Rattle.zoneq_lib.proofs.Stopping.{line_stops, line_taken, rest_kept}
 use Rattle.zoneq_lib.proofs.dialogue.Dialogue.answer_lines.Goals as goal
 
 pub loop-piece-init : goal.loop-piece-init
