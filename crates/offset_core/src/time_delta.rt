@@ -74,7 +74,8 @@ impl TimeDelta {
     /// Returns the length of that many seconds and nanoseconds. Requires: [`TimeDelta::new`] returns
     /// one.
     pub fn from_parts(secs: i64, nanos: u32) -> TimeDelta
-        requires { lengths.AreParts secs nanos }
+        requires nanos { nanos < 1_000_000_000 }
+        requires range { lengths.FitsTimeDelta (secs *ℤ lengths.nanos_per_second +ℤ pos nanos) }
         ensures { nanos_of result ≡ secs *ℤ lengths.nanos_per_second +ℤ pos nanos }
     {
         TimeDelta { secs, nanos }

@@ -133,4 +133,4 @@ pub relocal_seconds : {O : Type 0} {m : Meaning O} (law other : Law m) (l : Read
 relocal_seconds law other l answer same h =
     record { offsets = h.offsets; wall = offsets_seconds law other l.s h.offsets same h.wall; instants = h.instants }
 
-pub ruleset homes = (at_home, at_seconds, relocal_home, relocal_seconds)
+pub ruleset homes = (at_home, at_seconds, relocal_home)

@@ -70,7 +70,7 @@ pub fn one_utc(a: &Utc, b: &Utc)
 {}
 
 /// What a zone gives depends only on its law, and in seconds on its offsets in seconds.
-#[tactic(auto, using(crate::proofs::Homes::homes))]
+#[tactic(auto, using(crate::proofs::Homes::homes, crate::proofs::Homes::relocal_seconds))]
 pub fn zones_of_the_same_offsets<Tz: TimeZone>()
     ensures at { (zone other : Tz) (r : Reading) (d : Zoned Tz.Offset)
         → SameLaw (Tz.law zone) (Tz.law other) → IsInRange r.s
