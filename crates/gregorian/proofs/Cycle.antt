@@ -1,11 +1,7 @@
 -- Days counted from 1 March of the base year -2147484000, a multiple of 400, or from the 1 January 306 days after it.
 use Rattle.std.proofs.Common.{◌≡◌, ℕ, suc, ◌+◌, ◌<◌, ◌≤◌, arith, ℤ, pos, ◌+ℤ◌, ◌-ℤ◌}
-use Rattle.gregorian.specs.Year.{is_leap, days_in_year, year_start, LiesIn}
-use Rattle.gregorian.specs.Date.{day_number}
-use Rattle.gregorian.specs.Steps.Cycle.{days_of_years, number_from_march}
-use Rattle.gregorian.proofs.Floor.{floors}
-use Rattle.gregorian.proofs.YearLaws.{year_step}
-use Rattle.gregorian.proofs.MonthDays.{leap_day, months_early, months_late}
+use Rattle.gregorian.specs.{Year.{is_leap, days_in_year, year_start, LiesIn}, Date.{day_number}, Steps.Cycle.{days_of_years, number_from_march}}
+use Rattle.gregorian.proofs.{Floor.{floors}, YearLaws.{year_step}, MonthDays.{leap_day, months_early, months_late}}
 
 -- the n-th year from that January on
 next_start : (y : ℤ) (n : ℕ) → y +ℤ pos 2_147_484_000 ≡ pos n

@@ -1,6 +1,5 @@
 -- The days before a month, counted from January and, where March is month 3 and the next February month 14, from March.
-use Rattle.std.proofs.Common.{◌≡◌, ℕ, zero, suc, ◌+◌, ◌-◌, ◌*◌, ◌/◌, ◌%◌, ◌<◌, ◌≤◌, Bool, true, false, cond, arith, refl}
-use Rattle.std.proofs.lemmas.Bool.Decides.{nat_tests}
+use Rattle.std.proofs.{Common.{◌≡◌, ℕ, zero, suc, ◌+◌, ◌-◌, ◌*◌, ◌/◌, ◌%◌, ◌<◌, ◌≤◌, Bool, true, false, cond, arith, refl}, lemmas.Bool.Decides.{nat_tests}}
 use Rattle.gregorian.specs.Month.{days_in_month, days_of_months}
 
 -- the days from 1 March to the first of a month from 3 to 14

@@ -1,9 +1,7 @@
 -- Weekdays come in turn, and a month's days one after another.
 use Rattle.std.proofs.Common.{◌≡◌, ℕ, ◌+◌, ◌%◌, ◌<◌, arith, ℤ, pos, ◌+ℤ◌, ◌-ℤ◌}
-use Rattle.gregorian.specs.Weekdays.{weekday_of}
-use Rattle.gregorian.specs.Weeks.{IsThursdayOf}
-use Rattle.gregorian.proofs.Floor.{floors}
-use Rattle.gregorian.proofs.YearLaws.{floor_mod_parts}
+use Rattle.gregorian.specs.{Weekdays.{weekday_of}, Weeks.{IsThursdayOf}}
+use Rattle.gregorian.proofs.{Floor.{floors}, YearLaws.{floor_mod_parts}}
 
 pub weekday_later : (day : ℤ) (n : ℕ) → weekday_of (day +ℤ pos n) ≡ (weekday_of day + n) % 7
 weekday_later day n =

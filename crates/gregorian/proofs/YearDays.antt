@@ -1,13 +1,8 @@
 -- What tells a year's calendar, by centuries and years after a January.
 use Rattle.std.proofs.Common.{◌≡◌, ◌∙◌, sym, refl, ℕ, ◌+◌, ◌*◌, ◌/◌, ◌%◌, ◌<◌, arith, ◌==◌, Bool, true, false, not, ◌&&◌, ◌||◌, inl, inr, ℤ, pos, ◌+ℤ◌, ◌-ℤ◌}
 use Rattle.std.proofs.lemmas.Bool.Decides.{eqb_tells}
-use Rattle.gregorian.specs.Year.{is_leap, floor_mod, year_start}
-use Rattle.gregorian.specs.DateOf.{year_of}
-use Rattle.gregorian.specs.Steps.Cycle.{days_of_years}
-use Rattle.gregorian.specs.Weekdays.{weekday_of}
-use Rattle.gregorian.proofs.Floor.{floors}
-use Rattle.gregorian.proofs.Cycle.{january_start, year_found}
-use Rattle.gregorian.proofs.YearLaws.{floor_mod_parts, one_year, lies_in}
+use Rattle.gregorian.specs.{Year.{is_leap, floor_mod, year_start}, DateOf.{year_of}, Steps.Cycle.{days_of_years}, Weekdays.{weekday_of}}
+use Rattle.gregorian.proofs.{Floor.{floors}, Cycle.{january_start, year_found}, YearLaws.{floor_mod_parts, one_year, lies_in}}
 
 -- two tests that come out alike
 same_test : (a b c d : ℕ) → (a ≡ b → c ≡ d) → (c ≡ d → a ≡ b) → (a == b) ≡ (c == d)

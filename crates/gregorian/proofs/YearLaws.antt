@@ -1,9 +1,7 @@
 -- Years laid end to end: each day lies in one of them.
-use Rattle.std.proofs.Common.{◌≡◌, ℕ, ◌≤◌, arith, ℤ, pos, neg_ℤ, ◌+ℤ◌, ◌-ℤ◌, ◌≤ℤ◌, refl, unsigned_abs, ◌<ℤ◌, zero, suc}
-use Rattle.std.proofs.lemmas.Bool.Decides.{nat_tests}
+use Rattle.std.proofs.{Common.{◌≡◌, ℕ, ◌≤◌, arith, ℤ, pos, neg_ℤ, ◌+ℤ◌, ◌-ℤ◌, ◌≤ℤ◌, refl, unsigned_abs, ◌<ℤ◌, zero, suc}, lemmas.Bool.Decides.{nat_tests}}
 use Rattle.std.proofs.lemmas.Int.{by_lt_z}
-use Rattle.gregorian.specs.Year.{days_in_year, year_start, LiesIn, IsYear, IsDay}
-use Rattle.gregorian.specs.DateOf.{year_with, year_of}
+use Rattle.gregorian.specs.{Year.{days_in_year, year_start, LiesIn, IsYear, IsDay}, DateOf.{year_with, year_of}}
 pub use Rattle.gregorian.specs.Steps.Years.{floor_mod_parts, year_step, gap_of}
 use Rattle.gregorian.proofs.Floor.{floors}
 

@@ -6,8 +6,7 @@ use Rattle.naive_base.proofs.Words.{split_left, split_right, sym, time_text, uns
 use Rattle.naive_base.proofs.Words.{◌<◌, ◌^◌, ◌∙◌, ◌∷◌, ◌≡◌, ◌≤ℤ◌, ◌≤◌, ◌⊎◌}
 use Rattle.naive_base.proofs.Digits.{IsNumeric, IsNumeric-append, byte_and, cut_at, four_digits-alike, four_digits-numeric, heads_alike, in_digits-numeric}
 use Rattle.naive_base.proofs.Digits.{tails_alike}
-use Rattle.naive_base.proofs.Ranges.{wide_year}
-use Rattle.naive_base.proofs.Readings.{same_second, seconds_in_wide}
+use Rattle.naive_base.proofs.{Ranges.{wide_year}, Readings.{same_second, seconds_in_wide}}
 
 -- Years: one with its sign is no year of four digits.
 

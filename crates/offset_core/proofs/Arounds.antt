@@ -1,13 +1,8 @@
 -- What shows a local time, kind by kind, and what a choice takes of it.
-use Rattle.offset_core.specs.Around.{AreAlikeAround, HoldsOfEachAround, IsAround, Takes, taken_in_fold, taken_in_gap, taken_of}
-use Rattle.offset_core.specs.declared.around.Around.{Around}
-use Rattle.offset_core.specs.declared.around.Around.TheVariants.{Ambiguous, Gap, Single}
-use Rattle.offset_core.specs.declared.around.Taken.{Taken}
-use Rattle.offset_core.specs.declared.around.Taken.TheVariants.{InGap, Shown}
-use Rattle.offset_core.specs.declared.choice.Choice.{Choice}
-use Rattle.offset_core.specs.declared.choice.FoldChoice.{FoldChoice}
-use Rattle.offset_core.specs.declared.choice.GapChoice.{GapChoice}
-use Rattle.offset_core.specs.declared.resolve_error.ResolveError.{ResolveError}
+use Rattle.offset_core.specs.{Around.{AreAlikeAround, HoldsOfEachAround, IsAround, Takes, taken_in_fold, taken_in_gap, taken_of}, declared.around.Taken.{Taken}}
+use Rattle.offset_core.specs.{declared.around.Around.{Around}, declared.around.Taken.TheVariants.{InGap, Shown}, declared.choice.Choice.{Choice}}
+use Rattle.offset_core.specs.{declared.around.Around.TheVariants.{Ambiguous, Gap, Single}, declared.choice.FoldChoice.{FoldChoice}}
+use Rattle.offset_core.specs.{declared.choice.GapChoice.{GapChoice}, declared.resolve_error.ResolveError.{ResolveError}}
 use Rattle.offset_core.proofs.Words.{Err, IsNeverShown, MatchResult, Ok, Result, ap, refl, subst, sym, ℤ, ⊤, ◌↔◌, ◌∙◌, ◌≡◌}
 use Rattle.offset_core.proofs.WallAnswers.{HasOneValue, one_wall_answer}
 use Rattle.offset_core.specs.declared.choice.FoldChoice.TheVariants as folds

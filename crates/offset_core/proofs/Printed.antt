@@ -4,8 +4,7 @@ use Rattle.std.proofs.lemmas.Bool.Decides.{nat_tests}
 use Rattle.offset_core.specs.Digits.{in_digits, sign_byte}
 use Rattle.offset_core.proofs.Words.{FixedOffset, IsWithinDay, List, ap, arith, by_lt_z, inl, inr, ints, length, length-append, offset_text, pos}
 use Rattle.offset_core.proofs.Words.{printed_offset, seconds_of, short_clock_text, sym, unsigned_abs, ℕ, ℤ, ◌%◌, ◌++◌, ◌/◌, ◌<ℤ◌, ◌<◌, ◌∙◌, ◌∷◌, ◌≡◌, ◌≤ℤ◌}
-use Rattle.offset_core.proofs.Digits.{in_digits_once, length-in_digits, split_left}
-use Rattle.offset_core.proofs.FixedOffsets.{one_offset}
+use Rattle.offset_core.proofs.{Digits.{in_digits_once, length-in_digits, split_left}, FixedOffsets.{one_offset}}
 
 clock_text-whole : (n : ℕ) → n % 60 ≡ 0 → short_clock_text n ≡ in_digits 2 (n / 3600) ++ (58 ∷ in_digits 2 (n / 60 % 60))
 clock_text-whole n whole = grind (arith, nat_tests)

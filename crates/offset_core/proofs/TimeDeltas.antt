@@ -1,8 +1,6 @@
 -- Lengths of time and their nanoseconds.
-use Rattle.std.specs.Cmp.{int_cmp_is, int_ranks, ranks}
-use Rattle.std.specs.declared.cmp.Ordering.{Ordering}
+use Rattle.std.specs.{Cmp.{int_cmp_is, int_ranks, ranks}, declared.cmp.Ordering.{Ordering}, Ordering.{MatchOrdering, int_cmp, nat_cmp, ordering_then}}
 use Rattle.std.specs.declared.cmp.Ordering.TheVariants.{Equal, Greater, Less}
-use Rattle.std.specs.Ordering.{MatchOrdering, int_cmp, nat_cmp, ordering_then}
 use Rattle.offset_core.specs.declared.time_delta.TimeDelta.{TimeDelta}
 use Rattle.offset_core.proofs.Words.{AreParts, ap, arith, ints, nanos_of, nanos_per_second, pos, props, subst, ℕ, ℤ, ◌*ℤ◌, ◌+ℤ◌, ◌<ℤ◌, ◌<◌, ◌≡◌}
 

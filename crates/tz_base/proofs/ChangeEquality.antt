@@ -1,10 +1,8 @@
 -- Types of local time, changes of the clocks and spans are equal by `==` if and only if they are equal.
 use Rattle.std.proofs.Common.{rules, ℤ, int_eq, ◌≡◌, ◌↔◌, IsTrue, refl, ap, Bool, true, false, ◌&&◌, Option, Some, None}
 use Rattle.std.specs.Option.{option_eq}
-use Rattle.tz_base.specs.LocalTypes.{LocalType}
-use Rattle.tz_base.specs.contracts.local_time_type.LocalTimeTypePartialEq.TheImpl.{eq-value as type_eq}
+use Rattle.tz_base.specs.{LocalTypes.{LocalType}, contracts.local_time_type.LocalTimeTypePartialEq.TheImpl.{eq-value as type_eq}, declared.span.Span.{Span}}
 use Rattle.tz_base.specs.declared.change.Change.{Change}
-use Rattle.tz_base.specs.declared.span.Span.{Span}
 
 abbrev pub IsExact : {X : Type 0} → (X → X → Bool) → Type 0
 IsExact {X} E = (a b : X) → IsTrue (E a b) ↔ (a ≡ b)

@@ -1,9 +1,7 @@
 -- What is read, decided: its value is what is meant, or its error is that of the fault. And how such laws go together.
 use Rattle.std.proofs.Common.{◌≡◌, ℕ, ◌≤◌, List, Bool, true, false, cond, Ok, Err, Result, refl, sym, ap, ◌∙◌, inl, inr, ◌⊎◌}
 use Rattle.std.specs.Bool.{Decides}
-use Rattle.tz_base.specs.Errors.{error_number}
-use Rattle.tz_base.specs.Fronts.{◌>>=◌}
-use Rattle.tz_base.specs.declared.error.Error.{Error}
+use Rattle.tz_base.specs.{Errors.{error_number}, Fronts.{◌>>=◌}, declared.error.Error.{Error}}
 use Rattle.tz_base.proofs.ReadLaws.{bind_ok, bind_err, ok_same, err_same}
 
 -- a value is read if and only if it is meant, and an error is returned if and only if its fault is there. Running out of memory

@@ -1,12 +1,10 @@
 -- Errors are equal by `==` if and only if they are equal.
 use Rattle.std.proofs.Common.{IsTrue, ap, refl, rules, ◌↔◌, ◌≡◌}
-use Rattle.tz_base.specs.contracts.error.ErrorPartialEq.TheImpl.{eq-value as error_eq}
-use Rattle.tz_base.specs.contracts.error.ExpectedPartialEq.TheImpl.{eq-value as expected_eq}
-use Rattle.tz_base.specs.declared.error.Error.{Error}
+use Rattle.tz_base.specs.{contracts.error.ErrorPartialEq.TheImpl.{eq-value as error_eq}, contracts.error.ExpectedPartialEq.TheImpl.{eq-value as expected_eq}}
+use Rattle.tz_base.specs.{declared.error.Error.{Error}, declared.error.Expected.{Expected}}
 use Rattle.tz_base.specs.declared.error.Error.TheVariants.{DateTime, FindLocalTimeType, InvalidSlice, InvalidTzFile, InvalidTzString, LocalTimeType, MissingTag}
 use Rattle.tz_base.specs.declared.error.Error.TheVariants.{OutOfMemory, OutOfRange, ParseInt, ProjectDateTime, TimeZone, TransitionRule, UnexpectedEnd}
 use Rattle.tz_base.specs.declared.error.Error.TheVariants.{UnsupportedTzFile, UnsupportedTzString, Utf8}
-use Rattle.tz_base.specs.declared.error.Expected.{Expected}
 
 expected_exact : (a b : Expected) → IsTrue (expected_eq.it a b) ↔ (a ≡ b)
 expected_exact a b = search rules

@@ -1,20 +1,16 @@
 -- What a grammar reads is what it spells, or the error of its fault.
 use Rattle.std.proofs.Common.{Bool, List, Ok, Result, ap, arith, cond, drop, false, inl, inr, length, nat_le, nat_lt, refl, subst, sym, take, true, ℕ, [], ◌&&◌}
 use Rattle.std.proofs.Common.{◌++◌, ◌<◌, ◌==◌, ◌∙◌, ◌∷◌, ◌≡◌, ◌≢◌, ◌≤◌, ◌⊎◌}
-use Rattle.std.proofs.Math.Seq.{take-append_seam}
-use Rattle.std.proofs.lemmas.Bool.Decides.{Decides-ltb, nat_tests}
-use Rattle.std.proofs.lemmas.List.{length-append, length-take, take-append-drop}
+use Rattle.std.proofs.{Math.Seq.{take-append_seam}, lemmas.Bool.Decides.{Decides-ltb, nat_tests}, lemmas.List.{length-append, length-take, take-append-drop}}
 use Rattle.std.specs.Bool.{Decides}
-use Rattle.tz_base.specs.Errors.{error_number}
+use Rattle.tz_base.specs.{Errors.{error_number}, declared.error.Error.{Error}}
 use Rattle.tz_base.specs.Fronts.{AllOf, NoneFirst, after_run, exact_at, int_at, is_digit, number_within, optional_tag_at, run_of, tag_at, value_from}
 use Rattle.tz_base.specs.Grammar.{Byte, ByteFault, Check, Ended, Exact, Grammar, HasFault, IsNumber, IsRun, Marked, Nothing, Number, NumberFault, Refused, Rest}
 use Rattle.tz_base.specs.Grammar.{Run, Spells, Then, Without, is_end, read}
 use Rattle.tz_base.specs.Refusals.{InvalidTzFile, InvalidTzString, LocalTimeType, Refusal, TransitionRule, UnsupportedTzFile, UnsupportedTzString, error}
-use Rattle.tz_base.specs.declared.error.Error.{Error}
 use Rattle.tz_base.specs.declared.error.Error.TheVariants.{MissingTag, ParseInt, UnexpectedEnd}
 use Rattle.tz_base.specs.declared.error.Expected.TheVariants.{Digit, MoreBytes, NumberWithinItsLimit, OtherBytes, Tag}
-use Rattle.tz_base.proofs.Decided.{Decided, and_then, choice, done, guard, like, made, refused, said}
-use Rattle.tz_base.proofs.ReadLaws.{at_least, drop_front}
+use Rattle.tz_base.proofs.{Decided.{Decided, and_then, choice, done, guard, like, made, refused, said}, ReadLaws.{at_least, drop_front}}
 
 -- reading gives P, or the fault F
 abbrev Reads : {X : Type 0} → (List ℕ → Result (X × List ℕ) Error) → (List ℕ → X → List ℕ → Type 0) → (List ℕ → Error → Type 0) → Type 0

@@ -1,8 +1,7 @@
 -- Steps of a reading: what a value or an error has passed.
 use Rattle.std.proofs.Common.{◌≡◌, ℕ, ◌<◌, ◌≤◌, refl, List, [], ◌∷◌, ◌++◌, length, drop, Bool, true, false, Ok, Err, Result, inl, inr, ◌⊎◌}
 use Rattle.std.proofs.lemmas.Bool.{cases_lt}
-use Rattle.tz_base.specs.Fronts.{◌>>=◌}
-use Rattle.tz_base.specs.declared.error.Error.{Error}
+use Rattle.tz_base.specs.{Fronts.{◌>>=◌}, declared.error.Error.{Error}}
 
 pub ok_same : {A : Type 0} (r : Result A Error) (x y : A) → r ≡ Ok x → r ≡ Ok y → x ≡ y
 ok_same r x y h k = cc

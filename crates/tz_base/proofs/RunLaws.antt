@@ -2,10 +2,8 @@
 use Rattle.std.proofs.Common.{Bool, Err, List, Ok, Result, add-one, ap, arith, drop, drop-cons, false, get_or, length, refl, suc, sym, true, ℕ, [], ◌*◌, ◌++◌}
 use Rattle.std.proofs.Common.{◌+◌, ◌-◌, ◌<◌, ◌∷◌, ◌≡◌, ◌≤◌}
 use Rattle.std.proofs.lemmas.Bool.Decides.{nat_tests}
-use Rattle.tz_base.specs.Fronts.{AllOf, after_run, int_at, is_digit, number_within, run_of, value_from, ◌>>=◌}
-use Rattle.tz_base.specs.declared.error.Error.{Error}
-use Rattle.tz_base.specs.declared.error.Error.TheVariants.{ParseInt}
-use Rattle.tz_base.specs.declared.error.Expected.TheVariants.{NumberWithinItsLimit}
+use Rattle.tz_base.specs.{Fronts.{AllOf, after_run, int_at, is_digit, number_within, run_of, value_from, ◌>>=◌}, declared.error.Error.{Error}}
+use Rattle.tz_base.specs.{declared.error.Error.TheVariants.{ParseInt}, declared.error.Expected.TheVariants.{NumberWithinItsLimit}}
 
 pub next_value : (ds : List ℕ) (i n : ℕ) → i < length ds → value_from n (drop i ds) ≡ value_from (10 * n + (get_or ds i 0 - 48)) (drop (i + 1) ds)
 next_value ds i n h = rw (add-one, drop-cons ds i 0) refl

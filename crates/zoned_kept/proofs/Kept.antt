@@ -1,15 +1,11 @@
 -- What the borrowed zone's lookups give, those of the kept zone give.
-use Rattle.offset_core.specs.declared.local_result.LocalResult.{LocalResult}
+use Rattle.offset_core.specs.{declared.local_result.LocalResult.{LocalResult}, LocalResult.{map_of}}
 use Rattle.offset_core.specs.declared.local_result.LocalResult.TheVariants.{Ambiguous, None, Single}
-use Rattle.offset_core.specs.LocalResult.{map_of}
 use Rattle.std.proofs.Common.{Some, ℤ}
-use Rattle.zoned_time.specs.Choice.{IsOffsetBeforeGap}
-use Rattle.zoned_time.specs.Zone.{AreOffsetsFor, SameLaw, home_law}
-use Rattle.zoned_ref.specs.ZoneOffset as borrowed
+use Rattle.zoned_time.specs.{Choice.{IsOffsetBeforeGap}, Zone.{AreOffsetsFor, SameLaw, home_law}}
 use Rattle.zoned_ref.specs.declared.zone_offset.ZoneOffset.{ZoneOffset}
-use Rattle.zoned_kept.specs.KeptOffset.{law_of, meaning_of}
-use Rattle.zoned_kept.specs.declared.kept_offset.KeptOffset.{KeptOffset}
-use Rattle.zoned_kept.specs.declared.kept_zone.KeptZone.{KeptZone}
+use Rattle.zoned_kept.specs.{KeptOffset.{law_of, meaning_of}, declared.kept_offset.KeptOffset.{KeptOffset}, declared.kept_zone.KeptZone.{KeptZone}}
+use Rattle.zoned_ref.specs.ZoneOffset as borrowed
 
 abbrev kept : ZoneOffset → KeptOffset
 kept o = record { borrowed = o }

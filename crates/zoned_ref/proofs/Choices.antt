@@ -1,8 +1,7 @@
 -- Each choice has an answer for each reading, by the offsets of a narrow zone.
 use Rattle.zoned_ref.proofs.Words.{AreOffsetsOf, Choice, IsInRange, IsNarrow, IsRuleOrNone, IsTaken, IsUnresolved, IsValid, IsWide, ResolveError, Zone}
 use Rattle.zoned_ref.proofs.Words.{choice_decided, map_of, offset_at, wall_decided, ℤ, ◌-ℤ◌, ◌⊎◌}
-use Rattle.zoned_ref.proofs.Offsets.{are_offsets, offsets_within, zone_has_offsets}
-use Rattle.zoned_ref.proofs.Walls.{zone_wall}
+use Rattle.zoned_ref.proofs.{Offsets.{are_offsets, offsets_within, zone_has_offsets}, Walls.{zone_wall}}
 
 pub choice_covered : (z : Zone) (l : ℤ) (choice : Choice) → IsValid z → IsRuleOrNone z.rule → IsNarrow z → IsWide l
     → (off : ℤ → ℤ) × AreOffsetsOf z off × (((k : ℤ) × IsTaken off l choice k × IsInRange (l -ℤ k)) ⊎ ((e : ResolveError) × IsUnresolved off l choice e))

@@ -1,10 +1,9 @@
 -- The type before a gap tells the offset before it.
-use Rattle.tz_info.specs.Gaps as types
 use Rattle.zoned_ref.proofs.Words.{AreOffsetsOf, IsBeforeGap, IsNarrow, IsOffsetBeforeGap, IsWide, IsWithinDay, IsZoneSecond, Law, LocalType, Meaning, None}
 use Rattle.zoned_ref.proofs.Words.{Some, TimeZoneRef, TypeAt, Zone, ZoneOffset, ap, arith, ints, law_of, off_of, pos, sym, type_of, type_once, zone_of, ℤ, ◌+ℤ◌}
 use Rattle.zoned_ref.proofs.Words.{◌-ℤ◌, ◌∙◌, ◌≡◌}
-use Rattle.zoned_ref.proofs.Offsets.{type_within}
-use Rattle.zoned_ref.proofs.Walls.{same_law, shown_by_offset, shown_by_type}
+use Rattle.zoned_ref.proofs.{Offsets.{type_within}, Walls.{same_law, shown_by_offset, shown_by_type}}
+use Rattle.tz_info.specs.Gaps as types
 
 -- the offset at a second is that of the type in force
 offset_is : (z : Zone) (off : ℤ → ℤ) (u : ℤ) (t : LocalType) → AreOffsetsOf z off → IsZoneSecond u → TypeAt z u t → off u ≡ t.offset

@@ -1,12 +1,12 @@
 -- The wall clock's answer over all seconds of 64 bits is the one over the range that zones answer in: whoever shows a
 -- reading is less than a day away from it.
 use Rattle.offset_core.specs.declared.local_result.LocalResult.TheVariants.{Ambiguous, None, Single}
-use Rattle.tz_info.specs.WallClocks as types
-use Rattle.zoned_time.specs.Zone as offsets
 use Rattle.zoned_ref.proofs.Words.{AreOffsetsOf, IsNarrow, IsWallAnswer, IsWallAnswer-map_of, IsWide, IsWithinDay, LocalResult, LocalType, SameLaw, TimeZoneRef}
 use Rattle.zoned_ref.proofs.Words.{TypeAt, Zone, ZoneOffset, ap, arith, home_law, ints, law_of, map_of, meaning_of, off_of, same_itself, subst, sym, type_of}
 use Rattle.zoned_ref.proofs.Words.{type_once, zone_of, ℤ, ◌+ℤ◌, ◌-ℤ◌, ◌∙◌, ◌≡◌}
 use Rattle.zoned_ref.proofs.Offsets.{type_within}
+use Rattle.tz_info.specs.WallClocks as types
+use Rattle.zoned_time.specs.Zone as offsets
 
 pub shown_by_type : (z : Zone) (off : ℤ → ℤ) (l : ℤ) → IsNarrow z → AreOffsetsOf z off → IsWide l → (u : ℤ) (t : LocalType) → types.Shows (TypeAt z) l u t → offsets.ShowsByOffset off l u t.offset
 shown_by_type z off l narrow of_zone wide u t s =

@@ -1,10 +1,8 @@
 -- Each day of a series has one instant, or one error.
 use Rattle.std.proofs.Common.{◌≡◌, ◌∙◌, sym, ap, ℕ}
-use Rattle.zoned_time.specs.Zone.{Meaning, Law}
-use Rattle.zoned_time.specs.Zoned.{Zoned}
+use Rattle.zoned_time.specs.{Zone.{Meaning, Law}, Zoned.{Zoned}}
 use Rattle.zoned_time.proofs.ForCallers.{not_resolved, unresolved_once}
-use Rattle.zoned_series.specs.Series.{Series, reading_of, IsItem, IsMissing, out_of_range, unresolved}
-use Rattle.zoned_series.specs.declared.series_error.SeriesError.{SeriesError}
+use Rattle.zoned_series.specs.{Series.{Series, reading_of, IsItem, IsMissing, out_of_range, unresolved}, declared.series_error.SeriesError.{SeriesError}}
 use Rattle.zoned_series.specs.declared.series_error.SeriesError.TheVariants.{Resolve}
 
 pub missing_once : {Z O : Type 0} {m : Meaning O} (law : Law m) (s : Series Z) (n : ℕ) (e f : SeriesError)

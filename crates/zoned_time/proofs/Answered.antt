@@ -1,6 +1,5 @@
 -- Each choice has an answer for each reading that the wall clock has one for.
-use Rattle.offset_core.specs.Around.{IsAround}
-use Rattle.offset_core.specs.declared.around.Around.TheVariants.{Ambiguous as Twice, Gap, Single as Once}
+use Rattle.offset_core.specs.{Around.{IsAround}, declared.around.Around.TheVariants.{Ambiguous as Twice, Gap, Single as Once}}
 use Rattle.offset_core.specs.declared.local_result.LocalResult.TheVariants.{Ambiguous, None, Single}
 use Rattle.offset_core.specs.declared.resolve_error.ResolveError.TheVariants.{OutOfRange}
 use Rattle.zoned_time.proofs.Words.{Around, Choice, Err, IsBeforeGap, IsInRange, IsNeverShown, IsTaken, IsUnresolved, IsWallAnswer, IsWide, IsWithinDay}

@@ -1,6 +1,5 @@
 -- What a choice takes for a wall clock.
-use Rattle.offset_core.specs.declared.around.Around.TheVariants.{Ambiguous, Gap, Single}
-use Rattle.offset_core.specs.declared.around.Taken.TheVariants.{InGap, Shown}
+use Rattle.offset_core.specs.{declared.around.Around.TheVariants.{Ambiguous, Gap, Single}, declared.around.Taken.TheVariants.{InGap, Shown}}
 use Rattle.offset_core.specs.declared.resolve_error.ResolveError.TheVariants.{OutOfRange}
 use Rattle.std.specs.Prelude.{⊤}
 use Rattle.zoned_time.proofs.Words.{AreOffsetsAround, Around, Choice, Err, HasInstant, HoldsOfEachAround, HoldsOfTaken, IsAt, IsBeforeGap, IsInRange}

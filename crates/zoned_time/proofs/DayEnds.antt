@@ -4,9 +4,8 @@ use Rattle.zoned_time.proofs.Words.{IsFirstToReach, IsGapEnd, IsInDay, IsInRange
 use Rattle.zoned_time.proofs.Words.{IsZoneSecond, IsZonedAtOrAfter, IsZonedEnd, Law, MatchOption, MayShowDay, Meaning, NaiveDate, None, NonePassed, Option}
 use Rattle.zoned_time.proofs.Words.{Reading, SameLaw, SameOffsets, ShowsByOffset, Some, SomeIff, Zoned, ahead, ap, arith, behind, by_lt_z, day_of, first_day}
 use Rattle.zoned_time.proofs.Words.{inl, inr, ints, last_day, midnight, neg_ℤ, of_secs, pos, refl, subst, sym, ℕ, ℤ, ◌*ℤ◌, ◌+ℤ◌, ◌-ℤ◌, ◌<ℤ◌, ◌∙◌, ◌≡◌, ◌≤ℤ◌}
-use Rattle.zoned_time.proofs.DayStarts.{StayWithinDay, first_until, in_day, one_first, same_reading}
+use Rattle.zoned_time.proofs.{DayStarts.{StayWithinDay, first_until, in_day, one_first, same_reading}, Homes.{offset_home_at}}
 use Rattle.zoned_time.proofs.Days.{first_exact, first_whole, out_of_range, to_reached}
-use Rattle.zoned_time.proofs.Homes.{offset_home_at}
 
 -- an instant of a day, by the seconds at which it and the next day start
 starts_are : (off : ℤ → ℤ) (day start next : ℤ) (r : Reading) → AreStartsOfDays off day start next → IsInDay off day r → (start ≤ℤ r.s) × (r.s <ℤ next)

@@ -2,8 +2,7 @@
 use Rattle.offset_core.specs.declared.local_result.LocalResult.TheVariants.{Ambiguous, None as none, Single}
 use Rattle.zoned_time.proofs.Words.{Each, IsInRange, IsOffsetAt, IsOnly, IsOnlyWhere, Law, LocalResult, Meaning, None, Option, Reading, Some, Zoned, home_law}
 use Rattle.zoned_time.proofs.Words.{single_of, subst, ℤ, ◌≡◌}
-use Rattle.zoned_time.proofs.Homes.{offset_home}
-use Rattle.zoned_time.proofs.Relocals.{relocal_shown}
+use Rattle.zoned_time.proofs.{Homes.{offset_home}, Relocals.{relocal_shown}}
 
 -- the zone that an offset came from gives what its own zone gives
 pub stays : {O : Type 0} {m : Meaning O} (law : Law m) (u v : ℤ) (o p : O) → IsInRange v

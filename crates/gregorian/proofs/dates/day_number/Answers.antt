@@ -1,7 +1,5 @@
 use Rattle.std.proofs.Common.{arith, ◌-◌}
-use Rattle.gregorian.proofs.Floor.{floors}
-use Rattle.gregorian.proofs.Cycle.{number_early, number_late}
-use Rattle.gregorian.proofs.DateLaws.{date_in_range}
+use Rattle.gregorian.proofs.{Floor.{floors}, Cycle.{number_early, number_late}, DateLaws.{date_in_range}}
 use Rattle.gregorian.proofs.dates.day_number.Goals as goal
 
 pub returns-then-month-le2 : goal.returns-then-month-le2

@@ -1,7 +1,5 @@
 use Rattle.std.proofs.Common.{arith, ◌≡◌, ◌+◌, ◌-◌, ◌*◌, to_z, of_z, w32}
-use Rattle.gregorian.proofs.Floor.{floors}
-use Rattle.gregorian.proofs.Cycle.{number_early, number_late}
-use Rattle.gregorian.proofs.MonthDays.{march_place}
+use Rattle.gregorian.proofs.{Floor.{floors}, Cycle.{number_early, number_late}, MonthDays.{march_place}}
 use Rattle.gregorian.proofs.dates.find_date.Goals as goal
 
 pub returns-then-month-gt12-clause-number : goal.returns-then-month-gt12-clause-number

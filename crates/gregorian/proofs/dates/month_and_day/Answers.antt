@@ -1,8 +1,6 @@
 use Rattle.std.proofs.Common.{arith, ◌-◌, to_z-of_z}
 use Rattle.gregorian.specs.Year.{is_leap}
-use Rattle.gregorian.proofs.MonthDays.{months_late}
-use Rattle.gregorian.proofs.Cycle.{days_with_leap}
-use Rattle.gregorian.proofs.DateLaws.{place_early, place_late}
+use Rattle.gregorian.proofs.{MonthDays.{months_late}, Cycle.{days_with_leap}, DateLaws.{place_early, place_late}}
 use Rattle.gregorian.proofs.dates.month_and_day.Goals as goal
 
 pub returns-then-day_of_year-before_march : goal.returns-then-day_of_year-before_march

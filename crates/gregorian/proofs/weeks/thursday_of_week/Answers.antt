@@ -1,7 +1,5 @@
 use Rattle.std.proofs.Common.{arith, pos, ◌+ℤ◌, ◌-ℤ◌, ◌*ℤ◌, to_z, of_z, w64}
-use Rattle.gregorian.proofs.Floor.{floors}
-use Rattle.gregorian.proofs.YearLaws.{floor_mod_parts}
-use Rattle.gregorian.proofs.WeekdayLaws.{thursday_at}
+use Rattle.gregorian.proofs.{Floor.{floors}, YearLaws.{floor_mod_parts}, WeekdayLaws.{thursday_at}}
 use Rattle.gregorian.proofs.weeks.thursday_of_week.Goals as goal
 
 pub returns-clause-value : goal.returns-clause-value

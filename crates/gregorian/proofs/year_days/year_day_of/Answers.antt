@@ -1,8 +1,6 @@
 use Rattle.std.proofs.Common.{arith, ◌∙◌, sym, ◌+◌, ◌*◌}
 use Rattle.gregorian.specs.DateOf.{year_of}
-use Rattle.gregorian.proofs.Floor.{floors}
-use Rattle.gregorian.proofs.DateLaws.{place_found}
-use Rattle.gregorian.proofs.YearDays.{leap_by, first_by, own_year}
+use Rattle.gregorian.proofs.{Floor.{floors}, DateLaws.{place_found}, YearDays.{leap_by, first_by, own_year}}
 use Rattle.gregorian.proofs.year_days.year_day_of.Goals as goal
 
 pub returns-clause-place : goal.returns-clause-place

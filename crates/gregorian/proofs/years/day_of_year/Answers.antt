@@ -1,6 +1,5 @@
 use Rattle.std.proofs.Common.{arith}
-use Rattle.gregorian.proofs.Floor.{floors}
-use Rattle.gregorian.proofs.DateLaws.{place_found}
+use Rattle.gregorian.proofs.{Floor.{floors}, DateLaws.{place_found}}
 use Rattle.gregorian.proofs.years.day_of_year.Goals as goal
 
 pub returns-clause-value : goal.returns-clause-value

@@ -1,8 +1,6 @@
 use Rattle.std.proofs.Common.{arith, to_z, of_z, w32}
 use Rattle.gregorian.specs.DateOf.{year_of}
-use Rattle.gregorian.proofs.Floor.{floors}
-use Rattle.gregorian.proofs.YearLaws.{lies_in, one_year}
-use Rattle.gregorian.proofs.Cycle.{year_found}
+use Rattle.gregorian.proofs.{Floor.{floors}, YearLaws.{lies_in, one_year}, Cycle.{year_found}}
 use Rattle.gregorian.proofs.years.year_of.Goals as goal
 
 pub returns : goal.returns

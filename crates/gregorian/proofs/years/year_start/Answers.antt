@@ -1,6 +1,5 @@
 use Rattle.std.proofs.Common.{arith, ◌-◌}
-use Rattle.gregorian.proofs.Floor.{floors}
-use Rattle.gregorian.proofs.Cycle.{january_start}
+use Rattle.gregorian.proofs.{Floor.{floors}, Cycle.{january_start}}
 use Rattle.gregorian.proofs.years.year_start.Goals as goal
 
 pub returns-clause-value : goal.returns-clause-value

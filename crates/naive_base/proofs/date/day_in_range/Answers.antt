@@ -1,5 +1,4 @@
-use Rattle.naive_base.proofs.Words.{arith, floors, to_z-of_z}
-use Rattle.naive_base.proofs.Ranges.{date_in_years}
+use Rattle.naive_base.proofs.{Words.{arith, floors, to_z-of_z}, Ranges.{date_in_years}}
 use Rattle.naive_base.proofs.date.day_in_range.Goals as goal
 
 pub overflow_cast-result : goal.overflow_cast-result

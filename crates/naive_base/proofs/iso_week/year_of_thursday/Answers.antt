@@ -1,5 +1,4 @@
-use Rattle.naive_base.proofs.Words.{arith, floors, to_z-of_z}
-use Rattle.naive_base.proofs.Ranges.{year_within}
+use Rattle.naive_base.proofs.{Words.{arith, floors, to_z-of_z}, Ranges.{year_within}}
 use Rattle.naive_base.proofs.iso_week.year_of_thursday.Goals as goal
 
 pub returns-clause-bound : goal.returns-clause-bound

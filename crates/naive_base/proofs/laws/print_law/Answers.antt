@@ -1,6 +1,5 @@
-use Rattle.naive_base.proofs.Words.{NaiveDateTime, arith, inl, inr, reading, reading_text, ℕ, ◌<◌, ◌≡◌, ◌≤◌, ◌⊎◌}
+use Rattle.naive_base.proofs.{Words.{NaiveDateTime, arith, inl, inr, reading, reading_text, ℕ, ◌<◌, ◌≡◌, ◌≤◌, ◌⊎◌}, Values.{same_date, same_reading, same_time}}
 use Rattle.naive_base.proofs.Alike.{day_text-alike, reading_text-alike, time_text-alike}
-use Rattle.naive_base.proofs.Values.{same_date, same_reading, same_time}
 use Rattle.naive_base.proofs.laws.print_law.Goals as goal
 
 readings : (between : ℕ) → (between < 43) ⊎ (59 ≤ between) → (a b : NaiveDateTime)

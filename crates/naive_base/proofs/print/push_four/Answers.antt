@@ -1,5 +1,4 @@
-use Rattle.naive_base.proofs.Words.{append_assoc, arith}
-use Rattle.naive_base.proofs.Digits.{four_digits-parts}
+use Rattle.naive_base.proofs.{Words.{append_assoc, arith}, Digits.{four_digits-parts}}
 use Rattle.naive_base.proofs.print.push_four.Goals as goal
 
 pub returns-clause-text : goal.returns-clause-text

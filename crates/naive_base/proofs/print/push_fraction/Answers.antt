@@ -1,5 +1,4 @@
-use Rattle.naive_base.proofs.Words.{append_assoc, arith, [], ◌++◌, ◌∙◌, ◌∷◌}
-use Rattle.naive_base.proofs.Digits.{fraction_text-nine, fraction_text-six}
+use Rattle.naive_base.proofs.{Words.{append_assoc, arith, [], ◌++◌, ◌∙◌, ◌∷◌}, Digits.{fraction_text-nine, fraction_text-six}}
 use Rattle.naive_base.proofs.print.push_fraction.Goals as goal
 
 pub returns-then-nanos-eq0-3 : goal.returns-then-nanos-eq0-3

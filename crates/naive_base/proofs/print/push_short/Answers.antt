@@ -1,5 +1,4 @@
-use Rattle.naive_base.proofs.Words.{arith, decimal_digit}
-use Rattle.naive_base.proofs.Digits.{decimal_pair}
+use Rattle.naive_base.proofs.{Words.{arith, decimal_digit}, Digits.{decimal_pair}}
 use Rattle.naive_base.proofs.print.push_short.Goals as goal
 
 pub returns-then-number-lt10-clause-text : goal.returns-then-number-lt10-clause-text

@@ -1,5 +1,4 @@
-use Rattle.offset_core.proofs.Words.{arith, ints, neg_ℤ}
-use Rattle.offset_core.proofs.FixedOffsets.{one_offset_answer}
+use Rattle.offset_core.proofs.{Words.{arith, ints, neg_ℤ}, FixedOffsets.{one_offset_answer}}
 use Rattle.offset_core.proofs.laws.east_is_west_of_negative.Goals as goal
 
 pub returns : goal.returns

@@ -1,5 +1,4 @@
-use Rattle.zoned_ref.proofs.Words.{FitsSigned, false≢true, rules, to_z-of_z, w32}
-use Rattle.zoned_ref.proofs.Narrow.{greatest_within, least_within, narrow_by}
+use Rattle.zoned_ref.proofs.{Words.{FitsSigned, false≢true, rules, to_z-of_z, w32}, Narrow.{greatest_within, least_within, narrow_by}}
 use Rattle.zoned_ref.proofs.time_zone_ref.is_narrow.Goals as goal
 
 pub returns-then-is_within_day : goal.returns-then-is_within_day

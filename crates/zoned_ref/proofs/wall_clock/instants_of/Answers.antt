@@ -1,5 +1,4 @@
-use Rattle.zoned_ref.proofs.Words.{in_seconds, option_map, reading, seconds_of, zoned}
-use Rattle.zoned_ref.proofs.Instants.{of_one}
+use Rattle.zoned_ref.proofs.{Words.{in_seconds, option_map, reading, seconds_of, zoned}, Instants.{of_one}}
 use Rattle.zoned_ref.proofs.wall_clock.instants_of.Goals as goal
 
 pub returns-in-Some : goal.returns-in-Some

@@ -1,6 +1,4 @@
-use Rattle.zoned_round.proofs.Words.{arith, floors, inl, inr, total, ℤ}
-use Rattle.zoned_round.proofs.Instants.{total-gone}
-use Rattle.zoned_round.proofs.Multiples.{way-down, way-near, way-up}
+use Rattle.zoned_round.proofs.{Words.{arith, floors, inl, inr, total, ℤ}, Instants.{total-gone}, Multiples.{way-down, way-near, way-up}}
 use Rattle.zoned_round.proofs.laws.rounded_instants.Goals as goal
 
 pub returns : goal.returns

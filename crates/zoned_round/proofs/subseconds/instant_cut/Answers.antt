@@ -1,5 +1,4 @@
-use Rattle.zoned_round.proofs.Words.{ap, arith, neg_ℤ, reading, to_z_pos, w64, ◌∙◌}
-use Rattle.zoned_round.proofs.Moves.{moved-earlier}
+use Rattle.zoned_round.proofs.{Words.{ap, arith, neg_ℤ, reading, to_z_pos, w64, ◌∙◌}, Moves.{moved-earlier}}
 use Rattle.zoned_round.proofs.subseconds.instant_cut.Goals as goal
 
 pub returns : goal.returns

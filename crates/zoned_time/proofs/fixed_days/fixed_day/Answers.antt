@@ -1,5 +1,4 @@
-use Rattle.zoned_time.proofs.Words.{IsZoneSecond, SFits, ap, arith, day_of, ints, pos, rules, to_z-of_z, w64, ◌+ℤ◌, ◌∙◌}
-use Rattle.zoned_time.proofs.Days.{fixed_ends}
+use Rattle.zoned_time.proofs.{Words.{IsZoneSecond, SFits, ap, arith, day_of, ints, pos, rules, to_z-of_z, w64, ◌+ℤ◌, ◌∙◌}, Days.{fixed_ends}}
 use Rattle.zoned_time.proofs.fixed_days.fixed_day.Goals as goal
 
 pub returns : goal.returns

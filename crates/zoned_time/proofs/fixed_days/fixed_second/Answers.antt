@@ -1,5 +1,4 @@
-use Rattle.zoned_time.proofs.Words.{IsZoneSecond, SFits, arith, ints, sym, to_z-of_z, w32, w64, ◌-ℤ◌, ◌∙◌, ◌≡◌}
-use Rattle.zoned_time.proofs.Days.{fixed_shown}
+use Rattle.zoned_time.proofs.{Words.{IsZoneSecond, SFits, arith, ints, sym, to_z-of_z, w32, w64, ◌-ℤ◌, ◌∙◌, ◌≡◌}, Days.{fixed_shown}}
 use Rattle.zoned_time.proofs.fixed_days.fixed_second.Goals as goal
 
 pub returns : goal.returns

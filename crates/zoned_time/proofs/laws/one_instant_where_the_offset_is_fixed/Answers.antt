@@ -1,5 +1,4 @@
-use Rattle.zoned_time.proofs.Words.{law_by_seconds, meaning_by_seconds, one_offset, pos, refl, seconds_of}
-use Rattle.zoned_time.proofs.Relocals.{fixed_relocal, utc_instant}
+use Rattle.zoned_time.proofs.{Words.{law_by_seconds, meaning_by_seconds, one_offset, pos, refl, seconds_of}, Relocals.{fixed_relocal, utc_instant}}
 use Rattle.zoned_time.proofs.laws.one_instant_where_the_offset_is_fixed.Goals as goal
 
 pub returns-clause-utc : goal.returns-clause-utc

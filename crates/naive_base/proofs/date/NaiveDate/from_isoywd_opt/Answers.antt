@@ -1,5 +1,4 @@
-use Rattle.naive_base.proofs.Words.{FitsSigned, rules, to_z-of_z, w64, weekday_number}
-use Rattle.naive_base.proofs.Named.{iso_answer, number_below}
+use Rattle.naive_base.proofs.{Words.{FitsSigned, rules, to_z-of_z, w64, weekday_number}, Named.{iso_answer, number_below}}
 use Rattle.naive_base.proofs.date.NaiveDate.from_isoywd_opt.Goals as goal
 
 pub returns-clause-value : goal.returns-clause-value

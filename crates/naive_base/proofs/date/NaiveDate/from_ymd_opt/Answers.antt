@@ -1,5 +1,4 @@
-use Rattle.naive_base.proofs.Words.{to_z-of_z}
-use Rattle.naive_base.proofs.Ranges.{inner_day}
+use Rattle.naive_base.proofs.{Words.{to_z-of_z}, Ranges.{inner_day}}
 use Rattle.naive_base.proofs.date.NaiveDate.from_ymd_opt.Goals as goal
 
 pub returns-then-is_date-clause-inner : goal.returns-then-is_date-clause-inner

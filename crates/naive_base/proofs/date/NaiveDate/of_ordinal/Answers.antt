@@ -1,5 +1,4 @@
-use Rattle.naive_base.proofs.Words.{arith, floors, to_z-of_z, ◌-◌}
-use Rattle.naive_base.proofs.Ranges.{day_in_years, inner_day_in_years}
+use Rattle.naive_base.proofs.{Words.{arith, floors, to_z-of_z, ◌-◌}, Ranges.{day_in_years, inner_day_in_years}}
 use Rattle.naive_base.proofs.date.NaiveDate.of_ordinal.Goals as goal
 
 pub of_day-requires : goal.of_day-requires

@@ -1,5 +1,4 @@
-use Rattle.naive_base.proofs.Words.{FitsSigned, arith, floors, rules, to_z-of_z, w64}
-use Rattle.naive_base.proofs.Ranges.{wide_year}
+use Rattle.naive_base.proofs.{Words.{FitsSigned, arith, floors, rules, to_z-of_z, w64}, Ranges.{wide_year}}
 use Rattle.naive_base.proofs.date.NaiveDate.year_month_day.Goals as goal
 
 pub returns-clause-bound : goal.returns-clause-bound

@@ -1,5 +1,4 @@
-use Rattle.naive_base.proofs.Words.{arith, floors, to_z-of_z}
-use Rattle.naive_base.proofs.Ranges.{inner_day_in_years}
+use Rattle.naive_base.proofs.{Words.{arith, floors, to_z-of_z}, Ranges.{inner_day_in_years}}
 use Rattle.naive_base.proofs.date.found.day_at_place.Goals as goal
 
 pub returns-clause-inner : goal.returns-clause-inner

@@ -1,5 +1,4 @@
-use Rattle.offset_core.proofs.Words.{append_assoc}
-use Rattle.offset_core.proofs.Digits.{in_digits-two_more}
+use Rattle.offset_core.proofs.{Words.{append_assoc}, Digits.{in_digits-two_more}}
 use Rattle.offset_core.proofs.short_text.ShortText.push_four_digits.Goals as goal
 
 pub returns-clause-text : goal.returns-clause-text

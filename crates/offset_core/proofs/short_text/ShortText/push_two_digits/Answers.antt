@@ -1,5 +1,4 @@
-use Rattle.offset_core.proofs.Words.{append_assoc}
-use Rattle.offset_core.proofs.Digits.{two_digits}
+use Rattle.offset_core.proofs.{Words.{append_assoc}, Digits.{two_digits}}
 use Rattle.offset_core.proofs.short_text.ShortText.push_two_digits.Goals as goal
 
 pub returns-clause-text : goal.returns-clause-text

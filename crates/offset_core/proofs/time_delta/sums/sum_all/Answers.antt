@@ -1,5 +1,4 @@
-use Rattle.std.proofs.iter.Next.{Yields-more}
-use Rattle.std.proofs.lemmas.List.Sums.{fold-append}
+use Rattle.std.proofs.{iter.Next.{Yields-more}, lemmas.List.Sums.{fold-append}}
 use Rattle.std.specs.Iterator.{Yields}
 use Rattle.offset_core.proofs.Words.{FitsTimeDelta, [], ap, nanos_of, subst, sum_of, sym, ℤ, ◌++◌, ◌+ℤ◌, ◌∙◌, ◌∷◌, ◌≡◌}
 use Rattle.offset_core.proofs.time_delta.sums.sum_all.Goals as goal

@@ -1,5 +1,4 @@
-use Rattle.std.proofs.Common.{rules, sym, ◌∙◌, Ok, ap}
-use Rattle.std.proofs.lemmas.Result.{err_from_is_err_and}
+use Rattle.std.proofs.{Common.{rules, sym, ◌∙◌, Ok, ap}, lemmas.Result.{err_from_is_err_and}}
 use Rattle.tz_base.proofs.RunLaws.{int_at_is, all_of}
 use Rattle.tz_base.specs.Fronts.{is_digit}
 use Rattle.tz_base.proofs.cursor.Cursor.read_int.Goals as goal

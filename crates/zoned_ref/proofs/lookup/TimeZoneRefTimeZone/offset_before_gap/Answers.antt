@@ -1,6 +1,4 @@
-use Rattle.zoned_ref.proofs.Words.{law_of, reading}
-use Rattle.zoned_ref.proofs.Gaps.{before_within, gap_given, no_gap}
-use Rattle.zoned_ref.proofs.Walls.{of_zone}
+use Rattle.zoned_ref.proofs.{Words.{law_of, reading}, Gaps.{before_within, gap_given, no_gap}, Walls.{of_zone}}
 use Rattle.zoned_ref.proofs.lookup.TimeZoneRefTimeZone.offset_before_gap.Goals as goal
 
 pub new-requires : goal.new-requires

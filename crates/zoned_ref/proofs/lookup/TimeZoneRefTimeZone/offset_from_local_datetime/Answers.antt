@@ -1,6 +1,5 @@
 use Rattle.offset_core.specs.declared.local_result.LocalResult.TheVariants.{Ambiguous, Single}
-use Rattle.zoned_ref.proofs.Words.{reading}
-use Rattle.zoned_ref.proofs.Walls.{of_zone, offsets_given}
+use Rattle.zoned_ref.proofs.{Words.{reading}, Walls.{of_zone, offsets_given}}
 use Rattle.zoned_ref.proofs.lookup.TimeZoneRefTimeZone.offset_from_local_datetime.Goals as goal
 
 pub returns-in-Single-clause-offsets : goal.returns-in-Single-clause-offsets

@@ -1,7 +1,5 @@
 use Rattle.offset_core.specs.declared.local_result.LocalResult.TheVariants.{Ambiguous, Single}
-use Rattle.zoned_ref.proofs.Words.{reading}
-use Rattle.zoned_ref.proofs.Gaps.{before_within, gap_given}
-use Rattle.zoned_ref.proofs.Walls.{each_within, of_zone, offsets_given}
+use Rattle.zoned_ref.proofs.{Words.{reading}, Gaps.{before_within, gap_given}, Walls.{each_within, of_zone, offsets_given}}
 use Rattle.zoned_ref.proofs.lookup.TimeZoneRefTimeZone.offsets_around.Goals as goal
 
 pub new-requires : goal.new-requires

@@ -1,5 +1,4 @@
-use Rattle.zoned_ref.proofs.Words.{ap, change_held, law_of, to_z-of_z, type_of, zoned}
-use Rattle.zoned_ref.proofs.Changes.{around_by, change_is}
+use Rattle.zoned_ref.proofs.{Words.{ap, change_held, law_of, to_z-of_z, type_of, zoned}, Changes.{around_by, change_is}}
 use Rattle.zoned_ref.proofs.time_zone_ref.TimeZoneRef.instants_around.Goals as goal
 
 pub returns : goal.returns

@@ -1,5 +1,4 @@
-use Rattle.zoned_ref.proofs.Words.{sym, ◌∙◌}
-use Rattle.zoned_ref.proofs.Offsets.{are_offsets, offset_alone, offsets_within}
+use Rattle.zoned_ref.proofs.{Words.{sym, ◌∙◌}, Offsets.{are_offsets, offset_alone, offsets_within}}
 use Rattle.zoned_ref.proofs.time_zone_ref.TimeZoneRef.new.Goals as goal
 
 pub invariant_of-result : goal.invariant_of-result

@@ -1,6 +1,4 @@
-use Rattle.zoned_ref.proofs.Words.{ap, sym, type_once, zone_of, ◌∙◌}
-use Rattle.zoned_ref.proofs.Offsets.{type_within}
-use Rattle.zoned_ref.proofs.Walls.{same_law}
+use Rattle.zoned_ref.proofs.{Words.{ap, sym, type_once, zone_of, ◌∙◌}, Offsets.{type_within}, Walls.{same_law}}
 use Rattle.zoned_ref.proofs.time_zone_ref.TimeZoneRef.offset_of.Goals as goal
 
 pub new-requires : goal.new-requires

@@ -1,6 +1,5 @@
 use Rattle.zoned_ref.proofs.Words.{IsOfZone, SFits, TypeAt, arith, change_held, change_of, false, ints, off_of, to_z-of_z, w64, zone_of, zoned}
-use Rattle.zoned_ref.proofs.Changes.{nearest_told, none_told, stand_within}
-use Rattle.zoned_ref.proofs.Walls.{of_zone}
+use Rattle.zoned_ref.proofs.{Changes.{nearest_told, none_told, stand_within}, Walls.{of_zone}}
 use Rattle.zoned_ref.proofs.time_zone_ref.TimeZoneRef.previous_change.Goals as goal
 
 pub returns-clause-change : goal.returns-clause-change

@@ -1,5 +1,4 @@
-use Rattle.zoned_ref.proofs.Words.{SFits, off_of, reading, rules, to_z-of_z, w64}
-use Rattle.zoned_ref.proofs.Days.{first_to_reach}
+use Rattle.zoned_ref.proofs.{Words.{SFits, off_of, reading, rules, to_z-of_z, w64}, Days.{first_to_reach}}
 use Rattle.zoned_ref.proofs.zone_days.TimeZoneRefZoneDays.first_second_at_or_after.Goals as goal
 
 pub returns : goal.returns

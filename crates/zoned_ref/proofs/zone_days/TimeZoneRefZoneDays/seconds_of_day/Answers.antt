@@ -1,5 +1,4 @@
-use Rattle.zoned_ref.proofs.Words.{SFits, day_of, off_of, rules, to_z-of_z, w64}
-use Rattle.zoned_ref.proofs.Days.{ends_of_day, never_on_day}
+use Rattle.zoned_ref.proofs.{Words.{SFits, day_of, off_of, rules, to_z-of_z, w64}, Days.{ends_of_day, never_on_day}}
 use Rattle.zoned_ref.proofs.zone_days.TimeZoneRefZoneDays.seconds_of_day.Goals as goal
 
 pub returns-in-Some : goal.returns-in-Some

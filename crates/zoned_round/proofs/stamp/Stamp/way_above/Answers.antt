@@ -1,5 +1,4 @@
-use Rattle.zoned_round.proofs.Words.{arith, ints, unsigned_abs}
-use Rattle.zoned_round.proofs.Multiples.{above-next, above-same, below-near, span-is}
+use Rattle.zoned_round.proofs.{Words.{arith, ints, unsigned_abs}, Multiples.{above-next, above-same, below-near, span-is}}
 use Rattle.zoned_round.proofs.stamp.Stamp.way_above.Goals as goal
 
 pub returns-in-0-clause-is : goal.returns-in-0-clause-is

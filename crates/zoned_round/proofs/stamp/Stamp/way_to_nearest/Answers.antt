@@ -1,5 +1,4 @@
-use Rattle.zoned_round.proofs.Words.{arith, ints}
-use Rattle.zoned_round.proofs.Multiples.{below-near, nearest-down, nearest-up, span-is}
+use Rattle.zoned_round.proofs.{Words.{arith, ints}, Multiples.{below-near, nearest-down, nearest-up, span-is}}
 use Rattle.zoned_round.proofs.stamp.Stamp.way_to_nearest.Goals as goal
 
 pub returns-then-past-self-clause-is : goal.returns-then-past-self-clause-is

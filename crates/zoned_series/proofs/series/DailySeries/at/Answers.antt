@@ -1,10 +1,7 @@
 use Rattle.std.proofs.Common.{◌≡◌, ap, subst, ◌∙◌, refl}
-use Rattle.naive_base.specs.NaiveDateTime.{reading}
-use Rattle.naive_base.specs.Reading.{reading_at}
-use Rattle.zoned_time.specs.Choice.{IsResolved, IsUnresolved}
-use Rattle.zoned_time.specs.DateTime.{zoned}
-use Rattle.zoned_series.specs.DailySeries.{series_of}
-use Rattle.zoned_series.specs.Series.{reading_of, unresolved}
+use Rattle.naive_base.specs.{NaiveDateTime.{reading}, Reading.{reading_at}}
+use Rattle.zoned_time.specs.{Choice.{IsResolved, IsUnresolved}, DateTime.{zoned}}
+use Rattle.zoned_series.specs.{DailySeries.{series_of}, Series.{reading_of, unresolved}}
 use Rattle.zoned_series.proofs.series.DailySeries.at.Goals as goal
 
 pub returns-in-Err : goal.returns-in-Err

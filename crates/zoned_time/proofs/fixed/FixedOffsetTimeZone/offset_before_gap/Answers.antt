@@ -1,5 +1,4 @@
-use Rattle.zoned_time.proofs.Words.{reading, seconds_of}
-use Rattle.zoned_time.proofs.Walls.{shown_once}
+use Rattle.zoned_time.proofs.{Words.{reading, seconds_of}, Walls.{shown_once}}
 use Rattle.zoned_time.proofs.fixed.FixedOffsetTimeZone.offset_before_gap.Goals as goal
 
 pub returns : goal.returns

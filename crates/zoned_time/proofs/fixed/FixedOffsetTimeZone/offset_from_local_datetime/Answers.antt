@@ -1,6 +1,4 @@
-use Rattle.zoned_time.proofs.Words.{law_by_seconds, meaning_by_seconds, reading, refl, seconds_of}
-use Rattle.zoned_time.proofs.Homes.{same_itself}
-use Rattle.zoned_time.proofs.Walls.{constant_wall}
+use Rattle.zoned_time.proofs.{Words.{law_by_seconds, meaning_by_seconds, reading, refl, seconds_of}, Homes.{same_itself}, Walls.{constant_wall}}
 use Rattle.zoned_time.proofs.fixed.FixedOffsetTimeZone.offset_from_local_datetime.Goals as goal
 
 pub returns : goal.returns

@@ -1,5 +1,4 @@
-use Rattle.zoned_time.proofs.Words.{IsFixed, arith, ints, of_calls, pos, reading, refl, shown, sym, ◌∙◌, ◌≡◌}
-use Rattle.zoned_time.proofs.Relocals.{fixed_single, relocal_of}
+use Rattle.zoned_time.proofs.{Words.{IsFixed, arith, ints, of_calls, pos, reading, refl, shown, sym, ◌∙◌, ◌≡◌}, Relocals.{fixed_single, relocal_of}}
 use Rattle.zoned_time.proofs.time_zone.TimeZone.from_local_datetime.Goals as goal
 
 pub returns-clause-instants : goal.returns-clause-instants

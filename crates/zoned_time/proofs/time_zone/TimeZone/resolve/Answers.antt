@@ -1,5 +1,4 @@
-use Rattle.zoned_time.proofs.Words.{Ok, ap, reading, shown, sym, ◌∙◌}
-use Rattle.zoned_time.proofs.Choices.{gap_resolved, refused_of, shown_resolved}
+use Rattle.zoned_time.proofs.{Words.{Ok, ap, reading, shown, sym, ◌∙◌}, Choices.{gap_resolved, refused_of, shown_resolved}}
 use Rattle.zoned_time.proofs.time_zone.TimeZone.resolve.Goals as goal
 
 pub returns-in-Ok-Shown : goal.returns-in-Ok-Shown

@@ -1,5 +1,4 @@
-use Rattle.zoned_time.proofs.Words.{SFits, day_of, rules, to_z-of_z, w64, zoned}
-use Rattle.zoned_time.proofs.Days.{instants_of_day, no_day}
+use Rattle.zoned_time.proofs.{Words.{SFits, day_of, rules, to_z-of_z, w64, zoned}, Days.{instants_of_day, no_day}}
 use Rattle.zoned_time.proofs.zone_days.ZoneDays.day.Goals as goal
 
 pub returns-in_err-last : goal.returns-in_err-last

@@ -1,5 +1,4 @@
-use Rattle.zoned_time.proofs.Words.{ap, day_of, floor_div, sym, zoned, ℤ, ◌+ℤ◌, ◌∙◌, ◌≡◌}
-use Rattle.zoned_time.proofs.Days.{day_of_told}
+use Rattle.zoned_time.proofs.{Words.{ap, day_of, floor_div, sym, zoned, ℤ, ◌+ℤ◌, ◌∙◌, ◌≡◌}, Days.{day_of_told}}
 use Rattle.zoned_time.proofs.zone_days.ZoneDays.day_of.Goals as goal
 
 pub returns : goal.returns

@@ -1,5 +1,4 @@
-use Rattle.naive_base.proofs.Words.{IsDateOn, day_of, months_of, pos, sym}
-use Rattle.naive_base.proofs.MonthDates.{months_found}
+use Rattle.naive_base.proofs.{Words.{IsDateOn, day_of, months_of, pos, sym}, MonthDates.{months_found}}
 use Rattle.naive_base.proofs.date.operators.NaiveDateAddMonths.add.Goals as goal
 
 pub unwrap-requires : goal.unwrap-requires

@@ -1,5 +1,4 @@
-use Rattle.naive_base.proofs.Words.{IsReadingOnDay, day_shown_by, months_of, neg_ℤ, pos, reading}
-use Rattle.naive_base.proofs.MonthDates.{mapped_none, months_found}
+use Rattle.naive_base.proofs.{Words.{IsReadingOnDay, day_shown_by, months_of, neg_ℤ, pos, reading}, MonthDates.{mapped_none, months_found}}
 use Rattle.naive_base.proofs.datetime.operators.NaiveDateTimeSubMonths.sub.Goals as goal
 
 pub unwrap-requires : goal.unwrap-requires

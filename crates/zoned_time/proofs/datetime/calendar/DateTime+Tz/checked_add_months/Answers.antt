@@ -1,5 +1,4 @@
-use Rattle.zoned_time.proofs.Words.{day_shown_by, home_law_of, months_of, pos, reading, wall_of, zoned}
-use Rattle.zoned_time.proofs.Instants.{no_months_later}
+use Rattle.zoned_time.proofs.{Words.{day_shown_by, home_law_of, months_of, pos, reading, wall_of, zoned}, Instants.{no_months_later}}
 use Rattle.zoned_time.proofs.datetime.calendar.DateTime+Tz.checked_add_months.Goals as goal
 
 pub returns-in_err-checked_add_months : goal.returns-in_err-checked_add_months

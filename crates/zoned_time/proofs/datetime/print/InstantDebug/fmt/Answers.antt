@@ -1,5 +1,4 @@
-use Rattle.zoned_time.proofs.Words.{DisplaysOnOk, List, Option, Some, ap, reading, reading_text, subst, wall_of, ℕ, ◌++?◌}
-use Rattle.zoned_time.proofs.Printed.{at_once, joined}
+use Rattle.zoned_time.proofs.{Words.{DisplaysOnOk, List, Option, Some, ap, reading, reading_text, subst, wall_of, ℕ, ◌++?◌}, Printed.{at_once, joined}}
 use Rattle.zoned_time.proofs.datetime.print.InstantDebug.fmt.Goals as goal
 
 pub returns-in-Ok : goal.returns-in-Ok

@@ -1,5 +1,4 @@
-use Rattle.zoned_time.proofs.Words.{DisplaysOnOk, List, Option, Some, ap, reading, reading_text, subst, wall_of, ℕ, [], ◌++?◌, ◌∷◌}
-use Rattle.zoned_time.proofs.Printed.{at_once, spaced}
+use Rattle.zoned_time.proofs.{Words.{DisplaysOnOk, List, Option, Some, ap, reading, reading_text, subst, wall_of, ℕ, [], ◌++?◌, ◌∷◌}, Printed.{at_once, spaced}}
 use Rattle.zoned_time.proofs.datetime.print.InstantDisplay.fmt.Goals as goal
 
 pub returns-in-Ok-clause-writes : goal.returns-in-Ok-clause-writes
