@@ -79,7 +79,7 @@ pub use Rattle.tz_info.specs.FilePieces.{FilePieces, HasPieces, PieceFault}
 unfoldable pub use Rattle.tz_info.specs.FilePieces.{after_first_block, file, first_version, later_version}
 pub use Rattle.tz_info.specs.Footers.{Colon, FooterFault, HasText, In_text, IsBetweenNewlines, IsFooter, No_newlines, Not_utf8, SaysRule, Zero}
 pub use Rattle.tz_info.specs.Gaps.{HasGap, IsTypeBeforeGap}
-pub use Rattle.tz_info.specs.HeldChanges.{change_held}
+pub use Rattle.tz_info.specs.HeldChanges.{change_held, span_held}
 pub use Rattle.tz_info.specs.Leaps.{AreCounted, AreLeapSeconds, IsFirstLeap, IsLeapTime, IsLeapTimeRefused, IsNear, IsNextLeap, IsOneStep, IsUnixTime}
 pub use Rattle.tz_info.specs.Leaps.{IsUnixTimeRefused, correction_at, correction_before, corrections, expected_of_leap_time, least_time, passed_count}
 pub use Rattle.tz_info.specs.Leaps.{thresholds}

@@ -1,7 +1,13 @@
--- A clock change with references to the types that the zone holds.
+-- Clock changes and spans with references to the types that the zone holds.
 use Rattle.tz_base.specs.declared.change.Change.{Change}
+use Rattle.tz_base.specs.declared.span.Span.{Span}
 use Rattle.tz_info.specs.declared.change.HeldChange.{HeldChange}
+use Rattle.tz_info.specs.declared.change.HeldSpan.{HeldSpan}
 
 -- the change with the types themselves
 abbrev pub change_held : HeldChange → Change
 change_held c = record { at = c.at; before = c.before.now; after = c.after.now }
+
+-- the span with the type itself
+abbrev pub span_held : HeldSpan → Span
+span_held s = record { local_time_type = s.local_time_type.now; from = s.from; until = s.until }

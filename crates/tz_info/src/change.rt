@@ -1,10 +1,10 @@
-//! Changes of the clocks, made of two types, and chosen by their seconds.
+//! Clock changes, made of two types, and spans between them, with references to the types.
 
 ghost use Rattle.std.specs.Prelude.{◌≡◌, ◌≢◌, IsTrue, ◌↔◌, IfSome, MatchOption, Some, option_map};
-ghost use Rattle.tz_info.specs.HeldChanges.{change_held};
+ghost use Rattle.tz_info.specs.HeldChanges.{change_held, span_held};
 ghost use Rattle.tz_info.specs.Steps.Changes.{IsInStretch};
 
-use tz_base::{Change, LocalTimeType};
+use tz_base::{Change, LocalTimeType, Span};
 
 /// A clock change with references to the types that the zone holds: a [`Change`] without a copy of
 /// them.
@@ -28,6 +28,43 @@ impl HeldChange<'_> {
             at: self.at,
             before: *self.before,
             after: *self.after,
+        }
+    }
+}
+
+/// A span with a reference to the type that the zone holds: a [`Span`] without a copy of it.
+#[derive(Clone, Copy)]
+pub struct HeldSpan<'a> {
+    /// The type in force.
+    pub local_time_type: &'a LocalTimeType,
+    /// As [`Span::from`].
+    pub from: Option<i64>,
+    /// As [`Span::until`].
+    pub until: Option<i64>,
+}
+
+impl HeldSpan<'_> {
+    // The span with a reference to its type.
+    #[inline(always)]
+    pub(crate) fn of(span: &Span) -> HeldSpan<'_>
+        ensures { span_held result ≡ span.now }
+    {
+        HeldSpan {
+            local_time_type: &span.local_time_type,
+            from: span.from,
+            until: span.until,
+        }
+    }
+
+    /// The span with the type itself.
+    #[inline(always)]
+    pub fn copied(self) -> Span
+        ensures { result ≡ span_held self.entry }
+    {
+        Span {
+            local_time_type: *self.local_time_type,
+            from: self.from,
+            until: self.until,
         }
     }
 }

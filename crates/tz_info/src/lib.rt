@@ -8,7 +8,7 @@ pub mod laws;
 mod rule;
 mod zone;
 
-pub use change::HeldChange;
+pub use change::{HeldChange, HeldSpan};
 pub use offset_core::Around;
 pub use rule::{AlternateTime, DayForm, RuleDay, TransitionRule};
 pub use tz_base::{Change, Cursor, Error, Expected, LocalTimeType, Span, TimeZoneName};

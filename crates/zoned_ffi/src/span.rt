@@ -1,12 +1,13 @@
 //! Spans between changes of a zone's clocks, as C reads them.
 
 ghost use Rattle.std.specs.Prelude.{◌≡◌, ◌≢◌};
+ghost use Rattle.tz_info.specs.HeldChanges.{span_held};
 ghost use Rattle.tz_info.specs.Zones.{IsTypeRefused};
 ghost use Rattle.zoned_ffi.specs.WrittenSpans.{IsWrittenSpanAt, written_span};
 
 use crate::local_type::WrittenType;
 use crate::refusal::NO_LOCAL_TIME;
-use tz_info::{Span, TimeZone};
+use tz_info::{HeldSpan, TimeZone};
 
 /// A span: the seconds from one change of the clocks to the next, at which one local time type is in
 /// force.
@@ -22,13 +23,13 @@ pub struct WrittenSpan {
 }
 
 impl WrittenSpan {
-    fn of(span: &Span) -> WrittenSpan
-        ensures { result ≡ written_span span.now }
+    fn of(span: HeldSpan<'_>) -> WrittenSpan
+        ensures { result ≡ written_span (span_held span.entry) }
     {
         WrittenSpan {
             from: span.from.unwrap_or(i64::MIN),
             until: span.until.unwrap_or(i64::MAX),
-            local_type: WrittenType::of(&span.local_time_type),
+            local_type: WrittenType::of(span.local_time_type),
         }
     }
 }
@@ -39,9 +40,9 @@ pub fn answer_span(zone: &TimeZone, instant: i64, span: &mut WrittenSpan) -> u32
     ensures refused { result ≢ 0 → (result ≡ 37) × IsTypeRefused zone.now instant
         × (span.new ≡ span.old) }
 {
-    match zone.span_at(instant) {
+    match zone.held_span_at(instant) {
         Ok(found) => {
-            *span = WrittenSpan::of(&found);
+            *span = WrittenSpan::of(found);
             0
         }
         Err(_) => NO_LOCAL_TIME,

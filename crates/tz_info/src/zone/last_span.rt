@@ -2,10 +2,12 @@
 //! no search.
 
 ghost use Rattle.std.specs.Prelude.{◌≡◌, IfSome, None};
+ghost use Rattle.tz_info.specs.HeldChanges.{span_held};
 ghost use Rattle.tz_info.specs.Spans.{IsSpanAt};
 ghost use Rattle.tz_info.specs.Steps.LastSpans.{IsLastSpan};
 ghost use Rattle.tz_info.specs.Zones.{Zone, TypeAt};
 
+use crate::change::HeldSpan;
 use crate::zone::all_changes::second_before;
 use crate::zone::time_zone::TimeZone;
 use tz_base::{LocalTimeType, Span};
@@ -62,13 +64,13 @@ impl TimeZone {
 
     // The last span, if the second is known to lie in it.
     #[inline(always)]
-    pub(super) fn last_span_at(&self, unix_time: i64) -> Option<&Span>
-        ensures { IfSome result (λ s. IsSpanAt (TypeAt self.now) unix_time s.now
-            × (s.now.until ≡ None)) }
+    pub(super) fn last_span_at(&self, unix_time: i64) -> Option<HeldSpan<'_>>
+        ensures { IfSome result (λ s. IsSpanAt (TypeAt self.now) unix_time (span_held s)
+            × (s.until ≡ None)) }
     {
         let _ = &self.table;
         if self.last_span.after < unix_time {
-            Some(&self.last_span.span)
+            Some(HeldSpan::of(&self.last_span.span))
         } else {
             None
         }

@@ -51,7 +51,7 @@ impl TimeZone {
             (IsTypeError self.now unix_time) }
     {
         if let Some(span) = self.last_span_at(unix_time) {
-            return Ok(&span.local_time_type);
+            return Ok(span.local_time_type);
         }
         let mut probes = Probes::new();
         self.find_local_time_type_counted(unix_time, &mut probes)

@@ -5,13 +5,13 @@
 
 ghost use Rattle.std.specs.Prelude.{◌≡◌, ◌<◌, ◌≤ℤ◌, ◌<ℤ◌, length, option_map, IfSome, MatchOption};
 ghost use Rattle.std.specs.Prelude.{MatchResult, Some};
-ghost use Rattle.tz_info.specs.HeldChanges.{change_held};
+ghost use Rattle.tz_info.specs.HeldChanges.{change_held, span_held};
 ghost use Rattle.tz_info.specs.Spans.{IsSpanAt};
 ghost use Rattle.tz_info.specs.Steps.Changes.{AreComeOrAll};
 ghost use Rattle.tz_info.specs.Steps.Starts.{AreInTurn};
 ghost use Rattle.tz_info.specs.Zones.{TypeAt, IsTypeError};
 
-use crate::change::{HeldChange, is_same_type};
+use crate::change::{HeldChange, HeldSpan, is_same_type};
 use crate::zone::lookup::NEAR;
 use crate::zone::time_zone::TimeZone;
 use crate::zone::transition::Transition;
@@ -38,8 +38,17 @@ impl TimeZone {
         ensures { MatchResult result (IsSpanAt (TypeAt self.now) unix_time)
             (IsTypeError self.now unix_time) }
     {
+        Ok(self.held_span_at(unix_time)?.copied())
+    }
+
+    /// As [`TimeZone::span_at`], with a reference to the zone's type.
+    #[inline(always)]
+    pub fn held_span_at(&self, unix_time: i64) -> Result<HeldSpan<'_>, Error>
+        ensures { MatchResult result (λ s. IsSpanAt (TypeAt self.now) unix_time (span_held s))
+            (IsTypeError self.now unix_time) }
+    {
         if let Some(span) = self.last_span_at(unix_time) {
-            return Ok(*span);
+            return Ok(span);
         }
         if self.transition_count() == 0 {
             return self.span_from_last(unix_time);
@@ -50,8 +59,8 @@ impl TimeZone {
     // The same by the place between transitions: a function of its own, since a zone without any
     // needs no search.
     #[inline(never)]
-    fn span_by_place(&self, unix_time: i64) -> Result<Span, Error>
-        ensures { MatchResult result (IsSpanAt (TypeAt self.now) unix_time)
+    fn span_by_place(&self, unix_time: i64) -> Result<HeldSpan<'_>, Error>
+        ensures { MatchResult result (λ s. IsSpanAt (TypeAt self.now) unix_time (span_held s))
             (IsTypeError self.now unix_time) }
     {
         let come = self.come_at(unix_time);
@@ -70,8 +79,8 @@ impl TimeZone {
     // The same by a rule of two types, if the second comes after one of its changes: a function of
     // its own, so that the other has few values to keep.
     #[inline(never)]
-    fn span_from_last(&self, unix_time: i64) -> Result<Span, Error>
-        ensures { MatchResult result (IsSpanAt (TypeAt self.now) unix_time)
+    fn span_from_last(&self, unix_time: i64) -> Result<HeldSpan<'_>, Error>
+        ensures { MatchResult result (λ s. IsSpanAt (TypeAt self.now) unix_time (span_held s))
             (IsTypeError self.now unix_time) }
     {
         let _ = &self.table;
@@ -84,8 +93,8 @@ impl TimeZone {
         let Some(from) = if_after(beside.previous, self.rule_begin()) else {
             return self.span_by_changes(unix_time);
         };
-        Ok(Span {
-            local_time_type: *turns.type_when(beside.is_dst),
+        Ok(HeldSpan {
+            local_time_type: turns.type_when(beside.is_dst),
             from: Some(from),
             until: beside.next,
         })
@@ -93,14 +102,14 @@ impl TimeZone {
 
     // The same by the changes on both sides, for each of which there is a search.
     #[inline(never)]
-    fn span_by_changes(&self, unix_time: i64) -> Result<Span, Error>
-        ensures { MatchResult result (IsSpanAt (TypeAt self.now) unix_time)
+    fn span_by_changes(&self, unix_time: i64) -> Result<HeldSpan<'_>, Error>
+        ensures { MatchResult result (λ s. IsSpanAt (TypeAt self.now) unix_time (span_held s))
             (IsTypeError self.now unix_time) }
     {
         let _ = &self.table;
         match self.find_local_time_type(unix_time) {
-            Ok(local) => Ok(Span {
-                local_time_type: *local,
+            Ok(local) => Ok(HeldSpan {
+                local_time_type: local,
                 from: second_of(self.previous_held_change(unix_time)),
                 until: second_of(self.next_held_change(unix_time)),
             }),
@@ -110,11 +119,11 @@ impl TimeZone {
 
     // The span from one transition to the next without leap seconds, if both change the type.
     #[inline(always)]
-    fn span_between(&self, unix_time: i64, come: usize) -> Option<Span>
+    fn span_between(&self, unix_time: i64, come: usize) -> Option<HeldSpan<'_>>
         requires come { AreComeOrAll self.now unix_time come }
         requires table { come < length self.now.transitions }
         requires leaps { length self.now.leaps ≡ 0 }
-        ensures { IfSome result (IsSpanAt (TypeAt self.now) unix_time) }
+        ensures { IfSome result (λ s. IsSpanAt (TypeAt self.now) unix_time (span_held s)) }
     {
         let _ = &self.table;
         if come == 0 {
@@ -122,8 +131,8 @@ impl TimeZone {
         }
         let first = self.change_without_leaps(come - 1)?;
         let end = self.change_without_leaps(come)?;
-        Some(Span {
-            local_time_type: *end.before,
+        Some(HeldSpan {
+            local_time_type: end.before,
             from: Some(first.at),
             until: Some(end.at),
         })
@@ -131,9 +140,9 @@ impl TimeZone {
 
     // The same with leap seconds, from one transition by Unix time to the next.
     #[inline(never)]
-    fn span_by_unix_time(&self, unix_time: i64, come: usize) -> Result<Span, Error>
+    fn span_by_unix_time(&self, unix_time: i64, come: usize) -> Result<HeldSpan<'_>, Error>
         requires { 0 < length self.now.leaps }
-        ensures { MatchResult result (IsSpanAt (TypeAt self.now) unix_time)
+        ensures { MatchResult result (λ s. IsSpanAt (TypeAt self.now) unix_time (span_held s))
             (IsTypeError self.now unix_time) }
     {
         let entries = self.by_unix_time.items();
@@ -161,9 +170,9 @@ impl TimeZone {
         first: Transition,
         end: Transition,
         after: Transition,
-    ) -> Option<Span>
+    ) -> Option<HeldSpan<'_>>
         requires { AreInTurn self.now before first end after }
-        ensures { IfSome result (IsSpanAt (TypeAt self.now) unix_time) }
+        ensures { IfSome result (λ s. IsSpanAt (TypeAt self.now) unix_time (span_held s)) }
     {
         let _ = &self.table;
         if before.unix_leap_time <= -NEAR
@@ -181,8 +190,8 @@ impl TimeZone {
         if is_same_type(type_before, here) || is_same_type(here, type_after) {
             return None;
         }
-        Some(Span {
-            local_time_type: *here,
+        Some(HeldSpan {
+            local_time_type: here,
             from: Some(first.unix_leap_time),
             until: Some(end.unix_leap_time),
         })

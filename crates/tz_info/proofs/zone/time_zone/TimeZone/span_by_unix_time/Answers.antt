@@ -1,4 +1,4 @@
-use Rattle.tz_info.proofs.{Words.{AreByUnixTime, arith, length, rules, ◌+◌, ◌-◌, ◌<◌}, UnixTimes.{at_place}}
+use Rattle.tz_info.proofs.{Words.{AreByUnixTime, arith, length, rules, to_z-of_z, ◌+◌, ◌-◌, ◌<◌}, UnixTimes.{at_place}}
 use Rattle.tz_info.proofs.zone.time_zone.TimeZone.span_by_unix_time.Goals as goal
 
 pub span_among-requires : goal.span_among-requires
@@ -20,3 +20,6 @@ span_among-requires c =
       at_end = rw (c.transition-end.ensures, c.index-entries-come-3.is) (at_place entries c.args.come (c.args.come - 2 + 2) _ (omega arith) (omega arith));
       at_after = rw (c.transition-after.ensures, c.index-entries-come-4.is) (at_place entries (c.args.come + 1) (c.args.come - 2 + 3) _ (omega arith) (omega arith));
     }
+
+pub returns-in-None : goal.returns-in-None
+returns-in-None c = let fu = c.ranges.unix_time in simp to_z-of_z at c.span_by_changes-in-None.ensures
