@@ -264,28 +264,23 @@ span_held z s first end u valid limits h fits from until low high =
     let inside : IsInSpan s u = record { fits = fits; since = since_end z s.from first u from low; until = until_end z s.until end u until high } in
     subst (TypeAt z u) (h.each u t.0 inside t.1) t.1
 
--- ---- the span of the last second of 64 bits
-no_end : (f : InForce) (s : Span) (until : Option ℤ) → s.until ≡ until → IsSpanAt f (pos 9_223_372_036_854_775_807) s → s.until ≡ None
-no_end f s None e h = e
-no_end f s (Some end) e h = let over = rw e at h.span.ends in let fits = over.1.fits in let later = rw e at h.inside.until in absurd (omega (arith, ints))
-
--- it has no end, and each second from its beginning on lies in it
-pub last_spans : (z : Zone) (last : LastSpan) (first : ℤ) → IsValid z → IsRuleOrNone z.rule → IsSpanAt (TypeAt z) (pos 9_223_372_036_854_775_807) last.span
-    → IsEndOrTyped z last.span.from first → ((u : ℤ) → SFits w64 u → last.after <ℤ u → first ≤ℤ u) → IsLastSpan z last
-last_spans z last first valid limits h from after = record {
-  each = λ u fits l.
+-- ---- the last span
+-- up to 2^62 each second from its beginning on lies in it
+pub last_spans : (z : Zone) (last : LastSpan) (first : ℤ) → IsValid z → IsRuleOrNone z.rule → IsSpanAt (TypeAt z) (pos 4_611_686_018_427_387_904) last.span
+    → last.span.until ≡ None → IsEndOrTyped z last.span.from first → ((u : ℤ) → SFits w64 u → last.after <ℤ u → first ≤ℤ u) → IsLastSpan z last
+last_spans z last first valid limits h endless from after = record {
+  each = λ u fits l most.
       let s = last.span in
       let begin = typed_from z s first h.span from in
       let low = after u fits l in
-      let most : u ≤ℤ pos 9_223_372_036_854_775_807 = omega (arith, ints) in
-      let t = typed_between z first (pos 9_223_372_036_854_775_807) u begin.0 s.local_time_type valid limits low most begin.1 h.in_force_then in
+      let t = typed_between z first (pos 4_611_686_018_427_387_904) u begin.0 s.local_time_type valid limits low most begin.1 h.in_force_then in
       let inside : IsInSpan s u = record {
         fits = fits;
         since = since_end z s.from first u from low;
-        until = sooner s.until u (pos 9_223_372_036_854_775_807) most h.inside.until;
+        until = sooner s.until u (pos 4_611_686_018_427_387_904) most h.inside.until;
       } in
       record { in_force_then = subst (TypeAt z u) (h.span.each u t.0 inside t.1) t.1; inside = inside; span = h.span };
-  endless = no_end (TypeAt z) last.span last.span.until refl h;
+  endless = endless;
 }
 
 -- no change comes after a second of a span without an end

@@ -9,10 +9,11 @@ ghost use Rattle.tz_info.specs.Zones.{Zone, TypeAt};
 
 use crate::change::HeldSpan;
 use crate::zone::all_changes::second_before;
+use crate::zone::lookups::LATEST;
 use crate::zone::time_zone::TimeZone;
 use tz_base::{LocalTimeType, Span};
 
-// The span of each second later than `after`.
+// The span of each second later than `after`, up to `LATEST`.
 #[derive(Clone, Copy)]
 pub(super) struct LastSpan {
     after: i64,
@@ -46,15 +47,18 @@ impl TimeZone {
         }
     }
 
-    // The span of the last second of 64 bits, if that second has a type, and the first one has, or a
-    // change begins the span.
+    // The span of `LATEST`, if no change follows, and the first second has a type or a change begins
+    // the span.
     fn find_last_span(&self) -> Option<LastSpan>
         ensures { IfSome result (IsLastSpan self.now) }
     {
         let _ = &self.table;
-        let Ok(span) = self.span_at(i64::MAX) else {
+        let Ok(span) = self.span_at(LATEST) else {
             return None;
         };
+        if span.until.is_some() {
+            return None;
+        }
         let first = self.end_or_typed(span.from, i64::MIN)?;
         Some(LastSpan {
             after: second_before(first),
@@ -69,7 +73,7 @@ impl TimeZone {
             × (s.until ≡ None)) }
     {
         let _ = &self.table;
-        if self.last_span.after < unix_time {
+        if self.last_span.after < unix_time && unix_time <= LATEST {
             Some(HeldSpan::of(&self.last_span.span))
         } else {
             None

@@ -22,7 +22,7 @@ const FIRST_FAR_MISSES: u8 = 240;
 // Half of the seconds of 64 bits, so that their leap times can be counted too.
 const EARLIEST: i64 = -4_611_686_018_427_387_904;
 
-const LATEST: i64 = 4_611_686_018_427_387_904;
+pub(super) const LATEST: i64 = 4_611_686_018_427_387_904;
 
 /// A zone's lookups at one instant after another, from [`TimeZone::lookups`].
 ///

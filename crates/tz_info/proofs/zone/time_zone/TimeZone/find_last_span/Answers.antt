@@ -6,5 +6,5 @@ returns c =
     let ff : SFits w64 c.in_ok-first.first = search rules in
     let fa : SFits w64 c.second_before.result = search rules in
     simp to_z-of_z (last_spans c.args.self.now _ c.in_ok-first.first (rw (← c.self.view_is) c.self.invariant.valid)
-    (rw (← c.self.view_is) c.self.invariant.limits) c.in-Ok.ensures c.in_ok-first.ensures
+    (rw (← c.self.view_is) c.self.invariant.limits) c.in-Ok.ensures (search rules) c.in_ok-first.ensures
     (λ u fits later. (simp to_z-of_z at (c.second_before.ensures u (omega (arith, ints)))).0 later))
