@@ -7,7 +7,7 @@ use Rattle.zoned_ffi.proofs.Words.{bor_fracture, bor_open, by, cell_at, cell_cut
 use Rattle.zoned_ffi.proofs.Words.{flft, fpack, fpick, fsep, fseps, fshr_bor, fsplit, fsplit3, fst∗, ftrue, fupd, fwand, hidden_shr, id⊢, in_a_block, keep}
 use Rattle.zoned_ffi.proofs.Words.{later, lent, lent_at, lent_at_shr_laws, loan, looks, meet_⊑_left, move, moves_from, never, nothing, now, null_ptr}
 use Rattle.zoned_ffi.proofs.Words.{obor_alter, of_list, part_at, part_of, pick, ptr_val, qed, refl, rewrite, sem, sep, shape, shared_of, shared_row, shuts}
-use Rattle.zoned_ffi.proofs.Words.{some, split, step, subst, suffices, to, twice_dup, unhide, upd_i, updating, use1, use2, vcons, vnil, vstruct, within, ℕ, !}
+use Rattle.zoned_ffi.proofs.Words.{some, split, step, subst, suffices, to, twice_dup, unhide, upd_i, updating, use1, use2, vcons, vnil, vstruct, within, ℕ, ! }
 use Rattle.zoned_ffi.proofs.Words.{[], ‵, ◌$◌, ◌++◌, ◌∵◌, ◌∷◌, ◌≡◌, ◌⊛◌}
 use types.Kit.{drop}
 use Rattle.std.proofs.alloc.Global.TheLaws as heap_laws
