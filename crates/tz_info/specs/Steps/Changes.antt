@@ -95,7 +95,7 @@ pub record IsNearRuleTime (near second : ℤ) : Type 0 where
   pub from : (u : ℤ) → IsRuleTime u → near ≤ℤ u → second ≤ℤ u
   pub until : (u : ℤ) → IsRuleTime u → u ≤ℤ near → u ≤ℤ second
 
--- the year that many years on in that direction
+-- the year `step` years after the first one, or before it
 abbrev pub year_at : Bool → ℤ → ℕ → ℤ
 year_at true first step = first +ℤ pos step
 year_at false first step = first -ℤ pos step

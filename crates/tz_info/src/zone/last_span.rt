@@ -37,7 +37,7 @@ impl LastSpan {
 }
 
 impl TimeZone {
-    // Keeps the last span, if each second from its beginning on has a type.
+    // Keeps the last span, if there is one.
     pub(super) fn keep_last_span(&mut self)
         ensures { self.new ≡ self.old }
     {
