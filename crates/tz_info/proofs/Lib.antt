@@ -48,6 +48,7 @@ pub mod IdleRuns
 pub mod ZoneChanges
 pub mod LeaplessChanges
 pub mod SpanLaws
+pub mod LastSpanLaws
 pub mod SpanSearch
 pub mod RunLaws
 pub mod ShownSecondLaws

@@ -1,7 +1,7 @@
 -- Spans: at each second between two that have a type there is one, and from the last change to the next one it is the same.
 use Rattle.tz_info.proofs.Words.{Agrees, Alternate as AlternateRule, AreLeapSeconds, Change, HasNoChange, IfSome, IsAlternateRefused, IsChange, IsEndOrTyped}
-use Rattle.tz_info.proofs.Words.{IsFirst, IsFirstChange, IsFromLast, IsInSpan, IsLast, IsLastChange, IsLastSpan, IsLeapTime, IsRefusedBy, IsRuleOrNone}
-use Rattle.tz_info.proofs.Words.{IsRuleTime, IsSince, IsSpan, IsSpanAt, LastSpan, IsTypeRefused, IsUnixTime, IsUntil, IsValid, LeapSecond, List, LocalType}
+use Rattle.tz_info.proofs.Words.{IsFirst, IsFirstChange, IsFromLast, IsInSpan, IsLast, IsLastChange, IsLeapTime, IsRefusedBy, IsRuleOrNone}
+use Rattle.tz_info.proofs.Words.{IsRuleTime, IsSince, IsSpan, IsSpanAt, IsTypeRefused, IsUnixTime, IsUntil, IsValid, LeapSecond, List, LocalType}
 use Rattle.tz_info.proofs.Words.{None, Option, SFits, Some, Span, Transition, TransitionRule, TypeAt, Zone, ap, arith, by_leap_time, by_lt_z, by_rule, cases_lt}
 use Rattle.tz_info.proofs.Words.{correction_before, floor_div, inl, inr, ints, last_transition, length, lies_in, neg_ℤ, option_map, passed_count, pos, refl}
 use Rattle.tz_info.proofs.Words.{segment_of, slice_get, subst, suc, sym, w64, year_of, zero, ℕ, ℤ, [], ◌-ℤ◌, ◌-◌, ◌<ℤ◌, ◌<◌, ◌∙◌, ◌∷◌, ◌≡◌, ◌≤ℤ◌, ◌⊎◌}
@@ -266,22 +266,17 @@ span_held z s first end u valid limits h fits from until low high =
 
 -- ---- the last span
 -- up to 2^62 each second from its beginning on lies in it
-pub last_spans : (z : Zone) (last : LastSpan) (first : ℤ) → IsValid z → IsRuleOrNone z.rule → IsSpanAt (TypeAt z) (pos 4_611_686_018_427_387_904) last.span
-    → last.span.until ≡ None → IsEndOrTyped z last.span.from first → ((u : ℤ) → SFits w64 u → last.after <ℤ u → first ≤ℤ u) → IsLastSpan z last
-last_spans z last first valid limits h endless from after = record {
-  each = λ u fits l most.
-      let s = last.span in
-      let begin = typed_from z s first h.span from in
-      let low = after u fits l in
-      let t = typed_between z first (pos 4_611_686_018_427_387_904) u begin.0 s.local_time_type valid limits low most begin.1 h.in_force_then in
-      let inside : IsInSpan s u = record {
-        fits = fits;
-        since = since_end z s.from first u from low;
-        until = sooner s.until u (pos 4_611_686_018_427_387_904) most h.inside.until;
-      } in
-      record { in_force_then = subst (TypeAt z u) (h.span.each u t.0 inside t.1) t.1; inside = inside; span = h.span };
-  endless = endless;
-}
+pub in_last_span : (z : Zone) (s : Span) (first u : ℤ) → IsValid z → IsRuleOrNone z.rule → IsSpanAt (TypeAt z) (pos 4_611_686_018_427_387_904) s → IsEndOrTyped z s.from first
+    → SFits w64 u → first ≤ℤ u → u ≤ℤ pos 4_611_686_018_427_387_904 → IsSpanAt (TypeAt z) u s
+in_last_span z s first u valid limits h from fits low most =
+    let begin = typed_from z s first h.span from in
+    let t = typed_between z first (pos 4_611_686_018_427_387_904) u begin.0 s.local_time_type valid limits low most begin.1 h.in_force_then in
+    let inside : IsInSpan s u = record {
+      fits = fits;
+      since = since_end z s.from first u from low;
+      until = sooner s.until u (pos 4_611_686_018_427_387_904) most h.inside.until;
+    } in
+    record { in_force_then = subst (TypeAt z u) (h.span.each u t.0 inside t.1) t.1; inside = inside; span = h.span }
 
 -- no change comes after a second of a span without an end
 pub none_after : (f : InForce) (s : Span) (u : ℤ) → IsSpanAt f u s → s.until ≡ None → HasNoChange f (λ v. u <ℤ v)

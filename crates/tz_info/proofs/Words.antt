@@ -31,7 +31,7 @@ pub use borrow.Author.Count.{below_more}
 pub use mir.Syntax.{w128}
 pub use Rattle.offset_core.proofs.ForCallers.{one_around, one_wall_answer}
 pub use Rattle.offset_core.specs.Offset.{IsWithinDay}
-pub use Rattle.offset_core.specs.WallAnswer.{IsNeverShown, IsWallAnswer}
+pub use Rattle.offset_core.specs.WallAnswer.{IsNeverShown, IsShownOnce, IsWallAnswer}
 pub use Rattle.offset_core.specs.declared.around.Around.{Around}
 pub use Rattle.offset_core.specs.declared.local_result.LocalResult.{LocalResult}
 pub use Rattle.naive_base.proofs.ForCallers.{date_lies, days_at_most, leap_at_most, months_all, months_step, own_start_in_range}

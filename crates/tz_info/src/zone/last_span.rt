@@ -2,21 +2,27 @@
 //! no search.
 
 ghost use Rattle.std.specs.Prelude.{◌≡◌, IfSome, None};
+ghost use Rattle.naive_base.specs.Range.{IsWide};
+ghost use Rattle.offset_core.specs.WallAnswer.{IsShownOnce};
 ghost use Rattle.tz_info.specs.HeldChanges.{span_held};
 ghost use Rattle.tz_info.specs.Spans.{IsSpanAt};
 ghost use Rattle.tz_info.specs.Steps.LastSpans.{IsLastSpan};
+ghost use Rattle.tz_info.specs.WallClocks.{Shows};
 ghost use Rattle.tz_info.specs.Zones.{Zone, TypeAt};
 
 use crate::change::HeldSpan;
 use crate::zone::all_changes::second_before;
 use crate::zone::lookups::LATEST;
+use crate::zone::starts::cut_at;
 use crate::zone::time_zone::TimeZone;
 use tz_base::{LocalTimeType, Span};
 
-// The span of each second later than `after`, up to `LATEST`.
+// The span of each second later than `after`, up to `LATEST`. Only one second shows a local time
+// later than `local_after`, and lies in it.
 #[derive(Clone, Copy)]
 pub(super) struct LastSpan {
     after: i64,
+    local_after: i64,
     span: Span,
 }
 
@@ -27,6 +33,7 @@ impl LastSpan {
     {
         LastSpan {
             after: i64::MAX,
+            local_after: i64::MAX,
             span: Span {
                 local_time_type: LocalTimeType::utc(),
                 from: None,
@@ -52,16 +59,17 @@ impl TimeZone {
     fn find_last_span(&self) -> Option<LastSpan>
         ensures { IfSome result (IsLastSpan self.now) }
     {
-        let _ = &self.table;
+        let _ = (self.extremes.least, self.extremes.greatest);
         let Ok(span) = self.span_at(LATEST) else {
             return None;
         };
         if span.until.is_some() {
             return None;
         }
-        let first = self.end_or_typed(span.from, i64::MIN)?;
+        let after = second_before(self.end_or_typed(span.from, i64::MIN)?);
         Some(LastSpan {
-            after: second_before(first),
+            after,
+            local_after: cut_at(after, i64::from(self.extremes.greatest)),
             span,
         })
     }
@@ -75,6 +83,20 @@ impl TimeZone {
         let _ = &self.table;
         if self.last_span.after < unix_time && unix_time <= LATEST {
             Some(HeldSpan::of(&self.last_span.span))
+        } else {
+            None
+        }
+    }
+
+    // The type at the only second that shows the local time, if the last span is known to have it.
+    #[inline(always)]
+    pub(super) fn last_type_at(&self, local: i64) -> Option<&LocalTimeType>
+        requires { IsWide local }
+        ensures { IfSome result (λ t. IsShownOnce (Shows (TypeAt self.now) local) t.now) }
+    {
+        let _ = &self.table;
+        if self.last_span.local_after < local {
+            Some(&self.last_span.span.local_time_type)
         } else {
             None
         }

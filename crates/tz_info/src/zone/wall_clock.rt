@@ -46,8 +46,7 @@ impl TimeZone {
     ) -> Result<MappedLocalTime<LocalTimeType>, Error>
         ensures { IsOkAnd result (IsWallAnswer (Shows (TypeAt self.now) (reading local).s)) }
     {
-        let mut probes = Probes::new();
-        self.find_local_time_type_from_local_counted(local, &mut probes)
+        Ok(copied(self.local_time_types_at(local)))
     }
 
     /// As [`TimeZone::find_local_time_type_from_local`], with references to the zone's types.
@@ -56,7 +55,11 @@ impl TimeZone {
         ensures { IsWallAnswer (Shows (TypeAt self.now) (reading local).s)
             (map_of (λ r. r.now) result) }
     {
-        self.wall_answer(local.secs_since_epoch(), &mut Probes::new())
+        let local = local.secs_since_epoch();
+        match self.last_type_at(local) {
+            Some(local_time_type) => MappedLocalTime::Single(local_time_type),
+            None => self.wall_answer(local, &mut Probes::new()),
+        }
     }
 
     /// As [`TimeZone::find_local_time_type_from_local`], and counts the looks at pieces of the
@@ -64,6 +67,9 @@ impl TimeZone {
     /// transitions, and one, has binary digits, and one question for each second at which a clock
     /// at an offset of the rule's types shows the local time and the rule says the type: at most two.
     /// No transition is looked at.
+    ///
+    /// It always searches: [`TimeZone::find_local_time_type_from_local`] needs no search after the
+    /// last change.
     ///
     /// The zone keeps the times of its first and its last piece: a comparison with one of them that
     /// does not decide is not counted.

@@ -1,10 +1,18 @@
-use Rattle.tz_info.proofs.{Words.{SFits, arith, ints, rules, to_z-of_z, w64}, SpanLaws.{last_spans}}
+use Rattle.tz_info.proofs.{Words.{SFits, arith, ints, rules, to_z-of_z, w32, w64, ◌≡◌}, LastSpanLaws.{last_spans}}
 use Rattle.tz_info.proofs.zone.time_zone.TimeZone.find_last_span.Goals as goal
 
 pub returns : goal.returns
 returns c =
-    let ff : SFits w64 c.in_ok-first.first = search rules in
-    let fa : SFits w64 c.second_before.result = search rules in
-    simp to_z-of_z (last_spans c.args.self.now _ c.in_ok-first.first (rw (← c.self.view_is) c.self.invariant.valid)
-    (rw (← c.self.view_is) c.self.invariant.limits) c.in-Ok.ensures (search rules) c.in_ok-first.ensures
-    (λ u fits later. (simp to_z-of_z at (c.second_before.ensures u (omega (arith, ints)))).0 later))
+    let e = c.self.inside.extremes in
+    let least : SFits w32 e.least = search rules in
+    let greatest : SFits w32 e.greatest = search rules in
+    let first : SFits w64 c.in_ok-end_or_typed.field-0 = search rules in
+    let after : SFits w64 c.second_before-after.result = search rules in
+    let local_after : SFits w64 c.cut_at.result = search rules in
+    let offset : SFits w64 c.from.result = search rules in
+    let is_offset : c.from.result ≡ e.greatest = simp to_z-of_z at c.from.ensures in
+    simp to_z-of_z (last_spans c.args.self.now _ c.in_ok-end_or_typed.field-0 e (rw (← c.self.view_is) c.self.invariant.valid)
+    (rw (← c.self.view_is) c.self.invariant.limits) (rw (← c.self.view_is) c.self.invariant.extremes) least greatest after
+    c.in-Ok.ensures (search rules) c.in_ok-end_or_typed.ensures
+    (λ u fits later. (simp to_z-of_z at (c.second_before-after.ensures u (omega (arith, ints)))).0 later)
+    (rw is_offset at (simp to_z-of_z at c.cut_at.ensures)))
