@@ -60,6 +60,10 @@ impl TimeZone {
         ensures { IfSome result (IsLastSpan self.now) }
     {
         let _ = (self.extremes.least, self.extremes.greatest);
+        // A rule of two types has no type then.
+        if self.turns().is_some() {
+            return None;
+        }
         let Ok(span) = self.span_at(LATEST) else {
             return None;
         };
