@@ -220,7 +220,11 @@ impl NaiveDateTime {
         requires other { (reading rhs).f < 1_000_000_000 }
         ensures { nanos_of result ≡ difference (reading self) (reading rhs) }
     {
-        near_sum(self.seconds_from(rhs), self.nanos_from(rhs))
+        let secs = self.seconds_from(rhs);
+        if self.frac < rhs.frac {
+            return TimeDelta::from_parts(secs - 1, self.frac + 1_000_000_000 - rhs.frac);
+        }
+        TimeDelta::from_parts(secs, self.frac - rhs.frac)
     }
 
     // The same, where either may.

@@ -44,10 +44,11 @@ impl TimeDelta {
     pub fn num_seconds(&self) -> i64
         ensures { result ≡ int_div (nanos_of self.now) lengths.nanos_per_second }
     {
-        if (self.secs < 0) & (self.nanos > 0) {
-            self.secs + 1
-        } else {
-            self.secs
+        // A negative length with nanoseconds has one more: a carry, which takes no jump.
+        let carrying = if self.secs < 0 { u32::MAX } else { 0 };
+        match self.nanos.checked_add(carrying) {
+            Some(_) => self.secs,
+            None => self.secs + 1,
         }
     }
 
