@@ -266,7 +266,8 @@ span_held z s first end u valid limits h fits from until low high =
 
 -- ---- the last span
 -- up to 2^62 each second from its beginning on lies in it
-pub in_last_span : (z : Zone) (s : Span) (first u : ℤ) → IsValid z → IsRuleOrNone z.rule → IsSpanAt (TypeAt z) (pos 4_611_686_018_427_387_904) s → IsEndOrTyped z s.from first
+pub in_last_span : (z : Zone) (s : Span) (first u : ℤ) → IsValid z → IsRuleOrNone z.rule
+    → IsSpanAt (TypeAt z) (pos 4_611_686_018_427_387_904) s → IsEndOrTyped z s.from first
     → SFits w64 u → first ≤ℤ u → u ≤ℤ pos 4_611_686_018_427_387_904 → IsSpanAt (TypeAt z) u s
 in_last_span z s first u valid limits h from fits low most =
     let begin = typed_from z s first h.span from in
