@@ -1,8 +1,7 @@
 -- The words that this crate's proofs cite, passed on from std, from the crates below and from specs/.
-pub use Rattle.std.proofs.Common.{FitsSigned, List, ap, append_assoc, arith, false, inl, inr, length, length-append, min, neg_ℤ, of_z, pos, refl, rules}
-pub use Rattle.std.proofs.Common.{subst, suc, sym, to_z, to_z-of_z, true, unsigned_abs, w64, zero, get_or, drop, ℕ, ℤ, [], ◌%◌, ◌*ℤ◌, ◌*◌, ◌++◌, ◌+ℤ◌, ◌+◌}
-pub use Rattle.std.proofs.Common.{◌-ℤ◌, ◌-◌, ◌/◌}
-pub use Rattle.std.proofs.Common.{◌<ℤ◌, ◌<◌, ◌^◌, ◌∙◌, ◌∷◌, ◌≡◌, ◌≤ℤ◌, ◌≤◌, ◌⊎◌}
+pub use Rattle.std.proofs.Common.{FitsSigned, List, ap, append_assoc, arith, false, inl, inr, length, length-append, min, neg_ℤ, of_z, pos, refl, rules, subst}
+pub use Rattle.std.proofs.Common.{suc, sym, to_z, to_z-of_z, true, unsigned_abs, w64, zero, get_or, drop, ℕ, ℤ, [], ◌%◌, ◌*ℤ◌, ◌*◌, ◌++◌, ◌+ℤ◌, ◌+◌, ◌-ℤ◌, ◌-◌}
+pub use Rattle.std.proofs.Common.{◌/◌, ◌<ℤ◌, ◌<◌, ◌^◌, ◌∙◌, ◌∷◌, ◌≡◌, ◌≤ℤ◌, ◌≤◌, ◌⊎◌}
 pub use Rattle.std.proofs.Props.{props}
 pub use Rattle.std.proofs.lemmas.Bool.{cases_lt}
 pub use Rattle.std.proofs.lemmas.Bool.Decides.{nat_tests}
@@ -31,8 +30,7 @@ pub use Rattle.naive_base.specs.NaiveTime.{fraction_of, second_of}
 pub use Rattle.naive_base.specs.Named.{IsDayOfIsoWeek, IsThursdayOfWeek, IsWeekdayOfMonth, is_earlier_in_year, whole_years}
 pub use Rattle.naive_base.specs.Range.{IsDayInRange, IsInRange, IsInner, IsInnerDay, IsInnerYear, IsReading, IsTime, IsWide, IsWideDay, IsWideYear}
 pub use Rattle.naive_base.specs.Range.{IsYearInRange}
-pub use Rattle.naive_base.specs.Reading.{IsEarlier, Reading, day_at, difference, leap_between, moved, moved_leap, of_total}
-pub use Rattle.naive_base.specs.Reading.{reading_at, second_at, total}
+pub use Rattle.naive_base.specs.Reading.{IsEarlier, Reading, day_at, difference, leap_between, moved, moved_leap, of_total, reading_at, second_at, total}
 pub use Rattle.naive_base.specs.Text.{date_text, four_digits, fraction_text, month_day_text, reading_text, time_text}
 unfoldable pub use Rattle.naive_base.specs.Text.{year_text}
 pub use Rattle.naive_base.specs.Weekday.{weekday_number, weekday_of}

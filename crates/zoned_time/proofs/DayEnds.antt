@@ -3,8 +3,7 @@ use Rattle.zoned_time.proofs.Words.{AreStartsOfDays, HasNoEnd, IsAt, IsDateOn, I
 use Rattle.zoned_time.proofs.Words.{IsFirstToReach, IsGapEnd, IsInDay, IsInRange, IsInstantFrom, IsNeverShown, IsShownBetween, IsShownOnce, IsWideDay}
 use Rattle.zoned_time.proofs.Words.{IsZoneSecond, IsZonedAtOrAfter, IsZonedEnd, Law, MatchOption, MayShowDay, Meaning, NaiveDate, None, NonePassed, Option}
 use Rattle.zoned_time.proofs.Words.{Reading, SameLaw, SameOffsets, ShowsByOffset, Some, SomeIff, Zoned, ahead, ap, arith, behind, by_lt_z, day_of, first_day}
-use Rattle.zoned_time.proofs.Words.{inl, ints, last_day, midnight, neg_ℤ, of_secs, pos, refl, subst, sym, ℕ, ℤ, ◌+ℤ◌, ◌-ℤ◌, ◌<ℤ◌, ◌<◌, ◌∙◌, ◌≡◌}
-use Rattle.zoned_time.proofs.Words.{◌≤ℤ◌}
+use Rattle.zoned_time.proofs.Words.{inl, ints, last_day, midnight, neg_ℤ, of_secs, pos, refl, subst, sym, ℕ, ℤ, ◌+ℤ◌, ◌-ℤ◌, ◌<ℤ◌, ◌<◌, ◌∙◌, ◌≡◌, ◌≤ℤ◌}
 use Rattle.zoned_time.proofs.{DayStarts.{StayWithinDay, first_until, in_day, one_first}, Homes.{offset_home_at}}
 use Rattle.zoned_time.proofs.Days.{first_instant, first_whole, out_of_range, to_reached}
 

@@ -2,8 +2,7 @@
 use Rattle.offset_core.specs.declared.local_result.LocalResult.TheVariants.{Ambiguous, None, Single}
 use Rattle.zoned_time.proofs.Words.{AreOffsetsFor, Each, IsAt, IsInRange, IsOffsetAt, IsRelocal, IsWallAnswer, IsZoneSecond, Law, LocalResult, Meaning, Reading}
 use Rattle.zoned_time.proofs.Words.{IsWallAnswer-map_of, SameLaw, SameOffsets, ShowsByOffset, Zoned, arith, home_law, ints, map_of, refl, seconds_alone, subst}
-use Rattle.zoned_time.proofs.Words.{sym, ℤ, ◌+ℤ◌, ◌-ℤ◌}
-use Rattle.zoned_time.proofs.Words.{◌∙◌, ◌≡◌}
+use Rattle.zoned_time.proofs.Words.{sym, ℤ, ◌+ℤ◌, ◌-ℤ◌, ◌∙◌, ◌≡◌}
 
 -- a law is the same as itself, and as what is the same as the same
 pub same_itself : {O : Type 0} {m : Meaning O} (law : Law m) → SameLaw law law
