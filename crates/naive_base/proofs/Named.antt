@@ -4,7 +4,6 @@ use Rattle.naive_base.proofs.Words.{IsYearInRange, LiesIn, MatchOption, NaiveDat
 use Rattle.naive_base.proofs.Words.{day_of, day_of_month, day_of_year, day_of_year_is, days_in_year, false, floor_mod_parts, floors, is_earlier_in_year}
 use Rattle.naive_base.proofs.Words.{lies_in, month_of, number_at, one_year, pos, refl, subst, sym, true, weekday_below, weekday_later, weekday_number}
 use Rattle.naive_base.proofs.Words.{weekday_of, whole_years, year_of, year_start, year_step, ℕ, ℤ, ◌%◌, ◌*◌, ◌+ℤ◌, ◌+◌, ◌-ℤ◌, ◌-◌, ◌/◌, ◌<◌, ◌∙◌, ◌≡◌, ◌≤◌}
-use Rattle.naive_base.specs.declared.weekday.Weekday.TheVariants.{Fri, Mon, Sat, Sun, Thu, Tue, Wed}
 
 -- the day of the month of the n-th weekday w, where the month begins on the weekday f
 abbrev pub nth_day : ℕ → ℕ → ℕ → ℕ
@@ -34,14 +33,9 @@ found_nth y m w n h k date =
 pub only_nth : (y : ℤ) (m w n : ℕ) (day : ℤ) → IsWeekdayOfMonth y m w n day
     → IsDate y m (nth_day (weekday_of (day_number y m 1)) w n) × IsDate y m 1 × (1 ≤ n)
 only_nth y m w n day h =
-    let is = date_is day in
-    let date : IsDate y m (day_of_month day) =
-    subst (λ (n : ℕ). IsDate y n (day_of_month day)) h.month (subst (λ (x : ℤ). IsDate x (month_of day) (day_of_month day)) h.year is.0) in
-    let number : day_number y m (day_of_month day) ≡ day =
-    subst (λ (n : ℕ). day_number y n (day_of_month day) ≡ day) h.month
-    (subst (λ (x : ℤ). day_number x (month_of day) (day_of_month day) ≡ day) h.year is.1) in
+    let is = rw (h.year, h.month) at (date_is day) in let date = is.0 in
     let later = weekday_later (day_number y m 1) (day_of_month day - 1) in
-    let weekday = sym later ∙ ap weekday_of (sym (number_at y m (day_of_month day) date.2) ∙ number) ∙ h.weekday in
+    let weekday = sym later ∙ ap weekday_of (sym (number_at y m (day_of_month day) date.2) ∙ is.1) ∙ h.weekday in
     let same = nth_once (weekday_of (day_number y m 1)) w n (day_of_month day) (weekday_below (day_number y m 1)) date.2 weekday h.nth in
     (subst (λ (d : ℕ). IsDate y m d) (sym same) date, (date.0, date.1, omega arith, omega (arith, date.2, date.3)), omega (arith, h.nth, date.2))
 
@@ -77,12 +71,10 @@ pub only_thursday : (y : ℤ) (n : ℕ) (t : ℤ) → IsThursdayOfWeek y n t
     → (1 ≤ n) × (thursday_place (weekday_of (year_start y)) n < days_in_year y)
     × (year_start y +ℤ pos (thursday_place (weekday_of (year_start y)) n) ≡ t)
 only_thursday y n t h =
-    let is = day_of_year_is t in
-    let place : year_start y +ℤ pos (day_of_year t) ≡ t = subst (λ (x : ℤ). year_start x +ℤ pos (day_of_year t) ≡ t) h.year is.0 in
-    let below : day_of_year t < days_in_year y = subst (λ (x : ℤ). day_of_year t < days_in_year x) h.year is.1 in
-    let weekday = sym (weekday_later (year_start y) (day_of_year t)) ∙ ap weekday_of place ∙ h.weekday in
+    let is = rw h.year at (day_of_year_is t) in
+    let weekday = sym (weekday_later (year_start y) (day_of_year t)) ∙ ap weekday_of is.0 ∙ h.weekday in
     let once = place_once (weekday_of (year_start y)) n (day_of_year t) (weekday_below (year_start y)) weekday h.number in
-    (once.0, subst (λ (q : ℕ). q < days_in_year y) (sym once.1) below, subst (λ (q : ℕ). year_start y +ℤ pos q ≡ t) (sym once.1) place)
+    (once.0, subst (λ (q : ℕ). q < days_in_year y) (sym once.1) is.1, subst (λ (q : ℕ). year_start y +ℤ pos q ≡ t) (sym once.1) is.0)
 
 -- the day of the weekday w in the week of a Thursday
 pub found_day : (t : ℤ) (w : ℕ) → w < 7 → weekday_of t ≡ 4
@@ -99,13 +91,7 @@ only_day day t w e h =
     omega (arith, floors, e, h.0)
 
 pub number_below : (w : Weekday) → weekday_number w < 7
-number_below Sun = omega arith
-number_below Mon = omega arith
-number_below Tue = omega arith
-number_below Wed = omega arith
-number_below Thu = omega arith
-number_below Fri = omega arith
-number_below Sat = omega arith
+number_below w = grind arith
 
 -- a week that begins on the weekday w
 pub week_start : (day f : ℤ) (w : ℕ) → w < 7 → f +ℤ pos ((weekday_of day + 7 - w) % 7) ≡ day → weekday_of f ≡ w
@@ -130,7 +116,7 @@ pub nth_answer : (y : ℤ) (m w n : ℕ) (answer : Option NaiveDate) → w < 7 �
     → IsDateOf y m (nth_day (weekday_of (day_number y m 1)) w n) answer
     → MatchOption answer (IsYearInRange y → (day : ℤ) → IsWeekdayOfMonth y m w n day → ⊥)
     (λ d. IsYearInRange y × IsWeekdayOfMonth y m w n (day_of d))
-nth_answer y m w n (Some d) h k is = (is.0, subst (λ (day : ℤ). IsWeekdayOfMonth y m w n day) (sym is.2) (found_nth y m w n h k is.1))
+nth_answer y m w n (Some d) h k is = (is.0, rw is.2 (found_nth y m w n h k is.1))
 nth_answer y m w n None h k is = λ fits day only. is fits (only_nth y m w n day only).0
 
 pub iso_answer : (y : ℤ) (n w : ℕ) (t day : ℤ) (answer : Option NaiveDate) → w < 7 → IsThursdayOfWeek y n t
@@ -139,12 +125,8 @@ pub iso_answer : (y : ℤ) (n w : ℕ) (t day : ℤ) (answer : Option NaiveDate)
     (λ d. IsDayInRange (day_of d) × IsDayOfIsoWeek y n w (day_of d))
 iso_answer y n w t day (Some d) h k e is =
     let found = found_day t w h k.weekday in let same = is.1 ∙ e in
-    let of_week : IsDayOfIsoWeek y n w (t -ℤ pos 3 +ℤ pos ((w + 6) % 7)) =
-    record { weekday = found.1; thursday = t; in_week = found.0; of_year = k } in
-    (subst IsDayInRange (sym is.1) is.0, subst (λ (u : ℤ). IsDayOfIsoWeek y n w u) (sym same) of_week)
+    (rw is.1 is.0, rw same (record { weekday = found.1; thursday = t; in_week = found.0; of_year = k }))
 iso_answer y n w t day None h k e is = λ other inside in_week.
     let one = only_thursday y n t k in let two = only_thursday y n in_week.thursday in_week.of_year in
     let same : in_week.thursday ≡ t = sym two.2 ∙ one.2 in
-    let day_is : t -ℤ pos 3 +ℤ pos ((w + 6) % 7) ≡ other =
-    subst (λ (u : ℤ). u -ℤ pos 3 +ℤ pos ((w + 6) % 7) ≡ other) same (only_day other in_week.thursday w in_week.weekday in_week.in_week) in
-    is (subst IsDayInRange (sym (e ∙ day_is)) inside)
+    let day_is = rw same at (only_day other in_week.thursday w in_week.weekday in_week.in_week) in is (rw (e ∙ day_is) inside)

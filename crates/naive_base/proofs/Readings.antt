@@ -1,12 +1,5 @@
 -- A reading is its day and its time.
-use Rattle.naive_base.proofs.Words.{IsDayInRange, IsInRange, IsInner, IsInnerDay, IsWide, IsWideDay, arith, floor_div, floor_mod, floor_mod_parts, floors, ℤ}
-use Rattle.naive_base.proofs.Words.{◌≡◌}
-
-pub same_second : (s t : ℤ) → floor_div s 86_400 ≡ floor_div t 86_400 → floor_mod s 86_400 ≡ floor_mod t 86_400
-    → s ≡ t
-same_second s t days seconds =
-    let here = floor_mod_parts s 86_400 (omega arith) in let there = floor_mod_parts t 86_400 (omega arith) in
-    omega (arith, floors)
+use Rattle.naive_base.proofs.Words.{IsDayInRange, IsInRange, IsInner, IsInnerDay, IsWide, IsWideDay, arith, floor_div, floors, ℤ}
 
 pub seconds_in_range : (s : ℤ) → IsInRange s → IsDayInRange (floor_div s 86_400)
 seconds_in_range s h = (omega (arith, floors), omega (arith, floors))

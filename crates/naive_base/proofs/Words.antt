@@ -1,18 +1,15 @@
 -- The words that this crate's proofs cite, passed on from std, from the crates below and from specs/.
-pub use Rattle.std.proofs.Common.{Bool, FitsSigned, List, ap, append_assoc, arith, false, inl, inr, length, length-append, min, neg_ℤ, of_z, pos, refl, rules}
-pub use Rattle.std.proofs.Common.{subst, suc, sym, to_z, to_z-of_z, true, unsigned_abs, w64, zero, ℕ, ℤ, [], ◌%◌, ◌*ℤ◌, ◌*◌, ◌++◌, ◌+ℤ◌, ◌+◌, ◌-ℤ◌, ◌-◌, ◌/◌}
-pub use Rattle.std.proofs.Common.{◌<ℤ◌, ◌<◌, ◌^◌, ◌∙◌, ◌∷◌, ◌≡◌, ◌≤ℤ◌, ◌≤◌, ◌⊎◌}
+pub use Rattle.std.proofs.Common.{FitsSigned, List, ap, append_assoc, arith, false, inl, inr, length, length-append, min, neg_ℤ, of_z, pos, refl, rules, subst}
+pub use Rattle.std.proofs.Common.{suc, sym, to_z, to_z-of_z, true, unsigned_abs, w64, zero, get_or, drop, ℕ, ℤ, [], ◌%◌, ◌*ℤ◌, ◌*◌, ◌++◌, ◌+ℤ◌, ◌+◌, ◌-ℤ◌, ◌-◌}
+pub use Rattle.std.proofs.Common.{◌/◌, ◌<ℤ◌, ◌<◌, ◌^◌, ◌∙◌, ◌∷◌, ◌≡◌, ◌≤ℤ◌, ◌≤◌, ◌⊎◌}
 pub use Rattle.std.proofs.Props.{props}
 pub use Rattle.std.proofs.lemmas.Bool.{cases_lt}
 pub use Rattle.std.proofs.lemmas.Bool.Decides.{nat_tests}
-pub use Rattle.std.proofs.lemmas.Cmp.{int_ranked, ranked}
-pub use Rattle.std.proofs.lemmas.Fmt.{decimal_digit, decimal_injective, decimal_nonempty, decimal_step}
+pub use Rattle.std.proofs.lemmas.Fmt.{decimal_digit, decimal_step}
 pub use Rattle.std.proofs.lemmas.Int.{by_lt_z, ints}
 pub use Rattle.std.specs.Fmt.{decimal}
 pub use Rattle.std.specs.Int.{w32}
-pub use Rattle.std.specs.Ordering.{MatchOrdering, int_cmp, nat_cmp, ordering_then}
 pub use Rattle.std.specs.Prelude.{IsSome, MatchOption, None, Option, Some, SomeIff, option_map}
-pub use Rattle.offset_core.proofs.ForCallers.{in_digits-three_more, in_digits-two_more, in_digits_once, length-in_digits, split_left, split_right, two_digits}
 unfoldable pub use Rattle.offset_core.specs.Digits.{in_digits}
 pub use Rattle.gregorian.proofs.ForCallers.{date_between, date_is, date_only, day_of_year_is, days_at_least, floor_mod_parts, floors, lies_in, month_bounds}
 pub use Rattle.gregorian.proofs.ForCallers.{number_at, one_thursday, one_year, starts_rise, weekday_below, weekday_later, year_step}
@@ -33,9 +30,8 @@ pub use Rattle.naive_base.specs.NaiveTime.{fraction_of, second_of}
 pub use Rattle.naive_base.specs.Named.{IsDayOfIsoWeek, IsThursdayOfWeek, IsWeekdayOfMonth, is_earlier_in_year, whole_years}
 pub use Rattle.naive_base.specs.Range.{IsDayInRange, IsInRange, IsInner, IsInnerDay, IsInnerYear, IsReading, IsTime, IsWide, IsWideDay, IsWideYear}
 pub use Rattle.naive_base.specs.Range.{IsYearInRange}
-pub use Rattle.naive_base.specs.Reading.{IsEarlier, IsEarlierByDay, IsEarlierTime, Reading, day_at, difference, leap_between, moved, moved_leap, of_total}
-pub use Rattle.naive_base.specs.Reading.{reading_at, second_at, total}
-pub use Rattle.naive_base.specs.Text.{clock_text, date_text, four_digits, fraction_text, month_day_text, reading_text, time_text}
+pub use Rattle.naive_base.specs.Reading.{IsEarlier, Reading, day_at, difference, leap_between, moved, moved_leap, of_total, reading_at, second_at, total}
+pub use Rattle.naive_base.specs.Text.{date_text, four_digits, fraction_text, month_day_text, reading_text, time_text}
 unfoldable pub use Rattle.naive_base.specs.Text.{year_text}
 pub use Rattle.naive_base.specs.Weekday.{weekday_number, weekday_of}
 pub use Rattle.naive_base.specs.declared.date.NaiveDate.{NaiveDate}

@@ -135,6 +135,7 @@ fn push_year(year: i32, text: &mut ShortText)
 }
 
 // A number in at least four digits.
+#[tactic(auto, using(crate::proofs::Digits::printed))]
 fn push_four(number: u32, text: &mut ShortText)
     requires number { number < 1_000_000 }
     requires room { length text.old + 6 ≤ 32 }
@@ -149,6 +150,7 @@ fn push_four(number: u32, text: &mut ShortText)
 }
 
 // A number in one digit or two.
+#[tactic(auto, using(crate::proofs::Digits::printed))]
 fn push_short(number: u32, text: &mut ShortText)
     requires number { number < 100 }
     requires room { length text.old + 2 ≤ 32 }
@@ -193,6 +195,7 @@ fn push_clock(hour: u32, minute: u32, second: u32, text: &mut ShortText)
 }
 
 // Nothing for 0, else 3, 6 or 9 digits.
+#[tactic(auto, using(crate::proofs::Digits::printed))]
 fn push_fraction(nanos: u32, text: &mut ShortText)
     requires fraction { nanos < 1_000_000_000 }
     requires room { length text.old + 10 ≤ 32 }

@@ -3,7 +3,7 @@ use Rattle.offset_core.specs.{Around.{AreAlikeAround, HoldsOfEachAround, IsAroun
 use Rattle.offset_core.specs.{declared.around.Around.{Around}, declared.around.Taken.TheVariants.{InGap, Shown}, declared.choice.Choice.{Choice}}
 use Rattle.offset_core.specs.{declared.around.Around.TheVariants.{Ambiguous, Gap, Single}, declared.choice.FoldChoice.{FoldChoice}}
 use Rattle.offset_core.specs.{declared.choice.GapChoice.{GapChoice}, declared.resolve_error.ResolveError.{ResolveError}}
-use Rattle.offset_core.proofs.Words.{Err, IsNeverShown, MatchResult, Ok, Result, ap, refl, subst, sym, ℤ, ⊤, ◌↔◌, ◌∙◌, ◌≡◌}
+use Rattle.offset_core.proofs.Words.{Err, IsNeverShown, MatchResult, Ok, Result, ap, subst, sym, arith, ℤ, ⊤, ◌↔◌, ◌∙◌, ◌≡◌}
 use Rattle.offset_core.proofs.WallAnswers.{HasOneValue, one_wall_answer}
 use Rattle.offset_core.specs.declared.choice.FoldChoice.TheVariants as folds
 use Rattle.offset_core.specs.declared.choice.GapChoice.TheVariants as gaps
@@ -87,19 +87,8 @@ taken_right {T} shows skips choice t takes =
     subst (λ r. MatchResult r (HoldsOfTaken P skips) (λ _. ⊤)) takes.taken (taken_holds P skips choice takes.around (each_shown shows skips takes.around takes.right))
 
 -- nothing is taken for another reason than a gap or a fold
-fold_in_range : {T : Type 0} (G : Type 0) (c : FoldChoice) (a b : T) → taken_in_fold {T = T} {G = G} c a b ≡ Err reasons.OutOfRange → ⊥
-fold_in_range G folds.Refuse a b e = cc
-fold_in_range G folds.Earliest a b e = cc
-fold_in_range G folds.Latest a b e = cc
-
-gap_in_range : {G : Type 0} (T : Type 0) (c : GapChoice) (g : G) → taken_in_gap {T = T} {G = G} c g ≡ Err reasons.OutOfRange → ⊥
-gap_in_range T gaps.Refuse g e = cc
-gap_in_range T gaps.ShiftForward g e = cc
-
 pub taken_in_range : {T G : Type 0} (choice : Choice) (a : Around T G) → taken_of choice a ≡ Err reasons.OutOfRange → ⊥
-taken_in_range choice (Single a) e = cc
-taken_in_range {T} {G} choice (Ambiguous a b) e = fold_in_range G choice.fold a b e
-taken_in_range {T} {G} choice (Gap g) e = gap_in_range T choice.gap g e
+taken_in_range choice a e = grind arith
 
 -- each value replaced by its image
 abbrev pub map_around : {T G U H : Type 0} → (T → U) → (G → H) → Around T G → Around U H
@@ -115,17 +104,6 @@ abbrev pub map_outcome : {T G U H : Type 0} → (T → U) → (G → H) → Resu
 map_outcome f g (Ok taken) = Ok (map_taken f g taken)
 map_outcome f g (Err e) = Err e
 
-fold_of_images : {T G U H : Type 0} (f : T → U) (g : G → H) (c : FoldChoice) (a b : T) → taken_in_fold c (f a) (f b) ≡ map_outcome f g (taken_in_fold c a b)
-fold_of_images f g folds.Refuse a b = refl
-fold_of_images f g folds.Earliest a b = refl
-fold_of_images f g folds.Latest a b = refl
-
-gap_of_image : {T G U H : Type 0} (f : T → U) (g : G → H) (c : GapChoice) (gap : G) → taken_in_gap c (g gap) ≡ map_outcome f g (taken_in_gap c gap)
-gap_of_image f g gaps.Refuse gap = refl
-gap_of_image f g gaps.ShiftForward gap = refl
-
 pub taken_of_images : {T G U H : Type 0} (f : T → U) (g : G → H) (choice : Choice) (a : Around T G)
     → taken_of choice (map_around f g a) ≡ map_outcome f g (taken_of choice a)
-taken_of_images f g choice (Single a) = refl
-taken_of_images f g choice (Ambiguous a b) = fold_of_images f g choice.fold a b
-taken_of_images f g choice (Gap gap) = gap_of_image f g choice.gap gap
+taken_of_images f g choice a = grind arith

@@ -1,23 +1,18 @@
 -- Lemmas for the crates above.
-use Rattle.std.proofs.Common.{◌≡◌, refl, Option, Some, None}
+use Rattle.std.proofs.Common.{◌≡◌, arith, refl, Option}
 use Rattle.std.specs.Prelude.{SomeIff, option_map}
 use Rattle.offset_core.specs.declared.local_result.LocalResult.{LocalResult}
 use Rattle.offset_core.specs.declared.local_result.LocalResult.TheVariants.{Single, Ambiguous, None as none}
 use Rattle.offset_core.specs.LocalResult.{map_of, all_or_none, IsAndThen}
 pub use Rattle.offset_core.proofs.Arounds.{HoldsOfTaken, map_around, map_outcome, map_taken, one_around, one_outcome, taken_holds, taken_in_range, taken_of_images, taken_right}
-pub use Rattle.offset_core.proofs.Digits.{split_left, split_right, length-in_digits, in_digits_once, two_digits, in_digits-two_more, in_digits-three_more}
 pub use Rattle.offset_core.proofs.FixedOffsets.{one_offset}
+pub use Rattle.offset_core.proofs.Printed.{clock_of, pair_at}
 pub use Rattle.offset_core.proofs.WallAnswers.{HasOneValue, IsWallAnswer-map_of, one_wall_answer}
 
 -- the values that are there, shown, are the shown ones that are there
 pub map_all : {D Z : Type 0} (show : D → Z) (x : LocalResult (Option D))
     → map_of show (all_or_none x) ≡ all_or_none (map_of (option_map show) x)
-map_all show none = refl
-map_all show (Single (Some d)) = refl
-map_all show (Single None) = refl
-map_all show (Ambiguous (Some d) (Some e)) = refl
-map_all show (Ambiguous (Some d) None) = refl
-map_all show (Ambiguous None b) = refl
+map_all show x = grind arith
 
 -- what a closure gave for each value, where each of its calls keeps K, and gives v if and only if p holds
 pub and_then_told : {F O D Z : Type 0} (show : D → Z) (p : O → Type 0) (v : O → Z) (step : F → O → Option D → F → Type 0)

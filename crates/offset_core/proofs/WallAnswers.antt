@@ -1,6 +1,6 @@
 -- Laws of the wall clock's answer, whatever the relation is.
 use Rattle.offset_core.specs.declared.local_result.LocalResult.TheVariants.{Ambiguous, None, Single}
-use Rattle.offset_core.proofs.Words.{IsNeverShown, IsShownBetween, IsShownOnce, IsWallAnswer, LocalResult, ap, arith, ints, map_of, subst, ℤ, ◌≡◌, ◌≤ℤ◌}
+use Rattle.offset_core.proofs.Words.{IsNeverShown, IsShownBetween, IsShownOnce, IsWallAnswer, LocalResult, ap, arith, ints, map_of, ℤ, ◌≡◌}
 
 -- a second has at most one value
 abbrev pub HasOneValue : {T : Type 0} → (ℤ → T → Type 0) → Type 0
@@ -21,29 +21,21 @@ once_or_between shows c a b once between =
     let last : between.last ≡ once.second = once.only between.last b between.at_last in
     omega (arith, ints, between.several)
 
-at_same_second : {T : Type 0} (shows : ℤ → T → Type 0) (u v : ℤ) (a b : T)
-    → HasOneValue shows → u ≡ v → shows u a → shows v b → a ≡ b
-at_same_second {T} shows u v a b value e at_u at_v =
-    let ShowsAt : ℤ → Type 0 = λ w. shows w a in value v a b (subst ShowsAt e at_u) at_v
-
 one_single : {T : Type 0} (shows : ℤ → T → Type 0) (a b : T)
     → HasOneValue shows → IsShownOnce shows a → IsShownOnce shows b → a ≡ b
-one_single shows a b value x y =
-    at_same_second shows x.second y.second a b value (y.only x.second a x.shown) x.shown y.shown
+one_single shows a b value x y = value y.second a b (rw (y.only x.second a x.shown) at x.shown) y.shown
 
 one_first : {T : Type 0} (shows : ℤ → T → Type 0) (a b c d : T)
     → HasOneValue shows → IsShownBetween shows a b → IsShownBetween shows c d → a ≡ c
 one_first shows a b c d value x y =
-    let low : x.first ≤ℤ y.first = x.not_before y.first c y.at_first in
-    let high : y.first ≤ℤ x.first = y.not_before x.first a x.at_first in
-    at_same_second shows x.first y.first a c value (omega (arith, ints)) x.at_first y.at_first
+    let low = x.not_before y.first c y.at_first in let high = y.not_before x.first a x.at_first in
+    let same : x.first ≡ y.first = omega (arith, ints) in value y.first a c (rw same at x.at_first) y.at_first
 
 one_last : {T : Type 0} (shows : ℤ → T → Type 0) (a b c d : T)
     → HasOneValue shows → IsShownBetween shows a b → IsShownBetween shows c d → b ≡ d
 one_last shows a b c d value x y =
-    let high : x.last ≤ℤ y.last = y.not_after x.last b x.at_last in
-    let low : y.last ≤ℤ x.last = x.not_after y.last d y.at_last in
-    at_same_second shows x.last y.last b d value (omega (arith, ints)) x.at_last y.at_last
+    let high = y.not_after x.last b x.at_last in let low = x.not_after y.last d y.at_last in
+    let same : x.last ≡ y.last = omega (arith, ints) in value y.last b d (rw same at x.at_last) y.at_last
 
 -- at most one answer is right
 pub one_wall_answer : {T : Type 0} (shows : ℤ → T → Type 0) → HasOneValue shows → (x y : LocalResult T)

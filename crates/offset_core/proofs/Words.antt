@@ -1,11 +1,11 @@
 -- The words that this crate's proofs cite, passed on from std, from the crates below and from specs/.
-pub use Rattle.std.proofs.Common.{Err, IsTrue, List, MatchResult, None, Ok, Option, Result, Some, [], ap, append_assoc, arith, inl, inr, length, length-append}
-pub use Rattle.std.proofs.Common.{neg_ℤ, pos, refl, rules, subst, suc, sym, take, unsigned_abs, zero, ℕ, ℤ, ◌%◌, ◌*ℤ◌, ◌++◌, ◌+ℤ◌, ◌+◌, ◌-◌, ◌/◌, ◌<ℤ◌, ◌<◌}
-pub use Rattle.std.proofs.Common.{◌^◌, ◌↔◌, ◌∙◌, ◌∷◌, ◌≡◌, ◌≤ℤ◌, ◌≤◌}
+pub use Rattle.std.proofs.Common.{Err, List, MatchResult, None, Ok, Option, Result, Some, [], ap, append_assoc, arith, length, length-append}
+pub use Rattle.std.proofs.Common.{neg_ℤ, pos, rules, subst, suc, sym, take, unsigned_abs, get_or, ℕ, ℤ, ◌*ℤ◌, ◌*◌, ◌++◌, ◌+ℤ◌, ◌+◌, ◌-◌, ◌<ℤ◌, ◌<◌}
+pub use Rattle.std.proofs.Common.{◌^◌, ◌↔◌, ◌∙◌, ◌∷◌, ◌≡◌, ◌≤◌}
 pub use Rattle.std.specs.Fmt.{decimal}
 pub use Rattle.std.proofs.lemmas.Fmt.{decimal_digit, decimal_step, length-decimal-le}
 pub use Rattle.std.proofs.Props.{props}
-pub use Rattle.std.proofs.lemmas.Int.{by_lt_z, ints}
+pub use Rattle.std.proofs.lemmas.Int.{ints}
 pub use Rattle.offset_core.specs.Nanoseconds.{AreParts, FitsTimeDelta, nanos_per_second}
 pub use Rattle.offset_core.specs.TimeDelta.{IsDeltaOf, nanos_of, sum_of}
 pub use Rattle.offset_core.specs.declared.local_result.LocalResult.{LocalResult}

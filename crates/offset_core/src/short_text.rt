@@ -50,6 +50,7 @@ impl ShortText {
     }
 
     /// Appends a number below 100 in two digits. Requires: there is room for them within 48 bytes.
+    #[tactic(auto, unfolding(crate::specs::Digits::in_digits))]
     pub fn push_two_digits(&mut self, number: u32)
         requires number { number < 100 }
         requires room { length self.old + 2 ≤ 48 }
@@ -62,6 +63,7 @@ impl ShortText {
 
     /// Appends a number below 1000 in three digits. Requires: there is room for them within 48
     /// bytes.
+    #[tactic(auto, unfolding(crate::specs::Digits::in_digits))]
     pub fn push_three_digits(&mut self, number: u32)
         requires number { number < 1_000 }
         requires room { length self.old + 3 ≤ 48 }
@@ -74,6 +76,7 @@ impl ShortText {
 
     /// Appends a number below 10,000 in four digits. Requires: there is room for them within 48
     /// bytes.
+    #[tactic(auto, unfolding(crate::specs::Digits::in_digits))]
     pub fn push_four_digits(&mut self, number: u32)
         requires number { number < 10_000 }
         requires room { length self.old + 4 ≤ 48 }

@@ -18,10 +18,8 @@ into_more (y ∷ new) x (r ∷ room) = ap (λ rest. y ∷ rest) (into_more new x
 -- and so is one more change
 pub more_written : (found : List Change) (d : Change) (room written : List WrittenChange) (count : ℕ) → count ≡ length found → written ≡ written_into (map written_change found) room → slice_set written count (written_change d) ≡ written_into (map written_change (found ++ (d ∷ []))) room
 more_written found d room written count counted was =
-    let as_many : count ≡ length (map written_change found) = counted ∙ sym (length-map found written_change) in
-    let more : slice_set (written_into (map written_change found) room) (length (map written_change found)) (written_change d) ≡ written_into (map written_change found ++ (written_change d ∷ [])) room = into_more (map written_change found) (written_change d) room in
-    let seam : map written_change found ++ (written_change d ∷ []) ≡ map written_change (found ++ (d ∷ [])) = sym (map-append written_change found (d ∷ [])) in
-    ap (λ w. slice_set w count (written_change d)) was ∙ ap (λ n. slice_set (written_into (map written_change found) room) n (written_change d)) as_many ∙ more ∙ ap (λ new. written_into new room) seam
+    rw (was, counted ∙ sym (length-map found written_change), map-append written_change found (d ∷ []))
+    (into_more (map written_change found) (written_change d) room)
 
 module _ (z : Zone) (from until : ℤ) (changes : List Change) (are : AreChanges (TypeAt z) from until changes) where
   -- the change at the place k has k seconds before it

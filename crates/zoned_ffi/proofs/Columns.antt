@@ -7,21 +7,14 @@ use Rattle.zoned_ffi.proofs.Words.{taken_instant, uncounted, w64, ℕ, ℤ, ◌*
 use Rattle.zoned_ffi.proofs.Resolving.{none_is, taken_once}
 use Rattle.zoned_ffi.specs.{declared.column.Way.TheVariants.{ToInstants, ToLocal}, declared.resolved.Taken.TheVariants.{BeforeGap, GapEnd, InForce}}
 use Rattle.tz_info.proofs.{ExtremeLaws.{at_least_least, at_most_greatest}, ForCallers.{type_once}}
-use Rattle.zoned_ffi.specs.declared.unit.Unit.TheVariants as units
 
 -- the second that an instant lies in, of one that comes with a second or behind it
 floor_low : (unit : Unit) (x u : ℤ) → (u *ℤ pos (per_second unit)) ≤ℤ x → u ≤ℤ floor_div x (per_second unit)
-floor_low units.Seconds x u h = omega (arith, ints, floors)
-floor_low units.Milliseconds x u h = omega (arith, ints, floors)
-floor_low units.Microseconds x u h = omega (arith, ints, floors)
-floor_low units.Nanoseconds x u h = omega (arith, ints, floors)
+floor_low unit x u h = grind (arith, ints, floors)
 
 -- of one that comes before a second
 floor_high : (unit : Unit) (x u : ℤ) → x <ℤ (u *ℤ pos (per_second unit)) → floor_div x (per_second unit) <ℤ u
-floor_high units.Seconds x u h = omega (arith, ints, floors)
-floor_high units.Milliseconds x u h = omega (arith, ints, floors)
-floor_high units.Microseconds x u h = omega (arith, ints, floors)
-floor_high units.Nanoseconds x u h = omega (arith, ints, floors)
+floor_high unit x u h = grind (arith, ints, floors)
 
 -- what a lookup found
 pub looked_up : (z : Zone) (unit : Unit) (x counts : ℤ) (t : LocalType) (r : Option ℤ) → TypeAt z (floor_div x (per_second unit)) t → counts ≡ t.offset *ℤ pos (per_second unit)
@@ -64,30 +57,17 @@ pub instants_kept : (z : Zone) (unit : Unit) (s : OffsetStretch) (from until add
     → LieWithin from until add k → IsKeptOf z unit ToLocal k
 instants_kept z unit s from until add k stretch a b d within = λ x low high.
     let at = within.each x low high in
-    let since = subst (λ (v : ℤ). v ≤ℤ x) a at.0 in
-    let before = subst (λ (v : ℤ). x <ℤ v) b at.1 in
-    let found = stretch (floor_div x (per_second unit)) (floor_low unit x s.from since) (floor_high unit x s.until before) in
+    let found = stretch (floor_div x (per_second unit)) (floor_low unit x s.from (rw a at at.0)) (floor_high unit x s.until (rw b at at.1)) in
     let counted = subst (λ (n : ℤ). IsCounted (x +ℤ n)) (sym within.same) at.3 in
-    let answered : IsLocal z unit x (x +ℤ k.add) = record {
-      type = found.0;
-      in_force = found.1;
-      sum = ap (λ (n : ℤ). x +ℤ n) (within.same ∙ (d ∙ ap (λ (o : ℤ). o *ℤ pos (per_second unit)) found.2));
-      counted = counted;
-    } in
-    (counted, at.2, answered)
+    let sum = ap (λ (n : ℤ). x +ℤ n) (within.same ∙ (d ∙ ap (λ (o : ℤ). o *ℤ pos (per_second unit)) found.2)) in
+    (counted, at.2, record { type = found.0; in_force = found.1; sum = sum; counted = counted })
 
 -- the second that a time lies in, by two parts of a bound
 floor_low_sum : (unit : Unit) (x a b : ℤ) → ((a *ℤ pos (per_second unit)) +ℤ (b *ℤ pos (per_second unit))) ≤ℤ x → (a +ℤ b) ≤ℤ floor_div x (per_second unit)
-floor_low_sum units.Seconds x a b h = omega (arith, ints, floors)
-floor_low_sum units.Milliseconds x a b h = omega (arith, ints, floors)
-floor_low_sum units.Microseconds x a b h = omega (arith, ints, floors)
-floor_low_sum units.Nanoseconds x a b h = omega (arith, ints, floors)
+floor_low_sum unit x a b h = grind (arith, ints, floors)
 
 floor_high_sum : (unit : Unit) (x a b : ℤ) → x <ℤ ((a *ℤ pos (per_second unit)) +ℤ (b *ℤ pos (per_second unit))) → floor_div x (per_second unit) <ℤ (a +ℤ b)
-floor_high_sum units.Seconds x a b h = omega (arith, ints, floors)
-floor_high_sum units.Milliseconds x a b h = omega (arith, ints, floors)
-floor_high_sum units.Microseconds x a b h = omega (arith, ints, floors)
-floor_high_sum units.Nanoseconds x a b h = omega (arith, ints, floors)
+floor_high_sum unit x a b h = grind (arith, ints, floors)
 
 less_is_minus : (x y : ℤ) → (x +ℤ neg_ℤ y) ≡ x -ℤ y
 less_is_minus x y = omega (arith, ints)
@@ -135,12 +115,8 @@ local_times_kept z unit choice s low high p q r t f e from until add k stretch f
     let counted = subst (λ (n : ℤ). IsCounted (x +ℤ n)) (sym within.same) at.3 in
     let less = less_is_minus x (s.offset *ℤ pos (per_second unit)) in
     let instant = ap (λ (n : ℤ). x +ℤ n) (within.same ∙ ea) ∙ (less ∙ ap (λ (o : ℤ). x -ℤ (o *ℤ pos (per_second unit))) found.2) in
-    let answered : IsInstantOf z unit choice x (x +ℤ k.add) = record {
-      in_range = (first, omega (arith, ints, end));
-      taken = IsInstantTaken.by_offset found.0 (taken_once z local choice found.0 found.1) instant;
-      counted = counted;
-    } in
-    (counted, at.2, answered)
+    let taken = IsInstantTaken.by_offset found.0 (taken_once z local choice found.0 found.1) instant in
+    (counted, at.2, record { in_range = (first, omega (arith, ints, end)); taken = taken; counted = counted })
 
 -- the instant by what is taken
 taken_gives : (z : Zone) (unit : Unit) (choice : Choice) (local : ℤ) (taken : Taken) → IsTakenAs z (second_holding unit local) choice taken → IsInstantTaken z unit choice local (taken_instant unit local taken)

@@ -6,25 +6,18 @@ use Rattle.zoned_ffi.proofs.Words.{ap, arith, floor_div, floors, ints, pos, sym,
 use Rattle.zoned_ffi.specs.{Fields.{AreFieldsOf, day_of_fields, local_of_fields}, declared.fields.Fields.{Fields}}
 use Rattle.std.proofs.Common.{◌/◌, ◌%◌}
 
--- a second lies in its day, at its time of day
-parts : (local : ℤ) → (local ≡ (pos 86_400 *ℤ floor_div local 86_400) +ℤ pos (floor_mod local 86_400)) × (floor_mod local 86_400 < 86_400)
-parts local = (omega (arith, ints, floors), omega (arith, ints, floors))
-
 pub fields_are : (local : ℤ) (day : ℤ) (time : ℕ) (f : Fields) → day ≡ floor_div local 86_400 → time ≡ floor_mod local 86_400
     → IsDate f.year f.month f.day → day_number f.year f.month f.day ≡ day → f.year ≡ year_of day
     → f.hour ≡ time / 3600 → f.minute ≡ time / 60 % 60 → f.second ≡ time % 60
     → f.weekday ≡ weekday_of day → f.day_of_year ≡ day_of_year day + 1 → AreFieldsOf local f
 fields_are local day time f day_is time_is date number year h m s w y =
-    let of_local = parts local in
-    let below : time < 86_400 = omega (arith, time_is, of_local.1) in
+    let part : floor_mod local 86_400 < 86_400 = omega (arith, ints, floors) in let below : time < 86_400 = omega (arith, time_is, part) in
     let clock : clock_second f.hour f.minute f.second ≡ time = omega (arith, h, m, s) in
-    let whole : (pos 86_400 *ℤ day) +ℤ pos time ≡ local =
-    ap (λ (d : ℤ). (pos 86_400 *ℤ d) +ℤ pos time) day_is ∙ (ap (λ (t : ℕ). (pos 86_400 *ℤ floor_div local 86_400) +ℤ pos t) time_is ∙ sym of_local.0) in
     let own = (day_of_year_is day).0 in
     let start = ap year_start year in
     record {
       date_time = record { date = date; time = (omega (arith, h, below), omega (arith, m), omega (arith, s)) };
-      names = ap (λ (d : ℤ). (pos 86_400 *ℤ d) +ℤ pos (clock_second f.hour f.minute f.second)) number ∙ (ap (λ (t : ℕ). (pos 86_400 *ℤ day) +ℤ pos t) clock ∙ whole);
+      names = omega (arith, ints, floors, day_is, time_is, number, clock);
       weekday = w ∙ ap weekday_of (sym number);
       day_of_year = omega (arith, ints, own, start, number, y);
     }
@@ -32,6 +25,4 @@ fields_are local day time f day_is time_is date number year h m s w y =
 -- the sum of the seconds of the whole days and of those of the time of day
 pub local_is : (f : Fields) (day time sum : ℤ) → day ≡ day_of_fields f → time ≡ pos (clock_second f.hour f.minute f.second)
     → sum ≡ (day *ℤ pos 86_400) +ℤ time → sum ≡ local_of_fields f
-local_is f day time sum day_is time_is sum_is =
-    let same : sum ≡ (pos 86_400 *ℤ day) +ℤ time = omega (arith, ints, sum_is) in
-    same ∙ (ap (λ (d : ℤ). (pos 86_400 *ℤ d) +ℤ time) day_is ∙ ap (λ (t : ℤ). (pos 86_400 *ℤ day_of_fields f) +ℤ t) time_is)
+local_is f day time sum day_is time_is sum_is = omega (arith, ints, day_is, time_is, sum_is)

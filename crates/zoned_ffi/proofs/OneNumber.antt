@@ -28,16 +28,13 @@ extended_alike bytes m n (Without_memory _ _) g = inr (inl refl)
 extended_alike bytes m n (In_string _ _) (Without_memory _ _) = inr (inr refl)
 extended_alike bytes m n (In_string d f) (In_string e g) = inl (ap error_number (string_fault_once true bytes d e f g))
 
-fault_alike : (j k : Kind) (bytes : List ℕ) (m n : ℕ) → kind_number j ≡ kind_number k → IsFault j bytes m → IsFault k bytes n → Alike m n
-fault_alike kinds.File kinds.File bytes m n same f g = file_alike bytes m n f g
-fault_alike kinds.File kinds.Text bytes m n same f g = absurd (omega (arith, same))
-fault_alike kinds.File kinds.ExtendedText bytes m n same f g = absurd (omega (arith, same))
-fault_alike kinds.Text kinds.File bytes m n same f g = absurd (omega (arith, same))
-fault_alike kinds.Text kinds.Text bytes m n same f g = text_alike bytes m n f g
-fault_alike kinds.Text kinds.ExtendedText bytes m n same f g = absurd (omega (arith, same))
-fault_alike kinds.ExtendedText kinds.File bytes m n same f g = absurd (omega (arith, same))
-fault_alike kinds.ExtendedText kinds.Text bytes m n same f g = absurd (omega (arith, same))
-fault_alike kinds.ExtendedText kinds.ExtendedText bytes m n same f g = extended_alike bytes m n f g
+fault_alike : (k : Kind) (bytes : List ℕ) (m n : ℕ) → IsFault k bytes m → IsFault k bytes n → Alike m n
+fault_alike kinds.File bytes m n f g = file_alike bytes m n f g
+fault_alike kinds.Text bytes m n f g = text_alike bytes m n f g
+fault_alike kinds.ExtendedText bytes m n f g = extended_alike bytes m n f g
+
+one_kind : (j k : Kind) → kind_number j ≡ kind_number k → j ≡ k
+one_kind j k same = grind arith
 
 pub one_number : (kind : ℕ) (bytes : List ℕ) (wanted room m n : ℕ) → IsErrorOfKind kind bytes wanted room m → IsErrorOfKind kind bytes wanted room n → Alike m n
 one_number kind bytes wanted room m n (Unknown_kind _) (Unknown_kind _) = inl refl
@@ -48,4 +45,4 @@ one_number kind bytes wanted room m n (Other_size _ _) (Other_size _ _) = inl re
 one_number kind bytes wanted room m n (Other_size _ differ) (Not_read _ _ _ same _ _) = absurd (differ same)
 one_number kind bytes wanted room m n (Not_read k _ is _ _ _) (Unknown_kind none) = absurd (none (k, is))
 one_number kind bytes wanted room m n (Not_read _ _ _ same _ _) (Other_size _ differ) = absurd (differ same)
-one_number kind bytes wanted room m n (Not_read j p is _ f _) (Not_read k q of _ g _) = fault_alike j k bytes p q (sym is ∙ of) f g
+one_number kind bytes wanted room m n (Not_read j p is _ f _) (Not_read k q of _ g _) = fault_alike k bytes p q (rw (one_kind j k (sym is ∙ of)) at f) g

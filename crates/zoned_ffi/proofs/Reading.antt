@@ -23,23 +23,7 @@ extended_refused bytes e fault memory = elim fault [
 ]
 
 pub reader_number : (e : Error) → IsReaderNumber (error_number e)
-reader_number (errors.DateTime _) = (omega arith, omega arith)
-reader_number (errors.FindLocalTimeType _) = (omega arith, omega arith)
-reader_number (errors.LocalTimeType _) = (omega arith, omega arith)
-reader_number (errors.InvalidSlice _) = (omega arith, omega arith)
-reader_number (errors.InvalidTzFile _) = (omega arith, omega arith)
-reader_number (errors.InvalidTzString _) = (omega arith, omega arith)
-reader_number (errors.UnexpectedEnd _) = (omega arith, omega arith)
-reader_number (errors.MissingTag _) = (omega arith, omega arith)
-reader_number (errors.OutOfRange _) = (omega arith, omega arith)
-reader_number (errors.ParseInt _) = (omega arith, omega arith)
-reader_number (errors.ProjectDateTime _) = (omega arith, omega arith)
-reader_number (errors.TimeZone _) = (omega arith, omega arith)
-reader_number (errors.TransitionRule _) = (omega arith, omega arith)
-reader_number (errors.UnsupportedTzFile _) = (omega arith, omega arith)
-reader_number (errors.UnsupportedTzString _) = (omega arith, omega arith)
-reader_number (errors.Utf8 _) = (omega arith, omega arith)
-reader_number errors.OutOfMemory = (omega arith, omega arith)
+reader_number e = grind arith
 
 -- answers that don't fit are wanted in another count than there is room for
 pub not_fitting : (fits : Bool) (wanted room : ℕ) → IsFalse fits → IsTrue fits ↔ wanted ≡ room → wanted ≢ room

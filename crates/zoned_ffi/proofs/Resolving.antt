@@ -1,10 +1,11 @@
 -- What a choice takes, told by instants.
 use Rattle.offset_core.specs.{ResolveNumbers.{resolve_error_number}, declared.around.Around.{Around}, declared.around.Taken.{Taken as Found}}
-use Rattle.offset_core.specs.{declared.around.Around.TheVariants.{Ambiguous, Gap, Single}, declared.resolve_error.ResolveError.{ResolveError}}
+use Rattle.offset_core.specs.{declared.around.Around.TheVariants.{Single}, declared.resolve_error.ResolveError.{ResolveError}}
 use Rattle.tz_base.specs.declared.change.Change.{Change}
 use Rattle.tz_info.specs.Around.{AreTypesAround}
 use Rattle.zoned_ffi.proofs.Words.{Choice, IsFirstAtOrAfter, IsTakenGapEnd, IsNoneTaken, IsInRange, IsWrittenOffsetAt, IsReachedAt, IsResolvedAt, IsShownOnce}
-use Rattle.zoned_ffi.proofs.Words.{IsResolvedStamp, IsTakenType, IsTakenAs, IsUtOffset, LocalType, Resolved, Shows, TypeAt, Zone, ap, inl, inr, subst, sym, ℤ}
+use Rattle.zoned_ffi.proofs.Words.{arith, IsResolvedStamp, IsTakenType, IsTakenAs, IsUtOffset, LocalType, Resolved, Shows, TypeAt, Zone, ap, inl, inr, subst}
+use Rattle.zoned_ffi.proofs.Words.{sym, ℤ}
 use Rattle.zoned_ffi.proofs.Words.{+ℤ-neg_ℤ_cancel, ◌-ℤ◌, ◌∙◌, Err, Result, TakesOf, policy_of, refl, taken_in_range, taken_of, ℕ, ◌≡◌, ◌⊎◌}
 use Rattle.zoned_ffi.specs.declared.resolved.Taken.TheVariants.{InForce}
 use Rattle.offset_core.specs.declared.choice.Choice as any_choice
@@ -53,19 +54,13 @@ taken_once z local choice t once = IsTakenType.shown (record { around = Single t
 -- why nothing is taken, in numbers
 number_is : (choice : any_choice.Choice) (a : Around LocalType Change) (e : ResolveError) → taken_of choice a ≡ Err e
     → (resolve_error_number e ≡ 21) ⊎ (resolve_error_number e ≡ 22)
-number_is choice a reasons.Gap refused = inl refl
-number_is choice a reasons.Fold refused = inr refl
-number_is choice a reasons.OutOfRange refused = absurd (taken_in_range choice a refused)
+number_is choice a e refused = grind (arith, taken_in_range choice a)
 
 pub none_is : (z : Zone) (local : ℤ) (choice : Choice) (n : ℕ) → IsNoneTaken z local choice n → (n ≡ 21) ⊎ (n ≡ 22)
 none_is z local choice n (e, takes, is) = rw is (number_is (policy_of choice) takes.around e takes.taken)
 
 pub gap_is : (a : Around LocalType Change) (e : ResolveError) → taken_of (record { gap = gaps.Refuse; fold = folds.Latest }) a ≡ Err e → e ≡ reasons.Gap
-gap_is (Single a) e h = cc
-gap_is (Ambiguous a b) e h = cc
-gap_is (Gap g) e h = cc
+gap_is a e h = grind arith
 
 pub fold_is : (a : Around LocalType Change) (e : ResolveError) → taken_of (record { gap = gaps.ShiftForward; fold = folds.Refuse }) a ≡ Err e → e ≡ reasons.Fold
-fold_is (Single a) e h = cc
-fold_is (Ambiguous a b) e h = cc
-fold_is (Gap g) e h = cc
+fold_is a e h = grind arith

@@ -1,6 +1,6 @@
 -- Slices that are written one place after the other.
 use Rattle.zoned_ffi.proofs.Words.{AllZip, IsTripleAt, IsWallClockAt, List, WallClock, Zone, arith, cases_lt, get_or, get_or-set_other, get_or-set_same, inl}
-use Rattle.zoned_ffi.proofs.Words.{inr, length, length-set, pos, slice_set, subst, suc, take, zero, ℕ, ℤ, [], ◌*◌, ◌+◌, ◌<◌, ◌∙◌, ◌∷◌, ◌≡◌}
+use Rattle.zoned_ffi.proofs.Words.{inr, length, length-set, pos, slice_set, subst, suc, take, zero, ℕ, ℤ, [], ◌*◌, ◌+◌, ◌<◌, ◌∷◌, ◌≡◌}
 
 zip_step : {A B : Type 0} (R : A → B → Type 0) (xs : List A) (ys : List B) (i : ℕ) (d : A) (y : B) → length ys ≡ length xs → i < length xs → AllZip R (take i xs) (take i ys) → R (get_or xs i d) y → AllZip R (take (suc i) xs) (take (suc i) (slice_set ys i y))
 zip_step R [] ys i d y as_many within before this = absurd (omega (arith, within))
@@ -22,37 +22,19 @@ with_triple numbers p a b c = slice_set (slice_set (slice_set numbers p a) (p + 
 pub triple_length : (numbers : List ℤ) (p : ℕ) (a b c : ℤ) → length (with_triple numbers p a b c) ≡ length numbers
 triple_length numbers p a b c = simp length-set
 
--- a place before them is as it was
-kept : (numbers : List ℤ) (p k : ℕ) (a b c : ℤ) → k < p → get_or (with_triple numbers p a b c) k (pos 0) ≡ get_or numbers k (pos 0)
-kept numbers p k a b c before =
-    get_or-set_other (slice_set (slice_set numbers p a) (p + 1) b) (p + 2) k c (pos 0) (λ e. omega (arith, e))
-    ∙ get_or-set_other (slice_set numbers p a) (p + 1) k b (pos 0) (λ e. omega (arith, e))
-    ∙ get_or-set_other numbers p k a (pos 0) (λ e. omega (arith, e))
-
-first_of : (numbers : List ℤ) (p : ℕ) (a b c : ℤ) → p + 2 < length numbers → get_or (with_triple numbers p a b c) p (pos 0) ≡ a
-first_of numbers p a b c within =
-    get_or-set_other (slice_set (slice_set numbers p a) (p + 1) b) (p + 2) p c (pos 0) (λ e. omega (arith, e))
-    ∙ get_or-set_other (slice_set numbers p a) (p + 1) p b (pos 0) (λ e. omega (arith, e))
-    ∙ get_or-set_same numbers p a (pos 0) (omega arith)
-
-second_of : (numbers : List ℤ) (p : ℕ) (a b c : ℤ) → p + 2 < length numbers → get_or (with_triple numbers p a b c) (p + 1) (pos 0) ≡ b
-second_of numbers p a b c within =
-    get_or-set_other (slice_set (slice_set numbers p a) (p + 1) b) (p + 2) (p + 1) c (pos 0) (λ e. omega (arith, e))
-    ∙ get_or-set_same (slice_set numbers p a) (p + 1) b (pos 0) (omega (arith, length-set numbers p a))
-
-third_of : (numbers : List ℤ) (p : ℕ) (a b c : ℤ) → p + 2 < length numbers → get_or (with_triple numbers p a b c) (p + 2) (pos 0) ≡ c
-third_of numbers p a b c within =
-    get_or-set_same (slice_set (slice_set numbers p a) (p + 1) b) (p + 2) c (pos 0) (omega (arith, length-set numbers p a, length-set (slice_set numbers p a) (p + 1) b))
-
 -- the three numbers of the local time at the place i are written after those before it
 pub triple_more : (z : Zone) (locals numbers : List ℤ) (i : ℕ) (w : WallClock) → length numbers ≡ 3 * length locals → i < length locals → ((k : ℕ) → k < i → IsTripleAt z (get_or locals k (pos 0)) numbers (3 * k)) → IsWallClockAt z (get_or locals i (pos 0)) w → (k : ℕ) → k < i + 1 → IsTripleAt z (get_or locals k (pos 0)) (with_triple numbers (3 * i) w.shown w.first_offset w.last_offset) (3 * k)
 triple_more z locals numbers i w as_many within before this k place = elim (cases_lt k i) [
   | inl earlier ↦
-      let was = before k earlier in let a = w.shown in let b = w.first_offset in let c = w.last_offset in
-      (was.0, was.1, kept numbers (3 * i) (3 * k) a b c (omega arith) ∙ was.2, kept numbers (3 * i) (3 * k + 1) a b c (omega arith) ∙ was.3, kept numbers (3 * i) (3 * k + 2) a b c (omega arith) ∙ was.4)
+      let was = before k earlier in
+      (was.0, was.1, grind (arith, get_or-set_other, was.2), grind (arith, get_or-set_other, was.3), grind (arith, get_or-set_other, was.4))
   | inr later ↦
       let same : i ≡ k = omega arith in
-      let room : 3 * i + 2 < length numbers = omega arith in
-      subst (λ n. IsTripleAt z (get_or locals n (pos 0)) (with_triple numbers (3 * i) w.shown w.first_offset w.last_offset) (3 * n)) same
-      (w, this, first_of numbers (3 * i) _ _ _ room, second_of numbers (3 * i) _ _ _ room, third_of numbers (3 * i) _ _ _ room)
+      subst (λ n. IsTripleAt z (get_or locals n (pos 0)) (with_triple numbers (3 * i) w.shown w.first_offset w.last_offset) (3 * n)) same (
+        w,
+        this,
+        grind (arith, get_or-set_other, get_or-set_same, length-set),
+        grind (arith, get_or-set_other, get_or-set_same, length-set),
+        grind (arith, get_or-set_same, length-set),
+      )
 ]

@@ -28,7 +28,8 @@ pub use types.Kit.{Step, assume, at_ret, await, by, done, feq_i, feq_l, fjoin, f
 pub use types.{Kit.{qed, raw, rewrite, some, split, split3, step, suffices, updating, use0, use1, use2, !, ‵, ◌$◌, ◌∵◌, ◌⊛◌}, Logic.{Logic, sem}, Match.{live}}
 pub use types.{Part.{agg, look_in, sub, whole}, Run.{addr, and_then, bin, blocks, branches, enter, exec, first, fld, lit, load, no_more, of_opd, returns}}
 pub use types.{Run.{returns_within, skips, stop}, Tokens.{bor_fracture, bor_open, obor_alter}}
-pub use Rattle.offset_core.{proofs.ForCallers.{taken_in_range, taken_right}, specs.{Around.{taken_of}, declared.local_result.LocalResult.{LocalResult}}}
+pub use Rattle.offset_core.proofs.ForCallers.{IsWallAnswer-map_of, taken_in_range, taken_right}
+pub use Rattle.offset_core.specs.{Around.{taken_of}, declared.local_result.LocalResult.{LocalResult}}
 pub use Rattle.offset_core.specs.WallAnswer.{IsShownOnce}
 pub use Rattle.naive_base.{proofs.Words.{IsInRange}, specs.Range.{first_second}}
 pub use Rattle.tz_base.specs.declared.{change.Change.{Change}, error.Error.{Error}}

@@ -12,20 +12,14 @@ IsTold true s u = IsAfter s u
 IsTold false s u = IsUpTo s u
 
 told : (w : Bool) (s u : ℤ) → IsInRange s → IsTold w s u → IsAhead w s u × IsInRange (u -ℤ pos 1) × IsInRange u
-told true s u here (a, b) = (a, (omega (arith, ints, here, a), omega (arith, ints, b)), (omega (arith, ints, here, a), b))
-told false s u here (a, b) = (b, (omega (arith, ints, a), omega (arith, ints, here, b)), (omega (arith, ints, a), omega (arith, ints, here, b)))
+told w s u here h = grind (arith, ints)
 
 is_told : (w : Bool) (s u : ℤ) → IsAhead w s u → IsInRange (u -ℤ pos 1) → IsInRange u → IsTold w s u
-is_told true s u a before at = (a, at.1)
-is_told false s u a before at = (omega (arith, ints, before), a)
+is_told w s u a before at = grind (arith, ints)
 
 -- what comes before a change in range is in range
 sooner : (w : Bool) (s c d : ℤ) → IsInRange s → IsAhead w s c → Precedes w c d → IsInRange (d -ℤ pos 1) → IsInRange d → IsInRange (c -ℤ pos 1) × IsInRange c
-sooner true s c d here a p before at = ((omega (arith, ints, here, a), omega (arith, ints, p, at)), (omega (arith, ints, here, a), omega (arith, ints, p, at)))
-sooner false s c d here a p before at = (
-  (omega (arith, ints, p, before), omega (arith, ints, here, a)),
-  (omega (arith, ints, p, at), omega (arith, ints, here, a)),
-)
+sooner w s c d here a p before at = grind (arith, ints)
 
 pub none_told : (w : Bool) (in_force : ℤ → LocalType → Type 0) (s : ℤ) → IsInRange s → HasNoChange in_force (IsAhead w s) → HasNoChange in_force (IsTold w s)
 none_told w in_force s here none = λ d is k. none d is (told w s d.at here k).0
@@ -69,12 +63,10 @@ alike z off has s u here there stand =
     }
 
 between : (w : Bool) (s u v : ℤ) → IsInRange s → IsInRange u → IsBetween w s u v → IsTold w s v
-between true s u v here there (a, b) = (a, omega (arith, ints, there, b))
-between false s u v here there (a, b) = (omega (arith, ints, there, a), b)
+between w s u v here there h = grind (arith, ints)
 
 not_beyond : (w : Bool) (s u c d : ℤ) → IsAhead w u c → Precedes w c d → IsBetween w s u d → ⊥
-not_beyond true s u c d a p (k, l) = omega (arith, ints, a, p, l)
-not_beyond false s u c d a p (k, l) = omega (arith, ints, a, p, k)
+not_beyond w s u c d a p h = grind (arith, ints)
 
 none_between : {T : Type 0} (w : Bool) (change : T → Change) (in_force : ℤ → LocalType → Type 0) (s u : ℤ) (found : Option T) → IsInRange s → IsInRange u
     → IsNearest w in_force (IsTold w s) (option_map change found) → IfSome found (λ c. IsAhead w u (change c).at) → HasNoChange in_force (IsBetween w s u)

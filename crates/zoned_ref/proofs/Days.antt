@@ -1,24 +1,22 @@
 -- When clocks show certain local times: by the types in force as by their offsets.
 use Rattle.zoned_ref.proofs.Words.{AreEndsOfDay, AreEndsWithin, AreOffsetsOf, HasReached, IsFirstAtOrAfter, IsFirstToReach, IsNarrow, IsNeverOnDay}
 use Rattle.zoned_ref.proofs.Words.{IsNeverWithin, IsOnDay, IsWide, IsWideDay, IsZoneSecond, LocalType, ShownSeconds, ShowsAtOrAfter, ShowsWithin, TypeAt, Zone}
-use Rattle.zoned_ref.proofs.Words.{ap, arith, ints, pos, type_once, ℤ, ◌*ℤ◌, ◌+ℤ◌, ◌<ℤ◌, ◌∙◌, ◌≡◌, ◌≤ℤ◌}
+use Rattle.zoned_ref.proofs.Words.{ap, arith, ints, pos, type_once, ℤ, ◌*ℤ◌, ◌+ℤ◌, ◌∙◌, ◌≡◌}
 use Rattle.zoned_ref.proofs.Offsets.{type_within}
 
 abbrev OnDayByType : Zone → ℤ → ℤ → LocalType → Type 0
 OnDayByType z day u t = ShowsWithin (TypeAt z) (pos 86_400 *ℤ day) (pos 86_400 *ℤ day +ℤ pos 86_400) u t
 
 -- the offset is that of the type in force
-same_offset : (z : Zone) (off : ℤ → ℤ) (u : ℤ) (t : LocalType) → AreOffsetsOf z off → IsZoneSecond u → TypeAt z u t → off u ≡ t.offset
+pub same_offset : (z : Zone) (off : ℤ → ℤ) (u : ℤ) (t : LocalType) → AreOffsetsOf z off → IsZoneSecond u → TypeAt z u t → off u ≡ t.offset
 same_offset z off u t of_zone inside in_force =
     let there = of_zone u inside in there.offset ∙ ap (λ (y : LocalType). y.offset) (type_once z u there.type t there.in_force in_force)
 
 -- ---- days
 on_day_by_type : (z : Zone) (off : ℤ → ℤ) (day u : ℤ) → AreOffsetsOf z off → IsOnDay off day u → (t : LocalType) × OnDayByType z day u t
 on_day_by_type z off day u of_zone h =
-    let there = of_zone u h.in_zone in let inside = h.in_zone in
-    let since : (pos 86_400 *ℤ day) ≤ℤ (u +ℤ there.type.offset) = rw (← there.offset) h.since in
-    let before : (u +ℤ there.type.offset) <ℤ (pos 86_400 *ℤ day +ℤ pos 86_400) = rw (← there.offset) h.before in
-    (there.type, record { fits = omega (arith, ints, inside); type = there.in_force; since = since; before = before })
+    let there = of_zone u h.in_zone in let same = there.offset in let inside = h.in_zone in
+    (there.type, record { fits = omega (arith, ints, inside); type = there.in_force; since = omega (arith, ints); before = omega (arith, ints) })
 
 on_day_by_offset : (z : Zone) (off : ℤ → ℤ) (day u : ℤ) (t : LocalType) → IsNarrow z → AreOffsetsOf z off → IsWideDay day → OnDayByType z day u t → IsOnDay off day u
 on_day_by_offset z off day u t narrow of_zone wide h =
@@ -41,9 +39,8 @@ ends_of_day z off day s narrow of_zone wide h = record {
 -- ---- the first second at or after a local time
 reached_by_type : (z : Zone) (off : ℤ → ℤ) (l u : ℤ) → AreOffsetsOf z off → HasReached off l u → (t : LocalType) × ShowsAtOrAfter (TypeAt z) l u t
 reached_by_type z off l u of_zone h =
-    let there = of_zone u h.in_zone in let inside = h.in_zone in
-    let reached : l ≤ℤ (u +ℤ there.type.offset) = rw (← there.offset) h.reached in
-    (there.type, record { fits = omega (arith, ints, inside); type = there.in_force; reached = reached })
+    let there = of_zone u h.in_zone in let same = there.offset in let inside = h.in_zone in
+    (there.type, record { fits = omega (arith, ints, inside); type = there.in_force; reached = omega (arith, ints) })
 
 -- a day after the local time clocks have reached it
 reached_a_day_on : (z : Zone) (off : ℤ → ℤ) (l : ℤ) → IsNarrow z → AreOffsetsOf z off → IsWide l → HasReached off l (l +ℤ pos 86_399)

@@ -1,13 +1,9 @@
 -- The type before a gap tells the offset before it.
 use Rattle.zoned_ref.proofs.Words.{AreOffsetsOf, IsBeforeGap, IsNarrow, IsOffsetBeforeGap, IsWide, IsWithinDay, IsZoneSecond, Law, LocalType, Meaning, None}
-use Rattle.zoned_ref.proofs.Words.{Some, TimeZoneRef, TypeAt, Zone, ZoneOffset, ap, arith, ints, law_of, off_of, pos, sym, type_of, type_once, zone_of, ℤ, ◌+ℤ◌}
-use Rattle.zoned_ref.proofs.Words.{◌-ℤ◌, ◌∙◌, ◌≡◌}
-use Rattle.zoned_ref.proofs.{Offsets.{type_within}, Walls.{same_law, shown_by_offset, shown_by_type}}
+use Rattle.zoned_ref.proofs.Words.{Some, TimeZoneRef, TypeAt, Zone, ZoneOffset, arith, ints, law_of, off_of, pos, sym, type_of, zone_of, ℤ, ◌+ℤ◌}
+use Rattle.zoned_ref.proofs.Words.{◌-ℤ◌, ◌≡◌}
+use Rattle.zoned_ref.proofs.{Days.{same_offset}, Offsets.{type_within}, Walls.{same_law, shown_by_offset, shown_by_type}}
 use Rattle.tz_info.specs.Gaps as types
-
--- the offset at a second is that of the type in force
-offset_is : (z : Zone) (off : ℤ → ℤ) (u : ℤ) (t : LocalType) → AreOffsetsOf z off → IsZoneSecond u → TypeAt z u t → off u ≡ t.offset
-offset_is z off u t of_zone inside k = let there = of_zone u inside in there.offset ∙ ap (λ y. y.offset) (type_once z u there.type t there.in_force k)
 
 pub before_within : (z : Zone) (l : ℤ) (t : LocalType) → IsNarrow z → types.IsTypeBeforeGap (TypeAt z) l t → IsWithinDay t.offset
 before_within z l t narrow g = type_within z (g.first -ℤ pos 1) t narrow g.before
@@ -26,9 +22,9 @@ before_gap z off l t narrow of_zone wide g =
         never = λ u k s. let h = shown_by_offset z off l of_zone u k s in g.never u h.0 h.1;
         first = c;
         in_zone = (inside, inside_before);
-        more = rw (offset_is z off c g.more.type of_zone inside g.more.here) more;
+        more = rw (same_offset z off c g.more.type of_zone inside g.more.here) more;
         least = λ u inside_u m. let at = of_zone u inside_u in g.least u (record { type = at.type; here = at.in_force; more = rw at.offset at m });
-        before = sym (offset_is z off (c -ℤ pos 1) t of_zone inside_before g.before);
+        before = sym (same_offset z off (c -ℤ pos 1) t of_zone inside_before g.before);
       },
       g.before,
     )

@@ -2,9 +2,9 @@
 -- reading is less than a day away from it.
 use Rattle.offset_core.specs.declared.local_result.LocalResult.TheVariants.{Ambiguous, None, Single}
 use Rattle.zoned_ref.proofs.Words.{AreOffsetsOf, IsNarrow, IsWallAnswer, IsWallAnswer-map_of, IsWide, IsWithinDay, LocalResult, LocalType, SameLaw, TimeZoneRef}
-use Rattle.zoned_ref.proofs.Words.{TypeAt, Zone, ZoneOffset, ap, arith, home_law, ints, law_of, map_of, meaning_of, off_of, same_itself, subst, sym, type_of}
-use Rattle.zoned_ref.proofs.Words.{type_once, zone_of, ℤ, ◌+ℤ◌, ◌-ℤ◌, ◌∙◌, ◌≡◌}
-use Rattle.zoned_ref.proofs.Offsets.{type_within}
+use Rattle.zoned_ref.proofs.Words.{TypeAt, Zone, ZoneOffset, arith, home_law, ints, law_of, map_of, meaning_of, off_of, same_itself, subst, sym, type_of}
+use Rattle.zoned_ref.proofs.Words.{zone_of, ℤ, ◌+ℤ◌, ◌-ℤ◌, ◌≡◌}
+use Rattle.zoned_ref.proofs.{Days.{same_offset}, Offsets.{type_within}}
 use Rattle.tz_info.specs.WallClocks as types
 use Rattle.zoned_time.specs.Zone as offsets
 
@@ -12,14 +12,13 @@ pub shown_by_type : (z : Zone) (off : ℤ → ℤ) (l : ℤ) → IsNarrow z → 
 shown_by_type z off l narrow of_zone wide u t s =
     let day = type_within z u t narrow s.type in let shown : u +ℤ t.offset ≡ l = s.shown in
     let inside : offsets.IsZoneSecond u = (omega (arith, ints, wide, day), omega (arith, ints, wide, day)) in
-    let there = of_zone u inside in
-    record { in_zone = inside; offset = ap (λ y. y.offset) (type_once z u t there.type s.type there.in_force) ∙ sym there.offset; shown = shown }
+    record { in_zone = inside; offset = sym (same_offset z off u t of_zone inside s.type); shown = shown }
 
 pub shown_by_offset : (z : Zone) (off : ℤ → ℤ) (l : ℤ) → AreOffsetsOf z off → (u k : ℤ) → offsets.ShowsByOffset off l u k → (t : LocalType) × types.Shows (TypeAt z) l u t
 shown_by_offset z off l of_zone u k s =
     let there = of_zone u s.in_zone in let inside = s.in_zone in
-    let same : k ≡ there.type.offset = s.offset ∙ there.offset in
-    (there.type, record { fits = omega (arith, ints, inside); type = there.in_force; shown = rw (← same) s.shown })
+    let same = there.offset in let shown = s.shown in let is = s.offset in
+    (there.type, record { fits = omega (arith, ints, inside); type = there.in_force; shown = omega (arith, ints) })
 
 pub zone_wall : (z : Zone) (off : ℤ → ℤ) (l : ℤ) → IsNarrow z → AreOffsetsOf z off → IsWide l → (answer : LocalResult LocalType) → IsWallAnswer (types.Shows (TypeAt z) l) answer → IsWallAnswer (offsets.ShowsByOffset off l) (map_of (λ t. t.offset) answer)
 zone_wall z off l narrow of_zone wide =

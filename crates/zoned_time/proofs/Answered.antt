@@ -7,7 +7,7 @@ use Rattle.zoned_time.proofs.Words.{IsZoneSecond, LocalResult, Ok, ResolveError,
 use Rattle.zoned_time.proofs.Words.{ints, offset_taken, out_of_range, pos, refl, refused, suc, taken_of, zero, ℕ, ℤ, ◌+ℤ◌, ◌-ℤ◌, ◌<ℤ◌, ◌≡◌, ◌≤ℤ◌, ◌⊎◌}
 
 -- the first second from a start on of which p holds, where p is decided and holds of some later second
-first_from : (p : ℤ → Type 0) → ((u : ℤ) → p u ⊎ (p u → ⊥)) → (n : ℕ) (start end : ℤ) → end ≡ start +ℤ pos n → p end
+pub first_from : (p : ℤ → Type 0) → ((u : ℤ) → p u ⊎ (p u → ⊥)) → (n : ℕ) (start end : ℤ) → end ≡ start +ℤ pos n → p end
     → (first : ℤ) × (start ≤ℤ first) × (first ≤ℤ end) × p first × ((u : ℤ) → start ≤ℤ u → p u → first ≤ℤ u)
 first_from p decide zero start end e h = (end, omega (arith, ints, e), omega (arith, ints), h, λ u from k. omega (arith, ints, e, from))
 first_from p decide (suc n) start end e h = elim (decide start) [

@@ -1,11 +1,11 @@
 -- What a choice takes for a wall clock.
-use Rattle.offset_core.specs.{declared.around.Around.TheVariants.{Ambiguous, Gap, Single}, declared.around.Taken.TheVariants.{InGap, Shown}}
+use Rattle.offset_core.specs.{declared.around.Around.TheVariants.{Ambiguous, Gap, Single}, declared.around.Taken.TheVariants.{Shown}}
 use Rattle.offset_core.specs.declared.resolve_error.ResolveError.TheVariants.{OutOfRange}
 use Rattle.std.specs.Prelude.{⊤}
 use Rattle.zoned_time.proofs.Words.{AreOffsetsAround, Around, Choice, Err, HasInstant, HoldsOfEachAround, HoldsOfTaken, IsAt, IsBeforeGap, IsInRange}
 use Rattle.zoned_time.proofs.Words.{IsResolved, IsTaken, IsUnresolved, Law, MatchResult, Meaning, Ok, Reading, ResolveError, Result, SameLaw, ShowsByOffset}
 use Rattle.zoned_time.proofs.Words.{Taken, Takes, Zoned, behind, home_law, instant_of, map_outcome, map_taken, offset_taken, out_of_range, refl, refused, subst}
-use Rattle.zoned_time.proofs.Words.{sym, taken_holds, taken_of, taken_of_images, ℤ, ◌-ℤ◌, ◌≡◌}
+use Rattle.zoned_time.proofs.Words.{taken_holds, taken_of, taken_of_images, ℤ, ◌-ℤ◌, ◌≡◌}
 use Rattle.zoned_time.proofs.Relocals.{at_shown}
 
 -- an offset at which clocks show the reading, in force then
@@ -35,39 +35,27 @@ is_taken {m = m} law l choice a t h e = record {
   offset = refl;
 }
 
--- by an offset at which clocks show the reading
-pub shown_resolved : {O D : Type 0} {m : Meaning O} {seconds : O → ℤ} → ((o : O) → m.seconds o ≡ seconds o)
-    → (law : Law m) (l : Reading) (choice : Choice) (a : Around O O) (o : O) (show : D → Zoned O) (result : Result D ResolveError)
-    → AreOffsetsAround law l.s a → taken_of choice a ≡ Ok (Shown o)
-    → MatchResult result (λ d. HasInstant seconds l o × (show d ≡ instant_of seconds l o)) (λ e. (e ≡ OutOfRange) × ¬ (HasInstant seconds l o))
+-- by the offset that is taken
+pub taken_resolved : {O D : Type 0} {m : Meaning O} (law : Law m) (l : Reading) (choice : Choice) (a : Around O O) (t : Taken O O) (show : D → Zoned O)
+    (result : Result D ResolveError)
+    → AreOffsetsAround law l.s a → taken_of choice a ≡ Ok t → let k = offset_taken (map_taken m.seconds m.seconds t) in
+    MatchResult result (λ d. IsInRange (l.s -ℤ k) × IsAt law (behind l k) (show d)) (λ e. (e ≡ OutOfRange) × ¬ (IsInRange (l.s -ℤ k)))
     → MatchResult result (λ d. IsResolved law l choice (show d)) (λ e. IsUnresolved law.off l.s choice e)
-shown_resolved {O} {D} {m} {seconds} told law l choice a o show (Ok d) around e h =
-    let is : show d ≡ instant_of m.seconds l o = subst (λ k. show d ≡ record { utc = behind l k; offset = o }) (sym (told o)) h.1 in
-    let there = subst (λ r. MatchResult r (HoldsOfTaken (IsShownBy law l.s) (λ _. ⊤)) (λ _. ⊤)) e
-    (taken_holds (IsShownBy law l.s) (λ _. ⊤) choice a (each_shown_by law l.s a around)) in record {
-      offset = m.seconds o;
-      taken = is_taken law l.s choice a (Shown o) around e;
-      in_range = subst (λ k. IsInRange (l.s -ℤ k)) (sym (told o)) h.0;
-      at = subst (λ z. IsAt law (behind l (m.seconds o)) z) (sym is) (at_shown law l o (instant_of m.seconds l o) there.0 there.1 there.2 there.3 refl).1;
-    }
-shown_resolved {O} {D} {m} {seconds} told law l choice a o show (Err f) around e h =
-    out_of_range (m.seconds o) (is_taken law l.s choice a (Shown o) around e) (λ inside. h.1 (subst (λ k. IsInRange (l.s -ℤ k)) (told o) inside)) h.0
+taken_resolved {m = m} law l choice a t show (Ok d) around e h =
+    record { offset = offset_taken (map_taken m.seconds m.seconds t); taken = is_taken law l.s choice a t around e; in_range = h.0; at = h.1 }
+taken_resolved law l choice a t show (Err f) around e h = out_of_range _ (is_taken law l.s choice a t around e) h.1 h.0
 
--- by the offset before a gap
-pub gap_resolved : {O D : Type 0} {m : Meaning O} {seconds : O → ℤ} → ((o : O) → m.seconds o ≡ seconds o)
-    → (law : Law m) (l : Reading) (choice : Choice) (a : Around O O) (o : O) (show : D → Zoned O) (result : Result D ResolveError)
-    → AreOffsetsAround law l.s a → taken_of choice a ≡ Ok (InGap o)
-    → MatchResult result (λ d. IsInRange (l.s -ℤ seconds o) × IsAt law (behind l (seconds o)) (show d))
-    (λ e. (e ≡ OutOfRange) × ¬ (IsInRange (l.s -ℤ seconds o)))
+-- by one at which clocks show the reading
+pub shown_resolved : {O D : Type 0} {m : Meaning O} (law : Law m) (l : Reading) (choice : Choice) (a : Around O O) (o : O) (show : D → Zoned O)
+    (result : Result D ResolveError)
+    → AreOffsetsAround law l.s a → taken_of choice a ≡ Ok (Shown o)
+    → MatchResult result (λ d. HasInstant m.seconds l o × (show d ≡ instant_of m.seconds l o)) (λ e. (e ≡ OutOfRange) × ¬ (HasInstant m.seconds l o))
     → MatchResult result (λ d. IsResolved law l choice (show d)) (λ e. IsUnresolved law.off l.s choice e)
-gap_resolved {O} {D} {m} {seconds} told law l choice a o show (Ok d) around e h = record {
-  offset = m.seconds o;
-  taken = is_taken law l.s choice a (InGap o) around e;
-  in_range = subst (λ k. IsInRange (l.s -ℤ k)) (sym (told o)) h.0;
-  at = subst (λ k. IsAt law (behind l k) (show d)) (sym (told o)) h.1;
-}
-gap_resolved {O} {D} {m} {seconds} told law l choice a o show (Err f) around e h =
-    out_of_range (m.seconds o) (is_taken law l.s choice a (InGap o) around e) (λ inside. h.1 (subst (λ k. IsInRange (l.s -ℤ k)) (told o) inside)) h.0
+shown_resolved law l choice a o show (Ok d) around e h =
+    let there = subst (λ r. MatchResult r (HoldsOfTaken (IsShownBy law l.s) (λ _. ⊤)) (λ _. ⊤)) e
+    (taken_holds (IsShownBy law l.s) (λ _. ⊤) choice a (each_shown_by law l.s a around)) in
+    taken_resolved law l choice a (Shown o) show (Ok d) around e (h.0, rw h.1 (at_shown law l there.0 o there.1 there.2 there.3).1)
+shown_resolved law l choice a o show (Err f) around e h = taken_resolved law l choice a (Shown o) show (Err f) around e h
 
 pub refused_of : {O : Type 0} {m : Meaning O} (law : Law m) (l : ℤ) (choice : Choice) (a : Around O O) (e : ResolveError) → AreOffsetsAround law l a
     → taken_of choice a ≡ Err e → IsUnresolved law.off l choice e

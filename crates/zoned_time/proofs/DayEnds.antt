@@ -3,32 +3,25 @@ use Rattle.zoned_time.proofs.Words.{AreStartsOfDays, HasNoEnd, IsAt, IsDateOn, I
 use Rattle.zoned_time.proofs.Words.{IsFirstToReach, IsGapEnd, IsInDay, IsInRange, IsInstantFrom, IsNeverShown, IsShownBetween, IsShownOnce, IsWideDay}
 use Rattle.zoned_time.proofs.Words.{IsZoneSecond, IsZonedAtOrAfter, IsZonedEnd, Law, MatchOption, MayShowDay, Meaning, NaiveDate, None, NonePassed, Option}
 use Rattle.zoned_time.proofs.Words.{Reading, SameLaw, SameOffsets, ShowsByOffset, Some, SomeIff, Zoned, ahead, ap, arith, behind, by_lt_z, day_of, first_day}
-use Rattle.zoned_time.proofs.Words.{inl, inr, ints, last_day, midnight, neg_ℤ, of_secs, pos, refl, subst, sym, ℕ, ℤ, ◌*ℤ◌, ◌+ℤ◌, ◌-ℤ◌, ◌<ℤ◌, ◌∙◌, ◌≡◌, ◌≤ℤ◌}
-use Rattle.zoned_time.proofs.{DayStarts.{StayWithinDay, first_until, in_day, one_first, same_reading}, Homes.{offset_home_at}}
-use Rattle.zoned_time.proofs.Days.{first_exact, first_whole, out_of_range, to_reached}
+use Rattle.zoned_time.proofs.Words.{inl, ints, last_day, midnight, neg_ℤ, of_secs, pos, refl, subst, sym, ℕ, ℤ, ◌+ℤ◌, ◌-ℤ◌, ◌<ℤ◌, ◌<◌, ◌∙◌, ◌≡◌, ◌≤ℤ◌}
+use Rattle.zoned_time.proofs.{DayStarts.{StayWithinDay, first_until, in_day, one_first}, Homes.{offset_home_at}}
+use Rattle.zoned_time.proofs.Days.{first_instant, first_whole, out_of_range, to_reached}
 
 -- an instant of a day, by the seconds at which it and the next day start
 starts_are : (off : ℤ → ℤ) (day start next : ℤ) (r : Reading) → AreStartsOfDays off day start next → IsInDay off day r → (start ≤ℤ r.s) × (r.s <ℤ next)
 starts_are off day start next r h k =
-    let at_start : k.start ≡ of_secs start 0 = one_first off (midnight day) k.start (of_secs start 0) k.starts (first_whole off (midnight day) start refl h.starts) in
-    let at_next : k.next ≡ of_secs next 0 = one_first off (midnight (day +ℤ pos 1)) k.next (of_secs next 0) k.ends (first_whole off (midnight (day +ℤ pos 1)) next refl h.ends) in
-    let not_before : ¬ (IsEarlier r (of_secs start 0)) = subst (λ (x : Reading). ¬ (IsEarlier r x)) at_start k.not_before in
-    let before : IsEarlier r (of_secs next 0) = subst (λ (x : Reading). IsEarlier r x) at_next k.before in (
-      by_lt_z r.s start (λ less. absurd (not_before (inl less))) (λ more. more),
-      elim before [
-        | inl less ↦ less
-        | inr (_, fewer) ↦ absurd (omega arith)
-      ],
-    )
+    let at_start = one_first off (midnight day) k.start (of_secs start 0) k.starts (first_whole off (midnight day) start refl h.starts) in
+    let at_next = one_first off (midnight (day +ℤ pos 1)) k.next (of_secs next 0) k.ends (first_whole off (midnight (day +ℤ pos 1)) next refl h.ends) in
+    let not_before = rw at_start at k.not_before in let before = rw at_next at k.before in (grind (arith, ints), grind (arith, ints))
+
+none_after : (q : Reading) (next : ℤ) → q.s <ℤ next → q.f < 1_000_000_000 → ¬ (IsEarlier (of_secs (next -ℤ pos 1) 999_999_999) q)
+none_after q next before whole e = grind (arith, ints)
 
 pub end_of_day : (off : ℤ → ℤ) (day start next : ℤ) → AreStartsOfDays off day start next → start <ℤ next → IsEndOfDay off day (of_secs (next -ℤ pos 1) 999_999_999)
 end_of_day off day start next h some = record {
   in_day = in_day off (of_secs (next -ℤ pos 1) 999_999_999) day start next h.starts h.ends (omega (arith, ints)) (omega (arith, ints));
   no_leap = omega arith;
-  last = λ q k whole e. let within = starts_are off day start next q h k in elim e [
-    | inl less ↦ omega (arith, ints, within)
-    | inr (_, fewer) ↦ omega arith
-  ];
+  last = λ q k whole. none_after q next (starts_are off day start next q h k).1 whole;
 }
 
 -- a day of one second or more has this end, and no other
@@ -54,10 +47,7 @@ end_of_last_day off day within late r k inside =
       next = next;
       starts = k.in_day.starts;
       ends = k.in_day.ends;
-      not_before = λ e. elim e [
-        | inl less ↦ k.in_day.not_before (inl (omega (arith, ints, inside)))
-        | inr (same, _) ↦ k.in_day.not_before (inl (omega (arith, ints, inside)))
-      ];
+      not_before = λ e. let started = k.in_day.not_before in grind (arith, ints);
       before = inl (omega (arith, ints, near, reached));
     }) (omega arith) (inl (omega (arith, ints, inside)))
 
@@ -72,11 +62,7 @@ too_early off day within early =
 
 -- half a day after half a day after a midnight
 pub next_midnight : (day : ℤ) (start noon r : Reading) (k : ℤ) → k ≡ pos 43_200 → start ≡ midnight day → noon ≡ ahead start k → r ≡ ahead noon k → r ≡ midnight (day +ℤ pos 1)
-next_midnight day start noon r k half e f g =
-    let a : start.s ≡ day *ℤ pos 86_400 +ℤ pos 0 = ap (λ (x : Reading). x.s) e in
-    let b : noon.s ≡ start.s +ℤ k = ap (λ (x : Reading). x.s) f in
-    let c : r.s ≡ noon.s +ℤ k = ap (λ (x : Reading). x.s) g in
-    same_reading r (midnight (day +ℤ pos 1)) (omega (arith, ints)) (ap (λ (x : Reading). x.f) g ∙ ap (λ (x : Reading). x.f) f ∙ ap (λ (x : Reading). x.f) e)
+next_midnight day start noon r k half e f g = grind (arith, ints)
 
 -- ---- from seconds to instants
 pub in_order : (off : ℤ → ℤ) (day start next : ℤ) → AreStartsOfDays off day start next → start ≤ℤ next
@@ -87,18 +73,14 @@ pub told_end : {O T : Type 0} {m : Meaning O} (law : Law m) (day start next : �
     → MatchOption found (HasNoEnd law.off day) (λ d. IsZonedEnd law day (told d))
 told_end law day start next told None h some out = end_out_of_range law.off day start next h out
 told_end law day start next told (Some d) h some at =
-    let order = in_order law.off day start next h in
-    let less : start <ℤ next = by_lt_z start next (λ l. l) (λ not. absurd (some (omega (arith, ints)))) in
-    record { end = subst (IsEndOfDay law.off day) (sym at.1.utc) (end_of_day law.off day start next h less); offset = at.1.offset }
+    let order = in_order law.off day start next h in let less : start <ℤ next = omega (arith, ints, order, some) in
+    record { end = rw at.1.utc (end_of_day law.off day start next h less); offset = at.1.offset }
 
 -- ---- the day so many days before that of a date
 pub no_earlier_day : (off : ℤ → ℤ) (old : ℤ) (n : ℕ) → StayWithinDay off → IsWideDay old → IsDaysLater day_of IsDateOn old (neg_ℤ (pos n)) None → IsFirstOutOfRange off (midnight (old -ℤ pos n))
 no_earlier_day off old n within wide h =
     let none = subst (λ (w : Option ℤ). SomeIff w (MayShowDay old (old +ℤ neg_ℤ (pos n))) (old +ℤ neg_ℤ (pos n))) (sym h.given) h.there in
-    too_early off (old -ℤ pos n) within (by_lt_z (old -ℤ pos n) first_day (λ l. l) (λ low.
-    by_lt_z (old -ℤ pos n) (last_day +ℤ pos 1)
-    (λ less. absurd (none (inl (omega (arith, ints), omega (arith, ints)))))
-    (λ more. absurd (none (inr (omega (arith, ints, wide)))))))
+    too_early off (old -ℤ pos n) within (grind (arith, ints))
 
 pub earlier_day : (old : ℤ) (n : ℕ) (date : NaiveDate) → IsDaysLater day_of IsDateOn old (neg_ℤ (pos n)) (Some date) → day_of date ≡ old -ℤ pos n
 earlier_day old n date h =
@@ -135,8 +117,8 @@ first_shown : (off : ℤ → ℤ) (l a : Reading) (u k : ℤ) → ShowsByOffset 
 first_shown off l a u k h none least first =
     let shown = h.shown in let back : u ≡ l.s -ℤ k = omega (arith, ints) in
     let there : (u +ℤ off u) ≡ l.s = ap (λ (x : ℤ). u +ℤ x) (sym h.offset) ∙ h.shown in
-    let reaches = first_second off l.s u h.in_zone there (subst (NonePassed off l.s) (sym back) none) least in
-    one_first off l a (behind l k) first (subst (λ (v : ℤ). IsFirstInstantFrom off l (record { s = v; f = l.f })) back (first_exact off l u reaches there))
+    let reaches = first_second off l.s u h.in_zone there (rw (← back) at none) least in
+    one_first off l a (behind l k) first (first_instant off l (behind l k) (rw back at reaches) (inl (rw back at there, refl)))
 
 pub first_of_one : (off : ℤ → ℤ) (l a : Reading) (k : ℤ) → IsShownOnce (ShowsByOffset off l.s) k → NonePassed off l.s (l.s -ℤ k) → IsFirstInstantFrom off l a → a ≡ behind l k
 first_of_one off l a k h none first = first_shown off l a h.second k h.shown none (λ v s. let same = h.only v (off v) s in omega (arith, ints)) first
@@ -146,38 +128,17 @@ first_of_fold off l a k last h none first = first_shown off l a h.first k h.at_f
 
 pub not_later : (off : ℤ → ℤ) (l a : Reading) (u k : ℤ) → ShowsByOffset off l.s u k → IsFirstInstantFrom off l a → ¬ (IsEarlier (behind l k) a)
 not_later off l a u k h first =
-    let shown = h.shown in let back : l.s -ℤ k ≡ u = omega (arith, ints) in
-    let there : (u +ℤ off u) ≡ l.s = ap (λ (x : ℤ). u +ℤ x) (sym h.offset) ∙ h.shown in
-    subst (λ (v : ℤ). ¬ (IsEarlier (record { s = v; f = l.f }) a)) (sym back) (first.first (record { s = u; f = l.f }) (record {
-      in_zone = h.in_zone;
-      not_before = λ e. elim e [
-        | inl less ↦ omega (arith, ints)
-        | inr (_, less) ↦ omega arith
-      ];
-    }))
+    let shown = h.shown in let back : u ≡ l.s -ℤ k = omega (arith, ints) in let at = rw back at h.offset in
+    first.first (behind l k) (record { in_zone = rw back at h.in_zone; not_before = λ e. grind (arith, ints) })
 
 pub gap_end : (off : ℤ → ℤ) (l a : Reading) → IsNeverShown (ShowsByOffset off l.s) → IsFirstInstantFrom off l a → IsGapEnd off l.s a
 gap_end off l a never h =
     let reached = to_reached off l a h.shown in
     let past : l.s <ℤ (a.s +ℤ off a.s) = by_lt_z l.s (a.s +ℤ off a.s) (λ less. less) (λ not. let there = reached.reached in absurd (never a.s (off a.s) (record { in_zone = h.shown.in_zone; offset = refl; shown = omega (arith, ints) }))) in
     record {
-      whole = by_lt_z (pos 0) (pos a.f)
-          (λ some. absurd (h.first (of_secs a.s 0) (record {
-            in_zone = h.shown.in_zone;
-            not_before = λ e. elim e [
-              | inl less ↦ omega (arith, ints)
-              | inr (same, _) ↦ omega (arith, ints)
-            ];
-          }) (inr (refl, omega (arith, ints)))))
-          (λ none. omega (arith, ints));
+      whole = let first = h.first (of_secs a.s 0) (record { in_zone = h.shown.in_zone; not_before = λ e. grind (arith, ints) }) in grind (arith, ints);
       before = λ u inside less. by_lt_z (u +ℤ off u) l.s (λ c. c) (λ more. by_lt_z l.s (u +ℤ off u)
-          (λ later. absurd (h.first (of_secs u 0) (record {
-            in_zone = inside;
-            not_before = λ e. elim e [
-              | inl c ↦ omega (arith, ints)
-              | inr (same, _) ↦ omega (arith, ints)
-            ];
-          }) (inl less)))
+          (λ later. absurd (h.first (of_secs u 0) (record { in_zone = inside; not_before = λ e. grind (arith, ints) }) (inl less)))
           (λ not. absurd (never u (off u) (record { in_zone = inside; offset = refl; shown = omega (arith, ints) }))));
       after = past;
     }

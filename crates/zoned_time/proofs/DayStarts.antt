@@ -1,47 +1,27 @@
 -- The starts of days divide time: each instant lies in one day.
 use Rattle.zoned_time.proofs.Words.{AreEndsOfDay, HasReached, IsEarlier, IsFirstInstantFrom, IsFirstToReach, IsInDay, IsInRange, IsInstantFrom, IsNeverOnDay}
-use Rattle.zoned_time.proofs.Words.{IsOnDay, IsWithinDay, IsZoneSecond, Reading, ahead, arith, by_lt_z, floor_div, floors, inl, inr, ints, midnight, neg_ℤ}
-use Rattle.zoned_time.proofs.Words.{negsuc, of_secs, pos, refl, subst, suc, zero, ℕ, ℤ, ◌*ℤ◌, ◌+ℤ◌, ◌-ℤ◌, ◌<ℤ◌, ◌≡◌, ◌≤ℤ◌, ◌⊎◌}
-use Rattle.zoned_time.proofs.Days.{first_whole, to_reached}
+use Rattle.zoned_time.proofs.Words.{IsOnDay, IsWithinDay, IsZoneSecond, Reading, arith, by_lt_z, floor_div, floors, inl, inr, ints, midnight, neg_ℤ}
+use Rattle.zoned_time.proofs.Words.{of_secs, pos, refl, suc, unsigned_abs, zero, ℕ, ℤ, ◌*ℤ◌, ◌+ℤ◌, ◌-ℤ◌, ◌<ℤ◌, ◌≡◌, ◌≤ℤ◌}
+use Rattle.zoned_time.proofs.{Answered.{first_from}, Days.{first_whole, to_reached}}
 
 -- ---- the order of instants
 pub through : (x y z : Reading) → ¬ (IsEarlier x y) → ¬ (IsEarlier y z) → ¬ (IsEarlier x z)
-through x y z h k e = by_lt_z x.s y.s (λ less. h (inl less)) (λ more. by_lt_z y.s z.s (λ less. k (inl less)) (λ most. elim e [
-  | inl less ↦ omega (arith, ints)
-  | inr (same, fewer) ↦ by_lt_z (pos x.f) (pos y.f)
-      (λ less. h (inr (omega (arith, ints), omega (arith, ints))))
-      (λ not. k (inr (omega (arith, ints), omega (arith, ints))))
-]))
-
-pub same_reading : (x y : Reading) → x.s ≡ y.s → x.f ≡ y.f → x ≡ y
-same_reading x y p q = λ i. record { s = p i; f = q i }
-
-equal : (x y : Reading) → ¬ (IsEarlier x y) → ¬ (IsEarlier y x) → x ≡ y
-equal x y h k =
-    let same : x.s ≡ y.s = by_lt_z x.s y.s (λ less. absurd (h (inl less))) (λ more. by_lt_z y.s x.s (λ less. absurd (k (inl less))) (λ most. omega (arith, ints))) in
-    same_reading x y same (by_lt_z (pos x.f) (pos y.f)
-    (λ less. absurd (h (inr (same, omega (arith, ints)))))
-    (λ more. by_lt_z (pos y.f) (pos x.f) (λ less. absurd (k (inr (omega (arith, ints), omega (arith, ints))))) (λ most. omega (arith, ints))))
-
--- a whole second, as of a midnight
-pub not_earlier_than : (x y : Reading) → y.f ≡ 0 → y.s ≤ℤ x.s → ¬ (IsEarlier x y)
-not_earlier_than x y whole h (inl less) = omega (arith, ints)
-not_earlier_than x y whole h (inr (_, less)) = omega (arith, ints)
+through x y z h k e = grind (arith, ints)
 
 -- ---- laws of the first instant at or after a local time
 pub rises : (off : ℤ → ℤ) (l m a b : Reading) → ¬ (IsEarlier m l) → IsFirstInstantFrom off l a → IsFirstInstantFrom off m b → ¬ (IsEarlier b a)
 rises off l m a b later h k = h.first b (record { in_zone = k.shown.in_zone; not_before = through _ m l k.shown.not_before later })
 
 pub one_first : (off : ℤ → ℤ) (l a b : Reading) → IsFirstInstantFrom off l a → IsFirstInstantFrom off l b → a ≡ b
-one_first off l a b h k = equal a b (k.first a h.shown) (h.first b k.shown)
+one_first off l a b h k = let not_later = h.first b k.shown in let not_earlier = k.first a h.shown in grind (arith, ints)
 
 -- ---- days
 not_earlier_day : (c d : ℤ) → c ≤ℤ d → ¬ (IsEarlier (midnight d) (midnight c))
-not_earlier_day c d h = not_earlier_than (midnight d) (midnight c) refl (omega (arith, ints))
+not_earlier_day c d h e = grind (arith, ints)
 
 -- clocks that show the second of a midnight or a later one
 at_midnight : (off : ℤ → ℤ) (day : ℤ) (r : Reading) → IsZoneSecond r.s → (day *ℤ pos 86_400) ≤ℤ (r.s +ℤ off r.s) → IsInstantFrom off (midnight day) r
-at_midnight off day r inside past = record { in_zone = inside; not_before = not_earlier_than (ahead r (off r.s)) (midnight day) refl (omega (arith, ints)) }
+at_midnight off day r inside past = record { in_zone = inside; not_before = λ e. grind (arith, ints) }
 
 -- a later day starts no earlier than the next day
 not_in_both : (off : ℤ → ℤ) (c d : ℤ) (r : Reading) → c <ℤ d → IsInDay off c r → IsInDay off d r → ⊥
@@ -57,9 +37,9 @@ skipped off day a b never h k =
     let reached = (to_reached off (midnight day) a h.shown).reached in
     let past : ((day +ℤ pos 1) *ℤ pos 86_400) ≤ℤ (a.s +ℤ off a.s) =
     by_lt_z (a.s +ℤ off a.s) ((day +ℤ pos 1) *ℤ pos 86_400) (λ less. absurd (never a.s (record { in_zone = h.shown.in_zone; since = omega (arith, ints); before = omega (arith, ints) }))) (λ m. m) in
-    equal a b
-    (k.first a (at_midnight off (day +ℤ pos 1) a h.shown.in_zone past))
-    (rises off (midnight day) (midnight (day +ℤ pos 1)) a b (not_earlier_day day (day +ℤ pos 1) (omega (arith, ints))) h k)
+    let not_later = k.first a (at_midnight off (day +ℤ pos 1) a h.shown.in_zone past) in
+    let not_earlier = rises off (midnight day) (midnight (day +ℤ pos 1)) a b (not_earlier_day day (day +ℤ pos 1) (omega (arith, ints))) h k in
+    grind (arith, ints)
 
 -- in a day no later date is shown
 pub no_later_date : (off : ℤ → ℤ) (day : ℤ) (r : Reading) → IsZoneSecond r.s → IsInDay off day r → floor_div (r.s +ℤ off r.s) 86_400 ≤ℤ day
@@ -71,53 +51,26 @@ no_later_date off day r inside h = by_lt_z (r.s +ℤ off r.s) ((day +ℤ pos 1) 
 pub starts_with_first : (off : ℤ → ℤ) (day first last : ℤ) (r : Reading) → IsFirstInstantFrom off (midnight day) r → IsOnDay off day r.s → AreEndsOfDay off day first last → r.s ≡ first
 starts_with_first off day first last r h on ends =
     let least = ends.not_before r.s on in let since = ends.shown_first.since in
-    by_lt_z first r.s
-    (λ less. absurd (h.first (of_secs first 0) (at_midnight off day (of_secs first 0) ends.shown_first.in_zone (omega (arith, ints))) (inl less)))
-    (λ more. omega (arith, ints))
+    let none = h.first (of_secs first 0) (at_midnight off day (of_secs first 0) ends.shown_first.in_zone (omega (arith, ints))) in
+    by_lt_z first r.s (λ less. absurd (none (inl less))) (λ more. omega (arith, ints))
 
 -- ---- each instant lies in a day
-abbrev Found : (ℤ → ℤ) → ℤ → ℤ → ℤ → Type 0
-Found off l low high = (u : ℤ) × (low ≤ℤ u) × (u <ℤ high) × (l ≤ℤ (u +ℤ off u)) × ((v : ℤ) → low ≤ℤ v → v <ℤ u → (v +ℤ off v) <ℤ l)
-
-abbrev NoneFound : (ℤ → ℤ) → ℤ → ℤ → ℤ → Type 0
-NoneFound off l low high = (v : ℤ) → low ≤ℤ v → v <ℤ high → (v +ℤ off v) <ℤ l
-
--- the first of n seconds at which clocks show l or more
-find : (off : ℤ → ℤ) (l low high : ℤ) (n : ℕ) → high ≡ low +ℤ pos n → Found off l low high ⊎ NoneFound off l low high
-find off l low high zero e = inr (λ v a b. absurd (omega (arith, ints)))
-find off l low high (suc n) e = elim (find off l low (high -ℤ pos 1) n (omega (arith, ints))) [
-  | inl found ↦ inl (let b = found.2 in (found.0, found.1, omega (arith, ints), found.3, found.4))
-  | inr none ↦ by_lt_z ((high -ℤ pos 1) +ℤ off (high -ℤ pos 1)) l
-      (λ less. inr (λ v a b. by_lt_z v (high -ℤ pos 1) (λ c. none v a c) (λ c. let same : high -ℤ pos 1 ≡ v = omega (arith, ints) in subst (λ w. (w +ℤ off w) <ℤ l) same less)))
-      (λ reached. inl (high -ℤ pos 1, omega (arith, ints), omega (arith, ints), reached, none))
-]
-
-natural : (d : ℤ) → pos 0 ≤ℤ d → (n : ℕ) × (d ≡ pos n)
-natural (pos n) h = (n, refl)
-natural (negsuc n) h = absurd (omega (arith, ints))
-
-distance : (u v : ℤ) → u ≤ℤ v → (n : ℕ) × (v ≡ u +ℤ pos n)
-distance u v h = let n = natural (v -ℤ u) (omega (arith, ints)) in let e = n.1 in (n.0, omega (arith, ints))
-
 abbrev pub StayWithinDay : (ℤ → ℤ) → Type 0
 StayWithinDay off = (u : ℤ) → IsZoneSecond u → IsWithinDay (off u)
 
 -- clocks that show l or more at the second v did so first at some second
 pub first_until : (off : ℤ → ℤ) (l v : ℤ) → HasReached off l v → (u : ℤ) × IsFirstToReach off l u × (u ≤ℤ v)
 first_until off l v h =
-    let inside = h.in_zone in
-    let n = distance (neg_ℤ (pos 8_334_601_401_600)) (v +ℤ pos 1) (omega (arith, ints, inside)) in
-    elim (find off l (neg_ℤ (pos 8_334_601_401_600)) (v +ℤ pos 1) n.0 n.1) [
-      | inl found ↦ let below = found.2 in (
-        found.0,
-        record {
-          reached = record { in_zone = (found.1, omega (arith, ints, inside)); reached = found.3 };
-          first = λ w k. by_lt_z w found.0 (λ less. let c = found.4 w k.in_zone.0 less in let d = k.reached in absurd (omega (arith, ints))) (λ m. m);
-        },
-        omega (arith, ints),
-      )
-      | inr none ↦ let c = none v inside.0 (omega (arith, ints)) in let d = h.reached in absurd (omega (arith, ints))
-    ]
+    let inside = h.in_zone in let start : ℤ = neg_ℤ (pos 8_334_601_401_600) in
+    let found = first_from (λ u. l ≤ℤ (u +ℤ off u)) (λ u. by_lt_z (u +ℤ off u) l (λ less. inr (λ more. omega (arith, ints))) (λ more. inl more))
+    (unsigned_abs (v -ℤ start)) start v (omega (arith, ints, inside)) h.reached in (
+      found.0,
+      record {
+        reached = record { in_zone = (found.1, omega (arith, ints, inside, found.2)); reached = found.3 };
+        first = λ w k. found.4 w k.in_zone.0 k.reached;
+      },
+      found.2,
+    )
 
 -- clocks reach each second of a day that is in range or a buffer day, and the midnight after these days
 pub reaches : (off : ℤ → ℤ) (l : ℤ) → StayWithinDay off → neg_ℤ (pos 8_334_601_315_200) ≤ℤ l → l ≤ℤ pos 8_210_266_963_200 → (u : ℤ) × IsFirstToReach off l u
@@ -132,7 +85,7 @@ in_day off r day start next h k low high = record {
   next = of_secs next 0;
   starts = first_whole off (midnight day) start refl h;
   ends = first_whole off (midnight (day +ℤ pos 1)) next refl k;
-  not_before = not_earlier_than r (of_secs start 0) refl low;
+  not_before = λ e. grind (arith, ints);
   before = inl high;
 }
 

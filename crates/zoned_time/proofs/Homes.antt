@@ -1,8 +1,8 @@
 -- What zones of the same law give, and zones of the same offsets in seconds.
 use Rattle.offset_core.specs.declared.local_result.LocalResult.TheVariants.{Ambiguous, None, Single}
 use Rattle.zoned_time.proofs.Words.{AreOffsetsFor, Each, IsAt, IsInRange, IsOffsetAt, IsRelocal, IsWallAnswer, IsZoneSecond, Law, LocalResult, Meaning, Reading}
-use Rattle.zoned_time.proofs.Words.{SameLaw, SameOffsets, ShowsByOffset, Zoned, arith, home_law, ints, map_of, refl, seconds_alone, subst, sym, ℤ, ◌+ℤ◌, ◌-ℤ◌}
-use Rattle.zoned_time.proofs.Words.{◌∙◌, ◌≡◌}
+use Rattle.zoned_time.proofs.Words.{IsWallAnswer-map_of, SameLaw, SameOffsets, ShowsByOffset, Zoned, arith, home_law, ints, map_of, refl, seconds_alone, subst}
+use Rattle.zoned_time.proofs.Words.{sym, ℤ, ◌+ℤ◌, ◌-ℤ◌, ◌∙◌, ◌≡◌}
 
 -- a law is the same as itself, and as what is the same as the same
 pub same_itself : {O : Type 0} {m : Meaning O} (law : Law m) → SameLaw law law
@@ -35,52 +35,35 @@ at_home law home r d same range at =
 shows_home : (off home : ℤ → ℤ) (l u k : ℤ) → SameOffsets off home → ShowsByOffset off l u k → ShowsByOffset home l u k
 shows_home off home l u k same s = record { in_zone = s.in_zone; offset = s.offset ∙ same u s.in_zone; shown = s.shown }
 
+same_map : {T : Type 0} (answer : LocalResult T) → map_of (λ a. a) answer ≡ answer
+same_map answer = grind arith
+
 wall_home : (off home : ℤ → ℤ) (l : ℤ) (answer : LocalResult ℤ)
     → SameOffsets off home → IsWallAnswer (ShowsByOffset off l) answer → IsWallAnswer (ShowsByOffset home l) answer
-wall_home off home l None same wall = λ u k s. wall u k (shows_home home off l u k (λ v zone. sym (same v zone)) s)
-wall_home off home l (Single a) same wall = record {
-  second = wall.second;
-  shown = shows_home off home l wall.second a same wall.shown;
-  only = λ u k s. wall.only u k (shows_home home off l u k (λ v zone. sym (same v zone)) s);
-}
-wall_home off home l (Ambiguous a b) same wall = record {
-  first = wall.first;
-  last = wall.last;
-  several = wall.several;
-  at_first = shows_home off home l wall.first a same wall.at_first;
-  at_last = shows_home off home l wall.last b same wall.at_last;
-  not_before = λ u k s. wall.not_before u k (shows_home home off l u k (λ v zone. sym (same v zone)) s);
-  not_after = λ u k s. wall.not_after u k (shows_home home off l u k (λ v zone. sym (same v zone)) s);
-}
+wall_home off home l answer same wall = subst (IsWallAnswer (ShowsByOffset home l)) (same_map answer)
+    (IsWallAnswer-map_of (ShowsByOffset off l) (ShowsByOffset home l) (λ k. k) (λ u k s. shows_home off home l u k same s)
+    (λ u k s. (k, shows_home home off l u k (λ v zone. sym (same v zone)) s)) answer wall)
 
-each_home : {O : Type 0} {m : Meaning O} (law home : Law m) (offsets : LocalResult O) → SameLaw law home
-    → Each (λ o. SameLaw (home_law m o) law) offsets → Each (λ o. SameLaw (home_law m o) home) offsets
-each_home law home None same h = tt
-each_home law home (Single a) same h = same_through h same
-each_home law home (Ambiguous a b) same h = (same_through h.0 same, same_through h.1 same)
+-- what holds of each offset that clocks show the wall clock by, holds of each offset for it
+pub each_of : {O : Type 0} {m : Meaning O} (law : Law m) (l : ℤ) (P : O → Type 0) (offsets : LocalResult O) → AreOffsetsFor law l offsets
+    → ((u : ℤ) (o : O) → ShowsByOffset law.off l u (m.seconds o) → law.in_force (l -ℤ m.seconds o) o → SameLaw (home_law m o) law → P o) → Each P offsets
+each_of law l P None h holds = tt
+each_of law l P (Single a) h holds = holds h.wall.second a h.wall.shown h.in_force h.same_home
+each_of law l P (Ambiguous a b) h holds =
+    (holds h.wall.first a h.wall.at_first h.in_force.0 h.same_home.0, holds h.wall.last b h.wall.at_last h.in_force.1 h.same_home.1)
 
--- an offset that is in force at the second that shows l by it
-in_force_home : {O : Type 0} {m : Meaning O} (law home : Law m) (l u : ℤ) (o : O) → SameLaw law home
-    → ShowsByOffset law.off l u (m.seconds o) → law.in_force (l -ℤ m.seconds o) o → home.in_force (l -ℤ m.seconds o) o
-in_force_home {m = m} law home l u o same shows h =
-    let second : l -ℤ m.seconds o ≡ u = let shown : u +ℤ m.seconds o ≡ l = shows.shown in omega (arith, ints) in
-    (same.in_force (l -ℤ m.seconds o) (rw second shows.in_zone) o).0 h
-
-each_in_force : {O : Type 0} {m : Meaning O} (law home : Law m) (l : ℤ) (offsets : LocalResult O) → SameLaw law home
-    → IsWallAnswer (ShowsByOffset law.off l) (map_of m.seconds offsets)
-    → Each (λ o. law.in_force (l -ℤ m.seconds o) o) offsets → Each (λ o. home.in_force (l -ℤ m.seconds o) o) offsets
-each_in_force law home l None same wall h = tt
-each_in_force law home l (Single a) same wall h = in_force_home law home l wall.second a same wall.shown h
-each_in_force law home l (Ambiguous a b) same wall h =
-    (in_force_home law home l wall.first a same wall.at_first h.0, in_force_home law home l wall.last b same wall.at_last h.1)
+-- the second that shows l by an offset
+pub shown_second : (off : ℤ → ℤ) (l u k : ℤ) → ShowsByOffset off l u k → l -ℤ k ≡ u
+shown_second off l u k s = let shown : u +ℤ k ≡ l = s.shown in omega (arith, ints)
 
 -- the offsets, and so the instants, for a wall clock
 pub offsets_home : {O : Type 0} {m : Meaning O} (law home : Law m) (l : ℤ) (offsets : LocalResult O)
     → SameLaw law home → AreOffsetsFor law l offsets → AreOffsetsFor home l offsets
 offsets_home {m = m} law home l offsets same h = record {
   wall = wall_home law.off home.off l (map_of m.seconds offsets) same.offsets h.wall;
-  in_force = each_in_force law home l offsets same h.wall h.in_force;
-  same_home = each_home law home offsets same h.same_home;
+  in_force = each_of law l (λ o. home.in_force (l -ℤ m.seconds o) o) offsets h
+      (λ u o s there knows. (same.in_force (l -ℤ m.seconds o) (rw (shown_second law.off l u (m.seconds o) s) s.in_zone) o).0 there);
+  same_home = each_of law l (λ o. SameLaw (home_law m o) home) offsets h (λ u o s there knows. same_through knows same);
 }
 
 pub relocal_home : {O : Type 0} {m : Meaning O} (law home : Law m) (l : Reading) (answer : LocalResult (Zoned O))
@@ -106,26 +89,14 @@ at_seconds law other r d same range at =
     let there = at.offset.there ∙ same d.utc.s inside in
     record { utc = at.utc; offset = record { there = there; in_force = there; same_home = home_seconds law other d.offset same at.offset.same_home } }
 
--- an offset of a second that shows l is the one at that second
-there_seconds : {O : Type 0} {m : Meaning O} (law other : Law m) (l u : ℤ) (o : O) → SameOffsets law.off other.off
-    → ShowsByOffset law.off l u (m.seconds o) → m.seconds o ≡ other.off (l -ℤ m.seconds o)
-there_seconds {m = m} law other l u o same shows =
-    let second : l -ℤ m.seconds o ≡ u = let shown : u +ℤ m.seconds o ≡ l = shows.shown in omega (arith, ints) in
-    rw second (shows.offset ∙ same u shows.in_zone)
-
 offsets_seconds : {O : Type 0} {m : Meaning O} (law other : Law m) (l : ℤ) (offsets : LocalResult O)
     → SameOffsets law.off other.off → AreOffsetsFor law l offsets → AreOffsetsFor (seconds_alone other) l offsets
-offsets_seconds law other l None same h =
-    record { wall = wall_home law.off other.off l None same h.wall; in_force = tt; same_home = tt }
-offsets_seconds {m = m} law other l (Single a) same h = record {
-  wall = wall_home law.off other.off l (Single (m.seconds a)) same h.wall;
-  in_force = there_seconds law other l h.wall.second a same h.wall.shown;
-  same_home = home_seconds law other a same h.same_home;
-}
-offsets_seconds {m = m} law other l (Ambiguous a b) same h = record {
-  wall = wall_home law.off other.off l (Ambiguous (m.seconds a) (m.seconds b)) same h.wall;
-  in_force = (there_seconds law other l h.wall.first a same h.wall.at_first, there_seconds law other l h.wall.last b same h.wall.at_last);
-  same_home = (home_seconds law other a same h.same_home.0, home_seconds law other b same h.same_home.1);
+offsets_seconds {m = m} law other l offsets same h = record {
+  wall = wall_home law.off other.off l (map_of m.seconds offsets) same h.wall;
+  in_force = each_of law l (λ o. m.seconds o ≡ other.off (l -ℤ m.seconds o)) offsets h
+      (λ u o s there knows. rw (shown_second law.off l u (m.seconds o) s) (s.offset ∙ same u s.in_zone));
+  same_home = each_of law l (λ o. SameLaw (seconds_alone (home_law m o)) (seconds_alone other)) offsets h
+      (λ u o s there knows. home_seconds law other o same knows);
 }
 
 pub relocal_seconds : {O : Type 0} {m : Meaning O} (law other : Law m) (l : Reading) (answer : LocalResult (Zoned O))

@@ -3,14 +3,11 @@ use Rattle.offset_core.specs.declared.local_result.LocalResult.TheVariants.{Ambi
 use Rattle.naive_base.specs.NaiveDateTime.{day_shown_by}
 use Rattle.zoned_time.proofs.Words.{AreInstantsOf, HasOneValue, IsGiven, IsMonthsLater, IsOnly, IsOnlyWhere, IsReadingOnDay, IsRelocal, IsSome, Law}
 use Rattle.zoned_time.proofs.Words.{LocalResult, Meaning, None, Option, Reading, ShowsByOffset, Some, SomeIff, Zoned, all_or_none, ap, day_at, in_seconds}
-use Rattle.zoned_time.proofs.Words.{map_all, map_of, one_wall_answer, option_map, reading_at, refl, second_at, single_of, subst, sym, ℤ, ◌∙◌, ◌≡◌}
+use Rattle.zoned_time.proofs.Words.{map_all, map_of, one_wall_answer, arith, option_map, reading_at, refl, second_at, single_of, subst, sym, ℤ, ◌∙◌, ◌≡◌}
 
 -- one value at most is given where p holds
 given_once : {T : Type 0} (a b : Option T) (p : Type 0) (v : T) → SomeIff a p v → SomeIff b p v → a ≡ b
-given_once (Some x) (Some y) p v h k = ap Some (h.1 ∙ sym k.1)
-given_once (Some x) None p v h k = absurd (k h.0)
-given_once None (Some y) p v h k = absurd (h k.0)
-given_once None None p v h k = refl
+given_once a b p v h k = grind (arith, h, k)
 
 some_told : {O : Type 0} (seconds : O → ℤ) (d : Option (Zoned O)) (p : Type 0) (v : Zoned O)
     → SomeIff d p v → SomeIff (option_map (in_seconds seconds) d) p (in_seconds seconds v)
@@ -56,9 +53,7 @@ relocal_once {m = m} law l a b h k =
     (rw (← same) (told_in_seconds m.seconds l h.offsets a h.instants)) (told_in_seconds m.seconds l k.offsets b k.instants)
 
 single_told : {T Z : Type 0} (f : T → Z) (a : LocalResult T) → single_of (map_of f a) ≡ option_map f (single_of a)
-single_told f none = refl
-single_told f (Single a) = refl
-single_told f (Ambiguous a b) = refl
+single_told f a = grind arith
 
 -- so where one answer is some instant, any is
 some_of : {T Z : Type 0} (f : T → Z) (d : T) (b : Option T) → option_map f (Some d) ≡ option_map f b → IsSome b
@@ -79,8 +74,7 @@ only_some_where law (Some l) d b h k = only_some law l d b h k
 only_some_where law None d b h k = cc
 
 some_mapped : {T Z : Type 0} (f : T → Z) (a : Option T) → IsSome (option_map f a) → IsSome a
-some_mapped f (Some x) h = refl
-some_mapped f None h = cc
+some_mapped f a h = grind arith
 
 -- and so for what is given another value to show
 pub given_some : {T V O : Type 0} {m : Meaning O} (law : Law m) (shows : T → V) (reads : V → Reading) (told : T → Zoned O) (p : Type 0) (v : V) (d : T) (b : Option T)

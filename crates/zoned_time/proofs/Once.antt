@@ -1,5 +1,4 @@
 -- What a zone gives for a wall clock, and what a choice takes, is determined.
-use Rattle.offset_core.specs.declared.local_result.LocalResult.TheVariants.{Ambiguous, None, Single}
 use Rattle.zoned_time.proofs.Words.{Choice, Err, IsAt, IsBeforeGap, IsInRange, IsRelocal, IsResolved, IsTaken, IsUnresolved, Law, LocalResult, Meaning, Ok}
 use Rattle.zoned_time.proofs.Words.{Reading, ResolveError, Result, ShowsByOffset, Taken, Takes, Zoned, ap, arith, behind, in_seconds, ints, map_of}
 use Rattle.zoned_time.proofs.Words.{offset_taken, one_outcome, out_of_range, pos, refl, refused, subst, sym, ℤ, ◌-ℤ◌, ◌∙◌, ◌≡◌}
@@ -12,10 +11,7 @@ seconds_told m told d = ap (λ k. record { utc = d.utc; offset = k }) (told d.of
 
 map_seconds : {O : Type 0} (m : Meaning O) {seconds : O → ℤ} → ((o : O) → m.seconds o ≡ seconds o)
     → (a : LocalResult (Zoned O)) → map_of (in_seconds m.seconds) a ≡ map_of (in_seconds seconds) a
-map_seconds m told None = refl
-map_seconds m told (Single d) = ap Single (seconds_told m told d)
-map_seconds m {seconds} told (Ambiguous d e) =
-    ap (λ x. Ambiguous x (in_seconds m.seconds e)) (seconds_told m told d) ∙ ap (λ y. Ambiguous (in_seconds seconds d) y) (seconds_told m told e)
+map_seconds m told a = grind (arith, seconds_told m told)
 
 pub one_relocal : {O : Type 0} {m : Meaning O} {seconds : O → ℤ} → ((o : O) → m.seconds o ≡ seconds o)
     → (law : Law m) (l : Reading) (a b : LocalResult (Zoned O)) → IsRelocal law l a → IsRelocal law l b

@@ -1,6 +1,6 @@
 -- What is put together in a buffer and written at once.
-use Rattle.zoned_time.proofs.Words.{DisplaysOnOk, Error, Formatter, List, None, Option, Result, Some, WritesOnOk, WritesText, ap, contents_after_writes}
-use Rattle.zoned_time.proofs.Words.{option_map, refl, subst, ℕ, [], ◌++?◌, ◌++◌, ◌∙◌, ◌∷◌, ◌≡◌}
+use Rattle.zoned_time.proofs.Words.{DisplaysOnOk, Error, Formatter, List, None, Option, Result, Some, WritesOnOk, WritesText, ap, arith, contents_after_writes}
+use Rattle.zoned_time.proofs.Words.{option_map, subst, ℕ, [], ◌++?◌, ◌++◌, ◌∙◌, ◌∷◌, ◌≡◌}
 
 -- a buffer that takes each piece
 abbrev pub Appends : List ℕ → List ℕ → List ℕ → Type 0
@@ -17,10 +17,8 @@ at_once {W} took f g r (Some bs) empty text bytes e same wrote h =
 
 -- a local date-time, a space and the offset's text, if that is known
 pub spaced : (a b : List ℕ) (o : Option (List ℕ)) → a ≡ b → Some a ++? (Some (32 ∷ []) ++? o) ≡ option_map (λ offset. b ++ (32 ∷ offset)) o
-spaced a b None e = refl
-spaced a b (Some offset) e = ap (λ (t : List ℕ). Some (t ++ (32 ∷ offset))) e
+spaced a b o e = grind arith
 
 -- the same with nothing between
 pub joined : (a b : List ℕ) (o : Option (List ℕ)) → a ≡ b → Some a ++? o ≡ option_map (λ offset. b ++ offset) o
-joined a b None e = refl
-joined a b (Some offset) e = ap (λ (t : List ℕ). Some (t ++ offset)) e
+joined a b o e = grind arith

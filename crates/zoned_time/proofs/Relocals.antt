@@ -1,9 +1,10 @@
 -- Readings brought back to UTC by clocks whose offset never changes.
 use Rattle.offset_core.specs.declared.local_result.LocalResult.TheVariants.{Ambiguous, None as none, Single}
-use Rattle.zoned_time.proofs.Words.{AreInstantsOf, AreOffsetsFor, Each, HasInstant, IsAndThen, IsAt, IsFixed, IsInRange, IsOffsetAt, IsRelocal, IsShownBetween}
+use Rattle.zoned_time.proofs.Words.{AreInstantsOf, AreOffsetsFor, Each, HasInstant, IsAndThen, IsAt, IsFixed, IsInRange, IsRelocal, IsShownBetween}
 use Rattle.zoned_time.proofs.Words.{IsSome, IsWallAnswer, IsZoneSecond, Law, LocalResult, Meaning, None, Option, Reading, SameLaw, ShowsByOffset, SingleIff}
 use Rattle.zoned_time.proofs.Words.{Some, SomeIff, Utc, Zoned, all_or_none, and_then_told, ap, arith, home_law, in_utc, inl, inr, instant_of, ints, local_of}
 use Rattle.zoned_time.proofs.Words.{map_of, option_map, pos, refl, single_of, subst, sym, ℤ, ◌+ℤ◌, ◌-ℤ◌, ◌∙◌, ◌≡◌, ◌⊎◌}
+use Rattle.zoned_time.proofs.Homes.{each_of, shown_second}
 
 -- one offset gives one instant, or none
 single_kept : {T : Type 0} (a : Option T) (p : Type 0) (v : T) → SomeIff a p v → SingleIff (all_or_none (Single a)) p v
@@ -18,12 +19,7 @@ single_instant seconds l o answer h =
 -- two seconds can't show the same
 not_between : {O : Type 0} {m : Meaning O} (law : Law m) (l a b : ℤ) → IsFixed law → IsShownBetween (ShowsByOffset law.off l) a b → ⊥
 not_between law l a b fixed between =
-    let first : a ≡ law.off between.first = between.at_first.offset in
-    let last : b ≡ law.off between.last = between.at_last.offset in
-    let same : law.off between.first ≡ law.off between.last = fixed between.first between.last between.at_first.in_zone between.at_last.in_zone in
-    let first_shown : between.first +ℤ a ≡ l = between.at_first.shown in
-    let last_shown : between.last +ℤ b ≡ l = between.at_last.shown in
-    omega (arith, ints, between.several)
+    let same = fixed between.first between.last between.at_first.in_zone between.at_last.in_zone in omega (arith, ints)
 
 epoch_in_zone : IsZoneSecond (pos 0)
 epoch_in_zone = (omega (arith, ints), omega (arith, ints))
@@ -63,9 +59,7 @@ fixed_relocal {O} {m} law zone l answer is only fixed h = elim (given_once law l
 
 some_single : {T Z : Type 0} (show : T → Z) (answer : LocalResult T) (p : Type 0) (v : Z)
     → SingleIff (map_of show answer) p v → p → IsSome (single_of answer)
-some_single show none p v h fits = absurd (h fits)
-some_single show (Single a) p v h fits = refl
-some_single show (Ambiguous a b) p v h fits = absurd h
+some_single show answer p v h fits = grind (arith, h, fits)
 
 -- and one that is in range
 pub fixed_single : {T O : Type 0} {m : Meaning O} (law : Law m) (l : Reading) (show : T → Zoned O) (answer : LocalResult T)
@@ -85,16 +79,13 @@ utc_instant l answer h =
     subst At same h
 
 -- an instant of an offset that a zone gives at the second u for the wall clock l
-pub at_shown : {O : Type 0} {m : Meaning O} (law : Law m) (l : Reading) (o : O) (d : Zoned O) (u : ℤ)
-    → ShowsByOffset law.off l.s u (m.seconds o) → law.in_force (l.s -ℤ m.seconds o) o → SameLaw (home_law m o) law → d ≡ instant_of m.seconds l o
-    → (local_of m.seconds d ≡ l) × IsAt law d.utc d
-at_shown {O} {m} law l o d u shows in_force same is =
-    let Good : Zoned O → Type 0 = λ e. (local_of m.seconds e ≡ l) × IsAt law e.utc e in
-    let second : l.s -ℤ m.seconds o ≡ u = let shown : u +ℤ m.seconds o ≡ l.s = shows.shown in omega (arith, ints) in
+pub at_shown : {O : Type 0} {m : Meaning O} (law : Law m) (l : Reading) (u : ℤ) (o : O)
+    → ShowsByOffset law.off l.s u (m.seconds o) → law.in_force (l.s -ℤ m.seconds o) o → SameLaw (home_law m o) law
+    → (local_of m.seconds (instant_of m.seconds l o) ≡ l) × IsAt law (instant_of m.seconds l o).utc (instant_of m.seconds l o)
+at_shown {m = m} law l u o shows in_force same =
     let back : (l.s -ℤ m.seconds o) +ℤ m.seconds o ≡ l.s = omega (arith, ints) in
-    let there : m.seconds o ≡ law.off (l.s -ℤ m.seconds o) = rw second shows.offset in
-    let at : IsOffsetAt law (l.s -ℤ m.seconds o) o = record { there = there; in_force = in_force; same_home = same } in
-    subst Good (sym is) (ap (λ s. record { s = s; f = l.f }) back, record { utc = refl; offset = at })
+    let there : m.seconds o ≡ law.off (l.s -ℤ m.seconds o) = rw (shown_second law.off l.s u (m.seconds o) shows) shows.offset in
+    (ap (λ s. record { s = s; f = l.f }) back, record { utc = refl; offset = record { there = there; in_force = in_force; same_home = same } })
 
 -- what holds of each instant holds of those that are kept
 one_kept : {Z : Type 0} (G : Z → Type 0) (a : Option Z) (p : Type 0) (v : Z) → SomeIff a p v → G v → Each G (all_or_none (Single a))
@@ -107,23 +98,19 @@ two_kept G (Some d) (Some e) p q v w h i g j = (subst G (sym h.1) g, subst G (sy
 two_kept G (Some d) None p q v w h i g j = tt
 two_kept G None b p q v w h i g j = tt
 
-instants_shown : {O : Type 0} {m : Meaning O} (law : Law m) (l : Reading) (offsets : LocalResult O) (answer : LocalResult (Zoned O))
-    → IsWallAnswer (ShowsByOffset law.off l.s) (map_of m.seconds offsets) → Each (λ o. law.in_force (l.s -ℤ m.seconds o) o) offsets
-    → Each (λ o. SameLaw (home_law m o) law) offsets → AreInstantsOf m.seconds l offsets answer
-    → Each (λ d. (local_of m.seconds d ≡ l) × IsAt law d.utc d) answer
-instants_shown law l none answer wall there same h = rw (h.kept, h.asked) tt
-instants_shown {O} {m} law l (Single o) answer wall there same h =
-    let Good : Zoned O → Type 0 = λ d. (local_of m.seconds d ≡ l) × IsAt law d.utc d in
-    rw (h.kept, h.asked.3) (one_kept Good h.asked.0 _ _ h.asked.2 (at_shown law l o _ wall.second wall.shown there same refl))
-instants_shown {O} {m} law l (Ambiguous o p) answer wall there same h =
-    let Good : Zoned O → Type 0 = λ d. (local_of m.seconds d ≡ l) × IsAt law d.utc d in
-    rw (h.kept, h.asked.6) (two_kept Good h.asked.0 h.asked.1 _ _ _ _ h.asked.4 h.asked.5
-    (at_shown law l o _ wall.first wall.at_first there.0 same.0 refl) (at_shown law l p _ wall.last wall.at_last there.1 same.1 refl))
+each_kept : {O : Type 0} (seconds : O → ℤ) (l : Reading) (G : Zoned O → Type 0) (offsets : LocalResult O) (answer : LocalResult (Zoned O))
+    → AreInstantsOf seconds l offsets answer → Each (λ o. G (instant_of seconds l o)) offsets → Each G answer
+each_kept seconds l G none answer h each = rw (h.kept, h.asked) tt
+each_kept seconds l G (Single o) answer h each = rw (h.kept, h.asked.3) (one_kept G h.asked.0 _ _ h.asked.2 each)
+each_kept seconds l G (Ambiguous o p) answer h each =
+    rw (h.kept, h.asked.6) (two_kept G h.asked.0 h.asked.1 _ _ _ _ h.asked.4 h.asked.5 each.0 each.1)
 
 -- the instants that a zone gives for a wall clock show it
 pub relocal_shown : {O : Type 0} {m : Meaning O} (law : Law m) (l : Reading) (answer : LocalResult (Zoned O))
     → IsRelocal law l answer → Each (λ d. (local_of m.seconds d ≡ l) × IsAt law d.utc d) answer
-relocal_shown law l answer h = instants_shown law l h.offsets answer h.wall.wall h.wall.in_force h.wall.same_home h.instants
+relocal_shown {O} {m} law l answer h =
+    let Good : Zoned O → Type 0 = λ d. (local_of m.seconds d ≡ l) × IsAt law d.utc d in
+    each_kept m.seconds l Good h.offsets answer h.instants (each_of law l.s (λ o. Good (instant_of m.seconds l o)) h.offsets h.wall (at_shown law l))
 
 -- by seconds that agree
 pub shown_by : {O : Type 0} {m : Meaning O} {seconds : O → ℤ} → ((o : O) → m.seconds o ≡ seconds o)

@@ -1,11 +1,11 @@
 -- The words that this crate's proofs cite, passed on from std, from the crates below and from specs/.
-pub use Rattle.std.proofs.Common.{Err, IsTrue, MatchResult, None, Ok, Option, Result, SFits, Some, negsuc, of_calls, ◌↔◌}
+pub use Rattle.std.proofs.Common.{unsigned_abs, Err, IsTrue, MatchResult, None, Ok, Option, Result, SFits, Some, negsuc, of_calls, ◌<◌, ◌↔◌}
 pub use Rattle.std.proofs.lemmas.Fmt.{contents_after_writes}
 pub use Rattle.std.specs.Fmt.{DisplaysOnOk, WritesOnOk, WritesText, ◌++?◌}
 pub use Rattle.std.specs.declared.fmt.Error.{Error}
 pub use Rattle.std.specs.declared.fmt.Formatter.{Formatter}
 pub use Rattle.offset_core.proofs.ForCallers.{HasOneValue, HoldsOfTaken, and_then_told, map_all, map_outcome, map_taken, one_offset, one_outcome}
-pub use Rattle.offset_core.proofs.ForCallers.{one_wall_answer, taken_holds, taken_of_images}
+pub use Rattle.offset_core.proofs.ForCallers.{IsWallAnswer-map_of, one_wall_answer, taken_holds, taken_of_images}
 pub use Rattle.offset_core.specs.Around.{HoldsOfEachAround, Takes, taken_of}
 pub use Rattle.offset_core.specs.FixedOffset.{seconds_of}
 pub use Rattle.offset_core.specs.LocalResult.{IsAndThen, all_or_none, map_of, single_of}
@@ -14,8 +14,6 @@ pub use Rattle.offset_core.specs.WallAnswer.{IsNeverShown, IsShownBetween, IsSho
 pub use Rattle.offset_core.specs.declared.around.Around.{Around}
 pub use Rattle.offset_core.specs.declared.around.Taken.{Taken}
 pub use Rattle.offset_core.specs.declared.choice.Choice.{Choice}
-pub use Rattle.offset_core.specs.declared.choice.FoldChoice.{FoldChoice}
-pub use Rattle.offset_core.specs.declared.choice.GapChoice.{GapChoice}
 pub use Rattle.offset_core.specs.declared.local_result.LocalResult.{LocalResult}
 pub use Rattle.naive_base.proofs.ForCallers.{in_range_or_not, inner_date}
 pub use Rattle.naive_base.proofs.Words.{IsDateOn, IsEarlier, IsInRange, IsMonthsLater, IsReadingOnDay, IsSome, IsWide, IsWideDay, List, MatchOption, Reading}

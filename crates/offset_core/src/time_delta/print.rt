@@ -40,7 +40,7 @@ fn text_of(nanos: i128) -> ShortText
 }
 
 // `PT`, the whole seconds of a number of nanoseconds, their fraction and `S`.
-#[tactic(auto, using(crate::proofs::Digits::decimals))]
+#[tactic(auto, using(crate::proofs::Digits::seconds_fit))]
 fn push_seconds(nanos: u128, text: &mut ShortText)
     requires nanos { nanos < 10_000_000_000_000_000_000_000_000 }
     requires room { length text.old ≤ 1 }

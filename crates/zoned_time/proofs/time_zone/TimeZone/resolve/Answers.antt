@@ -1,17 +1,19 @@
-use Rattle.zoned_time.proofs.{Words.{Ok, ap, reading, shown, sym, ◌∙◌}, Choices.{gap_resolved, refused_of, shown_resolved}}
+use Rattle.offset_core.specs.declared.around.Taken.TheVariants.{InGap}
+use Rattle.zoned_time.proofs.{Words.{Ok, ap, reading, shown, sym, ◌∙◌}, Choices.{refused_of, shown_resolved, taken_resolved}}
 use Rattle.zoned_time.proofs.time_zone.TimeZone.resolve.Goals as goal
 
 pub returns-in-Ok-Shown : goal.returns-in-Ok-Shown
 returns-in-Ok-Shown g c =
     let law = g.Self.TimeZone.law c.args.self.now in let given = c.offsets_around in let taken = c.in-Ok-Shown in
-    shown_resolved g.met.Self.TimeZone.told law (reading c.args.local.now) c.args.choice given.result taken.offset (λ d. shown d.datetime d.offset)
-    c.instant_by.result given.ensures (sym c.take.ensures ∙ taken.is ∙ ap Ok taken.field-0-is) c.instant_by.ensures
+    shown_resolved law (reading c.args.local.now) c.args.choice given.result taken.offset (λ d. shown d.datetime d.offset)
+    c.instant_by.result given.ensures (sym c.take.ensures ∙ taken.is ∙ ap Ok taken.field-0-is)
+    (rw (← g.met.Self.TimeZone.told taken.offset) at c.instant_by.ensures)
 
 pub returns-in-Ok-InGap : goal.returns-in-Ok-InGap
 returns-in-Ok-InGap g c =
     let law = g.Self.TimeZone.law c.args.self.now in let given = c.offsets_around in let taken = c.in-Ok-InGap in
-    gap_resolved g.met.Self.TimeZone.told law (reading c.args.local.now) c.args.choice given.result taken.before (λ d. shown d.datetime d.offset)
-    c.shifted.result given.ensures (sym c.take.ensures ∙ taken.is ∙ ap Ok taken.field-0-is) c.shifted.ensures
+    taken_resolved law (reading c.args.local.now) c.args.choice given.result (InGap taken.before) (λ d. shown d.datetime d.offset)
+    c.shifted.result given.ensures (sym c.take.ensures ∙ taken.is ∙ ap Ok taken.field-0-is) (rw (← g.met.Self.TimeZone.told taken.before) at c.shifted.ensures)
 
 pub returns-in-Err : goal.returns-in-Err
 returns-in-Err g c =
