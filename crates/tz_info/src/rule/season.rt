@@ -181,6 +181,13 @@ impl Turns {
         }
     }
 
+    // The start, or the end.
+    pub(super) fn moment(self, to_dst: bool) -> i64
+        ensures { result ≡ (if to_dst then self.start else self.end) }
+    {
+        if to_dst { self.start } else { self.end }
+    }
+
     // Whether the start does not come after the end.
     fn is_start_first(self) -> bool
         ensures { result ≡ int_le self.start self.end }

@@ -211,17 +211,10 @@ impl AlternateTime {
         ensures { (from : ℤ) → IsSeasonFor self.now from local season → IsNeverFrom self.now from local
             → IsRuleGap self.now from local (change_held result) }
     {
-        let standard = self.std().offset();
-        let daylight = self.dst().offset();
-        if standard < daylight {
-            return self.change_of(Moment {
-                at: season.turns.start,
-                to_dst: true,
-            });
-        }
+        let to_dst = self.std().offset() < self.dst().offset();
         self.change_of(Moment {
-            at: season.turns.end,
-            to_dst: false,
+            at: season.turns.moment(to_dst),
+            to_dst,
         })
     }
 
