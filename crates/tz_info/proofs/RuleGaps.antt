@@ -5,7 +5,7 @@ use Rattle.tz_info.proofs.Words.{IsNeverFrom, IsRuleGap, IsSeason, IsSeasonFor, 
 use Rattle.tz_info.proofs.Words.{None, Option, Season, Some, TransitionRule, TypeAt, Zone, arith, by_lt_z, cond, false, int_lt, ints, is_dst_by_one, length, not, pos}
 use Rattle.tz_info.proofs.Words.{refl, subst, sym, table_count, true, type_when, ℤ, ◌+ℤ◌, ◌-ℤ◌, ◌<ℤ◌, ◌≡◌, ◌≤ℤ◌}
 use Rattle.tz_info.specs.declared.rule.transition_rule.TransitionRule.TheVariants.{Alternate}
-use Rattle.tz_info.proofs.{GapLaws.{IsNever, gap_found}, RuleChanges.{rule_type_once}, WallSegments.{not_begun, rule_begun}, ZoneChanges.{from_rule, to_rule}}
+use Rattle.tz_info.proofs.{GapLaws.{IsNever, gap_found}, RuleLaws.{alternate_once}, SeasonAnswers.{amid, greater}, WallSegments.{not_begun, rule_begun}, ZoneChanges.{from_rule, to_rule}}
 
 -- ---- the moment between two seconds
 -- at v it is daylight saving time as `dst` says and at the earlier second u not, and so up to the moment
@@ -30,11 +30,6 @@ at : (a : AlternateRule) (s : Season) (u : ℤ) (dst : Bool) → IsSeason a s �
     → AlternateAt a u (type_when a dst)
 at a s u dst season near decided e = subst (λ b. AlternateAt a u (type_when a b)) e (season.decided u (omega (arith, ints, near), omega (arith, ints, near)) decided)
 
--- the season decides at both seconds that could show the local time
-amid : (a : AlternateRule) (s : Season) (from l : ℤ) (dst : Bool) → IsSeasonFor a from l s → IsAmidFrom s from (l -ℤ (type_when a dst).offset)
-amid a s from l true h = h.daylight
-amid a s from l false h = h.standard
-
 -- at the one that would show it by the one type the other one is in force
 other_at : (a : AlternateRule) (s : Season) (from l : ℤ) (dst : Bool) → IsSeasonFor a from l s → IsNear (l -ℤ (type_when a dst).offset) → IsNeverFrom a from l
     → is_dst_by_one s.turns.start s.turns.end (l -ℤ (type_when a dst).offset) ≡ not dst
@@ -47,10 +42,6 @@ most_offset a true true h = omega (arith, ints)
 most_offset a true false h = h
 most_offset a false true h = h
 most_offset a false false h = omega (arith, ints)
-
-greater : (a : AlternateRule) (dst : Bool) → dst ≡ int_lt a.std.offset a.dst.offset → (type_when a (not dst)).offset ≤ℤ (type_when a dst).offset
-greater a true e = grind (arith, ints)
-greater a false e = grind (arith, ints)
 
 near_by : (a : AlternateRule) (l : ℤ) (dst : Bool) → IsAlternateRule a → IsWide l → IsNear (l -ℤ (type_when a dst).offset)
 near_by a l true rule wide = let o = rule.within.dst_offset in (omega (arith, ints, wide), omega (arith, ints, wide))
@@ -86,7 +77,7 @@ gap_at a s from l dst rule wide is h never =
           let e = subst (λ (x : LocalType). x.offset ≤ℤ (type_when a dst).offset) (sym is.shown) (most_offset a dst is.dst order) in
           omega (arith, ints))
           (λ b.
-          let e = rule_type_once a w (type_when a (not dst)) f (lesser w b k) is in
+          let e = alternate_once a w (type_when a (not dst)) f (lesser w b k) is in
           subst (λ (x : LocalType). (w +ℤ x.offset) <ℤ l) e (omega (arith, ints)));
     })
     (λ not_less. absurd (never u (type_when a (not dst)) near_u since (at a s u (not dst) h.season near_u amid_u.decided at_u) (omega (arith, ints))))

@@ -60,6 +60,7 @@ impl AlternateTime {
 
     // The nearest moment at which clocks change: mostly one of the second's year or the next one.
     #[inline(always)]
+    #[tactic(auto, using(crate::proofs::Ranges::in_range, crate::proofs::SeasonChanges::nearest_on))]
     fn nearest_moment(&self, second: i64, forward: bool) -> Option<Moment>
         ensures { IsNearestMomentOf forward self.now (IsAhead forward second) result }
     {
@@ -73,6 +74,7 @@ impl AlternateTime {
     }
 
     // The nearest moment, by those of the second's year if these decide at it, or else year by year.
+    #[tactic(auto, using(crate::proofs::Ranges::in_range, crate::proofs::SeasonChanges::nearest_on))]
     fn moment_beyond(&self, second: i64, forward: bool) -> Option<Moment>
         ensures { IsNearestMomentOf forward self.now (IsAhead forward second) result }
     {

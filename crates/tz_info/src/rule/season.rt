@@ -78,11 +78,7 @@ impl AlternateTime {
         requires time { IsRuleTime unix_time }
         ensures { AlternateAt self.now unix_time result.now }
     {
-        if self.is_dst_in(season, unix_time) {
-            &self.dst_type
-        } else {
-            &self.std_type
-        }
+        self.type_when(self.is_dst_in(season, unix_time))
     }
 
     // Whether it is daylight saving time at the second, by the season's moments where these
