@@ -157,7 +157,10 @@ same_stretch : (after last from until u : ℤ) → least_time <ℤ u → IsBefor
 same_stretch after last from until u some before end =
     let b = before u some in let e = end u some in (
       λ k. let l = k.0 in let h = k.1 in (b.0 (omega (arith, ints)), by_lt_z u until (λ m. m) (λ m. let n = e.1 m in absurd (omega (arith, ints)))),
-      λ k. let l = b.1 k.0 in let h = k.1 in (omega (arith, ints), by_lt_z u (last +ℤ pos 1) (λ m. m) (λ m. let n = e.0 (omega (arith, ints)) in absurd (omega (arith, ints)))),
+      λ k. let l = b.1 k.0 in let h = k.1 in (
+        omega (arith, ints),
+        by_lt_z u (last +ℤ pos 1) (λ m. m) (λ m. let n = e.0 (omega (arith, ints)) in absurd (omega (arith, ints))),
+      ),
     )
 
 pub all_left : (s : Changes) (from until : ℤ) → IsValid s.zone.now → IsRuleOrNone s.zone.now.rule → IsBefore s.after from → IsBefore s.last until

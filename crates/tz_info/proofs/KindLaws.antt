@@ -37,7 +37,8 @@ kind_at t offset kind d h =
     get_or-map (day_time_second t offset) (places_by_kind t.day) kind 0 d h
     ∙ ap (day_time_second t offset) (get_or-map-range_with_len (λ k. place_by t.day (nat_le 7 k) (k % 7)) 0 14 kind kind 0 h (omega arith))
 
-kind_parts : (leap : Bool) (first : ℕ) → first < 7 → (cond leap 7 0 + first < 14) × (nat_le 7 (cond leap 7 0 + first) ≡ leap) × ((cond leap 7 0 + first) % 7 ≡ first)
+kind_parts : (leap : Bool) (first : ℕ) → first < 7
+    → (cond leap 7 0 + first < 14) × (nat_le 7 (cond leap 7 0 + first) ≡ leap) × ((cond leap 7 0 + first) % 7 ≡ first)
 kind_parts true first h = (omega arith, grind (arith, nat_tests), omega arith)
 kind_parts false first h = (omega arith, grind (arith, nat_tests), omega arith)
 

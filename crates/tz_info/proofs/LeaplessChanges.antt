@@ -60,11 +60,13 @@ type_then z place t s valid none some item later fits has = elim (cases_lt (plac
       let begin = begin_next z.transitions place t some ∙ time_at z.transitions place t t some item in
       let index : index_of z.transitions (place + 1) ≡ t.type_index = index_next z.transitions place t some ∙ ap (λ (d : Transition). d.type_index) (sym item) in
       between z (place + 1) t.unix_leap_time s valid none more (omega (arith, ints))
-      (λ d. let e = time_at z.transitions place t d some item in let r = valid.transitions.rising place (place + 1) d (omega arith) more in omega (arith, ints)) (rw index has)
+      (λ d. let e = time_at z.transitions place t d some item in
+      let r = valid.transitions.rising place (place + 1) d (omega arith) more in omega (arith, ints)) (rw index has)
   | inr all ↦
       let at : length z.transitions - 1 ≡ place = omega arith in
       let is : last_transition z.transitions ≡ Some t = rw at (slice_get-get_or z.transitions place t some ∙ ap (λ (d : Transition). Some d) (sym item)) in
-      last_type z t t.unix_leap_time t.unix_leap_time s valid is (own_unix_time z.leaps t.unix_leap_time none (λ e. omega (arith, ints)) fits) (own_leap_time z.leaps t.unix_leap_time none) (omega (arith, ints)) has
+      last_type z t t.unix_leap_time t.unix_leap_time s valid is (own_unix_time z.leaps t.unix_leap_time none (λ e. omega (arith, ints)) fits)
+      (own_leap_time z.leaps t.unix_leap_time none) (omega (arith, ints)) has
 ]
 
 -- ---- the change that comes with a transition

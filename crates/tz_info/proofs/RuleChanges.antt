@@ -1,7 +1,6 @@
 -- Where a rule's types give way to each other: at its moments and at turns of the year, and every 400 years alike.
 use Rattle.std.proofs.lemmas.Bool.Decides.{Decides-int_eq}
 use Rattle.std.proofs.lemmas.Map.Made.{is_member-Decides}
-use Rattle.std.specs.Bool.{Decides}
 use Rattle.std.specs.Ordering.{int_eq}
 use Rattle.std.specs.Set.{is_member}
 use Rattle.tz_info.proofs.Words.{Alternate, AlternateAt, AreIn, Bool, Change, DayTime, HasNoChange, IsAlternateRule, IsChange, IsDstAt, IsEarlierOf}
@@ -10,7 +9,7 @@ use Rattle.tz_info.proofs.Words.{Contains, IsRuleYear, IsYearOf, List, LocalType
 use Rattle.tz_info.proofs.Words.{floor_mod_parts, floors, get_or_default, inl, inr, ints, is_leap, kind_place, length, moment, moments_near, near_end, new_year, pos}
 use Rattle.tz_info.proofs.Words.{refl, second_in, start_in, starts_rise, suc, sym, true, weekday_of, year_at, year_start, zero, ℕ, ℤ, [], ◌*ℤ◌, ◌+ℤ◌, ◌+◌, ◌-ℤ◌}
 use Rattle.tz_info.proofs.Words.{◌<ℤ◌, ◌<◌, ◌∙◌, ◌∷◌, ◌≡◌, ◌≤ℤ◌, ◌⊎◌}
-use Rattle.tz_info.proofs.{ChangeSearch.{nearest_moved}, KindLaws.{kind_found}, Neighbours.{second_high, second_low, year_after}}
+use Rattle.tz_info.proofs.{ChangeSearch.{decided, nearest_moved}, KindLaws.{kind_found}, Neighbours.{second_high, second_low, year_after}}
 use Rattle.tz_info.proofs.{NextMoments.{outside, steady_until}, RuleLaws.{alternate_once, rule_time}}
 
 -- ---- the calendar repeats every 400 years: k times as many years later, or earlier where k is below 0
@@ -107,10 +106,6 @@ of_year u year h = let a = h.0 in let b = h.1 in (omega (arith, floors), omega (
 
 beside : (m u : ℤ) → (m ≡ u → ⊥) → (m ≤ℤ (u -ℤ pos 1)) ⊎ ((u +ℤ pos 1) ≤ℤ m)
 beside m u not = by_lt_z m u (λ l. inl (omega (arith, ints))) (λ h. by_lt_z u m (λ l. inr (omega (arith, ints))) (λ k. absurd (not (omega (arith, ints)))))
-
-decided : (P : Type 0) (b : Bool) → Decides b P → P ⊎ (P → ⊥)
-decided P true d = inl (d.0 refl)
-decided P false d = inr (λ p. let e = d.1 p in cc)
 
 same_or_not : (x u : ℤ) → (x ≡ u) ⊎ (x ≡ u → ⊥)
 same_or_not x u = decided (x ≡ u) (int_eq x u) (Decides-int_eq x u)

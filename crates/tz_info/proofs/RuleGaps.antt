@@ -15,9 +15,20 @@ record Turns (start end u v moment : ℤ) (dst : Bool) : Type 0 where
   pub before : (w : ℤ) → u ≤ℤ w → w <ℤ moment → is_dst_by_one start end w ≡ not dst
   pub here : is_dst_by_one start end moment ≡ dst
 
-turns : (start end u v : ℤ) (dst : Bool) → u <ℤ v → is_dst_by_one start end u ≡ not dst → is_dst_by_one start end v ≡ not (not dst) → Turns start end u v (cond dst start end) dst
-turns start end u v true h a b = record { later = grind (arith, ints); most = grind (arith, ints); before = λ w low high. grind (arith, ints); here = grind (arith, ints) }
-turns start end u v false h a b = record { later = grind (arith, ints); most = grind (arith, ints); before = λ w low high. grind (arith, ints); here = grind (arith, ints) }
+turns : (start end u v : ℤ) (dst : Bool) → u <ℤ v → is_dst_by_one start end u ≡ not dst
+    → is_dst_by_one start end v ≡ not (not dst) → Turns start end u v (cond dst start end) dst
+turns start end u v true h a b = record {
+  later = grind (arith, ints);
+  most = grind (arith, ints);
+  before = λ w low high. grind (arith, ints);
+  here = grind (arith, ints);
+}
+turns start end u v false h a b = record {
+  later = grind (arith, ints);
+  most = grind (arith, ints);
+  before = λ w low high. grind (arith, ints);
+  here = grind (arith, ints);
+}
 
 -- ---- the types there
 other : (b dst : Bool) → (b ≡ dst → ⊥) → b ≡ not dst
@@ -35,7 +46,8 @@ other_at : (a : AlternateRule) (s : Season) (from l : ℤ) (dst : Bool) → IsSe
     → is_dst_by_one s.turns.start s.turns.end (l -ℤ (type_when a dst).offset) ≡ not dst
 other_at a s from l dst h near never =
     let u = l -ℤ (type_when a dst).offset in let k = amid a s from l dst h in
-    other (is_dst_by_one s.turns.start s.turns.end u) dst (λ e. never u (type_when a dst) near k.since (at a s u dst h.season near k.decided e) (omega (arith, ints)))
+    other (is_dst_by_one s.turns.start s.turns.end u) dst (λ e. never u (type_when a dst) near k.since (at a s u dst h.season near k.decided e)
+    (omega (arith, ints)))
 
 most_offset : (a : AlternateRule) (b c : Bool) → (type_when a (not b)).offset ≤ℤ (type_when a b).offset → (type_when a c).offset ≤ℤ (type_when a b).offset
 most_offset a true true h = omega (arith, ints)
@@ -64,7 +76,8 @@ gap_at a s from l dst rule wide is h never =
     let moment : ℤ = cond dst s.turns.start s.turns.end in
     let later = t.later in let most = t.most in
     let near : (w : ℤ) → u ≤ℤ w → w ≤ℤ v → IsNear w = λ w h k. (omega (arith, ints, near_u), omega (arith, ints, near_v)) in
-    let lesser : (w : ℤ) → u ≤ℤ w → w <ℤ moment → AlternateAt a w (type_when a (not dst)) = λ w k m. at a s w (not dst) h.season (near w k (omega (arith, ints))) (omega (arith, ints), omega (arith, ints)) (t.before w k m) in
+    let lesser : (w : ℤ) → u ≤ℤ w → w <ℤ moment → AlternateAt a w (type_when a (not dst)) =
+    λ w k m. at a s w (not dst) h.season (near w k (omega (arith, ints))) (omega (arith, ints), omega (arith, ints)) (t.before w k m) in
     record {
       near = near moment (omega (arith, ints)) most;
       near_before = near (moment -ℤ pos 1) (omega (arith, ints)) (omega (arith, ints));

@@ -1,4 +1,5 @@
 -- A rule has one type at a second, or is refused there, and never both.
+use Rattle.std.proofs.lemmas.Bool.{cases_Bool}
 use Rattle.tz_info.proofs.Words.{Alternate as AlternateRule, AlternateAt, Bool, IsAlternateRefused, IsAlternateRule, IsDstAt, IsRule, IsRuleRefused, IsRuleTime}
 use Rattle.tz_info.proofs.Words.{IsRuleYear, IsYearOf, LiesIn, LocalType, MatchOption, None, Option, RuleAt, Some, TransitionRule, alternate_type, ap, arith, by_lt_z, end_in, floor_div, floors, inl, inr}
 use Rattle.tz_info.proofs.Words.{false, ints, is_dst_by_three, is_rule_year, lies_in, neg_ℤ, one_year, pos, refl, rule_type, start_in, starts_rise, subst, sym, true, type_when, year_of, year_start, ℤ}
@@ -24,26 +25,25 @@ rule_not_refused (Alternate a) u t h refused = refused h.year h.of_second h.insi
 refused_at : (u year : ℤ) → IsYearOf u year → (IsRuleYear year → ⊥) → IsAlternateRefused u
 refused_at u year of_second out = λ other h inside. out (subst IsRuleYear (one_year (floor_div u 86_400) other year h of_second) inside)
 
-rule_year_decided : (year : ℤ) → IsRuleYear year ⊎ (IsRuleYear year → ⊥)
-rule_year_decided year =
-    by_lt_z year (neg_ℤ (pos 2_147_483_646))
-    (λ less. inr (λ h. omega (arith, floors, h.0)))
-    (λ low. by_lt_z (pos 2_147_483_645) year
-    (λ more. inr (λ h. omega (arith, floors, h.1)))
-    (λ high. inl (omega (arith, floors), omega (arith, floors))))
-
 -- the type that is computed is the rule's, or the rule is refused
-alternate_told : (a : AlternateRule) (u : ℤ) → IsAlternateRule a → MatchOption (alternate_type a (year_of (floor_div u 86_400)) u) (IsAlternateRefused u) (AlternateAt a u)
+alternate_told : (a : AlternateRule) (u : ℤ) → IsAlternateRule a
+    → MatchOption (alternate_type a (year_of (floor_div u 86_400)) u) (IsAlternateRefused u) (AlternateAt a u)
 alternate_told a u limits =
     let year = year_of (floor_div u 86_400) in
     let of_second = lies_in (floor_div u 86_400) in
-    elim (rule_year_decided year) [
-      | inl inside ↦
-          let low = inside.0 in let high = inside.1 in
-          let test : is_rule_year year ≡ true = grind (arith, ints) in
+    elim (cases_Bool (is_rule_year year)) [
+      | inl test ↦
+          let inside : IsRuleYear year = (grind (arith, ints), grind (arith, ints)) in
           let when = dst_by_three (start_in a) (end_in a) year u _ (starts_near a limits) (ends_near a limits) of_second refl in
-          rw test (record { year = year; of_second = of_second; inside = inside; dst = is_dst_by_three (start_in a) (end_in a) year u; when = when; shown = refl })
-      | inr out ↦ let test : is_rule_year year ≡ false = grind (arith, ints) in rw test (refused_at u year of_second out)
+          rw test (record {
+            year = year;
+            of_second = of_second;
+            inside = inside;
+            dst = is_dst_by_three (start_in a) (end_in a) year u;
+            when = when;
+            shown = refl;
+          })
+      | inr test ↦ rw test (refused_at u year of_second (λ h. let low = h.0 in let high = h.1 in grind (arith, ints)))
     ]
 
 pub rule_told : (rule : TransitionRule) (u : ℤ) → IsRule rule → MatchOption (rule_type rule u) (IsRuleRefused rule u) (RuleAt rule u)

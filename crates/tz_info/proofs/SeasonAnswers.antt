@@ -36,7 +36,8 @@ pub either : (a : AlternateRule) (from l : ℤ) (dst : Bool) (u : ℤ) (t : Loca
 either a from l true u t s = dst_or_std a from l u t s
 either a from l false u t s = std_or_dst a from l u t s
 
-pub asked_in_turn : (a : AlternateRule) (from l : ℤ) (dst : Bool) (p q r : ℕ) → a.std.offset ≢ a.dst.offset → IsAskedSince from (l -ℤ (type_when a dst).offset) p q
+pub asked_in_turn : (a : AlternateRule) (from l : ℤ) (dst : Bool) (p q r : ℕ) → a.std.offset ≢ a.dst.offset
+    → IsAskedSince from (l -ℤ (type_when a dst).offset) p q
     → IsAskedSince from (l -ℤ (type_when a (not dst)).offset) q r → IsAskedFrom (Alternate a) from l p r
 asked_in_turn a from l true p q r other h k = asked_dst_std a from l p q r other h k
 asked_in_turn a from l false p q r other h k = asked_std_dst a from l p q r other h k
@@ -53,7 +54,8 @@ season_for a s from l false season first last = record { season = season; standa
 
 -- ---- the answer
 -- the second of the one type was asked, where it is daylight saving time or not
-asked_side : (a : AlternateRule) (from l : ℤ) (dst b : Bool) (before : LocalResult LocalType) → IsKnown from l (type_when a dst).offset → a.std.offset ≢ a.dst.offset
+asked_side : (a : AlternateRule) (from l : ℤ) (dst b : Bool) (before : LocalResult LocalType) → IsKnown from l (type_when a dst).offset
+    → a.std.offset ≢ a.dst.offset
     → AlternateAt a (l -ℤ (type_when a dst).offset) (type_when a b)
     → IsAskedLast (TypeFrom (Alternate a) from) l (type_when a dst).offset before (joined before (shown_if (beq b dst) (type_when a dst)))
 asked_side a from l true true before k other at = asked_found (Alternate a) from l a.dst.offset a.dst before k.fits k.since at refl
@@ -65,7 +67,8 @@ asked_side a from l false false before k other at = asked_found (Alternate a) fr
 pub both_asked : (a : AlternateRule) (from l : ℤ) (dst b c : Bool) → a.std.offset ≢ a.dst.offset → (type_when a (not dst)).offset ≤ℤ (type_when a dst).offset
     → IsKnown from l (type_when a dst).offset → IsKnown from l (type_when a (not dst)).offset
     → AlternateAt a (l -ℤ (type_when a dst).offset) (type_when a b) → AlternateAt a (l -ℤ (type_when a (not dst)).offset) (type_when a c)
-    → IsWallAnswer (Shows (TypeFrom (Alternate a) from) l) (joined (shown_if (beq b dst) (type_when a dst)) (shown_if (beq c (not dst)) (type_when a (not dst))))
+    → IsWallAnswer (Shows (TypeFrom (Alternate a) from) l)
+    (joined (shown_if (beq b dst) (type_when a dst)) (shown_if (beq c (not dst)) (type_when a (not dst))))
 both_asked a from l dst b c other order first last at_first at_last =
     let differ : (type_when a dst).offset ≢ (type_when a (not dst)).offset = λ e. other ((alike a dst).0 e) in
     asked_both (TypeFrom (Alternate a) from) l (type_when a dst).offset (type_when a (not dst)).offset (shown_if (beq b dst) (type_when a dst)) _

@@ -2,10 +2,10 @@
 use Rattle.std.proofs.lemmas.Bool.{cases_Bool}
 use Rattle.tz_base.specs.contracts.local_time_type.LocalTimeTypePartialEq.TheImpl.{eq-value as type_eq}
 use Rattle.tz_info.proofs.Words.{Change, HasNoChange, HasType, IsChange, IsLeapTime, IsRefusedBy, IsRuleOrNone, IsTypeRefused, IsValid, List, LocalType}
-use Rattle.tz_info.proofs.Words.{MatchOption, None, Option, RuleOrElse, RuleOrType, SFits, Some, TransitionRule, TypeAt, Zone, all_fit, arith, by_leap_time}
+use Rattle.tz_info.proofs.Words.{MatchOption, None, Option, RuleOrElse, RuleOrType, SFits, Some, TransitionRule, TypeAt, Zone, all_fit, and_parts, arith, by_leap_time}
 use Rattle.tz_info.proofs.Words.{by_rule, cases_lt, change_between, change_here, corrections, false, get_or, index_at, inl, inr, ints, is_second, length}
 use Rattle.tz_info.proofs.Words.{nat_lt, nat_tests, passed, passed_count, pos, refl, rule_type_or, slice_get, suc, true, type_at_leap_time, type_exact}
-use Rattle.tz_info.proofs.Words.{type_or_none, w64, zero, ℕ, ℤ, [], ◌+ℤ◌, ◌-ℤ◌, ◌<◌, ◌==◌, ◌∷◌, ◌≡◌, ◌≢◌, ◌⊎◌}
+use Rattle.tz_info.proofs.Words.{type_or_none, w64, zero, ℕ, ℤ, [], ◌+ℤ◌, ◌-ℤ◌, ◌&&◌, ◌<◌, ◌==◌, ◌∷◌, ◌≡◌, ◌≢◌, ◌⊎◌}
 use Rattle.tz_info.proofs.{ChangeSearch.{InForce, IsOnce, change_made, none_before, none_here}, RuleLaws.{rule_told}}
 use Rattle.tz_info.proofs.ZoneLaws.{before_or_from_last, fits_or_not, inside_listed, last_index_below, leap_time_decided, type_not_refused}
 
@@ -68,7 +68,8 @@ type_told z u valid limits = elim (cases_lt 0 (length z.transitions)) [
   | inl some ↦
       let test : (length z.transitions == 0) ≡ false = grind (arith, nat_tests) in
       elim (leap_time_decided z.leaps u) [
-        | inl x ↦ let l = x.1 in rw (test, all_true (corrections z.leaps) u (passed_count z.leaps u) l.fits, ← l.sum) (at_leap_time z u x.0 valid limits (λ _. l))
+        | inl x ↦ let l = x.1 in rw (test, all_true (corrections z.leaps) u (passed_count z.leaps u) l.fits, ← l.sum)
+            (at_leap_time z u x.0 valid limits (λ _. l))
         | inr r ↦ rw (test, all_false (corrections z.leaps) u (passed_count z.leaps u) r.place r.passed r.leaves) (by_leap_time some r)
       ]
   | inr none ↦
@@ -102,10 +103,10 @@ between_types f u (Some s) (Some t) once fits fits_before h k = elim (cases_Bool
 ]
 
 pub here_listed : (f : InForce) (types : ℤ → Option LocalType) (u : ℤ) → IsOnce f → AreTypes f types → IsListed f u (change_here types u)
-here_listed f types u once told = elim (fits_or_not u) [
-  | inl fits ↦ elim (fits_or_not (u -ℤ pos 1)) [
-    | inl fits_before ↦ rw (second_true u fits, second_true (u -ℤ pos 1) fits_before) (between_types f u (types (u -ℤ pos 1)) (types u) once fits fits_before (told (u -ℤ pos 1)) (told u))
-    | inr out ↦ rw (second_true u fits, second_false (u -ℤ pos 1) out) (inl (refl, λ d is at. out (rw at at is.fits_before)))
-  ]
-  | inr out ↦ rw (second_false u out) (inl (refl, λ d is at. out (rw at at is.fits)))
-]
+here_listed f types u once told = elim (cases_Bool (is_second u && is_second (u -ℤ pos 1))) [
+  | inl e ↦ let (a, b) = and_parts (is_second u) (is_second (u -ℤ pos 1)) e in
+      rw e (between_types f u (types (u -ℤ pos 1)) (types u) once (grind (arith, ints)) (grind (arith, ints)) (told (u -ℤ pos 1)) (told u))
+  | inr e ↦ rw e (inl (refl, λ d is at. fit_not u e (rw at at is.fits) (rw at at is.fits_before)))
+] where
+  fit_not : (v : ℤ) → (is_second v && is_second (v -ℤ pos 1)) ≡ false → SFits w64 v → SFits w64 (v -ℤ pos 1) → ⊥
+  fit_not v e fits fits_before = let s = rw (second_true v fits, second_true (v -ℤ pos 1) fits_before) at e in cc

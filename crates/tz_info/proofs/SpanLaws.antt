@@ -202,11 +202,16 @@ no_change_up_to f s u d h i is k since = no_change_within f s d h
 
 no_change_from : (f : InForce) (s : Span) (u : ℤ) (d : Change) → IsSpan f s → IsInSpan s u → IsChange f d → u <ℤ d.at → IsUntil s.until d.at → ⊥
 no_change_from f s u d h i is k until = no_change_within f s d h
-    (record { fits = is.fits_before; since = later s.from (d.at -ℤ pos 1) u (omega (arith, ints)) i.since; until = sooner s.until (d.at -ℤ pos 1) d.at (omega (arith, ints)) until })
+    (record {
+      fits = is.fits_before;
+      since = later s.from (d.at -ℤ pos 1) u (omega (arith, ints)) i.since;
+      until = sooner s.until (d.at -ℤ pos 1) d.at (omega (arith, ints)) until;
+    })
     (record { fits = is.fits; since = later s.from d.at u (omega (arith, ints)) i.since; until = until }) is
 
 -- the change at which a span begins is the last one up to each of its seconds, and the one at which it ends is the first one after it
-begins_last : (f : InForce) (s : Span) (u : ℤ) (p : Option ℤ) → s.from ≡ p → IsSpan f s → IsInSpan s u → (c : Option Change) × (p ≡ seconds_of c) × IsLast f (λ v. v ≤ℤ u) c
+begins_last : (f : InForce) (s : Span) (u : ℤ) (p : Option ℤ) → s.from ≡ p → IsSpan f s → IsInSpan s u
+    → (c : Option Change) × (p ≡ seconds_of c) × IsLast f (λ v. v ≤ℤ u) c
 begins_last f s u None e h i = (None, refl, λ d is k. no_change_up_to f s u d h i is k (rw e tt))
 begins_last f s u (Some x) e h i =
     let begin = rw e at h.begins in (
@@ -219,7 +224,8 @@ begins_last f s u (Some x) e h i =
       },
     )
 
-ends_first : (f : InForce) (s : Span) (u : ℤ) (p : Option ℤ) → s.until ≡ p → IsSpan f s → IsInSpan s u → (c : Option Change) × (p ≡ seconds_of c) × IsFirst f (λ v. u <ℤ v) c
+ends_first : (f : InForce) (s : Span) (u : ℤ) (p : Option ℤ) → s.until ≡ p → IsSpan f s → IsInSpan s u
+    → (c : Option Change) × (p ≡ seconds_of c) × IsFirst f (λ v. u <ℤ v) c
 ends_first f s u None e h i = (None, refl, λ d is k. no_change_from f s u d h i is k (rw e tt))
 ends_first f s u (Some x) e h i =
     let end = rw e at h.ends in (
@@ -237,7 +243,8 @@ span_once z a b u h k i j typed =
     let (c, p, last) = begins_last (TypeAt z) a u a.from refl h i in let (d, q, last_too) = begins_last (TypeAt z) b u b.from refl k j in
     let (m, r, next) = ends_first (TypeAt z) a u a.until refl h i in let (n, s, next_too) = ends_first (TypeAt z) b u b.until refl k j in
     same_span a b (sym (h.each u typed.0 i typed.1) ∙ k.each u typed.0 j typed.1)
-    (p ∙ ap seconds_of (one_nearest false z (λ v. v ≤ℤ u) c d last last_too) ∙ sym q) (r ∙ ap seconds_of (one_nearest true z (λ v. u <ℤ v) m n next next_too) ∙ sym s)
+    (p ∙ ap seconds_of (one_nearest false z (λ v. v ≤ℤ u) c d last last_too) ∙ sym q)
+    (r ∙ ap seconds_of (one_nearest true z (λ v. u <ℤ v) m n next next_too) ∙ sym s)
 
 -- ---- a span has its type at each second from one that has a type, or from its beginning, to another, or to its end
 typed_from : (z : Zone) (s : Span) (first : ℤ) → IsSpan (TypeAt z) s → IsEndOrTyped z s.from first → Typed (TypeAt z) first

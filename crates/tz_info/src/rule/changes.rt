@@ -35,7 +35,15 @@ impl AlternateTime {
             return None;
         }
         let near = ahead.near_end(forward);
-        match ahead.moment_within(self.nearest_moment(near, forward)) {
+        self.change_if(ahead.moment_within(self.nearest_moment(near, forward)))
+    }
+
+    // The change at the moment, if there is one.
+    #[inline(always)]
+    fn change_if(&self, found: Option<Moment>) -> Option<HeldChange<'_>>
+        ensures { option_map change_held result ≡ change_found self.now found }
+    {
+        match found {
             Some(moment) => Some(self.change_of(moment)),
             None => None,
         }

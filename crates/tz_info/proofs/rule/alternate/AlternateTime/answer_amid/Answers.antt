@@ -5,9 +5,12 @@ use Rattle.tz_info.proofs.rule.alternate.AlternateTime.answer_amid.Goals.{After-
 use Rattle.tz_info.proofs.rule.alternate.AlternateTime.answer_amid.Goals as goal
 
 -- what was given fits, and so do the seconds that are asked, that of the greater offset first
-seconds : (c : After-second_showing-by_last) → (dst : Bool) × SFits w64 c.args.local × SFits w64 c.args.from × SFits w64 c.second_showing-by_first.result × SFits w64 c.second_showing-by_last.result
-    × (dst ≡ int_lt c.offset.result c.offset-2.result) × (c.type_when-first.result.now ≡ type_when c.args.self.now dst) × (c.type_when-last.result.now ≡ type_when c.args.self.now (not dst))
-    × (c.second_showing-by_first.result ≡ c.args.local -ℤ (type_when c.args.self.now dst).offset) × (c.second_showing-by_last.result ≡ c.args.local -ℤ (type_when c.args.self.now (not dst)).offset)
+seconds : (c : After-second_showing-by_last) → (dst : Bool) × SFits w64 c.args.local × SFits w64 c.args.from
+    × SFits w64 c.second_showing-by_first.result × SFits w64 c.second_showing-by_last.result
+    × (dst ≡ int_lt c.offset.result c.offset-2.result) × (c.type_when-first.result.now ≡ type_when c.args.self.now dst)
+    × (c.type_when-last.result.now ≡ type_when c.args.self.now (not dst))
+    × (c.second_showing-by_first.result ≡ c.args.local -ℤ (type_when c.args.self.now dst).offset)
+    × (c.second_showing-by_last.result ≡ c.args.local -ℤ (type_when c.args.self.now (not dst)).offset)
 seconds c =
     let fl = c.ranges.local in
     let f1 : SFits w32 c.offset.result = search rules in let f2 : SFits w32 c.offset-2.result = search rules in
@@ -43,8 +46,10 @@ returns c =
     let es = c.offset.ensures.value ∙ ap (λ (t : LocalType). t.offset) c.std.ensures.value in
     let ed = c.offset-2.ensures.value ∙ ap (λ (t : LocalType). t.offset) c.dst.ensures.value in
     let order = greater a dst (is ∙ rw (es, ed) refl) in
-    let sooner = amid a c.args.season c.args.from c.args.local dst c.requires.season in let later = amid a c.args.season c.args.from c.args.local (not dst) c.requires.season in
-    let two : map_of (λ (r : Bor LocalType). r.now) c.answer_of_two.result ≡ joined (shown_if (beq c.is_dst_amid.result dst) (type_when a dst)) (shown_if (beq c.is_dst_amid-2.result (not dst)) (type_when a (not dst))) =
+    let sooner = amid a c.args.season c.args.from c.args.local dst c.requires.season in
+    let later = amid a c.args.season c.args.from c.args.local (not dst) c.requires.season in
+    let two : map_of (λ (r : Bor LocalType). r.now) c.answer_of_two.result
+    ≡ joined (shown_if (beq c.is_dst_amid.result dst) (type_when a dst)) (shown_if (beq c.is_dst_amid-2.result (not dst)) (type_when a (not dst))) =
     cc (simp to_z-of_z at c.answer_of_two.ensures, is, first, last) in
     record {
       season = c.requires.season;
@@ -52,6 +57,8 @@ returns c =
           (record { fits = rw by_last at f2; since = later.since }) (rw by_first at (simp to_z-of_z at c.is_dst_amid.ensures))
           (rw by_last at (simp to_z-of_z at c.is_dst_amid-2.ensures)));
       cost = search rules;
-      counted = asked_in_turn a c.args.from c.args.local dst c.args.probes.now.rule_questions c.count_question.new.self.rule_questions c.count_question-2.new.self.rule_questions c.requires.other
-          (inl (sooner.since, ap (λ (p : Counts). p.rule_questions) c.count_question.ensures)) (inl (later.since, ap (λ (p : Counts). p.rule_questions) c.count_question-2.ensures));
+      counted = asked_in_turn a c.args.from c.args.local dst c.args.probes.now.rule_questions c.count_question.new.self.rule_questions
+          c.count_question-2.new.self.rule_questions c.requires.other
+          (inl (sooner.since, ap (λ (p : Counts). p.rule_questions) c.count_question.ensures))
+          (inl (later.since, ap (λ (p : Counts). p.rule_questions) c.count_question-2.ensures));
     }

@@ -20,8 +20,10 @@ offsets c =
     let es = c.offset.ensures.value ∙ ap (λ (t : LocalType). t.offset) c.std.ensures.value in
     let ed = c.offset-2.ensures.value ∙ ap (λ (t : LocalType). t.offset) c.dst.ensures.value in
     let dst : Bool = int_lt a.std.offset a.dst.offset in
-    let first : c.offset-first.result ≡ (type_when a dst).offset = c.offset-first.ensures.value ∙ ap (λ (t : LocalType). t.offset) (rw (es, ed) at (simp to_z-of_z at c.type_when.ensures)) in
-    let last : c.offset-last.result ≡ (type_when a (not dst)).offset = c.offset-last.ensures.value ∙ ap (λ (t : LocalType). t.offset) (rw (es, ed) at (simp to_z-of_z at c.type_when-2.ensures)) in
+    let first : c.offset-first.result ≡ (type_when a dst).offset =
+    c.offset-first.ensures.value ∙ ap (λ (t : LocalType). t.offset) (rw (es, ed) at (simp to_z-of_z at c.type_when.ensures)) in
+    let last : c.offset-last.result ≡ (type_when a (not dst)).offset =
+    c.offset-last.ensures.value ∙ ap (λ (t : LocalType). t.offset) (rw (es, ed) at (simp to_z-of_z at c.type_when-2.ensures)) in
     let order = greater a dst refl in
     (dst, c.ranges.local, c.ranges.from, ff, fl, first, last, omega (arith, ints))
 
@@ -73,7 +75,8 @@ returns c =
     record {
       season = search rules;
       found = asked_both (TypeFrom (Alternate a) c.args.from) c.args.local (type_when a dst).offset (type_when a (not dst)).offset _ _ (omega (arith, ints))
-          (either a c.args.from c.args.local dst) (rw first at (simp to_z-of_z at c.ask-one.ensures.asked)) (rw last at (simp to_z-of_z at c.ask.ensures.asked));
+          (either a c.args.from c.args.local dst) (rw first at (simp to_z-of_z at c.ask-one.ensures.asked))
+          (rw last at (simp to_z-of_z at c.ask.ensures.asked));
       cost = search rules;
       counted = asked_in_turn a c.args.from c.args.local dst _ _ _ other (rw first at (simp to_z-of_z at c.ask-one.ensures.counted))
           (rw last at (simp to_z-of_z at c.ask.ensures.counted));
