@@ -3,8 +3,8 @@ use Rattle.std.proofs.lemmas.List.FromFn.{get_or-map-range_with_len}
 use Rattle.tz_info.proofs.Words.{Alternate, Bool, DayForm, DayTime, IsAlternateRule, IsRuleDay, List, and_parts, ap, are_calm, arith, by_lt_z, closed_day, cond}
 use Rattle.tz_info.proofs.Words.{day_number, day_time_second, days_in_month, days_of_months, end_in, false, floors, get_or, get_or-map, inl, inr, int_le, int_lt, ints}
 use Rattle.tz_info.proofs.Words.{is_calm, is_calm_kind, is_inside, is_leap, kind_place, le_false, le_true, margin_of, moment, nat_le, nat_tests, neg_ℤ, place_by, places_by_kind}
-use Rattle.tz_info.proofs.Words.{pos, refl, rule_day, second_in, seconds_by_kind, start_in, suc, sym, true, weekday_below, weekday_later, weekday_of}
-use Rattle.tz_info.proofs.Words.{weekday_place, year_start, zero, ℕ, ℤ, ◌%◌, ◌&&◌, ◌*ℤ◌, ◌+ℤ◌, ◌+◌, ◌-ℤ◌, ◌-◌, ◌<ℤ◌, ◌<◌, ◌∙◌, ◌≡◌, ◌≤ℤ◌, ◌⊎◌}
+use Rattle.tz_info.proofs.Words.{pos, refl, rule_day, second_in, seconds_by_kind, start_in, sym, true, weekday_below, weekday_later, weekday_of}
+use Rattle.tz_info.proofs.Words.{weekday_place, year_start, ℕ, ℤ, ◌%◌, ◌&&◌, ◌*ℤ◌, ◌+ℤ◌, ◌+◌, ◌-ℤ◌, ◌-◌, ◌<ℤ◌, ◌<◌, ◌∙◌, ◌≡◌, ◌≤ℤ◌, ◌⊎◌}
 use Rattle.tz_info.specs.declared.rule.day.DayForm.TheVariants.{Julian0, Julian1, MonthWeekday}
 use Rattle.tz_info.proofs.{ListLaws.{one_true}, Neighbours.{IsNear, KeepsMargin, ends_near, near_margin, starts_near}, RuleDays.{rule_day_closed}}
 

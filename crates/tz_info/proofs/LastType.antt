@@ -1,8 +1,8 @@
 -- The type in force at the last transition's second.
 use Rattle.tz_info.proofs.Words.{Agrees, HasType, IfSome, IsLeapTime, IsUnixTime, IsValid, LeapSecond, List, LocalType, None, Option, RuleOrElse, Some}
-use Rattle.tz_info.proofs.Words.{Transition, TransitionRule, TypeAt, Zone, ap, arith, cases_lt, get_or, index_of, inl, inr, last_transition, length, slice_get}
+use Rattle.tz_info.proofs.Words.{Transition, TransitionRule, TypeAt, Zone, ap, arith, get_or, index_of, last_transition, length, slice_get}
 use Rattle.tz_info.proofs.Words.{slice_get-get_or, sym, ℤ, ◌+◌, ◌-◌, ◌<◌, ◌∙◌, ◌≡◌, ◌≤ℤ◌}
-use Rattle.tz_info.proofs.{PassedTransitions.{no_items}, SegmentLaws.{come_by_time, index_next, split_at, split_count, type_in_from}, TableSearch.{Between}}
+use Rattle.tz_info.proofs.{SegmentLaws.{come_by_time, index_next, split_at, split_count, type_in_from}, TableSearch.{Between}}
 use Rattle.tz_info.proofs.ZoneLaws.{listed_inside, some_once}
 
 some_last : (ts : List Transition) (last : Transition) → last_transition ts ≡ Some last → 0 < length ts

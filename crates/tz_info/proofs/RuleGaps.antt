@@ -1,6 +1,6 @@
 -- A rule's gaps: where a season's moments decide at both seconds that could show a local time and neither does, one moment lies between them.
 use Rattle.std.specs.Prelude.{⊤}
-use Rattle.tz_info.proofs.Words.{Alternate as AlternateRule, AlternateAt, AreLess, AreLessAmong, Bool, Change, HasGap, IsAlternateRule, IsAmidFrom, IsDecidedIn, IsNear}
+use Rattle.tz_info.proofs.Words.{Alternate as AlternateRule, AlternateAt, AreLess, AreLessAmong, Bool, Change, HasGap, IsAlternateRule, IsDecidedIn, IsNear}
 use Rattle.tz_info.proofs.Words.{IsNeverFrom, IsRuleGap, IsSeason, IsSeasonFor, IsSeasonIn, IsSeasonOf, IsStart, IsValid, IsWide, IsWindowOf, LocalType, MatchOption}
 use Rattle.tz_info.proofs.Words.{None, Option, Season, Some, TransitionRule, TypeAt, Zone, arith, by_lt_z, cond, false, int_lt, ints, is_dst_by_one, length, not, pos}
 use Rattle.tz_info.proofs.Words.{refl, subst, sym, table_count, true, type_when, ℤ, ◌+ℤ◌, ◌-ℤ◌, ◌<ℤ◌, ◌≡◌, ◌≤ℤ◌}

@@ -3,7 +3,7 @@ use Rattle.std.proofs.Math.Bool.{beq}
 use Rattle.offset_core.specs.declared.local_result.LocalResult.TheVariants.{Ambiguous, None, Single}
 use Rattle.tz_info.proofs.Words.{Alternate as AlternateRule, AlternateAt, Bool, FitsSigned, IsAmidFrom, IsAskedFrom, IsAskedLast, IsAskedSince, IsSeason}
 use Rattle.tz_info.proofs.Words.{IsSeasonFor, IsWallAnswer, LocalResult, LocalType, Season, Shows, TypeFrom, arith, false, int_lt}
-use Rattle.tz_info.proofs.Words.{ints, joined, not, refl, shown_if, sym, true, type_when, w64, ℕ, ℤ, ◌-ℤ◌, ◌<ℤ◌, ◌≡◌, ◌≢◌, ◌≤ℤ◌, ◌↔◌, ◌⊎◌}
+use Rattle.tz_info.proofs.Words.{ints, joined, not, refl, shown_if, sym, true, type_when, w64, ℕ, ℤ, ◌-ℤ◌, ◌≡◌, ◌≢◌, ◌≤ℤ◌, ◌↔◌, ◌⊎◌}
 use Rattle.tz_info.specs.declared.rule.transition_rule.TransitionRule.TheVariants.{Alternate}
 use Rattle.tz_info.proofs.{Candidates.{asked_both, asked_found, asked_other, dst_or_std, std_or_dst}, QuestionLaws.{asked_dst_std, asked_std_dst}}
 

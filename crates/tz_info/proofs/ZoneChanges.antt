@@ -3,9 +3,9 @@ use Rattle.std.proofs.lemmas.List.Sums.{sum_by-le-sum_by}
 use Rattle.tz_info.proofs.Words.{Alternate as AlternateRule, AlternateAt, AreAhead, HaveOneType, AreComeAt, AreComeOrAll, AreLeapSeconds, Change, Bool, ComesAt}
 use Rattle.tz_info.proofs.Words.{HasNoChange, false, true, HasNoneAt, HaveCome, IsAhead, IsBegin, IsChangeByRule, IsChange, IsFirst, IsFirstChange, IsInTable}
 use Rattle.tz_info.proofs.Words.{IsLast, IsLastChange, IsLeapTime, IsLeapTimeRefused, IsNearest, IsRuleTime, IsValid, LeapSecond, List, LocalType, MatchOption}
-use Rattle.tz_info.proofs.Words.{None, Option, RuleOrType, SFits, Some, Transition, TransitionRule, TypeAt, Zone, ap, arith, by_lt_z, cases_lt, cond, count_by}
+use Rattle.tz_info.proofs.Words.{None, Option, RuleOrType, SFits, Some, Transition, TransitionRule, TypeAt, Zone, ap, arith, by_lt_z, cases_lt, cond}
 use Rattle.tz_info.proofs.Words.{get_or, index_of, inl, inr, int_le, ints, length, nat_tests, passed_count, pos, refl, segment_of, slice_get, suc}
-use Rattle.tz_info.proofs.Words.{sym, thresholds, w64, zero, ℕ, ℤ, [], ◌+◌, ◌-ℤ◌, ◌-◌, ◌<ℤ◌, ◌<◌, ◌↔◌, ◌∙◌, ◌∷◌, ◌≡◌, ◌≤ℤ◌, ◌≤◌, ◌⊎◌}
+use Rattle.tz_info.proofs.Words.{sym, thresholds, w64, zero, ℕ, ℤ, ◌+◌, ◌-ℤ◌, ◌-◌, ◌<ℤ◌, ◌<◌, ◌↔◌, ◌∙◌, ◌≡◌, ◌≤ℤ◌, ◌≤◌, ◌⊎◌}
 use Rattle.tz_info.specs.declared.rule.transition_rule.TransitionRule.TheVariants.{Alternate, Fixed}
 use Rattle.tz_info.proofs.{ChangeSearch.{nearest_moved}, GapLaws.{HasOneType, IsSteady, one_type}, LeapEntries.{follow, threshold_at}, LeapOrder.{bounded}}
 use Rattle.tz_info.proofs.{LeapStarts.{correction_behind, reached_later, times_rise}, PassedTransitions.{no_items}, RuleChanges.{rule_second}}
