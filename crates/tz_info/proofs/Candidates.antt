@@ -83,12 +83,6 @@ one_second a from l same u t s = elim (std_or_dst a from l u t s) [
   | inr e ↦ omega (arith, ints)
 ]
 
-pub none_since : (a : AlternateRule) (from l : ℤ) → (l -ℤ a.std.offset) <ℤ from → (l -ℤ a.dst.offset) <ℤ from → IsWallAnswer (Shows (TypeFrom (Alternate a) from) l) None
-none_since a from l std dst u t s = let since = s.type.since in elim (std_or_dst a from l u t s) [
-  | inl e ↦ absurd (omega (arith, ints))
-  | inr e ↦ absurd (omega (arith, ints))
-]
-
 -- the rule's type decides at a candidate
 pub asked_found : (rule : TransitionRule) (from l o : ℤ) (t : LocalType) (before : LocalResult LocalType) → FitsSigned w64 (l -ℤ o) → from ≤ℤ (l -ℤ o) → RuleAt rule (l -ℤ o) t → t.offset ≡ o → IsAskedLast (TypeFrom rule from) l o before (joined before (Single t))
 asked_found rule from l o t before fits since k e = inr (t, record { fits = fits; type = record { type = k; since = since }; shown = omega (arith, ints) }, refl)

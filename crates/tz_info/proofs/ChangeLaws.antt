@@ -1,7 +1,8 @@
 -- At a second there is one change, and so one next change, one previous change and one list of them.
-use Rattle.tz_info.proofs.Words.{AllPairs, AreChanges, Bool, Change, Contains, IsTypeBeforeGap, IsChange, IsFirst, IsNearest, List, LocalType, None, Option}
-use Rattle.tz_info.proofs.Words.{Precedes, Some, TypeAt, Zone, ap, arith, by_lt_z, false, inl, inr, ints, pos, refl, subst, suc, sym, true, zero, ℤ, [], ◌-ℤ◌}
-use Rattle.tz_info.proofs.Words.{◌<ℤ◌, ◌∷◌, ◌≡◌, ◌≤ℤ◌, ◌⊎◌}
+use Rattle.std.proofs.lemmas.Map.Made.{Contains-tail}
+use Rattle.tz_info.proofs.Words.{AllPairs, AreChanges, Bool, Change, Contains, Contains-append_right, IsTypeBeforeGap, IsChange, IsFirst, IsNearest, List, LocalType, None, Option}
+use Rattle.tz_info.proofs.Words.{Precedes, Some, TypeAt, Zone, ap, arith, by_lt_z, false, ints, pos, refl, subst, suc, sym, true, zero, ℤ, [], ◌-ℤ◌}
+use Rattle.tz_info.proofs.Words.{◌<ℤ◌, ◌∷◌, ◌≡◌, ◌≤ℤ◌}
 use Rattle.tz_info.proofs.ZoneLaws.{type_once}
 
 same_parts : (c d : Change) → c.at ≡ d.at → c.before ≡ d.before → c.after ≡ d.after → c ≡ d
@@ -31,29 +32,21 @@ Rise changes = AllPairs (λ c d. c.at <ℤ d.at) changes
 at_front : (c : Change) (cs : List Change) → Contains (c ∷ cs) c
 at_front c cs = (0, omega arith, refl)
 
-behind_front : (c d : Change) (cs : List Change) → Contains cs d → Contains (c ∷ cs) d
-behind_front c d cs h = (suc h.0, omega (arith, h.1), h.2)
-
--- what a list contains is its front, or comes behind it
-parted : (c d : Change) (cs : List Change) → Contains (c ∷ cs) d → (c ≡ d) ⊎ Contains cs d
-parted c d cs (zero, l, same) = inl same
-parted c d cs (suc k, l, same) = inr (k, omega (arith, l), same)
-
 later : (c d : Change) (cs : List Change) → Rise (c ∷ cs) → Contains cs d → c.at <ℤ d.at
 later c d cs rise h = subst (λ (x : Change). c.at <ℤ x.at) h.2 (rise 0 (suc h.0) d (omega arith) (omega (arith, h.1)))
 
 not_before : (c d : Change) (cs : List Change) → Rise (c ∷ cs) → Contains (c ∷ cs) d → c.at ≤ℤ d.at
-not_before c d cs rise h = elim (parted c d cs h) [ inl same ↦ subst (λ (x : Change). c.at ≤ℤ x.at) same (omega (arith, ints)) | inr more ↦ let l = later c d cs rise more in omega (arith, ints, l) ]
+not_before c d cs rise (zero, l, same) = subst (λ (x : Change). c.at ≤ℤ x.at) same (omega (arith, ints))
+not_before c d cs rise (suc k, l, same) = let m = later c d cs rise (k, omega (arith, l), same) in omega (arith, ints, m)
 
 rest_rises : (c : Change) (cs : List Change) → Rise (c ∷ cs) → Rise cs
 rest_rises c cs rise = λ i j d l m. rise (suc i) (suc j) d (omega (arith, l)) (omega (arith, m))
 
 -- of two lists that contain the same, what comes behind the same front is the same
 rest_same : (c : Change) (cs ds : List Change) → Rise (c ∷ cs) → ((x : Change) → Contains (c ∷ cs) x → Contains (c ∷ ds) x) → (x : Change) → Contains cs x → Contains ds x
-rest_same c cs ds rise same x h = elim (parted c x ds (same x (behind_front c x cs h))) [
-  | inl front ↦ let l = subst (λ (y : Change). c.at <ℤ y.at) (sym front) (later c x cs rise h) in absurd (omega (arith, ints, l))
-  | inr more ↦ more
-]
+rest_same c cs ds rise same x h = Contains-tail c ds x
+    (λ e. let l = subst (λ (y : Change). c.at <ℤ y.at) (sym e) (later c x cs rise h) in absurd (omega (arith, ints, l)))
+    (same x (Contains-append_right (c ∷ []) cs x h))
 
 one_list : (z : Zone) (a b : List Change) → Rise a → Rise b → ((c : Change) → Contains a c → IsChange (TypeAt z) c) → ((c : Change) → Contains b c → IsChange (TypeAt z) c)
     → ((c : Change) → Contains a c → Contains b c) → ((c : Change) → Contains b c → Contains a c) → a ≡ b
@@ -67,7 +60,7 @@ one_list z (c ∷ cs) (d ∷ ds) p q are_a are_b to from =
     let to' = subst (λ (x : Change). (y : Change) → Contains (c ∷ cs) y → Contains (x ∷ ds) y) (sym same) to in
     let from' = subst (λ (x : Change). (y : Change) → Contains (x ∷ ds) y → Contains (c ∷ cs) y) (sym same) from in
     let q' = subst (λ (x : Change). Rise (x ∷ ds)) (sym same) q in
-    let rest : cs ≡ ds = one_list z cs ds (rest_rises c cs p) (rest_rises c ds q') (λ x h. are_a x (behind_front c x cs h)) (λ x h. are_b x (behind_front d x ds h)) (rest_same c cs ds p to') (rest_same c ds cs q' from') in
+    let rest : cs ≡ ds = one_list z cs ds (rest_rises c cs p) (rest_rises c ds q') (λ x h. are_a x (Contains-append_right (c ∷ []) cs x h)) (λ x h. are_b x (Contains-append_right (d ∷ []) ds x h)) (rest_same c cs ds p to') (rest_same c ds cs q' from') in
     λ i. same i ∷ rest i
 
 pub one_list_of_changes : (z : Zone) (from until : ℤ) (a b : List Change) → AreChanges (TypeAt z) from until a → AreChanges (TypeAt z) from until b → a ≡ b

@@ -152,34 +152,27 @@ steps_none s valid limits none =
 abbrev IsBefore : ℤ → ℤ → Type 0
 IsBefore after from = (u : ℤ) → least_time <ℤ u → (after <ℤ u) ↔ (from ≤ℤ u)
 
+same_stretch : (after last from until u : ℤ) → least_time <ℤ u → IsBefore after from → IsBefore last until
+    → IsFromUntil (after +ℤ pos 1) (last +ℤ pos 1) u ↔ IsFromUntil from until u
+same_stretch after last from until u some before end =
+    let b = before u some in let e = end u some in (
+      λ k. let l = k.0 in let h = k.1 in (b.0 (omega (arith, ints)), by_lt_z u until (λ m. m) (λ m. let n = e.1 m in absurd (omega (arith, ints)))),
+      λ k. let l = b.1 k.0 in let h = k.1 in (
+        omega (arith, ints),
+        by_lt_z u (last +ℤ pos 1) (λ m. m) (λ m. let n = e.0 (omega (arith, ints)) in absurd (omega (arith, ints))),
+      ),
+    )
+
 pub all_left : (s : Changes) (from until : ℤ) → IsValid s.zone.now → IsRuleOrNone s.zone.now.rule → IsBefore s.after from → IsBefore s.last until
     → AreChanges (TypeAt s.zone.now) from until (changes_left s)
 unfolding changes_left
 all_left s from until valid limits before end =
     let all = changes_are s.zone.now (s.after +ℤ pos 1) (s.last +ℤ pos 1) valid limits in
+    let same : (c : Change) → IsChange (TypeAt s.zone.now) c → IsFromUntil (s.after +ℤ pos 1) (s.last +ℤ pos 1) c.at ↔ IsFromUntil from until c.at =
+    λ c is. let fits = is.fits_before in same_stretch s.after s.last from until c.at (omega (arith, ints)) before end in
     record {
       rising = all.rising;
-      each = λ c. (
-        λ inside.
-            let (is, i) = (all.each c).0 inside in let fits = is.fits_before in let l = i.0 in let u = i.1 in (
-              is,
-              (
-                (before c.at (omega (arith, ints))).0 (omega (arith, ints)),
-                by_lt_z c.at until (λ k. k)
-                    (λ k. let m = (end c.at (omega (arith, ints))).1 k in absurd (omega (arith, ints))),
-              ),
-            ),
-        λ k.
-            let fits = k.0.fits_before in let l = (before c.at (omega (arith, ints))).1 k.1.0 in let u = k.1.1 in
-            (all.each c).1 (
-              k.0,
-              (
-                omega (arith, ints),
-                by_lt_z c.at (s.last +ℤ pos 1) (λ m. m)
-                    (λ m. let n = (end c.at (omega (arith, ints))).0 (omega (arith, ints)) in absurd (omega (arith, ints))),
-              ),
-            ),
-      );
+      each = λ c. (λ inside. let k = (all.each c).0 inside in (k.0, (same c k.0).0 k.1), λ k. (all.each c).1 (k.0, (same c k.0).1 k.1));
     }
 
 -- without its last element a list is shorter

@@ -1,8 +1,9 @@
 -- The first and the last change among seconds, and in a stretch.
+use Rattle.std.specs.Bool.{Decides}
 use Rattle.tz_base.specs.contracts.local_time_type.LocalTimeTypePartialEq.TheImpl.{eq-value as type_eq}
 use Rattle.tz_info.proofs.Words.{Bool, Change, HasNoChange, IfSome, IsAhead, IsChange, IsIdle, IsInStretch, IsNearest, IsOneOf, IsStretchAhead, List, LocalType}
 use Rattle.tz_info.proofs.Words.{MatchOption, None, Option, Precedes, SFits, Some, arith, by_lt_z, cases_lt, false, get_or, inl, inr, ints, lt_false, lt_true}
-use Rattle.tz_info.proofs.Words.{near_end, nearer_one, neg_ℤ, negsuc, pos, refl, subst, suc, sym, true, type_exact, w64, zero, ℕ, ℤ, ⊎_elim, ◌+ℤ◌, ◌+◌, ◌-ℤ◌}
+use Rattle.tz_info.proofs.Words.{near_end, nearer_one, neg_ℤ, pos, refl, subst, suc, sym, true, type_exact, unsigned_abs, w64, zero, ℕ, ℤ, ⊎_elim, ◌+ℤ◌, ◌+◌, ◌-ℤ◌}
 use Rattle.tz_info.proofs.Words.{◌<ℤ◌, ◌∙◌, ◌↔◌, ◌≡◌, ◌≢◌, ◌≤ℤ◌, ◌⊎◌}
 
 abbrev pub InForce : Type 1
@@ -142,15 +143,13 @@ none_here f second without d is at = without d.after (rw at at is.after)
 abbrev pub Typed : InForce → ℤ → Type 0
 Typed f u = (t : LocalType) × f u t
 
-same_or_not : (s t : LocalType) → (s ≡ t) ⊎ (s ≢ t)
-same_or_not s t = tested (type_eq.it s t) refl where
-  tested : (b : Bool) → type_eq.it s t ≡ b → (s ≡ t) ⊎ (s ≢ t)
-  tested true e = inl ((type_exact s t).0 e)
-  tested false e = inr (λ same. let h = (type_exact s t).1 same in cc)
+pub decided : (P : Type 0) (b : Bool) → Decides b P → P ⊎ (P → ⊥)
+decided P true d = inl (d.0 refl)
+decided P false d = inr (λ p. let e = d.1 p in cc)
 
 -- from one second to the next
 step_up : (f : InForce) (v w : ℤ) (s t : LocalType) → v ≡ w -ℤ pos 1 → SFits w64 v → SFits w64 w → HasNoChange f (λ x. x ≡ w) → f v s → f w t → s ≡ t
-step_up f v w s t e fits fits_next none h k = elim (same_or_not s t) [
+step_up f v w s t e fits fits_next none h k = elim (decided (s ≡ t) (type_eq.it s t) (type_exact s t)) [
   | inl same ↦ same
   | inr differ ↦
       let c : Change = record { at = w; before = s; after = t } in
@@ -168,13 +167,6 @@ steps_up f u v t (suc n) e fits fits_end none typed h =
     let same = step_up f (v -ℤ pos 1) v t next.0 refl fits_n fits_end (λ d is k. none d is (omega (arith, ints), omega (arith, ints))) before next.1 in
     subst (f v) (sym same) next.1
 
-natural : (d : ℤ) → pos 0 ≤ℤ d → (n : ℕ) × (d ≡ pos n)
-natural (pos n) h = (n, refl)
-natural (negsuc n) h = absurd (omega (arith, ints))
-
-distance : (u v : ℤ) → u ≤ℤ v → (n : ℕ) × (v ≡ u +ℤ pos n)
-distance u v h = let n = natural (v -ℤ u) (omega (arith, ints)) in let e = n.1 in (n.0, omega (arith, ints))
-
 pub stays : (f : InForce) (u v : ℤ) (t : LocalType) → SFits w64 u → SFits w64 v → u ≤ℤ v → HasNoChange f (λ w. (u <ℤ w) × (w ≤ℤ v))
     → ((w : ℤ) → u ≤ℤ w → w ≤ℤ v → Typed f w) → f u t → f v t
-stays f u v t fits fits_end h none typed k = let n = distance u v h in steps_up f u v t n.0 n.1 fits fits_end none typed k
+stays f u v t fits fits_end h none typed k = steps_up f u v t (unsigned_abs (v -ℤ u)) (omega (arith, ints)) fits fits_end none typed k

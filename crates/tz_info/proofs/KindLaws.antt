@@ -1,9 +1,10 @@
 -- A rule's moments, counted from the first second of their year, depend on the year's kind alone.
+use Rattle.std.proofs.lemmas.List.FromFn.{get_or-map-range_with_len}
 use Rattle.tz_info.proofs.Words.{Alternate, Bool, DayForm, DayTime, IsAlternateRule, IsRuleDay, List, and_parts, ap, are_calm, arith, by_lt_z, closed_day, cond}
-use Rattle.tz_info.proofs.Words.{day_number, day_time_second, days_in_month, days_of_months, end_in, false, floors, get_or, inl, inr, int_le, int_lt, ints}
-use Rattle.tz_info.proofs.Words.{is_calm, is_calm_kind, is_inside, is_leap, kind_place, le_false, le_true, margin_of, moment, neg_ℤ, place_by, places_by_kind}
-use Rattle.tz_info.proofs.Words.{pos, refl, rule_day, second_in, seconds_by_kind, start_in, suc, sym, true, weekday_below, weekday_later, weekday_of}
-use Rattle.tz_info.proofs.Words.{weekday_place, year_start, zero, ℕ, ℤ, ◌%◌, ◌&&◌, ◌*ℤ◌, ◌+ℤ◌, ◌+◌, ◌-ℤ◌, ◌-◌, ◌<ℤ◌, ◌<◌, ◌∙◌, ◌≡◌, ◌≤ℤ◌, ◌⊎◌}
+use Rattle.tz_info.proofs.Words.{day_number, day_time_second, days_in_month, days_of_months, end_in, false, floors, get_or, get_or-map, inl, inr, int_le, int_lt, ints}
+use Rattle.tz_info.proofs.Words.{is_calm, is_calm_kind, is_inside, is_leap, kind_place, le_false, le_true, margin_of, moment, nat_le, nat_tests, neg_ℤ, place_by, places_by_kind}
+use Rattle.tz_info.proofs.Words.{pos, refl, rule_day, second_in, seconds_by_kind, start_in, sym, true, weekday_below, weekday_later, weekday_of}
+use Rattle.tz_info.proofs.Words.{weekday_place, year_start, ℕ, ℤ, ◌%◌, ◌&&◌, ◌*ℤ◌, ◌+ℤ◌, ◌+◌, ◌-ℤ◌, ◌-◌, ◌<ℤ◌, ◌<◌, ◌∙◌, ◌≡◌, ◌≤ℤ◌, ◌⊎◌}
 use Rattle.tz_info.specs.declared.rule.day.DayForm.TheVariants.{Julian0, Julian1, MonthWeekday}
 use Rattle.tz_info.proofs.{ListLaws.{one_true}, Neighbours.{IsNear, KeepsMargin, ends_near, near_margin, starts_near}, RuleDays.{rule_day_closed}}
 
@@ -28,56 +29,37 @@ closed_day_by (MonthWeekday month week weekday) year =
 rule_day_by : (form : DayForm) (year : ℤ) → IsRuleDay form → rule_day form year ≡ year_start year +ℤ pos (place_by form (is_leap year) (weekday_of (year_start year)))
 rule_day_by form year fits = rule_day_closed form year fits ∙ closed_day_by form year
 
-unfoldable second_by : DayTime → ℤ → Bool → ℕ → ℤ
-second_by t offset leap first = day_time_second t offset (place_by t.day leap first)
+-- the second of each of the fourteen kinds
+kind_at : (t : DayTime) (offset : ℤ) (kind : ℕ) (d : ℤ) → kind < 14
+    → get_or (seconds_by_kind t offset) kind d ≡ day_time_second t offset (place_by t.day (nat_le 7 kind) (kind % 7))
+unfolding seconds_by_kind places_by_kind
+kind_at t offset kind d h =
+    get_or-map (day_time_second t offset) (places_by_kind t.day) kind 0 d h
+    ∙ ap (day_time_second t offset) (get_or-map-range_with_len (λ k. place_by t.day (nat_le 7 k) (k % 7)) 0 14 kind kind 0 h (omega arith))
 
-second_is : (t : DayTime) (offset year : ℤ) → IsRuleDay t.day → second_in t offset year ≡ second_by t offset (is_leap year) (weekday_of (year_start year))
-unfolding moment second_by
-second_is t offset year fits = let d = rule_day_by t.day year fits in omega (arith, floors)
-
-kind_at : (t : DayTime) (offset : ℤ) (leap : Bool) (first : ℕ) (d : ℤ) → first < 7
-    → get_or (seconds_by_kind t offset) (cond leap 7 0 + first) d ≡ second_by t offset leap first
-unfolding seconds_by_kind places_by_kind second_by
-kind_at t offset false zero d h = refl
-kind_at t offset false (suc zero) d h = refl
-kind_at t offset false (suc (suc zero)) d h = refl
-kind_at t offset false (suc (suc (suc zero))) d h = refl
-kind_at t offset false (suc (suc (suc (suc zero)))) d h = refl
-kind_at t offset false (suc (suc (suc (suc (suc zero))))) d h = refl
-kind_at t offset false (suc (suc (suc (suc (suc (suc zero)))))) d h = refl
-kind_at t offset true zero d h = refl
-kind_at t offset true (suc zero) d h = refl
-kind_at t offset true (suc (suc zero)) d h = refl
-kind_at t offset true (suc (suc (suc zero))) d h = refl
-kind_at t offset true (suc (suc (suc (suc zero)))) d h = refl
-kind_at t offset true (suc (suc (suc (suc (suc zero))))) d h = refl
-kind_at t offset true (suc (suc (suc (suc (suc (suc zero)))))) d h = refl
-kind_at t offset leap (suc (suc (suc (suc (suc (suc (suc n))))))) d h = absurd (omega arith)
+kind_parts : (leap : Bool) (first : ℕ) → first < 7
+    → (cond leap 7 0 + first < 14) × (nat_le 7 (cond leap 7 0 + first) ≡ leap) × ((cond leap 7 0 + first) % 7 ≡ first)
+kind_parts true first h = (omega arith, grind (arith, nat_tests), omega arith)
+kind_parts false first h = (omega arith, grind (arith, nat_tests), omega arith)
 
 -- the second at the place of the year's kind is the year's
 pub kind_found : (t : DayTime) (offset year d : ℤ) → IsRuleDay t.day → get_or (seconds_by_kind t offset) (kind_place year) d ≡ second_in t offset year
+unfolding moment
 kind_found t offset year d fits =
-    kind_at t offset (is_leap year) (weekday_of (year_start year)) d (weekday_below (year_start year)) ∙ sym (second_is t offset year fits)
+    let (below, leap, first) = kind_parts (is_leap year) (weekday_of (year_start year)) (weekday_below (year_start year)) in
+    let day = rule_day_by t.day year fits in
+    kind_at t offset (kind_place year) d below ∙ rw (leap, first) (omega (arith, floors))
 
 -- the second at the place of the year's kind makes the year's moment, and lies near the year
 abbrev pub IsKept : ℤ → ℤ → ℤ → Type 0
 IsKept first second at =
     (pos 86_400 *ℤ first +ℤ second ≡ at) × (neg_ℤ (pos 691_198) ≤ℤ second) × (second ≤ℤ pos 32_227_198)
 
-moment_by_kind : (t : DayTime) (offset year first d : ℤ) (seconds : List ℤ) (kind : ℕ) → IsRuleDay t.day → IsNear (moment t offset) → seconds ≡ seconds_by_kind t offset → kind ≡ kind_place year → first ≡ year_start year → IsKept first (get_or seconds kind d) (moment t offset year)
+pub moment_by_kind : (t : DayTime) (offset year first d : ℤ) (seconds : List ℤ) (kind : ℕ) → IsRuleDay t.day → IsNear (moment t offset) → seconds ≡ seconds_by_kind t offset → kind ≡ kind_place year → first ≡ year_start year → IsKept first (get_or seconds kind d) (moment t offset year)
 moment_by_kind t offset year first d seconds kind fits near e f g =
     let here : get_or seconds kind d ≡ second_in t offset year = rw (e, f) (kind_found t offset year d fits) in
     let low = near.low year in let high = near.high year in
     (omega (arith, floors), omega (arith, floors), omega (arith, floors))
-
--- when daylight saving time starts, and when it ends, by what the rule keeps for the kinds of years
-pub start_by_kind : (a : Alternate) (year first : ℤ) (seconds : List ℤ) (kind : ℕ) → IsAlternateRule a → seconds ≡ seconds_by_kind a.start a.std.offset → kind ≡ kind_place year → first ≡ year_start year → IsKept first (get_or seconds kind (pos 0)) (start_in a year)
-start_by_kind a year first seconds kind rule e f g =
-    moment_by_kind a.start a.std.offset year first (pos 0) seconds kind rule.start_day (starts_near a rule) e f g
-
-pub end_by_kind : (a : Alternate) (year first : ℤ) (seconds : List ℤ) (kind : ℕ) → IsAlternateRule a → seconds ≡ seconds_by_kind a.end a.dst.offset → kind ≡ kind_place year → first ≡ year_start year → IsKept first (get_or seconds kind (pos 0)) (end_in a year)
-end_by_kind a year first seconds kind rule e f g =
-    moment_by_kind a.end a.dst.offset year first (pos 0) seconds kind rule.end_day (ends_near a rule) e f g
 
 -- ---- margins
 -- how far the moments of a rule lie from the ends of their years; further outside than eight days they never lie
@@ -105,20 +87,13 @@ calm_is start_first start end h =
     let both = and_parts (is_inside start) (is_inside end) parts.0 in
     record { start_in = inside_is start both.0; end_in = inside_is end both.1; order = order_is start_first start end parts.1 }
 
-kind_sum : (leap : Bool) (first : ℕ) → first < 7 → cond leap 7 0 + first < 14
-kind_sum true first h = omega arith
-kind_sum false first h = omega arith
-
-kind_below : (year : ℤ) → kind_place year < 14
-kind_below year = let b = weekday_below (year_start year) in kind_sum (is_leap year) (weekday_of (year_start year)) b
-
 -- where all kinds are calm, each year is
 calm_year : (a : Alternate) (starts ends : List ℤ) (year : ℤ) → IsAlternateRule a → starts ≡ seconds_by_kind a.start a.std.offset → ends ≡ seconds_by_kind a.end a.dst.offset → are_calm starts ends ≡ true
     → IsCalm (int_le (get_or starts 0 (pos 0)) (get_or ends 0 (pos 0))) (second_in a.start a.std.offset year) (second_in a.end a.dst.offset year)
 unfolding are_calm
 calm_year a starts ends year rule e f all =
     let kind = kind_place year in
-    let calm = calm_is (int_le (get_or starts 0 (pos 0)) (get_or ends 0 (pos 0))) (get_or starts kind (pos 0)) (get_or ends kind (pos 0)) (one_true 14 (kind_place year) (is_calm_kind starts ends) (kind_below year) all) in
+    let calm = calm_is (int_le (get_or starts 0 (pos 0)) (get_or ends 0 (pos 0))) (get_or starts kind (pos 0)) (get_or ends kind (pos 0)) (one_true 14 (kind_place year) (is_calm_kind starts ends) (kind_parts (is_leap year) (weekday_of (year_start year)) (weekday_below (year_start year))).0 all) in
     let start : get_or starts (kind_place year) (pos 0) ≡ second_in a.start a.std.offset year = rw e (kind_found a.start a.std.offset year (pos 0) rule.start_day) in
     let end : get_or ends (kind_place year) (pos 0) ≡ second_in a.end a.dst.offset year = rw f (kind_found a.end a.dst.offset year (pos 0) rule.end_day) in
     rw (start, end) at calm

@@ -1,15 +1,12 @@
 -- The type in force at the last transition's second.
 use Rattle.tz_info.proofs.Words.{Agrees, HasType, IfSome, IsLeapTime, IsUnixTime, IsValid, LeapSecond, List, LocalType, None, Option, RuleOrElse, Some}
-use Rattle.tz_info.proofs.Words.{Transition, TransitionRule, TypeAt, Zone, ap, arith, cases_lt, get_or, index_of, inl, inr, last_transition, length, slice_get}
+use Rattle.tz_info.proofs.Words.{Transition, TransitionRule, TypeAt, Zone, ap, arith, get_or, index_of, last_transition, length, slice_get}
 use Rattle.tz_info.proofs.Words.{slice_get-get_or, sym, ℤ, ◌+◌, ◌-◌, ◌<◌, ◌∙◌, ◌≡◌, ◌≤ℤ◌}
-use Rattle.tz_info.proofs.{PassedTransitions.{no_items}, SegmentLaws.{come_by_time, index_next, split_at, split_count, type_in_from}, TableSearch.{Between}}
-use Rattle.tz_info.proofs.ZoneLaws.{some_once}
+use Rattle.tz_info.proofs.{SegmentLaws.{come_by_time, index_next, split_at, split_count, type_in_from}, TableSearch.{Between}}
+use Rattle.tz_info.proofs.ZoneLaws.{listed_inside, some_once}
 
 some_last : (ts : List Transition) (last : Transition) → last_transition ts ≡ Some last → 0 < length ts
-some_last ts last is = elim (cases_lt 0 (length ts)) [
-  | inl h ↦ h
-  | inr h ↦ let f = no_items ts (omega arith) in let g = rw f at is in cc
-]
+some_last ts last is = let l = listed_inside ts (length ts - 1) last is in omega arith
 
 pub last_is : (ts : List Transition) (last : Transition) → last_transition ts ≡ Some last → get_or ts (length ts - 1) last ≡ last
 last_is ts last is =

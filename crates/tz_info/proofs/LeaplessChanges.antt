@@ -2,9 +2,9 @@
 use Rattle.tz_info.proofs.Words.{Change, ComesAt, HasNoneAt, HasType, IsChange, IsLeapTime, IsUnixTime, IsValid, LeapSecond, List, LocalType, MatchOption}
 use Rattle.tz_info.proofs.Words.{Option, SFits, Some, Transition, TypeAt, Zone, ap, arith, begin_of, cases_lt, get_or, get_or_default, index_of, inl, inr, ints}
 use Rattle.tz_info.proofs.Words.{last_transition, least_time, length, pos, slice_get-get_or, suc, sym, w64, zero, ℕ, ℤ, [], ◌+◌, ◌-ℤ◌, ◌-◌, ◌<ℤ◌, ◌<◌, ◌∙◌, ◌∷◌}
-use Rattle.tz_info.proofs.Words.{◌≡◌, ◌≢◌}
+use Rattle.tz_info.proofs.Words.{◌≡◌, ◌≢◌, ◌≤ℤ◌}
 use Rattle.tz_info.proofs.{ChangeSearch.{change_made, none_first}, LastType.{last_type}, ZoneChanges.{comes_at, none_there, with_start}, ZoneLaws.{type_once}}
-use Rattle.tz_info.proofs.SegmentLaws.{IsWithin, begin_first, begin_next, between_of, index_next, type_in_before}
+use Rattle.tz_info.proofs.SegmentLaws.{begin_first, begin_next, between_of, index_next, type_in_before}
 
 -- ---- without leap seconds the leap time of a second is that second
 pub own_leap_time : (es : List LeapSecond) (u : ℤ) → length es ≡ 0 → IsLeapTime es u u
@@ -38,34 +38,35 @@ begun_earlier z (suc k) t valid some item later =
 pub time_at : (ts : List Transition) (place : ℕ) (t d : Transition) → place < length ts → t ≡ get_or ts place t → (get_or ts place d).unix_leap_time ≡ t.unix_leap_time
 time_at ts place t d some item = ap (λ (s : Transition). s.unix_leap_time) (get_or_default ts place d t some ∙ sym item)
 
+-- between two transitions the type of the one before is in force
+pub between : (z : Zone) (place : ℕ) (u : ℤ) (t : LocalType) → IsValid z → length z.leaps ≡ 0 → place < length z.transitions
+    → begin_of z.transitions place ≤ℤ u → ((d : Transition) → u <ℤ (get_or z.transitions place d).unix_leap_time)
+    → HasType z (index_of z.transitions place) t → TypeAt z u t
+between z place u t valid none some since until has =
+    let segment = between_of z.transitions place u valid.transitions.rising (omega arith) (record { since = since; until = λ d l. until d }) in
+    (type_in_before z place u u t (own_leap_time z.leaps u none) segment some has).type
+
 type_earlier : (z : Zone) (place : ℕ) (t : Transition) (s : LocalType) → IsValid z → length z.leaps ≡ 0 → place < length z.transitions → t ≡ get_or z.transitions place t → least_time <ℤ t.unix_leap_time
     → HasType z (index_of z.transitions place) s → TypeAt z (t.unix_leap_time -ℤ pos 1) s
 type_earlier z place t s valid none some item later has =
     let b = begun_earlier z place t valid some item later in
-    let u : ℤ = t.unix_leap_time -ℤ pos 1 in
-    let within : IsWithin z.transitions place u = record {
-      since = omega (arith, ints);
-      until = λ d l. let e = time_at z.transitions place t d some item in omega (arith, ints);
-    } in
-    (type_in_before z place u u s (own_leap_time z.leaps u none) (between_of z.transitions place u valid.transitions.rising (omega arith) within) some has).type
+    between z place (t.unix_leap_time -ℤ pos 1) s valid none some (omega (arith, ints))
+    (λ d. let e = time_at z.transitions place t d some item in omega (arith, ints)) has
 
 type_then : (z : Zone) (place : ℕ) (t : Transition) (s : LocalType) → IsValid z → length z.leaps ≡ 0 → place < length z.transitions → t ≡ get_or z.transitions place t → least_time <ℤ t.unix_leap_time → SFits w64 t.unix_leap_time
     → HasType z t.type_index s → TypeAt z t.unix_leap_time s
 type_then z place t s valid none some item later fits has = elim (cases_lt (place + 1) (length z.transitions)) [
   | inl more ↦
-      let u : ℤ = t.unix_leap_time in
       let begin = begin_next z.transitions place t some ∙ time_at z.transitions place t t some item in
       let index : index_of z.transitions (place + 1) ≡ t.type_index = index_next z.transitions place t some ∙ ap (λ (d : Transition). d.type_index) (sym item) in
-      let within : IsWithin z.transitions (place + 1) u = record {
-        since = omega (arith, ints);
-        until = λ d l. let e = time_at z.transitions place t d some item in let r = valid.transitions.rising place (place + 1) d (omega arith) l in omega (arith, ints);
-      } in
-      (type_in_before z (place + 1) u u s (own_leap_time z.leaps u none) (between_of z.transitions (place + 1) u valid.transitions.rising (omega arith) within) more (rw index has)).type
+      between z (place + 1) t.unix_leap_time s valid none more (omega (arith, ints))
+      (λ d. let e = time_at z.transitions place t d some item in
+      let r = valid.transitions.rising place (place + 1) d (omega arith) more in omega (arith, ints)) (rw index has)
   | inr all ↦
-      let u : ℤ = t.unix_leap_time in
       let at : length z.transitions - 1 ≡ place = omega arith in
       let is : last_transition z.transitions ≡ Some t = rw at (slice_get-get_or z.transitions place t some ∙ ap (λ (d : Transition). Some d) (sym item)) in
-      last_type z t u u s valid is (own_unix_time z.leaps u none (λ e. omega (arith, ints)) fits) (own_leap_time z.leaps u none) (omega (arith, ints)) has
+      last_type z t t.unix_leap_time t.unix_leap_time s valid is (own_unix_time z.leaps t.unix_leap_time none (λ e. omega (arith, ints)) fits)
+      (own_leap_time z.leaps t.unix_leap_time none) (omega (arith, ints)) has
 ]
 
 -- ---- the change that comes with a transition

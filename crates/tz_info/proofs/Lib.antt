@@ -26,7 +26,6 @@ pub mod PosixLaws
 pub mod TextFits
 pub mod Candidates
 pub mod WallLaws
-pub mod OffsetStretchLaws
 pub mod SegmentLaws
 pub mod AnswerLaws
 pub mod LeapStarts

@@ -140,13 +140,6 @@ asked_once a from l p q same std = one_second (IsSecondFrom (Alternate a) from l
   | inr e ↦ omega (arith, ints)
 ]) (asked_since (Alternate a) from l a.std.offset p q (0, omega arith, refl) std)
 
--- where both come too early
-pub asked_never : (a : AlternateRule) (from l : ℤ) (p : ℕ) → (l -ℤ a.std.offset) <ℤ from → (l -ℤ a.dst.offset) <ℤ from → IsAskedFrom (Alternate a) from l p p
-asked_never a from l p std dst = nowhere (IsSecondFrom (Alternate a) from l) p p (λ u k. let since = k.since in elim (std_or_dst a from l u k) [
-  | inl e ↦ absurd (omega (arith, ints))
-  | inr e ↦ absurd (omega (arith, ints))
-]) refl
-
 -- ---- none, without a rule
 pub asked_none : (z : Zone) (l : ℤ) (p : ℕ) → z.rule ≡ None → IsAskedFor z l p p
 asked_none z l p e = nowhere (IsByRuleFor z l) p p (λ u k. none-some k.by_rule.rule (sym e ∙ k.by_rule.of_zone)) refl

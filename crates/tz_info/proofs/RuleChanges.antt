@@ -1,13 +1,16 @@
 -- Where a rule's types give way to each other: at its moments and at turns of the year, and every 400 years alike.
+use Rattle.std.proofs.lemmas.Bool.Decides.{Decides-int_eq}
+use Rattle.std.proofs.lemmas.Map.Made.{is_member-Decides}
+use Rattle.std.specs.Ordering.{int_eq}
+use Rattle.std.specs.Set.{is_member}
 use Rattle.tz_info.proofs.Words.{Alternate, AlternateAt, AreIn, Bool, Change, DayTime, HasNoChange, IsAlternateRule, IsChange, IsDstAt, IsEarlierOf}
 use Rattle.tz_info.proofs.Words.{IsInSomeYear, IsInStretch, IsLaterOf, IsNearRuleTime, IsNearest, IsNearestChange, IsOfYear, IsOneOf, IsRuleDay, IsRuleTime}
-use Rattle.tz_info.proofs.Words.{IsRuleYear, IsYearOf, List, LocalType, Option, Precedes, ap, arith, by_lt_z, end_in, false, floor_div, floor_mod}
-use Rattle.tz_info.proofs.Words.{floor_mod_parts, floors, get_or, inl, inr, ints, is_leap, kind_place, length, moment, moments_near, near_end, new_year, pos}
-use Rattle.tz_info.proofs.Words.{refl, second_in, start_in, starts_rise, suc, sym, true, weekday_of, year_at, year_start, zero, ℕ, ℤ, [], ◌*ℤ◌, ◌+ℤ◌, ◌+◌, ◌-ℤ◌}
-use Rattle.tz_info.proofs.Words.{◌<ℤ◌, ◌<◌, ◌∙◌, ◌∷◌, ◌≡◌, ◌≤ℤ◌, ◌⊎◌}
-use Rattle.tz_info.specs.declared.rule.transition_rule.TransitionRule.TheVariants.{Alternate as AlternateRule}
-use Rattle.tz_info.proofs.{ChangeSearch.{nearest_moved}, KindLaws.{kind_found}, Neighbours.{second_high, second_low, year_after}}
-use Rattle.tz_info.proofs.{NextMoments.{outside, steady_until}, RuleLaws.{rule_once, rule_time}}
+use Rattle.tz_info.proofs.Words.{Contains, IsRuleYear, IsYearOf, LocalType, Option, Precedes, ap, arith, by_lt_z, end_in, false, floor_div, floor_mod}
+use Rattle.tz_info.proofs.Words.{floor_mod_parts, floors, get_or_default, inl, inr, ints, is_leap, kind_place, length, moment, moments_near, near_end, new_year, pos}
+use Rattle.tz_info.proofs.Words.{refl, second_in, start_in, starts_rise, sym, true, weekday_of, year_at, year_start, ℕ, ℤ, ◌*ℤ◌, ◌+ℤ◌, ◌+◌, ◌-ℤ◌}
+use Rattle.tz_info.proofs.Words.{◌<ℤ◌, ◌∙◌, ◌≡◌, ◌≤ℤ◌, ◌⊎◌}
+use Rattle.tz_info.proofs.{ChangeSearch.{decided, nearest_moved}, KindLaws.{kind_found}, Neighbours.{second_high, second_low, year_after}}
+use Rattle.tz_info.proofs.{NextMoments.{outside, steady_until}, RuleLaws.{alternate_once, rule_time}}
 
 -- ---- the calendar repeats every 400 years: k times as many years later, or earlier where k is below 0
 leap_again : (y k : ℤ) → is_leap (y +ℤ pos 400 *ℤ k) ≡ is_leap y
@@ -89,10 +92,6 @@ type_again a u k t rule h inside = record {
 }
 
 -- ---- no change but at a moment, or at the turn of a year
--- the rule has one type at a second
-pub rule_type_once : (a : Alternate) (u : ℤ) (s t : LocalType) → AlternateAt a u s → AlternateAt a u t → s ≡ t
-rule_type_once a u s t h k = rule_once (AlternateRule a) u s t h k
-
 -- after the year's first second, at the next year's at most
 abbrev IsAmidYear : ℤ → ℤ → Type 0
 IsAmidYear year u = (new_year year <ℤ u) × (u ≤ℤ new_year (year +ℤ pos 1))
@@ -109,36 +108,22 @@ beside : (m u : ℤ) → (m ≡ u → ⊥) → (m ≤ℤ (u -ℤ pos 1)) ⊎ ((u
 beside m u not = by_lt_z m u (λ l. inl (omega (arith, ints))) (λ h. by_lt_z u m (λ l. inr (omega (arith, ints))) (λ k. absurd (not (omega (arith, ints)))))
 
 same_or_not : (x u : ℤ) → (x ≡ u) ⊎ (x ≡ u → ⊥)
-same_or_not x u = by_lt_z x u (λ l. inr (λ e. omega (arith, ints))) (λ m. by_lt_z u x (λ l. inr (λ e. omega (arith, ints))) (λ n. inl (omega (arith, ints))))
-
--- the second is one of those, or none of them
-is_or_none : (seconds : List ℤ) (u : ℤ) → ((k : ℕ) × (k < length seconds) × (get_or seconds k (pos 0) ≡ u)) ⊎ ((k : ℕ) → k < length seconds → get_or seconds k (pos 0) ≡ u → ⊥)
-is_or_none [] u = inr (λ k h e. absurd (omega arith))
-is_or_none (x ∷ xs) u = elim (same_or_not x u) [
-  | inl e ↦ inl (0, omega arith, e)
-  | inr not ↦ elim (is_or_none xs u) [
-    | inl found ↦ inl (suc found.0, let b = found.1 in omega arith, found.2)
-    | inr none ↦ inr (λ k h e. none_more x xs u k not none h e)
-  ]
-] where
-  none_more : (x : ℤ) (xs : List ℤ) (u : ℤ) (k : ℕ) → (x ≡ u → ⊥) → ((k : ℕ) → k < length xs → get_or xs k (pos 0) ≡ u → ⊥) → k < length (x ∷ xs) → get_or (x ∷ xs) k (pos 0) ≡ u → ⊥
-  none_more x xs u zero not none h e = not e
-  none_more x xs u (suc k) not none h e = none k (omega arith) e
+same_or_not x u = decided (x ≡ u) (int_eq x u) (Decides-int_eq x u)
 
 -- a change comes at a moment near its year, or with the next year
-pub change_near : (a : Alternate) (year : ℤ) (d : Change) → IsAlternateRule a → IsChange (AlternateAt a) d → IsYearOf (d.at -ℤ pos 1) year → (k : ℕ) × (k < length (moments_near a year)) × (get_or (moments_near a year) k (pos 0) ≡ d.at)
+pub change_near : (a : Alternate) (year : ℤ) (d : Change) → IsAlternateRule a → IsChange (AlternateAt a) d → IsYearOf (d.at -ℤ pos 1) year → Contains (moments_near a year) d.at
 unfolding moments_near
 change_near a year d rule is of_second =
     let amid = amid_year d.at year of_second in
-    elim (is_or_none (moments_near a year) d.at) [
+    elim (decided (Contains (moments_near a year) d.at) (is_member int_eq (moments_near a year) d.at) (is_member-Decides Decides-int_eq (moments_near a year) d.at)) [
       | inl found ↦ found
       | inr none ↦
           let low = amid.0 in let high = amid.1 in
-          let end : (d.at +ℤ pos 1) ≤ℤ new_year (year +ℤ pos 1) = by_lt_z d.at (new_year (year +ℤ pos 1)) (λ l. omega (arith, ints)) (λ m. absurd (none 6 (omega arith) (omega (arith, ints)))) in
+          let end : (d.at +ℤ pos 1) ≤ℤ new_year (year +ℤ pos 1) = by_lt_z d.at (new_year (year +ℤ pos 1)) (λ l. omega (arith, ints)) (λ m. absurd (none (6, omega arith, omega (arith, ints)))) in
           let steady = steady_until a year (d.at -ℤ pos 1) (d.at +ℤ pos 1) rule of_second (omega (arith, ints)) end
-          (outside (start_in a) year (d.at -ℤ pos 1) (d.at +ℤ pos 1) (beside _ d.at (none 0 (omega arith))) (beside _ d.at (none 2 (omega arith))) (beside _ d.at (none 4 (omega arith))))
-          (outside (end_in a) year (d.at -ℤ pos 1) (d.at +ℤ pos 1) (beside _ d.at (none 1 (omega arith))) (beside _ d.at (none 3 (omega arith))) (beside _ d.at (none 5 (omega arith)))) in
-          absurd (is.differ (rule_type_once a d.at d.before d.after (steady.same d.at (omega (arith, ints)) (omega (arith, ints)) d.before is.before) is.after))
+          (outside (start_in a) year (d.at -ℤ pos 1) (d.at +ℤ pos 1) (beside _ d.at (λ e. none (0, omega arith, e))) (beside _ d.at (λ e. none (2, omega arith, e))) (beside _ d.at (λ e. none (4, omega arith, e))))
+          (outside (end_in a) year (d.at -ℤ pos 1) (d.at +ℤ pos 1) (beside _ d.at (λ e. none (1, omega arith, e))) (beside _ d.at (λ e. none (3, omega arith, e))) (beside _ d.at (λ e. none (5, omega arith, e)))) in
+          absurd (is.differ (alternate_once a d.at d.before d.after (steady.same d.at (omega (arith, ints)) (omega (arith, ints)) d.before is.before) is.after))
     ]
 
 -- ---- years beside seconds
@@ -286,7 +271,7 @@ nearest_of_year w a year after last from until found rule later earlier h =
     let amid = amid_year d.at year k.of_year in
     let i0 = k.inside.0 in let a0 = amid.0 in
     let l = (later (d.at -ℤ pos 1)).1 (omega (arith, ints), omega (arith, ints)) in
-    (is, record { place = at.0; below = at.1; is = at.2; inside = (omega (arith, ints), (earlier d.at).1 (k.inside.1, amid.1)) }))
+    (is, record { place = at.0; below = at.1; is = get_or_default (moments_near a year) at.0 (pos 0) d.at at.1 ∙ at.2; inside = (omega (arith, ints), (earlier d.at).1 (k.inside.1, amid.1)) }))
     (λ d is one.
     let low = one.inside.0 in
     let l = (later (d.at -ℤ pos 1)).0 (omega (arith, ints)) in let e = (earlier d.at).0 one.inside.1 in

@@ -1,12 +1,14 @@
 -- A rule has one type at a second, or is refused there, and never both.
+use Rattle.std.proofs.lemmas.Bool.{cases_Bool}
 use Rattle.tz_info.proofs.Words.{Alternate as AlternateRule, AlternateAt, Bool, IsAlternateRefused, IsAlternateRule, IsDstAt, IsRule, IsRuleRefused, IsRuleTime}
-use Rattle.tz_info.proofs.Words.{IsRuleYear, IsYearOf, LiesIn, LocalType, RuleAt, TransitionRule, ap, arith, by_lt_z, end_in, floor_div, floors, inl, inr}
-use Rattle.tz_info.proofs.Words.{is_dst_by_three, lies_in, neg_ℤ, one_year, pos, refl, start_in, starts_rise, subst, sym, type_when, year_of, year_start, ℤ}
+use Rattle.tz_info.proofs.Words.{IsRuleYear, IsYearOf, LiesIn, LocalType, MatchOption, None, Option, RuleAt, Some, TransitionRule, alternate_type, ap, arith, by_lt_z, end_in, floor_div, floors, inl, inr}
+use Rattle.tz_info.proofs.Words.{ints, is_dst_by_three, is_rule_year, lies_in, neg_ℤ, one_year, pos, refl, rule_type, start_in, starts_rise, subst, sym, type_when, year_of, year_start, ℤ}
 use Rattle.tz_info.proofs.Words.{◌+ℤ◌, ◌∙◌, ◌≡◌, ◌≤ℤ◌, ◌⊎◌}
 use Rattle.tz_info.specs.declared.rule.transition_rule.TransitionRule.TheVariants.{Alternate, Fixed}
-use Rattle.tz_info.proofs.Neighbours.{IsNear, dst_by_three, ends_near, one_answer, second_high, second_low, starts_near}
+use Rattle.tz_info.proofs.Neighbours.{dst_by_three, ends_near, one_answer, second_high, second_low, starts_near}
 
-alternate_once : (a : AlternateRule) (u : ℤ) (s t : LocalType) → AlternateAt a u s → AlternateAt a u t → s ≡ t
+-- a rule has one type at a second
+pub alternate_once : (a : AlternateRule) (u : ℤ) (s t : LocalType) → AlternateAt a u s → AlternateAt a u t → s ≡ t
 alternate_once a u s t h k =
     let same = one_year (floor_div u 86_400) h.year k.year h.of_second k.of_second in
     let when = subst (λ (year : ℤ). IsDstAt (start_in a) (end_in a) year u h.dst) same h.when in
@@ -20,37 +22,41 @@ pub rule_not_refused : (rule : TransitionRule) (u : ℤ) (t : LocalType) → Rul
 rule_not_refused (Fixed fixed) u t h refused = refused
 rule_not_refused (Alternate a) u t h refused = refused h.year h.of_second h.inside
 
--- whether it is daylight saving time has an answer in every year
-dst_decided : (starts ends : ℤ → ℤ) (year u : ℤ) → IsNear starts → IsNear ends → IsYearOf u year → (dst : Bool) × IsDstAt starts ends year u dst
-dst_decided starts ends year u near_start near_end of_second =
-    (is_dst_by_three starts ends year u, dst_by_three starts ends year u (is_dst_by_three starts ends year u) near_start near_end of_second refl)
-
 refused_at : (u year : ℤ) → IsYearOf u year → (IsRuleYear year → ⊥) → IsAlternateRefused u
 refused_at u year of_second out = λ other h inside. out (subst IsRuleYear (one_year (floor_div u 86_400) other year h of_second) inside)
 
-rule_year_decided : (year : ℤ) → IsRuleYear year ⊎ (IsRuleYear year → ⊥)
-rule_year_decided year =
-    by_lt_z year (neg_ℤ (pos 2_147_483_646))
-    (λ less. inr (λ h. omega (arith, floors, h.0)))
-    (λ low. by_lt_z (pos 2_147_483_645) year
-    (λ more. inr (λ h. omega (arith, floors, h.1)))
-    (λ high. inl (omega (arith, floors), omega (arith, floors))))
-
-pub alternate_decided : (a : AlternateRule) (u : ℤ) → IsAlternateRule a → ((t : LocalType) × AlternateAt a u t) ⊎ IsAlternateRefused u
-alternate_decided a u limits =
+-- the type that is computed is the rule's, or the rule is refused
+alternate_told : (a : AlternateRule) (u : ℤ) → IsAlternateRule a
+    → MatchOption (alternate_type a (year_of (floor_div u 86_400)) u) (IsAlternateRefused u) (AlternateAt a u)
+alternate_told a u limits =
     let year = year_of (floor_div u 86_400) in
     let of_second = lies_in (floor_div u 86_400) in
-    elim (rule_year_decided year) [
-      | inl inside ↦
-          let d = dst_decided (start_in a) (end_in a) year u (starts_near a limits) (ends_near a limits) of_second in
-          inl (type_when a d.0, record { year = year; of_second = of_second; inside = inside; dst = d.0; when = d.1; shown = refl })
-      | inr out ↦ inr (refused_at u year of_second out)
+    elim (cases_Bool (is_rule_year year)) [
+      | inl test ↦
+          let inside : IsRuleYear year = (grind (arith, ints), grind (arith, ints)) in
+          let when = dst_by_three (start_in a) (end_in a) year u _ (starts_near a limits) (ends_near a limits) of_second refl in
+          rw test (record {
+            year = year;
+            of_second = of_second;
+            inside = inside;
+            dst = is_dst_by_three (start_in a) (end_in a) year u;
+            when = when;
+            shown = refl;
+          })
+      | inr test ↦ rw test (refused_at u year of_second (λ h. let low = h.0 in let high = h.1 in grind (arith, ints)))
     ]
 
+pub rule_told : (rule : TransitionRule) (u : ℤ) → IsRule rule → MatchOption (rule_type rule u) (IsRuleRefused rule u) (RuleAt rule u)
+rule_told (Fixed fixed) u h = refl
+rule_told (Alternate a) u h = alternate_told a u h
+
 -- every second has a type or is refused
+decided : (P : Type 0) (Q : LocalType → Type 0) (o : Option LocalType) → MatchOption o P Q → ((t : LocalType) × Q t) ⊎ P
+decided P Q None h = inr h
+decided P Q (Some t) h = inl (t, h)
+
 pub rule_decided : (rule : TransitionRule) (u : ℤ) → IsRule rule → ((t : LocalType) × RuleAt rule u t) ⊎ IsRuleRefused rule u
-rule_decided (Fixed fixed) u h = inl (fixed, refl)
-rule_decided (Alternate a) u h = alternate_decided a u h
+rule_decided rule u h = decided (IsRuleRefused rule u) (RuleAt rule u) (rule_type rule u) (rule_told rule u h)
 
 first_start : year_start (neg_ℤ (pos 2_147_483_646)) ≡ neg_ℤ (pos 784_353_015_102)
 unfolding year_start

@@ -1,21 +1,18 @@
 -- A rule's types beside its moments: from which second on a type is in force, and which one a second before.
-use Rattle.tz_info.proofs.Words.{Alternate, AlternateAt, Bool, DayTime, IsAlternateRule, IsBetween, IsDayOf, IsDstAt, IsInSomeYear, IsRuleDay, IsRuleYear}
-use Rattle.tz_info.proofs.Words.{IsYearOf, ap, arith, by_lt_z, end_in, false, floors, inl, inr, ints, moment, pos, refl, rule_day, start_in, true, type_when, ℤ}
+use Rattle.tz_info.proofs.Words.{Alternate, AlternateAt, DayTime, IsAlternateRule, IsBetween, IsDayOf, IsDstAt, IsInSomeYear, IsRuleDay, IsRuleYear}
+use Rattle.tz_info.proofs.Words.{IsYearOf, ap, arith, by_lt_z, end_in, false, false≢true, floor_div, floors, inl, inr, ints, moment, pos, refl, rule_day, start_in, true, ℤ}
 use Rattle.tz_info.proofs.Words.{◌*ℤ◌, ◌+ℤ◌, ◌-ℤ◌, ◌<ℤ◌, ◌≡◌, ◌≤ℤ◌}
-use Rattle.tz_info.proofs.{Neighbours.{by_end, by_start}, RuleDays.{day_rises, one_rule_day, rule_day_is}}
+use Rattle.tz_info.proofs.{Neighbours.{by_end, by_start}, RuleDays.{day_rises, one_rule_day, rule_day_is}, RuleLaws.{alternate_at}}
 
 abbrev Rise : (ℤ → ℤ) → Type 0
 Rise f = (x y : ℤ) → x ≤ℤ y → f x ≤ℤ f y
 
-moment_rises : (t : DayTime) (offset x y : ℤ) → IsRuleDay t.day → x <ℤ y → moment t offset x ≤ℤ moment t offset y
-unfolding moment
-moment_rises t offset x y fits h = let r = day_rises t.day x y fits h in omega (arith, floors)
-
 moments_rise : (t : DayTime) (offset : ℤ) → IsRuleDay t.day → Rise (moment t offset)
+unfolding moment
 moments_rise t offset fits x y h =
     by_lt_z x y
-    (λ l. moment_rises t offset x y fits l)
-    (λ l. let e : x ≡ y = omega (arith, ints) in let g = ap (moment t offset) e in omega (arith, ints))
+    (λ l. let r = day_rises t.day x y fits l in omega (arith, floors))
+    (λ l. let e : x ≡ y = omega (arith, ints) in let g = ap (rule_day t.day) e in omega (arith, floors))
 
 -- the second at which a clock shows the day's time is the year's moment
 moment_is : (t : DayTime) (offset year day u : ℤ) → IsRuleDay t.day → IsDayOf t.day year day → (u +ℤ offset) ≡ (pos 86_400 *ℤ day +ℤ t.time) → u ≡ moment t offset year
@@ -36,21 +33,14 @@ right_out f g year u rf rg e h (y, a, b) =
     (λ l. let r = rg (year +ℤ pos 1) y (omega (arith, ints)) in absurd (omega (arith, ints)))
     (λ l. let r = rf y year (omega (arith, ints)) in absurd (omega (arith, ints)))
 
--- the type that the moment's side says is in force
-shown : (a : Alternate) (year u : ℤ) (dst : Bool) → IsRuleYear year → IsDstAt (start_in a) (end_in a) year u dst → IsYearOf u year → AlternateAt a u (type_when a dst)
-shown a year u dst inside when of_second = record { year = year; of_second = of_second; inside = inside; dst = dst; when = when; shown = refl }
-
-not_both : false ≡ true → ⊥
-not_both e = cc
-
 -- at a start that comes between ends daylight saving time begins
 begins : (f g : ℤ → ℤ) (year u : ℤ) → Rise f → Rise g → u ≡ f year → IsBetween g f year → IsDstAt f g year u true × IsDstAt f g year (u -ℤ pos 1) false
 begins f g year u rf rg e (inl (before, after)) = (
   by_start f g year u true (omega (arith, ints)) (λ _. (year, omega (arith, ints), omega (arith, ints))) (λ _. refl),
-  by_start f g year (u -ℤ pos 1) false (omega (arith, ints)) (λ t. absurd (not_both t)) (λ k. absurd (left_out f g year u rf rg e before k)),
+  by_start f g year (u -ℤ pos 1) false (omega (arith, ints)) (λ t. absurd (false≢true t)) (λ k. absurd (left_out f g year u rf rg e before k)),
 )
 begins f g year u rf rg e (inr (before, after)) = (
-  by_end f g year u true false before refl (λ t. absurd (not_both t)) (λ k. absurd (right_out f g year u rf rg e after k)),
+  by_end f g year u true false before refl (λ t. absurd (false≢true t)) (λ k. absurd (right_out f g year u rf rg e after k)),
   by_end f g year (u -ℤ pos 1) false true before refl (λ _. (year, omega (arith, ints), omega (arith, ints))) (λ _. refl),
 )
 
@@ -58,10 +48,10 @@ begins f g year u rf rg e (inr (before, after)) = (
 is_over : (f g : ℤ → ℤ) (year u : ℤ) → Rise f → Rise g → u ≡ g year → IsBetween f g year → IsDstAt f g year u false × IsDstAt f g year (u -ℤ pos 1) true
 is_over f g year u rf rg e (inl (before, after)) = (
   by_end f g year u false true after refl (λ _. (year, omega (arith, ints), omega (arith, ints))) (λ _. refl),
-  by_end f g year (u -ℤ pos 1) true false after refl (λ t. absurd (not_both t)) (λ k. absurd (left_out g f year u rg rf e before k)),
+  by_end f g year (u -ℤ pos 1) true false after refl (λ t. absurd (false≢true t)) (λ k. absurd (left_out g f year u rg rf e before k)),
 )
 is_over f g year u rf rg e (inr (before, after)) = (
-  by_start f g year u false (omega (arith, ints)) (λ t. absurd (not_both t)) (λ k. absurd (right_out g f year u rg rf e after k)),
+  by_start f g year u false (omega (arith, ints)) (λ t. absurd (false≢true t)) (λ k. absurd (right_out g f year u rg rf e after k)),
   by_start f g year (u -ℤ pos 1) true (omega (arith, ints)) (λ _. (year, omega (arith, ints), omega (arith, ints))) (λ _. refl),
 )
 
@@ -70,13 +60,17 @@ starts a year day u rule inside of_year clock between =
     let e : u ≡ start_in a year = moment_is a.start a.std.offset year day u rule.start_day of_year clock in
     let rs : Rise (start_in a) = moments_rise a.start a.std.offset rule.start_day in
     let re : Rise (end_in a) = moments_rise a.end a.dst.offset rule.end_day in
-    let sides = begins (start_in a) (end_in a) year u rs re e between in
-    (shown a year u true inside sides.0, shown a year (u -ℤ pos 1) false inside sides.1)
+    let sides = begins (start_in a) (end_in a) year u rs re e between in (
+      (λ of_u. alternate_at a u (floor_div u 86_400) year true refl of_u inside sides.0),
+      (λ of_u. alternate_at a (u -ℤ pos 1) (floor_div (u -ℤ pos 1) 86_400) year false refl of_u inside sides.1),
+    )
 
 pub ends : (a : Alternate) (year day u : ℤ) → IsAlternateRule a → IsRuleYear year → IsDayOf a.end.day year day → (u +ℤ a.dst.offset) ≡ (pos 86_400 *ℤ day +ℤ a.end.time) → IsBetween (start_in a) (end_in a) year → (IsYearOf u year → AlternateAt a u a.std) × (IsYearOf (u -ℤ pos 1) year → AlternateAt a (u -ℤ pos 1) a.dst)
 ends a year day u rule inside of_year clock between =
     let e : u ≡ end_in a year = moment_is a.end a.dst.offset year day u rule.end_day of_year clock in
     let rs : Rise (start_in a) = moments_rise a.start a.std.offset rule.start_day in
     let re : Rise (end_in a) = moments_rise a.end a.dst.offset rule.end_day in
-    let sides = is_over (start_in a) (end_in a) year u rs re e between in
-    (shown a year u false inside sides.0, shown a year (u -ℤ pos 1) true inside sides.1)
+    let sides = is_over (start_in a) (end_in a) year u rs re e between in (
+      (λ of_u. alternate_at a u (floor_div u 86_400) year false refl of_u inside sides.0),
+      (λ of_u. alternate_at a (u -ℤ pos 1) (floor_div (u -ℤ pos 1) 86_400) year true refl of_u inside sides.1),
+    )

@@ -1,38 +1,76 @@
 -- The answer of two seconds at which a season's moments decide.
+use Rattle.std.proofs.Math.Bool.{beq}
 use Rattle.offset_core.specs.declared.local_result.LocalResult.TheVariants.{Ambiguous, None, Single}
-use Rattle.tz_info.proofs.Words.{Alternate as AlternateRule, AlternateAt, Bool, FitsSigned, IsAskedLast, IsWallAnswer, LocalResult, LocalType, RuleAt, Shows}
-use Rattle.tz_info.proofs.Words.{TransitionRule, TypeFrom, arith, cond, false, ints, joined, not, refl, shown_if, true, type_when, w64, ℤ, ◌-ℤ◌, ◌<ℤ◌, ◌≡◌}
-use Rattle.tz_info.proofs.Words.{◌≤ℤ◌, ◌⊎◌}
-use Rattle.tz_info.proofs.Candidates.{asked_both, asked_found, asked_other}
+use Rattle.tz_info.proofs.Words.{Alternate as AlternateRule, AlternateAt, Bool, FitsSigned, IsAmidFrom, IsAskedFrom, IsAskedLast, IsAskedSince, IsSeason}
+use Rattle.tz_info.proofs.Words.{IsSeasonFor, IsWallAnswer, LocalResult, LocalType, Season, Shows, TypeFrom, arith, false, int_lt}
+use Rattle.tz_info.proofs.Words.{ints, joined, not, refl, shown_if, sym, true, type_when, w64, ℕ, ℤ, ◌-ℤ◌, ◌≡◌, ◌≢◌, ◌≤ℤ◌, ◌↔◌, ◌⊎◌}
+use Rattle.tz_info.specs.declared.rule.transition_rule.TransitionRule.TheVariants.{Alternate}
+use Rattle.tz_info.proofs.{Candidates.{asked_both, asked_found, asked_other, dst_or_std, std_or_dst}, QuestionLaws.{asked_dst_std, asked_std_dst}}
 
 joined_none : (a : LocalResult LocalType) → joined a None ≡ a
 joined_none None = refl
 joined_none (Single s) = refl
 joined_none (Ambiguous s t) = refl
 
--- the second of an offset was asked, where the rule's type is the one of that offset or another one
-asked_if : (rule : TransitionRule) (from l : ℤ) (b : Bool) (t other : LocalType) (before : LocalResult LocalType) → FitsSigned w64 (l -ℤ t.offset) → from ≤ℤ (l -ℤ t.offset) → (other.offset ≡ t.offset → ⊥) → RuleAt rule (l -ℤ t.offset) (cond b t other)
-    → IsAskedLast (TypeFrom rule from) l t.offset before (joined before (shown_if b t))
-asked_if rule from l true t other before fits since differ at = asked_found rule from l t.offset t before fits since at refl
-asked_if rule from l false t other before fits since differ at = rw (joined_none before) (asked_other rule from l t.offset other before at differ)
-
 -- what is known of the second of an offset
 pub record IsKnown (from l o : ℤ) : Type 0 where
   pub fits : FitsSigned w64 (l -ℤ o)
   pub since : from ≤ℤ (l -ℤ o)
 
-pub dst_shown : (a : AlternateRule) (u : ℤ) (dst : Bool) → AlternateAt a u (type_when a dst) → AlternateAt a u (cond dst a.dst a.std)
-dst_shown a u true h = h
-dst_shown a u false h = h
+-- ---- the type of the greater offset first, of daylight saving time or of standard time
+pub greater : (a : AlternateRule) (dst : Bool) → dst ≡ int_lt a.std.offset a.dst.offset → (type_when a (not dst)).offset ≤ℤ (type_when a dst).offset
+greater a true e = grind (arith, ints)
+greater a false e = grind (arith, ints)
 
-pub std_shown : (a : AlternateRule) (u : ℤ) (dst : Bool) → AlternateAt a u (type_when a dst) → AlternateAt a u (cond (not dst) a.std a.dst)
-std_shown a u true h = h
-std_shown a u false h = h
+pub alike : (a : AlternateRule) (dst : Bool) → ((type_when a dst).offset ≡ (type_when a (not dst)).offset) ↔ (a.std.offset ≡ a.dst.offset)
+alike a true = ((λ e. sym e), (λ e. sym e))
+alike a false = ((λ e. e), (λ e. e))
 
--- both seconds were asked, where the greater offset has the earlier one
-pub both_asked : (rule : TransitionRule) (from l : ℤ) (x y : LocalType) (b c : Bool) → y.offset <ℤ x.offset → ((u : ℤ) (t : LocalType) → Shows (TypeFrom rule from) l u t → (u ≡ l -ℤ x.offset) ⊎ (u ≡ l -ℤ y.offset)) → IsKnown from l x.offset → IsKnown from l y.offset
-    → RuleAt rule (l -ℤ x.offset) (cond b x y) → RuleAt rule (l -ℤ y.offset) (cond c y x) → IsWallAnswer (Shows (TypeFrom rule from) l) (joined (shown_if b x) (shown_if c y))
-both_asked rule from l x y b c less both first last at_first at_last =
-    asked_both (TypeFrom rule from) l x.offset y.offset (shown_if b x) (joined (shown_if b x) (shown_if c y)) less both
-    (asked_if rule from l b x y None first.fits first.since (λ e. omega (arith, ints)) at_first)
-    (asked_if rule from l c y x (shown_if b x) last.fits last.since (λ e. omega (arith, ints)) at_last)
+pub std_too : (a : AlternateRule) (dst : Bool) → a.std.offset ≡ a.dst.offset → (type_when a dst).offset ≡ a.std.offset
+std_too a true e = sym e
+std_too a false e = refl
+
+-- the second is that of the one type or of the other one
+pub either : (a : AlternateRule) (from l : ℤ) (dst : Bool) (u : ℤ) (t : LocalType) → Shows (TypeFrom (Alternate a) from) l u t
+    → (u ≡ l -ℤ (type_when a dst).offset) ⊎ (u ≡ l -ℤ (type_when a (not dst)).offset)
+either a from l true u t s = dst_or_std a from l u t s
+either a from l false u t s = std_or_dst a from l u t s
+
+pub asked_in_turn : (a : AlternateRule) (from l : ℤ) (dst : Bool) (p q r : ℕ) → a.std.offset ≢ a.dst.offset
+    → IsAskedSince from (l -ℤ (type_when a dst).offset) p q
+    → IsAskedSince from (l -ℤ (type_when a (not dst)).offset) q r → IsAskedFrom (Alternate a) from l p r
+asked_in_turn a from l true p q r other h k = asked_dst_std a from l p q r other h k
+asked_in_turn a from l false p q r other h k = asked_std_dst a from l p q r other h k
+
+-- the season decides at both seconds that could show the local time
+pub amid : (a : AlternateRule) (s : Season) (from l : ℤ) (dst : Bool) → IsSeasonFor a from l s → IsAmidFrom s from (l -ℤ (type_when a dst).offset)
+amid a s from l true h = h.daylight
+amid a s from l false h = h.standard
+
+pub season_for : (a : AlternateRule) (s : Season) (from l : ℤ) (dst : Bool) → IsSeason a s → IsAmidFrom s from (l -ℤ (type_when a dst).offset)
+    → IsAmidFrom s from (l -ℤ (type_when a (not dst)).offset) → IsSeasonFor a from l s
+season_for a s from l true season first last = record { season = season; standard = last; daylight = first }
+season_for a s from l false season first last = record { season = season; standard = first; daylight = last }
+
+-- ---- the answer
+-- the second of the one type was asked, where it is daylight saving time or not
+asked_side : (a : AlternateRule) (from l : ℤ) (dst b : Bool) (before : LocalResult LocalType) → IsKnown from l (type_when a dst).offset
+    → a.std.offset ≢ a.dst.offset
+    → AlternateAt a (l -ℤ (type_when a dst).offset) (type_when a b)
+    → IsAskedLast (TypeFrom (Alternate a) from) l (type_when a dst).offset before (joined before (shown_if (beq b dst) (type_when a dst)))
+asked_side a from l true true before k other at = asked_found (Alternate a) from l a.dst.offset a.dst before k.fits k.since at refl
+asked_side a from l true false before k other at = rw (joined_none before) (asked_other (Alternate a) from l a.dst.offset a.std before at other)
+asked_side a from l false true before k other at = rw (joined_none before) (asked_other (Alternate a) from l a.std.offset a.dst before at (λ e. other (sym e)))
+asked_side a from l false false before k other at = asked_found (Alternate a) from l a.std.offset a.std before k.fits k.since at refl
+
+-- both seconds were asked
+pub both_asked : (a : AlternateRule) (from l : ℤ) (dst b c : Bool) → a.std.offset ≢ a.dst.offset → (type_when a (not dst)).offset ≤ℤ (type_when a dst).offset
+    → IsKnown from l (type_when a dst).offset → IsKnown from l (type_when a (not dst)).offset
+    → AlternateAt a (l -ℤ (type_when a dst).offset) (type_when a b) → AlternateAt a (l -ℤ (type_when a (not dst)).offset) (type_when a c)
+    → IsWallAnswer (Shows (TypeFrom (Alternate a) from) l)
+    (joined (shown_if (beq b dst) (type_when a dst)) (shown_if (beq c (not dst)) (type_when a (not dst))))
+both_asked a from l dst b c other order first last at_first at_last =
+    let differ : (type_when a dst).offset ≢ (type_when a (not dst)).offset = λ e. other ((alike a dst).0 e) in
+    asked_both (TypeFrom (Alternate a) from) l (type_when a dst).offset (type_when a (not dst)).offset (shown_if (beq b dst) (type_when a dst)) _
+    (omega (arith, ints)) (either a from l dst) (asked_side a from l dst b None first other at_first)
+    (asked_side a from l (not dst) c (shown_if (beq b dst) (type_when a dst)) last other at_last)

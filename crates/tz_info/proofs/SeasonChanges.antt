@@ -3,7 +3,7 @@ use Rattle.tz_info.proofs.Words.{Alternate, AlternateAt, Bool, Change, HasNoChan
 use Rattle.tz_info.proofs.Words.{IsMomentAhead, IsNearest, IsNearestChange, IsRuleTime, IsSeason, Option, Precedes, Season, ap, arith, by_lt_z, false, far_side}
 use Rattle.tz_info.proofs.Words.{inl, inr, ints, is_dst_by_one, near_side, nearer_moment, neg_ℤ, pos, sym, true, type_when, ℤ, ⊎_elim, ◌+ℤ◌, ◌-ℤ◌, ◌<ℤ◌, ◌∙◌}
 use Rattle.tz_info.proofs.Words.{◌≡◌, ◌≤ℤ◌, ◌⊎◌}
-use Rattle.tz_info.proofs.{ChangeSearch.{InForce, nearest_moved}, NextMoments.{nearest_moment}, RuleChanges.{rule_second, rule_type_once}}
+use Rattle.tz_info.proofs.{ChangeSearch.{InForce, nearest_moved}, NextMoments.{nearest_moment}, RuleChanges.{rule_second}, RuleLaws.{alternate_once}}
 
 -- ---- where neither moment comes
 dst_alike : (start end u : ℤ) → (start ≡ u → ⊥) → (end ≡ u → ⊥) → is_dst_by_one start end (u -ℤ pos 1) ≡ is_dst_by_one start end u
@@ -18,7 +18,7 @@ none_between a s low high season from until start end d is after most =
     let h = season.decided d.at (rule_second a d.at d.after is.after) (omega (arith, ints), omega (arith, ints)) in
     let alike = dst_alike s.turns.start s.turns.end d.at (λ e. start (omega (arith, ints)) (omega (arith, ints)))
     (λ e. end (omega (arith, ints)) (omega (arith, ints))) in
-    is.differ (rule_type_once a (d.at -ℤ pos 1) d.before _ is.before b ∙ ap (type_when a) alike ∙ sym (rule_type_once a d.at d.after _ is.after h))
+    is.differ (alternate_once a (d.at -ℤ pos 1) d.before _ is.before b ∙ ap (type_when a) alike ∙ sym (alternate_once a d.at d.after _ is.after h))
 
 -- ---- the nearest moment in a direction, or the limit
 -- no change comes before it, and it is one of the season's unless it is the limit

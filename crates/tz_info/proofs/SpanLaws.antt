@@ -1,14 +1,14 @@
 -- Spans: at each second between two that have a type there is one, and from the last change to the next one it is the same.
 use Rattle.tz_info.proofs.Words.{Agrees, Alternate as AlternateRule, AreLeapSeconds, Change, HasNoChange, IfSome, IsAlternateRefused, IsChange, IsEndOrTyped}
-use Rattle.tz_info.proofs.Words.{IsFirst, IsFirstChange, IsFromLast, IsInSpan, IsLast, IsLastChange, IsLeapTime, IsRefusedBy, IsRuleOrNone}
-use Rattle.tz_info.proofs.Words.{IsRuleTime, IsSince, IsSpan, IsSpanAt, IsTypeRefused, IsUnixTime, IsUntil, IsValid, LeapSecond, List, LocalType}
-use Rattle.tz_info.proofs.Words.{None, Option, SFits, Some, Span, Transition, TransitionRule, TypeAt, Zone, ap, arith, by_leap_time, by_lt_z, by_rule, cases_lt}
+use Rattle.tz_info.proofs.Words.{IsFirst, IsFirstChange, IsFromLast, IsInSpan, IsLast, IsLastChange, IsLastSpan, IsLeapTime, IsRefusedBy, IsRuleOrNone}
+use Rattle.tz_info.proofs.Words.{IsRuleTime, IsSince, IsSpan, IsSpanAt, LastSpan, IsTypeRefused, IsUnixTime, IsUntil, IsValid, LeapSecond, List, LocalType}
+use Rattle.tz_info.proofs.Words.{None, Option, SFits, Some, Span, Transition, TransitionRule, TypeAt, Zone, ap, arith, by_leap_time, by_lt_z, by_rule, cases_lt, false, true}
 use Rattle.tz_info.proofs.Words.{correction_before, floor_div, inl, inr, ints, last_transition, length, lies_in, neg_ℤ, option_map, passed_count, pos, refl}
-use Rattle.tz_info.proofs.Words.{segment_of, slice_get, subst, suc, sym, w64, year_of, zero, ℕ, ℤ, [], ◌-ℤ◌, ◌-◌, ◌<ℤ◌, ◌<◌, ◌∙◌, ◌∷◌, ◌≡◌, ◌≤ℤ◌, ◌⊎◌}
+use Rattle.tz_info.proofs.Words.{segment_of, subst, sym, w64, year_of, ℤ, ◌-ℤ◌, ◌-◌, ◌<ℤ◌, ◌<◌, ◌∙◌, ◌≡◌, ◌≤ℤ◌, ◌⊎◌}
 use Rattle.tz_info.specs.declared.rule.transition_rule.TransitionRule.TheVariants.{Alternate, Fixed}
 use Rattle.tz_info.proofs.{ChangeSearch.{InForce, Typed, stays}, LastType.{last_is}, LeapEntries.{before_found, follow}, LeapOrder.{none_counted}}
 use Rattle.tz_info.proofs.{RuleChanges.{rule_second}, RuleLaws.{rule_year}, SegmentLaws.{come_at_time, come_by_time, segment_most, segments_rise}}
-use Rattle.tz_info.proofs.{ZoneChanges.{refused_on, time_of, to_rule}, ZoneLaws.{type_decided, type_once}}
+use Rattle.tz_info.proofs.{ChangeLaws.{one_nearest}, ZoneChanges.{refused_on, time_of, to_rule}, ZoneLaws.{inside_listed, type_decided, type_once}}
 
 -- ---- between two seconds that have a type each has one
 -- before 1970 no entry has come
@@ -25,13 +25,8 @@ early_unix es x u valid h is =
     let d = is.difference in
     omega (arith, ints)
 
-some_at : {X : Type 0} (xs : List X) (i : ℕ) → i < length xs → (x : X) × (slice_get xs i ≡ Some x)
-some_at [] i h = absurd (omega arith)
-some_at (x ∷ xs) zero h = (x, refl)
-some_at (x ∷ xs) (suc i) h = some_at xs i (omega arith)
-
 last_of : (ts : List Transition) → 0 < length ts → (t : Transition) × (last_transition ts ≡ Some t)
-last_of ts h = some_at ts (length ts - 1) (omega arith)
+last_of ts h = inside_listed ts (length ts - 1) (omega arith)
 
 -- before the years of a rule of two types its zone's last transition has not come
 not_before : (z : Zone) (a : AlternateRule) (v y : ℤ) → IsValid z → z.rule ≡ Some (Alternate a) → 0 < length z.transitions → IsLeapTime z.leaps v y → segment_of z v ≡ length z.transitions → v <ℤ neg_ℤ (pos 67_768_100_504_812_800) → ⊥
@@ -186,39 +181,6 @@ later : (begin : Option ℤ) (v u : ℤ) → u ≤ℤ v → IsSince begin u → 
 later None v u h k = tt
 later (Some x) v u h k = omega (arith, ints)
 
--- a span whose second u the other has begins no later
-begins_in : (f : InForce) (a b : Span) (u x : ℤ) → IsSpan f a → IsInSpan a u → a.local_time_type ≡ b.local_time_type → x ≤ℤ u → (t : LocalType) → IsChange f (record { at = x; before = t; after = b.local_time_type }) → IsSince a.from (x -ℤ pos 1) → ⊥
-begins_in f a b u x h i same low t c since = c.differ (h.each (x -ℤ pos 1) t (record { fits = c.fits_before; since = since; until = sooner a.until (x -ℤ pos 1) u (omega (arith, ints)) i.until }) c.before ∙ same)
-
-begins_once : (f : InForce) (a b : Span) (u : ℤ) (p q : Option ℤ) → a.from ≡ p → b.from ≡ q → IsSpan f a → IsSpan f b → IsInSpan a u → IsInSpan b u → a.local_time_type ≡ b.local_time_type → p ≡ q
-begins_once f a b u None None e g h k i j same = refl
-begins_once f a b u None (Some y) e g h k i j same = let c = rw g at k.begins in absurd (begins_in f a b u y h i same (rw g at j.since) c.0 c.1 (rw e tt))
-begins_once f a b u (Some x) None e g h k i j same = let c = rw e at h.begins in absurd (begins_in f b a u x k j (sym same) (rw e at i.since) c.0 c.1 (rw g tt))
-begins_once f a b u (Some x) (Some y) e g h k i j same =
-    let c = rw e at h.begins in let d = rw g at k.begins in
-    let low = rw e at i.since in let high = rw g at j.since in
-    by_lt_z x y
-    (λ l. absurd (begins_in f a b u y h i same high d.0 d.1 (rw e (omega (arith, ints)))))
-    (λ m. by_lt_z y x
-    (λ l. absurd (begins_in f b a u x k j (sym same) low c.0 c.1 (rw g (omega (arith, ints)))))
-    (λ n. let s : x ≡ y = omega (arith, ints) in ap (λ v. Some v) s))
-
-ends_in : (f : InForce) (a b : Span) (u x : ℤ) → IsSpan f a → IsInSpan a u → a.local_time_type ≡ b.local_time_type → u <ℤ x → (t : LocalType) → IsChange f (record { at = x; before = b.local_time_type; after = t }) → IsUntil a.until x → ⊥
-ends_in f a b u x h i same high t c until = c.differ (sym same ∙ sym (h.each x t (record { fits = c.fits; since = later a.from x u (omega (arith, ints)) i.since; until = until }) c.after))
-
-ends_once : (f : InForce) (a b : Span) (u : ℤ) (p q : Option ℤ) → a.until ≡ p → b.until ≡ q → IsSpan f a → IsSpan f b → IsInSpan a u → IsInSpan b u → a.local_time_type ≡ b.local_time_type → p ≡ q
-ends_once f a b u None None e g h k i j same = refl
-ends_once f a b u None (Some y) e g h k i j same = let c = rw g at k.ends in absurd (ends_in f a b u y h i same (rw g at j.until) c.0 c.1 (rw e tt))
-ends_once f a b u (Some x) None e g h k i j same = let c = rw e at h.ends in absurd (ends_in f b a u x k j (sym same) (rw e at i.until) c.0 c.1 (rw g tt))
-ends_once f a b u (Some x) (Some y) e g h k i j same =
-    let c = rw e at h.ends in let d = rw g at k.ends in
-    let low = rw e at i.until in let high = rw g at j.until in
-    by_lt_z x y
-    (λ l. absurd (ends_in f b a u x k j (sym same) low c.0 c.1 (rw g (omega (arith, ints)))))
-    (λ m. by_lt_z y x
-    (λ l. absurd (ends_in f a b u y h i same high d.0 d.1 (rw e (omega (arith, ints)))))
-    (λ n. let s : x ≡ y = omega (arith, ints) in ap (λ v. Some v) s))
-
 abbrev span_of : LocalType → Option ℤ → Option ℤ → Span
 span_of t from until = record { local_time_type = t; from = from; until = until }
 
@@ -228,14 +190,61 @@ same_parts s t p q x y e f g = cc
 same_span : (a b : Span) → a.local_time_type ≡ b.local_time_type → a.from ≡ b.from → a.until ≡ b.until → a ≡ b
 same_span a b e f g = same_parts a.local_time_type b.local_time_type a.from b.from a.until b.until e f g
 
-pub span_once : (f : InForce) (a b : Span) (u : ℤ) → IsSpan f a → IsSpan f b → IsInSpan a u → IsInSpan b u → Typed f u → a ≡ b
-span_once f a b u h k i j typed =
-    let same = sym (h.each u typed.0 i typed.1) ∙ k.each u typed.0 j typed.1 in
-    same_span a b same (begins_once f a b u a.from b.from refl refl h k i j same) (ends_once f a b u a.until b.until refl refl h k i j same)
-
 -- between the span's second u and another of its seconds no change comes
 pub no_change_within : (f : InForce) (s : Span) (d : Change) → IsSpan f s → IsInSpan s (d.at -ℤ pos 1) → IsInSpan s d.at → IsChange f d → ⊥
 no_change_within f s d h i j is = is.differ (h.each (d.at -ℤ pos 1) d.before i is.before ∙ sym (h.each d.at d.after j is.after))
+
+-- no change comes between a span's second u and another of its seconds
+no_change_up_to : (f : InForce) (s : Span) (u : ℤ) (d : Change) → IsSpan f s → IsInSpan s u → IsChange f d → d.at ≤ℤ u → IsSince s.from (d.at -ℤ pos 1) → ⊥
+no_change_up_to f s u d h i is k since = no_change_within f s d h
+    (record { fits = is.fits_before; since = since; until = sooner s.until (d.at -ℤ pos 1) u (omega (arith, ints)) i.until })
+    (record { fits = is.fits; since = later s.from d.at (d.at -ℤ pos 1) (omega (arith, ints)) since; until = sooner s.until d.at u k i.until }) is
+
+no_change_from : (f : InForce) (s : Span) (u : ℤ) (d : Change) → IsSpan f s → IsInSpan s u → IsChange f d → u <ℤ d.at → IsUntil s.until d.at → ⊥
+no_change_from f s u d h i is k until = no_change_within f s d h
+    (record {
+      fits = is.fits_before;
+      since = later s.from (d.at -ℤ pos 1) u (omega (arith, ints)) i.since;
+      until = sooner s.until (d.at -ℤ pos 1) d.at (omega (arith, ints)) until;
+    })
+    (record { fits = is.fits; since = later s.from d.at u (omega (arith, ints)) i.since; until = until }) is
+
+-- the change at which a span begins is the last one up to each of its seconds, and the one at which it ends is the first one after it
+begins_last : (f : InForce) (s : Span) (u : ℤ) (p : Option ℤ) → s.from ≡ p → IsSpan f s → IsInSpan s u
+    → (c : Option Change) × (p ≡ seconds_of c) × IsLast f (λ v. v ≤ℤ u) c
+begins_last f s u None e h i = (None, refl, λ d is k. no_change_up_to f s u d h i is k (rw e tt))
+begins_last f s u (Some x) e h i =
+    let begin = rw e at h.begins in (
+      Some (record { at = x; before = begin.0; after = s.local_time_type }),
+      refl,
+      record {
+        is = begin.1;
+        inside = rw e at i.since;
+        nearest = λ d is k. by_lt_z x d.at (λ l. absurd (no_change_up_to f s u d h i is k (rw e (omega (arith, ints))))) (λ m. m);
+      },
+    )
+
+ends_first : (f : InForce) (s : Span) (u : ℤ) (p : Option ℤ) → s.until ≡ p → IsSpan f s → IsInSpan s u
+    → (c : Option Change) × (p ≡ seconds_of c) × IsFirst f (λ v. u <ℤ v) c
+ends_first f s u None e h i = (None, refl, λ d is k. no_change_from f s u d h i is k (rw e tt))
+ends_first f s u (Some x) e h i =
+    let end = rw e at h.ends in (
+      Some (record { at = x; before = s.local_time_type; after = end.0 }),
+      refl,
+      record {
+        is = end.1;
+        inside = rw e at i.until;
+        nearest = λ d is k. by_lt_z d.at x (λ l. absurd (no_change_from f s u d h i is k (rw e l))) (λ m. m);
+      },
+    )
+
+pub span_once : (z : Zone) (a b : Span) (u : ℤ) → IsSpan (TypeAt z) a → IsSpan (TypeAt z) b → IsInSpan a u → IsInSpan b u → Typed (TypeAt z) u → a ≡ b
+span_once z a b u h k i j typed =
+    let (c, p, last) = begins_last (TypeAt z) a u a.from refl h i in let (d, q, last_too) = begins_last (TypeAt z) b u b.from refl k j in
+    let (m, r, next) = ends_first (TypeAt z) a u a.until refl h i in let (n, s, next_too) = ends_first (TypeAt z) b u b.until refl k j in
+    same_span a b (sym (h.each u typed.0 i typed.1) ∙ k.each u typed.0 j typed.1)
+    (p ∙ ap seconds_of (one_nearest false z (λ v. v ≤ℤ u) c d last last_too) ∙ sym q)
+    (r ∙ ap seconds_of (one_nearest true z (λ v. u <ℤ v) m n next next_too) ∙ sym s)
 
 -- ---- a span has its type at each second from one that has a type, or from its beginning, to another, or to its end
 typed_from : (z : Zone) (s : Span) (first : ℤ) → IsSpan (TypeAt z) s → IsEndOrTyped z s.from first → Typed (TypeAt z) first
@@ -281,7 +290,4 @@ in_last_span z s first u valid limits h from fits low most =
 
 -- no change comes after a second of a span without an end
 pub none_after : (f : InForce) (s : Span) (u : ℤ) → IsSpanAt f u s → s.until ≡ None → HasNoChange f (λ v. u <ℤ v)
-none_after f s u h endless d is after =
-    no_change_within f s d h.span (rest (d.at -ℤ pos 1) is.fits_before (omega (arith, ints))) (rest d.at is.fits (omega (arith, ints))) is where
-      rest : (v : ℤ) → SFits w64 v → u ≤ℤ v → IsInSpan s v
-      rest v fits l = record { fits = fits; since = later s.from v u l h.inside.since; until = rw endless tt }
+none_after f s u h endless d is after = no_change_from f s u d h.span h.inside is after (rw endless tt)

@@ -1,10 +1,11 @@
 -- Where a zone's types change: at its transitions, and behind them where the rule's types do.
+use Rattle.std.proofs.lemmas.List.Sums.{sum_by-le-sum_by}
 use Rattle.tz_info.proofs.Words.{Alternate as AlternateRule, AlternateAt, AreAhead, HaveOneType, AreComeAt, AreComeOrAll, AreLeapSeconds, Change, Bool, ComesAt}
 use Rattle.tz_info.proofs.Words.{HasNoChange, false, true, HasNoneAt, HaveCome, IsAhead, IsBegin, IsChangeByRule, IsChange, IsFirst, IsFirstChange, IsInTable}
 use Rattle.tz_info.proofs.Words.{IsLast, IsLastChange, IsLeapTime, IsLeapTimeRefused, IsNearest, IsRuleTime, IsValid, LeapSecond, List, LocalType, MatchOption}
-use Rattle.tz_info.proofs.Words.{None, Option, RuleOrType, SFits, Some, Transition, TransitionRule, TypeAt, Zone, ap, arith, by_lt_z, cases_lt, cond, count_by}
-use Rattle.tz_info.proofs.Words.{get_or, index_of, inl, inr, int_le, ints, length, nat_tests, passed_count, pos, refl, segment_of, slice_get, suc, sum_by-cons}
-use Rattle.tz_info.proofs.Words.{sym, thresholds, w64, zero, ℕ, ℤ, [], ◌+◌, ◌-ℤ◌, ◌-◌, ◌<ℤ◌, ◌<◌, ◌↔◌, ◌∙◌, ◌∷◌, ◌≡◌, ◌≤ℤ◌, ◌≤◌, ◌⊎◌}
+use Rattle.tz_info.proofs.Words.{None, Option, RuleOrType, SFits, Some, Transition, TransitionRule, TypeAt, Zone, ap, arith, by_lt_z, cases_lt, cond}
+use Rattle.tz_info.proofs.Words.{get_or, index_of, inl, inr, int_le, ints, length, nat_tests, passed_count, pos, refl, segment_of, slice_get, suc}
+use Rattle.tz_info.proofs.Words.{sym, thresholds, w64, zero, ℕ, ℤ, ◌+◌, ◌-ℤ◌, ◌-◌, ◌<ℤ◌, ◌<◌, ◌↔◌, ◌∙◌, ◌≡◌, ◌≤ℤ◌, ◌≤◌, ◌⊎◌}
 use Rattle.tz_info.specs.declared.rule.transition_rule.TransitionRule.TheVariants.{Alternate, Fixed}
 use Rattle.tz_info.proofs.{ChangeSearch.{nearest_moved}, GapLaws.{HasOneType, IsSteady, one_type}, LeapEntries.{follow, threshold_at}, LeapOrder.{bounded}}
 use Rattle.tz_info.proofs.{LeapStarts.{correction_behind, reached_later, times_rise}, PassedTransitions.{no_items}, RuleChanges.{rule_second}}
@@ -15,18 +16,13 @@ use Rattle.tz_info.proofs.ZoneLaws.{leap_time_decided, some_once}
 one_counted : (t u v : ℤ) → u ≤ℤ v → cond (int_le t u) 1 0 ≤ cond (int_le t v) 1 0
 one_counted t u v h = grind (arith, ints, nat_tests)
 
-counted_more : (ts : List ℤ) (u v : ℤ) → u ≤ℤ v → count_by (λ t. int_le t u) ts ≤ count_by (λ t. int_le t v) ts
-counted_more [] u v h = omega arith
-counted_more (t ∷ ts) u v h =
-    let r = counted_more ts u v h in let one = one_counted t u v h in
-    rw (sum_by-cons (λ t. cond (int_le t u) 1 0) t ts, sum_by-cons (λ t. cond (int_le t v) 1 0) t ts) (omega arith)
-
 -- before a second with a leap time each has one
 pub refused_on : (es : List LeapSecond) (u v y : ℤ) → AreLeapSeconds es → u ≤ℤ v → IsLeapTimeRefused es u → IsLeapTime es v y → ⊥
 refused_on es u v y valid h r l =
     let b = bounded (pos 0) (pos 0) u es r.place (follow es valid) (λ d k. let f = (valid.first d k).since_epoch in omega (arith, ints)) r.passed in
     let a = b.later in let n = b.least in
-    let more : passed_count es u ≤ passed_count es v = counted_more (thresholds (pos 0) es) u v h in
+    let more : passed_count es u ≤ passed_count es v =
+    sum_by-le-sum_by (λ t. cond (int_le t u) 1 0) (λ t. cond (int_le t v) 1 0) (thresholds (pos 0) es) (λ t. one_counted t u v h) in
     let p = r.passed in
     let fits = l.fits r.place (omega arith) in
     r.leaves (omega (arith, ints))

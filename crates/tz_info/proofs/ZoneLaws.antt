@@ -51,7 +51,7 @@ listed_inside [] i x h = cc
 listed_inside (y ∷ xs) zero x h = omega arith
 listed_inside (y ∷ xs) (suc i) x h = let l = listed_inside xs i x h in omega arith
 
-inside_listed : {X : Type 0} (xs : List X) (i : ℕ) → i < length xs → (x : X) × (slice_get xs i ≡ Some x)
+pub inside_listed : {X : Type 0} (xs : List X) (i : ℕ) → i < length xs → (x : X) × (slice_get xs i ≡ Some x)
 inside_listed [] i h = absurd (omega arith)
 inside_listed (y ∷ xs) zero h = (y, refl)
 inside_listed (y ∷ xs) (suc i) h = inside_listed xs i (omega arith)
@@ -90,7 +90,7 @@ leap_time_decided leaps u = elim (all_fit_or_not (λ k. u +ℤ get_or (correctio
 ]
 
 -- the last of the passed transitions names a type
-last_index_below : (ts : List Transition) (x : ℤ) (d n : ℕ) → d < n → ((k : ℕ) (e : Transition) → k < length ts → (get_or ts k e).type_index < n) → last_else d (map (λ t. t.type_index) (passed ts x)) < n
+pub last_index_below : (ts : List Transition) (x : ℤ) (d n : ℕ) → d < n → ((k : ℕ) (e : Transition) → k < length ts → (get_or ts k e).type_index < n) → last_else d (map (λ t. t.type_index) (passed ts x)) < n
 last_index_below [] x d n h all = h
 last_index_below (t ∷ ts) x d n h all = by_lt_z x t.unix_leap_time
     (λ later. rw (le_false t.unix_leap_time x later) (last_index_below ts x d n h (λ k e l. all (suc k) e (omega arith))))

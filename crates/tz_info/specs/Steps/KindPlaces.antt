@@ -1,5 +1,6 @@
 -- How many days of a year come before a rule's day: the year's length tells it, and the weekday that the year begins with.
-use Rattle.std.specs.Prelude.{ℕ, ◌+◌, ◌-◌, ◌%◌, Bool, true, false, List, [], ◌∷◌}
+use Rattle.std.specs.List.{range_with_len}
+use Rattle.std.specs.Prelude.{ℕ, ◌+◌, ◌-◌, ◌%◌, Bool, List, map, nat_le}
 use Rattle.naive_base.specs.Month.{days_in_month, days_of_months}
 use Rattle.tz_info.specs.Steps.RuleDays.{julian_place, weekday_place}
 use Rattle.tz_info.specs.declared.rule.day.DayForm.{DayForm}
@@ -18,6 +19,4 @@ place_by (MonthWeekday month week weekday) leap first =
 
 -- in years of each kind: the common years that begin with Sunday to Saturday, and then the leap years
 unfoldable pub places_by_kind : DayForm → List ℕ
-places_by_kind form =
-    place_by form false 0 ∷ place_by form false 1 ∷ place_by form false 2 ∷ place_by form false 3 ∷ place_by form false 4 ∷ place_by form false 5 ∷ place_by form false 6
-    ∷ place_by form true 0 ∷ place_by form true 1 ∷ place_by form true 2 ∷ place_by form true 3 ∷ place_by form true 4 ∷ place_by form true 5 ∷ place_by form true 6 ∷ []
+places_by_kind form = map (λ k. place_by form (nat_le 7 k) (k % 7)) (range_with_len 0 14)

@@ -35,7 +35,15 @@ impl AlternateTime {
             return None;
         }
         let near = ahead.near_end(forward);
-        match ahead.moment_within(self.nearest_moment(near, forward)) {
+        self.change_if(ahead.moment_within(self.nearest_moment(near, forward)))
+    }
+
+    // The change at the moment, if there is one.
+    #[inline(always)]
+    fn change_if(&self, found: Option<Moment>) -> Option<HeldChange<'_>>
+        ensures { option_map change_held result ≡ change_found self.now found }
+    {
+        match found {
             Some(moment) => Some(self.change_of(moment)),
             None => None,
         }
@@ -60,6 +68,7 @@ impl AlternateTime {
 
     // The nearest moment at which clocks change: mostly one of the second's year or the next one.
     #[inline(always)]
+    #[tactic(auto, using(crate::proofs::Ranges::in_range, crate::proofs::SeasonChanges::nearest_on))]
     fn nearest_moment(&self, second: i64, forward: bool) -> Option<Moment>
         ensures { IsNearestMomentOf forward self.now (IsAhead forward second) result }
     {
@@ -73,6 +82,7 @@ impl AlternateTime {
     }
 
     // The nearest moment, by those of the second's year if these decide at it, or else year by year.
+    #[tactic(auto, using(crate::proofs::Ranges::in_range, crate::proofs::SeasonChanges::nearest_on))]
     fn moment_beyond(&self, second: i64, forward: bool) -> Option<Moment>
         ensures { IsNearestMomentOf forward self.now (IsAhead forward second) result }
     {

@@ -78,11 +78,7 @@ impl AlternateTime {
         requires time { IsRuleTime unix_time }
         ensures { AlternateAt self.now unix_time result.now }
     {
-        if self.is_dst_in(season, unix_time) {
-            &self.dst_type
-        } else {
-            &self.std_type
-        }
+        self.type_when(self.is_dst_in(season, unix_time))
     }
 
     // Whether it is daylight saving time at the second, by the season's moments where these
@@ -179,6 +175,13 @@ impl Turns {
         } else {
             has_started | has_not_ended
         }
+    }
+
+    // The start, or the end.
+    pub(super) fn moment(self, to_dst: bool) -> i64
+        ensures { result ≡ (if to_dst then self.start else self.end) }
+    {
+        if to_dst { self.start } else { self.end }
     }
 
     // Whether the start does not come after the end.

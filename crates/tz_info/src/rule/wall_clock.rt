@@ -133,30 +133,23 @@ impl AlternateTime {
             probes.old.rule_questions probes.new.rule_questions }
         ensures rule { IsAlternateRule self.now }
     {
-        let standard = self.std().offset();
-        let daylight = self.dst().offset();
-        let by_std = second_showing(local, standard);
-        let by_dst = second_showing(local, daylight);
-        if by_std < from && by_dst < from {
-            return (None, MappedLocalTime::None);
-        }
-        if standard == daylight {
-            let only = self.ask(from, local, standard, MappedLocalTime::None, probes);
+        // The greater offset has the earlier second.
+        let dst_first = self.std().offset() < self.dst().offset();
+        let first = self.type_when(dst_first).offset();
+        let last = self.type_when(!dst_first).offset();
+        if first == last {
+            let only = self.ask(from, local, first, MappedLocalTime::None, probes);
             return (None, only);
         }
-        if from <= by_std && from <= by_dst {
+        let by_first = second_showing(local, first);
+        if from <= by_first {
             let season = self.season(local);
-            if season.decides(by_std) & season.decides(by_dst) {
+            if season.decides(by_first) & season.decides(second_showing(local, last)) {
                 return self.answer_amid(season, from, local, probes);
             }
         }
-        // The greater offset has the earlier second.
-        if standard < daylight {
-            let one = self.ask(from, local, daylight, MappedLocalTime::None, probes);
-            return (None, self.ask(from, local, standard, one, probes));
-        }
-        let one = self.ask(from, local, standard, MappedLocalTime::None, probes);
-        (None, self.ask(from, local, daylight, one, probes))
+        let one = self.ask(from, local, first, MappedLocalTime::None, probes);
+        (None, self.ask(from, local, last, one, probes))
     }
 
     // Asks for the two seconds that could show the local time, where the season's moments decide at
@@ -180,24 +173,17 @@ impl AlternateTime {
         ensures counted { IsAskedFrom (Alternate self.now) from local
             probes.old.rule_questions probes.new.rule_questions }
     {
-        let standard = self.std().offset();
-        let daylight = self.dst().offset();
-        probes.count_question();
-        probes.count_question();
-        let is_std = !self.is_dst_amid(season, second_showing(local, standard));
-        let is_dst = self.is_dst_amid(season, second_showing(local, daylight));
         // The greater offset has the earlier second.
-        if standard < daylight {
-            (
-                Some(season),
-                answer_of_two(self.dst(), is_dst, self.std(), is_std),
-            )
-        } else {
-            (
-                Some(season),
-                answer_of_two(self.std(), is_std, self.dst(), is_dst),
-            )
-        }
+        let dst_first = self.std().offset() < self.dst().offset();
+        let first = self.type_when(dst_first);
+        let last = self.type_when(!dst_first);
+        probes.count_question();
+        probes.count_question();
+        let by_first = second_showing(local, first.offset());
+        let by_last = second_showing(local, last.offset());
+        let is_first = self.is_dst_amid(season, by_first) == dst_first;
+        let is_last = self.is_dst_amid(season, by_last) == !dst_first;
+        (Some(season), answer_of_two(first, is_first, last, is_last))
     }
 
     // The change at which clocks jump over the local time, where the season's moments decide at both
@@ -211,17 +197,10 @@ impl AlternateTime {
         ensures { (from : ℤ) → IsSeasonFor self.now from local season → IsNeverFrom self.now from local
             → IsRuleGap self.now from local (change_held result) }
     {
-        let standard = self.std().offset();
-        let daylight = self.dst().offset();
-        if standard < daylight {
-            return self.change_of(Moment {
-                at: season.turns.start,
-                to_dst: true,
-            });
-        }
+        let to_dst = self.std().offset() < self.dst().offset();
         self.change_of(Moment {
-            at: season.turns.end,
-            to_dst: false,
+            at: season.turns.moment(to_dst),
+            to_dst,
         })
     }
 

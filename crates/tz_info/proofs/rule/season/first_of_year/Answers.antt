@@ -6,20 +6,11 @@ overflow_sub-result c =
     let in_range = c.ranges.day in
     omega (arith, floors, c.requires.day, c.requires.bound)
 
-pub returns-clause-value : goal.returns-clause-value
-returns-clause-value c =
+pub returns : goal.returns
+returns c =
     let in_range = c.ranges.day in
-    let passed = c.requires.place in
     let bound = c.requires.bound in
-    let own = rw (← passed) at (day_of_year_is c.args.day).0 in
-    omega (arith, floors, own, bound)
-
-pub returns-clause-bound : goal.returns-clause-bound
-returns-clause-bound c =
-    let in_range = c.ranges.day in
-    let passed = c.requires.place in
-    let bound = c.requires.bound in
-    let own = rw (← passed) at (day_of_year_is c.args.day).0 in
+    let own = rw (← c.requires.place) at (day_of_year_is c.args.day).0 in
     let begins = own_start_in_range c.args.day c.requires.day in
     let low = begins.0 in let high = begins.1 in
-    (omega (arith, floors, own, bound, low), omega (arith, floors, own, bound, high))
+    record { value = omega (arith, floors, own, bound); bound = (omega (arith, floors, own, bound, low), omega (arith, floors, own, bound, high)) }

@@ -29,16 +29,16 @@ latest c =
     let fl : SFits w128 c.later.result = search rules in
     (fl, simp to_z-of_z at c.entries_come-come.ensures, simp to_z-of_z at c.later.ensures)
 
-pub returns-clause-reached : goal.returns-clause-reached
-returns-clause-reached c = λ u y l.
-    let (fl, come, is) = latest (goal.at.returns-clause-reached c).After-later in let fx = c.ranges.leap_time in
-    simp to_z-of_z (both_ways (reached_exactly c.args.leaps.now c.args.leap_time u y _ _ c.entries_come-come.result none c.requires come (omega arith) c.correction_behind.ensures c.correction_behind-2.ensures l) (is u))
-
-pub returns-clause-bound : goal.returns-clause-bound
-returns-clause-bound c =
-    let (fl, come, is) = latest (goal.at.returns-clause-bound c).After-later in let fx = c.ranges.leap_time in
+pub returns : goal.returns
+returns c =
+    let (fl, come, is) = latest (goal.at.returns c).After-later in
+    let fx = c.ranges.leap_time in
     let w = come.within in
     let late = entry_late c.args.leaps.now (c.entries_come-come.result - 1) none c.requires (omega arith) in
     let least = ((is c.later.result).0 (omega (arith, ints))).0 in
     let f1 : SFits w64 c.correction_behind.result = search rules in
-    simp to_z-of_z (omega (arith, ints))
+    simp to_z-of_z (record {
+      reached = λ u y l. both_ways (reached_exactly c.args.leaps.now c.args.leap_time u y _ _ c.entries_come-come.result none c.requires come (omega arith)
+          c.correction_behind.ensures c.correction_behind-2.ensures l) (is u);
+      bound = omega (arith, ints);
+    })

@@ -7,13 +7,7 @@ returns c =
     let rule = c.turns-here.ensures.rule in
     let earlier : SFits w32 (c.args.year -ℤ pos 1) = omega (arith, floors, c.requires.inside) in
     let later : SFits w32 (c.args.year +ℤ pos 1) = omega (arith, floors, c.requires.inside) in
-    let start = simp to_z-of_z at c.turns-here.ensures.start in
-    let end = simp to_z-of_z at c.turns-here.ensures.end in
-    let start_before = simp to_z-of_z at c.turns.ensures.start in
-    let end_before = simp to_z-of_z at c.turns.ensures.end in
-    let start_after = simp to_z-of_z at c.turns-2.ensures.start in
-    let end_after = simp to_z-of_z at c.turns-2.ensures.end in
-    let is = simp to_z-of_z at c.is_dst_by_three.ensures in
+    let here = c.turns-here.ensures in let before = c.turns.ensures in let after = c.turns-2.ensures in
     dst_by_three (start_in c.args.self.now) (end_in c.args.self.now) c.args.year c.args.unix_time c.is_dst_by_three.result
-    (starts_near c.args.self.now rule) (ends_near c.args.self.now rule)
-    (rw c.requires.day at c.requires.lies) (rw (start, end, start_before, end_before, start_after, end_after) at is)
+    (starts_near c.args.self.now rule) (ends_near c.args.self.now rule) (rw c.requires.day at c.requires.lies)
+    (simp (to_z-of_z, here.start, here.end, before.start, before.end, after.start, after.end) at c.is_dst_by_three.ensures)

@@ -1,5 +1,5 @@
 use Rattle.tz_info.proofs.{Words.{AlternateAt, SFits, arith, change_found, ints, pos, to_z-of_z, w64, ◌-ℤ◌}, ChangeSearch.{change_made}}
-use Rattle.tz_info.proofs.RuleChanges.{rule_second, rule_type_once}
+use Rattle.tz_info.proofs.{RuleChanges.{rule_second}, RuleLaws.{alternate_once}}
 use Rattle.tz_info.proofs.rule.alternate.AlternateTime.moment_at.Goals.{then-second-le-FIRST_RULE_TIME-via-then-second-le-FIRST_RULE_TIME}
 use Rattle.tz_info.proofs.rule.alternate.AlternateTime.moment_at.Goals.{then-second-le-FIRST_RULE_TIME-via-else-second-le-FIRST_RULE_TIME+then-second-gt-LAST_RULE_TIME}
 use Rattle.tz_info.proofs.rule.alternate.AlternateTime.moment_at.Goals as goal
@@ -21,5 +21,5 @@ returns c =
     let a = c.args.self.now in
     let fs = c.ranges.second in
     let fb : SFits w64 (c.args.second -ℤ pos 1) = omega (arith, ints) in
-    change_made (AlternateAt a) c.args.second _ _ (change_found a c.moment_between.result) (rule_type_once a) fs fb
+    change_made (AlternateAt a) c.args.second _ _ (change_found a c.moment_between.result) (alternate_once a) fs fb
     (simp to_z-of_z at c.is_dst_at-before.ensures) (simp to_z-of_z at c.is_dst_at-after.ensures) (simp to_z-of_z at c.moment_between.ensures)

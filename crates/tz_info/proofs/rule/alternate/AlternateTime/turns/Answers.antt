@@ -20,12 +20,11 @@ turns_from-requires-clause-kind c =
     let (at_first, begins, own) = first_day (goal.at.turns_from-requires-clause-kind c).After-year_start-first in
     simp to_z-of_z (rw own (simp to_z-of_z at c.kind_of.ensures.place))
 
-pub returns-clause-start : goal.returns-clause-start
-returns-clause-start c =
-    let (at_first, begins, own) = first_day (goal.at.returns-clause-start c).After-year_start-first in
-    rw own at (simp to_z-of_z at c.turns_from.ensures.start)
-
-pub returns-clause-end : goal.returns-clause-end
-returns-clause-end c =
-    let (at_first, begins, own) = first_day (goal.at.returns-clause-end c).After-year_start-first in
-    rw own at (simp to_z-of_z at c.turns_from.ensures.end)
+pub returns : goal.returns
+returns c =
+    let (at_first, begins, own) = first_day (goal.at.returns c).After-year_start-first in
+    record {
+      start = rw own at (simp to_z-of_z at c.turns_from.ensures.start);
+      end = rw own at (simp to_z-of_z at c.turns_from.ensures.end);
+      rule = c.turns_from.ensures.rule;
+    }

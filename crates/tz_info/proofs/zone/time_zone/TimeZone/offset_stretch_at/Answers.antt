@@ -1,5 +1,4 @@
-use Rattle.tz_info.proofs.{Words.{Counts, SFits, ap, arith, digits-le, length, rules, to_z-of_z, w32, w64, ◌<◌, ◌≡◌}, LeaplessChanges.{time_at}}
-use Rattle.tz_info.proofs.OffsetStretchLaws.{offset_stretch_between}
+use Rattle.tz_info.proofs.{Words.{Counts, SFits, ap, arith, digits-le, ints, length, rules, to_z-of_z, w32, w64, ◌<◌, ◌≡◌}, LeaplessChanges.{between, time_at}}
 use Rattle.tz_info.proofs.zone.time_zone.TimeZone.offset_stretch_at.Goals as goal
 
 pub passed_count-place-requires : goal.passed_count-place-requires
@@ -35,6 +34,10 @@ returns c =
     let none : length z.leaps ≡ 0 = search rules in
     let some : place < length z.transitions = search rules in
     let has = rw c.latest-latest.ensures.index at c.listed-found.ensures in
-    simp to_z-of_z (offset_stretch_between z place latest.unix_leap_time next.unix_leap_time c.offset.result c.listed-found.result.now
-    (rw (← c.self.view_is) c.self.invariant.valid) none some c.latest-latest.ensures.begin
-    (λ d. time_at z.transitions place next d some c.transition-next.ensures.item) has c.offset.ensures.value)
+    let begin = c.latest-latest.ensures.begin in
+    simp to_z-of_z (λ u since before. (
+      c.listed-found.result.now,
+      between z place u c.listed-found.result.now (rw (← c.self.view_is) c.self.invariant.valid) none some (omega (arith, ints))
+          (λ d. let e = time_at z.transitions place next d some c.transition-next.ensures.item in omega (arith, ints)) has,
+      c.offset.ensures.value,
+    ))
