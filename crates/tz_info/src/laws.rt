@@ -29,6 +29,7 @@ ghost use Rattle.tz_info.specs.declared.zone.transition.Transition.{Transition};
 
 /// A rule has one day in each year, and its moments at a fixed time of day come later in a later
 /// year.
+#[tactic(auto, using(crate::proofs::RuleDays::rule_day_is, crate::proofs::RuleDays::one_rule_day))]
 pub fn rule_days_law()
     ensures found { (form : DayForm) (year : ℤ) → IsRuleDay form
         → IsDayOf form year (rule_day form year) }
@@ -39,6 +40,7 @@ pub fn rule_days_law()
 {}
 
 /// At each second a rule has one type, or it returns an error.
+#[tactic(auto, using(crate::proofs::RuleLaws::rule_once, crate::proofs::RuleLaws::rule_not_refused, crate::proofs::RuleLaws::rule_decided, crate::proofs::RuleLaws::rule_time, crate::proofs::RuleLaws::rule_year))]
 pub fn rule_types_law()
     ensures once { (rule : TransitionRule) (u : ℤ) (s t : LocalType) → RuleAt rule u s
         → RuleAt rule u t → s ≡ t }
@@ -72,6 +74,7 @@ pub fn rule_moments_law()
 /// If the corrections are 1, 2, 3 and so on, the Unix time of a Unix time's leap time is that
 /// Unix time. At the first entry's own leap time the Unix time is equal to it, and at a later one's
 /// it is less by the correction of the entry before.
+#[tactic(auto, using(crate::proofs::LeapEntries::before_first, crate::proofs::LeapEntries::before_later))]
 pub fn leap_times_law()
     ensures rise { (leaps : List LeapSecond) (u v x y : ℤ) → AreLeapSeconds leaps → u ≤ℤ v
         → IsLeapTime leaps u x → IsLeapTime leaps v y → x ≤ℤ y }
@@ -96,6 +99,7 @@ pub fn leap_times_law()
 /// At the last transition's second the transition's type is in force, with a rule or without one,
 /// unless the second's leap time is before the transition, as if a leap second is left out at the
 /// transition.
+#[tactic(auto, using(crate::proofs::ZoneLaws::type_not_refused, crate::proofs::ZoneLaws::type_listed, crate::proofs::LastType::last_type))]
 pub fn zone_types_law()
     ensures once { (z : Zone) (u : ℤ) (s t : LocalType) → TypeAt z u s → TypeAt z u t → s ≡ t }
     ensures apart { (z : Zone) (u : ℤ) (t : LocalType) → TypeAt z u t → ¬ (IsTypeRefused z u) }

@@ -10,6 +10,7 @@ ghost use Rattle.tz_info.specs.Zones.{Zone, IsValid, IsRuleOrNone};
 ghost use Rattle.tz_info.specs.declared.rule.transition_rule.TransitionRule.{TransitionRule as Rule};
 
 /// No bytes spell two rules.
+#[tactic(auto, using(crate::proofs::TextLaws::one_rule))]
 pub fn one_rule()
     ensures { (extended : Bool) (bytes : List ℕ) (a b : Rule) → IsTzText extended bytes a
         → IsTzText extended bytes b → a ≡ b }
@@ -28,6 +29,7 @@ pub fn zone_is_valid()
 
 /// A text with a fault spells no rule. It has one first fault, and that is not running out of
 /// memory.
+#[tactic(auto, using(crate::proofs::TextLaws::refused_or_spelled, crate::proofs::TextLaws::one_fault, crate::proofs::TextLaws::text_low))]
 pub fn fault_or_rule()
     ensures apart { (extended : Bool) (bytes : List ℕ) (e : Fault) (rule : Rule)
         → IsTextFault extended bytes e → ¬ (IsTzText extended bytes rule) }
