@@ -3,8 +3,8 @@ use Rattle.std.proofs.lemmas.Slice.Eq.{slice_eq-Decides}
 use Rattle.std.specs.Cmp.Lexicographic.{pointwise}
 use Rattle.tz_base.specs.contracts.local_time_type.LocalTimeTypePartialEq.TheImpl.{eq-value as type_eq}
 use Rattle.tz_info.proofs.Words.{Alternate as AlternateRule, Bool, DayTime, IsExact, IsTrue, LeapSecond, List, LocalType, None, Option, Some, Transition}
-use Rattle.tz_info.proofs.Words.{TransitionRule, Zone, and_both, and_left, and_right, ap, option_eq, refl, rules, sym, type_exact, zone_eq, [], ◌&&◌, ◌↔◌, ◌∙◌}
-use Rattle.tz_info.proofs.Words.{◌∷◌, ◌≡◌}
+use Rattle.tz_info.proofs.Words.{TransitionRule, Zone, and_both, and_left, and_right, ap, option_eq, refl, rules, sym, type_exact, zone_eq, ◌&&◌, ◌↔◌, ◌∙◌}
+use Rattle.tz_info.proofs.Words.{◌≡◌}
 use Rattle.tz_info.specs.contracts.rule.day.DayTimePartialEq.TheImpl.{eq-value as day_time_eq}
 use Rattle.tz_info.specs.contracts.rule.transition_rule.TransitionRulePartialEq.TheImpl.{eq-value as rule_eq}
 use Rattle.tz_info.specs.contracts.zone.leap_second.LeapSecondPartialEq.TheImpl.{eq-value as leap_eq}

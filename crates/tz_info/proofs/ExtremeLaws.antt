@@ -2,7 +2,7 @@
 use Rattle.tz_info.proofs.Words.{All-push, All-contains, AreExtremes, AreJoined, AreJoinedByRule, Contains, Contains-append_left, Contains-append_right}
 use Rattle.tz_info.proofs.Words.{Contains-push, Extremes, IsEnd, IsGreatest, IsLeast, IsTypeOf, IsWindowOf, List, SFits, subst, w32, ◌-ℤ◌, LocalType, None}
 use Rattle.tz_info.proofs.Words.{Option, Some, TransitionRule, TypeAt, Zone, append_assoc, arith, get_or, get_or-map, inl, inr, ints, length, length-map}
-use Rattle.tz_info.proofs.Words.{offsets, offsets_of, refl, rule_offsets, slice_get, slice_get-get_or, sym, ℕ, ℤ, [], ◌++◌, ◌+◌, ◌<◌, ◌∙◌, ◌∷◌, ◌≡◌, ◌≤ℤ◌, ◌≤◌}
+use Rattle.tz_info.proofs.Words.{offsets, offsets_of, refl, rule_offsets, slice_get, slice_get-get_or, sym, ℕ, ℤ, [], ◌++◌, ◌+◌, ◌<◌, ◌∙◌, ◌∷◌, ◌≡◌, ◌≤ℤ◌}
 use Rattle.tz_info.proofs.Words.{◌⊎◌, take, take-suc, add-one}
 use Rattle.tz_info.specs.declared.rule.transition_rule.TransitionRule.TheVariants.{Alternate, Fixed}
 use Rattle.std.proofs.lemmas.List.{map-append}

@@ -6,7 +6,7 @@ use Rattle.std.proofs.lemmas.{Bool.Decides.{not_from_Decides}, List.Elements.{Al
 use Rattle.tz_info.proofs.Words.{All, AllAdjacentBelow, AllPairs, AllPairs-cons, AreLeapSeconds, AreRising, AreTransitions, Bool, Decides, Decides-int_eq, Decides-ltb}
 use Rattle.tz_info.proofs.Words.{Decides-or, Error, IsNextLeap, IsOneStep, IsValid, LeapSecond, List, ListFault, No_type, Not_rising, Other_index, Other_leaps}
 use Rattle.tz_info.proofs.Words.{Other_rule, Transition, Zone, add-one, arith, cases_lt, error_number, false, inl, inr, int_eq, int_le, int_lt, le_is, le_true}
-use Rattle.tz_info.proofs.Words.{length, lt_is, lt_true, pos, refl, suc, sym, true, zero, ℕ, ℤ, [], ◌+ℤ◌, ◌-ℤ◌, ◌<ℤ◌, ◌<◌, ◌∙◌, ◌∷◌, ◌≡◌, ◌≤ℤ◌, ◌≤◌, ◌⊎◌}
+use Rattle.tz_info.proofs.Words.{length, lt_is, lt_true, pos, refl, suc, sym, true, zero, ℤ, [], ◌+ℤ◌, ◌-ℤ◌, ◌<ℤ◌, ◌<◌, ◌∙◌, ◌∷◌, ◌≡◌, ◌≤ℤ◌, ◌≤◌, ◌⊎◌}
 use Rattle.tz_info.specs.Transitions.{NameTypes}
 
 -- ---- what can be tested holds or does not

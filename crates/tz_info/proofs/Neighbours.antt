@@ -1,8 +1,8 @@
 -- Only a year's own moments and those of its two neighbours can enclose a second of the year.
 use Rattle.tz_info.proofs.Words.{Alternate, Bool, DayTime, Decides, Decides-or, IsAlternateRule, IsDstAt, IsInSomeYear, IsRuleDay, IsWithinDay, IsWithinWeek, IsYearOf, ap, arith}
 use Rattle.tz_info.proofs.Words.{by_lt_z, cond, days_at_least, end_in, false, floors, inl, inr, int_le, ints, is_between, is_dst_by_one, is_in_three, le_false}
-use Rattle.tz_info.proofs.Words.{le_true, le_is, moment, neg_ℤ, not, not-false, or_cases, or_left, or_right, pos, refl, start_in, starts_rise, sym, true}
-use Rattle.tz_info.proofs.Words.{year_start, year_step, ℤ, ⊎_elim, ◌*ℤ◌, ◌+ℤ◌, ◌-ℤ◌, ◌<ℤ◌, ◌||◌, ◌∙◌, ◌≡◌, ◌≤ℤ◌, ◌⊎◌}
+use Rattle.tz_info.proofs.Words.{le_true, le_is, moment, neg_ℤ, not, not-false, pos, refl, start_in, starts_rise, sym, true}
+use Rattle.tz_info.proofs.Words.{year_start, year_step, ℤ, ⊎_elim, ◌*ℤ◌, ◌+ℤ◌, ◌-ℤ◌, ◌<ℤ◌, ◌∙◌, ◌≡◌, ◌≤ℤ◌, ◌⊎◌}
 use Rattle.std.proofs.lemmas.Bool.Decides.{Decides-like}
 use Rattle.tz_info.proofs.RuleDays.{day_within}
 

@@ -1,13 +1,13 @@
 -- Questions to a zone's rule: at which seconds it is asked, and how often for a local time.
 use Rattle.tz_info.proofs.Words.{All-contains, AllPairs-cons, Alternate as AlternateRule, AreUtOffsets, Contains, Contains-append_right, IsAskedAt, IsAskedAtEach}
-use Rattle.tz_info.proofs.Words.{IsAskedAtLeapTime, IsAskedFor, IsAskedFrom, IsAskedSince, IsByRuleFor, IsFromLast, IsLeapTime, IsNear, IsSecondFrom, IsStart}
-use Rattle.tz_info.proofs.Words.{IsValid, IsWide, IsWindow, LocalType, None, Option, Some, Transition, TransitionRule, Zone, ap, arith, cases_lt, get_or, inl}
+use Rattle.tz_info.proofs.Words.{IsAskedAtLeapTime, IsAskedFor, IsAskedFrom, IsAskedSince, IsByRuleFor, IsLeapTime, IsNear, IsSecondFrom, IsStart}
+use Rattle.tz_info.proofs.Words.{IsValid, IsWide, IsWindow, LocalType, None, Option, Some, Transition, TransitionRule, Zone, ap, arith, get_or, inl}
 use Rattle.tz_info.proofs.Words.{inr, ints, length, none-some, offsets, offsets_of, refl, rule_offsets, segment_of, subst, suc, sym, zero, ℕ, ℤ, [], ⊎_elim, ◌+◌, ◌-ℤ◌}
 use Rattle.tz_info.proofs.Words.{◌<ℤ◌, ◌<◌, ◌↔◌, ◌∙◌, ◌∷◌, ◌≡◌, ◌≢◌, ◌≤ℤ◌, ◌⊎◌}
 use Rattle.tz_info.specs.{Questions.{IsByRule}, declared.rule.transition_rule.TransitionRule.TheVariants.{Alternate, Fixed}}
 use Rattle.std.proofs.lemmas.List.Elements.{Contains-append_cases, Contains-get_or}
-use Rattle.tz_info.proofs.{ListFaults.{equal_known}, PassedTransitions.{no_items}, SegmentLaws.{come_at_time, segment_here, segment_most, segments_rise}}
-use Rattle.tz_info.proofs.{WalkLaws.{window_most}, WallSegments.{leap_time_of, near_of, rule_begun}}
+use Rattle.tz_info.proofs.{ListFaults.{equal_known}, PassedTransitions.{no_items}, SegmentLaws.{come_at_time, come_by_then}}
+use Rattle.tz_info.proofs.{WalkLaws.{window_most}, WallSegments.{leap_time_of, near_of, rule_begun}, ZoneLaws.{same_passed}}
 
 -- ---- from which second on the rule is asked
 by_rule_there : (z : Zone) (u : ℤ) (rule : TransitionRule) → IsValid z → z.rule ≡ Some rule → IsNear u → segment_of z u ≡ length z.transitions → IsByRule z u
@@ -15,11 +15,8 @@ by_rule_there z u rule valid is near there =
     let time = leap_time_of z u valid near in
     record { rule = rule; of_zone = is; leap_time = time.0; of_second = λ _. time.1; from_last = come_at_time z u time.0 time.1 ∙ there }
 
-by_rule_segment : (z : Zone) (u : ℤ) → IsValid z → IsByRule z u → segment_of z u ≡ length z.transitions
-by_rule_segment z u valid a = elim (cases_lt 0 (length z.transitions)) [
-  | inl h ↦ sym (come_at_time z u a.leap_time (a.of_second h)) ∙ a.from_last
-  | inr h ↦ let m = segment_most z u valid.transitions.rising in omega arith
-]
+by_rule_segment : (z : Zone) (u : ℤ) → IsByRule z u → segment_of z u ≡ length z.transitions
+by_rule_segment z u a = sym (come_by_then z u a.leap_time a.of_second) ∙ a.from_last
 
 -- a zone asks its rule from `start` on
 seconds_by_rule : (z : Zone) (rule : TransitionRule) (start l : ℤ) → IsValid z → z.rule ≡ Some rule → IsStart z.transitions z.leaps (length z.transitions) start → IsWide l → AreUtOffsets rule → (u : ℤ) → IsSecondFrom rule start l u ↔ IsByRuleFor z l u
@@ -30,7 +27,7 @@ seconds_by_rule z rule start l valid is begun wide offsets u = (
   (λ k.
       let of_rule = rw is at k.of_rule in
       let near : IsNear u = rw k.of_second (near_of l k.offset wide (offsets k.offset of_rule)) in
-      record { offset = k.offset; of_rule = of_rule; of_second = k.of_second; since = (rule_begun z u start valid near begun).0 (by_rule_segment z u valid k.by_rule) }),
+      record { offset = k.offset; of_rule = of_rule; of_second = k.of_second; since = (rule_begun z u start valid near begun).0 (by_rule_segment z u k.by_rule) }),
 )
 
 pub asked_by_zone : (z : Zone) (rule : TransitionRule) (start l : ℤ) (p q : ℕ) → IsValid z → z.rule ≡ Some rule → IsStart z.transitions z.leaps (length z.transitions) start → IsWide l → AreUtOffsets rule → IsAskedFrom rule start l p q → IsAskedFor z l p q
@@ -141,20 +138,14 @@ asked_for_window z l low high n d p q valid w h later e = nowhere (IsByRuleFor z
     let least = All-contains (λ x. w.least ≤ℤ x) (offsets z.types z.rule) k.offset w.is_least.fewest among in
     let s = k.of_second in
     let most = window_most z l low high n d u k.offset valid w h later least (omega (arith, ints)) in
-    let there = by_rule_segment z u valid k.by_rule in
+    let there = by_rule_segment z u k.by_rule in
     omega arith) e
 
 -- ---- by instant
-from_last_time : (z : Zone) (u x : ℤ) → (0 < length z.transitions → IsLeapTime z.leaps u x) → IsByRule z u → IsFromLast z x
-from_last_time z u x time a = elim (cases_lt 0 (length z.transitions)) [
-  | inl h ↦ let s = (time h).sum in let t = (a.of_second h).sum in let g : a.leap_time ≡ x = omega (arith, ints) in rw g at a.from_last
-  | inr h ↦ let f = no_items z.transitions (omega arith) in rw f refl
-]
-
 pub asked_at_time : (z : Zone) (u x : ℤ) (p q : ℕ) → (0 < length z.transitions → IsLeapTime z.leaps u x) → IsAskedAtLeapTime z x p q → IsAskedAt z u p q
 asked_at_time z u x p q time (inl (rule, is, from, e)) = inl (record { rule = rule; of_zone = is; leap_time = x; of_second = time; from_last = from }, e)
 asked_at_time z u x p q time (inr (inl (none, e))) = inr ((λ a. let s = a.of_zone in cc), e)
-asked_at_time z u x p q time (inr (inr (before, e))) = inr ((λ a. let f = from_last_time z u x time a in absurd (omega arith)), e)
+asked_at_time z u x p q time (inr (inr (before, e))) = inr ((λ a. let from_last = a.from_last in let same = ap length (same_passed z u a.leap_time x a.of_second time) in absurd (omega arith)), e)
 
 either : (o : Option TransitionRule) → ((rule : TransitionRule) × (o ≡ Some rule)) ⊎ (o ≡ None)
 either (Some rule) = inl (rule, refl)

@@ -1,13 +1,13 @@
 -- A walk from segment to segment: which seconds it adds, why none lies outside it, and how many transitions it reads.
 use Rattle.offset_core.specs.declared.local_result.LocalResult.TheVariants.{None as Never}
-use Rattle.tz_info.proofs.Words.{AreRising, AreUtOffsets, Bool, Counts, HasType, IsAskedLast, IsNear, IsShownIn, IsStart, IsTried, IsValid, IsWallAnswer}
+use Rattle.tz_info.proofs.Words.{AreRising, AreUtOffsets, Bool, Counts, IsNear, IsShownIn, IsStart, IsTried, IsValid, IsWallAnswer}
 use Rattle.tz_info.proofs.Words.{IsWide, IsWindow, List, LocalResult, LocalType, None, Option, RoseByWalk, RoseWithin, RuleAt, Shows, Some, Transition, TransitionRule}
-use Rattle.tz_info.proofs.Words.{TypeAt, TypeFrom, TypeIn, Zone, ap, arith, begin_of, come_between, cases_lt, cond, digits, false, filter, get_or}
+use Rattle.tz_info.proofs.Words.{TypeAt, TypeFrom, Zone, ap, arith, begin_of, come_between, cases_lt, cond, digits, false, filter, get_or}
 use Rattle.tz_info.proofs.Words.{get_or_default, index_of, inl, inr, int_le, int_lt, ints, le_true, least_time, length, lt_true, reads_more, refl, segment_of}
 use Rattle.tz_info.proofs.Words.{suc, sym, table_count, true, none-some, zero, ℕ, ℤ, [], ⊎_elim, ◌⊎◌, ◌&&◌, ◌+ℤ◌, ◌+◌, ◌-ℤ◌, ◌<ℤ◌, ◌<◌, ◌∙◌, ◌∷◌, ◌≡◌, ◌≤ℤ◌, ◌≤◌}
 use Rattle.tz_info.proofs.{AnswerLaws.{Parts, behind_answer, same_answer}, Candidates.{offset_of_rule}, ExtremeLaws.{at_least_least, at_most_greatest}}
-use Rattle.tz_info.proofs.{OnePass.{table_most}, TableSearch.{Between}, WallSegments.{leap_time_of, near_of, offset_here, rule_begun, type_of_table}}
-use Rattle.tz_info.proofs.SegmentLaws.{between_of, later_segment, segment_at, segment_here, segment_is, segment_most, segments_rise, type_from, type_in_from}
+use Rattle.tz_info.proofs.{TableSearch.{Between}, WallSegments.{leap_time_of, near_of, offset_here, rule_begun, type_of_table}}
+use Rattle.tz_info.proofs.SegmentLaws.{between_of, later_segment, segment_at, segment_here, segment_is, segments_rise, type_from, type_in_from}
 use Rattle.tz_info.proofs.SegmentLaws.{within_of}
 use Rattle.tz_info.specs.Steps.Walk.{IsTimeWithin}
 

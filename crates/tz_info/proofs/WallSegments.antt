@@ -3,9 +3,9 @@ use Rattle.offset_core.specs.declared.local_result.LocalResult.TheVariants.{Ambi
 use Rattle.tz_info.proofs.Words.{AreBelow, AreInOrder, AreListed, ArePieces, AreRising, HasType, HaveComeFrom, IsCutFrom, IsIndex, IsLastSecondBefore}
 use Rattle.tz_info.proofs.Words.{IsLeapTime, IsMerged, IsNear, IsReachedFrom, IsShownAmong, IsShownIn, IsStart, IsTypeBefore, IsUtOffset, IsValid, IsWallAnswer}
 use Rattle.tz_info.proofs.Words.{IsWide, LeapSecond, List, ListedAmong, LocalResult, LocalType, None as none, Option, Piece, Shown, ShownAmong, Shows}
-use Rattle.tz_info.proofs.Words.{Some as some, Transition, TransitionRule, TypeAt, TypeIn, Zone, all_pairs_push, ap, arith, by_lt_z, cases_lt, closing, false}
-use Rattle.tz_info.proofs.Words.{get_or, index_of, inl, inr, ints, le_false, le_true, length, nat_lt, nat_tests, neg_ℤ, pos, refl, segment_of, subst, suc, sym}
-use Rattle.tz_info.proofs.Words.{table_count, table_count_by, together, true, shown_indexes, zero, ℕ, ℤ, [], ⊎_elim, ◌+ℤ◌, ◌+◌, ◌-ℤ◌, ◌-◌, ◌<ℤ◌, ◌<◌, ◌↔◌, ◌∷◌, ◌≡◌}
+use Rattle.tz_info.proofs.Words.{Some as some, Transition, TransitionRule, TypeAt, TypeIn, Zone, all_pairs_push, ap, arith, by_lt_z, cases_lt}
+use Rattle.tz_info.proofs.Words.{get_or, index_of, inl, inr, ints, le_false, le_true, length, nat_tests, neg_ℤ, pos, refl, segment_of, subst, suc, sym}
+use Rattle.tz_info.proofs.Words.{table_count, table_count_by, together, shown_indexes, zero, ℕ, ℤ, [], ⊎_elim, ◌+ℤ◌, ◌+◌, ◌-ℤ◌, ◌-◌, ◌<ℤ◌, ◌<◌, ◌↔◌, ◌∷◌, ◌≡◌}
 use Rattle.tz_info.proofs.Words.{◌≤ℤ◌, ◌≤◌, ◌⊎◌}
 use Rattle.tz_info.specs.declared.zone.shown.Shown.TheVariants.{Less, Once, Skipped}
 use Rattle.tz_info.proofs.{AnswerLaws.{Parts, joined_answer, same_answer}, LeapOrder.{leap_times_answer}, LeapStarts.{both_ways, saturated, saturated_rise}}

@@ -1,7 +1,7 @@
 -- Every wall clock has an answer.
 use Rattle.offset_core.specs.declared.local_result.LocalResult.TheVariants.{None, Single}
-use Rattle.tz_info.proofs.Words.{FitsSigned, IsRuleOrNone, IsValid, IsWallAnswer, LocalResult, LocalType, Shows, TypeAt, Zone, arith, by_lt_z, inl, inr, ints}
-use Rattle.tz_info.proofs.Words.{joined, neg_ℤ, pos, subst, suc, w64, zero, ℕ, ℤ, ◌+ℤ◌, ◌<ℤ◌, ◌≡◌, ◌≤ℤ◌, ◌⊎◌}
+use Rattle.tz_info.proofs.Words.{IsRuleOrNone, IsValid, IsWallAnswer, LocalResult, LocalType, Shows, TypeAt, Zone, arith, by_lt_z, inl, inr, ints}
+use Rattle.tz_info.proofs.Words.{joined, neg_ℤ, pos, subst, suc, zero, ℕ, ℤ, ◌+ℤ◌, ◌<ℤ◌, ◌≡◌, ◌≤ℤ◌, ◌⊎◌}
 use Rattle.tz_info.proofs.{AnswerLaws.{behind_answer, same_answer}, ListFaults.{both_known, equal_known}, ZoneLaws.{fits_or_not, type_decided, type_not_refused, type_once}}
 
 -- each second shows a type, or shows none

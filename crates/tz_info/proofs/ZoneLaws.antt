@@ -1,12 +1,12 @@
 -- At each second a zone has one type, of its list or of its rule, or it is refused, and never both.
-use Rattle.tz_info.proofs.Words.{AreLeapSeconds, AreTransitions, HasType, IsBeforeLast, IsFromLast, IsLeapTime, IsLeapTimeRefused, IsRefusedBy, IsRuleOrNone}
+use Rattle.tz_info.proofs.Words.{HasType, IsBeforeLast, IsFromLast, IsLeapTime, IsLeapTimeRefused, IsRefusedBy, IsRuleOrNone}
 use Rattle.tz_info.proofs.Words.{IsTypeOf, IsTypeRefused, IsValid, LeapSecond, List, LocalType, None, Option, RuleOrElse, SFits, Some, Transition}
-use Rattle.tz_info.proofs.Words.{TransitionRule, TypeAt, Zone, ap, arith, by_leap_time, by_lt_z, by_rule, cases_lt, correction_at, corrections}
+use Rattle.tz_info.proofs.Words.{TransitionRule, TypeAt, Zone, arith, by_leap_time, by_lt_z, by_rule, cases_lt, correction_at, corrections}
 use Rattle.tz_info.proofs.Words.{count_by-le-length, get_or, index_at, inl, inr, int_le, ints, last_else, le_false, le_true, length, length-filter, map, neg_ℤ}
 use Rattle.tz_info.proofs.Words.{error_number, passed, passed_count, pos, refl, slice_get, suc, sym, type_error, w64, zero, zone_of_rule, ℕ, ℤ, [], ⊎_elim}
 use Rattle.tz_info.proofs.Words.{◌+ℤ◌, ◌<◌, ◌∙◌, ◌∷◌, ◌≡◌, ◌≤◌, ◌⊎◌}
 use Rattle.std.proofs.lemmas.Option.{slice_get_within}
-use Rattle.tz_info.proofs.{PassedTransitions.{no_items}, RuleLaws.{rule_decided, rule_not_refused, rule_once}}
+use Rattle.tz_info.proofs.{RuleLaws.{rule_decided, rule_not_refused, rule_once}, SegmentLaws.{passed_here}}
 
 passed_at_most : (z : Zone) (x : ℤ) → length (passed z.transitions x) ≤ length z.transitions
 passed_at_most z x = omega (arith, length-filter (λ (t : Transition). int_le t.unix_leap_time x) z.transitions, count_by-le-length (λ (t : Transition). int_le t.unix_leap_time x) z.transitions)
@@ -15,11 +15,8 @@ pub before_or_from_last : (z : Zone) (x : ℤ) → IsBeforeLast z x ⊎ IsFromLa
 before_or_from_last z x = let l = passed_at_most z x in ⊎_elim (λ h. inl h) (λ h. inr (omega arith)) (cases_lt (length (passed z.transitions x)) (length z.transitions))
 
 -- two leap times of a second pass the same transitions
-same_passed : (z : Zone) (u x y : ℤ) → (0 < length z.transitions → IsLeapTime z.leaps u x) → (0 < length z.transitions → IsLeapTime z.leaps u y) → passed z.transitions x ≡ passed z.transitions y
-same_passed z u x y a b = ⊎_elim
-    (λ h. ap (passed z.transitions) ((a h).sum ∙ sym (b h).sum))
-    (λ h. rw (no_items z.transitions (omega arith)) refl)
-    (cases_lt 0 (length z.transitions))
+pub same_passed : (z : Zone) (u x y : ℤ) → (0 < length z.transitions → IsLeapTime z.leaps u x) → (0 < length z.transitions → IsLeapTime z.leaps u y) → passed z.transitions x ≡ passed z.transitions y
+same_passed z u x y a b = passed_here z u x a ∙ sym (passed_here z u y b)
 
 pub some_once : (o : Option LocalType) (s t : LocalType) → o ≡ Some s → o ≡ Some t → s ≡ t
 some_once o s t h k = cc

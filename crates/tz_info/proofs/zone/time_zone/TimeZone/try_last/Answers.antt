@@ -1,4 +1,4 @@
-use Rattle.tz_info.proofs.{Words.{Zone, ap, arith, inr, length, refl, suc, sym, table_count, to_z-of_z, ◌∙◌, ◌≡◌}, QuestionLaws.{asked_none}, WalkLaws.{tried_segment}}
+use Rattle.tz_info.proofs.{Words.{Zone, ap, arith, inr, length, refl, suc, sym, table_count, to_z-of_z, ◌∙◌, ◌≡◌}, WalkLaws.{tried_segment}}
 use Rattle.tz_info.proofs.zone.time_zone.TimeZone.try_last.Goals as goal
 
 pub returns-in-None-clause-found : goal.returns-in-None-clause-found
