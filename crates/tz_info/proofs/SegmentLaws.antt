@@ -59,11 +59,10 @@ segment_most z u r = (segment_here z u r).within
 
 -- a greater number splits them later
 splits_rise : (ts : List Transition) (x y : ℤ) (m n : ℕ) → x ≤ℤ y → Between ts x m m → Between ts y n n → m ≤ n
-splits_rise [] x y m n h a b = let w = a.within in omega arith
-splits_rise (t ∷ ts) x y m n h a b = elim (cases_lt n m) [
+splits_rise ts x y m n h a b = elim (cases_lt n m) [
   | inl l ↦
-      let w = a.within in
-      let p = a.below n t l in let q = b.above n t (omega arith) (omega arith) in
+      let w = a.within in let d : Transition = record { unix_leap_time = x; type_index = 0 } in
+      let p = a.below n d l in let q = b.above n d (omega arith) (omega arith) in
       absurd (omega (arith, ints))
   | inr l ↦ l
 ]
@@ -90,10 +89,9 @@ index_next ts i d h = let e : i + 1 ≡ suc i = omega arith in rw e (last_taken 
 
 begun_before : (ts : List Transition) (x : ℤ) (i : ℕ) → least_time ≤ℤ x → Between ts x i i → begin_of ts i ≤ℤ x
 begun_before ts x zero h b = rw (begin_first ts) h
-begun_before [] x (suc i) h b = let w = b.within in absurd (omega arith)
-begun_before (t ∷ ts) x (suc i) h b =
-    let w = b.within in
-    rw (last_taken (λ (t : Transition). t.unix_leap_time) least_time (t ∷ ts) i t (omega arith)) (b.below i t (omega arith))
+begun_before ts x (suc i) h b =
+    let w = b.within in let d : Transition = record { unix_leap_time = x; type_index = 0 } in
+    rw (last_taken (λ (t : Transition). t.unix_leap_time) least_time ts i d (omega arith)) (b.below i d (omega arith))
 
 -- a leap time is in segment i where it comes from the segment's begin on, and before the next transition
 pub record IsWithin (ts : List Transition) (i : ℕ) (x : ℤ) : Type 0 where

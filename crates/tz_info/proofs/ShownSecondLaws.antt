@@ -25,9 +25,8 @@ none_left z from until low high all h u t k = let w = all.within u t k in let a 
 in_run : (z : Zone) (from until start end u : ℤ) (s t : LocalType) → HaveOneTypeFrom (TypeAt z) start end t → start ≤ℤ u → u <ℤ end
     → ShowsWithin (TypeAt z) from until u s → IsWithinRun start end (from -ℤ t.offset) (until -ℤ t.offset) u
 in_run z from until start end u s t type low high h =
-    let same = type_once z u s t h.type (type u low high) in
-    let since : from ≤ℤ (u +ℤ t.offset) = subst (λ (x : LocalType). from ≤ℤ (u +ℤ x.offset)) same h.since in
-    let before : (u +ℤ t.offset) <ℤ until = subst (λ (x : LocalType). (u +ℤ x.offset) <ℤ until) same h.before in
+    let k = subst (ShowsWithin (TypeAt z) from until u) (type_once z u s t h.type (type u low high)) h in
+    let since = k.since in let before = k.before in
     record { low = low; high = high; since = omega (arith, ints); before = omega (arith, ints) }
 
 to_run : (z : Zone) (from until start end u : ℤ) (t : LocalType) → SFits w64 u → TypeAt z u t → IsWithinRun start end (from -ℤ t.offset) (until -ℤ t.offset) u → ShowsWithin (TypeAt z) from until u t

@@ -12,6 +12,7 @@ ghost use Rattle.tz_info.specs.Steps.Runs.{HaveOneTypeFrom, IsEnd, IsBeyondJumps
 ghost use Rattle.tz_info.specs.Steps.Runs.{IsEndWithin, IsNextRun, IsWindowOf};
 ghost use Rattle.tz_info.specs.Zones.{TypeAt};
 
+use crate::answers::second_showing;
 use crate::zone::runs::{end_by, first_of_run, last_of_run, start_by};
 use crate::zone::time_zone::TimeZone;
 use naive_base::{NaiveDate, NaiveDateTime, NaiveTime};
@@ -143,8 +144,8 @@ impl TimeZone {
     {
         let _ = &self.table;
         Window {
-            low: second_by(from, self.extremes.greatest),
-            high: second_by(until, self.extremes.least),
+            low: second_showing(from, self.extremes.greatest),
+            high: second_showing(until, self.extremes.least),
         }
     }
 
@@ -167,8 +168,8 @@ impl TimeZone {
         let mut left = window;
         while left.low < left.high {
             let (run, local_type) = self.next_run(left, forward);
-            let since = second_by(from, local_type.offset());
-            let before = second_by(until, local_type.offset());
+            let since = second_showing(from, local_type.offset());
+            let before = second_showing(until, local_type.offset());
             if let Some(at) = run.end_between(since, before, forward) {
                 return Some(TypedSecond {
                     at,
@@ -241,13 +242,4 @@ impl Window {
             }
         }
     }
-}
-
-// The second at which a clock with that offset shows the local time.
-fn second_by(local: i64, offset: i32) -> i64
-    requires { IsEnd local }
-    ensures value { result ≡ local -ℤ offset }
-    ensures near { IsNear (local -ℤ offset) }
-{
-    local - offset as i64
 }

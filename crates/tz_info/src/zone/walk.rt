@@ -152,7 +152,7 @@ impl TimeZone {
         requires listed { index < length self.now.types }
         ensures { IsCandidate self.now local index result.local_type.now result.leap_time }
     {
-        let local_type = &self.local_types[index];
+        let local_type = self.listed(index);
         let second = second_showing(local, local_type.offset());
         Candidate {
             local_type,

@@ -26,9 +26,6 @@ tried c =
     tried_segment z c.args.local c.loop-place.place c.loop-place.current.unix_leap_time _ _ _ c.window-window.ensures.valid (omega arith) (omega arith) i.begin
     (inl (c.transition-next.result, omega arith, ap (λ (t : Transition). Some t.unix_leap_time) next)) (rw i.index at (simp to_z-of_z at c.try_until-answer.ensures)) (simp to_z-of_z at i.found)
 
-pub passed_count-first-requires : goal.passed_count-first-requires
-passed_count-first-requires c = let r = c.requires.room.reads in omega arith
-
 pub latest-current-requires-clause-room : goal.latest-current-requires-clause-room
 latest-current-requires-clause-room c = let k = c.passed_count-first.ensures.cost in let n = c.transition_count-count.ensures in omega (arith, digits-le (length c.args.self.now.transitions))
 
