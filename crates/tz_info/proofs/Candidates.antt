@@ -18,8 +18,10 @@ asked_one at l o after only (inr (t, k, e)) = rw e (record { second = l -ℤ o; 
 
 -- two, the greater offset first, since its second is the earlier one
 pub asked_both : (at : ℤ → LocalType → Type 0) (l o p : ℤ) (one two : LocalResult LocalType) → p <ℤ o → ((u : ℤ) (t : LocalType) → Shows at l u t → (u ≡ l -ℤ o) ⊎ (u ≡ l -ℤ p)) → IsAskedLast at l o None one → IsAskedLast at l p one two → IsWallAnswer (Shows at l) two
-asked_both at l o p one two less both (inl (e, none)) g = asked_one at l p two (λ u t k. ⊎_elim (λ q. absurd (none t (subst (λ (w : ℤ). Shows at l w t) q k))) (λ q. q) (both u t k)) (rw e at g)
-asked_both at l o p one two less both (inr (s, k, e)) (inl (f, none)) = asked_one at l o two (λ u t m. ⊎_elim (λ q. q) (λ q. absurd (none t (subst (λ (w : ℤ). Shows at l w t) q m))) (both u t m)) (inr (s, k, f ∙ e))
+asked_both at l o p one two less both (inl (e, none)) g = asked_one at l p two
+    (λ u t k. ⊎_elim (λ q. absurd (none t (subst (λ (w : ℤ). Shows at l w t) q k))) (λ q. q) (both u t k)) (rw e at g)
+asked_both at l o p one two less both (inr (s, k, e)) (inl (f, none)) = asked_one at l o two
+    (λ u t m. ⊎_elim (λ q. q) (λ q. absurd (none t (subst (λ (w : ℤ). Shows at l w t) q m))) (both u t m)) (inr (s, k, f ∙ e))
 asked_both at l o p one two less both (inr (s, k, e)) (inr (t, m, f)) = rw (f, e) (record {
   first = l -ℤ o;
   last = l -ℤ p;

@@ -1,13 +1,17 @@
 -- Values are equal by `==` exactly where they are equal.
 use Rattle.std.proofs.lemmas.Slice.Eq.{slice_eq-Decides}
 use Rattle.std.specs.Cmp.Lexicographic.{pointwise}
+use Rattle.tz_base.proofs.ChangeEquality.{second_exact}
 use Rattle.tz_base.specs.contracts.local_time_type.LocalTimeTypePartialEq.TheImpl.{eq-value as type_eq}
-use Rattle.tz_info.proofs.Words.{Alternate as AlternateRule, Bool, DayTime, IsExact, IsTrue, LeapSecond, List, LocalType, None, Option, Some, Transition}
-use Rattle.tz_info.proofs.Words.{TransitionRule, Zone, and_both, and_left, and_right, ap, option_eq, refl, rules, sym, type_exact, zone_eq, ◌&&◌, ◌↔◌, ◌∙◌}
-use Rattle.tz_info.proofs.Words.{◌≡◌}
+use Rattle.tz_info.proofs.Words.{Alternate as AlternateRule, Bool, DayTime, Difference, IsExact, IsTrue, LeapSecond, List, LocalType, None, Option}
+use Rattle.tz_info.proofs.Words.{ShownSeconds, Some, Transition, TransitionRule, TypedSecond, Zone, and_both, and_left, and_right, ap, int_eq, option_eq, refl}
+use Rattle.tz_info.proofs.Words.{rules, sym, type_exact, zone_eq, ◌&&◌, ◌↔◌, ◌∙◌, ◌≡◌}
 use Rattle.tz_info.specs.contracts.rule.day.DayTimePartialEq.TheImpl.{eq-value as day_time_eq}
 use Rattle.tz_info.specs.contracts.rule.transition_rule.TransitionRulePartialEq.TheImpl.{eq-value as rule_eq}
+use Rattle.tz_info.specs.contracts.zone.differences.DifferencePartialEq.TheImpl.{eq-value as difference_eq}
 use Rattle.tz_info.specs.contracts.zone.leap_second.LeapSecondPartialEq.TheImpl.{eq-value as leap_eq}
+use Rattle.tz_info.specs.contracts.zone.shown_seconds.ShownSecondsPartialEq.TheImpl.{eq-value as seconds_eq}
+use Rattle.tz_info.specs.contracts.zone.shown_seconds.TypedSecondPartialEq.TheImpl.{eq-value as second_eq}
 use Rattle.tz_info.specs.contracts.zone.transition.TransitionPartialEq.TheImpl.{eq-value as transition_eq}
 use Rattle.tz_info.specs.declared.rule.transition_rule.TransitionRule.TheVariants.{Alternate, Fixed}
 
@@ -72,3 +76,14 @@ zone_exact = by_parts (pair_eq (pointwise transition_eq.it) (pair_eq (pointwise 
     (pair_exact (pointwise transition_eq.it) (pair_eq (pointwise type_eq.it) (pair_eq (pointwise leap_eq.it) (option_eq rule_eq.it))) (list_exact transition_eq.it transition_exact)
     (pair_exact (pointwise type_eq.it) (pair_eq (pointwise leap_eq.it) (option_eq rule_eq.it)) (list_exact type_eq.it type_exact)
     (pair_exact (pointwise leap_eq.it) (option_eq rule_eq.it) (list_exact leap_eq.it leap_exact) (option_exact rule_eq.it rule_exact))))
+
+-- ---- seconds with types, and differences
+pub typed_second_exact : IsExact second_eq.it
+typed_second_exact = by_parts (pair_eq int_eq type_eq.it) (λ (s : TypedSecond). (s.at, s.local_time_type)) (λ p. record { at = p.0; local_time_type = p.1 }) (λ s. refl) (pair_exact int_eq type_eq.it second_exact type_exact)
+
+pub shown_seconds_exact : IsExact seconds_eq.it
+shown_seconds_exact = by_parts (pair_eq second_eq.it second_eq.it) (λ (s : ShownSeconds). (s.first, s.last)) (λ p. record { first = p.0; last = p.1 }) (λ s. refl) (pair_exact second_eq.it second_eq.it typed_second_exact typed_second_exact)
+
+pub difference_exact : IsExact difference_eq.it
+difference_exact = by_parts (pair_eq int_eq (pair_eq int_eq (pair_eq type_eq.it type_eq.it))) (λ (d : Difference). (d.from, (d.until, (d.old, d.new)))) (λ p. record { from = p.0; until = p.1.0; old = p.1.1.0; new = p.1.1.1 }) (λ d. refl)
+    (pair_exact int_eq (pair_eq int_eq (pair_eq type_eq.it type_eq.it)) second_exact (pair_exact int_eq (pair_eq type_eq.it type_eq.it) second_exact (pair_exact type_eq.it type_eq.it type_exact type_exact)))

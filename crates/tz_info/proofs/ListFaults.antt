@@ -3,10 +3,11 @@ use Rattle.tz_base.specs.declared.error.Error.TheVariants.{TimeZone}
 use Rattle.tz_base.specs.declared.error.Expected.TheVariants.{AtLeastOneLocalTimeType, LeapSecondsInOrder, RuleThatAgreesWithLastTransition}
 use Rattle.tz_base.specs.declared.error.Expected.TheVariants.{TransitionTimesThatRise, TypeIndexesWithinTypes}
 use Rattle.std.proofs.lemmas.{Bool.Decides.{not_from_Decides}, List.Elements.{All-cons}}
-use Rattle.tz_info.proofs.Words.{All, AllAdjacentBelow, AllPairs, AllPairs-cons, AreLeapSeconds, AreRising, AreTransitions, Bool, Decides, Decides-int_eq, Decides-ltb}
-use Rattle.tz_info.proofs.Words.{Decides-or, Error, IsNextLeap, IsOneStep, IsValid, LeapSecond, List, ListFault, No_type, Not_rising, Other_index, Other_leaps}
-use Rattle.tz_info.proofs.Words.{Other_rule, Transition, Zone, add-one, arith, cases_lt, error_number, false, inl, inr, int_eq, int_le, int_lt, le_is, le_true}
-use Rattle.tz_info.proofs.Words.{length, lt_is, lt_true, pos, refl, suc, sym, true, zero, ℤ, [], ◌+ℤ◌, ◌-ℤ◌, ◌<ℤ◌, ◌<◌, ◌∙◌, ◌∷◌, ◌≡◌, ◌≤ℤ◌, ◌≤◌, ◌⊎◌}
+use Rattle.tz_info.proofs.Words.{All, AllAdjacentBelow, AllPairs, AllPairs-cons, AreLeapSeconds, AreRising, AreTransitions, Bool, Decides, Decides-int_eq}
+use Rattle.tz_info.proofs.Words.{Decides-ltb, Decides-or, Error, IsNextLeap, IsOneStep, IsValid, LeapSecond, List, ListFault, No_type, Not_rising, Other_index}
+use Rattle.tz_info.proofs.Words.{Other_leaps, Other_rule, Transition, Zone, add-one, arith, cases_lt, error_number, false, inl, inr, int_eq, int_le, int_lt}
+use Rattle.tz_info.proofs.Words.{le_is, le_true, length, lt_is, lt_true, pos, refl, suc, sym, true, zero, ℤ, [], ◌+ℤ◌, ◌-ℤ◌, ◌<ℤ◌, ◌<◌, ◌∙◌, ◌∷◌, ◌≡◌, ◌≤ℤ◌}
+use Rattle.tz_info.proofs.Words.{◌≤◌, ◌⊎◌}
 use Rattle.tz_info.specs.Transitions.{NameTypes}
 
 -- ---- what can be tested holds or does not
@@ -32,7 +33,8 @@ like_known to from (inr none) = inr (λ q. none (from q))
 -- ---- of each element, and of each and the next
 all_known : {X : Type 0} {P : X → Type 0} → ((x : X) → Known (P x)) → (xs : List X) → Known (All P xs)
 all_known each [] = inl (λ k d l. absurd (omega (arith, l)))
-all_known {P = P} each (x ∷ xs) = like_known (λ h. All-cons P x xs h.0 h.1) (λ h. (h 0 x (omega arith), λ k d l. h (suc k) d (omega (arith, l)))) (both_known (each x) (all_known each xs))
+all_known {P = P} each (x ∷ xs) = like_known
+    (λ h. All-cons P x xs h.0 h.1) (λ h. (h 0 x (omega arith), λ k d l. h (suc k) d (omega (arith, l)))) (both_known (each x) (all_known each xs))
 
 pairs_known : {X : Type 0} {R : X → X → Type 0} → ((x y : X) → Known (R x y)) → (xs : List X) → Known (AllPairs R xs)
 pairs_known each [] = inl (λ i j d l m. absurd (omega (arith, m)))
@@ -43,7 +45,8 @@ pairs_known {R = R} each (x ∷ xs) = like_known (λ h. AllPairs-cons R x xs h.0
 adjacent_known : {X : Type 0} {R : X → X → Type 0} → ((x y : X) → Known (R x y)) → (xs : List X) → Known (AllAdjacentBelow R xs (length xs))
 adjacent_known each [] = inl (λ k d l. absurd (omega (arith, l)))
 adjacent_known each (x ∷ []) = inl (λ k d l. absurd (omega (arith, l)))
-adjacent_known {R = R} each (x ∷ y ∷ ys) = like_known (λ h. next_front R x y ys h.0 h.1) (λ h. (h 0 x (omega arith), λ k d l. rw add-one (rw add-one at (h (suc k) d (omega (arith, l))))))
+adjacent_known {R = R} each (x ∷ y ∷ ys) = like_known
+    (λ h. next_front R x y ys h.0 h.1) (λ h. (h 0 x (omega arith), λ k d l. rw add-one (rw add-one at (h (suc k) d (omega (arith, l))))))
     (both_known (each x y) (adjacent_known each (y ∷ ys)))
   where
     next_front : {X : Type 0} (R : X → X → Type 0) (x y : X) (ys : List X) → R x y → AllAdjacentBelow R (y ∷ ys) (length (y ∷ ys)) → AllAdjacentBelow R (x ∷ y ∷ ys) (length (x ∷ y ∷ ys))
@@ -56,7 +59,8 @@ earlier_known a b = known (int_lt a.unix_leap_time b.unix_leap_time) (lt_is a.un
 
 later_and_step_known : (earliest time a b : ℤ) → Known ((earliest ≤ℤ time) × IsOneStep a b)
 later_and_step_known earliest time a b =
-    both_known (known (int_le earliest time) (le_is earliest time, le_true earliest time)) (known _ (Decides-or _ _ (Decides-int_eq b (a +ℤ pos 1)) (Decides-int_eq b (a -ℤ pos 1))))
+    both_known (known (int_le earliest time) (le_is earliest time, le_true earliest time))
+    (known _ (Decides-or _ _ (Decides-int_eq b (a +ℤ pos 1)) (Decides-int_eq b (a -ℤ pos 1))))
 
 leaps_known : (leaps : List LeapSecond) → Known (AreLeapSeconds leaps)
 leaps_known [] = inl (record { first = λ d l. absurd (omega (arith, l)); next = λ k d l. absurd (omega (arith, l)) })
@@ -65,7 +69,8 @@ leaps_known (e ∷ es) = like_known (λ h. record { first = λ d l. record { sin
     (both_known (later_and_step_known (pos 0) e.unix_leap_time (pos 0) e.correction) (adjacent_known next_known (e ∷ es)))
   where
     next_known : (a b : LeapSecond) → Known (IsNextLeap a b)
-    next_known a b = like_known (λ h. record { later = h.0; step = h.1 }) (λ h. (h.later, h.step)) (later_and_step_known (a.unix_leap_time +ℤ pos 2_419_199) b.unix_leap_time a.correction b.correction)
+    next_known a b = like_known (λ h. record { later = h.0; step = h.1 }) (λ h. (h.later, h.step))
+        (later_and_step_known (a.unix_leap_time +ℤ pos 2_419_199) b.unix_leap_time a.correction b.correction)
 
 -- ---- the first fault
 pub list_fault_or_valid : (z : Zone) (e : Error) → ListFault z e → IsValid z → ⊥

@@ -1,8 +1,8 @@
 -- Only a year's own moments and those of its two neighbours can enclose a second of the year.
-use Rattle.tz_info.proofs.Words.{Alternate, Bool, DayTime, Decides, Decides-or, IsAlternateRule, IsDstAt, IsInSomeYear, IsRuleDay, IsWithinDay, IsWithinWeek, IsYearOf, ap, arith}
-use Rattle.tz_info.proofs.Words.{by_lt_z, cond, days_at_least, end_in, false, floors, inl, inr, int_le, ints, is_between, is_dst_by_one, is_in_three, le_false}
-use Rattle.tz_info.proofs.Words.{le_true, le_is, moment, neg_ℤ, not, not-false, pos, refl, start_in, starts_rise, sym, true}
-use Rattle.tz_info.proofs.Words.{year_start, year_step, ℤ, ⊎_elim, ◌*ℤ◌, ◌+ℤ◌, ◌-ℤ◌, ◌<ℤ◌, ◌∙◌, ◌≡◌, ◌≤ℤ◌, ◌⊎◌}
+use Rattle.tz_info.proofs.Words.{Alternate, Bool, DayTime, Decides, Decides-or, IsAlternateRule, IsDstAt, IsInSomeYear, IsRuleDay, IsWithinDay, IsWithinWeek}
+use Rattle.tz_info.proofs.Words.{IsYearOf, ap, arith, by_lt_z, cond, days_at_least, end_in, false, floors, inl, inr, int_le, ints, is_between, is_dst_by_one}
+use Rattle.tz_info.proofs.Words.{is_in_three, le_false, le_true, le_is, moment, neg_ℤ, not, not-false, pos, refl, start_in, starts_rise, sym, true, year_start}
+use Rattle.tz_info.proofs.Words.{year_step, ℤ, ⊎_elim, ◌*ℤ◌, ◌+ℤ◌, ◌-ℤ◌, ◌<ℤ◌, ◌∙◌, ◌≡◌, ◌≤ℤ◌, ◌⊎◌}
 use Rattle.std.proofs.lemmas.Bool.Decides.{Decides-like}
 use Rattle.tz_info.proofs.RuleDays.{day_within}
 
@@ -159,4 +159,5 @@ one_answer starts ends year u false true h k = by_lt_z (ends year) (starts year)
 pub dst_by_three : (starts ends : ℤ → ℤ) (year u : ℤ) (dst : Bool) → IsNear starts → IsNear ends → IsYearOf u year
     → dst ≡ cond (int_le (starts year) (ends year)) (is_in_three starts ends year u) (not (is_in_three ends starts year u)) → IsDstAt starts ends year u dst
 dst_by_three starts ends year u dst near_start near_end of_second is =
-    dst_by starts ends year year u dst _ _ refl is (by_three starts ends year u near_start near_end of_second) (by_three ends starts year u near_end near_start of_second)
+    dst_by starts ends year year u dst _ _ refl is (by_three starts ends year u near_start near_end of_second)
+    (by_three ends starts year u near_end near_start of_second)

@@ -136,7 +136,8 @@ come_by_time ts x k d rising h =
     ((λ c. p.1.below k d (omega arith)), (λ c. elim (cases_lt k p.0) [ inl l ↦ omega arith | inr m ↦ let q = p.1.above k d m h in absurd (omega (arith, ints)) ]))
 
 taken_in : (z : Zone) (i : ℕ) (u : ℤ) (t : LocalType) → AreRising z.transitions → (k : TypeIn z i u t) → passed z.transitions k.type.leap_time ≡ take i z.transitions
-taken_in z i u t r k = passed_here z u k.type.leap_time k.type.of_second ∙ search_found z.transitions (u +ℤ correction_at z.leaps u) i i (omega arith) (segment_at z u i r k.segment)
+taken_in z i u t r k = passed_here z u k.type.leap_time k.type.of_second
+    ∙ search_found z.transitions (u +ℤ correction_at z.leaps u) i i (omega arith) (segment_at z u i r k.segment)
 
 -- before the last transition the segment's type is in force
 pub type_before : (z : Zone) (i : ℕ) (u : ℤ) (t : LocalType) → AreRising z.transitions → TypeIn z i u t → i < length z.transitions → HasType z (index_of z.transitions i) t

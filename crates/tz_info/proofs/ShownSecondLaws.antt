@@ -97,7 +97,8 @@ one_answer z from until (Some a) None h k = absurd (k a.first.at a.first.local_t
 one_answer z from until (Some a) (Some b) h k =
     let (first, type) = one_end z a.first.at b.first.at a.first.local_time_type b.first.local_time_type h.first.shown.type k.first.shown.type (h.first.first _ _ k.first.shown) (k.first.first _ _ h.first.shown) in
     let (last, last_type) = one_end z a.last.at b.last.at a.last.local_time_type b.last.local_time_type h.last.shown.type k.last.shown.type (k.last.last _ _ h.last.shown) (h.last.last _ _ k.last.shown) in
-    the_same a.first.at b.first.at a.last.at b.last.at a.first.local_time_type b.first.local_time_type a.last.local_time_type b.last.local_time_type first last type last_type
+    the_same a.first.at b.first.at a.last.at b.last.at
+    a.first.local_time_type b.first.local_time_type a.last.local_time_type b.last.local_time_type first last type last_type
 
 pub one_second : (z : Zone) (local u : ℤ) (t : LocalType) → ShowsWithin (TypeAt z) local (local +ℤ pos 1) u t ↔ Shows (TypeAt z) local u t
 one_second z local u t = (

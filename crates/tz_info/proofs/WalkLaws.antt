@@ -1,10 +1,10 @@
 -- A walk from segment to segment: which seconds it adds, why none lies outside it, and how many transitions it reads.
 use Rattle.offset_core.specs.declared.local_result.LocalResult.TheVariants.{None as Never}
-use Rattle.tz_info.proofs.Words.{AreRising, AreUtOffsets, Bool, Counts, IsNear, IsShownIn, IsStart, IsTried, IsValid, IsWallAnswer}
-use Rattle.tz_info.proofs.Words.{IsWide, IsWindow, List, LocalResult, LocalType, None, Option, RoseByWalk, RoseWithin, RuleAt, Shows, Some, Transition, TransitionRule}
-use Rattle.tz_info.proofs.Words.{TypeAt, TypeFrom, Zone, ap, arith, begin_of, come_between, cases_lt, cond, digits, false, filter, get_or}
-use Rattle.tz_info.proofs.Words.{get_or_default, index_of, inl, inr, int_le, int_lt, ints, le_true, least_time, length, lt_true, reads_more, refl, segment_of}
-use Rattle.tz_info.proofs.Words.{suc, sym, table_count, true, none-some, zero, ℕ, ℤ, [], ⊎_elim, ◌⊎◌, ◌&&◌, ◌+ℤ◌, ◌+◌, ◌-ℤ◌, ◌<ℤ◌, ◌<◌, ◌∙◌, ◌∷◌, ◌≡◌, ◌≤ℤ◌, ◌≤◌}
+use Rattle.tz_info.proofs.Words.{AreRising, AreUtOffsets, Bool, Counts, IsNear, IsShownIn, IsStart, IsTried, IsValid, IsWallAnswer, IsWide, IsWindow, List}
+use Rattle.tz_info.proofs.Words.{LocalResult, LocalType, None, Option, RoseByWalk, RoseWithin, RuleAt, Shows, Some, Transition, TransitionRule, TypeAt}
+use Rattle.tz_info.proofs.Words.{TypeFrom, Zone, ap, arith, begin_of, come_between, cases_lt, cond, digits, false, filter, get_or, get_or_default, index_of}
+use Rattle.tz_info.proofs.Words.{inl, inr, int_le, int_lt, ints, le_true, least_time, length, lt_true, reads_more, refl, segment_of, suc, sym, table_count}
+use Rattle.tz_info.proofs.Words.{true, none-some, zero, ℕ, ℤ, [], ⊎_elim, ◌⊎◌, ◌&&◌, ◌+ℤ◌, ◌+◌, ◌-ℤ◌, ◌<ℤ◌, ◌<◌, ◌∙◌, ◌∷◌, ◌≡◌, ◌≤ℤ◌, ◌≤◌}
 use Rattle.tz_info.proofs.{AnswerLaws.{Parts, behind_answer, same_answer}, Candidates.{offset_of_rule}, ExtremeLaws.{at_least_least, at_most_greatest}}
 use Rattle.tz_info.proofs.{TableSearch.{Between}, WallSegments.{leap_time_of, near_of, offset_here, rule_begun, type_of_table}}
 use Rattle.tz_info.proofs.SegmentLaws.{between_of, later_segment, segment_at, segment_here, segment_is, segments_rise, type_from, type_in_from}
@@ -35,7 +35,8 @@ tried_segment z l i since until before after valid inside own begin next k s =
     let rising = valid.transitions.rising in
     let c : ℤ = l -ℤ k.type.offset in
     let test = tested z i since k.leap_time until rising inside begin next in
-    let old : (u : ℤ) (f : LocalType) → IsShownIn z l i u f → IsShownIn z l (i + 1) u f = λ u f h. record { shows = h.shows; from = omega arith; below = let b = h.below in omega arith } in
+    let old : (u : ℤ) (f : LocalType) → IsShownIn z l i u f → IsShownIn z l (i + 1) u f =
+        λ u f h. record { shows = h.shows; from = omega arith; below = let b = h.below in omega arith } in
     let only : (u : ℤ) (f : LocalType) → IsShownIn z l (i + 1) u f → IsShownIn z l i u f ⊎ ((u ≡ c) × (segment_of z u ≡ i)) = λ u f h. ⊎_elim
         (λ m. inl (record { shows = h.shows; from = omega arith; below = m }))
         (λ m.
@@ -75,7 +76,9 @@ with_rule z rule start l valid is begun wide offsets = record {
         let type = rw is at (type_from z u t valid.transitions.rising (record { type = k.shows.type; segment = there })) in
         inr (record { fits = k.shows.fits; type = record { type = type; since = (rule_begun z u start valid (near u t type k.shows.shown) begun).0 there }; shown = k.shows.shown })
   ];
-  order = λ u v s t a b. later_segment z u v valid (let less = a.below in let there = (rule_begun z v start valid (near v t b.type.type b.shown) begun).1 b.type.since in omega arith);
+  order = λ u v s t a b. later_segment z u v valid (
+      let less = a.below in
+      let there = (rule_begun z v start valid (near v t b.type.type b.shown) begun).1 b.type.since in omega arith);
 } where
   near : (u : ℤ) (t : LocalType) → RuleAt rule u t → u +ℤ t.offset ≡ l → IsNear u
   near u t k e = let n = near_of l t.offset wide (offsets t.offset (offset_of_rule rule u t k)) in let g : l -ℤ t.offset ≡ u = omega (arith, ints) in rw g at n

@@ -40,7 +40,6 @@ pub fn rule_days_law()
 {}
 
 /// At each second a rule has one type, or it returns an error.
-#[tactic(auto, using(crate::proofs::RuleLaws::rule_once, crate::proofs::RuleLaws::rule_not_refused, crate::proofs::RuleLaws::rule_decided, crate::proofs::RuleLaws::rule_time, crate::proofs::RuleLaws::rule_year))]
 pub fn rule_types_law()
     ensures once { (rule : TransitionRule) (u : ℤ) (s t : LocalType) → RuleAt rule u s
         → RuleAt rule u t → s ≡ t }
@@ -99,7 +98,6 @@ pub fn leap_times_law()
 /// At the last transition's second the transition's type is in force, with a rule or without one,
 /// unless the second's leap time is before the transition, as if a leap second is left out at the
 /// transition.
-#[tactic(auto, using(crate::proofs::ZoneLaws::type_not_refused, crate::proofs::ZoneLaws::type_listed, crate::proofs::LastType::last_type))]
 pub fn zone_types_law()
     ensures once { (z : Zone) (u : ℤ) (s t : LocalType) → TypeAt z u s → TypeAt z u t → s ≡ t }
     ensures apart { (z : Zone) (u : ℤ) (t : LocalType) → TypeAt z u t → ¬ (IsTypeRefused z u) }

@@ -77,7 +77,7 @@ pub fn lists_of_changes<'a>(a: &Changes<'a>, b: &Changes<'a>)
 
 /// Seconds with their types are equal if and only if the seconds and the types are. A clone is the
 /// value, and does not fail.
-#[tactic(auto, using(crate::proofs::SecondEquality::typed_second_exact))]
+#[tactic(auto, using(crate::proofs::Equalities::typed_second_exact))]
 pub fn typed_seconds()
     ensures equal { (a b : Second) → IsTrue (⟦<TypedSecond as PartialEq>⟧.eq a b) ↔ (a ≡ b) }
     ensures clone { (a b : Second) → ⟦<TypedSecond as Clone>⟧.is_clone a b ↔ (b ≡ a) }
@@ -86,7 +86,7 @@ pub fn typed_seconds()
 
 /// First and last seconds are equal if and only if both are. A clone is the value, and does not
 /// fail.
-#[tactic(auto, using(crate::proofs::SecondEquality::shown_seconds_exact))]
+#[tactic(auto, using(crate::proofs::Equalities::shown_seconds_exact))]
 pub fn shown_seconds()
     ensures equal { (a b : Seconds) → IsTrue (⟦<ShownSeconds as PartialEq>⟧.eq a b) ↔ (a ≡ b) }
     ensures clone { (a b : Seconds) → ⟦<ShownSeconds as Clone>⟧.is_clone a b ↔ (b ≡ a) }
@@ -95,7 +95,7 @@ pub fn shown_seconds()
 
 /// Differences are equal if and only if their seconds and their types are. A clone is the value,
 /// and does not fail.
-#[tactic(auto, using(crate::proofs::SecondEquality::difference_exact))]
+#[tactic(auto, using(crate::proofs::Equalities::difference_exact))]
 pub fn differences()
     ensures equal { (a b : Differing) → IsTrue (⟦<Difference as PartialEq>⟧.eq a b) ↔ (a ≡ b) }
     ensures clone { (a b : Differing) → ⟦<Difference as Clone>⟧.is_clone a b ↔ (b ≡ a) }

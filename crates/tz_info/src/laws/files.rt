@@ -18,7 +18,6 @@ pub fn rule_is_in_limits()
 
 /// A file has a fault if and only if it spells no valid zone. It has one first fault, and that is
 /// not running out of memory.
-#[tactic(auto, using(crate::proofs::TzFileLaws::fault_or_zone, crate::proofs::TzFileLaws::fault_once, crate::proofs::TzFileLaws::has_fault, crate::proofs::TzFileLaws::fault_low))]
 pub fn fault_or_zone()
     ensures apart { (bytes : List ℕ) (e : Fault) (zone : Zone) → IsFileFault bytes e
         → IsTzFile bytes zone → ¬ (IsValid zone) }

@@ -1,4 +1,5 @@
-use Rattle.tz_info.proofs.{Words.{SFits, arith, ints, rules, to_z-of_z, w32, w64, ◌-ℤ◌, ◌≡◌}, zone.time_zone.TimeZone.end_within.Goals.{After-second_showing-before}}
+use Rattle.tz_info.proofs.Words.{SFits, arith, ints, rules, to_z-of_z, w32, w64, ◌-ℤ◌, ◌≡◌}
+use Rattle.tz_info.proofs.zone.time_zone.TimeZone.end_within.Goals.{After-second_showing-before}
 use Rattle.tz_info.proofs.ShownSecondLaws.{all_within, found_in_run, goes_on, leaves_less, none_left}
 use Rattle.tz_info.proofs.zone.time_zone.TimeZone.end_within.Goals as goal
 

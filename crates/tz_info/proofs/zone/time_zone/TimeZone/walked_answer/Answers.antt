@@ -1,6 +1,7 @@
-use Rattle.tz_info.proofs.Words.{Counts, IsShownIn, IsWallAnswer, IsWindow, SFits, Some, Transition, ap, arith, digits-le, inl, ints, length, map_of, rules, sym}
-use Rattle.tz_info.proofs.Words.{to_z-of_z, w64, ◌+◌, ◌∙◌, ◌≡◌}
-use Rattle.tz_info.proofs.{OnePass.{table_most}, QuestionLaws.{asked_for_window}, SegmentLaws.{begin_next, between_passed, index_next}, TableSearch.{Between}, WallSegments.{all_segments}}
+use Rattle.tz_info.proofs.Words.{Counts, IsShownIn, IsWallAnswer, IsWindow, SFits, Some, Transition, ap, arith, digits-le, inl, ints, length, map_of, rules}
+use Rattle.tz_info.proofs.Words.{sym, to_z-of_z, w64, ◌+◌, ◌∙◌, ◌≡◌}
+use Rattle.tz_info.proofs.{OnePass.{table_most}, QuestionLaws.{asked_for_window}, SegmentLaws.{begin_next, between_passed, index_next}, TableSearch.{Between}}
+use Rattle.tz_info.proofs.WallSegments.{all_segments}
 use Rattle.tz_info.proofs.WalkLaws.{none_before, none_behind, one_look, rose_by_walk, tried_segment, walked_more}
 use Rattle.tz_info.proofs.zone.time_zone.TimeZone.walked_answer.Goals.{After-passed_count-first, After-try_until-answer}
 use Rattle.tz_info.proofs.zone.time_zone.TimeZone.walked_answer.Goals as goal
