@@ -1,11 +1,10 @@
 -- Values are equal by `==` exactly where they are equal.
-use Rattle.std.proofs.lemmas.Slice.Eq.{slice_eq-Decides}
 use Rattle.std.specs.Cmp.Lexicographic.{pointwise}
 use Rattle.tz_base.proofs.ChangeEquality.{second_exact}
 use Rattle.tz_base.specs.contracts.local_time_type.LocalTimeTypePartialEq.TheImpl.{eq-value as type_eq}
 use Rattle.tz_info.proofs.Words.{Alternate as AlternateRule, Bool, DayTime, Difference, IsExact, IsTrue, LeapSecond, List, LocalType, None, Option}
 use Rattle.tz_info.proofs.Words.{ShownSeconds, Some, Transition, TransitionRule, TypedSecond, Zone, and_both, and_left, and_right, ap, int_eq, option_eq, refl}
-use Rattle.tz_info.proofs.Words.{rules, sym, type_exact, zone_eq, ◌&&◌, ◌↔◌, ◌∙◌, ◌≡◌}
+use Rattle.tz_info.proofs.Words.{rules, slice_eq-Decides, sym, type_exact, zone_eq, ◌&&◌, ◌↔◌, ◌∙◌, ◌≡◌}
 use Rattle.tz_info.specs.contracts.rule.day.DayTimePartialEq.TheImpl.{eq-value as day_time_eq}
 use Rattle.tz_info.specs.contracts.rule.transition_rule.TransitionRulePartialEq.TheImpl.{eq-value as rule_eq}
 use Rattle.tz_info.specs.contracts.zone.differences.DifferencePartialEq.TheImpl.{eq-value as difference_eq}

@@ -11,10 +11,10 @@ pub agrees_if_same : (types : List LocalType) (leaps : List LeapSecond) (rule : 
 agrees_if_same types leaps rule last u s t same of_last of_rule listed e = (
   λ h. record { unix_time = u; of_transition = of_last; type = s; of_rule = of_rule; listed = rw (e.0 h) listed },
   λ h. e.1 (
-  let time = unix_time_once leaps last.unix_leap_time u h.unix_time of_last h.of_transition in
-  let r = rule_once rule u s h.type of_rule (rw time h.of_rule) in
-  let q : Some t ≡ Some h.type = sym listed ∙ h.listed in
-  cc),
+      let time = unix_time_once leaps last.unix_leap_time u h.unix_time of_last h.of_transition in
+      let r = rule_once rule u s h.type of_rule (rw time h.of_rule) in
+      let q : Some t ≡ Some h.type = sym listed ∙ h.listed in
+      cc),
 )
 
 pub differs_without_time : (types : List LocalType) (leaps : List LeapSecond) (rule : TransitionRule) (last : Transition) → IsUnixTimeRefused leaps last.unix_leap_time → Agrees types leaps rule last → ⊥

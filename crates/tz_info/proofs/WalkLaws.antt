@@ -36,15 +36,15 @@ tried_segment z l i since until before after valid inside own begin next k s =
     let c : ℤ = l -ℤ k.type.offset in
     let test = tested z i since k.leap_time until rising inside begin next in
     let old : (u : ℤ) (f : LocalType) → IsShownIn z l i u f → IsShownIn z l (i + 1) u f =
-        λ u f h. record { shows = h.shows; from = omega arith; below = let b = h.below in omega arith } in
+    λ u f h. record { shows = h.shows; from = omega arith; below = let b = h.below in omega arith } in
     let only : (u : ℤ) (f : LocalType) → IsShownIn z l (i + 1) u f → IsShownIn z l i u f ⊎ ((u ≡ c) × (segment_of z u ≡ i)) = λ u f h. ⊎_elim
-        (λ m. inl (record { shows = h.shows; from = omega arith; below = m }))
-        (λ m.
-        let e : segment_of z u ≡ i = let b = h.below in omega arith in
-        let o = offset_here z i u f k.type valid own k.candidate.listed e h.shows.type in
-        let shown = h.shows.shown in
-        inr (omega (arith, ints), e))
-        (cases_lt (segment_of z u) i) in
+    (λ m. inl (record { shows = h.shows; from = omega arith; below = m }))
+    (λ m.
+    let e : segment_of z u ≡ i = let b = h.below in omega arith in
+    let o = offset_here z i u f k.type valid own k.candidate.listed e h.shows.type in
+    let shown = h.shows.shown in
+    inr (omega (arith, ints), e))
+    (cases_lt (segment_of z u) i) in
     ⊎_elim
     (λ h.
     let there = type_of_table z i c k.leap_time k.type own k.candidate.of_second (test.0 h.0) k.candidate.listed in

@@ -5,7 +5,7 @@ use Rattle.tz_info.proofs.Words.{TransitionRule, TypeAt, Zone, arith, by_leap_ti
 use Rattle.tz_info.proofs.Words.{count_by-le-length, get_or, index_at, inl, inr, int_le, ints, last_else, le_false, le_true, length, length-filter, map, neg_ℤ}
 use Rattle.tz_info.proofs.Words.{error_number, passed, passed_count, pos, refl, slice_get, suc, sym, type_error, w64, zero, zone_of_rule, ℕ, ℤ, [], ⊎_elim}
 use Rattle.tz_info.proofs.Words.{◌+ℤ◌, ◌<◌, ◌∙◌, ◌∷◌, ◌≡◌, ◌≤◌, ◌⊎◌}
-use Rattle.std.proofs.lemmas.Option.{slice_get_within}
+use Rattle.std.proofs.lemmas.Option.{slice_get_cases, slice_get_within}
 use Rattle.tz_info.proofs.{RuleLaws.{rule_decided, rule_not_refused, rule_once}, SegmentLaws.{passed_here}}
 
 passed_at_most : (z : Zone) (x : ℤ) → length (passed z.transitions x) ≤ length z.transitions
@@ -45,9 +45,7 @@ type_not_refused z u t a (by_rule x of_second last refused) =
 
 -- what stands in a list
 inside_listed : {X : Type 0} (xs : List X) (i : ℕ) → i < length xs → (x : X) × (slice_get xs i ≡ Some x)
-inside_listed [] i h = absurd (omega arith)
-inside_listed (y ∷ xs) zero h = (y, refl)
-inside_listed (y ∷ xs) (suc i) h = inside_listed xs i (omega arith)
+inside_listed xs i h = ⊎_elim (λ found. (found.0, found.2)) (λ past. let beyond = past.0 in absurd (omega arith)) (slice_get_cases xs i).1
 
 or_else_listed : (rule : Option TransitionRule) (z : Zone) (u : ℤ) (i : ℕ) (t : LocalType) → RuleOrElse rule u (HasType z i t) t → ((k : ℕ) × (k < length z.types) × HasType z k t) ⊎ IsTypeOf rule u t
 or_else_listed (Some rule) z u i t h = inr h

@@ -207,11 +207,7 @@ impl Window {
         requires { IsNear self.high }
         ensures { result ≡ (if forward then self.low else self.high -ℤ pos 1) }
     {
-        if forward {
-            self.low
-        } else {
-            self.high - 1
-        }
+        if forward { self.low } else { self.high - 1 }
     }
 
     // The first of its seconds, or the last one, that is `from` or later and comes before `until`.
