@@ -2,25 +2,9 @@
 use Rattle.offset_core.specs.declared.local_result.LocalResult.TheVariants.{None, Single}
 use Rattle.tz_info.proofs.Words.{Alternate as AlternateRule, AlternateAt, Bool, Contains, FitsSigned, IsAskedLast, IsWallAnswer, LocalResult, LocalType, RuleAt}
 use Rattle.tz_info.proofs.Words.{Shows, Some, TransitionRule, TypeFrom, ap, arith, false, inl, inr, ints, joined, refl, rule_offsets, subst, sym, true}
-use Rattle.tz_info.proofs.Words.{type_when, w64, ℤ, ◌+ℤ◌, ◌-ℤ◌, ◌<ℤ◌, ◌≡◌, ◌≤ℤ◌, ◌⊎◌}
+use Rattle.tz_info.proofs.Words.{type_when, w64, ℤ, ⊎_elim, ◌+ℤ◌, ◌-ℤ◌, ◌<ℤ◌, ◌∙◌, ◌≡◌, ◌≤ℤ◌, ◌⊎◌}
 use Rattle.tz_info.specs.declared.rule.transition_rule.TransitionRule.TheVariants.{Alternate, Fixed}
-use Rattle.tz_info.proofs.{AnswerLaws.{behind_answer, same_answer}, RuleLaws.{rule_once}}
-
--- q takes what p takes, and besides at most the second c, where that shows the local time; and then c is behind the others
-pub record Gains (at p q : ℤ → LocalType → Type 0) (local c : ℤ) : Type 0 where
-  pub old : (u : ℤ) (t : LocalType) → p u t → q u t
-  pub new : (t : LocalType) → Shows at local c t → q c t
-  pub only : (u : ℤ) (t : LocalType) → q u t → p u t ⊎ ((u ≡ c) × Shows at local u t)
-  pub behind : (t : LocalType) → Shows at local c t → (u : ℤ) (f : LocalType) → p u f → u <ℤ c
-
-pub gained : (at p q : ℤ → LocalType → Type 0) (l o : ℤ) (before after : LocalResult LocalType) → Gains at p q l (l -ℤ o) → IsWallAnswer p before → IsAskedLast at l o before after → IsWallAnswer q after
-gained at p q l o before after g s (inl (e, none)) =
-    rw e (same_answer p q before g.old (λ u t k. elim (g.only u t k) [
-      | inl i ↦ i
-      | inr h ↦ absurd (none t (subst (λ (w : ℤ). Shows at l w t) h.0 h.1))
-    ]) s)
-gained at p q l o before after g s (inr (t, k, e)) =
-    rw e (behind_answer p q (l -ℤ o) t before g.old (λ u f h. elim (g.only u f h) [ inl i ↦ inl i | inr j ↦ inr j.0 ]) (g.new t k) (g.behind t k) s)
+use Rattle.tz_info.proofs.{AnswerLaws.{same_answer}, RuleLaws.{rule_once}}
 
 -- a second that shows the local time at a type is the local time less the type's offset
 pub shown_at : (u l : ℤ) (t s : LocalType) → u +ℤ t.offset ≡ l → t ≡ s → u ≡ l -ℤ s.offset
@@ -29,23 +13,24 @@ shown_at u l t s h e = let k = ap (λ (x : LocalType). x.offset) e in omega (ari
 -- ---- all candidates, none before them
 -- one
 pub asked_one : (at : ℤ → LocalType → Type 0) (l o : ℤ) (after : LocalResult LocalType) → ((u : ℤ) (t : LocalType) → Shows at l u t → u ≡ l -ℤ o) → IsAskedLast at l o None after → IsWallAnswer (Shows at l) after
-asked_one at l o after only a = gained at (λ u t. ⊥) (Shows at l) l o None after (record { old = λ u t k. absurd k; new = λ t k. k; only = λ u t k. inr (only u t k, k); behind = λ t k u f h. absurd h }) (λ u t k. k) a
+asked_one at l o after only (inl (e, none)) = rw e (λ u t k. none t (subst (λ (w : ℤ). Shows at l w t) (only u t k) k))
+asked_one at l o after only (inr (t, k, e)) = rw e (record { second = l -ℤ o; shown = k; only = only })
 
 -- two, the greater offset first, since its second is the earlier one
 pub asked_both : (at : ℤ → LocalType → Type 0) (l o p : ℤ) (one two : LocalResult LocalType) → p <ℤ o → ((u : ℤ) (t : LocalType) → Shows at l u t → (u ≡ l -ℤ o) ⊎ (u ≡ l -ℤ p)) → IsAskedLast at l o None one → IsAskedLast at l p one two → IsWallAnswer (Shows at l) two
-asked_both at l o p one two less both f g =
-    gained at (λ u t. (u ≡ l -ℤ o) × Shows at l u t) (Shows at l) l p one two
-    (record {
-      old = λ u t k. k.1;
-      new = λ t k. k;
-      only = λ u t k. elim (both u t k) [
-        | inl q ↦ inl (q, k)
-        | inr q ↦ inr (q, k)
-      ];
-      behind = λ t k u f h. let e = h.0 in omega (arith, ints);
-    })
-    (gained at (λ u t. ⊥) (λ u t. (u ≡ l -ℤ o) × Shows at l u t) l o None one (record { old = λ u t k. absurd k; new = λ t k. (refl, k); only = λ u t k. inr k; behind = λ t k u f h. absurd h }) (λ u t k. k) f)
-    g
+asked_both at l o p one two less both (inl (e, none)) g = asked_one at l p two
+    (λ u t k. ⊎_elim (λ q. absurd (none t (subst (λ (w : ℤ). Shows at l w t) q k))) (λ q. q) (both u t k)) (rw e at g)
+asked_both at l o p one two less both (inr (s, k, e)) (inl (f, none)) = asked_one at l o two
+    (λ u t m. ⊎_elim (λ q. q) (λ q. absurd (none t (subst (λ (w : ℤ). Shows at l w t) q m))) (both u t m)) (inr (s, k, f ∙ e))
+asked_both at l o p one two less both (inr (s, k, e)) (inr (t, m, f)) = rw (f, e) (record {
+  first = l -ℤ o;
+  last = l -ℤ p;
+  several = omega (arith, ints);
+  at_first = k;
+  at_last = m;
+  not_before = λ u x h. ⊎_elim (λ q. omega (arith, ints)) (λ q. omega (arith, ints)) (both u x h);
+  not_after = λ u x h. ⊎_elim (λ q. omega (arith, ints)) (λ q. omega (arith, ints)) (both u x h);
+})
 
 -- ---- a rule's
 one_of : (a : AlternateRule) (t : LocalType) (dst : Bool) → t ≡ type_when a dst → (t ≡ a.std) ⊎ (t ≡ a.dst)

@@ -1,40 +1,27 @@
 -- Values are equal by `==` exactly where they are equal.
 use Rattle.std.specs.Cmp.Lexicographic.{pointwise}
+use Rattle.tz_base.proofs.ChangeEquality.{second_exact}
 use Rattle.tz_base.specs.contracts.local_time_type.LocalTimeTypePartialEq.TheImpl.{eq-value as type_eq}
-use Rattle.tz_info.proofs.Words.{Alternate as AlternateRule, Bool, DayTime, IsExact, IsTrue, LeapSecond, List, LocalType, None, Option, Some, Transition}
-use Rattle.tz_info.proofs.Words.{TransitionRule, Zone, and_both, and_left, and_right, ap, option_eq, refl, rules, sym, type_exact, zone_eq, [], ◌&&◌, ◌↔◌, ◌∙◌}
-use Rattle.tz_info.proofs.Words.{◌∷◌, ◌≡◌}
+use Rattle.tz_info.proofs.Words.{Alternate as AlternateRule, Bool, DayTime, Difference, IsExact, IsTrue, LeapSecond, List, LocalType, None, Option}
+use Rattle.tz_info.proofs.Words.{ShownSeconds, Some, Transition, TransitionRule, TypedSecond, Zone, and_both, and_left, and_right, ap, int_eq, option_eq, refl}
+use Rattle.tz_info.proofs.Words.{rules, slice_eq-Decides, sym, type_exact, zone_eq, ◌&&◌, ◌↔◌, ◌∙◌, ◌≡◌}
 use Rattle.tz_info.specs.contracts.rule.day.DayTimePartialEq.TheImpl.{eq-value as day_time_eq}
 use Rattle.tz_info.specs.contracts.rule.transition_rule.TransitionRulePartialEq.TheImpl.{eq-value as rule_eq}
+use Rattle.tz_info.specs.contracts.zone.differences.DifferencePartialEq.TheImpl.{eq-value as difference_eq}
 use Rattle.tz_info.specs.contracts.zone.leap_second.LeapSecondPartialEq.TheImpl.{eq-value as leap_eq}
+use Rattle.tz_info.specs.contracts.zone.shown_seconds.ShownSecondsPartialEq.TheImpl.{eq-value as seconds_eq}
+use Rattle.tz_info.specs.contracts.zone.shown_seconds.TypedSecondPartialEq.TheImpl.{eq-value as second_eq}
 use Rattle.tz_info.specs.contracts.zone.transition.TransitionPartialEq.TheImpl.{eq-value as transition_eq}
 use Rattle.tz_info.specs.declared.rule.transition_rule.TransitionRule.TheVariants.{Alternate, Fixed}
 
-self : {X : Type 0} (E : X → X → Bool) → IsExact E → (a : X) → IsTrue (E a a)
-self E exact a = (exact a a).1 refl
+list_exact : {X : Type 0} (E : X → X → Bool) → IsExact E → IsExact (pointwise E)
+list_exact E exact xs ys = slice_eq-Decides exact xs ys (pointwise E xs ys) refl
 
-list_from : {X : Type 0} (E : X → X → Bool) → IsExact E → (xs ys : List X) → IsTrue (pointwise E xs ys) → xs ≡ ys
-list_from E exact [] [] h = refl
-list_from E exact [] (y ∷ ys) h = cc
-list_from E exact (x ∷ xs) [] h = cc
-list_from E exact (x ∷ xs) (y ∷ ys) h =
-    let a = (exact x y).0 (and_left (E x y) (pointwise E xs ys) h) in
-    let b = list_from E exact xs ys (and_right (E x y) (pointwise E xs ys) h) in
-    ap (λ z. z ∷ xs) a ∙ ap (λ zs. y ∷ zs) b
-
-list_self : {X : Type 0} (E : X → X → Bool) → IsExact E → (xs : List X) → IsTrue (pointwise E xs xs)
-list_self E exact [] = refl
-list_self E exact (x ∷ xs) = and_both (E x x) (pointwise E xs xs) (self E exact x) (list_self E exact xs)
-
-option_from : {X : Type 0} (E : X → X → Bool) → IsExact E → (x y : Option X) → IsTrue (option_eq E x y) → x ≡ y
-option_from E exact None None h = refl
-option_from E exact None (Some y) h = cc
-option_from E exact (Some x) None h = cc
-option_from E exact (Some x) (Some y) h = ap Some ((exact x y).0 h)
-
-option_self : {X : Type 0} (E : X → X → Bool) → IsExact E → (x : Option X) → IsTrue (option_eq E x x)
-option_self E exact None = refl
-option_self E exact (Some x) = self E exact x
+option_exact : {X : Type 0} (E : X → X → Bool) → IsExact E → IsExact (option_eq E)
+option_exact E exact None None = (λ h. refl, λ e. refl)
+option_exact E exact None (Some y) = (λ h. cc, λ e. cc)
+option_exact E exact (Some x) None = (λ h. cc, λ e. cc)
+option_exact E exact (Some x) (Some y) = (λ h. ap Some ((exact x y).0 h), λ e. (exact x y).1 (cc))
 
 -- ---- records, as pairs of their fields
 abbrev pub pair_eq : {X Y : Type 0} → (X → X → Bool) → (Y → Y → Bool) → (X × Y) → (X × Y) → Bool
@@ -64,17 +51,11 @@ pub alternate_exact : (a b : AlternateRule) → IsTrue (type_eq.it a.std b.std &
 alternate_exact = by_parts (pair_eq type_eq.it (pair_eq type_eq.it (pair_eq day_time_eq.it day_time_eq.it))) alternate_parts of_alternate (λ a. refl)
     (pair_exact type_eq.it (pair_eq type_eq.it (pair_eq day_time_eq.it day_time_eq.it)) type_exact (pair_exact type_eq.it (pair_eq day_time_eq.it day_time_eq.it) type_exact (pair_exact day_time_eq.it day_time_eq.it day_time_exact day_time_exact)))
 
-fixed_same : (s t : LocalType) → Fixed s ≡ Fixed t → s ≡ t
-fixed_same s t e = cc
-
-alternate_same : (a b : AlternateRule) → Alternate a ≡ Alternate b → a ≡ b
-alternate_same a b e = cc
-
 pub rule_exact : (a b : TransitionRule) → IsTrue (rule_eq.it a b) ↔ (a ≡ b)
-rule_exact (Fixed s) (Fixed t) = (λ h. ap Fixed ((type_exact s t).0 h), λ e. (type_exact s t).1 (fixed_same s t e))
+rule_exact (Fixed s) (Fixed t) = (λ h. ap Fixed ((type_exact s t).0 h), λ e. (type_exact s t).1 (cc))
 rule_exact (Fixed s) (Alternate b) = (λ h. cc, λ e. cc)
 rule_exact (Alternate a) (Fixed t) = (λ h. cc, λ e. cc)
-rule_exact (Alternate a) (Alternate b) = (λ h. ap Alternate ((alternate_exact a b).0 h), λ e. (alternate_exact a b).1 (alternate_same a b e))
+rule_exact (Alternate a) (Alternate b) = (λ h. ap Alternate ((alternate_exact a b).0 h), λ e. (alternate_exact a b).1 (cc))
 
 -- ---- zones
 transition_exact : IsExact transition_eq.it
@@ -82,12 +63,6 @@ transition_exact a b = search rules
 
 leap_exact : IsExact leap_eq.it
 leap_exact a b = search rules
-
-list_exact : {X : Type 0} (E : X → X → Bool) → IsExact E → IsExact (pointwise E)
-list_exact E exact xs ys = (list_from E exact xs ys, λ e. rw e (list_self E exact ys))
-
-option_exact : {X : Type 0} (E : X → X → Bool) → IsExact E → IsExact (option_eq E)
-option_exact E exact x y = (option_from E exact x y, λ e. rw e (option_self E exact y))
 
 abbrev zone_parts : Zone → List Transition × (List LocalType × (List LeapSecond × Option TransitionRule))
 zone_parts z = (z.transitions, (z.types, (z.leaps, z.rule)))
@@ -100,3 +75,14 @@ zone_exact = by_parts (pair_eq (pointwise transition_eq.it) (pair_eq (pointwise 
     (pair_exact (pointwise transition_eq.it) (pair_eq (pointwise type_eq.it) (pair_eq (pointwise leap_eq.it) (option_eq rule_eq.it))) (list_exact transition_eq.it transition_exact)
     (pair_exact (pointwise type_eq.it) (pair_eq (pointwise leap_eq.it) (option_eq rule_eq.it)) (list_exact type_eq.it type_exact)
     (pair_exact (pointwise leap_eq.it) (option_eq rule_eq.it) (list_exact leap_eq.it leap_exact) (option_exact rule_eq.it rule_exact))))
+
+-- ---- seconds with types, and differences
+pub typed_second_exact : IsExact second_eq.it
+typed_second_exact = by_parts (pair_eq int_eq type_eq.it) (λ (s : TypedSecond). (s.at, s.local_time_type)) (λ p. record { at = p.0; local_time_type = p.1 }) (λ s. refl) (pair_exact int_eq type_eq.it second_exact type_exact)
+
+pub shown_seconds_exact : IsExact seconds_eq.it
+shown_seconds_exact = by_parts (pair_eq second_eq.it second_eq.it) (λ (s : ShownSeconds). (s.first, s.last)) (λ p. record { first = p.0; last = p.1 }) (λ s. refl) (pair_exact second_eq.it second_eq.it typed_second_exact typed_second_exact)
+
+pub difference_exact : IsExact difference_eq.it
+difference_exact = by_parts (pair_eq int_eq (pair_eq int_eq (pair_eq type_eq.it type_eq.it))) (λ (d : Difference). (d.from, (d.until, (d.old, d.new)))) (λ p. record { from = p.0; until = p.1.0; old = p.1.1.0; new = p.1.1.1 }) (λ d. refl)
+    (pair_exact int_eq (pair_eq int_eq (pair_eq type_eq.it type_eq.it)) second_exact (pair_exact int_eq (pair_eq type_eq.it type_eq.it) second_exact (pair_exact type_eq.it type_eq.it type_exact type_exact)))

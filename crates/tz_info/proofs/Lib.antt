@@ -42,7 +42,6 @@ pub mod SeasonAnswers
 pub mod WindowLaws
 pub mod GapLaws
 pub mod AroundLaws
-pub mod SecondEquality
 pub mod IdleRuns
 pub mod ZoneChanges
 pub mod LeaplessChanges

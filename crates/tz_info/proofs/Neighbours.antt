@@ -1,8 +1,9 @@
 -- Only a year's own moments and those of its two neighbours can enclose a second of the year.
-use Rattle.tz_info.proofs.Words.{Alternate, Bool, DayTime, IsAlternateRule, IsDstAt, IsInSomeYear, IsRuleDay, IsWithinDay, IsWithinWeek, IsYearOf, ap, arith}
-use Rattle.tz_info.proofs.Words.{by_lt_z, cond, days_at_least, end_in, false, floors, inl, inr, int_le, ints, is_between, is_dst_by_one, is_in_three, le_false}
-use Rattle.tz_info.proofs.Words.{le_true, le_is, moment, neg_ℤ, not, not-false, or_cases, or_left, or_right, pos, refl, start_in, starts_rise, sym, true}
-use Rattle.tz_info.proofs.Words.{year_start, year_step, ℤ, ⊎_elim, ◌*ℤ◌, ◌+ℤ◌, ◌-ℤ◌, ◌<ℤ◌, ◌||◌, ◌∙◌, ◌≡◌, ◌≤ℤ◌, ◌⊎◌}
+use Rattle.tz_info.proofs.Words.{Alternate, Bool, DayTime, Decides, Decides-or, IsAlternateRule, IsDstAt, IsInSomeYear, IsRuleDay, IsWithinDay, IsWithinWeek}
+use Rattle.tz_info.proofs.Words.{IsYearOf, ap, arith, by_lt_z, cond, days_at_least, end_in, false, floors, inl, inr, int_le, ints, is_between, is_dst_by_one}
+use Rattle.tz_info.proofs.Words.{is_in_three, le_false, le_true, le_is, moment, neg_ℤ, not, not-false, pos, refl, start_in, starts_rise, sym, true, year_start}
+use Rattle.tz_info.proofs.Words.{year_step, ℤ, ⊎_elim, ◌*ℤ◌, ◌+ℤ◌, ◌-ℤ◌, ◌<ℤ◌, ◌∙◌, ◌≡◌, ◌≤ℤ◌, ◌⊎◌}
+use Rattle.std.proofs.lemmas.Bool.Decides.{Decides-like}
 use Rattle.tz_info.proofs.RuleDays.{day_within}
 
 -- the moments of each year lie less than eight days outside of it
@@ -71,19 +72,18 @@ between_true first last u from before = grind (arith, ints)
 between_is : (first last u : ℤ) → is_between first last u ≡ true → (first ≤ℤ u) × (u <ℤ last)
 between_is first last u h = grind (arith, ints)
 
-three_found : (firsts lasts : ℤ → ℤ) (year u : ℤ) → is_in_three firsts lasts year u ≡ true → IsInSomeYear firsts lasts u
-three_found firsts lasts year u h =
-    let found : (other : ℤ) → is_between (firsts other) (lasts other) u ≡ true → IsInSomeYear firsts lasts u =
-    λ other t. let b = between_is (firsts other) (lasts other) u t in (other, b.0, b.1) in
-    ⊎_elim (λ t. ⊎_elim (found (year -ℤ pos 1)) (found year) (or_cases _ _ t)) (found (year +ℤ pos 1)) (or_cases _ _ h)
+between : (first last u : ℤ) → Decides (is_between first last u) ((first ≤ℤ u) × (u <ℤ last))
+between first last u = (between_is first last u, λ h. between_true first last u h.0 h.1)
 
-three_all : (firsts lasts : ℤ → ℤ) (year u : ℤ) → IsNear firsts → IsNear lasts → IsYearOf u year → IsInSomeYear firsts lasts u → is_in_three firsts lasts year u ≡ true
-three_all firsts lasts year u near_first near_last of_second (other, from, before) =
-    let asked : ℤ → Bool = λ z. is_between (firsts z) (lasts z) u in
-    let here : (z : ℤ) → other ≡ z → asked z ≡ true = λ z same. rw (← same) (between_true (firsts other) (lasts other) u from before) in
-    let x = asked (year -ℤ pos 1) in let v = asked year in let w = asked (year +ℤ pos 1) in
-    ⊎_elim (λ same. or_left (x || v) w (or_left x v (here _ same))) (⊎_elim (λ same. or_left (x || v) w (or_right x v (here _ same))) (λ same. or_right (x || v) w (here _ same)))
-    (place year other (not_earlier lasts u year other near_last of_second before) (not_later firsts u year other near_first of_second from))
+by_three : (firsts lasts : ℤ → ℤ) (year u : ℤ) → IsNear firsts → IsNear lasts → IsYearOf u year → Decides (is_in_three firsts lasts year u) (IsInSomeYear firsts lasts u)
+by_three firsts lasts year u near_first near_last of_second = Decides-like _
+    (⊎_elim (⊎_elim (λ h. (year -ℤ pos 1, h.0, h.1)) (λ h. (year, h.0, h.1))) (λ h. (year +ℤ pos 1, h.0, h.1)))
+    (λ some.
+    let (other, from, before) = some in
+    let here : (z : ℤ) → other ≡ z → (firsts z ≤ℤ u) × (u <ℤ lasts z) = λ z same. rw (← same) (from, before) in
+    ⊎_elim (λ same. inl (inl (here _ same))) (⊎_elim (λ same. inl (inr (here _ same))) (λ same. inr (here _ same)))
+    (place year other (not_earlier lasts u year other near_last of_second before) (not_later firsts u year other near_first of_second from)))
+    (Decides-or _ _ (Decides-or _ _ (between _ _ u) (between _ _ u)) (between _ _ u))
 
 -- the moments of each year keep that margin from its ends
 pub record KeepsMargin (moments : ℤ → ℤ) (margin : ℤ) : Type 0 where
@@ -124,27 +124,29 @@ by_end starts ends year u dst std order is found all = record {
   end_first = λ _. rw is (λ t. found (not-false std t), λ some. ap not (all some));
 }
 
-one_found : (firsts lasts : ℤ → ℤ) (year u : ℤ) → is_between (firsts year) (lasts year) u ≡ true → IsInSomeYear firsts lasts u
-one_found firsts lasts year u h = let b = between_is (firsts year) (lasts year) u h in (year, b.0, b.1)
-
-one_all : (firsts lasts : ℤ → ℤ) (margin year u : ℤ) → KeepsMargin firsts margin → KeepsMargin lasts margin → IsBeside margin year u → IsInSomeYear firsts lasts u → is_between (firsts year) (lasts year) u ≡ true
-one_all firsts lasts margin year u first last beside (other, from, before) =
-    rw (← own_year firsts lasts margin year u other first last beside from before) (between_true (firsts other) (lasts other) u from before)
+by_own : (firsts lasts : ℤ → ℤ) (margin year u : ℤ) → KeepsMargin firsts margin → KeepsMargin lasts margin → IsBeside margin year u → Decides (is_between (firsts year) (lasts year) u) (IsInSomeYear firsts lasts u)
+by_own firsts lasts margin year u first last beside = Decides-like _ (λ h. (year, h.0, h.1))
+    (λ some. let (other, from, before) = some in rw (← own_year firsts lasts margin year u other first last beside from before) (from, before)) (between _ _ u)
 
 lt_is : (a b : ℤ) → int_le a b ≡ false → b <ℤ a
 lt_is a b h = grind (arith, ints)
 
--- and they decide, where moments come in their order in the second's own year
-pub dst_by_one : (starts ends : ℤ → ℤ) (margin year own u : ℤ) (dst : Bool) → KeepsMargin starts margin → KeepsMargin ends margin → IsBeside margin year u → int_le (starts own) (ends own) ≡ int_le (starts year) (ends year) → dst ≡ is_dst_by_one (starts year) (ends year) u → IsDstAt starts ends own u dst
-dst_by_one starts ends margin year own u dst start end beside same is =
+-- such tests decide, where moments come in their order in the second's own year
+dst_by : (starts ends : ℤ → ℤ) (year own u : ℤ) (dst first last : Bool) → int_le (starts own) (ends own) ≡ int_le (starts year) (ends year) → dst ≡ cond (int_le (starts year) (ends year)) first (not last)
+    → Decides first (IsInSomeYear starts ends u) → Decides last (IsInSomeYear ends starts u) → IsDstAt starts ends own u dst
+dst_by starts ends year own u dst first last same is on off =
     by_lt_z (ends year) (starts year)
     (λ less.
     let t = le_false (starts year) (ends year) less in
-    by_end starts ends own u dst (is_between (ends year) (starts year) u) (lt_is (starts own) (ends own) (same ∙ t)) (rw t at is) (one_found ends starts year u) (one_all ends starts margin year u end start beside))
+    by_end starts ends own u dst last (lt_is (starts own) (ends own) (same ∙ t)) (rw t at is) off.0 off.1)
     (λ order.
     let t = le_true (starts year) (ends year) order in
-    let is_own = rw t at is in
-    by_start starts ends own u dst (le_is (starts own) (ends own) (same ∙ t)) (λ h. one_found starts ends year u (sym is_own ∙ h)) (λ some. is_own ∙ one_all starts ends margin year u start end beside some))
+    let own_is : dst ≡ first = rw t at is in
+    by_start starts ends own u dst (le_is (starts own) (ends own) (same ∙ t)) (λ h. on.0 (sym own_is ∙ h)) (λ some. own_is ∙ on.1 some))
+
+pub dst_by_one : (starts ends : ℤ → ℤ) (margin year own u : ℤ) (dst : Bool) → KeepsMargin starts margin → KeepsMargin ends margin → IsBeside margin year u → int_le (starts own) (ends own) ≡ int_le (starts year) (ends year) → dst ≡ is_dst_by_one (starts year) (ends year) u → IsDstAt starts ends own u dst
+dst_by_one starts ends margin year own u dst start end beside same is =
+    dst_by starts ends year own u dst _ _ same is (by_own starts ends margin year u start end beside) (by_own ends starts margin year u end start beside)
 
 -- no second has two answers
 pub one_answer : (starts ends : ℤ → ℤ) (year u : ℤ) (a b : Bool) → IsDstAt starts ends year u a → IsDstAt starts ends year u b → a ≡ b
@@ -157,12 +159,5 @@ one_answer starts ends year u false true h k = by_lt_z (ends year) (starts year)
 pub dst_by_three : (starts ends : ℤ → ℤ) (year u : ℤ) (dst : Bool) → IsNear starts → IsNear ends → IsYearOf u year
     → dst ≡ cond (int_le (starts year) (ends year)) (is_in_three starts ends year u) (not (is_in_three ends starts year u)) → IsDstAt starts ends year u dst
 dst_by_three starts ends year u dst near_start near_end of_second is =
-    by_lt_z (ends year) (starts year)
-    (λ less.
-    let here = rw (le_false (starts year) (ends year) less) at is in
-    by_end starts ends year u dst (is_in_three ends starts year u) less here (three_found ends starts year u)
-    (three_all ends starts year u near_end near_start of_second))
-    (λ order.
-    let here = rw (le_true (starts year) (ends year) order) at is in
-    by_start starts ends year u dst order (λ t. three_found starts ends year u (sym here ∙ t))
-    (λ some. here ∙ three_all starts ends year u near_start near_end of_second some))
+    dst_by starts ends year year u dst _ _ refl is (by_three starts ends year u near_start near_end of_second)
+    (by_three ends starts year u near_end near_start of_second)

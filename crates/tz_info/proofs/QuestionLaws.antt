@@ -1,12 +1,13 @@
 -- Questions to a zone's rule: at which seconds it is asked, and how often for a local time.
-use Rattle.tz_info.proofs.Words.{All-contains, AllPairs, Alternate as AlternateRule, AreUtOffsets, Contains, Contains-append_right, IsAskedAt, IsAskedAtEach}
-use Rattle.tz_info.proofs.Words.{IsAskedAtLeapTime, IsAskedFor, IsAskedFrom, IsAskedSince, IsByRuleFor, IsFromLast, IsLeapTime, IsNear, IsSecondFrom, IsStart}
-use Rattle.tz_info.proofs.Words.{IsValid, IsWide, IsWindow, LocalType, None, Option, Some, Transition, TransitionRule, Zone, ap, arith, cases_lt, get_or, inl}
-use Rattle.tz_info.proofs.Words.{inr, ints, length, none-some, offsets, offsets_of, refl, rule_offsets, segment_of, subst, suc, sym, zero, ℕ, ℤ, [], ◌+◌, ◌-ℤ◌}
-use Rattle.tz_info.proofs.Words.{◌<ℤ◌, ◌<◌, ◌↔◌, ◌∙◌, ◌∷◌, ◌≡◌, ◌≢◌, ◌≤ℤ◌, ◌⊎◌}
+use Rattle.tz_info.proofs.Words.{All-contains, AllPairs-cons, Alternate as AlternateRule, AreUtOffsets, Contains, Contains-append_right, IsAskedAt}
+use Rattle.tz_info.proofs.Words.{IsAskedAtEach, IsAskedAtLeapTime, IsAskedFor, IsAskedFrom, IsAskedSince, IsByRuleFor, IsLeapTime, IsNear, IsSecondFrom}
+use Rattle.tz_info.proofs.Words.{IsStart, IsValid, IsWide, IsWindow, LocalType, None, Option, Some, Transition, TransitionRule, Zone, ap, arith, get_or, inl}
+use Rattle.tz_info.proofs.Words.{inr, ints, length, none-some, offsets, offsets_of, refl, rule_offsets, segment_of, subst, suc, sym, zero, ℕ, ℤ, [], ⊎_elim}
+use Rattle.tz_info.proofs.Words.{◌+◌, ◌-ℤ◌, ◌<ℤ◌, ◌<◌, ◌↔◌, ◌∙◌, ◌∷◌, ◌≡◌, ◌≢◌, ◌≤ℤ◌, ◌⊎◌}
 use Rattle.tz_info.specs.{Questions.{IsByRule}, declared.rule.transition_rule.TransitionRule.TheVariants.{Alternate, Fixed}}
-use Rattle.tz_info.proofs.{PassedTransitions.{no_items}, SegmentLaws.{come_at_time, segment_here, segment_most, segments_rise}}
-use Rattle.tz_info.proofs.WallSegments.{leap_time_of, near_of, rule_begun}
+use Rattle.std.proofs.lemmas.List.Elements.{Contains-append_cases, Contains-get_or}
+use Rattle.tz_info.proofs.{ListFaults.{equal_known}, PassedTransitions.{no_items}, SegmentLaws.{come_at_time, come_by_then}}
+use Rattle.tz_info.proofs.{WalkLaws.{window_most}, WallSegments.{leap_time_of, near_of, rule_begun}, ZoneLaws.{same_passed}}
 
 -- ---- from which second on the rule is asked
 by_rule_there : (z : Zone) (u : ℤ) (rule : TransitionRule) → IsValid z → z.rule ≡ Some rule → IsNear u → segment_of z u ≡ length z.transitions → IsByRule z u
@@ -14,11 +15,8 @@ by_rule_there z u rule valid is near there =
     let time = leap_time_of z u valid near in
     record { rule = rule; of_zone = is; leap_time = time.0; of_second = λ _. time.1; from_last = come_at_time z u time.0 time.1 ∙ there }
 
-by_rule_segment : (z : Zone) (u : ℤ) → IsValid z → IsByRule z u → segment_of z u ≡ length z.transitions
-by_rule_segment z u valid a = elim (cases_lt 0 (length z.transitions)) [
-  | inl h ↦ sym (come_at_time z u a.leap_time (a.of_second h)) ∙ a.from_last
-  | inr h ↦ let m = segment_most z u valid.transitions.rising in omega arith
-]
+by_rule_segment : (z : Zone) (u : ℤ) → IsByRule z u → segment_of z u ≡ length z.transitions
+by_rule_segment z u a = sym (come_by_then z u a.leap_time a.of_second) ∙ a.from_last
 
 -- a zone asks its rule from `start` on
 seconds_by_rule : (z : Zone) (rule : TransitionRule) (start l : ℤ) → IsValid z → z.rule ≡ Some rule → IsStart z.transitions z.leaps (length z.transitions) start → IsWide l → AreUtOffsets rule → (u : ℤ) → IsSecondFrom rule start l u ↔ IsByRuleFor z l u
@@ -29,7 +27,7 @@ seconds_by_rule z rule start l valid is begun wide offsets u = (
   (λ k.
       let of_rule = rw is at k.of_rule in
       let near : IsNear u = rw k.of_second (near_of l k.offset wide (offsets k.offset of_rule)) in
-      record { offset = k.offset; of_rule = of_rule; of_second = k.of_second; since = (rule_begun z u start valid near begun).0 (by_rule_segment z u valid k.by_rule) }),
+      record { offset = k.offset; of_rule = of_rule; of_second = k.of_second; since = (rule_begun z u start valid near begun).0 (by_rule_segment z u k.by_rule) }),
 )
 
 pub asked_by_zone : (z : Zone) (rule : TransitionRule) (start l : ℤ) (p q : ℕ) → IsValid z → z.rule ≡ Some rule → IsStart z.transitions z.leaps (length z.transitions) start → IsWide l → AreUtOffsets rule → IsAskedFrom rule start l p q → IsAskedFor z l p q
@@ -53,12 +51,6 @@ in_two a b u (zero, h, e) = inl (sym e)
 in_two a b u (suc zero, h, e) = inr (sym e)
 in_two a b u (suc (suc k), h, e) = absurd (omega arith)
 
-apart : (a b : ℤ) → a ≢ b → AllPairs (λ u v. u ≢ v) (a ∷ b ∷ [])
-apart a b other zero (suc zero) d i j = other
-apart a b other (suc k) (suc zero) d i j = absurd (omega arith)
-apart a b other k (suc (suc m)) d i j = absurd (omega arith)
-apart a b other k zero d i j = absurd (omega arith)
-
 nowhere : (asks : ℤ → Type 0) (p q : ℕ) → ((u : ℤ) → asks u → ⊥) → q ≡ p → IsAskedAtEach asks p q
 nowhere asks p q none e = record {
   seconds = [];
@@ -71,44 +63,32 @@ nowhere asks p q none e = record {
 abbrev IsAskedIf : (ℤ → Type 0) → ℤ → ℕ → ℕ → Type 0
 IsAskedIf asks u p q = (asks u × (q ≡ p + 1)) ⊎ ((asks u → ⊥) × (q ≡ p))
 
-one_second : (asks : ℤ → Type 0) (c : ℤ) (p q : ℕ) → ((u : ℤ) → asks u → u ≡ c) → IsAskedIf asks c p q → IsAskedAtEach asks p q
-one_second asks c p q only (inl (k, e)) = record {
-  seconds = c ∷ [];
-  once = search arith;
-  each = λ u. ((λ i. rw (in_one c u i) k), (λ i. (0, omega arith, sym (only u i))));
-  count = e;
+-- and then those at the other seconds
+asked_more : (asks : ℤ → Type 0) (c : ℤ) (p q r : ℕ) → IsAskedIf asks c p q → IsAskedAtEach (λ u. asks u × (u ≢ c)) q r → IsAskedAtEach asks p r
+asked_more asks c p q r (inl (k, e)) others = record {
+  seconds = c ∷ others.seconds;
+  once = AllPairs-cons (λ u v. u ≢ v) c others.seconds (λ i d h g. ((others.each _).0 (Contains-get_or others.seconds i d h)).1 (sym g)) others.once;
+  each = λ u. (
+    (λ i. ⊎_elim (λ g. rw (in_one c u g) k) (λ g. ((others.each u).0 g).0) (Contains-append_cases (c ∷ []) others.seconds u i)),
+    (λ i. ⊎_elim (λ g. (0, omega arith, sym g)) (λ other. Contains-append_right (c ∷ []) others.seconds u ((others.each u).1 (i, other))) (equal_known u c)),
+  );
+  count = let n = others.count in omega arith;
 }
-one_second asks c p q only (inr (none, e)) = nowhere asks p q (λ u k. none (subst asks (only u k) k)) e
+asked_more asks c p q r (inr (none, e)) others = record {
+  seconds = others.seconds;
+  once = others.once;
+  each = λ u. ((λ i. ((others.each u).0 i).0), (λ i. (others.each u).1 (i, λ g. none (subst asks g i))));
+  count = let n = others.count in omega arith;
+}
+
+one_second : (asks : ℤ → Type 0) (c : ℤ) (p q : ℕ) → ((u : ℤ) → asks u → u ≡ c) → IsAskedIf asks c p q → IsAskedAtEach asks p q
+one_second asks c p q only k = asked_more asks c p q q k (nowhere (λ u. asks u × (u ≢ c)) q q (λ u h. h.1 (only u h.0)) refl)
 
 -- two, the one asked after the other
 two_seconds : (asks : ℤ → Type 0) (c d : ℤ) (p q r : ℕ) → c ≢ d → ((u : ℤ) → asks u → (u ≡ c) ⊎ (u ≡ d)) → IsAskedIf asks c p q → IsAskedIf asks d q r → IsAskedAtEach asks p r
-two_seconds asks c d p q r other both (inl (j, e)) (inl (k, f)) = record {
-  seconds = c ∷ d ∷ [];
-  once = apart c d other;
-  each = λ u. (
-    (λ i. elim (in_two c d u i) [
-      | inl g ↦ rw g j
-      | inr g ↦ rw g k
-    ]),
-    (λ i. elim (both u i) [
-      | inl g ↦ (0, omega arith, sym g)
-      | inr g ↦ (1, omega arith, sym g)
-    ]),
-  );
-  count = omega arith;
-}
-two_seconds asks c d p q r other both (inl (j, e)) (inr (none, f)) = one_second asks c p r (λ u k. elim (both u k) [
-  | inl g ↦ g
-  | inr g ↦ absurd (none (subst asks g k))
-]) (inl (j, f ∙ e))
-two_seconds asks c d p q r other both (inr (none, e)) (inl (k, f)) = one_second asks d p r (λ u i. elim (both u i) [
-  | inl g ↦ absurd (none (subst asks g i))
-  | inr g ↦ g
-]) (inl (k, rw e at f))
-two_seconds asks c d p q r other both (inr (none, e)) (inr (neither, f)) = nowhere asks p r (λ u k. elim (both u k) [
-  | inl g ↦ none (subst asks g k)
-  | inr g ↦ neither (subst asks g k)
-]) (f ∙ e)
+two_seconds asks c d p q r other both j k = asked_more asks c p q r j (one_second (λ u. asks u × (u ≢ c)) d q r
+    (λ u h. ⊎_elim (λ e. absurd (h.1 e)) (λ e. e) (both u h.0))
+    (⊎_elim (λ h. inl ((h.0, λ e. other (sym e)), h.1)) (λ h. inr (λ i. h.0 i.0, h.1)) k))
 
 -- ---- those of a rule
 asked_since : (rule : TransitionRule) (from l o : ℤ) (p q : ℕ) → Contains (rule_offsets (Some rule)) o → IsAskedSince from (l -ℤ o) p q → IsAskedIf (IsSecondFrom rule from l) (l -ℤ o) p q
@@ -148,27 +128,17 @@ asked_none z l p e = nowhere (IsByRuleFor z l) p p (λ u k. none-some k.by_rule.
 pub asked_for_window : (z : Zone) (l low high : ℤ) (n : ℕ) (d : Transition) (p q : ℕ) → IsValid z → IsWindow z l low high → n < length z.transitions → high <ℤ (get_or z.transitions n d).unix_leap_time → q ≡ p → IsAskedFor z l p q
 asked_for_window z l low high n d p q valid w h later e = nowhere (IsByRuleFor z l) p q (λ u k.
     let among = Contains-append_right (offsets_of z.types) (rule_offsets z.rule) k.offset k.of_rule in
-    let o : w.least ≤ℤ k.offset = All-contains (λ x. w.least ≤ℤ x) (offsets z.types z.rule) k.offset w.is_least.fewest among in
+    let least = All-contains (λ x. w.least ≤ℤ x) (offsets z.types z.rule) k.offset w.is_least.fewest among in
     let s = k.of_second in
-    let r = segments_rise z u (l -ℤ w.least) valid.transitions.rising valid.leaps (omega (arith, ints)) in
-    let there = by_rule_segment z u valid k.by_rule in
-    let sum = w.is_high.sum in
-    elim (cases_lt n (segment_of z (l -ℤ w.least))) [
-      | inl m ↦ let g = (segment_here z (l -ℤ w.least) valid.transitions.rising).below n d m in absurd (omega (arith, ints))
-      | inr m ↦ absurd (omega arith)
-    ]) e
+    let most = window_most z l low high n d u k.offset valid w h later least (omega (arith, ints)) in
+    let there = by_rule_segment z u k.by_rule in
+    omega arith) e
 
 -- ---- by instant
-from_last_time : (z : Zone) (u x : ℤ) → (0 < length z.transitions → IsLeapTime z.leaps u x) → IsByRule z u → IsFromLast z x
-from_last_time z u x time a = elim (cases_lt 0 (length z.transitions)) [
-  | inl h ↦ let s = (time h).sum in let t = (a.of_second h).sum in let g : a.leap_time ≡ x = omega (arith, ints) in rw g at a.from_last
-  | inr h ↦ let f = no_items z.transitions (omega arith) in rw f refl
-]
-
 pub asked_at_time : (z : Zone) (u x : ℤ) (p q : ℕ) → (0 < length z.transitions → IsLeapTime z.leaps u x) → IsAskedAtLeapTime z x p q → IsAskedAt z u p q
 asked_at_time z u x p q time (inl (rule, is, from, e)) = inl (record { rule = rule; of_zone = is; leap_time = x; of_second = time; from_last = from }, e)
 asked_at_time z u x p q time (inr (inl (none, e))) = inr ((λ a. let s = a.of_zone in cc), e)
-asked_at_time z u x p q time (inr (inr (before, e))) = inr ((λ a. let f = from_last_time z u x time a in absurd (omega arith)), e)
+asked_at_time z u x p q time (inr (inr (before, e))) = inr ((λ a. let from_last = a.from_last in let same = ap length (same_passed z u a.leap_time x a.of_second time) in absurd (omega arith)), e)
 
 either : (o : Option TransitionRule) → ((rule : TransitionRule) × (o ≡ Some rule)) ⊎ (o ≡ None)
 either (Some rule) = inl (rule, refl)

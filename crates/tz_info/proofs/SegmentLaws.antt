@@ -1,6 +1,6 @@
 -- Segments: which one a second lies in, and the type in force there.
 use Rattle.tz_info.proofs.Words.{AreLeapSeconds, AreRising, HasType, IsBeforeLast, IsFromLast, IsLeapTime, IsValid, List, LocalType, RuleOrType, Transition}
-use Rattle.tz_info.proofs.Words.{TypeAt, TypeIn, Zone, ap, arith, begin_of, by_lt_z, cases_lt, correction_at, get_or, index_of, inl, inr, ints, least_time}
+use Rattle.tz_info.proofs.Words.{TypeIn, Zone, ap, arith, begin_of, by_lt_z, cases_lt, correction_at, get_or, index_of, inl, inr, ints, least_time}
 use Rattle.tz_info.proofs.Words.{length, length-take, passed, refl, segment_of, suc, sym, take, zero, ℕ, ℤ, [], ◌+ℤ◌, ◌+◌, ◌<ℤ◌, ◌<◌, ◌↔◌, ◌∙◌, ◌∷◌, ◌≡◌, ◌≤ℤ◌}
 use Rattle.tz_info.proofs.Words.{◌≤◌}
 use Rattle.tz_info.proofs.{LeapOrder.{leap_sums_rise}, PassedTransitions.{no_items}, Prefixes.{last_taken}, TableSearch.{Between, search_found}}
@@ -59,11 +59,10 @@ segment_most z u r = (segment_here z u r).within
 
 -- a greater number splits them later
 splits_rise : (ts : List Transition) (x y : ℤ) (m n : ℕ) → x ≤ℤ y → Between ts x m m → Between ts y n n → m ≤ n
-splits_rise [] x y m n h a b = let w = a.within in omega arith
-splits_rise (t ∷ ts) x y m n h a b = elim (cases_lt n m) [
+splits_rise ts x y m n h a b = elim (cases_lt n m) [
   | inl l ↦
-      let w = a.within in
-      let p = a.below n t l in let q = b.above n t (omega arith) (omega arith) in
+      let w = a.within in let d : Transition = record { unix_leap_time = x; type_index = 0 } in
+      let p = a.below n d l in let q = b.above n d (omega arith) (omega arith) in
       absurd (omega (arith, ints))
   | inr l ↦ l
 ]
@@ -90,10 +89,9 @@ index_next ts i d h = let e : i + 1 ≡ suc i = omega arith in rw e (last_taken 
 
 begun_before : (ts : List Transition) (x : ℤ) (i : ℕ) → least_time ≤ℤ x → Between ts x i i → begin_of ts i ≤ℤ x
 begun_before ts x zero h b = rw (begin_first ts) h
-begun_before [] x (suc i) h b = let w = b.within in absurd (omega arith)
-begun_before (t ∷ ts) x (suc i) h b =
-    let w = b.within in
-    rw (last_taken (λ (t : Transition). t.unix_leap_time) least_time (t ∷ ts) i t (omega arith)) (b.below i t (omega arith))
+begun_before ts x (suc i) h b =
+    let w = b.within in let d : Transition = record { unix_leap_time = x; type_index = 0 } in
+    rw (last_taken (λ (t : Transition). t.unix_leap_time) least_time ts i d (omega arith)) (b.below i d (omega arith))
 
 -- a leap time is in segment i where it comes from the segment's begin on, and before the next transition
 pub record IsWithin (ts : List Transition) (i : ℕ) (x : ℤ) : Type 0 where
@@ -115,16 +113,20 @@ pub between_of : (ts : List Transition) (i : ℕ) (x : ℤ) → AreRising ts →
 between_of ts i x r w h = record { ordered = omega arith; within = w; below = come_by ts x i r w h.since; above = λ k d a l. let n = not_later ts i k d r a l in let u = h.until d (omega arith) in omega (arith, ints) }
 
 -- ---- the type in a segment
-passed_once : (z : Zone) (u : ℤ) (t : LocalType) (a : TypeAt z u t) → passed z.transitions a.leap_time ≡ passed z.transitions (u +ℤ correction_at z.leaps u)
-passed_once z u t a = elim (cases_lt 0 (length z.transitions)) [
-  | inl h ↦ ap (passed z.transitions) (a.of_second h).sum
+-- a leap time of the second, which matters only if there are transitions
+pub passed_here : (z : Zone) (u x : ℤ) → (0 < length z.transitions → IsLeapTime z.leaps u x) → passed z.transitions x ≡ passed z.transitions (u +ℤ correction_at z.leaps u)
+passed_here z u x time = elim (cases_lt 0 (length z.transitions)) [
+  | inl h ↦ ap (passed z.transitions) (time h).sum
   | inr h ↦ rw (no_items z.transitions (omega arith)) refl
 ]
 
--- how many transitions have come by the leap time of a second
-pub come_at_time : (z : Zone) (u x : ℤ) → IsLeapTime z.leaps u x → length (passed z.transitions x) ≡ segment_of z u
+-- how many transitions have come by it
+pub come_by_then : (z : Zone) (u x : ℤ) → (0 < length z.transitions → IsLeapTime z.leaps u x) → length (passed z.transitions x) ≡ segment_of z u
 unfolding segment_of
-come_at_time z u x l = ap (λ y. length (passed z.transitions y)) l.sum
+come_by_then z u x time = ap length (passed_here z u x time)
+
+pub come_at_time : (z : Zone) (u x : ℤ) → IsLeapTime z.leaps u x → length (passed z.transitions x) ≡ segment_of z u
+come_at_time z u x time = come_by_then z u x (λ _. time)
 
 -- the transition at place k is among those that have come just where its time has
 pub come_by_time : (ts : List Transition) (x : ℤ) (k : ℕ) (d : Transition) → AreRising ts → k < length ts → (suc k ≤ length (passed ts x)) ↔ ((get_or ts k d).unix_leap_time ≤ℤ x)
@@ -134,7 +136,8 @@ come_by_time ts x k d rising h =
     ((λ c. p.1.below k d (omega arith)), (λ c. elim (cases_lt k p.0) [ inl l ↦ omega arith | inr m ↦ let q = p.1.above k d m h in absurd (omega (arith, ints)) ]))
 
 taken_in : (z : Zone) (i : ℕ) (u : ℤ) (t : LocalType) → AreRising z.transitions → (k : TypeIn z i u t) → passed z.transitions k.type.leap_time ≡ take i z.transitions
-taken_in z i u t r k = passed_once z u t k.type ∙ search_found z.transitions (u +ℤ correction_at z.leaps u) i i (omega arith) (segment_at z u i r k.segment)
+taken_in z i u t r k = passed_here z u k.type.leap_time k.type.of_second
+    ∙ search_found z.transitions (u +ℤ correction_at z.leaps u) i i (omega arith) (segment_at z u i r k.segment)
 
 -- before the last transition the segment's type is in force
 pub type_before : (z : Zone) (i : ℕ) (u : ℤ) (t : LocalType) → AreRising z.transitions → TypeIn z i u t → i < length z.transitions → HasType z (index_of z.transitions i) t

@@ -6,19 +6,16 @@ use Rattle.tz_info.proofs.Words.{refl, subst, true, unsigned_abs, w64, ℤ, ◌<
 use Rattle.std.specs.Prelude.{if◌then◌else◌}
 use Rattle.tz_info.proofs.{ExtremeLaws.{at_least_least, at_most_greatest}, GapLaws.{near_type}, ZoneLaws.{type_once}}
 
--- what shows a local time of the stretch lies in the window
-shown_from : (z : Zone) (from until low high u : ℤ) (t : LocalType) → IsWindowOf z from until low high → ShowsWithin (TypeAt z) from until u t → low ≤ℤ u
-shown_from z from until low high u t w h = let g = at_most_greatest z u (from -ℤ low) t w.greatest h.type in let s = h.since in omega (arith, ints)
-
-shown_before : (z : Zone) (from until low high u : ℤ) (t : LocalType) → IsWindowOf z from until low high → ShowsWithin (TypeAt z) from until u t → u <ℤ high
-shown_before z from until low high u t w h = let g = at_least_least z u (until -ℤ high) t w.least h.type in let s = h.before in omega (arith, ints)
-
 -- ---- from run to run, until one shows such a local time
+-- what shows a local time of the stretch lies in the window
 pub all_within : (z : Zone) (from until low high : ℤ) → IsWindowOf z from until low high → AreWithin z from until low high
 all_within z from until low high w = record {
   near_low = w.near_low;
   near_high = w.near_high;
-  within = λ u t h. (shown_from z from until low high u t w h, shown_before z from until low high u t w h);
+  within = λ u t h.
+      let most = at_most_greatest z u (from -ℤ low) t w.greatest h.type in let fewest = at_least_least z u (until -ℤ high) t w.least h.type in
+      let since = h.since in let before = h.before in
+      (omega (arith, ints), omega (arith, ints));
 }
 
 pub none_left : (z : Zone) (from until low high : ℤ) → AreWithin z from until low high → high ≤ℤ low → IsNeverWithin (TypeAt z) from until
@@ -28,9 +25,8 @@ none_left z from until low high all h u t k = let w = all.within u t k in let a 
 in_run : (z : Zone) (from until start end u : ℤ) (s t : LocalType) → HaveOneTypeFrom (TypeAt z) start end t → start ≤ℤ u → u <ℤ end
     → ShowsWithin (TypeAt z) from until u s → IsWithinRun start end (from -ℤ t.offset) (until -ℤ t.offset) u
 in_run z from until start end u s t type low high h =
-    let same = type_once z u s t h.type (type u low high) in
-    let since : from ≤ℤ (u +ℤ t.offset) = subst (λ (x : LocalType). from ≤ℤ (u +ℤ x.offset)) same h.since in
-    let before : (u +ℤ t.offset) <ℤ until = subst (λ (x : LocalType). (u +ℤ x.offset) <ℤ until) same h.before in
+    let k = subst (ShowsWithin (TypeAt z) from until u) (type_once z u s t h.type (type u low high)) h in
+    let since = k.since in let before = k.before in
     record { low = low; high = high; since = omega (arith, ints); before = omega (arith, ints) }
 
 to_run : (z : Zone) (from until start end u : ℤ) (t : LocalType) → SFits w64 u → TypeAt z u t → IsWithinRun start end (from -ℤ t.offset) (until -ℤ t.offset) u → ShowsWithin (TypeAt z) from until u t
@@ -90,19 +86,19 @@ made u s v t = Some (record { first = record { at = u; local_time_type = s }; la
 the_same : (u v a b : ℤ) (s t m n : LocalType) → u ≡ v → a ≡ b → s ≡ t → m ≡ n → made u s a m ≡ made v t b n
 the_same u v a b s t m n e g h k = cc
 
-equal : (u v : ℤ) → u ≤ℤ v → v ≤ℤ u → u ≡ v
-equal u v h k = omega (arith, ints)
+-- of two seconds none comes before the other
+one_end : (z : Zone) (u v : ℤ) (s t : LocalType) → TypeAt z u s → TypeAt z v t → u ≤ℤ v → v ≤ℤ u → (u ≡ v) × (s ≡ t)
+one_end z u v s t here there h k = let same : u ≡ v = omega (arith, ints) in (same, type_once z v s t (rw same at here) there)
 
 pub one_answer : (z : Zone) (from until : ℤ) (a b : Option ShownSeconds) → AreShownWithin (TypeAt z) from until a → AreShownWithin (TypeAt z) from until b → a ≡ b
 one_answer z from until None None h k = refl
 one_answer z from until None (Some b) h k = absurd (h b.first.at b.first.local_time_type k.first.shown)
 one_answer z from until (Some a) None h k = absurd (k a.first.at a.first.local_time_type h.first.shown)
 one_answer z from until (Some a) (Some b) h k =
-    let first = equal a.first.at b.first.at (h.first.first b.first.at b.first.local_time_type k.first.shown) (k.first.first a.first.at a.first.local_time_type h.first.shown) in
-    let last = equal a.last.at b.last.at (k.last.last a.last.at a.last.local_time_type h.last.shown) (h.last.last b.last.at b.last.local_time_type k.last.shown) in
-    the_same a.first.at b.first.at a.last.at b.last.at a.first.local_time_type b.first.local_time_type a.last.local_time_type b.last.local_time_type first last
-    (type_once z b.first.at a.first.local_time_type b.first.local_time_type (subst (λ u. TypeAt z u a.first.local_time_type) first h.first.shown.type) k.first.shown.type)
-    (type_once z b.last.at a.last.local_time_type b.last.local_time_type (subst (λ u. TypeAt z u a.last.local_time_type) last h.last.shown.type) k.last.shown.type)
+    let (first, type) = one_end z a.first.at b.first.at a.first.local_time_type b.first.local_time_type h.first.shown.type k.first.shown.type (h.first.first _ _ k.first.shown) (k.first.first _ _ h.first.shown) in
+    let (last, last_type) = one_end z a.last.at b.last.at a.last.local_time_type b.last.local_time_type h.last.shown.type k.last.shown.type (k.last.last _ _ h.last.shown) (h.last.last _ _ k.last.shown) in
+    the_same a.first.at b.first.at a.last.at b.last.at
+    a.first.local_time_type b.first.local_time_type a.last.local_time_type b.last.local_time_type first last type last_type
 
 pub one_second : (z : Zone) (local u : ℤ) (t : LocalType) → ShowsWithin (TypeAt z) local (local +ℤ pos 1) u t ↔ Shows (TypeAt z) local u t
 one_second z local u t = (
@@ -119,47 +115,24 @@ own_answer z from until u t (Some s) h k = (s, refl, k.first.first u t h, k.last
 abbrev pub IsAllOf : Zone → ℤ → ℤ → LocalType → Type 0
 IsAllOf z low high t = (u : ℤ) → low ≤ℤ u → u <ℤ high → TypeAt z u t
 
--- at a second that shows a local time of the stretch
-its_type : (z : Zone) (from until greatest least u : ℤ) (s t : LocalType) → IsGreatest (offsets z.types z.rule) greatest → IsLeast (offsets z.types z.rule) least
-    → IsAllOf z (from -ℤ greatest) (until -ℤ least) t → ShowsWithin (TypeAt z) from until u s → s ≡ t
-its_type z from until greatest least u s t g l all h =
-    let a = at_most_greatest z u greatest s g h.type in
-    let b = at_least_least z u least s l h.type in
+-- a second that shows a local time of the stretch does so by that type
+by_type : (z : Zone) (from until greatest least u : ℤ) (s t : LocalType) → IsGreatest (offsets z.types z.rule) greatest → IsLeast (offsets z.types z.rule) least
+    → IsAllOf z (from -ℤ greatest) (until -ℤ least) t → ShowsWithin (TypeAt z) from until u s → ShowsWithin (TypeAt z) from until u t
+by_type z from until greatest least u s t g l all h =
+    let most = at_most_greatest z u greatest s g h.type in let fewest = at_least_least z u least s l h.type in
     let since = h.since in let before = h.before in
-    type_once z u s t h.type (all u (omega (arith, ints)) (omega (arith, ints)))
-
-shown_by : (z : Zone) (from until greatest least u : ℤ) (t : LocalType) → SFits w64 u → t.offset ≤ℤ greatest → least ≤ℤ t.offset → IsAllOf z (from -ℤ greatest) (until -ℤ least) t
-    → from ≤ℤ (u +ℤ t.offset) → (u +ℤ t.offset) <ℤ until → ShowsWithin (TypeAt z) from until u t
-shown_by z from until greatest least u t fits most fewest all since before = record { fits = fits; type = all u (omega (arith, ints)) (omega (arith, ints)); since = since; before = before }
-
-first_is : (z : Zone) (from until greatest least : ℤ) (t : LocalType) (s : ShownSeconds) → t.offset ≤ℤ greatest → least ≤ℤ t.offset → IsAllOf z (from -ℤ greatest) (until -ℤ least) t → AreEndsWithin (TypeAt z) from until s
-    → from ≤ℤ (s.first.at +ℤ t.offset) → (s.first.at +ℤ t.offset) <ℤ until → SFits w64 (from -ℤ t.offset) → s.first.at ≡ from -ℤ t.offset
-first_is z from until greatest least t s most fewest all h since before fits =
-    let shown = shown_by z from until greatest least (from -ℤ t.offset) t fits most fewest all (omega (arith, ints)) (omega (arith, ints)) in
-    let least_one = h.first.first (from -ℤ t.offset) t shown in
-    omega (arith, ints)
-
-last_is : (z : Zone) (from until greatest least : ℤ) (t : LocalType) (s : ShownSeconds) → t.offset ≤ℤ greatest → least ≤ℤ t.offset → IsAllOf z (from -ℤ greatest) (until -ℤ least) t → AreEndsWithin (TypeAt z) from until s
-    → from ≤ℤ (s.last.at +ℤ t.offset) → (s.last.at +ℤ t.offset) <ℤ until → SFits w64 ((until -ℤ t.offset) -ℤ pos 1) → (s.last.at +ℤ pos 1) ≡ until -ℤ t.offset
-last_is z from until greatest least t s most fewest all h since before fits =
-    let shown = shown_by z from until greatest least ((until -ℤ t.offset) -ℤ pos 1) t fits most fewest all (omega (arith, ints)) (omega (arith, ints)) in
-    let greatest_one = h.last.last ((until -ℤ t.offset) -ℤ pos 1) t shown in
-    omega (arith, ints)
+    subst (ShowsWithin (TypeAt z) from until u) (type_once z u s t h.type (all u (omega (arith, ints)) (omega (arith, ints)))) h
 
 pub ordinary : (z : Zone) (from until greatest least : ℤ) (t : LocalType) (s : ShownSeconds) → SFits w64 (from -ℤ t.offset) → SFits w64 ((until -ℤ t.offset) -ℤ pos 1) → IsGreatest (offsets z.types z.rule) greatest → IsLeast (offsets z.types z.rule) least
     → IsAllOf z (from -ℤ greatest) (until -ℤ least) t → AreEndsWithin (TypeAt z) from until s → (s.first.at ≡ from -ℤ t.offset) × ((s.last.at +ℤ pos 1) ≡ until -ℤ t.offset)
 ordinary z from until greatest least t s fits fits_last g l all h =
-    let first_type = its_type z from until greatest least s.first.at s.first.local_time_type t g l all h.first.shown in
-    let last_type = its_type z from until greatest least s.last.at s.last.local_time_type t g l all h.last.shown in
-    let since : from ≤ℤ (s.first.at +ℤ t.offset) = subst (λ (x : LocalType). from ≤ℤ (s.first.at +ℤ x.offset)) first_type h.first.shown.since in
-    let first_before : (s.first.at +ℤ t.offset) <ℤ until = subst (λ (x : LocalType). (s.first.at +ℤ x.offset) <ℤ until) first_type h.first.shown.before in
-    let last_since : from ≤ℤ (s.last.at +ℤ t.offset) = subst (λ (x : LocalType). from ≤ℤ (s.last.at +ℤ x.offset)) last_type h.last.shown.since in
-    let before : (s.last.at +ℤ t.offset) <ℤ until = subst (λ (x : LocalType). (s.last.at +ℤ x.offset) <ℤ until) last_type h.last.shown.before in
-    let most = at_most_greatest z s.first.at greatest t g (subst (TypeAt z s.first.at) first_type h.first.shown.type) in
-    let fewest = at_least_least z s.first.at least t l (subst (TypeAt z s.first.at) first_type h.first.shown.type) in (
-      first_is z from until greatest least t s most fewest all h since first_before fits,
-      last_is z from until greatest least t s most fewest all h last_since before fits_last,
-    )
+    let first = by_type z from until greatest least s.first.at s.first.local_time_type t g l all h.first.shown in
+    let last = by_type z from until greatest least s.last.at s.last.local_time_type t g l all h.last.shown in
+    let most = at_most_greatest z s.first.at greatest t g first.type in let fewest = at_least_least z s.first.at least t l first.type in
+    let since = first.since in let first_before = first.before in let before = last.before in
+    let low = h.first.first (from -ℤ t.offset) t (record { fits = fits; type = all _ (omega (arith, ints)) (omega (arith, ints)); since = omega (arith, ints); before = omega (arith, ints) }) in
+    let high = h.last.last ((until -ℤ t.offset) -ℤ pos 1) t (record { fits = fits_last; type = all _ (omega (arith, ints)) (omega (arith, ints)); since = omega (arith, ints); before = omega (arith, ints) }) in
+    (omega (arith, ints), omega (arith, ints))
 
 -- ---- the first second at or after a local time: that of a stretch so long that clocks can't be set forward over all of it
 to_reached : (z : Zone) (from until u : ℤ) (t : LocalType) → ShowsWithin (TypeAt z) from until u t → ShowsAtOrAfter (TypeAt z) from u t
@@ -195,9 +168,7 @@ first_reached z from until u t valid limits b h =
 
 -- ---- laws of the first second at or after a local time
 pub one_first : (z : Zone) (local u v : ℤ) (s t : LocalType) → IsFirstAtOrAfter (TypeAt z) local u s → IsFirstAtOrAfter (TypeAt z) local v t → (u ≡ v) × (s ≡ t)
-one_first z local u v s t h k =
-    let same = equal u v (h.first v t k.shown) (k.first u s h.shown) in
-    (same, type_once z v s t (subst (λ w. TypeAt z w s) same h.shown.type) k.shown.type)
+one_first z local u v s t h k = one_end z u v s t h.shown.type k.shown.type (h.first v t k.shown) (k.first u s h.shown)
 
 pub first_rises : (z : Zone) (local later u v : ℤ) (s t : LocalType) → local ≤ℤ later → IsFirstAtOrAfter (TypeAt z) local u s → IsFirstAtOrAfter (TypeAt z) later v t → u ≤ℤ v
 first_rises z local later u v s t rise h k = let reached = k.shown.reached in h.first v t (record { fits = k.shown.fits; type = k.shown.type; reached = omega (arith, ints) })
@@ -213,4 +184,4 @@ none_within z from until u v s t ordered never h k =
     let rises = first_rises z from until u v s t ordered h k in
     by_lt_z (u +ℤ s.offset) until
     (λ before. absurd (never u s (to_within z from until u s h.shown before)))
-    (λ past. equal u v rises (k.first u s (record { fits = h.shown.fits; type = h.shown.type; reached = past })))
+    (λ past. let later = k.first u s (record { fits = h.shown.fits; type = h.shown.type; reached = past }) in omega (arith, ints))

@@ -144,10 +144,8 @@ type_answers offset dst text name (Ok t) low high same h =
     let a = lt_true least_offset offset (grind (arith, ints)) in let b = named_again (designation_of text) n in
     rw (a, b) (ap (λ y. Ok y) (sym (h.2 ∙ ap (λ (m : Option (List ℕ)). record { offset = offset; dst = dst; name = m }) same)))
 type_answers offset dst text name (Err e) low high same h =
-    elim (int_lt least_offset offset && is_name_or_none (designation_of text)) as (λ b. (int_lt least_offset offset && is_name_or_none (designation_of text)) ≡ b → type_of offset dst text ≡ Err e) [
-      | true ↦ λ k.
-          let p = and_parts (int_lt least_offset offset) (is_name_or_none (designation_of text)) k in
-          let a = lt_is least_offset offset p.0 in
-          absurd (h.1 ((grind (arith, ints), high), subst IsNameOrNone (sym same) (named_is (designation_of text) p.1)))
-      | false ↦ λ k. rw k (ap (λ y. Err y) (sym (h.0 ∙ ap (λ (m : Option (List ℕ)). LocalTimeType (expected_of_type offset m)) same)))
-    ] refl
+    let bad = false_unless (int_lt least_offset offset && is_name_or_none (designation_of text)) (λ t.
+    let p = and_parts (int_lt least_offset offset) (is_name_or_none (designation_of text)) t in
+    let a = lt_is least_offset offset p.0 in
+    h.1 ((grind (arith, ints), high), subst IsNameOrNone (sym same) (named_is (designation_of text) p.1))) in
+    rw bad (ap (λ y. Err y) (sym (h.0 ∙ ap (λ (m : Option (List ℕ)). LocalTimeType (expected_of_type offset m)) same)))

@@ -1,98 +1,84 @@
 -- A walk from segment to segment: which seconds it adds, why none lies outside it, and how many transitions it reads.
 use Rattle.offset_core.specs.declared.local_result.LocalResult.TheVariants.{None as Never}
-use Rattle.tz_info.proofs.Words.{AreRising, AreUtOffsets, Bool, Counts, HasType, IsAskedLast, IsNear, IsShownIn, IsStart, IsTried, IsValid, IsWallAnswer}
-use Rattle.tz_info.proofs.Words.{IsWide, IsWindow, List, LocalResult, LocalType, None, RoseByWalk, RoseWithin, RuleAt, Shows, Some, Transition, TransitionRule}
-use Rattle.tz_info.proofs.Words.{TypeAt, TypeFrom, TypeIn, Zone, ap, arith, begin_of, come_between, cases_lt, cond, digits, false, filter, get_or}
-use Rattle.tz_info.proofs.Words.{get_or_default, index_of, inl, inr, int_le, int_lt, ints, le_true, least_time, length, lt_true, reads_more, refl, segment_of}
-use Rattle.tz_info.proofs.Words.{suc, sym, table_count, true, zero, ℕ, ℤ, [], ◌&&◌, ◌+ℤ◌, ◌+◌, ◌-ℤ◌, ◌<ℤ◌, ◌<◌, ◌∙◌, ◌∷◌, ◌≡◌, ◌≤ℤ◌, ◌≤◌}
-use Rattle.tz_info.proofs.{AnswerLaws.{Parts, same_answer}, Candidates.{Gains, gained, offset_of_rule}, ExtremeLaws.{at_least_least, at_most_greatest}}
-use Rattle.tz_info.proofs.{OnePass.{table_most}, TableSearch.{Between}, WallSegments.{leap_time_of, near_of, offset_here, rule_begun, type_of_table}}
-use Rattle.tz_info.proofs.SegmentLaws.{between_of, later_segment, segment_at, segment_here, segment_is, segment_most, segments_rise, type_from, type_in_from}
+use Rattle.tz_info.proofs.Words.{AreRising, AreUtOffsets, Bool, Counts, IsNear, IsShownIn, IsStart, IsTried, IsValid, IsWallAnswer, IsWide, IsWindow, List}
+use Rattle.tz_info.proofs.Words.{LocalResult, LocalType, None, Option, RoseByWalk, RoseWithin, RuleAt, Shows, Some, Transition, TransitionRule, TypeAt}
+use Rattle.tz_info.proofs.Words.{TypeFrom, Zone, ap, arith, begin_of, come_between, cases_lt, cond, digits, false, filter, get_or, get_or_default, index_of}
+use Rattle.tz_info.proofs.Words.{inl, inr, int_le, int_lt, ints, le_true, least_time, length, lt_true, reads_more, refl, segment_of, suc, sym, table_count}
+use Rattle.tz_info.proofs.Words.{true, none-some, zero, ℕ, ℤ, [], ⊎_elim, ◌⊎◌, ◌&&◌, ◌+ℤ◌, ◌+◌, ◌-ℤ◌, ◌<ℤ◌, ◌<◌, ◌∙◌, ◌∷◌, ◌≡◌, ◌≤ℤ◌, ◌≤◌}
+use Rattle.tz_info.proofs.{AnswerLaws.{Parts, behind_answer, same_answer}, Candidates.{offset_of_rule}, ExtremeLaws.{at_least_least, at_most_greatest}}
+use Rattle.tz_info.proofs.{TableSearch.{Between}, WallSegments.{leap_time_of, near_of, offset_here, rule_begun, type_of_table}}
+use Rattle.tz_info.proofs.SegmentLaws.{between_of, later_segment, segment_at, segment_here, segment_is, segments_rise, type_from, type_in_from}
 use Rattle.tz_info.proofs.SegmentLaws.{within_of}
+use Rattle.tz_info.specs.Steps.Walk.{IsTimeWithin}
 
--- ---- segments
--- one segment more of the table, of whose seconds at most one shows the local time
-segment_gains : (z : Zone) (l : ℤ) (i : ℕ) (x : LocalType) → IsValid z → i < table_count z → HasType z (index_of z.transitions i) x → Gains (TypeIn z i) (IsShownIn z l i) (IsShownIn z l (i + 1)) l (l -ℤ x.offset)
-segment_gains z l i x valid own has = record {
-  old = λ u t k. record { shows = k.shows; before = let b = k.before in omega arith };
-  new = λ t k. record { shows = record { fits = k.fits; type = k.type.type; shown = k.shown }; before = let e = k.type.segment in omega arith };
-  only = λ u t k. elim (cases_lt (segment_of z u) i) [
-    | inl h ↦ inl (record { shows = k.shows; before = h })
-    | inr h ↦
-        let e : segment_of z u ≡ i = let b = k.before in omega arith in
-        let o = offset_here z i u t x valid own has e k.shows.type in
-        let shown = k.shows.shown in
-        inr (omega (arith, ints), record { fits = k.shows.fits; type = record { type = k.shows.type; segment = e }; shown = shown })
-  ];
-  behind = λ t k u f h. later_segment z u (l -ℤ x.offset) valid (let b = h.before in let e = k.type.segment in omega arith);
-}
+-- ---- one segment more
+-- the next transition comes at `until`, or there is none
+abbrev pub IsNextAt : Zone → ℕ → Option ℤ → Type 0
+IsNextAt z i until = ((d : Transition) × (i < length z.transitions) × (until ≡ Some (get_or z.transitions i d).unix_leap_time)) ⊎ ((i ≡ length z.transitions) × (until ≡ None))
 
--- ---- what was tried
--- the test is whether the leap time lies in the segment
-pub record Tests (z : Zone) (i : ℕ) (within : ℤ → Type 0) : Type 0 where
-  pub to : (x : ℤ) → within x → Between z.transitions x i i
-  pub from : (x : ℤ) → least_time ≤ℤ x → Between z.transitions x i i → within x
+-- from the segment's begin on, and before the next transition, the leap times are those of its seconds
+tested : (z : Zone) (i : ℕ) (since x : ℤ) (until : Option ℤ) → AreRising z.transitions → i ≤ length z.transitions → since ≡ begin_of z.transitions i → IsNextAt z i until
+    → (IsTimeWithin since until x → Between z.transitions x i i) × (least_time ≤ℤ x → Between z.transitions x i i → IsTimeWithin since until x)
+tested z i since x until r w b (inl (d, h, e)) = (
+  λ t. between_of z.transitions i x r w (record { since = rw b at t.from; until = λ f l. rw (get_or_default z.transitions i f d l) (t.before _ e) }),
+  λ f t. let k = within_of z.transitions i x f t in record { from = rw b k.since; before = λ end is. let same : (get_or z.transitions i d).unix_leap_time ≡ end = cc in rw same at (k.until d h) },
+)
+tested z i since x until r w b (inr (h, e)) = (
+  λ t. between_of z.transitions i x r w (record { since = rw b at t.from; until = λ d l. absurd (omega arith) }),
+  λ f t. record { from = rw b (within_of z.transitions i x f t).since; before = λ end is. absurd (none-some end (sym e ∙ is)) },
+)
 
-tried_asked : (z : Zone) (l : ℤ) (i : ℕ) (within : ℤ → Type 0) (before after : LocalResult LocalType) → IsValid z → i < table_count z → Tests z i within → (k : IsTried z l (index_of z.transitions i) within before after) → IsAskedLast (TypeIn z i) l k.type.offset before after
-tried_asked z l i within before after valid own tests k = elim k.tried [
-  | inl h ↦ inr (k.type, record { fits = k.candidate.fits; type = type_of_table z i (l -ℤ k.type.offset) k.leap_time k.type own k.candidate.of_second (tests.to k.leap_time h.0) k.candidate.listed; shown = omega (arith, ints) }, h.1)
-  | inr h ↦ inl (h.1, λ t s. h.0 (tests.from k.leap_time k.candidate.leap_fits (rw (sym k.candidate.of_second.sum) at (segment_at z (l -ℤ k.type.offset) i valid.transitions.rising s.type.segment))))
-]
-
-tried_segment : (z : Zone) (l : ℤ) (i : ℕ) (within : ℤ → Type 0) (before after : LocalResult LocalType) → IsValid z → i < table_count z → Tests z i within → IsTried z l (index_of z.transitions i) within before after → IsWallAnswer (IsShownIn z l i) before → IsWallAnswer (IsShownIn z l (i + 1)) after
-tried_segment z l i within before after valid own tests k s =
-    gained (TypeIn z i) (IsShownIn z l i) (IsShownIn z l (i + 1)) l k.type.offset before after (segment_gains z l i k.type valid own k.candidate.listed) s (tried_asked z l i within before after valid own tests k)
-
-pub tested_before : (z : Zone) (i : ℕ) (since until : ℤ) (d : Transition) → AreRising z.transitions → i < length z.transitions → since ≡ begin_of z.transitions i → until ≡ (get_or z.transitions i d).unix_leap_time → Tests z i (λ x. (since ≤ℤ x) × (x <ℤ until))
-tested_before z i since until d r h b e = record {
-  to = λ x w. between_of z.transitions i x r (omega arith) (record {
-    since = rw b at w.0;
-    until = λ f l. let same = ap (λ (t : Transition). t.unix_leap_time) (get_or_default z.transitions i f d l) in let g = w.1 in omega (arith, ints);
-  });
-  from = λ x f w. let k = within_of z.transitions i x f w in (rw b k.since, rw e (k.until d h));
-}
-
-pub tested_last : (z : Zone) (since : ℤ) → AreRising z.transitions → since ≡ begin_of z.transitions (length z.transitions) → Tests z (length z.transitions) (λ x. since ≤ℤ x)
-tested_last z since r b = record {
-  to = λ x w. between_of z.transitions (length z.transitions) x r (omega arith) (record { since = rw b at w; until = λ d l. absurd (omega arith) });
-  from = λ x f w. rw b ((within_of z.transitions (length z.transitions) x f w).since);
-}
-
--- a segment before the last transition was tried
-pub tried_before : (z : Zone) (l : ℤ) (i : ℕ) (since until : ℤ) (d : Transition) (before after : LocalResult LocalType) → IsValid z → i < length z.transitions → since ≡ begin_of z.transitions i → until ≡ (get_or z.transitions i d).unix_leap_time
-    → IsTried z l (index_of z.transitions i) (λ x. (since ≤ℤ x) × (x <ℤ until)) before after → IsWallAnswer (IsShownIn z l i) before → IsWallAnswer (IsShownIn z l (i + 1)) after
-tried_before z l i since until d before after valid h b e k s =
-    let table = table_most z in
-    tried_segment z l i (λ x. (since ≤ℤ x) × (x <ℤ until)) before after valid (omega arith) (tested_before z i since until d valid.transitions.rising h b e) k s
-
--- the last segment was, where there is no rule
-pub tried_last : (z : Zone) (l since : ℤ) (before after : LocalResult LocalType) → IsValid z → z.rule ≡ None → since ≡ begin_of z.transitions (length z.transitions)
-    → IsTried z l (index_of z.transitions (length z.transitions)) (λ x. since ≤ℤ x) before after → IsWallAnswer (IsShownIn z l (length z.transitions)) before → IsWallAnswer (IsShownIn z l (length z.transitions + 1)) after
-tried_last z l since before after valid none b k s =
-    let table : table_count z ≡ suc (length z.transitions) = rw none refl in
-    tried_segment z l (length z.transitions) (λ x. since ≤ℤ x) before after valid (omega arith) (tested_last z since valid.transitions.rising b) k s
+-- one segment more of the table was tried, of whose seconds at most one shows the local time
+pub tried_segment : (z : Zone) (l : ℤ) (i : ℕ) (since : ℤ) (until : Option ℤ) (before after : LocalResult LocalType) → IsValid z → i ≤ length z.transitions → i < table_count z → since ≡ begin_of z.transitions i
+    → IsNextAt z i until → IsTried z l (index_of z.transitions i) since until before after → IsWallAnswer (IsShownIn z l i) before → IsWallAnswer (IsShownIn z l (i + 1)) after
+tried_segment z l i since until before after valid inside own begin next k s =
+    let rising = valid.transitions.rising in
+    let c : ℤ = l -ℤ k.type.offset in
+    let test = tested z i since k.leap_time until rising inside begin next in
+    let old : (u : ℤ) (f : LocalType) → IsShownIn z l i u f → IsShownIn z l (i + 1) u f =
+    λ u f h. record { shows = h.shows; from = omega arith; below = let b = h.below in omega arith } in
+    let only : (u : ℤ) (f : LocalType) → IsShownIn z l (i + 1) u f → IsShownIn z l i u f ⊎ ((u ≡ c) × (segment_of z u ≡ i)) = λ u f h. ⊎_elim
+    (λ m. inl (record { shows = h.shows; from = omega arith; below = m }))
+    (λ m.
+    let e : segment_of z u ≡ i = let b = h.below in omega arith in
+    let o = offset_here z i u f k.type valid own k.candidate.listed e h.shows.type in
+    let shown = h.shows.shown in
+    inr (omega (arith, ints), e))
+    (cases_lt (segment_of z u) i) in
+    ⊎_elim
+    (λ h.
+    let there = type_of_table z i c k.leap_time k.type own k.candidate.of_second (test.0 h.0) k.candidate.listed in
+    let here = there.segment in
+    rw h.1 (behind_answer (IsShownIn z l i) (IsShownIn z l (i + 1)) c k.type before old (λ u f m. ⊎_elim (λ a. inl a) (λ a. inr a.0) (only u f m))
+    (record { shows = record { fits = k.candidate.fits; type = there.type; shown = omega (arith, ints) }; from = omega arith; below = omega arith })
+    (λ u f m. later_segment z u c valid (let b = m.below in omega arith)) s))
+    (λ h. rw h.1 (same_answer (IsShownIn z l i) (IsShownIn z l (i + 1)) before old (λ u f m. ⊎_elim (λ a. a)
+    (λ a. absurd (h.0 (test.1 k.candidate.leap_fits (rw (sym k.candidate.of_second.sum) at (segment_at z c i rising (rw a.0 at a.1)))))) (only u f m)) s))
+    k.tried
 
 -- ---- the rule behind the last transition
 -- from `start` on the zone's types are the rule's, and before it those of the segments before the last one
 pub with_rule : (z : Zone) (rule : TransitionRule) (start l : ℤ) → IsValid z → z.rule ≡ Some rule → IsStart z.transitions z.leaps (length z.transitions) start → IsWide l → AreUtOffsets rule
     → Parts (IsShownIn z l (length z.transitions)) (Shows (TypeFrom rule start) l) (IsShownIn z l (length z.transitions + 1))
 with_rule z rule start l valid is begun wide offsets = record {
-  first = λ u t k. record { shows = k.shows; before = let b = k.before in omega arith };
+  first = λ u t k. record { shows = k.shows; from = omega arith; below = let b = k.below in omega arith };
   last = λ u t k.
       let near = near u t k.type.type k.shown in
       let there = (rule_begun z u start valid near begun).1 k.type.since in
       let time = leap_time_of z u valid near in
       let b : Between z.transitions time.0 (length z.transitions) (length z.transitions) = rw (sym time.1.sum) at (segment_at z u (length z.transitions) valid.transitions.rising there) in
       let type = type_in_from z u time.0 t time.1 b (rw is k.type.type) in
-      record { shows = record { fits = k.fits; type = type.type; shown = k.shown }; before = omega arith };
+      record { shows = record { fits = k.fits; type = type.type; shown = k.shown }; from = omega arith; below = omega arith };
   all = λ u t k. elim (cases_lt (segment_of z u) (length z.transitions)) [
-    | inl h ↦ inl (record { shows = k.shows; before = h })
+    | inl h ↦ inl (record { shows = k.shows; from = omega arith; below = h })
     | inr h ↦
-        let there : segment_of z u ≡ length z.transitions = let b = k.before in omega arith in
+        let there : segment_of z u ≡ length z.transitions = let b = k.below in omega arith in
         let type = rw is at (type_from z u t valid.transitions.rising (record { type = k.shows.type; segment = there })) in
         inr (record { fits = k.shows.fits; type = record { type = type; since = (rule_begun z u start valid (near u t type k.shows.shown) begun).0 there }; shown = k.shows.shown })
   ];
-  order = λ u v s t a b. later_segment z u v valid (let less = a.before in let there = (rule_begun z v start valid (near v t b.type.type b.shown) begun).1 b.type.since in omega arith);
+  order = λ u v s t a b. later_segment z u v valid (
+      let less = a.below in
+      let there = (rule_begun z v start valid (near v t b.type.type b.shown) begun).1 b.type.since in omega arith);
 } where
   near : (u : ℤ) (t : LocalType) → RuleAt rule u t → u +ℤ t.offset ≡ l → IsNear u
   near u t k e = let n = near_of l t.offset wide (offsets t.offset (offset_of_rule rule u t k)) in let g : l -ℤ t.offset ≡ u = omega (arith, ints) in rw g at n
@@ -105,23 +91,19 @@ none_before z l low high n valid w b = λ u t k.
     let g : (l -ℤ w.greatest) ≤ℤ u = omega (arith, ints) in
     let r = segments_rise z (l -ℤ w.greatest) u valid.transitions.rising valid.leaps g in
     let e = segment_is z (l -ℤ w.greatest) n (rw w.is_low.sum at b) in
-    let i = k.before in
+    let i = k.below in
     absurd (omega arith)
 
-pub none_behind : (z : Zone) (l low high : ℤ) (n : ℕ) (d : Transition) (answer : LocalResult LocalType) → IsValid z → IsWindow z l low high → n < length z.transitions → high <ℤ (get_or z.transitions n d).unix_leap_time → IsWallAnswer (IsShownIn z l (n + 1)) answer → IsWallAnswer (Shows (TypeAt z) l) answer
-none_behind z l low high n d answer valid w h later s = same_answer (IsShownIn z l (n + 1)) (Shows (TypeAt z) l) answer (λ u t k. k.shows) (λ u t k.
-    let o = at_least_least z u w.least t w.is_least k.type in
-    let e = k.shown in
-    let g : u ≤ℤ (l -ℤ w.least) = omega (arith, ints) in
-    let r = segments_rise z u (l -ℤ w.least) valid.transitions.rising valid.leaps g in
+-- a second that shows the local time by the least offset or a greater one lies at or before a transition's segment that comes after the window
+pub window_most : (z : Zone) (l low high : ℤ) (n : ℕ) (d : Transition) (u o : ℤ) → IsValid z → (w : IsWindow z l low high) → n < length z.transitions → high <ℤ (get_or z.transitions n d).unix_leap_time → w.least ≤ℤ o → u +ℤ o ≡ l → segment_of z u ≤ n
+window_most z l low high n d u o valid w h later least e =
+    let r = segments_rise z u (l -ℤ w.least) valid.transitions.rising valid.leaps (omega (arith, ints)) in
     let sum = w.is_high.sum in
-    elim (cases_lt n (segment_of z (l -ℤ w.least))) [
-      | inl m ↦ let q = (segment_here z (l -ℤ w.least) valid.transitions.rising).below n d m in absurd (omega (arith, ints))
-      | inr m ↦ record { shows = k; before = omega arith }
-    ]) s
+    ⊎_elim (λ m. let q = (segment_here z (l -ℤ w.least) valid.transitions.rising).below n d m in absurd (omega (arith, ints))) (λ m. omega arith) (cases_lt n (segment_of z (l -ℤ w.least)))
 
-pub all_segments : (z : Zone) (l : ℤ) (answer : LocalResult LocalType) → AreRising z.transitions → IsWallAnswer (IsShownIn z l (length z.transitions + 1)) answer → IsWallAnswer (Shows (TypeAt z) l) answer
-all_segments z l answer r s = same_answer (IsShownIn z l (length z.transitions + 1)) (Shows (TypeAt z) l) answer (λ u t k. k.shows) (λ u t k. record { shows = k; before = let m = segment_most z u r in omega arith }) s
+pub none_behind : (z : Zone) (l low high : ℤ) (n : ℕ) (d : Transition) (answer : LocalResult LocalType) → IsValid z → IsWindow z l low high → n < length z.transitions → high <ℤ (get_or z.transitions n d).unix_leap_time → IsWallAnswer (IsShownIn z l (n + 1)) answer → IsWallAnswer (Shows (TypeAt z) l) answer
+none_behind z l low high n d answer valid w h later s = same_answer (IsShownIn z l (n + 1)) (Shows (TypeAt z) l) answer (λ u t k. k.shows)
+    (λ u t k. record { shows = k; from = omega arith; below = let most = window_most z l low high n d u t.offset valid w h later (at_least_least z u w.least t w.is_least k.type) k.shown in omega arith }) s
 
 -- ---- counts
 kept_more : {X : Type 0} (b : Bool) (x : X) (ys : List X) → length ys ≤ length (cond b (x ∷ ys) ys)

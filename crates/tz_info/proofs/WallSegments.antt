@@ -3,15 +3,16 @@ use Rattle.offset_core.specs.declared.local_result.LocalResult.TheVariants.{Ambi
 use Rattle.tz_info.proofs.Words.{AreBelow, AreInOrder, AreListed, ArePieces, AreRising, HasType, HaveComeFrom, IsCutFrom, IsIndex, IsLastSecondBefore}
 use Rattle.tz_info.proofs.Words.{IsLeapTime, IsMerged, IsNear, IsReachedFrom, IsShownAmong, IsShownIn, IsStart, IsTypeBefore, IsUtOffset, IsValid, IsWallAnswer}
 use Rattle.tz_info.proofs.Words.{IsWide, LeapSecond, List, ListedAmong, LocalResult, LocalType, None as none, Option, Piece, Shown, ShownAmong, Shows}
-use Rattle.tz_info.proofs.Words.{Some as some, Transition, TransitionRule, TypeAt, TypeIn, Zone, all_pairs_push, ap, arith, by_lt_z, cases_lt, closing, false}
-use Rattle.tz_info.proofs.Words.{get_or, index_of, inl, inr, ints, le_false, le_true, length, nat_lt, nat_tests, neg_ℤ, pos, refl, segment_of, subst, suc, sym}
-use Rattle.tz_info.proofs.Words.{table_count, table_count_by, together, true, shown_indexes, zero, ℕ, ℤ, [], ⊎_elim, ◌+ℤ◌, ◌-ℤ◌, ◌-◌, ◌<ℤ◌, ◌<◌, ◌↔◌, ◌∷◌, ◌≡◌}
+use Rattle.tz_info.proofs.Words.{Some as some, Transition, TransitionRule, TypeAt, TypeIn, Zone, all_pairs_push, ap, arith, by_lt_z, cases_lt}
+use Rattle.tz_info.proofs.Words.{get_or, index_of, inl, inr, ints, le_false, le_true, length, nat_tests, neg_ℤ, pos, refl, segment_of, subst, suc, sym}
+use Rattle.tz_info.proofs.Words.{table_count, table_count_by, together, shown_indexes, zero, ℕ, ℤ, [], ⊎_elim, ◌+ℤ◌, ◌+◌, ◌-ℤ◌, ◌-◌, ◌<ℤ◌, ◌<◌, ◌↔◌, ◌∷◌, ◌≡◌}
 use Rattle.tz_info.proofs.Words.{◌≤ℤ◌, ◌≤◌, ◌⊎◌}
 use Rattle.tz_info.specs.declared.zone.shown.Shown.TheVariants.{Less, Once, Skipped}
-use Rattle.tz_info.proofs.{AnswerLaws.{Parts, joined_answer, same_answer}, LeapOrder.{leap_times_answer}, LeapStarts.{saturated, saturated_rise}}
+use Rattle.tz_info.proofs.{AnswerLaws.{Parts, joined_answer, same_answer}, LeapOrder.{leap_times_answer}, LeapStarts.{both_ways, saturated, saturated_rise}}
 use Rattle.tz_info.proofs.SegmentLaws.{come_at_time, come_by_time, later_segment, segment_at, segment_most, segments_rise, type_before, type_from}
 use Rattle.tz_info.proofs.SegmentLaws.{type_in_before, type_in_from}
-use Rattle.tz_info.proofs.{ShownLaws.{side_together, wall_together}, TableSearch.{Between}, ZoneLaws.{leap_time_decided, listed_inside}}
+use Rattle.std.proofs.lemmas.Option.{slice_get_within}
+use Rattle.tz_info.proofs.{ShownLaws.{side_together, wall_together}, TableSearch.{Between}, ZoneLaws.{leap_time_decided}}
 
 -- ---- two neighbouring sets of segments
 
@@ -94,8 +95,7 @@ start_found ts leaps zero d s rising later h reached = absurd (omega arith)
 start_found ts leaps (suc k) d s rising later h reached = λ u x near l.
     let one : suc k - 1 ≡ k = omega arith in
     let r = rw one at (reached u x near l) in
-    let q = come_by_time ts x k d rising h in
-    ((λ c. r.0 (q.0 c)), (λ c. q.1 (r.1 c)))
+    both_ways (come_by_time ts x k d rising h) (r.1, r.0)
 
 pub cut_from : (z : Zone) (count : ℕ) (o cut : ℤ) → IsUtOffset o → IsCutFrom z count o cut → HaveComeFrom z.transitions z.leaps count o cut
 cut_from z count o cut offset c = λ l x wide time.
@@ -108,17 +108,11 @@ cut_from z count o cut offset c = λ l x wide time.
 cut_begun : (z : Zone) (count : ℕ) (l o cut : ℤ) → IsValid z → IsUtOffset o → IsWide l → IsCutFrom z count o cut → (count ≤ segment_of z (l -ℤ o)) ↔ (cut ≤ℤ l)
 cut_begun z count l o cut valid offset wide c =
     let time = leap_time_of z (l -ℤ o) valid (near_of l o wide offset) in
-    let come = come_at_time z (l -ℤ o) time.0 time.1 in
-    let r = cut_from z count o cut offset c l time.0 wide time.1 in
-    ((λ h. r.0 (omega arith)), (λ h. let g = r.1 h in omega arith))
+    rw (come_at_time z (l -ℤ o) time.0 time.1) at (cut_from z count o cut offset c l time.0 wide time.1)
 
 -- of the near seconds, those from the start on lie in the segment or in a later one
 pub begun : (z : Zone) (k : ℕ) (s u : ℤ) → IsValid z → IsStart z.transitions z.leaps k s → IsNear u → (k ≤ segment_of z u) ↔ (s ≤ℤ u)
-begun z k s u valid start near =
-    let time = leap_time_of z u valid near in
-    let come = come_at_time z u time.0 time.1 in
-    let r = start u time.0 near time.1 in
-    ((λ h. r.0 (omega arith)), (λ h. let g = r.1 h in omega arith))
+begun z k s u valid start near = let time = leap_time_of z u valid near in rw (come_at_time z u time.0 time.1) at (start u time.0 near time.1)
 
 -- and those before it in an earlier one
 pub not_begun : (z : Zone) (k : ℕ) (s u : ℤ) → IsValid z → IsStart z.transitions z.leaps k s → IsNear u → (segment_of z u < k) ↔ (u <ℤ s)
@@ -166,7 +160,7 @@ type_latest z place latest i next valid less within is below end all earlier = r
 
 -- that of a segment with a second, before the next
 pub type_own : (z : Zone) (k i : ℕ) (t : LocalType) (next : ℤ) → IsValid z → k < length z.transitions → i ≡ index_of z.transitions k → HasType z i t → IsStart z.transitions z.leaps (suc k) next → (0 < k → (s : ℤ) × IsStart z.transitions z.leaps k s × (s <ℤ next)) → IsTypeBefore z (suc k) i
-type_own z k i t next valid n is has end earlier = type_latest z (suc k) k i next valid (omega arith) (omega arith) is (listed_inside z.types i t has) end (λ u last. let b = last.before in omega arith) earlier
+type_own z k i t next valid n is has end earlier = type_latest z (suc k) k i next valid (omega arith) (omega arith) is (slice_get_within z.types i t has) end (λ u last. let b = last.before in omega arith) earlier
 
 -- ---- what one segment shows
 -- where the local time lies between the segment's cuts, it shows it once
@@ -235,20 +229,8 @@ shown_before z k x l a t valid own inner has offset wide cut h first before =
 
 -- ---- the pieces of one segment
 
-none_ordered : AreInOrder []
-none_ordered i j d k l = absurd (omega arith)
-
-one_ordered : (p : Piece) → AreInOrder (p ∷ [])
-one_ordered p i j d k l = absurd (omega arith)
-
 piece_list_ordered : (p q : Piece) → p.start ≤ℤ q.start → AreInOrder (p ∷ q ∷ [])
-piece_list_ordered p q h = all_pairs_push (λ (a b : Piece). a.start ≤ℤ b.start) (p ∷ []) q (one_ordered p) (λ k d l. let z : k ≡ 0 = omega arith in rw z h)
-
-closing_below : (n k : ℕ) → k < n → closing n (suc k) ≡ 0
-closing_below n k h = let t : nat_lt n (suc k) ≡ false = grind (arith, nat_tests) in rw t refl
-
-closing_last : (n k : ℕ) → k ≡ n → closing n (suc k) ≡ 1
-closing_last n k h = let t : nat_lt n (suc k) ≡ true = grind (arith, nat_tests) in rw t refl
+piece_list_ordered p q h = all_pairs_push (λ (a b : Piece). a.start ≤ℤ b.start) (p ∷ []) q (search arith) (λ k d l. let z : k ≡ 0 = omega arith in rw z h)
 
 abbrev pub piece : ℤ → Shown → Piece
 piece start answer = record { start = start; answer = answer }
@@ -256,8 +238,8 @@ piece start answer = record { start = start; answer = answer }
 -- the only segment of a zone without transitions
 pub only_pieces : (z : Zone) (i : ℕ) (t : LocalType) → IsValid z → 0 < table_count z → length z.transitions ≡ 0 → i ≡ index_of z.transitions 0 → HasType z i t → IsUtOffset t.offset → ArePieces z 0 1 (Once i) []
 only_pieces z i t valid own n of has offset = record {
-  ordered = none_ordered;
-  most = rw (closing_last (length z.transitions) 0 (sym n)) (omega arith);
+  ordered = search arith;
+  most = grind (arith, nat_tests);
   some = λ e k. absurd (omega arith);
   answers = λ l wide. shown_inside z 0 l l l i t valid own of has offset wide (λ h. absurd (omega arith)) (λ h. absurd (omega arith));
 }
@@ -265,8 +247,8 @@ only_pieces z i t valid own n of has offset = record {
 -- the first segment, which has no start
 pub first_pieces : (z : Zone) (b : ℤ) (i : ℕ) (t : LocalType) → IsValid z → 0 < table_count z → 0 < length z.transitions → i ≡ index_of z.transitions 0 → HasType z i t → IsUtOffset t.offset → IsCutFrom z 1 t.offset b → ArePieces z 0 1 (Once i) (piece b (Less i) ∷ [])
 first_pieces z b i t valid own n of has offset end = record {
-  ordered = one_ordered (piece b (Less i));
-  most = rw (closing_below (length z.transitions) 0 n) (omega arith);
+  ordered = search arith;
+  most = grind (arith, nat_tests);
   some = λ e k. omega arith;
   answers = λ l wide. by_lt_z l b
       (λ before. rw (le_false b l before) (shown_inside z 0 l l b i t valid own of has offset wide (λ h. absurd (omega arith)) (λ h. (end, before))))
@@ -278,8 +260,8 @@ pub last_pieces : (z : Zone) (k x : ℕ) (a : ℤ) (i : ℕ) (t : LocalType) →
     → ArePieces z k (suc k) (Skipped (record { place = k; before = x })) (piece a (Once i) ∷ [])
 last_pieces z zero x a i t valid own later n of has offset from before = absurd (omega arith)
 last_pieces z (suc k) x a i t valid own later n of has offset start earlier = record {
-  ordered = one_ordered (piece a (Once i));
-  most = rw (closing_last (length z.transitions) (suc k) n) (omega arith);
+  ordered = search arith;
+  most = grind (arith, nat_tests);
   some = λ e k. omega arith;
   answers = λ l wide. by_lt_z l a
       (λ before. rw (le_false a l before) (shown_before z (suc k) x l a t valid own later (rw of at has) offset wide start before (λ u last. let most = segment_most z (u +ℤ pos 1) valid.transitions.rising in let f = last.from in omega arith) earlier))
@@ -294,7 +276,7 @@ inner_pieces z (suc k) x a b i t valid own later n of has offset start end less 
     let order : a ≤ℤ b = rw (start.shown, end.shown) (saturated_rise (start.second +ℤ t.offset) (end.second +ℤ t.offset) (omega (arith, ints))) in
     record {
       ordered = piece_list_ordered (piece a (Once i)) (piece b (Less i)) order;
-      most = rw (closing_below (length z.transitions) (suc k) n) (omega arith);
+      most = grind (arith, nat_tests);
       some = λ e k. omega arith;
       answers = λ l wide. by_lt_z l a
           (λ before. rw (le_false a l before, le_false b l (omega (arith, ints))) (shown_before z (suc k) x l a t valid own later (rw of at has) offset wide start before (first_inner z (suc k) start.second end.second valid start.is_start end.is_start less) earlier))
@@ -308,8 +290,8 @@ pub empty_pieces : (z : Zone) (k x : ℕ) (s next : ℤ) (i : ℕ) (t : LocalTyp
     → next ≤ℤ s → IsTypeBefore z (suc k) x → ArePieces z k (suc k) (Less x) []
 empty_pieces z zero x s next i t valid own later n of has offset start end h before = absurd (omega arith)
 empty_pieces z (suc k) x s next i t valid own later n of has offset start end h before = record {
-  ordered = none_ordered;
-  most = rw (closing_below (length z.transitions) (suc k) n) (omega arith);
+  ordered = search arith;
+  most = grind (arith, nat_tests);
   some = λ e k. absurd (omega arith);
   answers = λ l wide. record {
     wall = λ v j m. let e = second_of z (suc k) l v m.local_type t valid own (rw of at has) m.shown in none z (suc k) s next v valid start end h (rw e (near_of l t.offset wide offset)) m.shown.from m.shown.below;
@@ -332,12 +314,12 @@ pub no_pieces_by_rule : (z : Zone) (rule : TransitionRule) (i : ℕ) (t : LocalT
 no_pieces_by_rule z rule i t n e has = record {
   most = omega arith;
   some = λ k. absurd (omega arith);
-  order = none_ordered;
+  order = search arith;
   answers = λ l wide.
       let r : table_count z ≡ 0 = rw e n in
       rw r (record {
         wall = λ u j h. let b = h.shown.below in absurd (omega arith);
-        side = ((λ u f near from below here. absurd (omega arith)), record { below = listed_inside z.types i t has; type = λ u f last here. let b = last.before in absurd (omega arith) });
+        side = ((λ u f near from below here. absurd (omega arith)), record { below = slice_get_within z.types i t has; type = λ u f last here. let b = last.before in absurd (omega arith) });
       });
   rule_from = none_index z (neg_ℤ (pos 9_223_372_036_854_775_808)) n (omega (arith, ints));
 }
@@ -349,7 +331,7 @@ no_pieces_by_type z i t valid n e of has offset =
     record {
       most = omega arith;
       some = λ k. absurd (omega arith);
-      order = none_ordered;
+      order = search arith;
       answers = λ l wide. rw r (p.answers l wide);
       rule_from = none_index z (neg_ℤ (pos 9_223_372_036_854_775_808)) n (omega (arith, ints));
     }
@@ -358,8 +340,8 @@ no_pieces_by_type z i t valid n e of has offset =
 
 pub indexes_below : (z : Zone) (low high : ℕ) (l : ℤ) (a : LocalResult ℕ) → IsWallAnswer (ListedAmong z low high l) a → AreBelow (length z.types) a
 indexes_below z low high l None h = tt
-indexes_below z low high l (Single i) h = listed_inside z.types i h.shown.local_type h.shown.listed
-indexes_below z low high l (Ambiguous i j) h = (listed_inside z.types i h.at_first.local_type h.at_first.listed, listed_inside z.types j h.at_last.local_type h.at_last.listed)
+indexes_below z low high l (Single i) h = slice_get_within z.types i h.shown.local_type h.shown.listed
+indexes_below z low high l (Ambiguous i j) h = (slice_get_within z.types i h.at_first.local_type h.at_first.listed, slice_get_within z.types j h.at_last.local_type h.at_last.listed)
 
 -- each second of the table has a listed type
 listed_of : (z : Zone) (l u : ℤ) (t : LocalType) → IsValid z → ShownAmong z 0 (table_count z) l u t → (i : ℕ) × ListedAmong z 0 (table_count z) l u i
@@ -387,23 +369,17 @@ typed_answer z l _ _ valid e h = absurd e
 
 -- ---- the table, and what comes behind it
 
+-- the first segments that are all of them
+pub all_segments : (z : Zone) (l : ℤ) (answer : LocalResult LocalType) → AreRising z.transitions → IsWallAnswer (IsShownIn z l (length z.transitions + 1)) answer → IsWallAnswer (Shows (TypeAt z) l) answer
+all_segments z l answer r = same_answer (IsShownIn z l (length z.transitions + 1)) (Shows (TypeAt z) l) answer (λ u t k. k.shows) (λ u t k. record { shows = k; from = omega arith; below = let m = segment_most z u r in omega arith })
+
 -- without a rule the table has all seconds
 pub table_alone : (z : Zone) (l : ℤ) (a : LocalResult LocalType) → IsValid z → z.rule ≡ none → IsWallAnswer (ShownAmong z 0 (table_count z) l) a → IsWallAnswer (Shows (TypeAt z) l) a
-table_alone z l a valid e h =
-    let r : table_count z ≡ suc (length z.transitions) = rw e refl in
-    same_answer (ShownAmong z 0 (suc (length z.transitions)) l) (Shows (TypeAt z) l) a
-    (λ u t k. k.shows)
-    (λ u t k. record { shows = k; from = omega arith; below = let m = segment_most z u valid.transitions.rising in omega arith })
-    (rw r at h)
+table_alone z l a valid e h = let r : table_count z ≡ length z.transitions + 1 = rw e (omega arith) in all_segments z l a valid.transitions.rising (rw r at h)
 
 -- with one, those before the last transition
 pub table_first : (z : Zone) (rule : TransitionRule) (l : ℤ) (a : LocalResult LocalType) → z.rule ≡ some rule → IsWallAnswer (ShownAmong z 0 (table_count z) l) a → IsWallAnswer (IsShownIn z l (length z.transitions)) a
-table_first z rule l a e h =
-    let r : table_count z ≡ length z.transitions = rw e refl in
-    same_answer (ShownAmong z 0 (length z.transitions) l) (IsShownIn z l (length z.transitions)) a
-    (λ u t k. record { shows = k.shows; before = k.below })
-    (λ u t k. record { shows = k.shows; from = omega arith; below = k.before })
-    (rw r at h)
+table_first z rule l a e h = let r : table_count z ≡ length z.transitions = rw e refl in rw r at h
 
 -- and the others come from the rule's beginning on
 pub rule_begun : (z : Zone) (u s : ℤ) → IsValid z → IsNear u → IsStart z.transitions z.leaps (length z.transitions) s → (segment_of z u ≡ length z.transitions) ↔ (s ≤ℤ u)

@@ -1,8 +1,9 @@
 -- Every wall clock has an answer.
 use Rattle.offset_core.specs.declared.local_result.LocalResult.TheVariants.{None, Single}
-use Rattle.tz_info.proofs.Words.{FitsSigned, IsRuleOrNone, IsValid, IsWallAnswer, LocalResult, LocalType, Shows, TypeAt, Zone, arith, by_lt_z, inl, inr, ints}
-use Rattle.tz_info.proofs.Words.{joined, neg_ℤ, pos, subst, suc, w64, zero, ℕ, ℤ, ◌+ℤ◌, ◌<ℤ◌, ◌≡◌, ◌≤ℤ◌, ◌⊎◌}
-use Rattle.tz_info.proofs.{AnswerLaws.{behind_answer, same_answer}, ZoneLaws.{fits_or_not, type_decided, type_not_refused, type_once}}
+use Rattle.tz_info.proofs.Words.{IsRuleOrNone, IsValid, IsWallAnswer, LocalResult, LocalType, Shows, TypeAt, Zone, arith, by_lt_z, inl, inr, ints}
+use Rattle.tz_info.proofs.Words.{joined, neg_ℤ, pos, subst, suc, zero, ℕ, ℤ, ◌+ℤ◌, ◌<ℤ◌, ◌≡◌, ◌≤ℤ◌, ◌⊎◌}
+use Rattle.tz_info.proofs.{AnswerLaws.{behind_answer, same_answer}, ListFaults.{both_known, equal_known}}
+use Rattle.tz_info.proofs.ZoneLaws.{fits_or_not, type_decided, type_not_refused, type_once}
 
 -- each second shows a type, or shows none
 abbrev IsDecided : (ℤ → LocalType → Type 0) → Type 0
@@ -32,19 +33,10 @@ answer_before p decided start none (suc n) =
       )
     ]
 
-same_or_not : (a b : ℤ) → (a ≡ b) ⊎ (a ≡ b → ⊥)
-same_or_not a b = by_lt_z a b (λ l. inr (λ e. absurd (omega (arith, ints, l, e)))) (λ g. by_lt_z b a (λ l. inr (λ e. absurd (omega (arith, ints, l, e)))) (λ l. inl (omega (arith, ints, g, l))))
-
-both_z : (u offset local : ℤ) → (FitsSigned w64 u × (u +ℤ offset ≡ local)) ⊎ (FitsSigned w64 u × (u +ℤ offset ≡ local) → ⊥)
-both_z u offset local = elim (fits_or_not u) [
-  | inl fits ↦ elim (same_or_not (u +ℤ offset) local) [ inl same ↦ inl (fits, same) | inr other ↦ inr (λ h. other h.1) ]
-  | inr none ↦ inr (λ h. none h.0)
-]
-
 -- whether a second shows the local time
 shown_or_not : (z : Zone) (local : ℤ) → IsValid z → IsRuleOrNone z.rule → IsDecided (Shows (TypeAt z) local)
 shown_or_not z local valid rule u = elim (type_decided z u valid rule) [
-  | inl found ↦ elim (both_z u found.0.offset local) [
+  | inl found ↦ elim (both_known (fits_or_not u) (equal_known (u +ℤ found.0.offset) local)) [
     | inl shown ↦ inl (found.0, record { fits = shown.0; type = found.1; shown = shown.1 })
     | inr other ↦ inr (λ t h. let same = type_once z u t found.0 h.type found.1 in other (h.fits, subst (λ (f : LocalType). u +ℤ f.offset ≡ local) same h.shown))
   ]

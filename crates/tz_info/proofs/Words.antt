@@ -3,7 +3,7 @@ pub use Rattle.std.proofs.Common.{All, AllPairs, Contains, Err, IfErr, IfOk, IfS
 pub use Rattle.std.proofs.Common.{length-take, nat_le, nat_lt, not, slice_get, vec_capacity, vec_len, ⊎_elim, ◌&&◌, ◌==◌, ◌||◌, ◌↔◌}
 pub use Rattle.std.proofs.Math.ListN.{get_or-eq_default}
 pub use Rattle.std.proofs.Math.Seq.{take-append_seam, take-suc}
-pub use Rattle.std.proofs.lemmas.Bool.{and_parts, false≢true, not-false, or_cases, or_left, or_right, true≢false}
+pub use Rattle.std.proofs.lemmas.Bool.{and_parts, false≢true, not-false, true≢false}
 pub use Rattle.std.proofs.lemmas.Bool.Decides.{Decides-and, Decides-eqb, Decides-int_eq, Decides-ltb, Decides-or}
 pub use Rattle.std.proofs.lemmas.List.{append-nil, drop-drop, get_or-map, get_or_append_left, get_or_default, get_or_push, length-drop, length_push, nil_from_length, take-append-drop}
 pub use Rattle.std.proofs.lemmas.List.{take_all, take_more}
@@ -80,7 +80,7 @@ unfoldable pub use Rattle.tz_info.specs.FilePieces.{after_first_block, file, fir
 pub use Rattle.tz_info.specs.Footers.{Colon, FooterFault, HasText, In_text, IsBetweenNewlines, IsFooter, No_newlines, Not_utf8, SaysRule, Zero}
 pub use Rattle.tz_info.specs.Gaps.{HasGap, IsTypeBeforeGap}
 pub use Rattle.tz_info.specs.HeldChanges.{change_held, span_held}
-pub use Rattle.tz_info.specs.Leaps.{AreCounted, AreLeapSeconds, IsFirstLeap, IsLeapTime, IsLeapTimeRefused, IsNear, IsNextLeap, IsOneStep, IsUnixTime}
+pub use Rattle.tz_info.specs.Leaps.{AreCounted, AreLeapSeconds, IsLeapTime, IsLeapTimeRefused, IsNear, IsNextLeap, IsOneStep, IsUnixTime}
 pub use Rattle.tz_info.specs.Leaps.{IsUnixTimeRefused, correction_at, correction_before, corrections, expected_of_leap_time, least_time, passed_count}
 pub use Rattle.tz_info.specs.Leaps.{thresholds}
 pub use Rattle.tz_info.specs.Lists.{last_else}
@@ -129,12 +129,12 @@ pub use Rattle.tz_info.specs.Steps.Kinds.{day_time_second, is_calm, is_calm_kind
 unfoldable pub use Rattle.tz_info.specs.Steps.Kinds.{are_calm, margin_of, seconds_by_kind}
 pub use Rattle.tz_info.specs.Steps.Merging.{IsMerged, IsNext, IsStep}
 pub use Rattle.tz_info.specs.Steps.NextMoments.{nearer_moment}
-pub use Rattle.tz_info.specs.Steps.Pieces.{AreBelow, AreCutsCrossed, AreListed, ArePieces, ArePiecesAt, IsCutAt, IsCutFrom, IsFold, IsGap, IsSegment, closing}
+pub use Rattle.tz_info.specs.Steps.Pieces.{AreBelow, AreCutsCrossed, AreListed, ArePieces, ArePiecesAt, IsCutAt, IsCutFrom, IsFold, IsGap, IsSegment}
 pub use Rattle.tz_info.specs.Steps.Pieces.{zone_in}
 pub use Rattle.tz_info.specs.Steps.RuleDays.{closed_day_is, julian_is, julian_place, number_after, weekday_at, weekday_is, weekday_place}
 unfoldable pub use Rattle.tz_info.specs.Steps.RuleDays.{closed_day}
 pub use Rattle.tz_info.specs.Steps.RuleSeconds.{AreUtOffsets, IsAskedFrom, IsAskedSince, IsSecondFrom, TypeFrom}
-pub use Rattle.tz_info.specs.Steps.Runs.{AreWithin, HaveOneTypeFrom, IsBeyondJumps, IsEnd, IsEndWithin, IsNextRun, IsRunSince, IsRunUntil, IsWindowOf}
+pub use Rattle.tz_info.specs.Steps.Runs.{AreWithin, HaveOneTypeFrom, IsBeyondJumps, IsEnd, IsEndWithin, IsNextRun, IsRunUntil, IsWindowOf}
 pub use Rattle.tz_info.specs.Steps.Runs.{IsWithinRun}
 pub use Rattle.tz_info.specs.Steps.Seasons.{IsAmid, IsAmidFrom, IsDecidedIn, IsLimit, IsSeason, IsSeasonFor, IsSeasonIn, IsSeasonOf}
 pub use Rattle.tz_info.specs.Steps.Segments.{begin_of, index_of}

@@ -1,11 +1,12 @@
 -- At each second a zone has one type, of its list or of its rule, or it is refused, and never both.
-use Rattle.tz_info.proofs.Words.{AreLeapSeconds, AreTransitions, HasType, IsBeforeLast, IsFromLast, IsLeapTime, IsLeapTimeRefused, IsRefusedBy, IsRuleOrNone}
+use Rattle.tz_info.proofs.Words.{HasType, IsBeforeLast, IsFromLast, IsLeapTime, IsLeapTimeRefused, IsRefusedBy, IsRuleOrNone}
 use Rattle.tz_info.proofs.Words.{IsTypeOf, IsTypeRefused, IsValid, LeapSecond, List, LocalType, None, Option, RuleOrElse, SFits, Some, Transition}
-use Rattle.tz_info.proofs.Words.{TransitionRule, TypeAt, Zone, ap, arith, by_leap_time, by_lt_z, by_rule, cases_lt, correction_at, corrections}
+use Rattle.tz_info.proofs.Words.{TransitionRule, TypeAt, Zone, arith, by_leap_time, by_lt_z, by_rule, cases_lt, correction_at, corrections}
 use Rattle.tz_info.proofs.Words.{count_by-le-length, get_or, index_at, inl, inr, int_le, ints, last_else, le_false, le_true, length, length-filter, map, neg_ℤ}
 use Rattle.tz_info.proofs.Words.{error_number, passed, passed_count, pos, refl, slice_get, suc, sym, type_error, w64, zero, zone_of_rule, ℕ, ℤ, [], ⊎_elim}
 use Rattle.tz_info.proofs.Words.{◌+ℤ◌, ◌<◌, ◌∙◌, ◌∷◌, ◌≡◌, ◌≤◌, ◌⊎◌}
-use Rattle.tz_info.proofs.{PassedTransitions.{no_items}, RuleLaws.{rule_decided, rule_not_refused, rule_once}}
+use Rattle.std.proofs.lemmas.Option.{slice_get_cases, slice_get_within}
+use Rattle.tz_info.proofs.{RuleLaws.{rule_decided, rule_not_refused, rule_once}, SegmentLaws.{passed_here}}
 
 passed_at_most : (z : Zone) (x : ℤ) → length (passed z.transitions x) ≤ length z.transitions
 passed_at_most z x = omega (arith, length-filter (λ (t : Transition). int_le t.unix_leap_time x) z.transitions, count_by-le-length (λ (t : Transition). int_le t.unix_leap_time x) z.transitions)
@@ -14,11 +15,8 @@ pub before_or_from_last : (z : Zone) (x : ℤ) → IsBeforeLast z x ⊎ IsFromLa
 before_or_from_last z x = let l = passed_at_most z x in ⊎_elim (λ h. inl h) (λ h. inr (omega arith)) (cases_lt (length (passed z.transitions x)) (length z.transitions))
 
 -- two leap times of a second pass the same transitions
-same_passed : (z : Zone) (u x y : ℤ) → (0 < length z.transitions → IsLeapTime z.leaps u x) → (0 < length z.transitions → IsLeapTime z.leaps u y) → passed z.transitions x ≡ passed z.transitions y
-same_passed z u x y a b = ⊎_elim
-    (λ h. ap (passed z.transitions) ((a h).sum ∙ sym (b h).sum))
-    (λ h. rw (no_items z.transitions (omega arith)) refl)
-    (cases_lt 0 (length z.transitions))
+pub same_passed : (z : Zone) (u x y : ℤ) → (0 < length z.transitions → IsLeapTime z.leaps u x) → (0 < length z.transitions → IsLeapTime z.leaps u y) → passed z.transitions x ≡ passed z.transitions y
+same_passed z u x y a b = passed_here z u x a ∙ sym (passed_here z u y b)
 
 pub some_once : (o : Option LocalType) (s t : LocalType) → o ≡ Some s → o ≡ Some t → s ≡ t
 some_once o s t h k = cc
@@ -46,24 +44,17 @@ type_not_refused z u t a (by_rule x of_second last refused) =
     or_else_not_refused z.rule (HasType z (index_at z a.leap_time) t) u t (a.in_force.from_last (rw e last)) refused
 
 -- what stands in a list
-pub listed_inside : {X : Type 0} (xs : List X) (i : ℕ) (x : X) → slice_get xs i ≡ Some x → i < length xs
-listed_inside [] i x h = cc
-listed_inside (y ∷ xs) zero x h = omega arith
-listed_inside (y ∷ xs) (suc i) x h = let l = listed_inside xs i x h in omega arith
-
 pub inside_listed : {X : Type 0} (xs : List X) (i : ℕ) → i < length xs → (x : X) × (slice_get xs i ≡ Some x)
-inside_listed [] i h = absurd (omega arith)
-inside_listed (y ∷ xs) zero h = (y, refl)
-inside_listed (y ∷ xs) (suc i) h = inside_listed xs i (omega arith)
+inside_listed xs i h = ⊎_elim (λ found. (found.0, found.2)) (λ past. let beyond = past.0 in absurd (omega arith)) (slice_get_cases xs i).1
 
 or_else_listed : (rule : Option TransitionRule) (z : Zone) (u : ℤ) (i : ℕ) (t : LocalType) → RuleOrElse rule u (HasType z i t) t → ((k : ℕ) × (k < length z.types) × HasType z k t) ⊎ IsTypeOf rule u t
 or_else_listed (Some rule) z u i t h = inr h
-or_else_listed None z u i t h = inl (i, listed_inside z.types i t h, h)
+or_else_listed None z u i t h = inl (i, slice_get_within z.types i t h, h)
 
 -- a type in force stands in the list or is the rule's
 pub type_listed : (z : Zone) (u : ℤ) (t : LocalType) → TypeAt z u t → ((k : ℕ) × (k < length z.types) × HasType z k t) ⊎ IsTypeOf z.rule u t
 type_listed z u t a = ⊎_elim
-    (λ h. let k = a.in_force.before_last h in inl (index_at z a.leap_time, listed_inside z.types (index_at z a.leap_time) t k, k))
+    (λ h. let k = a.in_force.before_last h in inl (index_at z a.leap_time, slice_get_within z.types (index_at z a.leap_time) t k, k))
     (λ h. or_else_listed z.rule z u (index_at z a.leap_time) t (a.in_force.from_last h))
     (before_or_from_last z a.leap_time)
 
@@ -126,13 +117,7 @@ type_decided z u valid limits = elim (cases_lt 0 (length z.transitions)) [
   | inr none ↦ decided_at z u u valid limits (λ h. absurd (omega arith))
 ]
 
-no_transitions : (types : ℕ) → AreTransitions types []
-no_transitions types = record { indexes = λ k d h. absurd (omega arith); rising = λ i j d h l. absurd (omega arith) }
-
-no_leaps : AreLeapSeconds []
-no_leaps = record { first = λ d h. absurd (omega arith); next = λ k d h. absurd (omega arith) }
-
 -- a rule and types without transitions make a zone
 pub zone_of_rule_valid : (types : List LocalType) (rule : Option TransitionRule) → 0 < length types → IsValid (zone_of_rule types rule)
-zone_of_rule_valid types (Some rule) some = record { some = some; transitions = no_transitions (length types); leaps = no_leaps; agrees = tt }
-zone_of_rule_valid types None some = record { some = some; transitions = no_transitions (length types); leaps = no_leaps; agrees = tt }
+zone_of_rule_valid types (Some rule) some = record { some = some; transitions = search arith; leaps = search arith; agrees = tt }
+zone_of_rule_valid types None some = record { some = some; transitions = search arith; leaps = search arith; agrees = tt }

@@ -1,10 +1,10 @@
 //! The second at which a wall clock shows a local time, and answers of wall clocks, joined.
 
 ghost use Rattle.std.specs.Prelude.{◌≡◌, ◌-ℤ◌};
-ghost use Rattle.naive_base.specs.Range.{IsWide};
 ghost use Rattle.offset_core.specs.LocalResult.{map_of};
 ghost use Rattle.tz_info.specs.Leaps.{IsNear};
 ghost use Rattle.tz_info.specs.Steps.Answers.{joined, shown_if};
+ghost use Rattle.tz_info.specs.Steps.Runs.{IsEnd};
 
 use offset_core::MappedLocalTime;
 use tz_base::LocalTimeType;
@@ -71,7 +71,7 @@ pub(crate) fn copied(answer: MappedLocalTime<&LocalTimeType>) -> MappedLocalTime
 // The second at which a clock at that offset, in seconds east of UTC, shows the local time.
 #[inline(always)]
 pub(crate) fn second_showing(local: i64, offset: i32) -> i64
-    requires { IsWide local }
+    requires { IsEnd local }
     ensures value { result ≡ local -ℤ offset }
     ensures near { IsNear (local -ℤ offset) }
 {

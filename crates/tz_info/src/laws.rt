@@ -29,6 +29,7 @@ ghost use Rattle.tz_info.specs.declared.zone.transition.Transition.{Transition};
 
 /// A rule has one day in each year, and its moments at a fixed time of day come later in a later
 /// year.
+#[tactic(auto, using(crate::proofs::RuleDays::rule_day_is, crate::proofs::RuleDays::one_rule_day))]
 pub fn rule_days_law()
     ensures found { (form : DayForm) (year : ℤ) → IsRuleDay form
         → IsDayOf form year (rule_day form year) }
@@ -72,6 +73,7 @@ pub fn rule_moments_law()
 /// If the corrections are 1, 2, 3 and so on, the Unix time of a Unix time's leap time is that
 /// Unix time. At the first entry's own leap time the Unix time is equal to it, and at a later one's
 /// it is less by the correction of the entry before.
+#[tactic(auto, using(crate::proofs::LeapEntries::before_first, crate::proofs::LeapEntries::before_later))]
 pub fn leap_times_law()
     ensures rise { (leaps : List LeapSecond) (u v x y : ℤ) → AreLeapSeconds leaps → u ≤ℤ v
         → IsLeapTime leaps u x → IsLeapTime leaps v y → x ≤ℤ y }

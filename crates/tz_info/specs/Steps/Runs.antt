@@ -14,12 +14,6 @@ pub record IsRunUntil (in_force : ℤ → LocalType → Type 0) (at limit end : 
   pub same : (u : ℤ) → at ≤ℤ u → u <ℤ end → (t : LocalType) → in_force at t → in_force u t
   pub turns : end <ℤ limit → (t : LocalType) → in_force at t → in_force end t → ⊥
 
--- up to the second `at` the type of `at` is in force, from `start` on
-pub record IsRunSince (in_force : ℤ → LocalType → Type 0) (at limit start : ℤ) : Type 0 where
-  pub earlier : start ≤ℤ at
-  pub least : limit ≤ℤ start
-  pub same : (u : ℤ) → start ≤ℤ u → u ≤ℤ at → (t : LocalType) → in_force at t → in_force u t
-
 -- at a given offset the second u of a run shows a local time of the stretch
 pub record IsWithinRun (start end from until u : ℤ) : Type 0 where
   pub low : start ≤ℤ u

@@ -1,5 +1,5 @@
 -- The walk's steps: what one segment adds to an answer.
-use Rattle.std.specs.Prelude.{ℕ, ◌≡◌, ◌<◌, ℤ, ◌-ℤ◌, ◌≤ℤ◌, ◌⊎◌, FitsSigned}
+use Rattle.std.specs.Prelude.{ℕ, ◌≡◌, ℤ, ◌-ℤ◌, ◌≤ℤ◌, ◌<ℤ◌, ◌⊎◌, FitsSigned, Option, Some}
 use Rattle.std.specs.Int.{w64}
 use Rattle.offset_core.specs.declared.local_result.LocalResult.{LocalResult}
 use Rattle.offset_core.specs.declared.local_result.LocalResult.TheVariants.{Single}
@@ -8,6 +8,7 @@ use Rattle.tz_info.specs.Leaps.{IsLeapTime, least_time}
 use Rattle.tz_info.specs.Segments.{segment_of}
 use Rattle.tz_info.specs.Steps.Answers.{joined}
 use Rattle.tz_info.specs.WallClocks.{Shows}
+use Rattle.tz_info.specs.WallPieces.{ShownAmong}
 use Rattle.tz_info.specs.Zones.{Zone, HasType, TypeAt}
 
 -- the type at the second u, which lies in segment i, is t
@@ -16,9 +17,8 @@ pub record TypeIn (z : Zone) (i : ℕ) (u : ℤ) (t : LocalType) : Type 0 where
   pub segment : segment_of z u ≡ i
 
 -- the second u shows the local time, and lies in one of the first n segments
-pub record IsShownIn (z : Zone) (local : ℤ) (n : ℕ) (u : ℤ) (t : LocalType) : Type 0 where
-  pub shows : Shows (TypeAt z) local u t
-  pub before : segment_of z u < n
+abbrev pub IsShownIn : Zone → ℤ → ℕ → ℤ → LocalType → Type 0
+IsShownIn z local n = ShownAmong z 0 n local
 
 -- the one second that could show the local time at the offset was asked, and put after all others where it does
 abbrev pub IsAskedLast : (ℤ → LocalType → Type 0) → ℤ → ℤ → LocalResult LocalType → LocalResult LocalType → Type 0
@@ -33,9 +33,14 @@ pub record IsCandidate (z : Zone) (local : ℤ) (index : ℕ) (type : LocalType)
   pub fits : FitsSigned w64 (local -ℤ type.offset)
   pub leap_fits : least_time ≤ℤ leap_time
 
+-- the leap time x comes at `since` or later, and before `until`, if that is one
+pub record IsTimeWithin (since : ℤ) (until : Option ℤ) (x : ℤ) : Type 0 where
+  pub from : since ≤ℤ x
+  pub before : (end : ℤ) → until ≡ Some end → x <ℤ end
+
 -- it was tried: put after all others where its leap time is one of those
-pub record IsTried (z : Zone) (local : ℤ) (index : ℕ) (within : ℤ → Type 0) (before after : LocalResult LocalType) : Type 0 where
+pub record IsTried (z : Zone) (local : ℤ) (index : ℕ) (since : ℤ) (until : Option ℤ) (before after : LocalResult LocalType) : Type 0 where
   pub type : LocalType
   pub leap_time : ℤ
   pub candidate : IsCandidate z local index type leap_time
-  pub tried : (within leap_time × (after ≡ joined before (Single type))) ⊎ ((within leap_time → ⊥) × (after ≡ before))
+  pub tried : (IsTimeWithin since until leap_time × (after ≡ joined before (Single type))) ⊎ ((IsTimeWithin since until leap_time → ⊥) × (after ≡ before))

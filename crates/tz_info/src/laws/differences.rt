@@ -7,6 +7,7 @@ ghost use Rattle.tz_info.specs.Zones.{Zone, TypeAt};
 ghost use Rattle.tz_info.specs.declared.zone.differences.Difference.{Difference};
 
 /// Two differences of two zones that share a second are the same.
+#[tactic(auto, using(crate::proofs::DifferenceLaws::one_difference))]
 pub fn one_difference_law()
     ensures { (z w : Zone) (from until u : ℤ) (d e : Difference)
         → IsDifference (TypeAt z) (TypeAt w) from until d

@@ -46,6 +46,7 @@ pub fn rule_days()
 
 /// Rules of two types are equal if and only if their types, days and times are. A clone is the
 /// value, and does not fail.
+#[tactic(auto, using(crate::proofs::Equalities::alternate_exact))]
 pub fn alternate_times()
     ensures equal { (a b : AlternateRule)
         → IsTrue (⟦<AlternateTime as PartialEq>⟧.eq a b) ↔ (a ≡ b) }
@@ -54,6 +55,7 @@ pub fn alternate_times()
 {}
 
 /// Rules are equal if and only if they are the same rule. A clone is the value, and does not fail.
+#[tactic(auto, using(crate::proofs::Equalities::rule_exact))]
 pub fn transition_rules()
     ensures equal { (a b : Rule) → IsTrue (⟦<TransitionRule as PartialEq>⟧.eq a b) ↔ (a ≡ b) }
     ensures clone { (a b : Rule) → ⟦<TransitionRule as Clone>⟧.is_clone a b ↔ (b ≡ a) }
@@ -61,6 +63,7 @@ pub fn transition_rules()
 {}
 
 /// Zones are equal if and only if their transitions, types, leap seconds and rules are.
+#[tactic(auto, using(crate::proofs::Equalities::zone_exact))]
 pub fn zones()
     ensures { (a b : Zone) → IsTrue (⟦<TimeZone as PartialEq>⟧.eq a b) ↔ (a ≡ b) }
 {}
@@ -74,6 +77,7 @@ pub fn lists_of_changes<'a>(a: &Changes<'a>, b: &Changes<'a>)
 
 /// Seconds with their types are equal if and only if the seconds and the types are. A clone is the
 /// value, and does not fail.
+#[tactic(auto, using(crate::proofs::Equalities::typed_second_exact))]
 pub fn typed_seconds()
     ensures equal { (a b : Second) → IsTrue (⟦<TypedSecond as PartialEq>⟧.eq a b) ↔ (a ≡ b) }
     ensures clone { (a b : Second) → ⟦<TypedSecond as Clone>⟧.is_clone a b ↔ (b ≡ a) }
@@ -82,6 +86,7 @@ pub fn typed_seconds()
 
 /// First and last seconds are equal if and only if both are. A clone is the value, and does not
 /// fail.
+#[tactic(auto, using(crate::proofs::Equalities::shown_seconds_exact))]
 pub fn shown_seconds()
     ensures equal { (a b : Seconds) → IsTrue (⟦<ShownSeconds as PartialEq>⟧.eq a b) ↔ (a ≡ b) }
     ensures clone { (a b : Seconds) → ⟦<ShownSeconds as Clone>⟧.is_clone a b ↔ (b ≡ a) }
@@ -90,6 +95,7 @@ pub fn shown_seconds()
 
 /// Differences are equal if and only if their seconds and their types are. A clone is the value,
 /// and does not fail.
+#[tactic(auto, using(crate::proofs::Equalities::difference_exact))]
 pub fn differences()
     ensures equal { (a b : Differing) → IsTrue (⟦<Difference as PartialEq>⟧.eq a b) ↔ (a ≡ b) }
     ensures clone { (a b : Differing) → ⟦<Difference as Clone>⟧.is_clone a b ↔ (b ≡ a) }

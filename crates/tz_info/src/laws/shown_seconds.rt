@@ -12,18 +12,21 @@ ghost use Rattle.tz_info.specs.Zones.{Zone, TypeAt};
 ghost use Rattle.tz_info.specs.declared.zone.shown_seconds.ShownSeconds.{ShownSeconds};
 
 /// A stretch of local time has one answer.
+#[tactic(auto, using(crate::proofs::ShownSecondLaws::one_answer))]
 pub fn one_answer_within_law()
     ensures { (z : Zone) (from until : ℤ) (a b : Option ShownSeconds)
         → AreShownWithin (TypeAt z) from until a → AreShownWithin (TypeAt z) from until b → a ≡ b }
 {}
 
 /// The seconds that a wall-clock lookup answers with are those of a stretch of one second.
+#[tactic(auto, using(crate::proofs::ShownSecondLaws::one_second))]
 pub fn one_second_law()
     ensures { (z : Zone) (local u : ℤ) (t : LocalType)
         → ShowsWithin (TypeAt z) local (local +ℤ pos 1) u t ↔ Shows (TypeAt z) local u t }
 {}
 
 /// A second whose clock shows a local time of the stretch lies between the first and the last.
+#[tactic(auto, using(crate::proofs::ShownSecondLaws::own_answer))]
 pub fn own_answer_within_law()
     ensures { (z : Zone) (from until u : ℤ) (t : LocalType) (found : Option ShownSeconds)
         → ShowsWithin (TypeAt z) from until u t → AreShownWithin (TypeAt z) from until found
@@ -43,6 +46,7 @@ pub fn ordinary_length_law()
 {}
 
 /// A local time has one first second at or after it, and a later local time no earlier one.
+#[tactic(auto, using(crate::proofs::ShownSecondLaws::one_first, crate::proofs::ShownSecondLaws::first_rises))]
 pub fn first_at_or_after_law()
     ensures once { (z : Zone) (local u v : ℤ) (s t : LocalType)
         → IsFirstAtOrAfter (TypeAt z) local u s → IsFirstAtOrAfter (TypeAt z) local v t
@@ -54,6 +58,7 @@ pub fn first_at_or_after_law()
 /// The first second at or after the begin of a stretch is its first one if it shows a local time of
 /// the stretch. If no second does, it is also the first at or after the stretch's end: a day over
 /// which clocks are set forward begins when the next one does.
+#[tactic(auto, using(crate::proofs::ShownSecondLaws::first_is_within, crate::proofs::ShownSecondLaws::none_within))]
 pub fn first_of_stretch_law()
     ensures within { (z : Zone) (from until u : ℤ) (t : LocalType)
         → IsFirstAtOrAfter (TypeAt z) from u t → (u +ℤ t.offset) <ℤ until

@@ -10,6 +10,7 @@ ghost use Rattle.tz_info.specs.Zones.{Zone, TypeAt};
 
 /// A second that has a type lies in one span: two spans that share it are equal. No change comes
 /// within a span.
+#[tactic(auto, using(crate::proofs::SpanLaws::span_once, crate::proofs::SpanLaws::no_change_within))]
 pub fn one_span_law()
     ensures once { (z : Zone) (a b : Span) (u : ℤ) → IsSpanAt (TypeAt z) u a
         → IsSpanAt (TypeAt z) u b → a ≡ b }

@@ -10,6 +10,7 @@ ghost use Rattle.tz_info.specs.Zones.{Zone, IsValid, IsRuleOrNone};
 ghost use Rattle.tz_info.specs.declared.rule.transition_rule.TransitionRule.{TransitionRule as Rule};
 
 /// No bytes spell two rules.
+#[tactic(auto, using(crate::proofs::TextLaws::one_rule))]
 pub fn one_rule()
     ensures { (extended : Bool) (bytes : List ℕ) (a b : Rule) → IsTzText extended bytes a
         → IsTzText extended bytes b → a ≡ b }

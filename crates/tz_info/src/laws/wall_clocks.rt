@@ -14,6 +14,7 @@ ghost use Rattle.tz_info.specs.Windows.{IsWindowCount};
 ghost use Rattle.tz_info.specs.Zones.{Zone, IsValid, IsRuleOrNone, TypeAt};
 
 /// Each local time has an answer in each zone.
+#[tactic(auto, using(crate::proofs::WallTimes::wall_decided))]
 pub fn decided()
     ensures { (z : Zone) (local : ℤ) → IsValid z → IsRuleOrNone z.rule
         → (types : LocalResult LocalType) × IsWallAnswer (Shows (TypeAt z) local) types }
@@ -22,6 +23,7 @@ pub fn decided()
 /// Each type that a wall clock answers is in force at the local time less its offset. And an
 /// instant whose wall clock is asked is the answer's only one, or lies between its first and its
 /// last.
+#[tactic(auto, using(crate::proofs::WallLaws::are_shown, crate::proofs::WallLaws::is_among_shown))]
 pub fn wall_clock_law()
     ensures shown { (z : Zone) (local : ℤ) (answer : LocalResult LocalType)
         → IsWallAnswer (Shows (TypeAt z) local) answer → AreShown (TypeAt z) local answer }
@@ -32,6 +34,7 @@ pub fn wall_clock_law()
 {}
 
 /// A local time has one answer: that of the index and that of the walk are equal.
+#[tactic(auto, using(crate::proofs::WallLaws::one_wall_clock))]
 pub fn one_wall_clock_law()
     ensures { (z : Zone) (local : ℤ) (a b : LocalResult LocalType)
         → IsWallAnswer (Shows (TypeAt z) local) a
@@ -40,6 +43,7 @@ pub fn one_wall_clock_law()
 {}
 
 /// And it has one answer with both sides of its gap.
+#[tactic(auto, using(crate::proofs::AroundLaws::one_answer_around))]
 pub fn one_answer_around_law()
     ensures { (z : Zone) (local : ℤ) (a b : Around LocalType Change)
         → AreTypesAround (TypeAt z) local a → AreTypesAround (TypeAt z) local b → a ≡ b }

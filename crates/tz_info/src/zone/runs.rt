@@ -1,10 +1,13 @@
-//! Runs: from a second on, or up to it, how long the type that is in force then stays in force.
+//! Runs: of a stretch of time, the seconds of one span of the zone.
 
-ghost use Rattle.std.specs.Prelude.{◌<ℤ◌, ◌≤ℤ◌};
+ghost use Rattle.std.specs.Prelude.{◌<ℤ◌, ◌≤ℤ◌, ◌↔◌, ℤ};
+ghost use Rattle.tz_info.specs.HeldChanges.{span_held};
 ghost use Rattle.tz_info.specs.Leaps.{IsNear};
-ghost use Rattle.tz_info.specs.Steps.Runs.{IsFirstOfRun, IsLastOfRun, IsRunSince, IsRunUntil};
+ghost use Rattle.tz_info.specs.Spans.{IsSince, IsSpanAt, IsUntil};
+ghost use Rattle.tz_info.specs.Steps.Runs.{IsFirstOfRun, IsLastOfRun, IsRunUntil};
 ghost use Rattle.tz_info.specs.Zones.{TypeAt};
 
+use crate::change::HeldSpan;
 use crate::zone::time_zone::TimeZone;
 use tz_base::LocalTimeType;
 
@@ -21,6 +24,18 @@ impl TimeZone {
         }
     }
 
+    // The span of such a second.
+    pub(super) fn near_span_at(&self, second: i64) -> HeldSpan<'_>
+        requires { IsNear second }
+        ensures { IsSpanAt (TypeAt self.now) second (span_held result) }
+    {
+        let _ = &self.table;
+        match self.held_span_at(second) {
+            Ok(span) => span,
+            Err(_) => unreachable!(),
+        }
+    }
+
     // The first second after it at which another type is in force, or `limit` if that comes first.
     pub(super) fn run_until(&self, second: i64, limit: i64) -> i64
         requires near { IsNear second }
@@ -29,24 +44,28 @@ impl TimeZone {
         ensures { IsRunUntil (TypeAt self.now) second limit result }
     {
         let _ = &self.table;
-        match self.next_change(second) {
-            Some(change) => { if change.at < limit { change.at } else { limit } }
-            None => limit,
-        }
+        let span = self.near_span_at(second);
+        end_by(span.until, limit)
     }
+}
 
-    // The second since which the type in force at it is in force, or `limit` if that comes last.
-    pub(super) fn run_since(&self, second: i64, limit: i64) -> i64
-        requires near { IsNear second }
-        requires limit { IsNear limit }
-        requires behind { limit ≤ℤ second }
-        ensures { IsRunSince (TypeAt self.now) second limit result }
-    {
-        let _ = &self.table;
-        match self.previous_change(second) {
-            Some(change) => { if limit < change.at { change.at } else { limit } }
-            None => limit,
-        }
+// The limit, or the second since which a span lasts, if that is later.
+pub(super) fn start_by(from: Option<i64>, limit: i64) -> i64
+    ensures { (u : ℤ) → (result ≤ℤ u) ↔ ((limit ≤ℤ u) × IsSince from u) }
+{
+    match from {
+        Some(from) => { if limit < from { from } else { limit } }
+        None => limit,
+    }
+}
+
+// The limit, or the second until which a span lasts, if that is earlier.
+pub(super) fn end_by(until: Option<i64>, limit: i64) -> i64
+    ensures { (u : ℤ) → (u <ℤ result) ↔ ((u <ℤ limit) × IsUntil until u) }
+{
+    match until {
+        Some(until) => { if until < limit { until } else { limit } }
+        None => limit,
     }
 }
 

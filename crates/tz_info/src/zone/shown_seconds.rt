@@ -12,7 +12,8 @@ ghost use Rattle.tz_info.specs.Steps.Runs.{HaveOneTypeFrom, IsEnd, IsBeyondJumps
 ghost use Rattle.tz_info.specs.Steps.Runs.{IsEndWithin, IsNextRun, IsWindowOf};
 ghost use Rattle.tz_info.specs.Zones.{TypeAt};
 
-use crate::zone::runs::{first_of_run, last_of_run};
+use crate::answers::second_showing;
+use crate::zone::runs::{end_by, first_of_run, last_of_run, start_by};
 use crate::zone::time_zone::TimeZone;
 use naive_base::{NaiveDate, NaiveDateTime, NaiveTime};
 use tz_base::LocalTimeType;
@@ -143,8 +144,8 @@ impl TimeZone {
     {
         let _ = &self.table;
         Window {
-            low: second_by(from, self.extremes.greatest),
-            high: second_by(until, self.extremes.least),
+            low: second_showing(from, self.extremes.greatest),
+            high: second_showing(until, self.extremes.least),
         }
     }
 
@@ -167,8 +168,8 @@ impl TimeZone {
         let mut left = window;
         while left.low < left.high {
             let (run, local_type) = self.next_run(left, forward);
-            let since = second_by(from, local_type.offset());
-            let before = second_by(until, local_type.offset());
+            let since = second_showing(from, local_type.offset());
+            let before = second_showing(until, local_type.offset());
             if let Some(at) = run.end_between(since, before, forward) {
                 return Some(TypedSecond {
                     at,
@@ -180,7 +181,8 @@ impl TimeZone {
         None
     }
 
-    // The first run of the window, or the last one, and its type.
+    // The first run of the window, or the last one, and its type: the part that the window has of
+    // the span of its first second, or of its last one.
     fn next_run(&self, left: Window, forward: bool) -> (Window, &LocalTimeType)
         requires low { IsNear left.low }
         requires high { IsNear left.high }
@@ -190,23 +192,24 @@ impl TimeZone {
             result.0.low result.0.high result.1.now }
     {
         let _ = &self.table;
-        if forward {
-            let run = Window {
-                low: left.low,
-                high: self.run_until(left.low, left.high),
-            };
-            (run, self.type_at(left.low))
-        } else {
-            let run = Window {
-                low: self.run_since(left.high - 1, left.low),
-                high: left.high,
-            };
-            (run, self.type_at(left.high - 1))
-        }
+        let span = self.near_span_at(left.end(forward));
+        let run = Window {
+            low: start_by(span.from, left.low),
+            high: end_by(span.until, left.high),
+        };
+        (run, span.local_time_type)
     }
 }
 
 impl Window {
+    // Its first second, or its last one.
+    fn end(self, forward: bool) -> i64
+        requires { IsNear self.high }
+        ensures { result ≡ (if forward then self.low else self.high -ℤ pos 1) }
+    {
+        if forward { self.low } else { self.high - 1 }
+    }
+
     // The first of its seconds, or the last one, that is `from` or later and comes before `until`.
     fn end_between(self, from: i64, until: i64, forward: bool) -> Option<i64>
         ensures { IsEndOfRun forward self.low self.high from until result }
@@ -235,13 +238,4 @@ impl Window {
             }
         }
     }
-}
-
-// The second at which a clock with that offset shows the local time.
-fn second_by(local: i64, offset: i32) -> i64
-    requires { IsEnd local }
-    ensures value { result ≡ local -ℤ offset }
-    ensures near { IsNear (local -ℤ offset) }
-{
-    local - offset as i64
 }

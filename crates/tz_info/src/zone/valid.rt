@@ -67,6 +67,7 @@ fn rule_agrees(
 }
 
 // Whether at the Unix time of the last transition the rule has that transition's type.
+#[tactic(auto, using(crate::proofs::Validity::differs_without_rule, crate::proofs::Validity::differs_without_time))]
 fn agrees(
     types: &[LocalTimeType],
     leaps: &[LeapSecond],

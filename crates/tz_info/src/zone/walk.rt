@@ -1,7 +1,7 @@
 //! The walk: a wall clock by one search in the transitions, and from there on from segment to
 //! segment.
 
-ghost use Rattle.std.specs.Prelude.{◌≡◌, ◌+◌, ◌<◌, ◌≤◌, ◌≤ℤ◌, ◌<ℤ◌, length};
+ghost use Rattle.std.specs.Prelude.{◌≡◌, ◌+◌, ◌<◌, ◌≤◌, ◌↔◌, IsTrue, length};
 ghost use Rattle.std.specs.Result.{IsOkAnd};
 ghost use Rattle.naive_base.specs.NaiveDateTime.{reading};
 ghost use Rattle.naive_base.specs.Range.{IsWide};
@@ -11,7 +11,7 @@ ghost use Rattle.tz_timeline.specs.Counts.{HasRoom, RoseWithin, HasRoomFor};
 ghost use Rattle.tz_info.specs.Looks.{RoseByWalk};
 ghost use Rattle.tz_info.specs.Questions.{IsAskedFor};
 ghost use Rattle.tz_info.specs.Steps.Segments.{begin_of, index_of};
-ghost use Rattle.tz_info.specs.Steps.Walk.{IsCandidate, IsShownIn, IsTried};
+ghost use Rattle.tz_info.specs.Steps.Walk.{IsCandidate, IsShownIn, IsTimeWithin, IsTried};
 ghost use Rattle.tz_info.specs.WallClocks.{Shows};
 ghost use Rattle.tz_info.specs.Windows.{IsWindow};
 ghost use Rattle.tz_info.specs.Zones.{IsValid, TypeAt};
@@ -83,7 +83,7 @@ impl TimeZone {
         let mut answer = MappedLocalTime::None;
         for place in first..count {
             let next = self.transition(place, probes);
-            answer = self.try_until(local, current, next.unix_leap_time, answer);
+            answer = self.try_until(local, current, Some(next.unix_leap_time), answer);
             if window.high < next.unix_leap_time {
                 return answer;
             }
@@ -108,6 +108,7 @@ impl TimeZone {
 
     // The last of the first n transitions; before all of them the first type is in force,
     // from the least time on.
+    #[tactic(auto, using(crate::proofs::SegmentLaws::begin_next, crate::proofs::SegmentLaws::index_next))]
     pub(super) fn latest(&self, passed: usize, probes: &mut Probes) -> Transition
         requires passed { passed ≤ length self.now.transitions }
         requires room { HasRoomFor 1 probes.old.reads }
@@ -123,48 +124,25 @@ impl TimeZone {
         self.transition(passed - 1, probes)
     }
 
-    // Tries the type in force from the transition on until the leap time.
+    // Tries the type in force from the transition on, and before that leap time, if there is one.
     fn try_until<'a>(
         &'a self,
         local: i64,
         current: Transition,
-        until: i64,
+        until: Option<i64>,
         answer: MappedLocalTime<&'a LocalTimeType>,
     ) -> MappedLocalTime<&'a LocalTimeType>
         requires local { IsWide local }
         requires listed { current.type_index < length self.now.types }
-        ensures { IsTried self.now local current.type_index
-            (λ x. (current.unix_leap_time ≤ℤ x) × (x <ℤ until))
+        ensures { IsTried self.now local current.type_index current.unix_leap_time until
             (map_of (λ r. r.now) answer.entry) (map_of (λ r. r.now) result) }
     {
         let candidate = self.candidate(local, current.type_index);
-        if candidate.leap_time < current.unix_leap_time {
-            return answer;
+        if is_within(current.unix_leap_time, until, candidate.leap_time) {
+            joined(answer, MappedLocalTime::Single(candidate.local_type))
+        } else {
+            answer
         }
-        if until <= candidate.leap_time {
-            return answer;
-        }
-        joined(answer, MappedLocalTime::Single(candidate.local_type))
-    }
-
-    // Tries the type in force from the transition on.
-    fn try_from<'a>(
-        &'a self,
-        local: i64,
-        current: Transition,
-        answer: MappedLocalTime<&'a LocalTimeType>,
-    ) -> MappedLocalTime<&'a LocalTimeType>
-        requires local { IsWide local }
-        requires listed { current.type_index < length self.now.types }
-        ensures { IsTried self.now local current.type_index
-            (λ x. current.unix_leap_time ≤ℤ x)
-            (map_of (λ r. r.now) answer.entry) (map_of (λ r. r.now) result) }
-    {
-        let candidate = self.candidate(local, current.type_index);
-        if candidate.leap_time < current.unix_leap_time {
-            return answer;
-        }
-        joined(answer, MappedLocalTime::Single(candidate.local_type))
     }
 
     // The type of that index, and the leap time of the one second that could show the local time
@@ -174,7 +152,7 @@ impl TimeZone {
         requires listed { index < length self.now.types }
         ensures { IsCandidate self.now local index result.local_type.now result.leap_time }
     {
-        let local_type = &self.local_types[index];
+        let local_type = self.listed(index);
         let second = second_showing(local, local_type.offset());
         Candidate {
             local_type,
@@ -184,6 +162,7 @@ impl TimeZone {
 
     // Tries what is in force from the last transition on: the rule, or without one that
     // transition's type.
+    #[tactic(auto, using(crate::proofs::QuestionLaws::asked_none))]
     fn try_last<'a>(
         &'a self,
         local: i64,
@@ -208,8 +187,18 @@ impl TimeZone {
             probes.old.rule_questions probes.new.rule_questions }
     {
         match &self.last_rule {
-            None => self.try_from(local, current, answer),
+            None => self.try_until(local, current, None, answer),
             Some(rule) => self.try_rule(rule, local, answer, probes).1,
         }
     }
+}
+
+fn is_within(since: i64, until: Option<i64>, time: i64) -> bool
+    ensures { IsTrue result ↔ IsTimeWithin since until time }
+{
+    let is_before = match until {
+        Some(end) => time < end,
+        None => true,
+    };
+    since <= time && is_before
 }

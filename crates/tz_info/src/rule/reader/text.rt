@@ -161,6 +161,7 @@ fn next_hour(std: i32) -> Result<i32, Error>
 }
 
 // The type of that name, if a type can have it.
+#[tactic(auto, using(crate::proofs::NamedTypes::named_by))]
 fn named_type(name: &[u8], dst: bool, offset: i32) -> Result<LocalTimeType, Error>
     requires { IsWithinDay offset }
     ensures value { Gives (λ t. t) result (checked (is_name name.now)

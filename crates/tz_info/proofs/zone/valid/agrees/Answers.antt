@@ -1,4 +1,4 @@
-use Rattle.tz_info.proofs.{Words.{SFits, refl, rules, slice_get_read, to_z-of_z, w64}, Validity.{agrees_if_same, differs_without_rule, differs_without_time}}
+use Rattle.tz_info.proofs.{Words.{SFits, refl, rules, slice_get_read, to_z-of_z, w64}, Validity.{agrees_if_same}}
 use Rattle.tz_info.proofs.zone.valid.agrees.Goals as goal
 
 pub returns-in-Ok-find_local_time_type : goal.returns-in-Ok-find_local_time_type
@@ -10,17 +10,3 @@ returns-in-Ok-find_local_time_type c =
     (simp to_z-of_z at c.in-Ok-find_local_time_type.ensures)
     (slice_get_read c.args.types.now _ c.args.last.type_index _ refl c.requires.index c.index-types-last.is)
     c.is_same_type.ensures
-
-pub returns-in-Err : goal.returns-in-Err
-returns-in-Err c =
-    let fl : SFits w64 c.args.last.unix_leap_time = search rules in
-    let r = simp to_z-of_z at c.in-Err.ensures in
-    (λ h. cc, λ h. absurd (differs_without_time c.args.types.now c.args.leaps.now c.args.rule.now c.args.last r.1 h))
-
-pub returns-in-Err-find_local_time_type : goal.returns-in-Err-find_local_time_type
-returns-in-Err-find_local_time_type c =
-    let fl : SFits w64 c.args.last.unix_leap_time = search rules in
-    let ft : SFits w64 c.in-Ok.time = search rules in
-    let r = simp to_z-of_z at c.in-Err-find_local_time_type.ensures in
-    let a = simp to_z-of_z at c.in-Ok.ensures in
-    (λ h. cc, λ h. absurd (differs_without_rule c.args.types.now c.args.leaps.now c.args.rule.now c.args.last c.in-Ok.time a r.1 h))

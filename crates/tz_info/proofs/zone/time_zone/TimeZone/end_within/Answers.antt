@@ -1,19 +1,20 @@
-use Rattle.tz_info.proofs.{Words.{SFits, arith, ints, rules, to_z-of_z, w32, w64, ◌-ℤ◌, ◌≡◌}, zone.time_zone.TimeZone.end_within.Goals.{After-second_by-before}}
+use Rattle.tz_info.proofs.Words.{SFits, arith, ints, rules, to_z-of_z, w32, w64, ◌-ℤ◌, ◌≡◌}
+use Rattle.tz_info.proofs.zone.time_zone.TimeZone.end_within.Goals.{After-second_showing-before}
 use Rattle.tz_info.proofs.ShownSecondLaws.{all_within, found_in_run, goes_on, leaves_less, none_left}
 use Rattle.tz_info.proofs.zone.time_zone.TimeZone.end_within.Goals as goal
 
 -- the seconds between which a clock of the run's type shows a local time of the stretch
-between : (c : After-second_by-before)
-    → SFits w64 c.args.from × SFits w64 c.args.until × SFits w64 c.second_by-since.result × SFits w64 c.second_by-before.result
-    × (c.second_by-since.result ≡ c.args.from -ℤ c.next_run.result.1.now.offset) × (c.second_by-before.result ≡ c.args.until -ℤ c.next_run.result.1.now.offset)
+between : (c : After-second_showing-before)
+    → SFits w64 c.args.from × SFits w64 c.args.until × SFits w64 c.second_showing-since.result × SFits w64 c.second_showing-before.result
+    × (c.second_showing-since.result ≡ c.args.from -ℤ c.next_run.result.1.now.offset) × (c.second_showing-before.result ≡ c.args.until -ℤ c.next_run.result.1.now.offset)
 between c =
     let ff = c.ranges.from in let fu = c.ranges.until in
-    let fs : SFits w64 c.second_by-since.result = search rules in
-    let fb : SFits w64 c.second_by-before.result = search rules in
+    let fs : SFits w64 c.second_showing-since.result = search rules in
+    let fb : SFits w64 c.second_showing-before.result = search rules in
     let g1 : SFits w32 c.offset.result = search rules in
     let g2 : SFits w32 c.offset-in-loop-left.result = search rules in
-    let since = rw c.offset.ensures.value at (simp to_z-of_z at c.second_by-since.ensures.value) in
-    (ff, fu, fs, fb, since, rw c.offset-in-loop-left.ensures.value at (simp to_z-of_z at c.second_by-before.ensures.value))
+    let since = rw c.offset.ensures.value at (simp to_z-of_z at c.second_showing-since.ensures.value) in
+    (ff, fu, fs, fb, since, rw c.offset-in-loop-left.ensures.value at (simp to_z-of_z at c.second_showing-before.ensures.value))
 
 pub loop-left-init : goal.loop-left-init
 loop-left-init c =
@@ -29,7 +30,7 @@ loop-left-smaller c =
 
 pub loop-left-preserved : goal.loop-left-preserved
 loop-left-preserved c =
-    let (ff, fu, fs, fb, since, before) = between (goal.at.loop-left-preserved c).After-second_by-before in
+    let (ff, fu, fs, fb, since, before) = between (goal.at.loop-left-preserved c).After-second_showing-before in
     let l = c.loop-left.left in let run = c.next_run.result.0 in
     let none = rw (since, before) at (simp to_z-of_z at c.in_default.ensures) in
     simp to_z-of_z (rw (c.without-left.ensures.low, c.without-left.ensures.high) (goes_on c.args.forward c.args.self.now c.args.from c.args.until l.low l.high
@@ -37,7 +38,7 @@ loop-left-preserved c =
 
 pub returns-in-Some : goal.returns-in-Some
 returns-in-Some c =
-    let (ff, fu, fs, fb, since, before) = between (goal.at.returns-in-Some c).After-second_by-before in
+    let (ff, fu, fs, fb, since, before) = between (goal.at.returns-in-Some c).After-second_showing-before in
     let l = c.loop-left.left in let run = c.next_run.result.0 in
     let fi : SFits w64 c.in-Some.at = search rules in
     let found = rw (since, before) at (simp to_z-of_z at c.in-Some.ensures) in

@@ -1,14 +1,6 @@
 use Rattle.tz_info.proofs.Words.{SFits, ap, arith, day_of, ints, pos, to_z-of_z, w64, ◌*ℤ◌, ◌+ℤ◌, ◌∙◌, ◌≡◌}
 use Rattle.tz_info.proofs.zone.time_zone.TimeZone.find_seconds_of_day.Goals as goal
 
-pub seconds_between-requires-clause-until : goal.seconds_between-requires-clause-until
-seconds_between-requires-clause-until c =
-    let is : c.secs_since_epoch-midnight.result ≡ day_of c.args.date *ℤ pos 86_400 +ℤ pos 0 = c.secs_since_epoch-midnight.ensures ∙ ap (λ r. r.s) c.and_time.ensures.value in
-    let range = c.args.date.in_range in
-    let fm : SFits w64 c.secs_since_epoch-midnight.result = omega (arith, ints) in
-    let fn : SFits w64 (c.secs_since_epoch-midnight.result +ℤ pos 86_400) = omega (arith, ints) in
-    simp to_z-of_z (omega (arith, ints), omega (arith, ints))
-
 pub returns : goal.returns
 returns c =
     let is : c.secs_since_epoch-midnight.result ≡ day_of c.args.date *ℤ pos 86_400 +ℤ pos 0 = c.secs_since_epoch-midnight.ensures ∙ ap (λ r. r.s) c.and_time.ensures.value in

@@ -1,22 +1,18 @@
-use Rattle.tz_info.proofs.Words.{SFits, arith, inl, inr, ints, refl, rules, to_z-of_z, w64}
-use Rattle.tz_info.proofs.zone.time_zone.TimeZone.try_until.Goals.{After-candidate-candidate}
+use Rattle.tz_info.proofs.Words.{SFits, inl, inr, refl, rules, to_z-of_z, w64}
 use Rattle.tz_info.proofs.zone.time_zone.TimeZone.try_until.Goals as goal
 
--- what is compared fits
-fits : (c : After-candidate-candidate) → SFits w64 c.args.local × SFits w64 c.candidate-candidate.result.leap_time × SFits w64 c.args.current.unix_leap_time × SFits w64 c.args.until
-fits c = (c.ranges.local, search rules, search rules, c.ranges.until)
+pub returns-then-is_within : goal.returns-then-is_within
+returns-then-is_within c =
+    let fl = c.ranges.local in
+    let fx : SFits w64 c.candidate-candidate.result.leap_time = search rules in
+    let fs : SFits w64 c.args.current.unix_leap_time = search rules in
+    let within = simp to_z-of_z at c.is_within.ensures in
+    record { type = _; leap_time = _; candidate = simp to_z-of_z at c.candidate-candidate.ensures; tried = inl (within.0 c.if-is_within.true, c.joined.ensures) }
 
-pub returns-then-candidate-current : goal.returns-then-candidate-current
-returns-then-candidate-current c =
-    let (fl, fx, fs, fz) = fits (goal.at.returns-then-candidate-current c).After-candidate-candidate in
-    record { type = _; leap_time = _; candidate = simp to_z-of_z at c.candidate-candidate.ensures; tried = inr (λ i. let a = i.0 in omega (arith, ints), refl) }
-
-pub returns-then-until-candidate : goal.returns-then-until-candidate
-returns-then-until-candidate c =
-    let (fl, fx, fs, fz) = fits (goal.at.returns-then-until-candidate c).After-candidate-candidate in
-    record { type = _; leap_time = _; candidate = simp to_z-of_z at c.candidate-candidate.ensures; tried = inr (λ i. let a = i.1 in omega (arith, ints), refl) }
-
-pub returns : goal.returns
-returns c =
-    let (fl, fx, fs, fz) = fits (goal.at.returns c).After-candidate-candidate in
-    record { type = _; leap_time = _; candidate = simp to_z-of_z at c.candidate-candidate.ensures; tried = inl ((omega (arith, ints), omega (arith, ints)), c.joined.ensures) }
+pub returns-else-is_within : goal.returns-else-is_within
+returns-else-is_within c =
+    let fl = c.ranges.local in
+    let fx : SFits w64 c.candidate-candidate.result.leap_time = search rules in
+    let fs : SFits w64 c.args.current.unix_leap_time = search rules in
+    let within = simp to_z-of_z at c.is_within.ensures in
+    record { type = _; leap_time = _; candidate = simp to_z-of_z at c.candidate-candidate.ensures; tried = inr (λ i. let t = within.1 i in let f = c.if-is_within.false in cc, refl) }

@@ -1,4 +1,4 @@
-use Rattle.tz_info.proofs.{Words.{Zone, ap, arith, sym, to_z-of_z, ◌∙◌, ◌≡◌}, WalkLaws.{all_segments}, WallSegments.{table_alone, table_first}}
+use Rattle.tz_info.proofs.{Words.{Zone, ap, arith, sym, to_z-of_z, ◌∙◌, ◌≡◌}, WallSegments.{all_segments, table_alone, table_first}}
 use Rattle.tz_info.proofs.zone.time_zone.TimeZone.wall_answer_of.Goals as goal
 
 pub returns-in-None-clause-found : goal.returns-in-None-clause-found

@@ -7,8 +7,8 @@ returns c =
     let fu = c.ranges.until in
     let fg : SFits w32 c.self.inside.extremes.greatest = search rules in
     let fh : SFits w32 c.self.inside.extremes.least = search rules in
-    let low : c.second_by.result ≡ c.args.from -ℤ c.self.inside.extremes.greatest = simp to_z-of_z at c.second_by.ensures.value in
-    let high : c.second_by-2.result ≡ c.args.until -ℤ c.self.inside.extremes.least = simp to_z-of_z at c.second_by-2.ensures.value in
-    let ug : SFits w64 c.second_by.result = omega (arith, ints) in
-    let uh : SFits w64 c.second_by-2.result = omega (arith, ints) in
+    let low : c.second_showing.result ≡ c.args.from -ℤ c.self.inside.extremes.greatest = simp to_z-of_z at c.second_showing.ensures.value in
+    let high : c.second_showing-2.result ≡ c.args.until -ℤ c.self.inside.extremes.least = simp to_z-of_z at c.second_showing-2.ensures.value in
+    let ug : SFits w64 c.second_showing.result = omega (arith, ints) in
+    let uh : SFits w64 c.second_showing-2.result = omega (arith, ints) in
     simp to_z-of_z (rw (low, high) (window_made c.args.self.now c.args.from c.args.until c.self.inside.extremes.greatest c.self.inside.extremes.least c.requires.from c.requires.until fg fh (rw (← c.self.view_is) c.self.invariant.extremes.greatest) (rw (← c.self.view_is) c.self.invariant.extremes.least)))
