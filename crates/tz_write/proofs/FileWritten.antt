@@ -5,17 +5,17 @@ use Rattle.tz_write.proofs.Words.{NeedsExtensions, None, Ok, OnOk, Option, Other
 use Rattle.tz_write.proofs.Words.{counts_bytes, false, file_bytes, first_half, get_or, header_bytes, laid_from, length, number_bytes, refl, second_half, subst}
 use Rattle.tz_write.proofs.Words.{sym, true, ℕ, [], ◌<◌, ◌∙◌, ◌≡◌}
 use Rattle.tz_write.proofs.{FileLayouts.{laid_of, laid_size}, FileLimits.{writable}, FileSpelled.{IsPlain, file_is}, TextBytes.{AreTextBytes}}
-use Rattle.tz_write.proofs.{RuleTexts.{extensions, rule_named, rule_text, text_are, text_first, text_once, text_some}, ZoneTexts.{not_empty}}
+use Rattle.tz_write.proofs.{RuleTexts.{extensions, rule_named, rule_text, text_are, text_begins, text_once, text_some}, Decimals.{not_empty}}
 
 text_is : (rule : Option TransitionRule) (text : List ℕ) (extended : Bool) → IsRuleOrNone rule → IsFooterText rule text extended → IsPlain text × SaysRule extended text rule
 text_is (Some rule) text extended fits h =
     let named = rule_named extended text rule h.spells in let same = rule_text rule text extended fits h in
-    let first = text_first rule named in (
+    let first = text_begins rule named in (
       record {
         bytes = subst AreTextBytes (sym same) (text_are rule fits named);
-        no_colon = λ e. absurd (omega (arith, e, first.3, ap (λ (s : List ℕ). get_or s 0 0) (same ∙ first.2)));
+        no_colon = λ e. absurd (omega (arith, e, first.above, ap (λ (s : List ℕ). get_or s 0 0) (same ∙ first.is)));
       },
-      ((λ e. not_empty rule named (sym same ∙ e)), h.spells),
+      ((λ e. not_empty first (sym same ∙ e)), h.spells),
     )
 text_is None text extended fits h = (subst IsPlain (sym h.0) (record { bytes = tt; no_colon = λ e. absurd (omega (arith, e)) }), h.0)
 
