@@ -1,7 +1,7 @@
 -- The texts of offsets and of times of day.
 use Rattle.tz_base.specs.Grammar.{Number, Then}
 use Rattle.tz_write.proofs.Words.{Bool, IsPlainTime, IsTextTime, IsWithinDay, List, NoneFirst, Spells, Without, ap, append_assoc, arith, both_ways, clock_max}
-use Rattle.tz_write.proofs.Words.{spelled_clock, spelled_hands, colon, comma, cond, decimal, false, false≢true, inl, inr, ints, is_digit, is_negative, is_positive, minus}
+use Rattle.tz_write.proofs.Words.{spelled_clock, spelled_hands, colon, comma, cond, decimal, false, false≢true, inl, inr, ints, is_digit, is_negative, is_positive, le-ltb, lt-ltb, minus}
 use Rattle.tz_write.proofs.Words.{spelled_minutes, nat_tests, neg_ℤ, negsuc, not, spelled_offset, spelled_pair, plus, pos, refl, signed_seconds, slash}
 use Rattle.tz_write.proofs.Words.{spelled_seconds, spelled_signed, subst, suc, sym, time_limit, spelled_time, true, unsigned_abs, zero, ℕ, ℤ, ◌%◌, ◌&&◌}
 use Rattle.tz_write.proofs.Words.{◌*◌, ◌++◌, ◌+◌, ◌/◌, ◌<ℤ◌, ◌<◌, ◌==◌, ◌∙◌, ◌∷◌, ◌≡◌, ◌≤◌}
@@ -124,7 +124,7 @@ hours_within hours (negsuc n) h = let b : suc n < 3600 * hours = omega (arith, i
 -- ---- offsets
 offset_value : (east : ℤ) → east ≡ signed (not (is_positive east)) (unsigned_abs east)
 offset_value (pos zero) = refl
-offset_value (pos (suc n)) = refl
+offset_value (pos (suc n)) = rw (lt-ltb 0 (suc n) (omega arith)) refl
 offset_value (negsuc n) = refl
 
 pub offset_writes : (east : ℤ) (rest : List ℕ) → IsWithinDay east → Stops rest → Writes tz.offset (spelled_offset east) east rest
@@ -153,12 +153,12 @@ offset_begins east rest h = elim (is_positive east) as (λ t. Begins 45 57 (spel
 
 -- ---- times of day
 time_value : (time : ℤ) → time ≡ signed (is_negative time) (unsigned_abs time)
-time_value (pos n) = refl
+time_value (pos n) = rw (le-ltb n 0 (omega arith)) refl
 time_value (negsuc n) = refl
 
 time_within : (extended : Bool) (time : ℤ) → IsTextTime extended time → (unsigned_abs time / 3600 ≤ time_limit extended) × (extended ≡ false → is_negative time ≡ false)
 time_within true time h = (omega (arith, hours_within 168 time h), λ e. cc)
-time_within false (pos n) h = (omega (arith, hours_within 25 (pos n) (omega (arith, ints), h.1)), λ e. refl)
+time_within false (pos n) h = (omega (arith, hours_within 25 (pos n) (omega (arith, ints), h.1)), λ e. le-ltb n 0 (omega arith))
 time_within false (negsuc n) h = let a = h.0 in absurd (omega (arith, ints))
 
 pub time_writes : (extended : Bool) (time : ℤ) (rest : List ℕ) → IsTextTime extended time → Stops rest → Writes (tz.time extended) (spelled_time time) time rest
@@ -174,7 +174,7 @@ time_plain bytes time rest (negative, _, sign, ((h, m, s), _, _, ((a, b, c), val
 
 time_sign : (negative : Bool) (n : ℕ) (time : ℤ) → time ≡ signed negative n → is_negative time ≡ true → negative ≡ true
 time_sign true n time v e = refl
-time_sign false n time v e = absurd (false≢true (subst (λ (z : ℤ). is_negative z ≡ true) v e))
+time_sign false n time v e = absurd (both_ways _ (le-ltb n 0 (omega arith)) (subst (λ (z : ℤ). is_negative z ≡ true) v e))
 
 pub time_front : (extended : Bool) (bytes : List ℕ) (time : ℤ) (rest : List ℕ) → Spells (tz.time extended) bytes time rest → Front (spelled_time time) bytes rest
 unfolding spelled_time tz.time tz.duration

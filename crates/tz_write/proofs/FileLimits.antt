@@ -1,12 +1,12 @@
 -- What every file's zone has room for.
 use Rattle.tz_info.specs.{declared.file.header.Place.TheVariants.{First, Second}, declared.file.header.Version.TheVariants.{One, Three, Two}}
-use Rattle.tz_write.proofs.Words.{All, All-cons, All-nil, All-tail, AreNamesIn, AreRecords, Bool, Counts, FilePieces, HasIndex, HasPieces, HasRule}
+use Rattle.tz_write.proofs.Words.{All, All-cons, All-nil, All-tail, AreNamesIn, Bool, Counts, FilePieces, HasIndex, HasPieces, HasRule}
 use Rattle.tz_write.proofs.Words.{IsSpellableOrNone, Header, IsNamedIn, IsTzFile, IsWritable, List, LocalType, None, Option, Parts, Place, Some, SpellTypes}
 use Rattle.tz_write.proofs.Words.{Spells, SpellsLeapSecond, SpellsType, StandsAt, Transition, TransitionRule, Version, Zone, after_first_block, ap, arith}
 use Rattle.tz_write.proofs.Words.{be_u32, block, designation_of, file, first_version, get_or_append_left, header, inl, inr, later_version, length}
-use Rattle.tz_write.proofs.Words.{length-append, length-map, map, name_or_none, place_in, refl, six_counts, subst, sym, tzif, version, ℕ, [], ◌*◌, ◌++◌, ◌+◌}
+use Rattle.tz_write.proofs.Words.{length-append, length-map, map, name_or_none, place_in, refl, six_counts, subst, sym, ℕ, [], ◌*◌, ◌++◌, ◌+◌}
 use Rattle.tz_write.proofs.Words.{◌/◌, ◌<◌, ◌^◌, ◌∙◌, ◌∷◌, ◌≡◌, ◌⊎◌}
-use Rattle.tz_write.proofs.RuleTexts.{rule_named}
+use Rattle.tz_write.proofs.{FileHeads.{CountsFit}, FileRecords.{records_length}, RuleTexts.{rule_named}}
 use Rattle.std.proofs.{Math.Nat.{mul-div_cancel}, lemmas.List.{get_or-map}}
 use Rattle.tz_base.specs.Grammar.{Byte, Check, Ended, Exact, Grammar, Marked, Nothing, Number, Refused, Rest, Run, Then}
 
@@ -29,15 +29,11 @@ Values (Nothing v) x = x ≡ v
 Values (Then {X = X} g f) y = (x : X) × Values g x × Values (f x) y
 Values (Marked tag g h) x = Values g x ⊎ Values h x
 Values (Ended g h) x = Values g x ⊎ Values h x
-Values (Byte tag) x = Unit {0}
-Values (Run p) x = Bytes x
-Values (Number max) x = Unit {0}
 Values (Exact n) x = Bytes x × (length x ≡ n)
 Values Rest x = Bytes x
-Values (Refused refusal) x = ⊥
 Values (Check P test refusal v) x = P × (x ≡ v)
+Values g x = Unit {0}
 
--- what is left of bytes is bytes
 values : {X : Type 0} (g : Grammar X) (bytes : List ℕ) (x : X) (rest : List ℕ) → Spells g bytes x rest → Bytes bytes → Values g x × Bytes rest
 values (Nothing v) bytes x rest h b = (h.0, subst Bytes h.1 b)
 values (Then g f) bytes y rest (x, after, p, q) b = let (v, c) = values g bytes x after p b in let (w, d) = values (f x) after y rest q c in ((x, v, w), d)
@@ -46,7 +42,7 @@ values (Marked tag g h) bytes x rest (inr (_, p)) b = let (v, c) = values h byte
 values (Ended g h) bytes x rest (inl (_, p)) b = let (v, c) = values g bytes x rest p b in (inl v, c)
 values (Ended g h) bytes x rest (inr (_, p)) b = let (v, c) = values h bytes x rest p b in (inr v, c)
 values (Byte tag) bytes x rest h b = (tt, behind (tag ∷ []) rest (subst Bytes h b))
-values (Run p) bytes x rest h b = let c = subst Bytes h.whole b in (front x rest c, behind x rest c)
+values (Run p) bytes x rest h b = (tt, behind x rest (subst Bytes h.whole b))
 values (Number max) bytes x rest h b = (tt, behind h.digits rest (subst Bytes h.whole b))
 values (Exact n) bytes x rest h b = let c = subst Bytes h.0 b in ((front x rest c, h.1), behind x rest c)
 values Rest bytes x rest h b = (subst Bytes (sym h.0) b, subst Bytes (sym h.1) (All-nil IsByte))
@@ -60,15 +56,10 @@ number_fits n (four, (all, size), value) =
     let w = all 0 0 (omega arith) in let x = all 1 0 (omega arith) in let y = all 2 0 (omega arith) in let z = all 3 0 (omega arith) in
     omega (arith, w, x, y, z, value)
 
-record Fit (c : Counts) : Type 0 where
-  pub leap_seconds : c.leap_seconds < 2 ^ 32
-  pub transitions : c.transitions < 2 ^ 32
-  pub types : c.types < 2 ^ 32
-
-header_fits : (place : Place) (h : Header) → Values (header place) h → Fit h.counts
+header_fits : (place : Place) (h : Header) → Values (header place) h → CountsFit h.counts
 unfolding header six_counts
-header_fits place h (_, _, (_, _, (_, _, (c, (_, _, (_, _, (leaps, k, (transitions, l, (types, m, (_, _, value)))))), (_, is))))) =
-    rw (is, value) (record { leap_seconds = number_fits leaps k; transitions = number_fits transitions l; types = number_fits types m })
+header_fits place h (_, _, (_, _, (_, _, (c, (i, j, (k, l, (m, n, (o, p, (q, r, (s, t, value)))))), (_, is))))) =
+    rw (is, value) (number_fits i j, number_fits k l, number_fits m n, number_fits o p, number_fits q r, number_fits s t)
 
 -- ---- blocks and pieces
 same_factor : (a b c : ℕ) → 0 < c → a * c ≡ b * c → a ≡ b
@@ -82,22 +73,22 @@ record Limits (p : FilePieces) : Type 0 where
   pub types_fit : length p.parts.types < 2 ^ 32 * 6
   pub leaps_fit : (n : ℕ) → length p.parts.leap_seconds ≡ n * (p.time_size + 4) → n < 2 ^ 32
 
-block_limits : (extended : Bool) (time_size : ℕ) (c : Counts) (p : Parts) (footer : Option (List ℕ)) → Fit c → Values (block time_size c) p
+block_limits : (extended : Bool) (time_size : ℕ) (c : Counts) (p : Parts) (footer : Option (List ℕ)) → CountsFit c → Values (block time_size c) p
     → Limits (record { extended = extended; time_size = time_size; counts = c; parts = p; footer = footer })
 unfolding block
 block_limits extended time_size c p footer fit (_, _, (_, (indexes, i), (_, (types, j), (_, _, (leaps, (_, k), (_, _, (_, _, value))))))) = rw value (record {
   indexes = indexes;
   types = types;
-  transitions_fit = omega (arith, i, fit.transitions);
-  types_fit = omega (arith, j, fit.types);
-  leaps_fit = λ n e. omega (arith, fit.leap_seconds, same_factor n c.leap_seconds (time_size + 4) (omega arith) (sym e ∙ k));
+  transitions_fit = omega (arith, i, fit.3);
+  types_fit = omega (arith, j, fit.4);
+  leaps_fit = λ n e. omega (arith, fit.2, same_factor n c.leap_seconds (time_size + 4) (omega arith) (sym e ∙ k));
 })
 
 later_limits : (p : FilePieces) → Values later_version p → Limits p
 unfolding later_version
 later_limits p (h, head, (parts, in_block, (_, _, value))) = rw value (block_limits _ 8 h.counts parts _ (header_fits Second h head) in_block)
 
-after_limits : (v : Version) (c : Counts) (parts : Parts) (p : FilePieces) → Values (after_first_block v c parts) p → Fit c → Values (block 4 c) parts → Limits p
+after_limits : (v : Version) (c : Counts) (parts : Parts) (p : FilePieces) → Values (after_first_block v c parts) p → CountsFit c → Values (block 4 c) parts → Limits p
 unfolding after_first_block first_version
 after_limits One c parts p (_, _, value) fit first = rw value (block_limits _ 4 c parts _ fit first)
 after_limits Two c parts p h fit first = later_limits p h
@@ -110,13 +101,6 @@ pieces_limits bytes p h b =
     after_limits header.version header.counts parts p tail (header_fits First header head) first
 
 -- ---- lists
-records_length : {X : Type 0} (size : ℕ) (Spells : List ℕ → X → Type 0) (part : List ℕ) (xs : List X) → AreRecords size Spells part xs → length part ≡ length xs * size
-records_length size Spells part [] h = ap length h ∙ omega arith
-records_length size Spells part (x ∷ xs) h =
-    let more = records_length size Spells h.1 xs h.5 in let s = h.3 in
-    let joined : length part ≡ length h.0 + length h.1 = ap length h.2 ∙ length-append h.0 h.1 in
-    omega arith
-
 indexes_fit : (ts : List Transition) (indexes : List ℕ) → indexes ≡ map (λ t. t.type_index) ts → Bytes indexes → All HasIndex ts
 indexes_fit ts indexes e b = λ i d l.
     subst IsByte (get_or-map (λ (t : Transition). t.type_index) ts i d 0 l) (subst Bytes e b i 0 (omega (arith, l, length-map ts (λ t. t.type_index))))

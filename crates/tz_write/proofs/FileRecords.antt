@@ -44,10 +44,12 @@ records_are size Spells f (x ∷ xs) h =
     let first = All-head (Spelled size Spells f) x xs h in
     (f x, flat_map f xs, refl, first.sized, first.says, records_are size Spells f xs (All-tail (Spelled size Spells f) x xs h))
 
-pub size_of_records : {X : Type 0} (size : ℕ) (f : X → List ℕ) (xs : List X) → ((x : X) → length (f x) ≡ size) → length (flat_map f xs) ≡ length xs * size
-size_of_records size f [] h = omega arith
-size_of_records size f (x ∷ xs) h =
-    let more = size_of_records size f xs h in let one = h x in let joined = length-append (f x) (flat_map f xs) in omega arith
+pub records_length : {X : Type 0} (size : ℕ) (Spells : List ℕ → X → Type 0) (part : List ℕ) (xs : List X) → AreRecords size Spells part xs → length part ≡ length xs * size
+records_length size Spells part [] h = ap length h ∙ omega arith
+records_length size Spells part (x ∷ xs) h =
+    let more = records_length size Spells h.1 xs h.5 in let s = h.3 in
+    let joined : length part ≡ length h.0 + length h.1 = ap length h.2 ∙ length-append h.0 h.1 in
+    omega arith
 
 -- ---- transitions and leap seconds
 pub transitions_are : (ts : List Transition) → All HasTimeOf64Bits ts → SpellTransitions 8 (flat_map time_bytes ts) (flat_map index_bytes ts) ts

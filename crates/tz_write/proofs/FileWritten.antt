@@ -1,7 +1,7 @@
 -- What is written of a zone.
 use Rattle.tz_write.proofs.Words.{All-weaker, Bool, Err, IsRoomOf, IsSpellableOrNone, HavePlaces, HaveVersion, IfOk, In_order, IsFirstPlaced, IsFooterText}
 use Rattle.tz_write.proofs.Words.{IsInNoFile, IsLaid, IsNameOrNone, IsRuleOrNone, IsSound, IsType, IsTzFile, IsWritable, IsWrittenFile, List, LocalType}
-use Rattle.tz_write.proofs.Words.{NeedsExtensions, None, Ok, OnOk, Option, Otherwise, Result, Room, SaysRule, Some, TransitionRule, Zone, ap, arith}
+use Rattle.tz_write.proofs.Words.{NeedsExtensions, None, Ok, OnOk, Option, Otherwise, Result, Room, SaysRule, Some, TransitionRule, Zone, ap, arith, both_ways, ◌↔◌}
 use Rattle.tz_write.proofs.Words.{counts_bytes, false, file_bytes, first_half, get_or, header_bytes, laid_from, length, number_bytes, refl, second_half, subst}
 use Rattle.tz_write.proofs.Words.{sym, true, ℕ, [], ◌<◌, ◌∙◌, ◌≡◌}
 use Rattle.tz_write.proofs.{FileLayouts.{laid_of, laid_size}, FileLimits.{writable}, FileSpelled.{IsPlain, file_is}, TextBytes.{AreTextBytes}}
@@ -68,20 +68,9 @@ one_file z a b h k =
     ∙ (ap (λ (t : List ℕ). file_bytes h.extended t k.designations z) same.0 ∙ (ap (λ (e : Bool). file_bytes e k.text k.designations z) same.1 ∙ sym k.layout)))
 
 -- ---- versions
-extended_is : (rule : Option TransitionRule) (text : List ℕ) (extended : Bool) → IsRuleOrNone rule → IsFooterText rule text extended → NeedsExtensions rule → extended ≡ true
-extended_is (Some rule) text extended fits h needs = (extensions rule text extended fits h).1 needs
-extended_is None text extended fits h needs = absurd needs
-
-plain_is : (rule : Option TransitionRule) (text : List ℕ) (extended : Bool) → IsRuleOrNone rule → IsFooterText rule text extended → ¬ (NeedsExtensions rule) → extended ≡ false
-plain_is (Some rule) text true fits h plain = absurd (plain ((extensions rule text true fits h).0 refl))
-plain_is (Some rule) text false fits h plain = refl
-plain_is None text extended fits h plain = h.1
-
-pub version_3 : (z : Zone) (bytes : List ℕ) → IsRuleOrNone z.rule → IsWrittenFile z bytes → NeedsExtensions z.rule → HaveVersion true bytes
-version_3 z bytes fits h needs = subst (λ (e : Bool). HaveVersion e bytes) (extended_is z.rule h.text h.extended fits h.footer needs) h.version
-
-pub version_2 : (z : Zone) (bytes : List ℕ) → IsRuleOrNone z.rule → IsWrittenFile z bytes → ¬ (NeedsExtensions z.rule) → HaveVersion false bytes
-version_2 z bytes fits h plain = subst (λ (e : Bool). HaveVersion e bytes) (plain_is z.rule h.text h.extended fits h.footer plain) h.version
+pub needs_extensions : (rule : Option TransitionRule) (text : List ℕ) (extended : Bool) → IsRuleOrNone rule → IsFooterText rule text extended → (extended ≡ true) ↔ NeedsExtensions rule
+needs_extensions (Some rule) text extended fits h = extensions rule text extended fits h
+needs_extensions None text extended fits h = ((λ e. absurd (both_ways extended h.1 e)), λ needs. absurd needs)
 
 -- ---- a zone without a file
 pub no_file : (z : Zone) → ¬ (IsWritable z) → IsInNoFile z

@@ -1,7 +1,7 @@
 -- The text of a rule: it spells the rule, and each other one is longer.
 use Rattle.tz_write.proofs.Words.{Alternate, AreInPairs, AreTimesOf, Bool, CanBeSpelled, DayTime, IsAlternateRule, IsName, IsNamed, IsPlainTime, IsRule}
 use Rattle.tz_write.proofs.Words.{IsTextTime, IsTzText, IsWithinDay, IsWrittenText, List, LocalType, NoneFirst, Spells, TransitionRule}
-use Rattle.tz_write.proofs.Words.{ap, append-nil, append_assoc, arith, both_ways, comma, cond, spelled_day, spelled_dst_offset, false, inl, inr, int_eq, ints}
+use Rattle.tz_write.proofs.Words.{ap, append-nil, append_assoc, arith, both_ways, false≢true, comma, cond, spelled_day, spelled_dst_offset, false, inl, inr, int_eq, ints}
 use Rattle.tz_write.proofs.Words.{is_digit, is_letter, length, name_of, name_or_none, spelled_name, named_type, nat_tests, not, offset_fits, spelled_offset}
 use Rattle.tz_write.proofs.Words.{pos, refl, subst, spelled_rule, true, ℕ, ℤ, [], ◌++◌, ◌+ℤ◌, ◌<◌, ◌↔◌, ◌∙◌, ◌∷◌, ◌≡◌, ◌⊎◌}
 use Rattle.tz_write.proofs.{Clocks.{Stops, comma_stops, offset_begins, offset_front, offset_writes}, NameTexts.{name_begins, name_front, name_writes}}
@@ -120,18 +120,16 @@ text_begins (rules.Alternate a) ((name, h), _) =
 
 -- the text has extensions where one without doesn't have room for the times
 pub written : (rule : TransitionRule) (plain : Bool) → IsRule rule → CanBeSpelled rule → (plain ≡ true → AreTimesOf false rule) → (AreTimesOf false rule → plain ≡ true) → IsWrittenText rule (spelled_rule rule) (not plain)
-written rule true fits h to from = record {
-  spells = rule_spelled false rule fits h (to refl);
+written rule plain fits h to from = record {
+  spells = rule_spelled (not plain) rule fits h (times_of plain to);
   pairs = rule_pairs rule fits h;
-  needed = λ e. absurd (both_ways false refl e);
-  shortest = λ other spelled. (rule_read false other rule spelled).best;
+  needed = λ e other spelled. false≢true (rw (from ((rule_read false other rule spelled).plain refl)) at e);
+  shortest = λ other spelled. (rule_read (not plain) other rule spelled).best;
 }
-written rule false fits h to from = record {
-  spells = rule_spelled true rule fits h (times_extended rule fits);
-  pairs = rule_pairs rule fits h;
-  needed = λ e other spelled. both_ways false refl (from ((rule_read false other rule spelled).plain refl));
-  shortest = λ other spelled. (rule_read true other rule spelled).best;
-}
+  where
+    times_of : (p : Bool) → (p ≡ true → AreTimesOf false rule) → AreTimesOf (not p) rule
+    times_of true to = to refl
+    times_of false to = times_extended rule fits
 
 -- each of two is the shortest
 pub both_shortest : (s t : List ℕ) → (t ≡ s) ⊎ (length s < length t) → (s ≡ t) ⊎ (length t < length s) → s ≡ t
