@@ -88,15 +88,11 @@ nearest-of_all n k span some =
     let down_is = apart-below n (multiple_below n span) low.0 in
     let up_is = apart-above n (multiple_above n span) high.0 in
     by_lt_z {P = P} n m
-    (λ past.
-    let least = not_below n k span some (omega (arith, floors)) in let is = apart-above n m (omega (arith, floors)) in
-    elim (nearest-is n span some) [
+    (λ past. let least = not_below n k span some (omega (arith, floors)) in let is = apart-above n m (omega (arith, floors)) in elim (nearest-is n span) [
       | inl below ↦ rw (below.0) (omega (arith, floors), λ e. absurd (omega (arith, floors)))
       | inr above ↦ rw (above.0) (omega (arith, floors), λ e. omega (arith, floors))
     ])
-    (λ within.
-    let greatest = not_above n k span some within in let is = apart-below n m within in
-    elim (nearest-is n span some) [
+    (λ within. let greatest = not_above n k span some within in let is = apart-below n m within in elim (nearest-is n span) [
       | inl below ↦ rw (below.0) (omega (arith, floors), λ e. omega (arith, floors))
       | inr above ↦ rw (above.0) (omega (arith, floors), λ e. omega (arith, floors))
     ])
