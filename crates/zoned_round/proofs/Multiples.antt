@@ -18,11 +18,7 @@ pub above-is : (n : ℤ) (span : ℕ) → 0 < span
     → ((multiple_above n span ≡ multiple_below n span) × (n ≡ multiple_below n span))
     ⊎ ((multiple_above n span ≡ multiple_below n span +ℤ pos span) × (multiple_below n span <ℤ n))
 above-is n span some =
-    let near = below-near n span some in
-    by_lt_z {P = ((multiple_above n span ≡ multiple_below n span) × (n ≡ multiple_below n span)) ⊎ ((multiple_above n span ≡ multiple_below n span +ℤ pos span) × (multiple_below n span <ℤ n))}
-    (multiple_below n span) n
-    (λ less. inr (above-next n span less, less))
-    (λ same. inl (above-same n span same, omega (arith, floors)))
+    let near = below-near n span some in grind (arith, ints)
 
 pub above-near : (n : ℤ) (span : ℕ) → 0 < span
     → (n ≤ℤ multiple_above n span) × (multiple_above n span <ℤ (n +ℤ pos span))
