@@ -119,11 +119,11 @@ text_begins (rules.Alternate a) ((name, h), _) =
     rw (append_assoc (spelled_name (name_of a.std)) (spelled_offset a.std.offset) (spelled_name (name_of a.dst) ++ from_offset a), n) (name_begins name _ h.allowed)
 
 -- the text has extensions where one without doesn't have room for the times
-pub written : (rule : TransitionRule) (plain : Bool) → IsRule rule → CanBeSpelled rule → (plain ≡ true → AreTimesOf false rule) → (AreTimesOf false rule → plain ≡ true) → IsWrittenText rule (spelled_rule rule) (not plain)
-written rule plain fits h to from = record {
-  spells = rule_spelled (not plain) rule fits h (times_of plain to);
+pub written : (rule : TransitionRule) (plain : Bool) → IsRule rule → CanBeSpelled rule → ((plain ≡ true) ↔ AreTimesOf false rule) → IsWrittenText rule (spelled_rule rule) (not plain)
+written rule plain fits h is = record {
+  spells = rule_spelled (not plain) rule fits h (times_of plain is.0);
   pairs = rule_pairs rule fits h;
-  needed = λ e other spelled. false≢true (rw (from ((rule_read false other rule spelled).plain refl)) at e);
+  needed = λ e other spelled. false≢true (rw (is.1 ((rule_read false other rule spelled).plain refl)) at e);
   shortest = λ other spelled. (rule_read (not plain) other rule spelled).best;
 }
   where
@@ -154,8 +154,8 @@ plain_times (rules.Alternate a) = elim (plain_time a.start.time) [
 
 text_is : (rule : TransitionRule) → IsRule rule → CanBeSpelled rule → (needed : Bool) × IsWrittenText rule (spelled_rule rule) needed
 text_is rule fits named = elim (plain_times rule) [
-  | inl p ↦ (false, written rule true fits named (λ e. p) (λ h. refl))
-  | inr n ↦ (true, written rule false fits named (λ e. absurd (both_ways false refl e)) (λ h. absurd (n h)))
+  | inl p ↦ (false, written rule true fits named ((λ e. p), λ h. refl))
+  | inr n ↦ (true, written rule false fits named ((λ e. absurd (both_ways false refl e)), λ h. absurd (n h)))
 ]
 
 pub text_some : (rule : TransitionRule) → IsRule rule → CanBeSpelled rule → (text : List ℕ) × (needed : Bool) × IsWrittenText rule text needed

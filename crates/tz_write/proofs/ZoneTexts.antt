@@ -109,9 +109,6 @@ pub zone_text_once : (z : Zone) (s t : List ℕ) → IsWrittenZone z s → IsWri
 zone_text_once z s t p q = both_shortest s t (p.shortest t q.gives q.pairs) (q.shortest s p.gives p.pairs)
 
 -- ---- running out of memory
-pub gives_same_zone : (types : List LocalType) (rule : TransitionRule) (z : Zone) → IsRule rule → HasZoneText types (Some rule) → zone_of_rule types (Some rule) ≡ z → (text : List ℕ) × IsPosixZone text z
-gives_same_zone types rule z fits h e = (spelled_rule rule, subst (IsPosixZone (spelled_rule rule)) e (written_zone types rule fits h).gives)
-
 pub on_err : {A E : Type 0} (r : Result A E) (P : Type 0) → P → OnErr r P
 on_err (Ok a) P h = tt
 on_err (Err e) P h = h
