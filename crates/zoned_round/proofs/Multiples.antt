@@ -7,12 +7,6 @@ pub below-near : (n : ℤ) (span : ℕ) → 0 < span
     → (multiple_below n span ≤ℤ n) × (n <ℤ (multiple_below n span +ℤ pos span))
 below-near n span some = let parts = floor_mod_parts n span some in (omega (arith, floors), omega (arith, floors))
 
-pub above-next : (n : ℤ) (span : ℕ) → multiple_below n span <ℤ n → multiple_above n span ≡ multiple_below n span +ℤ pos span
-above-next n span less = grind (arith, ints)
-
-pub above-same : (n : ℤ) (span : ℕ) → n ≤ℤ multiple_below n span → multiple_above n span ≡ multiple_below n span
-above-same n span same = grind (arith, ints)
-
 -- the one above is the one below where that is no way off, and else one span further
 pub above-is : (n : ℤ) (span : ℕ) → 0 < span
     → ((multiple_above n span ≡ multiple_below n span) × (n ≡ multiple_below n span))
@@ -30,17 +24,6 @@ pub nearest-is : (n : ℤ) (span : ℕ)
     → ((nearest_multiple n span ≡ multiple_below n span) × ((n -ℤ multiple_below n span) <ℤ (multiple_above n span -ℤ n)))
     ⊎ ((nearest_multiple n span ≡ multiple_above n span) × ((multiple_above n span -ℤ n) ≤ℤ (n -ℤ multiple_below n span)))
 nearest-is n span = grind (arith, ints)
-
--- which one, by the way to it: down or up
-pub nearest-down : (n : ℤ) (span : ℕ) → 0 < span
-    → (n -ℤ multiple_below n span) <ℤ (multiple_below n span +ℤ pos span -ℤ n)
-    → nearest_multiple n span ≡ multiple_below n span
-nearest-down n span some less = let above = above-is n span some in let nearest = nearest-is n span in grind (arith, ints)
-
-pub nearest-up : (n : ℤ) (span : ℕ) → 0 < span
-    → (multiple_below n span +ℤ pos span -ℤ n) ≤ℤ (n -ℤ multiple_below n span)
-    → nearest_multiple n span ≡ multiple_below n span +ℤ pos span
-nearest-up n span some up = let above = above-is n span some in let nearest = nearest-is n span in grind (arith, ints)
 
 -- a span that is positive as a number
 pub span-is : (span : ℤ) → pos 0 <ℤ span → (0 < unsigned_abs span) × (pos (unsigned_abs span) ≡ span)

@@ -12,17 +12,14 @@ scaled a b span h =
     let m : (up a + down b) * span ≤ (up b + down a) * span = mul-le-mul_right span e in
     omega (arith, floors, add-mul (up a) (down b) span, add-mul (up b) (down a) span)
 
-scaled-next : (a b : ℤ) (span : ℕ) → a <ℤ b → (a *ℤ pos span +ℤ pos span) ≤ℤ (b *ℤ pos span)
-scaled-next a b span h =
-    let e : up a + down b + 1 ≤ up b + down a = omega (arith, floors) in
-    let m : (up a + down b + 1) * span ≤ (up b + down a) * span = mul-le-mul_right span e in
-    omega (arith, floors, add-mul (up a + down b) 1 span, add-mul (up a) (down b) span, add-mul (up b) (down a) span)
-
 next-is : (q : ℤ) (span : ℕ) → (q *ℤ pos span +ℤ pos span) ≡ (q +ℤ pos 1) *ℤ pos span
 next-is q span =
     let n = q +ℤ pos 1 in let e : up n + down q ≡ down n + up q + 1 = omega (arith, floors) in
     let m : (up n + down q) * span ≡ (down n + up q + 1) * span = ap (λ (x : ℕ). x * span) e in
     omega (arith, floors, add-mul (up n) (down q) span, add-mul (down n + up q) 1 span, add-mul (down n) (up q) span)
+
+scaled-next : (a b : ℤ) (span : ℕ) → a <ℤ b → (a *ℤ pos span +ℤ pos span) ≤ℤ (b *ℤ pos span)
+scaled-next a b span h = rw (next-is a span) (scaled (a +ℤ pos 1) b span (omega (arith, floors)))
 
 -- a multiple that isn't above n isn't above the one below n
 not_above : (n k : ℤ) (span : ℕ) → 0 < span → (k *ℤ pos span) ≤ℤ n → (k *ℤ pos span) ≤ℤ multiple_below n span
@@ -72,11 +69,7 @@ pub nearest-of_all : (n k : ℤ) (span : ℕ) → 0 < span
     × (apart n (nearest_multiple n span) ≡ apart n (k *ℤ pos span) → (k *ℤ pos span) ≤ℤ nearest_multiple n span)
 nearest-of_all n k span some =
     let m = k *ℤ pos span in
-    let P : Type 0 = (apart n (nearest_multiple n span) ≤ apart n m) × (apart n (nearest_multiple n span) ≡ apart n m → m ≤ℤ nearest_multiple n span) in
-    let low = below-near n span some in let high = above-near n span some in
-    let down_is = apart-below n (multiple_below n span) low.0 in
-    let up_is = apart-above n (multiple_above n span) high.0 in
-    let near = nearest-is n span in
-    by_lt_z {P = P} n m
-    (λ past. let least = not_below n k span some (omega (arith, floors)) in let is = apart-above n m (omega (arith, floors)) in (grind (arith, ints), λ e. grind (arith, ints)))
-    (λ within. let greatest = not_above n k span some within in let is = apart-below n m within in (grind (arith, ints), λ e. grind (arith, ints)))
+    let low = below-near n span some in let high = above-near n span some in let near = nearest-is n span in
+    let down_is = apart-below n (multiple_below n span) low.0 in let up_is = apart-above n (multiple_above n span) high.0 in
+    let least = not_below n k span some in let greatest = not_above n k span some in let past = apart-above n m in let within = apart-below n m in
+    (grind (arith, ints), λ e. grind (arith, ints))
