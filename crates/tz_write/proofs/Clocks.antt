@@ -1,9 +1,9 @@
 -- The texts of offsets and of times of day.
 use Rattle.tz_base.specs.Grammar.{Number, Then}
 use Rattle.tz_write.proofs.Words.{Bool, IsPlainTime, IsTextTime, IsWithinDay, List, NoneFirst, Spells, Without, ap, append_assoc, arith, both_ways, clock_max}
-use Rattle.tz_write.proofs.Words.{spelled_clock, spelled_hands, colon, comma, cond, decimal, false, false≢true, inl, inr, ints, is_digit, is_negative, is_positive, le-ltb, lt-ltb, minus}
+use Rattle.tz_write.proofs.Words.{spelled_clock, spelled_hands, colon, comma, cond, decimal, false, inl, inr, ints, is_digit, is_negative, is_positive, le-ltb, minus}
 use Rattle.tz_write.proofs.Words.{spelled_minutes, nat_tests, neg_ℤ, negsuc, not, spelled_offset, spelled_pair, plus, pos, refl, signed_seconds, slash}
-use Rattle.tz_write.proofs.Words.{spelled_seconds, spelled_signed, subst, suc, sym, time_limit, spelled_time, true, unsigned_abs, zero, ℕ, ℤ, ◌%◌, ◌&&◌}
+use Rattle.tz_write.proofs.Words.{spelled_seconds, spelled_signed, subst, sym, time_limit, spelled_time, true, unsigned_abs, ℕ, ℤ, ◌%◌, ◌&&◌}
 use Rattle.tz_write.proofs.Words.{◌*◌, ◌++◌, ◌+◌, ◌/◌, ◌<ℤ◌, ◌<◌, ◌==◌, ◌∙◌, ◌∷◌, ◌≡◌, ◌≤◌}
 use Rattle.tz_write.proofs.Decimals.{Begins, number_begins, number_front, number_writes, pair_front, pair_writes, two_digits, without}
 use Rattle.tz_write.proofs.Shortest.{Front, front_cons, front_longer, front_optional, front_then}
@@ -73,9 +73,7 @@ duration_writes limit negative n z rest l k v stops =
     ((l, omega arith, omega arith), rw e v, refl)
 
 abs_signed : (negative : Bool) (n : ℕ) → unsigned_abs (signed negative n) ≡ n
-abs_signed true zero = refl
-abs_signed true (suc n) = refl
-abs_signed false n = refl
+abs_signed negative n = grind (arith, ints)
 
 duration_front : (limit : ℕ) (negative : Bool) (bytes : List ℕ) (z : ℤ) (rest : List ℕ) → Spells (tz.duration limit negative) bytes z rest → Front (spelled_clock (unsigned_abs z)) bytes rest
 unfolding spelled_clock tz.duration
@@ -118,14 +116,11 @@ sign_front false false negative text bytes unsigned rest (_, same) need f = rw s
 
 -- seconds below so many hours, before or after midnight
 hours_within : (hours : ℕ) (z : ℤ) → (neg_ℤ (pos (3600 * hours)) <ℤ z) × (z <ℤ pos (3600 * hours)) → unsigned_abs z / 3600 < hours
-hours_within hours (pos n) h = let b : n < 3600 * hours = omega (arith, ints, h.1) in omega arith
-hours_within hours (negsuc n) h = let b : suc n < 3600 * hours = omega (arith, ints, h.0) in omega arith
+hours_within hours z h = grind (arith, ints)
 
 -- ---- offsets
 offset_value : (east : ℤ) → east ≡ signed (not (is_positive east)) (unsigned_abs east)
-offset_value (pos zero) = refl
-offset_value (pos (suc n)) = rw (lt-ltb 0 (suc n) (omega arith)) refl
-offset_value (negsuc n) = refl
+offset_value east = grind (arith, ints)
 
 pub offset_writes : (east : ℤ) (rest : List ℕ) → IsWithinDay east → Stops rest → Writes tz.offset (spelled_offset east) east rest
 unfolding spelled_offset tz.offset tz.time_sign
@@ -133,9 +128,7 @@ offset_writes east rest h stops = signed_writes true not 23 (is_positive east) (
     (offset_value east) stops
 
 offset_sign : (negative : Bool) (n : ℕ) (east : ℤ) → east ≡ signed (not negative) n → is_positive east ≡ true → negative ≡ true
-offset_sign true n east v e = refl
-offset_sign false zero east v e = absurd (false≢true (subst (λ (z : ℤ). is_positive z ≡ true) v e))
-offset_sign false (suc n) east v e = absurd (false≢true (subst (λ (z : ℤ). is_positive z ≡ true) v e))
+offset_sign negative n east v e = grind (arith, ints)
 
 pub offset_front : (bytes : List ℕ) (east : ℤ) (rest : List ℕ) → Spells tz.offset bytes east rest → Front (spelled_offset east) bytes rest
 unfolding spelled_offset tz.offset tz.time_sign tz.duration
@@ -153,8 +146,7 @@ offset_begins east rest h = elim (is_positive east) as (λ t. Begins 45 57 (spel
 
 -- ---- times of day
 time_value : (time : ℤ) → time ≡ signed (is_negative time) (unsigned_abs time)
-time_value (pos n) = rw (le-ltb n 0 (omega arith)) refl
-time_value (negsuc n) = refl
+time_value time = grind (arith, ints)
 
 time_within : (extended : Bool) (time : ℤ) → IsTextTime extended time → (unsigned_abs time / 3600 ≤ time_limit extended) × (extended ≡ false → is_negative time ≡ false)
 time_within true time h = (omega (arith, hours_within 168 time h), λ e. cc)
@@ -173,8 +165,7 @@ time_plain bytes time rest (negative, _, sign, ((h, m, s), _, _, ((a, b, c), val
     subst IsPlainTime (sym value) (subst (λ (x : Bool). IsPlainTime (signed_seconds x h m s)) (sym sign.0) (omega (arith, ints), omega (arith, ints)))
 
 time_sign : (negative : Bool) (n : ℕ) (time : ℤ) → time ≡ signed negative n → is_negative time ≡ true → negative ≡ true
-time_sign true n time v e = refl
-time_sign false n time v e = absurd (both_ways _ (le-ltb n 0 (omega arith)) (subst (λ (z : ℤ). is_negative z ≡ true) v e))
+time_sign negative n time v e = grind (arith, ints)
 
 pub time_front : (extended : Bool) (bytes : List ℕ) (time : ℤ) (rest : List ℕ) → Spells (tz.time extended) bytes time rest → Front (spelled_time time) bytes rest
 unfolding spelled_time tz.time tz.duration

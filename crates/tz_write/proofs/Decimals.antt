@@ -5,7 +5,7 @@ use Rattle.tz_base.specs.Grammar.{Number}
 use Rattle.tz_write.proofs.Words.{AllDigits, AreInPairs, Bool, IsNumber, List, NoneFirst, TwoDigits, Without, ap, arith, both_ways, cases_eq, colon, decimal, false}
 use Rattle.tz_write.proofs.Words.{inl, inr, is_digit, length, nat_tests, spelled_pair, refl, rules, subst, sym, true, value_from, ℕ, [], ◌%◌, ◌++◌, ◌+◌, ◌/◌, ◌<◌}
 use Rattle.tz_write.proofs.Words.{◌^◌, ◌∙◌, ◌∷◌, ◌≡◌, ◌≢◌, ◌≤◌, ◌⊎◌}
-use Rattle.tz_write.proofs.{Shortest.{Best, Front}, TextBytes.{Writes, digits_are}}
+use Rattle.tz_write.proofs.{Shortest.{Best, Front}, TextBytes.{Writes, digits_are, pairs_over}}
 
 own : IsNumeralModel AllDigits (value_from 0)
 own = numerals_by_fold AllDigits (search rules) value_from (search rules)
@@ -15,10 +15,6 @@ is_digit_of d h = grind (arith, nat_tests)
 
 digit_within : (b : ℕ) → is_digit b ≡ true → (48 ≤ b) × (b ≤ 57)
 digit_within b h = (grind (arith, nat_tests), grind (arith, nat_tests))
-
-pairs_digits : (ds rest : List ℕ) → AllDigits ds → AreInPairs rest → AreInPairs (ds ++ rest)
-pairs_digits [] rest each h = h
-pairs_digits (d ∷ ds) rest each h = let m = (digit_within d each.0).1 in ((λ e. absurd (omega arith)), pairs_digits ds rest each.1 h)
 
 -- ---- what stands first
 -- the bytes begin with one between those two
@@ -51,7 +47,7 @@ digits_write : (max n : ℕ) (ds rest : List ℕ) → AllDigits ds → 0 < lengt
 digits_write max n ds rest each some value l none = record {
   spelled = record { digits = ds; whole = refl; each = each; some = some; longest = none; value = value; limit = l };
   bytes = digits_are ds each;
-  pairs = pairs_digits ds rest each;
+  pairs = pairs_over is_digit (λ b h e. let m = (digit_within b h).1 in absurd (omega arith)) ds rest each;
 }
 
 pub number_writes : (max n : ℕ) (rest : List ℕ) → n < 2 ^ 64 → n ≤ max → NoneFirst is_digit rest → Writes (Number max) (decimal n) n rest

@@ -2,12 +2,12 @@
 use Rattle.tz_write.proofs.Words.{All, All-cons, All-head, All-nil, All-weaker, AreNamesIn, AreNotPlacedBefore, ArePlaced, AreShortest, Bool, Decides}
 use Rattle.tz_write.proofs.Words.{Decides-and, Decides-by_and, Decides-like, Decides-ltb, HasNoZero, HasPlace, HavePlaces, In_order, IsFirstPlaced, IsLaid}
 use Rattle.tz_write.proofs.Words.{IsNameOrNone, IsNamedIn, IsPlacedFrom, List, LocalType, MatchOption, None, Option, Otherwise, Some, StandsAt, ap, append-nil}
-use Rattle.tz_write.proofs.Words.{append_assoc, arith, before_last, before_zero, both_ways, cases_lt, drop, drop-append_seam, ends, false, false≢true, get_or}
+use Rattle.tz_write.proofs.Words.{append_assoc, arith, before_last, before_zero, cases_lt, drop, drop-append_seam, ends, false, false≢true, get_or}
 use Rattle.tz_write.proofs.Words.{inl, inr, laid, laid_from, length, length-append, list_all, name_of, name_or_none, nat_lt, nat_tests, nil_from_length}
-use Rattle.tz_write.proofs.Words.{place_of, refl, subst, suc, sym, text_at, true, with_text, zero, ℕ, [], ◌&&◌, ◌*◌, ◌++◌, ◌+◌, ◌<◌, ◌==◌, ◌∙◌, ◌∷◌, ◌≡◌, ◌≢◌}
+use Rattle.tz_write.proofs.Words.{place_of, refl, subst, suc, sym, text_at, true, with_text, zero, ℕ, [], ◌&&◌, ◌*◌, ◌++◌, ◌+◌, ◌<◌, ◌==◌, ◌∙◌, ◌∷◌, ◌≡◌}
 use Rattle.tz_write.proofs.Words.{◌≤◌, ◌⊎◌}
 use borrow.Author.Count.{below_more}
-use Rattle.tz_write.proofs.FileNames.{Behind, Ends, Has_end, In, In_front, Is_end, Meeting, Stands, end_in, end_stands, ends_again, ends_of, in_stands, meet}
+use Rattle.tz_write.proofs.FileNames.{Behind, Ends, Has_end, In, In_front, Is_end, Stands, end_in, end_stands, ends_again, ends_of, in_stands, meet}
 use Rattle.tz_write.proofs.FileNames.{place_kept, place_of_put, place_of_stands, put_in, put_stands}
 use Rattle.tz_write.proofs.FileRecords.{has_text, no_zero}
 use Rattle.tz_write.proofs.FileRoom.{Given, Room, before_filled, before_keeps, before_passed, by_text, kept, no_front, put, put_is, room_of}
@@ -157,21 +157,13 @@ places_with bytes types m sm s top =
     (where_is bytes m (get_or types i d) sm (s i d l) (top i d l))
 
 -- ---- the texts stand in what is laid in order
-with_last : List ℕ → List ℕ → List ℕ
-with_last before last = before ++ (last ++ 0 ∷ [])
-
-stands_with : (bytes : List ℕ) (m t : LocalType) (sm : Served bytes m) → Stands sm.stands.before (name_of t) ⊎ EndsWith bytes m t → Stands (with_last sm.stands.before (name_of m)) (name_of t)
-unfolding with_last
+stands_with : (bytes : List ℕ) (m t : LocalType) (sm : Served bytes m) → Stands sm.stands.before (name_of t) ⊎ EndsWith bytes m t → Stands (sm.stands.before ++ (name_of m ++ 0 ∷ [])) (name_of t)
 stands_with bytes m t sm (inl s) = let more = name_of m ++ 0 ∷ [] in record {
   before = s.before;
   after = s.after ++ more;
   whole = ap (λ (x : List ℕ). x ++ more) s.whole ∙ (append_assoc s.before (name_of t ++ (0 ∷ s.after)) more ∙ ap (λ (x : List ℕ). s.before ++ x) (append_assoc (name_of t) (0 ∷ s.after) more));
 }
 stands_with bytes m t sm (inr q) = end_stands (put_stands sm.stands.before (name_of m)) q.ends
-
-with_last_size : (before last : List ℕ) → length (with_last before last) ≡ length before + length last + 1
-unfolding with_last
-with_last_size before last = omega (arith, length-append before (last ++ 0 ∷ []), length-append last (0 ∷ []))
 
 no_text : (bytes : List ℕ) (t : LocalType) → Stands bytes (name_of t) → Stands bytes []
 no_text bytes t s = record { before = s.before ++ name_of t; after = s.after; whole = s.whole ∙ sym (append_assoc s.before (name_of t) (0 ∷ s.after)) }
@@ -183,10 +175,10 @@ in_order_in : (bytes : List ℕ) (types : List LocalType) (m : LocalType) (sm : 
     → All (λ t. In (laid [] types) (name_of t)) types
 unfolding laid
 in_order_in bytes types m sm s top i d l =
-    let others = with_last sm.stands.before (name_of m) in
+    let last = name_of m ++ 0 ∷ [] in let others = sm.stands.before ++ last in
     let stands : All (λ t. Stands others (name_of t)) types = λ i d l. stands_with bytes m (get_or types i d) sm (where_is bytes m (get_or types i d) sm (s i d l) (top i d l)) in
     let given : All (Given [] others) types = λ i d l. record { none = (s i d l).stands.ends; stands = λ free. stands i d l } in
-    let short : length others ≤ 263 = omega (arith, with_last_size sm.stands.before (name_of m), sm.stands.at, sm.low, (name_size m.name sm.named).0) in
+    let short : length others ≤ 263 = omega (arith, length-append sm.stands.before last, length-append (name_of m) (0 ∷ []), sm.stands.at, sm.low, (name_size m.name sm.named).0) in
     let t = get_or types i d in
     let size = name_size t.name (s i d l).named in
     let c = before_last [] types in

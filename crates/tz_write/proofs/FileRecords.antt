@@ -3,13 +3,13 @@ use Rattle.std.proofs.lemmas.Int.{to_z-of_z}
 use Rattle.tz_base.proofs.RunLaws.{all_of}
 use Rattle.tz_write.proofs.TextBytes.{names_are, no_zeros}
 use Rattle.tz_write.proofs.Words.{All, All-head, All-more, All-tail, AreRecords, Bool, Decides-eqb, Fits-of_z, FitsSigned, HasNoZero, HasPlace, IsEntry, IsMark}
-use Rattle.tz_write.proofs.Words.{IsNameOrNone, HasTimeOf64Bits, IsType, IsUtOffset, LeapSecond, List, LocalType, None, Option, Some, SpellLeapSeconds}
+use Rattle.tz_write.proofs.Words.{IsNameOrNone, HasTimeOf64Bits, IsType, LeapSecond, List, LocalType, None, Option, Some, SpellLeapSeconds}
 use Rattle.tz_write.proofs.Words.{SpellTransitions, SpellTypes, Spells, SpellsLeapSecond, SpellsType, StandsAt, Transition, and_parts, ap, arith, be_u32}
 use Rattle.tz_write.proofs.Words.{begins, cast_signed, cast_unsigned, cond, designation_of, drop, drop_more, eqb-true, false, flat_map, flat_map_more}
 use Rattle.tz_write.proofs.Words.{flat_map_single, from_be_bytes-to_be_bytes_4, from_be_bytes-to_be_bytes_8, get_or, index_bytes, ints, is_name_byte}
-use Rattle.tz_write.proofs.Words.{leap_bytes, least_offset, length, length-append, ltb-true, mark_byte, name_of, name_or_none, nat_eq, nat_lt, number_bytes}
+use Rattle.tz_write.proofs.Words.{leap_bytes, length, length-append, ltb-true, mark_byte, name_of, name_or_none, nat_eq, nat_lt, number_bytes}
 use Rattle.tz_write.proofs.Words.{place_of, refl, signed, signed_bytes, starts_is, starts_with, suc, sym, take, take_more, time_bytes, file_time, true}
-use Rattle.tz_write.proofs.Words.{type_bytes, w32, w64, ℕ, ℤ, [], ◌&&◌, ◌*◌, ◌++◌, ◌+◌, ◌<ℤ◌, ◌<◌, ◌==◌, ◌^◌, ◌∙◌, ◌∷◌, ◌≡◌}
+use Rattle.tz_write.proofs.Words.{type_bytes, w32, w64, ℕ, ℤ, [], ◌&&◌, ◌*◌, ◌++◌, ◌+◌, ◌<◌, ◌==◌, ◌^◌, ◌∙◌, ◌∷◌, ◌≡◌}
 
 -- a count
 pub number_is : (n : ℕ) (rest : List ℕ) → n < 2 ^ 32 → Spells be_u32 (number_bytes n ++ rest) n rest

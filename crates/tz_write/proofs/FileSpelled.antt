@@ -76,10 +76,10 @@ pieces_of extended text d z = later_pieces (record { version = version_of extend
 second_is : (extended : Bool) (text d : List ℕ) (z : Zone) → length d ≤ 263 → HasCounts z → 0 < length z.types → HavePlaces d z.types → IsSound z → Spells later_version (second_half extended text d z) (pieces_of extended text d z) []
 unfolding second_half pieces_of later_version
 second_is extended text d z size counts some places sound = (
-  record { version = version_of extended; counts = zone_counts d z },
-  block_bytes (zone_parts d z) (footer_bytes text),
-  header_is Second extended (zone_counts d z) (block_bytes (zone_parts d z) (footer_bytes text)) (zone_fit d z size counts) (zone_agree d z some places),
-  (zone_parts d z, footer_bytes text, second_block d z (footer_bytes text) places sound, (footer_bytes text, [], (refl, refl), (refl, refl))),
+  _,
+  _,
+  header_is Second extended (zone_counts d z) _ (zone_fit d z size counts) (zone_agree d z some places),
+  (_, _, second_block d z (footer_bytes text) places sound, (_, [], (refl, refl), (refl, refl))),
 )
 
 after_is : (extended : Bool) (c : Counts) (p : Parts) (rest : List ℕ) (pieces : FilePieces) → Spells later_version rest pieces [] → Spells (after_first_block (version_of extended) c p) rest pieces []
@@ -91,11 +91,10 @@ after_is false c p rest pieces h = h
 file_pieces : (extended : Bool) (text d : List ℕ) (z : Zone) → length d ≤ 263 → HasCounts z → 0 < length z.types → HavePlaces d z.types → IsSound z → HasPieces (file_bytes extended text d z) (pieces_of extended text d z)
 unfolding file_bytes first_half header_bytes counts_bytes number_bytes file
 file_pieces extended text d z size counts some places sound = (
-  record { version = version_of extended; counts = least_counts },
-  least_block ++ second_half extended text d z,
-  header_is First extended least_counts (least_block ++ second_half extended text d z)
-      (omega arith, omega arith, omega arith, omega arith, omega arith, omega arith) ((counts_test least_counts).decides.0 refl),
-  (least_parts, second_half extended text d z, first_block (second_half extended text d z), after_is extended least_counts least_parts (second_half extended text d z) (pieces_of extended text d z) (second_is extended text d z size counts some places sound)),
+  _,
+  _,
+  header_is First extended least_counts _ (omega arith, omega arith, omega arith, omega arith, omega arith, omega arith) ((counts_test least_counts).decides.0 refl),
+  (_, _, first_block (second_half extended text d z), after_is extended least_counts least_parts _ _ (second_is extended text d z size counts some places sound)),
 )
 
 extended_is : (extended : Bool) → is_extended (version_of extended) ≡ extended

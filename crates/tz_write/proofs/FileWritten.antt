@@ -1,7 +1,7 @@
 -- What is written of a zone.
-use Rattle.tz_write.proofs.Words.{All-weaker, Bool, Err, IsRoomOf, IsSpellableOrNone, HavePlaces, HaveVersion, IfOk, In_order, IsFirstPlaced, IsFooterText}
+use Rattle.tz_write.proofs.Words.{All-weaker, Bool, IsRoomOf, IsSpellableOrNone, HavePlaces, HaveVersion, In_order, IsFirstPlaced, IsFooterText}
 use Rattle.tz_write.proofs.Words.{IsInNoFile, IsLaid, IsNameOrNone, IsRuleOrNone, IsSound, IsType, IsTzFile, IsWritable, IsWrittenFile, List, LocalType}
-use Rattle.tz_write.proofs.Words.{NeedsExtensions, None, Ok, OnOk, Option, Otherwise, Result, Room, SaysRule, Some, TransitionRule, Zone, ap, arith, both_ways, ◌↔◌}
+use Rattle.tz_write.proofs.Words.{NeedsExtensions, None, Option, Otherwise, Room, SaysRule, Some, TransitionRule, Zone, ap, arith, both_ways, ◌↔◌}
 use Rattle.tz_write.proofs.Words.{counts_bytes, false, file_bytes, first_half, get_or, header_bytes, laid_from, length, number_bytes, refl, second_half, subst}
 use Rattle.tz_write.proofs.Words.{sym, true, ℕ, [], ◌<◌, ◌∙◌, ◌≡◌}
 use Rattle.tz_write.proofs.{FileLayouts.{laid_of, laid_size}, FileLimits.{writable}, FileSpelled.{IsPlain, file_is}, TextBytes.{AreTextBytes}}
@@ -23,7 +23,7 @@ has_version : (extended : Bool) (text d : List ℕ) (z : Zone) → HaveVersion e
 unfolding file_bytes first_half second_half header_bytes counts_bytes number_bytes
 has_version extended text d z = record { first = refl; second = refl }
 
-written_is : (z : Zone) (room : Room) (text : List ℕ) (extended : Bool) (bytes : List ℕ) → IsRoomOf z room → IsSound z → 0 < length z.types → IsRuleOrNone z.rule → IsFooterText z.rule text extended
+pub written_is : (z : Zone) (room : Room) (text : List ℕ) (extended : Bool) (bytes : List ℕ) → IsRoomOf z room → IsSound z → 0 < length z.types → IsRuleOrNone z.rule → IsFooterText z.rule text extended
     → bytes ≡ file_bytes extended text room.designations z → IsWrittenFile z bytes
 written_is z room text extended bytes h sound some fits footer e =
     let p = text_is z.rule text extended fits footer in
@@ -38,12 +38,6 @@ written_is z room text extended bytes h sound some fits footer e =
       order = h.laid;
       layout = e;
     }
-
--- the same of what a function answers
-pub file_result : {X E : Type 0} (view : X → List ℕ) (r : Result X E) (z : Zone) (room : Room) (text : List ℕ) (extended : Bool) → IsRoomOf z room → 0 < length z.types → IsRuleOrNone z.rule → IsFooterText z.rule text extended
-    → IfOk r (λ v. view v ≡ file_bytes extended text room.designations z) → OnOk r (IsSound z) → IfOk r (λ v. IsWrittenFile z (view v))
-file_result view (Ok v) z room text extended h some fits footer e sound = written_is z room text extended (view v) h sound some fits footer e
-file_result view (Err y) z room text extended h some fits footer e sound = tt
 
 -- ---- one file of a zone
 one_footer : (rule : Option TransitionRule) (a b : List ℕ) (x y : Bool) → IsFooterText rule a x → IsFooterText rule b y → (a ≡ b) × (x ≡ y)

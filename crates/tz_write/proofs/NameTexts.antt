@@ -1,11 +1,11 @@
 -- The texts of names.
 use Rattle.tz_base.proofs.RunLaws.{all_of}
 use Rattle.tz_base.specs.Grammar.{Run}
-use Rattle.tz_write.proofs.Words.{AllOf, AreInPairs, Bool, IsName, List, NoneFirst, Spells, and_from, and_parts, ap, append_assoc, arith, both_ways}
+use Rattle.tz_write.proofs.Words.{AllOf, Bool, IsName, List, NoneFirst, Spells, and_from, and_parts, ap, append_assoc, arith, both_ways}
 use Rattle.tz_write.proofs.Words.{colon, cond, false, greater, inl, inr, is_letter, is_name_byte, is_not_greater, length, length-append, less, list_all}
 use Rattle.tz_write.proofs.Words.{spelled_name, nat_tests, refl, subst, sym, true, ℕ, [], ◌++◌, ◌<◌, ◌∙◌, ◌∷◌, ◌≡◌, ◌≢◌}
 use Rattle.tz_write.proofs.{Decimals.{Begins, without}, Shortest.{Best, Front}}
-use Rattle.tz_write.proofs.TextBytes.{Writes, all_others, names_are, writes_byte, writes_mark, writes_nothing, writes_other, writes_then}
+use Rattle.tz_write.proofs.TextBytes.{Writes, all_others, names_are, pairs_over, writes_byte, writes_mark, writes_nothing, writes_other, writes_then}
 use Rattle.tz_info.specs.TzGrammar as tz
 
 all_from : (p : ℕ → Bool) (bs : List ℕ) → list_all p bs ≡ true → AllOf p bs
@@ -17,11 +17,7 @@ all_to p [] h = refl
 all_to p (b ∷ bs) h = and_from (p b) (list_all p bs) h.0 (all_to p bs h.1)
 
 not_colon : (b : ℕ) → is_name_byte b ≡ true → b ≢ colon
-not_colon b h = λ e. absurd (both_ways (is_name_byte b) (subst (λ (x : ℕ). is_name_byte x ≡ false) (sym e) refl) h)
-
-name_bytes_pairs : (bs rest : List ℕ) → AllOf is_name_byte bs → AreInPairs rest → AreInPairs (bs ++ rest)
-name_bytes_pairs [] rest h pairs = pairs
-name_bytes_pairs (b ∷ bs) rest h pairs = ((λ e. absurd (not_colon b h.0 e)), name_bytes_pairs bs rest h.1 pairs)
+not_colon b h e = absurd (both_ways (is_name_byte b) (subst (λ (x : ℕ). is_name_byte x ≡ false) (sym e) refl) h)
 
 not_greater : (b : ℕ) → is_name_byte b ≡ true → is_not_greater b ≡ true
 not_greater b h = grind (arith, nat_tests)
@@ -34,7 +30,7 @@ letters_begin (b ∷ bs) rest some each = let h = each.0 in
 
 run_writes : (p : ℕ → Bool) (name rest : List ℕ) → AllOf p name → AllOf is_name_byte name → NoneFirst p rest → Writes (Run p) name name rest
 run_writes p name rest each all none =
-    record { spelled = record { whole = refl; each = each; longest = none }; bytes = names_are name all; pairs = name_bytes_pairs name rest all }
+    record { spelled = record { whole = refl; each = each; longest = none }; bytes = names_are name all; pairs = pairs_over is_name_byte not_colon name rest all }
 
 pub name_writes : (name rest : List ℕ) → IsName name → NoneFirst is_letter rest → Writes tz.name (spelled_name name) name rest
 unfolding tz.name tz.quoted

@@ -26,6 +26,11 @@ digits_are = all_others is_digit is_text_byte (λ b h. grind (arith, nat_tests))
 pub names_are : (bs : List ℕ) → AllOf is_name_byte bs → AreTextBytes bs
 names_are = all_others is_name_byte is_text_byte (λ b h. rw h refl)
 
+-- no colon, and so no two digits to stand after one
+pub pairs_over : (p : ℕ → Bool) → ((b : ℕ) → p b ≡ true → b ≢ colon) → (bs rest : List ℕ) → AllOf p bs → AreInPairs rest → AreInPairs (bs ++ rest)
+pairs_over p other [] rest h pairs = pairs
+pairs_over p other (b ∷ bs) rest h pairs = ((λ e. absurd (other b h.0 e)), pairs_over p other bs rest h.1 pairs)
+
 pub limits : (b : ℕ) → is_text_byte b ≡ true → (b ≢ 0) × (b < 128)
 limits b h = (grind (arith, nat_tests), grind (arith, nat_tests))
 
