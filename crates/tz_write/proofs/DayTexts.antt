@@ -3,7 +3,7 @@ use Rattle.tz_info.specs.declared.rule.day.DayForm.TheVariants.{Julian0, Julian1
 use Rattle.tz_write.proofs.Words.{Bool, DayForm, DayTime, Decides-int_eq, IsPlainTime, IsRuleDay, IsTextTime, IsWithinDay, List}
 use Rattle.tz_write.proofs.Words.{NoneFirst, Spells, ap, append_assoc, arith, comma, cond, date_max, spelled_date, day_max, spelled_day}
 use Rattle.tz_write.proofs.Words.{spelled_dst_offset, false, inl, inr, int_eq, ints, is_digit, letter_J, letter_M, spelled_offset, pos}
-use Rattle.tz_write.proofs.Words.{refl, slash, subst, sym, time_after, true, ℕ, ℤ, [], ◌++◌, ◌+ℤ◌, ◌∙◌, ◌∷◌, ◌≡◌, ◌≤ℤ◌}
+use Rattle.tz_write.proofs.Words.{refl, slash, subst, sym, time_after, true, ℕ, ℤ, [], ◌++◌, ◌+ℤ◌, ◌∙◌, ◌∷◌, ◌≡◌}
 use Rattle.tz_write.proofs.Clocks.{Stops, comma_stops, offset_begins, offset_front, offset_writes, time_front, time_plain, time_writes}
 use Rattle.tz_write.proofs.Decimals.{Begins, not_empty, number_begins, number_front, number_writes, without}
 use Rattle.tz_write.proofs.Shortest.{Front, front_cons, front_nothing, front_optional, front_then, front_unless}
@@ -63,14 +63,11 @@ unfolding tz.day
 day_plain bytes d rest (_, after, _, (at, end, time, (value, _))) = rw value (after_plain after at end time)
 
 -- ---- the offset of daylight saving time
-next_within : (std dst : ℤ) → dst ≡ std +ℤ pos 3_600 → IsWithinDay dst → (std +ℤ pos 3_600) ≤ℤ pos 86_399
-next_within std dst v h = let l = h.1 in omega (arith, ints)
-
 -- the offset has its comma after it
 pub dst_offset_writes : (std dst : ℤ) (rest : List ℕ) → IsWithinDay dst → Writes (tz.dst_offset std) (spelled_dst_offset std dst ++ (comma ∷ [])) dst rest
 unfolding tz.dst_offset tz.next_hour tz.given_offset tz.more
 dst_offset_writes std dst rest h = elim (int_eq dst (std +ℤ pos 3_600)) as (λ t. int_eq dst (std +ℤ pos 3_600) ≡ t → Writes (tz.dst_offset std) (cond t [] (spelled_offset dst) ++ (comma ∷ [])) dst rest) [
-  | true ↦ λ e. let v = (Decides-int_eq dst _).0 e in writes_mark refl (rw v (writes_check (next_within std dst v h)))
+  | true ↦ λ e. let v = (Decides-int_eq dst _).0 e in writes_mark refl (rw v (writes_check (let l = h.1 in omega (arith, ints))))
   | false ↦ λ e. let first : Begins 45 57 ((spelled_offset dst ++ (comma ∷ [])) ++ rest) = rw (append_assoc (spelled_offset dst) (comma ∷ []) rest) (offset_begins dst (comma ∷ rest) h) in
       writes_other (without comma first (inl (omega arith))) (writes_first tt (inr (not_empty first, (refl, refl)))
       (writes_then (offset_writes dst (comma ∷ rest) h (comma_stops rest)) (writes_first tt (inr ((λ e. cc), (refl, refl))) (writes_byte refl (writes_nothing refl)))))

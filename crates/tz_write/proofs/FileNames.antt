@@ -128,13 +128,9 @@ abbrev pub put_stands : (designations text : List ℕ) → Stands (designations 
 put_stands designations text = record { before = designations; after = []; whole = refl }
 
 pub place_of_put : (designations text other : List ℕ) → Ends text other → place_of other (designations ++ (text ++ 0 ∷ [])) + length other ≤ length designations + length text
-place_of_put designations text other h = omega (
-  arith,
-  place_of_stands _ other (end_stands (put_stands designations text) h),
-  length-append designations h.front,
-  ap length h.is,
-  length-append h.front other,
-)
+place_of_put designations text other h =
+    let low = place_of_stands _ other (end_stands (put_stands designations text) h) in
+    omega (arith, low, length-append designations h.front, ap length h.is, length-append h.front other)
 
 pub put_in : (designations text other : List ℕ) → Ends text other → In (designations ++ (text ++ 0 ∷ [])) other
 put_in designations text other h = stands_in _ other (end_stands (put_stands designations text) h)

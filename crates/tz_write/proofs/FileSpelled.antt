@@ -75,12 +75,9 @@ pieces_of extended text d z = later_pieces (record { version = version_of extend
 
 second_is : (extended : Bool) (text d : List ℕ) (z : Zone) → length d ≤ 263 → HasCounts z → 0 < length z.types → HavePlaces d z.types → IsSound z → Spells later_version (second_half extended text d z) (pieces_of extended text d z) []
 unfolding second_half pieces_of later_version
-second_is extended text d z size counts some places sound = (
-  _,
-  _,
-  header_is Second extended (zone_counts d z) _ (zone_fit d z size counts) (zone_agree d z some places),
-  (_, _, second_block d z (footer_bytes text) places sound, (_, [], (refl, refl), (refl, refl))),
-)
+second_is extended text d z size counts some places sound =
+    let head = header_is Second extended (zone_counts d z) (block_bytes (zone_parts d z) (footer_bytes text)) (zone_fit d z size counts) (zone_agree d z some places) in
+    (_, _, head, (_, _, second_block d z (footer_bytes text) places sound, (_, [], (refl, refl), (refl, refl))))
 
 after_is : (extended : Bool) (c : Counts) (p : Parts) (rest : List ℕ) (pieces : FilePieces) → Spells later_version rest pieces [] → Spells (after_first_block (version_of extended) c p) rest pieces []
 unfolding after_first_block

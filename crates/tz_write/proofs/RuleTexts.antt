@@ -142,15 +142,12 @@ text_once rule s t true false p q = absurd (p.needed refl t q.spells)
 text_once rule s t false true p q = absurd (q.needed refl s p.spells)
 
 -- a rule's times need extensions, or they need none
-plain_time : (time : ℤ) → (IsPlainTime time) ⊎ (IsPlainTime time → ⊥)
-plain_time time = grind (arith, ints)
+both_plain : (start end : ℤ) → (IsPlainTime start × IsPlainTime end) ⊎ (IsPlainTime start × IsPlainTime end → ⊥)
+both_plain start end = grind (arith, ints)
 
 plain_times : (rule : TransitionRule) → (AreTimesOf false rule) ⊎ (AreTimesOf false rule → ⊥)
 plain_times (rules.Fixed t) = inl tt
-plain_times (rules.Alternate a) = elim (plain_time a.start.time) [
-  | inl s ↦ elim (plain_time a.end.time) [ inl e ↦ inl (s, e) | inr n ↦ inr (λ h. n h.1) ]
-  | inr n ↦ inr (λ h. n h.0)
-]
+plain_times (rules.Alternate a) = both_plain a.start.time a.end.time
 
 text_is : (rule : TransitionRule) → IsRule rule → CanBeSpelled rule → (needed : Bool) × IsWrittenText rule (spelled_rule rule) needed
 text_is rule fits named = elim (plain_times rule) [
