@@ -22,20 +22,13 @@ months_early b (suc zero) low high = refl
 months_early b (suc (suc zero)) low high = refl
 months_early b (suc (suc (suc n))) low high = absurd (omega arith)
 
+month_step : (b : Bool) (k : ℕ) → k < 10 → march_months (k + 4) ≡ march_months (k + 3) + days_in_month b (suc (suc (suc k)))
+month_step b k h = grind (arith, nat_tests)
+
 from_march : (b : Bool) (k : ℕ) → k < 11 → days_of_months b (suc (suc k)) ≡ march_months (k + 3) + 59 + leap_day b
 unfolding days_of_months
 from_march b zero h = grind arith
-from_march b (suc zero) h = grind arith
-from_march b (suc (suc zero)) h = grind arith
-from_march b (suc (suc (suc zero))) h = grind arith
-from_march b (suc (suc (suc (suc zero)))) h = grind arith
-from_march b (suc (suc (suc (suc (suc zero))))) h = grind arith
-from_march b (suc (suc (suc (suc (suc (suc zero)))))) h = grind arith
-from_march b (suc (suc (suc (suc (suc (suc (suc zero))))))) h = grind arith
-from_march b (suc (suc (suc (suc (suc (suc (suc (suc zero)))))))) h = grind arith
-from_march b (suc (suc (suc (suc (suc (suc (suc (suc (suc zero))))))))) h = grind arith
-from_march b (suc (suc (suc (suc (suc (suc (suc (suc (suc (suc zero)))))))))) h = grind arith
-from_march b (suc (suc (suc (suc (suc (suc (suc (suc (suc (suc (suc n))))))))))) h = absurd (omega arith)
+from_march b (suc k) h = let same : suc k + 3 ≡ k + 4 = omega arith in rw same (omega (arith, from_march b k (omega arith), month_step b k (omega arith)))
 
 -- the months from March on lie after a January and a February
 pub months_late : (b : Bool) (m : ℕ) → 3 ≤ m → m ≤ 13 → days_of_months b (m - 1) ≡ march_months m + 59 + leap_day b

@@ -1,21 +1,12 @@
 -- What tells a year's calendar, by centuries and years after a January.
-use Rattle.std.proofs.Common.{◌≡◌, ◌∙◌, sym, refl, ℕ, ◌+◌, ◌*◌, ◌/◌, ◌%◌, ◌<◌, arith, ◌==◌, Bool, true, false, not, ◌&&◌, ◌||◌, inl, inr, ℤ, pos, ◌+ℤ◌, ◌-ℤ◌}
-use Rattle.std.proofs.lemmas.Bool.Decides.{eqb_tells}
+use Rattle.std.proofs.Common.{◌≡◌, refl, ℕ, ◌+◌, ◌*◌, ◌/◌, ◌%◌, ◌<◌, arith, ◌==◌, Bool, true, false, not, ◌&&◌, ◌||◌, ℤ, pos, ◌+ℤ◌, ◌-ℤ◌}
+use Rattle.std.proofs.lemmas.Bool.Decides.{Decides-eqb, Decides-like, same_from_decides}
 use Rattle.gregorian.specs.{Year.{is_leap, floor_mod, year_start}, DateOf.{year_of}, Steps.Cycle.{days_of_years}, Weekdays.{weekday_of}}
 use Rattle.gregorian.proofs.{Floor.{floors}, Cycle.{january_start, year_found}, YearLaws.{floor_mod_parts, one_year, lies_in}}
 
 -- two tests that come out alike
 same_test : (a b c d : ℕ) → (a ≡ b → c ≡ d) → (c ≡ d → a ≡ b) → (a == b) ≡ (c == d)
-same_test a b c d to from = elim (eqb_tells a b) [
-  | inl (t, e) ↦ elim (eqb_tells c d) [
-    | inl (s, f) ↦ t ∙ sym s
-    | inr (s, f) ↦ absurd (f (to e))
-  ]
-  | inr (t, e) ↦ elim (eqb_tells c d) [
-    | inl (s, f) ↦ absurd (e (from f))
-    | inr (s, f) ↦ t ∙ sym s
-  ]
-]
+same_test a b c d to from = same_from_decides _ _ (Decides-eqb a b) (Decides-like _ from to (Decides-eqb c d))
 
 by_four : (y : ℤ) (c n : ℕ) → y +ℤ pos 2_147_484_000 ≡ pos (100 * c + n + 1) → (floor_mod y 4 == 0) ≡ (n % 4 == 3)
 by_four y c n e =
@@ -36,16 +27,11 @@ or_test : (a p q : Bool) → (a ≡ true → p ≡ q) → (not a || p) ≡ (not 
 or_test true p q h = h refl
 or_test false p q h = refl
 
-century_end : (n : ℕ) → (n == 99) ≡ true → n ≡ 99
-century_end n h = elim (eqb_tells n 99) [
-  | inl (t, e) ↦ e
-  | inr (t, e) ↦ cc
-]
-
 pub leap_by : (y : ℤ) (c n : ℕ) → n < 100 → y +ℤ pos 2_147_484_000 ≡ pos (100 * c + n + 1) → is_leap y ≡ ((n % 4 == 3) && (not (n == 99) || (c % 4 == 3)))
 leap_by y c n h e =
     let four = by_four y c n e in let hundred = by_hundred y c n h e in
-    let last = or_test (n == 99) (floor_mod y 400 == 0) (c % 4 == 3) (λ t. by_four_hundred y c (rw (century_end n t) at e)) in
+    let last = or_test (n == 99) (floor_mod y 400 == 0) (c % 4 == 3)
+    (λ t. by_four_hundred y c (rw ((Decides-eqb n 99).0 t) at e)) in
     rw (four, hundred, last) refl
 
 pub first_by : (y : ℤ) (c n : ℕ) → n < 100 → y +ℤ pos 2_147_484_000 ≡ pos (100 * c + n + 1) → weekday_of (year_start y) ≡ (5 * (c % 4) + n + n / 4 + 1) % 7

@@ -40,13 +40,12 @@ year_start-later y (suc n) =
 pub starts_rise : (a b : ℤ) → a ≤ℤ b → year_start a ≤ℤ year_start b
 starts_rise a b h = rw (gap_of a b h) at (year_start-later a (unsigned_abs (b -ℤ a)))
 
+starts_less : (a b : ℤ) → year_start a <ℤ year_start b → a <ℤ b
+starts_less a b h = by_lt_z a b (λ less. less) (λ not_less. let rise = starts_rise b a (omega (arith, floors)) in absurd (omega (arith, floors)))
+
 -- no day lies in two years
 pub one_year : (day a b : ℤ) → LiesIn day a → LiesIn day b → a ≡ b
-one_year day a b h k = by_lt_z a b
-    (λ less. let rise = starts_rise (a +ℤ pos 1) b (omega (arith, floors)) in absurd (omega (arith, floors)))
-    (λ not_less. by_lt_z b a
-    (λ more. let rise = starts_rise (b +ℤ pos 1) a (omega (arith, floors)) in absurd (omega (arith, floors)))
-    (λ not_more. omega (arith, floors)))
+one_year day a b h k = omega (arith, floors, starts_less a (b +ℤ pos 1) (omega (arith, floors)), starts_less b (a +ℤ pos 1) (omega (arith, floors)))
 
 -- The years that 32 bits hold.
 
@@ -65,14 +64,10 @@ day_of_years day y lies fits =
     (omega (arith, floors, first_start), omega (arith, floors, last_start))
 
 pub year_of_days : (day y : ℤ) → LiesIn day y → IsDay day → IsYear y
-year_of_days day y lies within =
-    let low : (neg_ℤ (pos 2_147_483_648)) ≤ℤ y = by_lt_z y (neg_ℤ (pos 2_147_483_648))
-    (λ less. let before = starts_rise (y +ℤ pos 1) (neg_ℤ (pos 2_147_483_648)) (omega (arith, floors)) in absurd (omega (arith, floors, first_start)))
-    (λ more. omega (arith, floors)) in
-    let high : y ≤ℤ pos 2_147_483_647 = by_lt_z (pos 2_147_483_647) y
-    (λ less. let behind = starts_rise (pos 2_147_483_648) y (omega (arith, floors)) in absurd (omega (arith, floors, last_start)))
-    (λ more. omega (arith, floors)) in
-    (low, high)
+year_of_days day y lies within = (
+  omega (arith, floors, starts_less (neg_ℤ (pos 2_147_483_648)) (y +ℤ pos 1) (omega (arith, floors, first_start))),
+  omega (arith, floors, starts_less y (pos 2_147_483_648) (omega (arith, floors, last_start))),
+)
 
 pub start_in_range : (y : ℤ) → IsYear y → IsDay (year_start y)
 start_in_range y fits = day_of_years (year_start y) y (omega (arith, floors), year_start-less y) fits

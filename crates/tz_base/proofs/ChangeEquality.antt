@@ -1,5 +1,6 @@
 -- Types of local time, changes of the clocks and spans are equal by `==` if and only if they are equal.
 use Rattle.std.proofs.Common.{rules, ℤ, int_eq, ◌≡◌, ◌↔◌, IsTrue, refl, ap, Bool, true, false, ◌&&◌, Option, Some, None}
+use Rattle.std.proofs.lemmas.Bool.Decides.{Decides-and, Decides-like}
 use Rattle.std.specs.Option.{option_eq}
 use Rattle.tz_base.specs.{LocalTypes.{LocalType}, contracts.local_time_type.LocalTimeTypePartialEq.TheImpl.{eq-value as type_eq}, declared.span.Span.{Span}}
 use Rattle.tz_base.specs.declared.change.Change.{Change}
@@ -31,17 +32,9 @@ same_change : (u v : ℤ) (r s t w : LocalType) → u ≡ v → r ≡ s → t �
 same_change u v r s t w a b c = cc
 
 pub change_exact : (a b : Change) → IsTrue (int_eq a.at b.at && (type_eq.it a.before b.before && type_eq.it a.after b.after)) ↔ (a ≡ b)
-change_exact a b = (
-  λ h.
-      let r = and_right (int_eq a.at b.at) _ h in
-      same_change a.at b.at a.before b.before a.after b.after
-      ((second_exact a.at b.at).0 (and_left (int_eq a.at b.at) _ h))
-      ((type_exact a.before b.before).0 (and_left (type_eq.it a.before b.before) _ r))
-      ((type_exact a.after b.after).0 (and_right (type_eq.it a.before b.before) _ r)),
-  λ e.
-      and_both (int_eq a.at b.at) _ ((second_exact a.at b.at).1 (ap (λ (x : Change). x.at) e))
-      (and_both (type_eq.it a.before b.before) _ ((type_exact a.before b.before).1 (ap (λ (x : Change). x.before) e)) ((type_exact a.after b.after).1 (ap (λ (x : Change). x.after) e))),
-)
+change_exact a b = Decides-like _ (λ h. same_change a.at b.at a.before b.before a.after b.after h.0 h.1.0 h.1.1)
+    (λ e. (ap (λ (x : Change). x.at) e, (ap (λ (x : Change). x.before) e, ap (λ (x : Change). x.after) e)))
+    (Decides-and _ _ (second_exact a.at b.at) (Decides-and _ _ (type_exact a.before b.before) (type_exact a.after b.after)))
 
 end_exact : IsExact (option_eq int_eq)
 end_exact None None = (λ h. refl, λ e. refl)
@@ -56,14 +49,6 @@ same_span : (s t : LocalType) (u v w x : Option ℤ) → s ≡ t → u ≡ v →
 same_span s t u v w x a b c = cc
 
 pub span_exact : (a b : Span) → IsTrue (type_eq.it a.local_time_type b.local_time_type && (option_eq int_eq a.from b.from && option_eq int_eq a.until b.until)) ↔ (a ≡ b)
-span_exact a b = (
-  λ h.
-      let ends = and_right (type_eq.it a.local_time_type b.local_time_type) _ h in
-      same_span a.local_time_type b.local_time_type a.from b.from a.until b.until
-      ((type_exact a.local_time_type b.local_time_type).0 (and_left (type_eq.it a.local_time_type b.local_time_type) _ h))
-      ((end_exact a.from b.from).0 (and_left (option_eq int_eq a.from b.from) _ ends))
-      ((end_exact a.until b.until).0 (and_right (option_eq int_eq a.from b.from) _ ends)),
-  λ e.
-      and_both (type_eq.it a.local_time_type b.local_time_type) _ ((type_exact a.local_time_type b.local_time_type).1 (ap (λ (x : Span). x.local_time_type) e))
-      (and_both (option_eq int_eq a.from b.from) _ ((end_exact a.from b.from).1 (ap (λ (x : Span). x.from) e)) ((end_exact a.until b.until).1 (ap (λ (x : Span). x.until) e))),
-)
+span_exact a b = Decides-like _ (λ h. same_span a.local_time_type b.local_time_type a.from b.from a.until b.until h.0 h.1.0 h.1.1)
+    (λ e. (ap (λ (x : Span). x.local_time_type) e, (ap (λ (x : Span). x.from) e, ap (λ (x : Span). x.until) e)))
+    (Decides-and _ _ (type_exact a.local_time_type b.local_time_type) (Decides-and _ _ (end_exact a.from b.from) (end_exact a.until b.until)))

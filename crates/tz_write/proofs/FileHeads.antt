@@ -1,8 +1,7 @@
 -- Headers that are written are headers.
 use Rattle.tz_info.specs.declared.file.header.Version.TheVariants.{Three, Two}
-use Rattle.tz_write.proofs.Words.{Bool, Counts, CountsAgree, List, Place, Spells, Version, arith, be_u32, counts_bytes, false, header, header_bytes, inl, inr}
+use Rattle.tz_write.proofs.Words.{Bool, Counts, CountsAgree, List, Place, Spells, Version, arith, counts_bytes, false, header, header_bytes, inl, inr}
 use Rattle.tz_write.proofs.Words.{magic, number_bytes, refl, six_counts, true, tzif, unused, version, version_byte, ℕ, ◌++◌, ◌<◌, ◌^◌, ◌∷◌}
-use Rattle.tz_base.specs.Grammar.{Grammar, Then}
 use Rattle.tz_write.proofs.FileRecords.{number_is}
 
 -- counts of four bytes
@@ -10,23 +9,29 @@ abbrev pub CountsFit : Counts → Type 0
 CountsFit c = (c.ut_local < 2 ^ 32) × (c.standard_wall < 2 ^ 32) × (c.leap_seconds < 2 ^ 32) × (c.transitions < 2 ^ 32) × (c.types < 2 ^ 32)
     × (c.designations < 2 ^ 32)
 
-record IsSpelled {X : Type 0} (g : Grammar X) (bytes : List ℕ) (x : X) (rest : List ℕ) : Type 0 where
-  pub spelled : Spells g bytes x rest
-
-count_then : {X : Type 0} {f : ℕ → Grammar X} {x : X} {rest : List ℕ} (n : ℕ) (after : List ℕ) → n < 2 ^ 32 → IsSpelled (f n) after x rest
-    → IsSpelled (Then be_u32 f) (number_bytes n ++ after) x rest
-count_then n after fits more = record { spelled = (n, after, number_is n after fits, more.spelled) }
-
 counts_are : (c : Counts) (rest : List ℕ) → CountsFit c → Spells six_counts (counts_bytes c ++ rest) c rest
 unfolding counts_bytes number_bytes six_counts
-counts_are c rest (a, b, d, e, f, g) =
-    let at_types = number_bytes c.types ++ (number_bytes c.designations ++ rest) in
-    let at_leaps = number_bytes c.leap_seconds ++ (number_bytes c.transitions ++ at_types) in
-    let counts : IsSpelled six_counts (counts_bytes c ++ rest) c rest =
-    count_then c.ut_local (number_bytes c.standard_wall ++ at_leaps) a (count_then c.standard_wall at_leaps b
-    (count_then c.leap_seconds (number_bytes c.transitions ++ at_types) d (count_then c.transitions at_types e
-    (count_then c.types (number_bytes c.designations ++ rest) f (count_then c.designations rest g (record { spelled = (refl, refl) })))))) in
-    counts.spelled
+counts_are c rest (a, b, d, e, f, g) = (
+  _,
+  _,
+  number_is c.ut_local _ a,
+  (
+    _,
+    _,
+    number_is c.standard_wall _ b,
+    (
+      _,
+      _,
+      number_is c.leap_seconds _ d,
+      (
+        _,
+        _,
+        number_is c.transitions _ e,
+        (_, _, number_is c.types _ f, (_, _, number_is c.designations _ g, (refl, refl))),
+      ),
+    ),
+  ),
+)
 
 abbrev pub version_of : Bool → Version
 version_of true = Three

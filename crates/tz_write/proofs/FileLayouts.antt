@@ -2,12 +2,13 @@
 use Rattle.tz_write.proofs.Words.{All, All-cons, All-head, All-nil, All-weaker, AreNamesIn, AreNotPlacedBefore, ArePlaced, AreShortest, Bool, Decides}
 use Rattle.tz_write.proofs.Words.{Decides-and, Decides-by_and, Decides-like, Decides-ltb, HasNoZero, HasPlace, HavePlaces, In_order, IsFirstPlaced, IsLaid}
 use Rattle.tz_write.proofs.Words.{IsNameOrNone, IsNamedIn, IsPlacedFrom, List, LocalType, MatchOption, None, Option, Otherwise, Some, StandsAt, ap, append-nil}
-use Rattle.tz_write.proofs.Words.{append_assoc, arith, before_last, before_zero, both_ways, cases_lt, drop, drop-append_seam, ends, false, false≢true, get_or}
+use Rattle.tz_write.proofs.Words.{append_assoc, arith, before_last, before_zero, cases_lt, drop, drop-append_seam, ends, false, false≢true, get_or}
 use Rattle.tz_write.proofs.Words.{inl, inr, laid, laid_from, length, length-append, list_all, name_of, name_or_none, nat_lt, nat_tests, nil_from_length}
-use Rattle.tz_write.proofs.Words.{place_of, refl, subst, suc, sym, text_at, true, with_text, zero, ℕ, [], ◌&&◌, ◌*◌, ◌++◌, ◌+◌, ◌<◌, ◌==◌, ◌∙◌, ◌∷◌, ◌≡◌, ◌≢◌}
+use Rattle.tz_write.proofs.Words.{place_of, refl, subst, suc, sym, text_at, true, with_text, zero, ℕ, [], ◌&&◌, ◌*◌, ◌++◌, ◌+◌, ◌<◌, ◌==◌, ◌∙◌, ◌∷◌, ◌≡◌}
 use Rattle.tz_write.proofs.Words.{◌≤◌, ◌⊎◌}
-use Rattle.tz_write.proofs.FileNames.{Behind, Ends, Has_end, In, In_front, Is_end, Meeting, Stands, end_in, ends_again, ends_of, in_stands, meet, place_behind}
-use Rattle.tz_write.proofs.FileNames.{place_kept, place_of_put, put_in}
+use borrow.Author.Count.{below_more}
+use Rattle.tz_write.proofs.FileNames.{Behind, Ends, Has_end, In, In_front, Is_end, Stands, end_in, end_stands, ends_again, ends_of, in_stands, meet}
+use Rattle.tz_write.proofs.FileNames.{place_kept, place_of_put, place_of_stands, put_in, put_stands}
 use Rattle.tz_write.proofs.FileRecords.{has_text, no_zero}
 use Rattle.tz_write.proofs.FileRoom.{Given, Room, before_filled, before_keeps, before_passed, by_text, kept, no_front, put, put_is, room_of}
 
@@ -20,12 +21,9 @@ whole_size : (bytes b x a : List ℕ) → bytes ≡ b ++ (x ++ (0 ∷ a)) → le
 whole_size bytes b x a e = omega (arith, ap length e, length-append b (x ++ (0 ∷ a)), length-append x (0 ∷ a))
 
 -- the text at the place where a text stands
-not_same : (b : ℕ) → b ≢ 0 → (b == 0) ≡ false
-not_same b h = grind (arith, nat_tests)
-
 front_is : (text rest : List ℕ) → HasNoZero text → before_zero (text ++ (0 ∷ rest)) ≡ text
 front_is [] rest none = refl
-front_is (b ∷ bs) rest none = rw (not_same b none.0) (ap (λ (s : List ℕ). b ∷ s) (front_is bs rest none.1))
+front_is (b ∷ bs) rest none = let h = none.0 in let e : (b == 0) ≡ false = grind (arith, nat_tests) in rw e (ap (λ (s : List ℕ). b ∷ s) (front_is bs rest none.1))
 
 text_found : (designations text : List ℕ) → HasNoZero text → In designations text → text_at designations (place_of text designations) ≡ text
 text_found designations text none h =
@@ -53,8 +51,7 @@ pub record Served (bytes : List ℕ) (t : LocalType) : Type 0 where
 
 served : (bytes : List ℕ) (t : LocalType) → IsNameOrNone t.name → IsNamedIn bytes t → Served bytes t
 served bytes t named h =
-    let s = h.stands in
-    let at = subst (λ (b : List ℕ). place_of (name_of t) b ≤ length s.before) (sym s.whole) (place_behind (name_of t) s.before s.after) in
+    let s = h.stands in let at = place_of_stands bytes (name_of t) (record { before = s.before; after = s.after; whole = s.whole }) in
     record {
       named = named;
       stands = has_text (name_of t) bytes s.ends (omega (arith, at, whole_size bytes s.before (name_of t) s.after s.whole));
@@ -70,25 +67,19 @@ pub record EndsWith (bytes : List ℕ) (m t : LocalType) : Type 0 where
   pub ends : Ends (name_of m) (name_of t)
   pub at : place_of (name_of t) bytes + length (name_of t) ≡ place_of (name_of m) bytes + length (name_of m)
 
-where_by : (bytes : List ℕ) (m t : LocalType) (sm : Served bytes m) (st : Served bytes t) → length (name_of m) ≤ 7 → key_in bytes t ≤ key_in bytes m
-    → Meeting sm.stands.before (name_of m) sm.stands.after st.stands.before (name_of t) st.stands.after → Stands sm.stands.before (name_of t) ⊎ EndsWith bytes m t
-unfolding key_in
-where_by bytes m t sm st short top (In_front e h) = inl (record { before = st.stands.before; after = e; whole = h })
-where_by bytes m t sm st short top (Behind e h) =
-    absurd (omega (arith, top, short, whole_size sm.stands.after e (name_of t) st.stands.after h, whole_size bytes sm.stands.before (name_of m) sm.stands.after sm.stands.whole, whole_size bytes st.stands.before (name_of t) st.stands.after st.stands.whole, sm.stands.at, st.stands.at))
-where_by bytes m t sm st short top (Is_end f h l) = inr (record {
-  ends = record { front = f; is = h };
-  at = omega (arith, ap length l, whole_size bytes sm.stands.before (name_of m) sm.stands.after sm.stands.whole, whole_size bytes st.stands.before (name_of t) st.stands.after st.stands.whole, sm.stands.at, st.stands.at);
-})
-where_by bytes m t sm st short top (Has_end f h l) =
-    let at : place_of (name_of t) bytes + length (name_of t) ≡ place_of (name_of m) bytes + length (name_of m) =
-    omega (arith, ap length l, whole_size bytes sm.stands.before (name_of m) sm.stands.after sm.stands.whole, whole_size bytes st.stands.before (name_of t) st.stands.after st.stands.whole, sm.stands.at, st.stands.at) in
-    inr (record { ends = record { front = []; is = sym (h ∙ no_front f (name_of m) (omega (arith, top, at, ap length h))) }; at = at })
-
 where_is : (bytes : List ℕ) (m t : LocalType) (sm : Served bytes m) → Served bytes t → key_in bytes t ≤ key_in bytes m → Stands sm.stands.before (name_of t) ⊎ EndsWith bytes m t
+unfolding key_in
 where_is bytes m t sm st top =
-    where_by bytes m t sm st ((name_size m.name sm.named).0) top
-    (meet sm.stands.before (name_of m) sm.stands.after st.stands.before (name_of t) st.stands.after sm.stands.ends st.stands.ends (sym sm.stands.whole ∙ st.stands.whole))
+    let a = sm.stands in let b = st.stands in let short = (name_size m.name sm.named).0 in
+    let m_size = whole_size bytes a.before (name_of m) a.after a.whole in let t_size = whole_size bytes b.before (name_of t) b.after b.whole in
+    elim (meet a.before (name_of m) a.after b.before (name_of t) b.after a.ends b.ends (sym a.whole ∙ b.whole)) [
+      | In_front e h ↦ inl (record { before = b.before; after = e; whole = h })
+      | Behind e h ↦ absurd (omega (arith, top, short, whole_size a.after e (name_of t) b.after h, m_size, t_size, a.at, b.at))
+      | Is_end f h l ↦ inr (record { ends = record { front = f; is = h }; at = omega (arith, ap length l, m_size, t_size, a.at, b.at) })
+      | Has_end f h l ↦
+          let at : place_of (name_of t) bytes + length (name_of t) ≡ place_of (name_of m) bytes + length (name_of m) = omega (arith, ap length l, m_size, t_size, a.at, b.at) in
+          inr (record { ends = record { front = []; is = sym (h ∙ no_front f (name_of m) (omega (arith, top, at, ap length h))) }; at = at })
+    ]
 
 -- ---- laid with that text as the last
 kept_low : (designations other text : List ℕ) → In designations text → place_of text (with_text designations other) ≤ place_of text designations
@@ -124,11 +115,12 @@ at_the_end bytes designations m t sm st r filled out away e (inl s) =
       | inr three ↦ omega (arith, three, short, sm.low, sm.stands.at, room_of (name_of m) designations sm.stands.before (name_of t) 3 r st.stands.ends (inr e) s away)
     ])
 
+decided : {P : Type 0} (b : Bool) → Decides b P → P ⊎ (¬ P)
+decided true d = inl (d.0 refl)
+decided false d = inr (λ p. false≢true (d.1 p))
+
 has_end : (last text : List ℕ) → ((Ends last text → ⊥) → ⊥) → Ends last text
-has_end last text h = elim (ends last text) as (λ b. ends last text ≡ b → Ends last text) [
-  | true ↦ λ e. ends_of last text e
-  | false ↦ λ e. absurd (h (λ k. both_ways _ e (ends_again last text k)))
-] refl
+has_end last text h = elim (decided (ends last text) (ends_of last text, ends_again last text)) [ inl e ↦ e | inr none ↦ absurd (h none) ]
 
 laid_place : (bytes designations : List ℕ) (m t : LocalType) (sm : Served bytes m) → Served bytes t → Room (name_of m) designations sm.stands.before 3 → (designations ≡ []) ⊎ In designations []
     → (3 ≤ length (name_of t) → length (name_of t) ≤ 7 → (Ends (name_of m) (name_of t) → ⊥) → In designations (name_of t)) → Stands sm.stands.before (name_of t) ⊎ EndsWith bytes m t
@@ -165,29 +157,13 @@ places_with bytes types m sm s top =
     (where_is bytes m (get_or types i d) sm (s i d l) (top i d l))
 
 -- ---- the texts stand in what is laid in order
-with_last : List ℕ → List ℕ → List ℕ
-with_last before last = before ++ (last ++ 0 ∷ [])
-
-stands_with : (bytes : List ℕ) (m t : LocalType) (sm : Served bytes m) → Stands sm.stands.before (name_of t) ⊎ EndsWith bytes m t → Stands (with_last sm.stands.before (name_of m)) (name_of t)
-unfolding with_last
-stands_with bytes m t sm (inl s) =
-    let more = name_of m ++ 0 ∷ [] in
-    record {
-      before = s.before;
-      after = s.after ++ more;
-      whole = ap (λ (x : List ℕ). x ++ more) s.whole ∙ (append_assoc s.before (name_of t ++ (0 ∷ s.after)) more ∙ ap (λ (x : List ℕ). s.before ++ x) (append_assoc (name_of t) (0 ∷ s.after) more));
-    }
-stands_with bytes m t sm (inr q) =
-    let b = sm.stands.before in let f = q.ends.front in
-    record {
-      before = b ++ f;
-      after = [];
-      whole = ap (λ (x : List ℕ). b ++ (x ++ 0 ∷ [])) q.ends.is ∙ (ap (λ (x : List ℕ). b ++ x) (append_assoc f (name_of t) (0 ∷ [])) ∙ sym (append_assoc b f (name_of t ++ 0 ∷ [])));
-    }
-
-with_last_size : (before last : List ℕ) → length (with_last before last) ≡ length before + length last + 1
-unfolding with_last
-with_last_size before last = omega (arith, length-append before (last ++ 0 ∷ []), length-append last (0 ∷ []))
+stands_with : (bytes : List ℕ) (m t : LocalType) (sm : Served bytes m) → Stands sm.stands.before (name_of t) ⊎ EndsWith bytes m t → Stands (sm.stands.before ++ (name_of m ++ 0 ∷ [])) (name_of t)
+stands_with bytes m t sm (inl s) = let more = name_of m ++ 0 ∷ [] in record {
+  before = s.before;
+  after = s.after ++ more;
+  whole = ap (λ (x : List ℕ). x ++ more) s.whole ∙ (append_assoc s.before (name_of t ++ (0 ∷ s.after)) more ∙ ap (λ (x : List ℕ). s.before ++ x) (append_assoc (name_of t) (0 ∷ s.after) more));
+}
+stands_with bytes m t sm (inr q) = end_stands (put_stands sm.stands.before (name_of m)) q.ends
 
 no_text : (bytes : List ℕ) (t : LocalType) → Stands bytes (name_of t) → Stands bytes []
 no_text bytes t s = record { before = s.before ++ name_of t; after = s.after; whole = s.whole ∙ sym (append_assoc s.before (name_of t) (0 ∷ s.after)) }
@@ -199,10 +175,10 @@ in_order_in : (bytes : List ℕ) (types : List LocalType) (m : LocalType) (sm : 
     → All (λ t. In (laid [] types) (name_of t)) types
 unfolding laid
 in_order_in bytes types m sm s top i d l =
-    let others = with_last sm.stands.before (name_of m) in
+    let last = name_of m ++ 0 ∷ [] in let others = sm.stands.before ++ last in
     let stands : All (λ t. Stands others (name_of t)) types = λ i d l. stands_with bytes m (get_or types i d) sm (where_is bytes m (get_or types i d) sm (s i d l) (top i d l)) in
     let given : All (Given [] others) types = λ i d l. record { none = (s i d l).stands.ends; stands = λ free. stands i d l } in
-    let short : length others ≤ 263 = omega (arith, with_last_size sm.stands.before (name_of m), sm.stands.at, sm.low, (name_size m.name sm.named).0) in
+    let short : length others ≤ 263 = omega (arith, length-append sm.stands.before last, length-append (name_of m) (0 ∷ []), sm.stands.at, sm.low, (name_size m.name sm.named).0) in
     let t = get_or types i d in
     let size = name_size t.name (s i d l).named in
     let c = before_last [] types in
@@ -293,10 +269,6 @@ laid_if_any types None some names unplaced h = λ d named. none_laid types d nam
 laid_if_any types (Some d) some names unplaced h = laid_with_last types d some names unplaced h
 
 -- ---- some designations are laid, if any have the names
-decided : {P : Type 0} (b : Bool) → Decides b P → P ⊎ (¬ P)
-decided true d = inl (d.0 refl)
-decided false d = inr (λ p. false≢true (d.1 p))
-
 abbrev has_place : List ℕ → LocalType → Bool
 has_place designations t = nat_lt (place_of (name_of t) designations) (length designations) && nat_lt (place_of (name_of t) designations) 256
 
@@ -321,10 +293,7 @@ first_placed types (suc n) = elim (first_placed types n) [
   | inr f ↦ inr f
   | inl none ↦ elim (placed_or_not types n) [
     | inl h ↦ inr (laid_from types n, record { place = n; placed = h; laid_is = refl; first = none })
-    | inr not ↦ inl (λ k l. elim (cases_lt k n) [
-      | inl m ↦ none k m
-      | inr m ↦ let here : n ≡ k = omega (arith, l, m) in subst (λ (p : ℕ). ¬ (IsPlacedFrom types p)) here not
-    ])
+    | inr not ↦ inl (λ k l. below_more (λ (p : ℕ). ¬ (IsPlacedFrom types p)) n none not k (omega (arith, l)))
   ]
 ]
 

@@ -107,32 +107,37 @@ In designations text = place_of text designations < length designations
 pub in_longer : (designations more text : List ℕ) → In designations text → In (designations ++ more) text
 in_longer designations more text h = omega (arith, place_kept text designations more h, length-append designations more)
 
--- the end of a text that is put in
-pub place_of_end : (designations front text : List ℕ) (a : List ℕ) → place_of text (designations ++ ((front ++ text) ++ (0 ∷ a))) ≤ length designations + length front
-place_of_end designations front text a =
-    let whole : designations ++ ((front ++ text) ++ (0 ∷ a)) ≡ (designations ++ front) ++ (text ++ (0 ∷ a)) =
-    ap (λ (s : List ℕ). designations ++ s) (append_assoc front text (0 ∷ a)) ∙ sym (append_assoc designations front (text ++ (0 ∷ a))) in
-    let low = subst (λ (s : List ℕ). place_of text s ≤ length (designations ++ front)) (sym whole) (place_behind text (designations ++ front) a) in
-    omega (arith, low, length-append designations front)
+-- a text stands no later than there
+pub place_of_stands : (bytes text : List ℕ) (s : Stands bytes text) → place_of text bytes ≤ length s.before
+place_of_stands bytes text s = subst (λ (b : List ℕ). place_of text b ≤ length s.before) (sym s.whole) (place_behind text s.before s.after)
+
+stands_in : (bytes text : List ℕ) → Stands bytes text → In bytes text
+stands_in bytes text s = omega (arith, place_of_stands bytes text s, ap length s.whole, length-append s.before (text ++ (0 ∷ s.after)), length-append text (0 ∷ s.after))
+
+-- the end of a text that stands there
+abbrev pub end_stands : {bytes text other : List ℕ} → Stands bytes text → Ends text other → Stands bytes other
+end_stands {other = other} s h = record {
+  before = s.before ++ h.front;
+  after = s.after;
+  whole = s.whole ∙ (ap (λ (t : List ℕ). s.before ++ (t ++ (0 ∷ s.after))) h.is ∙ (ap (λ (t : List ℕ). s.before ++ t) (append_assoc h.front other (0 ∷ s.after))
+      ∙ sym (append_assoc s.before h.front (other ++ (0 ∷ s.after)))));
+}
+
+-- a text that is put in
+abbrev pub put_stands : (designations text : List ℕ) → Stands (designations ++ (text ++ 0 ∷ [])) text
+put_stands designations text = record { before = designations; after = []; whole = refl }
 
 pub place_of_put : (designations text other : List ℕ) → Ends text other → place_of other (designations ++ (text ++ 0 ∷ [])) + length other ≤ length designations + length text
 place_of_put designations text other h =
-    let low = subst (λ (s : List ℕ). place_of other (designations ++ (s ++ 0 ∷ [])) ≤ length designations + length h.front) (sym h.is) (place_of_end designations h.front other []) in
-    let size : length text ≡ length h.front + length other = ap length h.is ∙ length-append h.front other in
-    omega (arith, low, size)
+    let low = place_of_stands _ other (end_stands (put_stands designations text) h) in
+    omega (arith, low, length-append designations h.front, ap length h.is, length-append h.front other)
 
 pub put_in : (designations text other : List ℕ) → Ends text other → In (designations ++ (text ++ 0 ∷ [])) other
-put_in designations text other h =
-    omega (arith, place_of_put designations text other h, length-append designations (text ++ 0 ∷ []), length-append text (0 ∷ []))
-
--- what a text that stands there ends with stands there too
-pub end_in : (designations text other : List ℕ) → HasNoZero text → Ends text other → In designations text → In designations other
-end_in designations text other none h l =
-    let s = has_text text designations none l in
-    let whole : designations ≡ s.before ++ ((h.front ++ other) ++ (0 ∷ s.after)) = s.whole ∙ ap (λ (t : List ℕ). s.before ++ (t ++ (0 ∷ s.after))) h.is in
-    let low = subst (λ (t : List ℕ). place_of other t ≤ length s.before + length h.front) (sym whole) (place_of_end s.before h.front other s.after) in
-    let size = ap length whole in
-    omega (arith, low, size, length-append s.before ((h.front ++ other) ++ (0 ∷ s.after)), length-append (h.front ++ other) (0 ∷ s.after), length-append h.front other)
+put_in designations text other h = stands_in _ other (end_stands (put_stands designations text) h)
 
 pub in_stands : (bytes text : List ℕ) → HasNoZero text → In bytes text → Stands bytes text
 in_stands bytes text none l = let s = has_text text bytes none l in record { before = s.before; after = s.after; whole = s.whole }
+
+-- what a text that stands there ends with stands there too
+pub end_in : (designations text other : List ℕ) → HasNoZero text → Ends text other → In designations text → In designations other
+end_in designations text other none h l = stands_in designations other (end_stands (in_stands designations text none l) h)

@@ -2,14 +2,14 @@
 use Rattle.std.proofs.lemmas.Int.{to_z-of_z}
 use Rattle.tz_base.proofs.RunLaws.{all_of}
 use Rattle.tz_write.proofs.TextBytes.{names_are, no_zeros}
-use Rattle.tz_write.proofs.Words.{All, All-head, All-tail, AreRecords, Bool, Decides-eqb, Fits-of_z, FitsSigned, HasNoZero, HasPlace, IsEntry, IsMark}
-use Rattle.tz_write.proofs.Words.{IsNameOrNone, HasTimeOf64Bits, IsType, IsUtOffset, LeapSecond, List, LocalType, None, Option, Some, SpellLeapSeconds}
+use Rattle.tz_write.proofs.Words.{All, All-head, All-more, All-tail, AreRecords, Bool, Decides-eqb, Fits-of_z, FitsSigned, HasNoZero, HasPlace, IsEntry, IsMark}
+use Rattle.tz_write.proofs.Words.{IsNameOrNone, HasTimeOf64Bits, IsType, LeapSecond, List, LocalType, None, Option, Some, SpellLeapSeconds}
 use Rattle.tz_write.proofs.Words.{SpellTransitions, SpellTypes, Spells, SpellsLeapSecond, SpellsType, StandsAt, Transition, and_parts, ap, arith, be_u32}
 use Rattle.tz_write.proofs.Words.{begins, cast_signed, cast_unsigned, cond, designation_of, drop, drop_more, eqb-true, false, flat_map, flat_map_more}
 use Rattle.tz_write.proofs.Words.{flat_map_single, from_be_bytes-to_be_bytes_4, from_be_bytes-to_be_bytes_8, get_or, index_bytes, ints, is_name_byte}
-use Rattle.tz_write.proofs.Words.{leap_bytes, least_offset, length, length-append, ltb-true, mark_byte, name_of, name_or_none, nat_eq, nat_lt, number_bytes}
+use Rattle.tz_write.proofs.Words.{leap_bytes, length, length-append, ltb-true, mark_byte, name_of, name_or_none, nat_eq, nat_lt, number_bytes}
 use Rattle.tz_write.proofs.Words.{place_of, refl, signed, signed_bytes, starts_is, starts_with, suc, sym, take, take_more, time_bytes, file_time, true}
-use Rattle.tz_write.proofs.Words.{type_bytes, w32, w64, ℕ, ℤ, [], ◌&&◌, ◌*◌, ◌++◌, ◌+◌, ◌<ℤ◌, ◌<◌, ◌==◌, ◌^◌, ◌∙◌, ◌∷◌, ◌≡◌}
+use Rattle.tz_write.proofs.Words.{type_bytes, w32, w64, ℕ, ℤ, [], ◌&&◌, ◌*◌, ◌++◌, ◌+◌, ◌<◌, ◌==◌, ◌^◌, ◌∙◌, ◌∷◌, ◌≡◌}
 
 -- a count
 pub number_is : (n : ℕ) (rest : List ℕ) → n < 2 ^ 32 → Spells be_u32 (number_bytes n ++ rest) n rest
@@ -17,14 +17,6 @@ unfolding number_bytes be_u32
 number_is n rest h = (number_bytes n, rest, (refl, refl), (sym (from_be_bytes-to_be_bytes_4 n h), refl))
 
 -- numbers in two's complement
-pub size_32 : (z : ℤ) → length (signed_bytes w32 z) ≡ 4
-unfolding signed_bytes
-size_32 z = refl
-
-pub size_64 : (z : ℤ) → length (signed_bytes w64 z) ≡ 8
-unfolding signed_bytes
-size_64 z = refl
-
 pub signed_32 : (z : ℤ) → FitsSigned w32 z → signed w32 (signed_bytes w32 z) ≡ z
 unfolding signed signed_bytes
 signed_32 z h = ap (cast_signed w32) (from_be_bytes-to_be_bytes_4 (cast_unsigned w32 z) (omega (arith, Fits-of_z {w = w32} h))) ∙ to_z-of_z w32 z h
@@ -34,46 +26,41 @@ unfolding signed signed_bytes
 signed_64 z h = ap (cast_signed w64) (from_be_bytes-to_be_bytes_8 (cast_unsigned w64 z) (omega (arith, Fits-of_z {w = w64} h))) ∙ to_z-of_z w64 z h
 
 -- ---- records laid end to end
-pub record Spelled {X : Type 0} (size : ℕ) (Spells : List ℕ → X → Type 0) (f : X → List ℕ) (x : X) : Type 0 where
-  pub sized : length (f x) ≡ size
-  pub says : Spells (f x) x
+pub records_are : {X : Type 0} (size : ℕ) (Spells : List ℕ → X → Type 0) (f : X → List ℕ) (xs : List X) → ((x : X) → length (f x) ≡ size) → All (λ x. Spells (f x) x) xs
+    → AreRecords size Spells (flat_map f xs) xs
+records_are size Spells f [] sized h = refl
+records_are size Spells f (x ∷ xs) sized h =
+    (f x, flat_map f xs, refl, sized x, All-head (λ x. Spells (f x) x) x xs h, records_are size Spells f xs sized (All-tail (λ x. Spells (f x) x) x xs h))
 
-pub records_are : {X : Type 0} (size : ℕ) (Spells : List ℕ → X → Type 0) (f : X → List ℕ) (xs : List X) → All (Spelled size Spells f) xs → AreRecords size Spells (flat_map f xs) xs
-records_are size Spells f [] h = refl
-records_are size Spells f (x ∷ xs) h =
-    let first = All-head (Spelled size Spells f) x xs h in
-    (f x, flat_map f xs, refl, first.sized, first.says, records_are size Spells f xs (All-tail (Spelled size Spells f) x xs h))
-
-pub size_of_records : {X : Type 0} (size : ℕ) (f : X → List ℕ) (xs : List X) → ((x : X) → length (f x) ≡ size) → length (flat_map f xs) ≡ length xs * size
-size_of_records size f [] h = omega arith
-size_of_records size f (x ∷ xs) h =
-    let more = size_of_records size f xs h in let one = h x in let joined = length-append (f x) (flat_map f xs) in omega arith
+pub records_length : {X : Type 0} (size : ℕ) (Spells : List ℕ → X → Type 0) (part : List ℕ) (xs : List X) → AreRecords size Spells part xs → length part ≡ length xs * size
+records_length size Spells part [] h = ap length h ∙ omega arith
+records_length size Spells part (x ∷ xs) h =
+    let more = records_length size Spells h.1 xs h.5 in let s = h.3 in
+    let joined : length part ≡ length h.0 + length h.1 = ap length h.2 ∙ length-append h.0 h.1 in
+    omega arith
 
 -- ---- transitions and leap seconds
 pub transitions_are : (ts : List Transition) → All HasTimeOf64Bits ts → SpellTransitions 8 (flat_map time_bytes ts) (flat_map index_bytes ts) ts
+unfolding signed_bytes
 transitions_are ts h = record {
-  times_are = records_are 8 (λ bytes t. file_time 8 bytes ≡ t.unix_leap_time) time_bytes ts
-      (λ k d l. record { sized = size_64 _; says = signed_64 _ (h k d l) });
+  times_are = records_are 8 (λ bytes t. file_time 8 bytes ≡ t.unix_leap_time) time_bytes ts (λ t. refl) (λ k d l. signed_64 _ (h k d l));
   indexes_are = flat_map_single (λ (t : Transition). t.type_index) ts;
 }
 
-pub leap_size : (leap : LeapSecond) → length (leap_bytes leap) ≡ 12
-unfolding leap_bytes
-leap_size leap = length-append (signed_bytes w64 leap.unix_leap_time) (signed_bytes w32 leap.correction) ∙ omega (arith, size_64 leap.unix_leap_time, size_32 leap.correction)
-
 leap_is : (leap : LeapSecond) → IsEntry leap → SpellsLeapSecond 8 (leap_bytes leap) leap
-unfolding leap_bytes
+unfolding leap_bytes signed_bytes
 leap_is leap h = record {
   time = signed_bytes w64 leap.unix_leap_time;
   correction = signed_bytes w32 leap.correction;
   whole = refl;
-  size = size_64 leap.unix_leap_time;
+  size = refl;
   time_is = signed_64 leap.unix_leap_time h.time;
   correction_is = signed_32 leap.correction h.correction;
 }
 
 pub leaps_are : (leaps : List LeapSecond) → All IsEntry leaps → SpellLeapSeconds 8 (flat_map leap_bytes leaps) leaps
-leaps_are leaps h = records_are 12 (SpellsLeapSecond 8) leap_bytes leaps (λ k d l. record { sized = leap_size _; says = leap_is _ (h k d l) })
+unfolding leap_bytes signed_bytes
+leaps_are leaps h = records_are 12 (SpellsLeapSecond 8) leap_bytes leaps (λ leap. refl) (λ k d l. leap_is _ (h k d l))
 
 -- ---- where a text stands
 pub begins_is : (text bytes : List ℕ) → begins text bytes ≡ true → bytes ≡ text ++ (0 ∷ drop (length text + 1) bytes)
@@ -96,10 +83,6 @@ has_text text [] none h = absurd (omega arith)
 has_text text (b ∷ bs) none h = place_by (begins text (b ∷ bs)) text b bs none refl h (has_text text bs none)
 
 -- ---- types
-pub type_size : (designations : List ℕ) (t : LocalType) → length (type_bytes designations t) ≡ 6
-unfolding type_bytes signed_bytes
-type_size designations t = refl
-
 mark_is : (dst : Bool) → IsMark (mark_byte dst) dst
 mark_is true = refl
 mark_is false = refl
@@ -113,18 +96,12 @@ name_back None h = refl
 name_back (Some []) h = let l = h.0 in absurd (omega arith)
 name_back (Some (b ∷ bs)) h = refl
 
-above : (z : ℤ) → IsUtOffset z → least_offset <ℤ z
-above z h = let l = h.0 in omega (arith, ints)
-
-fits : (z : ℤ) → IsUtOffset z → FitsSigned w32 z
-fits z h = let l = h.0 in let m = h.1 in omega (arith, ints)
-
 type_is : (designations : List ℕ) (t : LocalType) → HasPlace designations t → IsType t → SpellsType designations (type_bytes designations t) t
 unfolding type_bytes signed_bytes
 type_is designations t p h = record {
   text = name_of t;
-  offset = signed_32 t.offset (fits t.offset h.offset);
-  above_least = above t.offset h.offset;
+  offset = signed_32 t.offset (let a = h.offset.0 in let b = h.offset.1 in omega (arith, ints));
+  above_least = let a = h.offset.0 in omega (arith, ints);
   mark = mark_is t.dst;
   stands = has_text (name_of t) designations (no_zero t.name h.name) p.stands;
   name = name_back t.name h.name;
@@ -132,10 +109,20 @@ type_is designations t p h = record {
 }
 
 pub types_are : (designations : List ℕ) (types : List LocalType) → All (HasPlace designations) types → All IsType types → SpellTypes designations (flat_map (type_bytes designations) types) types
-types_are designations types p h =
-    records_are 6 (SpellsType designations) (type_bytes designations) types (λ k d l. record { sized = type_size designations _; says = type_is designations _ (p k d l) (h k d l) })
+unfolding type_bytes signed_bytes
+types_are designations types p h = records_are 6 (SpellsType designations) (type_bytes designations) types (λ t. refl) (λ k d l. type_is designations _ (p k d l) (h k d l))
 
+-- ---- items appended one after another
 -- the pieces of one item more
-pub flat_map_next : {X : Type 0} (f : X → List ℕ) (old : List ℕ) (xs : List X) (i : ℕ) (d : X) (now later : List ℕ) → i < length xs → now ≡ old ++ flat_map f (take i xs) → later ≡ now ++ f (get_or xs i d) → later ≡ old ++ flat_map f (take (i + 1) xs)
-flat_map_next f old xs i d now later l e g =
-    g ∙ (ap (λ (s : List ℕ). s ++ f (get_or xs i d)) e ∙ (flat_map_more f old (take i xs) (get_or xs i d) ∙ ap (λ ys. old ++ flat_map f ys) (sym (take_more xs i d l))))
+pub flat_map_next : {X : Type 0} {now later : List ℕ} {i : ℕ} {t : X} (f : X → List ℕ) (old : List ℕ) (xs : List X) (d : X) → i < length xs → t ≡ get_or xs i d
+    → now ≡ old ++ flat_map f (take i xs) → later ≡ now ++ f t → later ≡ old ++ flat_map f (take (i + 1) xs)
+flat_map_next {i = i} f old xs d l is e g =
+    rw (take_more xs i d l, ← flat_map_more f old (take i xs) (get_or xs i d), ← e, ← is) g
+
+-- the pieces of the items are appended, and each is sound
+abbrev pub ArePushed : {X : Type 0} → (X → List ℕ) → (X → Type 0) → List ℕ → List ℕ → List X → Type 0
+ArePushed f P old now xs = (now ≡ old ++ flat_map f xs) × All P xs
+
+pub pushed_next : {X : Type 0} {now later : List ℕ} {i : ℕ} {t : X} (f : X → List ℕ) (P : X → Type 0) (old : List ℕ) (xs : List X) (d : X) → i < length xs → t ≡ get_or xs i d
+    → ArePushed f P old now (take i xs) → later ≡ now ++ f t → P t → ArePushed f P old later (take (i + 1) xs)
+pushed_next {i = i} f P old xs d l is (e, all) g p = (flat_map_next f old xs d l is e g, All-more P xs i d l all (rw is at p))

@@ -2,12 +2,12 @@
 use Rattle.tz_info.specs.declared.file.header.Place.TheVariants.{First, Second}
 use Rattle.tz_write.proofs.Words.{All, All-cons, All-nil, Bool, Counts, CountsAgree, FilePieces, HasCounts, HasPieces, HavePlaces, IsAscii-from_all, IsFooter}
 use Rattle.tz_write.proofs.Words.{IsSound, IsTzFile, IsUtf8-from_ascii, List, LocalType, Option, Parts, SayZone, SaysRule, Spells, TransitionRule, Zone}
-use Rattle.tz_write.proofs.Words.{after_first_block, arith, block, block_bytes, counts_bytes, counts_test, false, file, file_bytes, first_half, footer_bytes}
-use Rattle.tz_write.proofs.Words.{get_or, header_bytes, index_bytes, inl, is_extended, later_pieces, later_version, leap_bytes, least_block, least_counts}
-use Rattle.tz_write.proofs.Words.{length, number_bytes, refl, second_half, time_bytes, true, type_bytes, zone_counts, zone_parts, ℕ, [], ◌*◌, ◌++◌, ◌+◌, ◌<◌}
+use Rattle.tz_write.proofs.Words.{after_first_block, ap, length-map, arith, block, block_bytes, counts_bytes, counts_test, false, file, file_bytes, first_half, footer_bytes}
+use Rattle.tz_write.proofs.Words.{get_or, header_bytes, inl, is_extended, later_pieces, later_version, least_block, least_counts}
+use Rattle.tz_write.proofs.Words.{length, number_bytes, refl, second_half, true, zone_counts, zone_parts, ℕ, [], ◌*◌, ◌++◌, ◌+◌, ◌<◌}
 use Rattle.tz_write.proofs.Words.{◌∙◌, ◌∷◌, ◌≡◌, ◌≢◌, ◌≤◌}
 use Rattle.tz_write.proofs.{FileHeads.{CountsFit, header_is, version_of}, TextBytes.{AreTextBytes, begins_bare, ends_bare, limits, no_zeros}}
-use Rattle.tz_write.proofs.FileRecords.{leap_size, leaps_are, size_64, size_of_records, transitions_are, type_size, types_are}
+use Rattle.tz_write.proofs.FileRecords.{leaps_are, records_length, transitions_are, types_are}
 
 -- ---- footers
 -- letters, digits and signs of ASCII, and no colon in front
@@ -63,27 +63,21 @@ zone_agree d z some places = record {
   standard_wall = inl refl;
 }
 
-second_block : (d : List ℕ) (z : Zone) (rest : List ℕ) → Spells (block 8 (zone_counts d z)) (block_bytes (zone_parts d z) rest) (zone_parts d z) rest
-second_block d z rest = block_is 8 (zone_counts d z) (zone_parts d z) rest
-    (size_of_records 8 time_bytes z.transitions (λ t. size_64 t.unix_leap_time))
-    (size_of_records 1 index_bytes z.transitions (λ t. refl) ∙ omega arith)
-    (size_of_records 6 (type_bytes d) z.types (type_size d))
-    refl
-    (size_of_records 12 leap_bytes z.leaps leap_size)
-    refl
-    refl
+second_block : (d : List ℕ) (z : Zone) (rest : List ℕ) → HavePlaces d z.types → IsSound z → Spells (block 8 (zone_counts d z)) (block_bytes (zone_parts d z) rest) (zone_parts d z) rest
+second_block d z rest places sound =
+    let transitions = transitions_are z.transitions sound.times in
+    block_is 8 (zone_counts d z) (zone_parts d z) rest (records_length 8 _ _ z.transitions transitions.times_are)
+    (ap length transitions.indexes_are ∙ length-map z.transitions (λ t. t.type_index)) (records_length 6 _ _ z.types (types_are d z.types places sound.types)) refl
+    (records_length 12 _ _ z.leaps (leaps_are z.leaps sound.leaps)) refl refl
 
 pieces_of : Bool → List ℕ → List ℕ → Zone → FilePieces
 pieces_of extended text d z = later_pieces (record { version = version_of extended; counts = zone_counts d z }) (zone_parts d z) (footer_bytes text)
 
-second_is : (extended : Bool) (text d : List ℕ) (z : Zone) → length d ≤ 263 → HasCounts z → 0 < length z.types → HavePlaces d z.types → Spells later_version (second_half extended text d z) (pieces_of extended text d z) []
+second_is : (extended : Bool) (text d : List ℕ) (z : Zone) → length d ≤ 263 → HasCounts z → 0 < length z.types → HavePlaces d z.types → IsSound z → Spells later_version (second_half extended text d z) (pieces_of extended text d z) []
 unfolding second_half pieces_of later_version
-second_is extended text d z size counts some places = (
-  record { version = version_of extended; counts = zone_counts d z },
-  block_bytes (zone_parts d z) (footer_bytes text),
-  header_is Second extended (zone_counts d z) (block_bytes (zone_parts d z) (footer_bytes text)) (zone_fit d z size counts) (zone_agree d z some places),
-  (zone_parts d z, footer_bytes text, second_block d z (footer_bytes text), (footer_bytes text, [], (refl, refl), (refl, refl))),
-)
+second_is extended text d z size counts some places sound =
+    let head = header_is Second extended (zone_counts d z) (block_bytes (zone_parts d z) (footer_bytes text)) (zone_fit d z size counts) (zone_agree d z some places) in
+    (_, _, head, (_, _, second_block d z (footer_bytes text) places sound, (_, [], (refl, refl), (refl, refl))))
 
 after_is : (extended : Bool) (c : Counts) (p : Parts) (rest : List ℕ) (pieces : FilePieces) → Spells later_version rest pieces [] → Spells (after_first_block (version_of extended) c p) rest pieces []
 unfolding after_first_block
@@ -91,14 +85,13 @@ after_is true c p rest pieces h = h
 after_is false c p rest pieces h = h
 
 -- ---- the whole
-file_pieces : (extended : Bool) (text d : List ℕ) (z : Zone) → length d ≤ 263 → HasCounts z → 0 < length z.types → HavePlaces d z.types → HasPieces (file_bytes extended text d z) (pieces_of extended text d z)
+file_pieces : (extended : Bool) (text d : List ℕ) (z : Zone) → length d ≤ 263 → HasCounts z → 0 < length z.types → HavePlaces d z.types → IsSound z → HasPieces (file_bytes extended text d z) (pieces_of extended text d z)
 unfolding file_bytes first_half header_bytes counts_bytes number_bytes file
-file_pieces extended text d z size counts some places = (
-  record { version = version_of extended; counts = least_counts },
-  least_block ++ second_half extended text d z,
-  header_is First extended least_counts (least_block ++ second_half extended text d z)
-      (omega arith, omega arith, omega arith, omega arith, omega arith, omega arith) ((counts_test least_counts).decides.0 refl),
-  (least_parts, second_half extended text d z, first_block (second_half extended text d z), after_is extended least_counts least_parts (second_half extended text d z) (pieces_of extended text d z) (second_is extended text d z size counts some places)),
+file_pieces extended text d z size counts some places sound = (
+  _,
+  _,
+  header_is First extended least_counts _ (omega arith, omega arith, omega arith, omega arith, omega arith, omega arith) ((counts_test least_counts).decides.0 refl),
+  (_, _, first_block (second_half extended text d z), after_is extended least_counts least_parts _ _ (second_is extended text d z size counts some places sound)),
 )
 
 extended_is : (extended : Bool) → is_extended (version_of extended) ≡ extended
@@ -117,4 +110,4 @@ says_zone extended text d z places sound footer = record {
 
 pub file_is : (extended : Bool) (text d : List ℕ) (z : Zone) → length d ≤ 263 → HasCounts z → 0 < length z.types → HavePlaces d z.types → IsSound z → IsPlain text → SaysRule extended text z.rule → IsTzFile (file_bytes extended text d z) z
 file_is extended text d z size counts some places sound plain says =
-    (pieces_of extended text d z, file_pieces extended text d z size counts some places, says_zone extended text d z places sound (footer_is extended text z.rule plain says))
+    (pieces_of extended text d z, file_pieces extended text d z size counts some places sound, says_zone extended text d z places sound (footer_is extended text z.rule plain says))

@@ -1,21 +1,21 @@
 -- What is written of a zone.
-use Rattle.tz_write.proofs.Words.{All-weaker, Bool, Err, IsRoomOf, IsSpellableOrNone, HavePlaces, HaveVersion, IfOk, In_order, IsFirstPlaced, IsFooterText}
+use Rattle.tz_write.proofs.Words.{All-weaker, Bool, IsRoomOf, IsSpellableOrNone, HavePlaces, HaveVersion, In_order, IsFirstPlaced, IsFooterText}
 use Rattle.tz_write.proofs.Words.{IsInNoFile, IsLaid, IsNameOrNone, IsRuleOrNone, IsSound, IsType, IsTzFile, IsWritable, IsWrittenFile, List, LocalType}
-use Rattle.tz_write.proofs.Words.{NeedsExtensions, None, Ok, OnOk, Option, Otherwise, Result, Room, SaysRule, Some, TransitionRule, Zone, ap, arith}
+use Rattle.tz_write.proofs.Words.{NeedsExtensions, None, Option, Otherwise, Room, SaysRule, Some, TransitionRule, Zone, ap, arith, both_ways, ◌↔◌}
 use Rattle.tz_write.proofs.Words.{counts_bytes, false, file_bytes, first_half, get_or, header_bytes, laid_from, length, number_bytes, refl, second_half, subst}
 use Rattle.tz_write.proofs.Words.{sym, true, ℕ, [], ◌<◌, ◌∙◌, ◌≡◌}
 use Rattle.tz_write.proofs.{FileLayouts.{laid_of, laid_size}, FileLimits.{writable}, FileSpelled.{IsPlain, file_is}, TextBytes.{AreTextBytes}}
-use Rattle.tz_write.proofs.{RuleTexts.{extensions, rule_named, rule_text, text_are, text_first, text_once, text_some}, ZoneTexts.{not_empty}}
+use Rattle.tz_write.proofs.{RuleTexts.{extensions, rule_named, rule_text, text_are, text_begins, text_once, text_some}, Decimals.{not_empty}}
 
 text_is : (rule : Option TransitionRule) (text : List ℕ) (extended : Bool) → IsRuleOrNone rule → IsFooterText rule text extended → IsPlain text × SaysRule extended text rule
 text_is (Some rule) text extended fits h =
     let named = rule_named extended text rule h.spells in let same = rule_text rule text extended fits h in
-    let first = text_first rule named in (
+    let first = text_begins rule named in (
       record {
         bytes = subst AreTextBytes (sym same) (text_are rule fits named);
-        no_colon = λ e. absurd (omega (arith, e, first.3, ap (λ (s : List ℕ). get_or s 0 0) (same ∙ first.2)));
+        no_colon = λ e. absurd (omega (arith, e, first.above, ap (λ (s : List ℕ). get_or s 0 0) (same ∙ first.is)));
       },
-      ((λ e. not_empty rule named (sym same ∙ e)), h.spells),
+      ((λ e. not_empty first (sym same ∙ e)), h.spells),
     )
 text_is None text extended fits h = (subst IsPlain (sym h.0) (record { bytes = tt; no_colon = λ e. absurd (omega (arith, e)) }), h.0)
 
@@ -23,7 +23,7 @@ has_version : (extended : Bool) (text d : List ℕ) (z : Zone) → HaveVersion e
 unfolding file_bytes first_half second_half header_bytes counts_bytes number_bytes
 has_version extended text d z = record { first = refl; second = refl }
 
-written_is : (z : Zone) (room : Room) (text : List ℕ) (extended : Bool) (bytes : List ℕ) → IsRoomOf z room → IsSound z → 0 < length z.types → IsRuleOrNone z.rule → IsFooterText z.rule text extended
+pub written_is : (z : Zone) (room : Room) (text : List ℕ) (extended : Bool) (bytes : List ℕ) → IsRoomOf z room → IsSound z → 0 < length z.types → IsRuleOrNone z.rule → IsFooterText z.rule text extended
     → bytes ≡ file_bytes extended text room.designations z → IsWrittenFile z bytes
 written_is z room text extended bytes h sound some fits footer e =
     let p = text_is z.rule text extended fits footer in
@@ -38,12 +38,6 @@ written_is z room text extended bytes h sound some fits footer e =
       order = h.laid;
       layout = e;
     }
-
--- the same of what a function answers
-pub file_result : {X E : Type 0} (view : X → List ℕ) (r : Result X E) (z : Zone) (room : Room) (text : List ℕ) (extended : Bool) → IsRoomOf z room → 0 < length z.types → IsRuleOrNone z.rule → IsFooterText z.rule text extended
-    → IfOk r (λ v. view v ≡ file_bytes extended text room.designations z) → OnOk r (IsSound z) → IfOk r (λ v. IsWrittenFile z (view v))
-file_result view (Ok v) z room text extended h some fits footer e sound = written_is z room text extended (view v) h sound some fits footer e
-file_result view (Err y) z room text extended h some fits footer e sound = tt
 
 -- ---- one file of a zone
 one_footer : (rule : Option TransitionRule) (a b : List ℕ) (x y : Bool) → IsFooterText rule a x → IsFooterText rule b y → (a ≡ b) × (x ≡ y)
@@ -68,20 +62,9 @@ one_file z a b h k =
     ∙ (ap (λ (t : List ℕ). file_bytes h.extended t k.designations z) same.0 ∙ (ap (λ (e : Bool). file_bytes e k.text k.designations z) same.1 ∙ sym k.layout)))
 
 -- ---- versions
-extended_is : (rule : Option TransitionRule) (text : List ℕ) (extended : Bool) → IsRuleOrNone rule → IsFooterText rule text extended → NeedsExtensions rule → extended ≡ true
-extended_is (Some rule) text extended fits h needs = (extensions rule text extended fits h).1 needs
-extended_is None text extended fits h needs = absurd needs
-
-plain_is : (rule : Option TransitionRule) (text : List ℕ) (extended : Bool) → IsRuleOrNone rule → IsFooterText rule text extended → ¬ (NeedsExtensions rule) → extended ≡ false
-plain_is (Some rule) text true fits h plain = absurd (plain ((extensions rule text true fits h).0 refl))
-plain_is (Some rule) text false fits h plain = refl
-plain_is None text extended fits h plain = h.1
-
-pub version_3 : (z : Zone) (bytes : List ℕ) → IsRuleOrNone z.rule → IsWrittenFile z bytes → NeedsExtensions z.rule → HaveVersion true bytes
-version_3 z bytes fits h needs = subst (λ (e : Bool). HaveVersion e bytes) (extended_is z.rule h.text h.extended fits h.footer needs) h.version
-
-pub version_2 : (z : Zone) (bytes : List ℕ) → IsRuleOrNone z.rule → IsWrittenFile z bytes → ¬ (NeedsExtensions z.rule) → HaveVersion false bytes
-version_2 z bytes fits h plain = subst (λ (e : Bool). HaveVersion e bytes) (plain_is z.rule h.text h.extended fits h.footer plain) h.version
+pub needs_extensions : (rule : Option TransitionRule) (text : List ℕ) (extended : Bool) → IsRuleOrNone rule → IsFooterText rule text extended → (extended ≡ true) ↔ NeedsExtensions rule
+needs_extensions (Some rule) text extended fits h = extensions rule text extended fits h
+needs_extensions None text extended fits h = ((λ e. absurd (both_ways extended h.1 e)), λ needs. absurd needs)
 
 -- ---- a zone without a file
 pub no_file : (z : Zone) → ¬ (IsWritable z) → IsInNoFile z

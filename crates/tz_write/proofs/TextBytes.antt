@@ -1,8 +1,8 @@
 -- Texts that spell a value, made of their pieces. Their bytes are letters, digits, and those of `+ - , . / : < >`: so they are ASCII, and
 -- have no white space.
-use Rattle.tz_base.specs.Grammar.{Byte, Ended, Grammar, Marked, Nothing, Then}
+use Rattle.tz_base.specs.{Grammar.{Byte, Check, Ended, Grammar, Marked, Nothing, Optional, Then}, Refusals.{Refusal}, Tests.{Test}}
 use Rattle.tz_write.proofs.Words.{AllDigits, AllOf, AreInPairs, BeginsBare, Bool, EndsBare, IsTrimmed, List, Spells, TwoDigits, Without, and_parts, append-nil}
-use Rattle.tz_write.proofs.Words.{HasNoZero, append_assoc, arith, colon, comma, dot, false, greater, inl, inr, is_ascii_whitespace, is_digit, is_name_byte}
+use Rattle.tz_write.proofs.Words.{HasNoZero, NoneFirst, append_assoc, arith, colon, comma, cond, dot, false, greater, inl, inr, is_ascii_whitespace, is_digit, is_name_byte}
 use Rattle.tz_write.proofs.Words.{less, nat_tests, not, refl, slash, sym, true, ℕ, [], ◌&&◌, ◌++◌, ◌==◌, ◌||◌, ◌∷◌, ◌<◌, ◌≡◌, ◌≢◌}
 
 -- a letter, a digit or one of the signs
@@ -25,6 +25,11 @@ digits_are = all_others is_digit is_text_byte (λ b h. grind (arith, nat_tests))
 
 pub names_are : (bs : List ℕ) → AllOf is_name_byte bs → AreTextBytes bs
 names_are = all_others is_name_byte is_text_byte (λ b h. rw h refl)
+
+-- no colon, and so no two digits to stand after one
+pub pairs_over : (p : ℕ → Bool) → ((b : ℕ) → p b ≡ true → b ≢ colon) → (bs rest : List ℕ) → AllOf p bs → AreInPairs rest → AreInPairs (bs ++ rest)
+pairs_over p other [] rest h pairs = pairs
+pairs_over p other (b ∷ bs) rest h pairs = ((λ e. absurd (other b h.0 e)), pairs_over p other bs rest h.1 pairs)
 
 pub limits : (b : ℕ) → is_text_byte b ≡ true → (b ≢ 0) × (b < 128)
 limits b h = (grind (arith, nat_tests), grind (arith, nat_tests))
@@ -56,6 +61,14 @@ pub writes_last : {X Y : Type 0} {g : Grammar X} {f : X → Grammar Y} {a : List
     → Writes (Then g f) a y rest
 writes_last {x = x} {rest = rest} p q = record { spelled = (x, rest, p.spelled, q); bytes = p.bytes; pairs = p.pairs }
 
+-- what comes first has none either
+pub writes_first : {X Y : Type 0} {g : Grammar X} {f : X → Grammar Y} {b : List ℕ} {y : Y} {rest : List ℕ} (x : X) → Spells g (b ++ rest) x (b ++ rest)
+    → Writes (f x) b y rest → Writes (Then g f) b y rest
+writes_first {b = b} {rest = rest} x p q = record { spelled = (x, b ++ rest, p, q.spelled); bytes = q.bytes; pairs = q.pairs }
+
+pub writes_check : {X : Type 0} {P : Type 0} {test : Test P} {refusal : Refusal} {v : X} {rest : List ℕ} → P → Writes (Check P test refusal v) [] v rest
+writes_check h = record { spelled = (h, refl, refl); bytes = tt; pairs = λ r. r }
+
 -- a sign other than a colon
 abbrev is_sign : ℕ → Bool
 is_sign t = is_text_byte t && not (t == colon)
@@ -83,6 +96,16 @@ writes_other none p = record { spelled = inr (none, p.spelled); bytes = p.bytes;
 
 pub writes_more : {X : Type 0} {g h : Grammar X} {a : List ℕ} {x : X} {rest : List ℕ} → a ++ rest ≢ [] → Writes h a x rest → Writes (Ended g h) a x rest
 writes_more some p = record { spelled = inr (some, p.spelled); bytes = p.bytes; pairs = p.pairs }
+
+-- a piece that may be left out, and is if the test passes
+pub writes_optional : {X : Type 0} {tag : ℕ} {v x : X} {g : Grammar X} {text rest : List ℕ} (b : Bool) → (b ≡ true → x ≡ v) → Without tag rest
+    → (b ≡ false → Writes (Optional tag v g) text x rest) → Writes (Optional tag v g) (cond b [] text) x rest
+writes_optional true same none given = writes_other none (writes_nothing (same refl))
+writes_optional false same none given = given refl
+
+pub first_optional : (p : ℕ → Bool) (b : Bool) (t : ℕ) (text rest : List ℕ) → p t ≡ false → NoneFirst p rest → NoneFirst p (cond b [] (t ∷ text) ++ rest)
+first_optional p true t text rest e h = h
+first_optional p false t text rest e h = e
 
 -- ---- no white space
 not_space : (b : ℕ) → is_text_byte b ≡ true → is_ascii_whitespace b ≡ false

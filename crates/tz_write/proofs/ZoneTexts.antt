@@ -1,11 +1,11 @@
 -- The text of a zone: it gives the zone, and each other one is longer.
-use Rattle.tz_write.proofs.Words.{AreInPairs, CanBeSpelled, Err, HasZoneText, IsNoPosixZone, IsOfText, IsPosixZone, IsRule, IsRuleOrNone, IsSpace, IsTrimmed}
+use Rattle.tz_write.proofs.Words.{AreInPairs, Err, HasZoneText, IsNoPosixZone, IsOfText, IsPosixZone, IsRule, IsRuleOrNone, IsSpace, IsTrimmed}
 use Rattle.tz_write.proofs.Words.{IsTzText, IsWrittenZone, LeapSecond, List, LocalType, None, NoneFirst, Ok, OnErr, Option, Result, Some, Transition}
 use Rattle.tz_write.proofs.Words.{TransitionRule, TwoDigits, Zone, ap, append-nil, arith, false, inl, inr, is_ascii_whitespace, is_digit, length, length-append}
-use Rattle.tz_write.proofs.Words.{nat_tests, posix_zone, refl, subst, sym, spelled_rule, true, types_of, zone_of_rule, ℕ, [], ◌++◌, ◌<◌, ◌∙◌, ◌∷◌, ◌≡◌, ◌≢◌}
+use Rattle.tz_write.proofs.Words.{nat_tests, posix_zone, refl, subst, sym, spelled_rule, true, types_of, zone_of_rule, ℕ, [], ◌++◌, ◌<◌, ◌∙◌, ◌∷◌, ◌≡◌}
 use Rattle.tz_write.proofs.Words.{◌⊎◌}
-use Rattle.tz_write.proofs.RuleTexts.{both_shortest, rule_best, rule_named, rule_pairs, rule_plain, rule_spelled, text_are, text_first}
-use Rattle.tz_write.proofs.{Shortest.{Best, pairs_rest}, TextBytes.{trimmed_text}}
+use Rattle.tz_write.proofs.RuleTexts.{both_shortest, rule_pairs, rule_read, rule_spelled, text_are, text_begins}
+use Rattle.tz_write.proofs.{Decimals.{not_empty}, Shortest.{Best, pairs_rest}, TextBytes.{trimmed_text}}
 
 -- ---- white space at the ends
 not_both : (b : ℕ) → is_digit b ≡ true → is_ascii_whitespace b ≡ true → ⊥
@@ -40,9 +40,6 @@ best_of_trimmed : (text bytes trimmed : List ℕ) → IsTrimmed bytes trimmed �
 best_of_trimmed text bytes trimmed t best = let whole = trimmed_or_longer t.before trimmed t.after in subst (Best text) (sym t.whole) (grind arith)
 
 -- ---- the zone of types and a rule
-pub not_empty : (rule : TransitionRule) → CanBeSpelled rule → spelled_rule rule ≢ []
-not_empty rule h e = let f = text_first rule h in let k = ap length (sym e ∙ f.2) in omega arith
-
 of_types : (types : List LocalType) (rule s : TransitionRule) → zone_of_rule types (Some rule) ≡ posix_zone s → (s ≡ rule) × (types ≡ types_of rule)
 of_types types rule s e =
     let r : Some rule ≡ Some s = ap (λ (z : Zone). z.rule) e in
@@ -63,7 +60,7 @@ written_zone types rule fits h =
     let named = h.1.0 in
     record {
       gives = inr (record {
-        some = not_empty rule named;
+        some = not_empty (text_begins rule named);
         trimmed = spelled_rule rule;
         rule = rule;
         trims = trimmed_text (spelled_rule rule) (text_are rule fits named);
@@ -73,13 +70,13 @@ written_zone types rule fits h =
       pairs = rule_pairs rule fits named;
       shortest = λ other gives pairs.
           let s = spells_rule other types rule gives in
-          best_of_trimmed (spelled_rule rule) other s.0 s.1 (rule_best false s.0 rule (trimmed_pairs other s.0 s.1 pairs) s.2);
+          best_of_trimmed (spelled_rule rule) other s.0 s.1 ((rule_read false s.0 rule s.2).best (trimmed_pairs other s.0 s.1 pairs));
     }
 
 -- ---- which zones a text gives
 pub given : (text : List ℕ) (z : Zone) → IsPosixZone text z → IsOfText z
 given text z (inl a) = subst IsOfText (sym a.1) (record { transitions = refl; leaps = refl; rule = refl })
-given text z (inr b) = subst IsOfText (sym b.zone) (record { transitions = refl; leaps = refl; rule = (refl, (rule_named false b.trimmed b.rule b.spells, rule_plain b.trimmed b.rule b.spells)) })
+given text z (inr b) = let read = rule_read false b.trimmed b.rule b.spells in subst IsOfText (sym b.zone) (record { transitions = refl; leaps = refl; rule = (refl, (read.named, read.plain refl)) })
 
 pub no_zone_text : (types : List LocalType) (rule : Option TransitionRule) → ¬ (HasZoneText types rule) → IsNoPosixZone (zone_of_rule types rule)
 no_zone_text types rule none = λ text gives. none ((given text (zone_of_rule types rule) gives).rule)
@@ -112,9 +109,6 @@ pub zone_text_once : (z : Zone) (s t : List ℕ) → IsWrittenZone z s → IsWri
 zone_text_once z s t p q = both_shortest s t (p.shortest t q.gives q.pairs) (q.shortest s p.gives p.pairs)
 
 -- ---- running out of memory
-pub gives_same_zone : (types : List LocalType) (rule : TransitionRule) (z : Zone) → IsRule rule → HasZoneText types (Some rule) → zone_of_rule types (Some rule) ≡ z → (text : List ℕ) × IsPosixZone text z
-gives_same_zone types rule z fits h e = (spelled_rule rule, subst (IsPosixZone (spelled_rule rule)) e (written_zone types rule fits h).gives)
-
 pub on_err : {A E : Type 0} (r : Result A E) (P : Type 0) → P → OnErr r P
 on_err (Ok a) P h = tt
 on_err (Err e) P h = h

@@ -99,5 +99,6 @@ fn file_of(
     requires footer { IsFooterText zone.now.rule (string_bytes footer.now.text) footer.now.extended }
     ensures { IfOk result (λ v. IsWrittenFile zone.now v.items) }
 {
-    write_file(alloc, zone, room, footer.text.as_bytes(), footer.extended)
+    let bytes = write_file(alloc, zone, room, footer.text.as_bytes(), footer.extended)?;
+    Ok(bytes)
 }

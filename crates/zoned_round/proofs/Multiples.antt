@@ -1,70 +1,29 @@
 -- How far the multiples of a span are from a number.
 use Rattle.zoned_round.proofs.Words.{arith, by_lt_z, floor_mod_parts, floors, inl, inr, ints, multiple_above, multiple_below, nearest_multiple, neg_ℤ, negsuc}
-use Rattle.zoned_round.proofs.Words.{pos, refl, unsigned_abs, ℕ, ℤ, ◌+ℤ◌, ◌-ℤ◌, ◌<ℤ◌, ◌<◌, ◌∙◌, ◌≡◌, ◌≤ℤ◌, ◌⊎◌}
+use Rattle.zoned_round.proofs.Words.{pos, refl, unsigned_abs, ℕ, ℤ, ◌+ℤ◌, ◌-ℤ◌, ◌<ℤ◌, ◌<◌, ◌≡◌, ◌≤ℤ◌, ◌⊎◌}
 
 -- the one below is less than a span away
 pub below-near : (n : ℤ) (span : ℕ) → 0 < span
     → (multiple_below n span ≤ℤ n) × (n <ℤ (multiple_below n span +ℤ pos span))
 below-near n span some = let parts = floor_mod_parts n span some in (omega (arith, floors), omega (arith, floors))
 
-pub above-next : (n : ℤ) (span : ℕ) → multiple_below n span <ℤ n → multiple_above n span ≡ multiple_below n span +ℤ pos span
-above-next n span less = grind (arith, ints)
-
-pub above-same : (n : ℤ) (span : ℕ) → n ≤ℤ multiple_below n span → multiple_above n span ≡ multiple_below n span
-above-same n span same = grind (arith, ints)
-
-nearest-below : (n : ℤ) (span : ℕ) → (n -ℤ multiple_below n span) <ℤ (multiple_above n span -ℤ n) → nearest_multiple n span ≡ multiple_below n span
-nearest-below n span less = grind (arith, ints)
-
-nearest-above : (n : ℤ) (span : ℕ) → (multiple_above n span -ℤ n) ≤ℤ (n -ℤ multiple_below n span) → nearest_multiple n span ≡ multiple_above n span
-nearest-above n span same = grind (arith, ints)
-
 -- the one above is the one below where that is no way off, and else one span further
 pub above-is : (n : ℤ) (span : ℕ) → 0 < span
     → ((multiple_above n span ≡ multiple_below n span) × (n ≡ multiple_below n span))
     ⊎ ((multiple_above n span ≡ multiple_below n span +ℤ pos span) × (multiple_below n span <ℤ n))
 above-is n span some =
-    let near = below-near n span some in
-    by_lt_z {P = ((multiple_above n span ≡ multiple_below n span) × (n ≡ multiple_below n span)) ⊎ ((multiple_above n span ≡ multiple_below n span +ℤ pos span) × (multiple_below n span <ℤ n))}
-    (multiple_below n span) n
-    (λ less. inr (above-next n span less, less))
-    (λ same. inl (above-same n span same, omega (arith, floors)))
+    let near = below-near n span some in grind (arith, ints)
 
 pub above-near : (n : ℤ) (span : ℕ) → 0 < span
     → (n ≤ℤ multiple_above n span) × (multiple_above n span <ℤ (n +ℤ pos span))
 above-near n span some =
-    let near = below-near n span some in
-    elim (above-is n span some) [
-      | inl same ↦ (omega (arith, floors), omega (arith, floors))
-      | inr next ↦ (omega (arith, floors), omega (arith, floors))
-    ]
+    let near = below-near n span some in let above = above-is n span some in (grind (arith, ints), grind (arith, ints))
 
 -- the nearest is one of the two, and at most half a span away
-pub nearest-is : (n : ℤ) (span : ℕ) → 0 < span
+pub nearest-is : (n : ℤ) (span : ℕ)
     → ((nearest_multiple n span ≡ multiple_below n span) × ((n -ℤ multiple_below n span) <ℤ (multiple_above n span -ℤ n)))
     ⊎ ((nearest_multiple n span ≡ multiple_above n span) × ((multiple_above n span -ℤ n) ≤ℤ (n -ℤ multiple_below n span)))
-nearest-is n span some =
-    by_lt_z {P = ((nearest_multiple n span ≡ multiple_below n span) × ((n -ℤ multiple_below n span) <ℤ (multiple_above n span -ℤ n))) ⊎ ((nearest_multiple n span ≡ multiple_above n span) × ((multiple_above n span -ℤ n) ≤ℤ (n -ℤ multiple_below n span)))}
-    (n -ℤ multiple_below n span) (multiple_above n span -ℤ n)
-    (λ less. inl (nearest-below n span less, less))
-    (λ same. inr (nearest-above n span same, same))
-
--- which one, by the way to it: down or up
-pub nearest-down : (n : ℤ) (span : ℕ) → 0 < span
-    → (n -ℤ multiple_below n span) <ℤ (multiple_below n span +ℤ pos span -ℤ n)
-    → nearest_multiple n span ≡ multiple_below n span
-nearest-down n span some less = elim (above-is n span some) [
-  | inl same ↦ nearest-above n span (omega (arith, floors)) ∙ same.0
-  | inr next ↦ nearest-below n span (omega (arith, floors))
-]
-
-pub nearest-up : (n : ℤ) (span : ℕ) → 0 < span
-    → (multiple_below n span +ℤ pos span -ℤ n) ≤ℤ (n -ℤ multiple_below n span)
-    → nearest_multiple n span ≡ multiple_below n span +ℤ pos span
-nearest-up n span some up = elim (above-is n span some) [
-  | inl same ↦ absurd (omega (arith, floors))
-  | inr next ↦ nearest-above n span (omega (arith, floors)) ∙ next.0
-]
+nearest-is n span = grind (arith, ints)
 
 -- a span that is positive as a number
 pub span-is : (span : ℤ) → pos 0 <ℤ span → (0 < unsigned_abs span) × (pos (unsigned_abs span) ≡ span)
@@ -90,14 +49,5 @@ pub way-near : (n span : ℤ) → pos 0 <ℤ span
     × ((way +ℤ way) ≤ℤ span) × (neg_ℤ span ≤ℤ (way +ℤ way))
 way-near n span some =
     let is = span-is span some in let down = below-near n (unsigned_abs span) is.0 in
-    let up = above-near n (unsigned_abs span) is.0 in
-    elim (above-is n (unsigned_abs span) is.0) [
-      | inl same ↦ elim (nearest-is n (unsigned_abs span) is.0) [
-        | inl low ↦ (inl (low.0), omega (arith, floors), omega (arith, floors))
-        | inr high ↦ (inr (high.0), omega (arith, floors), omega (arith, floors))
-      ]
-      | inr next ↦ elim (nearest-is n (unsigned_abs span) is.0) [
-        | inl low ↦ (inl (low.0), omega (arith, floors), omega (arith, floors))
-        | inr high ↦ (inr (high.0), omega (arith, floors), omega (arith, floors))
-      ]
-    ]
+    let above = above-is n (unsigned_abs span) is.0 in let nearest = nearest-is n (unsigned_abs span) in
+    (elim nearest [ inl low ↦ inl low.0 | inr high ↦ inr high.0 ], grind (arith, ints), grind (arith, ints))

@@ -1,6 +1,6 @@
 -- The multiples about a number are the greatest, the least and the nearest of all multiples.
 use Rattle.std.proofs.Math.Nat.{add-mul, mul-le-mul_right}
-use Rattle.zoned_round.proofs.Words.{IsGreatestWith, IsLeastWith, IsMultiple, ap, apart, arith, by_lt_z, down, floor_div, floors, inl, inr, multiple_above}
+use Rattle.zoned_round.proofs.Words.{IsGreatestWith, IsLeastWith, IsMultiple, ap, apart, arith, by_lt_z, down, floor_div, floors, ints, inl, inr, multiple_above}
 use Rattle.zoned_round.proofs.Words.{multiple_below, nearest_multiple, neg_ℤ, negsuc, pos, refl, unsigned_abs, up, ℕ, ℤ, ◌*ℤ◌, ◌*◌, ◌+ℤ◌, ◌+◌, ◌-ℤ◌, ◌<ℤ◌, ◌<◌}
 use Rattle.zoned_round.proofs.Words.{◌∙◌, ◌≡◌, ◌≤ℤ◌, ◌≤◌}
 use Rattle.zoned_round.proofs.Multiples.{above-is, above-near, below-near, nearest-is}
@@ -12,17 +12,14 @@ scaled a b span h =
     let m : (up a + down b) * span ≤ (up b + down a) * span = mul-le-mul_right span e in
     omega (arith, floors, add-mul (up a) (down b) span, add-mul (up b) (down a) span)
 
-scaled-next : (a b : ℤ) (span : ℕ) → a <ℤ b → (a *ℤ pos span +ℤ pos span) ≤ℤ (b *ℤ pos span)
-scaled-next a b span h =
-    let e : up a + down b + 1 ≤ up b + down a = omega (arith, floors) in
-    let m : (up a + down b + 1) * span ≤ (up b + down a) * span = mul-le-mul_right span e in
-    omega (arith, floors, add-mul (up a + down b) 1 span, add-mul (up a) (down b) span, add-mul (up b) (down a) span)
-
 next-is : (q : ℤ) (span : ℕ) → (q *ℤ pos span +ℤ pos span) ≡ (q +ℤ pos 1) *ℤ pos span
 next-is q span =
     let n = q +ℤ pos 1 in let e : up n + down q ≡ down n + up q + 1 = omega (arith, floors) in
     let m : (up n + down q) * span ≡ (down n + up q + 1) * span = ap (λ (x : ℕ). x * span) e in
     omega (arith, floors, add-mul (up n) (down q) span, add-mul (down n + up q) 1 span, add-mul (down n) (up q) span)
+
+scaled-next : (a b : ℤ) (span : ℕ) → a <ℤ b → (a *ℤ pos span +ℤ pos span) ≤ℤ (b *ℤ pos span)
+scaled-next a b span h = rw (next-is a span) (scaled (a +ℤ pos 1) b span (omega (arith, floors)))
 
 -- a multiple that isn't above n isn't above the one below n
 not_above : (n k : ℤ) (span : ℕ) → 0 < span → (k *ℤ pos span) ≤ℤ n → (k *ℤ pos span) ≤ℤ multiple_below n span
@@ -61,42 +58,18 @@ above-least n span some = record {
 }
 
 -- how far apart two numbers are, by their order
-size-some : (z : ℤ) → pos 0 ≤ℤ z → pos (unsigned_abs z) ≡ z
-size-some (pos n) h = refl
-size-some (negsuc n) h = absurd (omega (arith, floors))
-
-size-less : (z : ℤ) → z ≤ℤ pos 0 → pos (unsigned_abs z) ≡ neg_ℤ z
-size-less (pos n) h = omega (arith, floors)
-size-less (negsuc n) h = refl
-
 apart-below : (n m : ℤ) → m ≤ℤ n → pos (apart n m) ≡ n -ℤ m
-apart-below n m h = size-some (n -ℤ m) (omega (arith, floors))
-
-back : (n m : ℤ) → neg_ℤ (n -ℤ m) ≡ m -ℤ n
-back n m = omega (arith, floors)
+apart-below n m h = grind (arith, ints)
 
 apart-above : (n m : ℤ) → n ≤ℤ m → pos (apart n m) ≡ m -ℤ n
-apart-above n m h = size-less (n -ℤ m) (omega (arith, floors)) ∙ back n m
+apart-above n m h = grind (arith, ints)
 
 pub nearest-of_all : (n k : ℤ) (span : ℕ) → 0 < span
     → (apart n (nearest_multiple n span) ≤ apart n (k *ℤ pos span))
     × (apart n (nearest_multiple n span) ≡ apart n (k *ℤ pos span) → (k *ℤ pos span) ≤ℤ nearest_multiple n span)
 nearest-of_all n k span some =
     let m = k *ℤ pos span in
-    let P : Type 0 = (apart n (nearest_multiple n span) ≤ apart n m) × (apart n (nearest_multiple n span) ≡ apart n m → m ≤ℤ nearest_multiple n span) in
-    let low = below-near n span some in let high = above-near n span some in
-    let down_is = apart-below n (multiple_below n span) low.0 in
-    let up_is = apart-above n (multiple_above n span) high.0 in
-    by_lt_z {P = P} n m
-    (λ past.
-    let least = not_below n k span some (omega (arith, floors)) in let is = apart-above n m (omega (arith, floors)) in
-    elim (nearest-is n span some) [
-      | inl below ↦ rw (below.0) (omega (arith, floors), λ e. absurd (omega (arith, floors)))
-      | inr above ↦ rw (above.0) (omega (arith, floors), λ e. omega (arith, floors))
-    ])
-    (λ within.
-    let greatest = not_above n k span some within in let is = apart-below n m within in
-    elim (nearest-is n span some) [
-      | inl below ↦ rw (below.0) (omega (arith, floors), λ e. omega (arith, floors))
-      | inr above ↦ rw (above.0) (omega (arith, floors), λ e. omega (arith, floors))
-    ])
+    let low = below-near n span some in let high = above-near n span some in let near = nearest-is n span in
+    let down_is = apart-below n (multiple_below n span) low.0 in let up_is = apart-above n (multiple_above n span) high.0 in
+    let least = not_below n k span some in let greatest = not_above n k span some in let past = apart-above n m in let within = apart-below n m in
+    (grind (arith, ints), λ e. grind (arith, ints))

@@ -1,6 +1,6 @@
 -- Readings rounded to digits of a second.
 use Rattle.std.proofs.Math.Nat.{one-le-pow, pow-le-pow_right}
-use Rattle.zoned_round.proofs.Words.{IsInRange, Reading, arith, by_lt_z, floor_mod_parts, floors, inl, inr, moved, moved-leap, moved-plain, moved_leap}
+use Rattle.zoned_round.proofs.Words.{IsInRange, Reading, arith, by_lt_z, floor_mod_parts, floors, ints, moved, moved-leap, moved-plain, moved_leap}
 use Rattle.zoned_round.proofs.Words.{moved_leap-behind, moved_leap-within, multiple_below, nanos_per_digit, nearest_multiple, neg_ℤ, of_total, pos, rounded, ℕ}
 use Rattle.zoned_round.proofs.Words.{ℤ, ◌*ℤ◌, ◌+ℤ◌, ◌-ℤ◌, ◌-◌, ◌<ℤ◌, ◌<◌, ◌≤ℤ◌, ◌≤◌}
 use Rattle.zoned_round.proofs.Multiples.{above-near, below-near, nearest-is}
@@ -26,11 +26,8 @@ below-some f span = omega (arith, floors)
 
 nearest-some : (f span : ℕ) → 0 < span → (pos 0 ≤ℤ nearest_multiple (pos f) span) × ((nearest_multiple (pos f) span -ℤ pos f) <ℤ pos span)
 nearest-some f span some =
-    let low = below-some f span in let down = below-near (pos f) span some in let up = above-near (pos f) span some in
-    elim (nearest-is (pos f) span some) [
-      | inl below ↦ (omega (arith, floors), omega (arith, floors))
-      | inr above ↦ (omega (arith, floors), omega (arith, floors))
-    ]
+    let low = below-some f span in let down = below-near (pos f) span some in let up = above-near (pos f) span some in let near = nearest-is (pos f) span in
+    (grind (arith, ints), grind (arith, ints))
 
 per_digit : (digits : ℕ) → (0 < nanos_per_digit digits) × (nanos_per_digit digits ≤ 1_000_000_000)
 per_digit digits = (one-le-pow (9 - digits) 10 (omega arith), pow-le-pow_right {n = 10} (omega arith) {i = 9 - digits} {j = 9} (omega arith))

@@ -1,5 +1,5 @@
 -- The texts of the pieces of a TZ string.
-use Rattle.std.specs.Prelude.{ℕ, zero, suc, ℤ, pos, negsuc, ◌+ℤ◌, ◌+◌, ◌/◌, ◌%◌, ◌==◌, ◌&&◌, Bool, true, false, if◌then◌else◌, List, [], ◌∷◌, ◌++◌, decimal}
+use Rattle.std.specs.Prelude.{ℕ, ℤ, pos, int_lt, ◌+ℤ◌, ◌+◌, ◌/◌, ◌%◌, ◌==◌, ◌&&◌, Bool, if◌then◌else◌, List, [], ◌∷◌, ◌++◌, decimal}
 use Rattle.std.specs.Int.RustNames.{unsigned_abs}
 use Rattle.std.specs.Ordering.{int_eq}
 use Rattle.std.specs.List.{list_all}
@@ -38,13 +38,10 @@ abbrev pub spelled_signed : Bool → ℕ → List ℕ
 spelled_signed negative n = if negative then minus ∷ spelled_clock n else spelled_clock n
 
 abbrev pub is_positive : ℤ → Bool
-is_positive (pos zero) = false
-is_positive (pos (suc n)) = true
-is_positive (negsuc n) = false
+is_positive z = int_lt (pos 0) z
 
 abbrev pub is_negative : ℤ → Bool
-is_negative (pos n) = false
-is_negative (negsuc n) = true
+is_negative z = int_lt z (pos 0)
 
 -- an offset east of UTC has a minus
 unfoldable pub spelled_offset : ℤ → List ℕ

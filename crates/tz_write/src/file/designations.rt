@@ -167,6 +167,7 @@ fn has_place(designations: &[u8], local: &LocalTimeType) -> bool
 }
 
 /// Returns whether the text of each type is in the designations, at a place that a byte can name.
+#[tactic(auto, using(std::proofs::lemmas::List::take_all))]
 pub fn have_places(designations: &[u8], types: &[LocalTimeType]) -> bool
     ensures places { IsTrue result ↔ HavePlaces designations.now types.now }
 {

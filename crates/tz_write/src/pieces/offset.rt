@@ -1,8 +1,7 @@
 //! Offsets and times of day.
 
 ghost use Rattle.std.specs.Prelude.{◌≡◌, ◌++◌, ◌+ℤ◌, pos, OnOk, string_bytes};
-ghost use Rattle.tz_write.specs.Steps.TextPieces.{is_positive, is_negative, spelled_offset, spelled_time};
-ghost use Rattle.tz_write.specs.Steps.TextPieces.{spelled_dst_offset};
+ghost use Rattle.tz_write.specs.Steps.TextPieces.{spelled_offset, spelled_time, spelled_dst_offset};
 
 use crate::pieces::clock::push_signed;
 use std::alloc::AllocError;
@@ -13,7 +12,7 @@ use tz_info::AlternateTime;
 pub(crate) fn push_offset(text: &mut String, east: i32) -> Result<(), AllocError>
     ensures { OnOk result (string_bytes text.new ≡ string_bytes text.old ++ spelled_offset east) }
 {
-    push_signed(text, is_positive(east), east.unsigned_abs())
+    push_signed(text, east > 0, east.unsigned_abs())
 }
 
 // A time of day, which may lie before midnight.
@@ -21,7 +20,7 @@ pub(crate) fn push_offset(text: &mut String, east: i32) -> Result<(), AllocError
 pub(crate) fn push_time(text: &mut String, time: i32) -> Result<(), AllocError>
     ensures { OnOk result (string_bytes text.new ≡ string_bytes text.old ++ spelled_time time) }
 {
-    push_signed(text, is_negative(time), time.unsigned_abs())
+    push_signed(text, time < 0, time.unsigned_abs())
 }
 
 // The offset of daylight saving time, unless it is an hour more than that of standard time.
@@ -35,16 +34,4 @@ pub(crate) fn push_dst_offset(text: &mut String, rule: &AlternateTime) -> Result
         return Ok(());
     }
     push_offset(text, dst)
-}
-
-fn is_positive(seconds: i32) -> bool
-    ensures { result ≡ is_positive seconds }
-{
-    seconds > 0
-}
-
-fn is_negative(seconds: i32) -> bool
-    ensures { result ≡ is_negative seconds }
-{
-    seconds < 0
 }

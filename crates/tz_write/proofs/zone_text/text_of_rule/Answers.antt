@@ -1,15 +1,11 @@
-use Rattle.tz_write.proofs.{Words.{HasZoneText, IsWrittenZone, List, Some, refl, rules, subst, sym, zone_of_rule, ℕ}, ZoneTexts.{no_zone_text, written_zone}}
+use Rattle.tz_write.proofs.{Words.{HasZoneText, Some, refl, rules}, ZoneTexts.{no_zone_text, written_zone}}
 use Rattle.tz_write.proofs.zone_text.text_of_rule.Goals as goal
 
 pub returns : goal.returns
 returns c =
     let types = c.args.types.now in let rule = c.args.rule.now in
     let has : HasZoneText types (Some rule) = c.has_zone_text.ensures.0 (search rules) in
-    record {
-      written = subst (λ (z : List ℕ). IsWrittenZone (zone_of_rule types (Some rule)) z) (sym c.in_ok-text_of.ensures) (written_zone types rule c.requires has);
-      reason = record { transitions = refl; leaps = refl; rule = has };
-      memory = tt;
-    }
+    record { written = rw c.in_ok-text_of.ensures (written_zone types rule c.requires has); reason = record { transitions = refl; leaps = refl; rule = has }; memory = tt }
 
 pub returns-then-not-has_zone_text : goal.returns-then-not-has_zone_text
 returns-then-not-has_zone_text c =

@@ -1,8 +1,5 @@
-use Rattle.tz_write.proofs.Words.{All, HasTimeOf64Bits, flat_map, take, time_bytes, ◌++◌, ◌≡◌}
+use Rattle.tz_write.proofs.{Words.{HasTimeOf64Bits, take, time_bytes}, FileRecords.{ArePushed}}
 use Rattle.tz_write.proofs.file.contents.push_times.Given as goal
 
 abbrev pub invariant-loop-place : goal.invariant-loop-place
-invariant-loop-place l = record {
-  appended : l.bytes.items ≡ l.initial.bytes.items ++ flat_map time_bytes (take l.place l.zone.transitions);
-  sound : All HasTimeOf64Bits (take l.place l.zone.transitions);
-}
+invariant-loop-place l = ArePushed time_bytes HasTimeOf64Bits l.initial.bytes.items l.bytes.items (take l.place l.zone.transitions)

@@ -1,20 +1,15 @@
-use Rattle.tz_write.proofs.Words.{AreTimesOf, CanBeSpelled, IsWrittenText, List, false, not, rules, spelled_rule, subst, sym, true, ℕ, ◌≡◌}
-use Rattle.tz_write.proofs.{RuleTexts.{rule_named, rule_spelled, times_extended, written}, ZoneTexts.{on_err}}
+use Rattle.tz_write.proofs.{Words.{CanBeSpelled, rules, spelled_rule, true}, RuleTexts.{rule_named, rule_spelled, times_extended, written}, ZoneTexts.{on_err}}
 use Rattle.tz_write.proofs.rule_text.TransitionRuleToTzString.to_tz_string.Goals as goal
 
 pub returns : goal.returns
 returns c =
-    let rule = c.args.self.now in
     let named = c.can_be_spelled.ensures.answer.0 (search rules) in
-    let plain : (c.is_plain.result ≡ true → AreTimesOf false rule) × (AreTimesOf false rule → c.is_plain.result ≡ true) = search (rules, c.is_plain.ensures) in
-    let text = written rule c.is_plain.result c.can_be_spelled.ensures.rule named plain.0 plain.1 in
-    record { written = subst (λ (z : List ℕ). IsWrittenText rule z (not c.is_plain.result)) (sym c.in_ok-text.ensures) text; reason = named; memory = tt }
+    record { written = rw c.in_ok-text.ensures (written c.args.self.now c.is_plain.result c.can_be_spelled.ensures.rule named c.is_plain.ensures); reason = named; memory = tt }
 
 pub returns-in_err-text-clause-memory : goal.returns-in_err-text-clause-memory
 returns-in_err-text-clause-memory c =
     let rule = c.args.self.now in let fits = c.can_be_spelled.ensures.rule in
-    let spelled = rule_spelled true rule fits (c.can_be_spelled.ensures.answer.0 (search rules)) (times_extended rule fits) in
-    on_err c.from_residual.result _ (true, spelled_rule rule, spelled)
+    on_err c.from_residual.result _ (true, spelled_rule rule, rule_spelled true rule fits (c.can_be_spelled.ensures.answer.0 (search rules)) (times_extended rule fits))
 
 pub returns-then-not-can_be_spelled : goal.returns-then-not-can_be_spelled
 returns-then-not-can_be_spelled c =
