@@ -58,10 +58,7 @@ impl Kept {
         if transition.type_index > 0xffff_ffff {
             return Err(AllocError);
         }
-        Ok(Kept::of(
-            transition.unix_leap_time,
-            transition.type_index as u32,
-        ))
+        Ok(Kept::of(transition.unix_leap_time, transition.type_index as u32))
     }
 
     // The transition that is kept.

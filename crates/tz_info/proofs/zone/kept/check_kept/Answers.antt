@@ -1,4 +1,4 @@
-use Rattle.tz_info.proofs.Words.{AreTransitions, Bool, Error, IsValid, List, ListFault, LocalType, No_type, Not_rising, Other_index, Other_leaps, Other_rule}
+use Rattle.tz_info.proofs.Words.{AreTransitions, Bool, Error, IsValid, List, ListFault, No_type, Not_rising, Other_index, Other_leaps, Other_rule}
 use Rattle.tz_info.proofs.Words.{Err, MatchResult, Ok, Result, Some, Transition, Zone, arith, false, get_or, last_transition, length, nat_tests, refl}
 use Rattle.tz_info.proofs.Words.{slice_get_read, suc, true, zero, ℕ, [], ◌-◌, ◌<◌, ◌==◌, ◌∷◌, ◌≡◌}
 use Rattle.tz_info.proofs.ListFaults.{with_fault}
@@ -25,7 +25,8 @@ same_last : (z : Zone) (last : Transition) → 0 < length z.transitions → last
     → last_transition z.transitions ≡ Some last
 same_last z last any is = slice_get_read z.transitions _ (length z.transitions - 1) last refl (omega arith) is
 
-of_last : (z : Zone) (last : Transition) (e : Error) → 0 < length z.types → AreTransitions (length z.types) z.transitions → AreTransitions (length z.types) (last ∷ [])
+of_last : (z : Zone) (last : Transition) (e : Error) → 0 < length z.types → AreTransitions (length z.types) z.transitions
+    → AreTransitions (length z.types) (last ∷ [])
     → last_transition z.transitions ≡ Some last → ListFault (with_last z last) e → ListFault z e
 of_last z last e some all one same (No_type bad) = absurd (bad some)
 of_last z last e some all one same (Other_index _ bad) = absurd (bad one.indexes)
@@ -59,6 +60,7 @@ returns-then-not-are_transitions c =
 pub returns : goal.returns
 returns c =
     let last : c.transition.result ≡ get_or c.args.kept.now (length c.args.kept.now - 1) c.transition.result = rw c.transition.ensures c.index-kept-kept.is in
-    checked (record { transitions = c.args.kept.now; types = c.args.types.now; leaps = c.args.leaps.now; rule = c.args.rule.now }) c.transition.result c.check-2.result
+    checked (record { transitions = c.args.kept.now; types = c.args.types.now; leaps = c.args.leaps.now; rule = c.args.rule.now })
+    c.transition.result c.check-2.result
     (some c.args.types.now c.is_empty.result c.is_empty.ensures c.if-is_empty.false) (c.are_transitions.ensures.0 c.if-not-are_transitions.false)
     (some c.args.kept.now c.is_empty-2.result c.is_empty-2.ensures c.if-is_empty-2.false) last c.check-2.ensures

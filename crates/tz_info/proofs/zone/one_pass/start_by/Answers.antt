@@ -7,8 +7,8 @@ returns-then-leapless-clause-start c =
     let valid = c.requires.valid in
     let last = c.index-lists-count.result in
     let fs : SFits w64 c.second.result = search rules in
-    simp to_z-of_z (rw c.second.ensures (start_leapless c.args.lists.transitions.now c.args.lists.leaps.now c.args.count last valid.leaps valid.transitions.rising
-    c.requires.some c.requires.count (c.requires.leapless c.if-leapless.true)))
+    simp to_z-of_z (rw c.second.ensures (start_leapless c.args.lists.transitions.now c.args.lists.leaps.now c.args.count last
+    valid.leaps valid.transitions.rising c.requires.some c.requires.count (c.requires.leapless c.if-leapless.true)))
 
 pub returns-clause-start : goal.returns-clause-start
 returns-clause-start c =

@@ -8,5 +8,5 @@ returns c =
     let fs : SFits w64 c.first_second.result = search rules in
     let second : c.second.result ≡ (get_or c.args.transitions.now (c.args.count - 1) last).unix_leap_time =
     c.second.ensures ∙ ap (λ (t : Transition). t.unix_leap_time) c.index-transitions-count.is in
-    simp to_z-of_z (start_found c.args.transitions.now c.args.leaps.now c.args.count last c.first_second.result c.requires.rising c.requires.some c.requires.count
-    (rw second at (simp to_z-of_z at c.first_second.ensures)))
+    simp to_z-of_z (start_found c.args.transitions.now c.args.leaps.now c.args.count last c.first_second.result
+    c.requires.rising c.requires.some c.requires.count (rw second at (simp to_z-of_z at c.first_second.ensures)))
