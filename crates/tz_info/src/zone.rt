@@ -7,7 +7,7 @@ mod extremes;
 mod gap;
 mod idle;
 mod index;
-mod kept;
+pub(crate) mod kept;
 mod last_span;
 mod leap_second;
 mod leap_time;

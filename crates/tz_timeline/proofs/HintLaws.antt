@@ -1,5 +1,6 @@
 -- What hints say of a search.
-use Rattle.tz_timeline.proofs.Words.{AreEnds, AreHints, AreMarked, AreOrdered, AreRaised, AreRaisedUntil, Ends, Hints, IsHinted, IsLastBefore, IsNarrowedTo}
+use Rattle.tz_timeline.proofs.Words.{AreEnds, AreHints, AreMarked, AreNonDecreasing, AreOrdered, AreRaised, AreRaisedUntil}
+use Rattle.tz_timeline.proofs.Words.{AreStepsUntil, Ends, Hints, IsHinted, IsLastBefore, IsNarrowedTo}
 use Rattle.tz_timeline.proofs.Words.{List, Near, ap, arith, cases_eq, cases_lt, div-lt_iff_lt-mul, div-mul-le_self, get_or-set_at, get_or-set_other, inl, inr}
 use Rattle.tz_timeline.proofs.Words.{ints, item_time, length, length-set, lt-suc_self, max, mul-le-mul_right, nat_abs, nat_cmp, negsuc, ord_max, pos, pow_pos}
 use Rattle.tz_timeline.proofs.Words.{refl, set, shr_mono, slice_index, stretch_of, suc, sym, ℕ, ℤ, ◌*◌, ◌+ℤ◌, ◌+◌, ◌-ℤ◌, ◌-◌, ◌/◌, ◌<ℤ◌, ◌<◌, ◌^◌, ◌∙◌, ◌≡◌}
@@ -60,10 +61,12 @@ slots times first span shift k ordered from is l =
     shr_mono {a = nat_abs (item_time times k -ℤ first)} {b = span} shift (omega (arith, ints))
 
 -- the last item noted up to a stretch is the last one before it
-pub last_before : (times : List ℤ) (first : ℤ) (shift : ℕ) (marked raised : List ℕ) (most b : ℕ) → 0 < 2 ^ shift → ((k : ℕ) → k < length times → first ≤ℤ item_time times k)
+pub last_before : (times : List ℤ) (first : ℤ) (shift : ℕ) (marked raised : List ℕ) (b : ℕ) → 0 < 2 ^ shift
+    → ((k : ℕ) → k < length times → first ≤ℤ item_time times k)
     → ((k : ℕ) → k < length times → suc (stretch_of first (item_time times k) shift) < length marked) → 0 < length times
-    → AreMarked times first shift (length times) marked → AreRaised marked raised most → b < length marked → IsLastBefore times (first +ℤ pos (b * 2 ^ shift)) (slice_index raised b)
-last_before times first shift marked raised most b positive from room some m r h =
+    → AreMarked times first shift (length times) marked → AreRaised marked raised → b < length marked
+    → IsLastBefore times (first +ℤ pos (b * 2 ^ shift)) (slice_index raised b)
+last_before times first shift marked raised b positive from room some m r h =
     let m2 : ℕ = 2 ^ shift in
     let raised_to = r.some b h in
     let j : ℕ = raised_to.0 in
@@ -122,8 +125,8 @@ marked_more times first shift n stretch places m e h =
     }
 
 -- the first n numbers are raised, the greatest of them is known, and the others are as they were
-pub record Raising (before after : List ℕ) (most greatest n : ℕ) : Type 0 where
-  pub raised : AreRaisedUntil before after most n
+pub record Raising (before after : List ℕ) (greatest n : ℕ) : Type 0 where
+  pub raised : AreRaisedUntil before after n
   pub rest : (b : ℕ) → n ≤ b → slice_index after b ≡ slice_index before b
   pub up_to : (j : ℕ) → j < n → slice_index before j ≤ greatest
   pub is : ((n ≡ 0) × (greatest ≡ 0)) ⊎ ((0 < n) × (greatest ≡ slice_index after (n - 1)))
@@ -134,11 +137,11 @@ max_is a b = elim (cases_lt b a) [
   | inr h ↦ grind (arith, h)
 ]
 
-pub raising_more : (before after : List ℕ) (most most_after greatest n here : ℕ) → Raising before after most greatest n → n < length before → here ≡ ord_max nat_cmp greatest (slice_index after n) → most_after ≡ ord_max nat_cmp most (here - greatest) → Raising before (set after n here) most_after here (n + 1)
-raising_more before after most most_after greatest n here r h is_here is_most =
+pub raising_more : (before after : List ℕ) (greatest n here : ℕ) → Raising before after greatest n → n < length before
+    → here ≡ ord_max nat_cmp greatest (slice_index after n) → Raising before (set after n here) here (n + 1)
+raising_more before after greatest n here r h is_here =
     let same_here = r.rest n (omega arith) in
     let e : here ≡ max greatest (slice_index before n) = is_here ∙ max_is greatest (slice_index after n) ∙ ap (max greatest) same_here in
-    let m : most_after ≡ max most (here - greatest) = is_most ∙ max_is most (here - greatest) in
     let c = r.raised.count in
     let long = length-set after n here in
     let at : (b : ℕ) → b ≡ n → slice_index (set after n here) b ≡ here = λ b same. get_or-set_at after n b here 0 same (omega arith) in
@@ -163,20 +166,6 @@ raising_more before after most most_after greatest n here r h is_here is_most =
           ]
           | inr differs ↦ let a = other b differs in let s = r.raised.some b (omega arith) in (s.0, s.1, a ∙ s.2)
         ];
-        steps = λ b l. elim (cases_eq (suc b) n) [
-          | inl same ↦
-              let a = at (suc b) same in
-              let below = other b (λ i. absurd (omega arith)) in
-              elim r.is [
-                | inl z ↦ let zero_is = z.0 in absurd (omega arith)
-                | inr g ↦ let v = g.1 in let p : n - 1 ≡ b = omega arith in let w = rw p at v in omega arith
-              ]
-          | inr differs ↦
-              let a = other (suc b) differs in
-              let below = other b (λ i. absurd (omega arith)) in
-              let s = r.raised.steps b (omega arith) in
-              omega arith
-        ];
       };
       rest = λ b l. other b (λ i. absurd (omega arith)) ∙ r.rest b (omega arith);
       up_to = λ j l. elim (cases_lt j n) [
@@ -186,22 +175,39 @@ raising_more before after most most_after greatest n here r h is_here is_most =
       is = inr (omega arith, let i : n + 1 - 1 ≡ n = omega arith in rw i (sym (at n refl)));
     }
 
+-- so none is less than the one before it
+pub raised_rising : (before after : List ℕ) → AreRaised before after → AreNonDecreasing after
+raised_rising before after r b h =
+    let c = r.count in
+    let s = r.some b (omega arith) in
+    let a = r.above (suc b) s.0 (omega arith) (let j = s.1 in omega arith) in
+    let e = s.2 in
+    omega arith
+
+-- one step more
+pub steps_more : (numbers : List ℕ) (most n most_after : ℕ) → AreStepsUntil numbers most n → 0 < n
+    → most_after ≡ ord_max nat_cmp most (slice_index numbers n - slice_index numbers (n - 1)) → AreStepsUntil numbers most_after (n + 1)
+steps_more numbers most n most_after steps some is b h =
+    let m : most_after ≡ max most (slice_index numbers n - slice_index numbers (n - 1)) =
+    is ∙ max_is most (slice_index numbers n - slice_index numbers (n - 1)) in
+    elim (cases_lt (suc b) n) [
+      | inl l ↦ let s = steps b l in omega arith
+      | inr g ↦ let here : n ≡ suc b = omega arith in let before : suc b - 1 ≡ b = omega arith in let last = rw (here, before) at m in omega arith
+    ]
+
 -- the hints at items, by the places that were filled in
 pub hints_made : (times : List ℤ) (hints : Hints) (first : ℤ) (span most : ℕ) (marked : List ℕ) → AreOrdered times → 4 ≤ length times → hints.shift < 64 → first ≡ item_time times 0 → pos span ≡ item_time times (length times - 1) -ℤ first
-    → length marked ≡ span / 2 ^ hints.shift + 2 → AreMarked times first hints.shift (length times) marked → AreRaised marked hints.places.items most → 2 * (most + 1) ≤ length times → AreHints times hints
-hints_made times hints first span most marked ordered many shift from is long m r narrow =
+    → length marked ≡ span / 2 ^ hints.shift + 2 → AreMarked times first hints.shift (length times) marked → AreRaised marked hints.places.items
+    → AreStepsUntil hints.places.items most (length hints.places.items) → 2 * (most + 1) ≤ length times → AreHints times hints
+hints_made times hints first span most marked ordered many shift from is long m r steps narrow =
     let c = r.count in
     record {
       shift = shift;
-      rising = λ b h.
-          let s = r.some b (omega arith) in
-          let a = r.above (suc b) s.0 (omega arith) (let j = s.1 in omega arith) in
-          let e = s.2 in
-          omega arith;
-      places = λ b h. rw (← from) (last_before times first hints.shift marked hints.places.items most b (pow_pos hints.shift)
+      rising = raised_rising marked hints.places.items r;
+      places = λ b h. rw (← from) (last_before times first hints.shift marked hints.places.items b (pow_pos hints.shift)
           (λ k l. first_least times first k ordered from l)
           (λ k l. let s = slots times first span hints.shift k ordered from is l in omega arith)
           (omega arith) m r (omega arith));
       some = λ h. many;
-      narrow = λ b h. let s = r.steps b (omega arith) in omega arith;
+      narrow = λ b h. let s = steps b h in omega arith;
     }

@@ -18,7 +18,8 @@ pub use Rattle.tz_timeline.specs.Counts.{Counts}
 pub use Rattle.tz_timeline.specs.Digits.{digits_within}
 unfoldable pub use Rattle.tz_timeline.specs.Digits.{digits}
 pub use Rattle.tz_timeline.specs.Search.{AreOrdered, ArePassed, IsLastOf, item_time}
-pub use Rattle.tz_timeline.specs.Steps.Hints.{AreHints, AreMarked, AreRaised, AreRaisedUntil, IsHinted, IsLastBefore, stretch_of}
+pub use Rattle.tz_timeline.specs.Steps.Hints.{AreHints, AreMarked, AreNonDecreasing, AreRaised, AreRaisedUntil, AreStepsUntil}
+pub use Rattle.tz_timeline.specs.Steps.Hints.{IsHinted, IsLastBefore, stretch_of}
 pub use Rattle.tz_timeline.specs.Steps.Search.{AreEnds, IsLeft, IsNarrowedTo}
 pub use Rattle.tz_timeline.specs.declared.hints.Hints.{Hints}
 pub use Rattle.tz_timeline.specs.declared.hints.Near.{Near}

@@ -7,8 +7,8 @@
 
 ghost use Rattle.std.specs.Prelude.{◌≡◌, ◌+◌, ◌*◌, ◌/◌, ◌^◌, ◌<◌, ◌≤◌, ◌≤ℤ◌, ◌-ℤ◌, pos, suc, length, map, List, ℤ, ℕ};
 ghost use Rattle.std.specs.Prelude.{slice_index, MatchOption, MatchResult, ⊤};
-ghost use Rattle.tz_timeline.specs.Steps.Hints.{AreHints, AreMarked, AreNonDecreasing, AreRaised, IsHinted};
-ghost use Rattle.tz_timeline.specs.Steps.Hints.{stretch_of};
+ghost use Rattle.tz_timeline.specs.Steps.Hints.{AreHints, AreMarked, AreNonDecreasing, AreRaised, AreStepsUntil};
+ghost use Rattle.tz_timeline.specs.Steps.Hints.{IsHinted, stretch_of};
 ghost use Rattle.tz_timeline.specs.Search.{AreOrdered, item_time};
 
 use crate::timeline::Timed;
@@ -60,7 +60,8 @@ impl Hints {
         let shift = shift_for(span, most_stretches(count));
         let mut places = vec![in alloc; 0; (span >> shift) as usize + 2]?;
         mark(&mut places, items, first, shift);
-        let most = raise(&mut places);
+        raise(&mut places);
+        let most = most_between(&places);
         if 2 * (most as usize + 1) > count {
             return Ok(Hints::none(alloc));
         }
@@ -137,18 +138,27 @@ fn mark<T: Timed>(places: &mut [u32], items: &[T], first: i64, shift: u32)
     }
 }
 
-// Raises each number to the greatest up to it, and gives the most by which one is greater than the
-// one before it.
-fn raise(numbers: &mut [u32]) -> u32
-    ensures { AreRaised numbers.old numbers.new result }
+// Raises each number to the greatest up to it.
+fn raise(numbers: &mut [u32])
+    ensures { AreRaised numbers.old numbers.new }
 {
     let mut greatest = 0;
-    let mut most = 0;
     for i in 0..numbers.len() {
-        let here = max(greatest, numbers[i]);
-        most = max(most, here - greatest);
-        numbers[i] = here;
-        greatest = here;
+        greatest = max(greatest, numbers[i]);
+        numbers[i] = greatest;
+    }
+}
+
+// The most by which a number is greater than the one before it. It is a loop of its own, for which
+// the compiler takes several numbers at once.
+#[tactic(auto, using(crate::proofs::HintLaws::steps_more))]
+fn most_between(numbers: &[u32]) -> u32
+    requires { AreNonDecreasing numbers.now }
+    ensures { AreStepsUntil numbers.now result (length numbers.now) }
+{
+    let mut most = 0;
+    for i in 1..numbers.len() {
+        most = max(most, numbers[i] - numbers[i - 1]);
     }
     most
 }

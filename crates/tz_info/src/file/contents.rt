@@ -7,7 +7,8 @@ ghost use Rattle.tz_info.specs.Steps.ContentReading.{leap_second_of, pair_agrees
 ghost use Rattle.tz_info.specs.Steps.Below.{all_below};
 
 use crate::file::numbers::{record_at, signed_32, time_of};
-use crate::zone::{LeapSecond, Transition};
+use crate::zone::LeapSecond;
+use crate::zone::kept::Kept;
 use std::alloc::Global;
 use tz_base::{Error, Expected};
 
@@ -17,7 +18,7 @@ pub fn read_transitions(
     time_size: usize,
     times: &[u8],
     type_indexes: &[u8],
-) -> Result<Vec<Transition>, Error>
+) -> Result<Vec<Kept>, Error>
     requires size { (time_size ≡ 4) ⊎ (time_size ≡ 8) }
     requires room { length times.now ≡ length type_indexes.now * time_size }
     ensures { GivesInMemory (λ v. v.items) result
@@ -26,10 +27,10 @@ pub fn read_transitions(
 {
     let mut transitions = Vec::with_capacity(alloc, type_indexes.len())?;
     for k in 0..type_indexes.len() {
-        transitions.push_reserved(Transition {
-            unix_leap_time: time_of(time_size, record_at(times, time_size, k)),
-            type_index: type_indexes[k] as usize,
-        });
+        transitions.push_reserved(Kept::of(
+            time_of(time_size, record_at(times, time_size, k)),
+            type_indexes[k] as u32,
+        ));
     }
     Ok(transitions)
 }

@@ -22,14 +22,15 @@ use crate::file::footer::read_footer;
 use crate::file::header::{Counts, Header, Place, Version, read_header};
 use crate::file::types::read_types;
 use crate::rule::TransitionRule;
-use crate::zone::{LeapSecond, TimeZone, Transition};
+use crate::zone::kept::Kept;
+use crate::zone::{LeapSecond, TimeZone};
 use std::alloc::Global;
 use tz_base::{Cursor, Error, Expected, LocalTimeType};
 
 /// The lists that a file spells. They need not make a valid zone.
 #[derive(Drop)]
 pub struct Lists {
-    pub transitions: Vec<Transition>,
+    pub transitions: Vec<Kept>,
     pub types: Vec<LocalTimeType>,
     pub leap_seconds: Vec<LeapSecond>,
     pub rule: Option<TransitionRule>,
@@ -49,7 +50,7 @@ impl Lists {
             leap_seconds,
             rule,
         } = self;
-        TimeZone::new(alloc, transitions, types, leap_seconds, rule)
+        TimeZone::of_kept(alloc, transitions, types, leap_seconds, rule)
     }
 }
 

@@ -17,7 +17,6 @@ use crate::zone::pieces::Piece;
 use crate::zone::segments::{Lists, Pieces, Segment, segment_at, table_count};
 use crate::zone::shown::{Jump, Shown};
 use crate::zone::starts::{cut_at, start_of};
-use crate::zone::transition::Transition;
 use std::alloc::{AllocError, Global};
 use tz_base::Error;
 use tz_timeline::Timed;
@@ -170,7 +169,7 @@ fn pieces_at(
 
 // Whether there are no leap seconds, and each transition is so far from the ends of 64 bits that
 // its time takes an offset.
-fn is_leapless(transitions: &[Transition], leaps: &[LeapSecond]) -> bool
+fn is_leapless(transitions: &[Kept], leaps: &[LeapSecond]) -> bool
     requires rising { AreRising transitions.now }
     requires some { 0 < length transitions.now }
     ensures { IsTrue result → IsLeapless transitions.now leaps.now }
@@ -178,8 +177,8 @@ fn is_leapless(transitions: &[Transition], leaps: &[LeapSecond]) -> bool
     if !leaps.is_empty() {
         return false;
     }
-    let first = transitions[0].unix_leap_time;
-    let last = transitions[transitions.len() - 1].unix_leap_time;
+    let first = transitions[0].second();
+    let last = transitions[transitions.len() - 1].second();
     -FAR <= first && last <= FAR
 }
 
@@ -197,7 +196,7 @@ fn start_by(lists: Lists, starts: &[Kept], count: usize, leapless: bool) -> i64
     ensures far { IsTrue leapless → IsFarFromEnds result }
 {
     if leapless {
-        return lists.transitions[count - 1].unix_leap_time;
+        return lists.transitions[count - 1].second();
     }
     if lists.leaps.is_empty() {
         return start_of(lists.transitions, lists.leaps, count);

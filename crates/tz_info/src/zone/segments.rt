@@ -9,18 +9,18 @@ ghost use Rattle.tz_info.specs.WallPieces.{IsTypeBefore};
 ghost use Rattle.tz_info.specs.Zones.{IsValid};
 
 use crate::rule::TransitionRule;
+use crate::zone::kept::Kept;
 use crate::zone::leap_second::LeapSecond;
 use crate::zone::pieces::{Piece, merged};
 use crate::zone::shown::{Jump, Shown, together};
 use crate::zone::starts::{cut_at, start_of};
-use crate::zone::transition::Transition;
 use std::alloc::Global;
 use tz_base::{Error, LocalTimeType};
 
 // The lists of a zone, lent.
 #[derive(Clone, Copy)]
 pub(super) struct Lists<'a> {
-    pub(super) transitions: &'a [Transition],
+    pub(super) transitions: &'a [Kept],
     pub(super) types: &'a [LocalTimeType],
     pub(super) leaps: &'a [LeapSecond],
     pub(super) rule: &'a Option<TransitionRule>,
@@ -67,7 +67,7 @@ pub(super) fn index_of_segment(lists: Lists, place: usize) -> usize
     if place == 0 {
         return 0;
     }
-    lists.transitions[place - 1].type_index
+    lists.transitions[place - 1].type_index()
 }
 
 // The index of the type at the last second before the segment after so many transitions: that of

@@ -11,15 +11,14 @@ ghost use Rattle.tz_info.specs.WallPieces.{IsStart};
 use crate::zone::kept::Kept;
 use crate::zone::leap_second::LeapSecond;
 use crate::zone::leap_time::correction_after;
-use crate::zone::transition::Transition;
 use std::alloc::{AllocError, Global};
-use tz_timeline::Timeline;
+use tz_timeline::{Timed, Timeline};
 
 // The transitions by Unix time, if there are leap seconds: a search for a second needs no leap time
 // then.
 pub(super) fn by_unix_time(
     alloc: Global,
-    transitions: &[Transition],
+    transitions: &[Kept],
     leaps: &[LeapSecond],
 ) -> Result<Timeline<Kept>, AllocError>
     requires leaps { AreLeapSeconds leaps.now }
@@ -33,12 +32,8 @@ pub(super) fn by_unix_time(
     let mut entries = Vec::with_capacity(alloc, transitions.len())?;
     let mut start = i64::MIN;
     for transition in transitions {
-        start = later(start, first_second(leaps, transition.unix_leap_time));
-        let entry = Kept::new(Transition {
-            unix_leap_time: start,
-            type_index: transition.type_index,
-        })?;
-        entries.push_reserved(entry);
+        start = later(start, first_second(leaps, transition.second()));
+        entries.push_reserved(transition.at(start));
     }
     Timeline::new(alloc, entries)
 }
@@ -82,14 +77,14 @@ pub(super) fn entries_come(leaps: &[LeapSecond], leap_time: i64) -> usize
 }
 
 // The first second at which that many transitions have come.
-pub(super) fn start_of(transitions: &[Transition], leaps: &[LeapSecond], count: usize) -> i64
+pub(super) fn start_of(transitions: &[Kept], leaps: &[LeapSecond], count: usize) -> i64
     requires leaps { AreLeapSeconds leaps.now }
     requires rising { AreRising transitions.now }
     requires some { 0 < count }
     requires count { count ≤ length transitions.now }
     ensures { IsStart transitions.now leaps.now count result }
 {
-    first_second(leaps, transitions[count - 1].unix_leap_time)
+    first_second(leaps, transitions[count - 1].second())
 }
 
 // What a clock at that offset shows at the second.

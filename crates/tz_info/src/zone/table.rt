@@ -7,7 +7,7 @@ ghost use Rattle.tz_timeline.specs.Search.{IsLastOf};
 ghost use Rattle.tz_timeline.specs.Digits.{digits};
 ghost use Rattle.tz_info.specs.Transitions.{AreRising, passed};
 
-use crate::zone::kept::{Kept, all_kept};
+use crate::zone::kept::Kept;
 use crate::zone::transition::Transition;
 use std::alloc::Global;
 use std::fmt;
@@ -60,12 +60,11 @@ impl PartialEq for Table {
 impl Table {
     // The table of those transitions.
     #[tactic(auto, using(crate::proofs::TableSearch::in_order))]
-    pub(super) fn new(alloc: Global, entries: Vec<Transition>) -> Result<Table, Error>
+    pub(super) fn new(alloc: Global, entries: Vec<Kept>) -> Result<Table, Error>
         requires { AreRising entries.items }
         ensures { MatchResult result (λ t. t ≡ entries.items) (λ e. e ≡ OutOfMemory) }
     {
-        let kept = all_kept(alloc, &entries)?;
-        let entries = Timeline::new(alloc, kept)?;
+        let entries = Timeline::new(alloc, entries)?;
         Ok(Table { entries })
     }
 

@@ -40,12 +40,15 @@ pub record AreMarked (times : List ℤ) (first : ℤ) (shift n : ℕ) (places : 
       → (slice_index places b ≡ 0) ⊎ ((slice_index places b < n) × (suc (stretch_of first (item_time times (slice_index places b)) shift) ≡ b))
   pub latest : (k : ℕ) → k < n → k ≤ slice_index places (suc (stretch_of first (item_time times k) shift))
 
--- each number of the first n is raised to the greatest up to it, by at most so much from one to the next
-pub record AreRaisedUntil (before after : List ℕ) (most n : ℕ) : Type 0 where
+-- each number of the first n is raised to the greatest up to it
+pub record AreRaisedUntil (before after : List ℕ) (n : ℕ) : Type 0 where
   pub count : length after ≡ length before
   pub above : (b j : ℕ) → b < n → j ≤ b → slice_index before j ≤ slice_index after b
   pub some : (b : ℕ) → b < n → (j : ℕ) × (j ≤ b) × (slice_index after b ≡ slice_index before j)
-  pub steps : (b : ℕ) → suc b < n → slice_index after (suc b) ≤ slice_index after b + most
 
-abbrev pub AreRaised : List ℕ → List ℕ → ℕ → Type 0
-AreRaised before after most = AreRaisedUntil before after most (length before)
+abbrev pub AreRaised : List ℕ → List ℕ → Type 0
+AreRaised before after = AreRaisedUntil before after (length before)
+
+-- of the first n numbers none is greater than the one before it by more than that
+abbrev pub AreStepsUntil : List ℕ → ℕ → ℕ → Type 0
+AreStepsUntil numbers most n = (b : ℕ) → suc b < n → slice_index numbers (suc b) ≤ slice_index numbers b + most

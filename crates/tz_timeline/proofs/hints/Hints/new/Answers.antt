@@ -1,7 +1,7 @@
-use Rattle.tz_timeline.proofs.Words.{List, SFits, ap, arith, drop, item_time, length, length-map, length-replicate, map, pos, replicate, rules, take}
+use Rattle.tz_timeline.proofs.Words.{AreRaised, List, SFits, ap, arith, drop, item_time, length, length-map, length-replicate, map, pos, rules, take}
 use Rattle.tz_timeline.proofs.Words.{take-append-le, take_all, to_z-of_z, w64, ℕ, ◌++◌, ◌+◌, ◌-ℤ◌, ◌-◌, ◌/◌, ◌^◌, ◌∙◌, ◌≡◌}
-use Rattle.tz_timeline.proofs.{HintLaws.{first_least, hints_made, slots}, SearchSteps.{time_read}, hints.Hints.new.Given.{Over}}
-use Rattle.tz_timeline.proofs.hints.Hints.new.Goals.{After-deref_mut}
+use Rattle.tz_timeline.proofs.{HintLaws.{first_least, hints_made, raised_rising, slots}, SearchSteps.{time_read}, hints.Hints.new.Given.{Over}}
+use Rattle.tz_timeline.proofs.hints.Hints.new.Goals.{After-deref, After-deref_mut}
 use Rattle.tz_timeline.proofs.hints.Hints.new.Goals as goal
 
 -- the first item's time, and the span
@@ -17,8 +17,10 @@ span_is g c =
     let between = simp to_z-of_z at c.seconds_between-span.ensures in
     rw (long, ← last) between
 
-zeros_are : (g : Over) (c : After-deref_mut g) → c.deref_mut.result.now ≡ replicate (c.seconds_between-span.result / 2 ^ c.shift_for-shift.result + 2) 0
-zeros_are g c = c.deref_mut.ensures.value ∙ c.in_ok-places.ensures.items_if_clones_equal (λ y e. e)
+zeros_count : (g : Over) (c : After-deref_mut g) → length c.deref_mut.result.now ≡ c.seconds_between-span.result / 2 ^ c.shift_for-shift.result + 2
+zeros_count g c =
+    ap length (c.deref_mut.ensures.value ∙ c.in_ok-places.ensures.items_if_clones_equal (λ y e. e))
+    ∙ length-replicate (c.seconds_between-span.result / 2 ^ c.shift_for-shift.result + 2) 0
 
 pub mark-requires-clause-first : goal.mark-requires-clause-first
 mark-requires-clause-first g c = λ k h.
@@ -31,24 +33,50 @@ mark-requires-clause-room g c = λ k h.
     let ff : SFits w64 c.second-first.result = search rules in
     let long = length-map c.args.items.now g.T.Timed.time in
     let slot = slots (map g.T.Timed.time c.args.items.now) c.second-first.result c.seconds_between-span.result c.shift_for-shift.result k c.requires (first_is g c) (span_is g c) (omega arith) in
-    let count = ap length (zeros_are g c) ∙ length-replicate (c.seconds_between-span.result / 2 ^ c.shift_for-shift.result + 2) 0 in
+    let count = zeros_count g c in
     simp to_z-of_z (omega arith)
 
 -- what a slice of all numbers was written to
 written : (len : ℕ) (new old : List ℕ) → length new ≡ len → take len (new ++ drop (length new) old) ≡ new
 written len new old e = take-append-le len new (drop (length new) old) (omega arith) ∙ take_all len new (omega arith)
 
+-- the numbers that were raised are those that were marked
+raised : (g : Over) (c : After-deref g) → length c.deref_mut.result.now ≡ c.seconds_between-span.result / 2 ^ c.shift_for-shift.result + 2
+    → AreRaised c.mark.new.places c.raise.new.numbers
+raised g c count =
+    let same = c.mark.ensures.length in
+    let size = c.in_ok-places.ensures.len in
+    let marked = c.deref_mut-2.ensures.value ∙ written c.in_ok-places.places.len c.mark.new.places c.in_ok-places.places.items (omega arith) in
+    rw marked at c.raise.ensures
+
+-- and are kept
+kept : (g : Over) (c : After-deref g) → length c.deref_mut.result.now ≡ c.seconds_between-span.result / 2 ^ c.shift_for-shift.result + 2
+    → c.deref.result.now ≡ c.raise.new.numbers
+kept g c count =
+    let same = c.mark.ensures.length in
+    let size = c.in_ok-places.ensures.len in
+    let as_long = (raised g c count).count in
+    c.deref.ensures.value ∙ written c.in_ok-places.places.len c.raise.new.numbers _ (omega arith)
+
+pub most_between-most-requires : goal.most_between-most-requires
+most_between-most-requires g c =
+    let count = zeros_count g (goal.at.most_between-most-requires g c).After-deref_mut in
+    rw (kept g c count) (raised_rising c.mark.new.places c.raise.new.numbers (raised g c count))
+
 pub returns : goal.returns
 returns g c =
     let at = (goal.at.returns g c).After-deref_mut in
+    let end = (goal.at.returns g c).After-deref in
     let ff : SFits w64 c.second-first.result = search rules in
     let long = length-map c.args.items.now g.T.Timed.time in
-    let count = ap length (zeros_are g at) ∙ length-replicate (c.seconds_between-span.result / 2 ^ c.shift_for-shift.result + 2) 0 in
+    let count = zeros_count g at in
     let m = simp to_z-of_z at c.mark.ensures in
     let same = m.length in
     let size = c.in_ok-places.ensures.len in
-    let marked = c.deref_mut-2.ensures.value ∙ written c.in_ok-places.places.len c.mark.new.places c.in_ok-places.places.items (omega arith) in
-    let raised = rw marked at c.raise-most.ensures in
-    let as_long = raised.count in
-    hints_made _ _ c.second-first.result c.seconds_between-span.result c.raise-most.result c.mark.new.places c.requires (omega arith) c.shift_for-shift.ensures.shift (first_is g at) (span_is g at) (omega arith) (rw long m.marked)
-    (rw (written c.in_ok-places.places.len c.raise-most.new.numbers _ (omega arith)) raised) (omega arith)
+    let as_raised = raised g end count in
+    let as_long = as_raised.count in
+    let steps = rw (kept g end count) at c.most_between-most.ensures in
+    hints_made _ _ c.second-first.result c.seconds_between-span.result c.most_between-most.result c.mark.new.places c.requires (omega arith)
+    c.shift_for-shift.ensures.shift (first_is g at) (span_is g at) (omega arith) (rw long m.marked)
+    (rw (written c.in_ok-places.places.len c.raise.new.numbers _ (omega arith)) as_raised)
+    (rw (written c.in_ok-places.places.len c.raise.new.numbers _ (omega arith)) steps) (omega arith)

@@ -1,0 +1,25 @@
+use Rattle.tz_info.proofs.zone.time_zone.TimeZone.of_valid.Goals as goal
+
+pub new-requires-3 : goal.new-requires-3
+new-requires-3 c =
+    let valid = c.requires in valid.transitions.rising
+
+pub by_unix_time-requires-clause-leaps : goal.by_unix_time-requires-clause-leaps
+by_unix_time-requires-clause-leaps c =
+    let valid = c.requires in rw c.deref-3.ensures.value valid.leaps
+
+pub by_unix_time-requires-clause-rising : goal.by_unix_time-requires-clause-rising
+by_unix_time-requires-clause-rising c =
+    let valid = c.requires in rw c.deref.ensures.value valid.transitions.rising
+
+pub invariant_of-zone : goal.invariant_of-zone
+invariant_of-zone c =
+    rw c.in_ok-new.ensures (record {
+      valid = c.requires;
+      limits = c.extremes_of-extremes.ensures.limits;
+      extremes = rw c.deref-4.ensures.value at c.extremes_of-extremes.ensures.extremes;
+      runs = rw (c.deref.ensures.value, c.deref-2.ensures.value) at c.in_ok-idle.ensures;
+      index = rw (c.deref.ensures.value, c.deref-2.ensures.value, c.deref-3.ensures.value) at c.in_ok-index.ensures;
+      last = c.none.ensures _;
+      unix_times = rw (c.deref.ensures.value, c.deref-3.ensures.value) at c.in_ok-by_unix_time.ensures;
+    })
