@@ -48,12 +48,12 @@ in_one : (a u : ℤ) → Contains (a ∷ []) u → u ≡ a
 in_one a u (zero, h, e) = sym e
 in_one a u (suc k, h, e) = absurd (omega arith)
 
-in_two : (a b u : ℤ) → Contains (a ∷ b ∷ []) u → (u ≡ a) ⊎ (u ≡ b)
+pub in_two : (a b u : ℤ) → Contains (a ∷ b ∷ []) u → (u ≡ a) ⊎ (u ≡ b)
 in_two a b u (zero, h, e) = inl (sym e)
 in_two a b u (suc zero, h, e) = inr (sym e)
 in_two a b u (suc (suc k), h, e) = absurd (omega arith)
 
-apart : (a b : ℤ) → a ≢ b → AllPairs (λ u v. u ≢ v) (a ∷ b ∷ [])
+pub apart : (a b : ℤ) → a ≢ b → AllPairs (λ u v. u ≢ v) (a ∷ b ∷ [])
 apart a b other zero (suc zero) d i j = other
 apart a b other (suc k) (suc zero) d i j = absurd (omega arith)
 apart a b other k (suc (suc m)) d i j = absurd (omega arith)
