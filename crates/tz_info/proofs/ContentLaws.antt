@@ -54,7 +54,7 @@ leap_takes w bytes l = record {
   correction_is = refl;
 }
 
-pub leap_law : (w : ℕ) (bytes : List ℕ) → length bytes ≡ w + 4 → Decided LeapSecond (Ok (leap_second_of w bytes)) (SpellsLeapSecond w bytes) (λ _. ⊥)
+leap_law : (w : ℕ) (bytes : List ℕ) → length bytes ≡ w + 4 → Decided LeapSecond (Ok (leap_second_of w bytes)) (SpellsLeapSecond w bytes) (λ _. ⊥)
 leap_law w bytes l = said (done (leap_second_of w bytes)) (λ leap h. subst (SpellsLeapSecond w bytes) h (leap_takes w bytes l))
     (λ leap h. let cut = exact_cut w bytes h.time h.correction h.whole h.size in rw (cut.0, cut.1, h.time_is, h.correction_is) refl)
 
