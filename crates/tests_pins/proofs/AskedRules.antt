@@ -1,6 +1,7 @@
 -- Where rules answer, and how often they are asked.
-use Rattle.tests_pins.proofs.Words.{Contains, IsAskedAt, IsAskedFor, IsByRule, IsByRuleFor, ap, arith, get_or, honolulu, hst, hst10, inl, inr, ints, neg_ℤ}
-use Rattle.tests_pins.proofs.Words.{new_york_rule, new_york_zone, pos, refl, suc, sym, unsigned_abs, zero, ℕ, ℤ, [], ◌+ℤ◌, ◌-ℤ◌, ◌<◌, ◌∷◌, ◌≡◌, ◌≢◌, ◌⊎◌}
+use Rattle.tz_info.proofs.QuestionLaws.{apart, in_two}
+use Rattle.tests_pins.proofs.Words.{Contains, IsAskedAt, IsAskedFor, IsByRule, IsByRuleFor, [], arith, honolulu, hst, hst10, inl, inr, ints, neg_ℤ}
+use Rattle.tests_pins.proofs.Words.{new_york_rule, new_york_zone, pos, refl, sym, ℕ, ℤ, ◌-ℤ◌, ◌∙◌, ◌∷◌, ◌≡◌, ◌⊎◌}
 use Rattle.tz_info.specs.declared.rule.transition_rule.TransitionRule.TheVariants as rules
 
 pub always : (u : ℤ) → IsByRule new_york_zone u
@@ -24,30 +25,22 @@ pub one_more : (after : ℕ) → IsAskedAt new_york_zone (pos 0) 5 after → aft
 one_more after (inl h) = h.1
 one_more after (inr h) = absurd (h.0 (always (pos 0)))
 
--- the seconds at which clocks five and four hours behind UTC show the local time
-by_offset : (l u offset : ℤ) → Contains (neg_ℤ (pos 18_000) ∷ neg_ℤ (pos 14_400) ∷ []) offset → u ≡ l -ℤ offset → (u ≡ l +ℤ pos 18_000) ⊎ (u ≡ l +ℤ pos 14_400)
-by_offset l u offset (zero, below, is) second = let here = rw (sym is) at second in inl (omega (arith, ints, here))
-by_offset l u offset (suc zero, below, is) second = let here = rw (sym is) at second in inr (omega (arith, ints, here))
-by_offset l u offset (suc (suc k), below, is) second = absurd (omega (arith, below))
+-- clocks five and four hours behind UTC show the local time at two seconds
+by_clock : (h : ℤ) → Contains (neg_ℤ (pos 18_000) ∷ neg_ℤ (pos 14_400) ∷ []) h
+    → (pos 1_615_689_000 -ℤ h ≡ pos 1_615_707_000) ⊎ (pos 1_615_689_000 -ℤ h ≡ pos 1_615_703_400)
+by_clock h of_rule = elim (in_two (neg_ℤ (pos 18_000)) (neg_ℤ (pos 14_400)) h of_rule) [ inl is ↦ inl (rw is refl) | inr is ↦ inr (rw is refl) ]
 
-either_second : (u : ℤ) → Contains (pos 1_615_707_000 ∷ pos 1_615_703_400 ∷ []) u → IsByRuleFor new_york_zone (pos 1_615_689_000) u
-either_second u (zero, below, is) = record { offset = neg_ℤ (pos 18_000); of_rule = (0, omega arith, refl); of_second = sym is; by_rule = always u }
-either_second u (suc zero, below, is) = record { offset = neg_ℤ (pos 14_400); of_rule = (1, omega arith, refl); of_second = sym is; by_rule = always u }
-either_second u (suc (suc k), below, is) = absurd (omega (arith, below))
-
-two_apart : (i j : ℕ) (d : ℤ) → i < j → j < 2 → get_or (pos 1_615_707_000 ∷ pos 1_615_703_400 ∷ []) i d ≢ get_or (pos 1_615_707_000 ∷ pos 1_615_703_400 ∷ []) j d
-two_apart i zero d before below e = absurd (omega (arith, before))
-two_apart zero (suc zero) d before below e = let same : 1_615_707_000 ≡ 1_615_703_400 = ap unsigned_abs e in absurd (omega (arith, same))
-two_apart (suc i) (suc zero) d before below e = absurd (omega (arith, before))
-two_apart i (suc (suc j)) d before below e = absurd (omega (arith, below))
+asked : (u : ℤ) → (u ≡ pos 1_615_707_000) ⊎ (u ≡ pos 1_615_703_400) → IsByRuleFor new_york_zone (pos 1_615_689_000) u
+asked u (inl at) = record { offset = neg_ℤ (pos 18_000); of_rule = (0, omega arith, refl); of_second = at; by_rule = always u }
+asked u (inr at) = record { offset = neg_ℤ (pos 14_400); of_rule = (1, omega arith, refl); of_second = at; by_rule = always u }
 
 pub two_more : IsAskedFor new_york_zone (pos 1_615_689_000) 5 7
 two_more = record {
   seconds = pos 1_615_707_000 ∷ pos 1_615_703_400 ∷ [];
-  once = two_apart;
+  once = apart (pos 1_615_707_000) (pos 1_615_703_400) (λ e. omega (arith, ints, e));
   each = λ u. (
-    either_second u,
-    λ h. elim (by_offset (pos 1_615_689_000) u h.offset h.of_rule h.of_second) [ inl at ↦ (0, omega arith, sym at) | inr at ↦ (1, omega arith, sym at) ],
+    λ inside. asked u (in_two (pos 1_615_707_000) (pos 1_615_703_400) u inside),
+    λ h. elim (by_clock h.offset h.of_rule) [ inl at ↦ (0, omega arith, sym (h.of_second ∙ at)) | inr at ↦ (1, omega arith, sym (h.of_second ∙ at)) ],
   );
   count = refl;
 }

@@ -1,7 +1,9 @@
 -- What examples compute with: to unfold one of these words is to unfold all that its line names.
 use Rattle.tz_info.specs.TzGrammar.{checked_day, hours_minutes_seconds, minutes_seconds, more, name, numbered_day, optional_minutes, quoted, sign, time_sign}
-use Rattle.tz_info.proofs.Words.{alternate, date, day, days, dst_offset, duration, end, fixed, given_offset, julian_date, month_date, named, next_hour, offset}
-use Rattle.tz_info.proofs.Words.{optional_time, time}
+use Rattle.tz_info.proofs.Words.{alternate, date, day, days, designation_at, dst_offset, duration, end, file_at, fixed, given_offset, indicators_of}
+use Rattle.tz_info.proofs.Words.{julian_date, lists_in, month_date, named, next_hour, offset, optional_time, pieces_at, rule_in, text_before_zero, time}
+use Rattle.tz_info.proofs.Words.{trimmed, type_of, type_of_record}
+use Rattle.tz_info.proofs.{PosixLaws.{zone_in}, Words.{with_rule, with_types}}
 use Rattle.tz_timeline.specs.Digits.{digits as binary_digits}
 use Rattle.zoneq_lib.specs.Questions.{calendar_day, fold, gap, text_query, unix_seconds}
 use Rattle.zoneq_lib.proofs.CitedWords.{Begins, Word, at_query, data_query, int_at, integer, local_time, next, question, resolve_query, show_query, tag_at}
@@ -38,11 +40,13 @@ binary = 0
 unfoldable pub texts : ℕ
 unfolding name quoted seconds minutes_seconds optional_minutes hours_minutes_seconds sign duration offset time_sign time checked_day month_date julian_date
     numbered_day date optional_time day days next_hour more given_offset dst_offset named end fixed alternate rule text int_at tag_at optional_tag_at
+    rule_in trimmed zone_in
 texts = 0
 
 -- files, read and written
 unfoldable pub files : ℕ
-unfolding file header version version_1 six_counts tzif block be_u32 signed after_first_block first_version later_version exact_at optional_tag_at
+unfolding texts file header version version_1 six_counts tzif block be_u32 signed after_first_block first_version later_version exact_at optional_tag_at
+    designation_at indicators_of text_before_zero type_of type_of_record file_at lists_in pieces_at with_rule with_types
 files = 0
 
 unfoldable pub written : ℕ

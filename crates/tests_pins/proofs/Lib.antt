@@ -3,9 +3,7 @@ pub mod Computed
 pub mod Weeks
 pub mod LeapSeconds
 pub mod NewYork
-pub mod NewYorkClocks
 pub mod NewYorkChanges
-pub mod NewYorkSpans
 pub mod AskedRules
 pub mod SpelledTexts
 pub mod FileParts
@@ -15,5 +13,4 @@ pub mod PassedYears
 pub mod SetClocks
 pub mod ChangeDays
 pub mod WrittenPins
-pub mod AskedWords
 pub mod SetDays

@@ -1,134 +1,125 @@
--- New York's moments, and the types between them.
-use Rattle.tz_info.proofs.RuleDays.{day_rises, rule_day_closed}
-use Rattle.tz_info.specs.{RuleDayOf.{rule_day}, declared.rule.day.DayForm.TheVariants.{MonthWeekday}, Moments.{IsRuleYear}}
-use Rattle.tests_pins.proofs.Words.{◌+ℤ◌, IsInSomeYear, IsYearOf, RuleAt, arith, by_lt_z, closed_day, day_number, days_of_months, edt, end_in, est, false}
-use Rattle.tests_pins.proofs.Words.{false≢true, floors, ints, moment, new_york, new_york_rule, pos, refl, start_in, true, year_start, ℤ, ◌<ℤ◌, ◌≡◌, ◌≤ℤ◌}
+-- New York's clocks from November 2020 to the end of 2021: the type at each second, and which seconds show a local time.
+use Rattle.std.proofs.lemmas.Int.{fits_signed_from_abs}
+use Rattle.tz_info.proofs.{AnswerLaws.{same_answer}, KindLaws.{margin_kept}, RuleDays.{rule_day_closed}, SeasonAnswers.{both_asked, dst_shown, std_shown}}
+use Rattle.tz_info.proofs.{SeasonLaws.{season_made}, ZoneLaws.{type_once}}
+use Rattle.tz_info.proofs.Words.{Bool, IsWallAnswer, LocalType, RuleAt, Shows, TypeAt, TypeFrom, are_calm, arith, by_lt_z, closed_day, day_number}
+use Rattle.tz_info.proofs.Words.{days_of_months, end_in, false, inl, inr, ints, is_dst_by_one, joined, least_time, margin_of, moment, neg_ℤ, not, place_by}
+use Rattle.tz_info.proofs.Words.{places_by_kind, pos, refl, seconds_by_kind, shown_if, start_in, sym, true, type_when, w64, year_start, ℤ, ◌*ℤ◌, ◌+ℤ◌, ◌-ℤ◌}
+use Rattle.tz_info.proofs.Words.{◌<ℤ◌, ◌≡◌, ◌≤ℤ◌, ◌⊎◌}
+use Rattle.tz_info.specs.{declared.rule.day.DayForm.TheVariants.{MonthWeekday}, Rules.{IsAlternateRule}}
+use Rattle.offset_core.specs.{WallAnswer.{IsNeverShown, IsShownBetween, IsShownOnce}, declared.local_result.LocalResult.{LocalResult}}
+use Rattle.offset_core.specs.declared.local_result.LocalResult.TheVariants.{Ambiguous, None, Single}
+use Rattle.tests_pins.specs.NewYork.{edt, est, new_york, new_york_rule, new_york_zone}
 
-march : (y : ℤ) → rule_day (MonthWeekday 3 2 0) y ≡ closed_day (MonthWeekday 3 2 0) y
-march y = rule_day_closed (MonthWeekday 3 2 0) y (omega arith, omega arith, omega arith, omega arith, omega arith)
+rule : IsAlternateRule new_york
+rule = omega arith
 
-november : (y : ℤ) → rule_day (MonthWeekday 11 1 0) y ≡ closed_day (MonthWeekday 11 1 0) y
-november y = rule_day_closed (MonthWeekday 11 1 0) y (omega arith, omega arith, omega arith, omega arith, omega arith)
+-- ---- the type at a second
+-- in the year's moments, from two days before it to two days after it
+by_year : (y first start end : ℤ) → first ≡ year_start y → start ≡ start_in new_york y → end ≡ end_in new_york y
+    → (u : ℤ) → (pos 86_400 *ℤ first -ℤ pos 172_800) ≤ℤ u → u <ℤ (pos 86_400 *ℤ first +ℤ pos 31_536_000 +ℤ pos 172_800)
+    → (neg_ℤ (pos 10_000_000_000) ≤ℤ u) → u ≤ℤ pos 10_000_000_000 → RuleAt new_york_rule u (type_when new_york (is_dst_by_one start end u))
+unfolding margin_of are_calm seconds_by_kind places_by_kind place_by days_of_months
+by_year y first start end of_year starts ends u low high near far =
+    (season_made new_york (pos 172_800) y first
+    (record {
+      from = pos 86_400 *ℤ first -ℤ pos 172_800;
+      until = pos 86_400 *ℤ first +ℤ pos 31_536_000 +ℤ pos 172_800;
+      turns = record { start = start; end = end };
+    })
+    (margin_kept new_york (pos 172_800) rule refl) of_year refl refl starts ends).decided u (omega (arith, ints), omega (arith, ints)) (low, high)
 
--- the moments of 2020, 2021 and 2022
+-- the moments of both years
+march : (y : ℤ) → start_in new_york y ≡ pos 86_400 *ℤ closed_day (MonthWeekday 3 2 0) y +ℤ pos 25_200
+unfolding moment
+march y = rw (rule_day_closed (MonthWeekday 3 2 0) y (omega arith)) refl
+
+november : (y : ℤ) → end_in new_york y ≡ pos 86_400 *ℤ closed_day (MonthWeekday 11 1 0) y +ℤ pos 21_600
+unfolding moment
+november y = rw (rule_day_closed (MonthWeekday 11 1 0) y (omega arith)) refl
+
 pub start_2021 : start_in new_york (pos 2021) ≡ pos 1_615_705_200
-unfolding moment closed_day day_number year_start days_of_months
-start_2021 = rw (march (pos 2021)) refl
-
-pub start_2022 : start_in new_york (pos 2022) ≡ pos 1_647_154_800
-unfolding moment closed_day day_number year_start days_of_months
-start_2022 = rw (march (pos 2022)) refl
+unfolding closed_day day_number year_start days_of_months
+start_2021 = march (pos 2021)
 
 pub end_2021 : end_in new_york (pos 2021) ≡ pos 1_636_264_800
-unfolding moment closed_day day_number year_start days_of_months
-end_2021 = rw (november (pos 2021)) refl
+unfolding closed_day day_number year_start days_of_months
+end_2021 = november (pos 2021)
 
-pub end_2020 : end_in new_york (pos 2020) ≡ pos 1_604_210_400
-unfolding moment closed_day day_number year_start days_of_months
-end_2020 = rw (november (pos 2020)) refl
+in_2020 : (u : ℤ) → pos 1_577_664_000 ≤ℤ u → u <ℤ pos 1_609_545_600
+    → RuleAt new_york_rule u (type_when new_york (is_dst_by_one (pos 1_583_650_800) (pos 1_604_210_400) u))
+unfolding closed_day day_number year_start days_of_months
+in_2020 u low high =
+    by_year (pos 2020) (pos 18_262) (pos 1_583_650_800) (pos 1_604_210_400) refl (sym (march (pos 2020))) (sym (november (pos 2020))) u low high
+    (omega (arith, ints)) (omega (arith, ints))
 
-start_2020 : start_in new_york (pos 2020) ≡ pos 1_583_650_800
-unfolding moment closed_day day_number year_start days_of_months
-start_2020 = rw (march (pos 2020)) refl
+-- between the moments of 2021 it is daylight saving time
+abbrev pub is_summer : ℤ → Bool
+is_summer u = is_dst_by_one (pos 1_615_705_200) (pos 1_636_264_800) u
 
-end_2022 : end_in new_york (pos 2022) ≡ pos 1_667_714_400
-unfolding moment closed_day day_number year_start days_of_months
-end_2022 = rw (november (pos 2022)) refl
-
--- they rise from year to year
-starts_rise : (a b : ℤ) → a <ℤ b → start_in new_york a <ℤ start_in new_york b
-unfolding moment
-starts_rise a b h =
-    let days = day_rises (MonthWeekday 3 2 0) a b (omega arith, omega arith, omega arith, omega arith, omega arith) h in
-    omega (arith, ints)
-
-ends_rise : (a b : ℤ) → a <ℤ b → end_in new_york a <ℤ end_in new_york b
-unfolding moment
-ends_rise a b h =
-    let days = day_rises (MonthWeekday 11 1 0) a b (omega arith, omega arith, omega arith, omega arith, omega arith) h in
-    omega (arith, ints)
-
-starts_from : (a b : ℤ) → a ≤ℤ b → start_in new_york a ≤ℤ start_in new_york b
-starts_from a b h = by_lt_z a b (λ lt. let rise = starts_rise a b lt in omega (arith, ints)) (λ ge. let same : a ≡ b = omega (arith, ints) in rw same (omega (arith, ints)))
-
-ends_from : (a b : ℤ) → a ≤ℤ b → end_in new_york a ≤ℤ end_in new_york b
-ends_from a b h = by_lt_z a b (λ lt. let rise = ends_rise a b lt in omega (arith, ints)) (λ ge. let same : a ≡ b = omega (arith, ints) in rw same (omega (arith, ints)))
-
-of_2021 : (u : ℤ) → pos 1_609_459_200 ≤ℤ u → u <ℤ pos 1_640_995_200 → IsYearOf u (pos 2021)
+in_2021 : (u : ℤ) → pos 1_609_286_400 ≤ℤ u → u <ℤ pos 1_641_168_000 → RuleAt new_york_rule u (type_when new_york (is_summer u))
 unfolding year_start
-of_2021 u low high = (omega (arith, floors), omega (arith, floors))
+in_2021 u low high =
+    by_year (pos 2021) (pos 18_628) (pos 1_615_705_200) (pos 1_636_264_800) refl (sym start_2021) (sym end_2021) u low high
+    (omega (arith, ints)) (omega (arith, ints))
 
-of_2020 : (u : ℤ) → pos 1_577_836_800 ≤ℤ u → u <ℤ pos 1_609_459_200 → IsYearOf u (pos 2020)
-unfolding year_start
-of_2020 u low high = (omega (arith, floors), omega (arith, floors))
-
--- no daylight saving time from its end in one year to its start in the next
-none_between : (y z u : ℤ) → z ≡ y +ℤ pos 1 → end_in new_york y ≤ℤ u → u <ℤ start_in new_york z → IsInSomeYear (start_in new_york) (end_in new_york) u → ⊥
-none_between y z u next low high s = by_lt_z s.0 z
-    (λ lt. let rise = ends_from s.0 y (omega (arith, ints)) in let before = s.2 in absurd (omega (arith, ints)))
-    (λ ge. let rise = starts_from z s.0 ge in let come = s.1 in absurd (omega (arith, ints)))
-
--- the rule's type in a year in which daylight saving time starts before it ends
-standard : (y u : ℤ) → start_in new_york y ≤ℤ end_in new_york y → IsYearOf u y → IsRuleYear y
-    → (IsInSomeYear (start_in new_york) (end_in new_york) u → ⊥) → RuleAt new_york_rule u est
-standard y u first of_second inside none = record {
-  year = y;
-  of_second = of_second;
-  inside = inside;
-  dst = false;
-  when = record { start_first = λ _. (λ h. absurd (false≢true h), λ s. absurd (none s)); end_first = λ less. absurd (omega (arith, ints)) };
-  shown = refl;
-}
-
-daylight : (y u : ℤ) → start_in new_york y ≤ℤ end_in new_york y → IsYearOf u y → IsRuleYear y
-    → start_in new_york y ≤ℤ u → u <ℤ end_in new_york y → RuleAt new_york_rule u edt
-daylight y u first of_second inside low high = record {
-  year = y;
-  of_second = of_second;
-  inside = inside;
-  dst = true;
-  when = record { start_first = λ _. (λ _. (y, low, high), λ s. refl); end_first = λ less. absurd (omega (arith, ints)) };
-  shown = refl;
-}
-
-first_2020 : start_in new_york (pos 2020) ≤ℤ end_in new_york (pos 2020)
-first_2020 = rw (start_2020, end_2020) (omega arith)
-
-first_2021 : start_in new_york (pos 2021) ≤ℤ end_in new_york (pos 2021)
-first_2021 = rw (start_2021, end_2021) (omega arith)
-
-first_2022 : start_in new_york (pos 2022) ≤ℤ end_in new_york (pos 2022)
-first_2022 = rw (start_2022, end_2022) (omega arith)
-
-pub est_early : (u : ℤ) → pos 1_609_459_200 ≤ℤ u → u <ℤ pos 1_615_705_200 → RuleAt new_york_rule u est
-est_early u low high =
-    standard (pos 2021) u first_2021 (of_2021 u low (omega (arith, ints))) (omega arith, omega arith)
-    (none_between (pos 2020) (pos 2021) u refl (rw end_2020 (omega (arith, ints))) (rw start_2021 high))
-
-pub est_late : (u : ℤ) → pos 1_636_264_800 ≤ℤ u → u <ℤ pos 1_640_995_200 → RuleAt new_york_rule u est
-est_late u low high =
-    standard (pos 2021) u first_2021 (of_2021 u (omega (arith, ints)) high) (omega arith, omega arith)
-    (none_between (pos 2021) (pos 2022) u refl (rw end_2021 low) (rw start_2022 (omega (arith, ints))))
-
-pub edt_between : (u : ℤ) → pos 1_615_705_200 ≤ℤ u → u <ℤ pos 1_636_264_800 → RuleAt new_york_rule u edt
-edt_between u low high =
-    daylight (pos 2021) u first_2021 (of_2021 u (omega (arith, ints)) (omega (arith, ints))) (omega arith, omega arith) (rw start_2021 low) (rw end_2021 high)
+pub rule_at : (u : ℤ) → pos 1_604_210_400 ≤ℤ u → u <ℤ pos 1_641_168_000 → RuleAt new_york_rule u (type_when new_york (is_summer u))
+rule_at u low high = by_lt_z u (pos 1_609_286_400)
+    (λ early.
+    let same : is_summer u ≡ is_dst_by_one (pos 1_583_650_800) (pos 1_604_210_400) u = grind (arith, ints) in
+    rw same (in_2020 u (omega (arith, ints)) (omega (arith, ints))))
+    (λ late. in_2021 u late high)
 
 pub edt_until_2020 : RuleAt new_york_rule (pos 1_604_210_399) edt
-edt_until_2020 =
-    daylight (pos 2020) (pos 1_604_210_399) first_2020 (of_2020 (pos 1_604_210_399) (omega arith) (omega arith)) (omega arith, omega arith)
-    (rw start_2020 (omega arith)) (rw end_2020 (omega arith))
+edt_until_2020 = in_2020 (pos 1_604_210_399) (omega arith) (omega arith)
 
--- from the end of daylight saving time in 2020 until its start in 2021
-pub est_winter : (u : ℤ) → pos 1_604_210_400 ≤ℤ u → u <ℤ pos 1_615_705_200 → RuleAt new_york_rule u est
-est_winter u low high = by_lt_z u (pos 1_609_459_200)
-    (λ lt. standard (pos 2020) u first_2020 (of_2020 u (omega (arith, ints)) lt) (omega arith, omega arith)
-    (none_between (pos 2020) (pos 2021) u refl (rw end_2020 low) (rw start_2021 high)))
-    (λ ge. est_early u ge high)
+pub type_of_rule : (u : ℤ) (t : LocalType) → RuleAt new_york_rule u t → TypeAt new_york_zone u t
+type_of_rule u t r = record {
+  leap_time = u;
+  of_second = λ h. absurd (omega arith);
+  in_force = record { before_last = λ h. absurd (omega arith); from_last = λ h. r };
+}
 
--- the first second of 2022
-pub est_2022 : RuleAt new_york_rule (pos 1_640_995_200) est
-unfolding year_start
-est_2022 =
-    standard (pos 2022) (pos 1_640_995_200) first_2022 (omega (arith, floors), omega (arith, floors)) (omega arith, omega arith)
-    (none_between (pos 2021) (pos 2022) (pos 1_640_995_200) refl (rw end_2021 (omega arith)) (rw start_2022 (omega arith)))
+pub type_at : (u : ℤ) → pos 1_604_210_400 ≤ℤ u → u <ℤ pos 1_641_168_000 → TypeAt new_york_zone u (type_when new_york (is_summer u))
+type_at u low high = type_of_rule u (type_when new_york (is_summer u)) (rule_at u low high)
+
+-- no other one is in force then
+pub one_type : (u : ℤ) (t : LocalType) → pos 1_604_210_400 ≤ℤ u → u <ℤ pos 1_641_168_000 → TypeAt new_york_zone u t → t ≡ type_when new_york (is_summer u)
+one_type u t low high h = type_once new_york_zone u t (type_when new_york (is_summer u)) h (type_at u low high)
+
+-- ---- wall clocks
+pub by_dst : (u l : ℤ) (t : LocalType) (dst : Bool) → t ≡ type_when new_york dst → u +ℤ t.offset ≡ l → (u ≡ l -ℤ edt.offset) ⊎ (u ≡ l -ℤ est.offset)
+by_dst u l t true is shown = let e = rw is at shown in inl (omega (arith, ints))
+by_dst u l t false is shown = let e = rw is at shown in inr (omega (arith, ints))
+
+-- the second at which it is shown, by the type in force then
+pub second_of : (l u : ℤ) (t : LocalType) → pos 1_604_210_400 ≤ℤ u → u <ℤ pos 1_641_168_000
+    → Shows (TypeAt new_york_zone) l u t → u ≡ l -ℤ (type_when new_york (is_summer u)).offset
+second_of l u t low high s = let e = rw (one_type u t low high s.type) at s.shown in omega (arith, ints, e)
+
+-- what shows a local time: the earlier second by daylight saving time, the later one by standard time
+abbrev pub shown : ℤ → LocalResult LocalType
+shown l = joined (shown_if (is_summer (l -ℤ edt.offset)) edt) (shown_if (not (is_summer (l -ℤ est.offset))) est)
+
+pub wall : (l : ℤ) → pos 1_604_196_000 ≤ℤ l → l <ℤ pos 1_641_150_000
+    → IsWallAnswer (Shows (TypeAt new_york_zone) l) (shown l)
+wall l low high =
+    same_answer (Shows (TypeFrom new_york_rule least_time) l) (Shows (TypeAt new_york_zone) l) _
+    (λ u t s. record { fits = s.fits; type = type_of_rule u t s.type.type; shown = s.shown })
+    (λ u t s. record { fits = s.fits; shown = s.shown; type = record { type = s.type.in_force.from_last refl; since = let f = s.fits in omega (arith, ints) } })
+    (both_asked new_york_rule least_time l edt est (is_summer (l -ℤ edt.offset)) (not (is_summer (l -ℤ est.offset))) (omega arith)
+    (λ u t s. by_dst u l t s.type.type.dst s.type.type.shown s.shown)
+    (record { fits = fits_signed_from_abs w64 (l -ℤ edt.offset) (omega (arith, ints)); since = omega (arith, ints) })
+    (record { fits = fits_signed_from_abs w64 (l -ℤ est.offset) (omega (arith, ints)); since = omega (arith, ints) })
+    (dst_shown new_york (l -ℤ edt.offset) (is_summer (l -ℤ edt.offset)) (rule_at (l -ℤ edt.offset) (omega (arith, ints)) (omega (arith, ints))))
+    (std_shown new_york (l -ℤ est.offset) (is_summer (l -ℤ est.offset)) (rule_at (l -ℤ est.offset) (omega (arith, ints)) (omega (arith, ints)))))
+
+pub once : (l : ℤ) (t : LocalType) → shown l ≡ Single t → pos 1_604_196_000 ≤ℤ l → l <ℤ pos 1_641_150_000 → IsShownOnce (Shows (TypeAt new_york_zone) l) t
+once l t is low high = rw is at (wall l low high)
+
+pub twice : (l : ℤ) (s t : LocalType) → shown l ≡ Ambiguous s t → pos 1_604_196_000 ≤ℤ l → l <ℤ pos 1_641_150_000
+    → IsShownBetween (Shows (TypeAt new_york_zone) l) s t
+twice l s t is low high = rw is at (wall l low high)
+
+pub never : (l : ℤ) → shown l ≡ None → pos 1_604_196_000 ≤ℤ l → l <ℤ pos 1_641_150_000 → IsNeverShown (Shows (TypeAt new_york_zone) l)
+never l is low high = rw is at (wall l low high)

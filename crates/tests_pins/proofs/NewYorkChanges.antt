@@ -1,98 +1,90 @@
--- New York's clock changes in 2021.
-use Rattle.tests_pins.proofs.Words.{AreChanges, Change, Contains, IsChange, IsFromUntil, LocalType, RuleAt, TypeAt, ap, arith, autumn, by_lt_z, change_at, edt}
-use Rattle.tests_pins.proofs.Words.{est, get_or, inl, inr, ints, new_york_rule, new_york_zone, pos, spring, subst, suc, sym, unsigned_abs, zero, ℕ, ℤ, [], ◌-ℤ◌}
-use Rattle.tests_pins.proofs.Words.{◌<ℤ◌, ◌<◌, ◌∙◌, ◌∷◌, ◌≡◌, ◌≤ℤ◌, ◌⊎◌}
-use Rattle.tests_pins.proofs.{NewYork.{edt_between, est_2022, est_early, est_late, est_winter}, NewYorkClocks.{apart, fits, one_type, type_of_rule}}
+-- New York's gap, clock changes and span of standard time from November 2020 to the end of 2021.
+use Rattle.tz_info.proofs.ChangeLaws.{one_change, one_type_before_gap}
+use Rattle.tz_info.specs.{Gaps.{HasGap, IsTypeBeforeGap}}
+use Rattle.tests_pins.proofs.Words.{AreChanges, Change, Contains, IsChange, IsFromUntil, IsSpanAt, LocalType, TypeAt, [], ap, arith, autumn, by_lt_z, change_at}
+use Rattle.tests_pins.proofs.Words.{edt, est, false, false≢true, fits_signed_from_abs, get_or, inl, inr, ints, new_york_zone, pos, refl, spring, subst, suc}
+use Rattle.tests_pins.proofs.Words.{sym, w64, winter, zero, ℕ, ℤ, ◌+ℤ◌, ◌-ℤ◌, ◌<ℤ◌, ◌<◌, ◌∙◌, ◌∷◌, ◌≡◌, ◌≤ℤ◌, ◌⊎◌}
+use Rattle.tests_pins.proofs.NewYork.{by_dst, edt_until_2020, is_summer, one_type, type_at, type_of_rule, wall}
+use Rattle.tz_info.specs.Moments.{type_when}
+use Rattle.tests_pins.specs.NewYork.{new_york}
 
--- the rule's types differ from one second to the next
-pub change_is : (u : ℤ) (before after : LocalType) → pos 1 ≤ℤ u → u ≤ℤ pos 2_000_000_000 → RuleAt new_york_rule (u -ℤ pos 1) before
-    → RuleAt new_york_rule u after → (before ≡ after → ⊥) → IsChange (TypeAt new_york_zone) (change_at u before after)
+pub apart : est ≡ edt → ⊥
+apart e = false≢true (ap (λ t. t.dst) e)
+
+-- ---- the gap at 02:30 on 14 March
+pub gap : HasGap (TypeAt new_york_zone) (pos 1_615_689_000) est edt (pos 1_615_705_200)
+gap = record {
+  never = wall (pos 1_615_689_000) (omega arith) (omega arith);
+  here = type_at (pos 1_615_705_200) (omega arith) (omega arith);
+  more = omega arith;
+  least = λ u m. by_lt_z u (pos 1_615_705_200)
+      (λ early.
+      let r = m.here.in_force.from_last refl in let more = m.more in
+      let reach = by_dst u (u +ℤ m.type.offset) m.type r.dst r.shown refl in
+      let same : is_summer u ≡ false = grind (arith, ints) in
+      let std = rw same at (one_type u m.type (omega (arith, ints, reach)) (omega (arith, ints)) m.here) in
+      let later = rw std at more in omega (arith, ints))
+      (λ late. late);
+  earlier = type_at (pos 1_615_705_199) (omega arith) (omega arith);
+}
+
+pub before_gap : IsTypeBeforeGap (TypeAt new_york_zone) (pos 1_615_689_000) est
+before_gap =
+    record { never = gap.never; first = pos 1_615_705_200; more = record { type = edt; here = gap.here; more = gap.more }; least = gap.least; before = gap.earlier }
+
+pub only_before_gap : (t : LocalType) → IsTypeBeforeGap (TypeAt new_york_zone) (pos 1_615_689_000) t → t ≡ est
+only_before_gap t h = one_type_before_gap new_york_zone (pos 1_615_689_000) t est h before_gap
+
+-- ---- changes
+change_is : (u : ℤ) (before after : LocalType) → pos 1 ≤ℤ u → u ≤ℤ pos 2_000_000_000 → TypeAt new_york_zone (u -ℤ pos 1) before → TypeAt new_york_zone u after
+    → (before ≡ after → ⊥) → IsChange (TypeAt new_york_zone) (change_at u before after)
 change_is u before after low high was is differ = record {
-  fits = fits u (omega (arith, ints)) high;
-  fits_before = fits (u -ℤ pos 1) (omega (arith, ints)) (omega (arith, ints));
-  before = type_of_rule (u -ℤ pos 1) before was;
-  after = type_of_rule u after is;
+  fits = fits_signed_from_abs w64 u (omega (arith, ints));
+  fits_before = fits_signed_from_abs w64 (u -ℤ pos 1) (omega (arith, ints));
+  before = was;
+  after = is;
   differ = differ;
 }
 
 pub spring_is : IsChange (TypeAt new_york_zone) spring
-spring_is = change_is (pos 1_615_705_200) est edt (omega arith) (omega arith) (est_early (pos 1_615_705_199) (omega arith) (omega arith))
-    (edt_between (pos 1_615_705_200) (omega arith) (omega arith)) apart
+spring_is = change_is (pos 1_615_705_200) est edt (omega arith) (omega arith) (type_at (pos 1_615_705_199) (omega arith) (omega arith)) gap.here apart
 
 pub autumn_is : IsChange (TypeAt new_york_zone) autumn
-autumn_is = change_is (pos 1_636_264_800) edt est (omega arith) (omega arith) (edt_between (pos 1_636_264_799) (omega arith) (omega arith))
-    (est_late (pos 1_636_264_800) (omega arith) (omega arith)) (λ e. apart (sym e))
+autumn_is = change_is (pos 1_636_264_800) edt est (omega arith) (omega arith) (type_at (pos 1_636_264_799) (omega arith) (omega arith))
+    (type_at (pos 1_636_264_800) (omega arith) (omega arith)) (λ e. apart (sym e))
 
--- the same type at a second and at the one before it
-pub no_change : (c : Change) (t : LocalType) → RuleAt new_york_rule (c.at -ℤ pos 1) t → RuleAt new_york_rule c.at t
+-- no others come after the end of daylight saving time in 2020, until 2022 has begun
+pub no_change : (c : Change) → pos 1_604_210_400 <ℤ c.at → c.at <ℤ pos 1_641_168_000 → is_summer (c.at -ℤ pos 1) ≡ is_summer c.at
     → IsChange (TypeAt new_york_zone) c → ⊥
-no_change c t before after is =
-    is.differ (one_type (c.at -ℤ pos 1) t c.before before is.before ∙ sym (one_type c.at t c.after after is.after))
+no_change c low high same is =
+    let before = one_type (c.at -ℤ pos 1) c.before (omega (arith, ints)) (omega (arith, ints)) is.before in
+    let after = one_type c.at c.after (omega (arith, ints)) high is.after in
+    is.differ (before ∙ ap (type_when new_york) same ∙ sym after)
 
-early : (c : Change) → pos 1_609_459_200 ≤ℤ c.at → c.at <ℤ pos 1_615_705_200 → IsChange (TypeAt new_york_zone) c → ⊥
-early c low high = no_change c est (est_winter (c.at -ℤ pos 1) (omega (arith, ints)) (omega (arith, ints))) (est_early c.at low high)
+alike : (u : ℤ) → (u ≡ pos 1_615_705_200 → ⊥) → (u ≡ pos 1_636_264_800 → ⊥) → is_summer (u -ℤ pos 1) ≡ is_summer u
+alike u start end = grind (arith, ints)
 
-between : (c : Change) → pos 1_615_705_200 <ℤ c.at → c.at <ℤ pos 1_636_264_800 → IsChange (TypeAt new_york_zone) c → ⊥
-between c low high = no_change c edt (edt_between (c.at -ℤ pos 1) (omega (arith, ints)) (omega (arith, ints))) (edt_between c.at (omega (arith, ints)) high)
-
-late : (c : Change) → pos 1_636_264_800 <ℤ c.at → c.at <ℤ pos 1_640_995_200 → IsChange (TypeAt new_york_zone) c → ⊥
-late c low high = no_change c est (est_late (c.at -ℤ pos 1) (omega (arith, ints)) (omega (arith, ints))) (est_late c.at (omega (arith, ints)) high)
-
-the_same : (u v : ℤ) (a b s t : LocalType) → u ≡ v → a ≡ b → s ≡ t → change_at u a s ≡ change_at v b t
-the_same u v a b s t e g h = cc
-
--- a second has no two changes
-only_change : (c : Change) (u : ℤ) (before after : LocalType) → c.at ≡ u → RuleAt new_york_rule (u -ℤ pos 1) before → RuleAt new_york_rule u after
-    → IsChange (TypeAt new_york_zone) c → c ≡ change_at u before after
-only_change c u before after at was then is =
-    let here_before : TypeAt new_york_zone (u -ℤ pos 1) c.before = rw at at is.before in
-    let here : TypeAt new_york_zone u c.after = rw at at is.after in
-    the_same c.at u c.before before c.after after at (one_type (u -ℤ pos 1) before c.before was here_before) (one_type u after c.after then here)
-
-spring_only : (c : Change) → c.at ≡ pos 1_615_705_200 → IsChange (TypeAt new_york_zone) c → c ≡ spring
-spring_only c at = only_change c (pos 1_615_705_200) est edt at (est_early (pos 1_615_705_199) (omega arith) (omega arith))
-    (edt_between (pos 1_615_705_200) (omega arith) (omega arith))
-
-autumn_only : (c : Change) → c.at ≡ pos 1_636_264_800 → IsChange (TypeAt new_york_zone) c → c ≡ autumn
-autumn_only c at = only_change c (pos 1_636_264_800) edt est at (edt_between (pos 1_636_264_799) (omega arith) (omega arith))
-    (est_late (pos 1_636_264_800) (omega arith) (omega arith))
-
--- the changes of a stretch of 2021
-pub change_of_year : (c : Change) → pos 1_609_459_200 ≤ℤ c.at → c.at <ℤ pos 1_640_995_200 → IsChange (TypeAt new_york_zone) c
-    → (c ≡ spring) ⊎ (c ≡ autumn)
-change_of_year c low high is = by_lt_z c.at (pos 1_615_705_200)
-    (λ lt. absurd (early c low lt is))
-    (λ ge. by_lt_z (pos 1_615_705_200) c.at
-    (λ gt. by_lt_z c.at (pos 1_636_264_800)
-    (λ lt. absurd (between c gt lt is))
-    (λ from. by_lt_z (pos 1_636_264_800) c.at
-    (λ after. absurd (late c after high is))
-    (λ at. inr (autumn_only c (omega (arith, ints)) is))))
-    (λ at. inl (spring_only c (omega (arith, ints)) is)))
-
-until_2022 : (c : Change) → pos 1_609_459_201 ≤ℤ c.at → c.at <ℤ pos 1_640_995_201 → IsChange (TypeAt new_york_zone) c
-    → (c ≡ spring) ⊎ (c ≡ autumn)
-until_2022 c low high is = by_lt_z c.at (pos 1_640_995_200)
-    (λ lt. change_of_year c (omega (arith, ints, low)) lt is)
-    (λ ge.
-    let second : c.at ≡ pos 1_640_995_200 = omega (arith, ints, high) in
-    let after : RuleAt new_york_rule c.at est = rw second est_2022 in
-    absurd (no_change c est (est_late (c.at -ℤ pos 1) (omega (arith, ints)) (omega (arith, ints, high))) after is))
-
-pub none_at : (u : ℤ) (before after : LocalType) → (c : Change) → c ≡ change_at u before after → (u ≡ pos 1_615_705_199) ⊎ (u ≡ pos 1_615_705_201)
-    → IsChange (TypeAt new_york_zone) c → ⊥
-none_at u before after c same (inl at) is = early c (rw same (omega (arith, ints))) (rw same (omega (arith, ints))) is
-none_at u before after c same (inr at) is = between c (rw same (omega (arith, ints))) (rw same (omega (arith, ints))) is
+pub one_of_two : (c : Change) → pos 1_604_210_400 <ℤ c.at → c.at <ℤ pos 1_641_168_000 → IsChange (TypeAt new_york_zone) c → (c ≡ spring) ⊎ (c ≡ autumn)
+one_of_two c low high is = by_cases c.at (pos 1_615_705_200)
+    (λ at. inl (one_change new_york_zone c spring is spring_is at))
+    (λ start. by_cases c.at (pos 1_636_264_800)
+    (λ at. inr (one_change new_york_zone c autumn is autumn_is at))
+    (λ end. absurd (no_change c low high (alike c.at start end) is)))
+  where
+    by_cases : {P : Type 0} (x y : ℤ) → (x ≡ y → P) → ((x ≡ y → ⊥) → P) → P
+    by_cases x y same other = by_lt_z x y
+        (λ less. other (λ e. omega (arith, ints)))
+        (λ not. by_lt_z y x (λ more. other (λ e. omega (arith, ints))) (λ most. same (omega (arith, ints))))
 
 -- ---- the lists
-spring_or_autumn : (c : Change) → Contains (spring ∷ autumn ∷ []) c → (spring ≡ c) ⊎ (autumn ≡ c)
-spring_or_autumn c (zero, below, is) = inl is
-spring_or_autumn c (suc zero, below, is) = inr is
-spring_or_autumn c (suc (suc k), below, is) = absurd (omega (arith, below))
-
 only_spring : (c : Change) → Contains (spring ∷ []) c → spring ≡ c
 only_spring c (zero, below, is) = is
 only_spring c (suc k, below, is) = absurd (omega (arith, below))
+
+both : (c : Change) → Contains (spring ∷ autumn ∷ []) c → (spring ≡ c) ⊎ (autumn ≡ c)
+both c (zero, below, is) = inl is
+both c (suc zero, below, is) = inr is
+both c (suc (suc k), below, is) = absurd (omega (arith, below))
 
 two_rise : (i j : ℕ) (d : Change) → i < j → j < 2 → (get_or (spring ∷ autumn ∷ []) i d).at <ℤ (get_or (spring ∷ autumn ∷ []) j d).at
 two_rise i zero d before below = absurd (omega (arith, before))
@@ -101,48 +93,57 @@ two_rise (suc i) (suc zero) d before below = absurd (omega (arith, before))
 two_rise i (suc (suc j)) d before below = absurd (omega (arith, below))
 
 -- both changes are all of a stretch around them
-both_listed : (from until : ℤ) → from ≤ℤ pos 1_615_705_200 → pos 1_636_264_800 <ℤ until
-    → ((c : Change) → from ≤ℤ c.at → c.at <ℤ until → IsChange (TypeAt new_york_zone) c → (c ≡ spring) ⊎ (c ≡ autumn))
+pub both_listed : (from until : ℤ) → pos 1_604_210_400 <ℤ from → from ≤ℤ pos 1_615_705_200 → pos 1_636_264_800 <ℤ until → until ≤ℤ pos 1_641_168_000
     → AreChanges (TypeAt new_york_zone) from until (spring ∷ autumn ∷ [])
-both_listed from until low high one_of = record {
+both_listed from until early low high late = record {
   rising = two_rise;
   each = λ c. (
-    λ inside. elim (spring_or_autumn c inside) [
+    λ inside. elim (both c inside) [
       | inl same ↦ subst (λ (x : Change). IsChange (TypeAt new_york_zone) x × IsFromUntil from until x.at) same (spring_is, (low, omega (arith, ints)))
       | inr same ↦ subst (λ (x : Change). IsChange (TypeAt new_york_zone) x × IsFromUntil from until x.at) same (autumn_is, (omega (arith, ints), high))
     ],
-    λ k. elim (one_of c k.1.0 k.1.1 k.0) [ inl same ↦ (0, omega arith, sym same) | inr same ↦ (1, omega arith, sym same) ],
+    λ k. let low = k.1.0 in let high = k.1.1 in elim (one_of_two c (omega (arith, ints)) (omega (arith, ints)) k.0) [
+      | inl same ↦ (0, omega arith, sym same)
+      | inr same ↦ (1, omega arith, sym same)
+    ],
   );
 }
-
-pub year : AreChanges (TypeAt new_york_zone) (pos 1_609_459_200) (pos 1_640_995_200) (spring ∷ autumn ∷ [])
-year = both_listed (pos 1_609_459_200) (pos 1_640_995_200) (omega arith) (omega arith) change_of_year
 
 pub until_autumn : AreChanges (TypeAt new_york_zone) (pos 1_615_705_200) (pos 1_636_264_800) (spring ∷ [])
 until_autumn = record {
   rising = λ i j d before below. absurd (omega (arith, before, below));
   each = λ c. (
     λ inside. subst (λ (x : Change). IsChange (TypeAt new_york_zone) x × IsFromUntil (pos 1_615_705_200) (pos 1_636_264_800) x.at) (only_spring c inside) (spring_is, (omega arith, omega arith)),
-    λ k. let low = k.1.0 in let high = k.1.1 in elim (change_of_year c (omega (arith, ints, low)) (omega (arith, ints, high)) k.0) [
+    λ k. let low = k.1.0 in let high = k.1.1 in elim (one_of_two c (omega (arith, ints)) (omega (arith, ints)) k.0) [
       | inl same ↦ (0, omega arith, sym same)
       | inr same ↦ let at = rw same at high in absurd (omega (arith, at))
     ],
   );
 }
 
-pub not_backwards : AreChanges (TypeAt new_york_zone) (pos 1_609_459_200) (pos 1_640_995_200) (autumn ∷ spring ∷ []) → ⊥
-not_backwards h = let rise = h.rising 0 1 spring (omega arith) (omega arith) in absurd (omega (arith, rise))
-
 pub not_spring_alone : AreChanges (TypeAt new_york_zone) (pos 1_609_459_200) (pos 1_640_995_200) (spring ∷ []) → ⊥
 not_spring_alone h =
-    let same = only_spring autumn ((h.each autumn).1 (autumn_is, (omega arith, omega arith))) in
-    let at : 1_615_705_200 ≡ 1_636_264_800 = ap (λ (c : Change). unsigned_abs c.at) same in
-    absurd (omega (arith, at))
+    let at = ap (λ (c : Change). c.at) (only_spring autumn ((h.each autumn).1 (autumn_is, (omega arith, omega arith)))) in
+    absurd (omega (arith, ints, at))
 
 -- after the change in spring, and before the one in autumn
 pub none_between : (c : Change) → IsChange (TypeAt new_york_zone) c → IsFromUntil (pos 1_615_705_201) (pos 1_636_264_800) c.at → ⊥
-none_between c is within = let low = within.0 in between c (omega (arith, ints, low)) within.1 is
+none_between c is within = let low = within.0 in let high = within.1 in no_change c (omega (arith, ints)) (omega (arith, ints)) (grind (arith, ints)) is
 
--- from the second after the first of 2021 to the first of 2022, as `zdump` has a year
-pub zdump_year : AreChanges (TypeAt new_york_zone) (pos 1_609_459_201) (pos 1_640_995_201) (spring ∷ autumn ∷ [])
-zdump_year = both_listed (pos 1_609_459_201) (pos 1_640_995_201) (omega arith) (omega arith) until_2022
+-- ---- the span of standard time in the winter of 2020
+pub winter_is : IsSpanAt (TypeAt new_york_zone) (pos 1_615_705_199) winter
+winter_is = record {
+  in_force_then = type_at (pos 1_615_705_199) (omega arith) (omega arith);
+  inside = record { fits = fits_signed_from_abs w64 (pos 1_615_705_199) (omega arith); since = omega arith; until = omega arith };
+  span = record {
+    each = λ u t inside here.
+        let since = inside.since in let until = inside.until in let same : is_summer u ≡ false = grind (arith, ints) in
+        rw same at (one_type u t since (omega (arith, ints)) here);
+    begins = (
+      edt,
+      change_is (pos 1_604_210_400) edt est (omega arith) (omega arith) (type_of_rule (pos 1_604_210_399) edt edt_until_2020)
+          (type_at (pos 1_604_210_400) (omega arith) (omega arith)) (λ e. apart (sym e)),
+    );
+    ends = (edt, spring_is);
+  };
+}

@@ -1,59 +1,43 @@
--- What the texts spell, and their faults: what a reading of them comes to.
-use Rattle.tz_base.specs.declared.error.Error.TheVariants.{InvalidTzString, UnsupportedTzString}
-use Rattle.tz_base.specs.declared.error.Expected.TheVariants.{DaysWhenDaylightSavingTimeStartsAndEnds, HoursMinutesAndSecondsWithinTheirLimits}
-use Rattle.tests_pins.proofs.Words.{Bool, Err, Error, IsPosixZone, IsTextFault, IsTzText, List, Ok, Result, TransitionRule, ap, false, false≢true, foo_24, hst}
-use Rattle.tests_pins.proofs.Words.{inr, lawful, new_york_rule, new_york_text, new_york_zone, no_days, read, refl, sym, text, true, utc_rule, utc_text, ℕ, []}
+-- What bytes spell, and that they spell nothing: what a reading of them comes to.
+use Rattle.tz_info.proofs.PosixLaws.{posix_law, zone_in}
+use Rattle.tz_info.specs.{PosixZones.{posix_zone}, Trims.{IsTrimmed}}
+use Rattle.tests_pins.proofs.Words.{Asks, Bool, Err, Error, FoldChoice, GapChoice, IsBadLine, IsPosixZone, IsTextFault, IsTzText, List, Ok, Query, Result}
+use Rattle.tests_pins.proofs.Words.{Spells, TransitionRule, Zone, [], ap, choice, false, false≢true, inr, lawful, query_line, read, refl, sym, text, true, ℕ}
 use Rattle.tests_pins.proofs.Words.{◌∙◌, ◌∷◌, ◌≡◌}
-use Rattle.tests_pins.proofs.Computed.{texts}
-use Rattle.tz_info.specs.declared.rule.transition_rule.TransitionRule.TheVariants as rules
+use Rattle.tz_base.proofs.ForCallers.{Decided}
 
--- a list with an item is not empty
-pub some_bytes : (b : ℕ) (bs : List ℕ) → b ∷ bs ≡ [] → ⊥
-some_bytes b bs e = cc
+-- the reader rejects the bytes, whatever the error
+abbrev pub has_failed : {X : Type 0} → Result X Error → Bool
+has_failed (Ok x) = false
+has_failed (Err e) = true
 
+pub never : {X : Type 0} {r : Result X Error} {P : X → Type 0} {F : Error → Type 0} → Decided X r P F → has_failed r ≡ true → (x : X) → P x → ⊥
+never d failed x p = false≢true (ap has_failed (sym (d.again x p)) ∙ failed)
+
+-- ---- TZ strings
 pub spelled : (extended : Bool) (bytes : List ℕ) (r : TransitionRule) → read (text extended) bytes ≡ Ok (r, []) → IsTzText extended bytes r
 spelled extended bytes r = (lawful (text extended) bytes).takes (r, [])
 
 pub faulty : (extended : Bool) (bytes : List ℕ) (e : Error) → read (text extended) bytes ≡ Err e → IsTextFault extended bytes e
 faulty extended bytes = (lawful (text extended) bytes).fails
 
-pub new_york : (extended : Bool) → IsTzText extended new_york_text new_york_rule
-unfolding texts
-new_york extended = spelled extended new_york_text new_york_rule refl
-
-pub new_york_gives : IsPosixZone new_york_text new_york_zone
-new_york_gives = inr (record {
-  some = some_bytes _ _;
-  trimmed = new_york_text;
-  rule = new_york_rule;
-  trims = record { before = []; after = []; whole = refl; space_before = tt; space_after = tt; first = refl; last = refl };
-  spells = new_york false;
-  zone = refl;
-})
-
-pub utc : (extended : Bool) → IsTzText extended utc_text utc_rule
-unfolding texts
-utc extended = spelled extended utc_text utc_rule refl
-
-pub ends_early : IsTextFault false no_days (UnsupportedTzString DaysWhenDaylightSavingTimeStartsAndEnds)
-unfolding texts
-ends_early = faulty false no_days (UnsupportedTzString DaysWhenDaylightSavingTimeStartsAndEnds) refl
-
-pub over_23 : (extended : Bool) → IsTextFault extended foo_24 (InvalidTzString HoursMinutesAndSecondsWithinTheirLimits)
-unfolding texts
-over_23 extended = faulty extended foo_24 (InvalidTzString HoursMinutesAndSecondsWithinTheirLimits) refl
-
--- `HST10`
-pub hst_10 : IsTzText false (72 ∷ 83 ∷ 84 ∷ 49 ∷ 48 ∷ []) (rules.Fixed hst)
-unfolding texts
-hst_10 = spelled false (72 ∷ 83 ∷ 84 ∷ 49 ∷ 48 ∷ []) (rules.Fixed hst) refl
-
--- the parser rejects the text, whatever the error
-abbrev has_failed : {X E : Type 0} → Result X E → Bool
-has_failed (Ok x) = false
-has_failed (Err e) = true
-
 pub not_spelled : (extended : Bool) (bytes : List ℕ) (r : TransitionRule) → has_failed (read (text extended) bytes) ≡ true → IsTzText extended bytes r → ⊥
-not_spelled extended bytes r failed spelled =
-    let again = (lawful (text extended) bytes).again (r, []) spelled in
-    false≢true (ap has_failed (sym again) ∙ failed)
+not_spelled extended bytes r failed = never (lawful (text extended) bytes) failed (r, [])
+
+pub zone_of : (b : ℕ) (bytes trimmed : List ℕ) (r : TransitionRule) → IsTrimmed (b ∷ bytes) trimmed → IsTzText false trimmed r
+    → IsPosixZone (b ∷ bytes) (posix_zone r)
+zone_of b bytes trimmed r trims spells = inr (record { some = λ e. cc; trimmed = trimmed; rule = r; trims = trims; spells = spells; zone = refl })
+
+pub no_zone : (bytes : List ℕ) (z : Zone) → has_failed (zone_in bytes) ≡ true → IsPosixZone bytes z → ⊥
+no_zone bytes z failed = never (posix_law bytes) failed z
+
+-- ---- lines of `zoneq`
+pub asks : (bytes : List ℕ) (query : Query) → read query_line bytes ≡ Ok (query, []) → Asks bytes query
+asks bytes query = (lawful query_line bytes).takes (query, [])
+
+pub bad_line : (bytes : List ℕ) → has_failed (read query_line bytes) ≡ true → IsBadLine bytes
+bad_line bytes failed query = never (lawful query_line bytes) failed (query, [])
+
+pub chooses : (gap : GapChoice) (fold : FoldChoice) (bytes : List ℕ) → read choice bytes ≡ Ok (record { gap = gap; fold = fold }, [])
+    → Spells choice bytes (record { gap = gap; fold = fold }) []
+chooses gap fold bytes = (lawful choice bytes).takes (record { gap = gap; fold = fold }, [])

@@ -1,9 +1,17 @@
 -- Texts and designations that are not written, since shorter ones do.
-use Rattle.tz_info.proofs.TextLaws.{one_rule}
-use Rattle.tests_pins.proofs.Words.{AreInPairs, AreShortest, Bool, IsNamedIn, IsWrittenText, IsWrittenZone, LocalType, ap, arith, codes, false, false≢true}
-use Rattle.tests_pins.proofs.Words.{get_or, hst, inl, inr, length, new_york_long, new_york_rule, new_york_text, new_york_zone, refl, suc, sym, true, utc_rule}
-use Rattle.tests_pins.proofs.Words.{utc_text, zero, ℕ, [], ◌<◌, ◌∷◌, ◌≡◌, ◌⊎◌}
-use Rattle.tests_pins.proofs.SpelledTexts.{new_york, new_york_gives, utc}
+use Rattle.tests_pins.proofs.Words.{AreInPairs, AreShortest, Bool, IsNamedIn, IsTzText, IsWrittenText, IsWrittenZone, LocalType, [], ap, arith, codes, false}
+use Rattle.tests_pins.proofs.Words.{false≢true, get_or, hst, inl, inr, length, new_york_long, new_york_rule, new_york_text, new_york_zone, refl, suc, sym, true}
+use Rattle.tests_pins.proofs.Words.{utc_rule, utc_text, zero, ℕ, ◌<◌, ◌∷◌, ◌≡◌, ◌⊎◌}
+use Rattle.tz_info.proofs.{TextLaws.{one_rule}, TrimLaws.{trim_is}}
+use Rattle.tests_pins.proofs.{Computed.{texts}, SpelledTexts.{spelled, zone_of}}
+
+new_york : (extended : Bool) → IsTzText extended new_york_text new_york_rule
+unfolding texts
+new_york extended = spelled extended new_york_text new_york_rule refl
+
+utc : IsTzText false utc_text utc_rule
+unfolding texts
+utc = spelled false utc_text utc_rule refl
 
 no_colons : AreInPairs new_york_text
 no_colons = (λ e. absurd (omega (arith, e)), (λ e. absurd (omega (arith, e)), (λ e. absurd (omega (arith, e)), (λ e. absurd (omega (arith, e)), (λ e. absurd (omega (arith, e)), (λ e. absurd (omega (arith, e)), (λ e. absurd (omega (arith, e)), (λ e. absurd (omega (arith, e)), (λ e. absurd (omega (arith, e)), (λ e. absurd (omega (arith, e)), (λ e. absurd (omega (arith, e)), (λ e. absurd (omega (arith, e)), (λ e. absurd (omega (arith, e)), (λ e. absurd (omega (arith, e)), (λ e. absurd (omega (arith, e)), (λ e. absurd (omega (arith, e)), (λ e. absurd (omega (arith, e)), (λ e. absurd (omega (arith, e)), (λ e. absurd (omega (arith, e)), (λ e. absurd (omega (arith, e)), (λ e. absurd (omega (arith, e)), (λ e. absurd (omega (arith, e)), tt))))))))))))))))))))))
@@ -16,13 +24,14 @@ pub not_longer : (extended : Bool) → IsWrittenText new_york_rule new_york_long
 not_longer extended w = longer (w.shortest new_york_text (new_york extended) no_colons)
 
 pub not_longer_zone : IsWrittenZone new_york_zone new_york_long → ⊥
-not_longer_zone w = longer (w.shortest new_york_text new_york_gives no_colons)
+unfolding texts
+not_longer_zone w = longer (w.shortest new_york_text (zone_of _ _ new_york_text new_york_rule (trim_is new_york_text) (new_york false)) no_colons)
 
 pub not_extended : IsWrittenText new_york_rule new_york_text true → ⊥
 not_extended w = w.needed refl new_york_text (new_york false)
 
 pub not_another : IsWrittenText new_york_rule utc_text false → ⊥
-not_another w = let same : utc_rule ≡ new_york_rule = one_rule false utc_text utc_rule new_york_rule (utc false) w.spells in cc
+not_another w = let same : utc_rule ≡ new_york_rule = one_rule false utc_text utc_rule new_york_rule utc w.spells in cc
 
 pub two_digits : AreInPairs (codes "FOO5:05:30")
 two_digits = (λ e. absurd (omega (arith, e)), (λ e. absurd (omega (arith, e)), (λ e. absurd (omega (arith, e)), (λ e. absurd (omega (arith, e)), (λ e. (refl, refl, refl), (λ e. absurd (omega (arith, e)), (λ e. absurd (omega (arith, e)), (λ e. (refl, refl, tt), (λ e. absurd (omega (arith, e)), (λ e. absurd (omega (arith, e)), tt))))))))))

@@ -42,6 +42,7 @@ pub fn bad_lines()
 {}
 
 /// How types, zones, instants and errors are written.
+#[tactic(auto, unfolding(crate::proofs::Computed::printing))]
 pub fn words()
     ensures edt { shown_type edt ≡ codes "-14400 dst EDT" }
     ensures unnamed { shown_type unnamed ≡ codes "3600 std -" }

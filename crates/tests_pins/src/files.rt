@@ -51,6 +51,7 @@ pub fn counts()
 {}
 
 /// There is a type, and a byte of designations; indicators are given for no type, or for each.
+#[tactic(auto, using(tz_info::specs::FileHeaders::agree_from, tz_info::specs::FileHeaders::agree_to))]
 pub fn counts_that_agree()
     ensures indicators { CountsAgree (of_types 6 6 20) }
     ensures no_indicators { CountsAgree (of_types 0 6 20) }

@@ -20,7 +20,7 @@ pub fn gap()
 {}
 
 /// 01:30 on 7 November 2021 is shown first by EDT and last by EST.
-#[tactic(auto, using(crate::proofs::NewYorkClocks::in_fold, crate::proofs::NewYorkClocks::est_once_late))]
+#[tactic(auto, using(crate::proofs::NewYork::once, crate::proofs::NewYork::twice))]
 pub fn fold()
     ensures half_past_one { AreTypesAround (TypeAt new_york_zone) (pos 1_636_248_600)
         (Ambiguous edt est) }

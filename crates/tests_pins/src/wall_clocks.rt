@@ -26,7 +26,7 @@ pub fn gap()
 {}
 
 /// Two seconds show 01:30, the first by EDT and the last by EST. So it is from 01:00 on.
-#[tactic(auto, using(crate::proofs::NewYorkClocks::edt_once, crate::proofs::NewYorkClocks::in_fold))]
+#[tactic(auto, using(crate::proofs::NewYork::once, crate::proofs::NewYork::twice))]
 pub fn fold()
     ensures before { IsWallAnswer (Shows (TypeAt new_york_zone) (pos 1_636_246_799))
         (results.Single edt) }

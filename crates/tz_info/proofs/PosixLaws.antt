@@ -5,11 +5,11 @@ use Rattle.tz_info.proofs.Words.{nat_tests, error_number, plain_zone, pos, posix
 use Rattle.tz_info.proofs.Words.{◌∷◌, ◌≡◌, ◌≢◌, ◌≤◌}
 use Rattle.tz_info.proofs.{FooterLaws.{spelled_law}, TrimLaws.{trim_again, trim_is, trims_both}}
 
-zone_in : List ℕ → Result Zone Error
+unfoldable pub zone_in : List ℕ → Result Zone Error
 zone_in [] = Ok (plain_zone (pos 0))
 zone_in (b ∷ bs) = rule_in false (trimmed (b ∷ bs)) >>= λ rule. Ok (posix_zone rule)
 
-posix_law : (text : List ℕ) → Decided Zone (zone_in text) (IsPosixZone text) (IsPosixFault text)
+pub posix_law : (text : List ℕ) → Decided Zone (zone_in text) (IsPosixZone text) (IsPosixFault text)
 unfolding zone_in
 posix_law [] = like (done (plain_zone (pos 0)))
     (λ z h. inl (refl, sym h))

@@ -46,7 +46,7 @@ in_one : (a u : ℤ) → Contains (a ∷ []) u → u ≡ a
 in_one a u (zero, h, e) = sym e
 in_one a u (suc k, h, e) = absurd (omega arith)
 
-in_two : (a b u : ℤ) → Contains (a ∷ b ∷ []) u → (u ≡ a) ⊎ (u ≡ b)
+pub in_two : (a b u : ℤ) → Contains (a ∷ b ∷ []) u → (u ≡ a) ⊎ (u ≡ b)
 in_two a b u (zero, h, e) = inl (sym e)
 in_two a b u (suc zero, h, e) = inr (sym e)
 in_two a b u (suc (suc k), h, e) = absurd (omega arith)

@@ -106,7 +106,7 @@ fault_again names bytes e (Other_mark none) = inl (none, refl)
 fault_again names bytes e (No_text dst mark none) = inr (dst, mark, inl (none, refl))
 fault_again names bytes e (Other_type dst text mark stands bad) = inr (dst, mark, inr (text, stands, (bad, refl)))
 
-type_law : (names bytes : List ℕ) → Decided LocalType (type_of_record names bytes) (SpellsType names bytes) (TypeFault names bytes)
+pub type_law : (names bytes : List ℕ) → Decided LocalType (type_of_record names bytes) (SpellsType names bytes) (TypeFault names bytes)
 unfolding type_of_record type_of
 type_law names bytes = like
     (bind (mark_law (mark_in bytes)) (λ dst _. bind (text_law names (place_in bytes)) (λ text _.

@@ -62,7 +62,7 @@ say_law p l = like
 abbrev SpellingFault : List ℕ → Error → Type 0
 SpellingFault bytes n = PieceFault bytes n ⊎ ((p : FilePieces) × HasPieces bytes p × ContentFault p n)
 
-file_law : (bytes : List ℕ) → Decided Zone (file_at bytes) (IsTzFile bytes) (SpellingFault bytes)
+pub file_law : (bytes : List ℕ) → Decided Zone (file_at bytes) (IsTzFile bytes) (SpellingFault bytes)
 unfolding file_at
 file_law bytes = bind (pieces_law bytes) (λ p whole. say_law p (has_lengths bytes p whole))
 

@@ -1,30 +1,25 @@
-use Rattle.tests_pins.proofs.Words.{List, None, Option, Some, ap, arith, cet, false≢true, fits_signed_from_abs, inl, inr, neg_ℤ, pos, refl, renamed}
-use Rattle.tests_pins.proofs.Words.{slice_index, w64, ℕ, ◌≡◌}
+use Rattle.tz_write.specs.FileDesignations.{name_of}
+use Rattle.tests_pins.proofs.Words.{IsChange, LocalType, ap, arith, cet, change_at, false≢true, fits_signed_from_abs, inl, inr, neg_ℤ, pos, refl, renamed}
+use Rattle.tests_pins.proofs.Words.{slice_index, w64, ◌≡◌}
+use Rattle.tests_pins.specs.Changes.{at_epoch, dst_cet}
 use Rattle.tests_pins.proofs.clock_changes.differences.Goals as goal
 
-abbrev first_byte : Option (List ℕ) → ℕ
-first_byte (Some name) = slice_index name 0
-first_byte None = 0
-
 names_apart : cet ≡ renamed → ⊥
-names_apart e = let bytes : 67 ≡ 77 = ap (λ t. first_byte t.name) e in absurd (omega (arith, bytes))
+names_apart e = let byte = ap (λ (t : LocalType). slice_index (name_of t) 0) e in absurd (omega (arith, byte))
+
+changed : (before after : LocalType) → (before ≡ after → ⊥) → IsChange (at_epoch before after) (change_at (pos 0) before after)
+changed before after differ = record {
+  fits = fits_signed_from_abs w64 (pos 0) (omega arith);
+  fits_before = fits_signed_from_abs w64 (neg_ℤ (pos 1)) (omega arith);
+  before = inl (omega arith, refl);
+  after = inr (omega arith, refl);
+  differ = differ;
+}
 
 pub returns : goal.returns
 returns c = record {
-  name = record {
-    fits = fits_signed_from_abs w64 (pos 0) (omega arith);
-    fits_before = fits_signed_from_abs w64 (neg_ℤ (pos 1)) (omega arith);
-    before = inl (omega arith, refl);
-    after = inr (omega arith, refl);
-    differ = names_apart;
-  };
-  flag = record {
-    fits = fits_signed_from_abs w64 (pos 0) (omega arith);
-    fits_before = fits_signed_from_abs w64 (neg_ℤ (pos 1)) (omega arith);
-    before = inl (omega arith, refl);
-    after = inr (omega arith, refl);
-    differ = λ e. false≢true (ap (λ t. t.dst) e);
-  };
+  name = changed cet renamed names_apart;
+  flag = changed cet dst_cet (λ e. false≢true (ap (λ t. t.dst) e));
   none = λ h. h.differ refl;
   other_second = λ h. elim h.before [ inl early ↦ let late = early.0 in absurd (omega (arith, late)) | inr late ↦ names_apart late.1 ];
 }

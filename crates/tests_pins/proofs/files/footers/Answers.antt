@@ -1,24 +1,29 @@
+use Rattle.tz_info.proofs.{FooterLaws.{footer_law}, TrimLaws.{trim_is}}
 use Rattle.tz_info.specs.Footers.FooterFault.{Colon}
-use Rattle.tests_pins.proofs.{Words.{IsAscii-cons, IsAscii-nil, IsUtf8-from_ascii, arith, refl, [], ◌∷◌}, HonoluluFile.{footer}}
+use Rattle.std.proofs.lemmas.Str.{IsUtf8-from_ascii}
+use Rattle.tests_pins.proofs.{Words.{IsAscii-cons, IsAscii-nil, None, arith, false, hst, hst_footer, refl, [], ◌∷◌}, Computed.{texts}, HonoluluFile.{footer_reads}}
+use Rattle.tests_pins.proofs.SpelledTexts.{spelled}
+use Rattle.tz_info.specs.declared.rule.transition_rule.TransitionRule.TheVariants as rules
 use Rattle.tests_pins.proofs.files.footers.Goals as goal
 
 pub returns : goal.returns
+unfolding texts
 returns c = record {
-  hst = footer;
-  none = record {
-    text = [];
+  hst = record {
+    text = 72 ∷ 83 ∷ 84 ∷ 49 ∷ 48 ∷ [];
     has_text = record {
-      utf8 = IsUtf8-from_ascii (10 ∷ []) (IsAscii-cons 10 [] (omega arith) IsAscii-nil);
-      newlines = record { after_first = []; before_last = []; starts = refl; ends = refl };
-      trimmed = record { before = 10 ∷ []; after = []; whole = refl; space_before = (refl, tt); space_after = tt; first = tt; last = tt };
+      utf8 = IsUtf8-from_ascii hst_footer (search (IsAscii-cons, IsAscii-nil, arith) depth 9);
+      newlines = record { after_first = _; before_last = 10 ∷ 72 ∷ 83 ∷ 84 ∷ 49 ∷ 48 ∷ []; starts = refl; ends = refl };
+      trimmed = trim_is hst_footer;
     };
     no_colon = λ e. absurd (omega (arith, e));
-    no_zero = tt;
-    says = refl;
+    no_zero = omega arith;
+    says = (λ e. cc, spelled false (72 ∷ 83 ∷ 84 ∷ 49 ∷ 48 ∷ []) (rules.Fixed hst) refl);
   };
+  none = (footer_law false (10 ∷ [])).takes None (footer_reads false (10 ∷ []) (search (IsAscii-cons, IsAscii-nil, arith)));
   colon = Colon (58 ∷ []) (record {
-    utf8 = IsUtf8-from_ascii (10 ∷ 58 ∷ 10 ∷ []) (IsAscii-cons 10 (58 ∷ 10 ∷ []) (omega arith) (IsAscii-cons 58 (10 ∷ []) (omega arith) (IsAscii-cons 10 [] (omega arith) IsAscii-nil)));
+    utf8 = IsUtf8-from_ascii (10 ∷ 58 ∷ 10 ∷ []) (search (IsAscii-cons, IsAscii-nil, arith));
     newlines = record { after_first = _; before_last = 10 ∷ 58 ∷ []; starts = refl; ends = refl };
-    trimmed = record { before = 10 ∷ []; after = 10 ∷ []; whole = refl; space_before = (refl, tt); space_after = (refl, tt); first = refl; last = refl };
+    trimmed = trim_is (10 ∷ 58 ∷ 10 ∷ []);
   }) refl;
 }

@@ -12,20 +12,11 @@ returns c =
       day_before = λ n h. years_less _ _ (pos 2001) (pos 2000) n february_2001.0 leap_day.0
           (rw (february_2001.1, february_2001.2, leap_day.1, leap_day.2) (inr (refl, inl (omega arith)))) h;
       first_of_march = λ n h. years_apart _ _ (pos 2001) (pos 2000) n march_2001.0 leap_day.0
-          (λ early. elim (rw (march_2001.1, march_2001.2, leap_day.1, leap_day.2) at early) [
-            | inl a ↦ absurd (omega arith)
-            | inr b ↦ let same = b.0 in absurd (omega arith)
-          ]) h;
+          (λ early. let e = rw (march_2001.1, march_2001.2, leap_day.1, leap_day.2) at early in omega (arith, e)) h;
       second_before = λ n h. years_less _ _ (pos 2004) (pos 2000) n next_leap_day.0 leap_day.0
           (rw (next_leap_day.1, next_leap_day.2, leap_day.1, leap_day.2) (inr (refl, inr (refl, inl (omega arith))))) h;
       same_time = λ n h. years_apart _ _ (pos 2004) (pos 2000) n next_leap_day.0 leap_day.0
-          (λ early. elim (rw (next_leap_day.1, next_leap_day.2, leap_day.1, leap_day.2) at early) [
-            | inl a ↦ absurd (omega arith)
-            | inr b ↦ elim b.1 [
-              | inl d ↦ absurd (omega arith)
-              | inr t ↦ elim t.1 [ inl s ↦ absurd (omega arith) | inr f ↦ let less = f.1 in absurd (omega arith) ]
-            ]
-          ]) h;
+          (λ early. let e = rw (next_leap_day.1, next_leap_day.2, leap_day.1, leap_day.2) at early in omega (arith, e)) h;
       backwards = λ n h. years_less _ _ (pos 1999) (pos 2000) n february_1999.0 leap_day.0
           (rw (february_1999.1, february_1999.2, leap_day.1, leap_day.2) (inr (refl, inl (omega arith)))) h;
     }

@@ -2,12 +2,4 @@ use Rattle.tests_pins.proofs.WrittenPins.{not_another, not_extended, not_longer,
 use Rattle.tests_pins.proofs.written_zones.texts.Goals as goal
 
 pub returns : goal.returns
-returns c = record {
-  not_longer = not_longer;
-  not_extended = not_extended;
-  not_another = not_another;
-  not_longer_zone = not_longer_zone;
-  two_digits = two_digits;
-  one_digit = one_digit;
-  three_digits = three_digits;
-}
+returns c = search (not_another, not_extended, not_longer, not_longer_zone, one_digit, three_digits, two_digits)
