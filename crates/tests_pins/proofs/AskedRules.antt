@@ -1,5 +1,5 @@
 -- Where rules answer, and how often they are asked.
-use Rattle.tz_info.proofs.QuestionLaws.{apart, in_two}
+use Rattle.tz_info.proofs.{Words.{AllPairs, suc, zero, ◌≢◌}, QuestionLaws.{in_two}}
 use Rattle.tests_pins.proofs.Words.{Contains, IsAskedAt, IsAskedFor, IsByRule, IsByRuleFor, [], arith, honolulu, hst, hst10, inl, inr, ints, neg_ℤ}
 use Rattle.tests_pins.proofs.Words.{new_york_rule, new_york_zone, pos, refl, sym, ℕ, ℤ, ◌-ℤ◌, ◌∙◌, ◌∷◌, ◌≡◌, ◌⊎◌}
 use Rattle.tz_info.specs.declared.rule.transition_rule.TransitionRule.TheVariants as rules
@@ -33,6 +33,12 @@ by_clock h of_rule = elim (in_two (neg_ℤ (pos 18_000)) (neg_ℤ (pos 14_400)) 
 asked : (u : ℤ) → (u ≡ pos 1_615_707_000) ⊎ (u ≡ pos 1_615_703_400) → IsByRuleFor new_york_zone (pos 1_615_689_000) u
 asked u (inl at) = record { offset = neg_ℤ (pos 18_000); of_rule = (0, omega arith, refl); of_second = at; by_rule = always u }
 asked u (inr at) = record { offset = neg_ℤ (pos 14_400); of_rule = (1, omega arith, refl); of_second = at; by_rule = always u }
+
+apart : (a b : ℤ) → a ≢ b → AllPairs (λ u v. u ≢ v) (a ∷ b ∷ [])
+apart a b other zero (suc zero) d i j = other
+apart a b other (suc k) (suc zero) d i j = absurd (omega arith)
+apart a b other k (suc (suc m)) d i j = absurd (omega arith)
+apart a b other k zero d i j = absurd (omega arith)
 
 pub two_more : IsAskedFor new_york_zone (pos 1_615_689_000) 5 7
 two_more = record {
