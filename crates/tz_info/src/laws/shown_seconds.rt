@@ -58,7 +58,6 @@ pub fn first_at_or_after_law()
 /// The first second at or after the begin of a stretch is its first one if it shows a local time of
 /// the stretch. If no second does, it is also the first at or after the stretch's end: a day over
 /// which clocks are set forward begins when the next one does.
-#[tactic(auto, using(crate::proofs::ShownSecondLaws::first_is_within, crate::proofs::ShownSecondLaws::none_within))]
 pub fn first_of_stretch_law()
     ensures within { (z : Zone) (from until u : ℤ) (t : LocalType)
         → IsFirstAtOrAfter (TypeAt z) from u t → (u +ℤ t.offset) <ℤ until
