@@ -1,7 +1,7 @@
 -- Spans: at each second between two that have a type there is one, and from the last change to the next one it is the same.
 use Rattle.tz_info.proofs.Words.{Agrees, Alternate as AlternateRule, AreLeapSeconds, Change, HasNoChange, IfSome, IsAlternateRefused, IsChange, IsEndOrTyped}
-use Rattle.tz_info.proofs.Words.{IsFirst, IsFirstChange, IsFromLast, IsInSpan, IsLast, IsLastChange, IsLastSpan, IsLeapTime, IsRefusedBy, IsRuleOrNone}
-use Rattle.tz_info.proofs.Words.{IsRuleTime, IsSince, IsSpan, IsSpanAt, LastSpan, IsTypeRefused, IsUnixTime, IsUntil, IsValid, LeapSecond, List, LocalType}
+use Rattle.tz_info.proofs.Words.{IsFirst, IsFirstChange, IsFromLast, IsInSpan, IsLast, IsLastChange, IsLeapTime, IsRefusedBy, IsRuleOrNone}
+use Rattle.tz_info.proofs.Words.{IsRuleTime, IsSince, IsSpan, IsSpanAt, IsTypeRefused, IsUnixTime, IsUntil, IsValid, LeapSecond, List, LocalType}
 use Rattle.tz_info.proofs.Words.{None, Option, SFits, Some, Span, Transition, TransitionRule, TypeAt, Zone, ap, arith, by_leap_time, by_lt_z, by_rule, cases_lt, false, true}
 use Rattle.tz_info.proofs.Words.{correction_before, floor_div, inl, inr, ints, last_transition, length, lies_in, neg_ℤ, option_map, passed_count, pos, refl}
 use Rattle.tz_info.proofs.Words.{segment_of, subst, sym, w64, year_of, ℤ, ◌-ℤ◌, ◌-◌, ◌<ℤ◌, ◌<◌, ◌∙◌, ◌≡◌, ◌≤ℤ◌, ◌⊎◌}
