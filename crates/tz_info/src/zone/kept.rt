@@ -102,7 +102,7 @@ pub(super) fn all_kept(alloc: Global, transitions: &[Transition]) -> Result<Vec<
 
 // Nothing if the lists make a zone, or else their first fault: as `check`, of transitions as they
 // are kept.
-pub(super) fn check_kept(
+pub(crate) fn check_kept(
     kept: &[Kept],
     types: &[LocalTimeType],
     leaps: &[LeapSecond],

@@ -12,7 +12,7 @@ use crate::rule::TransitionRule;
 use crate::zone::extremes::{Extremes, extremes_of};
 use crate::zone::idle::Idle;
 use crate::zone::index::Index;
-use crate::zone::kept::{Kept, all_kept, check_kept};
+use crate::zone::kept::{Kept, all_kept};
 use crate::zone::last_span::LastSpan;
 use crate::zone::leap_second::LeapSecond;
 use crate::zone::segments::Lists;
@@ -154,30 +154,8 @@ impl TimeZone {
         TimeZone::of_valid(alloc, kept, types, leaps, rule)
     }
 
-    // The zone of the lists of a file, whose transitions are kept as they are.
-    pub(crate) fn of_kept(
-        alloc: Global,
-        transitions: Vec<Kept>,
-        types: Vec<LocalTimeType>,
-        leaps: Vec<LeapSecond>,
-        rule: Option<TransitionRule>,
-    ) -> Result<TimeZone, Error>
-        ensures { let lists : Zone = record {
-          transitions = transitions.items;
-          types = types.items;
-          leaps = leaps.items;
-          rule = rule;
-        } in
-            MatchResult result (λ z. IsValid lists × (z ≡ lists))
-            (λ e. (ListFault lists e × ¬ (IsValid lists))
-            ⊎ ((e ≡ OutOfMemory) × IsValid lists)) }
-    {
-        check_kept(&transitions, &types, &leaps, &rule)?;
-        TimeZone::of_valid(alloc, transitions, types, leaps, rule)
-    }
-
     // The zone of lists that make a valid one.
-    fn of_valid(
+    pub(crate) fn of_valid(
         alloc: Global,
         transitions: Vec<Kept>,
         types: Vec<LocalTimeType>,
