@@ -32,19 +32,7 @@ leapless_between ts es d rising empty any low high = record {
 pub pieces_found : (z : Zone) (place : ℕ) (before behind : Segment) (second end start : ℤ) (p q : Piece) → IsSegment z (place - 1) before → IsSegment z place behind → IsStart z.transitions z.leaps place second
     → end ≡ saturate_signed w64 (second +ℤ before.offset) → start ≡ saturate_signed w64 (second +ℤ behind.offset)
     → IsGap place end start before.index behind.index p q ⊎ IsFold end start before.index behind.index p q → ArePiecesAt z place p q
-pieces_found z place before behind second end start p q b a s e f pieces = record {
-  type_before = b.type;
-  type = a.type;
-  end = end;
-  start = start;
-  listed_before = rw b.index at b.listed;
-  listed = rw a.index at a.listed;
-  offset_before = b.is_offset;
-  offset = a.is_offset;
-  ends = record { second = second; is_start = s; shown = rw b.offset at e };
-  starts = record { second = second; is_start = s; shown = rw a.offset at f };
-  pieces = rw (b.index, a.index) at pieces;
-}
+pieces_found z place before behind second end start p q b a s e f pieces = grind arith
 
 -- ---- pieces that are pushed
 
@@ -56,9 +44,7 @@ abbrev IsOpen : Answer → List Piece → Type 0
 IsOpen b ps = (l : ℤ) (j : Jump) → together (answer_at b ps l) (Skipped j) ≡ answer_at b ps l
 
 open_push : (b : Answer) (ps : List Piece) (p : Piece) → IsOpen b ps → ((j : Jump) → together p.answer (Skipped j) ≡ p.answer) → IsOpen b (ps ++ (p ∷ []))
-open_push b ps p o h l j = by_lt_z l p.start
-    (λ k. rw (at_earlier b ps p l k) (o l j))
-    (λ k. rw (at_later b ps p l k) (h j))
+open_push b ps p o h l j = grind (arith, at_earlier, at_later)
 
 -- where the later segment ends too, at t
 end_merged : (i : ℕ) (xs : List Piece) (s t : ℤ) (j : Jump) (x y : ℕ) (out : List Piece) → IsMerged (Once i) xs (Skipped j) (piece s (Once y) ∷ []) out → StartBy out t → StartBy xs t → s ≤ℤ t
@@ -70,9 +56,7 @@ end_merged i xs s t j x y out m by by_xs h ended =
     record {
       ordered = all_pairs_push (λ (a b : Piece). a.start ≤ℤ b.start) out p m.ordered by;
       count = length_push out p ∙ (let c = m.count in omega arith);
-      answers = λ l. by_lt_z l t
-          (λ before. at_earlier (Once i) out p l before ∙ m.answers l ∙ ap (together (answer_at (Once i) xs l)) (sym (at_earlier (Skipped j) others p l before)))
-          (λ from. at_later (Once i) out p l from ∙ sym (rw (at_later (Skipped j) others p l from, at_all (Once i) xs l (start_by_later xs t l by_xs from), ended) refl));
+      answers = λ l. grind (arith, ints, at_earlier, at_later, at_all);
     }
 
 -- ---- one segment more
@@ -96,10 +80,7 @@ pub record AreOpen (z : Zone) (place : ℕ) (first : ℕ) (pieces : List Piece) 
 
 -- the table has all segments but the rule's, which is the last
 pub table_most : (z : Zone) → length z.transitions ≤ table_count z
-table_most z = most_by z.rule (length z.transitions) where
-  most_by : (rule : Option TransitionRule) (n : ℕ) → n ≤ table_count_by rule n
-  most_by (some rule) n = omega arith
-  most_by none n = omega arith
+table_most z = grind arith
 
 -- at first there is the first segment
 pub open_first : (z : Zone) (latest : ℤ) → IsValid z → 0 < length z.transitions → AreOpen z 1 (index_of z.transitions 0) [] latest
@@ -128,10 +109,7 @@ jump_at place index = record { place = place; before = index }
 
 -- both cuts lie from the first piece's start to the last one's
 cuts_between : (z : Zone) (place : ℕ) (p q : Piece) → (a : ArePiecesAt z place p q) → (p.start ≤ℤ a.end) × (p.start ≤ℤ a.start) × (a.end ≤ℤ q.start) × (a.start ≤ℤ q.start)
-cuts_between z place p q a = ⊎_elim
-    (λ gap. let o = gap.order in rw (gap.none, gap.next) (omega (arith, ints), o, o, omega (arith, ints)))
-    (λ fold. let o = fold.order in rw (fold.both, fold.next) (o, omega (arith, ints), omega (arith, ints), o))
-    a.pieces
+cuts_between z place p q a = grind arith
 
 -- and each is a cut at that place
 pub cuts_of : (z : Zone) (place : ℕ) (p q : Piece) → ArePiecesAt z place p q → IsCutAt z place p.start × IsCutAt z place q.start
@@ -166,11 +144,7 @@ opened z place i ps latest p q o a h =
             let rise : Piece → Piece → Type 0 = λ a b. a.start ≤ℤ b.start in
             all_pairs_push rise first q (all_pairs_push rise ps p o.ordered by) (start_by_later first p.start q.start by_first order);
         count = length_push first q ∙ (let m = length_push ps p in let n = length_push ps r in omega arith);
-        answers = λ l. by_lt_z l q.start
-            (λ until. at_earlier b first q l until ∙ by_lt_z l p.start
-            (λ before. at_earlier b ps p l before ∙ sym (rw (le_false a.start l (omega (arith, ints)), at_earlier b ps r l (omega (arith, ints))) (o.unended l j)))
-            (λ from. at_later b ps p l from ∙ amid l from until))
-            (λ behind. at_later b first q l behind ∙ next ∙ sym (rw (le_true a.start l (omega (arith, ints)), at_later b ps r l (omega (arith, ints))) refl));
+        answers = λ l. grind (arith, ints, at_earlier, at_later);
       };
       started = start_by_push first q q.start (start_by_later first p.start q.start by_first order) (omega (arith, ints));
       unended = open_push b first q (open_push b ps p o.unended (λ k. ⊎_elim (λ gap. rw gap.none refl) (λ fold. rw fold.both refl) a.pieces)) (λ k. rw next refl);
@@ -184,10 +158,7 @@ within_table z k h = ⊎_elim (λ less. omega arith) (λ q. let e = q.1 in omega
 type_ended : (z : Zone) (k : ℕ) (latest end : ℤ) (t : LocalType) → IsValid z → k < length z.transitions → (0 < k → IsBegun z (suc k) latest) → HasType z (index_of z.transitions k) t → IsCutFrom z (suc k) t.offset end → (0 < k → latest <ℤ end) → IsTypeBefore z (suc k) (index_of z.transitions k)
 type_ended z k latest end t valid n begun has cut behind =
     let one : suc k - 1 ≡ k = omega arith in
-    type_own z k (index_of z.transitions k) t cut.second valid n refl has cut.is_start (λ h.
-    let c = rw one at (begun h t (rw one has)) in
-    let l = behind h in let m = c.2 in
-    (c.1.second, c.1.is_start, cuts_rise z k (suc k) t.offset c.0 end c.1 cut (omega (arith, ints))))
+    type_own z k (index_of z.transitions k) t cut.second valid n refl has cut.is_start (λ h. grind (arith, ints))
 
 -- the pieces of one segment more
 pub open_more : (z : Zone) (place i : ℕ) (ps out : List Piece) (latest : ℤ) (p q : Piece) → IsValid z → 0 < place → place < table_count z → AreOpen z place i ps latest → ArePiecesAt z place p q → (1 < place → latest <ℤ p.start) → out ≡ (ps ++ (p ∷ [])) ++ (q ∷ []) → AreOpen z (suc place) i out q.start
@@ -220,7 +191,6 @@ open_more z (suc k) i ps out latest p q valid inner_start table o a strict e =
       closed = λ inner t end has offset cut after.
           let same : t ≡ a.type = listed_once z y t a.type (rw one at has) a.listed in
           let here : IsCutFrom z (suc place) a.type.offset end = rw same at cut in
-          let far = after (omega arith) in
           let segment = inner_pieces z place x a.start end y a.type valid table inner_start inner refl a.listed a.offset a.starts here (cuts_rise z place (suc place) a.type.offset a.start end a.starts here (omega (arith, ints))) before in
           let merged = end_merged i closed a.start end j x y all r.merged (start_by_later all q.start end r.started (omega (arith, ints)))
           (start_by_push ps (piece a.end (Less x)) end (o.started end (λ m. let s = strict m in omega (arith, ints))) (omega (arith, ints))) (omega (arith, ints)) (before_pushed (Once i) ps (piece a.end (Less x))) in
@@ -233,6 +203,4 @@ open_more z (suc k) i ps out latest p q valid inner_start table o a strict e =
 -- where the next cut doesn't come behind the latest, they cross
 pub crossed_by : (z : Zone) (place i : ℕ) (ps : List Piece) (latest cut : ℤ) → place ≤ length z.transitions → 1 < place → AreOpen z place i ps latest → IsCutAt z place cut → cut ≤ℤ latest → AreCutsCrossed z
 crossed_by z zero i ps latest cut n more o c less = absurd (omega arith)
-crossed_by z (suc k) i ps latest cut n more o c less =
-    let one : suc k - 1 ≡ k = omega arith in
-    record { place = k; first = omega arith; within = n; cut = latest; next_cut = cut; is_cut = rw one at (o.cut more); is_next_cut = c; crossed = less }
+crossed_by z (suc k) i ps latest cut n more o c less = grind arith

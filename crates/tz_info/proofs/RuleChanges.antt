@@ -14,29 +14,17 @@ use Rattle.tz_info.proofs.{NextMoments.{outside, steady_until}, RuleLaws.{altern
 
 -- ---- the calendar repeats every 400 years: k times as many years later, or earlier where k is below 0
 leap_again : (y k : ℤ) → is_leap (y +ℤ pos 400 *ℤ k) ≡ is_leap y
-leap_again y k =
-    let small = floor_mod_parts y 4 (omega arith) in let small_then = floor_mod_parts (y +ℤ pos 400 *ℤ k) 4 (omega arith) in
-    let large = floor_mod_parts y 100 (omega arith) in let large_then = floor_mod_parts (y +ℤ pos 400 *ℤ k) 100 (omega arith) in
-    let whole = floor_mod_parts y 400 (omega arith) in let whole_then = floor_mod_parts (y +ℤ pos 400 *ℤ k) 400 (omega arith) in
-    let a : floor_mod (y +ℤ pos 400 *ℤ k) 4 ≡ floor_mod y 4 = omega (arith, floors) in
-    let b : floor_mod (y +ℤ pos 400 *ℤ k) 100 ≡ floor_mod y 100 = omega (arith, floors) in
-    let c : floor_mod (y +ℤ pos 400 *ℤ k) 400 ≡ floor_mod y 400 = omega (arith, floors) in
-    rw (a, b, c) refl
+leap_again y k = grind (arith, ints, floors)
 
 pub start_again : (y k : ℤ) → year_start (y +ℤ pos 400 *ℤ k) ≡ year_start y +ℤ pos 146_097 *ℤ k
 unfolding year_start
 start_again y k = omega (arith, floors)
 
 weekday_again : (day k : ℤ) → weekday_of (day +ℤ pos 146_097 *ℤ k) ≡ weekday_of day
-weekday_again day k =
-    let here = floor_mod_parts (day +ℤ pos 4) 7 (omega arith) in let there = floor_mod_parts (day +ℤ pos 146_097 *ℤ k +ℤ pos 4) 7 (omega arith) in
-    omega (arith, floors)
+weekday_again day k = grind arith
 
 kind_again : (y k : ℤ) → kind_place (y +ℤ pos 400 *ℤ k) ≡ kind_place y
-kind_again y k =
-    let l = leap_again y k in
-    let w : weekday_of (year_start (y +ℤ pos 400 *ℤ k)) ≡ weekday_of (year_start y) = ap weekday_of (start_again y k) ∙ weekday_again (year_start y) k in
-    rw (l, w) refl
+kind_again y k = grind (arith, leap_again, start_again, weekday_again)
 
 abbrev cycle : ℤ
 cycle = pos 12_622_780_800
@@ -46,7 +34,6 @@ moment_again t offset year k fits =
     let here = kind_found t offset year (pos 0) fits in
     let there = rw (kind_again year k) at (kind_found t offset (year +ℤ pos 400 *ℤ k) (pos 0) fits) in
     let start = start_again year k in
-    let same : second_in t offset (year +ℤ pos 400 *ℤ k) ≡ second_in t offset year = sym there ∙ here in
     omega (arith, floors)
 
 -- ---- where moments come as far later as the years, so do the types
@@ -86,8 +73,7 @@ type_again a u k t rule h inside = record {
   of_second = year_again u h.year k h.of_second;
   inside = inside;
   dst = h.dst;
-  when = dst_again (start_in a) (end_in a) h.year u k h.dst
-      (λ year k. moment_again a.start a.std.offset year k rule.start_day) (λ year k. moment_again a.end a.dst.offset year k rule.end_day) h.when;
+  when = grind (arith, dst_again, moment_again);
   shown = h.shown;
 }
 
@@ -97,9 +83,7 @@ abbrev IsAmidYear : ℤ → ℤ → Type 0
 IsAmidYear year u = (new_year year <ℤ u) × (u ≤ℤ new_year (year +ℤ pos 1))
 
 amid_year : (u year : ℤ) → IsYearOf (u -ℤ pos 1) year → IsAmidYear year u
-amid_year u year h =
-    let low = second_low (u -ℤ pos 1) year h in let high = second_high (u -ℤ pos 1) year h in
-    (omega (arith, ints), omega (arith, ints))
+amid_year u year h = grind arith
 
 pub of_year : (u year : ℤ) → IsAmidYear year u → IsYearOf (u -ℤ pos 1) year
 of_year u year h = let a = h.0 in let b = h.1 in (omega (arith, floors), omega (arith, floors))
@@ -146,9 +130,7 @@ rule_second a u t h = rule_time u h.year h.of_second h.inside
 next_at_most : (u year own : ℤ) → IsYearOf (u -ℤ pos 1) year → IsYearOf u own → own ≤ℤ (year +ℤ pos 1)
 next_at_most u year own before here = by_lt_z (year +ℤ pos 1) own
     (λ more.
-    let far = year_after (year +ℤ pos 1) own more in
-    let low = second_low u own here in let high = second_high (u -ℤ pos 1) year before in
-    absurd (omega (arith, floors)))
+    let far = year_after (year +ℤ pos 1) own more in grind (arith, second_high, floors))
     (λ m. m)
 
 abbrev change_then : Change → ℤ → Change
@@ -186,7 +168,6 @@ in_first a true after last first start d is inside y of_year =
     let r = years_rise start.second (d.at -ℤ pos 1) first y start.of_second of_year m in
     omega (arith, ints)
 in_first a false after last first start d is inside y of_year =
-    let l = inside.1 in
     let m = start.near.until (d.at -ℤ pos 1) (rule_second a (d.at -ℤ pos 1) d.before is.before) (omega (arith, ints)) in
     let r = years_rise (d.at -ℤ pos 1) start.second y first of_year start.of_second m in
     omega (arith, ints)
@@ -197,10 +178,7 @@ year_on false first y n not h = by_lt_z y (first -ℤ pos n) (λ l. omega (arith
 
 -- where a year has none they come in the next one or behind it
 pub in_next : (a : Alternate) (w : Bool) (after last first : ℤ) (n : ℕ) → AreIn a w after last (year_at w first n) → HasNoChange (AlternateAt a) (IsOfYear after last (year_at w first n)) → AreIn a w after last (year_at w first (n + 1))
-in_next a w after last first n h none d is inside y of_year = elim (same_or_not y (year_at w first n)) [
-  | inl e ↦ absurd (none d is (record { inside = inside; of_year = rw e at of_year }))
-  | inr not ↦ year_on w first y n not (h d is inside y of_year)
-]
+in_next a w after last first n h none d is inside y of_year = grind (arith, year_on)
 
 seconds_follow : (w : Bool) (u v x y : ℤ) → IsYearOf (u -ℤ pos 1) x → IsYearOf (v -ℤ pos 1) y → (y ≡ x → ⊥) → Precedes w x y → Precedes w u v
 seconds_follow true u v x y h k not p =
@@ -224,8 +202,7 @@ found_in a w after last year c h k = record {
 -- no change comes where the rule doesn't answer
 pub none_out : (a : Alternate) (w : Bool) (after last first : ℤ) (n : ℕ) → IsRuleYear first → AreIn a w after last (year_at w first n) → (IsRuleYear (year_at w first n) → ⊥) → HasNoChange (AlternateAt a) (IsInStretch after last)
 none_out a true after last first n inside h out d is k =
-    let from = h d is k is.before.year is.before.of_second in let least = inside.0 in let most = is.before.inside.1 in
-    out (omega (arith, ints), omega (arith, ints))
+    let from = h d is k is.before.year is.before.of_second in grind (arith, ints)
 none_out a false after last first n inside h out d is k =
     let until = h d is k is.before.year is.before.of_second in let most = inside.1 in let least = is.before.inside.0 in
     out (omega (arith, ints), omega (arith, ints))
@@ -257,7 +234,6 @@ never a false after last first start h d is inside =
     let t = rule_second a ((d.at +ℤ cycle *ℤ k) -ℤ pos 1) d.before again.before in
     let sooner = later_year ((d.at +ℤ cycle *ℤ k) -ℤ pos 1) start.second (b.year +ℤ pos 400 *ℤ k) first of_year start.of_second (omega (arith, ints)) in
     let ahead : ((d.at +ℤ cycle *ℤ k) -ℤ pos 1) <ℤ last = by_lt_z ((d.at +ℤ cycle *ℤ k) -ℤ pos 1) last (λ l. l) (λ m. let n = start.near.from ((d.at +ℤ cycle *ℤ k) -ℤ pos 1) t m in absurd (omega (arith, ints))) in
-    let i = inside.0 in
     let r = h (change_then d k) again (omega (arith, ints), omega (arith, ints)) (b.year +ℤ pos 400 *ℤ k) of_year in
     omega (arith, ints)
 
@@ -273,7 +249,6 @@ nearest_of_year w a year after last from until found rule later earlier h =
     let l = (later (d.at -ℤ pos 1)).1 (omega (arith, ints), omega (arith, ints)) in
     (is, record { place = at.0; below = at.1; is = get_or_default (moments_near a year) at.0 (pos 0) d.at at.1 ∙ at.2; inside = (omega (arith, ints), (earlier d.at).1 (k.inside.1, amid.1)) }))
     (λ d is one.
-    let low = one.inside.0 in
     let l = (later (d.at -ℤ pos 1)).0 (omega (arith, ints)) in let e = (earlier d.at).0 one.inside.1 in
     let l0 = l.0 in let l1 = l.1 in
     (is, record { inside = (omega (arith, ints), e.0); of_year = of_year d.at year (omega (arith, ints), e.1) }))

@@ -14,8 +14,7 @@ all_within z from until low high w = record {
   near_high = w.near_high;
   within = λ u t h.
       let most = at_most_greatest z u (from -ℤ low) t w.greatest h.type in let fewest = at_least_least z u (until -ℤ high) t w.least h.type in
-      let since = h.since in let before = h.before in
-      (omega (arith, ints), omega (arith, ints));
+      let since = h.since in grind (arith, ints);
 }
 
 pub none_left : (z : Zone) (from until low high : ℤ) → AreWithin z from until low high → high ≤ℤ low → IsNeverWithin (TypeAt z) from until
@@ -25,14 +24,10 @@ none_left z from until low high all h u t k = let w = all.within u t k in let a 
 in_run : (z : Zone) (from until start end u : ℤ) (s t : LocalType) → HaveOneTypeFrom (TypeAt z) start end t → start ≤ℤ u → u <ℤ end
     → ShowsWithin (TypeAt z) from until u s → IsWithinRun start end (from -ℤ t.offset) (until -ℤ t.offset) u
 in_run z from until start end u s t type low high h =
-    let k = subst (ShowsWithin (TypeAt z) from until u) (type_once z u s t h.type (type u low high)) h in
-    let since = k.since in let before = k.before in
-    record { low = low; high = high; since = omega (arith, ints); before = omega (arith, ints) }
+    let k = subst (ShowsWithin (TypeAt z) from until u) (type_once z u s t h.type (type u low high)) h in grind (arith, ints)
 
 to_run : (z : Zone) (from until start end u : ℤ) (t : LocalType) → SFits w64 u → TypeAt z u t → IsWithinRun start end (from -ℤ t.offset) (until -ℤ t.offset) u → ShowsWithin (TypeAt z) from until u t
-to_run z from until start end u t fits here h =
-    let since = h.since in let before = h.before in
-    record { fits = fits; type = here; since = omega (arith, ints); before = omega (arith, ints) }
+to_run z from until start end u t fits here h = grind (arith, ints)
 
 -- what the next run leaves, if it has none
 pub goes_on : (w : Bool) (z : Zone) (from until low high start end : ℤ) (t : LocalType) → AreWithin z from until low high → IsNextRun w low high start end
@@ -96,15 +91,10 @@ one_answer z from until None (Some b) h k = absurd (h b.first.at b.first.local_t
 one_answer z from until (Some a) None h k = absurd (k a.first.at a.first.local_time_type h.first.shown)
 one_answer z from until (Some a) (Some b) h k =
     let (first, type) = one_end z a.first.at b.first.at a.first.local_time_type b.first.local_time_type h.first.shown.type k.first.shown.type (h.first.first _ _ k.first.shown) (k.first.first _ _ h.first.shown) in
-    let (last, last_type) = one_end z a.last.at b.last.at a.last.local_time_type b.last.local_time_type h.last.shown.type k.last.shown.type (k.last.last _ _ h.last.shown) (h.last.last _ _ k.last.shown) in
-    the_same a.first.at b.first.at a.last.at b.last.at
-    a.first.local_time_type b.first.local_time_type a.last.local_time_type b.last.local_time_type first last type last_type
+    grind (arith, one_end)
 
 pub one_second : (z : Zone) (local u : ℤ) (t : LocalType) → ShowsWithin (TypeAt z) local (local +ℤ pos 1) u t ↔ Shows (TypeAt z) local u t
-one_second z local u t = (
-  λ h. let a = h.since in let b = h.before in record { fits = h.fits; type = h.type; shown = omega (arith, ints) },
-  λ h. let a = h.shown in record { fits = h.fits; type = h.type; since = omega (arith, ints); before = omega (arith, ints) },
-)
+one_second z local u t = grind arith
 
 pub own_answer : (z : Zone) (from until u : ℤ) (t : LocalType) (found : Option ShownSeconds) → ShowsWithin (TypeAt z) from until u t → AreShownWithin (TypeAt z) from until found
     → (s : ShownSeconds) × (found ≡ Some s) × (s.first.at ≤ℤ u) × (u ≤ℤ s.last.at)
@@ -147,9 +137,7 @@ shown_at_latest z from until valid limits b =
     let near = b.near in
     let there = near_type z (from -ℤ b.least) valid limits near in
     let most = at_most_greatest z (from -ℤ b.least) b.greatest there.0 b.is_greatest there.1 in
-    let fewest = at_least_least z (from -ℤ b.least) b.least there.0 b.is_least there.1 in
-    let beyond = b.beyond in
-    (there.0, record { fits = omega (arith, ints, near); type = there.1; since = omega (arith, ints); before = omega (arith, ints) })
+    let fewest = at_least_least z (from -ℤ b.least) b.least there.0 b.is_least there.1 in grind (arith, ints)
 
 pub never_before_until : (z : Zone) (from until : ℤ) → IsValid z → IsRuleOrNone z.rule → IsBeyondJumps z from until → IsNeverWithin (TypeAt z) from until → ⊥
 never_before_until z from until valid limits b never = let latest = shown_at_latest z from until valid limits b in never (from -ℤ b.least) latest.0 latest.1
@@ -158,7 +146,6 @@ pub first_reached : (z : Zone) (from until u : ℤ) (t : LocalType) → IsValid 
 first_reached z from until u t valid limits b h =
     let latest = shown_at_latest z from until valid limits b in
     let not_later = h.first (from -ℤ b.least) latest.0 latest.1 in
-    let beyond = b.beyond in
     record {
       shown = to_reached z from until u t h.shown;
       first = λ v s k. by_lt_z (v +ℤ s.offset) until
@@ -174,14 +161,7 @@ pub first_rises : (z : Zone) (local later u v : ℤ) (s t : LocalType) → local
 first_rises z local later u v s t rise h k = let reached = k.shown.reached in h.first v t (record { fits = k.shown.fits; type = k.shown.type; reached = omega (arith, ints) })
 
 pub first_is_within : (z : Zone) (from until u : ℤ) (t : LocalType) → IsFirstAtOrAfter (TypeAt z) from u t → (u +ℤ t.offset) <ℤ until → IsFirstWithin (TypeAt z) from until u t
-first_is_within z from until u t h before = record {
-  shown = to_within z from until u t h.shown before;
-  first = λ v s k. h.first v s (to_reached z from until v s k);
-}
+first_is_within z from until u t h before = grind arith
 
 pub none_within : (z : Zone) (from until u v : ℤ) (s t : LocalType) → from ≤ℤ until → IsNeverWithin (TypeAt z) from until → IsFirstAtOrAfter (TypeAt z) from u s → IsFirstAtOrAfter (TypeAt z) until v t → u ≡ v
-none_within z from until u v s t ordered never h k =
-    let rises = first_rises z from until u v s t ordered h k in
-    by_lt_z (u +ℤ s.offset) until
-    (λ before. absurd (never u s (to_within z from until u s h.shown before)))
-    (λ past. let later = k.first u s (record { fits = h.shown.fits; type = h.shown.type; reached = past }) in omega (arith, ints))
+none_within z from until u v s t ordered never h k = grind (arith, ints)

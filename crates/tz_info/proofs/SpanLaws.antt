@@ -22,7 +22,6 @@ early_unix : (es : List LeapSecond) (x u : ℤ) → AreLeapSeconds es → x <ℤ
 early_unix es x u valid h is =
     let none : pos 0 ≡ correction_before es x = before_found es 0 (record { unix_leap_time = pos 0; correction = pos 0 }) x (pos 0) valid (omega arith) (record { value = refl; before = λ k d l. absurd (omega arith) })
     (λ some. let f = (valid.first (record { unix_leap_time = pos 0; correction = pos 0 }) some).since_epoch in omega (arith, ints)) in
-    let d = is.difference in
     omega (arith, ints)
 
 last_of : (ts : List Transition) → 0 < length ts → (t : Transition) × (last_transition ts ≡ Some t)
@@ -34,7 +33,6 @@ not_before z a v y valid rule some l all h =
     let last = last_of z.transitions some in
     let agrees : Agrees z.types z.leaps (Alternate a) last.0 = rw (rule, last.1) at valid.agrees in
     let within : IsRuleTime agrees.unix_time = rule_second a agrees.unix_time agrees.type agrees.of_rule in
-    let low = within.0 in
     let count = come_at_time z v y l in
     let come = (come_by_time z.transitions y (length z.transitions - 1) last.0 valid.transitions.rising (omega arith)).0 (omega arith) in
     let is = last_is z.transitions last.0 last.1 in
@@ -49,18 +47,14 @@ not_before_second z a u v y t valid rule l all h k low = elim (cases_lt 0 (lengt
   | inl some ↦ not_before z a v y valid rule some (l some) all low
   | inr none ↦
       let m = segment_most z u valid.transitions.rising in
-      let within = rule_second a u t (to_rule z a u t valid rule (omega arith) k) in
-      let b = within.0 in
-      omega (arith, ints)
+      let within = rule_second a u t (to_rule z a u t valid rule (omega arith) k) in grind arith
 ]
 
 not_behind_second : (z : Zone) (a : AlternateRule) (v u : ℤ) (t : LocalType) → IsValid z → z.rule ≡ Some (Alternate a) → segment_of z v ≡ length z.transitions → v ≤ℤ u → TypeAt z u t → pos 67_767_976_170_460_799 <ℤ v → ⊥
 not_behind_second z a v u t valid rule all h k high =
     let m = segment_most z u valid.transitions.rising in
     let r = segments_rise z v u valid.transitions.rising valid.leaps h in
-    let within = rule_second a u t (to_rule z a u t valid rule (omega arith) k) in
-    let b = within.1 in
-    omega (arith, ints)
+    let within = rule_second a u t (to_rule z a u t valid rule (omega arith) k) in grind arith
 
 out_of_years : (u : ℤ) → IsAlternateRefused u → (u <ℤ neg_ℤ (pos 67_768_100_504_812_800)) ⊎ (pos 67_767_976_170_460_799 <ℤ u)
 out_of_years u refused = by_lt_z u (neg_ℤ (pos 67_768_100_504_812_800))
@@ -71,10 +65,7 @@ out_of_years u refused = by_lt_z u (neg_ℤ (pos 67_768_100_504_812_800))
 
 -- all transitions have come by the leap time of the second
 all_come : (z : Zone) (v x : ℤ) → IsValid z → (0 < length z.transitions → IsLeapTime z.leaps v x) → IsFromLast z x → segment_of z v ≡ length z.transitions
-all_come z v x valid l last = elim (cases_lt 0 (length z.transitions)) [
-  | inl some ↦ sym (come_at_time z v x (l some)) ∙ last
-  | inr none ↦ let m = segment_most z v valid.transitions.rising in omega arith
-]
+all_come z v x valid l last = grind (arith, come_at_time, segment_most)
 
 rule_between : (rule : Option TransitionRule) (z : Zone) (a b v x : ℤ) (s t : LocalType) → z.rule ≡ rule → IsValid z → (0 < length z.transitions → IsLeapTime z.leaps v x) → IsFromLast z x → a ≤ℤ v → v ≤ℤ b → TypeAt z a s → TypeAt z b t → IsRefusedBy rule v → ⊥
 rule_between None z a b v x s t is valid l last low high h k refused = refused
@@ -140,7 +131,6 @@ ends_with : (z : Zone) (u : ℤ) (t : LocalType) (next : Option Change) → IsVa
     → IfSome (seconds_of next) (λ until. (s : LocalType) × IsChange (TypeAt z) (record { at = until; before = t; after = s }))
 ends_with z u t None valid limits fits h next = tt
 ends_with z u t (Some c) valid limits fits h next =
-    let later = next.inside in
     let same : t ≡ c.before = no_change z u (c.at -ℤ pos 1) t c.before valid limits fits next.is.fits_before (omega (arith, ints))
     (λ d is i. let l = next.nearest d is i.0 in let b = i.1 in omega (arith, ints)) h next.is.before in
     (c.after, rw (← same) at next.is)
@@ -196,18 +186,10 @@ no_change_within f s d h i j is = is.differ (h.each (d.at -ℤ pos 1) d.before i
 
 -- no change comes between a span's second u and another of its seconds
 no_change_up_to : (f : InForce) (s : Span) (u : ℤ) (d : Change) → IsSpan f s → IsInSpan s u → IsChange f d → d.at ≤ℤ u → IsSince s.from (d.at -ℤ pos 1) → ⊥
-no_change_up_to f s u d h i is k since = no_change_within f s d h
-    (record { fits = is.fits_before; since = since; until = sooner s.until (d.at -ℤ pos 1) u (omega (arith, ints)) i.until })
-    (record { fits = is.fits; since = later s.from d.at (d.at -ℤ pos 1) (omega (arith, ints)) since; until = sooner s.until d.at u k i.until }) is
+no_change_up_to f s u d h i is k since = grind (arith, ints)
 
 no_change_from : (f : InForce) (s : Span) (u : ℤ) (d : Change) → IsSpan f s → IsInSpan s u → IsChange f d → u <ℤ d.at → IsUntil s.until d.at → ⊥
-no_change_from f s u d h i is k until = no_change_within f s d h
-    (record {
-      fits = is.fits_before;
-      since = later s.from (d.at -ℤ pos 1) u (omega (arith, ints)) i.since;
-      until = sooner s.until (d.at -ℤ pos 1) d.at (omega (arith, ints)) until;
-    })
-    (record { fits = is.fits; since = later s.from d.at u (omega (arith, ints)) i.since; until = until }) is
+no_change_from f s u d h i is k until = grind (arith, ints)
 
 -- the change at which a span begins is the last one up to each of its seconds, and the one at which it ends is the first one after it
 begins_last : (f : InForce) (s : Span) (u : ℤ) (p : Option ℤ) → s.from ≡ p → IsSpan f s → IsInSpan s u
@@ -268,10 +250,7 @@ pub span_held : (z : Zone) (s : Span) (first end u : ℤ) → IsValid z → IsRu
 span_held z s first end u valid limits h fits from until low high =
     let begin = typed_from z s first h from in
     let last = typed_up_to z s end h until in
-    let more = last.1 in
-    let t = typed_between z first last.0 u begin.0 last.2.0 valid limits low (omega (arith, ints)) begin.1 last.2.1 in
-    let inside : IsInSpan s u = record { fits = fits; since = since_end z s.from first u from low; until = until_end z s.until end u until high } in
-    subst (TypeAt z u) (h.each u t.0 inside t.1) t.1
+    let t = typed_between z first last.0 u begin.0 last.2.0 valid limits low (omega (arith, ints)) begin.1 last.2.1 in grind (arith, ints)
 
 -- ---- the last span
 -- up to 2^62 each second from its beginning on lies in it
@@ -281,12 +260,7 @@ pub in_last_span : (z : Zone) (s : Span) (first u : ℤ) → IsValid z → IsRul
 in_last_span z s first u valid limits h from fits low most =
     let begin = typed_from z s first h.span from in
     let t = typed_between z first (pos 4_611_686_018_427_387_904) u begin.0 s.local_time_type valid limits low most begin.1 h.in_force_then in
-    let inside : IsInSpan s u = record {
-      fits = fits;
-      since = since_end z s.from first u from low;
-      until = sooner s.until u (pos 4_611_686_018_427_387_904) most h.inside.until;
-    } in
-    record { in_force_then = subst (TypeAt z u) (h.span.each u t.0 inside t.1) t.1; inside = inside; span = h.span }
+    grind (arith, ints)
 
 -- no change comes after a second of a span without an end
 pub none_after : (f : InForce) (s : Span) (u : ℤ) → IsSpanAt f u s → s.until ≡ None → HasNoChange f (λ v. u <ℤ v)

@@ -36,22 +36,14 @@ shown_joined z low middle high l a b valid h k x y = record {
 }
 
 pub pieces_joined : (z : Zone) (low middle high : ℕ) (bx by : Shown) (xs ys out : List Piece) → IsValid z → low < middle → middle < high → ArePieces z low middle bx xs → ArePieces z middle high by ys → IsMerged bx xs by ys out → ArePieces z low high (together bx by) out
-pieces_joined z low middle high bx by xs ys out valid h k a b m = record {
-  ordered = m.ordered;
-  most = let c = m.count in let p = a.most in let q = b.most in omega arith;
-  some = λ e k. let c = m.count in let p = a.some e k in omega arith;
-  answers = λ l wide. rw (m.answers l) (shown_joined z low middle high l _ _ valid (omega arith) (omega arith) (a.answers l wide) (b.answers l wide));
-}
+pieces_joined z low middle high bx by xs ys out valid h k a b m = grind (arith, shown_joined)
 
 -- ---- one segment of the table
 
 -- the segment is not the rule's
 pub own_segment : (rule : Option TransitionRule) (k n : ℕ) → k < table_count_by rule n → (k < n) ⊎ ((rule ≡ none) × (k ≡ n))
 own_segment (some rule) k n h = inl h
-own_segment none k n h = elim (cases_lt k n) [
-  | inl less ↦ inl less
-  | inr more ↦ inr (refl, omega arith)
-]
+own_segment none k n h = grind arith
 
 pub listed_once : (z : Zone) (i : ℕ) (s t : LocalType) → HasType z i s → HasType z i t → s ≡ t
 listed_once z i s t h k = cc
@@ -79,7 +71,6 @@ offset_here z k u f t valid own has e h = ap (λ (x : LocalType). x.offset) (typ
 second_of : (z : Zone) (k : ℕ) (l v : ℤ) (s t : LocalType) → IsValid z → k < table_count z → HasType z (index_of z.transitions k) t → ShownAmong z k (suc k) l v s → v ≡ l -ℤ t.offset
 second_of z k l v s t valid own has a =
     let e = offset_here z k v s t valid own has (let f = a.from in let b = a.below in omega arith) a.shows.type in
-    let h = a.shows.shown in
     omega (arith, ints)
 
 pub leap_time_of : (z : Zone) (u : ℤ) → IsValid z → IsNear u → (x : ℤ) × IsLeapTime z.leaps u x
@@ -122,14 +113,11 @@ not_begun z k s u valid start near =
 
 -- of two cuts by one offset the earlier is that of the earlier second
 pub cuts_rise : (z : Zone) (j k : ℕ) (o a b : ℤ) → (start : IsCutFrom z j o a) → (end : IsCutFrom z k o b) → a <ℤ b → start.second <ℤ end.second
-cuts_rise z j k o a b start end h = by_lt_z start.second end.second (λ m. m) (λ m.
-    let g = rw (← start.shown, ← end.shown) at (saturated_rise (end.second +ℤ o) (start.second +ℤ o) (omega (arith, ints))) in
-    absurd (omega (arith, ints)))
+cuts_rise z j k o a b start end h = grind arith
 
 -- a segment that begins before the next one has the first second from its beginning on
 first_inner : (z : Zone) (k : ℕ) (s next : ℤ) → IsValid z → IsStart z.transitions z.leaps k s → IsStart z.transitions z.leaps (suc k) next → s <ℤ next → (u : ℤ) → IsLastSecondBefore z k u → segment_of z (u +ℤ pos 1) ≡ k
 first_inner z k s next valid start end less u last =
-    let from = last.from in
     let not_yet = (not_begun z k s u valid start last.near).0 last.before in
     let until = (not_begun z (suc k) next (u +ℤ pos 1) valid end last.near_next).1 (omega (arith, ints)) in
     omega arith
@@ -141,7 +129,6 @@ AreUpTo z place latest = (u : ℤ) → IsLastSecondBefore z place u → segment_
 -- it lies before a segment that begins no earlier
 pub up_to_less : (z : Zone) (place latest : ℕ) (next s : ℤ) → IsValid z → IsStart z.transitions z.leaps place next → IsStart z.transitions z.leaps latest s → next ≤ℤ s → 0 < latest → AreUpTo z place latest → AreUpTo z place (latest - 1)
 up_to_less z place latest next s valid end start h later all u last =
-    let a = all u last in
     let not_yet = (not_begun z place next u valid end last.near).0 last.before in
     let less = (not_begun z latest s u valid start last.near).1 (omega (arith, ints)) in
     omega arith
@@ -154,7 +141,6 @@ type_latest z place latest i next valid less within is below end all earlier = r
   type = λ u f last h.
       let come = (begun z place next (u +ℤ pos 1) valid end last.near_next).0 last.from in
       let from : latest ≤ segment_of z u = ⊎_elim (λ m. let s = earlier m in let before = s.2 in (begun z latest s.0 u valid s.1 last.near).1 (omega (arith, ints))) (λ m. omega arith) (cases_lt 0 latest) in
-      let to = all u last in
       rw is (type_before z latest u f valid.transitions.rising (record { type = h; segment = omega arith }) (omega arith));
 }
 
@@ -220,9 +206,7 @@ shown_before z k x l a t valid own inner has offset wide cut h first before =
         later = later;
         first = first;
         more = λ u f last here.
-            let e = offset_here z k (u +ℤ pos 1) f t valid own has (first u last) here in
-            let from = last.from in
-            by_lt_z l ((u +ℤ pos 1) +ℤ f.offset) (λ m. m) (λ m. let r = segments_rise z (u +ℤ pos 1) (l -ℤ t.offset) valid.transitions.rising valid.leaps (omega (arith, ints)) in absurd (omega arith));
+            let e = offset_here z k (u +ℤ pos 1) f t valid own has (first u last) here in grind (arith, ints, segments_rise);
         before = before;
       };
     }
@@ -327,14 +311,7 @@ no_pieces_by_rule z rule i t n e has = record {
 pub no_pieces_by_type : (z : Zone) (i : ℕ) (t : LocalType) → IsValid z → length z.transitions ≡ 0 → z.rule ≡ none → i ≡ index_of z.transitions 0 → HasType z i t → IsUtOffset t.offset → IsIndex z (record { before = Once i; pieces = []; rule_from = neg_ℤ (pos 9_223_372_036_854_775_808) })
 no_pieces_by_type z i t valid n e of has offset =
     let r : table_count z ≡ 1 = rw e (ap suc n) in
-    let p = only_pieces z i t valid (omega arith) n of has offset in
-    record {
-      most = omega arith;
-      some = λ k. absurd (omega arith);
-      order = search arith;
-      answers = λ l wide. rw r (p.answers l wide);
-      rule_from = none_index z (neg_ℤ (pos 9_223_372_036_854_775_808)) n (omega (arith, ints));
-    }
+    let p = only_pieces z i t valid (omega arith) n of has offset in grind arith
 
 -- ---- the types of indexes
 

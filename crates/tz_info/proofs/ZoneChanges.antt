@@ -22,10 +22,7 @@ refused_on es u v y valid h r l =
     let b = bounded (pos 0) (pos 0) u es r.place (follow es valid) (λ d k. let f = (valid.first d k).since_epoch in omega (arith, ints)) r.passed in
     let a = b.later in let n = b.least in
     let more : passed_count es u ≤ passed_count es v =
-    sum_by-le-sum_by (λ t. cond (int_le t u) 1 0) (λ t. cond (int_le t v) 1 0) (thresholds (pos 0) es) (λ t. one_counted t u v h) in
-    let p = r.passed in
-    let fits = l.fits r.place (omega arith) in
-    r.leaves (omega (arith, ints))
+    sum_by-le-sum_by (λ t. cond (int_le t u) 1 0) (λ t. cond (int_le t v) 1 0) (thresholds (pos 0) es) (λ t. one_counted t u v h) in grind arith
 
 -- so has each second of the years that a rule answers in
 pub rule_leap_time : (es : List LeapSecond) (u : ℤ) → AreLeapSeconds es → IsRuleTime u → (x : ℤ) × IsLeapTime es u x
@@ -34,8 +31,7 @@ rule_leap_time es u valid within = elim (leap_time_decided es u) [
   | inr r ↦
       let low = within.0 in let high = within.1 in
       let b = bounded (pos 0) (pos 0) u es r.place (follow es valid) (λ d l. let f = (valid.first d l).since_epoch in omega (arith, ints)) r.passed in
-      let a = b.later in let m = b.most in let n = b.least in
-      absurd (r.leaves (omega (arith, ints)))
+      let a = b.later in let m = b.most in grind arith
 ]
 
 -- ---- segments
@@ -67,8 +63,7 @@ no_change_alike : (z : Zone) (d : Change) (first last : ℕ) → IsValid z → l
 no_change_alike z d first last valid some alike is a b c e =
     let before = type_before z (segment_of z (d.at -ℤ pos 1)) (d.at -ℤ pos 1) d.before valid.transitions.rising (record { type = is.before; segment = refl }) (omega arith) in
     let after = type_before z (segment_of z d.at) d.at d.after valid.transitions.rising (record { type = is.after; segment = refl }) (omega arith) in
-    is.differ (some_once (slice_get z.types (index_of z.transitions first)) d.before d.after (sym (alike (segment_of z (d.at -ℤ pos 1)) a b) ∙ before)
-    (sym (alike (segment_of z d.at) c e) ∙ after))
+    grind arith
 
 -- ---- the next change of the table
 -- each of the table's changes after that second comes with the transition at that place, or later
@@ -87,11 +82,7 @@ not_come z place c some is comes =
     elim (cases_lt place (segment_of z (c.at -ℤ pos 1))) [ inl k ↦ let b = come.0 k in absurd (omega (arith, ints)) | inr m ↦ omega arith ]
 
 pub yet_come : (z : Zone) (after : ℤ) (place : ℕ) → IsValid z → AreComeOrAll z after place → AreYet z after place
-yet_come z after place valid (inl come) d is inside =
-    let n = come.is in let later = inside.inside in
-    let r = segments_rise z after (d.at -ℤ pos 1) valid.transitions.rising valid.leaps (omega (arith, ints)) in
-    let c = changes_segment z d valid is (inl inside.table) in
-    omega arith
+yet_come z after place valid (inl come) d is inside = grind (arith, ints, segments_rise, changes_segment)
 yet_come z after place valid (inr r) d is inside = absurd (refused_after z after valid r.0 d is inside)
 
 -- nor do they come with the next ones, if these change nothing
@@ -139,10 +130,7 @@ none_there z place start valid some comes none d is low high = none d is (comes_
 
 -- ---- behind the last transition
 last_too : (z : Zone) (u : ℤ) → IsValid z → segment_of z (u -ℤ pos 1) ≡ length z.transitions → segment_of z u ≡ length z.transitions
-last_too z u valid e =
-    let r = segments_rise z (u -ℤ pos 1) u valid.transitions.rising valid.leaps (omega (arith, ints)) in
-    let m = segment_most z u valid.transitions.rising in
-    omega arith
+last_too z u valid e = grind (arith, segments_rise, segment_most)
 
 pub not_alternate : (rule : Option TransitionRule) → ((a : AlternateRule) → rule ≡ Some (Alternate a) → ⊥) → IsSteady rule
 not_alternate None not = tt
@@ -152,11 +140,7 @@ not_alternate (Some (Alternate a)) not = not a refl
 -- without a rule of two types nothing changes there
 pub steady : (z : Zone) (within : ℤ → Type 0) → IsValid z → ((a : AlternateRule) → z.rule ≡ Some (Alternate a) → ⊥)
     → HasNoChange (TypeAt z) (IsChangeByRule z within)
-steady z within valid not d is inside =
-    let e = inside.by_rule in
-    let l = changes_segment z d valid is (inr (not_alternate z.rule not, e)) in
-    let m = segment_most z d.at valid.transitions.rising in
-    omega arith
+steady z within valid not d is inside = grind (arith, changes_segment, segment_most)
 
 pub to_rule : (z : Zone) (a : AlternateRule) (u : ℤ) (t : LocalType) → IsValid z → z.rule ≡ Some (Alternate a) → segment_of z u ≡ length z.transitions → TypeAt z u t → AlternateAt a u t
 to_rule z a u t valid rule e k = rw rule at (type_from z u t valid.transitions.rising (record { type = k; segment = e }))
@@ -165,13 +149,7 @@ of_rule_or : (z : Zone) (a : AlternateRule) (u : ℤ) (i : ℕ) (t : LocalType) 
 of_rule_or z a u i t rule k = rw rule k
 
 by_rule_alone : (z : Zone) (a : AlternateRule) (u : ℤ) (t : LocalType) → z.rule ≡ Some (Alternate a) → length z.transitions ≡ 0 → AlternateAt a u t → TypeAt z u t
-by_rule_alone z a u t rule none k =
-    let f = no_items z.transitions none in
-    record {
-      leap_time = u;
-      of_second = λ p. absurd (omega arith);
-      in_force = record { before_last = λ q. absurd (omega arith); from_last = λ _. rw f (of_rule_or z a u 0 t rule k) };
-    }
+by_rule_alone z a u t rule none k = grind arith
 
 pub from_rule : (z : Zone) (a : AlternateRule) (u : ℤ) (t : LocalType) → IsValid z → z.rule ≡ Some (Alternate a) → segment_of z u ≡ length z.transitions → AlternateAt a u t → TypeAt z u t
 from_rule z a u t valid rule e k = elim (cases_lt 0 (length z.transitions)) [
@@ -206,16 +184,7 @@ by_rule : (z : Zone) (a : AlternateRule) (begin : ℤ) (d : Change) → IsValid 
     → (IsChange (TypeAt z) d × (segment_of z (d.at -ℤ pos 1) ≡ length z.transitions)) ↔ (IsChange (AlternateAt a) d × (begin <ℤ d.at))
 by_rule z a begin d valid rule h = (
   λ k.
-      let is = k.0 in let b = begun z begin (d.at -ℤ pos 1) d.before valid h is.fits_before is.before k.1 in (
-        record {
-          fits = is.fits;
-          fits_before = is.fits_before;
-          before = to_rule z a (d.at -ℤ pos 1) d.before valid rule k.1 is.before;
-          after = to_rule z a d.at d.after valid rule (last_too z d.at valid k.1) is.after;
-          differ = is.differ;
-        },
-        omega (arith, ints),
-      ),
+      let is = k.0 in let b = begun z begin (d.at -ℤ pos 1) d.before valid h is.fits_before is.before k.1 in grind (arith, to_rule, last_too),
   λ k.
       let is = k.0 in let l = k.1 in
       let e = begins z begin (d.at -ℤ pos 1) valid h (rule_second a (d.at -ℤ pos 1) d.before is.before) (omega (arith, ints)) in (
@@ -240,18 +209,11 @@ rule_found z a w s begin found valid rule h =
 -- where none of those seconds comes after `begin`, no change comes at one behind the last transition
 pub none_begun : (z : Zone) (within : ℤ → Type 0) (begin : ℤ) → IsValid z → IsBegin z begin → ((u : ℤ) → SFits w64 u → within u → u ≤ℤ begin) → HasNoChange (TypeAt z) (IsChangeByRule z within)
 none_begun z within begin valid h most d is inside =
-    let b = begun z begin (d.at -ℤ pos 1) d.before valid h is.fits_before is.before inside.by_rule in
-    let m = most d.at is.fits inside.inside in
-    omega (arith, ints)
+    let b = begun z begin (d.at -ℤ pos 1) d.before valid h is.fits_before is.before inside.by_rule in grind arith
 
 -- ---- the table's changes come before the rule's
 in_either : (z : Zone) (within : ℤ → Type 0) (u : ℤ) → IsValid z → within u → IsInTable z within u ⊎ IsChangeByRule z within u
-in_either z within u valid inside =
-    let m = segment_most z (u -ℤ pos 1) valid.transitions.rising in
-    elim (cases_lt (segment_of z (u -ℤ pos 1)) (length z.transitions)) [
-      | inl l ↦ inl (record { inside = inside; table = l })
-      | inr k ↦ inr (record { inside = inside; by_rule = omega arith })
-    ]
+in_either z within u valid inside = grind (arith, segment_most)
 
 table_sooner : (z : Zone) (within : ℤ → Type 0) (u v : ℤ) → IsValid z → IsInTable z within u → IsChangeByRule z within v → u ≤ℤ v
 table_sooner z within u v valid t r =
@@ -276,23 +238,15 @@ rule_first z within found valid none =
 pub comes_at : (z : Zone) (place : ℕ) (t : Transition) (start : ℤ) → IsValid z → place < length z.transitions → t ≡ get_or z.transitions place t
     → ((u y : ℤ) → IsLeapTime z.leaps u y → (t.unix_leap_time ≤ℤ y) ↔ (start ≤ℤ u)) → ComesAt z place start
 comes_at z place t start valid h item reached u y l =
-    let come = come_by_time z.transitions y place t valid.transitions.rising h in
-    let segment = come_at_time z u y l in
-    let time = ap (λ (s : Transition). s.unix_leap_time) item in
-    let here = reached u y l in
-    ((λ g. here.0 (rw time (come.0 (omega arith)))), (λ g. let c = come.1 (rw (← time) (here.1 g)) in omega arith))
+    let come = come_by_time z.transitions y place t valid.transitions.rising h in grind (arith, come_at_time)
 
 -- ---- the previous change of the table
 pub ahead_first : (z : Zone) (last : ℤ) (count : ℕ) → IsValid z → AreComeAt z last count → AreAhead z last count
 ahead_first z last count valid h =
-    let n = h.is in
     let most = segment_most z last valid.transitions.rising in
     record {
       within = omega arith;
-      ahead = λ d is up_to table.
-          let c = changes_segment z d valid is (inl table) in
-          let r = segments_rise z d.at last valid.transitions.rising valid.leaps up_to in
-          omega arith;
+      ahead = λ d is up_to table. grind (arith, changes_segment, segments_rise);
       come = λ place start y below comes k. (comes last h.leap_time h.of_second).0 (omega arith);
     }
 
@@ -315,11 +269,9 @@ pub ahead_less : (z : Zone) (last : ℤ) (place left : ℕ) → IsValid z → Ar
     → HaveOneType z.transitions z.types left place
     → AreAhead z last left
 ahead_less z last place left valid h none low alike =
-    let w = h.within in
     record {
       within = omega arith;
       ahead = λ d is up_to table.
-          let a = h.ahead d is up_to table in
           let c = changes_segment z d valid is (inl table) in
           elim (cases_lt (segment_of z (d.at -ℤ pos 1)) left) [
             | inl l ↦ l
@@ -336,13 +288,11 @@ ahead_none z last h d is inside = let a = h.ahead d is inside.inside inside.tabl
 
 pub table_last : (z : Zone) (last : ℤ) (place : ℕ) (c : Change) → IsValid z → AreAhead z last (place + 1) → IsChange (TypeAt z) c → ComesAt z place c.at → IsLastChange (TypeAt z) (IsInTable z (λ u. u ≤ℤ last)) c
 table_last z last place c valid h is comes =
-    let w = h.within in
     let up_to = h.come place c.at is.after.leap_time (omega arith) comes (time_of z c.at c.after (omega arith) is.after) in
     record {
       is = is;
       inside = record { inside = up_to; table = not_come z place c (omega arith) is comes };
       nearest = λ d is_d inside.
-          let a = h.ahead d is_d inside.inside inside.table in
           let come = comes (d.at -ℤ pos 1) is_d.before.leap_time (time_of z (d.at -ℤ pos 1) d.before (omega arith) is_d.before) in
           by_lt_z c.at d.at (λ less. let k = come.1 (omega (arith, ints)) in absurd (omega arith)) (λ m. m);
     }
@@ -378,7 +328,6 @@ pub reached_exactly : (es : List LeapSecond) (x u y p q : ℤ) (n : ℕ) (d : Le
     → IsLeapTime es u y → (x ≤ℤ y) ↔ ((((get_or es (n - 1) d).unix_leap_time -ℤ p) ≤ℤ u) × ((x -ℤ q) ≤ℤ u))
 reached_exactly es x u y p q zero d valid h some e f l = absurd (omega arith)
 reached_exactly es x u y p q (suc m) d valid h some e f l =
-    let w = h.within in
     let one : suc m - 1 ≡ m = omega arith in
     let t = threshold_at (pos 0) es m d (pos 0) (omega arith) in
     let g : p ≡ correction_behind es m = rw one at e in
