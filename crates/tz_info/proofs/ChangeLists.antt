@@ -15,10 +15,7 @@ empty (c ∷ cs) none = absurd (none c (0, omega arith, refl))
 
 -- ---- how lists are made
 pub no_changes : (f : InForce) (from until : ℤ) → HasNoChange f (IsFromUntil from until) → AreChanges f from until []
-no_changes f from until none = record {
-  rising = λ i j d l k. absurd (omega arith);
-  each = λ c. (λ inside. absurd (contains_none c inside), λ k. absurd (none c k.0 k.1));
-}
+no_changes f from until none = grind arith
 
 -- changes at one second are one
 abbrev pub AreApart : InForce → Type 0
@@ -41,15 +38,7 @@ then_here f from last c cs apart is at low h = record {
 
 -- where no change comes at the last second, the list is that of those before it
 pub same_without : (f : InForce) (from last : ℤ) (cs : List Change) → HasNoChange f (λ u. u ≡ last) → AreChanges f from last cs → AreChanges f from (last +ℤ pos 1) cs
-same_without f from last cs none h = record {
-  rising = h.rising;
-  each = λ d. (
-    λ inside. let k = (h.each d).0 inside in let l = k.1.1 in (k.0, (k.1.0, omega (arith, ints, l))),
-    λ k. by_lt_z d.at last
-        (λ less. (h.each d).1 (k.0, (k.1.0, less)))
-        (λ more. let l = k.1.1 in absurd (none d k.0 (omega (arith, ints, l, more)))),
-  );
-}
+same_without f from last cs none h = grind (arith, ints)
 
 -- ---- the list that is made second by second
 abbrev one_change : ℤ → LocalType → LocalType → Change
@@ -75,9 +64,7 @@ changes_made f types from (suc n) once told =
 
 until_is : (from until : ℤ) → from ≤ℤ until → from +ℤ pos (seconds_between from until) ≡ until
 unfolding seconds_between
-until_is from until late = by_lt_z from until
-    (λ less. rw (lt_true from until less) (omega (arith, ints, less)))
-    (λ more. rw (lt_false from until more) (omega (arith, ints, late, more)))
+until_is from until late = grind arith
 
 none_between : (from until : ℤ) → until ≤ℤ from → seconds_between from until ≡ 0
 unfolding seconds_between
@@ -143,9 +130,7 @@ steps_last s t c valid limits h e =
 pub steps_none : (s : Changes) → IsValid s.zone.now → IsRuleOrNone s.zone.now.rule → HasNoChange (TypeAt s.zone.now) (IsInStretch s.after s.last)
     → changes_left s ≡ []
 unfolding changes_left
-steps_none s valid limits none =
-    none_left s.zone.now (s.after +ℤ pos 1) (s.last +ℤ pos 1) valid limits
-    (λ d is k. let l = k.0 in let u = k.1 in none d is (omega (arith, ints), omega (arith, ints)))
+steps_none s valid limits none = grind (arith, ints, none_left)
 
 -- ---- the changes from one second on and before another
 -- of the seconds after the first one of 64 bits, before which no change comes, exactly those from `from` on come after `after`
@@ -154,14 +139,7 @@ IsBefore after from = (u : ℤ) → least_time <ℤ u → (after <ℤ u) ↔ (fr
 
 same_stretch : (after last from until u : ℤ) → least_time <ℤ u → IsBefore after from → IsBefore last until
     → IsFromUntil (after +ℤ pos 1) (last +ℤ pos 1) u ↔ IsFromUntil from until u
-same_stretch after last from until u some before end =
-    let b = before u some in let e = end u some in (
-      λ k. let l = k.0 in let h = k.1 in (b.0 (omega (arith, ints)), by_lt_z u until (λ m. m) (λ m. let n = e.1 m in absurd (omega (arith, ints)))),
-      λ k. let l = b.1 k.0 in let h = k.1 in (
-        omega (arith, ints),
-        by_lt_z u (last +ℤ pos 1) (λ m. m) (λ m. let n = e.0 (omega (arith, ints)) in absurd (omega (arith, ints))),
-      ),
-    )
+same_stretch after last from until u some before end = grind (arith, ints)
 
 pub all_left : (s : Changes) (from until : ℤ) → IsValid s.zone.now → IsRuleOrNone s.zone.now.rule → IsBefore s.after from → IsBefore s.last until
     → AreChanges (TypeAt s.zone.now) from until (changes_left s)
@@ -169,11 +147,7 @@ unfolding changes_left
 all_left s from until valid limits before end =
     let all = changes_are s.zone.now (s.after +ℤ pos 1) (s.last +ℤ pos 1) valid limits in
     let same : (c : Change) → IsChange (TypeAt s.zone.now) c → IsFromUntil (s.after +ℤ pos 1) (s.last +ℤ pos 1) c.at ↔ IsFromUntil from until c.at =
-    λ c is. let fits = is.fits_before in same_stretch s.after s.last from until c.at (omega (arith, ints)) before end in
-    record {
-      rising = all.rising;
-      each = λ c. (λ inside. let k = (all.each c).0 inside in (k.0, (same c k.0).0 k.1), λ k. (all.each c).1 (k.0, (same c k.0).1 k.1));
-    }
+    λ c is. let fits = is.fits_before in same_stretch s.after s.last from until c.at (omega (arith, ints)) before end in grind arith
 
 -- without its last element a list is shorter
 pub shorter : (cs ds : List Change) (c : Change) → cs ≡ ds ++ c ∷ [] → length ds < length cs

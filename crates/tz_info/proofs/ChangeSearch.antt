@@ -14,12 +14,7 @@ none_of f seconds after last d is one = let b = one.below in omega arith
 
 -- one of the first n, or the one at place n
 one_more : (seconds : List ℤ) (n : ℕ) (after last u : ℤ) → IsOneOf seconds (n + 1) after last u → IsOneOf seconds n after last u ⊎ ((get_or seconds n (pos 0) ≡ u) × IsInStretch after last u)
-one_more seconds n after last u one =
-    let b = one.below in
-    elim (cases_lt one.place n) [
-      | inl l ↦ inl (record { place = one.place; below = l; is = one.is; inside = one.inside })
-      | inr m ↦ let e : one.place ≡ n = omega arith in inr (rw e at one.is, one.inside)
-    ]
+one_more seconds n after last u one = grind arith
 
 one_still : (seconds : List ℤ) (n : ℕ) (after last u : ℤ) → IsOneOf seconds n after last u ⊎ ((get_or seconds n (pos 0) ≡ u) × IsInStretch after last u) → IsOneOf seconds (n + 1) after last u
 one_still seconds n after last u (inl one) = let b = one.below in record { place = one.place; below = omega arith; is = one.is; inside = one.inside }
@@ -29,21 +24,15 @@ one_still seconds n after last u (inr here) = record { place = n; below = omega 
 pub nearest_moved : (w : Bool) (f g : InForce) (p q : ℤ → Type 0) (found : Option Change) → ((d : Change) → IsChange g d → q d.at → IsChange f d × p d.at) → ((d : Change) → IsChange f d → p d.at → IsChange g d × q d.at)
     → IsNearest w f p found → IsNearest w g q found
 nearest_moved w f g p q None to from h = λ d is k. let m = to d is k in h d m.0 m.1
-nearest_moved w f g p q (Some c) to from h =
-    let m = from c h.is h.inside in
-    record { is = m.0; inside = m.1; nearest = λ d is k. let n = to d is k in h.nearest d n.0 n.1 }
+nearest_moved w f g p q (Some c) to from h = grind arith
 
 -- of the nearest change of some seconds and that of others the one that comes first is the nearest one of all
 nearest_either : (w : Bool) (f : InForce) (p q : ℤ → Type 0) (found other : Option Change) → IsNearest w f p found → IsNearest w f q other → IsNearest w f (λ u. p u ⊎ q u) (nearer_one w found other)
 nearest_either w f p q None None h k = λ d is. ⊎_elim (h d is) (k d is)
 nearest_either w f p q None (Some d) h k = record { is = k.is; inside = inr k.inside; nearest = λ e is. ⊎_elim (λ i. absurd (h e is i)) (k.nearest e is) }
 nearest_either w f p q (Some c) None h k = record { is = h.is; inside = inl h.inside; nearest = λ e is. ⊎_elim (h.nearest e is) (λ i. absurd (k e is i)) }
-nearest_either true f p q (Some c) (Some d) h k = by_lt_z d.at c.at
-    (λ less. rw (lt_true d.at c.at less) (record { is = k.is; inside = inr k.inside; nearest = λ e is. ⊎_elim (λ i. let n = h.nearest e is i in omega (arith, ints)) (k.nearest e is) }))
-    (λ m. rw (lt_false d.at c.at m) (record { is = h.is; inside = inl h.inside; nearest = λ e is. ⊎_elim (h.nearest e is) (λ i. let n = k.nearest e is i in omega (arith, ints)) }))
-nearest_either false f p q (Some c) (Some d) h k = by_lt_z c.at d.at
-    (λ less. rw (lt_true c.at d.at less) (record { is = k.is; inside = inr k.inside; nearest = λ e is. ⊎_elim (λ i. let n = h.nearest e is i in omega (arith, ints)) (k.nearest e is) }))
-    (λ m. rw (lt_false c.at d.at m) (record { is = h.is; inside = inl h.inside; nearest = λ e is. ⊎_elim (h.nearest e is) (λ i. let n = k.nearest e is i in omega (arith, ints)) }))
+nearest_either true f p q (Some c) (Some d) h k = grind (arith, ints)
+nearest_either false f p q (Some c) (Some d) h k = grind (arith, ints)
 
 precedes_itself : (w : Bool) (x y : ℤ) → x ≡ y → Precedes w x y
 precedes_itself true x y e = omega (arith, ints)
@@ -69,14 +58,8 @@ nearest_more w f seconds n after last found other told h =
 -- the stretch ahead of a second
 in_ahead : (w : Bool) (begin s after last u : ℤ) → SFits w64 u → IsStretchAhead w begin s after last → IsInStretch after last u ↔ ((begin <ℤ u) × IsAhead w s u)
 in_ahead true begin s after last u fits e =
-    let l = e.0 (u -ℤ pos 1) in let m = e.1 in (
-      λ k. let a = k.0 in let both = l.0 (omega (arith, ints)) in let b = both.0 in let c = both.1 in (omega (arith, ints), omega (arith, ints)),
-      λ k. let b = k.0 in let c = k.1 in let a = l.1 (omega (arith, ints), omega (arith, ints)) in (omega (arith, ints), omega (arith, ints)),
-    )
-in_ahead false begin s after last u fits e = let l = e.0 in let m = e.1 in (
-  (λ k. let a = k.0 in let b = k.1 in (omega (arith, ints), omega (arith, ints))),
-  (λ k. let a = k.0 in let b = k.1 in (omega (arith, ints), omega (arith, ints))),
-)
+    let l = e.0 (u -ℤ pos 1) in grind (arith, ints)
+in_ahead false begin s after last u fits e = let l = e.0 in grind arith
 
 -- its nearest change is the nearest one ahead of the second, of those after `begin`
 pub nearest_ahead : (w : Bool) (f : InForce) (begin s after last : ℤ) (found : Option Change) → IsStretchAhead w begin s after last
@@ -87,9 +70,7 @@ nearest_ahead w f begin s after last found e = nearest_moved w f f (IsInStretch 
 
 pub nearest_of_all : (w : Bool) (f : InForce) (s : ℤ) (found : Option Change)
     → IsNearest w f (λ u. (neg_ℤ (pos 9_223_372_036_854_775_808) <ℤ u) × IsAhead w s u) found → IsNearest w f (IsAhead w s) found
-nearest_of_all w f s found = nearest_moved w f f (λ u. (neg_ℤ (pos 9_223_372_036_854_775_808) <ℤ u) × IsAhead w s u) (IsAhead w s) found
-    (λ d is k. let m = is.fits_before in (is, (omega (arith, ints), k)))
-    (λ d is k. (is, k.1))
+nearest_of_all w f s found = grind (arith, ints)
 
 -- the seconds of a stretch are ahead of where it begins, and so are those before a second of it
 ahead_within : (w : Bool) (after last u : ℤ) → IsInStretch after last u → IsAhead w (near_end w after last) u
@@ -105,10 +86,8 @@ pub nearest_within : (w : Bool) (f : InForce) (after last : ℤ) (found r : Opti
     → MatchOption r (IfSome found (λ c. IsInStretch after last c.at → ⊥)) (λ c. IsInStretch after last c.at × (found ≡ Some c))
     → IsNearest w f (IsInStretch after last) r
 nearest_within w f after last None None h out = λ d is k. h d is (ahead_within w after last d.at k)
-nearest_within w f after last (Some c) None h out = λ d is k. out
-    (within_too w after last c.at d.at h.inside (h.nearest d is (ahead_within w after last d.at k)) k)
-nearest_within w f after last found (Some c) h within = let k = rw within.1 at h in
-    record { is = k.is; inside = within.0; nearest = λ d is i. k.nearest d is (ahead_within w after last d.at i) }
+nearest_within w f after last (Some c) None h out = λ d is k. grind arith
+nearest_within w f after last found (Some c) h within = grind arith
 
 -- where the stretch is empty, it has none
 pub none_in_empty : (f : InForce) (after last : ℤ) → last ≤ℤ after → HasNoChange f (IsInStretch after last)
@@ -121,10 +100,7 @@ IsOnce f = (u : ℤ) (s t : LocalType) → f u s → f u t → s ≡ t
 
 pub change_made : (f : InForce) (second : ℤ) (s t : LocalType) (r : Option Change) → IsOnce f → SFits w64 second → SFits w64 (second -ℤ pos 1) → f (second -ℤ pos 1) s → f second t
     → MatchOption r (s ≡ t) (λ c. (s ≢ t) × (c ≡ record { at = second; before = s; after = t })) → MatchOption r (HasNoChange f (λ u. u ≡ second)) (λ c. IsChange f c × (c.at ≡ second))
-change_made f second s t None once fits fits_before h k e = λ d is at.
-    let b : d.before ≡ s = once (second -ℤ pos 1) d.before s (rw at at is.before) h in
-    let a : d.after ≡ t = once second d.after t (rw at at is.after) k in
-    is.differ (b ∙ e ∙ sym a)
+change_made f second s t None once fits fits_before h k e = grind arith
 change_made f second s t (Some c) once fits fits_before h k e = rw e.1 (record { fits = fits; fits_before = fits_before; before = h; after = k; differ = e.0 }, refl)
 
 -- the second before is none of 64 bits

@@ -19,12 +19,7 @@ closed_day_by : (form : DayForm) (year : ℤ) → closed_day form year ≡ year_
 unfolding closed_day place_by
 closed_day_by (Julian1 n) year = refl
 closed_day_by (Julian0 n) year = refl
-closed_day_by (MonthWeekday month week weekday) year =
-    let n = days_of_months (is_leap year) (month - 1) in
-    let first = first_of_month year month in
-    let falls : weekday_of (day_number year month 1) ≡ (weekday_of (year_start year) + n) % 7 = ap weekday_of first ∙ weekday_later (year_start year) n in
-    ap (λ f. day_number year month 1 +ℤ pos (weekday_place (days_in_month (is_leap year) month) f week weekday)) falls
-    ∙ sum_on (day_number year month 1) (year_start year) n _ first
+closed_day_by (MonthWeekday month week weekday) year = grind (arith, first_of_month, weekday_later, sum_on)
 
 rule_day_by : (form : DayForm) (year : ℤ) → IsRuleDay form → rule_day form year ≡ year_start year +ℤ pos (place_by form (is_leap year) (weekday_of (year_start year)))
 rule_day_by form year fits = rule_day_closed form year fits ∙ closed_day_by form year
@@ -82,10 +77,7 @@ order_is true start end h = h
 order_is false start end h = let less : end <ℤ start = grind (arith, ints) in le_false start end less
 
 calm_is : (start_first : Bool) (start end : ℤ) → is_calm start_first start end ≡ true → IsCalm start_first start end
-calm_is start_first start end h =
-    let parts = and_parts (is_inside start && is_inside end) (cond start_first (int_le start end) (int_lt end start)) h in
-    let both = and_parts (is_inside start) (is_inside end) parts.0 in
-    record { start_in = inside_is start both.0; end_in = inside_is end both.1; order = order_is start_first start end parts.1 }
+calm_is start_first start end h = grind arith
 
 -- where all kinds are calm, each year is
 calm_year : (a : Alternate) (starts ends : List ℤ) (year : ℤ) → IsAlternateRule a → starts ≡ seconds_by_kind a.start a.std.offset → ends ≡ seconds_by_kind a.end a.dst.offset → are_calm starts ends ≡ true
@@ -99,17 +91,10 @@ calm_year a starts ends year rule e f all =
     rw (start, end) at calm
 
 shifted : (x y base : ℤ) → int_le (x -ℤ base) (y -ℤ base) ≡ int_le x y
-shifted x y base = by_lt_z y x
-    (λ less. let far : (y -ℤ base) <ℤ (x -ℤ base) = omega (arith, floors) in le_false (x -ℤ base) (y -ℤ base) far ∙ sym (le_false x y less))
-    (λ order. let near : (x -ℤ base) ≤ℤ (y -ℤ base) = omega (arith, floors) in le_true (x -ℤ base) (y -ℤ base) near ∙ sym (le_true x y order))
+shifted x y base = grind arith
 
 margin_by : (a : Alternate) (starts ends : List ℤ) (margin : ℤ) (calm : Bool) → IsAlternateRule a → starts ≡ seconds_by_kind a.start a.std.offset → ends ≡ seconds_by_kind a.end a.dst.offset → are_calm starts ends ≡ calm → margin ≡ cond calm (pos 172_800) (neg_ℤ (pos 691_200)) → IsMargin a margin
-margin_by a starts ends margin false rule e f all is = rw is (record {
-  start = near_margin (start_in a) (starts_near a rule);
-  end = near_margin (end_in a) (ends_near a rule);
-  order = inl refl;
-  bound = (omega (arith, floors), omega (arith, floors));
-})
+margin_by a starts ends margin false rule e f all is = grind (arith, near_margin, starts_near, ends_near)
 margin_by a starts ends margin true rule e f all is =
     let first = int_le (get_or starts 0 (pos 0)) (get_or ends 0 (pos 0)) in
     let ordered : (year : ℤ) → int_le (start_in a year) (end_in a year) ≡ first = λ year. sym (shifted (start_in a year) (end_in a year) (pos 86_400 *ℤ year_start year)) ∙ (calm_year a starts ends year rule e f all).order in

@@ -58,9 +58,7 @@ earlier_known : (a b : Transition) → Known (a.unix_leap_time <ℤ b.unix_leap_
 earlier_known a b = known (int_lt a.unix_leap_time b.unix_leap_time) (lt_is a.unix_leap_time b.unix_leap_time, lt_true a.unix_leap_time b.unix_leap_time)
 
 later_and_step_known : (earliest time a b : ℤ) → Known ((earliest ≤ℤ time) × IsOneStep a b)
-later_and_step_known earliest time a b =
-    both_known (known (int_le earliest time) (le_is earliest time, le_true earliest time))
-    (known _ (Decides-or _ _ (Decides-int_eq b (a +ℤ pos 1)) (Decides-int_eq b (a -ℤ pos 1))))
+later_and_step_known earliest time a b = grind arith
 
 leaps_known : (leaps : List LeapSecond) → Known (AreLeapSeconds leaps)
 leaps_known [] = inl (record { first = λ d l. absurd (omega (arith, l)); next = λ k d l. absurd (omega (arith, l)) })

@@ -56,15 +56,12 @@ pub not_later : (firsts : ℤ → ℤ) (u year other : ℤ) → IsNear firsts �
 not_later firsts u year other near of_second from = by_lt_z (year +ℤ pos 1) other
     (λ more.
     let far = year_after (year +ℤ pos 1) other more in
-    let low = near.low other in let high = second_high u year of_second in
-    absurd (omega (arith, floors)))
+    let low = near.low other in grind (arith, ints, floors))
     (λ h. h)
 
 -- moments that enclose a second are those of one of three years
 pub place : (year other : ℤ) → (year -ℤ pos 1) ≤ℤ other → other ≤ℤ (year +ℤ pos 1) → (other ≡ year -ℤ pos 1) ⊎ ((other ≡ year) ⊎ (other ≡ year +ℤ pos 1))
-place year other low high = by_lt_z other year
-    (λ less. inl (omega (arith, floors)))
-    (λ not_less. inr (by_lt_z year other (λ more. inr (omega (arith, floors))) (λ not_more. inl (omega (arith, floors)))))
+place year other low high = grind arith
 
 between_true : (first last u : ℤ) → first ≤ℤ u → u <ℤ last → is_between first last u ≡ true
 between_true first last u from before = grind (arith, ints)
@@ -91,10 +88,7 @@ pub record KeepsMargin (moments : ℤ → ℤ) (margin : ℤ) : Type 0 where
   pub high : (year : ℤ) → moments year ≤ℤ (pos 86_400 *ℤ (year_start year +ℤ pos 365) -ℤ margin)
 
 pub near_margin : (moments : ℤ → ℤ) → IsNear moments → KeepsMargin moments (neg_ℤ (pos 691_200))
-near_margin moments near = record {
-  low = λ year. let low = near.low year in omega (arith, floors);
-  high = λ year. let high = near.high year in omega (arith, floors);
-}
+near_margin moments near = grind arith
 
 -- the second lies no further outside the year than its neighbours' moments lie inside theirs
 abbrev pub IsBeside : ℤ → ℤ → ℤ → Type 0
@@ -113,16 +107,10 @@ own_year firsts lasts margin year u other first last beside from before =
 
 -- a test that finds what some year has, with the start first or the end first
 pub by_start : (starts ends : ℤ → ℤ) (year u : ℤ) (dst : Bool) → starts year ≤ℤ ends year → (dst ≡ true → IsInSomeYear starts ends u) → (IsInSomeYear starts ends u → dst ≡ true) → IsDstAt starts ends year u dst
-by_start starts ends year u dst order found all = record {
-  start_first = λ _. (found, all);
-  end_first = λ less. absurd (omega (arith, ints));
-}
+by_start starts ends year u dst order found all = grind arith
 
 pub by_end : (starts ends : ℤ → ℤ) (year u : ℤ) (dst std : Bool) → ends year <ℤ starts year → dst ≡ not std → (std ≡ true → IsInSomeYear ends starts u) → (IsInSomeYear ends starts u → std ≡ true) → IsDstAt starts ends year u dst
-by_end starts ends year u dst std order is found all = record {
-  start_first = λ less. absurd (omega (arith, ints));
-  end_first = λ _. rw is (λ t. found (not-false std t), λ some. ap not (all some));
-}
+by_end starts ends year u dst std order is found all = grind arith
 
 by_own : (firsts lasts : ℤ → ℤ) (margin year u : ℤ) → KeepsMargin firsts margin → KeepsMargin lasts margin → IsBeside margin year u → Decides (is_between (firsts year) (lasts year) u) (IsInSomeYear firsts lasts u)
 by_own firsts lasts margin year u first last beside = Decides-like _ (λ h. (year, h.0, h.1))
@@ -134,15 +122,7 @@ lt_is a b h = grind (arith, ints)
 -- such tests decide, where moments come in their order in the second's own year
 dst_by : (starts ends : ℤ → ℤ) (year own u : ℤ) (dst first last : Bool) → int_le (starts own) (ends own) ≡ int_le (starts year) (ends year) → dst ≡ cond (int_le (starts year) (ends year)) first (not last)
     → Decides first (IsInSomeYear starts ends u) → Decides last (IsInSomeYear ends starts u) → IsDstAt starts ends own u dst
-dst_by starts ends year own u dst first last same is on off =
-    by_lt_z (ends year) (starts year)
-    (λ less.
-    let t = le_false (starts year) (ends year) less in
-    by_end starts ends own u dst last (lt_is (starts own) (ends own) (same ∙ t)) (rw t at is) off.0 off.1)
-    (λ order.
-    let t = le_true (starts year) (ends year) order in
-    let own_is : dst ≡ first = rw t at is in
-    by_start starts ends own u dst (le_is (starts own) (ends own) (same ∙ t)) (λ h. on.0 (sym own_is ∙ h)) (λ some. own_is ∙ on.1 some))
+dst_by starts ends year own u dst first last same is on off = grind arith
 
 pub dst_by_one : (starts ends : ℤ → ℤ) (margin year own u : ℤ) (dst : Bool) → KeepsMargin starts margin → KeepsMargin ends margin → IsBeside margin year u → int_le (starts own) (ends own) ≡ int_le (starts year) (ends year) → dst ≡ is_dst_by_one (starts year) (ends year) u → IsDstAt starts ends own u dst
 dst_by_one starts ends margin year own u dst start end beside same is =

@@ -52,12 +52,7 @@ in_two a b u (suc zero, h, e) = inr (sym e)
 in_two a b u (suc (suc k), h, e) = absurd (omega arith)
 
 nowhere : (asks : ℤ → Type 0) (p q : ℕ) → ((u : ℤ) → asks u → ⊥) → q ≡ p → IsAskedAtEach asks p q
-nowhere asks p q none e = record {
-  seconds = [];
-  once = search arith;
-  each = λ u. ((λ c. absurd (in_none u c)), (λ k. absurd (none u k)));
-  count = omega arith;
-}
+nowhere asks p q none e = grind arith
 
 -- one question more if the second is taken
 abbrev IsAskedIf : (ℤ → Type 0) → ℤ → ℕ → ℕ → Type 0
@@ -74,12 +69,7 @@ asked_more asks c p q r (inl (k, e)) others = record {
   );
   count = let n = others.count in omega arith;
 }
-asked_more asks c p q r (inr (none, e)) others = record {
-  seconds = others.seconds;
-  once = others.once;
-  each = λ u. ((λ i. ((others.each u).0 i).0), (λ i. (others.each u).1 (i, λ g. none (subst asks g i))));
-  count = let n = others.count in omega arith;
-}
+asked_more asks c p q r (inr (none, e)) others = grind arith
 
 one_second : (asks : ℤ → Type 0) (c : ℤ) (p q : ℕ) → ((u : ℤ) → asks u → u ≡ c) → IsAskedIf asks c p q → IsAskedAtEach asks p q
 one_second asks c p q only k = asked_more asks c p q q k (nowhere (λ u. asks u × (u ≢ c)) q q (λ u h. h.1 (only u h.0)) refl)
@@ -100,10 +90,7 @@ asked_fixed f from l p q asked = one_second (IsSecondFrom (Fixed f) from l) (l -
     (λ u k. let e = in_one f.offset k.offset k.of_rule in k.of_second ∙ ap (λ o. l -ℤ o) e) (asked_since (Fixed f) from l f.offset p q (0, omega arith, refl) asked)
 
 std_or_dst : (a : AlternateRule) (from l u : ℤ) → IsSecondFrom (Alternate a) from l u → (u ≡ l -ℤ a.std.offset) ⊎ (u ≡ l -ℤ a.dst.offset)
-std_or_dst a from l u k = elim (in_two a.std.offset a.dst.offset k.offset k.of_rule) [
-  | inl e ↦ inl (k.of_second ∙ ap (λ o. l -ℤ o) e)
-  | inr e ↦ inr (k.of_second ∙ ap (λ o. l -ℤ o) e)
-]
+std_or_dst a from l u k = grind arith
 
 pub asked_std_dst : (a : AlternateRule) (from l : ℤ) (p q r : ℕ) → a.std.offset ≢ a.dst.offset → IsAskedSince from (l -ℤ a.std.offset) p q → IsAskedSince from (l -ℤ a.dst.offset) q r → IsAskedFrom (Alternate a) from l p r
 asked_std_dst a from l p q r other std dst = two_seconds (IsSecondFrom (Alternate a) from l) (l -ℤ a.std.offset) (l -ℤ a.dst.offset) p q r (λ e. other (omega (arith, ints))) (std_or_dst a from l)
@@ -115,10 +102,8 @@ asked_dst_std a from l p q r other dst std = two_seconds (IsSecondFrom (Alternat
 
 -- where both offsets are one
 pub asked_once : (a : AlternateRule) (from l : ℤ) (p q : ℕ) → a.std.offset ≡ a.dst.offset → IsAskedSince from (l -ℤ a.std.offset) p q → IsAskedFrom (Alternate a) from l p q
-asked_once a from l p q same std = one_second (IsSecondFrom (Alternate a) from l) (l -ℤ a.std.offset) p q (λ u k. elim (std_or_dst a from l u k) [
-  | inl e ↦ e
-  | inr e ↦ omega (arith, ints)
-]) (asked_since (Alternate a) from l a.std.offset p q (0, omega arith, refl) std)
+asked_once a from l p q same std = one_second (IsSecondFrom (Alternate a) from l) (l -ℤ a.std.offset) p q (λ u k.
+    grind arith) (asked_since (Alternate a) from l a.std.offset p q (0, omega arith, refl) std)
 
 -- ---- none, without a rule
 pub asked_none : (z : Zone) (l : ℤ) (p : ℕ) → z.rule ≡ None → IsAskedFor z l p p
@@ -129,10 +114,7 @@ pub asked_for_window : (z : Zone) (l low high : ℤ) (n : ℕ) (d : Transition) 
 asked_for_window z l low high n d p q valid w h later e = nowhere (IsByRuleFor z l) p q (λ u k.
     let among = Contains-append_right (offsets_of z.types) (rule_offsets z.rule) k.offset k.of_rule in
     let least = All-contains (λ x. w.least ≤ℤ x) (offsets z.types z.rule) k.offset w.is_least.fewest among in
-    let s = k.of_second in
-    let most = window_most z l low high n d u k.offset valid w h later least (omega (arith, ints)) in
-    let there = by_rule_segment z u k.by_rule in
-    omega arith) e
+    let most = window_most z l low high n d u k.offset valid w h later least (omega (arith, ints)) in grind (arith, by_rule_segment)) e
 
 -- ---- by instant
 pub asked_at_time : (z : Zone) (u x : ℤ) (p q : ℕ) → (0 < length z.transitions → IsLeapTime z.leaps u x) → IsAskedAtLeapTime z x p q → IsAskedAt z u p q

@@ -68,13 +68,10 @@ type_told z u valid limits = elim (cases_lt 0 (length z.transitions)) [
   | inl some ↦
       let test : (length z.transitions == 0) ≡ false = grind (arith, nat_tests) in
       elim (leap_time_decided z.leaps u) [
-        | inl x ↦ let l = x.1 in rw (test, all_true (corrections z.leaps) u (passed_count z.leaps u) l.fits, ← l.sum)
-            (at_leap_time z u x.0 valid limits (λ _. l))
+        | inl x ↦ grind (arith, all_true, at_leap_time)
         | inr r ↦ rw (test, all_false (corrections z.leaps) u (passed_count z.leaps u) r.place r.passed r.leaves) (by_leap_time some r)
       ]
-  | inr none ↦
-      let test : (length z.transitions == 0) ≡ true = grind (arith, nat_tests) in
-      rw test (at_leap_time z u u valid limits (λ h. absurd (omega arith)))
+  | inr none ↦ grind (arith, at_leap_time)
 ]
 
 -- what is asked tells the type of each second
@@ -94,19 +91,7 @@ between_types : (f : InForce) (u : ℤ) (s t : Option LocalType) → IsOnce f �
     → MatchOption s ((x : LocalType) → f (u -ℤ pos 1) x → ⊥) (f (u -ℤ pos 1)) → MatchOption t ((x : LocalType) → f u x → ⊥) (f u) → IsListed f u (change_between u s t)
 between_types f u None t once fits fits_before h k = inl (refl, none_before f u h)
 between_types f u (Some s) None once fits fits_before h k = inl (refl, none_here f u k)
-between_types f u (Some s) (Some t) once fits fits_before h k = elim (cases_Bool (type_eq.it s t)) [
-  | inl same ↦ inl (rw same refl, change_made f u s t None once fits fits_before h k ((type_exact s t).0 same))
-  | inr other ↦
-      let differ : s ≢ t = λ e. let same = (type_exact s t).1 e in cc in
-      let made = change_made f u s t (Some (record { at = u; before = s; after = t })) once fits fits_before h k (differ, refl) in
-      inr (record { at = u; before = s; after = t }, rw other refl, made.0, made.1)
-]
+between_types f u (Some s) (Some t) once fits fits_before h k = grind (arith, type_exact)
 
 pub here_listed : (f : InForce) (types : ℤ → Option LocalType) (u : ℤ) → IsOnce f → AreTypes f types → IsListed f u (change_here types u)
-here_listed f types u once told = elim (cases_Bool (is_second u && is_second (u -ℤ pos 1))) [
-  | inl e ↦ let (a, b) = and_parts (is_second u) (is_second (u -ℤ pos 1)) e in
-      rw e (between_types f u (types (u -ℤ pos 1)) (types u) once (grind (arith, ints)) (grind (arith, ints)) (told (u -ℤ pos 1)) (told u))
-  | inr e ↦ rw e (inl (refl, λ d is at. fit_not u e (rw at at is.fits) (rw at at is.fits_before)))
-] where
-  fit_not : (v : ℤ) → (is_second v && is_second (v -ℤ pos 1)) ≡ false → SFits w64 v → SFits w64 (v -ℤ pos 1) → ⊥
-  fit_not v e fits fits_before = let s = rw (second_true v fits, second_true (v -ℤ pos 1) fits_before) at e in cc
+here_listed f types u once told = grind (arith, ints, between_types, second_true)

@@ -105,7 +105,6 @@ come_by : (ts : List Transition) (x : ℤ) (i : ℕ) → AreRising ts → i ≤ 
 come_by ts x zero r w h k d l = absurd (omega arith)
 come_by ts x (suc i) r w h k d l =
     let e = last_taken (λ (t : Transition). t.unix_leap_time) least_time ts i d (omega arith) in
-    let g : (get_or ts i d).unix_leap_time ≤ℤ x = rw e at h in
     let n = not_later ts k i d r (omega arith) (omega arith) in
     omega (arith, ints)
 
@@ -115,10 +114,7 @@ between_of ts i x r w h = record { ordered = omega arith; within = w; below = co
 -- ---- the type in a segment
 -- a leap time of the second, which matters only if there are transitions
 pub passed_here : (z : Zone) (u x : ℤ) → (0 < length z.transitions → IsLeapTime z.leaps u x) → passed z.transitions x ≡ passed z.transitions (u +ℤ correction_at z.leaps u)
-passed_here z u x time = elim (cases_lt 0 (length z.transitions)) [
-  | inl h ↦ ap (passed z.transitions) (time h).sum
-  | inr h ↦ rw (no_items z.transitions (omega arith)) refl
-]
+passed_here z u x time = grind (arith, no_items)
 
 -- how many transitions have come by it
 pub come_by_then : (z : Zone) (u x : ℤ) → (0 < length z.transitions → IsLeapTime z.leaps u x) → length (passed z.transitions x) ≡ segment_of z u

@@ -24,7 +24,6 @@ pub one_made : (ts : List Transition) (leaps : List LeapSecond) (entries : List 
     → ((u : ℤ) → (e.unix_leap_time ≤ℤ u) ↔ ((start ≤ℤ u) × (first ≤ℤ u))) → e.type_index ≡ (get_or ts k d).type_index
     → AreMade ts leaps (entries ++ e ∷ []) (k + 1) e.unix_leap_time
 one_made ts leaps entries k start first d e rising some made reached later same =
-    let n = made.count in
     let bounds = (later e.unix_leap_time).0 (omega (arith, ints)) in
     let until : (u y : ℤ) → IsNear u → IsLeapTime leaps u y → (get_or ts k d).unix_leap_time ≤ℤ y → e.unix_leap_time ≤ℤ u =
     λ u y near l h. (later u).1 (
@@ -69,11 +68,7 @@ pub all_made : {E : Type 0} (ts : List Transition) (leaps : List LeapSecond) (en
     → k ≡ length ts → AreMade ts leaps entries k start → MatchResult r (λ t. t ≡ entries) (λ _. ⊤)
     → MatchResult r (λ t. 0 < length leaps → AreByUnixTime ts leaps t) (λ _. ⊤)
 all_made ts leaps entries k start (Err e) all made is = is
-all_made ts leaps entries k start (Ok t) all made is = λ some. rw is (record {
-  count = made.count ∙ all;
-  types = λ i d h. made.types i d (omega arith);
-  come = λ i d h. made.come i d (omega arith);
-})
+all_made ts leaps entries k start (Ok t) all made is = λ some. grind arith
 
 pub made_in_order : (ts : List Transition) (leaps : List LeapSecond) (entries : List Transition) (k : ℕ) (start : ℤ)
     → AreMade ts leaps entries k start → AreOrdered (map (λ (t : Transition). t.unix_leap_time) entries)
@@ -92,9 +87,7 @@ come_by_unix_time ts entries leaps u x n made near l come =
     let same = made.count in let w = come.within in let m = length-map entries (λ (t : Transition). t.unix_leap_time) in
     filter_first (λ (t : Transition). int_le t.unix_leap_time x) ts n (omega arith)
     (λ k d h.
-    let time = mapped_at (λ (t : Transition). t.unix_leap_time) entries k d (pos 0) (omega arith) in
-    let b = come.before k h in
-    le_true _ x ((made.come k d (omega arith) u x near l).1 (omega (arith, ints))))
+    let time = mapped_at (λ (t : Transition). t.unix_leap_time) entries k d (pos 0) (omega arith) in grind arith)
     (λ k d h i.
     let time = mapped_at (λ (t : Transition). t.unix_leap_time) entries k d (pos 0) (omega arith) in
     let b = come.behind k h (omega arith) in
@@ -138,9 +131,7 @@ type_from z entries u k t next s valid made near more item item_next from until 
       since = rw (begin_next z.transitions k t (omega arith)) come;
       until = λ d h. by_lt_z y (get_or z.transitions (k + 1) d).unix_leap_time (λ q. q) (λ q.
           let same = get_or_default entries (k + 1) d next (let c = made.count in omega arith) in
-          let r = (made.come (k + 1) d h u y near l).0 q in
-          let e = ap (λ (c : Transition). c.unix_leap_time) same in
-          absurd (omega (arith, ints)));
+          let r = (made.come (k + 1) d h u y near l).0 q in grind arith);
     } in
     (type_in_before z (k + 1) u y s l (between_of z.transitions (k + 1) y valid.transitions.rising (omega arith) within) more
     (rw (type_index_of z entries k t made (omega arith) item) has)).type
@@ -148,9 +139,7 @@ type_from z entries u k t next s valid made near more item item_next from until 
 -- and each names a type
 pub named_within : (z : Zone) (entries : List Transition) (k : ℕ) (t : Transition) → IsValid z → AreByUnixTime z.transitions z.leaps entries
     → k < length z.transitions → t ≡ get_or entries k t → t.type_index < length z.types
-named_within z entries k t valid made some item =
-    let i = valid.transitions.indexes k t some in
-    rw (ap (λ (s : Transition). s.type_index) item ∙ made.types k t some) i
+named_within z entries k t valid made some item = grind arith
 
 -- so it is the span's, if those beside these two come at other seconds
 pub span_in_turn : (z : Zone) (u : ℤ) (before first end after : Transition) (r s t : LocalType) → IsValid z → AreInTurn z before first end after
@@ -164,8 +153,7 @@ span_in_turn z u before first end after r s t valid turn near_before near_end ri
     let e2 : k + 2 + 1 ≡ k + 3 = omega arith in
     let low = near_before.0 in let high = near_end.1 in
     let here : (v : ℤ) → first.unix_leap_time ≤ℤ v → v <ℤ end.unix_leap_time → TypeAt z v s =
-    λ v a b. type_from z turn.entries v (k + 1) first end s valid turn.made (omega (arith, ints), omega (arith, ints)) (omega arith) turn.at_first
-    (rw e1 turn.at_end) a b has_s in
+    λ v a b. grind (arith, ints, type_from) in
     record {
       in_force_then = here u since until;
       inside = record { fits = omega (arith, ints); since = since; until = until };
@@ -188,8 +176,7 @@ span_in_turn z u before first end after r s t valid turn near_before near_end ri
             fits = omega (arith, ints);
             fits_before = omega (arith, ints);
             before = here (end.unix_leap_time -ℤ pos 1) (omega (arith, ints)) (omega (arith, ints));
-            after = type_from z turn.entries end.unix_leap_time (k + 2) end after t valid turn.made near_end (omega arith) turn.at_end
-                (rw e2 turn.at_after) (omega (arith, ints)) later has_t;
+            after = grind (arith, ints, type_from);
             differ = other;
           },
         );

@@ -23,10 +23,7 @@ tested z i since x until r w b (inl (d, h, e)) = (
   λ t. between_of z.transitions i x r w (record { since = rw b at t.from; until = λ f l. rw (get_or_default z.transitions i f d l) (t.before _ e) }),
   λ f t. let k = within_of z.transitions i x f t in record { from = rw b k.since; before = λ end is. let same : (get_or z.transitions i d).unix_leap_time ≡ end = cc in rw same at (k.until d h) },
 )
-tested z i since x until r w b (inr (h, e)) = (
-  λ t. between_of z.transitions i x r w (record { since = rw b at t.from; until = λ d l. absurd (omega arith) }),
-  λ f t. record { from = rw b (within_of z.transitions i x f t).since; before = λ end is. absurd (none-some end (sym e ∙ is)) },
-)
+tested z i since x until r w b (inr (h, e)) = grind (arith, between_of, within_of)
 
 -- one segment more of the table was tried, of whose seconds at most one shows the local time
 pub tried_segment : (z : Zone) (l : ℤ) (i : ℕ) (since : ℤ) (until : Option ℤ) (before after : LocalResult LocalType) → IsValid z → i ≤ length z.transitions → i < table_count z → since ≡ begin_of z.transitions i
@@ -41,14 +38,11 @@ tried_segment z l i since until before after valid inside own begin next k s =
     (λ m. inl (record { shows = h.shows; from = omega arith; below = m }))
     (λ m.
     let e : segment_of z u ≡ i = let b = h.below in omega arith in
-    let o = offset_here z i u f k.type valid own k.candidate.listed e h.shows.type in
-    let shown = h.shows.shown in
-    inr (omega (arith, ints), e))
+    let o = offset_here z i u f k.type valid own k.candidate.listed e h.shows.type in grind (arith, ints))
     (cases_lt (segment_of z u) i) in
     ⊎_elim
     (λ h.
     let there = type_of_table z i c k.leap_time k.type own k.candidate.of_second (test.0 h.0) k.candidate.listed in
-    let here = there.segment in
     rw h.1 (behind_answer (IsShownIn z l i) (IsShownIn z l (i + 1)) c k.type before old (λ u f m. ⊎_elim (λ a. inl a) (λ a. inr a.0) (only u f m))
     (record { shows = record { fits = k.candidate.fits; type = there.type; shown = omega (arith, ints) }; from = omega arith; below = omega arith })
     (λ u f m. later_segment z u c valid (let b = m.below in omega arith)) s))
@@ -77,7 +71,6 @@ with_rule z rule start l valid is begun wide offsets = record {
         inr (record { fits = k.shows.fits; type = record { type = type; since = (rule_begun z u start valid (near u t type k.shows.shown) begun).0 there }; shown = k.shows.shown })
   ];
   order = λ u v s t a b. later_segment z u v valid (
-      let less = a.below in
       let there = (rule_begun z v start valid (near v t b.type.type b.shown) begun).1 b.type.since in omega arith);
 } where
   near : (u : ℤ) (t : LocalType) → RuleAt rule u t → u +ℤ t.offset ≡ l → IsNear u
@@ -87,19 +80,14 @@ with_rule z rule start l valid is begun wide offsets = record {
 pub none_before : (z : Zone) (l low high : ℤ) (n : ℕ) → IsValid z → IsWindow z l low high → Between z.transitions low n n → IsWallAnswer (IsShownIn z l n) Never
 none_before z l low high n valid w b = λ u t k.
     let o = at_most_greatest z u w.greatest t w.is_greatest k.shows.type in
-    let s = k.shows.shown in
     let g : (l -ℤ w.greatest) ≤ℤ u = omega (arith, ints) in
     let r = segments_rise z (l -ℤ w.greatest) u valid.transitions.rising valid.leaps g in
-    let e = segment_is z (l -ℤ w.greatest) n (rw w.is_low.sum at b) in
-    let i = k.below in
-    absurd (omega arith)
+    let e = segment_is z (l -ℤ w.greatest) n (rw w.is_low.sum at b) in grind arith
 
 -- a second that shows the local time by the least offset or a greater one lies at or before a transition's segment that comes after the window
 pub window_most : (z : Zone) (l low high : ℤ) (n : ℕ) (d : Transition) (u o : ℤ) → IsValid z → (w : IsWindow z l low high) → n < length z.transitions → high <ℤ (get_or z.transitions n d).unix_leap_time → w.least ≤ℤ o → u +ℤ o ≡ l → segment_of z u ≤ n
 window_most z l low high n d u o valid w h later least e =
-    let r = segments_rise z u (l -ℤ w.least) valid.transitions.rising valid.leaps (omega (arith, ints)) in
-    let sum = w.is_high.sum in
-    ⊎_elim (λ m. let q = (segment_here z (l -ℤ w.least) valid.transitions.rising).below n d m in absurd (omega (arith, ints))) (λ m. omega arith) (cases_lt n (segment_of z (l -ℤ w.least)))
+    let r = segments_rise z u (l -ℤ w.least) valid.transitions.rising valid.leaps (omega (arith, ints)) in grind (arith, segment_here)
 
 pub none_behind : (z : Zone) (l low high : ℤ) (n : ℕ) (d : Transition) (answer : LocalResult LocalType) → IsValid z → IsWindow z l low high → n < length z.transitions → high <ℤ (get_or z.transitions n d).unix_leap_time → IsWallAnswer (IsShownIn z l (n + 1)) answer → IsWallAnswer (Shows (TypeAt z) l) answer
 none_behind z l low high n d answer valid w h later s = same_answer (IsShownIn z l (n + 1)) (Shows (TypeAt z) l) answer (λ u t k. k.shows)
@@ -117,15 +105,11 @@ window_least p (x ∷ xs) zero (suc b) h all =
     let r = window_least p xs zero b (omega arith) (λ k d l m. all (suc k) d (omega arith) (omega arith)) in
     rw (all 0 x (omega arith) (omega arith)) (omega arith)
 window_least p (x ∷ xs) (suc a) (suc b) h all =
-    let r = window_least p xs a b (omega arith) (λ k d l m. all (suc k) d (omega arith) (omega arith)) in
-    let m = kept_more (p x) x (filter p xs) in
-    omega arith
+    let r = window_least p xs a b (omega arith) (λ k d l m. all (suc k) d (omega arith) (omega arith)) in grind arith
 
 -- the transitions walked through lie in the window
 pub walked_most : (ts : List Transition) (low high : ℤ) (first place : ℕ) → Between ts low first first → place ≤ length ts → ((k : ℕ) (d : Transition) → first ≤ k → k < place → (get_or ts k d).unix_leap_time ≤ℤ high) → place ≤ first + length (come_between ts low high)
-walked_most ts low high first place b w inside =
-    window_least (λ (t : Transition). int_lt low t.unix_leap_time && int_le t.unix_leap_time high) ts first place w
-    (λ k d l m. rw (lt_true low (get_or ts k d).unix_leap_time (b.above k d l (omega arith)), le_true (get_or ts k d).unix_leap_time high (inside k d l m)) refl)
+walked_most ts low high first place b w inside = grind (arith, window_least)
 
 -- the walk has come to that place: the transitions from the first on lie in the window, and one search and a look at each of them were counted
 pub record Walked (z : Zone) (high : ℤ) (first place : ℕ) (a b : Counts) : Type 0 where
