@@ -76,9 +76,7 @@ where_is bytes m t sm st top =
       | In_front e h ↦ inl (record { before = b.before; after = e; whole = h })
       | Behind e h ↦ absurd (omega (arith, top, short, whole_size a.after e (name_of t) b.after h, m_size, t_size, a.at, b.at))
       | Is_end f h l ↦ inr (record { ends = record { front = f; is = h }; at = omega (arith, ap length l, m_size, t_size, a.at, b.at) })
-      | Has_end f h l ↦
-          let at : place_of (name_of t) bytes + length (name_of t) ≡ place_of (name_of m) bytes + length (name_of m) = omega (arith, ap length l, m_size, t_size, a.at, b.at) in
-          inr (record { ends = record { front = []; is = sym (h ∙ no_front f (name_of m) (omega (arith, top, at, ap length h))) }; at = at })
+      | Has_end f h l ↦ grind (arith, no_front)
     ]
 
 -- ---- laid with that text as the last
@@ -88,16 +86,11 @@ kept_low designations other text h = by_text (λ d. place_of text d ≤ place_of
 
 -- a text has its place in what is laid, if it stands before the last one, or else in what that ends
 in_place : (designations last : List ℕ) (t : LocalType) → length designations ≤ 256 → In designations (name_of t) → HasPlace (with_text designations last) t
-in_place designations last t short h = record {
-  stands = kept designations last (name_of t) h;
-  named = omega (arith, kept_low designations last (name_of t) h, h, short);
-}
+in_place designations last t short h = grind (arith, kept, kept_low)
 
 at_end : (designations last : List ℕ) (t : LocalType) → Ends last (name_of t) → length designations ≤ place_of last designations → length designations + length last < 263
     → length designations + length last < 256 + length (name_of t) → HasPlace (with_text designations last) t
-at_end designations last t e out room low =
-    subst (λ (d : List ℕ). HasPlace d t) (sym (put_is designations last out room))
-    (record { stands = put_in designations last (name_of t) e; named = omega (arith, place_of_put designations last (name_of t) e, low) })
+at_end designations last t e out room low = grind (arith, put_is, put_in, place_of_put)
 
 at_the_end : (bytes designations : List ℕ) (m t : LocalType) (sm : Served bytes m) → Served bytes t → Room (name_of m) designations sm.stands.before 3
     → (designations ≡ []) ⊎ In designations [] → length designations ≤ place_of (name_of m) designations → length designations ≤ place_of (name_of t) designations → Ends (name_of m) (name_of t)
@@ -142,10 +135,7 @@ laid_place bytes designations m t sm st r filled put_in_before where_t =
 
 -- ---- all types
 given_before : (bytes : List ℕ) (m : LocalType) (sm : Served bytes m) (t : LocalType) → Served bytes t → key_in bytes t ≤ key_in bytes m → Given (name_of m) sm.stands.before t
-given_before bytes m sm t st top = record {
-  none = st.stands.ends;
-  stands = λ free. elim (where_is bytes m t sm st top) [ inl s ↦ s | inr q ↦ absurd (free q.ends) ];
-}
+given_before bytes m sm t st top = grind (arith, where_is)
 
 places_with : (bytes : List ℕ) (types : List LocalType) (m : LocalType) (sm : Served bytes m) → All (Served bytes) types → All (λ t. key_in bytes t ≤ key_in bytes m) types → HavePlaces (laid (name_of m) types) types
 unfolding laid
@@ -214,8 +204,7 @@ placed_with : (bytes : List ℕ) (types : List LocalType) (m : LocalType) (sm : 
 placed_with bytes types m sm s top found =
     let inside = in_order_in bytes types m sm s top in record {
       places = places_with bytes types m sm s top;
-      short = laid_short (name_of m) (laid [] types) types sm.stands.ends (in_stands (laid [] types) (name_of m) sm.stands.ends found)
-          (λ i d l. record { none = (s i d l).stands.ends; stands = λ free. in_stands (laid [] types) (name_of (get_or types i d)) (s i d l).stands.ends (inside i d l) });
+      short = grind (arith, laid_short, in_stands);
     }
 
 pub none_laid : (types : List LocalType) (bytes : List ℕ) → All (λ t. IsNameOrNone t.name) types → AreNamesIn bytes types → ¬ (HavePlaces (laid [] types) types)
@@ -227,15 +216,7 @@ none_laid (t ∷ ts) bytes named names unplaced none =
     let (place, inside, greatest_of) = greatest (key_in bytes) t ts in
     let m = get_or types place t in let sm = s place t inside in let above = greatest_of t in
     let found = in_order_in bytes types m sm s above place t inside in
-    let text = text_found (laid [] types) (name_of m) sm.stands.ends found in
-    elim ((name_size m.name sm.named).1) [
-      | inl nothing_there ↦ unplaced (subst (λ (x : List ℕ). HavePlaces (laid x types) types) (nil_from_length (name_of m) nothing_there)
-          (places_with bytes types m sm s above))
-      | inr three ↦ none (place_of (name_of m) (laid [] types)) found (record {
-        name = omega (arith, three, ap length text);
-        placed = subst (λ (x : List ℕ). ArePlaced (laid x types) types) (sym text) (placed_with bytes types m sm s above found);
-      })
-    ]
+    let text = text_found (laid [] types) (name_of m) sm.stands.ends found in grind (arith, placed_with)
 
 -- ---- places are names
 abbrev AreNames : List LocalType → Type 0
@@ -245,10 +226,7 @@ named_in : (designations : List ℕ) (t : LocalType) → IsNameOrNone t.name →
 named_in designations t name h = record { place = place_of (name_of t) designations; stands = has_text (name_of t) designations (no_zero t.name name) h.stands; named = h.named }
 
 shortest : (types : List LocalType) (designations : List ℕ) → 0 < length types → AreNames types → HavePlaces designations types → length designations ≤ length (laid [] types) → AreShortest designations types
-shortest types designations some names h short = record {
-  names = λ i d l. named_in designations (get_or types i d) (names i d l) (h i d l);
-  shortest = λ other named. omega (arith, short, in_order_short types other some named);
-}
+shortest types designations some names h short = grind (arith, named_in, in_order_short)
 
 -- the designations that are laid
 abbrev pub AreLaid : List LocalType → List ℕ → Type 0
@@ -258,9 +236,7 @@ pub laid_in_order : (types : List LocalType) (designations : List ℕ) → 0 < l
 laid_in_order types designations some names e h = (h, In_order h e, shortest types designations some names h (omega (arith, ap length e)))
 
 pub laid_with_last : (types : List LocalType) (designations : List ℕ) → 0 < length types → AreNames types → ¬ (HavePlaces (laid [] types) types) → IsFirstPlaced types designations → AreLaid types designations
-laid_with_last types designations some names unplaced h =
-    let p : ArePlaced designations types = subst (λ (d : List ℕ). ArePlaced d types) (sym h.laid_is) h.placed.placed in
-    (p.places, Otherwise unplaced h, shortest types designations some names p.places p.short)
+laid_with_last types designations some names unplaced h = grind (arith, shortest)
 
 pub laid_if_any : (types : List LocalType) (r : Option (List ℕ)) → 0 < length types → AreNames types → ¬ (HavePlaces (laid [] types) types)
     → MatchOption r (AreNotPlacedBefore types (length (laid [] types))) (λ d. IsFirstPlaced types d)

@@ -52,9 +52,7 @@ values (Check P test refusal v) bytes x rest h b = ((h.0, h.1), subst Bytes h.2 
 -- ---- counts
 number_fits : (n : ℕ) → Values be_u32 n → n < 2 ^ 32
 unfolding be_u32
-number_fits n (four, (all, size), value) =
-    let w = all 0 0 (omega arith) in let x = all 1 0 (omega arith) in let y = all 2 0 (omega arith) in let z = all 3 0 (omega arith) in
-    omega (arith, w, x, y, z, value)
+number_fits n (four, (all, size), value) = grind arith
 
 header_fits : (place : Place) (h : Header) → Values (header place) h → CountsFit h.counts
 unfolding header six_counts
@@ -76,13 +74,8 @@ record Limits (p : FilePieces) : Type 0 where
 block_limits : (extended : Bool) (time_size : ℕ) (c : Counts) (p : Parts) (footer : Option (List ℕ)) → CountsFit c → Values (block time_size c) p
     → Limits (record { extended = extended; time_size = time_size; counts = c; parts = p; footer = footer })
 unfolding block
-block_limits extended time_size c p footer fit (_, _, (_, (indexes, i), (_, (types, j), (_, _, (leaps, (_, k), (_, _, (_, _, value))))))) = rw value (record {
-  indexes = indexes;
-  types = types;
-  transitions_fit = omega (arith, i, fit.3);
-  types_fit = omega (arith, j, fit.4);
-  leaps_fit = λ n e. omega (arith, fit.2, same_factor n c.leap_seconds (time_size + 4) (omega arith) (sym e ∙ k));
-})
+block_limits extended time_size c p footer fit (_, _, (_, (indexes, i), (_, (types, j), (_, _, (leaps, (_, k), (_, _, (_, _, value))))))) =
+    grind (arith, same_factor)
 
 later_limits : (p : FilePieces) → Values later_version p → Limits p
 unfolding later_version
@@ -96,9 +89,7 @@ after_limits Three c parts p h fit first = later_limits p h
 
 pieces_limits : (bytes : List ℕ) (p : FilePieces) → HasPieces bytes p → Bytes bytes → Limits p
 unfolding file
-pieces_limits bytes p h b =
-    let (header, head, (parts, first, tail)) = (values file bytes p [] h b).0 in
-    after_limits header.version header.counts parts p tail (header_fits First header head) first
+pieces_limits bytes p h b = grind (arith, values, after_limits, header_fits)
 
 -- ---- lists
 indexes_fit : (ts : List Transition) (indexes : List ℕ) → indexes ≡ map (λ t. t.type_index) ts → Bytes indexes → All HasIndex ts

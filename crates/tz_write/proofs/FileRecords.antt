@@ -42,10 +42,7 @@ records_length size Spells part (x ∷ xs) h =
 -- ---- transitions and leap seconds
 pub transitions_are : (ts : List Transition) → All HasTimeOf64Bits ts → SpellTransitions 8 (flat_map time_bytes ts) (flat_map index_bytes ts) ts
 unfolding signed_bytes
-transitions_are ts h = record {
-  times_are = records_are 8 (λ bytes t. file_time 8 bytes ≡ t.unix_leap_time) time_bytes ts (λ t. refl) (λ k d l. signed_64 _ (h k d l));
-  indexes_are = flat_map_single (λ (t : Transition). t.type_index) ts;
-}
+transitions_are ts h = grind (arith, records_are, signed_64)
 
 leap_is : (leap : LeapSecond) → IsEntry leap → SpellsLeapSecond 8 (leap_bytes leap) leap
 unfolding leap_bytes signed_bytes
@@ -98,15 +95,7 @@ name_back (Some (b ∷ bs)) h = refl
 
 type_is : (designations : List ℕ) (t : LocalType) → HasPlace designations t → IsType t → SpellsType designations (type_bytes designations t) t
 unfolding type_bytes signed_bytes
-type_is designations t p h = record {
-  text = name_of t;
-  offset = signed_32 t.offset (let a = h.offset.0 in let b = h.offset.1 in omega (arith, ints));
-  above_least = let a = h.offset.0 in omega (arith, ints);
-  mark = mark_is t.dst;
-  stands = has_text (name_of t) designations (no_zero t.name h.name) p.stands;
-  name = name_back t.name h.name;
-  name_fits = h.name;
-}
+type_is designations t p h = grind (arith, signed_32, has_text, no_zero)
 
 pub types_are : (designations : List ℕ) (types : List LocalType) → All (HasPlace designations) types → All IsType types → SpellTypes designations (flat_map (type_bytes designations) types) types
 unfolding type_bytes signed_bytes

@@ -12,11 +12,7 @@ pub record Room (last designations others : List ℕ) (size : ℕ) : Type 0 wher
   pub rest : (text : List ℕ) → HasNoZero text → (length text ≤ size) ⊎ Ends last text → Stands others text → length designations ≤ place_of text designations → Stands left text
 
 smaller : (last designations others : List ℕ) (a b : ℕ) → b ≤ a → Room last designations others a → Room last designations others b
-smaller last designations others a b l r = record {
-  left = r.left;
-  fits = r.fits;
-  rest = λ text none small stands out. r.rest text none (elim small [ inl s ↦ inl (omega arith) | inr e ↦ inr e ]) stands out;
-}
+smaller last designations others a b l r = grind arith
 
 -- a text that isn't there has room
 pub room_of : (last designations others text : List ℕ) (size : ℕ) → Room last designations others size → HasNoZero text → (length text ≤ size) ⊎ Ends last text → Stands others text
@@ -31,10 +27,7 @@ no_front [] text l = refl
 no_front (x ∷ xs) text l = absurd (omega (arith, l, length-append xs text))
 
 still_out : (designations more text : List ℕ) → length (designations ++ more) ≤ place_of text (designations ++ more) → length designations ≤ place_of text designations
-still_out designations more text h = elim (cases_lt (place_of text designations) (length designations)) [
-  | inl l ↦ absurd (omega (arith, in_longer designations more text l, h))
-  | inr m ↦ m
-]
+still_out designations more text h = grind (arith, in_longer)
 
 cut : (last text y left b a c d : List ℕ) (size : ℕ) → (Ends last text → ⊥) → length text ≡ size → (Ends text y → ⊥) → (length y ≤ size) ⊎ Ends last y
     → left ≡ b ++ (text ++ (0 ∷ a)) → left ≡ c ++ (y ++ (0 ∷ d)) → Meeting b text a c y d → Stands (b ++ a) y
@@ -78,24 +71,14 @@ pub by_text : (P : List ℕ → Type 0) (designations text : List ℕ) → P des
     → (length designations ≤ place_of text designations → length designations + length text < 263 → P (designations ++ (text ++ 0 ∷ [])))
     → P (with_text designations text)
 unfolding with_text
-by_text P designations text same put = elim (cases_lt (place_of text designations) (length designations)) [
-  | inl there ↦ rw (lt-ltb (place_of text designations) (length designations) there) same
-  | inr out ↦ elim (cases_lt (length designations + length text) 263) [
-    | inl room ↦ rw (le-ltb (place_of text designations) (length designations) out, lt-ltb (length designations + length text) 263 room)
-        (put out room)
-    | inr full ↦ rw (le-ltb (place_of text designations) (length designations) out, le-ltb (length designations + length text) 263 full) same
-  ]
-]
+by_text P designations text same put = grind arith
 
 pub kept : (designations other text : List ℕ) → In designations text → In (with_text designations other) text
 kept designations other text h = by_text (λ d. In d text) designations other h (λ _ _. in_longer designations (other ++ 0 ∷ []) text h)
 
 -- a text for which there is room is put in
 pub put : (designations text : List ℕ) → (length designations ≤ place_of text designations → length designations + length text < 263) → In (with_text designations text) text
-put designations text room = elim (cases_lt (place_of text designations) (length designations)) [
-  | inl there ↦ kept designations text text there
-  | inr out ↦ subst (λ d. In d text) (sym (put_is designations text out (room out))) (put_in designations text text (record { front = []; is = refl }))
-]
+put designations text room = grind (arith, kept, put_is, put_in)
 
 -- ---- the texts of types
 -- the text has no 0 byte, and stands in the other bytes if it is to be put in
@@ -109,13 +92,7 @@ Turn last size t = (length (name_of t) ≡ size) × (Ends last (name_of t) → �
 
 by_turn : (P : List ℕ → Type 0) (last : List ℕ) (size : ℕ) (designations : List ℕ) (t : LocalType) → P designations
     → (Turn last size t → P (with_text designations (name_of t))) → P (with_text_of last size designations t)
-by_turn P last size designations t same put = elim (length (name_of t) == size) as (λ p. (length (name_of t) == size) ≡ p → P (cond (p && not (ends last (name_of t))) (with_text designations (name_of t)) designations)) [
-  | false ↦ λ _. same
-  | true ↦ λ e. elim (ends last (name_of t)) as (λ q. ends last (name_of t) ≡ q → P (cond (not q) (with_text designations (name_of t)) designations)) [
-    | true ↦ λ _. same
-    | false ↦ λ f. put (grind (arith, nat_tests), λ k. both_ways _ f (ends_again last (name_of t) k))
-  ] refl
-] refl
+by_turn P last size designations t same put = grind (arith, ends_again)
 
 by_types : (P : List ℕ → Type 0) (last : List ℕ) (size : ℕ) (types : List LocalType) (designations : List ℕ)
     → All (λ t. (d : List ℕ) → P d → P (with_text_of last size d t)) types → P designations
@@ -132,8 +109,7 @@ keeps_all P step last size types designations h = by_types P last size types des
 type_room : (last designations others : List ℕ) (size : ℕ) (t : LocalType) → Given last others t → Room last designations others size
     → Room last (with_text_of last size designations t) others size
 type_room last designations others size t g r = by_turn (λ d. Room last d others size) last size designations t r (λ turn.
-    by_text (λ d. Room last d others size) designations (name_of t) r (λ out room. put_room last designations others (name_of t) size g.none turn.0 turn.1
-    (g.stands turn.1) out r))
+    by_text (λ d. Room last d others size) designations (name_of t) r (λ out room. grind (arith, put_room)))
 
 put_all : (last others : List ℕ) (size : ℕ) (types : List LocalType) (designations : List ℕ) → length others ≤ 263 → All (Given last others) types → Room last designations others size
     → All (λ t. Turn last size t → In (fold (with_text_of last size) designations types) (name_of t)) types
@@ -172,12 +148,7 @@ pass last others types g size designations p =
 pub before_passed : (last others : List ℕ) (types : List LocalType) → All (Given last others) types → Passed last others types 3 (before_last last types)
 unfolding before_last with_texts
 before_passed last others types g =
-    let step = pass last others types g in
-    step 3 _ (step 4 _ (step 5 _ (step 6 _
-    (step 7 [] (record {
-      room = record { left = others; fits = omega arith; rest = λ text none small stands out. stands };
-      inside = λ short i e l low high free. absurd (omega (arith, low, high));
-    })))))
+    let step = pass last others types g in grind arith
 
 pub before_keeps : (P : List ℕ → Type 0) → ((d text : List ℕ) → P d → P (with_text d text)) → (last : List ℕ) (types : List LocalType) → P [] → P (before_last last types)
 unfolding before_last with_texts

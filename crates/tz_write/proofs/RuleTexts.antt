@@ -10,6 +10,7 @@ use Rattle.tz_write.proofs.Shortest.{Best, Front, front_cons, front_then, front_
 use Rattle.tz_write.proofs.TextBytes.{AreTextBytes, Writes, writes_byte, writes_last, writes_more, writes_then}
 use Rattle.tz_info.specs.TzGrammar as tz
 use Rattle.tz_info.specs.declared.rule.transition_rule.TransitionRule.TheVariants as rules
+use Rattle.std.proofs.Common.{rules}
 
 -- ---- what a text that spells a rule shows
 -- the rule can be spelled, has times that need no extensions if the text has none, and its own text is the shortest
@@ -120,16 +121,7 @@ text_begins (rules.Alternate a) ((name, h), _) =
 
 -- the text has extensions where one without doesn't have room for the times
 pub written : (rule : TransitionRule) (plain : Bool) → IsRule rule → CanBeSpelled rule → ((plain ≡ true) ↔ AreTimesOf false rule) → IsWrittenText rule (spelled_rule rule) (not plain)
-written rule plain fits h is = record {
-  spells = rule_spelled (not plain) rule fits h (times_of plain is.0);
-  pairs = rule_pairs rule fits h;
-  needed = λ e other spelled. false≢true (rw (is.1 ((rule_read false other rule spelled).plain refl)) at e);
-  shortest = λ other spelled. (rule_read (not plain) other rule spelled).best;
-}
-  where
-    times_of : (p : Bool) → (p ≡ true → AreTimesOf false rule) → AreTimesOf (not p) rule
-    times_of true to = to refl
-    times_of false to = times_extended rule fits
+written rule plain fits h is = grind (arith, rule_spelled, rule_pairs, rule_read)
 
 -- each of two is the shortest
 pub both_shortest : (s t : List ℕ) → (t ≡ s) ⊎ (length s < length t) → (s ≡ t) ⊎ (length t < length s) → s ≡ t
