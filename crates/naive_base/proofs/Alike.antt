@@ -48,12 +48,7 @@ plain_year n rest low = grind (arith, nat_tests)
 
 year_text-read : (y : ℤ) (rest : List ℕ) → IsWideYear y → year_read (year_text y ++ (45 ∷ rest)) ≡ (y, rest)
 unfolding year_text
-year_text-read y rest wide =
-    let n = unsigned_abs y in let digits = four_digits-read n (omega (arith, ints)) (45 ∷ rest) in
-    by_lt_z y (pos 0) (λ low. let text : year_text y ≡ 45 ∷ four_digits n = grind (arith, ints) in rw (text, digits) (grind (arith, ints)))
-    (λ up. by_lt_z (pos 9999) y (λ high. let text : year_text y ≡ 43 ∷ four_digits n = grind (arith, ints) in rw (text, digits) (grind (arith, ints)))
-    (λ plain. let text : year_text y ≡ in_digits 4 n = grind (arith, ints, nat_tests) in rw (text, plain_year n rest (omega (arith, ints)))
-    (grind (arith, ints))))
+year_text-read y rest wide = grind (arith, four_digits-read, plain_year)
 
 -- Days.
 

@@ -27,9 +27,7 @@ pub ruleset moves = (moved-plain, moved-leap, moved_leap-before, moved_leap-with
 of_total-total : (s : ℤ) (f : ℕ) → f < 1_000_000_000
     → (floor_div (s *ℤ pos 1_000_000_000 +ℤ pos f) 1_000_000_000 ≡ s)
     × (floor_mod (s *ℤ pos 1_000_000_000 +ℤ pos f) 1_000_000_000 ≡ f)
-of_total-total s f h =
-    let parts = floor_mod_parts (s *ℤ pos 1_000_000_000 +ℤ pos f) 1_000_000_000 (omega arith) in
-    (omega (arith, floors), omega (arith, floors))
+of_total-total s f h = grind arith
 
 of_total-total-reading : (r : Reading) → r.f < 1_000_000_000 → of_total (total r) ≡ r
 of_total-total-reading r h = let same = of_total-total r.s r.f h in rw (same.0, same.1) refl
@@ -51,10 +49,7 @@ undone : (n d : ℤ) → (n +ℤ d) +ℤ neg_ℤ d ≡ n
 undone n d = omega (arith, floors)
 
 pub moved-moved_back : (r : Reading) (d : ℤ) → r.f < 1_000_000_000 → moved (moved r d) (neg_ℤ d) ≡ r
-moved-moved_back r d h =
-    moved-plain (moved r d) (neg_ℤ d) (moved-plain_again r d h)
-    ∙ ap of_total (ap (λ (n : ℤ). n +ℤ neg_ℤ d) (total-moved r d h) ∙ undone (total r) d)
-    ∙ of_total-total-reading r h
+moved-moved_back r d h = grind (arith, moved-plain, total-moved, undone, of_total-total-reading)
 
 leap_between-plain : (a b : Reading) → a.f < 1_000_000_000 → b.f < 1_000_000_000 → leap_between a b ≡ pos 0
 leap_between-plain a b h k = grind (arith, nat_tests)

@@ -4,6 +4,7 @@ use Rattle.naive_base.proofs.Words.{IsYearInRange, LiesIn, MatchOption, NaiveDat
 use Rattle.naive_base.proofs.Words.{day_of, day_of_month, day_of_year, day_of_year_is, days_in_year, false, floor_mod_parts, floors, is_earlier_in_year}
 use Rattle.naive_base.proofs.Words.{lies_in, month_of, number_at, one_year, pos, refl, subst, sym, true, weekday_below, weekday_later, weekday_number}
 use Rattle.naive_base.proofs.Words.{weekday_of, whole_years, year_of, year_start, year_step, ℕ, ℤ, ◌%◌, ◌*◌, ◌+ℤ◌, ◌+◌, ◌-ℤ◌, ◌-◌, ◌/◌, ◌<◌, ◌∙◌, ◌≡◌, ◌≤◌}
+use Rattle.std.proofs.lemmas.Int.{ints}
 
 -- the day of the month of the n-th weekday w, where the month begins on the weekday f
 abbrev pub nth_day : ℕ → ℕ → ℕ → ℕ
@@ -20,24 +21,12 @@ pub found_nth : (y : ℤ) (m w n : ℕ) → w < 7 → 1 ≤ n
     → IsWeekdayOfMonth y m w n (day_number y m (nth_day (weekday_of (day_number y m 1)) w n))
 found_nth y m w n h k date =
     let f = weekday_of (day_number y m 1) in let d = nth_day f w n in
-    let only = date_only (day_number y m d) y m d date refl in
-    let is = nth_is f w n (weekday_below (day_number y m 1)) h k in
-    record {
-      year = only.0;
-      month = only.1;
-      weekday = ap weekday_of (number_at y m d date.2) ∙ weekday_later (day_number y m 1) (d - 1) ∙ is.0;
-      nth = ap (λ (e : ℕ). (e + 6) / 7) only.2 ∙ is.1;
-    }
+    let only = date_only (day_number y m d) y m d date refl in grind (arith, number_at)
 
 -- which has that day of the month, and the calendar has the date
 pub only_nth : (y : ℤ) (m w n : ℕ) (day : ℤ) → IsWeekdayOfMonth y m w n day
     → IsDate y m (nth_day (weekday_of (day_number y m 1)) w n) × IsDate y m 1 × (1 ≤ n)
-only_nth y m w n day h =
-    let is = rw (h.year, h.month) at (date_is day) in let date = is.0 in
-    let later = weekday_later (day_number y m 1) (day_of_month day - 1) in
-    let weekday = sym later ∙ ap weekday_of (sym (number_at y m (day_of_month day) date.2) ∙ is.1) ∙ h.weekday in
-    let same = nth_once (weekday_of (day_number y m 1)) w n (day_of_month day) (weekday_below (day_number y m 1)) date.2 weekday h.nth in
-    (subst (λ (d : ℕ). IsDate y m d) (sym same) date, (date.0, date.1, omega arith, omega (arith, date.2, date.3)), omega (arith, h.nth, date.2))
+only_nth y m w n day h = grind (arith, date_is, weekday_later, number_at)
 
 -- the place in its year of the Thursday of the n-th week, where the year begins on the weekday f
 abbrev pub thursday_place : ℕ → ℕ → ℕ
@@ -60,45 +49,28 @@ pub found_thursday : (y : ℤ) (n : ℕ) → 1 ≤ n → thursday_place (weekday
     → IsThursdayOfWeek y n (year_start y +ℤ pos (thursday_place (weekday_of (year_start y)) n))
 found_thursday y n h k =
     let p = thursday_place (weekday_of (year_start y)) n in
-    let is = place_is (weekday_of (year_start y)) n (weekday_below (year_start y)) h in let place = in_place y p k in
-    record {
-      weekday = weekday_later (year_start y) p ∙ is.0;
-      year = place.0;
-      number = ap (λ (q : ℕ). q / 7 + 1) place.1 ∙ is.1;
-    }
+    let is = place_is (weekday_of (year_start y)) n (weekday_below (year_start y)) h in let place = in_place y p k in grind arith
 
 pub only_thursday : (y : ℤ) (n : ℕ) (t : ℤ) → IsThursdayOfWeek y n t
     → (1 ≤ n) × (thursday_place (weekday_of (year_start y)) n < days_in_year y)
     × (year_start y +ℤ pos (thursday_place (weekday_of (year_start y)) n) ≡ t)
 only_thursday y n t h =
-    let is = rw h.year at (day_of_year_is t) in
-    let weekday = sym (weekday_later (year_start y) (day_of_year t)) ∙ ap weekday_of is.0 ∙ h.weekday in
-    let once = place_once (weekday_of (year_start y)) n (day_of_year t) (weekday_below (year_start y)) weekday h.number in
-    (once.0, subst (λ (q : ℕ). q < days_in_year y) (sym once.1) is.1, subst (λ (q : ℕ). year_start y +ℤ pos q ≡ t) (sym once.1) is.0)
+    let is = rw h.year at (day_of_year_is t) in grind arith
 
 -- the day of the weekday w in the week of a Thursday
 pub found_day : (t : ℤ) (w : ℕ) → w < 7 → weekday_of t ≡ 4
     → IsThursdayOf (t -ℤ pos 3 +ℤ pos ((w + 6) % 7)) t × (weekday_of (t -ℤ pos 3 +ℤ pos ((w + 6) % 7)) ≡ w)
-found_day t w h e =
-    let here = floor_mod_parts (t +ℤ pos 4) 7 (omega arith) in
-    let there = floor_mod_parts (t -ℤ pos 3 +ℤ pos ((w + 6) % 7) +ℤ pos 4) 7 (omega arith) in
-    ((e, omega (arith, floors), omega (arith, floors)), omega (arith, floors, e))
+found_day t w h e = grind arith
 
 pub only_day : (day t : ℤ) (w : ℕ) → weekday_of day ≡ w → IsThursdayOf day t → t -ℤ pos 3 +ℤ pos ((w + 6) % 7) ≡ day
-only_day day t w e h =
-    let here = floor_mod_parts (day +ℤ pos 4) 7 (omega arith) in
-    let there = floor_mod_parts (t +ℤ pos 4) 7 (omega arith) in
-    omega (arith, floors, e, h.0)
+only_day day t w e h = grind arith
 
 pub number_below : (w : Weekday) → weekday_number w < 7
 number_below w = grind arith
 
 -- a week that begins on the weekday w
 pub week_start : (day f : ℤ) (w : ℕ) → w < 7 → f +ℤ pos ((weekday_of day + 7 - w) % 7) ≡ day → weekday_of f ≡ w
-week_start day f w h e =
-    let here = floor_mod_parts (day +ℤ pos 4) 7 (omega arith) in
-    let there = floor_mod_parts (f +ℤ pos 4) 7 (omega arith) in
-    omega (arith, floors, e)
+week_start day f w h e = grind arith
 
 -- Whole years by the two cases of the month and the day.
 
@@ -123,10 +95,6 @@ pub iso_answer : (y : ℤ) (n w : ℕ) (t day : ℤ) (answer : Option NaiveDate)
     → day ≡ t -ℤ pos 3 +ℤ pos ((w + 6) % 7) → IsDateOfDay day answer
     → MatchOption answer ((other : ℤ) → IsDayInRange other → IsDayOfIsoWeek y n w other → ⊥)
     (λ d. IsDayInRange (day_of d) × IsDayOfIsoWeek y n w (day_of d))
-iso_answer y n w t day (Some d) h k e is =
-    let found = found_day t w h k.weekday in let same = is.1 ∙ e in
-    (rw is.1 is.0, rw same (record { weekday = found.1; thursday = t; in_week = found.0; of_year = k }))
+iso_answer y n w t day (Some d) h k e is = grind (arith, ints)
 iso_answer y n w t day None h k e is = λ other inside in_week.
-    let one = only_thursday y n t k in let two = only_thursday y n in_week.thursday in_week.of_year in
-    let same : in_week.thursday ≡ t = sym two.2 ∙ one.2 in
-    let day_is = rw same at (only_day other in_week.thursday w in_week.weekday in_week.in_week) in is (rw (e ∙ day_is) inside)
+    let one = only_thursday y n t k in let two = only_thursday y n in_week.thursday in_week.of_year in grind (arith, ints)

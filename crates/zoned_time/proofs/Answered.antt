@@ -12,17 +12,7 @@ pub first_from : (p : ℤ → Type 0) → ((u : ℤ) → p u ⊎ (p u → ⊥)) 
 first_from p decide zero start end e h = (end, omega (arith, ints, e), omega (arith, ints), h, λ u from k. omega (arith, ints, e, from))
 first_from p decide (suc n) start end e h = elim (decide start) [
   | inl here ↦ (start, omega (arith, ints), omega (arith, ints, e), here, λ u from k. from)
-  | inr not ↦
-      let later = first_from p decide n (start +ℤ pos 1) end (omega (arith, ints, e)) h in
-      let from_later = later.1 in (
-        later.0,
-        omega (arith, ints, from_later),
-        later.2,
-        later.3,
-        λ u from k.
-            by_lt_z start u (λ behind. later.4 u (omega (arith, ints, behind)) k)
-            (λ at. let same : start ≡ u = omega (arith, ints, at, from) in absurd (not (rw same k))),
-      )
+  | inr not ↦ grind (arith, ints, first_from p decide n (start +ℤ pos 1) end (omega (arith, ints, e)) h)
 ]
 
 less_or_not : (a b : ℤ) → (a <ℤ b) ⊎ (a <ℤ b → ⊥)

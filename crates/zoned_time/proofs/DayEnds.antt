@@ -57,7 +57,6 @@ too_early off day within early =
     let inside : IsZoneSecond (neg_ℤ (pos 8_334_601_228_801)) = (omega (arith, ints), omega (arith, ints)) in
     let near = within (neg_ℤ (pos 8_334_601_228_801)) inside in
     let found = first_until off (midnight day).s (neg_ℤ (pos 8_334_601_228_801)) (record { in_zone = inside; reached = omega (arith, ints, near) }) in
-    let last = found.2 in
     out_of_range off (midnight day) found.0 found.1 (λ range. omega (arith, ints, range))
 
 -- half a day after half a day after a midnight
@@ -78,9 +77,7 @@ told_end law day start next told (Some d) h some at =
 
 -- ---- the day so many days before that of a date
 pub no_earlier_day : (off : ℤ → ℤ) (old : ℤ) (n : ℕ) → StayWithinDay off → IsWideDay old → IsDaysLater day_of IsDateOn old (neg_ℤ (pos n)) None → IsFirstOutOfRange off (midnight (old -ℤ pos n))
-no_earlier_day off old n within wide h =
-    let none = subst (λ (w : Option ℤ). SomeIff w (MayShowDay old (old +ℤ neg_ℤ (pos n))) (old +ℤ neg_ℤ (pos n))) (sym h.given) h.there in
-    too_early off (old -ℤ pos n) within (grind (arith, ints))
+no_earlier_day off old n within wide h = grind (arith, too_early)
 
 pub earlier_day : (old : ℤ) (n : ℕ) (date : NaiveDate) → IsDaysLater day_of IsDateOn old (neg_ℤ (pos n)) (Some date) → day_of date ≡ old -ℤ pos n
 earlier_day old n date h =
@@ -91,27 +88,16 @@ shows_home : (off home : ℤ → ℤ) (l r : Reading) → SameOffsets off home �
 shows_home off home l r same h = record { in_zone = h.in_zone; not_before = subst (λ (k : ℤ). ¬ (IsEarlier (ahead r k) l)) (same r.s h.in_zone) h.not_before }
 
 first_home : (off home : ℤ → ℤ) (l r : Reading) → SameOffsets off home → IsFirstInstantFrom off l r → IsFirstInstantFrom home l r
-first_home off home l r same h = record {
-  shown = shows_home off home l r same h.shown;
-  first = λ q k. h.first q (shows_home home off l q (λ v zone. sym (same v zone)) k);
-}
+first_home off home l r same h = grind arith
 
 pub start_home : {O T : Type 0} {m : Meaning O} (law home : Law m) (l : Reading) (told : T → Zoned O) (found : Option T) → SameLaw law home
     → MatchOption found (IsFirstOutOfRange law.off l) (λ d. IsZonedAtOrAfter law l (told d)) → MatchOption found (IsFirstOutOfRange home.off l) (λ d. IsZonedAtOrAfter home l (told d))
 start_home law home l told None same h = (h.0, first_home law.off home.off l h.0 same.offsets h.1, h.2)
-start_home law home l told (Some d) same h = record {
-  first = first_home law.off home.off l (told d).utc same.offsets h.first;
-  offset = offset_home_at law home (told d).utc.s (told d).offset same h.first.shown.in_zone h.offset;
-}
+start_home law home l told (Some d) same h = grind arith
 
 -- ---- gaps and folds
 first_second : (off : ℤ → ℤ) (l u : ℤ) → IsZoneSecond u → (u +ℤ off u) ≡ l → NonePassed off l u → ((v : ℤ) → ShowsByOffset off l v (off v) → u ≤ℤ v) → IsFirstToReach off l u
-first_second off l u inside shown none least = record {
-  reached = record { in_zone = inside; reached = omega (arith, ints) };
-  first = λ v h. by_lt_z v u
-      (λ less. let most = none v h.in_zone less in let reached = h.reached in least v (record { in_zone = h.in_zone; offset = refl; shown = omega (arith, ints) }))
-      (λ more. more);
-}
+first_second off l u inside shown none least = grind (arith, ints)
 
 first_shown : (off : ℤ → ℤ) (l a : Reading) (u k : ℤ) → ShowsByOffset off l.s u k → NonePassed off l.s (l.s -ℤ k) → ((v : ℤ) → ShowsByOffset off l.s v (off v) → u ≤ℤ v) → IsFirstInstantFrom off l a → a ≡ behind l k
 first_shown off l a u k h none least first =

@@ -37,7 +37,6 @@ skipped off day a b never h k =
     let reached = (to_reached off (midnight day) a h.shown).reached in
     let past : ((day +ℤ pos 1) *ℤ pos 86_400) ≤ℤ (a.s +ℤ off a.s) =
     by_lt_z (a.s +ℤ off a.s) ((day +ℤ pos 1) *ℤ pos 86_400) (λ less. absurd (never a.s (record { in_zone = h.shown.in_zone; since = omega (arith, ints); before = omega (arith, ints) }))) (λ m. m) in
-    let not_later = k.first a (at_midnight off (day +ℤ pos 1) a h.shown.in_zone past) in
     let not_earlier = rises off (midnight day) (midnight (day +ℤ pos 1)) a b (not_earlier_day day (day +ℤ pos 1) (omega (arith, ints))) h k in
     grind (arith, ints)
 
@@ -63,14 +62,7 @@ pub first_until : (off : ℤ → ℤ) (l v : ℤ) → HasReached off l v → (u 
 first_until off l v h =
     let inside = h.in_zone in let start : ℤ = neg_ℤ (pos 8_334_601_401_600) in
     let found = first_from (λ u. l ≤ℤ (u +ℤ off u)) (λ u. by_lt_z (u +ℤ off u) l (λ less. inr (λ more. omega (arith, ints))) (λ more. inl more))
-    (unsigned_abs (v -ℤ start)) start v (omega (arith, ints, inside)) h.reached in (
-      found.0,
-      record {
-        reached = record { in_zone = (found.1, omega (arith, ints, inside, found.2)); reached = found.3 };
-        first = λ w k. found.4 w k.in_zone.0 k.reached;
-      },
-      found.2,
-    )
+    (unsigned_abs (v -ℤ start)) start v (omega (arith, ints, inside)) h.reached in grind (arith, ints)
 
 -- clocks reach each second of a day that is in range or a buffer day, and the midnight after these days
 pub reaches : (off : ℤ → ℤ) (l : ℤ) → StayWithinDay off → neg_ℤ (pos 8_334_601_315_200) ≤ℤ l → l ≤ℤ pos 8_210_266_963_200 → (u : ℤ) × IsFirstToReach off l u

@@ -6,10 +6,7 @@ use Rattle.zoned_time.proofs.Words.{of_secs, option_map, pos, refl, subst, sym, 
 
 -- ---- days
 pub instants_of_day : {O : Type 0} {m : Meaning O} (law : Law m) (day u v : ℤ) (d e : Zoned O) → AreEndsOfDay law.off day u v → IsAt law (of_secs u 0) d → IsAt law (of_secs v 0) e → AreInstantsOfDay law day d e
-instants_of_day law day u v d e h first last =
-    let at_d : d.utc.s ≡ u = ap (λ (r : Reading). r.s) first.utc in
-    let at_e : e.utc.s ≡ v = ap (λ (r : Reading). r.s) last.utc in
-    record { ends = rw (at_d, at_e) h; at_first = rw (← at_d) at first; at_last = rw (← at_e) at last }
+instants_of_day law day u v d e h first last = grind arith
 
 pub no_day : (off : ℤ → ℤ) (day v : ℤ) → IsOnDay off day v → (IsInRange v → ⊥) → IsNoDay off day
 no_day off day v on out u h = (v, on, out)
@@ -24,9 +21,7 @@ pub day_of_told : {O T : Type 0} {m : Meaning O} (law : Law m) (first last : T �
     → let own = floor_div (u +ℤ law.off u) 86_400 in
     MatchOption found (IsNoDay law.off own) (λ d. AreInstantsOfDay law own (first d) (last d) × ((first d).utc.s ≤ℤ u) × (u ≤ℤ (last d).utc.s))
 day_of_told law first last u day None inside is h = rw is at h
-day_of_told law first last u day (Some d) inside is h =
-    let told = rw is at h in let on = on_own_day law.off u (omega (arith, ints, inside), omega (arith, ints, inside)) in
-    (told, told.ends.not_before u on, told.ends.not_after u on)
+day_of_told law first last u day (Some d) inside is h = grind (arith, on_own_day)
 
 -- ---- the first instant at or after a local time
 pub to_reached : (off : ℤ → ℤ) (l q : Reading) → IsInstantFrom off l q → HasReached off l.s q.s
@@ -36,10 +31,7 @@ to_reached off l q h = record { in_zone = h.in_zone; reached = grind (arith, int
 -- or they show a later one
 pub first_instant : (off : ℤ → ℤ) (l r : Reading) → IsFirstToReach off l.s r.s
     → ((r.s +ℤ off r.s ≡ l.s) × (r.f ≡ l.f)) ⊎ ((l.s <ℤ (r.s +ℤ off r.s)) × (r.f ≡ 0)) → IsFirstInstantFrom off l r
-first_instant off l r h shows = record {
-  shown = record { in_zone = h.reached.in_zone; not_before = λ e. grind (arith, ints) };
-  first = λ q k e. let least = h.first q.s (to_reached off l q k) in let not = k.not_before in grind (arith, ints);
-}
+first_instant off l r h shows = grind (arith, ints)
 
 -- the local time has no nanoseconds, as a midnight
 pub first_whole : (off : ℤ → ℤ) (l : Reading) (u : ℤ) → l.f ≡ 0 → IsFirstToReach off l.s u → IsFirstInstantFrom off l (of_secs u 0)
@@ -71,19 +63,12 @@ pub told_exact : {O T : Type 0} {m : Meaning O} (law : Law m) (l : Reading) (u :
     → SomeIff (option_map told found) (HasInstant seconds l whole.offset) (instant_of seconds l whole.offset)
     → MatchOption found (IsFirstOutOfRange law.off l) (λ d. IsZonedAtOrAfter law l (told d))
 told_exact law l u seconds whole told found by_seconds h inside at shown is =
-    let utc : whole.utc.s ≡ l.s -ℤ seconds whole.offset = omega (arith, ints) in
-    let back : u ≡ l.s -ℤ seconds whole.offset = sym (ap (λ (r : Reading). r.s) at.utc) ∙ utc in
-    let here = rw utc at at.offset in let ahead = sym (by_seconds whole.offset) ∙ here.there in
-    shown_then law l seconds whole.offset told found (rw back at h) (rw back at inside) here (omega (arith, ints, ahead)) is
+    let utc : whole.utc.s ≡ l.s -ℤ seconds whole.offset = omega (arith, ints) in grind (arith, shown_then)
 
 -- and the second itself, if they show a later one
 pub told_later : {O : Type 0} {m : Meaning O} (law : Law m) (l : Reading) (u : ℤ) (seconds : O → ℤ) (whole : Zoned O) → ((o : O) → m.seconds o ≡ seconds o)
     → IsFirstToReach law.off l.s u → IsAt law (of_secs u 0) whole → ((whole.utc.s +ℤ seconds whole.offset) ≡ l.s → ⊥) → IsZonedAtOrAfter law l whole
-told_later law l u seconds whole by_seconds h at differs =
-    let reached = h.reached.reached in let utc = ap (λ (r : Reading). r.s) at.utc in let there = rw utc at at.offset.there in
-    let ahead = by_seconds whole.offset in
-    let later : l.s <ℤ (u +ℤ law.off u) = by_lt_z l.s (u +ℤ law.off u) (λ less. less) (λ not. absurd (differs (omega (arith, ints)))) in
-    record { first = subst (IsFirstInstantFrom law.off l) (sym at.utc) (first_instant law.off l (of_secs u 0) h (inr (later, refl))); offset = at.offset }
+told_later law l u seconds whole by_seconds h at differs = grind (arith, ints)
 
 -- ---- a zone whose clocks are never set
 fixed_first : {O : Type 0} {m : Meaning O} (law : Law m) (l noon u : ℤ) → IsFixed law → IsZoneSecond noon → IsZoneSecond u → u +ℤ law.off noon ≡ l → IsFirstToReach law.off l u

@@ -9,19 +9,12 @@ pub same_itself : {O : Type 0} {m : Meaning O} (law : Law m) → SameLaw law law
 same_itself law = record { offsets = λ u zone. refl; in_force = λ u zone o. (λ h. h, λ h. h) }
 
 pub same_through : {O : Type 0} {m : Meaning O} {a b c : Law m} → SameLaw a b → SameLaw b c → SameLaw a c
-same_through p q = record {
-  offsets = λ u zone. p.offsets u zone ∙ q.offsets u zone;
-  in_force = λ u zone o. (λ h. (q.in_force u zone o).0 ((p.in_force u zone o).0 h), λ h. (p.in_force u zone o).1 ((q.in_force u zone o).1 h));
-}
+same_through p q = grind arith
 
 -- the offset at a second, and at an instant
 pub offset_home_at : {O : Type 0} {m : Meaning O} (law home : Law m) (u : ℤ) (o : O)
     → SameLaw law home → IsZoneSecond u → IsOffsetAt law u o → IsOffsetAt home u o
-offset_home_at law home u o same inside at = record {
-  there = at.there ∙ same.offsets u inside;
-  in_force = (same.in_force u inside o).0 at.in_force;
-  same_home = same_through at.same_home same;
-}
+offset_home_at law home u o same inside at = grind arith
 
 pub offset_home : {O : Type 0} {m : Meaning O} (law home : Law m) (u : ℤ) (o : O)
     → SameLaw law home → IsInRange u → IsOffsetAt law u o → IsOffsetAt home u o
@@ -40,9 +33,7 @@ same_map answer = grind arith
 
 wall_home : (off home : ℤ → ℤ) (l : ℤ) (answer : LocalResult ℤ)
     → SameOffsets off home → IsWallAnswer (ShowsByOffset off l) answer → IsWallAnswer (ShowsByOffset home l) answer
-wall_home off home l answer same wall = subst (IsWallAnswer (ShowsByOffset home l)) (same_map answer)
-    (IsWallAnswer-map_of (ShowsByOffset off l) (ShowsByOffset home l) (λ k. k) (λ u k s. shows_home off home l u k same s)
-    (λ u k s. (k, shows_home home off l u k (λ v zone. sym (same v zone)) s)) answer wall)
+wall_home off home l answer same wall = grind arith
 
 -- what holds of each offset that clocks show the wall clock by, holds of each offset for it
 pub each_of : {O : Type 0} {m : Meaning O} (law : Law m) (l : ℤ) (P : O → Type 0) (offsets : LocalResult O) → AreOffsetsFor law l offsets
@@ -61,8 +52,7 @@ pub offsets_home : {O : Type 0} {m : Meaning O} (law home : Law m) (l : ℤ) (of
     → SameLaw law home → AreOffsetsFor law l offsets → AreOffsetsFor home l offsets
 offsets_home {m = m} law home l offsets same h = record {
   wall = wall_home law.off home.off l (map_of m.seconds offsets) same.offsets h.wall;
-  in_force = each_of law l (λ o. home.in_force (l -ℤ m.seconds o) o) offsets h
-      (λ u o s there knows. (same.in_force (l -ℤ m.seconds o) (rw (shown_second law.off l u (m.seconds o) s) s.in_zone) o).0 there);
+  in_force = grind (arith, ints);
   same_home = each_of law l (λ o. SameLaw (home_law m o) home) offsets h (λ u o s there knows. same_through knows same);
 }
 
@@ -83,20 +73,14 @@ home_seconds {m = m} law other o same home =
 
 pub at_seconds : {O : Type 0} {m : Meaning O} (law other : Law m) (r : Reading) (d : Zoned O)
     → SameOffsets law.off other.off → IsInRange r.s → IsAt law r d → IsAt (seconds_alone other) r d
-at_seconds law other r d same range at =
-    let in_range : IsInRange d.utc.s = subst (λ k. IsInRange k.s) (sym at.utc) range in
-    let inside : IsZoneSecond d.utc.s = (omega (arith, ints, in_range), omega (arith, ints, in_range)) in
-    let there = at.offset.there ∙ same d.utc.s inside in
-    record { utc = at.utc; offset = record { there = there; in_force = there; same_home = home_seconds law other d.offset same at.offset.same_home } }
+at_seconds law other r d same range at = grind arith
 
 offsets_seconds : {O : Type 0} {m : Meaning O} (law other : Law m) (l : ℤ) (offsets : LocalResult O)
     → SameOffsets law.off other.off → AreOffsetsFor law l offsets → AreOffsetsFor (seconds_alone other) l offsets
 offsets_seconds {m = m} law other l offsets same h = record {
   wall = wall_home law.off other.off l (map_of m.seconds offsets) same h.wall;
-  in_force = each_of law l (λ o. m.seconds o ≡ other.off (l -ℤ m.seconds o)) offsets h
-      (λ u o s there knows. rw (shown_second law.off l u (m.seconds o) s) (s.offset ∙ same u s.in_zone));
-  same_home = each_of law l (λ o. SameLaw (seconds_alone (home_law m o)) (seconds_alone other)) offsets h
-      (λ u o s there knows. home_seconds law other o same knows);
+  in_force = grind (arith, ints);
+  same_home = grind arith;
 }
 
 pub relocal_seconds : {O : Type 0} {m : Meaning O} (law other : Law m) (l : Reading) (answer : LocalResult (Zoned O))

@@ -18,27 +18,14 @@ some_told seconds None p v h = h
 pub told_in_seconds : {O : Type 0} (seconds : O → ℤ) (l : Reading) (offsets : LocalResult O) (answer : LocalResult (Zoned O))
     → AreInstantsOf seconds l offsets answer → AreInstantsOf (λ k. k) l (map_of seconds offsets) (map_of (in_seconds seconds) answer)
 told_in_seconds seconds l none answer h = record { answers = none; asked = refl; kept = rw (h.kept, h.asked) refl }
-told_in_seconds seconds l (Single o) answer h = let a = h.asked in record {
-  answers = Single (option_map (in_seconds seconds) a.0);
-  asked = (option_map (in_seconds seconds) a.0, tt, some_told seconds a.0 _ _ a.2, refl);
-  kept = rw (h.kept, a.3) (map_all (in_seconds seconds) (Single a.0));
-}
-told_in_seconds seconds l (Ambiguous o p) answer h = let a = h.asked in record {
-  answers = Ambiguous (option_map (in_seconds seconds) a.0) (option_map (in_seconds seconds) a.1);
-  asked = (option_map (in_seconds seconds) a.0, option_map (in_seconds seconds) a.1, tt, tt, some_told seconds a.0 _ _ a.4, some_told seconds a.1 _ _ a.5, refl);
-  kept = rw (h.kept, a.6) (map_all (in_seconds seconds) (Ambiguous a.0 a.1));
-}
+told_in_seconds seconds l (Single o) answer h = grind (arith, map_all)
+told_in_seconds seconds l (Ambiguous o p) answer h = let a = h.asked in grind (arith, map_all)
 
 instants_once : {O : Type 0} (seconds : O → ℤ) (l : Reading) (offsets : LocalResult O) (a b : LocalResult (Zoned O))
     → AreInstantsOf seconds l offsets a → AreInstantsOf seconds l offsets b → a ≡ b
 instants_once seconds l none a b h k = rw (h.kept, h.asked, k.kept, k.asked) refl
-instants_once seconds l (Single o) a b h k =
-    let same = given_once h.asked.0 k.asked.0 _ _ h.asked.2 k.asked.2 in
-    rw (h.kept, h.asked.3, k.kept, k.asked.3) (ap (λ x. all_or_none (Single x)) same)
-instants_once seconds l (Ambiguous o p) a b h k =
-    let first = given_once h.asked.0 k.asked.0 _ _ h.asked.4 k.asked.4 in
-    let last = given_once h.asked.1 k.asked.1 _ _ h.asked.5 k.asked.5 in
-    rw (h.kept, h.asked.6, k.kept, k.asked.6) (ap (λ x. all_or_none (Ambiguous x h.asked.1)) first ∙ ap (λ y. all_or_none (Ambiguous k.asked.0 y)) last)
+instants_once seconds l (Single o) a b h k = grind arith
+instants_once seconds l (Ambiguous o p) a b h k = grind arith
 
 pub offsets_once : (off : ℤ → ℤ) (l : ℤ) → HasOneValue (ShowsByOffset off l)
 offsets_once off l u a b x y = x.offset ∙ sym y.offset
@@ -48,9 +35,7 @@ pub relocal_once : {O : Type 0} {m : Meaning O} (law : Law m) (l : Reading) (a b
     → IsRelocal law l a → IsRelocal law l b → map_of (in_seconds m.seconds) a ≡ map_of (in_seconds m.seconds) b
 relocal_once {m = m} law l a b h k =
     let same : map_of m.seconds h.offsets ≡ map_of m.seconds k.offsets =
-    one_wall_answer (ShowsByOffset law.off l.s) (offsets_once law.off l.s) _ _ h.wall.wall k.wall.wall in
-    instants_once (λ s. s) l (map_of m.seconds k.offsets) _ _
-    (rw (← same) (told_in_seconds m.seconds l h.offsets a h.instants)) (told_in_seconds m.seconds l k.offsets b k.instants)
+    one_wall_answer (ShowsByOffset law.off l.s) (offsets_once law.off l.s) _ _ h.wall.wall k.wall.wall in grind arith
 
 single_told : {T Z : Type 0} (f : T → Z) (a : LocalResult T) → single_of (map_of f a) ≡ option_map f (single_of a)
 single_told f a = grind arith
@@ -63,10 +48,7 @@ some_of f d None h = cc
 only_some : {O : Type 0} {m : Meaning O} (law : Law m) (l : Reading) (d : Zoned O) (b : Option (Zoned O))
     → IsOnly law l (Some d) → IsOnly law l b → IsSome b
 only_some {m = m} law l d b h k =
-    let told = in_seconds m.seconds in
-    let same : option_map told (single_of h.instants) ≡ option_map told (single_of k.instants) =
-    sym (single_told told h.instants) ∙ ap single_of (relocal_once law l h.instants k.instants h.relocal k.relocal) ∙ single_told told k.instants in
-    some_of told d b (ap (option_map told) h.only ∙ same ∙ ap (option_map told) (sym k.only))
+    let told = in_seconds m.seconds in grind arith
 
 only_some_where : {O : Type 0} {m : Meaning O} (law : Law m) (l : Option Reading) (d : Zoned O) (b : Option (Zoned O))
     → IsOnlyWhere law l (Some d) → IsOnlyWhere law l b → IsSome b
@@ -80,10 +62,7 @@ some_mapped f a h = grind arith
 pub given_some : {T V O : Type 0} {m : Meaning O} (law : Law m) (shows : T → V) (reads : V → Reading) (told : T → Zoned O) (p : Type 0) (v : V) (d : T) (b : Option T)
     → IsGiven shows (λ value new. IsOnlyWhere law (option_map reads value) (option_map told new)) p v (Some d)
     → IsGiven shows (λ value new. IsOnlyWhere law (option_map reads value) (option_map told new)) p v b → IsSome b
-given_some law shows reads told p v d b h k =
-    let At : Option _ → Type 0 = λ value. IsOnlyWhere law (option_map reads value) (option_map told (Some d)) in
-    some_mapped told b (only_some_where law (option_map reads k.value) (told d) (option_map told b)
-    (subst At (given_once h.value k.value p v h.there k.there) h.given) k.given)
+given_some law shows reads told p v d b h k = grind arith
 
 -- what gives nothing
 pub given_none : {T U V O : Type 0} {m : Meaning O} (law : Law m) (shows : T → V) (shown : U → V) (reads : V → Reading) (told : T → Zoned O)
@@ -101,7 +80,4 @@ unread r (Some n) h = cc
 pub no_months_later : {T O : Type 0} {m : Meaning O} (law : Law m) (shows : T → ℤ) (told : T → Zoned O) (r l : Reading) (by : ℤ) → r ≡ l
     → IsMonthsLater day_shown_by (IsReadingOnDay r) (day_at r) by None
     → IsMonthsLater shows (λ day new. IsOnlyWhere law (option_map (λ n. reading_at n (second_at l) l.f) day) (option_map told new)) (day_at l) by None
-no_months_later law shows told r l by same h =
-    let At : Reading → Type 0 =
-    λ k. IsMonthsLater shows (λ day new. IsOnlyWhere law (option_map (λ n. reading_at n (second_at k) k.f) day) (option_map told new)) (day_at k) by None in
-    subst At same (given_none law shows day_shown_by (λ n. reading_at n (second_at r) r.f) told (IsReadingOnDay r) _ _ (unread r) h)
+no_months_later law shows told r l by same h = grind arith

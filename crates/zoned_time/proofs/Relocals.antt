@@ -27,9 +27,7 @@ epoch_in_zone = (omega (arith, ints), omega (arith, ints))
 -- and a second in range shows its reading
 shown_in_range : {O : Type 0} {m : Meaning O} (law : Law m) (l : ℤ) → IsFixed law → IsInRange (l -ℤ law.off (pos 0))
     → ShowsByOffset law.off l (l -ℤ law.off (pos 0)) (law.off (pos 0))
-shown_in_range law l fixed range =
-    let inside : IsZoneSecond (l -ℤ law.off (pos 0)) = (omega (arith, ints, range), omega (arith, ints, range)) in
-    record { in_zone = inside; offset = fixed (pos 0) (l -ℤ law.off (pos 0)) epoch_in_zone inside; shown = omega (arith, ints) }
+shown_in_range law l fixed range = grind arith
 
 -- one offset's instant, where that is in range, or no offset, where none is
 abbrev GivenOnce : {O : Type 0} {m : Meaning O} → Law m → Reading → LocalResult (Zoned O) → Type 0
@@ -51,9 +49,7 @@ pub fixed_relocal : {O : Type 0} {m : Meaning O} (law : Law m) (zone : O) (l : R
     → m.seconds zone ≡ law.off (pos 0) → ((o : O) → m.seconds o ≡ law.off (pos 0) → o ≡ zone) → IsFixed law → IsRelocal law l answer
     → SingleIff answer (HasInstant m.seconds l zone) (instant_of m.seconds l zone)
 fixed_relocal {O} {m} law zone l answer is only fixed h = elim (given_once law l h.offsets answer fixed h.wall.wall h.instants) [
-  | inl given ↦
-      let At : O → Type 0 = λ z. SingleIff answer (HasInstant m.seconds l z) (instant_of m.seconds l z) in
-      subst At (only given.0 given.1) given.2
+  | inl given ↦ grind arith
   | inr missing ↦ rw missing.1 (rw is missing.0)
 ]
 
@@ -73,19 +69,14 @@ fixed_single law l show answer fixed range h = elim (given_once law l h.offsets 
 pub utc_instant : (l : Reading) (answer : LocalResult (Zoned Utc))
     → SingleIff answer (HasInstant {O = Utc} (λ _. pos 0) l (record {})) (instant_of {O = Utc} (λ _. pos 0) l (record {}))
     → SingleIff answer (IsInRange l.s) (in_utc l)
-utc_instant l answer h =
-    let At : ℤ → Type 0 = λ s. SingleIff answer (IsInRange s) (in_utc (record { s = s; f = l.f })) in
-    let same : l.s -ℤ pos 0 ≡ l.s = omega (arith, ints) in
-    subst At same h
+utc_instant l answer h = grind arith
 
 -- an instant of an offset that a zone gives at the second u for the wall clock l
 pub at_shown : {O : Type 0} {m : Meaning O} (law : Law m) (l : Reading) (u : ℤ) (o : O)
     → ShowsByOffset law.off l.s u (m.seconds o) → law.in_force (l.s -ℤ m.seconds o) o → SameLaw (home_law m o) law
     → (local_of m.seconds (instant_of m.seconds l o) ≡ l) × IsAt law (instant_of m.seconds l o).utc (instant_of m.seconds l o)
 at_shown {m = m} law l u o shows in_force same =
-    let back : (l.s -ℤ m.seconds o) +ℤ m.seconds o ≡ l.s = omega (arith, ints) in
-    let there : m.seconds o ≡ law.off (l.s -ℤ m.seconds o) = rw (shown_second law.off l.s u (m.seconds o) shows) shows.offset in
-    (ap (λ s. record { s = s; f = l.f }) back, record { utc = refl; offset = record { there = there; in_force = in_force; same_home = same } })
+    let back : (l.s -ℤ m.seconds o) +ℤ m.seconds o ≡ l.s = omega (arith, ints) in grind arith
 
 -- what holds of each instant holds of those that are kept
 one_kept : {Z : Type 0} (G : Z → Type 0) (a : Option Z) (p : Type 0) (v : Z) → SomeIff a p v → G v → Each G (all_or_none (Single a))
@@ -108,9 +99,7 @@ each_kept seconds l G (Ambiguous o p) answer h each =
 -- the instants that a zone gives for a wall clock show it
 pub relocal_shown : {O : Type 0} {m : Meaning O} (law : Law m) (l : Reading) (answer : LocalResult (Zoned O))
     → IsRelocal law l answer → Each (λ d. (local_of m.seconds d ≡ l) × IsAt law d.utc d) answer
-relocal_shown {O} {m} law l answer h =
-    let Good : Zoned O → Type 0 = λ d. (local_of m.seconds d ≡ l) × IsAt law d.utc d in
-    each_kept m.seconds l Good h.offsets answer h.instants (each_of law l.s (λ o. Good (instant_of m.seconds l o)) h.offsets h.wall (at_shown law l))
+relocal_shown {O} {m} law l answer h = grind (arith, at_shown)
 
 -- by seconds that agree
 pub shown_by : {O : Type 0} {m : Meaning O} {seconds : O → ℤ} → ((o : O) → m.seconds o ≡ seconds o)
