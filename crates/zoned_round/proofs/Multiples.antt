@@ -1,5 +1,5 @@
 -- How far the multiples of a span are from a number.
-use Rattle.zoned_round.proofs.Words.{arith, by_lt_z, floor_mod_parts, floors, inl, inr, ints, multiple_above, multiple_below, nearest_multiple, neg_ℤ, negsuc}
+use Rattle.zoned_round.proofs.Words.{arith, floor_mod_parts, floors, inl, inr, ints, multiple_above, multiple_below, nearest_multiple, neg_ℤ, negsuc}
 use Rattle.zoned_round.proofs.Words.{pos, refl, unsigned_abs, ℕ, ℤ, ◌+ℤ◌, ◌-ℤ◌, ◌<ℤ◌, ◌<◌, ◌≡◌, ◌≤ℤ◌, ◌⊎◌}
 
 -- the one below is less than a span away

@@ -1,7 +1,7 @@
 -- The multiples about a number are the greatest, the least and the nearest of all multiples.
 use Rattle.std.proofs.Math.Nat.{add-mul, mul-le-mul_right}
 use Rattle.zoned_round.proofs.Words.{IsGreatestWith, IsLeastWith, IsMultiple, ap, apart, arith, by_lt_z, down, floor_div, floors, ints, inl, inr, multiple_above}
-use Rattle.zoned_round.proofs.Words.{multiple_below, nearest_multiple, neg_ℤ, negsuc, pos, refl, unsigned_abs, up, ℕ, ℤ, ◌*ℤ◌, ◌*◌, ◌+ℤ◌, ◌+◌, ◌-ℤ◌, ◌<ℤ◌, ◌<◌}
+use Rattle.zoned_round.proofs.Words.{multiple_below, nearest_multiple, pos, refl, up, ℕ, ℤ, ◌*ℤ◌, ◌*◌, ◌+ℤ◌, ◌+◌, ◌-ℤ◌, ◌<ℤ◌, ◌<◌}
 use Rattle.zoned_round.proofs.Words.{◌∙◌, ◌≡◌, ◌≤ℤ◌, ◌≤◌}
 use Rattle.zoned_round.proofs.Multiples.{above-is, above-near, below-near, nearest-is}
 
