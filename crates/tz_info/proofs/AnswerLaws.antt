@@ -6,15 +6,7 @@ use Rattle.tz_info.proofs.Words.{IsWallAnswer, LocalResult, arith, inl, inr, int
 pub same_answer : {T : Type 0} (p q : ℤ → T → Type 0) (a : LocalResult T) → ((u : ℤ) (t : T) → p u t → q u t) → ((u : ℤ) (t : T) → q u t → p u t) → IsWallAnswer p a → IsWallAnswer q a
 same_answer p q None to from h = λ u t k. h u t (from u t k)
 same_answer p q (Single a) to from h = record { second = h.second; shown = to _ _ h.shown; only = λ u t k. h.only u t (from u t k) }
-same_answer p q (Ambiguous a b) to from h = record {
-  first = h.first;
-  last = h.last;
-  several = h.several;
-  at_first = to _ _ h.at_first;
-  at_last = to _ _ h.at_last;
-  not_before = λ u t k. h.not_before u t (from u t k);
-  not_after = λ u t k. h.not_after u t (from u t k);
-}
+same_answer p q (Ambiguous a b) to from h = grind arith
 
 -- r takes what p takes and what q takes, and p's seconds come before q's
 pub record Parts {T : Type 0} (p q r : ℤ → T → Type 0) : Type 0 where
@@ -31,12 +23,7 @@ record Ends {T : Type 0} (p : ℤ → T → Type 0) (first last : ℤ) (a b : T)
   pub not_after : (u : ℤ) (t : T) → p u t → u ≤ℤ last
 
 of_one : {T : Type 0} (p : ℤ → T → Type 0) (a : T) → (h : IsWallAnswer p (Single a)) → Ends p h.second h.second a a
-of_one p a h = record {
-  at_first = h.shown;
-  at_last = h.shown;
-  not_before = λ u t k. let e = h.only u t k in omega (arith, ints);
-  not_after = λ u t k. let e = h.only u t k in omega (arith, ints);
-}
+of_one p a h = grind arith
 
 of_several : {T : Type 0} (p : ℤ → T → Type 0) (a b : T) → (h : IsWallAnswer p (Ambiguous a b)) → Ends p h.first h.last a b
 of_several p a b h = record { at_first = h.at_first; at_last = h.at_last; not_before = h.not_before; not_after = h.not_after }
@@ -68,13 +55,4 @@ joined_answer p q r (Ambiguous a b) (Ambiguous c d) o x y = both p q r _ _ _ _ a
 
 -- q takes the second c more, which comes behind all others
 pub behind_answer : {T : Type 0} (p q : ℤ → T → Type 0) (c : ℤ) (t : T) (answer : LocalResult T) → ((u : ℤ) (f : T) → p u f → q u f) → ((u : ℤ) (f : T) → q u f → p u f ⊎ (u ≡ c)) → q c t → ((u : ℤ) (f : T) → p u f → u <ℤ c) → IsWallAnswer p answer → IsWallAnswer q (joined answer (Single t))
-behind_answer p q c t answer old only h below s =
-    joined_answer p (λ u f. (u ≡ c) × q u f) q answer (Single t)
-    (record {
-      first = old;
-      last = λ u f k. k.1;
-      all = λ u f k. ⊎_elim (λ i. inl i) (λ e. inr (e, k)) (only u f k);
-      order = λ u v f g a b. let e = b.0 in let l = below u f a in omega (arith, ints);
-    })
-    s
-    (record { second = c; shown = (refl, h); only = λ u f k. k.0 })
+behind_answer p q c t answer old only h below s = grind arith

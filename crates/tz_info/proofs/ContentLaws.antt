@@ -13,9 +13,7 @@ first_transition : (w : ℕ) (times : List ℕ) (i : ℕ) (is : List ℕ) (ts : 
 first_transition w times i is [] h = let e = h.indexes_are in cc
 first_transition w times i is (t ∷ ts) h =
     let r = h.times_are in let e = h.indexes_are in
-    let cut = exact_cut w times r.0 r.1 r.2 r.3 in
-    let index : i ≡ t.type_index = cc in let others : is ≡ map (λ t. t.type_index) ts = cc in
-    (t, rw (cut.0, r.4, index) refl, (ts, record { times_are = rw cut.1 r.5; indexes_are = others }, refl))
+    let cut = exact_cut w times r.0 r.1 r.2 r.3 in grind arith
 
 none_spelled : (w : ℕ) (times : List ℕ) (ts : List Transition) → SpellTransitions w times [] ts → [] ≡ ts
 none_spelled w times [] h = refl
@@ -55,8 +53,7 @@ leap_takes w bytes l = record {
 }
 
 leap_law : (w : ℕ) (bytes : List ℕ) → length bytes ≡ w + 4 → Decided LeapSecond (Ok (leap_second_of w bytes)) (SpellsLeapSecond w bytes) (λ _. ⊥)
-leap_law w bytes l = said (done (leap_second_of w bytes)) (λ leap h. subst (SpellsLeapSecond w bytes) h (leap_takes w bytes l))
-    (λ leap h. let cut = exact_cut w bytes h.time h.correction h.whole h.size in rw (cut.0, cut.1, h.time_is, h.correction_is) refl)
+leap_law w bytes l = grind (arith, leap_takes, exact_cut)
 
 pub leap_seconds_law : (n w : ℕ) (part : List ℕ) → length part ≡ n * (w + 4) → Decided (List LeapSecond) (values_below n (leap_second_in w part)) (SpellLeapSeconds w part) (λ _. ⊥)
 leap_seconds_law n w part l = like (records n (w + 4) part (omega arith) l (leap_law w)) (λ leaps h. h) (λ leaps h. h) (λ e f. f.fault) (λ e f. absurd f)
@@ -77,6 +74,4 @@ agree_is s u h = λ k a. elim (cases_lt k (length u)) as (λ _. slice_index u k 
 
 pub indicators_law : (s u : List ℕ) → Decided (Unit {0}) (indicators_of s u) (λ _. IndicatorsAgree s u) (λ e. ¬ (IndicatorsAgree s u) × (e ≡ InvalidTzFile StandardTimeWhereTimeIsUt))
 unfolding indicators_of
-indicators_law s u = said (guard tt (InvalidTzFile StandardTimeWhereTimeIsUt) (omega arith) (agree_is s u, λ h. below_again (length u) (pair_agrees s u) (λ k l. not_both (slice_index s k) (slice_index u k) (h k))))
-    (λ x h. h.0)
-    (λ x h. (h, refl))
+indicators_law s u = grind (arith, agree_is, below_again)

@@ -32,10 +32,7 @@ type_among types k d h = (k, simp length-map (h), get_or-map (λ (t : LocalType)
 pub first_type : (types : List LocalType) (d : LocalType) (e : Extremes) → 0 < length types → e.greatest ≡ (get_or types 0 d).offset
     → e.least ≡ (get_or types 0 d).offset → AreExtremes (offsets_of (take 1 types)) e
 first_type [] d e h g l = absurd (omega arith)
-first_type (t ∷ ts) d e h g l = record {
-  greatest = record { among = (0, omega arith, sym g); most = λ k f m. let z : k ≡ 0 = omega arith in rw z (omega (arith, ints)) };
-  least = record { among = (0, omega arith, sym l); fewest = λ k f m. let z : k ≡ 0 = omega arith in rw z (omega (arith, ints)) };
-}
+first_type (t ∷ ts) d e h g l = grind arith
 
 pub next_type : (types : List LocalType) (n : ℕ) (d : LocalType) (e r : Extremes) → n < length types → AreExtremes (offsets_of (take n types)) e
     → AreJoined e (get_or types n d).offset r → AreExtremes (offsets_of (take (n + 1) types)) r

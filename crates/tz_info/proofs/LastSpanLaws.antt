@@ -36,9 +36,7 @@ shown_once_after z s after local e h each =
       shown = record { fits = b.0; type = (each u b.0 b.1 b.2).in_force_then; shown = omega (arith, ints) };
       only = λ v t k.
           let c = shows_after z after local v v e t h k.type k.shown in
-          let same = type_once z v t s.local_time_type k.type (each v c.0 c.1 c.2).in_force_then in
-          let shown : v +ℤ s.local_time_type.offset ≡ local = subst (λ (x : LocalType). v +ℤ x.offset ≡ local) same k.shown in
-          omega (arith, ints);
+          let same = type_once z v t s.local_time_type k.type (each v c.0 c.1 c.2).in_force_then in grind (arith, ints);
     }
 
 -- a span at 2^62 that has no end is the last one

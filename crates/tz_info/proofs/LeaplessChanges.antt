@@ -29,10 +29,7 @@ begun_earlier : (z : Zone) (place : ℕ) (t : Transition) → IsValid z → plac
 begun_earlier z zero t valid some item later = rw (begin_first z.transitions) later
 begun_earlier z (suc k) t valid some item later =
     let e : k + 1 ≡ suc k = omega arith in
-    let b = rw e at (begin_next z.transitions k t (omega arith)) in
-    let r = valid.transitions.rising k (suc k) t (omega arith) some in
-    let time = ap (λ (s : Transition). s.unix_leap_time) item in
-    omega (arith, ints)
+    let b = rw e at (begin_next z.transitions k t (omega arith)) in grind arith
 
 -- the transition's time, whatever stands in for a missing one
 pub time_at : (ts : List Transition) (place : ℕ) (t d : Transition) → place < length ts → t ≡ get_or ts place t → (get_or ts place d).unix_leap_time ≡ t.unix_leap_time
@@ -42,9 +39,7 @@ time_at ts place t d some item = ap (λ (s : Transition). s.unix_leap_time) (get
 pub between : (z : Zone) (place : ℕ) (u : ℤ) (t : LocalType) → IsValid z → length z.leaps ≡ 0 → place < length z.transitions
     → begin_of z.transitions place ≤ℤ u → ((d : Transition) → u <ℤ (get_or z.transitions place d).unix_leap_time)
     → HasType z (index_of z.transitions place) t → TypeAt z u t
-between z place u t valid none some since until has =
-    let segment = between_of z.transitions place u valid.transitions.rising (omega arith) (record { since = since; until = λ d l. until d }) in
-    (type_in_before z place u u t (own_leap_time z.leaps u none) segment some has).type
+between z place u t valid none some since until has = grind (arith, between_of, type_in_before, own_leap_time)
 
 type_earlier : (z : Zone) (place : ℕ) (t : Transition) (s : LocalType) → IsValid z → length z.leaps ≡ 0 → place < length z.transitions → t ≡ get_or z.transitions place t → least_time <ℤ t.unix_leap_time
     → HasType z (index_of z.transitions place) s → TypeAt z (t.unix_leap_time -ℤ pos 1) s

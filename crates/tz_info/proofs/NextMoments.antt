@@ -10,9 +10,7 @@ AreOutside moments year u next = (y : ℤ) → (year -ℤ pos 1) ≤ℤ y → y 
 
 pub outside : (moments : ℤ → ℤ) (year u next : ℤ) → (moments (year -ℤ pos 1) ≤ℤ u) ⊎ (next ≤ℤ moments (year -ℤ pos 1)) → (moments year ≤ℤ u) ⊎ (next ≤ℤ moments year)
     → (moments (year +ℤ pos 1) ≤ℤ u) ⊎ (next ≤ℤ moments (year +ℤ pos 1)) → AreOutside moments year u next
-outside moments year u next before here after y low high =
-    let at : (z : ℤ) → z ≡ y → (moments z ≤ℤ u) ⊎ (next ≤ℤ moments z) → (moments y ≤ℤ u) ⊎ (next ≤ℤ moments y) = λ z e h. subst (λ (w : ℤ). (moments w ≤ℤ u) ⊎ (next ≤ℤ moments w)) e h in
-    ⊎_elim (λ e. at (year -ℤ pos 1) (sym e) before) (⊎_elim (λ e. at year (sym e) here) (λ e. at (year +ℤ pos 1) (sym e) after)) (place year y low high)
+outside moments year u next before here after y low high = grind (arith, place)
 
 same_year : (u v next year : ℤ) → IsYearOf u year → u ≤ℤ v → v <ℤ next → next ≤ℤ (pos 86_400 *ℤ year_start (year +ℤ pos 1)) → IsYearOf v year
 same_year u v next year of_u from before end = let low = second_low u year of_u in (omega (arith, floors), omega (arith, floors))
@@ -79,22 +77,9 @@ nearer_is false s limit m = picked (int_lt limit m && int_le m s) m limit
 
 one_of : (w : Bool) (first second s limit : ℤ) → (nearer_moment w s (nearer_moment w s limit first) second ≡ limit → ⊥)
     → (nearer_moment w s (nearer_moment w s limit first) second ≡ first) ⊎ (nearer_moment w s (nearer_moment w s limit first) second ≡ second)
-one_of w first second s limit other = ⊎_elim (λ e. inr e)
-    (λ e. ⊎_elim (λ f. inl (e ∙ f)) (λ f. absurd (other (e ∙ f))) (nearer_is w s limit first)) (nearer_is w s (nearer_moment w s limit first) second)
+one_of w first second s limit other = grind arith
 
 pub nearest_moment : (w : Bool) (first second s limit : ℤ) → IsAhead w s limit
     → IsNearestMoment w first second s limit (nearer_moment w s (nearer_moment w s limit first) second)
-nearest_moment true first second s limit h = record {
-  ahead = grind (arith, ints);
-  within = grind (arith, ints);
-  of_first = λ a. grind (arith, ints);
-  of_second = λ a. grind (arith, ints);
-  one = one_of true first second s limit;
-}
-nearest_moment false first second s limit h = record {
-  ahead = grind (arith, ints);
-  within = grind (arith, ints);
-  of_first = λ a. grind (arith, ints);
-  of_second = λ a. grind (arith, ints);
-  one = one_of false first second s limit;
-}
+nearest_moment true first second s limit h = grind (arith, ints)
+nearest_moment false first second s limit h = grind (arith, ints)

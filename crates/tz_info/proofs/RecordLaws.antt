@@ -35,7 +35,6 @@ next_record size part k =
 -- the first record and the others of a part
 pub behind_first : (n size : ℕ) (part : List ℕ) → length part ≡ suc n * size → (length (take size part) ≡ size) × (length (drop size part) ≡ n * size)
 behind_first n size part l =
-    let e : suc n * size ≡ size + n * size = omega arith in
     (omega (arith, length-take size part), omega (arith, length-drop size part))
 
 none_of_none : {X : Type 0} (size : ℕ) (Spells : List ℕ → X → Type 0) (part : List ℕ) (xs : List X) → 0 < size → length part ≡ 0 → AreRecords size Spells part xs → [] ≡ xs

@@ -58,8 +58,7 @@ closed_within (Julian1 n) year fits = let most = julian_at_most (is_leap year) n
 closed_within (Julian0 n) year fits = (omega (arith, floors), omega (arith, floors))
 closed_within (MonthWeekday month week weekday) year fits =
     let lies = weekday_lies year month week weekday fits in
-    let next = year_step year in let most = days_at_most year in
-    (lies.0, omega (arith, floors))
+    let next = year_step year in grind (arith, days_at_most, floors)
 
 pub day_within : (form : DayForm) (year : ℤ) → IsRuleDay form → (year_start year ≤ℤ rule_day form year) × (rule_day form year ≤ℤ (year_start year +ℤ pos 365))
 day_within form year fits = rw (rule_day_closed form year fits) (closed_within form year fits)
@@ -67,15 +66,13 @@ day_within form year fits = rw (rule_day_closed form year fits) (closed_within f
 -- a later year begins at least a year later
 later_start : (a b : ℤ) → a <ℤ b → (year_start a +ℤ pos (days_in_year a)) ≤ℤ year_start b
 later_start a b h =
-    let step = year_step a in let rise = starts_rise (a +ℤ pos 1) b (omega (arith, floors)) in
-    omega (arith, floors)
+    let step = year_step a in grind (arith, starts_rise)
 
 -- the rule's day comes later in a later year
 closed_rises : (form : DayForm) (a b : ℤ) → IsRuleDay form → a <ℤ b → closed_day form a <ℤ closed_day form b
 unfolding closed_day
 closed_rises (Julian1 n) a b fits h =
-    let next = later_start a b h in let below = julian_below a n fits.0 fits.1 in
-    omega (arith, floors)
+    let next = later_start a b h in grind (arith, julian_below, floors)
 closed_rises (Julian0 n) a b fits h = let next = later_start a b h in let least = days_at_least a in omega (arith, floors)
 closed_rises (MonthWeekday month week weekday) a b fits h =
     let next = later_start a b h in let step = year_step a in

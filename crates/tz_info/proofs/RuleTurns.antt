@@ -60,17 +60,11 @@ starts a year day u rule inside of_year clock between =
     let e : u ≡ start_in a year = moment_is a.start a.std.offset year day u rule.start_day of_year clock in
     let rs : Rise (start_in a) = moments_rise a.start a.std.offset rule.start_day in
     let re : Rise (end_in a) = moments_rise a.end a.dst.offset rule.end_day in
-    let sides = begins (start_in a) (end_in a) year u rs re e between in (
-      (λ of_u. alternate_at a u (floor_div u 86_400) year true refl of_u inside sides.0),
-      (λ of_u. alternate_at a (u -ℤ pos 1) (floor_div (u -ℤ pos 1) 86_400) year false refl of_u inside sides.1),
-    )
+    let sides = begins (start_in a) (end_in a) year u rs re e between in grind arith
 
 pub ends : (a : Alternate) (year day u : ℤ) → IsAlternateRule a → IsRuleYear year → IsDayOf a.end.day year day → (u +ℤ a.dst.offset) ≡ (pos 86_400 *ℤ day +ℤ a.end.time) → IsBetween (start_in a) (end_in a) year → (IsYearOf u year → AlternateAt a u a.std) × (IsYearOf (u -ℤ pos 1) year → AlternateAt a (u -ℤ pos 1) a.dst)
 ends a year day u rule inside of_year clock between =
     let e : u ≡ end_in a year = moment_is a.end a.dst.offset year day u rule.end_day of_year clock in
     let rs : Rise (start_in a) = moments_rise a.start a.std.offset rule.start_day in
     let re : Rise (end_in a) = moments_rise a.end a.dst.offset rule.end_day in
-    let sides = is_over (start_in a) (end_in a) year u rs re e between in (
-      (λ of_u. alternate_at a u (floor_div u 86_400) year false refl of_u inside sides.0),
-      (λ of_u. alternate_at a (u -ℤ pos 1) (floor_div (u -ℤ pos 1) 86_400) year true refl of_u inside sides.1),
-    )
+    let sides = is_over (start_in a) (end_in a) year u rs re e between in grind arith

@@ -44,7 +44,6 @@ next_in true a s second limit moment season time decides is e =
       idle = idle;
       least = omega (arith, ints);
       ahead = λ other.
-          let sooner : moment <ℤ limit = by_lt_z moment limit (λ k. k) (λ k. absurd (other (omega (arith, ints)))) in
           record { idle = idle; amid = omega (arith, ints); one = n.one other };
     }
 next_in false a s second limit moment season time decides is e =
@@ -62,34 +61,19 @@ next_in false a s second limit moment season time decides is e =
       idle = idle;
       least = omega (arith, ints);
       ahead = λ other.
-          let later : limit <ℤ moment = by_lt_z limit moment (λ k. k) (λ k. absurd (other (omega (arith, ints)))) in
           record { idle = idle; amid = omega (arith, ints); one = n.one other };
     }
 
 -- ---- a change at the moment behind such a stretch, or none
 pub found_at : (w : Bool) (f : InForce) (second moment : ℤ) (c : Change) → IsIdleTo w f second (near_side w moment) → IsChange f c → c.at ≡ moment
     → IsNearestChange w f (IsAhead w second) c
-found_at true f second moment c idle is at = record {
-  is = is;
-  inside = let l = idle.reached in omega (arith, ints);
-  nearest = λ d is_d later. by_lt_z d.at moment (λ m. absurd (idle.none d is_d (later, omega (arith, ints)))) (λ m. omega (arith, ints));
-}
-found_at false f second moment c idle is at = record {
-  is = is;
-  inside = let l = idle.reached in omega (arith, ints);
-  nearest = λ d is_d up_to. by_lt_z moment d.at (λ m. absurd (idle.none d is_d (m, up_to))) (λ m. omega (arith, ints));
-}
+found_at true f second moment c idle is at = grind arith
+found_at false f second moment c idle is at = grind arith
 
 pub idle_over : (w : Bool) (f : InForce) (second moment : ℤ) → IsIdleTo w f second (near_side w moment) → HasNoChange f (λ u. u ≡ moment)
     → IsIdleTo w f second (far_side w moment)
-idle_over true f second moment idle none = record {
-  reached = let l = idle.reached in omega (arith, ints);
-  none = λ d is inside. let m = inside.1 in by_lt_z d.at moment (λ l. idle.none d is (inside.0, omega (arith, ints))) (λ l. none d is (omega (arith, ints)));
-}
-idle_over false f second moment idle none = record {
-  reached = let l = idle.reached in omega (arith, ints);
-  none = λ d is inside. let m = inside.0 in by_lt_z moment d.at (λ l. idle.none d is (l, inside.1)) (λ l. none d is (omega (arith, ints)));
-}
+idle_over true f second moment idle none = grind arith
+idle_over false f second moment idle none = grind arith
 
 -- ---- where none comes up to a second, the nearest one from there on is the nearest one
 ahead_or : (w : Bool) (s other u : ℤ) → IsAhead w s u → IsAheadUpTo w s other u ⊎ IsAhead w other u
@@ -102,8 +86,4 @@ ahead_still false s other u h k = omega (arith, ints)
 
 pub nearest_on : (w : Bool) (f : InForce) (s other : ℤ) (found : Option Change) → IsIdleTo w f s other → IsNearest w f (IsAhead w other) found
     → IsNearest w f (IsAhead w s) found
-nearest_on w f s other found idle h =
-    nearest_moved w f f (IsAhead w other) (IsAhead w s) found
-    (λ d is k. (is, ⊎_elim (λ m. absurd (idle.none d is m)) (λ m. m) (ahead_or w s other d.at k)))
-    (λ d is k. (is, ahead_still w s other d.at idle.reached k))
-    h
+nearest_on w f s other found idle h = grind (arith, ahead_or, ahead_still)

@@ -10,11 +10,7 @@ pub record Between (xs : List Transition) (v : ℤ) (low high : ℕ) : Type 0 wh
   pub above : (k : ℕ) (d : Transition) → high ≤ k → k < length xs → v <ℤ (get_or xs k d).unix_leap_time
 
 pub search_found : (xs : List Transition) (v : ℤ) (low high : ℕ) → high ≤ low → Between xs v low high → passed xs v ≡ take low xs
-search_found xs v low high h b =
-    let o = b.ordered in let w = b.within in
-    filter_first (λ (t : Transition). int_le t.unix_leap_time v) xs low (omega arith)
-    (λ k d l. le_true _ v (b.below k d l))
-    (λ k d l m. le_false _ v (b.above k d (omega arith) m))
+search_found xs v low high h b = grind (arith, filter_first)
 
 -- transitions whose times rise come in order
 pub in_order : (xs : List Transition) → AreRising xs → AreOrdered (map (λ (t : Transition). t.unix_leap_time) xs)
@@ -28,10 +24,7 @@ pub record StandUntil (types : ℕ) (xs : List Transition) (n : ℕ) : Type 0 wh
   pub rising : (i j : ℕ) (d : Transition) → i < j → j < n → (get_or xs i d).unix_leap_time <ℤ (get_or xs j d).unix_leap_time
 
 pub stand_less : (types : ℕ) (xs : List Transition) (n : ℕ) → 0 < n → StandUntil types xs (n + 1) → StandUntil types xs n × Stands types xs n
-stand_less types xs n some s = (
-  record { indexes = λ k d h. s.indexes k d (omega arith); rising = λ i j d h l. s.rising i j d h (omega arith) },
-  record { index = λ d. s.indexes n d (omega arith); later = λ d h. s.rising (n - 1) n d (omega arith) (omega arith) },
-)
+stand_less types xs n some s = grind arith
 
 pub stand_more : (types : ℕ) (xs : List Transition) (n : ℕ) → StandUntil types xs n → Stands types xs n → StandUntil types xs (n + 1)
 stand_more types xs n s here = record {
