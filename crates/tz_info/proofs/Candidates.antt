@@ -18,19 +18,9 @@ asked_one at l o after only (inr (t, k, e)) = rw e (record { second = l -ℤ o; 
 
 -- two, the greater offset first, since its second is the earlier one
 pub asked_both : (at : ℤ → LocalType → Type 0) (l o p : ℤ) (one two : LocalResult LocalType) → p <ℤ o → ((u : ℤ) (t : LocalType) → Shows at l u t → (u ≡ l -ℤ o) ⊎ (u ≡ l -ℤ p)) → IsAskedLast at l o None one → IsAskedLast at l p one two → IsWallAnswer (Shows at l) two
-asked_both at l o p one two less both (inl (e, none)) g = asked_one at l p two
-    (λ u t k. ⊎_elim (λ q. absurd (none t (subst (λ (w : ℤ). Shows at l w t) q k))) (λ q. q) (both u t k)) (rw e at g)
-asked_both at l o p one two less both (inr (s, k, e)) (inl (f, none)) = asked_one at l o two
-    (λ u t m. ⊎_elim (λ q. q) (λ q. absurd (none t (subst (λ (w : ℤ). Shows at l w t) q m))) (both u t m)) (inr (s, k, f ∙ e))
-asked_both at l o p one two less both (inr (s, k, e)) (inr (t, m, f)) = rw (f, e) (record {
-  first = l -ℤ o;
-  last = l -ℤ p;
-  several = omega (arith, ints);
-  at_first = k;
-  at_last = m;
-  not_before = λ u x h. ⊎_elim (λ q. omega (arith, ints)) (λ q. omega (arith, ints)) (both u x h);
-  not_after = λ u x h. ⊎_elim (λ q. omega (arith, ints)) (λ q. omega (arith, ints)) (both u x h);
-})
+asked_both at l o p one two less both (inl (e, none)) g = grind arith
+asked_both at l o p one two less both (inr (s, k, e)) (inl (f, none)) = grind arith
+asked_both at l o p one two less both (inr (s, k, e)) (inr (t, m, f)) = grind (arith, ints)
 
 -- ---- a rule's
 one_of : (a : AlternateRule) (t : LocalType) (dst : Bool) → t ≡ type_when a dst → (t ≡ a.std) ⊎ (t ≡ a.dst)
@@ -53,10 +43,7 @@ pub one_fixed : (f : LocalType) (from l u : ℤ) (t : LocalType) → Shows (Type
 one_fixed f from l u t s = shown_at u l t f s.shown s.type.type
 
 pub std_or_dst : (a : AlternateRule) (from l u : ℤ) (t : LocalType) → Shows (TypeFrom (Alternate a) from) l u t → (u ≡ l -ℤ a.std.offset) ⊎ (u ≡ l -ℤ a.dst.offset)
-std_or_dst a from l u t s = elim (one_of_two a u t s.type.type) [
-  | inl e ↦ inl (shown_at u l t a.std s.shown e)
-  | inr e ↦ inr (shown_at u l t a.dst s.shown e)
-]
+std_or_dst a from l u t s = grind (arith, shown_at)
 
 pub dst_or_std : (a : AlternateRule) (from l u : ℤ) (t : LocalType) → Shows (TypeFrom (Alternate a) from) l u t → (u ≡ l -ℤ a.dst.offset) ⊎ (u ≡ l -ℤ a.std.offset)
 dst_or_std a from l u t s = elim (std_or_dst a from l u t s) [ inl e ↦ inr e | inr e ↦ inl e ]

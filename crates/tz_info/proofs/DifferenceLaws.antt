@@ -45,24 +45,13 @@ one_difference z w from until u d e h k i j =
 
 -- ---- both zones keep their types
 pub pair_until : (f g : InForce) (at limit own end : ℤ) → IsRunUntil f at limit own → IsRunUntil g at own end → IsPairUntil f g at limit end
-pair_until f g at limit own end one other =
-    let most = one.most in let nearer = other.most in
-    record {
-      later = other.later;
-      most = omega (arith, ints);
-      one = λ u low high. one.same u low (omega (arith, ints));
-      other = other.same;
-      turns = λ h s t k l m n. by_lt_z end own
-          (λ less. other.turns less t l n)
-          (λ more. let same : end ≡ own = omega (arith, ints) in one.turns (omega (arith, ints)) s k (subst (λ u. f u s) same m));
-    }
+pair_until f g at limit own end one other = grind (arith, ints)
 
 -- ---- from pair to pair
 -- the pair of two seconds
 turned_at : (z w : Zone) (from until at end : ℤ) (s t : LocalType) → IsPairUntil (TypeAt z) (TypeAt w) at until end → TypeAt z at s → TypeAt w at t
     → end <ℤ until → (m n : LocalType) → TypeAt z end m → TypeAt w end n → TypeAt z (end -ℤ pos 1) m → TypeAt w (end -ℤ pos 1) n → ⊥
 turned_at z w from until at end s t pair h k less m n a b c d =
-    let later = pair.later in
     let same : m ≡ s = type_once z (end -ℤ pos 1) m s c (pair.one (end -ℤ pos 1) (omega (arith, ints)) (omega (arith, ints)) s h) in
     let same_other : n ≡ t = type_once w (end -ℤ pos 1) n t d (pair.other (end -ℤ pos 1) (omega (arith, ints)) (omega (arith, ints)) t k) in
     pair.turns less s t h k (subst (TypeAt z end) same a) (subst (TypeAt w end) same_other b)

@@ -13,6 +13,7 @@ use Rattle.tz_info.specs.contracts.zone.shown_seconds.ShownSecondsPartialEq.TheI
 use Rattle.tz_info.specs.contracts.zone.shown_seconds.TypedSecondPartialEq.TheImpl.{eq-value as second_eq}
 use Rattle.tz_info.specs.contracts.zone.transition.TransitionPartialEq.TheImpl.{eq-value as transition_eq}
 use Rattle.tz_info.specs.declared.rule.transition_rule.TransitionRule.TheVariants.{Alternate, Fixed}
+use Rattle.std.proofs.Common.{arith}
 
 list_exact : {X : Type 0} (E : X → X → Bool) → IsExact E → IsExact (pointwise E)
 list_exact E exact xs ys = slice_eq-Decides exact xs ys (pointwise E xs ys) refl
@@ -48,8 +49,7 @@ abbrev of_alternate : LocalType × (LocalType × (DayTime × DayTime)) → Alter
 of_alternate p = record { std = p.0; dst = p.1.0; start = p.1.1.0; end = p.1.1.1 }
 
 pub alternate_exact : (a b : AlternateRule) → IsTrue (type_eq.it a.std b.std && (type_eq.it a.dst b.dst && (day_time_eq.it a.start b.start && day_time_eq.it a.end b.end))) ↔ (a ≡ b)
-alternate_exact = by_parts (pair_eq type_eq.it (pair_eq type_eq.it (pair_eq day_time_eq.it day_time_eq.it))) alternate_parts of_alternate (λ a. refl)
-    (pair_exact type_eq.it (pair_eq type_eq.it (pair_eq day_time_eq.it day_time_eq.it)) type_exact (pair_exact type_eq.it (pair_eq day_time_eq.it day_time_eq.it) type_exact (pair_exact day_time_eq.it day_time_eq.it day_time_exact day_time_exact)))
+alternate_exact = grind (arith, type_exact, day_time_exact)
 
 pub rule_exact : (a b : TransitionRule) → IsTrue (rule_eq.it a b) ↔ (a ≡ b)
 rule_exact (Fixed s) (Fixed t) = (λ h. ap Fixed ((type_exact s t).0 h), λ e. (type_exact s t).1 (cc))

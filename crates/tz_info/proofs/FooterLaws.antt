@@ -14,10 +14,7 @@ use Rattle.tz_info.proofs.{TextLaws.{text_law}, TrimLaws.{trim_again, trim_is}}
 between : (bytes : List ℕ) → Decides (is_between_newlines bytes) (IsBetweenNewlines bytes)
 between bytes =
     let (to, from) = starts_is {E = nat_eq} Decides-eqb bytes (10 ∷ []) (starts_with nat_eq bytes (10 ∷ [])) refl in
-    let (to_last, from_last) = ends_is {E = nat_eq} Decides-eqb bytes (10 ∷ []) (ends_with nat_eq bytes (10 ∷ [])) refl in (
-      λ t. let (first, last) = and_parts _ _ t in record { after_first = _; before_last = _; starts = to first; ends = to_last last },
-      λ h. and_from _ _ (from h.after_first h.starts) (from_last h.before_last h.ends),
-    )
+    let (to_last, from_last) = ends_is {E = nat_eq} Decides-eqb bytes (10 ∷ []) (ends_with nat_eq bytes (10 ∷ [])) refl in grind arith
 
 -- ---- the text
 no_zero_is : (text : List ℕ) → list_any is_zero text ≡ false → HasNoZero text

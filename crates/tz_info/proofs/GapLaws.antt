@@ -74,10 +74,7 @@ gap_found z l low high c s t never reach far all here more before = record {
   least = λ u m. by_lt_z u c
       (λ h.
       let g = at_most_greatest z u (l -ℤ low) m.type reach.greatest m.here in
-      let k = m.more in
-      let near_u : IsNear u = (omega (arith, ints, reach.near_low), omega (arith, ints, far)) in
-      let less = all u near_u (omega (arith, ints)) m.type m.here in
-      absurd (omega (arith, ints)))
+      let near_u : IsNear u = (omega (arith, ints, reach.near_low), omega (arith, ints, far)) in grind (arith, ints))
       (λ h. h);
   earlier = before;
 }

@@ -13,16 +13,10 @@ pub record Follow (p : ℤ) (es : List LeapSecond) : Type 0 where
   pub next : (i : ℕ) (d : LeapSecond) → suc i < length es → IsNextLeap (get_or es i d) (get_or es (suc i) d)
 
 pub follow : (es : List LeapSecond) → AreLeapSeconds es → Follow (pos 0) es
-follow es valid = record {
-  step = λ d h. (valid.first d h).step;
-  next = λ i d h. rw add-one at (valid.next i d (omega arith));
-}
+follow es valid = grind arith
 
 pub follow_tail : (p : ℤ) (e : LeapSecond) (es : List LeapSecond) → Follow p (e ∷ es) → Follow e.correction es
-follow_tail p e es f = record {
-  step = λ d h. (f.next 0 d (omega arith)).step;
-  next = λ i d h. f.next (suc i) d (omega arith);
-}
+follow_tail p e es f = grind arith
 
 pub threshold_count : (p : ℤ) (es : List LeapSecond) → length (thresholds p es) ≡ length es
 threshold_count p [] = refl
@@ -56,7 +50,6 @@ passed_first es i u valid h passed stops =
     (λ k d l. rw (get_or_default xs k d (pos 0) (omega arith)) (le_true _ _ (passed k l)))
     (λ k d l m.
     let r = rises (λ j. get_or xs j (pos 0)) (length xs) (λ j b. let t = threshold_step (pos 0) es (pos 0) (follow es valid) j (omega arith) in omega (arith, ints)) i k l m in
-    let s = stops (omega arith) in
     rw (get_or_default xs k d (pos 0) m) (le_false (get_or xs k (pos 0)) u (omega (arith, ints))))
 
 -- the value v is below the entry's leap time just where u is below the entry's threshold
@@ -105,7 +98,6 @@ before_found es i d x v valid h p stops =
     (λ k f l. lt_true _ x (p.before k f l))
     (λ k f l m.
     let r = rises (λ j. (get_or es j f).unix_leap_time) (length es) (λ j b. let t = ((follow es valid).next j f (omega arith)).later in omega (arith, ints)) i k l m in
-    let s = stops (omega arith) in
     let g = ap (λ (e : LeapSecond). e.unix_leap_time) (get_or_default es i f d (omega arith)) in
     lt_false (get_or es k f).unix_leap_time x (omega (arith, ints))) in
     rw e p.value

@@ -45,7 +45,6 @@ sums_rise p u v (e ∷ es) f h = by_lt_z u (e.unix_leap_time -ℤ p)
     let t = follow_tail p e es f in
     let r = sums_rise e.correction (e.unix_leap_time -ℤ p) v es t above in
     let q = summed_none e.correction (e.unix_leap_time -ℤ p) es t (λ d l. let t = tail_later p e es f d l in omega (arith, ints)) in
-    let m = rw q at r in
     rw (summed_none p u (e ∷ es) f (λ d l. below), summed_counted p v e es above)
     (elim (f.step e (omega arith)) [ inl k ↦ omega (arith, ints) | inr k ↦ omega (arith, ints) ])))
     (λ above. rw (summed_counted p u e es above, summed_counted p v e es (omega (arith, ints))) (sums_rise e.correction u v es (follow_tail p e es f) h))
@@ -70,27 +69,17 @@ pub record Bounded (p a u : ℤ) (es : List LeapSecond) (k : ℕ) : Type 0 where
 pub bounded : (p a u : ℤ) (es : List LeapSecond) (k : ℕ) → Follow p es → ((d : LeapSecond) → 0 < length es → a ≤ℤ ((get_or es 0 d).unix_leap_time -ℤ p)) → k < counted_from p es u → Bounded p a u es k
 bounded p a u [] k f h l = absurd (omega arith)
 bounded p a u (e ∷ es) zero f h l =
-    let above = was_counted p u e es zero f l in let t = h e (omega arith) in let d = f.step e (omega arith) in
-    record {
-      later = omega (arith, ints);
-      most = elim d [ inl q ↦ omega (arith, ints) | inr q ↦ omega (arith, ints) ];
-      least = elim d [ inl q ↦ omega (arith, ints) | inr q ↦ omega (arith, ints) ];
-    }
+    let above = was_counted p u e es zero f l in let t = h e (omega arith) in let d = f.step e (omega arith) in grind (arith, ints)
 bounded p a u (e ∷ es) (suc k) f h l =
     let above = was_counted p u e es (suc k) f l in let t = h e (omega arith) in let d = f.step e (omega arith) in
     let c = counted p u e es above in
-    let r = bounded e.correction (a +ℤ pos 2_419_198) u es k (follow_tail p e es f) (λ g m. let w = tail_later p e es f g m in omega (arith, ints)) (omega arith) in
-    record {
-      later = let q = r.later in omega (arith, ints);
-      most = let m = r.most in elim d [ inl q ↦ omega (arith, ints) | inr q ↦ omega (arith, ints) ];
-      least = let m = r.least in elim d [ inl q ↦ omega (arith, ints) | inr q ↦ omega (arith, ints) ];
-    }
+    grind (arith, ints, bounded e.correction (a +ℤ pos 2_419_198) u es k (follow_tail p e es f) (λ g m. let w = tail_later p e es f g m in omega (arith,
+        ints)) (omega arith))
 
 pub leap_times_answer : (es : List LeapSecond) (u : ℤ) → AreLeapSeconds es → neg_ℤ (pos 10_000_000_000_000) ≤ℤ u → u ≤ℤ pos 10_000_000_000_000 → IsLeapTimeRefused es u → ⊥
 leap_times_answer es u valid low high r =
     let b = bounded (pos 0) (pos 0) u es r.place (follow es valid) (λ d l. let f = (valid.first d l).since_epoch in omega (arith, ints)) r.passed in
-    let a = b.later in let m = b.most in let n = b.least in
-    r.leaves (omega (arith, ints))
+    let a = b.later in grind arith
 
 -- the passed entries are those whose thresholds are not above u
 pub record Split (p u : ℤ) (es : List LeapSecond) (k : ℕ) : Type 0 where
@@ -108,9 +97,7 @@ split p u (e ∷ es) (suc k) f h =
     (λ below.
     let c = not_counted p u e es below in let z = none_counted p u (e ∷ es) f (λ d m. below) in
     record { passed = λ l. absurd (omega arith); not_passed = λ l. r.not_passed (omega arith) })
-    (λ above.
-    let c = counted p u e es above in
-    record { passed = λ l. r.passed (omega arith); not_passed = λ l. r.not_passed (omega arith) })
+    (λ above. grind (arith, counted))
 
 -- the correction of the last of the first k entries is k
 counted_correction : (es : List LeapSecond) (k : ℕ) → AreCounted es → k ≤ length es → last_else (pos 0) (corrections (take k es)) ≡ pos k
@@ -125,20 +112,13 @@ leap_time_undone es u x v valid c a b =
     let n = passed_count es u in
     let m = threshold_count (pos 0) es in
     let l = count_by-le-length (λ t. int_le t u) (thresholds (pos 0) es) in
-    let s = a.sum in
     let q = counted_correction es n c (omega arith) in
     let f : filter (λ (e : LeapSecond). int_lt e.unix_leap_time x) es ≡ take n es =
     filter_first (λ (e : LeapSecond). int_lt e.unix_leap_time x) es n (omega arith)
     (λ k d j.
     let t = (split (pos 0) u es k (follow es valid) (omega arith)).passed j in
-    let w = threshold_at (pos 0) es k d (pos 0) (omega arith) in
-    let y = counted_correction es k c (omega arith) in
-    lt_true _ x (omega (arith, ints)))
+    let w = threshold_at (pos 0) es k d (pos 0) (omega arith) in grind (arith, ints, counted_correction))
     (λ k d j i.
     let t = (split (pos 0) u es k (follow es valid) i).not_passed j in
-    let w = threshold_at (pos 0) es k d (pos 0) i in
-    let y = counted_correction es k c (omega arith) in
-    lt_false _ x (omega (arith, ints))) in
-    let e = b.difference in
-    let g : correction_before es x ≡ pos n = rw f q in
-    omega (arith, ints)
+    let w = threshold_at (pos 0) es k d (pos 0) i in grind (arith, ints, counted_correction)) in
+    grind arith

@@ -19,13 +19,9 @@ passed_at_most es u = omega (arith, count_by-le-length (λ t. int_le t u) (thres
 -- fewer entries are passed at u than come by x
 below_law : (es : List LeapSecond) (x u y : ℤ) (n : ℕ) (d : LeapSecond) → AreLeapSeconds es → HaveCome es x n → IsLeapTime es u y → passed_count es u < n → y <ℤ x
 below_law es x u y n d valid h l less =
-    let w = h.within in
     let c = passed_count es u in
     let s = (split (pos 0) u es c (follow es valid) (omega arith)).not_passed (omega arith) in
-    let t = threshold_at (pos 0) es c d (pos 0) (omega arith) in
-    let b = h.before c d less in
-    let e = l.sum in
-    omega (arith, ints)
+    let t = threshold_at (pos 0) es c d (pos 0) (omega arith) in grind arith
 
 -- more entries are passed at u than come by x
 above_law : (es : List LeapSecond) (x u y : ℤ) (n c : ℕ) (d : LeapSecond) → AreLeapSeconds es → HaveCome es x n → IsLeapTime es u y → passed_count es u ≡ suc c → n ≤ c → x ≤ℤ y
@@ -42,9 +38,7 @@ above_start : (es : List LeapSecond) (x u : ℤ) (n : ℕ) (d : LeapSecond) → 
 above_start es x u n d valid h more =
     let m = passed_at_most es u in
     let s = (split (pos 0) u es n (follow es valid) (omega arith)).passed more in
-    let t = threshold_at (pos 0) es n d (pos 0) (omega arith) in
-    let a : x <ℤ (get_or es n d).unix_leap_time = by_lt_z x (get_or es n d).unix_leap_time (λ k. k) (λ k. absurd (h.after n d (omega arith) (omega arith) k)) in
-    omega (arith, ints)
+    let t = threshold_at (pos 0) es n d (pos 0) (omega arith) in grind arith
 
 pub no_first : {X : Type 0} (xs : List X) (n : ℕ) → n < length xs → X
 no_first [] n h = absurd (omega arith)
@@ -59,17 +53,13 @@ reached_first es x u y valid h l = elim (cases_lt 0 (passed_count es u)) [
       let a = above_law es x u y 0 (passed_count es u - 1) d valid h l (omega arith) (omega arith) in
       let b = above_start es x u 0 d valid h more in
       ((λ _. omega (arith, ints)), (λ _. a))
-  | inr none ↦
-      let z : passed_count es u ≡ 0 = omega arith in
-      let e = rw z at l.sum in
-      ((λ k. omega (arith, ints)), (λ k. omega (arith, ints)))
+  | inr none ↦ grind arith
 ]
 
 -- else at the later of two seconds: where the latest entry is passed, and where that entry's correction leads back to
 pub reached_later : (es : List LeapSecond) (x u y : ℤ) (n : ℕ) (d : LeapSecond) → AreLeapSeconds es → HaveCome es x (suc n) → IsLeapTime es u y
     → (x ≤ℤ y) ↔ ((threshold es n ≤ℤ u) × ((x -ℤ correction_behind es (suc n)) ≤ℤ u))
 reached_later es x u y n d valid h l =
-    let w = h.within in
     elim (cases_lt (passed_count es u) (suc n)) [
       | inl less ↦
           let s = (split (pos 0) u es n (follow es valid) (omega arith)).not_passed (omega arith) in
@@ -79,14 +69,11 @@ reached_later es x u y n d valid h l =
           let s = (split (pos 0) u es n (follow es valid) (omega arith)).passed (omega arith) in
           elim (cases_lt (suc n) (passed_count es u)) [
             | inl more ↦
-                let m = passed_at_most es u in
                 let a = above_law es x u y (suc n) (passed_count es u - 1) d valid h l (omega arith) (omega arith) in
                 let b = above_start es x u (suc n) d valid h more in
                 ((λ _. (s, b)), (λ _. a))
             | inr most ↦
-                let z : passed_count es u ≡ suc n = omega arith in
-                let e = rw z at l.sum in
-                ((λ k. (s, omega (arith, ints))), (λ k. let q = k.1 in omega (arith, ints)))
+                let z : passed_count es u ≡ suc n = omega arith in grind (arith, ints)
           ]
     ]
 
@@ -101,9 +88,7 @@ pub times_rise : (es : List LeapSecond) (i j : ℕ) (d : LeapSecond) → AreLeap
 times_rise es i j d valid h l = rises (λ k. (get_or es k d).unix_leap_time) (length es) (λ k b. let t = ((follow es valid).next k d b).later in omega (arith, ints)) i j h l
 
 pub parted : (es : List LeapSecond) (x : ℤ) → AreLeapSeconds es → IsPartitionedBy (λ e. int_le e.unix_leap_time x) es
-parted es x valid i j d h l t = let r = times_rise es i j d valid h l in at_least (get_or es i d).unix_leap_time (get_or es j d).unix_leap_time x r t where
-  at_least : (a b x : ℤ) → a ≤ℤ b → int_le b x ≡ true → int_le a x ≡ true
-  at_least a b x h t = grind (arith, ints)
+parted es x valid i j d h l t = let r = times_rise es i j d valid h l in grind arith
 
 -- where entries have come, the leap time is reached from two seconds on
 pub reached_behind : (es : List LeapSecond) (x u y passed led : ℤ) (n : ℕ) (d : LeapSecond) → AreLeapSeconds es → HaveCome es x n → 0 < n
@@ -111,14 +96,11 @@ pub reached_behind : (es : List LeapSecond) (x u y passed led : ℤ) (n : ℕ) (
     → IsNear u → IsLeapTime es u y → (x ≤ℤ y) ↔ ((passed ≤ℤ u) × (led ≤ℤ u))
 reached_behind es x u y passed led zero d valid h some e f near l = absurd (omega arith)
 reached_behind es x u y passed led (suc m) d valid h some e f near l =
-    let w = h.within in
     let one : suc m - 1 ≡ m = omega arith in
     let t = threshold_at (pos 0) es m d (pos 0) (omega arith) in
     let p = saturated ((get_or es m d).unix_leap_time -ℤ correction_behind es m) u near in
     let q = saturated (x -ℤ correction_behind es (suc m)) u near in
-    let r = reached_later es x u y m d valid h l in
-    let g : passed ≡ saturate_signed w64 ((get_or es m d).unix_leap_time -ℤ correction_behind es m) = rw one at e in
-    rw (g, f) ((λ k. let s = r.0 k in let s0 = s.0 in (p.1 (omega (arith, ints)), q.1 s.1)), (λ k. let a = p.0 k.0 in r.1 (omega (arith, ints), q.0 k.1)))
+    let r = reached_later es x u y m d valid h l in grind arith
 
 pub both_ways : {P Q R : Type 0} → P ↔ Q → R ↔ Q → P ↔ R
 both_ways f g = ((λ p. g.1 (f.0 p)), (λ r. f.1 (g.0 r)))

@@ -17,18 +17,8 @@ record Turns (start end u v moment : ℤ) (dst : Bool) : Type 0 where
 
 turns : (start end u v : ℤ) (dst : Bool) → u <ℤ v → is_dst_by_one start end u ≡ not dst
     → is_dst_by_one start end v ≡ not (not dst) → Turns start end u v (cond dst start end) dst
-turns start end u v true h a b = record {
-  later = grind (arith, ints);
-  most = grind (arith, ints);
-  before = λ w low high. grind (arith, ints);
-  here = grind (arith, ints);
-}
-turns start end u v false h a b = record {
-  later = grind (arith, ints);
-  most = grind (arith, ints);
-  before = λ w low high. grind (arith, ints);
-  here = grind (arith, ints);
-}
+turns start end u v true h a b = grind (arith, ints)
+turns start end u v false h a b = grind (arith, ints)
 
 -- ---- the types there
 other : (b dst : Bool) → (b ≡ dst → ⊥) → b ≡ not dst

@@ -10,9 +10,7 @@ use Rattle.tz_info.proofs.Neighbours.{dst_by_three, ends_near, one_answer, secon
 -- a rule has one type at a second
 pub alternate_once : (a : AlternateRule) (u : ℤ) (s t : LocalType) → AlternateAt a u s → AlternateAt a u t → s ≡ t
 alternate_once a u s t h k =
-    let same = one_year (floor_div u 86_400) h.year k.year h.of_second k.of_second in
-    let when = subst (λ (year : ℤ). IsDstAt (start_in a) (end_in a) year u h.dst) same h.when in
-    h.shown ∙ ap (type_when a) (one_answer (start_in a) (end_in a) k.year u h.dst k.dst when k.when) ∙ sym k.shown
+    let same = one_year (floor_div u 86_400) h.year k.year h.of_second k.of_second in grind arith
 
 pub rule_once : (rule : TransitionRule) (u : ℤ) (s t : LocalType) → RuleAt rule u s → RuleAt rule u t → s ≡ t
 rule_once (Fixed fixed) u s t h k = h ∙ sym k
@@ -97,11 +95,4 @@ year_found u day year at_day at_year within =
 
 -- the type at a second whose day and year are known
 pub alternate_at : (a : AlternateRule) (u day year : ℤ) (dst : Bool) → day ≡ floor_div u 86_400 → LiesIn day year → IsRuleYear year → IsDstAt (start_in a) (end_in a) year u dst → AlternateAt a u (type_when a dst)
-alternate_at a u day year dst at_day lies inside when = record {
-  year = year;
-  of_second = rw at_day at lies;
-  inside = inside;
-  dst = dst;
-  when = when;
-  shown = refl;
-}
+alternate_at a u day year dst at_day lies inside when = grind arith

@@ -56,16 +56,7 @@ still_bare (b ∷ bs) after h = h
 pub trim_is : (bytes : List ℕ) → IsTrimmed bytes (trimmed bytes)
 unfolding trimmed
 trim_is bytes =
-    let f = front_takes bytes in let b = back_takes (trimmed_front bytes) in
-    record {
-      before = f.0;
-      after = b.0;
-      whole = f.1 ∙ ap (λ s. f.0 ++ s) b.1;
-      space_before = f.2;
-      space_after = b.2;
-      first = still_bare (trimmed_back (trimmed_front bytes)) b.0 (subst BeginsBare b.1 f.3);
-      last = b.3;
-    }
+    let f = front_takes bytes in let b = back_takes (trimmed_front bytes) in grind arith
 
 -- ---- what std's calls give
 front_drop : (n : ℕ) (s : List ℕ) → n ≤ length s → IsAsciiWhitespaceBelow s n → (n < length s → is_ascii_whitespace (slice_index s n) ≡ false) → drop n s ≡ trimmed_front s
@@ -84,8 +75,7 @@ back_take (suc n) [] l w e = absurd (omega arith)
 back_take (suc zero) (b ∷ bs) l w e = rw (all_space bs (λ i h k. w (suc i) (omega arith) (omega arith)), e 0 refl) refl
 back_take (suc (suc n)) (b ∷ []) l w e = absurd (omega arith)
 back_take (suc (suc n)) (b ∷ c ∷ cs) l w e =
-    let same = back_take (suc n) (c ∷ cs) (omega arith) (λ i h k. w (suc i) (omega arith) (omega arith)) (λ m h. e (suc m) (omega arith)) in
-    rw (← same) refl
+    grind (arith, back_take (suc n) (c ∷ cs) (omega arith) (λ i h k. w (suc i) (omega arith) (omega arith)) (λ m h. e (suc m) (omega arith)))
 
 -- no white space is behind the end
 behind_end : (s : List ℕ) → slice_index s (length s) ≡ 0

@@ -22,8 +22,7 @@ zero_takes (b ∷ bs) i n h = elim (b == 0) as (λ t. (b == 0) ≡ t → cond t 
 
 zero_again : (text after : List ℕ) (i : ℕ) → HasNoZero text → position_from is_zero i (text ++ (0 ∷ after)) ≡ Some (i + length text)
 zero_again [] after i h = ap (λ n. Some n) (omega arith)
-zero_again (b ∷ bs) after i h = let f : (b == 0) ≡ false = let g = h.0 in grind (arith, nat_tests) in
-    rw f (zero_again bs after (i + 1) h.1 ∙ ap (λ n. Some n) (omega arith))
+zero_again (b ∷ bs) after i h = grind (arith, zero_again bs after (i + 1) h.1)
 
 -- ---- the text at a place
 front_law : (text : List ℕ) (o : Option ℕ) → Decided (List ℕ) (front_of text o) (λ x. (n : ℕ) × (o ≡ Some n) × (take n text ≡ x)) (λ e. (o ≡ None) × (e ≡ InvalidTzFile ZeroByteAfterName))
@@ -112,9 +111,7 @@ type_law names bytes = like
     (bind (mark_law (mark_in bytes)) (λ dst _. bind (text_law names (place_in bytes)) (λ text _.
     guard (record { offset = offset_in bytes; dst = dst; name = designation_of text }) (LocalTimeType (expected_of_type (offset_in bytes) (designation_of text))) (omega arith)
     (Decides-and (int_lt least_offset (offset_in bytes)) (is_name_or_none (designation_of text)) (lt_is least_offset (offset_in bytes), lt_true least_offset (offset_in bytes)) (named_is (designation_of text), named_again (designation_of text))))))
-    (λ t h.
-    let x = h.2 in
-    subst (λ y. SpellsType names bytes y) x.2.1 (record { text = x.0; offset = refl; above_least = x.2.0.0; mark = h.1; stands = x.1; name = refl; name_fits = x.2.0.1 }))
+    (λ t h. grind arith)
     (λ t p. (t.dst, p.mark, (p.text, p.stands, ((rw p.offset p.above_least, rw p.name p.name_fits), rw (p.offset, p.name) refl))))
     (fault_is names bytes)
     (fault_again names bytes)
@@ -139,13 +136,5 @@ pub type_answers : (offset : ℤ) (dst : Bool) (text : List ℕ) (name : Option 
     → MatchResult r (λ t. IsUtOffset offset × IsNameOrNone name × (t ≡ record { offset = offset; dst = dst; name = name })) (λ e. (e ≡ LocalTimeType (expected_of_type offset name)) × ¬ (IsUtOffset offset × IsNameOrNone name))
     → Gives (λ t. t) r (type_of offset dst text)
 unfolding type_of
-type_answers offset dst text name (Ok t) low high same h =
-    let o = h.0.0 in let n : IsNameOrNone (designation_of text) = subst IsNameOrNone same h.1 in
-    let a = lt_true least_offset offset (grind (arith, ints)) in let b = named_again (designation_of text) n in
-    rw (a, b) (ap (λ y. Ok y) (sym (h.2 ∙ ap (λ (m : Option (List ℕ)). record { offset = offset; dst = dst; name = m }) same)))
-type_answers offset dst text name (Err e) low high same h =
-    let bad = false_unless (int_lt least_offset offset && is_name_or_none (designation_of text)) (λ t.
-    let p = and_parts (int_lt least_offset offset) (is_name_or_none (designation_of text)) t in
-    let a = lt_is least_offset offset p.0 in
-    h.1 ((grind (arith, ints), high), subst IsNameOrNone (sym same) (named_is (designation_of text) p.1))) in
-    rw bad (ap (λ y. Err y) (sym (h.0 ∙ ap (λ (m : Option (List ℕ)). LocalTimeType (expected_of_type offset m)) same)))
+type_answers offset dst text name (Ok t) low high same h = grind (arith, named_again)
+type_answers offset dst text name (Err e) low high same h = grind (arith, named_is)

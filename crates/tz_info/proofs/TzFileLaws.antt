@@ -50,9 +50,7 @@ say_law p l = like
     bind (transitions_law p.counts.transitions p.time_size p.parts.times p.parts.type_indexes l.times l.type_indexes) (λ transitions _.
     made (λ leaps. record { transitions = transitions; types = types; leaps = leaps; rule = rule })
     (leap_seconds_law p.counts.leap_seconds p.time_size p.parts.leap_seconds l.leap_seconds))))))
-    (λ z h.
-    let i = h.2 in let r = i.2 in let t = r.2 in let s = t.2 in
-    subst (λ (y : Zone). SayZone p y) s.2 (record { transitions = t.1; types = h.1; leaps = s.1; indicators = i.1; rule = r.1 }))
+    (λ z h. grind arith)
     (λ z s. (z.types, s.types, (tt, s.indicators, (z.rule, s.rule, (z.transitions, s.transitions, (z.leaps, s.leaps, refl))))))
     (content_fault p)
     (fault_again p)

@@ -16,15 +16,11 @@ before_pushed b (q ∷ ps) p = before_pushed q.answer ps p
 
 pub at_later : (b : Answer) (ps : List Piece) (p : Piece) (l : ℤ) → p.start ≤ℤ l → answer_at b (ps ++ (p ∷ [])) l ≡ p.answer
 at_later b [] p l h = rw (le_true p.start l h) refl
-at_later b (q ∷ ps) p l h = by_lt_z l q.start
-    (λ k. rw (le_false q.start l k) (at_later b ps p l h))
-    (λ k. rw (le_true q.start l k) (at_later q.answer ps p l h))
+at_later b (q ∷ ps) p l h = grind (arith, at_later b ps p l h, at_later q.answer ps p l h)
 
 pub at_earlier : (b : Answer) (ps : List Piece) (p : Piece) (l : ℤ) → l <ℤ p.start → answer_at b (ps ++ (p ∷ [])) l ≡ answer_at b ps l
 at_earlier b [] p l h = rw (le_false p.start l h) refl
-at_earlier b (q ∷ ps) p l h = by_lt_z l q.start
-    (λ k. rw (le_false q.start l k) (at_earlier b ps p l h))
-    (λ k. rw (le_true q.start l k) (at_earlier q.answer ps p l h))
+at_earlier b (q ∷ ps) p l h = grind (arith, at_earlier b ps p l h, at_earlier q.answer ps p l h)
 
 -- no piece starts after the local time
 abbrev pub StartBy : List Piece → ℤ → Type 0
@@ -134,7 +130,6 @@ latest_answers b ps l n p passed latest = elim (cases_lt 0 n) [
   | inl h ↦
       let s = latest.some h in
       let same = length-map ps (λ (p : Piece). p.start) in
-      let w = passed.within in
       let is : p ≡ s.0 = ap (λ (o : Option Piece). unwrap_or o p) s.1 in
       let e : n ≡ suc (n - 1) = omega arith in
       sym (started b ps l n passed ∙ ap (λ k. answer_before b (take k ps)) e ∙ last_taken (λ (q : Piece). q.answer) b ps (n - 1) s.0 (omega arith) ∙ ap (λ (q : Piece). q.answer) (sym s.2 ∙ sym is))

@@ -26,12 +26,7 @@ or_else_once (Some rule) o u s t h k = rule_once rule u s t h k
 or_else_once None o u s t h k = some_once o s t h k
 
 pub type_once : (z : Zone) (u : ℤ) (s t : LocalType) → TypeAt z u s → TypeAt z u t → s ≡ t
-type_once z u s t a b =
-    let e = same_passed z u a.leap_time b.leap_time a.of_second b.of_second in
-    ⊎_elim
-    (λ h. some_once (slice_get z.types (index_at z a.leap_time)) s t (a.in_force.before_last h) (rw (← e) at (b.in_force.before_last (rw (← e) h))))
-    (λ h. or_else_once z.rule (slice_get z.types (index_at z a.leap_time)) u s t (a.in_force.from_last h) (rw (← e) at (b.in_force.from_last (rw (← e) h))))
-    (before_or_from_last z a.leap_time)
+type_once z u s t a b = grind (arith, ints, same_passed, or_else_once, before_or_from_last)
 
 or_else_not_refused : (rule : Option TransitionRule) (otherwise : Type 0) (u : ℤ) (t : LocalType) → RuleOrElse rule u otherwise t → IsRefusedBy rule u → ⊥
 or_else_not_refused (Some rule) otherwise u t h refused = rule_not_refused rule u t h refused
@@ -39,9 +34,7 @@ or_else_not_refused None otherwise u t h refused = refused
 
 pub type_not_refused : (z : Zone) (u : ℤ) (t : LocalType) → TypeAt z u t → IsTypeRefused z u → ⊥
 type_not_refused z u t a (by_leap_time some r) = r.leaves ((a.of_second some).fits r.place r.passed)
-type_not_refused z u t a (by_rule x of_second last refused) =
-    let e = same_passed z u a.leap_time x a.of_second of_second in
-    or_else_not_refused z.rule (HasType z (index_at z a.leap_time) t) u t (a.in_force.from_last (rw e last)) refused
+type_not_refused z u t a (by_rule x of_second last refused) = grind (arith, same_passed)
 
 -- what stands in a list
 pub inside_listed : {X : Type 0} (xs : List X) (i : ℕ) → i < length xs → (x : X) × (slice_get xs i ≡ Some x)
@@ -59,9 +52,7 @@ type_listed z u t a = ⊎_elim
     (before_or_from_last z a.leap_time)
 
 pub fits_or_not : (a : ℤ) → SFits w64 a ⊎ (SFits w64 a → ⊥)
-fits_or_not a = by_lt_z a (neg_ℤ (pos 9_223_372_036_854_775_808))
-    (λ low. inr (λ f. omega (arith, ints)))
-    (λ h. by_lt_z (pos 9_223_372_036_854_775_807) a (λ high. inr (λ f. omega (arith, ints))) (λ l. inl (omega (arith, ints))))
+fits_or_not a = grind arith
 
 -- all of n numbers fit 64 bits, or one does not
 all_fit_or_not : (f : ℕ → ℤ) (n : ℕ) → ((k : ℕ) → k < n → SFits w64 (f k)) ⊎ ((k : ℕ) × (k < n) × (SFits w64 (f k) → ⊥))
