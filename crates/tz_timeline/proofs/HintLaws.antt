@@ -15,29 +15,7 @@ before_next n m h = (div-lt_iff_lt-mul h).0 (lt-suc_self (n / m))
 pub near_hinted : (times : List ℤ) (v : ℤ) (hints : Hints) (ends : Ends) (seconds : ℕ) (near : Near) → AreOrdered times → length times < 2 ^ 64 → 0 < length times → AreEnds times ends → AreHints times hints
     → ends.first ≤ℤ v → pos seconds ≡ v -ℤ ends.first → 0 < 2 ^ hints.shift → IsHinted hints.places.items (seconds / 2 ^ hints.shift) near
     → IsNarrowedTo times v near
-near_hinted times v hints ends seconds near ordered fits some are h from is positive hinted =
-    let m : ℕ = 2 ^ hints.shift in
-    let b : ℕ = seconds / m in
-    let w = hinted.within in
-    let first = are.first some in
-    let low = h.places b (omega arith) in
-    let high = h.places (suc b) w in
-    let rising = h.rising b w in
-    let p = hinted.first in
-    let q = hinted.last in
-    let lw = low.within in
-    let hw = high.within in
-    record {
-      ordered = ordered;
-      some = omega arith;
-      within = omega arith;
-      fits = omega arith;
-      come = elim (cases_lt 0 near.first) [
-        | inl l ↦ let c = low.before (omega arith) in let f = div-mul-le_self seconds m in rw p (omega (arith, ints))
-        | inr g ↦ let z : near.first ≡ 0 = omega arith in rw z (omega (arith, ints))
-      ];
-      behind = λ k l n. let c = high.behind k (omega arith) n in let f = before_next seconds m positive in omega (arith, ints);
-    }
+near_hinted times v hints ends seconds near ordered fits some are h from is positive hinted = grind (arith, ints)
 
 -- how many seconds one time comes after another
 size_of : (z : ℤ) → pos 0 ≤ℤ z → pos (nat_abs z) ≡ z
@@ -56,9 +34,7 @@ first_least times first k ordered from l = let low = not_before times 0 k ordere
 
 pub slots : (times : List ℤ) (first : ℤ) (span shift k : ℕ) → AreOrdered times → first ≡ item_time times 0 → pos span ≡ item_time times (length times - 1) -ℤ first → k < length times → stretch_of first (item_time times k) shift ≤ span / 2 ^ shift
 slots times first span shift k ordered from is l =
-    let high = not_before times k (length times - 1) ordered (omega arith) (omega arith) in
-    let size = size_of_rise first (item_time times k) (first_least times first k ordered from l) in
-    shr_mono {a = nat_abs (item_time times k -ℤ first)} {b = span} shift (omega (arith, ints))
+    let high = not_before times k (length times - 1) ordered (omega arith) (omega arith) in grind (arith, size_of_rise)
 
 -- the last item noted up to a stretch is the last one before it
 pub last_before : (times : List ℤ) (first : ℤ) (shift : ℕ) (marked raised : List ℕ) (b : ℕ) → 0 < 2 ^ shift
@@ -89,7 +65,6 @@ last_before times first shift marked raised b positive from room some m r h =
       ];
       behind = λ k l n.
           let noted = m.latest k n in
-          let to = room k n in
           elim (cases_lt (stretch_of first (item_time times k) shift) b) [
             | inl lt ↦ let a = r.above b (suc (stretch_of first (item_time times k) shift)) h lt in absurd (omega arith)
             | inr ge ↦ late (item_time times k) first m2 b (from k n) (div-mul-le_self (nat_abs (item_time times k -ℤ first)) m2) (omega arith)
@@ -110,17 +85,11 @@ marked_more times first shift n stretch places m e h =
         | inl same ↦
             let here = get_or-set_at places (stretch + 1) b n 0 same h in
             inr (omega arith, rw here (omega arith))
-        | inr other ↦ let here = get_or-set_other places (stretch + 1) b n 0 other in elim (m.of_item b (omega arith)) [
-          | inl z ↦ inl (here ∙ z)
-          | inr i ↦ let below = i.0 in inr (omega arith, rw here i.1)
-        ]
+        | inr other ↦ let here = get_or-set_other places (stretch + 1) b n 0 other in grind arith
       ];
       latest = λ k l. let slot : ℕ = suc (stretch_of first (item_time times k) shift) in elim (cases_eq slot (stretch + 1)) [
         | inl same ↦ let here = get_or-set_at places (stretch + 1) slot n 0 same h in omega arith
-        | inr other ↦ let here = get_or-set_other places (stretch + 1) slot n 0 other in elim (cases_lt k n) [
-          | inl m2 ↦ let old = m.latest k m2 in omega arith
-          | inr g ↦ let is : k ≡ n = omega arith in absurd (other (rw is (omega arith)))
-        ]
+        | inr other ↦ let here = get_or-set_other places (stretch + 1) slot n 0 other in grind arith
       ];
     }
 
@@ -132,30 +101,20 @@ pub record Raising (before after : List ℕ) (greatest n : ℕ) : Type 0 where
   pub is : ((n ≡ 0) × (greatest ≡ 0)) ⊎ ((0 < n) × (greatest ≡ slice_index after (n - 1)))
 
 max_is : (a b : ℕ) → ord_max nat_cmp a b ≡ max a b
-max_is a b = elim (cases_lt b a) [
-  | inl h ↦ grind (arith, h)
-  | inr h ↦ grind (arith, h)
-]
+max_is a b = grind arith
 
 pub raising_more : (before after : List ℕ) (greatest n here : ℕ) → Raising before after greatest n → n < length before
     → here ≡ ord_max nat_cmp greatest (slice_index after n) → Raising before (set after n here) here (n + 1)
 raising_more before after greatest n here r h is_here =
     let same_here = r.rest n (omega arith) in
     let e : here ≡ max greatest (slice_index before n) = is_here ∙ max_is greatest (slice_index after n) ∙ ap (max greatest) same_here in
-    let c = r.raised.count in
     let long = length-set after n here in
     let at : (b : ℕ) → b ≡ n → slice_index (set after n here) b ≡ here = λ b same. get_or-set_at after n b here 0 same (omega arith) in
     let other : (b : ℕ) → b ≢ n → slice_index (set after n here) b ≡ slice_index after b = λ b differs. get_or-set_other after n b here 0 differs in
     record {
       raised = record {
         count = omega arith;
-        above = λ b j l m. elim (cases_eq b n) [
-          | inl same ↦ let a = at b same in elim (cases_lt j n) [
-            | inl k ↦ let u = r.up_to j k in omega arith
-            | inr g ↦ let is : j ≡ n = omega arith in rw is (omega arith)
-          ]
-          | inr differs ↦ let a = other b differs in let u = r.raised.above b j (omega arith) m in omega arith
-        ];
+        above = grind arith;
         some = λ b l. elim (cases_eq b n) [
           | inl same ↦ let a = at b same in elim (cases_lt (slice_index before n) greatest) [
             | inl k ↦ elim r.is [
@@ -168,32 +127,19 @@ raising_more before after greatest n here r h is_here =
         ];
       };
       rest = λ b l. other b (λ i. absurd (omega arith)) ∙ r.rest b (omega arith);
-      up_to = λ j l. elim (cases_lt j n) [
-        | inl k ↦ let u = r.up_to j k in omega arith
-        | inr g ↦ let is : j ≡ n = omega arith in rw is (omega arith)
-      ];
+      up_to = grind arith;
       is = inr (omega arith, let i : n + 1 - 1 ≡ n = omega arith in rw i (sym (at n refl)));
     }
 
 -- so none is less than the one before it
 pub raised_rising : (before after : List ℕ) → AreRaised before after → AreNonDecreasing after
 raised_rising before after r b h =
-    let c = r.count in
-    let s = r.some b (omega arith) in
-    let a = r.above (suc b) s.0 (omega arith) (let j = s.1 in omega arith) in
-    let e = s.2 in
-    omega arith
+    let s = r.some b (omega arith) in grind arith
 
 -- one step more
 pub steps_more : (numbers : List ℕ) (most n most_after : ℕ) → AreStepsUntil numbers most n → 0 < n
     → most_after ≡ ord_max nat_cmp most (slice_index numbers n - slice_index numbers (n - 1)) → AreStepsUntil numbers most_after (n + 1)
-steps_more numbers most n most_after steps some is b h =
-    let m : most_after ≡ max most (slice_index numbers n - slice_index numbers (n - 1)) =
-    is ∙ max_is most (slice_index numbers n - slice_index numbers (n - 1)) in
-    elim (cases_lt (suc b) n) [
-      | inl l ↦ let s = steps b l in omega arith
-      | inr g ↦ let here : n ≡ suc b = omega arith in let before : suc b - 1 ≡ b = omega arith in let last = rw (here, before) at m in omega arith
-    ]
+steps_more numbers most n most_after steps some is b h = grind arith
 
 -- the hints at items, by the places that were filled in
 pub hints_made : (times : List ℤ) (hints : Hints) (first : ℤ) (span most : ℕ) (marked : List ℕ) → AreOrdered times → 4 ≤ length times → hints.shift < 64 → first ≡ item_time times 0 → pos span ≡ item_time times (length times - 1) -ℤ first

@@ -24,22 +24,17 @@ pub first_come : {A : Type 0} (time : A → ℤ) (items : List A) (v : ℤ) (n :
     → filter (λ (x : A). int_le (time x) v) items ≡ take n items
 first_come {A = A} time items v n come =
     let same = length-map items time in
-    let w = come.within in
     filter_first (λ (x : A). int_le (time x) v) items n (omega arith)
     (λ k d l. let e = mapped_at time items k d (pos 0) (omega arith) in le_true _ v (rw e at (come.before k l)))
     (λ k d l m. let e = mapped_at time items k d (pos 0) m in le_false _ v (rw e at (come.behind k l (omega arith))))
 
 -- no time comes before an earlier one
 pub not_before : (times : List ℤ) (i k : ℕ) → AreOrdered times → i ≤ k → k < length times → item_time times i ≤ℤ item_time times k
-not_before times i k ordered h l = elim (cases_lt i k) [
-  | inl m ↦ ordered i k (pos 0) m l
-  | inr g ↦ let e : i ≡ k = omega arith in rw e (omega (arith, ints))
-]
+not_before times i k ordered h l = grind arith
 
 -- all have come where the last has
 pub all_passed : (times : List ℤ) (v : ℤ) (n : ℕ) (ends : Ends) → AreOrdered times → n ≡ length times → 0 < n → AreEnds times ends → ends.last ≤ℤ v → ArePassed times v n
 all_passed times v n ends ordered e some are le =
-    let last = are.last (omega arith) in
     record {
       within = omega arith;
       before = λ k h. let m = not_before times k (length times - 1) ordered (omega arith) (omega arith) in omega (arith, ints);
@@ -49,7 +44,6 @@ all_passed times v n ends ordered e some are le =
 -- and none where the first has not
 pub none_passed : (times : List ℤ) (v : ℤ) (ends : Ends) → AreOrdered times → 0 < length times → AreEnds times ends → v <ℤ ends.first → ArePassed times v 0
 none_passed times v ends ordered some are lt =
-    let first = are.first some in
     record {
       within = omega arith;
       before = λ k h. absurd (omega arith);
@@ -58,16 +52,7 @@ none_passed times v ends ordered some are lt =
 
 -- there all but the last are left
 pub all_left : (times : List ℤ) (v : ℤ) (ends : Ends) → AreOrdered times → length times < 2 ^ 64 → 0 < length times → AreEnds times ends → v <ℤ ends.last → IsLeft times v 0 (length times - 1)
-all_left times v ends ordered fits some are lt =
-    let last = are.last some in
-    record {
-      ordered = ordered;
-      rising = omega arith;
-      within = omega arith;
-      fits = omega arith;
-      before = λ k h. absurd (omega arith);
-      behind = λ k h l. let i : k ≡ length times - 1 = omega arith in rw i (omega (arith, ints));
-    }
+all_left times v ends ordered fits some are lt = grind arith
 
 -- a look at one that has come
 pub left_later : (times : List ℤ) (v : ℤ) (first middle high : ℕ) → IsLeft times v first high → middle < high → item_time times middle ≤ℤ v → IsLeft times v (middle + 1) high
@@ -93,14 +78,7 @@ left_earlier times v first middle high left h l lt = let w = left.within in reco
 
 -- the same among neighbours, the first of which has come
 pub near_later : (times : List ℤ) (v : ℤ) (near after : Near) → IsNarrowedTo times v near → near.first ≤ after.first → after.first < near.first + near.count → after.first + after.count ≡ near.first + near.count → item_time times after.first ≤ℤ v → IsNarrowedTo times v after
-near_later times v near after n h l e le = let w = n.within in record {
-  ordered = n.ordered;
-  some = omega arith;
-  within = omega arith;
-  fits = omega (arith, n.fits);
-  come = le;
-  behind = λ k m o. n.behind k (omega arith) o;
-}
+near_later times v near after n h l e le = grind arith
 
 pub near_earlier : (times : List ℤ) (v : ℤ) (near after : Near) (middle : ℕ) → IsNarrowedTo times v near → after.first ≡ near.first → 0 < after.count → middle ≤ after.first + after.count → middle < near.first + near.count → after.first + after.count ≤ near.first + near.count → v <ℤ item_time times middle → IsNarrowedTo times v after
 near_earlier times v near after middle n e some m l h lt = let w = n.within in record {
@@ -138,21 +116,8 @@ digits-three n h = let m = digits-more 4 n h in omega (arith, digits-four)
 
 -- two steps among at most half of the items leave room for one look and the steps that are left
 pub two_steps : (count left n : ℕ) → 0 < count → 2 * count ≤ n → 4 ≤ n → left ≡ (count - count / 2) - (count - count / 2) / 2 → 2 + digits (left - 1) + 1 ≤ digits n
-two_steps count left n some narrow many e = elim (cases_lt 0 (left - 1)) [
-  | inl h ↦
-      let first = digits-halved (count - 1) (omega arith) in
-      let second = digits-halved ((count - 1) / 2) (omega arith) in
-      let same : (count - 1) / 2 / 2 ≡ left - 1 = omega arith in
-      let left_digits = ap digits same in
-      let all = digits-less (count - 1) n (omega arith) (omega arith) in
-      omega arith
-  | inr g ↦ let none = digits-none (left - 1) (omega arith) in let three = digits-three n many in omega arith
-]
+two_steps count left n some narrow many e = grind (arith, digits-halved, digits-less)
 
 -- a step among more than one takes a look
 pub one_step : (count left : ℕ) → 1 < count → left ≡ count - count / 2 → digits (left - 1) + 1 ≤ digits (count - 1)
-one_step count left some e =
-    let first = digits-halved (count - 1) (omega arith) in
-    let same : (count - 1) / 2 ≡ left - 1 = omega arith in
-    let left_digits = ap digits same in
-    omega arith
+one_step count left some e = grind (arith, digits-halved)

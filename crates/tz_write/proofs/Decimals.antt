@@ -44,11 +44,7 @@ number_begins n rest h = digits_begin (decimal n) rest (digits_decimal own n h) 
 -- ---- what they spell
 digits_write : (max n : ℕ) (ds rest : List ℕ) → AllDigits ds → 0 < length ds → value_from 0 ds ≡ n → n ≤ max → NoneFirst is_digit rest
     → Writes (Number max) ds n rest
-digits_write max n ds rest each some value l none = record {
-  spelled = record { digits = ds; whole = refl; each = each; some = some; longest = none; value = value; limit = l };
-  bytes = digits_are ds each;
-  pairs = pairs_over is_digit (λ b h e. let m = (digit_within b h).1 in absurd (omega arith)) ds rest each;
-}
+digits_write max n ds rest each some value l none = grind (arith, digits_are, pairs_over)
 
 pub number_writes : (max n : ℕ) (rest : List ℕ) → n < 2 ^ 64 → n ≤ max → NoneFirst is_digit rest → Writes (Number max) (decimal n) n rest
 number_writes max n rest h l none = digits_write max n (decimal n) rest (digits_decimal own n h) (decimal_nonempty n h) (digits_value-decimal own n h) l none
@@ -77,11 +73,7 @@ paired : (ds rest : List ℕ) (n : ℕ) → AllDigits ds → 0 < length ds → N
 paired [] rest n each some none value pair = absurd (omega arith)
 paired (d ∷ []) [] n each some none value pair = absurd pair
 paired (d ∷ []) (r ∷ rs) n each some none value pair = absurd (both_ways _ none pair.1)
-paired (d ∷ e ∷ []) rest n each some none value pair =
-    let a = digit_within d each.0 in let b = digit_within e each.1.0 in
-    let x : d ≡ 48 + n / 10 = omega arith in
-    let y : e ≡ 48 + n % 10 = omega arith in
-    rw (x, y) refl
+paired (d ∷ e ∷ []) rest n each some none value pair = grind arith
 paired (d ∷ e ∷ f ∷ ds) rest n each some none value pair = absurd (both_ways _ pair.2 each.1.1.0)
 
 pub pair_front : {max n : ℕ} {bytes after rest : List ℕ} → bytes ≡ colon ∷ after → IsNumber max after n rest → Front (spelled_pair n) bytes rest

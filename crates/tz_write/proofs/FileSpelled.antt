@@ -56,12 +56,7 @@ some_designations [] d some places e = omega (arith, some)
 some_designations (t ∷ ts) d some places e = let p = (places 0 t some).stands in omega (arith, p, e)
 
 zone_agree : (d : List ℕ) (z : Zone) → 0 < length z.types → HavePlaces d z.types → CountsAgree (zone_counts d z)
-zone_agree d z some places = record {
-  types = λ e. absurd (omega arith);
-  designations = some_designations z.types d some places;
-  ut_local = inl refl;
-  standard_wall = inl refl;
-}
+zone_agree d z some places = grind (arith, some_designations)
 
 second_block : (d : List ℕ) (z : Zone) (rest : List ℕ) → HavePlaces d z.types → IsSound z → Spells (block 8 (zone_counts d z)) (block_bytes (zone_parts d z) rest) (zone_parts d z) rest
 second_block d z rest places sound =
@@ -100,13 +95,7 @@ extended_is false = refl
 
 says_zone : (extended : Bool) (text d : List ℕ) (z : Zone) → HavePlaces d z.types → IsSound z → IsFooter extended (footer_bytes text) z.rule → SayZone (pieces_of extended text d z) z
 unfolding pieces_of
-says_zone extended text d z places sound footer = record {
-  transitions = transitions_are z.transitions sound.times;
-  types = types_are d z.types places sound.types;
-  leaps = leaps_are z.leaps sound.leaps;
-  indicators = λ k e q. absurd (omega (arith, q));
-  rule = rw (extended_is extended) footer;
-}
+says_zone extended text d z places sound footer = grind (arith, transitions_are, types_are, leaps_are)
 
 pub file_is : (extended : Bool) (text d : List ℕ) (z : Zone) → length d ≤ 263 → HasCounts z → 0 < length z.types → HavePlaces d z.types → IsSound z → IsPlain text → SaysRule extended text z.rule → IsTzFile (file_bytes extended text d z) z
 file_is extended text d z size counts some places sound plain says =

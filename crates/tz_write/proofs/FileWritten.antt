@@ -10,13 +10,7 @@ use Rattle.tz_write.proofs.{RuleTexts.{extensions, rule_named, rule_text, text_a
 text_is : (rule : Option TransitionRule) (text : List ℕ) (extended : Bool) → IsRuleOrNone rule → IsFooterText rule text extended → IsPlain text × SaysRule extended text rule
 text_is (Some rule) text extended fits h =
     let named = rule_named extended text rule h.spells in let same = rule_text rule text extended fits h in
-    let first = text_begins rule named in (
-      record {
-        bytes = subst AreTextBytes (sym same) (text_are rule fits named);
-        no_colon = λ e. absurd (omega (arith, e, first.above, ap (λ (s : List ℕ). get_or s 0 0) (same ∙ first.is)));
-      },
-      ((λ e. not_empty first (sym same ∙ e)), h.spells),
-    )
+    let first = text_begins rule named in grind (arith, text_are)
 text_is None text extended fits h = (subst IsPlain (sym h.0) (record { bytes = tt; no_colon = λ e. absurd (omega (arith, e)) }), h.0)
 
 has_version : (extended : Bool) (text d : List ℕ) (z : Zone) → HaveVersion extended (file_bytes extended text d z)
@@ -45,9 +39,7 @@ one_footer (Some rule) a b x y h k = text_once rule a b x y h k
 one_footer None a b x y h k = (h.0 ∙ sym k.0, h.1 ∙ sym k.1)
 
 one_place : (types : List LocalType) (a b : List ℕ) → IsFirstPlaced types a → IsFirstPlaced types b → a ≡ b
-one_place types a b h k =
-    let low : h.place < k.place → ⊥ = λ l. k.first h.place l h.placed in let high : k.place < h.place → ⊥ = λ l. h.first k.place l k.placed in
-    let same : h.place ≡ k.place = omega (arith, low, high) in h.laid_is ∙ (ap (λ (p : ℕ). laid_from types p) same ∙ sym k.laid_is)
+one_place types a b h k = grind arith
 
 one_layout : (types : List LocalType) (a b : List ℕ) → IsLaid types a → IsLaid types b → a ≡ b
 one_layout types a b (In_order h e) (In_order k f) = e ∙ sym f
@@ -56,10 +48,7 @@ one_layout types a b (Otherwise n h) (In_order k f) = absurd (n (subst (λ (d : 
 one_layout types a b (Otherwise n h) (Otherwise o k) = one_place types a b h k
 
 pub one_file : (z : Zone) (a b : List ℕ) → IsWrittenFile z a → IsWrittenFile z b → a ≡ b
-one_file z a b h k =
-    let same = one_footer z.rule h.text k.text h.extended k.extended h.footer k.footer in
-    h.layout ∙ (ap (λ (d : List ℕ). file_bytes h.extended h.text d z) (one_layout z.types h.designations k.designations h.order k.order)
-    ∙ (ap (λ (t : List ℕ). file_bytes h.extended t k.designations z) same.0 ∙ (ap (λ (e : Bool). file_bytes e k.text k.designations z) same.1 ∙ sym k.layout)))
+one_file z a b h k = grind arith
 
 -- ---- versions
 pub needs_extensions : (rule : Option TransitionRule) (text : List ℕ) (extended : Bool) → IsRuleOrNone rule → IsFooterText rule text extended → (extended ≡ true) ↔ NeedsExtensions rule

@@ -25,8 +25,7 @@ not_greater b h = grind (arith, nat_tests)
 -- letters are above `<`, which stands in front of other names
 letters_begin : (bs rest : List ℕ) → 0 < length bs → AllOf is_letter bs → Begins 65 122 (bs ++ rest)
 letters_begin [] rest some each = absurd (omega arith)
-letters_begin (b ∷ bs) rest some each = let h = each.0 in
-    record { first = b; others = bs ++ rest; is = refl; above = grind (arith, nat_tests); below = grind (arith, nat_tests) }
+letters_begin (b ∷ bs) rest some each = grind arith
 
 run_writes : (p : ℕ → Bool) (name rest : List ℕ) → AllOf p name → AllOf is_name_byte name → NoneFirst p rest → Writes (Run p) name name rest
 run_writes p name rest each all none =

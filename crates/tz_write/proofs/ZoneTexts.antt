@@ -41,19 +41,11 @@ best_of_trimmed text bytes trimmed t best = let whole = trimmed_or_longer t.befo
 
 -- ---- the zone of types and a rule
 of_types : (types : List LocalType) (rule s : TransitionRule) → zone_of_rule types (Some rule) ≡ posix_zone s → (s ≡ rule) × (types ≡ types_of rule)
-of_types types rule s e =
-    let r : Some rule ≡ Some s = ap (λ (z : Zone). z.rule) e in
-    let k : rule ≡ s = cc in
-    (sym k, ap (λ (z : Zone). z.types) e ∙ ap types_of (sym k))
+of_types types rule s e = grind arith
 
 -- a text that gives it spells the rule, but for white space at its ends
 spells_rule : (text : List ℕ) (types : List LocalType) (rule : TransitionRule) → IsPosixZone text (zone_of_rule types (Some rule)) → (trimmed : List ℕ) × IsTrimmed text trimmed × IsTzText false trimmed rule × (types ≡ types_of rule)
-spells_rule text types rule gives = elim gives [
-  | inl a ↦ let none : Some rule ≡ None = ap (λ (z : Zone). z.rule) a.1 in cc
-  | inr b ↦
-      let same = of_types types rule b.rule b.zone in
-      (b.trimmed, b.trims, subst (λ (r : TransitionRule). IsTzText false b.trimmed r) same.0 b.spells, same.1)
-]
+spells_rule text types rule gives = grind arith
 
 pub written_zone : (types : List LocalType) (rule : TransitionRule) → IsRule rule → HasZoneText types (Some rule) → IsWrittenZone (zone_of_rule types (Some rule)) (spelled_rule rule)
 written_zone types rule fits h =
@@ -83,11 +75,7 @@ no_zone_text types rule none = λ text gives. none ((given text (zone_of_rule ty
 
 -- ---- transitions and leap seconds
 pub zone_is : (z : Zone) (types : List LocalType) (rule : Option TransitionRule) → (z.transitions ≡ []) × (z.leaps ≡ []) → types ≡ z.types → rule ≡ z.rule → zone_of_rule types rule ≡ z
-zone_is z types rule h t r =
-    ap (λ (x : List LocalType). zone_of_rule x rule) t
-    ∙ ap (λ (x : Option TransitionRule). zone_of_rule z.types x) r
-    ∙ sym (ap (λ (x : List LeapSecond). record { transitions = []; types = z.types; leaps = x; rule = z.rule }) h.1)
-    ∙ sym (ap (λ (x : List Transition). record { transitions = x; types = z.types; leaps = z.leaps; rule = z.rule }) h.0)
+zone_is z types rule h t r = grind arith
 
 empty_or_longer : (text : List ℕ) → (text ≡ []) ⊎ (0 < length text)
 empty_or_longer [] = inl refl
@@ -95,15 +83,10 @@ empty_or_longer (b ∷ bs) = inr (omega arith)
 
 rule_some : (types : List LocalType) (rule : Option TransitionRule) → IsRuleOrNone rule → HasZoneText types rule → (text : List ℕ) × IsWrittenZone (zone_of_rule types rule) text
 rule_some types (Some rule) fits h = (spelled_rule rule, written_zone types rule fits h)
-rule_some types None fits h = (
-  [],
-  record { gives = inl (refl, ap (λ (x : List LocalType). zone_of_rule x None) h); pairs = tt; shortest = λ other gives pairs. empty_or_longer other },
-)
+rule_some types None fits h = grind arith
 
 pub zone_text_some : (z : Zone) → IsRuleOrNone z.rule → IsOfText z → (text : List ℕ) × IsWrittenZone z text
-zone_text_some z fits h =
-    let is = zone_is z z.types z.rule (h.transitions, h.leaps) refl refl in
-    subst (λ (x : Zone). (text : List ℕ) × IsWrittenZone x text) is (rule_some z.types z.rule fits h.rule)
+zone_text_some z fits h = grind (arith, rule_some)
 
 pub zone_text_once : (z : Zone) (s t : List ℕ) → IsWrittenZone z s → IsWrittenZone z t → s ≡ t
 zone_text_once z s t p q = both_shortest s t (p.shortest t q.gives q.pairs) (q.shortest s p.gives p.pairs)
