@@ -1,10 +1,8 @@
-use Rattle.tz_info.proofs.Words.{arith, day_of_year_is, floors, own_start_in_range}
+use Rattle.tz_info.proofs.Words.{arith, day_of_year_is, floors, ints, own_start_in_range}
 use Rattle.tz_info.proofs.rule.season.first_of_year.Goals as goal
 
 pub overflow_sub-result : goal.overflow_sub-result
-overflow_sub-result c =
-    let in_range = c.ranges.day in
-    omega (arith, floors, c.requires.day, c.requires.bound)
+overflow_sub-result c = grind (arith, ints, floors, c.ranges.day, c.requires.day, c.requires.bound)
 
 pub returns : goal.returns
 returns c =

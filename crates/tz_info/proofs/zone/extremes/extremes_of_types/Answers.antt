@@ -2,10 +2,7 @@ use Rattle.tz_info.proofs.{Words.{LocalType, SFits, ap, arith, ints, length, tak
 use Rattle.tz_info.proofs.zone.extremes.extremes_of_types.Goals as goal
 
 pub loop-place-init : goal.loop-place-init
-loop-place-init c =
-    let ft : SFits w32 c.offset-first.result = let b = c.offset-first.ensures.bound in let v = c.offset-first.ensures.value in omega (arith, ints) in
-    let v = c.offset-first.ensures.value ∙ ap (λ (t : LocalType). t.offset) c.index-types-0.is in
-    simp to_z-of_z (first_type c.args.types.now c.index-types-0.result _ c.requires v v)
+loop-place-init c = grind (arith, ints, first_type, c.offset-first.ensures.bound, c.offset-first.ensures.value, c.index-types-0.is, c.requires)
 
 pub loop-place-preserved : goal.loop-place-preserved
 loop-place-preserved c =

@@ -1,11 +1,7 @@
-use Rattle.tz_info.proofs.{Words.{IsPartitionPoint-from_clause, LeapSecond, arith, int_lt, lt_is, rules}, LeapSearch.{lt_is_not, parted_before}}
+use Rattle.tz_info.proofs.{Words.{IsPartitionPoint-from_clause, LeapSecond, arith, int_lt, ints, lt_is, rules}, LeapSearch.{lt_is_not, parted_before}}
 use Rattle.tz_info.proofs.zone.leap_time.entries_before.Goals as goal
 
 pub returns : goal.returns
 returns c =
     let point = IsPartitionPoint-from_clause (λ (e : LeapSecond). int_lt e.unix_leap_time c.args.leap_time) _ _ c.partition_point.ensures.partitioned (parted_before _ c.args.leap_time c.requires) (λ a r q k. search rules) in
-    record {
-      within = c.partition_point.ensures.bound;
-      before = λ k d h. lt_is _ _ (point.0 k d (omega arith) h);
-      from = λ d h. lt_is_not _ _ (point.1 _ d (omega arith) h);
-    }
+    grind (arith, ints, lt_is, lt_is_not, c.partition_point.ensures.bound)

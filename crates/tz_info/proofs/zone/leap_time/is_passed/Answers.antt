@@ -5,12 +5,7 @@ abbrev none : LeapSecond
 none = record { unix_leap_time = pos 0; correction = pos 0 }
 
 pub overflow_add-result : goal.overflow_add-result
-overflow_add-result c =
-    let fu = c.ranges.unix_time in
-    let fb : SFits w32 c.correction_after.result = search rules in
-    let fd : SFits w64 c.correction_after.result = omega (arith, ints) in
-    let low = c.requires.some in let high = c.requires.room in
-    simp to_z-of_z (omega (arith, ints))
+overflow_add-result c = grind (arith, ints, c.ranges.unix_time, c.requires.some, c.requires.room)
 
 pub returns : goal.returns
 returns c =

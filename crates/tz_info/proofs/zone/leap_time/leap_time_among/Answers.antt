@@ -4,9 +4,7 @@ use Rattle.tz_info.proofs.zone.leap_time.leap_time_among.Goals as goal
 
 pub returns-then-unix_time-lt0 : goal.returns-then-unix_time-lt0
 returns-then-unix_time-lt0 c =
-    let fu = c.ranges.unix_time in
-    let early = simp to_z-of_z at c.if-unix_time-lt0.true in
-    simp to_z-of_z (leap_time_early c.args.entries.now c.args.unix_time c.requires (omega (arith, ints)))
+    let fu = c.ranges.unix_time in grind (arith, ints, leap_time_early, c.if-unix_time-lt0.true, c.requires)
 
 pub correction_after-requires : goal.correction_after-requires
 correction_after-requires c =
@@ -16,13 +14,7 @@ correction_after-requires c =
     omega arith
 
 pub overflow_add-result : goal.overflow_add-result
-overflow_add-result c =
-    let fu = c.ranges.unix_time in
-    let fb : SFits w32 c.correction_after.result = search rules in
-    let fd : SFits w64 c.correction_after.result = omega (arith, ints) in
-    let late = simp to_z-of_z at c.if-unix_time-lt0.false in
-    let room = simp to_z-of_z at c.if-unix_time-gt-LAST_WITH_ROOM.false in
-    simp to_z-of_z (omega (arith, ints))
+overflow_add-result c = grind (arith, ints, c.ranges.unix_time, c.if-unix_time-lt0.false, c.if-unix_time-gt-LAST_WITH_ROOM.false)
 
 pub returns : goal.returns
 returns c =

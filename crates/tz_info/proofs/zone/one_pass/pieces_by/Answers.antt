@@ -1,4 +1,4 @@
-use Rattle.tz_info.proofs.Words.{IsCutFrom, IsSegment, IsStart, List, Piece, SFits, Segment, Zone, add-one, ap, arith, inl, rules, saturate_signed, suc}
+use Rattle.tz_info.proofs.Words.{IsCutFrom, IsSegment, IsStart, List, Piece, SFits, Segment, Zone, add-one, ap, arith, inl, ints, rules, saturate_signed, suc}
 use Rattle.tz_info.proofs.Words.{table_count, to_z-of_z, w64, zone_in, ℕ, ℤ, [], ◌++◌, ◌+ℤ◌, ◌-◌, ◌∙◌, ◌∷◌, ◌≡◌}
 use Rattle.tz_info.proofs.{OnePass.{crossed_by, cuts_of, open_first, open_more, table_most, within_table}, WallSegments.{cut_from}}
 use Rattle.tz_info.proofs.zone.one_pass.pieces_by.Goals.{else-count-lists, then-count-lists+else-is_crossed-2+in_ok-piece}
@@ -82,7 +82,4 @@ returns c =
     ]
 
 pub push_reserved-requires-then-count-lists : goal.push_reserved-requires-then-count-lists
-push_reserved-requires-then-count-lists c =
-    let until = c.loop-place.auto.place-end (omega arith) in
-    let some = c.requires.some in
-    omega arith
+push_reserved-requires-then-count-lists c = grind (arith, ints, c.loop-place.auto.place-end, c.requires.some)

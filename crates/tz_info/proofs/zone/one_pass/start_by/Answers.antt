@@ -1,14 +1,10 @@
-use Rattle.tz_info.proofs.Words.{SFits, Transition, ap, arith, get_or, length, nat_tests, rules, to_z-of_z, w64, ◌-◌, ◌<◌, ◌∙◌, ◌≡◌}
+use Rattle.tz_info.proofs.Words.{SFits, Transition, ap, arith, get_or, ints, length, nat_tests, rules, to_z-of_z, w64, ◌-◌, ◌<◌, ◌∙◌, ◌≡◌}
 use Rattle.tz_info.proofs.{OnePass.{start_leapless}, WallSegments.{start_found}}
 use Rattle.tz_info.proofs.zone.one_pass.start_by.Goals as goal
 
 pub returns-then-leapless-clause-start : goal.returns-then-leapless-clause-start
 returns-then-leapless-clause-start c =
-    let valid = c.requires.valid in
-    let last = c.index-lists-count.result in
-    let fs : SFits w64 c.second.result = search rules in
-    simp to_z-of_z (rw c.second.ensures (start_leapless c.args.lists.transitions.now c.args.lists.leaps.now c.args.count last
-    valid.leaps valid.transitions.rising c.requires.some c.requires.count (c.requires.leapless c.if-leapless.true)))
+    grind (arith, ints, start_leapless, c.requires.valid, c.second.ensures, c.requires.some, c.requires.count, c.requires.leapless, c.if-leapless.true)
 
 pub returns-clause-start : goal.returns-clause-start
 returns-clause-start c =

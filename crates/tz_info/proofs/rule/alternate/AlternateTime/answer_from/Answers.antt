@@ -1,4 +1,4 @@
-use Rattle.tz_info.proofs.Words.{Bool, LocalType, SFits, TypeFrom, and_parts, ap, arith, int_lt, ints, not, refl, rules, to_z-of_z, type_when, w32, w64}
+use Rattle.tz_info.proofs.Words.{Bool, SFits, TypeFrom, and_parts, arith, ints, not, rules, to_z-of_z, type_when, w32, w64}
 use Rattle.tz_info.proofs.Words.{◌∙◌, ◌≡◌, ◌≢◌, ◌≤ℤ◌}
 use Rattle.tz_info.specs.declared.rule.transition_rule.TransitionRule.TheVariants.{Alternate}
 use Rattle.tz_info.proofs.{Candidates.{asked_both, asked_one, one_second}, QuestionLaws.{asked_once}, SeasonAnswers.{alike, asked_in_turn, either, greater, season_for, std_too}}
@@ -11,21 +11,9 @@ offsets : (c : After-offset-last)
     × (c.offset-first.result ≡ (type_when c.args.self.now dst).offset) × (c.offset-last.result ≡ (type_when c.args.self.now (not dst)).offset)
     × (c.offset-last.result ≤ℤ c.offset-first.result)
 offsets c =
-    let a = c.args.self.now in
-    let bs = c.offset.ensures.bound in let bd = c.offset-2.ensures.bound in let bf = c.offset-first.ensures.bound in let bl = c.offset-last.ensures.bound in
-    let fs : SFits w32 c.offset.result = search rules in
-    let fd : SFits w32 c.offset-2.result = search rules in
-    let ff : SFits w32 c.offset-first.result = search rules in
-    let fl : SFits w32 c.offset-last.result = search rules in
-    let es = c.offset.ensures.value ∙ ap (λ (t : LocalType). t.offset) c.std.ensures.value in
-    let ed = c.offset-2.ensures.value ∙ ap (λ (t : LocalType). t.offset) c.dst.ensures.value in
-    let dst : Bool = int_lt a.std.offset a.dst.offset in
-    let first : c.offset-first.result ≡ (type_when a dst).offset =
-    c.offset-first.ensures.value ∙ ap (λ (t : LocalType). t.offset) (rw (es, ed) at (simp to_z-of_z at c.type_when.ensures)) in
-    let last : c.offset-last.result ≡ (type_when a (not dst)).offset =
-    c.offset-last.ensures.value ∙ ap (λ (t : LocalType). t.offset) (rw (es, ed) at (simp to_z-of_z at c.type_when-2.ensures)) in
-    let order = greater a dst refl in
-    (dst, c.ranges.local, c.ranges.from, ff, fl, first, last, omega (arith, ints))
+    grind (arith, ints, greater, c.offset.ensures.bound, c.offset-2.ensures.bound, c.offset-first.ensures.bound, c.offset-last.ensures.bound,
+        c.offset.ensures.value, c.std.ensures.value, c.offset-2.ensures.value, c.dst.ensures.value, c.offset-first.ensures.value, c.type_when.ensures,
+        c.offset-last.ensures.value, c.type_when-2.ensures, c.ranges.local, c.ranges.from)
 
 pub returns-then-first-last : goal.returns-then-first-last
 returns-then-first-last c =
@@ -57,9 +45,7 @@ answer_amid-requires-clause-season c =
     (record { decided = rw by_last at ((simp to_z-of_z at c.decides-then-from-by_first.ensures).0 both.1); since = omega (arith, ints) }))
 
 pub answer_amid-requires-clause-other : goal.answer_amid-requires-clause-other
-answer_amid-requires-clause-other c =
-    let (dst, fl, ff, gf, gl, first, last, order) = offsets (goal.at.answer_amid-requires-clause-other c).After-offset-last in
-    λ e. let one = (alike c.args.self.now dst).1 e in omega (arith, ints)
+answer_amid-requires-clause-other c = grind (arith, ints, alike)
 
 pub returns-then-decides : goal.returns-then-decides
 returns-then-decides c =

@@ -1,5 +1,5 @@
-use Rattle.tz_base.specs.{declared.error.Error.TheVariants.{TransitionRule}, declared.error.Expected.TheVariants.{EndWithinWeek}}
-use Rattle.tz_info.proofs.Words.{Alternate, DayTime, IsAlternate, IsWithinDay, IsWithinWeek, LocalType, SFits, ap, arith, expected_of_alternate, ints, lt_true}
+use Rattle.tz_base.specs.{declared.error.Expected.TheVariants.{EndWithinWeek}}
+use Rattle.tz_info.proofs.Words.{Alternate, DayTime, IsAlternate, IsWithinDay, IsWithinWeek, LocalType, SFits, arith, expected_of_alternate, ints, lt_true}
 use Rattle.tz_info.proofs.Words.{neg_ℤ, pos, refl, rules, seconds_by_kind, subst, to_z-of_z, true, w64, ℤ, ◌<ℤ◌, ◌≡◌}
 use Rattle.tz_info.specs.Rules.{is_strictly_within}
 use Rattle.tz_info.proofs.rule.alternate.AlternateTime.new.Goals as goal
@@ -11,9 +11,7 @@ same_shown : (std dst : LocalType) (start end a b : DayTime) → start ≡ a →
 same_shown std dst start end a b p q = cc
 
 pub seconds_by_kind-ends-requires-clause-offset : goal.seconds_by_kind-ends-requires-clause-offset
-seconds_by_kind-ends-requires-clause-offset c =
-    let within : IsWithinDay c.args.dst.offset = search rules in
-    (omega (arith, ints, within), omega (arith, ints, within))
+seconds_by_kind-ends-requires-clause-offset c = grind (arith, ints)
 
 pub invariant_of-result : goal.invariant_of-result
 invariant_of-result c =
@@ -47,11 +45,5 @@ end_expected a std dst start = rw (between (pos 86_400) a.std.offset std.0 std.1
 pub returns-in_default-at : goal.returns-in_default-at
 unfolding shown
 returns-in_default-at c =
-    let f = c.ranges.dst_start_time in
-    let std = c.is_within_day.ensures.0 c.if-not-is_within_day.false in
-    let dst = c.is_within_day-else-not-is_within_day.ensures.0 c.if-not-is_within_day-2.false in
-    let same = simp to_z-of_z at c.in-Some.ensures.2 in
-    let g = c.ranges.dst_end_time in
-    let start = subst (λ (d : DayTime). IsWithinWeek d.time) same c.in-Some.ensures.0 in
-    let out = simp to_z-of_z at c.in_default-at.ensures in
-    (ap TransitionRule (end_expected (shown c.args.std c.args.dst (record { day = c.args.dst_start; time = c.args.dst_start_time }) (record { day = c.args.dst_end; time = c.args.dst_end_time })) std dst start), λ is. out is.end_time)
+    grind (arith, ints, c.ranges.dst_start_time, c.is_within_day.ensures.0, c.if-not-is_within_day.false, c.is_within_day-else-not-is_within_day.ensures.0,
+        c.if-not-is_within_day-2.false, c.in-Some.ensures.2, c.ranges.dst_end_time, c.in-Some.ensures.0, c.in_default-at.ensures)

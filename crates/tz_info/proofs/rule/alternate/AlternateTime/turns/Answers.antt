@@ -1,13 +1,10 @@
-use Rattle.tz_info.proofs.{Words.{SFits, ap, arith, floors, sym, to_z-of_z, w64, year_of, year_start, ◌∙◌, ◌≡◌}, SeasonLaws.{own_start}}
+use Rattle.tz_info.proofs.{Words.{SFits, ap, arith, floors, ints, sym, to_z-of_z, w64, year_of, year_start, ◌∙◌, ◌≡◌}, SeasonLaws.{own_start}}
 use Rattle.tz_info.proofs.rule.alternate.AlternateTime.turns.Goals.{After-year_start-first}
 use Rattle.tz_info.proofs.rule.alternate.AlternateTime.turns.Goals as goal
 
 -- the year's first day lies in it
 first_day : (c : goal.After-year_start-first) → SFits w64 c.year_start-first.result × (c.year_start-first.result ≡ year_start c.args.year) × (year_of c.year_start-first.result ≡ c.args.year)
-first_day c =
-    let in_range = c.ranges.year in
-    let begins = simp to_z-of_z at c.year_start-first.ensures.value in
-    (omega (arith, floors, c.year_start-first.ensures.bound), begins, ap year_of begins ∙ own_start c.args.year)
+first_day c = grind (arith, ints, floors, own_start, c.ranges.year, c.year_start-first.ensures.value, c.year_start-first.ensures.bound)
 
 pub turns_from-requires-clause-first : goal.turns_from-requires-clause-first
 turns_from-requires-clause-first c =

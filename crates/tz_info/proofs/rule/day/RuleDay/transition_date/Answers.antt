@@ -1,23 +1,17 @@
 use Rattle.tz_info.proofs.{Words.{IsRuleDay, arith, closed_day, inl, ints, number_after, sym, to_z-of_z, ◌+◌, ◌∙◌, ◌≡◌}, RuleDays.{rule_day_closed}}
-use Rattle.tz_info.specs.declared.rule.day.DayForm.TheVariants.{Julian0, Julian1, MonthWeekday}
+use Rattle.tz_info.specs.declared.rule.day.DayForm.TheVariants.{MonthWeekday}
 use Rattle.tz_info.proofs.rule.day.RuleDay.transition_date.Goals as goal
 
 pub returns-in-Julian1-clause-date : goal.returns-in-Julian1-clause-date
 unfolding closed_day
 returns-in-Julian1-clause-date c =
-    let in_range = c.ranges.year in
-    let shown : c.args.self.now ≡ Julian1 c.in-Julian1.n = sym c.self.view_is ∙ c.in-Julian1.is in
-    let limits : IsRuleDay (Julian1 c.in-Julian1.n) = rw c.in-Julian1.is at c.self.invariant in
-    let place = simp to_z-of_z at c.julian_place.ensures.value in
-    rw (shown, rule_day_closed (Julian1 c.in-Julian1.n) c.args.year limits, ← place) (simp to_z-of_z at c.date_in_year.ensures)
+    grind (arith, ints, rule_day_closed, c.ranges.year, c.in-Julian1.n, c.self.view_is, c.in-Julian1.is, c.self.invariant, c.julian_place.ensures.value,
+        c.date_in_year.ensures)
 
 pub returns-in-Julian0-clause-date : goal.returns-in-Julian0-clause-date
 unfolding closed_day
 returns-in-Julian0-clause-date c =
-    let in_range = c.ranges.year in
-    let shown : c.args.self.now ≡ Julian0 c.in-Julian0.n = sym c.self.view_is ∙ c.in-Julian0.is in
-    let limits : IsRuleDay (Julian0 c.in-Julian0.n) = rw c.in-Julian0.is at c.self.invariant in
-    rw (shown, rule_day_closed (Julian0 c.in-Julian0.n) c.args.year limits) (simp to_z-of_z at c.date_in_year-in-Julian0.ensures)
+    grind (arith, ints, rule_day_closed, c.ranges.year, c.in-Julian0.n, c.self.view_is, c.in-Julian0.is, c.self.invariant, c.date_in_year-in-Julian0.ensures)
 
 pub returns-in-MonthWeekday-clause-date : goal.returns-in-MonthWeekday-clause-date
 unfolding closed_day

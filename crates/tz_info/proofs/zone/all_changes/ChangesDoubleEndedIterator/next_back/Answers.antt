@@ -1,4 +1,4 @@
-use Rattle.tz_info.proofs.{Words.{SFits, pos, refl, to_z-of_z, w64, ◌-ℤ◌}, ChangeLists.{shorter, steps_last, steps_none}}
+use Rattle.tz_info.proofs.{Words.{SFits, arith, ints, pos, refl, to_z-of_z, w64, ◌-ℤ◌}, ChangeLists.{shorter, steps_last, steps_none}}
 use Rattle.tz_info.proofs.zone.all_changes.ChangesDoubleEndedIterator.next_back.Goals as goal
 
 pub returns-in-Some-clause-steps : goal.returns-in-Some-clause-steps
@@ -15,6 +15,4 @@ returns-in-Some-clause-goes c =
     record { on = λ _. (tt, tt, shorter _ _ _ steps); keeps = tt; rests = λ _. tt }
 
 pub returns-in-None-clause-steps : goal.returns-in-None-clause-steps
-returns-in-None-clause-steps c =
-    let none = steps_none c.args.self.now c.nearest.ensures.valid c.nearest.ensures.rule c.in-None.ensures.found in
-    (none, none)
+returns-in-None-clause-steps c = grind (arith, ints, steps_none, c.nearest.ensures.valid, c.nearest.ensures.rule, c.in-None.ensures.found)

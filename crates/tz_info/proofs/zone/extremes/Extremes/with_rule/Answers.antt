@@ -2,9 +2,7 @@ use Rattle.tz_info.proofs.Words.{SFits, arith, ints, to_z-of_z, w32}
 use Rattle.tz_info.proofs.zone.extremes.Extremes.with_rule.Goals as goal
 
 pub returns-in-Fixed-clause-joined : goal.returns-in-Fixed-clause-joined
-returns-in-Fixed-clause-joined c =
-    let ft : SFits w32 c.offset.result = let b = c.offset.ensures.bound in let v = c.offset.ensures.value in omega (arith, ints) in
-    rw c.in-Fixed.is (rw c.offset.ensures.value at (simp to_z-of_z at c.with.ensures))
+returns-in-Fixed-clause-joined c = grind (arith, ints, c.offset.ensures.bound, c.offset.ensures.value, c.in-Fixed.is, c.with.ensures)
 
 pub returns-in-Alternate-clause-joined : goal.returns-in-Alternate-clause-joined
 returns-in-Alternate-clause-joined c =

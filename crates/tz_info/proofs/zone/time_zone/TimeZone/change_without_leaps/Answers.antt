@@ -1,11 +1,9 @@
-use Rattle.tz_info.proofs.{Words.{SFits, ap, change_held, of_z, option_map, rules, to_z, to_z-of_z, w64}, LeaplessChanges.{made, none_made}}
+use Rattle.tz_info.proofs.{Words.{SFits, ap, arith, change_held, ints, of_z, option_map, rules, to_z-of_z, w64}, LeaplessChanges.{made, none_made}}
 use Rattle.tz_info.proofs.zone.time_zone.TimeZone.change_without_leaps.Goals as goal
 
 pub returns-then-here : goal.returns-then-here
 returns-then-here c =
-    let t = c.transition-here.result in
-    let ft : SFits w64 t.unix_leap_time = search rules in
-    none_made c.args.self.now c.args.place t (rw (← c.self.view_is) c.self.invariant.valid) c.requires.leaps c.requires.place c.transition-here.ensures.item (simp to_z-of_z at (ap (to_z w64) c.if-here.true))
+    grind (arith, ints, none_made, c.self.view_is, c.self.invariant.valid, c.requires.leaps, c.requires.place, c.transition-here.ensures.item, c.if-here.true)
 
 pub returns : goal.returns
 returns c =

@@ -1,11 +1,8 @@
-use Rattle.tz_info.proofs.{Words.{Counts, ap, arith, digits-le, inl, inr, length, to_z-of_z, ◌∙◌}, SegmentLaws.{come_at_time}}
+use Rattle.tz_info.proofs.{Words.{arith, digits-le, inl, inr, ints, to_z-of_z, ◌∙◌}, SegmentLaws.{come_at_time}}
 use Rattle.tz_info.proofs.zone.time_zone.TimeZone.come_at.Goals as goal
 
 pub passed_at-requires : goal.passed_at-requires
-passed_at-requires c =
-    let n = c.transition_count-count.ensures in
-    let none = ap (λ (p : Counts). p.reads) c.new-probes.ensures in
-    omega (arith, digits-le (length c.args.self.now.transitions))
+passed_at-requires c = grind (arith, ints, digits-le, c.transition_count-count.ensures, c.new-probes.ensures)
 
 pub returns-in-Some : goal.returns-in-Some
 returns-in-Some c =

@@ -1,12 +1,9 @@
-use Rattle.tz_info.proofs.Words.{Bor, LocalType, Zone, ap, arith, by_leap_time, digits-le, length, refl, sym, to_z-of_z, ◌∙◌, ◌≡◌}
+use Rattle.tz_info.proofs.Words.{Bor, LocalType, Zone, ap, arith, by_leap_time, digits-le, ints, length, refl, sym, to_z-of_z, ◌∙◌}
 use Rattle.tz_info.proofs.{PassedTransitions.{with_transitions, without_transitions}, QuestionLaws.{asked_at_time, asked_without}}
 use Rattle.tz_info.proofs.zone.time_zone.TimeZone.find_local_time_type_counted.Goals as goal
 
 pub passed_at-requires : goal.passed_at-requires
-passed_at-requires c =
-    let n = c.len.ensures.count in
-    let same = ap (λ (z : Zone). length z.transitions) c.self.view_is in
-    omega (arith, digits-le (length c.args.self.now.transitions))
+passed_at-requires c = grind (arith, ints, digits-le, c.len.ensures.count, c.self.view_is)
 
 pub returns-then-len-eq0-clause-found : goal.returns-then-len-eq0-clause-found
 returns-then-len-eq0-clause-found c =
@@ -32,11 +29,8 @@ pub returns-in-Some-clause-questions : goal.returns-in-Some-clause-questions
 returns-in-Some-clause-questions c =
     let fu = c.ranges.unix_time in
     let come = simp to_z-of_z at c.in-Some.ensures.come in
-    let least = c.in-Some.ensures.cost.questions_kept in
-    let most = c.in-Some.ensures.cost.questions_most in
-    let same : c.passed_at.new.probes.rule_questions ≡ c.args.probes.now.rule_questions = omega arith in
-    asked_at_time c.args.self.now c.args.unix_time _ c.args.probes.now.rule_questions c.type_after.new.probes.rule_questions
-    (λ _. come.of_second) (rw same at (simp to_z-of_z at c.type_after.ensures.counted))
+    grind (arith, ints, asked_at_time, c.in-Some.ensures.cost.questions_kept, c.in-Some.ensures.cost.questions_most, c.passed_at.new.probes.rule_questions,
+        c.type_after.new.probes.rule_questions, c.type_after.ensures.counted)
 
 pub returns-in-None-clause-found : goal.returns-in-None-clause-found
 returns-in-None-clause-found c =

@@ -1,26 +1,16 @@
-use Rattle.tz_info.proofs.{Words.{Counts, SFits, ap, arith, digits-le, ints, length, rules, to_z-of_z, w32, w64, ◌<◌, ◌≡◌}, LeaplessChanges.{between, time_at}}
+use Rattle.tz_info.proofs.{Words.{SFits, arith, digits-le, ints, length, rules, to_z-of_z, w32, w64, ◌<◌, ◌≡◌}, LeaplessChanges.{between, time_at}}
 use Rattle.tz_info.proofs.zone.time_zone.TimeZone.offset_stretch_at.Goals as goal
 
 pub passed_count-place-requires : goal.passed_count-place-requires
-passed_count-place-requires c =
-    let n = c.transition_count-count.ensures in
-    let none = ap (λ (p : Counts). p.reads) c.new-probes.ensures in
-    omega (arith, digits-le (length c.args.self.now.transitions))
+passed_count-place-requires c = grind (arith, ints, digits-le, c.transition_count-count.ensures, c.new-probes.ensures)
 
 pub latest-latest-requires-clause-room : goal.latest-latest-requires-clause-room
-latest-latest-requires-clause-room c =
-    let n = c.transition_count-count.ensures in
-    let none = ap (λ (p : Counts). p.reads) c.new-probes.ensures in
-    let k = c.passed_count-place.ensures.cost in
-    omega (arith, digits-le (length c.args.self.now.transitions))
+latest-latest-requires-clause-room c = grind (arith, ints, digits-le, c.transition_count-count.ensures, c.new-probes.ensures, c.passed_count-place.ensures.cost)
 
 pub transition-next-requires-clause-room : goal.transition-next-requires-clause-room
 transition-next-requires-clause-room c =
     let n = c.transition_count-count.ensures in
-    let none = ap (λ (p : Counts). p.reads) c.new-probes.ensures in
-    let k = c.passed_count-place.ensures.cost in
-    let l = c.latest-latest.ensures.cost in
-    omega (arith, digits-le (length c.args.self.now.transitions))
+    grind (arith, ints, digits-le, c.new-probes.ensures, c.passed_count-place.ensures.cost, c.latest-latest.ensures.cost)
 
 pub returns : goal.returns
 returns c =

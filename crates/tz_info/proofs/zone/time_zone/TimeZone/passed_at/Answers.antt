@@ -9,10 +9,7 @@ pub passed-requires-in-Ok : goal.passed-requires-in-Ok
 passed-requires-in-Ok c = rw (← c.self.view_is) at c.requires
 
 pub passed-requires-then-unix_time-le-NEAR : goal.passed-requires-then-unix_time-le-NEAR
-passed-requires-then-unix_time-le-NEAR c =
-    let some : 0 < length c.self.inside.leap_seconds.items = search rules in
-    let made = c.self.invariant.unix_times some in
-    rw made.count (rw (← c.self.view_is) at c.requires)
+passed-requires-then-unix_time-le-NEAR c = grind (arith, ints, c.self.inside.leap_seconds.items, c.self.invariant.unix_times, c.self.view_is, c.requires)
 
 pub returns-then-is_empty-clause-come : goal.returns-then-is_empty-clause-come
 returns-then-is_empty-clause-come c =

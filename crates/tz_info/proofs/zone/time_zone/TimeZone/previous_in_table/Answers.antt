@@ -1,4 +1,4 @@
-use Rattle.tz_info.proofs.{Words.{arith, change_held, to_z-of_z, ◌+◌, ◌-◌, ◌≡◌}, ZoneChanges.{ahead_come, ahead_less, ahead_none, table_last}}
+use Rattle.tz_info.proofs.{Words.{arith, change_held, ints, to_z-of_z, ◌+◌, ◌-◌, ◌≡◌}, ZoneChanges.{ahead_come, ahead_less, ahead_none, table_last}}
 use Rattle.tz_info.proofs.zone.time_zone.TimeZone.previous_in_table.Goals as goal
 
 pub loop-left-init : goal.loop-left-init
@@ -28,7 +28,4 @@ loop-left-preserved c =
     (rw (← c.self.view_is) c.self.invariant.valid) (rw e at (simp to_z-of_z at c.loop-left.invariant)) c.in-None.ensures n.count n.alike)
 
 pub returns : goal.returns
-returns c =
-    let fa = c.ranges.last in
-    let e : c.loop-left.left ≡ 0 = omega arith in
-    ahead_none c.args.self.now c.args.last (rw e at (simp to_z-of_z at c.loop-left.invariant))
+returns c = grind (arith, ints, ahead_none, c.ranges.last, c.loop-left.left, c.loop-left.invariant)

@@ -1,20 +1,14 @@
-use Rattle.tz_info.proofs.{Words.{SFits, arith, ints, rules, to_z-of_z, w64, ◌+◌}, UnixTimes.{named_within, span_in_turn}}
+use Rattle.tz_info.proofs.{Words.{SFits, arith, ints, rules, to_z-of_z, w64}, UnixTimes.{named_within, span_in_turn}}
 use Rattle.tz_info.proofs.zone.time_zone.TimeZone.span_among.Goals as goal
 
 pub listed-type_before-requires : goal.listed-type_before-requires
-listed-type_before-requires c =
-    let h = c.requires in let some = h.some in
-    named_within c.args.self.now h.entries h.place c.args.before (rw (← c.self.view_is) c.self.invariant.valid) h.made (omega arith) h.at_before
+listed-type_before-requires c = grind (arith, ints, named_within, c.requires, c.self.view_is, c.self.invariant.valid)
 
 pub listed-here-requires : goal.listed-here-requires
-listed-here-requires c =
-    let h = c.requires in let some = h.some in
-    named_within c.args.self.now h.entries (h.place + 1) c.args.first (rw (← c.self.view_is) c.self.invariant.valid) h.made (omega arith) h.at_first
+listed-here-requires c = grind (arith, ints, named_within, c.requires, c.self.view_is, c.self.invariant.valid)
 
 pub listed-type_after-requires : goal.listed-type_after-requires
-listed-type_after-requires c =
-    let h = c.requires in let some = h.some in
-    named_within c.args.self.now h.entries (h.place + 2) c.args.end (rw (← c.self.view_is) c.self.invariant.valid) h.made (omega arith) h.at_end
+listed-type_after-requires c = grind (arith, ints, named_within, c.requires, c.self.view_is, c.self.invariant.valid)
 
 pub returns : goal.returns
 returns c =

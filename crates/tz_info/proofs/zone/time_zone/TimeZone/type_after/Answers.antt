@@ -1,24 +1,16 @@
-use Rattle.tz_info.proofs.{Words.{Bor, LocalType, Zone, ap, arith, length, refl, slice_get_read, to_z-of_z}, PassedTransitions.{at_first, at_last, at_middle}}
+use Rattle.tz_info.proofs.{Words.{Bor, LocalType, Zone, ap, arith, length, slice_get_read, to_z-of_z}, PassedTransitions.{at_first, at_last, at_middle}}
 use Rattle.tz_info.proofs.zone.time_zone.TimeZone.type_after.Goals as goal
+use Rattle.std.proofs.lemmas.Int.{ints}
 
 pub returns-in_default-clause-found : goal.returns-in_default-clause-found
 returns-in_default-clause-found c =
-    let fu = c.ranges.unix_time in
-    let come = rw c.in_default.is at c.requires.come in
-    (at_first c.args.self.now c.args.unix_time _ _ come c.requires.some
-    (rw (← c.self.view_is) (slice_get_read c.self.inside.local_types.items _ 0 _ refl (omega arith) c.index.ensures)))
+    grind (arith, ints, at_first, slice_get_read, c.ranges.unix_time, c.in_default.is, c.requires.come, c.requires.some, c.self.view_is,
+        c.self.inside.local_types.items, c.index.ensures)
 
 pub returns-then-passed-len-clause-found : goal.returns-then-passed-len-clause-found
 returns-then-passed-len-clause-found c =
-    let fu = c.ranges.unix_time in
-    let come = rw c.in-Some.is at c.requires.come in
-    let below = come.named.1 in
-    let same = ap (λ (z : Zone). length z.types) c.self.view_is in
-    let all = ap (λ (z : Zone). length z.transitions) c.self.view_is in
-    (at_middle c.args.self.now c.args.unix_time _ c.in-Some.latest.now _ come (omega arith)
-    (rw (← c.self.view_is)
-    (slice_get_read c.self.inside.local_types.items _ c.in-Some.latest.now.type_index _ refl (omega arith)
-    (rw c.type_index.ensures at c.index-then-passed-len.ensures))))
+    grind (arith, ints, at_middle, slice_get_read, c.ranges.unix_time, c.in-Some.is, c.requires.come, c.self.view_is, c.in-Some.latest.now,
+        c.self.inside.local_types.items, c.type_index.ensures, c.index-then-passed-len.ensures)
 
 pub returns-clause-found : goal.returns-clause-found
 returns-clause-found c =
