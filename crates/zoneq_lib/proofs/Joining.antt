@@ -60,9 +60,7 @@ piece_begins [] ys p more h e = (p, refl, e)
 piece_begins (c ∷ k) ys [] more h e = let newline : c ≡ 10 = cc in absurd (All-head (λ b. b ≢ 10) c k h newline)
 piece_begins (c ∷ k) ys (d ∷ p) more h e =
     let head : c ≡ d = cc in
-    let tail : k ++ ys ≡ p ++ 10 ∷ more = cc in
-    let found = piece_begins k ys p more (All-tail (λ b. b ≢ 10) c k h) tail in
-    (found.0, ap (λ w. w ∷ p) (sym head) ∙ ap (λ w. c ∷ w) found.1, found.2)
+    let tail : k ++ ys ≡ p ++ 10 ∷ more = cc in grind (arith, piece_begins k ys p more (All-tail (λ b. b ≢ 10) c k h) tail)
 
 no_newline_behind : (k ys : List ℕ) → HasNoNewline (k ++ ys) → HasNoNewline ys
 no_newline_behind [] ys h = h

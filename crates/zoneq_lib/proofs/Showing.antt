@@ -8,9 +8,7 @@ use Rattle.zoneq_lib.proofs.CitedWords.{ints, law_by, map_of, neg_ℤ, of_secs, 
 use Rattle.zoneq_lib.proofs.CitedWords.{◌-ℤ◌, ◌∷◌, ◌≡◌, ◌⊎◌}
 
 within_or_not : (k : ℤ) → IsWithinDay k ⊎ (IsWithinDay k → ⊥)
-within_or_not k = by_lt_z (neg_ℤ (pos 86_400)) k
-    (λ from. by_lt_z k (pos 86_400) (λ to. inl (from, to)) (λ high. inr (λ h. let to = h.1 in omega (arith, ints, high, to))))
-    (λ low. inr (λ h. let from = h.0 in omega (arith, ints, low, from)))
+within_or_not k = grind arith
 
 both_or_not : {P Q : Type 0} → P ⊎ (P → ⊥) → Q ⊎ (Q → ⊥) → (P × Q) ⊎ (P × Q → ⊥)
 both_or_not (inl p) (inl q) = inl (p, q)
@@ -33,13 +31,7 @@ narrow_or_not z = elim (both_or_not (all_or_not z.types) (all_or_not (rule_types
 ]
 
 subsecond_or_not : (s : ℤ) (f : ℕ) → IsSubsecond s f ⊎ (IsSubsecond s f → ⊥)
-subsecond_or_not s f = elim (cases_lt f 2_000_000_000) [
-  | inl below ↦ elim (cases_lt f 1_000_000_000) [
-    | inl plain ↦ inl (below, λ leap. absurd (omega (arith, plain, leap)))
-    | inr leap ↦ elim (cases_eq (floor_mod s 60) 59) [ inl last ↦ inl (below, λ _. last) | inr other ↦ inr (λ h. other (h.1 leap)) ]
-  ]
-  | inr above ↦ inr (λ h. absurd (omega (arith, h.0, above)))
-]
+subsecond_or_not s f = grind arith
 
 stamp_or_not : (r : Reading) → IsStamp r ⊎ (IsStamp r → ⊥)
 stamp_or_not r = both_or_not (in_range_or_not r.s) (subsecond_or_not r.s r.f)
@@ -62,9 +54,7 @@ show_covered z seconds nanos valid rule = elim (narrow_or_not z) [
 -- what is written of the instant that a lawful zone gives
 pub shown_instant : (z : Zone) (off : ℤ → ℤ) (seconds : ℤ) (nanos : ℕ) (utc : Reading) (k : ℤ) → IsNarrow z → AreOffsetsOf z off → IsStamp (of_secs seconds nanos)
     → utc ≡ of_secs seconds nanos → k ≡ off seconds → AnswersShow (Some z) seconds nanos (shown_date_time utc k)
-shown_instant z off seconds nanos utc k narrow offsets stamp same there =
-    let at_second = offsets seconds (zone_second seconds stamp.0) in
-    inr (inr (narrow, stamp, (at_second.type, at_second.in_force, rw (same, there, at_second.offset) refl)))
+shown_instant z off seconds nanos utc k narrow offsets stamp same there = grind (arith, zone_second)
 
 -- no instant is given but of a timestamp
 pub no_stamp : {O D : Type 0} {m : Meaning O} (law : Law m) (p : Type 0) (r : Reading) (f : D → Zoned O) (given : LocalResult D)
