@@ -1,6 +1,7 @@
 -- New York's clocks from November 2020 to the end of 2021: the type at each second, and which seconds show a local time.
 use Rattle.std.proofs.lemmas.Int.{fits_signed_from_abs}
-use Rattle.tz_info.proofs.{AnswerLaws.{same_answer}, KindLaws.{margin_kept}, RuleDays.{rule_day_closed}, SeasonAnswers.{both_asked, dst_shown, std_shown}}
+use Rattle.tz_info.proofs.{AnswerLaws.{same_answer}, KindLaws.{margin_kept}, RuleDays.{rule_day_closed}, SeasonAnswers.{both_asked}}
+use Rattle.std.proofs.Math.Bool.{beq}
 use Rattle.tz_info.proofs.{SeasonLaws.{season_made}, ZoneLaws.{type_once}}
 use Rattle.tz_info.proofs.Words.{Bool, IsWallAnswer, LocalType, RuleAt, Shows, TypeAt, TypeFrom, are_calm, arith, by_lt_z, closed_day, day_number}
 use Rattle.tz_info.proofs.Words.{days_of_months, end_in, false, inl, inr, ints, is_dst_by_one, joined, least_time, margin_of, moment, neg_ℤ, not, place_by}
@@ -99,7 +100,7 @@ second_of l u t low high s = let e = rw (one_type u t low high s.type) at s.show
 
 -- what shows a local time: the earlier second by daylight saving time, the later one by standard time
 abbrev pub shown : ℤ → LocalResult LocalType
-shown l = joined (shown_if (is_summer (l -ℤ edt.offset)) edt) (shown_if (not (is_summer (l -ℤ est.offset))) est)
+shown l = joined (shown_if (beq (is_summer (l -ℤ edt.offset)) true) edt) (shown_if (beq (is_summer (l -ℤ est.offset)) false) est)
 
 pub wall : (l : ℤ) → pos 1_604_196_000 ≤ℤ l → l <ℤ pos 1_641_150_000
     → IsWallAnswer (Shows (TypeAt new_york_zone) l) (shown l)
@@ -107,12 +108,10 @@ wall l low high =
     same_answer (Shows (TypeFrom new_york_rule least_time) l) (Shows (TypeAt new_york_zone) l) _
     (λ u t s. record { fits = s.fits; type = type_of_rule u t s.type.type; shown = s.shown })
     (λ u t s. record { fits = s.fits; shown = s.shown; type = record { type = s.type.in_force.from_last refl; since = let f = s.fits in omega (arith, ints) } })
-    (both_asked new_york_rule least_time l edt est (is_summer (l -ℤ edt.offset)) (not (is_summer (l -ℤ est.offset))) (omega arith)
-    (λ u t s. by_dst u l t s.type.type.dst s.type.type.shown s.shown)
+    (both_asked new_york least_time l true (is_summer (l -ℤ edt.offset)) (is_summer (l -ℤ est.offset)) (λ e. omega (arith, ints, e)) (omega (arith, ints))
     (record { fits = fits_signed_from_abs w64 (l -ℤ edt.offset) (omega (arith, ints)); since = omega (arith, ints) })
     (record { fits = fits_signed_from_abs w64 (l -ℤ est.offset) (omega (arith, ints)); since = omega (arith, ints) })
-    (dst_shown new_york (l -ℤ edt.offset) (is_summer (l -ℤ edt.offset)) (rule_at (l -ℤ edt.offset) (omega (arith, ints)) (omega (arith, ints))))
-    (std_shown new_york (l -ℤ est.offset) (is_summer (l -ℤ est.offset)) (rule_at (l -ℤ est.offset) (omega (arith, ints)) (omega (arith, ints)))))
+    (rule_at (l -ℤ edt.offset) (omega (arith, ints)) (omega (arith, ints))) (rule_at (l -ℤ est.offset) (omega (arith, ints)) (omega (arith, ints))))
 
 pub once : (l : ℤ) (t : LocalType) → shown l ≡ Single t → pos 1_604_196_000 ≤ℤ l → l <ℤ pos 1_641_150_000 → IsShownOnce (Shows (TypeAt new_york_zone) l) t
 once l t is low high = rw is at (wall l low high)

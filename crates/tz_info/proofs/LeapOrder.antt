@@ -73,8 +73,14 @@ bounded p a u (e ∷ es) zero f h l =
 bounded p a u (e ∷ es) (suc k) f h l =
     let above = was_counted p u e es (suc k) f l in let t = h e (omega arith) in let d = f.step e (omega arith) in
     let c = counted p u e es above in
-    grind (arith, ints, bounded e.correction (a +ℤ pos 2_419_198) u es k (follow_tail p e es f) (λ g m. let w = tail_later p e es f g m in omega (arith,
-        ints)) (omega arith))
+    grind (
+      arith,
+      ints,
+      bounded e.correction (a +ℤ pos 2_419_198) u es k (follow_tail p e es f) (λ g m. let w = tail_later p e es f g m in omega (
+        arith,
+        ints,
+      )) (omega arith),
+    )
 
 pub leap_times_answer : (es : List LeapSecond) (u : ℤ) → AreLeapSeconds es → neg_ℤ (pos 10_000_000_000_000) ≤ℤ u → u ≤ℤ pos 10_000_000_000_000 → IsLeapTimeRefused es u → ⊥
 leap_times_answer es u valid low high r =

@@ -1,7 +1,8 @@
 //! When a rule's types give way to each other: mostly at moments of the year of the second, or of the
 //! next one.
 
-ghost use Rattle.std.specs.Prelude.{◌≡◌, ◌≢◌, ◌≤◌, pos, ◌<ℤ◌, ◌≤ℤ◌, MatchOption, MatchResult, Some, neg_ℤ, option_map, ⊤};
+ghost use Rattle.std.specs.Prelude.{◌≡◌, ◌≢◌, ◌≤◌, pos, ◌<ℤ◌, ◌≤ℤ◌, MatchOption, MatchResult, Some, neg_ℤ};
+ghost use Rattle.std.specs.Prelude.{option_map, ⊤};
 ghost use Rattle.tz_info.specs.Changes.{IsNearest, IsNearestChange};
 ghost use Rattle.tz_info.specs.Moments.{AlternateAt, IsRuleTime, type_when};
 ghost use Rattle.tz_info.specs.Steps.Beside.{IsMomentAhead, IsMomentAt, IsNearestMomentOf};

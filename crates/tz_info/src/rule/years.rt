@@ -8,7 +8,9 @@ ghost use Rattle.tz_info.specs.Changes.{IsChange};
 ghost use Rattle.tz_info.specs.Moments.{AlternateAt, IsRuleYear, IsRuleTime, IsYearOf, type_when};
 ghost use Rattle.tz_info.specs.Rules.{Alternate, IsAlternateRule};
 ghost use Rattle.tz_info.specs.Steps.Beside.{IsMomentAt, IsNearestMomentOf, change_found};
-ghost use Rattle.tz_info.specs.Steps.Changes.{IsAhead, IsIdle, IsInStretch, IsEarlierOf, IsLaterOf, IsNearRuleTime, IsOfYear, IsOneOf, IsStretchAhead, moments_near, near_end, new_year, year_at};
+ghost use Rattle.tz_info.specs.Steps.Changes.{IsAhead, IsIdle, IsInStretch, IsEarlierOf, IsLaterOf, IsNearRuleTime};
+ghost use Rattle.tz_info.specs.Steps.Changes.{IsOfYear, IsOneOf, IsStretchAhead, moments_near, near_end, new_year};
+ghost use Rattle.tz_info.specs.Steps.Changes.{year_at};
 
 use crate::rule::alternate::AlternateTime;
 use crate::rule::beside::nearer;

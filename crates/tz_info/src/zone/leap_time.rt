@@ -3,7 +3,8 @@
 ghost use Rattle.std.specs.Prelude.{◌≡◌, pos, ◌≤ℤ◌, ◌≤◌, ◌<◌, ◌↔◌, length, take, IsTrue, MatchResult};
 ghost use Rattle.tz_base.specs.declared.error.Error.TheVariants.{OutOfRange};
 ghost use Rattle.tz_base.specs.declared.error.Expected.TheVariants.{LeapTimeOf64Bits};
-ghost use Rattle.tz_info.specs.Leaps.{AreLeapSeconds, IsLeapTime, IsLeapTimeRefused, IsUnixTime, IsUnixTimeRefused, expected_of_leap_time, correction_before, corrections, passed_count};
+ghost use Rattle.tz_info.specs.Leaps.{AreLeapSeconds, IsLeapTime, IsLeapTimeRefused, IsUnixTime, IsUnixTimeRefused};
+ghost use Rattle.tz_info.specs.Leaps.{expected_of_leap_time, correction_before, corrections, passed_count};
 ghost use Rattle.tz_info.specs.Lists.{last_else};
 ghost use Rattle.tz_info.specs.Steps.Starts.{AreBefore};
 

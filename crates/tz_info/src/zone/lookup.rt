@@ -1,6 +1,7 @@
 //! The type in force at an instant, and the reads that several lookups share.
 
-ghost use Rattle.std.specs.Prelude.{◌≡◌, ◌+◌, ◌<◌, ◌≤◌, ◌^◌, length, option_map, take, slice_index_or, IfOk, IfSome, MatchOption, MatchResult, Some, None};
+ghost use Rattle.std.specs.Prelude.{◌≡◌, ◌+◌, ◌<◌, ◌≤◌, ◌^◌, length, option_map, take, slice_index_or, IfOk, IfSome};
+ghost use Rattle.std.specs.Prelude.{MatchOption, MatchResult, Some, None};
 ghost use Rattle.tz_base.specs.declared.error.Error.TheVariants.{FindLocalTimeType};
 ghost use Rattle.tz_base.specs.declared.error.Expected.TheVariants.{YearThatRuleAnswersIn};
 ghost use Rattle.tz_timeline.specs.Counts.{HasRoom, RoseWithin, HasRoomFor};

@@ -1,6 +1,7 @@
 //! The pieces of a zone's table in one pass over its transitions, where their cuts come in order.
 
-ghost use Rattle.std.specs.Prelude.{◌≡◌, ◌+ℤ◌, ◌≤ℤ◌, ◌<ℤ◌, ◌-◌, ◌<◌, ◌≤◌, length, IsTrue, IsFalse, MatchOption, MatchResult, ⊤};
+ghost use Rattle.std.specs.Prelude.{◌≡◌, ◌+ℤ◌, ◌≤ℤ◌, ◌<ℤ◌, ◌-◌, ◌<◌, ◌≤◌, length, IsTrue, IsFalse, MatchOption};
+ghost use Rattle.std.specs.Prelude.{MatchResult, ⊤};
 ghost use Rattle.std.specs.Int.{saturate_signed, w64};
 ghost use Rattle.tz_base.specs.LocalTypes.{IsUtOffset};
 ghost use Rattle.tz_base.specs.declared.error.Error.TheVariants.{OutOfMemory};

@@ -8,7 +8,8 @@ ghost use Rattle.tz_base.specs.Names.{expected_of_name, is_name};
 ghost use Rattle.tz_base.specs.Refusals.{InvalidTzString, LocalTimeType as BadType};
 ghost use Rattle.tz_base.specs.declared.error.Expected.TheVariants.{OffsetOfDaylightSavingTimeWithinDay};
 ghost use Rattle.tz_info.specs.Rules.{IsWithinWeek};
-ghost use Rattle.tz_info.specs.TzGrammar.{more, end, given_offset, dst_offset, named_type, fixed, alternate, days, rule, text};
+ghost use Rattle.tz_info.specs.TzGrammar.{more, end, given_offset, dst_offset, named_type, fixed, alternate, days};
+ghost use Rattle.tz_info.specs.TzGrammar.{rule, text};
 ghost use Rattle.tz_info.specs.Steps.Spelled.{day_time_of, alternate_of, rule_of, IsSpelled};
 
 use crate::rule::alternate::AlternateTime;

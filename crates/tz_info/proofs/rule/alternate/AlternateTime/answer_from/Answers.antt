@@ -10,10 +10,7 @@ offsets : (c : After-offset-last)
     → (dst : Bool) × SFits w64 c.args.local × SFits w64 c.args.from × SFits w32 c.offset-first.result × SFits w32 c.offset-last.result
     × (c.offset-first.result ≡ (type_when c.args.self.now dst).offset) × (c.offset-last.result ≡ (type_when c.args.self.now (not dst)).offset)
     × (c.offset-last.result ≤ℤ c.offset-first.result)
-offsets c =
-    grind (arith, ints, greater, c.offset.ensures.bound, c.offset-2.ensures.bound, c.offset-first.ensures.bound, c.offset-last.ensures.bound,
-        c.offset.ensures.value, c.std.ensures.value, c.offset-2.ensures.value, c.dst.ensures.value, c.offset-first.ensures.value, c.type_when.ensures,
-        c.offset-last.ensures.value, c.type_when-2.ensures, c.ranges.local, c.ranges.from)
+offsets c = grind (arith, ints, greater)
 
 pub returns-then-first-last : goal.returns-then-first-last
 returns-then-first-last c =

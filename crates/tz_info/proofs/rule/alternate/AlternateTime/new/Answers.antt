@@ -44,6 +44,4 @@ end_expected a std dst start = rw (between (pos 86_400) a.std.offset std.0 std.1
 
 pub returns-in_default-at : goal.returns-in_default-at
 unfolding shown
-returns-in_default-at c =
-    grind (arith, ints, c.ranges.dst_start_time, c.is_within_day.ensures.0, c.if-not-is_within_day.false, c.is_within_day-else-not-is_within_day.ensures.0,
-        c.if-not-is_within_day-2.false, c.in-Some.ensures.2, c.ranges.dst_end_time, c.in-Some.ensures.0, c.in_default-at.ensures)
+returns-in_default-at c = grind (arith, ints)

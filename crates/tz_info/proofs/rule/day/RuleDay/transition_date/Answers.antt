@@ -4,9 +4,7 @@ use Rattle.tz_info.proofs.rule.day.RuleDay.transition_date.Goals as goal
 
 pub returns-in-Julian1-clause-date : goal.returns-in-Julian1-clause-date
 unfolding closed_day
-returns-in-Julian1-clause-date c =
-    grind (arith, ints, rule_day_closed, c.ranges.year, c.in-Julian1.n, c.self.view_is, c.in-Julian1.is, c.self.invariant, c.julian_place.ensures.value,
-        c.date_in_year.ensures)
+returns-in-Julian1-clause-date c = grind (arith, ints, rule_day_closed)
 
 pub returns-in-Julian0-clause-date : goal.returns-in-Julian0-clause-date
 unfolding closed_day

@@ -3,14 +3,10 @@ use Rattle.tz_info.proofs.WallPieces.{latest_answers, none_answers}
 use Rattle.tz_info.proofs.zone.index.Index.answer.Goals as goal
 
 pub returns-in-Some-clause-answer : goal.returns-in-Some-clause-answer
-returns-in-Some-clause-answer c =
-    grind (arith, ints, latest_answers, c.ranges.local, c.in-Some.is, c.passed.ensures.latest, c.passed.ensures.passed, c.self.view_is, c.shown.ensures,
-        c.self.inside.before, c.self.inside.pieces, c.passed.result.count, c.in-Some.piece.now)
+returns-in-Some-clause-answer c = grind (arith, ints, latest_answers)
 
 pub returns-in-None-clause-answer : goal.returns-in-None-clause-answer
-returns-in-None-clause-answer c =
-    grind (arith, ints, none_answers, c.ranges.local, c.in-None.is, c.passed.ensures.latest, c.passed.ensures.passed, c.self.view_is, c.self.inside.before,
-        c.self.inside.pieces, c.passed.result.count)
+returns-in-None-clause-answer c = grind (arith, ints, none_answers)
 
 pub passed-requires : goal.passed-requires
 passed-requires c = grind (arith, ints, digits-le, c.len.ensures, c.self.view_is, c.self.inside.pieces)

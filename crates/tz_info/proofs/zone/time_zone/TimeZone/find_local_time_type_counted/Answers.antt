@@ -29,8 +29,7 @@ pub returns-in-Some-clause-questions : goal.returns-in-Some-clause-questions
 returns-in-Some-clause-questions c =
     let fu = c.ranges.unix_time in
     let come = simp to_z-of_z at c.in-Some.ensures.come in
-    grind (arith, ints, asked_at_time, c.in-Some.ensures.cost.questions_kept, c.in-Some.ensures.cost.questions_most, c.passed_at.new.probes.rule_questions,
-        c.type_after.new.probes.rule_questions, c.type_after.ensures.counted)
+    grind (arith, ints, asked_at_time)
 
 pub returns-in-None-clause-found : goal.returns-in-None-clause-found
 returns-in-None-clause-found c =

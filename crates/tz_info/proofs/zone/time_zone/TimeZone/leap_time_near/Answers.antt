@@ -2,6 +2,4 @@ use Rattle.tz_info.proofs.{Words.{arith, ints}, LeapOrder.{leap_times_answer}}
 use Rattle.tz_info.proofs.zone.time_zone.TimeZone.leap_time_near.Goals as goal
 
 pub unreachable-requires : goal.unreachable-requires
-unreachable-requires c =
-    grind (arith, ints, leap_times_answer, c.ranges.second, c.deref.ensures.value, c.in-Err.ensures, c.self.inside.leap_seconds.items,
-        c.self.invariant.valid.leaps, c.requires.0, c.requires.1)
+unreachable-requires c = grind (arith, ints, leap_times_answer)

@@ -3,14 +3,10 @@ use Rattle.tz_info.proofs.zone.time_zone.TimeZone.type_after.Goals as goal
 use Rattle.std.proofs.lemmas.Int.{ints}
 
 pub returns-in_default-clause-found : goal.returns-in_default-clause-found
-returns-in_default-clause-found c =
-    grind (arith, ints, at_first, slice_get_read, c.ranges.unix_time, c.in_default.is, c.requires.come, c.requires.some, c.self.view_is,
-        c.self.inside.local_types.items, c.index.ensures)
+returns-in_default-clause-found c = grind (arith, ints, at_first, slice_get_read)
 
 pub returns-then-passed-len-clause-found : goal.returns-then-passed-len-clause-found
-returns-then-passed-len-clause-found c =
-    grind (arith, ints, at_middle, slice_get_read, c.ranges.unix_time, c.in-Some.is, c.requires.come, c.self.view_is, c.in-Some.latest.now,
-        c.self.inside.local_types.items, c.type_index.ensures, c.index-then-passed-len.ensures)
+returns-then-passed-len-clause-found c = grind (arith, ints, at_middle, slice_get_read)
 
 pub returns-clause-found : goal.returns-clause-found
 returns-clause-found c =
