@@ -3,9 +3,9 @@ use Rattle.std.proofs.Math.Nat.{pow-suc}
 use Rattle.std.proofs.lemmas.Fmt.{decimal_by_steps}
 use Rattle.std.specs.Prelude.{if◌then◌else◌, ◌==◌}
 use Rattle.offset_core.proofs.ForCallers.{clock_of, pair_at}
-use Rattle.naive_base.proofs.Words.{IsWide, IsWideDay, IsWideYear, List, Reading, ap, append_assoc, arith, by_lt_z, date_is, date_text, day_at, day_number}
-use Rattle.naive_base.proofs.Words.{day_of_month, decimal, drop, floor_mod_parts, floors, four_digits, get_or, in_digits, ints, is_leap, month_bounds}
-use Rattle.naive_base.proofs.Words.{month_day_text, month_of, nat_tests, neg_ℤ, pos, reading_at, reading_text, second_at, suc, time_text, unsigned_abs, year_of}
+use Rattle.naive_base.proofs.Words.{IsWide, IsWideDay, IsWideYear, List, Reading, ap, append_assoc, arith, date_is, date_text, day_at, day_number}
+use Rattle.naive_base.proofs.Words.{day_of_month, decimal, drop, floor_mod_parts, floors, four_digits, get_or, in_digits, is_leap, month_bounds}
+use Rattle.naive_base.proofs.Words.{month_day_text, month_of, nat_tests, neg_ℤ, pos, reading_at, reading_text, second_at, suc, time_text, year_of}
 use Rattle.naive_base.proofs.Words.{year_text, zero, ℕ, ℤ, [], ◌%◌, ◌*◌, ◌++◌, ◌+◌, ◌-◌, ◌/◌, ◌<◌, ◌^◌, ◌∙◌, ◌∷◌, ◌≡◌}
 use Rattle.naive_base.proofs.{Ranges.{wide_year}}
 

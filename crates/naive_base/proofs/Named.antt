@@ -1,20 +1,14 @@
 -- Days of ISO weeks, and the n-th weekday of a month.
-use Rattle.naive_base.proofs.Words.{IsDate, IsDateOf, IsDateOfDay, IsDayInRange, IsDayOfIsoWeek, IsThursdayOf, IsThursdayOfWeek, IsWeekdayOfMonth}
-use Rattle.naive_base.proofs.Words.{IsYearInRange, LiesIn, MatchOption, NaiveDate, None, Option, Some, Weekday, ap, arith, date_is, date_only, day_number}
-use Rattle.naive_base.proofs.Words.{day_of, day_of_month, day_of_year, day_of_year_is, days_in_year, false, floor_mod_parts, floors, is_earlier_in_year}
-use Rattle.naive_base.proofs.Words.{lies_in, month_of, number_at, one_year, pos, refl, subst, sym, true, weekday_below, weekday_later, weekday_number}
-use Rattle.naive_base.proofs.Words.{weekday_of, whole_years, year_of, year_start, year_step, ℕ, ℤ, ◌%◌, ◌*◌, ◌+ℤ◌, ◌+◌, ◌-ℤ◌, ◌-◌, ◌/◌, ◌<◌, ◌∙◌, ◌≡◌, ◌≤◌}
+use Rattle.naive_base.proofs.Words.{IsDate, IsDateOf, IsDateOfDay, IsDayInRange, IsDayOfIsoWeek, IsThursdayOfWeek, IsWeekdayOfMonth}
+use Rattle.naive_base.proofs.Words.{IsYearInRange, LiesIn, MatchOption, NaiveDate, None, Option, Some, Weekday, arith, date_is, date_only, day_number}
+use Rattle.naive_base.proofs.Words.{day_of, day_of_month, day_of_year, day_of_year_is, days_in_year, false, floors, is_earlier_in_year}
+use Rattle.naive_base.proofs.Words.{lies_in, month_of, number_at, one_year, pos, refl, true, weekday_below, weekday_later, weekday_number}
+use Rattle.naive_base.proofs.Words.{weekday_of, whole_years, year_of, year_start, year_step, ℕ, ℤ, ◌%◌, ◌*◌, ◌+ℤ◌, ◌+◌, ◌-ℤ◌, ◌-◌, ◌/◌, ◌<◌, ◌≡◌, ◌≤◌}
 use Rattle.std.proofs.lemmas.Int.{ints}
 
 -- the day of the month of the n-th weekday w, where the month begins on the weekday f
 abbrev pub nth_day : ℕ → ℕ → ℕ → ℕ
 nth_day f w n = (w + 7 - f) % 7 + 7 * (n - 1) + 1
-
-nth_is : (f w n : ℕ) → f < 7 → w < 7 → 1 ≤ n → ((f + (nth_day f w n - 1)) % 7 ≡ w) × ((nth_day f w n + 6) / 7 ≡ n)
-nth_is f w n h k l = (omega arith, omega arith)
-
-nth_once : (f w n d : ℕ) → f < 7 → 1 ≤ d → (f + (d - 1)) % 7 ≡ w → (d + 6) / 7 ≡ n → nth_day f w n ≡ d
-nth_once f w n d h k weekday nth = omega (arith, weekday, nth)
 
 pub found_nth : (y : ℤ) (m w n : ℕ) → w < 7 → 1 ≤ n
     → IsDate y m (nth_day (weekday_of (day_number y m 1)) w n)
@@ -35,9 +29,6 @@ thursday_place f n = (11 - f) % 7 + 7 * (n - 1)
 place_is : (f n : ℕ) → f < 7 → 1 ≤ n → ((f + thursday_place f n) % 7 ≡ 4) × (thursday_place f n / 7 + 1 ≡ n)
 place_is f n h k = (omega arith, omega arith)
 
-place_once : (f n p : ℕ) → f < 7 → (f + p) % 7 ≡ 4 → p / 7 + 1 ≡ n → (1 ≤ n) × (thursday_place f n ≡ p)
-place_once f n p h weekday nth = (omega (arith, nth), omega (arith, weekday, nth))
-
 in_place : (y : ℤ) (p : ℕ) → p < days_in_year y → (year_of (year_start y +ℤ pos p) ≡ y) × (day_of_year (year_start y +ℤ pos p) ≡ p)
 in_place y p h =
     let t = year_start y +ℤ pos p in let step = year_step y in
@@ -56,14 +47,6 @@ pub only_thursday : (y : ℤ) (n : ℕ) (t : ℤ) → IsThursdayOfWeek y n t
     × (year_start y +ℤ pos (thursday_place (weekday_of (year_start y)) n) ≡ t)
 only_thursday y n t h =
     let is = rw h.year at (day_of_year_is t) in grind arith
-
--- the day of the weekday w in the week of a Thursday
-pub found_day : (t : ℤ) (w : ℕ) → w < 7 → weekday_of t ≡ 4
-    → IsThursdayOf (t -ℤ pos 3 +ℤ pos ((w + 6) % 7)) t × (weekday_of (t -ℤ pos 3 +ℤ pos ((w + 6) % 7)) ≡ w)
-found_day t w h e = grind arith
-
-pub only_day : (day t : ℤ) (w : ℕ) → weekday_of day ≡ w → IsThursdayOf day t → t -ℤ pos 3 +ℤ pos ((w + 6) % 7) ≡ day
-only_day day t w e h = grind arith
 
 pub number_below : (w : Weekday) → weekday_number w < 7
 number_below w = grind arith

@@ -4,7 +4,7 @@ use Rattle.tz_info.proofs.{AnswerLaws.{same_answer}, KindLaws.{margin_kept}, Rul
 use Rattle.std.proofs.Math.Bool.{beq}
 use Rattle.tz_info.proofs.{SeasonLaws.{season_made}, ZoneLaws.{type_once}}
 use Rattle.tz_info.proofs.Words.{Bool, IsWallAnswer, LocalType, RuleAt, Shows, TypeAt, TypeFrom, are_calm, arith, by_lt_z, closed_day, day_number}
-use Rattle.tz_info.proofs.Words.{days_of_months, end_in, false, inl, inr, ints, is_dst_by_one, joined, least_time, margin_of, moment, neg_ℤ, not, place_by}
+use Rattle.tz_info.proofs.Words.{days_of_months, end_in, false, inl, inr, ints, is_dst_by_one, joined, least_time, margin_of, moment, neg_ℤ, place_by}
 use Rattle.tz_info.proofs.Words.{places_by_kind, pos, refl, seconds_by_kind, shown_if, start_in, sym, true, type_when, w64, year_start, ℤ, ◌*ℤ◌, ◌+ℤ◌, ◌-ℤ◌}
 use Rattle.tz_info.proofs.Words.{◌<ℤ◌, ◌≡◌, ◌≤ℤ◌, ◌⊎◌}
 use Rattle.tz_info.specs.{declared.rule.day.DayForm.TheVariants.{MonthWeekday}, Rules.{IsAlternateRule}}

@@ -2,7 +2,7 @@
 use Rattle.offset_core.specs.declared.local_result.LocalResult.TheVariants.{None, Single}
 use Rattle.tz_info.proofs.Words.{Alternate as AlternateRule, AlternateAt, Bool, Contains, FitsSigned, IsAskedLast, IsWallAnswer, LocalResult, LocalType, RuleAt}
 use Rattle.tz_info.proofs.Words.{Shows, Some, TransitionRule, TypeFrom, ap, arith, false, inl, inr, ints, joined, refl, rule_offsets, subst, sym, true}
-use Rattle.tz_info.proofs.Words.{type_when, w64, ℤ, ⊎_elim, ◌+ℤ◌, ◌-ℤ◌, ◌<ℤ◌, ◌∙◌, ◌≡◌, ◌≤ℤ◌, ◌⊎◌}
+use Rattle.tz_info.proofs.Words.{type_when, w64, ℤ, ◌+ℤ◌, ◌-ℤ◌, ◌<ℤ◌, ◌≡◌, ◌≤ℤ◌, ◌⊎◌}
 use Rattle.tz_info.specs.declared.rule.transition_rule.TransitionRule.TheVariants.{Alternate, Fixed}
 use Rattle.tz_info.proofs.{AnswerLaws.{same_answer}, RuleLaws.{rule_once}}
 

@@ -2,12 +2,9 @@
 use Rattle.tz_info.proofs.Words.{AreChanges, Change, Changes, Contains, Contains-append_left, Contains-get_or, Contains-push, Contains-push_cases, HasNoChange}
 use Rattle.tz_info.proofs.Words.{IsChange, IsFirstChange, IsFromUntil, IsInStretch, IsLastChange, IsRuleOrNone, IsValid, List, LocalType, Option, TypeAt, Zone}
 use Rattle.tz_info.proofs.Words.{add-suc, add-zero, all_pairs_push, ap, append-nil, append_assoc, arith, by_lt_z, change_here, changes_in, changes_left}
-use Rattle.tz_info.proofs.Words.{changes_of, get_or, inl, inr, ints, least_time, length, length-append, lt_false, lt_true, pos, refl, seconds_between, subst}
+use Rattle.tz_info.proofs.Words.{changes_of, get_or, inl, inr, ints, least_time, length, length-append, lt_false, pos, refl, seconds_between, subst}
 use Rattle.tz_info.proofs.Words.{suc, sym, type_or_none, zero, ℕ, ℤ, [], ◌++◌, ◌+ℤ◌, ◌+◌, ◌-ℤ◌, ◌<ℤ◌, ◌<◌, ◌↔◌, ◌∙◌, ◌∷◌, ◌≡◌, ◌≤ℤ◌}
 use Rattle.tz_info.proofs.{ChangeSearch.{InForce, IsOnce}, SecondTypes.{AreTypes, here_listed, types_told}, ZoneLaws.{type_once}}
-
-contains_none : {X : Type 0} (y : X) → Contains {X = X} [] y → ⊥
-contains_none y (k, below, is) = omega arith
 
 empty : (cs : List Change) → ((c : Change) → Contains cs c → ⊥) → cs ≡ []
 empty [] none = refl

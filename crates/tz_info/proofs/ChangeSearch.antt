@@ -2,7 +2,7 @@
 use Rattle.std.specs.Bool.{Decides}
 use Rattle.tz_base.specs.contracts.local_time_type.LocalTimeTypePartialEq.TheImpl.{eq-value as type_eq}
 use Rattle.tz_info.proofs.Words.{Bool, Change, HasNoChange, IfSome, IsAhead, IsChange, IsIdle, IsInStretch, IsNearest, IsOneOf, IsStretchAhead, List, LocalType}
-use Rattle.tz_info.proofs.Words.{MatchOption, None, Option, Precedes, SFits, Some, arith, by_lt_z, cases_lt, false, get_or, inl, inr, ints, lt_false, lt_true}
+use Rattle.tz_info.proofs.Words.{MatchOption, None, Option, Precedes, SFits, Some, arith, false, get_or, inl, inr, ints}
 use Rattle.tz_info.proofs.Words.{near_end, nearer_one, neg_ℤ, pos, refl, subst, suc, sym, true, type_exact, unsigned_abs, w64, zero, ℕ, ℤ, ⊎_elim, ◌+ℤ◌, ◌+◌, ◌-ℤ◌}
 use Rattle.tz_info.proofs.Words.{◌<ℤ◌, ◌∙◌, ◌↔◌, ◌≡◌, ◌≢◌, ◌≤ℤ◌, ◌⊎◌}
 
@@ -76,10 +76,6 @@ nearest_of_all w f s found = grind (arith, ints)
 ahead_within : (w : Bool) (after last u : ℤ) → IsInStretch after last u → IsAhead w (near_end w after last) u
 ahead_within true after last u k = k.0
 ahead_within false after last u k = k.1
-
-within_too : (w : Bool) (after last u v : ℤ) → IsAhead w (near_end w after last) u → Precedes w u v → IsInStretch after last v → IsInStretch after last u
-within_too true after last u v h p k = let b = k.1 in (h, omega (arith, ints))
-within_too false after last u v h p k = let a = k.0 in (omega (arith, ints), h)
 
 -- the nearest change ahead of where a stretch begins is its nearest one, if it lies in it
 pub nearest_within : (w : Bool) (f : InForce) (after last : ℤ) (found r : Option Change) → IsNearest w f (IsAhead w (near_end w after last)) found

@@ -1,10 +1,10 @@
 -- The laws of transitions, leap seconds and indicators.
 use Rattle.tz_base.specs.{declared.error.Error.TheVariants.{InvalidTzFile}, declared.error.Expected.TheVariants.{StandardTimeWhereTimeIsUt}}
 use Rattle.tz_info.proofs.Words.{Bool, Decided, IndicatorsAgree, LeapSecond, List, Ok, SpellLeapSeconds, SpellTransitions, SpellsLeapSecond, Transition}
-use Rattle.tz_info.proofs.Words.{all_below, ap, arith, cases_lt, done, drop, exact_cut, get_or, get_or-eq_default, guard, indicators_of, inl, inr}
-use Rattle.tz_info.proofs.Words.{leap_second_in, leap_second_of, length, length-take, like, map, nat_tests, nil_from_length, not, pair_agrees, refl, said}
-use Rattle.tz_info.proofs.Words.{slice_index, subst, suc, sym, take, take-append-drop, file_time, transition_in, true, values_below, zero, ℕ, [], ◌&&◌, ◌*◌}
-use Rattle.tz_info.proofs.Words.{◌+◌, ◌<◌, ◌==◌, ◌∷◌, ◌≡◌, ◌≢◌}
+use Rattle.tz_info.proofs.Words.{all_below, ap, arith, cases_lt, done, drop, exact_cut, get_or, get_or-eq_default, indicators_of, inl, inr}
+use Rattle.tz_info.proofs.Words.{leap_second_in, leap_second_of, length, length-take, like, nil_from_length, pair_agrees, refl, said}
+use Rattle.tz_info.proofs.Words.{slice_index, subst, suc, sym, take, take-append-drop, file_time, transition_in, true, values_below, zero, ℕ, [], ◌*◌}
+use Rattle.tz_info.proofs.Words.{◌+◌, ◌<◌, ◌∷◌, ◌≡◌, ◌≢◌}
 use Rattle.tz_info.proofs.{ListLaws.{one_true}, RecordLaws.{behind_first, first_and_more, first_record, next_record, records}}
 
 -- ---- transitions
@@ -62,9 +62,6 @@ leap_seconds_law n w part l = like (records n (w + 4) part (omega arith) l (leap
 below_again : (n : ℕ) (test : ℕ → Bool) → ((k : ℕ) → k < n → test k ≡ true) → all_below n test ≡ true
 below_again zero test h = refl
 below_again (suc n) test h = rw (below_again n test (λ k l. h k (omega arith)), h n (omega arith)) refl
-
-not_both : (x y : ℕ) → (x ≡ 0 → y ≢ 1) → not ((x == 0) && (y == 1)) ≡ true
-not_both x y h = grind (arith, nat_tests)
 
 agree_is : (s u : List ℕ) → all_below (length u) (pair_agrees s u) ≡ true → IndicatorsAgree s u
 agree_is s u h = λ k a. elim (cases_lt k (length u)) as (λ _. slice_index u k ≢ 1) [

@@ -2,7 +2,7 @@
 use Rattle.std.specs.Cmp.Lexicographic.{pointwise}
 use Rattle.tz_base.proofs.ChangeEquality.{second_exact}
 use Rattle.tz_base.specs.contracts.local_time_type.LocalTimeTypePartialEq.TheImpl.{eq-value as type_eq}
-use Rattle.tz_info.proofs.Words.{Alternate as AlternateRule, Bool, DayTime, Difference, IsExact, IsTrue, LeapSecond, List, LocalType, None, Option}
+use Rattle.tz_info.proofs.Words.{Alternate as AlternateRule, Bool, Difference, IsExact, IsTrue, LeapSecond, List, LocalType, None, Option}
 use Rattle.tz_info.proofs.Words.{ShownSeconds, Some, Transition, TransitionRule, TypedSecond, Zone, and_both, and_left, and_right, ap, int_eq, option_eq, refl}
 use Rattle.tz_info.proofs.Words.{rules, slice_eq-Decides, sym, type_exact, zone_eq, ◌&&◌, ◌↔◌, ◌∙◌, ◌≡◌}
 use Rattle.tz_info.specs.contracts.rule.day.DayTimePartialEq.TheImpl.{eq-value as day_time_eq}
@@ -41,12 +41,6 @@ by_parts E to from back exact a b = (λ h. sym (back a) ∙ ap from ((exact (to 
 -- ---- rules
 day_time_exact : IsExact day_time_eq.it
 day_time_exact a b = search rules
-
-abbrev alternate_parts : AlternateRule → LocalType × (LocalType × (DayTime × DayTime))
-alternate_parts a = (a.std, (a.dst, (a.start, a.end)))
-
-abbrev of_alternate : LocalType × (LocalType × (DayTime × DayTime)) → AlternateRule
-of_alternate p = record { std = p.0; dst = p.1.0; start = p.1.1.0; end = p.1.1.1 }
 
 pub alternate_exact : (a b : AlternateRule) → IsTrue (type_eq.it a.std b.std && (type_eq.it a.dst b.dst && (day_time_eq.it a.start b.start && day_time_eq.it a.end b.end))) ↔ (a ≡ b)
 alternate_exact = grind (arith, type_exact, day_time_exact)

@@ -3,11 +3,11 @@ use Rattle.tz_base.specs.declared.error.Error.TheVariants.{InvalidTzFile, Utf8}
 use Rattle.tz_base.specs.declared.error.Expected.TheVariants.{FooterBetweenNewlines, FooterInUtf8, TzTextInFooter}
 use Rattle.tz_info.proofs.Words.{Bool, Colon, Decided, Decides, Decides-eqb, Decides-or, Err, Error, FooterFault, Gives, HasNoZero, HasText, In_text}
 use Rattle.tz_info.proofs.Words.{IsBetweenNewlines, IsFooter, IsTextFault, IsTzText, IsUtf8, IsUtf8-from_is_utf8, List, No_newlines, None, Not_utf8, Ok, Option}
-use Rattle.tz_info.proofs.Words.{Result, SaysRule, Some, TransitionRule, Zero, and_parts, arith, choice, done, ends_with, false, false_unless, footer_at, inl}
+use Rattle.tz_info.proofs.Words.{Result, SaysRule, Some, TransitionRule, Zero, arith, choice, done, ends_with, false, false_unless, footer_at, inl}
 use Rattle.tz_info.proofs.Words.{inr, is_between_newlines, is_no_text, is_utf8-from_IsUtf8, is_zero, like, list_any, made, nat_eq, nat_tests, read, refl}
 use Rattle.tz_info.proofs.Words.{refused, rule_in, rule_or_none, said, slice_index, starts_with, subst, sym, text as tz_text, trimmed, ℕ, [], ◌==◌, ◌∷◌, ◌≡◌}
 use Rattle.tz_info.proofs.Words.{◌≢◌, ◌⊎◌}
-use Rattle.std.proofs.{lemmas.Bool.{and_from, or_parts, true_from_ne_false}, lemmas.Slice.Eq.{ends_is, starts_is}}
+use Rattle.std.proofs.{lemmas.Bool.{or_parts, true_from_ne_false}, lemmas.Slice.Eq.{ends_is, starts_is}}
 use Rattle.tz_info.proofs.{TextLaws.{text_law}, TrimLaws.{trim_again, trim_is}}
 
 -- ---- newlines

@@ -1,10 +1,10 @@
 -- A rule's moments, counted from the first second of their year, depend on the year's kind alone.
 use Rattle.std.proofs.lemmas.List.FromFn.{get_or-map-range_with_len}
-use Rattle.tz_info.proofs.Words.{Alternate, Bool, DayForm, DayTime, IsAlternateRule, IsRuleDay, List, and_parts, ap, are_calm, arith, by_lt_z, closed_day, cond}
-use Rattle.tz_info.proofs.Words.{day_number, day_time_second, days_in_month, days_of_months, end_in, false, floors, get_or, get_or-map, inl, inr, int_le, int_lt, ints}
-use Rattle.tz_info.proofs.Words.{is_calm, is_calm_kind, is_inside, is_leap, kind_place, le_false, le_true, margin_of, moment, nat_le, nat_tests, neg_ℤ, place_by, places_by_kind}
+use Rattle.tz_info.proofs.Words.{Alternate, Bool, DayForm, DayTime, IsAlternateRule, IsRuleDay, List, ap, are_calm, arith, closed_day, cond}
+use Rattle.tz_info.proofs.Words.{day_number, day_time_second, days_of_months, end_in, false, floors, get_or, get_or-map, inr, int_le}
+use Rattle.tz_info.proofs.Words.{is_calm, is_calm_kind, is_leap, kind_place, margin_of, moment, nat_le, nat_tests, neg_ℤ, place_by, places_by_kind}
 use Rattle.tz_info.proofs.Words.{pos, refl, rule_day, second_in, seconds_by_kind, start_in, sym, true, weekday_below, weekday_later, weekday_of}
-use Rattle.tz_info.proofs.Words.{weekday_place, year_start, ℕ, ℤ, ◌%◌, ◌&&◌, ◌*ℤ◌, ◌+ℤ◌, ◌+◌, ◌-ℤ◌, ◌-◌, ◌<ℤ◌, ◌<◌, ◌∙◌, ◌≡◌, ◌≤ℤ◌, ◌⊎◌}
+use Rattle.tz_info.proofs.Words.{year_start, ℕ, ℤ, ◌%◌, ◌*ℤ◌, ◌+ℤ◌, ◌+◌, ◌-ℤ◌, ◌-◌, ◌<◌, ◌∙◌, ◌≡◌, ◌≤ℤ◌, ◌⊎◌}
 use Rattle.tz_info.specs.declared.rule.day.DayForm.TheVariants.{Julian0, Julian1, MonthWeekday}
 use Rattle.tz_info.proofs.{ListLaws.{one_true}, Neighbours.{IsNear, KeepsMargin, ends_near, near_margin, starts_near}, RuleDays.{rule_day_closed}}
 
@@ -68,13 +68,6 @@ record IsCalm (start_first : Bool) (start end : ℤ) : Type 0 where
   start_in : (pos 172_800 ≤ℤ start) × (start ≤ℤ pos 31_363_200)
   end_in : (pos 172_800 ≤ℤ end) × (end ≤ℤ pos 31_363_200)
   order : int_le start end ≡ start_first
-
-inside_is : (second : ℤ) → is_inside second ≡ true → (pos 172_800 ≤ℤ second) × (second ≤ℤ pos 31_363_200)
-inside_is second h = grind (arith, ints)
-
-order_is : (start_first : Bool) (start end : ℤ) → cond start_first (int_le start end) (int_lt end start) ≡ true → int_le start end ≡ start_first
-order_is true start end h = h
-order_is false start end h = let less : end <ℤ start = grind (arith, ints) in le_false start end less
 
 calm_is : (start_first : Bool) (start end : ℤ) → is_calm start_first start end ≡ true → IsCalm start_first start end
 calm_is start_first start end h = grind arith

@@ -1,6 +1,6 @@
 -- The last span, and the local times that only one of its seconds shows.
 use Rattle.tz_info.proofs.Words.{AreExtremes, Extremes, IsEndOrTyped, IsLastSpan, IsRuleOrNone, IsShownOnce, IsSpanAt, IsValid, IsWide, LastSpan, LocalType}
-use Rattle.tz_info.proofs.Words.{None, SFits, Shows, Span, TypeAt, Zone, arith, ints, offsets, pos, saturate_signed, subst, w32, w64, ℤ, ◌+ℤ◌, ◌-ℤ◌, ◌<ℤ◌, ◌≡◌}
+use Rattle.tz_info.proofs.Words.{None, SFits, Shows, Span, TypeAt, Zone, arith, ints, offsets, pos, saturate_signed, w32, w64, ℤ, ◌+ℤ◌, ◌-ℤ◌, ◌<ℤ◌, ◌≡◌}
 use Rattle.tz_info.proofs.Words.{◌≤ℤ◌}
 use Rattle.tz_info.proofs.{ExtremeLaws.{at_least_least, at_most_greatest}, LeapStarts.{saturated}, SpanLaws.{in_last_span}, ZoneLaws.{type_once}}
 

@@ -2,7 +2,7 @@
 use Rattle.std.specs.List.Sorted.{IsPartitionedBy}
 use Rattle.tz_info.proofs.Words.{AreLeapSeconds, HaveCome, IsLeapTime, IsNear, IsOneStep, LeapSecond, List, arith, by_lt_z, cases_lt, corrections}
 use Rattle.tz_info.proofs.Words.{count_by-le-length, get_or, inl, inr, int_le, ints, last_else, length, passed_count, pos, rises, saturate_signed, suc, take}
-use Rattle.tz_info.proofs.Words.{thresholds, true, w64, zero, ℕ, ℤ, [], ◌+ℤ◌, ◌-ℤ◌, ◌-◌, ◌<ℤ◌, ◌<◌, ◌↔◌, ◌∷◌, ◌≡◌, ◌≤ℤ◌, ◌≤◌}
+use Rattle.tz_info.proofs.Words.{thresholds, w64, zero, ℕ, ℤ, [], ◌+ℤ◌, ◌-ℤ◌, ◌-◌, ◌<ℤ◌, ◌<◌, ◌↔◌, ◌∷◌, ◌≡◌, ◌≤ℤ◌, ◌≤◌}
 use Rattle.tz_info.proofs.{LeapEntries.{follow, threshold, threshold_at, threshold_count}, LeapOrder.{split}, Prefixes.{last_taken}}
 
 -- the correction that stands behind the first k entries

@@ -1,8 +1,8 @@
 -- Only a year's own moments and those of its two neighbours can enclose a second of the year.
 use Rattle.tz_info.proofs.Words.{Alternate, Bool, DayTime, Decides, Decides-or, IsAlternateRule, IsDstAt, IsInSomeYear, IsRuleDay, IsWithinDay, IsWithinWeek}
-use Rattle.tz_info.proofs.Words.{IsYearOf, ap, arith, by_lt_z, cond, days_at_least, end_in, false, floors, inl, inr, int_le, ints, is_between, is_dst_by_one}
-use Rattle.tz_info.proofs.Words.{is_in_three, le_false, le_true, le_is, moment, neg_ℤ, not, not-false, pos, refl, start_in, starts_rise, sym, true, year_start}
-use Rattle.tz_info.proofs.Words.{year_step, ℤ, ⊎_elim, ◌*ℤ◌, ◌+ℤ◌, ◌-ℤ◌, ◌<ℤ◌, ◌∙◌, ◌≡◌, ◌≤ℤ◌, ◌⊎◌}
+use Rattle.tz_info.proofs.Words.{IsYearOf, arith, by_lt_z, cond, days_at_least, end_in, false, floors, inl, inr, int_le, ints, is_between, is_dst_by_one}
+use Rattle.tz_info.proofs.Words.{is_in_three, moment, neg_ℤ, not, pos, refl, start_in, starts_rise, sym, true, year_start}
+use Rattle.tz_info.proofs.Words.{year_step, ℤ, ⊎_elim, ◌*ℤ◌, ◌+ℤ◌, ◌-ℤ◌, ◌<ℤ◌, ◌≡◌, ◌≤ℤ◌, ◌⊎◌}
 use Rattle.std.proofs.lemmas.Bool.Decides.{Decides-like}
 use Rattle.tz_info.proofs.RuleDays.{day_within}
 
@@ -115,9 +115,6 @@ by_end starts ends year u dst std order is found all = grind arith
 by_own : (firsts lasts : ℤ → ℤ) (margin year u : ℤ) → KeepsMargin firsts margin → KeepsMargin lasts margin → IsBeside margin year u → Decides (is_between (firsts year) (lasts year) u) (IsInSomeYear firsts lasts u)
 by_own firsts lasts margin year u first last beside = Decides-like _ (λ h. (year, h.0, h.1))
     (λ some. let (other, from, before) = some in rw (← own_year firsts lasts margin year u other first last beside from before) (from, before)) (between _ _ u)
-
-lt_is : (a b : ℤ) → int_le a b ≡ false → b <ℤ a
-lt_is a b h = grind (arith, ints)
 
 -- such tests decide, where moments come in their order in the second's own year
 dst_by : (starts ends : ℤ → ℤ) (year own u : ℤ) (dst first last : Bool) → int_le (starts own) (ends own) ≡ int_le (starts year) (ends year) → dst ≡ cond (int_le (starts year) (ends year)) first (not last)

@@ -1,7 +1,7 @@
 -- A rule has one type from a second on, until the next moment of three years or the year's end; and the nearest of two moments.
 use Rattle.tz_info.proofs.Words.{Alternate, AlternateAt, Bool, IsAhead, IsAlternateRule, IsDstAt, IsInSomeYear, IsRuleYear, IsYearOf, LocalType, Precedes}
-use Rattle.tz_info.proofs.Words.{arith, cond, end_in, false, floor_div, floors, inl, inr, int_le, int_lt, ints, nearer_moment, one_year, pos, refl, start_in}
-use Rattle.tz_info.proofs.Words.{subst, sym, true, year_start, ℤ, ⊎_elim, ◌&&◌, ◌*ℤ◌, ◌+ℤ◌, ◌-ℤ◌, ◌<ℤ◌, ◌∙◌, ◌≡◌, ◌≤ℤ◌, ◌⊎◌}
+use Rattle.tz_info.proofs.Words.{arith, end_in, false, floor_div, floors, ints, nearer_moment, one_year, pos, start_in}
+use Rattle.tz_info.proofs.Words.{subst, true, year_start, ℤ, ⊎_elim, ◌*ℤ◌, ◌+ℤ◌, ◌-ℤ◌, ◌<ℤ◌, ◌≡◌, ◌≤ℤ◌, ◌⊎◌}
 use Rattle.tz_info.proofs.Neighbours.{IsNear, ends_near, not_earlier, not_later, place, second_low, starts_near}
 
 -- in the year and in its neighbours no moment comes after u and before `next`
@@ -66,18 +66,6 @@ pub record IsNearestMoment (forward : Bool) (first second s limit next : ℤ) : 
   pub of_first : IsAhead forward s first → Precedes forward next first
   pub of_second : IsAhead forward s second → Precedes forward next second
   pub one : (next ≡ limit → ⊥) → (next ≡ first) ⊎ (next ≡ second)
-
-picked : (b : Bool) (x y : ℤ) → (cond b x y ≡ x) ⊎ (cond b x y ≡ y)
-picked true x y = inl refl
-picked false x y = inr refl
-
-nearer_is : (w : Bool) (s limit m : ℤ) → (nearer_moment w s limit m ≡ m) ⊎ (nearer_moment w s limit m ≡ limit)
-nearer_is true s limit m = picked (int_lt s m && int_lt m limit) m limit
-nearer_is false s limit m = picked (int_lt limit m && int_le m s) m limit
-
-one_of : (w : Bool) (first second s limit : ℤ) → (nearer_moment w s (nearer_moment w s limit first) second ≡ limit → ⊥)
-    → (nearer_moment w s (nearer_moment w s limit first) second ≡ first) ⊎ (nearer_moment w s (nearer_moment w s limit first) second ≡ second)
-one_of w first second s limit other = grind arith
 
 pub nearest_moment : (w : Bool) (first second s limit : ℤ) → IsAhead w s limit
     → IsNearestMoment w first second s limit (nearer_moment w s (nearer_moment w s limit first) second)

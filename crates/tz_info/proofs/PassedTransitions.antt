@@ -1,10 +1,9 @@
 -- The transitions at or before a leap time, and the type in force there.
 use Rattle.tz_base.specs.{declared.error.Error.TheVariants.{FindLocalTimeType}, declared.error.Expected.TheVariants.{YearThatRuleAnswersIn}}
 use Rattle.tz_info.proofs.Words.{Err, Error, HasType, HaveComeAt, IsFromLast, IsLastOf, IsLeapTime, IsRefusedBy, IsTypeError, IsValid, List, LocalType}
-use Rattle.tz_info.proofs.Words.{MatchOption, MatchResult, None, Ok, Option, Result, RuleOrType, Some, Transition, TypeAt, TypeAtLeapTime, Zone, ap, arith}
-use Rattle.tz_info.proofs.Words.{by_rule, cases_lt, get_or, index_at, inl, inr, leap_time_at, length, length-take, passed, refl, suc, sym, take, ℕ, ℤ, ◌-◌, ◌<◌}
-use Rattle.tz_info.proofs.Words.{◌∙◌, ◌≡◌, ◌≤◌}
-use Rattle.std.proofs.lemmas.Option.{same_Some}
+use Rattle.tz_info.proofs.Words.{MatchOption, MatchResult, None, Ok, Option, Result, RuleOrType, Some, Transition, TypeAt, TypeAtLeapTime, Zone, arith}
+use Rattle.tz_info.proofs.Words.{by_rule, get_or, index_at, leap_time_at, length, length-take, passed, refl, suc, take, ℕ, ℤ, ◌-◌, ◌<◌}
+use Rattle.tz_info.proofs.Words.{◌≡◌, ◌≤◌}
 use Rattle.tz_info.proofs.Prefixes.{last_taken}
 pub use Rattle.tz_info.proofs.Words.{nil_from_length as no_items}
 

@@ -2,7 +2,7 @@
 use Rattle.tz_info.proofs.Words.{All-contains, AllPairs-cons, Alternate as AlternateRule, AreUtOffsets, Contains, Contains-append_right, IsAskedAt}
 use Rattle.tz_info.proofs.Words.{IsAskedAtEach, IsAskedAtLeapTime, IsAskedFor, IsAskedFrom, IsAskedSince, IsByRuleFor, IsLeapTime, IsNear, IsSecondFrom}
 use Rattle.tz_info.proofs.Words.{IsStart, IsValid, IsWide, IsWindow, LocalType, None, Option, Some, Transition, TransitionRule, Zone, ap, arith, get_or, inl}
-use Rattle.tz_info.proofs.Words.{inr, ints, length, none-some, offsets, offsets_of, refl, rule_offsets, segment_of, subst, suc, sym, zero, ℕ, ℤ, [], ⊎_elim}
+use Rattle.tz_info.proofs.Words.{inr, ints, length, none-some, offsets, offsets_of, refl, rule_offsets, segment_of, suc, sym, zero, ℕ, ℤ, [], ⊎_elim}
 use Rattle.tz_info.proofs.Words.{◌+◌, ◌-ℤ◌, ◌<ℤ◌, ◌<◌, ◌↔◌, ◌∙◌, ◌∷◌, ◌≡◌, ◌≢◌, ◌≤ℤ◌, ◌⊎◌}
 use Rattle.tz_info.specs.{Questions.{IsByRule}, declared.rule.transition_rule.TransitionRule.TheVariants.{Alternate, Fixed}}
 use Rattle.std.proofs.lemmas.List.Elements.{Contains-append_cases, Contains-get_or}
@@ -37,10 +37,6 @@ asked_by_zone z rule start l p q valid is begun wide offsets k = record {
   each = λ u. let same = seconds_by_rule z rule start l valid is begun wide offsets u in let e = k.each u in ((λ c. same.0 (e.0 c)), (λ c. e.1 (same.1 c)));
   count = k.count;
 }
-
--- ---- the seconds that are asked
-in_none : (u : ℤ) → Contains [] u → ⊥
-in_none u (k, h, e) = absurd (omega arith)
 
 in_one : (a u : ℤ) → Contains (a ∷ []) u → u ≡ a
 in_one a u (zero, h, e) = sym e

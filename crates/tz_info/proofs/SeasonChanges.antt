@@ -1,9 +1,9 @@
 -- Changes of a rule where the moments of one season decide: only these come with one.
 use Rattle.tz_info.proofs.Words.{Alternate, AlternateAt, Bool, Change, HasNoChange, IsAhead, IsAheadUpTo, IsChange, IsDecidedIn, IsIdleTo, IsLimit}
 use Rattle.tz_info.proofs.Words.{IsMomentAhead, IsNearest, IsNearestChange, IsRuleTime, IsSeason, Option, Precedes, Season, ap, arith, by_lt_z, false, far_side}
-use Rattle.tz_info.proofs.Words.{inl, inr, ints, is_dst_by_one, near_side, nearer_moment, neg_ℤ, pos, sym, true, type_when, ℤ, ⊎_elim, ◌+ℤ◌, ◌-ℤ◌, ◌<ℤ◌, ◌∙◌}
+use Rattle.tz_info.proofs.Words.{inl, inr, ints, is_dst_by_one, near_side, nearer_moment, neg_ℤ, pos, sym, true, type_when, ℤ, ◌+ℤ◌, ◌-ℤ◌, ◌<ℤ◌, ◌∙◌}
 use Rattle.tz_info.proofs.Words.{◌≡◌, ◌≤ℤ◌, ◌⊎◌}
-use Rattle.tz_info.proofs.{ChangeSearch.{InForce, nearest_moved}, NextMoments.{nearest_moment}, RuleChanges.{rule_second}, RuleLaws.{alternate_once}}
+use Rattle.tz_info.proofs.{ChangeSearch.{InForce}, NextMoments.{nearest_moment}, RuleChanges.{rule_second}, RuleLaws.{alternate_once}}
 
 -- ---- where neither moment comes
 dst_alike : (start end u : ℤ) → (start ≡ u → ⊥) → (end ≡ u → ⊥) → is_dst_by_one start end (u -ℤ pos 1) ≡ is_dst_by_one start end u

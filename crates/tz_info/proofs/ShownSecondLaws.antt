@@ -75,12 +75,6 @@ found_in_run false z from until low high start end u t fits all run type is grea
 }
 
 -- ---- there is no other answer
-abbrev made : ℤ → LocalType → ℤ → LocalType → Option ShownSeconds
-made u s v t = Some (record { first = record { at = u; local_time_type = s }; last = record { at = v; local_time_type = t } })
-
-the_same : (u v a b : ℤ) (s t m n : LocalType) → u ≡ v → a ≡ b → s ≡ t → m ≡ n → made u s a m ≡ made v t b n
-the_same u v a b s t m n e g h k = cc
-
 -- of two seconds none comes before the other
 one_end : (z : Zone) (u v : ℤ) (s t : LocalType) → TypeAt z u s → TypeAt z v t → u ≤ℤ v → v ≤ℤ u → (u ≡ v) × (s ≡ t)
 one_end z u v s t here there h k = let same : u ≡ v = omega (arith, ints) in (same, type_once z v s t (rw same at here) there)

@@ -4,7 +4,7 @@ use Rattle.tz_info.proofs.Words.{IsFirst, IsFirstChange, IsFromLast, IsInSpan, I
 use Rattle.tz_info.proofs.Words.{IsRuleTime, IsSince, IsSpan, IsSpanAt, IsTypeRefused, IsUnixTime, IsUntil, IsValid, LeapSecond, List, LocalType}
 use Rattle.tz_info.proofs.Words.{None, Option, SFits, Some, Span, Transition, TransitionRule, TypeAt, Zone, ap, arith, by_leap_time, by_lt_z, by_rule, cases_lt, false, true}
 use Rattle.tz_info.proofs.Words.{correction_before, floor_div, inl, inr, ints, last_transition, length, lies_in, neg_ℤ, option_map, passed_count, pos, refl}
-use Rattle.tz_info.proofs.Words.{segment_of, subst, sym, w64, year_of, ℤ, ◌-ℤ◌, ◌-◌, ◌<ℤ◌, ◌<◌, ◌∙◌, ◌≡◌, ◌≤ℤ◌, ◌⊎◌}
+use Rattle.tz_info.proofs.Words.{segment_of, sym, w64, year_of, ℤ, ◌-ℤ◌, ◌-◌, ◌<ℤ◌, ◌<◌, ◌∙◌, ◌≡◌, ◌≤ℤ◌, ◌⊎◌}
 use Rattle.tz_info.specs.declared.rule.transition_rule.TransitionRule.TheVariants.{Alternate, Fixed}
 use Rattle.tz_info.proofs.{ChangeSearch.{InForce, Typed, stays}, LastType.{last_is}, LeapEntries.{before_found, follow}, LeapOrder.{none_counted}}
 use Rattle.tz_info.proofs.{RuleChanges.{rule_second}, RuleLaws.{rule_year}, SegmentLaws.{come_at_time, come_by_time, segment_most, segments_rise}}
@@ -162,11 +162,6 @@ span_of_changes z u begins ends valid limits fits last next =
     (λ d is i. let l = next.nearest d is i.0 in let b = i.1 in omega (arith, ints)) t.1 next.is.before in
     rw (← same) s
 
--- ---- two spans that share a second are one
-sooner : (end : Option ℤ) (v u : ℤ) → v ≤ℤ u → IsUntil end u → IsUntil end v
-sooner None v u h k = tt
-sooner (Some x) v u h k = omega (arith, ints)
-
 later : (begin : Option ℤ) (v u : ℤ) → u ≤ℤ v → IsSince begin u → IsSince begin v
 later None v u h k = tt
 later (Some x) v u h k = omega (arith, ints)
@@ -236,14 +231,6 @@ typed_from z s first h (inr far) = far.1
 typed_up_to : (z : Zone) (s : Span) (end : ℤ) → IsSpan (TypeAt z) s → IsEndOrTyped z s.until end → (last : ℤ) × ((end -ℤ pos 1) ≤ℤ last) × Typed (TypeAt z) last
 typed_up_to z s end h (inl is) = let over = rw is at h.ends in (end -ℤ pos 1, omega (arith, ints), (s.local_time_type, over.1.before))
 typed_up_to z s end h (inr far) = (end, omega (arith, ints), far.1)
-
-since_end : (z : Zone) (from : Option ℤ) (first u : ℤ) → IsEndOrTyped z from first → first ≤ℤ u → IsSince from u
-since_end z from first u (inl is) low = rw is low
-since_end z from first u (inr far) low = rw far.0 tt
-
-until_end : (z : Zone) (until : Option ℤ) (end u : ℤ) → IsEndOrTyped z until end → u <ℤ end → IsUntil until u
-until_end z until end u (inl is) high = rw is high
-until_end z until end u (inr far) high = rw far.0 tt
 
 pub span_held : (z : Zone) (s : Span) (first end u : ℤ) → IsValid z → IsRuleOrNone z.rule → IsSpan (TypeAt z) s → SFits w64 u
     → IsEndOrTyped z s.from first → IsEndOrTyped z s.until end → first ≤ℤ u → u <ℤ end → TypeAt z u s.local_time_type

@@ -1,6 +1,6 @@
 -- Where a search in transitions whose times rise comes to an end.
-use Rattle.tz_info.proofs.Words.{AreOrdered, AreRising, List, Stands, Transition, arith, cases_lt, filter_first, get_or, inl, inr, int_le, ints, le_false}
-use Rattle.tz_info.proofs.Words.{le_true, length, map, passed, pos, take, times_ordered, ℕ, ℤ, ◌+◌, ◌-◌, ◌<ℤ◌, ◌<◌, ◌≡◌, ◌≤ℤ◌, ◌≤◌}
+use Rattle.tz_info.proofs.Words.{AreOrdered, AreRising, List, Stands, Transition, arith, cases_lt, filter_first, get_or, inl, inr, ints}
+use Rattle.tz_info.proofs.Words.{length, map, passed, pos, take, times_ordered, ℕ, ℤ, ◌+◌, ◌-◌, ◌<ℤ◌, ◌<◌, ◌≡◌, ◌≤ℤ◌, ◌≤◌}
 
 -- the transitions below `low` come at or before v, those from `high` on after it
 pub record Between (xs : List Transition) (v : ℤ) (low high : ℕ) : Type 0 where

@@ -49,10 +49,6 @@ back_takes : (bytes : List ℕ) → (after : List ℕ) × (bytes ≡ trimmed_bac
 back_takes [] = ([], refl, tt, tt)
 back_takes (b ∷ bs) = let r = back_takes bs in back_step b bs (trimmed_back bs) r.0 r.1 r.2 r.3
 
-still_bare : (text after : List ℕ) → BeginsBare (text ++ after) → BeginsBare text
-still_bare [] after h = tt
-still_bare (b ∷ bs) after h = h
-
 pub trim_is : (bytes : List ℕ) → IsTrimmed bytes (trimmed bytes)
 unfolding trimmed
 trim_is bytes =

@@ -2,7 +2,7 @@
 use Rattle.std.specs.Prelude.{⊤}
 use Rattle.tz_info.proofs.Words.{AreByUnixTime, AreOrdered, ArePassed, AreRising, Err, HaveComeAt, IsLastOf, IsLeapTime, IsNear, IsReachedFrom, IsValid}
 use Rattle.tz_info.proofs.Words.{LeapSecond, List, MatchResult, None, Ok, Option, Result, Some, Transition, Zone, ap, arith, by_lt_z, cases_lt, filter_first}
-use Rattle.tz_info.proofs.Words.{get_or, get_or_append_left, get_or_default, get_or_push, inl, inr, int_le, ints, le_false, le_true, length, length-map}
+use Rattle.tz_info.proofs.Words.{get_or, get_or_append_left, get_or_default, get_or_push, inl, inr, int_le, ints, le_false, length, length-map}
 use Rattle.tz_info.proofs.Words.{length_push, map, mapped_at, passed, pos, take, times_ordered, ℕ, ℤ, [], ◌++◌, ◌+◌, ◌-◌, ◌<◌, ◌↔◌, ◌∙◌, ◌∷◌, ◌≡◌, ◌≤ℤ◌, ◌≤◌}
 use Rattle.tz_info.proofs.Words.{AreInTurn, HasType, IsSpanAt, LocalType, TypeAt, index_of, sym, ◌-ℤ◌, ◌<ℤ◌, ◌≢◌}
 use Rattle.tz_info.proofs.{PassedTransitions.{NamesLast, first_come_at, last_named}, SegmentLaws.{IsWithin, begin_next, between_of, index_next, type_in_before}}

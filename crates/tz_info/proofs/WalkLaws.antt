@@ -2,9 +2,9 @@
 use Rattle.offset_core.specs.declared.local_result.LocalResult.TheVariants.{None as Never}
 use Rattle.tz_info.proofs.Words.{AreRising, AreUtOffsets, Bool, Counts, IsNear, IsShownIn, IsStart, IsTried, IsValid, IsWallAnswer, IsWide, IsWindow, List}
 use Rattle.tz_info.proofs.Words.{LocalResult, LocalType, None, Option, RoseByWalk, RoseWithin, RuleAt, Shows, Some, Transition, TransitionRule, TypeAt}
-use Rattle.tz_info.proofs.Words.{TypeFrom, Zone, ap, arith, begin_of, come_between, cases_lt, cond, digits, false, filter, get_or, get_or_default, index_of}
-use Rattle.tz_info.proofs.Words.{inl, inr, int_le, int_lt, ints, le_true, least_time, length, lt_true, reads_more, refl, segment_of, suc, sym, table_count}
-use Rattle.tz_info.proofs.Words.{true, none-some, zero, ℕ, ℤ, [], ⊎_elim, ◌⊎◌, ◌&&◌, ◌+ℤ◌, ◌+◌, ◌-ℤ◌, ◌<ℤ◌, ◌<◌, ◌∙◌, ◌∷◌, ◌≡◌, ◌≤ℤ◌, ◌≤◌}
+use Rattle.tz_info.proofs.Words.{TypeFrom, Zone, ap, arith, begin_of, come_between, cases_lt, digits, filter, get_or, get_or_default, index_of}
+use Rattle.tz_info.proofs.Words.{inl, inr, ints, least_time, length, reads_more, refl, segment_of, suc, sym, table_count}
+use Rattle.tz_info.proofs.Words.{true, zero, ℕ, ℤ, [], ⊎_elim, ◌⊎◌, ◌+ℤ◌, ◌+◌, ◌-ℤ◌, ◌<ℤ◌, ◌<◌, ◌∙◌, ◌∷◌, ◌≡◌, ◌≤ℤ◌, ◌≤◌}
 use Rattle.tz_info.proofs.{AnswerLaws.{Parts, behind_answer, same_answer}, Candidates.{offset_of_rule}, ExtremeLaws.{at_least_least, at_most_greatest}}
 use Rattle.tz_info.proofs.{TableSearch.{Between}, WallSegments.{leap_time_of, near_of, offset_here, rule_begun, type_of_table}}
 use Rattle.tz_info.proofs.SegmentLaws.{between_of, later_segment, segment_at, segment_here, segment_is, segments_rise, type_from, type_in_from}
@@ -92,11 +92,6 @@ window_most z l low high n d u o valid w h later least e =
 pub none_behind : (z : Zone) (l low high : ℤ) (n : ℕ) (d : Transition) (answer : LocalResult LocalType) → IsValid z → IsWindow z l low high → n < length z.transitions → high <ℤ (get_or z.transitions n d).unix_leap_time → IsWallAnswer (IsShownIn z l (n + 1)) answer → IsWallAnswer (Shows (TypeAt z) l) answer
 none_behind z l low high n d answer valid w h later s = same_answer (IsShownIn z l (n + 1)) (Shows (TypeAt z) l) answer (λ u t k. k.shows)
     (λ u t k. record { shows = k; from = omega arith; below = let most = window_most z l low high n d u t.offset valid w h later (at_least_least z u w.least t w.is_least k.type) k.shown in omega arith }) s
-
--- ---- counts
-kept_more : {X : Type 0} (b : Bool) (x : X) (ys : List X) → length ys ≤ length (cond b (x ∷ ys) ys)
-kept_more true x ys = omega arith
-kept_more false x ys = omega arith
 
 window_least : {X : Type 0} (p : X → Bool) (xs : List X) (a b : ℕ) → b ≤ length xs → ((k : ℕ) (d : X) → a ≤ k → k < b → p (get_or xs k d) ≡ true) → b ≤ a + length (filter p xs)
 window_least p [] a b h all = omega arith

@@ -3,14 +3,14 @@ use Rattle.std.proofs.lemmas.List.Sums.{sum_by-le-sum_by}
 use Rattle.tz_info.proofs.Words.{Alternate as AlternateRule, AlternateAt, AreAhead, HaveOneType, AreComeAt, AreComeOrAll, AreLeapSeconds, Change, Bool, ComesAt}
 use Rattle.tz_info.proofs.Words.{HasNoChange, false, true, HasNoneAt, HaveCome, IsAhead, IsBegin, IsChangeByRule, IsChange, IsFirst, IsFirstChange, IsInTable}
 use Rattle.tz_info.proofs.Words.{IsLast, IsLastChange, IsLeapTime, IsLeapTimeRefused, IsNearest, IsRuleTime, IsValid, LeapSecond, List, LocalType, MatchOption}
-use Rattle.tz_info.proofs.Words.{None, Option, RuleOrType, SFits, Some, Transition, TransitionRule, TypeAt, Zone, ap, arith, by_lt_z, cases_lt, cond}
-use Rattle.tz_info.proofs.Words.{get_or, index_of, inl, inr, int_le, ints, length, nat_tests, passed_count, pos, refl, segment_of, slice_get, suc}
-use Rattle.tz_info.proofs.Words.{sym, thresholds, w64, zero, ℕ, ℤ, ◌+◌, ◌-ℤ◌, ◌-◌, ◌<ℤ◌, ◌<◌, ◌↔◌, ◌∙◌, ◌≡◌, ◌≤ℤ◌, ◌≤◌, ◌⊎◌}
-use Rattle.tz_info.specs.declared.rule.transition_rule.TransitionRule.TheVariants.{Alternate, Fixed}
-use Rattle.tz_info.proofs.{ChangeSearch.{nearest_moved}, GapLaws.{HasOneType, IsSteady, one_type}, LeapEntries.{follow, threshold_at}, LeapOrder.{bounded}}
-use Rattle.tz_info.proofs.{LeapStarts.{correction_behind, reached_later, times_rise}, PassedTransitions.{no_items}, RuleChanges.{rule_second}}
+use Rattle.tz_info.proofs.Words.{None, Option, RuleOrType, SFits, Some, Transition, TypeAt, Zone, arith, by_lt_z, cases_lt, cond}
+use Rattle.tz_info.proofs.Words.{get_or, inl, inr, int_le, ints, length, nat_tests, passed_count, pos, refl, segment_of, suc}
+use Rattle.tz_info.proofs.Words.{thresholds, w64, zero, ℕ, ℤ, ◌+◌, ◌-ℤ◌, ◌-◌, ◌<ℤ◌, ◌<◌, ◌↔◌, ◌≡◌, ◌≤ℤ◌, ◌≤◌, ◌⊎◌}
+use Rattle.tz_info.specs.declared.rule.transition_rule.TransitionRule.TheVariants.{Alternate}
+use Rattle.tz_info.proofs.{ChangeSearch.{nearest_moved}, GapLaws.{HasOneType, one_type}, LeapEntries.{follow, threshold_at}, LeapOrder.{bounded}}
+use Rattle.tz_info.proofs.{LeapStarts.{correction_behind, reached_later, times_rise}, RuleChanges.{rule_second}}
 use Rattle.tz_info.proofs.SegmentLaws.{come_at_time, come_by_time, later_segment, segment_at, segment_most, segments_rise, type_before, type_from, type_in_from}
-use Rattle.tz_info.proofs.ZoneLaws.{leap_time_decided, some_once}
+use Rattle.tz_info.proofs.ZoneLaws.{leap_time_decided}
 
 -- ---- which seconds have a leap time
 one_counted : (t u v : ℤ) → u ≤ℤ v → cond (int_le t u) 1 0 ≤ cond (int_le t v) 1 0
@@ -131,11 +131,6 @@ none_there z place start valid some comes none d is low high = none d is (comes_
 -- ---- behind the last transition
 last_too : (z : Zone) (u : ℤ) → IsValid z → segment_of z (u -ℤ pos 1) ≡ length z.transitions → segment_of z u ≡ length z.transitions
 last_too z u valid e = grind (arith, segments_rise, segment_most)
-
-pub not_alternate : (rule : Option TransitionRule) → ((a : AlternateRule) → rule ≡ Some (Alternate a) → ⊥) → IsSteady rule
-not_alternate None not = tt
-not_alternate (Some (Fixed t)) not = tt
-not_alternate (Some (Alternate a)) not = not a refl
 
 -- without a rule of two types nothing changes there
 pub steady : (z : Zone) (within : ℤ → Type 0) → IsValid z → ((a : AlternateRule) → z.rule ≡ Some (Alternate a) → ⊥)

@@ -2,11 +2,11 @@
 use Rattle.tz_info.proofs.Words.{HasType, IsBeforeLast, IsFromLast, IsLeapTime, IsLeapTimeRefused, IsRefusedBy, IsRuleOrNone}
 use Rattle.tz_info.proofs.Words.{IsTypeOf, IsTypeRefused, IsValid, LeapSecond, List, LocalType, None, Option, RuleOrElse, SFits, Some, Transition}
 use Rattle.tz_info.proofs.Words.{TransitionRule, TypeAt, Zone, arith, by_leap_time, by_lt_z, by_rule, cases_lt, correction_at, corrections}
-use Rattle.tz_info.proofs.Words.{count_by-le-length, get_or, index_at, inl, inr, int_le, ints, last_else, le_false, le_true, length, length-filter, map, neg_ℤ}
+use Rattle.tz_info.proofs.Words.{count_by-le-length, get_or, index_at, inl, inr, int_le, ints, last_else, le_false, le_true, length, length-filter, map}
 use Rattle.tz_info.proofs.Words.{error_number, passed, passed_count, pos, refl, slice_get, suc, sym, type_error, w64, zero, zone_of_rule, ℕ, ℤ, [], ⊎_elim}
 use Rattle.tz_info.proofs.Words.{◌+ℤ◌, ◌<◌, ◌∙◌, ◌∷◌, ◌≡◌, ◌≤◌, ◌⊎◌}
 use Rattle.std.proofs.lemmas.Option.{slice_get_cases, slice_get_within}
-use Rattle.tz_info.proofs.{RuleLaws.{rule_decided, rule_not_refused, rule_once}, SegmentLaws.{passed_here}}
+use Rattle.tz_info.proofs.{RuleLaws.{rule_decided, rule_once}, SegmentLaws.{passed_here}}
 
 passed_at_most : (z : Zone) (x : ℤ) → length (passed z.transitions x) ≤ length z.transitions
 passed_at_most z x = omega (arith, length-filter (λ (t : Transition). int_le t.unix_leap_time x) z.transitions, count_by-le-length (λ (t : Transition). int_le t.unix_leap_time x) z.transitions)
@@ -27,10 +27,6 @@ or_else_once None o u s t h k = some_once o s t h k
 
 pub type_once : (z : Zone) (u : ℤ) (s t : LocalType) → TypeAt z u s → TypeAt z u t → s ≡ t
 type_once z u s t a b = grind (arith, ints, same_passed, or_else_once, before_or_from_last)
-
-or_else_not_refused : (rule : Option TransitionRule) (otherwise : Type 0) (u : ℤ) (t : LocalType) → RuleOrElse rule u otherwise t → IsRefusedBy rule u → ⊥
-or_else_not_refused (Some rule) otherwise u t h refused = rule_not_refused rule u t h refused
-or_else_not_refused None otherwise u t h refused = refused
 
 pub type_not_refused : (z : Zone) (u : ℤ) (t : LocalType) → TypeAt z u t → IsTypeRefused z u → ⊥
 type_not_refused z u t a (by_leap_time some r) = r.leaves ((a.of_second some).fits r.place r.passed)

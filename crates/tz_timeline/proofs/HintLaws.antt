@@ -3,7 +3,7 @@ use Rattle.tz_timeline.proofs.Words.{AreEnds, AreHints, AreMarked, AreNonDecreas
 use Rattle.tz_timeline.proofs.Words.{AreStepsUntil, Ends, Hints, IsHinted, IsLastBefore, IsNarrowedTo}
 use Rattle.tz_timeline.proofs.Words.{List, Near, ap, arith, cases_eq, cases_lt, div-lt_iff_lt-mul, div-mul-le_self, get_or-set_at, get_or-set_other, inl, inr}
 use Rattle.tz_timeline.proofs.Words.{ints, item_time, length, length-set, lt-suc_self, max, mul-le-mul_right, nat_abs, nat_cmp, negsuc, ord_max, pos, pow_pos}
-use Rattle.tz_timeline.proofs.Words.{refl, set, shr_mono, slice_index, stretch_of, suc, sym, ℕ, ℤ, ◌*◌, ◌+ℤ◌, ◌+◌, ◌-ℤ◌, ◌-◌, ◌/◌, ◌<ℤ◌, ◌<◌, ◌^◌, ◌∙◌, ◌≡◌}
+use Rattle.tz_timeline.proofs.Words.{refl, set, slice_index, stretch_of, suc, sym, ℕ, ℤ, ◌*◌, ◌+ℤ◌, ◌+◌, ◌-ℤ◌, ◌-◌, ◌/◌, ◌<ℤ◌, ◌<◌, ◌^◌, ◌∙◌, ◌≡◌}
 use Rattle.tz_timeline.proofs.Words.{◌≢◌, ◌≤ℤ◌, ◌≤◌, ◌⊎◌}
 use Rattle.tz_timeline.proofs.SearchSteps.{not_before}
 

@@ -1,6 +1,6 @@
 -- What each step of a search among items in order of time keeps.
-use Rattle.tz_timeline.proofs.Words.{AreEnds, AreOrdered, ArePassed, Ends, IsLeft, IsNarrowedTo, List, Near, ap, arith, cases_lt, digits, filter, get_or, inl}
-use Rattle.tz_timeline.proofs.Words.{inr, int_le, ints, item_time, length, length-map, map, pos, refl, suc, sym, take, zero, ℕ, ℤ, ◌*◌, ◌+◌, ◌-◌, ◌/◌, ◌<ℤ◌}
+use Rattle.tz_timeline.proofs.Words.{AreEnds, AreOrdered, ArePassed, Ends, IsLeft, IsNarrowedTo, List, Near, ap, arith, digits, filter, get_or}
+use Rattle.tz_timeline.proofs.Words.{int_le, ints, item_time, length, length-map, map, pos, refl, suc, sym, take, zero, ℕ, ℤ, ◌*◌, ◌+◌, ◌-◌, ◌/◌, ◌<ℤ◌}
 use Rattle.tz_timeline.proofs.Words.{◌<◌, ◌^◌, ◌∙◌, ◌≡◌, ◌≤ℤ◌, ◌≤◌}
 use Rattle.tz_timeline.proofs.{DigitLaws.{digits-half, digits-less, digits-more}, Prefixes.{filter_first, le_false, le_true}}
 use Rattle.std.proofs.lemmas.List.{get_or-map as mapped_at}
@@ -101,10 +101,6 @@ near_one times v near h n = let w = n.within in let s = n.some in record {
 pub digits-halved : (n : ℕ) → 0 < n → digits n ≡ digits (n / 2) + 1
 digits-halved zero h = absurd (omega arith)
 digits-halved (suc n) h = let e = digits-half n in omega arith
-
-pub digits-none : (z : ℕ) → z ≡ 0 → digits z ≡ 0
-unfolding digits
-digits-none z e = ap digits e
 
 digits-four : digits 4 ≡ 3
 unfolding digits

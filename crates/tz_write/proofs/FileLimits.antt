@@ -1,5 +1,5 @@
 -- What every file's zone has room for.
-use Rattle.tz_info.specs.{declared.file.header.Place.TheVariants.{First, Second}, declared.file.header.Version.TheVariants.{One, Three, Two}}
+use Rattle.tz_info.specs.{declared.file.header.Place.TheVariants.{Second}, declared.file.header.Version.TheVariants.{One, Three, Two}}
 use Rattle.tz_write.proofs.Words.{All, All-cons, All-nil, All-tail, AreNamesIn, Bool, Counts, FilePieces, HasIndex, HasPieces, HasRule}
 use Rattle.tz_write.proofs.Words.{IsSpellableOrNone, Header, IsNamedIn, IsTzFile, IsWritable, List, LocalType, None, Option, Parts, Place, Some, SpellTypes}
 use Rattle.tz_write.proofs.Words.{Spells, SpellsLeapSecond, SpellsType, StandsAt, Transition, TransitionRule, Version, Zone, after_first_block, ap, arith}

@@ -2,13 +2,13 @@
 use Rattle.std.proofs.lemmas.Int.{to_z-of_z}
 use Rattle.tz_base.proofs.RunLaws.{all_of}
 use Rattle.tz_write.proofs.TextBytes.{names_are, no_zeros}
-use Rattle.tz_write.proofs.Words.{All, All-head, All-more, All-tail, AreRecords, Bool, Decides-eqb, Fits-of_z, FitsSigned, HasNoZero, HasPlace, IsEntry, IsMark}
+use Rattle.tz_write.proofs.Words.{All, All-head, All-more, All-tail, AreRecords, Bool, Decides-eqb, Fits-of_z, FitsSigned, HasNoZero, HasPlace, IsEntry}
 use Rattle.tz_write.proofs.Words.{IsNameOrNone, HasTimeOf64Bits, IsType, LeapSecond, List, LocalType, None, Option, Some, SpellLeapSeconds}
 use Rattle.tz_write.proofs.Words.{SpellTransitions, SpellTypes, Spells, SpellsLeapSecond, SpellsType, StandsAt, Transition, and_parts, ap, arith, be_u32}
-use Rattle.tz_write.proofs.Words.{begins, cast_signed, cast_unsigned, cond, designation_of, drop, drop_more, eqb-true, false, flat_map, flat_map_more}
-use Rattle.tz_write.proofs.Words.{flat_map_single, from_be_bytes-to_be_bytes_4, from_be_bytes-to_be_bytes_8, get_or, index_bytes, ints, is_name_byte}
-use Rattle.tz_write.proofs.Words.{leap_bytes, length, length-append, ltb-true, mark_byte, name_of, name_or_none, nat_eq, nat_lt, number_bytes}
-use Rattle.tz_write.proofs.Words.{place_of, refl, signed, signed_bytes, starts_is, starts_with, suc, sym, take, take_more, time_bytes, file_time, true}
+use Rattle.tz_write.proofs.Words.{begins, cast_signed, cast_unsigned, cond, drop, drop_more, eqb-true, false, flat_map, flat_map_more}
+use Rattle.tz_write.proofs.Words.{from_be_bytes-to_be_bytes_4, from_be_bytes-to_be_bytes_8, get_or, index_bytes, is_name_byte}
+use Rattle.tz_write.proofs.Words.{leap_bytes, length, length-append, ltb-true, name_or_none, nat_eq, nat_lt, number_bytes}
+use Rattle.tz_write.proofs.Words.{place_of, refl, signed, signed_bytes, starts_is, starts_with, suc, sym, take, take_more, time_bytes, true}
 use Rattle.tz_write.proofs.Words.{type_bytes, w32, w64, ℕ, ℤ, [], ◌&&◌, ◌*◌, ◌++◌, ◌+◌, ◌<◌, ◌==◌, ◌^◌, ◌∙◌, ◌∷◌, ◌≡◌}
 
 -- a count
@@ -79,19 +79,9 @@ pub has_text : (text designations : List ℕ) → HasNoZero text → place_of te
 has_text text [] none h = absurd (omega arith)
 has_text text (b ∷ bs) none h = place_by (begins text (b ∷ bs)) text b bs none refl h (has_text text bs none)
 
--- ---- types
-mark_is : (dst : Bool) → IsMark (mark_byte dst) dst
-mark_is true = refl
-mark_is false = refl
-
 pub no_zero : (name : Option (List ℕ)) → IsNameOrNone name → HasNoZero (name_or_none name)
 no_zero None h = tt
 no_zero (Some text) h = no_zeros text (names_are text (all_of is_name_byte text h.2))
-
-name_back : (name : Option (List ℕ)) → IsNameOrNone name → designation_of (name_or_none name) ≡ name
-name_back None h = refl
-name_back (Some []) h = let l = h.0 in absurd (omega arith)
-name_back (Some (b ∷ bs)) h = refl
 
 type_is : (designations : List ℕ) (t : LocalType) → HasPlace designations t → IsType t → SpellsType designations (type_bytes designations t) t
 unfolding type_bytes signed_bytes

@@ -1,7 +1,7 @@
 -- How much room designations take: each text that is put in has bytes of its own in any others that have the texts.
-use Rattle.tz_write.proofs.Words.{All, HasNoZero, List, LocalType, ap, append-nil, append_assoc, arith, before_last, both_ways, cases_lt, cond, ends, eq-eqb}
-use Rattle.tz_write.proofs.Words.{false, false_unless, fold, get_or, inl, inr, le-ltb, length, length-append, lt-ltb, name_of, nat_tests, not, place_of, refl}
-use Rattle.tz_write.proofs.Words.{subst, suc, sym, true, with_text, with_text_of, with_texts, zero, ℕ, [], ◌&&◌, ◌++◌, ◌+◌, ◌<◌, ◌==◌, ◌∙◌, ◌∷◌, ◌≡◌, ◌≤◌, ◌⊎◌}
+use Rattle.tz_write.proofs.Words.{All, HasNoZero, List, LocalType, ap, append-nil, append_assoc, arith, before_last, cases_lt, ends, eq-eqb}
+use Rattle.tz_write.proofs.Words.{false_unless, fold, get_or, inl, inr, le-ltb, length, length-append, lt-ltb, name_of, place_of, refl}
+use Rattle.tz_write.proofs.Words.{suc, sym, with_text, with_text_of, with_texts, zero, ℕ, [], ◌++◌, ◌+◌, ◌<◌, ◌∙◌, ◌∷◌, ◌≡◌, ◌≤◌, ◌⊎◌}
 use Rattle.tz_write.proofs.FileNames.{Behind, Ends, Has_end, In, In_front, Is_end, Meeting, Stands, ends_again, ends_of, in_longer, meet, put_in}
 
 -- what is left of other bytes when the texts that stand in the designations are cut out of them: the texts that are to come, of

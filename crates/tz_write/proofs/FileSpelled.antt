@@ -3,7 +3,7 @@ use Rattle.tz_info.specs.declared.file.header.Place.TheVariants.{First, Second}
 use Rattle.tz_write.proofs.Words.{All, All-cons, All-nil, Bool, Counts, CountsAgree, FilePieces, HasCounts, HasPieces, HavePlaces, IsAscii-from_all, IsFooter}
 use Rattle.tz_write.proofs.Words.{IsSound, IsTzFile, IsUtf8-from_ascii, List, LocalType, Option, Parts, SayZone, SaysRule, Spells, TransitionRule, Zone}
 use Rattle.tz_write.proofs.Words.{after_first_block, ap, length-map, arith, block, block_bytes, counts_bytes, counts_test, false, file, file_bytes, first_half, footer_bytes}
-use Rattle.tz_write.proofs.Words.{get_or, header_bytes, inl, is_extended, later_pieces, later_version, least_block, least_counts}
+use Rattle.tz_write.proofs.Words.{get_or, header_bytes, later_pieces, later_version, least_block, least_counts}
 use Rattle.tz_write.proofs.Words.{length, number_bytes, refl, second_half, true, zone_counts, zone_parts, ℕ, [], ◌*◌, ◌++◌, ◌+◌, ◌<◌}
 use Rattle.tz_write.proofs.Words.{◌∙◌, ◌∷◌, ◌≡◌, ◌≢◌, ◌≤◌}
 use Rattle.tz_write.proofs.{FileHeads.{CountsFit, header_is, version_of}, TextBytes.{AreTextBytes, begins_bare, ends_bare, limits, no_zeros}}
@@ -88,10 +88,6 @@ file_pieces extended text d z size counts some places sound = (
   header_is First extended least_counts _ (omega arith, omega arith, omega arith, omega arith, omega arith, omega arith) ((counts_test least_counts).decides.0 refl),
   (_, _, first_block (second_half extended text d z), after_is extended least_counts least_parts _ _ (second_is extended text d z size counts some places sound)),
 )
-
-extended_is : (extended : Bool) → is_extended (version_of extended) ≡ extended
-extended_is true = refl
-extended_is false = refl
 
 says_zone : (extended : Bool) (text d : List ℕ) (z : Zone) → HavePlaces d z.types → IsSound z → IsFooter extended (footer_bytes text) z.rule → SayZone (pieces_of extended text d z) z
 unfolding pieces_of

@@ -1,11 +1,11 @@
 -- What is written of a zone.
-use Rattle.tz_write.proofs.Words.{All-weaker, Bool, IsRoomOf, IsSpellableOrNone, HavePlaces, HaveVersion, In_order, IsFirstPlaced, IsFooterText}
-use Rattle.tz_write.proofs.Words.{IsInNoFile, IsLaid, IsNameOrNone, IsRuleOrNone, IsSound, IsType, IsTzFile, IsWritable, IsWrittenFile, List, LocalType}
-use Rattle.tz_write.proofs.Words.{NeedsExtensions, None, Option, Otherwise, Room, SaysRule, Some, TransitionRule, Zone, ap, arith, both_ways, ◌↔◌}
-use Rattle.tz_write.proofs.Words.{counts_bytes, false, file_bytes, first_half, get_or, header_bytes, laid_from, length, number_bytes, refl, second_half, subst}
-use Rattle.tz_write.proofs.Words.{sym, true, ℕ, [], ◌<◌, ◌∙◌, ◌≡◌}
-use Rattle.tz_write.proofs.{FileLayouts.{laid_of, laid_size}, FileLimits.{writable}, FileSpelled.{IsPlain, file_is}, TextBytes.{AreTextBytes}}
-use Rattle.tz_write.proofs.{RuleTexts.{extensions, rule_named, rule_text, text_are, text_begins, text_once, text_some}, Decimals.{not_empty}}
+use Rattle.tz_write.proofs.Words.{All-weaker, Bool, IsRoomOf, IsSpellableOrNone, HaveVersion, IsFooterText}
+use Rattle.tz_write.proofs.Words.{IsInNoFile, IsNameOrNone, IsRuleOrNone, IsSound, IsType, IsTzFile, IsWritable, IsWrittenFile, List}
+use Rattle.tz_write.proofs.Words.{NeedsExtensions, None, Option, Room, SaysRule, Some, TransitionRule, Zone, arith, both_ways, ◌↔◌}
+use Rattle.tz_write.proofs.Words.{counts_bytes, false, file_bytes, first_half, header_bytes, length, number_bytes, refl, second_half, subst}
+use Rattle.tz_write.proofs.Words.{sym, true, ℕ, [], ◌<◌, ◌≡◌}
+use Rattle.tz_write.proofs.{FileLayouts.{laid_of, laid_size}, FileLimits.{writable}, FileSpelled.{IsPlain, file_is}}
+use Rattle.tz_write.proofs.{RuleTexts.{extensions, rule_named, rule_text, text_are, text_begins, text_some}}
 
 text_is : (rule : Option TransitionRule) (text : List ℕ) (extended : Bool) → IsRuleOrNone rule → IsFooterText rule text extended → IsPlain text × SaysRule extended text rule
 text_is (Some rule) text extended fits h =
@@ -32,20 +32,6 @@ written_is z room text extended bytes h sound some fits footer e =
       order = h.laid;
       layout = e;
     }
-
--- ---- one file of a zone
-one_footer : (rule : Option TransitionRule) (a b : List ℕ) (x y : Bool) → IsFooterText rule a x → IsFooterText rule b y → (a ≡ b) × (x ≡ y)
-one_footer (Some rule) a b x y h k = text_once rule a b x y h k
-one_footer None a b x y h k = (h.0 ∙ sym k.0, h.1 ∙ sym k.1)
-
-one_place : (types : List LocalType) (a b : List ℕ) → IsFirstPlaced types a → IsFirstPlaced types b → a ≡ b
-one_place types a b h k = grind arith
-
-one_layout : (types : List LocalType) (a b : List ℕ) → IsLaid types a → IsLaid types b → a ≡ b
-one_layout types a b (In_order h e) (In_order k f) = e ∙ sym f
-one_layout types a b (In_order h e) (Otherwise n k) = absurd (n (subst (λ (d : List ℕ). HavePlaces d types) e h))
-one_layout types a b (Otherwise n h) (In_order k f) = absurd (n (subst (λ (d : List ℕ). HavePlaces d types) f k))
-one_layout types a b (Otherwise n h) (Otherwise o k) = one_place types a b h k
 
 pub one_file : (z : Zone) (a b : List ℕ) → IsWrittenFile z a → IsWrittenFile z b → a ≡ b
 one_file z a b h k = grind arith

@@ -1,7 +1,7 @@
 -- The text of a rule: it spells the rule, and each other one is longer.
 use Rattle.tz_write.proofs.Words.{Alternate, AreInPairs, AreTimesOf, Bool, CanBeSpelled, DayTime, IsAlternateRule, IsName, IsNamed, IsPlainTime, IsRule}
 use Rattle.tz_write.proofs.Words.{IsTextTime, IsTzText, IsWithinDay, IsWrittenText, List, LocalType, NoneFirst, Spells, TransitionRule}
-use Rattle.tz_write.proofs.Words.{ap, append-nil, append_assoc, arith, both_ways, false≢true, comma, cond, spelled_day, spelled_dst_offset, false, inl, inr, int_eq, ints}
+use Rattle.tz_write.proofs.Words.{ap, append-nil, append_assoc, arith, both_ways, comma, cond, spelled_day, spelled_dst_offset, false, inl, inr, int_eq, ints}
 use Rattle.tz_write.proofs.Words.{is_digit, is_letter, length, name_of, name_or_none, spelled_name, named_type, nat_tests, not, offset_fits, spelled_offset}
 use Rattle.tz_write.proofs.Words.{pos, refl, subst, spelled_rule, true, ℕ, ℤ, [], ◌++◌, ◌+ℤ◌, ◌<◌, ◌↔◌, ◌∙◌, ◌∷◌, ◌≡◌, ◌⊎◌}
 use Rattle.tz_write.proofs.{Clocks.{Stops, comma_stops, offset_begins, offset_front, offset_writes}, NameTexts.{name_begins, name_front, name_writes}}

@@ -1,8 +1,8 @@
 -- The text of a zone: it gives the zone, and each other one is longer.
 use Rattle.tz_write.proofs.Words.{AreInPairs, Err, HasZoneText, IsNoPosixZone, IsOfText, IsPosixZone, IsRule, IsRuleOrNone, IsSpace, IsTrimmed}
-use Rattle.tz_write.proofs.Words.{IsTzText, IsWrittenZone, LeapSecond, List, LocalType, None, NoneFirst, Ok, OnErr, Option, Result, Some, Transition}
+use Rattle.tz_write.proofs.Words.{IsTzText, IsWrittenZone, List, LocalType, None, NoneFirst, Ok, OnErr, Option, Result, Some}
 use Rattle.tz_write.proofs.Words.{TransitionRule, TwoDigits, Zone, ap, append-nil, arith, false, inl, inr, is_ascii_whitespace, is_digit, length, length-append}
-use Rattle.tz_write.proofs.Words.{nat_tests, posix_zone, refl, subst, sym, spelled_rule, true, types_of, zone_of_rule, ℕ, [], ◌++◌, ◌<◌, ◌∙◌, ◌∷◌, ◌≡◌}
+use Rattle.tz_write.proofs.Words.{nat_tests, refl, subst, sym, spelled_rule, true, types_of, zone_of_rule, ℕ, [], ◌++◌, ◌<◌, ◌∷◌, ◌≡◌}
 use Rattle.tz_write.proofs.Words.{◌⊎◌}
 use Rattle.tz_write.proofs.RuleTexts.{both_shortest, rule_pairs, rule_read, rule_spelled, text_are, text_begins}
 use Rattle.tz_write.proofs.{Decimals.{not_empty}, Shortest.{Best, pairs_rest}, TextBytes.{trimmed_text}}
@@ -39,10 +39,6 @@ trimmed_or_longer (b ∷ bs) text after = let l = length-append text after in le
 best_of_trimmed : (text bytes trimmed : List ℕ) → IsTrimmed bytes trimmed → Best text trimmed → Best text bytes
 best_of_trimmed text bytes trimmed t best = let whole = trimmed_or_longer t.before trimmed t.after in subst (Best text) (sym t.whole) (grind arith)
 
--- ---- the zone of types and a rule
-of_types : (types : List LocalType) (rule s : TransitionRule) → zone_of_rule types (Some rule) ≡ posix_zone s → (s ≡ rule) × (types ≡ types_of rule)
-of_types types rule s e = grind arith
-
 -- a text that gives it spells the rule, but for white space at its ends
 spells_rule : (text : List ℕ) (types : List LocalType) (rule : TransitionRule) → IsPosixZone text (zone_of_rule types (Some rule)) → (trimmed : List ℕ) × IsTrimmed text trimmed × IsTzText false trimmed rule × (types ≡ types_of rule)
 spells_rule text types rule gives = grind arith
@@ -76,10 +72,6 @@ no_zone_text types rule none = λ text gives. none ((given text (zone_of_rule ty
 -- ---- transitions and leap seconds
 pub zone_is : (z : Zone) (types : List LocalType) (rule : Option TransitionRule) → (z.transitions ≡ []) × (z.leaps ≡ []) → types ≡ z.types → rule ≡ z.rule → zone_of_rule types rule ≡ z
 zone_is z types rule h t r = grind arith
-
-empty_or_longer : (text : List ℕ) → (text ≡ []) ⊎ (0 < length text)
-empty_or_longer [] = inl refl
-empty_or_longer (b ∷ bs) = inr (omega arith)
 
 rule_some : (types : List LocalType) (rule : Option TransitionRule) → IsRuleOrNone rule → HasZoneText types rule → (text : List ℕ) × IsWrittenZone (zone_of_rule types rule) text
 rule_some types (Some rule) fits h = (spelled_rule rule, written_zone types rule fits h)

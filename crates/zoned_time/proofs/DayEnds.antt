@@ -1,10 +1,10 @@
 -- Days from their starts: the last instant, and first days before the range.
 use Rattle.zoned_time.proofs.Words.{AreStartsOfDays, HasNoEnd, IsAt, IsDateOn, IsDaysLater, IsEarlier, IsEndOfDay, IsFirstInstantFrom, IsFirstOutOfRange}
-use Rattle.zoned_time.proofs.Words.{IsFirstToReach, IsGapEnd, IsInDay, IsInRange, IsInstantFrom, IsNeverShown, IsShownBetween, IsShownOnce, IsWideDay}
+use Rattle.zoned_time.proofs.Words.{IsFirstToReach, IsGapEnd, IsInDay, IsInRange, IsNeverShown, IsShownBetween, IsShownOnce, IsWideDay}
 use Rattle.zoned_time.proofs.Words.{IsZoneSecond, IsZonedAtOrAfter, IsZonedEnd, Law, MatchOption, MayShowDay, Meaning, NaiveDate, None, NonePassed, Option}
 use Rattle.zoned_time.proofs.Words.{Reading, SameLaw, SameOffsets, ShowsByOffset, Some, SomeIff, Zoned, ahead, ap, arith, behind, by_lt_z, day_of, first_day}
 use Rattle.zoned_time.proofs.Words.{inl, ints, last_day, midnight, neg_ℤ, of_secs, pos, refl, subst, sym, ℕ, ℤ, ◌+ℤ◌, ◌-ℤ◌, ◌<ℤ◌, ◌<◌, ◌∙◌, ◌≡◌, ◌≤ℤ◌}
-use Rattle.zoned_time.proofs.{DayStarts.{StayWithinDay, first_until, in_day, one_first}, Homes.{offset_home_at}}
+use Rattle.zoned_time.proofs.{DayStarts.{StayWithinDay, first_until, in_day, one_first}}
 use Rattle.zoned_time.proofs.Days.{first_instant, first_whole, out_of_range, to_reached}
 
 -- an instant of a day, by the seconds at which it and the next day start
@@ -82,10 +82,6 @@ no_earlier_day off old n within wide h = grind (arith, too_early)
 pub earlier_day : (old : ℤ) (n : ℕ) (date : NaiveDate) → IsDaysLater day_of IsDateOn old (neg_ℤ (pos n)) (Some date) → day_of date ≡ old -ℤ pos n
 earlier_day old n date h =
     let same = (subst (λ (w : Option ℤ). SomeIff w (MayShowDay old (old +ℤ neg_ℤ (pos n))) (old +ℤ neg_ℤ (pos n))) h.shown h.there).1 in omega (arith, ints)
-
--- ---- a zone of the same offsets
-shows_home : (off home : ℤ → ℤ) (l r : Reading) → SameOffsets off home → IsInstantFrom off l r → IsInstantFrom home l r
-shows_home off home l r same h = record { in_zone = h.in_zone; not_before = subst (λ (k : ℤ). ¬ (IsEarlier (ahead r k) l)) (same r.s h.in_zone) h.not_before }
 
 first_home : (off home : ℤ → ℤ) (l r : Reading) → SameOffsets off home → IsFirstInstantFrom off l r → IsFirstInstantFrom home l r
 first_home off home l r same h = grind arith

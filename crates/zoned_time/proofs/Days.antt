@@ -2,7 +2,7 @@
 use Rattle.zoned_time.proofs.Words.{AreEndsOfDay, AreInstantsOfDay, HasInstant, HasReached, IsAt, IsFirstInstantFrom, IsFirstOutOfRange, IsFirstToReach}
 use Rattle.zoned_time.proofs.Words.{IsFixed, IsInRange, IsInstantFrom, IsNoDay, IsOffsetAt, IsOnDay, IsZoneSecond, IsZonedAtOrAfter, Law, MatchOption, Meaning}
 use Rattle.zoned_time.proofs.Words.{None, Option, Reading, Some, SomeIff, Zoned, ap, arith, behind, by_lt_z, floor_div, floors, inl, inr, instant_of, ints}
-use Rattle.zoned_time.proofs.Words.{of_secs, option_map, pos, refl, subst, sym, ℤ, ◌*ℤ◌, ◌+ℤ◌, ◌-ℤ◌, ◌<ℤ◌, ◌∙◌, ◌≡◌, ◌≤ℤ◌, ◌⊎◌}
+use Rattle.zoned_time.proofs.Words.{of_secs, option_map, pos, refl, ℤ, ◌*ℤ◌, ◌+ℤ◌, ◌-ℤ◌, ◌<ℤ◌, ◌∙◌, ◌≡◌, ◌≤ℤ◌, ◌⊎◌}
 
 -- ---- days
 pub instants_of_day : {O : Type 0} {m : Meaning O} (law : Law m) (day u v : ℤ) (d e : Zoned O) → AreEndsOfDay law.off day u v → IsAt law (of_secs u 0) d → IsAt law (of_secs v 0) e → AreInstantsOfDay law day d e

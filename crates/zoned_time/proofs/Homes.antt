@@ -1,8 +1,8 @@
 -- What zones of the same law give, and zones of the same offsets in seconds.
 use Rattle.offset_core.specs.declared.local_result.LocalResult.TheVariants.{Ambiguous, None, Single}
 use Rattle.zoned_time.proofs.Words.{AreOffsetsFor, Each, IsAt, IsInRange, IsOffsetAt, IsRelocal, IsWallAnswer, IsZoneSecond, Law, LocalResult, Meaning, Reading}
-use Rattle.zoned_time.proofs.Words.{IsWallAnswer-map_of, SameLaw, SameOffsets, ShowsByOffset, Zoned, arith, home_law, ints, map_of, refl, seconds_alone, subst}
-use Rattle.zoned_time.proofs.Words.{sym, ℤ, ◌+ℤ◌, ◌-ℤ◌, ◌∙◌, ◌≡◌}
+use Rattle.zoned_time.proofs.Words.{SameLaw, SameOffsets, ShowsByOffset, Zoned, arith, home_law, ints, map_of, refl, seconds_alone, subst}
+use Rattle.zoned_time.proofs.Words.{sym, ℤ, ◌+ℤ◌, ◌-ℤ◌, ◌≡◌}
 
 -- a law is the same as itself, and as what is the same as the same
 pub same_itself : {O : Type 0} {m : Meaning O} (law : Law m) → SameLaw law law
@@ -24,12 +24,6 @@ pub at_home : {O : Type 0} {m : Meaning O} (law home : Law m) (r : Reading) (d :
     → SameLaw law home → IsInRange r.s → IsAt law r d → IsAt home r d
 at_home law home r d same range at =
     record { utc = at.utc; offset = offset_home law home d.utc.s d.offset same (subst (λ k. IsInRange k.s) (sym at.utc) range) at.offset }
-
-shows_home : (off home : ℤ → ℤ) (l u k : ℤ) → SameOffsets off home → ShowsByOffset off l u k → ShowsByOffset home l u k
-shows_home off home l u k same s = record { in_zone = s.in_zone; offset = s.offset ∙ same u s.in_zone; shown = s.shown }
-
-same_map : {T : Type 0} (answer : LocalResult T) → map_of (λ a. a) answer ≡ answer
-same_map answer = grind arith
 
 wall_home : (off home : ℤ → ℤ) (l : ℤ) (answer : LocalResult ℤ)
     → SameOffsets off home → IsWallAnswer (ShowsByOffset off l) answer → IsWallAnswer (ShowsByOffset home l) answer
@@ -60,16 +54,6 @@ pub relocal_home : {O : Type 0} {m : Meaning O} (law home : Law m) (l : Reading)
     → SameLaw law home → IsRelocal law l answer → IsRelocal home l answer
 relocal_home law home l answer same h =
     record { offsets = h.offsets; wall = offsets_home law home l.s h.offsets same h.wall; instants = h.instants }
-
--- of the same offsets in seconds
-same_seconds : {O : Type 0} {m : Meaning O} (a b : Law m) → SameOffsets a.off b.off → SameLaw (seconds_alone a) (seconds_alone b)
-same_seconds a b same =
-    record { offsets = same; in_force = λ u zone o. (λ h. h ∙ same u zone, λ h. h ∙ sym (same u zone)) }
-
-home_seconds : {O : Type 0} {m : Meaning O} (law other : Law m) (o : O) → SameOffsets law.off other.off → SameLaw (home_law m o) law
-    → SameLaw (seconds_alone (home_law m o)) (seconds_alone other)
-home_seconds {m = m} law other o same home =
-    same_seconds (home_law m o) other (λ u zone. home.offsets u zone ∙ same u zone)
 
 pub at_seconds : {O : Type 0} {m : Meaning O} (law other : Law m) (r : Reading) (d : Zoned O)
     → SameOffsets law.off other.off → IsInRange r.s → IsAt law r d → IsAt (seconds_alone other) r d

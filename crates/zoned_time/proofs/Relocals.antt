@@ -2,9 +2,8 @@
 use Rattle.offset_core.specs.declared.local_result.LocalResult.TheVariants.{Ambiguous, None as none, Single}
 use Rattle.zoned_time.proofs.Words.{AreInstantsOf, AreOffsetsFor, Each, HasInstant, IsAndThen, IsAt, IsFixed, IsInRange, IsRelocal, IsShownBetween}
 use Rattle.zoned_time.proofs.Words.{IsSome, IsWallAnswer, IsZoneSecond, Law, LocalResult, Meaning, None, Option, Reading, SameLaw, ShowsByOffset, SingleIff}
-use Rattle.zoned_time.proofs.Words.{Some, SomeIff, Utc, Zoned, all_or_none, and_then_told, ap, arith, home_law, in_utc, inl, inr, instant_of, ints, local_of}
-use Rattle.zoned_time.proofs.Words.{map_of, option_map, pos, refl, single_of, subst, sym, ℤ, ◌+ℤ◌, ◌-ℤ◌, ◌∙◌, ◌≡◌, ◌⊎◌}
-use Rattle.zoned_time.proofs.Homes.{each_of, shown_second}
+use Rattle.zoned_time.proofs.Words.{Some, SomeIff, Utc, Zoned, all_or_none, and_then_told, arith, home_law, in_utc, inl, inr, instant_of, ints, local_of}
+use Rattle.zoned_time.proofs.Words.{map_of, option_map, pos, refl, single_of, sym, ℤ, ◌+ℤ◌, ◌-ℤ◌, ◌∙◌, ◌≡◌, ◌⊎◌}
 
 -- one offset gives one instant, or none
 single_kept : {T : Type 0} (a : Option T) (p : Type 0) (v : T) → SomeIff a p v → SingleIff (all_or_none (Single a)) p v
@@ -77,24 +76,6 @@ pub at_shown : {O : Type 0} {m : Meaning O} (law : Law m) (l : Reading) (u : ℤ
     → (local_of m.seconds (instant_of m.seconds l o) ≡ l) × IsAt law (instant_of m.seconds l o).utc (instant_of m.seconds l o)
 at_shown {m = m} law l u o shows in_force same =
     let back : (l.s -ℤ m.seconds o) +ℤ m.seconds o ≡ l.s = omega (arith, ints) in grind arith
-
--- what holds of each instant holds of those that are kept
-one_kept : {Z : Type 0} (G : Z → Type 0) (a : Option Z) (p : Type 0) (v : Z) → SomeIff a p v → G v → Each G (all_or_none (Single a))
-one_kept G (Some d) p v h g = subst G (sym h.1) g
-one_kept G None p v h g = tt
-
-two_kept : {Z : Type 0} (G : Z → Type 0) (a b : Option Z) (p q : Type 0) (v w : Z) → SomeIff a p v → SomeIff b q w → G v → G w
-    → Each G (all_or_none (Ambiguous a b))
-two_kept G (Some d) (Some e) p q v w h i g j = (subst G (sym h.1) g, subst G (sym i.1) j)
-two_kept G (Some d) None p q v w h i g j = tt
-two_kept G None b p q v w h i g j = tt
-
-each_kept : {O : Type 0} (seconds : O → ℤ) (l : Reading) (G : Zoned O → Type 0) (offsets : LocalResult O) (answer : LocalResult (Zoned O))
-    → AreInstantsOf seconds l offsets answer → Each (λ o. G (instant_of seconds l o)) offsets → Each G answer
-each_kept seconds l G none answer h each = rw (h.kept, h.asked) tt
-each_kept seconds l G (Single o) answer h each = rw (h.kept, h.asked.3) (one_kept G h.asked.0 _ _ h.asked.2 each)
-each_kept seconds l G (Ambiguous o p) answer h each =
-    rw (h.kept, h.asked.6) (two_kept G h.asked.0 h.asked.1 _ _ _ _ h.asked.4 h.asked.5 each.0 each.1)
 
 -- the instants that a zone gives for a wall clock show it
 pub relocal_shown : {O : Type 0} {m : Meaning O} (law : Law m) (l : Reading) (answer : LocalResult (Zoned O))

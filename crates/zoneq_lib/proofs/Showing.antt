@@ -3,8 +3,8 @@ use Rattle.offset_core.specs.{declared.local_result.LocalResult.TheVariants.{Amb
 use Rattle.zoneq_lib.proofs.CitedWords.{All, All-cons, All-head, All-nil, All-tail, AnswersResolve, AnswersShow, AreOffsetsOf, Choice, IsAtWhere, IsInRange}
 use Rattle.zoneq_lib.proofs.CitedWords.{IsNarrow, IsResolved, IsRuleOrNone, IsStamp, IsSubsecond, IsTaken, IsUnresolved, IsValid, IsWide, IsWithinDay}
 use Rattle.zoneq_lib.proofs.CitedWords.{IsZoneSecond, Law, List, LocalResult, LocalType, Meaning, Reading, ResolveError, Some, Zone, Zoned, arith, behind}
-use Rattle.zoneq_lib.proofs.CitedWords.{by_lt_z, cases_eq, cases_lt, choice_covered, codes, floor_mod, in_range_or_not, in_seconds, inl, inr, shown_date_time}
-use Rattle.zoneq_lib.proofs.CitedWords.{ints, law_by, map_of, neg_ℤ, of_secs, pos, refl, shown_refusal, rule_types, same_itself, zone_has_offsets, ℕ, ℤ, []}
+use Rattle.zoneq_lib.proofs.CitedWords.{choice_covered, codes, in_range_or_not, in_seconds, inl, inr, shown_date_time}
+use Rattle.zoneq_lib.proofs.CitedWords.{ints, law_by, map_of, of_secs, refl, shown_refusal, rule_types, same_itself, zone_has_offsets, ℕ, ℤ, []}
 use Rattle.zoneq_lib.proofs.CitedWords.{◌-ℤ◌, ◌∷◌, ◌≡◌, ◌⊎◌}
 
 within_or_not : (k : ℤ) → IsWithinDay k ⊎ (IsWithinDay k → ⊥)
