@@ -9,7 +9,7 @@ from sources import TOP, files, shown, text_of
 LONG_LINES = {
     ("src", ".rt", 120): 4,
     ("specs", ".antt", 160): 18,
-    ("proofs", ".antt", 160): 1098,
+    ("proofs", ".antt", 160): 1096,
 }
 # A call whose answer gets a name that nothing reads. With `?` it may end the function, and `next` moves an iterator on.
 DROPPED_ANSWER = re.compile(r"(?m)^ *let _\w+(?:: [^=;]+)? = (?![^;]*\.next\(\);)[^;]*\);$")

@@ -1,7 +1,7 @@
 -- Only a year's own moments and those of its two neighbours can enclose a second of the year.
 use Rattle.tz_info.proofs.Words.{Alternate, Bool, DayTime, Decides, Decides-or, IsAlternateRule, IsDstAt, IsInSomeYear, IsRuleDay, IsWithinDay, IsWithinWeek}
-use Rattle.tz_info.proofs.Words.{IsYearOf, arith, by_lt_z, cond, days_at_least, end_in, false, floors, inl, inr, int_le, ints, is_between, is_dst_by_one}
-use Rattle.tz_info.proofs.Words.{is_in_three, moment, neg_ℤ, not, pos, refl, start_in, starts_rise, sym, true, year_start}
+use Rattle.tz_info.proofs.Words.{IsYearOf, arith, by_lt_z, cond, days_at_least, end_in, floors, inl, inr, int_le, ints, is_between, is_dst_by_one}
+use Rattle.tz_info.proofs.Words.{is_in_three, moment, neg_ℤ, not, pos, refl, start_in, starts_rise, true, year_start}
 use Rattle.tz_info.proofs.Words.{year_step, ℤ, ⊎_elim, ◌*ℤ◌, ◌+ℤ◌, ◌-ℤ◌, ◌<ℤ◌, ◌≡◌, ◌≤ℤ◌, ◌⊎◌}
 use Rattle.std.proofs.lemmas.Bool.Decides.{Decides-like}
 use Rattle.tz_info.proofs.RuleDays.{day_within}
@@ -124,13 +124,6 @@ dst_by starts ends year own u dst first last same is on off = grind arith
 pub dst_by_one : (starts ends : ℤ → ℤ) (margin year own u : ℤ) (dst : Bool) → KeepsMargin starts margin → KeepsMargin ends margin → IsBeside margin year u → int_le (starts own) (ends own) ≡ int_le (starts year) (ends year) → dst ≡ is_dst_by_one (starts year) (ends year) u → IsDstAt starts ends own u dst
 dst_by_one starts ends margin year own u dst start end beside same is =
     dst_by starts ends year own u dst _ _ same is (by_own starts ends margin year u start end beside) (by_own ends starts margin year u end start beside)
-
--- no second has two answers
-pub one_answer : (starts ends : ℤ → ℤ) (year u : ℤ) (a b : Bool) → IsDstAt starts ends year u a → IsDstAt starts ends year u b → a ≡ b
-one_answer starts ends year u true true h k = refl
-one_answer starts ends year u false false h k = refl
-one_answer starts ends year u true false h k = by_lt_z (ends year) (starts year) (λ less. (h.end_first less).1 ((k.end_first less).0 refl)) (λ order. sym ((k.start_first order).1 ((h.start_first order).0 refl)))
-one_answer starts ends year u false true h k = by_lt_z (ends year) (starts year) (λ less. sym ((k.end_first less).1 ((h.end_first less).0 refl))) (λ order. (h.start_first order).1 ((k.start_first order).0 refl))
 
 -- the moments of three years decide everywhere
 pub dst_by_three : (starts ends : ℤ → ℤ) (year u : ℤ) (dst : Bool) → IsNear starts → IsNear ends → IsYearOf u year

@@ -2,7 +2,7 @@
 use Rattle.offset_core.specs.declared.local_result.LocalResult.TheVariants.{Ambiguous, None, Single}
 use Rattle.zoned_time.proofs.Words.{AreOffsetsFor, Each, IsAt, IsInRange, IsOffsetAt, IsRelocal, IsWallAnswer, IsZoneSecond, Law, LocalResult, Meaning, Reading}
 use Rattle.zoned_time.proofs.Words.{SameLaw, SameOffsets, ShowsByOffset, Zoned, arith, home_law, ints, map_of, refl, seconds_alone, subst}
-use Rattle.zoned_time.proofs.Words.{sym, ℤ, ◌+ℤ◌, ◌-ℤ◌, ◌≡◌}
+use Rattle.zoned_time.proofs.Words.{sym, ℤ, ◌-ℤ◌}
 
 -- a law is the same as itself, and as what is the same as the same
 pub same_itself : {O : Type 0} {m : Meaning O} (law : Law m) → SameLaw law law
@@ -36,10 +36,6 @@ each_of law l P None h holds = tt
 each_of law l P (Single a) h holds = holds h.wall.second a h.wall.shown h.in_force h.same_home
 each_of law l P (Ambiguous a b) h holds =
     (holds h.wall.first a h.wall.at_first h.in_force.0 h.same_home.0, holds h.wall.last b h.wall.at_last h.in_force.1 h.same_home.1)
-
--- the second that shows l by an offset
-pub shown_second : (off : ℤ → ℤ) (l u k : ℤ) → ShowsByOffset off l u k → l -ℤ k ≡ u
-shown_second off l u k s = let shown : u +ℤ k ≡ l = s.shown in omega (arith, ints)
 
 -- the offsets, and so the instants, for a wall clock
 pub offsets_home : {O : Type 0} {m : Meaning O} (law home : Law m) (l : ℤ) (offsets : LocalResult O)
