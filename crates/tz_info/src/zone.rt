@@ -27,7 +27,7 @@ mod starts;
 mod table;
 mod time_zone;
 mod transition;
-mod valid;
+pub(crate) mod valid;
 mod walk;
 mod wall_clock;
 

@@ -199,6 +199,9 @@ impl<T: Timed> Timeline<T> {
     {
         let once = self.narrowed(second, near, probes);
         let mut left = self.narrowed(second, once, probes);
+        if left.count > 1 {
+            left = self.narrowed(second, left, probes);
+        }
         while left.count > 1 {
             left = self.narrowed(second, left, probes);
         }

@@ -22,7 +22,8 @@ use crate::file::footer::read_footer;
 use crate::file::header::{Counts, Header, Place, Version, read_header};
 use crate::file::types::read_types;
 use crate::rule::TransitionRule;
-use crate::zone::kept::{Kept, check_kept};
+use crate::zone::kept::Kept;
+use crate::zone::valid::check;
 use crate::zone::{LeapSecond, TimeZone};
 use std::alloc::Global;
 use tz_base::{Cursor, Error, Expected, LocalTimeType};
@@ -50,7 +51,7 @@ impl Lists {
             leap_seconds,
             rule,
         } = self;
-        check_kept(&transitions, &types, &leap_seconds, &rule)?;
+        check(&transitions, &types, &leap_seconds, &rule)?;
         TimeZone::of_valid(alloc, transitions, types, leap_seconds, rule)
     }
 }

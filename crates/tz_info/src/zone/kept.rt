@@ -1,18 +1,11 @@
 //! Transitions as a zone keeps them: twelve bytes each.
 
-ghost use Rattle.std.specs.Prelude.{◌≡◌, ◌<◌, ◌↔◌, IsTrue, MatchResult, length, ⊤};
-ghost use Rattle.tz_info.specs.Steps.Validity.{Stands};
-ghost use Rattle.tz_info.specs.Transitions.{AreTransitions, NameTypes};
-ghost use Rattle.tz_info.specs.Zones.{IsValid, ListFault, Zone};
+ghost use Rattle.std.specs.Prelude.{◌≡◌, MatchResult, ⊤};
 
-use crate::rule::TransitionRule;
-use crate::zone::leap_second::LeapSecond;
-use crate::zone::transition::Transition;
-use crate::zone::valid::check;
+use crate::zone::transition::{AsTransition, Transition};
 use std::alloc::{AllocError, Global};
 use std::fmt;
 use std::marker::Model;
-use tz_base::{Error, Expected, LocalTimeType};
 use tz_timeline::{Probes, Timed};
 
 // A transition, its time in two halves: a number of eight bytes would be followed by four more, so
@@ -61,17 +54,6 @@ impl Kept {
         Ok(Kept::of(transition.unix_leap_time, transition.type_index as u32))
     }
 
-    // The transition that is kept.
-    #[inline(always)]
-    pub(super) fn transition(&self) -> Transition
-        ensures { result ≡ self.now }
-    {
-        Transition {
-            unix_leap_time: self.second(),
-            type_index: self.type_index(),
-        }
-    }
-
     // The transition to the same type at another time.
     pub(super) fn at(&self, unix_leap_time: i64) -> Kept
         ensures { result ≡ record self.now { unix_leap_time = unix_leap_time } }
@@ -100,66 +82,16 @@ pub(super) fn all_kept(alloc: Global, transitions: &[Transition]) -> Result<Vec<
     Ok(all)
 }
 
-// Nothing if the lists make a zone, or else their first fault: as `check`, of transitions as they
-// are kept.
-pub(crate) fn check_kept(
-    kept: &[Kept],
-    types: &[LocalTimeType],
-    leaps: &[LeapSecond],
-    rule: &Option<TransitionRule>,
-) -> Result<(), Error>
-    ensures { let lists : Zone = record {
-      transitions = kept.now;
-      types = types.now;
-      leaps = leaps.now;
-      rule = rule.now;
-    } in
-        MatchResult result (λ _. IsValid lists) (λ e. ListFault lists e × ¬ (IsValid lists)) }
-{
-    if types.is_empty() {
-        return Err(Error::TimeZone(Expected::AtLeastOneLocalTimeType));
-    }
-    if !are_transitions(types.len(), kept) {
-        if !name_types(types.len(), kept) {
-            return Err(Error::TimeZone(Expected::TypeIndexesWithinTypes));
+impl AsTransition for Kept {
+    ghost transition = { λ k. k };
+
+    #[inline(always)]
+    fn transition(&self) -> Transition {
+        Transition {
+            unix_leap_time: self.second(),
+            type_index: self.type_index(),
         }
-        return Err(Error::TimeZone(Expected::TransitionTimesThatRise));
     }
-    if kept.is_empty() {
-        return check(&[], types, leaps, rule);
-    }
-    check(&[kept[kept.len() - 1].transition()], types, leaps, rule)
-}
-
-// Whether each transition names one of that many types.
-fn name_types(type_count: usize, kept: &[Kept]) -> bool
-    ensures { IsTrue result ↔ NameTypes type_count kept.now }
-{
-    kept.iter().all(|entry| entry.type_index() < type_count)
-}
-
-// Whether a zone of that many types may have the transitions, in one pass over them.
-#[tactic(auto, using(crate::proofs::TableSearch::stand_more, crate::proofs::TableSearch::stand_less))]
-fn are_transitions(type_count: usize, kept: &[Kept]) -> bool
-    ensures { IsTrue result ↔ AreTransitions type_count kept.now }
-{
-    if kept.is_empty() {
-        return true;
-    }
-    let mut all_stand = kept[0].type_index() < type_count;
-    for i in 1..kept.len() {
-        all_stand = all_stand & stands(type_count, kept, i);
-    }
-    all_stand
-}
-
-// Whether the transition at that place names a type and comes later than the one before it.
-fn stands(type_count: usize, kept: &[Kept], place: usize) -> bool
-    requires some { 0 < place }
-    requires place { place < length kept.now }
-    ensures { IsTrue result ↔ Stands type_count kept.now place }
-{
-    (kept[place].type_index() < type_count) & (kept[place - 1].second() < kept[place].second())
 }
 
 impl Timed for Kept {

@@ -14,7 +14,7 @@ ghost use Rattle.tz_info.specs.Zones.{TypeAt, IsTypeError};
 use crate::change::{HeldChange, HeldSpan, is_same_type};
 use crate::zone::lookup::NEAR;
 use crate::zone::time_zone::TimeZone;
-use crate::zone::transition::Transition;
+use crate::zone::transition::{AsTransition, Transition};
 use tz_base::{Error, LocalTimeType, Span};
 use tz_timeline::Probes;
 

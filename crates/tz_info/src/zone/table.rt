@@ -8,7 +8,7 @@ ghost use Rattle.tz_timeline.specs.Digits.{digits};
 ghost use Rattle.tz_info.specs.Transitions.{AreRising, passed};
 
 use crate::zone::kept::Kept;
-use crate::zone::transition::Transition;
+use crate::zone::transition::{AsTransition, Transition};
 use std::alloc::Global;
 use std::fmt;
 use std::marker::Model;

@@ -23,3 +23,22 @@ impl Transition {
         }
     }
 }
+
+// A transition, in one form or another.
+pub(crate) trait AsTransition {
+    ghost use Rattle.tz_info.specs.declared.zone.transition.Transition.{Transition};
+
+    // what it says
+    ghost transition: { Self → Transition };
+
+    fn transition(&self) -> Transition
+        ensures { result ≡ transition self.now };
+}
+
+impl AsTransition for Transition {
+    ghost transition = { λ t. t };
+
+    fn transition(&self) -> Transition {
+        *self
+    }
+}

@@ -1,26 +1,27 @@
 //! Whether lists make a zone.
 
-ghost use Rattle.std.specs.Prelude.{◌≡◌, ◌+ℤ◌, ◌<◌, ◌≤ℤ◌, ◌<ℤ◌, pos, length, IsTrue, IfSome, MatchResult, ◌↔◌};
+ghost use Rattle.std.specs.Prelude.{◌≡◌, ◌+ℤ◌, ◌<◌, ◌≤ℤ◌, pos, length, map, All, IsTrue, IfSome, MatchResult, ◌↔◌};
 ghost use Rattle.tz_info.specs.Leaps.{IsOneStep, IsFirstLeap, IsNextLeap, AreLeapSeconds};
-ghost use Rattle.tz_info.specs.Transitions.{NameTypes, AreTransitions};
+ghost use Rattle.tz_info.specs.Transitions.{AreTransitions};
 ghost use Rattle.tz_info.specs.Steps.Validity.{Stands};
 ghost use Rattle.tz_info.specs.Zones.{Zone, IsValid, ListFault, Agrees, last_transition};
 
+use crate::change::is_same_type;
 use crate::rule::TransitionRule;
 use crate::zone::leap_second::LeapSecond;
 use crate::zone::leap_time::unix_time;
-use crate::zone::transition::Transition;
+use crate::zone::transition::{AsTransition, Transition};
 use tz_base::{Error, Expected, LocalTimeType};
 
 // Nothing if the lists make a zone, or else their first fault, in one pass over each.
-pub(super) fn check(
-    transitions: &[Transition],
+pub(crate) fn check<T: AsTransition>(
+    transitions: &[T],
     types: &[LocalTimeType],
     leaps: &[LeapSecond],
     rule: &Option<TransitionRule>,
 ) -> Result<(), Error>
     ensures { let lists : Zone = record {
-      transitions = transitions.now;
+      transitions = map T.transition transitions.now;
       types = types.now;
       leaps = leaps.now;
       rule = rule.now;
@@ -46,20 +47,20 @@ pub(super) fn check(
 }
 
 // Whether the rule, if there is one, agrees with the last transition, if there is one.
-fn rule_agrees(
-    transitions: &[Transition],
+fn rule_agrees<T: AsTransition>(
+    transitions: &[T],
     types: &[LocalTimeType],
     leaps: &[LeapSecond],
     rule: &Option<TransitionRule>,
 ) -> bool
-    requires transitions { AreTransitions (length types.now) transitions.now }
+    requires transitions { AreTransitions (length types.now) (map T.transition transitions.now) }
     requires leaps { AreLeapSeconds leaps.now }
-    ensures { IsTrue result ↔ IfSome rule.now (λ r. IfSome (last_transition transitions.now)
-        (Agrees types.now leaps.now r)) }
+    ensures { IsTrue result ↔ IfSome rule.now (λ r. IfSome
+        (last_transition (map T.transition transitions.now)) (Agrees types.now leaps.now r)) }
 {
     match rule {
         Some(rule) => match transitions.last() {
-            Some(last) => agrees(types, leaps, rule, *last),
+            Some(last) => agrees(types, leaps, rule, last.transition()),
             None => true,
         },
         None => true,
@@ -87,68 +88,40 @@ fn agrees(
     }
 }
 
-fn is_same_type(a: &LocalTimeType, b: &LocalTimeType) -> bool
-    ensures { IsTrue result ↔ (a.now ≡ b.now) }
-{
-    *a == *b
-}
-
 // Whether each transition names one of that many types.
-fn name_types(type_count: usize, transitions: &[Transition]) -> bool
-    ensures { IsTrue result ↔ NameTypes type_count transitions.now }
+fn name_types<T: AsTransition>(type_count: usize, transitions: &[T]) -> bool
+    ensures { IsTrue result ↔ All (λ t. (T.transition t).type_index < type_count) transitions.now }
 {
     transitions
         .iter()
-        .all(|transition| transition.type_index < type_count)
+        .all(|entry| entry.transition().type_index < type_count)
 }
 
 // Whether a zone of that many types may have the transitions, in one pass over them. None is left
 // out where one before it does not stand, so that the loop has no branch.
 #[tactic(auto, using(crate::proofs::TableSearch::stand_more, crate::proofs::TableSearch::stand_less))]
-fn are_transitions(type_count: usize, transitions: &[Transition]) -> bool
-    ensures { IsTrue result ↔ AreTransitions type_count transitions.now }
+fn are_transitions<T: AsTransition>(type_count: usize, transitions: &[T]) -> bool
+    ensures { IsTrue result ↔ AreTransitions type_count (map T.transition transitions.now) }
 {
     if transitions.is_empty() {
         return true;
     }
-    let mut all_stand = is_below(transitions[0].type_index, type_count);
-    for i in 1..transitions.len() {
-        all_stand = are_both(all_stand, stands(type_count, transitions, i));
+    let mut all_stand = transitions[0].transition().type_index < type_count;
+    for place in 1..transitions.len() {
+        all_stand = all_stand & stands(type_count, transitions, place);
     }
     all_stand
 }
 
 // Whether the transition at that place names a type and comes later than the one before it.
-fn stands(type_count: usize, transitions: &[Transition], place: usize) -> bool
+fn stands<T: AsTransition>(type_count: usize, transitions: &[T], place: usize) -> bool
     requires some { 0 < place }
     requires place { place < length transitions.now }
-    ensures { IsTrue result ↔ Stands type_count transitions.now place }
+    ensures { IsTrue result ↔ Stands type_count (map T.transition transitions.now) place }
 {
-    let before = transitions[place - 1];
-    let here = transitions[place];
-    are_both(
-        is_below(here.type_index, type_count),
-        is_before(before.unix_leap_time, here.unix_leap_time),
-    )
-}
-
-fn is_below(index: usize, count: usize) -> bool
-    ensures { IsTrue result ↔ (index < count) }
-{
-    index < count
-}
-
-fn is_before(a: i64, b: i64) -> bool
-    ensures { IsTrue result ↔ (a <ℤ b) }
-{
-    a < b
-}
-
-// Both are looked at, and no branch is taken by the first.
-fn are_both(a: bool, b: bool) -> bool
-    ensures { IsTrue result ↔ (IsTrue a × IsTrue b) }
-{
-    a & b
+    let before = transitions[place - 1].transition();
+    let here = transitions[place].transition();
+    (here.type_index < type_count) & (before.unix_leap_time < here.unix_leap_time)
 }
 
 // Whether the entries may be those of a zone, in one pass over them.

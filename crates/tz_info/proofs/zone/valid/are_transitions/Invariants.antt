@@ -1,5 +1,5 @@
-use Rattle.tz_info.proofs.{Words.{IsTrue, ◌↔◌}, TableSearch.{StandUntil}}
+use Rattle.tz_info.proofs.{Words.{IsTrue, map, ◌↔◌}, TableSearch.{StandUntil}}
 use Rattle.tz_info.proofs.zone.valid.are_transitions.Given as goal
 
-abbrev pub invariant-loop-i : goal.invariant-loop-i
-invariant-loop-i l = IsTrue l.all_stand ↔ StandUntil l.type_count l.transitions l.i
+abbrev pub invariant-loop-place : goal.invariant-loop-place
+invariant-loop-place g l = IsTrue l.all_stand ↔ StandUntil l.type_count (map g.T.AsTransition.transition l.transitions) l.place
