@@ -50,10 +50,10 @@ impl Idle {
 fn has_idle(lists: Lists) -> bool
     requires { IsValid (zone_in lists) }
 {
-    let mut before = lists.types[0];
+    let mut before = &lists.types[0];
     for place in 0..lists.transitions.len() {
-        let after = lists.types[index_of_segment(lists, place + 1)];
-        if is_same_type(&before, &after) {
+        let after = &lists.types[index_of_segment(lists, place + 1)];
+        if is_same_type(before, after) {
             return true;
         }
         before = after;
