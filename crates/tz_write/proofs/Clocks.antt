@@ -1,10 +1,10 @@
 -- The texts of offsets and of times of day.
 use Rattle.tz_base.specs.Grammar.{Number, Then}
 use Rattle.tz_write.proofs.Words.{Bool, IsPlainTime, IsTextTime, IsWithinDay, List, NoneFirst, Spells, Without, ap, append_assoc, arith, both_ways, clock_max}
-use Rattle.tz_write.proofs.Words.{spelled_clock, spelled_hands, colon, comma, cond, decimal, false, inl, inr, ints, is_digit, is_negative, is_positive, le-ltb, minus}
-use Rattle.tz_write.proofs.Words.{spelled_minutes, nat_tests, neg_ℤ, negsuc, not, spelled_offset, spelled_pair, plus, pos, refl, signed_seconds, slash}
-use Rattle.tz_write.proofs.Words.{spelled_seconds, spelled_signed, subst, sym, time_limit, spelled_time, true, unsigned_abs, ℕ, ℤ, ◌%◌, ◌&&◌}
-use Rattle.tz_write.proofs.Words.{◌*◌, ◌++◌, ◌+◌, ◌/◌, ◌<ℤ◌, ◌<◌, ◌==◌, ◌∙◌, ◌∷◌, ◌≡◌, ◌≤◌}
+use Rattle.tz_write.proofs.Words.{spelled_clock, spelled_hands, colon, comma, cond, decimal, false, inl, inr, ints, is_digit, is_negative, is_positive, le-ltb}
+use Rattle.tz_write.proofs.Words.{minus, spelled_minutes, nat_tests, neg_ℤ, negsuc, not, spelled_offset, spelled_pair, plus, pos, refl, slash, spelled_seconds}
+use Rattle.tz_write.proofs.Words.{spelled_signed, time_limit, spelled_time, true, unsigned_abs, ℕ, ℤ, ◌%◌, ◌&&◌, ◌*◌, ◌++◌, ◌+◌, ◌/◌, ◌<ℤ◌, ◌<◌, ◌==◌, ◌∙◌, ◌∷◌}
+use Rattle.tz_write.proofs.Words.{◌≡◌, ◌≤◌}
 use Rattle.tz_write.proofs.Decimals.{Begins, number_begins, number_front, number_writes, pair_front, pair_writes, two_digits, without}
 use Rattle.tz_write.proofs.Shortest.{Front, front_cons, front_longer, front_optional, front_then}
 use Rattle.tz_write.proofs.TextBytes.{Writes, first_optional, writes_colon, writes_first, writes_last, writes_mark, writes_nothing, writes_optional, writes_other, writes_then}
@@ -161,8 +161,7 @@ time_writes extended time rest h stops = let (l, may) = time_within extended tim
 -- a text without extensions has no other times
 pub time_plain : (bytes : List ℕ) (time : ℤ) (rest : List ℕ) → Spells (tz.time false) bytes time rest → IsPlainTime time
 unfolding tz.time tz.time_sign tz.duration
-time_plain bytes time rest (negative, _, sign, ((h, m, s), _, _, ((a, b, c), value, _))) =
-    subst IsPlainTime (sym value) (subst (λ (x : Bool). IsPlainTime (signed_seconds x h m s)) (sym sign.0) (omega (arith, ints), omega (arith, ints)))
+time_plain bytes time rest (negative, _, sign, ((h, m, s), _, _, ((a, b, c), value, _))) = grind (arith, ints, nat_tests)
 
 time_sign : (negative : Bool) (n : ℕ) (time : ℤ) → time ≡ signed negative n → is_negative time ≡ true → negative ≡ true
 time_sign negative n time v e = grind (arith, ints)

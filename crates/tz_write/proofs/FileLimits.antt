@@ -56,8 +56,7 @@ number_fits n (four, (all, size), value) = grind arith
 
 header_fits : (place : Place) (h : Header) → Values (header place) h → CountsFit h.counts
 unfolding header six_counts
-header_fits place h (_, _, (_, _, (_, _, (c, (i, j, (k, l, (m, n, (o, p, (q, r, (s, t, value)))))), (_, is))))) =
-    rw (is, value) (number_fits i j, number_fits k l, number_fits m n, number_fits o p, number_fits q r, number_fits s t)
+header_fits place h (_, _, (_, _, (_, _, (c, (i, j, (k, l, (m, n, (o, p, (q, r, (s, t, value)))))), (_, is))))) = grind (arith, number_fits)
 
 -- ---- blocks and pieces
 same_factor : (a b c : ℕ) → 0 < c → a * c ≡ b * c → a ≡ b
@@ -93,8 +92,7 @@ pieces_limits bytes p h b = grind (arith, values, after_limits, header_fits)
 
 -- ---- lists
 indexes_fit : (ts : List Transition) (indexes : List ℕ) → indexes ≡ map (λ t. t.type_index) ts → Bytes indexes → All HasIndex ts
-indexes_fit ts indexes e b = λ i d l.
-    subst IsByte (get_or-map (λ (t : Transition). t.type_index) ts i d 0 l) (subst Bytes e b i 0 (omega (arith, l, length-map ts (λ t. t.type_index))))
+indexes_fit ts indexes e b = λ i d l. subst IsByte (get_or-map (λ (t : Transition). t.type_index) ts i d 0 l) (grind (arith, length-map))
 
 rule_spelled : (extended : Bool) (footer : Option (List ℕ)) (rule : Option TransitionRule) → HasRule extended footer rule → IsSpellableOrNone rule
 rule_spelled extended footer None h = tt

@@ -28,8 +28,7 @@ letters_begin [] rest some each = absurd (omega arith)
 letters_begin (b ∷ bs) rest some each = grind arith
 
 run_writes : (p : ℕ → Bool) (name rest : List ℕ) → AllOf p name → AllOf is_name_byte name → NoneFirst p rest → Writes (Run p) name name rest
-run_writes p name rest each all none =
-    record { spelled = record { whole = refl; each = each; longest = none }; bytes = names_are name all; pairs = pairs_over is_name_byte not_colon name rest all }
+run_writes p name rest each all none = grind (arith, nat_tests, names_are, pairs_over, not_colon)
 
 pub name_writes : (name rest : List ℕ) → IsName name → NoneFirst is_letter rest → Writes tz.name (spelled_name name) name rest
 unfolding tz.name tz.quoted

@@ -103,8 +103,7 @@ times_extended (rules.Fixed t) fits = tt
 times_extended (rules.Alternate a) fits = (fits.within.start_time, fits.within.end_time)
 
 pub rule_spelled : (extended : Bool) (rule : TransitionRule) → IsRule rule → CanBeSpelled rule → AreTimesOf extended rule → IsTzText extended (spelled_rule rule) rule
-rule_spelled extended rule fits h times = subst (λ bytes. IsTzText extended bytes rule) (append-nil (spelled_rule rule))
-    (rule_writes extended rule fits h times).spelled
+rule_spelled extended rule fits h times = grind (arith, ints, nat_tests, append-nil, rule_writes)
 
 pub rule_pairs : (rule : TransitionRule) → IsRule rule → CanBeSpelled rule → AreInPairs (spelled_rule rule)
 rule_pairs rule fits h = subst AreInPairs (append-nil (spelled_rule rule)) ((rule_writes true rule fits h (times_extended rule fits)).pairs tt)
@@ -115,9 +114,7 @@ text_are rule fits h = (rule_writes true rule fits h (times_extended rule fits))
 -- it begins with a letter or `<`
 pub text_begins : (rule : TransitionRule) → CanBeSpelled rule → Begins 60 122 (spelled_rule rule)
 text_begins (rules.Fixed t) ((name, h), _) = let n : name_of t ≡ name = ap name_or_none h.named in rw n (name_begins name (spelled_offset t.offset) h.allowed)
-text_begins (rules.Alternate a) ((name, h), _) =
-    let n : name_of a.std ≡ name = ap name_or_none h.named in
-    rw (append_assoc (spelled_name (name_of a.std)) (spelled_offset a.std.offset) (spelled_name (name_of a.dst) ++ from_offset a), n) (name_begins name _ h.allowed)
+text_begins (rules.Alternate a) ((name, h), _) = grind (arith, ints, nat_tests, append_assoc, name_begins)
 
 -- the text has extensions where one without doesn't have room for the times
 pub written : (rule : TransitionRule) (plain : Bool) → IsRule rule → CanBeSpelled rule → ((plain ≡ true) ↔ AreTimesOf false rule) → IsWrittenText rule (spelled_rule rule) (not plain)
@@ -151,8 +148,7 @@ pub text_some : (rule : TransitionRule) → IsRule rule → CanBeSpelled rule �
 text_some rule fits named = let s = text_is rule fits named in (spelled_rule rule, s.0, s.1)
 
 pub rule_text : (rule : TransitionRule) (text : List ℕ) (extended : Bool) → IsRule rule → IsWrittenText rule text extended → text ≡ spelled_rule rule
-rule_text rule text extended fits h =
-    let s = text_is rule fits (rule_named extended text rule h.spells) in (text_once rule text (spelled_rule rule) extended s.0 h s.1).0
+rule_text rule text extended fits h = grind (arith, ints, nat_tests, text_is, rule_named, text_once)
 
 -- a text has extensions where the rule's times need them
 pub extensions : (rule : TransitionRule) (text : List ℕ) (extended : Bool) → IsRule rule → IsWrittenText rule text extended → (extended ≡ true) ↔ (¬ (AreTimesOf false rule))
