@@ -1,10 +1,10 @@
 -- Where any designations have the names of the types at places that a byte can name, those that are laid have them.
 use Rattle.tz_write.proofs.Words.{All, All-cons, All-head, All-nil, All-weaker, AreNamesIn, AreNotPlacedBefore, ArePlaced, AreShortest, Bool, Decides}
 use Rattle.tz_write.proofs.Words.{Decides-and, Decides-by_and, Decides-like, Decides-ltb, HasNoZero, HasPlace, HavePlaces, In_order, IsFirstPlaced, IsLaid}
-use Rattle.tz_write.proofs.Words.{IsNameOrNone, IsNamedIn, IsPlacedFrom, List, LocalType, MatchOption, None, Option, Otherwise, Some, StandsAt, ap, append-nil}
-use Rattle.tz_write.proofs.Words.{append_assoc, arith, before_last, before_zero, cases_lt, drop-append_seam, ends, false, false≢true, get_or, inl, inr, laid}
-use Rattle.tz_write.proofs.Words.{laid_from, length, length-append, list_all, name_of, name_or_none, nat_lt, nat_tests, nil_from_length, place_of, refl, subst}
-use Rattle.tz_write.proofs.Words.{suc, sym, text_at, true, with_text, zero, ℕ, [], ◌&&◌, ◌*◌, ◌++◌, ◌+◌, ◌<◌, ◌==◌, ◌∙◌, ◌∷◌, ◌≡◌, ◌≤◌, ◌⊎◌}
+use Rattle.tz_write.proofs.Words.{IsNameOrNone, IsNamedIn, IsPlacedFrom, List, LocalType, MatchOption, Option, StandsAt, ap, append-nil, append_assoc, arith}
+use Rattle.tz_write.proofs.Words.{before_last, before_zero, cases_lt, drop-append_seam, ends, false, get_or, inl, inr, laid, laid_from, length, length-append}
+use Rattle.tz_write.proofs.Words.{list_all, name_of, name_or_none, nat_lt, nat_tests, nil_from_length, place_of, refl, subst, suc, sym, text_at, with_text}
+use Rattle.tz_write.proofs.Words.{zero, ℕ, [], ◌&&◌, ◌*◌, ◌++◌, ◌+◌, ◌<◌, ◌==◌, ◌∙◌, ◌∷◌, ◌≡◌, ◌≤◌, ◌⊎◌}
 use borrow.Author.Count.{below_more}
 use Rattle.tz_write.proofs.FileNames.{Behind, Ends, Has_end, In, In_front, Is_end, Stands, end_in, end_stands, ends_again, ends_of, in_stands, meet}
 use Rattle.tz_write.proofs.FileNames.{place_kept, place_of_put, place_of_stands, put_in, put_stands}
@@ -13,8 +13,7 @@ use Rattle.tz_write.proofs.FileRoom.{Given, Room, before_filled, before_keeps, b
 
 -- ---- texts
 name_size : (name : Option (List ℕ)) → IsNameOrNone name → (length (name_or_none name) ≤ 7) × ((length (name_or_none name) ≡ 0) ⊎ (3 ≤ length (name_or_none name)))
-name_size None h = (omega arith, inl refl)
-name_size (Some text) h = (h.1, inr h.0)
+name_size name h = grind (arith, nat_tests)
 
 whole_size : (bytes b x a : List ℕ) → bytes ≡ b ++ (x ++ (0 ∷ a)) → length bytes ≡ length b + length x + 1 + length a
 whole_size bytes b x a e = omega (arith, ap length e, length-append b (x ++ (0 ∷ a)), length-append x (0 ∷ a))
@@ -100,8 +99,7 @@ at_the_end bytes designations m t sm st r filled out away e (inl s) =
     ])
 
 decided : {P : Type 0} (b : Bool) → Decides b P → P ⊎ (¬ P)
-decided true d = inl (d.0 refl)
-decided false d = inr (λ p. false≢true (d.1 p))
+decided b d = grind (arith, nat_tests)
 
 has_end : (last text : List ℕ) → ((Ends last text → ⊥) → ⊥) → Ends last text
 has_end last text h = elim (decided (ends last text) (ends_of last text, ends_again last text)) [ inl e ↦ e | inr none ↦ absurd (h none) ]
@@ -228,8 +226,7 @@ laid_with_last types designations some names unplaced h = grind (arith, shortest
 pub laid_if_any : (types : List LocalType) (r : Option (List ℕ)) → 0 < length types → AreNames types → ¬ (HavePlaces (laid [] types) types)
     → MatchOption r (AreNotPlacedBefore types (length (laid [] types))) (λ d. IsFirstPlaced types d)
     → MatchOption r ((d : List ℕ) → ¬ (AreNamesIn d types)) (λ d. AreLaid types d)
-laid_if_any types None some names unplaced h = λ d named. none_laid types d names named unplaced h
-laid_if_any types (Some d) some names unplaced h = laid_with_last types d some names unplaced h
+laid_if_any types r some names unplaced h = grind (arith, none_laid, laid_with_last)
 
 -- ---- some designations are laid, if any have the names
 abbrev has_place : List ℕ → LocalType → Bool
@@ -278,5 +275,4 @@ unfolding laid
 size_laid last types = size_with (before_last last types) last (before_keeps (λ d. length d ≤ 263) size_with last types (omega arith))
 
 pub laid_size : (types : List LocalType) (designations : List ℕ) → IsLaid types designations → length designations ≤ 263
-laid_size types designations (In_order h e) = omega (arith, ap length e, size_laid [] types)
-laid_size types designations (Otherwise u h) = omega (arith, ap length h.laid_is, size_laid (text_at (laid [] types) h.place) types)
+laid_size types designations h = grind (arith, size_laid)

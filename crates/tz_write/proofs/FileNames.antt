@@ -127,8 +127,7 @@ abbrev pub put_stands : (designations text : List ℕ) → Stands (designations 
 put_stands designations text = record { before = designations; after = []; whole = refl }
 
 pub place_of_put : (designations text other : List ℕ) → Ends text other → place_of other (designations ++ (text ++ 0 ∷ [])) + length other ≤ length designations + length text
-place_of_put designations text other h =
-    let low = place_of_stands _ other (end_stands (put_stands designations text) h) in grind (arith, nat_tests, length-append)
+place_of_put designations text other h = let low = place_of_stands _ other (end_stands (put_stands designations text) h) in grind (arith, length-append)
 
 pub put_in : (designations text other : List ℕ) → Ends text other → In (designations ++ (text ++ 0 ∷ [])) other
 put_in designations text other h = stands_in _ other (end_stands (put_stands designations text) h)

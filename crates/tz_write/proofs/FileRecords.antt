@@ -3,12 +3,12 @@ use Rattle.std.proofs.lemmas.Int.{to_z-of_z}
 use Rattle.tz_base.proofs.RunLaws.{all_of}
 use Rattle.tz_write.proofs.TextBytes.{names_are, no_zeros}
 use Rattle.tz_write.proofs.Words.{All, All-head, All-more, All-tail, AreRecords, Bool, Fits-of_z, FitsSigned, HasNoZero, HasPlace, IsEntry, IsNameOrNone}
-use Rattle.tz_write.proofs.Words.{HasTimeOf64Bits, IsType, LeapSecond, List, LocalType, None, Option, Some, SpellLeapSeconds, SpellTransitions, SpellTypes}
-use Rattle.tz_write.proofs.Words.{Spells, SpellsLeapSecond, SpellsType, StandsAt, Transition, and_parts, ap, arith, be_u32, begins, cast_signed, cast_unsigned}
-use Rattle.tz_write.proofs.Words.{cond, drop, drop_more, eqb-true, false, flat_map, flat_map_more, from_be_bytes-to_be_bytes_4, from_be_bytes-to_be_bytes_8}
-use Rattle.tz_write.proofs.Words.{get_or, index_bytes, is_name_byte, leap_bytes, length, length-append, ltb-true, name_or_none, nat_eq, nat_lt, number_bytes}
-use Rattle.tz_write.proofs.Words.{place_of, refl, signed, signed_bytes, starts_is, starts_with, suc, sym, take, take_more, time_bytes, true, type_bytes, w32}
-use Rattle.tz_write.proofs.Words.{w64, ℕ, ℤ, [], ◌*◌, ◌++◌, ◌+◌, ◌<◌, ◌^◌, ◌∙◌, ◌∷◌, ◌≡◌}
+use Rattle.tz_write.proofs.Words.{HasTimeOf64Bits, IsType, LeapSecond, List, LocalType, Option, SpellLeapSeconds, SpellTransitions, SpellTypes, Spells}
+use Rattle.tz_write.proofs.Words.{SpellsLeapSecond, SpellsType, StandsAt, Transition, and_parts, ap, arith, be_u32, begins, cast_signed, cast_unsigned, cond}
+use Rattle.tz_write.proofs.Words.{drop, drop_more, eqb-true, false, flat_map, flat_map_more, from_be_bytes-to_be_bytes_4, from_be_bytes-to_be_bytes_8, get_or}
+use Rattle.tz_write.proofs.Words.{index_bytes, leap_bytes, length, length-append, ltb-true, name_or_none, nat_eq, nat_lt, number_bytes, place_of, refl, signed}
+use Rattle.tz_write.proofs.Words.{signed_bytes, starts_is, starts_with, suc, sym, take, take_more, time_bytes, true, type_bytes, w32, w64, ℕ, ℤ, [], ◌*◌, ◌++◌}
+use Rattle.tz_write.proofs.Words.{◌+◌, ◌<◌, ◌^◌, ◌∙◌, ◌∷◌, ◌≡◌}
 
 -- a count
 pub number_is : (n : ℕ) (rest : List ℕ) → n < 2 ^ 32 → Spells be_u32 (number_bytes n ++ rest) n rest
@@ -72,8 +72,7 @@ has_text text [] none h = absurd (omega arith)
 has_text text (b ∷ bs) none h = place_by (begins text (b ∷ bs)) text b bs none refl h (has_text text bs none)
 
 pub no_zero : (name : Option (List ℕ)) → IsNameOrNone name → HasNoZero (name_or_none name)
-no_zero None h = tt
-no_zero (Some text) h = no_zeros text (names_are text (all_of is_name_byte text h.2))
+no_zero name h = grind (arith, no_zeros, names_are, all_of)
 
 type_is : (designations : List ℕ) (t : LocalType) → HasPlace designations t → IsType t → SpellsType designations (type_bytes designations t) t
 unfolding type_bytes signed_bytes

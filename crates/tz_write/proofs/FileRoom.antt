@@ -141,8 +141,7 @@ pass last others types g size designations p =
 
 pub before_passed : (last others : List ℕ) (types : List LocalType) → All (Given last others) types → Passed last others types 3 (before_last last types)
 unfolding before_last with_texts
-before_passed last others types g =
-    let step = pass last others types g in grind arith
+before_passed last others types g = let step = pass last others types g in grind arith
 
 pub before_keeps : (P : List ℕ → Type 0) → ((d text : List ℕ) → P d → P (with_text d text)) → (last : List ℕ) (types : List LocalType) → P [] → P (before_last last types)
 unfolding before_last with_texts

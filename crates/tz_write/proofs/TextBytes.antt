@@ -94,20 +94,17 @@ writes_more some p = record { spelled = inr (some, p.spelled); bytes = p.bytes; 
 -- a piece that may be left out, and is if the test passes
 pub writes_optional : {X : Type 0} {tag : ℕ} {v x : X} {g : Grammar X} {text rest : List ℕ} (b : Bool) → (b ≡ true → x ≡ v) → Without tag rest
     → (b ≡ false → Writes (Optional tag v g) text x rest) → Writes (Optional tag v g) (cond b [] text) x rest
-writes_optional true same none given = writes_other none (writes_nothing (same refl))
-writes_optional false same none given = given refl
+writes_optional b same none given = grind (arith, writes_other, writes_nothing)
 
 pub first_optional : (p : ℕ → Bool) (b : Bool) (t : ℕ) (text rest : List ℕ) → p t ≡ false → NoneFirst p rest → NoneFirst p (cond b [] (t ∷ text) ++ rest)
-first_optional p true t text rest e h = h
-first_optional p false t text rest e h = e
+first_optional p b t text rest e h = grind (arith, nat_tests)
 
 -- ---- no white space
 not_space : (b : ℕ) → is_text_byte b ≡ true → is_ascii_whitespace b ≡ false
 not_space b h = grind (arith, nat_tests)
 
 pub begins_bare : (text : List ℕ) → AreTextBytes text → BeginsBare text
-begins_bare [] h = tt
-begins_bare (b ∷ bs) h = not_space b h.0
+begins_bare text h = grind (arith, not_space)
 
 pub ends_bare : (text : List ℕ) → AreTextBytes text → EndsBare text
 ends_bare [] h = tt
