@@ -25,9 +25,6 @@ size_of (negsuc n) h = absurd (omega (arith, ints))
 size_of_rise : (first time : ℤ) → first ≤ℤ time → pos (nat_abs (time -ℤ first)) ≡ time -ℤ first
 size_of_rise first time h = size_of (time -ℤ first) (omega (arith, ints))
 
-pub seconds_are : (first time : ℤ) (seconds : ℕ) → pos seconds ≡ time -ℤ first → nat_abs (time -ℤ first) ≡ seconds
-seconds_are first time seconds e = ap nat_abs (sym e)
-
 -- no item comes before the first, and none lies in a stretch behind that of the last
 pub first_least : (times : List ℤ) (first : ℤ) (k : ℕ) → AreOrdered times → first ≡ item_time times 0 → k < length times → first ≤ℤ item_time times k
 first_least times first k ordered from l = let low = not_before times 0 k ordered (omega arith) l in omega (arith, ints)
@@ -78,20 +75,7 @@ last_before times first shift marked raised b positive from room some m r h =
 
 -- one item more is noted
 pub marked_more : (times : List ℤ) (first : ℤ) (shift n stretch : ℕ) (places : List ℕ) → AreMarked times first shift n places → stretch ≡ stretch_of first (item_time times n) shift → stretch + 1 < length places → AreMarked times first shift (n + 1) (set places (stretch + 1) n)
-marked_more times first shift n stretch places m e h =
-    let long = length-set places (stretch + 1) n in
-    record {
-      of_item = λ b l. elim (cases_eq b (stretch + 1)) [
-        | inl same ↦
-            let here = get_or-set_at places (stretch + 1) b n 0 same h in
-            inr (omega arith, rw here (omega arith))
-        | inr other ↦ let here = get_or-set_other places (stretch + 1) b n 0 other in grind arith
-      ];
-      latest = λ k l. let slot : ℕ = suc (stretch_of first (item_time times k) shift) in elim (cases_eq slot (stretch + 1)) [
-        | inl same ↦ let here = get_or-set_at places (stretch + 1) slot n 0 same h in omega arith
-        | inr other ↦ let here = get_or-set_other places (stretch + 1) slot n 0 other in grind arith
-      ];
-    }
+marked_more times first shift n stretch places m e h = grind (arith, ints, length-set, cases_eq, get_or-set_at, get_or-set_other)
 
 -- the first n numbers are raised, the greatest of them is known, and the others are as they were
 pub record Raising (before after : List ℕ) (greatest n : ℕ) : Type 0 where
@@ -133,8 +117,7 @@ raising_more before after greatest n here r h is_here =
 
 -- so none is less than the one before it
 pub raised_rising : (before after : List ℕ) → AreRaised before after → AreNonDecreasing after
-raised_rising before after r b h =
-    let s = r.some b (omega arith) in grind arith
+raised_rising before after r b h = let s = r.some b (omega arith) in grind (arith, ints)
 
 -- one step more
 pub steps_more : (numbers : List ℕ) (most n most_after : ℕ) → AreStepsUntil numbers most n → 0 < n

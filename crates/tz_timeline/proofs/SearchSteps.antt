@@ -1,7 +1,7 @@
 -- What each step of a search among items in order of time keeps.
-use Rattle.tz_timeline.proofs.Words.{AreEnds, AreOrdered, ArePassed, Ends, IsLeft, IsNarrowedTo, List, Near, ap, arith, digits, filter, get_or}
-use Rattle.tz_timeline.proofs.Words.{int_le, ints, item_time, length, length-map, map, pos, refl, suc, sym, take, zero, ℕ, ℤ, ◌*◌, ◌+◌, ◌-◌, ◌/◌, ◌<ℤ◌}
-use Rattle.tz_timeline.proofs.Words.{◌<◌, ◌^◌, ◌∙◌, ◌≡◌, ◌≤ℤ◌, ◌≤◌}
+use Rattle.tz_timeline.proofs.Words.{AreEnds, AreOrdered, ArePassed, Ends, IsLeft, IsNarrowedTo, List, Near, ap, arith, digits, filter, get_or, int_le, ints}
+use Rattle.tz_timeline.proofs.Words.{item_time, length, length-map, map, pos, refl, suc, sym, take, zero, ℕ, ℤ, ◌*◌, ◌+◌, ◌-◌, ◌/◌, ◌<ℤ◌, ◌<◌, ◌∙◌, ◌≡◌, ◌≤ℤ◌}
+use Rattle.tz_timeline.proofs.Words.{◌≤◌}
 use Rattle.tz_timeline.proofs.{DigitLaws.{digits-half, digits-less, digits-more}, Prefixes.{filter_first, le_false, le_true}}
 use Rattle.std.proofs.lemmas.List.{get_or-map as mapped_at}
 
@@ -14,10 +14,7 @@ pub times_ordered : {A : Type 0} (time : A → ℤ) (items : List A) (x : A)
     → ((i j : ℕ) → i < j → j < length items → time (get_or items i x) ≤ℤ time (get_or items j x)) → AreOrdered (map time items)
 times_ordered time items x order i j d h l =
     let same = length-map items time in
-    let o = order i j h (omega arith) in
-    let first = mapped_at time items i x d (omega arith) in
-    let last = mapped_at time items j x d (omega arith) in
-    omega (arith, ints)
+    let o = order i j h (omega arith) in grind (arith, ints, mapped_at)
 
 -- the items that have come are the first so many
 pub first_come : {A : Type 0} (time : A → ℤ) (items : List A) (v : ℤ) (n : ℕ) → ArePassed (map time items) v n
@@ -49,10 +46,6 @@ none_passed times v ends ordered some are lt =
       before = λ k h. absurd (omega arith);
       behind = λ k h l. let m = not_before times 0 k ordered (omega arith) l in omega (arith, ints);
     }
-
--- there all but the last are left
-pub all_left : (times : List ℤ) (v : ℤ) (ends : Ends) → AreOrdered times → length times < 2 ^ 64 → 0 < length times → AreEnds times ends → v <ℤ ends.last → IsLeft times v 0 (length times - 1)
-all_left times v ends ordered fits some are lt = grind arith
 
 -- a look at one that has come
 pub left_later : (times : List ℤ) (v : ℤ) (first middle high : ℕ) → IsLeft times v first high → middle < high → item_time times middle ≤ℤ v → IsLeft times v (middle + 1) high

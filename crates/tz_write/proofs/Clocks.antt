@@ -1,10 +1,10 @@
 -- The texts of offsets and of times of day.
 use Rattle.tz_base.specs.Grammar.{Number, Then}
 use Rattle.tz_write.proofs.Words.{Bool, IsPlainTime, IsTextTime, IsWithinDay, List, NoneFirst, Spells, Without, ap, append_assoc, arith, both_ways, clock_max}
-use Rattle.tz_write.proofs.Words.{spelled_clock, spelled_hands, colon, comma, cond, decimal, false, inl, inr, ints, is_digit, is_negative, is_positive, le-ltb, minus}
-use Rattle.tz_write.proofs.Words.{spelled_minutes, nat_tests, neg_ℤ, negsuc, not, spelled_offset, spelled_pair, plus, pos, refl, signed_seconds, slash}
-use Rattle.tz_write.proofs.Words.{spelled_seconds, spelled_signed, subst, sym, time_limit, spelled_time, true, unsigned_abs, ℕ, ℤ, ◌%◌, ◌&&◌}
-use Rattle.tz_write.proofs.Words.{◌*◌, ◌++◌, ◌+◌, ◌/◌, ◌<ℤ◌, ◌<◌, ◌==◌, ◌∙◌, ◌∷◌, ◌≡◌, ◌≤◌}
+use Rattle.tz_write.proofs.Words.{spelled_clock, spelled_hands, colon, comma, cond, decimal, false, inl, inr, ints, is_digit, is_negative, is_positive, le-ltb}
+use Rattle.tz_write.proofs.Words.{minus, spelled_minutes, nat_tests, neg_ℤ, not, spelled_offset, spelled_pair, plus, pos, refl, slash, spelled_seconds}
+use Rattle.tz_write.proofs.Words.{spelled_signed, time_limit, spelled_time, true, unsigned_abs, ℕ, ℤ, ◌%◌, ◌&&◌, ◌*◌, ◌++◌, ◌+◌, ◌/◌, ◌<ℤ◌, ◌<◌, ◌==◌, ◌∙◌, ◌∷◌}
+use Rattle.tz_write.proofs.Words.{◌≡◌, ◌≤◌}
 use Rattle.tz_write.proofs.Decimals.{Begins, number_begins, number_front, number_writes, pair_front, pair_writes, two_digits, without}
 use Rattle.tz_write.proofs.Shortest.{Front, front_cons, front_longer, front_optional, front_then}
 use Rattle.tz_write.proofs.TextBytes.{Writes, first_optional, writes_colon, writes_first, writes_last, writes_mark, writes_nothing, writes_optional, writes_other, writes_then}
@@ -20,8 +20,7 @@ comma_stops rest = (refl, (λ e. absurd (omega arith)), (λ e. absurd (omega ari
 -- ---- hours, minutes and seconds
 seconds_writes : (s : ℕ) (rest : List ℕ) → s ≤ 59 → Stops rest → Writes tz.seconds (spelled_seconds s) s rest
 unfolding tz.seconds
-seconds_writes s rest h stops = writes_optional (s == 0) (λ e. grind (arith, nat_tests)) stops.1
-    (λ _. writes_colon (two_digits s rest (omega arith) stops.0) (pair_writes clock_max s rest (omega arith) (omega arith) stops.0))
+seconds_writes s rest h stops = grind (arith, writes_optional, writes_colon, two_digits, pair_writes)
 
 minutes_writes : (m s : ℕ) (rest : List ℕ) → m ≤ 59 → s ≤ 59 → Stops rest → Writes tz.optional_minutes (spelled_minutes m s) (m, s) rest
 unfolding tz.optional_minutes tz.minutes_seconds
@@ -105,14 +104,7 @@ signed_writes false f limit false n z rest may l k v stops = writes_first false 
 sign_front : (signs needed negative : Bool) (text bytes unsigned rest : List ℕ) → Spells (tz.time_sign signs) bytes negative unsigned → (needed ≡ true → negative ≡ true)
     → Front text unsigned rest → Front (cond needed (minus ∷ text) text) bytes rest
 unfolding tz.time_sign tz.sign
-sign_front true true negative text bytes unsigned rest (inl (_, _, (value, _))) need f = absurd (both_ways negative value (need refl))
-sign_front true true negative text bytes unsigned rest (inr (_, inl (_, is, (_, same)))) need f = front_cons is (rw same f)
-sign_front true true negative text bytes unsigned rest (inr (_, inr (_, (value, _)))) need f = absurd (both_ways negative value (need refl))
-sign_front true false negative text bytes unsigned rest (inl (_, is, (_, same))) need f = front_longer is (rw same f)
-sign_front true false negative text bytes unsigned rest (inr (_, inl (_, is, (_, same)))) need f = front_longer is (rw same f)
-sign_front true false negative text bytes unsigned rest (inr (_, inr (_, (_, same)))) need f = rw same f
-sign_front false true negative text bytes unsigned rest (value, _) need f = absurd (both_ways negative value (need refl))
-sign_front false false negative text bytes unsigned rest (_, same) need f = rw same f
+sign_front signs needed negative text bytes unsigned rest h need f = grind (arith, both_ways, front_cons, front_longer)
 
 -- seconds below so many hours, before or after midnight
 hours_within : (hours : ℕ) (z : ℤ) → (neg_ℤ (pos (3600 * hours)) <ℤ z) × (z <ℤ pos (3600 * hours)) → unsigned_abs z / 3600 < hours
@@ -140,8 +132,7 @@ pub offset_begins : (east : ℤ) (rest : List ℕ) → IsWithinDay east → Begi
 unfolding spelled_offset
 offset_begins east rest h = elim (is_positive east) as (λ t. Begins 45 57 (spelled_signed t (unsigned_abs east) ++ rest)) [
   | true ↦ record { first = minus; others = spelled_clock (unsigned_abs east) ++ rest; is = refl; above = omega arith; below = omega arith }
-  | false ↦ let f = clock_begins (unsigned_abs east) rest (omega (arith, hours_within 24 east h)) in
-      record { first = f.first; others = f.others; is = f.is; above = omega (arith, f.above); below = f.below }
+  | false ↦ let f = clock_begins (unsigned_abs east) rest (omega (arith, hours_within 24 east h)) in grind arith
 ]
 
 -- ---- times of day
@@ -149,9 +140,7 @@ time_value : (time : ℤ) → time ≡ signed (is_negative time) (unsigned_abs t
 time_value time = grind (arith, ints)
 
 time_within : (extended : Bool) (time : ℤ) → IsTextTime extended time → (unsigned_abs time / 3600 ≤ time_limit extended) × (extended ≡ false → is_negative time ≡ false)
-time_within true time h = (omega (arith, hours_within 168 time h), λ e. cc)
-time_within false (pos n) h = (omega (arith, hours_within 25 (pos n) (omega (arith, ints), h.1)), λ e. le-ltb n 0 (omega arith))
-time_within false (negsuc n) h = let a = h.0 in absurd (omega (arith, ints))
+time_within extended time h = grind (arith, hours_within, le-ltb)
 
 pub time_writes : (extended : Bool) (time : ℤ) (rest : List ℕ) → IsTextTime extended time → Stops rest → Writes (tz.time extended) (spelled_time time) time rest
 unfolding spelled_time tz.time
@@ -161,8 +150,7 @@ time_writes extended time rest h stops = let (l, may) = time_within extended tim
 -- a text without extensions has no other times
 pub time_plain : (bytes : List ℕ) (time : ℤ) (rest : List ℕ) → Spells (tz.time false) bytes time rest → IsPlainTime time
 unfolding tz.time tz.time_sign tz.duration
-time_plain bytes time rest (negative, _, sign, ((h, m, s), _, _, ((a, b, c), value, _))) =
-    subst IsPlainTime (sym value) (subst (λ (x : Bool). IsPlainTime (signed_seconds x h m s)) (sym sign.0) (omega (arith, ints), omega (arith, ints)))
+time_plain bytes time rest (negative, _, sign, ((h, m, s), _, _, ((a, b, c), value, _))) = grind (arith, ints, nat_tests)
 
 time_sign : (negative : Bool) (n : ℕ) (time : ℤ) → time ≡ signed negative n → is_negative time ≡ true → negative ≡ true
 time_sign negative n time v e = grind (arith, ints)

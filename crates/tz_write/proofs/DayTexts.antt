@@ -1,9 +1,8 @@
 -- The texts of days and of the times after them, and of the offset of daylight saving time.
 use Rattle.tz_info.specs.declared.rule.day.DayForm.TheVariants.{Julian0, Julian1, MonthWeekday}
-use Rattle.tz_write.proofs.Words.{Bool, DayForm, DayTime, Decides-int_eq, IsPlainTime, IsRuleDay, IsTextTime, IsWithinDay, List}
-use Rattle.tz_write.proofs.Words.{NoneFirst, Spells, ap, append_assoc, arith, comma, cond, date_max, spelled_date, day_max, spelled_day}
-use Rattle.tz_write.proofs.Words.{spelled_dst_offset, false, inl, inr, int_eq, ints, is_digit, letter_J, letter_M, spelled_offset, pos}
-use Rattle.tz_write.proofs.Words.{refl, slash, subst, sym, time_after, true, ℕ, ℤ, [], ◌++◌, ◌+ℤ◌, ◌∙◌, ◌∷◌, ◌≡◌}
+use Rattle.tz_write.proofs.Words.{Bool, DayForm, DayTime, Decides-int_eq, IsPlainTime, IsRuleDay, IsTextTime, IsWithinDay, List, NoneFirst, Spells}
+use Rattle.tz_write.proofs.Words.{append_assoc, arith, comma, cond, date_max, spelled_date, day_max, spelled_day, spelled_dst_offset, false, inl, inr, int_eq}
+use Rattle.tz_write.proofs.Words.{ints, is_digit, letter_J, letter_M, spelled_offset, pos, refl, slash, time_after, true, ℕ, ℤ, [], ◌++◌, ◌+ℤ◌, ◌∷◌, ◌≡◌}
 use Rattle.tz_write.proofs.Clocks.{Stops, comma_stops, offset_begins, offset_front, offset_writes, time_front, time_plain, time_writes}
 use Rattle.tz_write.proofs.Decimals.{Begins, not_empty, number_begins, number_front, number_writes, without}
 use Rattle.tz_write.proofs.Shortest.{Front, front_cons, front_nothing, front_optional, front_then, front_unless}
@@ -45,8 +44,7 @@ after_front extended bytes time rest h = front_optional slash (pos 7_200) (tz.ti
 
 after_plain : (bytes : List ℕ) (time : ℤ) (rest : List ℕ) → Spells (tz.optional_time false) bytes time rest → IsPlainTime time
 unfolding tz.optional_time
-after_plain bytes time rest (inl (after, _, p)) = time_plain after time rest p
-after_plain bytes time rest (inr (_, (is, _))) = subst IsPlainTime (sym is) (omega (arith, ints), omega (arith, ints))
+after_plain bytes time rest h = grind (arith, time_plain)
 
 -- ---- days
 pub day_writes : (extended : Bool) (d : DayTime) (rest : List ℕ) → IsRuleDay d.day → IsTextTime extended d.time → Stops rest → Writes (tz.day extended) (spelled_day d) d rest
@@ -75,12 +73,8 @@ dst_offset_writes std dst rest h = elim (int_eq dst (std +ℤ pos 3_600)) as (λ
 
 given_front : (bytes : List ℕ) (dst : ℤ) (rest : List ℕ) → Spells tz.given_offset bytes dst rest → Front (spelled_offset dst) bytes (comma ∷ rest)
 unfolding tz.given_offset tz.more
-given_front bytes dst rest (_, _, inl (_, never), _) = absurd never
-given_front bytes dst rest (_, start, inr (_, (_, at)), (east, after, offset, (_, _, inl (_, never), _))) = absurd never
-given_front bytes dst rest (_, start, inr (_, (_, at)), (east, after, offset, (_, behind, inr (_, (_, here)), (_, end, is, (value, same))))) =
-    rw (value, ← same, ← is, ← here, at) (offset_front start east after offset)
+given_front bytes dst rest h = grind (arith, offset_front)
 
 pub dst_offset_front : (std : ℤ) (bytes : List ℕ) (dst : ℤ) (rest : List ℕ) → Spells (tz.dst_offset std) bytes dst rest → Front (spelled_dst_offset std dst) bytes (comma ∷ rest)
 unfolding tz.dst_offset tz.next_hour
-dst_offset_front std bytes dst rest (inl (_, is, (_, v, same))) = rw ((Decides-int_eq dst (std +ℤ pos 3_600)).1 v) (front_nothing (is ∙ ap (λ (z : List ℕ). comma ∷ z) same))
-dst_offset_front std bytes dst rest (inr (_, given)) = front_unless (int_eq dst (std +ℤ pos 3_600)) (given_front bytes dst rest given)
+dst_offset_front std bytes dst rest h = grind (arith, front_nothing, front_unless, int_eq, given_front)

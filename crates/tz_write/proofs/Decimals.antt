@@ -71,8 +71,7 @@ number_front h p = record { front = p.digits; whole = p.whole; best = λ _. deci
 -- two digits and no third are those of the number
 paired : (ds rest : List ℕ) (n : ℕ) → AllDigits ds → 0 < length ds → NoneFirst is_digit rest → value_from 0 ds ≡ n → TwoDigits (ds ++ rest) → ds ≡ (48 + n / 10) ∷ (48 + n % 10) ∷ []
 paired [] rest n each some none value pair = absurd (omega arith)
-paired (d ∷ []) [] n each some none value pair = absurd pair
-paired (d ∷ []) (r ∷ rs) n each some none value pair = absurd (both_ways _ none pair.1)
+paired (d ∷ []) rest n each some none value pair = grind (arith, nat_tests, both_ways)
 paired (d ∷ e ∷ []) rest n each some none value pair = grind arith
 paired (d ∷ e ∷ f ∷ ds) rest n each some none value pair = absurd (both_ways _ pair.2 each.1.1.0)
 

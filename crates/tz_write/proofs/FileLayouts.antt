@@ -1,11 +1,10 @@
 -- Where any designations have the names of the types at places that a byte can name, those that are laid have them.
 use Rattle.tz_write.proofs.Words.{All, All-cons, All-head, All-nil, All-weaker, AreNamesIn, AreNotPlacedBefore, ArePlaced, AreShortest, Bool, Decides}
 use Rattle.tz_write.proofs.Words.{Decides-and, Decides-by_and, Decides-like, Decides-ltb, HasNoZero, HasPlace, HavePlaces, In_order, IsFirstPlaced, IsLaid}
-use Rattle.tz_write.proofs.Words.{IsNameOrNone, IsNamedIn, IsPlacedFrom, List, LocalType, MatchOption, None, Option, Otherwise, Some, StandsAt, ap, append-nil}
-use Rattle.tz_write.proofs.Words.{append_assoc, arith, before_last, before_zero, cases_lt, drop, drop-append_seam, ends, false, false≢true, get_or}
-use Rattle.tz_write.proofs.Words.{inl, inr, laid, laid_from, length, length-append, list_all, name_of, name_or_none, nat_lt, nat_tests, nil_from_length}
-use Rattle.tz_write.proofs.Words.{place_of, refl, subst, suc, sym, text_at, true, with_text, zero, ℕ, [], ◌&&◌, ◌*◌, ◌++◌, ◌+◌, ◌<◌, ◌==◌, ◌∙◌, ◌∷◌, ◌≡◌}
-use Rattle.tz_write.proofs.Words.{◌≤◌, ◌⊎◌}
+use Rattle.tz_write.proofs.Words.{IsNameOrNone, IsNamedIn, IsPlacedFrom, List, LocalType, MatchOption, Option, StandsAt, ap, append-nil, append_assoc, arith}
+use Rattle.tz_write.proofs.Words.{before_last, before_zero, cases_lt, drop-append_seam, ends, false, get_or, inl, inr, laid, laid_from, length, length-append}
+use Rattle.tz_write.proofs.Words.{list_all, name_of, name_or_none, nat_lt, nat_tests, nil_from_length, place_of, refl, subst, suc, sym, text_at, with_text}
+use Rattle.tz_write.proofs.Words.{zero, ℕ, [], ◌&&◌, ◌*◌, ◌++◌, ◌+◌, ◌<◌, ◌==◌, ◌∙◌, ◌∷◌, ◌≡◌, ◌≤◌, ◌⊎◌}
 use borrow.Author.Count.{below_more}
 use Rattle.tz_write.proofs.FileNames.{Behind, Ends, Has_end, In, In_front, Is_end, Stands, end_in, end_stands, ends_again, ends_of, in_stands, meet}
 use Rattle.tz_write.proofs.FileNames.{place_kept, place_of_put, place_of_stands, put_in, put_stands}
@@ -14,8 +13,7 @@ use Rattle.tz_write.proofs.FileRoom.{Given, Room, before_filled, before_keeps, b
 
 -- ---- texts
 name_size : (name : Option (List ℕ)) → IsNameOrNone name → (length (name_or_none name) ≤ 7) × ((length (name_or_none name) ≡ 0) ⊎ (3 ≤ length (name_or_none name)))
-name_size None h = (omega arith, inl refl)
-name_size (Some text) h = (h.1, inr h.0)
+name_size name h = grind (arith, nat_tests)
 
 whole_size : (bytes b x a : List ℕ) → bytes ≡ b ++ (x ++ (0 ∷ a)) → length bytes ≡ length b + length x + 1 + length a
 whole_size bytes b x a e = omega (arith, ap length e, length-append b (x ++ (0 ∷ a)), length-append x (0 ∷ a))
@@ -26,11 +24,7 @@ front_is [] rest none = refl
 front_is (b ∷ bs) rest none = let h = none.0 in let e : (b == 0) ≡ false = grind (arith, nat_tests) in rw e (ap (λ (s : List ℕ). b ∷ s) (front_is bs rest none.1))
 
 text_found : (designations text : List ℕ) → HasNoZero text → In designations text → text_at designations (place_of text designations) ≡ text
-text_found designations text none h =
-    let s = has_text text designations none h in
-    let gone : drop (place_of text designations) designations ≡ text ++ (0 ∷ s.after) =
-    ap (λ (n : ℕ). drop n designations) (sym s.at) ∙ (ap (λ (d : List ℕ). drop (length s.before) d) s.whole ∙ drop-append_seam s.before (text ++ (0 ∷ s.after))) in
-    ap before_zero gone ∙ front_is text s.after none
+text_found designations text none h = let s = has_text text designations none h in grind (arith, nat_tests, drop-append_seam, front_is)
 
 -- ---- the place of a type whose key is the greatest
 greatest : (key : LocalType → ℕ) (t : LocalType) (ts : List LocalType) → (place : ℕ) × (place < length (t ∷ ts))
@@ -95,22 +89,17 @@ at_end designations last t e out room low = grind (arith, put_is, put_in, place_
 at_the_end : (bytes designations : List ℕ) (m t : LocalType) (sm : Served bytes m) → Served bytes t → Room (name_of m) designations sm.stands.before 3
     → (designations ≡ []) ⊎ In designations [] → length designations ≤ place_of (name_of m) designations → length designations ≤ place_of (name_of t) designations → Ends (name_of m) (name_of t)
     → Stands sm.stands.before (name_of t) ⊎ EndsWith bytes m t → HasPlace (with_text designations (name_of m)) t
-at_the_end bytes designations m t sm st r filled out away e (inr q) =
-    at_end designations (name_of m) t e out (omega (arith, r.fits, sm.stands.at, sm.low, (name_size m.name sm.named).0)) (omega (arith, r.fits, sm.stands.at, q.at, st.low))
+at_the_end bytes designations m t sm st r filled out away e (inr q) = grind (arith, nat_tests, at_end, name_size)
 at_the_end bytes designations m t sm st r filled out away e (inl s) =
     let short = (name_size m.name sm.named).0 in
     at_end designations (name_of m) t e out (omega (arith, r.fits, sm.stands.at, sm.low, short))
     (elim ((name_size t.name st.named).1) [
-      | inl none ↦ elim filled [
-        | inl empty ↦ omega (arith, ap length empty, short)
-        | inr ended ↦ absurd (omega (arith, away, subst (λ (x : List ℕ). In designations x) (sym (nil_from_length (name_of t) none)) ended))
-      ]
+      | inl none ↦ grind (arith, nat_tests, nil_from_length)
       | inr three ↦ omega (arith, three, short, sm.low, sm.stands.at, room_of (name_of m) designations sm.stands.before (name_of t) 3 r st.stands.ends (inr e) s away)
     ])
 
 decided : {P : Type 0} (b : Bool) → Decides b P → P ⊎ (¬ P)
-decided true d = inl (d.0 refl)
-decided false d = inr (λ p. false≢true (d.1 p))
+decided b d = grind (arith, nat_tests)
 
 has_end : (last text : List ℕ) → ((Ends last text → ⊥) → ⊥) → Ends last text
 has_end last text h = elim (decided (ends last text) (ends_of last text, ends_again last text)) [ inl e ↦ e | inr none ↦ absurd (h none) ]
@@ -148,11 +137,7 @@ places_with bytes types m sm s top =
 
 -- ---- the texts stand in what is laid in order
 stands_with : (bytes : List ℕ) (m t : LocalType) (sm : Served bytes m) → Stands sm.stands.before (name_of t) ⊎ EndsWith bytes m t → Stands (sm.stands.before ++ (name_of m ++ 0 ∷ [])) (name_of t)
-stands_with bytes m t sm (inl s) = let more = name_of m ++ 0 ∷ [] in record {
-  before = s.before;
-  after = s.after ++ more;
-  whole = ap (λ (x : List ℕ). x ++ more) s.whole ∙ (append_assoc s.before (name_of t ++ (0 ∷ s.after)) more ∙ ap (λ (x : List ℕ). s.before ++ x) (append_assoc (name_of t) (0 ∷ s.after) more));
-}
+stands_with bytes m t sm (inl s) = grind (arith, nat_tests, append_assoc)
 stands_with bytes m t sm (inr q) = end_stands (put_stands sm.stands.before (name_of m)) q.ends
 
 no_text : (bytes : List ℕ) (t : LocalType) → Stands bytes (name_of t) → Stands bytes []
@@ -241,16 +226,14 @@ laid_with_last types designations some names unplaced h = grind (arith, shortest
 pub laid_if_any : (types : List LocalType) (r : Option (List ℕ)) → 0 < length types → AreNames types → ¬ (HavePlaces (laid [] types) types)
     → MatchOption r (AreNotPlacedBefore types (length (laid [] types))) (λ d. IsFirstPlaced types d)
     → MatchOption r ((d : List ℕ) → ¬ (AreNamesIn d types)) (λ d. AreLaid types d)
-laid_if_any types None some names unplaced h = λ d named. none_laid types d names named unplaced h
-laid_if_any types (Some d) some names unplaced h = laid_with_last types d some names unplaced h
+laid_if_any types r some names unplaced h = grind (arith, none_laid, laid_with_last)
 
 -- ---- some designations are laid, if any have the names
 abbrev has_place : List ℕ → LocalType → Bool
 has_place designations t = nat_lt (place_of (name_of t) designations) (length designations) && nat_lt (place_of (name_of t) designations) 256
 
 place_decided : (designations : List ℕ) (t : LocalType) → Decides (has_place designations t) (HasPlace designations t)
-place_decided designations t =
-    Decides-like _ (λ p. record { stands = p.0; named = p.1 }) (λ h. (h.stands, h.named)) (Decides-and _ _ (Decides-ltb _ _) (Decides-ltb _ _))
+place_decided designations t = grind (arith, nat_tests)
 
 places_decided : (designations : List ℕ) (types : List LocalType) → Decides (list_all (has_place designations) types) (HavePlaces designations types)
 places_decided designations =
@@ -292,5 +275,4 @@ unfolding laid
 size_laid last types = size_with (before_last last types) last (before_keeps (λ d. length d ≤ 263) size_with last types (omega arith))
 
 pub laid_size : (types : List LocalType) (designations : List ℕ) → IsLaid types designations → length designations ≤ 263
-laid_size types designations (In_order h e) = omega (arith, ap length e, size_laid [] types)
-laid_size types designations (Otherwise u h) = omega (arith, ap length h.laid_is, size_laid (text_at (laid [] types) h.place) types)
+laid_size types designations h = grind (arith, size_laid)

@@ -1,11 +1,10 @@
 -- What every file's zone has room for.
 use Rattle.tz_info.specs.{declared.file.header.Place.TheVariants.{Second}, declared.file.header.Version.TheVariants.{One, Three, Two}}
-use Rattle.tz_write.proofs.Words.{All, All-cons, All-nil, All-tail, AreNamesIn, Bool, Counts, FilePieces, HasIndex, HasPieces, HasRule}
-use Rattle.tz_write.proofs.Words.{IsSpellableOrNone, Header, IsNamedIn, IsTzFile, IsWritable, List, LocalType, None, Option, Parts, Place, Some, SpellTypes}
-use Rattle.tz_write.proofs.Words.{Spells, SpellsLeapSecond, SpellsType, StandsAt, Transition, TransitionRule, Version, Zone, after_first_block, ap, arith}
-use Rattle.tz_write.proofs.Words.{be_u32, block, designation_of, file, first_version, get_or_append_left, header, inl, inr, later_version, length}
-use Rattle.tz_write.proofs.Words.{length-append, length-map, map, name_or_none, place_in, refl, six_counts, subst, sym, ℕ, [], ◌*◌, ◌++◌, ◌+◌}
-use Rattle.tz_write.proofs.Words.{◌/◌, ◌<◌, ◌^◌, ◌∙◌, ◌∷◌, ◌≡◌, ◌⊎◌}
+use Rattle.tz_write.proofs.Words.{All, All-cons, All-nil, All-tail, AreNamesIn, Bool, Counts, FilePieces, HasIndex, HasPieces, HasRule, IsSpellableOrNone}
+use Rattle.tz_write.proofs.Words.{Header, IsNamedIn, IsTzFile, IsWritable, List, LocalType, Option, Parts, Place, SpellTypes, Spells, SpellsLeapSecond}
+use Rattle.tz_write.proofs.Words.{SpellsType, StandsAt, Transition, TransitionRule, Version, Zone, after_first_block, ap, arith, be_u32, block, designation_of}
+use Rattle.tz_write.proofs.Words.{file, first_version, get_or_append_left, header, inl, inr, later_version, length, length-append, length-map, map}
+use Rattle.tz_write.proofs.Words.{name_or_none, place_in, six_counts, subst, sym, ℕ, [], ◌*◌, ◌++◌, ◌+◌, ◌/◌, ◌<◌, ◌^◌, ◌∙◌, ◌∷◌, ◌≡◌, ◌⊎◌}
 use Rattle.tz_write.proofs.{FileHeads.{CountsFit}, FileRecords.{records_length}, RuleTexts.{rule_named}}
 use Rattle.std.proofs.{Math.Nat.{mul-div_cancel}, lemmas.List.{get_or-map}}
 use Rattle.tz_base.specs.Grammar.{Byte, Check, Ended, Exact, Grammar, Marked, Nothing, Number, Refused, Rest, Run, Then}
@@ -56,8 +55,7 @@ number_fits n (four, (all, size), value) = grind arith
 
 header_fits : (place : Place) (h : Header) → Values (header place) h → CountsFit h.counts
 unfolding header six_counts
-header_fits place h (_, _, (_, _, (_, _, (c, (i, j, (k, l, (m, n, (o, p, (q, r, (s, t, value)))))), (_, is))))) =
-    rw (is, value) (number_fits i j, number_fits k l, number_fits m n, number_fits o p, number_fits q r, number_fits s t)
+header_fits place h (_, _, (_, _, (_, _, (c, (i, j, (k, l, (m, n, (o, p, (q, r, (s, t, value)))))), (_, is))))) = grind (arith, number_fits)
 
 -- ---- blocks and pieces
 same_factor : (a b c : ℕ) → 0 < c → a * c ≡ b * c → a ≡ b
@@ -93,18 +91,14 @@ pieces_limits bytes p h b = grind (arith, values, after_limits, header_fits)
 
 -- ---- lists
 indexes_fit : (ts : List Transition) (indexes : List ℕ) → indexes ≡ map (λ t. t.type_index) ts → Bytes indexes → All HasIndex ts
-indexes_fit ts indexes e b = λ i d l.
-    subst IsByte (get_or-map (λ (t : Transition). t.type_index) ts i d 0 l) (subst Bytes e b i 0 (omega (arith, l, length-map ts (λ t. t.type_index))))
+indexes_fit ts indexes e b = λ i d l. subst IsByte (get_or-map (λ (t : Transition). t.type_index) ts i d 0 l) (grind (arith, length-map))
 
 rule_spelled : (extended : Bool) (footer : Option (List ℕ)) (rule : Option TransitionRule) → HasRule extended footer rule → IsSpellableOrNone rule
-rule_spelled extended footer None h = tt
-rule_spelled extended None (Some rule) h = let none : Some rule ≡ None = h in cc
-rule_spelled extended (Some footer) (Some rule) h = rule_named extended h.text rule h.says.1
+rule_spelled extended footer rule h = grind (arith, rule_named)
 
 -- ---- names
 text_back : (text : List ℕ) → name_or_none (designation_of text) ≡ text
-text_back [] = refl
-text_back (b ∷ bs) = refl
+text_back text = grind arith
 
 type_named : (designations bytes : List ℕ) (t : LocalType) → length bytes ≡ 6 → Bytes bytes → SpellsType designations bytes t → IsNamedIn designations t
 type_named designations bytes t size b h = record {

@@ -1,7 +1,7 @@
 -- Texts that stand in designations.
 use Rattle.tz_write.proofs.Words.{Bool, Decides-eqb, HasNoZero, List, and_from, ap, append_assoc, arith, begins, cond, drop, ends, ends_is, eq-eqb, false}
-use Rattle.tz_write.proofs.Words.{get_or, get_or_at, length, length-append, lt-ltb, nat_eq, place_of, refl, starts_is, starts_with, subst, suc, sym, true, ℕ}
-use Rattle.tz_write.proofs.Words.{inl, inr, nat_tests, [], ◌++◌, ◌+◌, ◌<◌, ◌∙◌, ◌∷◌, ◌≡◌, ◌≤◌, ◌⊎◌}
+use Rattle.tz_write.proofs.Words.{get_or_at, length, length-append, lt-ltb, nat_eq, place_of, refl, starts_is, starts_with, subst, suc, sym, true, ℕ, inl, inr}
+use Rattle.tz_write.proofs.Words.{nat_tests, [], ◌++◌, ◌+◌, ◌<◌, ◌∙◌, ◌∷◌, ◌≡◌, ◌≤◌, ◌⊎◌}
 use Rattle.tz_write.proofs.FileRecords.{begins_is, has_text}
 
 -- a text and its 0 byte stand in the bytes
@@ -67,8 +67,7 @@ begins_again : (text rest : List ℕ) → begins text (text ++ (0 ∷ rest)) ≡
 unfolding begins
 begins_again text rest =
     and_from _ _ ((starts_is {E = nat_eq} Decides-eqb (text ++ (0 ∷ rest)) text (starts_with nat_eq (text ++ (0 ∷ rest)) text) refl).1 (0 ∷ rest) refl)
-    (and_from _ _ (lt-ltb (length text) (length (text ++ (0 ∷ rest))) (omega (arith, length-append text (0 ∷ rest))))
-    (eq-eqb (get_or (text ++ (0 ∷ rest)) (length text) 0) 0 (get_or_at text 0 rest 0 (length text) refl)))
+    (grind (arith, nat_tests, and_from, lt-ltb, length-append, eq-eqb, get_or_at))
 
 at_most : (t : Bool) (n m : ℕ) → n ≤ m → cond t 0 (suc n) ≤ suc m
 at_most t n m h = grind (arith, nat_tests)
@@ -128,9 +127,7 @@ abbrev pub put_stands : (designations text : List ℕ) → Stands (designations 
 put_stands designations text = record { before = designations; after = []; whole = refl }
 
 pub place_of_put : (designations text other : List ℕ) → Ends text other → place_of other (designations ++ (text ++ 0 ∷ [])) + length other ≤ length designations + length text
-place_of_put designations text other h =
-    let low = place_of_stands _ other (end_stands (put_stands designations text) h) in
-    omega (arith, low, length-append designations h.front, ap length h.is, length-append h.front other)
+place_of_put designations text other h = let low = place_of_stands _ other (end_stands (put_stands designations text) h) in grind (arith, length-append)
 
 pub put_in : (designations text other : List ℕ) → Ends text other → In (designations ++ (text ++ 0 ∷ [])) other
 put_in designations text other h = stands_in _ other (end_stands (put_stands designations text) h)

@@ -2,14 +2,13 @@
 use Rattle.std.proofs.lemmas.Int.{to_z-of_z}
 use Rattle.tz_base.proofs.RunLaws.{all_of}
 use Rattle.tz_write.proofs.TextBytes.{names_are, no_zeros}
-use Rattle.tz_write.proofs.Words.{All, All-head, All-more, All-tail, AreRecords, Bool, Decides-eqb, Fits-of_z, FitsSigned, HasNoZero, HasPlace, IsEntry}
-use Rattle.tz_write.proofs.Words.{IsNameOrNone, HasTimeOf64Bits, IsType, LeapSecond, List, LocalType, None, Option, Some, SpellLeapSeconds}
-use Rattle.tz_write.proofs.Words.{SpellTransitions, SpellTypes, Spells, SpellsLeapSecond, SpellsType, StandsAt, Transition, and_parts, ap, arith, be_u32}
-use Rattle.tz_write.proofs.Words.{begins, cast_signed, cast_unsigned, cond, drop, drop_more, eqb-true, false, flat_map, flat_map_more}
-use Rattle.tz_write.proofs.Words.{from_be_bytes-to_be_bytes_4, from_be_bytes-to_be_bytes_8, get_or, index_bytes, is_name_byte}
-use Rattle.tz_write.proofs.Words.{leap_bytes, length, length-append, ltb-true, name_or_none, nat_eq, nat_lt, number_bytes}
-use Rattle.tz_write.proofs.Words.{place_of, refl, signed, signed_bytes, starts_is, starts_with, suc, sym, take, take_more, time_bytes, true}
-use Rattle.tz_write.proofs.Words.{type_bytes, w32, w64, ℕ, ℤ, [], ◌&&◌, ◌*◌, ◌++◌, ◌+◌, ◌<◌, ◌==◌, ◌^◌, ◌∙◌, ◌∷◌, ◌≡◌}
+use Rattle.tz_write.proofs.Words.{All, All-head, All-more, All-tail, AreRecords, Bool, Fits-of_z, FitsSigned, HasNoZero, HasPlace, IsEntry, IsNameOrNone}
+use Rattle.tz_write.proofs.Words.{HasTimeOf64Bits, IsType, LeapSecond, List, LocalType, Option, SpellLeapSeconds, SpellTransitions, SpellTypes, Spells}
+use Rattle.tz_write.proofs.Words.{SpellsLeapSecond, SpellsType, StandsAt, Transition, and_parts, ap, arith, be_u32, begins, cast_signed, cast_unsigned, cond}
+use Rattle.tz_write.proofs.Words.{drop, drop_more, eqb-true, false, flat_map, flat_map_more, from_be_bytes-to_be_bytes_4, from_be_bytes-to_be_bytes_8, get_or}
+use Rattle.tz_write.proofs.Words.{index_bytes, leap_bytes, length, length-append, ltb-true, name_or_none, nat_eq, nat_lt, number_bytes, place_of, refl, signed}
+use Rattle.tz_write.proofs.Words.{signed_bytes, starts_is, starts_with, suc, sym, take, take_more, time_bytes, true, type_bytes, w32, w64, ℕ, ℤ, [], ◌*◌, ◌++◌}
+use Rattle.tz_write.proofs.Words.{◌+◌, ◌<◌, ◌^◌, ◌∙◌, ◌∷◌, ◌≡◌}
 
 -- a count
 pub number_is : (n : ℕ) (rest : List ℕ) → n < 2 ^ 32 → Spells be_u32 (number_bytes n ++ rest) n rest
@@ -34,10 +33,7 @@ records_are size Spells f (x ∷ xs) sized h =
 
 pub records_length : {X : Type 0} (size : ℕ) (Spells : List ℕ → X → Type 0) (part : List ℕ) (xs : List X) → AreRecords size Spells part xs → length part ≡ length xs * size
 records_length size Spells part [] h = ap length h ∙ omega arith
-records_length size Spells part (x ∷ xs) h =
-    let more = records_length size Spells h.1 xs h.5 in let s = h.3 in
-    let joined : length part ≡ length h.0 + length h.1 = ap length h.2 ∙ length-append h.0 h.1 in
-    omega arith
+records_length size Spells part (x ∷ xs) h = grind (arith, length-append, records_length size Spells h.1 xs h.5)
 
 -- ---- transitions and leap seconds
 pub transitions_are : (ts : List Transition) → All HasTimeOf64Bits ts → SpellTransitions 8 (flat_map time_bytes ts) (flat_map index_bytes ts) ts
@@ -62,11 +58,7 @@ leaps_are leaps h = records_are 12 (SpellsLeapSecond 8) leap_bytes leaps (λ lea
 -- ---- where a text stands
 pub begins_is : (text bytes : List ℕ) → begins text bytes ≡ true → bytes ≡ text ++ (0 ∷ drop (length text + 1) bytes)
 unfolding begins
-begins_is text bytes h =
-    let p = and_parts (starts_with nat_eq bytes text) (nat_lt (length text) (length bytes) && (get_or bytes (length text) 0 == 0)) h in
-    let q = and_parts (nat_lt (length text) (length bytes)) (get_or bytes (length text) 0 == 0) p.1 in
-    let front = starts_is {E = nat_eq} Decides-eqb bytes text (starts_with nat_eq bytes text) refl in
-    front.0 p.0 ∙ ap (λ (r : List ℕ). text ++ r) (drop_more bytes (length text) 0 (ltb-true _ _ q.0) ∙ ap (λ (x : ℕ). x ∷ drop (length text + 1) bytes) (eqb-true _ 0 q.1))
+begins_is text bytes h = grind (arith, and_parts, starts_with, nat_eq, nat_lt, starts_is, drop_more, ltb-true, eqb-true)
 
 place_by : (t : Bool) (text : List ℕ) (b : ℕ) (bs : List ℕ) → HasNoZero text → begins text (b ∷ bs) ≡ t → cond t 0 (suc (place_of text bs)) < length (b ∷ bs)
     → (place_of text bs < length bs → StandsAt bs (place_of text bs) text) → StandsAt (b ∷ bs) (cond t 0 (suc (place_of text bs))) text
@@ -80,8 +72,7 @@ has_text text [] none h = absurd (omega arith)
 has_text text (b ∷ bs) none h = place_by (begins text (b ∷ bs)) text b bs none refl h (has_text text bs none)
 
 pub no_zero : (name : Option (List ℕ)) → IsNameOrNone name → HasNoZero (name_or_none name)
-no_zero None h = tt
-no_zero (Some text) h = no_zeros text (names_are text (all_of is_name_byte text h.2))
+no_zero name h = grind (arith, no_zeros, names_are, all_of)
 
 type_is : (designations : List ℕ) (t : LocalType) → HasPlace designations t → IsType t → SpellsType designations (type_bytes designations t) t
 unfolding type_bytes signed_bytes
@@ -95,8 +86,7 @@ types_are designations types p h = records_are 6 (SpellsType designations) (type
 -- the pieces of one item more
 pub flat_map_next : {X : Type 0} {now later : List ℕ} {i : ℕ} {t : X} (f : X → List ℕ) (old : List ℕ) (xs : List X) (d : X) → i < length xs → t ≡ get_or xs i d
     → now ≡ old ++ flat_map f (take i xs) → later ≡ now ++ f t → later ≡ old ++ flat_map f (take (i + 1) xs)
-flat_map_next {i = i} f old xs d l is e g =
-    rw (take_more xs i d l, ← flat_map_more f old (take i xs) (get_or xs i d), ← e, ← is) g
+flat_map_next {i = i} f old xs d l is e g = grind (arith, take_more, flat_map_more)
 
 -- the pieces of the items are appended, and each is sound
 abbrev pub ArePushed : {X : Type 0} → (X → List ℕ) → (X → Type 0) → List ℕ → List ℕ → List X → Type 0

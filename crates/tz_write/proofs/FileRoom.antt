@@ -17,9 +17,7 @@ smaller last designations others a b l r = grind arith
 -- a text that isn't there has room
 pub room_of : (last designations others text : List ℕ) (size : ℕ) → Room last designations others size → HasNoZero text → (length text ≤ size) ⊎ Ends last text → Stands others text
     → length designations ≤ place_of text designations → length designations + length text + 1 ≤ length others
-room_of last designations others text size r none small stands out =
-    let s = r.rest text none small stands out in
-    omega (arith, r.fits, ap length s.whole, length-append s.before (text ++ (0 ∷ s.after)), length-append text (0 ∷ s.after))
+room_of last designations others text size r none small stands out = grind (arith, length-append)
 
 -- ---- a text is put in
 pub no_front : (m text : List ℕ) → length (m ++ text) ≤ length text → m ++ text ≡ text
@@ -31,11 +29,7 @@ still_out designations more text h = grind (arith, in_longer)
 
 cut : (last text y left b a c d : List ℕ) (size : ℕ) → (Ends last text → ⊥) → length text ≡ size → (Ends text y → ⊥) → (length y ≤ size) ⊎ Ends last y
     → left ≡ b ++ (text ++ (0 ∷ a)) → left ≡ c ++ (y ++ (0 ∷ d)) → Meeting b text a c y d → Stands (b ++ a) y
-cut last text y left b a c d size free is_size apart small x z (In_front e h) = record {
-  before = c;
-  after = e ++ a;
-  whole = ap (λ (s : List ℕ). s ++ a) h ∙ (append_assoc c (y ++ (0 ∷ e)) a ∙ ap (λ (s : List ℕ). c ++ s) (append_assoc y (0 ∷ e) a));
-}
+cut last text y left b a c d size free is_size apart small x z (In_front e h) = grind (arith, append_assoc)
 cut last text y left b a c d size free is_size apart small x z (Behind e h) = record {
   before = b ++ e;
   after = d;
@@ -147,14 +141,11 @@ pass last others types g size designations p =
 
 pub before_passed : (last others : List ℕ) (types : List LocalType) → All (Given last others) types → Passed last others types 3 (before_last last types)
 unfolding before_last with_texts
-before_passed last others types g =
-    let step = pass last others types g in grind arith
+before_passed last others types g = let step = pass last others types g in grind arith
 
 pub before_keeps : (P : List ℕ → Type 0) → ((d text : List ℕ) → P d → P (with_text d text)) → (last : List ℕ) (types : List LocalType) → P [] → P (before_last last types)
 unfolding before_last with_texts
-before_keeps P step last types h =
-    let all = keeps_all P step last in
-    all 3 types _ (all 4 types _ (all 5 types _ (all 6 types _ (all 7 types [] h))))
+before_keeps P step last types h = let all = keeps_all P step last in grind arith
 
 -- ---- a 0 byte stands in designations that have bytes
 abbrev Filled : List ℕ → Type 0

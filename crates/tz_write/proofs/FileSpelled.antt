@@ -2,10 +2,9 @@
 use Rattle.tz_info.specs.declared.file.header.Place.TheVariants.{First, Second}
 use Rattle.tz_write.proofs.Words.{All, All-cons, All-nil, Bool, Counts, CountsAgree, FilePieces, HasCounts, HasPieces, HavePlaces, IsAscii-from_all, IsFooter}
 use Rattle.tz_write.proofs.Words.{IsSound, IsTzFile, IsUtf8-from_ascii, List, LocalType, Option, Parts, SayZone, SaysRule, Spells, TransitionRule, Zone}
-use Rattle.tz_write.proofs.Words.{after_first_block, ap, length-map, arith, block, block_bytes, counts_bytes, counts_test, false, file, file_bytes, first_half, footer_bytes}
-use Rattle.tz_write.proofs.Words.{get_or, header_bytes, later_pieces, later_version, least_block, least_counts}
-use Rattle.tz_write.proofs.Words.{length, number_bytes, refl, second_half, true, zone_counts, zone_parts, ℕ, [], ◌*◌, ◌++◌, ◌+◌, ◌<◌}
-use Rattle.tz_write.proofs.Words.{◌∙◌, ◌∷◌, ◌≡◌, ◌≢◌, ◌≤◌}
+use Rattle.tz_write.proofs.Words.{after_first_block, ap, length-map, arith, block, block_bytes, counts_bytes, counts_test, file, file_bytes, first_half}
+use Rattle.tz_write.proofs.Words.{footer_bytes, get_or, header_bytes, later_pieces, later_version, least_block, least_counts, length, number_bytes, refl}
+use Rattle.tz_write.proofs.Words.{second_half, zone_counts, zone_parts, ℕ, [], ◌*◌, ◌++◌, ◌+◌, ◌<◌, ◌∙◌, ◌∷◌, ◌≡◌, ◌≢◌, ◌≤◌}
 use Rattle.tz_write.proofs.{FileHeads.{CountsFit, header_is, version_of}, TextBytes.{AreTextBytes, begins_bare, ends_bare, limits, no_zeros}}
 use Rattle.tz_write.proofs.FileRecords.{leaps_are, records_length, transitions_are, types_are}
 
@@ -76,8 +75,7 @@ second_is extended text d z size counts some places sound =
 
 after_is : (extended : Bool) (c : Counts) (p : Parts) (rest : List ℕ) (pieces : FilePieces) → Spells later_version rest pieces [] → Spells (after_first_block (version_of extended) c p) rest pieces []
 unfolding after_first_block
-after_is true c p rest pieces h = h
-after_is false c p rest pieces h = h
+after_is extended c p rest pieces h = grind arith
 
 -- ---- the whole
 file_pieces : (extended : Bool) (text d : List ℕ) (z : Zone) → length d ≤ 263 → HasCounts z → 0 < length z.types → HavePlaces d z.types → IsSound z → HasPieces (file_bytes extended text d z) (pieces_of extended text d z)

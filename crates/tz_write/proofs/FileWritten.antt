@@ -1,9 +1,8 @@
 -- What is written of a zone.
-use Rattle.tz_write.proofs.Words.{All-weaker, Bool, IsRoomOf, IsSpellableOrNone, HaveVersion, IsFooterText}
-use Rattle.tz_write.proofs.Words.{IsInNoFile, IsNameOrNone, IsRuleOrNone, IsSound, IsType, IsTzFile, IsWritable, IsWrittenFile, List}
-use Rattle.tz_write.proofs.Words.{NeedsExtensions, None, Option, Room, SaysRule, Some, TransitionRule, Zone, arith, both_ways, ◌↔◌}
-use Rattle.tz_write.proofs.Words.{counts_bytes, false, file_bytes, first_half, header_bytes, length, number_bytes, refl, second_half, subst}
-use Rattle.tz_write.proofs.Words.{sym, true, ℕ, [], ◌<◌, ◌≡◌}
+use Rattle.tz_write.proofs.Words.{All-weaker, Bool, IsRoomOf, IsSpellableOrNone, HaveVersion, IsFooterText, IsInNoFile, IsNameOrNone, IsRuleOrNone, IsSound}
+use Rattle.tz_write.proofs.Words.{IsType, IsTzFile, IsWritable, IsWrittenFile, List, NeedsExtensions, None, Option, Room, SaysRule, Some, TransitionRule, Zone}
+use Rattle.tz_write.proofs.Words.{arith, both_ways, ◌↔◌, counts_bytes, false, file_bytes, first_half, header_bytes, length, number_bytes, refl, second_half}
+use Rattle.tz_write.proofs.Words.{subst, sym, true, ℕ, [], ◌<◌, ◌≡◌}
 use Rattle.tz_write.proofs.{FileLayouts.{laid_of, laid_size}, FileLimits.{writable}, FileSpelled.{IsPlain, file_is}}
 use Rattle.tz_write.proofs.{RuleTexts.{extensions, rule_named, rule_text, text_are, text_begins, text_some}}
 
@@ -38,8 +37,7 @@ one_file z a b h k = grind arith
 
 -- ---- versions
 pub needs_extensions : (rule : Option TransitionRule) (text : List ℕ) (extended : Bool) → IsRuleOrNone rule → IsFooterText rule text extended → (extended ≡ true) ↔ NeedsExtensions rule
-needs_extensions (Some rule) text extended fits h = extensions rule text extended fits h
-needs_extensions None text extended fits h = ((λ e. absurd (both_ways extended h.1 e)), λ needs. absurd needs)
+needs_extensions rule text extended fits h = grind (arith, extensions, both_ways)
 
 -- ---- a zone without a file
 pub no_file : (z : Zone) → ¬ (IsWritable z) → IsInNoFile z
@@ -53,8 +51,7 @@ can_be_written z room h text = record {
 }
 
 pub footer_spelled : (rule : Option TransitionRule) (text : List ℕ) (extended : Bool) → IsFooterText rule text extended → IsSpellableOrNone rule
-footer_spelled (Some rule) text extended h = rule_named extended text rule h.spells
-footer_spelled None text extended h = tt
+footer_spelled rule text extended h = grind (arith, rule_named)
 
 footer_some : (rule : Option TransitionRule) → IsRuleOrNone rule → IsSpellableOrNone rule
     → (text : List ℕ) × (extended : Bool) × IsFooterText rule text extended

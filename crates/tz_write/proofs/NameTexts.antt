@@ -28,8 +28,7 @@ letters_begin [] rest some each = absurd (omega arith)
 letters_begin (b ∷ bs) rest some each = grind arith
 
 run_writes : (p : ℕ → Bool) (name rest : List ℕ) → AllOf p name → AllOf is_name_byte name → NoneFirst p rest → Writes (Run p) name name rest
-run_writes p name rest each all none =
-    record { spelled = record { whole = refl; each = each; longest = none }; bytes = names_are name all; pairs = pairs_over is_name_byte not_colon name rest all }
+run_writes p name rest each all none = grind (arith, nat_tests, names_are, pairs_over, not_colon)
 
 pub name_writes : (name rest : List ℕ) → IsName name → NoneFirst is_letter rest → Writes tz.name (spelled_name name) name rest
 unfolding tz.name tz.quoted
@@ -44,8 +43,7 @@ name_writes name rest h none = elim (list_all is_letter name) as (λ t. list_all
     all = all_of is_name_byte name h.2
 
 quoted_best : (t : Bool) (name : List ℕ) → Best (cond t name (less ∷ name ++ (greater ∷ []))) (less ∷ name ++ (greater ∷ []))
-quoted_best true name = inr (omega (arith, length-append name (greater ∷ [])))
-quoted_best false name = inl refl
+quoted_best t name = grind (arith, length-append)
 
 pub name_front : (bytes name rest : List ℕ) → Spells tz.name bytes name rest → Front (spelled_name name) bytes rest
 unfolding tz.name tz.quoted
@@ -59,7 +57,6 @@ name_front bytes name rest (inr (_, run)) = record { front = name; whole = run.w
 -- a name's text begins with a letter or `<`
 pub name_begins : (name rest : List ℕ) → IsName name → Begins 60 122 (spelled_name name ++ rest)
 name_begins name rest h = elim (list_all is_letter name) as (λ t. list_all is_letter name ≡ t → Begins 60 122 (cond t name (less ∷ name ++ (greater ∷ [])) ++ rest)) [
-  | true ↦ λ e. let l = h.0 in let f = letters_begin name rest (omega arith) (all_from is_letter name e) in
-      record { first = f.first; others = f.others; is = f.is; above = omega (arith, f.above); below = f.below }
+  | true ↦ λ e. let l = h.0 in let f = letters_begin name rest (omega arith) (all_from is_letter name e) in grind arith
   | false ↦ λ e. record { first = less; others = (name ++ (greater ∷ [])) ++ rest; is = refl; above = omega arith; below = omega arith }
 ] refl

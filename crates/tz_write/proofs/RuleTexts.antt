@@ -20,8 +20,7 @@ pub record IsRead (extended : Bool) (bytes : List ℕ) (rule : TransitionRule) :
   pub best : AreInPairs bytes → Best (spelled_rule rule) bytes
 
 day_times : (extended : Bool) (bytes : List ℕ) (d : DayTime) (rest : List ℕ) → Spells (tz.day extended) bytes d rest → extended ≡ false → IsPlainTime d.time
-day_times true bytes d rest h e = cc
-day_times false bytes d rest h e = day_plain bytes d rest h
+day_times extended bytes d rest h e = grind (arith, day_plain)
 
 pub rule_read : (extended : Bool) (bytes : List ℕ) (rule : TransitionRule) → IsTzText extended bytes rule → IsRead extended bytes rule
 unfolding tz.text tz.rule tz.fixed tz.alternate tz.named tz.days tz.end
@@ -99,12 +98,10 @@ rule_writes extended (rules.Alternate a) fits ((m, s), (n, d)) (start, end) =
 
 -- ---- rules
 pub times_extended : (rule : TransitionRule) → IsRule rule → AreTimesOf true rule
-times_extended (rules.Fixed t) fits = tt
-times_extended (rules.Alternate a) fits = (fits.within.start_time, fits.within.end_time)
+times_extended rule fits = grind (arith, ints, nat_tests)
 
 pub rule_spelled : (extended : Bool) (rule : TransitionRule) → IsRule rule → CanBeSpelled rule → AreTimesOf extended rule → IsTzText extended (spelled_rule rule) rule
-rule_spelled extended rule fits h times = subst (λ bytes. IsTzText extended bytes rule) (append-nil (spelled_rule rule))
-    (rule_writes extended rule fits h times).spelled
+rule_spelled extended rule fits h times = grind (arith, ints, nat_tests, append-nil, rule_writes)
 
 pub rule_pairs : (rule : TransitionRule) → IsRule rule → CanBeSpelled rule → AreInPairs (spelled_rule rule)
 rule_pairs rule fits h = subst AreInPairs (append-nil (spelled_rule rule)) ((rule_writes true rule fits h (times_extended rule fits)).pairs tt)
@@ -114,10 +111,7 @@ text_are rule fits h = (rule_writes true rule fits h (times_extended rule fits))
 
 -- it begins with a letter or `<`
 pub text_begins : (rule : TransitionRule) → CanBeSpelled rule → Begins 60 122 (spelled_rule rule)
-text_begins (rules.Fixed t) ((name, h), _) = let n : name_of t ≡ name = ap name_or_none h.named in rw n (name_begins name (spelled_offset t.offset) h.allowed)
-text_begins (rules.Alternate a) ((name, h), _) =
-    let n : name_of a.std ≡ name = ap name_or_none h.named in
-    rw (append_assoc (spelled_name (name_of a.std)) (spelled_offset a.std.offset) (spelled_name (name_of a.dst) ++ from_offset a), n) (name_begins name _ h.allowed)
+text_begins rule named = grind (arith, name_begins, append_assoc)
 
 -- the text has extensions where one without doesn't have room for the times
 pub written : (rule : TransitionRule) (plain : Bool) → IsRule rule → CanBeSpelled rule → ((plain ≡ true) ↔ AreTimesOf false rule) → IsWrittenText rule (spelled_rule rule) (not plain)
@@ -128,18 +122,14 @@ pub both_shortest : (s t : List ℕ) → (t ≡ s) ⊎ (length s < length t) →
 both_shortest s t p q = grind arith
 
 pub text_once : (rule : TransitionRule) (s t : List ℕ) (d e : Bool) → IsWrittenText rule s d → IsWrittenText rule t e → (s ≡ t) × (d ≡ e)
-text_once rule s t true true p q = (both_shortest s t (p.shortest t q.spells q.pairs) (q.shortest s p.spells p.pairs), refl)
-text_once rule s t false false p q = (both_shortest s t (p.shortest t q.spells q.pairs) (q.shortest s p.spells p.pairs), refl)
-text_once rule s t true false p q = absurd (p.needed refl t q.spells)
-text_once rule s t false true p q = absurd (q.needed refl s p.spells)
+text_once rule s t d e p q = grind (arith, both_shortest)
 
 -- a rule's times need extensions, or they need none
 both_plain : (start end : ℤ) → (IsPlainTime start × IsPlainTime end) ⊎ (IsPlainTime start × IsPlainTime end → ⊥)
 both_plain start end = grind (arith, ints)
 
 plain_times : (rule : TransitionRule) → (AreTimesOf false rule) ⊎ (AreTimesOf false rule → ⊥)
-plain_times (rules.Fixed t) = inl tt
-plain_times (rules.Alternate a) = both_plain a.start.time a.end.time
+plain_times rule = grind (arith, both_plain)
 
 text_is : (rule : TransitionRule) → IsRule rule → CanBeSpelled rule → (needed : Bool) × IsWrittenText rule (spelled_rule rule) needed
 text_is rule fits named = elim (plain_times rule) [
@@ -151,13 +141,11 @@ pub text_some : (rule : TransitionRule) → IsRule rule → CanBeSpelled rule �
 text_some rule fits named = let s = text_is rule fits named in (spelled_rule rule, s.0, s.1)
 
 pub rule_text : (rule : TransitionRule) (text : List ℕ) (extended : Bool) → IsRule rule → IsWrittenText rule text extended → text ≡ spelled_rule rule
-rule_text rule text extended fits h =
-    let s = text_is rule fits (rule_named extended text rule h.spells) in (text_once rule text (spelled_rule rule) extended s.0 h s.1).0
+rule_text rule text extended fits h = grind (arith, ints, nat_tests, text_is, rule_named, text_once)
 
 -- a text has extensions where the rule's times need them
 pub extensions : (rule : TransitionRule) (text : List ℕ) (extended : Bool) → IsRule rule → IsWrittenText rule text extended → (extended ≡ true) ↔ (¬ (AreTimesOf false rule))
-extensions rule text true fits h = (
-  (λ e times. h.needed e (spelled_rule rule) (rule_spelled false rule fits (rule_named true text rule h.spells) times)),
-  λ n. refl,
-)
-extensions rule text false fits h = ((λ e. absurd (both_ways false refl e)), λ n. absurd (n ((rule_read false text rule h.spells).plain refl)))
+extensions rule text extended fits h = grind (arith, rule_spelled, rule_named, both_ways, rule_read)
+
+-- what a law says of the text of a rule
+pub ruleset rule_laws = (extensions, rule_named, text_once, text_some)

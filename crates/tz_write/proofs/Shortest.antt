@@ -1,7 +1,7 @@
 -- What is not longer than what spells the same: the front of bytes beside a text.
 use Rattle.tz_base.specs.Grammar.{Grammar, Optional}
-use Rattle.tz_write.proofs.Words.{AreInPairs, Bool, List, Spells, ap, append-nil, append_assoc, arith, cond, false, inl, inr, length, length-append, refl, subst, sym, true}
-use Rattle.tz_write.proofs.Words.{ℕ, [], ◌++◌, ◌<◌, ◌∙◌, ◌∷◌, ◌≡◌, ◌⊎◌}
+use Rattle.tz_write.proofs.Words.{AreInPairs, Bool, List, Spells, ap, append-nil, append_assoc, arith, cond, inl, inr, length, length-append, refl, subst, sym}
+use Rattle.tz_write.proofs.Words.{true, ℕ, [], ◌++◌, ◌<◌, ◌∙◌, ◌∷◌, ◌≡◌, ◌⊎◌}
 
 -- the front is the text, or longer
 abbrev pub Best : List ℕ → List ℕ → Type 0
@@ -49,15 +49,13 @@ pub front_nothing : {bytes rest : List ℕ} → bytes ≡ rest → Front [] byte
 front_nothing e = record { front = []; whole = e; best = λ _. inl refl }
 
 pub front_unless : {text bytes rest : List ℕ} (b : Bool) → Front text bytes rest → Front (cond b [] text) bytes rest
-front_unless true p = front_any p
-front_unless false p = p
+front_unless b p = grind (arith, front_any)
 
 -- a piece that may be left out, and is if the test passes
 pub front_optional : {X : Type 0} (tag : ℕ) (v : X) (g : Grammar X) {x : X} {text bytes rest : List ℕ} (b : Bool)
     → ((after : List ℕ) → bytes ≡ tag ∷ after → Spells g after x rest → Front text bytes rest)
     → (x ≡ v → b ≡ true) → Spells (Optional tag v g) bytes x rest → Front (cond b [] text) bytes rest
-front_optional tag v g b given out (inl (after, is, p)) = front_unless b (given after is p)
-front_optional tag v g b given out (inr (_, (is, same))) = rw (out is) (front_nothing same)
+front_optional tag v g b given out h = grind (arith, front_unless, front_nothing)
 
 pub front_whole : {text bytes : List ℕ} → Front text bytes [] → AreInPairs bytes → Best text bytes
 front_whole {text = text} f pairs = subst (Best text) (sym (append-nil f.front) ∙ sym f.whole) (f.best pairs)

@@ -50,11 +50,7 @@ writes_nothing same = record { spelled = (same, refl); bytes = tt; pairs = λ r.
 
 pub writes_then : {X Y : Type 0} {g : Grammar X} {f : X → Grammar Y} {a b : List ℕ} {x : X} {y : Y} {rest : List ℕ} → Writes g a x (b ++ rest)
     → Writes (f x) b y rest → Writes (Then g f) (a ++ b) y rest
-writes_then {a = a} {b = b} {x = x} {rest = rest} p q = record {
-  spelled = rw (append_assoc a b rest) (x, b ++ rest, p.spelled, q.spelled);
-  bytes = all_append is_text_byte a b p.bytes q.bytes;
-  pairs = λ r. rw (append_assoc a b rest) (p.pairs (q.pairs r));
-}
+writes_then {a = a} {b = b} {x = x} {rest = rest} p q = grind (arith, nat_tests, append_assoc, all_append)
 
 -- what comes last has no bytes
 pub writes_last : {X Y : Type 0} {g : Grammar X} {f : X → Grammar Y} {a : List ℕ} {x : X} {y : Y} {rest : List ℕ} → Writes g a x rest → Spells (f x) rest y rest
@@ -78,13 +74,11 @@ sign_is t h = let (byte, other) = and_parts (is_text_byte t) (not (t == colon)) 
 
 pub writes_byte : {X : Type 0} {t : ℕ} {f : Unit {0} → Grammar X} {a : List ℕ} {x : X} {rest : List ℕ} → is_sign t ≡ true → Writes (f tt) a x rest
     → Writes (Then (Byte t) f) (t ∷ a) x rest
-writes_byte {t = t} {a = a} {rest = rest} sign p = let (byte, other) = sign_is t sign in
-    record { spelled = (tt, a ++ rest, refl, p.spelled); bytes = (byte, p.bytes); pairs = λ r. ((λ e. absurd (other e)), p.pairs r) }
+writes_byte {t = t} {a = a} {rest = rest} sign p = grind (arith, nat_tests, sign_is)
 
 pub writes_mark : {X : Type 0} {t : ℕ} {g h : Grammar X} {a : List ℕ} {x : X} {rest : List ℕ} → is_sign t ≡ true → Writes g a x rest
     → Writes (Marked t g h) (t ∷ a) x rest
-writes_mark {t = t} {a = a} {rest = rest} sign p = let (byte, other) = sign_is t sign in
-    record { spelled = inl (a ++ rest, refl, p.spelled); bytes = (byte, p.bytes); pairs = λ r. ((λ e. absurd (other e)), p.pairs r) }
+writes_mark {t = t} {a = a} {rest = rest} sign p = grind (arith, nat_tests, sign_is)
 
 pub writes_colon : {X : Type 0} {g h : Grammar X} {a : List ℕ} {x : X} {rest : List ℕ} → TwoDigits (a ++ rest) → Writes g a x rest
     → Writes (Marked colon g h) (colon ∷ a) x rest
@@ -100,20 +94,17 @@ writes_more some p = record { spelled = inr (some, p.spelled); bytes = p.bytes; 
 -- a piece that may be left out, and is if the test passes
 pub writes_optional : {X : Type 0} {tag : ℕ} {v x : X} {g : Grammar X} {text rest : List ℕ} (b : Bool) → (b ≡ true → x ≡ v) → Without tag rest
     → (b ≡ false → Writes (Optional tag v g) text x rest) → Writes (Optional tag v g) (cond b [] text) x rest
-writes_optional true same none given = writes_other none (writes_nothing (same refl))
-writes_optional false same none given = given refl
+writes_optional b same none given = grind (arith, writes_other, writes_nothing)
 
 pub first_optional : (p : ℕ → Bool) (b : Bool) (t : ℕ) (text rest : List ℕ) → p t ≡ false → NoneFirst p rest → NoneFirst p (cond b [] (t ∷ text) ++ rest)
-first_optional p true t text rest e h = h
-first_optional p false t text rest e h = e
+first_optional p b t text rest e h = grind (arith, nat_tests)
 
 -- ---- no white space
 not_space : (b : ℕ) → is_text_byte b ≡ true → is_ascii_whitespace b ≡ false
 not_space b h = grind (arith, nat_tests)
 
 pub begins_bare : (text : List ℕ) → AreTextBytes text → BeginsBare text
-begins_bare [] h = tt
-begins_bare (b ∷ bs) h = not_space b h.0
+begins_bare text h = grind (arith, not_space)
 
 pub ends_bare : (text : List ℕ) → AreTextBytes text → EndsBare text
 ends_bare [] h = tt

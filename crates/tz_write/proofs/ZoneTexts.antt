@@ -1,9 +1,8 @@
 -- The text of a zone: it gives the zone, and each other one is longer.
-use Rattle.tz_write.proofs.Words.{AreInPairs, Err, HasZoneText, IsNoPosixZone, IsOfText, IsPosixZone, IsRule, IsRuleOrNone, IsSpace, IsTrimmed}
-use Rattle.tz_write.proofs.Words.{IsTzText, IsWrittenZone, List, LocalType, None, NoneFirst, Ok, OnErr, Option, Result, Some}
-use Rattle.tz_write.proofs.Words.{TransitionRule, TwoDigits, Zone, ap, append-nil, arith, false, inl, inr, is_ascii_whitespace, is_digit, length, length-append}
-use Rattle.tz_write.proofs.Words.{nat_tests, refl, subst, sym, spelled_rule, true, types_of, zone_of_rule, ℕ, [], ◌++◌, ◌<◌, ◌∷◌, ◌≡◌}
-use Rattle.tz_write.proofs.Words.{◌⊎◌}
+use Rattle.tz_write.proofs.Words.{AreInPairs, HasZoneText, IsNoPosixZone, IsOfText, IsPosixZone, IsRule, IsRuleOrNone, IsSpace, IsTrimmed, IsTzText}
+use Rattle.tz_write.proofs.Words.{IsWrittenZone, List, LocalType, None, NoneFirst, OnErr, Option, Result, Some, TransitionRule, TwoDigits, Zone, ap, append-nil}
+use Rattle.tz_write.proofs.Words.{arith, false, inl, inr, is_ascii_whitespace, is_digit, length, length-append, nat_tests, subst, sym, spelled_rule, true}
+use Rattle.tz_write.proofs.Words.{types_of, zone_of_rule, ℕ, [], ◌++◌, ◌<◌, ◌∷◌, ◌≡◌, ◌⊎◌}
 use Rattle.tz_write.proofs.RuleTexts.{both_shortest, rule_pairs, rule_read, rule_spelled, text_are, text_begins}
 use Rattle.tz_write.proofs.{Decimals.{not_empty}, Shortest.{Best, pairs_rest}, TextBytes.{trimmed_text}}
 
@@ -12,16 +11,10 @@ not_both : (b : ℕ) → is_digit b ≡ true → is_ascii_whitespace b ≡ true 
 not_both b h k = grind (arith, nat_tests)
 
 stops_before : (bs after : List ℕ) → IsSpace after → NoneFirst is_digit (bs ++ after) → NoneFirst is_digit bs
-stops_before [] after space h = tt
-stops_before (b ∷ bs) after space h = h
+stops_before bs after space h = grind (arith, nat_tests)
 
 two_before : (bs after : List ℕ) → IsSpace after → TwoDigits (bs ++ after) → TwoDigits bs
-two_before [] [] space h = h
-two_before [] (c ∷ []) space h = absurd h
-two_before [] (c ∷ d ∷ ds) space h = absurd (not_both c h.0 space.0)
-two_before (a ∷ []) [] space h = h
-two_before (a ∷ []) (c ∷ cs) space h = absurd (not_both c h.1 space.0)
-two_before (a ∷ b ∷ bs) after space h = (h.0, h.1, stops_before bs after space h.2)
+two_before bs after space h = grind (arith, not_both, stops_before)
 
 pairs_before : (bs after : List ℕ) → IsSpace after → AreInPairs (bs ++ after) → AreInPairs bs
 pairs_before [] after space h = tt
@@ -63,8 +56,7 @@ written_zone types rule fits h =
 
 -- ---- which zones a text gives
 pub given : (text : List ℕ) (z : Zone) → IsPosixZone text z → IsOfText z
-given text z (inl a) = subst IsOfText (sym a.1) (record { transitions = refl; leaps = refl; rule = refl })
-given text z (inr b) = let read = rule_read false b.trimmed b.rule b.spells in subst IsOfText (sym b.zone) (record { transitions = refl; leaps = refl; rule = (refl, (read.named, read.plain refl)) })
+given text z gives = grind (arith, rule_read)
 
 pub no_zone_text : (types : List LocalType) (rule : Option TransitionRule) → ¬ (HasZoneText types rule) → IsNoPosixZone (zone_of_rule types rule)
 no_zone_text types rule none = λ text gives. none ((given text (zone_of_rule types rule) gives).rule)
@@ -85,5 +77,4 @@ zone_text_once z s t p q = both_shortest s t (p.shortest t q.gives q.pairs) (q.s
 
 -- ---- running out of memory
 pub on_err : {A E : Type 0} (r : Result A E) (P : Type 0) → P → OnErr r P
-on_err (Ok a) P h = tt
-on_err (Err e) P h = h
+on_err r P h = grind (arith, nat_tests)

@@ -72,6 +72,7 @@ impl ToTzData for TimeZone {
 }
 
 // The text of the footer, if there is one that spells the rule. No rule has the empty text.
+#[tactic(auto, using(crate::proofs::RuleTexts::rule_named))]
 fn footer_of(alloc: Global, rule: Option<&TransitionRule>) -> Result<Option<TzText>, Error>
     ensures written { let ruled = option_map (λ r. r.now) rule.entry in
         MatchResult result

@@ -14,6 +14,7 @@ pub mod files;
 /// A text spells a rule if and only if each type has a name and its DST flag, and a rule of one type
 /// an offset below a day. One text is written of it then, with extensions if and only if its times
 /// need them.
+#[tactic(auto, using(crate::proofs::RuleTexts::rule_laws))]
 pub fn one_written_text()
     ensures spelled { (extended : Bool) (bytes : List ℕ) (rule : Rule)
         → IsTzText extended bytes rule → CanBeSpelled rule }

@@ -49,21 +49,13 @@ impl Designations {
         &self.bytes[..self.len]
     }
 
-    fn push(&mut self, byte: u8)
-        requires { length self.old < 263 }
-        ensures { self.new ≡ self.old ++ (byte ∷ []) }
-    {
-        self.bytes[self.len] = byte;
-        self.len += 1;
-    }
-
     fn push_all(&mut self, text: &[u8])
         requires { length self.old + length text.now ≤ 263 }
         ensures { self.new ≡ self.old ++ text.now }
     {
-        for byte in text {
-            self.push(*byte);
-        }
+        let end = self.len + text.len();
+        self.bytes[self.len..end].copy_from_slice(text);
+        self.len = end;
     }
 }
 
@@ -120,7 +112,7 @@ fn push_text(designations: &mut Designations, text: &[u8])
         return;
     }
     designations.push_all(text);
-    designations.push(0);
+    designations.push_all(&[0]);
 }
 
 fn push_text_of(designations: &mut Designations, last: &[u8], local: &LocalTimeType, size: usize)
@@ -167,16 +159,10 @@ fn has_place(designations: &[u8], local: &LocalTimeType) -> bool
 }
 
 /// Returns whether the text of each type is in the designations, at a place that a byte can name.
-#[tactic(auto, using(std::proofs::lemmas::List::take_all))]
 pub fn have_places(designations: &[u8], types: &[LocalTimeType]) -> bool
     ensures places { IsTrue result ↔ HavePlaces designations.now types.now }
 {
-    for local in types {
-        if !has_place(designations, local) {
-            return false;
-        }
-    }
-    true
+    types.iter().all(|local| has_place(designations, local))
 }
 
 // Whether each type has its place, and no more bytes are laid than in order.

@@ -16,7 +16,6 @@ use tz_info::{Error, TimeZone};
 
 /// The header of Honolulu's file (RFC 8536 appendix B.2), of version 2, and the first one of
 /// Jerusalem's (appendix B.4), of version 3.
-#[tactic(auto, unfolding(crate::specs::FileBytes::header_bytes, crate::specs::FileBytes::counts_bytes, crate::specs::FileBytes::number_bytes))]
 pub fn headers()
     ensures honolulu { header_bytes false (record {
       ut_local = 6;
@@ -49,7 +48,6 @@ pub fn headers()
 
 /// The names of Honolulu's file (RFC 8536 appendix B.2) are in the order of its types, of which two
 /// have the name `HST`.
-#[tactic(auto, unfolding(crate::specs::FileLayouts::laid, crate::specs::FileLayouts::before_last, crate::specs::FileLayouts::with_texts, crate::specs::FileLayouts::with_text, crate::specs::FileDesignations::begins))]
 pub fn names()
     ensures { laid [] (
         record { offset = neg_ℤ (pos 37_886); dst = false; name = Some (codes "LMT") } ∷
@@ -69,6 +67,7 @@ pub fn names()
 
 /// Both headers of a written file have version `3` (51) if and only if the zone's rule needs the
 /// extensions of RFC 8536 section 3.3.1; else both have `2` (50).
+#[tactic(auto, using(crate::proofs::FileWritten::needs_extensions))]
 pub fn versions()
     ensures extended { (z : Zone) (bytes : List ℕ) → IsRuleOrNone z.rule → IsWrittenFile z bytes
         → NeedsExtensions z.rule
@@ -79,6 +78,7 @@ pub fn versions()
 {}
 
 /// A zone has one file that is written, if it can be written.
+#[tactic(auto, using(crate::proofs::FileWritten::file_some, crate::proofs::FileWritten::one_file))]
 pub fn one_file()
     ensures some { (z : Zone) → IsValid z → IsRuleOrNone z.rule → IsSound z → IsWritable z
         → (bytes : List ℕ) × IsWrittenFile z bytes }

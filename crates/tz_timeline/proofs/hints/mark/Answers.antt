@@ -1,5 +1,5 @@
-use Rattle.tz_timeline.proofs.Words.{SFits, arith, ints, item_time, length-set, map, refl, rules, stretch_of, to_z-of_z, w64, ◌+◌, ◌/◌, ◌^◌, ◌∙◌, ◌≡◌}
-use Rattle.tz_timeline.proofs.{HintLaws.{marked_more, seconds_are}, SearchSteps.{time_read}, hints.mark.Given.{Over}}
+use Rattle.tz_timeline.proofs.Words.{SFits, arith, ints, item_time, length-set, map, rules, stretch_of, to_z-of_z, w64, ◌+◌, ◌/◌, ◌^◌, ◌∙◌, ◌≡◌}
+use Rattle.tz_timeline.proofs.{HintLaws.{marked_more}, SearchSteps.{time_read}, hints.mark.Given.{Over}}
 use Rattle.tz_timeline.proofs.hints.mark.Goals as goal
 
 pub seconds_between-requires : goal.seconds_between-requires
@@ -16,9 +16,7 @@ slot g c =
     let ff = c.ranges.first in
     let fs : SFits w64 c.second.result = search rules in
     let time = c.second.ensures ∙ time_read g.T.Timed.time c.args.items.now c.loop-place.place c.index-items-place.result c.loop-place-test.true c.index-items-place.is in
-    let between = simp to_z-of_z at c.seconds_between.ensures in
-    let seconds = seconds_are c.args.first c.second.result c.seconds_between.result between in
-    rw (← time, seconds) refl
+    let between = simp to_z-of_z at c.seconds_between.ensures in grind (arith, ints)
 
 pub overflow_add-places : goal.overflow_add-places
 overflow_add-places g c = let room = c.requires.room c.loop-place.place c.loop-place-test.true in let is = slot g c in let count = c.loop-place.invariant.count in omega arith

@@ -1,4 +1,4 @@
-use Rattle.tz_timeline.proofs.Words.{AreRaised, List, SFits, ap, arith, drop, item_time, length, length-map, length-replicate, map, pos, rules, take}
+use Rattle.tz_timeline.proofs.Words.{AreRaised, List, SFits, arith, drop, item_time, length, length-map, length-replicate, map, pos, rules, take}
 use Rattle.tz_timeline.proofs.Words.{take-append-le, take_all, to_z-of_z, w64, ℕ, ◌++◌, ◌+◌, ◌-ℤ◌, ◌-◌, ◌/◌, ◌^◌, ◌∙◌, ◌≡◌}
 use Rattle.tz_timeline.proofs.{HintLaws.{first_least, hints_made, raised_rising, slots}, SearchSteps.{time_read}, hints.Hints.new.Given.{Over}}
 use Rattle.tz_timeline.proofs.hints.Hints.new.Goals.{After-deref, After-deref_mut}
@@ -14,13 +14,10 @@ span_is g c =
     let ff : SFits w64 c.second-first.result = search rules in
     let long = length-map c.args.items.now g.T.Timed.time in
     let last = c.second.ensures ∙ time_read g.T.Timed.time c.args.items.now (length c.args.items.now - 1) c.index-items-count.result (omega arith) c.index-items-count.is in
-    let between = simp to_z-of_z at c.seconds_between-span.ensures in
-    rw (long, ← last) between
+    let between = simp to_z-of_z at c.seconds_between-span.ensures in grind arith
 
 zeros_count : (g : Over) (c : After-deref_mut g) → length c.deref_mut.result.now ≡ c.seconds_between-span.result / 2 ^ c.shift_for-shift.result + 2
-zeros_count g c =
-    ap length (c.deref_mut.ensures.value ∙ c.in_ok-places.ensures.items_if_clones_equal (λ y e. e))
-    ∙ length-replicate (c.seconds_between-span.result / 2 ^ c.shift_for-shift.result + 2) 0
+zeros_count g c = grind (arith, length-replicate)
 
 pub mark-requires-clause-first : goal.mark-requires-clause-first
 mark-requires-clause-first g c = λ k h.
@@ -33,8 +30,7 @@ mark-requires-clause-room g c = λ k h.
     let ff : SFits w64 c.second-first.result = search rules in
     let long = length-map c.args.items.now g.T.Timed.time in
     let slot = slots (map g.T.Timed.time c.args.items.now) c.second-first.result c.seconds_between-span.result c.shift_for-shift.result k c.requires (first_is g c) (span_is g c) (omega arith) in
-    let count = zeros_count g c in
-    simp to_z-of_z (omega arith)
+    let count = zeros_count g c in grind (arith, to_z-of_z)
 
 -- what a slice of all numbers was written to
 written : (len : ℕ) (new old : List ℕ) → length new ≡ len → take len (new ++ drop (length new) old) ≡ new
@@ -43,20 +39,12 @@ written len new old e = take-append-le len new (drop (length new) old) (omega ar
 -- the numbers that were raised are those that were marked
 raised : (g : Over) (c : After-deref g) → length c.deref_mut.result.now ≡ c.seconds_between-span.result / 2 ^ c.shift_for-shift.result + 2
     → AreRaised c.mark.new.places c.raise.new.numbers
-raised g c count =
-    let same = c.mark.ensures.length in
-    let size = c.in_ok-places.ensures.len in
-    let marked = c.deref_mut-2.ensures.value ∙ written c.in_ok-places.places.len c.mark.new.places c.in_ok-places.places.items (omega arith) in
-    rw marked at c.raise.ensures
+raised g c count = let same = c.mark.ensures.length in grind (arith, written)
 
 -- and are kept
 kept : (g : Over) (c : After-deref g) → length c.deref_mut.result.now ≡ c.seconds_between-span.result / 2 ^ c.shift_for-shift.result + 2
     → c.deref.result.now ≡ c.raise.new.numbers
-kept g c count =
-    let same = c.mark.ensures.length in
-    let size = c.in_ok-places.ensures.len in
-    let as_long = (raised g c count).count in
-    c.deref.ensures.value ∙ written c.in_ok-places.places.len c.raise.new.numbers _ (omega arith)
+kept g c count = let same = c.mark.ensures.length in grind (arith, raised, written)
 
 pub most_between-most-requires : goal.most_between-most-requires
 most_between-most-requires g c =

@@ -1,5 +1,5 @@
 use Rattle.tz_timeline.proofs.Words.{AreEnds, AreHints, SFits, arith, ints, length, length-map, map, pow_pos, rules, to_z-of_z, w64, ◌≡◌}
-use Rattle.tz_timeline.proofs.{HintLaws.{near_hinted}, SearchSteps.{all_left, all_passed, digits-halved, none_passed}, timeline.Timeline.passed.Given.{Over}}
+use Rattle.tz_timeline.proofs.{HintLaws.{near_hinted}, SearchSteps.{all_passed, digits-halved, none_passed}, timeline.Timeline.passed.Given.{Over}}
 use Rattle.tz_timeline.proofs.timeline.Timeline.passed.Goals.{After-self}
 use Rattle.tz_timeline.proofs.timeline.Timeline.passed.Goals as goal
 
@@ -11,8 +11,7 @@ kept g c = (c.ranges.second, length-map c.args.self.now g.T.Timed.time, rw (← 
 pub read-requires-clause-room : goal.read-requires-clause-room
 read-requires-clause-room g c =
     let n = c.len-count.ensures.count in
-    let some = digits-halved (length c.args.self.now) (omega arith) in
-    omega (arith, c.requires)
+    let some = digits-halved (length c.args.self.now) (omega arith) in grind (arith, ints)
 
 pub returns-then-self-second-clause-passed : goal.returns-then-self-second-clause-passed
 returns-then-self-second-clause-passed g c =
@@ -22,15 +21,12 @@ returns-then-self-second-clause-passed g c =
     all_passed _ c.args.second c.len-count.result c.self.inside.ends c.len-count.ensures.ordered (omega arith) (omega arith) ends (omega (arith, ints))
 
 pub returns-then-self-second-clause-cost : goal.returns-then-self-second-clause-cost
-returns-then-self-second-clause-cost g c = λ h.
-    let some = digits-halved (length c.args.self.now) h in
-    record { looks = 1; some = omega arith; within = omega arith; counts = c.read.ensures.count }
+returns-then-self-second-clause-cost g c = λ h. let some = digits-halved (length c.args.self.now) h in grind (arith, ints)
 
 pub count_look-requires : goal.count_look-requires
 count_look-requires g c =
     let n = c.len-count.ensures.count in
-    let some = digits-halved (length c.args.self.now) (omega arith) in
-    omega (arith, c.requires)
+    let some = digits-halved (length c.args.self.now) (omega arith) in grind (arith, ints)
 
 pub returns-then-second-self-clause-passed : goal.returns-then-second-self-clause-passed
 returns-then-second-self-clause-passed g c =
@@ -40,9 +36,7 @@ returns-then-second-self-clause-passed g c =
     none_passed _ c.args.second c.self.inside.ends c.len-count.ensures.ordered (omega arith) ends (omega (arith, ints))
 
 pub returns-then-second-self-clause-cost : goal.returns-then-second-self-clause-cost
-returns-then-second-self-clause-cost g c = λ h.
-    let some = digits-halved (length c.args.self.now) h in
-    record { looks = 1; some = omega arith; within = omega arith; counts = c.count_look.ensures }
+returns-then-second-self-clause-cost g c = λ h. let some = digits-halved (length c.args.self.now) h in grind (arith, ints)
 
 pub passed_near-requires-clause-near : goal.passed_near-requires-clause-near
 passed_near-requires-clause-near g c =
@@ -54,8 +48,4 @@ passed_near-requires-clause-near g c =
     simp to_z-of_z (near_hinted _ c.args.second c.self.inside.hints c.self.inside.ends c.seconds_between.result c.in-Some.near c.len-count.ensures.ordered (omega arith) (omega arith) ends hints (omega (arith, ints)) between (pow_pos c.self.inside.hints.shift) c.in-Some.ensures)
 
 pub passed_by_halves-requires-clause-left : goal.passed_by_halves-requires-clause-left
-passed_by_halves-requires-clause-left g c =
-    let (fv, long, ends, hints) = kept g (goal.at.passed_by_halves-requires-clause-left g c).After-self in
-    let last : SFits w64 c.self.inside.ends.last = search rules in
-    let n = c.len-count.ensures.count in
-    simp to_z-of_z (rw long at (all_left _ c.args.second c.self.inside.ends c.len-count.ensures.ordered (omega arith) (omega arith) ends (omega (arith, ints))))
+passed_by_halves-requires-clause-left g c = grind (arith, ints, kept, to_z-of_z)

@@ -1,17 +1,12 @@
-use Rattle.tz_timeline.proofs.{Words.{Counts, ap, arith, length, to_z-of_z, ◌+◌, ◌∙◌}, SearchSteps.{digits-three, near_one, one_step, two_steps}}
+use Rattle.tz_timeline.proofs.{Words.{Counts, ap, arith, length, to_z-of_z, ◌∙◌}, SearchSteps.{digits-three, near_one, one_step, two_steps}}
 use Rattle.tz_timeline.proofs.timeline.Timeline.passed_near.Goals as goal
 use Rattle.tz_timeline.proofs.timeline.Timeline.passed_near.Goals.{then-left-gt1, else-left-gt1}
 
 pub narrowed-once-requires-clause-room : goal.narrowed-once-requires-clause-room
-narrowed-once-requires-clause-room g c =
-    let three = digits-three (length c.args.self.now) c.requires.many in
-    omega (arith, c.requires.room)
+narrowed-once-requires-clause-room g c = let three = digits-three (length c.args.self.now) c.requires.many in grind arith
 
 pub narrowed-left-requires-clause-room : goal.narrowed-left-requires-clause-room
-narrowed-left-requires-clause-room g c =
-    let three = digits-three (length c.args.self.now) c.requires.many in
-    let looks = ap g.T.Timed.looks c.narrowed-once.ensures.cost ∙ g.met.T.Timed.counts_looks c.args.probes.now 1 in
-    omega (arith, c.requires.room)
+narrowed-left-requires-clause-room g c = let three = digits-three (length c.args.self.now) c.requires.many in grind arith
 
 pub narrowed-left-requires-then-left-gt1-clause-room : goal.narrowed-left-requires-then-left-gt1-clause-room
 narrowed-left-requires-then-left-gt1-clause-room g c =
@@ -38,23 +33,12 @@ loop-left-init g c =
     ]
 
 pub loop-left-preserved : goal.loop-left-preserved
-loop-left-preserved g c =
-    let inv = c.loop-left.invariant in
-    let step = one_step c.loop-left.left.count c.narrowed-left-in-loop-left.result.count (omega arith) c.narrowed-left-in-loop-left.ensures.count in
-    record {
-      near = c.narrowed-left-in-loop-left.ensures.near;
-      looks = inv.looks + 1;
-      most = omega (arith, inv.most);
-      counts = c.narrowed-left-in-loop-left.ensures.cost ∙ ap (λ (p : Counts). g.T.Timed.counted p 1) inv.counts ∙ g.met.T.Timed.counts_up c.args.probes.now inv.looks 1;
-    }
+loop-left-preserved g c = let inv = c.loop-left.invariant in grind (arith, one_step)
 
 pub returns-clause-passed : goal.returns-clause-passed
 returns-clause-passed g c =
     let fv = c.ranges.second in
-    let near = simp to_z-of_z at c.loop-left.invariant.near in
-    near_one _ _ c.loop-left.left (omega arith) near
+    let near = simp to_z-of_z at c.loop-left.invariant.near in grind (arith, near_one)
 
 pub returns-clause-cost : goal.returns-clause-cost
-returns-clause-cost g c =
-    let inv = c.loop-left.invariant in
-    record { looks = inv.looks + 1; some = omega arith; within = omega (arith, inv.most); counts = c.read.ensures.count ∙ ap (λ (p : Counts). g.T.Timed.counted p 1) inv.counts ∙ g.met.T.Timed.counts_up c.args.probes.now inv.looks 1 }
+returns-clause-cost g c = let inv = c.loop-left.invariant in grind arith

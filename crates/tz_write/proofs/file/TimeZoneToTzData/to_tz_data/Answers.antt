@@ -1,12 +1,11 @@
-use Rattle.tz_write.proofs.{Words.{IsSpellableOrNone, subst}, FileWritten.{can_be_written, footer_spelled, no_file}, ZoneTexts.{on_err}}
+use Rattle.tz_write.proofs.{Words.{IsSpellableOrNone, arith, subst}, FileWritten.{can_be_written, footer_spelled, no_file}, ZoneTexts.{on_err}}
 use Rattle.tz_write.proofs.file.TimeZoneToTzData.to_tz_data.Goals as goal
 
 pub returns-in_default : goal.returns-in_default
 returns-in_default c = record { written = no_file c.args.self.now (λ w. c.in_default.ensures w.room); reason = λ w. c.in_default.ensures w.room; memory = tt }
 
 pub returns-in_err-footer-clause-memory : goal.returns-in_err-footer-clause-memory
-returns-in_err-footer-clause-memory c =
-    on_err c.from_residual.result _ (can_be_written c.args.self.now c.in-Some.room c.in-Some.ensures (subst IsSpellableOrNone c.rule.ensures c.in_err-footer.ensures.memory))
+returns-in_err-footer-clause-memory c = on_err c.from_residual.result _ (can_be_written c.args.self.now c.in-Some.room c.in-Some.ensures (grind arith))
 
 pub returns-in_default-2 : goal.returns-in_default-2
 returns-in_default-2 c =

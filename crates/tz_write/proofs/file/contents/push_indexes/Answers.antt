@@ -4,8 +4,7 @@ use Rattle.tz_write.proofs.file.contents.push_indexes.Goals as goal
 pub overflow_cast-index : goal.overflow_cast-index
 overflow_cast-index c =
     let t = c.transition-index.result in
-    let fits : t.type_index < 256 = rw (c.transition-index.ensures t) (c.requires c.loop-place.place t (omega (arith, c.loop-place-test.true, c.transition_count-place-end.ensures))) in
-    omega (arith, fits)
+    let fits : t.type_index < 256 = rw (c.transition-index.ensures t) (grind arith) in omega (arith, fits)
 
 pub loop-place-preserved : goal.loop-place-preserved
 loop-place-preserved c =

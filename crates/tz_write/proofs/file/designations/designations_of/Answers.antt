@@ -1,4 +1,4 @@
-use Rattle.tz_write.proofs.{Words.{HavePlaces, false≢true, laid, subst, sym, [], ◌∙◌}, FileLayouts.{laid_if_any, laid_in_order}}
+use Rattle.tz_write.proofs.{Words.{HavePlaces, arith, laid, subst}, FileLayouts.{laid_if_any, laid_in_order}}
 use Rattle.tz_write.proofs.file.designations.designations_of.Goals as goal
 
 pub returns-then-have_places : goal.returns-then-have_places
@@ -7,10 +7,4 @@ returns-then-have_places c =
     laid_in_order types c.laid-in_order.result c.requires c.laid-in_order.ensures.sound c.laid-in_order.ensures.laid (subst (λ d. HavePlaces d types) c.as_slice.ensures.bytes places)
 
 pub returns : goal.returns
-returns c =
-    let types = c.args.types.now in
-    let same = c.as_slice.ensures.bytes ∙ c.laid-in_order.ensures.laid in
-    let again = c.as_slice-2.ensures.bytes ∙ c.laid-in_order.ensures.laid in
-    let unplaced : ¬ (HavePlaces (laid [] types) types) =
-    λ h. false≢true (sym c.if-have_places.false ∙ c.have_places.ensures.places.1 (subst (λ d. HavePlaces d types) (sym same) h)) in
-    laid_if_any types c.laid_otherwise.result c.requires c.laid-in_order.ensures.sound unplaced (rw again at c.laid_otherwise.ensures)
+returns c = grind (arith, laid_if_any)

@@ -1,4 +1,4 @@
-use Rattle.tz_write.proofs.Words.{Err, IsErrAnd, IsOutOfMemory, IsTzFile, MatchResult, Ok, Result, ap, error_number, subst, sym, ◌∙◌}
+use Rattle.tz_write.proofs.Words.{Err, IsErrAnd, IsTzFile, MatchResult, Ok, Result, arith, subst, sym}
 use Rattle.tz_write.proofs.laws.files.written_and_read.Goals as goal
 
 pub returns-in_ok-from_tz_data-in-Some : goal.returns-in_ok-from_tz_data-in-Some
@@ -15,5 +15,4 @@ pub returns-in_err-from_tz_data-in-Some : goal.returns-in_err-from_tz_data-in-So
 returns-in_err-from_tz_data-in-Some c =
     let z = c.args.zone.now in let written = rw c.in-Some.is at c.in_ok-to_tz_data.ensures.written in
     let spelled = subst (λ b. IsTzFile b z) (sym c.deref.ensures.value) written.spells in
-    let memory = c.in_err-from_tz_data-in-Some.ensures.only z spelled c.valid_law.ensures.valid in
-    told_is c.from_residual-in_err-from_tz_data-in-Some.result _ IsOutOfMemory _ (c.from_residual-in_err-from_tz_data-in-Some.ensures.1) (λ e is. ap error_number (is ∙ memory))
+    let memory = c.in_err-from_tz_data-in-Some.ensures.only z spelled c.valid_law.ensures.valid in grind (arith, told_is)

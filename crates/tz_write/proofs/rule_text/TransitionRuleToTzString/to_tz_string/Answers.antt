@@ -1,4 +1,4 @@
-use Rattle.tz_write.proofs.{Words.{CanBeSpelled, rules, spelled_rule, true}, RuleTexts.{rule_named, rule_spelled, times_extended, written}, ZoneTexts.{on_err}}
+use Rattle.tz_write.proofs.{Words.{arith, rules, spelled_rule, true}, RuleTexts.{rule_named, rule_spelled, times_extended, written}, ZoneTexts.{on_err}}
 use Rattle.tz_write.proofs.rule_text.TransitionRuleToTzString.to_tz_string.Goals as goal
 
 pub returns : goal.returns
@@ -12,6 +12,4 @@ returns-in_err-text-clause-memory c =
     on_err c.from_residual.result _ (true, spelled_rule rule, rule_spelled true rule fits (c.can_be_spelled.ensures.answer.0 (search rules)) (times_extended rule fits))
 
 pub returns-then-not-can_be_spelled : goal.returns-then-not-can_be_spelled
-returns-then-not-can_be_spelled c =
-    let rule = c.args.self.now in let none : ¬ (CanBeSpelled rule) = search (rules, c.can_be_spelled.ensures.answer) in
-    record { written = λ extended bytes h. none (rule_named extended bytes rule h); reason = none; memory = tt }
+returns-then-not-can_be_spelled c = grind (arith, rule_named)

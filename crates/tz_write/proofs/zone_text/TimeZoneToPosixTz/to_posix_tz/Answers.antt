@@ -1,4 +1,4 @@
-use Rattle.tz_write.proofs.{Words.{IsRule, None, Some, on_err_weaker, rules, spelled_rule}, ZoneTexts.{written_zone, zone_is}}
+use Rattle.tz_write.proofs.{Words.{IsRule, Some, arith, on_err_weaker, rules, spelled_rule}, ZoneTexts.{written_zone, zone_is}}
 use Rattle.tz_write.proofs.zone_text.TimeZoneToPosixTz.to_posix_tz.Goals as goal
 
 pub returns-in-Some : goal.returns-in-Some
@@ -11,6 +11,4 @@ returns-in-Some c =
     })
 
 pub returns-in-None : goal.returns-in-None
-returns-in-None c =
-    rw (← zone_is c.args.self.now c.local_time_types-types.result.now None (c.is_rule_alone.ensures.0 (search rules)) c.local_time_types-types.ensures.types c.in-None.ensures)
-    (record { written = c.text_of_utc.ensures.written; reason = c.text_of_utc.ensures.reason; memory = tt })
+returns-in-None c = grind (arith, zone_is)
