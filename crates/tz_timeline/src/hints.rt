@@ -1,7 +1,7 @@
 //! Hints at the places of items that come in order of time.
 //!
 //! The time from the first item on is cut into stretches of equal length, one for each item or for
-//! two of them, or in a long list for up to 32, and of each stretch a hint says which item is the
+//! two of them, or in a long list for up to 16, and of each stretch a hint says which item is the
 //! last one before it. The latest item at a second of a stretch is then the one of its hint, or one
 //! of the few up to that of the next hint.
 
@@ -15,7 +15,7 @@ use crate::timeline::Timed;
 use std::alloc::{AllocError, Global};
 use std::cmp::max;
 
-// A longer list has a stretch for 16 to 32 items, so that its hints take little memory.
+// A longer list has a stretch for 8 to 16 items, so that its hints take little memory.
 const LONG: usize = 65_536;
 
 // The place of the last item before each stretch, or of the first item where none comes before it.
@@ -102,7 +102,7 @@ fn most_stretches(count: usize) -> u64
     ensures { result ≤ count }
 {
     if count > LONG {
-        return count as u64 / 16;
+        return count as u64 / 8;
     }
     count as u64
 }

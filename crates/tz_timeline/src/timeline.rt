@@ -185,7 +185,7 @@ impl<T: Timed> Timeline<T> {
 
     // The same, where the latest item is one of those.
     //
-    // Three steps are written out: there the compiler makes of each a choice of two values, and in a
+    // Four steps are written out: there the compiler makes of each a choice of two values, and in a
     // loop a branch, which the processor would guess wrong every other time. More are rarely due.
     #[inline(always)]
     fn passed_near(&self, second: i64, near: Near, probes: &mut Probes) -> Passed<'_, T>
@@ -201,6 +201,9 @@ impl<T: Timed> Timeline<T> {
         let mut left = self.narrowed(second, once, probes);
         if left.count > 1 {
             left = self.narrowed(second, left, probes);
+            if left.count > 1 {
+                left = self.narrowed(second, left, probes);
+            }
         }
         while left.count > 1 {
             left = self.narrowed(second, left, probes);

@@ -46,7 +46,8 @@ impl Idle {
     }
 }
 
-// Whether some transition changes nothing.
+// Whether some transition changes nothing. It is not inlined, so that its loop has the registers.
+#[inline(never)]
 fn has_idle(lists: Lists) -> bool
     requires { IsValid (zone_in lists) }
 {

@@ -1,6 +1,6 @@
-use Rattle.tz_timeline.proofs.{Words.{Counts, ap, arith, length, to_z-of_z, ◌∙◌}, SearchSteps.{digits-three, near_one, one_step, two_steps}}
+use Rattle.tz_timeline.proofs.{Words.{Counts, ap, arith, length, to_z-of_z, ◌∙◌}, SearchSteps.{digits-halved, digits-three, near_one, one_step, two_steps}}
 use Rattle.tz_timeline.proofs.timeline.Timeline.passed_near.Goals as goal
-use Rattle.tz_timeline.proofs.timeline.Timeline.passed_near.Goals.{then-left-gt1, else-left-gt1}
+use Rattle.tz_timeline.proofs.timeline.Timeline.passed_near.Goals.{then-left-gt1+then-left-gt1-2, then-left-gt1+else-left-gt1-2, else-left-gt1}
 
 pub narrowed-once-requires-clause-room : goal.narrowed-once-requires-clause-room
 narrowed-once-requires-clause-room g c = let three = digits-three (length c.args.self.now) c.requires.many in grind arith
@@ -9,27 +9,26 @@ pub narrowed-left-requires-clause-room : goal.narrowed-left-requires-clause-room
 narrowed-left-requires-clause-room g c = let three = digits-three (length c.args.self.now) c.requires.many in grind arith
 
 pub narrowed-left-requires-then-left-gt1-clause-room : goal.narrowed-left-requires-then-left-gt1-clause-room
-narrowed-left-requires-then-left-gt1-clause-room g c =
-    let three = digits-three (length c.args.self.now) c.requires.many in
-    let once = ap g.T.Timed.looks c.narrowed-once.ensures.cost ∙ g.met.T.Timed.counts_looks c.args.probes.now 1 in
-    let twice = ap g.T.Timed.looks c.narrowed-left.ensures.cost ∙ g.met.T.Timed.counts_looks c.narrowed-once.new.probes 1 in
-    omega (arith, c.requires.room)
+narrowed-left-requires-then-left-gt1-clause-room g c = let three = digits-three (length c.args.self.now) c.requires.many in grind (arith, g.met.T.Timed.counts_looks)
+
+pub narrowed-left-requires-then-left-gt1-2-clause-room : goal.narrowed-left-requires-then-left-gt1-2-clause-room
+narrowed-left-requires-then-left-gt1-2-clause-room g c =
+    let most = two_steps c.args.near.count c.narrowed-left.result.count (length c.args.self.now) c.requires.near.some c.requires.narrow c.requires.many (let once = c.narrowed-once.ensures.count in let twice = c.narrowed-left.ensures.count in omega arith) in
+    grind (arith, one_step, digits-halved, g.met.T.Timed.counts_looks)
 
 pub loop-left-init : goal.loop-left-init
 loop-left-init g c =
     let most = two_steps c.args.near.count c.narrowed-left.result.count (length c.args.self.now) c.requires.near.some c.requires.narrow c.requires.many (let once = c.narrowed-once.ensures.count in let twice = c.narrowed-left.ensures.count in omega arith) in
-    let counts = c.narrowed-left.ensures.cost ∙ ap (λ (p : Counts). g.T.Timed.counted p 1) c.narrowed-once.ensures.cost ∙ g.met.T.Timed.counts_up c.args.probes.now 1 1 in
+    let two = c.narrowed-left.ensures.cost ∙ ap (λ (p : Counts). g.T.Timed.counted p 1) c.narrowed-once.ensures.cost ∙ g.met.T.Timed.counts_up c.args.probes.now 1 1 in
     elim c.if-left-gt1.branch [
-      | then-left-gt1 w ↦
-          let third = w.narrowed-left-then-left-gt1.ensures in
-          let step = one_step c.narrowed-left.result.count w.narrowed-left-then-left-gt1.result.count w.if-left-gt1.true third.count in
-          record {
-            near = rw w.left-is third.near;
-            looks = 3;
-            most = rw w.left-is (omega arith);
-            counts = w.probes-is ∙ third.cost ∙ ap (λ (p : Counts). g.T.Timed.counted p 1) counts ∙ g.met.T.Timed.counts_up c.args.probes.now 2 1;
-          }
-      | else-left-gt1 w ↦ record { near = rw w.left-is c.narrowed-left.ensures.near; looks = 2; most = rw w.left-is most; counts = w.probes-is ∙ counts }
+      | then-left-gt1+then-left-gt1-2 w ↦
+          let three = w.narrowed-left-then-left-gt1.ensures.cost ∙ ap (λ (p : Counts). g.T.Timed.counted p 1) two ∙ g.met.T.Timed.counts_up c.args.probes.now 2 1 in
+          let four = w.narrowed-left-then-left-gt1-2.ensures.cost ∙ ap (λ (p : Counts). g.T.Timed.counted p 1) three ∙ g.met.T.Timed.counts_up c.args.probes.now 3 1 in
+          record { near = grind arith; looks = 4; most = grind (arith, one_step); counts = w.probes-is ∙ four }
+      | then-left-gt1+else-left-gt1-2 w ↦
+          let three = w.narrowed-left-then-left-gt1.ensures.cost ∙ ap (λ (p : Counts). g.T.Timed.counted p 1) two ∙ g.met.T.Timed.counts_up c.args.probes.now 2 1 in
+          record { near = grind arith; looks = 3; most = grind (arith, one_step); counts = w.probes-is ∙ three }
+      | else-left-gt1 w ↦ record { near = grind arith; looks = 2; most = grind arith; counts = w.probes-is ∙ two }
     ]
 
 pub loop-left-preserved : goal.loop-left-preserved
