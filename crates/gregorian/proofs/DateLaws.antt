@@ -4,7 +4,7 @@ use Rattle.std.proofs.lemmas.Bool.{cases_order}
 use Rattle.gregorian.specs.{Year.{is_leap, days_in_year, year_start, LiesIn, IsYear, IsDay}, Month.{days_in_month, days_of_months}, Date.{IsDate, day_number}}
 use Rattle.gregorian.specs.DateOf.{date_with, year_of, day_of_year, month_of, day_of_month}
 pub use Rattle.gregorian.specs.Steps.Dates.{months_step, months_all, place_is}
-use Rattle.gregorian.specs.{Steps.Dates.{in_year}, Steps.Cycle.{days_of_years}}
+use Rattle.gregorian.specs.{Steps.Cycle.{days_of_years}}
 use Rattle.gregorian.proofs.{Floor.{floors}, YearLaws.{year_step, lies_in, one_year, starts_rise, day_of_years}, Cycle.{january_start, year_found}}
 use Rattle.gregorian.proofs.MonthDays.{leap_day, leap_at_most, months_early, months_late, march_place, late_day, first_months}
 
@@ -24,8 +24,7 @@ pub date_lies : (y : ℤ) (m d : ℕ) → IsDate y m d → LiesIn (day_number y 
 unfolding day_number
 date_lies y m d h =
     let step = months_step (is_leap y) m h.0 in let rise = months_rise (is_leap y) m 12 h.1 in
-    let all = months_all y in let next = year_step y in
-    (omega (arith, floors), omega (arith, floors))
+    let all = months_all y in grind (arith, floors, year_step)
 
 -- an earlier month of the year has the smaller days
 month_before : (b : Bool) (m d m₂ d₂ : ℕ) → 1 ≤ m → 1 ≤ d → d ≤ days_in_month b m → m < m₂
@@ -54,8 +53,7 @@ pub one_date : (y : ℤ) (m d : ℕ) (y₂ : ℤ) (m₂ d₂ : ℕ) → IsDate y
 one_date y m d y₂ m₂ d₂ h k e =
     let same = one_year (day_number y m d) y y₂ (date_lies y m d h) (rw e (date_lies y₂ m₂ d₂ k)) in
     let here : IsDate y₂ m d = rw same at h in let f : day_number y₂ m d ≡ day_number y₂ m₂ d₂ = rw same at e in
-    let place = same_place (is_leap y₂) m d m₂ d₂ here.0 here.2 here.3 k.0 k.2 k.3 (places_of y₂ m d m₂ d₂ f) in
-    (same, place.0, place.1)
+    grind (arith, floors, same_place (is_leap y₂) m d m₂ d₂ here.0 here.2 here.3 k.0 k.2 k.3 (places_of y₂ m d m₂ d₂ f))
 
 -- the date that a day number stands for
 pub date_is : (day : ℤ)
@@ -64,24 +62,17 @@ pub date_is : (day : ℤ)
 unfolding month_of day_of_month
 date_is day =
     let own = date_with day in
-    let same : year_of day ≡ own.year =
-    one_year day (year_of day) own.year (lies_in day) (rw own.number at (date_lies own.year own.month own.day own.is_date)) in
-    rw same (own.is_date, own.number)
+    grind (arith, floors, one_year day (year_of day) own.year (lies_in day) (rw own.number at (date_lies own.year own.month own.day own.is_date)))
 
 -- and it is the only one
 pub date_only : (day : ℤ) (y : ℤ) (m d : ℕ) → IsDate y m d → day_number y m d ≡ day
     → (year_of day ≡ y) × (month_of day ≡ m) × (day_of_month day ≡ d)
-date_only day y m d h e =
-    let own = date_is day in
-    one_date (year_of day) (month_of day) (day_of_month day) y m d own.0 h (rw e own.1)
+date_only day y m d h e = let own = date_is day in grind (arith, floors, one_date)
 
 -- the dates of the years from a to b
 pub date_between : (a b y : ℤ) (m d : ℕ) → a ≤ℤ y → y ≤ℤ b → IsDate y m d
     → (year_start a ≤ℤ day_number y m d) × (day_number y m d <ℤ year_start (b +ℤ pos 1))
-date_between a b y m d low high h =
-    let lies = date_lies y m d h in let below = starts_rise a y low in
-    let above = starts_rise (y +ℤ pos 1) (b +ℤ pos 1) (omega (arith, floors)) in
-    (omega (arith, floors), omega (arith, floors))
+date_between a b y m d low high h = grind (arith, floors, date_lies y m d h, starts_rise a y low, starts_rise (y +ℤ pos 1) (b +ℤ pos 1) (omega (arith, floors)))
 
 -- the dates of the years of 32 bits
 pub date_in_range : (y : ℤ) (m d : ℕ) → IsYear y → IsDate y m d → IsDay (day_number y m d)
@@ -91,10 +82,7 @@ date_in_range y m d fits h = day_of_years (day_number y m d) y (date_lies y m d 
 pub day_of_year_is : (day : ℤ)
     → (year_start (year_of day) +ℤ pos (day_of_year day) ≡ day) × (day_of_year day < days_in_year (year_of day))
 unfolding day_of_year
-day_of_year_is day =
-    let lies = lies_in day in let y = year_of day in
-    let p = in_year (year_start y) (year_start (y +ℤ pos 1)) day (days_in_year y) lies.0 lies.1 (year_step y) in
-    (p.1, p.0)
+day_of_year_is day = let lies = lies_in day in grind (arith, floors, year_step)
 
 -- the days left over from whole years are the day's place in its year
 pub place_found : (day : ℤ) (n passed k : ℕ) → day +ℤ pos 784_353_144_032 ≡ pos k → days_of_years n + passed ≡ k
@@ -102,9 +90,7 @@ pub place_found : (day : ℤ) (n passed k : ℕ) → day +ℤ pos 784_353_144_03
 place_found day n passed k e f below =
     let y = pos (n + 1) -ℤ pos 2_147_484_000 in
     let lies = year_found day y n passed k e f below (omega (arith, floors)) in
-    let start = january_start y n (omega (arith, floors)) in
-    let own = rw (← one_year day y (year_of day) lies (lies_in day)) at (day_of_year_is day).0 in
-    omega (arith, floors)
+    grind (arith, floors, january_start y n (omega (arith, floors)), one_year day y (year_of day) lies (lies_in day), day_of_year_is day)
 
 -- within a month the number goes with the day
 pub number_at : (y : ℤ) (m d : ℕ) → 1 ≤ d → day_number y m d ≡ day_number y m 1 +ℤ pos (d - 1)
@@ -115,18 +101,10 @@ number_at y m d first = omega (arith, floors)
 pub place_early : (y : ℤ) (k : ℕ) → k < 59 + leap_day (is_leap y)
     → IsDate y (k / 31 + 1) (k % 31 + 1) × (day_number y (k / 31 + 1) (k % 31 + 1) ≡ year_start y +ℤ pos k)
 unfolding day_number
-place_early y k h =
-    let most = leap_at_most (is_leap y) in
-    let place = months_early (is_leap y) (k / 31 + 1) (omega arith) (omega arith) in
-    let fits = first_months (is_leap y) k h in
-    ((omega arith, omega arith, omega arith, fits), omega (arith, floors))
+place_early y k h = grind (arith, floors, leap_at_most, months_early, first_months)
 
 pub place_late : (y : ℤ) (k n : ℕ) → n + 59 + leap_day (is_leap y) ≡ k → n < 306
     → IsDate y ((5 * n + 461) / 153) ((5 * n + 461) % 153 / 5 + 1)
     × (day_number y ((5 * n + 461) / 153) ((5 * n + 461) % 153 / 5 + 1) ≡ year_start y +ℤ pos k)
 unfolding day_number
-place_late y k n e h =
-    let place = march_place n (omega arith) in
-    let before = months_late (is_leap y) ((5 * n + 461) / 153) (omega arith) (omega arith) in
-    let fits = late_day (is_leap y) n (omega arith) in
-    ((omega arith, omega arith, omega arith, fits), omega (arith, floors))
+place_late y k n e h = grind (arith, floors, march_place, months_late, late_day)

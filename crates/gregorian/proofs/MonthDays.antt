@@ -1,5 +1,6 @@
 -- The days before a month, counted from January and, where March is month 3 and the next February month 14, from March.
-use Rattle.std.proofs.{Common.{◌≡◌, ℕ, zero, suc, ◌+◌, ◌-◌, ◌*◌, ◌/◌, ◌%◌, ◌<◌, ◌≤◌, Bool, true, false, cond, arith, refl}, lemmas.Bool.Decides.{nat_tests}}
+use Rattle.std.proofs.{Common.{◌≡◌, ℕ, zero, suc, ◌+◌, ◌-◌, ◌*◌, ◌/◌, ◌%◌, ◌<◌, ◌≤◌, Bool, cond, arith}, lemmas.Bool.Decides.{nat_tests}}
+use Rattle.gregorian.proofs.Floor.{floors}
 use Rattle.gregorian.specs.Month.{days_in_month, days_of_months}
 
 -- the days from 1 March to the first of a month from 3 to 14
@@ -11,16 +12,12 @@ abbrev pub leap_day : Bool → ℕ
 leap_day leap = cond leap 1 0
 
 pub leap_at_most : (b : Bool) → leap_day b ≤ 1
-leap_at_most true = omega arith
-leap_at_most false = omega arith
+leap_at_most b = grind (arith, floors)
 
 -- January and February, as the months 13 and 14
 pub months_early : (b : Bool) (m : ℕ) → 1 ≤ m → m ≤ 2 → days_of_months b (m - 1) + 306 ≡ march_months (m + 12)
 unfolding days_of_months
-months_early b zero low high = absurd (omega arith)
-months_early b (suc zero) low high = refl
-months_early b (suc (suc zero)) low high = refl
-months_early b (suc (suc (suc n))) low high = absurd (omega arith)
+months_early b m low high = grind (arith, floors)
 
 month_step : (b : Bool) (k : ℕ) → k < 10 → march_months (k + 4) ≡ march_months (k + 3) + days_in_month b (suc (suc (suc k)))
 month_step b k h = grind (arith, nat_tests)
@@ -32,9 +29,7 @@ from_march b (suc k) h = let same : suc k + 3 ≡ k + 4 = omega arith in rw same
 
 -- the months from March on lie after a January and a February
 pub months_late : (b : Bool) (m : ℕ) → 3 ≤ m → m ≤ 13 → days_of_months b (m - 1) ≡ march_months m + 59 + leap_day b
-months_late b m low high =
-    let before : m - 1 ≡ suc (suc (m - 3)) = omega arith in let same : m - 3 + 3 ≡ m = omega arith in
-    rw before (rw same at (from_march b (m - 3) (omega arith)))
+months_late b m low high = grind (arith, floors, from_march b (m - 3) (omega arith))
 
 -- the n-th day from March, from 0, by its month from 3 to 14 and its day of that month
 pub march_place : (n : ℕ) → n < 366 → march_months ((5 * n + 461) / 153) + (5 * n + 461) % 153 / 5 ≡ n

@@ -33,9 +33,7 @@ add-next y n = omega (arith, floors)
 
 year_start-later : (y : ℤ) (n : ℕ) → year_start y ≤ℤ year_start (y +ℤ pos n)
 year_start-later y zero = rw (add-none y) (omega (arith, floors))
-year_start-later y (suc n) =
-    let later = year_start-later y n in let next = rw (add-next y n) at (year_start-less (y +ℤ pos n)) in
-    omega (arith, floors)
+year_start-later y (suc n) = grind (arith, floors, year_start-later y n, add-next y n, year_start-less (y +ℤ pos n))
 
 pub starts_rise : (a b : ℤ) → a ≤ℤ b → year_start a ≤ℤ year_start b
 starts_rise a b h = rw (gap_of a b h) at (year_start-later a (unsigned_abs (b -ℤ a)))
@@ -60,8 +58,7 @@ last_start = refl
 pub day_of_years : (day y : ℤ) → LiesIn day y → IsYear y → IsDay day
 day_of_years day y lies fits =
     let first = starts_rise (neg_ℤ (pos 2_147_483_648)) y fits.0 in
-    let last = starts_rise (y +ℤ pos 1) (pos 2_147_483_648) (omega (arith, floors)) in
-    (omega (arith, floors, first_start), omega (arith, floors, last_start))
+    grind (arith, floors, starts_rise (y +ℤ pos 1) (pos 2_147_483_648) (omega (arith, floors)), first_start, last_start)
 
 pub year_of_days : (day y : ℤ) → LiesIn day y → IsDay day → IsYear y
 year_of_days day y lies within = (

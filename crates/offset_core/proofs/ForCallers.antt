@@ -1,8 +1,7 @@
 -- Lemmas for the crates above.
-use Rattle.std.proofs.Common.{◌≡◌, arith, refl, Option}
+use Rattle.std.proofs.Common.{◌≡◌, arith, Option}
 use Rattle.std.specs.Prelude.{SomeIff, option_map}
 use Rattle.offset_core.specs.declared.local_result.LocalResult.{LocalResult}
-use Rattle.offset_core.specs.declared.local_result.LocalResult.TheVariants.{Single, Ambiguous, None as none}
 use Rattle.offset_core.specs.LocalResult.{map_of, all_or_none, IsAndThen}
 pub use Rattle.offset_core.proofs.Arounds.{HoldsOfTaken, map_around, map_outcome, map_taken, one_around, one_outcome, taken_holds, taken_in_range, taken_of_images, taken_right}
 pub use Rattle.offset_core.proofs.FixedOffsets.{one_offset}
@@ -19,15 +18,4 @@ pub and_then_told : {F O D Z : Type 0} (show : D → Z) (p : O → Type 0) (v : 
     (f : F) (K : F → Type 0) (offsets : LocalResult O) (result : LocalResult D) → K f
     → ((e g : F) (o : O) (d : Option D) → K e → step e o d g → K g × SomeIff (option_map show d) (p o) (v o))
     → IsAndThen step f offsets result → IsAndThen (λ _ o d _. SomeIff d (p o) (v o)) (tt {0}) offsets (map_of show result)
-and_then_told show p v step f K none result k is h =
-    record { answers = none; asked = refl; kept = rw (h.kept, h.asked) refl }
-and_then_told show p v step f K (Single o) result k is h = let a = h.asked in record {
-  answers = Single (option_map show a.0);
-  asked = (option_map show a.0, tt, (is f a.1 o a.0 k a.2).1, refl);
-  kept = rw (h.kept, a.3) (map_all show (Single a.0));
-}
-and_then_told show p v step f K (Ambiguous o q) result k is h = let a = h.asked in let first = is f a.2 o a.0 k a.4 in record {
-  answers = Ambiguous (option_map show a.0) (option_map show a.1);
-  asked = (option_map show a.0, option_map show a.1, tt, tt, first.1, (is a.2 a.3 q a.1 first.0 a.5).1, refl);
-  kept = rw (h.kept, a.6) (map_all show (Ambiguous a.0 a.1));
-}
+and_then_told show p v step f K offsets result k is h = grind (arith, map_all)

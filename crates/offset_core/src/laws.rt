@@ -43,13 +43,11 @@ pub trait Showing<T> {
 }
 
 /// At most one answer of a lookup by wall clock is right.
-#[tactic(auto, using(crate::proofs::WallAnswers::one_wall_answer))]
 pub fn one_wall_answer<T, C: Showing<T>>()
     ensures { (x y : LocalResult T) → IsWallAnswer C.shows x → IsWallAnswer C.shows y → x ≡ y }
 {}
 
 /// The three cases of an answer exclude each other: never shown, shown once, shown several times.
-#[tactic(auto, using(crate::proofs::WallAnswers::exclusions))]
 pub fn wall_answers_exclude<T, C: Showing<T>>()
     ensures never_or_once { (a : T) → IsNeverShown C.shows → IsShownOnce C.shows a → ⊥ }
     ensures never_or_between { (a b : T) → IsNeverShown C.shows → IsShownBetween C.shows a b → ⊥ }

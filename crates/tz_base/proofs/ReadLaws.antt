@@ -1,5 +1,5 @@
 -- Steps of a reading: what a value or an error has passed.
-use Rattle.std.proofs.Common.{◌≡◌, ℕ, ◌<◌, ◌≤◌, refl, List, [], ◌∷◌, ◌++◌, length, drop, Bool, true, false, Ok, Err, Result, inl, inr, ◌⊎◌}
+use Rattle.std.proofs.Common.{arith, ◌≡◌, ℕ, ◌<◌, ◌≤◌, refl, List, [], ◌∷◌, ◌++◌, length, drop, Bool, true, false, Ok, Err, Result, inl, inr, ◌⊎◌}
 use Rattle.std.proofs.lemmas.Bool.{cases_lt}
 use Rattle.tz_base.specs.{Fronts.{◌>>=◌}, declared.error.Error.{Error}}
 
@@ -10,12 +10,10 @@ pub err_same : {A : Type 0} (r : Result A Error) (d e : Error) → r ≡ Err d �
 err_same r d e h k = cc
 
 pub bind_ok : {A B : Type 0} (r : Result A Error) (f : A → Result B Error) (y : B) → (r >>= f) ≡ Ok y → (x : A) × (r ≡ Ok x) × (f x ≡ Ok y)
-bind_ok (Ok x) f y h = (x, refl, h)
-bind_ok (Err e) f y h = cc
+bind_ok r f y h = grind arith
 
 pub bind_err : {A B : Type 0} (r : Result A Error) (f : A → Result B Error) (e : Error) → (r >>= f) ≡ Err e → (r ≡ Err e) ⊎ ((x : A) × (r ≡ Ok x) × (f x ≡ Err e))
-bind_err (Ok x) f e h = inr (x, refl, h)
-bind_err (Err d) f e h = inl (cc)
+bind_err r f e h = grind arith
 
 pub drop_front : (xs ys : List ℕ) → drop (length xs) (xs ++ ys) ≡ ys
 drop_front [] ys = refl
@@ -23,8 +21,7 @@ drop_front (x ∷ xs) ys = drop_front xs ys
 
 -- a test that can't come out so comes out otherwise
 pub false_unless : (b : Bool) → (b ≡ true → ⊥) → b ≡ false
-false_unless true h = absurd (h refl)
-false_unless false h = refl
+false_unless b h = grind arith
 
 pub at_least : {a b : ℕ} → (b < a → ⊥) → a ≤ b
 at_least {a = a} {b = b} not_less = elim (cases_lt b a) [ inl less ↦ absurd (not_less less) | inr at_most ↦ at_most ]

@@ -14,8 +14,7 @@ value_grows n [] = omega arith
 value_grows n (d ∷ ds) = let h = value_grows (10 * n + (d - 48)) ds in omega arith
 
 pub above_is : (max : ℕ) (ds : List ℕ) → 0 < length ds → max < value_from 0 ds → number_within max ds ≡ Err (ParseInt NumberWithinItsLimit)
-above_is max [] s h = absurd (omega arith)
-above_is max (d ∷ ds) s h = grind (arith, nat_tests)
+above_is max ds s h = grind (arith, nat_tests)
 
 -- a run that passes, up to an end or to a byte that does not pass, is the longest one
 pub run_is : (p : ℕ → Bool) (xs ys : List ℕ) → ((k : ℕ) → k < length xs → p (get_or xs k 0) ≡ true) → (0 < length ys → p (get_or ys 0 0) ≡ false) → (run_of p (xs ++ ys) ≡ xs) × (after_run p (xs ++ ys) ≡ ys)
@@ -32,9 +31,7 @@ all_of p (b ∷ bs) h = (h 0 (omega arith), all_of p bs (λ k l. h (suc k) (omeg
 
 pub int_at_is : (max : ℕ) (bytes ds rest : List ℕ) (r : Result ℕ Error) → ds ++ rest ≡ bytes → ((k : ℕ) → k < length ds → is_digit (get_or ds k 0) ≡ true) → (0 < length rest → is_digit (get_or rest 0 0) ≡ false) → number_within max ds ≡ r → int_at max bytes ≡ (r >>= λ n. Ok (n, rest))
 unfolding int_at
-int_at_is max bytes ds rest r e passes stops h =
-    let runs = run_is is_digit ds rest passes stops in
-    rw (← e, runs.0, runs.1, h) refl
+int_at_is max bytes ds rest r e passes stops h = grind (arith, run_is is_digit ds rest passes stops)
 
 -- the same, of the bytes that both make
 pub runs_are : (p : ℕ → Bool) (bytes xs ys : List ℕ) → xs ++ ys ≡ bytes → ((k : ℕ) → k < length xs → p (get_or xs k 0) ≡ true) → (0 < length ys → p (get_or ys 0 0) ≡ false) → (xs ≡ run_of p bytes) × (ys ≡ after_run p bytes)

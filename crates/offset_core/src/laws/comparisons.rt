@@ -1,6 +1,6 @@
 //! Theorems: the contract of each function is proved, and none is called. Each is empty, except one
 //! that names a constant.
-ghost use Rattle.std.specs.Prelude.{◌≡◌, ◌↔◌, ◌++◌, IsTrue, ◌<ℤ◌, pos, neg_ℤ, unsigned_abs};
+ghost use Rattle.std.specs.Prelude.{◌≡◌, ◌↔◌, ◌++◌, IsTrue, pos, neg_ℤ, unsigned_abs};
 ghost use Rattle.std.specs.Int.{int_div_euclid, int_rem_euclid};
 ghost use Rattle.std.specs.Ordering.{int_cmp};
 ghost use Rattle.std.specs.Hash as fed;
@@ -71,7 +71,6 @@ pub fn out_of_range()
 
 /// Answers of a lookup are equal if and only if they are of one kind and their values are equal,
 /// and a clone is of one kind with clones of the values. A hash looks at the kind and at each value.
-#[tactic(auto, using(crate::proofs::LocalResults::alike_by))]
 pub fn local_results<T: PartialEq + Clone + Hash>()
     ensures equal { (x y : AnyResult T)
         → IsTrue (⟦<LocalResult<T> as PartialEq>⟧.eq x y) ↔ AreAlike
@@ -106,7 +105,6 @@ pub fn resolve_errors()
 
 /// What zones give around local times is equal if and only if it is of one kind and the values, or
 /// the gaps, are equal; a clone is of one kind with clones of these, and fails only if one of these does.
-#[tactic(auto, using(crate::proofs::Arounds::alike_by))]
 pub fn arounds<T: PartialEq + Clone, G: PartialEq + Clone>()
     ensures equal { (x y : AnyAround T G) → IsTrue (⟦<Around<T, G> as PartialEq>⟧.eq x y)
         ↔ around.AreAlikeAround (λ a b. IsTrue (T.PartialEq.eq a b)) (λ a b. IsTrue (G.PartialEq.eq a b)) x y }

@@ -1,5 +1,5 @@
 //! Sums of lengths of time.
-ghost use Rattle.std.specs.Prelude.{◌≡◌, List, map};
+ghost use Rattle.std.specs.Prelude.{◌≡◌, List};
 ghost use Rattle.std.specs.Iterator.{IsFinite, Drains, HoldsAlong};
 ghost use Rattle.offset_core.specs.declared.time_delta.TimeDelta.{TimeDelta as AnyDelta};
 ghost use Rattle.offset_core.specs.Nanoseconds.{FitsTimeDelta};

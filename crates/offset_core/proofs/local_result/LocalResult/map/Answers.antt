@@ -3,6 +3,3 @@ use Rattle.offset_core.proofs.local_result.LocalResult.map.Goals as goal
 
 pub f-one-requires : goal.f-one-requires
 f-one-requires g c = c.requires.first _ _ c.in-Ambiguous.is
-
-pub f-other-requires : goal.f-other-requires
-f-other-requires g c = c.requires.last _ _ _ _ c.in-Ambiguous.is c.f-one.ensures

@@ -1,10 +1,9 @@
-use Rattle.std.proofs.{Common.{rules, sym, ◌∙◌, Ok, ap}, lemmas.Result.{err_from_is_err_and}}
+use Rattle.std.proofs.{Common.{arith, sym, ◌∙◌, Ok, ap}, lemmas.Result.{err_from_is_err_and}}
 use Rattle.tz_base.proofs.RunLaws.{int_at_is, all_of}
-use Rattle.tz_base.specs.Fronts.{is_digit}
 use Rattle.tz_base.proofs.cursor.Cursor.read_int.Goals as goal
 
 pub number-requires : goal.number-requires
-number-requires c = all_of is_digit _ (λ k h. let r = c.read_while-digits.ensures.run k h in search rules)
+number-requires c = grind (arith, all_of)
 
 pub returns-in_err-n-clause-value : goal.returns-in_err-n-clause-value
 returns-in_err-n-clause-value c =
