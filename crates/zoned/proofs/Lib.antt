@@ -1,5 +1,4 @@
 pub mod Words
-mod Buckets
 pub mod ForCallers
 mod Shown
 mod FirstChange

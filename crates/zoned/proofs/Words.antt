@@ -3,15 +3,15 @@ pub use Rattle.std.proofs.Common.{None, Option, Some}
 pub use Rattle.offset_core.specs.{TimeDelta.{nanos_of}, declared.local_result.LocalResult.{LocalResult}}
 pub use Rattle.naive_base.specs.Range.{last_second}
 pub use Rattle.tz_base.specs.declared.change.Change.{Change}
-pub use Rattle.tz_info.proofs.Words.{AreChanges, Contains}
+pub use Rattle.tz_info.proofs.Words.{AreChanges}
 pub use Rattle.zoned_time.proofs.{ForCallers.{relocal_shown, resolved_once, stays}, Words.{AreInstantsOf, Each, IsNeverShown, IsRelocal, IsShownBetween}}
-pub use Rattle.zoned_time.{proofs.Words.{IsShownOnce, ShowsByOffset, ahead, home_law_of, wall_of}, specs.DateTime.{IsIn, IsMoved, IsOnlyDaysLater}}
+pub use Rattle.zoned_time.{proofs.Words.{IsShownOnce, ShowsByOffset, ahead, home_law_of, wall_of}, specs.DateTime.{IsIn, IsMoved}}
 pub use Rattle.zoned_time.specs.declared.datetime.Instant.{Instant}
-pub use Rattle.zoned_round.proofs.Words.{IsGone, IsMultiple, by_lt_z, floor_mod_parts, floors, moved, moved-leap, moved_leap, moved_leap-within, multiple_below}
-pub use Rattle.zoned_round.{proofs.Words.{of_total, total, total-moved}, specs.Multiples.{IsItselfOr}}
+pub use Rattle.zoned_round.proofs.Words.{IsMultiple, floors, moved, multiple_below}
+pub use Rattle.zoned_round.{proofs.Words.{total}}
 pub use Rattle.zoned_ref.proofs.Words.{HasInstant, IsAfter, IsAt, IsFirst, IsInRange, IsNarrow, IsWallAnswer, Law, Meaning, Reading, SomeIff, TypeAt, Zoned}
-pub use Rattle.zoned_ref.proofs.Words.{all_or_none, floor_div, instant_of, map_of, reading, type_once, zoned, ◌*ℤ◌, ◌-ℤ◌}
+pub use Rattle.zoned_ref.proofs.Words.{all_or_none, floor_div, instant_of, map_of, reading, type_once, zoned, ◌-ℤ◌}
 pub use Rattle.zoned_kept.specs.{KeepError.{IsRefused}, declared.keep_error.KeepError.{KeepError}}
-pub use Rattle.tz_write.proofs.Words.{List, MatchOption, Zone, ap, arith, cases_lt, get_or, inl, inr, ints, length, negsuc, pos, refl, subst, suc, sym}
-pub use Rattle.tz_write.proofs.Words.{unsigned_abs, zero, ℕ, ℤ, [], ◌+ℤ◌, ◌<ℤ◌, ◌<◌, ◌∙◌, ◌∷◌, ◌≡◌, ◌≢◌, ◌≤ℤ◌, ◌⊎◌}
+pub use Rattle.tz_write.proofs.Words.{List, MatchOption, Zone, ap, arith, get_or, inr, ints, length, pos, refl, subst, suc, sym, unsigned_abs, zero, ℕ, ℤ, []}
+pub use Rattle.tz_write.proofs.Words.{◌+ℤ◌, ◌<ℤ◌, ◌<◌, ◌∙◌, ◌∷◌, ◌≡◌, ◌≢◌, ◌≤ℤ◌, ◌⊎◌}
 pub use Rattle.zoned.specs.Within.{IsFromFirstToLast}

@@ -1,4 +1,6 @@
 //! A kept zone's lookups: those of the borrowed one.
+#![tactic(auto, using(crate::proofs::Kept::offsets_kept))]
+
 ghost use Rattle.std.specs.Prelude.{◌≡◌, MatchOption, refl};
 ghost use Rattle.offset_core.specs.LocalResult.{map_of};
 ghost use Rattle.offset_core.specs.WallAnswer.{IsWallAnswer};

@@ -1,9 +1,8 @@
 -- The changes of a zone's types as instants, and that clocks stand between them.
 use Rattle.tz_info.specs.Steps.Changes.{IsAheadUpTo as IsBetween}
 use Rattle.zoned_ref.proofs.Words.{AreAround, AreOffsetsOf, Bool, Change, HasNoChange, IfSome, IsAfter, IsAhead, IsAt, IsInRange, IsNearest, IsNearestChange}
-use Rattle.zoned_ref.proofs.Words.{IsUpTo, Law, LocalType, MatchOption, Meaning, None, Option, Precedes, Some, StandAlike, StandWithin, TypeAt, Zone, Zoned, ap}
-use Rattle.zoned_ref.proofs.Words.{arith, change_of_instants, false, ints, of_secs, option_map, pos, stays, subst, sym, true, type_once, ℤ, ◌-ℤ◌, ◌∙◌, ◌≡◌}
-use Rattle.zoned_ref.proofs.Words.{◌≤ℤ◌}
+use Rattle.zoned_ref.proofs.Words.{IsUpTo, Law, LocalType, MatchOption, Meaning, Option, Precedes, StandAlike, StandWithin, TypeAt, Zone, Zoned, ap, arith}
+use Rattle.zoned_ref.proofs.Words.{change_of_instants, false, ints, of_secs, option_map, pos, stays, subst, sym, true, type_once, ℤ, ◌-ℤ◌, ◌∙◌, ◌≡◌, ◌≤ℤ◌}
 
 -- ---- the nearest change that instants tell
 -- in that direction from the second s on, as far as both its seconds are in range
@@ -31,12 +30,7 @@ TellsInRange change also c found = MatchOption found (IsInRange (c.at -ℤ pos 1
 
 pub nearest_told : {T : Type 0} (w : Bool) (change : T → Change) (also : T → Type 0) (in_force : ℤ → LocalType → Type 0) (s : ℤ) (c : Change) (found : Option T)
     → IsInRange s → IsNearestChange w in_force (IsAhead w s) c → TellsInRange change also c found → IsNearest w in_force (IsTold w s) (option_map change found)
-nearest_told w change also in_force s c None here h out = λ d is k.
-    let (ahead, before, at) = told w s d.at here k in
-    let both = sooner w s c.at d.at here h.inside (h.nearest d is ahead) before at in out both.0 both.1
-nearest_told w change also in_force s c (Some d) here h tells =
-    subst (λ e. IsNearestChange w in_force (IsTold w s) e) (sym tells.0)
-    (record { is = h.is; inside = is_told w s c.at h.inside tells.2 tells.3; nearest = λ e is k. h.nearest e is (told w s e.at here k).0 })
+nearest_told w change also in_force s c found here h tells = grind (arith, ints, told, sooner, is_told)
 
 -- ---- where no change comes the type in force stands
 stands_on : (z : Zone) (off : ℤ → ℤ) → AreOffsetsOf z off → (s u : ℤ) (t : LocalType) → IsInRange s → IsInRange u → s ≤ℤ u
@@ -70,9 +64,7 @@ not_beyond w s u c d a p h = grind (arith, ints)
 
 none_between : {T : Type 0} (w : Bool) (change : T → Change) (in_force : ℤ → LocalType → Type 0) (s u : ℤ) (found : Option T) → IsInRange s → IsInRange u
     → IsNearest w in_force (IsTold w s) (option_map change found) → IfSome found (λ c. IsAhead w u (change c).at) → HasNoChange in_force (IsBetween w s u)
-none_between w change in_force s u None here there none short = λ d is k. none d is (between w s u d.at here there k)
-none_between w change in_force s u (Some c) here there h short = λ d is k. not_beyond w s u (change c).at d.at short
-    (h.nearest d is (between w s u d.at here there k)) k
+none_between w change in_force s u found here there h short = grind (arith, ints, between, not_beyond)
 
 pub stand_within : {T : Type 0} (w : Bool) (change : T → Change) (z : Zone) (off : ℤ → ℤ) → AreOffsetsOf z off → (s : ℤ) → IsInRange s → (found : Option T)
     → IsNearest w (TypeAt z) (IsTold w s) (option_map change found) → StandWithin z off s (λ u. Precedes w s u × IfSome found (λ c. IsAhead w u (change c).at))
@@ -81,14 +73,8 @@ stand_within w change z off has s here found h = λ u there within.
 
 -- ---- two instants of the zone tell the change of its types at their seconds
 pub around_by : {O : Type 0} {m : Meaning O} (law : Law m) (u : ℤ) (d e : Zoned O) → IsAt law (of_secs (u -ℤ pos 1) 0) d → IsAt law (of_secs u 0) e → AreAround law d e
-around_by law u d e before at =
-    let same : e.utc.s ≡ u = ap (λ r. r.s) at.utc in
-    record { before = subst (λ v. IsAt law (of_secs (v -ℤ pos 1) 0) d) (sym same) before; at = subst (λ v. IsAt law (of_secs v 0) e) (sym same) at }
-
-abbrev change_at : ℤ → LocalType → LocalType → Change
-change_at u s t = record { at = u; before = s; after = t }
+around_by law u d e before at = grind (arith, ints)
 
 pub change_is : {O : Type 0} (type_of : O → LocalType) (c : Change) (d e : Zoned O) → e.utc.s ≡ c.at
     → type_of d.offset ≡ c.before → type_of e.offset ≡ c.after → change_of_instants type_of d e ≡ c
-change_is type_of c d e at before after =
-    ap (λ u. change_at u (type_of d.offset) (type_of e.offset)) at ∙ ap (λ t. change_at c.at t (type_of e.offset)) before ∙ ap (change_at c.at c.before) after
+change_is type_of c d e at before after = grind arith

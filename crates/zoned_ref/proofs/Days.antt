@@ -14,16 +14,13 @@ same_offset z off u t of_zone inside in_force =
 
 -- ---- days
 on_day_by_type : (z : Zone) (off : ℤ → ℤ) (day u : ℤ) → AreOffsetsOf z off → IsOnDay off day u → (t : LocalType) × OnDayByType z day u t
-on_day_by_type z off day u of_zone h =
-    let there = of_zone u h.in_zone in let same = there.offset in let inside = h.in_zone in
-    (there.type, record { fits = omega (arith, ints, inside); type = there.in_force; since = omega (arith, ints); before = omega (arith, ints) })
+on_day_by_type z off day u of_zone h = grind (arith, ints)
 
 on_day_by_offset : (z : Zone) (off : ℤ → ℤ) (day u : ℤ) (t : LocalType) → IsNarrow z → AreOffsetsOf z off → IsWideDay day → OnDayByType z day u t → IsOnDay off day u
 on_day_by_offset z off day u t narrow of_zone wide h =
     let within = type_within z u t narrow h.type in let since = h.since in let before = h.before in
     let inside : IsZoneSecond u = (omega (arith, ints, wide, within, since, before), omega (arith, ints, wide, within, since, before)) in
-    let same = same_offset z off u t of_zone inside h.type in
-    record { in_zone = inside; since = rw same since; before = rw same before }
+    grind (arith, ints, same_offset z off u t of_zone inside h.type)
 
 pub never_on_day : (z : Zone) (off : ℤ → ℤ) (day : ℤ) → AreOffsetsOf z off → IsNeverWithin (TypeAt z) (pos 86_400 *ℤ day) (pos 86_400 *ℤ day +ℤ pos 86_400) → IsNeverOnDay off day
 never_on_day z off day of_zone never u h = let t = on_day_by_type z off day u of_zone h in never u t.0 t.1
@@ -38,17 +35,14 @@ ends_of_day z off day s narrow of_zone wide h = record {
 
 -- ---- the first second at or after a local time
 reached_by_type : (z : Zone) (off : ℤ → ℤ) (l u : ℤ) → AreOffsetsOf z off → HasReached off l u → (t : LocalType) × ShowsAtOrAfter (TypeAt z) l u t
-reached_by_type z off l u of_zone h =
-    let there = of_zone u h.in_zone in let same = there.offset in let inside = h.in_zone in
-    (there.type, record { fits = omega (arith, ints, inside); type = there.in_force; reached = omega (arith, ints) })
+reached_by_type z off l u of_zone h = grind (arith, ints)
 
 -- a day after the local time clocks have reached it
 reached_a_day_on : (z : Zone) (off : ℤ → ℤ) (l : ℤ) → IsNarrow z → AreOffsetsOf z off → IsWide l → HasReached off l (l +ℤ pos 86_399)
 reached_a_day_on z off l narrow of_zone wide =
     let inside : IsZoneSecond (l +ℤ pos 86_399) = (omega (arith, ints, wide), omega (arith, ints, wide)) in
     let there = of_zone (l +ℤ pos 86_399) inside in
-    let within = type_within z (l +ℤ pos 86_399) there.type narrow there.in_force in
-    record { in_zone = inside; reached = rw there.offset (omega (arith, ints, within)) }
+    grind (arith, ints, type_within z (l +ℤ pos 86_399) there.type narrow there.in_force)
 
 pub first_to_reach : (z : Zone) (off : ℤ → ℤ) (l u : ℤ) (t : LocalType) → IsNarrow z → AreOffsetsOf z off → IsWide l → IsFirstAtOrAfter (TypeAt z) l u t → IsFirstToReach off l u
 first_to_reach z off l u t narrow of_zone wide h =

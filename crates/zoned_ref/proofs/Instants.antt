@@ -1,14 +1,12 @@
 -- The instants that a zone gives are those of the types in force.
 use Rattle.offset_core.specs.declared.local_result.LocalResult.TheVariants.{Ambiguous, Single}
-use Rattle.zoned_ref.proofs.Words.{AreInstantsAt, AreTypesFor, HasInstant, LocalResult, LocalType, Option, Reading, Shows, SomeIff, TypeAt, Zone, Zoned}
-use Rattle.zoned_ref.proofs.Words.{all_or_none, instant_of, one_wall_answer, refl, subst, type_once, ℤ, ◌≡◌}
+use Rattle.zoned_ref.proofs.Words.{AreInstantsAt, AreTypesFor, HasInstant, LocalResult, LocalType, Option, Reading, SomeIff, Zone, Zoned, all_or_none, arith}
+use Rattle.zoned_ref.proofs.Words.{instant_of, one_wall_answer, refl, type_once, ℤ}
 
 -- the instants of the types in force, where there is but one answer
 pub instants_for : (z : Zone) (l : Reading) (types : LocalResult LocalType) (instants : LocalResult (Zoned ℤ))
     → AreTypesFor z l types → AreInstantsAt l types instants → (other : LocalResult LocalType) → AreTypesFor z l other → AreInstantsAt l other instants
-instants_for z l types instants wall at other also =
-    let same : types ≡ other = one_wall_answer (Shows (TypeAt z) l.s) (λ u a b x y. type_once z u a b x.type y.type) types other wall also in
-    subst (λ (t : LocalResult LocalType). AreInstantsAt l t instants) same at
+instants_for z l types instants wall at other also = grind (arith, one_wall_answer, type_once)
 
 -- the instant of one type, and of two
 pub of_one : (l : Reading) (t : LocalType) (a : Option (Zoned ℤ)) → SomeIff a (HasInstant (λ k. k) l t.offset) (instant_of (λ k. k) l t.offset)

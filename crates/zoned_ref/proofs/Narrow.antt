@@ -1,16 +1,13 @@
 -- A zone is narrow if its least and its greatest offset are less than a day away from UTC.
-use Rattle.tz_info.specs.declared.rule.transition_rule.TransitionRule.TheVariants.{Alternate, Fixed}
 use Rattle.zoned_ref.proofs.Words.{All, All-append, All-contains, All-contains_itself, All-map, Contains-append_left, Contains-append_right, IsGreatest}
-use Rattle.zoned_ref.proofs.Words.{IsLeast, IsNarrow, IsWithinDay, List, LocalType, None, Option, Some, TransitionRule, Zone, arith, get_or, get_or-map, ints}
-use Rattle.zoned_ref.proofs.Words.{length-map, map, offsets, refl, rule_offsets, rule_types, subst, sym, ℤ, ◌++◌, ◌<◌, ◌≡◌}
+use Rattle.zoned_ref.proofs.Words.{IsLeast, IsNarrow, IsWithinDay, List, LocalType, Option, TransitionRule, Zone, arith, get_or, get_or-map, ints, length-map}
+use Rattle.zoned_ref.proofs.Words.{map, offsets, rule_offsets, rule_types, subst, sym, ℤ, ◌++◌, ◌<◌, ◌≡◌}
 
 abbrev of_types : List LocalType → List ℤ
 of_types types = map (λ t. t.offset) types
 
 of_rule : (rule : Option TransitionRule) → rule_offsets rule ≡ of_types (rule_types rule)
-of_rule None = refl
-of_rule (Some (Fixed only)) = refl
-of_rule (Some (Alternate a)) = refl
+of_rule rule = grind arith
 
 -- the offsets of some types are within a day, and so are the types
 within : (types : List LocalType) → All IsWithinDay (of_types types) → All (λ t. IsWithinDay t.offset) types

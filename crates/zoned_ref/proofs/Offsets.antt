@@ -3,16 +3,15 @@ use Rattle.std.proofs.Math.Logic.{∥∥₁_elim}
 use Rattle.tz_info.specs.declared.rule.transition_rule.TransitionRule.TheVariants.{Alternate, Fixed}
 use Rattle.zoned_ref.proofs.Words.{All, Alternate as AlternateRule, AreOffsetsOf, Bool, Coded-set, HasOffset, HasOffsets, HasOneOffset, IsNarrow, IsRefusedBy}
 use Rattle.zoned_ref.proofs.Words.{IsRuleOrNone, IsTypeOf, IsTypeRefused, IsValid, IsWithinDay, IsZoneSecond, List, LocalType, None, Option, Some}
-use Rattle.zoned_ref.proofs.Words.{TransitionRule, TypeAt, Zone, arith, by_leap_time, by_rule, coded_ℤ, false, floor_div, inl, inr, ints, leap_times_answer}
-use Rattle.zoned_ref.proofs.Words.{lies_in, offset_at, offset_with, one_offset, refl, rule_types, rule_year, slice_get, subst, suc, sym, true, type_decided}
-use Rattle.zoned_ref.proofs.Words.{type_listed, type_when, year_of, zero, ℕ, ℤ, [], ◌∙◌, ◌∷◌, ◌≡◌}
+use Rattle.zoned_ref.proofs.Words.{TransitionRule, TypeAt, Zone, arith, by_leap_time, by_rule, coded_ℤ, floor_div, inl, inr, ints, leap_times_answer, lies_in}
+use Rattle.zoned_ref.proofs.Words.{offset_at, offset_with, one_offset, refl, rule_types, rule_year, slice_get, subst, suc, type_decided, type_listed, type_when}
+use Rattle.zoned_ref.proofs.Words.{zero, ℕ, ℤ, [], ◌∙◌, ◌∷◌, ◌≡◌}
 
 -- a rule answers in the years of the range
 rule_not_refused : (rule : Option TransitionRule) (u : ℤ) → IsZoneSecond u → IsRefusedBy rule u → ⊥
 rule_not_refused (Some (Fixed t)) u inside h = h
 rule_not_refused (Some (Alternate a)) u inside h =
-    let lies = lies_in (floor_div u 86_400) in
-    h (year_of (floor_div u 86_400)) lies (rule_year u (year_of (floor_div u 86_400)) lies (omega (arith, ints, inside), omega (arith, ints, inside)))
+    let lies = lies_in (floor_div u 86_400) in grind (arith, ints, rule_year)
 rule_not_refused None u inside h = h
 
 not_refused : (z : Zone) (u : ℤ) → IsValid z → IsZoneSecond u → IsTypeRefused z u → ⊥
@@ -32,7 +31,7 @@ are_offsets z some has u inside =
     let k = has u inside in
     let same : offset_at z some u ≡ k.0 =
     ∥∥₁_elim ((offset_with z some u).1 inside) (Coded-set coded_ℤ (offset_at z some u) k.0) (λ a. one_offset z u (offset_at z some u) k.0 a k.1) in
-    record { type = k.1.type; in_force = k.1.in_force; offset = same ∙ k.1.offset }
+    grind arith
 
 -- ---- what holds of each type that the zone lists, and of each of its rule, holds of the type in force
 all_listed : {X : Type 0} (P : X → Type 0) (xs : List X) (i : ℕ) (x : X) → slice_get xs i ≡ Some x → All P xs → P x
@@ -41,13 +40,10 @@ all_listed P (y ∷ xs) zero x h all = let same : y ≡ x = cc in subst P same (
 all_listed P (y ∷ xs) (suc i) x h all = all_listed P xs i x h (λ k d l. all (suc k) d (omega arith))
 
 turn_has : (P : LocalType → Type 0) (a : AlternateRule) (dst : Bool) → All P (a.std ∷ a.dst ∷ []) → P (type_when a dst)
-turn_has P a true all = all 1 a.dst (omega arith)
-turn_has P a false all = all 0 a.std (omega arith)
+turn_has P a dst all = grind arith
 
 rule_has : (P : LocalType → Type 0) (rule : Option TransitionRule) (u : ℤ) (t : LocalType) → All P (rule_types rule) → IsTypeOf rule u t → P t
-rule_has P (Some (Fixed f)) u t all h = subst P (sym h) (all 0 f (omega arith))
-rule_has P (Some (Alternate a)) u t all h = subst P (sym h.shown) (turn_has P a h.dst all)
-rule_has P None u t all h = absurd h
+rule_has P rule u t all h = grind (arith, turn_has)
 
 type_has : (P : LocalType → Type 0) (z : Zone) (u : ℤ) (t : LocalType) → All P z.types → All P (rule_types z.rule) → TypeAt z u t → P t
 type_has P z u t types rule h = elim (type_listed z u t h) [

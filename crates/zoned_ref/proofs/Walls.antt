@@ -15,10 +15,7 @@ shown_by_type z off l narrow of_zone wide u t s =
     record { in_zone = inside; offset = sym (same_offset z off u t of_zone inside s.type); shown = shown }
 
 pub shown_by_offset : (z : Zone) (off : ℤ → ℤ) (l : ℤ) → AreOffsetsOf z off → (u k : ℤ) → offsets.ShowsByOffset off l u k → (t : LocalType) × types.Shows (TypeAt z) l u t
-shown_by_offset z off l of_zone u k s =
-    let there = of_zone u s.in_zone in let inside = s.in_zone in
-    let same = there.offset in let shown = s.shown in let is = s.offset in
-    (there.type, record { fits = omega (arith, ints, inside); type = there.in_force; shown = omega (arith, ints) })
+shown_by_offset z off l of_zone u k s = grind (arith, ints)
 
 pub zone_wall : (z : Zone) (off : ℤ → ℤ) (l : ℤ) → IsNarrow z → AreOffsetsOf z off → IsWide l → (answer : LocalResult LocalType) → IsWallAnswer (types.Shows (TypeAt z) l) answer → IsWallAnswer (offsets.ShowsByOffset off l) (map_of (λ t. t.offset) answer)
 zone_wall z off l narrow of_zone wide =
@@ -26,9 +23,7 @@ zone_wall z off l narrow of_zone wide =
 
 -- each type of the answer is within a day
 pub each_within : (z : Zone) (l : ℤ) → IsNarrow z → (answer : LocalResult LocalType) → IsWallAnswer (types.Shows (TypeAt z) l) answer → offsets.Each (λ t. IsWithinDay t.offset) answer
-each_within z l narrow None wall = tt
-each_within z l narrow (Single t) wall = type_within z wall.second t narrow wall.shown.type
-each_within z l narrow (Ambiguous a b) wall = (type_within z wall.first a narrow wall.at_first.type, type_within z wall.last b narrow wall.at_last.type)
+each_within z l narrow answer wall = grind (arith, type_within)
 
 -- which is in force at the second that shows l by it
 shown_in_force : (z : Zone) (l u : ℤ) (t : LocalType) → types.Shows (TypeAt z) l u t → TypeAt z (l -ℤ t.offset) t
@@ -45,8 +40,7 @@ of_zone r z is h = subst (λ y. AreOffsetsOf y (off_of r)) is h
 pub offsets_given : (r : TimeZoneRef) (l : ℤ) (given : LocalResult ZoneOffset) → AreOffsetsOf (zone_of r) (off_of r) → IsWide l
     → offsets.Each (λ o. o.zone ≡ r) given
     → IsWallAnswer (types.Shows (TypeAt (zone_of r)) l) (map_of type_of given) → offsets.AreOffsetsFor (law_of r) l given
-offsets_given r l None of_zone wide home wall =
-    record { wall = zone_wall (zone_of r) (off_of r) l r.narrow of_zone wide None wall; in_force = tt; same_home = tt }
+offsets_given r l None of_zone wide home wall = grind (arith, zone_wall)
 offsets_given r l (Single o) of_zone wide home wall = record {
   wall = zone_wall (zone_of r) (off_of r) l r.narrow of_zone wide (Single (type_of o)) wall;
   in_force = shown_in_force (zone_of r) l wall.second (type_of o) wall.shown;

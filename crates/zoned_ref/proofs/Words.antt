@@ -10,21 +10,18 @@ pub use Rattle.tz_base.specs.declared.change.Change.{Change}
 pub use Rattle.tz_info.proofs.ForCallers.{leap_times_answer, one_nearest, rule_year, stays, type_decided, type_listed, type_not_refused, type_once}
 pub use Rattle.tz_info.proofs.ForCallers.{wall_decided}
 pub use Rattle.tz_info.proofs.Words.{All, All-append, All-contains, Alternate, AreEndsWithin, Bool, Contains-append_left, Contains-append_right, FitsSigned}
-pub use Rattle.tz_info.specs.HeldChanges.{change_held}
-pub use Rattle.tz_info.proofs.Words.{HasNoChange, IfSome, IsAhead, IsFirst, IsFirstAtOrAfter, IsGreatest, IsLeast, IsNearest, IsNearestChange}
-pub use Rattle.tz_info.proofs.Words.{IsNeverWithin, Precedes, IsRefusedBy, IsRuleOrNone, IsTypeOf, IsTypeRefused, IsValid, LocalType, Shows, ShowsAtOrAfter}
-pub use Rattle.tz_info.proofs.Words.{ShowsWithin}
-pub use Rattle.tz_info.proofs.Words.{TypeAt, Zone, by_leap_time, by_rule, false, false≢true, get_or, length, length-map, lies_in, map, offsets, rule_offsets}
-pub use Rattle.tz_info.proofs.Words.{slice_get, true, type_when, unsigned_abs, ◌<◌, ◌≢◌}
+pub use Rattle.tz_info.proofs.Words.{HasNoChange, IfSome, IsAhead, IsFirst, IsFirstAtOrAfter, IsGreatest, IsLeast, IsNearest, IsNearestChange, IsNeverWithin}
+pub use Rattle.tz_info.proofs.Words.{Precedes, IsRefusedBy, IsRuleOrNone, IsTypeOf, IsTypeRefused, IsValid, LocalType, ShowsAtOrAfter, ShowsWithin, TypeAt}
+pub use Rattle.tz_info.proofs.Words.{Zone, by_leap_time, by_rule, false, false≢true, get_or, length, length-map, lies_in, map, offsets, rule_offsets, slice_get}
+pub use Rattle.tz_info.proofs.Words.{true, type_when, ◌<◌, ◌≢◌}
 pub use Rattle.tz_info.specs.declared.rule.transition_rule.TransitionRule.{TransitionRule}
 pub use Rattle.tz_info.specs.declared.zone.shown_seconds.ShownSeconds.{ShownSeconds}
 pub use Rattle.zoned_time.proofs.ForCallers.{choice_decided, same_itself}
-pub use Rattle.zoned_time.proofs.Words.{AreEndsOfDay, HasInstant, HasReached, IsAt, IsBeforeGap, IsFirstToReach, IsInRange, IsNeverOnDay, IsOffsetAt}
-pub use Rattle.zoned_time.proofs.Words.{IsOffsetBeforeGap, IsOnDay, IsTaken, IsTrue, IsUnresolved, IsWallAnswer, IsWide, IsWideDay, IsWithinDay, IsZoneSecond}
-pub use Rattle.zoned_time.proofs.Words.{Law, List, MatchOption, Meaning, Reading, SFits, SameLaw, SomeIff, Zoned, all_or_none, ap, arith, day_of, floor_div}
-pub use Rattle.zoned_time.proofs.Words.{home_law, in_seconds, inl, inr, instant_of, ints, map_of, of_secs, one_wall_answer, option_map, pos, reading, refl}
-pub use Rattle.zoned_time.proofs.Words.{rules, seconds_of, subst, suc, sym, to_z-of_z, w32, w64, zero, zoned, ℕ, ℤ, [], ◌*ℤ◌, ◌++◌, ◌+ℤ◌, ◌-ℤ◌, ◌<ℤ◌, ◌↔◌, ◌∙◌}
-pub use Rattle.zoned_time.proofs.Words.{◌∷◌, ◌≡◌, ◌≤ℤ◌, ◌⊎◌}
+pub use Rattle.zoned_time.proofs.Words.{AreEndsOfDay, HasInstant, HasReached, IsAt, IsBeforeGap, IsFirstToReach, IsInRange, IsNeverOnDay, IsOffsetBeforeGap}
+pub use Rattle.zoned_time.proofs.Words.{IsOnDay, IsTaken, IsUnresolved, IsWallAnswer, IsWide, IsWideDay, IsWithinDay, IsZoneSecond, Law, List, MatchOption}
+pub use Rattle.zoned_time.proofs.Words.{Meaning, Reading, SFits, SameLaw, SomeIff, Zoned, all_or_none, ap, arith, day_of, floor_div, home_law, in_seconds, inl}
+pub use Rattle.zoned_time.proofs.Words.{inr, instant_of, ints, map_of, of_secs, one_wall_answer, option_map, pos, reading, refl, rules, seconds_of, subst, suc}
+pub use Rattle.zoned_time.proofs.Words.{sym, to_z-of_z, w32, w64, zero, zoned, ℕ, ℤ, [], ◌*ℤ◌, ◌++◌, ◌+ℤ◌, ◌-ℤ◌, ◌∙◌, ◌∷◌, ◌≡◌, ◌≤ℤ◌, ◌⊎◌}
 unfoldable pub use Rattle.zoned_time.proofs.Words.{year_of}
 pub use Rattle.offset_core.specs.declared.resolve_error.ResolveError.{ResolveError}
 pub use Rattle.zoned_ref.specs.Instants.{AreInstantsAt, AreTypesFor}
@@ -33,7 +30,7 @@ pub use Rattle.zoned_ref.specs.Offsets.{AreOffsetsOf, HasOffset, HasOffsets, Has
 pub use Rattle.zoned_ref.specs.Steps.OffsetAt.{one_offset}
 pub use Rattle.zoned_ref.specs.TimeZoneRef.{off_of, zone_of}
 pub use Rattle.zoned_ref.specs.WallClock.{IsWallClockOf}
-pub use Rattle.zoned_ref.specs.ZoneChange.{AreAround, IsAfter, IsOfZone, IsUpTo, StandAlike, StandWithin, change_of, change_of_instants}
-pub use Rattle.zoned_ref.specs.ZoneOffset.{IsInForce, law_of, meaning_of, type_of}
+pub use Rattle.zoned_ref.specs.ZoneChange.{AreAround, IsAfter, IsUpTo, StandAlike, StandWithin, change_of, change_of_instants}
+pub use Rattle.zoned_ref.specs.ZoneOffset.{law_of, meaning_of, type_of}
 pub use Rattle.zoned_ref.specs.declared.time_zone_ref.TimeZoneRef.{TimeZoneRef}
 pub use Rattle.zoned_ref.specs.declared.zone_offset.ZoneOffset.{ZoneOffset}

@@ -1,6 +1,6 @@
 -- How far the multiples of a span are from a number.
-use Rattle.zoned_round.proofs.Words.{arith, floor_mod_parts, floors, inl, inr, ints, multiple_above, multiple_below, nearest_multiple, neg_ℤ, negsuc}
-use Rattle.zoned_round.proofs.Words.{pos, refl, unsigned_abs, ℕ, ℤ, ◌+ℤ◌, ◌-ℤ◌, ◌<ℤ◌, ◌<◌, ◌≡◌, ◌≤ℤ◌, ◌⊎◌}
+use Rattle.zoned_round.proofs.Words.{arith, floor_mod_parts, floors, ints, multiple_above, multiple_below, nearest_multiple, neg_ℤ, pos, unsigned_abs, ℕ, ℤ}
+use Rattle.zoned_round.proofs.Words.{◌+ℤ◌, ◌-ℤ◌, ◌<ℤ◌, ◌<◌, ◌≡◌, ◌≤ℤ◌, ◌⊎◌}
 
 -- the one below is less than a span away
 pub below-near : (n : ℤ) (span : ℕ) → 0 < span
@@ -11,13 +11,11 @@ below-near n span some = let parts = floor_mod_parts n span some in (omega (arit
 pub above-is : (n : ℤ) (span : ℕ) → 0 < span
     → ((multiple_above n span ≡ multiple_below n span) × (n ≡ multiple_below n span))
     ⊎ ((multiple_above n span ≡ multiple_below n span +ℤ pos span) × (multiple_below n span <ℤ n))
-above-is n span some =
-    let near = below-near n span some in grind (arith, ints)
+above-is n span some = grind (arith, ints)
 
 pub above-near : (n : ℤ) (span : ℕ) → 0 < span
     → (n ≤ℤ multiple_above n span) × (multiple_above n span <ℤ (n +ℤ pos span))
-above-near n span some =
-    let near = below-near n span some in let above = above-is n span some in (grind (arith, ints), grind (arith, ints))
+above-near n span some = grind (arith, ints)
 
 -- the nearest is one of the two, and at most half a span away
 pub nearest-is : (n : ℤ) (span : ℕ)
@@ -27,27 +25,19 @@ nearest-is n span = grind (arith, ints)
 
 -- a span that is positive as a number
 pub span-is : (span : ℤ) → pos 0 <ℤ span → (0 < unsigned_abs span) × (pos (unsigned_abs span) ≡ span)
-span-is (pos n) some = (omega (arith, floors), refl)
-span-is (negsuc n) some = absurd (omega (arith, floors))
+span-is span some = grind (arith, ints, floors)
 
 -- the ways to the three of them
 pub way-down : (n span : ℤ) → pos 0 <ℤ span
     → ((multiple_below n (unsigned_abs span) -ℤ n) ≤ℤ pos 0) × (pos 0 <ℤ (multiple_below n (unsigned_abs span) -ℤ n +ℤ span))
-way-down n span some =
-    let is = span-is span some in let near = below-near n (unsigned_abs span) is.0 in
-    (omega (arith, floors), omega (arith, floors))
+way-down n span some = grind (arith, ints, floors)
 
 pub way-up : (n span : ℤ) → pos 0 <ℤ span
     → (pos 0 ≤ℤ (multiple_above n (unsigned_abs span) -ℤ n)) × ((multiple_above n (unsigned_abs span) -ℤ n) <ℤ span)
-way-up n span some =
-    let is = span-is span some in let near = above-near n (unsigned_abs span) is.0 in
-    (omega (arith, floors), omega (arith, floors))
+way-up n span some = grind (arith, ints, floors)
 
 pub way-near : (n span : ℤ) → pos 0 <ℤ span
     → let way = nearest_multiple n (unsigned_abs span) -ℤ n in
     ((nearest_multiple n (unsigned_abs span) ≡ multiple_below n (unsigned_abs span)) ⊎ (nearest_multiple n (unsigned_abs span) ≡ multiple_above n (unsigned_abs span)))
     × ((way +ℤ way) ≤ℤ span) × (neg_ℤ span ≤ℤ (way +ℤ way))
-way-near n span some =
-    let is = span-is span some in let down = below-near n (unsigned_abs span) is.0 in
-    let above = above-is n (unsigned_abs span) is.0 in let nearest = nearest-is n (unsigned_abs span) in
-    (elim nearest [ inl low ↦ inl low.0 | inr high ↦ inr high.0 ], grind (arith, ints), grind (arith, ints))
+way-near n span some = grind (arith, ints)

@@ -1,22 +1,16 @@
 -- The multiples about a number are the greatest, the least and the nearest of all multiples.
-use Rattle.std.proofs.Math.Nat.{add-mul, mul-le-mul_right}
-use Rattle.zoned_round.proofs.Words.{IsGreatestWith, IsLeastWith, IsMultiple, ap, apart, arith, by_lt_z, down, floor_div, floors, ints, inl, inr, multiple_above}
-use Rattle.zoned_round.proofs.Words.{multiple_below, nearest_multiple, pos, refl, up, ℕ, ℤ, ◌*ℤ◌, ◌*◌, ◌+ℤ◌, ◌+◌, ◌-ℤ◌, ◌<ℤ◌, ◌<◌}
-use Rattle.zoned_round.proofs.Words.{◌∙◌, ◌≡◌, ◌≤ℤ◌, ◌≤◌}
+use Rattle.std.proofs.Math.Nat.{mul-le-mul_right}
+use Rattle.zoned_round.proofs.Words.{IsGreatestWith, IsLeastWith, IsMultiple, apart, arith, by_lt_z, down, floor_div, floors, ints, inl, inr, multiple_above}
+use Rattle.zoned_round.proofs.Words.{multiple_below, nearest_multiple, pos, up, ℕ, ℤ, ◌*ℤ◌, ◌+ℤ◌, ◌+◌, ◌<ℤ◌, ◌<◌, ◌∙◌, ◌≡◌, ◌≤ℤ◌, ◌≤◌}
 use Rattle.zoned_round.proofs.Multiples.{above-is, above-near, below-near, nearest-is}
 
 -- products by a span, in the order of their factors
 scaled : (a b : ℤ) (span : ℕ) → a ≤ℤ b → (a *ℤ pos span) ≤ℤ (b *ℤ pos span)
 scaled a b span h =
-    let e : up a + down b ≤ up b + down a = omega (arith, floors) in
-    let m : (up a + down b) * span ≤ (up b + down a) * span = mul-le-mul_right span e in
-    omega (arith, floors, add-mul (up a) (down b) span, add-mul (up b) (down a) span)
+    let e : up a + down b ≤ up b + down a = omega (arith, floors) in grind (arith, ints, floors, mul-le-mul_right span e)
 
 next-is : (q : ℤ) (span : ℕ) → (q *ℤ pos span +ℤ pos span) ≡ (q +ℤ pos 1) *ℤ pos span
-next-is q span =
-    let n = q +ℤ pos 1 in let e : up n + down q ≡ down n + up q + 1 = omega (arith, floors) in
-    let m : (up n + down q) * span ≡ (down n + up q + 1) * span = ap (λ (x : ℕ). x * span) e in
-    omega (arith, floors, add-mul (up n) (down q) span, add-mul (down n + up q) 1 span, add-mul (down n) (up q) span)
+next-is q span = grind (arith, ints, floors)
 
 scaled-next : (a b : ℤ) (span : ℕ) → a <ℤ b → (a *ℤ pos span +ℤ pos span) ≤ℤ (b *ℤ pos span)
 scaled-next a b span h = rw (next-is a span) (scaled (a +ℤ pos 1) b span (omega (arith, floors)))
@@ -40,10 +34,7 @@ not_below n k span some h =
     ]
 
 pub below-greatest : (n : ℤ) (span : ℕ) → 0 < span → IsGreatestWith (λ m. IsMultiple span m × (m ≤ℤ n)) (multiple_below n span)
-below-greatest n span some = record {
-  holds = ((floor_div n span, refl), (below-near n span some).0);
-  greatest = λ k p. let e = p.0.1 in rw (e) (not_above n p.0.0 span some (rw (e) at p.1));
-}
+below-greatest n span some = grind (arith, ints, below-near, not_above)
 
 above-multiple : (n : ℤ) (span : ℕ) → 0 < span → IsMultiple span (multiple_above n span)
 above-multiple n span some = elim (above-is n span some) [
@@ -52,24 +43,9 @@ above-multiple n span some = elim (above-is n span some) [
 ]
 
 pub above-least : (n : ℤ) (span : ℕ) → 0 < span → IsLeastWith (λ m. IsMultiple span m × (n ≤ℤ m)) (multiple_above n span)
-above-least n span some = record {
-  holds = (above-multiple n span some, (above-near n span some).0);
-  least = λ k p. let e = p.0.1 in rw (e) (not_below n p.0.0 span some (rw (e) at p.1));
-}
-
--- how far apart two numbers are, by their order
-apart-below : (n m : ℤ) → m ≤ℤ n → pos (apart n m) ≡ n -ℤ m
-apart-below n m h = grind (arith, ints)
-
-apart-above : (n m : ℤ) → n ≤ℤ m → pos (apart n m) ≡ m -ℤ n
-apart-above n m h = grind (arith, ints)
+above-least n span some = grind (arith, ints, above-multiple, above-near, not_below)
 
 pub nearest-of_all : (n k : ℤ) (span : ℕ) → 0 < span
     → (apart n (nearest_multiple n span) ≤ apart n (k *ℤ pos span))
     × (apart n (nearest_multiple n span) ≡ apart n (k *ℤ pos span) → (k *ℤ pos span) ≤ℤ nearest_multiple n span)
-nearest-of_all n k span some =
-    let m = k *ℤ pos span in
-    let low = below-near n span some in let high = above-near n span some in let near = nearest-is n span in
-    let down_is = apart-below n (multiple_below n span) low.0 in let up_is = apart-above n (multiple_above n span) high.0 in
-    let least = not_below n k span some in let greatest = not_above n k span some in let past = apart-above n m in let within = apart-below n m in
-    (grind (arith, ints), λ e. grind (arith, ints))
+nearest-of_all n k span some = grind (arith, ints, nearest-is n span, not_below n k span some, not_above n k span some)

@@ -2,12 +2,12 @@
 pub use Rattle.std.proofs.lemmas.Int.{to_z_pos}
 pub use borrow.Author.Differences.{down, up}
 pub use Rattle.naive_base.proofs.ForCallers.{moved-leap, moved-plain, moved_leap-behind, moved_leap-within, total-moved}
-pub use Rattle.naive_base.proofs.Words.{floor_mod, floor_mod_parts, moved, moved_leap, of_total, total, unsigned_abs, ◌*◌, ◌+◌, ◌-◌, ◌<◌, ◌≤◌}
-pub use Rattle.zoned_time.proofs.Words.{IsInRange, Reading, ap, arith, by_lt_z, floor_div, floors, inl, inr, ints, neg_ℤ, negsuc, pos, reading, refl, sym, w64}
-pub use Rattle.zoned_time.proofs.Words.{ℕ, ℤ, ◌*ℤ◌, ◌+ℤ◌, ◌-ℤ◌, ◌<ℤ◌, ◌∙◌, ◌≡◌, ◌≤ℤ◌, ◌⊎◌}
-pub use Rattle.zoned_round.specs.Durations.{IsGone, IsReadingMoved}
+pub use Rattle.naive_base.proofs.Words.{floor_mod_parts, moved, of_total, total, unsigned_abs, ◌+◌, ◌-◌, ◌<◌, ◌≤◌}
+pub use Rattle.zoned_time.proofs.Words.{IsInRange, Reading, ap, arith, by_lt_z, floor_div, floors, inl, inr, ints, neg_ℤ, pos, reading, w64, ℕ, ℤ, ◌*ℤ◌, ◌+ℤ◌}
+pub use Rattle.zoned_time.proofs.Words.{◌-ℤ◌, ◌<ℤ◌, ◌∙◌, ◌≡◌, ◌≤ℤ◌, ◌⊎◌}
+pub use Rattle.zoned_round.specs.Durations.{IsGone}
 pub use Rattle.zoned_round.specs.Errors.{IsRoundingFault}
 pub use Rattle.zoned_round.specs.Laws.{IsGreatestWith, IsLeastWith, IsMultiple, apart}
-pub use Rattle.zoned_round.specs.Multiples.{multiple_above, multiple_below, nearest_multiple}
+pub use Rattle.zoned_round.specs.Multiples.{IsItselfOr, multiple_above, multiple_below, nearest_multiple}
 pub use Rattle.zoned_round.specs.Subseconds.{nanos_per_digit, rounded}
 pub use Rattle.zoned_round.specs.declared.error.RoundingError.{RoundingError}

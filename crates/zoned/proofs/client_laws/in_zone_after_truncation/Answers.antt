@@ -1,4 +1,5 @@
-use Rattle.zoned.proofs.{Words.{Instant, IsIn, IsMoved, stays, zoned}, Buckets.{gone-in}}
+use Rattle.zoned_round.proofs.ForCallers.{gone-in}
+use Rattle.zoned.proofs.Words.{Instant, IsIn, IsMoved, stays, zoned}
 use Rattle.zoned.proofs.client_laws.in_zone_after_truncation.Goals as goal
 
 pub returns : goal.returns

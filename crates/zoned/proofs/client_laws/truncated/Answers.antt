@@ -1,6 +1,6 @@
-use Rattle.zoned.proofs.Words.{Instant, IsAt, IsMultiple, arith, floor_div, floors, home_law_of, moved, multiple_below, nanos_of, refl, subst, total}
-use Rattle.zoned.proofs.Words.{unsigned_abs, wall_of, zoned, ℤ, ◌+ℤ◌, ◌-ℤ◌, ◌∙◌, ◌≡◌}
-use Rattle.zoned.proofs.Buckets.{gone-back, shown-back, way-back}
+use Rattle.zoned.proofs.Words.{Instant, IsAt, IsMultiple, Reading, ahead, arith, floor_div, floors, home_law_of, ints, moved, multiple_below, nanos_of, refl}
+use Rattle.zoned.proofs.Words.{subst, total, unsigned_abs, wall_of, zoned, ℤ, ◌+ℤ◌, ◌-ℤ◌, ◌∙◌, ◌≡◌}
+use Rattle.zoned_round.proofs.ForCallers.{gone-back, way-down}
 use Rattle.zoned.proofs.client_laws.truncated.Given as given
 use Rattle.zoned.proofs.client_laws.truncated.Goals as goal
 
@@ -17,21 +17,21 @@ went : (g : given.Over) (c : goal.Start g)
 went g c =
     let d = c.args.instant.now in
     gone-back {T = Instant _ _ _ _} (λ e. (zoned e).utc) (λ way e. IsAt (home_law_of g.Tz.TimeZone.meaning d) (moved (zoned d).utc way) (zoned e))
-    d c.args.start.now (below g c -ℤ stamp g c) (λ _ _ is. is.utc) d.datetime.in_range.1 (way-back (stamp g c) _ c.requires.0.0).0 c.requires.2
+    d c.args.start.now (below g c -ℤ stamp g c) (λ _ _ is. is.utc) d.datetime.in_range.1 (way-down (stamp g c) _ c.requires.0.0).0 c.requires.2
 
-there : (from to : ℤ) → from +ℤ (to -ℤ from) ≡ to
-there from to = omega (arith, floors)
+-- and so did what clocks as far from UTC show
+shown-at : (old new : Reading) (j k below : ℤ) → total new ≡ total old +ℤ (below -ℤ total (ahead old j)) → k ≡ j → total (ahead new k) ≡ below
+shown-at old new j k below back same = rw same (omega (arith, floors, back))
 
 pub returns-clause-not_later : goal.returns-clause-not_later
-returns-clause-not_later g c =
-    let back = way-back (stamp g c) _ c.requires.0.0 in let gone = went g c in omega (arith, floors, back, gone)
+returns-clause-not_later g c = grind (arith, ints, floors, went g c)
 
 pub returns-clause-near : goal.returns-clause-near
 returns-clause-near g c = λ span length.
-    let back = way-back (stamp g c) _ c.requires.0.0 in let gone = went g c in omega (arith, floors, back, gone, length)
+    let back = way-down (stamp g c) _ c.requires.0.0 in let gone = went g c in omega (arith, floors, back, gone, length)
 
 pub returns-clause-multiple : goal.returns-clause-multiple
 returns-clause-multiple g c = λ span length same.
-    let shown = shown-back (zoned c.args.instant.now).utc (zoned c.args.start.now).utc _ _ _ (went g c) same in
     let Of : ℤ → Type 0 = λ n. IsMultiple (unsigned_abs n) (below g c) in
-    let is = subst Of length (floor_div (stamp g c) (unsigned_abs (nanos_of c.args.length)), refl) in (is.0, shown ∙ there (stamp g c) (below g c) ∙ is.1)
+    let is = subst Of length (floor_div (stamp g c) (unsigned_abs (nanos_of c.args.length)), refl) in
+    (is.0, shown-at (zoned c.args.instant.now).utc (zoned c.args.start.now).utc _ _ (below g c) (went g c) same ∙ is.1)
