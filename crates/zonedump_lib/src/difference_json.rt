@@ -74,18 +74,11 @@ fn put_zones(
         old_name.now new_name.now years.first years.last found.now)) }
 {
     writer.begin_object()?;
-    put_names(writer, old_name, new_name)?;
+    put_string(writer, "old", old_name)?;
+    put_string(writer, "new", new_name)?;
     put_years(writer, years)?;
     put_differences(writer, alloc, found)?;
     writer.end_object()
-}
-
-fn put_names(writer: &mut Writer, old_name: &str, new_name: &str) -> Result<(), AllocError>
-    ensures { Puts result writer.old writer.new (key (codes "old") ∷ string old_name.now
-        ∷ key (codes "new") ∷ string new_name.now ∷ []) }
-{
-    put_string(writer, "old", old_name)?;
-    put_string(writer, "new", new_name)
 }
 
 fn put_differences(

@@ -96,7 +96,8 @@ fn put_head(
 {
     put_string(writer, "zone", name)?;
     put_years(writer, years)?;
-    put_counts(writer, zone)
+    put_count(writer, "transitions", zone.transition_count() as u64)?;
+    put_count(writer, "types", zone.type_count() as u64)
 }
 
 pub(crate) fn put_years(writer: &mut Writer, years: Years) -> Result<(), AllocError>
@@ -108,15 +109,6 @@ pub(crate) fn put_years(writer: &mut Writer, years: Years) -> Result<(), AllocEr
     let last = years.last;
     put_number(writer, "from", first as i64)?;
     put_number(writer, "to", last as i64)
-}
-
-fn put_counts(writer: &mut Writer, zone: &TimeZone) -> Result<(), AllocError>
-    ensures { Puts result writer.old writer.new
-        (key (codes "transitions") ∷ number (decimal (length zone.now.transitions))
-        ∷ key (codes "types") ∷ number (decimal (length zone.now.types)) ∷ []) }
-{
-    put_count(writer, "transitions", zone.transition_count() as u64)?;
-    put_count(writer, "types", zone.type_count() as u64)
 }
 
 fn put_rule(writer: &mut Writer, zone: &TimeZone) -> Result<(), AllocError>

@@ -1,9 +1,8 @@
 //! A zone as a table.
 
-ghost use Rattle.std.specs.Prelude.{◌≡◌, ◌++◌, ◌∷◌, [], IfOk, OnOk, Some, codes, option_map, string_bytes};
+ghost use Rattle.std.specs.Prelude.{◌≡◌, ◌++◌, ◌∷◌, [], IfOk, OnOk, Some, codes, string_bytes};
 ghost use Rattle.std.specs.Fmt.{signed_decimal};
 ghost use Rattle.zonedump_lib.specs.Tables.{IsTable, leap_text, leap_lines, counts_text, years_text, head_text};
-ghost use Rattle.zonedump_lib.specs.RuleWords.{rule_words};
 
 use crate::changes::changes_in;
 use crate::rule_words::RuleWords;
@@ -11,7 +10,7 @@ use change_views::{Years, push_changes};
 use std::alloc::{AllocError, Global};
 use std::fmt;
 use std::fmt::Write;
-use tz_info::{LeapSecond, TimeZone, TransitionRule};
+use tz_info::{LeapSecond, TimeZone};
 
 /// The zone as a table: the counts of its lists, its rule, its leap seconds, and a line for each
 /// change of its clocks in those years.
@@ -41,7 +40,7 @@ fn push_head(
         ++ head_text zone.now years.first years.last count) }
 {
     writeln!(out, "{}", CountsText(zone))?;
-    writeln!(out, "{}", RuleText(zone.rule()))?;
+    writeln!(out, "rule: {}", RuleWords(zone.rule()))?;
     push_leap_seconds(out, zone.leap_seconds())?;
     writeln!(out, "{}", YearsText(years, count))
 }
@@ -77,19 +76,6 @@ impl fmt::Display for CountsText<'_> {
             f,
             "{transitions} transitions, {types} types, {leaps} leap seconds"
         )
-    }
-}
-
-// What follows the last transition.
-#[derive(Clone, Copy)]
-struct RuleText<'a>(Option<&'a TransitionRule>);
-
-impl fmt::Display for RuleText<'_> {
-    ghost output = { λ text. Some
-        (codes "rule: " ++ rule_words (option_map (λ r. r.now) text.0)) };
-
-    fn fmt<W: fmt::Write>(&self, f: &mut fmt::Formatter<W>) -> fmt::Result {
-        write!(f, "rule: {}", RuleWords(self.0))
     }
 }
 

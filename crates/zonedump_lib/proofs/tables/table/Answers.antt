@@ -1,4 +1,4 @@
-use Rattle.zonedump_lib.proofs.{Words.{TypeAt}, TableLaws.{near_years}}
+use Rattle.zonedump_lib.proofs.{Words.{TypeAt, arith}, TableLaws.{near_years}}
 use Rattle.zonedump_lib.proofs.tables.table.Goals as goal
 
 pub push_changes-requires : goal.push_changes-requires
@@ -8,5 +8,4 @@ pub returns : goal.returns
 returns c =
     let value = c.as_slice-listed.ensures.value in
     let head = rw (value, c.new-text.ensures.bytes) at c.in_ok-push_head.ensures in
-    let lines = rw (value, head) at c.in_ok-push_changes.ensures in
-    (c.in_ok-changes.changes.items, c.in_ok-changes.ensures, lines)
+    grind arith
