@@ -87,14 +87,6 @@ one_answer z from until (Some a) (Some b) h k =
     let (first, type) = one_end z a.first.at b.first.at a.first.local_time_type b.first.local_time_type h.first.shown.type k.first.shown.type (h.first.first _ _ k.first.shown) (k.first.first _ _ h.first.shown) in
     grind (arith, one_end)
 
-pub one_second : (z : Zone) (local u : ℤ) (t : LocalType) → ShowsWithin (TypeAt z) local (local +ℤ pos 1) u t ↔ Shows (TypeAt z) local u t
-one_second z local u t = grind arith
-
-pub own_answer : (z : Zone) (from until u : ℤ) (t : LocalType) (found : Option ShownSeconds) → ShowsWithin (TypeAt z) from until u t → AreShownWithin (TypeAt z) from until found
-    → (s : ShownSeconds) × (found ≡ Some s) × (s.first.at ≤ℤ u) × (u ≤ℤ s.last.at)
-own_answer z from until u t None h k = absurd (k u t h)
-own_answer z from until u t (Some s) h k = (s, refl, k.first.first u t h, k.last.last u t h)
-
 -- ---- where one type is in force near the stretch
 abbrev pub IsAllOf : Zone → ℤ → ℤ → LocalType → Type 0
 IsAllOf z low high t = (u : ℤ) → low ≤ℤ u → u <ℤ high → TypeAt z u t

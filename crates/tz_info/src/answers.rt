@@ -18,20 +18,13 @@ pub(crate) fn joined<'a>(
     ensures { map_of (λ r. r.now) result
         ≡ joined (map_of (λ r. r.now) first.entry) (map_of (λ r. r.now) last.entry) }
 {
-    let (least, greatest) = match (first, last) {
-        (MappedLocalTime::None, answer) | (answer, MappedLocalTime::None) => return answer,
-        (MappedLocalTime::Single(least), MappedLocalTime::Single(greatest)) => (least, greatest),
-        (MappedLocalTime::Single(least), MappedLocalTime::Ambiguous(_, greatest)) => (
-            least, greatest,
-        ),
-        (MappedLocalTime::Ambiguous(least, _), MappedLocalTime::Single(greatest)) => (
-            least, greatest,
-        ),
-        (MappedLocalTime::Ambiguous(least, _), MappedLocalTime::Ambiguous(_, greatest)) => (
-            least, greatest,
-        ),
-    };
-    MappedLocalTime::Ambiguous(least, greatest)
+    match (first, last) {
+        (MappedLocalTime::None, answer) | (answer, MappedLocalTime::None) => answer,
+        (
+            MappedLocalTime::Single(least) | MappedLocalTime::Ambiguous(least, _),
+            MappedLocalTime::Single(greatest) | MappedLocalTime::Ambiguous(_, greatest),
+        ) => MappedLocalTime::Ambiguous(least, greatest),
+    }
 }
 
 // The answer of two seconds, the first of which is the earlier, where each shows the local time or

@@ -90,10 +90,7 @@ pub(crate) fn change_between<'a>(
 pub(crate) fn copied(change: Option<HeldChange<'_>>) -> Option<Change>
     ensures { result ≡ option_map change_held change.entry }
 {
-    match change {
-        Some(change) => Some(change.copied()),
-        None => None,
-    }
+    Some(change?.copied())
 }
 
 // The change that was found, if it comes after that second, and up to `last`.
@@ -102,9 +99,7 @@ pub(crate) fn if_within(found: Option<HeldChange<'_>>, after: i64, last: i64) ->
         (IfSome (option_map change_held found.entry) (λ c. ¬ (IsInStretch after last c.at)))
         (λ c. IsInStretch after last c.at × (option_map change_held found.entry ≡ Some c)) }
 {
-    let Some(change) = found else {
-        return None;
-    };
+    let change = found?;
     if after < change.at && change.at <= last {
         Some(change.copied())
     } else {

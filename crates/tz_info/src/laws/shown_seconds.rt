@@ -19,14 +19,12 @@ pub fn one_answer_within_law()
 {}
 
 /// The seconds that a wall-clock lookup answers with are those of a stretch of one second.
-#[tactic(auto, using(crate::proofs::ShownSecondLaws::one_second))]
 pub fn one_second_law()
     ensures { (z : Zone) (local u : ℤ) (t : LocalType)
         → ShowsWithin (TypeAt z) local (local +ℤ pos 1) u t ↔ Shows (TypeAt z) local u t }
 {}
 
 /// A second whose clock shows a local time of the stretch lies between the first and the last.
-#[tactic(auto, using(crate::proofs::ShownSecondLaws::own_answer))]
 pub fn own_answer_within_law()
     ensures { (z : Zone) (from until u : ℤ) (t : LocalType) (found : Option ShownSeconds)
         → ShowsWithin (TypeAt z) from until u t → AreShownWithin (TypeAt z) from until found

@@ -115,6 +115,8 @@ impl fmt::Debug for AlternateTime {
 }
 
 impl AlternateTime {
+    ghost use Rattle.tz_info.specs.Moments.{AlternateAt, IsAlternateRefused};
+
     /// The rule by which daylight saving time starts on one day and ends on another, each a
     /// number of seconds after the day's midnight: the start on the clock of standard time, the end on that
     /// of daylight saving time.
@@ -162,10 +164,6 @@ impl AlternateTime {
             margin,
         })
     }
-}
-
-impl AlternateTime {
-    ghost use Rattle.tz_info.specs.Moments.{AlternateAt, IsAlternateRefused};
 
     /// The type in force at the second of Unix time, as `TransitionRule::find_local_time_type` has
     /// it.
@@ -186,9 +184,7 @@ impl AlternateTime {
         }
         Ok(self.type_in(self.season(unix_time), unix_time))
     }
-}
 
-impl AlternateTime {
     /// The type of standard time.
     pub fn std(&self) -> &LocalTimeType
         ensures value { result.now ≡ self.now.std }

@@ -4,8 +4,7 @@
 ghost use Rattle.std.specs.Prelude.{◌≡◌, IsTrue, MatchOption, option_map};
 ghost use Rattle.tz_info.specs.Moments.{AlternateAt, IsRuleTime};
 ghost use Rattle.tz_info.specs.Rules.{Alternate};
-ghost use Rattle.tz_info.specs.Steps.Beside.{HasTwoChanges, IsBeside, IsSecondOfNearest};
-ghost use Rattle.tz_info.specs.Steps.Beside.{change_found};
+ghost use Rattle.tz_info.specs.Steps.Beside.{HasTwoChanges, IsBeside, IsSecondOfNearest, change_found};
 ghost use Rattle.tz_info.specs.Steps.Changes.{IsAhead, nearer_one};
 ghost use Rattle.tz_info.specs.Steps.Seasons.{IsDecidedIn, IsSeason};
 
@@ -115,12 +114,8 @@ pub(super) fn nearer(found: Option<Moment>, other: Option<Moment>, forward: bool
     if is_nearer { Some(second) } else { Some(one) }
 }
 
-// The second of the moment, if there is one.
 fn second_of(found: Option<Moment>) -> Option<i64>
     ensures { (a : Alternate) → result ≡ option_map (λ c. c.at) (change_found a found) }
 {
-    match found {
-        Some(moment) => Some(moment.at),
-        None => None,
-    }
+    Some(found?.at)
 }

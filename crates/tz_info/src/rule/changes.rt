@@ -5,9 +5,8 @@ ghost use Rattle.std.specs.Prelude.{◌≡◌, ◌≢◌, ◌≤◌, pos, ◌<�
 ghost use Rattle.std.specs.Prelude.{option_map, ⊤};
 ghost use Rattle.tz_info.specs.Changes.{IsNearest, IsNearestChange};
 ghost use Rattle.tz_info.specs.Moments.{AlternateAt, IsRuleTime, type_when};
-ghost use Rattle.tz_info.specs.Steps.Beside.{IsMomentAhead, IsMomentAt, IsNearestMomentOf};
-ghost use Rattle.tz_info.specs.Steps.Beside.{change_found};
-ghost use Rattle.tz_info.specs.Steps.Changes.{IsAhead, IsIdleTo, far_side, near_end, near_side};
+ghost use Rattle.tz_info.specs.Steps.Beside.{IsMomentAhead, IsMomentAt, IsNearestMomentOf, change_found};
+ghost use Rattle.tz_info.specs.Steps.Changes.{IsAhead, IsIdleTo, far_side, near_side};
 ghost use Rattle.tz_info.specs.Steps.Gaps.{moment_change};
 ghost use Rattle.tz_info.specs.HeldChanges.{change_held};
 ghost use Rattle.tz_info.specs.Steps.Seasons.{IsAmid, IsDecidedIn, IsLimit, IsSeason};
@@ -39,15 +38,11 @@ impl AlternateTime {
         self.change_if(ahead.moment_within(self.nearest_moment(near, forward)))
     }
 
-    // The change at the moment, if there is one.
     #[inline(always)]
     fn change_if(&self, found: Option<Moment>) -> Option<HeldChange<'_>>
         ensures { option_map change_held result ≡ change_found self.now found }
     {
-        match found {
-            Some(moment) => Some(self.change_of(moment)),
-            None => None,
-        }
+        Some(self.change_of(found?))
     }
 
     // The moments of the second's year, if these decide at it.
@@ -170,7 +165,6 @@ impl AlternateTime {
         Some(Moment { at, to_dst: after })
     }
 
-    // The type of daylight saving time, or of standard time.
     #[inline(always)]
     pub(crate) fn type_when(&self, is_dst: bool) -> &LocalTimeType
         ensures { result.now ≡ type_when self.now is_dst }
@@ -181,7 +175,6 @@ impl AlternateTime {
 
 impl Season {
     // In that direction the end of the season's seconds in the rule's years.
-    #[tactic(auto, using(crate::proofs::Ranges::in_range))]
     fn limit(self, forward: bool) -> i64
         ensures { IsLimit forward self result }
     {

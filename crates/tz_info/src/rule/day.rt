@@ -55,7 +55,9 @@ impl Model for RuleDay {
 }
 
 impl RuleDay {
-    ghost use Rattle.tz_info.specs.RuleDays.{IsRuleDay};
+    ghost use Rattle.tz_info.specs.RuleDays.{IsRuleDay, IsWrittenDate};
+    ghost use Rattle.tz_info.specs.RuleDayOf.{rule_day};
+    ghost use Rattle.tz_info.specs.Steps.RuleDays.{closed_day};
     ghost use Rattle.tz_info.specs.declared.rule.day.DayForm.TheVariants.{Julian1, Julian0, MonthWeekday};
 
     /// `Jn`: the n-th of the 365 dates of a common year, so that `J60` is 1 March in every year.
@@ -126,10 +128,6 @@ impl RuleDay {
             form: DayForm::MonthWeekday(month, week, weekday),
         })
     }
-}
-
-impl RuleDay {
-    ghost use Rattle.tz_info.specs.RuleDays.{IsRuleDay};
 
     /// The day's form and its numbers, which are in their limits.
     ///
@@ -143,12 +141,6 @@ impl RuleDay {
     {
         self.form
     }
-}
-
-impl RuleDay {
-    ghost use Rattle.tz_info.specs.RuleDays.{IsRuleDay, IsWrittenDate};
-    ghost use Rattle.tz_info.specs.RuleDayOf.{rule_day};
-    ghost use Rattle.tz_info.specs.Steps.RuleDays.{closed_day};
 
     /// The month, from 1, and the day of the month of the rule's day in the year.
     ///
@@ -194,14 +186,12 @@ impl RuleDay {
         86_400 * self.number_in(year) + day_time
     }
 
-    // The time of the day that many seconds after its midnight, if they are strictly within a week.
+    // The time of the day `time` seconds after its midnight, if that is strictly within a week.
     pub(super) fn at(self, time: i32) -> Option<DayTime>
         ensures { MatchOption result (¬ (IsWithinWeek time))
             (λ d. IsWithinWeek d.time × IsRuleDay d.day
             × (d ≡ record { day = self; time = time })) }
     {
-        // opened for its invariant: the numbers of a day are in their limits
-        let _ = &self.form;
         if -604_800 < time && time < 604_800 {
             Some(DayTime { day: self, time })
         } else {

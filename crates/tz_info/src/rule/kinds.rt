@@ -7,7 +7,7 @@ ghost use Rattle.std.specs.Prelude.{◌≡◌, ◌+◌, ◌<◌, if◌then◌els
 ghost use Rattle.naive_base.specs.Year.{year_start, IsDay};
 ghost use Rattle.offset_core.specs.Offset.{IsWithinDay};
 ghost use Rattle.tz_info.specs.Rules.{IsWithinWeek};
-ghost use Rattle.tz_info.specs.Steps.Kinds.{kind_place, seconds_by_kind, is_inside, is_calm};
+ghost use Rattle.tz_info.specs.Steps.Kinds.{kind_place, seconds_by_kind, is_inside};
 ghost use Rattle.tz_info.specs.Steps.Kinds.{is_calm_kind, are_calm, margin_of, day_time_second};
 
 use crate::rule::day::DayTime;
@@ -92,13 +92,9 @@ fn is_calm_kind(starts: &[i64; 14], ends: &[i64; 14], kind: usize) -> bool
     requires { kind < 14 }
     ensures { result ≡ is_calm_kind starts.now ends.now kind }
 {
-    is_calm(starts[0] <= ends[0], starts[kind], ends[kind])
-}
-
-fn is_calm(start_first: bool, start: i64, end: i64) -> bool
-    ensures { result ≡ is_calm start_first start end }
-{
-    is_inside(start) && is_inside(end) && is_in_order(start_first, start, end)
+    let is_start_first = starts[0] <= ends[0];
+    let (start, end) = (starts[kind], ends[kind]);
+    is_inside(start) && is_inside(end) && is_in_order(is_start_first, start, end)
 }
 
 fn is_in_order(start_first: bool, start: i64, end: i64) -> bool

@@ -43,7 +43,6 @@ impl TransitionRule {
     }
 }
 
-// The rule that the bytes spell.
 pub(crate) fn read_all(bytes: &[u8], extended: bool) -> Result<TransitionRule, Error>
     ensures { (rest : List ℕ) × Gives (λ rule. (rule, rest)) result
         (read (text extended) bytes.now) }

@@ -1,8 +1,7 @@
 //! The moments of one year at which a rule's types give way to each other, and the seconds at which
 //! only these decide.
 
-ghost use Rattle.std.specs.Prelude.{◌≡◌, ◌<◌, pos, ◌+ℤ◌, int_le, IsTrue, ◌↔◌, ◌||◌, not};
-ghost use Rattle.std.specs.Prelude.{if◌then◌else◌};
+ghost use Rattle.std.specs.Prelude.{◌≡◌, ◌<◌, pos, ◌+ℤ◌, int_le, IsTrue, ◌↔◌, ◌||◌, not, if◌then◌else◌};
 ghost use Rattle.naive_base.specs.DateOf.{year_of, day_of_year};
 ghost use Rattle.naive_base.specs.Year.{floor_div, year_start, LiesIn, IsDay};
 ghost use Rattle.tz_info.specs.Rules.{IsAlternateRule};
@@ -21,9 +20,7 @@ pub(super) const FIRST_RULE_TIME: i64 = -67_768_100_504_812_800;
 
 pub(super) const LAST_RULE_TIME: i64 = 67_767_976_170_460_799;
 
-// How long before 1970 they begin, in seconds and in days.
-const SECONDS_BEFORE_1970: i64 = 67_768_100_504_812_800;
-
+// How many days before 1970 they begin.
 const DAYS_BEFORE_1970: i64 = 784_353_015_102;
 
 // The seconds at which daylight saving time starts and ends in one year.
@@ -155,7 +152,6 @@ impl AlternateTime {
 impl Season {
     // Whether the season's moments alone decide at the second.
     #[inline(always)]
-    #[tactic(auto, using(crate::proofs::Ranges::in_range))]
     pub(crate) fn decides(self, unix_time: i64) -> bool
         ensures { IsTrue result ↔ IsDecidedIn self unix_time }
     {
@@ -191,14 +187,12 @@ impl Turns {
         self.start <= self.end
     }
 
-    // Whether the second lies from the start to the end.
     fn is_from_start(self, unix_time: i64) -> bool
         ensures { result ≡ is_between self.start self.end unix_time }
     {
         self.start <= unix_time && unix_time < self.end
     }
 
-    // Whether the second lies from the end to the start.
     fn is_from_end(self, unix_time: i64) -> bool
         ensures { result ≡ is_between self.end self.start unix_time }
     {
@@ -208,7 +202,6 @@ impl Turns {
 
 // Whether it is daylight saving time at the second by the moments of its year and of the years
 // before and after it.
-#[tactic(auto, using(crate::proofs::Ranges::in_range))]
 fn is_dst_by_three(before: Turns, here: Turns, after: Turns, unix_time: i64) -> bool
     ensures { result ≡ (if int_le here.start here.end
         then is_between before.start before.end unix_time
@@ -252,10 +245,10 @@ fn since_first(unix_time: i64) -> u64
     ensures value { unix_time +ℤ pos 67_768_100_504_812_800 ≡ pos result }
     ensures bound { result < 135_536_076_675_273_600 }
 {
-    (unix_time + SECONDS_BEFORE_1970) as u64
+    (unix_time - FIRST_RULE_TIME) as u64
 }
 
-// The day number of the day that many days after the first of those years.
+// The day number of the day that comes `days` days after the first of those years begins.
 fn day_from_first(days: u64) -> i64
     requires { days < 1_568_704_591_149 }
     ensures { result +ℤ pos 784_353_015_102 ≡ pos days }
@@ -266,7 +259,6 @@ fn day_from_first(days: u64) -> i64
 // The day number of the second. Counted from the first of those years no second is negative, so
 // that one division is enough.
 #[inline(always)]
-#[tactic(auto, using(crate::proofs::Words::floors))]
 pub(super) fn day_of(unix_time: i64) -> i64
     requires { IsRuleTime unix_time }
     ensures value { result ≡ floor_div unix_time 86_400 }

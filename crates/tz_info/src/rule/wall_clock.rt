@@ -21,9 +21,7 @@ ghost use Rattle.tz_info.specs.declared.rule.transition_rule.TransitionRule.TheV
 
 use crate::answers::{answer_of_two, copied, joined, second_showing};
 use crate::change::HeldChange;
-use crate::rule::alternate::AlternateTime;
-use crate::rule::season::Season;
-use crate::rule::transition_rule::TransitionRule;
+use crate::rule::{AlternateTime, Season, TransitionRule};
 use naive_base::NaiveDateTime;
 use offset_core::MappedLocalTime;
 use tz_base::{Error, LocalTimeType};
@@ -204,7 +202,6 @@ impl AlternateTime {
         })
     }
 
-    // The change at that moment.
     #[inline(always)]
     pub(crate) fn change_of(&self, moment: Moment) -> HeldChange<'_>
         ensures at { result.at ≡ moment.at }

@@ -37,7 +37,6 @@ impl Stretch {
         self.after < second && second <= self.last
     }
 
-    // Whether no second lies in it.
     pub(super) fn is_empty(self) -> bool
         ensures { IsTrue result ↔ (self.last ≤ℤ self.after) }
     {
@@ -50,9 +49,7 @@ impl Stretch {
             (IfSome (change_found a found) (λ c. ¬ (IsInStretch self.after self.last c.at)))
             (λ c. IsInStretch self.after self.last c.at × (change_found a found ≡ Some c)) }
     {
-        let Some(moment) = found else {
-            return None;
-        };
+        let moment = found?;
         if self.has(moment.at) {
             Some(moment)
         } else {
@@ -196,7 +193,6 @@ pub(super) fn stretch_ahead(begin: i64, second: i64, forward: bool) -> Stretch
     }
 }
 
-// The first second of the year.
 fn first_second(year: i32) -> i64
     ensures { result ≡ new_year year }
 {
@@ -247,14 +243,12 @@ fn is_rule_year(year: i64) -> bool
     FIRST_RULE_YEAR <= year && year <= LAST_RULE_YEAR
 }
 
-// The later one of two seconds.
 pub(super) fn later_of(one: i64, other: i64) -> i64
     ensures { IsLaterOf one other result }
 {
     if other < one { one } else { other }
 }
 
-// The earlier one of two seconds.
 pub(super) fn earlier_of(one: i64, other: i64) -> i64
     ensures { IsEarlierOf one other result }
 {

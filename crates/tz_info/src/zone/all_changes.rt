@@ -72,17 +72,11 @@ impl Changes<'_> {
     {
         self.zone.valid_law();
         if forward {
-            if_within(
-                self.zone.next_held_change(self.after),
-                self.after,
-                self.last,
-            )
+            let found = self.zone.next_held_change(self.after);
+            if_within(found, self.after, self.last)
         } else {
-            if_within(
-                self.zone.previous_held_change(self.last),
-                self.after,
-                self.last,
-            )
+            let found = self.zone.previous_held_change(self.last);
+            if_within(found, self.after, self.last)
         }
     }
 }
@@ -95,13 +89,9 @@ impl<'a> Iterator for Changes<'a> {
     ghost remaining = { item_count changes_left };
 
     fn next(&mut self) -> Option<Change> {
-        match self.nearest(true) {
-            Some(change) => {
-                self.after = change.at;
-                Some(change)
-            }
-            None => None,
-        }
+        let change = self.nearest(true)?;
+        self.after = change.at;
+        Some(change)
     }
 }
 
@@ -109,13 +99,9 @@ impl<'a> DoubleEndedIterator for Changes<'a> {
     ghost next_back_gives = { YieldsLast changes_left };
 
     fn next_back(&mut self) -> Option<Change> {
-        match self.nearest(false) {
-            Some(change) => {
-                self.last = change.at - 1;
-                Some(change)
-            }
-            None => None,
-        }
+        let change = self.nearest(false)?;
+        self.last = change.at - 1;
+        Some(change)
     }
 }
 

@@ -4,9 +4,8 @@
 //! transition need not: two of them may come at one second, or name types that are equal. So each
 //! second at which one comes is asked.
 
-ghost use Rattle.std.specs.Prelude.{◌≡◌, ◌≢◌, ◌<◌, length, ℤ, pos, neg_ℤ, ◌<ℤ◌, ◌-ℤ◌, ◌≤ℤ◌, ◌↔◌, FitsSigned};
-ghost use Rattle.std.specs.Prelude.{MatchOption, Some, option_map};
-ghost use Rattle.std.specs.Int.{w64};
+ghost use Rattle.std.specs.Prelude.{◌≡◌, ◌≢◌, ◌<◌, length, ℤ, pos, neg_ℤ, ◌<ℤ◌, ◌≤ℤ◌, ◌↔◌, MatchOption, Some};
+ghost use Rattle.std.specs.Prelude.{option_map};
 ghost use Rattle.tz_info.specs.Changes.{IsChange, HasNoChange, IsFirst, IsLast, IsNearest};
 ghost use Rattle.tz_info.specs.Leaps.{AreLeapSeconds, IsLeapTime};
 ghost use Rattle.tz_info.specs.Rules.{Alternate as AlternateRule};
@@ -18,9 +17,9 @@ ghost use Rattle.tz_info.specs.declared.rule.transition_rule.TransitionRule.TheV
 
 use crate::change::{HeldChange, change_between, copied};
 use crate::rule::{AlternateTime, TransitionRule};
-use crate::zone::leap_second::LeapSecond;
-use crate::zone::starts::{correction_behind, entries_come};
-use crate::zone::time_zone::TimeZone;
+use crate::zone::leap_time::correction_after;
+use crate::zone::starts::entries_come;
+use crate::zone::{LeapSecond, TimeZone};
 use tz_base::{Change, LocalTimeType};
 use tz_timeline::Probes;
 
@@ -94,9 +93,7 @@ impl TimeZone {
             (option_map change_held result) }
     {
         let _ = &self.table;
-        let Some(turns) = self.turns() else {
-            return None;
-        };
+        let turns = self.turns()?;
         let begin = self.rule_begin();
         if begin > i64::MAX as i128 {
             return None;
@@ -215,7 +212,6 @@ impl TimeZone {
         )
     }
 
-    // The type of that index.
     pub(super) fn listed(&self, index: usize) -> &LocalTimeType
         requires { index < length self.now.types }
         ensures { HasType self.now index result.now }
@@ -229,9 +225,7 @@ impl TimeZone {
             (HasNoChange (TypeAt self.now) (λ u. u ≡ second))
             (λ c. IsChange (TypeAt self.now) c × (c.at ≡ second)) }
     {
-        let Some(second_before) = second.checked_sub(1) else {
-            return None;
-        };
+        let second_before = second.checked_sub(1)?;
         let Ok(before) = self.find_local_time_type(second_before) else {
             return None;
         };
@@ -277,9 +271,8 @@ fn first_second(leaps: &[LeapSecond], leap_time: i64) -> i128
     if come == 0 {
         return leap_time as i128;
     }
-    let passed = leaps[come - 1].unix_leap_time as i128
-        - correction_behind(leaps, come - 1) as i128;
-    let led_back = leap_time as i128 - correction_behind(leaps, come) as i128;
+    let passed = leaps[come - 1].unix_leap_time as i128 - correction_after(leaps, come - 1) as i128;
+    let led_back = leap_time as i128 - correction_after(leaps, come) as i128;
     later(passed, led_back)
 }
 

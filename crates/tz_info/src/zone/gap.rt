@@ -115,8 +115,7 @@ impl TimeZone {
     {
         match self.find_local_time_type_around(local) {
             Around::Gap(gap) => Some(gap.before),
-            Around::Single(_) => None,
-            Around::Ambiguous(_, _) => None,
+            Around::Single(_) | Around::Ambiguous(_, _) => None,
         }
     }
 
@@ -142,8 +141,7 @@ impl TimeZone {
         match shown {
             Shown::Less(_) => self.gap_behind_table(local, season),
             Shown::Skipped(jump) => self.gap_of_jump(local, jump, probes),
-            Shown::Once(_) => unreachable!(),
-            Shown::Several(_, _) => unreachable!(),
+            Shown::Once(_) | Shown::Several(_, _) => unreachable!(),
         }
     }
 

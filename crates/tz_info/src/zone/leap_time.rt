@@ -8,8 +8,7 @@ ghost use Rattle.tz_info.specs.Leaps.{expected_of_leap_time, correction_before, 
 ghost use Rattle.tz_info.specs.Lists.{last_else};
 ghost use Rattle.tz_info.specs.Steps.Starts.{AreBefore};
 
-use crate::zone::leap_second::LeapSecond;
-use crate::zone::time_zone::TimeZone;
+use crate::zone::{LeapSecond, TimeZone};
 use tz_base::{Error, Expected};
 
 // Up to this second no sum with the correction of a passed entry leaves 64 bits.
@@ -48,7 +47,6 @@ impl TimeZone {
     }
 }
 
-// The leap time of a Unix time.
 #[inline(always)]
 pub(super) fn leap_time(entries: &[LeapSecond], unix_time: i64) -> Result<i64, Error>
     requires { AreLeapSeconds entries.now }
@@ -116,7 +114,7 @@ fn is_passed(entries: &[LeapSecond], place: usize, unix_time: i64) -> bool
     entries[place].unix_leap_time <= unix_time + correction_after(entries, place) as i64
 }
 
-// The correction after that many entries.
+// The correction after the first `count` entries.
 pub(super) fn correction_after(entries: &[LeapSecond], count: usize) -> i32
     requires { count ≤ length entries.now }
     ensures { result ≡ last_else (pos 0) (corrections (take count entries.now)) }
@@ -148,7 +146,6 @@ fn leap_time_at_the_end(entries: &[LeapSecond], unix_time: i64) -> Result<i64, E
     Ok(leap_time)
 }
 
-// The Unix time of a leap time.
 pub(super) fn unix_time(entries: &[LeapSecond], leap_time: i64) -> Result<i64, Error>
     requires { AreLeapSeconds entries.now }
     ensures { MatchResult result

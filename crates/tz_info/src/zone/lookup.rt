@@ -17,8 +17,7 @@ ghost use Rattle.tz_info.specs.declared.rule.transition_rule.TransitionRule.{Tra
 
 use crate::zone::kept::Kept;
 use crate::zone::leap_time::leap_time;
-use crate::zone::time_zone::TimeZone;
-use crate::zone::transition::Transition;
+use crate::zone::{TimeZone, Transition};
 use tz_base::{Error, Expected, LocalTimeType};
 use tz_timeline::{Passed, Probes};
 
@@ -215,7 +214,6 @@ impl TimeZone {
         self.table.passed(leap_time, probes).count
     }
 
-    // The transition at that place.
     pub(super) fn transition(&self, place: usize, probes: &mut Probes) -> Transition
         requires place { place < length self.now.transitions }
         requires room { HasRoomFor 1 probes.old.reads }

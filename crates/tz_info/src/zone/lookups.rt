@@ -6,14 +6,14 @@ ghost use Rattle.tz_info.specs.Zones.{TypeAt, IsTypeError};
 
 use crate::zone::time_zone::TimeZone;
 use std::marker::Model;
-use tz_base::{Error, LocalTimeType, Span};
+use tz_base::{Error, LocalTimeType};
 
 // Two instants are near if they lie less than a week apart, in seconds.
 const NEAR: i64 = 604_800;
 
 const TWICE_NEAR: u64 = 1_209_600;
 
-// A near instant outside the kept span asks for its span after this many others in a row.
+// A near instant outside the kept span asks for its span after two others in a row.
 const NEAR_MISSES: u32 = 2;
 
 // One in 256 far instants outside the kept span asks for its span: the first time after 16 others.
@@ -94,17 +94,12 @@ impl TimeZone {
         let Ok(span) = self.span_at(unix_time) else {
             return None;
         };
-        let Span {
-            local_time_type,
-            from,
-            until,
-        } = span;
-        let first = self.end_or_typed(from, EARLIEST)?;
-        let end = self.end_or_typed(until, LATEST)?;
+        let first = self.end_or_typed(span.from, EARLIEST)?;
+        let end = self.end_or_typed(span.until, LATEST)?;
         Some(Held {
             first,
             end,
-            local_time_type,
+            local_time_type: span.local_time_type,
         })
     }
 
@@ -138,18 +133,8 @@ impl<'a> Lookups<'a> {
         if is_between(self.held.first, self.held.end, unix_time) {
             return Ok(self.held.local_time_type);
         }
-        self.find_outside(unix_time)
-    }
-
-    // The type in force at a second outside the kept span.
-    #[inline(always)]
-    fn find_outside(&mut self, unix_time: i64) -> Result<LocalTimeType, Error>
-        ensures found { MatchResult result (TypeAt self.old unix_time)
-            (IsTypeError self.old unix_time) }
-        ensures zone { self.new ≡ self.old }
-    {
         self.keep_if_near(unix_time);
-        type_at(self.zone, unix_time)
+        Ok(*self.zone.find_local_time_type(unix_time)?)
     }
 
     // Keeps the span of the second after some near misses in a row, or after many far ones.
@@ -159,58 +144,26 @@ impl<'a> Lookups<'a> {
     {
         let is_near = is_near(self.last, unix_time);
         self.last = unix_time;
-        if is_near {
-            self.count_near_miss(unix_time);
-        } else {
-            self.count_far_miss(unix_time);
-        }
-    }
-
-    // Counts a far miss, or keeps the span of the second if there were enough of them.
-    #[inline(always)]
-    fn count_far_miss(&mut self, unix_time: i64)
-        ensures { self.new ≡ self.old }
-    {
-        self.near_misses = 0;
-        self.far_misses = self.far_misses.wrapping_add(1);
-        if self.far_misses == 0 {
-            self.keep_span_at(unix_time);
-        }
-    }
-
-    // Counts a near miss, or keeps the span of the second if there were enough of them.
-    #[inline(always)]
-    fn count_near_miss(&mut self, unix_time: i64)
-        ensures { self.new ≡ self.old }
-    {
-        if self.near_misses < NEAR_MISSES {
-            self.near_misses = self.near_misses + 1;
+        if !is_near {
+            self.near_misses = 0;
+            self.far_misses = self.far_misses.wrapping_add(1);
+            if self.far_misses == 0 {
+                self.keep_span_at(unix_time);
+            }
+        } else if self.near_misses < NEAR_MISSES {
+            self.near_misses += 1;
         } else {
             self.keep_span_at(unix_time);
         }
     }
 
-    // Keeps the span of the second.
     #[inline(always)]
     fn keep_span_at(&mut self, unix_time: i64)
         ensures { self.new ≡ self.old }
     {
-        match self.zone.held_at(unix_time) {
-            Some(held) => self.held = held,
-            None => {}
+        if let Some(held) = self.zone.held_at(unix_time) {
+            self.held = held;
         }
-    }
-}
-
-// The type in force at the second.
-#[inline(always)]
-fn type_at(zone: &TimeZone, unix_time: i64) -> Result<LocalTimeType, Error>
-    ensures { MatchResult result (TypeAt zone.now unix_time)
-        (IsTypeError zone.now unix_time) }
-{
-    match zone.find_local_time_type(unix_time) {
-        Ok(found) => Ok(*found),
-        Err(error) => Err(error),
     }
 }
 

@@ -26,7 +26,6 @@ impl TimeZone {
         ensures { IfSome result (λ s. (u : ℤ) → s.from ≤ℤ u → u <ℤ s.until
             → (t : LocalType) × TypeAt self.now u t × (s.offset ≡ t.offset)) }
     {
-        let _ = &self.table;
         if !self.leap_seconds.is_empty() {
             return self.offset_stretch_of_span(unix_time);
         }
@@ -46,7 +45,6 @@ impl TimeZone {
         })
     }
 
-    // The span of the second.
     fn offset_stretch_of_span(&self, unix_time: i64) -> Option<OffsetStretch>
         ensures { IfSome result (λ s. (u : ℤ) → s.from ≤ℤ u → u <ℤ s.until
             → (t : LocalType) × TypeAt self.now u t × (s.offset ≡ t.offset)) }

@@ -70,13 +70,10 @@ impl TimeZone {
         ensures memory { IfErr result
             (λ e. IsOutOfMemory e → (z : Zone) × IsExtendedZone text.now z) }
     {
-        match TransitionRule::from_tz_string(text, true) {
-            Ok(rule) => TimeZone::of_rule(alloc, rule),
-            Err(fault) => Err(fault),
-        }
+        let rule = TransitionRule::from_tz_string(text, true)?;
+        TimeZone::of_rule(alloc, rule)
     }
 
-    // The zone of the rule.
     fn of_rule(alloc: Global, rule: TransitionRule) -> Result<TimeZone, Error>
         ensures { MatchResult result (λ z. z ≡ posix_zone rule) (λ e. IsOutOfMemory e) }
     {

@@ -43,7 +43,7 @@ pub(super) struct Segment {
     pub(super) offset: i64,
 }
 
-// The segment after so many transitions.
+// The segment after the first `place` transitions.
 #[inline(always)]
 pub(super) fn segment_at(lists: Lists, place: usize) -> Segment
     requires valid { IsValid (zone_in lists) }
@@ -55,7 +55,7 @@ pub(super) fn segment_at(lists: Lists, place: usize) -> Segment
     Segment { index, offset }
 }
 
-// The index of the type in force after so many transitions.
+// The index of the type in force after the first `place` transitions.
 #[inline(always)]
 #[tactic(auto, using(crate::proofs::SegmentLaws::index_next))]
 pub(super) fn index_of_segment(lists: Lists, place: usize) -> usize
@@ -70,9 +70,9 @@ pub(super) fn index_of_segment(lists: Lists, place: usize) -> usize
     lists.transitions[place - 1].type_index()
 }
 
-// The index of the type at the last second before the segment after so many transitions: that of
-// the last segment before it that begins earlier. Where two transitions come at one second, as a
-// leap second apart, the segment between them has no second.
+// The index of the type at the last second before that segment: that of the last segment before it
+// that begins earlier. If two transitions come at one second, as a leap second apart, the segment
+// between them has no second.
 pub(super) fn index_before(lists: Lists, place: usize) -> usize
     requires valid { IsValid (zone_in lists) }
     requires some { 0 < place }
@@ -94,7 +94,7 @@ pub(super) struct Pieces {
     pub(super) pieces: Vec<Piece>,
 }
 
-// The pieces of the segment after so many transitions.
+// The pieces of the segment after the first `place` transitions.
 fn pieces_of_one(alloc: Global, lists: Lists, place: usize) -> Result<Pieces, Error>
     requires valid { IsValid (zone_in lists) }
     requires place { place < table_count (zone_in lists) }

@@ -75,31 +75,21 @@ impl Packed {
         })
     }
 
-    // What is packed.
     #[inline(always)]
     pub(super) fn shown(&self) -> Shown
         ensures { result ≡ self.now }
     {
-        shown_of(
-            self.first % 4,
-            (self.first / 4) as usize,
-            self.second as usize,
-        )
-    }
-}
-
-#[inline(always)]
-fn shown_of(kind: u32, first: usize, second: usize) -> Shown
-    ensures { result ≡ unpacked kind first second }
-{
-    match kind {
-        0 => Shown::Less(first),
-        1 => Shown::Skipped(Jump {
-            place: first,
-            before: second,
-        }),
-        2 => Shown::Once(first),
-        _ => Shown::Several(first, second),
+        let first = (self.first / 4) as usize;
+        let second = self.second as usize;
+        match self.first % 4 {
+            0 => Shown::Less(first),
+            1 => Shown::Skipped(Jump {
+                place: first,
+                before: second,
+            }),
+            2 => Shown::Once(first),
+            _ => Shown::Several(first, second),
+        }
     }
 }
 
@@ -111,11 +101,9 @@ pub(super) fn together(first: Shown, last: Shown) -> Shown
         (Shown::Less(_), shown) => shown,
         (shown, Shown::Less(_)) | (shown, Shown::Skipped(_)) => shown,
         (Shown::Skipped(_), shown) => shown,
-        (Shown::Once(least), Shown::Once(greatest)) => Shown::Several(least, greatest),
-        (Shown::Once(least), Shown::Several(_, greatest)) => Shown::Several(least, greatest),
-        (Shown::Several(least, _), Shown::Once(greatest)) => Shown::Several(least, greatest),
-        (Shown::Several(least, _), Shown::Several(_, greatest)) => {
-            Shown::Several(least, greatest)
-        }
+        (
+            Shown::Once(least) | Shown::Several(least, _),
+            Shown::Once(greatest) | Shown::Several(_, greatest),
+        ) => Shown::Several(least, greatest),
     }
 }

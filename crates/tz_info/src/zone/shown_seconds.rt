@@ -1,15 +1,13 @@
 //! When clocks show certain local times: the first and the last second of a day or of any other
 //! stretch of local time, and the first second at or after a local time.
 
-ghost use Rattle.std.specs.Prelude.{◌≡◌, pos, ◌+ℤ◌, ◌*ℤ◌, ◌-ℤ◌, ◌<ℤ◌, MatchOption};
-ghost use Rattle.std.specs.Prelude.{if◌then◌else◌};
+ghost use Rattle.std.specs.Prelude.{◌≡◌, pos, ◌+ℤ◌, ◌*ℤ◌, ◌-ℤ◌, ◌<ℤ◌, MatchOption, if◌then◌else◌};
 ghost use Rattle.naive_base.specs.NaiveDate.{day_of};
 ghost use Rattle.naive_base.specs.NaiveDateTime.{reading};
 ghost use Rattle.naive_base.specs.Range.{IsWide};
 ghost use Rattle.tz_info.specs.Leaps.{IsNear};
 ghost use Rattle.tz_info.specs.ShownSeconds.{IsNeverWithin, AreShownWithin, IsFirstAtOrAfter};
-ghost use Rattle.tz_info.specs.Steps.Runs.{HaveOneTypeFrom, IsEnd, IsBeyondJumps, IsEndOfRun};
-ghost use Rattle.tz_info.specs.Steps.Runs.{IsEndWithin, IsNextRun, IsWindowOf};
+ghost use Rattle.tz_info.specs.Steps.Runs.{HaveOneTypeFrom, IsEnd, IsBeyondJumps, IsEndOfRun, IsEndWithin, IsNextRun};
 ghost use Rattle.tz_info.specs.Zones.{TypeAt};
 
 use crate::answers::second_showing;
@@ -37,9 +35,9 @@ pub struct ShownSeconds {
     pub last: TypedSecond,
 }
 
-// The seconds between which clocks may show certain local times: from `low` to before `high`.
+// The seconds from `low` to before `high`.
 #[derive(Clone, Copy)]
-struct Window {
+struct Interval {
     low: i64,
     high: i64,
 }
@@ -105,8 +103,7 @@ impl TimeZone {
     {
         let _ = &self.table;
         let until = self.beyond_jumps(from);
-        let window = self.window_of(from, until);
-        match self.end_within(from, until, window, true) {
+        match self.end_within(from, until, true) {
             Some(first) => first,
             None => unreachable!(),
         }
@@ -118,7 +115,6 @@ impl TimeZone {
         ensures beyond { IsBeyondJumps self.now from result }
         ensures end { IsEnd result }
     {
-        let _ = &self.table;
         from + self.extremes.greatest as i64 - self.extremes.least as i64 + 1
     }
 
@@ -127,45 +123,23 @@ impl TimeZone {
         requires until { IsEnd until }
         ensures { AreShownWithin (TypeAt self.now) from until result }
     {
-        let window = self.window_of(from, until);
-        let Some(first) = self.end_within(from, until, window, true) else {
-            return None;
-        };
-        let Some(last) = self.end_within(from, until, window, false) else {
-            return None;
-        };
+        let first = self.end_within(from, until, true)?;
+        let last = self.end_within(from, until, false)?;
         Some(ShownSeconds { first, last })
     }
 
-    fn window_of(&self, from: i64, until: i64) -> Window
+    // The first second that shows a local time of the stretch, or the last one: goes from run to run
+    // in that direction, until one has such a second.
+    fn end_within(&self, from: i64, until: i64, forward: bool) -> Option<TypedSecond>
         requires from { IsEnd from }
         requires until { IsEnd until }
-        ensures { IsWindowOf self.now from until result.low result.high }
-    {
-        let _ = &self.table;
-        Window {
-            low: second_showing(from, self.extremes.greatest),
-            high: second_showing(until, self.extremes.least),
-        }
-    }
-
-    // The first second of the window that shows such a local time, or the last one: goes from run
-    // to run in that direction, until one has such a second.
-    fn end_within(
-        &self,
-        from: i64,
-        until: i64,
-        window: Window,
-        forward: bool,
-    ) -> Option<TypedSecond>
-        requires from { IsEnd from }
-        requires until { IsEnd until }
-        requires window { IsWindowOf self.now from until window.low window.high }
         ensures { MatchOption result (IsNeverWithin (TypeAt self.now) from until)
             (λ s. IsEndWithin forward (TypeAt self.now) from until s.at s.local_time_type) }
     {
-        let _ = &self.table;
-        let mut left = window;
+        let mut left = Interval {
+            low: second_showing(from, self.extremes.greatest),
+            high: second_showing(until, self.extremes.least),
+        };
         while left.low < left.high {
             let (run, local_type) = self.next_run(left, forward);
             let since = second_showing(from, local_type.offset());
@@ -181,9 +155,9 @@ impl TimeZone {
         None
     }
 
-    // The first run of the window, or the last one, and its type: the part that the window has of
-    // the span of its first second, or of its last one.
-    fn next_run(&self, left: Window, forward: bool) -> (Window, &LocalTimeType)
+    // The first run of the interval, or the last one, and its type: the part that the interval has
+    // of the span of its first second, or of its last one.
+    fn next_run(&self, left: Interval, forward: bool) -> (Interval, &LocalTimeType)
         requires low { IsNear left.low }
         requires high { IsNear left.high }
         requires some { left.low <ℤ left.high }
@@ -193,7 +167,7 @@ impl TimeZone {
     {
         let _ = &self.table;
         let span = self.near_span_at(left.end(forward));
-        let run = Window {
+        let run = Interval {
             low: start_by(span.from, left.low),
             high: end_by(span.until, left.high),
         };
@@ -201,7 +175,7 @@ impl TimeZone {
     }
 }
 
-impl Window {
+impl Interval {
     // Its first second, or its last one.
     fn end(self, forward: bool) -> i64
         requires { IsNear self.high }
@@ -222,17 +196,17 @@ impl Window {
     }
 
     // What its first run leaves of it, or its last one.
-    fn without(self, run: Window, forward: bool) -> Window
+    fn without(self, run: Interval, forward: bool) -> Interval
         ensures low { result.low ≡ (if forward then run.high else self.low) }
         ensures high { result.high ≡ (if forward then self.high else run.low) }
     {
         if forward {
-            Window {
+            Interval {
                 low: run.high,
                 high: self.high,
             }
         } else {
-            Window {
+            Interval {
                 low: self.low,
                 high: run.low,
             }

@@ -3,8 +3,7 @@
 //! One search finds the second's place between transitions, or between moments of the rule. If clocks
 //! change on both sides of that place, these changes are the span's ends.
 
-ghost use Rattle.std.specs.Prelude.{◌≡◌, ◌<◌, ◌≤ℤ◌, ◌<ℤ◌, length, option_map, IfSome, MatchOption};
-ghost use Rattle.std.specs.Prelude.{MatchResult, Some};
+ghost use Rattle.std.specs.Prelude.{◌≡◌, ◌<◌, ◌≤ℤ◌, ◌<ℤ◌, length, option_map, IfSome, MatchOption, MatchResult, Some};
 ghost use Rattle.tz_info.specs.HeldChanges.{change_held, span_held};
 ghost use Rattle.tz_info.specs.Spans.{IsSpanAt};
 ghost use Rattle.tz_info.specs.Steps.Changes.{AreComeOrAll};
@@ -13,8 +12,8 @@ ghost use Rattle.tz_info.specs.Zones.{TypeAt, IsTypeError};
 
 use crate::change::{HeldChange, HeldSpan, is_same_type};
 use crate::zone::lookup::NEAR;
-use crate::zone::time_zone::TimeZone;
-use crate::zone::transition::{AsTransition, Transition};
+use crate::zone::transition::AsTransition;
+use crate::zone::{TimeZone, Transition};
 use tz_base::{Error, LocalTimeType, Span};
 use tz_timeline::Probes;
 
@@ -107,14 +106,12 @@ impl TimeZone {
             (IsTypeError self.now unix_time) }
     {
         let _ = &self.table;
-        match self.find_local_time_type(unix_time) {
-            Ok(local) => Ok(HeldSpan {
-                local_time_type: local,
-                from: second_of(self.previous_held_change(unix_time)),
-                until: second_of(self.next_held_change(unix_time)),
-            }),
-            Err(error) => Err(error),
-        }
+        let local_time_type = self.find_local_time_type(unix_time)?;
+        Ok(HeldSpan {
+            local_time_type,
+            from: second_of(self.previous_held_change(unix_time)),
+            until: second_of(self.next_held_change(unix_time)),
+        })
     }
 
     // The span from one transition to the next without leap seconds, if both change the type.
@@ -198,14 +195,10 @@ impl TimeZone {
     }
 }
 
-// The second of the change, if there is one.
 fn second_of(change: Option<HeldChange<'_>>) -> Option<i64>
     ensures { result ≡ option_map (λ c. c.at) (option_map change_held change.entry) }
 {
-    match change {
-        Some(change) => Some(change.at),
-        None => None,
-    }
+    Some(change?.at)
 }
 
 // The second that was found, if it comes after that one.
@@ -213,9 +206,7 @@ fn if_after(found: Option<i64>, second: i128) -> Option<i64>
     ensures { MatchOption result (IfSome found (λ s. s ≤ℤ second))
         (λ s. (second <ℤ s) × (found ≡ Some s)) }
 {
-    let Some(later) = found else {
-        return None;
-    };
+    let later = found?;
     if second < later as i128 {
         Some(later)
     } else {

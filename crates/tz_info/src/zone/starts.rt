@@ -1,9 +1,8 @@
 //! The first second at which a number of transitions have come, and what a clock shows then.
 
-ghost use Rattle.std.specs.Prelude.{◌≡◌, ℤ, pos, ◌+ℤ◌, ◌≤ℤ◌, ◌↔◌, ◌<◌, ◌≤◌, length, take, MatchResult, ⊤};
+ghost use Rattle.std.specs.Prelude.{◌≡◌, ℤ, ◌+ℤ◌, ◌≤ℤ◌, ◌↔◌, ◌<◌, ◌≤◌, length, MatchResult, ⊤};
 ghost use Rattle.std.specs.Int.{saturate_signed, w64};
-ghost use Rattle.tz_info.specs.Leaps.{AreLeapSeconds, corrections};
-ghost use Rattle.tz_info.specs.Lists.{last_else};
+ghost use Rattle.tz_info.specs.Leaps.{AreLeapSeconds};
 ghost use Rattle.tz_info.specs.Steps.Starts.{AreByUnixTime, HaveCome, IsReachedFrom};
 ghost use Rattle.tz_info.specs.Transitions.{AreRising};
 ghost use Rattle.tz_info.specs.WallPieces.{IsStart};
@@ -49,8 +48,8 @@ pub(super) fn first_second(leaps: &[LeapSecond], leap_time: i64) -> i64
     }
     let passed = leaps[come - 1]
         .unix_leap_time
-        .saturating_sub(correction_behind(leaps, come - 1));
-    let led_back = leap_time.saturating_sub(correction_behind(leaps, come));
+        .saturating_sub(correction_after(leaps, come - 1) as i64);
+    let led_back = leap_time.saturating_sub(correction_after(leaps, come) as i64);
     later(passed, led_back)
 }
 
@@ -58,14 +57,6 @@ pub(super) fn later(a: i64, b: i64) -> i64
     ensures { (u : ℤ) → (result ≤ℤ u) ↔ ((a ≤ℤ u) × (b ≤ℤ u)) }
 {
     if a < b { b } else { a }
-}
-
-// The correction after that many entries.
-pub(super) fn correction_behind(leaps: &[LeapSecond], count: usize) -> i64
-    requires { count ≤ length leaps.now }
-    ensures { result ≡ last_else (pos 0) (corrections (take count leaps.now)) }
-{
-    correction_after(leaps, count) as i64
 }
 
 // How many entries come at or before the leap time.
@@ -76,7 +67,7 @@ pub(super) fn entries_come(leaps: &[LeapSecond], leap_time: i64) -> usize
     leaps.partition_point(|entry| entry.unix_leap_time <= leap_time)
 }
 
-// The first second at which that many transitions have come.
+// The first second at which `count` transitions have come.
 pub(super) fn start_of(transitions: &[Kept], leaps: &[LeapSecond], count: usize) -> i64
     requires leaps { AreLeapSeconds leaps.now }
     requires rising { AreRising transitions.now }

@@ -13,31 +13,14 @@ ghost use Rattle.tz_info.specs.Questions.{IsAskedFor};
 ghost use Rattle.tz_info.specs.Steps.Segments.{begin_of, index_of};
 ghost use Rattle.tz_info.specs.Steps.Walk.{IsCandidate, IsShownIn, IsTimeWithin, IsTried};
 ghost use Rattle.tz_info.specs.WallClocks.{Shows};
-ghost use Rattle.tz_info.specs.Windows.{IsWindow};
-ghost use Rattle.tz_info.specs.Zones.{IsValid, TypeAt};
+ghost use Rattle.tz_info.specs.Zones.{TypeAt};
 
 use crate::answers::{copied, joined, second_showing};
-use crate::zone::time_zone::TimeZone;
-use crate::zone::transition::Transition;
+use crate::zone::{TimeZone, Transition};
 use naive_base::NaiveDateTime;
 use offset_core::MappedLocalTime;
 use tz_base::{Error, LocalTimeType};
 use tz_timeline::Probes;
-
-// The leap times between which the transitions come that matter for a local time: after the first,
-// and not after the second.
-#[derive(Clone, Copy)]
-struct Window {
-    low: i64,
-    high: i64,
-}
-
-// A type, and the leap time of a second.
-#[derive(Clone, Copy)]
-struct Candidate<'a> {
-    local_type: &'a LocalTimeType,
-    leap_time: i64,
-}
 
 impl TimeZone {
     /// As [`TimeZone::find_local_time_type_from_local_counted`], by looks at transitions in place
@@ -66,7 +49,7 @@ impl TimeZone {
     }
 
     // One search for the transitions near the local time, and a walk through those, segment by
-    // segment, in the order of the seconds.
+    // segment, in the order of the seconds. They come after the leap time `low`, and not after `high`.
     fn walked_answer(&self, local: i64, probes: &mut Probes) -> MappedLocalTime<&LocalTimeType>
         requires local { IsWide local }
         requires room { HasRoom probes.old }
@@ -77,33 +60,20 @@ impl TimeZone {
             probes.old.rule_questions probes.new.rule_questions }
     {
         let count = self.transition_count();
-        let window = self.window(local);
-        let first = self.passed_count(window.low, probes);
+        let low = self.leap_time_near(second_showing(local, self.extremes.greatest));
+        let high = self.leap_time_near(second_showing(local, self.extremes.least));
+        let first = self.passed_count(low, probes);
         let mut current = self.latest(first, probes);
         let mut answer = MappedLocalTime::None;
         for place in first..count {
             let next = self.transition(place, probes);
             answer = self.try_until(local, current, Some(next.unix_leap_time), answer);
-            if window.high < next.unix_leap_time {
+            if high < next.unix_leap_time {
                 return answer;
             }
             current = next;
         }
         self.try_last(local, current, answer, probes)
-    }
-
-    // The leap times between which the transitions come that matter for the local time.
-    fn window(&self, local: i64) -> Window
-        requires { IsWide local }
-        ensures window { IsWindow self.now local result.low result.high }
-        ensures valid { IsValid self.now }
-    {
-        let low = second_showing(local, self.extremes.greatest);
-        let high = second_showing(local, self.extremes.least);
-        Window {
-            low: self.leap_time_near(low),
-            high: self.leap_time_near(high),
-        }
     }
 
     // The last of the first n transitions; before all of them the first type is in force,
@@ -137,9 +107,9 @@ impl TimeZone {
         ensures { IsTried self.now local current.type_index current.unix_leap_time until
             (map_of (λ r. r.now) answer.entry) (map_of (λ r. r.now) result) }
     {
-        let candidate = self.candidate(local, current.type_index);
-        if is_within(current.unix_leap_time, until, candidate.leap_time) {
-            joined(answer, MappedLocalTime::Single(candidate.local_type))
+        let (local_type, time) = self.candidate(local, current.type_index);
+        if is_within(current.unix_leap_time, until, time) {
+            joined(answer, MappedLocalTime::Single(local_type))
         } else {
             answer
         }
@@ -147,17 +117,14 @@ impl TimeZone {
 
     // The type of that index, and the leap time of the one second that could show the local time
     // by it.
-    fn candidate(&self, local: i64, index: usize) -> Candidate<'_>
+    fn candidate(&self, local: i64, index: usize) -> (&LocalTimeType, i64)
         requires local { IsWide local }
         requires listed { index < length self.now.types }
-        ensures { IsCandidate self.now local index result.local_type.now result.leap_time }
+        ensures { IsCandidate self.now local index result.0.now result.1 }
     {
         let local_type = self.listed(index);
         let second = second_showing(local, local_type.offset());
-        Candidate {
-            local_type,
-            leap_time: self.leap_time_near(second),
-        }
+        (local_type, self.leap_time_near(second))
     }
 
     // Tries what is in force from the last transition on: the rule, or without one that

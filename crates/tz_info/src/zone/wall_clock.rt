@@ -58,7 +58,7 @@ impl TimeZone {
         let local = local.secs_since_epoch();
         match self.last_type_at(local) {
             Some(local_time_type) => MappedLocalTime::Single(local_time_type),
-            None => self.wall_answer(local, &mut Probes::new()),
+            None => self.wall_answer_of(local, &mut Probes::new()).2,
         }
     }
 
@@ -91,26 +91,8 @@ impl TimeZone {
         ensures questions { IsAskedFor self.now (reading local).s
             probes.old.rule_questions probes.new.rule_questions }
     {
-        Ok(copied(self.wall_answer(local.secs_since_epoch(), probes)))
-    }
-
-    // One search in the pieces finds the table's part of the answer; the rule's seconds come after
-    // it.
-    #[inline(always)]
-    pub(super) fn wall_answer(
-        &self,
-        local: i64,
-        probes: &mut Probes,
-    ) -> MappedLocalTime<&LocalTimeType>
-        requires local { IsWide local }
-        requires room { HasRoom probes.old }
-        ensures found { IsWallAnswer (Shows (TypeAt self.now) local)
-            (map_of (λ r. r.now) result) }
-        ensures cost { RoseByWallClock self.now probes.old probes.new }
-        ensures counted { IsAskedFor self.now local
-            probes.old.rule_questions probes.new.rule_questions }
-    {
-        self.wall_answer_of(local, probes).2
+        let (_, _, answer) = self.wall_answer_of(local.secs_since_epoch(), probes);
+        Ok(copied(answer))
     }
 
     // What the table shows of the local time, the moments of its year if the rule's part was

@@ -1,14 +1,14 @@
 //! The offsets and the times of day of a TZ string: `hh[:mm[:ss]]` with a sign or without.
 
-ghost use Rattle.std.specs.Prelude.{◌≡◌, ◌≤◌, ◌<ℤ◌, ◌≤ℤ◌, pos, neg_ℤ, not, Ok, IfOk};
+ghost use Rattle.std.specs.Prelude.{◌≡◌, ◌≤◌, not, Ok, IfOk};
 ghost use Rattle.offset_core.specs.Offset.{IsWithinDay};
 ghost use Rattle.tz_base.specs.Fronts.{Gives};
 ghost use Rattle.tz_base.specs.Grammar.{read, checked};
 ghost use Rattle.tz_base.specs.Refusals.{InvalidTzString};
 ghost use Rattle.tz_base.specs.declared.error.Expected.TheVariants.{HoursMinutesAndSecondsWithinTheirLimits};
 ghost use Rattle.tz_info.specs.Rules.{IsWithinWeek};
-ghost use Rattle.tz_info.specs.TzGrammar.{sign, seconds, minutes_seconds, optional_minutes, hours_minutes_seconds};
-ghost use Rattle.tz_info.specs.TzGrammar.{are_within, signed_seconds, duration, offset, time_sign, time, optional_time};
+ghost use Rattle.tz_info.specs.TzGrammar.{sign, seconds, optional_minutes, hours_minutes_seconds, are_within};
+ghost use Rattle.tz_info.specs.TzGrammar.{signed_seconds, duration, offset, time_sign, optional_time};
 
 use tz_base::{Cursor, Error, Expected};
 
@@ -26,23 +26,14 @@ pub(super) fn read_offset(cursor: &mut Cursor<'_>) -> Result<i32, Error>
 }
 
 // A `/` and a time of day, in seconds after midnight, or nothing for two o'clock.
-#[tactic(auto, unfolding(crate::specs::TzGrammar::optional_time))]
+#[tactic(auto, unfolding(crate::specs::TzGrammar::optional_time, crate::specs::TzGrammar::time))]
 pub(super) fn read_optional_time(extended: bool, cursor: &mut Cursor<'_>) -> Result<i32, Error>
     ensures value { Gives (λ z. (z, cursor.new)) result (read (optional_time extended) cursor.old) }
     ensures bound { IfOk result (λ z. IsWithinWeek z) }
 {
-    if cursor.read_optional_tag(b"/") {
-        read_time(extended, cursor)
-    } else {
-        Ok(7_200)
+    if !cursor.read_optional_tag(b"/") {
+        return Ok(7_200);
     }
-}
-
-#[tactic(auto, unfolding(crate::specs::TzGrammar::time))]
-fn read_time(extended: bool, cursor: &mut Cursor<'_>) -> Result<i32, Error>
-    ensures value { Gives (λ z. (z, cursor.new)) result (read (time extended) cursor.old) }
-    ensures bound { IfOk result (λ z. IsWithinWeek z) }
-{
     let is_minus = read_time_sign(extended, cursor);
     read_duration(if extended { 167 } else { 24 }, is_minus, cursor)
 }
@@ -88,21 +79,13 @@ fn read_hours_minutes_seconds(cursor: &mut Cursor<'_>) -> Result<(u32, u32, u32)
     Ok((h, m, s))
 }
 
-#[tactic(auto, unfolding(crate::specs::TzGrammar::optional_minutes))]
+#[tactic(auto, unfolding(crate::specs::TzGrammar::optional_minutes, crate::specs::TzGrammar::minutes_seconds))]
 fn read_optional_minutes(cursor: &mut Cursor<'_>) -> Result<(u32, u32), Error>
     ensures { Gives (λ t. ((t.0, t.1), cursor.new)) result (read optional_minutes cursor.old) }
 {
-    if cursor.read_optional_tag(b":") {
-        read_minutes_seconds(cursor)
-    } else {
-        Ok((0, 0))
+    if !cursor.read_optional_tag(b":") {
+        return Ok((0, 0));
     }
-}
-
-#[tactic(auto, unfolding(crate::specs::TzGrammar::minutes_seconds))]
-fn read_minutes_seconds(cursor: &mut Cursor<'_>) -> Result<(u32, u32), Error>
-    ensures { Gives (λ t. ((t.0, t.1), cursor.new)) result (read minutes_seconds cursor.old) }
-{
     let m = cursor.read_int(CLOCK_MAX)?;
     let s = read_seconds(cursor)?;
     Ok((m, s))

@@ -1,6 +1,6 @@
 //! The days of a TZ string: a date, and a time of that day.
 
-ghost use Rattle.std.specs.Prelude.{◌≡◌, IfOk};
+ghost use Rattle.std.specs.Prelude.{IfOk};
 ghost use Rattle.tz_base.specs.Fronts.{Gives, int_at};
 ghost use Rattle.tz_base.specs.Grammar.{read};
 ghost use Rattle.tz_info.specs.Rules.{IsWithinWeek};

@@ -9,15 +9,13 @@ ghost use Rattle.tz_base.specs.Refusals.{InvalidTzString, LocalTimeType as BadTy
 ghost use Rattle.tz_base.specs.declared.error.Expected.TheVariants.{OffsetOfDaylightSavingTimeWithinDay};
 ghost use Rattle.tz_info.specs.Rules.{IsWithinWeek};
 ghost use Rattle.tz_info.specs.TzGrammar.{more, end, given_offset, dst_offset, named_type, fixed, alternate, days};
-ghost use Rattle.tz_info.specs.TzGrammar.{rule, text};
+ghost use Rattle.tz_info.specs.TzGrammar.{text};
 ghost use Rattle.tz_info.specs.Steps.Spelled.{day_time_of, alternate_of, rule_of, IsSpelled};
 
-use crate::rule::alternate::AlternateTime;
-use crate::rule::day::RuleDay;
 use crate::rule::reader::clock::read_offset;
 use crate::rule::reader::date::read_day;
 use crate::rule::reader::name::read_name;
-use crate::rule::transition_rule::TransitionRule;
+use crate::rule::{AlternateTime, RuleDay, TransitionRule};
 use tz_base::{Cursor, Error, Expected, LocalTimeType};
 
 // What a text spells: one type, or two with the days and times at which the second starts and
@@ -28,7 +26,6 @@ pub(super) enum Spelled {
     Alternate(LocalTimeType, LocalTimeType, (RuleDay, i32), (RuleDay, i32)),
 }
 
-// The rule that was spelled.
 #[inline(always)]
 pub(super) fn rule_of(spelled: Spelled) -> TransitionRule
     requires { IsSpelled spelled }
@@ -43,7 +40,7 @@ pub(super) fn rule_of(spelled: Spelled) -> TransitionRule
 }
 
 // What all bytes of the cursor spell.
-#[tactic(auto, unfolding(crate::specs::TzGrammar::text))]
+#[tactic(auto, unfolding(crate::specs::TzGrammar::text, crate::specs::TzGrammar::rule))]
 pub(super) fn read_text(extended: bool, cursor: &mut Cursor<'_>) -> Result<Spelled, Error>
     ensures value { Gives (λ spelled. (rule_of spelled, cursor.new)) result
         (read (text extended) cursor.old) }
@@ -51,21 +48,6 @@ pub(super) fn read_text(extended: bool, cursor: &mut Cursor<'_>) -> Result<Spell
 {
     let name = read_name(cursor)?;
     let offset = read_offset(cursor)?;
-    read_rule(extended, name, offset, cursor)
-}
-
-#[tactic(auto, unfolding(crate::specs::TzGrammar::rule))]
-fn read_rule(
-    extended: bool,
-    name: &[u8],
-    offset: i32,
-    cursor: &mut Cursor<'_>,
-) -> Result<Spelled, Error>
-    requires { IsWithinDay offset }
-    ensures value { Gives (λ spelled. (rule_of spelled, cursor.new)) result
-        (read (rule extended name.now offset) cursor.old) }
-    ensures limits { IfOk result (λ spelled. IsSpelled spelled) }
-{
     if is_at_end(cursor) {
         read_fixed(name, offset, cursor)
     } else {
@@ -172,7 +154,6 @@ fn named_type(name: &[u8], dst: bool, offset: i32) -> Result<LocalTimeType, Erro
     LocalTimeType::new(offset, dst, Some(name))
 }
 
-// The rule of two types and two days with their times.
 fn alternate(
     std: LocalTimeType,
     dst: LocalTimeType,

@@ -2,9 +2,9 @@ use Rattle.tz_info.proofs.Words.{IsAhead, SFits, arith, change_held, ints, optio
 use Rattle.tz_info.proofs.ZoneChanges.{none_begun, rule_found, steady}
 use Rattle.tz_info.proofs.zone.time_zone.TimeZone.change_by_rule.Goals as goal
 
-pub returns-in_default : goal.returns-in_default
-returns-in_default c = let fs = c.ranges.second in steady c.args.self.now (IsAhead c.args.forward c.args.second) (rw
-    (← c.self.view_is) c.self.invariant.valid) c.in_default.ensures
+pub returns-in_err-turns : goal.returns-in_err-turns
+returns-in_err-turns c = let fs = c.ranges.second in rw c.from_residual.ensures (steady c.args.self.now (IsAhead c.args.forward c.args.second) (rw
+    (← c.self.view_is) c.self.invariant.valid) c.in_err-turns.ensures)
 
 pub returns-then-begin : goal.returns-then-begin
 returns-then-begin c =
@@ -19,6 +19,7 @@ returns c =
     let fw : SFits w128 c.rule_begin-begin.result = search rules in
     let least = c.rule_begin-begin.ensures.bound in
     let fb : SFits w64 c.rule_begin-begin.result = omega (arith, ints) in
-    rule_found c.args.self.now c.in-Some.turns.now c.args.forward c.args.second c.rule_begin-begin.result (option_map change_held c.nearest_change.result) (rw
+    rule_found c.args.self.now c.in_ok-turns.turns.now c.args.forward c.args.second c.rule_begin-begin.result
+    (option_map change_held c.nearest_change.result) (rw
     (← c.self.view_is) c.self.invariant.valid)
-    c.in-Some.ensures c.rule_begin-begin.ensures.begin (simp to_z-of_z at c.nearest_change.ensures)
+    c.in_ok-turns.ensures c.rule_begin-begin.ensures.begin (simp to_z-of_z at c.nearest_change.ensures)

@@ -1,8 +1,10 @@
-use Rattle.tz_info.proofs.{Words.{IsExtendedZone, arith, refl, true}, PosixLaws.{zone_memory}, TextLaws.{text_low}}
+use Rattle.tz_info.proofs.{Words.{IsExtendedZone, arith, err_from_is_err_and, refl, true}, PosixLaws.{zone_memory}, TextLaws.{text_low}}
 use Rattle.tz_info.proofs.zone.time_zone.TimeZone.from_extended_tz.Goals as goal
 
-pub returns-in-Ok-clause-memory : goal.returns-in-Ok-clause-memory
-returns-in-Ok-clause-memory c = zone_memory (IsExtendedZone c.args.text.now) _ c.of_rule.result (c.in-Ok.rule, c.in-Ok.ensures.found, refl)
+pub returns-clause-memory : goal.returns-clause-memory
+returns-clause-memory c = zone_memory (IsExtendedZone c.args.text.now) _ c.of_rule.result (c.in_ok-rule.rule, c.in_ok-rule.ensures.found, refl)
 
-pub returns-in-Err-clause-memory : goal.returns-in-Err-clause-memory
-returns-in-Err-clause-memory c = λ m. let low = text_low true c.args.text.now c.in-Err.fault c.in-Err.ensures.fault in absurd (omega (arith, m, low))
+pub returns-in_err-rule-clause-memory : goal.returns-in_err-rule-clause-memory
+returns-in_err-rule-clause-memory c =
+    let p = err_from_is_err_and c.from_residual.result c.from_residual.ensures.1 in
+    rw (p.1, p.2) (λ m. let low = text_low true c.args.text.now _ c.in_err-rule.ensures.fault in absurd (omega (arith, m, low)))

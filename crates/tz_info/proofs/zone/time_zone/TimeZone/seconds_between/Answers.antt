@@ -5,4 +5,4 @@ pub returns : goal.returns
 returns c =
     let ff = c.ranges.from in
     let fu = c.ranges.until in
-    record { first = simp to_z-of_z at c.in-Some.ensures; last = simp to_z-of_z at c.in-Some-end_within.ensures }
+    record { first = simp to_z-of_z at c.in_ok-first.ensures; last = simp to_z-of_z at c.in_ok-last.ensures }

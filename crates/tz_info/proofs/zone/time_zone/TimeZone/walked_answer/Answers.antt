@@ -1,5 +1,5 @@
-use Rattle.tz_info.proofs.Words.{Counts, IsShownIn, IsWallAnswer, IsWindow, SFits, Some, Transition, ap, arith, digits-le, inl, ints, length, map_of, rules}
-use Rattle.tz_info.proofs.Words.{sym, to_z-of_z, w64, ◌+◌, ◌∙◌, ◌≡◌}
+use Rattle.tz_info.proofs.Words.{Counts, IsShownIn, IsValid, IsWallAnswer, IsWindow, SFits, Some, Transition, ap, arith, digits-le, inl, ints, length, map_of, rules}
+use Rattle.tz_info.proofs.Words.{sym, to_z-of_z, w32, w64, ◌+◌, ◌∙◌, ◌≡◌}
 use Rattle.tz_info.proofs.{OnePass.{table_most}, QuestionLaws.{asked_for_window}, SegmentLaws.{begin_next, between_passed, index_next}, TableSearch.{Between}}
 use Rattle.tz_info.proofs.WallSegments.{all_segments}
 use Rattle.tz_info.proofs.WalkLaws.{none_before, none_behind, one_look, rose_by_walk, tried_segment, walked_more}
@@ -7,14 +7,29 @@ use Rattle.tz_info.proofs.zone.time_zone.TimeZone.walked_answer.Goals.{After-pas
 use Rattle.tz_info.proofs.zone.time_zone.TimeZone.walked_answer.Goals as goal
 
 -- the window, and the first transitions, before it
-begun : (c : goal.After-passed_count-first) → IsWindow c.args.self.now c.args.local c.window-window.result.low c.window-window.result.high
-    × Between c.args.self.now.transitions c.window-window.result.low c.passed_count-first.result c.passed_count-first.result
+begun : (c : goal.After-passed_count-first) → IsWindow c.args.self.now c.args.local c.leap_time_near-low.result c.leap_time_near-high.result
+    × Between c.args.self.now.transitions c.leap_time_near-low.result c.passed_count-first.result c.passed_count-first.result
 begun c =
     let fl = c.ranges.local in
-    let fw : SFits w64 c.window-window.result.low = search rules in
-    let fh : SFits w64 c.window-window.result.high = search rules in (
-      simp to_z-of_z at c.window-window.ensures.window,
-      between_passed c.args.self.now.transitions c.window-window.result.low c.passed_count-first.result c.window-window.ensures.valid.transitions.rising c.passed_count-first.ensures.within (simp to_z-of_z at c.passed_count-first.ensures.passed),
+    let valid : IsValid c.args.self.now = rw (← c.self.view_is) c.self.invariant.valid in
+    let fg : SFits w32 c.self.inside.extremes.greatest = search rules in
+    let fe : SFits w32 c.self.inside.extremes.least = search rules in
+    let low = simp to_z-of_z at c.second_showing.ensures.value in
+    let high = simp to_z-of_z at c.second_showing-2.ensures.value in
+    let ug : SFits w64 c.second_showing.result = omega (arith, ints) in
+    let uh : SFits w64 c.second_showing-2.result = omega (arith, ints) in
+    let fw : SFits w64 c.leap_time_near-low.result = search rules in
+    let fh : SFits w64 c.leap_time_near-high.result = search rules in (
+      record {
+        greatest = c.self.inside.extremes.greatest;
+        least = c.self.inside.extremes.least;
+        is_greatest = rw (← c.self.view_is) c.self.invariant.extremes.greatest;
+        is_least = rw (← c.self.view_is) c.self.invariant.extremes.least;
+        is_low = rw low at (simp to_z-of_z at c.leap_time_near-low.ensures);
+        is_high = rw high at (simp to_z-of_z at c.leap_time_near-high.ensures);
+      },
+      between_passed c.args.self.now.transitions c.leap_time_near-low.result c.passed_count-first.result valid.transitions.rising
+          c.passed_count-first.ensures.within (simp to_z-of_z at c.passed_count-first.ensures.passed),
     )
 
 -- one segment more was tried, up to the next transition
@@ -24,7 +39,8 @@ tried c =
     let fn : SFits w64 c.transition-next.result.unix_leap_time = search rules in
     let z = c.args.self.now in let i = c.loop-place.invariant in let own = table_most z in
     let next = c.transition-next.ensures.item in
-    tried_segment z c.args.local c.loop-place.place c.loop-place.current.unix_leap_time _ _ _ c.window-window.ensures.valid (omega arith) (omega arith) i.begin
+    tried_segment z c.args.local c.loop-place.place c.loop-place.current.unix_leap_time _ _ _ (rw (← c.self.view_is) c.self.invariant.valid) (omega arith)
+    (omega arith) i.begin
     (inl (c.transition-next.result, omega arith, ap (λ (t : Transition). Some t.unix_leap_time) next)) (rw i.index at (simp to_z-of_z at c.try_until-answer.ensures)) (simp to_z-of_z at i.found)
 
 pub latest-current-requires-clause-room : goal.latest-current-requires-clause-room
@@ -36,7 +52,7 @@ loop-place-init c =
     let (window, split) = begun (goal.at.loop-place-init c).After-passed_count-first in
     let p = c.passed_count-first.ensures.cost in let q = c.latest-current.ensures.cost in
     record {
-      found = simp to_z-of_z (none_before c.args.self.now c.args.local c.window-window.result.low c.window-window.result.high c.passed_count-first.result c.window-window.ensures.valid window split);
+      found = simp to_z-of_z (none_before c.args.self.now c.args.local c.leap_time_near-low.result c.leap_time_near-high.result c.passed_count-first.result (rw (← c.self.view_is) c.self.invariant.valid) window split);
       begin = c.latest-current.ensures.begin;
       index = c.latest-current.ensures.index;
       listed = c.latest-current.ensures.listed;
@@ -53,25 +69,29 @@ loop-place-init c =
 pub transition-next-requires-clause-room : goal.transition-next-requires-clause-room
 transition-next-requires-clause-room c = let k = c.loop-place.invariant.walked.most in let n = c.transition_count-count.ensures in let r = c.requires.room.reads in omega (arith, digits-le (length c.args.self.now.transitions))
 
-pub returns-then-window-next : goal.returns-then-window-next
-returns-then-window-next c =
-    let at = goal.at.returns-then-window-next c in
+pub returns-then-high-next : goal.returns-then-high-next
+returns-then-high-next c =
+    let at = goal.at.returns-then-high-next c in
+    let fh : SFits w64 c.leap_time_near-high.result = search rules in
     let (window, split) = begun at.After-passed_count-first in
-    let z = c.args.self.now in let valid = c.window-window.ensures.valid in let walked = c.loop-place.invariant.walked in
-    let fh : SFits w64 c.window-window.result.high = search rules in
+    let z = c.args.self.now in let valid : IsValid z = rw (← c.self.view_is) c.self.invariant.valid in let walked = simp to_z-of_z at
+    c.loop-place.invariant.walked in
     let fn : SFits w64 c.transition-next.result.unix_leap_time = search rules in
     let time = ap (λ (t : Transition). t.unix_leap_time) c.transition-next.ensures.item in
     record {
-      found = none_behind z c.args.local c.window-window.result.low c.window-window.result.high c.loop-place.place c.transition-next.result _ valid window (omega arith) (omega (arith, ints)) (tried at.After-try_until-answer);
-      cost = rose_by_walk z c.args.local c.window-window.result.low c.window-window.result.high c.passed_count-first.result c.loop-place.place 1 _ _ _ window split (omega arith) walked (omega arith) (one_look _ _ c.transition-next.ensures.cost);
-      counted = asked_for_window z c.args.local c.window-window.result.low c.window-window.result.high c.loop-place.place c.transition-next.result _ _ valid window (omega arith) (omega (arith, ints))
+      found = none_behind z c.args.local c.leap_time_near-low.result c.leap_time_near-high.result c.loop-place.place c.transition-next.result _ valid
+          window (omega arith) (omega (arith, ints)) (tried at.After-try_until-answer);
+      cost = rose_by_walk z c.args.local c.leap_time_near-low.result c.leap_time_near-high.result c.passed_count-first.result c.loop-place.place 1 _ _ _
+          window split (omega arith) walked (omega arith) (one_look _ _ c.transition-next.ensures.cost);
+      counted = asked_for_window z c.args.local c.leap_time_near-low.result c.leap_time_near-high.result c.loop-place.place c.transition-next.result _ _
+          valid window (omega arith) (omega (arith, ints))
           (ap (λ (p : Counts). p.rule_questions) c.transition-next.ensures.cost ∙ walked.questions);
     }
 
 pub loop-place-preserved : goal.loop-place-preserved
 loop-place-preserved c =
     let fl = c.ranges.local in
-    let fh : SFits w64 c.window-window.result.high = search rules in
+    let fh : SFits w64 c.leap_time_near-high.result = search rules in
     let fn : SFits w64 c.transition-next.result.unix_leap_time = search rules in
     let ts = c.args.self.now.transitions in let place = c.loop-place.place in let next = c.transition-next.result in let item = c.transition-next.ensures.item in
     record {
@@ -79,7 +99,7 @@ loop-place-preserved c =
       begin = ap (λ (t : Transition). t.unix_leap_time) item ∙ sym (begin_next ts place next (omega arith));
       index = ap (λ (t : Transition). t.type_index) item ∙ sym (index_next ts place next (omega arith));
       listed = c.transition-next.ensures.index;
-      walked = walked_more c.args.self.now c.window-window.result.high c.passed_count-first.result place next _ _ _ (omega arith) c.loop-place.invariant.walked item (omega (arith, ints)) c.transition-next.ensures.cost;
+      walked = simp to_z-of_z (walked_more c.args.self.now c.leap_time_near-high.result c.passed_count-first.result place next _ _ _ (omega arith) (simp to_z-of_z at c.loop-place.invariant.walked) item (omega (arith, ints)) c.transition-next.ensures.cost);
     }
 
 pub try_last-requires-clause-seen : goal.try_last-requires-clause-seen
@@ -90,9 +110,12 @@ try_last-requires-clause-seen c =
 pub returns : goal.returns
 returns c =
     let fl = c.ranges.local in
+    let valid : IsValid c.args.self.now = rw (← c.self.view_is) c.self.invariant.valid in
+    let fh : SFits w64 c.leap_time_near-high.result = search rules in
     let (window, split) = begun (goal.at.returns c).After-passed_count-first in
     record {
-      found = all_segments c.args.self.now c.args.local _ c.window-window.ensures.valid.transitions.rising (simp to_z-of_z at c.try_last.ensures.found);
-      cost = rose_by_walk c.args.self.now c.args.local c.window-window.result.low c.window-window.result.high c.passed_count-first.result c.loop-place.place 0 _ _ _ window split (omega arith) c.loop-place.invariant.walked (omega arith) c.try_last.ensures.cost;
+      found = all_segments c.args.self.now c.args.local _ valid.transitions.rising (simp to_z-of_z at c.try_last.ensures.found);
+      cost = rose_by_walk c.args.self.now c.args.local c.leap_time_near-low.result c.leap_time_near-high.result c.passed_count-first.result
+          c.loop-place.place 0 _ _ _ window split (omega arith) (simp to_z-of_z at c.loop-place.invariant.walked) (omega arith) c.try_last.ensures.cost;
       counted = rw c.loop-place.invariant.walked.questions at (simp to_z-of_z at c.try_last.ensures.counted);
     }

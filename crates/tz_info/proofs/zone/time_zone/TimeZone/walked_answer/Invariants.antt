@@ -7,5 +7,5 @@ invariant-loop-place l = record {
   begin : l.current.unix_leap_time ≡ begin_of l.self.transitions l.place;
   index : l.current.type_index ≡ index_of l.self.transitions l.place;
   listed : l.current.type_index < length l.self.types;
-  walked : Walked l.self l.window.high l.first l.place l.fn.probes l.probes;
+  walked : Walked l.self l.high l.first l.place l.fn.probes l.probes;
 }

@@ -1,5 +1,0 @@
-use Rattle.tz_info.proofs.Words.{to_z-of_z}
-use Rattle.tz_info.proofs.zone.lookups.type_at.Goals as goal
-
-pub returns-in-Err : goal.returns-in-Err
-returns-in-Err c = let fu = c.ranges.unix_time in simp to_z-of_z at c.in-Err.ensures
