@@ -17,6 +17,7 @@ unfoldable pub use Rattle.gregorian.specs.Date.{day_number}
 unfoldable pub use Rattle.gregorian.specs.DateOf.{day_of_month, day_of_year, month_of, year_of}
 pub use Rattle.gregorian.specs.Month.{days_in_month}
 unfoldable pub use Rattle.gregorian.specs.Month.{days_of_months}
+pub use Rattle.gregorian.specs.Weeks.{IsThursdayOf}
 pub use Rattle.gregorian.specs.Year.{LiesIn, days_in_year, floor_div, floor_mod, is_leap}
 unfoldable pub use Rattle.gregorian.specs.Year.{year_start}
 pub use Rattle.naive_base.specs.Fields.{IsMonthsLater, month_after}

@@ -29,7 +29,7 @@ pub use Rattle.naive_base.specs.Stamp.{of_secs}
 pub use Rattle.naive_base.specs.declared.date.NaiveDate.{NaiveDate}
 pub use Rattle.zoned_time.specs.Choice.{AreOffsetsAround, IsBeforeGap, IsOffsetBeforeGap, IsResolved, IsTaken, IsUnresolved, offset_taken, out_of_range}
 pub use Rattle.zoned_time.specs.Choice.{refused}
-pub use Rattle.zoned_time.specs.DateTime.{wall_of, zoned}
+pub use Rattle.zoned_time.specs.DateTime.{home_law_of, wall_of, zoned}
 pub use Rattle.zoned_time.specs.DayEnds.{AreStartsOfDays, HasNoEnd, IsEndOfDay, IsGapEnd, IsZonedEnd, NonePassed, first_day_of_year, first_of_month}
 pub use Rattle.zoned_time.specs.Days.{AreEndsOfDay, AreInstantsOfDay, HasReached, IsFirstInstantFrom, IsFirstOutOfRange, IsFirstToReach, IsInDay, IsInstantFrom}
 pub use Rattle.zoned_time.specs.Days.{IsNeverOnDay, IsNoDay, IsOnDay, IsZonedAtOrAfter, midnight}
