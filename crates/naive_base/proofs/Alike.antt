@@ -3,10 +3,10 @@ use Rattle.std.proofs.Math.Nat.{pow-suc}
 use Rattle.std.proofs.lemmas.Fmt.{decimal_by_steps}
 use Rattle.std.specs.Prelude.{if◌then◌else◌, ◌==◌}
 use Rattle.offset_core.proofs.ForCallers.{clock_of, pair_at}
-use Rattle.naive_base.proofs.Words.{IsWide, IsWideDay, IsWideYear, List, Reading, ap, append_assoc, arith, date_is, date_text, day_at, day_number}
-use Rattle.naive_base.proofs.Words.{day_of_month, decimal, drop, floor_mod_parts, floors, four_digits, get_or, in_digits, is_leap, month_bounds}
-use Rattle.naive_base.proofs.Words.{month_day_text, month_of, nat_tests, neg_ℤ, pos, reading_at, reading_text, second_at, suc, time_text, year_of}
-use Rattle.naive_base.proofs.Words.{year_text, zero, ℕ, ℤ, [], ◌%◌, ◌*◌, ◌++◌, ◌+◌, ◌-◌, ◌/◌, ◌<◌, ◌^◌, ◌∙◌, ◌∷◌, ◌≡◌}
+use Rattle.naive_base.proofs.Words.{IsWide, IsWideDay, IsWideYear, List, Reading, ap, append_assoc, arith, date_is, date_text, day_at, day_number, day_of_month}
+use Rattle.naive_base.proofs.Words.{decimal, drop, floor_mod_parts, floors, four_digits, get_or, in_digits, is_leap, month_bounds, month_of, nat_tests, neg_ℤ}
+use Rattle.naive_base.proofs.Words.{pos, reading_at, reading_text, second_at, suc, time_text, year_of, year_text, zero, ℕ, ℤ, [], ◌%◌, ◌*◌, ◌++◌, ◌+◌, ◌-◌, ◌/◌}
+use Rattle.naive_base.proofs.Words.{◌<◌, ◌^◌, ◌∙◌, ◌∷◌, ◌≡◌}
 use Rattle.naive_base.proofs.{Ranges.{wide_year}}
 
 -- Numbers and years.
@@ -65,13 +65,7 @@ pub day_text-read : (day : ℤ) (rest : List ℕ) → IsWideDay day → day_read
 unfolding in_digits
 day_text-read day rest wide =
     let is = date_is day in let days = month_bounds (is_leap (year_of day)) (month_of day) in
-    rw (
-      append_assoc (year_text (year_of day)) (month_day_text (month_of day) (day_of_month day)) rest,
-      year_text-read (year_of day) _ (wide_year day wide),
-      pair_read (month_of day) (omega (arith, is.0.1)),
-      pair_read (day_of_month day) (omega (arith, is.0.3, days.1)),
-      is.1,
-    )
+    grind (arith, append_assoc, year_text-read, pair_read, wide_year day wide)
 
 -- Times and readings.
 

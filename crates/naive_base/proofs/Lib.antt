@@ -2,7 +2,6 @@ pub mod Words
 pub mod Moves
 pub mod Ranges
 pub mod Digits
-pub mod Readings
 pub mod Alike
 pub mod Values
 pub mod IsoWeeks

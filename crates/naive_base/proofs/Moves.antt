@@ -1,7 +1,6 @@
 -- The cases of a move.
-use Rattle.naive_base.proofs.Words.{Reading, ap, arith, cases_lt, difference, floor_div, floor_mod, floor_mod_parts, floors, inl, inr, ints, leap_between}
-use Rattle.naive_base.proofs.Words.{moved, moved_leap, nat_tests, neg_ℤ, of_total, pos, refl, total, unsigned_abs, ℕ, ℤ, ◌*ℤ◌, ◌+ℤ◌, ◌-ℤ◌, ◌<ℤ◌, ◌<◌, ◌∙◌, ◌≡◌}
-use Rattle.naive_base.proofs.Words.{◌≤ℤ◌, ◌≤◌}
+use Rattle.naive_base.proofs.Words.{Reading, arith, difference, floor_mod_parts, floors, ints, leap_between, moved, moved_leap, nat_tests, neg_ℤ, of_total, pos}
+use Rattle.naive_base.proofs.Words.{total, unsigned_abs, ℤ, ◌*ℤ◌, ◌+ℤ◌, ◌-ℤ◌, ◌<ℤ◌, ◌<◌, ◌≡◌, ◌≤ℤ◌, ◌≤◌}
 
 pub moved-plain : (r : Reading) (d : ℤ) → r.f < 1_000_000_000 → moved r d ≡ of_total (total r +ℤ d)
 moved-plain r d h = grind (arith, nat_tests)
@@ -20,26 +19,16 @@ pub moved_leap-behind : (s p : ℤ) → pos 2_000_000_000 ≤ℤ p
     → moved_leap s p ≡ of_total (s *ℤ pos 1_000_000_000 +ℤ p -ℤ pos 1_000_000_000)
 moved_leap-behind s p h = grind (arith, ints)
 
-pub ruleset moves = (moved-plain, moved-leap, moved_leap-before, moved_leap-within, moved_leap-behind)
-
 -- Readings that are no leap second are their whole nanoseconds.
 
-of_total-total : (s : ℤ) (f : ℕ) → f < 1_000_000_000
-    → (floor_div (s *ℤ pos 1_000_000_000 +ℤ pos f) 1_000_000_000 ≡ s)
-    × (floor_mod (s *ℤ pos 1_000_000_000 +ℤ pos f) 1_000_000_000 ≡ f)
-of_total-total s f h = grind arith
-
 of_total-total-reading : (r : Reading) → r.f < 1_000_000_000 → of_total (total r) ≡ r
-of_total-total-reading r h = let same = of_total-total r.s r.f h in rw (same.0, same.1) refl
+of_total-total-reading r h = grind arith
 
 total-of_total : (n : ℤ) → total (of_total n) ≡ n
 total-of_total n = let parts = floor_mod_parts n 1_000_000_000 (omega arith) in omega (arith, floors)
 
-of_total-plain : (n : ℤ) → (of_total n).f < 1_000_000_000
-of_total-plain n = (floor_mod_parts n 1_000_000_000 (omega arith)).1
-
 pub moved-plain_again : (r : Reading) (d : ℤ) → r.f < 1_000_000_000 → (moved r d).f < 1_000_000_000
-moved-plain_again r d h = rw (moved-plain r d h) (of_total-plain (total r +ℤ d))
+moved-plain_again r d h = grind (arith, floors)
 
 -- outside leap seconds all of it goes on by as much
 pub total-moved : (r : Reading) (d : ℤ) → r.f < 1_000_000_000 → total (moved r d) ≡ total r +ℤ d
@@ -57,28 +46,16 @@ leap_between-plain a b h k = grind (arith, nat_tests)
 difference-plain : (a b : Reading) → a.f < 1_000_000_000 → b.f < 1_000_000_000 → difference a b +ℤ total b ≡ total a
 difference-plain a b h k = rw (leap_between-plain a b h k) (omega (arith, floors))
 
-taken_away : (m n d : ℤ) → m +ℤ n ≡ n +ℤ d → m ≡ d
-taken_away m n d e = omega (arith, floors)
-
 pub difference-moved : (r : Reading) (d : ℤ) → r.f < 1_000_000_000 → difference (moved r d) r ≡ d
-difference-moved r d h =
-    taken_away (difference (moved r d) r) (total r) d (difference-plain (moved r d) r (moved-plain_again r d h) h ∙ total-moved r d h)
+difference-moved r d h = omega (arith, floors, difference-plain (moved r d) r (moved-plain_again r d h) h, total-moved r d h)
 
 -- A reading and itself.
 
-leap_between-itself : (r : Reading) → leap_between r r ≡ pos 0
-leap_between-itself r = grind (arith, nat_tests)
-
 pub difference-itself : (r : Reading) → difference r r ≡ pos 0
-difference-itself r = rw (leap_between-itself r) (omega (arith, floors))
-
-no_more : (n : ℤ) → n +ℤ pos 0 ≡ n
-no_more n = omega (arith, floors)
+difference-itself r = grind (arith, floors)
 
 -- by a move of no length a reading stays
 pub moved-none : (r : Reading) → r.f < 2_000_000_000 → moved r (pos 0) ≡ r
-moved-none r h =
-    elim (cases_lt r.f 1_000_000_000) [
-      | inl plain ↦ moved-plain r (pos 0) plain ∙ ap of_total (no_more (total r)) ∙ of_total-total-reading r plain
-      | inr leap ↦ moved-leap r (pos 0) leap ∙ ap (moved_leap r.s) (no_more (pos r.f)) ∙ moved_leap-within r.s (pos r.f) (omega (arith, floors)) (omega (arith, floors))
-    ]
+moved-none r h = grind arith
+
+pub ruleset moves_back = (moved-plain_again, moved-moved_back, difference-moved, moved-none, difference-itself)

@@ -1,9 +1,9 @@
 -- Days of ISO weeks, and the n-th weekday of a month.
-use Rattle.naive_base.proofs.Words.{IsDate, IsDateOf, IsDateOfDay, IsDayInRange, IsDayOfIsoWeek, IsThursdayOfWeek, IsWeekdayOfMonth}
-use Rattle.naive_base.proofs.Words.{IsYearInRange, LiesIn, MatchOption, NaiveDate, None, Option, Some, Weekday, arith, date_is, date_only, day_number}
-use Rattle.naive_base.proofs.Words.{day_of, day_of_month, day_of_year, day_of_year_is, days_in_year, false, floors, is_earlier_in_year}
-use Rattle.naive_base.proofs.Words.{lies_in, month_of, number_at, one_year, pos, refl, true, weekday_below, weekday_later, weekday_number}
-use Rattle.naive_base.proofs.Words.{weekday_of, whole_years, year_of, year_start, year_step, ℕ, ℤ, ◌%◌, ◌*◌, ◌+ℤ◌, ◌+◌, ◌-ℤ◌, ◌-◌, ◌/◌, ◌<◌, ◌≡◌, ◌≤◌}
+use Rattle.naive_base.proofs.Words.{IsDate, IsDateOf, IsDateOfDay, IsDayInRange, IsDayOfIsoWeek, IsThursdayOfWeek, IsWeekdayOfMonth, IsYearInRange, MatchOption}
+use Rattle.naive_base.proofs.Words.{NaiveDate, None, Option, Some, Weekday, arith, date_is, date_only, day_number, day_of, day_of_month, day_of_year}
+use Rattle.naive_base.proofs.Words.{day_of_year_is, days_in_year, false, floors, is_earlier_in_year, lies_in, month_of, number_at, one_year, pos, refl, true}
+use Rattle.naive_base.proofs.Words.{weekday_later, weekday_number, weekday_of, whole_years, year_of, year_start, year_step, ℕ, ℤ, ◌%◌, ◌*◌, ◌+ℤ◌, ◌+◌, ◌-ℤ◌}
+use Rattle.naive_base.proofs.Words.{◌-◌, ◌<◌, ◌≡◌, ◌≤◌}
 use Rattle.std.proofs.lemmas.Int.{ints}
 
 -- the day of the month of the n-th weekday w, where the month begins on the weekday f
@@ -14,8 +14,7 @@ pub found_nth : (y : ℤ) (m w n : ℕ) → w < 7 → 1 ≤ n
     → IsDate y m (nth_day (weekday_of (day_number y m 1)) w n)
     → IsWeekdayOfMonth y m w n (day_number y m (nth_day (weekday_of (day_number y m 1)) w n))
 found_nth y m w n h k date =
-    let f = weekday_of (day_number y m 1) in let d = nth_day f w n in
-    let only = date_only (day_number y m d) y m d date refl in grind (arith, number_at)
+    let d = nth_day (weekday_of (day_number y m 1)) w n in grind (arith, number_at, date_only (day_number y m d) y m d date refl)
 
 -- which has that day of the month, and the calendar has the date
 pub only_nth : (y : ℤ) (m w n : ℕ) (day : ℤ) → IsWeekdayOfMonth y m w n day
@@ -26,27 +25,19 @@ only_nth y m w n day h = grind (arith, date_is, weekday_later, number_at)
 abbrev pub thursday_place : ℕ → ℕ → ℕ
 thursday_place f n = (11 - f) % 7 + 7 * (n - 1)
 
-place_is : (f n : ℕ) → f < 7 → 1 ≤ n → ((f + thursday_place f n) % 7 ≡ 4) × (thursday_place f n / 7 + 1 ≡ n)
-place_is f n h k = (omega arith, omega arith)
-
 in_place : (y : ℤ) (p : ℕ) → p < days_in_year y → (year_of (year_start y +ℤ pos p) ≡ y) × (day_of_year (year_start y +ℤ pos p) ≡ p)
 in_place y p h =
     let t = year_start y +ℤ pos p in let step = year_step y in
-    let lies : LiesIn t y = (omega (arith, floors), omega (arith, floors)) in
-    let year = one_year t (year_of t) y (lies_in t) lies in let place = rw year at (day_of_year_is t).0 in
-    (year, omega (arith, floors))
+    grind (arith, floors, one_year t (year_of t) y (lies_in t) (omega (arith, floors), omega (arith, floors)), day_of_year_is t)
 
 pub found_thursday : (y : ℤ) (n : ℕ) → 1 ≤ n → thursday_place (weekday_of (year_start y)) n < days_in_year y
     → IsThursdayOfWeek y n (year_start y +ℤ pos (thursday_place (weekday_of (year_start y)) n))
-found_thursday y n h k =
-    let p = thursday_place (weekday_of (year_start y)) n in
-    let is = place_is (weekday_of (year_start y)) n (weekday_below (year_start y)) h in let place = in_place y p k in grind arith
+found_thursday y n h k = grind (arith, in_place y (thursday_place (weekday_of (year_start y)) n) k)
 
 pub only_thursday : (y : ℤ) (n : ℕ) (t : ℤ) → IsThursdayOfWeek y n t
     → (1 ≤ n) × (thursday_place (weekday_of (year_start y)) n < days_in_year y)
     × (year_start y +ℤ pos (thursday_place (weekday_of (year_start y)) n) ≡ t)
-only_thursday y n t h =
-    let is = rw h.year at (day_of_year_is t) in grind arith
+only_thursday y n t h = grind (arith, floors, day_of_year_is t)
 
 pub number_below : (w : Weekday) → weekday_number w < 7
 number_below w = grind arith
@@ -71,8 +62,7 @@ pub nth_answer : (y : ℤ) (m w n : ℕ) (answer : Option NaiveDate) → w < 7 �
     → IsDateOf y m (nth_day (weekday_of (day_number y m 1)) w n) answer
     → MatchOption answer (IsYearInRange y → (day : ℤ) → IsWeekdayOfMonth y m w n day → ⊥)
     (λ d. IsYearInRange y × IsWeekdayOfMonth y m w n (day_of d))
-nth_answer y m w n (Some d) h k is = (is.0, rw is.2 (found_nth y m w n h k is.1))
-nth_answer y m w n None h k is = λ fits day only. is fits (only_nth y m w n day only).0
+nth_answer y m w n answer h k is = grind (arith, found_nth y m w n h k, only_nth y m w n)
 
 pub iso_answer : (y : ℤ) (n w : ℕ) (t day : ℤ) (answer : Option NaiveDate) → w < 7 → IsThursdayOfWeek y n t
     → day ≡ t -ℤ pos 3 +ℤ pos ((w + 6) % 7) → IsDateOfDay day answer

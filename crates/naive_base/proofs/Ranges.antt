@@ -1,18 +1,12 @@
 -- The days of the years in range, and the seconds.
-use Rattle.naive_base.proofs.Words.{IsDate, IsDayInRange, IsInRange, IsInnerDay, IsInnerYear, IsWideDay, IsWideYear, IsYearInRange, arith, by_lt_z}
-use Rattle.naive_base.proofs.Words.{date_between, day_number, days_in_year, floors, inl, inr, lies_in, neg_ℤ, pos, starts_rise, year_of, year_start}
-use Rattle.naive_base.proofs.Words.{year_step, ℕ, ℤ, ◌+ℤ◌, ◌-ℤ◌, ◌<ℤ◌, ◌<◌, ◌≤ℤ◌, ◌⊎◌}
+use Rattle.naive_base.proofs.Words.{IsDate, IsDayInRange, IsInRange, IsInnerDay, IsInnerYear, IsWideDay, IsWideYear, IsYearInRange, arith, date_between}
+use Rattle.naive_base.proofs.Words.{day_number, days_in_year, floors, lies_in, neg_ℤ, pos, starts_rise, year_of, year_start, year_step, ℕ, ℤ, ◌+ℤ◌, ◌-ℤ◌, ◌<ℤ◌}
+use Rattle.naive_base.proofs.Words.{◌<◌, ◌≤ℤ◌, ◌⊎◌}
 
 -- the days of the years from a to b are those from the start of a on, and before the start of the year after b
 years_between : (a b day : ℤ) → year_start a ≤ℤ day → day <ℤ year_start (b +ℤ pos 1) → (a ≤ℤ year_of day) × (year_of day ≤ℤ b)
 years_between a b day from to =
-    let y = year_of day in let lies = lies_in day in (
-      by_lt_z y a (λ less. let rise = starts_rise (y +ℤ pos 1) a (omega (arith, floors)) in absurd (omega (arith, floors))) (λ more. more),
-      by_lt_z b y (λ less. let rise = starts_rise (b +ℤ pos 1) y (omega (arith, floors)) in absurd (omega (arith, floors))) (λ more. more),
-    )
-
-starts_between : (a b y : ℤ) → (a ≤ℤ y) × (y ≤ℤ b) → (year_start a ≤ℤ year_start y) × (year_start (y +ℤ pos 1) ≤ℤ year_start (b +ℤ pos 1))
-starts_between a b y fits = (starts_rise a y fits.0, starts_rise (y +ℤ pos 1) (b +ℤ pos 1) (omega (arith, floors)))
+    let lies = lies_in day in (grind (arith, floors, starts_rise (year_of day +ℤ pos 1) a), grind (arith, floors, starts_rise (b +ℤ pos 1) (year_of day)))
 
 pub years_in_range : (day : ℤ) → IsDayInRange day → IsYearInRange (year_of day)
 unfolding year_start
@@ -32,45 +26,33 @@ wide_year day wide = year_within day (omega (arith, floors, wide.0)) (omega (ari
 
 pub days_in_range : (day : ℤ) → IsYearInRange (year_of day) → IsDayInRange day
 unfolding year_start
-days_in_range day fits =
-    let lies = lies_in day in let starts = starts_between (neg_ℤ (pos 262_143)) (pos 262_142) (year_of day) fits in
-    (omega (arith, floors), omega (arith, floors))
+days_in_range day fits = let lies = lies_in day in (omega (arith, floors), omega (arith, floors))
 
 pub inner_days : (day : ℤ) → IsInnerYear (year_of day) → IsInnerDay day
 unfolding year_start
-inner_days day fits =
-    let lies = lies_in day in let starts = starts_between (neg_ℤ (pos 262_142)) (pos 262_141) (year_of day) fits in
-    (omega (arith, floors), omega (arith, floors))
+inner_days day fits = let lies = lies_in day in (omega (arith, floors), omega (arith, floors))
 
 pub date_in_years : (y : ℤ) (m d : ℕ) → IsYearInRange y → IsDate y m d → IsDayInRange (day_number y m d)
 unfolding year_start
-date_in_years y m d fits date =
-    let between = date_between (neg_ℤ (pos 262_143)) (pos 262_142) y m d fits.0 fits.1 date in (omega (arith, floors), omega (arith, floors))
+date_in_years y m d fits date = grind (arith, floors, date_between (neg_ℤ (pos 262_143)) (pos 262_142) y m d fits.0 fits.1 date)
 
 -- the days of the inner years are those between
 pub inner_day : (y : ℤ) (m d : ℕ) → IsInnerYear y → IsDate y m d → IsInnerDay (day_number y m d)
 unfolding year_start
-inner_day y m d fits date =
-    let between = date_between (neg_ℤ (pos 262_142)) (pos 262_141) y m d fits.0 fits.1 date in (omega (arith, floors), omega (arith, floors))
+inner_day y m d fits date = grind (arith, floors, date_between (neg_ℤ (pos 262_142)) (pos 262_141) y m d fits.0 fits.1 date)
 
 -- a day away from a date of the inner years is still in range
 pub inner_date : (y : ℤ) (m d : ℕ) → IsInnerYear y → IsDate y m d
     → IsDayInRange (day_number y m d -ℤ pos 1) × IsDayInRange (day_number y m d +ℤ pos 1)
-inner_date y m d fits date =
-    let inner = inner_day y m d fits date in
-    ((omega (arith, floors, inner), omega (arith, floors, inner)), (omega (arith, floors, inner), omega (arith, floors, inner)))
+inner_date y m d fits date = grind (arith, floors, inner_day y m d fits date)
 
 pub day_in_years : (y : ℤ) (n : ℕ) → IsYearInRange y → n < days_in_year y → IsDayInRange (year_start y +ℤ pos n)
 unfolding year_start
-day_in_years y n h k =
-    let starts = starts_between (neg_ℤ (pos 262_143)) (pos 262_142) y h in let step = year_step y in (omega (arith, floors), omega (arith, floors))
+day_in_years y n h k = let step = year_step y in (omega (arith, floors), omega (arith, floors))
 
 pub inner_day_in_years : (y : ℤ) (n : ℕ) → IsInnerYear y → n < days_in_year y → IsInnerDay (year_start y +ℤ pos n)
 unfolding year_start
-inner_day_in_years y n h k =
-    let starts = starts_between (neg_ℤ (pos 262_142)) (pos 262_141) y h in let step = year_step y in (omega (arith, floors), omega (arith, floors))
+inner_day_in_years y n h k = let step = year_step y in (omega (arith, floors), omega (arith, floors))
 
 pub in_range_or_not : (s : ℤ) → IsInRange s ⊎ (IsInRange s → ⊥)
-in_range_or_not s = by_lt_z s (neg_ℤ (pos 8_334_601_228_800))
-    (λ low. inr (λ h. let from = h.0 in omega (arith, floors, low, from)))
-    (λ from. by_lt_z (pos 8_210_266_876_799) s (λ high. inr (λ h. let to = h.1 in omega (arith, floors, high, to))) (λ to. inl (from, to)))
+in_range_or_not s = grind (arith, floors)

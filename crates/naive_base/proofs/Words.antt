@@ -3,7 +3,6 @@ pub use Rattle.std.proofs.Common.{FitsSigned, List, ap, append_assoc, arith, fal
 pub use Rattle.std.proofs.Common.{suc, sym, to_z, to_z-of_z, true, unsigned_abs, w64, zero, get_or, drop, ℕ, ℤ, [], ◌%◌, ◌*ℤ◌, ◌*◌, ◌++◌, ◌+ℤ◌, ◌+◌, ◌-ℤ◌, ◌-◌}
 pub use Rattle.std.proofs.Common.{◌/◌, ◌<ℤ◌, ◌<◌, ◌^◌, ◌∙◌, ◌∷◌, ◌≡◌, ◌≤ℤ◌, ◌≤◌, ◌⊎◌}
 pub use Rattle.std.proofs.Props.{props}
-pub use Rattle.std.proofs.lemmas.Bool.{cases_lt}
 pub use Rattle.std.proofs.lemmas.Bool.Decides.{nat_tests}
 pub use Rattle.std.proofs.lemmas.Fmt.{decimal_digit, decimal_step}
 pub use Rattle.std.proofs.lemmas.Int.{by_lt_z, ints}
@@ -21,17 +20,16 @@ unfoldable pub use Rattle.gregorian.specs.Month.{days_of_months}
 pub use Rattle.gregorian.specs.Weeks.{IsThursdayOf}
 pub use Rattle.gregorian.specs.Year.{LiesIn, days_in_year, floor_div, floor_mod, is_leap}
 unfoldable pub use Rattle.gregorian.specs.Year.{year_start}
-pub use Rattle.naive_base.specs.Fields.{IsMonthsLater, MayShow, month_after}
+pub use Rattle.naive_base.specs.Fields.{IsMonthsLater, month_after}
 pub use Rattle.naive_base.specs.IsoWeek.{IsWeekOf, iso_number, iso_year}
 pub use Rattle.naive_base.specs.Months.{month_of_number, months_of, year_of_number}
 pub use Rattle.naive_base.specs.NaiveDate.{IsDateOf, IsDateOfDay, IsDateOn, day_of}
 pub use Rattle.naive_base.specs.NaiveDateTime.{IsReadingOnDay, day_shown_by, reading}
 pub use Rattle.naive_base.specs.NaiveTime.{fraction_of, second_of}
 pub use Rattle.naive_base.specs.Named.{IsDayOfIsoWeek, IsThursdayOfWeek, IsWeekdayOfMonth, is_earlier_in_year, whole_years}
-pub use Rattle.naive_base.specs.Range.{IsDayInRange, IsInRange, IsInner, IsInnerDay, IsInnerYear, IsReading, IsTime, IsWide, IsWideDay, IsWideYear}
-pub use Rattle.naive_base.specs.Range.{IsYearInRange}
+pub use Rattle.naive_base.specs.Range.{IsDayInRange, IsInRange, IsInnerDay, IsInnerYear, IsReading, IsTime, IsWide, IsWideDay, IsWideYear, IsYearInRange}
 pub use Rattle.naive_base.specs.Reading.{IsEarlier, Reading, day_at, difference, leap_between, moved, moved_leap, of_total, reading_at, second_at, total}
-pub use Rattle.naive_base.specs.Text.{date_text, four_digits, fraction_text, month_day_text, reading_text, time_text}
+pub use Rattle.naive_base.specs.Text.{date_text, four_digits, fraction_text, reading_text, time_text}
 unfoldable pub use Rattle.naive_base.specs.Text.{year_text}
 pub use Rattle.naive_base.specs.Weekday.{weekday_number, weekday_of}
 pub use Rattle.naive_base.specs.declared.date.NaiveDate.{NaiveDate}

@@ -1,5 +1,5 @@
 //! Dates.
-ghost use Rattle.std.specs.Prelude.{◌≡◌, ◌↔◌, IsTrue, IfSome, ◌+◌, ◌*◌, ◌≤◌, pos, ◌+ℤ◌, ◌-ℤ◌, ◌*ℤ◌};
+ghost use Rattle.std.specs.Prelude.{◌≡◌, ◌↔◌, IsTrue, IfSome, ◌+◌, ◌*◌, pos, ◌+ℤ◌, ◌-ℤ◌, ◌*ℤ◌};
 ghost use Rattle.gregorian.specs.Year.{floor_div};
 ghost use Rattle.gregorian.specs.Date.{IsDate, day_number};
 ghost use Rattle.gregorian.specs.DateOf.{year_of, month_of, day_of_month};

@@ -1,6 +1,6 @@
 //! Theorems: the contract of each function is proved, and none is called. Each is empty, except one
 //! that names constants.
-ghost use Rattle.std.specs.Prelude.{◌≡◌, ◌↔◌, IsTrue, ◌<◌, ◌<ℤ◌, ℕ, ℤ, pos, neg_ℤ};
+ghost use Rattle.std.specs.Prelude.{◌≡◌, ◌↔◌, ◌<◌, ℕ, ℤ, pos, neg_ℤ};
 ghost use Rattle.gregorian.specs.Year.{floor_div};
 ghost use Rattle.gregorian.specs.Date.{day_number};
 ghost use Rattle.gregorian.specs.DateOf.{year_of};
@@ -50,7 +50,8 @@ pub fn first_and_last_date() -> (NaiveDate, NaiveDate)
 
 /// A local date-time is its day and its time, and any day and time make one.
 pub fn parts_law()
-    ensures joined { (r : readings.Reading) → readings.reading_at (readings.day_at r) (readings.second_at r) r.f ≡ r }
+    ensures joined { (r : readings.Reading)
+        → readings.reading_at (readings.day_at r) (readings.second_at r) r.f ≡ r }
     ensures parted { (day : ℤ) (second f : ℕ) → second < 86_400
         → (readings.day_at (readings.reading_at day second f) ≡ day)
         × (readings.second_at (readings.reading_at day second f) ≡ second) }
@@ -64,6 +65,7 @@ pub fn order_law()
 /// Away from leap seconds a move is undone by its opposite, and the difference says how far it
 /// went. A move of no length changes no local date-time, in leap seconds too, and each is no time
 /// away from itself.
+#[tactic(auto, using(crate::proofs::Moves::moves_back))]
 pub fn moves_law()
     ensures back { (r : readings.Reading) (d : ℤ) → r.f < 1_000_000_000
         → ((readings.moved r d).f < 1_000_000_000) × (readings.moved (readings.moved r d) (neg_ℤ d) ≡ r) }

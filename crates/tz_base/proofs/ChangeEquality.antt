@@ -1,6 +1,5 @@
 -- Types of local time, changes of the clocks and spans are equal by `==` if and only if they are equal.
 use Rattle.std.proofs.Common.{arith, rules, int_eq, ◌≡◌, ◌↔◌, IsTrue, refl, Bool, ◌&&◌}
-use Rattle.std.proofs.lemmas.Int.{ints}
 use Rattle.std.proofs.lemmas.Bool.Decides.{Decides-and}
 use Rattle.std.specs.Option.{option_eq}
 use Rattle.tz_base.specs.{contracts.local_time_type.LocalTimeTypePartialEq.TheImpl.{eq-value as type_eq}, declared.span.Span.{Span}}
@@ -32,4 +31,4 @@ end_exact u v = search rules
 
 pub span_exact : (a b : Span) → IsTrue (type_eq.it a.local_time_type b.local_time_type && (option_eq int_eq a.from b.from && option_eq int_eq a.until b.until)) ↔ (a ≡ b)
 span_exact a b =
-    grind (arith, ints, Decides-and _ _ (type_exact a.local_time_type b.local_time_type) (Decides-and _ _ (end_exact a.from b.from) (end_exact a.until b.until)))
+    grind (arith, Decides-and _ _ (type_exact a.local_time_type b.local_time_type) (Decides-and _ _ (end_exact a.from b.from) (end_exact a.until b.until)))

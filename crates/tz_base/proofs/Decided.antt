@@ -24,10 +24,8 @@ pub apart : {X : Type 0} {r : Result X Error} {P : X → Type 0} {F : Error → 
 apart d x err p f = let a = d.again x p in let b = d.refuses err f in cc
 
 pub either : {X : Type 0} {r : Result X Error} {P : X → Type 0} {F : Error → Type 0} → Decided X r P F → ((x : X) × P x) ⊎ ((err : Error) × F err)
-either {r = r} d = by r (λ x e. d.takes x e) (λ err e. d.fails err e) where
-  by : {X : Type 0} {P : X → Type 0} {F : Error → Type 0} (r : Result X Error) → ((x : X) → r ≡ Ok x → P x) → ((err : Error) → r ≡ Err err → F err) → ((x : X) × P x) ⊎ ((err : Error) × F err)
-  by (Ok x) p f = inl (x, p x refl)
-  by (Err err) p f = inr (err, f err refl)
+either {r = Ok x} d = inl (x, d.takes x refl)
+either {r = Err err} d = inr (err, d.fails err refl)
 
 pub fault_low : {X : Type 0} {r : Result X Error} {P : X → Type 0} {F : Error → Type 0} → Decided X r P F → (err : Error) → F err → error_number err ≤ 16
 fault_low d err f = d.low err (d.refuses err f)

@@ -1,5 +1,5 @@
 -- What a grammar reads is what it spells, or the error of its fault.
-use Rattle.std.proofs.Common.{Bool, List, Ok, Result, arith, drop, inl, inr, length, nat_le, refl, take, true, ℕ, [], ◌&&◌, ◌++◌, ◌<◌, ◌==◌, ◌∷◌, ◌≡◌, ◌≤◌, ◌⊎◌}
+use Rattle.std.proofs.Common.{Bool, List, Ok, Result, arith, drop, length, take, true, ℕ, [], ◌&&◌, ◌++◌, ◌<◌, ◌==◌, ◌∷◌, ◌≡◌, ◌≤◌, ◌⊎◌}
 use Rattle.std.proofs.{Math.Seq.{take-append_seam}, lemmas.Bool.Decides.{nat_tests}, lemmas.List.{length-append, length-take, take-append-drop}}
 use Rattle.std.proofs.lemmas.Int.{ints}
 use Rattle.std.specs.Bool.{Decides}
@@ -10,7 +10,7 @@ use Rattle.tz_base.specs.Grammar.{Run, Spells, Then, is_end, read}
 use Rattle.tz_base.specs.Refusals.{Refusal, error}
 use Rattle.tz_base.specs.declared.error.Error.TheVariants.{ParseInt}
 use Rattle.tz_base.specs.declared.error.Expected.TheVariants.{Digit, NumberWithinItsLimit}
-use Rattle.tz_base.proofs.{Decided.{Decided, and_then, choice, done, like, refused}, ReadLaws.{at_least, drop_front}}
+use Rattle.tz_base.proofs.{Decided.{Decided, and_then, choice, like, refused}, ReadLaws.{drop_front}}
 
 -- reading gives P, or the fault F
 abbrev Reads : {X : Type 0} → (List ℕ → Result (X × List ℕ) Error) → (List ℕ → X → List ℕ → Type 0) → (List ℕ → Error → Type 0) → Type 0
@@ -76,15 +76,7 @@ rest_read bytes = grind arith
 
 -- ---- a number
 within_law : (max : ℕ) (ds : List ℕ) → Decided ℕ (number_within max ds) (λ n. (0 < length ds) × (value_from 0 ds ≡ n) × (n ≤ max)) (λ e. ((length ds ≡ 0) × (e ≡ ParseInt Digit)) ⊎ ((0 < length ds) × (max < value_from 0 ds) × (e ≡ ParseInt NumberWithinItsLimit)))
-within_law max [] = like (refused (ParseInt Digit) (omega arith)) (λ n h. absurd h) (λ n h. absurd (omega (arith, h.0))) (λ e h. inl (refl, h)) (λ e h. elim h [ inl k ↦ k.1 | inr k ↦ absurd (omega (arith, k.0)) ])
-within_law max (d ∷ ds) = like (choice (below max (value_from 0 (d ∷ ds))) (done (value_from 0 (d ∷ ds))) (refused (ParseInt NumberWithinItsLimit) (omega arith)))
-    (λ n h. elim h [ inl k ↦ (omega arith, k.1, rw (← k.1) k.0) | inr k ↦ absurd k.1 ])
-    (λ n h. inl (rw h.1 h.2, h.1))
-    (λ e h. elim h [ inl k ↦ absurd k.1 | inr k ↦ inr (omega arith, at_least (λ l. k.0 (omega arith)), k.1) ])
-    (λ e h. elim h [ inl k ↦ absurd (omega (arith, k.0)) | inr k ↦ inr ((λ l. absurd (omega (arith, l, k.1))), k.2) ])
-  where
-    below : (max n : ℕ) → Decides (nat_le n max) (n ≤ max)
-    below max n = (λ t. grind (arith, nat_tests), λ l. grind (arith, nat_tests))
+within_law max ds = grind (arith, nat_tests)
 
 number_read : (max : ℕ) → Reads (int_at max) (IsNumber max) (NumberFault max)
 unfolding int_at

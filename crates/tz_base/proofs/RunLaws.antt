@@ -1,6 +1,6 @@
 -- Longest runs, and what digits stand for.
-use Rattle.std.proofs.Common.{Bool, Err, List, Ok, Result, add-one, ap, arith, drop, drop-cons, false, get_or, length, refl, suc, sym, true, ℕ, [], ◌*◌, ◌++◌}
-use Rattle.std.proofs.Common.{◌+◌, ◌-◌, ◌<◌, ◌∷◌, ◌≡◌, ◌≤◌}
+use Rattle.std.proofs.Common.{Bool, Err, List, Ok, Result, add-one, arith, drop, drop-cons, false, get_or, length, refl, suc, sym, true, ℕ, [], ◌*◌, ◌++◌, ◌+◌}
+use Rattle.std.proofs.Common.{◌-◌, ◌<◌, ◌∷◌, ◌≡◌, ◌≤◌}
 use Rattle.std.proofs.lemmas.Bool.Decides.{nat_tests}
 use Rattle.tz_base.specs.{Fronts.{AllOf, after_run, int_at, is_digit, number_within, run_of, value_from, ◌>>=◌}, declared.error.Error.{Error}}
 use Rattle.tz_base.specs.{declared.error.Error.TheVariants.{ParseInt}, declared.error.Expected.TheVariants.{NumberWithinItsLimit}}
@@ -21,9 +21,7 @@ pub run_is : (p : ℕ → Bool) (xs ys : List ℕ) → ((k : ℕ) → k < length
 run_is p [] [] passes stops = (refl, refl)
 run_is p [] (y ∷ ys) passes stops = let e = stops (omega arith) in (rw e refl, rw e refl)
 run_is p (x ∷ xs) ys passes stops =
-    let e = passes 0 (omega arith) in
-    let rest = run_is p xs ys (λ k h. passes (suc k) (omega arith)) stops in
-    (rw e (ap (λ zs. x ∷ zs) rest.0), rw e rest.1)
+    let e = passes 0 (omega arith) in let rest = run_is p xs ys (λ k h. passes (suc k) (omega arith)) stops in grind arith
 
 pub all_of : (p : ℕ → Bool) (bs : List ℕ) → ((k : ℕ) → k < length bs → p (get_or bs k 0) ≡ true) → AllOf p bs
 all_of p [] h = tt

@@ -16,7 +16,7 @@ first_from p decide (suc n) start end e h = elim (decide start) [
 ]
 
 less_or_not : (a b : ℤ) → (a <ℤ b) ⊎ (a <ℤ b → ⊥)
-less_or_not a b = by_lt_z a b (λ less. inl less) (λ more. inr (λ less. absurd (omega (arith, ints, more, less))))
+less_or_not a b = grind (arith, ints)
 
 -- a reading that no clock shows has an offset before it
 pub gap_has_offset : (off : ℤ → ℤ) (l : ℤ) → ((u : ℤ) → IsZoneSecond u → IsWithinDay (off u)) → IsWide l → IsNeverShown (ShowsByOffset off l) → (k : ℤ) × IsBeforeGap off l k
@@ -63,5 +63,4 @@ around_shown off l day wide None wall = let before = gap_has_offset off l day wi
 pub choice_decided : (off : ℤ → ℤ) (l : ℤ) (choice : Choice) → ((u : ℤ) → IsZoneSecond u → IsWithinDay (off u)) → IsWide l
     → (shown : LocalResult ℤ) → IsWallAnswer (ShowsByOffset off l) shown → IsDecided off l choice
 choice_decided off l choice day wide shown wall =
-    let a = around_shown off l day wide shown wall in
-    by_outcome off l choice (taken_of choice a.0) (record { around = a.0; right = a.1; taken = refl })
+    let a = around_shown off l day wide shown wall in grind (arith, by_outcome off l choice (taken_of choice a.0))

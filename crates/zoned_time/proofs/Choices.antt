@@ -1,11 +1,11 @@
 -- What a choice takes for a wall clock.
-use Rattle.offset_core.specs.{declared.around.Around.TheVariants.{Ambiguous, Gap, Single}, declared.around.Taken.TheVariants.{Shown}}
+use Rattle.offset_core.specs.{declared.around.Taken.TheVariants.{Shown}}
 use Rattle.offset_core.specs.declared.resolve_error.ResolveError.TheVariants.{OutOfRange}
 use Rattle.std.specs.Prelude.{⊤}
 use Rattle.zoned_time.proofs.Words.{AreOffsetsAround, Around, Choice, Err, HasInstant, HoldsOfEachAround, HoldsOfTaken, IsAt, IsBeforeGap, IsInRange}
 use Rattle.zoned_time.proofs.Words.{IsResolved, IsTaken, IsUnresolved, Law, MatchResult, Meaning, Ok, Reading, ResolveError, Result, SameLaw, ShowsByOffset}
-use Rattle.zoned_time.proofs.Words.{Taken, Takes, Zoned, behind, home_law, instant_of, map_outcome, map_taken, offset_taken, out_of_range, refl, refused, subst}
-use Rattle.zoned_time.proofs.Words.{taken_holds, taken_of, taken_of_images, ℤ, ◌-ℤ◌, ◌≡◌}
+use Rattle.zoned_time.proofs.Words.{Taken, Takes, Zoned, behind, arith, home_law, instant_of, ints, map_around, map_outcome, map_taken, offset_taken}
+use Rattle.zoned_time.proofs.Words.{out_of_range, subst, taken_holds, taken_of, taken_of_images, ℤ, ◌-ℤ◌, ◌≡◌}
 use Rattle.zoned_time.proofs.Relocals.{at_shown}
 
 -- an offset at which clocks show the reading, in force then
@@ -13,27 +13,17 @@ abbrev IsShownBy : {O : Type 0} {m : Meaning O} → Law m → ℤ → O → Type
 IsShownBy {m = m} law l o = (u : ℤ) × ShowsByOffset law.off l u (m.seconds o) × law.in_force (l -ℤ m.seconds o) o × SameLaw (home_law m o) law
 
 each_shown_by : {O : Type 0} {m : Meaning O} (law : Law m) (l : ℤ) (a : Around O O) → AreOffsetsAround law l a → HoldsOfEachAround (IsShownBy law l) (λ _. ⊤) a
-each_shown_by law l (Single o) h = (h.wall.second, h.wall.shown, h.in_force, h.same_home)
-each_shown_by law l (Ambiguous o p) h =
-    ((h.wall.first, h.wall.at_first, h.in_force.0, h.same_home.0), (h.wall.last, h.wall.at_last, h.in_force.1, h.same_home.1))
-each_shown_by law l (Gap o) h = tt {0}
+each_shown_by law l a h = grind arith
 
 -- in seconds
 takes_seconds : {O : Type 0} {m : Meaning O} (law : Law m) (l : ℤ) (choice : Choice) (a : Around O O) → AreOffsetsAround law l a
     → Takes (ShowsByOffset law.off l) (IsBeforeGap law.off l) choice (map_outcome m.seconds m.seconds (taken_of choice a))
-takes_seconds {m = m} law l choice (Single o) h = record { around = Single (m.seconds o); right = h.wall; taken = refl }
-takes_seconds {m = m} law l choice (Ambiguous o p) h =
-    record { around = Ambiguous (m.seconds o) (m.seconds p); right = h.wall; taken = taken_of_images m.seconds m.seconds choice (Ambiguous o p) }
-takes_seconds {m = m} law l choice (Gap o) h =
-    record { around = Gap (m.seconds o); right = h.0; taken = taken_of_images m.seconds m.seconds choice (Gap o) }
+takes_seconds {m = m} law l choice a h =
+    record { around = map_around m.seconds m.seconds a; right = grind arith; taken = taken_of_images m.seconds m.seconds choice a }
 
 is_taken : {O : Type 0} {m : Meaning O} (law : Law m) (l : ℤ) (choice : Choice) (a : Around O O) (t : Taken O O) → AreOffsetsAround law l a
     → taken_of choice a ≡ Ok t → IsTaken law.off l choice (offset_taken (map_taken m.seconds m.seconds t))
-is_taken {m = m} law l choice a t h e = record {
-  taken = map_taken m.seconds m.seconds t;
-  takes = subst (λ r. Takes (ShowsByOffset law.off l) (IsBeforeGap law.off l) choice (map_outcome m.seconds m.seconds r)) e (takes_seconds law l choice a h);
-  offset = refl;
-}
+is_taken {m = m} law l choice a t h e = grind (arith, ints, map_taken m.seconds m.seconds t, takes_seconds law l choice a h)
 
 -- by the offset that is taken
 pub taken_resolved : {O D : Type 0} {m : Meaning O} (law : Law m) (l : Reading) (choice : Choice) (a : Around O O) (t : Taken O O) (show : D → Zoned O)
@@ -41,8 +31,7 @@ pub taken_resolved : {O D : Type 0} {m : Meaning O} (law : Law m) (l : Reading) 
     → AreOffsetsAround law l.s a → taken_of choice a ≡ Ok t → let k = offset_taken (map_taken m.seconds m.seconds t) in
     MatchResult result (λ d. IsInRange (l.s -ℤ k) × IsAt law (behind l k) (show d)) (λ e. (e ≡ OutOfRange) × ¬ (IsInRange (l.s -ℤ k)))
     → MatchResult result (λ d. IsResolved law l choice (show d)) (λ e. IsUnresolved law.off l.s choice e)
-taken_resolved {m = m} law l choice a t show (Ok d) around e h =
-    record { offset = offset_taken (map_taken m.seconds m.seconds t); taken = is_taken law l.s choice a t around e; in_range = h.0; at = h.1 }
+taken_resolved law l choice a t show (Ok d) around e h = grind (arith, ints, map_taken, is_taken)
 taken_resolved law l choice a t show (Err f) around e h = out_of_range _ (is_taken law l.s choice a t around e) h.1 h.0
 
 -- by one at which clocks show the reading
@@ -59,6 +48,4 @@ shown_resolved law l choice a o show (Err f) around e h = taken_resolved law l c
 
 pub refused_of : {O : Type 0} {m : Meaning O} (law : Law m) (l : ℤ) (choice : Choice) (a : Around O O) (e : ResolveError) → AreOffsetsAround law l a
     → taken_of choice a ≡ Err e → IsUnresolved law.off l choice e
-refused_of {m = m} law l choice a e h none =
-    refused (subst (λ r. Takes (ShowsByOffset law.off l) (IsBeforeGap law.off l) choice (map_outcome m.seconds m.seconds r)) none
-    (takes_seconds law l choice a h))
+refused_of law l choice a e h none = grind (arith, ints, takes_seconds law l choice a h)

@@ -1,9 +1,9 @@
 -- Days from their starts: the last instant, and first days before the range.
 use Rattle.zoned_time.proofs.Words.{AreStartsOfDays, HasNoEnd, IsAt, IsDateOn, IsDaysLater, IsEarlier, IsEndOfDay, IsFirstInstantFrom, IsFirstOutOfRange}
-use Rattle.zoned_time.proofs.Words.{IsFirstToReach, IsGapEnd, IsInDay, IsInRange, IsNeverShown, IsShownBetween, IsShownOnce, IsWideDay}
-use Rattle.zoned_time.proofs.Words.{IsZoneSecond, IsZonedAtOrAfter, IsZonedEnd, Law, MatchOption, MayShowDay, Meaning, NaiveDate, None, NonePassed, Option}
-use Rattle.zoned_time.proofs.Words.{Reading, SameLaw, SameOffsets, ShowsByOffset, Some, SomeIff, Zoned, ahead, ap, arith, behind, by_lt_z, day_of, first_day}
-use Rattle.zoned_time.proofs.Words.{inl, ints, last_day, midnight, neg_ℤ, of_secs, pos, refl, subst, sym, ℕ, ℤ, ◌+ℤ◌, ◌-ℤ◌, ◌<ℤ◌, ◌<◌, ◌∙◌, ◌≡◌, ◌≤ℤ◌}
+use Rattle.zoned_time.proofs.Words.{IsFirstToReach, IsGapEnd, IsInDay, IsInRange, IsNeverShown, IsShownBetween, IsShownOnce, IsWideDay, IsZoneSecond}
+use Rattle.zoned_time.proofs.Words.{IsZonedEnd, Law, MatchOption, Meaning, NaiveDate, None, NonePassed, Option, Reading, ShowsByOffset, Some, Zoned, ahead, ap}
+use Rattle.zoned_time.proofs.Words.{arith, behind, by_lt_z, day_of, first_day, inl, ints, last_day, midnight, neg_ℤ, of_secs, pos, refl, subst, sym, ℕ, ℤ, ◌+ℤ◌}
+use Rattle.zoned_time.proofs.Words.{◌-ℤ◌, ◌<ℤ◌, ◌<◌, ◌∙◌, ◌≡◌, ◌≤ℤ◌}
 use Rattle.zoned_time.proofs.{DayStarts.{StayWithinDay, first_until, in_day, one_first}}
 use Rattle.zoned_time.proofs.Days.{first_instant, first_whole, out_of_range, to_reached}
 
@@ -11,8 +11,7 @@ use Rattle.zoned_time.proofs.Days.{first_instant, first_whole, out_of_range, to_
 starts_are : (off : ℤ → ℤ) (day start next : ℤ) (r : Reading) → AreStartsOfDays off day start next → IsInDay off day r → (start ≤ℤ r.s) × (r.s <ℤ next)
 starts_are off day start next r h k =
     let at_start = one_first off (midnight day) k.start (of_secs start 0) k.starts (first_whole off (midnight day) start refl h.starts) in
-    let at_next = one_first off (midnight (day +ℤ pos 1)) k.next (of_secs next 0) k.ends (first_whole off (midnight (day +ℤ pos 1)) next refl h.ends) in
-    let not_before = rw at_start at k.not_before in let before = rw at_next at k.before in (grind (arith, ints), grind (arith, ints))
+    grind (arith, ints, one_first off (midnight (day +ℤ pos 1)) k.next (of_secs next 0) k.ends (first_whole off (midnight (day +ℤ pos 1)) next refl h.ends))
 
 none_after : (q : Reading) (next : ℤ) → q.s <ℤ next → q.f < 1_000_000_000 → ¬ (IsEarlier (of_secs (next -ℤ pos 1) 999_999_999) q)
 none_after q next before whole e = grind (arith, ints)
@@ -59,10 +58,6 @@ too_early off day within early =
     let found = first_until off (midnight day).s (neg_ℤ (pos 8_334_601_228_801)) (record { in_zone = inside; reached = omega (arith, ints, near) }) in
     out_of_range off (midnight day) found.0 found.1 (λ range. omega (arith, ints, range))
 
--- half a day after half a day after a midnight
-pub next_midnight : (day : ℤ) (start noon r : Reading) (k : ℤ) → k ≡ pos 43_200 → start ≡ midnight day → noon ≡ ahead start k → r ≡ ahead noon k → r ≡ midnight (day +ℤ pos 1)
-next_midnight day start noon r k half e f g = grind (arith, ints)
-
 -- ---- from seconds to instants
 pub in_order : (off : ℤ → ℤ) (day start next : ℤ) → AreStartsOfDays off day start next → start ≤ℤ next
 in_order off day start next h = let reached = h.ends.reached.reached in h.starts.first next (record { in_zone = h.ends.reached.in_zone; reached = omega (arith, ints) })
@@ -70,26 +65,15 @@ in_order off day start next h = let reached = h.ends.reached.reached in h.starts
 pub told_end : {O T : Type 0} {m : Meaning O} (law : Law m) (day start next : ℤ) (told : T → Zoned O) (found : Option T) → AreStartsOfDays law.off day start next → (start ≡ next → ⊥)
     → MatchOption found (IsInRange (next -ℤ pos 1) → ⊥) (λ d. IsInRange (next -ℤ pos 1) × IsAt law (of_secs (next -ℤ pos 1) 999_999_999) (told d))
     → MatchOption found (HasNoEnd law.off day) (λ d. IsZonedEnd law day (told d))
-told_end law day start next told None h some out = end_out_of_range law.off day start next h out
-told_end law day start next told (Some d) h some at =
-    let order = in_order law.off day start next h in let less : start <ℤ next = omega (arith, ints, order, some) in
-    record { end = rw at.1.utc (end_of_day law.off day start next h less); offset = at.1.offset }
+told_end law day start next told found h some out =
+    grind (arith, ints, end_out_of_range law.off day start next h, end_of_day law.off day start next h, in_order law.off day start next h)
 
 -- ---- the day so many days before that of a date
 pub no_earlier_day : (off : ℤ → ℤ) (old : ℤ) (n : ℕ) → StayWithinDay off → IsWideDay old → IsDaysLater day_of IsDateOn old (neg_ℤ (pos n)) None → IsFirstOutOfRange off (midnight (old -ℤ pos n))
 no_earlier_day off old n within wide h = grind (arith, too_early)
 
 pub earlier_day : (old : ℤ) (n : ℕ) (date : NaiveDate) → IsDaysLater day_of IsDateOn old (neg_ℤ (pos n)) (Some date) → day_of date ≡ old -ℤ pos n
-earlier_day old n date h =
-    let same = (subst (λ (w : Option ℤ). SomeIff w (MayShowDay old (old +ℤ neg_ℤ (pos n))) (old +ℤ neg_ℤ (pos n))) h.shown h.there).1 in omega (arith, ints)
-
-first_home : (off home : ℤ → ℤ) (l r : Reading) → SameOffsets off home → IsFirstInstantFrom off l r → IsFirstInstantFrom home l r
-first_home off home l r same h = grind arith
-
-pub start_home : {O T : Type 0} {m : Meaning O} (law home : Law m) (l : Reading) (told : T → Zoned O) (found : Option T) → SameLaw law home
-    → MatchOption found (IsFirstOutOfRange law.off l) (λ d. IsZonedAtOrAfter law l (told d)) → MatchOption found (IsFirstOutOfRange home.off l) (λ d. IsZonedAtOrAfter home l (told d))
-start_home law home l told None same h = (h.0, first_home law.off home.off l h.0 same.offsets h.1, h.2)
-start_home law home l told (Some d) same h = grind arith
+earlier_day old n date h = grind (arith, ints)
 
 -- ---- gaps and folds
 first_second : (off : ℤ → ℤ) (l u : ℤ) → IsZoneSecond u → (u +ℤ off u) ≡ l → NonePassed off l u → ((v : ℤ) → ShowsByOffset off l v (off v) → u ≤ℤ v) → IsFirstToReach off l u

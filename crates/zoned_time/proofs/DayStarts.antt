@@ -1,7 +1,7 @@
 -- The starts of days divide time: each instant lies in one day.
 use Rattle.zoned_time.proofs.Words.{AreEndsOfDay, HasReached, IsEarlier, IsFirstInstantFrom, IsFirstToReach, IsInDay, IsInRange, IsInstantFrom, IsNeverOnDay}
-use Rattle.zoned_time.proofs.Words.{IsOnDay, IsWithinDay, IsZoneSecond, Reading, arith, by_lt_z, floor_div, floors, inl, inr, ints, midnight, neg_ℤ}
-use Rattle.zoned_time.proofs.Words.{of_secs, pos, refl, suc, unsigned_abs, zero, ℕ, ℤ, ◌*ℤ◌, ◌+ℤ◌, ◌-ℤ◌, ◌<ℤ◌, ◌≡◌, ◌≤ℤ◌}
+use Rattle.zoned_time.proofs.Words.{IsOnDay, IsWithinDay, IsZoneSecond, Reading, arith, by_lt_z, floor_div, floors, inl, inr, ints, midnight, neg_ℤ, of_secs}
+use Rattle.zoned_time.proofs.Words.{pos, refl, suc, unsigned_abs, zero, ℕ, ℤ, ◌*ℤ◌, ◌+ℤ◌, ◌-ℤ◌, ◌<ℤ◌, ◌≡◌, ◌≤ℤ◌}
 use Rattle.zoned_time.proofs.{Answered.{first_from}, Days.{first_whole, to_reached}}
 
 -- ---- the order of instants
@@ -42,9 +42,7 @@ skipped off day a b never h k =
 
 -- in a day no later date is shown
 pub no_later_date : (off : ℤ → ℤ) (day : ℤ) (r : Reading) → IsZoneSecond r.s → IsInDay off day r → floor_div (r.s +ℤ off r.s) 86_400 ≤ℤ day
-no_later_date off day r inside h = by_lt_z (r.s +ℤ off r.s) ((day +ℤ pos 1) *ℤ pos 86_400)
-    (λ less. omega (arith, ints, floors))
-    (λ past. absurd (h.ends.first r (at_midnight off (day +ℤ pos 1) r inside past) h.before))
+no_later_date off day r inside h = grind (arith, ints)
 
 -- if the date is shown when its day starts, that is the first second that shows it
 pub starts_with_first : (off : ℤ → ℤ) (day first last : ℤ) (r : Reading) → IsFirstInstantFrom off (midnight day) r → IsOnDay off day r.s → AreEndsOfDay off day first last → r.s ≡ first
@@ -72,20 +70,13 @@ reaches off l within low high =
     let found = first_until off l (l +ℤ pos 86_399) (record { in_zone = inside; reached = omega (arith, ints, near) }) in (found.0, found.1)
 
 pub in_day : (off : ℤ → ℤ) (r : Reading) (day start next : ℤ) → IsFirstToReach off (midnight day).s start → IsFirstToReach off (midnight (day +ℤ pos 1)).s next → start ≤ℤ r.s → r.s <ℤ next → IsInDay off day r
-in_day off r day start next h k low high = record {
-  start = of_secs start 0;
-  next = of_secs next 0;
-  starts = first_whole off (midnight day) start refl h;
-  ends = first_whole off (midnight (day +ℤ pos 1)) next refl k;
-  not_before = λ e. grind (arith, ints);
-  before = inl high;
-}
+in_day off r day start next h k low high =
+    grind (arith, ints, first_whole off (midnight day) start refl h, first_whole off (midnight (day +ℤ pos 1)) next refl k)
 
 -- from a day that has started on, at most n days ahead
 climb : (off : ℤ → ℤ) (r : Reading) (n : ℕ) (day start : ℤ) → StayWithinDay off → IsInRange r.s → neg_ℤ (pos 8_334_601_315_200) ≤ℤ (day *ℤ pos 86_400) → (r.s +ℤ pos 86_399) <ℤ ((day *ℤ pos 86_400) +ℤ (pos n *ℤ pos 86_400))
     → IsFirstToReach off (midnight day).s start → start ≤ℤ r.s → (d : ℤ) × IsInDay off d r
-climb off r zero day start within range low far h started =
-    let near = within start h.reached.in_zone in let reached = h.reached.reached in absurd (omega (arith, ints, near))
+climb off r zero day start within range low far h started = grind (arith, ints)
 climb off r (suc n) day start within range low far h started =
     let near = within start h.reached.in_zone in let reached = h.reached.reached in
     let next = reaches off (midnight (day +ℤ pos 1)).s within (omega (arith, ints)) (omega (arith, ints, near, range)) in

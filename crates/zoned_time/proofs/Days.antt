@@ -1,8 +1,8 @@
 -- Days of zones: from seconds to instants.
 use Rattle.zoned_time.proofs.Words.{AreEndsOfDay, AreInstantsOfDay, HasInstant, HasReached, IsAt, IsFirstInstantFrom, IsFirstOutOfRange, IsFirstToReach}
-use Rattle.zoned_time.proofs.Words.{IsFixed, IsInRange, IsInstantFrom, IsNoDay, IsOffsetAt, IsOnDay, IsZoneSecond, IsZonedAtOrAfter, Law, MatchOption, Meaning}
-use Rattle.zoned_time.proofs.Words.{None, Option, Reading, Some, SomeIff, Zoned, ap, arith, behind, by_lt_z, floor_div, floors, inl, inr, instant_of, ints}
-use Rattle.zoned_time.proofs.Words.{of_secs, option_map, pos, refl, ℤ, ◌*ℤ◌, ◌+ℤ◌, ◌-ℤ◌, ◌<ℤ◌, ◌∙◌, ◌≡◌, ◌≤ℤ◌, ◌⊎◌}
+use Rattle.zoned_time.proofs.Words.{IsFixed, IsInRange, IsInstantFrom, IsNoDay, IsOnDay, IsZoneSecond, IsZonedAtOrAfter, Law, MatchOption, Meaning, None}
+use Rattle.zoned_time.proofs.Words.{Option, Reading, Some, SomeIff, Zoned, ap, arith, floor_div, floors, instant_of, ints, of_secs, option_map, pos, ℤ, ◌*ℤ◌}
+use Rattle.zoned_time.proofs.Words.{◌+ℤ◌, ◌-ℤ◌, ◌<ℤ◌, ◌∙◌, ◌≡◌, ◌≤ℤ◌, ◌⊎◌}
 
 -- ---- days
 pub instants_of_day : {O : Type 0} {m : Meaning O} (law : Law m) (day u v : ℤ) (d e : Zoned O) → AreEndsOfDay law.off day u v → IsAt law (of_secs u 0) d → IsAt law (of_secs v 0) e → AreInstantsOfDay law day d e
@@ -38,23 +38,7 @@ pub first_whole : (off : ℤ → ℤ) (l : Reading) (u : ℤ) → l.f ≡ 0 → 
 first_whole off l u zero h = let reached = h.reached.reached in first_instant off l (of_secs u 0) h (grind (arith, ints))
 
 pub out_of_range : (off : ℤ → ℤ) (l : Reading) (u : ℤ) → IsFirstToReach off l.s u → (IsInRange u → ⊥) → IsFirstOutOfRange off l
-out_of_range off l u h out = by_lt_z l.s (u +ℤ off u)
-    (λ later. (of_secs u 0, first_instant off l (of_secs u 0) h (inr (later, refl)), out))
-    (λ not. let reached = h.reached.reached in (
-      record { s = u; f = l.f },
-      first_instant off l (record { s = u; f = l.f }) h
-          (inl (omega (arith, ints), refl)),
-      out,
-    ))
-
-shown_then : {O T : Type 0} {m : Meaning O} (law : Law m) (l : Reading) (seconds : O → ℤ) (o : O) (told : T → Zoned O) (found : Option T)
-    → let u = l.s -ℤ seconds o in
-    IsFirstToReach law.off l.s u → IsInRange u → IsOffsetAt law u o → (u +ℤ law.off u) ≡ l.s → SomeIff (option_map told found) (HasInstant seconds l o)
-    (instant_of seconds l o)
-    → MatchOption found (IsFirstOutOfRange law.off l) (λ d. IsZonedAtOrAfter law l (told d))
-shown_then law l seconds o told None h inside at there is = absurd (is inside)
-shown_then law l seconds o told (Some d) h inside at there is =
-    rw is.1 (record { first = first_instant law.off l (behind l (seconds o)) h (inl (there, refl)); offset = at })
+out_of_range off l u h out = grind (arith, ints, first_instant off l (of_secs u 0) h, first_instant off l (record { s = u; f = l.f }) h)
 
 -- the instant at which a clock with the offset of that second shows the local time, if clocks show its second then
 pub told_exact : {O T : Type 0} {m : Meaning O} (law : Law m) (l : Reading) (u : ℤ) (seconds : O → ℤ) (whole : Zoned O) (told : T → Zoned O) (found : Option T)
@@ -63,7 +47,7 @@ pub told_exact : {O T : Type 0} {m : Meaning O} (law : Law m) (l : Reading) (u :
     → SomeIff (option_map told found) (HasInstant seconds l whole.offset) (instant_of seconds l whole.offset)
     → MatchOption found (IsFirstOutOfRange law.off l) (λ d. IsZonedAtOrAfter law l (told d))
 told_exact law l u seconds whole told found by_seconds h inside at shown is =
-    let utc : whole.utc.s ≡ l.s -ℤ seconds whole.offset = omega (arith, ints) in grind (arith, shown_then)
+    let utc : whole.utc.s ≡ l.s -ℤ seconds whole.offset = omega (arith, ints) in grind (arith, ints)
 
 -- and the second itself, if they show a later one
 pub told_later : {O : Type 0} {m : Meaning O} (law : Law m) (l : Reading) (u : ℤ) (seconds : O → ℤ) (whole : Zoned O) → ((o : O) → m.seconds o ≡ seconds o)

@@ -1,24 +1,17 @@
 -- Readings brought back to UTC by clocks whose offset never changes.
 use Rattle.offset_core.specs.declared.local_result.LocalResult.TheVariants.{Ambiguous, None as none, Single}
-use Rattle.zoned_time.proofs.Words.{AreInstantsOf, AreOffsetsFor, Each, HasInstant, IsAndThen, IsAt, IsFixed, IsInRange, IsRelocal, IsShownBetween}
-use Rattle.zoned_time.proofs.Words.{IsSome, IsWallAnswer, IsZoneSecond, Law, LocalResult, Meaning, None, Option, Reading, SameLaw, ShowsByOffset, SingleIff}
-use Rattle.zoned_time.proofs.Words.{Some, SomeIff, Utc, Zoned, all_or_none, and_then_told, arith, home_law, in_utc, inl, inr, instant_of, ints, local_of}
-use Rattle.zoned_time.proofs.Words.{map_of, option_map, pos, refl, single_of, sym, ℤ, ◌+ℤ◌, ◌-ℤ◌, ◌∙◌, ◌≡◌, ◌⊎◌}
-
--- one offset gives one instant, or none
-single_kept : {T : Type 0} (a : Option T) (p : Type 0) (v : T) → SomeIff a p v → SingleIff (all_or_none (Single a)) p v
-single_kept (Some d) p v h = h
-single_kept None p v h = h
+use Rattle.zoned_time.proofs.Words.{AreInstantsOf, AreOffsetsFor, Each, HasInstant, IsAndThen, IsAt, IsFixed, IsInRange, IsRelocal, IsShownBetween, IsSome}
+use Rattle.zoned_time.proofs.Words.{IsWallAnswer, IsZoneSecond, Law, LocalResult, Meaning, Option, Reading, SameLaw, ShowsByOffset, SingleIff, SomeIff, Utc}
+use Rattle.zoned_time.proofs.Words.{Zoned, and_then_told, arith, home_law, in_utc, inr, instant_of, ints, local_of, map_of, option_map, pos, refl, single_of, ℤ}
+use Rattle.zoned_time.proofs.Words.{◌-ℤ◌, ◌≡◌, ◌⊎◌}
 
 single_instant : {O : Type 0} (seconds : O → ℤ) (l : Reading) (o : O) (answer : LocalResult (Zoned O))
     → AreInstantsOf seconds l (Single o) answer → SingleIff answer (HasInstant seconds l o) (instant_of seconds l o)
-single_instant seconds l o answer h =
-    rw (h.kept, h.asked.3) (single_kept h.asked.0 (HasInstant seconds l o) (instant_of seconds l o) h.asked.2)
+single_instant seconds l o answer h = grind (arith, ints)
 
 -- two seconds can't show the same
 not_between : {O : Type 0} {m : Meaning O} (law : Law m) (l a b : ℤ) → IsFixed law → IsShownBetween (ShowsByOffset law.off l) a b → ⊥
-not_between law l a b fixed between =
-    let same = fixed between.first between.last between.at_first.in_zone between.at_last.in_zone in omega (arith, ints)
+not_between law l a b fixed between = grind (arith, ints)
 
 epoch_in_zone : IsZoneSecond (pos 0)
 epoch_in_zone = (omega (arith, ints), omega (arith, ints))
@@ -38,31 +31,19 @@ given_once : {O : Type 0} {m : Meaning O} (law : Law m) (l : Reading) (offsets :
     → IsWallAnswer (ShowsByOffset law.off l.s) (map_of m.seconds offsets) → AreInstantsOf m.seconds l offsets answer → GivenOnce law l answer
 given_once law l none answer fixed wall instants =
     inr (λ range. wall (l.s -ℤ law.off (pos 0)) (law.off (pos 0)) (shown_in_range law l.s fixed range), rw (instants.kept, instants.asked) refl)
-given_once {m = m} law l (Single o) answer fixed wall instants =
-    inl (o, wall.shown.offset ∙ fixed wall.second (pos 0) wall.shown.in_zone epoch_in_zone, single_instant m.seconds l o answer instants)
-given_once {m = m} law l (Ambiguous a b) answer fixed wall instants =
-    absurd (not_between law l.s (m.seconds a) (m.seconds b) fixed wall)
+given_once law l (Single o) answer fixed wall instants = grind (arith, ints, epoch_in_zone, single_instant)
+given_once {m = m} law l (Ambiguous a b) answer fixed wall instants = grind (arith, ints, not_between law l.s (m.seconds a) (m.seconds b) fixed wall)
 
 -- so a zone of one offset gives one instant, or none where that is out of range
 pub fixed_relocal : {O : Type 0} {m : Meaning O} (law : Law m) (zone : O) (l : Reading) (answer : LocalResult (Zoned O))
     → m.seconds zone ≡ law.off (pos 0) → ((o : O) → m.seconds o ≡ law.off (pos 0) → o ≡ zone) → IsFixed law → IsRelocal law l answer
     → SingleIff answer (HasInstant m.seconds l zone) (instant_of m.seconds l zone)
-fixed_relocal {O} {m} law zone l answer is only fixed h = elim (given_once law l h.offsets answer fixed h.wall.wall h.instants) [
-  | inl given ↦ grind arith
-  | inr missing ↦ rw missing.1 (rw is missing.0)
-]
-
-some_single : {T Z : Type 0} (show : T → Z) (answer : LocalResult T) (p : Type 0) (v : Z)
-    → SingleIff (map_of show answer) p v → p → IsSome (single_of answer)
-some_single show answer p v h fits = grind (arith, h, fits)
+fixed_relocal law zone l answer is only fixed h = grind (arith, ints, given_once law l h.offsets answer fixed h.wall.wall h.instants)
 
 -- and one that is in range
 pub fixed_single : {T O : Type 0} {m : Meaning O} (law : Law m) (l : Reading) (show : T → Zoned O) (answer : LocalResult T)
     → IsFixed law → IsInRange (l.s -ℤ law.off (pos 0)) → IsRelocal law l (map_of show answer) → IsSome (single_of answer)
-fixed_single law l show answer fixed range h = elim (given_once law l h.offsets (map_of show answer) fixed h.wall.wall h.instants) [
-  | inl given ↦ some_single show answer _ _ given.2 (rw given.1 range)
-  | inr missing ↦ absurd (missing.0 range)
-]
+fixed_single law l show answer fixed range h = grind (arith, ints, given_once law l h.offsets (map_of show answer) fixed h.wall.wall h.instants)
 
 -- which in UTC has the reading itself
 pub utc_instant : (l : Reading) (answer : LocalResult (Zoned Utc))
@@ -74,8 +55,7 @@ utc_instant l answer h = grind arith
 pub at_shown : {O : Type 0} {m : Meaning O} (law : Law m) (l : Reading) (u : ℤ) (o : O)
     → ShowsByOffset law.off l.s u (m.seconds o) → law.in_force (l.s -ℤ m.seconds o) o → SameLaw (home_law m o) law
     → (local_of m.seconds (instant_of m.seconds l o) ≡ l) × IsAt law (instant_of m.seconds l o).utc (instant_of m.seconds l o)
-at_shown {m = m} law l u o shows in_force same =
-    let back : (l.s -ℤ m.seconds o) +ℤ m.seconds o ≡ l.s = omega (arith, ints) in grind arith
+at_shown law l u o shows in_force same = grind arith
 
 -- the instants that a zone gives for a wall clock show it
 pub relocal_shown : {O : Type 0} {m : Meaning O} (law : Law m) (l : Reading) (answer : LocalResult (Zoned O))
@@ -86,9 +66,7 @@ relocal_shown {O} {m} law l answer h = grind (arith, at_shown)
 pub shown_by : {O : Type 0} {m : Meaning O} {seconds : O → ℤ} → ((o : O) → m.seconds o ≡ seconds o)
     → (law : Law m) (l : Reading) (answer : LocalResult (Zoned O))
     → Each (λ d. (local_of m.seconds d ≡ l) × IsAt law d.utc d) answer → Each (λ d. (local_of seconds d ≡ l) × IsAt law d.utc d) answer
-shown_by told law l none h = tt
-shown_by told law l (Single d) h = (rw (sym (told d.offset)) h.0, h.1)
-shown_by told law l (Ambiguous d e) h = ((rw (sym (told d.offset)) h.0.0, h.0.1), (rw (sym (told e.offset)) h.1.0, h.1.1))
+shown_by told law l answer h = grind (arith, ints)
 
 -- the offsets that a zone gives, and what f gave for each
 pub relocal_of : {F O D : Type 0} {m : Meaning O} (law : Law m) (l : Reading) (show : D → Zoned O) (step : F → O → Option D → F → Type 0) (f : F) (K : F → Type 0)

@@ -1,25 +1,12 @@
 -- Wall clocks of a zone whose offsets are told by their seconds, and of one whose offset never changes.
-use Rattle.offset_core.specs.declared.local_result.LocalResult.TheVariants.{Ambiguous, None, Single}
+use Rattle.offset_core.specs.declared.local_result.LocalResult.TheVariants.{Single}
 use Rattle.zoned_time.proofs.Words.{AreOffsetsFor, Each, IsBeforeGap, IsOffsetBeforeGap, IsShownOnce, IsWallAnswer, IsWide, IsWithinDay, LocalResult, Meaning}
 use Rattle.zoned_time.proofs.Words.{None as none, SameLaw, ShowsByOffset, Some, arith, home_law, ints, law_by_seconds, map_of, refl, ℤ, ◌+ℤ◌, ◌-ℤ◌, ◌≡◌}
-
--- the offsets of the seconds that show a wall clock are in force then, where seconds are all that is told of them
-shown_in_force : (off : ℤ → ℤ) (l u k : ℤ) → ShowsByOffset off l u k → k ≡ off (l -ℤ k)
-shown_in_force off l u k s =
-    let second : l -ℤ k ≡ u = let shown : u +ℤ k ≡ l = s.shown in omega (arith, ints) in rw second s.offset
-
-each_in_force : {O : Type 0} (m : Meaning O) (off : ℤ → ℤ) (l : ℤ) (offsets : LocalResult O) → IsWallAnswer (ShowsByOffset off l) (map_of m.seconds offsets)
-    → Each (λ o. m.seconds o ≡ off (l -ℤ m.seconds o)) offsets
-each_in_force m off l None wall = tt
-each_in_force m off l (Single a) wall = shown_in_force off l wall.second (m.seconds a) wall.shown
-each_in_force m off l (Ambiguous a b) wall =
-    (shown_in_force off l wall.first (m.seconds a) wall.at_first, shown_in_force off l wall.last (m.seconds b) wall.at_last)
 
 pub wall_by_seconds : {O : Type 0} {m : Meaning O} (off : ℤ → ℤ) (l : ℤ) (offsets : LocalResult O)
     → IsWallAnswer (ShowsByOffset off l) (map_of m.seconds offsets)
     → Each (λ o. SameLaw (home_law m o) (law_by_seconds off)) offsets → AreOffsetsFor {m = m} (law_by_seconds off) l offsets
-wall_by_seconds {m = m} off l offsets wall same =
-    record { wall = wall; in_force = each_in_force m off l offsets wall; same_home = same }
+wall_by_seconds off l offsets wall same = grind (arith, ints)
 
 -- and so is the one before a gap at the second before it
 pub gap_by_seconds : {O : Type 0} {m : Meaning O} (off : ℤ → ℤ) (l : ℤ) (o : O) → IsBeforeGap off l (m.seconds o)
@@ -38,8 +25,7 @@ shown_once k l day wide = record {
 pub constant_wall : {O : Type 0} (m : Meaning O) (offset : O) (k l : ℤ)
     → m.seconds offset ≡ k → SameLaw (home_law m offset) (law_by_seconds (λ _. k)) → IsWithinDay k → IsWide l
     → AreOffsetsFor {m = m} (law_by_seconds (λ _. k)) l (Single offset)
-constant_wall m offset k l is same day wide =
-    wall_by_seconds (λ _. k) l (Single offset) (rw is (shown_once k l day wide)) same
+constant_wall m offset k l is same day wide = grind (arith, ints, wall_by_seconds, shown_once)
 
 -- and no reading lies in a gap
 pub constant_no_gap : {O : Type 0} (m : Meaning O) (k l : ℤ)

@@ -4,8 +4,8 @@ pub use Rattle.std.proofs.lemmas.Fmt.{contents_after_writes}
 pub use Rattle.std.specs.Fmt.{DisplaysOnOk, WritesOnOk, WritesText, ◌++?◌}
 pub use Rattle.std.specs.declared.fmt.Error.{Error}
 pub use Rattle.std.specs.declared.fmt.Formatter.{Formatter}
-pub use Rattle.offset_core.proofs.ForCallers.{HasOneValue, HoldsOfTaken, and_then_told, map_all, map_outcome, map_taken, one_offset, one_outcome}
-pub use Rattle.offset_core.proofs.ForCallers.{IsWallAnswer-map_of, one_wall_answer, taken_holds, taken_of_images}
+pub use Rattle.offset_core.proofs.ForCallers.{HasOneValue, HoldsOfTaken, and_then_told, map_all, map_around, map_outcome, map_taken, one_offset, one_outcome}
+pub use Rattle.offset_core.proofs.ForCallers.{one_wall_answer, taken_holds, taken_of_images}
 pub use Rattle.offset_core.specs.Around.{HoldsOfEachAround, Takes, taken_of}
 pub use Rattle.offset_core.specs.FixedOffset.{seconds_of}
 pub use Rattle.offset_core.specs.LocalResult.{IsAndThen, all_or_none, map_of, single_of}
@@ -16,20 +16,20 @@ pub use Rattle.offset_core.specs.declared.around.Taken.{Taken}
 pub use Rattle.offset_core.specs.declared.choice.Choice.{Choice}
 pub use Rattle.offset_core.specs.declared.local_result.LocalResult.{LocalResult}
 pub use Rattle.naive_base.proofs.ForCallers.{in_range_or_not, inner_date}
-pub use Rattle.naive_base.proofs.Words.{IsDateOn, IsEarlier, IsInRange, IsMonthsLater, IsReadingOnDay, IsSome, IsWide, IsWideDay, List, MatchOption, Reading}
-pub use Rattle.naive_base.proofs.Words.{SomeIff, ap, arith, by_lt_z, date_is, day_at, day_of, day_of_year_is, floor_div, floors, inl, inr, ints, months_of}
-pub use Rattle.naive_base.proofs.Words.{neg_ℤ, number_at, of_z, option_map, pos, reading, reading_at, reading_text, refl, rules, second_at, subst, suc, sym}
-pub use Rattle.naive_base.proofs.Words.{to_z, to_z-of_z, w32, w64, weekday_number, zero, ℕ, ℤ, [], ◌*ℤ◌, ◌++◌, ◌+ℤ◌, ◌-ℤ◌, ◌<ℤ◌, ◌∙◌, ◌∷◌, ◌≡◌, ◌≤ℤ◌, ◌⊎◌}
+pub use Rattle.naive_base.proofs.Words.{IsDateOn, IsEarlier, IsInRange, IsSome, IsWide, IsWideDay, List, MatchOption, Reading, SomeIff, ap, arith, by_lt_z}
+pub use Rattle.naive_base.proofs.Words.{date_is, day_at, day_of, day_of_year_is, floor_div, floors, inl, inr, ints, neg_ℤ, number_at, of_z, option_map, pos}
+pub use Rattle.naive_base.proofs.Words.{reading, reading_text, refl, rules, subst, suc, sym, to_z, to_z-of_z, w32, w64, weekday_number, zero, ℕ, ℤ, [], ◌*ℤ◌}
+pub use Rattle.naive_base.proofs.Words.{◌++◌, ◌+ℤ◌, ◌-ℤ◌, ◌<ℤ◌, ◌∙◌, ◌∷◌, ◌≡◌, ◌≤ℤ◌, ◌⊎◌}
 unfoldable pub use Rattle.naive_base.proofs.Words.{day_number, day_of_month, month_of, year_of}
 pub use Rattle.naive_base.specs.Clock.{clock_second}
-pub use Rattle.naive_base.specs.Fields.{IsDaysLater, IsGiven, MayShowDay}
+pub use Rattle.naive_base.specs.Fields.{IsDaysLater, IsGiven}
 pub use Rattle.naive_base.specs.Range.{first_day, last_day}
 pub use Rattle.naive_base.specs.Reading.{ahead, behind}
 pub use Rattle.naive_base.specs.Stamp.{of_secs}
 pub use Rattle.naive_base.specs.declared.date.NaiveDate.{NaiveDate}
-pub use Rattle.zoned_time.specs.Choice.{AreOffsetsAround, IsBeforeGap, IsOffsetBeforeGap, IsResolved, IsTaken, IsUnresolved}
-pub use Rattle.zoned_time.specs.Choice.{offset_taken, out_of_range, refused}
-pub use Rattle.zoned_time.specs.DateTime.{day_shown_by, home_law_of, wall_of, zoned}
+pub use Rattle.zoned_time.specs.Choice.{AreOffsetsAround, IsBeforeGap, IsOffsetBeforeGap, IsResolved, IsTaken, IsUnresolved, offset_taken, out_of_range}
+pub use Rattle.zoned_time.specs.Choice.{refused}
+pub use Rattle.zoned_time.specs.DateTime.{home_law_of, wall_of, zoned}
 pub use Rattle.zoned_time.specs.DayEnds.{AreStartsOfDays, HasNoEnd, IsEndOfDay, IsGapEnd, IsZonedEnd, NonePassed, first_day_of_year, first_of_month}
 pub use Rattle.zoned_time.specs.Days.{AreEndsOfDay, AreInstantsOfDay, HasReached, IsFirstInstantFrom, IsFirstOutOfRange, IsFirstToReach, IsInDay, IsInstantFrom}
 pub use Rattle.zoned_time.specs.Days.{IsNeverOnDay, IsNoDay, IsOnDay, IsZonedAtOrAfter, midnight}

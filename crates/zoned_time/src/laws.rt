@@ -118,7 +118,6 @@ pub fn local_times_come_back<Tz: TimeZone>()
 /// An instant of a zone that is moved is one of that zone: its offset is in force there, with its
 /// abbreviation and its DST flag. That holds after `+`, and after each call that looks up the offset in
 /// the zone that the offset came from.
-#[tactic(auto, using(crate::proofs::Stays::stays))]
 pub fn in_zone_after_move<Tz: TimeZone>(zone: &Tz, before: &DateTime<Tz>, after: &DateTime<Tz>)
     requires before { IsIn (Tz.law zone.now) before.now }
     requires after { IsIn (home_law_of Tz.meaning before.now) after.now }

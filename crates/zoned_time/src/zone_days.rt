@@ -219,7 +219,6 @@ fn starts_of_days<Tz: ZoneDays>(zone: &Tz, date: NaiveDate) -> Option<(i64, i64)
 }
 
 // The midnight after a date, which may be on the buffer day after the range.
-#[tactic(auto, using(crate::proofs::DayEnds::next_midnight))]
 fn midnight_after(date: NaiveDate) -> Option<NaiveDateTime>
     ensures { MatchOption result (¬ (IsWideDay (day_of date +ℤ pos 1)))
         (λ local. reading local ≡ instants.midnight (day_of date +ℤ pos 1)) }

@@ -1,10 +1,8 @@
 //! Dates moved by months and by days.
-ghost use Rattle.std.specs.Prelude.{◌≡◌, ◌≤◌, ℤ, pos, neg_ℤ, ◌+ℤ◌, ◌-ℤ◌, ◌*ℤ◌, ◌≤ℤ◌, SomeIff, option_map, min, int_div};
+ghost use Rattle.std.specs.Prelude.{◌≡◌, ◌≤◌, pos, neg_ℤ, SomeIff, option_map, min, int_div};
 ghost use Rattle.offset_core.specs.Nanoseconds.{nanos_per_day};
 ghost use Rattle.offset_core.specs.TimeDelta.{nanos_of};
 ghost use Rattle.naive_base.specs.Months.{month_number, year_of_number, month_of_number, months_of, days_of};
-ghost use Rattle.gregorian.specs.Date.{IsDate, day_number};
-ghost use Rattle.gregorian.specs.DateOf.{month_of, day_of_month};
 ghost use Rattle.naive_base.specs.Range.{IsWideYear};
 ghost use Rattle.naive_base.specs.Fields.{MayShowDay, IsMonthsLater, IsDaysLater, month_after};
 ghost use Rattle.naive_base.specs.Steps.Moves.{IsWithin, IsInMonth};

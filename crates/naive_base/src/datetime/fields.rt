@@ -1,9 +1,8 @@
 //! The fields of a local date-time, and local date-times with a field changed or moved by months
 //! and days.
-ghost use Rattle.std.specs.Prelude.{◌≡◌, pos, neg_ℤ, option_map};
+ghost use Rattle.std.specs.Prelude.{pos, neg_ℤ};
 ghost use Rattle.naive_base.specs.Months.{months_of, days_of};
-ghost use Rattle.naive_base.specs.Reading.{reading_at, day_at, second_at};
-ghost use Rattle.naive_base.specs.Fields.{IsMonthsLater, IsDaysLater, reading_on, time_at};
+ghost use Rattle.naive_base.specs.Fields.{IsMonthsLater, IsDaysLater, time_at};
 ghost use Rattle.naive_base.specs.NaiveDateTime.{reading, day_shown_by, IsReadingOnDay, IsReadingAtTime};
 
 use crate::{Datelike, Days, IsoWeek, Months, NaiveDateTime, Timelike, Weekday};

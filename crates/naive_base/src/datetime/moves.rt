@@ -107,7 +107,6 @@ impl NaiveDateTime {
     }
 
     // The second and the nanoseconds of the local date-time that much later.
-    #[tactic(auto, using(crate::proofs::Moves::moves))]
     pub(crate) fn moved(self, delta: TimeDelta) -> (i64, u32)
         ensures value { record { s = result.0; f = result.1 }
             ≡ moved (reading self) (nanos_of delta) }
@@ -123,7 +122,6 @@ impl NaiveDateTime {
 
     // The second and the nanoseconds that lie `within` nanoseconds after the start of this second;
     // a leap second follows it.
-    #[tactic(auto, using(crate::proofs::Moves::moves))]
     fn moved_leap(self, within: i128) -> (i64, u32)
         requires { IsShort within }
         ensures value { record { s = result.0; f = result.1 } ≡ moved_leap (reading self).s within }

@@ -16,7 +16,6 @@ use offset_core::{LocalResult, TimeDelta};
 
 impl<Tz: TimeZone> DateTime<Tz> {
     // The instant of a UTC reading in range, in the zone that this one's offset came from.
-    #[tactic(auto, using(crate::proofs::Homes::at_home))]
     pub(super) fn at(&self, utc: &NaiveDateTime) -> DateTime<Tz>
         requires { IsInRange (reading utc.now).s }
         ensures { IsAt (home_law_of Tz.meaning self.now) (reading utc.now) (zoned result) }

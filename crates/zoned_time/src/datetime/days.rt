@@ -14,7 +14,6 @@ impl<Tz: ZoneDays> DateTime<Tz> {
     /// let noon = new_york.with_ymd_and_hms(2021, 3, 14, 12, 0, 0).single()?;
     /// let start = noon.start_of_day()?; // 2021-03-14 00:00:00 -05:00, eleven hours earlier
     /// ```
-    #[tactic(auto, using(crate::proofs::DayEnds::start_home))]
     pub fn start_of_day(&self) -> Option<DateTime<Tz>>
         ensures { let law = home_law_of Tz.meaning self.now in
             MatchOption result (IsFirstOutOfRange law.off (midnight (day_shown_by self.now)))

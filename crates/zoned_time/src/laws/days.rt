@@ -13,7 +13,6 @@ ghost use Rattle.zoned_time.specs.declared.zone_days.ShownDay.{ShownDay as AnyDa
 use crate::{ShownDay, TimeZone};
 
 /// A local time has one first instant at or after it, and a later local time no earlier one.
-#[tactic(auto, using(crate::proofs::DayStarts::one_first, crate::proofs::DayStarts::rises))]
 pub fn first_instants()
     ensures once { (off : ℤ → ℤ) (l a b : Reading) → IsFirstInstantFrom off l a
         → IsFirstInstantFrom off l b → a ≡ b }

@@ -6,5 +6,4 @@ use Rattle.naive_base.proofs.datetime.NaiveDateTime.parts_after.Goals as goal
 pub returns-clause-value : goal.returns-clause-value
 returns-clause-value c =
     let second = c.second_after.ensures in let nanos = c.nanos_after.ensures in
-    let all = quot-rem (nanos_of c.args.delta) (pos 1_000_000_000) in
-    omega (arith, floors, second.value, nanos.value, second.bound, nanos.least, nanos.greatest, all)
+    omega (arith, floors, quot-rem (nanos_of c.args.delta) (pos 1_000_000_000), second.value, nanos.value, second.bound, nanos.least, nanos.greatest)

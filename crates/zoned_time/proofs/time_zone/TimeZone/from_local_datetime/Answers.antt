@@ -1,4 +1,4 @@
-use Rattle.zoned_time.proofs.{Words.{IsFixed, arith, ints, of_calls, pos, reading, refl, shown, sym, ◌∙◌, ◌≡◌}, Relocals.{fixed_single, relocal_of}}
+use Rattle.zoned_time.proofs.{Words.{arith, of_calls, reading, refl, shown, sym, ◌∙◌, ◌≡◌}, Relocals.{fixed_single, relocal_of}}
 use Rattle.zoned_time.proofs.time_zone.TimeZone.from_local_datetime.Goals as goal
 
 pub returns-clause-instants : goal.returns-clause-instants
@@ -13,8 +13,4 @@ returns-clause-fixed g c = λ fixed range.
     fixed range (returns-clause-instants g c)
 
 pub returns-clause-utc : goal.returns-clause-utc
-returns-clause-utc g c = λ zero range.
-    let law = g.Self.TimeZone.law c.args.self.now in
-    let fixed : IsFixed law = λ u v first last. zero u first ∙ sym (zero v last) in
-    let at = zero (pos 0) (omega (arith, ints), omega (arith, ints)) in
-    returns-clause-fixed g c fixed (omega (arith, ints), omega (arith, ints))
+returns-clause-utc g c = grind (arith, returns-clause-fixed)

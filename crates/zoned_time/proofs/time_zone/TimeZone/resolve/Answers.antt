@@ -1,5 +1,5 @@
 use Rattle.offset_core.specs.declared.around.Taken.TheVariants.{InGap}
-use Rattle.zoned_time.proofs.{Words.{Ok, ap, reading, shown, sym, ◌∙◌}, Choices.{refused_of, shown_resolved, taken_resolved}}
+use Rattle.zoned_time.proofs.{Words.{Ok, ap, arith, reading, shown, sym, ◌∙◌}, Choices.{refused_of, shown_resolved, taken_resolved}}
 use Rattle.zoned_time.proofs.time_zone.TimeZone.resolve.Goals as goal
 
 pub returns-in-Ok-Shown : goal.returns-in-Ok-Shown
@@ -16,6 +16,4 @@ returns-in-Ok-InGap g c =
     c.shifted.result given.ensures (sym c.take.ensures ∙ taken.is ∙ ap Ok taken.field-0-is) (rw (← g.met.Self.TimeZone.told taken.before) at c.shifted.ensures)
 
 pub returns-in-Err : goal.returns-in-Err
-returns-in-Err g c =
-    let given = c.offsets_around in
-    refused_of (g.Self.TimeZone.law c.args.self.now) c.args.local.now.secs c.args.choice given.result c.in-Err.refused given.ensures (sym c.take.ensures ∙ c.in-Err.is)
+returns-in-Err g c = grind (arith, refused_of)

@@ -1,4 +1,4 @@
-use Rattle.zoned_time.proofs.Words.{ap, arith, clock_second, day_number, day_of, inner_date, ints, pos, reading, sym, to_z-of_z, ◌*ℤ◌, ◌+ℤ◌, ◌≡◌}
+use Rattle.zoned_time.proofs.Words.{ap, arith, clock_second, day_number, day_of, inner_date, ints, pos, reading, to_z-of_z, ◌*ℤ◌, ◌+ℤ◌, ◌≡◌}
 use Rattle.zoned_time.proofs.time_zone.TimeZone.with_ymd_and_hms.Goals as goal
 
 pub returns-in-Some-and_hms_opt-clause-fixed : goal.returns-in-Some-and_hms_opt-clause-fixed
@@ -13,11 +13,7 @@ returns-in-Some-and_hms_opt-clause-fixed g c = λ fixed inner date clock.
     c.from_local_datetime.ensures.fixed fixed (omega (arith, ints, ahead, around, clock), omega (arith, ints, ahead, around, clock))
 
 pub returns-in-Some-and_hms_opt-clause-exists : goal.returns-in-Some-and_hms_opt-clause-exists
-returns-in-Some-and_hms_opt-clause-exists g c = λ _ _ _.
-    let fits = c.ranges.year in let made = simp to_z-of_z at c.in-Some.ensures.value in
-    rw (sym made.2) (rw (sym c.in-Some-and_hms_opt.ensures.value.2) c.from_local_datetime.ensures.instants)
+returns-in-Some-and_hms_opt-clause-exists g c = grind (arith, to_z-of_z)
 
 pub returns-in-Some-and_hms_opt-clause-missing : goal.returns-in-Some-and_hms_opt-clause-missing
-returns-in-Some-and_hms_opt-clause-missing g c = λ none.
-    let fits = c.ranges.year in let made = simp to_z-of_z at c.in-Some.ensures.value in
-    absurd (none made.0 made.1 c.in-Some-and_hms_opt.ensures.value.0)
+returns-in-Some-and_hms_opt-clause-missing g c = grind (arith, to_z-of_z)

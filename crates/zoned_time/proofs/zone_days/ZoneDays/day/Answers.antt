@@ -1,4 +1,4 @@
-use Rattle.zoned_time.proofs.{Words.{SFits, day_of, rules, to_z-of_z, w64, zoned}, Days.{instants_of_day, no_day}}
+use Rattle.zoned_time.proofs.{Words.{SFits, arith, day_of, rules, to_z-of_z, w64}, Days.{instants_of_day, no_day}}
 use Rattle.zoned_time.proofs.zone_days.ZoneDays.day.Goals as goal
 
 pub returns-in_err-last : goal.returns-in_err-last
@@ -8,8 +8,4 @@ returns-in_err-last g c =
     rw c.from_residual-in_err-last.ensures (no_day (g.Self.TimeZone.law c.args.self.now).off (day_of c.args.date) c.in_ok-seconds.seconds.last c.in_ok-seconds.ensures.shown_last out)
 
 pub returns : goal.returns
-returns g c =
-    let ff : SFits w64 c.in_ok-seconds.seconds.first = search rules in
-    let fl : SFits w64 c.in_ok-seconds.seconds.last = search rules in
-    let first = simp to_z-of_z at c.in_ok-first.ensures in let last = simp to_z-of_z at c.in_ok-last.ensures in
-    instants_of_day (g.Self.TimeZone.law c.args.self.now) (day_of c.args.date) c.in_ok-seconds.seconds.first c.in_ok-seconds.seconds.last (zoned c.in_ok-first.first) (zoned c.in_ok-last.last) c.in_ok-seconds.ensures first.1 last.1
+returns g c = grind (arith, to_z-of_z, instants_of_day)

@@ -11,7 +11,6 @@ returns-in_err-whole g c =
 pub returns-then-secs_since_epoch : goal.returns-then-secs_since_epoch
 returns-then-secs_since_epoch g c =
     let fs : SFits w64 c.first_second_at_or_after-second.result = search rules in
-    let fa : SFits w64 c.secs_since_epoch.result = search rules in
     let fb : SFits w64 c.secs_since_epoch-2.result = search rules in
     let whole = simp to_z-of_z at c.in_ok-whole.ensures in let wall = ap (λ (r : Reading). r.s) c.naive_local.ensures in
     let a = c.secs_since_epoch.ensures in let b = c.secs_since_epoch-2.ensures in let same = c.if-secs_since_epoch.true in
@@ -23,10 +22,7 @@ returns-then-secs_since_epoch g c =
 pub returns-else-secs_since_epoch : goal.returns-else-secs_since_epoch
 returns-else-secs_since_epoch g c =
     let fs : SFits w64 c.first_second_at_or_after-second.result = search rules in
-    let fa : SFits w64 c.secs_since_epoch.result = search rules in
-    let fb : SFits w64 c.secs_since_epoch-2.result = search rules in
     let whole = simp to_z-of_z at c.in_ok-whole.ensures in let wall = ap (λ (r : Reading). r.s) c.naive_local.ensures in
-    let a = c.secs_since_epoch.ensures in let b = c.secs_since_epoch-2.ensures in let differ = c.if-secs_since_epoch.false in
     told_later (g.Self.TimeZone.law c.args.self.now) (reading c.args.local.now) c.first_second_at_or_after-second.result g.Self.Offset.Offset.seconds
     (zoned c.in_ok-whole.whole)
-    g.met.Self.TimeZone.told c.first_second_at_or_after-second.ensures whole.1 (λ same. omega (arith, ints, wall, a, b, same, differ))
+    g.met.Self.TimeZone.told c.first_second_at_or_after-second.ensures whole.1 (λ same. grind (arith, ints))
