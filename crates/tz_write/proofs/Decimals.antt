@@ -2,9 +2,9 @@
 use Rattle.std.proofs.lemmas.Fmt.{decimal-digits_value, decimal_nonempty, digits_decimal, digits_value-decimal}
 use Rattle.std.proofs.lemmas.Str.Parse.{IsNumeralModel, numerals_by_fold}
 use Rattle.tz_base.specs.Grammar.{Number}
-use Rattle.tz_write.proofs.Words.{AllDigits, AreInPairs, Bool, IsNumber, List, NoneFirst, TwoDigits, Without, ap, arith, both_ways, cases_eq, colon, decimal, false}
-use Rattle.tz_write.proofs.Words.{inl, inr, is_digit, length, nat_tests, spelled_pair, refl, rules, subst, sym, true, value_from, ℕ, [], ◌%◌, ◌++◌, ◌+◌, ◌/◌, ◌<◌}
-use Rattle.tz_write.proofs.Words.{◌^◌, ◌∙◌, ◌∷◌, ◌≡◌, ◌≢◌, ◌≤◌, ◌⊎◌}
+use Rattle.tz_write.proofs.Words.{AllDigits, AreInPairs, Bool, IsNumber, List, NoneFirst, TwoDigits, Without, ap, arith, both_ways, cases_eq, colon, decimal}
+use Rattle.tz_write.proofs.Words.{false, inl, inr, is_digit, length, nat_tests, spelled_pair, refl, rules, subst, sym, true, value_from, ℕ, [], ◌%◌, ◌++◌, ◌+◌}
+use Rattle.tz_write.proofs.Words.{◌/◌, ◌<◌, ◌^◌, ◌∙◌, ◌∷◌, ◌≡◌, ◌≢◌, ◌≤◌, ◌⊎◌}
 use Rattle.tz_write.proofs.{Shortest.{Best, Front}, TextBytes.{Writes, digits_are, pairs_over}}
 
 own : IsNumeralModel AllDigits (value_from 0)

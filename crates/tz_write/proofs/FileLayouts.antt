@@ -187,10 +187,7 @@ in_order_short (t ∷ ts) others some names =
 placed_with : (bytes : List ℕ) (types : List LocalType) (m : LocalType) (sm : Served bytes m) → All (Served bytes) types → All (λ t. key_in bytes t ≤ key_in bytes m) types → In (laid [] types) (name_of m)
     → ArePlaced (laid (name_of m) types) types
 placed_with bytes types m sm s top found =
-    let inside = in_order_in bytes types m sm s top in record {
-      places = places_with bytes types m sm s top;
-      short = grind (arith, laid_short, in_stands);
-    }
+    let inside = in_order_in bytes types m sm s top in record { places = places_with bytes types m sm s top; short = grind (arith, laid_short, in_stands) }
 
 pub none_laid : (types : List LocalType) (bytes : List ℕ) → All (λ t. IsNameOrNone t.name) types → AreNamesIn bytes types → ¬ (HavePlaces (laid [] types) types)
     → AreNotPlacedBefore types (length (laid [] types)) → ⊥
@@ -276,3 +273,6 @@ size_laid last types = size_with (before_last last types) last (before_keeps (λ
 
 pub laid_size : (types : List LocalType) (designations : List ℕ) → IsLaid types designations → length designations ≤ 263
 laid_size types designations h = grind (arith, size_laid)
+
+-- what holds of each place before one, and of that one
+pub ruleset one_place_more = (below_more)

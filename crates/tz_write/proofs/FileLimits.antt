@@ -1,25 +1,22 @@
 -- What every file's zone has room for.
 use Rattle.tz_info.specs.{declared.file.header.Place.TheVariants.{Second}, declared.file.header.Version.TheVariants.{One, Three, Two}}
-use Rattle.tz_write.proofs.Words.{All, All-cons, All-nil, All-tail, AreNamesIn, Bool, Counts, FilePieces, HasIndex, HasPieces, HasRule, IsSpellableOrNone}
-use Rattle.tz_write.proofs.Words.{Header, IsNamedIn, IsTzFile, IsWritable, List, LocalType, Option, Parts, Place, SpellTypes, Spells, SpellsLeapSecond}
-use Rattle.tz_write.proofs.Words.{SpellsType, StandsAt, Transition, TransitionRule, Version, Zone, after_first_block, ap, arith, be_u32, block, designation_of}
-use Rattle.tz_write.proofs.Words.{file, first_version, get_or_append_left, header, inl, inr, later_version, length, length-append, length-map, map}
-use Rattle.tz_write.proofs.Words.{name_or_none, place_in, six_counts, subst, sym, ℕ, [], ◌*◌, ◌++◌, ◌+◌, ◌/◌, ◌<◌, ◌^◌, ◌∙◌, ◌∷◌, ◌≡◌, ◌⊎◌}
-use Rattle.tz_write.proofs.{FileHeads.{CountsFit}, FileRecords.{records_length}, RuleTexts.{rule_named}}
+use Rattle.tz_write.proofs.Words.{All, All-cons, All-nil, All-tail, AreBytes, AreNamesIn, Bool, Counts, FilePieces, HasIndex, HasPieces, HasRule}
+use Rattle.tz_write.proofs.Words.{IsSpellableOrNone, Header, IsNamedIn, IsTzFile, IsWritable, List, LocalType, Option, Parts, Place, SpellTypes, Spells}
+use Rattle.tz_write.proofs.Words.{SpellsLeapSecond, SpellsType, StandsAt, Transition, TransitionRule, Version, Zone, after_first_block, ap, arith, be_u32}
+use Rattle.tz_write.proofs.Words.{block, designation_of, file, first_version, get_or_append_left, header, inl, inr, later_version, length, length-append}
+use Rattle.tz_write.proofs.Words.{length-map, map, name_or_none, place_in, six_counts, subst, sym, ℕ, [], ◌*◌, ◌++◌, ◌+◌, ◌/◌, ◌<◌, ◌^◌, ◌∙◌, ◌∷◌, ◌≡◌, ◌⊎◌}
+use Rattle.tz_write.proofs.{FileRecords.{records_length}, FileSpelled.{CountsFit}, RuleTexts.{rule_named}}
 use Rattle.std.proofs.{Math.Nat.{mul-div_cancel}, lemmas.List.{get_or-map}}
 use Rattle.tz_base.specs.Grammar.{Byte, Check, Ended, Exact, Grammar, Marked, Nothing, Number, Refused, Rest, Run, Then}
 
-abbrev pub IsByte : ℕ → Type 0
+abbrev IsByte : ℕ → Type 0
 IsByte b = b < 256
 
-abbrev Bytes : List ℕ → Type 0
-Bytes xs = All IsByte xs
-
-behind : (a b : List ℕ) → Bytes (a ++ b) → Bytes b
+behind : (a b : List ℕ) → AreBytes (a ++ b) → AreBytes b
 behind [] b h = h
 behind (x ∷ xs) b h = behind xs b (All-tail IsByte x (xs ++ b) h)
 
-front : (a b : List ℕ) → Bytes (a ++ b) → Bytes a
+front : (a b : List ℕ) → AreBytes (a ++ b) → AreBytes a
 front a b h = λ k d l. subst IsByte (get_or_append_left a b d k l) (h k d (omega (arith, length-append a b)))
 
 -- ---- the values that a grammar spells in bytes
@@ -28,25 +25,25 @@ Values (Nothing v) x = x ≡ v
 Values (Then {X = X} g f) y = (x : X) × Values g x × Values (f x) y
 Values (Marked tag g h) x = Values g x ⊎ Values h x
 Values (Ended g h) x = Values g x ⊎ Values h x
-Values (Exact n) x = Bytes x × (length x ≡ n)
-Values Rest x = Bytes x
+Values (Exact n) x = AreBytes x × (length x ≡ n)
+Values Rest x = AreBytes x
 Values (Check P test refusal v) x = P × (x ≡ v)
 Values g x = Unit {0}
 
-values : {X : Type 0} (g : Grammar X) (bytes : List ℕ) (x : X) (rest : List ℕ) → Spells g bytes x rest → Bytes bytes → Values g x × Bytes rest
-values (Nothing v) bytes x rest h b = (h.0, subst Bytes h.1 b)
+values : {X : Type 0} (g : Grammar X) (bytes : List ℕ) (x : X) (rest : List ℕ) → Spells g bytes x rest → AreBytes bytes → Values g x × AreBytes rest
+values (Nothing v) bytes x rest h b = (h.0, subst AreBytes h.1 b)
 values (Then g f) bytes y rest (x, after, p, q) b = let (v, c) = values g bytes x after p b in let (w, d) = values (f x) after y rest q c in ((x, v, w), d)
-values (Marked tag g h) bytes x rest (inl (after, is, p)) b = let (v, c) = values g after x rest p (behind (tag ∷ []) after (subst Bytes is b)) in (inl v, c)
+values (Marked tag g h) bytes x rest (inl (after, is, p)) b = let (v, c) = values g after x rest p (behind (tag ∷ []) after (subst AreBytes is b)) in (inl v, c)
 values (Marked tag g h) bytes x rest (inr (_, p)) b = let (v, c) = values h bytes x rest p b in (inr v, c)
 values (Ended g h) bytes x rest (inl (_, p)) b = let (v, c) = values g bytes x rest p b in (inl v, c)
 values (Ended g h) bytes x rest (inr (_, p)) b = let (v, c) = values h bytes x rest p b in (inr v, c)
-values (Byte tag) bytes x rest h b = (tt, behind (tag ∷ []) rest (subst Bytes h b))
-values (Run p) bytes x rest h b = (tt, behind x rest (subst Bytes h.whole b))
-values (Number max) bytes x rest h b = (tt, behind h.digits rest (subst Bytes h.whole b))
-values (Exact n) bytes x rest h b = let c = subst Bytes h.0 b in ((front x rest c, h.1), behind x rest c)
-values Rest bytes x rest h b = (subst Bytes (sym h.0) b, subst Bytes (sym h.1) (All-nil IsByte))
+values (Byte tag) bytes x rest h b = (tt, behind (tag ∷ []) rest (subst AreBytes h b))
+values (Run p) bytes x rest h b = (tt, behind x rest (subst AreBytes h.whole b))
+values (Number max) bytes x rest h b = (tt, behind h.digits rest (subst AreBytes h.whole b))
+values (Exact n) bytes x rest h b = let c = subst AreBytes h.0 b in ((front x rest c, h.1), behind x rest c)
+values Rest bytes x rest h b = (subst AreBytes (sym h.0) b, subst AreBytes (sym h.1) (All-nil IsByte))
 values (Refused refusal) bytes x rest h b = absurd h
-values (Check P test refusal v) bytes x rest h b = ((h.0, h.1), subst Bytes h.2 b)
+values (Check P test refusal v) bytes x rest h b = ((h.0, h.1), subst AreBytes h.2 b)
 
 -- ---- counts
 number_fits : (n : ℕ) → Values be_u32 n → n < 2 ^ 32
@@ -63,8 +60,8 @@ same_factor a b c p h = sym (mul-div_cancel a p) ∙ (ap (λ n. n / c) h ∙ mul
 
 -- so many transitions, types and leap seconds have room
 record Limits (p : FilePieces) : Type 0 where
-  pub indexes : Bytes p.parts.type_indexes
-  pub types : Bytes p.parts.types
+  pub indexes : AreBytes p.parts.type_indexes
+  pub types : AreBytes p.parts.types
   pub transitions_fit : length p.parts.type_indexes < 2 ^ 32
   pub types_fit : length p.parts.types < 2 ^ 32 * 6
   pub leaps_fit : (n : ℕ) → length p.parts.leap_seconds ≡ n * (p.time_size + 4) → n < 2 ^ 32
@@ -85,12 +82,12 @@ after_limits One c parts p (_, _, value) fit first = rw value (block_limits _ 4 
 after_limits Two c parts p h fit first = later_limits p h
 after_limits Three c parts p h fit first = later_limits p h
 
-pieces_limits : (bytes : List ℕ) (p : FilePieces) → HasPieces bytes p → Bytes bytes → Limits p
+pieces_limits : (bytes : List ℕ) (p : FilePieces) → HasPieces bytes p → AreBytes bytes → Limits p
 unfolding file
 pieces_limits bytes p h b = grind (arith, values, after_limits, header_fits)
 
 -- ---- lists
-indexes_fit : (ts : List Transition) (indexes : List ℕ) → indexes ≡ map (λ t. t.type_index) ts → Bytes indexes → All HasIndex ts
+indexes_fit : (ts : List Transition) (indexes : List ℕ) → indexes ≡ map (λ t. t.type_index) ts → AreBytes indexes → All HasIndex ts
 indexes_fit ts indexes e b = λ i d l. subst IsByte (get_or-map (λ (t : Transition). t.type_index) ts i d 0 l) (grind (arith, length-map))
 
 rule_spelled : (extended : Bool) (footer : Option (List ℕ)) (rule : Option TransitionRule) → HasRule extended footer rule → IsSpellableOrNone rule
@@ -100,20 +97,20 @@ rule_spelled extended footer rule h = grind (arith, rule_named)
 text_back : (text : List ℕ) → name_or_none (designation_of text) ≡ text
 text_back text = grind arith
 
-type_named : (designations bytes : List ℕ) (t : LocalType) → length bytes ≡ 6 → Bytes bytes → SpellsType designations bytes t → IsNamedIn designations t
+type_named : (designations bytes : List ℕ) (t : LocalType) → length bytes ≡ 6 → AreBytes bytes → SpellsType designations bytes t → IsNamedIn designations t
 type_named designations bytes t size b h = record {
   place = place_in bytes;
   stands = subst (λ (text : List ℕ). StandsAt designations (place_in bytes) text) (sym (text_back h.text) ∙ ap name_or_none h.name) h.stands;
   named = b 5 0 (omega (arith, size));
 }
 
-types_named : (designations part : List ℕ) (types : List LocalType) → SpellTypes designations part types → Bytes part → AreNamesIn designations types
+types_named : (designations part : List ℕ) (types : List LocalType) → SpellTypes designations part types → AreBytes part → AreNamesIn designations types
 types_named designations part [] h b = All-nil (IsNamedIn designations)
 types_named designations part (t ∷ ts) h b =
-    let whole = subst Bytes h.2 b in
+    let whole = subst AreBytes h.2 b in
     All-cons (IsNamedIn designations) t ts (type_named designations h.0 t h.3 (front h.0 h.1 whole) h.4) (types_named designations h.1 ts h.5 (behind h.0 h.1 whole))
 
-pub writable : (bytes : List ℕ) (z : Zone) → All IsByte bytes → IsTzFile bytes z → IsWritable z
+pub writable : (bytes : List ℕ) (z : Zone) → AreBytes bytes → IsTzFile bytes z → IsWritable z
 writable bytes z b (p, pieces, say) =
     let limits = pieces_limits bytes p pieces b in
     let transitions : length p.parts.type_indexes ≡ length z.transitions = ap length say.transitions.indexes_are ∙ length-map z.transitions (λ t. t.type_index) in

@@ -104,23 +104,18 @@ abbrev pub In : List ℕ → List ℕ → Type 0
 In designations text = place_of text designations < length designations
 
 pub in_longer : (designations more text : List ℕ) → In designations text → In (designations ++ more) text
-in_longer designations more text h = omega (arith, place_kept text designations more h, length-append designations more)
+in_longer designations more text h = grind (arith, place_kept, length-append)
 
 -- a text stands no later than there
 pub place_of_stands : (bytes text : List ℕ) (s : Stands bytes text) → place_of text bytes ≤ length s.before
-place_of_stands bytes text s = subst (λ (b : List ℕ). place_of text b ≤ length s.before) (sym s.whole) (place_behind text s.before s.after)
+place_of_stands bytes text s = grind (arith, place_behind)
 
 stands_in : (bytes text : List ℕ) → Stands bytes text → In bytes text
-stands_in bytes text s = omega (arith, place_of_stands bytes text s, ap length s.whole, length-append s.before (text ++ (0 ∷ s.after)), length-append text (0 ∷ s.after))
+stands_in bytes text s = grind (arith, place_of_stands, length-append)
 
 -- the end of a text that stands there
 abbrev pub end_stands : {bytes text other : List ℕ} → Stands bytes text → Ends text other → Stands bytes other
-end_stands {other = other} s h = record {
-  before = s.before ++ h.front;
-  after = s.after;
-  whole = s.whole ∙ (ap (λ (t : List ℕ). s.before ++ (t ++ (0 ∷ s.after))) h.is ∙ (ap (λ (t : List ℕ). s.before ++ t) (append_assoc h.front other (0 ∷ s.after))
-      ∙ sym (append_assoc s.before h.front (other ++ (0 ∷ s.after)))));
-}
+end_stands {other = other} s h = record { before = s.before ++ h.front; after = s.after; whole = grind (arith, append_assoc) }
 
 -- a text that is put in
 abbrev pub put_stands : (designations text : List ℕ) → Stands (designations ++ (text ++ 0 ∷ [])) text
@@ -133,7 +128,7 @@ pub put_in : (designations text other : List ℕ) → Ends text other → In (de
 put_in designations text other h = stands_in _ other (end_stands (put_stands designations text) h)
 
 pub in_stands : (bytes text : List ℕ) → HasNoZero text → In bytes text → Stands bytes text
-in_stands bytes text none l = let s = has_text text bytes none l in record { before = s.before; after = s.after; whole = s.whole }
+in_stands bytes text none l = let s = has_text text bytes none l in grind arith
 
 -- what a text that stands there ends with stands there too
 pub end_in : (designations text other : List ℕ) → HasNoZero text → Ends text other → In designations text → In designations other

@@ -42,18 +42,11 @@ transitions_are ts h = grind (arith, records_are, signed_64)
 
 leap_is : (leap : LeapSecond) → IsEntry leap → SpellsLeapSecond 8 (leap_bytes leap) leap
 unfolding leap_bytes signed_bytes
-leap_is leap h = record {
-  time = signed_bytes w64 leap.unix_leap_time;
-  correction = signed_bytes w32 leap.correction;
-  whole = refl;
-  size = refl;
-  time_is = signed_64 leap.unix_leap_time h.time;
-  correction_is = signed_32 leap.correction h.correction;
-}
+leap_is leap h = record { time = _; correction = _; whole = refl; size = refl; time_is = signed_64 _ h.time; correction_is = signed_32 _ h.correction }
 
 pub leaps_are : (leaps : List LeapSecond) → All IsEntry leaps → SpellLeapSeconds 8 (flat_map leap_bytes leaps) leaps
 unfolding leap_bytes signed_bytes
-leaps_are leaps h = records_are 12 (SpellsLeapSecond 8) leap_bytes leaps (λ leap. refl) (λ k d l. leap_is _ (h k d l))
+leaps_are leaps h = grind (arith, records_are, leap_is)
 
 -- ---- where a text stands
 pub begins_is : (text bytes : List ℕ) → begins text bytes ≡ true → bytes ≡ text ++ (0 ∷ drop (length text + 1) bytes)

@@ -30,11 +30,8 @@ still_out designations more text h = grind (arith, in_longer)
 cut : (last text y left b a c d : List ℕ) (size : ℕ) → (Ends last text → ⊥) → length text ≡ size → (Ends text y → ⊥) → (length y ≤ size) ⊎ Ends last y
     → left ≡ b ++ (text ++ (0 ∷ a)) → left ≡ c ++ (y ++ (0 ∷ d)) → Meeting b text a c y d → Stands (b ++ a) y
 cut last text y left b a c d size free is_size apart small x z (In_front e h) = grind (arith, append_assoc)
-cut last text y left b a c d size free is_size apart small x z (Behind e h) = record {
-  before = b ++ e;
-  after = d;
-  whole = ap (λ (s : List ℕ). b ++ s) h ∙ sym (append_assoc b e (y ++ (0 ∷ d)));
-}
+cut last text y left b a c d size free is_size apart small x z (Behind e h) =
+    record { before = b ++ e; after = d; whole = ap (λ (s : List ℕ). b ++ s) h ∙ sym (append_assoc b e (y ++ (0 ∷ d))) }
 cut last text y left b a c d size free is_size apart small x z (Is_end m h l) = absurd (apart (record { front = m; is = h }))
 cut last text y left b a c d size free is_size apart small x z (Has_end m h l) = elim small [
   | inl s ↦ absurd (apart (record { front = []; is = sym (h ∙ no_front m text (omega (arith, ap length h, s, is_size))) }))

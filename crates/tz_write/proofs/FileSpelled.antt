@@ -1,12 +1,38 @@
 -- The file that is written spells the zone.
-use Rattle.tz_info.specs.declared.file.header.Place.TheVariants.{First, Second}
+use Rattle.tz_info.specs.declared.file.header.{Place.TheVariants.{First, Second}, Version.TheVariants.{Three, Two}}
 use Rattle.tz_write.proofs.Words.{All, All-cons, All-nil, Bool, Counts, CountsAgree, FilePieces, HasCounts, HasPieces, HavePlaces, IsAscii-from_all, IsFooter}
-use Rattle.tz_write.proofs.Words.{IsSound, IsTzFile, IsUtf8-from_ascii, List, LocalType, Option, Parts, SayZone, SaysRule, Spells, TransitionRule, Zone}
-use Rattle.tz_write.proofs.Words.{after_first_block, ap, length-map, arith, block, block_bytes, counts_bytes, counts_test, file, file_bytes, first_half}
-use Rattle.tz_write.proofs.Words.{footer_bytes, get_or, header_bytes, later_pieces, later_version, least_block, least_counts, length, number_bytes, refl}
-use Rattle.tz_write.proofs.Words.{second_half, zone_counts, zone_parts, ℕ, [], ◌*◌, ◌++◌, ◌+◌, ◌<◌, ◌∙◌, ◌∷◌, ◌≡◌, ◌≢◌, ◌≤◌}
-use Rattle.tz_write.proofs.{FileHeads.{CountsFit, header_is, version_of}, TextBytes.{AreTextBytes, begins_bare, ends_bare, limits, no_zeros}}
-use Rattle.tz_write.proofs.FileRecords.{leaps_are, records_length, transitions_are, types_are}
+use Rattle.tz_write.proofs.Words.{IsSound, IsTzFile, IsUtf8-from_ascii, List, LocalType, Option, Parts, Place, SayZone, SaysRule, Spells, TransitionRule}
+use Rattle.tz_write.proofs.Words.{Version, Zone, ℕ, after_first_block, ap, arith, block, block_bytes, counts_bytes, counts_test, false, file, file_bytes}
+use Rattle.tz_write.proofs.Words.{first_half, footer_bytes, get_or, header, header_bytes, later_pieces, later_version, least_block, least_counts, length}
+use Rattle.tz_write.proofs.Words.{length-map, magic, number_bytes, refl, second_half, six_counts, true, tzif, unused, version, version_byte, zone_counts}
+use Rattle.tz_write.proofs.Words.{zone_parts, [], ◌*◌, ◌++◌, ◌+◌, ◌<◌, ◌^◌, ◌∙◌, ◌∷◌, ◌≡◌, ◌≢◌, ◌≤◌}
+use Rattle.tz_write.proofs.{FileRecords.{leaps_are, number_is, records_length, transitions_are, types_are}, TextBytes.{AreTextBytes, begins_bare, ends_bare}}
+use Rattle.tz_write.proofs.TextBytes.{limits, no_zeros}
+
+-- ---- headers
+-- counts of four bytes
+abbrev pub CountsFit : Counts → Type 0
+CountsFit c = (c.ut_local < 2 ^ 32) × (c.standard_wall < 2 ^ 32) × (c.leap_seconds < 2 ^ 32) × (c.transitions < 2 ^ 32) × (c.types < 2 ^ 32)
+    × (c.designations < 2 ^ 32)
+
+counts_are : (c : Counts) (rest : List ℕ) → CountsFit c → Spells six_counts (counts_bytes c ++ rest) c rest
+unfolding counts_bytes number_bytes six_counts
+counts_are c rest (a, b, d, e, f, g) =
+    (_, _, number_is c.ut_local _ a, (_, _, number_is c.standard_wall _ b, (_, _, number_is c.leap_seconds _ d, (_, _, number_is c.transitions _ e, (_, _, number_is c.types _ f, (_, _, number_is c.designations _ g, (refl, refl)))))))
+
+abbrev pub version_of : Bool → Version
+version_of true = Three
+version_of false = Two
+
+version_is : (place : Place) (extended : Bool) (rest : List ℕ) → Spells (version place) (version_byte extended ∷ rest) (version_of extended) rest
+unfolding version
+version_is place extended rest = grind arith
+
+pub header_is : (place : Place) (extended : Bool) (c : Counts) (rest : List ℕ) → CountsFit c → CountsAgree c
+    → Spells (header place) (header_bytes extended c ++ rest) (record { version = version_of extended; counts = c }) rest
+unfolding header_bytes header tzif
+header_is place extended c rest fit agree =
+    (tt, _, (magic, _, (refl, refl), (refl, refl, refl)), (version_of extended, _, version_is place extended (unused ++ (counts_bytes c ++ rest)), (unused, counts_bytes c ++ rest, (refl, refl), (c, rest, counts_are c rest fit, (agree, refl, refl)))))
 
 -- ---- footers
 -- letters, digits and signs of ASCII, and no colon in front
@@ -48,7 +74,7 @@ first_block rest = block_is 4 least_counts least_parts rest refl refl refl refl 
 
 -- ---- the second half
 zone_fit : (d : List ℕ) (z : Zone) → length d ≤ 263 → HasCounts z → CountsFit (zone_counts d z)
-zone_fit d z size h = (omega arith, omega arith, h.leaps, h.transitions, h.types, omega (arith, size))
+zone_fit d z size h = grind arith
 
 some_designations : (types : List LocalType) (d : List ℕ) → 0 < length types → HavePlaces d types → length d ≢ 0
 some_designations [] d some places e = omega (arith, some)
@@ -80,12 +106,10 @@ after_is extended c p rest pieces h = grind arith
 -- ---- the whole
 file_pieces : (extended : Bool) (text d : List ℕ) (z : Zone) → length d ≤ 263 → HasCounts z → 0 < length z.types → HavePlaces d z.types → IsSound z → HasPieces (file_bytes extended text d z) (pieces_of extended text d z)
 unfolding file_bytes first_half header_bytes counts_bytes number_bytes file
-file_pieces extended text d z size counts some places sound = (
-  _,
-  _,
-  header_is First extended least_counts _ (omega arith, omega arith, omega arith, omega arith, omega arith, omega arith) ((counts_test least_counts).decides.0 refl),
-  (_, _, first_block (second_half extended text d z), after_is extended least_counts least_parts _ _ (second_is extended text d z size counts some places sound)),
-)
+file_pieces extended text d z size counts some places sound =
+    let second = second_is extended text d z size counts some places sound in
+    let least = (counts_test least_counts).decides.0 refl in
+    (_, _, header_is First extended least_counts _ (grind arith) least, (_, _, first_block _, after_is extended least_counts least_parts _ _ second))
 
 says_zone : (extended : Bool) (text d : List ℕ) (z : Zone) → HavePlaces d z.types → IsSound z → IsFooter extended (footer_bytes text) z.rule → SayZone (pieces_of extended text d z) z
 unfolding pieces_of

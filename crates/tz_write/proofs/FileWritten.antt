@@ -1,9 +1,9 @@
 -- What is written of a zone.
-use Rattle.tz_write.proofs.Words.{All-weaker, Bool, IsRoomOf, IsSpellableOrNone, HaveVersion, IsFooterText, IsInNoFile, IsNameOrNone, IsRuleOrNone, IsSound}
-use Rattle.tz_write.proofs.Words.{IsType, IsTzFile, IsWritable, IsWrittenFile, List, NeedsExtensions, None, Option, Room, SaysRule, Some, TransitionRule, Zone}
-use Rattle.tz_write.proofs.Words.{arith, both_ways, ◌↔◌, counts_bytes, false, file_bytes, first_half, header_bytes, length, number_bytes, refl, second_half}
-use Rattle.tz_write.proofs.Words.{subst, sym, true, ℕ, [], ◌<◌, ◌≡◌}
-use Rattle.tz_write.proofs.{FileLayouts.{laid_of, laid_size}, FileLimits.{writable}, FileSpelled.{IsPlain, file_is}}
+use Rattle.tz_write.proofs.Words.{All-weaker, Bool, HasCounts, IsRoomOf, IsSpellableOrNone, HaveVersion, IsFooterText, IsInNoFile, IsNameOrNone, IsRuleOrNone}
+use Rattle.tz_write.proofs.Words.{IsSound, IsType, IsTzFile, IsWritable, IsWrittenFile, List, NeedsExtensions, None, Option, Room, SaysRule, Some}
+use Rattle.tz_write.proofs.Words.{TransitionRule, Zone, arith, both_ways, ◌↔◌, counts_bytes, false, file_bytes, first_half, header_bytes, length, number_bytes}
+use Rattle.tz_write.proofs.Words.{refl, second_half, subst, sym, true, ℕ, [], ◌<◌, ◌≡◌}
+use Rattle.tz_write.proofs.{FileLayouts.{AreLaid, laid_of, laid_size}, FileLimits.{writable}, FileSpelled.{IsPlain, file_is}}
 use Rattle.tz_write.proofs.{RuleTexts.{extensions, rule_named, rule_text, text_are, text_begins, text_some}}
 
 text_is : (rule : Option TransitionRule) (text : List ℕ) (extended : Bool) → IsRuleOrNone rule → IsFooterText rule text extended → IsPlain text × SaysRule extended text rule
@@ -16,19 +16,19 @@ has_version : (extended : Bool) (text d : List ℕ) (z : Zone) → HaveVersion e
 unfolding file_bytes first_half second_half header_bytes counts_bytes number_bytes
 has_version extended text d z = record { first = refl; second = refl }
 
-pub written_is : (z : Zone) (room : Room) (text : List ℕ) (extended : Bool) (bytes : List ℕ) → IsRoomOf z room → IsSound z → 0 < length z.types → IsRuleOrNone z.rule → IsFooterText z.rule text extended
-    → bytes ≡ file_bytes extended text room.designations z → IsWrittenFile z bytes
-written_is z room text extended bytes h sound some fits footer e =
+pub written_is : (z : Zone) (d text : List ℕ) (extended : Bool) (bytes : List ℕ) → HasCounts z → AreLaid z.types d → IsSound z → 0 < length z.types → IsRuleOrNone z.rule
+    → IsFooterText z.rule text extended → bytes ≡ file_bytes extended text d z → IsWrittenFile z bytes
+written_is z d text extended bytes counts laid sound some fits footer e =
     let p = text_is z.rule text extended fits footer in
     record {
-      spells = subst (λ (b : List ℕ). IsTzFile b z) (sym e) (file_is extended text room.designations z (laid_size z.types room.designations h.laid) h.counts some h.places sound p.0 p.1);
+      spells = subst (λ (b : List ℕ). IsTzFile b z) (sym e) (file_is extended text d z (laid_size z.types d laid.1) counts some laid.0 sound p.0 p.1);
       text = text;
       extended = extended;
       footer = footer;
-      version = subst (HaveVersion extended) (sym e) (has_version extended text room.designations z);
-      designations = room.designations;
-      names = h.shortest;
-      order = h.laid;
+      version = subst (HaveVersion extended) (sym e) (has_version extended text d z);
+      designations = d;
+      names = laid.2;
+      order = laid.1;
       layout = e;
     }
 
@@ -45,10 +45,8 @@ no_file z none = λ bytes b h. none (writable bytes z b h)
 
 -- ---- a zone that can be written
 pub can_be_written : (z : Zone) (room : Room) → IsRoomOf z room → IsSpellableOrNone z.rule → IsWritable z
-can_be_written z room h text = record {
-  room = record { counts = h.counts; indexes = h.indexes; designations = room.designations; names = h.shortest.names };
-  rule = text;
-}
+can_be_written z room h text =
+    record { room = record { counts = h.counts; indexes = h.indexes; designations = room.designations; names = h.shortest.names }; rule = text }
 
 pub footer_spelled : (rule : Option TransitionRule) (text : List ℕ) (extended : Bool) → IsFooterText rule text extended → IsSpellableOrNone rule
 footer_spelled rule text extended h = grind (arith, rule_named)
@@ -61,18 +59,6 @@ footer_some None fits h = ([], false, (refl, refl))
 pub file_some : (z : Zone) → 0 < length z.types → IsRuleOrNone z.rule → IsSound z → IsWritable z → (bytes : List ℕ) × IsWrittenFile z bytes
 file_some z some fits sound h =
     let names = All-weaker IsType (λ t. IsNameOrNone t.name) (λ t h. h.name) z.types sound.types in
-    let d = laid_of z.types h.room.designations some names h.room.names in let f = footer_some z.rule fits h.rule in
-    let room : Room = record {
-      designations = d.0;
-      sizes = record { leap_seconds = length z.leaps; transitions = length z.transitions; types = length z.types; designations = length d.0 };
-    } in (
-      file_bytes f.1 f.0 d.0 z,
-      written_is z room f.0 f.1 _ (record {
-        counts = h.room.counts;
-        indexes = h.room.indexes;
-        places = d.1.0;
-        laid = d.1.1;
-        shortest = d.1.2;
-        counts_are = refl;
-      }) sound some fits f.2 refl,
-    )
+    let d = laid_of z.types h.room.designations some names h.room.names in
+    let f = footer_some z.rule fits h.rule in
+    (file_bytes f.1 f.0 d.0 z, written_is z d.0 f.0 f.1 _ h.room.counts d.1 sound some fits f.2 refl)

@@ -7,7 +7,6 @@ mod DayTexts
 mod RuleTexts
 mod TextBytes
 mod ZoneTexts
-mod FileHeads
 mod FileRecords
 mod FileNames
 mod FileRoom

@@ -2,8 +2,8 @@
 -- have no white space.
 use Rattle.tz_base.specs.{Grammar.{Byte, Check, Ended, Grammar, Marked, Nothing, Optional, Then}, Refusals.{Refusal}, Tests.{Test}}
 use Rattle.tz_write.proofs.Words.{AllDigits, AllOf, AreInPairs, BeginsBare, Bool, EndsBare, IsTrimmed, List, Spells, TwoDigits, Without, and_parts, append-nil}
-use Rattle.tz_write.proofs.Words.{HasNoZero, NoneFirst, append_assoc, arith, colon, comma, cond, dot, false, greater, inl, inr, is_ascii_whitespace, is_digit, is_name_byte}
-use Rattle.tz_write.proofs.Words.{less, nat_tests, not, refl, slash, sym, true, ℕ, [], ◌&&◌, ◌++◌, ◌==◌, ◌||◌, ◌∷◌, ◌<◌, ◌≡◌, ◌≢◌}
+use Rattle.tz_write.proofs.Words.{HasNoZero, NoneFirst, append_assoc, arith, colon, comma, cond, dot, false, greater, inl, inr, is_ascii_whitespace, is_digit}
+use Rattle.tz_write.proofs.Words.{is_name_byte, less, nat_tests, not, refl, slash, sym, true, ℕ, [], ◌&&◌, ◌++◌, ◌==◌, ◌||◌, ◌∷◌, ◌<◌, ◌≡◌, ◌≢◌}
 
 -- a letter, a digit or one of the signs
 abbrev pub is_text_byte : ℕ → Bool

@@ -33,7 +33,7 @@ pub use Rattle.tz_write.specs.{FileLayouts.{before_zero, ends, laid_from, text_a
 pub use Rattle.tz_write.specs.Steps.TextPieces.{is_positive, spelled_date, spelled_day, spelled_dst_offset, spelled_hands}
 pub use Rattle.tz_write.specs.Steps.TextPieces.{spelled_minutes, spelled_name, spelled_pair, spelled_rule, spelled_seconds, spelled_signed}
 pub use Rattle.tz_write.specs.{Steps.TextPieces.{time_after}, WrittenFiles.{HasCounts, HasIndex, HasTimeOf64Bits, HaveVersion, IsEntry, IsFooterText}}
-pub use Rattle.tz_write.specs.WrittenFiles.{IsInNoFile, IsSound, IsSpellableOrNone, IsType, IsWritable, IsWrittenFile, NeedsExtensions}
+pub use Rattle.tz_write.specs.WrittenFiles.{AreBytes, IsInNoFile, IsSound, IsSpellableOrNone, IsType, IsWritable, IsWrittenFile, NeedsExtensions}
 pub use Rattle.tz_write.specs.WrittenTexts.{AreInPairs, AreTimesOf, CanBeSpelled, HasZoneText, IsNamed, IsNoPosixZone, IsOfText, IsPlainTime}
 pub use Rattle.tz_write.specs.{WrittenTexts.{IsTextTime, IsWrittenText, IsWrittenZone, TwoDigits}, declared.file.writer.Room.{Room}}
 unfoldable pub use Rattle.tz_write.specs.FileBytes.{counts_bytes, file_bytes, first_half, header_bytes, leap_bytes, number_bytes, second_half, signed_bytes}

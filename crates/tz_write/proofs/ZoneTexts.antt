@@ -1,6 +1,6 @@
 -- The text of a zone: it gives the zone, and each other one is longer.
 use Rattle.tz_write.proofs.Words.{AreInPairs, HasZoneText, IsNoPosixZone, IsOfText, IsPosixZone, IsRule, IsRuleOrNone, IsSpace, IsTrimmed, IsTzText}
-use Rattle.tz_write.proofs.Words.{IsWrittenZone, List, LocalType, None, NoneFirst, OnErr, Option, Result, Some, TransitionRule, TwoDigits, Zone, ap, append-nil}
+use Rattle.tz_write.proofs.Words.{IsWrittenZone, List, LocalType, None, NoneFirst, OnErr, Option, Result, Some, TransitionRule, TwoDigits, Zone, append-nil}
 use Rattle.tz_write.proofs.Words.{arith, false, inl, inr, is_ascii_whitespace, is_digit, length, length-append, nat_tests, subst, sym, spelled_rule, true}
 use Rattle.tz_write.proofs.Words.{types_of, zone_of_rule, ℕ, [], ◌++◌, ◌<◌, ◌∷◌, ◌≡◌, ◌⊎◌}
 use Rattle.tz_write.proofs.RuleTexts.{both_shortest, rule_pairs, rule_read, rule_spelled, text_are, text_begins}
@@ -39,15 +39,11 @@ spells_rule text types rule gives = grind arith
 pub written_zone : (types : List LocalType) (rule : TransitionRule) → IsRule rule → HasZoneText types (Some rule) → IsWrittenZone (zone_of_rule types (Some rule)) (spelled_rule rule)
 written_zone types rule fits h =
     let named = h.1.0 in
+    let text = rule_spelled false rule fits named h.1.1 in
+    let first = not_empty (text_begins rule named) in
+    let trims = trimmed_text (spelled_rule rule) (text_are rule fits named) in
     record {
-      gives = inr (record {
-        some = not_empty (text_begins rule named);
-        trimmed = spelled_rule rule;
-        rule = rule;
-        trims = trimmed_text (spelled_rule rule) (text_are rule fits named);
-        spells = rule_spelled false rule fits named h.1.1;
-        zone = ap (λ (x : List LocalType). zone_of_rule x (Some rule)) h.0;
-      });
+      gives = grind arith;
       pairs = rule_pairs rule fits named;
       shortest = λ other gives pairs.
           let s = spells_rule other types rule gives in
@@ -73,7 +69,7 @@ pub zone_text_some : (z : Zone) → IsRuleOrNone z.rule → IsOfText z → (text
 zone_text_some z fits h = grind (arith, rule_some)
 
 pub zone_text_once : (z : Zone) (s t : List ℕ) → IsWrittenZone z s → IsWrittenZone z t → s ≡ t
-zone_text_once z s t p q = both_shortest s t (p.shortest t q.gives q.pairs) (q.shortest s p.gives p.pairs)
+zone_text_once z s t p q = grind (arith, both_shortest)
 
 -- ---- running out of memory
 pub on_err : {A E : Type 0} (r : Result A E) (P : Type 0) → P → OnErr r P

@@ -194,6 +194,7 @@ fn laid_from(types: &[LocalTimeType], in_order: &[u8], place: usize) -> Option<D
 
 // With another name as the last: in order the last one, or a text that ends it, begins past byte
 // 255.
+#[tactic(auto, using(crate::proofs::FileLayouts::one_place_more))]
 fn laid_otherwise(types: &[LocalTimeType], in_order: &[u8]) -> Option<Designations>
     requires { in_order.now ≡ laid [] types.now }
     ensures { MatchOption result

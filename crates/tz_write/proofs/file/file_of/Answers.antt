@@ -4,4 +4,5 @@ use Rattle.tz_write.proofs.file.file_of.Goals as goal
 pub returns : goal.returns
 returns c =
     let is = rw c.as_bytes.ensures.value at c.in_ok-bytes.ensures.bytes in
-    written_is c.args.zone.now c.args.room.now _ _ _ c.requires.room c.in_ok-bytes.ensures.sound c.in_ok-bytes.ensures.valid.some c.in_ok-bytes.ensures.rule c.requires.footer is
+    let room = c.requires.room in
+    written_is c.args.zone.now c.args.room.now.designations _ _ _ room.counts (room.places, room.laid, room.shortest) c.in_ok-bytes.ensures.sound c.in_ok-bytes.ensures.valid.some c.in_ok-bytes.ensures.rule c.requires.footer is
