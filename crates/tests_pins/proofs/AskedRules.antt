@@ -1,7 +1,7 @@
 -- Where rules answer, and how often they are asked.
-use Rattle.tz_info.proofs.{Words.{AllPairs, suc, zero, ◌≢◌}, QuestionLaws.{in_two}}
+use Rattle.tz_info.proofs.{Words.{AllPairs, ◌≢◌}, QuestionLaws.{in_two}}
 use Rattle.tests_pins.proofs.Words.{Contains, IsAskedAt, IsAskedFor, IsByRule, IsByRuleFor, [], arith, honolulu, hst, hst10, inl, inr, ints, neg_ℤ}
-use Rattle.tests_pins.proofs.Words.{new_york_rule, new_york_zone, pos, refl, sym, ℕ, ℤ, ◌-ℤ◌, ◌∙◌, ◌∷◌, ◌≡◌, ◌⊎◌}
+use Rattle.tests_pins.proofs.Words.{new_york_rule, new_york_zone, pos, refl, ℕ, ℤ, ◌-ℤ◌, ◌∷◌, ◌≡◌, ◌⊎◌}
 use Rattle.tz_info.specs.declared.rule.transition_rule.TransitionRule.TheVariants as rules
 
 pub always : (u : ℤ) → IsByRule new_york_zone u
@@ -17,13 +17,10 @@ from_last = record {
 }
 
 pub not_before_last : IsByRule (honolulu hst10) (neg_ℤ (pos 712_150_201)) → ⊥
-not_before_last h =
-    let second = (h.of_second (omega arith)).sum in
-    let count = rw second at h.from_last in absurd (omega (arith, count))
+not_before_last h = grind (arith, ints)
 
 pub one_more : (after : ℕ) → IsAskedAt new_york_zone (pos 0) 5 after → after ≡ 6
-one_more after (inl h) = h.1
-one_more after (inr h) = absurd (h.0 (always (pos 0)))
+one_more after h = grind (arith, always)
 
 -- clocks five and four hours behind UTC show the local time at two seconds
 by_clock : (h : ℤ) → Contains (neg_ℤ (pos 18_000) ∷ neg_ℤ (pos 14_400) ∷ []) h
@@ -35,18 +32,14 @@ asked u (inl at) = record { offset = neg_ℤ (pos 18_000); of_rule = (0, omega a
 asked u (inr at) = record { offset = neg_ℤ (pos 14_400); of_rule = (1, omega arith, refl); of_second = at; by_rule = always u }
 
 apart : (a b : ℤ) → a ≢ b → AllPairs (λ u v. u ≢ v) (a ∷ b ∷ [])
-apart a b other zero (suc zero) d i j = other
-apart a b other (suc k) (suc zero) d i j = absurd (omega arith)
-apart a b other k (suc (suc m)) d i j = absurd (omega arith)
-apart a b other k zero d i j = absurd (omega arith)
+apart a b other k m d i j = grind arith
 
 pub two_more : IsAskedFor new_york_zone (pos 1_615_689_000) 5 7
 two_more = record {
   seconds = pos 1_615_707_000 ∷ pos 1_615_703_400 ∷ [];
   once = apart (pos 1_615_707_000) (pos 1_615_703_400) (λ e. omega (arith, ints, e));
-  each = λ u. (
-    λ inside. asked u (in_two (pos 1_615_707_000) (pos 1_615_703_400) u inside),
-    λ h. elim (by_clock h.offset h.of_rule) [ inl at ↦ (0, omega arith, sym (h.of_second ∙ at)) | inr at ↦ (1, omega arith, sym (h.of_second ∙ at)) ],
-  );
+  each = grind (arith, ints, asked, in_two, by_clock);
   count = refl;
 }
+
+pub ruleset asked_rules = (always, from_last, not_before_last, one_more, two_more)

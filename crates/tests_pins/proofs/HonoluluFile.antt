@@ -2,17 +2,16 @@
 use Rattle.std.proofs.Common.{if◌then◌else◌}
 use Rattle.std.proofs.lemmas.Str.{IsUtf8-from_ascii, is_utf8-from_IsUtf8}
 use Rattle.std.specs.Str.{IsAscii}
-use Rattle.tz_base.specs.declared.error.Error.TheVariants.{InvalidTzFile, UnsupportedTzFile}
-use Rattle.tz_base.specs.declared.error.Expected.TheVariants.{FooterBetweenNewlines, NothingAfterBlockOfVersion1, Version1To3, Version2Or3InSecondHeader}
+use Rattle.tz_base.specs.declared.error.Error.TheVariants.{InvalidTzFile}
+use Rattle.tz_base.specs.declared.error.Expected.TheVariants.{FooterBetweenNewlines}
 use Rattle.tz_info.proofs.{ContentLaws.{transitions_law}, TypeLaws.{types_law}, TzFileLaws.{file_law}}
 use Rattle.tz_info.proofs.Words.{footer_at, is_between_newlines, trimmed}
 use Rattle.tz_info.specs.Steps.FooterReading.{text_or_none}
-use Rattle.tz_info.specs.{declared.file.header.Version.TheVariants.{Two}}
-use Rattle.tests_pins.proofs.Words.{Bool, Err, Error, HasPieces, IsAscii-cons, IsAscii-nil, IsTzFile, List, None, PieceFault, Place, SpellTransitions}
-use Rattle.tests_pins.proofs.Words.{SpellTypes, Spells, Version, Zone, [], apart, arith, be_u32, block as a_block, counts, counts_test, designations, false}
-use Rattle.tests_pins.proofs.Words.{file as a_file, file_with, from_be_bytes, header as a_header, honolulu, honolulu_file, honolulu_from, hst10, hst_footer}
-use Rattle.tests_pins.proofs.Words.{inl, inr, lawful, long_times, magic, neg_ℤ, parts, pieces, pos, refl, short_file, short_times, six_counts, type_indexes}
-use Rattle.tests_pins.proofs.Words.{type_records, tzif, version, w32, ℕ, ◌++◌, ◌∷◌, ◌≡◌}
+use Rattle.tz_info.specs.declared.file.header.Version.TheVariants.{Two}
+use Rattle.tests_pins.proofs.Words.{Bool, Err, HasPieces, IsAscii-cons, IsAscii-nil, IsTzFile, List, Place, SpellTransitions, SpellTypes, Spells, Version, []}
+use Rattle.tests_pins.proofs.Words.{arith, be_u32, block as a_block, counts, counts_test, designations, false, file as a_file, from_be_bytes}
+use Rattle.tests_pins.proofs.Words.{header as a_header, honolulu, honolulu_file, hst10, hst_footer, inl, inr, lawful, long_times, magic, parts, pieces, refl}
+use Rattle.tests_pins.proofs.Words.{short_times, six_counts, type_indexes, type_records, tzif, version, w32, ℕ, ◌++◌, ◌∷◌, ◌≡◌}
 use Rattle.tests_pins.proofs.{Computed.{files}, FileParts.{parts_are}}
 use Rattle.tests_pins.specs.Honolulu.{honolulu_block, honolulu_header}
 
@@ -66,23 +65,3 @@ file_pieces = (lawful a_file honolulu_file).takes (pieces, []) refl
 pub file : IsTzFile honolulu_file (honolulu hst10)
 unfolding files
 file = (file_law honolulu_file).takes (honolulu hst10) (rw (footer_reads false hst_footer (search (IsAscii-cons, IsAscii-nil, arith) depth 9)) refl)
-
-pub of_version_1 : IsTzFile short_file (honolulu_from (neg_ℤ (pos 2_147_483_648)) None)
-unfolding files
-of_version_1 = (file_law short_file).takes (honolulu_from (neg_ℤ (pos 2_147_483_648)) None) refl
-
--- ---- wrong files
-pub other_version : PieceFault (file_with 49) (UnsupportedTzFile Version1To3)
-unfolding files
-other_version = (lawful a_file (file_with 49)).fails (UnsupportedTzFile Version1To3) refl
-
-pub version_1_again : PieceFault (file_with 0) (InvalidTzFile Version2Or3InSecondHeader)
-unfolding files
-version_1_again = (lawful a_file (file_with 0)).fails (InvalidTzFile Version2Or3InSecondHeader) refl
-
-pub byte_after : (b : ℕ) → PieceFault (short_file ++ (b ∷ [])) (InvalidTzFile NothingAfterBlockOfVersion1)
-unfolding files
-byte_after b = (lawful a_file (short_file ++ (b ∷ []))).fails (InvalidTzFile NothingAfterBlockOfVersion1) refl
-
-pub no_file : (bytes : List ℕ) (e : Error) → PieceFault bytes e → (z : Zone) → IsTzFile bytes z → ⊥
-no_file bytes e fault z whole = apart (lawful a_file bytes) (whole.0, []) e whole.1 fault

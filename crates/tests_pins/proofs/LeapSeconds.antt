@@ -4,7 +4,7 @@ use Rattle.std.proofs.lemmas.Bool.{and_parts}
 use Rattle.tz_info.proofs.{LeapOrder.{leap_times_answer}, ZoneLaws.{leap_time_decided}}
 use Rattle.tz_info.specs.{Leaps.{IsLeapTime, IsNear, correction_at}, Zones.{TypeAtLeapTime}}
 use Rattle.tests_pins.proofs.Words.{AreLeapSeconds, Bool, IsNextLeap, IsOneStep, LeapSecond, List, LocalType, TypeAt, Zone, [], add-one, arith, get_or, inl}
-use Rattle.tests_pins.proofs.Words.{inr, ints, length, pos, refl, subst, suc, sym, true, utc_leaps, zero, ℕ, ℤ, ◌+ℤ◌, ◌<ℤ◌, ◌<◌, ◌∷◌, ◌≡◌}
+use Rattle.tests_pins.proofs.Words.{inr, ints, length, pos, refl, suc, true, utc_leaps, zero, ℕ, ℤ, ◌+ℤ◌, ◌<ℤ◌, ◌<◌, ◌∷◌, ◌≡◌}
 
 -- whether an entry comes 28 days later, less a second, or more, and is one second more
 abbrev pub follows : LeapSecond → LeapSecond → Bool
@@ -44,9 +44,4 @@ not_one_step a b far s = omega (arith, ints, s)
 
 -- without leap seconds the leap time is the Unix time
 pub leapless : (z : Zone) (u : ℤ) (t : LocalType) → z.leaps ≡ [] → TypeAtLeapTime z u u t → TypeAt z u t
-leapless z u t none in_force = record {
-  leap_time = u;
-  of_second = λ _. subst (λ (ls : List LeapSecond). IsLeapTime ls u u) (sym none)
-      (record { sum = omega (arith, ints); fits = λ k h. absurd (omega (arith, h)) });
-  in_force = in_force;
-}
+leapless z u t none in_force = grind (arith, ints)

@@ -4,9 +4,9 @@ use Rattle.tz_info.proofs.{AnswerLaws.{same_answer}, KindLaws.{margin_kept}, Rul
 use Rattle.std.proofs.Math.Bool.{beq}
 use Rattle.tz_info.proofs.{SeasonLaws.{season_made}, ZoneLaws.{type_once}}
 use Rattle.tz_info.proofs.Words.{Bool, IsWallAnswer, LocalType, RuleAt, Shows, TypeAt, TypeFrom, are_calm, arith, by_lt_z, closed_day, day_number}
-use Rattle.tz_info.proofs.Words.{days_of_months, end_in, false, inl, inr, ints, is_dst_by_one, joined, least_time, margin_of, moment, neg_ℤ, place_by}
-use Rattle.tz_info.proofs.Words.{places_by_kind, pos, refl, seconds_by_kind, shown_if, start_in, sym, true, type_when, w64, year_start, ℤ, ◌*ℤ◌, ◌+ℤ◌, ◌-ℤ◌}
-use Rattle.tz_info.proofs.Words.{◌<ℤ◌, ◌≡◌, ◌≤ℤ◌, ◌⊎◌}
+use Rattle.tz_info.proofs.Words.{days_of_months, end_in, false, ints, is_dst_by_one, joined, least_time, margin_of, moment, neg_ℤ, place_by, places_by_kind}
+use Rattle.tz_info.proofs.Words.{pos, refl, seconds_by_kind, shown_if, start_in, sym, true, type_when, w64, year_start, ℤ, ◌*ℤ◌, ◌+ℤ◌, ◌-ℤ◌, ◌<ℤ◌, ◌≡◌, ◌≤ℤ◌}
+use Rattle.tz_info.proofs.Words.{◌⊎◌}
 use Rattle.tz_info.specs.{declared.rule.day.DayForm.TheVariants.{MonthWeekday}, Rules.{IsAlternateRule}}
 use Rattle.offset_core.specs.{WallAnswer.{IsNeverShown, IsShownBetween, IsShownOnce}, declared.local_result.LocalResult.{LocalResult}}
 use Rattle.offset_core.specs.declared.local_result.LocalResult.TheVariants.{Ambiguous, None, Single}
@@ -66,20 +66,16 @@ in_2021 u low high =
 
 pub rule_at : (u : ℤ) → pos 1_604_210_400 ≤ℤ u → u <ℤ pos 1_641_168_000 → RuleAt new_york_rule u (type_when new_york (is_summer u))
 rule_at u low high = by_lt_z u (pos 1_609_286_400)
-    (λ early.
-    let same : is_summer u ≡ is_dst_by_one (pos 1_583_650_800) (pos 1_604_210_400) u = grind (arith, ints) in
-    rw same (in_2020 u (omega (arith, ints)) (omega (arith, ints))))
+    (λ early. let same : is_summer u ≡ is_dst_by_one (pos 1_583_650_800) (pos 1_604_210_400) u = grind (arith, ints) in grind (arith, ints, in_2020))
     (λ late. in_2021 u late high)
+
+pub ruleset rule_2021 = (start_2021, end_2021, rule_at)
 
 pub edt_until_2020 : RuleAt new_york_rule (pos 1_604_210_399) edt
 edt_until_2020 = in_2020 (pos 1_604_210_399) (omega arith) (omega arith)
 
 pub type_of_rule : (u : ℤ) (t : LocalType) → RuleAt new_york_rule u t → TypeAt new_york_zone u t
-type_of_rule u t r = record {
-  leap_time = u;
-  of_second = λ h. absurd (omega arith);
-  in_force = record { before_last = λ h. absurd (omega arith); from_last = λ h. r };
-}
+type_of_rule u t r = grind (arith, ints)
 
 pub type_at : (u : ℤ) → pos 1_604_210_400 ≤ℤ u → u <ℤ pos 1_641_168_000 → TypeAt new_york_zone u (type_when new_york (is_summer u))
 type_at u low high = type_of_rule u (type_when new_york (is_summer u)) (rule_at u low high)
@@ -90,8 +86,7 @@ one_type u t low high h = type_once new_york_zone u t (type_when new_york (is_su
 
 -- ---- wall clocks
 pub by_dst : (u l : ℤ) (t : LocalType) (dst : Bool) → t ≡ type_when new_york dst → u +ℤ t.offset ≡ l → (u ≡ l -ℤ edt.offset) ⊎ (u ≡ l -ℤ est.offset)
-by_dst u l t true is shown = let e = rw is at shown in inl (omega (arith, ints))
-by_dst u l t false is shown = let e = rw is at shown in inr (omega (arith, ints))
+by_dst u l t dst is shown = grind (arith, ints)
 
 -- the second at which it is shown, by the type in force then
 pub second_of : (l u : ℤ) (t : LocalType) → pos 1_604_210_400 ≤ℤ u → u <ℤ pos 1_641_168_000

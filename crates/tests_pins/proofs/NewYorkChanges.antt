@@ -1,15 +1,15 @@
 -- New York's gap, clock changes and span of standard time from November 2020 to the end of 2021.
 use Rattle.tz_info.proofs.ChangeLaws.{one_change, one_type_before_gap}
-use Rattle.tz_info.specs.{Gaps.{HasGap, IsTypeBeforeGap}}
+use Rattle.tz_info.specs.Gaps.{HasGap, IsTypeBeforeGap}
 use Rattle.tests_pins.proofs.Words.{AreChanges, Change, Contains, IsChange, IsFromUntil, IsSpanAt, LocalType, TypeAt, [], ap, arith, autumn, by_lt_z, change_at}
-use Rattle.tests_pins.proofs.Words.{edt, est, false, false≢true, fits_signed_from_abs, get_or, inl, inr, ints, new_york_zone, pos, refl, spring, subst, suc}
-use Rattle.tests_pins.proofs.Words.{sym, w64, winter, zero, ℕ, ℤ, ◌+ℤ◌, ◌-ℤ◌, ◌<ℤ◌, ◌<◌, ◌∙◌, ◌∷◌, ◌≡◌, ◌≤ℤ◌, ◌⊎◌}
-use Rattle.tests_pins.proofs.NewYork.{by_dst, edt_until_2020, is_summer, one_type, type_at, type_of_rule, wall}
+use Rattle.tests_pins.proofs.Words.{edt, est, false, fits_signed_from_abs, get_or, inl, inr, ints, new_york_zone, pos, refl, spring, subst, sym, w64, winter, ℕ}
+use Rattle.tests_pins.proofs.Words.{ℤ, ◌+ℤ◌, ◌-ℤ◌, ◌<ℤ◌, ◌<◌, ◌∙◌, ◌∷◌, ◌≡◌, ◌≤ℤ◌, ◌⊎◌}
+use Rattle.tests_pins.proofs.NewYork.{by_dst, edt_until_2020, is_summer, never, once, one_type, second_of, type_at, type_of_rule, wall}
 use Rattle.tz_info.specs.Moments.{type_when}
 use Rattle.tests_pins.specs.NewYork.{new_york}
 
 pub apart : est ≡ edt → ⊥
-apart e = false≢true (ap (λ t. t.dst) e)
+apart e = grind arith
 
 -- ---- the gap at 02:30 on 14 March
 pub gap : HasGap (TypeAt new_york_zone) (pos 1_615_689_000) est edt (pos 1_615_705_200)
@@ -23,7 +23,7 @@ gap = record {
       let reach = by_dst u (u +ℤ m.type.offset) m.type r.dst r.shown refl in
       let same : is_summer u ≡ false = grind (arith, ints) in
       let std = rw same at (one_type u m.type (omega (arith, ints, reach)) (omega (arith, ints)) m.here) in
-      let later = rw std at more in omega (arith, ints))
+      grind (arith, ints))
       (λ late. late);
   earlier = type_at (pos 1_615_705_199) (omega arith) (omega arith);
 }
@@ -38,28 +38,19 @@ only_before_gap t h = one_type_before_gap new_york_zone (pos 1_615_689_000) t es
 -- ---- changes
 change_is : (u : ℤ) (before after : LocalType) → pos 1 ≤ℤ u → u ≤ℤ pos 2_000_000_000 → TypeAt new_york_zone (u -ℤ pos 1) before → TypeAt new_york_zone u after
     → (before ≡ after → ⊥) → IsChange (TypeAt new_york_zone) (change_at u before after)
-change_is u before after low high was is differ = record {
-  fits = fits_signed_from_abs w64 u (omega (arith, ints));
-  fits_before = fits_signed_from_abs w64 (u -ℤ pos 1) (omega (arith, ints));
-  before = was;
-  after = is;
-  differ = differ;
-}
+change_is u before after low high was is differ = grind (arith, ints, fits_signed_from_abs)
 
 pub spring_is : IsChange (TypeAt new_york_zone) spring
 spring_is = change_is (pos 1_615_705_200) est edt (omega arith) (omega arith) (type_at (pos 1_615_705_199) (omega arith) (omega arith)) gap.here apart
 
 pub autumn_is : IsChange (TypeAt new_york_zone) autumn
-autumn_is = change_is (pos 1_636_264_800) edt est (omega arith) (omega arith) (type_at (pos 1_636_264_799) (omega arith) (omega arith))
-    (type_at (pos 1_636_264_800) (omega arith) (omega arith)) (λ e. apart (sym e))
+autumn_is = grind (arith, ints, change_is, type_at, apart)
 
 -- no others come after the end of daylight saving time in 2020, until 2022 has begun
 pub no_change : (c : Change) → pos 1_604_210_400 <ℤ c.at → c.at <ℤ pos 1_641_168_000 → is_summer (c.at -ℤ pos 1) ≡ is_summer c.at
     → IsChange (TypeAt new_york_zone) c → ⊥
-no_change c low high same is =
-    let before = one_type (c.at -ℤ pos 1) c.before (omega (arith, ints)) (omega (arith, ints)) is.before in
-    let after = one_type c.at c.after (omega (arith, ints)) high is.after in
-    is.differ (before ∙ ap (type_when new_york) same ∙ sym after)
+no_change c low high same is = is.differ (one_type (c.at -ℤ pos 1) c.before (omega (arith, ints)) (omega (arith, ints)) is.before
+    ∙ ap (type_when new_york) same ∙ sym (one_type c.at c.after (omega (arith, ints)) high is.after))
 
 alike : (u : ℤ) → (u ≡ pos 1_615_705_200 → ⊥) → (u ≡ pos 1_636_264_800 → ⊥) → is_summer (u -ℤ pos 1) ≡ is_summer u
 alike u start end = grind (arith, ints)
@@ -78,19 +69,13 @@ one_of_two c low high is = by_cases c.at (pos 1_615_705_200)
 
 -- ---- the lists
 only_spring : (c : Change) → Contains (spring ∷ []) c → spring ≡ c
-only_spring c (zero, below, is) = is
-only_spring c (suc k, below, is) = absurd (omega (arith, below))
+only_spring c inside = grind arith
 
 both : (c : Change) → Contains (spring ∷ autumn ∷ []) c → (spring ≡ c) ⊎ (autumn ≡ c)
-both c (zero, below, is) = inl is
-both c (suc zero, below, is) = inr is
-both c (suc (suc k), below, is) = absurd (omega (arith, below))
+both c inside = grind arith
 
 two_rise : (i j : ℕ) (d : Change) → i < j → j < 2 → (get_or (spring ∷ autumn ∷ []) i d).at <ℤ (get_or (spring ∷ autumn ∷ []) j d).at
-two_rise i zero d before below = absurd (omega (arith, before))
-two_rise zero (suc zero) d before below = omega arith
-two_rise (suc i) (suc zero) d before below = absurd (omega (arith, before))
-two_rise i (suc (suc j)) d before below = absurd (omega (arith, below))
+two_rise i j d before below = grind (arith, ints)
 
 -- both changes are all of a stretch around them
 pub both_listed : (from until : ℤ) → pos 1_604_210_400 <ℤ from → from ≤ℤ pos 1_615_705_200 → pos 1_636_264_800 <ℤ until → until ≤ℤ pos 1_641_168_000
@@ -122,9 +107,7 @@ until_autumn = record {
 }
 
 pub not_spring_alone : AreChanges (TypeAt new_york_zone) (pos 1_609_459_200) (pos 1_640_995_200) (spring ∷ []) → ⊥
-not_spring_alone h =
-    let at = ap (λ (c : Change). c.at) (only_spring autumn ((h.each autumn).1 (autumn_is, (omega arith, omega arith)))) in
-    absurd (omega (arith, ints, at))
+not_spring_alone h = grind (arith, ints, ap (λ (c : Change). c.at) (only_spring autumn ((h.each autumn).1 (autumn_is, (omega arith, omega arith)))))
 
 -- after the change in spring, and before the one in autumn
 pub none_between : (c : Change) → IsChange (TypeAt new_york_zone) c → IsFromUntil (pos 1_615_705_201) (pos 1_636_264_800) c.at → ⊥
@@ -147,3 +130,5 @@ winter_is = record {
     ends = (edt, spring_is);
   };
 }
+
+pub ruleset wall_gap = (ints, once, never, by_dst, second_of, type_at, before_gap, only_before_gap)

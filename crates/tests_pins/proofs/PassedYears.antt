@@ -3,12 +3,8 @@ use Rattle.tests_pins.proofs.Words.{IsEarlierInYear, IsWholeYears, Reading, arit
 
 -- one less than the years are apart, where the later one is earlier in its year
 pub years_less : (l m : Reading) (yl ym n : ℤ) → year_of (day_at l) ≡ yl → year_of (day_at m) ≡ ym → IsEarlierInYear l m → IsWholeYears l m n → n ≡ yl -ℤ ym -ℤ pos 1
-years_less l m yl ym n of_l of_m early h =
-    let least = h.greatest (yl -ℤ ym -ℤ pos 1) (inl (rw (of_l, of_m) (omega (arith, ints)))) in
-    elim h.passed [ inl a ↦ omega (arith, ints) | inr b ↦ absurd (b.1 early) ]
+years_less l m yl ym n of_l of_m early h = grind (arith, ints, h.greatest (yl -ℤ ym -ℤ pos 1) (inl (rw (of_l, of_m) (omega (arith, ints)))))
 
 -- as many as they are apart, where it is not
 pub years_apart : (l m : Reading) (yl ym n : ℤ) → year_of (day_at l) ≡ yl → year_of (day_at m) ≡ ym → ¬ (IsEarlierInYear l m) → IsWholeYears l m n → n ≡ yl -ℤ ym
-years_apart l m yl ym n of_l of_m late h =
-    let least = h.greatest (yl -ℤ ym) (inr (rw (of_l, of_m) (omega (arith, ints)), late)) in
-    elim h.passed [ inl a ↦ omega (arith, ints) | inr b ↦ let same = b.0 in omega (arith, ints) ]
+years_apart l m yl ym n of_l of_m late h = grind (arith, ints, h.greatest (yl -ℤ ym) (inr (rw (of_l, of_m) (omega (arith, ints)), late)))

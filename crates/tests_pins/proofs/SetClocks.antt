@@ -1,17 +1,16 @@
 -- Clocks that are set once, by an hour, at 1970-01-01 00:00:00 UTC.
 use Rattle.offset_core.specs.{Around.{Takes, taken_in_fold, taken_in_gap}, declared.around.Around.TheVariants.{Ambiguous, Gap, Single}}
 use Rattle.offset_core.specs.{declared.around.Taken.{Taken}, declared.choice.Choice.{Choice}}
-use Rattle.offset_core.specs.declared.around.Taken.TheVariants.{InGap, Shown}
+use Rattle.offset_core.specs.declared.around.Taken.TheVariants.{Shown}
 use Rattle.std.proofs.Common.{Ok, Result}
-use Rattle.zoned_time.proofs.ForCallers.{taken_once}
-use Rattle.tests_pins.proofs.Words.{IsBeforeGap, IsShownBetween, IsTaken, Reading, ResolveError, ShowsByOffset, Zoned, arith, first_second, inl, inr, ints}
-use Rattle.tests_pins.proofs.Words.{last_second, neg_ℤ, negsuc, pos, refl, set_back, set_forward, sym, ℤ, ◌-ℤ◌, ◌<ℤ◌, ◌≡◌, ◌≤ℤ◌, ◌⊎◌}
+use Rattle.zoned_time.proofs.ForCallers.{one_taken, taken_once, unresolved_once}
+use Rattle.tests_pins.proofs.Words.{IsBeforeGap, IsShownBetween, IsTaken, Reading, ResolveError, ShowsByOffset, Zoned, arith, first_second, ints, last_second}
+use Rattle.tests_pins.proofs.Words.{neg_ℤ, pos, refl, set_back, set_forward, sym, ℤ, ◌<ℤ◌, ◌≡◌, ◌≤ℤ◌, ◌⊎◌}
 use Rattle.tests_pins.specs.Choices as choices
 
 -- the offsets of both zones before that second, and from then on
 sides : (u : ℤ) → ((u <ℤ pos 0) × (set_forward u ≡ pos 0) × (set_back u ≡ pos 3_600)) ⊎ ((pos 0 ≤ℤ u) × (set_forward u ≡ pos 3_600) × (set_back u ≡ pos 0))
-sides (pos a) = inr (omega (arith, ints), refl, refl)
-sides (negsuc a) = inl (omega (arith, ints), refl, refl)
+sides u = grind (arith, ints)
 
 -- ---- the gap
 pub before_gap : IsBeforeGap set_forward (pos 1_800) (pos 0)
@@ -25,9 +24,7 @@ before_gap = record {
 }
 
 pub only_before_gap : (k : ℤ) → IsBeforeGap set_forward (pos 1_800) k → k ≡ pos 0
-only_before_gap k h =
-    let least = h.least (pos 0) (omega arith) (omega arith) in let before = h.before in
-    omega (arith, ints, sides (h.first -ℤ pos 1))
+only_before_gap k h = grind (arith, ints, sides)
 
 -- what each choice takes there
 pub takes_gap : (choice : Choice) (outcome : Result (Taken ℤ ℤ) ResolveError) → taken_in_gap {T = ℤ} choice.gap (pos 0) ≡ outcome
@@ -35,8 +32,7 @@ pub takes_gap : (choice : Choice) (outcome : Result (Taken ℤ ℤ) ResolveError
 takes_gap choice outcome is = record { around = Gap (pos 0); right = before_gap; taken = is }
 
 pub taken_shifted : (k : ℤ) → IsTaken set_forward (pos 1_800) choices.shift k → k ≡ pos 0
-taken_shifted k h = taken_once set_forward (pos 1_800) choices.shift k (pos 0) h
-    (record { taken = InGap (pos 0); takes = takes_gap choices.shift (Ok (InGap (pos 0))) refl; offset = refl })
+taken_shifted k h = grind (arith, ints, taken_once, takes_gap)
 
 -- ---- the fold
 fold : IsShownBetween (ShowsByOffset set_back (pos 1_800)) (pos 3_600) (pos 0)
@@ -89,3 +85,5 @@ takes_last = record {
 -- ---- instants
 pub zoned_is : (d : Zoned ℤ) (r : Reading) (k : ℤ) → d.utc ≡ r → d.offset ≡ k → d ≡ record { utc = r; offset = k }
 zoned_is d r k h e = rw (sym h, sym e) refl
+
+pub ruleset set_clocks = (ints, one_taken, taken_once, unresolved_once, before_gap, only_before_gap, takes_gap, taken_shifted, is_taken_below, takes_last, zoned_is)

@@ -1,35 +1,25 @@
 -- Days of clocks that are set once.
-use Rattle.tests_pins.proofs.Words.{AreEndsOfDay, AreSetAt, IsEarlier, IsFirstInstantFrom, IsNeverOnDay, IsZoneSecond, Reading, ahead, arith, by_lt_z, inl, inr}
-use Rattle.tests_pins.proofs.Words.{ints, midnight, of_secs, pos, refl, ℤ, ◌*ℤ◌, ◌+ℤ◌, ◌<ℤ◌, ◌≡◌, ◌≤ℤ◌}
+use Rattle.tests_pins.proofs.Words.{AreEndsOfDay, AreSetAt, IsEarlier, IsFirstInstantFrom, IsNeverOnDay, IsZoneSecond, Reading, arith, by_lt_z, ints, midnight}
+use Rattle.tests_pins.proofs.Words.{of_secs, pos, ℤ, ◌*ℤ◌, ◌+ℤ◌, ◌<ℤ◌, ◌≡◌, ◌≤ℤ◌}
 
 pub not_earlier_than : (x y : Reading) → y.f ≡ 0 → y.s ≤ℤ x.s → ¬ (IsEarlier x y)
-not_earlier_than x y whole h (inl less) = omega (arith, ints)
-not_earlier_than x y whole h (inr (_, less)) = omega (arith, ints)
+not_earlier_than x y whole h early = grind (arith, ints)
 
 -- a whole second is the first instant at or after a midnight if clocks show the midnight or more then, and less at each second before
 first_instant : (off : ℤ → ℤ) (day u : ℤ) → IsZoneSecond u → (day *ℤ pos 86_400) ≤ℤ (u +ℤ off u) → ((v : ℤ) → v <ℤ u → (v +ℤ off v) <ℤ (day *ℤ pos 86_400)) → IsFirstInstantFrom off (midnight day) (of_secs u 0)
-first_instant off day u inside reached less = record {
-  shown = record { in_zone = inside; not_before = not_earlier_than (ahead (of_secs u 0) (off u)) (midnight day) refl (omega (arith, ints)) };
-  first = λ q h. not_earlier_than q (of_secs u 0) refl (by_lt_z q.s u (λ early. let below = less q.s early in absurd (h.not_before (inl (omega (arith, ints))))) (λ m. m));
-}
+first_instant off day u inside reached less = grind (arith, ints, not_earlier_than, by_lt_z)
 
 -- the second at which clocks are set, if they jump over the midnight
 pub at_the_jump : (off : ℤ → ℤ) (at k m day : ℤ) → AreSetAt off at k m → IsZoneSecond at → (at +ℤ k) ≤ℤ (day *ℤ pos 86_400) → (day *ℤ pos 86_400) ≤ℤ (at +ℤ m) → IsFirstInstantFrom off (midnight day) (of_secs at 0)
-at_the_jump off at k m day set inside below above =
-    let is = set.from at (omega (arith, ints)) in
-    first_instant off day at inside (omega (arith, ints)) (λ v early. let was = set.before v early in omega (arith, ints))
+at_the_jump off at k m day set inside below above = grind (arith, ints, first_instant)
 
 -- a second before they are set shows the midnight
 pub before_the_jump : (off : ℤ → ℤ) (at k m day u : ℤ) → AreSetAt off at k m → IsZoneSecond u → u <ℤ at → (u +ℤ k) ≡ day *ℤ pos 86_400 → IsFirstInstantFrom off (midnight day) (of_secs u 0)
-before_the_jump off at k m day u set inside early shown =
-    let is = set.before u early in
-    first_instant off day u inside (omega (arith, ints)) (λ v less. let was = set.before v (omega (arith, ints)) in omega (arith, ints))
+before_the_jump off at k m day u set inside early shown = grind (arith, ints, first_instant)
 
 -- and a second after they are set back does
 pub after_the_jump : (off : ℤ → ℤ) (at k m day u : ℤ) → AreSetAt off at k m → IsZoneSecond u → at ≤ℤ u → (u +ℤ m) ≡ day *ℤ pos 86_400 → (at +ℤ k) ≤ℤ (day *ℤ pos 86_400) → IsFirstInstantFrom off (midnight day) (of_secs u 0)
-after_the_jump off at k m day u set inside late shown below =
-    let is = set.from u late in
-    first_instant off day u inside (omega (arith, ints)) (λ v less. by_lt_z v at (λ before. let was = set.before v before in omega (arith, ints)) (λ from. let was = set.from v from in omega (arith, ints)))
+after_the_jump off at k m day u set inside late shown below = grind (arith, ints, set.from u late)
 
 -- clocks are set over the whole day
 pub skipped : (off : ℤ → ℤ) (at k m day : ℤ) → AreSetAt off at k m → (at +ℤ k) ≤ℤ (day *ℤ pos 86_400) → ((day +ℤ pos 1) *ℤ pos 86_400) ≤ℤ (at +ℤ m) → IsNeverOnDay off day
@@ -56,3 +46,5 @@ day_over_the_jump off at k m day first last set inside inside_last early late be
   not_before = λ u h. let since = h.since in by_lt_z u at (λ less. let is = set.before u less in omega (arith, ints)) (λ from. omega (arith, ints));
   not_after = λ u h. let before = h.before in by_lt_z u at (λ less. omega (arith, ints)) (λ from. let is = set.from u from in omega (arith, ints));
 }
+
+pub ruleset set_days = (ints, at_the_jump, before_the_jump, after_the_jump, skipped, day_after_the_jump, day_over_the_jump)

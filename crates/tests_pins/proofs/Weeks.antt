@@ -1,31 +1,20 @@
 -- The week of a day, where its Thursday and the Thursday's year are known.
-use Rattle.tests_pins.proofs.Words.{IsThursdayOf, IsWeekOf, IsoWeek, LiesIn, ap, arith, day_number, day_of_year, day_of_year_is, days_at_least, days_of_months}
-use Rattle.tests_pins.proofs.Words.{floor_mod_parts, floors, iso_number, iso_year, lies_in, one_year, pos, refl, year_of, year_start, year_step, ℕ, ℤ, ◌+ℤ◌}
-use Rattle.tests_pins.proofs.Words.{◌+◌, ◌/◌, ◌∙◌, ◌≡◌, ◌≤ℤ◌}
+use Rattle.tests_pins.proofs.Words.{IsThursdayOf, IsWeekOf, IsoWeek, LiesIn, arith, day_number, day_of_year, day_of_year_is, days_at_least, days_of_months}
+use Rattle.tests_pins.proofs.Words.{floors, ints, iso_number, iso_year, lies_in, one_year, pos, refl, year_of, year_start, year_step, ℕ, ℤ, ◌+ℤ◌, ◌+◌, ◌/◌, ◌≡◌}
 
 one_thursday : (day a b : ℤ) → IsThursdayOf day a → IsThursdayOf day b → a ≡ b
-one_thursday day a b h k =
-    let first = floor_mod_parts (a +ℤ pos 4) 7 (omega arith) in
-    let second = floor_mod_parts (b +ℤ pos 4) 7 (omega arith) in
-    omega (arith, floors, h.0, k.0)
+one_thursday day a b h k = grind (arith, ints, floors)
 
 year_is : (t y : ℤ) → LiesIn t y → year_of t ≡ y
 year_is t y lies = one_year t (year_of t) y (lies_in t) lies
 
 place_is : (t y : ℤ) (n : ℕ) → LiesIn t y → year_start y +ℤ pos n ≡ t → day_of_year t ≡ n
-place_is t y n lies e =
-    let own = rw (year_is t y lies) at (day_of_year_is t).0 in
-    omega (arith, floors)
+place_is t y n lies e = let own = rw (year_is t y lies) at (day_of_year_is t).0 in grind (arith, ints, floors)
 
 -- the week of a day whose Thursday is the n-th day after 1 January of y
 pub week_is : (day t y : ℤ) (n : ℕ) (week : IsoWeek) → IsThursdayOf day t → LiesIn t y → year_start y +ℤ pos n ≡ t
     → IsWeekOf day week → (iso_year week ≡ y) × (iso_number week ≡ n / 7 + 1)
-week_is day t y n week h lies e w =
-    let same = one_thursday day w.thursday t w.in_week h in
-    (w.year ∙ ap year_of same ∙ year_is t y lies, w.number ∙ ap (λ d. d / 7 + 1) (ap day_of_year same ∙ place_is t y n lies e))
-
-first_days : (y t : ℤ) (n : ℕ) → year_start y +ℤ pos n ≡ t → t ≤ℤ (year_start y +ℤ pos 6) → n / 7 + 1 ≡ 1
-first_days y t n e high = omega (arith, floors)
+week_is day t y n week h lies e w = let same = one_thursday day w.thursday t w.in_week h in grind (arith, ints, year_is, place_is)
 
 fourth : (y : ℤ) → day_number y 1 4 ≡ year_start y +ℤ pos 3
 unfolding day_number days_of_months
@@ -36,6 +25,4 @@ first_week y week w =
     let t = w.thursday in let near = w.in_week in let day = fourth y in
     let step = year_step y in let days = days_at_least y in
     let lies : LiesIn t y = (omega (arith, floors), omega (arith, floors)) in
-    let own = rw (year_is t y lies) at (day_of_year_is t).0 in
-    let is = week_is (day_number y 1 4) t y (day_of_year t) week near lies own w in
-    (is.0, is.1 ∙ first_days y t (day_of_year t) own (omega (arith, floors)))
+    let own = rw (year_is t y lies) at (day_of_year_is t).0 in grind (arith, ints, floors, week_is (day_number y 1 4) t y (day_of_year t) week near lies own w)

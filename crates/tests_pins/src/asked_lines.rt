@@ -18,6 +18,7 @@ ghost use Rattle.offset_core.specs.declared.local_result.LocalResult.TheVariants
 ghost use Rattle.zoneq_lib.specs.declared.run_error.RunError.TheVariants as errors;
 
 /// A line of each kind but `text`.
+#[tactic(auto, using(crate::proofs::SpelledTexts::asks), unfolding(crate::proofs::Computed::lines))]
 pub fn questions()
     ensures at { Asks (codes "at -1") (At (neg_ℤ (pos 1))) }
     ensures data { Asks (codes "data 01fF") (Data (1 ∷ 255 ∷ [])) }
@@ -42,7 +43,7 @@ pub fn bad_lines()
 {}
 
 /// How types, zones, instants and errors are written.
-#[tactic(auto, unfolding(crate::proofs::Computed::printing))]
+#[tactic(auto, using(crate::proofs::ChangeDays::march_2021), unfolding(crate::proofs::Computed::printing))]
 pub fn words()
     ensures edt { shown_type edt ≡ codes "-14400 dst EDT" }
     ensures unnamed { shown_type unnamed ≡ codes "3600 std -" }
@@ -59,6 +60,7 @@ pub fn words()
 {}
 
 /// How choices for gaps and folds are spelled.
+#[tactic(auto, using(crate::proofs::SpelledTexts::chooses), unfolding(crate::proofs::Computed::lines))]
 pub fn choices()
     ensures shift_earliest { Spells choice (codes "shift/earliest")
         (record { gap = gaps.ShiftForward; fold = folds.Earliest }) [] }

@@ -1,5 +1,5 @@
 //! The Gregorian calendar, weekdays and the weeks of ISO 8601.
-#![tactic(auto, unfolding(crate::proofs::Computed::calendar))]
+#![tactic(auto, using(crate::proofs::ChangeDays::march_2021), unfolding(crate::proofs::Computed::calendar))]
 
 ghost use Rattle.std.specs.Prelude.{◌≡◌, ℕ, ◌≤◌, ℤ, pos, neg_ℤ, ◌+ℤ◌, true, false};
 ghost use Rattle.naive_base.specs.Year.{is_leap, days_in_year, year_start};

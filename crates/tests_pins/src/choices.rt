@@ -1,5 +1,6 @@
 //! Choices on clocks that are set forward by an hour at 1970-01-01 00:00:00 UTC, and on clocks that
 //! are set back by an hour then: 00:30 is shown never, or twice.
+#![tactic(auto, using(crate::proofs::SetClocks::set_clocks))]
 
 ghost use Rattle.std.specs.Prelude.{◌≡◌, ℤ, pos, neg_ℤ};
 ghost use Rattle.naive_base.specs.Range.{first_second, last_second, first_reading};

@@ -50,6 +50,7 @@ pub fn first_and_last()
 
 /// Types that differ only in the name, or only in the DST flag, make a change; equal types make
 /// none.
+#[tactic(auto, using(crate::proofs::Words::ints, crate::proofs::Words::fits_signed_from_abs))]
 pub fn differences()
     ensures name { IsChange (at_epoch cet renamed) (change_at (pos 0) cet renamed) }
     ensures flag { IsChange (at_epoch cet dst_cet) (change_at (pos 0) cet dst_cet) }
@@ -59,6 +60,7 @@ pub fn differences()
 
 /// The first second of 64 bits has no change, since no second of 64 bits comes before it; the
 /// second after it can have one.
+#[tactic(auto, using(crate::proofs::Words::ints))]
 pub fn first_second()
     ensures none { (before after : LocalType) → ¬ (IsChange (λ u t. ⊤)
         (change_at (neg_ℤ (pos 9_223_372_036_854_775_808)) before after)) }

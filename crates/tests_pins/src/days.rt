@@ -1,5 +1,6 @@
 //! Days of three zones, around a midnight near which their clocks were set: as `zdump -v` of the tz
 //! database has them. Each zone is taken as if clocks had been set that once.
+#![tactic(auto, using(crate::proofs::SetDays::set_days))]
 
 ghost use Rattle.std.specs.Prelude.{◌≡◌, ℤ, pos, neg_ℤ};
 ghost use Rattle.naive_base.specs.Stamp.{of_secs};

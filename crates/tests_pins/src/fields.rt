@@ -1,6 +1,6 @@
 //! Dates moved by months and days, and fields of dates and times replaced, as chrono's
 //! documentation has them.
-#![tactic(auto, unfolding(crate::proofs::Computed::calendar))]
+#![tactic(auto, using(crate::proofs::GivenDays::given_days), unfolding(crate::proofs::Computed::calendar))]
 
 ghost use Rattle.std.specs.Prelude.{◌≡◌, ℤ, pos, neg_ℤ, Option, Some, None};
 ghost use Rattle.naive_base.specs.Date.{day_number};

@@ -28,6 +28,7 @@ pub fn shown()
 
 /// The second that a date means is that of its midnight: of 1970-01-01, of the day before and of
 /// 2021-03-14.
+#[tactic(auto, using(crate::proofs::Words::ints))]
 pub fn midnights()
     ensures first { (date : NaiveDate) → day_of date ≡ pos 0 → midnight_of date ≡ pos 0 }
     ensures day_before { (date : NaiveDate) → day_of date ≡ neg_ℤ (pos 1)

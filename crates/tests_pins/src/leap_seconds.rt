@@ -5,6 +5,7 @@ ghost use Rattle.tz_info.specs.Leaps.{AreLeapSeconds, IsLeapTime, IsNear, IsUnix
 ghost use Rattle.tests_pins.specs.LeapSeconds.{utc_leaps, days_after, entry};
 
 /// They may be a zone's, and each ends where a month does: at midnight of UTC.
+#[tactic(auto, using(crate::proofs::LeapSeconds::utc_valid), unfolding(crate::proofs::Computed::calendar))]
 pub fn table()
     ensures valid { AreLeapSeconds utc_leaps }
     ensures midnights { thresholds (pos 0) utc_leaps
@@ -42,6 +43,7 @@ pub fn leap_times()
 {}
 
 /// Seconds to 10^13 before 1970 and after it are near enough to have leap times.
+#[tactic(auto, using(crate::proofs::Words::ints))]
 pub fn near()
     ensures least { IsNear (neg_ℤ (pos 10_000_000_000_000)) }
     ensures before { ¬ (IsNear (neg_ℤ (pos 10_000_000_000_001))) }

@@ -14,6 +14,7 @@ pub fn offsets()
 {}
 
 /// The local time 1 is shown at no second, and 2 at two, first with the offset 1 and then with 0.
+#[tactic(auto, using(demo_own_zone::proofs::Walls::shown_never, demo_own_zone::proofs::Walls::shown_twice))]
 pub fn clocks()
     ensures odd { IsNeverShown (ShowsByOffset odd_offset (pos 1)) }
     ensures even { IsShownBetween (ShowsByOffset odd_offset (pos 2)) (pos 1) (pos 0) }

@@ -1,5 +1,5 @@
 //! Clock changes as text: the lines of `zdump -v`, a line of a table, and JSON.
-#![tactic(auto, unfolding(crate::proofs::Computed::wording))]
+#![tactic(auto, using(crate::proofs::ChangeDays::march_2021), unfolding(crate::proofs::Computed::wording))]
 
 ghost use Rattle.std.specs.Prelude.{◌≡◌, ◌∷◌, [], ◌++◌, codes, pos, neg_ℤ, true, false};
 ghost use Rattle.json.specs.Print.{print};

@@ -1,4 +1,5 @@
 //! How many questions to a zone's rule are counted.
+#![tactic(auto, using(crate::proofs::AskedRules::asked_rules))]
 
 ghost use Rattle.std.specs.Prelude.{◌≡◌, ℕ, ℤ, ◌+◌, ◌-◌, pos, neg_ℤ};
 ghost use Rattle.tz_info.specs.Questions.{IsByRule, IsAskedAt, IsAskedFor};
@@ -22,7 +23,6 @@ pub fn by_instant()
 
 /// A local time is two questions to a rule of two offsets: one at the second at which a clock of
 /// each of them shows it.
-#[tactic(auto, using(crate::proofs::AskedRules::two_more))]
 pub fn by_wall_clock()
     ensures two { IsAskedFor new_york_zone (pos 1_615_689_000) 5 7 }
 {}

@@ -27,6 +27,7 @@ pub fn multiples()
 
 /// A length of nothing, and a clock whose nanoseconds don't fit: the length's fault is returned. What
 /// each fault prints is chrono's text.
+#[tactic(auto, using(crate::proofs::Words::ints))]
 pub fn refusals()
     ensures no_length { ¬ (IsRoundingLength (pos 0)) }
     ensures shortest { IsRoundingLength (pos 1) }

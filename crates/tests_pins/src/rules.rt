@@ -66,13 +66,14 @@ pub fn limits()
 {}
 
 /// 2021-03-14 07:00:00 and 2021-11-07 06:00:00 of UTC.
-#[tactic(auto, using(crate::proofs::NewYork::start_2021, crate::proofs::NewYork::end_2021))]
+#[tactic(auto, using(crate::proofs::NewYork::rule_2021))]
 pub fn moments()
     ensures start { start_in new_york (pos 2021) ≡ pos 1_615_705_200 }
     ensures end { end_in new_york (pos 2021) ≡ pos 1_636_264_800 }
 {}
 
 /// The types one second before each moment, and at it.
+#[tactic(auto, using(crate::proofs::NewYork::rule_2021), unfolding(crate::proofs::Words::year_start))]
 pub fn types()
     ensures new_year { RuleAt new_york_rule (pos 1_609_459_200) est }
     ensures before_start { RuleAt new_york_rule (pos 1_615_705_199) est }

@@ -8,6 +8,7 @@ ghost use Rattle.tests_pins.specs.Spans.{winter, span_of};
 
 /// The span of 1615705199 is EST, from 1604210400 until 1615705200. It has its first second, and
 /// not its end.
+#[tactic(auto, using(crate::proofs::NewYorkChanges::winter_is))]
 pub fn new_york()
     ensures winter { IsSpanAt (TypeAt new_york_zone) (pos 1_615_705_199) winter }
     ensures first { IsInSpan winter (pos 1_604_210_400) }

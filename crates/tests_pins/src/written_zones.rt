@@ -1,5 +1,5 @@
 //! TZ strings and files that are written: the shortest string, and the bytes of a file.
-#![tactic(auto, unfolding(crate::proofs::Computed::written))]
+#![tactic(auto, using(crate::proofs::WrittenPins::written_pins), unfolding(crate::proofs::Computed::written))]
 
 ghost use Rattle.std.specs.Prelude.{◌≡◌, ◌∷◌, [], ◌++◌, Bool, true, false, codes, pos};
 ghost use Rattle.tz_info.specs.Zones.{plain_zone};

@@ -1,4 +1,5 @@
 //! Zones with transitions: what is in force before the first, at it, and from the last on.
+#![tactic(auto, using(crate::proofs::LeapSeconds::leapless))]
 
 ghost use Rattle.std.specs.Prelude.{◌≡◌, [], ◌∷◌, pos, neg_ℤ, true, Some, None};
 ghost use Rattle.tz_info.specs.Zones.{TypeAt, IsValid};

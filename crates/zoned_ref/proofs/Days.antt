@@ -1,7 +1,7 @@
 -- When clocks show certain local times: by the types in force as by their offsets.
 use Rattle.zoned_ref.proofs.Words.{AreEndsOfDay, AreEndsWithin, AreOffsetsOf, HasReached, IsFirstAtOrAfter, IsFirstToReach, IsNarrow, IsNeverOnDay}
-use Rattle.zoned_ref.proofs.Words.{IsNeverWithin, IsOnDay, IsWide, IsWideDay, IsZoneSecond, LocalType, ShownSeconds, ShowsAtOrAfter, ShowsWithin, TypeAt, Zone}
-use Rattle.zoned_ref.proofs.Words.{ap, arith, ints, pos, type_once, ℤ, ◌*ℤ◌, ◌+ℤ◌, ◌∙◌, ◌≡◌}
+use Rattle.zoned_ref.proofs.Words.{IsNeverWithin, IsOnDay, IsWide, IsWideDay, IsZoneSecond, LocalType, ShownSeconds, ShowsWithin, TypeAt, Zone, ap, arith, ints}
+use Rattle.zoned_ref.proofs.Words.{pos, type_once, ℤ, ◌*ℤ◌, ◌+ℤ◌, ◌∙◌, ◌≡◌}
 use Rattle.zoned_ref.proofs.Offsets.{type_within}
 
 abbrev OnDayByType : Zone → ℤ → ℤ → LocalType → Type 0
@@ -18,8 +18,7 @@ on_day_by_type z off day u of_zone h = grind (arith, ints)
 
 on_day_by_offset : (z : Zone) (off : ℤ → ℤ) (day u : ℤ) (t : LocalType) → IsNarrow z → AreOffsetsOf z off → IsWideDay day → OnDayByType z day u t → IsOnDay off day u
 on_day_by_offset z off day u t narrow of_zone wide h =
-    let within = type_within z u t narrow h.type in let since = h.since in let before = h.before in
-    let inside : IsZoneSecond u = (omega (arith, ints, wide, within, since, before), omega (arith, ints, wide, within, since, before)) in
+    let within = type_within z u t narrow h.type in let inside : IsZoneSecond u = grind (arith, ints) in
     grind (arith, ints, same_offset z off u t of_zone inside h.type)
 
 pub never_on_day : (z : Zone) (off : ℤ → ℤ) (day : ℤ) → AreOffsetsOf z off → IsNeverWithin (TypeAt z) (pos 86_400 *ℤ day) (pos 86_400 *ℤ day +ℤ pos 86_400) → IsNeverOnDay off day
@@ -34,23 +33,14 @@ ends_of_day z off day s narrow of_zone wide h = record {
 }
 
 -- ---- the first second at or after a local time
-reached_by_type : (z : Zone) (off : ℤ → ℤ) (l u : ℤ) → AreOffsetsOf z off → HasReached off l u → (t : LocalType) × ShowsAtOrAfter (TypeAt z) l u t
-reached_by_type z off l u of_zone h = grind (arith, ints)
-
 -- a day after the local time clocks have reached it
 reached_a_day_on : (z : Zone) (off : ℤ → ℤ) (l : ℤ) → IsNarrow z → AreOffsetsOf z off → IsWide l → HasReached off l (l +ℤ pos 86_399)
 reached_a_day_on z off l narrow of_zone wide =
-    let inside : IsZoneSecond (l +ℤ pos 86_399) = (omega (arith, ints, wide), omega (arith, ints, wide)) in
-    let there = of_zone (l +ℤ pos 86_399) inside in
-    grind (arith, ints, type_within z (l +ℤ pos 86_399) there.type narrow there.in_force)
+    let there = of_zone (l +ℤ pos 86_399) (grind (arith, ints)) in
+    let within = type_within z (l +ℤ pos 86_399) there.type narrow there.in_force in grind (arith, ints)
 
 pub first_to_reach : (z : Zone) (off : ℤ → ℤ) (l u : ℤ) (t : LocalType) → IsNarrow z → AreOffsetsOf z off → IsWide l → IsFirstAtOrAfter (TypeAt z) l u t → IsFirstToReach off l u
 first_to_reach z off l u t narrow of_zone wide h =
-    let latest = reached_by_type z off l (l +ℤ pos 86_399) of_zone (reached_a_day_on z off l narrow of_zone wide) in
-    let not_later = h.first (l +ℤ pos 86_399) latest.0 latest.1 in let within = type_within z u t narrow h.shown.type in
-    let reached = h.shown.reached in
-    let inside : IsZoneSecond u = (omega (arith, ints, wide, within, reached), omega (arith, ints, wide, not_later)) in
-    record {
-      reached = record { in_zone = inside; reached = rw (same_offset z off u t of_zone inside h.shown.type) reached };
-      first = λ v k. let s = reached_by_type z off l v of_zone k in h.first v s.0 s.1;
-    }
+    let latest = reached_a_day_on z off l narrow of_zone wide in let there = of_zone (l +ℤ pos 86_399) latest.in_zone in
+    let within = type_within z u t narrow h.shown.type in let not_later = h.first (l +ℤ pos 86_399) there.type (grind (arith, ints)) in
+    let inside : IsZoneSecond u = grind (arith, ints) in grind (arith, ints, same_offset z off u t of_zone inside h.shown.type)

@@ -11,12 +11,10 @@ pub before_gap : (z : Zone) (off : ℤ → ℤ) (l : ℤ) (t : LocalType) → Is
     → (gap : IsBeforeGap off l t.offset) × TypeAt z (gap.first -ℤ pos 1) t
 before_gap z off l t narrow of_zone wide g =
     let c = g.first in let day = type_within z c g.more.type narrow g.more.here in let more = g.more.more in
-    let late : ℤ = l +ℤ pos 86_400 in
-    let late_inside : IsZoneSecond late = (omega (arith, ints, wide.0, wide.1), omega (arith, ints, wide.0, wide.1)) in
-    let there = of_zone late late_inside in let there_day = type_within z late there.type narrow there.in_force in
-    let to = g.least late (record { type = there.type; here = there.in_force; more = omega (arith, ints, there_day.0, there_day.1) }) in
-    let inside : IsZoneSecond c = (omega (arith, ints, wide.0, wide.1, day.0, day.1), omega (arith, ints, wide.0, wide.1, day.0, day.1)) in
-    let inside_before : IsZoneSecond (c -ℤ pos 1) = (omega (arith, ints, wide.0, wide.1, day.0, day.1), omega (arith, ints, wide.0, wide.1, day.0, day.1)) in (
+    let late : ℤ = l +ℤ pos 86_400 in let there = of_zone late (grind (arith, ints)) in let there_day = type_within z late there.type narrow there.in_force in
+    let to = g.least late (record { type = there.type; here = there.in_force; more = omega (arith, ints) }) in
+    let inside : IsZoneSecond c = grind (arith, ints) in
+    let inside_before : IsZoneSecond (c -ℤ pos 1) = (omega (arith, ints, wide, day), omega (arith, ints, wide, day)) in (
       record {
         never = λ u k s. let h = shown_by_offset z off l of_zone u k s in g.never u h.0 h.1;
         first = c;

@@ -3,16 +3,13 @@
 use Rattle.offset_core.specs.declared.local_result.LocalResult.TheVariants.{Ambiguous, None, Single}
 use Rattle.zoned_ref.proofs.Words.{AreOffsetsOf, IsNarrow, IsWallAnswer, IsWallAnswer-map_of, IsWide, IsWithinDay, LocalResult, LocalType, SameLaw, TimeZoneRef}
 use Rattle.zoned_ref.proofs.Words.{TypeAt, Zone, ZoneOffset, arith, home_law, ints, law_of, map_of, meaning_of, off_of, same_itself, subst, sym, type_of}
-use Rattle.zoned_ref.proofs.Words.{zone_of, ℤ, ◌+ℤ◌, ◌-ℤ◌, ◌≡◌}
+use Rattle.zoned_ref.proofs.Words.{zone_of, ℤ, ◌-ℤ◌, ◌≡◌}
 use Rattle.zoned_ref.proofs.{Days.{same_offset}, Offsets.{type_within}}
 use Rattle.tz_info.specs.WallClocks as types
 use Rattle.zoned_time.specs.Zone as offsets
 
 pub shown_by_type : (z : Zone) (off : ℤ → ℤ) (l : ℤ) → IsNarrow z → AreOffsetsOf z off → IsWide l → (u : ℤ) (t : LocalType) → types.Shows (TypeAt z) l u t → offsets.ShowsByOffset off l u t.offset
-shown_by_type z off l narrow of_zone wide u t s =
-    let day = type_within z u t narrow s.type in let shown : u +ℤ t.offset ≡ l = s.shown in
-    let inside : offsets.IsZoneSecond u = (omega (arith, ints, wide, day), omega (arith, ints, wide, day)) in
-    record { in_zone = inside; offset = sym (same_offset z off u t of_zone inside s.type); shown = shown }
+shown_by_type z off l narrow of_zone wide u t s = let day = type_within z u t narrow s.type in grind (arith, ints, same_offset z off u t of_zone)
 
 pub shown_by_offset : (z : Zone) (off : ℤ → ℤ) (l : ℤ) → AreOffsetsOf z off → (u k : ℤ) → offsets.ShowsByOffset off l u k → (t : LocalType) × types.Shows (TypeAt z) l u t
 shown_by_offset z off l of_zone u k s = grind (arith, ints)
@@ -27,7 +24,7 @@ each_within z l narrow answer wall = grind (arith, type_within)
 
 -- which is in force at the second that shows l by it
 shown_in_force : (z : Zone) (l u : ℤ) (t : LocalType) → types.Shows (TypeAt z) l u t → TypeAt z (l -ℤ t.offset) t
-shown_in_force z l u t s = let second : l -ℤ t.offset ≡ u = let shown : u +ℤ t.offset ≡ l = s.shown in omega (arith, ints) in rw second s.type
+shown_in_force z l u t s = grind (arith, ints)
 
 -- an offset knows the zone that it came from
 pub same_law : (r : TimeZoneRef) (o : ZoneOffset) → o.zone ≡ r → SameLaw (home_law meaning_of o) (law_of r)

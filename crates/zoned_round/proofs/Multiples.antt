@@ -23,10 +23,6 @@ pub nearest-is : (n : ℤ) (span : ℕ)
     ⊎ ((nearest_multiple n span ≡ multiple_above n span) × ((multiple_above n span -ℤ n) ≤ℤ (n -ℤ multiple_below n span)))
 nearest-is n span = grind (arith, ints)
 
--- a span that is positive as a number
-pub span-is : (span : ℤ) → pos 0 <ℤ span → (0 < unsigned_abs span) × (pos (unsigned_abs span) ≡ span)
-span-is span some = grind (arith, ints, floors)
-
 -- the ways to the three of them
 pub way-down : (n span : ℤ) → pos 0 <ℤ span
     → ((multiple_below n (unsigned_abs span) -ℤ n) ≤ℤ pos 0) × (pos 0 <ℤ (multiple_below n (unsigned_abs span) -ℤ n +ℤ span))

@@ -1,5 +1,0 @@
-use Rattle.tests_pins.proofs.Words.{arith, ints}
-use Rattle.tests_pins.proofs.leap_seconds.near.Goals as goal
-
-pub returns : goal.returns
-returns c = omega (arith, ints)
