@@ -50,10 +50,7 @@ fn compare(rt: &HostRuntime, old: &str, new: &str, asked: Compared) -> io::Resul
 fn compare_folders(rt: &HostRuntime, old: &str, new: &str, asked: Compared) -> io::Result<u8> {
     let mut status = EQUAL;
     for name in names_of_both(rt, old, new)?.iter() {
-        let found = compare_named(rt, name.as_str(), old, new, asked)?;
-        if found > status {
-            status = found;
-        }
+        status = status.max(compare_named(rt, name.as_str(), old, new, asked)?);
     }
     Ok(status)
 }
@@ -96,8 +93,7 @@ fn is_zone(rt: &HostRuntime, path: &str) -> io::Result<bool> {
     }
     match files::read_limited(rt, path) {
         Ok(Some(bytes)) => Ok(bytes.as_slice().starts_with(MAGIC)),
-        Ok(None) => Ok(true),
-        Err(_) => Ok(true),
+        _ => Ok(true),
     }
 }
 

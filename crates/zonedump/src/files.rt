@@ -61,10 +61,7 @@ pub fn replace(rt: &HostRuntime, path: &str, bytes: &[u8]) -> io::Result<()> {
 }
 
 fn is_link(rt: &HostRuntime, path: &str) -> bool {
-    match fs::symlink_metadata(rt, path) {
-        Ok(found) => found.is_symlink(),
-        Err(_) => false,
-    }
+    fs::symlink_metadata(rt, path).is_ok_and(|found| found.is_symlink())
 }
 
 fn write_through(rt: &HostRuntime, path: &str, bytes: &[u8]) -> io::Result<()> {

@@ -5,10 +5,7 @@ use std::{fs, io};
 
 /// Whether a path leads to a folder.
 pub fn is_folder(rt: &HostRuntime, path: &str) -> bool {
-    match fs::metadata(rt, path) {
-        Ok(found) => found.is_dir(),
-        Err(_) => false,
-    }
+    fs::metadata(rt, path).is_ok_and(|found| found.is_dir())
 }
 
 /// The path of a file in a folder.
@@ -59,8 +56,5 @@ fn list(
 
 /// Whether a path leads to a file.
 pub fn is_file(rt: &HostRuntime, path: &str) -> bool {
-    match fs::metadata(rt, path) {
-        Ok(found) => found.is_file(),
-        Err(_) => false,
-    }
+    fs::metadata(rt, path).is_ok_and(|found| found.is_file())
 }

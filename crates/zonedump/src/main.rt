@@ -35,12 +35,7 @@ fn main(rt: HostRuntime) -> ExitCode {
 
 fn run(rt: &HostRuntime) -> io::Result<u8> {
     let words = words::of_call(rt)?;
-    answer(rt, words.as_slice())
-}
-
-// Does what the words ask for.
-fn answer<'a>(rt: &HostRuntime, words: &'a [String]) -> io::Result<u8> {
-    match arguments::command(rt.alloc())?.try_get_matches_from(words) {
+    match arguments::command(rt.alloc())?.try_get_matches_from(words.as_slice()) {
         Ok(matches) => tell_matched(rt, &matches),
         Err(error) => explain(rt, &error),
     }
@@ -86,7 +81,7 @@ fn compare(rt: &HostRuntime, matches: &ArgMatches<'_>, years: Years) -> io::Resu
 fn tell_asked(rt: &HostRuntime, matches: &ArgMatches<'_>, asked: Asked<'_>) -> io::Result<u8> {
     if let Some(text) = matches.get_str("text") {
         let is_told = tell_text(rt, text, matches.get_flag("extended"), asked)?;
-        return Ok(status_of(is_told));
+        return Ok(if is_told { TOLD } else { FAILED });
     }
     match matches.get_strs("FILE") {
         Some(files) => tell_files(rt, files, asked),
@@ -115,12 +110,7 @@ fn draws_over(rt: &HostRuntime, what: What<'_>, files: &[&str]) -> bool {
     let What::Draw(target) = what else {
         return false;
     };
-    for file in files {
-        if files::are_same(rt, target, file) {
-            return true;
-        }
-    }
-    false
+    files.iter().any(|file| files::are_same(rt, target, file))
 }
 
 // Tells each of the files. One that is rejected leaves the others as they are.
@@ -132,8 +122,4 @@ fn tell_each(rt: &HostRuntime, files: &[&str], asked: Asked<'_>) -> io::Result<u
         }
     }
     Ok(status)
-}
-
-fn status_of(is_told: bool) -> u8 {
-    if is_told { TOLD } else { FAILED }
 }

@@ -3,8 +3,8 @@
 use crate::{files, words};
 use std::alloc::Global;
 use std::fmt::Write;
-use std::io;
 use std::io::Write as _;
+use std::{fmt, io};
 use tz_info::{Error, TimeZone};
 use tz_write::ToTzData;
 use zonedump_lib::{Form, Years, to_json, told};
@@ -101,8 +101,7 @@ pub fn tell_text(
     asked: Asked<'_>,
 ) -> io::Result<bool> {
     if let Some(name) = words::escaped(text) {
-        eprintln!(rt; "zonedump: {name}: not a TZ string: not UTF-8")?;
-        return Ok(false);
+        return fail(rt, name, "not a TZ string: not UTF-8");
     }
     let source = if is_extended {
         Source::Extended(text)
@@ -139,27 +138,25 @@ pub fn zone_of_file(rt: &HostRuntime, file: &str) -> io::Result<Option<TimeZone>
 // The bytes of a file, or the error if it can't be read.
 fn bytes_of(rt: &HostRuntime, file: &str) -> io::Result<Option<Vec<u8>>> {
     if let Some(name) = words::escaped(file) {
-        refuse_name(rt, name)?;
+        fail(rt, name, "the name is not UTF-8")?;
         return Ok(None);
     }
     match files::read_limited(rt, file) {
-        Ok(Some(bytes)) => Ok(Some(bytes)),
-        Ok(None) => {
-            eprintln!(rt; "zonedump: {file}: larger than 64 MiB")?;
-            Ok(None)
-        }
-        Err(error) => {
-            eprintln!(rt; "zonedump: {file}: {error}")?;
-            Ok(None)
-        }
-    }
+        Ok(Some(bytes)) => return Ok(Some(bytes)),
+        Ok(None) => fail(rt, file, "larger than 64 MiB")?,
+        Err(error) => fail(rt, file, error)?,
+    };
+    Ok(None)
 }
 
 fn tell(rt: &HostRuntime, name: &str, source: Source<'_>, asked: Asked<'_>) -> io::Result<bool> {
     match asked.what {
         What::Table => tell_lines(rt, name, source, asked.years, Form::Table),
         What::Zdump => tell_lines(rt, name, source, asked.years, Form::Zdump(name)),
-        What::Json | What::Write(_) | What::Draw(_) => tell_zone(rt, name, source, asked),
+        What::Json | What::Write(_) | What::Draw(_) => match source.zone(rt.alloc()) {
+            Ok(zone) => give(rt, name, &zone, asked),
+            Err(fault) => refuse(rt, name, source.kind(), &fault),
+        },
     }
 }
 
@@ -181,18 +178,6 @@ fn tell_lines(
     }
 }
 
-fn tell_zone(
-    rt: &HostRuntime,
-    name: &str,
-    source: Source<'_>,
-    asked: Asked<'_>,
-) -> io::Result<bool> {
-    match source.zone(rt.alloc()) {
-        Ok(zone) => give(rt, name, &zone, asked),
-        Err(fault) => refuse(rt, name, source.kind(), &fault),
-    }
-}
-
 // Writes the zone in a form that isn't lines of text.
 fn give(rt: &HostRuntime, name: &str, zone: &TimeZone, asked: Asked<'_>) -> io::Result<bool> {
     match asked.what {
@@ -202,21 +187,19 @@ fn give(rt: &HostRuntime, name: &str, zone: &TimeZone, asked: Asked<'_>) -> io::
     }
 }
 
-// Says that a file can't be opened by its name.
-fn refuse_name(rt: &HostRuntime, name: &str) -> io::Result<bool> {
-    eprintln!(rt; "zonedump: {name}: the name is not UTF-8")?;
+// Says why a zone or a file is passed over.
+fn fail<T: fmt::Display + Drop>(rt: &HostRuntime, name: &str, why: T) -> io::Result<bool> {
+    eprintln!(rt; "zonedump: {name}: {why}")?;
     Ok(false)
 }
 
 // Says why a zone is rejected.
 fn refuse(rt: &HostRuntime, name: &str, kind: &str, fault: &Error) -> io::Result<bool> {
-    match fault {
-        Error::OutOfMemory => eprintln!(rt; "zonedump: {name}: out of memory")?,
-        _ => {
-            let number = fault.number();
-            eprintln!(rt; "zonedump: {name}: not a {kind}: {fault} ({number})")?;
-        }
+    if let Error::OutOfMemory = fault {
+        return fail(rt, name, "out of memory");
     }
+    let number = fault.number();
+    eprintln!(rt; "zonedump: {name}: not a {kind}: {fault} ({number})")?;
     Ok(false)
 }
 
@@ -231,14 +214,8 @@ fn print_json(rt: &HostRuntime, name: &str, zone: &TimeZone, years: Years) -> io
 fn write(rt: &HostRuntime, name: &str, zone: &TimeZone, path: &str) -> io::Result<bool> {
     match zone.to_tz_data(rt.alloc()) {
         Ok(Some(bytes)) => put(rt, path, bytes.as_slice()),
-        Ok(None) => {
-            eprintln!(rt; "zonedump: {name}: no TZif file spells this zone")?;
-            Ok(false)
-        }
-        Err(_) => {
-            eprintln!(rt; "zonedump: {name}: out of memory")?;
-            Ok(false)
-        }
+        Ok(None) => fail(rt, name, "no TZif file spells this zone"),
+        Err(_) => fail(rt, name, "out of memory"),
     }
 }
 
@@ -252,24 +229,18 @@ fn draw(
 ) -> io::Result<bool> {
     match zonedump_lib::draw(rt.alloc(), name, zone, years) {
         Ok(picture) => put(rt, path, picture.as_bytes()),
-        Err(_) => {
-            eprintln!(rt; "zonedump: {name}: out of memory")?;
-            Ok(false)
-        }
+        Err(_) => fail(rt, name, "out of memory"),
     }
 }
 
 // Writes those bytes to a file, or says why they can't be written.
 fn put(rt: &HostRuntime, path: &str, bytes: &[u8]) -> io::Result<bool> {
     if let Some(name) = words::escaped(path) {
-        return refuse_name(rt, name);
+        return fail(rt, name, "the name is not UTF-8");
     }
     match files::replace(rt, path, bytes) {
         Ok(()) => Ok(true),
-        Err(error) => {
-            eprintln!(rt; "zonedump: {path}: {error}")?;
-            Ok(false)
-        }
+        Err(error) => fail(rt, path, error),
     }
 }
 

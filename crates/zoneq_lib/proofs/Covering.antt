@@ -1,10 +1,10 @@
 -- Every line has an answer, so that answers to a front of an input can be carried on to its end.
-use Rattle.zoneq_lib.proofs.CitedWords.{All-cons, All-head, All-nil, All-tail, Answered, AnswersBefore, AnswersLast, AnswersLine, AnswersLines, Asks, At}
-use Rattle.zoneq_lib.proofs.CitedWords.{BeginsAnswers, Data, HasNoNewline, IsSplit, IsKeptFor, IsRuleOrNone, IsValid, List, None, Option, Query, Resolve, Show}
-use Rattle.zoneq_lib.proofs.CitedWords.{Some, Text, Wall, Zone, ap, append-nil, append_assoc, arith, cases_eq, codes, ended_lines, file_rule_fits, flat_map}
-use Rattle.zoneq_lib.proofs.CitedWords.{inl, inr, length, length-append, posix_zone_valid, refl, shown_refusal, subst, sym, type_decided, shown_type}
-use Rattle.zoneq_lib.proofs.CitedWords.{wall_decided, shown_wall, ℕ, [], ◌++◌, ◌<◌, ◌∙◌, ◌∷◌, ◌≡◌, ◌≢◌}
-use Rattle.zoneq_lib.proofs.{Joining.{answered_join, answers_all}, LineLaws.{asks_or_bad, resolved_in_range}, Showing.{resolve_covered, show_covered}}
+use Rattle.zoneq_lib.proofs.CitedWords.{All-head, All-nil, All-tail, Answered, AnswersBefore, AnswersLast, AnswersLine, AnswersLines, Asks, At, BeginsAnswers}
+use Rattle.zoneq_lib.proofs.CitedWords.{Data, HasNoNewline, IsKeptFor, IsRuleOrNone, IsSplit, IsValid, List, None, Option, Query, Resolve, Show, Some, Text}
+use Rattle.zoneq_lib.proofs.CitedWords.{Wall, Zone, append-nil, append_assoc, arith, cases_eq, codes, ended_lines, file_rule_fits, inl, inr, length}
+use Rattle.zoneq_lib.proofs.CitedWords.{length-append, posix_zone_valid, refl, shown_refusal, shown_type, shown_wall, subst, sym, type_decided, wall_decided, ℕ}
+use Rattle.zoneq_lib.proofs.{CitedWords.{◌++◌, ◌<◌, ◌∷◌, ◌≢◌, []}, Joining.{answered_join, answers_all}, LineLaws.{asks_or_bad, resolved_in_range}}
+use Rattle.zoneq_lib.proofs.Showing.{resolve_covered, show_covered}
 use Rattle.tz_base.specs.declared.error.Error.TheVariants as errors
 
 -- the zone, if there is one, is valid, and the numbers of its rule are in their limits
@@ -32,22 +32,18 @@ query_covered : (z : Option Zone) (line : List ℕ) (query : Query) → IsGiven 
 query_covered z line (Text text) given asks = (shown_refusal 17, inl (Text text, asks, inr (errors.OutOfMemory, inl refl, refl, refl)))
 query_covered z line (Data bytes) given asks = (shown_refusal 17, inl (Data bytes, asks, inr (errors.OutOfMemory, inl refl, refl, refl)))
 query_covered None line (At seconds) given asks = (codes "no zone", inl (At seconds, asks, (refl, refl)))
+query_covered None line (Wall local) given asks = (codes "no zone", inl (Wall local, asks, (refl, refl)))
+query_covered None line (Resolve l choice) given asks = (codes "no zone", inl (Resolve l choice, asks, (refl, refl)))
+query_covered None line (Show seconds nanos) given asks = (codes "no zone", inl (Show seconds nanos, asks, (refl, refl)))
 query_covered (Some zone) line (At seconds) given asks = elim (type_decided zone seconds given.0 given.1) [
   | inl found ↦ (shown_type found.0, inl (At seconds, asks, (inl (found.0, found.1, refl), refl)))
   | inr refused ↦ (shown_refusal 2, inl (At seconds, asks, (inr (refused, refl), refl)))
 ]
-query_covered None line (Wall local) given asks = (codes "no zone", inl (Wall local, asks, (refl, refl)))
 query_covered (Some zone) line (Wall local) given asks =
     let types = wall_decided zone local given.0 given.1 in
     (shown_wall types.0, inl (Wall local, asks, ((types.0, types.1, refl), refl)))
-query_covered None line (Resolve l choice) given asks = (codes "no zone", inl (Resolve l choice, asks, (refl, refl)))
-query_covered (Some zone) line (Resolve l choice) given asks =
-    let resolved = resolve_covered zone l choice given.0 given.1 (resolved_in_range line l choice asks) in
-    (resolved.0, inl (Resolve l choice, asks, (resolved.1, refl)))
-query_covered None line (Show seconds nanos) given asks = (codes "no zone", inl (Show seconds nanos, asks, (refl, refl)))
-query_covered (Some zone) line (Show seconds nanos) given asks =
-    let shown = show_covered zone seconds nanos given.0 given.1 in
-    (shown.0, inl (Show seconds nanos, asks, (shown.1, refl)))
+query_covered (Some zone) line (Resolve l choice) given asks = grind (arith, resolve_covered zone l choice given.0 given.1 (resolved_in_range line l choice asks))
+query_covered (Some zone) line (Show seconds nanos) given asks = grind (arith, show_covered zone seconds nanos given.0 given.1)
 
 pub line_covered : (z : Option Zone) (line : List ℕ) → IsGiven z → (answer : List ℕ) × AnswersLine z line answer z
 line_covered z line given = elim (asks_or_bad line) [
@@ -56,7 +52,7 @@ line_covered z line given = elim (asks_or_bad line) [
 ]
 
 lines_covered : (z : Option Zone) (lines : List (List ℕ)) → IsGiven z → (output : List ℕ) × AnswersLines z lines output z
-lines_covered z [] given = ([], (refl, refl))
+lines_covered z [] given = grind arith
 lines_covered z (line ∷ lines) given =
     let first = line_covered z line given in let rest = lines_covered z lines given in
     (first.0 ++ codes "\n" ++ rest.0, (first.0, z, rest.0, first.1, rest.1, refl))
@@ -67,38 +63,17 @@ last_covered z (c ∷ rest) given = let first = line_covered z (c ∷ rest) give
 
 -- every input is cut into lines
 behind : (c : ℕ) (bytes : List ℕ) (pieces : List (List ℕ)) (rest : List ℕ) → c ≢ 10 → IsSplit bytes pieces rest → (pieces' : List (List ℕ)) × (rest' : List ℕ) × IsSplit (c ∷ bytes) pieces' rest'
-behind c bytes [] rest h cut = ([], c ∷ rest, record { whole = ap (λ w. c ∷ w) cut.whole; each = cut.each; last = All-cons (λ b. b ≢ 10) c rest h cut.last })
-behind c bytes (p ∷ pieces) rest h cut = (
-  (c ∷ p) ∷ pieces,
-  rest,
-  record {
-    whole = ap (λ w. c ∷ w) cut.whole;
-    each = All-cons HasNoNewline (c ∷ p) pieces (All-cons (λ b. b ≢ 10) c p h (All-head HasNoNewline p pieces cut.each)) (All-tail HasNoNewline p pieces cut.each);
-    last = cut.last;
-  },
-)
+behind c bytes [] rest h cut = grind arith
+behind c bytes (p ∷ pieces) rest h cut = ((c ∷ p) ∷ pieces, rest, grind (arith, All-head HasNoNewline p pieces cut.each, All-tail HasNoNewline p pieces cut.each))
 
 is_cut : (bytes : List ℕ) → (pieces : List (List ℕ)) × (rest : List ℕ) × IsSplit bytes pieces rest
-is_cut [] = ([], [], record { whole = refl; each = All-nil HasNoNewline; last = All-nil (λ b. b ≢ 10) })
+is_cut [] = grind arith
 is_cut (c ∷ bytes) =
-    let t = is_cut bytes in
-    elim (cases_eq c 10) [
-      | inl newline ↦ (
-        [] ∷ t.0,
-        t.1,
-        record {
-          whole = ap (λ w. w ∷ bytes) newline ∙ ap (λ w. 10 ∷ w) t.2.whole;
-          each = All-cons HasNoNewline [] t.0 (All-nil (λ b. b ≢ 10)) t.2.each;
-          last = t.2.last;
-        },
-      )
-      | inr other ↦ behind c bytes t.0 t.1 other t.2
-    ]
+    let t = is_cut bytes in elim (cases_eq c 10) [ inl newline ↦ ([] ∷ t.0, t.1, grind arith) | inr other ↦ behind c bytes t.0 t.1 other t.2 ]
 
 -- what could not be answered has bytes
 some_failed : (rest front left : List ℕ) → IsKeptFor rest front → 0 < length (rest ++ left) → 0 < length (front ++ left)
-some_failed rest front left (inl same) some = subst (λ (l : List ℕ). 0 < length (l ++ left)) (sym same) some
-some_failed rest front left (inr both) some = let l = length-append front left in let h = both.0.some in omega (arith, l, h)
+some_failed rest front left h some = grind (arith, length-append)
 
 -- answers to a front of the input, of which a part is written, go on to answers to all of it
 pub begins_answers : (done left output more : List ℕ) (z : Option Zone) (rest : List ℕ) → Answered None [] done (output ++ more) z rest → BeginsAnswers (done ++ left) output
@@ -114,15 +89,4 @@ begins_answers done left output more z rest s =
 
 -- answers to the lines before one that could not be answered
 pub answers_before : (done left output : List ℕ) (z : Option Zone) (rest : List ℕ) → 0 < length (rest ++ left) → Answered None [] done output z rest → AnswersBefore (done ++ left) output
-answers_before done left output z rest some s =
-    let ends = λ (piece : List ℕ). piece ++ codes "\n" in
-    let whole : done ≡ flat_map ends s.pieces ++ s.front = s.cut.whole in (
-      s.pieces,
-      flat_map ends s.pieces,
-      s.front ++ left,
-      z,
-      ap (λ w. w ++ left) whole ∙ append_assoc (flat_map ends s.pieces) s.front left,
-      some_failed rest s.front left s.kept some,
-      record { whole = sym (append-nil (flat_map ends s.pieces)); each = s.cut.each; last = All-nil (λ b. b ≢ 10) },
-      s.answered,
-    )
+answers_before done left output z rest some s = grind (arith, some_failed rest s.front left s.kept some, append_assoc, append-nil, All-nil)

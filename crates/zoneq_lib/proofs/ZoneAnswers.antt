@@ -1,29 +1,16 @@
 -- The answer to what sets the zone, by what was read.
-use Rattle.zoneq_lib.proofs.CitedWords.{AnswersData, AnswersRead, AnswersText, Err, Error, IfErr, IfOk, In_file, IsFileFault, IsOutOfMemory, IsPosixFault}
-use Rattle.zoneq_lib.proofs.CitedWords.{IsPosixZone, IsTzFile, IsValid, IsZoneFault, List, MatchResult, No_memory, Ok, Option, Result, Some, TimeZone, Zone}
-use Rattle.zoneq_lib.proofs.CitedWords.{error_number, file_fault_or_zone, inl, inr, refl, shown_refusal, shown_zone, text_fault_or_zone, ℕ, ◌≡◌, ◌⊎◌}
+use Rattle.zoneq_lib.proofs.CitedWords.{AnswersData, AnswersRead, AnswersText, Error, IfErr, IfOk, IsFileFault, IsOutOfMemory, IsPosixFault, IsPosixZone}
+use Rattle.zoneq_lib.proofs.CitedWords.{IsTzFile, IsValid, List, MatchResult, Option, Result, Some, TimeZone, Zone, arith, error_number, file_fault_or_zone}
+use Rattle.zoneq_lib.proofs.CitedWords.{shown_refusal, shown_zone, text_fault_or_zone, ℕ, ◌≡◌, ◌⊎◌}
 
 -- what is written and kept of what was read
 abbrev Sets : Option Zone → Result TimeZone Error → List ℕ → Option Zone → Type 0
 Sets before read answer after =
     MatchResult read (λ found. (answer ≡ shown_zone found) × (after ≡ Some found)) (λ fault. (answer ≡ shown_refusal (error_number fault)) × (after ≡ before))
 
--- of a file either memory runs out, or its first fault is returned
-pub memory_or_fault : (bytes : List ℕ) (e : Error) → IsZoneFault bytes e → IsOutOfMemory e ⊎ IsFileFault bytes e
-memory_or_fault bytes e (In_file m fault) = inr fault
-memory_or_fault bytes e (No_memory pieces whole) = inl refl
-
--- what has a fault spells no zone
-told : (is_zone : Zone → Type 0) (is_fault : Error → Type 0) → ((e : Error) → is_fault e → (z : Zone) → ¬ (is_zone z)) → (e : Error)
-    → IsOutOfMemory e ⊎ is_fault e → IsOutOfMemory e ⊎ (is_fault e × ((z : Zone) → ¬ (is_zone z)))
-told is_zone is_fault apart e (inl memory) = inl memory
-told is_zone is_fault apart e (inr fault) = inr (fault, apart e fault)
-
 read_answered : (is_zone : Zone → Type 0) (is_fault : Error → Type 0) → ((e : Error) → is_fault e → (z : Zone) → ¬ (is_zone z))
     → (before : Option Zone) (read : Result TimeZone Error) (answer : List ℕ) (after : Option Zone) → IfOk read is_zone → IfErr read (λ e. IsOutOfMemory e ⊎ is_fault e) → Sets before read answer after → AnswersRead is_zone is_fault before answer after
-read_answered is_zone is_fault apart before (Ok found) answer after ok err sets = inl (found, ok, sets.0, sets.1)
-read_answered is_zone is_fault apart before (Err fault) answer after ok err sets =
-    inr (fault, told is_zone is_fault apart fault err, sets.0, sets.1)
+read_answered is_zone is_fault apart before read answer after ok err sets = grind arith
 
 pub text_answered : (zone : Option Zone) (text : List ℕ) (read : Result TimeZone Error) (answer : List ℕ) (after : Option Zone)
     → IfOk read (λ z. IsPosixZone text z) → IfErr read (λ e. IsOutOfMemory e ⊎ IsPosixFault text e) → Sets zone read answer after → AnswersText zone text answer after

@@ -160,6 +160,7 @@ impl Dialogue {
     }
 
     // Answers the last line, if the input does not end with a newline.
+    #[tactic(auto, using(crate::proofs::Stopping::last_is))]
     fn answer_last<W: Write>(&mut self, writer: &mut Watched<W>) -> Result<(), RunError>
         requires { writer.old.failed ≡ false }
         ensures ok { OnOk result (AnswersAtEnd writer.new.failed

@@ -12,6 +12,7 @@ use crate::question::Question;
 ///
 /// A beginning is judged each time that its length has one more binary digit, so that a long line
 /// is not read once for each block. The answer for one that isn't judged is `true`.
+#[tactic(auto, using(crate::proofs::HopelessLaws::hopeless))]
 pub fn may_ask(front: &[u8], judged: usize) -> bool
     ensures { result ≡ false → IsHopeless front.now }
 {

@@ -1,5 +1,4 @@
-use Rattle.zoneq_lib.proofs.CitedWords.{Reading, ahead_of, ap, codes, inl, inr, off_of, on_ok_weaker, refl, shown_date_time, to_z-of_z, zoned, ◌∙◌}
-use Rattle.zoneq_lib.proofs.Showing.{no_stamp, shown_instant}
+use Rattle.zoneq_lib.proofs.{CitedWords.{arith, codes, inl, inr, on_ok_weaker, refl, to_z-of_z}, Showing.{no_stamp}}
 use Rattle.zoneq_lib.proofs.answer.tell_instant.Goals as goal
 
 pub returns-in_default : goal.returns-in_default
@@ -10,15 +9,7 @@ returns-in_default-new c =
     on_ok_weaker c.writeln-in_default-new.result (λ bytes. (codes "wide zone", bytes, rw c.in-Some.is (inl ((λ narrow. cc (c.in_default-new.ensures.some.1 narrow)), refl)))) c.writeln-in_default-new.ensures.bytes
 
 pub returns-in-Single : goal.returns-in-Single
-returns-in-Single c =
-    let fits = c.ranges.seconds in let r = c.in-Some-new.zone in let at = simp to_z-of_z at c.in-Single.ensures in
-    let d = zoned c.in-Single.instant in let of_zone = c.in-Some-new.ensures in
-    let there = at.1.offset.there ∙ ap (λ (k : Reading). off_of r k.s) at.1.utc in
-    on_ok_weaker c.write_instant.result (λ bytes. (
-      shown_date_time d.utc (ahead_of d.offset),
-      bytes,
-      rw c.in-Some.is (shown_instant c.in-Some.zone (off_of r) c.args.seconds c.args.nanoseconds d.utc (ahead_of d.offset) (of_zone.some.0 refl) of_zone.offsets at.0 at.1.utc there),
-    )) c.write_instant.ensures
+returns-in-Single c = grind (arith, to_z-of_z)
 
 pub returns-in_default-timestamp_opt : goal.returns-in_default-timestamp_opt
 returns-in_default-timestamp_opt c =

@@ -1,6 +1,6 @@
 use Rattle.offset_core.specs.ResolveNumbers.{resolve_error_number}
-use Rattle.zoneq_lib.proofs.CitedWords.{ahead_of, codes, inl, law_of, off_of, on_ok_weaker, reading, refl, shown_date_time, shown_refusal, zoned}
-use Rattle.zoneq_lib.proofs.Showing.{refused_reading, resolved_instant}
+use Rattle.zoneq_lib.proofs.CitedWords.{ahead_of, codes, inl, inr, law_of, off_of, on_ok_weaker, reading, refl, shown_date_time, shown_refusal, zoned}
+use Rattle.zoneq_lib.proofs.Showing.{resolved_instant}
 use Rattle.zoneq_lib.proofs.answer.tell_resolved.Goals as goal
 
 pub returns-in_default : goal.returns-in_default
@@ -26,5 +26,5 @@ returns-in-Err c =
     on_ok_weaker c.writeln-in-Err.result (λ bytes. (
       shown_refusal (resolve_error_number e),
       bytes,
-      rw c.in-Some.is (refused_reading c.in-Some.zone (off_of r) (reading c.args.local) c.args.choice e (of_zone.some.0 refl) of_zone.offsets c.in-Err.ensures),
+      rw c.in-Some.is (inr (of_zone.some.0 refl, off_of r, of_zone.offsets, inr (e, c.in-Err.ensures, refl))),
     )) written
