@@ -177,8 +177,7 @@ impl TimeZone {
         self.change_at(start as i64)
     }
 
-    // The same without leap seconds: each transition comes at its own time, and they come one after
-    // another, so that the transitions tell both types.
+    // The same without leap seconds: each transition comes at its own time, and names the new type.
     #[inline(always)]
     pub(super) fn change_without_leaps(&self, place: usize) -> Option<HeldChange<'_>>
         requires place { place < length self.now.transitions }
