@@ -1,12 +1,11 @@
 //! When a rule's types give way to each other: mostly at moments of the year of the second, or of the
 //! next one.
 
-ghost use Rattle.std.specs.Prelude.{◌≡◌, ◌≢◌, ◌≤◌, pos, ◌<ℤ◌, ◌≤ℤ◌, MatchOption, MatchResult, Some, neg_ℤ};
-ghost use Rattle.std.specs.Prelude.{option_map, ⊤};
+ghost use Rattle.std.specs.Prelude.{◌≡◌, ◌≢◌, pos, ◌<ℤ◌, ◌≤ℤ◌, MatchOption, MatchResult, neg_ℤ, option_map, ⊤};
 ghost use Rattle.tz_info.specs.Changes.{IsNearest, IsNearestChange};
 ghost use Rattle.tz_info.specs.Moments.{AlternateAt, IsRuleTime, type_when};
 ghost use Rattle.tz_info.specs.Steps.Beside.{IsMomentAhead, IsMomentAt, IsNearestMomentOf, change_found};
-ghost use Rattle.tz_info.specs.Steps.Changes.{IsAhead, IsIdleTo, far_side, near_side};
+ghost use Rattle.tz_info.specs.Steps.Changes.{IsAhead, IsIdleTo, near_side};
 ghost use Rattle.tz_info.specs.Steps.Gaps.{moment_change};
 ghost use Rattle.tz_info.specs.HeldChanges.{change_held};
 ghost use Rattle.tz_info.specs.Steps.Seasons.{IsAmid, IsDecidedIn, IsLimit, IsSeason};
@@ -105,7 +104,7 @@ impl AlternateTime {
         match self.second_ahead(season, second, forward) {
             Ok(at) => match self.moment_amid(season, at) {
                 Some(moment) => Ok(moment),
-                None => Err(far_side(at, forward)),
+                None => Err(near_side(at, !forward)),
             },
             Err(other) => Err(other),
         }
@@ -192,12 +191,4 @@ fn near_side(moment: i64, forward: bool) -> i64
     ensures { result ≡ near_side forward moment }
 {
     if forward { moment - 1 } else { moment }
-}
-
-// The other one.
-fn far_side(moment: i64, forward: bool) -> i64
-    requires { neg_ℤ (pos 67_768_100_504_812_800) ≤ℤ moment }
-    ensures { result ≡ far_side forward moment }
-{
-    if forward { moment } else { moment - 1 }
 }

@@ -1,14 +1,10 @@
 //! The days on which a rule changes the clock.
 
-ghost use Rattle.std.specs.Prelude.{◌≡◌, ◌≤◌, ◌<◌, MatchResult, MatchOption, ℤ, pos, neg_ℤ, ◌+ℤ◌, ◌*ℤ◌, ◌≤ℤ◌};
-ghost use Rattle.naive_base.specs.Year.{year_start};
-ghost use Rattle.naive_base.specs.Date.{day_number};
+ghost use Rattle.std.specs.Prelude.{◌≡◌, MatchResult, MatchOption, pos, neg_ℤ, ◌+ℤ◌, ◌*ℤ◌, ◌≤ℤ◌};
 ghost use Rattle.tz_base.specs.declared.error.Error.TheVariants.{TransitionRule};
 ghost use Rattle.tz_base.specs.declared.error.Expected.TheVariants.{DayFromJ1ToJ365, DayFrom0To365};
 ghost use Rattle.tz_info.specs.RuleDays.{IsWrittenDate, expected_of_day};
 ghost use Rattle.tz_info.specs.Rules.{IsWithinWeek};
-ghost use Rattle.tz_info.specs.Steps.RuleDays.{julian_place};
-ghost use Rattle.tz_info.specs.declared.rule.day.DayForm.TheVariants.{MonthWeekday};
 
 use crate::rule::day_places::{date_in_year, julian_place, place_in_month};
 use gregorian::{day_number, year_start};

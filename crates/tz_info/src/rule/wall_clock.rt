@@ -51,15 +51,8 @@ impl TransitionRule {
     ) -> Result<MappedLocalTime<LocalTimeType>, Error>
         ensures { IsOkAnd result (IsWallAnswer (Shows (RuleAt self.now) (reading local).s)) }
     {
-        Ok(copied(self.wall_answer(local.secs_since_epoch())))
-    }
-
-    fn wall_answer(&self, local: i64) -> MappedLocalTime<&LocalTimeType>
-        requires { IsWide local }
-        ensures { IsWallAnswer (Shows (RuleAt self.now) local)
-            (map_of (λ r. r.now) result) }
-    {
-        self.answer_from(i64::MIN, local, &mut Probes::new()).1
+        let local = local.secs_since_epoch();
+        Ok(copied(self.answer_from(i64::MIN, local, &mut Probes::new()).1))
     }
 
     // The types in force at the seconds from that one on at which a clock by this rule shows the

@@ -75,7 +75,7 @@ impl AlternateTime {
     }
 
     // The first moment of the stretch, or the last one, year by year. Every 400 years the rule does
-    // the same, so that 401 years tell.
+    // the same, so that 401 years are enough.
     #[tactic(auto, using(crate::proofs::Ranges::in_range))]
     fn moment_in_years(&self, stretch: Stretch, forward: bool) -> Option<Moment>
         ensures { IsNearestMomentOf forward self.now (IsInStretch stretch.after stretch.last) result }

@@ -48,26 +48,17 @@ impl TimeZone {
     pub fn next_held_change(&self, after: i64) -> Option<HeldChange<'_>>
         ensures { IsFirst (TypeAt self.now) (λ u. after <ℤ u) (option_map change_held result) }
     {
+        let _ = &self.table;
         match self.last_span_at(after) {
             Some(_) => None,
-            None => self.next_from(after, self.come_at(after)),
+            None => match self.next_in_table(after, self.come_at(after)) {
+                Some(change) => Some(change),
+                None => self.change_by_rule(after, true),
+            },
         }
     }
 
-    // The first change after a second at which that number of transitions have come.
-    #[inline(always)]
-    fn next_from(&self, after: i64, come: usize) -> Option<HeldChange<'_>>
-        requires { AreComeOrAll self.now after come }
-        ensures { IsFirst (TypeAt self.now) (λ u. after <ℤ u) (option_map change_held result) }
-    {
-        let _ = &self.table;
-        match self.next_in_table(after, come) {
-            Some(change) => Some(change),
-            None => self.change_by_rule(after, true),
-        }
-    }
-
-    // The first one of those that come with a transition.
+    // The first change with a transition after a second at which `come` of them have come.
     #[inline(always)]
     fn next_in_table(&self, after: i64, come: usize) -> Option<HeldChange<'_>>
         requires { AreComeOrAll self.now after come }
@@ -124,14 +115,11 @@ impl TimeZone {
         let _ = &self.table;
         match self.change_by_rule(before_or_at, false) {
             Some(change) => Some(change),
-            None => {
-                let come = self.come_at(before_or_at);
-                self.previous_in_table(before_or_at, come)
-            }
+            None => self.previous_in_table(before_or_at, self.come_at(before_or_at)),
         }
     }
 
-    // The last change with a transition up to a second at which that number of them have come.
+    // The last change with a transition up to a second at which `come` of them have come.
     #[inline(always)]
     fn previous_in_table(&self, last: i64, come: usize) -> Option<HeldChange<'_>>
         requires { AreComeOrAll self.now last come }
@@ -189,8 +177,7 @@ impl TimeZone {
         self.change_at(start as i64)
     }
 
-    // The same without leap seconds: each transition comes at its own time, and they come one after
-    // another, so that the transitions tell both types.
+    // The same without leap seconds: each transition comes at its own time, and names the new type.
     #[inline(always)]
     pub(super) fn change_without_leaps(&self, place: usize) -> Option<HeldChange<'_>>
         requires place { place < length self.now.transitions }

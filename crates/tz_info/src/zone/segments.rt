@@ -87,7 +87,7 @@ pub(super) fn index_before(lists: Lists, place: usize) -> usize
     index_of_segment(lists, latest)
 }
 
-// The pieces of some neighbouring segments, and what stands before the first.
+// The pieces of some neighbouring segments, and what a clock shows before the first.
 #[derive(Debug, Drop)]
 pub(super) struct Pieces {
     pub(super) before: Shown,

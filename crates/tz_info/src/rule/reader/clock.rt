@@ -7,8 +7,8 @@ ghost use Rattle.tz_base.specs.Grammar.{read, checked};
 ghost use Rattle.tz_base.specs.Refusals.{InvalidTzString};
 ghost use Rattle.tz_base.specs.declared.error.Expected.TheVariants.{HoursMinutesAndSecondsWithinTheirLimits};
 ghost use Rattle.tz_info.specs.Rules.{IsWithinWeek};
-ghost use Rattle.tz_info.specs.TzGrammar.{sign, seconds, optional_minutes, hours_minutes_seconds, are_within};
-ghost use Rattle.tz_info.specs.TzGrammar.{signed_seconds, duration, offset, time_sign, optional_time};
+ghost use Rattle.tz_info.specs.TzGrammar.{sign, seconds, optional_minutes, are_within, signed_seconds, duration};
+ghost use Rattle.tz_info.specs.TzGrammar.{offset, time_sign, optional_time};
 
 use tz_base::{Cursor, Error, Expected};
 
@@ -57,28 +57,19 @@ fn read_sign(cursor: &mut Cursor<'_>) -> bool
     }
 }
 
-#[tactic(auto, unfolding(crate::specs::TzGrammar::duration))]
+#[tactic(auto, unfolding(crate::specs::TzGrammar::duration, crate::specs::TzGrammar::hours_minutes_seconds))]
 fn read_duration(limit: u32, negative: bool, cursor: &mut Cursor<'_>) -> Result<i32, Error>
     requires { limit ≤ 167 }
     ensures value { Gives (λ z. (z, cursor.new)) result (read (duration limit negative) cursor.old) }
     ensures day { limit ≤ 23 → IfOk result (λ z. IsWithinDay z) }
     ensures week { IfOk result (λ z. IsWithinWeek z) }
 {
-    let (h, m, s) = read_hours_minutes_seconds(cursor)?;
+    let h = cursor.read_int(CLOCK_MAX)?;
+    let (m, s) = read_optional_minutes(cursor)?;
     seconds_of(limit, negative, h, m, s)
 }
 
-// Hours, minutes and seconds; 0 for what is left out.
-#[tactic(auto, unfolding(crate::specs::TzGrammar::hours_minutes_seconds))]
-fn read_hours_minutes_seconds(cursor: &mut Cursor<'_>) -> Result<(u32, u32, u32), Error>
-    ensures { Gives (λ t. ((t.0, t.1, t.2), cursor.new)) result
-        (read hours_minutes_seconds cursor.old) }
-{
-    let h = cursor.read_int(CLOCK_MAX)?;
-    let (m, s) = read_optional_minutes(cursor)?;
-    Ok((h, m, s))
-}
-
+// The minutes and the seconds; 0 for what is left out.
 #[tactic(auto, unfolding(crate::specs::TzGrammar::optional_minutes, crate::specs::TzGrammar::minutes_seconds))]
 fn read_optional_minutes(cursor: &mut Cursor<'_>) -> Result<(u32, u32), Error>
     ensures { Gives (λ t. ((t.0, t.1), cursor.new)) result (read optional_minutes cursor.old) }

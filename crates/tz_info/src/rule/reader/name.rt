@@ -3,27 +3,18 @@
 ghost use Rattle.std.specs.Prelude.{◌≡◌, ◌==◌};
 ghost use Rattle.tz_base.specs.Fronts.{Gives, run_of, after_run};
 ghost use Rattle.tz_base.specs.Grammar.{read};
-ghost use Rattle.tz_info.specs.TzGrammar.{greater, is_letter, is_not_greater, name, quoted};
+ghost use Rattle.tz_info.specs.TzGrammar.{greater, is_letter, is_not_greater, name};
 
 use tz_base::{Cursor, Error};
 
 // A name as the text gives it, which need not be one that a type can have.
-#[tactic(auto, unfolding(crate::specs::TzGrammar::name))]
+#[tactic(auto, unfolding(crate::specs::TzGrammar::name, crate::specs::TzGrammar::quoted))]
 pub(super) fn read_name<'a>(cursor: &mut Cursor<'a>) -> Result<&'a [u8], Error>
     ensures { Gives (λ name. (name.now, cursor.new)) result (read name cursor.old) }
 {
-    if cursor.read_optional_tag(b"<") {
-        read_quoted(cursor)
-    } else {
-        Ok(read_letters(cursor))
+    if !cursor.read_optional_tag(b"<") {
+        return Ok(read_letters(cursor));
     }
-}
-
-// What stands before the `>`, which is taken too.
-#[tactic(auto, unfolding(crate::specs::TzGrammar::quoted))]
-fn read_quoted<'a>(cursor: &mut Cursor<'a>) -> Result<&'a [u8], Error>
-    ensures { Gives (λ name. (name.now, cursor.new)) result (read quoted cursor.old) }
-{
     let name = read_until_greater(cursor);
     cursor.read_tag(b">")?;
     Ok(name)

@@ -10,7 +10,7 @@ ghost use Rattle.tz_base.specs.declared.error.Expected.TheVariants.{OffsetOfDayl
 ghost use Rattle.tz_info.specs.Rules.{IsWithinWeek};
 ghost use Rattle.tz_info.specs.TzGrammar.{more, end, given_offset, dst_offset, named_type, fixed, alternate, days};
 ghost use Rattle.tz_info.specs.TzGrammar.{text};
-ghost use Rattle.tz_info.specs.Steps.Spelled.{day_time_of, alternate_of, rule_of, IsSpelled};
+ghost use Rattle.tz_info.specs.Steps.Spelled.{day_time_of, rule_of, IsSpelled};
 
 use crate::rule::reader::clock::read_offset;
 use crate::rule::reader::date::read_day;
@@ -34,7 +34,10 @@ pub(super) fn rule_of(spelled: Spelled) -> TransitionRule
     match spelled {
         Spelled::Fixed(local) => TransitionRule::Fixed(local),
         Spelled::Alternate(std, dst, start, end) => {
-            TransitionRule::Alternate(alternate(std, dst, start, end))
+            match AlternateTime::new(std, dst, start.0, start.1, end.0, end.1) {
+                Ok(rule) => TransitionRule::Alternate(rule),
+                Err(_) => unreachable!(),
+            }
         }
     }
 }
@@ -152,24 +155,6 @@ fn named_type(name: &[u8], dst: bool, offset: i32) -> Result<LocalTimeType, Erro
     ensures offset { IfOk result (λ t. IsWithinDay t.offset) }
 {
     LocalTimeType::new(offset, dst, Some(name))
-}
-
-fn alternate(
-    std: LocalTimeType,
-    dst: LocalTimeType,
-    start: (RuleDay, i32),
-    end: (RuleDay, i32),
-) -> AlternateTime
-    requires std { IsWithinDay std.offset }
-    requires dst { IsWithinDay dst.offset }
-    requires start { IsWithinWeek start.1 }
-    requires end { IsWithinWeek end.1 }
-    ensures { result ≡ alternate_of std dst start end }
-{
-    match AlternateTime::new(std, dst, start.0, start.1, end.0, end.1) {
-        Ok(rule) => rule,
-        Err(_) => unreachable!(),
-    }
 }
 
 #[tactic(auto, unfolding(crate::specs::TzGrammar::more))]
