@@ -1,9 +1,9 @@
 -- Answers to a column's times: by a lookup, and by what is kept of a stretch.
 use Rattle.zoned_ffi.proofs.Words.{All-contains, AreKeptTimes, Choice, FitsSigned, IsCounted, IsGreatest, IsInRange, IsInstantOf, IsInstantTaken, IsKeptOf}
-use Rattle.zoned_ffi.proofs.Words.{IsLeast, IsLocal, IsNoInstant, IsNoneTaken, IsOffsetStretch, IsRowNumber, IsShownOnce, IsTakenAs, IsWithout, Kept, LieWithin}
-use Rattle.zoned_ffi.proofs.Words.{List, LocalType, MatchOption, None, OffsetStretch, Option, Shows, Some, Taken, TypeAt, Unit, Zone, ap, arith, cases_lt}
-use Rattle.zoned_ffi.proofs.Words.{first_second, floor_div, floors, get_or, inl, inr, ints, neg_ℤ, offsets, per_second, pos, refl, second_holding, subst, sym}
-use Rattle.zoned_ffi.proofs.Words.{taken_instant, uncounted, w64, ℕ, ℤ, ◌*ℤ◌, ◌+ℤ◌, ◌+◌, ◌-ℤ◌, ◌<ℤ◌, ◌∙◌, ◌≡◌, ◌≤ℤ◌}
+use Rattle.zoned_ffi.proofs.Words.{IsLeast, IsLocal, IsNoInstant, IsOffsetStretch, IsRowNumber, IsShownOnce, IsTakenAs, IsWithout, Kept, LieWithin}
+use Rattle.zoned_ffi.proofs.Words.{List, LocalType, MatchOption, None, OffsetStretch, Option, Shows, Some, Taken, TypeAt, Unit, Zone, ap, arith}
+use Rattle.zoned_ffi.proofs.Words.{first_second, floor_div, floors, get_or, ints, neg_ℤ, offsets, per_second, pos, refl, second_holding, subst}
+use Rattle.zoned_ffi.proofs.Words.{taken_instant, uncounted, w64, ℕ, ℤ, ◌*ℤ◌, ◌+ℤ◌, ◌+◌, ◌-ℤ◌, ◌<ℤ◌, ◌≡◌, ◌≤ℤ◌}
 use Rattle.zoned_ffi.proofs.Resolving.{none_is, taken_once}
 use Rattle.zoned_ffi.specs.{declared.column.Way.TheVariants.{ToInstants, ToLocal}, declared.resolved.Taken.TheVariants.{BeforeGap, GapEnd, InForce}}
 use Rattle.tz_info.proofs.{ExtremeLaws.{at_least_least, at_most_greatest}, ForCallers.{type_once}}
@@ -19,8 +19,8 @@ floor_high unit x u h = grind (arith, ints, floors)
 -- what a lookup found
 pub looked_up : (z : Zone) (unit : Unit) (x counts : ℤ) (t : LocalType) (r : Option ℤ) → TypeAt z (floor_div x (per_second unit)) t → counts ≡ t.offset *ℤ pos (per_second unit)
     → MatchOption r (¬ (IsCounted (x +ℤ counts))) (λ sum. (sum ≡ x +ℤ counts) × IsCounted sum) → MatchOption r (IsWithout z unit x) (λ local. IsLocal z unit x local)
-looked_up z unit x counts t None in_force are none = uncounted t in_force (subst (λ (k : ℤ). ¬ (IsCounted (x +ℤ k))) are none)
-looked_up z unit x counts t (Some y) in_force are is = record { type = t; in_force = in_force; sum = is.0 ∙ ap (λ (k : ℤ). x +ℤ k) are; counted = is.1 }
+looked_up z unit x counts t None in_force are none = uncounted t in_force (rw are at none)
+looked_up z unit x counts t (Some y) in_force are (is, counted) = record { type = t; in_force = in_force; sum = cc; counted = counted }
 
 abbrev pub least : ℤ
 least = neg_ℤ (pos 9_223_372_036_854_775_807)
@@ -33,23 +33,13 @@ pub lie_within : (from until add : ℤ) (k : Kept) → from ≤ℤ k.low → lea
     → k.high ≤ℤ (greatest -ℤ add) → k.add ≡ add → LieWithin from until add k
 lie_within from until add k a b d e f g same = record {
   same = same;
-  each = λ x low high. (
-    omega (arith, ints, a, low),
-    omega (arith, ints, e, high),
-    (λ none. omega (arith, ints, none, b, low)),
-    (omega (arith, ints, d, g, low, high), λ none. omega (arith, ints, none, d, low)),
-  );
+  each = λ x low high. (omega (arith, ints), omega (arith, ints), (λ none. omega (arith, ints)), (omega (arith, ints), λ none. omega (arith, ints)));
 }
 
 -- the stretch has one row more
 pub within_more : (times : List ℤ) (from row : ℕ) (k : Kept) → AreKeptTimes times from row k
     → (k.low ≤ℤ get_or times row (pos 0)) × (get_or times row (pos 0) <ℤ k.high) → AreKeptTimes times from (row + 1) k
-within_more times from row k before this i since below = elim (cases_lt i row) [
-  | inl earlier ↦ before i since earlier
-  | inr later ↦
-      let same : row ≡ i = omega (arith, later, below) in
-      subst (λ n. (k.low ≤ℤ get_or times n (pos 0)) × (get_or times n (pos 0) <ℤ k.high)) same this
-]
+within_more times from row k before this i since below = grind (arith, before)
 
 -- instants of a stretch, by the counts of its bounds
 pub instants_kept : (z : Zone) (unit : Unit) (s : OffsetStretch) (from until add : ℤ) (k : Kept) → IsOffsetStretch z s
@@ -57,20 +47,8 @@ pub instants_kept : (z : Zone) (unit : Unit) (s : OffsetStretch) (from until add
     → LieWithin from until add k → IsKeptOf z unit ToLocal k
 instants_kept z unit s from until add k stretch a b d within = λ x low high.
     let at = within.each x low high in
-    let found = stretch (floor_div x (per_second unit)) (floor_low unit x s.from (rw a at at.0)) (floor_high unit x s.until (rw b at at.1)) in
-    let counted = subst (λ (n : ℤ). IsCounted (x +ℤ n)) (sym within.same) at.3 in
-    let sum = ap (λ (n : ℤ). x +ℤ n) (within.same ∙ (d ∙ ap (λ (o : ℤ). o *ℤ pos (per_second unit)) found.2)) in
-    (counted, at.2, record { type = found.0; in_force = found.1; sum = sum; counted = counted })
-
--- the second that a time lies in, by two parts of a bound
-floor_low_sum : (unit : Unit) (x a b : ℤ) → ((a *ℤ pos (per_second unit)) +ℤ (b *ℤ pos (per_second unit))) ≤ℤ x → (a +ℤ b) ≤ℤ floor_div x (per_second unit)
-floor_low_sum unit x a b h = grind (arith, ints, floors)
-
-floor_high_sum : (unit : Unit) (x a b : ℤ) → x <ℤ ((a *ℤ pos (per_second unit)) +ℤ (b *ℤ pos (per_second unit))) → floor_div x (per_second unit) <ℤ (a +ℤ b)
-floor_high_sum unit x a b h = grind (arith, ints, floors)
-
-less_is_minus : (x y : ℤ) → (x +ℤ neg_ℤ y) ≡ x -ℤ y
-less_is_minus x y = omega (arith, ints)
+    let found = stretch (floor_div x (per_second unit)) (grind (arith, ints, floors)) (grind (arith, ints, floors)) in
+    grind arith
 
 -- a local time so far inside a stretch that by each offset of the zone its second lies in it: only the second by the stretch's offset shows it
 once_shown : (z : Zone) (s : OffsetStretch) (low high local : ℤ) → IsOffsetStretch z s → FitsSigned w64 s.from → FitsSigned w64 s.until
@@ -78,23 +56,19 @@ once_shown : (z : Zone) (s : OffsetStretch) (low high local : ℤ) → IsOffsetS
     → (t : LocalType) × IsShownOnce (Shows (TypeAt z) local) t × (s.offset ≡ t.offset)
 once_shown z s low high local stretch f g is_low is_high since before =
     let inside : (o : ℤ) → low ≤ℤ o → o ≤ℤ high → (t : LocalType) × TypeAt z (local -ℤ o) t × (s.offset ≡ t.offset) =
-    λ o a b. stretch (local -ℤ o) (omega (arith, ints, since, b)) (omega (arith, ints, before, a)) in
+    λ o a b. stretch (local -ℤ o) (omega (arith, ints)) (omega (arith, ints)) in
     let order : low ≤ℤ high = All-contains (λ x. low ≤ℤ x) (offsets z.types z.rule) high is_low.fewest is_high.among in
     let some = inside high order (omega (arith, ints)) in
     let least_here = at_least_least z (local -ℤ high) low some.0 is_low some.1 in
     let most_here = at_most_greatest z (local -ℤ high) high some.0 is_high some.1 in
-    let above : low ≤ℤ s.offset = omega (arith, ints, least_here, some.2) in
-    let below : s.offset ≤ℤ high = omega (arith, ints, most_here, some.2) in
-    let own = inside s.offset above below in let own_is = own.2 in
+    let own = inside s.offset (omega (arith, ints, least_here, some.2)) (omega (arith, ints, most_here, some.2)) in let own_is = own.2 in
     let shown : Shows (TypeAt z) local (local -ℤ s.offset) own.0 =
-    record { fits = omega (arith, ints, f, g, since, before, above, below); type = own.1; shown = omega (arith, ints, own_is) } in
+    record { fits = omega (arith, ints, least_here, most_here, some.2); type = own.1; shown = omega (arith, ints) } in
     let only : (u : ℤ) (b : LocalType) → Shows (TypeAt z) local u b → u ≡ local -ℤ s.offset = λ u b v.
     let there = inside b.offset (at_least_least z u low b is_low v.type) (at_most_greatest z u high b is_high v.type) in
-    let shows = v.shown in
-    let place : local -ℤ b.offset ≡ u = omega (arith, ints, shows) in
-    let same = ap (λ (t : LocalType). t.offset) (type_once z u b there.0 v.type (subst (λ w. TypeAt z w there.0) place there.1)) in
-    let is = there.2 in
-    omega (arith, ints, shows, same, is) in
+    let shows = v.shown in let is = there.2 in
+    let place : local -ℤ b.offset ≡ u = omega (arith, ints) in
+    let same = ap (λ (t : LocalType). t.offset) (type_once z u b there.0 v.type (subst (λ w. TypeAt z w there.0) place there.1)) in omega (arith, ints) in
     (own.0, record { second = local -ℤ s.offset; shown = shown; only = only }, own_is)
 
 -- such local times, by the counts of the bounds
@@ -105,42 +79,31 @@ pub local_times_kept : (z : Zone) (unit : Unit) (choice : Choice) (s : OffsetStr
     → (p +ℤ q) ≤ℤ from → f ≤ℤ from → until ≤ℤ (r +ℤ t) → until ≤ℤ e → LieWithin from until add k → IsKeptOf z unit (ToInstants choice) k
 local_times_kept z unit choice s low high p q r t f e from until add k stretch fits_from fits_until is_low is_high ep eq er et ef ee ea a b c d within =
     λ x since before.
-    let at = within.each x since before in let x_from = at.0 in let x_until = at.1 in
+    let at = within.each x since before in
     let local = floor_div x (per_second unit) in
-    let above = floor_low_sum unit x s.from high (omega (arith, ints, ep, eq, a, x_from)) in
-    let below = floor_high_sum unit x s.until low (omega (arith, ints, er, et, c, x_until)) in
+    let above = floor_low unit x (s.from +ℤ high) (grind (arith, ints)) in
+    let below = floor_high unit x (s.until +ℤ low) (grind (arith, ints)) in
     let found = once_shown z s low high local stretch fits_from fits_until is_low is_high above below in
-    let first = floor_low unit x first_second (omega (arith, ints, ef, b, x_from)) in
-    let end = floor_high unit x (pos 8_210_266_876_800) (omega (arith, ints, ee, d, x_until)) in
-    let counted = subst (λ (n : ℤ). IsCounted (x +ℤ n)) (sym within.same) at.3 in
-    let less = less_is_minus x (s.offset *ℤ pos (per_second unit)) in
-    let instant = ap (λ (n : ℤ). x +ℤ n) (within.same ∙ ea) ∙ (less ∙ ap (λ (o : ℤ). x -ℤ (o *ℤ pos (per_second unit))) found.2) in
-    let taken = IsInstantTaken.by_offset found.0 (taken_once z local choice found.0 found.1) instant in
+    let first = floor_low unit x first_second (grind (arith, ints)) in
+    let end = floor_high unit x (pos 8_210_266_876_800) (grind (arith, ints)) in
+    let counted : IsCounted (x +ℤ k.add) = rw within.same at.3 in
+    let less : (x +ℤ neg_ℤ (s.offset *ℤ pos (per_second unit))) ≡ x -ℤ (s.offset *ℤ pos (per_second unit)) = omega (arith, ints) in
+    let same = within.same in let offset = found.2 in
+    let taken = IsInstantTaken.by_offset found.0 (taken_once z local choice found.0 found.1) cc in
     (counted, at.2, record { in_range = (first, omega (arith, ints, end)); taken = taken; counted = counted })
 
 -- the instant by what is taken
 taken_gives : (z : Zone) (unit : Unit) (choice : Choice) (local : ℤ) (taken : Taken) → IsTakenAs z (second_holding unit local) choice taken → IsInstantTaken z unit choice local (taken_instant unit local taken)
-taken_gives z unit choice local (InForce offset) is = IsInstantTaken.by_offset is.0.0 is.0.1 (ap (λ (o : ℤ). local -ℤ (o *ℤ pos (per_second unit))) is.0.2)
-taken_gives z unit choice local (BeforeGap offset) is = IsInstantTaken.by_offset is.0 is.1 (ap (λ (o : ℤ). local -ℤ (o *ℤ pos (per_second unit))) is.2)
-taken_gives z unit choice local (GapEnd at offset) is = IsInstantTaken.by_gap_end at is.0 is.1 refl
+taken_gives z unit choice local (InForce offset) ((t, taken, is), there) = IsInstantTaken.by_offset t taken (rw is)
+taken_gives z unit choice local (BeforeGap offset) (t, taken, is) = IsInstantTaken.by_offset t taken (rw is)
+taken_gives z unit choice local (GapEnd at offset) (after, end, is) = IsInstantTaken.by_gap_end at after end refl
 
 -- it is the local time's, if it can be counted
 pub instant_told : (z : Zone) (unit : Unit) (choice : Choice) (local : ℤ) (taken : Taken) (r : Option ℤ) → IsInRange (second_holding unit local) → IsTakenAs z (second_holding unit local) choice taken
     → MatchOption r (¬ (IsCounted (taken_instant unit local taken))) (λ i. (i ≡ taken_instant unit local taken) × IsCounted i) → MatchOption r (IsNoInstant z unit choice local 23) (IsInstantOf z unit choice local)
 instant_told z unit choice local taken None in_range is none = IsNoInstant.uncounted (taken_instant unit local taken) in_range (taken_gives z unit choice local taken is) none
-instant_told z unit choice local taken (Some i) in_range is found = record {
-  in_range = in_range;
-  taken = subst (λ (x : ℤ). IsInstantTaken z unit choice local x) (sym found.0) (taken_gives z unit choice local taken is);
-  counted = found.1;
-}
-
-none_number : (z : Zone) (local : ℤ) (choice : Choice) (n : ℕ) → IsNoneTaken z local choice n → IsRowNumber n
-none_number z local choice n none = elim (none_is z local choice n none) [
-  | inl gap ↦ (omega (arith, gap), omega (arith, gap))
-  | inr fold ↦ (omega (arith, fold), omega (arith, fold))
-]
+instant_told z unit choice local taken (Some i) in_range is found =
+    record { in_range = in_range; taken = rw found.0 (taken_gives z unit choice local taken is); counted = found.1 }
 
 pub row_number : (z : Zone) (unit : Unit) (choice : Choice) (local : ℤ) (n : ℕ) → IsNoInstant z unit choice local n → IsRowNumber n
-row_number z unit choice local n (IsNoInstant.outside _) = (omega arith, omega arith)
-row_number z unit choice local n (IsNoInstant.refused k _ none) = none_number z (second_holding unit local) choice k none
-row_number z unit choice local n (IsNoInstant.uncounted _ _ _ _) = (omega arith, omega arith)
+row_number z unit choice local n none = grind (arith, none_is)

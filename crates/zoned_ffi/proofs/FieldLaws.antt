@@ -2,7 +2,7 @@
 use Rattle.gregorian.proofs.ForCallers.{day_of_year_is}
 use Rattle.gregorian.specs.{Date.{IsDate, day_number}, DateOf.{day_of_year, year_of}, Weekdays.{weekday_of}, Year.{floor_mod, year_start}}
 use Rattle.naive_base.specs.Clock.{clock_second}
-use Rattle.zoned_ffi.proofs.Words.{ap, arith, floor_div, floors, ints, pos, sym, ℕ, ℤ, ◌*ℤ◌, ◌+ℤ◌, ◌+◌, ◌<◌, ◌∙◌, ◌≡◌}
+use Rattle.zoned_ffi.proofs.Words.{ap, arith, floor_div, floors, ints, pos, ℕ, ℤ, ◌*ℤ◌, ◌+ℤ◌, ◌+◌, ◌<◌, ◌≡◌}
 use Rattle.zoned_ffi.specs.{Fields.{AreFieldsOf, day_of_fields, local_of_fields}, declared.fields.Fields.{Fields}}
 use Rattle.std.proofs.Common.{◌/◌, ◌%◌}
 
@@ -11,16 +11,10 @@ pub fields_are : (local : ℤ) (day : ℤ) (time : ℕ) (f : Fields) → day ≡
     → f.hour ≡ time / 3600 → f.minute ≡ time / 60 % 60 → f.second ≡ time % 60
     → f.weekday ≡ weekday_of day → f.day_of_year ≡ day_of_year day + 1 → AreFieldsOf local f
 fields_are local day time f day_is time_is date number year h m s w y =
-    let part : floor_mod local 86_400 < 86_400 = omega (arith, ints, floors) in let below : time < 86_400 = omega (arith, time_is, part) in
-    let clock : clock_second f.hour f.minute f.second ≡ time = omega (arith, h, m, s) in
-    let own = (day_of_year_is day).0 in
-    let start = ap year_start year in
-    record {
-      date_time = record { date = date; time = (omega (arith, h, below), omega (arith, m), omega (arith, s)) };
-      names = omega (arith, ints, floors, day_is, time_is, number, clock);
-      weekday = w ∙ ap weekday_of (sym number);
-      day_of_year = omega (arith, ints, own, start, number, y);
-    }
+    let part : floor_mod local 86_400 < 86_400 = omega (arith, ints, floors) in
+    let clock : clock_second f.hour f.minute f.second ≡ time = omega arith in
+    let own = (day_of_year_is day).0 in let start = ap year_start year in
+    record { date_time = record { date = date; time = grind arith }; names = omega (arith, ints, floors); weekday = cc; day_of_year = omega (arith, ints) }
 
 -- the sum of the seconds of the whole days and of those of the time of day
 pub local_is : (f : Fields) (day time sum : ℤ) → day ≡ day_of_fields f → time ≡ pos (clock_second f.hour f.minute f.second)

@@ -120,28 +120,22 @@ module _ {M : Type 1} {𝓤 : Ura M} (𝓛 : Logic 𝓤) where
         fpack ! (Testable p) (λ _. lent_at R p x κ) t $ now ! $ keep ! (0 ∷ 2 ∷ []) $ done !)))
 
 module _ {M : Type 1} {𝓤 : Ura M} {𝓛 : Logic 𝓤} {K : Type 0} {Γ : List (Item 𝓤)} {G : Goal 𝓤 𝓛.H} where
-  cases : K → Soaks G → (κ : Lft) (q : Share) (b o : ℕ) (p : Ptr) (a : ℕ) (k : Option R.Denot)
+  -- null and nothing lent, or a block in which a share is lent
+  pub null_or_lent : K → Soaks G → (κ : Lft) (q : Share) (b o : ℕ) (p : Ptr) (a : ℕ) (k : Option R.Denot)
       → (p ≡ null_ptr → k ≡ None → Seq K 𝓛 (‵ (hidden_shr Le κ (record { at = p; life = a; shared = k }) b o) ∷ ‵ (flft κ q) ∷ Γ) G)
       → ((pb po : ℕ) (x : R.Denot) → p ≡ block_ptr pb po → k ≡ Some x → Testable (block_ptr pb po)
       → Seq K 𝓛 (‵ (lent_at R (block_ptr pb po) x κ) ∷ ‵ (flft κ q) ∷ ‵ (hidden_shr Le κ (record { at = p; life = a; shared = k }) b o) ∷ Γ) G)
       → Seq K 𝓛 (‵ (hidden_shr Le κ (record { at = p; life = a; shared = k }) b o) ∷ ‵ (flft κ q) ∷ Γ) G
-  cases t z κ q b o p a None at_null at_block =
+  null_or_lent t z κ q b o p a None at_null at_block =
       let d : Le.Denot = record { at = p; life = a; shared = None } in
       looks t z Le (opened 𝓛) d b o (λ q' vs. move t (1 ∷ []) $ lent_out t d vs (λ e. fpick t (λ n. fpack t (p ≡ null_ptr) (λ _. ftrue) n $ lent_in t d $
       rewrite t 1 (λ (us : List Val). ‵ (cell_at q' Le.mir us b o)) e refl $ move t (1 ∷ 0 ∷ 2 ∷ []) $ shuts t z Le q' d (word p ∷ []) b o $ move t (1 ∷ 0 ∷ []) $ at_null n refl)))
-  cases t z κ q b o p a (Some x) at_null at_block =
+  null_or_lent t z κ q b o p a (Some x) at_null at_block =
       let d : Le.Denot = record { at = p; life = a; shared = Some x } in
       twice_dup t (shared_of Le d b o) (opened 𝓛 d b o).1 κ $ unhide t $ move t (0 ∷ 2 ∷ []) $
       use2 𝓛 (later (‵ (fex (Testable p) (λ _. lent_at R p x κ)) ⊛ ‵ (flft κ q))) (lends 𝓛 p a x b o κ q) $ await t z $ split t $ fpick t (λ may.
       in_a_block t p (λ r. lent_at R r x κ) (fst∗ 𝓤 (never 𝓤) (sem 𝓛 (shared_of R x 0 0 κ))) (λ pb po e.
       at_block pb po x e refl (subst Testable e may)))
-
-  pub null_or_lent : K → Soaks G → (κ : Lft) (q : Share) (b o : ℕ) (d : Le.Denot)
-      → (d.at ≡ null_ptr → d.shared ≡ None → Seq K 𝓛 (‵ (hidden_shr Le κ d b o) ∷ ‵ (flft κ q) ∷ Γ) G)
-      → ((pb po : ℕ) (x : R.Denot) → d.at ≡ block_ptr pb po → d.shared ≡ Some x → Testable (block_ptr pb po)
-      → Seq K 𝓛 (‵ (lent_at R (block_ptr pb po) x κ) ∷ ‵ (flft κ q) ∷ ‵ (hidden_shr Le κ d b o) ∷ Γ) G)
-      → Seq K 𝓛 (‵ (hidden_shr Le κ d b o) ∷ ‵ (flft κ q) ∷ Γ) G
-  null_or_lent t z κ q b o d at_null at_block = cases t z κ q b o d.at d.life d.shared at_null at_block
 
   -- the pointer in the handle is read
   pub reads : K → Soaks G → (κ : Lft) (q : Share) (b o : ℕ) (d : Le.Denot)

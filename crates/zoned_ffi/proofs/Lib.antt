@@ -11,3 +11,4 @@ pub mod Resolving
 pub mod Telling
 pub mod Sayings
 pub mod OneNumber
+pub mod Casts

@@ -1,7 +1,7 @@
 -- What comes of reading, as a call tells it.
-use Rattle.zoned_ffi.proofs.Words.{Bool, Err, Error, IfErr, IsErrorOfKind, IsExtendedFault, IsFalse, IsFault, IsFileError, IsOutOfMemory, IsPosixFault}
-use Rattle.zoned_ffi.proofs.Words.{IsPosixZone, IsReaderNumber, IsStringError, IsTrue, IsUtf8, IsZoneFault, IsZoneOf, Kind, List, Ok, Refusal, Result}
-use Rattle.zoned_ffi.proofs.Words.{SpellsZone, Zone, arith, error_number, inl, inr, refl, refusal_number, subst, sym, true, ℕ, ◌↔◌, ◌≡◌, ◌≢◌, ◌⊎◌}
+use Rattle.zoned_ffi.proofs.Words.{Bool, Error, IfErr, IsErrorOfKind, IsExtendedFault, IsFalse, IsFault, IsFileError, IsOutOfMemory, IsPosixFault}
+use Rattle.zoned_ffi.proofs.Words.{IsPosixZone, IsReaderNumber, IsStringError, IsTrue, IsUtf8, IsZoneFault, IsZoneOf, Kind, List, Refusal, Result}
+use Rattle.zoned_ffi.proofs.Words.{SpellsZone, Zone, arith, error_number, inl, inr, refusal_number, true, ℕ, ◌↔◌, ◌≡◌, ◌≢◌, ◌⊎◌}
 use Rattle.zoned_ffi.specs.{Kinds.{kind_number}, Refusals.IsErrorOfKind.{Other_size, Unknown_kind}, Refusals.IsFileError.{In_file}}
 use Rattle.zoned_ffi.specs.Refusals.IsStringError.{Not_utf8}
 use Rattle.tz_info.specs.{PosixZones.{IsExtendedZone}, TzGrammar.{IsTextFault}}
@@ -10,24 +10,20 @@ use Rattle.zoned_ffi.specs.declared.kind.Kind.TheVariants as kinds
 
 -- the number of a text's error is that of its fault
 pub text_refused : (bytes : List ℕ) (e : Error) → IsUtf8 bytes → IsOutOfMemory e ⊎ IsPosixFault bytes e → (IsOutOfMemory e → (z : Zone) × IsPosixZone bytes z) → IsStringError bytes (error_number e)
-text_refused bytes e utf8 fault memory = elim fault [
-  | inl is ↦ let zone = memory is in subst (IsStringError bytes) (sym is) (IsStringError.No_memory zone.0 utf8 zone.1)
-  | inr there ↦ IsStringError.In_text e utf8 there
-]
+text_refused bytes e utf8 (inl is) memory = let zone = memory is in rw is (IsStringError.No_memory zone.0 utf8 zone.1)
+text_refused bytes e utf8 (inr there) memory = IsStringError.In_text e utf8 there
 
 -- and so is that of a TZ string with extensions
 pub extended_refused : (bytes : List ℕ) (e : Error) → IsOutOfMemory e ⊎ IsTextFault true bytes e → (IsOutOfMemory e → (z : Zone) × IsExtendedZone bytes z) → IsExtendedFault bytes (error_number e)
-extended_refused bytes e fault memory = elim fault [
-  | inl is ↦ let zone = memory is in subst (IsExtendedFault bytes) (sym is) (IsExtendedFault.No_memory zone.0 zone.1)
-  | inr there ↦ IsExtendedFault.In_string e there
-]
+extended_refused bytes e (inl is) memory = let zone = memory is in rw is (IsExtendedFault.No_memory zone.0 zone.1)
+extended_refused bytes e (inr there) memory = IsExtendedFault.In_string e there
 
 pub reader_number : (e : Error) → IsReaderNumber (error_number e)
 reader_number e = grind arith
 
 -- answers that don't fit are wanted in another count than there is room for
 pub not_fitting : (fits : Bool) (wanted room : ℕ) → IsFalse fits → IsTrue fits ↔ wanted ≡ room → wanted ≢ room
-not_fitting fits wanted room is same equal = absurd (grind (arith, is, same.1 equal))
+not_fitting fits wanted room is same equal = grind arith
 
 -- where there is no memory for a zone that is spelled, that is the fault
 no_memory : (kind : Kind) (bytes : List ℕ) (z : Zone) → SpellsZone kind bytes z → IsFault kind bytes 17
@@ -36,13 +32,11 @@ no_memory kinds.Text bytes z spells = IsStringError.No_memory z spells.0 spells.
 no_memory kinds.ExtendedText bytes z spells = IsExtendedFault.No_memory z spells
 
 pub no_memory_refused : (number : ℕ) (bytes : List ℕ) (z : Zone) → IsZoneOf number bytes z → IsErrorOfKind number bytes 0 0 17
-no_memory_refused number bytes z of_kind =
-    IsErrorOfKind.Not_read of_kind.0 17 of_kind.1 refl (no_memory of_kind.0 bytes z of_kind.2) (omega arith, omega arith)
+no_memory_refused number bytes z of_kind = grind (arith, IsErrorOfKind.Not_read, no_memory)
 
 -- bytes that are refused are why the call is
 pub not_read : (number : ℕ) (bytes : List ℕ) (fits : Bool) (kind : Kind) (read : Result Zone Refusal) → number ≡ kind_number kind → IsTrue fits → IfErr read (λ e. IsFault kind bytes (refusal_number e)) → IfErr read (λ e. IsReaderNumber (refusal_number e)) → IfErr read (λ e. (wanted room : ℕ) → IsTrue fits ↔ wanted ≡ room → IsErrorOfKind number bytes wanted room (refusal_number e))
-not_read number bytes fits kind (Ok z) is fit fault reader = tt
-not_read number bytes fits kind (Err e) is fit fault reader = λ wanted room same. IsErrorOfKind.Not_read kind (refusal_number e) is (same.0 fit) fault reader
+not_read number bytes fits kind read is fit fault reader = grind (arith, IsErrorOfKind.Not_read)
 
 -- why bytes are rejected
 pub ruleset rejections = (In_file, Not_utf8, Other_size, Unknown_kind, not_fitting, not_read, reader_number)

@@ -1,12 +1,12 @@
 -- What a choice takes, told by instants.
-use Rattle.offset_core.specs.{ResolveNumbers.{resolve_error_number}, declared.around.Around.{Around}, declared.around.Taken.{Taken as Found}}
+use Rattle.offset_core.specs.{declared.around.Around.{Around}, declared.around.Taken.{Taken as Found}}
 use Rattle.offset_core.specs.{declared.around.Around.TheVariants.{Single}, declared.resolve_error.ResolveError.{ResolveError}}
 use Rattle.tz_base.specs.declared.change.Change.{Change}
 use Rattle.tz_info.specs.Around.{AreTypesAround}
 use Rattle.zoned_ffi.proofs.Words.{Choice, IsFirstAtOrAfter, IsTakenGapEnd, IsNoneTaken, IsInRange, IsWrittenOffsetAt, IsReachedAt, IsResolvedAt, IsShownOnce}
-use Rattle.zoned_ffi.proofs.Words.{arith, IsResolvedStamp, IsTakenType, IsTakenAs, IsUtOffset, LocalType, Resolved, Shows, TypeAt, Zone, ap, inl, inr, subst}
-use Rattle.zoned_ffi.proofs.Words.{sym, ℤ}
-use Rattle.zoned_ffi.proofs.Words.{+ℤ-neg_ℤ_cancel, ◌-ℤ◌, ◌∙◌, Err, Result, TakesOf, policy_of, refl, taken_in_range, taken_of, ℕ, ◌≡◌, ◌⊎◌}
+use Rattle.zoned_ffi.proofs.Words.{arith, IsResolvedStamp, IsTakenType, IsTakenAs, IsUtOffset, LocalType, Resolved, Shows, TypeAt, Zone, inl, inr}
+use Rattle.zoned_ffi.proofs.Words.{ℤ}
+use Rattle.zoned_ffi.proofs.Words.{+ℤ-neg_ℤ_cancel, ◌-ℤ◌, Err, Result, TakesOf, policy_of, refl, taken_in_range, taken_of, ℕ, ◌≡◌, ◌⊎◌}
 use Rattle.zoned_ffi.specs.declared.resolved.Taken.TheVariants.{InForce}
 use Rattle.offset_core.specs.declared.choice.Choice as any_choice
 use Rattle.offset_core.specs.declared.choice.FoldChoice.TheVariants as folds
@@ -16,48 +16,34 @@ use Rattle.offset_core.specs.declared.resolve_error.ResolveError.TheVariants as 
 -- the instant by the offset that is taken, and the offset in force there
 pub resolved_by : (z : Zone) (choice : Choice) (local : ℤ) (t : LocalType) (offset : ℤ) (w : Resolved) → IsInRange local → IsTakenType z local choice t
     → IsWrittenOffsetAt z (local -ℤ t.offset) offset → IsResolvedStamp (local -ℤ t.offset) offset w → IsResolvedAt z choice local w
-resolved_by z choice local t offset w in_range taken there stamp = elim stamp [
-  | inl found ↦ IsResolvedAt.found t offset in_range taken found.0 there found.1
-  | inr outside ↦ IsResolvedAt.taken_outside t in_range taken outside.0 outside.1
-]
+resolved_by z choice local t offset w in_range taken there (inl (inside, is)) = IsResolvedAt.found t offset in_range taken inside there is
+resolved_by z choice local t offset w in_range taken there (inr (outside, is)) = IsResolvedAt.taken_outside t in_range taken outside is
 
 -- the gap's end
 pub ended_by : (z : Zone) (choice : Choice) (local at : ℤ) (after : LocalType) (w : Resolved) → IsInRange local → IsTakenGapEnd z local choice at after → IsResolvedStamp at after.offset w → IsResolvedAt z choice local w
-ended_by z choice local at after w in_range end stamp = elim stamp [
-  | inl found ↦ IsResolvedAt.ended at after in_range end found.0 found.1
-  | inr outside ↦ IsResolvedAt.ended_outside at after in_range end outside.0 outside.1
-]
+ended_by z choice local at after w in_range end (inl (inside, is)) = IsResolvedAt.ended at after in_range end inside is
+ended_by z choice local at after w in_range end (inr (outside, is)) = IsResolvedAt.ended_outside at after in_range end outside is
 
 pub reached_by : (z : Zone) (local u : ℤ) (t : LocalType) (w : Resolved) → IsInRange local → IsFirstAtOrAfter (TypeAt z) local u t → IsResolvedStamp u t.offset w → IsReachedAt z local w
-reached_by z local u t w in_range first stamp = elim stamp [
-  | inl found ↦ IsReachedAt.reached u t in_range first found.0 found.1
-  | inr outside ↦ IsReachedAt.reached_outside u t in_range first outside.0 outside.1
-]
+reached_by z local u t w in_range first (inl (inside, is)) = IsReachedAt.reached u t in_range first inside is
+reached_by z local u t w in_range first (inr (outside, is)) = IsReachedAt.reached_outside u t in_range first outside is
 
 -- a type that shows the local time is in force at that time less its offset
 pub in_force : (z : Zone) (local u : ℤ) (choice : Choice) (t : LocalType) (offset : ℤ) → Shows (TypeAt z) local u t → IsTakenType z local choice t
     → offset ≡ t.offset → IsUtOffset t.offset → IsTakenAs z local choice (InForce offset)
-in_force z local u choice t offset shows taken same bound =
-    let second : u ≡ local -ℤ t.offset = sym (+ℤ-neg_ℤ_cancel u t.offset) ∙ ap (λ v. v -ℤ t.offset) shows.shown in
-    let there = subst (λ v. TypeAt z (local -ℤ v) t) (sym same) (subst (λ v. TypeAt z v t) second shows.type) in
-    ((t, taken, same), inl (t, there, same, subst IsUtOffset (sym same) bound))
+in_force z local u choice t offset shows taken same bound = grind (arith, +ℤ-neg_ℤ_cancel u t.offset)
 
 -- what is taken of the answer around the local time
 pub taken_as : (z : Zone) (local : ℤ) (choice : Choice) (a : Around LocalType Change) (p : any_choice.Choice) (r o : Result (Found LocalType Change) ResolveError)
     → AreTypesAround (TypeAt z) local a → p ≡ policy_of choice → r ≡ taken_of p a → r ≡ o → TakesOf z local choice o
-taken_as z local choice a p r o right policy found is = record { around = a; right = right; taken = ap (λ q. taken_of q a) (sym policy) ∙ sym found ∙ is }
+taken_as z local choice a p r o right policy found is = grind arith
 
 -- a local time that one second shows is taken by every choice
 pub taken_once : (z : Zone) (local : ℤ) (choice : Choice) (t : LocalType) → IsShownOnce (Shows (TypeAt z) local) t → IsTakenType z local choice t
 taken_once z local choice t once = IsTakenType.shown (record { around = Single t; right = once; taken = refl })
 
--- why nothing is taken, in numbers
-number_is : (choice : any_choice.Choice) (a : Around LocalType Change) (e : ResolveError) → taken_of choice a ≡ Err e
-    → (resolve_error_number e ≡ 21) ⊎ (resolve_error_number e ≡ 22)
-number_is choice a e refused = grind (arith, taken_in_range choice a)
-
 pub none_is : (z : Zone) (local : ℤ) (choice : Choice) (n : ℕ) → IsNoneTaken z local choice n → (n ≡ 21) ⊎ (n ≡ 22)
-none_is z local choice n (e, takes, is) = rw is (number_is (policy_of choice) takes.around e takes.taken)
+none_is z local choice n (e, takes, is) = grind (arith, taken_in_range (policy_of choice) takes.around)
 
 pub gap_is : (a : Around LocalType Change) (e : ResolveError) → taken_of (record { gap = gaps.Refuse; fold = folds.Latest }) a ≡ Err e → e ≡ reasons.Gap
 gap_is a e h = grind arith

@@ -53,7 +53,7 @@ pub use Rattle.zoned_ffi.specs.{Units.{IsOffsetStretch, IsWithout, no_time, no_t
 pub use Rattle.zoned_ffi.specs.{WallClocks.{IsWallClockAt, ShowsAt}, WrittenChanges.{AreFirstWritten, AreWrittenChanges, written_change, written_into}}
 pub use Rattle.zoned_ffi.specs.{WrittenTypes.{AreWrittenTypesAt, IsWrittenTypeAt}, declared.{changes.WrittenChange.{WrittenChange}, choice.Choice.{Choice}}}
 pub use Rattle.zoned_ffi.specs.declared.{column.{Question.{Question}, Way.{Way}, kept.Kept.{Kept}}, kind.Kind.{Kind}, refusal.Refusal.{Refusal}}
-pub use Rattle.zoned_ffi.specs.declared.{resolved.{Resolved.{Resolved}, Taken.{Taken}}, unit.Unit.{Unit}, wall_clock.WallClock.{WallClock}}
+pub use Rattle.zoned_ffi.specs.declared.{resolved.{Resolved.{Resolved}, Taken.{Taken}}, unit.Unit.{Unit}, local_result.WrittenLocalResult.{WrittenLocalResult}}
 
 -- signed numbers that are passed on
 pub ruleset casts = (ints, to_z-of_z)

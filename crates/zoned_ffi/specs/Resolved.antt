@@ -20,11 +20,11 @@ use Rattle.tz_info.specs.WallClocks.{Shows}
 use Rattle.tz_info.specs.Zones.{Zone, TypeAt}
 use Rattle.zoned_ffi.specs.Instants.{IsWrittenOffsetAt}
 use Rattle.zoned_ffi.specs.declared.choice.Choice.{Choice}
-use Rattle.zoned_ffi.specs.declared.choice.GapChoice.{GapChoice}
-use Rattle.zoned_ffi.specs.declared.choice.GapChoice.TheVariants as gaps
+use Rattle.zoned_ffi.specs.declared.choice.ChoiceInGap.{ChoiceInGap}
+use Rattle.zoned_ffi.specs.declared.choice.ChoiceInGap.TheVariants as gaps
 use Rattle.zoned_ffi.specs.declared.resolved.Resolved.{Resolved}
 
-abbrev pub gap_number : GapChoice → ℕ
+abbrev pub gap_number : ChoiceInGap → ℕ
 gap_number gaps.Refuse = 0
 gap_number gaps.ShiftForward = 1
 gap_number gaps.End = 2
@@ -43,7 +43,7 @@ abbrev pub IsChoice : ℕ → ℕ → Type 0
 IsChoice gap fold = (choice : Choice) × IsChoiceOf gap fold choice
 
 -- the choice between taking and refusing: the end of a gap is one way to take an instant in it
-abbrev pub gap_policy : GapChoice → any_gap.GapChoice
+abbrev pub gap_policy : ChoiceInGap → any_gap.GapChoice
 gap_policy gaps.Refuse = any_gaps.Refuse
 gap_policy gaps.ShiftForward = any_gaps.ShiftForward
 gap_policy gaps.End = any_gaps.ShiftForward

@@ -8,14 +8,14 @@ use Rattle.offset_core.specs.declared.local_result.LocalResult.TheVariants.{None
 use Rattle.tz_base.specs.LocalTypes.{LocalType}
 use Rattle.tz_info.specs.WallClocks.{Shows}
 use Rattle.tz_info.specs.Zones.{Zone, TypeAt}
-use Rattle.zoned_ffi.specs.declared.wall_clock.WallClock.{WallClock}
+use Rattle.zoned_ffi.specs.declared.local_result.WrittenLocalResult.{WrittenLocalResult}
 
 -- a clock of the zone shows the local time at the second u; of such a second we tell the second and the offset in force
 abbrev pub ShowsAt : Zone → ℤ → ℤ → ℤ × ℤ → Type 0
 ShowsAt z local u told = (told.0 ≡ u) × ((t : LocalType) × Shows (TypeAt z) local u t × (told.1 ≡ t.offset))
 
 -- how a wall clock's answer is written
-abbrev pub written : LocalResult (ℤ × ℤ) → WallClock
+abbrev pub written : LocalResult (ℤ × ℤ) → WrittenLocalResult
 written None = record { shown = pos 0; first_offset = pos 0; last_offset = pos 0; first = pos 0; last = pos 0 }
 written (Single told) =
     record { shown = pos 1; first_offset = told.1; last_offset = told.1; first = told.0; last = told.0 }
@@ -23,23 +23,23 @@ written (Ambiguous first last) =
     record { shown = pos 2; first_offset = first.1; last_offset = last.1; first = first.0; last = last.0 }
 
 -- what is written of a local time outside the calendar's range
-abbrev pub out_of_range : WallClock
+abbrev pub out_of_range : WrittenLocalResult
 out_of_range = record { shown = pos 3; first_offset = pos 0; last_offset = pos 0; first = pos 0; last = pos 0 }
 
 -- what is written of a local time
-abbrev pub IsWallClockAt : Zone → ℤ → WallClock → Type 0
+abbrev pub IsWallClockAt : Zone → ℤ → WrittenLocalResult → Type 0
 IsWallClockAt z local w =
     (IsInRange local × ((answer : LocalResult (ℤ × ℤ)) × IsWallAnswer (ShowsAt z local) answer × (w ≡ written answer)))
     ⊎ (¬ (IsInRange local) × (w ≡ out_of_range))
 
 -- one for each local time, in their order
-abbrev pub AreWallClocks : Zone → List ℤ → List WallClock → Type 0
+abbrev pub AreWallClocks : Zone → List ℤ → List WrittenLocalResult → Type 0
 AreWallClocks z locals clocks = AllZip (IsWallClockAt z) locals clocks
 
 -- the three numbers from the place k on are the first three of what is written of the local time
 abbrev pub IsTripleAt : Zone → ℤ → List ℤ → ℕ → Type 0
 IsTripleAt z local numbers k =
-    (w : WallClock) × IsWallClockAt z local w × (slice_index_or numbers k (pos 0) ≡ w.shown)
+    (w : WrittenLocalResult) × IsWallClockAt z local w × (slice_index_or numbers k (pos 0) ≡ w.shown)
     × (slice_index_or numbers (k + 1) (pos 0) ≡ w.first_offset) × (slice_index_or numbers (k + 2) (pos 0) ≡ w.last_offset)
 
 -- three numbers for each local time, in their order

@@ -1,5 +1,6 @@
 //! Questions to a zone that C keeps: about instants, changes of its clocks and wall clocks; `locals` has
 //! those that take an instant for a local time.
+#![tactic(auto, using(crate::proofs::Casts::passed_on))]
 
 ghost use Rattle.std.specs.Prelude.{◌≡◌, ◌≢◌, ◌*◌, ◌⊎◌, ◌≤ℤ◌, ◌<ℤ◌, pos, length};
 ghost use Rattle.tz_info.specs.Changes.{HasNoChange};
@@ -19,18 +20,18 @@ ghost use Rattle.zoned_ffi.specs.WrittenTypes.{AreWrittenTypesAt, IsWrittenTypeA
 
 pub mod locals;
 
-use crate::changes::{
-    WrittenChange, answer_next, answer_previous, write_changes, write_first_changes,
-};
+use crate::changes::{WrittenChange, write_changes, write_first_changes};
 use crate::column::answer_locals;
 use crate::fields::{Fields, answer_fields};
-use crate::instants::{answer_instants, offset_at};
+use crate::instants::{offset_at, write_offsets};
 use crate::lent::Lent;
-use crate::local_type::{WrittenType, answer_types};
-use crate::refusal::{NOT_OPEN, UNKNOWN_UNIT};
-use crate::span::{WrittenSpan, answer_span};
+use crate::local_result::{
+    WrittenLocalResult, has_room_for_triples, write_local_results, write_triples,
+};
+use crate::local_type::{WrittenType, write_types};
+use crate::refusal::{NO_CHANGE, NO_LOCAL_TIME, NOT_OPEN, OTHER_SIZE, UNKNOWN_UNIT};
+use crate::span::WrittenSpan;
 use crate::unit::Unit;
-use crate::wall_clock::{WallClock, answer_triples, answer_wall_clocks};
 
 /// Writes the offset in force at the instant, as [`crate::zoned_at`] does.
 #[unsafe(no_mangle)]
@@ -60,7 +61,11 @@ pub extern "C" fn zoned_zone_at(zone: &Lent, instants: &[i64], offsets: &mut [i3
     let Some(share) = zone.share() else {
         return NOT_OPEN;
     };
-    answer_instants(share, instants, offsets)
+    if instants.len() != offsets.len() {
+        return OTHER_SIZE;
+    }
+    write_offsets(share, instants, offsets);
+    0
 }
 
 /// Writes the local time type in force at the instant.
@@ -91,7 +96,11 @@ pub extern "C" fn zoned_zone_types(zone: &Lent, instants: &[i64], types: &mut [W
     let Some(share) = zone.share() else {
         return NOT_OPEN;
     };
-    answer_types(share, instants, types)
+    if instants.len() != types.len() {
+        return OTHER_SIZE;
+    }
+    write_types(share, instants, types);
+    0
 }
 
 /// Writes the span of the instant.
@@ -108,7 +117,13 @@ pub extern "C" fn zoned_zone_span(zone: &Lent, instant: i64, span: &mut WrittenS
     let Some(share) = zone.share() else {
         return NOT_OPEN;
     };
-    answer_span(share, instant, span)
+    match share.held_span_at(instant) {
+        Ok(found) => {
+            *span = WrittenSpan::of(found);
+            0
+        }
+        Err(_) => NO_LOCAL_TIME,
+    }
 }
 
 /// Writes the fields of the local time that clocks show at the instant.
@@ -130,7 +145,11 @@ pub extern "C" fn zoned_zone_fields(zone: &Lent, instant: i64, fields: &mut Fiel
 
 /// Writes when the zone's clocks show the local time.
 #[unsafe(no_mangle)]
-pub extern "C" fn zoned_zone_wall_clock(zone: &Lent, local: i64, clock: &mut WallClock) -> u32
+pub extern "C" fn zoned_zone_wall_clock(
+    zone: &Lent,
+    local: i64,
+    clock: &mut WrittenLocalResult,
+) -> u32
     // 0: the answer is the zone's.
     ensures answered { result ≡ 0 → (z : Zone) × IsLent zone.now z × IsWallClockAt z local clock.new }
     // 33: no zone is open, and nothing is written.
@@ -139,7 +158,7 @@ pub extern "C" fn zoned_zone_wall_clock(zone: &Lent, local: i64, clock: &mut Wal
     let Some(share) = zone.share() else {
         return NOT_OPEN;
     };
-    *clock = WallClock::at(share, local);
+    *clock = WrittenLocalResult::at(share, local);
     0
 }
 
@@ -148,7 +167,7 @@ pub extern "C" fn zoned_zone_wall_clock(zone: &Lent, local: i64, clock: &mut Wal
 pub extern "C" fn zoned_zone_wall_instants(
     zone: &Lent,
     locals: &[i64],
-    clocks: &mut [WallClock],
+    clocks: &mut [WrittenLocalResult],
 ) -> u32
     // 0: each answer is the zone's.
     ensures answered { result ≡ 0
@@ -160,7 +179,11 @@ pub extern "C" fn zoned_zone_wall_instants(
     let Some(share) = zone.share() else {
         return NOT_OPEN;
     };
-    answer_wall_clocks(share, locals, clocks)
+    if locals.len() != clocks.len() {
+        return OTHER_SIZE;
+    }
+    write_local_results(share, locals, clocks);
+    0
 }
 
 /// Writes three numbers for each local time, as [`crate::zoned_wall`] does.
@@ -176,7 +199,11 @@ pub extern "C" fn zoned_zone_wall(zone: &Lent, locals: &[i64], answers: &mut [i3
     let Some(share) = zone.share() else {
         return NOT_OPEN;
     };
-    answer_triples(share, locals, answers)
+    if !has_room_for_triples(locals, answers) {
+        return OTHER_SIZE;
+    }
+    write_triples(share, locals, answers);
+    0
 }
 
 /// Writes the first change of the zone's clocks after that second.
@@ -193,7 +220,13 @@ pub extern "C" fn zoned_zone_next_change(zone: &Lent, after: i64, change: &mut W
     let Some(share) = zone.share() else {
         return NOT_OPEN;
     };
-    answer_next(share, after, change)
+    match share.next_change(after) {
+        Some(found) => {
+            *change = WrittenChange::of(&found);
+            0
+        }
+        None => NO_CHANGE,
+    }
 }
 
 /// Writes the last change of the zone's clocks at that second or before it.
@@ -215,7 +248,13 @@ pub extern "C" fn zoned_zone_previous_change(
     let Some(share) = zone.share() else {
         return NOT_OPEN;
     };
-    answer_previous(share, before_or_at, change)
+    match share.previous_change(before_or_at) {
+        Some(found) => {
+            *change = WrittenChange::of(&found);
+            0
+        }
+        None => NO_CHANGE,
+    }
 }
 
 /// Writes the changes of the zone's clocks from the second `from` on and before `until`, as many as

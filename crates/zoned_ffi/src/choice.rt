@@ -1,15 +1,13 @@
 //! Choices for local times in gaps and folds, as C numbers them.
 
-ghost use Rattle.std.specs.Prelude.{◌≡◌, ◌≢◌, MatchOption};
-ghost use Rattle.offset_core.specs.declared.choice.FoldChoice.{FoldChoice as AnyFold};
-ghost use Rattle.zoned_ffi.specs.Resolved.{IsChoice, IsChoiceOf, fold_number, gap_number, policy_of};
-ghost use Rattle.zoned_ffi.specs.declared.choice.GapChoice.{GapChoice as AnyGap};
+ghost use Rattle.std.specs.Prelude.{◌≡◌, MatchOption};
+ghost use Rattle.zoned_ffi.specs.Resolved.{IsChoice, IsChoiceOf, policy_of};
 
-use offset_core::{Choice as Policy, FoldChoice, GapChoice as GapPolicy};
+use offset_core::{Choice as Policy, FoldChoice, GapChoice};
 
 /// What to take of a local time in a gap.
 #[derive(Clone, Copy)]
-pub enum GapChoice {
+pub enum ChoiceInGap {
     /// Nothing.
     Refuse,
     /// The instant at which a clock that was not set forward shows it.
@@ -22,7 +20,7 @@ pub enum GapChoice {
 #[derive(Clone, Copy)]
 pub struct Choice {
     /// In gaps.
-    pub gap: GapChoice,
+    pub gap: ChoiceInGap,
     /// In folds.
     pub fold: FoldChoice,
 }
@@ -34,9 +32,9 @@ impl Choice {
         ensures { result ≡ policy_of self.now }
     {
         let gap = match self.gap {
-            GapChoice::Refuse => GapPolicy::Refuse,
-            GapChoice::ShiftForward => GapPolicy::ShiftForward,
-            GapChoice::End => GapPolicy::ShiftForward,
+            ChoiceInGap::Refuse => GapChoice::Refuse,
+            ChoiceInGap::ShiftForward => GapChoice::ShiftForward,
+            ChoiceInGap::End => GapChoice::ShiftForward,
         };
         Policy {
             gap,
@@ -50,32 +48,17 @@ impl Choice {
 pub fn choice_of(gap: u32, fold: u32) -> Option<Choice>
     ensures { MatchOption result (¬ (IsChoice gap fold)) (λ choice. IsChoiceOf gap fold choice) }
 {
-    Some(Choice {
-        gap: gap_choice_of(gap)?,
-        fold: fold_choice_of(fold)?,
-    })
-}
-
-fn gap_choice_of(number: u32) -> Option<GapChoice>
-    ensures { MatchOption result ((choice : AnyGap) → number ≢ gap_number choice)
-        (λ choice. number ≡ gap_number choice) }
-{
-    match number {
-        0 => Some(GapChoice::Refuse),
-        1 => Some(GapChoice::ShiftForward),
-        2 => Some(GapChoice::End),
-        _ => None,
-    }
-}
-
-fn fold_choice_of(number: u32) -> Option<FoldChoice>
-    ensures { MatchOption result ((choice : AnyFold) → number ≢ fold_number choice)
-        (λ choice. number ≡ fold_number choice) }
-{
-    match number {
-        0 => Some(FoldChoice::Refuse),
-        1 => Some(FoldChoice::Earliest),
-        2 => Some(FoldChoice::Latest),
-        _ => None,
-    }
+    let gap = match gap {
+        0 => ChoiceInGap::Refuse,
+        1 => ChoiceInGap::ShiftForward,
+        2 => ChoiceInGap::End,
+        _ => return None,
+    };
+    let fold = match fold {
+        0 => FoldChoice::Refuse,
+        1 => FoldChoice::Earliest,
+        2 => FoldChoice::Latest,
+        _ => return None,
+    };
+    Some(Choice { gap, fold })
 }

@@ -1,9 +1,8 @@
 //! The offsets at instants.
 
-ghost use Rattle.std.specs.Prelude.{◌≡◌, ◌≢◌, length};
+ghost use Rattle.std.specs.Prelude.{◌≡◌, length};
 ghost use Rattle.zoned_ffi.specs.Instants.{AreOffsetsAt, IsWrittenOffsetAt};
 
-use crate::refusal::OTHER_SIZE;
 use tz_info::TimeZone;
 
 /// What is written of an instant at which the zone has no offset. It is no offset of a zone.
@@ -17,19 +16,6 @@ pub fn write_offsets(zone: &TimeZone, instants: &[i64], offsets: &mut [i32])
     for (i, instant) in instants.iter().enumerate() {
         offsets[i] = offset_at(zone, *instant);
     }
-}
-
-/// Writes the offset at each instant, where there is room for as many: 0, or why not.
-pub fn answer_instants(zone: &TimeZone, instants: &[i64], offsets: &mut [i32]) -> u32
-    ensures answered { result ≡ 0 → AreOffsetsAt zone.now instants.now offsets.new }
-    ensures refused { result ≢ 0 → (result ≡ 32)
-        × (length instants.now ≢ length offsets.old) × (offsets.new ≡ offsets.old) }
-{
-    if instants.len() != offsets.len() {
-        return OTHER_SIZE;
-    }
-    write_offsets(zone, instants, offsets);
-    0
 }
 
 /// The offset in force at the instant, in seconds east of UTC.

@@ -45,7 +45,7 @@ impl Kind {
         ensures number { IfErr result (λ e. IsReaderNumber (refusal_number e)) }
     {
         match self {
-            Kind::File => read_file(alloc, bytes),
+            Kind::File => TimeZone::from_tz_data(alloc, bytes).map_err(Refusal::Reader),
             Kind::Text => read_text(alloc, bytes),
             Kind::ExtendedText => read_extended(alloc, bytes),
         }
@@ -57,20 +57,6 @@ pub fn is_file(number: u32) -> bool
     ensures { IsTrue result ↔ (number ≡ kind_number File) }
 {
     number == 0
-}
-
-// The zone of a TZif file.
-fn read_file(alloc: Global, bytes: &[u8]) -> Result<TimeZone, Refusal>
-    ensures found { IfOk result (λ z. SpellsZone File bytes.now z) }
-    ensures only { (z : Zone) → SpellsZone File bytes.now z
-        → MatchResult result (λ y. y ≡ z) (λ e. refusal_number e ≡ 17) }
-    ensures fault { IfErr result (λ e. IsFault File bytes.now (refusal_number e)) }
-    ensures number { IfErr result (λ e. IsReaderNumber (refusal_number e)) }
-{
-    match TimeZone::from_tz_data(alloc, bytes) {
-        Ok(zone) => Ok(zone),
-        Err(error) => Err(Refusal::Reader(error)),
-    }
 }
 
 // The zone of a TZ string.

@@ -22,6 +22,7 @@ mod instants;
 mod kind;
 pub mod laws;
 mod lent;
+mod local_result;
 mod local_type;
 mod opening;
 mod pins;
@@ -32,15 +33,14 @@ mod span;
 mod texts;
 mod unit;
 mod version;
-mod wall_clock;
 
 use instants::write_offsets;
 use kind::{is_file, read_zone};
+pub use local_result::WrittenLocalResult;
+use local_result::{has_room_for_triples, write_local_results, write_triples};
 use refusal::detail_number;
 use std::alloc::Global;
 use tz_info::TimeZone;
-pub use wall_clock::WallClock;
-use wall_clock::{has_room_for_triples, write_triples, write_wall_clocks};
 
 /// Reads the zone, and answers nothing.
 #[unsafe(no_mangle)]
@@ -120,7 +120,7 @@ pub extern "C" fn zoned_at(
     }
 }
 
-/// Writes three numbers for each local time: those of [`WallClock`] without the instants. `answers`
+/// Writes three numbers for each local time: those of [`WrittenLocalResult`] without the instants. `answers`
 /// has room for three times as many numbers as there are local times.
 #[unsafe(no_mangle)]
 pub extern "C" fn zoned_wall(
@@ -157,7 +157,7 @@ pub extern "C" fn zoned_wall_instants(
     kind: u32,
     zone: &[u8],
     locals: &[i64],
-    answers: &mut [WallClock],
+    answers: &mut [WrittenLocalResult],
 ) -> u32
     // 0: each answer is what the zone's clocks show.
     ensures answered { result ≡ 0
@@ -172,7 +172,7 @@ pub extern "C" fn zoned_wall_instants(
 {
     match read_zone(alloc, kind, zone, locals.len() == answers.len()) {
         Ok(zone) => {
-            write_wall_clocks(&zone, locals, answers);
+            write_local_results(&zone, locals, answers);
             0
         }
         Err(refusal) => refusal.number(),

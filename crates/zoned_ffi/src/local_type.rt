@@ -1,11 +1,9 @@
 //! The local time types at instants, as C reads them.
 
-ghost use Rattle.std.specs.Prelude.{◌≡◌, ◌≢◌, length};
-ghost use Rattle.zoned_ffi.specs.WrittenTypes.{AreWrittenTypesAt, IsWrittenTypeAt, mark, no_type, written_type};
-ghost use Rattle.zoned_ffi.specs.WrittenTypes.{zero_ended};
+ghost use Rattle.std.specs.Prelude.{◌≡◌, length};
+ghost use Rattle.zoned_ffi.specs.WrittenTypes.{AreWrittenTypesAt, IsWrittenTypeAt, no_type, written_type};
 
 use crate::instants::NO_OFFSET;
-use crate::refusal::OTHER_SIZE;
 use tz_info::{LocalTimeType, Lookups, TimeZone};
 
 /// A local time type.
@@ -49,8 +47,12 @@ impl WrittenType {
     {
         WrittenType {
             offset: local_type.offset(),
-            is_dst: mark(local_type.is_dst()),
-            abbreviation: zero_ended(local_type),
+            is_dst: if local_type.is_dst() { 1 } else { 0 },
+            // The bytes of the name, and zeros after them.
+            abbreviation: match local_type.name() {
+                Some(name) => name.zero_ended(),
+                None => [0; 8],
+            },
         }
     }
 
@@ -65,37 +67,8 @@ impl WrittenType {
     }
 }
 
-fn mark(is_dst: bool) -> i32
-    ensures { result ≡ mark is_dst }
-{
-    if is_dst { 1 } else { 0 }
-}
-
-// The bytes of the type's name, and zeros after them.
-fn zero_ended(local_type: &LocalTimeType) -> [u8; 8]
-    ensures { result ≡ zero_ended local_type.now.name }
-{
-    match local_type.name() {
-        Some(name) => name.zero_ended(),
-        None => [0; 8],
-    }
-}
-
-/// Writes the type at each instant, where there is room for as many: 0, or why not.
-pub fn answer_types(zone: &TimeZone, instants: &[i64], types: &mut [WrittenType]) -> u32
-    ensures answered { result ≡ 0 → AreWrittenTypesAt zone.now instants.now types.new }
-    ensures refused { result ≢ 0 → (result ≡ 32)
-        × (length instants.now ≢ length types.old) × (types.new ≡ types.old) }
-{
-    if instants.len() != types.len() {
-        return OTHER_SIZE;
-    }
-    write_types(zone, instants, types);
-    0
-}
-
-// Writes the type at each instant.
-fn write_types(zone: &TimeZone, instants: &[i64], types: &mut [WrittenType])
+/// Writes the type at each instant.
+pub fn write_types(zone: &TimeZone, instants: &[i64], types: &mut [WrittenType])
     requires { length instants.now ≡ length types.old }
     ensures { AreWrittenTypesAt zone.now instants.now types.new }
 {

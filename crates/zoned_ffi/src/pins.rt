@@ -17,7 +17,7 @@ ghost use Rattle.zoned_ffi.specs.declared.choice.Choice.{Choice};
 ghost use Rattle.zoned_ffi.specs.declared.lent.Lent.{Lent};
 ghost use Rattle.offset_core.specs.declared.choice.FoldChoice.TheVariants as folds;
 ghost use Rattle.offset_core.specs.declared.local_result.LocalResult.TheVariants as results;
-ghost use Rattle.zoned_ffi.specs.declared.choice.GapChoice.TheVariants as gaps;
+ghost use Rattle.zoned_ffi.specs.declared.choice.ChoiceInGap.TheVariants as gaps;
 ghost use Rattle.zoned_ffi.specs.declared.kind.Kind.TheVariants as kinds;
 
 /// A file is of kind 0, a TZ string of kind 1, and one with extensions of kind 2; there is no kind 3.

@@ -1,7 +1,7 @@
 //! Why a call returns an error.
 
 ghost use Rattle.std.specs.Prelude.{◌≡◌, ◌≢◌};
-ghost use Rattle.zoned_ffi.specs.Refusals.{detail_number, list_number, refusal_number};
+ghost use Rattle.zoned_ffi.specs.Refusals.{detail_number, refusal_number};
 
 use tz_info::{Error, Expected};
 
@@ -71,20 +71,10 @@ pub fn detail_number(error: Error) -> u32
     ensures some { result ≢ 0 }
 {
     match error {
-        Error::TimeZone(expected) => list_number(expected),
+        Error::TimeZone(Expected::TypeIndexesWithinTypes) => 41,
+        Error::TimeZone(Expected::TransitionTimesThatRise) => 42,
+        Error::TimeZone(Expected::LeapSecondsInOrder) => 43,
+        Error::TimeZone(Expected::RuleThatAgreesWithLastTransition) => 44,
         other => u32::from(other.number()),
-    }
-}
-
-fn list_number(expected: Expected) -> u32
-    ensures value { result ≡ list_number expected }
-    ensures some { result ≢ 0 }
-{
-    match expected {
-        Expected::TypeIndexesWithinTypes => 41,
-        Expected::TransitionTimesThatRise => 42,
-        Expected::LeapSecondsInOrder => 43,
-        Expected::RuleThatAgreesWithLastTransition => 44,
-        _ => 12,
     }
 }

@@ -1,14 +1,14 @@
 //! The instants that a choice takes for local times.
 
-ghost use Rattle.std.specs.Prelude.{◌≡◌, ◌≢◌, ◌-ℤ◌, pos, length, MatchResult};
+ghost use Rattle.std.specs.Prelude.{◌≡◌, ◌-ℤ◌, pos, length, MatchResult};
 ghost use Rattle.naive_base.specs.NaiveDateTime.{reading};
 ghost use Rattle.naive_base.specs.Range.{IsInRange};
 ghost use Rattle.zoned_ffi.specs.Resolved.{AreResolved, IsNoneTaken, IsReachedAt, IsResolvedAt, unresolved};
 ghost use Rattle.zoned_ffi.specs.Steps.ResolvedInstants.{IsResolvedStamp, IsTakenAs};
 
-use crate::choice::{Choice, GapChoice};
+use crate::choice::{Choice, ChoiceInGap};
 use crate::instants::offset_at;
-use crate::refusal::{INSTANT_OUT_OF_RANGE, OTHER_SIZE};
+use crate::refusal::INSTANT_OUT_OF_RANGE;
 use naive_base::NaiveDateTime;
 use offset_core::Taken as Found;
 use tz_info::{Probes, TimeZone};
@@ -82,6 +82,7 @@ impl Resolved {
 }
 
 // The second at which a clock of that offset shows the local time.
+#[tactic(auto, using(crate::proofs::Words::casts))]
 fn instant_by(local: i64, offset: i32) -> i64
     requires { IsInRange local }
     ensures { result ≡ local -ℤ offset }
@@ -110,35 +111,16 @@ pub fn take(zone: &TimeZone, choice: Choice, local: NaiveDateTime) -> Result<Tak
     match around.take(choice.policy()) {
         Ok(Found::Shown(only)) => Ok(Taken::InForce(only.offset())),
         Ok(Found::InGap(change)) => match choice.gap {
-            GapChoice::End => Ok(Taken::GapEnd(change.at, change.after.offset())),
-            GapChoice::ShiftForward => Ok(Taken::BeforeGap(change.before.offset())),
-            GapChoice::Refuse => Ok(Taken::BeforeGap(change.before.offset())),
+            ChoiceInGap::End => Ok(Taken::GapEnd(change.at, change.after.offset())),
+            ChoiceInGap::ShiftForward => Ok(Taken::BeforeGap(change.before.offset())),
+            ChoiceInGap::Refuse => Ok(Taken::BeforeGap(change.before.offset())),
         },
         Err(reason) => Err(u32::from(reason.number())),
     }
 }
 
-/// Writes what the choice takes for each local time, where there is room for as many: 0, or why
-/// not.
-pub fn answer_resolved(
-    zone: &TimeZone,
-    choice: Choice,
-    locals: &[i64],
-    resolved: &mut [Resolved],
-) -> u32
-    ensures answered { result ≡ 0 → AreResolved zone.now choice locals.now resolved.new }
-    ensures refused { result ≢ 0 → (result ≡ 32)
-        × (length locals.now ≢ length resolved.old) × (resolved.new ≡ resolved.old) }
-{
-    if locals.len() != resolved.len() {
-        return OTHER_SIZE;
-    }
-    write_resolved(zone, choice, locals, resolved);
-    0
-}
-
-// Writes what the choice takes for each local time.
-fn write_resolved(zone: &TimeZone, choice: Choice, locals: &[i64], resolved: &mut [Resolved])
+/// Writes what the choice takes for each local time.
+pub fn write_resolved(zone: &TimeZone, choice: Choice, locals: &[i64], resolved: &mut [Resolved])
     requires { length locals.now ≡ length resolved.old }
     ensures { AreResolved zone.now choice locals.now resolved.new }
 {

@@ -1,6 +1,6 @@
 //! Units in which instants are counted.
 
-ghost use Rattle.std.specs.Prelude.{◌≡◌, ◌<◌, ◌*ℤ◌, ◌≤ℤ◌, ℤ, neg_ℤ, pos, MatchOption};
+ghost use Rattle.std.specs.Prelude.{◌≡◌, ◌*ℤ◌, ◌≤ℤ◌, ℤ, neg_ℤ, pos, MatchOption};
 ghost use Rattle.gregorian.specs.Year.{floor_div};
 ghost use Rattle.zoned_ffi.specs.Units.{IsUnit, per_second};
 
@@ -82,19 +82,11 @@ impl Unit {
     /// The part of the axis that a time counted in this unit lies in: each is 24 to 26 days long.
     #[inline(always)]
     pub fn part_of(self, time: i64) -> i64 {
-        time >> self.part_bits()
-    }
-
-    // Two to this power are the counts of a part.
-    #[inline(always)]
-    fn part_bits(self) -> u32
-        ensures { result < 64 }
-    {
         match self {
-            Unit::Seconds => 21,
-            Unit::Milliseconds => 31,
-            Unit::Microseconds => 41,
-            Unit::Nanoseconds => 51,
+            Unit::Seconds => time >> 21,
+            Unit::Milliseconds => time >> 31,
+            Unit::Microseconds => time >> 41,
+            Unit::Nanoseconds => time >> 51,
         }
     }
 }

@@ -1,4 +1,5 @@
 //! The instants of local times, and the gaps that they lie in.
+#![tactic(auto, using(crate::proofs::Casts::passed_on))]
 
 ghost use Rattle.std.specs.Prelude.{◌≡◌, ◌≢◌, ◌⊎◌, pos, length};
 ghost use Rattle.tz_info.specs.Zones.{Zone};
@@ -11,13 +12,17 @@ ghost use Rattle.zoned_ffi.specs.declared.choice.Choice.{Choice as AnyChoice};
 ghost use Rattle.zoned_ffi.specs.declared.column.Way.TheVariants.{ToInstants};
 ghost use Rattle.zoned_ffi.specs.declared.unit.Unit.{Unit as AnyUnit};
 
-use crate::changes::{WrittenChange, answer_gap};
+use crate::changes::WrittenChange;
 use crate::choice::choice_of;
 use crate::column::answer_times;
 use crate::lent::Lent;
-use crate::refusal::{NOT_OPEN, UNKNOWN_CHOICE, UNKNOWN_UNIT};
-use crate::resolved::{Resolved, answer_resolved};
+use crate::refusal::{
+    INSTANT_OUT_OF_RANGE, NO_GAP, NOT_OPEN, OTHER_SIZE, UNKNOWN_CHOICE, UNKNOWN_UNIT,
+};
+use crate::resolved::{Resolved, write_resolved};
 use crate::unit::Unit;
+use naive_base::NaiveDateTime;
+use tz_info::Around;
 
 /// Writes the instant that a choice takes for the local time.
 #[unsafe(no_mangle)]
@@ -69,7 +74,11 @@ pub extern "C" fn zoned_zone_resolve(
     let Some(share) = zone.share() else {
         return NOT_OPEN;
     };
-    answer_resolved(share, choice, locals, resolved)
+    if locals.len() != resolved.len() {
+        return OTHER_SIZE;
+    }
+    write_resolved(share, choice, locals, resolved);
+    0
 }
 
 /// Writes the first instant at which a clock of the zone shows the local time or a later one.
@@ -103,7 +112,17 @@ pub extern "C" fn zoned_zone_gap(zone: &Lent, local: i64, gap: &mut WrittenChang
     let Some(share) = zone.share() else {
         return NOT_OPEN;
     };
-    answer_gap(share, local, gap)
+    let Some(reading) = NaiveDateTime::from_timestamp_opt(local, 0) else {
+        return INSTANT_OUT_OF_RANGE;
+    };
+    match share.find_local_time_type_around(reading) {
+        Around::Gap(found) => {
+            *gap = WrittenChange::of(&found);
+            0
+        }
+        Around::Single(_) => NO_GAP,
+        Around::Ambiguous(_, _) => NO_GAP,
+    }
 }
 
 /// Writes the instant of each local time under the choice, both counted in the unit of which `count`

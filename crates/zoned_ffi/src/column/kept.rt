@@ -46,6 +46,7 @@ impl Kept {
     }
 
     /// The answer to the time if it is one of them.
+    #[tactic(auto, using(crate::proofs::Casts::passed_on))]
     #[inline(always)]
     pub fn answer_to(self, question: Question, time: i64) -> Option<i64>
         requires { IsKept question self }

@@ -96,6 +96,7 @@ pub fn answer(
 }
 
 // The same for a time that the table doesn't have.
+#[tactic(auto, using(crate::proofs::Casts::passed_on))]
 #[inline(never)]
 fn answer_by_zone(
     question: &Question,
@@ -178,8 +179,7 @@ fn fill(
     if !search.is_due(row) {
         return;
     }
-    let least = least_offset(*question);
-    let greatest = greatest_offset(*question);
+    let (least, greatest) = offsets(question);
     let kept = kept_at(*question, second_before(question.unit, time, greatest));
     if !kept.has(time) {
         return;
@@ -202,17 +202,14 @@ fn second_before(unit: Unit, time: i64, offset: i32) -> i64 {
     unit.second_of(time).wrapping_sub(i64::from(offset))
 }
 
-fn least_offset(question: Question) -> i32 {
+// The least offset of the zone and the greatest; of instants both are 0, since no offset moves them.
+fn offsets(question: &Question) -> (i32, i32) {
     match question.way {
-        Way::ToLocal => 0,
-        Way::ToInstants(_) => question.zone.least_offset(),
-    }
-}
-
-fn greatest_offset(question: Question) -> i32 {
-    match question.way {
-        Way::ToLocal => 0,
-        Way::ToInstants(_) => question.zone.greatest_offset(),
+        Way::ToLocal => (0, 0),
+        Way::ToInstants(_) => (
+            question.zone.least_offset(),
+            question.zone.greatest_offset(),
+        ),
     }
 }
 

@@ -1,3 +1,4 @@
+use Rattle.zoned_ffi.proofs.Resolving.{in_force}
 use Rattle.zoned_ffi.proofs.Words.{FitsSigned, IsInRange, refl, rules, subst, sym, to_z-of_z, w32, w64, ℕ, ℤ, ◌+ℤ◌}
 use Rattle.zoned_ffi.specs.Fields.{AreNoFieldsAt}
 use Rattle.zoned_ffi.proofs.fields.answer_fields.Goals as goal

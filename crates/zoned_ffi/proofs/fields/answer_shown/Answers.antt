@@ -1,3 +1,4 @@
+use Rattle.zoned_ffi.proofs.Words.{zero}
 use Rattle.zoned_ffi.proofs.Words.{FitsSigned, IsInRange, arith, ints, refl, rules, subst, to_z-of_z, w128, w32, w64, ℤ, ◌+ℤ◌}
 use Rattle.zoned_ffi.specs.Fields.{AreFieldsOf}
 use Rattle.zoned_ffi.proofs.fields.answer_shown.Goals as goal

@@ -7,4 +7,4 @@ loop-i-preserved c =
     let instant : FitsSigned w64 (get_or c.args.instants.now at.i (pos 0)) = search rules in
     let fits : FitsSigned w32 offset = search rules in
     let told = simp to_z-of_z at c.offset_at.ensures in
-    simp to_z-of_z (length-set at.offsets at.i offset ∙ at.invariant.0, zip_more (IsWrittenOffsetAt c.args.zone.now) c.args.instants.now at.offsets at.i (pos 0) offset at.invariant.0 (omega arith) at.invariant.1 told)
+    simp to_z-of_z (length-set at.offsets at.i offset ∙ at.invariant.0, zip_more (IsWrittenOffsetAt c.args.zone.now) c.args.instants.now at.offsets at.i offset at.invariant.0 (omega arith) at.invariant.1 told)

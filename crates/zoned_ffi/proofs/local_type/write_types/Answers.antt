@@ -9,5 +9,5 @@ loop-i-preserved c =
     let told = rw same at (simp to_z-of_z at c.next.ensures.written) in (
       c.next.ensures.zone ∙ same,
       length-set at.types at.i c.next.result ∙ at.invariant.1,
-      zip_more (IsWrittenTypeAt c.args.zone.now) c.args.instants.now at.types at.i (pos 0) c.next.result at.invariant.1 (omega arith) at.invariant.2 told,
+      zip_more (IsWrittenTypeAt c.args.zone.now) c.args.instants.now at.types at.i c.next.result at.invariant.1 (omega arith) at.invariant.2 told,
     )

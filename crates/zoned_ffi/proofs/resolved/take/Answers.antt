@@ -1,6 +1,7 @@
-use Rattle.offset_core.specs.declared.around.Taken.TheVariants.{InGap, Shown}
+use Rattle.zoned_ffi.proofs.Words.{arith}
+use Rattle.offset_core.specs.declared.around.Taken.TheVariants.{Shown}
 use Rattle.tz_info.specs.Around.{Skips}
-use Rattle.zoned_ffi.proofs.Words.{Err, FitsSigned, IsTakenGapEnd, IsTakenType, Ok, Shows, TypeAt, ap, policy_of, refl, rules, taken_right, to_z-of_z, w32, w64}
+use Rattle.zoned_ffi.proofs.Words.{FitsSigned, IsTakenType, Ok, Shows, TypeAt, ap, policy_of, refl, rules, taken_right, to_z-of_z, w32, w64}
 use Rattle.zoned_ffi.proofs.Words.{◌∙◌}
 use Rattle.zoned_ffi.proofs.Resolving.{in_force, taken_as}
 use Rattle.zoned_ffi.proofs.resolved.take.Goals as goal
@@ -8,42 +9,35 @@ use Rattle.zoned_ffi.proofs.resolved.take.Goals as goal
 pub returns-in-Ok-Shown : goal.returns-in-Ok-Shown
 returns-in-Ok-Shown c =
     let fits : FitsSigned w32 c.offset.result = search rules in
-    let z = c.args.zone.now in let l = c.args.local.secs in let found = c.find_local_time_type_around_counted-around in let only = c.in-Ok-Shown.only in
-    let takes = taken_as z l c.args.choice found.result c.policy.result c.take.result (Ok (Shown only)) found.ensures.found c.policy.ensures c.take.ensures
+    let z = c.args.zone.now in let l = c.args.local.secs in
+    let takes = taken_as z l c.args.choice _ _ _ _ c.find_local_time_type_around_counted-around.ensures.found c.policy.ensures c.take.ensures
     (c.in-Ok-Shown.is ∙ ap Ok c.in-Ok-Shown.field-0-is) in
-    let shown = taken_right (Shows (TypeAt z) l) (Skips (TypeAt z) l) (policy_of c.args.choice) (Shown only) takes in
-    in_force z l shown.0 c.args.choice only _ shown.1 (IsTakenType.shown takes) (to_z-of_z fits ∙ c.offset.ensures.value) c.offset.ensures.bound
+    let shown = taken_right (Shows (TypeAt z) l) (Skips (TypeAt z) l) (policy_of c.args.choice) (Shown c.in-Ok-Shown.only) takes in
+    in_force z l shown.0 c.args.choice _ _ shown.1 (IsTakenType.shown takes) (to_z-of_z fits ∙ c.offset.ensures.value) c.offset.ensures.bound
 
 pub returns-in-End : goal.returns-in-End
 returns-in-End c =
-    let fits : FitsSigned w32 c.offset-in-End.result = search rules in
+    let fits : FitsSigned w32 c.offset-in-End.result = search rules in let at : FitsSigned w64 c.in-Ok-InGap.change.at = search rules in
     let change = c.in-Ok-InGap.change in
-    let at : FitsSigned w64 change.at = search rules in
-    let z = c.args.zone.now in let l = c.args.local.secs in let found = c.find_local_time_type_around_counted-around in
-    let takes = taken_as z l c.args.choice found.result c.policy.result c.take.result (Ok (InGap change)) found.ensures.found c.policy.ensures c.take.ensures
+    let takes = taken_as _ _ c.args.choice _ _ _ _ c.find_local_time_type_around_counted-around.ensures.found c.policy.ensures c.take.ensures
     (c.in-Ok-InGap.is ∙ ap Ok c.in-Ok-InGap.field-0-is) in
-    let end : IsTakenGapEnd z l c.args.choice change.at change.after = record { before = change.before; takes = takes; end = c.in-End.is } in
-    simp to_z-of_z (change.after, end, c.offset-in-End.ensures.value)
+    simp to_z-of_z (change.after, record { before = change.before; takes = takes; end = c.in-End.is }, c.offset-in-End.ensures.value)
 
 pub returns-in-ShiftForward : goal.returns-in-ShiftForward
 returns-in-ShiftForward c =
     let fits : FitsSigned w32 c.offset-in-ShiftForward.result = search rules in
-    let z = c.args.zone.now in let l = c.args.local.secs in let found = c.find_local_time_type_around_counted-around in let change = c.in-Ok-InGap.change in
-    let takes = taken_as z l c.args.choice found.result c.policy.result c.take.result (Ok (InGap change)) found.ensures.found c.policy.ensures c.take.ensures
+    let takes = taken_as _ _ c.args.choice _ _ _ _ c.find_local_time_type_around_counted-around.ensures.found c.policy.ensures c.take.ensures
     (c.in-Ok-InGap.is ∙ ap Ok c.in-Ok-InGap.field-0-is) in
+    let change = c.in-Ok-InGap.change in
     (change.before, IsTakenType.shifted change takes (λ end. let is = c.in-ShiftForward.is in cc) refl, to_z-of_z fits ∙ c.offset-in-ShiftForward.ensures.value)
 
 pub returns-in-Refuse : goal.returns-in-Refuse
 returns-in-Refuse c =
     let fits : FitsSigned w32 c.offset-in-Refuse.result = search rules in
-    let z = c.args.zone.now in let l = c.args.local.secs in let found = c.find_local_time_type_around_counted-around in let change = c.in-Ok-InGap.change in
-    let takes = taken_as z l c.args.choice found.result c.policy.result c.take.result (Ok (InGap change)) found.ensures.found c.policy.ensures c.take.ensures
+    let takes = taken_as _ _ c.args.choice _ _ _ _ c.find_local_time_type_around_counted-around.ensures.found c.policy.ensures c.take.ensures
     (c.in-Ok-InGap.is ∙ ap Ok c.in-Ok-InGap.field-0-is) in
+    let change = c.in-Ok-InGap.change in
     (change.before, IsTakenType.shifted change takes (λ end. let is = c.in-Refuse.is in cc) refl, to_z-of_z fits ∙ c.offset-in-Refuse.ensures.value)
 
 pub returns-in-Err : goal.returns-in-Err
-returns-in-Err c =
-    let z = c.args.zone.now in let l = c.args.local.secs in let found = c.find_local_time_type_around_counted-around in
-    let takes = taken_as z l c.args.choice found.result c.policy.result c.take.result (Err c.in-Err.reason) found.ensures.found c.policy.ensures c.take.ensures c.in-Err.is in
-    let widened = c.from.ensures in let number = c.number.ensures in
-    (c.in-Err.reason, takes, cc)
+returns-in-Err c = grind (arith, taken_as)

@@ -6,4 +6,4 @@ loop-i-preserved c =
     let at = c.loop-i in
     let asked : FitsSigned w64 (get_or c.args.locals.now at.i (pos 0)) = search rules in
     let told = simp to_z-of_z at c.at.ensures in
-    (length-set at.resolved at.i c.at.result ∙ at.invariant.0, zip_more (IsResolvedAt c.args.zone.now c.args.choice) c.args.locals.now at.resolved at.i (pos 0) c.at.result at.invariant.0 (omega arith) at.invariant.1 told)
+    (length-set at.resolved at.i c.at.result ∙ at.invariant.0, zip_more (IsResolvedAt c.args.zone.now c.args.choice) c.args.locals.now at.resolved at.i c.at.result at.invariant.0 (omega arith) at.invariant.1 told)

@@ -1,9 +1,8 @@
-use Rattle.zoned_ffi.proofs.Words.{FitsSigned, IsLent, rules, to_z-of_z, w64}
+use Rattle.zoned_ffi.proofs.Words.{zero}
+use Rattle.zoned_ffi.proofs.Words.{FitsSigned, rules, to_z-of_z, w64}
 use Rattle.zoned_ffi.proofs.asking.locals.zoned_zone_instant.Goals as goal
 
 pub returns-clause-answered : goal.returns-clause-answered
 returns-clause-answered c = λ zero.
-    let zone = c.deref.result.now in
     let local : FitsSigned w64 c.args.local = c.ranges.local in
-    let kept : IsLent c.args.zone.now zone = search rules in
-    (c.in-Some.choice, c.in-Some.ensures, (zone, kept, simp to_z-of_z at c.at.ensures))
+    (c.in-Some.choice, c.in-Some.ensures, (c.deref.result.now, search rules, simp to_z-of_z at c.at.ensures))

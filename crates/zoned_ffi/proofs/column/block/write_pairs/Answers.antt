@@ -5,26 +5,20 @@ use Rattle.zoned_ffi.proofs.column.block.write_pairs.Goals as goal
 
 pub overflow_add-answers : goal.overflow_add-answers
 overflow_add-answers c =
-    let at = c.loop-row in
-    let x : FitsSigned w64 (get_or c.args.times.now at.row (pos 0)) = search rules in
+    let x : FitsSigned w64 (get_or c.args.times.now c.loop-row.row (pos 0)) = search rules in
     let low : FitsSigned w64 c.kept_for-one.result.low = search rules in let high : FitsSigned w64 c.kept_for-one.result.high = search rules in
     let add : FitsSigned w64 c.kept_for-one.result.add = search rules in
     let parts = and_parts c.has.result c.has-in-loop-row.result c.if-not-both.false in
-    let here = (simp to_z-of_z at c.has.ensures).0 parts.0 in
-    let told = c.kept_for-one.ensures (get_or c.args.times.now at.row (pos 0)) here.0 here.1 in
-    let fits = told.0.0 in
-    simp to_z-of_z fits
+    grind (arith, to_z-of_z, c.kept_for-one.ensures)
 
 pub overflow_add-answers-in-loop-row-2 : goal.overflow_add-answers-in-loop-row-2
 overflow_add-answers-in-loop-row-2 c =
-    let at = c.loop-row in
-    let y : FitsSigned w64 (get_or c.args.times.now (at.row + 1) (pos 0)) = search rules in
+    let y : FitsSigned w64 (get_or c.args.times.now (c.loop-row.row + 1) (pos 0)) = search rules in
     let low : FitsSigned w64 c.kept_for-other.result.low = search rules in let high : FitsSigned w64 c.kept_for-other.result.high = search rules in
     let add : FitsSigned w64 c.kept_for-other.result.add = search rules in
     let parts = and_parts c.has.result c.has-in-loop-row.result c.if-not-both.false in
     let there = (simp to_z-of_z at c.has-in-loop-row.ensures).0 parts.1 in
-    let told = c.kept_for-other.ensures (get_or c.args.times.now (at.row + 1) (pos 0)) there.0 there.1 in
-    let fits = told.0.0 in
+    let fits = (c.kept_for-other.ensures (get_or c.args.times.now (c.loop-row.row + 1) (pos 0)) there.0 there.1).0.0 in
     simp to_z-of_z fits
 
 pub loop-row-preserved : goal.loop-row-preserved
@@ -46,9 +40,9 @@ loop-row-preserved c =
     let first = get_or c.args.times.now at.row (pos 0) +ℤ c.kept_for-one.result.add in
     let second = get_or c.args.times.now (at.row + 1) (pos 0) +ℤ c.kept_for-other.result.add in
     let long = length-set at.answers at.row first ∙ at.invariant.0 in
-    let next = zip_more (IsWritten q) c.args.times.now at.answers at.row (pos 0) first at.invariant.0 (omega arith) at.invariant.2 (inr (a.1, a.2)) in
+    let next = zip_more (IsWritten q) c.args.times.now at.answers at.row first at.invariant.0 (omega arith) at.invariant.2 (inr (a.1, a.2)) in
     let more = slice_set at.answers at.row first in
-    let both = zip_more (IsWritten q) c.args.times.now more (at.row + 1) (pos 0) second long (omega arith) next (inr (b.1, b.2)) in
+    let both = zip_more (IsWritten q) c.args.times.now more (at.row + 1) second long (omega arith) next (inr (b.1, b.2)) in
     let last : at.row + 1 + 1 ≡ at.row + 2 = omega arith in
     simp to_z-of_z (
       length-set (slice_set at.answers at.row first) (at.row + 1) second ∙ long,

@@ -7,6 +7,5 @@ returns c =
     let from : FitsSigned w64 s.from = search rules in let until : FitsSigned w64 s.until = search rules in
     let offset : FitsSigned w32 s.offset = search rules in let begin : FitsSigned w128 c.counts_at.result = search rules in
     let end : FitsSigned w128 c.counts_at-2.result = search rules in let add : FitsSigned w64 c.counts_of.result = search rules in
-    instants_kept c.args.zone.now c.args.unit s c.counts_at.result c.counts_at-2.result c.counts_of.result c.between.result c.requires
-    (simp to_z-of_z at c.counts_at.ensures.value) (simp to_z-of_z at c.counts_at-2.ensures.value)
+    instants_kept _ _ s _ _ _ _ c.requires (simp to_z-of_z at c.counts_at.ensures.value) (simp to_z-of_z at c.counts_at-2.ensures.value)
     (simp to_z-of_z at c.counts_of.ensures.value) (simp to_z-of_z at c.between.ensures)

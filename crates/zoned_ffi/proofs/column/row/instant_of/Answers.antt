@@ -1,4 +1,4 @@
-use Rattle.zoned_ffi.proofs.Words.{FitsSigned, IsInRange, IsNoInstant, IsNoneTaken, IsTakenAs, None, Some, ap, arith, rules, subst, to_z-of_z, w64, ◌∙◌}
+use Rattle.zoned_ffi.proofs.Words.{FitsSigned, IsInRange, IsNoInstant, IsTakenAs, None, Some, ap, arith, rules, subst, to_z-of_z, w64, ◌∙◌}
 use Rattle.zoned_ffi.proofs.Columns.{instant_told}
 use Rattle.zoned_ffi.proofs.column.row.instant_of.Goals as goal
 
@@ -20,14 +20,10 @@ returns-in-None c =
 
 pub returns-in_default : goal.returns-in_default
 returns-in_default c =
-    let local : FitsSigned w64 c.args.local = c.ranges.local in let u : FitsSigned w64 c.second_of.result = search rules in
-    let second = simp to_z-of_z at c.second_of.ensures in let none = simp to_z-of_z at c.in_default.ensures in
-    let outside : ¬ (IsInRange c.second_of.result) = λ inside. none (inside, (omega arith, λ big. absurd (omega (arith, big)))) in
-    IsNoInstant.outside (subst (λ s. ¬ (IsInRange s)) second outside)
+    let u : FitsSigned w64 c.second_of.result = search rules in
+    grind (arith, to_z-of_z, IsNoInstant.outside)
 
 pub returns-in-Err : goal.returns-in-Err
 returns-in-Err c =
-    let local : FitsSigned w64 c.args.local = c.ranges.local in let u : FitsSigned w64 c.second_of.result = search rules in
-    let second = simp to_z-of_z at c.second_of.ensures in let stamp = simp to_z-of_z at c.in-Some.ensures in
-    let none = subst (λ l. IsNoneTaken c.args.zone.now l c.args.choice c.in-Err.number) (ap (λ r. r.s) stamp.1 ∙ second) c.in-Err.ensures in
-    IsNoInstant.refused c.in-Err.number (subst IsInRange second stamp.0.0) none
+    let u : FitsSigned w64 c.second_of.result = search rules in
+    grind (arith, to_z-of_z, IsNoInstant.refused)

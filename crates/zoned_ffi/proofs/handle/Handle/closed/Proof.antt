@@ -8,14 +8,12 @@ use Rattle.zoned_ffi.proofs.{Handles.{LZ, R, Z, handle_in, null_fits}, Slots.{al
 use Rattle.zoned_ffi.specs.contracts.handle.Handle.closed as f
 use Rattle.zoned_ffi.proofs.handle.Handle.closed.Code as code
 
-abbrev stayed : Stays f.ended.signature.params f.ended.kept
-stayed = (stay_dropped (plain (λ _. Z)) yes, tt)
-
 pub closed_spec : {M : Type 1} → statement M
 closed_spec 𝓤 𝓛 𝓜 𝓡 wired =
     let H = 𝓛.H in let 𝓣 = tables 𝓤 H 𝓜 𝓡 𝓡.env in let c = f.clauses 𝓛 𝓜.mem 𝓡.returns in let fn = code.function in
-    proved_at 𝓛 f.ended stayed c 𝓜 𝓡 (Goes-dropped 𝓛 0 (plain (λ _. Z)) yes (λ κs x l. refl), tt) f.Key.name fn (code.unfolded 𝓤 H 𝓜 𝓡 wired) (λ z are.
-    let a = z.0.3.0 in let Post : Val → SProp 𝓤 = (walk_of 𝓛 f.ended stayed c).post z in let Run : List Val → SProp 𝓤 = λ ws. WpFn 𝓤 H 𝓣.C 𝓣.Λ fn ws Post in
+    let stays : Stays f.ended.signature.params f.ended.kept = (stay_dropped (plain (λ _. Z)) yes, tt) in
+    proved_at 𝓛 f.ended stays c 𝓜 𝓡 (Goes-dropped 𝓛 0 (plain (λ _. Z)) yes (λ κs x l. refl), tt) f.Key.name fn (code.unfolded 𝓤 H 𝓜 𝓡 wired) (λ z are.
+    let a = z.0.3.0 in let Post : Val → SProp 𝓤 = (walk_of 𝓛 f.ended stays c).post z in let Run : List Val → SProp 𝓤 = λ ws. WpFn 𝓤 H 𝓣.C 𝓣.Λ fn ws Post in
     qed 𝓛 ((‵ ftrue ⊛ ‵ (fsep (Z.own_val a z.0.4.0) ftrue)) ∷ ‵ ftrue ∷ []) ∵ split ! $ move ! (1 ∷ []) $ fsplit ! $
     handle_tells (allocator R Z LZ ghosts) ! a z.0.4.0 (λ h ws fits. let w : Val = two (ptr_val null_ptr) h in let typed = null_fits h fits in
     suffices ! (Run (h ∷ [])) (subst (λ (us : List Val). ent 𝓤 (Run (h ∷ [])) (Run us)) (sym (λ i. ws i ++ [])) (id⊢ 𝓤 (Run (h ∷ [])))) $
@@ -24,4 +22,4 @@ closed_spec 𝓤 𝓛 𝓜 𝓡 wired =
     nothing ! $ fpack ! (null_ptr ≡ null_ptr) (λ _. ftrue) refl $ handle_in ! null_ptr h a None $
     use0 𝓛 (raw (fact 𝓤 (None ≡ None))) (fact_i 𝓤 (None ≡ None) (emp 𝓤) refl) $ nothing ! $ nothing ! $ nothing ! $ fjoin ! $
     returns ! (look_at ! 0 refl) $ free_all ! refl $ keep ! (1 ∷ 0 ∷ 3 ∷ 2 ∷ []) $
-    by ! (leaves 𝓛 f.ended stayed c z w (record { at = null_ptr; alloc = a; shared = None }) (tt, tt) (tt, tt)))))
+    by ! (leaves 𝓛 f.ended stays c z w (record { at = null_ptr; alloc = a; shared = None }) (tt, tt) (tt, tt)))))

@@ -8,13 +8,13 @@ returns c =
     let last : FitsSigned w128 c.lesser-last.result = search rules in let low : FitsSigned w128 c.greater-low.result = search rules in
     let high : FitsSigned w128 c.lesser-high.result = search rules in
     let bound = c.requires in
-    let wide : FitsSigned w128 c.args.add = omega (arith, ints, bound.0, bound.1) in
-    let below : FitsSigned w128 (least -ℤ c.args.add) = omega (arith, ints, bound.0, bound.1) in
-    let above : FitsSigned w128 (greatest -ℤ c.args.add) = omega (arith, ints, bound.0, bound.1) in
+    let wide : FitsSigned w128 c.args.add = omega (arith, ints) in
+    let below : FitsSigned w128 (least -ℤ c.args.add) = omega (arith, ints) in
+    let above : FitsSigned w128 (greatest -ℤ c.args.add) = omega (arith, ints) in
     let a = simp to_z-of_z at c.greater-first.ensures in let b = simp to_z-of_z at c.greater-low.ensures in
     let d = simp to_z-of_z at c.lesser-last.ensures in let e = simp to_z-of_z at c.lesser-high.ensures in
     let less = simp to_z-of_z at c.if-high-low.false in
-    let fits_low : FitsSigned w64 c.greater-low.result = omega (arith, ints, a.0, b.1, d.0, e.1, less) in
-    let fits_high : FitsSigned w64 c.lesser-high.result = omega (arith, ints, a.0, b.1, d.0, e.1, less) in
-    simp to_z-of_z (lie_within c.args.from c.args.until c.args.add (record { low = c.greater-low.result; high = c.lesser-high.result; add = c.args.add })
-    b.0 (omega (arith, ints, a.0, b.1)) (omega (arith, ints, a.1, b.1)) e.0 (omega (arith, ints, d.0, e.1)) (omega (arith, ints, d.1, e.1)) refl)
+    let fits_low : FitsSigned w64 c.greater-low.result = omega (arith, ints) in
+    let fits_high : FitsSigned w64 c.lesser-high.result = omega (arith, ints) in
+    simp to_z-of_z (lie_within _ _ _ _ (omega (arith, ints)) (omega (arith, ints)) (omega (arith, ints))
+    (omega (arith, ints)) (omega (arith, ints)) (omega (arith, ints)) refl)

@@ -1,5 +1,5 @@
 use Rattle.zoned_ffi.proofs.Words.{AreWallClocks, length, take, ◌≡◌}
-use Rattle.zoned_ffi.proofs.wall_clock.write_wall_clocks.Given as goal
+use Rattle.zoned_ffi.proofs.local_result.write_local_results.Given as goal
 
 -- what is told so far
 abbrev pub invariant-loop-i : goal.invariant-loop-i

@@ -1,17 +1,16 @@
 //! When wall clocks show local times.
 
-ghost use Rattle.std.specs.Prelude.{◌≡◌, ◌≢◌, ◌↔◌, IsTrue, ◌*◌, ◌-ℤ◌, pos, length};
+ghost use Rattle.std.specs.Prelude.{◌≡◌, ◌↔◌, IsTrue, ◌*◌, ◌-ℤ◌, pos, length};
 ghost use Rattle.naive_base.specs.Range.{IsInRange};
 ghost use Rattle.offset_core.specs.LocalResult.{map_of};
 ghost use Rattle.zoned_ffi.specs.Steps.Told.{told_of};
 ghost use Rattle.zoned_ffi.specs.WallClocks.{AreTriples, AreWallClocks, IsWallClockAt, written};
 
-use crate::refusal::OTHER_SIZE;
 use naive_base::NaiveDateTime;
 use offset_core::MappedLocalTime;
 use tz_info::{LocalTimeType, TimeZone};
 
-// The number of seconds that show a local time, as [`WallClock::shown`] has it: none.
+// The number of seconds that show a local time, as [`WrittenLocalResult::shown`] has it: none.
 const NEVER: i32 = 0;
 
 // One.
@@ -26,7 +25,7 @@ const OUT_OF_RANGE: i32 = 3;
 /// When the clocks of a zone show a local time.
 #[repr(C)]
 #[derive(Clone, Copy)]
-pub struct WallClock {
+pub struct WrittenLocalResult {
     /// How often: 0 never, 1 once, 2 several times. 3: the local time is outside the calendar's
     /// range.
     pub shown: i32,
@@ -41,37 +40,38 @@ pub struct WallClock {
     pub last: i64,
 }
 
-impl WallClock {
+impl WrittenLocalResult {
     /// When the zone's clocks show the local time: seconds after 1970-01-01 00:00:00 on a
     /// clock, every day counted as 86,400.
+    #[tactic(auto, using(crate::proofs::Casts::passed_on, crate::proofs::Telling::told_answer))]
     #[inline(always)]
-    pub fn at(zone: &TimeZone, local: i64) -> WallClock
+    pub fn at(zone: &TimeZone, local: i64) -> WrittenLocalResult
         ensures { IsWallClockAt zone.now local result }
     {
         let Some(reading) = NaiveDateTime::from_timestamp_opt(local, 0) else {
-            return WallClock::nowhere(OUT_OF_RANGE);
+            return WrittenLocalResult::nowhere(OUT_OF_RANGE);
         };
-        WallClock::of_types(local, zone.local_time_types_at(reading))
+        WrittenLocalResult::of_types(local, zone.local_time_types_at(reading))
     }
 
     // That of the types in force at the first and the last second that show it.
-    fn of_types(local: i64, types: MappedLocalTime<&LocalTimeType>) -> WallClock
+    fn of_types(local: i64, types: MappedLocalTime<&LocalTimeType>) -> WrittenLocalResult
         requires { IsInRange local }
         ensures { result ≡ written (told_of local (map_of (λ r. r.now) types.entry)) }
     {
         match types {
-            MappedLocalTime::None => WallClock::nowhere(NEVER),
+            MappedLocalTime::None => WrittenLocalResult::nowhere(NEVER),
             MappedLocalTime::Single(only) => {
-                WallClock::between(ONCE, local, only.offset(), only.offset())
+                WrittenLocalResult::between(ONCE, local, only.offset(), only.offset())
             }
             MappedLocalTime::Ambiguous(first, last) => {
-                WallClock::between(SEVERAL_TIMES, local, first.offset(), last.offset())
+                WrittenLocalResult::between(SEVERAL_TIMES, local, first.offset(), last.offset())
             }
         }
     }
 
     // That of the offsets at these seconds: each second is the local time less its offset.
-    fn between(shown: i32, local: i64, first_offset: i32, last_offset: i32) -> WallClock
+    fn between(shown: i32, local: i64, first_offset: i32, last_offset: i32) -> WrittenLocalResult
         requires { IsInRange local }
         ensures { result ≡ record {
           shown = shown;
@@ -81,7 +81,7 @@ impl WallClock {
           last = local -ℤ last_offset;
         } }
     {
-        WallClock {
+        WrittenLocalResult {
             shown,
             first_offset,
             last_offset,
@@ -91,7 +91,7 @@ impl WallClock {
     }
 
     // That of no second, and the number that says why.
-    fn nowhere(shown: i32) -> WallClock
+    fn nowhere(shown: i32) -> WrittenLocalResult
         ensures { result ≡ record {
           shown = shown;
           first_offset = pos 0;
@@ -100,7 +100,7 @@ impl WallClock {
           last = pos 0;
         } }
     {
-        WallClock {
+        WrittenLocalResult {
             shown,
             first_offset: 0,
             last_offset: 0,
@@ -110,26 +110,14 @@ impl WallClock {
     }
 }
 
-/// Writes the answer for each local time. Returns 0, or 32 if the arrays differ in length.
-pub fn answer_wall_clocks(zone: &TimeZone, locals: &[i64], clocks: &mut [WallClock]) -> u32
-    ensures answered { result ≡ 0 → AreWallClocks zone.now locals.now clocks.new }
-    ensures refused { result ≢ 0 → (result ≡ 32)
-        × (length locals.now ≢ length clocks.old) × (clocks.new ≡ clocks.old) }
-{
-    if locals.len() != clocks.len() {
-        return OTHER_SIZE;
-    }
-    write_wall_clocks(zone, locals, clocks);
-    0
-}
-
 /// Writes the answer for each local time.
-pub fn write_wall_clocks(zone: &TimeZone, locals: &[i64], clocks: &mut [WallClock])
+#[tactic(auto, using(crate::proofs::Slices::written_rows))]
+pub fn write_local_results(zone: &TimeZone, locals: &[i64], clocks: &mut [WrittenLocalResult])
     requires { length locals.now ≡ length clocks.old }
     ensures { AreWallClocks zone.now locals.now clocks.new }
 {
     for (i, local) in locals.iter().enumerate() {
-        clocks[i] = WallClock::at(zone, *local);
+        clocks[i] = WrittenLocalResult::at(zone, *local);
     }
 }
 
@@ -141,19 +129,6 @@ pub fn has_room_for_triples(locals: &[i64], numbers: &[i32]) -> bool
     numbers.len() % 3 == 0 && numbers.len() / 3 == locals.len()
 }
 
-/// Writes three numbers of each local time, where there is room for as many: 0, or why not.
-pub fn answer_triples(zone: &TimeZone, locals: &[i64], numbers: &mut [i32]) -> u32
-    ensures answered { result ≡ 0 → AreTriples zone.now locals.now numbers.new }
-    ensures refused { result ≢ 0 → (result ≡ 32)
-        × (3 * length locals.now ≢ length numbers.old) × (numbers.new ≡ numbers.old) }
-{
-    if !has_room_for_triples(locals, numbers) {
-        return OTHER_SIZE;
-    }
-    write_triples(zone, locals, numbers);
-    0
-}
-
 /// Writes three numbers of each local time: how often it is shown, and the offsets at the first and
 /// the last second.
 pub fn write_triples(zone: &TimeZone, locals: &[i64], numbers: &mut [i32])
@@ -161,7 +136,7 @@ pub fn write_triples(zone: &TimeZone, locals: &[i64], numbers: &mut [i32])
     ensures { AreTriples zone.now locals.now numbers.new }
 {
     for (i, local) in locals.iter().enumerate() {
-        let clock = WallClock::at(zone, *local);
+        let clock = WrittenLocalResult::at(zone, *local);
         numbers[3 * i] = clock.shown;
         numbers[3 * i + 1] = clock.first_offset;
         numbers[3 * i + 2] = clock.last_offset;

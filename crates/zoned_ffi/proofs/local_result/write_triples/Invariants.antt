@@ -1,5 +1,5 @@
 use Rattle.zoned_ffi.proofs.Words.{IsTripleAt, get_or, length, pos, ℕ, ◌*◌, ◌<◌, ◌≡◌}
-use Rattle.zoned_ffi.proofs.wall_clock.write_triples.Given as goal
+use Rattle.zoned_ffi.proofs.local_result.write_triples.Given as goal
 
 -- the numbers so far
 abbrev pub invariant-loop-i : goal.invariant-loop-i
