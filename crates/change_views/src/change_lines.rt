@@ -124,15 +124,7 @@ pub(crate) fn shown(at: i64, t: &LocalTimeType) -> NaiveDateTime
     requires { IsNearYears at }
     ensures { reading result ≡ ahead (of_secs at 0) t.now.offset }
 {
-    clock_at(at, t.offset())
-}
-
-// What a clock at that offset shows at the second.
-fn clock_at(at: i64, offset: i32) -> NaiveDateTime
-    requires { IsNearYears at }
-    ensures { reading result ≡ ahead (of_secs at 0) offset }
-{
-    match NaiveDateTime::from_timestamp_opt(at + offset as i64, 0) {
+    match NaiveDateTime::from_timestamp_opt(at + t.offset() as i64, 0) {
         Some(shown) => shown,
         None => unreachable!(),
     }

@@ -8,24 +8,11 @@ ghost use Rattle.change_views.specs.Clocks.{clock_words, is_shown};
 
 use naive_base::NaiveDateTime;
 use std::fmt;
-use tz_base::Change;
 
 // The first and the last second of the calendar's range.
 const FIRST_SECOND: i128 = -8_334_601_228_800;
 
 const LAST_SECOND: i128 = 8_210_266_876_799;
-
-/// What UTC shows at the second of a change.
-#[derive(Clone, Copy)]
-pub(crate) struct ClockOfChange<'a>(pub(crate) &'a Change);
-
-impl fmt::Display for ClockOfChange<'_> {
-    ghost output = { λ utc. Some (clock_words utc.0.now.at) };
-
-    fn fmt<W: fmt::Write>(&self, f: &mut fmt::Formatter<W>) -> fmt::Result {
-        write!(f, "{}", Clock(self.0.at as i128))
-    }
-}
 
 /// What UTC shows at a second of Unix time, or the second itself if the calendar's range ends before it.
 #[derive(Clone, Copy)]

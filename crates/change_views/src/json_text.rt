@@ -4,14 +4,14 @@
 ghost use Rattle.std.specs.Prelude.{◌≡◌, [], ◌∷◌, ◌++◌, ◌-ℤ◌, codes, decimal, flat_map};
 ghost use Rattle.std.specs.Prelude.{unsigned_abs};
 ghost use Rattle.std.specs.Fmt.{signed_decimal};
-ghost use Rattle.json.specs.Token.{key, string, number, boolean};
+ghost use Rattle.json.specs.Token.{key, string, number};
 ghost use Rattle.json.specs.Tree.{json_tokens};
 ghost use Rattle.change_views.specs.JsonSteps.{Puts};
 ghost use Rattle.change_views.specs.ChangeValues.{change_value, list_value, name_value, step_name};
 ghost use Rattle.change_views.specs.ChangeValues.{type_value};
 ghost use Rattle.change_views.specs.Clocks.{clock_words};
 
-use crate::clocks::ClockOfChange;
+use crate::clocks::Clock;
 use json::Writer;
 use std::alloc::{AllocError, Global};
 use tz_base::{Change, LocalTimeType};
@@ -45,7 +45,7 @@ fn put_change(writer: &mut Writer, alloc: Global, change: &Change) -> Result<(),
     ensures { Puts result writer.old writer.new (json_tokens (change_value change.now)) }
 {
     writer.begin_object()?;
-    put_change_time(writer, change)?;
+    put_number(writer, "at", change.at)?;
     put_clock(writer, alloc, change)?;
     put_type(writer, "before", &change.before)?;
     put_type(writer, "after", &change.after)?;
@@ -53,19 +53,12 @@ fn put_change(writer: &mut Writer, alloc: Global, change: &Change) -> Result<(),
     writer.end_object()
 }
 
-fn put_change_time(writer: &mut Writer, change: &Change) -> Result<(), AllocError>
-    ensures { Puts result writer.old writer.new
-        (key (codes "at") ∷ number (signed_decimal change.now.at) ∷ []) }
-{
-    put_number(writer, "at", change.at)
-}
-
 // What UTC shows at the second.
 fn put_clock(writer: &mut Writer, alloc: Global, change: &Change) -> Result<(), AllocError>
     ensures { Puts result writer.old writer.new
         (key (codes "utc") ∷ string (clock_words change.now.at) ∷ []) }
 {
-    let utc = ClockOfChange(change);
+    let utc = Clock(change.at as i128);
     let text = format!(in alloc; "{utc}")?;
     put_string(writer, "utc", text.as_str())
 }
@@ -107,7 +100,8 @@ pub fn put_type(writer: &mut Writer, name: &str, shown: &LocalTimeType) -> Resul
     writer.key(name)?;
     writer.begin_object()?;
     put_number(writer, "offset", shown.offset() as i64)?;
-    put_flag(writer, "dst", shown.is_dst())?;
+    writer.key("dst")?;
+    writer.boolean(shown.is_dst())?;
     put_name(writer, shown)?;
     writer.end_object()
 }
@@ -158,11 +152,4 @@ pub fn put_count(writer: &mut Writer, name: &str, n: u64) -> Result<(), AllocErr
 {
     writer.key(name)?;
     writer.u64(n)
-}
-
-fn put_flag(writer: &mut Writer, name: &str, flag: bool) -> Result<(), AllocError>
-    ensures { Puts result writer.old writer.new (key name.now ∷ boolean flag ∷ []) }
-{
-    writer.key(name)?;
-    writer.boolean(flag)
 }

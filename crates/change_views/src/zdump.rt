@@ -57,7 +57,7 @@ fn push_null(out: &mut String, name: &str, second: &str) -> Result<(), AllocErro
     ensures { OnOk result (string_bytes out.new
         ≡ string_bytes out.old ++ null_line name.now second.now) }
 {
-    writeln!(out, "{}", NullText(name, second))
+    writeln!(out, "{name}  {second} = NULL")
 }
 
 fn push_pairs(out: &mut String, name: &str, changes: &[Change]) -> Result<(), AllocError>
@@ -95,18 +95,6 @@ fn push_second(out: &mut String, name: &str, at: i64, t: &LocalTimeType) -> Resu
 {
     let clocks = ClocksText(utc_at(at), shown(at, t));
     writeln!(out, "{}", SecondText(name, clocks, TypeFields(t)))
-}
-
-// A second that is too far away for a date.
-#[derive(Clone, Copy)]
-struct NullText<'a>(&'a str, &'a str);
-
-impl fmt::Display for NullText<'_> {
-    ghost output = { λ text. Some (text.0.now ++ codes "  " ++ text.1.now ++ codes " = NULL") };
-
-    fn fmt<W: fmt::Write>(&self, f: &mut fmt::Formatter<W>) -> fmt::Result {
-        write!(f, "{}  {} = NULL", self.0, self.1)
-    }
 }
 
 // A second at which a type is in force, after a name.
@@ -211,7 +199,7 @@ fn weekday_name(weekday: u32) -> &'static str
 }
 
 #[tactic(auto, unfolding(crate::specs::ZdumpLines::short_month))]
-fn month_name(month: u32) -> &'static str
+pub(crate) fn month_name(month: u32) -> &'static str
     ensures { result.now ≡ short_month month }
 {
     match month {

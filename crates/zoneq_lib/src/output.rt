@@ -22,9 +22,8 @@ pub fn write_all<W: Write>(writer: &mut Watched<W>, bytes: &[u8]) -> Result<(), 
     while written < bytes.len() {
         let (_, rest) = bytes.split_at(written);
         match writer.write(rest) {
-            Ok(0) => return Err(RunError::Write),
+            Ok(0) | Err(_) => return Err(RunError::Write),
             Ok(n) => written += n,
-            Err(_) => return Err(RunError::Write),
         }
     }
     Ok(())

@@ -6,13 +6,10 @@ use crate::picture::line::{put_line, put_names};
 use crate::picture::scale::{BOTTOM, LEFT, RIGHT, Scale, TOP};
 use crate::picture::words::{Place, Tick};
 use crate::years::{SECONDS_PER_DAY, Years};
+use crate::zdump::month_name;
 use gregorian::{day_number, year_start};
 use std::alloc::AllocError;
 use tz_base::{Change, LocalTimeType};
-
-const MONTHS: [&str; 12] = [
-    "Jan", "Feb", "Mar", "Apr", "May", "Jun", "Jul", "Aug", "Sep", "Oct", "Nov", "Dec",
-];
 
 /// Appends the chart of those changes in the years; at first the type `start` is in force.
 pub(super) fn put_chart(
@@ -56,11 +53,10 @@ fn put_offset(out: &mut String, scale: Scale, offset: i64) -> Result<(), AllocEr
 
 // The months of one year, each with a line down the chart where it begins.
 fn put_months(out: &mut String, year: i32, scale: Scale) -> Result<(), AllocError> {
-    for (place, name) in MONTHS.iter().enumerate() {
-        let day = day_number(year, (place as u32).saturating_add(1), 1);
-        let x = scale.across(day.saturating_mul(SECONDS_PER_DAY));
+    for month in 1..=12 {
+        let x = scale.across(day_number(year, month, 1).saturating_mul(SECONDS_PER_DAY));
         put_tick(out, x, x.saturating_add(330))?;
-        write!(out, "{name}</text>\n")?;
+        write!(out, "{}</text>\n", month_name(month))?;
     }
     Ok(())
 }

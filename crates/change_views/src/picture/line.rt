@@ -1,7 +1,7 @@
 //! The line of a chart: a step at each clock change, or a band if changes are too dense for steps.
 
 use crate::picture::scale::{LEFT, RIGHT, Scale};
-use crate::picture::words::{Name, Place, name_of};
+use crate::picture::words::{Place, name_of};
 use std::alloc::AllocError;
 use tz_base::{Change, LocalTimeType};
 
@@ -198,6 +198,6 @@ fn put_name(
         Place(left.saturating_add(50)),
         Place(scale.down_to(shown).saturating_sub(60)),
     );
-    let name = Name(shown);
+    let name = name_of(shown);
     write!(out, "<text class='name' x='{x}' y='{y}'>{name}</text>\n")
 }

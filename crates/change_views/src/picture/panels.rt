@@ -1,7 +1,7 @@
 //! The panels of a picture: what wall clocks show at each change of a year.
 
-use crate::clocks::ClockOfChange;
-use crate::picture::words::{Local, Name, Step};
+use crate::clocks::Clock;
+use crate::picture::words::{Step, name_of};
 use crate::words::TypeWords;
 use std::alloc::AllocError;
 use tz_base::{Change, LocalTimeType};
@@ -61,7 +61,7 @@ fn put_head(out: &mut String, place: usize, change: &Change, kind: &str) -> Resu
     let step = Step(change);
     let before = TypeWords(&change.before);
     let after = TypeWords(&change.after);
-    let utc = ClockOfChange(change);
+    let utc = Clock(change.at as i128);
     write!(
         out,
         "<g class='{kind}' transform='translate({x} {y})'><rect class='frame' width='420' height='250' rx='6'/>\n"
@@ -85,8 +85,8 @@ fn put_side(
     change: &Change,
     shown: &LocalTimeType,
 ) -> Result<(), AllocError> {
-    let clock = Local(change, shown);
-    let name = Name(shown);
+    let clock = Clock(change.at as i128 + shown.offset() as i128);
+    let name = name_of(shown);
     write!(
         out,
         "<text class='clock' x='{x}' y='{y}'>{clock} {name}</text>\n"

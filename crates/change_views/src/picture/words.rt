@@ -1,6 +1,5 @@
 //! What is written in a picture: names, clocks, lengths and places.
 
-use crate::clocks::Clock;
 use crate::years::Years;
 use std::alloc::AllocError;
 use std::fmt;
@@ -10,19 +9,15 @@ use tz_base::{Change, LocalTimeType};
 /// character of ASCII.
 pub(super) fn put_escaped(out: &mut String, text: &str) -> Result<(), AllocError> {
     for byte in text.as_bytes() {
-        put_byte(out, *byte)?;
+        match *byte {
+            b'&' => out.push_str("&amp;")?,
+            b'<' => out.push_str("&lt;")?,
+            b'>' => out.push_str("&gt;")?,
+            b' '..=b'~' => out.push(*byte as char)?,
+            _ => out.push_str("?")?,
+        }
     }
     Ok(())
-}
-
-fn put_byte(out: &mut String, byte: u8) -> Result<(), AllocError> {
-    match byte {
-        b'&' => out.push_str("&amp;"),
-        b'<' => out.push_str("&lt;"),
-        b'>' => out.push_str("&gt;"),
-        b' '..=b'~' => out.push(byte as char),
-        _ => out.push_str("?"),
-    }
 }
 
 /// A place in the picture, of tenths of a pixel: `243.2`, `84`.
@@ -61,30 +56,9 @@ impl fmt::Display for Tick {
     }
 }
 
-/// The name of a type, or `-`.
-#[derive(Clone, Copy)]
-pub(super) struct Name<'a>(pub(super) &'a LocalTimeType);
-
-impl fmt::Display for Name<'_> {
-    fn fmt<W: fmt::Write>(&self, f: &mut fmt::Formatter<W>) -> fmt::Result {
-        write!(f, "{}", name_of(self.0))
-    }
-}
-
 /// Returns the abbreviation of a type, or `-`.
 pub(super) fn name_of(shown: &LocalTimeType) -> &str {
     shown.name().map_or("-", |name| name.as_str())
-}
-
-/// What a clock of that type shows at the second of a change.
-#[derive(Clone, Copy)]
-pub(super) struct Local<'a>(pub(super) &'a Change, pub(super) &'a LocalTimeType);
-
-impl fmt::Display for Local<'_> {
-    fn fmt<W: fmt::Write>(&self, f: &mut fmt::Formatter<W>) -> fmt::Result {
-        let second = self.0.at as i128 + self.1.offset() as i128;
-        write!(f, "{}", Clock(second))
-    }
 }
 
 // A number of seconds, in the greatest of hours, minutes and seconds that divides it.

@@ -1,5 +1,7 @@
-use Rattle.zonedump_lib.proofs.Words.{ended_line, leap_text, piece_next}
+use Rattle.zonedump_lib.proofs.Words.{ended_line, get_or, leap_text, pushed, refl}
 use Rattle.zonedump_lib.proofs.tables.push_leap_seconds.Goals as goal
 
 pub loop-leap-preserved : goal.loop-leap-preserved
-loop-leap-preserved c = piece_next (λ e. ended_line (leap_text e)) _ _ _ c.args.leaps.now c.loop-leap.leap-index _ c.loop-leap-test.true c.loop-leap.invariant c.in_ok-push_leap_second.ensures
+loop-leap-preserved c =
+    let leaps = c.args.leaps.now in let i = c.loop-leap.leap-index in
+    pushed (λ e. ended_line (leap_text e)) leaps i _ (get_or leaps i _) _ _ _ c.loop-leap-test.true refl c.loop-leap.invariant c.in_ok-push_leap_second.ensures

@@ -1,14 +1,8 @@
-use Rattle.zoneq_lib.proofs.{CitedWords.{arith, drop_all, int_at, nil_from_length}, NumberLaws.{no_number, number_ends, number_stops}}
+use Rattle.zoneq_lib.proofs.{CitedWords.{arith, drop_all, int_at, nil_from_length}, NumberLaws.{no_number, number_ends}}
 use Rattle.zoneq_lib.proofs.numerals.number.Goals as goal
 
 pub returns-then-i-eq0-clause-value : goal.returns-then-i-eq0-clause-value
 returns-then-i-eq0-clause-value c = grind (arith, no_number)
-
-pub returns-then-not-is_ascii_digit-clause-value : goal.returns-then-not-is_ascii_digit-clause-value
-returns-then-not-is_ascii_digit-clause-value c = grind (arith, number_ends)
-
-pub returns-in-None-clause-value : goal.returns-in-None-clause-value
-returns-in-None-clause-value c = grind (arith, number_stops)
 
 pub returns-then-is_empty-clause-value : goal.returns-then-is_empty-clause-value
 unfolding int_at
