@@ -2,8 +2,8 @@ use Rattle.offset_core.specs.declared.resolve_error.ResolveError.TheVariants.{Fo
 use Rattle.std.proofs.Common.{Err, Ok, refl}
 use Rattle.zoned_time.proofs.ForCallers.{one_taken, unresolved_once}
 use Rattle.zoned_time.specs.Choice.{refused}
-use Rattle.tests_pins.proofs.Words.{ap, behind, half_past, neg_ℤ, pos, refuse, set_back, ◌∙◌, ◌≡◌}
-use Rattle.tests_pins.proofs.SetClocks.{taken_in, takes_fold, zoned_is}
+use Rattle.tests_pins.proofs.Words.{arith, ints, pos, refuse, set_back}
+use Rattle.tests_pins.proofs.SetClocks.{taken_in, takes_fold}
 use Rattle.tests_pins.specs.Choices.{earliest, latest}
 use Rattle.tests_pins.proofs.choices.folds.Goals as goal
 
@@ -13,7 +13,5 @@ returns c = record {
   last = λ k. taken_in latest (pos 0) k refl;
   refused = λ k h. let one = one_taken set_back (pos 1_800) refuse (Ok h.taken) (Err Fold) h.takes (takes_fold refuse (Err Fold) refl) in cc;
   why = λ e h. unresolved_once set_back (pos 1_800) refuse e Fold h (refused (takes_fold refuse (Err Fold) refl));
-  instant = λ d h.
-      let offset : h.offset ≡ pos 3_600 = taken_in earliest (pos 3_600) h.offset refl h.taken in let utc = h.at.utc ∙ ap (behind half_past) offset in
-      zoned_is d (record { s = neg_ℤ (pos 1_800); f = 7 }) (pos 3_600) utc (h.at.offset.there ∙ ap (λ r. set_back r.s) utc);
+  instant = λ d h. grind (arith, ints, taken_in earliest (pos 3_600) h.offset refl h.taken);
 }

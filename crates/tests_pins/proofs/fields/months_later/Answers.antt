@@ -1,11 +1,9 @@
-use Rattle.tests_pins.proofs.{Words.{arith, date_only, inl, pos, refl}, Computed.{calendar}, GivenDays.{given_day}}
+use Rattle.tests_pins.proofs.{Words.{arith, date_only, inl, ints, pos, refl}, Computed.{calendar}, GivenDays.{given_day}}
 use Rattle.tests_pins.proofs.fields.months_later.Goals as goal
 
 pub returns-clause-later : goal.returns-clause-later
 unfolding calendar
-returns-clause-later c answer h =
-    let july = date_only (pos 19_204) (pos 2022) 7 31 (omega arith, omega arith, omega arith, omega arith) refl in
-    given_day _ _ answer ((omega arith, omega arith, omega arith, omega arith), inl (omega arith, omega arith)) (rw (july.0, july.1, july.2) at h)
+returns-clause-later c answer h = grind (arith, ints, date_only (pos 19_204) (pos 2022) 7 31 (omega arith, omega arith, omega arith, omega arith) refl)
 
 pub returns-clause-earlier : goal.returns-clause-earlier
 unfolding calendar
