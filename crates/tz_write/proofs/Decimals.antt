@@ -2,9 +2,9 @@
 use Rattle.std.proofs.lemmas.Fmt.{decimal-digits_value, decimal_nonempty, digits_decimal, digits_value-decimal}
 use Rattle.std.proofs.lemmas.Str.Parse.{IsNumeralModel, numerals_by_fold}
 use Rattle.tz_base.specs.Grammar.{Number}
-use Rattle.tz_write.proofs.Words.{AllDigits, AreInPairs, Bool, IsNumber, List, NoneFirst, TwoDigits, Without, ap, arith, both_ways, cases_eq, colon, decimal}
-use Rattle.tz_write.proofs.Words.{false, inl, inr, is_digit, length, nat_tests, spelled_pair, refl, rules, subst, sym, true, value_from, ℕ, [], ◌%◌, ◌++◌, ◌+◌}
-use Rattle.tz_write.proofs.Words.{◌/◌, ◌<◌, ◌^◌, ◌∙◌, ◌∷◌, ◌≡◌, ◌≢◌, ◌≤◌, ◌⊎◌}
+use Rattle.tz_write.proofs.Words.{AllDigits, Bool, IsNumber, List, NoneFirst, TwoDigits, Without, ap, arith, both_ways, cases_eq, colon, decimal, false, inl}
+use Rattle.tz_write.proofs.Words.{inr, is_digit, length, nat_tests, spelled_pair, refl, rules, sym, true, value_from, ℕ, [], ◌%◌, ◌++◌, ◌+◌, ◌/◌, ◌<◌, ◌^◌, ◌∙◌}
+use Rattle.tz_write.proofs.Words.{◌∷◌, ◌≡◌, ◌≢◌, ◌≤◌, ◌⊎◌}
 use Rattle.tz_write.proofs.{Shortest.{Best, Front}, TextBytes.{Writes, digits_are, pairs_over}}
 
 own : IsNumeralModel AllDigits (value_from 0)
@@ -76,8 +76,4 @@ paired (d ∷ e ∷ []) rest n each some none value pair = grind arith
 paired (d ∷ e ∷ f ∷ ds) rest n each some none value pair = absurd (both_ways _ pair.2 each.1.1.0)
 
 pub pair_front : {max n : ℕ} {bytes after rest : List ℕ} → bytes ≡ colon ∷ after → IsNumber max after n rest → Front (spelled_pair n) bytes rest
-pair_front {n = n} {rest = rest} e p = record {
-  front = colon ∷ p.digits;
-  whole = e ∙ ap (λ (z : List ℕ). colon ∷ z) p.whole;
-  best = λ h. inl (ap (λ (z : List ℕ). colon ∷ z) (paired p.digits rest n p.each p.some p.longest p.value (subst TwoDigits p.whole ((subst AreInPairs e h).0 refl))));
-}
+pair_front {n = n} {rest = rest} e p = record { front = colon ∷ p.digits; whole = grind arith; best = grind (arith, paired) }

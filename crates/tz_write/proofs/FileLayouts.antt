@@ -1,10 +1,10 @@
 -- Where any designations have the names of the types at places that a byte can name, those that are laid have them.
 use Rattle.tz_write.proofs.Words.{All, All-cons, All-head, All-nil, All-weaker, AreNamesIn, AreNotPlacedBefore, ArePlaced, AreShortest, Bool, Decides}
-use Rattle.tz_write.proofs.Words.{Decides-and, Decides-by_and, Decides-like, Decides-ltb, HasNoZero, HasPlace, HavePlaces, In_order, IsFirstPlaced, IsLaid}
-use Rattle.tz_write.proofs.Words.{IsNameOrNone, IsNamedIn, IsPlacedFrom, List, LocalType, MatchOption, Option, StandsAt, ap, append-nil, append_assoc, arith}
-use Rattle.tz_write.proofs.Words.{before_last, before_zero, cases_lt, drop-append_seam, ends, false, get_or, inl, inr, laid, laid_from, length, length-append}
-use Rattle.tz_write.proofs.Words.{list_all, name_of, name_or_none, nat_lt, nat_tests, nil_from_length, place_of, refl, subst, suc, sym, text_at, with_text}
-use Rattle.tz_write.proofs.Words.{zero, ℕ, [], ◌&&◌, ◌*◌, ◌++◌, ◌+◌, ◌<◌, ◌==◌, ◌∙◌, ◌∷◌, ◌≡◌, ◌≤◌, ◌⊎◌}
+use Rattle.tz_write.proofs.Words.{Decides-by_and, HasNoZero, HasPlace, HavePlaces, In_order, IsFirstPlaced, IsLaid, IsNameOrNone, IsNamedIn, IsPlacedFrom, List}
+use Rattle.tz_write.proofs.Words.{LocalType, MatchOption, Option, StandsAt, ap, append-nil, append_assoc, arith, before_last, before_zero, cases_lt}
+use Rattle.tz_write.proofs.Words.{drop-append_seam, ends, false, get_or, inl, inr, laid, laid_from, length, length-append, list_all, name_of, name_or_none}
+use Rattle.tz_write.proofs.Words.{nat_lt, nat_tests, nil_from_length, place_of, refl, subst, suc, sym, text_at, with_text, zero, ℕ, [], ◌&&◌, ◌*◌, ◌++◌, ◌+◌}
+use Rattle.tz_write.proofs.Words.{◌<◌, ◌==◌, ◌∙◌, ◌∷◌, ◌≡◌, ◌≤◌, ◌⊎◌}
 use borrow.Author.Count.{below_more}
 use Rattle.tz_write.proofs.FileNames.{Behind, Ends, Has_end, In, In_front, Is_end, Stands, end_in, end_stands, ends_again, ends_of, in_stands, meet}
 use Rattle.tz_write.proofs.FileNames.{place_kept, place_of_put, place_of_stands, put_in, put_stands}
@@ -16,7 +16,7 @@ name_size : (name : Option (List ℕ)) → IsNameOrNone name → (length (name_o
 name_size name h = grind (arith, nat_tests)
 
 whole_size : (bytes b x a : List ℕ) → bytes ≡ b ++ (x ++ (0 ∷ a)) → length bytes ≡ length b + length x + 1 + length a
-whole_size bytes b x a e = omega (arith, ap length e, length-append b (x ++ (0 ∷ a)), length-append x (0 ∷ a))
+whole_size bytes b x a e = grind (arith, length-append)
 
 -- the text at the place where a text stands
 front_is : (text rest : List ℕ) → HasNoZero text → before_zero (text ++ (0 ∷ rest)) ≡ text
@@ -92,11 +92,9 @@ at_the_end : (bytes designations : List ℕ) (m t : LocalType) (sm : Served byte
 at_the_end bytes designations m t sm st r filled out away e (inr q) = grind (arith, nat_tests, at_end, name_size)
 at_the_end bytes designations m t sm st r filled out away e (inl s) =
     let short = (name_size m.name sm.named).0 in
-    at_end designations (name_of m) t e out (omega (arith, r.fits, sm.stands.at, sm.low, short))
-    (elim ((name_size t.name st.named).1) [
-      | inl none ↦ grind (arith, nat_tests, nil_from_length)
-      | inr three ↦ omega (arith, three, short, sm.low, sm.stands.at, room_of (name_of m) designations sm.stands.before (name_of t) 3 r st.stands.ends (inr e) s away)
-    ])
+    let size = (name_size t.name st.named).1 in
+    let room = room_of (name_of m) designations sm.stands.before (name_of t) 3 r st.stands.ends (inr e) s away in
+    at_end designations (name_of m) t e out (omega (arith, r.fits, sm.stands.at, sm.low, short)) (grind (arith, nil_from_length))
 
 decided : {P : Type 0} (b : Bool) → Decides b P → P ⊎ (¬ P)
 decided b d = grind (arith, nat_tests)
@@ -129,8 +127,7 @@ given_before bytes m sm t st top = grind (arith, where_is)
 places_with : (bytes : List ℕ) (types : List LocalType) (m : LocalType) (sm : Served bytes m) → All (Served bytes) types → All (λ t. key_in bytes t ≤ key_in bytes m) types → HavePlaces (laid (name_of m) types) types
 unfolding laid
 places_with bytes types m sm s top =
-    let given : All (Given (name_of m) sm.stands.before) types = λ i d l. given_before bytes m sm (get_or types i d) (s i d l) (top i d l) in
-    let p = before_passed (name_of m) sm.stands.before types given in
+    let p = before_passed (name_of m) sm.stands.before types (λ i d l. given_before bytes m sm (get_or types i d) (s i d l) (top i d l)) in
     let inside = p.inside (omega (arith, sm.stands.at, sm.low)) in
     λ i d l. laid_place bytes (before_last (name_of m) types) m (get_or types i d) sm (s i d l) p.room (before_filled (name_of m) types) (inside i d l)
     (where_is bytes m (get_or types i d) sm (s i d l) (top i d l))
@@ -166,12 +163,10 @@ in_order_in bytes types m sm s top i d l =
 
 -- ---- no shorter ones
 laid_short : (last others : List ℕ) (types : List LocalType) → HasNoZero last → Stands others last → All (Given last others) types → length (laid last types) ≤ length others
-unfolding laid
+unfolding laid with_text
 laid_short last others types none stands given =
-    let c = before_last last types in
     let r = (before_passed last others types given).room in
-    by_text (λ d. length d ≤ length others) c last (omega (arith, r.fits)) (λ out _.
-    omega (arith, length-append c (last ++ 0 ∷ []), length-append last (0 ∷ []), room_of last c others last 3 r none (inr (record { front = []; is = refl })) stands out))
+    let end : Ends last last = record { front = []; is = refl } in grind (arith, nat_tests, length-append, room_of)
 
 named_given : (bytes : List ℕ) (t : LocalType) → IsNamedIn bytes t → Given [] bytes t
 named_given bytes t h = record { none = h.stands.ends; stands = λ free. record { before = h.stands.before; after = h.stands.after; whole = h.stands.whole } }
@@ -237,11 +232,7 @@ places_decided designations =
     Decides-by_and (has_place designations) (HasPlace designations) (list_all (has_place designations)) (place_decided designations) refl (λ _ _. refl)
 
 placed_or_not : (types : List LocalType) (place : ℕ) → IsPlacedFrom types place ⊎ (¬ (IsPlacedFrom types place))
-placed_or_not types place = decided _ (Decides-like _
-    (λ p. record { name = p.0; placed = record { places = p.1.0; short = omega (arith, p.1.1) } })
-    (λ h. (h.name, (h.placed.places, omega (arith, h.placed.short))))
-    (Decides-and _ _ (Decides-ltb 2 (length (text_at (laid [] types) place)))
-    (Decides-and _ _ (places_decided (laid_from types place) types) (Decides-ltb (length (laid_from types place)) (suc (length (laid [] types)))))))
+placed_or_not types place = let places = decided _ (places_decided (laid_from types place) types) in grind (arith, cases_lt)
 
 first_placed : (types : List LocalType) (place : ℕ) → AreNotPlacedBefore types place ⊎ ((d : List ℕ) × IsFirstPlaced types d)
 first_placed types zero = inl (λ k l. absurd (omega (arith, l)))

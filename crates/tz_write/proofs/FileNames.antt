@@ -1,7 +1,6 @@
 -- Texts that stand in designations.
-use Rattle.tz_write.proofs.Words.{Bool, Decides-eqb, HasNoZero, List, and_from, ap, append_assoc, arith, begins, cond, drop, ends, ends_is, eq-eqb, false}
-use Rattle.tz_write.proofs.Words.{get_or_at, length, length-append, lt-ltb, nat_eq, place_of, refl, starts_is, starts_with, subst, suc, sym, true, ℕ, inl, inr}
-use Rattle.tz_write.proofs.Words.{nat_tests, [], ◌++◌, ◌+◌, ◌<◌, ◌∙◌, ◌∷◌, ◌≡◌, ◌≤◌, ◌⊎◌}
+use Rattle.tz_write.proofs.Words.{Decides-eqb, HasNoZero, List, ap, append_assoc, arith, begins, ends, ends_is, get_or_at, length, length-append, nat_eq}
+use Rattle.tz_write.proofs.Words.{place_of, refl, starts_is, starts_with, sym, true, ℕ, inl, inr, nat_tests, [], ◌++◌, ◌+◌, ◌<◌, ◌∙◌, ◌∷◌, ◌≡◌, ◌≤◌, ◌⊎◌}
 use Rattle.tz_write.proofs.FileRecords.{begins_is, has_text}
 
 -- a text and its 0 byte stand in the bytes
@@ -66,38 +65,24 @@ ends_again last text h = (ends_is {E = nat_eq} Decides-eqb last text (ends last 
 begins_again : (text rest : List ℕ) → begins text (text ++ (0 ∷ rest)) ≡ true
 unfolding begins
 begins_again text rest =
-    and_from _ _ ((starts_is {E = nat_eq} Decides-eqb (text ++ (0 ∷ rest)) text (starts_with nat_eq (text ++ (0 ∷ rest)) text) refl).1 (0 ∷ rest) refl)
-    (grind (arith, nat_tests, and_from, lt-ltb, length-append, eq-eqb, get_or_at))
-
-at_most : (t : Bool) (n m : ℕ) → n ≤ m → cond t 0 (suc n) ≤ suc m
-at_most t n m h = grind (arith, nat_tests)
-
-at_front : (text : List ℕ) (b : ℕ) (bs : List ℕ) → begins text (b ∷ bs) ≡ true → place_of text (b ∷ bs) ≤ 0
-at_front text b bs h = rw h (omega arith)
+    let starts = (starts_is {E = nat_eq} Decides-eqb (text ++ (0 ∷ rest)) text (starts_with nat_eq (text ++ (0 ∷ rest)) text) refl).1 (0 ∷ rest) refl in
+    grind (arith, nat_tests, length-append, get_or_at)
 
 in_front : (text rest : List ℕ) → place_of text (text ++ (0 ∷ rest)) ≤ 0
-in_front [] rest = at_front [] 0 rest (begins_again [] rest)
-in_front (c ∷ cs) rest = at_front (c ∷ cs) c (cs ++ (0 ∷ rest)) (begins_again (c ∷ cs) rest)
+in_front [] rest = let e = begins_again [] rest in grind (arith, nat_tests)
+in_front (c ∷ cs) rest = let e = begins_again (c ∷ cs) rest in grind (arith, nat_tests)
 
 pub place_behind : (text front rest : List ℕ) → place_of text (front ++ (text ++ (0 ∷ rest))) ≤ length front
 place_behind text [] rest = in_front text rest
-place_behind text (b ∷ bs) rest = at_most (begins text (b ∷ (bs ++ (text ++ (0 ∷ rest))))) _ _ (place_behind text bs rest)
+place_behind text (b ∷ bs) rest = let later = place_behind text bs rest in grind (arith, nat_tests)
 
 -- bytes put behind don't move it
 still_begins : (text bytes more : List ℕ) → begins text bytes ≡ true → begins text (bytes ++ more) ≡ true
-still_begins text bytes more h =
-    let after = drop (length text + 1) bytes in
-    let whole : bytes ++ more ≡ text ++ (0 ∷ (after ++ more)) = ap (λ (s : List ℕ). s ++ more) (begins_is text bytes h) ∙ append_assoc text (0 ∷ after) more in
-    subst (λ (s : List ℕ). begins text s ≡ true) (sym whole) (begins_again text (after ++ more))
+still_begins text bytes more h = let whole = begins_is text bytes h in grind (arith, append_assoc, begins_again)
 
 pub place_kept : (text bytes more : List ℕ) → place_of text bytes < length bytes → place_of text (bytes ++ more) ≤ place_of text bytes
 place_kept text [] more h = absurd (omega arith)
-place_kept text (b ∷ bs) more h = by_test (begins text (b ∷ bs)) refl h (place_kept text bs more)
-  where
-    by_test : (t : Bool) → begins text (b ∷ bs) ≡ t → cond t 0 (suc (place_of text bs)) < length (b ∷ bs)
-        → (place_of text bs < length bs → place_of text (bs ++ more) ≤ place_of text bs) → place_of text (b ∷ (bs ++ more)) ≤ cond t 0 (suc (place_of text bs))
-    by_test true e l later = at_front text b (bs ++ more) (still_begins text (b ∷ bs) more e)
-    by_test false e l later = at_most (begins text (b ∷ (bs ++ more))) _ _ (later (omega arith))
+place_kept text (b ∷ bs) more h = let still = still_begins text (b ∷ bs) more in let later = place_kept text bs more in grind (arith, nat_tests)
 
 -- the text stands in the designations
 abbrev pub In : List ℕ → List ℕ → Type 0

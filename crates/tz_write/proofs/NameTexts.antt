@@ -1,9 +1,9 @@
 -- The texts of names.
 use Rattle.tz_base.proofs.RunLaws.{all_of}
 use Rattle.tz_base.specs.Grammar.{Run}
-use Rattle.tz_write.proofs.Words.{AllOf, Bool, IsName, List, NoneFirst, Spells, and_from, and_parts, ap, append_assoc, arith, both_ways}
-use Rattle.tz_write.proofs.Words.{colon, cond, false, greater, inl, inr, is_letter, is_name_byte, is_not_greater, length, length-append, less, list_all}
-use Rattle.tz_write.proofs.Words.{spelled_name, nat_tests, refl, subst, sym, true, ℕ, [], ◌++◌, ◌<◌, ◌∙◌, ◌∷◌, ◌≡◌, ◌≢◌}
+use Rattle.tz_write.proofs.Words.{AllOf, Bool, IsName, List, NoneFirst, Spells, and_from, and_parts, append_assoc, arith, both_ways, colon, cond, false}
+use Rattle.tz_write.proofs.Words.{greater, inl, inr, is_letter, is_name_byte, is_not_greater, length, length-append, less, list_all, spelled_name, nat_tests}
+use Rattle.tz_write.proofs.Words.{refl, subst, sym, true, ℕ, [], ◌++◌, ◌<◌, ◌∷◌, ◌≡◌, ◌≢◌}
 use Rattle.tz_write.proofs.{Decimals.{Begins, without}, Shortest.{Best, Front}}
 use Rattle.tz_write.proofs.TextBytes.{Writes, all_others, names_are, pairs_over, writes_byte, writes_mark, writes_nothing, writes_other, writes_then}
 use Rattle.tz_info.specs.TzGrammar as tz
@@ -47,11 +47,8 @@ quoted_best t name = grind (arith, length-append)
 
 pub name_front : (bytes name rest : List ℕ) → Spells tz.name bytes name rest → Front (spelled_name name) bytes rest
 unfolding tz.name tz.quoted
-name_front bytes name rest (inl (_, is, (text, _, run, (_, end, close, (value, same))))) = rw (value, ← same) (record {
-  front = less ∷ text ++ (greater ∷ []);
-  whole = is ∙ ap (λ (z : List ℕ). less ∷ z) (run.whole ∙ ap (λ (z : List ℕ). text ++ z) close ∙ sym (append_assoc text (greater ∷ []) end));
-  best = λ _. quoted_best (list_all is_letter text) text;
-})
+name_front bytes name rest (inl (_, is, (text, _, run, (_, end, close, (value, same))))) =
+    rw (value, ← same) (record { front = less ∷ text ++ (greater ∷ []); whole = grind (arith, append_assoc); best = λ _. quoted_best (list_all is_letter text) text })
 name_front bytes name rest (inr (_, run)) = record { front = name; whole = run.whole; best = λ _. rw (all_to is_letter name run.each) (inl refl) }
 
 -- a name's text begins with a letter or `<`

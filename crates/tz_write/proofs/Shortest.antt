@@ -1,7 +1,7 @@
 -- What is not longer than what spells the same: the front of bytes beside a text.
 use Rattle.tz_base.specs.Grammar.{Grammar, Optional}
-use Rattle.tz_write.proofs.Words.{AreInPairs, Bool, List, Spells, ap, append-nil, append_assoc, arith, cond, inl, inr, length, length-append, refl, subst, sym}
-use Rattle.tz_write.proofs.Words.{true, ℕ, [], ◌++◌, ◌<◌, ◌∙◌, ◌∷◌, ◌≡◌, ◌⊎◌}
+use Rattle.tz_write.proofs.Words.{AreInPairs, Bool, List, Spells, append-nil, append_assoc, arith, cond, inl, inr, length, length-append, refl, true, ℕ, []}
+use Rattle.tz_write.proofs.Words.{◌++◌, ◌<◌, ◌∷◌, ◌≡◌, ◌⊎◌}
 
 -- the front is the text, or longer
 abbrev pub Best : List ℕ → List ℕ → Type 0
@@ -21,11 +21,7 @@ best_append : (a b x y : List ℕ) → Best a x → Best b y → Best (a ++ b) (
 best_append a b x y p q = let m = length-append a b in let n = length-append x y in grind arith
 
 pub front_then : {a b bytes middle rest : List ℕ} → Front a bytes middle → Front b middle rest → Front (a ++ b) bytes rest
-front_then {a = a} {b = b} {middle = middle} {rest = rest} p q = record {
-  front = p.front ++ q.front;
-  whole = p.whole ∙ ap (λ (z : List ℕ). p.front ++ z) q.whole ∙ sym (append_assoc p.front q.front rest);
-  best = λ h. best_append a b p.front q.front (p.best h) (q.best (pairs_rest p.front middle (subst AreInPairs p.whole h)));
-}
+front_then p q = record { front = p.front ++ q.front; whole = grind (arith, append_assoc); best = grind (arith, best_append, pairs_rest) }
 
 front_byte : {t : ℕ} {bytes after : List ℕ} → bytes ≡ t ∷ after → Front (t ∷ []) bytes after
 front_byte {t = t} e = record { front = t ∷ []; whole = e; best = λ _. inl refl }
@@ -58,4 +54,4 @@ pub front_optional : {X : Type 0} (tag : ℕ) (v : X) (g : Grammar X) {x : X} {t
 front_optional tag v g b given out h = grind (arith, front_unless, front_nothing)
 
 pub front_whole : {text bytes : List ℕ} → Front text bytes [] → AreInPairs bytes → Best text bytes
-front_whole {text = text} f pairs = subst (Best text) (sym (append-nil f.front) ∙ sym f.whole) (f.best pairs)
+front_whole f pairs = grind (arith, append-nil)
