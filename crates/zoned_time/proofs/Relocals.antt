@@ -5,6 +5,7 @@ use Rattle.zoned_time.proofs.Words.{IsWallAnswer, IsZoneSecond, Law, LocalResult
 use Rattle.zoned_time.proofs.Words.{Zoned, and_then_told, arith, home_law, in_utc, instant_of, ints, local_of, map_of, option_map, pos, single_of, ℤ, ◌-ℤ◌, ◌≡◌}
 use Rattle.zoned_time.proofs.Words.{◌⊎◌}
 
+-- one offset gives one instant, or none
 single_instant : {O : Type 0} (seconds : O → ℤ) (l : Reading) (o : O) (answer : LocalResult (Zoned O))
     → AreInstantsOf seconds l (Single o) answer → SingleIff answer (HasInstant seconds l o) (instant_of seconds l o)
 single_instant seconds l o answer h = grind (arith, ints)
