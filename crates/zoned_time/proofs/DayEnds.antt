@@ -1,9 +1,9 @@
 -- Days from their starts: the last instant, and first days before the range.
 use Rattle.zoned_time.proofs.Words.{AreStartsOfDays, HasNoEnd, IsAt, IsDateOn, IsDaysLater, IsEarlier, IsEndOfDay, IsFirstInstantFrom, IsFirstOutOfRange}
 use Rattle.zoned_time.proofs.Words.{IsFirstToReach, IsGapEnd, IsInDay, IsInRange, IsNeverShown, IsShownBetween, IsShownOnce, IsWideDay, IsZoneSecond}
-use Rattle.zoned_time.proofs.Words.{IsZonedEnd, Law, MatchOption, Meaning, NaiveDate, None, NonePassed, Option, Reading, ShowsByOffset, Some, Zoned, ahead, ap}
-use Rattle.zoned_time.proofs.Words.{arith, behind, by_lt_z, day_of, first_day, inl, ints, last_day, midnight, neg_ℤ, of_secs, pos, refl, subst, sym, ℕ, ℤ, ◌+ℤ◌}
-use Rattle.zoned_time.proofs.Words.{◌-ℤ◌, ◌<ℤ◌, ◌<◌, ◌∙◌, ◌≡◌, ◌≤ℤ◌}
+use Rattle.zoned_time.proofs.Words.{IsZonedEnd, Law, MatchOption, Meaning, NaiveDate, None, NonePassed, Option, Reading, ShowsByOffset, Some, Zoned, ahead}
+use Rattle.zoned_time.proofs.Words.{arith, behind, by_lt_z, day_of, first_day, inl, ints, last_day, midnight, neg_ℤ, of_secs, pos, refl, subst, ℕ, ℤ, ◌+ℤ◌}
+use Rattle.zoned_time.proofs.Words.{◌-ℤ◌, ◌<ℤ◌, ◌<◌, ◌≡◌, ◌≤ℤ◌}
 use Rattle.zoned_time.proofs.{DayStarts.{StayWithinDay, first_until, in_day, one_first}}
 use Rattle.zoned_time.proofs.Days.{first_instant, first_whole, out_of_range, to_reached}
 
@@ -81,8 +81,7 @@ first_second off l u inside shown none least = grind (arith, ints)
 
 first_shown : (off : ℤ → ℤ) (l a : Reading) (u k : ℤ) → ShowsByOffset off l.s u k → NonePassed off l.s (l.s -ℤ k) → ((v : ℤ) → ShowsByOffset off l.s v (off v) → u ≤ℤ v) → IsFirstInstantFrom off l a → a ≡ behind l k
 first_shown off l a u k h none least first =
-    let shown = h.shown in let back : u ≡ l.s -ℤ k = omega (arith, ints) in
-    let there : (u +ℤ off u) ≡ l.s = ap (λ (x : ℤ). u +ℤ x) (sym h.offset) ∙ h.shown in
+    let back : u ≡ l.s -ℤ k = omega (arith, ints, h.shown) in let there : (u +ℤ off u) ≡ l.s = omega (arith, ints, h.shown, h.offset) in
     let reaches = first_second off l.s u h.in_zone there (rw (← back) at none) least in
     one_first off l a (behind l k) first (first_instant off l (behind l k) (rw back at reaches) (inl (rw back at there, refl)))
 
@@ -93,9 +92,7 @@ pub first_of_fold : (off : ℤ → ℤ) (l a : Reading) (k last : ℤ) → IsSho
 first_of_fold off l a k last h none first = first_shown off l a h.first k h.at_first none (λ v s. h.not_before v (off v) s) first
 
 pub not_later : (off : ℤ → ℤ) (l a : Reading) (u k : ℤ) → ShowsByOffset off l.s u k → IsFirstInstantFrom off l a → ¬ (IsEarlier (behind l k) a)
-not_later off l a u k h first =
-    let shown = h.shown in let back : u ≡ l.s -ℤ k = omega (arith, ints) in let at = rw back at h.offset in
-    first.first (behind l k) (record { in_zone = rw back at h.in_zone; not_before = λ e. grind (arith, ints) })
+not_later off l a u k h first = grind (arith, ints, first.first (behind l k))
 
 pub gap_end : (off : ℤ → ℤ) (l a : Reading) → IsNeverShown (ShowsByOffset off l.s) → IsFirstInstantFrom off l a → IsGapEnd off l.s a
 gap_end off l a never h =

@@ -1,7 +1,7 @@
 -- The starts of days divide time: each instant lies in one day.
 use Rattle.zoned_time.proofs.Words.{AreEndsOfDay, HasReached, IsEarlier, IsFirstInstantFrom, IsFirstToReach, IsInDay, IsInRange, IsInstantFrom, IsNeverOnDay}
-use Rattle.zoned_time.proofs.Words.{IsOnDay, IsWithinDay, IsZoneSecond, Reading, arith, by_lt_z, floor_div, floors, inl, inr, ints, midnight, neg_ℤ, of_secs}
-use Rattle.zoned_time.proofs.Words.{pos, refl, suc, unsigned_abs, zero, ℕ, ℤ, ◌*ℤ◌, ◌+ℤ◌, ◌-ℤ◌, ◌<ℤ◌, ◌≡◌, ◌≤ℤ◌}
+use Rattle.zoned_time.proofs.Words.{IsOnDay, IsWithinDay, IsZoneSecond, Reading, arith, by_lt_z, floor_div, floors, ints, midnight, neg_ℤ, of_secs, pos, refl}
+use Rattle.zoned_time.proofs.Words.{suc, unsigned_abs, zero, ℕ, ℤ, ◌*ℤ◌, ◌+ℤ◌, ◌-ℤ◌, ◌<ℤ◌, ◌≡◌, ◌≤ℤ◌}
 use Rattle.zoned_time.proofs.{Answered.{first_from}, Days.{first_whole, to_reached}}
 
 -- ---- the order of instants
@@ -35,8 +35,7 @@ one_day off r c d h k = by_lt_z c d (λ less. absurd (not_in_both off c d r less
 pub skipped : (off : ℤ → ℤ) (day : ℤ) (a b : Reading) → IsNeverOnDay off day → IsFirstInstantFrom off (midnight day) a → IsFirstInstantFrom off (midnight (day +ℤ pos 1)) b → a ≡ b
 skipped off day a b never h k =
     let reached = (to_reached off (midnight day) a h.shown).reached in
-    let past : ((day +ℤ pos 1) *ℤ pos 86_400) ≤ℤ (a.s +ℤ off a.s) =
-    by_lt_z (a.s +ℤ off a.s) ((day +ℤ pos 1) *ℤ pos 86_400) (λ less. absurd (never a.s (record { in_zone = h.shown.in_zone; since = omega (arith, ints); before = omega (arith, ints) }))) (λ m. m) in
+    let past : ((day +ℤ pos 1) *ℤ pos 86_400) ≤ℤ (a.s +ℤ off a.s) = grind (arith, ints, never a.s) in
     let not_earlier = rises off (midnight day) (midnight (day +ℤ pos 1)) a b (not_earlier_day day (day +ℤ pos 1) (omega (arith, ints))) h k in
     grind (arith, ints)
 
@@ -48,8 +47,7 @@ no_later_date off day r inside h = grind (arith, ints)
 pub starts_with_first : (off : ℤ → ℤ) (day first last : ℤ) (r : Reading) → IsFirstInstantFrom off (midnight day) r → IsOnDay off day r.s → AreEndsOfDay off day first last → r.s ≡ first
 starts_with_first off day first last r h on ends =
     let least = ends.not_before r.s on in let since = ends.shown_first.since in
-    let none = h.first (of_secs first 0) (at_midnight off day (of_secs first 0) ends.shown_first.in_zone (omega (arith, ints))) in
-    by_lt_z first r.s (λ less. absurd (none (inl less))) (λ more. omega (arith, ints))
+    grind (arith, ints, h.first (of_secs first 0) (at_midnight off day (of_secs first 0) ends.shown_first.in_zone (omega (arith, ints))))
 
 -- ---- each instant lies in a day
 abbrev pub StayWithinDay : (ℤ → ℤ) → Type 0
@@ -59,8 +57,8 @@ StayWithinDay off = (u : ℤ) → IsZoneSecond u → IsWithinDay (off u)
 pub first_until : (off : ℤ → ℤ) (l v : ℤ) → HasReached off l v → (u : ℤ) × IsFirstToReach off l u × (u ≤ℤ v)
 first_until off l v h =
     let inside = h.in_zone in let start : ℤ = neg_ℤ (pos 8_334_601_401_600) in
-    let found = first_from (λ u. l ≤ℤ (u +ℤ off u)) (λ u. by_lt_z (u +ℤ off u) l (λ less. inr (λ more. omega (arith, ints))) (λ more. inl more))
-    (unsigned_abs (v -ℤ start)) start v (omega (arith, ints, inside)) h.reached in grind (arith, ints)
+    let found = first_from (λ u. l ≤ℤ (u +ℤ off u)) (λ u. grind (arith, ints)) (unsigned_abs (v -ℤ start)) start v (omega (arith, ints, inside)) h.reached in
+    grind (arith, ints)
 
 -- clocks reach each second of a day that is in range or a buffer day, and the midnight after these days
 pub reaches : (off : ℤ → ℤ) (l : ℤ) → StayWithinDay off → neg_ℤ (pos 8_334_601_315_200) ≤ℤ l → l ≤ℤ pos 8_210_266_963_200 → (u : ℤ) × IsFirstToReach off l u

@@ -9,6 +9,7 @@ same_itself law = record { offsets = λ u zone. refl; in_force = λ u zone o. (�
 pub same_through : {O : Type 0} {m : Meaning O} {a b c : Law m} → SameLaw a b → SameLaw b c → SameLaw a c
 same_through p q = grind arith
 
+-- the offset at a second, and at an instant
 pub offset_home : {O : Type 0} {m : Meaning O} (law home : Law m) (u : ℤ) (o : O)
     → SameLaw law home → IsInRange u → IsOffsetAt law u o → IsOffsetAt home u o
 offset_home law home u o same range at = grind (arith, ints)

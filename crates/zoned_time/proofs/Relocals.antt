@@ -2,9 +2,10 @@
 use Rattle.offset_core.specs.declared.local_result.LocalResult.TheVariants.{Ambiguous, None as none, Single}
 use Rattle.zoned_time.proofs.Words.{AreInstantsOf, AreOffsetsFor, Each, HasInstant, IsAndThen, IsAt, IsFixed, IsInRange, IsRelocal, IsShownBetween, IsSome}
 use Rattle.zoned_time.proofs.Words.{IsWallAnswer, IsZoneSecond, Law, LocalResult, Meaning, Option, Reading, SameLaw, ShowsByOffset, SingleIff, SomeIff, Utc}
-use Rattle.zoned_time.proofs.Words.{Zoned, and_then_told, arith, home_law, in_utc, inr, instant_of, ints, local_of, map_of, option_map, pos, refl, single_of, ℤ}
-use Rattle.zoned_time.proofs.Words.{◌-ℤ◌, ◌≡◌, ◌⊎◌}
+use Rattle.zoned_time.proofs.Words.{Zoned, and_then_told, arith, home_law, in_utc, instant_of, ints, local_of, map_of, option_map, pos, single_of, ℤ, ◌-ℤ◌, ◌≡◌}
+use Rattle.zoned_time.proofs.Words.{◌⊎◌}
 
+-- one offset gives one instant, or none
 single_instant : {O : Type 0} (seconds : O → ℤ) (l : Reading) (o : O) (answer : LocalResult (Zoned O))
     → AreInstantsOf seconds l (Single o) answer → SingleIff answer (HasInstant seconds l o) (instant_of seconds l o)
 single_instant seconds l o answer h = grind (arith, ints)
@@ -29,8 +30,7 @@ GivenOnce {O} {m} law l answer =
 
 given_once : {O : Type 0} {m : Meaning O} (law : Law m) (l : Reading) (offsets : LocalResult O) (answer : LocalResult (Zoned O)) → IsFixed law
     → IsWallAnswer (ShowsByOffset law.off l.s) (map_of m.seconds offsets) → AreInstantsOf m.seconds l offsets answer → GivenOnce law l answer
-given_once law l none answer fixed wall instants =
-    inr (λ range. wall (l.s -ℤ law.off (pos 0)) (law.off (pos 0)) (shown_in_range law l.s fixed range), rw (instants.kept, instants.asked) refl)
+given_once law l none answer fixed wall instants = grind (arith, ints, shown_in_range law l.s fixed)
 given_once law l (Single o) answer fixed wall instants = grind (arith, ints, epoch_in_zone, single_instant)
 given_once {m = m} law l (Ambiguous a b) answer fixed wall instants = grind (arith, ints, not_between law l.s (m.seconds a) (m.seconds b) fixed wall)
 

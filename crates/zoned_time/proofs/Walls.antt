@@ -3,6 +3,7 @@ use Rattle.offset_core.specs.declared.local_result.LocalResult.TheVariants.{Sing
 use Rattle.zoned_time.proofs.Words.{AreOffsetsFor, Each, IsBeforeGap, IsOffsetBeforeGap, IsShownOnce, IsWallAnswer, IsWide, IsWithinDay, LocalResult, Meaning}
 use Rattle.zoned_time.proofs.Words.{None as none, SameLaw, ShowsByOffset, Some, arith, home_law, ints, law_by_seconds, map_of, refl, ℤ, ◌+ℤ◌, ◌-ℤ◌, ◌≡◌}
 
+-- the offsets of the seconds that show a wall clock are in force then, where an offset is only its seconds
 pub wall_by_seconds : {O : Type 0} {m : Meaning O} (off : ℤ → ℤ) (l : ℤ) (offsets : LocalResult O)
     → IsWallAnswer (ShowsByOffset off l) (map_of m.seconds offsets)
     → Each (λ o. SameLaw (home_law m o) (law_by_seconds off)) offsets → AreOffsetsFor {m = m} (law_by_seconds off) l offsets

@@ -1,5 +1,5 @@
-use Rattle.zoned_time.proofs.{Words.{arith, day_of}, DayEnds.{no_earlier_day}}
+use Rattle.zoned_time.proofs.{Words.{arith}, DayEnds.{no_earlier_day}}
 use Rattle.zoned_time.proofs.zone_days.start_of_earlier_day.Goals as goal
 
 pub returns-in_err-checked_sub_days : goal.returns-in_err-checked_sub_days
-returns-in_err-checked_sub_days g c = grind (arith, no_earlier_day, day_of)
+returns-in_err-checked_sub_days g c = grind (arith, no_earlier_day)
