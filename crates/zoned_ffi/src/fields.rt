@@ -1,6 +1,6 @@
 //! Dates and times of day, as C reads and writes them.
 
-ghost use Rattle.std.specs.Prelude.{◌≡◌, ◌≢◌, ◌↔◌, ◌+ℤ◌, IsTrue, MatchOption, MatchResult};
+ghost use Rattle.std.specs.Prelude.{◌≡◌, ◌≢◌, ◌↔◌, IsTrue, MatchResult};
 ghost use Rattle.gregorian.specs.Year.{floor_div, floor_mod};
 ghost use Rattle.naive_base.specs.Range.{IsInRange};
 ghost use Rattle.zoned_ffi.specs.Fields.{AreFieldsAt, AreFieldsOf, AreNoFieldsAt, IsDateTime, IsLocalOf, IsNoLocalOf};
@@ -143,41 +143,15 @@ pub extern "C" fn zoned_local_of(fields: &Fields, local: &mut i64) -> u32
 }
 
 /// Writes the fields of the local time of the instant: 0, or the number of an error.
+#[tactic(auto, using(crate::proofs::FieldLaws::saturations))]
 pub fn answer_fields(zone: &TimeZone, instant: i64, fields: &mut Fields) -> u32
     ensures answered { result ≡ 0 → AreFieldsAt zone.now instant fields.new }
     ensures refused { result ≢ 0 → AreNoFieldsAt zone.now instant result
         × (fields.new ≡ fields.old) }
 {
     match zone.find_local_time_type(instant) {
-        Ok(found) => answer_shown(instant, found.offset(), fields),
+        // A sum outside 64 bits is outside the calendar's range, and so is the nearest number of 64 bits.
+        Ok(found) => zoned_fields_of(instant.saturating_add(i64::from(found.offset())), fields),
         Err(_) => NO_LOCAL_TIME,
-    }
-}
-
-// Writes the fields that a clock of that offset shows at the instant: 0, or 23 if they are out of
-// range.
-fn answer_shown(instant: i64, offset: i32, fields: &mut Fields) -> u32
-    ensures answered { result ≡ 0
-        → IsInRange (instant +ℤ offset) × AreFieldsOf (instant +ℤ offset) fields.new }
-    ensures refused { result ≢ 0
-        → (result ≡ 23) × ¬ (IsInRange (instant +ℤ offset)) × (fields.new ≡ fields.old) }
-{
-    match in_range(instant as i128 + offset as i128) {
-        Some(local) => {
-            *fields = Fields::of(local);
-            0
-        }
-        None => INSTANT_OUT_OF_RANGE,
-    }
-}
-
-// The local time, if it is in the calendar's range.
-fn in_range(local: i128) -> Option<i64>
-    ensures { MatchOption result (¬ (IsInRange local)) (λ found. (found ≡ local) × IsInRange found) }
-{
-    if FIRST as i128 <= local && local < END as i128 {
-        Some(local as i64)
-    } else {
-        None
     }
 }

@@ -112,8 +112,7 @@ pub fn take(zone: &TimeZone, choice: Choice, local: NaiveDateTime) -> Result<Tak
         Ok(Found::Shown(only)) => Ok(Taken::InForce(only.offset())),
         Ok(Found::InGap(change)) => match choice.gap {
             ChoiceInGap::End => Ok(Taken::GapEnd(change.at, change.after.offset())),
-            ChoiceInGap::ShiftForward => Ok(Taken::BeforeGap(change.before.offset())),
-            ChoiceInGap::Refuse => Ok(Taken::BeforeGap(change.before.offset())),
+            _ => Ok(Taken::BeforeGap(change.before.offset())),
         },
         Err(reason) => Err(u32::from(reason.number())),
     }

@@ -1,5 +1,5 @@
-use Rattle.zoned_ffi.proofs.Resolving.{in_force}
-use Rattle.zoned_ffi.proofs.Words.{FitsSigned, IsInRange, refl, rules, subst, sym, to_z-of_z, w32, w64, ℕ, ℤ, ◌+ℤ◌}
+use Rattle.zoned_ffi.proofs.Words.{FitsSigned, IsInRange, arith, refl, rules, subst, sym, to_z-of_z, w32, w64, ℕ, ◌+ℤ◌}
+use Rattle.zoned_ffi.proofs.FieldLaws.{kept_inside}
 use Rattle.zoned_ffi.specs.Fields.{AreNoFieldsAt}
 use Rattle.zoned_ffi.proofs.fields.answer_fields.Goals as goal
 
@@ -11,7 +11,8 @@ returns-in-Err-clause-refused c = λ some.
 pub returns-in-Ok-clause-refused : goal.returns-in-Ok-clause-refused
 returns-in-Ok-clause-refused c = λ some.
     let instant : FitsSigned w64 c.args.instant = c.ranges.instant in let offset : FitsSigned w32 c.offset.result = search rules in
-    let told = (simp to_z-of_z at c.answer_shown.ensures.refused) some in
+    let told = c.zoned_fields_of.ensures.refused some in
     let in_force = simp to_z-of_z at c.in-Ok.ensures in
-    let out = subst (λ (o : ℤ). ¬ (IsInRange (c.args.instant +ℤ o))) c.offset.ensures.value told.1 in
+    let out : ¬ (IsInRange (c.args.instant +ℤ c.in-Ok.found.now.offset)) = λ inside.
+    grind (arith, to_z-of_z, kept_inside (c.args.instant +ℤ c.in-Ok.found.now.offset) inside, told.1) in
     (subst (λ (n : ℕ). AreNoFieldsAt c.args.zone.now c.args.instant n) (sym told.0) (AreNoFieldsAt.outside c.in-Ok.found.now in_force out), told.2)

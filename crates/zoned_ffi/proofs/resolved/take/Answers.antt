@@ -23,21 +23,13 @@ returns-in-End c =
     (c.in-Ok-InGap.is ∙ ap Ok c.in-Ok-InGap.field-0-is) in
     simp to_z-of_z (change.after, record { before = change.before; takes = takes; end = c.in-End.is }, c.offset-in-End.ensures.value)
 
-pub returns-in-ShiftForward : goal.returns-in-ShiftForward
-returns-in-ShiftForward c =
-    let fits : FitsSigned w32 c.offset-in-ShiftForward.result = search rules in
+pub returns-in_default : goal.returns-in_default
+returns-in_default c =
+    let fits : FitsSigned w32 c.offset-in_default.result = search rules in
     let takes = taken_as _ _ c.args.choice _ _ _ _ c.find_local_time_type_around_counted-around.ensures.found c.policy.ensures c.take.ensures
     (c.in-Ok-InGap.is ∙ ap Ok c.in-Ok-InGap.field-0-is) in
     let change = c.in-Ok-InGap.change in
-    (change.before, IsTakenType.shifted change takes (λ end. let is = c.in-ShiftForward.is in cc) refl, to_z-of_z fits ∙ c.offset-in-ShiftForward.ensures.value)
-
-pub returns-in-Refuse : goal.returns-in-Refuse
-returns-in-Refuse c =
-    let fits : FitsSigned w32 c.offset-in-Refuse.result = search rules in
-    let takes = taken_as _ _ c.args.choice _ _ _ _ c.find_local_time_type_around_counted-around.ensures.found c.policy.ensures c.take.ensures
-    (c.in-Ok-InGap.is ∙ ap Ok c.in-Ok-InGap.field-0-is) in
-    let change = c.in-Ok-InGap.change in
-    (change.before, IsTakenType.shifted change takes (λ end. let is = c.in-Refuse.is in cc) refl, to_z-of_z fits ∙ c.offset-in-Refuse.ensures.value)
+    (change.before, IsTakenType.shifted change takes c.in_default.not-End refl, to_z-of_z fits ∙ c.offset-in_default.ensures.value)
 
 pub returns-in-Err : goal.returns-in-Err
 returns-in-Err c = grind (arith, taken_as)
