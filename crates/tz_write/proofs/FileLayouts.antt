@@ -3,8 +3,8 @@ use Rattle.tz_write.proofs.Words.{All, All-cons, All-head, All-nil, All-weaker, 
 use Rattle.tz_write.proofs.Words.{Decides-by_and, HasNoZero, HasPlace, HavePlaces, In_order, IsFirstPlaced, IsLaid, IsNameOrNone, IsNamedIn, IsPlacedFrom, List}
 use Rattle.tz_write.proofs.Words.{LocalType, MatchOption, Option, StandsAt, ap, append-nil, append_assoc, arith, before_last, before_zero, cases_lt}
 use Rattle.tz_write.proofs.Words.{drop-append_seam, ends, false, get_or, inl, inr, laid, laid_from, length, length-append, list_all, name_of, name_or_none}
-use Rattle.tz_write.proofs.Words.{nat_lt, nat_tests, nil_from_length, place_of, refl, subst, suc, sym, text_at, with_text, zero, ℕ, [], ◌&&◌, ◌*◌, ◌++◌, ◌+◌}
-use Rattle.tz_write.proofs.Words.{◌<◌, ◌==◌, ◌∙◌, ◌∷◌, ◌≡◌, ◌≤◌, ◌⊎◌}
+use Rattle.tz_write.proofs.Words.{nat_lt, nat_tests, nil_from_length, place_of, refl, suc, sym, text_at, with_text, zero, ℕ, [], ◌&&◌, ◌*◌, ◌++◌, ◌+◌, ◌<◌}
+use Rattle.tz_write.proofs.Words.{◌==◌, ◌∙◌, ◌∷◌, ◌≡◌, ◌≤◌, ◌⊎◌}
 use borrow.Author.Count.{below_more}
 use Rattle.tz_write.proofs.FileNames.{Behind, Ends, Has_end, In, In_front, Is_end, Stands, end_in, end_stands, ends_again, ends_of, in_stands, meet}
 use Rattle.tz_write.proofs.FileNames.{place_kept, place_of_put, place_of_stands, put_in, put_stands}
@@ -46,11 +46,7 @@ pub record Served (bytes : List ℕ) (t : LocalType) : Type 0 where
 served : (bytes : List ℕ) (t : LocalType) → IsNameOrNone t.name → IsNamedIn bytes t → Served bytes t
 served bytes t named h =
     let s = h.stands in let at = place_of_stands bytes (name_of t) (record { before = s.before; after = s.after; whole = s.whole }) in
-    record {
-      named = named;
-      stands = has_text (name_of t) bytes s.ends (omega (arith, at, whole_size bytes s.before (name_of t) s.after s.whole));
-      low = omega (arith, at, h.named, s.at);
-    }
+    let size = whole_size bytes s.before (name_of t) s.after s.whole in grind (arith, has_text)
 
 -- the byte behind the text, and of two texts before one 0 byte the longer
 key_in : List ℕ → LocalType → ℕ
@@ -149,16 +145,13 @@ unfolding laid
 in_order_in bytes types m sm s top i d l =
     let last = name_of m ++ 0 ∷ [] in let others = sm.stands.before ++ last in
     let stands : All (λ t. Stands others (name_of t)) types = λ i d l. stands_with bytes m (get_or types i d) sm (where_is bytes m (get_or types i d) sm (s i d l) (top i d l)) in
-    let given : All (Given [] others) types = λ i d l. record { none = (s i d l).stands.ends; stands = λ free. stands i d l } in
     let short : length others ≤ 263 = omega (arith, length-append sm.stands.before last, length-append (name_of m) (0 ∷ []), sm.stands.at, sm.low, (name_size m.name sm.named).0) in
     let t = get_or types i d in
     let size = name_size t.name (s i d l).named in
-    let c = before_last [] types in
-    let p = before_passed [] others types given in
+    let p = before_passed [] others types (λ i d l. record { none = (s i d l).stands.ends; stands = λ free. stands i d l }) in
     elim size.1 [
-      | inl none ↦ subst (λ (x : List ℕ). In (with_text c []) x) (sym (nil_from_length (name_of t) none))
-          (put c [] (λ out. omega (arith, short, room_of [] c others [] 3 p.room tt (inl (omega arith)) (no_text others t (stands i d l)) out)))
-      | inr three ↦ kept c [] (name_of t) (p.inside short i d l three size.0 (not_of_none (name_of t) three))
+      | inl none ↦ let out = room_of [] (before_last [] types) others [] 3 p.room tt (inl (omega arith)) (no_text others t (stands i d l)) in grind (arith, nil_from_length, put)
+      | inr three ↦ kept (before_last [] types) [] (name_of t) (p.inside short i d l three size.0 (not_of_none (name_of t) three))
     ]
 
 -- ---- no shorter ones
@@ -236,12 +229,9 @@ placed_or_not types place = let places = decided _ (places_decided (laid_from ty
 
 first_placed : (types : List LocalType) (place : ℕ) → AreNotPlacedBefore types place ⊎ ((d : List ℕ) × IsFirstPlaced types d)
 first_placed types zero = inl (λ k l. absurd (omega (arith, l)))
-first_placed types (suc n) = elim (first_placed types n) [
+first_placed types (suc n) = let here = placed_or_not types n in elim (first_placed types n) [
   | inr f ↦ inr f
-  | inl none ↦ elim (placed_or_not types n) [
-    | inl h ↦ inr (laid_from types n, record { place = n; placed = h; laid_is = refl; first = none })
-    | inr not ↦ inl (λ k l. below_more (λ (p : ℕ). ¬ (IsPlacedFrom types p)) n none not k (omega (arith, l)))
-  ]
+  | inl none ↦ elim here [ inl h ↦ inr (laid_from types n, record { place = n; placed = h; laid_is = refl; first = none }) | inr not ↦ inl (grind (arith, below_more)) ]
 ]
 
 pub laid_of : (types : List LocalType) (bytes : List ℕ) → 0 < length types → AreNames types → AreNamesIn bytes types → (d : List ℕ) × AreLaid types d

@@ -1,10 +1,10 @@
 -- What every file's zone has room for.
-use Rattle.tz_info.specs.{declared.file.header.Place.TheVariants.{Second}, declared.file.header.Version.TheVariants.{One, Three, Two}}
+use Rattle.tz_info.specs.{declared.file.header.Place.TheVariants.{Second}, declared.file.header.Version.TheVariants.{One}}
 use Rattle.tz_write.proofs.Words.{All, All-cons, All-nil, All-tail, AreBytes, AreNamesIn, Bool, Counts, FilePieces, HasIndex, HasPieces, HasRule}
 use Rattle.tz_write.proofs.Words.{IsSpellableOrNone, Header, IsNamedIn, IsTzFile, IsWritable, List, LocalType, Option, Parts, Place, SpellTypes, Spells}
-use Rattle.tz_write.proofs.Words.{SpellsLeapSecond, SpellsType, StandsAt, Transition, TransitionRule, Version, Zone, after_first_block, ap, arith, be_u32}
-use Rattle.tz_write.proofs.Words.{block, designation_of, file, first_version, get_or_append_left, header, inl, inr, later_version, length, length-append}
-use Rattle.tz_write.proofs.Words.{length-map, map, name_or_none, place_in, six_counts, subst, sym, ℕ, [], ◌*◌, ◌++◌, ◌+◌, ◌/◌, ◌<◌, ◌^◌, ◌∙◌, ◌∷◌, ◌≡◌, ◌⊎◌}
+use Rattle.tz_write.proofs.Words.{SpellsLeapSecond, SpellsType, Transition, TransitionRule, Version, Zone, after_first_block, ap, arith, be_u32, block}
+use Rattle.tz_write.proofs.Words.{designation_of, file, first_version, get_or_append_left, header, inl, inr, later_version, length, length-append, length-map}
+use Rattle.tz_write.proofs.Words.{map, name_or_none, place_in, six_counts, subst, sym, ℕ, [], ◌*◌, ◌++◌, ◌+◌, ◌/◌, ◌<◌, ◌^◌, ◌∙◌, ◌∷◌, ◌≡◌, ◌⊎◌}
 use Rattle.tz_write.proofs.{FileRecords.{records_length}, FileSpelled.{CountsFit}, RuleTexts.{rule_named}}
 use Rattle.std.proofs.{Math.Nat.{mul-div_cancel}, lemmas.List.{get_or-map}}
 use Rattle.tz_base.specs.Grammar.{Byte, Check, Ended, Exact, Grammar, Marked, Nothing, Number, Refused, Rest, Run, Then}
@@ -79,8 +79,7 @@ later_limits p (h, head, (parts, in_block, (_, _, value))) = rw value (block_lim
 after_limits : (v : Version) (c : Counts) (parts : Parts) (p : FilePieces) → Values (after_first_block v c parts) p → CountsFit c → Values (block 4 c) parts → Limits p
 unfolding after_first_block first_version
 after_limits One c parts p (_, _, value) fit first = rw value (block_limits _ 4 c parts _ fit first)
-after_limits Two c parts p h fit first = later_limits p h
-after_limits Three c parts p h fit first = later_limits p h
+after_limits v c parts p h fit first = later_limits p h
 
 pieces_limits : (bytes : List ℕ) (p : FilePieces) → HasPieces bytes p → AreBytes bytes → Limits p
 unfolding file
@@ -98,11 +97,7 @@ text_back : (text : List ℕ) → name_or_none (designation_of text) ≡ text
 text_back text = grind arith
 
 type_named : (designations bytes : List ℕ) (t : LocalType) → length bytes ≡ 6 → AreBytes bytes → SpellsType designations bytes t → IsNamedIn designations t
-type_named designations bytes t size b h = record {
-  place = place_in bytes;
-  stands = subst (λ (text : List ℕ). StandsAt designations (place_in bytes) text) (sym (text_back h.text) ∙ ap name_or_none h.name) h.stands;
-  named = b 5 0 (omega (arith, size));
-}
+type_named designations bytes t size b h = record { place = place_in bytes; stands = grind (arith, text_back); named = b 5 0 (omega (arith, size)) }
 
 types_named : (designations part : List ℕ) (types : List LocalType) → SpellTypes designations part types → AreBytes part → AreNamesIn designations types
 types_named designations part [] h b = All-nil (IsNamedIn designations)

@@ -1,7 +1,7 @@
 -- How much room designations take: each text that is put in has bytes of its own in any others that have the texts.
-use Rattle.tz_write.proofs.Words.{All, HasNoZero, List, LocalType, ap, append-nil, append_assoc, arith, before_last, cases_lt, ends, eq-eqb}
-use Rattle.tz_write.proofs.Words.{false_unless, fold, get_or, inl, inr, le-ltb, length, length-append, lt-ltb, name_of, place_of, refl}
-use Rattle.tz_write.proofs.Words.{suc, sym, with_text, with_text_of, with_texts, zero, ℕ, [], ◌++◌, ◌+◌, ◌<◌, ◌∙◌, ◌∷◌, ◌≡◌, ◌≤◌, ◌⊎◌}
+use Rattle.tz_write.proofs.Words.{All, HasNoZero, List, LocalType, ap, append-nil, append_assoc, arith, before_last, cases_lt, eq-eqb, fold, get_or, inl, inr}
+use Rattle.tz_write.proofs.Words.{le-ltb, length, length-append, lt-ltb, name_of, place_of, refl, suc, sym, with_text, with_text_of, with_texts, zero, ℕ, []}
+use Rattle.tz_write.proofs.Words.{◌++◌, ◌+◌, ◌<◌, ◌∙◌, ◌∷◌, ◌≡◌, ◌≤◌, ◌⊎◌}
 use Rattle.tz_write.proofs.FileNames.{Behind, Ends, Has_end, In, In_front, Is_end, Meeting, Stands, ends_again, ends_of, in_longer, meet, put_in}
 
 -- what is left of other bytes when the texts that stand in the designations are cut out of them: the texts that are to come, of
@@ -110,10 +110,8 @@ put_all last others size (t ∷ ts) designations short g r (suc i) d l turn =
     (type_room last designations others size t (g 0 t (omega arith)) r) i d (omega (arith, l)) turn
 put_all last others size (t ∷ ts) designations short g r zero d l turn =
     let given = g 0 t (omega arith) in
-    let first : In (with_text_of last size designations t) (name_of t) =
-    rw (eq-eqb (length (name_of t)) size turn.0, false_unless (ends last (name_of t)) (λ e. turn.1 (ends_of last (name_of t) e)))
-    (put designations (name_of t) (λ out.
-    omega (arith, room_of last designations others (name_of t) size r given.none (inl (omega (arith, turn.0))) (given.stands turn.1) out, short))) in
+    let out = room_of last designations others (name_of t) size r given.none (inl (omega (arith, turn.0))) (given.stands turn.1) in
+    let first : In (with_text_of last size designations t) (name_of t) = grind (arith, put, ends_of, eq-eqb) in
     keeps_all (λ d. In d (name_of t)) (λ d other. kept d other (name_of t)) last size ts (with_text_of last size designations t) first
 
 -- ---- in front of the last
