@@ -8,9 +8,6 @@ moved-plain r d h = grind (arith, nat_tests)
 pub moved-leap : (r : Reading) (d : ℤ) → 1_000_000_000 ≤ r.f → moved r d ≡ moved_leap r.s (pos r.f +ℤ d)
 moved-leap r d h = grind (arith, nat_tests)
 
-pub moved_leap-before : (s p : ℤ) → p <ℤ pos 0 → moved_leap s p ≡ of_total (s *ℤ pos 1_000_000_000 +ℤ p)
-moved_leap-before s p h = grind (arith, ints)
-
 pub moved_leap-within : (s p : ℤ) → pos 0 ≤ℤ p → p <ℤ pos 2_000_000_000
     → moved_leap s p ≡ record { s = s; f = unsigned_abs p }
 moved_leap-within s p h k = grind (arith, ints)
