@@ -26,8 +26,7 @@ minutes_writes : (m s : ℕ) (rest : List ℕ) → m ≤ 59 → s ≤ 59 → Sto
 unfolding tz.optional_minutes tz.minutes_seconds
 minutes_writes m s rest a b stops =
     let stop = first_optional is_digit (s == 0) colon _ rest refl stops.0 in
-    writes_optional ((m == 0) && (s == 0)) (λ e. let x : m ≡ 0 = grind (arith, nat_tests) in let y : s ≡ 0 = grind (arith, nat_tests) in rw (x, y) refl) stops.1
-    (λ _. writes_colon (two_digits m (spelled_seconds s ++ rest) (omega arith) stop)
+    writes_optional ((m == 0) && (s == 0)) (grind (arith, nat_tests)) stops.1 (λ _. writes_colon (two_digits m (spelled_seconds s ++ rest) (omega arith) stop)
     (writes_then (pair_writes clock_max m (spelled_seconds s ++ rest) (omega arith) (omega arith) stop) (writes_last (seconds_writes s rest b stops) (refl, refl))))
 
 hours_writes : (h m s : ℕ) (rest : List ℕ) → h ≤ clock_max → m ≤ 59 → s ≤ 59 → Stops rest → Writes tz.hours_minutes_seconds (spelled_hands h m s) (h, m, s) rest
@@ -43,21 +42,17 @@ seconds_front bytes s rest h = front_optional colon 0 (Number clock_max) (s == 0
 minutes_given : (bytes after : List ℕ) (m s : ℕ) (rest : List ℕ) → bytes ≡ colon ∷ after → Spells tz.minutes_seconds after (m, s) rest → Front (spelled_pair m ++ spelled_seconds s) bytes rest
 unfolding tz.minutes_seconds
 minutes_given bytes after m s rest e (x, behind, minutes, (y, end, seconds, (value, same))) =
-    let l : m ≡ x = ap (λ (t : ℕ × ℕ). t.0) value in
-    let r : s ≡ y = ap (λ (t : ℕ × ℕ). t.1) value in
-    rw (l, r, ← same) (front_then (pair_front e minutes) (seconds_front behind y end seconds))
+    let front = front_then (pair_front e minutes) (seconds_front behind y end seconds) in grind arith
 
 minutes_front : (bytes : List ℕ) (m s : ℕ) (rest : List ℕ) → Spells tz.optional_minutes bytes (m, s) rest → Front (spelled_minutes m s) bytes rest
 unfolding tz.optional_minutes
-minutes_front bytes m s rest h = front_optional colon (0, 0) tz.minutes_seconds ((m == 0) && (s == 0)) (λ after is p. minutes_given bytes after m s rest is p)
-    (λ same. let x : m ≡ 0 = ap (λ (p : ℕ × ℕ). p.0) same in let y : s ≡ 0 = ap (λ (p : ℕ × ℕ). p.1) same in rw (x, y) refl) h
+minutes_front bytes m s rest h =
+    front_optional colon (0, 0) tz.minutes_seconds ((m == 0) && (s == 0)) (λ after is p. minutes_given bytes after m s rest is p) (grind (arith, nat_tests)) h
 
 hours_front : (bytes : List ℕ) (h m s : ℕ) (rest : List ℕ) → Spells tz.hours_minutes_seconds bytes (h, m, s) rest → Front (spelled_hands h m s) bytes rest
 unfolding tz.hours_minutes_seconds
-hours_front bytes h m s rest (x, after, hours, (t, end, others, (value, same))) =
-    let first : h ≡ x = ap (λ (u : ℕ × ℕ × ℕ). u.0) value in
-    let second : (m, s) ≡ t = ap (λ (u : ℕ × ℕ × ℕ). (u.1, u.2)) value in
-    front_then (number_front {max = clock_max} (omega arith) (rw first hours)) (minutes_front after m s rest (rw (second, ← same) others))
+hours_front bytes h m s rest (x, after, hours, ((y, z), end, others, (value, same))) =
+    let front = front_then (number_front {max = clock_max} (omega arith) hours) (minutes_front after y z end others) in grind arith
 
 -- ---- durations
 abbrev signed : Bool → ℕ → ℤ
@@ -78,10 +73,7 @@ duration_front : (limit : ℕ) (negative : Bool) (bytes : List ℕ) (z : ℤ) (r
 unfolding spelled_clock tz.duration
 duration_front limit negative bytes z rest ((h, m, s), after, spelled, ((c, a, b), value, same)) =
     let n : unsigned_abs z ≡ 3600 * h + 60 * m + s = ap unsigned_abs value ∙ abs_signed negative _ in
-    let x : unsigned_abs z / 3600 ≡ h = omega arith in
-    let y : unsigned_abs z / 60 % 60 ≡ m = omega arith in
-    let w : unsigned_abs z % 60 ≡ s = omega arith in
-    rw (x, y, w, ← same) (hours_front bytes h m s after spelled)
+    let front = hours_front bytes h m s after spelled in grind arith
 
 clock_begins : (n : ℕ) (rest : List ℕ) → n / 3600 < 1000 → Begins 48 57 (spelled_clock n ++ rest)
 unfolding spelled_clock

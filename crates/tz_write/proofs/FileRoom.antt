@@ -127,11 +127,9 @@ pass : (last others : List ℕ) (types : List LocalType) → All (Given last oth
 pass last others types g size designations p =
     let r = smaller last designations others (suc size) size (omega arith) p.room in record {
       room = by_types (λ d. Room last d others size) last size types designations (λ i e l d k. type_room last d others size (get_or types i e) (g i e l) k) r;
-      inside = λ short i e l low high free. let text = name_of (get_or types i e) in elim (cases_lt size (length text)) [
-        | inl more ↦ keeps_all (λ d. In d text) (λ d other. kept d other text) last size types designations
-            (p.inside short i e l (omega (arith, more)) high free)
-        | inr same ↦ put_all last others size types designations short g r i e l (omega (arith, low, same), free)
-      ];
+      inside = λ short i e l low high free.
+          let all = put_all last others size types designations short g r i e l in
+          let keep = keeps_all (λ d. In d (name_of (get_or types i e))) (λ d other. kept d other _) last size types designations in grind (arith, cases_lt);
     }
 
 pub before_passed : (last others : List ℕ) (types : List LocalType) → All (Given last others) types → Passed last others types 3 (before_last last types)
