@@ -6,10 +6,10 @@ use Rattle.tz_write.proofs.Words.{drop-append_seam, ends, false, get_or, inl, in
 use Rattle.tz_write.proofs.Words.{nat_lt, nat_tests, nil_from_length, place_of, refl, suc, sym, text_at, with_text, zero, ℕ, [], ◌&&◌, ◌*◌, ◌++◌, ◌+◌, ◌<◌}
 use Rattle.tz_write.proofs.Words.{◌==◌, ◌∙◌, ◌∷◌, ◌≡◌, ◌≤◌, ◌⊎◌}
 use borrow.Author.Count.{below_more}
-use Rattle.tz_write.proofs.FileNames.{Behind, Ends, Has_end, In, In_front, Is_end, Stands, end_in, end_stands, ends_again, ends_of, in_stands, meet}
-use Rattle.tz_write.proofs.FileNames.{place_kept, place_of_put, place_of_stands, put_in, put_stands}
+use Rattle.tz_write.proofs.FileRoom.{Behind, Ends, Given, Has_end, In, In_front, Is_end, Room, Stands, before_filled, before_keeps, before_passed, by_text}
+use Rattle.tz_write.proofs.FileRoom.{end_in, end_stands, ends_again, ends_of, in_stands, kept, meet, no_front, place_kept, place_of_put, place_of_stands, put}
+use Rattle.tz_write.proofs.FileRoom.{put_in, put_is, put_stands, room_of}
 use Rattle.tz_write.proofs.FileRecords.{has_text, no_zero}
-use Rattle.tz_write.proofs.FileRoom.{Given, Room, before_filled, before_keeps, before_passed, by_text, kept, no_front, put, put_is, room_of}
 
 -- ---- texts
 name_size : (name : Option (List ℕ)) → IsNameOrNone name → (length (name_or_none name) ≤ 7) × ((length (name_or_none name) ≡ 0) ⊎ (3 ≤ length (name_or_none name)))
@@ -110,10 +110,8 @@ laid_place bytes designations m t sm st r filled put_in_before where_t =
             | inl none ↦ free (record { front = name_of m; is = sym (ap (λ (s : List ℕ). name_of m ++ s) (nil_from_length (name_of t) none) ∙ append-nil (name_of m)) })
             | inr three ↦ absurd (omega (arith, away, put_in_before three size.0 free))
           ]) in
-          elim (cases_lt (place_of (name_of m) designations) (length designations)) [
-            | inl l ↦ absurd (omega (arith, away, end_in designations (name_of m) (name_of t) sm.stands.ends e l))
-            | inr out ↦ at_the_end bytes designations m t sm st r filled out away e where_t
-          ]
+          let end = end_in designations (name_of m) (name_of t) sm.stands.ends e in
+          let out = at_the_end bytes designations m t sm st r filled in grind (arith, cases_lt)
     ]
 
 -- ---- all types

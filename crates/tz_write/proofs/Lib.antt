@@ -2,13 +2,11 @@ pub mod Words
 mod Shortest
 mod Decimals
 mod Clocks
-mod NameTexts
-mod DayTexts
+mod PieceTexts
 mod RuleTexts
 mod TextBytes
 mod ZoneTexts
 mod FileRecords
-mod FileNames
 mod FileRoom
 mod FileLayouts
 mod FileSpelled

@@ -4,13 +4,12 @@ use Rattle.tz_write.proofs.Words.{IsTextTime, IsTzText, IsWithinDay, IsWrittenTe
 use Rattle.tz_write.proofs.Words.{ap, append-nil, append_assoc, arith, both_ways, comma, cond, spelled_day, spelled_dst_offset, false, inl, inr, int_eq, ints}
 use Rattle.tz_write.proofs.Words.{is_digit, is_letter, length, name_of, name_or_none, spelled_name, named_type, nat_tests, not, offset_fits, spelled_offset}
 use Rattle.tz_write.proofs.Words.{pos, refl, subst, spelled_rule, true, ℕ, ℤ, [], ◌++◌, ◌+ℤ◌, ◌<◌, ◌↔◌, ◌∙◌, ◌∷◌, ◌≡◌, ◌⊎◌}
-use Rattle.tz_write.proofs.{Clocks.{Stops, comma_stops, offset_begins, offset_front, offset_writes}, NameTexts.{name_begins, name_front, name_writes}}
-use Rattle.tz_write.proofs.{DayTexts.{day_front, day_plain, day_writes, dst_offset_front, dst_offset_writes}, Decimals.{Begins, none_first, not_empty, without}}
+use Rattle.tz_write.proofs.{Clocks.{Stops, comma_stops, offset_begins, offset_front, offset_writes}, Decimals.{Begins, none_first, not_empty, without}}
+use Rattle.tz_write.proofs.PieceTexts.{day_front, day_plain, day_writes, dst_offset_front, dst_offset_writes, name_begins, name_front, name_writes}
 use Rattle.tz_write.proofs.Shortest.{Best, Front, front_cons, front_then, front_whole}
 use Rattle.tz_write.proofs.TextBytes.{AreTextBytes, Writes, writes_byte, writes_last, writes_more, writes_then}
 use Rattle.tz_info.specs.TzGrammar as tz
 use Rattle.tz_info.specs.declared.rule.transition_rule.TransitionRule.TheVariants as rules
-use Rattle.std.proofs.Common.{rules}
 
 -- ---- what a text that spells a rule shows
 -- the rule can be spelled, has times that need no extensions if the text has none, and its own text is the shortest
