@@ -31,7 +31,7 @@ HABITS = [
     ("refused", "rejected, returns an error", r"\brefus\w+", 2, 6),
     ("reading for a local time", "local time, local date-time", r"\breadings?\b", 5, 4),
     ("TZ text", "TZ string", r"\bTZ texts?\b", 1, 0),
-    ("where for a condition", "if, when", r"\bwhere (?:that|it|there|the|a|no|one|they|clocks|these|none|its|all|each|both|any)\b", 19, 23),
+    ("where for a condition", "if, when", r"\bwhere (?:that|it|there|the|a|no|one|they|clocks|these|none|its|all|each|both|any)\b", 19, 19),
     ("wrong body", "planted bug", r"\bwrong bod\w+", 0, 0),
 ]
 
