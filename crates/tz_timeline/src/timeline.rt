@@ -7,8 +7,7 @@
 
 ghost use Rattle.std.specs.Prelude.{◌≡◌, ◌+◌, ◌-◌, ◌*◌, ◌/◌, ◌<◌, ◌≤◌, [], length, map, option_map, slice_index_or};
 ghost use Rattle.std.specs.Prelude.{MatchResult, ℕ, ⊤};
-ghost use Rattle.tz_timeline.specs.Counts.{Counts, HasRoomFor};
-ghost use Rattle.tz_timeline.specs.Digits.{digits};
+ghost use Rattle.tz_timeline.specs.{Counts.{Counts, HasRoomFor}, Digits.{digits}};
 ghost use Rattle.tz_timeline.specs.Search.{AreOrdered, ArePassed, AreProbesCounted, IsLastOf};
 ghost use Rattle.tz_timeline.specs.Steps.Search.{AreEnds, IsLeft, IsNarrowedTo};
 
@@ -79,9 +78,7 @@ struct Left<'a, T> {
 
 impl<T: Timed> Model for Timeline<T> {
     ghost use Rattle.std.specs.Prelude.{List, map};
-    ghost use Rattle.tz_timeline.specs.Steps.Hints.{AreHints};
-    ghost use Rattle.tz_timeline.specs.Search.{AreOrdered};
-    ghost use Rattle.tz_timeline.specs.Steps.Search.{AreEnds};
+    ghost use Rattle.tz_timeline.specs.{Search.{AreOrdered}, Steps.{Hints.{AreHints}, Search.{AreEnds}}};
 
     ghost Value = { List T };
 
@@ -146,8 +143,7 @@ impl<T: Timed> Timeline<T> {
         &self.items[place]
     }
 
-    /// Returns how many items come at or before the second, and the last of them. If neither end
-    /// decides, the hints say among which few items that is.
+    /// Returns how many items come at or before the second, and the last of them.
     #[inline(always)]
     pub fn passed(&self, second: i64, probes: &mut Probes) -> Passed<'_, T>
         requires { HasRoomFor (digits (length self.now)) (T.looks probes.old) }
@@ -183,10 +179,8 @@ impl<T: Timed> Timeline<T> {
         }
     }
 
-    // The same, where the latest item is one of those.
-    //
-    // Four steps are written out: there the compiler makes of each a choice of two values, and in a
-    // loop a branch, which the processor would guess wrong every other time. More are rarely due.
+    // The same, where the latest item is one of those. Four steps are written out: in a loop the
+    // compiler makes each a jump, which the processor guesses wrong every other time.
     #[inline(always)]
     fn passed_near(&self, second: i64, near: Near, probes: &mut Probes) -> Passed<'_, T>
         requires near { IsNarrowedTo (map T.time self.now) second near }

@@ -1,9 +1,8 @@
-//! Questions to a zone that C keeps: about instants, changes of its clocks and wall clocks; `locals` has
-//! those that take an instant for a local time.
+//! Questions to a zone that C keeps, about instants and local times; `locals` has those that take an
+//! instant for a local time.
 #![tactic(auto, using(crate::proofs::Casts::passed_on))]
 
-ghost use Rattle.std.specs.Prelude.{◌≡◌, ◌≢◌, ◌*◌, ◌⊎◌, ◌≤ℤ◌, ◌<ℤ◌, pos, length};
-ghost use Rattle.tz_info.specs.Changes.{HasNoChange};
+ghost use Rattle.std.specs.Prelude.{◌≡◌, ◌≢◌, ◌*◌, ◌⊎◌, pos, length};
 ghost use Rattle.tz_info.specs.Zones.{Zone, TypeAt, IsTypeRefused};
 ghost use Rattle.zoned_ffi.specs.Handles.{IsLent, IsNoneLent, IsUnanswered};
 ghost use Rattle.zoned_ffi.specs.Instants.{AreOffsetsAt, IsWrittenOffsetAt};
@@ -11,8 +10,6 @@ ghost use Rattle.zoned_ffi.specs.Columns.{AreAnswered, IsFirstWithout};
 ghost use Rattle.zoned_ffi.specs.Fields.{AreFieldsAt, AreNoFieldsAt};
 ghost use Rattle.zoned_ffi.specs.Units.{IsUnit, per_second};
 ghost use Rattle.zoned_ffi.specs.WallClocks.{AreTriples, AreWallClocks, IsWallClockAt};
-ghost use Rattle.zoned_ffi.specs.WrittenChanges.{AreFirstWritten, AreWrittenChanges};
-ghost use Rattle.zoned_ffi.specs.WrittenChanges.{IsFirstWritten, IsLastWritten};
 ghost use Rattle.zoned_ffi.specs.WrittenSpans.{IsWrittenSpanAt};
 ghost use Rattle.zoned_ffi.specs.declared.column.Way.TheVariants.{ToLocal};
 ghost use Rattle.zoned_ffi.specs.declared.unit.Unit.{Unit as AnyUnit};
@@ -20,7 +17,6 @@ ghost use Rattle.zoned_ffi.specs.WrittenTypes.{AreWrittenTypesAt, IsWrittenTypeA
 
 pub mod locals;
 
-use crate::changes::{WrittenChange, write_changes, write_first_changes};
 use crate::column::answer_locals;
 use crate::fields::{Fields, answer_fields};
 use crate::instants::{offset_at, write_offsets};
@@ -29,7 +25,7 @@ use crate::local_result::{
     WrittenLocalResult, has_room_for_triples, write_local_results, write_triples,
 };
 use crate::local_type::{WrittenType, write_types};
-use crate::refusal::{NO_CHANGE, NO_LOCAL_TIME, NOT_OPEN, OTHER_SIZE, UNKNOWN_UNIT};
+use crate::refusal::{NO_LOCAL_TIME, NOT_OPEN, OTHER_SIZE, UNKNOWN_UNIT};
 use crate::span::WrittenSpan;
 use crate::unit::Unit;
 
@@ -203,105 +199,6 @@ pub extern "C" fn zoned_zone_wall(zone: &Lent, locals: &[i64], answers: &mut [i3
         return OTHER_SIZE;
     }
     write_triples(share, locals, answers);
-    0
-}
-
-/// Writes the first change of the zone's clocks after that second.
-#[unsafe(no_mangle)]
-pub extern "C" fn zoned_zone_next_change(zone: &Lent, after: i64, change: &mut WrittenChange) -> u32
-    // 0: it is written.
-    ensures answered { result ≡ 0
-        → (z : Zone) × IsLent zone.now z × IsFirstWritten z (λ u. after <ℤ u) change.new }
-    // 33: no zone is open. 35: there is no such change. Nothing is written.
-    ensures refused { result ≢ 0 → (((result ≡ 33) × IsNoneLent zone.now)
-        ⊎ ((result ≡ 35) × ((z : Zone) × IsLent zone.now z × HasNoChange (TypeAt z) (λ u. after <ℤ u))))
-        × (change.new ≡ change.old) }
-{
-    let Some(share) = zone.share() else {
-        return NOT_OPEN;
-    };
-    match share.next_change(after) {
-        Some(found) => {
-            *change = WrittenChange::of(&found);
-            0
-        }
-        None => NO_CHANGE,
-    }
-}
-
-/// Writes the last change of the zone's clocks at that second or before it.
-#[unsafe(no_mangle)]
-pub extern "C" fn zoned_zone_previous_change(
-    zone: &Lent,
-    before_or_at: i64,
-    change: &mut WrittenChange,
-) -> u32
-    // 0: it is written.
-    ensures answered { result ≡ 0
-        → (z : Zone) × IsLent zone.now z × IsLastWritten z (λ u. u ≤ℤ before_or_at) change.new }
-    // 33: no zone is open. 35: there is no such change. Nothing is written.
-    ensures refused { result ≢ 0 → (((result ≡ 33) × IsNoneLent zone.now)
-        ⊎ ((result ≡ 35)
-        × ((z : Zone) × IsLent zone.now z × HasNoChange (TypeAt z) (λ u. u ≤ℤ before_or_at))))
-        × (change.new ≡ change.old) }
-{
-    let Some(share) = zone.share() else {
-        return NOT_OPEN;
-    };
-    match share.previous_change(before_or_at) {
-        Some(found) => {
-            *change = WrittenChange::of(&found);
-            0
-        }
-        None => NO_CHANGE,
-    }
-}
-
-/// Writes the changes of the zone's clocks from the second `from` on and before `until`, as many as
-/// there is room for, and how many there are.
-#[unsafe(no_mangle)]
-pub extern "C" fn zoned_zone_changes(
-    zone: &Lent,
-    from: i64,
-    until: i64,
-    changes: &mut [WrittenChange],
-    count: &mut usize,
-) -> u32
-    // 0: they are written, in their order, and counted. What stood behind them is as it was.
-    ensures answered { result ≡ 0 → (z : Zone) × IsLent zone.now z
-        × AreWrittenChanges z from until changes.old changes.new count.new }
-    // 33: no zone is open, and nothing is written.
-    ensures refused { result ≢ 0 → (result ≡ 33) × IsNoneLent zone.now
-        × (changes.new ≡ changes.old) × (count.new ≡ count.old) }
-{
-    let Some(share) = zone.share() else {
-        return NOT_OPEN;
-    };
-    *count = write_changes(share, from, until, changes);
-    0
-}
-
-/// Writes the first changes as `zoned_zone_changes` does, and counts them up to `most`.
-#[unsafe(no_mangle)]
-pub extern "C" fn zoned_zone_first_changes(
-    zone: &Lent,
-    from: i64,
-    until: i64,
-    most: usize,
-    changes: &mut [WrittenChange],
-    count: &mut usize,
-) -> u32
-    // 0: they are written, in their order, and counted. What stood behind them is as it was.
-    ensures answered { result ≡ 0 → (z : Zone) × IsLent zone.now z
-        × AreFirstWritten z from until most changes.old changes.new count.new }
-    // 33: no zone is open, and nothing is written.
-    ensures refused { result ≢ 0 → (result ≡ 33) × IsNoneLent zone.now
-        × (changes.new ≡ changes.old) × (count.new ≡ count.old) }
-{
-    let Some(share) = zone.share() else {
-        return NOT_OPEN;
-    };
-    *count = write_first_changes(share, from, until, most, changes);
     0
 }
 

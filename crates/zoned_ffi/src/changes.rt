@@ -1,9 +1,16 @@
-//! The changes of a zone's clocks, as C reads them.
+//! The changes of a zone's clocks, and the calls by which C asks for them.
+#![tactic(auto, using(crate::proofs::Casts::passed_on))]
 
-ghost use Rattle.std.specs.Prelude.{◌≡◌, slice_set};
-ghost use Rattle.zoned_ffi.specs.WrittenChanges.{AreFirstWritten, AreWrittenChanges, written_change};
+ghost use Rattle.std.specs.Prelude.{◌≡◌, ◌≢◌, ◌⊎◌, ◌≤ℤ◌, ◌<ℤ◌, slice_set};
+ghost use Rattle.tz_info.specs.Changes.{HasNoChange};
+ghost use Rattle.tz_info.specs.Zones.{Zone, TypeAt};
+ghost use Rattle.zoned_ffi.specs.Handles.{IsLent, IsNoneLent};
+ghost use Rattle.zoned_ffi.specs.WrittenChanges.{AreFirstWritten, AreWrittenChanges};
+ghost use Rattle.zoned_ffi.specs.WrittenChanges.{IsFirstWritten, IsLastWritten, written_change};
 
+use crate::lent::Lent;
 use crate::local_type::WrittenType;
+use crate::refusal::{NO_CHANGE, NOT_OPEN};
 use tz_info::{Change, TimeZone};
 
 /// A change of the clocks.
@@ -29,6 +36,105 @@ impl WrittenChange {
             after: WrittenType::of(&change.after),
         }
     }
+}
+
+/// Writes the first change of the zone's clocks after that second.
+#[unsafe(no_mangle)]
+pub extern "C" fn zoned_zone_next_change(zone: &Lent, after: i64, change: &mut WrittenChange) -> u32
+    // 0: it is written.
+    ensures answered { result ≡ 0
+        → (z : Zone) × IsLent zone.now z × IsFirstWritten z (λ u. after <ℤ u) change.new }
+    // 33: no zone is open. 35: there is no such change. Nothing is written.
+    ensures refused { result ≢ 0 → (((result ≡ 33) × IsNoneLent zone.now)
+        ⊎ ((result ≡ 35) × ((z : Zone) × IsLent zone.now z × HasNoChange (TypeAt z) (λ u. after <ℤ u))))
+        × (change.new ≡ change.old) }
+{
+    let Some(share) = zone.share() else {
+        return NOT_OPEN;
+    };
+    match share.next_change(after) {
+        Some(found) => {
+            *change = WrittenChange::of(&found);
+            0
+        }
+        None => NO_CHANGE,
+    }
+}
+
+/// Writes the last change of the zone's clocks at that second or before it.
+#[unsafe(no_mangle)]
+pub extern "C" fn zoned_zone_previous_change(
+    zone: &Lent,
+    before_or_at: i64,
+    change: &mut WrittenChange,
+) -> u32
+    // 0: it is written.
+    ensures answered { result ≡ 0
+        → (z : Zone) × IsLent zone.now z × IsLastWritten z (λ u. u ≤ℤ before_or_at) change.new }
+    // 33: no zone is open. 35: there is no such change. Nothing is written.
+    ensures refused { result ≢ 0 → (((result ≡ 33) × IsNoneLent zone.now)
+        ⊎ ((result ≡ 35)
+        × ((z : Zone) × IsLent zone.now z × HasNoChange (TypeAt z) (λ u. u ≤ℤ before_or_at))))
+        × (change.new ≡ change.old) }
+{
+    let Some(share) = zone.share() else {
+        return NOT_OPEN;
+    };
+    match share.previous_change(before_or_at) {
+        Some(found) => {
+            *change = WrittenChange::of(&found);
+            0
+        }
+        None => NO_CHANGE,
+    }
+}
+
+/// Writes the changes of the zone's clocks from the second `from` on and before `until`, as many as
+/// there is room for, and how many there are.
+#[unsafe(no_mangle)]
+pub extern "C" fn zoned_zone_changes(
+    zone: &Lent,
+    from: i64,
+    until: i64,
+    changes: &mut [WrittenChange],
+    count: &mut usize,
+) -> u32
+    // 0: they are written, in their order, and counted. What stood behind them is as it was.
+    ensures answered { result ≡ 0 → (z : Zone) × IsLent zone.now z
+        × AreWrittenChanges z from until changes.old changes.new count.new }
+    // 33: no zone is open, and nothing is written.
+    ensures refused { result ≢ 0 → (result ≡ 33) × IsNoneLent zone.now
+        × (changes.new ≡ changes.old) × (count.new ≡ count.old) }
+{
+    let Some(share) = zone.share() else {
+        return NOT_OPEN;
+    };
+    *count = write_changes(share, from, until, changes);
+    0
+}
+
+/// Writes the first changes as `zoned_zone_changes` does, and counts them up to `most`.
+#[unsafe(no_mangle)]
+pub extern "C" fn zoned_zone_first_changes(
+    zone: &Lent,
+    from: i64,
+    until: i64,
+    most: usize,
+    changes: &mut [WrittenChange],
+    count: &mut usize,
+) -> u32
+    // 0: they are written, in their order, and counted. What stood behind them is as it was.
+    ensures answered { result ≡ 0 → (z : Zone) × IsLent zone.now z
+        × AreFirstWritten z from until most changes.old changes.new count.new }
+    // 33: no zone is open, and nothing is written.
+    ensures refused { result ≢ 0 → (result ≡ 33) × IsNoneLent zone.now
+        × (changes.new ≡ changes.old) × (count.new ≡ count.old) }
+{
+    let Some(share) = zone.share() else {
+        return NOT_OPEN;
+    };
+    *count = write_first_changes(share, from, until, most, changes);
+    0
 }
 
 /// Writes the changes from the second `from` on and before `until`, in their order, as far as there
