@@ -48,7 +48,7 @@ PINNED = re.compile(r"(?m)^  - ((?:`\w+::\w+`(?:, )?)+): (.*?)(?: Rejects (?:.*)
 BY_LAW = re.compile(r"(?m)(are rejected by a law, which is checked in a copy of its crate: ).*$")
 WORD = re.compile(r"[^\s(){}\[\],;:.λ→×≡∙|\"`?]+")
 FUNCTION = re.compile(r'( *)(?:pub(?:\([a-z]+\))? )?(?:(?:final|const|unsafe|extern "C") )*fn (\w+)')
-BLOCK = re.compile(r"(?:pub )?(?:unsafe )?(impl|trait)\b")
+BLOCK = re.compile(r"(?:pub(?:\([a-z]+\))? )?(?:unsafe )?(impl|trait)\b")
 SIGNATURE = re.compile(r"(?:pub )?([^\s(){}\[\],;]+) :(?: |$)")
 
 
