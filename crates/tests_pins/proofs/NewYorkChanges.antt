@@ -131,4 +131,3 @@ winter_is = record {
   };
 }
 
-pub ruleset wall_gap = (ints, once, never, by_dst, second_of, type_at, before_gap, only_before_gap)

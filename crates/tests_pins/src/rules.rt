@@ -73,7 +73,6 @@ pub fn moments()
 {}
 
 /// The types one second before each moment, and at it.
-#[tactic(auto, using(crate::proofs::NewYork::rule_2021), unfolding(crate::proofs::Words::year_start))]
 pub fn types()
     ensures new_year { RuleAt new_york_rule (pos 1_609_459_200) est }
     ensures before_start { RuleAt new_york_rule (pos 1_615_705_199) est }

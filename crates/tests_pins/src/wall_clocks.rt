@@ -11,7 +11,6 @@ ghost use Rattle.tests_pins.specs.NewYork.{new_york_zone, est, edt};
 ghost use Rattle.offset_core.specs.declared.local_result.LocalResult.TheVariants as results;
 
 /// No second shows 02:30, nor 02:00. 01:59:59 is shown once, by EST, and 03:00 once, by EDT.
-#[tactic(auto, using(crate::proofs::NewYorkChanges::wall_gap))]
 pub fn gap()
     ensures before { IsWallAnswer (Shows (TypeAt new_york_zone) (pos 1_615_687_199))
         (results.Single est) }

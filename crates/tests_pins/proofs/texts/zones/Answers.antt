@@ -1,6 +1,12 @@
-use Rattle.tests_pins.proofs.{Computed.{texts}, SpelledTexts.{zone_spelled}}
+use Rattle.tests_pins.proofs.{Words.{false, inl, refl, utc_rule, utc_text, [], ◌∷◌}, Computed.{texts}, SpelledTexts.{spelled, zone_of}}
 use Rattle.tests_pins.proofs.texts.zones.Goals as goal
 
 pub returns : goal.returns
 unfolding texts
-returns c = search zone_spelled
+returns c = record {
+  spaced = zone_of _ _ utc_text utc_rule
+      (record { before = 32 ∷ []; after = 10 ∷ []; whole = refl; space_before = (refl, tt); space_after = (refl, tt); first = refl; last = refl })
+      (spelled false utc_text utc_rule refl);
+  empty = inl (refl, refl);
+  types = refl;
+}
