@@ -130,4 +130,3 @@ winter_is = record {
     ends = (edt, spring_is);
   };
 }
-

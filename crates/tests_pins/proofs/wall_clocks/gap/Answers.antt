@@ -6,7 +6,11 @@ pub returns : goal.returns
 returns c = record {
   before = record {
     second = pos 1_615_705_199;
-    shown = record { fits = fits_signed_from_abs w64 (pos 1_615_705_199) (omega arith); type = type_at (pos 1_615_705_199) (omega arith) (omega arith); shown = refl };
+    shown = record {
+      fits = fits_signed_from_abs w64 (pos 1_615_705_199) (omega arith);
+      type = type_at (pos 1_615_705_199) (omega arith) (omega arith);
+      shown = refl;
+    };
     only = λ u t s.
         let r = s.type.in_force.from_last refl in let either = by_dst u (pos 1_615_687_199) t r.dst r.shown s.shown in
         let is = second_of (pos 1_615_687_199) u t (omega (arith, ints, either)) (omega (arith, ints, either)) s in
