@@ -187,7 +187,7 @@ fn give(rt: &HostRuntime, name: &str, zone: &TimeZone, asked: Asked<'_>) -> io::
     }
 }
 
-// Says why a zone or a file is passed over.
+// Says why a zone or a file is skipped.
 fn fail<T: fmt::Display + Drop>(rt: &HostRuntime, name: &str, why: T) -> io::Result<bool> {
     eprintln!(rt; "zonedump: {name}: {why}")?;
     Ok(false)
