@@ -64,6 +64,7 @@ pub mod ZoneFileLaws
 pub mod FileZoneLaws
 pub mod WallTimes
 pub mod UnixTimes
+pub mod EntryLaws
 pub mod Equalities
 pub mod SecondTypes
 pub mod ChangeLists

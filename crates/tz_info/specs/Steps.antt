@@ -26,6 +26,7 @@ pub mod Beside
 pub mod Held
 pub mod LastSpans
 pub mod Idle
+pub mod Entries
 pub mod Runs
 pub mod Differences
 pub mod Asked

@@ -1,6 +1,7 @@
 //! Time zones.
 
 pub(crate) mod all_changes;
+mod change_table;
 mod changes;
 pub(crate) mod differences;
 mod extremes;

@@ -249,7 +249,7 @@ impl TimeZone {
 }
 
 // The first second at which the leap time has come: also one that 64 bits don't hold.
-fn first_second(leaps: &[LeapSecond], leap_time: i64) -> i128
+pub(super) fn first_second(leaps: &[LeapSecond], leap_time: i64) -> i128
     requires { AreLeapSeconds leaps.now }
     ensures reached { (u y : ℤ) → IsLeapTime leaps.now u y → (leap_time ≤ℤ y) ↔ (result ≤ℤ u) }
     ensures bound { neg_ℤ (pos 9_223_372_036_854_775_808) ≤ℤ result }

@@ -1,0 +1,56 @@
+-- A zone's transitions as one list of clock changes by Unix time: its entries, each a Unix second and the index of a type.
+use Rattle.std.specs.Prelude.{ℕ, ℤ, ◌≡◌, ◌≢◌, ◌⊎◌, ◌+◌, ◌-◌, ◌<◌, ◌≤◌, Some, ◌≤ℤ◌, ◌<ℤ◌, ◌↔◌, ◌++◌, [], ◌∷◌, List, All, length, map, Bool, true, false, FitsSigned, slice_index_or}
+use Rattle.std.specs.Int.{w64}
+use Rattle.std.specs.List.{slice_get}
+use Rattle.tz_base.specs.LocalTypes.{LocalType}
+use Rattle.tz_info.specs.Leaps.{IsLeapTime}
+use Rattle.tz_info.specs.Lists.{last_else}
+use Rattle.tz_info.specs.Steps.Segments.{index_of}
+use Rattle.tz_info.specs.Transitions.{AreRising, NameTypes, passed}
+use Rattle.tz_info.specs.Zones.{Zone, IsFromLast, index_at}
+use Rattle.tz_info.specs.declared.zone.leap_second.LeapSecond.{LeapSecond}
+use Rattle.tz_info.specs.declared.zone.transition.Transition.{Transition}
+
+-- a list of entries, and how many of them have come where all transitions have
+pub record Entries : Type 0 where
+  pub items : List Transition
+  pub all : ℕ
+
+-- the index that the last entry names, or 0 where there is none
+abbrev pub last_index : List Transition → ℕ
+last_index entries = last_else 0 (map (λ t. t.type_index) entries)
+
+-- the entries are those of the zone: they rise, at each second with a leap time the last one that has come names the type of the last transition that has, `all` of them
+-- have come where all transitions have, and each comes at a second with a leap time and changes the type, except perhaps the last one with the last transition
+pub record AreEntries (z : Zone) (e : Entries) : Type 0 where
+  pub rising : AreRising e.items
+  pub indexes : NameTypes (length z.types) e.items
+  pub few : length e.items ≤ length z.transitions
+  pub more : length e.items ≤ e.all
+  pub named : (u x : ℤ) → FitsSigned w64 u → IsLeapTime z.leaps u x → slice_get z.types (index_at z x) ≡ slice_get z.types (last_index (passed e.items u))
+  pub come : (u x : ℤ) → FitsSigned w64 u → IsLeapTime z.leaps u x → IsFromLast z x ↔ (length (passed e.items u) ≡ e.all)
+  pub leap_time : (k : ℕ) (d : Transition) → k < length e.items → (x : ℤ) × IsLeapTime z.leaps (slice_index_or e.items k d).unix_leap_time x
+  pub differ : (k : ℕ) → k < length e.items → k + 1 < e.all → slice_get z.types (index_of e.items (k + 1)) ≢ slice_get z.types (index_of e.items k)
+
+-- the second s has a leap time, and is the first at which the leap time x has come
+pub record IsStartIn (leaps : List LeapSecond) (x s : ℤ) : Type 0 where
+  pub leap_time : (y : ℤ) × IsLeapTime leaps s y
+  pub reached : (u y : ℤ) → IsLeapTime leaps u y → (x ≤ℤ y) ↔ (s ≤ℤ u)
+
+-- the leap time x comes at no second of 64 bits
+abbrev pub NeverComes : List LeapSecond → ℤ → Type 0
+NeverComes leaps x = (u y : ℤ) → FitsSigned w64 u → IsLeapTime leaps u y → y <ℤ x
+
+-- the last entry comes at that second
+abbrev pub EndsAt : List Transition → ℤ → Type 0
+EndsAt entries second = (t : Transition) × (slice_get entries (length entries - 1) ≡ Some t) × (t.unix_leap_time ≡ second)
+
+-- the entries before a second: all of them, or all but the last, which comes at that second
+pub data AreBefore (entries : List Transition) (second : ℤ) (kept : List Transition) : Type 0 where
+  none_there : kept ≡ entries → ¬ (EndsAt entries second) → AreBefore entries second kept
+  one_there : (t : Transition) → entries ≡ kept ++ (t ∷ []) → t.unix_leap_time ≡ second → AreBefore entries second kept
+
+-- one entry more, if it is the last one or changes the type in force after the others
+pub data IsAdded (types : List LocalType) (kept : List Transition) (entry : Transition) (is_last : Bool) (entries : List Transition) : Type 0 where
+  added : entries ≡ kept ++ (entry ∷ []) → (is_last ≡ true) ⊎ (slice_get types entry.type_index ≢ slice_get types (last_index kept)) → IsAdded types kept entry is_last entries
+  idle : entries ≡ kept → is_last ≡ false → slice_get types entry.type_index ≡ slice_get types (last_index kept) → IsAdded types kept entry is_last entries
