@@ -1,15 +1,15 @@
 -- How the entries of a zone are made, one transition after another.
 use Rattle.std.proofs.Math.Seq.{take-suc}
-use Rattle.std.proofs.lemmas.List.{map-append, take-append-le}
+use Rattle.std.proofs.lemmas.List.{take-append-le}
 use Rattle.std.proofs.lemmas.List.Elements.{filter-append}
-use Rattle.tz_info.proofs.Words.{All-push, AreLeapSeconds, AreRising, Bool, HasType, IsFromLast, IsLeapTime, IsLeapTimeRefused, IsValid, LeapSecond, List, LocalType, SFits, Transition, Zone}
-use Rattle.tz_info.proofs.Words.{all_pairs_push, append-nil, ap, arith, by_lt_z, cases_lt, false, filter, get_or, get_or_append_left, get_or_default, get_or_push, index_at, index_of}
-use Rattle.tz_info.proofs.Words.{inl, inr, int_le, ints, last_else, le_false, le_true, length, length-filter, length-take, length_push, map, nat_tests, pos, passed, refl, slice_get, slice_get-get_or, Option, Some, None, suc, sym}
+use Rattle.tz_info.proofs.Words.{AreLeapSeconds, AreRising, Bool, IsFromLast, IsLeapTime, IsLeapTimeRefused, IsValid, LeapSecond, List, SFits, Transition, Zone}
+use Rattle.tz_info.proofs.Words.{all_pairs_push, append-nil, ap, arith, by_lt_z, cases_lt, false, get_or, get_or_append_left, get_or_default, get_or_push, index_of}
+use Rattle.tz_info.proofs.Words.{inl, inr, int_le, ints, last_else, le_false, le_true, length, length_push, map, nat_tests, pos, passed, refl, slice_get, slice_get-get_or, Option, Some, None, suc, sym}
 use Rattle.tz_info.proofs.Words.{take, take_all, true, w64, zero, ℕ, ℤ, [], ◌++◌, ◌+◌, ◌-◌, ◌==◌, ◌<ℤ◌, ◌<◌, ◌↔◌, ◌∙◌, ◌∷◌, ◌≡◌, ◌≢◌, ◌≤ℤ◌, ◌≤◌, ◌⊎◌}
 use Rattle.std.specs.Prelude.{option_to_list}
 use Rattle.std.proofs.lemmas.Option.{slice_get_within}
 use Rattle.tz_info.proofs.{Prefixes.{last_taken}, SegmentLaws.{come_by_time, not_later, split_at, split_count}, ZoneChanges.{refused_on}}
-use Rattle.tz_info.specs.Steps.Entries.{AreBefore, AreEntries, EndsAt, Entries, IsAdded, IsStartIn, NeverComes, added, idle, last_index, none_there, one_there}
+use Rattle.tz_info.specs.Steps.Entries.{AreBefore, AreEntries, EndsAt, IsAdded, IsStartIn, NeverComes, added, idle, last_index, none_there, one_there}
 
 -- ---- lists with one item more
 pub last_more : (ts : List Transition) (t : Transition) (i : ℕ) → last_else i (map (λ (s : Transition). s.type_index) (ts ++ (t ∷ []))) ≡ t.type_index
@@ -128,11 +128,11 @@ pub one_more : (z : Zone) (old kept entries : List Transition) (k : ℕ) (s : �
     → IsAdded z.types kept entry is_last entries → AreMadeOf z entries (k + 1)
 one_more z old kept entries k s t entry is_last valid more item made start before at index not_last is_one change =
     let until : (j : ℕ) (d : Transition) → j < length old → (get_or old j d).unix_leap_time ≤ℤ s = λ j d h.
-        let (y, l) = start.leap_time in
-        let come = (start.reached s y l).1 (omega (arith, ints)) in
-        made.until s y l (λ i e below.
-            let r = valid.transitions.rising i k e below more in
-            let g = ap (λ (a : Transition). a.unix_leap_time) (get_or_default z.transitions k e t more ∙ sym item) in omega (arith, ints)) j d h in
+    let (y, l) = start.leap_time in
+    let come = (start.reached s y l).1 (omega (arith, ints)) in
+    made.until s y l (λ i e below.
+    let r = valid.transitions.rising i k e below more in
+    let g = ap (λ (a : Transition). a.unix_leap_time) (get_or_default z.transitions k e t more ∙ sym item) in omega (arith, ints)) j d h in
     let k_of = kept_of z old kept k s more made until before in
     more_of z old kept entries k s t entry is_last valid more item made start k_of at index not_last is_one change
   where
@@ -237,7 +237,7 @@ from_last z entries u x valid made l = (
         let k = length z.transitions - 1 in
         let last : (d : Transition) → (get_or z.transitions k d).unix_leap_time ≤ℤ x = λ d. made.last k d (omega arith) refl u x l (all_passed entries u made.rising come) in
         ap length (passed_all z.transitions x (λ i d h.
-            let n = not_later z.transitions i k d valid.transitions.rising (omega arith) (omega arith) in let m = last d in omega (arith, ints)))
+        let n = not_later z.transitions i k d valid.transitions.rising (omega arith) (omega arith) in let m = last d in omega (arith, ints)))
     | inr none ↦ let m = passed_most z.transitions x valid.transitions.rising in omega arith
   ],
 )
@@ -261,10 +261,10 @@ pub never_come : (z : Zone) (entries : List Transition) (k all : ℕ) (t : Trans
     → NeverComes z.leaps t.unix_leap_time → all ≡ length entries + 1 → AreMadeOf z entries k → AreEntries z (record { items = entries; all = all })
 never_come z entries k all t valid more item never a made =
     let first : (u x : ℤ) → SFits w64 u → IsLeapTime z.leaps u x → passed z.transitions x ≡ passed (take k z.transitions) x = λ u x f l.
-        passed_first z.transitions k x (λ i d low h.
-            let late = never u x f l in
-            let g = ap (λ (b : Transition). b.unix_leap_time) (get_or_default z.transitions k d t more ∙ sym item) in
-            let n = not_later z.transitions k i d valid.transitions.rising low h in omega (arith, ints)) in
+    passed_first z.transitions k x (λ i d low h.
+    let late = never u x f l in
+    let g = ap (λ (b : Transition). b.unix_leap_time) (get_or_default z.transitions k d t more ∙ sym item) in
+    let n = not_later z.transitions k i d valid.transitions.rising low h in omega (arith, ints)) in
     rw a (record {
       rising = made.rising;
       indexes = made.indexes;
@@ -272,15 +272,18 @@ never_come z entries k all t valid more item never a made =
       more = omega arith;
       named = λ u x f l. rw (first u x f l) (made.named u x l);
       come = λ u x f l. (
-          λ come.
-              let late = never u x f l in
-              let c = all_passed z.transitions x valid.transitions.rising come k t more in
-              let g = ap (λ (b : Transition). b.unix_leap_time) item in absurd (omega (arith, ints)),
-          λ come. let m = passed_most entries u made.rising in absurd (omega arith),
+        λ come.
+            let late = never u x f l in
+            let c = all_passed z.transitions x valid.transitions.rising come k t more in
+            let g = ap (λ (b : Transition). b.unix_leap_time) item in absurd (omega (arith, ints)),
+        λ come. let m = passed_most entries u made.rising in absurd (omega arith),
       );
       leap_time = made.leap_time;
       differ = λ j h m. made.differ j h (inr more);
     })
+
+pub no_entries : (z : Zone) → IsValid z → length z.transitions ≡ 0 → AreEntries z (record { items = []; all = 0 })
+no_entries z valid none = all_come z [] 0 0 valid (sym none) refl (none_made z)
 
 -- ---- the second at which a transition comes
 pub never_then : (leaps : List LeapSecond) (x start : ℤ) → ((u y : ℤ) → IsLeapTime leaps u y → (x ≤ℤ y) ↔ (start ≤ℤ u)) → pos 9_223_372_036_854_775_807 <ℤ start → NeverComes leaps x

@@ -1,7 +1,7 @@
 -- The passed entries, by halves.
 use Rattle.std.specs.List.Sorted.{IsPartitionedBy}
 use Rattle.tz_info.proofs.Words.{AreLeapSeconds, IsLeapTime, LeapSecond, List, arith, by_lt_z, cases_lt, false, get_or, inl, inr, int_le, int_lt, ints, le_is}
-use Rattle.tz_info.proofs.Words.{le_true, length, lt_true, nat_tests, passed_count, pos, true, ℕ, ℤ, ◌+ℤ◌, ◌<ℤ◌, ◌<◌, ◌↔◌, ◌==◌, ◌≡◌, ◌≤ℤ◌, ◌≤◌}
+use Rattle.tz_info.proofs.Words.{le_true, length, lt_true, nat_tests, passed_count, pos, true, ℕ, ℤ, ◌+ℤ◌, ◌<ℤ◌, ◌<◌, ◌↔◌, ◌==◌, ◌∷◌, [], ◌≡◌, ◌≤ℤ◌, ◌≤◌}
 use Rattle.tz_info.proofs.{LeapEntries.{follow, threshold_at}, LeapOrder.{bounded, none_counted, split}}
 use Rattle.tz_info.proofs.LeapStarts.{correction_behind, passed_at_most, times_rise}
 
@@ -55,3 +55,8 @@ pub parted_before : (es : List LeapSecond) (x : ℤ) → AreLeapSeconds es → I
 parted_before es x valid i j d h l t = let r = times_rise es i j d valid h l in earlier (get_or es i d).unix_leap_time (get_or es j d).unix_leap_time x r t where
   earlier : (a b x : ℤ) → a ≤ℤ b → int_lt b x ≡ true → int_lt a x ≡ true
   earlier a b x h t = grind (arith, ints)
+
+-- without leap seconds the leap time of a second is that second
+pub own_leap_time : (es : List LeapSecond) (u : ℤ) → length es ≡ 0 → IsLeapTime es u u
+own_leap_time [] u none = record { sum = omega (arith, ints); fits = λ k h. absurd (omega arith) }
+own_leap_time (e ∷ es) u none = absurd (omega arith)

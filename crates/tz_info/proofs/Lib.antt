@@ -42,9 +42,7 @@ pub mod SeasonAnswers
 pub mod WindowLaws
 pub mod GapLaws
 pub mod AroundLaws
-pub mod IdleRuns
 pub mod ZoneChanges
-pub mod LeaplessChanges
 pub mod SpanLaws
 pub mod LastSpanLaws
 pub mod SpanSearch
@@ -65,6 +63,7 @@ pub mod FileZoneLaws
 pub mod WallTimes
 pub mod UnixTimes
 pub mod EntryLaws
+pub mod EntryChanges
 pub mod Equalities
 pub mod SecondTypes
 pub mod ChangeLists

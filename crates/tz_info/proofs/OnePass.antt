@@ -1,6 +1,6 @@
 -- The pieces of the first segments, as long as the last of them has no end, and one segment more.
 use Rattle.tz_info.proofs.Words.{AreCutsCrossed, AreInOrder, AreLeapSeconds, ArePieces, ArePiecesAt, AreRising, HasType, IsCutAt, IsCutFrom, IsFold, IsGap}
-use Rattle.tz_info.proofs.Words.{IsLeapless, IsMerged, IsSegment, IsStart, IsTypeBefore, IsUtOffset, IsValid, Jump, LeapSecond, List, LocalType, None as none}
+use Rattle.tz_info.proofs.Words.{IsLeapless, IsMerged, IsSegment, IsStart, IsTypeBefore, IsUtOffset, IsValid, Jump, LeapSecond, List, LocalType}
 use Rattle.tz_info.proofs.Words.{Piece, Segment, Transition, Zone, all_pairs_push, answer_at, answer_before, arith}
 use Rattle.tz_info.proofs.Words.{get_or, get_or_default, index_of, inl, inr, ints, le_false, le_true, length, length_push, neg_ℤ, pos, refl}
 use Rattle.tz_info.proofs.Words.{saturate_signed, suc, table_count, together, w64, zero, ℕ, ℤ, [], ⊎_elim, ◌++◌, ◌+ℤ◌, ◌-◌, ◌<ℤ◌, ◌<◌, ◌∙◌}

@@ -1,8 +1,8 @@
 -- When clocks show the local times of a stretch: its first and its last second, from run to run, and the first second at or after a local time.
 use Rattle.tz_info.proofs.Words.{AreEndsWithin, AreShownWithin, AreWithin, Bool, HaveOneTypeFrom, IsBeyondJumps, IsEndWithin, IsFirstAtOrAfter, Precedes}
 use Rattle.tz_info.proofs.Words.{IsFirstWithin, IsGreatest, IsLeast, IsNeverWithin, IsNextRun, IsRuleOrNone, IsValid, IsWindowOf, IsWithinRun, LocalType, None}
-use Rattle.tz_info.proofs.Words.{Option, SFits, ShownSeconds, Shows, ShowsAtOrAfter, ShowsWithin, Some, TypeAt, Zone, arith, by_lt_z, false, ints, offsets, pos}
-use Rattle.tz_info.proofs.Words.{refl, subst, true, unsigned_abs, w64, ℤ, ◌<◌, ◌+ℤ◌, ◌-ℤ◌, ◌<ℤ◌, ◌↔◌, ◌≡◌, ◌≤ℤ◌}
+use Rattle.tz_info.proofs.Words.{Option, SFits, ShownSeconds, ShowsAtOrAfter, ShowsWithin, Some, TypeAt, Zone, arith, by_lt_z, false, ints, offsets, pos}
+use Rattle.tz_info.proofs.Words.{refl, subst, true, unsigned_abs, w64, ℤ, ◌<◌, ◌+ℤ◌, ◌-ℤ◌, ◌<ℤ◌, ◌≡◌, ◌≤ℤ◌}
 use Rattle.std.specs.Prelude.{if◌then◌else◌}
 use Rattle.tz_info.proofs.{ExtremeLaws.{at_least_least, at_most_greatest}, GapLaws.{near_type}, ZoneLaws.{type_once}}
 

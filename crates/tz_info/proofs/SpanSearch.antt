@@ -1,28 +1,10 @@
--- Spans by the changes on both sides of a second, from the place between transitions where it lies.
-use Rattle.tz_info.proofs.Words.{Alternate, AlternateAt, AreComeOrAll, Change, ComesAt, HasNoChange, IsAhead, IsBegin, IsChange, IsChangeByRule, IsInTable}
-use Rattle.tz_info.proofs.Words.{IsRuleOrNone, IsSecondOfNearest, IsSpanAt, IsValid, LocalType, None, Option, SFits, Some, TypeAt, Zone, arith, false, inl, inr}
-use Rattle.tz_info.proofs.Words.{ints, length, pos, segment_of, sym, true, w64, ℕ, ℤ, ◌+◌, ◌-ℤ◌, ◌<ℤ◌, ◌<◌, ◌∙◌, ◌≡◌, ◌≤ℤ◌}
+-- Spans by a rule of two types.
+use Rattle.tz_info.proofs.Words.{Alternate, AlternateAt, HasNoChange, IsAhead, IsBegin, IsInTable}
+use Rattle.tz_info.proofs.Words.{IsRuleOrNone, IsSecondOfNearest, IsSpanAt, IsValid, LocalType, None, Option, SFits, Some, TypeAt, Zone, arith, false}
+use Rattle.tz_info.proofs.Words.{ints, length, pos, segment_of, sym, true, w64, ℤ, ◌-ℤ◌, ◌<ℤ◌, ◌∙◌, ◌≡◌, ◌≤ℤ◌}
 use Rattle.tz_info.specs.declared.rule.transition_rule.TransitionRule.TheVariants.{Alternate as AlternateRule}
-use Rattle.tz_info.proofs.{ChangeSearch.{nearest_moved}, RuleChanges.{rule_second}, SegmentLaws.{segments_rise}, SpanLaws.{span_between, span_of_changes}}
-use Rattle.tz_info.proofs.ZoneChanges.{ahead_come, begins, from_rule, rule_first, rule_found, rule_is_last, table_first, table_is_last, table_last, yet_come}
-use Rattle.tz_info.proofs.ZoneChanges.{yet_found}
-
--- ---- before the last transition
-no_rule_yet : (z : Zone) (u : ℤ) (k : ℕ) → IsValid z → k < length z.transitions → AreComeOrAll z u k → HasNoChange (TypeAt z) (IsChangeByRule z (λ v. v ≤ℤ u))
-no_rule_yet z u k valid some (inr r) d is inside = let all = r.1 in absurd (omega arith)
-no_rule_yet z u k valid some (inl come) d is inside =
-    let n = come.is in let i = inside.inside in let e = inside.by_rule in
-    let r = segments_rise z (d.at -ℤ pos 1) u valid.transitions.rising valid.leaps (omega (arith, ints)) in
-    omega arith
-
--- from one transition to the next, if changes come with both
-pub span_from_to : (z : Zone) (u : ℤ) (k : ℕ) (one other : Change) → IsValid z → IsRuleOrNone z.rule → SFits w64 u → AreComeOrAll z u (k + 1)
-    → k + 1 < length z.transitions → IsChange (TypeAt z) one × ComesAt z k one.at → IsChange (TypeAt z) other × ComesAt z (k + 1) other.at
-    → IsSpanAt (TypeAt z) u (record { local_time_type = other.before; from = Some one.at; until = Some other.at })
-span_from_to z u k one other valid limits fits come some first end = span_of_changes z u one other valid limits fits
-    (table_is_last z (λ v. v ≤ℤ u) (Some one) valid (no_rule_yet z u (k + 1) valid some come)
-    (table_last z u k one valid (ahead_come z u (k + 1) valid come) first.0 first.1))
-    (table_first z (λ v. u <ℤ v) other valid (yet_found z u (k + 1) (k + 1) other some come (omega arith) (yet_come z u (k + 1) valid come) end.0 end.1))
+use Rattle.tz_info.proofs.{ChangeSearch.{nearest_moved}, RuleChanges.{rule_second}, SegmentLaws.{segments_rise}, SpanLaws.{span_between}}
+use Rattle.tz_info.proofs.ZoneChanges.{begins, from_rule, rule_first, rule_found, rule_is_last}
 
 -- ---- by a rule of two types
 table_over : (z : Zone) (u : ℤ) → IsValid z → segment_of z u ≡ length z.transitions → HasNoChange (TypeAt z) (IsInTable z (λ v. u <ℤ v))

@@ -109,8 +109,7 @@ pub use Rattle.tz_info.specs.Steps.ChangeLists.{rule_type, rule_type_or, type_at
 unfoldable pub use Rattle.tz_info.specs.Steps.ChangeLists.{changes_of, seconds_between, type_or_none}
 pub use Rattle.tz_info.specs.Steps.Held.{IsEndOrTyped}
 pub use Rattle.tz_info.specs.Steps.LastSpans.{IsLastSpan}
-pub use Rattle.tz_info.specs.Steps.Idle.{AreStarts, AreStartsUpTo, HaveOneType, IsCarried, IsIdleRun}
-pub use Rattle.tz_info.specs.Steps.Changes.{AreAhead, AreComeAt, AreComeOrAll, AreIn, ComesAt, HasNoneAt, IsAhead, IsAheadUpTo, IsBegin}
+pub use Rattle.tz_info.specs.Steps.Changes.{AreIn, ComesAt, IsAhead, IsAheadUpTo, IsBegin}
 pub use Rattle.tz_info.specs.Steps.Changes.{IsChangeByRule, IsEarlierOf, IsIdle, IsIdleTo, IsInStretch, IsInTable, IsLaterOf, IsNearRuleTime, IsOfYear, IsOneOf}
 pub use Rattle.tz_info.specs.Steps.Changes.{IsStretchAhead, far_side, near_end, near_side, nearer_one, new_year, year_at}
 unfoldable pub use Rattle.tz_info.specs.Steps.Changes.{moments_near}
@@ -139,7 +138,7 @@ pub use Rattle.tz_info.specs.Steps.Runs.{IsWithinRun}
 pub use Rattle.tz_info.specs.Steps.Seasons.{IsAmid, IsAmidFrom, IsDecidedIn, IsLimit, IsSeason, IsSeasonFor, IsSeasonIn, IsSeasonOf}
 pub use Rattle.tz_info.specs.Steps.Segments.{begin_of, index_of}
 pub use Rattle.tz_info.specs.Steps.Shown.{together}
-pub use Rattle.tz_info.specs.Steps.Starts.{AreByUnixTime, AreInTurn, HaveCome, HaveComeAt, HaveComeFrom, IsLeapless, IsReachedFrom, leap_time_at}
+pub use Rattle.tz_info.specs.Steps.Starts.{AreByUnixTime, HaveCome, HaveComeFrom, IsLeapless, IsReachedFrom, leap_time_at}
 pub use Rattle.tz_info.specs.Steps.Turns.{is_between, is_dst_by_one, is_in_three}
 pub use Rattle.tz_info.specs.Steps.Validity.{Stands}
 pub use Rattle.tz_info.specs.Steps.Walk.{IsAskedLast, IsShownIn, IsTried, TypeIn}

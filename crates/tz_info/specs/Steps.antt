@@ -25,7 +25,6 @@ pub mod ChangeLists
 pub mod Beside
 pub mod Held
 pub mod LastSpans
-pub mod Idle
 pub mod Entries
 pub mod Runs
 pub mod Differences

@@ -6,7 +6,6 @@ mod changes;
 pub(crate) mod differences;
 mod extremes;
 mod gap;
-mod idle;
 mod index;
 pub(crate) mod kept;
 mod last_span;

@@ -1,14 +1,14 @@
 -- The way to the next and to the previous change.
-use Rattle.std.specs.Prelude.{ℕ, ◌<◌, ◌≤◌, ◌+◌, length, neg_ℤ, List, [], ◌∷◌, slice_index_or, ℤ, pos, ◌+ℤ◌, ◌-ℤ◌, ◌*ℤ◌, ◌≤ℤ◌, ◌<ℤ◌, ◌↔◌, ◌≡◌, ◌⊎◌}
+use Rattle.std.specs.Prelude.{ℕ, ◌<◌, ◌+◌, length, neg_ℤ, List, [], ◌∷◌, slice_index_or, ℤ, pos, ◌+ℤ◌, ◌-ℤ◌, ◌*ℤ◌, ◌≤ℤ◌, ◌<ℤ◌, ◌↔◌, ◌≡◌}
 use Rattle.std.specs.Prelude.{Option, Some, None, Bool, true, false, if◌then◌else◌, int_lt}
 use Rattle.naive_base.specs.Year.{year_start}
 use Rattle.tz_base.specs.LocalTypes.{LocalType}
 use Rattle.tz_info.specs.Changes.{IsChange, HasNoChange, Precedes}
-use Rattle.tz_info.specs.Leaps.{IsLeapTime, IsLeapTimeRefused}
+use Rattle.tz_info.specs.Leaps.{IsLeapTime}
 use Rattle.tz_info.specs.Moments.{AlternateAt, IsRuleTime, IsYearOf, start_in, end_in}
 use Rattle.tz_info.specs.Rules.{Alternate}
 use Rattle.tz_info.specs.Segments.{segment_of}
-use Rattle.tz_info.specs.Zones.{Zone, TypeAt}
+use Rattle.tz_info.specs.Zones.{Zone}
 use Rattle.tz_base.specs.declared.change.Change.{Change}
 
 -- the transition at place i has come if and only if the second is `start` or later
@@ -109,24 +109,10 @@ pub record IsOfYear (after last year u : ℤ) : Type 0 where
   pub inside : IsInStretch after last u
   pub of_year : IsYearOf (u -ℤ pos 1) year
 
--- n transitions have come at the second u
-pub record AreComeAt (z : Zone) (u : ℤ) (n : ℕ) : Type 0 where
-  pub leap_time : ℤ
-  pub of_second : IsLeapTime z.leaps u leap_time
-  pub is : n ≡ segment_of z u
-
--- n transitions have come at the second u, or its leap time is refused, and there are n
-abbrev pub AreComeOrAll : Zone → ℤ → ℕ → Type 0
-AreComeOrAll z u n = AreComeAt z u n ⊎ (IsLeapTimeRefused z.leaps u × (n ≡ length z.transitions))
-
 -- u is a second that `within` takes, and at the second before u some transition has not come
 pub record IsInTable (z : Zone) (within : ℤ → Type 0) (u : ℤ) : Type 0 where
   pub inside : within u
   pub table : segment_of z (u -ℤ pos 1) < length z.transitions
-
--- no change comes with the transition at that place
-abbrev pub HasNoneAt : Zone → ℕ → Type 0
-HasNoneAt z place = (d : Change) → IsChange (TypeAt z) d → segment_of z (d.at -ℤ pos 1) ≤ place → place < segment_of z d.at → ⊥
 
 -- u is a second that `within` takes, and at the second before u all transitions have come
 pub record IsChangeByRule (z : Zone) (within : ℤ → Type 0) (u : ℤ) : Type 0 where
@@ -137,10 +123,3 @@ pub record IsChangeByRule (z : Zone) (within : ℤ → Type 0) (u : ℤ) : Type 
 pub record IsBegin (z : Zone) (begin : ℤ) : Type 0 where
   pub comes : (place : ℕ) → place + 1 ≡ length z.transitions → ComesAt z place begin
   pub alone : length z.transitions ≡ 0 → begin ≡ neg_ℤ (pos 9_223_372_036_854_775_808)
-
--- the table's changes up to that second come with the first `count` transitions, and these come at it or
--- before it
-pub record AreAhead (z : Zone) (last : ℤ) (count : ℕ) : Type 0 where
-  pub within : count ≤ length z.transitions
-  pub ahead : (d : Change) → IsChange (TypeAt z) d → d.at ≤ℤ last → segment_of z (d.at -ℤ pos 1) < length z.transitions → segment_of z (d.at -ℤ pos 1) < count
-  pub come : (place : ℕ) (start y : ℤ) → place < count → ComesAt z place start → IsLeapTime z.leaps start y → start ≤ℤ last

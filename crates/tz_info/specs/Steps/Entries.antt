@@ -1,13 +1,18 @@
 -- A zone's transitions as one list of clock changes by Unix time: its entries, each a Unix second and the index of a type.
-use Rattle.std.specs.Prelude.{ℕ, ℤ, ◌≡◌, ◌≢◌, ◌⊎◌, ◌+◌, ◌-◌, ◌<◌, ◌≤◌, Some, ◌≤ℤ◌, ◌<ℤ◌, ◌↔◌, ◌++◌, [], ◌∷◌, List, All, length, map, Bool, true, false, FitsSigned, slice_index_or}
+use Rattle.std.specs.Prelude.{ℕ, ℤ, ◌≡◌, ◌≢◌, ◌⊎◌, ◌+◌, ◌-◌, ◌<◌, ◌≤◌, Some, ◌≤ℤ◌, ◌<ℤ◌, ◌↔◌, ◌++◌, [], ◌∷◌, List, length, map, Bool, true, false, FitsSigned, slice_index_or, IsTrue, Option, None, zero, suc}
 use Rattle.std.specs.Int.{w64}
 use Rattle.std.specs.List.{slice_get}
 use Rattle.tz_base.specs.LocalTypes.{LocalType}
-use Rattle.tz_info.specs.Leaps.{IsLeapTime}
+use Rattle.tz_info.specs.Leaps.{IsLeapTime, least_time}
 use Rattle.tz_info.specs.Lists.{last_else}
-use Rattle.tz_info.specs.Steps.Segments.{index_of}
+use Rattle.tz_info.specs.Steps.Segments.{begin_of, index_of}
+use Rattle.tz_info.specs.Steps.Starts.{leap_time_at}
 use Rattle.tz_info.specs.Transitions.{AreRising, NameTypes, passed}
 use Rattle.tz_info.specs.Zones.{Zone, IsFromLast, index_at}
+use Rattle.tz_base.specs.declared.change.Change.{Change}
+use Rattle.tz_timeline.specs.Digits.{digits}
+use Rattle.tz_info.specs.declared.zone.change_table.Between.{Between}
+use Rattle.tz_info.specs.declared.zone.change_table.Come.{Come}
 use Rattle.tz_info.specs.declared.zone.leap_second.LeapSecond.{LeapSecond}
 use Rattle.tz_info.specs.declared.zone.transition.Transition.{Transition}
 
@@ -54,3 +59,37 @@ pub data AreBefore (entries : List Transition) (second : ℤ) (kept : List Trans
 pub data IsAdded (types : List LocalType) (kept : List Transition) (entry : Transition) (is_last : Bool) (entries : List Transition) : Type 0 where
   added : entries ≡ kept ++ (entry ∷ []) → (is_last ≡ true) ⊎ (slice_get types entry.type_index ≢ slice_get types (last_index kept)) → IsAdded types kept entry is_last entries
   idle : entries ≡ kept → is_last ≡ false → slice_get types entry.type_index ≡ slice_get types (last_index kept) → IsAdded types kept entry is_last entries
+
+-- what has come at the second u: the index of the type in force after it, and whether all transitions have
+pub record IsCome (e : Entries) (u : ℤ) (come : Come) : Type 0 where
+  pub all : IsTrue come.are_all ↔ (length (passed e.items u) ≡ e.all)
+  pub index : come.index ≡ last_index (passed e.items u)
+
+-- the same by the zone's transitions, at a second with a leap time
+pub record HaveComeAt (z : Zone) (u : ℤ) (come : Come) : Type 0 where
+  pub of_second : IsLeapTime z.leaps u (leap_time_at z u)
+  pub all : IsTrue come.are_all ↔ IsFromLast z (leap_time_at z u)
+  pub named : slice_get z.types (index_at z (leap_time_at z u)) ≡ slice_get z.types come.index
+  pub below : come.index < length z.types
+
+-- as many looks as the number of entries has digits, and one where there is none
+abbrev pub most_looks : ℕ → ℕ
+most_looks zero = 1
+most_looks (suc n) = digits (suc n)
+
+-- the change that the entry at that place makes, or none where it comes at the least second
+abbrev pub IsEntryChange : List LocalType → List Transition → ℕ → Option Change → Type 0
+IsEntryChange types items place None = (d : Transition) → (slice_index_or items place d).unix_leap_time ≡ least_time
+IsEntryChange types items place (Some c) =
+    ((d : Transition) → c.at ≡ (slice_index_or items place d).unix_leap_time) × FitsSigned w64 c.at × (c.at ≢ least_time)
+    × (slice_get types (index_of items place) ≡ Some c.before) × (slice_get types (index_of items (place + 1)) ≡ Some c.after)
+
+-- the entries on both sides of the second u
+pub record IsBetween (e : Entries) (u : ℤ) (b : Between) : Type 0 where
+  pub place : ℕ
+  pub some : place < length e.items
+  pub come : place ≡ length (passed e.items u)
+  pub from : b.from ≡ begin_of e.items place
+  pub until : (d : Transition) → b.until ≡ (slice_index_or e.items place d).unix_leap_time
+  pub index : b.index ≡ index_of e.items place
+  pub span : IsTrue b.is_span → (0 < place) × (least_time <ℤ b.from) × (place + 1 < e.all)

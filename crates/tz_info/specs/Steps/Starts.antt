@@ -1,9 +1,9 @@
 -- From which second on a transition has come, and which local time a clock shows then.
-use Rattle.std.specs.Prelude.{ℕ, ℤ, pos, neg_ℤ, ◌≡◌, ◌+◌, ◌<◌, ◌≤◌, ◌+ℤ◌, ◌-ℤ◌, ◌≤ℤ◌, ◌<ℤ◌, ◌↔◌, List, length, slice_index_or, Option, MatchOption}
+use Rattle.std.specs.Prelude.{ℕ, ℤ, pos, neg_ℤ, ◌≡◌, ◌<◌, ◌≤◌, ◌+ℤ◌, ◌-ℤ◌, ◌≤ℤ◌, ◌<ℤ◌, ◌↔◌, List, length, slice_index_or}
 use Rattle.naive_base.specs.Range.{IsWide}
 use Rattle.tz_info.specs.Leaps.{IsLeapTime, IsNear, correction_at}
 use Rattle.tz_info.specs.Transitions.{passed}
-use Rattle.tz_info.specs.Zones.{Zone, index_at}
+use Rattle.tz_info.specs.Zones.{Zone}
 use Rattle.tz_info.specs.declared.zone.leap_second.LeapSecond.{LeapSecond}
 use Rattle.tz_info.specs.declared.zone.transition.Transition.{Transition}
 
@@ -18,28 +18,9 @@ pub record AreByUnixTime (transitions : List Transition) (leaps : List LeapSecon
   pub come : (k : ℕ) (d : Transition) → k < length transitions
       → IsReachedFrom leaps (slice_index_or transitions k d).unix_leap_time (slice_index_or entries k d).unix_leap_time
 
--- four transitions by Unix time, one after the other
-pub record AreInTurn (z : Zone) (before first end after : Transition) : Type 0 where
-  pub entries : List Transition
-  pub made : AreByUnixTime z.transitions z.leaps entries
-  pub place : ℕ
-  pub some : place + 3 < length z.transitions
-  pub at_before : before ≡ slice_index_or entries place before
-  pub at_first : first ≡ slice_index_or entries (place + 1) first
-  pub at_end : end ≡ slice_index_or entries (place + 2) end
-  pub at_after : after ≡ slice_index_or entries (place + 3) after
-
 -- the leap time of the second u, if it has one
 abbrev pub leap_time_at : Zone → ℤ → ℤ
 leap_time_at z u = u +ℤ correction_at z.leaps u
-
--- `count` transitions have come at the second u, and `latest` names the type of the last of them
-pub record HaveComeAt (z : Zone) (u : ℤ) (count : ℕ) (latest : Option Transition) : Type 0 where
-  pub of_second : IsLeapTime z.leaps u (leap_time_at z u)
-  pub within : count ≤ length z.transitions
-  pub come : count ≡ length (passed z.transitions (leap_time_at z u))
-  pub named : MatchOption latest ((count ≡ 0) × (index_at z (leap_time_at z u) ≡ 0))
-      (λ t. (index_at z (leap_time_at z u) ≡ t.type_index) × (t.type_index < length z.types))
 
 -- the first n entries come at or before the leap time x, and the others after it
 pub record HaveCome (leaps : List LeapSecond) (x : ℤ) (n : ℕ) : Type 0 where

@@ -1,34 +1,60 @@
 //! A zone's transitions as one list of clock changes by Unix time.
 
-ghost use Rattle.std.specs.Prelude.{◌≡◌, ◌+◌, ◌<◌, ◌≤◌, ◌*◌, length, IsTrue, ◌↔◌, map, option_map};
-ghost use Rattle.std.specs.Prelude.{slice_index_or, MatchOption, MatchResult, ⊤};
+ghost use Rattle.std.specs.Prelude.{◌≡◌, [], ◌+◌, ◌<◌, ◌≤◌, ◌*◌, ◌^◌, length, IsTrue, ◌↔◌, map};
+ghost use Rattle.std.specs.Prelude.{option_map, slice_index_or, IfSome, MatchOption, MatchResult, ⊤};
 ghost use Rattle.std.specs.List.{slice_get};
 ghost use Rattle.std.specs.Prelude.{vec_capacity, vec_len};
+ghost use Rattle.tz_base.specs.declared.error.Error.TheVariants.{OutOfMemory};
 ghost use Rattle.tz_info.specs.Leaps.{AreLeapSeconds};
 ghost use Rattle.tz_info.specs.Steps.Entries.{AreBefore, AreEntries, EndsAt, Entries, IsAdded};
-ghost use Rattle.tz_info.specs.Steps.Entries.{IsStartIn, NeverComes, last_index};
+ghost use Rattle.tz_info.specs.Steps.Entries.{IsBetween, IsCome, IsEntryChange, IsStartIn};
+ghost use Rattle.tz_info.specs.Steps.Entries.{NeverComes, last_index, most_looks};
+ghost use Rattle.tz_info.specs.Steps.Segments.{index_of};
 ghost use Rattle.tz_info.specs.Steps.Pieces.{zone_in};
-ghost use Rattle.tz_info.specs.Transitions.{NameTypes};
+ghost use Rattle.tz_info.specs.HeldChanges.{change_held};
+ghost use Rattle.tz_info.specs.Transitions.{NameTypes, passed};
 ghost use Rattle.tz_info.specs.Zones.{IsValid};
+ghost use Rattle.tz_info.specs.declared.zone.transition.Transition.{Transition};
+ghost use Rattle.tz_timeline.specs.Counts.{HasRoomFor, RoseWithin};
 
-use crate::change::is_same_type;
+use crate::change::{HeldChange, is_same_type};
 use crate::zone::changes::first_second;
 use crate::zone::kept::Kept;
 use crate::zone::leap_second::LeapSecond;
 use crate::zone::leap_time::leap_time;
 use crate::zone::segments::Lists;
+use crate::zone::table::Table;
 use std::alloc::{AllocError, Global};
 use std::marker::Model;
-use tz_base::LocalTimeType;
-use tz_timeline::{Timed, Timeline};
+use tz_base::{Error, LocalTimeType};
+use tz_timeline::{Probes, Timed};
 
 // The transitions by Unix time, without those that change nothing. The last one is kept in any case,
 // since the rule begins there.
 #[derive(Drop)]
 pub(super) struct ChangeTable {
-    pub(super) entries: Timeline<Kept>,
+    entries: Table,
     // How many entries have come where all transitions have: more than there are, if never.
-    pub(super) all: usize,
+    all: usize,
+}
+
+// What has come at a second: the index of the type in force, where some transition has not come, and
+// whether all have.
+#[derive(Clone, Copy)]
+pub(super) struct Come {
+    pub(super) index: usize,
+    pub(super) are_all: bool,
+}
+
+// The seconds from one entry on, or from the least second of 64 bits, and before the next entry, and
+// the index of the type in force there.
+#[derive(Clone, Copy)]
+pub(super) struct Between {
+    pub(super) from: i64,
+    pub(super) until: i64,
+    pub(super) index: usize,
+    // Whether clocks change at both ends.
+    pub(super) is_span: bool,
 }
 
 impl Model for ChangeTable {
@@ -41,22 +67,163 @@ impl Model for ChangeTable {
 
 impl ChangeTable {
     // The table of the zone of those lists.
-    pub(super) fn new(alloc: Global, lists: Lists) -> Result<ChangeTable, AllocError>
+    pub(super) fn new(alloc: Global, lists: Lists) -> Result<ChangeTable, Error>
         requires { IsValid (zone_in lists) }
-        ensures { MatchResult result (λ t. AreEntries (zone_in lists.entry) t) (λ _. ⊤) }
+        ensures { MatchResult result (λ t. AreEntries (zone_in lists.entry) t)
+            (λ e. e ≡ OutOfMemory) }
     {
         let (items, all) = entries_of(alloc, lists)?;
-        let entries = Timeline::new(alloc, items)?;
+        let entries = Table::new(alloc, items)?;
         Ok(ChangeTable { entries, all })
+    }
+
+    // What has come at the second. Where there is no entry, one look is counted.
+    #[inline(always)]
+    pub(super) fn come(&self, second: i64, probes: &mut Probes) -> Come
+        requires { HasRoomFor (2 ^ 64) probes.old.reads }
+        ensures come { IsCome self.now second result }
+        ensures cost { RoseWithin probes.old probes.new (most_looks (length self.now.items)) 0 }
+        ensures looked { probes.old.reads < probes.new.reads }
+    {
+        if self.entries.len() == 0 {
+            probes.count_read();
+            return Come {
+                index: 0,
+                are_all: self.all == 0,
+            };
+        }
+        let passed = self.entries.passed(second, probes);
+        Come {
+            index: index_of_latest(passed.latest),
+            are_all: passed.count == self.all,
+        }
+    }
+
+    // How many entries have come at the second.
+    #[inline(always)]
+    pub(super) fn count(&self, second: i64) -> usize
+        ensures count { result ≡ length (passed self.now.items second) }
+        ensures within { result ≤ length self.now.items }
+    {
+        if self.entries.len() == 0 {
+            return 0;
+        }
+        self.entries.passed(second, &mut Probes::new()).count
+    }
+
+    // How many there are.
+    #[inline(always)]
+    pub(super) fn len(&self) -> usize
+        ensures { result ≡ length self.now.items }
+    {
+        self.entries.len()
+    }
+
+    // Whether the transitions of the entry at that place are the last ones.
+    #[inline(always)]
+    pub(super) fn is_last(&self, place: usize) -> bool
+        requires { place < length self.now.items }
+        ensures { IsTrue result ↔ (self.now.all ≤ place + 1) }
+    {
+        self.all.saturating_sub(1) <= place
+    }
+
+    // When the entry at that place comes.
+    #[inline(always)]
+    pub(super) fn second(&self, place: usize) -> i64
+        requires { place < length self.now.items }
+        ensures { (d : Transition) → result ≡ (slice_index_or self.now.items place d).unix_leap_time }
+    {
+        self.entries.item(place).second()
+    }
+
+    // The index of the type in force after the first `count` entries, and before the next.
+    #[inline(always)]
+    fn index_after(&self, types: &[LocalTimeType], count: usize) -> usize
+        requires count { count ≤ length self.now.items }
+        requires some { 0 < length types.now }
+        requires named { NameTypes (length types.now) self.now.items }
+        ensures index { result ≡ index_of self.now.items count }
+        ensures below { result < length types.now }
+    {
+        if count == 0 {
+            return 0;
+        }
+        self.index_at(types, count - 1)
+    }
+
+    // The index that the entry at that place names.
+    #[inline(always)]
+    #[tactic(auto, using(crate::proofs::SegmentLaws::index_next))]
+    fn index_at(&self, types: &[LocalTimeType], place: usize) -> usize
+        requires place { place < length self.now.items }
+        requires named { NameTypes (length types.now) self.now.items }
+        ensures index { result ≡ index_of self.now.items (place + 1) }
+        ensures below { result < length types.now }
+    {
+        self.entries.item(place).type_index()
+    }
+
+    // The change that comes with the entry at that place, which is not that of the last transition:
+    // none if it comes at the least second.
+    #[inline(always)]
+    pub(super) fn change_at<'a>(
+        &self,
+        types: &'a [LocalTimeType],
+        place: usize,
+    ) -> Option<HeldChange<'a>>
+        requires place { place < length self.now.items }
+        requires some { 0 < length types.now }
+        requires named { NameTypes (length types.now) self.now.items }
+        ensures { IsEntryChange types.now self.now.items place (option_map change_held result) }
+    {
+        let at = self.second(place);
+        if at == i64::MIN {
+            return None;
+        }
+        Some(HeldChange {
+            before: &types[self.index_after(types, place)],
+            after: &types[self.index_at(types, place)],
+            at,
+        })
+    }
+
+    // The seconds between two entries that have the second, if one comes after it.
+    #[inline(always)]
+    pub(super) fn between(&self, types: &[LocalTimeType], second: i64) -> Option<Between>
+        requires some { 0 < length types.now }
+        requires named { NameTypes (length types.now) self.now.items }
+        ensures { IfSome result (IsBetween self.now second) }
+    {
+        let place = self.count(second);
+        if place == self.len() {
+            return None;
+        }
+        let until = self.second(place);
+        let index = self.index_after(types, place);
+        if place == 0 {
+            return Some(Between {
+                from: i64::MIN,
+                until,
+                index,
+                is_span: false,
+            });
+        }
+        let from = self.second(place - 1);
+        Some(Between {
+            from,
+            until,
+            index,
+            is_span: from > i64::MIN && !self.is_last(place),
+        })
     }
 
     // The table of a zone without transitions, which takes no memory.
     pub(super) fn none(alloc: Global) -> ChangeTable
-        ensures items { length result.items ≡ 0 }
-        ensures all { result.all ≡ 0 }
+        ensures { result ≡ record { items = []; all = 0 } }
     {
         ChangeTable {
-            entries: Timeline::none(alloc),
+            entries: Table::none(alloc),
             all: 0,
         }
     }
@@ -77,7 +244,12 @@ fn entries_of(alloc: Global, lists: Lists) -> Result<(Vec<Kept>, usize), AllocEr
             return Ok((entries, all));
         };
         drop_at(&mut entries, start);
-        add(&mut entries, lists.types, transition.at(start), place + 1 == count);
+        add(
+            &mut entries,
+            lists.types,
+            transition.at(start),
+            place + 1 == count,
+        );
     }
     let all = entries.len();
     Ok((entries, all))
@@ -144,6 +316,18 @@ fn is_in_force(entries: &[Kept], types: &[LocalTimeType], index: usize) -> bool
         ↔ (slice_get types.now index ≡ slice_get types.now (last_index entries.now)) }
 {
     is_same_type(&types[index], &types[latest_index(entries, types)])
+}
+
+// The index that the entry names, or 0 where there is none.
+#[inline(always)]
+fn index_of_latest(latest: Option<&Kept>) -> usize
+    ensures { MatchOption (option_map (λ r. r.now) latest.entry) (result ≡ 0)
+        (λ t. result ≡ t.type_index) }
+{
+    match latest {
+        Some(latest) => latest.type_index(),
+        None => 0,
+    }
 }
 
 // The index that the last entry names, or 0 where there is none.

@@ -1,15 +1,14 @@
 //! When clocks change: the next change of the type in force, and the previous one.
 //!
-//! Before the last transition only a transition can change the type, and after it only the rule. A
-//! transition need not: two of them may come at one second, or name types that are equal. So each
-//! second at which one comes is asked.
+//! Before the last transition only an entry of the change table can change the type, and each does.
+//! After it only the rule can. What the last transition itself changes is asked.
 
 ghost use Rattle.std.specs.Prelude.{◌≡◌, ◌≢◌, ◌<◌, length, ℤ, pos, neg_ℤ, ◌<ℤ◌, ◌≤ℤ◌, ◌↔◌, MatchOption, Some};
 ghost use Rattle.std.specs.Prelude.{option_map};
 ghost use Rattle.tz_info.specs.Changes.{IsChange, HasNoChange, IsFirst, IsLast, IsNearest};
 ghost use Rattle.tz_info.specs.Leaps.{AreLeapSeconds, IsLeapTime};
 ghost use Rattle.tz_info.specs.Rules.{Alternate as AlternateRule};
-ghost use Rattle.tz_info.specs.Steps.Changes.{AreComeOrAll, ComesAt, HasNoneAt, IsAhead, IsBegin, IsChangeByRule};
+ghost use Rattle.tz_info.specs.Steps.Changes.{ComesAt, IsAhead, IsBegin, IsChangeByRule};
 ghost use Rattle.tz_info.specs.Steps.Changes.{IsInTable};
 ghost use Rattle.tz_info.specs.HeldChanges.{change_held};
 ghost use Rattle.tz_info.specs.Zones.{HasType, TypeAt};
@@ -51,30 +50,28 @@ impl TimeZone {
         let _ = &self.table;
         match self.last_span_at(after) {
             Some(_) => None,
-            None => match self.next_in_table(after, self.come_at(after)) {
+            None => match self.next_in_table(after) {
                 Some(change) => Some(change),
                 None => self.change_by_rule(after, true),
             },
         }
     }
 
-    // The first change with a transition after a second at which `come` of them have come.
+    // The first change with an entry after the second.
     #[inline(always)]
-    fn next_in_table(&self, after: i64, come: usize) -> Option<HeldChange<'_>>
-        requires { AreComeOrAll self.now after come }
+    fn next_in_table(&self, after: i64) -> Option<HeldChange<'_>>
         ensures { IsFirst (TypeAt self.now) (IsInTable self.now (λ u. after <ℤ u))
             (option_map change_held result) }
     {
         let _ = &self.table;
-        let count = self.transition_count();
-        let mut place = come;
-        while place < count {
-            match self.change_with(place) {
-                Some(change) => return Some(change),
-                None => place = self.place_after(place),
-            }
+        let place = self.changes.count(after);
+        if place == self.changes.len() {
+            return None;
         }
-        None
+        if self.changes.is_last(place) {
+            return self.change_at(self.changes.second(place));
+        }
+        self.changes.change_at(&self.local_types, place)
     }
 
     // The nearest change ahead of the second in that direction, of those that come after all
@@ -115,39 +112,31 @@ impl TimeZone {
         let _ = &self.table;
         match self.change_by_rule(before_or_at, false) {
             Some(change) => Some(change),
-            None => self.previous_in_table(before_or_at, self.come_at(before_or_at)),
+            None => self.previous_in_table(before_or_at),
         }
     }
 
-    // The last change with a transition up to a second at which `come` of them have come.
+    // The last change with an entry at the second or before it.
     #[inline(always)]
-    fn previous_in_table(&self, last: i64, come: usize) -> Option<HeldChange<'_>>
-        requires { AreComeOrAll self.now last come }
+    fn previous_in_table(&self, last: i64) -> Option<HeldChange<'_>>
         ensures { IsLast (TypeAt self.now) (IsInTable self.now (λ u. u ≤ℤ last))
             (option_map change_held result) }
     {
         let _ = &self.table;
-        let mut left = come;
-        while left > 0 {
-            match self.change_with(left - 1) {
-                Some(change) => return Some(change),
-                None => left = self.count_before(left - 1),
-            }
+        let count = self.changes.count(last);
+        if count == 0 {
+            return None;
         }
-        None
-    }
-
-    // How many transitions have come at the second. If its leap time leaves 64 bits, these are all
-    // that come at some second.
-    pub(super) fn come_at(&self, second: i64) -> usize
-        ensures { AreComeOrAll self.now second result }
-    {
-        let count = self.transition_count();
-        let mut probes = Probes::new();
-        match self.passed_at(second, &mut probes) {
-            Some(passed) => passed.count,
-            None => count,
+        if !self.changes.is_last(count - 1) {
+            return self.changes.change_at(&self.local_types, count - 1);
         }
+        if let Some(change) = self.change_at(self.changes.second(count - 1)) {
+            return Some(change);
+        }
+        if count == 1 {
+            return None;
+        }
+        self.changes.change_at(&self.local_types, count - 2)
     }
 
     // The rule, if it has two types.
@@ -159,44 +148,6 @@ impl TimeZone {
             Some(TransitionRule::Alternate(turns)) => Some(turns),
             _ => None,
         }
-    }
-
-    // The change that comes with the transition at that place, if it changes the type.
-    pub(super) fn change_with(&self, place: usize) -> Option<HeldChange<'_>>
-        requires { place < length self.now.transitions }
-        ensures { MatchOption (option_map change_held result) (HasNoneAt self.now place)
-            (λ c. IsChange (TypeAt self.now) c × ComesAt self.now place c.at) }
-    {
-        if self.leap_seconds.is_empty() {
-            return self.change_without_leaps(place);
-        }
-        let start = self.start_of(place);
-        if start > i64::MAX as i128 {
-            return None;
-        }
-        self.change_at(start as i64)
-    }
-
-    // The same without leap seconds: each transition comes at its own time, and names the new type.
-    #[inline(always)]
-    pub(super) fn change_without_leaps(&self, place: usize) -> Option<HeldChange<'_>>
-        requires place { place < length self.now.transitions }
-        requires leaps { length self.now.leaps ≡ 0 }
-        ensures { MatchOption (option_map change_held result) (HasNoneAt self.now place)
-            (λ c. IsChange (TypeAt self.now) c × ComesAt self.now place c.at) }
-    {
-        let _ = &self.table;
-        let mut probes = Probes::new();
-        let here = self.transition(place, &mut probes);
-        if here.unix_leap_time == i64::MIN {
-            return None;
-        }
-        let before = self.latest(place, &mut probes);
-        change_between(
-            here.unix_leap_time,
-            self.listed(before.type_index),
-            self.listed(here.type_index),
-        )
     }
 
     pub(super) fn listed(&self, index: usize) -> &LocalTimeType

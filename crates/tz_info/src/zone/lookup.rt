@@ -1,28 +1,46 @@
 //! The type in force at an instant, and the reads that several lookups share.
 
-ghost use Rattle.std.specs.Prelude.{◌≡◌, ◌+◌, ◌<◌, ◌≤◌, ◌^◌, length, option_map, take, slice_index_or, IfOk, IfSome};
+ghost use Rattle.std.specs.Prelude.{◌≡◌, ◌+◌, ◌<◌, ◌≤◌, ◌^◌, length, take, slice_index_or, IfOk, IfSome, IsFalse, IsTrue, ◌+ℤ◌};
 ghost use Rattle.std.specs.Prelude.{MatchOption, MatchResult, Some, None};
 ghost use Rattle.tz_base.specs.declared.error.Error.TheVariants.{FindLocalTimeType};
 ghost use Rattle.tz_base.specs.declared.error.Expected.TheVariants.{YearThatRuleAnswersIn};
 ghost use Rattle.tz_timeline.specs.Counts.{HasRoom, RoseWithin, HasRoomFor};
 ghost use Rattle.tz_timeline.specs.Digits.{digits};
-ghost use Rattle.tz_info.specs.Leaps.{IsLeapTime, IsLeapTimeRefused, IsNear};
+ghost use Rattle.tz_info.specs.Leaps.{AreLeapSeconds, IsLeapTime, IsLeapTimeRefused, IsNear, correction_at};
 ghost use Rattle.tz_info.specs.Looks.{RoseByInstant};
 ghost use Rattle.tz_info.specs.Questions.{IsAskedAt};
 ghost use Rattle.tz_info.specs.Steps.Asked.{IsAskedAtLeapTime};
-ghost use Rattle.tz_info.specs.Steps.Starts.{HaveComeAt, leap_time_at};
+ghost use Rattle.tz_info.specs.Steps.Entries.{HaveComeAt};
+ghost use Rattle.tz_info.specs.Steps.Starts.{leap_time_at};
 ghost use Rattle.tz_info.specs.Transitions.{passed};
 ghost use Rattle.tz_info.specs.Zones.{RuleOrType, IsRefusedBy, IsFromLast, TypeAtLeapTime, TypeAt, IsTypeError};
 ghost use Rattle.tz_info.specs.declared.rule.transition_rule.TransitionRule.{TransitionRule};
 
-use crate::zone::kept::Kept;
+use crate::zone::change_table::Come;
 use crate::zone::leap_time::leap_time;
-use crate::zone::{TimeZone, Transition};
+use crate::zone::{LeapSecond, TimeZone, Transition};
 use tz_base::{Error, Expected, LocalTimeType};
-use tz_timeline::{Passed, Probes};
+use tz_timeline::Probes;
 
 // No leap time of a second up to this one leaves 64 bits, nor of one down to its negative.
 pub(super) const NEAR: i64 = 10_000_000_000_000;
+
+// Whether the second has a leap time. Only a second far from now is converted to it.
+#[inline(always)]
+pub(super) fn has_leap_time(leaps: &[LeapSecond], unix_time: i64) -> bool
+    requires { AreLeapSeconds leaps.now }
+    ensures yes { IsTrue result → IsLeapTime leaps.now unix_time
+        (unix_time +ℤ correction_at leaps.now unix_time) }
+    ensures no { IsFalse result → IsLeapTimeRefused leaps.now unix_time }
+{
+    if -NEAR <= unix_time && unix_time <= NEAR {
+        return true;
+    }
+    match leap_time(leaps, unix_time) {
+        Ok(_) => true,
+        Err(_) => false,
+    }
+}
 
 impl TimeZone {
     /// The type in force at the second of Unix time.
@@ -98,47 +116,40 @@ impl TimeZone {
         if self.table.len() == 0 {
             return self.rule_or_type(unix_time, 0, probes);
         }
-        match self.passed_at(unix_time, probes) {
-            Some(passed) => self.type_after(unix_time, passed, probes),
+        match self.come_at(unix_time, probes) {
+            Some(come) => self.type_after(unix_time, come, probes),
             None => Err(Error::FindLocalTimeType(Expected::LeapTimeOf64Bits)),
         }
     }
 
-    // The transitions that have come at the second, if it has a leap time. Only a second far from now
-    // is converted to it.
+    // What has come at the second, if it has a leap time.
     #[inline(always)]
-    pub(super) fn passed_at(&self, unix_time: i64, probes: &mut Probes) -> Option<Passed<'_, Kept>>
-        requires { HasRoomFor (digits (length self.now.transitions)) probes.old.reads }
+    fn come_at(&self, unix_time: i64, probes: &mut Probes) -> Option<Come>
+        requires some { 0 < length self.now.transitions }
+        requires room { HasRoomFor (2 ^ 64) probes.old.reads }
         ensures come { MatchOption result (IsLeapTimeRefused self.now.leaps unix_time)
-            (λ p. HaveComeAt self.now unix_time p.count (option_map (λ r. r.now) p.latest)) }
+            (HaveComeAt self.now unix_time) }
         ensures cost { RoseWithin probes.old probes.new (digits (length self.now.transitions)) 0 }
-        ensures looked { IfSome result (λ _. 0 < length self.now.transitions
-            → probes.old.reads < probes.new.reads) }
+        ensures looked { IfSome result (λ _. probes.old.reads < probes.new.reads) }
     {
-        if self.leap_seconds.is_empty() {
-            return Some(self.table.passed(unix_time, probes));
-        }
-        if -NEAR <= unix_time && unix_time <= NEAR {
-            return Some(self.by_unix_time.passed(unix_time, probes));
-        }
-        match leap_time(&self.leap_seconds, unix_time) {
-            Ok(leap_time) => Some(self.table.passed(leap_time, probes)),
-            Err(_) => None,
+        if has_leap_time(&self.leap_seconds, unix_time) {
+            Some(self.changes.come(unix_time, probes))
+        } else {
+            None
         }
     }
 
-    // The type in force at a second at which those transitions have come.
+    // The type in force at a second at which that has come.
     #[inline(always)]
     fn type_after(
         &self,
         unix_time: i64,
-        passed: Passed<'_, Kept>,
+        come: Come,
         probes: &mut Probes,
     ) -> Result<&LocalTimeType, Error>
         requires some { 0 < length self.now.transitions }
         requires room { HasRoomFor 1 probes.old.rule_questions }
-        requires come { HaveComeAt self.now unix_time passed.count
-            (option_map (λ r. r.now) passed.latest) }
+        requires come { HaveComeAt self.now unix_time come }
         ensures found { MatchResult result
             (λ t. TypeAtLeapTime self.now unix_time (leap_time_at self.now unix_time) t.now)
             (λ e. (e ≡ FindLocalTimeType YearThatRuleAnswersIn)
@@ -148,13 +159,11 @@ impl TimeZone {
         ensures counted { IsAskedAtLeapTime self.now (leap_time_at self.now unix_time)
             probes.old.rule_questions probes.new.rule_questions }
     {
-        let Some(latest) = passed.latest else {
-            return Ok(&self.local_types[0]);
-        };
-        if passed.count < self.table.len() {
-            return Ok(&self.local_types[latest.type_index()]);
+        if come.are_all {
+            self.rule_or_type(unix_time, come.index, probes)
+        } else {
+            Ok(&self.local_types[come.index])
         }
-        self.rule_or_type(unix_time, latest.type_index(), probes)
     }
 
     // The rule's type at the second, or without a rule the type of that index.

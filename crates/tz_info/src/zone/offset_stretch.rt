@@ -5,7 +5,6 @@ ghost use Rattle.tz_base.specs.LocalTypes.{LocalType};
 ghost use Rattle.tz_info.specs.Zones.{TypeAt};
 
 use crate::zone::time_zone::TimeZone;
-use tz_timeline::Probes;
 
 /// Unix seconds at which one offset is in force: from `from` on and before `until`.
 #[derive(Debug)]
@@ -26,23 +25,14 @@ impl TimeZone {
         ensures { IfSome result (λ s. (u : ℤ) → s.from ≤ℤ u → u <ℤ s.until
             → (t : LocalType) × TypeAt self.now u t × (s.offset ≡ t.offset)) }
     {
-        if !self.leap_seconds.is_empty() {
-            return self.offset_stretch_of_span(unix_time);
+        match self.changes.between(&self.local_types, unix_time) {
+            Some(between) => Some(OffsetStretch {
+                from: between.from,
+                until: between.until,
+                offset: self.local_types[between.index].offset(),
+            }),
+            None => self.offset_stretch_of_span(unix_time),
         }
-        let count = self.transition_count();
-        let mut probes = Probes::new();
-        let place = self.passed_count(unix_time, &mut probes);
-        if place == count {
-            return self.offset_stretch_of_span(unix_time);
-        }
-        let latest = self.latest(place, &mut probes);
-        let next = self.transition(place, &mut probes);
-        let found = self.listed(latest.type_index);
-        Some(OffsetStretch {
-            from: latest.unix_leap_time,
-            until: next.unix_leap_time,
-            offset: found.offset(),
-        })
     }
 
     fn offset_stretch_of_span(&self, unix_time: i64) -> Option<OffsetStretch>

@@ -97,6 +97,15 @@ impl Table {
         self.entries.read(place, probes).transition()
     }
 
+    // The same without a count, for what is no lookup.
+    #[inline(always)]
+    pub(super) fn item(&self, place: usize) -> &Kept
+        requires place { place < length self.now }
+        ensures { result.now ≡ slice_index_or self.now place result.now }
+    {
+        &self.entries.items()[place]
+    }
+
     // How many transitions come at or before the leap time, and the last of them.
     #[inline(always)]
     pub(super) fn passed(&self, leap_time: i64, probes: &mut Probes) -> Passed<'_, Kept>

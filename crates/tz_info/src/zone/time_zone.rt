@@ -9,8 +9,8 @@ ghost use Rattle.tz_base.specs.declared.error.Expected.TheVariants.{OffsetAboveI
 ghost use Rattle.tz_info.specs.Zones.{Zone, IsValid, ListFault, IsRuleOrNone, plain_zone, zone_of_rule, zone_of_type};
 
 use crate::rule::TransitionRule;
+use crate::zone::change_table::ChangeTable;
 use crate::zone::extremes::{Extremes, extremes_of};
-use crate::zone::idle::Idle;
 use crate::zone::index::Index;
 use crate::zone::kept::{Kept, all_kept};
 use crate::zone::last_span::LastSpan;
@@ -24,7 +24,6 @@ use std::alloc::Global;
 use std::fmt;
 use std::marker::Model;
 use tz_base::{Error, LocalTimeType};
-use tz_timeline::Timeline;
 
 /// A time zone: which type of local time is in force at each instant.
 ///
@@ -38,15 +37,13 @@ use tz_timeline::Timeline;
 #[derive(Drop)]
 pub struct TimeZone {
     pub(super) table: Table,
-    // The transitions by Unix time, if there are leap seconds.
-    pub(super) by_unix_time: Timeline<Kept>,
+    // The clock changes by Unix time.
+    pub(super) changes: ChangeTable,
     pub(super) local_types: Vec<LocalTimeType>,
     pub(super) leap_seconds: Vec<LeapSecond>,
     pub(super) last_rule: Option<TransitionRule>,
     // The least and the greatest offset of the types and of the rule.
     pub(super) extremes: Extremes,
-    // Where runs of transitions that change nothing start.
-    pub(super) idle: Idle,
     // The pieces of the wall-clock axis.
     pub(super) index: Index,
     // The span after the last change.
@@ -71,7 +68,7 @@ impl Model for TimeZone {
       types = z.local_types.items;
       leaps = z.leap_seconds.items;
       rule = z.last_rule;
-    }) z.extremes z.idle z.index z.by_unix_time z.last_span };
+    }) z.extremes z.index z.changes z.last_span };
 }
 
 // Of the lists alone: the rest follows from them.
@@ -183,16 +180,15 @@ impl TimeZone {
         };
         let by_unix_time = by_unix_time(alloc, lists.transitions, lists.leaps)?;
         let index = Index::new(alloc, lists, by_unix_time.items())?;
-        let idle = Idle::new(alloc, lists)?;
+        let changes = ChangeTable::new(alloc, lists)?;
         let extremes = extremes_of(&types, &rule);
         let mut zone = TimeZone {
             table: Table::new(alloc, transitions)?,
-            by_unix_time,
+            changes,
             local_types: types,
             leap_seconds: leaps,
             last_rule: rule,
             extremes,
-            idle,
             index,
             last_span: LastSpan::none(),
         };
@@ -244,12 +240,11 @@ impl TimeZone {
         let extremes = extremes_of(&types, &rule);
         let mut zone = TimeZone {
             table: Table::none(alloc),
-            by_unix_time: Timeline::none(alloc),
+            changes: ChangeTable::none(alloc),
             local_types: types,
             leap_seconds: leaps,
             last_rule: rule,
             extremes,
-            idle: Idle::none(alloc),
             index,
             last_span: LastSpan::none(),
         };

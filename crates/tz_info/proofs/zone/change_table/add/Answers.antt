@@ -1,4 +1,4 @@
-use Rattle.tz_info.proofs.Words.{arith, ints, inl, inr, refl}
+use Rattle.tz_info.proofs.Words.{arith, inl, inr, refl}
 use Rattle.tz_info.specs.Steps.Entries.{added, idle}
 use Rattle.tz_info.proofs.zone.change_table.add.Goals.{then-is_last-via-then-is_last, then-is_last-via-else-is_last+then-not-is_in_force}
 use Rattle.tz_info.proofs.zone.change_table.add.Goals as goal

@@ -1,4 +1,4 @@
-use Rattle.tz_info.proofs.{EntryLaws.{popped}, Words.{SFits, arith, ints, length, refl, rules, to_z-of_z, vec_len, w64, ◌≡◌}}
+use Rattle.tz_info.proofs.{EntryLaws.{popped}, Words.{arith, length, refl, rules, to_z-of_z, vec_len, ◌≡◌}}
 use Rattle.tz_info.specs.Steps.Entries.{none_there}
 use Rattle.tz_info.proofs.zone.change_table.drop_at.Goals as goal
 

@@ -1,4 +1,4 @@
-use Rattle.tz_info.proofs.{EntryLaws.{all_come, kept_named, never_come, none_made, turned}, Words.{SFits, arith, ints, length, refl, rules, to_z-of_z, vec_len, w64, zone_in, ◌≡◌}}
+use Rattle.tz_info.proofs.{EntryLaws.{all_come, kept_named, never_come, turned}, Words.{SFits, arith, length, refl, rules, to_z-of_z, vec_len, w64, zone_in, ◌≡◌}}
 use Rattle.tz_info.proofs.zone.change_table.entries_of.Goals as goal
 
 pub returns-in_default : goal.returns-in_default

@@ -1,4 +1,4 @@
-use Rattle.tz_info.proofs.{EntryLaws.{last_below, last_item}, Words.{arith, ints}}
+use Rattle.tz_info.proofs.{EntryLaws.{last_below, last_item}, Words.{arith}}
 use Rattle.tz_info.proofs.zone.change_table.latest_index.Goals as goal
 
 pub returns-in-Some-clause-index : goal.returns-in-Some-clause-index

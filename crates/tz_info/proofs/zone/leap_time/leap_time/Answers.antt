@@ -1,4 +1,4 @@
-use Rattle.tz_info.proofs.{Words.{arith, ints}, LeapSearch.{is_none}, LeaplessChanges.{own_leap_time}}
+use Rattle.tz_info.proofs.{Words.{arith, ints}, LeapSearch.{is_none, own_leap_time}}
 use Rattle.tz_info.proofs.zone.leap_time.leap_time.Goals as goal
 
 pub returns-then-is_empty : goal.returns-then-is_empty

@@ -1,14 +1,13 @@
-use Rattle.tz_info.proofs.{Words.{arith, digits-le, inl, inr, ints, to_z-of_z, ◌∙◌}, SegmentLaws.{come_at_time}}
+use Rattle.tz_info.proofs.{Words.{to_z-of_z}, EntryChanges.{have_come, looks_most, rose_less}}
 use Rattle.tz_info.proofs.zone.time_zone.TimeZone.come_at.Goals as goal
 
-pub passed_at-requires : goal.passed_at-requires
-passed_at-requires c = grind (arith, ints, digits-le, c.transition_count-count.ensures, c.new-probes.ensures)
+pub returns-then-has_leap_time-clause-come : goal.returns-then-has_leap_time-clause-come
+returns-then-has_leap_time-clause-come c =
+    let fu = c.ranges.unix_time in
+    let time = rw c.deref.ensures.value at (simp to_z-of_z at (c.has_leap_time.ensures.yes c.if-has_leap_time.true)) in
+    rw (← c.self.view_is) (have_come _ c.self.inside.changes c.args.unix_time c.come.result c.self.invariant.valid c.self.invariant.list fu time (simp to_z-of_z at c.come.ensures.come))
 
-pub returns-in-Some : goal.returns-in-Some
-returns-in-Some c =
-    let fs = c.ranges.second in
-    let come = simp to_z-of_z at c.in-Some.ensures.come in
-    inl (record { leap_time = _; of_second = come.of_second; is = come.come ∙ come_at_time c.args.self.now c.args.second _ come.of_second })
-
-pub returns-in-None : goal.returns-in-None
-returns-in-None c = let fs = c.ranges.second in inr (simp to_z-of_z at c.in-None.ensures.come, c.transition_count-count.ensures)
+pub returns-then-has_leap_time-clause-cost : goal.returns-then-has_leap_time-clause-cost
+returns-then-has_leap_time-clause-cost c =
+    let some = rw (← c.self.view_is) at c.requires.some in
+    rw (← c.self.view_is) (rose_less _ _ _ _ 0 c.come.ensures.cost (looks_most _ _ some c.self.invariant.list.few))

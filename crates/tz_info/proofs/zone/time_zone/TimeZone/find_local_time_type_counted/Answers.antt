@@ -1,9 +1,6 @@
-use Rattle.tz_info.proofs.Words.{Bor, LocalType, Zone, ap, arith, by_leap_time, digits-le, ints, length, refl, sym, to_z-of_z, ◌∙◌}
+use Rattle.tz_info.proofs.Words.{Bor, LocalType, Zone, ap, arith, by_leap_time, ints, length, refl, sym, to_z-of_z, ◌∙◌}
 use Rattle.tz_info.proofs.{PassedTransitions.{with_transitions, without_transitions}, QuestionLaws.{asked_at_time, asked_without}}
 use Rattle.tz_info.proofs.zone.time_zone.TimeZone.find_local_time_type_counted.Goals as goal
-
-pub passed_at-requires : goal.passed_at-requires
-passed_at-requires c = grind (arith, ints, digits-le, c.len.ensures.count, c.self.view_is)
 
 pub returns-then-len-eq0-clause-found : goal.returns-then-len-eq0-clause-found
 returns-then-len-eq0-clause-found c =

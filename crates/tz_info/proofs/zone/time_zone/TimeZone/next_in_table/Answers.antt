@@ -1,38 +1,41 @@
-use Rattle.tz_info.proofs.{Words.{arith, change_held, to_z-of_z}, ZoneChanges.{yet_after, yet_come, yet_found, yet_none}}
+use Rattle.tz_info.proofs.{Words.{IsValid, Zone, ap, SFits, arith, change_held, length, option_map, passed, rules, sym, to_z-of_z, w64, ◌+◌, ◌<◌, ◌∙◌, ◌≡◌, ◌≤◌}, EntryChanges.{next_by_entry, next_by_last, next_none}}
+use Rattle.tz_info.specs.Steps.Entries.{AreEntries}
 use Rattle.tz_info.proofs.zone.time_zone.TimeZone.next_in_table.Goals as goal
 
-pub loop-place-init : goal.loop-place-init
-loop-place-init c =
+pub returns-then-place-len : goal.returns-then-place-len
+returns-then-place-len c =
     let fa = c.ranges.after in
-    simp to_z-of_z (record {
-      yet = yet_come c.args.self.now c.args.after c.args.come (rw (← c.self.view_is) c.self.invariant.valid)
-          c.requires;
-      from = omega arith;
-    })
+    let z = c.args.self.now in
+    let e = c.self.inside.changes in
+    let valid : IsValid z = rw (← c.self.view_is) c.self.invariant.valid in
+    let list : AreEntries z e = rw (← c.self.view_is) c.self.invariant.list in
+    let n : c.count-place.result ≡ length (passed e.items c.args.after) = simp to_z-of_z at c.count-place.ensures.count in
+    next_none z e c.args.after valid list (sym n ∙ c.if-place-len.true ∙ c.len.ensures)
 
-pub returns-in-Some : goal.returns-in-Some
-returns-in-Some c =
+pub returns-then-is_last : goal.returns-then-is_last
+returns-then-is_last c =
     let fa = c.ranges.after in
-    let n = c.transition_count-count.ensures in
-    let k = c.in-Some.ensures in
-    yet_found c.args.self.now c.args.after c.args.come c.loop-place.place (change_held c.in-Some.change) (omega arith) c.requires
-    c.loop-place.invariant.from (simp to_z-of_z at c.loop-place.invariant.yet) k.0 k.1
-
-pub loop-place-preserved : goal.loop-place-preserved
-loop-place-preserved c =
-    let fa = c.ranges.after in
-    let n = c.place_after-place.ensures in
-    let from = c.loop-place.invariant.from in
-    let later = n.later in
-    simp to_z-of_z (record {
-      yet = yet_after c.args.self.now c.args.after c.loop-place.place
-          c.place_after-place.result (rw (← c.self.view_is) c.self.invariant.valid) (simp to_z-of_z at c.loop-place.invariant.yet) c.in-None.ensures n.alike n.inside;
-      from = omega arith;
-    })
+    let z = c.args.self.now in
+    let e = c.self.inside.changes in
+    let valid : IsValid z = rw (← c.self.view_is) c.self.invariant.valid in
+    let list : AreEntries z e = rw (← c.self.view_is) c.self.invariant.list in
+    let n : c.count-place.result ≡ length (passed e.items c.args.after) = simp to_z-of_z at c.count-place.ensures.count in
+    let fs : SFits w64 c.second.result = search rules in
+    let w = c.count-place.ensures.within in
+    let some : c.count-place.result < length e.items = grind (arith, c.len.ensures, c.if-place-len.false) in
+    let last : e.all ≤ c.count-place.result + 1 = grind (arith, c.is_last.ensures, c.if-is_last.true) in
+    next_by_last z e c.args.after c.second.result (option_map change_held c.change_at.result) valid list (rw n at some) (rw n at last) (rw n at c.second.ensures) (simp to_z-of_z at c.change_at.ensures)
 
 pub returns : goal.returns
 returns c =
     let fa = c.ranges.after in
-    let n = c.transition_count-count.ensures in
-    yet_none c.args.self.now c.args.after c.loop-place.place (rw (← c.self.view_is) c.self.invariant.valid) (omega arith) (simp to_z-of_z at
-    c.loop-place.invariant.yet)
+    let z = c.args.self.now in
+    let e = c.self.inside.changes in
+    let valid : IsValid z = rw (← c.self.view_is) c.self.invariant.valid in
+    let list : AreEntries z e = rw (← c.self.view_is) c.self.invariant.list in
+    let n : c.count-place.result ≡ length (passed e.items c.args.after) = simp to_z-of_z at c.count-place.ensures.count in
+    let w = c.count-place.ensures.within in
+    let some : c.count-place.result < length e.items = grind (arith, c.len.ensures, c.if-place-len.false) in
+    let more : c.count-place.result + 1 < e.all = grind (arith, c.is_last.ensures, c.if-is_last.false) in
+    next_by_entry z e c.args.after (option_map change_held c.change_at-2.result) valid list (rw n at some) (rw n at more) fa
+    (let types = ap (λ (y : Zone). y.types) c.self.view_is in rw n at (rw (c.deref.ensures.value ∙ types) at c.change_at-2.ensures))

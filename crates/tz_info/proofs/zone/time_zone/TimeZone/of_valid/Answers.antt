@@ -18,8 +18,7 @@ invariant_of-zone c =
       valid = c.requires;
       limits = c.extremes_of-extremes.ensures.limits;
       extremes = rw c.deref-4.ensures.value at c.extremes_of-extremes.ensures.extremes;
-      runs = rw (c.deref.ensures.value, c.deref-2.ensures.value) at c.in_ok-idle.ensures;
       index = rw (c.deref.ensures.value, c.deref-2.ensures.value, c.deref-3.ensures.value) at c.in_ok-index.ensures;
       last = c.none.ensures _;
-      unix_times = rw (c.deref.ensures.value, c.deref-3.ensures.value) at c.in_ok-by_unix_time.ensures;
+      list = rw (c.deref.ensures.value, c.deref-2.ensures.value, c.deref-3.ensures.value) at c.in_ok-changes.ensures;
     })

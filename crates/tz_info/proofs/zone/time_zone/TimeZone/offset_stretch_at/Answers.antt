@@ -1,33 +1,23 @@
-use Rattle.tz_info.proofs.{Words.{SFits, arith, digits-le, ints, length, rules, to_z-of_z, w32, w64, ◌<◌, ◌≡◌}, LeaplessChanges.{between, time_at}}
+use Rattle.tz_info.proofs.{Words.{IsValid, SFits, arith, length, slice_get, Some, vec_len, rules, slice_get_read, to_z-of_z, w32, w64, ◌≡◌}, EntryChanges.{index_between, stretch_between}}
+use Rattle.tz_info.specs.Steps.Entries.{AreEntries}
 use Rattle.tz_info.proofs.zone.time_zone.TimeZone.offset_stretch_at.Goals as goal
 
-pub passed_count-place-requires : goal.passed_count-place-requires
-passed_count-place-requires c = grind (arith, ints, digits-le, c.transition_count-count.ensures, c.new-probes.ensures)
+pub index-requires : goal.index-requires
+index-requires c =
+    let fu = c.ranges.unix_time in
+    let n : vec_len c.self.inside.local_types ≡ length c.self.inside.local_types.items = search rules in
+    rw n (index_between _ c.self.inside.changes c.args.unix_time c.in-Some.between c.self.invariant.valid c.self.invariant.list (simp to_z-of_z at c.in-Some.ensures))
 
-pub latest-latest-requires-clause-room : goal.latest-latest-requires-clause-room
-latest-latest-requires-clause-room c = grind (arith, ints, digits-le, c.transition_count-count.ensures, c.new-probes.ensures, c.passed_count-place.ensures.cost)
-
-pub transition-next-requires-clause-room : goal.transition-next-requires-clause-room
-transition-next-requires-clause-room c =
-    let n = c.transition_count-count.ensures in
-    grind (arith, ints, digits-le, c.new-probes.ensures, c.passed_count-place.ensures.cost, c.latest-latest.ensures.cost)
-
-pub returns : goal.returns
-returns c =
+pub returns-in-Some : goal.returns-in-Some
+returns-in-Some c =
+    let fu = c.ranges.unix_time in
     let z = c.args.self.now in
-    let latest = c.latest-latest.result in
-    let next = c.transition-next.result in
-    let place = c.passed_count-place.result in
-    let from : SFits w64 latest.unix_leap_time = search rules in
-    let until : SFits w64 next.unix_leap_time = search rules in
+    let e = c.self.inside.changes in
+    let valid : IsValid z = rw (← c.self.view_is) c.self.invariant.valid in
+    let list : AreEntries z e = rw (← c.self.view_is) c.self.invariant.list in
+    let low : SFits w64 c.in-Some.between.from = search rules in
+    let high : SFits w64 c.in-Some.between.until = search rules in
+    let h = simp to_z-of_z at c.in-Some.ensures in
+    let has : slice_get z.types c.in-Some.between.index ≡ Some c.index.result.now = let below = index_between z e c.args.unix_time c.in-Some.between valid list h in grind (arith, slice_get_read, c.self.view_is, c.index.ensures) in
     let offset : SFits w32 c.offset.result = search rules in
-    let none : length z.leaps ≡ 0 = search rules in
-    let some : place < length z.transitions = search rules in
-    let has = rw c.latest-latest.ensures.index at c.listed-found.ensures in
-    let begin = c.latest-latest.ensures.begin in
-    simp to_z-of_z (λ u since before. (
-      c.listed-found.result.now,
-      between z place u c.listed-found.result.now (rw (← c.self.view_is) c.self.invariant.valid) none some (omega (arith, ints))
-          (λ d. let e = time_at z.transitions place next d some c.transition-next.ensures.item in omega (arith, ints)) has,
-      c.offset.ensures.value,
-    ))
+    simp to_z-of_z (λ v since before. (c.index.result.now, stretch_between z e c.args.unix_time v c.in-Some.between c.index.result.now valid list h low high has since before, c.offset.ensures.value))

@@ -1,31 +1,72 @@
-use Rattle.tz_info.proofs.{Words.{arith, change_held, ints, to_z-of_z, ◌+◌, ◌-◌, ◌≡◌}, ZoneChanges.{ahead_come, ahead_less, ahead_none, table_last}}
+use Rattle.tz_info.proofs.{Words.{IsValid, Zone, ap, SFits, arith, change_held, length, option_map, passed, rules, sym, to_z-of_z, w64, ◌+◌, ◌-◌, ◌<◌, ◌∙◌, ◌≡◌}, EntryChanges.{idle_more, none_behind, previous_at, previous_by_entry, previous_none}}
+use Rattle.tz_info.specs.Steps.Entries.{AreEntries}
 use Rattle.tz_info.proofs.zone.time_zone.TimeZone.previous_in_table.Goals as goal
 
-pub loop-left-init : goal.loop-left-init
-loop-left-init c = let fa = c.ranges.last in simp to_z-of_z (ahead_come c.args.self.now c.args.last c.args.come
-    (rw (← c.self.view_is) c.self.invariant.valid) c.requires)
+pub returns-then-count-eq0 : goal.returns-then-count-eq0
+returns-then-count-eq0 c =
+    let fa = c.ranges.last in
+    let z = c.args.self.now in
+    let e = c.self.inside.changes in
+    let valid : IsValid z = rw (← c.self.view_is) c.self.invariant.valid in
+    let list : AreEntries z e = rw (← c.self.view_is) c.self.invariant.list in
+    let n : c.count-count.result ≡ length (passed e.items c.args.last) = simp to_z-of_z at c.count-count.ensures.count in
+    previous_none z e c.args.last valid list (none_behind z e c.args.last 0 (sym n ∙ c.if-count-eq0.true))
 
-pub change_with-requires : goal.change_with-requires
-change_with-requires c = let w = c.loop-left.invariant.within in omega arith
-
-pub count_before-left-requires : goal.count_before-left-requires
-count_before-left-requires c = let w = c.loop-left.invariant.within in omega arith
+pub returns-then-not-is_last : goal.returns-then-not-is_last
+returns-then-not-is_last c =
+    let fa = c.ranges.last in
+    let z = c.args.self.now in
+    let e = c.self.inside.changes in
+    let valid : IsValid z = rw (← c.self.view_is) c.self.invariant.valid in
+    let list : AreEntries z e = rw (← c.self.view_is) c.self.invariant.list in
+    let n : c.count-count.result ≡ length (passed e.items c.args.last) = simp to_z-of_z at c.count-count.ensures.count in
+    let k = c.count-count.result - 1 in
+    let some : k + 1 ≡ c.count-count.result = grind (arith, c.if-count-eq0.false) in
+    let more : k + 1 < e.all = grind (arith, c.is_last.ensures, c.if-not-is_last.true) in
+    previous_by_entry z e c.args.last k (option_map change_held c.change_at.result) valid list (omega arith) more (none_behind z e c.args.last (k + 1) (omega arith))
+    (let types = ap (λ (y : Zone). y.types) c.self.view_is in rw (c.deref.ensures.value ∙ types) at c.change_at.ensures)
 
 pub returns-in-Some : goal.returns-in-Some
 returns-in-Some c =
     let fa = c.ranges.last in
-    let k = c.in-Some.ensures in
-    let e : c.loop-left.left ≡ (c.loop-left.left - 1) + 1 = omega arith in
-    table_last c.args.self.now c.args.last (c.loop-left.left - 1) (change_held c.in-Some.change) (rw (← c.self.view_is) c.self.invariant.valid) (rw e at
-    (simp to_z-of_z at c.loop-left.invariant)) k.0 k.1
+    let z = c.args.self.now in
+    let e = c.self.inside.changes in
+    let valid : IsValid z = rw (← c.self.view_is) c.self.invariant.valid in
+    let list : AreEntries z e = rw (← c.self.view_is) c.self.invariant.list in
+    let n : c.count-count.result ≡ length (passed e.items c.args.last) = simp to_z-of_z at c.count-count.ensures.count in
+    let fs : SFits w64 c.second.result = search rules in
+    let k = c.count-count.result - 1 in
+    let some : k + 1 ≡ c.count-count.result = grind (arith, c.if-count-eq0.false) in
+    let found = simp to_z-of_z at c.in-Some.ensures in
+    previous_at z e c.args.last c.second.result k (change_held c.in-Some.change) valid list (omega arith) c.second.ensures found.0 found.1
 
-pub loop-left-preserved : goal.loop-left-preserved
-loop-left-preserved c =
+pub returns-then-count-eq1 : goal.returns-then-count-eq1
+returns-then-count-eq1 c =
     let fa = c.ranges.last in
-    let e : c.loop-left.left ≡ (c.loop-left.left - 1) + 1 = omega arith in
-    let n = c.count_before-left.ensures in
-    simp to_z-of_z (ahead_less c.args.self.now c.args.last (c.loop-left.left - 1) c.count_before-left.result
-    (rw (← c.self.view_is) c.self.invariant.valid) (rw e at (simp to_z-of_z at c.loop-left.invariant)) c.in-None.ensures n.count n.alike)
+    let z = c.args.self.now in
+    let e = c.self.inside.changes in
+    let valid : IsValid z = rw (← c.self.view_is) c.self.invariant.valid in
+    let list : AreEntries z e = rw (← c.self.view_is) c.self.invariant.list in
+    let n : c.count-count.result ≡ length (passed e.items c.args.last) = simp to_z-of_z at c.count-count.ensures.count in
+    let fs : SFits w64 c.second.result = search rules in
+    let one : c.count-count.result - 1 ≡ 0 = let o = c.if-count-eq1.true in omega arith in
+    previous_none z e c.args.last valid list (idle_more z e c.args.last c.second.result 0 (sym n ∙ c.if-count-eq1.true) (rw one at c.second.ensures) (simp to_z-of_z at c.in_default.ensures))
 
 pub returns : goal.returns
-returns c = grind (arith, ints, ahead_none, c.ranges.last, c.loop-left.left, c.loop-left.invariant)
+returns c =
+    let fa = c.ranges.last in
+    let z = c.args.self.now in
+    let e = c.self.inside.changes in
+    let valid : IsValid z = rw (← c.self.view_is) c.self.invariant.valid in
+    let list : AreEntries z e = rw (← c.self.view_is) c.self.invariant.list in
+    let n : c.count-count.result ≡ length (passed e.items c.args.last) = simp to_z-of_z at c.count-count.ensures.count in
+    let fs : SFits w64 c.second.result = search rules in
+    let k = c.count-count.result - 2 in
+    let many : k + 2 ≡ c.count-count.result = grind (arith, c.if-count-eq0.false, c.if-count-eq1.false) in
+    let before : c.count-count.result - 1 ≡ k + 1 = omega arith in
+    let more = list.more in
+    let most = c.count-count.ensures.within in
+    let types = ap (λ (y : Zone). y.types) c.self.view_is in
+    previous_by_entry z e c.args.last k (option_map change_held c.change_at-3.result) valid list (omega arith) (omega arith)
+    (idle_more z e c.args.last c.second.result (k + 1) (omega arith) (rw before at c.second.ensures) (simp to_z-of_z at c.in_default.ensures))
+    (rw (c.deref-2.ensures.value ∙ types) at c.change_at-3.ensures)

@@ -1,17 +1,15 @@
-use Rattle.tz_info.proofs.{Words.{Bor, LocalType, Zone, ap, arith, length, slice_get_read, to_z-of_z}, PassedTransitions.{at_first, at_last, at_middle}}
+use Rattle.tz_info.proofs.{Words.{Bor, LocalType, arith, inr, refl, to_z-of_z, slice_get_read}, EntryChanges.{at_entry, at_last, not_last}}
 use Rattle.tz_info.proofs.zone.time_zone.TimeZone.type_after.Goals as goal
-use Rattle.std.proofs.lemmas.Int.{ints}
 
-pub returns-in_default-clause-found : goal.returns-in_default-clause-found
-returns-in_default-clause-found c = grind (arith, ints, at_first, slice_get_read)
-
-pub returns-then-passed-len-clause-found : goal.returns-then-passed-len-clause-found
-returns-then-passed-len-clause-found c = grind (arith, ints, at_middle, slice_get_read)
-
-pub returns-clause-found : goal.returns-clause-found
-returns-clause-found c =
+pub returns-then-come-clause-found : goal.returns-then-come-clause-found
+returns-then-come-clause-found c =
     let fu = c.ranges.unix_time in
-    let come = rw c.in-Some.is at c.requires.come in
-    let all = ap (λ (z : Zone). length z.transitions) c.self.view_is in
-    (at_last (λ (t : Bor LocalType). t.now) c.args.self.now c.args.unix_time _ c.in-Some.latest.now c.rule_or_type.result come (omega arith)
-    (simp to_z-of_z at (rw c.type_index-2.ensures at c.rule_or_type.ensures.found)))
+    at_last (λ (t : Bor LocalType). t.now) c.args.self.now c.args.unix_time c.args.come c.rule_or_type.result c.requires.come c.if-come.true (simp to_z-of_z at c.rule_or_type.ensures.found)
+
+pub returns-else-come-clause-found : goal.returns-else-come-clause-found
+returns-else-come-clause-found c =
+    let fu = c.ranges.unix_time in
+    at_entry c.args.self.now c.args.unix_time c.args.come c.index.result.now c.requires.come c.if-come.false (grind (arith, slice_get_read, c.self.view_is, c.index.ensures, c.requires.come.below))
+
+pub returns-else-come-clause-counted : goal.returns-else-come-clause-counted
+returns-else-come-clause-counted c = inr (inr (not_last c.args.self.now c.args.unix_time c.args.come c.requires.come c.if-come.false, refl))

@@ -1,4 +1,4 @@
-use Rattle.tz_info.proofs.{Words.{arith}, ZoneLaws.{zone_of_rule_valid}}
+use Rattle.tz_info.proofs.{EntryLaws.{no_entries}, Words.{refl}, ZoneLaws.{zone_of_rule_valid}}
 use Rattle.tz_info.proofs.zone.time_zone.TimeZone.with_rule.Goals as goal
 
 pub without_pieces-index-requires-clause-valid : goal.without_pieces-index-requires-clause-valid
@@ -11,8 +11,7 @@ invariant_of-zone c =
       valid = zone_of_rule_valid c.args.types.items c.args.rule c.requires;
       limits = c.extremes_of-extremes.ensures.limits;
       extremes = rw c.deref-4.ensures.value at c.extremes_of-extremes.ensures.extremes;
-      runs = λ k below. absurd (omega (arith, c.none-3.ensures));
       index = rw (c.deref.ensures.value, c.new-transitions.ensures.items, c.deref-2.ensures.value, c.deref-3.ensures.value, c.new-leaps.ensures.items) at c.without_pieces-index.ensures;
-      last = c.none-4.ensures _;
-      unix_times = λ some. absurd (omega arith);
+      last = c.none-3.ensures _;
+      list = rw c.none-2.ensures (no_entries _ (zone_of_rule_valid c.args.types.items c.args.rule c.requires) refl);
     })
