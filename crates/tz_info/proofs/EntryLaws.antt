@@ -8,7 +8,7 @@ use Rattle.tz_info.proofs.Words.{inl, inr, int_le, ints, last_else, le_false, le
 use Rattle.tz_info.proofs.Words.{take, take_all, true, w64, zero, ℕ, ℤ, [], ◌++◌, ◌+◌, ◌-◌, ◌==◌, ◌<ℤ◌, ◌<◌, ◌↔◌, ◌∙◌, ◌∷◌, ◌≡◌, ◌≢◌, ◌≤ℤ◌, ◌≤◌, ◌⊎◌}
 use Rattle.std.specs.Prelude.{option_to_list}
 use Rattle.std.proofs.lemmas.Option.{slice_get_within}
-use Rattle.tz_info.proofs.{Prefixes.{last_taken}, SegmentLaws.{come_by_time, not_later, split_at, split_count}, ZoneChanges.{refused_on}}
+use Rattle.tz_info.proofs.{LeapSearch.{own_leap_time}, LeapStarts.{reached_first}, Prefixes.{last_taken}, SegmentLaws.{come_by_time, not_later, split_at, split_count}, ZoneChanges.{refused_on}}
 use Rattle.tz_info.specs.Steps.Entries.{AreBefore, AreEntries, EndsAt, IsAdded, IsStartIn, NeverComes, added, idle, last_index, none_there, one_there}
 
 -- ---- lists with one item more
@@ -286,6 +286,13 @@ pub no_entries : (z : Zone) → IsValid z → length z.transitions ≡ 0 → Are
 no_entries z valid none = all_come z [] 0 0 valid (sym none) refl (none_made z)
 
 -- ---- the second at which a transition comes
+-- without leap seconds each comes at its own time
+pub starts_itself : (leaps : List LeapSecond) (x : ℤ) → AreLeapSeconds leaps → length leaps ≡ 0 → IsStartIn leaps x x
+starts_itself leaps x valid none = record {
+  leap_time = (x, own_leap_time leaps x none);
+  reached = λ u y l. reached_first leaps x u y valid (record { within = omega arith; before = λ k d h. absurd (omega arith); after = λ k d h m. absurd (omega arith) }) l;
+}
+
 pub never_then : (leaps : List LeapSecond) (x start : ℤ) → ((u y : ℤ) → IsLeapTime leaps u y → (x ≤ℤ y) ↔ (start ≤ℤ u)) → pos 9_223_372_036_854_775_807 <ℤ start → NeverComes leaps x
 never_then leaps x start reached late u y f l = by_lt_z y x (λ h. h) (λ h. let a = (reached u y l).0 h in absurd (omega (arith, ints)))
 

@@ -21,7 +21,7 @@ use crate::change::{HeldChange, is_same_type};
 use crate::zone::changes::first_second;
 use crate::zone::kept::Kept;
 use crate::zone::leap_second::LeapSecond;
-use crate::zone::leap_time::leap_time;
+use crate::zone::lookup::has_leap_time;
 use crate::zone::segments::Lists;
 use crate::zone::table::Table;
 use std::alloc::{AllocError, Global};
@@ -260,14 +260,18 @@ fn start_in(leaps: &[LeapSecond], time: i64) -> Option<i64>
     requires { AreLeapSeconds leaps.now }
     ensures { MatchOption result (NeverComes leaps.now time) (IsStartIn leaps.now time) }
 {
+    if leaps.is_empty() {
+        return Some(time);
+    }
     let start = first_second(leaps, time);
     if start > i64::MAX as i128 {
         return None;
     }
     let second = start as i64;
-    match leap_time(leaps, second) {
-        Ok(_) => Some(second),
-        Err(_) => None,
+    if has_leap_time(leaps, second) {
+        Some(second)
+    } else {
+        None
     }
 }
 
