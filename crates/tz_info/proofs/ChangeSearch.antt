@@ -99,10 +99,6 @@ pub change_made : (f : InForce) (second : ℤ) (s t : LocalType) (r : Option Cha
 change_made f second s t None once fits fits_before h k e = grind arith
 change_made f second s t (Some c) once fits fits_before h k e = rw e.1 (record { fits = fits; fits_before = fits_before; before = h; after = k; differ = e.0 }, refl)
 
--- the second before is none of 64 bits
-pub none_first : (f : InForce) (second : ℤ) → (SFits w64 (second -ℤ pos 1) → ⊥) → HasNoChange f (λ u. u ≡ second)
-none_first f second out d is at = out (rw at at is.fits_before)
-
 -- no type is in force a second before, or at the second
 pub none_before : (f : InForce) (second : ℤ) → ((t : LocalType) → f (second -ℤ pos 1) t → ⊥) → HasNoChange f (λ u. u ≡ second)
 none_before f second without d is at = without d.before (rw at at is.before)

@@ -1,6 +1,6 @@
 -- Spans: at each second between two that have a type there is one, and from the last change to the next one it is the same.
 use Rattle.tz_info.proofs.Words.{Agrees, Alternate as AlternateRule, AreLeapSeconds, Change, HasNoChange, IfSome, IsAlternateRefused, IsChange, IsEndOrTyped}
-use Rattle.tz_info.proofs.Words.{IsFirst, IsFirstChange, IsFromLast, IsInSpan, IsLast, IsLastChange, IsLeapTime, IsRefusedBy, IsRuleOrNone}
+use Rattle.tz_info.proofs.Words.{IsFirst, IsFromLast, IsInSpan, IsLast, IsLastChange, IsLeapTime, IsRefusedBy, IsRuleOrNone}
 use Rattle.tz_info.proofs.Words.{IsRuleTime, IsSince, IsSpan, IsSpanAt, IsTypeRefused, IsUnixTime, IsUntil, IsValid, LeapSecond, List, LocalType}
 use Rattle.tz_info.proofs.Words.{None, Option, SFits, Some, Span, Transition, TransitionRule, TypeAt, Zone, ap, arith, by_leap_time, by_lt_z, by_rule, cases_lt, false, true}
 use Rattle.tz_info.proofs.Words.{correction_before, floor_div, inl, inr, ints, last_transition, length, lies_in, neg_ℤ, option_map, passed_count, pos, refl}
@@ -149,18 +149,6 @@ span_between z u t last next valid limits fits h before after = record {
     ends = ends_with z u t next valid limits fits h after;
   };
 }
-
--- between two changes the type is that before the second one
-pub span_of_changes : (z : Zone) (u : ℤ) (begins ends : Change) → IsValid z → IsRuleOrNone z.rule → SFits w64 u
-    → IsLastChange (TypeAt z) (λ v. v ≤ℤ u) begins → IsFirstChange (TypeAt z) (λ v. u <ℤ v) ends
-    → IsSpanAt (TypeAt z) u (record { local_time_type = ends.before; from = Some begins.at; until = Some ends.at })
-span_of_changes z u begins ends valid limits fits last next =
-    let since = last.inside in let later = next.inside in
-    let t = typed_between z begins.at (ends.at -ℤ pos 1) u begins.after ends.before valid limits since (omega (arith, ints)) last.is.after next.is.before in
-    let s = span_between z u t.0 (Some begins) (Some ends) valid limits fits t.1 last next in
-    let same : t.0 ≡ ends.before = no_change z u (ends.at -ℤ pos 1) t.0 ends.before valid limits fits next.is.fits_before (omega (arith, ints))
-    (λ d is i. let l = next.nearest d is i.0 in let b = i.1 in omega (arith, ints)) t.1 next.is.before in
-    rw (← same) s
 
 later : (begin : Option ℤ) (v u : ℤ) → u ≤ℤ v → IsSince begin u → IsSince begin v
 later None v u h k = tt
