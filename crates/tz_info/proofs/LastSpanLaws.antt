@@ -4,12 +4,14 @@ use Rattle.tz_info.proofs.Words.{None, SFits, Shows, Span, TypeAt, Zone, arith, 
 use Rattle.tz_info.proofs.Words.{◌≤ℤ◌}
 use Rattle.tz_info.proofs.{ExtremeLaws.{at_least_least, at_most_greatest}, LeapStarts.{saturated}, SpanLaws.{in_last_span}, ZoneLaws.{type_once}}
 
--- each second later than that one, up to 2^62, lies in the span
-abbrev HasAllAfter : Zone → Span → ℤ → Type 0
-HasAllAfter z s after = (u : ℤ) → SFits w64 u → after <ℤ u → u ≤ℤ pos 4_611_686_018_427_387_904 → IsSpanAt (TypeAt z) u s
+-- each second later than that one, up to `last`, lies in the span
+abbrev HasAllAfter : Zone → Span → ℤ → ℤ → Type 0
+HasAllAfter z s after last = (u : ℤ) → SFits w64 u → after <ℤ u → u ≤ℤ last → IsSpanAt (TypeAt z) u s
 
 -- by none of the zone's offsets does that second, or an earlier one, show the local time
-record IsLater (z : Zone) (after local : ℤ) (e : Extremes) : Type 0 where
+record IsLater (z : Zone) (after last local : ℤ) (e : Extremes) : Type 0 where
+  far : pos 10_000_000_000_000 ≤ℤ last
+  last_fits : SFits w64 last
   wide : IsWide local
   later : (after +ℤ e.greatest) <ℤ local
   extremes : AreExtremes (offsets z.types z.rule) e
@@ -18,39 +20,39 @@ record IsLater (z : Zone) (after local : ℤ) (e : Extremes) : Type 0 where
   after_fits : SFits w64 after
 
 -- a second that shows the local time by a type of the zone comes after that one
-shows_after : (z : Zone) (after local u v : ℤ) (e : Extremes) (t : LocalType) → IsLater z after local e → TypeAt z v t → u +ℤ t.offset ≡ local
-    → SFits w64 u × (after <ℤ u) × (u ≤ℤ pos 4_611_686_018_427_387_904)
-shows_after z after local u v e t h type shown =
+shows_after : (z : Zone) (after last local u v : ℤ) (e : Extremes) (t : LocalType) → IsLater z after last local e → TypeAt z v t → u +ℤ t.offset ≡ local
+    → SFits w64 u × (after <ℤ u) × (u ≤ℤ last)
+shows_after z after last local u v e t h type shown =
     let most = at_most_greatest z v e.greatest t h.extremes.greatest type in
     let fewest = at_least_least z v e.least t h.extremes.least type in
     omega (arith, ints)
 
-shown_once_after : (z : Zone) (s : Span) (after local : ℤ) (e : Extremes) → IsLater z after local e → HasAllAfter z s after
+shown_once_after : (z : Zone) (s : Span) (after last local : ℤ) (e : Extremes) → IsLater z after last local e → HasAllAfter z s after last
     → IsShownOnce (Shows (TypeAt z) local) s.local_time_type
-shown_once_after z s after local e h each =
-    let far = each (pos 4_611_686_018_427_387_904) (omega (arith, ints)) (omega (arith, ints, h.later, h.wide, h.greatest)) (omega (arith, ints)) in
+shown_once_after z s after last local e h each =
+    let far = each last h.last_fits (omega (arith, ints, h.later, h.wide, h.greatest, h.far)) (omega (arith, ints)) in
     let u = local -ℤ s.local_time_type.offset in
-    let b = shows_after z after local u (pos 4_611_686_018_427_387_904) e s.local_time_type h far.in_force_then (omega (arith, ints)) in
+    let b = shows_after z after last local u last e s.local_time_type h far.in_force_then (omega (arith, ints)) in
     record {
       second = u;
       shown = record { fits = b.0; type = (each u b.0 b.1 b.2).in_force_then; shown = omega (arith, ints) };
       only = λ v t k.
-          let c = shows_after z after local v v e t h k.type k.shown in
+          let c = shows_after z after last local v v e t h k.type k.shown in
           let same = type_once z v t s.local_time_type k.type (each v c.0 c.1 c.2).in_force_then in grind (arith, ints);
     }
 
--- a span at 2^62 that has no end is the last one
+-- a span far from now that has no end is the last one
 pub last_spans : (z : Zone) (last : LastSpan) (first : ℤ) (e : Extremes) → IsValid z → IsRuleOrNone z.rule
-    → AreExtremes (offsets z.types z.rule) e → SFits w32 e.least → SFits w32 e.greatest → SFits w64 last.after
-    → IsSpanAt (TypeAt z) (pos 4_611_686_018_427_387_904) last.span → last.span.until ≡ None → IsEndOrTyped z last.span.from first
+    → AreExtremes (offsets z.types z.rule) e → SFits w32 e.least → SFits w32 e.greatest → SFits w64 last.after → SFits w64 last.last → pos 10_000_000_000_000 ≤ℤ last.last
+    → IsSpanAt (TypeAt z) last.last last.span → last.span.until ≡ None → IsEndOrTyped z last.span.from first
     → ((u : ℤ) → SFits w64 u → last.after <ℤ u → first ≤ℤ u) → last.local_after ≡ saturate_signed w64 (last.after +ℤ e.greatest) → IsLastSpan z last
-last_spans z last first e valid limits extremes low high fits h endless from after local_after =
-    let each : HasAllAfter z last.span last.after = λ u is l most. in_last_span z last.span first u valid limits h from is (after u is l) most in
+last_spans z last first e valid limits extremes low high fits last_fits far h endless from after local_after =
+    let each : HasAllAfter z last.span last.after last.last = λ u is l most. in_last_span z last.span first last.last u valid limits h from last_fits is (after u is l) most in
     record {
       each = each;
       endless = endless;
       shown = λ local wide later.
           let near = (saturated (last.after +ℤ e.greatest) (local -ℤ pos 1) (omega (arith, ints))).0 (omega (arith, ints)) in
-          shown_once_after z last.span last.after local e
-          (record { wide = wide; later = omega (arith, ints); extremes = extremes; least = low; greatest = high; after_fits = fits }) each;
+          shown_once_after z last.span last.after last.last local e
+          (record { far = far; last_fits = last_fits; wide = wide; later = omega (arith, ints); extremes = extremes; least = low; greatest = high; after_fits = fits }) each;
     }

@@ -228,13 +228,13 @@ span_held z s first end u valid limits h fits from until low high =
     let t = typed_between z first last.0 u begin.0 last.2.0 valid limits low (omega (arith, ints)) begin.1 last.2.1 in grind (arith, ints)
 
 -- ---- the last span
--- up to 2^62 each second from its beginning on lies in it
-pub in_last_span : (z : Zone) (s : Span) (first u : ℤ) → IsValid z → IsRuleOrNone z.rule
-    → IsSpanAt (TypeAt z) (pos 4_611_686_018_427_387_904) s → IsEndOrTyped z s.from first
-    → SFits w64 u → first ≤ℤ u → u ≤ℤ pos 4_611_686_018_427_387_904 → IsSpanAt (TypeAt z) u s
-in_last_span z s first u valid limits h from fits low most =
+-- up to the second `last` each from its beginning on lies in it
+pub in_last_span : (z : Zone) (s : Span) (first last u : ℤ) → IsValid z → IsRuleOrNone z.rule
+    → IsSpanAt (TypeAt z) last s → IsEndOrTyped z s.from first
+    → SFits w64 last → SFits w64 u → first ≤ℤ u → u ≤ℤ last → IsSpanAt (TypeAt z) u s
+in_last_span z s first last u valid limits h from fits_last fits low most =
     let begin = typed_from z s first h.span from in
-    let t = typed_between z first (pos 4_611_686_018_427_387_904) u begin.0 s.local_time_type valid limits low most begin.1 h.in_force_then in
+    let t = typed_between z first last u begin.0 s.local_time_type valid limits low most begin.1 h.in_force_then in
     grind (arith, ints)
 
 -- no change comes after a second of a span without an end

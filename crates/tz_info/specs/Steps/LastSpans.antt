@@ -1,5 +1,5 @@
 -- The span after a zone's last clock change.
-use Rattle.std.specs.Prelude.{ℤ, pos, ◌≡◌, ◌<ℤ◌, ◌≤ℤ◌, FitsSigned, None}
+use Rattle.std.specs.Prelude.{ℤ, ◌≡◌, ◌<ℤ◌, ◌≤ℤ◌, FitsSigned, None}
 use Rattle.std.specs.Int.{w64}
 use Rattle.naive_base.specs.Range.{IsWide}
 use Rattle.offset_core.specs.WallAnswer.{IsShownOnce}
@@ -8,8 +8,8 @@ use Rattle.tz_info.specs.WallClocks.{Shows}
 use Rattle.tz_info.specs.Zones.{Zone, TypeAt}
 use Rattle.tz_info.specs.declared.zone.last_span.LastSpan.{LastSpan}
 
--- each later second up to 2^62 lies in the span, which has no end; only one second shows a later local time, at the span's type
+-- each later second up to the last that is known lies in the span, which has no end; only one second shows a later local time, at the span's type
 pub record IsLastSpan (z : Zone) (last : LastSpan) : Type 0 where
-  pub each : (u : ℤ) → FitsSigned w64 u → last.after <ℤ u → u ≤ℤ pos 4_611_686_018_427_387_904 → IsSpanAt (TypeAt z) u last.span
+  pub each : (u : ℤ) → FitsSigned w64 u → last.after <ℤ u → u ≤ℤ last.last → IsSpanAt (TypeAt z) u last.span
   pub endless : last.span.until ≡ None
   pub shown : (local : ℤ) → IsWide local → last.local_after <ℤ local → IsShownOnce (Shows (TypeAt z) local) last.span.local_time_type

@@ -1,7 +1,7 @@
 //! The span that goes on after a zone's last clock change. It is kept, so that a second in it needs
 //! no search.
 
-ghost use Rattle.std.specs.Prelude.{◌≡◌, IfSome, None};
+ghost use Rattle.std.specs.Prelude.{◌≡◌, ◌≤ℤ◌, pos, IfSome, None};
 ghost use Rattle.naive_base.specs.Range.{IsWide};
 ghost use Rattle.offset_core.specs.WallAnswer.{IsShownOnce};
 ghost use Rattle.tz_info.specs.HeldChanges.{span_held};
@@ -17,11 +17,17 @@ use crate::zone::starts::cut_at;
 use crate::zone::time_zone::TimeZone;
 use tz_base::{LocalTimeType, Span};
 
-// The span of each second later than `after`, up to `LATEST`. Only one second shows a local time
-// later than `local_after`, and lies in it.
+// The first and the last second of the years -2147483646 to 2147483645, for which rules answer.
+const FIRST_OF_RULE: i64 = -67_768_100_504_812_800;
+
+const LAST_OF_RULE: i64 = 67_767_976_170_460_799;
+
+// The span of each second later than `after`, up to `last`. Only one second shows a local time later
+// than `local_after`, and lies in it.
 #[derive(Clone, Copy)]
 pub(super) struct LastSpan {
     after: i64,
+    last: i64,
     local_after: i64,
     span: Span,
 }
@@ -33,6 +39,7 @@ impl LastSpan {
     {
         LastSpan {
             after: i64::MAX,
+            last: i64::MIN,
             local_after: i64::MAX,
             span: Span {
                 local_time_type: LocalTimeType::utc(),
@@ -54,28 +61,60 @@ impl TimeZone {
         }
     }
 
-    // The span of `LATEST`, if no change follows, and the first second has a type or a change begins
-    // the span.
+    // The span of the last second that has a type, or of `LATEST`, if no change follows, and the first
+    // second has a type or a change begins the span. Mostly a rule of two types goes on to change, as
+    // it does first from where it begins.
     fn find_last_span(&self) -> Option<LastSpan>
         ensures { IfSome result (IsLastSpan self.now) }
     {
         let _ = (self.extremes.least, self.extremes.greatest);
-        // A rule of two types has no type then.
-        if self.turns().is_some() {
+        if self.goes_on_to_change() {
             return None;
         }
-        let Ok(span) = self.span_at(LATEST) else {
+        let (first, last) = self.typed_ends(i64::MIN, LATEST);
+        let Ok(span) = self.span_at(last) else {
             return None;
         };
         if span.until.is_some() {
             return None;
         }
-        let after = second_before(self.end_or_typed(span.from, i64::MIN)?);
+        let after = second_before(self.end_or_typed(span.from, first)?);
         Some(LastSpan {
             after,
+            last,
             local_after: cut_at(after, i64::from(self.extremes.greatest)),
             span,
         })
+    }
+
+    // Whether a rule of two types changes the clocks after it has begun. Only the time that questions
+    // take depends on it.
+    fn goes_on_to_change(&self) -> bool {
+        if self.turns().is_none() {
+            return false;
+        }
+        let begin = self.rule_begin();
+        if begin > i64::MAX as i128 {
+            return true;
+        }
+        let from = if begin < FIRST_OF_RULE as i128 {
+            0
+        } else {
+            begin as i64
+        };
+        self.next_held_change(from).is_some()
+    }
+
+    // The first and the last second that a rule of two types answers for, or without one those two.
+    pub(super) fn typed_ends(&self, first: i64, last: i64) -> (i64, i64)
+        requires { pos 10_000_000_000_000 ≤ℤ last }
+        ensures { pos 10_000_000_000_000 ≤ℤ result.1 }
+    {
+        if self.turns().is_some() {
+            (FIRST_OF_RULE, LAST_OF_RULE)
+        } else {
+            (first, last)
+        }
     }
 
     // The last span, if the second is known to lie in it.
@@ -85,7 +124,7 @@ impl TimeZone {
             × (s.until ≡ None)) }
     {
         let _ = &self.table;
-        if self.last_span.after < unix_time && unix_time <= LATEST {
+        if self.last_span.after < unix_time && unix_time <= self.last_span.last {
             Some(HeldSpan::of(&self.last_span.span))
         } else {
             None

@@ -84,8 +84,8 @@ impl TimeZone {
         }
     }
 
-    // The span of the second. One without an end is held as far as `EARLIEST` or `LATEST`, if the
-    // zone has a type then.
+    // The span of the second. One without an end is held as far as `EARLIEST` or `LATEST`, or as
+    // its rule answers.
     #[inline(never)]
     pub(super) fn held_at(&self, unix_time: i64) -> Option<Held>
         ensures { IfSome result (IsHeld self.now) }
@@ -94,8 +94,9 @@ impl TimeZone {
         let Ok(span) = self.span_at(unix_time) else {
             return None;
         };
-        let first = self.end_or_typed(span.from, EARLIEST)?;
-        let end = self.end_or_typed(span.until, LATEST)?;
+        let (earliest, latest) = self.typed_ends(EARLIEST, LATEST);
+        let first = self.end_or_typed(span.from, earliest)?;
+        let end = self.end_or_typed(span.until, latest)?;
         Some(Held {
             first,
             end,

@@ -11,8 +11,10 @@ returns c =
     let local_after : SFits w64 c.cut_at.result = search rules in
     let offset : SFits w64 c.from.result = search rules in
     let is_offset : c.from.result ≡ e.greatest = simp to_z-of_z at c.from.ensures in
+    let last : SFits w64 c.typed_ends-first.result.1 = search rules in
+    let far = c.typed_ends-first.ensures in
     simp to_z-of_z (last_spans c.args.self.now _ c.in_ok-end_or_typed.field-0 e (rw (← c.self.view_is) c.self.invariant.valid)
-    (rw (← c.self.view_is) c.self.invariant.limits) (rw (← c.self.view_is) c.self.invariant.extremes) least greatest after
-    c.in-Ok.ensures (search rules) c.in_ok-end_or_typed.ensures
+    (rw (← c.self.view_is) c.self.invariant.limits) (rw (← c.self.view_is) c.self.invariant.extremes) least greatest after last far
+    (simp to_z-of_z at c.in-Ok.ensures) (search rules) c.in_ok-end_or_typed.ensures
     (λ u fits later. (simp to_z-of_z at (c.second_before-after.ensures u (omega (arith, ints)))).0 later)
     (rw is_offset at (simp to_z-of_z at c.cut_at.ensures)))

@@ -1,4 +1,4 @@
-use Rattle.tz_info.proofs.Words.{Bor, LocalType, Zone, ap, arith, by_leap_time, ints, length, refl, sym, to_z-of_z, ◌∙◌}
+use Rattle.tz_info.proofs.Words.{Bor, LocalType, Zone, ap, arith, by_leap_time, length, refl, sym, to_z-of_z, ◌∙◌, ◌≡◌}
 use Rattle.tz_info.proofs.{PassedTransitions.{with_transitions, without_transitions}, QuestionLaws.{asked_at_time, asked_without}}
 use Rattle.tz_info.proofs.zone.time_zone.TimeZone.find_local_time_type_counted.Goals as goal
 
@@ -26,7 +26,10 @@ pub returns-in-Some-clause-questions : goal.returns-in-Some-clause-questions
 returns-in-Some-clause-questions c =
     let fu = c.ranges.unix_time in
     let come = simp to_z-of_z at c.in-Some.ensures.come in
-    grind (arith, ints, asked_at_time)
+    let cost = c.come_at.ensures.cost in
+    let kept = cost.questions_kept in let most = cost.questions_most in
+    let same : c.come_at.new.probes.rule_questions ≡ c.args.probes.now.rule_questions = omega arith in
+    asked_at_time c.args.self.now c.args.unix_time _ _ _ (λ _. come.of_second) (rw same at (simp to_z-of_z at c.type_after.ensures.counted))
 
 pub returns-in-None-clause-found : goal.returns-in-None-clause-found
 returns-in-None-clause-found c =
