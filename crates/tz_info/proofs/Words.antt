@@ -95,8 +95,8 @@ unfoldable pub use Rattle.tz_info.specs.RuleDayOf.{rule_day}
 pub use Rattle.tz_info.specs.RuleDays.{IsDayOf, IsRuleDay, IsWeekdayInWeek}
 pub use Rattle.tz_info.specs.RuleTypes.{IsRule, IsRuleRefused, RuleAt}
 pub use Rattle.tz_info.specs.Rules.{Alternate, IsAlternate, IsAlternateRule, IsWithinWeek, expected_of_alternate}
-pub use Rattle.tz_info.specs.Segments.{table_count, table_count_by}
-unfoldable pub use Rattle.tz_info.specs.Segments.{segment_of}
+pub use Rattle.tz_info.specs.Steps.Segments.{table_count, table_count_by}
+unfoldable pub use Rattle.tz_info.specs.Steps.Segments.{segment_of}
 pub use Rattle.tz_info.specs.ShownSeconds.{AreEndsWithin, AreShownWithin, IsFirstAtOrAfter, IsFirstWithin, IsLastWithin, IsNeverWithin, ShowsAtOrAfter}
 pub use Rattle.tz_info.specs.ShownSeconds.{ShowsWithin}
 pub use Rattle.tz_info.specs.Spans.{IsInSpan, IsSince, IsSpan, IsSpanAt, IsUntil}
@@ -150,8 +150,8 @@ pub use Rattle.tz_info.specs.TzGrammar.{IsTextFault, IsTzText, is_letter, is_not
 unfoldable pub use Rattle.tz_info.specs.TzGrammar.{alternate, date, day, days, dst_offset, duration, end, fixed, given_offset, julian_date, month_date, named}
 unfoldable pub use Rattle.tz_info.specs.TzGrammar.{next_hour, offset, optional_time, rule, text, time}
 pub use Rattle.tz_info.specs.WallClocks.{AreShown, IsAmongShown, Shows}
-pub use Rattle.tz_info.specs.WallPieces.{AreInOrder, AreLessAmong, IsIndex, IsLastSecondBefore, IsShownAmong, IsSideAmong, IsStart, IsTypeBefore, Jumps}
-pub use Rattle.tz_info.specs.WallPieces.{ListedAmong, ShownAmong, WallIndex, answer_at, answer_before, shown_indexes}
+pub use Rattle.tz_info.specs.Steps.WallPieces.{AreInOrder, AreLessAmong, IsIndex, IsLastSecondBefore, IsShownAmong, IsSideAmong, IsStart, IsTypeBefore, Jumps}
+pub use Rattle.tz_info.specs.Steps.WallPieces.{ListedAmong, ShownAmong, WallIndex, answer_at, answer_before, shown_indexes}
 pub use Rattle.tz_info.specs.Windows.{IsGreatest, IsLeast, IsWindow, IsWindowCount, come_between, offsets, rule_offsets}
 pub use Rattle.tz_info.specs.ZoneEquality.{zone_eq}
 pub use Rattle.tz_info.specs.Zones.{Agrees, HasType, IsBeforeLast, IsFromLast, IsRefusedBy, IsRuleOrNone, IsTypeError, IsTypeOf, IsTypeRefused, IsValid}

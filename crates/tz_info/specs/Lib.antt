@@ -20,8 +20,6 @@ pub mod Differences
 pub mod Windows
 pub mod Looks
 pub mod Questions
-pub mod Segments
-pub mod WallPieces
 pub mod ZoneEquality
 pub mod TzGrammar
 pub mod Trims

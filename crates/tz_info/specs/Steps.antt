@@ -10,6 +10,7 @@ pub mod Segments
 pub mod Validity
 pub mod Walk
 pub mod Shown
+pub mod WallPieces
 pub mod Merging
 pub mod Starts
 pub mod Pieces

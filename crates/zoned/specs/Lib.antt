@@ -59,8 +59,6 @@ pub use Rattle.tz_info.specs.Differences
 pub use Rattle.tz_info.specs.Windows
 pub use Rattle.tz_info.specs.Looks
 pub use Rattle.tz_info.specs.Questions
-pub use Rattle.tz_info.specs.Segments
-pub use Rattle.tz_info.specs.WallPieces
 pub use Rattle.tz_info.specs.ZoneEquality
 pub use Rattle.tz_base.specs.Fronts
 pub use Rattle.tz_base.specs.Refusals

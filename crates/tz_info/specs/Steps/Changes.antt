@@ -7,7 +7,7 @@ use Rattle.tz_info.specs.Changes.{IsChange, HasNoChange, Precedes}
 use Rattle.tz_info.specs.Leaps.{IsLeapTime}
 use Rattle.tz_info.specs.Moments.{AlternateAt, IsRuleTime, IsYearOf, start_in, end_in}
 use Rattle.tz_info.specs.Rules.{Alternate}
-use Rattle.tz_info.specs.Segments.{segment_of}
+use Rattle.tz_info.specs.Steps.Segments.{segment_of}
 use Rattle.tz_info.specs.Zones.{Zone}
 use Rattle.tz_base.specs.declared.change.Change.{Change}
 

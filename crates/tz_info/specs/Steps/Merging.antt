@@ -1,7 +1,7 @@
 -- Two lists of pieces, merged into one.
 use Rattle.std.specs.Prelude.{ℕ, ◌≡◌, ◌+◌, ◌<◌, ◌⊎◌, List, length, slice_index_or, ℤ, ◌≤ℤ◌}
 use Rattle.tz_info.specs.Steps.Shown.{together}
-use Rattle.tz_info.specs.WallPieces.{AreInOrder, answer_at}
+use Rattle.tz_info.specs.Steps.WallPieces.{AreInOrder, answer_at}
 use Rattle.tz_info.specs.declared.zone.pieces.Piece.{Piece}
 use Rattle.tz_info.specs.declared.zone.shown.Shown.{Shown}
 

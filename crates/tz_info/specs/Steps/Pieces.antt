@@ -7,7 +7,7 @@ use Rattle.offset_core.specs.declared.local_result.LocalResult.TheVariants.{None
 use Rattle.tz_base.specs.LocalTypes.{LocalType, IsUtOffset}
 use Rattle.tz_info.specs.Steps.Segments.{index_of}
 use Rattle.tz_info.specs.Steps.Starts.{HaveComeFrom}
-use Rattle.tz_info.specs.WallPieces.{AreInOrder, IsShownAmong, IsStart, answer_at}
+use Rattle.tz_info.specs.Steps.WallPieces.{AreInOrder, IsShownAmong, IsStart, answer_at}
 use Rattle.tz_info.specs.Zones.{Zone, HasType}
 use Rattle.tz_info.specs.declared.zone.segments.Segment.{Segment}
 use Rattle.tz_info.specs.declared.zone.pieces.Piece.{Piece}

@@ -2,7 +2,7 @@
 use Rattle.tz_info.specs.Steps.Extremes.{AreExtremes}
 use Rattle.tz_info.specs.Steps.Entries.{AreEntries, Entries}
 use Rattle.tz_info.specs.Steps.LastSpans.{IsLastSpan}
-use Rattle.tz_info.specs.WallPieces.{WallIndex, IsIndex}
+use Rattle.tz_info.specs.Steps.WallPieces.{WallIndex, IsIndex}
 use Rattle.tz_info.specs.Windows.{offsets}
 use Rattle.tz_info.specs.Zones.{Zone, IsValid, IsRuleOrNone}
 use Rattle.tz_info.specs.declared.zone.extremes.Extremes.{Extremes}

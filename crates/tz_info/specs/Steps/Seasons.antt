@@ -4,7 +4,7 @@ use Rattle.tz_info.specs.Moments.{AlternateAt, IsRuleTime, type_when}
 use Rattle.tz_info.specs.Rules.{Alternate}
 use Rattle.tz_info.specs.Steps.Changes.{IsEarlierOf, IsLaterOf}
 use Rattle.tz_info.specs.Steps.Turns.{is_dst_by_one}
-use Rattle.tz_info.specs.WallPieces.{IsStart}
+use Rattle.tz_info.specs.Steps.WallPieces.{IsStart}
 use Rattle.tz_info.specs.Zones.{Zone}
 use Rattle.tz_info.specs.declared.rule.season.Season.{Season}
 use Rattle.tz_info.specs.declared.rule.transition_rule.TransitionRule.{TransitionRule}

@@ -1,8 +1,23 @@
--- Where a segment begins, and the index of its type.
-use Rattle.std.specs.Prelude.{ℕ, List, map, take, ℤ}
-use Rattle.tz_info.specs.Leaps.{least_time}
+-- Segments: from one transition to the next one type is in force. Segment i comes after the first i transitions.
+use Rattle.std.specs.Prelude.{ℕ, suc, length, List, map, take, ℤ, ◌+ℤ◌, Option, Some, None}
+use Rattle.tz_info.specs.Leaps.{correction_at, least_time}
 use Rattle.tz_info.specs.Lists.{last_else}
+use Rattle.tz_info.specs.Transitions.{passed}
+use Rattle.tz_info.specs.Zones.{Zone}
+use Rattle.tz_info.specs.declared.rule.transition_rule.TransitionRule.{TransitionRule}
 use Rattle.tz_info.specs.declared.zone.transition.Transition.{Transition}
+
+-- the segment of the second u: how many transitions have come by then
+unfoldable pub segment_of : Zone → ℤ → ℕ
+segment_of z u = length (passed z.transitions (u +ℤ correction_at z.leaps u))
+
+-- how many segments n transitions make, without the rule's, which is the last
+abbrev pub table_count_by : Option TransitionRule → ℕ → ℕ
+table_count_by (Some rule) n = n
+table_count_by None n = suc n
+
+abbrev pub table_count : Zone → ℕ
+table_count z = table_count_by z.rule (length z.transitions)
 
 -- the leap time at which segment i begins; the first begins with time
 abbrev pub begin_of : List Transition → ℕ → ℤ

@@ -10,11 +10,11 @@ ghost use Rattle.tz_info.specs.HeldChanges.{change_held};
 ghost use Rattle.tz_info.specs.Gaps.{IsTypeBeforeGap, HasGap, IsShown};
 ghost use Rattle.tz_info.specs.Looks.{RoseAround};
 ghost use Rattle.tz_info.specs.Questions.{IsAskedFor};
-ghost use Rattle.tz_info.specs.Segments.{table_count};
+ghost use Rattle.tz_info.specs.Steps.Segments.{table_count};
 ghost use Rattle.tz_info.specs.Steps.Gaps.{HasReach};
 ghost use Rattle.tz_info.specs.Steps.Seasons.{IsSeasonIn};
 ghost use Rattle.tz_info.specs.WallClocks.{Shows};
-ghost use Rattle.tz_info.specs.WallPieces.{AreLessAmong, Jumps, IsShownAmong};
+ghost use Rattle.tz_info.specs.Steps.WallPieces.{AreLessAmong, Jumps, IsShownAmong};
 ghost use Rattle.tz_info.specs.Zones.{TypeAt};
 
 use crate::change::HeldChange;

@@ -4,10 +4,10 @@ ghost use Rattle.std.specs.Prelude.{◌≡◌, ◌<◌, ◌^◌, length, MatchRe
 ghost use Rattle.tz_base.specs.declared.error.Error.TheVariants.{OutOfMemory};
 ghost use Rattle.tz_timeline.specs.Counts.{RoseByPieces, HasRoomFor};
 ghost use Rattle.tz_timeline.specs.Digits.{digits};
-ghost use Rattle.tz_info.specs.Segments.{table_count};
+ghost use Rattle.tz_info.specs.Steps.Segments.{table_count};
 ghost use Rattle.tz_info.specs.Steps.Pieces.{zone_in, ArePieces};
 ghost use Rattle.tz_info.specs.Steps.Starts.{AreByUnixTime};
-ghost use Rattle.tz_info.specs.WallPieces.{answer_at, IsIndex};
+ghost use Rattle.tz_info.specs.Steps.WallPieces.{answer_at, IsIndex};
 ghost use Rattle.tz_info.specs.Zones.{IsValid};
 
 use crate::rule::TransitionRule;
@@ -34,7 +34,7 @@ pub(super) struct Index {
 }
 
 impl Model for Index {
-    ghost use Rattle.tz_info.specs.WallPieces.{WallIndex, AreInOrder};
+    ghost use Rattle.tz_info.specs.Steps.WallPieces.{WallIndex, AreInOrder};
 
     ghost Value = { WallIndex };
 

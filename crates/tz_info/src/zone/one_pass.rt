@@ -5,11 +5,11 @@ ghost use Rattle.std.specs.Prelude.{MatchResult, ⊤};
 ghost use Rattle.std.specs.Int.{saturate_signed, w64};
 ghost use Rattle.tz_base.specs.LocalTypes.{IsUtOffset};
 ghost use Rattle.tz_base.specs.declared.error.Error.TheVariants.{OutOfMemory};
-ghost use Rattle.tz_info.specs.Segments.{table_count};
+ghost use Rattle.tz_info.specs.Steps.Segments.{table_count};
 ghost use Rattle.tz_info.specs.Steps.Pieces.{zone_in, ArePieces, ArePiecesAt, AreCutsCrossed, IsSegment};
 ghost use Rattle.tz_info.specs.Steps.Starts.{AreByUnixTime, IsFarFromEnds, IsLeapless};
 ghost use Rattle.tz_info.specs.Transitions.{AreRising};
-ghost use Rattle.tz_info.specs.WallPieces.{IsStart};
+ghost use Rattle.tz_info.specs.Steps.WallPieces.{IsStart};
 ghost use Rattle.tz_info.specs.Zones.{IsValid};
 
 use crate::zone::kept::Kept;

@@ -2,7 +2,6 @@
 
 ghost use Rattle.std.specs.Prelude.{◌≡◌, ◌*◌, ◌<◌, ◌≤◌, length, option_map};
 ghost use Rattle.std.specs.List.{slice_get};
-ghost use Rattle.tz_info.specs.WallPieces.{WallIndex, IsIndex};
 ghost use Rattle.tz_info.specs.Windows.{IsGreatest, IsLeast, offsets};
 ghost use Rattle.tz_info.specs.Zones.{IsValid, IsRuleOrNone};
 
@@ -85,11 +84,9 @@ impl TimeZone {
         self.extremes.greatest
     }
 
-    /// How many pieces the zone's index of the wall-clock axis has.
+    /// How many pieces the zone's index of the wall-clock axis has: at most two for each transition.
     pub fn piece_count(&self) -> usize
-        ensures pieces { (index : WallIndex) × IsIndex self.now index
-            × (result ≡ length index.pieces) }
-        ensures most { result ≤ 2 * length self.now.transitions }
+        ensures { result ≤ 2 * length self.now.transitions }
     {
         self.index.len()
     }

@@ -3,7 +3,7 @@
 ghost use Rattle.std.specs.Prelude.{◌≡◌, ◌+◌, ◌<◌, ◌≤◌, length, take, IsTrue, IsFalse, MatchResult, ⊤};
 ghost use Rattle.tz_base.specs.declared.error.Error.TheVariants.{OutOfMemory};
 ghost use Rattle.tz_info.specs.Steps.Merging.{IsMerged, IsNext, IsStep};
-ghost use Rattle.tz_info.specs.WallPieces.{answer_before, AreInOrder};
+ghost use Rattle.tz_info.specs.Steps.WallPieces.{answer_before, AreInOrder};
 
 use crate::zone::shown::{Packed, Shown, together};
 use std::alloc::{AllocError, Global};

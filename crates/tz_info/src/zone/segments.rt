@@ -2,10 +2,10 @@
 
 ghost use Rattle.std.specs.Prelude.{◌≡◌, ◌+◌, ◌<◌, ◌≤◌, length, MatchResult};
 ghost use Rattle.tz_base.specs.declared.error.Error.TheVariants.{OutOfMemory};
-ghost use Rattle.tz_info.specs.Segments.{table_count};
+ghost use Rattle.tz_info.specs.Steps.Segments.{table_count};
 ghost use Rattle.tz_info.specs.Steps.Segments.{index_of};
 ghost use Rattle.tz_info.specs.Steps.Pieces.{zone_in, ArePieces, IsSegment};
-ghost use Rattle.tz_info.specs.WallPieces.{IsTypeBefore};
+ghost use Rattle.tz_info.specs.Steps.WallPieces.{IsTypeBefore};
 ghost use Rattle.tz_info.specs.Zones.{IsValid};
 
 use crate::rule::TransitionRule;

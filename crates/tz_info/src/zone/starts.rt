@@ -5,7 +5,7 @@ ghost use Rattle.std.specs.Int.{saturate_signed, w64};
 ghost use Rattle.tz_info.specs.Leaps.{AreLeapSeconds};
 ghost use Rattle.tz_info.specs.Steps.Starts.{AreByUnixTime, HaveCome, IsReachedFrom};
 ghost use Rattle.tz_info.specs.Transitions.{AreRising};
-ghost use Rattle.tz_info.specs.WallPieces.{IsStart};
+ghost use Rattle.tz_info.specs.Steps.WallPieces.{IsStart};
 
 use crate::zone::kept::Kept;
 use crate::zone::leap_second::LeapSecond;

@@ -10,9 +10,9 @@ ghost use Rattle.tz_timeline.specs.Counts.{HasRoom, RoseByPieces, RoseWithin, Ha
 ghost use Rattle.tz_timeline.specs.Digits.{digits};
 ghost use Rattle.tz_info.specs.Looks.{RoseByWallClock};
 ghost use Rattle.tz_info.specs.Questions.{IsAskedFor};
-ghost use Rattle.tz_info.specs.Segments.{table_count};
+ghost use Rattle.tz_info.specs.Steps.Segments.{table_count};
 ghost use Rattle.tz_info.specs.WallClocks.{Shows};
-ghost use Rattle.tz_info.specs.WallPieces.{IsShownAmong, ShownAmong, shown_indexes};
+ghost use Rattle.tz_info.specs.Steps.WallPieces.{IsShownAmong, ShownAmong, shown_indexes};
 ghost use Rattle.tz_info.specs.Steps.Pieces.{AreBelow, AreListed};
 ghost use Rattle.tz_info.specs.Steps.Seasons.{IsSeasonIn};
 ghost use Rattle.tz_info.specs.Steps.Walk.{IsShownIn};

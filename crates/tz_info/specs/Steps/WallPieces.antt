@@ -7,7 +7,7 @@ use Rattle.offset_core.specs.declared.local_result.LocalResult.TheVariants.{None
 use Rattle.tz_base.specs.LocalTypes.{LocalType}
 use Rattle.tz_info.specs.Leaps.{IsLeapTime, IsNear}
 use Rattle.tz_info.specs.Lists.{last_else}
-use Rattle.tz_info.specs.Segments.{segment_of, table_count}
+use Rattle.tz_info.specs.Steps.Segments.{segment_of, table_count}
 use Rattle.tz_info.specs.Transitions.{passed}
 use Rattle.tz_info.specs.WallClocks.{Shows}
 use Rattle.tz_info.specs.Zones.{Zone, HasType, TypeAt}
