@@ -54,6 +54,7 @@ pub record AreMadeOf (z : Zone) (entries : List Transition) (k : ℕ) : Type 0 w
   -- the last transition has come where they have
   pub last : (i : ℕ) (d : Transition) → i + 1 ≡ k → k ≡ length z.transitions → (u y : ℤ) → IsLeapTime z.leaps u y
       → ((j : ℕ) (e : Transition) → j < length entries → (get_or entries j e).unix_leap_time ≤ℤ u) → (get_or z.transitions i d).unix_leap_time ≤ℤ y
+  pub some : 0 < k → k ≡ length z.transitions → 0 < length entries
   pub differ : (j : ℕ) → j < length entries → (j + 1 < length entries) ⊎ (k < length z.transitions)
       → slice_get z.types (index_of entries (j + 1)) ≢ slice_get z.types (index_of entries j)
 
@@ -66,6 +67,7 @@ none_made z = record {
   leap_time = λ j d h. absurd (omega arith);
   until = λ u y l come j d h. absurd (omega arith);
   last = λ i d e all u y l come. absurd (omega arith);
+  some = λ h. absurd (omega arith);
   differ = λ j h m. absurd (omega arith);
 }
 
@@ -174,6 +176,7 @@ one_more z old kept entries k s t entry is_last valid more item made start befor
       until = λ u y l come j d h.
           let a = (start.reached u y l).0 (come_in z k t y more item come) in let b = kp.earlier j d h in omega (arith, ints);
       last = λ i d e2 all. let m = not_last not in absurd (omega arith);
+      some = λ h all. let m = not_last not in absurd (omega arith);
       differ = λ j h m. kp.differ j h;
     })
     more_of z old kept entries k s t entry is_last valid more item made start kp at index not_last is_one (added e why) =
@@ -208,6 +211,7 @@ one_more z old kept entries k s t entry is_last valid more item made start befor
               let i2 : i ≡ k = omega arith in
               let g : (get_or z.transitions k d).unix_leap_time ≡ t.unix_leap_time = ap (λ (a : Transition). a.unix_leap_time) (get_or_default z.transitions k d t more ∙ sym item) in
               rw (i2, g) ((start.reached u y l).1 (rw (own d, at) at c));
+          some = λ h all. omega arith;
           differ = λ j h m. elim (cases_lt j (length kept)) [
             | inl b ↦ rw (e, index_left kept (entry ∷ []) j (omega arith), index_left kept (entry ∷ []) (j + 1) (omega arith)) (kp.differ j b)
             | inr over ↦
@@ -251,6 +255,8 @@ all_come z entries k all valid e a made =
       indexes = made.indexes;
       few = made.few;
       more = omega arith;
+      most = omega arith;
+      some = λ h. made.some h refl;
       named = λ u x f l. rw (take_all (length z.transitions) z.transitions (omega arith)) at (made.named u x l);
       come = λ u x f l. from_last z entries u x valid made l;
       leap_time = made.leap_time;
@@ -270,6 +276,8 @@ never_come z entries k all t valid more item never a made =
       indexes = made.indexes;
       few = let n = made.few in omega arith;
       more = omega arith;
+      most = omega arith;
+      some = λ h. omega arith;
       named = λ u x f l. rw (first u x f l) (made.named u x l);
       come = λ u x f l. (
         λ come.

@@ -1,11 +1,11 @@
 -- Gaps: where the first second lies at which clocks show more than a local time that they never show.
-use Rattle.tz_info.proofs.Words.{AreLess, HasGap, HasType, IsFirstAtOrAfter, IsLastSecondBefore, IsNear, IsNeverShown, IsRefusedBy, IsRuleOrNone, IsStart}
-use Rattle.tz_info.proofs.Words.{IsTypeBefore, IsTypeRefused, IsValid, IsWindowOf, Jump, Jumps, LocalType, None, Option, RuleOrElse, Shows, Some}
+use Rattle.tz_info.proofs.Words.{AreLess, HasGap, IsFirstAtOrAfter, IsNear, IsNeverShown, IsRefusedBy, IsRuleOrNone}
+use Rattle.tz_info.proofs.Words.{IsTypeRefused, IsValid, IsWindowOf, LocalType, None, Option, RuleOrElse, Shows, Some}
 use Rattle.tz_info.proofs.Words.{TransitionRule, TypeAt, Zone, arith, by_leap_time, by_lt_z, by_rule, floor_div, index_of, inl, inr, ints, length, lies_in, pos}
-use Rattle.tz_info.proofs.Words.{segment_of, slice_get, subst, sym, table_count, year_of, ℕ, ℤ, ◌+ℤ◌, ◌-ℤ◌, ◌<ℤ◌, ◌<◌, ◌∙◌, ◌≡◌, ◌≤ℤ◌, ◌⊎◌}
+use Rattle.tz_info.proofs.Words.{segment_of, slice_get, sym, year_of, ℕ, ℤ, ◌+ℤ◌, ◌-ℤ◌, ◌<ℤ◌, ◌<◌, ◌∙◌, ◌≡◌, ◌≤ℤ◌, ◌⊎◌}
 use Rattle.tz_info.specs.declared.rule.transition_rule.TransitionRule.TheVariants.{Alternate, Fixed}
 use Rattle.tz_info.proofs.{ExtremeLaws.{at_least_least, at_most_greatest}, LeapOrder.{leap_times_answer}, RuleLaws.{rule_year}}
-use Rattle.tz_info.proofs.{SegmentLaws.{type_before, type_from}, WallSegments.{begun, listed_once, not_begun, type_here}, ZoneLaws.{some_once, type_decided}}
+use Rattle.tz_info.proofs.{SegmentLaws.{type_before, type_from}, ZoneLaws.{some_once, type_decided}}
 
 abbrev pub IsNever : Zone → ℤ → Type 0
 IsNever z l = IsNeverShown (Shows (TypeAt z) l)
@@ -56,7 +56,7 @@ one_type z i u v s t valid (inr (steady, e)) a b k m = steady_once z.rule (slice
 
 -- ---- seconds at which clocks show less
 -- at `high` clocks show the local time or a later one
-not_less : (z : Zone) (l low high s : ℤ) → IsValid z → IsRuleOrNone z.rule → IsWindowOf z l l low high → AreLess z l s → high ≤ℤ s → ⊥
+pub not_less : (z : Zone) (l low high s : ℤ) → IsValid z → IsRuleOrNone z.rule → IsWindowOf z l l low high → AreLess z l s → high ≤ℤ s → ⊥
 not_less z l low high s valid limits reach all h =
     let t = near_type z high valid limits reach.near_high in
     let a = all high reach.near_high h t.0 t.1 in
@@ -78,36 +78,6 @@ gap_found z l low high c s t never reach far all here more before = record {
       (λ h. h);
   earlier = before;
 }
-
--- where a segment begins at c, the type before is the one before the segment
-gap_at_begin : (z : Zone) (l low high c : ℤ) (k index : ℕ) (s t : LocalType) → IsValid z → IsRuleOrNone z.rule → IsNever z l → IsWindowOf z l l low high
-    → AreLess z l (c -ℤ pos 1) → IsLastSecondBefore z k (c -ℤ pos 1) → IsTypeBefore z k index → HasType z index t
-    → TypeAt z c s → l <ℤ (c +ℤ s.offset) → HasGap (TypeAt z) l t s c
-gap_at_begin z l low high c k index s t valid limits never reach less last before has here more =
-    let back : (c -ℤ pos 1) +ℤ pos 1 ≡ c = omega (arith, ints) in
-    let g = near_type z (c -ℤ pos 1) valid limits last.near in
-    let same : g.0 ≡ t = listed_once z index g.0 t (before.type (c -ℤ pos 1) g.0 last g.1) has in
-    gap_found z l low high c s t never reach (rw back at last.near_next) less here more (subst (TypeAt z (c -ℤ pos 1)) same g.1)
-
--- ---- where a segment of the table begins
-pub jump_found : (z : Zone) (l low high start : ℤ) (j : Jump) (s t : LocalType) → IsValid z → IsRuleOrNone z.rule → IsNever z l → IsWindowOf z l l low high
-    → Jumps z 0 (table_count z) l j → IsStart z.transitions z.leaps j.place start
-    → HasType z (index_of z.transitions j.place) s → HasType z j.before t → HasGap (TypeAt z) l t s start
-jump_found z l low high start j s t valid limits never reach jump begins has has_before =
-    let k : ℕ = j.place in
-    let earlier = (not_begun z k start jump.seen valid begins jump.near).0 jump.later in
-    let less : AreLess z l (start -ℤ pos 1) = λ u near h f here. jump.less u f near (omega arith) ((not_begun z k start u valid begins near).1 (omega (arith, ints))) here in
-    let most : start ≤ℤ high = by_lt_z high start (λ m. absurd (not_less z l low high (start -ℤ pos 1) valid limits reach less (omega (arith, ints)))) (λ m. m) in
-    let near : IsNear start = (omega (arith, ints, jump.near), omega (arith, ints, reach.near_high)) in
-    let near_before : IsNear (start -ℤ pos 1) = (omega (arith, ints, jump.near), omega (arith, ints, reach.near_high)) in
-    let back : (start -ℤ pos 1) +ℤ pos 1 ≡ start = omega (arith, ints) in
-    let before = (not_begun z k start (start -ℤ pos 1) valid begins near_before).1 (omega (arith, ints)) in
-    let last : IsLastSecondBefore z k (start -ℤ pos 1) = record { near = near_before; near_next = rw back near; before = before; from = rw back ((begun z k start start valid begins near).1 (omega (arith, ints))) } in
-    let f = near_type z start valid limits near in
-    let same : f.0 ≡ s = type_here z k start f.0 s valid jump.inside has (rw back at (jump.first (start -ℤ pos 1) last)) f.1 in
-    let here : TypeAt z start s = subst (TypeAt z start) same f.1 in
-    let more : l <ℤ (start +ℤ s.offset) = rw back at (jump.more (start -ℤ pos 1) s last (rw back here)) in
-    gap_at_begin z l low high start k j.before s t valid limits never reach less last jump.before has_before here more
 
 -- ---- by the first second that shows the local time or a later one
 -- which is near

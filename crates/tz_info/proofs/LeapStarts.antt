@@ -90,17 +90,5 @@ times_rise es i j d valid h l = rises (λ k. (get_or es k d).unix_leap_time) (le
 pub parted : (es : List LeapSecond) (x : ℤ) → AreLeapSeconds es → IsPartitionedBy (λ e. int_le e.unix_leap_time x) es
 parted es x valid i j d h l t = let r = times_rise es i j d valid h l in grind arith
 
--- where entries have come, the leap time is reached from two seconds on
-pub reached_behind : (es : List LeapSecond) (x u y passed led : ℤ) (n : ℕ) (d : LeapSecond) → AreLeapSeconds es → HaveCome es x n → 0 < n
-    → passed ≡ saturate_signed w64 ((get_or es (n - 1) d).unix_leap_time -ℤ correction_behind es (n - 1)) → led ≡ saturate_signed w64 (x -ℤ correction_behind es n)
-    → IsNear u → IsLeapTime es u y → (x ≤ℤ y) ↔ ((passed ≤ℤ u) × (led ≤ℤ u))
-reached_behind es x u y passed led zero d valid h some e f near l = absurd (omega arith)
-reached_behind es x u y passed led (suc m) d valid h some e f near l =
-    let one : suc m - 1 ≡ m = omega arith in
-    let t = threshold_at (pos 0) es m d (pos 0) (omega arith) in
-    let p = saturated ((get_or es m d).unix_leap_time -ℤ correction_behind es m) u near in
-    let q = saturated (x -ℤ correction_behind es (suc m)) u near in
-    let r = reached_later es x u y m d valid h l in grind arith
-
 pub both_ways : {P Q R : Type 0} → P ↔ Q → R ↔ Q → P ↔ R
 both_ways f g = ((λ p. g.1 (f.0 p)), (λ r. f.1 (g.0 r)))

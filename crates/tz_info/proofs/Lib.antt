@@ -61,9 +61,9 @@ pub mod TzFileLaws
 pub mod ZoneFileLaws
 pub mod FileZoneLaws
 pub mod WallTimes
-pub mod UnixTimes
 pub mod EntryLaws
 pub mod EntryChanges
+pub mod TableLaws
 pub mod Equalities
 pub mod SecondTypes
 pub mod ChangeLists

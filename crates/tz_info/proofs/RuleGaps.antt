@@ -1,7 +1,7 @@
 -- A rule's gaps: where a season's moments decide at both seconds that could show a local time and neither does, one moment lies between them.
 use Rattle.std.specs.Prelude.{⊤}
-use Rattle.tz_info.proofs.Words.{Alternate as AlternateRule, AlternateAt, AreLess, AreLessAmong, Bool, Change, HasGap, IsAlternateRule, IsDecidedIn, IsNear}
-use Rattle.tz_info.proofs.Words.{IsNeverFrom, IsRuleGap, IsSeason, IsSeasonFor, IsSeasonIn, IsSeasonOf, IsStart, IsValid, IsWide, IsWindowOf, LocalType, MatchOption}
+use Rattle.tz_info.proofs.Words.{Alternate as AlternateRule, AlternateAt, AreLess, Bool, Change, HasGap, IsAlternateRule, IsDecidedIn, IsNear}
+use Rattle.tz_info.proofs.Words.{IsNeverFrom, IsRuleGap, IsSeason, IsSeasonFor, IsSeasonIn, IsSeasonOf, IsStart, IsTableLess, IsValid, IsWide, IsWindowOf, LocalType, MatchOption}
 use Rattle.tz_info.proofs.Words.{None, Option, Season, Some, TransitionRule, TypeAt, Zone, arith, by_lt_z, cond, false, int_lt, ints, is_dst_by_one, length, not, pos}
 use Rattle.tz_info.proofs.Words.{refl, subst, sym, table_count, true, type_when, ℤ, ◌+ℤ◌, ◌-ℤ◌, ◌<ℤ◌, ◌≡◌, ◌≤ℤ◌}
 use Rattle.tz_info.specs.declared.rule.transition_rule.TransitionRule.TheVariants.{Alternate}
@@ -101,19 +101,19 @@ never_from z a l from valid rule start never u t near since k shown =
 -- the rule's gap is the zone's, if clocks show less before the rule begins
 gap_by_rule : (z : Zone) (a : AlternateRule) (l low high from : ℤ) (c : Change) → IsValid z → z.rule ≡ Some (Alternate a)
     → IsStart z.transitions z.leaps (length z.transitions) from → IsNever z l → IsWindowOf z l l low high
-    → AreLessAmong z 0 (table_count z) l → IsRuleGap a from l c → HasGap (TypeAt z) l c.before c.after c.at
+    → IsTableLess z l → IsRuleGap a from l c → HasGap (TypeAt z) l c.before c.after c.at
 gap_by_rule z a l low high from c valid rule start never reach all g =
     let since = g.since in
     let count : table_count z ≡ length z.transitions = rw rule refl in
     let by : (u : ℤ) (t : LocalType) → IsNear u → from ≤ℤ u → AlternateAt a u t → TypeAt z u t = λ u t near h k. from_rule z a u t valid rule ((rule_begun z u from valid near start).1 h) k in
     let less : AreLess z l (c.at -ℤ pos 1) = λ u near before t k. by_lt_z u from
-    (λ h. let m = (not_begun z (length z.transitions) from u valid start near).1 h in all u t near (omega arith) (omega arith) k)
+    (λ h. let m = (not_begun z (length z.transitions) from u valid start near).1 h in all u t near (omega arith) k)
     (λ h. g.less u t h (omega (arith, ints)) (to_rule z a u t valid rule ((rule_begun z u from valid near start).1 h) k)) in
     gap_found z l low high c.at c.after c.before never reach g.near less (by c.at c.after g.near (omega (arith, ints)) g.after) g.more (by (c.at -ℤ pos 1) c.before g.near_before since g.before)
 
 -- so is that of a season of the zone
 pub gap_by_season : (z : Zone) (a : AlternateRule) (l low high : ℤ) (s : Season) (c : Change) → IsValid z → z.rule ≡ Some (Alternate a) → IsSeasonIn z l s
-    → IsNever z l → IsWindowOf z l l low high → AreLessAmong z 0 (table_count z) l
+    → IsNever z l → IsWindowOf z l l low high → IsTableLess z l
     → ((from : ℤ) → IsSeasonFor a from l s → IsNeverFrom a from l → IsRuleGap a from l c) → HasGap (TypeAt z) l c.before c.after c.at
 gap_by_season z a l low high s c valid rule (from, start, season) never reach all made =
     gap_by_rule z a l low high from c valid rule start never reach all (made from (rw rule at season) (never_from z a l from valid rule start never))

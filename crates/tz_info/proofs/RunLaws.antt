@@ -57,3 +57,8 @@ run_until z s at limit end valid limits near near_limit ahead here ends =
           subst (TypeAt z u) (its t k) (in_span z s u valid limits here.span (omega (arith, ints, near), omega (arith, ints, near_limit)) (since_more s.from at u here.inside.since from) within);
       turns = λ less t k l. turned z s.until limit end s.local_time_type here.span.ends ends less (subst (TypeAt z end) (sym (its t k)) l);
     }
+
+-- the first second of a near interval, or its last one, is near
+pub near_end : (forward : Bool) (low high : ℤ) → IsNear low → IsNear high → low <ℤ high → IsNear (if forward then low else high -ℤ pos 1)
+near_end true low high near_low near_high some = near_low
+near_end false low high near_low near_high some = (omega (arith, ints, near_low), omega (arith, ints, near_high))

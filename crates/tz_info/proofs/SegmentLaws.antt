@@ -166,3 +166,27 @@ type_in_from z u x t l b k =
       type = record { leap_time = x; of_second = λ _. l; in_force = record { before_last = λ q. absurd (omega arith); from_last = λ _. rw e k } };
       segment = segment_is z u (length z.transitions) (rw l.sum at b);
     }
+
+-- ---- how many have come by a second
+pub place_most : (ts : List Transition) (u : ℤ) → AreRising ts → length (passed ts u) ≤ length ts
+place_most ts u rising = let p = split_at ts u rising in let w = p.1.within in let e = split_count ts u p.0 p.1 in omega arith
+
+-- the first k have come from the begin of segment k on
+pub come_from : (ts : List Transition) (k : ℕ) (u : ℤ) → AreRising ts → 0 < k → k ≤ length ts → (k ≤ length (passed ts u)) ↔ (begin_of ts k ≤ℤ u)
+come_from ts zero u rising some within = absurd (omega arith)
+come_from ts (suc k) u rising some within =
+    let d : Transition = record { unix_leap_time = u; type_index = 0 } in
+    rw (last_taken (λ (t : Transition). t.unix_leap_time) least_time ts k d (omega arith)) (come_by_time ts u k d rising (omega arith))
+
+pub begins_rise : (ts : List Transition) (k : ℕ) → AreRising ts → 0 < k → k < length ts → begin_of ts k <ℤ begin_of ts (suc k)
+begins_rise ts zero rising some within = absurd (omega arith)
+begins_rise ts (suc k) rising some within =
+    let d : Transition = record { unix_leap_time = least_time; type_index = 0 } in
+    rw (last_taken (λ (t : Transition). t.unix_leap_time) least_time ts k d (omega arith), last_taken (λ (t : Transition). t.unix_leap_time) least_time ts (suc k) d (omega arith))
+    (rising k (suc k) d (omega arith) (omega arith))
+
+pub places_rise : (ts : List Transition) (u v : ℤ) → AreRising ts → u ≤ℤ v → length (passed ts u) ≤ length (passed ts v)
+places_rise ts u v rising h =
+    let p = split_at ts u rising in let q = split_at ts v rising in
+    let e = split_count ts u p.0 p.1 in let f = split_count ts v q.0 q.1 in
+    let r = splits_rise ts u v p.0 q.0 h p.1 q.1 in omega arith

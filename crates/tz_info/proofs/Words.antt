@@ -128,8 +128,8 @@ pub use Rattle.tz_info.specs.Steps.Kinds.{day_time_second, is_calm, is_calm_kind
 unfoldable pub use Rattle.tz_info.specs.Steps.Kinds.{are_calm, margin_of, seconds_by_kind}
 pub use Rattle.tz_info.specs.Steps.Merging.{IsMerged, IsNext, IsStep}
 pub use Rattle.tz_info.specs.Steps.NextMoments.{nearer_moment}
-pub use Rattle.tz_info.specs.Steps.Pieces.{AreBelow, AreCutsCrossed, AreListed, ArePieces, ArePiecesAt, IsCutAt, IsCutFrom, IsFold, IsGap, IsSegment}
-pub use Rattle.tz_info.specs.Steps.Pieces.{zone_in}
+pub use Rattle.tz_info.specs.Steps.Pieces.{AreBelow, AreCutsCrossed, AreListed, ArePieces, ArePiecesAt, IsCutAt, IsFold, IsGap, IsJump, IsPlaced, IsSegment}
+pub use Rattle.tz_info.specs.Steps.Pieces.{cut_of, zone_in}
 pub use Rattle.tz_info.specs.Steps.RuleDays.{closed_day_is, julian_is, julian_place, number_after, weekday_at, weekday_is, weekday_place}
 unfoldable pub use Rattle.tz_info.specs.Steps.RuleDays.{closed_day}
 pub use Rattle.tz_info.specs.Steps.RuleSeconds.{AreUtOffsets, IsAskedFrom, IsAskedSince, IsSecondFrom, TypeFrom}
@@ -138,7 +138,7 @@ pub use Rattle.tz_info.specs.Steps.Runs.{IsWithinRun}
 pub use Rattle.tz_info.specs.Steps.Seasons.{IsAmid, IsAmidFrom, IsDecidedIn, IsLimit, IsSeason, IsSeasonFor, IsSeasonIn, IsSeasonOf}
 pub use Rattle.tz_info.specs.Steps.Segments.{begin_of, index_of}
 pub use Rattle.tz_info.specs.Steps.Shown.{together}
-pub use Rattle.tz_info.specs.Steps.Starts.{AreByUnixTime, HaveCome, HaveComeFrom, IsLeapless, IsReachedFrom, leap_time_at}
+pub use Rattle.tz_info.specs.Steps.Starts.{HaveCome, leap_time_at}
 pub use Rattle.tz_info.specs.Steps.Turns.{is_between, is_dst_by_one, is_in_three}
 pub use Rattle.tz_info.specs.Steps.Validity.{Stands}
 pub use Rattle.tz_info.specs.Steps.Walk.{IsAskedLast, IsShownIn, IsTried, TypeIn}
@@ -150,8 +150,8 @@ pub use Rattle.tz_info.specs.TzGrammar.{IsTextFault, IsTzText, is_letter, is_not
 unfoldable pub use Rattle.tz_info.specs.TzGrammar.{alternate, date, day, days, dst_offset, duration, end, fixed, given_offset, julian_date, month_date, named}
 unfoldable pub use Rattle.tz_info.specs.TzGrammar.{next_hour, offset, optional_time, rule, text, time}
 pub use Rattle.tz_info.specs.WallClocks.{AreShown, IsAmongShown, Shows}
-pub use Rattle.tz_info.specs.Steps.WallPieces.{AreInOrder, AreLessAmong, IsIndex, IsLastSecondBefore, IsShownAmong, IsSideAmong, IsStart, IsTypeBefore, Jumps}
-pub use Rattle.tz_info.specs.Steps.WallPieces.{ListedAmong, ShownAmong, WallIndex, answer_at, answer_before, shown_indexes}
+pub use Rattle.tz_info.specs.Steps.WallPieces.{AreInOrder, AreLessAmong, IsBegun, IsIndex, IsShownAmong, IsSideAmong, IsStart, IsTable, IsTableAnswer}
+pub use Rattle.tz_info.specs.Steps.WallPieces.{IsTableLess, Jumps, ListedAmong, ShownAmong, WallIndex, answer_at, answer_before, place_at, shown_indexes, top_of}
 pub use Rattle.tz_info.specs.Windows.{IsGreatest, IsLeast, IsWindow, IsWindowCount, come_between, offsets, rule_offsets}
 pub use Rattle.tz_info.specs.ZoneEquality.{zone_eq}
 pub use Rattle.tz_info.specs.Zones.{Agrees, HasType, IsBeforeLast, IsFromLast, IsRefusedBy, IsRuleOrNone, IsTypeError, IsTypeOf, IsTypeRefused, IsValid}
@@ -171,7 +171,6 @@ pub use Rattle.tz_info.specs.declared.zone.last_span.LastSpan.{LastSpan}
 pub use Rattle.tz_info.specs.declared.zone.leap_second.LeapSecond.{LeapSecond}
 pub use Rattle.tz_info.specs.declared.zone.pieces.Piece.{Piece}
 pub use Rattle.tz_info.specs.declared.zone.segments.Segment.{Segment}
-pub use Rattle.tz_info.specs.declared.zone.shown.Jump.{Jump}
 pub use Rattle.tz_info.specs.declared.zone.shown.Shown.{Shown}
 pub use Rattle.tz_info.specs.declared.zone.shown_seconds.ShownSeconds.{ShownSeconds}
 pub use Rattle.tz_info.specs.declared.zone.shown_seconds.TypedSecond.{TypedSecond}

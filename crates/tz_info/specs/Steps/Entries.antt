@@ -32,6 +32,8 @@ pub record AreEntries (z : Zone) (e : Entries) : Type 0 where
   pub indexes : NameTypes (length z.types) e.items
   pub few : length e.items ≤ length z.transitions
   pub more : length e.items ≤ e.all
+  pub most : e.all ≤ length e.items + 1
+  pub some : 0 < length z.transitions → 0 < e.all
   pub named : (u x : ℤ) → FitsSigned w64 u → IsLeapTime z.leaps u x → slice_get z.types (index_at z x) ≡ slice_get z.types (last_index (passed e.items u))
   pub come : (u x : ℤ) → FitsSigned w64 u → IsLeapTime z.leaps u x → IsFromLast z x ↔ (length (passed e.items u) ≡ e.all)
   pub leap_time : (k : ℕ) (d : Transition) → k < length e.items → (x : ℤ) × IsLeapTime z.leaps (slice_index_or e.items k d).unix_leap_time x

@@ -13,6 +13,6 @@ pub record IsPrepared (z : Zone) (found : Extremes) (made : WallIndex) (entries 
   pub valid : IsValid z
   pub limits : IsRuleOrNone z.rule
   pub extremes : AreExtremes (offsets z.types z.rule) found
-  pub index : IsIndex z made
+  pub index : IsIndex z entries made
   pub last : IsLastSpan z last_span
   pub list : AreEntries z entries

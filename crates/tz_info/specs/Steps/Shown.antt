@@ -4,23 +4,23 @@ use Rattle.tz_info.specs.declared.zone.shown.Shown.{Shown}
 use Rattle.tz_info.specs.declared.zone.shown.Shown.TheVariants.{Less, Skipped, Once, Several}
 
 abbrev pub together : Shown → Shown → Shown
-together (Less b) a = a
-together (Skipped j) (Less b) = Skipped j
+together Less a = a
+together (Skipped j) Less = Skipped j
 together (Skipped j) (Skipped k) = Skipped j
 together (Skipped j) (Once i) = Once i
 together (Skipped j) (Several i k) = Several i k
-together (Once i) (Less b) = Once i
+together (Once i) Less = Once i
 together (Once i) (Skipped j) = Once i
 together (Once i) (Once k) = Several i k
 together (Once i) (Several k m) = Several i m
-together (Several i k) (Less b) = Several i k
+together (Several i k) Less = Several i k
 together (Several i k) (Skipped j) = Several i k
 together (Several i k) (Once m) = Several i m
 together (Several i k) (Several m n) = Several i n
 
--- the answer of that number, of the indexes or places that it needs
+-- the answer of that number, of the indexes or the place that it needs
 abbrev pub unpacked : ℕ → ℕ → ℕ → Shown
-unpacked zero i j = Less i
-unpacked (suc zero) i j = Skipped (record { place = i; before = j })
+unpacked zero i j = Less
+unpacked (suc zero) i j = Skipped i
 unpacked (suc (suc zero)) i j = Once i
 unpacked (suc (suc (suc kind))) i j = Several i j

@@ -1,7 +1,7 @@
 //! A zone's transitions as one list of clock changes by Unix time.
 
 ghost use Rattle.std.specs.Prelude.{◌≡◌, [], ◌+◌, ◌<◌, ◌≤◌, ◌*◌, ◌^◌, length, IsTrue, ◌↔◌, map};
-ghost use Rattle.std.specs.Prelude.{option_map, slice_index_or, IfSome, MatchOption, MatchResult, ⊤};
+ghost use Rattle.std.specs.Prelude.{option_map, slice_index_or, pos, IfSome, MatchOption, MatchResult, ⊤};
 ghost use Rattle.std.specs.List.{slice_get};
 ghost use Rattle.std.specs.Prelude.{vec_capacity, vec_len};
 ghost use Rattle.tz_base.specs.declared.error.Error.TheVariants.{OutOfMemory};
@@ -10,19 +10,22 @@ ghost use Rattle.tz_info.specs.Steps.Entries.{AreBefore, AreEntries, EndsAt, Ent
 ghost use Rattle.tz_info.specs.Steps.Entries.{IsBetween, IsCome, IsEntryChange, IsStartIn};
 ghost use Rattle.tz_info.specs.Steps.Entries.{NeverComes, last_index, most_looks};
 ghost use Rattle.tz_info.specs.Steps.Segments.{index_of};
-ghost use Rattle.tz_info.specs.Steps.Pieces.{zone_in};
+ghost use Rattle.tz_info.specs.Steps.Pieces.{zone_in, IsJump, IsPlaced};
+ghost use Rattle.tz_info.specs.Steps.WallPieces.{IsBegun, top_of};
 ghost use Rattle.tz_info.specs.HeldChanges.{change_held};
-ghost use Rattle.tz_info.specs.Transitions.{NameTypes, passed};
+ghost use Rattle.tz_info.specs.Transitions.{AreRising, NameTypes, passed};
 ghost use Rattle.tz_info.specs.Zones.{IsValid};
 ghost use Rattle.tz_info.specs.declared.zone.transition.Transition.{Transition};
 ghost use Rattle.tz_timeline.specs.Counts.{HasRoomFor, RoseWithin};
 
 use crate::change::{HeldChange, is_same_type};
-use crate::zone::changes::first_second;
+use crate::rule::TransitionRule;
 use crate::zone::kept::Kept;
 use crate::zone::leap_second::LeapSecond;
 use crate::zone::lookup::has_leap_time;
 use crate::zone::segments::Lists;
+use crate::zone::shown::Shown;
+use crate::zone::starts::first_second;
 use crate::zone::table::Table;
 use std::alloc::{AllocError, Global};
 use std::marker::Model;
@@ -117,6 +120,66 @@ impl ChangeTable {
         ensures { result ≡ length self.now.items }
     {
         self.entries.len()
+    }
+
+    // The entries.
+    #[inline(always)]
+    pub(super) fn items(&self) -> &[Kept]
+        ensures { result.now ≡ self.now.items }
+    {
+        self.entries.items()
+    }
+
+    // How many segments between entries are the table's, and not the rule's.
+    pub(super) fn segment_count(&self, rule: &Option<TransitionRule>) -> usize
+        ensures { result ≡ top_of rule.now self.now }
+    {
+        match rule {
+            Some(_) => self.all,
+            None => self.items().len() + 1,
+        }
+    }
+
+    // The second from which the rule is asked: the greatest one, if it never is.
+    pub(super) fn rule_from(&self) -> i64
+        requires rising { AreRising self.now.items }
+        requires more { length self.now.items ≤ self.now.all }
+        ensures begun { IsBegun self.now result }
+        ensures never { 0 < self.now.all → length self.now.items ≡ 0
+            → result ≡ pos 9_223_372_036_854_775_807 }
+    {
+        if self.all == 0 {
+            return i64::MIN;
+        }
+        if self.all > self.len() {
+            return i64::MAX;
+        }
+        self.second(self.all - 1)
+    }
+
+    // The change where the segment at a jump's place begins. One look is counted.
+    pub(super) fn jump<'a>(
+        &self,
+        types: &'a [LocalTimeType],
+        shown: Shown,
+        probes: &mut Probes,
+    ) -> Option<HeldChange<'a>>
+        requires some { 0 < length types.now }
+        requires named { NameTypes (length types.now) self.now.items }
+        requires placed { IsPlaced (length self.now.items) shown }
+        requires room { HasRoomFor 1 probes.old.reads }
+        ensures jump { IsJump types.now self.now.items shown (option_map change_held result) }
+        ensures cost { RoseWithin probes.old probes.new 1 0 }
+    {
+        let Shown::Skipped(place) = shown else {
+            return None;
+        };
+        probes.count_read();
+        Some(HeldChange {
+            before: &types[self.index_after(types, place - 1)],
+            after: &types[self.index_after(types, place)],
+            at: self.second(place - 1),
+        })
     }
 
     // Whether the transitions of the entry at that place are the last ones.

@@ -3,10 +3,9 @@
 //! Before the last transition only an entry of the change table can change the type, and each does.
 //! After it only the rule can. What the last transition itself changes is asked.
 
-ghost use Rattle.std.specs.Prelude.{◌≡◌, ◌≢◌, ◌<◌, length, ℤ, pos, neg_ℤ, ◌<ℤ◌, ◌≤ℤ◌, ◌↔◌, MatchOption, Some};
+ghost use Rattle.std.specs.Prelude.{◌≡◌, ◌≢◌, ◌<◌, length, pos, neg_ℤ, ◌<ℤ◌, ◌≤ℤ◌, MatchOption, Some};
 ghost use Rattle.std.specs.Prelude.{option_map};
 ghost use Rattle.tz_info.specs.Changes.{IsChange, HasNoChange, IsFirst, IsLast, IsNearest};
-ghost use Rattle.tz_info.specs.Leaps.{AreLeapSeconds, IsLeapTime};
 ghost use Rattle.tz_info.specs.Rules.{Alternate as AlternateRule};
 ghost use Rattle.tz_info.specs.Steps.Changes.{ComesAt, IsAhead, IsBegin, IsChangeByRule};
 ghost use Rattle.tz_info.specs.Steps.Changes.{IsInTable};
@@ -16,9 +15,8 @@ ghost use Rattle.tz_info.specs.declared.rule.transition_rule.TransitionRule.TheV
 
 use crate::change::{HeldChange, change_between, copied};
 use crate::rule::{AlternateTime, TransitionRule};
-use crate::zone::leap_time::correction_after;
-use crate::zone::starts::entries_come;
-use crate::zone::{LeapSecond, TimeZone};
+use crate::zone::starts::first_second;
+use crate::zone::TimeZone;
 use tz_base::{Change, LocalTimeType};
 use tz_timeline::Probes;
 
@@ -197,25 +195,4 @@ impl TimeZone {
         let transition = self.transition(place, &mut probes);
         first_second(&self.leap_seconds, transition.unix_leap_time)
     }
-}
-
-// The first second at which the leap time has come: also one that 64 bits don't hold.
-pub(super) fn first_second(leaps: &[LeapSecond], leap_time: i64) -> i128
-    requires { AreLeapSeconds leaps.now }
-    ensures reached { (u y : ℤ) → IsLeapTime leaps.now u y → (leap_time ≤ℤ y) ↔ (result ≤ℤ u) }
-    ensures bound { neg_ℤ (pos 9_223_372_036_854_775_808) ≤ℤ result }
-{
-    let come = entries_come(leaps, leap_time);
-    if come == 0 {
-        return leap_time as i128;
-    }
-    let passed = leaps[come - 1].unix_leap_time as i128 - correction_after(leaps, come - 1) as i128;
-    let led_back = leap_time as i128 - correction_after(leaps, come) as i128;
-    later(passed, led_back)
-}
-
-fn later(a: i128, b: i128) -> i128
-    ensures { (u : ℤ) → (result ≤ℤ u) ↔ ((a ≤ℤ u) × (b ≤ℤ u)) }
-{
-    if a < b { b } else { a }
 }

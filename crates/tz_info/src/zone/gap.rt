@@ -1,26 +1,23 @@
 //! Gaps: what is in force around a local time that no clock shows.
 
-ghost use Rattle.std.specs.Prelude.{MatchOption, ⊤};
+ghost use Rattle.std.specs.Prelude.{MatchOption, option_map, ⊤};
 ghost use Rattle.naive_base.specs.NaiveDateTime.{reading};
 ghost use Rattle.naive_base.specs.Range.{IsWide};
 ghost use Rattle.offset_core.specs.WallAnswer.{IsNeverShown};
-ghost use Rattle.tz_timeline.specs.Counts.{HasRoom, RoseWithin, HasRoomFor};
+ghost use Rattle.tz_timeline.specs.Counts.{HasRoom};
 ghost use Rattle.tz_info.specs.Around.{AreTypesAround, IsAroundOrBefore, map_both};
 ghost use Rattle.tz_info.specs.HeldChanges.{change_held};
 ghost use Rattle.tz_info.specs.Gaps.{IsTypeBeforeGap, HasGap, IsShown};
 ghost use Rattle.tz_info.specs.Looks.{RoseAround};
 ghost use Rattle.tz_info.specs.Questions.{IsAskedFor};
-ghost use Rattle.tz_info.specs.Steps.Segments.{table_count};
 ghost use Rattle.tz_info.specs.Steps.Gaps.{HasReach};
 ghost use Rattle.tz_info.specs.Steps.Seasons.{IsSeasonIn};
 ghost use Rattle.tz_info.specs.WallClocks.{Shows};
-ghost use Rattle.tz_info.specs.Steps.WallPieces.{AreLessAmong, Jumps, IsShownAmong};
+ghost use Rattle.tz_info.specs.Steps.WallPieces.{IsTableLess};
 ghost use Rattle.tz_info.specs.Zones.{TypeAt};
 
 use crate::change::HeldChange;
 use crate::rule::Season;
-use crate::zone::shown::{Jump, Shown};
-use crate::zone::starts::first_second;
 use crate::zone::time_zone::TimeZone;
 use naive_base::NaiveDateTime;
 use offset_core::{Around, MappedLocalTime};
@@ -94,9 +91,14 @@ impl TimeZone {
         ensures questions { IsAskedFor self.now local
             probes.old.rule_questions probes.new.rule_questions }
     {
-        let (shown, season, answer) = self.wall_answer_of(local, probes);
+        let _ = (self.extremes.least, self.extremes.greatest);
+        let shown = self.index.answer(local, probes);
+        let (season, answer) = self.answer_behind(local, shown, probes);
         match answer {
-            MappedLocalTime::None => Around::Gap(self.gap_at(local, shown, season, probes)),
+            MappedLocalTime::None => {
+                let jump = self.changes.jump(&self.local_types, shown, probes);
+                Around::Gap(self.gap_at(local, jump, season))
+            }
             MappedLocalTime::Single(only) => Around::Single(only),
             MappedLocalTime::Ambiguous(first, last) => Around::Ambiguous(first, last),
         }
@@ -121,46 +123,24 @@ impl TimeZone {
 
     // The gap in the table, or from the last transition on.
     #[inline(always)]
-    fn gap_at(
-        &self,
+    fn gap_at<'a>(
+        &'a self,
         local: i64,
-        shown: Shown,
+        jump: Option<HeldChange<'a>>,
         season: Option<Season>,
-        probes: &mut Probes,
-    ) -> HeldChange<'_>
+    ) -> HeldChange<'a>
         requires local { IsWide local }
         requires season { MatchOption season ⊤ (IsSeasonIn self.now local) }
         requires never { IsNeverShown (Shows (TypeAt self.now) local) }
-        requires shown { IsShownAmong self.now 0 (table_count self.now) local shown }
-        requires room { HasRoomFor 1 probes.old.reads }
-        ensures gap { HasGap (TypeAt self.now) local
-            result.before.now result.after.now result.at }
-        ensures cost { RoseWithin probes.old probes.new 1 0 }
-    {
-        let _ = (self.extremes.least, self.extremes.greatest);
-        match shown {
-            Shown::Less(_) => self.gap_behind_table(local, season),
-            Shown::Skipped(jump) => self.gap_of_jump(local, jump, probes),
-            Shown::Once(_) | Shown::Several(_, _) => unreachable!(),
-        }
-    }
-
-    // The gap where the segment at the jump's place begins.
-    fn gap_of_jump(&self, local: i64, jump: Jump, probes: &mut Probes) -> HeldChange<'_>
-        requires local { IsWide local }
-        requires never { IsNeverShown (Shows (TypeAt self.now) local) }
         requires reach { HasReach self.now local }
-        requires jump { Jumps self.now 0 (table_count self.now) local jump }
-        requires room { HasRoomFor 1 probes.old.reads }
-        ensures gap { HasGap (TypeAt self.now) local
+        requires jump { MatchOption (option_map change_held jump) (IsTableLess self.now local)
+            (λ c. HasGap (TypeAt self.now) local c.before c.after c.at) }
+        ensures { HasGap (TypeAt self.now) local
             result.before.now result.after.now result.at }
-        ensures cost { RoseWithin probes.old probes.new 1 0 }
     {
-        let transition = self.transition(jump.place - 1, probes);
-        HeldChange {
-            before: self.listed(jump.before),
-            after: self.listed(transition.type_index),
-            at: first_second(&self.leap_seconds, transition.unix_leap_time),
+        match jump {
+            Some(change) => change,
+            None => self.gap_behind_table(local, season),
         }
     }
 
@@ -172,7 +152,7 @@ impl TimeZone {
         requires season { MatchOption season ⊤ (IsSeasonIn self.now local) }
         requires never { IsNeverShown (Shows (TypeAt self.now) local) }
         requires reach { HasReach self.now local }
-        requires less { AreLessAmong self.now 0 (table_count self.now) local }
+        requires less { IsTableLess self.now local }
         ensures { HasGap (TypeAt self.now) local
             result.before.now result.after.now result.at }
     {

@@ -1,27 +1,21 @@
 //! A zone's index of the wall-clock axis.
 
-ghost use Rattle.std.specs.Prelude.{◌≡◌, ◌<◌, ◌^◌, length, MatchResult};
+ghost use Rattle.std.specs.Prelude.{◌≡◌, ◌⊎◌, pos, ◌<◌, ◌^◌, length, MatchResult};
 ghost use Rattle.tz_base.specs.declared.error.Error.TheVariants.{OutOfMemory};
 ghost use Rattle.tz_timeline.specs.Counts.{RoseByPieces, HasRoomFor};
-ghost use Rattle.tz_timeline.specs.Digits.{digits};
-ghost use Rattle.tz_info.specs.Steps.Segments.{table_count};
+ghost use Rattle.tz_info.specs.Steps.Entries.{AreEntries, most_looks};
 ghost use Rattle.tz_info.specs.Steps.Pieces.{zone_in, ArePieces};
-ghost use Rattle.tz_info.specs.Steps.Starts.{AreByUnixTime};
-ghost use Rattle.tz_info.specs.Steps.WallPieces.{answer_at, IsIndex};
+ghost use Rattle.tz_info.specs.Steps.WallPieces.{answer_at, IsIndex, top_of};
 ghost use Rattle.tz_info.specs.Zones.{IsValid};
 
-use crate::rule::TransitionRule;
-use crate::zone::kept::Kept;
-use crate::zone::leap_second::LeapSecond;
+use crate::zone::change_table::ChangeTable;
 use crate::zone::one_pass::pieces_in_one_pass;
 use crate::zone::pieces::Piece;
-use crate::zone::segments::{Lists, Pieces, pieces_of, segment_at, table_count};
+use crate::zone::segments::{Lists, Pieces, pieces_of, segment_at};
 use crate::zone::shown::Shown;
-use crate::zone::starts::start_of;
-use crate::zone::transition::Transition;
 use std::alloc::Global;
 use std::marker::Model;
-use tz_base::{Error, LocalTimeType};
+use tz_base::Error;
 use tz_timeline::{Probes, Timed, Timeline};
 
 // The pieces of a zone's wall-clock axis. A lookup can look at one of them only where the look is
@@ -74,56 +68,64 @@ impl Timed for Piece {
 }
 
 impl Index {
-    // The index of the zone of those lists, whose transitions by Unix time are those if there are
-    // leap seconds.
-    pub(super) fn new(alloc: Global, lists: Lists, starts: &[Kept]) -> Result<Index, Error>
+    // The index of the zone of those lists and of those entries.
+    pub(super) fn new(alloc: Global, lists: Lists, changes: &ChangeTable) -> Result<Index, Error>
         requires valid { IsValid (zone_in lists) }
-        requires starts { 0 < length lists.leaps.now → AreByUnixTime lists.transitions.now
-            lists.leaps.now starts.now }
-        ensures { MatchResult result (λ i. IsIndex (zone_in lists.entry) i) (λ e. e ≡ OutOfMemory) }
+        requires list { AreEntries (zone_in lists) changes.now }
+        ensures { MatchResult result (λ i. IsIndex (zone_in lists.entry) changes.now i)
+            (λ e. e ≡ OutOfMemory) }
     {
-        if lists.transitions.is_empty() {
-            return Ok(Index::without_pieces(alloc, lists));
+        let entries = changes.items();
+        if entries.is_empty() {
+            return Ok(Index::without_pieces(alloc, lists, changes));
         }
-        let all = match pieces_in_one_pass(alloc, lists, starts)? {
+        let count = changes.segment_count(lists.rule);
+        let all = match pieces_in_one_pass(alloc, lists, entries, count)? {
             Some(pieces) => pieces,
-            None => pieces_of(alloc, lists, 0, table_count(lists))?,
+            None => pieces_of(alloc, lists, entries, 0, count)?,
         };
-        Index::of_pieces(alloc, lists, all)
+        Index::of_pieces(alloc, lists, changes, all)
     }
 
-    // The index of the zone of those lists, which has those pieces.
+    // The index of the zone of those lists and of those entries, which has those pieces.
     #[tactic(auto, using(crate::proofs::WallPieces::starts_in_order))]
-    fn of_pieces(alloc: Global, lists: Lists, all: Pieces) -> Result<Index, Error>
-        requires valid { IsValid (zone_in lists) }
-        requires some { 0 < length lists.transitions.now }
-        requires pieces { ArePieces (zone_in lists) 0 (table_count (zone_in lists)) all.before
-            all.pieces.items }
-        ensures { MatchResult result (λ i. IsIndex (zone_in lists.entry) i) (λ e. e ≡ OutOfMemory) }
+    fn of_pieces(
+        alloc: Global,
+        lists: Lists,
+        changes: &ChangeTable,
+        all: Pieces,
+    ) -> Result<Index, Error>
+        requires list { AreEntries (zone_in lists) changes.now }
+        requires pieces { ArePieces (zone_in lists) changes.now.items 0
+            (top_of lists.rule.now changes.now) all.before all.pieces.items }
+        ensures { MatchResult result (λ i. IsIndex (zone_in lists.entry) changes.now i)
+            (λ e. e ≡ OutOfMemory) }
     {
         let pieces = Timeline::new(alloc, all.pieces)?;
         Ok(Index {
             before: all.before,
             pieces,
-            rule_from: start_of(lists.transitions, lists.leaps, lists.transitions.len()),
+            rule_from: changes.rule_from(),
         })
     }
 
-    // The index of a zone without transitions, which takes no memory.
-    pub(super) fn without_pieces(alloc: Global, lists: Lists) -> Index
-        requires none { length lists.transitions.now ≡ 0 }
+    // The index of a zone without entries, which takes no memory.
+    pub(super) fn without_pieces(alloc: Global, lists: Lists, changes: &ChangeTable) -> Index
         requires valid { IsValid (zone_in lists) }
-        ensures { IsIndex (zone_in lists.entry) result }
+        requires list { AreEntries (zone_in lists) changes.now }
+        requires none { length changes.now.items ≡ 0 }
+        ensures { IsIndex (zone_in lists.entry) changes.now result }
     {
-        let segment = segment_at(lists, 0);
-        let before = match lists.rule {
-            Some(_) => Shown::Less(segment.index),
-            None => Shown::Once(segment.index),
+        let segment = segment_at(lists, changes.items(), 0);
+        let before = if changes.segment_count(lists.rule) == 0 {
+            Shown::Less
+        } else {
+            Shown::Once(segment.index)
         };
         Index {
             before,
             pieces: Timeline::none(alloc),
-            rule_from: i64::MIN,
+            rule_from: changes.rule_from(),
         }
     }
 
@@ -142,16 +144,21 @@ impl Index {
         self.rule_from
     }
 
-    // The answer of the last piece that starts at or before the local time.
+    // The answer of the last piece that starts at or before the local time. Where there are
+    // transitions and no pieces, one look is counted.
     #[inline(always)]
     pub(super) fn answer(&self, local: i64, probes: &mut Probes) -> Shown
         requires { HasRoomFor (2 ^ 64) probes.old.piece_reads }
         ensures answer { result ≡ answer_at self.now.before self.now.pieces local }
-        ensures cost { RoseByPieces probes.old probes.new (digits (length self.now.pieces)) 0 }
-        ensures looked { 0 < length self.now.pieces
+        ensures cost { RoseByPieces probes.old probes.new (most_looks (length self.now.pieces)) 0 }
+        ensures looked {
+            (0 < length self.now.pieces) ⊎ (self.now.rule_from ≡ pos 9_223_372_036_854_775_807)
             → probes.old.piece_reads < probes.new.piece_reads }
     {
         if self.len() == 0 {
+            if self.rule_from == i64::MAX {
+                probes.count_piece_read();
+            }
             return self.before;
         }
         match self.pieces.passed(local, probes).latest {

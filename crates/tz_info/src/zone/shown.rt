@@ -9,21 +9,13 @@ use std::marker::Model;
 // Places and indexes from this number on aren't packed.
 const TOO_GREAT: usize = 1 << 30;
 
-// Clocks jump over a local time: at the first second of the segment at that place they show more,
-// and at the second before it less, by the type of that index.
-#[derive(Clone, Copy, Debug)]
-pub(super) struct Jump {
-    pub(super) place: usize,
-    pub(super) before: usize,
-}
-
 // What a clock shows of a local time in the segments, by indexes of types.
 #[derive(Clone, Copy, Debug)]
 pub(super) enum Shown {
-    // Less at all seconds, the last of them at that type.
-    Less(usize),
-    // Less up to a second, and more at the next.
-    Skipped(Jump),
+    // Less at all seconds.
+    Less,
+    // Less at all seconds before the segment at that place, and more at its first one.
+    Skipped(usize),
     // The local time itself, at one second.
     Once(usize),
     // The local time itself: the types at the first and at the last second.
@@ -54,8 +46,8 @@ impl Packed {
         ensures { MatchResult result (λ p. p ≡ shown) (λ _. ⊤) }
     {
         match shown {
-            Shown::Less(before) => Packed::of(0, before, 0),
-            Shown::Skipped(jump) => Packed::of(1, jump.place, jump.before),
+            Shown::Less => Packed::of(0, 0, 0),
+            Shown::Skipped(place) => Packed::of(1, place, 0),
             Shown::Once(only) => Packed::of(2, only, 0),
             Shown::Several(first, last) => Packed::of(3, first, last),
         }
@@ -82,11 +74,8 @@ impl Packed {
         let first = (self.first / 4) as usize;
         let second = self.second as usize;
         match self.first % 4 {
-            0 => Shown::Less(first),
-            1 => Shown::Skipped(Jump {
-                place: first,
-                before: second,
-            }),
+            0 => Shown::Less,
+            1 => Shown::Skipped(first),
             2 => Shown::Once(first),
             _ => Shown::Several(first, second),
         }
@@ -98,8 +87,8 @@ pub(super) fn together(first: Shown, last: Shown) -> Shown
     ensures { result ≡ together first last }
 {
     match (first, last) {
-        (Shown::Less(_), shown) => shown,
-        (shown, Shown::Less(_)) | (shown, Shown::Skipped(_)) => shown,
+        (Shown::Less, shown) => shown,
+        (shown, Shown::Less) | (shown, Shown::Skipped(_)) => shown,
         (Shown::Skipped(_), shown) => shown,
         (
             Shown::Once(least) | Shown::Several(least, _),

@@ -97,6 +97,15 @@ impl Table {
         self.entries.read(place, probes).transition()
     }
 
+    // All of them, for what is no lookup.
+    #[inline(always)]
+    pub(super) fn items(&self) -> &[Kept]
+        ensures items { result.now ≡ self.now }
+        ensures rising { AreRising self.now }
+    {
+        self.entries.items()
+    }
+
     // The same without a count, for what is no lookup.
     #[inline(always)]
     pub(super) fn item(&self, place: usize) -> &Kept

@@ -16,7 +16,6 @@ use crate::zone::kept::{Kept, all_kept};
 use crate::zone::last_span::LastSpan;
 use crate::zone::leap_second::LeapSecond;
 use crate::zone::segments::Lists;
-use crate::zone::starts::by_unix_time;
 use crate::zone::table::Table;
 use crate::zone::transition::Transition;
 use crate::zone::valid::check;
@@ -178,9 +177,8 @@ impl TimeZone {
             leaps: &leaps,
             rule: &rule,
         };
-        let by_unix_time = by_unix_time(alloc, lists.transitions, lists.leaps)?;
-        let index = Index::new(alloc, lists, by_unix_time.items())?;
         let changes = ChangeTable::new(alloc, lists)?;
+        let index = Index::new(alloc, lists, &changes)?;
         let extremes = extremes_of(&types, &rule);
         let mut zone = TimeZone {
             table: Table::new(alloc, transitions)?,
@@ -236,11 +234,12 @@ impl TimeZone {
             leaps: &leaps,
             rule: &rule,
         };
-        let index = Index::without_pieces(alloc, lists);
+        let changes = ChangeTable::none(alloc);
+        let index = Index::without_pieces(alloc, lists, &changes);
         let extremes = extremes_of(&types, &rule);
         let mut zone = TimeZone {
             table: Table::none(alloc),
-            changes: ChangeTable::none(alloc),
+            changes,
             local_types: types,
             leap_seconds: leaps,
             last_rule: rule,

@@ -10,13 +10,12 @@ ghost use Rattle.tz_timeline.specs.Counts.{HasRoom, RoseByPieces, RoseWithin, Ha
 ghost use Rattle.tz_timeline.specs.Digits.{digits};
 ghost use Rattle.tz_info.specs.Looks.{RoseByWallClock};
 ghost use Rattle.tz_info.specs.Questions.{IsAskedFor};
-ghost use Rattle.tz_info.specs.Steps.Segments.{table_count};
 ghost use Rattle.tz_info.specs.WallClocks.{Shows};
-ghost use Rattle.tz_info.specs.Steps.WallPieces.{IsShownAmong, ShownAmong, shown_indexes};
+ghost use Rattle.tz_info.specs.Steps.WallPieces.{IsTableAnswer, shown_indexes};
 ghost use Rattle.tz_info.specs.Steps.Pieces.{AreBelow, AreListed};
 ghost use Rattle.tz_info.specs.Steps.Seasons.{IsSeasonIn};
 ghost use Rattle.tz_info.specs.Steps.Walk.{IsShownIn};
-ghost use Rattle.tz_info.specs.Zones.{IsValid, TypeAt};
+ghost use Rattle.tz_info.specs.Zones.{TypeAt};
 
 use crate::answers::{copied, joined};
 use crate::rule::{Season, TransitionRule};
@@ -58,7 +57,7 @@ impl TimeZone {
         let local = local.secs_since_epoch();
         match self.last_type_at(local) {
             Some(local_time_type) => MappedLocalTime::Single(local_time_type),
-            None => self.wall_answer_of(local, &mut Probes::new()).2,
+            None => self.wall_answer_of(local, &mut Probes::new()),
         }
     }
 
@@ -91,58 +90,61 @@ impl TimeZone {
         ensures questions { IsAskedFor self.now (reading local).s
             probes.old.rule_questions probes.new.rule_questions }
     {
-        let (_, _, answer) = self.wall_answer_of(local.secs_since_epoch(), probes);
-        Ok(copied(answer))
+        Ok(copied(self.wall_answer_of(local.secs_since_epoch(), probes)))
     }
 
-    // What the table shows of the local time, the moments of its year if the rule's part was
-    // decided by these alone, and the answer of all seconds.
+    // The answer of all seconds, by one search in the pieces.
     #[inline(always)]
-    pub(super) fn wall_answer_of(
-        &self,
-        local: i64,
-        probes: &mut Probes,
-    ) -> (Shown, Option<Season>, MappedLocalTime<&LocalTimeType>)
+    fn wall_answer_of(&self, local: i64, probes: &mut Probes) -> MappedLocalTime<&LocalTimeType>
         requires local { IsWide local }
         requires room { HasRoom probes.old }
-        ensures shown { IsShownAmong self.now 0 (table_count self.now) local result.0 }
-        ensures season { MatchOption result.1 ⊤ (IsSeasonIn self.now local) }
-        ensures found { IsWallAnswer (Shows (TypeAt self.now) local)
-            (map_of (λ r. r.now) result.2) }
+        ensures found { IsWallAnswer (Shows (TypeAt self.now) local) (map_of (λ r. r.now) result) }
         ensures cost { RoseByWallClock self.now probes.old probes.new }
         ensures counted { IsAskedFor self.now local
             probes.old.rule_questions probes.new.rule_questions }
     {
-        let (shown, table) = self.table_answer(local, probes);
-        match &self.last_rule {
-            None => (shown, None, table),
-            Some(rule) => {
-                let (season, all) = self.try_rule(rule, local, table, probes);
-                (shown, season, all)
-            }
-        }
+        let shown = self.table_answer(local, probes);
+        self.answer_behind(local, shown, probes).1
     }
 
-    // What the table shows of the local time, by one search in the pieces, and the types of that.
+    // What the table shows of the local time.
     #[inline(always)]
-    fn table_answer(
-        &self,
-        local: i64,
-        probes: &mut Probes,
-    ) -> (Shown, MappedLocalTime<&LocalTimeType>)
+    pub(super) fn table_answer(&self, local: i64, probes: &mut Probes) -> Shown
         requires local { IsWide local }
         requires room { HasRoom probes.old }
-        ensures shown { IsShownAmong self.now 0 (table_count self.now) local result.0 }
-        ensures found { IsWallAnswer (ShownAmong self.now 0 (table_count self.now) local)
-            (map_of (λ r. r.now) result.1) }
+        ensures shown { IsTableAnswer self.now local result }
         ensures cost { RoseByPieces probes.old probes.new
             (digits (2 * length self.now.transitions + 1)) 0 }
         ensures looked { 0 < length self.now.transitions
             → probes.old.piece_reads < probes.new.piece_reads }
-        ensures valid { IsValid self.now }
     {
-        let shown = self.index.answer(local, probes);
-        (shown, types_of(&self.local_types, shown))
+        self.index.answer(local, probes)
+    }
+
+    // The answer of all seconds, and the moments of the local time's year if the rule's part was
+    // decided by these alone.
+    #[inline(always)]
+    pub(super) fn answer_behind(
+        &self,
+        local: i64,
+        shown: Shown,
+        probes: &mut Probes,
+    ) -> (Option<Season>, MappedLocalTime<&LocalTimeType>)
+        requires local { IsWide local }
+        requires room { HasRoomFor 2 probes.old.rule_questions }
+        requires shown { IsTableAnswer self.now local shown }
+        ensures season { MatchOption result.0 ⊤ (IsSeasonIn self.now local) }
+        ensures found { IsWallAnswer (Shows (TypeAt self.now) local)
+            (map_of (λ r. r.now) result.1) }
+        ensures cost { RoseWithin probes.old probes.new 0 2 }
+        ensures counted { IsAskedFor self.now local
+            probes.old.rule_questions probes.new.rule_questions }
+    {
+        let table = types_of(&self.local_types, shown);
+        match &self.last_rule {
+            None => (None, table),
+            Some(rule) => self.try_rule(rule, local, table, probes),
+        }
     }
 
     // The answer with the seconds at which the rule's types show the local time, from the last
@@ -180,7 +182,7 @@ fn types_of(types: &[LocalTimeType], shown: Shown) -> MappedLocalTime<&LocalTime
     ensures { AreListed types.now (shown_indexes shown) (map_of (λ r. r.now) result) }
 {
     match shown {
-        Shown::Less(_) | Shown::Skipped(_) => MappedLocalTime::None,
+        Shown::Less | Shown::Skipped(_) => MappedLocalTime::None,
         Shown::Once(only) => MappedLocalTime::Single(&types[only]),
         Shown::Several(first, last) => MappedLocalTime::Ambiguous(&types[first], &types[last]),
     }

@@ -10,6 +10,3 @@ returns-in-None-clause-answer c = grind (arith, ints, none_answers)
 
 pub passed-requires : goal.passed-requires
 passed-requires c = grind (arith, ints, digits-le, c.len.ensures, c.self.view_is, c.self.inside.pieces)
-
-pub returns-then-len-eq0-clause-answer : goal.returns-then-len-eq0-clause-answer
-returns-then-len-eq0-clause-answer c = grind (arith, ints, no_items, c.len.ensures, c.if-len-eq0.true, c.self.view_is)

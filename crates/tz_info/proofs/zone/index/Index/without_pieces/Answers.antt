@@ -1,11 +1,17 @@
-use Rattle.tz_info.proofs.{WallSegments.{no_pieces_by_rule, no_pieces_by_type}, zone.index.Index.without_pieces.Goals.{in-None, in-Some}}
+use Rattle.tz_info.proofs.{TableLaws.{no_segments, one_segment}, Words.{SFits, arith, rules, sym, to_z-of_z, w64, ◌∙◌}}
+use Rattle.tz_info.proofs.zone.index.Index.without_pieces.Goals.{else-segment_count-eq0, then-segment_count-eq0}
 use Rattle.tz_info.proofs.zone.index.Index.without_pieces.Goals as goal
 
 pub returns : goal.returns
 returns c =
-    let i = c.segment_at-segment.result.index in
+    let fs : SFits w64 c.rule_from.result = search rules in
     let s = c.segment_at-segment.ensures in
-    elim c.match-lists.branch [
-      | in-Some w ↦ rw (w.before-is, c.none.ensures) (no_pieces_by_rule _ w.in-Some.field-0 i s.type c.requires.none w.in-Some.is s.listed)
-      | in-None w ↦ rw (w.before-is, c.none.ensures) (no_pieces_by_type _ i s.type c.requires.valid c.requires.none w.in-None.is s.index s.listed s.is_offset)
+    let from = c.rule_from.ensures in
+    let many = c.segment_count.ensures in
+    elim c.if-segment_count-eq0.branch [
+      | then-segment_count-eq0 w ↦ let none = w.if-segment_count-eq0.true in rw (w.before-is, c.none.ensures) (simp to_z-of_z
+          (no_segments _ _ _ c.requires.none (sym many ∙ none) from.begun (λ h. from.never (c.requires.list.some h) c.requires.none)))
+      | else-segment_count-eq0 w ↦ let some = w.if-segment_count-eq0.false in rw (w.before-is, c.none.ensures) (simp to_z-of_z
+          (one_segment _ _ _ _ s.type c.requires.valid c.requires.list c.requires.none (omega arith) from.begun (λ h. from.never (c.requires.list.some h) c.requires.none)
+          s.index s.listed s.is_offset))
     ]

@@ -1,4 +1,4 @@
-use Rattle.tz_info.proofs.{Words.{SFits, rules, to_z-of_z, w64}, RunLaws.{next_run, one_type}}
+use Rattle.tz_info.proofs.{Words.{SFits, rules, to_z-of_z, w64}, RunLaws.{near_end, next_run, one_type}}
 use Rattle.tz_info.proofs.zone.time_zone.TimeZone.next_run.Goals as goal
 
 pub returns : goal.returns
@@ -12,3 +12,9 @@ returns c =
       one_type = simp to_z-of_z (one_type c.args.self.now _ c.args.left.low c.args.left.high c.start_by.result c.end_by.result (rw (← c.self.view_is) c.self.invariant.valid) (rw (← c.self.view_is) c.self.invariant.limits)
           c.requires.low c.requires.high c.near_span_at-span.ensures.span starts ends);
     }
+
+pub near_span_at-span-requires : goal.near_span_at-span-requires
+near_span_at-span-requires c =
+    let fl : SFits w64 c.args.left.low = search rules in let fh : SFits w64 c.args.left.high = search rules in
+    let fu : SFits w64 c.end.result = search rules in
+    simp to_z-of_z (rw c.end.ensures (near_end c.args.forward c.args.left.low c.args.left.high c.requires.low c.requires.high c.requires.some))

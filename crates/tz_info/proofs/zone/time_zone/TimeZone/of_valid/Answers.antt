@@ -4,14 +4,6 @@ pub new-requires-3 : goal.new-requires-3
 new-requires-3 c =
     let valid = c.requires in valid.transitions.rising
 
-pub by_unix_time-requires-clause-leaps : goal.by_unix_time-requires-clause-leaps
-by_unix_time-requires-clause-leaps c =
-    let valid = c.requires in rw c.deref-3.ensures.value valid.leaps
-
-pub by_unix_time-requires-clause-rising : goal.by_unix_time-requires-clause-rising
-by_unix_time-requires-clause-rising c =
-    let valid = c.requires in rw c.deref.ensures.value valid.transitions.rising
-
 pub invariant_of-zone : goal.invariant_of-zone
 invariant_of-zone c =
     rw c.in_ok-new.ensures (record {

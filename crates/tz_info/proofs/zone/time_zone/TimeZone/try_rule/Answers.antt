@@ -1,12 +1,12 @@
 use Rattle.tz_info.proofs.{Words.{IsShownIn, IsStart, IsValid, SFits, Shows, TypeFrom, length, rules, to_z-of_z, w64}, AnswerLaws.{joined_answer}}
-use Rattle.tz_info.proofs.{QuestionLaws.{asked_by_zone}, RuleGaps.{season_in}, WalkLaws.{with_rule}, zone.time_zone.TimeZone.try_rule.Goals.{After-rule_from}}
+use Rattle.tz_info.proofs.{QuestionLaws.{asked_by_zone}, RuleGaps.{season_in}, TableLaws.{start_begun}, WalkLaws.{with_rule}, zone.time_zone.TimeZone.try_rule.Goals.{After-rule_from}}
 use Rattle.tz_info.proofs.zone.time_zone.TimeZone.try_rule.Goals as goal
 
 -- what was given fits, and the rule is asked from one second on
 begun : (c : After-rule_from)
     → SFits w64 c.args.local × SFits w64 c.rule_from.result
     × IsStart c.args.self.now.transitions c.args.self.now.leaps (length c.args.self.now.transitions) c.rule_from.result
-begun c = (c.ranges.local, search rules, rw (c.rule_from.ensures, ← c.self.view_is) c.self.invariant.index.rule_from)
+begun c = (c.ranges.local, search rules, rw (c.rule_from.ensures, ← c.self.view_is) (start_begun _ _ _ c.self.invariant.valid c.self.invariant.list c.self.invariant.index.rule_from))
 
 pub returns-clause-found : goal.returns-clause-found
 returns-clause-found c =

@@ -1,10 +1,14 @@
 use Rattle.tz_info.proofs.Words.{Counts, IsShownIn, IsValid, IsWallAnswer, IsWindow, SFits, Some, Transition, ap, arith, digits-le, inl, ints, length, map_of, rules}
-use Rattle.tz_info.proofs.Words.{sym, to_z-of_z, w32, w64, ◌+◌, ◌∙◌, ◌≡◌}
-use Rattle.tz_info.proofs.{OnePass.{table_most}, QuestionLaws.{asked_for_window}, SegmentLaws.{begin_next, between_passed, index_next}, TableSearch.{Between}}
+use Rattle.tz_info.proofs.Words.{Zone, sym, table_count, to_z-of_z, w32, w64, ◌+◌, ◌∙◌, ◌≡◌, ◌≤◌}
+use Rattle.tz_info.proofs.{QuestionLaws.{asked_for_window}, SegmentLaws.{begin_next, between_passed, index_next}, TableSearch.{Between}}
 use Rattle.tz_info.proofs.WallSegments.{all_segments}
 use Rattle.tz_info.proofs.WalkLaws.{none_before, none_behind, one_look, rose_by_walk, tried_segment, walked_more}
 use Rattle.tz_info.proofs.zone.time_zone.TimeZone.walked_answer.Goals.{After-passed_count-first, After-try_until-answer}
 use Rattle.tz_info.proofs.zone.time_zone.TimeZone.walked_answer.Goals as goal
+
+-- the table has all segments but the rule's, which is the last
+table_most : (z : Zone) → length z.transitions ≤ table_count z
+table_most z = grind arith
 
 -- the window, and the first transitions, before it
 begun : (c : goal.After-passed_count-first) → IsWindow c.args.self.now c.args.local c.leap_time_near-low.result c.leap_time_near-high.result

@@ -12,6 +12,6 @@ invariant_of-zone c =
       limits = c.extremes_of-extremes.ensures.limits;
       extremes = rw c.deref-4.ensures.value at c.extremes_of-extremes.ensures.extremes;
       index = rw (c.deref.ensures.value, c.new-transitions.ensures.items, c.deref-2.ensures.value, c.deref-3.ensures.value, c.new-leaps.ensures.items) at c.without_pieces-index.ensures;
-      last = c.none-3.ensures _;
-      list = rw c.none-2.ensures (no_entries _ (zone_of_rule_valid c.args.types.items c.args.rule c.requires) refl);
+      last = c.none-2.ensures _;
+      list = rw c.none-changes.ensures (no_entries _ (zone_of_rule_valid c.args.types.items c.args.rule c.requires) refl);
     })
