@@ -104,6 +104,16 @@ impl<T: Timed> Timeline<T> {
         Ok(Timeline { items, ends, hints })
     }
 
+    /// Returns the timeline of those items, without hints: a search halves all of them.
+    pub fn without_hints(alloc: Global, items: Vec<T>) -> Timeline<T>
+        requires { AreOrdered (map T.time items.items) }
+        ensures { result ≡ items.items }
+    {
+        let hints = Hints::none(alloc);
+        let ends = ends_of(&items);
+        Timeline { items, ends, hints }
+    }
+
     /// Returns a timeline without items, which takes no memory.
     pub fn none(alloc: Global) -> Timeline<T>
         ensures { result ≡ [] }

@@ -68,6 +68,16 @@ impl Table {
         Ok(Table { entries })
     }
 
+    // The same for transitions as they are listed, without hints: lookups search a zone's entries.
+    #[tactic(auto, using(crate::proofs::TableSearch::in_order))]
+    pub(super) fn listed(alloc: Global, entries: Vec<Kept>) -> Table
+        requires { AreRising entries.items }
+        ensures { result ≡ entries.items }
+    {
+        let entries = Timeline::without_hints(alloc, entries);
+        Table { entries }
+    }
+
     // No transitions, which take no memory.
     pub(super) fn none(alloc: Global) -> Table
         ensures { result ≡ [] }

@@ -181,7 +181,7 @@ impl TimeZone {
         let index = Index::new(alloc, lists, &changes)?;
         let extremes = extremes_of(&types, &rule);
         let mut zone = TimeZone {
-            table: Table::new(alloc, transitions)?,
+            table: Table::listed(alloc, transitions),
             changes,
             local_types: types,
             leap_seconds: leaps,

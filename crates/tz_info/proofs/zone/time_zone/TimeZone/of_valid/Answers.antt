@@ -1,12 +1,12 @@
 use Rattle.tz_info.proofs.zone.time_zone.TimeZone.of_valid.Goals as goal
 
-pub new-requires-3 : goal.new-requires-3
-new-requires-3 c =
+pub listed-requires : goal.listed-requires
+listed-requires c =
     let valid = c.requires in valid.transitions.rising
 
 pub invariant_of-zone : goal.invariant_of-zone
 invariant_of-zone c =
-    rw c.in_ok-new.ensures (record {
+    rw c.listed.ensures (record {
       valid = c.requires;
       limits = c.extremes_of-extremes.ensures.limits;
       extremes = rw c.deref-4.ensures.value at c.extremes_of-extremes.ensures.extremes;
