@@ -3,7 +3,7 @@ use Rattle.tz_info.proofs.Words.{AreRising, Change, HasNoChange, HasType, IsChan
 use Rattle.tz_info.proofs.Words.{IsSpanAt, IsTrue, IsValid, List, LocalType, MatchOption, None, Option, SFits, Some, Transition, TypeAt, Zone, ap, arith, begin_of, by_lt_z, cases_lt}
 use Rattle.tz_info.proofs.Words.{correction_at, get_or, index_of, inl, inr, ints, leap_time_at, least_time, length, passed, pos, refl, segment_of, slice_get}
 use Rattle.tz_info.proofs.Words.{suc, sym, take, w64, zero, ℕ, ℤ, [], ◌+ℤ◌, ◌+◌, ◌-ℤ◌, ◌-◌, ◌<ℤ◌, ◌<◌, ◌↔◌, ◌∙◌, ◌≡◌, ◌≤ℤ◌, ◌≤◌}
-use Rattle.tz_info.proofs.SegmentLaws.{begin_next, come_at_time, come_by_time, index_next, not_later, segment_most, split_at, split_count}
+use Rattle.tz_info.proofs.SegmentLaws.{begin_next, come_at_time, come_by_time, index_next, not_later, place_before, place_begin, place_most, segment_most, split_at, split_count}
 use Rattle.tz_base.specs.{declared.error.Error.TheVariants.{FindLocalTimeType}, declared.error.Expected.TheVariants.{YearThatRuleAnswersIn}}
 use Rattle.tz_info.proofs.Words.{Err, Error, IsBeforeLast, IsRefusedBy, MatchResult, Ok, Result, RuleOrElse, RuleOrType, TransitionRule, TypeAtLeapTime, false, index_at, true}
 use Rattle.tz_info.proofs.Words.{AreLeapSeconds, Counts, IsLastOf, IsNear, RoseWithin, LeapSecond, digits, digits-more, length-take, nat_tests, ◌==◌, ◌∷◌}
@@ -16,7 +16,10 @@ abbrev count_at : Entries → ℤ → ℕ
 count_at e u = length (passed e.items u)
 
 count_most : (e : Entries) (u : ℤ) → AreRising e.items → count_at e u ≤ length e.items
-count_most e u rising = let p = split_at e.items u rising in let w = p.1.within in let n = split_count e.items u p.0 p.1 in omega arith
+count_most e u rising = place_most e.items u rising
+
+some_same : {a b : LocalType} → Some a ≡ Some b → a ≡ b
+some_same e = cc
 
 -- an entry is among those that have come just where its time has
 come_by : (e : Entries) (k : ℕ) (d : Transition) (u : ℤ) → AreRising e.items → k < length e.items → (k < count_at e u) ↔ ((get_or e.items k d).unix_leap_time ≤ℤ u)
@@ -137,29 +140,10 @@ looks_most (suc m) n some h = digits-more (suc m) n h
 
 -- ---- how many have come at an entry's second, and just before it
 count_then : (e : Entries) (k : ℕ) (d : Transition) → AreRising e.items → k < length e.items → count_at e (get_or e.items k d).unix_leap_time ≡ k + 1
-count_then e k d rising h =
-    let u = (get_or e.items k d).unix_leap_time in
-    let m = count_most e u rising in
-    let c = (come_by e k d u rising h).1 (omega (arith, ints)) in
-    elim (cases_lt (k + 1) (count_at e u)) [
-      | inl b ↦
-          let a = (come_by e (k + 1) d u rising (omega arith)).0 b in
-          let r = rising k (k + 1) d (omega arith) (omega arith) in absurd (omega (arith, ints))
-      | inr n ↦ omega arith
-    ]
+count_then e k d rising h = rw (← begin_next e.items k d h) (place_begin e.items (k + 1) rising (omega arith) (omega arith))
 
 count_before : (e : Entries) (k : ℕ) (d : Transition) → AreRising e.items → k < length e.items → count_at e ((get_or e.items k d).unix_leap_time -ℤ pos 1) ≡ k
-count_before e k d rising h =
-    let u = (get_or e.items k d).unix_leap_time -ℤ pos 1 in
-    elim (cases_lt k (count_at e u)) [
-      | inl b ↦ let a = (come_by e k d u rising h).0 b in absurd (omega (arith, ints))
-      | inr m ↦ elim (cases_lt (count_at e u) k) [
-        | inl b ↦
-            let r = rising (count_at e u) k d b h in
-            let a = (come_by e (count_at e u) d u rising (omega arith)).1 (omega (arith, ints)) in absurd (omega arith)
-        | inr n ↦ omega arith
-      ]
-    ]
+count_before e k d rising h = let same : suc k ≡ k + 1 = omega arith in rw (← begin_next e.items k d h, ← same) (place_before e.items k rising h)
 
 -- a second before one with a leap time has one
 earlier_time : (z : Zone) (u v y : ℤ) → IsValid z → u ≤ℤ v → IsLeapTime z.leaps v y → (x : ℤ) × IsLeapTime z.leaps u x
@@ -217,9 +201,6 @@ table_change z e d valid made is table =
           let t = amid_type z e d.at m d.after valid made is.fits some same amid is.after in
           absurd (is.differ (some_same (sym s ∙ t)))
     ]
-  where
-    some_same : {a b : LocalType} → Some a ≡ Some b → a ≡ b
-    some_same e = cc
 
 -- before an entry comes some transition has not
 in_table : (z : Zone) (e : Entries) (k : ℕ) (c : Change) → IsValid z → AreEntries z e → k < length e.items → IsChange (TypeAt z) c → ((d : Transition) → c.at ≡ (get_or e.items k d).unix_leap_time)
@@ -437,6 +418,3 @@ span_between z e u b t valid made h is fits low high has =
         );
       };
     }
-  where
-    some_same : {a b : LocalType} → Some a ≡ Some b → a ≡ b
-    some_same e = cc

@@ -8,7 +8,7 @@ use Rattle.tz_info.proofs.Words.{inl, inr, int_le, ints, last_else, le_false, le
 use Rattle.tz_info.proofs.Words.{take, take_all, true, w64, zero, ℕ, ℤ, [], ◌++◌, ◌+◌, ◌-◌, ◌==◌, ◌<ℤ◌, ◌<◌, ◌↔◌, ◌∙◌, ◌∷◌, ◌≡◌, ◌≢◌, ◌≤ℤ◌, ◌≤◌, ◌⊎◌}
 use Rattle.std.specs.Prelude.{option_to_list}
 use Rattle.std.proofs.lemmas.Option.{slice_get_within}
-use Rattle.tz_info.proofs.{LeapSearch.{own_leap_time}, LeapStarts.{reached_first}, Prefixes.{last_taken}, SegmentLaws.{come_by_time, not_later, split_at, split_count}, ZoneChanges.{refused_on}}
+use Rattle.tz_info.proofs.{LeapSearch.{own_leap_time}, LeapStarts.{reached_first}, Prefixes.{last_taken}, SegmentLaws.{come_by_time, not_later, place_most}, ZoneChanges.{refused_on}}
 use Rattle.tz_info.specs.Steps.Entries.{AreBefore, AreEntries, EndsAt, IsAdded, IsStartIn, NeverComes, added, idle, last_index, none_there, one_there}
 
 -- ---- lists with one item more
@@ -227,9 +227,6 @@ one_more z old kept entries k s t entry is_last valid more item made start befor
 all_passed : (ts : List Transition) (x : ℤ) → AreRising ts → length (passed ts x) ≡ length ts → (k : ℕ) (d : Transition) → k < length ts → (get_or ts k d).unix_leap_time ≤ℤ x
 all_passed ts x rising e k d h = (come_by_time ts x k d rising h).0 (omega arith)
 
-passed_most : (ts : List Transition) (x : ℤ) → AreRising ts → length (passed ts x) ≤ length ts
-passed_most ts x rising = let p = split_at ts x rising in let w = p.1.within in let e = split_count ts x p.0 p.1 in omega arith
-
 from_last : (z : Zone) (entries : List Transition) (u x : ℤ) → IsValid z → AreMadeOf z entries (length z.transitions) → IsLeapTime z.leaps u x
     → IsFromLast z x ↔ (length (passed entries u) ≡ length entries)
 from_last z entries u x valid made l = (
@@ -242,7 +239,7 @@ from_last z entries u x valid made l = (
         let last : (d : Transition) → (get_or z.transitions k d).unix_leap_time ≤ℤ x = λ d. made.last k d (omega arith) refl u x l (all_passed entries u made.rising come) in
         ap length (passed_all z.transitions x (λ i d h.
         let n = not_later z.transitions i k d valid.transitions.rising (omega arith) (omega arith) in let m = last d in omega (arith, ints)))
-    | inr none ↦ let m = passed_most z.transitions x valid.transitions.rising in omega arith
+    | inr none ↦ let m = place_most z.transitions x valid.transitions.rising in omega arith
   ],
 )
 
@@ -284,7 +281,7 @@ never_come z entries k all t valid more item never a made =
             let late = never u x f l in
             let c = all_passed z.transitions x valid.transitions.rising come k t more in
             let g = ap (λ (b : Transition). b.unix_leap_time) item in absurd (omega (arith, ints)),
-        λ come. let m = passed_most entries u made.rising in absurd (omega arith),
+        λ come. let m = place_most entries u made.rising in absurd (omega arith),
       );
       leap_time = made.leap_time;
       differ = λ j h m. made.differ j h (inr more);

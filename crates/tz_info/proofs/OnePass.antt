@@ -22,6 +22,9 @@ pieces_found types ts place before behind p q b a pieces = record {
   pieces = rw (b.offset, a.offset, b.index, a.index) at pieces;
 }
 
+some_same : {a b : LocalType} → Some a ≡ Some b → a ≡ b
+some_same e = cc
+
 -- ---- pieces that are pushed
 
 start_by_later : (ps : List Piece) (a b : ℤ) → StartBy ps a → a ≤ℤ b → StartBy ps b
@@ -165,9 +168,6 @@ open_more z ts top place i ps out latest p q table inner_start own o a strict e 
           let segment = last_pieces z ts top place y a.type table own inner_start (omega arith) refl a.listed a.offset in
           pieces_joined z ts 0 place (suc place) (Once i) (Skipped place) closed (piece begin (Once y) ∷ []) all table.rising inner_start (omega arith) first segment r.merged;
     })
-  where
-    some_same : {a b : LocalType} → Some a ≡ Some b → a ≡ b
-    some_same e = cc
 
 -- where the next cut doesn't come behind the latest, they cross
 pub crossed_by : (z : Zone) (ts : List Transition) (place i : ℕ) (ps : List Piece) (latest cut : ℤ) → place ≤ length ts → 1 < place → AreOpen z ts place i ps latest → IsCutAt z.types ts place cut → cut ≤ℤ latest → AreCutsCrossed z.types ts

@@ -1,7 +1,7 @@
 -- Segments: which one a second lies in, and the type in force there.
 use Rattle.tz_info.proofs.Words.{AreLeapSeconds, AreRising, HasType, IsBeforeLast, IsFromLast, IsLeapTime, IsValid, List, LocalType, RuleOrType, Transition}
 use Rattle.tz_info.proofs.Words.{TypeIn, Zone, ap, arith, begin_of, by_lt_z, cases_lt, correction_at, get_or, index_of, inl, inr, ints, least_time}
-use Rattle.tz_info.proofs.Words.{length, length-take, passed, refl, segment_of, suc, sym, take, zero, ℕ, ℤ, [], ◌+ℤ◌, ◌+◌, ◌<ℤ◌, ◌<◌, ◌↔◌, ◌∙◌, ◌∷◌, ◌≡◌, ◌≤ℤ◌}
+use Rattle.tz_info.proofs.Words.{length, length-take, passed, pos, refl, segment_of, suc, sym, take, zero, ℕ, ℤ, [], ◌+ℤ◌, ◌+◌, ◌-ℤ◌, ◌<ℤ◌, ◌<◌, ◌↔◌, ◌∙◌, ◌∷◌, ◌≡◌, ◌≤ℤ◌}
 use Rattle.tz_info.proofs.Words.{◌≤◌}
 use Rattle.tz_info.proofs.{LeapOrder.{leap_sums_rise}, PassedTransitions.{no_items}, Prefixes.{last_taken}, TableSearch.{Between, search_found}}
 
@@ -190,3 +190,26 @@ places_rise ts u v rising h =
     let p = split_at ts u rising in let q = split_at ts v rising in
     let e = split_count ts u p.0 p.1 in let f = split_count ts v q.0 q.1 in
     let r = splits_rise ts u v p.0 q.0 h p.1 q.1 in omega arith
+
+-- at the begin of segment k, and a second before the next
+pub place_begin : (ts : List Transition) (k : ℕ) → AreRising ts → 0 < k → k ≤ length ts → length (passed ts (begin_of ts k)) ≡ k
+place_begin ts k rising some within =
+    let u : ℤ = begin_of ts k in
+    let most = place_most ts u rising in
+    let from = (come_from ts k u rising some within).1 (omega (arith, ints)) in
+    elim (cases_lt k (length (passed ts u))) [
+      | inl b ↦ let late = (come_from ts (suc k) u rising (omega arith) (omega arith)).0 b in let r = begins_rise ts k rising some (omega arith) in absurd (omega (arith, ints))
+      | inr m ↦ omega arith
+    ]
+
+pub place_before : (ts : List Transition) (k : ℕ) → AreRising ts → k < length ts → length (passed ts (begin_of ts (suc k) -ℤ pos 1)) ≡ k
+place_before ts k rising within =
+    let u : ℤ = begin_of ts (suc k) -ℤ pos 1 in
+    let c = come_from ts (suc k) u rising (omega arith) (omega arith) in
+    elim (cases_lt k (length (passed ts u))) [
+      | inl b ↦ let late = c.0 b in absurd (omega (arith, ints))
+      | inr m ↦ elim (cases_lt 0 k) [
+        | inl some ↦ let r = begins_rise ts k rising some within in let f = (come_from ts k u rising some (omega arith)).1 (omega (arith, ints)) in omega arith
+        | inr none ↦ omega arith
+      ]
+    ]

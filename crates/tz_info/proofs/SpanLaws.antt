@@ -150,10 +150,6 @@ span_between z u t last next valid limits fits h before after = record {
   };
 }
 
-later : (begin : Option ℤ) (v u : ℤ) → u ≤ℤ v → IsSince begin u → IsSince begin v
-later None v u h k = tt
-later (Some x) v u h k = omega (arith, ints)
-
 abbrev span_of : LocalType → Option ℤ → Option ℤ → Span
 span_of t from until = record { local_time_type = t; from = from; until = until }
 

@@ -2,16 +2,16 @@
 use Rattle.tz_base.specs.LocalTypes.{IsUtOffset}
 use Rattle.tz_info.specs.Looks.{RoseByWallClock}
 use Rattle.tz_timeline.specs.Counts.{RoseByPieces}
-use Rattle.tz_info.proofs.Words.{AreExtremes, ArePieces, AreRising, Counts, Extremes, HasReach, IsWide, Piece, RoseWithin, nat_tests, offsets, w32, ◌*◌}
-use Rattle.tz_info.proofs.Words.{AreBelow, AreLess, AreListed, Change, HasGap, HasType, IsBegun, IsFromLast, IsIndex, IsJump, IsLeapTime, IsNear}
-use Rattle.tz_info.proofs.Words.{IsPlaced, IsRuleOrNone, IsShownAmong, IsStart, IsTable, IsTableAnswer, IsTableLess, IsValid, IsWallAnswer, IsWindowOf, Jumps, List}
+use Rattle.tz_info.proofs.Words.{AreExtremes, ArePieces, Counts, Extremes, HasReach, IsWide, Piece, RoseWithin, nat_tests, offsets, w32, ◌*◌}
+use Rattle.tz_info.proofs.Words.{AreBelow, AreLess, AreListed, Change, HasGap, HasType, IsBegin, IsBegun, IsBegunNear, IsIndex, IsJump, IsLeapTime, IsNear}
+use Rattle.tz_info.proofs.Words.{IsRuleOrNone, IsShownAmong, IsStart, IsTable, IsTableAnswer, IsTableLess, IsValid, IsWallAnswer, IsWindowOf, Jumps, List}
 use Rattle.tz_info.proofs.Words.{LocalResult, LocalType, MatchOption, None, Option, SFits, Shown, ShownAmong, Some, Transition, TransitionRule, TypeAt, Zone, ap, arith}
-use Rattle.tz_info.proofs.Words.{begin_of, by_lt_z, cases_lt, index_of, inl, inr, ints, last_else, length, map, passed, place_at, pos, refl, segment_of, shown_indexes}
-use Rattle.tz_info.proofs.Words.{slice_get, suc, sym, table_count, table_count_by, top_of, w64, zero, ℕ, ℤ, [], ◌+ℤ◌, ◌+◌, ◌-ℤ◌, ◌-◌, ◌<ℤ◌, ◌<◌, ◌↔◌, ◌∙◌, ◌≡◌}
-use Rattle.tz_info.proofs.Words.{◌≤ℤ◌, ◌≤◌, ◌⊎◌}
+use Rattle.tz_info.proofs.Words.{begin_of, by_lt_z, cases_lt, index_of, inl, inr, ints, last_else, least_time, length, map, place_at, pos, refl, segment_of, shown_indexes}
+use Rattle.tz_info.proofs.Words.{slice_get, suc, sym, table_count, table_count_by, top_of, w64, zero, ℕ, ℤ, [], ◌+◌, ◌-ℤ◌, ◌-◌, ◌<ℤ◌, ◌<◌, ◌↔◌, ◌∙◌, ◌≡◌}
+use Rattle.tz_info.proofs.Words.{◌≤ℤ◌, ◌≤◌}
 use Rattle.tz_info.specs.declared.zone.shown.Shown.TheVariants.{Less, Once, Several, Skipped}
 use Rattle.tz_info.proofs.{EntryChanges.{index_there, looks_most}, ExtremeLaws.{window_made}, GapLaws.{IsNever, gap_found, not_less}, PassedTransitions.{no_items}, TableSearch.{search_found}, ZoneChanges.{time_of}}
-use Rattle.tz_info.proofs.SegmentLaws.{begins_rise, come_at_time, come_from, place_most, segment_here, segment_most}
+use Rattle.tz_info.proofs.SegmentLaws.{come_at_time, come_from, place_before, place_begin, place_most, segment_here, segment_most}
 use Rattle.tz_info.proofs.WallSegments.{indexes_below, leap_time_of, shown_inside, type_in_table, type_of_table, typed_answer}
 use Rattle.tz_info.specs.Steps.Entries.{AreEntries, Entries, most_looks}
 
@@ -104,7 +104,7 @@ table_typed z l s answer valid listed (e, made, wall) =
     typed_answer z e.items (top_of z.rule e) l (shown_indexes s) answer (table_of z e valid made) (λ u t fits k. same_table z e u valid made fits (time_then z u t k)) listed wall
 
 -- the rule is asked from the last transition on
-pub start_begun : (z : Zone) (e : Entries) (s : ℤ) → IsValid z → AreEntries z e → IsBegun e s → IsStart z.transitions z.leaps (length z.transitions) s
+pub start_begun : (z : Zone) (e : Entries) (s : ℤ) → IsValid z → AreEntries z e → IsBegunNear e s → IsStart z.transitions z.leaps (length z.transitions) s
 start_begun z e s valid made begun u x near l =
     let fits : SFits w64 u = let p = near.0 in let q = near.1 in omega (arith, ints) in
     let seg = come_at_time z u x l in
@@ -112,28 +112,15 @@ start_begun z e s valid made begun u x near l =
     let c = made.come u x fits l in let b = begun u near in
     ((λ h. b.0 (c.0 (omega arith))), (λ h. let q = c.1 (b.1 h) in omega arith))
 
--- ---- where a segment begins
-place_begin : (ts : List Transition) (k : ℕ) → AreRising ts → 0 < k → k ≤ length ts → place_at ts (begin_of ts k) ≡ k
-place_begin ts k rising some within =
-    let u : ℤ = begin_of ts k in
-    let most = place_most ts u rising in
-    let from = (come_from ts k u rising some within).1 (omega (arith, ints)) in
-    elim (cases_lt k (place_at ts u)) [
-      | inl b ↦ let late = (come_from ts (suc k) u rising (omega arith) (omega arith)).0 b in let r = begins_rise ts k rising some (omega arith) in absurd (omega (arith, ints))
-      | inr m ↦ omega arith
-    ]
-
-place_before : (ts : List Transition) (k : ℕ) → AreRising ts → k < length ts → place_at ts (begin_of ts (suc k) -ℤ pos 1) ≡ k
-place_before ts k rising within =
-    let u : ℤ = begin_of ts (suc k) -ℤ pos 1 in
-    let c = come_from ts (suc k) u rising (omega arith) (omega arith) in
-    elim (cases_lt k (place_at ts u)) [
-      | inl b ↦ let late = c.0 b in absurd (omega (arith, ints))
-      | inr m ↦ elim (cases_lt 0 k) [
-        | inl some ↦ let r = begins_rise ts k rising some within in let f = (come_from ts k u rising some (omega arith)).1 (omega (arith, ints)) in omega arith
-        | inr none ↦ omega arith
-      ]
-    ]
+pub begin_by : (z : Zone) (e : Entries) (s : ℤ) → IsValid z → AreEntries z e → least_time ≤ℤ s → IsBegun e s → IsBegin z s
+begin_by z e s valid made low begun = record {
+  comes = λ u x fits l. let c = made.come u x fits l in let b = begun u fits in ((λ h. b.0 (c.0 h)), (λ h. c.1 (b.1 h)));
+  alone = λ none.
+      let all = none_come z e valid made none in
+      let few = made.few in
+      let most = place_most e.items least_time made.rising in
+      let b = (begun least_time (omega (arith, ints))).0 (omega arith) in omega (arith, ints);
+}
 
 -- ---- the gap where a segment begins
 jump_found : (z : Zone) (e : Entries) (l low high : ℤ) (k : ℕ) (c : Change) → IsValid z → IsRuleOrNone z.rule → AreEntries z e → IsNever z l → IsWindowOf z l l low high
@@ -171,12 +158,6 @@ gap_by_index z e l low high (Skipped k) (Some c) valid limits made never reach s
 gap_by_index z e l low high (Once i) c valid limits made never reach shown jump = let h = shown.wall in absurd (never h.second h.shown.local_type h.shown.shows)
 gap_by_index z e l low high (Several i j) c valid limits made never reach shown jump = let h = shown.wall in absurd (never h.first h.at_first.local_type h.at_first.shows)
 
-pub placed : (z : Zone) (e : Entries) (l : ℤ) (s : Shown) → IsValid z → AreEntries z e → IsShownAmong z e.items 0 (top_of z.rule e) l s → IsPlaced (length e.items) s
-placed z e l Less valid made shown = tt
-placed z e l (Skipped k) valid made shown = let table = table_of z e valid made in let w = table.within in let i = shown.side.inside in (shown.side.some, omega arith)
-placed z e l (Once i) valid made shown = tt
-placed z e l (Several i j) valid made shown = tt
-
 -- two seconds between which clocks may come to show the local time
 pub reach_of : (z : Zone) (l : ℤ) (x : Extremes) → IsWide l → SFits w32 x.greatest → SFits w32 x.least → AreExtremes (offsets z.types z.rule) x → HasReach z l
 reach_of z l x wide fg fl found = (
@@ -202,7 +183,7 @@ rose_by_wall z a b c n few pieces looked rule =
     }
 
 -- ---- the index
-pub pieces_index : (z : Zone) (e : Entries) (b : Shown) (ps : List Piece) (s : ℤ) → AreEntries z e → ArePieces z e.items 0 (top_of z.rule e) b ps → IsBegun e s
+pub pieces_index : (z : Zone) (e : Entries) (b : Shown) (ps : List Piece) (s : ℤ) → AreEntries z e → ArePieces z e.items 0 (top_of z.rule e) b ps → IsBegunNear e s
     → IsIndex z e (record { before = b; pieces = ps; rule_from = s })
 pieces_index z e b ps s made pieces begun =
     let least = top_least z.rule e made.more in
@@ -217,7 +198,7 @@ pieces_index z e b ps s made pieces begun =
     }
 
 -- without entries
-pub no_segments : (z : Zone) (e : Entries) (s : ℤ) → length e.items ≡ 0 → top_of z.rule e ≡ 0 → IsBegun e s → (0 < length z.transitions → s ≡ pos 9_223_372_036_854_775_807)
+pub no_segments : (z : Zone) (e : Entries) (s : ℤ) → length e.items ≡ 0 → top_of z.rule e ≡ 0 → IsBegunNear e s → (0 < length z.transitions → s ≡ pos 9_223_372_036_854_775_807)
     → IsIndex z e (record { before = Less; pieces = []; rule_from = s })
 no_segments z e s none top begun never = record {
   most = omega arith;
@@ -227,7 +208,7 @@ no_segments z e s none top begun never = record {
   rule_from = begun;
 }
 
-pub one_segment : (z : Zone) (e : Entries) (s : ℤ) (i : ℕ) (t : LocalType) → IsValid z → AreEntries z e → length e.items ≡ 0 → 0 < top_of z.rule e → IsBegun e s → (0 < length z.transitions → s ≡ pos 9_223_372_036_854_775_807)
+pub one_segment : (z : Zone) (e : Entries) (s : ℤ) (i : ℕ) (t : LocalType) → IsValid z → AreEntries z e → length e.items ≡ 0 → 0 < top_of z.rule e → IsBegunNear e s → (0 < length z.transitions → s ≡ pos 9_223_372_036_854_775_807)
     → i ≡ index_of e.items 0 → HasType z i t → IsUtOffset t.offset → IsIndex z e (record { before = Once i; pieces = []; rule_from = s })
 one_segment z e s i t valid made none some begun never is has offset =
     let table = table_of z e valid made in

@@ -5,10 +5,10 @@ use Rattle.tz_info.proofs.Words.{IsTable, IsUtOffset, IsValid, IsWallAnswer, IsW
 use Rattle.tz_info.proofs.Words.{Shown, ShownAmong, Shows, Some as some, Transition, TransitionRule, TypeAt, TypeIn, Zone, all_pairs_push, ap, arith, begin_of}
 use Rattle.tz_info.proofs.Words.{by_lt_z, cases_lt, cut_of, index_of, inl, inr, ints, le_false, le_true, length, nat_tests, place_at, refl, segment_of, shown_indexes}
 use Rattle.tz_info.proofs.Words.{subst, suc, table_count, table_count_by, together, w64, zero, ℕ, ℤ, [], ⊎_elim, ◌+ℤ◌, ◌+◌, ◌-ℤ◌, ◌<ℤ◌, ◌<◌, ◌↔◌, ◌∷◌, ◌≡◌}
-use Rattle.tz_info.proofs.Words.{◌≤ℤ◌, ◌≤◌, ◌⊎◌, pos, sym, ◌-◌}
+use Rattle.tz_info.proofs.Words.{◌≤ℤ◌, ◌≤◌, ◌⊎◌}
 use Rattle.tz_info.specs.declared.zone.shown.Shown.TheVariants.{Less, Once, Skipped}
 use Rattle.tz_info.proofs.{AnswerLaws.{Parts, joined_answer, same_answer}, LeapOrder.{leap_times_answer}, LeapStarts.{saturated, saturated_rise}}
-use Rattle.tz_info.proofs.SegmentLaws.{begins_rise, come_at_time, come_from, later_segment, place_most, places_rise, segment_at, segment_most, segments_rise}
+use Rattle.tz_info.proofs.SegmentLaws.{begins_rise, come_at_time, come_from, place_most, places_rise, segment_most}
 use Rattle.tz_info.proofs.SegmentLaws.{type_before, type_from, type_in_before, type_in_from}
 use Rattle.std.proofs.lemmas.Option.{slice_get_within}
 use Rattle.tz_info.proofs.{ShownLaws.{side_together, wall_together}, TableSearch.{Between}, ZoneLaws.{leap_time_decided}}
@@ -87,16 +87,6 @@ pub pieces_joined : (z : Zone) (ts : List Transition) (low middle high : ℕ) (b
 pieces_joined z ts low middle high bx by xs ys out rising h k a b m = grind (arith, shown_joined)
 
 -- ---- one segment between entries
-
-pub table_less : (z : Zone) (ts : List Transition) (high top : ℕ) → IsTable z ts top → high ≤ top → IsTable z ts high
-table_less z ts high top t h = record {
-  rising = t.rising;
-  some = t.some;
-  indexes = t.indexes;
-  within = let w = t.within in omega arith;
-  listed = λ u f fits below k. t.listed u f fits (omega arith) k;
-  in_force = λ u f near below k. t.in_force u f near (omega arith) k;
-}
 
 type_there : (z : Zone) (ts : List Transition) (top k : ℕ) (u : ℤ) (f t : LocalType) → IsTable z ts top → k < top → SFits w64 u → HasType z (index_of ts k) t → place_at ts u ≡ k → TypeAt z u f → f ≡ t
 type_there z ts top k u f t table own fits has e h = listed_once z (index_of ts k) f t (rw e at (table.listed u f fits (omega arith) h)) has

@@ -109,7 +109,7 @@ pub use Rattle.tz_info.specs.Steps.ChangeLists.{rule_type, rule_type_or, type_at
 unfoldable pub use Rattle.tz_info.specs.Steps.ChangeLists.{changes_of, seconds_between, type_or_none}
 pub use Rattle.tz_info.specs.Steps.Held.{IsEndOrTyped}
 pub use Rattle.tz_info.specs.Steps.LastSpans.{IsLastSpan}
-pub use Rattle.tz_info.specs.Steps.Changes.{AreIn, ComesAt, IsAhead, IsAheadUpTo, IsBegin}
+pub use Rattle.tz_info.specs.Steps.Changes.{AreIn, IsAhead, IsAheadUpTo, IsBegin}
 pub use Rattle.tz_info.specs.Steps.Changes.{IsChangeByRule, IsEarlierOf, IsIdle, IsIdleTo, IsInStretch, IsInTable, IsLaterOf, IsNearRuleTime, IsOfYear, IsOneOf}
 pub use Rattle.tz_info.specs.Steps.Changes.{IsStretchAhead, far_side, near_end, near_side, nearer_one, new_year, year_at}
 unfoldable pub use Rattle.tz_info.specs.Steps.Changes.{moments_near}
@@ -150,7 +150,7 @@ pub use Rattle.tz_info.specs.TzGrammar.{IsTextFault, IsTzText, is_letter, is_not
 unfoldable pub use Rattle.tz_info.specs.TzGrammar.{alternate, date, day, days, dst_offset, duration, end, fixed, given_offset, julian_date, month_date, named}
 unfoldable pub use Rattle.tz_info.specs.TzGrammar.{next_hour, offset, optional_time, rule, text, time}
 pub use Rattle.tz_info.specs.WallClocks.{AreShown, IsAmongShown, Shows}
-pub use Rattle.tz_info.specs.Steps.WallPieces.{AreInOrder, AreLessAmong, IsBegun, IsIndex, IsShownAmong, IsSideAmong, IsStart, IsTable, IsTableAnswer}
+pub use Rattle.tz_info.specs.Steps.WallPieces.{AreInOrder, AreLessAmong, IsBegun, IsBegunNear, IsIndex, IsShownAmong, IsSideAmong, IsStart, IsTable, IsTableAnswer}
 pub use Rattle.tz_info.specs.Steps.WallPieces.{IsTableLess, Jumps, ListedAmong, ShownAmong, WallIndex, answer_at, answer_before, place_at, shown_indexes, top_of}
 pub use Rattle.tz_info.specs.Windows.{IsGreatest, IsLeast, IsWindow, IsWindowCount, come_between, offsets, rule_offsets}
 pub use Rattle.tz_info.specs.ZoneEquality.{zone_eq}

@@ -1,15 +1,15 @@
 -- Where a zone's types change: at its transitions, and behind them where the rule's types do.
 use Rattle.std.proofs.lemmas.List.Sums.{sum_by-le-sum_by}
-use Rattle.tz_info.proofs.Words.{Alternate as AlternateRule, AlternateAt, AreLeapSeconds, Change, Bool, ComesAt}
+use Rattle.tz_info.proofs.Words.{Alternate as AlternateRule, AlternateAt, AreLeapSeconds, Change, Bool}
 use Rattle.tz_info.proofs.Words.{HasNoChange, false, true, HaveCome, IsAhead, IsBegin, IsChangeByRule, IsChange, IsFirst, IsFirstChange, IsInTable}
 use Rattle.tz_info.proofs.Words.{IsLast, IsLastChange, IsLeapTime, IsLeapTimeRefused, IsNearest, IsRuleTime, IsValid, LeapSecond, List, LocalType}
-use Rattle.tz_info.proofs.Words.{Option, RuleOrType, SFits, Some, Transition, TypeAt, Zone, arith, cases_lt, cond}
-use Rattle.tz_info.proofs.Words.{get_or, inl, inr, int_le, ints, length, nat_tests, passed_count, pos, refl, segment_of, suc}
-use Rattle.tz_info.proofs.Words.{thresholds, w64, zero, ℕ, ℤ, ◌+◌, ◌-ℤ◌, ◌-◌, ◌<ℤ◌, ◌<◌, ◌↔◌, ◌≡◌, ◌≤ℤ◌, ◌≤◌, ◌⊎◌}
+use Rattle.tz_info.proofs.Words.{Option, RuleOrType, SFits, Some, TypeAt, Zone, arith, cases_lt, cond}
+use Rattle.tz_info.proofs.Words.{get_or, inl, inr, int_le, ints, length, nat_tests, passed_count, pos, refl, segment_of, suc, sym}
+use Rattle.tz_info.proofs.Words.{thresholds, w64, zero, ℕ, ℤ, ◌-ℤ◌, ◌-◌, ◌<ℤ◌, ◌<◌, ◌↔◌, ◌∙◌, ◌≡◌, ◌≤ℤ◌, ◌≤◌, ◌⊎◌}
 use Rattle.tz_info.specs.declared.rule.transition_rule.TransitionRule.TheVariants.{Alternate}
 use Rattle.tz_info.proofs.{ChangeSearch.{nearest_moved}, GapLaws.{HasOneType, one_type}, LeapEntries.{follow, threshold_at}, LeapOrder.{bounded}}
 use Rattle.tz_info.proofs.{LeapStarts.{correction_behind, reached_later, times_rise}, RuleChanges.{rule_second}}
-use Rattle.tz_info.proofs.SegmentLaws.{come_at_time, come_by_time, later_segment, segment_at, segment_most, segments_rise, type_from, type_in_from}
+use Rattle.tz_info.proofs.SegmentLaws.{come_at_time, later_segment, segment_at, segment_most, segments_rise, type_from, type_in_from}
 use Rattle.tz_info.proofs.ZoneLaws.{leap_time_decided}
 
 -- ---- which seconds have a leap time
@@ -78,7 +78,7 @@ from_rule z a u t valid rule e k = elim (cases_lt 0 (length z.transitions)) [
 pub begun : (z : Zone) (begin u : ℤ) (t : LocalType) → IsValid z → IsBegin z begin → SFits w64 u → TypeAt z u t → segment_of z u ≡ length z.transitions
     → begin ≤ℤ u
 begun z begin u t valid h fits k e = elim (cases_lt 0 (length z.transitions)) [
-  | inl some ↦ (h.comes (length z.transitions - 1) (omega arith) u k.leap_time (time_of z u t some k)).0 (omega arith)
+  | inl some ↦ let l = time_of z u t some k in (h.comes u k.leap_time fits l).0 (come_at_time z u k.leap_time l ∙ e)
   | inr none ↦ let b = h.alone (omega arith) in omega (arith, ints)
 ]
 
@@ -88,8 +88,7 @@ begins z begin u valid h within from =
     elim (cases_lt 0 (length z.transitions)) [
       | inl some ↦
           let x = rule_leap_time z.leaps u valid.leaps within in
-          let c = (h.comes (length z.transitions - 1) (omega arith) u x.0 x.1).1 from in
-          omega arith
+          sym (come_at_time z u x.0 x.1) ∙ (h.comes u x.0 (omega (arith, ints, within)) x.1).1 from
       | inr none ↦ omega arith
     ]
 
@@ -148,12 +147,6 @@ rule_first z within found valid none =
     (λ d is inside. elim (in_either z within d.at valid inside) [ inl t ↦ absurd (none d is t) | inr r ↦ (is, r) ])
     (λ d is inside. (is, inside.inside))
 
--- ---- from which second on a transition has come
-pub comes_at : (z : Zone) (place : ℕ) (t : Transition) (start : ℤ) → IsValid z → place < length z.transitions → t ≡ get_or z.transitions place t
-    → ((u y : ℤ) → IsLeapTime z.leaps u y → (t.unix_leap_time ≤ℤ y) ↔ (start ≤ℤ u)) → ComesAt z place start
-comes_at z place t start valid h item reached u y l =
-    let come = come_by_time z.transitions y place t valid.transitions.rising h in grind (arith, come_at_time)
-
 -- ---- the rule's changes come after the table's
 pub rule_is_last : (z : Zone) (within : ℤ → Type 0) (c : Change) → IsValid z → IsLastChange (TypeAt z) (IsChangeByRule z within) c
     → IsLastChange (TypeAt z) within c
@@ -168,12 +161,6 @@ table_is_last z within found valid none =
     nearest_moved false (TypeAt z) (TypeAt z) (IsInTable z within) within found
     (λ d is inside. elim (in_either z within d.at valid inside) [ inl t ↦ (is, t) | inr r ↦ absurd (none d is r) ])
     (λ d is inside. (is, inside.inside))
-
-pub begin_last : (z : Zone) (place : ℕ) (start : ℤ) → place + 1 ≡ length z.transitions → ComesAt z place start → IsBegin z start
-begin_last z place start e comes = record {
-  comes = λ k f. let same : k ≡ place = omega arith in rw same comes;
-  alone = λ none. absurd (omega arith);
-}
 
 -- ---- the first second at which a leap time has come
 pub reached_exactly : (es : List LeapSecond) (x u y p q : ℤ) (n : ℕ) (d : LeapSecond) → AreLeapSeconds es → HaveCome es x n → 0 < n → p ≡ correction_behind es (n - 1) → q ≡ correction_behind es n

@@ -1,6 +1,7 @@
 -- The way to the next and to the previous change.
-use Rattle.std.specs.Prelude.{ℕ, ◌<◌, ◌+◌, length, neg_ℤ, List, [], ◌∷◌, slice_index_or, ℤ, pos, ◌+ℤ◌, ◌-ℤ◌, ◌*ℤ◌, ◌≤ℤ◌, ◌<ℤ◌, ◌↔◌, ◌≡◌}
-use Rattle.std.specs.Prelude.{Option, Some, None, Bool, true, false, if◌then◌else◌, int_lt}
+use Rattle.std.specs.Prelude.{ℕ, ◌<◌, length, neg_ℤ, List, [], ◌∷◌, slice_index_or, ℤ, pos, ◌+ℤ◌, ◌-ℤ◌, ◌*ℤ◌, ◌≤ℤ◌, ◌<ℤ◌, ◌↔◌, ◌≡◌}
+use Rattle.std.specs.Prelude.{Option, Some, None, Bool, true, false, FitsSigned, if◌then◌else◌, int_lt}
+use Rattle.std.specs.Int.{w64}
 use Rattle.naive_base.specs.Year.{year_start}
 use Rattle.tz_base.specs.LocalTypes.{LocalType}
 use Rattle.tz_info.specs.Changes.{IsChange, HasNoChange, Precedes}
@@ -8,12 +9,8 @@ use Rattle.tz_info.specs.Leaps.{IsLeapTime}
 use Rattle.tz_info.specs.Moments.{AlternateAt, IsRuleTime, IsYearOf, start_in, end_in}
 use Rattle.tz_info.specs.Rules.{Alternate}
 use Rattle.tz_info.specs.Steps.Segments.{segment_of}
-use Rattle.tz_info.specs.Zones.{Zone}
+use Rattle.tz_info.specs.Zones.{Zone, IsFromLast}
 use Rattle.tz_base.specs.declared.change.Change.{Change}
-
--- the transition at place i has come if and only if the second is `start` or later
-abbrev pub ComesAt : Zone → ℕ → ℤ → Type 0
-ComesAt z i start = (u y : ℤ) → IsLeapTime z.leaps u y → (i < segment_of z u) ↔ (start ≤ℤ u)
 
 -- the first second of the year
 abbrev pub new_year : ℤ → ℤ
@@ -121,5 +118,5 @@ pub record IsChangeByRule (z : Zone) (within : ℤ → Type 0) (u : ℤ) : Type 
 
 -- all transitions have come from `begin` on, and not before; without transitions, from the first second of 64 bits on
 pub record IsBegin (z : Zone) (begin : ℤ) : Type 0 where
-  pub comes : (place : ℕ) → place + 1 ≡ length z.transitions → ComesAt z place begin
+  pub comes : (u x : ℤ) → FitsSigned w64 u → IsLeapTime z.leaps u x → IsFromLast z x ↔ (begin ≤ℤ u)
   pub alone : length z.transitions ≡ 0 → begin ≡ neg_ℤ (pos 9_223_372_036_854_775_808)

@@ -8,12 +8,12 @@ use Rattle.tz_base.specs.LocalTypes.{LocalType, IsUtOffset}
 use Rattle.tz_base.specs.declared.change.Change.{Change}
 use Rattle.tz_info.specs.Steps.Segments.{begin_of, index_of}
 use Rattle.tz_info.specs.Steps.WallPieces.{AreInOrder, IsShownAmong, answer_at}
-use Rattle.tz_info.specs.Zones.{Zone, HasType}
+use Rattle.tz_info.specs.Zones.{Zone}
 use Rattle.tz_info.specs.declared.zone.segments.Segment.{Segment}
 use Rattle.tz_info.specs.declared.zone.pieces.Piece.{Piece}
 use Rattle.tz_info.specs.declared.zone.segments.Lists.{Lists}
 use Rattle.tz_info.specs.declared.zone.shown.Shown.{Shown}
-use Rattle.tz_info.specs.declared.zone.shown.Shown.TheVariants.{Less, Skipped, Once, Several}
+use Rattle.tz_info.specs.declared.zone.shown.Shown.TheVariants.{Skipped, Once, Several}
 use Rattle.tz_info.specs.declared.zone.transition.Transition.{Transition}
 
 -- the zone of lists that are lent

@@ -111,9 +111,13 @@ IsTableLess z local = (u : ℤ) (t : LocalType) → IsNear u → segment_of z u 
 abbrev pub IsStart : List Transition → List LeapSecond → ℕ → ℤ → Type 0
 IsStart transitions leaps count start = (u x : ℤ) → IsNear u → IsLeapTime leaps u x → (count ≤ length (passed transitions x)) ↔ (start ≤ℤ u)
 
--- of the seconds near now, all transitions have come from that one on, by entries
+-- all transitions have come from that second on, by entries
 abbrev pub IsBegun : Entries → ℤ → Type 0
-IsBegun e start = (u : ℤ) → IsNear u → (place_at e.items u ≡ e.all) ↔ (start ≤ℤ u)
+IsBegun e start = (u : ℤ) → FitsSigned w64 u → (place_at e.items u ≡ e.all) ↔ (start ≤ℤ u)
+
+-- the same of the seconds near now
+abbrev pub IsBegunNear : Entries → ℤ → Type 0
+IsBegunNear e start = (u : ℤ) → IsNear u → (place_at e.items u ≡ e.all) ↔ (start ≤ℤ u)
 
 -- the pieces of a zone's wall-clock axis, what stands before the first of them, and the second from which its rule is asked
 pub record WallIndex : Type 0 where
@@ -121,11 +125,15 @@ pub record WallIndex : Type 0 where
   pub pieces : List Piece
   pub rule_from : ℤ
 
+-- one look at least is counted: at a piece, or in its place where there is none and the rule never begins
+abbrev pub IsCounted : WallIndex → Type 0
+IsCounted i = (0 < length i.pieces) ⊎ (i.rule_from ≡ pos 9_223_372_036_854_775_807)
+
 -- the index is that of the zone: its pieces stand in the order of their starts, at each local time they answer for all seconds of the table, which are those before
 -- the last transition, or without a rule all; and the rule is asked from the last transition on
 pub record IsIndex (z : Zone) (e : Entries) (i : WallIndex) : Type 0 where
   pub most : length i.pieces ≤ 2 * length e.items
-  pub some : 0 < length z.transitions → (0 < length i.pieces) ⊎ (i.rule_from ≡ pos 9_223_372_036_854_775_807)
+  pub some : 0 < length z.transitions → IsCounted i
   pub order : AreInOrder i.pieces
   pub answers : (local : ℤ) → IsWide local → IsShownAmong z e.items 0 (top_of z.rule e) local (answer_at i.before i.pieces local)
-  pub rule_from : IsBegun e i.rule_from
+  pub rule_from : IsBegunNear e i.rule_from

@@ -1,7 +1,7 @@
 //! A zone's transitions as one list of clock changes by Unix time.
 
 ghost use Rattle.std.specs.Prelude.{◌≡◌, [], ◌+◌, ◌<◌, ◌≤◌, ◌*◌, ◌^◌, length, IsTrue, ◌↔◌, map};
-ghost use Rattle.std.specs.Prelude.{option_map, slice_index_or, pos, IfSome, MatchOption, MatchResult, ⊤};
+ghost use Rattle.std.specs.Prelude.{option_map, slice_index_or, pos, neg_ℤ, ◌≤ℤ◌, IfSome, MatchOption, MatchResult, ⊤};
 ghost use Rattle.std.specs.List.{slice_get};
 ghost use Rattle.std.specs.Prelude.{vec_capacity, vec_len};
 ghost use Rattle.tz_base.specs.declared.error.Error.TheVariants.{OutOfMemory};
@@ -140,21 +140,22 @@ impl ChangeTable {
         }
     }
 
-    // The second from which the rule is asked: the greatest one, if it never is.
-    pub(super) fn rule_from(&self) -> i64
+    // The second from which the rule is asked: one that 64 bits don't hold, if it never is.
+    pub(super) fn rule_begin(&self) -> i128
         requires rising { AreRising self.now.items }
         requires more { length self.now.items ≤ self.now.all }
         ensures begun { IsBegun self.now result }
         ensures never { 0 < self.now.all → length self.now.items ≡ 0
-            → result ≡ pos 9_223_372_036_854_775_807 }
+            → pos 9_223_372_036_854_775_807 ≤ℤ result }
+        ensures bound { neg_ℤ (pos 9_223_372_036_854_775_808) ≤ℤ result }
     {
         if self.all == 0 {
-            return i64::MIN;
+            return i64::MIN as i128;
         }
         if self.all > self.len() {
-            return i64::MAX;
+            return i64::MAX as i128 + 1;
         }
-        self.second(self.all - 1)
+        self.second(self.all - 1) as i128
     }
 
     // The change where the segment at a jump's place begins. One look is counted.

@@ -7,7 +7,7 @@ ghost use Rattle.std.specs.Prelude.{◌≡◌, ◌≢◌, ◌<◌, length, pos, 
 ghost use Rattle.std.specs.Prelude.{option_map};
 ghost use Rattle.tz_info.specs.Changes.{IsChange, HasNoChange, IsFirst, IsLast, IsNearest};
 ghost use Rattle.tz_info.specs.Rules.{Alternate as AlternateRule};
-ghost use Rattle.tz_info.specs.Steps.Changes.{ComesAt, IsAhead, IsBegin, IsChangeByRule};
+ghost use Rattle.tz_info.specs.Steps.Changes.{IsAhead, IsBegin, IsChangeByRule};
 ghost use Rattle.tz_info.specs.Steps.Changes.{IsInTable};
 ghost use Rattle.tz_info.specs.HeldChanges.{change_held};
 ghost use Rattle.tz_info.specs.Zones.{HasType, TypeAt};
@@ -15,10 +15,8 @@ ghost use Rattle.tz_info.specs.declared.rule.transition_rule.TransitionRule.TheV
 
 use crate::change::{HeldChange, change_between, copied};
 use crate::rule::{AlternateTime, TransitionRule};
-use crate::zone::starts::first_second;
 use crate::zone::TimeZone;
 use tz_base::{Change, LocalTimeType};
-use tz_timeline::Probes;
 
 impl TimeZone {
     /// The first change of the clocks after that second, or `None` if none comes at a later second
@@ -177,22 +175,7 @@ impl TimeZone {
         ensures begin { IsBegin self.now result }
         ensures bound { neg_ℤ (pos 9_223_372_036_854_775_808) ≤ℤ result }
     {
-        let count = self.transition_count();
-        if count == 0 {
-            return i64::MIN as i128;
-        }
-        self.start_of(count - 1)
-    }
-
-    // The first second at which the transition at that place has come.
-    #[inline(never)]
-    fn start_of(&self, place: usize) -> i128
-        requires { place < length self.now.transitions }
-        ensures comes { ComesAt self.now place result }
-        ensures bound { neg_ℤ (pos 9_223_372_036_854_775_808) ≤ℤ result }
-    {
-        let mut probes = Probes::new();
-        let transition = self.transition(place, &mut probes);
-        first_second(&self.leap_seconds, transition.unix_leap_time)
+        let _ = &self.table;
+        self.changes.rule_begin()
     }
 }

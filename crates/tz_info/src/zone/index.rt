@@ -1,11 +1,12 @@
 //! A zone's index of the wall-clock axis.
 
-ghost use Rattle.std.specs.Prelude.{◌≡◌, ◌⊎◌, pos, ◌<◌, ◌^◌, length, MatchResult};
+ghost use Rattle.std.specs.Prelude.{◌≡◌, pos, ◌<◌, ◌≤◌, ◌^◌, length, MatchResult};
 ghost use Rattle.tz_base.specs.declared.error.Error.TheVariants.{OutOfMemory};
 ghost use Rattle.tz_timeline.specs.Counts.{RoseByPieces, HasRoomFor};
 ghost use Rattle.tz_info.specs.Steps.Entries.{AreEntries, most_looks};
 ghost use Rattle.tz_info.specs.Steps.Pieces.{zone_in, ArePieces};
-ghost use Rattle.tz_info.specs.Steps.WallPieces.{answer_at, IsIndex, top_of};
+ghost use Rattle.tz_info.specs.Steps.WallPieces.{answer_at, IsBegunNear, IsCounted, IsIndex, top_of};
+ghost use Rattle.tz_info.specs.Transitions.{AreRising};
 ghost use Rattle.tz_info.specs.Zones.{IsValid};
 
 use crate::zone::change_table::ChangeTable;
@@ -105,7 +106,7 @@ impl Index {
         Ok(Index {
             before: all.before,
             pieces,
-            rule_from: changes.rule_from(),
+            rule_from: rule_from(changes),
         })
     }
 
@@ -125,7 +126,7 @@ impl Index {
         Index {
             before,
             pieces: Timeline::none(alloc),
-            rule_from: changes.rule_from(),
+            rule_from: rule_from(changes),
         }
     }
 
@@ -151,9 +152,7 @@ impl Index {
         requires { HasRoomFor (2 ^ 64) probes.old.piece_reads }
         ensures answer { result ≡ answer_at self.now.before self.now.pieces local }
         ensures cost { RoseByPieces probes.old probes.new (most_looks (length self.now.pieces)) 0 }
-        ensures looked {
-            (0 < length self.now.pieces) ⊎ (self.now.rule_from ≡ pos 9_223_372_036_854_775_807)
-            → probes.old.piece_reads < probes.new.piece_reads }
+        ensures looked { IsCounted self.now → probes.old.piece_reads < probes.new.piece_reads }
     {
         if self.len() == 0 {
             if self.rule_from == i64::MAX {
@@ -166,4 +165,19 @@ impl Index {
             None => self.before,
         }
     }
+}
+
+// The second from which the rule is asked, of those of 64 bits: the last one, if it never is.
+fn rule_from(changes: &ChangeTable) -> i64
+    requires rising { AreRising changes.now.items }
+    requires more { length changes.now.items ≤ changes.now.all }
+    ensures begun { IsBegunNear changes.now result }
+    ensures never { 0 < changes.now.all → length changes.now.items ≡ 0
+        → result ≡ pos 9_223_372_036_854_775_807 }
+{
+    let begin = changes.rule_begin();
+    if begin > i64::MAX as i128 {
+        return i64::MAX;
+    }
+    begin as i64
 }

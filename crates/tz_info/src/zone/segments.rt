@@ -81,7 +81,12 @@ pub(super) struct Pieces {
 
 // The pieces of the segment after the first `place` entries, of which the first has no start and the
 // last no end.
-fn pieces_of_one(alloc: Global, lists: Lists, entries: &[Kept], place: usize) -> Result<Pieces, Error>
+fn pieces_of_one(
+    alloc: Global,
+    lists: Lists,
+    entries: &[Kept],
+    place: usize,
+) -> Result<Pieces, Error>
     requires table { IsTable (zone_in lists) entries.now (place + 1) }
     requires some { 0 < length entries.now }
     ensures { MatchResult result

@@ -1,5 +1,5 @@
-use Rattle.tz_info.proofs.Words.{IsSegment, List, Piece, SFits, Zone, add-one, ap, arith, cut_of, inl, ints, length, refl, rules, suc, to_z-of_z, w64, zone_in, ℤ}
-use Rattle.tz_info.proofs.Words.{[], ◌++◌, ◌+◌, ◌-◌, ◌∙◌, ◌∷◌, ◌≡◌, ◌≤◌}
+use Rattle.tz_info.proofs.Words.{List, Piece, SFits, add-one, ap, arith, cut_of, inl, ints, rules, suc, to_z-of_z, w64, zone_in}
+use Rattle.tz_info.proofs.Words.{[], ◌++◌, ◌-◌, ◌∙◌, ◌∷◌, ◌≡◌}
 use Rattle.tz_info.proofs.OnePass.{crossed_by, cuts_of, open_first, open_more}
 use Rattle.tz_info.proofs.zone.one_pass.pieces_in_one_pass.Goals.{else-count-entries, then-count-entries+else-is_crossed-2+in_ok-piece}
 use Rattle.tz_info.proofs.zone.one_pass.pieces_in_one_pass.Goals as goal

@@ -1,4 +1,4 @@
-use Rattle.tz_info.proofs.{Words.{arith}, WallSegments.{pieces_joined, table_less}}
+use Rattle.tz_info.proofs.{Words.{arith}, WallSegments.{pieces_joined}}
 use Rattle.tz_info.proofs.zone.segments.+pieces_of.Goals as goal
 
 pub returns : goal.returns

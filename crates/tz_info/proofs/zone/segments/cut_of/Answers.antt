@@ -1,4 +1,4 @@
-use Rattle.tz_info.proofs.Words.{SFits, Transition, ap, cut_of, rules, saturate_signed, to_z-of_z, w64, ℤ, ◌+ℤ◌, ◌∙◌}
+use Rattle.tz_info.proofs.Words.{SFits, Transition, ap, rules, saturate_signed, to_z-of_z, w64, ℤ, ◌+ℤ◌, ◌∙◌}
 use Rattle.tz_info.proofs.EntryChanges.{begin_at}
 use Rattle.tz_info.proofs.zone.segments.cut_of.Goals as goal
 

@@ -1,4 +1,4 @@
-use Rattle.tz_info.proofs.{Words.{SFits, add-one, ap, arith, cut_of, refl, rules, to_z-of_z, w64, ◌∙◌, ◌+◌}, WallSegments.{first_pieces, inner_pieces, last_pieces}}
+use Rattle.tz_info.proofs.{Words.{SFits, add-one, ap, arith, cut_of, rules, to_z-of_z, w64, ◌∙◌, ◌+◌}, WallSegments.{first_pieces, inner_pieces, last_pieces}}
 use Rattle.tz_info.proofs.zone.segments.pieces_of_one.Goals as goal
 
 pub returns-then-place-eq0 : goal.returns-then-place-eq0

@@ -10,7 +10,7 @@ returns-clause-jump c =
     let fs : SFits w64 c.second.result = search rules in
     let placed = rw c.in-Skipped.is at c.requires.placed in
     rw c.in-Skipped.is (simp to_z-of_z (
-        c.second.ensures none ∙ begin_at c.args.self.now.items c.in-Skipped.place none placed.0 placed.1,
-        grind (arith, slice_get_read),
-        grind (arith, slice_get_read),
+      c.second.ensures none ∙ begin_at c.args.self.now.items c.in-Skipped.place none placed.0 placed.1,
+      grind (arith, slice_get_read),
+      grind (arith, slice_get_read),
     ))

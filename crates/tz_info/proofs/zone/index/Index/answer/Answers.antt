@@ -1,4 +1,4 @@
-use Rattle.tz_info.proofs.{Words.{arith, digits-le, ints}, PassedTransitions.{no_items}}
+use Rattle.tz_info.proofs.{Words.{arith, digits-le, ints}}
 use Rattle.tz_info.proofs.WallPieces.{latest_answers, none_answers}
 use Rattle.tz_info.proofs.zone.index.Index.answer.Goals as goal
 

@@ -1,5 +1,5 @@
-use Rattle.tz_info.proofs.Words.{HasReach, IsRuleOrNone, IsShownAmong, IsValid, SFits, Zone, ap, arith, length, rules, sym, to_z-of_z, top_of, w32, ◌∙◌, ◌≡◌}
-use Rattle.tz_info.proofs.TableLaws.{gap_by_index, placed, reach_of, rose_by_wall}
+use Rattle.tz_info.proofs.Words.{HasReach, IsRuleOrNone, IsShownAmong, IsValid, SFits, Zone, ap, arith, length, rules, to_z-of_z, top_of, w32, ◌≡◌}
+use Rattle.tz_info.proofs.TableLaws.{gap_by_index, reach_of, rose_by_wall}
 use Rattle.tz_info.specs.{Looks.{RoseByWallClock}, Steps.Entries.{AreEntries}}
 use Rattle.tz_info.proofs.zone.time_zone.TimeZone.around.Goals.{After-answer-shown, After-answer_behind-season}
 use Rattle.tz_info.proofs.zone.time_zone.TimeZone.around.Goals as goal

@@ -1,25 +1,24 @@
 use Rattle.tz_info.proofs.{Words.{IsValid, Zone, ap, SFits, arith, change_held, length, option_map, passed, rules, sym, to_z-of_z, w64, ◌+◌, ◌-◌, ◌<◌, ◌∙◌, ◌≡◌}, EntryChanges.{idle_more, none_behind, previous_at, previous_by_entry, previous_none}}
 use Rattle.tz_info.specs.Steps.Entries.{AreEntries}
+use Rattle.tz_info.proofs.zone.time_zone.TimeZone.previous_in_table.Goals.{After-count-count}
 use Rattle.tz_info.proofs.zone.time_zone.TimeZone.previous_in_table.Goals as goal
+
+-- the zone is valid, these are its entries, and so many have come
+given : (c : After-count-count) → IsValid c.args.self.now × AreEntries c.args.self.now c.self.inside.changes × (c.count-count.result ≡ length (passed c.self.inside.changes.items c.args.last))
+given c = let fa = c.ranges.last in (rw (← c.self.view_is) c.self.invariant.valid, rw (← c.self.view_is) c.self.invariant.list, simp to_z-of_z at c.count-count.ensures.count)
 
 pub returns-then-count-eq0 : goal.returns-then-count-eq0
 returns-then-count-eq0 c =
     let fa = c.ranges.last in
-    let z = c.args.self.now in
-    let e = c.self.inside.changes in
-    let valid : IsValid z = rw (← c.self.view_is) c.self.invariant.valid in
-    let list : AreEntries z e = rw (← c.self.view_is) c.self.invariant.list in
-    let n : c.count-count.result ≡ length (passed e.items c.args.last) = simp to_z-of_z at c.count-count.ensures.count in
+    let z = c.args.self.now in let e = c.self.inside.changes in
+    let (valid, list, n) = given (goal.at.returns-then-count-eq0 c).After-count-count in
     previous_none z e c.args.last valid list (none_behind z e c.args.last 0 (sym n ∙ c.if-count-eq0.true))
 
 pub returns-then-not-is_last : goal.returns-then-not-is_last
 returns-then-not-is_last c =
     let fa = c.ranges.last in
-    let z = c.args.self.now in
-    let e = c.self.inside.changes in
-    let valid : IsValid z = rw (← c.self.view_is) c.self.invariant.valid in
-    let list : AreEntries z e = rw (← c.self.view_is) c.self.invariant.list in
-    let n : c.count-count.result ≡ length (passed e.items c.args.last) = simp to_z-of_z at c.count-count.ensures.count in
+    let z = c.args.self.now in let e = c.self.inside.changes in
+    let (valid, list, n) = given (goal.at.returns-then-not-is_last c).After-count-count in
     let k = c.count-count.result - 1 in
     let some : k + 1 ≡ c.count-count.result = grind (arith, c.if-count-eq0.false) in
     let more : k + 1 < e.all = grind (arith, c.is_last.ensures, c.if-not-is_last.true) in
@@ -29,11 +28,8 @@ returns-then-not-is_last c =
 pub returns-in-Some : goal.returns-in-Some
 returns-in-Some c =
     let fa = c.ranges.last in
-    let z = c.args.self.now in
-    let e = c.self.inside.changes in
-    let valid : IsValid z = rw (← c.self.view_is) c.self.invariant.valid in
-    let list : AreEntries z e = rw (← c.self.view_is) c.self.invariant.list in
-    let n : c.count-count.result ≡ length (passed e.items c.args.last) = simp to_z-of_z at c.count-count.ensures.count in
+    let z = c.args.self.now in let e = c.self.inside.changes in
+    let (valid, list, n) = given (goal.at.returns-in-Some c).After-count-count in
     let fs : SFits w64 c.second.result = search rules in
     let k = c.count-count.result - 1 in
     let some : k + 1 ≡ c.count-count.result = grind (arith, c.if-count-eq0.false) in
@@ -43,11 +39,8 @@ returns-in-Some c =
 pub returns-then-count-eq1 : goal.returns-then-count-eq1
 returns-then-count-eq1 c =
     let fa = c.ranges.last in
-    let z = c.args.self.now in
-    let e = c.self.inside.changes in
-    let valid : IsValid z = rw (← c.self.view_is) c.self.invariant.valid in
-    let list : AreEntries z e = rw (← c.self.view_is) c.self.invariant.list in
-    let n : c.count-count.result ≡ length (passed e.items c.args.last) = simp to_z-of_z at c.count-count.ensures.count in
+    let z = c.args.self.now in let e = c.self.inside.changes in
+    let (valid, list, n) = given (goal.at.returns-then-count-eq1 c).After-count-count in
     let fs : SFits w64 c.second.result = search rules in
     let one : c.count-count.result - 1 ≡ 0 = let o = c.if-count-eq1.true in omega arith in
     previous_none z e c.args.last valid list (idle_more z e c.args.last c.second.result 0 (sym n ∙ c.if-count-eq1.true) (rw one at c.second.ensures) (simp to_z-of_z at c.in_default.ensures))
@@ -55,11 +48,8 @@ returns-then-count-eq1 c =
 pub returns : goal.returns
 returns c =
     let fa = c.ranges.last in
-    let z = c.args.self.now in
-    let e = c.self.inside.changes in
-    let valid : IsValid z = rw (← c.self.view_is) c.self.invariant.valid in
-    let list : AreEntries z e = rw (← c.self.view_is) c.self.invariant.list in
-    let n : c.count-count.result ≡ length (passed e.items c.args.last) = simp to_z-of_z at c.count-count.ensures.count in
+    let z = c.args.self.now in let e = c.self.inside.changes in
+    let (valid, list, n) = given (goal.at.returns c).After-count-count in
     let fs : SFits w64 c.second.result = search rules in
     let k = c.count-count.result - 2 in
     let many : k + 2 ≡ c.count-count.result = grind (arith, c.if-count-eq0.false, c.if-count-eq1.false) in

@@ -1,8 +1,7 @@
-use Rattle.tz_info.proofs.{Words.{SFits, arith, rules, to_z-of_z, w128, ◌-◌}, ZoneChanges.{begin_last}}
+use Rattle.tz_info.proofs.{TableLaws.{begin_by}, Words.{SFits, rules, to_z-of_z, w128}}
 use Rattle.tz_info.proofs.zone.time_zone.TimeZone.rule_begin.Goals as goal
 
 pub returns-clause-begin : goal.returns-clause-begin
 returns-clause-begin c =
-    let n = c.transition_count-count.ensures in
-    let fs : SFits w128 c.start_of.result = search rules in
-    simp to_z-of_z (begin_last c.args.self.now (c.transition_count-count.result - 1) c.start_of.result (omega arith) c.start_of.ensures.comes)
+    let fs : SFits w128 c.rule_begin.result = search rules in
+    rw (← c.self.view_is) (simp to_z-of_z (begin_by _ c.self.inside.changes _ c.self.invariant.valid c.self.invariant.list c.rule_begin.ensures.bound c.rule_begin.ensures.begun))

@@ -1,21 +1,22 @@
-use Rattle.tz_info.proofs.Words.{SFits, Transition, ap, arith, ints, pos, rules, to_z-of_z, w64, ◌∙◌, ◌≡◌}
+use Rattle.tz_info.proofs.Words.{SFits, Transition, ap, arith, ints, pos, rules, to_z-of_z, w128, w64, ◌∙◌, ◌≡◌}
 use Rattle.tz_info.specs.Steps.Entries.{Entries}
 use Rattle.tz_info.proofs.{EntryChanges.{begin_at}, SegmentLaws.{come_from, place_most}}
-use Rattle.tz_info.proofs.zone.change_table.ChangeTable.rule_from.Goals as goal
+use Rattle.tz_info.proofs.zone.change_table.ChangeTable.rule_begin.Goals as goal
 
 none : Transition
 none = record { unix_leap_time = pos 0; type_index = 0 }
 
 pub returns-then-self-len-clause-begun : goal.returns-then-self-len-clause-begun
-returns-then-self-len-clause-begun c = λ u near.
+returns-then-self-len-clause-begun c = λ u fits.
     let most = place_most c.args.self.now.items u c.requires.rising in
     let n = c.len.ensures in
     let more = c.if-self-len.true in
-    ((λ e. absurd (grind (arith, c.self.view_is))), (λ h. absurd (let q = near.1 in omega (arith, ints))))
+    ((λ e. absurd (grind (arith, c.self.view_is))), (λ h. absurd (omega (arith, ints))))
 
 pub returns-clause-begun : goal.returns-clause-begun
-returns-clause-begun c = λ u near.
+returns-clause-begun c = λ u fits.
     let fs : SFits w64 c.second.result = search rules in
+    let fw : SFits w128 c.second.result = omega (arith, ints) in
     let ts = c.args.self.now.items in
     let k = c.self.inside.all in
     let same : k ≡ c.args.self.now.all = ap (λ (e : Entries). e.all) c.self.view_is in
