@@ -37,10 +37,17 @@ fn entries_come(leaps: &[LeapSecond], leap_time: i64) -> usize
     leaps.partition_point(|entry| entry.unix_leap_time <= leap_time)
 }
 
-// What a clock at that offset shows at the second.
+// Two numbers that are no farther from 0 have a sum of 64 bits.
+const FAR: i64 = 1 << 61;
+
+// What a clock at that offset shows at the second. Mostly the sum is known to be one of 64 bits, which
+// takes fewer steps.
 #[inline(always)]
 pub(super) fn cut_at(second: i64, offset: i64) -> i64
     ensures { result ≡ saturate_signed w64 (second +ℤ offset) }
 {
+    if -FAR <= second && second <= FAR && -FAR <= offset && offset <= FAR {
+        return second + offset;
+    }
     second.saturating_add(offset)
 }
