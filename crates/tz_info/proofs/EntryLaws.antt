@@ -5,7 +5,7 @@ use Rattle.std.proofs.lemmas.List.Elements.{filter-append}
 use Rattle.tz_info.proofs.Words.{AreLeapSeconds, AreRising, Bool, IsFromLast, IsLeapTime, IsLeapTimeRefused, IsValid, LeapSecond, List, SFits, Transition, Zone}
 use Rattle.tz_info.proofs.Words.{all_pairs_push, append-nil, ap, arith, by_lt_z, cases_lt, false, get_or, get_or_append_left, get_or_default, get_or_push, index_of}
 use Rattle.tz_info.proofs.Words.{inl, inr, int_le, ints, last_else, le_false, le_true, length, length_push, map, nat_tests, pos, passed, refl, slice_get, slice_get-get_or, Option, Some, None, suc, sym}
-use Rattle.tz_info.proofs.Words.{take, take_all, true, w64, zero, ℕ, ℤ, [], ◌++◌, ◌+◌, ◌-◌, ◌==◌, ◌<ℤ◌, ◌<◌, ◌↔◌, ◌∙◌, ◌∷◌, ◌≡◌, ◌≢◌, ◌≤ℤ◌, ◌≤◌, ◌⊎◌}
+use Rattle.tz_info.proofs.Words.{take, take_all, true, w64, zero, ℕ, ℤ, [], ◌++◌, ◌+◌, ◌-ℤ◌, ◌-◌, ◌==◌, ◌<ℤ◌, ◌<◌, ◌↔◌, ◌∙◌, ◌∷◌, ◌≡◌, ◌≢◌, ◌≤ℤ◌, ◌≤◌, ◌⊎◌}
 use Rattle.std.specs.Prelude.{option_to_list}
 use Rattle.std.proofs.lemmas.Option.{slice_get_within}
 use Rattle.tz_info.proofs.{LeapSearch.{own_leap_time}, LeapStarts.{reached_first}, Prefixes.{last_taken}, SegmentLaws.{come_by_time, not_later, place_most}, ZoneChanges.{refused_on}}
@@ -327,6 +327,20 @@ last_below entries n some named = below entries 0 n some named
     below : (ts : List Transition) (i n : ℕ) → i < n → ((k : ℕ) (d : Transition) → k < length ts → (get_or ts k d).type_index < n) → last_else i (map (λ (t : Transition). t.type_index) ts) < n
     below [] i n h all = h
     below (t ∷ ts) i n h all = below ts t.type_index n (all 0 t (omega arith)) (λ k d l. all (suc k) d (omega arith))
+
+-- without leap seconds no entry comes as late as the next transition
+pub apart : (z : Zone) (entries : List Transition) (k : ℕ) (s : ℤ) (t : Transition) → IsValid z → k < length z.transitions → t ≡ get_or z.transitions k t → AreMadeOf z entries k
+    → IsStartIn z.leaps t.unix_leap_time s → length z.leaps ≡ 0 → EndsAt entries s → ⊥
+apart z entries k s t valid more item made start none (last, is, at) =
+    let late = (start.reached s s (own_leap_time z.leaps s none)).1 (omega (arith, ints)) in
+    let early = (start.reached t.unix_leap_time t.unix_leap_time (own_leap_time z.leaps t.unix_leap_time none)).0 (omega (arith, ints)) in
+    let some = slice_get_within entries (length entries - 1) last is in
+    let by = made.until (s -ℤ pos 1) (s -ℤ pos 1) (own_leap_time z.leaps (s -ℤ pos 1) none) (λ i d h.
+    let r = valid.transitions.rising i k d h more in
+    let g = ap (λ (a : Transition). a.unix_leap_time) (get_or_default z.transitions k d t more ∙ sym item) in omega (arith, ints)) (length entries - 1) last some in
+    let g = slice_get-get_or entries (length entries - 1) last some in
+    let same : get_or entries (length entries - 1) last ≡ last = cc in
+    let b = ap (λ (a : Transition). a.unix_leap_time) same in omega (arith, ints)
 
 -- ---- one turn of the loop
 pub record IsTurn (z : Zone) (old kept entries : List Transition) (k : ℕ) (s : ℤ) (t entry : Transition) (is_last : Bool) : Type 0 where

@@ -307,7 +307,7 @@ fn entries_of(alloc: Global, lists: Lists) -> Result<(Vec<Kept>, usize), AllocEr
             let all = entries.len() + 1;
             return Ok((entries, all));
         };
-        drop_at(&mut entries, start);
+        drop_at(&mut entries, lists.leaps, start);
         add(
             &mut entries,
             lists.types,
@@ -339,12 +339,16 @@ fn start_in(leaps: &[LeapSecond], time: i64) -> Option<i64>
     }
 }
 
-// Drops the last entry, if it comes at that second.
-fn drop_at(entries: &mut Vec<Kept>, second: i64)
+// Drops the last entry, if it comes at that second: none does without leap seconds.
+fn drop_at(entries: &mut Vec<Kept>, leaps: &[LeapSecond], second: i64)
+    requires { length leaps.now ≡ 0 → ¬ (EndsAt entries.old.items second) }
     ensures before { AreBefore entries.old.items second entries.new.items }
     ensures capacity { vec_capacity entries.new ≡ vec_capacity entries.old }
     ensures len { vec_len entries.new ≤ vec_len entries.old }
 {
+    if leaps.is_empty() {
+        return;
+    }
     if ends_at(entries, second) {
         let _ = entries.pop();
     }
