@@ -3,6 +3,7 @@ pub mod Answered
 pub mod Days
 pub mod DayStarts
 pub mod DayEnds
+pub mod ReachedTimes
 pub mod ForCallers
 pub mod Homes
 pub mod Instants

@@ -34,6 +34,7 @@ pub use Rattle.zoned_time.specs.DayEnds.{AreStartsOfDays, HasNoEnd, IsEndOfDay, 
 pub use Rattle.zoned_time.specs.Days.{AreEndsOfDay, AreInstantsOfDay, HasReached, IsFirstInstantFrom, IsFirstOutOfRange, IsFirstToReach, IsInDay, IsInstantFrom}
 pub use Rattle.zoned_time.specs.Days.{IsNeverOnDay, IsNoDay, IsOnDay, IsZonedAtOrAfter, midnight}
 pub use Rattle.zoned_time.specs.Fields.{IsOnly, IsOnlyWhere}
+pub use Rattle.zoned_time.specs.Reached.{HasPassed, IsReachedAt}
 pub use Rattle.zoned_time.specs.Relocal.{AreInstantsOf, HasInstant, IsRelocal, SingleIff, instant_of}
 pub use Rattle.zoned_time.specs.Stamps.{in_utc}
 pub use Rattle.zoned_time.specs.Zone.{AreOffsetsFor, Each, IsFixed, IsOffsetAt, IsZoneSecond, Law, Meaning, SameLaw, SameOffsets, ShowsByOffset, home_law}

@@ -7,6 +7,7 @@ mod fixed_days;
 pub mod laws;
 mod naive_zoned;
 mod offset;
+mod reached;
 mod resolve;
 mod time_zone;
 mod utc;

@@ -10,8 +10,10 @@ ghost use Rattle.naive_base.specs.Year.{floor_div};
 ghost use Rattle.zoned_time.specs.DateTime.{zoned};
 ghost use Rattle.zoned_time.specs.Days as instants;
 ghost use Rattle.zoned_time.specs.DayEnds as ends;
+ghost use Rattle.zoned_time.specs.Reached.{IsReachedAt};
 ghost use Rattle.zoned_time.specs.Zoned.{IsAt};
 
+use crate::reached::reached_at;
 use crate::{DateTime, TimeZone};
 use naive_base::{Datelike, Days, NaiveDate, NaiveDateTime, NaiveTime, Weekday};
 use offset_core::{FixedOffset, TimeDelta};
@@ -102,6 +104,40 @@ pub trait ZoneDays: TimeZone {
         } else {
             Some(whole)
         }
+    }
+
+    /// Returns the last local time, in whole seconds, that the clocks of this zone have shown up to an
+    /// instant of any zone.
+    ///
+    /// It is what they show, unless they have been set back and not yet caught up. It never falls:
+    /// [`ZoneDays::first_at_or_after`] of a local time in whole seconds is not after the instant if and
+    /// only if the local time is not after this one.
+    ///
+    /// ```
+    /// let second_pass = Utc.with_ymd_and_hms(2021, 11, 7, 6, 30, 0).single()?; // 01:30:00 -05:00
+    /// let reached = new_york.reached(&second_pass); // 2021-11-07 01:59:59
+    /// ```
+    final fn reached<Tz: TimeZone>(&self, instant: &DateTime<Tz>) -> NaiveDateTime
+        ensures reached { IsReachedAt (Self.law self.now).off (zoned instant.now).utc.s
+            (reading result).s }
+        ensures whole { (reading result).f ≡ 0 }
+    {
+        reached_at(self, instant.naive_utc())
+    }
+
+    /// Returns the date of the day that an instant of any zone lies in, where days last from their
+    /// start to before the next day's start, as [`ZoneDays::start_of_day`] divides time.
+    ///
+    /// It is the date that clocks show, unless they have been set back over midnight.
+    ///
+    /// ```
+    /// let second_pass = Utc.with_ymd_and_hms(2005, 10, 30, 3, 2, 0).single()?; // 2005-10-29 23:32:00 -03:30
+    /// let date = st_johns.date_of(&second_pass); // 2005-10-30
+    /// ```
+    final fn date_of<Tz: TimeZone>(&self, instant: &DateTime<Tz>) -> NaiveDate
+        ensures { instants.IsInDay (Self.law self.now).off (day_of result) (zoned instant.now).utc }
+    {
+        self.reached(instant).date()
     }
 
     /// Returns the first instant at which clocks show midnight of that date or a later local time;

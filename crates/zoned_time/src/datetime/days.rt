@@ -1,14 +1,17 @@
 //! When the day of an instant starts.
-ghost use Rattle.std.specs.Prelude.{MatchOption};
-ghost use Rattle.zoned_time.specs.DateTime.{zoned, day_shown_by, home_law_of};
-ghost use Rattle.zoned_time.specs.Days.{IsFirstOutOfRange, IsZonedAtOrAfter, midnight};
+ghost use Rattle.std.specs.Prelude.{ℤ, MatchOption};
+ghost use Rattle.zoned_time.specs.DateTime.{zoned, home_law_of};
+ghost use Rattle.zoned_time.specs.Days.{IsFirstOutOfRange, IsInDay, IsZonedAtOrAfter, midnight};
 
 use super::DateTime;
 use crate::ZoneDays;
 
 impl<Tz: ZoneDays> DateTime<Tz> {
-    /// Returns the start of the day of the date that this instant's clock shows, as
-    /// [`ZoneDays::start_of_day`] does; `None` if it is out of the range of [`DateTime`].
+    /// Returns the start of the day that this instant lies in, as [`ZoneDays::start_of_day`] divides
+    /// time; `None` if it is out of the range of [`DateTime`].
+    ///
+    /// It is the day of the date that the instant's clock shows, unless clocks have been set back over
+    /// midnight: then it is the day of [`ZoneDays::date_of`].
     ///
     /// ```
     /// let noon = new_york.with_ymd_and_hms(2021, 3, 14, 12, 0, 0).single()?;
@@ -16,9 +19,12 @@ impl<Tz: ZoneDays> DateTime<Tz> {
     /// ```
     pub fn start_of_day(&self) -> Option<DateTime<Tz>>
         ensures { let law = home_law_of Tz.meaning self.now in
-            MatchOption result (IsFirstOutOfRange law.off (midnight (day_shown_by self.now)))
-            (λ d. IsZonedAtOrAfter law (midnight (day_shown_by self.now)) (zoned d)) }
+            (day : ℤ) × IsInDay law.off day (zoned self.now).utc
+            × MatchOption result (IsFirstOutOfRange law.off (midnight day))
+            (λ d. IsZonedAtOrAfter law (midnight day) (zoned d)) }
     {
-        self.timezone().start_of_day(self.date_naive())
+        let zone = self.timezone();
+        let date = zone.date_of(self);
+        zone.start_of_day(date)
     }
 }

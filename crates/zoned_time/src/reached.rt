@@ -1,0 +1,128 @@
+//! The last local time that the clocks of a zone have shown up to an instant.
+ghost use Rattle.std.specs.Prelude.{◌≡◌, ◌↔◌, ℤ, pos, ◌+ℤ◌, ◌-ℤ◌, ◌<ℤ◌, IsTrue};
+ghost use Rattle.offset_core.specs.Offset.{IsWithinDay};
+ghost use Rattle.naive_base.specs.NaiveDateTime.{reading};
+ghost use Rattle.naive_base.specs.Range.{IsInRange};
+ghost use Rattle.naive_base.specs.Stamp.{of_secs};
+ghost use Rattle.zoned_time.specs.Reached.{HasPassed, IsReachedAt};
+
+use crate::{Offset, ZoneDays};
+use naive_base::{NaiveDateTime, Timelike};
+use offset_core::FixedOffset;
+
+// Offsets between which the search goes on, in seconds: clocks have passed the local time of the
+// first, and not that of the second.
+#[derive(Clone, Copy)]
+struct Left {
+    passed: i32,
+    ahead: i32,
+}
+
+// The last local time, in whole seconds, that clocks have shown up to that second of UTC.
+pub(crate) fn reached_at<Tz: ZoneDays>(zone: &Tz, utc: NaiveDateTime) -> NaiveDateTime
+    requires { IsInRange (reading utc).s }
+    ensures reached { IsReachedAt (Tz.law zone.now).off (reading utc).s (reading result).s }
+    ensures whole { (reading result).f ≡ 0 }
+{
+    let ahead = most_ahead(zone, utc);
+    let shown = utc.overflowing_add_offset(FixedOffset::east(ahead));
+    match shown.with_nanosecond(0) {
+        Some(whole) => whole,
+        None => unreachable!(),
+    }
+}
+
+// How many seconds that local time is ahead of the second: as many as clocks are, unless they have
+// been set back and not yet caught up. Then it is found by halving a day of local times.
+fn most_ahead<Tz: ZoneDays>(zone: &Tz, utc: NaiveDateTime) -> i32
+    requires { IsInRange (reading utc).s }
+    ensures within { IsWithinDay result }
+    ensures reached { let s = (reading utc).s in
+        IsReachedAt (Tz.law zone.now).off s (s +ℤ result) }
+{
+    let now = zone.offset_from_utc_datetime(&utc).fix().local_minus_utc();
+    if now == 86_399 {
+        return now;
+    }
+    let next = now + 1;
+    if has_passed(zone, utc, next) {
+        search(zone, utc, next)
+    } else {
+        now
+    }
+}
+
+// The same, from an offset whose local time clocks have passed.
+fn search<Tz: ZoneDays>(zone: &Tz, utc: NaiveDateTime, passed: i32) -> i32
+    requires range { IsInRange (reading utc).s }
+    requires within { IsWithinDay passed }
+    requires passed { let s = (reading utc).s in HasPassed (Tz.law zone.now).off (s +ℤ passed) s }
+    ensures within { IsWithinDay result }
+    ensures reached { let s = (reading utc).s in
+        IsReachedAt (Tz.law zone.now).off s (s +ℤ result) }
+{
+    let mut left = Left {
+        passed,
+        ahead: 86_400,
+    };
+    while left.passed + 1 < left.ahead {
+        left = halved(zone, utc, left);
+    }
+    left.passed
+}
+
+// What is left after a look at the local time in the middle.
+fn halved<Tz: ZoneDays>(zone: &Tz, utc: NaiveDateTime, left: Left) -> Left
+    requires range { IsInRange (reading utc).s }
+    requires some { (left.passed +ℤ pos 1) <ℤ left.ahead }
+    requires within { IsWithinDay left.passed }
+    requires end { left.ahead <ℤ pos 86_401 }
+    requires passed { let s = (reading utc).s in
+        HasPassed (Tz.law zone.now).off (s +ℤ left.passed) s }
+    requires ahead { let s = (reading utc).s in
+        HasPassed (Tz.law zone.now).off (s +ℤ left.ahead) s → ⊥ }
+    ensures some { result.passed <ℤ result.ahead }
+    ensures within { IsWithinDay result.passed }
+    ensures end { result.ahead <ℤ pos 86_401 }
+    ensures passed { let s = (reading utc).s in
+        HasPassed (Tz.law zone.now).off (s +ℤ result.passed) s }
+    ensures ahead { let s = (reading utc).s in
+        HasPassed (Tz.law zone.now).off (s +ℤ result.ahead) s → ⊥ }
+    ensures less { (result.ahead -ℤ result.passed) <ℤ (left.ahead -ℤ left.passed) }
+{
+    let middle = middle_of(left.passed, left.ahead);
+    if has_passed(zone, utc, middle) {
+        Left {
+            passed: middle,
+            ahead: left.ahead,
+        }
+    } else {
+        Left {
+            passed: left.passed,
+            ahead: middle,
+        }
+    }
+}
+
+// An offset between these two.
+fn middle_of(passed: i32, ahead: i32) -> i32
+    requires within { IsWithinDay passed }
+    requires some { (passed +ℤ pos 1) <ℤ ahead }
+    requires end { ahead <ℤ pos 86_401 }
+    ensures low { passed <ℤ result }
+    ensures high { result <ℤ ahead }
+{
+    passed + (ahead - passed) / 2
+}
+
+// Whether clocks have shown, up to that second of UTC, the local time that many seconds ahead of it
+// or a later one.
+fn has_passed<Tz: ZoneDays>(zone: &Tz, utc: NaiveDateTime, seconds: i32) -> bool
+    requires range { IsInRange (reading utc).s }
+    requires within { IsWithinDay seconds }
+    ensures { let s = (reading utc).s in
+        IsTrue result ↔ HasPassed (Tz.law zone.now).off (s +ℤ seconds) s }
+{
+    let local = utc.overflowing_add_offset(FixedOffset::east(seconds));
+    zone.first_second_at_or_after(&local) <= utc.secs_since_epoch()
+}
