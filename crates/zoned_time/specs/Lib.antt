@@ -4,6 +4,7 @@ pub mod Days
 pub mod DayEnds
 pub mod Fields
 pub mod Order
+pub mod Plans
 pub mod Reached
 pub mod Relocal
 pub mod Stamps

@@ -10,11 +10,12 @@ ghost use Rattle.naive_base.specs.Year.{floor_div};
 ghost use Rattle.zoned_time.specs.DateTime.{zoned};
 ghost use Rattle.zoned_time.specs.Days as instants;
 ghost use Rattle.zoned_time.specs.DayEnds as ends;
+ghost use Rattle.zoned_time.specs.Plans as plans;
 ghost use Rattle.zoned_time.specs.Reached.{IsReachedAt};
 ghost use Rattle.zoned_time.specs.Zoned.{IsAt};
 
 use crate::reached::reached_at;
-use crate::{DateTime, TimeZone};
+use crate::{DateTime, Plan, TimeZone};
 use naive_base::{Datelike, Days, NaiveDate, NaiveDateTime, NaiveTime, Weekday};
 use offset_core::{FixedOffset, TimeDelta};
 
@@ -241,6 +242,45 @@ pub trait ZoneDays: TimeZone {
             (λ d. instants.IsZonedAtOrAfter law (instants.midnight first) (zoned d)) }
     {
         start_of_earlier_day(self, date, date.ordinal0())
+    }
+
+    /// Returns the first instant after another one, of any zone, at which a plan fires: at which clocks
+    /// first show one of its local times or a later one. `None` if no instant in the range of
+    /// [`DateTime`] is one.
+    ///
+    /// So a plan fires once for a local time that is shown twice, and when a gap ends for those in it.
+    ///
+    /// ```
+    /// let next = new_york.next_fire(&daily, &noon)?; // of 02:30 each day: 2021-03-14 03:00:00 -04:00
+    /// ```
+    final fn next_fire<P: Plan, Tz: TimeZone>(
+        &self,
+        plan: &P,
+        after: &DateTime<Tz>,
+    ) -> Option<DateTime<Self>>
+        ensures { let law = Self.law self.now in
+            let s = (zoned after.now).utc.s in
+            MatchOption result (plans.NoneFiresAfter law.off (P.planned plan.now) s)
+            (λ d. plans.IsZonedNextFire law (P.planned plan.now) s (zoned d)) }
+    {
+        let local = plan.next_after(&self.reached(after))?;
+        instant_at(self, self.first_second_at_or_after(&local), 0)
+    }
+
+    /// Returns the last instant, not after another one of any zone, at which a plan fires; `None` if no
+    /// instant in the range of [`DateTime`] is one.
+    final fn last_fire<P: Plan, Tz: TimeZone>(
+        &self,
+        plan: &P,
+        until: &DateTime<Tz>,
+    ) -> Option<DateTime<Self>>
+        ensures { let law = Self.law self.now in
+            let s = (zoned until.now).utc.s in
+            MatchOption result (plans.NoneFiresUntil law.off (P.planned plan.now) s)
+            (λ d. plans.IsZonedLastFire law (P.planned plan.now) s (zoned d)) }
+    {
+        let local = plan.last_until(&self.reached(until))?;
+        instant_at(self, self.first_second_at_or_after(&local), 0)
     }
 }
 

@@ -1,0 +1,83 @@
+-- When plans fire: the fires up to a second are those of the plan's local times up to the last one that clocks have shown.
+use Rattle.zoned_time.proofs.Words.{HasNoneAfter, HasNoneUntil, HasReached, IsAt, IsFire, IsFirstToReach, IsInRange, IsLastFire, IsLastUntil, IsNextAfter}
+use Rattle.zoned_time.proofs.Words.{IsNextFire, IsReachedAt, IsWide, IsZonedLastFire, IsZonedNextFire, IsZoneSecond, Law, MatchOption, Meaning, NoneFiresAfter}
+use Rattle.zoned_time.proofs.Words.{NoneFiresUntil, None, Option, Some, Zoned, arith, by_lt_z, ints, neg_ℤ, of_secs, pos, ℤ, ◌+ℤ◌, ◌-ℤ◌, ◌<ℤ◌, ◌≤ℤ◌}
+use Rattle.zoned_time.proofs.{DayStarts.{StayWithinDay}, ReachedTimes.{adjoint, reached_near, still_to_come}}
+
+-- a later local time is not reached earlier
+pub first_rises : (off : ℤ → ℤ) (l m u v : ℤ) → l ≤ℤ m → IsFirstToReach off l u → IsFirstToReach off m v → u ≤ℤ v
+first_rises off l m u v less h k =
+    let there = k.reached.reached in h.first v (record { in_zone = k.reached.in_zone; reached = omega (arith, ints) })
+
+-- the local time of a fire in range can be shown by a `NaiveDateTime`
+pub fire_is_wide : (off : ℤ → ℤ) (l v : ℤ) → StayWithinDay off → IsInRange v → IsFirstToReach off l v → IsWide l
+fire_is_wide off l v within range h =
+    let near = within v h.reached.in_zone in let there = h.reached.reached in
+    let inside : IsZoneSecond (v -ℤ pos 1) = (omega (arith, ints, range), omega (arith, ints, range)) in
+    let near_before = within (v -ℤ pos 1) inside in
+    let before : (v -ℤ pos 1 +ℤ off (v -ℤ pos 1)) <ℤ l = by_lt_z (v -ℤ pos 1 +ℤ off (v -ℤ pos 1)) l (λ less. less)
+    (λ not. let least = h.first (v -ℤ pos 1) (record { in_zone = inside; reached = omega (arith, ints) }) in omega (arith, ints)) in
+    (omega (arith, ints), omega (arith, ints))
+
+-- ---- the next fire
+pub next_fire : (off : ℤ → ℤ) (plan : ℤ → Type 0) (t local l u : ℤ) → StayWithinDay off → IsInRange t → IsReachedAt off t local
+    → IsNextAfter plan local l → IsWide l → IsFirstToReach off l u → IsNextFire off plan t u
+next_fire off plan t local l u within range reached next wide first = record {
+  fires = record { local = l; planned = next.planned; first = first };
+  after = still_to_come off l u t local first reached next.after;
+  none_skipped = λ v fire later.
+    let above : local <ℤ fire.local = by_lt_z local fire.local (λ less. less) (λ not. let come = (adjoint off fire.local v t local fire.first reached).1 (omega (arith, ints)) in omega (arith, ints)) in
+    let near = reached_near off t local within range reached in
+    let least : l ≤ℤ fire.local = by_lt_z (pos 8_210_266_963_199) fire.local (λ far. omega (arith, ints, wide))
+    (λ not. next.least fire.local (omega (arith, ints), omega (arith, ints)) fire.planned above) in
+    first_rises off l fire.local u v least first fire.first;
+}
+
+pub none_fires_after : (off : ℤ → ℤ) (plan : ℤ → Type 0) (t local : ℤ) → StayWithinDay off → IsReachedAt off t local → HasNoneAfter plan local → NoneFiresAfter off plan t
+none_fires_after off plan t local within reached none v range fire later =
+    none fire.local (fire_is_wide off fire.local v within range fire.first) fire.planned
+    (by_lt_z local fire.local (λ less. less) (λ not. let come = (adjoint off fire.local v t local fire.first reached).1 (omega (arith, ints)) in omega (arith, ints)))
+
+pub fires_beyond : (off : ℤ → ℤ) (plan : ℤ → Type 0) (t u : ℤ) → IsInRange t → IsNextFire off plan t u → (IsInRange u → ⊥) → NoneFiresAfter off plan t
+fires_beyond off plan t u range next out v inside fire later =
+    let least = next.none_skipped v fire later in let after = next.after in out (omega (arith, ints, range, inside), omega (arith, ints, range, inside))
+
+pub told_next : {O T : Type 0} {m : Meaning O} (law : Law m) (plan : ℤ → Type 0) (t local l u : ℤ) (told : T → Zoned O) (found : Option T)
+    → StayWithinDay law.off → IsInRange t → IsReachedAt law.off t local → IsNextAfter plan local l → IsWide l → IsFirstToReach law.off l u
+    → MatchOption found (IsInRange u → ⊥) (λ d. IsInRange u × IsAt law (of_secs u 0) (told d))
+    → MatchOption found (NoneFiresAfter law.off plan t) (λ d. IsZonedNextFire law plan t (told d))
+told_next law plan t local l u told None within range reached next wide first h =
+    fires_beyond law.off plan t u range (next_fire law.off plan t local l u within range reached next wide first) h
+told_next law plan t local l u told (Some d) within range reached next wide first h =
+    let found = next_fire law.off plan t local l u within range reached next wide first in let at = h.1.utc in grind (arith, ints)
+
+-- ---- the last fire
+pub last_fire : (off : ℤ → ℤ) (plan : ℤ → Type 0) (t local l u : ℤ) → StayWithinDay off → IsInRange t → IsReachedAt off t local
+    → IsLastUntil plan local l → IsWide l → IsFirstToReach off l u → IsLastFire off plan t u
+last_fire off plan t local l u within range reached last wide first = record {
+  fires = record { local = l; planned = last.planned; first = first };
+  not_after = (adjoint off l u t local first reached).1 last.not_after;
+  none_skipped = λ v fire come.
+    let below = (adjoint off fire.local v t local fire.first reached).0 come in
+    let near = reached_near off t local within range reached in
+    let most : fire.local ≤ℤ l = by_lt_z fire.local (neg_ℤ (pos 8_334_601_315_200)) (λ far. omega (arith, ints, wide))
+    (λ not. last.greatest fire.local (omega (arith, ints), omega (arith, ints)) fire.planned below) in
+    first_rises off fire.local l v u most fire.first first;
+}
+
+pub none_fires_until : (off : ℤ → ℤ) (plan : ℤ → Type 0) (t local : ℤ) → StayWithinDay off → IsReachedAt off t local → HasNoneUntil plan local → NoneFiresUntil off plan t
+none_fires_until off plan t local within reached none v range fire come =
+    none fire.local (fire_is_wide off fire.local v within range fire.first) fire.planned ((adjoint off fire.local v t local fire.first reached).0 come)
+
+pub fires_before : (off : ℤ → ℤ) (plan : ℤ → Type 0) (t u : ℤ) → IsInRange t → IsLastFire off plan t u → (IsInRange u → ⊥) → NoneFiresUntil off plan t
+fires_before off plan t u range last out v inside fire come =
+    let most = last.none_skipped v fire come in let until = last.not_after in out (omega (arith, ints, range, inside), omega (arith, ints, range, inside))
+
+pub told_last : {O T : Type 0} {m : Meaning O} (law : Law m) (plan : ℤ → Type 0) (t local l u : ℤ) (told : T → Zoned O) (found : Option T)
+    → StayWithinDay law.off → IsInRange t → IsReachedAt law.off t local → IsLastUntil plan local l → IsWide l → IsFirstToReach law.off l u
+    → MatchOption found (IsInRange u → ⊥) (λ d. IsInRange u × IsAt law (of_secs u 0) (told d))
+    → MatchOption found (NoneFiresUntil law.off plan t) (λ d. IsZonedLastFire law plan t (told d))
+told_last law plan t local l u told None within range reached last wide first h =
+    fires_before law.off plan t u range (last_fire law.off plan t local l u within range reached last wide first) h
+told_last law plan t local l u told (Some d) within range reached last wide first h =
+    let found = last_fire law.off plan t local l u within range reached last wide first in let at = h.1.utc in grind (arith, ints)
