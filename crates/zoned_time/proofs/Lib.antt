@@ -4,7 +4,7 @@ pub mod Days
 pub mod DayStarts
 pub mod DayEnds
 pub mod ReachedTimes
-pub mod Fires
+pub mod FireTimes
 pub mod ForCallers
 pub mod Homes
 pub mod Instants

@@ -3,6 +3,7 @@ pub mod DateTime
 pub mod Days
 pub mod DayEnds
 pub mod Fields
+pub mod Fires
 pub mod Order
 pub mod Plans
 pub mod Reached

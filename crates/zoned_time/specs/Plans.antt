@@ -1,5 +1,5 @@
 -- Plans, which are sets of local times, in whole seconds; and when they fire in a zone.
-use Rattle.std.specs.Prelude.{ℤ, ◌≤ℤ◌, ◌<ℤ◌}
+use Rattle.std.specs.Prelude.{◌≡◌, ℤ, ◌≤ℤ◌, ◌<ℤ◌, List, [], ◌∷◌, Option, MatchOption, ℕ, ◌-ℤ◌, unsigned_abs, int_lt, if◌then◌else◌}
 use Rattle.naive_base.specs.Range.{IsInRange, IsWide}
 use Rattle.naive_base.specs.Stamp.{of_secs}
 use Rattle.zoned_time.specs.Days.{IsFirstToReach}
@@ -59,3 +59,30 @@ pub record IsZonedNextFire {O : Type 0} {m : Meaning O} (law : Law m) (plan : �
 pub record IsZonedLastFire {O : Type 0} {m : Meaning O} (law : Law m) (plan : ℤ → Type 0) (t : ℤ) (d : Zoned O) : Type 0 where
   pub last : IsLastFire law.off plan t d.utc.s
   pub at : IsAt law (of_secs d.utc.s 0) d
+
+-- no fire is after the second t and not after `until`
+abbrev pub NoneFiresBetween : (ℤ → ℤ) → (ℤ → Type 0) → ℤ → ℤ → Type 0
+NoneFiresBetween off plan t until = (v : ℤ) → IsFire off plan v → t <ℤ v → v ≤ℤ until → ⊥
+
+-- these are all fires after the second t and not after `until`: each is the next one after the one before
+abbrev pub AreFires : (ℤ → ℤ) → (ℤ → Type 0) → ℤ → ℤ → List ℤ → Type 0
+AreFires off plan t until [] = NoneFiresBetween off plan t until
+AreFires off plan t until (u ∷ us) = IsNextFire off plan t u × (u ≤ℤ until) × AreFires off plan u until us
+
+-- the fires of a plan in a zone that are left: those after a second, and not after another one
+pub record Left (Z P : Type 0) : Type 0 where
+  pub zone : Z
+  pub plan : P
+  pub after : ℤ
+  pub until : ℤ
+
+-- no more of them than the seconds up to there
+abbrev pub seconds_left : {Z P : Type 0} → Left Z P → ℕ
+seconds_left l = if int_lt l.after l.until then unsigned_abs (l.until -ℤ l.after) else 0
+
+-- a step gave the next fire, or nothing if and only if none is left
+abbrev pub GivesFire : {Z P O D : Type 0} {m : Meaning O} → Law m → (ℤ → Type 0) → (D → Zoned O) → Left Z P → Option D → Left Z P → Type 0
+GivesFire law plan zoned before answer after = MatchOption answer
+    (NoneFiresBetween law.off plan before.after before.until × (after ≡ before))
+    (λ d. IsZonedNextFire law plan before.after (zoned d) × ((zoned d).utc.s ≤ℤ before.until)
+    × (after ≡ record before { after = (zoned d).utc.s }))

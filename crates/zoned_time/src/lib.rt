@@ -2,6 +2,7 @@
 #![tactic(auto)]
 
 mod datetime;
+mod fires;
 mod fixed;
 mod fixed_days;
 pub mod laws;
@@ -15,6 +16,7 @@ mod utc;
 mod zone_days;
 
 pub use datetime::{DateTime, MAX_DATETIME, MIN_DATETIME};
+pub use fires::Fires;
 pub use naive_zoned::NaiveZoned;
 pub use offset::Offset;
 pub use offset_core::{Around, ResolveError, Taken};

@@ -10,12 +10,13 @@ ghost use Rattle.naive_base.specs.Year.{floor_div};
 ghost use Rattle.zoned_time.specs.DateTime.{zoned};
 ghost use Rattle.zoned_time.specs.Days as instants;
 ghost use Rattle.zoned_time.specs.DayEnds as ends;
+ghost use Rattle.zoned_time.specs.Fires.{left_of};
 ghost use Rattle.zoned_time.specs.Plans as plans;
 ghost use Rattle.zoned_time.specs.Reached.{IsReachedAt};
 ghost use Rattle.zoned_time.specs.Zoned.{IsAt};
 
 use crate::reached::reached_at;
-use crate::{DateTime, Plan, TimeZone};
+use crate::{DateTime, Fires, Plan, TimeZone};
 use naive_base::{Datelike, Days, NaiveDate, NaiveDateTime, NaiveTime, Weekday};
 use offset_core::{FixedOffset, TimeDelta};
 
@@ -265,6 +266,28 @@ pub trait ZoneDays: TimeZone {
     {
         let local = plan.next_after(&self.reached(after))?;
         instant_at(self, self.first_second_at_or_after(&local), 0)
+    }
+
+    /// Returns the instants at which a plan fires, one after another: those after an instant, and not
+    /// after another one, of any zones. After downtime these are the runs that were missed.
+    ///
+    /// ```
+    /// let missed = new_york.fires(daily, &last_run, &now).count();
+    /// ```
+    final fn fires<P: Plan + Drop, Tz: TimeZone, Tz2: TimeZone>(
+        &self,
+        plan: P,
+        after: &DateTime<Tz>,
+        until: &DateTime<Tz2>,
+    ) -> Fires<Self, P>
+        ensures { left_of result ≡ record {
+          zone = self.now;
+          plan = plan;
+          after = (zoned after.now).utc.s;
+          until = (zoned until.now).utc.s;
+        } }
+    {
+        Fires::new(*self, plan, after.to_utc(), until.to_utc())
     }
 
     /// Returns the last instant, not after another one of any zone, at which a plan fires; `None` if no

@@ -5,8 +5,9 @@ ghost use Rattle.offset_core.specs.WallAnswer.{IsNeverShown, IsShownOnce, IsShow
 ghost use Rattle.naive_base.specs.Range.{IsInRange};
 ghost use Rattle.naive_base.specs.Reading.{Reading, behind, IsEarlier};
 ghost use Rattle.naive_base.specs.Year.{floor_div};
-ghost use Rattle.zoned_time.specs.Days.{IsOnDay, AreEndsOfDay, IsNeverOnDay, IsFirstInstantFrom, IsInDay, midnight};
+ghost use Rattle.zoned_time.specs.Days.{IsOnDay, AreEndsOfDay, IsNeverOnDay, IsFirstInstantFrom, IsFirstToReach, IsInDay, midnight};
 ghost use Rattle.zoned_time.specs.DayEnds.{IsGapEnd, NonePassed};
+ghost use Rattle.zoned_time.specs.Reached.{IsReachedAt};
 ghost use Rattle.zoned_time.specs.Zone.{IsZoneSecond, ShowsByOffset};
 ghost use Rattle.zoned_time.specs.declared.zone_days.ShownDay.{ShownDay as AnyDay};
 
@@ -34,6 +35,17 @@ pub fn gaps_and_folds()
         → IsFirstInstantFrom off l a → IsGapEnd off l.s a }
     ensures not_later { (off : ℤ → ℤ) (l a : Reading) (u k : ℤ) → ShowsByOffset off l.s u k
         → IsFirstInstantFrom off l a → ¬ (IsEarlier (behind l k) a) }
+{}
+
+/// The last local time that clocks have shown up to a second: a local time is no later if and only if
+/// its first second has come. There is one for each second in range, and a later second has no earlier
+/// one.
+pub fn reached_times()
+    ensures adjoint { (off : ℤ → ℤ) (l u t m : ℤ) → IsFirstToReach off l u → IsReachedAt off t m
+        → (u ≤ℤ t) ↔ (l ≤ℤ m) }
+    ensures once { (off : ℤ → ℤ) (t l m : ℤ) → IsReachedAt off t l → IsReachedAt off t m → l ≡ m }
+    ensures rises { (off : ℤ → ℤ) (t v l m : ℤ) → t ≤ℤ v → IsReachedAt off t l
+        → IsReachedAt off v m → l ≤ℤ m }
 {}
 
 /// The starts of days divide time: each instant in range lies in exactly one day.

@@ -1,5 +1,5 @@
 use Rattle.zoned_time.proofs.Words.{SFits, rules, to_z-of_z, w64, zoned}
-use Rattle.zoned_time.proofs.Fires.{none_fires_after, told_next}
+use Rattle.zoned_time.proofs.FireTimes.{none_fires_after, told_next}
 use Rattle.zoned_time.proofs.zone_days.ZoneDays.next_fire.Goals as goal
 
 pub returns-in_err-local : goal.returns-in_err-local

@@ -1,0 +1,61 @@
+//! The fires of a plan, one after another.
+ghost use Rattle.std.specs.Prelude.{◌≡◌};
+ghost use Rattle.std.specs.Iterator.{at_most};
+ghost use Rattle.zoned_time.specs.DateTime.{zoned};
+ghost use Rattle.zoned_time.specs.Fires.{left_of};
+ghost use Rattle.zoned_time.specs.Plans.{GivesFire, seconds_left};
+
+use crate::{DateTime, Plan, Utc, ZoneDays};
+use std::iter::FusedIterator;
+
+/// The fires of a plan in a zone, one after another. From [`ZoneDays::fires`].
+#[derive(Clone, Drop)]
+pub struct Fires<Tz, P> {
+    zone: Tz,
+    plan: P,
+    after: DateTime<Utc>,
+    until: DateTime<Utc>,
+}
+
+impl<Tz: ZoneDays, P: Plan + Drop> Fires<Tz, P> {
+    pub(crate) fn new(
+        zone: Tz,
+        plan: P,
+        after: DateTime<Utc>,
+        until: DateTime<Utc>,
+    ) -> Fires<Tz, P>
+        ensures { left_of result ≡ record {
+          zone = zone;
+          plan = plan;
+          after = (zoned after).utc.s;
+          until = (zoned until).utc.s;
+        } }
+    {
+        Fires {
+            zone,
+            plan,
+            after,
+            until,
+        }
+    }
+}
+
+impl<Tz: ZoneDays, P: Plan + Drop> Iterator for Fires<Tz, P> {
+    type Item = DateTime<Tz>;
+
+    ghost next_gives = { λ s r t. GivesFire (Tz.law (left_of s).zone) (P.planned (left_of s).plan)
+        (λ d. zoned d) (left_of s) r (left_of t) };
+
+    ghost remaining = { λ s. at_most (seconds_left (left_of s)) };
+
+    fn next(&mut self) -> Option<DateTime<Tz>> {
+        let next = self.zone.next_fire(&self.plan, &self.after)?;
+        if next.timestamp() > self.until.timestamp() {
+            return None;
+        }
+        self.after = next.to_utc();
+        Some(next)
+    }
+}
+
+impl<Tz: ZoneDays, P: Plan + Drop> FusedIterator for Fires<Tz, P> {}
