@@ -1,5 +1,6 @@
 -- When plans fire: the fires up to a second are those of the plan's local times up to the last one that clocks have shown.
-use Rattle.zoned_time.proofs.Words.{HasNoneAfter, HasNoneUntil, HasReached, IsAt, IsFire, IsFirstToReach, IsInRange, IsLastFire, IsLastUntil, IsNextAfter}
+use Rattle.std.proofs.Common.{Contains, length, slice_index_or}
+use Rattle.zoned_time.proofs.Words.{AreFires, RiseFrom, List, [], suc, zero, ℕ, ◌<◌, ◌∷◌, HasNoneAfter, HasNoneUntil, HasReached, IsAt, IsFire, IsFirstToReach, IsInRange, IsLastFire, IsLastUntil, IsNextAfter}
 use Rattle.zoned_time.proofs.Words.{IsNextFire, IsReachedAt, IsWide, IsZonedLastFire, IsZonedNextFire, IsZoneSecond, Law, MatchOption, Meaning, NoneFiresAfter}
 use Rattle.zoned_time.proofs.Words.{NoneFiresUntil, None, Option, Some, Zoned, arith, by_lt_z, ints, neg_ℤ, of_secs, pos, ℤ, ◌+ℤ◌, ◌-ℤ◌, ◌<ℤ◌, ◌≤ℤ◌}
 use Rattle.zoned_time.proofs.{DayStarts.{StayWithinDay}, ReachedTimes.{adjoint, reached_near, still_to_come}}
@@ -26,11 +27,11 @@ next_fire off plan t local l u within range reached next wide first = record {
   fires = record { local = l; planned = next.planned; first = first };
   after = still_to_come off l u t local first reached next.after;
   none_skipped = λ v fire later.
-    let above : local <ℤ fire.local = by_lt_z local fire.local (λ less. less) (λ not. let come = (adjoint off fire.local v t local fire.first reached).1 (omega (arith, ints)) in omega (arith, ints)) in
-    let near = reached_near off t local within range reached in
-    let least : l ≤ℤ fire.local = by_lt_z (pos 8_210_266_963_199) fire.local (λ far. omega (arith, ints, wide))
-    (λ not. next.least fire.local (omega (arith, ints), omega (arith, ints)) fire.planned above) in
-    first_rises off l fire.local u v least first fire.first;
+      let above : local <ℤ fire.local = by_lt_z local fire.local (λ less. less) (λ not. let come = (adjoint off fire.local v t local fire.first reached).1 (omega (arith, ints)) in omega (arith, ints)) in
+      let near = reached_near off t local within range reached in
+      let least : l ≤ℤ fire.local = by_lt_z (pos 8_210_266_963_199) fire.local (λ far. omega (arith, ints, wide))
+      (λ not. next.least fire.local (omega (arith, ints), omega (arith, ints)) fire.planned above) in
+      first_rises off l fire.local u v least first fire.first;
 }
 
 pub none_fires_after : (off : ℤ → ℤ) (plan : ℤ → Type 0) (t local : ℤ) → StayWithinDay off → IsReachedAt off t local → HasNoneAfter plan local → NoneFiresAfter off plan t
@@ -58,11 +59,11 @@ last_fire off plan t local l u within range reached last wide first = record {
   fires = record { local = l; planned = last.planned; first = first };
   not_after = (adjoint off l u t local first reached).1 last.not_after;
   none_skipped = λ v fire come.
-    let below = (adjoint off fire.local v t local fire.first reached).0 come in
-    let near = reached_near off t local within range reached in
-    let most : fire.local ≤ℤ l = by_lt_z fire.local (neg_ℤ (pos 8_334_601_315_200)) (λ far. omega (arith, ints, wide))
-    (λ not. last.greatest fire.local (omega (arith, ints), omega (arith, ints)) fire.planned below) in
-    first_rises off fire.local l v u most fire.first first;
+      let below = (adjoint off fire.local v t local fire.first reached).0 come in
+      let near = reached_near off t local within range reached in
+      let most : fire.local ≤ℤ l = by_lt_z fire.local (neg_ℤ (pos 8_334_601_315_200)) (λ far. omega (arith, ints, wide))
+      (λ not. last.greatest fire.local (omega (arith, ints), omega (arith, ints)) fire.planned below) in
+      first_rises off fire.local l v u most fire.first first;
 }
 
 pub none_fires_until : (off : ℤ → ℤ) (plan : ℤ → Type 0) (t local : ℤ) → StayWithinDay off → IsReachedAt off t local → HasNoneUntil plan local → NoneFiresUntil off plan t
@@ -81,3 +82,22 @@ told_last law plan t local l u told None within range reached last wide first h 
     fires_before law.off plan t u range (last_fire law.off plan t local l u within range reached last wide first) h
 told_last law plan t local l u told (Some d) within range reached last wide first h =
     let found = last_fire law.off plan t local l u within range reached last wide first in let at = h.1.utc in grind (arith, ints)
+
+-- ---- all fires between two seconds
+pub each_fires : (off : ℤ → ℤ) (plan : ℤ → Type 0) (t until : ℤ) (us : List ℤ) → AreFires off plan t until us
+    → (k : ℕ) (d : ℤ) → k < length us → IsFire off plan (slice_index_or us k d) × (t <ℤ slice_index_or us k d) × (slice_index_or us k d ≤ℤ until)
+each_fires off plan t until [] h k d below = absurd (omega arith)
+each_fires off plan t until (u ∷ us) h zero d below = (h.0.fires, h.0.after, h.1)
+each_fires off plan t until (u ∷ us) h (suc k) d below =
+    let after = h.0.after in let rest = each_fires off plan u until us h.2 k d (omega arith) in (rest.0, omega (arith, ints, after, rest.1), rest.2)
+
+pub none_skipped : (off : ℤ → ℤ) (plan : ℤ → Type 0) (t until : ℤ) (us : List ℤ) → AreFires off plan t until us
+    → (v : ℤ) → IsFire off plan v → t <ℤ v → v ≤ℤ until → Contains us v
+none_skipped off plan t until [] h v fire after not_after = absurd (h v fire after not_after)
+none_skipped off plan t until (u ∷ us) h v fire after not_after =
+    let least = h.0.none_skipped v fire after in
+    by_lt_z u v (λ later. let rest = none_skipped off plan u until us h.2 v fire later not_after in (suc rest.0, omega arith, rest.2)) (λ not. (0, omega arith, omega (arith, ints)))
+
+pub none_doubled : (off : ℤ → ℤ) (plan : ℤ → Type 0) (t until : ℤ) (us : List ℤ) → AreFires off plan t until us → RiseFrom t us
+none_doubled off plan t until [] h = tt
+none_doubled off plan t until (u ∷ us) h = (h.0.after, none_doubled off plan u until us h.2)

@@ -1,5 +1,5 @@
 -- Plans, which are sets of local times, in whole seconds; and when they fire in a zone.
-use Rattle.std.specs.Prelude.{◌≡◌, ℤ, ◌≤ℤ◌, ◌<ℤ◌, List, [], ◌∷◌, Option, MatchOption, ℕ, ◌-ℤ◌, unsigned_abs, int_lt, if◌then◌else◌}
+use Rattle.std.specs.Prelude.{◌≡◌, ℤ, ◌≤ℤ◌, ◌<ℤ◌, List, [], ◌∷◌, Option, MatchOption, ℕ, ◌-ℤ◌, unsigned_abs, int_lt, if◌then◌else◌, ⊤}
 use Rattle.naive_base.specs.Range.{IsInRange, IsWide}
 use Rattle.naive_base.specs.Stamp.{of_secs}
 use Rattle.zoned_time.specs.Days.{IsFirstToReach}
@@ -68,6 +68,11 @@ NoneFiresBetween off plan t until = (v : ℤ) → IsFire off plan v → t <ℤ v
 abbrev pub AreFires : (ℤ → ℤ) → (ℤ → Type 0) → ℤ → ℤ → List ℤ → Type 0
 AreFires off plan t until [] = NoneFiresBetween off plan t until
 AreFires off plan t until (u ∷ us) = IsNextFire off plan t u × (u ≤ℤ until) × AreFires off plan u until us
+
+-- each of these seconds comes after the one before, and the first one after the second t
+abbrev pub RiseFrom : ℤ → List ℤ → Type 0
+RiseFrom t [] = ⊤
+RiseFrom t (u ∷ us) = (t <ℤ u) × RiseFrom u us
 
 -- the fires of a plan in a zone that are left: those after a second, and not after another one
 pub record Left (Z P : Type 0) : Type 0 where

@@ -18,12 +18,7 @@ pub struct Fires<Tz, P> {
 }
 
 impl<Tz: ZoneDays, P: Plan + Drop> Fires<Tz, P> {
-    pub(crate) fn new(
-        zone: Tz,
-        plan: P,
-        after: DateTime<Utc>,
-        until: DateTime<Utc>,
-    ) -> Fires<Tz, P>
+    pub(crate) fn new(zone: Tz, plan: P, after: DateTime<Utc>, until: DateTime<Utc>) -> Fires<Tz, P>
         ensures { left_of result ≡ record {
           zone = zone;
           plan = plan;

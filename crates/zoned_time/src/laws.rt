@@ -1,6 +1,7 @@
 //! Theorems: functions that only have a contract, and are never called.
 
 pub mod days;
+pub mod fires;
 
 ghost use Rattle.std.specs.Prelude.{◌≡◌, ◌↔◌, ◌++◌, ◌⊎◌, IsTrue, ℕ, ℤ, Option, Some, SomeIff, FitsSigned};
 ghost use Rattle.std.specs.Hash as fed;

@@ -1,0 +1,20 @@
+//! Theorems of plans and their fires: each function is empty, its contract is proved; never called.
+ghost use Rattle.std.specs.Prelude.{ℤ, ◌≤ℤ◌, ◌<ℤ◌, List, All, Contains};
+ghost use Rattle.zoned_time.specs.Plans.{AreFires, IsFire, RiseFrom};
+
+use crate::{Plan, TimeZone};
+
+/// All fires of a plan after a second and not after another one, if each is the next fire after the one
+/// before, as [`Fires`](crate::Fires) returns them: each is a fire between the two, none is skipped, and
+/// none is doubled.
+pub fn all_fires<P: Plan, Tz: TimeZone>()
+    ensures fires { (zone : Tz) (plan : P) (t until : ℤ) (us : List ℤ)
+        → AreFires (Tz.law zone).off (P.planned plan) t until us
+        → All (λ u. IsFire (Tz.law zone).off (P.planned plan) u × (t <ℤ u) × (u ≤ℤ until)) us }
+    ensures none_skipped { (zone : Tz) (plan : P) (t until : ℤ) (us : List ℤ)
+        → AreFires (Tz.law zone).off (P.planned plan) t until us
+        → (v : ℤ) → IsFire (Tz.law zone).off (P.planned plan) v → t <ℤ v → v ≤ℤ until
+        → Contains us v }
+    ensures none_doubled { (zone : Tz) (plan : P) (t until : ℤ) (us : List ℤ)
+        → AreFires (Tz.law zone).off (P.planned plan) t until us → RiseFrom t us }
+{}
