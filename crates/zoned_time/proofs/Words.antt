@@ -34,8 +34,8 @@ pub use Rattle.zoned_time.specs.DayEnds.{AreStartsOfDays, HasNoEnd, IsEndOfDay, 
 pub use Rattle.zoned_time.specs.Days.{AreEndsOfDay, AreInstantsOfDay, HasReached, IsFirstInstantFrom, IsFirstOutOfRange, IsFirstToReach, IsInDay, IsInstantFrom}
 pub use Rattle.zoned_time.specs.Days.{IsNeverOnDay, IsNoDay, IsOnDay, IsZonedAtOrAfter, midnight}
 pub use Rattle.zoned_time.specs.Fields.{IsOnly, IsOnlyWhere}
-pub use Rattle.zoned_time.specs.Plans.{AreFires, RiseFrom, HasNoneAfter, HasNoneUntil, IsFire, IsLastFire, IsLastUntil, IsNextAfter, IsNextFire, IsZonedLastFire}
-pub use Rattle.zoned_time.specs.Plans.{IsZonedNextFire, NoneFiresAfter, NoneFiresUntil}
+pub use Rattle.naive_plans.specs.Plans.{HasNoneAfter, HasNoneUntil, IsLastUntil, IsNextAfter}
+pub use Rattle.zoned_time.specs.Plans.{AreFires, IsFire, IsLastFire, IsNextFire, IsZonedLastFire, IsZonedNextFire, NoneFiresAfter, NoneFiresUntil, RiseFrom}
 pub use Rattle.zoned_time.specs.Reached.{HasPassed, IsReachedAt}
 pub use Rattle.zoned_time.specs.Relocal.{AreInstantsOf, HasInstant, IsRelocal, SingleIff, instant_of}
 pub use Rattle.zoned_time.specs.Stamps.{in_utc}

@@ -1,30 +1,10 @@
--- Plans, which are sets of local times, in whole seconds; and when they fire in a zone.
+-- When plans, which are sets of local times, in whole seconds, fire in a zone.
 use Rattle.std.specs.Prelude.{◌≡◌, ℤ, ◌≤ℤ◌, ◌<ℤ◌, List, [], ◌∷◌, Option, MatchOption, ℕ, ◌-ℤ◌, unsigned_abs, int_lt, if◌then◌else◌, ⊤}
-use Rattle.naive_base.specs.Range.{IsInRange, IsWide}
+use Rattle.naive_base.specs.Range.{IsInRange}
 use Rattle.naive_base.specs.Stamp.{of_secs}
 use Rattle.zoned_time.specs.Days.{IsFirstToReach}
 use Rattle.zoned_time.specs.Zone.{Meaning, Law}
 use Rattle.zoned_time.specs.Zoned.{Zoned, IsAt}
-
--- of the local seconds of a plan that a `NaiveDateTime` can show, l is the first one after `local`
-pub record IsNextAfter (plan : ℤ → Type 0) (local l : ℤ) : Type 0 where
-  pub planned : plan l
-  pub after : local <ℤ l
-  pub least : (m : ℤ) → IsWide m → plan m → local <ℤ m → l ≤ℤ m
-
--- none of them is after it
-abbrev pub HasNoneAfter : (ℤ → Type 0) → ℤ → Type 0
-HasNoneAfter plan local = (m : ℤ) → IsWide m → plan m → local <ℤ m → ⊥
-
--- l is the last one that is not after `local`
-pub record IsLastUntil (plan : ℤ → Type 0) (local l : ℤ) : Type 0 where
-  pub planned : plan l
-  pub not_after : l ≤ℤ local
-  pub greatest : (m : ℤ) → IsWide m → plan m → m ≤ℤ local → m ≤ℤ l
-
--- each of them is after it
-abbrev pub HasNoneUntil : (ℤ → Type 0) → ℤ → Type 0
-HasNoneUntil plan local = (m : ℤ) → IsWide m → plan m → m ≤ℤ local → ⊥
 
 -- the plan fires at the second u: the first second at which clocks show one of its local times or a later local time
 pub record IsFire (off : ℤ → ℤ) (plan : ℤ → Type 0) (u : ℤ) : Type 0 where

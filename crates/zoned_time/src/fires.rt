@@ -5,7 +5,8 @@ ghost use Rattle.zoned_time.specs.DateTime.{zoned};
 ghost use Rattle.zoned_time.specs.Fires.{left_of};
 ghost use Rattle.zoned_time.specs.Plans.{GivesFire, seconds_left};
 
-use crate::{DateTime, Plan, Utc, ZoneDays};
+use crate::{DateTime, Utc, ZoneDays};
+use naive_plans::Plan;
 use std::iter::FusedIterator;
 
 /// The fires of a plan in a zone, one after another. From [`ZoneDays::fires`].

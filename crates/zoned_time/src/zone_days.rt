@@ -16,8 +16,9 @@ ghost use Rattle.zoned_time.specs.Reached.{IsReachedAt};
 ghost use Rattle.zoned_time.specs.Zoned.{IsAt};
 
 use crate::reached::reached_at;
-use crate::{DateTime, Fires, Plan, TimeZone};
+use crate::{DateTime, Fires, TimeZone};
 use naive_base::{Datelike, Days, NaiveDate, NaiveDateTime, NaiveTime, Weekday};
+use naive_plans::{Plan, PlanBack};
 use offset_core::{FixedOffset, TimeDelta};
 
 /// The first and the last second at which clocks show a date: of a zone's instants, or of Unix time.
@@ -292,7 +293,7 @@ pub trait ZoneDays: TimeZone {
 
     /// Returns the last instant, not after another one of any zone, at which a plan fires; `None` if no
     /// instant in the range of [`DateTime`] is one.
-    final fn last_fire<P: Plan, Tz: TimeZone>(
+    final fn last_fire<P: PlanBack, Tz: TimeZone>(
         &self,
         plan: &P,
         until: &DateTime<Tz>,

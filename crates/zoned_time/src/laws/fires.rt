@@ -2,7 +2,8 @@
 ghost use Rattle.std.specs.Prelude.{ℤ, ◌≤ℤ◌, ◌<ℤ◌, List, All, Contains};
 ghost use Rattle.zoned_time.specs.Plans.{AreFires, IsFire, RiseFrom};
 
-use crate::{Plan, TimeZone};
+use crate::TimeZone;
+use naive_plans::Plan;
 
 /// All fires of a plan after a second and not after another one, if each is the next fire after the one
 /// before, as [`Fires`](crate::Fires) returns them: each is a fire between the two, none is skipped, and

@@ -1,15 +1,14 @@
 //! Plans: sets of local times.
 ghost use Rattle.std.specs.Prelude.{ℤ, MatchOption};
 ghost use Rattle.naive_base.specs.NaiveDateTime.{reading};
-ghost use Rattle.zoned_time.specs.Plans.{HasNoneAfter, HasNoneUntil, IsLastUntil, IsNextAfter};
+ghost use Rattle.naive_plans.specs.Plans.{HasNoneAfter, HasNoneUntil, IsLastUntil, IsNextAfter};
 
 use naive_base::NaiveDateTime;
 
 /// A set of local times in whole seconds, such as 02:30 on each weekday.
 ///
 /// It knows of no zone. In a zone it fires when clocks first show one of its local times or a later
-/// one: [`ZoneDays::next_fire`](crate::ZoneDays::next_fire) and
-/// [`ZoneDays::last_fire`](crate::ZoneDays::last_fire) find out when that is.
+/// one: `ZoneDays::next_fire` and `ZoneDays::last_fire` of `zoned_time` find out when that is.
 pub trait Plan {
     // its local times, as seconds
     ghost planned: { Self → ℤ → Type 0 };
@@ -20,11 +19,14 @@ pub trait Plan {
         ensures { let s = (reading local.now).s in
             MatchOption result (HasNoneAfter (planned self.now) s)
             (λ l. IsNextAfter (planned self.now) s (reading l).s) };
+}
 
+/// A plan that also goes back.
+pub trait PlanBack: Plan {
     /// Returns the last local time of the plan that is not after that one; `None` if a
     /// [`NaiveDateTime`] can show none.
     fn last_until(&self, local: &NaiveDateTime) -> Option<NaiveDateTime>
         ensures { let s = (reading local.now).s in
-            MatchOption result (HasNoneUntil (planned self.now) s)
-            (λ l. IsLastUntil (planned self.now) s (reading l).s) };
+            MatchOption result (HasNoneUntil (Self.planned self.now) s)
+            (λ l. IsLastUntil (Self.planned self.now) s (reading l).s) };
 }
