@@ -1,1 +1,2 @@
 mod DayWalk
+mod CronWalk

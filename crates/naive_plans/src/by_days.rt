@@ -7,13 +7,12 @@ ghost use Rattle.naive_base.specs.Reading.{reading_at};
 ghost use Rattle.naive_plans.specs.DayPlans.{HasNoneFrom, IsFirstFrom, by_days, second_before};
 ghost use Rattle.naive_plans.specs.Plans.{HasNoneAfter, IsNextAfter};
 
-use crate::Plan;
 use naive_base::{NaiveDate, NaiveDateTime, NaiveTime};
 use offset_core::FixedOffset;
 
 /// A plan by its days: which seconds of the day it has on a date.
 ///
-/// [`ByDays`] makes a [`Plan`] of it, which walks from one date to the next.
+/// [`next_by_days`] finds its next local time, and walks from one date to the next.
 pub trait DayPlan {
     // its seconds of the day on each day
     ghost planned_on: { Self → ℤ → ℕ → Type 0 };
@@ -25,29 +24,24 @@ pub trait DayPlan {
             (λ s. IsFirstFrom (planned_on self.now (day_of date)) second s) };
 
     /// Returns whether the plan has no local time at all, if it can tell. Where it answers `false` for a
-    /// plan without any, [`ByDays`] walks to the end of the range, over 95 million dates.
+    /// plan without any, [`next_by_days`] walks to the end of the range, over 95 million dates.
     fn has_none(&self) -> bool
         ensures { IsTrue result → (day : ℤ) (second : ℕ) → second < 86_400
             → planned_on self.now day second → ⊥ };
 }
 
-/// The plan of a [`DayPlan`].
-#[derive(Clone, Copy, Debug, Drop)]
-pub struct ByDays<D>(pub D);
-
-impl<D: DayPlan> Plan for ByDays<D> {
-    ghost planned = { λ p. by_days (D.planned_on p.0) };
-
-    fn next_after(&self, local: &NaiveDateTime) -> Option<NaiveDateTime> {
-        if self.0.has_none() {
-            return None;
-        }
-        first_from_on(
-            &self.0,
-            local.date(),
-            local.time().num_seconds_from_midnight() + 1,
-        )
+/// Returns the first local time of a plan by its days after that one; `None` if a [`NaiveDateTime`] can
+/// show none. With it `Plan::next_after` is one line.
+pub fn next_by_days<D: DayPlan>(plan: &D, local: &NaiveDateTime) -> Option<NaiveDateTime>
+    ensures { let planned = by_days (D.planned_on plan.now) in
+        let s = (reading local.now).s in
+        MatchOption result (HasNoneAfter planned s) (λ l. IsNextAfter planned s (reading l).s) }
+{
+    if plan.has_none() {
+        return None;
     }
+    let second = local.time().num_seconds_from_midnight() + 1;
+    first_from_on(plan, local.date(), second)
 }
 
 // The first local time from a second of a date on.

@@ -2,7 +2,9 @@
 #![tactic(auto)]
 
 mod by_days;
+mod cron;
 mod plan;
 
-pub use by_days::{ByDays, DayPlan};
+pub use by_days::{DayPlan, next_by_days};
+pub use cron::Cron;
 pub use plan::{Plan, PlanBack};

@@ -1,0 +1,32 @@
+-- The minutes of a date, one after another.
+use Rattle.std.proofs.Common.{IsTrue, arith, false, get_or, true, ℕ, ℤ, ◌%◌, ◌*◌, ◌+◌, ◌/◌, ◌<◌, ◌≡◌, ◌≤◌}
+use Rattle.naive_plans.specs.{Cron.{IsCronDay, IsCronMinute, IsCronTime}, DayPlans.{HasNoneFrom, IsFirstFrom}, declared.cron.Cron.{Cron}}
+
+-- all that it has on that day from a second on comes from a minute on
+pub record IsLeft (c : Cron) (day : ℤ) (second minute : ℕ) : Type 0 where
+  pub later : second ≤ minute * 60
+  pub left : (k : ℕ) → IsCronTime c day k → second ≤ k → minute * 60 ≤ k
+
+pub all_left : (c : Cron) (day : ℤ) (second : ℕ) → IsLeft c day second ((second + 59) / 60)
+all_left c day second = record { later = omega arith; left = λ k h from. let whole = h.whole in omega arith }
+
+pub found : (c : Cron) (day : ℤ) (second minute : ℕ) → minute < 1440 → IsLeft c day second minute → IsCronDay c day → IsCronMinute c minute → IsFirstFrom (IsCronTime c day) second (minute * 60)
+found c day second minute short h on at =
+    let is : minute * 60 / 60 ≡ minute = omega arith in
+    record {
+      planned = record { on = on; whole = omega arith; at = rw is at };
+      not_before = h.later;
+      in_day = omega arith;
+      least = λ k planned from. h.left k planned from;
+    }
+
+pub passed : (c : Cron) (day : ℤ) (second minute : ℕ) → IsLeft c day second minute → (IsCronMinute c minute → ⊥) → IsLeft c day second (minute + 1)
+passed c day second minute h not = record {
+  later = let later = h.later in omega arith;
+  left = λ k planned from.
+      let least = h.left k planned from in let whole = planned.whole in
+      let other : k ≡ minute * 60 → ⊥ = λ same. not (let is : k / 60 ≡ minute = omega arith in rw is at planned.at) in grind (arith, other);
+}
+
+pub none : (c : Cron) (day : ℤ) (second : ℕ) → IsLeft c day second 1440 → HasNoneFrom (IsCronTime c day) second
+none c day second h k short planned from = let least = h.left k planned from in omega arith

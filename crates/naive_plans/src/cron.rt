@@ -1,0 +1,75 @@
+//! The local times of a line of a crontab.
+ghost use Rattle.std.specs.Prelude.{◌↔◌, ◌<◌, IsTrue};
+ghost use Rattle.naive_base.specs.NaiveDate.{day_of};
+ghost use Rattle.naive_plans.specs.Cron.{IsCronDay, IsCronMinute, IsCronTime};
+ghost use Rattle.naive_plans.specs.DayPlans.{by_days};
+
+use crate::{DayPlan, Plan, next_by_days};
+use naive_base::{Datelike, NaiveDate, NaiveDateTime};
+
+/// The local times of a line of a crontab: of its five fields, which numbers each one lists.
+#[derive(Clone, Copy, Debug)]
+pub struct Cron {
+    pub minutes: [bool; 60],
+    pub hours: [bool; 24],
+    /// By the day of the month: place 0 is not used.
+    pub days: [bool; 32],
+    /// By the month: place 0 is not used.
+    pub months: [bool; 13],
+    /// From Sunday.
+    pub weekdays: [bool; 7],
+    /// Whether a date needs only one of the day of the month and the weekday: so if neither is `*`.
+    pub either: bool,
+}
+
+impl Cron {
+    /// Returns whether it has a date.
+    pub fn is_on(&self, date: NaiveDate) -> bool
+        ensures { IsTrue result ↔ IsCronDay self.now (day_of date) }
+    {
+        let by_month = self.days[date.day() as usize];
+        let by_week = self.weekdays[date.weekday().num_days_from_sunday() as usize];
+        self.months[date.month() as usize]
+            && if self.either {
+                by_month || by_week
+            } else {
+                by_month && by_week
+            }
+    }
+
+    /// Returns whether it has a minute of the day.
+    pub fn has_minute(&self, minute: u32) -> bool
+        requires { minute < 1440 }
+        ensures { IsTrue result ↔ IsCronMinute self.now minute }
+    {
+        self.hours[(minute / 60) as usize] && self.minutes[(minute % 60) as usize]
+    }
+}
+
+impl Plan for Cron {
+    ghost planned = { λ c. by_days (IsCronTime c) };
+
+    fn next_after(&self, local: &NaiveDateTime) -> Option<NaiveDateTime> {
+        next_by_days(self, local)
+    }
+}
+
+impl DayPlan for Cron {
+    ghost planned_on = { IsCronTime };
+
+    fn first_from(&self, date: NaiveDate, second: u32) -> Option<u32> {
+        if !self.is_on(date) || second > 86_340 {
+            return None;
+        }
+        for minute in (second + 59) / 60..1440 {
+            if self.has_minute(minute) {
+                return Some(minute * 60);
+            }
+        }
+        None
+    }
+
+    fn has_none(&self) -> bool {
+        !self.minutes.contains(&true) || !self.hours.contains(&true)
+    }
+}
