@@ -1,6 +1,9 @@
 -- The minutes of a date, one after another.
-use Rattle.std.proofs.Common.{IsTrue, arith, false, get_or, true, ℕ, ℤ, ◌%◌, ◌*◌, ◌+◌, ◌/◌, ◌<◌, ◌≡◌, ◌≤◌}
-use Rattle.naive_plans.specs.{Cron.{IsCronDay, IsCronMinute, IsCronTime}, DayPlans.{HasNoneFrom, IsFirstFrom}, declared.cron.Cron.{Cron}}
+use Rattle.std.proofs.Common.{arith, false, true, ℕ, ℤ, ◌*◌, ◌+◌, ◌/◌, ◌<◌, ◌≡◌, ◌≤◌}
+use Rattle.std.proofs.{Common.{Bool}, lemmas.Bool.Decides.{nat_tests}}
+use Rattle.gregorian.proofs.ForCallers.{date_is}
+use Rattle.gregorian.specs.{DateOf.{day_of_month, month_of, year_of}, Month.{days_in_month}, Year.{is_leap}}
+use Rattle.naive_plans.specs.{CronSteps.{HasNoMonthDay}, Cron.{IsCronDay, IsCronMinute, IsCronTime}, DayPlans.{HasNoneFrom, IsFirstFrom}, declared.cron.Cron.{Cron}}
 
 -- all that it has on that day from a second on comes from a minute on
 pub record IsLeft (c : Cron) (day : ℤ) (second minute : ℕ) : Type 0 where
@@ -30,3 +33,12 @@ passed c day second minute h not = record {
 
 pub none : (c : Cron) (day : ℤ) (second : ℕ) → IsLeft c day second 1440 → HasNoneFrom (IsCronTime c day) second
 none c day second h k short planned from = let least = h.left k planned from in omega arith
+
+-- ---- a line without a date
+longest : (b : Bool) (m : ℕ) → days_in_month b m ≤ days_in_month true m
+longest b m = grind (arith, nat_tests)
+
+pub no_date : (c : Cron) (day : ℤ) → c.either ≡ false → HasNoMonthDay c 13 → IsCronDay c day → ⊥
+no_date c day both none on =
+    let listed = rw both at on.listed in let is = (date_is day).0 in let days = longest (is_leap (year_of day)) (month_of day) in
+    none (month_of day) (day_of_month day) (omega (arith, is)) (omega (arith, is)) (omega (arith, is)) (omega (arith, is, days)) on.month listed.0

@@ -1,7 +1,8 @@
 //! The local times of a line of a crontab.
-ghost use Rattle.std.specs.Prelude.{◌↔◌, ◌<◌, IsTrue};
+ghost use Rattle.std.specs.Prelude.{◌↔◌, ◌⊎◌, ◌<◌, ◌≤◌, IsTrue};
 ghost use Rattle.naive_base.specs.NaiveDate.{day_of};
 ghost use Rattle.naive_plans.specs.Cron.{IsCronDay, IsCronMinute, IsCronTime};
+ghost use Rattle.naive_plans.specs.CronSteps.{HasNoDayUntil, HasNoMonthDay};
 ghost use Rattle.naive_plans.specs.DayPlans.{by_days};
 
 use crate::{DayPlan, Plan, next_by_days};
@@ -44,6 +45,32 @@ impl Cron {
     {
         self.hours[(minute / 60) as usize] && self.minutes[(minute % 60) as usize]
     }
+
+    // Whether it lists a day of the month up to that one.
+    fn has_day_until(&self, last: u32) -> bool
+        requires { last ≤ 31 }
+        ensures { IsTrue result ⊎ HasNoDayUntil self.now last }
+    {
+        for day in 1..last + 1 {
+            if self.days[day as usize] {
+                return true;
+            }
+        }
+        false
+    }
+
+    // Whether it lists a month with a day of the month that it lists.
+    fn has_month_day(&self) -> bool
+        ensures { IsTrue result ⊎ HasNoMonthDay self.now 13 }
+    {
+        for month in 1..13 {
+            let longest = gregorian::days_in_month(2000, month);
+            if self.months[month as usize] && self.has_day_until(longest) {
+                return true;
+            }
+        }
+        false
+    }
 }
 
 impl Plan for Cron {
@@ -70,6 +97,9 @@ impl DayPlan for Cron {
     }
 
     fn has_none(&self) -> bool {
-        !self.minutes.contains(&true) || !self.hours.contains(&true)
+        !self.minutes.contains(&true)
+            || !self.hours.contains(&true)
+            || !self.months.contains(&true)
+            || !self.either && !self.has_month_day()
     }
 }

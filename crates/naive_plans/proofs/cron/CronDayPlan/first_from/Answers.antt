@@ -1,5 +1,5 @@
 use Rattle.naive_base.proofs.Words.{arith, day_of, refl}
-use Rattle.naive_plans.proofs.CronWalk.{all_left, found, none, passed}
+use Rattle.naive_plans.proofs.CronWalk.{found, passed}
 use Rattle.naive_plans.proofs.cron.CronDayPlan.first_from.Goals as goal
 
 pub returns-then-has_minute : goal.returns-then-has_minute
