@@ -1,2 +1,1 @@
 pub mod Fires
-pub mod Steps

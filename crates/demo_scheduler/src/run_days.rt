@@ -1,5 +1,5 @@
 //! The days on which a job runs.
-ghost use Rattle.std.specs.Prelude.{◌↔◌, IsTrue};
+ghost use Rattle.std.specs.Prelude.{◌↔◌, IsTrue, ℤ};
 ghost use Rattle.demo_scheduler.specs.Fires.{RunsOn};
 ghost use Rattle.naive_base.specs.NaiveDate.{day_of};
 
@@ -26,6 +26,16 @@ impl RunDays {
             RunDays::Workdays => 1 <= weekday && weekday <= 5,
             RunDays::Weekday(other) => weekday == other.num_days_from_sunday(),
             RunDays::MonthDay(day) => date.day() == *day,
+        }
+    }
+
+    // Whether it is no day at all.
+    pub(crate) fn has_none(&self) -> bool
+        ensures { IsTrue result → (day : ℤ) → RunsOn self.now day → ⊥ }
+    {
+        match self {
+            RunDays::MonthDay(day) => *day == 0 || *day > 31,
+            _ => false,
         }
     }
 }

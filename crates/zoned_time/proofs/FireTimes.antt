@@ -1,5 +1,8 @@
 -- When plans fire: the fires up to a second are those of the plan's local times up to the last one that clocks have shown.
 use Rattle.std.proofs.Common.{Contains, length, slice_index_or}
+use Rattle.std.proofs.lemmas.Bool.Decides.{nat_tests}
+use Rattle.zoned_time.specs.Plans.{second_before}
+use Rattle.zoned_time.proofs.Words.{Reading, ◌≡◌}
 use Rattle.zoned_time.proofs.Words.{AreFires, RiseFrom, List, [], suc, zero, ℕ, ◌<◌, ◌∷◌, HasNoneAfter, HasNoneUntil, HasReached, IsAt, IsFire, IsFirstToReach, IsInRange, IsLastFire, IsLastUntil, IsNextAfter}
 use Rattle.zoned_time.proofs.Words.{IsNextFire, IsReachedAt, IsWide, IsZonedLastFire, IsZonedNextFire, IsZoneSecond, Law, MatchOption, Meaning, NoneFiresAfter}
 use Rattle.zoned_time.proofs.Words.{NoneFiresUntil, None, Option, Some, Zoned, arith, by_lt_z, ints, neg_ℤ, of_secs, pos, ℤ, ◌+ℤ◌, ◌-ℤ◌, ◌<ℤ◌, ◌≤ℤ◌}
@@ -101,3 +104,10 @@ none_skipped off plan t until (u ∷ us) h v fire after not_after =
 pub none_doubled : (off : ℤ → ℤ) (plan : ℤ → Type 0) (t until : ℤ) (us : List ℤ) → AreFires off plan t until us → RiseFrom t us
 none_doubled off plan t until [] h = tt
 none_doubled off plan t until (u ∷ us) h = (h.0.after, none_doubled off plan u until us h.2)
+
+-- ---- the last fire before an instant
+pub none_before_first : (off : ℤ → ℤ) (plan : ℤ → Type 0) (s : ℤ) → IsInRange s → (IsInRange (s -ℤ pos 1) → ⊥) → NoneFiresUntil off plan (s -ℤ pos 1)
+none_before_first off plan s range out v inside fire come = out (omega (arith, ints, range, inside, come), omega (arith, ints, range))
+
+pub before_whole : (r : Reading) → r.f ≡ 0 → second_before r ≡ r.s -ℤ pos 1
+before_whole r none = grind (arith, nat_tests)

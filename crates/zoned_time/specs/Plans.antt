@@ -1,6 +1,7 @@
 -- When plans, which are sets of local times, in whole seconds, fire in a zone.
-use Rattle.std.specs.Prelude.{◌≡◌, ℤ, ◌≤ℤ◌, ◌<ℤ◌, List, [], ◌∷◌, Option, MatchOption, ℕ, ◌-ℤ◌, unsigned_abs, int_lt, if◌then◌else◌, ⊤}
+use Rattle.std.specs.Prelude.{◌≡◌, ℤ, ◌≤ℤ◌, ◌<ℤ◌, List, [], ◌∷◌, Option, MatchOption, ℕ, ◌-ℤ◌, unsigned_abs, int_lt, if◌then◌else◌, ⊤, pos, nat_lt}
 use Rattle.naive_base.specs.Range.{IsInRange}
+use Rattle.naive_base.specs.Reading.{Reading}
 use Rattle.naive_base.specs.Stamp.{of_secs}
 use Rattle.zoned_time.specs.Days.{IsFirstToReach}
 use Rattle.zoned_time.specs.Zone.{Meaning, Law}
@@ -30,6 +31,10 @@ NoneFiresAfter off plan t = (v : ℤ) → IsInRange v → IsFire off plan v → 
 
 abbrev pub NoneFiresUntil : (ℤ → ℤ) → (ℤ → Type 0) → ℤ → Type 0
 NoneFiresUntil off plan t = (v : ℤ) → IsInRange v → IsFire off plan v → v ≤ℤ t → ⊥
+
+-- the last second that begins before an instant
+abbrev pub second_before : Reading → ℤ
+second_before r = if nat_lt 0 r.f then r.s else r.s -ℤ pos 1
 
 -- these fires as instants of the zone
 pub record IsZonedNextFire {O : Type 0} {m : Meaning O} (law : Law m) (plan : ℤ → Type 0) (t : ℤ) (d : Zoned O) : Type 0 where

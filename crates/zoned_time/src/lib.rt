@@ -16,7 +16,6 @@ mod zone_days;
 
 pub use datetime::{DateTime, MAX_DATETIME, MIN_DATETIME};
 pub use fires::Fires;
-pub use naive_plans::{ByDays, DayPlan, Plan, PlanBack};
 pub use naive_zoned::NaiveZoned;
 pub use offset::Offset;
 pub use offset_core::{Around, ResolveError, Taken};

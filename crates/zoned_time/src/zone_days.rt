@@ -16,7 +16,7 @@ ghost use Rattle.zoned_time.specs.Reached.{IsReachedAt};
 ghost use Rattle.zoned_time.specs.Zoned.{IsAt};
 
 use crate::reached::reached_at;
-use crate::{DateTime, Fires, TimeZone};
+use crate::{DateTime, Fires, TimeZone, Utc};
 use naive_base::{Datelike, Days, NaiveDate, NaiveDateTime, NaiveTime, Weekday};
 use naive_plans::{Plan, PlanBack};
 use offset_core::{FixedOffset, TimeDelta};
@@ -305,6 +305,26 @@ pub trait ZoneDays: TimeZone {
     {
         let local = plan.last_until(&self.reached(until))?;
         instant_at(self, self.first_second_at_or_after(&local), 0)
+    }
+
+    /// Returns the last instant before another one, of any zone, at which a plan fires; `None` if no
+    /// instant in the range of [`DateTime`] is one.
+    final fn previous_fire<P: PlanBack, Tz: TimeZone>(
+        &self,
+        plan: &P,
+        before: &DateTime<Tz>,
+    ) -> Option<DateTime<Self>>
+        ensures { let law = Self.law self.now in
+            let s = plans.second_before (zoned before.now).utc in
+            MatchOption result (plans.NoneFiresUntil law.off (P.planned plan.now) s)
+            (λ d. plans.IsZonedLastFire law (P.planned plan.now) s (zoned d)) }
+    {
+        let second = before.timestamp();
+        if before.timestamp_subsec_nanos() > 0 {
+            return self.last_fire(plan, before);
+        }
+        let until = DateTime::<Utc>::from_timestamp(second - 1, 0)?;
+        self.last_fire(plan, &until)
     }
 }
 
