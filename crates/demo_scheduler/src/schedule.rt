@@ -1,5 +1,5 @@
 //! When a job runs.
-ghost use Rattle.std.specs.Prelude.{MatchOption};
+ghost use Rattle.std.specs.Prelude.{◌≡◌, ◌≤◌, ◌⊎◌, ⊤, Some, MatchOption};
 ghost use Rattle.demo_scheduler.specs.Fires.{IsPlannedOn, planned_by};
 ghost use Rattle.zoned_time.specs.DateTime.{zoned};
 ghost use Rattle.zoned_time.specs.Plans.{IsZonedNextFire, NoneFiresAfter};
@@ -48,14 +48,29 @@ impl DayPlan for Schedule {
         if !self.days.runs_on(date) {
             return None;
         }
-        self.times
-            .iter()
-            .map(|time| time.num_seconds_from_midnight())
-            .filter(|start| *start >= second)
-            .min()
+        let mut first = None;
+        for time in &self.times {
+            first = earlier(first, time.num_seconds_from_midnight(), second);
+        }
+        first
     }
 
     fn has_none(&self) -> bool {
         self.times.is_empty() || self.days.has_none()
+    }
+}
+
+// The earlier of a second of the day, if there is one, and another one, if that is not before a third.
+fn earlier(first: Option<u32>, start: u32, second: u32) -> Option<u32>
+    ensures one { (result ≡ first) ⊎ ((result ≡ Some start) × (second ≤ start)) }
+    ensures tried { second ≤ start → MatchOption result ⊥ (λ s. s ≤ start) }
+    ensures not_later { MatchOption first ⊤ (λ s. MatchOption result ⊥ (λ r. r ≤ s)) }
+{
+    if start < second {
+        return first;
+    }
+    match first {
+        None => Some(start),
+        Some(other) => Some(other.min(start)),
     }
 }

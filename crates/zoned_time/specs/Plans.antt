@@ -76,3 +76,7 @@ GivesFire law plan zoned before answer after = MatchOption answer
     (NoneFiresBetween law.off plan before.after before.until × (after ≡ before))
     (λ d. IsZonedNextFire law plan before.after (zoned d) × ((zoned d).utc.s ≤ℤ before.until)
     × (after ≡ record before { after = (zoned d).utc.s }))
+
+-- these are all that are left
+abbrev pub AreLeft : {Z P O : Type 0} {m : Meaning O} → (Z → Law m) → (P → ℤ → Type 0) → Left Z P → List ℤ → Type 0
+AreLeft law planned l us = AreFires (law l.zone).off (planned l.plan) l.after l.until us

@@ -1,8 +1,10 @@
 //! Theorems of plans and their fires: each function is empty, its contract is proved; never called.
-ghost use Rattle.std.specs.Prelude.{ℤ, ◌≤ℤ◌, ◌<ℤ◌, List, All, Contains};
-ghost use Rattle.zoned_time.specs.Plans.{AreFires, IsFire, RiseFrom};
+ghost use Rattle.std.specs.Prelude.{ℤ, ◌≤ℤ◌, ◌<ℤ◌, List, [], ◌∷◌, Some, None, All, Contains};
+ghost use Rattle.zoned_time.specs.DateTime.{zoned};
+ghost use Rattle.zoned_time.specs.Fires.{left_of};
+ghost use Rattle.zoned_time.specs.Plans.{AreFires, AreLeft, IsFire, RiseFrom};
 
-use crate::TimeZone;
+use crate::{Fires, TimeZone, ZoneDays};
 use naive_plans::Plan;
 
 /// All fires of a plan after a second and not after another one, if each is the next fire after the one
@@ -18,4 +20,15 @@ pub fn all_fires<P: Plan, Tz: TimeZone>()
         → Contains us v }
     ensures none_doubled { (zone : Tz) (plan : P) (t until : ℤ) (us : List ℤ)
         → AreFires (Tz.law zone).off (P.planned plan) t until us → RiseFrom t us }
+{}
+
+/// The steps of [`Fires`] give all fires that it has left: none at the end, and before that one and
+/// those left after it.
+pub fn steps<Tz: ZoneDays, P: Plan + Drop>(before: &Fires<Tz, P>, after: &Fires<Tz, P>)
+    ensures last { ⟦<Fires<Tz, P> as Iterator>⟧.next_gives before.now None after.now
+        → AreLeft Tz.law P.planned (left_of before.now) [] }
+    ensures more { (us : List ℤ) (d : _) → ⟦<Fires<Tz, P> as Iterator>⟧.next_gives before.now (Some d)
+        after.now
+        → AreLeft Tz.law P.planned (left_of after.now) us
+        → AreLeft Tz.law P.planned (left_of before.now) ((zoned d).utc.s ∷ us) }
 {}
