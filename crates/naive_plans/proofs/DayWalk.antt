@@ -1,9 +1,9 @@
 -- The walk from one date to the next.
 use Rattle.naive_base.proofs.Words.{IsWideDay, arith, by_lt_z, floor_div, floors, ints, pos, subst, ℕ, ℤ, ◌*ℤ◌, ◌+ℤ◌, ◌<ℤ◌, ◌≡◌, ◌≤ℤ◌}
 use Rattle.gregorian.specs.Year.{floor_mod}
-use Rattle.std.specs.Prelude.{◌≤◌}
-use Rattle.naive_plans.specs.DayPlans.{HasNoneFrom, IsFirstFrom, by_days, second_before}
-use Rattle.naive_plans.specs.Plans.{HasNoneAfter, IsNextAfter}
+use Rattle.std.specs.Prelude.{◌≤◌, ◌<◌, ◌-ℤ◌}
+use Rattle.naive_plans.specs.DayPlans.{HasNoneFrom, HasNoneTo, IsFirstFrom, IsLastTo, by_days, second_before}
+use Rattle.naive_plans.specs.Plans.{HasNoneAfter, HasNoneUntil, IsLastUntil, IsNextAfter}
 
 -- all that the plan has after a local second, and can be shown, comes from a second of a day on
 pub record IsLeft (plan : ℤ → Type 0) (before day : ℤ) (from : ℕ) : Type 0 where
@@ -41,4 +41,40 @@ found_on_day on before day from s h first =
       least = λ m inside planned later. let after = h.left m planned later in
           by_lt_z day (floor_div m 86_400) (λ more. omega (arith, ints, floors))
           (λ not. let least = first.least (floor_mod m 86_400) (on_its_day on day m (omega (arith, ints, floors)) planned) (omega (arith, ints, floors)) in omega (arith, ints, floors));
+    }
+
+-- ---- and back
+-- all that it has up to a local second, and can be shown, comes up to a second of a day
+pub record IsLeftBefore (plan : ℤ → Type 0) (until day : ℤ) (to : ℕ) : Type 0 where
+  pub in_day : to < 86_400
+  pub not_later : (day *ℤ pos 86_400 +ℤ pos to) ≤ℤ until
+  pub left : (m : ℤ) → plan m → m ≤ℤ until → m ≤ℤ (day *ℤ pos 86_400 +ℤ pos to)
+
+pub all_before : (plan : ℤ → Type 0) (day : ℤ) (to : ℕ) → to < 86_400 → IsLeftBefore plan (day *ℤ pos 86_400 +ℤ pos to) day to
+all_before plan day to in_day = record { in_day = in_day; not_later = omega (arith, ints); left = λ m planned come. come }
+
+pub none_back : (on : ℤ → ℕ → Type 0) (until day : ℤ) (to : ℕ) → IsLeftBefore (by_days on) until day to → HasNoneTo (on day) to → IsLeftBefore (by_days on) until (day -ℤ pos 1) 86_399
+none_back on until day to h none = record {
+  in_day = omega arith;
+  not_later = let not_later = h.not_later in omega (arith, ints);
+  left = λ m planned come. let most = h.left m planned come in let in_day = h.in_day in
+  by_lt_z (floor_div m 86_400) day (λ less. omega (arith, ints, floors))
+  (λ not. absurd (none (floor_mod m 86_400) (omega (arith, ints, floors)) (on_its_day on day m (omega (arith, ints, floors)) planned) (omega (arith, ints, floors))));
+}
+
+pub at_start : (plan : ℤ → Type 0) (until day : ℤ) → IsWideDay day → (IsWideDay (day -ℤ pos 1) → ⊥) → IsLeftBefore plan until (day -ℤ pos 1) 86_399 → HasNoneUntil plan until
+at_start plan until day wide out h m inside planned come =
+    let most = h.left m planned come in out (omega (arith, ints, wide, inside), omega (arith, ints, wide, inside))
+
+pub last_on_day : (on : ℤ → ℕ → Type 0) (until day : ℤ) (to s : ℕ) → IsLeftBefore (by_days on) until day to → IsLastTo (on day) to s → IsLastUntil (by_days on) until (day *ℤ pos 86_400 +ℤ pos s)
+last_on_day on until day to s h last =
+    let l : ℤ = day *ℤ pos 86_400 +ℤ pos s in let in_day = last.in_day in let not_after = last.not_after in
+    let is_day : floor_div l 86_400 ≡ day = omega (arith, ints, floors) in
+    let is_second : floor_mod l 86_400 ≡ s = omega (arith, ints, floors) in
+    record {
+      planned = rw (is_day, is_second) last.planned;
+      not_after = let not_later = h.not_later in omega (arith, ints);
+      greatest = λ m inside planned come. let most = h.left m planned come in let short = h.in_day in
+      by_lt_z (floor_div m 86_400) day (λ less. omega (arith, ints, floors))
+      (λ not. let greatest = last.greatest (floor_mod m 86_400) (omega (arith, ints, floors)) (on_its_day on day m (omega (arith, ints, floors)) planned) (omega (arith, ints, floors)) in omega (arith, ints, floors));
     }

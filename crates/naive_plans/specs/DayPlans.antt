@@ -20,3 +20,14 @@ HasNoneFrom on from = (k : ℕ) → k < 86_400 → on k → from ≤ k → ⊥
 -- the local second before that second of the day
 abbrev pub second_before : ℤ → ℕ → ℤ
 second_before day second = (day *ℤ pos 86_400 +ℤ pos second) -ℤ pos 1
+
+-- s is the last one up to a second
+pub record IsLastTo (on : ℕ → Type 0) (to s : ℕ) : Type 0 where
+  pub planned : on s
+  pub not_after : s ≤ to
+  pub in_day : s < 86_400
+  pub greatest : (k : ℕ) → k < 86_400 → on k → k ≤ to → k ≤ s
+
+-- the day has none of them up to there
+abbrev pub HasNoneTo : (ℕ → Type 0) → ℕ → Type 0
+HasNoneTo on to = (k : ℕ) → k < 86_400 → on k → k ≤ to → ⊥

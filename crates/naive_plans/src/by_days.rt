@@ -1,11 +1,11 @@
 //! Plans by their days.
-ghost use Rattle.std.specs.Prelude.{◌≡◌, ◌<◌, ◌≤◌, ℕ, ℤ, pos, ◌+ℤ◌, MatchOption, IsTrue};
+ghost use Rattle.std.specs.Prelude.{◌≡◌, ◌<◌, ◌≤◌, ℕ, ℤ, pos, ◌+ℤ◌, ◌-ℤ◌, MatchOption, IsTrue};
 ghost use Rattle.naive_base.specs.NaiveDate.{day_of};
 ghost use Rattle.naive_base.specs.NaiveDateTime.{reading};
 ghost use Rattle.naive_base.specs.Range.{IsWideDay};
 ghost use Rattle.naive_base.specs.Reading.{reading_at};
-ghost use Rattle.naive_plans.specs.DayPlans.{HasNoneFrom, IsFirstFrom, by_days, second_before};
-ghost use Rattle.naive_plans.specs.Plans.{HasNoneAfter, IsNextAfter};
+ghost use Rattle.naive_plans.specs.DayPlans.{HasNoneFrom, HasNoneTo, IsFirstFrom, IsLastTo, by_days, second_before};
+ghost use Rattle.naive_plans.specs.Plans.{HasNoneAfter, HasNoneUntil, IsLastUntil, IsNextAfter};
 
 use naive_base::{NaiveDate, NaiveDateTime, NaiveTime};
 use offset_core::FixedOffset;
@@ -42,6 +42,47 @@ pub fn next_by_days<D: DayPlan>(plan: &D, local: &NaiveDateTime) -> Option<Naive
     }
     let second = local.time().num_seconds_from_midnight() + 1;
     first_from_on(plan, local.date(), second)
+}
+
+/// A plan by its days that also goes back.
+pub trait DayPlanBack: DayPlan {
+    /// Returns the last second of the day, up to that one, that the plan has on a date; `None` if it
+    /// has none.
+    fn last_to(&self, date: NaiveDate, second: u32) -> Option<u32>
+        ensures { MatchOption result (HasNoneTo (Self.planned_on self.now (day_of date)) second)
+            (λ s. IsLastTo (Self.planned_on self.now (day_of date)) second s) };
+}
+
+/// Returns the last local time of a plan by its days that is not after that one; `None` if a
+/// [`NaiveDateTime`] can show none. With it `PlanBack::last_until` is one line.
+pub fn last_by_days<D: DayPlanBack>(plan: &D, local: &NaiveDateTime) -> Option<NaiveDateTime>
+    ensures { let planned = by_days (D.planned_on plan.now) in
+        let s = (reading local.now).s in
+        MatchOption result (HasNoneUntil planned s) (λ l. IsLastUntil planned s (reading l).s) }
+{
+    if plan.has_none() {
+        return None;
+    }
+    last_to_on(plan, local.date(), local.time().num_seconds_from_midnight())
+}
+
+// The last local time up to a second of a date.
+fn last_to_on<D: DayPlanBack>(plan: &D, start: NaiveDate, second: u32) -> Option<NaiveDateTime>
+    requires { second < 86_400 }
+    ensures { let planned = by_days (D.planned_on plan.now) in
+        let until = (reading_at (day_of start) second 0).s in
+        MatchOption result (HasNoneUntil planned until)
+        (λ l. IsLastUntil planned until (reading l).s) }
+{
+    let mut date = start;
+    let mut to = second;
+    'dates: loop {
+        if let Some(found) = plan.last_to(date, to) {
+            return Some(at_second(date, found));
+        }
+        date = date_before(date)?;
+        to = 86_399;
+    }
 }
 
 // The first local time from a second of a date on.
@@ -85,5 +126,22 @@ fn date_after(date: NaiveDate) -> Option<NaiveDate>
     }
     let half_a_day = FixedOffset::east(43_200);
     let noon = start.overflowing_add_offset(half_a_day);
+    Some(noon.overflowing_add_offset(half_a_day).date())
+}
+
+// The date before, also on the buffer day before the range.
+fn date_before(date: NaiveDate) -> Option<NaiveDate>
+    ensures { MatchOption result (IsWideDay (day_of date -ℤ pos 1) → ⊥)
+        (λ last. day_of last ≡ (day_of date -ℤ pos 1)) }
+{
+    let start = date.and_time(NaiveTime::MIN);
+    if !start.is_in_range() {
+        return date.pred_opt();
+    }
+    let half_a_day = FixedOffset::west(43_200);
+    let noon = start.overflowing_add_offset(half_a_day);
+    if !noon.is_in_range() {
+        return Some(noon.date());
+    }
     Some(noon.overflowing_add_offset(half_a_day).date())
 }

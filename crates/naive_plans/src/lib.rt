@@ -5,6 +5,6 @@ mod by_days;
 mod cron;
 mod plan;
 
-pub use by_days::{DayPlan, next_by_days};
+pub use by_days::{DayPlan, DayPlanBack, last_by_days, next_by_days};
 pub use cron::Cron;
 pub use plan::{Plan, PlanBack};

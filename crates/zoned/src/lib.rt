@@ -154,7 +154,10 @@
 //! | a date | when it starts | [`ZoneDays::start_of_day`] |
 //! | a date | its last instant; how long it lasts | [`ZoneDays::end_of_day`]; [`ZoneDays::length_of_day`] |
 //! | a date | when its week, month or year starts | [`ZoneDays::start_of_week`], [`ZoneDays::start_of_month`], [`ZoneDays::start_of_year`] |
-//! | an instant | when its day starts | [`DateTime::start_of_day`] |
+//! | an instant | the date of its day, and when that starts | [`ZoneDays::date_of`], [`DateTime::start_of_day`] |
+//! | an instant | the last local time that clocks have shown | [`ZoneDays::reached`] |
+//! | a plan, such as a line of a crontab, and an instant | when it fires next, and when it did last | [`ZoneDays::next_fire`], [`ZoneDays::last_fire`] |
+//! | a plan, and two instants | when it fires in between | [`ZoneDays::fires`] |
 //! | a date | the first and the last second at which clocks show it | [`ZoneDays::day`] |
 //! | a wall clock | the first instant at which clocks have reached it | [`ZoneDays::first_at_or_after`] |
 //! | two versions of a zone | what differs | [`tz_info::TimeZone::differences`] |
@@ -241,6 +244,7 @@ pub use naive_base::{
     Datelike, Days, IsoWeek, Month, Months, NaiveDate, NaiveDateDaysIterator, NaiveDateTime,
     NaiveDateWeeksIterator, NaiveTime, NaiveWeek, OutOfRange, Timelike, Weekday,
 };
+pub use naive_plans::{Cron, DayPlan, Plan, PlanBack, next_by_days};
 pub use offset_core::{
     Around, Choice, FixedOffset, FoldChoice, GapChoice, LocalResult, MappedLocalTime,
     OutOfRangeError, ResolveError, Taken, TimeDelta,
@@ -253,5 +257,5 @@ pub use zoned_ref::{TimeZoneRef, WallClock, ZoneChange, ZoneOffset};
 pub use zoned_round::{DurationRound, RoundingError, SubsecRound};
 pub use zoned_series::{DailyItems, DailySeries, SeriesError};
 pub use zoned_time::{
-    DateTime, MAX_DATETIME, MIN_DATETIME, NaiveZoned, Offset, ShownDay, TimeZone, Utc, ZoneDays,
+    DateTime, Fires, MAX_DATETIME, MIN_DATETIME, NaiveZoned, Offset, ShownDay, TimeZone, Utc, ZoneDays,
 };
