@@ -3,7 +3,7 @@ use Rattle.std.proofs.Common.{arith, false, true, ℕ, ℤ, ◌*◌, ◌+◌, �
 use Rattle.std.proofs.{Common.{Bool}, lemmas.Bool.Decides.{nat_tests}}
 use Rattle.gregorian.proofs.ForCallers.{date_is}
 use Rattle.gregorian.specs.{DateOf.{day_of_month, month_of, year_of}, Month.{days_in_month}, Year.{is_leap}}
-use Rattle.naive_plans.specs.{CronSteps.{HasNoMonthDay}, Cron.{IsCronDay, IsCronMinute, IsCronTime}, DayPlans.{HasNoneFrom, IsFirstFrom}, declared.cron.Cron.{Cron}}
+use Rattle.naive_plans.specs.{CronSteps.{HasNoMonthDay}, Cron.{IsCronDay, IsCronMinute, IsCronTime}, DayPlans.{HasNoneFrom, HasNoneTo, IsFirstFrom, IsLastTo}, declared.cron.Cron.{Cron}}
 
 -- all that it has on that day from a second on comes from a minute on
 pub record IsLeft (c : Cron) (day : ℤ) (second minute : ℕ) : Type 0 where
@@ -42,3 +42,32 @@ pub no_date : (c : Cron) (day : ℤ) → c.either ≡ false → HasNoMonthDay c 
 no_date c day both none on =
     let listed = rw both at on.listed in let is = (date_is day).0 in let days = longest (is_leap (year_of day)) (month_of day) in
     none (month_of day) (day_of_month day) (omega (arith, is)) (omega (arith, is)) (omega (arith, is)) (omega (arith, is, days)) on.month listed.0
+
+-- ---- and back
+-- all that it has on that day up to a second comes before a minute
+pub record IsLeftBefore (c : Cron) (day : ℤ) (second left : ℕ) : Type 0 where
+  pub short : left ≤ 1440
+  pub not_later : left * 60 ≤ second + 60
+  pub before : (k : ℕ) → k < 86_400 → IsCronTime c day k → k ≤ second → k < left * 60
+
+pub found_last : (c : Cron) (day : ℤ) (second left : ℕ) → IsLeftBefore c day second (left + 1) → IsCronDay c day → IsCronMinute c left → IsLastTo (IsCronTime c day) second (left * 60)
+found_last c day second left h on at =
+    let is : left * 60 / 60 ≡ left = omega arith in let short = h.short in let not_later = h.not_later in
+    record {
+      planned = record { on = on; whole = omega arith; at = rw is at };
+      not_after = omega arith;
+      in_day = omega arith;
+      greatest = λ k in_day planned come. let below = h.before k in_day planned come in let whole = planned.whole in omega arith;
+    }
+
+pub passed_back : (c : Cron) (day : ℤ) (second left : ℕ) → IsLeftBefore c day second (left + 1) → (IsCronMinute c left → ⊥) → IsLeftBefore c day second left
+passed_back c day second left h not = record {
+  short = let short = h.short in omega arith;
+  not_later = let not_later = h.not_later in omega arith;
+  before = λ k in_day planned come.
+      let below = h.before k in_day planned come in let whole = planned.whole in
+      let other : k ≡ left * 60 → ⊥ = λ same. not (let is : k / 60 ≡ left = omega arith in rw is at planned.at) in grind (arith, other);
+}
+
+pub none_back : (c : Cron) (day : ℤ) (second : ℕ) → IsLeftBefore c day second 0 → HasNoneTo (IsCronTime c day) second
+none_back c day second h k in_day planned come = let below = h.before k in_day planned come in omega arith

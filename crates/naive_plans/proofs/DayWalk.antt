@@ -58,8 +58,8 @@ none_back on until day to h none = record {
   in_day = omega arith;
   not_later = let not_later = h.not_later in omega (arith, ints);
   left = λ m planned come. let most = h.left m planned come in let in_day = h.in_day in
-  by_lt_z (floor_div m 86_400) day (λ less. omega (arith, ints, floors))
-  (λ not. absurd (none (floor_mod m 86_400) (omega (arith, ints, floors)) (on_its_day on day m (omega (arith, ints, floors)) planned) (omega (arith, ints, floors))));
+      by_lt_z (floor_div m 86_400) day (λ less. omega (arith, ints, floors))
+      (λ not. absurd (none (floor_mod m 86_400) (omega (arith, ints, floors)) (on_its_day on day m (omega (arith, ints, floors)) planned) (omega (arith, ints, floors))));
 }
 
 pub at_start : (plan : ℤ → Type 0) (until day : ℤ) → IsWideDay day → (IsWideDay (day -ℤ pos 1) → ⊥) → IsLeftBefore plan until (day -ℤ pos 1) 86_399 → HasNoneUntil plan until
@@ -75,6 +75,6 @@ last_on_day on until day to s h last =
       planned = rw (is_day, is_second) last.planned;
       not_after = let not_later = h.not_later in omega (arith, ints);
       greatest = λ m inside planned come. let most = h.left m planned come in let short = h.in_day in
-      by_lt_z (floor_div m 86_400) day (λ less. omega (arith, ints, floors))
-      (λ not. let greatest = last.greatest (floor_mod m 86_400) (omega (arith, ints, floors)) (on_its_day on day m (omega (arith, ints, floors)) planned) (omega (arith, ints, floors)) in omega (arith, ints, floors));
+          by_lt_z (floor_div m 86_400) day (λ less. omega (arith, ints, floors))
+          (λ not. let greatest = last.greatest (floor_mod m 86_400) (omega (arith, ints, floors)) (on_its_day on day m (omega (arith, ints, floors)) planned) (omega (arith, ints, floors)) in omega (arith, ints, floors));
     }

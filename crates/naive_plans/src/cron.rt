@@ -5,7 +5,7 @@ ghost use Rattle.naive_plans.specs.Cron.{IsCronDay, IsCronMinute, IsCronTime};
 ghost use Rattle.naive_plans.specs.CronSteps.{HasNoDayUntil, HasNoMonthDay};
 ghost use Rattle.naive_plans.specs.DayPlans.{by_days};
 
-use crate::{DayPlan, Plan, next_by_days};
+use crate::{DayPlan, DayPlanBack, Plan, PlanBack, last_by_days, next_by_days};
 use naive_base::{Datelike, NaiveDate, NaiveDateTime};
 
 /// The local times of a line of a crontab: of its five fields, which numbers each one lists.
@@ -101,5 +101,27 @@ impl DayPlan for Cron {
             || !self.hours.contains(&true)
             || !self.months.contains(&true)
             || !self.either && !self.has_month_day()
+    }
+}
+
+impl PlanBack for Cron {
+    fn last_until(&self, local: &NaiveDateTime) -> Option<NaiveDateTime> {
+        last_by_days(self, local)
+    }
+}
+
+impl DayPlanBack for Cron {
+    fn last_to(&self, date: NaiveDate, second: u32) -> Option<u32> {
+        if !self.is_on(date) {
+            return None;
+        }
+        let mut left = (second / 60 + 1).min(1440);
+        while left > 0 {
+            if self.has_minute(left - 1) {
+                return Some((left - 1) * 60);
+            }
+            left -= 1;
+        }
+        None
     }
 }
