@@ -1,6 +1,8 @@
 -- The minutes of a date, one after another.
 use Rattle.std.proofs.Common.{arith, false, true, ℕ, ℤ, ◌*◌, ◌+◌, ◌/◌, ◌<◌, ◌≡◌, ◌≤◌}
 use Rattle.std.proofs.{Common.{Bool}, lemmas.Bool.Decides.{nat_tests}}
+use Rattle.std.proofs.Common.{IsTrue, get_or, inl, inr}
+use Rattle.gregorian.specs.Weekdays.{weekday_of}
 use Rattle.gregorian.proofs.ForCallers.{date_is}
 use Rattle.gregorian.specs.{DateOf.{day_of_month, month_of, year_of}, Month.{days_in_month}, Year.{is_leap}}
 use Rattle.naive_plans.specs.{CronSteps.{HasNoMonthDay}, Cron.{IsCronDay, IsCronMinute, IsCronTime}, DayPlans.{HasNoneFrom, HasNoneTo, IsFirstFrom, IsLastTo}, declared.cron.Cron.{Cron}}
@@ -42,6 +44,15 @@ pub no_date : (c : Cron) (day : ℤ) → c.either ≡ false → HasNoMonthDay c 
 no_date c day both none on =
     let listed = rw both at on.listed in let is = (date_is day).0 in let days = longest (is_leap (year_of day)) (month_of day) in
     none (month_of day) (day_of_month day) (omega (arith, is)) (omega (arith, is)) (omega (arith, is)) (omega (arith, is, days)) on.month listed.0
+
+pub no_date_by_either : (c : Cron) (day : ℤ) → (c.either ≡ false → ⊥) → HasNoMonthDay c 13 → (IsTrue (get_or c.weekdays (weekday_of day) false) → ⊥) → IsCronDay c day → ⊥
+no_date_by_either c day either none week on =
+    let is = (date_is day).0 in let days = longest (is_leap (year_of day)) (month_of day) in
+    let both : c.either ≡ true = grind (arith, either) in
+    elim (rw both at on.listed) [
+      | inl month ↦ none (month_of day) (day_of_month day) (omega (arith, is)) (omega (arith, is)) (omega (arith, is)) (omega (arith, is, days)) on.month month
+      | inr other ↦ week other
+    ]
 
 -- ---- and back
 -- all that it has on that day up to a second comes before a minute

@@ -1,5 +1,5 @@
 //! The local times of a line of a crontab.
-ghost use Rattle.std.specs.Prelude.{◌↔◌, ◌⊎◌, ◌<◌, ◌≤◌, IsTrue};
+ghost use Rattle.std.specs.Prelude.{◌↔◌, ◌⊎◌, ◌<◌, ◌≤◌, IsTrue, ℤ};
 ghost use Rattle.naive_base.specs.NaiveDate.{day_of};
 ghost use Rattle.naive_plans.specs.Cron.{IsCronDay, IsCronMinute, IsCronTime};
 ghost use Rattle.naive_plans.specs.CronSteps.{HasNoDayUntil, HasNoMonthDay};
@@ -59,6 +59,16 @@ impl Cron {
         false
     }
 
+    // Whether it has no date, if it lists a month.
+    fn has_no_day(&self) -> bool
+        ensures { IsTrue result → (day : ℤ) → IsCronDay self.now day → ⊥ }
+    {
+        if self.weekdays.contains(&true) {
+            return !self.either && !self.has_month_day();
+        }
+        !self.either || !self.has_month_day()
+    }
+
     // Whether it lists a month with a day of the month that it lists.
     fn has_month_day(&self) -> bool
         ensures { IsTrue result ⊎ HasNoMonthDay self.now 13 }
@@ -100,7 +110,7 @@ impl DayPlan for Cron {
         !self.minutes.contains(&true)
             || !self.hours.contains(&true)
             || !self.months.contains(&true)
-            || !self.either && !self.has_month_day()
+            || self.has_no_day()
     }
 }
 
