@@ -257,5 +257,6 @@ pub use zoned_ref::{TimeZoneRef, WallClock, ZoneChange, ZoneOffset};
 pub use zoned_round::{DurationRound, RoundingError, SubsecRound};
 pub use zoned_series::{DailyItems, DailySeries, SeriesError};
 pub use zoned_time::{
-    DateTime, Fires, MAX_DATETIME, MIN_DATETIME, NaiveZoned, Offset, ShownDay, TimeZone, Utc, ZoneDays,
+    DateTime, Fires, MAX_DATETIME, MIN_DATETIME, NaiveZoned, Offset, ShownDay, TimeZone, Utc,
+    ZoneDays,
 };
