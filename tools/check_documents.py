@@ -26,6 +26,9 @@ usage: tools/check_documents.py [--write]
 - The code blocks in Rattle are code of the crates (tools/try_documents.py).
 - README.md and docs/TESTING.md have the counts of tests, planted bugs and wrong definitions (tools/counts.py). --write puts them
   there, and lowers the counts of tools/habits.py.
+- README.md has two commands with their output before its first heading, one that answers a question by `rt try` and one that runs
+  all tests, and .ci/run runs both: the tests by themselves, the other by tools/try_documents.py. The last line of the tests has
+  their count, which --write puts there. No sentence of README.md has more than 35 words.
 - No more calls in src/ are made for an answer that nothing reads (`let _name = call(..);`), and no more lines are longer than 120
   columns in src/, or 160 in .antt, than tools/counts.py allows. --write lowers the counts of lines to those of the day.
 - README.md names the number and the logic of the kit that `rt version` prints (if there is rt); docs/FROM_CHRONO.md has how many functions
@@ -43,13 +46,13 @@ import sys
 from functools import lru_cache
 from itertools import chain
 
-from counts import count_faults, line_faults, lower_long_lines, write_counts
+from counts import count_faults, counts, line_faults, lower_long_lines, write_counts
 from habits import faults as habits, lower
 from sources import (
     NAME, TOP, cited, crates, files, imports_of, module_of, public_clauses, shown, text_of, uses, without_comments, words_of,
 )
 from try_definitions import faults as wrong_definitions, write_rejected
-from try_documents import rattle as rattle_blocks
+from try_documents import TESTS, blocks, commands, rattle as rattle_blocks
 
 sys.path.append(str(TOP / "bench"))
 from write_speed import latest as latest_results, written as with_figures  # noqa: E402
@@ -61,6 +64,7 @@ MAP = TOP / "docs/MAP.md"
 FACADE = TOP / "crates/zoned"
 KNOWN = TOP / "tools/known_words.txt"
 README = TOP / "README.md"
+GATE = TOP / ".ci/run"
 FROM_CHRONO = TOP / "docs/FROM_CHRONO.md"
 SPEED = TOP / "docs/SPEED.md"
 PROGRAMS = TOP / "docs/PROGRAMS.md"
@@ -469,6 +473,43 @@ def facts_of_documents():
         yield f"{shown(FROM_CHRONO)}: it doesn't say: {due}"
 
 
+# The first screen of README
+
+# What its commands do, how each begins or ends, and the line of .ci/run that runs it.
+FIRST_COMMANDS = {
+    "answers a question": (r"\| \(cd crates/\w+ && rt try\)$", r"tools/try_documents\.py programs"),
+    "runs all tests": (rf"^{re.escape(TESTS)}(?: \||$)", re.escape(TESTS)),
+}
+LAST_OF_TESTS = re.compile(r"(?m)^\d+ of \d+ tests passed, status 0$")
+LONGEST_SENTENCE = 35
+
+
+def last_of_tests():
+    tests = counts()["tests in Rattle"]
+    return f"{tests} of {tests} tests passed, status 0"
+
+
+def first_screen():
+    end = text_of(README).find("\n## ")
+    shown_first = [each for place, _, text in blocks(README, "console") if place < end for each in commands(text)]
+    for does, (pattern, step) in FIRST_COMMANDS.items():
+        if not any(re.search(pattern, command) and prints for command, prints in shown_first):
+            yield f"{shown(README)}: before its first heading is no command, with its output, that {does}"
+        if not re.search(rf"(?m)^ *{step}$", text_of(GATE)):
+            yield f"{shown(GATE)}: it doesn't run the command of README that {does}"
+    for found in LAST_OF_TESTS.finditer(text_of(README)):
+        if found[0] != last_of_tests():
+            yield f"{shown(README, found.start())}: {found[0]}, and it is {last_of_tests()} (--write puts it there)"
+
+
+def long_sentences():
+    text = re.sub(r"<!--.*?-->", "", without_blocks(text_of(README)))
+    for part in re.split(r"\n\s*\n|\n(?=- )|\|", re.sub(r"!?\[([^\]]*)\]\([^)]*\)", r"\1", text)):
+        for sentence in re.split(r"(?<=[.!?])[)\"*]*\s+", part):
+            if len(sentence.split()) > LONGEST_SENTENCE:
+                yield f"{shown(README)}: a sentence of {len(sentence.split())} words: {' '.join(sentence.split())}"
+
+
 # Figures
 
 
@@ -514,8 +555,8 @@ def not_passed_on():
 
 CHECKS = [
     links, merge_lines, habits, unknown_words, stale_words, index_faults, edits, unused_lemmas, unlisted_pages, map_faults,
-    not_passed_on, required_of_c, number_faults, call_faults, facts_of_documents, figure_faults, count_faults, line_faults,
-    rattle_blocks, wrong_definitions,
+    not_passed_on, required_of_c, number_faults, call_faults, facts_of_documents, first_screen, long_sentences, figure_faults,
+    count_faults, line_faults, rattle_blocks, wrong_definitions,
 ]
 
 
@@ -528,6 +569,7 @@ def main():
         PYTHON_PAGE.write_text(with_calls(text_of(PYTHON_PAGE)))
         write_rejected()
         write_counts()
+        README.write_text(LAST_OF_TESTS.sub(last_of_tests(), README.read_text()))
         lower_long_lines()
         lower()
         text_of.cache_clear()

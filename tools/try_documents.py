@@ -10,14 +10,15 @@ Without words all four are tried:
   So is each line of a block in doc comments, unless it is marked `text`. Comments, white space and commas before a closing bracket
   don't count. The lines of FROM_CHRONO's block for crates.txt are lines of crates.txt. (tools/check_documents.py tries this too.)
 - programs: each command of a `console` block (a line that begins with `$ `) prints what follows it there. It needs the built
-  zoneq and zonedump.
+  zoneq and zonedump. A command with `rt try` runs in a copy of the crates, so that it may run while `rt ci` does. Those that run
+  the tests aren't run here: the gate runs them by themselves.
 - c: each `c` block, under the name that the line before it gives, and the `console` block that compiles it and runs it. It needs
   the static library, gcc and rt.
 - python: the `pycon` blocks of each page, one after another, by doctest. It needs python/src/sahvumbi/libzoned_ffi.so, which tools/python_tests.sh builds, and
   Debian's python3 with numpy and pandas.
 
 `sh` blocks aren't run here: tools/python_tests.sh runs those that install the package, and the gate proves what `rt run` proves.
-It takes seconds. Prints what differs, and ends with status 1 if anything does.
+It takes a minute. Prints what differs, and ends with status 1 if anything does.
 """
 
 import os
@@ -28,9 +29,11 @@ import tempfile
 from pathlib import Path
 
 from sources import TOP, files, shown, text_of, without_comments
+from try_tests import repository
 
 PAGES = [TOP / "README.md", *sorted((TOP / "docs").glob("*.md")), TOP / "python/README.md"]
 FROM_CHRONO = TOP / "docs/FROM_CHRONO.md"
+TESTS = "tools/try_tests.py"
 WITH_RATTLE = [TOP / "README.md", FROM_CHRONO, TOP / "docs/OWN_ZONE.md"]
 OURS = "| task | chrono 0.4.45 | here |"
 PYTHON = "/usr/bin/python3"
@@ -114,10 +117,12 @@ def printed(path, place, text, folder):
 
 
 def programs():
-    for path in PAGES:
-        for place, _, text in blocks(path, "console"):
-            if "gcc" not in text:
-                yield from printed(path, place, text, TOP)
+    with tempfile.TemporaryDirectory() as copy:
+        repository(Path(copy), [])
+        for path in PAGES:
+            for place, _, text in blocks(path, "console"):
+                if "gcc" not in text and f"$ {TESTS}" not in text:
+                    yield from printed(path, place, text, copy if "rt try" in text else TOP)
 
 
 def c():
