@@ -188,7 +188,7 @@ def draw_head(picture, text):
         picture.bar(x, picture.height + 20, BAR, colour)
         picture.text(x + BAR + 6, picture.height + 32, meaning)
     picture.text(MARGIN, picture.height + 54, words, "faint")
-    picture.text(MARGIN, picture.height + 70, f"Measured on {measured(text)}; SPEED.md says what else ran then.", "faint")
+    picture.text(MARGIN, picture.height + 70, f"Measured on {measured(text)}; SPEED.md has the load and the versions.", "faint")
     picture.height += 86
 
 

@@ -230,7 +230,7 @@
 //! | a `WallClock` | `?` on the call that makes it | `match` with `Ok(clock) => match clock.instants { .. }` |
 //! | a map keyed by instants or dates | `map.entry(key)` | `map.get` and `map.insert` |
 //! | loops | `while` | a `for` with a bound |
-//! | a struct over any zone | only `#[derive(Clone, Copy)]` | with it a `where` line, `Tz::Offset: Copy` |
+//! | an instant in a struct over any zone | `#[derive(Copy)]` | `#[derive(Clone, Drop)]`, and `Debug`, `PartialEq`, `Eq`, `PartialOrd` and `Ord`; a struct over one zone type can be `Copy` |
 //! | an error of your own | `#[from]` for what `write!` returns | `impl From<fmt::Error>`, by hand |
 //! | an error of your own | `#[from]` for what `push` returns | `impl<T: Drop> From<AllocFailed<T>>`, by hand |
 //! | items of one module | names that differ only in case, as `Rfc3339` and `rfc3339` | another name |

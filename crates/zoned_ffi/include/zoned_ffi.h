@@ -149,7 +149,7 @@ enum {
                        a sign of a time of day (10) and hours of it above 24 (6). In the footer of a file they are read */
     ZONED_EXTENDED_STRING = 2 /* a TZ string that may have these extensions: hours of a time of day from -167 to 167, such as
                        <-02>2<-01>,M3.5.0/-1,M10.5.0/0, the footer of America/Nuuk's file. White space around it and an
-                       empty string are faults */
+                       empty string are faults. Bytes that are not ASCII are wrong bytes (3, 7, 8 or 10), never 16 */
 };
 
 /* Why the bytes make no zone. The numbers 1, 2, 4, 9 and 11 of docs/PROGRAMS.md aren't returned here. */

@@ -1,4 +1,4 @@
-//! Zones for C. Each call reads a zone, and answers a slice of questions about it.
+//! The C API: opens a zone once and answers questions by handle, or reads its bytes in each call.
 //! `include/zoned_ffi.h` is the header.
 #![tactic(auto)]
 

@@ -82,7 +82,7 @@ class Stretches(Opened):
     def day(self, instants: Labels) -> Any: ...
 
     def day(self, instants: Any) -> Any:
-        """Returns the day that each instant lies in: its date, start and end, as a `Days`.
+        """Returns the day that each instant lies in, as `Days`: `date`, `start`, and `until`, the next start.
 
         Each instant lies in one day, from the start of it on and before `until`, the start of the
         next. A clock that was set back over midnight shows the date before again, but stays in the
