@@ -8,7 +8,8 @@ usage: tools/check_documents.py [--write]
   the names of chrono, of the kit and of other programs that the documents speak of.
 - The index at the end of docs/DEFINITIONS.md has each word of specs/ that a public contract cites, other than a pin: its page and
   its meaning, which is the comment before its definition, or before that of several words. --write writes the index.
-- No clause of a public function cites a step of a proof (specs/Steps).
+- No clause of a public function cites a step of a proof (specs/Steps). docs/DEFINITIONS.md names the types whose invariants do.
+  README.md says how many `unsafe` blocks and impls there are.
 - docs/TESTING.md ends with the list of planted bugs, which --write puts there, and each of their old texts is once in its file.
 - A lemma that nothing names is an error, and so is a page of lemmas that its proofs/Lib.antt doesn't name.
 - docs/MAP.md has each crate with the libraries of crates.txt and the first sentence of its root, which --write puts there, and
@@ -224,10 +225,37 @@ def index_faults():
 
 
 def is_invariant(clause):
-    """Whether the clause belongs to an `impl Model`, which says how a value is kept and what it shows."""
+    return bool(modelled_type(clause))
+
+
+def modelled_type(clause):
+    """The type of the `impl Model` that the clause belongs to, which says how a value is kept and what it shows."""
     before = without_comments(text_of(clause.path), "//")[: clause.place]
     heads = re.findall(r"(?m)^(?:pub )?(?:trait|impl|struct)\b[^{;]*", before)
-    return bool(heads) and "Model for" in heads[-1]
+    found = re.search(r"Model for (\w+)", heads[-1]) if heads else None
+    return found[1] if found else ""
+
+
+def types_with_steps():
+    clauses = [clause for clause in public_clauses() if any(".Steps" in page for page, _ in cited(clause))]
+    *names, last = (f"`{name}`" for name in sorted({modelled_type(clause) for clause in clauses if is_invariant(clause)}))
+    due = f"the invariants of {', '.join(names)} and {last} do"
+    if due not in text_of(DEFINITIONS):
+        yield f"{shown(DEFINITIONS)}: it doesn't say: {due}"
+
+
+NUMBERS_IN_WORDS = ["no", "one", "two", "three", "four", "five", "six", "seven", "eight", "nine"]
+
+
+def unsafe_code():
+    found = {crate: [] for crate in crates()}
+    for crate in found:
+        for path in files("src", ".rt", [crate]):
+            found[crate] += re.findall(r"\bunsafe (\{|impl\b)", without_comments(text_of(path), "//"))
+    in_blocks, impls = (NUMBERS_IN_WORDS[sum(kinds.count(kind) for kinds in found.values())] for kind in ("{", "impl"))
+    due = f"{in_blocks} blocks and {impls} `unsafe impl`, in {' and '.join(f'`{crate}`' for crate in found if found[crate])}"
+    if due not in text_of(README):
+        yield f"{shown(README)}: it doesn't say: {due}"
 
 
 def write_index():
@@ -554,9 +582,9 @@ def not_passed_on():
 
 
 CHECKS = [
-    links, merge_lines, habits, unknown_words, stale_words, index_faults, edits, unused_lemmas, unlisted_pages, map_faults,
-    not_passed_on, required_of_c, number_faults, call_faults, facts_of_documents, first_screen, long_sentences, figure_faults,
-    count_faults, line_faults, rattle_blocks, wrong_definitions,
+    links, merge_lines, habits, unknown_words, stale_words, index_faults, edits, types_with_steps, unsafe_code, unused_lemmas,
+    unlisted_pages, map_faults, not_passed_on, required_of_c, number_faults, call_faults, facts_of_documents, first_screen,
+    long_sentences, figure_faults, count_faults, line_faults, rattle_blocks, wrong_definitions,
 ]
 
 
