@@ -152,7 +152,8 @@ enum {
                        empty string are faults. Bytes that are not ASCII are wrong bytes (3, 7, 8 or 10), never 16 */
 };
 
-/* Why the bytes make no zone. The numbers 1, 2, 4, 9 and 11 of docs/PROGRAMS.md aren't returned here. */
+/* Why the bytes make no zone. The numbers 1, 2, 4, 9 and 11 of docs/PROGRAMS.md aren't returned here. An abbreviation has three to seven
+   letters, digits, + or - (else 3), and an offset of a TZ string or a footer is less than 24 hours (else 6). */
 enum {
     ZONED_LOCAL_TIME_TYPE = 3,        /* an offset or abbreviation that no local time type can have */
     ZONED_INVALID_TZ_FILE = 5,        /* a fault in the form of a TZif file */
