@@ -212,15 +212,16 @@ pub fn months_later<Tz: TimeZone>(
     Some(then)
 }
 
-/// The start of the hour in which an instant lies.
-pub fn start_of_hour<Tz: TimeZone>(zone: &Tz, instant: &DateTime<Tz>) -> Option<DateTime<Tz>>
+/// An instant truncated to an hour is an instant of its zone. It need not be the start of an hour there:
+/// in Lord Howe, whose clocks are set by half an hour, 2021-04-04 01:45:00 +10:30 becomes 01:30:00 +11:00.
+pub fn truncated_in_zone<Tz: TimeZone>(zone: &Tz, instant: &DateTime<Tz>) -> Option<DateTime<Tz>>
     requires { IsIn (Tz.law zone.now) instant.now }
     ensures { IfSome result (IsIn (Tz.law zone.now)) }
 {
     let hour = TimeDelta::hours(1);
-    let start = instant.duration_trunc(hour).ok()?;
-    client_laws::in_zone_after_truncation(zone, instant, hour, &start);
-    Some(start)
+    let truncated = instant.duration_trunc(hour).ok()?;
+    client_laws::in_zone_after_truncation(zone, instant, hour, &truncated);
+    Some(truncated)
 }
 
 /// The instant of a daily job on the n-th day after its first.

@@ -20,7 +20,7 @@ pub use calendar_days::{Question, day_answer, same_day, seconds_of_day};
 pub use error::MyError;
 pub use facts::{
     abbreviation, bucket, clock_of, elsewhere, fire, later, months_later, next_change_twice,
-    next_shown, offset_until, on_day, place, seconds, start_of_hour, twice,
+    next_shown, offset_until, on_day, place, seconds, truncated_in_zone, twice,
 };
 pub use fixed::{
     an_hour_ahead, is_before, new_year, new_year_in_the_west, noon, only_in_new_york,

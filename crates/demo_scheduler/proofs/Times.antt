@@ -1,11 +1,12 @@
 -- The times of a day, one after another: the first that is not before a second.
-use Rattle.std.proofs.Common.{◌≡◌, ◌<◌, ◌≤◌, ◌+◌, ◌⊎◌, ℕ, ℤ, length, get_or, take, sym, subst, inl, inr, arith, Option, Some, None, MatchOption, All, Contains, refl}
+use Rattle.std.proofs.Common.{◌≡◌, ◌<◌, ◌≤◌, ◌+◌, ◌⊎◌, ℕ, ℤ, length, get_or, take, sym, subst, inl, inr, arith, Option, Some, None, MatchOption, All}
+use Rattle.std.proofs.Common.{Contains, refl}
 use Rattle.std.specs.Prelude.{⊤}
 use Rattle.std.proofs.lemmas.List.{take_all}
 use Rattle.std.proofs.lemmas.List.Elements.{All-more, All-weaker, All-contains, Contains-get_or}
 use Rattle.naive_base.specs.{NaiveTime.{second_of}, declared.time.NaiveTime.{NaiveTime}}
 use Rattle.naive_base.proofs.Words.{date_is, day_of_month, is_leap, month_bounds, month_of, year_of}
-use Rattle.naive_plans.specs.DayPlans.{HasNoneFrom, IsFirstFrom}
+use Rattle.naive_plans.specs.DayPlans.{HasNoSecondFrom, IsFirstSecondFrom}
 use Rattle.demo_scheduler.specs.{Fires.{IsPlannedOn, RunsOn}, declared.schedule.Schedule.{Schedule}}
 
 pub month_day_bounds : (day : ℤ) → (1 ≤ day_of_month day) × (day_of_month day ≤ 31)
@@ -23,7 +24,8 @@ module _ (s : Schedule) (day : ℤ) (second : ℕ) where
   abbrev pub IsFoundAmong : ℕ → Option ℕ → Type 0
   IsFoundAmong n first = IsFound first × All (IsTried first) (take n s.times.items)
 
-  still_tried : (first result : Option ℕ) → MatchOption first ⊤ (λ a. MatchOption result ⊥ (λ r. r ≤ a)) → (time : NaiveTime) → IsTried first time → IsTried result time
+  still_tried : (first result : Option ℕ) → MatchOption first ⊤ (λ a. MatchOption result ⊥ (λ r. r ≤ a)) → (time : NaiveTime) → IsTried first time
+      → IsTried result time
   still_tried None result h time tried from = absurd (tried from)
   still_tried (Some a) None h time tried from = absurd h
   still_tried (Some a) (Some r) h time tried from = let less = tried from in omega (arith, h, less)
@@ -43,10 +45,11 @@ module _ (s : Schedule) (day : ℤ) (second : ℕ) where
       → (k : ℕ) → IsPlannedOn s day k → second ≤ k → MatchOption first ⊥ (λ r. r ≤ k)
   each_time n first whole tried k planned from =
       let each = subst (All (IsTried first)) (take_all n s.times.items whole) tried in
-      subst (λ (m : ℕ). second ≤ m → MatchOption first ⊥ (λ r. r ≤ m)) planned.at (All-contains (IsTried first) s.times.items planned.time each planned.listed) from
+      subst (λ (m : ℕ). second ≤ m → MatchOption first ⊥ (λ r. r ≤ m)) planned.at
+      (All-contains (IsTried first) s.times.items planned.time each planned.listed) from
 
   pub all : (n : ℕ) (first : Option ℕ) → length s.times.items ≤ n → RunsOn s.days day → IsFoundAmong n first
-      → MatchOption first (HasNoneFrom (IsPlannedOn s day) second) (λ r. IsFirstFrom (IsPlannedOn s day) second r)
+      → MatchOption first (HasNoSecondFrom (IsPlannedOn s day) second) (λ r. IsFirstSecondFrom (IsPlannedOn s day) second r)
   all n None whole runs (is, tried) = λ k short planned from. each_time n None whole tried k planned from
   all n (Some r) whole runs (is, tried) = record {
     planned = record { runs = runs; time = is.1.0; listed = is.1.1; at = is.1.2 };

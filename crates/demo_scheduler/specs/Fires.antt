@@ -4,7 +4,7 @@ use Rattle.naive_base.specs.DateOf.{day_of_month}
 use Rattle.naive_base.specs.NaiveTime.{second_of}
 use Rattle.naive_base.specs.Weekday.{weekday_of, weekday_number}
 use Rattle.naive_base.specs.declared.time.NaiveTime.{NaiveTime}
-use Rattle.naive_plans.specs.DayPlans.{by_days}
+use Rattle.naive_plans.specs.DayPlans.{IsPlannedOnItsDay}
 use Rattle.demo_scheduler.specs.declared.run_days.RunDays.{RunDays}
 use Rattle.demo_scheduler.specs.declared.run_days.RunDays.TheVariants.{Every, Workdays, Weekday, MonthDay}
 use Rattle.demo_scheduler.specs.declared.schedule.Schedule.{Schedule}
@@ -25,4 +25,4 @@ pub record IsPlannedOn (s : Schedule) (day : ℤ) (second : ℕ) : Type 0 where
 
 -- its local times
 abbrev pub planned_by : Schedule → ℤ → Type 0
-planned_by s = by_days (IsPlannedOn s)
+planned_by s = IsPlannedOnItsDay (IsPlannedOn s)

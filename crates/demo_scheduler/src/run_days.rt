@@ -29,8 +29,8 @@ impl RunDays {
         }
     }
 
-    // Whether it is no day at all.
-    pub(crate) fn has_none(&self) -> bool
+    // Whether no month has such a day.
+    pub(crate) fn has_no_day(&self) -> bool
         ensures { IsTrue result → (day : ℤ) → RunsOn self.now day → ⊥ }
     {
         match self {

@@ -2,14 +2,14 @@
 ghost use Rattle.std.specs.Prelude.{◌≡◌, ◌≤◌, ◌⊎◌, ⊤, Some, MatchOption};
 ghost use Rattle.demo_scheduler.specs.Fires.{IsPlannedOn, planned_by};
 ghost use Rattle.zoned_time.specs.DateTime.{zoned};
-ghost use Rattle.zoned_time.specs.Plans.{IsZonedNextFire, NoneFiresAfter};
+ghost use Rattle.zoned_time.specs.Fires.{IsZonedNextFire, NoneFiresAfter};
 
 use crate::RunDays;
 use naive_base::{NaiveDate, NaiveDateTime, NaiveTime};
-use naive_plans::{DayPlan, Plan, next_by_days};
+use naive_plans::{DayPlan, Plan, next_local_time};
 use zoned_time::{DateTime, ZoneDays};
 
-/// Times of day, in any order, on some days. Of a time its nanoseconds don't count.
+/// Times of day, in any order, on some days. Fractions of a second are ignored.
 #[derive(Debug, PartialEq, Eq, Hash, Drop)]
 pub struct Schedule {
     pub days: RunDays,
@@ -37,14 +37,14 @@ impl Plan for Schedule {
     ghost planned = { planned_by };
 
     fn next_after(&self, local: &NaiveDateTime) -> Option<NaiveDateTime> {
-        next_by_days(self, local)
+        next_local_time(self, local)
     }
 }
 
 impl DayPlan for Schedule {
     ghost planned_on = { IsPlannedOn };
 
-    fn first_from(&self, date: NaiveDate, second: u32) -> Option<u32> {
+    fn first_second_from(&self, date: NaiveDate, second: u32) -> Option<u32> {
         if !self.days.runs_on(date) {
             return None;
         }
@@ -55,8 +55,8 @@ impl DayPlan for Schedule {
         first
     }
 
-    fn has_none(&self) -> bool {
-        self.times.is_empty() || self.days.has_none()
+    fn is_known_empty(&self) -> bool {
+        self.times.is_empty() || self.days.has_no_day()
     }
 }
 

@@ -5,7 +5,8 @@ use Rattle.std.proofs.Common.{IsTrue, get_or, inl, inr}
 use Rattle.gregorian.specs.Weekdays.{weekday_of}
 use Rattle.gregorian.proofs.ForCallers.{date_is}
 use Rattle.gregorian.specs.{DateOf.{day_of_month, month_of, year_of}, Month.{days_in_month}, Year.{is_leap}}
-use Rattle.naive_plans.specs.{CronSteps.{HasNoMonthDay}, Cron.{IsCronDay, IsCronMinute, IsCronTime}, DayPlans.{HasNoneFrom, HasNoneTo, IsFirstFrom, IsLastTo}, declared.cron.Cron.{Cron}}
+use Rattle.naive_plans.specs.{Steps.CronDates.{ListsNoDateBefore}, Cron.{IsCronDay, IsCronMinute, IsCronTime}}
+use Rattle.naive_plans.specs.{DayPlans.{HasNoSecondFrom, HasNoSecondUntil, IsFirstSecondFrom, IsLastSecondUntil}, declared.cron.Cron.{Cron}}
 
 -- all that it has on that day from a second on comes from a minute on
 pub record IsLeft (c : Cron) (day : ℤ) (second minute : ℕ) : Type 0 where
@@ -15,7 +16,8 @@ pub record IsLeft (c : Cron) (day : ℤ) (second minute : ℕ) : Type 0 where
 pub all_left : (c : Cron) (day : ℤ) (second : ℕ) → IsLeft c day second ((second + 59) / 60)
 all_left c day second = record { later = omega arith; left = λ k h from. let whole = h.whole in omega arith }
 
-pub found : (c : Cron) (day : ℤ) (second minute : ℕ) → minute < 1440 → IsLeft c day second minute → IsCronDay c day → IsCronMinute c minute → IsFirstFrom (IsCronTime c day) second (minute * 60)
+pub found : (c : Cron) (day : ℤ) (second minute : ℕ) → minute < 1440 → IsLeft c day second minute → IsCronDay c day → IsCronMinute c minute
+    → IsFirstSecondFrom (IsCronTime c day) second (minute * 60)
 found c day second minute short h on at =
     let is : minute * 60 / 60 ≡ minute = omega arith in
     record {
@@ -33,19 +35,20 @@ passed c day second minute h not = record {
       let other : k ≡ minute * 60 → ⊥ = λ same. not (let is : k / 60 ≡ minute = omega arith in rw is at planned.at) in grind (arith, other);
 }
 
-pub none : (c : Cron) (day : ℤ) (second : ℕ) → IsLeft c day second 1440 → HasNoneFrom (IsCronTime c day) second
+pub none : (c : Cron) (day : ℤ) (second : ℕ) → IsLeft c day second 1440 → HasNoSecondFrom (IsCronTime c day) second
 none c day second h k short planned from = let least = h.left k planned from in omega arith
 
 -- ---- a line without a date
 longest : (b : Bool) (m : ℕ) → days_in_month b m ≤ days_in_month true m
 longest b m = grind (arith, nat_tests)
 
-pub no_date : (c : Cron) (day : ℤ) → c.either ≡ false → HasNoMonthDay c 13 → IsCronDay c day → ⊥
+pub no_date : (c : Cron) (day : ℤ) → c.either ≡ false → ListsNoDateBefore c 13 → IsCronDay c day → ⊥
 no_date c day both none on =
     let listed = rw both at on.listed in let is = (date_is day).0 in let days = longest (is_leap (year_of day)) (month_of day) in
     none (month_of day) (day_of_month day) (omega (arith, is)) (omega (arith, is)) (omega (arith, is)) (omega (arith, is, days)) on.month listed.0
 
-pub no_date_by_either : (c : Cron) (day : ℤ) → (c.either ≡ false → ⊥) → HasNoMonthDay c 13 → (IsTrue (get_or c.weekdays (weekday_of day) false) → ⊥) → IsCronDay c day → ⊥
+pub no_date_by_either : (c : Cron) (day : ℤ) → (c.either ≡ false → ⊥) → ListsNoDateBefore c 13 → (IsTrue (get_or c.weekdays (weekday_of day) false) → ⊥)
+    → IsCronDay c day → ⊥
 no_date_by_either c day either none week on =
     let is = (date_is day).0 in let days = longest (is_leap (year_of day)) (month_of day) in
     let both : c.either ≡ true = grind (arith, either) in
@@ -61,7 +64,8 @@ pub record IsLeftBefore (c : Cron) (day : ℤ) (second left : ℕ) : Type 0 wher
   pub not_later : left * 60 ≤ second + 60
   pub before : (k : ℕ) → k < 86_400 → IsCronTime c day k → k ≤ second → k < left * 60
 
-pub found_last : (c : Cron) (day : ℤ) (second left : ℕ) → IsLeftBefore c day second (left + 1) → IsCronDay c day → IsCronMinute c left → IsLastTo (IsCronTime c day) second (left * 60)
+pub found_last : (c : Cron) (day : ℤ) (second left : ℕ) → IsLeftBefore c day second (left + 1) → IsCronDay c day → IsCronMinute c left
+    → IsLastSecondUntil (IsCronTime c day) second (left * 60)
 found_last c day second left h on at =
     let is : left * 60 / 60 ≡ left = omega arith in let short = h.short in let not_later = h.not_later in
     record {
@@ -80,5 +84,7 @@ passed_back c day second left h not = record {
       let other : k ≡ left * 60 → ⊥ = λ same. not (let is : k / 60 ≡ left = omega arith in rw is at planned.at) in grind (arith, other);
 }
 
-pub none_back : (c : Cron) (day : ℤ) (second : ℕ) → IsLeftBefore c day second 0 → HasNoneTo (IsCronTime c day) second
+pub none_back : (c : Cron) (day : ℤ) (second : ℕ) → IsLeftBefore c day second 0 → HasNoSecondUntil (IsCronTime c day) second
 none_back c day second h k in_day planned come = let below = h.before k in_day planned come in omega arith
+
+pub ruleset minutes_back = (found_last, passed_back, none_back)

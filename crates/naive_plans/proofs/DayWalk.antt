@@ -2,7 +2,7 @@
 use Rattle.naive_base.proofs.Words.{IsWideDay, arith, by_lt_z, floor_div, floors, ints, pos, subst, ℕ, ℤ, ◌*ℤ◌, ◌+ℤ◌, ◌<ℤ◌, ◌≡◌, ◌≤ℤ◌}
 use Rattle.gregorian.specs.Year.{floor_mod}
 use Rattle.std.specs.Prelude.{◌≤◌, ◌<◌, ◌-ℤ◌}
-use Rattle.naive_plans.specs.DayPlans.{HasNoneFrom, HasNoneTo, IsFirstFrom, IsLastTo, by_days, second_before}
+use Rattle.naive_plans.specs.DayPlans.{HasNoSecondFrom, HasNoSecondUntil, IsFirstSecondFrom, IsLastSecondUntil, IsPlannedOnItsDay, second_before}
 use Rattle.naive_plans.specs.Plans.{HasNoneAfter, HasNoneUntil, IsLastUntil, IsNextAfter}
 
 -- all that the plan has after a local second, and can be shown, comes from a second of a day on
@@ -14,23 +14,27 @@ pub record IsLeft (plan : ℤ → Type 0) (before day : ℤ) (from : ℕ) : Type
 pub all_left : (plan : ℤ → Type 0) (day : ℤ) (from : ℕ) → from ≤ 86_400 → IsLeft plan (second_before day from) day from
 all_left plan day from in_day = record { in_day = in_day; later = omega (arith, ints); left = λ m planned later. omega (arith, ints) }
 
-on_its_day : (on : ℤ → ℕ → Type 0) (day m : ℤ) → floor_div m 86_400 ≡ day → by_days on m → on day (floor_mod m 86_400)
+on_its_day : (on : ℤ → ℕ → Type 0) (day m : ℤ) → floor_div m 86_400 ≡ day → IsPlannedOnItsDay on m → on day (floor_mod m 86_400)
 on_its_day on day m is planned = subst (λ (d : ℤ). on d (floor_mod m 86_400)) is planned
 
-pub none_on_day : (on : ℤ → ℕ → Type 0) (before day : ℤ) (from : ℕ) → IsLeft (by_days on) before day from → HasNoneFrom (on day) from → IsLeft (by_days on) before (day +ℤ pos 1) 0
+pub none_on_day : (on : ℤ → ℕ → Type 0) (before day : ℤ) (from : ℕ) → IsLeft (IsPlannedOnItsDay on) before day from → HasNoSecondFrom (on day) from
+    → IsLeft (IsPlannedOnItsDay on) before (day +ℤ pos 1) 0
 none_on_day on before day from h none = record {
   in_day = omega arith;
   later = let later = h.later in let in_day = h.in_day in omega (arith, ints);
   left = λ m planned later. let least = h.left m planned later in
       by_lt_z day (floor_div m 86_400) (λ more. omega (arith, ints, floors))
-      (λ not. absurd (none (floor_mod m 86_400) (omega (arith, ints, floors)) (on_its_day on day m (omega (arith, ints, floors)) planned) (omega (arith, ints, floors))));
+      (λ not. absurd (none (floor_mod m 86_400) (omega (arith, ints, floors)) (on_its_day on day m (omega (arith, ints, floors)) planned)
+      (omega (arith, ints, floors))));
 }
 
-pub at_end : (plan : ℤ → Type 0) (before day : ℤ) → IsWideDay day → (IsWideDay (day +ℤ pos 1) → ⊥) → IsLeft plan before (day +ℤ pos 1) 0 → HasNoneAfter plan before
+pub at_end : (plan : ℤ → Type 0) (before day : ℤ) → IsWideDay day → (IsWideDay (day +ℤ pos 1) → ⊥) → IsLeft plan before (day +ℤ pos 1) 0
+    → HasNoneAfter plan before
 at_end plan before day wide out h m inside planned later =
     let least = h.left m planned later in out (omega (arith, ints, wide, inside), omega (arith, ints, wide, inside))
 
-pub found_on_day : (on : ℤ → ℕ → Type 0) (before day : ℤ) (from s : ℕ) → IsLeft (by_days on) before day from → IsFirstFrom (on day) from s → IsNextAfter (by_days on) before (day *ℤ pos 86_400 +ℤ pos s)
+pub found_on_day : (on : ℤ → ℕ → Type 0) (before day : ℤ) (from s : ℕ) → IsLeft (IsPlannedOnItsDay on) before day from → IsFirstSecondFrom (on day) from s
+    → IsNextAfter (IsPlannedOnItsDay on) before (day *ℤ pos 86_400 +ℤ pos s)
 found_on_day on before day from s h first =
     let l : ℤ = day *ℤ pos 86_400 +ℤ pos s in let in_day = first.in_day in let not_before = first.not_before in
     let is_day : floor_div l 86_400 ≡ day = omega (arith, ints, floors) in
@@ -40,7 +44,8 @@ found_on_day on before day from s h first =
       after = let later = h.later in omega (arith, ints);
       least = λ m inside planned later. let after = h.left m planned later in
           by_lt_z day (floor_div m 86_400) (λ more. omega (arith, ints, floors))
-          (λ not. let least = first.least (floor_mod m 86_400) (on_its_day on day m (omega (arith, ints, floors)) planned) (omega (arith, ints, floors)) in omega (arith, ints, floors));
+          (λ not. let least = first.least (floor_mod m 86_400) (on_its_day on day m (omega (arith, ints, floors)) planned)
+          (omega (arith, ints, floors)) in omega (arith, ints, floors));
     }
 
 -- ---- and back
@@ -53,20 +58,24 @@ pub record IsLeftBefore (plan : ℤ → Type 0) (until day : ℤ) (to : ℕ) : T
 pub all_before : (plan : ℤ → Type 0) (day : ℤ) (to : ℕ) → to < 86_400 → IsLeftBefore plan (day *ℤ pos 86_400 +ℤ pos to) day to
 all_before plan day to in_day = record { in_day = in_day; not_later = omega (arith, ints); left = λ m planned come. come }
 
-pub none_back : (on : ℤ → ℕ → Type 0) (until day : ℤ) (to : ℕ) → IsLeftBefore (by_days on) until day to → HasNoneTo (on day) to → IsLeftBefore (by_days on) until (day -ℤ pos 1) 86_399
+pub none_back : (on : ℤ → ℕ → Type 0) (until day : ℤ) (to : ℕ) → IsLeftBefore (IsPlannedOnItsDay on) until day to → HasNoSecondUntil (on day) to
+    → IsLeftBefore (IsPlannedOnItsDay on) until (day -ℤ pos 1) 86_399
 none_back on until day to h none = record {
   in_day = omega arith;
   not_later = let not_later = h.not_later in omega (arith, ints);
   left = λ m planned come. let most = h.left m planned come in let in_day = h.in_day in
       by_lt_z (floor_div m 86_400) day (λ less. omega (arith, ints, floors))
-      (λ not. absurd (none (floor_mod m 86_400) (omega (arith, ints, floors)) (on_its_day on day m (omega (arith, ints, floors)) planned) (omega (arith, ints, floors))));
+      (λ not. absurd (none (floor_mod m 86_400) (omega (arith, ints, floors)) (on_its_day on day m (omega (arith, ints, floors)) planned)
+      (omega (arith, ints, floors))));
 }
 
-pub at_start : (plan : ℤ → Type 0) (until day : ℤ) → IsWideDay day → (IsWideDay (day -ℤ pos 1) → ⊥) → IsLeftBefore plan until (day -ℤ pos 1) 86_399 → HasNoneUntil plan until
+pub at_start : (plan : ℤ → Type 0) (until day : ℤ) → IsWideDay day → (IsWideDay (day -ℤ pos 1) → ⊥) → IsLeftBefore plan until (day -ℤ pos 1) 86_399
+    → HasNoneUntil plan until
 at_start plan until day wide out h m inside planned come =
     let most = h.left m planned come in out (omega (arith, ints, wide, inside), omega (arith, ints, wide, inside))
 
-pub last_on_day : (on : ℤ → ℕ → Type 0) (until day : ℤ) (to s : ℕ) → IsLeftBefore (by_days on) until day to → IsLastTo (on day) to s → IsLastUntil (by_days on) until (day *ℤ pos 86_400 +ℤ pos s)
+pub last_on_day : (on : ℤ → ℕ → Type 0) (until day : ℤ) (to s : ℕ) → IsLeftBefore (IsPlannedOnItsDay on) until day to → IsLastSecondUntil (on day) to s
+    → IsLastUntil (IsPlannedOnItsDay on) until (day *ℤ pos 86_400 +ℤ pos s)
 last_on_day on until day to s h last =
     let l : ℤ = day *ℤ pos 86_400 +ℤ pos s in let in_day = last.in_day in let not_after = last.not_after in
     let is_day : floor_div l 86_400 ≡ day = omega (arith, ints, floors) in
@@ -76,5 +85,6 @@ last_on_day on until day to s h last =
       not_after = let not_later = h.not_later in omega (arith, ints);
       greatest = λ m inside planned come. let most = h.left m planned come in let short = h.in_day in
           by_lt_z (floor_div m 86_400) day (λ less. omega (arith, ints, floors))
-          (λ not. let greatest = last.greatest (floor_mod m 86_400) (omega (arith, ints, floors)) (on_its_day on day m (omega (arith, ints, floors)) planned) (omega (arith, ints, floors)) in omega (arith, ints, floors));
+          (λ not. let greatest = last.greatest (floor_mod m 86_400) (omega (arith, ints, floors)) (on_its_day on day m (omega (arith, ints, floors)) planned)
+          (omega (arith, ints, floors)) in omega (arith, ints, floors));
     }

@@ -1,4 +1,4 @@
 pub mod Plans
 pub mod DayPlans
 pub mod Cron
-pub mod CronSteps
+pub mod Steps

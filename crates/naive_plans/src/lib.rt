@@ -1,10 +1,14 @@
-//! Plans: sets of local times that know of no zone.
+//! Plans: sets of local times, such as those of a crontab line. A plan knows no time zone.
+//!
+//! [`Plan`] and [`ReversiblePlan`] are what a plan answers: its next local time after one, and its last
+//! one up to one. [`DayPlan`] and [`ReversibleDayPlan`] make such a plan of the seconds of the day that it
+//! has on each date. [`Cron`] is one.
 #![tactic(auto)]
 
-mod by_days;
 mod cron;
+mod day_plan;
 mod plan;
 
-pub use by_days::{DayPlan, DayPlanBack, last_by_days, next_by_days};
 pub use cron::Cron;
-pub use plan::{Plan, PlanBack};
+pub use day_plan::{DayPlan, ReversibleDayPlan, last_local_time, next_local_time};
+pub use plan::{Plan, ReversiblePlan};

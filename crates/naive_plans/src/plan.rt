@@ -1,4 +1,4 @@
-//! Plans: sets of local times.
+//! Sets of local times, searched forward and backward.
 ghost use Rattle.std.specs.Prelude.{ℤ, MatchOption};
 ghost use Rattle.naive_base.specs.NaiveDateTime.{reading};
 ghost use Rattle.naive_plans.specs.Plans.{HasNoneAfter, HasNoneUntil, IsLastUntil, IsNextAfter};
@@ -7,24 +7,25 @@ use naive_base::NaiveDateTime;
 
 /// A set of local times in whole seconds, such as 02:30 on each weekday.
 ///
-/// It knows of no zone. In a zone it fires when clocks first show one of its local times or a later
-/// one: `ZoneDays::next_fire` and `ZoneDays::last_fire` of `zoned_time` find out when that is.
+/// A plan knows no time zone. In a zone it fires at the first instant at which clocks show one of its
+/// local times or a later one: `ZoneDays::next_fire` and `ZoneDays::previous_fire` of `zoned_time` find
+/// those instants.
 pub trait Plan {
     // its local times, as seconds
     ghost planned: { Self → ℤ → Type 0 };
 
-    /// Returns the first local time of the plan after that one; `None` if a [`NaiveDateTime`] can show
-    /// none.
+    /// Returns the first local time of the plan after the given one; `None` if there is none that a
+    /// [`NaiveDateTime`] can show.
     fn next_after(&self, local: &NaiveDateTime) -> Option<NaiveDateTime>
         ensures { let s = (reading local.now).s in
             MatchOption result (HasNoneAfter (planned self.now) s)
             (λ l. IsNextAfter (planned self.now) s (reading l).s) };
 }
 
-/// A plan that also goes back.
-pub trait PlanBack: Plan {
-    /// Returns the last local time of the plan that is not after that one; `None` if a
-    /// [`NaiveDateTime`] can show none.
+/// A plan that can also be searched backward.
+pub trait ReversiblePlan: Plan {
+    /// Returns the last local time of the plan that is not after the given one; `None` if there is none
+    /// that a [`NaiveDateTime`] can show.
     fn last_until(&self, local: &NaiveDateTime) -> Option<NaiveDateTime>
         ensures { let s = (reading local.now).s in
             MatchOption result (HasNoneUntil (Self.planned self.now) s)

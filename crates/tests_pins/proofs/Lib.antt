@@ -14,3 +14,4 @@ pub mod SetClocks
 pub mod ChangeDays
 pub mod WrittenPins
 pub mod SetDays
+pub mod SetFires

@@ -1,6 +1,6 @@
 -- The words that this crate's proofs cite, passed on from std, from the crates below and from specs/.
 pub use Rattle.std.proofs.{Common.{Err, None, Ok, Some}, lemmas.{Int.{fits_signed_from_abs}, Str.Ascii.{IsAscii-cons, IsAscii-nil}}}
-pub use Rattle.std.specs.{Int.{from_be_bytes}, Prelude.{Option, Result}}
+pub use Rattle.std.specs.{Int.{from_be_bytes}, Prelude.{Option, Result, ◌%◌}}
 unfoldable pub use Rattle.json.specs.Print.{escape_byte, print_from}
 unfoldable pub use Rattle.std.specs.Fmt.{digits}
 pub use Rattle.offset_core.specs.declared.{choice.{FoldChoice.{FoldChoice}, GapChoice.{GapChoice}}, resolve_error.ResolveError.{ResolveError}}
@@ -38,3 +38,5 @@ pub use Rattle.tests_pins.specs.{NewYork.{new_york_zone}, Spans.{winter}}
 pub use Rattle.tests_pins.specs.Texts.{new_york_long, new_york_text}
 pub use Rattle.tests_pins.specs.{Texts.{utc_rule, utc_text}, Zones.{change, honolulu}}
 pub use Rattle.tests_pins.specs.Zones.{hst, hst10}
+pub use Rattle.zoned_time.proofs.Words.{AreFires, IsFire, IsFirstToReach, IsNextFire, IsReachedAt}
+pub use Rattle.tests_pins.specs.Plans.{twice_daily}

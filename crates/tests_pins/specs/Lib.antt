@@ -8,6 +8,7 @@ pub mod Instants
 pub mod LeapSeconds
 pub mod Looks
 pub mod NewYork
+pub mod Plans
 pub mod Readings
 pub mod Spans
 pub mod Texts

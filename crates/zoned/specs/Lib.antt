@@ -32,6 +32,9 @@ pub use Rattle.naive_base.specs.MonthNames
 pub use Rattle.naive_base.specs.Named
 pub use Rattle.naive_base.specs.Runs
 pub use Rattle.naive_base.specs.Week
+pub use Rattle.naive_plans.specs.Plans
+pub use Rattle.naive_plans.specs.DayPlans
+pub use Rattle.naive_plans.specs.Cron
 pub use Rattle.tz_base.specs.Errors
 pub use Rattle.tz_base.specs.Names
 pub use Rattle.tz_base.specs.LocalTypes
@@ -82,7 +85,9 @@ pub use Rattle.zoned_time.specs.Days
 pub use Rattle.zoned_time.specs.DayEnds
 pub use Rattle.zoned_time.specs.DateTime
 pub use Rattle.zoned_time.specs.Fields as InstantFields
+pub use Rattle.zoned_time.specs.Fires
 pub use Rattle.zoned_time.specs.Order
+pub use Rattle.zoned_time.specs.Reached
 pub use Rattle.zoned_time.specs.Relocal
 pub use Rattle.zoned_time.specs.Stamps
 pub use Rattle.zoned_time.specs.Years

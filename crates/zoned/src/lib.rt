@@ -99,12 +99,17 @@
 //! | 2021-03-14 03:30:00 -04:00 | 2021-11-07 01:30:00 -04:00 |
 //! | 2021-03-15 02:30:00 -04:00 | 2021-11-08 01:30:00 -05:00 |
 //!
+//! Two days can have the same instant. Clocks in Apia skipped 2011-12-30: with `ShiftForward`, 12:00 on
+//! that day is 2011-12-31 12:00:00 +14:00, as it is on the next one.
+//!
 //! # When a day starts
 //!
 //! [`ZoneDays::start_of_day`] returns the first instant at which clocks show midnight or a later
 //! local time: midnight isn't always shown. It divides time into days, so each instant lies in exactly
-//! one. [`ZoneDays::first_at_or_after`] does so for any local time: in a gap it returns the end of the
-//! gap.
+//! one: [`ZoneDays::date_of`] is its date, and [`DateTime::start_of_day`] when it starts. Clocks that are
+//! set back over midnight show the date before again, within the new day: in St. John's the instant
+//! 2005-10-29 23:32:00 -03:30 lies in 2005-10-30. [`ZoneDays::first_at_or_after`] is for any local time:
+//! in a gap it returns the end of the gap.
 //!
 //! ```
 //! let day = NaiveDate::from_ymd_opt(2021, 3, 14).ok_or(MyError::NoSuchTime)?;
@@ -154,10 +159,10 @@
 //! | a date | when it starts | [`ZoneDays::start_of_day`] |
 //! | a date | its last instant; how long it lasts | [`ZoneDays::end_of_day`]; [`ZoneDays::length_of_day`] |
 //! | a date | when its week, month or year starts | [`ZoneDays::start_of_week`], [`ZoneDays::start_of_month`], [`ZoneDays::start_of_year`] |
-//! | an instant | the date of its day, and when that starts | [`ZoneDays::date_of`], [`DateTime::start_of_day`] |
-//! | an instant | the last local time that clocks have shown | [`ZoneDays::reached`] |
-//! | a plan, such as a line of a crontab, and an instant | when it fires next, and when it did last | [`ZoneDays::next_fire`], [`ZoneDays::last_fire`] |
-//! | a plan, and two instants | when it fires in between | [`ZoneDays::fires`] |
+//! | an instant | the date of the day that it lies in; when that day starts | [`ZoneDays::date_of`]; [`DateTime::start_of_day`] |
+//! | an instant | the last local time that clocks have shown by then | [`ZoneDays::reached`] |
+//! | a plan, such as a line of a crontab ([`Cron`]) | when it fires next, or fired last | [`ZoneDays::next_fire`]; [`ZoneDays::last_fire`], [`ZoneDays::previous_fire`] |
+//! | a plan | each time that it fires between two instants | [`ZoneDays::fires`] |
 //! | a date | the first and the last second at which clocks show it | [`ZoneDays::day`] |
 //! | a wall clock | the first instant at which clocks have reached it | [`ZoneDays::first_at_or_after`] |
 //! | two versions of a zone | what differs | [`tz_info::TimeZone::differences`] |
@@ -244,7 +249,9 @@ pub use naive_base::{
     Datelike, Days, IsoWeek, Month, Months, NaiveDate, NaiveDateDaysIterator, NaiveDateTime,
     NaiveDateWeeksIterator, NaiveTime, NaiveWeek, OutOfRange, Timelike, Weekday,
 };
-pub use naive_plans::{Cron, DayPlan, Plan, PlanBack, next_by_days};
+pub use naive_plans::{
+    Cron, DayPlan, Plan, ReversibleDayPlan, ReversiblePlan, last_local_time, next_local_time,
+};
 pub use offset_core::{
     Around, Choice, FixedOffset, FoldChoice, GapChoice, LocalResult, MappedLocalTime,
     OutOfRangeError, ResolveError, Taken, TimeDelta,

@@ -17,6 +17,9 @@ use zoned_time::{DateTime, TimeZone};
 /// The instant of a day is the one that the policy selects for that time on that day, and depends on
 /// no other day. So "every day at 02:30 in New York" is at 02:30 again on the day after a gap or a
 /// fold.
+///
+/// Two days can have the same instant. Clocks in Apia skipped 2011-12-30: with
+/// `GapChoice::ShiftForward`, 12:00 on that day is 2011-12-31 12:00:00 +14:00, as it is on the next one.
 #[derive(Clone, Copy)]
 pub struct DailySeries<Tz> {
     zone: Tz,

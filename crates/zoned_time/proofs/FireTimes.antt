@@ -1,9 +1,10 @@
 -- When plans fire: the fires up to a second are those of the plan's local times up to the last one that clocks have shown.
 use Rattle.std.proofs.Common.{Contains, length, slice_index_or}
 use Rattle.std.proofs.lemmas.Bool.Decides.{nat_tests}
-use Rattle.zoned_time.specs.Plans.{second_before}
+use Rattle.zoned_time.specs.Fires.{second_before}
 use Rattle.zoned_time.proofs.Words.{Reading, ◌≡◌}
-use Rattle.zoned_time.proofs.Words.{AreFires, RiseFrom, List, [], suc, zero, ℕ, ◌<◌, ◌∷◌, HasNoneAfter, HasNoneUntil, HasReached, IsAt, IsFire, IsFirstToReach, IsInRange, IsLastFire, IsLastUntil, IsNextAfter}
+use Rattle.zoned_time.proofs.Words.{AreFires, RiseFrom, List, [], suc, zero, ℕ, ◌<◌, ◌∷◌, HasNoneAfter, HasNoneUntil, HasReached, IsAt, IsFire}
+use Rattle.zoned_time.proofs.Words.{IsFirstToReach, IsInRange, IsLastFire, IsLastUntil, IsNextAfter}
 use Rattle.zoned_time.proofs.Words.{IsNextFire, IsReachedAt, IsWide, IsZonedLastFire, IsZonedNextFire, IsZoneSecond, Law, MatchOption, Meaning, NoneFiresAfter}
 use Rattle.zoned_time.proofs.Words.{NoneFiresUntil, None, Option, Some, Zoned, arith, by_lt_z, ints, neg_ℤ, of_secs, pos, ℤ, ◌+ℤ◌, ◌-ℤ◌, ◌<ℤ◌, ◌≤ℤ◌}
 use Rattle.zoned_time.proofs.{DayStarts.{StayWithinDay}, ReachedTimes.{adjoint, reached_near, still_to_come}}
@@ -30,17 +31,20 @@ next_fire off plan t local l u within range reached next wide first = record {
   fires = record { local = l; planned = next.planned; first = first };
   after = still_to_come off l u t local first reached next.after;
   none_skipped = λ v fire later.
-      let above : local <ℤ fire.local = by_lt_z local fire.local (λ less. less) (λ not. let come = (adjoint off fire.local v t local fire.first reached).1 (omega (arith, ints)) in omega (arith, ints)) in
+      let above : local <ℤ fire.local = by_lt_z local fire.local (λ less. less)
+      (λ not. let come = (adjoint off fire.local v t local fire.first reached).1 (omega (arith, ints)) in omega (arith, ints)) in
       let near = reached_near off t local within range reached in
       let least : l ≤ℤ fire.local = by_lt_z (pos 8_210_266_963_199) fire.local (λ far. omega (arith, ints, wide))
       (λ not. next.least fire.local (omega (arith, ints), omega (arith, ints)) fire.planned above) in
       first_rises off l fire.local u v least first fire.first;
 }
 
-pub none_fires_after : (off : ℤ → ℤ) (plan : ℤ → Type 0) (t local : ℤ) → StayWithinDay off → IsReachedAt off t local → HasNoneAfter plan local → NoneFiresAfter off plan t
+pub none_fires_after : (off : ℤ → ℤ) (plan : ℤ → Type 0) (t local : ℤ) → StayWithinDay off → IsReachedAt off t local → HasNoneAfter plan local
+    → NoneFiresAfter off plan t
 none_fires_after off plan t local within reached none v range fire later =
     none fire.local (fire_is_wide off fire.local v within range fire.first) fire.planned
-    (by_lt_z local fire.local (λ less. less) (λ not. let come = (adjoint off fire.local v t local fire.first reached).1 (omega (arith, ints)) in omega (arith, ints)))
+    (by_lt_z local fire.local (λ less. less) (λ not. let come = (adjoint off fire.local v t local fire.first reached).1 (omega (arith, ints)) in omega
+    (arith, ints)))
 
 pub fires_beyond : (off : ℤ → ℤ) (plan : ℤ → Type 0) (t u : ℤ) → IsInRange t → IsNextFire off plan t u → (IsInRange u → ⊥) → NoneFiresAfter off plan t
 fires_beyond off plan t u range next out v inside fire later =
@@ -69,7 +73,8 @@ last_fire off plan t local l u within range reached last wide first = record {
       first_rises off fire.local l v u most fire.first first;
 }
 
-pub none_fires_until : (off : ℤ → ℤ) (plan : ℤ → Type 0) (t local : ℤ) → StayWithinDay off → IsReachedAt off t local → HasNoneUntil plan local → NoneFiresUntil off plan t
+pub none_fires_until : (off : ℤ → ℤ) (plan : ℤ → Type 0) (t local : ℤ) → StayWithinDay off → IsReachedAt off t local → HasNoneUntil plan local
+    → NoneFiresUntil off plan t
 none_fires_until off plan t local within reached none v range fire come =
     none fire.local (fire_is_wide off fire.local v within range fire.first) fire.planned ((adjoint off fire.local v t local fire.first reached).0 come)
 
@@ -99,7 +104,8 @@ pub none_skipped : (off : ℤ → ℤ) (plan : ℤ → Type 0) (t until : ℤ) (
 none_skipped off plan t until [] h v fire after not_after = absurd (h v fire after not_after)
 none_skipped off plan t until (u ∷ us) h v fire after not_after =
     let least = h.0.none_skipped v fire after in
-    by_lt_z u v (λ later. let rest = none_skipped off plan u until us h.2 v fire later not_after in (suc rest.0, omega arith, rest.2)) (λ not. (0, omega arith, omega (arith, ints)))
+    by_lt_z u v (λ later. let rest = none_skipped off plan u until us h.2 v fire later not_after in (suc rest.0, omega arith, rest.2))
+    (λ not. (0, omega arith, omega (arith, ints)))
 
 pub none_doubled : (off : ℤ → ℤ) (plan : ℤ → Type 0) (t until : ℤ) (us : List ℤ) → AreFires off plan t until us → RiseFrom t us
 none_doubled off plan t until [] h = tt

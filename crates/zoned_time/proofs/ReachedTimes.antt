@@ -31,7 +31,8 @@ adjoint off l u t m first h = (
 -- a local time after it is still to come
 pub still_to_come : (off : ℤ → ℤ) (l u t m : ℤ) → IsFirstToReach off l u → IsReachedAt off t m → m <ℤ l → t <ℤ u
 still_to_come off l u t m first h later =
-    let most = h.last u first.reached.in_zone in let there = first.reached.reached in by_lt_z t u (λ less. less) (λ not. let past = most (omega (arith, ints)) in omega (arith, ints))
+    let most = h.last u first.reached.in_zone in let there =
+    first.reached.reached in by_lt_z t u (λ less. less) (λ not. let past = most (omega (arith, ints)) in omega (arith, ints))
 
 -- what a test of the two seconds says
 pub by_test : (u t : ℤ) (p : Type 0) → (u ≤ℤ t) ↔ p → IsTrue (le_z u t) ↔ p
@@ -39,7 +40,8 @@ by_test u t p h = (λ yes. h.0 (grind (arith, ints)), λ has. let come = h.1 has
 
 -- one is last, and it never falls
 pub rises_with : (off : ℤ → ℤ) (t v l m : ℤ) → t ≤ℤ v → IsReachedAt off t l → IsReachedAt off v m → l ≤ℤ m
-rises_with off t v l m later h k = let until = h.not_after in let most = k.last h.at h.in_zone (omega (arith, ints)) in let there = h.shown in omega (arith, ints)
+rises_with off t v l m later h k = let until = h.not_after in let most = k.last h.at h.in_zone (omega (arith, ints)) in let there =
+    h.shown in omega (arith, ints)
 
 pub one_reached : (off : ℤ → ℤ) (t l m : ℤ) → IsReachedAt off t l → IsReachedAt off t m → l ≡ m
 one_reached off t l m h k =

@@ -35,8 +35,9 @@ pub use Rattle.zoned_time.specs.Days.{AreEndsOfDay, AreInstantsOfDay, HasReached
 pub use Rattle.zoned_time.specs.Days.{IsNeverOnDay, IsNoDay, IsOnDay, IsZonedAtOrAfter, midnight}
 pub use Rattle.zoned_time.specs.Fields.{IsOnly, IsOnlyWhere}
 pub use Rattle.naive_plans.specs.Plans.{HasNoneAfter, HasNoneUntil, IsLastUntil, IsNextAfter}
-pub use Rattle.zoned_time.specs.Plans.{AreFires, IsFire, IsLastFire, IsNextFire, IsZonedLastFire, IsZonedNextFire, NoneFiresAfter, NoneFiresUntil, RiseFrom}
-pub use Rattle.zoned_time.specs.Reached.{HasPassed, IsReachedAt}
+pub use Rattle.zoned_time.specs.Fires.{AreFires, IsFire, IsLastFire, IsNextFire, IsZonedLastFire, IsZonedNextFire, NoneFiresAfter, NoneFiresUntil, RiseFrom}
+pub use Rattle.zoned_time.specs.Reached.{IsReachedAt}
+pub use Rattle.zoned_time.specs.Steps.Passed.{HasPassed}
 pub use Rattle.zoned_time.specs.Relocal.{AreInstantsOf, HasInstant, IsRelocal, SingleIff, instant_of}
 pub use Rattle.zoned_time.specs.Stamps.{in_utc}
 pub use Rattle.zoned_time.specs.Zone.{AreOffsetsFor, Each, IsFixed, IsOffsetAt, IsZoneSecond, Law, Meaning, SameLaw, SameOffsets, ShowsByOffset, home_law}

@@ -5,10 +5,10 @@ pub mod DayEnds
 pub mod Fields
 pub mod Fires
 pub mod Order
-pub mod Plans
 pub mod Reached
 pub mod Relocal
 pub mod Stamps
+pub mod Steps
 pub mod Years
 pub mod Zone
 pub mod Zoned

@@ -1,15 +1,14 @@
-//! The fires of a plan, one after another.
+//! The instants at which a plan fires, one after another.
 ghost use Rattle.std.specs.Prelude.{◌≡◌};
 ghost use Rattle.std.specs.Iterator.{at_most};
 ghost use Rattle.zoned_time.specs.DateTime.{zoned};
-ghost use Rattle.zoned_time.specs.Fires.{left_of};
-ghost use Rattle.zoned_time.specs.Plans.{GivesFire, seconds_left};
+ghost use Rattle.zoned_time.specs.Fires.{GivesFire, fires_between, left_of, seconds_left};
 
 use crate::{DateTime, Utc, ZoneDays};
 use naive_plans::Plan;
 use std::iter::FusedIterator;
 
-/// The fires of a plan in a zone, one after another. From [`ZoneDays::fires`].
+/// The instants at which a plan fires in a zone, one after another. Made by [`ZoneDays::fires`].
 #[derive(Clone, Drop)]
 pub struct Fires<Tz, P> {
     zone: Tz,
@@ -20,12 +19,8 @@ pub struct Fires<Tz, P> {
 
 impl<Tz: ZoneDays, P: Plan + Drop> Fires<Tz, P> {
     pub(crate) fn new(zone: Tz, plan: P, after: DateTime<Utc>, until: DateTime<Utc>) -> Fires<Tz, P>
-        ensures { left_of result ≡ record {
-          zone = zone;
-          plan = plan;
-          after = (zoned after).utc.s;
-          until = (zoned until).utc.s;
-        } }
+        ensures { left_of result
+            ≡ fires_between zone plan (zoned after).utc.s (zoned until).utc.s }
     {
         Fires {
             zone,

@@ -4,37 +4,38 @@ ghost use Rattle.offset_core.specs.Offset.{IsWithinDay};
 ghost use Rattle.naive_base.specs.NaiveDateTime.{reading};
 ghost use Rattle.naive_base.specs.Range.{IsInRange};
 ghost use Rattle.naive_base.specs.Stamp.{of_secs};
-ghost use Rattle.zoned_time.specs.Reached.{HasPassed, IsReachedAt};
+ghost use Rattle.zoned_time.specs.Reached.{IsReachedAt};
+ghost use Rattle.zoned_time.specs.Steps.Passed.{HasPassed};
 
 use crate::{Offset, ZoneDays};
 use naive_base::{NaiveDateTime, Timelike};
 use offset_core::FixedOffset;
 
-// Offsets between which the search goes on, in seconds: clocks have passed the local time of the
-// first, and not that of the second.
+// Two offsets in seconds, which the bisection brings together: clocks have passed the local time of
+// the first, and that of the second is still ahead.
 #[derive(Clone, Copy)]
-struct Left {
+struct Bracket {
     passed: i32,
     ahead: i32,
 }
 
-// The last local time, in whole seconds, that clocks have shown up to that second of UTC.
+// The last local time, in whole seconds, that clocks have shown up to a second of UTC.
 pub(crate) fn reached_at<Tz: ZoneDays>(zone: &Tz, utc: NaiveDateTime) -> NaiveDateTime
     requires { IsInRange (reading utc).s }
     ensures reached { IsReachedAt (Tz.law zone.now).off (reading utc).s (reading result).s }
     ensures whole { (reading result).f ≡ 0 }
 {
-    let ahead = most_ahead(zone, utc);
-    let shown = utc.overflowing_add_offset(FixedOffset::east(ahead));
-    match shown.with_nanosecond(0) {
+    let offset = reached_offset(zone, utc);
+    let local = utc.overflowing_add_offset(FixedOffset::east(offset));
+    match local.with_nanosecond(0) {
         Some(whole) => whole,
         None => unreachable!(),
     }
 }
 
-// How many seconds that local time is ahead of the second: as many as clocks are, unless they have
-// been set back and not yet caught up. Then it is found by halving a day of local times.
-fn most_ahead<Tz: ZoneDays>(zone: &Tz, utc: NaiveDateTime) -> i32
+// How many seconds that local time is ahead of UTC: the offset in force, unless clocks have been set
+// back and haven't caught up yet.
+fn reached_offset<Tz: ZoneDays>(zone: &Tz, utc: NaiveDateTime) -> i32
     requires { IsInRange (reading utc).s }
     ensures within { IsWithinDay result }
     ensures reached { let s = (reading utc).s in
@@ -46,14 +47,14 @@ fn most_ahead<Tz: ZoneDays>(zone: &Tz, utc: NaiveDateTime) -> i32
     }
     let next = now + 1;
     if has_passed(zone, utc, next) {
-        search(zone, utc, next)
+        offset_by_bisection(zone, utc, next)
     } else {
         now
     }
 }
 
-// The same, from an offset whose local time clocks have passed.
-fn search<Tz: ZoneDays>(zone: &Tz, utc: NaiveDateTime, passed: i32) -> i32
+// The same, found by bisection of the offsets from one whose local time clocks have passed.
+fn offset_by_bisection<Tz: ZoneDays>(zone: &Tz, utc: NaiveDateTime, passed: i32) -> i32
     requires range { IsInRange (reading utc).s }
     requires within { IsWithinDay passed }
     requires passed { let s = (reading utc).s in HasPassed (Tz.law zone.now).off (s +ℤ passed) s }
@@ -61,26 +62,26 @@ fn search<Tz: ZoneDays>(zone: &Tz, utc: NaiveDateTime, passed: i32) -> i32
     ensures reached { let s = (reading utc).s in
         IsReachedAt (Tz.law zone.now).off s (s +ℤ result) }
 {
-    let mut left = Left {
+    let mut bracket = Bracket {
         passed,
         ahead: 86_400,
     };
-    while left.passed + 1 < left.ahead {
-        left = halved(zone, utc, left);
+    while bracket.passed + 1 < bracket.ahead {
+        bracket = halved(zone, utc, bracket);
     }
-    left.passed
+    bracket.passed
 }
 
-// What is left after a look at the local time in the middle.
-fn halved<Tz: ZoneDays>(zone: &Tz, utc: NaiveDateTime, left: Left) -> Left
+// The half of a bracket that still has the answer between its ends.
+fn halved<Tz: ZoneDays>(zone: &Tz, utc: NaiveDateTime, bracket: Bracket) -> Bracket
     requires range { IsInRange (reading utc).s }
-    requires some { (left.passed +ℤ pos 1) <ℤ left.ahead }
-    requires within { IsWithinDay left.passed }
-    requires end { left.ahead <ℤ pos 86_401 }
+    requires some { (bracket.passed +ℤ pos 1) <ℤ bracket.ahead }
+    requires within { IsWithinDay bracket.passed }
+    requires end { bracket.ahead <ℤ pos 86_401 }
     requires passed { let s = (reading utc).s in
-        HasPassed (Tz.law zone.now).off (s +ℤ left.passed) s }
+        HasPassed (Tz.law zone.now).off (s +ℤ bracket.passed) s }
     requires ahead { let s = (reading utc).s in
-        HasPassed (Tz.law zone.now).off (s +ℤ left.ahead) s → ⊥ }
+        HasPassed (Tz.law zone.now).off (s +ℤ bracket.ahead) s → ⊥ }
     ensures some { result.passed <ℤ result.ahead }
     ensures within { IsWithinDay result.passed }
     ensures end { result.ahead <ℤ pos 86_401 }
@@ -88,17 +89,17 @@ fn halved<Tz: ZoneDays>(zone: &Tz, utc: NaiveDateTime, left: Left) -> Left
         HasPassed (Tz.law zone.now).off (s +ℤ result.passed) s }
     ensures ahead { let s = (reading utc).s in
         HasPassed (Tz.law zone.now).off (s +ℤ result.ahead) s → ⊥ }
-    ensures less { (result.ahead -ℤ result.passed) <ℤ (left.ahead -ℤ left.passed) }
+    ensures less { (result.ahead -ℤ result.passed) <ℤ (bracket.ahead -ℤ bracket.passed) }
 {
-    let middle = middle_of(left.passed, left.ahead);
+    let middle = middle_of(bracket.passed, bracket.ahead);
     if has_passed(zone, utc, middle) {
-        Left {
+        Bracket {
             passed: middle,
-            ahead: left.ahead,
+            ahead: bracket.ahead,
         }
     } else {
-        Left {
-            passed: left.passed,
+        Bracket {
+            passed: bracket.passed,
             ahead: middle,
         }
     }
@@ -115,8 +116,8 @@ fn middle_of(passed: i32, ahead: i32) -> i32
     passed + (ahead - passed) / 2
 }
 
-// Whether clocks have shown, up to that second of UTC, the local time that many seconds ahead of it
-// or a later one.
+// Whether clocks have shown, up to a second of UTC, the local time that many seconds ahead of it or a
+// later one.
 fn has_passed<Tz: ZoneDays>(zone: &Tz, utc: NaiveDateTime, seconds: i32) -> bool
     requires range { IsInRange (reading utc).s }
     requires within { IsWithinDay seconds }

@@ -1,4 +1,4 @@
-//! The days of zones.
+//! The days of a zone, and when plans fire in it.
 ghost use Rattle.std.specs.Prelude.{◌≡◌, ◌<◌, ℤ, pos, ◌+ℤ◌, ◌-ℤ◌, ◌≤ℤ◌, MatchOption};
 ghost use Rattle.offset_core.specs.TimeDelta.{nanos_of};
 ghost use Rattle.naive_base.specs.NaiveDate.{day_of};
@@ -10,15 +10,14 @@ ghost use Rattle.naive_base.specs.Year.{floor_div};
 ghost use Rattle.zoned_time.specs.DateTime.{zoned};
 ghost use Rattle.zoned_time.specs.Days as instants;
 ghost use Rattle.zoned_time.specs.DayEnds as ends;
-ghost use Rattle.zoned_time.specs.Fires.{left_of};
-ghost use Rattle.zoned_time.specs.Plans as plans;
+ghost use Rattle.zoned_time.specs.Fires as fire_times;
 ghost use Rattle.zoned_time.specs.Reached.{IsReachedAt};
 ghost use Rattle.zoned_time.specs.Zoned.{IsAt};
 
 use crate::reached::reached_at;
 use crate::{DateTime, Fires, TimeZone, Utc};
 use naive_base::{Datelike, Days, NaiveDate, NaiveDateTime, NaiveTime, Weekday};
-use naive_plans::{Plan, PlanBack};
+use naive_plans::{Plan, ReversiblePlan};
 use offset_core::{FixedOffset, TimeDelta};
 
 /// The first and the last second at which clocks show a date: of a zone's instants, or of Unix time.
@@ -39,8 +38,9 @@ pub struct ShownDay<T> {
 /// back over midnight, as in St. John's on 2005-10-30 at 00:01, they show the date before again,
 /// and the two days overlap. [`ZoneDays::start_of_day`] divides time: each instant lies in exactly
 /// one day, which lasts from its start to before the next day's start, and clocks that show the date
-/// before again do so within the new day. A date over which clocks were set forward, as
-/// 2011-12-30 in Apia, is never shown, and starts when the next date does: it is empty.
+/// before again do so within the new day. [`ZoneDays::date_of`] is the date of that day. A date over
+/// which clocks were set forward, as 2011-12-30 in Apia, is never shown, and starts when the next date
+/// does: it is empty.
 pub trait ZoneDays: TimeZone {
     /// Returns the first and the last second of Unix time at which clocks show that date; `None` if
     /// no second shows it.
@@ -112,9 +112,10 @@ pub trait ZoneDays: TimeZone {
     /// Returns the last local time, in whole seconds, that the clocks of this zone have shown up to an
     /// instant of any zone.
     ///
-    /// It is what they show, unless they have been set back and not yet caught up. It never falls:
-    /// [`ZoneDays::first_at_or_after`] of a local time in whole seconds is not after the instant if and
-    /// only if the local time is not after this one.
+    /// It is the local time at that instant, unless clocks have been set back and haven't caught up yet.
+    /// A later instant never has an earlier answer. For a local time in whole seconds,
+    /// [`ZoneDays::first_at_or_after`] is at or before the instant if and only if the local time is at or
+    /// before this one.
     ///
     /// ```
     /// let second_pass = Utc.with_ymd_and_hms(2021, 11, 7, 6, 30, 0).single()?; // 01:30:00 -05:00
@@ -128,10 +129,11 @@ pub trait ZoneDays: TimeZone {
         reached_at(self, instant.naive_utc())
     }
 
-    /// Returns the date of the day that an instant of any zone lies in, where days last from their
-    /// start to before the next day's start, as [`ZoneDays::start_of_day`] divides time.
+    /// Returns the date of the day that an instant of any zone lies in, from the day's start to before
+    /// the next day's start.
     ///
-    /// It is the date that clocks show, unless they have been set back over midnight.
+    /// It is the date that clocks show, unless they have been set back over midnight and show the date
+    /// before again. [`DateTime::date_naive`] is the date that is shown.
     ///
     /// ```
     /// let second_pass = Utc.with_ymd_and_hms(2005, 10, 30, 3, 2, 0).single()?; // 2005-10-29 23:32:00 -03:30
@@ -246,11 +248,11 @@ pub trait ZoneDays: TimeZone {
         start_of_earlier_day(self, date, date.ordinal0())
     }
 
-    /// Returns the first instant after another one, of any zone, at which a plan fires: at which clocks
-    /// first show one of its local times or a later one. `None` if no instant in the range of
-    /// [`DateTime`] is one.
+    /// Returns the first instant at which a plan fires after the given one, of any zone; `None` if there
+    /// is none in the range of [`DateTime`].
     ///
-    /// So a plan fires once for a local time that is shown twice, and when a gap ends for those in it.
+    /// A plan fires at each whole second at which clocks first show one of its local times or a later
+    /// one. So local times in a gap fire once, at its end, and one in a fold fires on the first pass only.
     ///
     /// ```
     /// let next = new_york.next_fire(&daily, &noon)?; // of 02:30 each day: 2021-03-14 03:00:00 -04:00
@@ -262,15 +264,17 @@ pub trait ZoneDays: TimeZone {
     ) -> Option<DateTime<Self>>
         ensures { let law = Self.law self.now in
             let s = (zoned after.now).utc.s in
-            MatchOption result (plans.NoneFiresAfter law.off (P.planned plan.now) s)
-            (λ d. plans.IsZonedNextFire law (P.planned plan.now) s (zoned d)) }
+            MatchOption result (fire_times.NoneFiresAfter law.off (P.planned plan.now) s)
+            (λ d. fire_times.IsZonedNextFire law (P.planned plan.now) s (zoned d)) }
     {
         let local = plan.next_after(&self.reached(after))?;
         instant_at(self, self.first_second_at_or_after(&local), 0)
     }
 
-    /// Returns the instants at which a plan fires, one after another: those after an instant, and not
-    /// after another one, of any zones. After downtime these are the runs that were missed.
+    /// Returns an iterator over the instants at which a plan fires, after one instant and at or before
+    /// another one, of any zones. It skips none and returns none twice.
+    ///
+    /// From a job's last run to now these are the runs that it missed.
     ///
     /// ```
     /// let missed = new_york.fires(daily, &last_run, &now).count();
@@ -281,49 +285,52 @@ pub trait ZoneDays: TimeZone {
         after: &DateTime<Tz>,
         until: &DateTime<Tz2>,
     ) -> Fires<Self, P>
-        ensures { left_of result ≡ record {
-          zone = self.now;
-          plan = plan;
-          after = (zoned after.now).utc.s;
-          until = (zoned until.now).utc.s;
-        } }
+        ensures { let t = (zoned after.now).utc.s in let end = (zoned until.now).utc.s in
+            fire_times.left_of result ≡ fire_times.fires_between self.now plan t end }
     {
         Fires::new(*self, plan, after.to_utc(), until.to_utc())
     }
 
-    /// Returns the last instant, not after another one of any zone, at which a plan fires; `None` if no
-    /// instant in the range of [`DateTime`] is one.
-    final fn last_fire<P: PlanBack, Tz: TimeZone>(
+    /// Returns the last instant at which a plan fires that isn't after the given one, of any zone; `None`
+    /// if there is none in the range of [`DateTime`].
+    ///
+    /// ```
+    /// let last = new_york.last_fire(&daily, &noon)?; // of 02:30 each day: 2021-03-13 02:30:00 -05:00
+    /// ```
+    final fn last_fire<P: ReversiblePlan, Tz: TimeZone>(
         &self,
         plan: &P,
         until: &DateTime<Tz>,
     ) -> Option<DateTime<Self>>
         ensures { let law = Self.law self.now in
             let s = (zoned until.now).utc.s in
-            MatchOption result (plans.NoneFiresUntil law.off (P.planned plan.now) s)
-            (λ d. plans.IsZonedLastFire law (P.planned plan.now) s (zoned d)) }
+            MatchOption result (fire_times.NoneFiresUntil law.off (P.planned plan.now) s)
+            (λ d. fire_times.IsZonedLastFire law (P.planned plan.now) s (zoned d)) }
     {
         let local = plan.last_until(&self.reached(until))?;
         instant_at(self, self.first_second_at_or_after(&local), 0)
     }
 
-    /// Returns the last instant before another one, of any zone, at which a plan fires; `None` if no
-    /// instant in the range of [`DateTime`] is one.
-    final fn previous_fire<P: PlanBack, Tz: TimeZone>(
+    /// Returns the last instant at which a plan fires before the given one, of any zone; `None` if there
+    /// is none in the range of [`DateTime`].
+    ///
+    /// ```
+    /// let previous = new_york.previous_fire(&daily, &last)?; // 2021-03-12 02:30:00 -05:00
+    /// ```
+    final fn previous_fire<P: ReversiblePlan, Tz: TimeZone>(
         &self,
         plan: &P,
         before: &DateTime<Tz>,
     ) -> Option<DateTime<Self>>
         ensures { let law = Self.law self.now in
-            let s = plans.second_before (zoned before.now).utc in
-            MatchOption result (plans.NoneFiresUntil law.off (P.planned plan.now) s)
-            (λ d. plans.IsZonedLastFire law (P.planned plan.now) s (zoned d)) }
+            let s = fire_times.second_before (zoned before.now).utc in
+            MatchOption result (fire_times.NoneFiresUntil law.off (P.planned plan.now) s)
+            (λ d. fire_times.IsZonedLastFire law (P.planned plan.now) s (zoned d)) }
     {
-        let second = before.timestamp();
         if before.timestamp_subsec_nanos() > 0 {
             return self.last_fire(plan, before);
         }
-        let until = DateTime::<Utc>::from_timestamp(second - 1, 0)?;
+        let until = DateTime::<Utc>::from_timestamp(before.timestamp() - 1, 0)?;
         self.last_fire(plan, &until)
     }
 }

@@ -7,11 +7,11 @@ use super::DateTime;
 use crate::ZoneDays;
 
 impl<Tz: ZoneDays> DateTime<Tz> {
-    /// Returns the start of the day that this instant lies in, as [`ZoneDays::start_of_day`] divides
-    /// time; `None` if it is out of the range of [`DateTime`].
+    /// Returns the start of the day that this instant lies in; `None` if it is out of the range of
+    /// [`DateTime`]. It is never after the instant.
     ///
-    /// It is the day of the date that the instant's clock shows, unless clocks have been set back over
-    /// midnight: then it is the day of [`ZoneDays::date_of`].
+    /// That day is the one of [`ZoneDays::date_of`]: of the date that the instant shows, unless clocks
+    /// have been set back over midnight and show the date before again.
     ///
     /// ```
     /// let noon = new_york.with_ymd_and_hms(2021, 3, 14, 12, 0, 0).single()?;

@@ -5,7 +5,8 @@ ghost use Rattle.offset_core.specs.WallAnswer.{IsNeverShown, IsShownOnce, IsShow
 ghost use Rattle.naive_base.specs.Range.{IsInRange};
 ghost use Rattle.naive_base.specs.Reading.{Reading, behind, IsEarlier};
 ghost use Rattle.naive_base.specs.Year.{floor_div};
-ghost use Rattle.zoned_time.specs.Days.{IsOnDay, AreEndsOfDay, IsNeverOnDay, IsFirstInstantFrom, IsFirstToReach, IsInDay, midnight};
+ghost use Rattle.zoned_time.specs.Days.{IsOnDay, AreEndsOfDay, IsNeverOnDay, IsFirstInstantFrom};
+ghost use Rattle.zoned_time.specs.Days.{IsFirstToReach, IsInDay, midnight};
 ghost use Rattle.zoned_time.specs.DayEnds.{IsGapEnd, NonePassed};
 ghost use Rattle.zoned_time.specs.Reached.{IsReachedAt};
 ghost use Rattle.zoned_time.specs.Zone.{IsZoneSecond, ShowsByOffset};
@@ -37,9 +38,9 @@ pub fn gaps_and_folds()
         → IsFirstInstantFrom off l a → ¬ (IsEarlier (behind l k) a) }
 {}
 
-/// The last local time that clocks have shown up to a second: a local time is no later if and only if
-/// its first second has come. There is one for each second in range, and a later second has no earlier
-/// one.
+/// The last local time that clocks have shown up to a second. Another local time isn't later if and only
+/// if clocks have reached it by that second (`adjoint`). There is at most one, and it never falls.
+#[tactic(auto, using(crate::proofs::ReachedTimes::one_reached))]
 pub fn reached_times()
     ensures adjoint { (off : ℤ → ℤ) (l u t m : ℤ) → IsFirstToReach off l u → IsReachedAt off t m
         → (u ≤ℤ t) ↔ (l ≤ℤ m) }

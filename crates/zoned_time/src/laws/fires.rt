@@ -1,15 +1,14 @@
 //! Theorems of plans and their fires: each function is empty, its contract is proved; never called.
 ghost use Rattle.std.specs.Prelude.{ℤ, ◌≤ℤ◌, ◌<ℤ◌, List, [], ◌∷◌, Some, None, All, Contains};
 ghost use Rattle.zoned_time.specs.DateTime.{zoned};
-ghost use Rattle.zoned_time.specs.Fires.{left_of};
-ghost use Rattle.zoned_time.specs.Plans.{AreFires, AreLeft, IsFire, RiseFrom};
+ghost use Rattle.zoned_time.specs.Fires.{AreFires, AreLeft, IsFire, RiseFrom, left_of};
 
 use crate::{Fires, TimeZone, ZoneDays};
 use naive_plans::Plan;
 
-/// All fires of a plan after a second and not after another one, if each is the next fire after the one
-/// before, as [`Fires`](crate::Fires) returns them: each is a fire between the two, none is skipped, and
-/// none is doubled.
+/// The fires of a plan after a second and at or before another one, as [`Fires`](crate::Fires) returns
+/// them, each the next one after the one before it: each of them is a fire between the two, none is
+/// skipped, and none comes twice.
 pub fn all_fires<P: Plan, Tz: TimeZone>()
     ensures fires { (zone : Tz) (plan : P) (t until : ℤ) (us : List ℤ)
         → AreFires (Tz.law zone).off (P.planned plan) t until us
@@ -22,8 +21,8 @@ pub fn all_fires<P: Plan, Tz: TimeZone>()
         → AreFires (Tz.law zone).off (P.planned plan) t until us → RiseFrom t us }
 {}
 
-/// The steps of [`Fires`] give all fires that it has left: none at the end, and before that one and
-/// those left after it.
+/// What the steps of [`Fires`] return is all that it has left: nothing at its end; else the fire of the
+/// step, and then all that is left after it.
 pub fn steps<Tz: ZoneDays, P: Plan + Drop>(before: &Fires<Tz, P>, after: &Fires<Tz, P>)
     ensures last { ⟦<Fires<Tz, P> as Iterator>⟧.next_gives before.now None after.now
         → AreLeft Tz.law P.planned (left_of before.now) [] }

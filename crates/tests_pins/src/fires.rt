@@ -1,0 +1,45 @@
+//! When plans fire in zones whose clocks are set once, as `zdump -v` of the tz database has them, and
+//! the last local times that those clocks have shown.
+#![tactic(auto)]
+
+ghost use Rattle.std.specs.Prelude.{◌≡◌, ℤ, pos, neg_ℤ, List, [], ◌∷◌};
+ghost use Rattle.zoned_time.specs.Fires.{AreFires, IsFire};
+ghost use Rattle.zoned_time.specs.Reached.{IsReachedAt};
+ghost use Rattle.tests_pins.specs.Days.{AreSetAt};
+ghost use Rattle.tests_pins.specs.Plans.{daily, twice_daily};
+
+/// In St. John's clocks went from 00:01 on 2005-10-30 back to 23:01, at 02:31:00 UTC. At 03:02:00 UTC
+/// they show 23:32, and have shown 00:00:59, the second 1,130,630,459.
+pub fn st_johns()
+    ensures reached { (off : ℤ → ℤ)
+        → AreSetAt off (pos 1_130_639_460) (neg_ℤ (pos 9_000)) (neg_ℤ (pos 12_600))
+        → IsReachedAt off (pos 1_130_641_320) (pos 1_130_630_459) }
+    ensures only { (off : ℤ → ℤ) (l : ℤ)
+        → AreSetAt off (pos 1_130_639_460) (neg_ℤ (pos 9_000)) (neg_ℤ (pos 12_600))
+        → IsReachedAt off (pos 1_130_641_320) l → l ≡ pos 1_130_630_459 }
+{}
+
+/// In New York clocks went from 02:00 on 2021-11-07 back to 01:00, at 06:00:00 UTC. A run at 01:30 on
+/// each day is at 05:30:00 UTC, on the first pass, and not at 06:30:00 UTC.
+pub fn new_york_in_autumn()
+    ensures first_pass { (off : ℤ → ℤ)
+        → AreSetAt off (pos 1_636_264_800) (neg_ℤ (pos 14_400)) (neg_ℤ (pos 18_000))
+        → IsFire off (daily 5_400) (pos 1_636_263_000) }
+    ensures second_pass { (off : ℤ → ℤ)
+        → AreSetAt off (pos 1_636_264_800) (neg_ℤ (pos 14_400)) (neg_ℤ (pos 18_000))
+        → IsFire off (daily 5_400) (pos 1_636_266_600) → ⊥ }
+{}
+
+/// There they went from 02:00 on 2021-03-14 on to 03:00, at 07:00:00 UTC. Runs at 02:15 and 02:45 on
+/// each day are one run then, and are at 06:15 and 06:45 UTC on the next day. After midnight of the
+/// first and up to the last of these there are no others.
+pub fn new_york_in_spring()
+    ensures fires { (off : ℤ → ℤ)
+        → AreSetAt off (pos 1_615_705_200) (neg_ℤ (pos 18_000)) (neg_ℤ (pos 14_400))
+        → AreFires off (twice_daily 8_100 9_900) (pos 1_615_698_000) (pos 1_615_790_700)
+        (pos 1_615_705_200 ∷ pos 1_615_788_900 ∷ pos 1_615_790_700 ∷ []) }
+    ensures only { (off : ℤ → ℤ) (us : List ℤ)
+        → AreSetAt off (pos 1_615_705_200) (neg_ℤ (pos 18_000)) (neg_ℤ (pos 14_400))
+        → AreFires off (twice_daily 8_100 9_900) (pos 1_615_698_000) (pos 1_615_790_700) us
+        → us ≡ (pos 1_615_705_200 ∷ pos 1_615_788_900 ∷ pos 1_615_790_700 ∷ []) }
+{}
