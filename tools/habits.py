@@ -24,7 +24,7 @@ HABITS = [
     ("want of", "lack of, out of", r"\bwant of\b", 0, 0),
     ("be they", "whether", r"\bbe (?:they|it)\b", 0, 0),
     ("so many, such a one", "n, one", r"\b(?:so many|such a one|no more do)\b", 0, 0),
-    ("is none", "does not count, is not one", r"\b(?:is|are) none\b", 1, 4),
+    ("is none", "does not count, is not one", r"\b(?!there\b)\w+,?\s+(?://[/!]\s+)?(?:is|are) none\b", 0, 1),
     ("alone after a noun", "only", r"\balone\b", 0, 2),
     ("beside", "with, compared with, as well as", r"\bbeside\b", 0, 0),
     ("behind", "after", r"\bbehind\b(?! UTC)", 1, 2),
