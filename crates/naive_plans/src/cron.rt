@@ -5,7 +5,7 @@ ghost use Rattle.naive_plans.specs.Cron.{IsCronDay, IsCronMinute, IsCronTime};
 ghost use Rattle.naive_plans.specs.Steps.CronDates.{ListsNoDateBefore, ListsNoDayUpTo};
 ghost use Rattle.naive_plans.specs.DayPlans.{IsPlannedOnItsDay};
 
-use crate::{DayPlan, ReversibleDayPlan, Plan, ReversiblePlan, last_local_time, next_local_time};
+use crate::{DayPlan, Plan, ReversibleDayPlan, ReversiblePlan, last_local_time, next_local_time};
 use naive_base::{Datelike, NaiveDate, NaiveDateTime};
 
 /// The local times that match a line of a crontab. Each field holds, by index, whether the line lists

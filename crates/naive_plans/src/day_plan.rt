@@ -63,7 +63,10 @@ pub fn next_local_time<D: DayPlan>(plan: &D, local: &NaiveDateTime) -> Option<Na
 /// Returns the last local time of a plan that is not after the given one; `None` if there is none that a
 /// [`NaiveDateTime`] can show. It is the body of `ReversiblePlan::last_until` for a
 /// [`ReversibleDayPlan`].
-pub fn last_local_time<D: ReversibleDayPlan>(plan: &D, local: &NaiveDateTime) -> Option<NaiveDateTime>
+pub fn last_local_time<D: ReversibleDayPlan>(
+    plan: &D,
+    local: &NaiveDateTime,
+) -> Option<NaiveDateTime>
     ensures { let planned = IsPlannedOnItsDay (D.planned_on plan.now) in
         let s = (reading local.now).s in
         MatchOption result (HasNoneUntil planned s) (λ l. IsLastUntil planned s (reading l).s) }
@@ -94,7 +97,11 @@ fn first_local_from<D: DayPlan>(plan: &D, start: NaiveDate, second: u32) -> Opti
 }
 
 // The last local time at or before a second of a date.
-fn last_local_until<D: ReversibleDayPlan>(plan: &D, start: NaiveDate, second: u32) -> Option<NaiveDateTime>
+fn last_local_until<D: ReversibleDayPlan>(
+    plan: &D,
+    start: NaiveDate,
+    second: u32,
+) -> Option<NaiveDateTime>
     requires { second < 86_400 }
     ensures { let planned = IsPlannedOnItsDay (D.planned_on plan.now) in
         let last = (reading_at (day_of start) second 0).s in

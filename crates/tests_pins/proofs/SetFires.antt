@@ -33,7 +33,7 @@ from_set off at k m l u set inside late reached more least = record {
   reached = record { in_zone = inside; reached = let is = set.from u late in omega (arith, ints) };
   first = λ v h. let past = h.reached in by_lt_z v u
       (λ less. by_lt_z v at (λ early. let is = set.before v early in absurd (omega (arith, ints)))
-      (λ from. let is = set.from v from in absurd (elim least [ | inl one ↦ omega (arith, ints) | inr same ↦ omega (arith, ints) ])))
+      (λ from. let is = set.from v from in absurd (elim least [ inl one ↦ omega (arith, ints) | inr same ↦ omega (arith, ints) ])))
       (λ not. not);
 }
 
@@ -49,9 +49,9 @@ shown_after off at k m l v set inside inside_at late h =
     let now = set.from v (omega (arith, ints)) in let before = set.from (v -ℤ pos 1) (omega (arith, ints)) in let there = h.reached.reached in
     let last = set.before (at -ℤ pos 1) (omega (arith, ints)) in (
       by_lt_z (v -ℤ pos 1 +ℤ m) l (λ less. omega (arith, ints))
-      (λ not. let least = h.first (v -ℤ pos 1) (record { in_zone = inside; reached = omega (arith, ints) }) in absurd (omega (arith, ints))),
+          (λ not. let least = h.first (v -ℤ pos 1) (record { in_zone = inside; reached = omega (arith, ints) }) in absurd (omega (arith, ints))),
       by_lt_z (at -ℤ pos 1 +ℤ k) l (λ less. less)
-      (λ not. let least = h.first (at -ℤ pos 1) (record { in_zone = inside_at; reached = omega (arith, ints) }) in absurd (omega (arith, ints))),
+          (λ not. let least = h.first (at -ℤ pos 1) (record { in_zone = inside_at; reached = omega (arith, ints) }) in absurd (omega (arith, ints))),
     )
 
 -- the fires of a plan are one list
@@ -78,8 +78,8 @@ fires_in_spring off v set fire after until =
     let inside : IsZoneSecond (v -ℤ pos 1) = (omega (arith, ints), omega (arith, ints)) in let l = fire.local in let planned = fire.planned in
     by_lt_z v at
     (λ early. let is = shown_before off at k m l v set inside early fire.first in
-    absurd (elim planned [ | inl one ↦ omega (arith, ints, floors) | inr other ↦ omega (arith, ints, floors) ]))
+    absurd (elim planned [ inl one ↦ omega (arith, ints, floors) | inr other ↦ omega (arith, ints, floors) ]))
     (λ from. by_lt_z at v
     (λ late. let is = (shown_after off at k m l v set inside (omega (arith, ints), omega (arith, ints)) late fire.first).0 in
-    inr (elim planned [ | inl one ↦ inl (omega (arith, ints, floors)) | inr other ↦ inr (omega (arith, ints, floors)) ]))
+    inr (elim planned [ inl one ↦ inl (omega (arith, ints, floors)) | inr other ↦ inr (omega (arith, ints, floors)) ]))
     (λ not. inl (omega (arith, ints))))

@@ -1,7 +1,7 @@
 -- Days from their starts: the last instant, and first days before the range.
 use Rattle.zoned_time.proofs.Words.{AreStartsOfDays, HasNoEnd, IsAt, IsDateOn, IsDaysLater, IsEarlier, IsEndOfDay, IsFirstInstantFrom, IsFirstOutOfRange}
 use Rattle.zoned_time.proofs.Words.{IsFirstToReach, IsGapEnd, IsInDay, IsInRange, IsNeverShown, IsShownBetween, IsShownOnce, IsWideDay, IsZoneSecond}
-use Rattle.zoned_time.proofs.Words.{IsZonedEnd, Law, MatchOption, Meaning, NaiveDate, None, NonePassed, Option, Reading, ShowsByOffset, Some, Zoned, ahead}
+use Rattle.zoned_time.proofs.Words.{IsZonedEnd, Law, MatchOption, Meaning, NaiveDate, None, NonePassed, Option, Reading, ShowsByOffset, Some, Zoned}
 use Rattle.zoned_time.proofs.Words.{arith, behind, by_lt_z, day_of, first_day, inl, ints, last_day, midnight, neg_ℤ, of_secs, pos, refl, subst, ℕ, ℤ, ◌+ℤ◌}
 use Rattle.zoned_time.proofs.Words.{◌-ℤ◌, ◌<ℤ◌, ◌<◌, ◌≡◌, ◌≤ℤ◌}
 use Rattle.zoned_time.proofs.{DayStarts.{StayWithinDay, first_until, in_day, one_first}}

@@ -3,7 +3,7 @@ use Rattle.std.proofs.Common.{Contains, length, slice_index_or}
 use Rattle.std.proofs.lemmas.Bool.Decides.{nat_tests}
 use Rattle.zoned_time.specs.Fires.{second_before}
 use Rattle.zoned_time.proofs.Words.{Reading, ◌≡◌}
-use Rattle.zoned_time.proofs.Words.{AreFires, RiseFrom, List, [], suc, zero, ℕ, ◌<◌, ◌∷◌, HasNoneAfter, HasNoneUntil, HasReached, IsAt, IsFire}
+use Rattle.zoned_time.proofs.Words.{AreFires, RiseFrom, List, [], suc, zero, ℕ, ◌<◌, ◌∷◌, HasNoneAfter, HasNoneUntil, IsAt, IsFire}
 use Rattle.zoned_time.proofs.Words.{IsFirstToReach, IsInRange, IsLastFire, IsLastUntil, IsNextAfter}
 use Rattle.zoned_time.proofs.Words.{IsNextFire, IsReachedAt, IsWide, IsZonedLastFire, IsZonedNextFire, IsZoneSecond, Law, MatchOption, Meaning, NoneFiresAfter}
 use Rattle.zoned_time.proofs.Words.{NoneFiresUntil, None, Option, Some, Zoned, arith, by_lt_z, ints, neg_ℤ, of_secs, pos, ℤ, ◌+ℤ◌, ◌-ℤ◌, ◌<ℤ◌, ◌≤ℤ◌}

@@ -1,7 +1,7 @@
 -- The last local time that clocks have shown: the adjoint of the first second at or after a local time.
 use Rattle.std.specs.Int.Signed.{le_z}
-use Rattle.zoned_time.proofs.Words.{IsTrue, HasPassed, HasReached, IsFirstToReach, IsInDay, IsInRange, IsReachedAt, IsWithinDay, IsZoneSecond, Reading, arith}
-use Rattle.zoned_time.proofs.Words.{by_lt_z, floor_div, floors, ints, midnight, neg_ℤ, pos, ℤ, ◌*ℤ◌, ◌+ℤ◌, ◌-ℤ◌, ◌<ℤ◌, ◌↔◌, ◌≡◌, ◌≤ℤ◌}
+use Rattle.zoned_time.proofs.Words.{IsTrue, HasPassed, IsFirstToReach, IsInDay, IsInRange, IsReachedAt, IsZoneSecond, Reading, arith}
+use Rattle.zoned_time.proofs.Words.{by_lt_z, floor_div, floors, ints, midnight, pos, ℤ, ◌+ℤ◌, ◌-ℤ◌, ◌<ℤ◌, ◌↔◌, ◌≡◌, ◌≤ℤ◌}
 use Rattle.zoned_time.proofs.DayStarts.{StayWithinDay, in_day, reaches}
 
 -- clocks have passed l if and only if their first second there has come

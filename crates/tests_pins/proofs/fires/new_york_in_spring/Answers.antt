@@ -40,15 +40,15 @@ three : (off : ℤ → ℤ) → InSpring off
     → AreFires off (twice_daily 8_100 9_900) (pos 1_615_698_000) (pos 1_615_790_700) (pos 1_615_705_200 ∷ pos 1_615_788_900 ∷ pos 1_615_790_700 ∷ [])
 three off set = (
   next off (pos 1_615_698_000) (pos 1_615_705_200) set (omega (arith, ints)) (first off set) (omega (arith, ints)) (omega (arith, ints))
-  (λ v later is. grind (arith, ints, is)),
+      (λ v later is. grind (arith, ints, is)),
   omega (arith, ints),
   (
     next off (pos 1_615_705_200) (pos 1_615_788_900) set (omega (arith, ints)) (second off set) (omega (arith, ints)) (omega (arith, ints))
-    (λ v later is. grind (arith, ints, is)),
+        (λ v later is. grind (arith, ints, is)),
     omega (arith, ints),
     (
       next off (pos 1_615_788_900) (pos 1_615_790_700) set (omega (arith, ints)) (third off set) (omega (arith, ints)) (omega (arith, ints))
-      (λ v later is. grind (arith, ints, is)),
+          (λ v later is. grind (arith, ints, is)),
       omega (arith, ints),
       λ v fire after until. omega (arith, ints),
     ),

@@ -24,7 +24,7 @@ unfolding calendar
 returns-clause-sunday c d is on =
     let date = date_only (pos 18_700) (pos 2021) 3 14 (omega arith, omega arith, omega arith, omega arith) refl in
     elim (rw is.either at on.listed) [
-      | inl month ↦ let listed = (is.days 14).0 (rw date.2 at month) in elim listed [ | inl first ↦ omega arith | inr other ↦ omega arith ]
+      | inl month ↦ let listed = (is.days 14).0 (rw date.2 at month) in elim listed [ inl first ↦ omega arith | inr other ↦ omega arith ]
       | inr week ↦ let listed = (is.weekdays 0).0 week in omega arith
     ]
 

@@ -1,4 +1,4 @@
-use Rattle.zoned_time.proofs.Words.{Reading, SFits, ap, arith, ints, reading, rules, to_z-of_z, w32, w64, ◌+ℤ◌, ◌∙◌, ◌≡◌}
+use Rattle.zoned_time.proofs.Words.{Reading, SFits, ap, rules, to_z-of_z, w32, w64, ◌+ℤ◌, ◌∙◌, ◌≡◌}
 use Rattle.zoned_time.proofs.ReachedTimes.{by_test, passed_first}
 use Rattle.zoned_time.proofs.reached.has_passed.Goals as goal
 

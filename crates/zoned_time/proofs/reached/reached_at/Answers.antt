@@ -1,4 +1,4 @@
-use Rattle.zoned_time.proofs.Words.{Reading, SFits, ap, arith, floors, ints, reading, rules, to_z-of_z, w32, ◌+ℤ◌, ◌∙◌, ◌≡◌}
+use Rattle.zoned_time.proofs.Words.{Reading, SFits, ap, arith, floors, ints, rules, to_z-of_z, w32, ◌+ℤ◌, ◌∙◌, ◌≡◌}
 use Rattle.zoned_time.proofs.reached.reached_at.Goals as goal
 
 pub returns-clause-reached : goal.returns-clause-reached

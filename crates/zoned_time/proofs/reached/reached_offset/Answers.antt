@@ -1,4 +1,4 @@
-use Rattle.zoned_time.proofs.Words.{HasPassed, IsWithinDay, IsZoneSecond, SFits, ap, arith, ints, of_z, pos, refl, rules, subst, sym, to_z, to_z-of_z, w32, ℤ}
+use Rattle.zoned_time.proofs.Words.{HasPassed, IsWithinDay, IsZoneSecond, SFits, ap, arith, ints, pos, subst, sym, to_z, to_z-of_z, w32, ℤ}
 use Rattle.zoned_time.proofs.Words.{◌+ℤ◌, ◌∙◌, ◌≡◌}
 use Rattle.zoned_time.proofs.ReachedTimes.{last_passed, none_a_day_ahead, passed_now}
 use Rattle.zoned_time.proofs.reached.reached_offset.Goals.{After-local_minus_utc-now}
@@ -12,9 +12,12 @@ now g c =
     let inside : IsZoneSecond c.args.utc.secs = (omega (arith, ints, range), omega (arith, ints, range)) in
     let within = g.met.Tz.TimeZone.within_day c.args.zone.now c.args.utc.secs inside in
     let is : c.local_minus_utc-now.result ≡ (g.Tz.TimeZone.law c.args.zone.now).off c.args.utc.secs =
-    c.local_minus_utc-now.ensures ∙ c.fix.ensures ∙ sym (g.met.Tz.TimeZone.told c.offset_from_utc_datetime.result) ∙ c.offset_from_utc_datetime.ensures.there in
-    (omega (arith, ints, within, is), (omega (arith, ints, within, is), omega (arith, ints, within, is)), passed_now
-    (g.Tz.TimeZone.law c.args.zone.now).off c.args.utc.secs _ range (ap (λ (k : ℤ). c.args.utc.secs +ℤ k) (sym is)))
+    c.local_minus_utc-now.ensures ∙ c.fix.ensures ∙ sym (g.met.Tz.TimeZone.told c.offset_from_utc_datetime.result) ∙ c.offset_from_utc_datetime.ensures.there in (
+      omega (arith, ints, within, is),
+      (omega (arith, ints, within, is), omega (arith, ints, within, is)),
+      passed_now
+          (g.Tz.TimeZone.law c.args.zone.now).off c.args.utc.secs _ range (ap (λ (k : ℤ). c.args.utc.secs +ℤ k) (sym is)),
+    )
 
 pub returns-then-now-eq86399-clause-reached : goal.returns-then-now-eq86399-clause-reached
 returns-then-now-eq86399-clause-reached g c =

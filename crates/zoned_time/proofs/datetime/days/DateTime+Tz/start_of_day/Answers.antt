@@ -7,5 +7,5 @@ returns g c =
       day,
       in_day_home _ _ day (zoned c.args.self.now).utc same.offsets c.date_of-date.ensures,
       at_or_after_home (g.Tz.TimeZone.law c.timezone-zone.result) (home_law_of g.Tz.TimeZone.meaning c.args.self.now) (midnight day)
-      (λ d. zoned d) c.start_of_day.result same c.start_of_day.ensures,
+          (λ d. zoned d) c.start_of_day.result same c.start_of_day.ensures,
     )
