@@ -29,7 +29,8 @@ usage: tools/check_documents.py [--write]
   there, and lowers the counts of tools/habits.py.
 - README.md has two commands with their output before its first heading, one that answers a question by `rt try` and one that runs
   all tests, and .ci/run runs both: the tests by themselves, the other by tools/try_documents.py. The last line of the tests has
-  their count, which --write puts there. No sentence of README.md has more than 35 words.
+  their count, which --write puts there. The lines that make the Python package ready are lines of python/README.md, which the gate
+  tries. No sentence of README.md has more than 35 words.
 - No more calls in src/ are made for an answer that nothing reads (`let _name = call(..);`), and no more lines are longer than 120
   columns in src/, or 160 in .antt, than tools/counts.py allows. --write lowers the counts of lines to those of the day.
 - README.md names the number and the logic of the kit that `rt version` prints (if there is rt); docs/FROM_CHRONO.md has how many functions
@@ -65,6 +66,7 @@ MAP = TOP / "docs/MAP.md"
 FACADE = TOP / "crates/zoned"
 KNOWN = TOP / "tools/known_words.txt"
 README = TOP / "README.md"
+PACKAGE = TOP / "python/README.md"
 GATE = TOP / ".ci/run"
 FROM_CHRONO = TOP / "docs/FROM_CHRONO.md"
 SPEED = TOP / "docs/SPEED.md"
@@ -530,6 +532,15 @@ def first_screen():
             yield f"{shown(README, found.start())}: {found[0]}, and it is {last_of_tests()} (--write puts it there)"
 
 
+def package_lines():
+    """The lines of README.md that make the Python package ready, which the gate tries as lines of python/README.md."""
+    tried = text_of(PACKAGE).splitlines()
+    for place, _, text in blocks(README, "sh"):
+        for line in text.splitlines():
+            if "python/" in line and not line.startswith("PYTHONPATH=") and line not in tried:
+                yield f"{shown(README, place)}: {shown(PACKAGE)} has no line: {line}"
+
+
 def long_sentences():
     text = re.sub(r"<!--.*?-->", "", without_blocks(text_of(README)))
     for part in re.split(r"\n\s*\n|\n(?=- )|\|", re.sub(r"!?\[([^\]]*)\]\([^)]*\)", r"\1", text)):
@@ -584,7 +595,7 @@ def not_passed_on():
 CHECKS = [
     links, merge_lines, habits, unknown_words, stale_words, index_faults, edits, types_with_steps, unsafe_code, unused_lemmas,
     unlisted_pages, map_faults, not_passed_on, required_of_c, number_faults, call_faults, facts_of_documents, first_screen,
-    long_sentences, figure_faults, count_faults, line_faults, rattle_blocks, wrong_definitions,
+    package_lines, long_sentences, figure_faults, count_faults, line_faults, rattle_blocks, wrong_definitions,
 ]
 
 
