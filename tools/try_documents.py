@@ -27,13 +27,14 @@ import sys
 import tempfile
 from pathlib import Path
 
-from sources import TOP, files, shown, text_of, without_comments
+from sources import TOP, files, needs, shown, text_of, without_comments
 
 PAGES = [TOP / "README.md", *sorted((TOP / "docs").glob("*.md")), TOP / "python/README.md"]
 FROM_CHRONO = TOP / "docs/FROM_CHRONO.md"
 WITH_RATTLE = [TOP / "README.md", FROM_CHRONO, TOP / "docs/OWN_ZONE.md"]
 OURS = "| task | chrono 0.4.45 | here |"
 PYTHON = "/usr/bin/python3"
+PACKAGE = TOP / "python/src/sahvumbi/libzoned_ffi.so"
 
 
 def blocks(path, language):
@@ -114,6 +115,7 @@ def printed(path, place, text, folder):
 
 
 def programs():
+    needs(TOP / "crates/zoneq/out/zoneq", TOP / "crates/zonedump/out/zonedump")
     for path in PAGES:
         for place, _, text in blocks(path, "console"):
             if "gcc" not in text:
@@ -121,6 +123,7 @@ def programs():
 
 
 def c():
+    needs("rt", "gcc", TOP / "crates/zoned_ffi/out/libzoned_ffi.a")
     for path in PAGES:
         with tempfile.TemporaryDirectory() as folder:
             (Path(folder) / "crates").symlink_to(TOP / "crates")
@@ -134,6 +137,7 @@ def c():
 
 
 def python():
+    needs(Path(PYTHON), PACKAGE)
     environment = {**os.environ, "PYTHONPATH": str(TOP / "python/src"), "PYTHONDONTWRITEBYTECODE": "1"}
     for path in PAGES:
         found = list(blocks(path, "pycon"))

@@ -25,7 +25,7 @@ import tempfile
 from pathlib import Path
 
 from kit import RT, tried
-from sources import TOP, crates, is_static, uses
+from sources import TOP, crates, is_static, needs, uses
 
 LAID = "tests"
 # The gate runs them while it proves, so that they take longer.
@@ -80,6 +80,7 @@ def laid(src, name, text):
 
 def lay_out(crate, names):
     """Gives the texts the layout of `rt fmt`."""
+    needs(RT)
     formatted = subprocess.run([RT, "fmt"], cwd=crate, capture_output=True, text=True)
     if formatted.returncode != 0:
         sys.exit(formatted.stdout + formatted.stderr)
