@@ -1,11 +1,12 @@
 #!/usr/bin/env bash
 # Builds and installs the Python package of python/, and tries it.
 #
-# usage: tools/python_tests.sh
+# usage: tools/python_tests.sh [--missing]
 #
 # It needs crates/zoned_ffi/out/libzoned_ffi.a, which `rt lib` builds in crates/zoned_ffi, gcc, and
 # Debian's packages below, for Debian's own python3. What of them is missing is installed by
-# apt-get, as root. Nothing else is fetched. It tries, in two minutes or less,
+# apt-get, as root; --missing lists it, and ends. Nothing else is fetched. It tries, in two minutes
+# or less,
 #
 # - the lines of python/README.md that install the library and the package, in an environment of its
 #   own;
@@ -37,12 +38,17 @@ is_installed() {
   [ "$(dpkg-query -W -f '${db:Status-Status}' "$1" 2>/dev/null)" = installed ]
 }
 
+missing_packages() {
+  local package
+  for package in "${PACKAGES[@]}"; do
+    is_installed "$package" || echo "$package"
+  done
+}
+
 install_packages() {
   command -v apt-get >/dev/null || fail "needs Debian's packages: ${PACKAGES[*]}"
-  local missing=()
-  for package in "${PACKAGES[@]}"; do
-    is_installed "$package" || missing+=("$package")
-  done
+  local missing
+  mapfile -t missing < <(missing_packages)
   [ ${#missing[@]} -eq 0 ] && return
   [ "$(id -u)" -eq 0 ] || fail "as root: apt-get install ${missing[*]}"
   echo "installing ${missing[*]}"
@@ -51,7 +57,11 @@ install_packages() {
   quietly apt-get -q -y install --no-install-recommends "${missing[@]}"
 }
 
-[ $# -eq 0 ] || fail 'takes no arguments'
+case $* in
+  '') ;;
+  --missing) missing_packages; exit ;;
+  *) fail 'takes no argument but --missing' ;;
+esac
 room=$(mktemp -d)
 trap 'rm -rf "$room"' EXIT
 install_packages

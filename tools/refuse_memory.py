@@ -34,6 +34,8 @@ from functools import lru_cache
 from itertools import count
 from pathlib import Path
 
+from sources import needs
+
 HERE = Path(__file__).resolve().parent
 NO_MEMORY = 17
 SECONDS = 60
@@ -126,15 +128,17 @@ def try_lines(program):
 
 def main():
     top = Path(sys.argv[1] if len(sys.argv) > 1 else HERE.parent).resolve()
+    crates = top / "crates"
+    constructors, lines = (crates / name / "out" / name for name in ("tests_out_of_memory", "zoneq"))
+    needs("cc", constructors, lines)
     with tempfile.TemporaryDirectory() as folder:
         room = Path(folder)
         shim = room / "refuse_request.so"
         subprocess.run(["cc", "-shared", "-fPIC", "-O1", "-o", shim, HERE / "refuse_request.c", "-ldl"], check=True)
-        crates = top / "crates"
         due = (crates / "tests_out_of_memory/stdout").read_bytes().splitlines()
-        tried = try_constructors(Program(crates / "tests_out_of_memory/out/tests_out_of_memory", shim, room), due)
+        tried = try_constructors(Program(constructors, shim, room), due)
         print(f"out_of_memory: {tried} requests refused in turn: each zone was made as due, or there was no memory for it")
-        tried, stopped, refused = try_lines(Program(crates / "zoneq/out/zoneq", shim, room))
+        tried, stopped, refused = try_lines(Program(lines, shim, room))
         print(f"zoneq: {tried} requests refused in turn: {stopped} runs stopped after whole answers, {refused} kept the earlier zone")
     return 0
 

@@ -1,12 +1,38 @@
 """Reads this repository's .rt and .antt files as far as these scripts need: names, clauses, imports, lemmas."""
 
 import re
+import shutil
+import sys
 from dataclasses import dataclass, field
 from functools import lru_cache
 from pathlib import Path
 
 TOP = Path(__file__).resolve().parent.parent
+DATABASE = Path("/usr/share/zoneinfo")
+# Debian's package of what scripts need, if it has another name.
+PACKAGES = {"cc": "gcc", "nm": "binutils", "zdump": "libc-bin", "/usr/bin/python3": "python3", str(DATABASE): "tzdata"}
 NAME = r"[^\s(){}\[\],;:.λ→×≡∙|\"`]+"
+
+
+def needs(*wanted):
+    """Ends the script if one of these programs (by name) or files (by path) is missing. A line for each says how to get it."""
+    missing = [each for each in wanted if not (each.exists() if isinstance(each, Path) else shutil.which(each))]
+    if missing:
+        named = [shown(each) if isinstance(each, Path) and each.is_relative_to(TOP) else each for each in missing]
+        sys.exit("\n".join(f"{Path(sys.argv[0]).name} needs {name}{remedy(each)}" for name, each in zip(named, missing)))
+
+
+def remedy(wanted):
+    """How to get a program or a file."""
+    if wanted == "rt":
+        return ", the command of the Rattle kit"
+    if isinstance(wanted, str) or str(wanted) in PACKAGES:
+        return f": apt-get install {PACKAGES.get(str(wanted), wanted)}"
+    if wanted.is_relative_to(TOP / "python"):
+        return ": tools/python_tests.sh"
+    if wanted.parent.parent.parent == TOP / "crates":
+        return f": (cd {shown(wanted.parent.parent)} && {'rt lib' if wanted.suffix == '.a' else 'rt run </dev/null'})"
+    return ", which isn't there"
 
 
 @lru_cache(maxsize=None)

@@ -28,7 +28,7 @@ import sys
 import tempfile
 from pathlib import Path
 
-from sources import TOP, files, shown, text_of, without_comments
+from sources import TOP, files, needs, shown, text_of, without_comments
 from try_tests import repository
 
 PAGES = [TOP / "README.md", *sorted((TOP / "docs").glob("*.md")), TOP / "python/README.md"]
@@ -37,6 +37,7 @@ TESTS = "tools/try_tests.py"
 WITH_RATTLE = [TOP / "README.md", FROM_CHRONO, TOP / "docs/OWN_ZONE.md"]
 OURS = "| task | chrono 0.4.45 | here |"
 PYTHON = "/usr/bin/python3"
+PACKAGE = TOP / "python/src/sahvumbi/libzoned_ffi.so"
 
 
 def blocks(path, language):
@@ -117,6 +118,7 @@ def printed(path, place, text, folder):
 
 
 def programs():
+    needs("rt", TOP / "crates/zoneq/out/zoneq", TOP / "crates/zonedump/out/zonedump")
     with tempfile.TemporaryDirectory() as copy:
         repository(Path(copy), [])
         for path in PAGES:
@@ -126,6 +128,7 @@ def programs():
 
 
 def c():
+    needs("rt", "gcc", TOP / "crates/zoned_ffi/out/libzoned_ffi.a")
     for path in PAGES:
         with tempfile.TemporaryDirectory() as folder:
             (Path(folder) / "crates").symlink_to(TOP / "crates")
@@ -139,6 +142,7 @@ def c():
 
 
 def python():
+    needs(Path(PYTHON), PACKAGE)
     environment = {**os.environ, "PYTHONPATH": str(TOP / "python/src"), "PYTHONDONTWRITEBYTECODE": "1"}
     for path in PAGES:
         found = list(blocks(path, "pycon"))

@@ -25,7 +25,9 @@ from io import BytesIO
 from pathlib import Path
 from zoneinfo import ZoneInfo
 
-TOP = Path(__file__).resolve().parent.parent
+from kit import kit
+from sources import DATABASE, TOP, needs
+
 # Each program, and what the line in its head makes.
 BUILT = {"zones.c": "./zones_c", "zones.rs": "./zones_rs", "zones.py": "./libzoned_ffi.so", "rule.c": "./rule_c", "zones.cc": "./zones_cc"}
 ZONES = ["America/New_York", "Europe/London", "Asia/Tehran", "America/Sao_Paulo", "Pacific/Apia", "Antarctica/Troll"]
@@ -174,9 +176,8 @@ def complaints_of_header(folder):
         yield f"{call} is in the archive, and the header doesn't declare it"
     for call in sorted(declared - called):
         yield f"{call} is called neither by a program of examples/ nor by {HANDLES.name}"
-    kit = Path(run(["rt", "doc"]).stdout.strip()).parent
     pins = folder / "pins"
-    for heap in (str(kit / "c/liblibc_c.a"), "-DOWN_HEAP"):
+    for heap in (str(kit() / "c/liblibc_c.a"), "-DOWN_HEAP"):
         made = run(["gcc", "-O2", "-Wall", "-Wextra", "-Werror", "-o", str(pins), str(PINS), str(ARCHIVE), heap])
         if made.returncode:
             yield f"{PINS.name} is not built with {heap}: {made.stderr}"
@@ -187,7 +188,8 @@ def complaints_of_header(folder):
 
 
 def main():
-    database = Path(sys.argv[1] if len(sys.argv) > 1 else "/usr/share/zoneinfo")
+    database = Path(sys.argv[1]) if len(sys.argv) > 1 else DATABASE
+    needs("rt", "gcc", "g++", "rustc", "nm", ARCHIVE, database)
     failed = False
     with tempfile.TemporaryDirectory() as folder:
         room = Path(folder)

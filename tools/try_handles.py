@@ -16,10 +16,11 @@ import sys
 import tempfile
 from pathlib import Path
 
-TOP = Path(__file__).resolve().parent.parent
+from kit import kit
+from sources import DATABASE, TOP, needs
+
 PROGRAM = TOP / "tools/try_handles.c"
 ARCHIVE = TOP / "crates/zoned_ffi/out/libzoned_ffi.a"
-DATABASE = Path("/usr/share/zoneinfo")
 ZONES = ["America/New_York", "Europe/Dublin", "Asia/Tehran", "Africa/Casablanca", "Pacific/Apia", "Antarctica/Troll", "Etc/UTC"]
 SANITIZERS = ["-g", "-fsanitize=address,undefined", "-fno-sanitize-recover=all"]
 THREAD_SANITIZER = ["-g", "-fsanitize=thread"]
@@ -28,9 +29,8 @@ TOOLS = {"memcheck": ["--leak-check=full"], "helgrind": [], "drd": []}
 
 
 def build(name, folder, flags):
-    kit = Path(subprocess.run(["rt", "doc"], capture_output=True, text=True, check=True).stdout.strip()).parent
     program = folder / name
-    words = ["gcc", "-O2", "-Wall", "-Wextra", "-Werror", *flags, "-o", program, PROGRAM, ARCHIVE, kit / "c/liblibc_c.a"]
+    words = ["gcc", "-O2", "-Wall", "-Wextra", "-Werror", *flags, "-o", program, PROGRAM, ARCHIVE, kit() / "c/liblibc_c.a"]
     subprocess.run([*map(str, words), "-Wl,--wrap=malloc,--wrap=realloc", "-lpthread"], check=True)
     return str(program)
 
@@ -45,6 +45,7 @@ def failed(what, command):
 
 def main():
     calls, seed = (int(word) for word in (sys.argv[1:] + ["1000000", "1"][len(sys.argv) - 1 :]))
+    needs("rt", "gcc", ARCHIVE, DATABASE)
     files = [str(DATABASE / zone) for zone in ZONES]
     with tempfile.TemporaryDirectory() as folder:
         plain = build("plain", Path(folder), [])

@@ -11,6 +11,7 @@ CMake are used if they are installed. It tries that
 - examples/zones.c and zones.cc are built over each library, with pkg-config and with CMake, zones.py loads the shared one, and all
   print the same lines;
 - a program that has a function rattle_alloc of its own keeps it to itself;
+- install.sh lists what it installs, and a program starts after what it says or does about the loader's cache;
 - the man page names each call of the header;
 - the library for 64-bit ARM gives the same lines under qemu, if `tools/build_archive.py --target aarch64-unknown-linux-gnu` has
   built it. This needs Debian's gcc-aarch64-linux-gnu, libc6-dev-arm64-cross and qemu-user.
@@ -26,9 +27,11 @@ import sys
 import tempfile
 from pathlib import Path
 
-TOP = Path(__file__).resolve().parent.parent
+from sources import TOP, needs
+
 PREFIX = "/usr/local"
 HEADER = TOP / "crates/zoned_ffi/include/zoned_ffi.h"
+ARCHIVE = TOP / "crates/zoned_ffi/out/libzoned_ffi.a"
 EXAMPLES = TOP / "examples"
 ARM, ARM_ARCHIVE, ARM_HEAP = "aarch64-linux-gnu", TOP / "crates/zoned_ffi/out/libzoned_ffi-aarch64.a", TOP / "crates/zoned_ffi/install/heap.c"
 NEEDED = {"malloc", "realloc", "free", "memcpy", "memmove", "memset"}
@@ -125,6 +128,42 @@ def complaints_of_programs(root, room):
     print(f"{len(made)} programs over the installed library")
 
 
+def complaints_of_loader(room):
+    """What keeps a program from starting after an installation without DESTDIR. The loader's folders and its cache are those of the
+    test: the machine's aren't touched."""
+    ldconfig = shutil.which("ldconfig", path=f"{os.environ['PATH']}:/usr/sbin:/sbin")
+    prefix, folders, cache = room / "prefix", room / "ld.so.conf", room / "ld.so.cache"
+    where = {"DESTDIR": "", "PREFIX": str(prefix), "PATH": f"{room}/bin:{os.environ['PATH']}"}
+
+    def last_line(user):
+        for name, text in (("id", f"echo {user}"), ("ldconfig", f'exec {ldconfig} -X -f {folders} -C {cache} "$@"')):
+            (room / "bin" / name).write_text(f"#!/bin/sh\n{text}\n")
+            (room / "bin" / name).chmod(0o755)
+        lines = run(TOP / "tools/install.sh", env={**os.environ, **where}).splitlines()
+        listed = {line.strip() for line in lines if line.startswith("  ")}
+        there = {str(path.relative_to(prefix)) for path in prefix.rglob("*") if not path.is_dir()}
+        return "".join(lines[-1:]), sorted(listed ^ there)
+
+    (room / "bin").mkdir()
+    folders.write_text("")
+    said, differ = last_line(0)
+    if differ:
+        yield f"install.sh lists other files than it installs: {differ}"
+    has_pkg_config = shutil.which("pkg-config")
+    flags = "$(pkg-config --cflags --libs zoned)" if has_pkg_config else f"-I {prefix}/include -L {prefix}/lib -lzoned"
+    program = f"gcc -o {room}/started {EXAMPLES}/zones.c {flags} && {room}/started {' '.join(ASKED)}"
+    line = said.partition(": ")[2]
+    ran = subprocess.run(["sh", "-c", f"{line}\n{program}"], capture_output=True, text=True)
+    if not line.startswith("export ") or ran.returncode:
+        yield f"after `{said}` a program ends with {ran.returncode}: {ran.stderr}"
+    folders.write_text(f"{prefix}/lib\n")
+    last_line(0)
+    if f"=> {prefix}/lib/libzoned.so.{version().split('.')[0]}\n" not in run(ldconfig, "-C", cache, "-p"):
+        yield "install.sh, run by root, doesn't put the library into the loader's cache"
+    if not (said := last_line(1000)[0]).endswith("as root: ldconfig"):
+        yield f"install.sh, not run by root, doesn't say that root must run ldconfig: {said}"
+
+
 def complaints_of_man_page(root):
     named = set(re.findall(r"\bzoned_\w+", (root / f"{PREFIX[1:]}/share/man/man3/zoned.3").read_text()))
     for call in sorted(declared() - named):
@@ -153,11 +192,13 @@ def complaints_of_arm(room):
 
 
 def main():
+    needs("rt", "gcc", "g++", "nm", ARCHIVE)
     with tempfile.TemporaryDirectory() as folder:
         root, room = Path(folder) / "root", Path(folder) / "room"
         room.mkdir()
         lib = installed(root)
         found = [*complaints_of_names(lib), *complaints_of_programs(root, room), *complaints_of_man_page(root)]
+        found += complaints_of_loader(room)
         if ARM_ARCHIVE.exists():
             found += complaints_of_arm(room)
     for complaint in found:

@@ -2,6 +2,7 @@
 """Runs the tests of crates/NAME/tests, which are run and not proved.
 
 usage: tools/try_tests.py [--fmt] [NAME ..]
+       tools/try_tests.py --self-test
 
 `rt ci` proves each test of a crate's src/, which takes seconds to minutes for a test. What a test says of values from outside
 it says when it runs. So tests are next to `src/`: each text of crates/NAME/tests is a module that uses the crate by its
@@ -9,9 +10,9 @@ name, and others that it needs, as a client does. All of them, or those of the n
 copy of this repository's libraries, and are run as `rt try --test` does: it stops at what Rust would panic at, and proves nothing. No
 crate can use a static library: its texts are laid into the copy of that crate itself.
 
-With --fmt the texts are laid out as `rt fmt` lays out code, and none is run.
+With --fmt the texts are laid out as `rt fmt` lays out code, and none is run. --self-test tries how tests are counted.
 
-Ends with status 1 if a test fails, or if not each `#[test]` of the texts ran.
+Names the tests that failed, and ends with status 1 if one did, or if not each `#[test]` of the texts ran.
 
 Takes the command rt from the variable RT, if that is set.
 """
@@ -24,7 +25,7 @@ import tempfile
 from pathlib import Path
 
 from kit import RT, tried
-from sources import TOP, crates, is_static, uses
+from sources import TOP, crates, is_static, needs, uses
 
 LAID = "tests"
 # The gate runs them while it proves, so that they take longer.
@@ -79,6 +80,7 @@ def laid(src, name, text):
 
 def lay_out(crate, names):
     """Gives the texts the layout of `rt fmt`."""
+    needs(RT)
     formatted = subprocess.run([RT, "fmt"], cwd=crate, capture_output=True, text=True)
     if formatted.returncode != 0:
         sys.exit(formatted.stdout + formatted.stderr)
@@ -87,8 +89,41 @@ def lay_out(crate, names):
             shutil.copyfile(laid(crate / "src", name, text), text)
 
 
-def count(name):
-    return sum(len(re.findall(r"(?m)^#\[test\]$", text.read_text())) for text in texts_of(name))
+def count(text):
+    """How many tests a text has, also indented ones."""
+    return len(re.findall(r"(?m)^[ \t]*#\[test\]", text))
+
+
+def summary(due, status, report):
+    """The lines about tests of which each crate has as many as `due` says, and whether all of them passed."""
+    ended = re.findall(r"(?m)^test of_(\w+)::(\S+) \.\.\. (ok|FAILED)$", report)
+    lines = []
+    for name, wanted in due.items():
+        passed = sum(crate == name and word == "ok" for crate, _, word in ended)
+        failed = [test for crate, test, word in ended if crate == name and word == "FAILED"]
+        lines.append(f"{name}: {passed} of {wanted} tests passed" + (f"; failed: {', '.join(failed)}" if failed else ""))
+    passed, wanted = sum(word == "ok" for _, _, word in ended), sum(due.values())
+    all_passed = status == 0 and passed == len(ended) == wanted > 0
+    return [*lines, f"{passed} of {wanted} tests passed, status {status}"], all_passed
+
+
+PASTED = "    #[test]\n    fn two(rt: HostRuntime) {\n    }\n"
+TEXT = f"#[test]\nfn one(rt: HostRuntime) {{\n}}\n\n{PASTED}\n// #[test]\n"
+PASSED = "test of_low::dates::one ... ok\ntest of_low::dates::two ... ok\n"
+
+
+def self_test():
+    """What is counted otherwise than it must be."""
+    if count(TEXT) != 2:
+        yield f"{count(TEXT)} tests are counted in a text of two, one of them indented"
+    for status, report, due in (
+        (0, PASSED, (["low: 2 of 2 tests passed", "2 of 2 tests passed, status 0"], True)),
+        (0, PASSED[: PASSED.find("test", 1)], (["low: 1 of 2 tests passed", "1 of 2 tests passed, status 0"], False)),
+        (101, PASSED.replace("two ... ok", "two ... FAILED"),
+         (["low: 1 of 2 tests passed; failed: dates::two", "1 of 2 tests passed, status 101"], False)),
+    ):
+        if summary({"low": 2}, status, report) != due:
+            yield f"{summary({'low': 2}, status, report)}, where {due} is due"
 
 
 def reports(laid_in):
@@ -98,13 +133,17 @@ def reports(laid_in):
 
 
 def main():
-    having = [name for name in crates() if texts_of(name)]
     words = sys.argv[1:]
+    if words == ["--self-test"]:
+        faults = list(self_test())
+        print("\n".join(f"tools/try_tests.py: {fault}" for fault in faults) or "tests are counted as they must be")
+        return 1 if faults else 0
+    having = [name for name in crates() if texts_of(name)]
     names = [word for word in words if word != "--fmt"] or having
     lacking = [name for name in names if name not in having]
     if lacking:
         sys.exit(f"no tests of {', '.join(lacking)}: there are those of {', '.join(having)}")
-    wanted = sum(count(name) for name in names)
+    due = {name: sum(count(text.read_text()) for text in texts_of(name)) for name in names}
     with tempfile.TemporaryDirectory() as folder:
         laid_in = repository(Path(folder), names)
         if "--fmt" in words:
@@ -112,13 +151,11 @@ def main():
                 lay_out(crate, those)
             return 0
         status, report = reports(laid_in)
-    ran = re.findall(r"(?m)^test of_(\w+)::\S+ \.\.\. ok$", report)
-    if status != 0 or len(ran) != wanted or wanted == 0:
+    lines, all_passed = summary(due, status, report)
+    if not all_passed:
         print(report)
-    for name in names:
-        print(f"{name}: {ran.count(name)} of {count(name)} tests passed")
-    print(f"{len(ran)} of {wanted} tests passed, status {status}")
-    return 0 if status == 0 and len(ran) == wanted > 0 else 1
+    print("\n".join(lines))
+    return 0 if all_passed else 1
 
 
 if __name__ == "__main__":

@@ -29,6 +29,7 @@ from xml.etree import ElementTree
 from zoneinfo import ZoneInfo
 
 from checks import check, exit_status
+from sources import DATABASE, needs
 
 HERE = Path(__file__).resolve().parent.parent
 STORED = HERE / "crates" / "zonedump"
@@ -343,6 +344,7 @@ def try_svg(program, folder):
 
 def main():
     program = Path(sys.argv[1] if len(sys.argv) > 1 else STORED / "out" / "zonedump").resolve()
+    needs(program, DATABASE)
     with tempfile.TemporaryDirectory() as name:
         folder = Path(name)
         make_files(folder)

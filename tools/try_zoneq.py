@@ -15,6 +15,7 @@ import sys
 from pathlib import Path
 
 from checks import check, exit_status
+from sources import needs
 
 HERE = Path(__file__).resolve().parent.parent
 STORED = HERE / "crates" / "zoneq"
@@ -55,7 +56,8 @@ def try_dialogue(program):
 
 
 def main():
-    program = str(Path(sys.argv[1] if len(sys.argv) > 1 else STORED / "out" / "zoneq").resolve())
+    program = Path(sys.argv[1] if len(sys.argv) > 1 else STORED / "out" / "zoneq").resolve()
+    needs(program)
     stored = (STORED / "stdin").read_bytes()
     answers = (STORED / "stdout").read_bytes()
     no_read = (1, b"", b"zoneq: read failed\n")

@@ -17,9 +17,11 @@ import random
 import tempfile
 from collections import Counter
 from ctypes import POINTER, byref, c_char, c_int32, c_int64, c_size_t
+from pathlib import Path
 
 from comparing.database import FOLDER, Change, Type, changes_by_zdump, tzif_files
 from comparing.library import ARCHIVE, FILE, OK, Handle, loaded
+from sources import needs
 
 YEARS = (1900, 2037)
 WIDE_YEARS = (1, 2500)
@@ -145,6 +147,7 @@ def compared(zone, path, counts, chance):
 
 
 def main(folder=FOLDER, archive=ARCHIVE):
+    needs("zdump", "gcc", Path(archive))
     chance = random.Random(20_260_728)
     counts, seen, differences = Counter(), set(), 0
     with tempfile.TemporaryDirectory() as made:

@@ -17,7 +17,7 @@ from zoneinfo import ZoneInfo
 
 from comparing.database import TzFile
 from comparing.days import instant
-from sources import TOP
+from sources import TOP, needs
 
 YEARS = (1900, 2037)
 AROUND = 60
@@ -78,6 +78,7 @@ def compare_zone(name, found, old, new, counts):
 
 
 def main(old_folder, new_folder, zonedump=TOP / "crates/zonedump/out/zonedump"):
+    needs(Path(zonedump))
     counts = Counter()
     for path in sorted(Path(old_folder).rglob("*")):
         name = path.relative_to(old_folder)

@@ -5,9 +5,10 @@ changes that zdump prints. Prints the counts, and the first lines that differ.
 import subprocess
 import time
 from collections import Counter
+from pathlib import Path
 
 from comparing.database import FOLDER, changes_by_zdump, tzif_files, zdump
-from sources import TOP
+from sources import TOP, needs
 
 YEARS = (1900, 2038)
 
@@ -45,6 +46,7 @@ def output(*command):
 
 
 def main(program=TOP / "crates/zonedump/out/zonedump", folder=FOLDER):
+    needs("zdump", Path(program))
     counts = Counter()
     for path, _ in tzif_files(folder):
         table, lines, due = output(program, path), output(program, "--zdump", path), zdump(path, YEARS)

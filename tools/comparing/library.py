@@ -6,7 +6,7 @@ from ctypes import POINTER, c_char_p, c_size_t, c_uint32, c_void_p
 from pathlib import Path
 
 from kit import kit
-from sources import TOP
+from sources import TOP, needs
 
 ARCHIVE = TOP / "crates/zoned_ffi/out/libzoned_ffi.a"
 FILE, OK = 0, 0
@@ -18,6 +18,7 @@ class Handle(ctypes.Structure):
 
 def loaded(archive, folder, questions):
     """The library with its calls for opening and closing a zone, and those questions: for each its arguments after the zone."""
+    needs("gcc", Path(archive))
     shared = Path(folder) / "libzoned_ffi.so"
     whole = ["-Wl,--whole-archive", str(archive), "-Wl,--no-whole-archive"]
     subprocess.run(["gcc", "-shared", "-o", str(shared), *whole, str(kit() / "c/liblibc_c.a")], check=True)

@@ -21,7 +21,7 @@ from pathlib import Path
 from zoneinfo import ZoneInfo
 
 from comparing.database import FOLDER, TzFile, tzif_files
-from sources import TOP
+from sources import TOP, needs
 
 EPOCH = datetime(1970, 1, 1, tzinfo=timezone.utc)
 FIRST = int((datetime(1900, 1, 1, tzinfo=timezone.utc) - EPOCH).total_seconds())
@@ -169,6 +169,7 @@ def report(title, sources, results):
 
 
 def main(program=TOP / "crates/zoneq/out/zoneq", folder=FOLDER):
+    needs(Path(program))
     chance = random.Random(2026)
     sources = [Source(path, content, Path(folder)) for path, content in tzif_files(folder)]
     questions = [question for source in sources for question in source.questions(chance)]

@@ -18,7 +18,7 @@ from io import BytesIO
 from pathlib import Path
 
 from comparing.database import FOLDER, TzFile, tzif_files, zdump
-from sources import TOP
+from sources import TOP, needs
 
 NAME = "written_files"
 GROUP = 700_000
@@ -102,6 +102,7 @@ def files_in(folder):
 
 
 def main(folder=FOLDER, slim=None):
+    needs("rt")
     slim = files_in(slim) if slim else {}
     read = files_in(folder)
     names = list(read)

@@ -102,6 +102,8 @@
      PREFIX=/usr/local tools/install.sh
      cc program.c $(pkg-config --cflags --libs zoned)
 
+   The script runs ldconfig, or prints what to type before a program is built or started.
+
    Both libraries need malloc, realloc, free, memcpy, memmove and memset only, and define the calls below only. Without them, link
    crates/zoned_ffi/out/libzoned_ffi.a and after it the kit's c/liblibc_c.a. A shared library made of these two archives also
    exports rattle_alloc, rattle_realloc and rattle_dealloc, unless it is linked with -Wl,--exclude-libs,liblibc_c.a.
