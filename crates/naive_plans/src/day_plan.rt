@@ -18,8 +18,8 @@ pub trait DayPlan {
     // its seconds of the day on each day
     ghost planned_on: { Self → ℤ → ℕ → Type 0 };
 
-    /// Returns the first second of the day, from 0 to 86,399, that the plan has on a date and that is not
-    /// before the given one; `None` if there is none.
+    /// Returns the first second of the day, from 0 to 86,399, that the plan has on a date and that isn't
+    /// before the given one, if it has one.
     fn first_second_from(&self, date: NaiveDate, second: u32) -> Option<u32>
         ensures { MatchOption result (HasNoSecondFrom (planned_on self.now (day_of date)) second)
             (λ s. IsFirstSecondFrom (planned_on self.now (day_of date)) second s) };
@@ -37,15 +37,15 @@ pub trait DayPlan {
 ///
 /// With [`last_local_time`] it is a [`ReversiblePlan`](crate::ReversiblePlan).
 pub trait ReversibleDayPlan: DayPlan {
-    /// Returns the last second of the day, from 0 to 86,399, that the plan has on a date and that is not
-    /// after the given one; `None` if there is none.
+    /// Returns the last second of the day, from 0 to 86,399, that the plan has on a date and that isn't
+    /// after the given one, if it has one.
     fn last_second_until(&self, date: NaiveDate, second: u32) -> Option<u32>
         ensures { MatchOption result (HasNoSecondUntil (Self.planned_on self.now (day_of date)) second)
             (λ s. IsLastSecondUntil (Self.planned_on self.now (day_of date)) second s) };
 }
 
-/// Returns the first local time of a plan after the given one; `None` if there is none that a
-/// [`NaiveDateTime`] can show. It is the body of `Plan::next_after` for a [`DayPlan`].
+/// Returns the first local time of a plan after the given one; `None` if a [`NaiveDateTime`] can show no
+/// such local time. It is the body of `Plan::next_after` for a [`DayPlan`].
 ///
 /// It walks from one date to the next until the plan has a second of the day.
 pub fn next_local_time<D: DayPlan>(plan: &D, local: &NaiveDateTime) -> Option<NaiveDateTime>
@@ -60,9 +60,8 @@ pub fn next_local_time<D: DayPlan>(plan: &D, local: &NaiveDateTime) -> Option<Na
     first_local_from(plan, local.date(), second)
 }
 
-/// Returns the last local time of a plan that is not after the given one; `None` if there is none that a
-/// [`NaiveDateTime`] can show. It is the body of `ReversiblePlan::last_until` for a
-/// [`ReversibleDayPlan`].
+/// Returns the last local time of a plan that isn't after the given one; `None` if a [`NaiveDateTime`] can
+/// show no such local time. It is the body of `ReversiblePlan::last_until` for a [`ReversibleDayPlan`].
 pub fn last_local_time<D: ReversibleDayPlan>(
     plan: &D,
     local: &NaiveDateTime,

@@ -14,8 +14,8 @@ pub trait Plan {
     // its local times, as seconds
     ghost planned: { Self → ℤ → Type 0 };
 
-    /// Returns the first local time of the plan after the given one; `None` if there is none that a
-    /// [`NaiveDateTime`] can show.
+    /// Returns the first local time of the plan after the given one; `None` if a [`NaiveDateTime`] can show
+    /// no such local time.
     fn next_after(&self, local: &NaiveDateTime) -> Option<NaiveDateTime>
         ensures { let s = (reading local.now).s in
             MatchOption result (HasNoneAfter (planned self.now) s)
@@ -24,8 +24,8 @@ pub trait Plan {
 
 /// A plan that can also be searched backward.
 pub trait ReversiblePlan: Plan {
-    /// Returns the last local time of the plan that is not after the given one; `None` if there is none
-    /// that a [`NaiveDateTime`] can show.
+    /// Returns the last local time of the plan that isn't after the given one; `None` if a
+    /// [`NaiveDateTime`] can show no such local time.
     fn last_until(&self, local: &NaiveDateTime) -> Option<NaiveDateTime>
         ensures { let s = (reading local.now).s in
             MatchOption result (HasNoneUntil (Self.planned self.now) s)

@@ -1,6 +1,6 @@
 -- Fires of plans in zones whose clocks are set once.
-use Rattle.tests_pins.proofs.Words.{AreFires, AreSetAt, IsFire, IsFirstToReach, IsReachedAt, IsZoneSecond, List, ap, arith, by_lt_z, floors, ints, pos, refl, subst}
-use Rattle.tests_pins.proofs.Words.{sym, twice_daily, ℤ, [], neg_ℤ, ◌+ℤ◌, ◌-ℤ◌, ◌<ℤ◌, ◌∙◌, ◌∷◌, ◌≡◌, ◌≤ℤ◌, ◌⊎◌, inl, inr}
+use Rattle.tests_pins.proofs.Words.{AreFires, AreSetAt, IsFire, IsFirstToReach, IsReachedAt, IsZoneSecond, List, ap, arith, by_lt_z, floors, ints, pos, refl}
+use Rattle.tests_pins.proofs.Words.{subst, sym, twice_daily, ℤ, [], neg_ℤ, ◌+ℤ◌, ◌-ℤ◌, ◌<ℤ◌, ◌∙◌, ◌∷◌, ◌≡◌, ◌≤ℤ◌, ◌⊎◌, inl, inr}
 
 -- clocks that are set back have shown no later local time than at the second before
 pub in_fold : (off : ℤ → ℤ) (at k m t : ℤ) → AreSetAt off at k m → IsZoneSecond (at -ℤ pos 1) → at ≤ℤ t → (t +ℤ m) <ℤ (at +ℤ k)
@@ -43,8 +43,8 @@ shown_before off at k m l v set inside early h =
     by_lt_z (v -ℤ pos 1 +ℤ k) l (λ less. omega (arith, ints))
     (λ not. let least = h.first (v -ℤ pos 1) (record { in_zone = inside; reached = omega (arith, ints) }) in absurd (omega (arith, ints)))
 
-pub shown_after : (off : ℤ → ℤ) (at k m l v : ℤ) → AreSetAt off at k m → IsZoneSecond (v -ℤ pos 1) → IsZoneSecond (at -ℤ pos 1) → at <ℤ v → IsFirstToReach off l v
-    → ((v +ℤ m) ≡ l) × ((at -ℤ pos 1 +ℤ k) <ℤ l)
+pub shown_after : (off : ℤ → ℤ) (at k m l v : ℤ) → AreSetAt off at k m → IsZoneSecond (v -ℤ pos 1) → IsZoneSecond (at -ℤ pos 1) → at <ℤ v
+    → IsFirstToReach off l v → ((v +ℤ m) ≡ l) × ((at -ℤ pos 1 +ℤ k) <ℤ l)
 shown_after off at k m l v set inside inside_at late h =
     let now = set.from v (omega (arith, ints)) in let before = set.from (v -ℤ pos 1) (omega (arith, ints)) in let there = h.reached.reached in
     let last = set.before (at -ℤ pos 1) (omega (arith, ints)) in (
@@ -62,7 +62,8 @@ one_list off plan t until (u ∷ us) [] h k = absurd (k u h.0.fires h.0.after h.
 one_list off plan t until (u ∷ us) (v ∷ vs) h k =
     let less = h.0.none_skipped v k.0.fires k.0.after in let more = k.0.none_skipped u h.0.fires h.0.after in
     let same : v ≡ u = omega (arith, ints) in
-    ap (λ (rest : List ℤ). u ∷ rest) (one_list off plan u until us vs h.2 (subst (λ (w : ℤ). AreFires off plan w until vs) same k.2)) ∙ ap (λ (w : ℤ). w ∷ vs) (sym same)
+    ap (λ (rest : List ℤ). u ∷ rest) (one_list off plan u until us vs h.2 (subst (λ (w : ℤ). AreFires off plan w until vs) same k.2))
+    ∙ ap (λ (w : ℤ). w ∷ vs) (sym same)
 
 -- New York in March 2021
 abbrev pub InSpring : (ℤ → ℤ) → Type 0
@@ -72,7 +73,8 @@ InSpring off = AreSetAt off (pos 1_615_705_200) (neg_ℤ (pos 18_000)) (neg_ℤ 
 abbrev pub AreThree : ℤ → Type 0
 AreThree v = (v ≡ pos 1_615_705_200) ⊎ ((v ≡ pos 1_615_788_900) ⊎ (v ≡ pos 1_615_790_700))
 
-pub fires_in_spring : (off : ℤ → ℤ) (v : ℤ) → InSpring off → IsFire off (twice_daily 8_100 9_900) v → pos 1_615_698_000 <ℤ v → v ≤ℤ pos 1_615_790_700 → AreThree v
+pub fires_in_spring : (off : ℤ → ℤ) (v : ℤ) → InSpring off → IsFire off (twice_daily 8_100 9_900) v → pos 1_615_698_000 <ℤ v → v ≤ℤ pos 1_615_790_700
+    → AreThree v
 fires_in_spring off v set fire after until =
     let at : ℤ = pos 1_615_705_200 in let k : ℤ = neg_ℤ (pos 18_000) in let m : ℤ = neg_ℤ (pos 14_400) in
     let inside : IsZoneSecond (v -ℤ pos 1) = (omega (arith, ints), omega (arith, ints)) in let l = fire.local in let planned = fire.planned in

@@ -50,13 +50,13 @@ pub fires_beyond : (off : ℤ → ℤ) (plan : ℤ → Type 0) (t u : ℤ) → I
 fires_beyond off plan t u range next out v inside fire later =
     let least = next.none_skipped v fire later in let after = next.after in out (omega (arith, ints, range, inside), omega (arith, ints, range, inside))
 
-pub told_next : {O T : Type 0} {m : Meaning O} (law : Law m) (plan : ℤ → Type 0) (t local l u : ℤ) (told : T → Zoned O) (found : Option T)
+pub next_found : {O T : Type 0} {m : Meaning O} (law : Law m) (plan : ℤ → Type 0) (t local l u : ℤ) (told : T → Zoned O) (found : Option T)
     → StayWithinDay law.off → IsInRange t → IsReachedAt law.off t local → IsNextAfter plan local l → IsWide l → IsFirstToReach law.off l u
     → MatchOption found (IsInRange u → ⊥) (λ d. IsInRange u × IsAt law (of_secs u 0) (told d))
     → MatchOption found (NoneFiresAfter law.off plan t) (λ d. IsZonedNextFire law plan t (told d))
-told_next law plan t local l u told None within range reached next wide first h =
+next_found law plan t local l u told None within range reached next wide first h =
     fires_beyond law.off plan t u range (next_fire law.off plan t local l u within range reached next wide first) h
-told_next law plan t local l u told (Some d) within range reached next wide first h =
+next_found law plan t local l u told (Some d) within range reached next wide first h =
     let found = next_fire law.off plan t local l u within range reached next wide first in let at = h.1.utc in grind (arith, ints)
 
 -- ---- the last fire
@@ -82,13 +82,13 @@ pub fires_before : (off : ℤ → ℤ) (plan : ℤ → Type 0) (t u : ℤ) → I
 fires_before off plan t u range last out v inside fire come =
     let most = last.none_skipped v fire come in let until = last.not_after in out (omega (arith, ints, range, inside), omega (arith, ints, range, inside))
 
-pub told_last : {O T : Type 0} {m : Meaning O} (law : Law m) (plan : ℤ → Type 0) (t local l u : ℤ) (told : T → Zoned O) (found : Option T)
+pub last_found : {O T : Type 0} {m : Meaning O} (law : Law m) (plan : ℤ → Type 0) (t local l u : ℤ) (told : T → Zoned O) (found : Option T)
     → StayWithinDay law.off → IsInRange t → IsReachedAt law.off t local → IsLastUntil plan local l → IsWide l → IsFirstToReach law.off l u
     → MatchOption found (IsInRange u → ⊥) (λ d. IsInRange u × IsAt law (of_secs u 0) (told d))
     → MatchOption found (NoneFiresUntil law.off plan t) (λ d. IsZonedLastFire law plan t (told d))
-told_last law plan t local l u told None within range reached last wide first h =
+last_found law plan t local l u told None within range reached last wide first h =
     fires_before law.off plan t u range (last_fire law.off plan t local l u within range reached last wide first) h
-told_last law plan t local l u told (Some d) within range reached last wide first h =
+last_found law plan t local l u told (Some d) within range reached last wide first h =
     let found = last_fire law.off plan t local l u within range reached last wide first in let at = h.1.utc in grind (arith, ints)
 
 -- ---- all fires between two seconds

@@ -1,6 +1,6 @@
 -- What zones of the same law give, and zones of the same offsets in seconds.
-use Rattle.zoned_time.proofs.Words.{AreOffsetsFor, IsAt, IsFirstInstantFrom, IsFirstOutOfRange, IsInDay, IsInRange, IsInstantFrom, IsOffsetAt, IsRelocal, IsZonedAtOrAfter, Law, LocalResult}
-use Rattle.zoned_time.proofs.Words.{MatchOption, Meaning, Option, Reading, SameLaw, SameOffsets, Zoned, midnight, sym}
+use Rattle.zoned_time.proofs.Words.{AreOffsetsFor, IsAt, IsFirstInstantFrom, IsFirstOutOfRange, IsInDay, IsInRange, IsInstantFrom, IsOffsetAt, IsRelocal}
+use Rattle.zoned_time.proofs.Words.{IsZonedAtOrAfter, Law, LocalResult, MatchOption, Meaning, Option, Reading, SameLaw, SameOffsets, Zoned, midnight, sym}
 use Rattle.zoned_time.proofs.Words.{IsZoneSecond, arith, ints, pos, refl, seconds_alone, ℤ, ◌+ℤ◌}
 
 -- a law is the same as itself, and as what is the same as the same

@@ -248,8 +248,8 @@ pub trait ZoneDays: TimeZone {
         start_of_earlier_day(self, date, date.ordinal0())
     }
 
-    /// Returns the first instant at which a plan fires after the given one, of any zone; `None` if there
-    /// is none in the range of [`DateTime`].
+    /// Returns the first instant at which a plan fires after the given one, of any zone; `None` if no such
+    /// instant is in the range of [`DateTime`].
     ///
     /// A plan fires at each whole second at which clocks first show one of its local times or a later
     /// one. So local times in a gap fire once, at its end, and one in a fold fires on the first pass only.
@@ -292,7 +292,7 @@ pub trait ZoneDays: TimeZone {
     }
 
     /// Returns the last instant at which a plan fires that isn't after the given one, of any zone; `None`
-    /// if there is none in the range of [`DateTime`].
+    /// if no such instant is in the range of [`DateTime`].
     ///
     /// ```
     /// let last = new_york.last_fire(&daily, &noon)?; // of 02:30 each day: 2021-03-13 02:30:00 -05:00
@@ -311,8 +311,8 @@ pub trait ZoneDays: TimeZone {
         instant_at(self, self.first_second_at_or_after(&local), 0)
     }
 
-    /// Returns the last instant at which a plan fires before the given one, of any zone; `None` if there
-    /// is none in the range of [`DateTime`].
+    /// Returns the last instant at which a plan fires before the given one, of any zone; `None` if no such
+    /// instant is in the range of [`DateTime`].
     ///
     /// ```
     /// let previous = new_york.previous_fire(&daily, &last)?; // 2021-03-12 02:30:00 -05:00

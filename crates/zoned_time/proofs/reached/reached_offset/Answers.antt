@@ -12,7 +12,8 @@ now g c =
     let inside : IsZoneSecond c.args.utc.secs = (omega (arith, ints, range), omega (arith, ints, range)) in
     let within = g.met.Tz.TimeZone.within_day c.args.zone.now c.args.utc.secs inside in
     let is : c.local_minus_utc-now.result ≡ (g.Tz.TimeZone.law c.args.zone.now).off c.args.utc.secs =
-    c.local_minus_utc-now.ensures ∙ c.fix.ensures ∙ sym (g.met.Tz.TimeZone.told c.offset_from_utc_datetime.result) ∙ c.offset_from_utc_datetime.ensures.there in (
+    c.local_minus_utc-now.ensures ∙ c.fix.ensures ∙ sym (g.met.Tz.TimeZone.told c.offset_from_utc_datetime.result)
+    ∙ c.offset_from_utc_datetime.ensures.there in (
       omega (arith, ints, within, is),
       (omega (arith, ints, within, is), omega (arith, ints, within, is)),
       passed_now
