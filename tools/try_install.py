@@ -11,6 +11,7 @@ CMake are used if they are installed. It tries that
 - examples/zones.c and zones.cc are built over each library, with pkg-config and with CMake, zones.py loads the shared one, and all
   print the same lines;
 - a program that has a function rattle_alloc of its own keeps it to itself;
+- what zoned.hpp answers one time at a time and in columns is what its definition says (tools/try_hpp.cc), as C++17 and C++20;
 - install.sh lists what it installs, and a program starts after what it says or does about the loader's cache;
 - the man page names each call of the header;
 - the library for 64-bit ARM gives the same lines under qemu, if `tools/build_archive.py --target aarch64-unknown-linux-gnu` has
@@ -33,6 +34,7 @@ PREFIX = "/usr/local"
 HEADER = TOP / "crates/zoned_ffi/include/zoned_ffi.h"
 ARCHIVE = TOP / "crates/zoned_ffi/out/libzoned_ffi.a"
 EXAMPLES = TOP / "examples"
+HPP = TOP / "tools/try_hpp.cc"
 ARM, ARM_ARCHIVE, ARM_HEAP = "aarch64-linux-gnu", TOP / "crates/zoned_ffi/out/libzoned_ffi-aarch64.a", TOP / "crates/zoned_ffi/install/heap.c"
 NEEDED = {"malloc", "realloc", "free", "memcpy", "memmove", "memset"}
 ASKED = ["/usr/share/zoneinfo/America/New_York", "1615705200", "1615689000", "1636248600"]
@@ -128,6 +130,16 @@ def complaints_of_programs(root, room):
     print(f"{len(made)} programs over the installed library")
 
 
+def complaints_of_cpp(root, room):
+    """What try_hpp.cc finds amiss with zoned.hpp."""
+    flags = [*WARNINGS, "-Wshadow", "-fsanitize=undefined", "-fno-sanitize-recover=all", "-I", root / f"{PREFIX[1:]}/include"]
+    for standard in ("c++17", "c++20"):
+        run("g++", *flags, f"-std={standard}", "-o", room / "hpp", HPP, root / f"{PREFIX[1:]}/lib/libzoned.a")
+        tried = subprocess.run([room / "hpp"], capture_output=True, text=True)
+        if tried.returncode:
+            yield f"{HPP.name} as {standard}: {tried.stdout}{tried.stderr}"
+
+
 def complaints_of_loader(room):
     """What keeps a program from starting after an installation without DESTDIR. The loader's folders and its cache are those of the
     test: the machine's aren't touched."""
@@ -198,7 +210,7 @@ def main():
         room.mkdir()
         lib = installed(root)
         found = [*complaints_of_names(lib), *complaints_of_programs(root, room), *complaints_of_man_page(root)]
-        found += complaints_of_loader(room)
+        found += [*complaints_of_cpp(root, room), *complaints_of_loader(room)]
         if ARM_ARCHIVE.exists():
             found += complaints_of_arm(room)
     for complaint in found:

@@ -3,9 +3,9 @@
 
 usage: tools/try_missing.py
 
-The scripts run in a copy of the repository in which nothing is built, with a PATH that lacks the programs that they need, and with
-all programs. tools/preflight.sh runs without programs and without Debian's packages, and the gate must end as it does. It takes some
-ten seconds, and builds nothing. Prints each fault, and ends with status 1 if there is one.
+The scripts run in a copy of the repository in which nothing is built, once with a PATH that lacks the programs that they need, and
+once with all programs. tools/preflight.sh runs without programs and without Debian's packages, and the gate must end as it does. It
+takes some ten seconds, and builds nothing. Prints each fault, and ends with status 1 if there is one.
 """
 
 import os

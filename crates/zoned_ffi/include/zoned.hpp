@@ -45,12 +45,12 @@ class error : public std::runtime_error {
 public:
     const uint32_t number;
     const size_t row;
-    explicit error(uint32_t number, size_t row = 0) : std::runtime_error(text(number)), number(number), row(row) {}
+    explicit error(uint32_t code, size_t at = 0) : std::runtime_error(text(code)), number(code), row(at) {}
 
 private:
-    static std::string text(uint32_t number) {
+    static std::string text(uint32_t code) {
         char words[128];
-        zoned_error_text(number, words, sizeof words);
+        zoned_error_text(code, words, sizeof words);
         return words;
     }
 };
@@ -134,19 +134,32 @@ public:
         return fields;
     }
 
-    // The local time of an instant.
+    // A single time is converted as a row of a column is, in the unit of its Duration, or in seconds if that unit is longer. So the
+    // least number, which is no time, stays.
+
+    // The local time of an instant. Throws error with ZONED_NO_LOCAL_TIME if the zone has no offset there, or if the local time
+    // doesn't fit.
     template <class Duration> auto to_local(sys_time<Duration> at) const {
-        auto offset = get_offset(std::chrono::floor<seconds>(at));
-        return local_time<std::common_type_t<Duration, seconds>>(at.time_since_epoch() + offset);
+        using Unit = std::common_type_t<Duration, seconds>;
+        const Unit instant = at.time_since_epoch();
+        if (is_no_time(instant)) return local_time<Unit>(instant);
+        const Unit offset = get_offset(std::chrono::floor<seconds>(at));
+        return local_time<Unit>(sum(instant, offset, ZONED_NO_LOCAL_TIME));
     }
 
     // The instant of a local time. Throws error with ZONED_IN_GAP, ZONED_IN_FOLD or ZONED_INSTANT_OUT_OF_RANGE.
-    template <class Duration> auto to_sys(local_time<Duration> local, policy choice = {}) const {
-        auto whole = std::chrono::floor<seconds>(local);
+    template <class Duration> auto to_sys(local_time<Duration> at, policy choice = {}) const {
+        using Unit = std::common_type_t<Duration, seconds>;
+        const Unit local = at.time_since_epoch();
+        if (is_no_time(local)) return sys_time<Unit>(local);
+        const int64_t second = count(std::chrono::floor<seconds>(at));
         zoned_resolved resolved;
-        check(zoned_zone_resolved_instant(&zone, uint32_t(choice.gap), uint32_t(choice.fold), count(whole), &resolved));
+        check(zoned_zone_resolved_instant(&zone, uint32_t(choice.gap), uint32_t(choice.fold), second, &resolved));
         check(resolved.number);
-        return sys_time<std::common_type_t<Duration, seconds>>(sys(resolved.instant) + (local - whole));
+        Unit step = seconds(resolved.instant - second);
+        // In a gap clocks show another local time at that instant. The end of a gap is a whole second.
+        if (choice.gap == gap::end && resolved.instant + resolved.offset != second) step -= part_of_second(local);
+        return sys_time<Unit>(sum(local, step, ZONED_INSTANT_OUT_OF_RANGE));
     }
 
     // The first instant at which clocks show a local time or a later one: in a gap the instant at which it ends.
@@ -209,6 +222,24 @@ private:
 
     template <class Time> static int64_t count(Time at) { return at.time_since_epoch().count(); }
     static sys_seconds sys(int64_t at) { return sys_seconds(seconds(at)); }
+
+    // Whether a time is a whole number that may be negative, as in a column.
+    template <class Unit, class Number = typename Unit::rep>
+    static constexpr bool is_counted = std::is_integral_v<Number> && std::is_signed_v<Number>;
+
+    template <class Unit> static bool is_no_time(Unit time) { return is_counted<Unit> && time == Unit::min(); }
+
+    // The sum, or the error if it doesn't fit, or would be no time.
+    template <class Unit> static Unit sum(Unit time, Unit step, uint32_t number) {
+        if (is_counted<Unit> && (step < Unit::zero() ? time <= Unit::min() - step : time > Unit::max() - step)) throw error(number);
+        return time + step;
+    }
+
+    // What a time has beyond the second that it lies in.
+    template <class Unit> static Unit part_of_second(Unit time) {
+        const Unit part = time - std::chrono::duration_cast<seconds>(time);
+        return part < Unit::zero() ? part + seconds(1) : part;
+    }
 
     static int32_t known(int32_t offset) {
         if (offset == ZONED_NO_OFFSET) throw error(ZONED_NO_LOCAL_TIME);
