@@ -101,11 +101,15 @@ def shown_times(seconds):
 
 
 def inferred(candidates):
-    """Each row's instant if one choice keeps the order, or the first row that none or two tell."""
+    """Each row's instant if one choice keeps the order, or if several do and in one of them no two
+    neighbours are the same instant; or else the first row that none or two of those in order tell."""
     for count in range(1, len(candidates) + 1):
         if not choices_in_order(candidates[:count]):
             return None, count - 1
     choices = choices_in_order(candidates)
+    distinct = [each for each in choices if all(a < b for a, b in zip(each, each[1:]))]
+    if len(distinct) == 1:
+        choices = distinct
     for row in range(len(candidates)):
         if len({choice[row] for choice in choices}) > 1:
             return None, row

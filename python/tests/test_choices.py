@@ -1,11 +1,12 @@
 """Folds decided row by row, and by the order of the rows of a key."""
 
 import itertools
+from zoneinfo import ZoneInfo
 
 import numpy as np
 import pandas as pd
 import pytest
-from definitions import SEVERAL_TIMES, Lists, inferred, shown_times
+from definitions import SEVERAL_TIMES, Lists, choices_in_order, inferred, offset_of, shown_times
 from hypothesis import given, settings
 from hypothesis import strategies as st
 from test_definitions import COLUMNS, WINDOW
@@ -191,6 +192,68 @@ def test_rows_for_which_nothing_is_given():
         with pytest.raises(sahvumbi.FoldError, match="does not say which it is") as raised:
             NEW_YORK.localize(column(FOLD, FOLD), **given_)
         assert raised.value.row == 1
+
+
+# The order of rows
+
+
+def choices_of(zone, clocks):
+    """The first and the last instant that shows each local time."""
+    return [sorted({int(first), int(last)}) for first, last in zip(*zone.explain(clocks)[1:3])]
+
+
+def test_infer_by_all_choices():
+    """Columns of half hours around a fold: one choice keeps the order, or one of them has no row twice, or
+    no answer is given."""
+    random, midnight = np.random.default_rng(0), np.datetime64("2021-11-07T00:30", "s").astype(int)
+    counts = dict.fromkeys(["in order", "distinct", "none"], 0)
+    for _ in range(3_000):
+        clocks = midnight + 1_800 * random.integers(0, 5, random.integers(1, 7))
+        if random.integers(2):
+            clocks.sort()
+        candidates = choices_of(NEW_YORK, clocks)
+        if all(len(each) == 1 for each in candidates):
+            continue
+        expected, row = inferred(candidates)
+        if row is None:
+            assert NEW_YORK.localize(clocks, fold="infer").tolist() == expected
+            counts["in order" if len(choices_in_order(candidates)) == 1 else "distinct"] += 1
+        else:
+            with pytest.raises(sahvumbi.FoldError) as raised:
+                NEW_YORK.localize(clocks, fold="infer")
+            assert raised.value.row == row
+            counts["none"] += 1
+    assert min(counts.values()) > 50
+
+
+@pytest.mark.parametrize("minutes", [60, 30, 20, 15])
+@pytest.mark.parametrize(
+    "name",
+    [
+        "America/New_York",
+        "Europe/Berlin",
+        "Australia/Sydney",
+        "America/Santiago",
+        "Asia/Tehran",
+        "Australia/Lord_Howe",
+    ],
+)
+def test_infer_in_steps(name, minutes):
+    """Three years in equal steps, as zoneinfo shows them; one column, and two mixed in one."""
+    zone, theirs = Zone(name), ZoneInfo(name)
+    instants = np.arange("2019-01-01", "2022-01-01", 60 * minutes, "M8[s]")
+    local = np.array([offset_of(theirs, second) for second in instants.astype(int).tolist()], "m8[s]") + instants
+    if name == "Australia/Lord_Howe" and minutes == 60:
+        # Its clocks go back by half an hour: one of these steps lies in a fold, and none says which.
+        with pytest.raises(sahvumbi.FoldError, match="order of rows doesn't tell"):
+            zone.localize(local, fold="infer")
+        return
+    np.testing.assert_array_equal(zone.localize(local, fold="infer"), instants)
+    both, keys = np.repeat(local, 2), np.arange(2 * local.size) % 2
+    np.testing.assert_array_equal(zone.localize(both, fold="infer", by=keys), np.repeat(instants, 2))
+    if minutes == (30 if name == "Australia/Lord_Howe" else 60):
+        with pytest.raises(sahvumbi.FoldError, match="order of rows doesn't tell"):
+            zone.localize(both, fold="infer")
 
 
 # Series one after another

@@ -168,7 +168,7 @@ def test_nothing_is_copied_that_need_not_be():
     for dtype in ("i8", "M8[s]", "M8[ns]"):
         column = np.arange(100).astype(dtype)
         column.flags.writeable = False
-        assert np.shares_memory(taken(column, False).values, column)
+        assert np.shares_memory(taken(column, "", False).values, column)
 
 
 @pytest.mark.parametrize("dtype", ["i8", "M8[s]", "M8[ns]"])
@@ -182,7 +182,7 @@ def test_arrays_of_each_form(dtype):
     unaligned = np.frombuffer(b"x" + plain.tobytes(), np.uint8)[1:].view(plain.dtype)
     assert not unaligned.flags.aligned
     for form in (big_endian, twice[::2], frozen, unaligned, big_endian.copy()[::1]):
-        asked = taken(form, False).values
+        asked = taken(form, "", False).values
         assert asked.flags.aligned and asked.flags.c_contiguous and asked.dtype.isnative
         before = form.copy()
         np.testing.assert_array_equal(NEW_YORK.to_local(form), expected)
@@ -245,13 +245,21 @@ def test_uint64_may_not_fit():
         "2021-01-01",
         None,
         [1.5],
-        [2**70],
     ],
 )
 def test_what_is_no_column_is_refused(column):
     for ask in asked():
         with pytest.raises(TypeError):
             ask(column)
+
+
+@pytest.mark.parametrize("values, row", [([0, 2**63], 1), ([-1, 2**63], 1), ([[0], [-(2**70)]], 1), (10**30, None)])
+def test_integers_may_not_fit(values, row):
+    """Neither those that numpy has another type for."""
+    for ask in asked():
+        with pytest.raises(sahvumbi.OutOfRangeError, match="it does not fit int64") as raised:
+            ask(values)
+        assert raised.value.row == row and raised.value.value in np.array(values, object).flat
 
 
 # Rows that have no answer
@@ -279,6 +287,13 @@ def test_an_error_of_int64_tells_its_number():
     with pytest.raises(sahvumbi.GapError) as raised:
         NEW_YORK.localize([0, 1_615_689_000])
     assert raised.value.value == 1_615_689_000 and type(raised.value.value) is int
+
+
+def test_one_value_has_no_row():
+    for value in (1_615_689_000, np.datetime64(GAP, "s"), datetime.fromisoformat(GAP)):
+        with pytest.raises(sahvumbi.GapError) as raised:
+            NEW_YORK.localize(value)
+        assert raised.value.row is None and "row" not in str(raised.value)
 
 
 def test_the_first_row_is_told():
@@ -363,6 +378,14 @@ def test_infer():
         told("01:10", "01:50", "01:30", "00:40")
     with pytest.raises(sahvumbi.FoldError, match="row 2: .* rows are not in order"):
         told("01:50", "01:40", "01:30")
+    # Several choices keep the order, and in one of them no two neighbours are the same instant.
+    assert told("00:00", "01:00", "01:00", "02:00") == ["04:00", "05:00", "06:00", "07:00"]
+    assert told("01:00", "01:00") == ["05:00", "06:00"]
+    # None is such, or two are, or a row is the same instant as its neighbour in all of them.
+    for clocks in (["01:00"] * 3, ["00:00", "01:00", "02:00"], ["00:30", "00:30", "01:00", "01:00"]):
+        with pytest.raises(sahvumbi.FoldError, match="order of rows doesn't tell") as raised:
+            told(*clocks)
+        assert raised.value.row == clocks.index("01:00")
     column = np.array(["2021-11-07T01:50", "NaT", "2021-11-07T01:10"], "M8[ns]")
     expected = np.array(["2021-11-07T05:50", "NaT", "2021-11-07T06:10"], "M8[ns]")
     np.testing.assert_array_equal(NEW_YORK.localize(column, fold="infer"), expected)

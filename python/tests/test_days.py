@@ -188,6 +188,7 @@ def test_forms():
     assert days == (datetime(2021, 3, 14), start, datetime(2021, 3, 15, 4, tzinfo=timezone.utc))
     stamp = pd.Timestamp("2021-03-14 09:30", tz="UTC")
     assert NEW_YORK.floor(stamp, "D") == pd.Timestamp(start)
+    # Its last nanosecond, whatever unit a Timestamp has.
     assert NEW_YORK.end_of_day(pd.Timestamp("2021-03-14")) == pd.Timestamp("2021-03-15 03:59:59.999999999Z")
     series = pd.Series([stamp, pd.NaT], index=["a", "b"], name="when")
     frame = NEW_YORK.day(series)

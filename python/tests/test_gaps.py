@@ -95,6 +95,12 @@ def test_after_beside_zoneinfo(name):
         assert before < local < moment.astimezone(theirs).replace(tzinfo=None)
 
 
+def test_before_of_a_timestamp():
+    """A nanosecond before the change, whatever unit it has."""
+    skipped = pd.Timestamp("2021-03-14 02:30")
+    assert NEW_YORK.localize(skipped, gap="before") == pd.Timestamp("2021-03-14 06:59:59.999999999Z")
+
+
 def test_after_far_from_today():
     """By the rule, and beyond the years of datetime."""
     for year in (2500, 9_999, 200_000):

@@ -1,5 +1,7 @@
 """What may be handed over besides arrays and Series, and what a TypeError says of the rest."""
 
+import pickle
+import re
 from array import array
 from datetime import date, datetime, timedelta, timezone
 from zoneinfo import ZoneInfo
@@ -7,17 +9,19 @@ from zoneinfo import ZoneInfo
 import numpy as np
 import pandas as pd
 import pytest
+import pytz
+from dateutil import tz
 from hypothesis import given
 from hypothesis import strategies as st
 
 import sahvumbi
-from sahvumbi import Zone
+from sahvumbi import Zone, localize_many, moved, to_local_many
 
 NEW_YORK = Zone("America/New_York")
 THEIRS = ZoneInfo("America/New_York")
-CLOCKS = ["2021-07-01 08:00:00.5", None, "2021-01-01 07:00"]
+CLOCKS = ["2021-07-01 08:00:00.5", None, "2021-01-01 07:00:00.0"]
 LOCAL = pd.DatetimeIndex(CLOCKS, name="when")
-UTC = ["2021-07-01 12:00:00.5", None, "2021-01-01 12:00"]
+UTC = ["2021-07-01 12:00:00.5", None, "2021-01-01 12:00:00.0"]
 INSTANTS = pd.DatetimeIndex(UTC, name="when", tz="UTC")
 GAP, FOLD = datetime(2021, 3, 14, 2, 30), datetime(2021, 11, 7, 1, 30)
 
@@ -30,7 +34,7 @@ def test_an_index():
     pd.testing.assert_index_equal(NEW_YORK.to_local(INSTANTS), LOCAL)
     pd.testing.assert_index_equal(NEW_YORK.to_local(INSTANTS.tz_localize(None)), LOCAL)
     pd.testing.assert_index_equal(NEW_YORK.to_local(INSTANTS.tz_convert("Asia/Tokyo")), LOCAL)
-    offsets = pd.TimedeltaIndex(pd.to_timedelta([-4, None, -5], "h"), name="when")
+    offsets = pd.Index(np.array([-14_400, "NaT", -18_000], "m8[s]"), name="when")
     pd.testing.assert_index_equal(NEW_YORK.offsets(INSTANTS), offsets)
     with pytest.raises(TypeError, match=r"these are .*: tz_localize\(None\) removes it"):
         NEW_YORK.localize(INSTANTS)
@@ -74,6 +78,7 @@ def test_a_timestamp():
     assert NEW_YORK.localize(pd.Timestamp(GAP), gap="nat") is pd.NaT
     assert NEW_YORK.types(instant).abbreviation == "EDT"
     assert NEW_YORK.explain(pd.Timestamp(FOLD)).last == pd.Timestamp("2021-11-07 06:30", tz="UTC")
+    assert NEW_YORK.explain(pd.Timestamp(GAP)) == (0, *[pd.NaT] * 4)
     with pytest.raises(TypeError, match="a local time has no zone"):
         NEW_YORK.localize(instant)
     with pytest.raises(sahvumbi.GapError):
@@ -91,6 +96,7 @@ def test_a_datetime():
     assert NEW_YORK.offsets(instant) == timedelta(hours=-4)
     assert NEW_YORK.types(instant) == (timedelta(hours=-4), True, "EDT")
     assert NEW_YORK.explain(FOLD).first == datetime(2021, 11, 7, 5, 30, tzinfo=timezone.utc)
+    assert NEW_YORK.explain(GAP) == (0, None, None, None, None)
     assert NEW_YORK.localize(FOLD, fold=1) == datetime(2021, 11, 7, 6, 30, tzinfo=timezone.utc)
     assert NEW_YORK.localize(local, tz=THEIRS).tzinfo is THEIRS
     assert NEW_YORK.localize(local, tz="America/New_York") == NEW_YORK.localize(local, tz=THEIRS)
@@ -184,18 +190,139 @@ def test_attrs_and_subclasses_are_kept():
 
 
 def test_a_zone_of_the_answer():
-    expected = INSTANTS.tz_convert("Europe/Paris")
+    expected = INSTANTS.tz_convert(ZoneInfo("Europe/Paris"))
     pd.testing.assert_index_equal(NEW_YORK.localize(LOCAL, tz="Europe/Paris"), expected)
     answer = NEW_YORK.localize(pd.Series(LOCAL), tz=NEW_YORK)
     assert answer.dtype == pd.DatetimeTZDtype("ns", THEIRS)
     assert answer[0] == INSTANTS[0]
-    assert NEW_YORK.localize(LOCAL[0], tz="Europe/Paris").tz.zone == "Europe/Paris"
-    with pytest.raises(TypeError, match="an array has no zone"):
-        NEW_YORK.localize([0], tz="Europe/Paris")
+    assert NEW_YORK.localize(LOCAL[0], tz="Europe/Paris").tz is ZoneInfo("Europe/Paris")
+    for fixed in (timezone(timedelta(hours=2)), pytz.FixedOffset(120), pytz.UTC, tz.tzoffset(None, 7_200)):
+        assert (NEW_YORK.localize(LOCAL, tz=fixed) == INSTANTS)[[0, 2]].all()
+    for name in ("America/New_Yrok", "../America/New_York", "America", "", "\ud800"):
+        with pytest.raises(sahvumbi.ZoneNotFoundError, match="no zone has the name"):
+            NEW_YORK.localize(LOCAL, tz=name)
+    for column in ([0], np.array(["2021"], "M8[s]"), pd.Series([0]), pd.Index([0]), pd.Series([0], dtype="Int64")):
+        with pytest.raises(TypeError, match="tz= is for .* an array and numbers have no zone"):
+            NEW_YORK.localize(column, tz="Europe/Paris")
     with pytest.raises(ValueError, match="a zone with a name"):
         NEW_YORK.localize(LOCAL, tz=Zone.from_text("EST5"))
     with pytest.raises(ValueError, match="leave it out for UTC"):
         NEW_YORK.localize(LOCAL, tz=None)
+
+
+YEARS = pd.to_datetime([f"{year}-07-01 12:00" for year in (1890, 2021, 2037, 2038, 2050, 2261)])
+
+
+@pytest.mark.parametrize("zone", ["America/New_York", NEW_YORK, THEIRS], ids=["name", "Zone", "ZoneInfo"])
+def test_what_is_shown_is_what_was_given(zone):
+    """Also from 2038 on, for which pytz, whose zones pandas takes for names, has no rule."""
+    import sahvumbi.pandas  # noqa: F401
+
+    series = pd.Series(YEARS)
+    for answer in (
+        NEW_YORK.localize(series, tz=zone),
+        NEW_YORK.localize(series, errors="collect", tz=zone)[0],
+        localize_many([NEW_YORK], [0] * len(YEARS), series, tz=zone),
+        series.sahvumbi.localize(NEW_YORK, tz=zone),
+    ):
+        pd.testing.assert_series_equal(answer.dt.tz_localize(None), series)
+    pd.testing.assert_index_equal(NEW_YORK.localize(YEARS, tz=zone).tz_localize(None), YEARS)
+    for stamp in YEARS:
+        assert NEW_YORK.localize(stamp, tz=zone).tz_localize(None) == stamp
+        moment = stamp.to_pydatetime()
+        assert NEW_YORK.localize(moment, tz=zone).replace(tzinfo=None) == moment
+
+
+def test_what_would_be_shown_wrong():
+    other = pickle.loads(pickle.dumps(NEW_YORK))
+    other._door = Zone("Asia/Tokyo")._door
+    for zone, words in (
+        (pytz.timezone("America/New_York"), "and not pytz America/New_York: pass the name"),
+        (tz.gettz("America/New_York"), "and not dateutil tzfile: pass the name"),
+        (5, "and not int$"),
+        (other, "another zone of that name: tz='America/New_York'"),
+    ):
+        for local in (LOCAL, pd.Series(LOCAL), LOCAL[0], GAP.replace(hour=5)):
+            with pytest.raises(TypeError, match=words):
+                NEW_YORK.localize(local, tz=zone)
+
+
+def test_what_pandas_cannot_show():
+    """Near the ends of 64 bits it would show another year."""
+    ends = pd.Series([pd.Timestamp.min, pd.NaT, pd.Timestamp("2021"), pd.Timestamp.max])
+    utc = Zone("Etc/UTC")
+    for zone, row in (("Asia/Tokyo", 3), ("America/New_York", 0)):
+        assert utc.localize(ends.drop(row), tz=zone).isna().sum() == 1
+        for column in (ends, pd.DatetimeIndex(ends), ends[row]):
+            with pytest.raises(sahvumbi.OutOfRangeError, match="can't be shown in tz=") as raised:
+                utc.localize(column, tz=zone)
+            assert raised.value.row == (None if isinstance(column, pd.Timestamp) else row)
+    for moment, zone in ((datetime.max, "Asia/Tokyo"), (datetime.min, "America/New_York")):
+        with pytest.raises(sahvumbi.OutOfRangeError, match="can't be shown in tz="):
+            utc.localize(moment, tz=zone)
+    if pd.__version__ >= "2":
+        far = pd.Series(np.array(["12000-07-01", "2021-07-01"], "M8[s]"))
+        with pytest.raises(sahvumbi.OutOfRangeError, match="can't be shown in tz="):
+            utc.localize(far, tz="Europe/Paris")
+        assert utc.localize(pd.Timestamp("3000-07-01 12:00"), tz=timezone.utc) == pd.Timestamp("3000-07-01 12:00Z")
+
+
+def test_what_is_not_a_time():
+    """NaT, and of a datetime None."""
+    for ask in (NEW_YORK.offsets, NEW_YORK.to_local, NEW_YORK.localize, NEW_YORK.start_of_day, NEW_YORK.end_of_day):
+        assert ask(pd.NaT) is pd.NaT
+    assert NEW_YORK.floor(pd.NaT, "h") is NEW_YORK.ceil(pd.NaT, "D") is pd.NaT
+    assert NEW_YORK.types(pd.NaT) == (pd.NaT, False, "") and NEW_YORK.types(pd.NaT).offset is pd.NaT
+    for answer, others in (
+        (NEW_YORK.explain(pd.NaT), [-1]),
+        (NEW_YORK.explain(pd.Timestamp(GAP)), [0]),
+        (NEW_YORK.spans(pd.NaT), [False, ""]),
+        (NEW_YORK.day(pd.NaT), []),
+    ):
+        assert [each for each in answer if each is not pd.NaT] == others
+    for unit in ("s", "ms", "us", "ns"):
+        for answer in (NEW_YORK.explain(np.datetime64(GAP, unit)), NEW_YORK.explain(np.datetime64("NaT", unit))):
+            assert np.isnat(answer[1:]).all()
+
+
+# The index of a Series
+
+TIMES = pd.date_range("2021-07-01", periods=3, tz="UTC")
+CALLS = {
+    "zone.offsets(s.index)": NEW_YORK.offsets,
+    "zone.to_local(s.index)": NEW_YORK.to_local,
+    "zone.types(s.index)": NEW_YORK.types,
+    "zone.spans(s.index)": NEW_YORK.spans,
+    "zone.localize(s.index)": NEW_YORK.localize,
+    "zone.explain(s.index)": NEW_YORK.explain,
+    "zone.start_of_day(s.index)": NEW_YORK.start_of_day,
+    "zone.end_of_day(s.index)": NEW_YORK.end_of_day,
+    "zone.day(s.index)": NEW_YORK.day,
+    "zone.floor(s.index, step)": lambda column: NEW_YORK.floor(column, "h"),
+    "zone.ceil(s.index, step)": lambda column: NEW_YORK.ceil(column, "h"),
+    "moved(old, new, s.index)": lambda column: moved(NEW_YORK, NEW_YORK, column),
+    "localize_many(zones, codes, s.index)": lambda column: localize_many([NEW_YORK], [0] * 3, column),
+    "to_local_many(zones, codes, s.index)": lambda column: to_local_many([NEW_YORK], [0] * 3, column),
+    "from_: a Series s": lambda column: NEW_YORK.changes(column, 0),
+}
+
+
+@pytest.mark.parametrize("line", CALLS)
+def test_times_in_the_index_of_a_series(line):
+    """Its values are what was measured then, and no seconds."""
+    meters = pd.MultiIndex.from_arrays([[1, 2, 3], TIMES])
+    for index in (TIMES, TIMES.tz_localize(None), meters, pd.period_range("2021-07", periods=3, freq="D")):
+        for dtype in ("int64", "uint8", "Int64", "float64", "Float64", "bool"):
+            with pytest.raises(TypeError, match=f"{re.escape(line)}.*") as raised:
+                CALLS[line](pd.Series([0, 1, 1], index).astype(dtype))
+            assert "with times in its index: " in str(raised.value)
+
+
+def test_an_index_of_times_is_no_fault():
+    local, numbers = pd.Series(TIMES, TIMES), pd.Series([0, 1, 2], ["a", "b", "c"])
+    assert NEW_YORK.to_local(local).index is TIMES or NEW_YORK.to_local(local).index.equals(TIMES)
+    assert NEW_YORK.to_local(numbers).tolist() == [-18_000, -17_999, -17_998]
+    assert NEW_YORK.to_local(pd.Series([0], TIMES[:1]).to_numpy()).tolist() == [-18_000]
 
 
 # Refusals

@@ -1,5 +1,7 @@
 """Columns of mixed zones: each row as if its zone was asked about it alone."""
 
+from zoneinfo import ZoneInfo
+
 import numpy as np
 import pandas as pd
 import pytest
@@ -44,7 +46,7 @@ def test_zones_by_key():
         shown = to_local_many(by_name, codes, expected)
         pd.testing.assert_series_equal(shown, to_local_many(ZONES, np.arange(300) % 3, expected))
     answer = localize_many(by_name, keys, values, "shift", "latest", tz="Asia/Tokyo")
-    assert answer.dtype == "datetime64[ns, Asia/Tokyo]"
+    assert answer.dtype == pd.DatetimeTZDtype("ns", ZoneInfo("Asia/Tokyo"))
 
 
 def test_choices_of_mixed_zones():

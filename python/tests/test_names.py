@@ -102,6 +102,7 @@ def forget_tzdata():
     "name, words",
     [
         ("America/New_Yrok", "is it 'America/New_York'"),
+        ("EDT", "no zone has the name 'EDT' in /usr/share/zoneinfo"),
         ("/usr/share/zoneinfo/Asia/Kolkata", "from_file opens a path"),
         ("EST5EDT,M3.2.0,M11.1.0", "from_text reads a TZ string"),
         ("", "no zone has the name ''"),
@@ -122,6 +123,7 @@ def test_names_that_no_zone_has(name, words):
         Zone(name)
     text = str(raised.value)
     assert words in text and text.isprintable() and len(text) < 1_000
+    assert "is it" not in text or name != "EDT"
     assert isinstance(raised.value, sahvumbi.ZoneNotFoundError)
     assert isinstance(raised.value, KeyError)
     assert str(pickle.loads(pickle.dumps(raised.value))) == text
@@ -205,8 +207,9 @@ def test_a_pipe_is_not_waited_for(tmp_path):
     assert len(raised) == 1 and "not a regular file" in str(raised[0])
     with pytest.raises(OSError, match="not a regular file"):
         Zone.from_file("/dev/null")
-    with pytest.raises(IsADirectoryError):
+    with pytest.raises(IsADirectoryError) as of_folder:
         Zone.from_file(tmp_path)
+    assert of_folder.value.filename == str(tmp_path)
 
 
 def test_no_more_is_read_than_a_file_has(tmp_path):
@@ -220,6 +223,16 @@ def test_no_more_is_read_than_a_file_has(tmp_path):
         with pytest.raises(sahvumbi.ZoneRefusedError) as raised:
             Zone.from_file(tmp_path / "large")
         assert raised.value.number == 5
+
+
+def test_a_header_may_say_any_number(tmp_path):
+    """Of 146 GB that this one says none is there."""
+    data = b"TZif2" + bytes(15) + b"\xff" * 24
+    (tmp_path / "head").write_bytes(data)
+    for read in (lambda: Zone.from_bytes(data), lambda: Zone.from_file(tmp_path / "head")):
+        with pytest.raises(sahvumbi.ZoneRefusedError) as raised:
+            read()
+        assert raised.value.number == 7
 
 
 def test_each_file_is_read_whole():
@@ -275,6 +288,13 @@ def test_what_is_printed():
     assert printable("begin" + "a" * WIDTH + "end").startswith("begin")
     assert printable("begin" + "a" * WIDTH + "end").endswith("end")
     assert len(printable("a" * 1_000)) <= WIDTH
+
+
+@pytest.mark.skipif(sys.version_info < (3, 10), reason="Python 3.9 names no class")
+def test_errors_of_python_name_the_class():
+    for ask in (Zone, Zone.from_file, lambda: NEW_YORK.floor([0]), lambda: NEW_YORK.to_local()):
+        with pytest.raises(TypeError, match=r"^Zone\.\w+\(\) missing 1 required positional argument"):
+            ask()
 
 
 def test_a_text_is_a_text():

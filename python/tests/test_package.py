@@ -43,7 +43,10 @@ def test_the_program():
     status, said, wrong = ask("America/New_Yrok")
     assert (status, said) == (1, "") and "America/New_York" in wrong
     assert ask("--help")[0] == 0 and "usage" in ask("--help")[1]
-    assert ask("one", "two")[0] == 1
+    assert ask("--version") == (0, f"sahvumbi {sahvumbi.__version__}\n", "")
+    for words in (["one", "two"], ["--nothing"]):
+        status, said, wrong = ask(*words)
+        assert (status, said) == (2, "") and wrong.startswith("usage: python -m sahvumbi ")
 
 
 def test_the_processor():
@@ -97,7 +100,7 @@ def test_the_wheel(project):
     for name in ("sahvumbi/libzoned_ffi.so", "sahvumbi/py.typed", "sahvumbi/__main__.py"):
         assert name in names
     for name in ("LICENSE", "LICENSE-APACHE"):
-        assert any(other.endswith(f"dist-info/{name}") for other in names)
+        assert any(".dist-info/" in other and other.endswith(f"/{name}") for other in names)
     assert not any(name.startswith("tests") for name in names)
 
 

@@ -10,10 +10,10 @@ from sahvumbi import Zone
 NEW_YORK = Zone.from_text("EST5EDT,M3.2.0,M11.1.0")
 INDEX = pd.Index(["a", "b", "b"], name="row")
 LOCALS = pd.Series(
-    pd.to_datetime(["2021-07-01 08:00:00.5", None, "2021-01-01 07:00"]), index=INDEX, name="when"
+    pd.to_datetime(["2021-07-01 08:00:00.5", None, "2021-01-01 07:00:00.0"]), index=INDEX, name="when"
 )
 INSTANTS = pd.Series(
-    pd.to_datetime(["2021-07-01 12:00:00.5", None, "2021-01-01 12:00"], utc=True),
+    pd.to_datetime(["2021-07-01 12:00:00.5", None, "2021-01-01 12:00:00.0"], utc=True),
     index=INDEX,
     name="when",
 )
@@ -34,7 +34,9 @@ def test_to_local():
 
 
 def test_offsets():
-    expected = pd.Series(pd.to_timedelta([-4, None, -5], "h"), index=INDEX, name="when")
+    # Seconds, of which pandas 1.5 makes nanoseconds.
+    lengths = np.array([-14_400, "NaT", -18_000], "m8[s]")
+    expected = pd.Series(lengths, index=INDEX, name="when")
     pd.testing.assert_series_equal(NEW_YORK.offsets(INSTANTS), expected)
     seconds = pd.Series([0, 1_625_140_800], index=["x", "y"], name="when")
     expected = pd.Series(np.array([-18_000, -14_400], np.int32), index=["x", "y"], name="when")

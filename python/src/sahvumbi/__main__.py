@@ -1,10 +1,8 @@
-"""What is installed here, or what the clocks of a zone show now.
-
-usage: python -m sahvumbi [ZONE]
-"""
+"""Says what is installed here, or what the clocks of a zone show now."""
 
 from __future__ import annotations
 
+import argparse
 import sys
 import time
 import zoneinfo
@@ -39,12 +37,13 @@ def clocks(zone: Zone, instant: int) -> str:
     return "\n".join(lines)
 
 
-def main(words: list[str]) -> int:
-    if len(words) > 1 or any(word.startswith("-") for word in words):
-        print((__doc__ or "").strip())
-        return int(words not in (["-h"], ["--help"]))
+def main() -> int:
+    parser = argparse.ArgumentParser("python -m sahvumbi", description=__doc__)
+    parser.add_argument("zone", nargs="?", help="its name, such as Europe/Paris")
+    parser.add_argument("--version", action="version", version=f"sahvumbi {__version__}")
+    name = parser.parse_args().zone
     try:
-        print(clocks(Zone(words[0]), int(time.time())) if words else about())
+        print(about() if name is None else clocks(Zone(name), int(time.time())))
     except (ZoneNotFoundError, ZoneRefusedError) as error:
         print(f"sahvumbi: {error}", file=sys.stderr)
         return 1
@@ -52,4 +51,4 @@ def main(words: list[str]) -> int:
 
 
 if __name__ == "__main__":
-    sys.exit(main(sys.argv[1:]))
+    sys.exit(main())

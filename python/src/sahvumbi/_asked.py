@@ -122,7 +122,7 @@ def explained(door: Door, column: Column) -> Any:
         ):
             its_offsets[block.rows] = found
             _move(block, -1, found, its_instants)
-            its_instants[block.rows][is_none] = NAT if column.has_nat else 0
+            its_instants[block.rows][is_none] = NAT if column.has_nat or column.is_time else 0
         if block.is_nat is not None:
             shown[block.rows][block.is_nat] = -1
     is_none = (shown != ONCE) & (shown != SEVERAL_TIMES)

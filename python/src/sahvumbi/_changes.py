@@ -102,7 +102,7 @@ def _end(name: str, value: Any) -> Column:
     if isinstance(value, str):
         raise TypeError(f"{name} is a text: numpy.datetime64 and pandas.Timestamp read one")
     try:
-        column = taken(value, may_be_aware=True)
+        column = taken(value, "s.index[0]", may_be_aware=True)
     except OutOfRangeError as error:
         raise OutOfRangeError(None, error.value, error.number, error.words, name) from None
     except TypeError as error:

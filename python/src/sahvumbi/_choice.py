@@ -3,6 +3,7 @@
 from __future__ import annotations
 
 import sys
+from datetime import tzinfo
 from typing import Any, NamedTuple, Optional
 from zoneinfo import ZoneInfo
 
@@ -10,7 +11,9 @@ import numpy as np
 
 from ._columns import Column
 from ._forms import NAT, Array, Failures, SeriesForm
-from ._opening import Opened
+from ._inputs import type_name
+from ._names import bytes_of_key, zoneinfo_of
+from ._opening import Zone
 from .errors import FOLD, GAP, OUT_OF_RANGE, FoldError, GapError, OutOfRangeError, printable
 
 GAPS = ("raise", "shift", "before", "after", "nat")
@@ -49,7 +52,7 @@ class Choice(NamedTuple):
     failures: Optional[list[tuple[Array, Array]]]
     """The rows that have no answer and the numbers of their errors, if they are collected."""
     zone: Any
-    """The zone of the type of the answer, as pandas takes it."""
+    """The zone of the type of the answer: "UTC" or a tzinfo, as pandas takes it."""
 
     def part(self, places: Array) -> Choice:
         """Returns the choice of these rows."""
@@ -117,11 +120,21 @@ def chosen(
 def _zone_of_answer(tz: Any) -> Any:
     if tz is None:
         raise ValueError("tz= is the zone of the instants, and None is none: leave it out for UTC")
-    if isinstance(tz, Opened):
+    if isinstance(tz, Zone):
         if tz.key is None:
             raise ValueError(f"tz= is a zone with a name, and {tz!r} has none")
-        return ZoneInfo(tz.key)
-    return tz
+        if bytes_of_key(tz.key) != tz._spelled()[1]:
+            here = f"this machine's tz database has another zone of that name: tz={tz.key!r} takes it"
+            raise TypeError(f"tz={tz!r} can't be shown, since {here}")
+        tz = tz.key
+    if isinstance(tz, str):
+        # pandas makes a zone of pytz from a name, and that has no rule for the years after 2037.
+        return tz if tz == "UTC" else zoneinfo_of(tz)
+    if isinstance(tz, ZoneInfo) or (isinstance(tz, tzinfo) and tz.utcoffset(None) is not None):
+        return tz
+    advice = ": pass the name of the zone" if isinstance(tz, tzinfo) else ""
+    kinds = "a name, a Zone, a ZoneInfo or a fixed offset"
+    raise TypeError(f"tz= takes {kinds}, and not {type_name(tz)}{advice}")
 
 
 def must_be_among(name: str, word: Any, words: tuple[str, ...]) -> None:

@@ -7,12 +7,13 @@ in seconds.
 
 from __future__ import annotations
 
+from datetime import timedelta, timezone
 from typing import Any, Iterator, Optional
 
 import numpy as np
 
 from ._door import COLUMN_UNITS
-from ._forms import NAT, Array, ArrayForm
+from ._forms import EPOCH, NAT, Array, ArrayForm
 from .errors import OUT_OF_RANGE, OutOfRangeError, RowError
 
 GREATEST = int(np.iinfo(np.int64).max)
@@ -112,7 +113,7 @@ class Column:
         value = self.values[row]
         shown = value.astype(f"M8[{self.unit}]") if self.is_time else int(value)
         place = self.place(row)
-        return kind(place, shown, number, words, self.form.label(place))
+        return kind(self.form.row(place), shown, number, words, self.form.label(place))
 
     @property
     def misfit_words(self) -> str:
@@ -133,7 +134,20 @@ class Column:
 
     def instants(self, values: Array, zone: Any = "UTC") -> Any:
         """The answer of instants; those of pandas' types and of datetime are in a zone."""
+        if zone != "UTC":
+            self._must_be_shown(values, zone)
         return self._times(values, zone)
+
+    def _must_be_shown(self, values: Array, zone: Any) -> None:
+        """Raises TypeError if the answer has no zone, and at a row that pandas would show wrong in it."""
+        if not self.is_time or type(self.form) is ArrayForm:
+            raise TypeError("tz= is for a datetime and for times of pandas: an array and numbers have no zone")
+        times = values[values != NAT]
+        for instant in extremes(times) if times.size else ():
+            shown = _shown_at(instant // self.per_second, zone) * self.per_second
+            if not NAT < shown <= GREATEST - self.per_second:
+                row, words = int((values == instant).argmax()), "its instant can't be shown in tz="
+                raise self.error(OutOfRangeError, row, OUT_OF_RANGE, words)
 
     def _times(self, values: Array, zone: Any) -> Any:
         try:
@@ -155,6 +169,15 @@ class Column:
 
     def plain(self, values: Array) -> Any:
         return self.form.plain(values)
+
+
+def _shown_at(second: int, zone: Any) -> int:
+    """Returns the second that a tzinfo shows at another, or the greatest if datetime has none."""
+    try:
+        moment = (EPOCH + timedelta(seconds=second)).replace(tzinfo=timezone.utc)
+        return (moment.astimezone(zone).replace(tzinfo=None) - EPOCH) // timedelta(seconds=1)
+    except (OverflowError, ValueError):
+        return GREATEST
 
 
 class Block:

@@ -13,7 +13,7 @@ from ._door import NO_OFFSET, Door
 from ._forms import Array
 from ._inputs import taken
 from ._localize import localized
-from ._opening import Opened
+from ._opening import Zone
 from .errors import NO_OFFSET as HAS_NO_OFFSET
 from .errors import NoOffsetError
 
@@ -87,7 +87,7 @@ class Moved(NamedTuple):
 
 def door_of(zone: Any) -> Door:
     """The door of a zone. Raises TypeError if it is none."""
-    if not isinstance(zone, Opened):
+    if not isinstance(zone, Zone):
         raise TypeError(f"a {type(zone).__name__} is no Zone")
     return zone._door
 
@@ -132,8 +132,8 @@ def _must_have_types(door: Door, ends: dict[str, Array]) -> None:
 
 
 def moved(
-    old: Opened,
-    new: Opened,
+    old: Zone,
+    new: Zone,
     local_times: Any,
     gap: Any = "raise",
     fold: Any = "raise",
@@ -155,7 +155,7 @@ def moved(
     >>> found.row, found.new - found.old
     (array([1]), array([-3600], dtype='timedelta64[s]'))
     """
-    column = taken(local_times, may_be_aware=False)
+    column = taken(local_times, "moved(old, new, s.index)", may_be_aware=False)
     choice = chosen(column, gap, fold, is_dst, offset, by)
     before, after = (localized(door_of(zone), column, choice) for zone in (old, new))
     rows = np.flatnonzero(before != after)

@@ -5,7 +5,6 @@ from __future__ import annotations
 import sys
 from datetime import datetime, timedelta, timezone
 from typing import Any, NamedTuple, Optional
-from zoneinfo import ZoneInfo
 
 import numpy as np
 import numpy.typing as npt
@@ -29,6 +28,10 @@ class ArrayForm:
     def __init__(self, shape: tuple[int, ...]):
         self.shape = shape
 
+    def row(self, row: int) -> Optional[int]:
+        """Returns the row as errors have it: one value has none."""
+        return row if self.shape else None
+
     def label(self, row: int) -> Any:
         """Returns the row's label in an index, or None."""
         return None
@@ -39,8 +42,6 @@ class ArrayForm:
 
     def times(self, values: Array, unit: Optional[str], zone: Any) -> Any:
         """Returns a column of times: local times if `zone` is None, and else instants."""
-        if zone not in (None, "UTC"):
-            raise TypeError("tz= is for a Series, an Index or a datetime: an array has no zone")
         return self.plain(values if unit is None else values.view(f"M8[{unit}]"))
 
     def numbers(self, values: Array) -> Any:
@@ -141,7 +142,7 @@ class TimestampForm(ArrayForm):
     def lengths(self, values: Array) -> Any:
         import pandas
 
-        return pandas.Timedelta(values[0])
+        return pandas.NaT if np.isnat(values[0]) else pandas.Timedelta(values[0])
 
 
 class DatetimeForm(ArrayForm):
@@ -159,12 +160,10 @@ class DatetimeForm(ArrayForm):
         if zone is None:
             return moment
         aware = moment.replace(tzinfo=timezone.utc)
-        if zone == "UTC":
-            return aware
-        return aware.astimezone(ZoneInfo(zone) if isinstance(zone, str) else zone)
+        return aware if zone == "UTC" else aware.astimezone(zone)
 
     def lengths(self, values: Array) -> Any:
-        return timedelta(seconds=int(values[0].astype(np.int64)))
+        return None if np.isnat(values[0]) else timedelta(seconds=int(values[0].astype(np.int64)))
 
 
 class Failures(NamedTuple):

@@ -19,8 +19,10 @@ MOST = {"M": 12 * 292_277_000_000, "Y": 292_277_000_000}
 COLUMNS = "an array or a list of int64 or datetime64, a Series, an Index and a datetime are"
 
 
-def taken(values: Any, may_be_aware: bool) -> Column:
-    """The column that a user hands over. Raises TypeError if it isn't one."""
+def taken(values: Any, line: str, may_be_aware: bool) -> Column:
+    """The column that a user hands over. Raises TypeError if it isn't one.
+
+    `line` is the call as it is written for the times in the index of a Series."""
     if isinstance(values, (np.ndarray, np.generic)):
         if isinstance(values, np.ma.MaskedArray):
             raise TypeError(
@@ -31,20 +33,22 @@ def taken(values: Any, may_be_aware: bool) -> Column:
         return _of_list(values)
     pandas = sys.modules.get("pandas")
     if pandas is not None and isinstance(values, (pandas.Series, pandas.Index)):
+        _must_have_times(pandas, values, line)
         return _of_pandas(pandas, values, may_be_aware)
     if isinstance(values, datetime):
         return _of_datetime(pandas, values, may_be_aware)
-    raise TypeError(f"a {_type_name(values)} is no column of time: {_advice(values)}")
+    raise TypeError(f"a {type_name(values)} is no column of time: {_advice(values)}")
 
 
-def taken_days(values: Any) -> Column:
+def taken_days(values: Any, line: str) -> Column:
     """The column of local times that a user hands over, or one date: its midnight."""
     if isinstance(values, date) and not isinstance(values, datetime):
         values = datetime.combine(values, time())
-    return taken(values, may_be_aware=False)
+    return taken(values, line, may_be_aware=False)
 
 
-def _type_name(value: Any) -> str:
+def type_name(value: Any) -> str:
+    """Returns the name of a value's type, and the package that it is of."""
     kind = type(value)
     place = kind.__module__.partition(".")[0]
     return kind.__name__ if place in ("builtins", "datetime") else f"{place} {kind.__name__}"
@@ -75,6 +79,12 @@ def _of_list(values: Any) -> Column:
     array = np.asarray(values)
     if array.size == 0:
         array = array.astype(np.int64)
+    if array.dtype.kind in "fO":
+        numbers = np.asarray(values, object)
+        if all(isinstance(each, (int, np.integer)) for each in numbers.flat):
+            # No type of numpy has them all.
+            misfits = (numbers < NAT) | (numbers > GREATEST)
+            _must_fit(numbers, misfits.reshape(-1), "int64", ArrayForm(array.shape))
     return _of_array(array)
 
 
@@ -82,8 +92,11 @@ def _of_datetime(pandas: Any, value: datetime, may_be_aware: bool) -> Column:
     if value.tzinfo is not None and not may_be_aware:
         raise TypeError("a local time has no zone, and this one has: replace(tzinfo=None) drops it")
     if pandas is not None and (value is pandas.NaT or isinstance(value, pandas.Timestamp)):
-        array = np.asarray(value.to_datetime64())  # type: ignore[attr-defined]
-        column = _of_array(array)
+        moment = value.to_datetime64()  # type: ignore[attr-defined]
+        if 1678 <= value.year <= 2261:
+            # One of pandas 2 may count seconds. Its day ends with a nanosecond, as in pandas 1.
+            moment = moment.astype("M8[ns]")
+        column = _of_array(np.asarray(moment))
         column.form = TimestampForm()
         return column
     since = value.replace(tzinfo=None) - EPOCH - (value.utcoffset() or timedelta(0))
@@ -92,6 +105,17 @@ def _of_datetime(pandas: Any, value: datetime, may_be_aware: bool) -> Column:
 
 
 # Series and Indexes
+
+
+def _must_have_times(pandas: Any, values: Any, line: str) -> None:
+    """Raises TypeError for a Series of numbers whose index has the times."""
+    index = getattr(values, "index", None)
+    if index is None or values.dtype.kind not in "biuf":
+        return
+    kinds = pandas.DatetimeIndex, pandas.PeriodIndex
+    if any(isinstance(each, kinds) for each in getattr(index, "levels", [index])):
+        advice = f"{line} asks about those, and s.to_numpy() has the numbers only"
+        raise TypeError(f"a Series s of {values.dtype} with times in its index: {advice}")
 
 
 def _of_pandas(pandas: Any, values: Any, may_be_aware: bool) -> Column:
@@ -192,6 +216,5 @@ def _must_fit(array: Array, misfits: Array, what: str, form: ArrayForm) -> None:
         row = int(misfits.argmax())
         value = array.reshape(-1)[row]
         shown = value if array.dtype.kind == "M" else int(value)
-        raise OutOfRangeError(
-            row, shown, OUT_OF_RANGE, f"it does not fit {what}", form.label(row)
-        )
+        words = f"it does not fit {what}"
+        raise OutOfRangeError(form.row(row), shown, OUT_OF_RANGE, words, form.label(row))

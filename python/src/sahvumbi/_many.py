@@ -44,7 +44,7 @@ def localize_many(
     array(['2021-07-01T06:30:00', '2021-07-01T16:00:00'],
           dtype='datetime64[s]')
     """
-    column = taken(local_times, may_be_aware=False)
+    column = taken(local_times, "localize_many(zones, codes, s.index)", may_be_aware=False)
     choice = chosen(column, gap, fold, is_dst, offset, by, errors, tz)
 
     def ask(zone: Zone, places: Array) -> Array:
@@ -59,7 +59,7 @@ def to_local_many(zones: Zones, codes: Any, instants: Any) -> Any:
     >>> to_local_many([Zone("America/New_York"), Zone("Asia/Kolkata")], [1, 0], [0, 0])
     array([ 19800, -18000])
     """
-    column = taken(instants, may_be_aware=True)
+    column = taken(instants, "to_local_many(zones, codes, s.index)", may_be_aware=True)
 
     def ask(zone: Zone, places: Array) -> Array:
         return local_times(zone._door, column.part(places))

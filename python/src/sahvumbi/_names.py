@@ -45,32 +45,43 @@ def bytes_of_key(key: str) -> bytes:
     return found
 
 
+def zoneinfo_of(key: str) -> zoneinfo.ZoneInfo:
+    """Returns the ZoneInfo of a name. Raises `ZoneNotFoundError` if there is none."""
+    try:
+        return zoneinfo.ZoneInfo(key)
+    except (LookupError, OSError, ValueError):
+        raise ZoneNotFoundError(_not_found(key)) from None
+
+
 def bytes_of_file(path: Union[str, os.PathLike[str]]) -> bytes:
     """Returns the bytes of a file, as many as its headers say that a TZif file has.
 
     Raises OSError if it can't be read, also if it is a pipe or a device: those are not waited for.
     """
-    descriptor = os.open(path, os.O_RDONLY | os.O_NONBLOCK | os.O_CLOEXEC)
-    with open(descriptor, "rb") as file:
-        mode = os.fstat(descriptor).st_mode
-        if stat.S_ISDIR(mode):
-            raise IsADirectoryError(errno.EISDIR, os.strerror(errno.EISDIR), os.fspath(path))
-        if not stat.S_ISREG(mode):
+    with open(path, "rb", opener=_opened) as file:
+        status = os.fstat(file.fileno())
+        if not stat.S_ISREG(status.st_mode):
             raise OSError(errno.EINVAL, "not a regular file", os.fspath(path))
-        return _bytes_of_zone(file)
+        return _bytes_of_zone(file, status.st_size)
 
 
-def _bytes_of_zone(file: BinaryIO) -> bytes:
-    """Returns the blocks of a TZif file (RFC 8536, section 3), and what may be its footer."""
+def _opened(path: str, flags: int) -> int:
+    return os.open(path, flags | os.O_NONBLOCK)
+
+
+def _bytes_of_zone(file: BinaryIO, size: int) -> bytes:
+    """Returns the blocks of a TZif file (RFC 8536, section 3), and what may be its footer.
+
+    A header may say any number: what is read takes no more memory than the file has bytes."""
     data = file.read(HEADER)
     if len(data) < HEADER or data[:4] != b"TZif":
         return data
-    data += file.read(_block(data, 4))
+    data += file.read(min(size, _block(data, 4)))
     if data[4] == 0:
         return data + file.read(1)
     header = file.read(HEADER)
     if len(header) == HEADER:
-        header += file.read(_block(header, 8))
+        header += file.read(min(size, _block(header, 8)))
     return data + header + file.read(FOOTER)
 
 
@@ -113,6 +124,6 @@ def _not_found(key: str) -> str:
     folders, names = ", ".join(zoneinfo.TZPATH) or "TZPATH", zones()
     if not names:
         return f"{shown}: no tz database is in {folders}, and pip install tzdata brings one"
-    near = difflib.get_close_matches(key[:40], names, 1)
+    near = difflib.get_close_matches(key[:40], names, 1, cutoff=0.8)
     hint = f"; is it {near[0]!r}?" if near else ""
     return f"{shown} in {folders}, the package tzdata{hint}"

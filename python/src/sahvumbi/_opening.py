@@ -9,10 +9,11 @@ from zoneinfo import ZoneInfo
 from ._door import FILE, TEXT, Door
 from ._names import bytes_of_file, bytes_of_key
 
-Self = TypeVar("Self", bound="Opened")
+Self = TypeVar("Self", bound="Zone")
 
 
-class Opened:
+# Each of the three classes that make the public one has its name, which Python's errors show.
+class Zone:
     """A zone that is opened by its name, or made of a file, of bytes or of a TZ string."""
 
     __slots__ = ("_door", "_key", "_made", "__weakref__")
@@ -104,7 +105,7 @@ class Opened:
 
     def __eq__(self, other: object) -> bool:
         """Whether both were read from the same bytes in the same way."""
-        return isinstance(other, Opened) and self._spelled() == other._spelled()
+        return isinstance(other, Zone) and self._spelled() == other._spelled()
 
     def __hash__(self) -> int:
         return hash(self._spelled())

@@ -30,11 +30,12 @@ class Undecided(NamedTuple):
 
 def decide(column: Column, answers: Array, folds: Folds, groups: Optional[Array]) -> None:
     """Writes the instants of the folds, by the one choice in which no row comes before an earlier
-    row of its group.
+    row of its group. If several keep this order, it is the one in which no two neighbours are the
+    same instant.
 
     `answers` has the first instant of each row, and NaT for those that have no part in the order.
-    Raises `FoldError` at the first row in which two such choices differ, or at the first row up to
-    which there is none.
+    Raises `FoldError` at the first row in which two choices keep the order and differ, or at the
+    first row up to which none does.
     """
     faults = []
     for sequence in _sequences(column, answers, folds, groups):
@@ -102,31 +103,41 @@ def _decided(first: Array, opens: Array, last: Array) -> tuple[Array, Optional[U
     first_near = first[near]
     last_near = first_near.copy()
     last_near[places] = last
-    earliest, count = _earliest(first_near, last_near)
-    stuck = _steps_back(first, opens) + near[count : count + 1].tolist()
+    earliest, latest, count = _ends(np.less, first_near, last_near)
+    stuck = _steps_back(np.less, first, opens) + near[count : count + 1].tolist()
     if stuck:
         return earliest, Undecided(min(stuck), OUT_OF_ORDER)
-    latest = -_earliest(-last_near[::-1], -first_near[::-1])[0][::-1]
     differ = near[earliest != latest]
-    if differ.size:
+    if differ.size and not _steps_back(np.less_equal, first, opens):
+        # Several choices keep the order: does one without two neighbours that are the same instant?
+        earliest, latest, count = _ends(np.less_equal, first_near, last_near)
+    if count < near.size or (earliest != latest).any():
         return earliest, Undecided(int(differ[0]), TWO_WAYS)
     return earliest[places], None
 
 
-def _steps_back(first: Array, opens: Array) -> list[int]:
-    """The first row that comes before the row above it, if none of the two is open."""
-    back = 1 + np.flatnonzero(first[1:] < first[:-1])
-    back = back[~np.isin(back, opens) & ~np.isin(back - 1, opens)]
-    found: list[int] = back[:1].tolist()
+def _steps_back(falls: Any, first: Array, opens: Array) -> list[int]:
+    """The first row that `falls` behind the row above it, if none of the two is open."""
+    back = falls(first[1:], first[:-1])
+    back[opens[opens > 0] - 1] = back[opens[opens < back.size]] = False
+    found: list[int] = (1 + np.flatnonzero(back)[:1]).tolist()
     return found
 
 
-def _earliest(first: Array, last: Array) -> tuple[Array, int]:
-    """The least instants that rise with the rows, and up to how many rows there are such."""
+def _ends(falls: Any, first: Array, last: Array) -> tuple[Array, Array, int]:
+    """The least and the greatest choice in which no row `falls` behind those above it, and how many
+    rows have one."""
+    earliest, count = _earliest(falls, first, last)
+    latest, _ = _earliest(falls, -last[::-1], -first[::-1])
+    return earliest, -latest[::-1], count
+
+
+def _earliest(falls: Any, first: Array, last: Array) -> tuple[Array, int]:
+    """The least choice in which no row `falls` behind those above it, and how many rows have one."""
     chosen, count = first.copy(), first.size
     while True:
         reached = np.maximum.accumulate(chosen[:count])
-        behind = 1 + np.flatnonzero(chosen[1:count] < reached[:-1])
+        behind = 1 + np.flatnonzero(falls(chosen[1:count], reached[:-1]))
         if not behind.size:
             return chosen, count
         stuck = behind[chosen[behind] == last[behind]]

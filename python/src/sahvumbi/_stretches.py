@@ -12,11 +12,11 @@ from ._days import Days, Step
 from ._differences import Differences, door_of, of_zones
 from ._forms import Array
 from ._inputs import taken, taken_days
-from ._opening import Opened
+from ._opening import Zone as Opened
 from ._types import Labelled, Labels, Moment, Rows, Single, Spans
 
 
-class Stretches(Opened):
+class Zone(Opened):
     """The calls of a zone about stretches of time."""
 
     __slots__ = ()
@@ -47,7 +47,7 @@ class Stretches(Opened):
         array(['1919-03-30T05:00:00', '1919-03-31T04:30:00'],
               dtype='datetime64[s]')
         """
-        column = taken_days(dates)
+        column = taken_days(dates, "zone.start_of_day(s.index)")
         return column.instants(of_days.starts(self._door, column))
 
     @overload
@@ -63,9 +63,9 @@ class Stretches(Opened):
         """Returns the last instant of the day of each date, or local time.
 
         It is the last of the column's unit before the next day begins: a second, or a nanosecond of
-        a Series. A day that clocks skipped has none: NaT, or a `GapError` if the column has no NaT.
-        An interval is simpler with its exclusive end, as `day` has it. Dates and other errors are
-        as in `start_of_day`.
+        a Series or a Timestamp. A day that clocks skipped has none: NaT, or a `GapError` if the
+        column has no NaT. An interval is simpler with its exclusive end, as `day` has it. Dates and
+        other errors are as in `start_of_day`.
 
         >>> import pandas
         >>> from sahvumbi import Zone
@@ -73,7 +73,7 @@ class Stretches(Opened):
         0   2011-12-30 09:59:59.999999999+00:00
         dtype: datetime64[ns, UTC]
         """
-        column = taken_days(dates)
+        column = taken_days(dates, "zone.end_of_day(s.index)")
         return column.instants(of_days.ends(self._door, column))
 
     @overload
@@ -91,10 +91,10 @@ class Stretches(Opened):
 
         >>> from sahvumbi import Zone
         >>> day = Zone("America/St_Johns").day(1_130_640_000)
-        >>> day.date, day.start, day.until
-        (1130630400, 1130639400, 1130729400)
+        >>> print(day.date, day.start, day.until)
+        1130630400 1130639400 1130729400
         """
-        return of_days.days(self._door, taken(instants, may_be_aware=True))
+        return of_days.days(self._door, taken(instants, "zone.day(s.index)", may_be_aware=True))
 
     @overload
     def floor(self, instants: Rows, step: Step) -> Array: ...
@@ -119,7 +119,7 @@ class Stretches(Opened):
         array(['2021-11-07T05:00:00', '2021-11-07T06:00:00'],
               dtype='datetime64[s]')
         """
-        column = taken(instants, may_be_aware=True)
+        column = taken(instants, "zone.floor(s.index, step)", may_be_aware=True)
         return column.instants(of_days.floored(self._door, column, step))
 
     @overload
@@ -143,7 +143,7 @@ class Stretches(Opened):
         array(['2021-11-07T06:00:00', '2021-11-07T06:00:00'],
               dtype='datetime64[s]')
         """
-        column = taken(instants, may_be_aware=True)
+        column = taken(instants, "zone.ceil(s.index, step)", may_be_aware=True)
         return column.instants(of_days.ceiled(self._door, column, step))
 
     # Spans and changes
@@ -163,10 +163,10 @@ class Stretches(Opened):
 
         >>> from sahvumbi import Zone
         >>> span = Zone("America/New_York").spans(1_609_459_200)
-        >>> span.abbreviation, span.from_, span.until
-        ('EST', 1604210400, 1615705200)
+        >>> print(span.abbreviation, span.from_, span.until)
+        EST 1604210400 1615705200
         """
-        return asked.spans(self._door, taken(instants, may_be_aware=True))
+        return asked.spans(self._door, taken(instants, "zone.spans(s.index)", may_be_aware=True))
 
     # Changes
 

@@ -41,7 +41,7 @@ class WallClocks(NamedTuple):
     shown: npt.NDArray[np.int8]
     """How often: 0 never, 1 once, 2 several times; 3 out of range, -1 NaT."""
     first: npt.NDArray[Any]
-    """The first instant that shows it, counted as the column is; if none does, NaT or 0."""
+    """The first instant that shows it, counted as the column is; if none does, NaT, None or 0."""
     last: npt.NDArray[Any]
     """The last one."""
     first_offset: npt.NDArray[Any]

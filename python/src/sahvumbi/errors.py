@@ -91,7 +91,7 @@ class RowError(ZoneError):
 
     `row` is its place from 0 on, in the order of the rows (of an array of several dimensions in C
     order), `value` is what the column has there, and `label` is its label in the index of a Series,
-    else None. Of an end of a stretch `row` is None, and `label` the end's name.
+    else None. Of one value and of an end of a stretch `row` is None; `label` is the end's name.
     """
 
     def __init__(
@@ -107,12 +107,11 @@ class RowError(ZoneError):
         super().__init__(row, value, number, self.words, label)
 
     def __str__(self) -> str:
-        place = f"row {self.row}"
+        text = f"{printable(self.value)}: {self.words} ({self.number})"
         if self.row is None:
-            place = printable(self.label)
-        elif self.label is not None:
-            place += f" (label {printable(repr(self.label))})"
-        return f"{place}: {printable(self.value)}: {self.words} ({self.number})"
+            return text if self.label is None else f"{printable(self.label)}: {text}"
+        label = "" if self.label is None else f" (label {printable(repr(self.label))})"
+        return f"row {self.row}{label}: {text}"
 
 
 class GapError(RowError):

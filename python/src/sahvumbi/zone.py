@@ -10,7 +10,7 @@ from ._choice import chosen
 from ._forms import Array, Failures
 from ._inputs import taken
 from ._localize import localized
-from ._stretches import Stretches
+from ._stretches import Zone as Stretches
 from ._types import Fold, Gap, Labelled, Labels, LocalTypes, Moment, Rows, Single, Times, WallClocks
 
 
@@ -60,7 +60,7 @@ class Zone(Stretches):
         >>> Zone("America/New_York").offsets([1_615_705_199, 1_615_705_200])
         array([-18000, -14400], dtype=int32)
         """
-        return asked.offsets(self._door, taken(instants, may_be_aware=True))
+        return asked.offsets(self._door, taken(instants, "zone.offsets(s.index)", may_be_aware=True))
 
     @overload
     def to_local(self, instants: Rows) -> Array: ...
@@ -82,7 +82,7 @@ class Zone(Stretches):
         >>> Zone("Asia/Kolkata").to_local(datetime(2021, 7, 1, 12))
         datetime.datetime(2021, 7, 1, 17, 30)
         """
-        column = taken(instants, may_be_aware=True)
+        column = taken(instants, "zone.to_local(s.index)", may_be_aware=True)
         return column.local_times(asked.local_times(self._door, column))
 
     @overload
@@ -102,7 +102,7 @@ class Zone(Stretches):
         >>> types.abbreviation
         array(['EST', 'EDT'], dtype='<U7')
         """
-        return asked.types(self._door, taken(instants, may_be_aware=True))
+        return asked.types(self._door, taken(instants, "zone.types(s.index)", may_be_aware=True))
 
     # Local times
 
@@ -147,7 +147,8 @@ class Zone(Stretches):
         """Returns the instant at which the zone's clocks show each local time.
 
         Instants are counted as the local times are; those of pandas' types and of datetime are in
-        the zone `tz`, which is UTC unless it is given.
+        the zone `tz`, which is UTC unless it is given: a name, a Zone with a name, a ZoneInfo or a
+        fixed offset. A name becomes a ZoneInfo.
 
         `gap` says what to return for a local time that clocks skipped: 'raise' a `GapError`;
         'shift' the instant by the offset before the gap, as on a clock that was not set forward;
@@ -157,8 +158,9 @@ class Zone(Stretches):
         `fold` says what to return for one that clocks showed several times: 'raise' a `FoldError`;
         'earliest' the first instant that shows it; 'latest' the last one; 'nat' NaT; 'infer' the
         instant that the order of rows decides. For 'infer' rows are in order of time, and each row
-        is a first or a last instant: if exactly one choice keeps the rows in order, it is used, and
-        otherwise `FoldError` is raised. (NaT has no part in the order.)
+        is a first or a last instant. If exactly one choice keeps the rows in order, it is used. If
+        several do, the one in which no two neighbouring rows are the same instant is used, if there
+        is exactly one. Otherwise `FoldError` is raised. NaT has no part in the order.
         `by`, a column of keys, makes it the order of the rows of each key.
 
         A second column can decide folds row by row: `fold` as an array of 0 for the
@@ -192,7 +194,7 @@ class Zone(Stretches):
         array(['2021-11-07T05:10:00', '2021-11-07T05:50:00',
                '2021-11-07T06:20:00'], dtype='datetime64[s]')
         """
-        column = taken(local_times, may_be_aware=False)
+        column = taken(local_times, "zone.localize(s.index)", may_be_aware=False)
         choice = chosen(column, gap, fold, is_dst, offset, by, errors, tz)
         return choice.answer(column, localized(self._door, column, choice))
 
@@ -206,7 +208,8 @@ class Zone(Stretches):
 
         `shown` is 0 for never, 1 for once, 2 for several times, 3 for out of range and -1 for NaT. Of a
         Series or an Index the answer is a DataFrame with its labels, and a column for each field of
-        `WallClocks`. Raises `OutOfRangeError` if an instant doesn't fit the column's type.
+        `WallClocks`. Fields without a time are NaT, None for a datetime, or 0 in columns of int64.
+        Raises `OutOfRangeError` if an instant doesn't fit the column's type.
 
         >>> explained = Zone("America/New_York").explain([1_615_689_000, 1_636_248_600])
         >>> explained.shown
@@ -216,4 +219,4 @@ class Zone(Stretches):
         >>> explained.last_offset
         array([     0, -18000], dtype=int32)
         """
-        return asked.explained(self._door, taken(local_times, may_be_aware=False))
+        return asked.explained(self._door, taken(local_times, "zone.explain(s.index)", may_be_aware=False))
