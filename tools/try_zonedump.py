@@ -4,20 +4,23 @@ writes.
 
 usage: tools/try_zonedump.py [ZONEDUMP]
 
-ZONEDUMP is the built program (crates/zonedump/out/zonedump). It is run on a folder, a zip, an empty file, a text file, a file
-cut short, one above the limit, one that isn't there, a wrong TZ string and wrong arguments, on a good file among wrong ones, on
-names that aren't UTF-8, and with a full standard output. Each run must end with the status, the output and the line on standard error that are due. The JSON
-of a file and of a TZ string must have the changes of the table. A file that is written must print as the one that was read, and
-show the same times in Python's zoneinfo. A file that can't be written whole must be left as it was, without a temporary file
-beside it, and one that is written again and again must never be seen in part. A picture must be the one in docs/, have the changes of the table as steps of its line
-at their places, and the wall clocks of the table in its panels. Prints a line for each run, and ends with status 1 if an answer
-differs. It takes a few seconds and builds nothing.
+ZONEDUMP is the built program (crates/zonedump/out/zonedump). It is run on a folder, a zip, an empty file, a text file, a file cut
+short, one above the limit, one that isn't there, a wrong TZ string and wrong arguments, on a good file among wrong ones, on names
+that aren't UTF-8 or don't print, and with a standard output that is full or closed. Each run must end with the status, the output
+and the line on standard error that are due. Folders are compared of which some parts can't be read, and large files are no zones.
+The JSON of a file and of a TZ string must have the changes of the table. A file that is written must print as the one that was
+read, and show the same times in Python's zoneinfo. A file that can't be written whole must be left as it was, without a temporary
+file beside it, and one that is written again and again must never be seen in part. A picture must be the one in docs/, have the
+changes of the table as steps of its line at their places, and the wall clocks of the table in its panels. Prints a line for each
+run, and ends with status 1 if an answer differs. It takes half a minute, and needs the C compiler cc for the two lines that
+choose a random number.
 """
 
 import json
 import os
 import re
 import resource
+import shutil
 import signal
 import subprocess
 import sys
@@ -39,9 +42,28 @@ LIMIT = 64 << 20
 
 def run(program, *words, folder=None, redirect="", before=None):
     """Runs the program; gives its status, output and error text."""
-    done = subprocess.run(["sh", "-c", f'exec "$0" "$@" {redirect}', str(program), *words], cwd=folder,
-                          capture_output=True, timeout=SECONDS, text=True, preexec_fn=before)
+    try:
+        done = subprocess.run(["sh", "-c", f'exec "$0" "$@" {redirect}', str(program), *words], cwd=folder,
+                              capture_output=True, timeout=SECONDS, text=True, preexec_fn=before)
+    except subprocess.TimeoutExpired:
+        return None, "", f"no answer in {SECONDS} s"
     return done.returncode, done.stdout, done.stderr
+
+
+def unread(program, *words, folder=None):
+    """Runs the program with a standard output whose reader has gone; gives its status and error text."""
+    reader, writer = os.pipe()
+    os.close(reader)
+    done = subprocess.run([str(program), *words], cwd=folder, stdout=writer, stderr=subprocess.PIPE, timeout=SECONDS, text=True)
+    os.close(writer)
+    return done.returncode, done.stderr
+
+
+def as_nobody():
+    """Gives up root's leave to read every file."""
+    if os.getuid() == 0:
+        os.setgid(65534)
+        os.setuid(65534)
 
 
 def no_large_files():
@@ -148,7 +170,34 @@ def try_failed_writes(program, folder):
     check("  nothing else is left", sorted(["link", "old", "old.0.tmp", "zone", long]), sorted(os.listdir(place)))
     pipe = run(program, "--write", "/dev/stdout", "zone", folder=place, redirect="| head -c 5")
     check("--write to a pipe", "TZif2", pipe[1])
+    try_leftovers(program, place)
     try_readers(program, place)
+
+
+def try_leftovers(program, place):
+    """What killed runs have left is never in the way, and a file that is in the way is named and stays. A file that is replaced
+    loses the bits that let others run it as its owner."""
+    due = dict.fromkeys([f"old.{number}.tmp" for number in range(1000)], b"MINE")
+    for name, data in due.items():
+        (place / name).write_bytes(data)
+    for option in ("--write", "--svg"):
+        check(f"{option} where a thousand runs were killed", (0, "", ""), run(program, option, "old", "zone", folder=place))
+    check("  what they left stays", due, {name: (place / name).read_bytes() for name in due})
+    for name in due:
+        (place / name).unlink()
+    (place / "old").chmod(0o6751)
+    check("--write to a set-uid file", (0, "", ""), run(program, "--write", "old", "zone", folder=place))
+    check("  its mode", 0o751, (place / "old").stat().st_mode & 0o7777)
+    whole = (place / "old").read_bytes()
+    (place / "sevens.c").write_text("#include <string.h>\nint getentropy(void *p, size_t n) { memset(p, 7, n); return 0; }\n")
+    subprocess.run(["cc", "-shared", "-fPIC", "-o", "sevens.so", "sevens.c"], cwd=place, check=True)
+    taken = f"old.{int.from_bytes(bytes([7] * 8), 'little')}.tmp"
+    (place / taken).write_bytes(b"MINE")
+    seven = subprocess.run([str(program), "--write", "old", "zone"], cwd=place, capture_output=True, timeout=SECONDS, text=True,
+                           env={**os.environ, "LD_PRELOAD": str(place / "sevens.so")})
+    check("--write where a file is in the way", (1, "", f"zonedump: {place.resolve() / taken}: File exists (os error 17)\n"),
+          (seven.returncode, seven.stdout, seven.stderr))
+    check("  both files stay", (whole, b"MINE"), ((place / "old").read_bytes(), (place / taken).read_bytes()))
 
 
 def try_readers(program, place):
@@ -175,6 +224,54 @@ def try_names(program, folder):
     check("--text of one", (1, "", "zonedump: A\\xe9B0: not a TZ string: not UTF-8\n"), run(program, "--text", "A\udce9B0"))
     status, output, errors = run(program, "--from", "\udce9", "good", folder=folder)
     check("--from of one", (2, "", True, False), (status, output, "'\\xe9'" in errors, "\0" in errors))
+    try_controls(program, folder)
+
+
+def try_controls(program, folder):
+    """Names with characters that control a terminal, end a line or turn text around."""
+    name, shown = "a\x1b[31m\nb\x7f\x85\u202eé'\\", "a\\u{1b}[31m\\nb\\u{7f}\\u{85}\\u{202e}é'\\"
+    check("a name with controls", (1, "", f"zonedump: {shown}: No such file or directory (os error 2)\n"),
+          run(program, name, folder=folder))
+    (folder / name).write_bytes(b"TZig" + bytes(60))
+    check("  of a wrong file", refused(shown, MAGIC), run(program, name, folder=folder))
+    (folder / name).write_bytes((folder / "good").read_bytes())
+    year = ("--from", "2021", "--to", "2021")
+    table = run(program, *year, "good", folder=folder)[1].removeprefix("good")
+    check("  of a table", (0, shown + table, ""), run(program, *year, name, folder=folder))
+    lines = run(program, *year, "--zdump", "good", folder=folder)[1]
+    check("  of the lines of zdump", (0, re.sub("(?m)^good", lambda _: shown, lines), ""),
+          run(program, *year, "--zdump", name, folder=folder))
+    check("  of JSON", name, json.loads(run(program, *year, "--json", name, folder=folder)[1])["zone"])
+    check("  to be written", (1, "", f"zonedump: none/{shown}: No such file or directory (os error 2)\n"),
+          run(program, "--write", f"none/{name}", "good", folder=folder))
+    for text in (f"--text={name}", f"--from={name}", f"--{name}"):
+        status, output, errors = run(program, text, folder=folder)
+        check(f"  in {text!r}", (True, "", False), (status > 0, output, any(letter in errors for letter in "\x1b\x7f\x85\u202e")))
+    (folder / "odd").mkdir()
+    (folder / "odd" / name).write_bytes((folder / "good").read_bytes())
+    (folder / "even").mkdir()
+    check("  of a lone zone", (1, f"{shown}: only in odd\n", ""), run(program, "--diff", "odd", "even", folder=folder))
+    run(program, "--write", f"even/{name}", "--text", "EST5EDT,M3.2.0,M11.1.0", folder=folder)
+    check("  of a zone that differs", shown, run(program, "--diff", "odd", "even", folder=folder)[1].split("\n")[0])
+
+
+def try_empty(program):
+    """What a table calls the zone of an empty TZ string, which is UTC."""
+    check("--text ''", "''", run(program, "--text", "")[1].split("\n")[0])
+
+
+def try_closed(program, folder):
+    """A standard output that nobody reads ends a run without a word, and the status of what came before. That of --diff still says
+    whether the zones differ."""
+    for words in (["good"], ["good", "good"], ["--json", "good"], ["--zdump", "good"], ["--text", "UTC0"], ["--help"], ["--version"]):
+        check(f"{' '.join(words)}, unread", (0, ""), unread(program, *words, folder=folder))
+    missing = "zonedump: missing: No such file or directory (os error 2)\n"
+    check("a missing file and a good one, unread", (1, missing), unread(program, "missing", "good", folder=folder))
+    check("--diff, unread", (1, ""), unread(program, "--diff", "good", "new", folder=folder))
+    check("--json --diff of one file, unread", (0, ""), unread(program, "--json", "--diff", "good", "good", folder=folder))
+    broken = "zonedump: after/moved: not a TZif file: "
+    status, errors = unread(program, "--diff", "before", "after", folder=folder)
+    check("--diff of folders, unread", (2, True), (status, errors.startswith(broken)))
 
 
 def try_extended(program, folder):
@@ -228,12 +325,76 @@ def try_folders(program, folder, line):
     check("--json --diff of two folders", (1, "", [{"only": "after/b/added"}, {"only": "before/gone"}]), (status, errors, told[:2]))
     check("the zone that differs", [("before/moved", "after/moved", [-3600])],
           [(each["old"], each["new"], [d["moved"] for d in each["differences"]]) for each in told[2:]])
-    check("--diff of a file and a folder", (2, "", "zonedump: --diff takes two files or two folders\n"),
-          run(program, "--diff", "good", "before", folder=folder))
+    for words in (("good", "before"), ("before", "good")):
+        why = "zonedump: --diff takes two files or two folders (before is a folder, good is not)\n"
+        check(f"--diff of {' and '.join(words)}", (2, "", why), run(program, "--diff", *words, folder=folder))
+    why = "zonedump: missing: No such file or directory (os error 2)\n"
+    for words in (("good", "missing"), ("before", "missing"), ("missing", "before")):
+        check(f"--diff of {' and '.join(words)}", (2, "", why), run(program, "--diff", *words, folder=folder))
+    check("--diff of two that are missing", (2, "", why + why), run(program, "--diff", "missing", "missing", folder=folder))
+    try_no_zones(program, folder, years, lines)
+    try_unreadable(program, folder, years, lines)
     (folder / "after/moved").write_bytes((folder / "good").read_bytes()[:60])
     status, output, errors = run(program, *years, "--diff", "before", "after", folder=folder)
     check("--diff of folders with a broken file", (2, "b/added: only in after\ngone: only in before\n", True),
           (status, output, errors.startswith("zonedump: after/moved: not a TZif file: ")))
+
+
+def try_no_zones(program, folder, years, lines):
+    """Files that don't begin as a TZif file are none, however large they are, and are not read: reading these takes minutes."""
+    (folder / "before/large").hardlink_to(folder / "large")
+    for side in ("before", "after"):
+        (folder / side / "many").mkdir()
+        (folder / side / "tiny").write_bytes(b"TZi")
+        for number in range(1000):
+            (folder / side / "many" / str(number)).hardlink_to(folder / "limit")
+    check("--diff of folders with large files", (1, lines, ""), run(program, *years, "--diff", "before", "after", folder=folder))
+    with open(folder / "after/large", "wb") as large:
+        large.write(b"TZif")
+        large.truncate(LIMIT + 1)
+    check("  one of which begins as a zone", (1, lines.replace("moved\n", "large: only in after\nmoved\n"), ""),
+          run(program, *years, "--diff", "before", "after", folder=folder))
+    shutil.copyfile(folder / "after/large", folder / "before/great")
+    shutil.copyfile(folder / "after/large", folder / "after/great")
+    check("  which is too large to be read", (2, "".join(f"zonedump: {side}/great: larger than 64 MiB\n" for side in ("before", "after"))),
+          run(program, *years, "--diff", "before", "after", folder=folder)[::2])
+    for name in ("before/large", "before/tiny", "before/great", "after/large", "after/tiny", "after/great"):
+        (folder / name).unlink()
+    for side in ("before", "after"):
+        shutil.rmtree(folder / side / "many")
+
+
+def try_unreadable(program, folder, years, lines):
+    """What can't be read in a folder is reported by name, and the rest is compared. A zone is only in one folder if the other one
+    could be read there."""
+    good = (folder / "good").read_bytes()
+    for name in ("before/caf\udce9", "before/caf\udce9.d/x", "before/shut/x", "after/shut/x", "before/locked", "after/locked", "after/loop"):
+        (folder / name).parent.mkdir(exist_ok=True)
+        (folder / name).write_bytes(good)
+    (folder / "before/loop").symlink_to("loop")
+    (folder / "before/shut").chmod(0)
+    (folder / "before/locked").chmod(0)
+    folder.chmod(0o755)
+    copied = folder / "program"
+    shutil.copy(program, copied)
+    status, output, errors = run(copied, *years, "--diff", "before", "after", folder=folder, before=as_nobody)
+    check("--diff of folders with what can't be read", (2, lines, sorted([
+        "zonedump: before/caf\\xe9: the name is not UTF-8",
+        "zonedump: before/caf\\xe9.d: the name is not UTF-8",
+        "zonedump: before/locked: Permission denied (os error 13)",
+        "zonedump: before/loop: Too many levels of symbolic links (os error 40)",
+        "zonedump: before/shut: Permission denied (os error 13)",
+    ])), (status, output, sorted(errors.splitlines())))
+    (folder / "before/shut").chmod(0o755)
+    shut = folder / "none"
+    shut.mkdir(0)
+    check("  a whole folder", (2, "", "zonedump: none: Permission denied (os error 13)\n"),
+          run(copied, *years, "--diff", "none", "after", folder=folder, before=as_nobody))
+    shut.rmdir()
+    for name in ("before/caf\udce9", "before/locked", "after/locked", "before/loop", "after/loop"):
+        (folder / name).unlink()
+    for name in ("before/caf\udce9.d", "before/shut", "after/shut"):
+        shutil.rmtree(folder / name)
 
 
 def try_diff(program, folder):
@@ -251,7 +412,6 @@ def try_diff(program, folder):
     check("seconds moved", [-3600], [d["moved"] for d in told["differences"]])
     status, output, errors = run(program, *years, "--json", "--diff", "good", "good", folder=folder)
     check("--json --diff of one file", (0, "", []), (status, errors, json.loads(output)["differences"]))
-    check("--diff with a file missing", (2, ""), run(program, "--diff", "good", "none", folder=folder)[:2])
     check("--diff with one file", (2, "", "zonedump: --diff takes two files or two folders\n"),
           run(program, "--diff", "good", folder=folder))
     try_folders(program, folder, line)
@@ -365,6 +525,8 @@ def main():
         try_extended(program, folder)
         try_help(program)
         try_diff(program, folder)
+        try_closed(program, folder)
+        try_empty(program)
         over = "zonedump: --svg names the file that is read\n"
         for words in (["--svg", "good", "good"], ["--svg", "./good", "good"]):
             check(" ".join(words), (2, "", over), run(program, *words, folder=folder))

@@ -1,8 +1,11 @@
 //! Two files compared, or the files of two folders.
 
+use crate::folders::Contents;
+use crate::words::{is_utf8, report, shown};
 use crate::{files, folders, told};
 use std::fmt::Write;
-use std::io;
+use std::io::ErrorKind;
+use std::{fs, io};
 use tz_info::Difference;
 use zonedump_lib::{Years, differences_in, differences_to_json, lone_to_json, push_differences};
 
@@ -12,9 +15,6 @@ const EQUAL: u8 = 0;
 const DIFFERENT: u8 = 1;
 
 const ERROR: u8 = 2;
-
-// What a TZif file begins with.
-const MAGIC: &[u8] = b"TZif";
 
 /// What is compared: the years, and whether the differences are printed as JSON.
 #[derive(Clone, Copy)]
@@ -36,34 +36,85 @@ pub fn print(rt: &HostRuntime, old: &str, new: &str, asked: Compared) -> u8 {
 }
 
 fn compare(rt: &HostRuntime, old: &str, new: &str, asked: Compared) -> io::Result<u8> {
-    match (folders::is_folder(rt, old), folders::is_folder(rt, new)) {
-        (true, true) => compare_folders(rt, old, new, asked),
-        (false, false) => compare_files(rt, None, old, new, asked),
-        _ => {
-            eprintln!(rt; "zonedump: --diff takes two files or two folders")?;
-            Ok(ERROR)
+    match (kind_of(rt, old), kind_of(rt, new)) {
+        (Kind::Folder, Kind::Folder) => compare_folders(rt, old, new, asked),
+        (Kind::File, Kind::File) => compare_files(rt, None, old, new, asked),
+        (Kind::Folder, Kind::File) => Ok(refuse_kinds(rt, old, new)),
+        (Kind::File, Kind::Folder) => Ok(refuse_kinds(rt, new, old)),
+        _ => Ok(ERROR),
+    }
+}
+
+// What a path leads to.
+#[derive(Clone, Copy)]
+enum Kind {
+    Folder,
+    // or what else isn't a folder
+    File,
+    // Nothing, which is reported.
+    Unread,
+}
+
+fn kind_of(rt: &HostRuntime, path: &str) -> Kind {
+    if !is_utf8(path) {
+        report(rt, path, told::NOT_UTF8);
+        return Kind::Unread;
+    }
+    match fs::metadata(rt, path) {
+        Ok(found) if found.is_dir() => Kind::Folder,
+        Ok(_) => Kind::File,
+        Err(error) => {
+            report(rt, path, error);
+            Kind::Unread
         }
     }
 }
 
+fn refuse_kinds(rt: &HostRuntime, folder: &str, file: &str) -> u8 {
+    let folder = shown(folder);
+    let file = shown(file);
+    let _ = eprintln!(rt;
+        "zonedump: {} ({folder} is a folder, {file} is not)",
+        told::TWO
+    );
+    ERROR
+}
+
 // Compares the files of the same name, in order, and reports each zone that only one folder has.
 fn compare_folders(rt: &HostRuntime, old: &str, new: &str, asked: Compared) -> io::Result<u8> {
-    let mut status = EQUAL;
-    for name in names_of_both(rt, old, new)?.iter() {
+    let old_contents = folders::contents_of(rt, old)?;
+    let new_contents = folders::contents_of(rt, new)?;
+    let is_whole = old_contents.unread.is_empty() && new_contents.unread.is_empty();
+    let mut status = if is_whole { EQUAL } else { ERROR };
+    for name in names_of_both(rt, &old_contents, &new_contents)?.iter() {
         status = status.max(compare_named(rt, name.as_str(), old, new, asked)?);
     }
     Ok(status)
 }
 
-// The names of the files of either folder, in order.
-fn names_of_both(rt: &HostRuntime, old: &str, new: &str) -> io::Result<Vec<String>> {
-    let mut names = folders::names_of(rt, old)?;
-    for name in folders::names_of(rt, new)? {
-        names.push(name)?;
-    }
+// The names of the files of either folder, in order. What can't be looked at in one of them is left
+// out.
+fn names_of_both(rt: &HostRuntime, old: &Contents, new: &Contents) -> io::Result<Vec<String>> {
+    let mut names = Vec::new(rt.alloc());
+    push_names(rt, old, new, &mut names)?;
+    push_names(rt, new, old, &mut names)?;
     names.sort_unstable();
     names.dedup();
     Ok(names)
+}
+
+fn push_names(
+    rt: &HostRuntime,
+    from: &Contents,
+    other: &Contents,
+    names: &mut Vec<String>,
+) -> io::Result<()> {
+    for name in from.files.iter() {
+        if !other.is_unread(name.as_str()) {
+            names.push(String::from_str(rt.alloc(), name.as_str())?)?;
+        }
+    }
+    Ok(())
 }
 
 fn compare_named(
@@ -76,39 +127,65 @@ fn compare_named(
     let old_path = folders::path_of(rt, old, name)?;
     let new_path = folders::path_of(rt, new, name)?;
     match (
-        is_zone(rt, old_path.as_str())?,
-        is_zone(rt, new_path.as_str())?,
+        side_at(rt, old_path.as_str()),
+        side_at(rt, new_path.as_str()),
     ) {
-        (true, true) => compare_files(rt, Some(name), old_path.as_str(), new_path.as_str(), asked),
-        (true, false) => report_lone(rt, old, name, asked),
-        (false, true) => report_lone(rt, new, name, asked),
-        (false, false) => Ok(EQUAL),
+        (Side::Zone, Side::Zone) => {
+            compare_files(rt, Some(name), old_path.as_str(), new_path.as_str(), asked)
+        }
+        (Side::Zone, Side::NoZone) => print_lone(rt, old, name, asked),
+        (Side::NoZone, Side::Zone) => print_lone(rt, new, name, asked),
+        (Side::NoZone, Side::NoZone) => Ok(EQUAL),
+        _ => Ok(ERROR),
     }
 }
 
-// Whether a path leads to a file that begins as a TZif file does.
-fn is_zone(rt: &HostRuntime, path: &str) -> io::Result<bool> {
+// What one of the folders has under a name.
+#[derive(Clone, Copy)]
+enum Side {
+    Zone,
+    NoZone,
+    // A file that can't be read, which is reported.
+    Unread,
+}
+
+fn side_at(rt: &HostRuntime, path: &str) -> Side {
     if !folders::is_file(rt, path) {
-        return Ok(false);
+        return Side::NoZone;
     }
-    match files::read_limited(rt, path) {
-        Ok(Some(bytes)) => Ok(bytes.as_slice().starts_with(MAGIC)),
-        _ => Ok(true),
+    match files::is_zone(rt, path) {
+        Ok(true) => Side::Zone,
+        Ok(false) => Side::NoZone,
+        Err(error) => {
+            report(rt, path, error);
+            Side::Unread
+        }
     }
 }
 
 // Prints that only one of the folders has a zone.
-fn report_lone(rt: &HostRuntime, folder: &str, name: &str, asked: Compared) -> io::Result<u8> {
+fn print_lone(rt: &HostRuntime, folder: &str, name: &str, asked: Compared) -> io::Result<u8> {
     let text = if asked.is_json {
         let path = folders::path_of(rt, folder, name)?;
         let mut line = lone_to_json(rt.alloc(), path.as_str())?;
         line.push(b'\n')?;
         line
     } else {
+        let name = shown(name);
+        let folder = shown(folder);
         format!(in rt.alloc(); "{name}: only in {folder}\n")?.into_bytes()
     };
-    told::print(rt, text.as_slice())?;
+    print_part(rt, text.as_slice())?;
     Ok(DIFFERENT)
+}
+
+// Prints one part of the differences. If nobody reads them any more, the rest is still compared for
+// the status.
+fn print_part(rt: &HostRuntime, bytes: &[u8]) -> io::Result<()> {
+    match told::print(rt, bytes) {
+        Err(error) if error.kind() != ErrorKind::BrokenPipe => Err(error),
+        _ => Ok(()),
+    }
 }
 
 fn compare_files(
@@ -118,16 +195,18 @@ fn compare_files(
     new: &str,
     asked: Compared,
 ) -> io::Result<u8> {
-    let Some(old_zone) = told::zone_of_file(rt, old)? else {
+    let old_zone = told::zone_of_file(rt, old)?;
+    let new_zone = told::zone_of_file(rt, new)?;
+    let Some(old_zone) = old_zone else {
         return Ok(ERROR);
     };
-    let Some(new_zone) = told::zone_of_file(rt, new)? else {
+    let Some(new_zone) = new_zone else {
         return Ok(ERROR);
     };
     match differences_in(rt.alloc(), &old_zone, &new_zone, asked.years) {
         Ok(found) => print_found(rt, name, old, new, asked, &found),
         Err(_) => {
-            eprintln!(rt; "zonedump: out of memory")?;
+            report(rt, new, "out of memory");
             Ok(ERROR)
         }
     }
@@ -146,17 +225,17 @@ fn print_found(
         if name.is_none() || !found.is_empty() {
             let mut line = differences_to_json(rt.alloc(), old, new, asked.years, found)?;
             line.push(b'\n')?;
-            told::print(rt, line.as_slice())?;
+            print_part(rt, line.as_slice())?;
         }
     } else {
         let mut lines = String::new(rt.alloc());
         if let Some(name) = name
             && !found.is_empty()
         {
-            writeln!(lines, "{name}")?;
+            writeln!(lines, "{}", shown(name))?;
         }
         push_differences(&mut lines, found)?;
-        told::print(rt, lines.as_bytes())?;
+        print_part(rt, lines.as_bytes())?;
     }
     Ok(if found.is_empty() { EQUAL } else { DIFFERENT })
 }

@@ -1,19 +1,25 @@
 //! Files: read up to a limit, and replaced as a whole.
 
+use crate::words::report;
 use std::fs::{File, OpenFile, Permissions};
 use std::io::{ErrorKind, Read, Write};
+use std::os::unix::fs::PermissionsExt;
 use std::path::Path;
+use std::random::RandomSource;
 use std::{fs, io};
 
 // 64 MiB, far above any zone of the tz database.
 const LIMIT: u64 = 67_108_864;
 
-// How many names are tried for a temporary file.
-const TRIES: u32 = 1000;
-
 // How many characters of a file's name are in the name of its temporary file, which may have 255
 // bytes.
-const NAME: usize = 60;
+const NAME: usize = 50;
+
+// What a TZif file begins with.
+const MAGIC: [u8; 4] = *b"TZif";
+
+// Who may read, write and run a file.
+const ACCESS: u32 = 0o777;
 
 /// Returns the bytes of a file, or nothing if there are more than 64 MiB of them.
 ///
@@ -30,6 +36,21 @@ pub fn read_limited(rt: &HostRuntime, path: &str) -> io::Result<Option<Vec<u8>>>
     Ok(Some(bytes))
 }
 
+/// Whether a file begins as a TZif file does. Only its first four bytes are read.
+///
+/// # Errors
+///
+/// The file can't be opened or read.
+pub fn is_zone(rt: &HostRuntime, path: &str) -> io::Result<bool> {
+    let mut file = File::open(rt, path)?;
+    let mut head = [0_u8; 4];
+    match file.read_exact(&mut head) {
+        Ok(()) => Ok(head == MAGIC),
+        Err(error) if error.kind() == ErrorKind::UnexpectedEof => Ok(false),
+        Err(error) => Err(error),
+    }
+}
+
 /// Whether both paths lead to one file that exists.
 pub fn are_same(rt: &HostRuntime, one: &str, other: &str) -> bool {
     match (fs::canonicalize(rt, one), fs::canonicalize(rt, other)) {
@@ -38,8 +59,10 @@ pub fn are_same(rt: &HostRuntime, one: &str, other: &str) -> bool {
     }
 }
 
-/// Replaces the contents of a file with those bytes, or makes the file. If it fails, a regular
-/// file is left as it was, and one that was not there is not made.
+/// Replaces the contents of a file with those bytes, or makes the file, and returns whether that was
+/// done. If it fails, a regular file is left as it was, and one that was not there is not made.
+///
+/// The result is `false` if a file has the name of the temporary file, which is reported.
 ///
 /// What is no regular file, such as a pipe, is written as it is, and so is what a symbolic link
 /// names that is not there.
@@ -47,11 +70,12 @@ pub fn are_same(rt: &HostRuntime, one: &str, other: &str) -> bool {
 /// # Errors
 ///
 /// The file can't be written, or no file can be made in its folder.
-pub fn replace(rt: &HostRuntime, path: &str, bytes: &[u8]) -> io::Result<()> {
+pub fn replace(rt: &HostRuntime, path: &str, bytes: &[u8]) -> io::Result<bool> {
     match fs::metadata(rt, path) {
         Ok(found) if found.is_file() => {
             let target = fs::canonicalize(rt, path)?;
-            write_beside(rt, target.as_str(), bytes, Some(found.permissions()))
+            let access = found.permissions().mode() & ACCESS;
+            write_beside(rt, target.as_str(), bytes, Some(access))
         }
         Err(error) if error.kind() == ErrorKind::NotFound && !is_link(rt, path) => {
             write_beside(rt, path, bytes, None)
@@ -64,10 +88,11 @@ fn is_link(rt: &HostRuntime, path: &str) -> bool {
     fs::symlink_metadata(rt, path).is_ok_and(|found| found.is_symlink())
 }
 
-fn write_through(rt: &HostRuntime, path: &str, bytes: &[u8]) -> io::Result<()> {
+fn write_through(rt: &HostRuntime, path: &str, bytes: &[u8]) -> io::Result<bool> {
     let mut file = File::create(rt, path)?;
     file.write_all(bytes)?;
-    file.flush()
+    file.flush()?;
+    Ok(true)
 }
 
 // Writes a temporary file in the folder of the target, and gives it the target's name.
@@ -75,34 +100,47 @@ fn write_beside(
     rt: &HostRuntime,
     target: &str,
     bytes: &[u8],
-    mode: Option<Permissions>,
+    access: Option<u32>,
+) -> io::Result<bool> {
+    let temporary = temporary_path(rt, target)?;
+    match File::create_new(rt, temporary.as_str()) {
+        Ok(file) => {
+            finish(rt, file, temporary.as_str(), target, bytes, access)?;
+            Ok(true)
+        }
+        Err(error) if error.kind() == ErrorKind::AlreadyExists => {
+            report(rt, temporary.as_str(), error);
+            Ok(false)
+        }
+        Err(error) => Err(error),
+    }
+}
+
+// Writes the bytes to the temporary file and renames it, or removes it.
+fn finish(
+    rt: &HostRuntime,
+    file: File,
+    temporary: &str,
+    target: &str,
+    bytes: &[u8],
+    access: Option<u32>,
 ) -> io::Result<()> {
-    let (file, temporary) = create_beside(rt, target)?;
-    let done = match fill(file, bytes, mode) {
-        Ok(()) => fs::rename(rt, temporary.as_str(), target),
+    let done = match fill(file, bytes, access) {
+        Ok(()) => fs::rename(rt, temporary, target),
         Err(error) => Err(error),
     };
     if done.is_err() {
-        let _ = fs::remove_file(rt, temporary.as_str());
+        let _ = fs::remove_file(rt, temporary);
     }
     done
 }
 
-// A new file in the folder of the target, and its path.
-fn create_beside(rt: &HostRuntime, target: &str) -> io::Result<(File, String)> {
-    for number in 0..TRIES {
-        let path = temporary_path(rt, target, number)?;
-        match File::create_new(rt, path.as_str()) {
-            Ok(file) => return Ok((file, path)),
-            Err(error) if error.kind() == ErrorKind::AlreadyExists => {}
-            Err(error) => return Err(error),
-        }
-    }
-    Err(io::Error::from(ErrorKind::AlreadyExists))
-}
-
-// The path of the target, with the number and `.tmp` after its name.
-fn temporary_path(rt: &HostRuntime, target: &str, number: u32) -> io::Result<String> {
+// The path of the target, with a random number and `.tmp` after its name: no file that a killed run
+// has left is in the way of a later one.
+fn temporary_path(rt: &HostRuntime, target: &str) -> io::Result<String> {
+    let mut random = [0_u8; 8];
+    rt.fill_bytes(&mut random)?;
+    let number = u64::from_le_bytes(random);
     let mut name = String::new(rt.alloc());
     for letter in Path::new(target)
         .file_name()
@@ -120,11 +158,11 @@ fn temporary_path(rt: &HostRuntime, target: &str, number: u32) -> io::Result<Str
 }
 
 // Writes the bytes to a new file, down to its disk.
-fn fill(mut file: File, bytes: &[u8], mode: Option<Permissions>) -> io::Result<()> {
+fn fill(mut file: File, bytes: &[u8], access: Option<u32>) -> io::Result<()> {
     file.write_all(bytes)?;
     file.flush()?;
-    if let Some(mode) = mode {
-        file.set_permissions(mode)?;
+    if let Some(access) = access {
+        file.set_permissions(Permissions::from_mode(access))?;
     }
     file.sync_all()
 }

@@ -1,60 +1,157 @@
 //! The files of a folder.
 
+use crate::told;
+use crate::words::{self, report};
+use std::fs::{self, Files};
+use std::io;
+use std::io::{BufRead, BufReader, ErrorKind};
 use std::path::Path;
-use std::{fs, io};
 
-/// Whether a path leads to a folder.
-pub fn is_folder(rt: &HostRuntime, path: &str) -> bool {
-    fs::metadata(rt, path).is_ok_and(|found| found.is_dir())
-}
-
-/// The path of a file in a folder.
+/// The path of what has a name in a folder, and of the folder for an empty name.
 pub fn path_of(rt: &HostRuntime, folder: &str, name: &str) -> io::Result<String> {
+    if name.is_empty() {
+        return Ok(String::from_str(rt.alloc(), folder)?);
+    }
     Ok(Path::new(folder).join(rt.alloc(), name)?.into_string())
 }
 
-/// The names of the files of a folder and of the folders in it, relative to it and in order. A link
-/// to a file counts as that file; a link to a folder is left out.
+/// Whether a path leads to a file.
+pub fn is_file(rt: &HostRuntime, path: &str) -> bool {
+    fs::metadata(rt, path).is_ok_and(|found| found.is_file())
+}
+
+/// What a folder holds, and the folders in it. Names are relative to it.
+#[derive(Drop)]
+pub struct Contents {
+    /// The names of the files. A link to a file counts as that file; a link to a folder is left out.
+    pub files: Vec<String>,
+    /// The names of files and folders that can't be looked at.
+    pub unread: Vec<String>,
+}
+
+impl Contents {
+    /// Whether the file of that name, or a folder that holds it, can't be looked at.
+    pub fn is_unread(&self, name: &str) -> bool {
+        self.unread
+            .iter()
+            .any(|unread| is_in(name, unread.as_str()))
+    }
+}
+
+// Whether a name is that of a file or a folder, or of what that folder holds.
+fn is_in(name: &str, folder: &str) -> bool {
+    match name.strip_prefix(folder) {
+        Some(rest) => folder.is_empty() || rest.is_empty() || rest.starts_with('/'),
+        None => false,
+    }
+}
+
+/// Lists a folder and the folders in it. Each file and folder that can't be looked at is reported.
 ///
 /// # Errors
 ///
-/// A folder can't be read, or there is no memory for the names.
-pub fn names_of(rt: &HostRuntime, folder: &str) -> io::Result<Vec<String>> {
-    let mut names = Vec::new(rt.alloc());
+/// There is no memory for the names.
+pub fn contents_of(rt: &HostRuntime, top: &str) -> io::Result<Contents> {
+    let mut found = Contents {
+        files: Vec::new(rt.alloc()),
+        unread: Vec::new(rt.alloc()),
+    };
     let mut folders = Vec::new(rt.alloc());
     folders.push(String::new(rt.alloc()))?;
     for _ in 0..usize::MAX {
         let Some(within) = folders.pop() else {
             break;
         };
-        list(rt, folder, within.as_str(), &mut names, &mut folders)?;
+        list(rt, top, within, &mut found, &mut folders)?;
     }
-    names.sort_unstable();
-    Ok(names)
+    Ok(found)
 }
 
-// Adds the files of one folder to the names, and its folders to those that are still to be read.
+// Adds the files of one folder to what is found, and its folders to those that are still to be read.
 fn list(
     rt: &HostRuntime,
     top: &str,
-    within: &str,
-    names: &mut Vec<String>,
+    within: String,
+    found: &mut Contents,
     folders: &mut Vec<String>,
 ) -> io::Result<()> {
-    let folder = path_of(rt, top, within)?;
-    for entry in fs::read_dir(rt, folder.as_str())? {
-        let entry = entry?;
-        let name = path_of(rt, within, entry.file_name())?;
-        if entry.file_type()?.is_dir() {
-            folders.push(name)?;
-        } else if is_file(rt, entry.path().to_string_lossy()) {
-            names.push(name)?;
+    let folder = path_of(rt, top, within.as_str())?;
+    match names_in(rt, folder.as_str()) {
+        Ok(names) => {
+            for name in names.iter() {
+                add(rt, top, within.as_str(), name.as_slice(), found, folders)?;
+            }
+            Ok(())
         }
+        Err(error) => leave_out(rt, folder.as_str(), error, within, found),
     }
+}
+
+// The bytes of each name in a folder, of which some may not be UTF-8.
+fn names_in(rt: &HostRuntime, folder: &str) -> io::Result<Vec<Vec<u8>>> {
+    // A path that ends in a slash leads to the folder that a link names.
+    let folder = Path::new(folder).join(rt.alloc(), "")?;
+    let mut names = Vec::new(rt.alloc());
+    for name in BufReader::new(rt.alloc(), rt.open_dir(folder.as_str())?)?.split(rt.alloc(), 0) {
+        names.push(name?)?;
+    }
+    Ok(names)
+}
+
+// Adds what has that name in a folder.
+fn add(
+    rt: &HostRuntime,
+    top: &str,
+    within: &str,
+    name: &[u8],
+    found: &mut Contents,
+    folders: &mut Vec<String>,
+) -> io::Result<()> {
+    if name == b".".as_slice() || name == b"..".as_slice() {
+        return Ok(());
+    }
+    let name = path_of(rt, within, words::word(rt, name)?.as_str())?;
+    let path = path_of(rt, top, name.as_str())?;
+    if !words::is_utf8(name.as_str()) {
+        return leave_out(rt, path.as_str(), told::NOT_UTF8, name, found);
+    }
+    match kind_of(rt, path.as_str()) {
+        Ok(Kind::Folder) => Ok(folders.push(name)?),
+        Ok(Kind::File) => Ok(found.files.push(name)?),
+        Ok(Kind::Other) => Ok(()),
+        Err(error) => leave_out(rt, path.as_str(), error, name, found),
+    }
+}
+
+// Reports what can't be looked at.
+fn leave_out<T: std::fmt::Display + Drop>(
+    rt: &HostRuntime,
+    path: &str,
+    why: T,
+    name: String,
+    found: &mut Contents,
+) -> io::Result<()> {
+    report(rt, path, why);
+    found.unread.push(name)?;
     Ok(())
 }
 
-/// Whether a path leads to a file.
-pub fn is_file(rt: &HostRuntime, path: &str) -> bool {
-    fs::metadata(rt, path).is_ok_and(|found| found.is_file())
+// What a path leads to. Links to folders, and those to nothing, are left out.
+#[derive(Clone, Copy)]
+enum Kind {
+    Folder,
+    File,
+    Other,
+}
+
+fn kind_of(rt: &HostRuntime, path: &str) -> io::Result<Kind> {
+    if fs::symlink_metadata(rt, path)?.is_dir() {
+        return Ok(Kind::Folder);
+    }
+    match fs::metadata(rt, path) {
+        Ok(found) if found.is_file() => Ok(Kind::File),
+        Ok(_) => Ok(Kind::Other),
+        Err(error) if error.kind() == ErrorKind::NotFound => Ok(Kind::Other),
+        Err(error) => Err(error),
+    }
 }

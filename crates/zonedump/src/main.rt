@@ -11,9 +11,10 @@ mod words;
 use clap::ArgMatches;
 use compared::Compared;
 use std::fmt::Write;
-use std::io;
+use std::io::{self, ErrorKind};
 use std::process::ExitCode;
 use told::{Asked, What, tell_file, tell_text};
+use words::OneLine;
 use zonedump_lib::Years;
 
 // The status of a run that printed everything, of one that did not, and of wrong arguments.
@@ -26,6 +27,8 @@ const WRONG: u8 = 2;
 fn main(rt: HostRuntime) -> ExitCode {
     match run(&rt) {
         Ok(status) => ExitCode::from(status),
+        // Nobody reads what is printed, as after `head`.
+        Err(error) if error.kind() == ErrorKind::BrokenPipe => ExitCode::from(TOLD),
         Err(error) => {
             let _ = eprintln!(rt; "zonedump: {error}");
             ExitCode::from(FAILED)
@@ -41,16 +44,16 @@ fn run(rt: &HostRuntime) -> io::Result<u8> {
     }
 }
 
-// Prints what is wrong with the words, or the help that they ask for, without the marks of words
-// that aren't UTF-8.
+// Prints what is wrong with the words, or the help that they ask for.
 fn explain(rt: &HostRuntime, error: &clap::Error) -> io::Result<u8> {
     let mut text = String::new(rt.alloc());
     write!(text, "{error}")?;
-    for part in text.split(words::MARK) {
+    for line in text.lines() {
+        let line = OneLine(line);
         if error.use_stderr() {
-            eprint!(rt; "{part}")?;
+            let _ = eprintln!(rt; "{line}");
         } else {
-            print!(rt; "{part}")?;
+            println!(rt; "{line}")?;
         }
     }
     Ok(error.exit_code() as u8)
@@ -74,7 +77,7 @@ fn compare(rt: &HostRuntime, matches: &ArgMatches<'_>, years: Years) -> io::Resu
             let is_json = matches.get_flag("json");
             Ok(compared::print(rt, old, new, Compared { years, is_json }))
         }
-        _ => refuse(rt, "--diff takes two files or two folders"),
+        _ => refuse(rt, told::TWO),
     }
 }
 
@@ -91,7 +94,7 @@ fn tell_asked(rt: &HostRuntime, matches: &ArgMatches<'_>, asked: Asked<'_>) -> i
 
 // Says why what is asked for can't be done.
 fn refuse(rt: &HostRuntime, why: &str) -> io::Result<u8> {
-    eprintln!(rt; "zonedump: {why}")?;
+    let _ = eprintln!(rt; "zonedump: {why}");
     Ok(WRONG)
 }
 
@@ -113,12 +116,16 @@ fn draws_over(rt: &HostRuntime, what: What<'_>, files: &[&str]) -> bool {
     files.iter().any(|file| files::are_same(rt, target, file))
 }
 
-// Tells each of the files. One that is rejected leaves the others as they are.
+// Tells each of the files, as long as somebody reads what is printed. One that is rejected leaves the
+// others as they are.
 fn tell_each(rt: &HostRuntime, files: &[&str], asked: Asked<'_>) -> io::Result<u8> {
     let mut status = TOLD;
     for file in files {
-        if !tell_file(rt, file, asked)? {
-            status = FAILED;
+        match tell_file(rt, file, asked) {
+            Ok(true) => {}
+            Ok(false) => status = FAILED,
+            Err(error) if error.kind() == ErrorKind::BrokenPipe => return Ok(status),
+            Err(error) => return Err(error),
         }
     }
     Ok(status)

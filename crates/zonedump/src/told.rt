@@ -1,6 +1,7 @@
 //! What is printed, written or drawn of one zone, or why it is rejected.
 
-use crate::{files, words};
+use crate::files;
+use crate::words::{is_utf8, report, shown};
 use std::alloc::Global;
 use std::fmt::Write;
 use std::io::Write as _;
@@ -8,6 +9,12 @@ use std::{fmt, io};
 use tz_info::{Error, TimeZone};
 use tz_write::ToTzData;
 use zonedump_lib::{Form, Years, to_json, told};
+
+/// What `--diff` compares.
+pub const TWO: &str = "--diff takes two files or two folders";
+
+/// Why a file of that name can't be opened.
+pub const NOT_UTF8: &str = "the name is not UTF-8";
 
 /// What is done with a zone.
 #[derive(Clone, Copy)]
@@ -100,8 +107,8 @@ pub fn tell_text(
     is_extended: bool,
     asked: Asked<'_>,
 ) -> io::Result<bool> {
-    if let Some(name) = words::escaped(text) {
-        return fail(rt, name, "not a TZ string: not UTF-8");
+    if !is_utf8(text) {
+        return fail(rt, text, "not a TZ string: not UTF-8");
     }
     let source = if is_extended {
         Source::Extended(text)
@@ -137,22 +144,25 @@ pub fn zone_of_file(rt: &HostRuntime, file: &str) -> io::Result<Option<TimeZone>
 
 // The bytes of a file, or the error if it can't be read.
 fn bytes_of(rt: &HostRuntime, file: &str) -> io::Result<Option<Vec<u8>>> {
-    if let Some(name) = words::escaped(file) {
-        fail(rt, name, "the name is not UTF-8")?;
+    if !is_utf8(file) {
+        report(rt, file, NOT_UTF8);
         return Ok(None);
     }
     match files::read_limited(rt, file) {
         Ok(Some(bytes)) => return Ok(Some(bytes)),
-        Ok(None) => fail(rt, file, "larger than 64 MiB")?,
-        Err(error) => fail(rt, file, error)?,
-    };
+        Ok(None) => report(rt, file, "larger than 64 MiB"),
+        Err(error) => report(rt, file, error),
+    }
     Ok(None)
 }
 
 fn tell(rt: &HostRuntime, name: &str, source: Source<'_>, asked: Asked<'_>) -> io::Result<bool> {
     match asked.what {
         What::Table => tell_lines(rt, name, source, asked.years, Form::Table),
-        What::Zdump => tell_lines(rt, name, source, asked.years, Form::Zdump(name)),
+        What::Zdump => {
+            let shown = format!(in rt.alloc(); "{}", shown(name))?;
+            tell_lines(rt, name, source, asked.years, Form::Zdump(shown.as_str()))
+        }
         What::Json | What::Write(_) | What::Draw(_) => match source.zone(rt.alloc()) {
             Ok(zone) => give(rt, name, &zone, asked),
             Err(fault) => refuse(rt, name, source.kind(), &fault),
@@ -170,7 +180,7 @@ fn tell_lines(
 ) -> io::Result<bool> {
     let mut out = String::new(rt.alloc());
     if let Form::Table = form {
-        writeln!(out, "{name}")?;
+        writeln!(out, "{}", shown(name))?;
     }
     match source.tell(rt.alloc(), years, form, &mut out) {
         Ok(()) => print(rt, out.as_bytes()),
@@ -189,7 +199,7 @@ fn give(rt: &HostRuntime, name: &str, zone: &TimeZone, asked: Asked<'_>) -> io::
 
 // Says why a zone or a file is skipped.
 fn fail<T: fmt::Display + Drop>(rt: &HostRuntime, name: &str, why: T) -> io::Result<bool> {
-    eprintln!(rt; "zonedump: {name}: {why}")?;
+    report(rt, name, why);
     Ok(false)
 }
 
@@ -199,7 +209,8 @@ fn refuse(rt: &HostRuntime, name: &str, kind: &str, fault: &Error) -> io::Result
         return fail(rt, name, "out of memory");
     }
     let number = fault.number();
-    eprintln!(rt; "zonedump: {name}: not a {kind}: {fault} ({number})")?;
+    let name = shown(name);
+    let _ = eprintln!(rt; "zonedump: {name}: not a {kind}: {fault} ({number})");
     Ok(false)
 }
 
@@ -235,11 +246,11 @@ fn draw(
 
 // Writes those bytes to a file, or says why they can't be written.
 fn put(rt: &HostRuntime, path: &str, bytes: &[u8]) -> io::Result<bool> {
-    if let Some(name) = words::escaped(path) {
-        return fail(rt, name, "the name is not UTF-8");
+    if !is_utf8(path) {
+        return fail(rt, path, NOT_UTF8);
     }
     match files::replace(rt, path, bytes) {
-        Ok(()) => Ok(true),
+        Ok(is_done) => Ok(is_done),
         Err(error) => fail(rt, path, error),
     }
 }
