@@ -1,19 +1,27 @@
 #!/usr/bin/env python3
 """Tries planted bugs: edits of function bodies that the prover must reject.
 
-usage: tools/try_edits.py [--lanes N] [--beside FILE] [NAME | NAME/EDIT ..]
-       tools/try_edits.py --self-test
+usage: tools/try_edits.py [--lanes N] [--beside FILE] [--tenth] [NAME | NAME/EDIT ..]
+       tools/try_edits.py --self-test [--beside FILE]
 
-Without names it tries the edits of mutants/, as the gate does. For a named crate it also tries those of
-mutants-by-hand/.
+Without names it tries the edits of mutants/, and with --tenth also a tenth of those of mutants-by-hand/, chosen by the commit, as
+the gate does. For a named crate it tries all of both.
 
 A planted bug is rejected by the contract of the function that has it, whatever is above and below that function. So only the
 functions that edits change are checked, in a copy of their crate, and one check tries all edits of a crate that change different
 functions. A line `only: PATH` of an edit names the function or module whose contract rejects it, if that is another one, or if two
 functions, or a function and a module, have the same name. An edit that changes something outside of functions is tried alone.
 
-An edit is rejected if a goal of its function is open. It is NOT REJECTED if the function is proved. It is NOT TRIED if its text is
-not in the files that are checked, if a text can't be read, or if a proof only misses a name. Both are failures.
+The verdict on an edit is one of these.
+
+refuted         A goal of its function is open: the checker has values at which it is false, or searched to the end and found no proof.
+open            The search for a proof of such a goal stopped at one of its limits.
+no longer fits  Only a hand-written part of the function's proof fails: an answer, or a name in it. The edit is then tried again
+                without the answers, and is refuted if the checker has values at which a goal is false.
+NOT REJECTED    The function is proved.
+NOT TRIED       The edit's text is not in the files that are checked, or the edited code can't be read.
+
+The last two are failures, and so is the third unless the edit has a line `verdict: no longer fits`.
 
 Libraries are used as `rt ci` or `rt check` has built them. Beside an `rt ci` that is still running, with its output in FILE, a
 crate's edits wait until the crate is proved. Then each function that FILE reports as proved, and that no edit changes, is
@@ -24,12 +32,14 @@ the same copy without the edits, and the edits of one that isn't proved there, o
 TRIED. Without FILE nothing is left out: the functions that the edited ones call are proved as well, starting from what `rt
 check` has kept of the crate.
 
---self-test tries this script, without a proof.
+--self-test tries this script without a proof, and then the edits of harmless/, which change the text and not the meaning: it fails if
+one of them is refuted.
 
-N crates are tried at a time (3). The status is 1 unless every edit is rejected.
+N crates are tried at a time (3). The last line counts the verdicts. The status is 1 if one is a failure.
 """
 
 import argparse
+import hashlib
 import re
 import shutil
 import subprocess
@@ -41,14 +51,14 @@ from concurrent.futures import ThreadPoolExecutor
 from dataclasses import dataclass, field, replace
 from pathlib import Path
 
-from kit import OPEN, PROVED_WITHOUT_PROOFS, TOLD, UNREAD, VERDICT, wait_for, words
+from kit import FALSE, GOAL, OPEN, PROVED_WITHOUT_PROOFS, TOLD, UNDECIDED, UNREAD, VERDICT, messages, wait_for, words
 from sources import TOP, crates, files, libraries_below
 
-IN_PART, BY_HAND = "mutants", "mutants-by-hand"
+IN_PART, BY_HAND, HARMLESS = "mutants", "mutants-by-hand", "harmless"
+REFUTED, OPEN_GOAL, NO_LONGER_FITS, NOT_REJECTED, NOT_TRIED = "refuted", "open", "no longer fits", "NOT REJECTED", "NOT TRIED"
 # Its proof takes as long as those of all crates that can be proved beside it.
 EARLY = "tz_info"
 FUNCTION = re.compile(r'(?m)^( *)(?:pub(?:\([a-z]+\))? )?(?:(?:final|const|unsafe|extern "C") )*fn (\w+)')
-NOT_TRIED = "NOT TRIED:"
 LOST = "its text is not in the files that are checked"
 # What takes the place of a body that is left out. `rt fmt` writes no such line.
 LEFT_OUT = "{ unreachable!() }"
@@ -70,6 +80,7 @@ class Edit:
     changed: set = field(default_factory=set)
     parts: list = field(default_factory=list)
     is_alone: bool = False
+    due: tuple = (REFUTED, OPEN_GOAL)
 
     def __str__(self):
         return f"{self.crate}/{self.name}"
@@ -84,6 +95,8 @@ def read(crate, path):
             file = text
         elif key == "only":
             edit.parts.append(text)
+        elif key == "verdict":
+            edit.due += (text,)
         elif key == "old":
             old = text
         elif key.rstrip(":") == "new":
@@ -125,18 +138,28 @@ def function_at(text, part):
     return "::".join([*([of_trait[3] + of_trait[1] + (of_trait[2] or "")] if of_trait else []), name])
 
 
-def wanted(names):
-    """The edits to be tried, by their crates."""
+def wanted(names, is_chosen=None):
+    """The edits to be tried, by their crates: for each name all of its edits, and without names those of mutants/ and of
+    mutants-by-hand/ those that are chosen."""
     found = {}
     for word in names or crates():
         crate, _, stem = word.partition("/")
-        folders = [IN_PART, BY_HAND] if names else [IN_PART]
-        paths = [path for folder in folders for path in sorted((TOP / "crates" / crate / folder).glob("*.edit"))]
+        paths = edits_in(crate, IN_PART) + [path for path in edits_in(crate, BY_HAND) if names or is_chosen and is_chosen(path)]
         edits = [read(crate, path) for path in paths if stem in ("", path.stem)]
         if names and not edits:
-            sys.exit(f"no edit of {' or '.join(folders)}: {word}")
+            sys.exit(f"no edit of {IN_PART} or {BY_HAND}: {word}")
         found.setdefault(crate, []).extend(edits)
     return {crate: edits for crate, edits in found.items() if edits}
+
+
+def edits_in(crate, folder):
+    return sorted((TOP / "crates" / crate / folder).glob("*.edit"))
+
+
+def tenth():
+    """Whether an edit's file is in the tenth that the commit chooses."""
+    commit = subprocess.run(["git", "rev-parse", "HEAD"], cwd=TOP, capture_output=True, text=True, check=True).stdout
+    return lambda path: hashlib.sha256(f"{commit}{path.relative_to(TOP)}".encode()).digest()[0] * 10 < 256
 
 
 def apart(edits):
@@ -207,9 +230,9 @@ def is_of(path, part):
     return f"::{path}::".find(f"::{part}::") >= 0
 
 
-def checked(crate, edits, around, proved):
+def checked(crate, edits, around, proved, by_search=False):
     """Checks the functions that the edits change in a copy of their crate, and returns what is said. In the copy, proofs and bodies are
-    left out but for those that the edits `around` change."""
+    left out but for those that the edits `around` change, and `by_search` also the answers in their proofs."""
     with tempfile.TemporaryDirectory() as room:
         folder = Path(room)
         for part in ("src", "specs", "proofs"):
@@ -217,6 +240,9 @@ def checked(crate, edits, around, proved):
                 shutil.copytree(TOP / "crates" / crate / part, folder / part)
         leave_out(folder, crate, proved, around)
         leave_bodies_out(folder, proved, around)
+        for path in folder.joinpath("proofs").rglob("Answers.antt") if by_search else []:
+            if any(edits_function(edit, "::".join(path.relative_to(folder).parent.parts[1:])) for edit in edits):
+                path.unlink()
         texts = made(edits, folder)
         if texts is None:
             return LOST
@@ -243,12 +269,11 @@ def kept_of(crate, folder):
     return shutil.copytree(kept, folder, dirs_exist_ok=True) if kept.is_dir() else folder
 
 
-def told(edit, said):
-    """What is said of an edit, and whether the prover rejects it."""
-    goals, faults, unread, verdicts, notes = [], [], [], [], []
-    for line in said.splitlines():
-        place = re.fullmatch(TOLD, line)
-        verdict = re.fullmatch(VERDICT, line)
+def verdict_of(edit, said):
+    """The verdict on an edit, and the message that decides it."""
+    verdicts, goals, answers, notes, faults = [], [], [], [], []
+    for line in messages(said):
+        place, verdict = re.fullmatch(TOLD, line), re.fullmatch(VERDICT, line)
         if verdict:
             if edits_function(edit, verdict[1]):
                 verdicts.append(verdict[2])
@@ -256,15 +281,20 @@ def told(edit, said):
             notes = []
         elif place and place[1].startswith("proofs/"):
             if edits_function(edit, "::".join(Path(place[1]).parent.parts[1:])):
-                (unread if re.search(UNREAD, place[2]) else goals).append(f"{place[1]}: {place[2]}")
+                answers.append(f"{place[1]}: {place[2]}")
         elif place:
             (faults if re.search(UNREAD, place[2]) else notes).append(f"{place[1]}: {place[2]}")
-    is_open = any(verdict.startswith(OPEN) for verdict in verdicts)
-    if goals and is_open and not faults:
-        return f"{edit}: rejected, as it must be: {goals[0][:120]}", True
-    if verdicts and not is_open and not faults:
-        return f"{edit}: NOT REJECTED: {'; '.join(verdicts)}", False
-    return f"{edit}: {NOT_TRIED} {(faults or unread or verdicts or [said[-900:]])[0]}", False
+    if faults or not verdicts:
+        return NOT_TRIED, (faults or [said[-900:]])[0]
+    if not any(verdict.startswith(OPEN) for verdict in verdicts):
+        return NOT_REJECTED, "; ".join(verdicts)
+    goals = [goal for goal in goals if GOAL in goal]
+    false = [goal for goal in goals if FALSE in goal]
+    # A goal whose answer misses a name may be open for that alone, unless values make it false.
+    decided = false or [goal for goal in goals if UNDECIDED not in goal and not any(re.search(UNREAD, answer) for answer in answers)]
+    if decided:
+        return REFUTED, decided[0]
+    return (OPEN_GOAL, goals[0]) if goals and not answers else (NO_LONGER_FITS, (answers or verdicts)[0])
 
 
 def not_proved(crate, edits, proved):
@@ -273,8 +303,8 @@ def not_proved(crate, edits, proved):
     unnamed = re.search(r"(?:has no function|several functions are named) `([\w:+]+)`", said)
     rows = {}
     if unnamed:
-        row = f"{NOT_TRIED} {unnamed[0]}: it needs a line `only: PATH`"
-        rows = {edit.name: (f"{edit}: {row}", False) for edit in edits if unnamed[1] in edit.parts}
+        why = f"{unnamed[0]}: it needs a line `only: PATH`"
+        rows = {edit.name: (edit, NOT_TRIED, why) for edit in edits if unnamed[1] in edit.parts}
     others = [edit for edit in edits if edit.name not in rows]
     if rows:
         return rows | (not_proved(crate, others, proved) if others else {})
@@ -282,18 +312,23 @@ def not_proved(crate, edits, proved):
     for edit in edits:
         of_edit = [verdict for path, verdict in verdicts if edits_function(edit, path)] or [said[-900:]]
         if not all(re.fullmatch(PROVED_WITHOUT_PROOFS, verdict) for verdict in of_edit):
-            rows[edit.name] = (f"{edit}: {NOT_TRIED} without the edit: {'; '.join(of_edit)}", False)
+            rows[edit.name] = (edit, NOT_TRIED, f"without the edit: {'; '.join(of_edit)}")
     return rows
 
 
 def tried_together(crate, edits, around, proved):
-    """Tries edits by one check, and each alone of which it says nothing."""
+    """Tries edits by one check, each alone of which it says nothing, and without its answers each that no longer fits."""
     said = checked(crate, edits, around, proved)
     rows = []
     for edit in edits:
-        row = told(edit, said)
-        again = len(edits) > 1 and NOT_TRIED in row[0]
-        rows += tried_together(crate, [edit], around, proved) if again else [row]
+        verdict, why = verdict_of(edit, said)
+        if verdict == NOT_TRIED and len(edits) > 1:
+            rows += tried_together(crate, [edit], around, proved)
+            continue
+        if verdict == NO_LONGER_FITS:
+            by_search = verdict_of(edit, checked(crate, [edit], around, proved, by_search=True))
+            verdict, why = by_search if FALSE in by_search[1] else (verdict, why)
+        rows.append((edit, verdict, why))
     return rows
 
 
@@ -301,7 +336,7 @@ def tried(crate, edits, free, log):
     """Tries a crate's edits, once what they wait for is proved and a lane is free."""
     needed = libraries_below(crate) if crate == EARLY else [crate]
     if not wait_for(needed, log):
-        return [(f"{crate}: {', '.join(needed)} isn't proved, so its edits weren't tried", False)]
+        return [(edit, NOT_TRIED, f"{', '.join(needed)} isn't proved") for edit in edits]
     with free:
         proved = (proved_of(crate, log) or plain_functions(crate)) if log else []
         rows = not_proved(crate, edits, proved) if log else {}
@@ -384,31 +419,57 @@ def self_test():
         assert [function_at(SELF_TEST, part) for part in ("            2", "{}\n", "    3")] == ["second", None, "third"]
         # An edit whose text is lost, and the goal of the body that is left out.
         line = text_without(["third"], []).splitlines().index(LEFT_OUT) + 1
-        assert made([edit], folder) is None and told(edit, LOST) == (f"{edit}: {NOT_TRIED} {LOST}", False)
-        goal = "note: src/lib.rt:{}:3: it is not proved that control never comes here\nfn it::third: no proof: it is open"
-        assert told(edit, goal.format(line - 1))[1] and not told(edit, without_left_out(goal.format(line), folder))[1]
-        assert not told(edit, "fn it::third: no holes")[1]
+        assert made([edit], folder) is None and verdict_of(edit, LOST) == (NOT_TRIED, LOST)
+        goal = f"note: src/lib.rt:{{}}:3: {GOAL} control never comes here{{}}\nfn it::third: no proof: it is open"
+        assert verdict_of(edit, without_left_out(goal.format(line, ""), folder))[0] == NO_LONGER_FITS
+        # A proof that misses a name, in a message of two lines, and one that has another type.
+        answer = "./proofs/third/Answers.antt:3:9: error: `returns`: record `It.Lts`{}\nfn it::third: not proved; it stands on it"
+        misses, differs = answer.format(" (nearest: .x)\n  has no field `y`"), answer.format(" has another type")
+        for text, verdict in (
+            (goal.format(line - 1, ""), REFUTED),
+            (goal.format(line - 1, f"; {UNDECIDED}"), OPEN_GOAL),
+            (misses, NO_LONGER_FITS),
+            (differs, NO_LONGER_FITS),
+            (misses + "\n" + goal.format(line - 1, ""), NO_LONGER_FITS),
+            (misses + "\n" + goal.format(line - 1, f"; the facts known there {FALSE}"), REFUTED),
+            ("fn it::third: no holes", NOT_REJECTED),
+        ):
+            assert verdict_of(edit, text)[0] == verdict, (text, verdict)
+
+
+def harmless(log):
+    """Tries the edits that change nothing but the text, and returns the rows of those that are refuted, or not tried."""
+    edits = {crate: [read(crate, path) for path in edits_in(crate, HARMLESS)] for crate in crates()}
+    rows = [row for crate, those in edits.items() if those for row in tried(crate, those, threading.Semaphore(1), log)]
+    print(*[f"{edit}: {verdict}, and changes nothing" for edit, verdict, _ in rows], sep="\n")
+    return [row for row in rows if row[1] in (REFUTED, NOT_TRIED)] if rows else [("no harmless edit", NOT_TRIED, "")]
 
 
 def main():
     given = argparse.ArgumentParser(usage=__doc__.partition("usage: ")[2].partition("\n\n")[0])
     given.add_argument("--lanes", type=int, default=3)
     given.add_argument("--beside", type=Path)
+    given.add_argument("--tenth", action="store_true")
     given.add_argument("--self-test", action="store_true")
     given.add_argument("names", nargs="*")
     given = given.parse_args()
     if given.self_test:
-        return self_test()
-    edits, free = wanted(given.names), threading.Semaphore(given.lanes)
-    as_due = 0
+        self_test()
+        wrong = harmless(given.beside)
+        print(*[f"tools/try_edits.py: {edit}: {verdict}: {why}" for edit, verdict, why in wrong], sep="\n", end="\n" * bool(wrong))
+        return 1 if wrong else 0
+    edits, free = wanted(given.names, tenth() if given.tenth else None), threading.Semaphore(given.lanes)
+    count, failures = Counter(), 0
     with ThreadPoolExecutor(len(edits)) as pool:
         for rows in pool.map(lambda crate: tried(crate, edits[crate], free, given.beside), edits):
-            for row, is_as_due in rows:
-                print(row, flush=True)
-                as_due += is_as_due
-    count = sum(map(len, edits.values()))
-    print(f"{count} tried, {count - as_due} not rejected")
-    return 0 if count == as_due > 0 else 1
+            for edit, verdict, why in rows:
+                is_due = verdict in edit.due
+                print(f"{edit}: {verdict}{'' if is_due else ', a failure'}: {why[:300 if is_due else 900]}", flush=True)
+                count[verdict] += 1
+                failures += not is_due
+    kinds = ", ".join(f"{count[verdict]} {verdict}" for verdict in (REFUTED, OPEN_GOAL, NO_LONGER_FITS, NOT_REJECTED, NOT_TRIED) if count[verdict])
+    print(f"{sum(count.values())} tried: {kinds}; {failures} failures")
+    return 0 if count and not failures else 1
 
 
 if __name__ == "__main__":
