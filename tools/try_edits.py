@@ -21,7 +21,7 @@ no longer fits  Only a hand-written part of the function's proof fails: an answe
 NOT REJECTED    The function is proved.
 NOT TRIED       The edit's text is not in the files that are checked, or the edited code can't be read.
 
-The last two are failures, and so is the third unless the edit has a line `verdict: no longer fits`.
+The last two are failures. The third says little, since a harmless edit may have it too: rewrite such an edit until it is refuted.
 
 Libraries are used as `rt ci` or `rt check` has built them. Beside an `rt ci` that is still running, with its output in FILE, a
 crate's edits wait until the crate is proved. Then each function that FILE reports as proved, and that no edit changes, is
@@ -80,7 +80,6 @@ class Edit:
     changed: set = field(default_factory=set)
     parts: list = field(default_factory=list)
     is_alone: bool = False
-    due: tuple = (REFUTED, OPEN_GOAL)
 
     def __str__(self):
         return f"{self.crate}/{self.name}"
@@ -95,8 +94,6 @@ def read(crate, path):
             file = text
         elif key == "only":
             edit.parts.append(text)
-        elif key == "verdict":
-            edit.due += (text,)
         elif key == "old":
             old = text
         elif key.rstrip(":") == "new":
@@ -463,8 +460,8 @@ def main():
     with ThreadPoolExecutor(len(edits)) as pool:
         for rows in pool.map(lambda crate: tried(crate, edits[crate], free, given.beside), edits):
             for edit, verdict, why in rows:
-                is_due = verdict in edit.due
-                print(f"{edit}: {verdict}{'' if is_due else ', a failure'}: {why[:300 if is_due else 900]}", flush=True)
+                is_due = verdict not in (NOT_REJECTED, NOT_TRIED)
+                print(f"{edit}: {verdict}: {why[:300 if is_due else 900]}", flush=True)
                 count[verdict] += 1
                 failures += not is_due
     kinds = ", ".join(f"{count[verdict]} {verdict}" for verdict in (REFUTED, OPEN_GOAL, NO_LONGER_FITS, NOT_REJECTED, NOT_TRIED) if count[verdict])
