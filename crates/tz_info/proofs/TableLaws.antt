@@ -16,16 +16,6 @@ use Rattle.tz_info.proofs.WallSegments.{indexes_below, leap_time_of, shown_insid
 use Rattle.tz_info.specs.Steps.Entries.{AreEntries, Entries, most_looks}
 
 -- ---- the table's seconds
--- without transitions all have come from the first second on
-none_come : (z : Zone) (e : Entries) → IsValid z → AreEntries z e → length z.transitions ≡ 0 → e.all ≡ 0
-none_come z e valid made none =
-    let (x, l) = leap_time_of z (pos 0) valid (omega (arith, ints), omega (arith, ints)) in
-    let most = place_most e.items (pos 0) made.rising in
-    let seg = come_at_time z (pos 0) x l in
-    let few = made.few in
-    let top = segment_most z (pos 0) valid.transitions.rising in
-    let c = (made.come (pos 0) x (omega (arith, ints)) l).0 (omega arith) in omega arith
-
 all_come : (rule : Option TransitionRule) (e : Entries) (n p q : ℕ) → p ≤ n → q ≤ length e.items → length e.items ≤ e.all → (p ≡ n) ↔ (q ≡ e.all) → (p < table_count_by rule n) ↔ (q < top_of rule e)
 all_come (Some rule) e n p q low high more both = (
   λ h. elim (cases_lt q e.all) [ inl b ↦ b | inr m ↦ let c = both.1 (omega arith) in absurd (omega arith) ],
@@ -44,7 +34,7 @@ same_table z e u valid made fits time =
           let (x, l) = time some in
           let seg = come_at_time z u x l in
           let c = made.come u x fits l in ((λ h. c.0 (seg ∙ h)), (λ h. sym seg ∙ c.1 h))
-      | inr none ↦ let e2 = none_come z e valid made (omega arith) in let few = made.few in ((λ h. omega arith), (λ h. omega arith))
+      | inr none ↦ let e2 : e.all ≡ 0 = grind (arith, made.some) in let few = made.few in ((λ h. omega arith), (λ h. omega arith))
     ])
 
 index_of_none : (k : ℕ) → index_of [] k ≡ 0
@@ -116,7 +106,7 @@ pub begin_by : (z : Zone) (e : Entries) (s : ℤ) → IsValid z → AreEntries z
 begin_by z e s valid made low begun = record {
   comes = λ u x fits l. let c = made.come u x fits l in let b = begun u fits in ((λ h. b.0 (c.0 h)), (λ h. c.1 (b.1 h)));
   alone = λ none.
-      let all = none_come z e valid made none in
+      let all : e.all ≡ 0 = grind (arith, made.some) in
       let few = made.few in
       let most = place_most e.items least_time made.rising in
       let b = (begun least_time (omega (arith, ints))).0 (omega arith) in omega (arith, ints);

@@ -123,7 +123,7 @@ impl TimeZone {
         ensures { IfSome result (λ s. IsSpanAt (TypeAt self.now) unix_time (span_held s)
             × (s.until ≡ None)) }
     {
-        let _ = &self.table;
+        let _ = &self.changes;
         if self.last_span.after < unix_time && unix_time <= self.last_span.last {
             Some(HeldSpan::of(&self.last_span.span))
         } else {
@@ -137,7 +137,7 @@ impl TimeZone {
         requires { IsWide local }
         ensures { IfSome result (λ t. IsShownOnce (Shows (TypeAt self.now) local) t.now) }
     {
-        let _ = &self.table;
+        let _ = &self.changes;
         if self.last_span.local_after < local {
             Some(&self.last_span.span.local_time_type)
         } else {

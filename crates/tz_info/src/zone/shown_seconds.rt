@@ -101,7 +101,7 @@ impl TimeZone {
         requires { IsWide from }
         ensures { IsFirstAtOrAfter (TypeAt self.now) from result.at result.local_time_type }
     {
-        let _ = &self.table;
+        let _ = &self.changes;
         let until = self.beyond_jumps(from);
         match self.end_within(from, until, true) {
             Some(first) => first,
@@ -165,7 +165,7 @@ impl TimeZone {
         ensures one_type { HaveOneTypeFrom (TypeAt self.now)
             result.0.low result.0.high result.1.now }
     {
-        let _ = &self.table;
+        let _ = &self.changes;
         let span = self.near_span_at(left.end(forward));
         let run = Interval {
             low: start_by(span.from, left.low),
