@@ -13,7 +13,7 @@ ghost use Rattle.tz_info.specs.HeldChanges.{change_held};
 ghost use Rattle.tz_info.specs.Zones.{HasType, TypeAt};
 ghost use Rattle.tz_info.specs.declared.rule.transition_rule.TransitionRule.TheVariants.{Alternate};
 
-use crate::change::{HeldChange, change_between, copied};
+use crate::change::{HeldChange, change_between, copied, held};
 use crate::rule::{AlternateTime, TransitionRule};
 use crate::zone::TimeZone;
 use tz_base::{Change, LocalTimeType};
@@ -105,7 +105,9 @@ impl TimeZone {
         ensures { IsLast (TypeAt self.now) (λ u. u ≤ℤ before_or_at)
             (option_map change_held result) }
     {
-        let _ = &self.changes;
+        if self.last_span.has(before_or_at) {
+            return held(&self.last_span.begin);
+        }
         match self.change_by_rule(before_or_at, false) {
             Some(change) => Some(change),
             None => self.previous_in_table(before_or_at),
