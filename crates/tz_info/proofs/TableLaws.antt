@@ -13,7 +13,7 @@ use Rattle.tz_info.specs.declared.zone.shown.Shown.TheVariants.{Less, Once, Seve
 use Rattle.tz_info.proofs.{EntryChanges.{index_there, looks_most}, ExtremeLaws.{window_made}, GapLaws.{IsNever, gap_found, not_less}, PassedTransitions.{no_items}, TableSearch.{search_found}, ZoneChanges.{time_of}}
 use Rattle.tz_info.proofs.SegmentLaws.{come_at_time, come_from, place_before, place_begin, place_most, segment_here, segment_most}
 use Rattle.tz_info.proofs.WallSegments.{indexes_below, leap_time_of, shown_inside, type_in_table, type_of_table, typed_answer}
-use Rattle.tz_info.specs.Steps.Entries.{AreEntries, Entries, most_looks}
+use Rattle.tz_info.specs.Steps.{Entries.{AreEntries, Entries, most_looks}, SegmentEnds.{AreEnds}}
 
 -- ---- the table's seconds
 all_come : (rule : Option TransitionRule) (e : Entries) (n p q : ℕ) → p ≤ n → q ≤ length e.items → length e.items ≤ e.all → (p ≡ n) ↔ (q ≡ e.all) → (p < table_count_by rule n) ↔ (q < top_of rule e)
@@ -24,7 +24,7 @@ all_come (Some rule) e n p q low high more both = (
 all_come None e n p q low high more both = ((λ h. omega arith), (λ h. omega arith))
 
 -- a second is one of the table's just where so few entries have come
-same_table : (z : Zone) (e : Entries) (u : ℤ) → IsValid z → AreEntries z e → SFits w64 u → (0 < length z.transitions → (x : ℤ) × IsLeapTime z.leaps u x)
+pub same_table : (z : Zone) (e : Entries) (u : ℤ) → IsValid z → AreEntries z e → SFits w64 u → (0 < length z.transitions → (x : ℤ) × IsLeapTime z.leaps u x)
     → (segment_of z u < table_count z) ↔ (place_at e.items u < top_of z.rule e)
 same_table z e u valid made fits time =
     let low = segment_most z u valid.transitions.rising in
@@ -66,7 +66,7 @@ pub top_least : (rule : Option TransitionRule) (e : Entries) → length e.items 
 top_least (Some rule) e h = h
 top_least None e h = omega arith
 
-time_then : (z : Zone) (u : ℤ) (t : LocalType) → TypeAt z u t → 0 < length z.transitions → (x : ℤ) × IsLeapTime z.leaps u x
+pub time_then : (z : Zone) (u : ℤ) (t : LocalType) → TypeAt z u t → 0 < length z.transitions → (x : ℤ) × IsLeapTime z.leaps u x
 time_then z u t k some = (k.leap_time, time_of z u t some k)
 
 pub table_of : (z : Zone) (e : Entries) → IsValid z → AreEntries z e → IsTable z e.items (top_of z.rule e)
@@ -173,9 +173,9 @@ rose_by_wall z a b c n few pieces looked rule =
     }
 
 -- ---- the index
-pub pieces_index : (z : Zone) (e : Entries) (b : Shown) (ps : List Piece) (s : ℤ) → AreEntries z e → ArePieces z e.items 0 (top_of z.rule e) b ps → IsBegunNear e s
-    → IsIndex z e (record { before = b; pieces = ps; rule_from = s })
-pieces_index z e b ps s made pieces begun =
+pub pieces_index : (z : Zone) (e : Entries) (b : Shown) (ps : List Piece) (ms : List ℤ) (s : ℤ) → AreEntries z e → ArePieces z e.items 0 (top_of z.rule e) b ps → AreEnds z.types e.items ms → IsBegunNear e s
+    → IsIndex z e (record { before = b; pieces = ps; maxima = ms; rule_from = s })
+pieces_index z e b ps ms s made pieces ends begun =
     let least = top_least z.rule e made.more in
     let bound = top_most z.rule e made.most in
     let most = pieces.most in
@@ -184,22 +184,27 @@ pieces_index z e b ps s made pieces begun =
       some = λ h. inl (pieces.some refl);
       order = pieces.ordered;
       answers = pieces.answers;
+      ends = ends;
       rule_from = begun;
     }
 
 -- without entries
+no_ends : (types : List LocalType) (ts : List Transition) → length ts ≡ 0 → AreEnds types ts []
+no_ends types ts none = ((λ e k some within. absurd (omega arith)), (λ h. absurd (omega arith)))
+
 pub no_segments : (z : Zone) (e : Entries) (s : ℤ) → length e.items ≡ 0 → top_of z.rule e ≡ 0 → IsBegunNear e s → (0 < length z.transitions → s ≡ pos 9_223_372_036_854_775_807)
-    → IsIndex z e (record { before = Less; pieces = []; rule_from = s })
+    → IsIndex z e (record { before = Less; pieces = []; maxima = []; rule_from = s })
 no_segments z e s none top begun never = record {
   most = omega arith;
   some = λ h. inr (never h);
   order = search arith;
   answers = λ l wide. rw top (record { wall = λ u j h. let b = h.below in absurd (omega arith); side = λ u f near from below here. absurd (omega arith) });
+  ends = no_ends z.types e.items none;
   rule_from = begun;
 }
 
 pub one_segment : (z : Zone) (e : Entries) (s : ℤ) (i : ℕ) (t : LocalType) → IsValid z → AreEntries z e → length e.items ≡ 0 → 0 < top_of z.rule e → IsBegunNear e s → (0 < length z.transitions → s ≡ pos 9_223_372_036_854_775_807)
-    → i ≡ index_of e.items 0 → HasType z i t → IsUtOffset t.offset → IsIndex z e (record { before = Once i; pieces = []; rule_from = s })
+    → i ≡ index_of e.items 0 → HasType z i t → IsUtOffset t.offset → IsIndex z e (record { before = Once i; pieces = []; maxima = []; rule_from = s })
 one_segment z e s i t valid made none some begun never is has offset =
     let table = table_of z e valid made in
     let w = table.within in
@@ -209,5 +214,6 @@ one_segment z e s i t valid made none some begun never is has offset =
       some = λ h. inr (never h);
       order = search arith;
       answers = λ l wide. rw top (shown_inside z e.items (top_of z.rule e) 0 l i t table some is has offset wide (λ h. absurd (omega arith)) (λ h. absurd (omega arith)));
+      ends = no_ends z.types e.items none;
       rule_from = begun;
     }

@@ -175,7 +175,7 @@ impl TimeZone {
             result.before.now result.after.now result.at }
     {
         let _ = &self.changes;
-        let first = self.first_at_or_after(local);
+        let first = self.first_at_or_after(local, &mut Probes::new());
         HeldChange {
             before: self.type_at(first.at - 1),
             after: self.type_at(first.at),
