@@ -5,10 +5,10 @@ use Rattle.std.proofs.lemmas.List.Elements.{filter-append}
 use Rattle.tz_info.proofs.Words.{AreLeapSeconds, AreRising, Bool, IsFromLast, IsLeapTime, IsLeapTimeRefused, IsValid, LeapSecond, List, SFits, Transition, Zone}
 use Rattle.tz_info.proofs.Words.{all_pairs_push, append-nil, ap, arith, by_lt_z, cases_lt, false, get_or, get_or_append_left, get_or_default, get_or_push, index_of}
 use Rattle.tz_info.proofs.Words.{inl, inr, int_le, ints, last_else, le_false, le_true, length, length_push, map, nat_tests, pos, passed, refl, slice_get, slice_get-get_or, Option, Some, None, suc, sym}
-use Rattle.tz_info.proofs.Words.{take, take_all, true, w64, zero, ℕ, ℤ, [], ◌++◌, ◌+◌, ◌-ℤ◌, ◌-◌, ◌==◌, ◌<ℤ◌, ◌<◌, ◌↔◌, ◌∙◌, ◌∷◌, ◌≡◌, ◌≢◌, ◌≤ℤ◌, ◌≤◌, ◌⊎◌}
+use Rattle.tz_info.proofs.Words.{take, take_all, true, w64, zero, ℕ, ℤ, [], ◌++◌, ◌+◌, ◌-◌, ◌==◌, ◌<ℤ◌, ◌<◌, ◌↔◌, ◌∙◌, ◌∷◌, ◌≡◌, ◌≢◌, ◌≤ℤ◌, ◌≤◌, ◌⊎◌}
 use Rattle.std.specs.Prelude.{option_to_list}
 use Rattle.std.proofs.lemmas.Option.{slice_get_within}
-use Rattle.tz_info.proofs.{LeapSearch.{own_leap_time}, LeapStarts.{reached_first}, Prefixes.{last_taken}, SegmentLaws.{come_by_time, not_later, place_most}, ZoneChanges.{refused_on}}
+use Rattle.tz_info.proofs.{LeapSearch.{own_leap_time}, Prefixes.{last_taken}, SegmentLaws.{come_by_time, not_later, place_most}, ZoneChanges.{refused_on}}
 use Rattle.tz_info.specs.Steps.Entries.{AreBefore, AreEntries, EndsAt, IsAdded, IsStartIn, NeverComes, added, idle, last_index, none_there, one_there}
 
 -- ---- lists with one item more
@@ -57,19 +57,6 @@ pub record AreMadeOf (z : Zone) (entries : List Transition) (k : ℕ) : Type 0 w
   pub some : 0 < k → k ≡ length z.transitions → 0 < length entries
   pub differ : (j : ℕ) → j < length entries → (j + 1 < length entries) ⊎ (k < length z.transitions)
       → slice_get z.types (index_of entries (j + 1)) ≢ slice_get z.types (index_of entries j)
-
-pub none_made : (z : Zone) → AreMadeOf z [] 0
-none_made z = record {
-  rising = λ i j d h l. absurd (omega arith);
-  indexes = λ j d h. absurd (omega arith);
-  few = omega arith;
-  named = λ u x l. refl;
-  leap_time = λ j d h. absurd (omega arith);
-  until = λ u y l come j d h. absurd (omega arith);
-  last = λ i d e all u y l come. absurd (omega arith);
-  some = λ h. absurd (omega arith);
-  differ = λ j h m. absurd (omega arith);
-}
 
 -- the entries that come before the second s at which the next transition does
 record AreKept (z : Zone) (entries kept : List Transition) (s : ℤ) : Type 0 where
@@ -244,16 +231,17 @@ from_last z entries u x valid made l = (
 )
 
 pub all_come : (z : Zone) (entries : List Transition) (k all : ℕ) → IsValid z → k ≡ length z.transitions → all ≡ length entries → AreMadeOf z entries k
-    → AreEntries z (record { items = entries; all = all })
+    → AreEntries z (record { items = entries; all = all; transitions = z.transitions })
 all_come z entries k all valid e a made =
     let made = rw e at made in
     rw a (record {
+      listed = refl;
       rising = made.rising;
       indexes = made.indexes;
       few = made.few;
       more = omega arith;
       most = omega arith;
-      some = λ h. made.some h refl;
+      some = ((λ h. made.some h refl), (λ h. let n = made.few in omega arith));
       named = λ u x f l. rw (take_all (length z.transitions) z.transitions (omega arith)) at (made.named u x l);
       come = λ u x f l. from_last z entries u x valid made l;
       leap_time = made.leap_time;
@@ -261,7 +249,8 @@ all_come z entries k all valid e a made =
     })
 
 pub never_come : (z : Zone) (entries : List Transition) (k all : ℕ) (t : Transition) → IsValid z → k < length z.transitions → t ≡ get_or z.transitions k t
-    → NeverComes z.leaps t.unix_leap_time → all ≡ length entries + 1 → AreMadeOf z entries k → AreEntries z (record { items = entries; all = all })
+    → NeverComes z.leaps t.unix_leap_time → all ≡ length entries + 1 → AreMadeOf z entries k
+    → AreEntries z (record { items = entries; all = all; transitions = z.transitions })
 never_come z entries k all t valid more item never a made =
     let first : (u x : ℤ) → SFits w64 u → IsLeapTime z.leaps u x → passed z.transitions x ≡ passed (take k z.transitions) x = λ u x f l.
     passed_first z.transitions k x (λ i d low h.
@@ -269,12 +258,13 @@ never_come z entries k all t valid more item never a made =
     let g = ap (λ (b : Transition). b.unix_leap_time) (get_or_default z.transitions k d t more ∙ sym item) in
     let n = not_later z.transitions k i d valid.transitions.rising low h in omega (arith, ints)) in
     rw a (record {
+      listed = refl;
       rising = made.rising;
       indexes = made.indexes;
       few = let n = made.few in omega arith;
       more = omega arith;
       most = omega arith;
-      some = λ h. omega arith;
+      some = ((λ h. omega arith), (λ h. omega arith));
       named = λ u x f l. rw (first u x f l) (made.named u x l);
       come = λ u x f l. (
         λ come.
@@ -287,17 +277,37 @@ never_come z entries k all t valid more item never a made =
       differ = λ j h m. made.differ j h (inr more);
     })
 
-pub no_entries : (z : Zone) → IsValid z → length z.transitions ≡ 0 → AreEntries z (record { items = []; all = 0 })
-no_entries z valid none = all_come z [] 0 0 valid (sym none) refl (none_made z)
+-- the transitions are the entries, if there is no leap second and each but the last changes the type
+abbrev pub AreChanges : Zone → ℕ → Type 0
+AreChanges z n = (k : ℕ) → k + 1 < n → slice_get z.types (index_of z.transitions (k + 1)) ≢ slice_get z.types (index_of z.transitions k)
+
+pub one_change : (z : Zone) (n : ℕ) → 0 < n → AreChanges z n → slice_get z.types (index_of z.transitions n) ≢ slice_get z.types (index_of z.transitions (n - 1)) → AreChanges z (n + 1)
+one_change z n some h last k below = elim (cases_lt (k + 1) n) [
+  | inl m ↦ h k m
+  | inr m ↦ let e : k + 1 ≡ n = omega arith in let p : n - 1 ≡ k = omega arith in rw (e, ← p) last
+]
+
+pub own_entries : (z : Zone) → IsValid z → length z.leaps ≡ 0 → AreChanges z (length z.transitions)
+    → AreEntries z (record { items = z.transitions; all = length z.transitions; transitions = z.transitions })
+own_entries z valid none differ = record {
+  listed = refl;
+  rising = valid.transitions.rising;
+  indexes = valid.transitions.indexes;
+  few = omega arith;
+  more = omega arith;
+  most = omega arith;
+  some = ((λ h. h), (λ h. h));
+  named = λ u x f l. rw (same z.leaps u x none l) refl;
+  come = λ u x f l. rw (same z.leaps u x none l) ((λ h. h), (λ h. h));
+  leap_time = λ k d h. ((get_or z.transitions k d).unix_leap_time, own_leap_time z.leaps (get_or z.transitions k d).unix_leap_time none);
+  differ = λ k h more. differ k more;
+}
+  where
+    same : (leaps : List LeapSecond) (u x : ℤ) → length leaps ≡ 0 → IsLeapTime leaps u x → x ≡ u
+    same [] u x none l = let s = l.sum in omega (arith, ints)
+    same (e ∷ es) u x none l = absurd (omega arith)
 
 -- ---- the second at which a transition comes
--- without leap seconds each comes at its own time
-pub starts_itself : (leaps : List LeapSecond) (x : ℤ) → AreLeapSeconds leaps → length leaps ≡ 0 → IsStartIn leaps x x
-starts_itself leaps x valid none = record {
-  leap_time = (x, own_leap_time leaps x none);
-  reached = λ u y l. reached_first leaps x u y valid (record { within = omega arith; before = λ k d h. absurd (omega arith); after = λ k d h m. absurd (omega arith) }) l;
-}
-
 pub never_then : (leaps : List LeapSecond) (x start : ℤ) → ((u y : ℤ) → IsLeapTime leaps u y → (x ≤ℤ y) ↔ (start ≤ℤ u)) → pos 9_223_372_036_854_775_807 <ℤ start → NeverComes leaps x
 never_then leaps x start reached late u y f l = by_lt_z y x (λ h. h) (λ h. let a = (reached u y l).0 h in absurd (omega (arith, ints)))
 
@@ -327,20 +337,6 @@ last_below entries n some named = below entries 0 n some named
     below : (ts : List Transition) (i n : ℕ) → i < n → ((k : ℕ) (d : Transition) → k < length ts → (get_or ts k d).type_index < n) → last_else i (map (λ (t : Transition). t.type_index) ts) < n
     below [] i n h all = h
     below (t ∷ ts) i n h all = below ts t.type_index n (all 0 t (omega arith)) (λ k d l. all (suc k) d (omega arith))
-
--- without leap seconds no entry comes as late as the next transition
-pub apart : (z : Zone) (entries : List Transition) (k : ℕ) (s : ℤ) (t : Transition) → IsValid z → k < length z.transitions → t ≡ get_or z.transitions k t → AreMadeOf z entries k
-    → IsStartIn z.leaps t.unix_leap_time s → length z.leaps ≡ 0 → EndsAt entries s → ⊥
-apart z entries k s t valid more item made start none (last, is, at) =
-    let late = (start.reached s s (own_leap_time z.leaps s none)).1 (omega (arith, ints)) in
-    let early = (start.reached t.unix_leap_time t.unix_leap_time (own_leap_time z.leaps t.unix_leap_time none)).0 (omega (arith, ints)) in
-    let some = slice_get_within entries (length entries - 1) last is in
-    let by = made.until (s -ℤ pos 1) (s -ℤ pos 1) (own_leap_time z.leaps (s -ℤ pos 1) none) (λ i d h.
-    let r = valid.transitions.rising i k d h more in
-    let g = ap (λ (a : Transition). a.unix_leap_time) (get_or_default z.transitions k d t more ∙ sym item) in omega (arith, ints)) (length entries - 1) last some in
-    let g = slice_get-get_or entries (length entries - 1) last some in
-    let same : get_or entries (length entries - 1) last ≡ last = cc in
-    let b = ap (λ (a : Transition). a.unix_leap_time) same in omega (arith, ints)
 
 -- ---- one turn of the loop
 pub record IsTurn (z : Zone) (old kept entries : List Transition) (k : ℕ) (s : ℤ) (t entry : Transition) (is_last : Bool) : Type 0 where

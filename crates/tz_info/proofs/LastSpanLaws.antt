@@ -1,8 +1,8 @@
 -- The last span, and the local times that only one of its seconds shows.
-use Rattle.tz_info.proofs.Words.{AreExtremes, Extremes, IsEndOrTyped, IsLastSpan, IsRuleOrNone, IsShownOnce, IsSpanAt, IsValid, IsWide, LastSpan, LocalType}
-use Rattle.tz_info.proofs.Words.{None, SFits, Shows, Span, TypeAt, Zone, arith, ints, offsets, pos, saturate_signed, w32, w64, ℤ, ◌+ℤ◌, ◌-ℤ◌, ◌<ℤ◌, ◌≡◌}
+use Rattle.tz_info.proofs.Words.{AreExtremes, Change, Extremes, HasNoChange, IsEndOrTyped, IsLast, IsLastSpan, IsRuleOrNone, IsShownOnce, IsSpanAt, IsValid, IsWide, LastSpan, LocalType}
+use Rattle.tz_info.proofs.Words.{None, Option, SFits, Shows, Span, TypeAt, Zone, arith, by_lt_z, false, ints, offsets, pos, saturate_signed, w32, w64, ℤ, ◌+ℤ◌, ◌-ℤ◌, ◌<ℤ◌, ◌≡◌}
 use Rattle.tz_info.proofs.Words.{◌≤ℤ◌}
-use Rattle.tz_info.proofs.{ExtremeLaws.{at_least_least, at_most_greatest}, LeapStarts.{saturated}, SpanLaws.{in_last_span}, ZoneLaws.{type_once}}
+use Rattle.tz_info.proofs.{ChangeSearch.{nearest_moved}, ExtremeLaws.{at_least_least, at_most_greatest}, LeapStarts.{saturated}, SpanLaws.{in_last_span, none_after}, ZoneLaws.{type_once}}
 
 -- each second later than that one, up to `last`, lies in the span
 abbrev HasAllAfter : Zone → Span → ℤ → ℤ → Type 0
@@ -41,16 +41,26 @@ shown_once_after z s after last local e h each =
           let same = type_once z v t s.local_time_type k.type (each v c.0 c.1 c.2).in_force_then in grind (arith, ints);
     }
 
+-- if no change comes after two seconds, the last one up to the one is the last one up to the other
+last_up_to : (z : Zone) (u v : ℤ) (found : Option Change) → HasNoChange (TypeAt z) (λ w. u <ℤ w) → HasNoChange (TypeAt z) (λ w. v <ℤ w)
+    → IsLast (TypeAt z) (λ w. w ≤ℤ v) found → IsLast (TypeAt z) (λ w. w ≤ℤ u) found
+last_up_to z u v found none_u none_v =
+    nearest_moved false (TypeAt z) (TypeAt z) (λ w. w ≤ℤ v) (λ w. w ≤ℤ u) found
+    (λ d is up. (is, by_lt_z v d.at (λ l. absurd (none_v d is l)) (λ m. m)))
+    (λ d is up. (is, by_lt_z u d.at (λ l. absurd (none_u d is l)) (λ m. m)))
+
 -- a span far from now that has no end is the last one
 pub last_spans : (z : Zone) (last : LastSpan) (first : ℤ) (e : Extremes) → IsValid z → IsRuleOrNone z.rule
     → AreExtremes (offsets z.types z.rule) e → SFits w32 e.least → SFits w32 e.greatest → SFits w64 last.after → SFits w64 last.last → pos 10_000_000_000_000 ≤ℤ last.last
     → IsSpanAt (TypeAt z) last.last last.span → last.span.until ≡ None → IsEndOrTyped z last.span.from first
-    → ((u : ℤ) → SFits w64 u → last.after <ℤ u → first ≤ℤ u) → last.local_after ≡ saturate_signed w64 (last.after +ℤ e.greatest) → IsLastSpan z last
-last_spans z last first e valid limits extremes low high fits last_fits far h endless from after local_after =
+    → ((u : ℤ) → SFits w64 u → last.after <ℤ u → first ≤ℤ u) → last.local_after ≡ saturate_signed w64 (last.after +ℤ e.greatest)
+    → IsLast (TypeAt z) (λ v. v ≤ℤ last.last) last.begin → IsLastSpan z last
+last_spans z last first e valid limits extremes low high fits last_fits far h endless from after local_after begin =
     let each : HasAllAfter z last.span last.after last.last = λ u is l most. in_last_span z last.span first last.last u valid limits h from last_fits is (after u is l) most in
     record {
       each = each;
       endless = endless;
+      begins = λ u is l most. last_up_to z u last.last last.begin (none_after (TypeAt z) last.span u (each u is l most) endless) (none_after (TypeAt z) last.span last.last h endless) begin;
       shown = λ local wide later.
           let near = (saturated (last.after +ℤ e.greatest) (local -ℤ pos 1) (omega (arith, ints))).0 (omega (arith, ints)) in
           shown_once_after z last.span last.after last.last local e

@@ -64,6 +64,7 @@ pub mod WallTimes
 pub mod EntryLaws
 pub mod EntryChanges
 pub mod TableLaws
+pub mod SegmentEndLaws
 pub mod Equalities
 pub mod SecondTypes
 pub mod ChangeLists

@@ -1,9 +1,10 @@
 -- The pieces of the first segments, as long as the last of them has no end, and one segment more.
 use Rattle.tz_info.proofs.Words.{AreCutsCrossed, AreInOrder, ArePieces, ArePiecesAt, HasType, IsCutAt, IsFold, IsGap, IsMerged, IsSegment, IsTable, IsUtOffset}
 use Rattle.tz_info.proofs.Words.{List, LocalType, Piece, Segment, Transition, Zone, all_pairs_push, answer_at, answer_before, arith, cut_of, index_of, inl}
-use Rattle.tz_info.proofs.Words.{inr, ints, le_false, le_true, length, length_push, refl, suc, together, zero, ℕ, ℤ, [], ⊎_elim, ◌++◌, ◌-◌, ◌<ℤ◌}
-use Rattle.tz_info.proofs.Words.{Some, sym, ◌<◌, ◌∙◌, ◌∷◌, ◌≡◌, ◌≤ℤ◌, ◌≤◌, ◌⊎◌}
+use Rattle.tz_info.proofs.Words.{cases_lt, inr, ints, le_false, le_true, length, length_push, refl, suc, together, zero, ℕ, ℤ, [], ⊎_elim, ◌++◌, ◌-◌, ◌<ℤ◌}
+use Rattle.tz_info.proofs.Words.{Some, slice_get, sym, ◌<◌, ◌∙◌, ◌∷◌, ◌≡◌, ◌≤ℤ◌, ◌≤◌, ◌⊎◌}
 use Rattle.tz_info.specs.declared.zone.shown.Shown.TheVariants.{Less, Once, Skipped}
+use Rattle.tz_info.specs.Steps.SegmentEnds.{AreEndsRising, end_of}
 use Rattle.tz_info.proofs.WallPieces.{Answer, StartBy, at_all, at_earlier, at_later, before_pushed, start_by_push}
 use Rattle.tz_info.proofs.WallSegments.{first_pieces, inner_pieces, last_pieces, piece, pieces_joined}
 
@@ -63,6 +64,8 @@ pub record AreOpen (z : Zone) (ts : List Transition) (place : ℕ) (first : ℕ)
   pub closed : place ≤ length ts → (t : LocalType) → HasType z (index_of ts (place - 1)) t → IsUtOffset t.offset → (1 < place → latest <ℤ cut_of ts place t.offset)
       → ArePieces z ts 0 place (Once first) (pieces ++ (piece (cut_of ts place t.offset) Less ∷ []))
   pub whole : length ts < place → ArePieces z ts 0 place (Once first) pieces
+  pub rising : (k : ℕ) → 0 < k → suc k < place → end_of z.types ts k <ℤ end_of z.types ts (suc k)
+  pub ended : 1 < place → end_of z.types ts (place - 1) ≤ℤ latest
 
 -- at first there is the first segment
 pub open_first : (z : Zone) (ts : List Transition) (top : ℕ) (latest : ℤ) → IsTable z ts top → 0 < top → 0 < length ts → AreOpen z ts 1 (index_of ts 0) [] latest
@@ -74,6 +77,8 @@ open_first z ts top latest table own any = record {
   last = refl;
   closed = λ _ t has offset _. first_pieces z ts top (index_of ts 0) t table own any refl has offset;
   whole = λ h. absurd (omega arith);
+  rising = λ k some within. absurd (omega arith);
+  ended = λ h. absurd (omega arith);
 }
 
 -- the pieces where the next segment starts are pushed: what they give without an end of that segment
@@ -133,6 +138,9 @@ opened z ts place i ps latest p q o a h =
       last = before_pushed b first q ∙ next;
     }
 
+later_end : (a b c d : ℤ) → a ≤ℤ b → b <ℤ c → c ≤ℤ d → a <ℤ d
+later_end a b c d h k l = omega (arith, ints)
+
 -- the pieces of one segment more
 pub open_more : (z : Zone) (ts : List Transition) (top place i : ℕ) (ps out : List Piece) (latest : ℤ) (p q : Piece) → IsTable z ts top → 0 < place → place < top → AreOpen z ts place i ps latest → ArePiecesAt z.types ts place p q → (1 < place → latest <ℤ p.start) → out ≡ (ps ++ (p ∷ [])) ++ (q ∷ []) → AreOpen z ts (suc place) i out q.start
 open_more z ts top place i ps out latest p q table inner_start own o a strict e =
@@ -142,6 +150,7 @@ open_more z ts top place i ps out latest p q table inner_start own o a strict e 
     let begin : ℤ = cut_of ts place a.type.offset in
     let y : ℕ = index_of ts place in
     let ended = (cuts_between z.types ts place p q a).0 in
+    let end_here : end_of z.types ts place ≡ end = rw a.listed_before refl in
     let first : ArePieces z ts 0 place (Once i) (ps ++ (piece end Less ∷ [])) = o.closed (omega arith) a.before a.listed_before a.offset_before (λ m. let s = strict m in omega (arith, ints)) in
     let closed = ps ++ (piece end Less ∷ []) in
     let all = (ps ++ (p ∷ [])) ++ (q ∷ []) in
@@ -167,7 +176,29 @@ open_more z ts top place i ps out latest p q table inner_start own o a strict e 
       whole = λ last.
           let segment = last_pieces z ts top place y a.type table own inner_start (omega arith) refl a.listed a.offset in
           pieces_joined z ts 0 place (suc place) (Once i) (Skipped place) closed (piece begin (Once y) ∷ []) all table.rising inner_start (omega arith) first segment r.merged;
+      rising = λ k some inner. elim (cases_lt (suc k) place) [
+        | inl before ↦ o.rising k some before
+        | inr here ↦
+            let at : suc k ≡ place = omega arith in let k_is : place - 1 ≡ k = omega arith in
+            rw (at, end_here) (later_end _ latest p.start end (rw k_is at (o.ended (omega arith))) (strict (omega arith)) ended)
+      ];
+      ended = λ m. rw (one, end_here) end_by;
     })
+
+pub end_before : (types : List LocalType) (ts : List Transition) (place : ℕ) (t : LocalType) → 0 < place → slice_get types (index_of ts (place - 1)) ≡ Some t → end_of types ts place ≡ cut_of ts place t.offset
+end_before types ts place t some has = rw has refl
+
+-- each segment ends later than the one before
+pub ends_open : (z : Zone) (ts : List Transition) (place i : ℕ) (ps : List Piece) (latest : ℤ) → AreOpen z ts place i ps latest → length ts < place → AreEndsRising z.types ts
+ends_open z ts place i ps latest o all k some within = o.rising k some (omega arith)
+
+pub ends_closed : (z : Zone) (ts : List Transition) (place i : ℕ) (ps : List Piece) (latest : ℤ) → AreOpen z ts place i ps latest → place ≡ length ts → (1 < place → latest <ℤ end_of z.types ts place) → AreEndsRising z.types ts
+ends_closed z ts place i ps latest o all last k some within = elim (cases_lt (suc k) place) [
+  | inl before ↦ o.rising k some before
+  | inr here ↦
+      let at : suc k ≡ place = omega arith in let k_is : place - 1 ≡ k = omega arith in
+      rw at (later_end _ latest _ _ (rw k_is at (o.ended (omega arith))) (last (omega arith)) (omega (arith, ints)))
+]
 
 -- where the next cut doesn't come behind the latest, they cross
 pub crossed_by : (z : Zone) (ts : List Transition) (place i : ℕ) (ps : List Piece) (latest cut : ℤ) → place ≤ length ts → 1 < place → AreOpen z ts place i ps latest → IsCutAt z.types ts place cut → cut ≤ℤ latest → AreCutsCrossed z.types ts

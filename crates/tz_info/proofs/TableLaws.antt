@@ -13,19 +13,9 @@ use Rattle.tz_info.specs.declared.zone.shown.Shown.TheVariants.{Less, Once, Seve
 use Rattle.tz_info.proofs.{EntryChanges.{index_there, looks_most}, ExtremeLaws.{window_made}, GapLaws.{IsNever, gap_found, not_less}, PassedTransitions.{no_items}, TableSearch.{search_found}, ZoneChanges.{time_of}}
 use Rattle.tz_info.proofs.SegmentLaws.{come_at_time, come_from, place_before, place_begin, place_most, segment_here, segment_most}
 use Rattle.tz_info.proofs.WallSegments.{indexes_below, leap_time_of, shown_inside, type_in_table, type_of_table, typed_answer}
-use Rattle.tz_info.specs.Steps.Entries.{AreEntries, Entries, most_looks}
+use Rattle.tz_info.specs.Steps.{Entries.{AreEntries, Entries, most_looks}, SegmentEnds.{AreEnds}}
 
 -- ---- the table's seconds
--- without transitions all have come from the first second on
-none_come : (z : Zone) (e : Entries) → IsValid z → AreEntries z e → length z.transitions ≡ 0 → e.all ≡ 0
-none_come z e valid made none =
-    let (x, l) = leap_time_of z (pos 0) valid (omega (arith, ints), omega (arith, ints)) in
-    let most = place_most e.items (pos 0) made.rising in
-    let seg = come_at_time z (pos 0) x l in
-    let few = made.few in
-    let top = segment_most z (pos 0) valid.transitions.rising in
-    let c = (made.come (pos 0) x (omega (arith, ints)) l).0 (omega arith) in omega arith
-
 all_come : (rule : Option TransitionRule) (e : Entries) (n p q : ℕ) → p ≤ n → q ≤ length e.items → length e.items ≤ e.all → (p ≡ n) ↔ (q ≡ e.all) → (p < table_count_by rule n) ↔ (q < top_of rule e)
 all_come (Some rule) e n p q low high more both = (
   λ h. elim (cases_lt q e.all) [ inl b ↦ b | inr m ↦ let c = both.1 (omega arith) in absurd (omega arith) ],
@@ -34,7 +24,7 @@ all_come (Some rule) e n p q low high more both = (
 all_come None e n p q low high more both = ((λ h. omega arith), (λ h. omega arith))
 
 -- a second is one of the table's just where so few entries have come
-same_table : (z : Zone) (e : Entries) (u : ℤ) → IsValid z → AreEntries z e → SFits w64 u → (0 < length z.transitions → (x : ℤ) × IsLeapTime z.leaps u x)
+pub same_table : (z : Zone) (e : Entries) (u : ℤ) → IsValid z → AreEntries z e → SFits w64 u → (0 < length z.transitions → (x : ℤ) × IsLeapTime z.leaps u x)
     → (segment_of z u < table_count z) ↔ (place_at e.items u < top_of z.rule e)
 same_table z e u valid made fits time =
     let low = segment_most z u valid.transitions.rising in
@@ -44,7 +34,7 @@ same_table z e u valid made fits time =
           let (x, l) = time some in
           let seg = come_at_time z u x l in
           let c = made.come u x fits l in ((λ h. c.0 (seg ∙ h)), (λ h. sym seg ∙ c.1 h))
-      | inr none ↦ let e2 = none_come z e valid made (omega arith) in let few = made.few in ((λ h. omega arith), (λ h. omega arith))
+      | inr none ↦ let e2 : e.all ≡ 0 = grind (arith, made.some) in let few = made.few in ((λ h. omega arith), (λ h. omega arith))
     ])
 
 index_of_none : (k : ℕ) → index_of [] k ≡ 0
@@ -76,7 +66,7 @@ pub top_least : (rule : Option TransitionRule) (e : Entries) → length e.items 
 top_least (Some rule) e h = h
 top_least None e h = omega arith
 
-time_then : (z : Zone) (u : ℤ) (t : LocalType) → TypeAt z u t → 0 < length z.transitions → (x : ℤ) × IsLeapTime z.leaps u x
+pub time_then : (z : Zone) (u : ℤ) (t : LocalType) → TypeAt z u t → 0 < length z.transitions → (x : ℤ) × IsLeapTime z.leaps u x
 time_then z u t k some = (k.leap_time, time_of z u t some k)
 
 pub table_of : (z : Zone) (e : Entries) → IsValid z → AreEntries z e → IsTable z e.items (top_of z.rule e)
@@ -116,7 +106,7 @@ pub begin_by : (z : Zone) (e : Entries) (s : ℤ) → IsValid z → AreEntries z
 begin_by z e s valid made low begun = record {
   comes = λ u x fits l. let c = made.come u x fits l in let b = begun u fits in ((λ h. b.0 (c.0 h)), (λ h. c.1 (b.1 h)));
   alone = λ none.
-      let all = none_come z e valid made none in
+      let all : e.all ≡ 0 = grind (arith, made.some) in
       let few = made.few in
       let most = place_most e.items least_time made.rising in
       let b = (begun least_time (omega (arith, ints))).0 (omega arith) in omega (arith, ints);
@@ -183,9 +173,9 @@ rose_by_wall z a b c n few pieces looked rule =
     }
 
 -- ---- the index
-pub pieces_index : (z : Zone) (e : Entries) (b : Shown) (ps : List Piece) (s : ℤ) → AreEntries z e → ArePieces z e.items 0 (top_of z.rule e) b ps → IsBegunNear e s
-    → IsIndex z e (record { before = b; pieces = ps; rule_from = s })
-pieces_index z e b ps s made pieces begun =
+pub pieces_index : (z : Zone) (e : Entries) (b : Shown) (ps : List Piece) (ms : List ℤ) (s : ℤ) → AreEntries z e → ArePieces z e.items 0 (top_of z.rule e) b ps → AreEnds z.types e.items ms → IsBegunNear e s
+    → IsIndex z e (record { before = b; pieces = ps; maxima = ms; rule_from = s })
+pieces_index z e b ps ms s made pieces ends begun =
     let least = top_least z.rule e made.more in
     let bound = top_most z.rule e made.most in
     let most = pieces.most in
@@ -194,22 +184,27 @@ pieces_index z e b ps s made pieces begun =
       some = λ h. inl (pieces.some refl);
       order = pieces.ordered;
       answers = pieces.answers;
+      ends = ends;
       rule_from = begun;
     }
 
 -- without entries
+no_ends : (types : List LocalType) (ts : List Transition) → length ts ≡ 0 → AreEnds types ts []
+no_ends types ts none = ((λ e k some within. absurd (omega arith)), (λ h. absurd (omega arith)))
+
 pub no_segments : (z : Zone) (e : Entries) (s : ℤ) → length e.items ≡ 0 → top_of z.rule e ≡ 0 → IsBegunNear e s → (0 < length z.transitions → s ≡ pos 9_223_372_036_854_775_807)
-    → IsIndex z e (record { before = Less; pieces = []; rule_from = s })
+    → IsIndex z e (record { before = Less; pieces = []; maxima = []; rule_from = s })
 no_segments z e s none top begun never = record {
   most = omega arith;
   some = λ h. inr (never h);
   order = search arith;
   answers = λ l wide. rw top (record { wall = λ u j h. let b = h.below in absurd (omega arith); side = λ u f near from below here. absurd (omega arith) });
+  ends = no_ends z.types e.items none;
   rule_from = begun;
 }
 
 pub one_segment : (z : Zone) (e : Entries) (s : ℤ) (i : ℕ) (t : LocalType) → IsValid z → AreEntries z e → length e.items ≡ 0 → 0 < top_of z.rule e → IsBegunNear e s → (0 < length z.transitions → s ≡ pos 9_223_372_036_854_775_807)
-    → i ≡ index_of e.items 0 → HasType z i t → IsUtOffset t.offset → IsIndex z e (record { before = Once i; pieces = []; rule_from = s })
+    → i ≡ index_of e.items 0 → HasType z i t → IsUtOffset t.offset → IsIndex z e (record { before = Once i; pieces = []; maxima = []; rule_from = s })
 one_segment z e s i t valid made none some begun never is has offset =
     let table = table_of z e valid made in
     let w = table.within in
@@ -219,5 +214,6 @@ one_segment z e s i t valid made none some begun never is has offset =
       some = λ h. inr (never h);
       order = search arith;
       answers = λ l wide. rw top (shown_inside z e.items (top_of z.rule e) 0 l i t table some is has offset wide (λ h. absurd (omega arith)) (λ h. absurd (omega arith)));
+      ends = no_ends z.types e.items none;
       rule_from = begun;
     }

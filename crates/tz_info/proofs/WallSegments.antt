@@ -88,7 +88,7 @@ pieces_joined z ts low middle high bx by xs ys out rising h k a b m = grind (ari
 
 -- ---- one segment between entries
 
-type_there : (z : Zone) (ts : List Transition) (top k : ℕ) (u : ℤ) (f t : LocalType) → IsTable z ts top → k < top → SFits w64 u → HasType z (index_of ts k) t → place_at ts u ≡ k → TypeAt z u f → f ≡ t
+pub type_there : (z : Zone) (ts : List Transition) (top k : ℕ) (u : ℤ) (f t : LocalType) → IsTable z ts top → k < top → SFits w64 u → HasType z (index_of ts k) t → place_at ts u ≡ k → TypeAt z u f → f ≡ t
 type_there z ts top k u f t table own fits has e h = listed_once z (index_of ts k) f t (rw e at (table.listed u f fits (omega arith) h)) has
 
 second_of : (z : Zone) (ts : List Transition) (top k : ℕ) (l v : ℤ) (j : ℕ) (t : LocalType) → IsTable z ts top → k < top → HasType z (index_of ts k) t → ListedAmong z ts k (suc k) l v j → v ≡ l -ℤ t.offset

@@ -14,6 +14,7 @@ pub mod WallPieces
 pub mod Merging
 pub mod Starts
 pub mod Pieces
+pub mod SegmentEnds
 pub mod Prepared
 pub mod Spelled
 pub mod RuleSeconds

@@ -93,6 +93,21 @@ pub(crate) fn copied(change: Option<HeldChange<'_>>) -> Option<Change>
     Some(change?.copied())
 }
 
+// The change with references to its types.
+#[inline(always)]
+pub(crate) fn held(change: &Option<Change>) -> Option<HeldChange<'_>>
+    ensures { option_map change_held result ≡ change.now }
+{
+    match change {
+        Some(change) => Some(HeldChange {
+            at: change.at,
+            before: &change.before,
+            after: &change.after,
+        }),
+        None => None,
+    }
+}
+
 // The change that was found, if it comes after that second, and up to `last`.
 pub(crate) fn if_within(found: Option<HeldChange<'_>>, after: i64, last: i64) -> Option<Change>
     ensures { MatchOption result

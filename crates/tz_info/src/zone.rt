@@ -19,6 +19,7 @@ mod parts;
 mod pieces;
 mod posix;
 mod runs;
+mod segment_ends;
 mod segments;
 mod shown;
 pub(crate) mod shown_seconds;

@@ -16,10 +16,11 @@ use Rattle.tz_info.specs.declared.zone.change_table.Come.{Come}
 use Rattle.tz_info.specs.declared.zone.leap_second.LeapSecond.{LeapSecond}
 use Rattle.tz_info.specs.declared.zone.transition.Transition.{Transition}
 
--- a list of entries, and how many of them have come where all transitions have
+-- a list of entries, how many of them have come where all transitions have, and the transitions as listed
 pub record Entries : Type 0 where
   pub items : List Transition
   pub all : ℕ
+  pub transitions : List Transition
 
 -- the index that the last entry names, or 0 where there is none
 abbrev pub last_index : List Transition → ℕ
@@ -28,12 +29,13 @@ last_index entries = last_else 0 (map (λ t. t.type_index) entries)
 -- the entries are those of the zone: they rise, at each second with a leap time the last one that has come names the type of the last transition that has, `all` of them
 -- have come where all transitions have, and each comes at a second with a leap time and changes the type, except perhaps the last one with the last transition
 pub record AreEntries (z : Zone) (e : Entries) : Type 0 where
+  pub listed : e.transitions ≡ z.transitions
   pub rising : AreRising e.items
   pub indexes : NameTypes (length z.types) e.items
   pub few : length e.items ≤ length z.transitions
   pub more : length e.items ≤ e.all
   pub most : e.all ≤ length e.items + 1
-  pub some : 0 < length z.transitions → 0 < e.all
+  pub some : (0 < length z.transitions) ↔ (0 < e.all)
   pub named : (u x : ℤ) → FitsSigned w64 u → IsLeapTime z.leaps u x → slice_get z.types (index_at z x) ≡ slice_get z.types (last_index (passed e.items u))
   pub come : (u x : ℤ) → FitsSigned w64 u → IsLeapTime z.leaps u x → IsFromLast z x ↔ (length (passed e.items u) ≡ e.all)
   pub leap_time : (k : ℕ) (d : Transition) → k < length e.items → (x : ℤ) × IsLeapTime z.leaps (slice_index_or e.items k d).unix_leap_time x

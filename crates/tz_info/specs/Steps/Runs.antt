@@ -45,6 +45,12 @@ pub record AreWithin (z : Zone) (from until low high : ℤ) : Type 0 where
   pub near_high : IsNear high
   pub within : (u : ℤ) (t : LocalType) → ShowsWithin (TypeAt z) from until u t → (low ≤ℤ u) × (u <ℤ high)
 
+-- the seconds from `low` to before `high` that come at `second` or later
+pub record ArePartFrom (low high second start end : ℤ) : Type 0 where
+  pub near : IsNear low → IsNear high → IsNear start
+  pub until : end ≡ high
+  pub from : (u : ℤ) → low ≤ℤ u → u <ℤ high → second ≤ℤ u → start ≤ℤ u
+
 -- of the seconds from `low` to before `high` the run has the first ones, or the last ones, and at least one
 abbrev pub IsNextRun : Bool → ℤ → ℤ → ℤ → ℤ → Type 0
 IsNextRun true low high start end = (start ≡ low) × (low <ℤ end) × (end ≤ℤ high)

@@ -10,6 +10,7 @@ use Rattle.tz_base.specs.LocalTypes.{LocalType}
 use Rattle.tz_info.specs.Leaps.{IsLeapTime, IsNear}
 use Rattle.tz_info.specs.Lists.{last_else}
 use Rattle.tz_info.specs.Steps.Entries.{AreEntries, Entries}
+use Rattle.tz_info.specs.Steps.SegmentEnds.{AreEnds}
 use Rattle.tz_info.specs.Steps.Segments.{begin_of, index_of, segment_of, table_count}
 use Rattle.tz_info.specs.Transitions.{AreRising, NameTypes, passed}
 use Rattle.tz_info.specs.WallClocks.{Shows}
@@ -119,10 +120,12 @@ IsBegun e start = (u : ℤ) → FitsSigned w64 u → (place_at e.items u ≡ e.a
 abbrev pub IsBegunNear : Entries → ℤ → Type 0
 IsBegunNear e start = (u : ℤ) → IsNear u → (place_at e.items u ≡ e.all) ↔ (start ≤ℤ u)
 
--- the pieces of a zone's wall-clock axis, what stands before the first of them, and the second from which its rule is asked
+-- the pieces of a zone's wall-clock axis, what stands before the first of them, the latest ends of its segments if these don't rise, and the second from which
+-- its rule is asked
 pub record WallIndex : Type 0 where
   pub before : Shown
   pub pieces : List Piece
+  pub maxima : List ℤ
   pub rule_from : ℤ
 
 -- one look at least is counted: at a piece, or in its place where there is none and the rule never begins
@@ -136,4 +139,5 @@ pub record IsIndex (z : Zone) (e : Entries) (i : WallIndex) : Type 0 where
   pub some : 0 < length z.transitions → IsCounted i
   pub order : AreInOrder i.pieces
   pub answers : (local : ℤ) → IsWide local → IsShownAmong z e.items 0 (top_of z.rule e) local (answer_at i.before i.pieces local)
+  pub ends : AreEnds z.types e.items i.maxima
   pub rule_from : IsBegunNear e i.rule_from

@@ -41,7 +41,7 @@ impl TimeZone {
     pub fn changes(&self, from: i64, until: i64) -> Changes<'_>
         ensures { AreChanges (TypeAt self.now) from until (changes_left result) }
     {
-        let _ = &self.table;
+        let _ = &self.changes;
         Changes {
             zone: self,
             after: second_before(from),

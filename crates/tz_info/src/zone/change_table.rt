@@ -39,6 +39,8 @@ pub(super) struct ChangeTable {
     entries: Table,
     // How many entries have come where all transitions have: more than there are, if never.
     all: usize,
+    // The transitions as listed, if these are not the entries.
+    listed: Option<Table>,
 }
 
 // What has come at a second: the index of the type in force, where some transition has not come, and
@@ -61,23 +63,82 @@ pub(super) struct Between {
 }
 
 impl Model for ChangeTable {
+    ghost use Rattle.std.specs.Prelude.{unwrap_or};
     ghost use Rattle.tz_info.specs.Steps.Entries.{Entries};
 
     ghost Value = { Entries };
 
-    ghost view = { λ t. record { items = t.entries; all = t.all } };
+    ghost view = { λ t. record {
+      items = t.entries;
+      all = t.all;
+      transitions = unwrap_or t.listed t.entries;
+    } };
 }
 
 impl ChangeTable {
-    // The table of the zone of those lists.
-    pub(super) fn new(alloc: Global, lists: Lists) -> Result<ChangeTable, Error>
-        requires { IsValid (zone_in lists) }
-        ensures { MatchResult result (λ t. AreEntries (zone_in lists.entry) t)
-            (λ e. e ≡ OutOfMemory) }
+    // The table of the zone of those lists, which keeps its transitions.
+    pub(super) fn new(
+        alloc: Global,
+        transitions: Vec<Kept>,
+        types: &[LocalTimeType],
+        leaps: &[LeapSecond],
+        rule: &Option<TransitionRule>,
+    ) -> Result<ChangeTable, Error>
+        requires { IsValid (record {
+          transitions = transitions.items;
+          types = types.now;
+          leaps = leaps.now;
+          rule = rule.now;
+        }) }
+        ensures { MatchResult result (λ t. AreEntries (record {
+          transitions = transitions.items;
+          types = types.now;
+          leaps = leaps.now;
+          rule = rule.now;
+        }) t) (λ e. e ≡ OutOfMemory) }
     {
+        let lists = Lists {
+            transitions: &transitions,
+            types,
+            leaps,
+            rule,
+        };
+        if are_entries(lists) {
+            let all = transitions.len();
+            let entries = Table::new(alloc, transitions)?;
+            return Ok(ChangeTable {
+                entries,
+                all,
+                listed: None,
+            });
+        }
         let (items, all) = entries_of(alloc, lists)?;
         let entries = Table::new(alloc, items)?;
-        Ok(ChangeTable { entries, all })
+        let listed = Some(Table::listed(alloc, transitions));
+        Ok(ChangeTable {
+            entries,
+            all,
+            listed,
+        })
+    }
+
+    // The transitions as listed.
+    #[inline(always)]
+    pub(super) fn listed(&self) -> &Table
+        ensures { result.now ≡ self.now.transitions }
+    {
+        match &self.listed {
+            Some(listed) => listed,
+            None => &self.entries,
+        }
+    }
+
+    // Whether there is no transition.
+    #[inline(always)]
+    pub(super) fn is_empty(&self) -> bool
+        ensures { IsTrue result ↔ (self.now.all ≡ 0) }
+    {
+        self.all == 0
     }
 
     // What has come at the second. Where there is no entry, one look is counted.
@@ -284,20 +345,49 @@ impl ChangeTable {
 
     // The table of a zone without transitions, which takes no memory.
     pub(super) fn none(alloc: Global) -> ChangeTable
-        ensures { result ≡ record { items = []; all = 0 } }
+        ensures { result ≡ record { items = []; all = 0; transitions = [] } }
     {
         ChangeTable {
             entries: Table::none(alloc),
             all: 0,
+            listed: None,
         }
     }
+}
+
+// Whether the transitions are the entries: there is no leap second, and each transition but the last
+// changes the type. It is not inlined, so that its loop has the registers.
+#[inline(never)]
+fn are_entries(lists: Lists) -> bool
+    requires { IsValid (zone_in lists) }
+    ensures { IsTrue result → AreEntries (zone_in lists.entry) (record {
+      items = lists.entry.transitions.now;
+      all = length lists.entry.transitions.now;
+      transitions = lists.entry.transitions.now;
+    }) }
+{
+    if !lists.leaps.is_empty() {
+        return false;
+    }
+    let mut before = &lists.types[0];
+    for place in 1..lists.transitions.len() {
+        let after = &lists.types[lists.transitions[place - 1].type_index()];
+        if is_same_type(before, after) {
+            return false;
+        }
+        before = after;
+    }
+    true
 }
 
 // The entries of the zone of those lists, and how many of them have come where all transitions have.
 fn entries_of(alloc: Global, lists: Lists) -> Result<(Vec<Kept>, usize), AllocError>
     requires { IsValid (zone_in lists) }
-    ensures { MatchResult result (λ made. AreEntries (zone_in lists.entry)
-        (record { items = made.0.items; all = made.1 })) (λ _. ⊤) }
+    ensures { MatchResult result (λ made. AreEntries (zone_in lists.entry) (record {
+      items = made.0.items;
+      all = made.1;
+      transitions = lists.entry.transitions.now;
+    })) (λ _. ⊤) }
 {
     let count = lists.transitions.len();
     let mut entries = Vec::with_capacity(alloc, count)?;
@@ -307,7 +397,7 @@ fn entries_of(alloc: Global, lists: Lists) -> Result<(Vec<Kept>, usize), AllocEr
             let all = entries.len() + 1;
             return Ok((entries, all));
         };
-        drop_at(&mut entries, lists.leaps, start);
+        drop_at(&mut entries, start);
         add(
             &mut entries,
             lists.types,
@@ -324,9 +414,6 @@ fn start_in(leaps: &[LeapSecond], time: i64) -> Option<i64>
     requires { AreLeapSeconds leaps.now }
     ensures { MatchOption result (NeverComes leaps.now time) (IsStartIn leaps.now time) }
 {
-    if leaps.is_empty() {
-        return Some(time);
-    }
     let start = first_second(leaps, time);
     if start > i64::MAX as i128 {
         return None;
@@ -339,16 +426,12 @@ fn start_in(leaps: &[LeapSecond], time: i64) -> Option<i64>
     }
 }
 
-// Drops the last entry, if it comes at that second: none does without leap seconds.
-fn drop_at(entries: &mut Vec<Kept>, leaps: &[LeapSecond], second: i64)
-    requires { length leaps.now ≡ 0 → ¬ (EndsAt entries.old.items second) }
+// Drops the last entry, if it comes at that second.
+fn drop_at(entries: &mut Vec<Kept>, second: i64)
     ensures before { AreBefore entries.old.items second entries.new.items }
     ensures capacity { vec_capacity entries.new ≡ vec_capacity entries.old }
     ensures len { vec_len entries.new ≤ vec_len entries.old }
 {
-    if leaps.is_empty() {
-        return;
-    }
     if ends_at(entries, second) {
         let _ = entries.pop();
     }

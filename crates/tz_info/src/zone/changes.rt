@@ -13,7 +13,7 @@ ghost use Rattle.tz_info.specs.HeldChanges.{change_held};
 ghost use Rattle.tz_info.specs.Zones.{HasType, TypeAt};
 ghost use Rattle.tz_info.specs.declared.rule.transition_rule.TransitionRule.TheVariants.{Alternate};
 
-use crate::change::{HeldChange, change_between, copied};
+use crate::change::{HeldChange, change_between, copied, held};
 use crate::rule::{AlternateTime, TransitionRule};
 use crate::zone::TimeZone;
 use tz_base::{Change, LocalTimeType};
@@ -43,7 +43,7 @@ impl TimeZone {
     pub fn next_held_change(&self, after: i64) -> Option<HeldChange<'_>>
         ensures { IsFirst (TypeAt self.now) (λ u. after <ℤ u) (option_map change_held result) }
     {
-        let _ = &self.table;
+        let _ = &self.changes;
         match self.last_span_at(after) {
             Some(_) => None,
             None => match self.next_in_table(after) {
@@ -59,7 +59,7 @@ impl TimeZone {
         ensures { IsFirst (TypeAt self.now) (IsInTable self.now (λ u. after <ℤ u))
             (option_map change_held result) }
     {
-        let _ = &self.table;
+        let _ = &self.changes;
         let place = self.changes.count(after);
         if place == self.changes.len() {
             return None;
@@ -76,7 +76,7 @@ impl TimeZone {
         ensures { IsNearest forward (TypeAt self.now) (IsChangeByRule self.now (IsAhead forward second))
             (option_map change_held result) }
     {
-        let _ = &self.table;
+        let _ = &self.changes;
         let turns = self.turns()?;
         let begin = self.rule_begin();
         if begin > i64::MAX as i128 {
@@ -105,7 +105,9 @@ impl TimeZone {
         ensures { IsLast (TypeAt self.now) (λ u. u ≤ℤ before_or_at)
             (option_map change_held result) }
     {
-        let _ = &self.table;
+        if self.last_span.has(before_or_at) {
+            return held(&self.last_span.begin);
+        }
         match self.change_by_rule(before_or_at, false) {
             Some(change) => Some(change),
             None => self.previous_in_table(before_or_at),
@@ -118,7 +120,7 @@ impl TimeZone {
         ensures { IsLast (TypeAt self.now) (IsInTable self.now (λ u. u ≤ℤ last))
             (option_map change_held result) }
     {
-        let _ = &self.table;
+        let _ = &self.changes;
         let count = self.changes.count(last);
         if count == 0 {
             return None;
@@ -175,7 +177,7 @@ impl TimeZone {
         ensures begin { IsBegin self.now result }
         ensures bound { neg_ℤ (pos 9_223_372_036_854_775_808) ≤ℤ result }
     {
-        let _ = &self.table;
+        let _ = &self.changes;
         self.changes.rule_begin()
     }
 }

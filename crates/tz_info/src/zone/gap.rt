@@ -156,7 +156,7 @@ impl TimeZone {
         ensures { HasGap (TypeAt self.now) local
             result.before.now result.after.now result.at }
     {
-        let _ = &self.table;
+        let _ = &self.changes;
         let Some(turns) = self.turns() else {
             return self.gap_by_search(local);
         };
@@ -174,8 +174,8 @@ impl TimeZone {
         ensures { HasGap (TypeAt self.now) local
             result.before.now result.after.now result.at }
     {
-        let _ = &self.table;
-        let first = self.first_at_or_after(local);
+        let _ = &self.changes;
+        let first = self.first_at_or_after(local, &mut Probes::new());
         HeldChange {
             before: self.type_at(first.at - 1),
             after: self.type_at(first.at),

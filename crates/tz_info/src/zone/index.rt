@@ -5,6 +5,7 @@ ghost use Rattle.tz_base.specs.declared.error.Error.TheVariants.{OutOfMemory};
 ghost use Rattle.tz_timeline.specs.Counts.{RoseByPieces, HasRoomFor};
 ghost use Rattle.tz_info.specs.Steps.Entries.{AreEntries, most_looks};
 ghost use Rattle.tz_info.specs.Steps.Pieces.{zone_in, ArePieces};
+ghost use Rattle.tz_info.specs.Steps.SegmentEnds.{AreEnds};
 ghost use Rattle.tz_info.specs.Steps.WallPieces.{answer_at, IsBegunNear, IsCounted, IsIndex, top_of};
 ghost use Rattle.tz_info.specs.Transitions.{AreRising};
 ghost use Rattle.tz_info.specs.Zones.{IsValid};
@@ -12,6 +13,7 @@ ghost use Rattle.tz_info.specs.Zones.{IsValid};
 use crate::zone::change_table::ChangeTable;
 use crate::zone::one_pass::pieces_in_one_pass;
 use crate::zone::pieces::Piece;
+use crate::zone::segment_ends::maxima_of;
 use crate::zone::segments::{Lists, Pieces, pieces_of, segment_at};
 use crate::zone::shown::Shown;
 use std::alloc::Global;
@@ -25,6 +27,8 @@ use tz_timeline::{Probes, Timed, Timeline};
 pub(super) struct Index {
     before: Shown,
     pieces: Timeline<Piece>,
+    // For each segment the latest end of those up to it; empty if each ends later than the one before.
+    maxima: Vec<i64>,
     rule_from: i64,
 }
 
@@ -36,6 +40,7 @@ impl Model for Index {
     ghost view = { λ i. record {
       before = i.before;
       pieces = i.pieces;
+      maxima = i.maxima.items;
       rule_from = i.rule_from;
     } };
 
@@ -81,24 +86,27 @@ impl Index {
             return Ok(Index::without_pieces(alloc, lists, changes));
         }
         let count = changes.segment_count(lists.rule);
-        let all = match pieces_in_one_pass(alloc, lists, entries, count)? {
-            Some(pieces) => pieces,
-            None => pieces_of(alloc, lists, entries, 0, count)?,
-        };
-        Index::of_pieces(alloc, lists, changes, all)
+        if let Some(pieces) = pieces_in_one_pass(alloc, lists, entries, count)? {
+            return Index::of_pieces(alloc, lists, changes, pieces, Vec::new(alloc));
+        }
+        let pieces = pieces_of(alloc, lists, entries, 0, count)?;
+        let maxima = maxima_of(alloc, lists.types, entries)?;
+        Index::of_pieces(alloc, lists, changes, pieces, maxima)
     }
 
-    // The index of the zone of those lists and of those entries, which has those pieces.
+    // The index of the zone of those lists and of those entries, which has those pieces and maxima.
     #[tactic(auto, using(crate::proofs::WallPieces::starts_in_order))]
     fn of_pieces(
         alloc: Global,
         lists: Lists,
         changes: &ChangeTable,
         all: Pieces,
+        maxima: Vec<i64>,
     ) -> Result<Index, Error>
         requires list { AreEntries (zone_in lists) changes.now }
         requires pieces { ArePieces (zone_in lists) changes.now.items 0
             (top_of lists.rule.now changes.now) all.before all.pieces.items }
+        requires ends { AreEnds lists.types.now changes.now.items maxima.items }
         ensures { MatchResult result (λ i. IsIndex (zone_in lists.entry) changes.now i)
             (λ e. e ≡ OutOfMemory) }
     {
@@ -106,6 +114,7 @@ impl Index {
         Ok(Index {
             before: all.before,
             pieces,
+            maxima,
             rule_from: rule_from(changes),
         })
     }
@@ -117,7 +126,7 @@ impl Index {
         requires none { length changes.now.items ≡ 0 }
         ensures { IsIndex (zone_in lists.entry) changes.now result }
     {
-        let segment = segment_at(lists, changes.items(), 0);
+        let segment = segment_at(lists.types, changes.items(), 0);
         let before = if changes.segment_count(lists.rule) == 0 {
             Shown::Less
         } else {
@@ -126,6 +135,7 @@ impl Index {
         Index {
             before,
             pieces: Timeline::none(alloc),
+            maxima: Vec::new(alloc),
             rule_from: rule_from(changes),
         }
     }
@@ -135,6 +145,15 @@ impl Index {
         ensures { result ≡ length self.now.pieces }
     {
         self.pieces.len()
+    }
+
+    // For each segment the latest end of those up to it, or none if each ends later than the one
+    // before.
+    #[inline(always)]
+    pub(super) fn maxima(&self) -> &[i64]
+        ensures { result.now ≡ self.now.maxima }
+    {
+        &self.maxima
     }
 
     // The second from which the zone's rule is asked.

@@ -1,7 +1,7 @@
 //! The span that goes on after a zone's last clock change. It is kept, so that a second in it needs
 //! no search.
 
-ghost use Rattle.std.specs.Prelude.{◌≡◌, ◌≤ℤ◌, pos, IfSome, None};
+ghost use Rattle.std.specs.Prelude.{◌≡◌, ◌≤ℤ◌, ◌<ℤ◌, ◌↔◌, pos, IfSome, IsTrue, None};
 ghost use Rattle.naive_base.specs.Range.{IsWide};
 ghost use Rattle.offset_core.specs.WallAnswer.{IsShownOnce};
 ghost use Rattle.tz_info.specs.HeldChanges.{span_held};
@@ -15,7 +15,7 @@ use crate::zone::all_changes::second_before;
 use crate::zone::lookups::LATEST;
 use crate::zone::starts::cut_at;
 use crate::zone::time_zone::TimeZone;
-use tz_base::{LocalTimeType, Span};
+use tz_base::{Change, LocalTimeType, Span};
 
 // The first and the last second of the years -2147483646 to 2147483645, for which rules answer.
 const FIRST_OF_RULE: i64 = -67_768_100_504_812_800;
@@ -30,6 +30,8 @@ pub(super) struct LastSpan {
     last: i64,
     local_after: i64,
     span: Span,
+    // The change that began the span, if one did.
+    pub(super) begin: Option<Change>,
 }
 
 impl LastSpan {
@@ -46,7 +48,17 @@ impl LastSpan {
                 from: None,
                 until: None,
             },
+            begin: None,
         }
+    }
+
+    // Whether the second is known to lie in the span.
+    #[inline(always)]
+    pub(super) fn has(&self, unix_time: i64) -> bool
+        ensures { IsTrue result
+            ↔ ((self.now.after <ℤ unix_time) × (unix_time ≤ℤ self.now.last)) }
+    {
+        self.after < unix_time && unix_time <= self.last
     }
 }
 
@@ -84,6 +96,7 @@ impl TimeZone {
             last,
             local_after: cut_at(after, i64::from(self.extremes.greatest)),
             span,
+            begin: self.previous_change(last),
         })
     }
 
@@ -123,8 +136,8 @@ impl TimeZone {
         ensures { IfSome result (λ s. IsSpanAt (TypeAt self.now) unix_time (span_held s)
             × (s.until ≡ None)) }
     {
-        let _ = &self.table;
-        if self.last_span.after < unix_time && unix_time <= self.last_span.last {
+        let _ = &self.changes;
+        if self.last_span.has(unix_time) {
             Some(HeldSpan::of(&self.last_span.span))
         } else {
             None
@@ -137,7 +150,7 @@ impl TimeZone {
         requires { IsWide local }
         ensures { IfSome result (λ t. IsShownOnce (Shows (TypeAt self.now) local) t.now) }
     {
-        let _ = &self.table;
+        let _ = &self.changes;
         if self.last_span.local_after < local {
             Some(&self.last_span.span.local_time_type)
         } else {

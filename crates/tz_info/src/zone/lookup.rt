@@ -1,6 +1,6 @@
 //! The type in force at an instant, and the reads that several lookups share.
 
-ghost use Rattle.std.specs.Prelude.{◌≡◌, ◌+◌, ◌<◌, ◌≤◌, ◌^◌, length, take, slice_index_or, IfOk, IfSome, IsFalse, IsTrue, ◌+ℤ◌};
+ghost use Rattle.std.specs.Prelude.{◌≡◌, ◌+◌, ◌<◌, ◌≤◌, ◌^◌, length, take, slice_index_or, IfOk, IfSome, IsFalse, IsTrue, ◌+ℤ◌, ◌↔◌};
 ghost use Rattle.std.specs.Prelude.{MatchOption, MatchResult, Some, None};
 ghost use Rattle.tz_base.specs.declared.error.Error.TheVariants.{FindLocalTimeType};
 ghost use Rattle.tz_base.specs.declared.error.Expected.TheVariants.{YearThatRuleAnswersIn};
@@ -113,13 +113,22 @@ impl TimeZone {
         ensures questions { IsAskedAt self.now unix_time
             probes.old.rule_questions probes.new.rule_questions }
     {
-        if self.table.len() == 0 {
+        let _ = &self.changes;
+        if self.has_no_transition() {
             return self.rule_or_type(unix_time, 0, probes);
         }
         match self.come_at(unix_time, probes) {
             Some(come) => self.type_after(unix_time, come, probes),
             None => Err(Error::FindLocalTimeType(Expected::LeapTimeOf64Bits)),
         }
+    }
+
+    // Whether the zone has no transition.
+    #[inline(always)]
+    pub(super) fn has_no_transition(&self) -> bool
+        ensures { IsTrue result ↔ (length self.now.transitions ≡ 0) }
+    {
+        self.changes.is_empty()
     }
 
     // What has come at the second, if it has a leap time.
@@ -217,10 +226,11 @@ impl TimeZone {
         ensures cost { RoseWithin probes.old probes.new (digits (length self.now.transitions)) 0 }
         ensures looked { 0 < length self.now.transitions → probes.old.reads < probes.new.reads }
     {
-        if self.table.len() == 0 {
+        let listed = self.changes.listed();
+        if listed.len() == 0 {
             return 0;
         }
-        self.table.passed(leap_time, probes).count
+        listed.passed(leap_time, probes).count
     }
 
     pub(super) fn transition(&self, place: usize, probes: &mut Probes) -> Transition
@@ -230,6 +240,6 @@ impl TimeZone {
         ensures index { result.type_index < length self.now.types }
         ensures cost { probes.new ≡ record probes.old { reads = probes.old.reads + 1 } }
     {
-        self.table.read(place, probes)
+        self.changes.listed().read(place, probes)
     }
 }

@@ -90,7 +90,7 @@ impl TimeZone {
     pub(super) fn held_at(&self, unix_time: i64) -> Option<Held>
         ensures { IfSome result (IsHeld self.now) }
     {
-        let _ = &self.table;
+        let _ = &self.changes;
         let Ok(span) = self.span_at(unix_time) else {
             return None;
         };

@@ -4,6 +4,7 @@ ghost use Rattle.std.specs.Prelude.{◌≡◌, ◌≤ℤ◌, ◌<ℤ◌, ◌-◌
 ghost use Rattle.std.specs.Prelude.{MatchResult, ⊤};
 ghost use Rattle.tz_base.specs.declared.error.Error.TheVariants.{OutOfMemory};
 ghost use Rattle.tz_info.specs.Steps.Pieces.{zone_in, ArePieces, ArePiecesAt, AreCutsCrossed, IsSegment};
+ghost use Rattle.tz_info.specs.Steps.SegmentEnds.{AreEndsRising};
 ghost use Rattle.tz_info.specs.Steps.WallPieces.{IsTable};
 
 use crate::zone::kept::Kept;
@@ -27,14 +28,15 @@ pub(super) fn pieces_in_one_pass(
     requires count { length entries.now ≤ count }
     ensures { MatchResult result
         (λ made. MatchOption made (AreCutsCrossed lists.entry.types.now entries.now)
-        (λ s. ArePieces (zone_in lists.entry) entries.now 0 count s.before s.pieces.items))
+        (λ s. ArePieces (zone_in lists.entry) entries.now 0 count s.before s.pieces.items
+        × AreEndsRising lists.entry.types.now entries.now))
         (λ e. e ≡ OutOfMemory) }
 {
     let mut pieces = Vec::with_capacity(alloc, entries.len() + count - 1)?;
     let mut latest = i64::MIN;
-    let mut before = segment_at(lists, entries, 0);
+    let mut before = segment_at(lists.types, entries, 0);
     for place in 1..count {
-        let behind = segment_at(lists, entries, place);
+        let behind = segment_at(lists.types, entries, place);
         let (first, last) = pieces_at(lists, entries, place, before, behind)?;
         if is_crossed(place, latest, first.start) {
             return Ok(None);
@@ -53,7 +55,7 @@ pub(super) fn pieces_in_one_pass(
         pieces.push_reserved(piece);
     }
     Ok(Some(Pieces {
-        before: Shown::Once(segment_at(lists, entries, 0).index),
+        before: Shown::Once(segment_at(lists.types, entries, 0).index),
         pieces,
     }))
 }

@@ -17,7 +17,7 @@ impl TimeZone {
     pub fn transition_count(&self) -> usize
         ensures { result ≡ length self.now.transitions }
     {
-        self.table.len()
+        self.changes.listed().len()
     }
 
     /// How many types of local time the zone has; one at least.

@@ -17,7 +17,7 @@ impl TimeZone {
         requires { IsNear second }
         ensures { TypeAt self.now second result.now }
     {
-        let _ = &self.table;
+        let _ = &self.changes;
         match self.find_local_time_type(second) {
             Ok(local) => local,
             Err(_) => unreachable!(),
@@ -29,7 +29,7 @@ impl TimeZone {
         requires { IsNear second }
         ensures { IsSpanAt (TypeAt self.now) second (span_held result) }
     {
-        let _ = &self.table;
+        let _ = &self.changes;
         match self.held_span_at(second) {
             Ok(span) => span,
             Err(_) => unreachable!(),
@@ -43,7 +43,7 @@ impl TimeZone {
         requires ahead { second <ℤ limit }
         ensures { IsRunUntil (TypeAt self.now) second limit result }
     {
-        let _ = &self.table;
+        let _ = &self.changes;
         let span = self.near_span_at(second);
         end_by(span.until, limit)
     }

@@ -35,26 +35,26 @@ pub(super) struct Segment {
 
 // The segment after the first `place` entries.
 #[inline(always)]
-pub(super) fn segment_at(lists: Lists, entries: &[Kept], place: usize) -> Segment
-    requires some { 0 < length lists.types.now }
-    requires named { NameTypes (length lists.types.now) entries.now }
+pub(super) fn segment_at(types: &[LocalTimeType], entries: &[Kept], place: usize) -> Segment
+    requires some { 0 < length types.now }
+    requires named { NameTypes (length types.now) entries.now }
     requires place { place ≤ length entries.now }
-    ensures { IsSegment lists.entry.types.now entries.now place result }
+    ensures { IsSegment types.now entries.now place result }
 {
-    let index = index_of_segment(lists, entries, place);
-    let offset = lists.types[index].offset() as i64;
+    let index = index_of_segment(types, entries, place);
+    let offset = types[index].offset() as i64;
     Segment { index, offset }
 }
 
 // The index of the type in force after the first `place` entries.
 #[inline(always)]
 #[tactic(auto, using(crate::proofs::SegmentLaws::index_next))]
-fn index_of_segment(lists: Lists, entries: &[Kept], place: usize) -> usize
-    requires some { 0 < length lists.types.now }
-    requires named { NameTypes (length lists.types.now) entries.now }
+fn index_of_segment(types: &[LocalTimeType], entries: &[Kept], place: usize) -> usize
+    requires some { 0 < length types.now }
+    requires named { NameTypes (length types.now) entries.now }
     requires place { place ≤ length entries.now }
     ensures index { result ≡ index_of entries.now place }
-    ensures below { result < length lists.entry.types.now }
+    ensures below { result < length types.now }
 {
     if place == 0 {
         return 0;
@@ -93,7 +93,7 @@ fn pieces_of_one(
         (λ s. ArePieces (zone_in lists.entry) entries.now place (place + 1) s.before s.pieces.items)
         (λ e. e ≡ OutOfMemory) }
 {
-    let segment = segment_at(lists, entries, place);
+    let segment = segment_at(lists.types, entries, place);
     if place == 0 {
         let end = Piece::new(cut_of(entries, 1, segment.offset), Shown::Less)?;
         let pieces = vec![in alloc; end]?;

@@ -1,20 +1,26 @@
 //! When clocks show certain local times: the first and the last second of a day or of any other
 //! stretch of local time, and the first second at or after a local time.
 
-ghost use Rattle.std.specs.Prelude.{◌≡◌, pos, ◌+ℤ◌, ◌*ℤ◌, ◌-ℤ◌, ◌<ℤ◌, MatchOption, if◌then◌else◌};
+ghost use Rattle.std.specs.Prelude.{◌≡◌, pos, ◌+ℤ◌, ◌*ℤ◌, ◌-ℤ◌, ◌<ℤ◌, MatchOption, if◌then◌else◌, ◌*◌, length};
 ghost use Rattle.naive_base.specs.NaiveDate.{day_of};
 ghost use Rattle.naive_base.specs.NaiveDateTime.{reading};
 ghost use Rattle.naive_base.specs.Range.{IsWide};
 ghost use Rattle.tz_info.specs.Leaps.{IsNear};
 ghost use Rattle.tz_info.specs.ShownSeconds.{IsNeverWithin, AreShownWithin, IsFirstAtOrAfter};
-ghost use Rattle.tz_info.specs.Steps.Runs.{HaveOneTypeFrom, IsEnd, IsBeyondJumps, IsEndOfRun, IsEndWithin, IsNextRun};
+ghost use Rattle.tz_info.specs.Steps.Runs.{ArePartFrom, AreWithin, HaveOneTypeFrom, IsEnd, IsBeyondJumps, IsEndOfRun};
+ghost use Rattle.tz_info.specs.Steps.Runs.{IsEndWithin, IsNextRun};
+ghost use Rattle.tz_info.specs.Steps.WallPieces.{IsTableLess};
 ghost use Rattle.tz_info.specs.Zones.{TypeAt};
+ghost use Rattle.tz_timeline.specs.Counts.{HasRoom, RoseWithin};
+ghost use Rattle.tz_timeline.specs.Digits.{digits};
 
 use crate::answers::second_showing;
 use crate::zone::runs::{end_by, first_of_run, last_of_run, start_by};
+use crate::zone::segment_ends::{first_of, first_reaching};
 use crate::zone::time_zone::TimeZone;
 use naive_base::{NaiveDate, NaiveDateTime, NaiveTime};
 use tz_base::LocalTimeType;
+use tz_timeline::Probes;
 
 /// A second of Unix time, and the local time type in force then.
 #[derive(Clone, Copy, Debug, PartialEq, Eq)]
@@ -93,17 +99,59 @@ impl TimeZone {
         ensures { IsFirstAtOrAfter (TypeAt self.now) (reading local).s
             result.at result.local_time_type }
     {
-        self.first_at_or_after(local.secs_since_epoch())
+        self.find_first_at_or_after_counted(local, &mut Probes::new())
+    }
+
+    /// As [`TimeZone::find_first_at_or_after`], and counts the probes of the zone's transitions: at
+    /// most twice as many as the number of transitions has binary digits. From the last transition
+    /// on, the search goes over the rule's changes near the local time, which are not counted.
+    ///
+    /// Requires: [`Probes::has_room`].
+    pub fn find_first_at_or_after_counted(
+        &self,
+        local: NaiveDateTime,
+        probes: &mut Probes,
+    ) -> TypedSecond
+        requires { HasRoom probes.old }
+        ensures found { IsFirstAtOrAfter (TypeAt self.now) (reading local).s
+            result.at result.local_time_type }
+        ensures cost { RoseWithin probes.old probes.new
+            (2 * digits (length self.now.transitions)) 0 }
+    {
+        self.first_at_or_after(local.secs_since_epoch(), probes)
     }
 
     // The first second at which a clock shows that local time or a later one.
-    pub(super) fn first_at_or_after(&self, from: i64) -> TypedSecond
-        requires { IsWide from }
-        ensures { IsFirstAtOrAfter (TypeAt self.now) from result.at result.local_time_type }
+    pub(super) fn first_at_or_after(&self, local: i64, probes: &mut Probes) -> TypedSecond
+        requires local { IsWide local }
+        requires room { HasRoom probes.old }
+        ensures found { IsFirstAtOrAfter (TypeAt self.now) local
+            result.at result.local_time_type }
+        ensures cost { RoseWithin probes.old probes.new
+            (2 * digits (length self.now.transitions)) 0 }
     {
-        let _ = &self.table;
-        let until = self.beyond_jumps(from);
-        match self.end_within(from, until, true) {
+        let _ = (self.extremes.least, self.extremes.greatest);
+        let entries = self.changes.items();
+        let maxima = self.index.maxima();
+        let count = self.changes.segment_count(&self.last_rule);
+        let place = first_reaching(&self.local_types, entries, maxima, local, probes);
+        if place < count {
+            return first_of(&self.local_types, entries, place, local);
+        }
+        self.first_by_rule(local)
+    }
+
+    // The same if clocks show less at all seconds before the last transition.
+    fn first_by_rule(&self, local: i64) -> TypedSecond
+        requires local { IsWide local }
+        requires less { IsTableLess self.now local }
+        ensures { IsFirstAtOrAfter (TypeAt self.now) local result.at result.local_time_type }
+    {
+        let _ = &self.changes;
+        let until = self.beyond_jumps(local);
+        let all = self.seconds_around(local, until);
+        let left = all.from(self.index.rule_from());
+        match self.end_in(left, local, until, true) {
             Some(first) => first,
             None => unreachable!(),
         }
@@ -136,10 +184,30 @@ impl TimeZone {
         ensures { MatchOption result (IsNeverWithin (TypeAt self.now) from until)
             (λ s. IsEndWithin forward (TypeAt self.now) from until s.at s.local_time_type) }
     {
-        let mut left = Interval {
+        self.end_in(self.seconds_around(from, until), from, until, forward)
+    }
+
+    // The seconds at which clocks may show a local time of the stretch.
+    fn seconds_around(&self, from: i64, until: i64) -> Interval
+        requires from { IsEnd from }
+        requires until { IsEnd until }
+        ensures { AreWithin self.now from until result.low result.high }
+    {
+        Interval {
             low: second_showing(from, self.extremes.greatest),
             high: second_showing(until, self.extremes.least),
-        };
+        }
+    }
+
+    // The same of those seconds, which have all that show such a local time.
+    fn end_in(&self, all: Interval, from: i64, until: i64, forward: bool) -> Option<TypedSecond>
+        requires from { IsEnd from }
+        requires until { IsEnd until }
+        requires all { AreWithin self.now from until all.low all.high }
+        ensures { MatchOption result (IsNeverWithin (TypeAt self.now) from until)
+            (λ s. IsEndWithin forward (TypeAt self.now) from until s.at s.local_time_type) }
+    {
+        let mut left = all;
         while left.low < left.high {
             let (run, local_type) = self.next_run(left, forward);
             let since = second_showing(from, local_type.offset());
@@ -165,7 +233,7 @@ impl TimeZone {
         ensures one_type { HaveOneTypeFrom (TypeAt self.now)
             result.0.low result.0.high result.1.now }
     {
-        let _ = &self.table;
+        let _ = &self.changes;
         let span = self.near_span_at(left.end(forward));
         let run = Interval {
             low: start_by(span.from, left.low),
@@ -176,6 +244,23 @@ impl TimeZone {
 }
 
 impl Interval {
+    // Its seconds from that one on.
+    fn from(self, second: i64) -> Interval
+        ensures { ArePartFrom self.low self.high second result.low result.high }
+    {
+        let low = if second < self.low {
+            self.low
+        } else if second < self.high {
+            second
+        } else {
+            self.high
+        };
+        Interval {
+            low,
+            high: self.high,
+        }
+    }
+
     // Its first second, or its last one.
     fn end(self, forward: bool) -> i64
         requires { IsNear self.high }

@@ -44,7 +44,7 @@ impl TimeZone {
         if let Some(span) = self.last_span_at(unix_time) {
             return Ok(span);
         }
-        if self.transition_count() == 0 {
+        if self.has_no_transition() {
             return self.span_from_last(unix_time);
         }
         self.span_by_place(unix_time)
@@ -77,7 +77,7 @@ impl TimeZone {
         ensures { MatchResult result (λ s. IsSpanAt (TypeAt self.now) unix_time (span_held s))
             (IsTypeError self.now unix_time) }
     {
-        let _ = &self.table;
+        let _ = &self.changes;
         let Some(turns) = self.turns() else {
             return self.span_by_changes(unix_time);
         };
@@ -100,7 +100,7 @@ impl TimeZone {
         ensures { MatchResult result (λ s. IsSpanAt (TypeAt self.now) unix_time (span_held s))
             (IsTypeError self.now unix_time) }
     {
-        let _ = &self.table;
+        let _ = &self.changes;
         let local_time_type = self.find_local_time_type(unix_time)?;
         Ok(HeldSpan {
             local_time_type,

@@ -16,7 +16,6 @@ use crate::zone::kept::{Kept, all_kept};
 use crate::zone::last_span::LastSpan;
 use crate::zone::leap_second::LeapSecond;
 use crate::zone::segments::Lists;
-use crate::zone::table::Table;
 use crate::zone::transition::Transition;
 use crate::zone::valid::check;
 use std::alloc::Global;
@@ -35,8 +34,7 @@ use tz_base::{Error, LocalTimeType};
 /// ```
 #[derive(Drop)]
 pub struct TimeZone {
-    pub(super) table: Table,
-    // The clock changes by Unix time.
+    // The transitions, and the clock changes by Unix time.
     pub(super) changes: ChangeTable,
     pub(super) local_types: Vec<LocalTimeType>,
     pub(super) leap_seconds: Vec<LeapSecond>,
@@ -56,14 +54,14 @@ impl Model for TimeZone {
     ghost Value = { Zone };
 
     ghost view = { λ z. record {
-      transitions = z.table;
+      transitions = z.changes.transitions;
       types = z.local_types.items;
       leaps = z.leap_seconds.items;
       rule = z.last_rule;
     } };
 
     ghost invariant = { λ z. IsPrepared (record {
-      transitions = z.table;
+      transitions = z.changes.transitions;
       types = z.local_types.items;
       leaps = z.leap_seconds.items;
       rule = z.last_rule;
@@ -74,7 +72,7 @@ impl Model for TimeZone {
 impl fmt::Debug for TimeZone {
     fn fmt<W: fmt::Write>(&self, f: &mut fmt::Formatter<W>) -> fmt::Result {
         f.debug_struct("TimeZone")
-            .field("table", &self.table)
+            .field("table", self.changes.listed())
             .field("local_types", &self.local_types)
             .field("leap_seconds", &self.leap_seconds)
             .field("last_rule", &self.last_rule)
@@ -96,7 +94,7 @@ impl PartialEq for TimeZone {
     ghost laws = { partial_equiv_from_equiv (zone_eq_equiv transitions types leaps rules) };
 
     fn eq(&self, other: &TimeZone) -> bool {
-        self.table == other.table
+        self.changes.listed() == other.changes.listed()
             && self.local_types == other.local_types
             && self.leap_seconds == other.leap_seconds
             && self.last_rule == other.last_rule
@@ -171,17 +169,16 @@ impl TimeZone {
           rule = rule;
         }) (λ e. e ≡ OutOfMemory) }
     {
+        let changes = ChangeTable::new(alloc, transitions, &types, &leaps, &rule)?;
         let lists = Lists {
-            transitions: &transitions,
+            transitions: changes.listed().items(),
             types: &types,
             leaps: &leaps,
             rule: &rule,
         };
-        let changes = ChangeTable::new(alloc, lists)?;
         let index = Index::new(alloc, lists, &changes)?;
         let extremes = extremes_of(&types, &rule);
         let mut zone = TimeZone {
-            table: Table::listed(alloc, transitions),
             changes,
             local_types: types,
             leap_seconds: leaps,
@@ -226,19 +223,17 @@ impl TimeZone {
         ensures { result ≡ zone_of_rule types.items rule }
     {
         let alloc = *types.allocator();
-        let transitions = Vec::new(alloc);
         let leaps = Vec::new(alloc);
+        let changes = ChangeTable::none(alloc);
         let lists = Lists {
-            transitions: &transitions,
+            transitions: changes.listed().items(),
             types: &types,
             leaps: &leaps,
             rule: &rule,
         };
-        let changes = ChangeTable::none(alloc);
         let index = Index::without_pieces(alloc, lists, &changes);
         let extremes = extremes_of(&types, &rule);
         let mut zone = TimeZone {
-            table: Table::none(alloc),
             changes,
             local_types: types,
             leap_seconds: leaps,
@@ -266,6 +261,6 @@ impl TimeZone {
         ensures valid { IsValid self.now }
         ensures rule { IsRuleOrNone self.now.rule }
     {
-        let _ = &self.table;
+        let _ = &self.changes;
     }
 }

@@ -88,7 +88,7 @@ impl TimeZone {
         ensures cost { RoseWithin probes.old probes.new 1 0 }
     {
         if passed == 0 {
-            let _ = &self.table;
+            let _ = &self.changes;
             return Transition::new(i64::MIN, 0);
         }
         self.transition(passed - 1, probes)

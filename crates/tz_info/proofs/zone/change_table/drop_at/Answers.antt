@@ -1,4 +1,4 @@
-use Rattle.tz_info.proofs.{EntryLaws.{popped}, Words.{arith, length, nat_tests, refl, rules, to_z-of_z, vec_len, ◌≡◌}}
+use Rattle.tz_info.proofs.{EntryLaws.{popped}, Words.{arith, length, refl, rules, to_z-of_z, vec_len, ◌≡◌}}
 use Rattle.tz_info.specs.Steps.Entries.{none_there}
 use Rattle.tz_info.proofs.zone.change_table.drop_at.Goals as goal
 
@@ -12,10 +12,3 @@ pub returns-else-ends_at-clause-before : goal.returns-else-ends_at-clause-before
 returns-else-ends_at-clause-before c =
     let fs = c.ranges.second in
     none_there refl (λ ends. grind (arith, c.if-ends_at.false, c.ends_at.ensures, c.deref.ensures.value))
-
-pub returns-then-is_empty-clause-before : goal.returns-then-is_empty-clause-before
-returns-then-is_empty-clause-before c =
-    let fs = c.ranges.second in
-    let t = c.if-is_empty.true in let e = c.is_empty.ensures in
-    let none : length c.args.leaps.now ≡ 0 = grind (arith, nat_tests) in
-    none_there refl (λ ends. absurd (c.requires none ends))

@@ -1,4 +1,4 @@
-use Rattle.tz_info.proofs.{EntryLaws.{all_come, apart, kept_named, never_come, turned}, Words.{SFits, arith, length, refl, rules, to_z-of_z, vec_len, w64, zone_in, ◌≡◌}}
+use Rattle.tz_info.proofs.{EntryLaws.{all_come, kept_named, never_come, turned}, Words.{SFits, arith, length, refl, rules, to_z-of_z, vec_len, w64, zone_in, ◌≡◌}}
 use Rattle.tz_info.proofs.zone.change_table.entries_of.Goals as goal
 
 pub returns-in_default : goal.returns-in_default
@@ -32,10 +32,3 @@ loop-place-preserved c =
 
 pub returns : goal.returns
 returns c = all_come (zone_in c.args.lists) c.loop-place.entries.items c.loop-place.place c.len-all-2.result c.requires (omega arith) (let n : vec_len c.loop-place.entries ≡ length c.loop-place.entries.items = search rules in omega (arith, c.len-all-2.ensures)) c.loop-place.invariant.made
-
-pub drop_at-requires : goal.drop_at-requires
-drop_at-requires c = λ none ends.
-    let fs : SFits w64 c.second.result = search rules in
-    let ft : SFits w64 c.in-Some.start = search rules in
-    apart (zone_in c.args.lists) c.loop-place.entries.items c.loop-place.place c.in-Some.start c.index-lists-place.result c.requires (omega arith) c.index-lists-place.is c.loop-place.invariant.made
-    (rw (c.second.ensures, ← c.index-lists-place.is) at (simp to_z-of_z at c.in-Some.ensures)) none (simp to_z-of_z at ends)

@@ -1,4 +1,4 @@
-use Rattle.tz_info.proofs.{EntryLaws.{never_refused, never_then, starts_itself}, Words.{length, ◌≡◌, arith, ints, rules, to_z-of_z, SFits, w64, w128}}
+use Rattle.tz_info.proofs.{EntryLaws.{never_refused, never_then}, Words.{arith, ints, rules, to_z-of_z, SFits, w64, w128}}
 use Rattle.tz_info.proofs.zone.change_table.start_in.Goals as goal
 
 pub returns-then-start : goal.returns-then-start
@@ -25,9 +25,3 @@ returns-else-has_leap_time c =
     let f2 : SFits w64 c.first_second-start.result = omega (arith, ints) in
     let refused = simp to_z-of_z at (c.has_leap_time.ensures.no c.if-has_leap_time.false) in
     never_refused c.args.leaps.now c.args.time c.first_second-start.result c.requires (simp to_z-of_z at c.first_second-start.ensures.reached) refused
-
-pub returns-then-is_empty : goal.returns-then-is_empty
-returns-then-is_empty c =
-    let ft = c.ranges.time in
-    let none : length c.args.leaps.now ≡ 0 = grind (arith, c.is_empty.ensures, c.if-is_empty.true) in
-    simp to_z-of_z (starts_itself c.args.leaps.now c.args.time c.requires none)

@@ -1,6 +1,6 @@
-use Rattle.tz_info.proofs.Words.{List, Piece, SFits, add-one, ap, arith, cut_of, inl, ints, rules, suc, to_z-of_z, w64, zone_in}
-use Rattle.tz_info.proofs.Words.{[], ◌++◌, ◌-◌, ◌∙◌, ◌∷◌, ◌≡◌}
-use Rattle.tz_info.proofs.OnePass.{crossed_by, cuts_of, open_first, open_more}
+use Rattle.tz_info.proofs.Words.{List, Piece, SFits, add-one, ap, arith, cut_of, inl, ints, length, rules, suc, to_z-of_z, w64, zone_in}
+use Rattle.tz_info.proofs.Words.{[], ◌++◌, ◌-◌, ◌∙◌, ◌∷◌, ◌≡◌, ◌<◌}
+use Rattle.tz_info.proofs.OnePass.{crossed_by, cuts_of, end_before, ends_closed, ends_open, open_first, open_more}
 use Rattle.tz_info.proofs.zone.one_pass.pieces_in_one_pass.Goals.{else-count-entries, then-count-entries+else-is_crossed-2+in_ok-piece}
 use Rattle.tz_info.proofs.zone.one_pass.pieces_in_one_pass.Goals as goal
 
@@ -61,10 +61,16 @@ returns c =
           let fe : SFits w64 w.cut_of-end.result = search rules in
           let last = w.if-count-entries.true in
           let cut = rw here at (simp to_z-of_z at w.cut_of-end.ensures ∙ ap (λ o. cut_of c.args.entries.now c.args.count o) seg.offset) in
-          let strict = rw (here, cut) at (simp to_z-of_z at (w.is_crossed-then-count-entries.ensures.behind w.if-is_crossed-2.false)) in
-          rw (w.pieces-is, w.push_reserved-then-count-entries.ensures.items, simp to_z-of_z at w.in_ok-piece.ensures, cut, here, c.segment_at.ensures.index)
-          (c.loop-place.invariant.pieces.closed (omega arith) seg.type (rw seg.index at seg.listed) seg.is_offset strict)
-      | else-count-entries w ↦ rw (w.pieces-is, here, c.segment_at.ensures.index) (c.loop-place.invariant.pieces.whole (let more = w.if-count-entries.false in omega arith))
+          let strict = rw (here, cut) at (simp to_z-of_z at (w.is_crossed-then-count-entries.ensures.behind w.if-is_crossed-2.false)) in (
+            rw (w.pieces-is, w.push_reserved-then-count-entries.ensures.items, simp to_z-of_z at w.in_ok-piece.ensures, cut, here, c.segment_at.ensures.index)
+                (c.loop-place.invariant.pieces.closed (omega arith) seg.type (rw seg.index at seg.listed) seg.is_offset strict),
+            ends_closed (zone_in c.args.lists) c.args.entries.now c.loop-place.place _ _ _ c.loop-place.invariant.pieces (omega arith) (rw (← end_before _ _ c.loop-place.place seg.type (omega arith) (rw seg.index at seg.listed)) at strict),
+          )
+      | else-count-entries w ↦
+          let all : length c.args.entries.now < c.loop-place.place = let more = w.if-count-entries.false in omega arith in (
+            rw (w.pieces-is, here, c.segment_at.ensures.index) (c.loop-place.invariant.pieces.whole all),
+            ends_open (zone_in c.args.lists) c.args.entries.now c.loop-place.place _ _ _ c.loop-place.invariant.pieces all,
+          )
     ]
 
 pub push_reserved-requires-then-count-entries : goal.push_reserved-requires-then-count-entries

@@ -17,4 +17,4 @@ returns c =
     (rw (← c.self.view_is) c.self.invariant.limits) (rw (← c.self.view_is) c.self.invariant.extremes) least greatest after last far
     (simp to_z-of_z at c.in-Ok.ensures) (search rules) c.in_ok-end_or_typed.ensures
     (λ u fits later. (simp to_z-of_z at (c.second_before-after.ensures u (omega (arith, ints)))).0 later)
-    (rw is_offset at (simp to_z-of_z at c.cut_at.ensures)))
+    (rw is_offset at (simp to_z-of_z at c.cut_at.ensures)) (simp to_z-of_z at c.previous_change.ensures))

@@ -1,19 +1,17 @@
-use Rattle.tz_info.proofs.Words.{Bor, LocalType, Zone, ap, arith, by_leap_time, length, refl, sym, to_z-of_z, ◌∙◌, ◌≡◌}
+use Rattle.tz_info.proofs.Words.{Bor, LocalType, arith, by_leap_time, refl, to_z-of_z, ◌≡◌}
 use Rattle.tz_info.proofs.{PassedTransitions.{with_transitions, without_transitions}, QuestionLaws.{asked_at_time, asked_without}}
 use Rattle.tz_info.proofs.zone.time_zone.TimeZone.find_local_time_type_counted.Goals as goal
 
-pub returns-then-len-eq0-clause-found : goal.returns-then-len-eq0-clause-found
-returns-then-len-eq0-clause-found c =
+pub returns-then-has_no_transition-clause-found : goal.returns-then-has_no_transition-clause-found
+returns-then-has_no_transition-clause-found c =
     let fu = c.ranges.unix_time in
-    let r = rw (← c.self.view_is) at (simp to_z-of_z at c.rule_or_type.ensures.found) in
-    rw (← c.self.view_is) (without_transitions (λ (t : Bor LocalType). t.now) _ c.args.unix_time c.rule_or_type.result
-    (sym c.len.ensures.count ∙ c.if-len-eq0.true) r)
+    without_transitions (λ (t : Bor LocalType). t.now) c.args.self.now c.args.unix_time c.rule_or_type.result
+    (c.has_no_transition.ensures.0 c.if-has_no_transition.true) (simp to_z-of_z at c.rule_or_type.ensures.found)
 
-pub returns-then-len-eq0-clause-questions : goal.returns-then-len-eq0-clause-questions
-returns-then-len-eq0-clause-questions c =
-    let n = ap (λ (z : Zone). length z.transitions) c.self.view_is in
+pub returns-then-has_no_transition-clause-questions : goal.returns-then-has_no_transition-clause-questions
+returns-then-has_no_transition-clause-questions c =
     asked_without c.args.self.now c.args.unix_time c.args.probes.now.rule_questions c.rule_or_type.new.probes.rule_questions
-    (sym n ∙ sym c.len.ensures.count ∙ c.if-len-eq0.true) c.rule_or_type.ensures.asked c.rule_or_type.ensures.unasked
+    (c.has_no_transition.ensures.0 c.if-has_no_transition.true) c.rule_or_type.ensures.asked c.rule_or_type.ensures.unasked
 
 pub returns-in-Some-clause-found : goal.returns-in-Some-clause-found
 returns-in-Some-clause-found c =
@@ -34,6 +32,4 @@ returns-in-Some-clause-questions c =
 pub returns-in-None-clause-found : goal.returns-in-None-clause-found
 returns-in-None-clause-found c =
     let fu = c.ranges.unix_time in
-    let n = ap (λ (z : Zone). length z.transitions) c.self.view_is in
-    let some = c.len.ensures.count in let not_zero = c.if-len-eq0.false in
-    (by_leap_time (omega (arith, n, some, not_zero)) (simp to_z-of_z at c.in-None.ensures.come), refl)
+    (by_leap_time (grind (arith, c.has_no_transition.ensures, c.if-has_no_transition.false)) (simp to_z-of_z at c.in-None.ensures.come), refl)

@@ -8,7 +8,7 @@ near c =
     let ff : SFits w64 c.first_at_or_after-first.result.at = search rules in
     let first = c.first_at_or_after-first.result in
     let fl = c.ranges.local in
-    let near = first_near c.args.self.now c.args.local c.requires.reach.0 c.requires.reach.1 first.at first.local_time_type (rw (← c.self.view_is) c.self.invariant.valid) (rw (← c.self.view_is) c.self.invariant.limits) c.requires.reach.2 (simp to_z-of_z at c.first_at_or_after-first.ensures) in
+    let near = first_near c.args.self.now c.args.local c.requires.reach.0 c.requires.reach.1 first.at first.local_time_type (rw (← c.self.view_is) c.self.invariant.valid) (rw (← c.self.view_is) c.self.invariant.limits) c.requires.reach.2 (simp to_z-of_z at c.first_at_or_after-first.ensures.found) in
     (ff, near.0, near.1)
 
 pub overflow_sub-first : goal.overflow_sub-first
@@ -38,7 +38,7 @@ returns c =
     let near_low = c.requires.reach.2.near_low in let near_high = c.requires.reach.2.near_high in
     let fb : SFits w64 (c.first_at_or_after-first.result.at -ℤ pos 1) = omega (arith, ints) in
     let z = c.args.self.now in
-    let is = simp to_z-of_z at c.first_at_or_after-first.ensures in
+    let is = simp to_z-of_z at c.first_at_or_after-first.ensures.found in
     let same = type_once z first.at first.local_time_type c.type_at-2.result.now is.shown.type (simp to_z-of_z at c.type_at-2.ensures) in
     simp to_z-of_z (gap_at_first z c.args.local c.requires.reach.0 c.requires.reach.1 first.at c.type_at-2.result.now c.type_at.result.now
     c.requires.never c.requires.reach.2 low high (rw same at is) (simp to_z-of_z at c.type_at.ensures))

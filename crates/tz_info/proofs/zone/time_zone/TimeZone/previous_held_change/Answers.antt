@@ -13,3 +13,9 @@ returns-in-None c =
     table_is_last c.args.self.now (λ u. u ≤ℤ c.args.before_or_at) (option_map change_held c.previous_in_table.result)
     (rw (← c.self.view_is) c.self.invariant.valid)
     (simp to_z-of_z at c.in-None.ensures) (simp to_z-of_z at c.previous_in_table.ensures)
+
+pub returns-then-has : goal.returns-then-has
+returns-then-has c =
+    let fa = c.ranges.before_or_at in
+    let inside = simp to_z-of_z at (c.has.ensures.0 c.if-has.true) in
+    rw (← c.self.view_is, c.held.ensures) (c.self.invariant.last.begins c.args.before_or_at fa inside.0 inside.1)

@@ -1,17 +1,18 @@
-use Rattle.tz_info.proofs.{EntryLaws.{no_entries}, Words.{refl}, ZoneLaws.{zone_of_rule_valid}}
+use Rattle.tz_info.proofs.{EntryLaws.{own_entries}, Words.{arith, refl}, ZoneLaws.{zone_of_rule_valid}}
 use Rattle.tz_info.proofs.zone.time_zone.TimeZone.with_rule.Goals as goal
 
 pub without_pieces-index-requires-clause-valid : goal.without_pieces-index-requires-clause-valid
 without_pieces-index-requires-clause-valid c =
-    rw (c.deref.ensures.value, c.new-transitions.ensures.items, c.deref-2.ensures.value, c.deref-3.ensures.value, c.new-leaps.ensures.items) (zone_of_rule_valid c.args.types.items c.args.rule c.requires)
+    rw (c.items.ensures.items, c.listed.ensures, c.none-changes.ensures, c.deref.ensures.value, c.deref-2.ensures.value, c.new-leaps.ensures.items)
+    (zone_of_rule_valid c.args.types.items c.args.rule c.requires)
 
 pub invariant_of-zone : goal.invariant_of-zone
 invariant_of-zone c =
-    rw (c.none.ensures, c.new-leaps.ensures.items) (record {
+    rw (c.none-changes.ensures, c.new-leaps.ensures.items) (record {
       valid = zone_of_rule_valid c.args.types.items c.args.rule c.requires;
       limits = c.extremes_of-extremes.ensures.limits;
-      extremes = rw c.deref-4.ensures.value at c.extremes_of-extremes.ensures.extremes;
-      index = rw (c.deref.ensures.value, c.new-transitions.ensures.items, c.deref-2.ensures.value, c.deref-3.ensures.value, c.new-leaps.ensures.items) at c.without_pieces-index.ensures;
-      last = c.none-2.ensures _;
-      list = rw c.none-changes.ensures (no_entries _ (zone_of_rule_valid c.args.types.items c.args.rule c.requires) refl);
+      extremes = rw c.deref-3.ensures.value at c.extremes_of-extremes.ensures.extremes;
+      index = rw (c.items.ensures.items, c.listed.ensures, c.none-changes.ensures, c.deref.ensures.value, c.deref-2.ensures.value, c.new-leaps.ensures.items) at c.without_pieces-index.ensures;
+      last = c.none.ensures _;
+      list = own_entries _ (zone_of_rule_valid c.args.types.items c.args.rule c.requires) refl (λ k below. absurd (omega arith));
     })
