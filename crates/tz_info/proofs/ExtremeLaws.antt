@@ -51,7 +51,7 @@ pub rule_joined : (types : List LocalType) (rule : Option TransitionRule) (some 
 rule_joined types rule some e r is h j = rw is (by_rule types some e r h j)
 
 -- ---- the offset of a type in force is one of them
-rule_among : (rule : Option TransitionRule) (u : ℤ) (t : LocalType) → IsTypeOf rule u t → Contains (rule_offsets rule) t.offset
+pub rule_among : (rule : Option TransitionRule) (u : ℤ) (t : LocalType) → IsTypeOf rule u t → Contains (rule_offsets rule) t.offset
 rule_among None u t h = absurd h
 rule_among (Some (Fixed f)) u t h = rw h (0, omega arith, refl)
 rule_among (Some (Alternate a)) u t h = elim (one_of_two a u t h) [

@@ -3,11 +3,13 @@ use Rattle.tz_info.proofs.Words.{AreRising, Counts, IsFirstAtOrAfter, IsTrue, Is
 use Rattle.tz_info.proofs.Words.{Transition, TransitionRule, TypeAt, Zone, AreWithin, IsBegunNear, ap, arith, begin_of, by_lt_z, cases_lt, get_or, get_or_append_left, get_or_push, index_of, inl, inr, int_lt, ints, lt_is, lt_true, least_time, length, length_push}
 use Rattle.tz_info.proofs.Words.{place_at, pos, refl, rises, saturate_signed, segment_of, slice_get, suc, table_count, top_of, w64, zero, ℕ, ℤ, ◌+ℤ◌, ◌+◌, ◌++◌, ◌∷◌, []}
 use Rattle.tz_info.proofs.Words.{◌-ℤ◌, ◌-◌, ◌<ℤ◌, ◌<◌, ◌↔◌, ◌∙◌, ◌≡◌, ◌≤ℤ◌, ◌≤◌, ◌⊎◌}
+use Rattle.tz_info.proofs.Words.{All-contains, All-push, AreJoinedByRule, Contains, Extremes, IsTypeOf, RuleOrElse, rule_offsets, table_count_by}
+use Rattle.tz_info.specs.declared.rule.transition_rule.TransitionRule.TheVariants.{Alternate, Fixed}
 use Rattle.tz_info.specs.Steps.Entries.{AreEntries, Entries}
 use Rattle.tz_info.specs.Steps.Runs.{ArePartFrom}
 use Rattle.tz_info.specs.Steps.SegmentEnds.{AreEnds, AreEndsRising, AreMaxima, IsFirstOf, IsFirstSegment, IsReached, end_of}
-use Rattle.tz_info.proofs.{ExtremeLaws.{at_least_least}, GapLaws.{near_type}, LeapStarts.{saturated}, TableLaws.{same_table, time_then}}
-use Rattle.tz_info.proofs.SegmentLaws.{begin_first, begins_rise, come_from, place_most, places_rise}
+use Rattle.tz_info.proofs.{ExtremeLaws.{at_least_least, rule_among}, GapLaws.{near_type}, LeapStarts.{saturated}, TableLaws.{same_table, time_then}}
+use Rattle.tz_info.proofs.SegmentLaws.{begin_first, begins_rise, come_from, place_most, places_rise, segment_most, type_from}
 use Rattle.tz_info.proofs.WallSegments.{leap_time_of, near_of, type_there}
 
 -- ---- ends
@@ -168,10 +170,15 @@ all_behind : (rule : Option TransitionRule) (e : Entries) (q : ℕ) → q ≤ le
 all_behind (Some rule) e q few more h = omega arith
 all_behind None e q few more h = absurd (omega arith)
 
--- and so what shows it lies from the second on from which the rule is asked
-pub rule_within : (z : Zone) (e : Entries) (l until s low high start end : ℤ) → IsValid z → AreEntries z e → IsBegunNear e s → IsTableLess z l → AreWithin z l until low high → ArePartFrom low high s start end
+by_rule_there : (rule : Option TransitionRule) (other : Type 0) (n p : ℕ) (u : ℤ) (t : LocalType) → p ≤ n → table_count_by rule n ≤ p → (p ≡ n → RuleOrElse rule u other t) → IsTypeOf rule u t
+by_rule_there (Some rule) other n p u t most h there = there (omega arith)
+by_rule_there None other n p u t most h there = absurd (omega arith)
+
+-- and so what shows it lies from the second on from which the rule is asked, and from which its types may show it
+pub rule_within : (z : Zone) (e : Entries) (l until s shown from low high start end : ℤ) → IsValid z → AreEntries z e → IsBegunNear e s → IsTableLess z l
+    → ((o : ℤ) → Contains (rule_offsets z.rule) o → shown ≤ℤ (l -ℤ o)) → ((u : ℤ) → (from ≤ℤ u) ↔ ((s ≤ℤ u) × (shown ≤ℤ u))) → AreWithin z l until low high → ArePartFrom low high from start end
     → AreWithin z l until start end
-rule_within z e l until s low high start end valid made begun less all part =
+rule_within z e l until s shown from low high start end valid made begun less by_offsets later all part =
     let is = part.until in
     record {
       near_low = part.near all.near_low all.near_high;
@@ -181,7 +188,7 @@ rule_within z e l until s low high start end valid made begun less all part =
           let near_low = all.near_low in let near_high = all.near_high in
           let a = near_low.0 in let b = near_high.1 in
           let near : IsNear u = (omega (arith, ints), omega (arith, ints)) in
-          let from = h.since in
+          let reached = h.since in
           let same = same_table z e u valid made h.fits (time_then z u t h.type) in
           elim (cases_lt (segment_of z u) (table_count z)) [
             | inl inside ↦ let k = less u t near inside h.type in absurd (omega (arith, ints))
@@ -189,9 +196,20 @@ rule_within z e l until s low high start end valid made begun less all part =
                 let most = place_most e.items u made.rising in
                 let top : top_of z.rule e ≤ place_at e.items u = elim (cases_lt (place_at e.items u) (top_of z.rule e)) [ inl own ↦ let c = same.1 own in absurd (omega arith) | inr m ↦ m ] in
                 let come = (begun u near).0 (all_behind z.rule e (place_at e.items u) most made.more top) in
-                (part.from u since before come, rw is before)
+                let typed = by_rule_there z.rule _ (length z.transitions) (segment_of z u) u t (segment_most z u valid.transitions.rising) beyond
+                (λ here. type_from z u t valid.transitions.rising (record { type = h.type; segment = here })) in
+                let shows = by_offsets t.offset (rule_among z.rule u t typed) in
+                (part.from u since before ((later u).1 (come, omega (arith, ints))), rw is before)
           ];
     }
+
+-- the greatest offset of the rule's types
+pub greatest_by_rule : (rule : TransitionRule) (old new : Extremes) (o : ℤ) → AreJoinedByRule old rule new → Contains (rule_offsets (Some rule)) o → o ≤ℤ new.greatest
+greatest_by_rule (Fixed t) old new o j c = All-contains (λ x. x ≤ℤ new.greatest) (t.offset ∷ []) o (All-push (λ x. x ≤ℤ new.greatest) [] t.offset (λ k d l. absurd (omega arith)) j.most_here) c
+greatest_by_rule (Alternate a) old new o (one, f, g) c =
+    let std : a.std.offset ≤ℤ new.greatest = let h = f.most_here in let m = g.most in omega (arith, ints) in
+    let first = All-push (λ x. x ≤ℤ new.greatest) [] a.std.offset (λ k d l. absurd (omega arith)) std in
+    All-contains (λ x. x ≤ℤ new.greatest) (a.std.offset ∷ a.dst.offset ∷ []) o (All-push (λ x. x ≤ℤ new.greatest) (a.std.offset ∷ []) a.dst.offset first g.most_here) c
 
 -- ---- making the latest ends
 -- those of the first segments

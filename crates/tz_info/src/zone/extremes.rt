@@ -35,7 +35,7 @@ impl Extremes {
     }
 
     // Those of the offsets of the rule's types more.
-    fn with_rule(self, rule: &TransitionRule) -> Extremes
+    pub(super) fn with_rule(self, rule: &TransitionRule) -> Extremes
         ensures joined { AreJoinedByRule self rule.now result }
         ensures limits { IsRule rule.now }
     {

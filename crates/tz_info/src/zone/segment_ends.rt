@@ -54,7 +54,7 @@ pub(super) fn maxima_of(
 
 // The later of the two.
 #[inline(always)]
-fn later(a: i64, b: i64) -> i64
+pub(super) fn later(a: i64, b: i64) -> i64
     ensures { (u : ℤ) → (result ≤ℤ u) ↔ ((a ≤ℤ u) × (b ≤ℤ u)) }
 {
     if a < b { b } else { a }

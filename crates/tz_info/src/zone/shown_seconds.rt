@@ -1,7 +1,7 @@
 //! When clocks show certain local times: the first and the last second of a day or of any other
 //! stretch of local time, and the first second at or after a local time.
 
-ghost use Rattle.std.specs.Prelude.{◌≡◌, pos, ◌+ℤ◌, ◌*ℤ◌, ◌-ℤ◌, ◌<ℤ◌, MatchOption, if◌then◌else◌, ◌*◌, length};
+ghost use Rattle.std.specs.Prelude.{◌≡◌, pos, ◌+ℤ◌, ◌*ℤ◌, ◌-ℤ◌, ◌≤ℤ◌, ◌<ℤ◌, ℤ, Contains, MatchOption, if◌then◌else◌, ◌*◌, length};
 ghost use Rattle.naive_base.specs.NaiveDate.{day_of};
 ghost use Rattle.naive_base.specs.NaiveDateTime.{reading};
 ghost use Rattle.naive_base.specs.Range.{IsWide};
@@ -10,13 +10,16 @@ ghost use Rattle.tz_info.specs.ShownSeconds.{IsNeverWithin, AreShownWithin, IsFi
 ghost use Rattle.tz_info.specs.Steps.Runs.{ArePartFrom, AreWithin, HaveOneTypeFrom, IsEnd, IsBeyondJumps, IsEndOfRun};
 ghost use Rattle.tz_info.specs.Steps.Runs.{IsEndWithin, IsNextRun};
 ghost use Rattle.tz_info.specs.Steps.WallPieces.{IsTableLess};
+ghost use Rattle.tz_info.specs.Windows.{rule_offsets};
 ghost use Rattle.tz_info.specs.Zones.{TypeAt};
 ghost use Rattle.tz_timeline.specs.Counts.{HasRoom, RoseWithin};
 ghost use Rattle.tz_timeline.specs.Digits.{digits};
 
 use crate::answers::second_showing;
+use crate::rule::TransitionRule;
+use crate::zone::extremes::Extremes;
 use crate::zone::runs::{end_by, first_of_run, last_of_run, start_by};
-use crate::zone::segment_ends::{first_of, first_reaching};
+use crate::zone::segment_ends::{first_of, first_reaching, later};
 use crate::zone::time_zone::TimeZone;
 use naive_base::{NaiveDate, NaiveDateTime, NaiveTime};
 use tz_base::LocalTimeType;
@@ -150,7 +153,8 @@ impl TimeZone {
         let _ = &self.changes;
         let until = self.beyond_jumps(local);
         let all = self.seconds_around(local, until);
-        let left = all.from(self.index.rule_from());
+        let shown = first_by_offsets(&self.last_rule, local);
+        let left = all.from(later(self.index.rule_from(), shown));
         match self.end_in(left, local, until, true) {
             Some(first) => first,
             None => unreachable!(),
@@ -240,6 +244,23 @@ impl TimeZone {
             high: end_by(span.until, left.high),
         };
         (run, span.local_time_type)
+    }
+}
+
+// The first second at which a clock at an offset of the rule's types shows the local time.
+fn first_by_offsets(rule: &Option<TransitionRule>, local: i64) -> i64
+    requires { IsWide local }
+    ensures { (o : ℤ) → Contains (rule_offsets rule.now) o → result ≤ℤ (local -ℤ o) }
+{
+    match rule {
+        None => local,
+        Some(rule) => {
+            let none = Extremes {
+                least: i32::MAX,
+                greatest: i32::MIN,
+            };
+            second_showing(local, none.with_rule(rule).greatest)
+        }
     }
 }
 

@@ -1,5 +1,5 @@
 use Rattle.tz_info.specs.Steps.Entries.{AreEntries}
-use Rattle.tz_info.proofs.{Words.{IsBegunNear, IsValid, SFits, rules, to_z-of_z, w64}, SegmentEndLaws.{rule_within}, ShownSecondLaws.{first_reached, never_before_until}}
+use Rattle.tz_info.proofs.{Words.{IsBegunNear, IsValid, SFits, Zone, ap, rules, to_z-of_z, w64}, SegmentEndLaws.{rule_within}, ShownSecondLaws.{first_reached, never_before_until}}
 use Rattle.tz_info.proofs.zone.time_zone.TimeZone.first_by_rule.Goals as goal
 
 pub unreachable-requires : goal.unreachable-requires
@@ -29,5 +29,8 @@ end_in-requires-clause-all c =
     let valid : IsValid z = rw (← c.self.view_is) c.self.invariant.valid in
     let entries : AreEntries z c.self.inside.changes = rw (← c.self.view_is) c.self.invariant.list in
     let begun : IsBegunNear c.self.inside.changes c.rule_from.result = rw c.rule_from.ensures c.self.invariant.index.rule_from in
-    simp to_z-of_z (rule_within z c.self.inside.changes c.args.local c.beyond_jumps-until.result c.rule_from.result c.seconds_around-all.result.low c.seconds_around-all.result.high
-    c.from-left.result.low c.from-left.result.high valid entries begun c.requires.less (simp to_z-of_z at c.seconds_around-all.ensures) (simp to_z-of_z at c.from-left.ensures))
+    let fo : SFits w64 c.first_by_offsets-shown.result = search rules in
+    let ft : SFits w64 c.later.result = search rules in
+    let by_offsets = rw (ap (λ (z : Zone). z.rule) c.self.view_is) at (simp to_z-of_z at c.first_by_offsets-shown.ensures) in
+    simp to_z-of_z (rule_within z c.self.inside.changes c.args.local c.beyond_jumps-until.result c.rule_from.result c.first_by_offsets-shown.result c.later.result c.seconds_around-all.result.low c.seconds_around-all.result.high
+    c.from-left.result.low c.from-left.result.high valid entries begun c.requires.less by_offsets (simp to_z-of_z at c.later.ensures) (simp to_z-of_z at c.seconds_around-all.ensures) (simp to_z-of_z at c.from-left.ensures))
