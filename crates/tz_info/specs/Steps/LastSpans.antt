@@ -9,7 +9,8 @@ use Rattle.tz_info.specs.WallClocks.{Shows}
 use Rattle.tz_info.specs.Zones.{Zone, TypeAt}
 use Rattle.tz_info.specs.declared.zone.last_span.LastSpan.{LastSpan}
 
--- each later second up to the last that is known lies in the span, which has no end, and the change that began it is the last one up to that second; only one second shows a later local time, at the span's type
+-- each later second up to the last that is known lies in the span, which has no end, and the change that began it is the last one up
+-- to that second; only one second shows a later local time, at the span's type
 pub record IsLastSpan (z : Zone) (last : LastSpan) : Type 0 where
   pub each : (u : ℤ) → FitsSigned w64 u → last.after <ℤ u → u ≤ℤ last.last → IsSpanAt (TypeAt z) u last.span
   pub endless : last.span.until ≡ None

@@ -1,6 +1,7 @@
 //! A zone's transitions as one list of clock changes by Unix time.
 
-ghost use Rattle.std.specs.Prelude.{◌≡◌, [], ◌+◌, ◌<◌, ◌≤◌, ◌*◌, ◌^◌, length, IsFalse, IsTrue, ◌↔◌, map, ℤ, ◌+ℤ◌};
+ghost use Rattle.std.specs.Prelude.{◌≡◌, [], ◌+◌, ◌<◌, ◌≤◌, ◌*◌, ◌^◌, length, IsTrue, ◌↔◌, map};
+ghost use Rattle.std.specs.Prelude.{IsFalse, ℤ, ◌+ℤ◌};
 ghost use Rattle.std.specs.Prelude.{option_map, slice_index_or, pos, neg_ℤ, ◌≤ℤ◌, IfSome, MatchOption, MatchResult, ⊤};
 ghost use Rattle.std.specs.List.{slice_get};
 ghost use Rattle.std.specs.Prelude.{vec_capacity, vec_len};

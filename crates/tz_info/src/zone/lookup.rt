@@ -1,6 +1,7 @@
 //! The type in force at an instant, and the reads that several lookups share.
 
-ghost use Rattle.std.specs.Prelude.{◌≡◌, ◌+◌, ◌<◌, ◌≤◌, ◌^◌, length, take, slice_index_or, IfOk, IfSome, IsFalse, IsTrue, ◌+ℤ◌, ◌↔◌};
+ghost use Rattle.std.specs.Prelude.{◌≡◌, ◌+◌, ◌<◌, ◌≤◌, ◌^◌, length, take, slice_index_or};
+ghost use Rattle.std.specs.Prelude.{IfOk, IfSome, IsFalse, IsTrue, ◌+ℤ◌, ◌↔◌};
 ghost use Rattle.std.specs.Prelude.{MatchOption, MatchResult, Some, None};
 ghost use Rattle.tz_base.specs.declared.error.Error.TheVariants.{FindLocalTimeType};
 ghost use Rattle.tz_base.specs.declared.error.Expected.TheVariants.{YearThatRuleAnswersIn};
