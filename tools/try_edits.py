@@ -280,7 +280,8 @@ def verdict_of(edit, said):
             if edits_function(edit, "::".join(Path(place[1]).parent.parts[1:])):
                 answers.append(f"{place[1]}: {place[2]}")
         elif place:
-            (faults if re.search(UNREAD, place[2]) else notes).append(f"{place[1]}: {place[2]}")
+            is_fault = GOAL not in place[2] and re.search(UNREAD, place[2])
+            (faults if is_fault else notes).append(f"{place[1]}: {place[2]}")
     if faults or not verdicts:
         return NOT_TRIED, (faults or [said[-900:]])[0]
     if not any(verdict.startswith(OPEN) for verdict in verdicts):
