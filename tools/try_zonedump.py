@@ -341,7 +341,7 @@ def try_folders(program, folder, line):
 
 
 def try_no_zones(program, folder, years, lines):
-    """Files that don't begin as a TZif file are none, however large they are, and are not read: reading these takes minutes."""
+    """A file that doesn't begin as a TZif file is not read, however large it is: reading these would take minutes."""
     (folder / "before/large").hardlink_to(folder / "large")
     for side in ("before", "after"):
         (folder / side / "many").mkdir()

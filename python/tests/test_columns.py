@@ -355,11 +355,11 @@ def test_choices():
 
 
 def test_infer():
-    def told(*clocks):
+    def inferred(*clocks):
         column = np.array([f"2021-11-07T{clock}" for clock in clocks], "M8[s]")
         return [str(instant)[11:16] for instant in NEW_YORK.localize(column, fold="infer")]
 
-    assert told("00:50", "01:10", "01:50", "01:10", "01:50", "02:00") == [
+    assert inferred("00:50", "01:10", "01:50", "01:10", "01:50", "02:00") == [
         "04:50",
         "05:10",
         "05:50",
@@ -367,24 +367,24 @@ def test_infer():
         "06:50",
         "07:00",
     ]
-    assert told("02:00") == ["07:00"]
+    assert inferred("02:00") == ["07:00"]
     with pytest.raises(
         sahvumbi.FoldError, match="row 1: 2021-11-07T01:10:00: .* order of rows doesn't tell"
     ):
-        told("00:50", "01:10", "01:50", "02:00")
+        inferred("00:50", "01:10", "01:50", "02:00")
     with pytest.raises(
         sahvumbi.FoldError, match="row 3: 2021-11-07T00:40:00: rows are not in order"
     ):
-        told("01:10", "01:50", "01:30", "00:40")
+        inferred("01:10", "01:50", "01:30", "00:40")
     with pytest.raises(sahvumbi.FoldError, match="row 2: .* rows are not in order"):
-        told("01:50", "01:40", "01:30")
+        inferred("01:50", "01:40", "01:30")
     # Several choices keep the order, and in one of them no two neighbours are the same instant.
-    assert told("00:00", "01:00", "01:00", "02:00") == ["04:00", "05:00", "06:00", "07:00"]
-    assert told("01:00", "01:00") == ["05:00", "06:00"]
+    assert inferred("00:00", "01:00", "01:00", "02:00") == ["04:00", "05:00", "06:00", "07:00"]
+    assert inferred("01:00", "01:00") == ["05:00", "06:00"]
     # None is such, or two are, or a row is the same instant as its neighbour in all of them.
     for clocks in (["01:00"] * 3, ["00:00", "01:00", "02:00"], ["00:30", "00:30", "01:00", "01:00"]):
         with pytest.raises(sahvumbi.FoldError, match="order of rows doesn't tell") as raised:
-            told(*clocks)
+            inferred(*clocks)
         assert raised.value.row == clocks.index("01:00")
     column = np.array(["2021-11-07T01:50", "NaT", "2021-11-07T01:10"], "M8[ns]")
     expected = np.array(["2021-11-07T05:50", "NaT", "2021-11-07T06:10"], "M8[ns]")

@@ -32,7 +32,7 @@ def zones() -> list[str]:
 
 
 def bytes_of_key(key: str) -> bytes:
-    """Returns the TZif file of a name. Raises `ZoneNotFoundError` if there is none."""
+    """Returns the TZif file of a name. Raises `ZoneNotFoundError` if no zone has the name."""
     if not isinstance(key, str):
         raise TypeError(f"the name of a zone is a str, and not {type(key).__name__}")
     found = None
@@ -46,7 +46,7 @@ def bytes_of_key(key: str) -> bytes:
 
 
 def zoneinfo_of(key: str) -> zoneinfo.ZoneInfo:
-    """Returns the ZoneInfo of a name. Raises `ZoneNotFoundError` if there is none."""
+    """Returns the ZoneInfo of a name. Raises `ZoneNotFoundError` if no zone has the name."""
     try:
         return zoneinfo.ZoneInfo(key)
     except (LookupError, OSError, ValueError):
