@@ -6,11 +6,13 @@ usage: tools/check_documents.py [--write]
 - Each relative link of a document leads to a file, and its anchor to a heading there.
 - Each word between backquotes in README.md and docs/ is a name of the code, or is in tools/known_words.txt, which lists
   the names of chrono, of the kit and of other programs that the documents speak of.
-- The index at the end of docs/DEFINITIONS.md has each word of specs/ that a public contract cites, other than a pin: its page and
-  its meaning, which is the comment before its definition, or before that of several words. --write writes the index.
+- docs/INDEX.md has each word of specs/ that a public contract cites, other than a pin: its page and its meaning, which is the
+  comment before its definition, or before that of several words. --write writes it.
+- tools/claim.py finds each clause that docs/PROVED.md cites.
 - No clause of a public function cites a step of a proof (specs/Steps). docs/DEFINITIONS.md names the types whose invariants do.
   README.md says how many `unsafe` blocks and impls there are.
-- docs/TESTING.md ends with the list of planted bugs, which --write puts there, and each of their old texts is once in its file.
+- docs/TESTING.md ends with a table of planted bugs and wrong definitions by crate, which --write puts there. Each old text of a planted
+  bug is once in its file.
 - A lemma that nothing names is an error, and so is a page of lemmas that its proofs/Lib.antt doesn't name.
 - docs/MAP.md has each crate with the libraries of crates.txt and the first sentence of its root, which --write puts there, and
   each module begins with a comment that says what it is.
@@ -48,7 +50,9 @@ import sys
 from functools import lru_cache
 from itertools import chain
 
+from check_headline import CITATION
 from counts import count_faults, counts, line_faults, lower_long_lines, write_counts
+from definitions import clauses
 from habits import faults as habits, lower
 from sources import (
     NAME, TOP, cited, crates, files, imports_of, module_of, public_clauses, shown, text_of, uses, without_comments, words_of,
@@ -62,6 +66,7 @@ from write_speed import latest as latest_results, written as with_figures  # noq
 DOCUMENTS = [*sorted(TOP.glob("*.md")), *sorted((TOP / "docs").glob("*.md"))]
 DEFINITIONS = TOP / "docs/DEFINITIONS.md"
 TESTING = TOP / "docs/TESTING.md"
+PROVED = TOP / "docs/PROVED.md"
 MAP = TOP / "docs/MAP.md"
 FACADE = TOP / "crates/zoned"
 KNOWN = TOP / "tools/known_words.txt"
@@ -79,8 +84,8 @@ PYTHON = TOP / "python/src/sahvumbi/errors.py"
 PYTHON_PAGE = TOP / "docs/PYTHON.md"
 # The modules whose calls PYTHON.md lists: those of a zone, and functions of the package.
 OF_ZONES, OF_PACKAGE = ["zone", "_stretches"], ["_differences", "_many"]
-INDEX = "## Index of the words that contracts cite\n"
-PLANTED = "## The list of planted bugs\n"
+INDEX = TOP / "docs/INDEX.md"
+PLANTED = "## Planted bugs and wrong definitions by crate\n"
 IN_PART, BY_HAND = "mutants", "mutants-by-hand"
 WORD = r"[A-Za-z_][A-Za-z0-9_]*"
 
@@ -159,11 +164,9 @@ def known_words():
 def unknown_words():
     known = names_of_code() | known_words()
     for path in DOCUMENTS:
-        if path.name in ("CHANGELOG.md", "LICENSE.md"):
+        if path.name in ("CHANGELOG.md", "LICENSE.md", INDEX.name):
             continue
         text = without_blocks(text_of(path))
-        if path == DEFINITIONS:
-            text = text.split(INDEX)[0]
         for span in re.finditer(r"(`+)(.+?)\1", text):
             for word in re.findall(WORD, span[2]):
                 if len(word) > 1 and word not in known:
@@ -197,7 +200,8 @@ def words_in_contracts():
 def index_row(page, meaning, names):
     _, crate, _, *inside = page.split(".")
     words = ", ".join(f"`{name}`" for name in sorted(names, key=str.lower))
-    return f"| {words} | `{crate}` `{'/'.join(inside)}` | {meaning.replace('|', '/')} |"
+    path = "/".join(inside)
+    return f"| {words} | [`{crate}` {path}](../crates/{crate}/specs/{path}.antt) | {meaning.replace('|', '/')} |"
 
 
 def index():
@@ -206,19 +210,21 @@ def index():
         if ".Steps" not in page and ".pins." not in page:
             words.setdefault((page, word.meaning), []).append(name)
     rows = [index_row(*group, names) for group, names in words.items()]
-    head = "Made from the comments of the pages by `tools/check_documents.py --write`.\n\n| word | page | means |\n|---|---|---|\n"
-    return INDEX + "\n" + head + "\n".join(sorted(rows, key=str.lower)) + "\n"
+    head = (
+        "# Index of the words that contracts cite\n\nEach word with its page and the comment above its definition. "
+        "[DEFINITIONS](DEFINITIONS.md) explains the most important ones, with their worked examples; `tools/claim.py` shows the definitions "
+        "that a clause uses. (`tools/check_documents.py --write` makes this page.)\n\n| word | page | means |\n|---|---|---|\n"
+    )
+    return head + "\n".join(sorted(rows, key=str.lower)) + "\n"
 
 
 def index_faults():
-    text = text_of(DEFINITIONS)
-    at = text.find(INDEX)
-    written = set(text[at:].splitlines()) if at >= 0 else set()
+    written = set(text_of(INDEX).splitlines()) if INDEX.exists() else set()
     due = set(index().splitlines())
     for row in sorted(due - written):
-        yield f"{shown(DEFINITIONS)}: the index lacks the line: {row}"
+        yield f"{shown(INDEX)}: it lacks the line: {row}"
     for row in sorted(written - due):
-        yield f"{shown(DEFINITIONS)}: the index has a line of its own: {row}"
+        yield f"{shown(INDEX)}: it has a line of its own: {row}"
     for (page, name), (word, clause) in words_in_contracts().items():
         if not word.meaning:
             yield f"{shown(word.page, word.place)}: {name} has no comment that says what it means"
@@ -260,10 +266,10 @@ def unsafe_code():
         yield f"{shown(README)}: it doesn't say: {due}"
 
 
-def write_index():
-    text = text_of(DEFINITIONS)
-    at = text.find(INDEX)
-    DEFINITIONS.write_text((text[:at] if at >= 0 else text.rstrip() + "\n\n") + index())
+def claims():
+    for path, names in CITATION.findall(text_of(PROVED)):
+        if not clauses(path, re.findall(r"`(\w+)`", names)):
+            yield f"{shown(PROVED)}: tools/claim.py doesn't find {path} {{{names}}}"
 
 
 # Edits
@@ -271,27 +277,22 @@ def write_index():
 
 def edits():
     if planted() not in text_of(TESTING):
-        yield f"{shown(TESTING)}: its list of planted bugs isn't that of the crates (--write puts it there)"
+        yield f"{shown(TESTING)}: its table of planted bugs isn't that of the crates (--write puts it there)"
     for crate in crates():
         for path in [*files(IN_PART, ".edit", [crate]), *files(BY_HAND, ".edit", [crate])]:
             yield from edit_faults(crate, path)
 
 
 def planted():
-    """The list of planted bugs: those of each crate by the file that they change, each with what its line `says:` adds to its name."""
-
-    def row(path):
-        text = text_of(path)
-        says = re.search(r"(?m)^says: (.*)$", text)
-        name = f"`{path.stem}`" if path.parent.name == BY_HAND else f"**`{path.stem}`**"
-        return re.search(r"(?m)^file: (.*)$", text)[1], path.parent.name == BY_HAND, name + (f" ({says[1]})" if says else "")
-
-    head = "Each is a file of its crate, in bold one of `mutants/`, which the gate tries; the others are in `mutants-by-hand/`.\n"
-    rows = []
-    for crate in crates():
-        names = [name for _, _, name in sorted(row(path) for folder in (IN_PART, BY_HAND) for path in files(folder, ".edit", [crate]))]
-        rows += [f"- `{crate}`: {', '.join(names)}."] * bool(names)
-    return PLANTED + "\n" + head + "\n" + "\n".join(rows) + "\n"
+    """The table of planted bugs and wrong definitions: how many each crate has."""
+    wrong = [text_of(path).split("crates/", 1)[1].split("/")[0] for path in files("wrong", ".edit", ["tests_pins"])]
+    rows = [(crate, len(files(IN_PART, ".edit", [crate])), len(files(BY_HAND, ".edit", [crate])), wrong.count(crate)) for crate in crates()]
+    table = [f"| `{crate}` | {in_gate} | {by_hand} | {definitions} |" for crate, in_gate, by_hand, definitions in rows if in_gate + by_hand + definitions]
+    return "\n".join([
+        PLANTED, "A planted bug is a file of its crate's folder `mutants/`, which the gate tries, or `mutants-by-hand/`. A wrong definition is a file of",
+        "`crates/tests_pins/wrong/`, and counts for the crate whose page it changes.\n", "| crate | in the gate | by hand | wrong definitions |",
+        "|---|--:|--:|--:|", *table, ""
+    ])
 
 
 def write_planted():
@@ -593,7 +594,7 @@ def not_passed_on():
 
 
 CHECKS = [
-    links, merge_lines, habits, unknown_words, stale_words, index_faults, edits, types_with_steps, unsafe_code, unused_lemmas,
+    links, merge_lines, habits, unknown_words, stale_words, index_faults, claims, edits, types_with_steps, unsafe_code, unused_lemmas,
     unlisted_pages, map_faults, not_passed_on, required_of_c, number_faults, call_faults, facts_of_documents, first_screen,
     package_lines, long_sentences, figure_faults, count_faults, line_faults, rattle_blocks, wrong_definitions,
 ]
@@ -601,7 +602,7 @@ CHECKS = [
 
 def main():
     if sys.argv[1:] == ["--write"]:
-        write_index()
+        INDEX.write_text(index())
         write_planted()
         MAP.write_text(with_crates(text_of(MAP)))
         PROGRAMS.write_text(with_numbers(text_of(PROGRAMS)))

@@ -4,7 +4,7 @@
 usage: tools/habits.py [WORD .. | --lower]
 
 HABITS has for each of them how often it may still occur in documents (README.md, CONTRIBUTING.md, docs/, python/README.md;
-without code blocks, the index of DEFINITIONS.md and the table of crates) and in doc comments (`///`, `//!` and the header for C). Each count
+without code blocks, INDEX.md and the table of crates) and in doc comments (`///`, `//!` and the header for C). Each count
 is the highest that is allowed: tools/check_documents.py reports an error if there are more. Lower a count when you mend a
 sentence: `--lower` does it. With words, prints each place of the habits whose name has one of them; without, the counts.
 """
@@ -14,7 +14,7 @@ import sys
 
 from sources import TOP, files, text_of
 
-INDEX = "## Index of the words that contracts cite\n"
+INDEX = "INDEX.md"
 HEADER = TOP / "crates/zoned_ffi/include/zoned_ffi.h"
 # A habit, what to write in its place, its pattern, and the counts allowed in documents and in doc comments.
 HABITS = [
@@ -49,10 +49,11 @@ def counts():
 
 
 def documents():
-    pages = [TOP / "README.md", TOP / "CONTRIBUTING.md", *sorted((TOP / "docs").glob("*.md")), TOP / "python/README.md"]
+    written = [path for path in sorted((TOP / "docs").glob("*.md")) if path.name != INDEX]
+    pages = [TOP / "README.md", TOP / "CONTRIBUTING.md", *written, TOP / "python/README.md"]
     for path in pages:
         text = re.sub(r"(?s)<!-- crates -->.*?<!-- end -->", lambda table: "\n" * table[0].count("\n"), text_of(path))
-        yield path, without_blocks(text.partition(INDEX)[0])
+        yield path, without_blocks(text)
 
 
 def doc_comments():

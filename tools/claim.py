@@ -1,0 +1,83 @@
+#!/usr/bin/env python3
+"""Leads from a sentence to its proof: the clauses that it cites, the definitions that they use, and what pins those.
+
+usage: tools/claim.py PAGE:LINE | 'CRATE::MODULE::FUNCTION' [CLAUSE ..]
+
+PAGE is a document, such as PROVED or docs/PROVED.md; each clause that its line cites is shown. Or a function's path and clauses are
+given, as docs/PROVED.md cites them. For each clause it prints:
+
+- the clause, with its place;
+- the definitions that the clause cites, each with its place and its meaning, the worked examples (pins) that speak of it, and the
+  wrong definitions that these reject;
+- how many definitions those use in turn;
+- the command that proves the function.
+
+A pin is printed with a definition if its clauses cite it; pins of words below it bear on it too (tools/claim.py doesn't follow them).
+"""
+
+import sys
+
+from check_headline import CITATION
+from definitions import below, clauses, pins_of, used_in
+from sources import TOP, shown, text_of
+from try_definitions import edits
+
+import re
+
+
+def document(name):
+    """The document of that name, with or without its folder and ending."""
+    for path in (TOP / name, TOP / f"{name}.md", TOP / "docs" / f"{name}.md"):
+        if path.is_file():
+            return path
+    sys.exit(f"no document {name}")
+
+
+def citations(arguments):
+    """What is asked: each function, trait or impl with the names of its clauses."""
+    page, _, line = arguments[0].rpartition(":")
+    if not line.isdigit():
+        return [(arguments[0], arguments[1:])]
+    rows = text_of(document(page)).splitlines()
+    if not 0 < int(line) <= len(rows):
+        sys.exit(f"{page} has {len(rows)} lines")
+    found = [(path, re.findall(r"`(\w+)`", names)) for path, names in CITATION.findall(rows[int(line) - 1])]
+    if not found:
+        sys.exit(f"line {line} of {page} cites no clause")
+    return found
+
+
+def explain(path, names):
+    print(f"\n== {path}")
+    found = clauses(path, names)
+    if not found:
+        sys.exit("there is no such clause")
+    cited = {}
+    for clause in found:
+        print(f"{shown(clause.path, clause.place)}\n    {clause.text}")
+        cited |= used_in(clause.text, clause.imports)
+    for key, word in sorted(cited.items(), key=lambda each: each[0][1].lower()):
+        print(f"\n  {word.name}: {word.meaning or 'see its page'}\n    {shown(word.page, word.place)}")
+        for pin, (source, place) in pins_of(key).items():
+            print(f"    pinned by {pin} ({shown(source, place)})")
+        wrong = [edit for edit in edits() if TOP / edit.file == word.page and any(pin in pins_of(key) for pin in edit.pins)]
+        for edit in wrong:
+            print(f"    rejected: {edit.name} ({edit.says})")
+    further = below(cited)
+    print(f"\n  {len(further) - len(cited)} more definitions are used by these, on {len({page for page, _ in further})} pages in all.")
+    crate, name = path.split("::")[0], path.split("::")[-1]
+    if re.fullmatch(r"\w+", name):
+        print(f"  To prove it again: (cd crates/{crate} && rt check --only {name})")
+    else:
+        print(f"  A ghost member is a definition. To prove what uses it: (cd crates/{crate} && rt check)")
+
+
+def main():
+    if len(sys.argv) < 2 or sys.argv[1].startswith("-"):
+        sys.exit(__doc__)
+    for path, names in citations(sys.argv[1:]):
+        explain(path, names)
+
+
+if __name__ == "__main__":
+    main()
