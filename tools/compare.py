@@ -1,5 +1,5 @@
 #!/usr/bin/env python3
-"""Compares the library and its programs with other readers of a tz database. It is run by hand.
+"""Compares the library and its programs with other readers of a tz database. It is run by hand, except peers.
 
 usage: tools/compare.py zoneinfo [ZONEQ [FOLDER]]    zoneq's answers with Python's zoneinfo
        tools/compare.py changes [FOLDER [ARCHIVE]]   clock changes of the C library, both ways, with zdump
@@ -8,6 +8,7 @@ usage: tools/compare.py zoneinfo [ZONEQ [FOLDER]]    zoneq's answers with Python
        tools/compare.py strings [FOLDER]             written TZ strings with those in footers
        tools/compare.py days [FOLDER [ARCHIVE]]      starts of days, by the C library, with zoneinfo
        tools/compare.py differences OLD NEW [ZONEDUMP]  zonedump --diff of two databases with zoneinfo
+       tools/compare.py peers                        zoneq's answers with rows of other projects' tests; the gate runs it
 
 ZONEQ and ZONEDUMP are the built programs (crates/zoneq/out/zoneq), ARCHIVE is the static library
 (crates/zoned_ffi/out/libzoned_ffi.a), FOLDER the database (/usr/share/zoneinfo), SLIM one that `zic -b slim` compiled.
@@ -17,11 +18,11 @@ has no known reason.
 
 import sys
 
-from comparing import changes, days, differences, dumps, with_zoneinfo, written_files, written_strings
+from comparing import changes, days, differences, dumps, peers, with_zoneinfo, written_files, written_strings
 
 COMPARISONS = {
     "zoneinfo": with_zoneinfo.main, "changes": changes.main, "dumps": dumps.main, "files": written_files.main,
-    "strings": written_strings.main, "days": days.main, "differences": differences.main,
+    "strings": written_strings.main, "days": days.main, "differences": differences.main, "peers": peers.main,
 }
 
 if __name__ == "__main__":
