@@ -1,7 +1,7 @@
 #!/usr/bin/env python3
 """Tries wrong definitions: edits of pages of specs/ that a pin or a law must reject.
 
-usage: tools/try_definitions.py [--lanes N] [--write] [NAME ..]
+usage: tools/try_definitions.py [--lanes N] [NAME ..]
 
 A wrong definition is a file crates/tests_pins/wrong/NAME.edit: the page and the texts that it exchanges there, each of which is once
 in the page, what the definition says then, and the pins that are no longer proved:
@@ -22,8 +22,7 @@ keeps its functions and its lemmas.
 Edits are tried together if none of them changes a definition that a pin of another one speaks of, also through other definitions
 and through lemmas of crates/tests_pins. An edit doesn't count if a page can't be read any more, or if a proof misses a name.
 
-With no names all are tried, N at a time (2). It takes half an hour of a processor and more, and is run by hand. --write only
-writes into docs/DEFINITIONS.md which of them each pin rejects. Ends with status 1 unless each edit is rejected.
+With no names all are tried, N at a time (2). It takes half an hour of a processor and more, and is run by hand. Ends with status 1 unless each edit is rejected.
 """
 
 import argparse
@@ -102,7 +101,7 @@ def edits():
 
 
 def faults():
-    """What is wrong with the files, and with what docs/DEFINITIONS.md says of them and of the pins."""
+    """What is wrong with the files, and with the pins that docs/DEFINITIONS.md lists."""
     for edit in edits():
         path = TOP / edit.file
         if not path.is_file() or not edit.pairs or edit.applied(text_of(path)) is None:
@@ -115,8 +114,6 @@ def faults():
     listed = [pin for found in PINNED.finditer(text_of(DEFINITIONS)) for pin in re.findall(r"[\w:]+", found[1])]
     for pin in sorted(pins() ^ set(listed)) + [pin for pin in set(listed) if listed.count(pin) > 1]:
         yield f"docs/DEFINITIONS.md: it doesn't list the pin {pin} once, or there is none"
-    if with_rejected(text_of(DEFINITIONS)) != text_of(DEFINITIONS):
-        yield "docs/DEFINITIONS.md: its wrong definitions aren't those of crates/tests_pins/wrong: run tools/try_definitions.py --write"
 
 
 # The lines of docs/DEFINITIONS.md
@@ -138,10 +135,6 @@ def with_rejected(text):
 
     laws = ", ".join(f"`{edit.name}` (`{edit.law[1]}`)" for edit in edits() if edit.law)
     return BY_LAW.sub(lambda found: f"{found[1]}{laws}.", PINNED.sub(line, text))
-
-
-def write_rejected():
-    DEFINITIONS.write_text(with_rejected(DEFINITIONS.read_text()))
 
 
 # Copies of crates, without code and without proofs
@@ -470,12 +463,8 @@ def tried_by_pins(chosen, lanes):
 def main():
     given = argparse.ArgumentParser(usage=__doc__.partition("usage: ")[2].partition("\n\n")[0])
     given.add_argument("--lanes", type=int, default=2)
-    given.add_argument("--write", action="store_true")
     given.add_argument("names", nargs="*")
     given = given.parse_args()
-    if given.write:
-        write_rejected()
-        return 0
     missing = set(given.names) - {edit.name for edit in edits()}
     if missing:
         sys.exit(f"no file of crates/tests_pins/wrong: {', '.join(sorted(missing))}")

@@ -1,0 +1,213 @@
+#!/usr/bin/env python3
+"""Writes what is generated in the documents, in seconds and without a proof. tools/check_documents.py checks that it is up to date.
+
+usage: tools/generate_documents.py
+
+- docs/INDEX.md: each word of specs/ that a public contract cites, other than a pin, with its page and its meaning, which is the comment
+  before its definition, or before that of several words.
+- docs/DEFINITIONS.md: the wrong definitions that each pin rejects (tools/try_definitions.py).
+- docs/TESTING.md: a table of planted bugs and wrong definitions by crate.
+- docs/MAP.md: a table of crates, each with the libraries of crates.txt and the first sentence of its root.
+- docs/PROGRAMS.md: the error numbers 1 to 17 with the words of the comments of tz_info's `Error`.
+- docs/PYTHON.md: the calls about columns, each with the first sentence of its docstring.
+- README.md and docs/TESTING.md: how many tests, planted bugs and wrong definitions there are, and the last line that the tests print.
+
+A generated table is between `<!-- NAME -->` and `<!-- end -->`, or ends its page.
+"""
+
+import ast
+import re
+
+from sources import TOP, cited, crates, files, public_clauses, module_of, text_of, uses, words_of
+from try_definitions import with_rejected
+
+DEFINITIONS, INDEX, MAP = TOP / "docs/DEFINITIONS.md", TOP / "docs/INDEX.md", TOP / "docs/MAP.md"
+PROGRAMS, PYTHON_PAGE = TOP / "docs/PROGRAMS.md", TOP / "docs/PYTHON.md"
+README, TESTING = TOP / "README.md", TOP / "docs/TESTING.md"
+ERROR = TOP / "crates/tz_base/src/error.rt"
+NUMBERS = TOP / "crates/tz_base/specs/Errors.antt"
+PYTHON = TOP / "python/src/sahvumbi"
+# The modules whose calls PYTHON.md lists: those of a zone, and functions of the package.
+OF_ZONES, OF_PACKAGE = ["zone", "_stretches"], ["_differences", "_many"]
+PLANTED = "## Planted bugs and wrong definitions by crate\n"
+IN_GATE, BY_HAND = "mutants", "mutants-by-hand"
+LAST_OF_TESTS = re.compile(r"(?m)^\d+ of \d+ tests passed, status 0$")
+
+
+def between(name, text, rows):
+    """The page with these rows as its table of that name."""
+    return re.sub(rf"(?s)(<!-- {name} -->\n).*?(\n<!-- end -->)", lambda found: found[1] + "\n".join(rows) + found[2], text)
+
+
+# The index
+
+
+def words_in_contracts():
+    """The words that public contracts cite, each with its page, its meaning, and a place that cites it."""
+    words = {(module_of(page), word.name): word for page in files("specs", ".antt") for word in words_of(page)}
+    found = {}
+    for clause in public_clauses():
+        for page, name in cited(clause) if clause.path.relative_to(TOP / "crates").parts[0] != "tests_pins" else []:
+            if (page, name) in words:
+                found.setdefault((page, name), (words[page, name], clause))
+    return found
+
+
+def index_row(page, meaning, names):
+    _, crate, _, *inside = page.split(".")
+    words = ", ".join(f"`{name}`" for name in sorted(names, key=str.lower))
+    path = "/".join(inside)
+    return f"| {words} | [`{crate}` {path}](../crates/{crate}/specs/{path}.antt) | {meaning.replace('|', '/')} |"
+
+
+def index():
+    words = {}
+    for (page, name), (word, _) in words_in_contracts().items():
+        if ".Steps" not in page and ".pins." not in page:
+            words.setdefault((page, word.meaning), []).append(name)
+    rows = [index_row(*group, names) for group, names in words.items()]
+    head = (
+        "# Index of the words that contracts cite\n\nEach word with its page and the comment above its definition. "
+        "[DEFINITIONS](DEFINITIONS.md) explains the most important ones, with their worked examples; `tools/claim.py` shows the definitions "
+        "that a clause uses. (`tools/generate_documents.py` makes this page.)\n\n| word | page | means |\n|---|---|---|\n"
+    )
+    return head + "\n".join(sorted(rows, key=str.lower)) + "\n"
+
+
+# Planted bugs
+
+
+def planted():
+    """The table of planted bugs and wrong definitions: how many each crate has."""
+    wrong = [text_of(path).split("crates/", 1)[1].split("/")[0] for path in files("wrong", ".edit", ["tests_pins"])]
+    rows = [(crate, len(files(IN_GATE, ".edit", [crate])), len(files(BY_HAND, ".edit", [crate])), wrong.count(crate)) for crate in crates()]
+    table = [f"| `{crate}` | {in_gate} | {by_hand} | {definitions} |" for crate, in_gate, by_hand, definitions in rows if in_gate + by_hand + definitions]
+    return "\n".join([
+        PLANTED, "A planted bug is a file of its crate's folder `mutants/`, which the gate tries, or `mutants-by-hand/`. A wrong definition is a file of",
+        "`crates/tests_pins/wrong/`, and counts for the crate whose page it changes.\n", "| crate | in the gate | by hand | wrong definitions |",
+        "|---|--:|--:|--:|", *table, ""
+    ])
+
+
+# The map of crates
+
+
+def head_of(path):
+    """What the head of a module says first: the first sentence of its `//!` comment."""
+    comment = re.match(r"(?:#!\[.*\]\n)*((?://!.*\n)+)", text_of(path))
+    words = re.sub(r"(?m)^//! ?", "", comment[1]).partition("\n\n")[0] if comment else ""
+    plain = re.sub(r"\[(`[^`]*`)\](?:\([^)]*\))?", r"\1", " ".join(words.split()))
+    return re.split(r"\.(?:\s|$)", plain)[0].removesuffix(":").replace("|", "/")
+
+
+def with_crates(text):
+    """The map with a row for each crate: its name, the libraries that it uses, and what its root says first."""
+
+    def row(crate):
+        root = next(path for path in (TOP / "crates" / crate / "src" / name for name in ("lib.rt", "main.rt")) if path.exists())
+        return f"| `{crate}` | {', '.join(f'`{library}`' for library in uses()[crate]) or 'std'} | {head_of(root)} |"
+
+    return between("crates", text, ["| crate | uses | is |", "|---|---|---|", *map(row, crates())])
+
+
+# Error numbers
+
+
+def first_sentence(comment):
+    """A comment's first sentence, as a table has it."""
+    sentence = re.split(r"\.(?:\s|$)", " ".join(comment.replace("///", " ").split()))[0]
+    return sentence[:1].lower() + sentence[1:]
+
+
+def numbers_of_errors():
+    """The number of each variant of `Error`, with its name and the words of its comment."""
+    error = text_of(ERROR).partition("\npub enum Error {\n")[2].partition("\n}\n")[0]
+    variants = re.findall(r"((?: *///[^\n]*\n)+) *#\[error[^\n]*\n *(\w+)", error)
+    numbers = dict(re.findall(r"(?m)^\w+ \(?errors\.(\w+).* = (\d+)$", text_of(NUMBERS)))
+    return {int(numbers[name]): (name, first_sentence(comment)) for comment, name in variants}
+
+
+def with_numbers(text):
+    """The page of the programs with a row for each number of an error."""
+    rows = [f"| {number} | `{name}` | {words} |" for number, (name, words) in sorted(numbers_of_errors().items())]
+    return between("numbers of errors", text, ["| number | variant | means |", "|---|---|---|", *rows])
+
+
+# The calls of the Python package
+
+
+def documented_calls(module):
+    """The calls of a module that users have, each with the first sentence of its docstring."""
+    for node in ast.walk(ast.parse(text_of(PYTHON / f"{module}.py"))):
+        says = isinstance(node, ast.FunctionDef) and not node.name.startswith("_") and ast.get_docstring(node)
+        if says and (module in OF_ZONES or f'"{node.name}"' in text_of(PYTHON / "__init__.py")):
+            parameters = [each.arg for each in node.args.args if each.arg != "self"]
+            sentence = " ".join(says.partition("\n\n")[0].split()).removeprefix("Returns ").removesuffix(".")
+            yield f"{'zone.' * (module in OF_ZONES)}{node.name}({', '.join(parameters)})", sentence
+
+
+def with_calls(text):
+    """The page of the Python package with a row for each call about a column."""
+    rows = [f"| `{call}` | {says} |" for module in OF_ZONES + OF_PACKAGE for call, says in documented_calls(module)]
+    return between("calls", text, ["| call | returns |", "|---|---|", *rows])
+
+
+# Counts
+
+
+def how_often(pattern, paths):
+    return sum(len(re.findall(pattern, text_of(path))) for path in paths)
+
+
+def counts():
+    """The words after the number, at the start of a row or in bold: `| 468 | tests in Rattle ..`, `**468** tests in Rattle ..`."""
+    pins = [*files("src", ".rt", ["tests_pins"]), TOP / "crates/zoned_ffi/src/pins.rt"]
+    in_part, by_hand = files("mutants", ".edit"), files("mutants-by-hand", ".edit")
+    return {
+        "tests in Rattle": how_often(r"(?m)^#\[test\]$", files("tests", ".txt")),
+        "worked examples": how_often(r"(?m)^pub fn ", pins),
+        "planted bugs in the gate": len(in_part),
+        "planted bugs in all": len(in_part) + len(by_hand),
+        "wrong definitions": len(files("wrong", ".edit", ["tests_pins"])),
+        "programs that must not compile": len(list((TOP / "tools/refused").glob("*.txt"))),
+        "tests of the Python package": how_often(r"(?m)^ *def test_", sorted((TOP / "python/tests").glob("test_*.py"))),
+    }
+
+
+def row(words):
+    return re.compile(rf"(?m)(^\| |\*\*)([\d,]+)( \| |\*\* )(?={re.escape(words)}\b)")
+
+
+def with_counts(text):
+    """A page with the counts of the day in its rows and in bold."""
+    for words, count in counts().items():
+        text = row(words).sub(rf"\g<1>{count:,}\g<3>", text)
+    return text
+
+
+def last_of_tests():
+    tests = counts()["tests in Rattle"]
+    return f"{tests} of {tests} tests passed, status 0"
+
+
+def generated():
+    """Each page that has generated parts, with its text as it is due."""
+    testing = text_of(TESTING)
+    return {
+        INDEX: index(),
+        DEFINITIONS: with_rejected(text_of(DEFINITIONS)),
+        TESTING: with_counts(testing[: testing.find(PLANTED)] + planted()),
+        MAP: with_crates(text_of(MAP)),
+        PROGRAMS: with_numbers(text_of(PROGRAMS)),
+        PYTHON_PAGE: with_calls(text_of(PYTHON_PAGE)),
+        README: LAST_OF_TESTS.sub(last_of_tests(), with_counts(text_of(README))),
+    }
+
+
+def main():
+    for path, text in generated().items():
+        path.write_text(text)
+
+
+if __name__ == "__main__":
+    main()
