@@ -125,8 +125,8 @@ def test_nat_stays_and_is_explained():
     column = np.array(["NaT", FOLD, GAP, "NaT", SUMMER], "M8[us]")
     explained = NEW_YORK.explain(column)
     assert explained.shown.tolist() == [-1, 2, 0, -1, 1]
-    assert np.isnat(explained.first).tolist() == [True, False, True, True, False]
-    assert np.isnat(explained.first_offset).tolist() == [True, False, True, True, False]
+    assert np.isnat(explained.first).tolist() == [True, False, False, True, False]
+    assert np.isnat(explained.first_offset).tolist() == [True, False, False, True, False]
     answer = NEW_YORK.localize(column, gap="nat", fold="nat")
     assert np.isnat(answer).tolist() == [True, True, True, True, False]
 

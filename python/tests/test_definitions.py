@@ -56,7 +56,10 @@ def test_explain(drawn):
         seconds = lists.shown_at(local, WINDOW)
         assert explained.shown[row] == shown_times(seconds)
         if not seconds:
-            assert all(np.isnat(field[row]) for field in explained[1:])
+            change = lists.first_at_or_after(local, WINDOW)
+            offsets = [lists.offset(change - 1), lists.offset(change)]
+            assert explained.first[row].astype(int) == explained.last[row].astype(int) == change
+            assert [field[row].astype(int) for field in explained[3:]] == offsets
             continue
         assert explained.first[row].astype(int) == seconds[0]
         assert explained.last[row].astype(int) == seconds[-1]

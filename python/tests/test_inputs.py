@@ -78,7 +78,9 @@ def test_a_timestamp():
     assert NEW_YORK.localize(pd.Timestamp(GAP), gap="nat") is pd.NaT
     assert NEW_YORK.types(instant).abbreviation == "EDT"
     assert NEW_YORK.explain(pd.Timestamp(FOLD)).last == pd.Timestamp("2021-11-07 06:30", tz="UTC")
-    assert NEW_YORK.explain(pd.Timestamp(GAP)) == (0, *[pd.NaT] * 4)
+    change = pd.Timestamp("2021-03-14 07:00", tz="UTC")
+    sides = pd.Timedelta(-5, "h"), pd.Timedelta(-4, "h")
+    assert NEW_YORK.explain(pd.Timestamp(GAP)) == (0, change, change, *sides)
     with pytest.raises(TypeError, match="a local time has no zone"):
         NEW_YORK.localize(instant)
     with pytest.raises(sahvumbi.GapError):
@@ -96,7 +98,8 @@ def test_a_datetime():
     assert NEW_YORK.offsets(instant) == timedelta(hours=-4)
     assert NEW_YORK.types(instant) == (timedelta(hours=-4), True, "EDT")
     assert NEW_YORK.explain(FOLD).first == datetime(2021, 11, 7, 5, 30, tzinfo=timezone.utc)
-    assert NEW_YORK.explain(GAP) == (0, None, None, None, None)
+    change = datetime(2021, 3, 14, 7, tzinfo=timezone.utc)
+    assert NEW_YORK.explain(GAP) == (0, change, change, timedelta(hours=-5), timedelta(hours=-4))
     assert NEW_YORK.localize(FOLD, fold=1) == datetime(2021, 11, 7, 6, 30, tzinfo=timezone.utc)
     assert NEW_YORK.localize(local, tz=THEIRS).tzinfo is THEIRS
     assert NEW_YORK.localize(local, tz="America/New_York") == NEW_YORK.localize(local, tz=THEIRS)
@@ -275,14 +278,12 @@ def test_what_is_not_a_time():
     assert NEW_YORK.types(pd.NaT) == (pd.NaT, False, "") and NEW_YORK.types(pd.NaT).offset is pd.NaT
     for answer, others in (
         (NEW_YORK.explain(pd.NaT), [-1]),
-        (NEW_YORK.explain(pd.Timestamp(GAP)), [0]),
         (NEW_YORK.spans(pd.NaT), [False, ""]),
         (NEW_YORK.day(pd.NaT), []),
     ):
         assert [each for each in answer if each is not pd.NaT] == others
     for unit in ("s", "ms", "us", "ns"):
-        for answer in (NEW_YORK.explain(np.datetime64(GAP, unit)), NEW_YORK.explain(np.datetime64("NaT", unit))):
-            assert np.isnat(answer[1:]).all()
+        assert np.isnat(NEW_YORK.explain(np.datetime64("NaT", unit))[1:]).all()
 
 
 # The index of a Series

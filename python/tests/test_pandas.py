@@ -55,8 +55,9 @@ def test_explain():
     assert (
         frame["first"].isna().tolist()
         == frame["last_offset"].isna().tolist()
-        == [False, True, True]
+        == [False, False, True]
     )
+    assert frame["first"].tolist()[1] == pd.Timestamp("2021-03-14 07:00", tz="UTC")
     assert frame["last_offset"].tolist()[0] == pd.Timedelta(-5, "h")
 
 

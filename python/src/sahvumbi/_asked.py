@@ -7,7 +7,17 @@ from typing import Any, Optional
 import numpy as np
 
 from ._columns import GREATEST, Block, Column, extremes
-from ._door import LEAST, NEVER, NO_OFFSET, ONCE, OUT_OF_RANGE, SEVERAL_TIMES, Door
+from ._door import (
+    LEAST,
+    NEVER,
+    NO_OFFSET,
+    ONCE,
+    OUT_OF_RANGE,
+    REFUSE,
+    SEVERAL_TIMES,
+    SHIFT_FORWARD,
+    Door,
+)
 from ._forms import NAT, Array
 from ._types import LocalTypes, Spans, WallClocks
 from .errors import NO_OFFSET as HAS_NO_OFFSET
@@ -114,8 +124,13 @@ def explained(door: Door, column: Column) -> Any:
     first_offset, last_offset = np.empty(len(column), np.int32), np.empty(len(column), np.int32)
     for block in column.blocks():
         times, *ends = door.wall_clocks(block.seconds).T
-        is_none = (times == NEVER) | (times == OUT_OF_RANGE)
+        is_none = times == OUT_OF_RANGE
         shown[block.rows] = times
+        skipped = times == NEVER
+        if block.is_nat is not None:
+            shown[block.rows][block.is_nat] = -1
+            is_none |= block.is_nat
+            skipped &= ~block.is_nat
         for found, its_offsets, its_instants in (
             (ends[0], first_offset, first),
             (ends[1], last_offset, last),
@@ -123,9 +138,10 @@ def explained(door: Door, column: Column) -> Any:
             its_offsets[block.rows] = found
             _move(block, -1, found, its_instants)
             its_instants[block.rows][is_none] = NAT if column.has_nat or column.is_time else 0
-        if block.is_nat is not None:
-            shown[block.rows][block.is_nat] = -1
-    is_none = (shown != ONCE) & (shown != SEVERAL_TIMES)
+        if skipped.any():
+            rows = np.flatnonzero(skipped) + block.start
+            _explain_gaps(door, column.part(rows), rows, first, last, first_offset, last_offset)
+    is_none = (shown != ONCE) & (shown != SEVERAL_TIMES) & (shown != NEVER)
     # Each array is let go before the next answer is made.
     first = column.instants(first)
     last = column.instants(last)
@@ -134,6 +150,20 @@ def explained(door: Door, column: Column) -> Any:
     return column.form.table(
         WallClocks(column.plain(shown), first, last, first_offset, last_offset)
     )
+
+
+def _explain_gaps(
+    door: Door, skipped: Column, rows: Array, first: Array, last: Array, before: Array, after: Array
+) -> None:
+    """Writes the change that skips each of these local times, and the offsets on both sides."""
+    block = Block(skipped, 0)
+    found, places = np.unique(block.seconds, return_inverse=True)
+    end = door.first_at_or_after(found)[places]
+    shifted = door.resolved(SHIFT_FORWARD, REFUSE, found)[places]
+    instants = np.empty(rows.size, np.int64)
+    instants[block.in_units(end["instant"], instants)] = NAT
+    first[rows] = last[rows] = instants
+    before[rows], after[rows] = block.seconds - shifted["instant"], end["offset"]
 
 
 def offsets_of(door: Door, block: Block) -> Array:

@@ -16,8 +16,14 @@ from ._names import bytes_of_key, zoneinfo_of
 from ._opening import Zone
 from .errors import FOLD, GAP, OUT_OF_RANGE, FoldError, GapError, OutOfRangeError, printable
 
-GAPS = ("raise", "shift", "before", "after", "nat")
+GAPS = ("raise", "shift", "before", "after", "shift_back", "nat")
 FOLDS = ("raise", "earliest", "latest", "nat", "infer")
+#: What pandas says for some of these words, and for the keywords.
+OF_PANDAS = {
+    "gap": {"shift_forward": "after", "shift_backward": "before", "NaT": "nat"},
+    "fold": {"NaT": "nat"},
+}
+KEYWORDS_OF_PANDAS = {"ambiguous": "fold", "nonexistent": "gap"}
 KINDS = {GAP: GapError, FOLD: FoldError, OUT_OF_RANGE: OutOfRangeError}
 #: A row for which nothing is given.
 UNKNOWN = NAT
@@ -140,7 +146,17 @@ def _zone_of_answer(tz: Any) -> Any:
 def must_be_among(name: str, word: Any, words: tuple[str, ...]) -> None:
     if not isinstance(word, str) or word not in words:
         shown = printable(repr(word))
-        raise ValueError(f"{name} is one of {', '.join(words)}, and not {shown}")
+        ours = OF_PANDAS.get(name, {}).get(word) if isinstance(word, str) else None
+        hint = f": pandas' {word!r} is {name}={ours!r} here" if ours else ""
+        raise ValueError(f"{name} is one of {', '.join(words)}, and not {shown}{hint}")
+
+
+def must_have_no_others(others: dict[str, Any]) -> None:
+    """Raises TypeError at a keyword of another library, or at one that no library has."""
+    for name in others:
+        ours = KEYWORDS_OF_PANDAS.get(name)
+        hint = f": pandas' {name}= is {ours}= here" if ours else ""
+        raise TypeError(f"Zone.localize() takes no keyword argument {name!r}{hint}")
 
 
 def _given(column: Column, fold: Any, is_dst: Any, offset: Any) -> Optional[Given]:

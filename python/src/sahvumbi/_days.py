@@ -108,6 +108,13 @@ def ceiled(door: Door, column: Column, step: Step) -> Array:
     return answers
 
 
+def rounded(door: Door, column: Column, step: Step) -> Array:
+    """Returns the nearest first instant of a step; the later of two that are equally near."""
+    earlier, later = floored(door, column, step), ceiled(door, column, step)
+    before, after = column.values - earlier, later - column.values
+    return np.where(before < after, earlier, later)
+
+
 def stretches_of(door: Door, column: Column, step: Step) -> Union[Beginnings, Steps]:
     """Returns the days of the zone, or the shorter steps of its clocks."""
     seconds = seconds_of(step)

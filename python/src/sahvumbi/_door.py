@@ -8,7 +8,7 @@ from __future__ import annotations
 
 import ctypes
 import platform
-from ctypes import byref, c_char_p, c_int64, c_size_t, c_uint32, c_void_p
+from ctypes import byref, c_char, c_char_p, c_int32, c_int64, c_size_t, c_uint32, c_void_p
 from pathlib import Path
 from typing import Any, Callable, Optional
 
@@ -19,6 +19,7 @@ from .errors import ZoneRefusedError
 
 FILE = 0
 TEXT = 1
+EXTENDED_TEXT = 2
 
 #: What `offsets` has where the zone has none.
 NO_OFFSET = -(2**31)
@@ -44,6 +45,32 @@ SPAN = np.dtype([("from", np.int64), ("until", np.int64), ("type", LOCAL_TYPE)])
 
 #: What a second may have of a unit, for `local_times` and `instants`.
 COLUMN_UNITS = 1, 10**3, 10**6, 10**9
+
+
+
+class LocalType(ctypes.Structure):
+    """One `LOCAL_TYPE`."""
+
+    _fields_ = [("offset", c_int32), ("is_dst", c_int32), ("abbreviation", c_char * 8)]
+
+
+class Change(ctypes.Structure):
+    """One `CHANGE`."""
+
+    _fields_ = [("at", c_int64), ("before", LocalType), ("after", LocalType)]
+
+
+class WallClock(ctypes.Structure):
+    """How often a local time is shown, with the offsets and the seconds at the first and the last time."""
+
+    _fields_ = [
+        ("shown", c_int32),
+        ("first_offset", c_int32),
+        ("last_offset", c_int32),
+        ("first", c_int64),
+        ("last", c_int64),
+    ]
+
 
 NO_CHANGE = 35
 # Why a row of a column has no local time, or no instant.
@@ -110,7 +137,11 @@ def _calls() -> tuple[ctypes.CDLL, ctypes.PyDLL]:
         (library.zoned_zone_instants, [c_void_p, c_uint32, c_uint32, *column]),
         (library.zoned_zone_resolve, [c_void_p, c_uint32, c_uint32, *array, *array]),
         (brief.zoned_zone_first_at_or_after, [c_void_p, c_int64, c_void_p]),
+        (brief.zoned_zone_gap, [c_void_p, c_int64, c_void_p]),
+        (brief.zoned_zone_offset, [c_void_p, c_int64, c_void_p]),
         (brief.zoned_zone_span, [c_void_p, c_int64, c_void_p]),
+        (brief.zoned_zone_type, [c_void_p, c_int64, c_void_p]),
+        (brief.zoned_zone_wall_clock, [c_void_p, c_int64, c_void_p]),
         (library.zoned_zone_next_change, [c_void_p, c_int64, c_void_p]),
         (library.zoned_zone_changes, [c_void_p, c_int64, c_int64, *array, c_void_p]),
     ):
@@ -189,6 +220,32 @@ class Door:
             self._must_be_answered(_BRIEF.zoned_zone_first_at_or_after(self._zone, local, place))
             place += RESOLVED.itemsize
         return answers
+
+    # One instant, one local time
+
+    def offset_at(self, instant: int) -> Optional[int]:
+        """The offset at a Unix second, or None."""
+        found = c_int32()
+        self._must_be_answered(_BRIEF.zoned_zone_offset(self._zone, instant, byref(found)))
+        return None if found.value == NO_OFFSET else found.value
+
+    def type_at(self, instant: int) -> Optional[LocalType]:
+        """The local time type at a Unix second, or None."""
+        found = LocalType()
+        self._must_be_answered(_BRIEF.zoned_zone_type(self._zone, instant, byref(found)))
+        return None if found.offset == NO_OFFSET else found
+
+    def wall_clock(self, local_time: int) -> WallClock:
+        """When clocks show a local time, counted in seconds."""
+        found = WallClock()
+        self._must_be_answered(_BRIEF.zoned_zone_wall_clock(self._zone, local_time, byref(found)))
+        return found
+
+    def gap(self, local_time: int) -> Change:
+        """The change that skips a local time. There must be one."""
+        found = Change()
+        self._must_be_answered(_BRIEF.zoned_zone_gap(self._zone, local_time, byref(found)))
+        return found
 
     # Spans and changes
 

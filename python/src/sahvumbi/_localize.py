@@ -103,7 +103,7 @@ class Clocks:
         self._fail(rows[never & (gap == "raise")], GAP)
         self._fail(rows[several & (fold == "raise")], FOLD)
         skipped = rows[never]
-        if skipped.size and gap in ("shift", "before", "after"):
+        if skipped.size and gap in ("shift", "before", "after", "shift_back"):
             self._resolve(skipped)
         if fold == "given" and several.any():
             self._take_given(rows[several])
@@ -112,16 +112,20 @@ class Clocks:
         self._lose(rows[(never & (gap == "nat")) | (several & (fold == "nat"))])
 
     def _resolve(self, skipped: Array) -> None:
-        """Takes the instant of each row that clocks skipped: by the offset before the gap, or the
-        first second that shows a later time."""
+        """Takes the instant of each row that clocks skipped: by the offset before or after the gap, or
+        the first second that shows a later time."""
         local_times = self.block.seconds[skipped]
         if self.choice.gap == "shift":
             resolved = self.door.resolved(SHIFT_FORWARD, REFUSE, local_times)
         else:
             found, rows = np.unique(local_times, return_inverse=True)
             resolved = self.door.first_at_or_after(found)[rows]
+        if self.choice.gap == "shift_back":
+            self.first[skipped] = self.last[skipped] = resolved["offset"]
+        else:
+            self.first[skipped] = self.last[skipped] = local_times - resolved["instant"]
+        if self.choice.gap in ("before", "after"):
             self.cut = skipped
-        self.first[skipped] = self.last[skipped] = local_times - resolved["instant"]
         outside = skipped[resolved["number"] != 0]
         self.first[outside] = self.last[outside] = 0
         self._fail(outside, IS_OUT_OF_RANGE)

@@ -2,11 +2,13 @@
 
 from __future__ import annotations
 
+import operator
 import os
+from datetime import timedelta
 from typing import Any, Optional, TypeVar, Union
 from zoneinfo import ZoneInfo
 
-from ._door import FILE, TEXT, Door
+from ._door import EXTENDED_TEXT, FILE, TEXT, Door
 from ._names import bytes_of_file, bytes_of_key
 
 Self = TypeVar("Self", bound="Zone")
@@ -62,21 +64,50 @@ class Zone:
         return cls._of(FILE, read, what, None, f"Zone.from_bytes(<{what}>)")
 
     @classmethod
-    def from_text(cls: type[Self], text: str) -> Self:
+    def from_text(cls: type[Self], text: str, *, extended: bool = False) -> Self:
         """Returns the zone of a TZ string as in POSIX.1, section 8.3. The empty string is UTC.
 
-        Raises `ZoneRefusedError` if it isn't one. The extensions of RFC 8536, section 3.3.1, are
-        errors too: a signed time of day (10), and its hours above 24 (6). In the footer of a file
-        they are read.
+        Raises `ZoneRefusedError` if it isn't one. With `extended` the extensions of RFC 8536,
+        section 3.3.1, are read, as in the footer of a file: a signed time of day, and hours up to
+        167. Otherwise they are errors (10 and 6), and an extended string is never empty.
 
         >>> from sahvumbi import Zone
         >>> Zone.from_text("<+0330>-3:30").offsets([0])
         array([12600], dtype=int32)
+        >>> Zone.from_text("XXX3EDT4,0/0,J365/23", extended=True).offsets([0])
+        array([-14400], dtype=int32)
         """
         if not isinstance(text, str):
             raise TypeError(f"a TZ string is a str, and not {type(text).__name__}")
         data = str.encode(text, "utf-8", "surrogatepass")
-        return cls._of(TEXT, data, text, None, f"Zone.from_text({text!r})")
+        kind, word = (EXTENDED_TEXT, ", extended=True") if extended else (TEXT, "")
+        return cls._of(kind, data, text, None, f"Zone.from_text({text!r}{word})")
+
+    @classmethod
+    def fixed(cls: type[Self], offset: Union[timedelta, int]) -> Self:
+        """Returns the zone of one offset, east of UTC: a timedelta, or a number of seconds.
+
+        Its abbreviation is the offset, as in '+0530'. Raises ValueError unless the offset is a whole
+        number of seconds, less than a day either way.
+
+        >>> from datetime import timedelta
+        >>> from sahvumbi import Zone
+        >>> Zone.fixed(timedelta(hours=5, minutes=30)).types([0]).abbreviation
+        array(['+0530'], dtype='<U7')
+        """
+        if isinstance(offset, timedelta):
+            seconds, part = divmod(offset, timedelta(seconds=1))
+            if part:
+                raise ValueError(f"an offset has whole seconds, and {offset!r} hasn't")
+        else:
+            seconds = operator.index(offset)
+        if abs(seconds) >= 86_400:
+            raise ValueError(f"an offset is less than a day, and {offset!r} isn't")
+        minutes, rest = divmod(abs(seconds), 60)
+        digits = f"{minutes // 60:02}{minutes % 60:02}" + f"{rest:02}" * bool(rest)
+        east, west = ("-", "+") if seconds < 0 else ("+", "-")
+        text = f"<{east}{digits}>{west}{minutes // 60:02}:{minutes % 60:02}:{rest:02}"
+        return cls._of(TEXT, text.encode(), text, None, f"Zone.fixed({offset!r})")
 
     @classmethod
     def from_zoneinfo(cls: type[Self], zone: ZoneInfo) -> Self:

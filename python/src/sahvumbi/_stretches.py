@@ -146,6 +146,30 @@ class Zone(Opened):
         column = taken(instants, "zone.ceil(s.index, step)", may_be_aware=True)
         return column.instants(of_days.ceiled(self._door, column, step))
 
+    @overload
+    def round(self, instants: Rows, step: Step) -> Array: ...
+    @overload
+    def round(self, instants: Labelled, step: Step) -> Labelled: ...
+    @overload
+    def round(self, instants: Moment, step: Step) -> Moment: ...
+    @overload
+    def round(self, instants: Single, step: Step) -> Any: ...
+
+    def round(self, instants: Any, step: Step) -> Any:
+        """Returns the nearest instant at which a local day, hour or other step begins.
+
+        Of two that are equally near it is the later one. Steps and errors are those of `floor`.
+
+        >>> import numpy as np
+        >>> from sahvumbi import Zone
+        >>> times = np.array(["2021-03-14T16:30", "2021-03-14T16:29"], "M8[m]")
+        >>> Zone("America/New_York").round(times, "D")  # a day of 23 hours, from 05:00 to 04:00 UTC
+        array(['2021-03-15T04:00:00', '2021-03-14T05:00:00'],
+              dtype='datetime64[s]')
+        """
+        column = taken(instants, "zone.round(s.index, step)", may_be_aware=True)
+        return column.instants(of_days.rounded(self._door, column, step))
+
     # Spans and changes
 
     @overload

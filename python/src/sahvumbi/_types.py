@@ -29,7 +29,7 @@ Labelled = TypeVar("Labelled", bound=Labels)
 #: A datetime or a Timestamp, which is answered by one.
 Moment = TypeVar("Moment", bound=datetime)
 
-Gap = Literal["raise", "shift", "before", "after", "nat"]
+Gap = Literal["raise", "shift", "before", "after", "shift_back", "nat"]
 FoldWord = Literal["raise", "earliest", "latest", "nat", "infer"]
 #: A word, or 0 and 1 for each row.
 Fold = Union[FoldWord, Rows, Labels, int]
@@ -41,13 +41,14 @@ class WallClocks(NamedTuple):
     shown: npt.NDArray[np.int8]
     """How often: 0 never, 1 once, 2 several times; 3 out of range, -1 NaT."""
     first: npt.NDArray[Any]
-    """The first instant that shows it, counted as the column is; if none does, NaT, None or 0."""
+    """The first instant that shows it, counted as the column is; in a gap that of the change that
+    skips it; NaT, None or 0 for NaT and out of range."""
     last: npt.NDArray[Any]
-    """The last one."""
+    """The last one; in a gap the same change."""
     first_offset: npt.NDArray[Any]
-    """The offset at the first instant, as `Zone.offsets` returns it."""
+    """The offset at the first instant, as `Zone.offsets` returns it; in a gap the one before it."""
     last_offset: npt.NDArray[Any]
-    """The offset at the last one."""
+    """The offset at the last one; in a gap the one after it."""
 
 
 class LocalTypes(NamedTuple):

@@ -6,11 +6,13 @@ from datetime import datetime
 from typing import Any, Literal, Union, overload
 
 from . import _asked as asked
-from ._choice import chosen
+from . import _single as single
+from ._choice import chosen, must_have_no_others
 from ._forms import Array, Failures
 from ._inputs import taken
 from ._localize import localized
 from ._stretches import Zone as Stretches
+from ._tzinfo import ZoneTime
 from ._types import Fold, Gap, Labelled, Labels, LocalTypes, Moment, Rows, Single, Times, WallClocks
 
 
@@ -39,6 +41,19 @@ class Zone(Stretches):
 
     __slots__ = ()
 
+    @property
+    def tzinfo(self) -> ZoneTime:
+        """The zone as a `datetime.tzinfo`, with the folds of PEP 495.
+
+        A Zone itself is none, since pandas takes each tzinfo that it doesn't know for a fixed offset.
+
+        >>> from datetime import datetime
+        >>> new_york = Zone("America/New_York").tzinfo
+        >>> print(datetime(2021, 11, 7, 1, 30, fold=1, tzinfo=new_york))
+        2021-11-07 01:30:00-05:00
+        """
+        return ZoneTime(self)
+
     # Instants
 
     @overload
@@ -60,6 +75,9 @@ class Zone(Stretches):
         >>> Zone("America/New_York").offsets([1_615_705_199, 1_615_705_200])
         array([-18000, -14400], dtype=int32)
         """
+        offset = single.offset(self._door, instants)
+        if offset is not None:
+            return offset
         return asked.offsets(self._door, taken(instants, "zone.offsets(s.index)", may_be_aware=True))
 
     @overload
@@ -82,6 +100,9 @@ class Zone(Stretches):
         >>> Zone("Asia/Kolkata").to_local(datetime(2021, 7, 1, 12))
         datetime.datetime(2021, 7, 1, 17, 30)
         """
+        local_time = single.local_time(self._door, instants)
+        if local_time is not None:
+            return local_time
         column = taken(instants, "zone.to_local(s.index)", may_be_aware=True)
         return column.local_times(asked.local_times(self._door, column))
 
@@ -143,6 +164,7 @@ class Zone(Stretches):
         by: Any = None,
         errors: str = "raise",
         tz: Any = "UTC",
+        **others: Any,
     ) -> Any:
         """Returns the instant at which the zone's clocks show each local time.
 
@@ -153,7 +175,8 @@ class Zone(Stretches):
         `gap` says what to return for a local time that clocks skipped: 'raise' a `GapError`;
         'shift' the instant by the offset before the gap, as on a clock that was not set forward;
         'after' the first instant after the gap, at which clocks go on; 'before' the last one before
-        it that the column's unit can count; 'nat' NaT.
+        it that the column's unit can count; 'shift_back' the instant by the offset after the gap, as
+        on a clock that was set forward already; 'nat' NaT.
 
         `fold` says what to return for one that clocks showed several times: 'raise' a `FoldError`;
         'earliest' the first instant that shows it; 'latest' the last one; 'nat' NaT; 'infer' the
@@ -194,6 +217,11 @@ class Zone(Stretches):
         array(['2021-11-07T05:10:00', '2021-11-07T05:50:00',
                '2021-11-07T06:20:00'], dtype='datetime64[s]')
         """
+        must_have_no_others(others)
+        if is_dst is None and offset is None and by is None and errors == "raise" and tz == "UTC":
+            instant = single.instant(self._door, local_times, gap, fold)
+            if instant is not None:
+                return instant
         column = taken(local_times, "zone.localize(s.index)", may_be_aware=False)
         choice = chosen(column, gap, fold, is_dst, offset, by, errors, tz)
         return choice.answer(column, localized(self._door, column, choice))
@@ -206,17 +234,19 @@ class Zone(Stretches):
     def explain(self, local_times: Any) -> Any:
         """Returns how often, and when, the zone's clocks show each local time: a `WallClocks`.
 
-        `shown` is 0 for never, 1 for once, 2 for several times, 3 for out of range and -1 for NaT. Of a
-        Series or an Index the answer is a DataFrame with its labels, and a column for each field of
-        `WallClocks`. Fields without a time are NaT, None for a datetime, or 0 in columns of int64.
-        Raises `OutOfRangeError` if an instant doesn't fit the column's type.
+        `shown` is 0 for never, 1 for once, 2 for several times, 3 for out of range and -1 for NaT. Of
+        a local time that clocks skipped, `first` and `last` are the instant of the change that skips
+        it, with the offsets before and after it. Of a Series or an Index the answer is a DataFrame
+        with its labels, and a column for each field of `WallClocks`. Fields without a time are NaT,
+        None for a datetime, or 0 in columns of int64. Raises `OutOfRangeError` if an instant doesn't
+        fit the column's type.
 
         >>> explained = Zone("America/New_York").explain([1_615_689_000, 1_636_248_600])
         >>> explained.shown
         array([0, 2], dtype=int8)
         >>> explained.first
-        array([         0, 1636263000])
+        array([1615705200, 1636263000])
         >>> explained.last_offset
-        array([     0, -18000], dtype=int32)
+        array([-14400, -18000], dtype=int32)
         """
         return asked.explained(self._door, taken(local_times, "zone.explain(s.index)", may_be_aware=False))

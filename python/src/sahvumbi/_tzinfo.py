@@ -1,0 +1,107 @@
+"""A zone as a `datetime.tzinfo`, by PEP 495."""
+
+from __future__ import annotations
+
+from datetime import datetime, timedelta, tzinfo
+from typing import Any, Optional
+
+from ._door import NEVER, ONCE, OUT_OF_RANGE, SEVERAL_TIMES, Door
+from ._forms import EPOCH
+from ._opening import Zone
+from ._single import seconds_of
+from .errors import NO_OFFSET, NoOffsetError
+
+ZERO = timedelta(0)
+
+
+class ZoneTime(tzinfo):
+    """The tzinfo of a `Zone`: its offsets, abbreviations and folds, as PEP 495 has them.
+
+    A local time that clocks showed several times is the first of them with `fold=0` and the last with
+    `fold=1`. One that they skipped has the offset before the gap with `fold=0`, and the one after it
+    with `fold=1`. `dst()` is zero in standard time, and None while daylight saving time is in force: a
+    TZif file has a flag for it, and no length.
+    """
+
+    __slots__ = ("zone",)
+
+    def __init__(self, zone: Zone):
+        self.zone = zone
+
+    @property
+    def key(self) -> Optional[str]:
+        """The name that the zone was opened by, or None."""
+        return self.zone.key
+
+    def utcoffset(self, when: Optional[datetime]) -> Optional[timedelta]:
+        """Returns the offset of a local time of the zone; None for None."""
+        if when is None:
+            return None
+        clock = self.zone._door.wall_clock(_seconds(when))
+        if clock.shown == ONCE or clock.shown == SEVERAL_TIMES:
+            return timedelta(0, clock.last_offset if when.fold else clock.first_offset)
+        return timedelta(0, self._type(when).offset)
+
+    def tzname(self, when: Optional[datetime]) -> Optional[str]:
+        """Returns the abbreviation at a local time of the zone; None for None."""
+        return None if when is None else self._type(when).abbreviation.decode()
+
+    def dst(self, when: Optional[datetime]) -> Optional[timedelta]:
+        """Returns zero in standard time; None in daylight saving time, and for None."""
+        return None if when is None or self._type(when).is_dst else ZERO
+
+    def fromutc(self, when: datetime) -> datetime:
+        """Returns what the zone's clocks show at a datetime of UTC that has this tzinfo."""
+        if not isinstance(when, datetime):
+            raise TypeError(f"fromutc takes a datetime, and not {type(when).__name__}")
+        if when.tzinfo is not self:
+            raise ValueError("fromutc takes a datetime that has this tzinfo")
+        door, instant = self.zone._door, _seconds(when)
+        offset = _at(door, instant).offset
+        shown = when + timedelta(0, offset)
+        return shown.replace(fold=1) if door.wall_clock(instant + offset).first != instant else shown
+
+    def _type(self, when: datetime) -> Any:
+        """The type of a local time, by its fold."""
+        door, local = self.zone._door, _seconds(when)
+        clock = door.wall_clock(local)
+        if clock.shown == NEVER:
+            gap = door.gap(local)
+            return gap.after if when.fold else gap.before
+        if clock.shown == OUT_OF_RANGE:
+            raise NoOffsetError(None, when.replace(tzinfo=None), NO_OFFSET)
+        return _at(door, clock.last if when.fold else clock.first)
+
+    def __repr__(self) -> str:
+        return f"{self.zone!r}.tzinfo"
+
+    def __str__(self) -> str:
+        return self.zone.key or repr(self)
+
+    def __eq__(self, other: object) -> bool:
+        """Whether both are of the same zone."""
+        return isinstance(other, ZoneTime) and self.zone == other.zone
+
+    def __hash__(self) -> int:
+        return hash((ZoneTime, self.zone))
+
+    def __reduce__(self) -> tuple[Any, ...]:
+        return _of_zone, (self.zone,)
+
+
+def _of_zone(zone: Any) -> ZoneTime:
+    made: ZoneTime = zone.tzinfo
+    return made
+
+
+def _seconds(when: datetime) -> int:
+    """The seconds since 1970-01-01 00:00:00 of a datetime without its zone."""
+    return seconds_of(when.replace(tzinfo=None) - EPOCH)
+
+
+def _at(door: Door, instant: int) -> Any:
+    """The type at an instant."""
+    found = door.type_at(instant)
+    if found is None:
+        raise NoOffsetError(None, instant, NO_OFFSET)
+    return found

@@ -1,0 +1,120 @@
+"""Words of pandas, policies for gaps, fixed offsets and extended TZ strings, with values from outside."""
+
+from datetime import datetime, timedelta, timezone
+
+import numpy as np
+import pandas as pd
+import pytest
+
+import sahvumbi.pandas  # noqa: F401
+from sahvumbi import FoldError, GapError, Zone, ZoneRefusedError
+
+NEW_YORK = Zone("America/New_York")
+# On 2021-03-14 New York's clocks went from 02:00 to 03:00, on 2021-11-07 from 02:00 to 01:00 (zdump -v).
+GAP = datetime(2021, 3, 14, 2, 30)
+FOLD = datetime(2021, 11, 7, 1, 30)
+
+
+def in_utc(column):
+    """The instants as texts of UTC; pandas 1.5 shows the first offset in each fold of a ZoneInfo."""
+    return [str(each) for each in column.dt.tz_convert("UTC").dt.tz_localize(None)]
+
+
+def utc(*fields):
+    return datetime(*fields, tzinfo=timezone.utc)
+
+
+def test_shift_back_takes_the_offset_after_the_gap():
+    # 02:30 at -04:00 is 06:30 UTC, when clocks showed 01:30.
+    assert NEW_YORK.localize(GAP, gap="shift_back") == utc(2021, 3, 14, 6, 30)
+    column = np.array(["2021-03-14T02:30", "2021-07-01T12:00", "2021-03-14T02:00"], "M8[s]")
+    want = np.array(["2021-03-14T06:30", "2021-07-01T16:00", "2021-03-14T06:00"], "M8[s]")
+    assert (NEW_YORK.localize(column, gap="shift_back") == want).all()
+    assert NEW_YORK.localize(column.astype("M8[ns]"), gap="shift_back").tolist() == want.astype("M8[ns]").tolist()
+
+
+def test_a_gap_is_explained_by_its_change():
+    explained = NEW_YORK.explain(np.array(["2021-03-14T02:30", "NaT", "2021-07-01T12:00"], "M8[s]"))
+    assert explained.shown.tolist() == [0, -1, 1]
+    assert explained.first[0] == explained.last[0] == np.datetime64("2021-03-14T07:00:00")
+    assert explained.first_offset[0] == np.timedelta64(-18_000, "s")
+    assert explained.last_offset[0] == np.timedelta64(-14_400, "s")
+    assert np.isnat(explained.first[1]) and np.isnat(explained.first_offset[1])
+    one = NEW_YORK.explain(GAP)
+    assert (one.shown, one.first, one.last_offset) == (0, utc(2021, 3, 14, 7), timedelta(hours=-4))
+
+
+def test_fixed_offsets():
+    assert Zone.fixed(timedelta(hours=-3, minutes=-30)).to_local(utc(2021, 1, 1)) == datetime(2020, 12, 31, 20, 30)
+    assert Zone.fixed(0).types([0]).abbreviation.tolist() == ["+0000"]
+    assert Zone.fixed(-1).types([0]).abbreviation.tolist() == ["-000001"]
+    assert Zone.fixed(86_399).offsets([0]).tolist() == [86_399]
+    for wrong in (86_400, -86_400, timedelta(days=1), timedelta(microseconds=1)):
+        with pytest.raises(ValueError):
+            Zone.fixed(wrong)
+    with pytest.raises(TypeError):
+        Zone.fixed("+05:30")
+
+
+def test_extended_strings():
+    # The strings of Nuuk, and of daylight saving time all year (RFC 8536 section 3.3.1).
+    nuuk = Zone.from_text("<-02>2<-01>,M3.5.0/-1,M10.5.0/0", extended=True)
+    assert nuuk.offsets([1_719_792_000]).tolist() == [-3_600]
+    with pytest.raises(ZoneRefusedError):
+        Zone.from_text("<-02>2<-01>,M3.5.0/-1,M10.5.0/0")
+    assert Zone.from_text("XXX3EDT4,0/0,J365/23", extended=True).offsets([0]).tolist() == [-14_400]
+
+
+def test_one_value_is_answered_as_a_column_of_one():
+    for moment in (datetime(2021, 7, 1, 12), utc(2021, 1, 1), datetime(2021, 11, 7, 5, 30, 0, 250_000)):
+        column = np.array([moment.replace(tzinfo=None)], "M8[us]")
+        assert NEW_YORK.to_local(moment) == NEW_YORK.to_local(column)[0].item()
+        assert NEW_YORK.offsets(moment) == NEW_YORK.offsets(column)[0].item()
+    for fold in ("earliest", "latest"):
+        assert NEW_YORK.localize(FOLD, fold=fold).replace(tzinfo=None) == NEW_YORK.localize(np.array([FOLD], "M8[us]"), fold=fold)[0].item()
+    assert NEW_YORK.to_local(1_615_705_200) == 1_615_690_800
+    with pytest.raises(FoldError):
+        NEW_YORK.localize(FOLD)
+    with pytest.raises(GapError):
+        NEW_YORK.localize(GAP)
+    with pytest.raises(ValueError, match="gap is one of"):
+        NEW_YORK.localize(datetime(2021, 7, 1), gap="forward")
+    with pytest.raises(ValueError, match="fold is one of"):
+        NEW_YORK.localize(datetime(2021, 7, 1), fold="first")
+
+
+def test_errors_name_our_words():
+    with pytest.raises(ValueError, match="'shift_forward' is gap='after' here"):
+        NEW_YORK.localize(GAP, gap="shift_forward")
+    with pytest.raises(TypeError, match="nonexistent= is gap= here"):
+        NEW_YORK.localize(GAP, nonexistent="shift_forward")
+    with pytest.raises(TypeError, match="ambiguous= is fold= here"):
+        NEW_YORK.localize(GAP, ambiguous="NaT")
+    with pytest.raises(TypeError, match="'other'"):
+        NEW_YORK.localize(GAP, other=1)
+
+
+def test_tz_localize_as_pandas_has_it():
+    local = pd.Series(pd.to_datetime(["2021-03-14 02:30", "2021-11-07 01:30", "2021-07-01 12:00"]))
+    ours = local.sahvumbi.tz_localize("America/New_York", ambiguous=[True, False, True], nonexistent="shift_forward")
+    assert str(ours.dtype) == "datetime64[ns, America/New_York]"
+    assert in_utc(ours) == ["2021-03-14 07:00:00", "2021-11-07 06:30:00", "2021-07-01 16:00:00"]
+    moved = local.sahvumbi.tz_localize("America/New_York", ambiguous="NaT", nonexistent=pd.Timedelta("1h"))
+    assert in_utc(moved) == ["2021-03-14 07:30:00", "NaT", "2021-07-01 16:00:00"]
+    with pytest.raises(GapError):
+        local.sahvumbi.tz_localize("America/New_York", ambiguous="NaT")
+    with pytest.raises(ValueError, match="nonexistent is one of"):
+        local.sahvumbi.tz_localize("America/New_York", nonexistent="after")
+
+
+def test_tz_convert_normalize_and_round():
+    instants = pd.Series(pd.to_datetime(["2021-03-14 16:30", "2021-03-14 16:29"], utc=True))
+    shown = instants.sahvumbi.tz_convert("America/New_York")
+    assert [str(each) for each in shown] == ["2021-03-14 12:30:00-04:00", "2021-03-14 12:29:00-04:00"]
+    starts = instants.sahvumbi.normalize("America/New_York")
+    assert [str(each) for each in starts] == ["2021-03-14 05:00:00+00:00"] * 2
+    # The day has 23 hours, so its middle is 11:30 after its start.
+    nearest = instants.sahvumbi.round("America/New_York", "D")
+    assert [str(each) for each in nearest] == ["2021-03-15 04:00:00+00:00", "2021-03-14 05:00:00+00:00"]
+    with pytest.raises(TypeError, match="with a zone"):
+        instants.dt.tz_localize(None).sahvumbi.tz_convert("America/New_York")
