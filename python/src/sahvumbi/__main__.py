@@ -25,6 +25,12 @@ def about() -> str:
     )
 
 
+def proof() -> str:
+    """Returns the record of the proof: what was proved, by which kit. A wheel of a release has it."""
+    record = LIBRARY.with_name("proof.json")
+    return record.read_text() if record.exists() else "no record: this isn't the wheel of a release"
+
+
 def clocks(zone: Zone, instant: int) -> str:
     """Returns what the clocks of a zone show at a second, and their changes in the next year."""
     types = zone.types(instant)
@@ -41,7 +47,12 @@ def main() -> int:
     parser = argparse.ArgumentParser("python -m sahvumbi", description=__doc__)
     parser.add_argument("zone", nargs="?", help="its name, such as Europe/Paris")
     parser.add_argument("--version", action="version", version=f"sahvumbi {__version__}")
-    name = parser.parse_args().zone
+    parser.add_argument("--proof", action="store_true", help="print the record of the proof")
+    asked = parser.parse_args()
+    if asked.proof:
+        print(proof())
+        return 0
+    name = asked.zone
     try:
         print(about() if name is None else clocks(Zone(name), int(time.time())))
     except (ZoneNotFoundError, ZoneRefusedError) as error:

@@ -1,0 +1,291 @@
+#!/usr/bin/env python3
+"""Makes the files of a release from what the gate has proved and built, and tries each of them in a folder of its own.
+
+usage: tools/release.py [--proof FILE] LOG FOLDER
+
+LOG is the output of a whole `.ci/run` or `rt ci` in this checkout. In FOLDER it makes
+
+- libzoned-VERSION-linux-x86_64.tar.xz: the C library, both programs, man pages and examples; and one for 64-bit ARM, without the
+  programs, if Debian's gcc-aarch64-linux-gnu is installed;
+- Debian packages: libzoned0.4, libzoned-dev and zonedump;
+- the Python wheel;
+- sahvumbi-VERSION.tar.xz: the source files of the commit;
+- proof.json: what was proved. For each crate the SHA-256 of its source, definitions and proofs, the verdict and the number of functions;
+  the commit, the kit and its logic. The wheel has it too: `python -m sahvumbi --proof` prints it;
+- SHA256SUMS.
+
+--proof only writes proof.json to FILE. It needs what tools/install.sh and tools/python_tests.sh need, and dpkg-deb and xz. A file has the
+same bytes each time, except for the wheel: times are those of the commit, and owners are root.
+"""
+
+import argparse
+import gzip
+import hashlib
+import json
+import os
+import re
+import shutil
+import subprocess
+import sys
+import tempfile
+from pathlib import Path
+
+from sources import TOP, crates, needs
+
+HEADER = TOP / "crates/zoned_ffi/include/zoned_ffi.h"
+ARCHIVES = TOP / "crates/zoned_ffi/out"
+ARM = "aarch64-linux-gnu"
+MAINTAINER = "Sahvumbi maintainers <maintainers@users.noreply.sahvumbi.example>"
+# The Debian packages: what each is, what it needs, and the paths that go into it.
+PACKAGES = {
+    "libzoned{abi}": ("libs", "time zones for C, proved (shared library)", "libc6", ["usr/lib/{arch}/libzoned.so.*"]),
+    "libzoned-dev": (
+        "libdevel", "time zones for C, proved (development files)", "libzoned{abi} (= {version})",
+        ["usr/include", "usr/lib/{arch}/libzoned.a", "usr/lib/{arch}/libzoned.so", "usr/lib/{arch}/pkgconfig", "usr/lib/{arch}/cmake",
+         "usr/share/man/man3"],
+    ),
+    "zonedump": ("utils", "lists, compares, draws and writes time zones", "libc6", ["usr/bin", "usr/share/man/man1"]),
+}
+PROGRAM = """#include <zoned.h>
+#include <stdio.h>
+int main(void) {
+    const char text[] = "EST5EDT,M3.2.0,M11.1.0";
+    struct zoned_zone zone = {0};
+    int32_t offset;
+    if (zoned_open(ZONED_TEXT, text, sizeof text - 1, &zone) == ZONED_OK && zoned_zone_offset(&zone, 1615705200, &offset) == ZONED_OK)
+        printf("%d\\n", offset);
+    zoned_close(&zone);
+}
+"""
+# New York's offset after its clocks went forward in 2021, in seconds.
+OFFSET = "-14400\n"
+
+
+def run(*command, **how):
+    """Runs a command; its output. Ends the script if it fails."""
+    ran = subprocess.run(command, capture_output=True, text=True, cwd=how.pop("cwd", TOP), **how)
+    if ran.returncode:
+        sys.exit(f"this failed: {' '.join(map(str, command))}\n{ran.stdout}{ran.stderr}")
+    return ran.stdout
+
+
+def version():
+    return re.search(r'(?m)^#define ZONED_VERSION "(.*)"$', HEADER.read_text())[1]
+
+
+# The record of the proof
+
+
+def checksum(crate):
+    """The SHA-256 of a crate's files of src/, specs/ and proofs/: of each path and its bytes, in order."""
+    paths = run("git", "ls-files", "-z", *(f"crates/{crate}/{folder}" for folder in ("src", "specs", "proofs"))).split("\0")
+    digest = hashlib.sha256()
+    for path in filter(None, paths):
+        digest.update(path.encode() + b"\0" + (TOP / path).read_bytes() + b"\0")
+    return digest.hexdigest()
+
+
+def record(log):
+    """What the run of the gate proved. Ends the script if it didn't prove everything."""
+    text = log.read_text(errors="replace")
+    passed = re.findall(r"(?m)^(\d+) passed, (\d+) failed$", text)
+    if not passed or passed[-1][1] != "0":
+        sys.exit(f"{log} isn't the output of a run in which all passed")
+    functions, found, count = {}, {}, None
+    for line in text.splitlines():
+        proved = re.match(r"logic=proved functions=(\d+) ", line)
+        named = re.match(r"rt: (\w+) (proved|is kept: .*)$", line)
+        if proved:
+            count = int(proved[1])
+        elif named:
+            found[named[1]], functions[named[1]], count = "proved", count, None
+    missing = [crate for crate in crates() if crate not in found]
+    if missing:
+        sys.exit(f"{log} has no verdict on {', '.join(missing)}")
+    kit, logic = re.fullmatch(r"(\S+) logic (\S+)", run("rt", "version").strip()).groups()
+    return {
+        "version": version(),
+        "commit": run("git", "rev-parse", "HEAD").strip(),
+        "kit": kit,
+        "logic": logic,
+        "crates": {
+            crate: {"verdict": found[crate], "functions": functions[crate], "sha256": checksum(crate)} for crate in crates()
+        },
+    }
+
+
+# Archives
+
+
+def moment():
+    """The commit's time, for the times of files."""
+    return run("git", "log", "-1", "--format=%ct").strip()
+
+
+def packed(folder, out):
+    """Packs a folder, with the same bytes each time."""
+    same = ["--sort=name", "--owner=0", "--group=0", "--numeric-owner", f"--mtime=@{moment()}"]
+    run("tar", "-cJf", out, *same, folder.name, cwd=folder.parent)
+
+
+def installed(root, **settings):
+    """Installs the library below a root, with Debian's folders or those of a tarball."""
+    run("tools/install.sh", env={**os.environ, "DESTDIR": str(root), **settings})
+
+
+def tarball(folder, room):
+    """The archive for this processor, tried: a program is built against it in another folder."""
+    tree = room / f"libzoned-{version()}-linux-x86_64"
+    installed(tree, PREFIX="/")
+    add_licences(tree)
+    tried_in(room, tree / "include", tree / "lib")
+    packed(tree, folder / f"{tree.name}.tar.xz")
+
+
+def tried_in(room, include, lib):
+    """Builds and runs a program with these headers and this library, static and shared."""
+    source = room / "tried.c"
+    source.write_text(PROGRAM)
+    for name, words in (("static", [lib / "libzoned.a"]), ("shared", [f"-L{lib}", "-lzoned", f"-Wl,-rpath,{lib}"])):
+        run("gcc", f"-I{include}", "-o", room / name, source, *words)
+        if run(room / name) != OFFSET:
+            sys.exit(f"a program with the {name} library of the release answers otherwise")
+
+
+def tarball_for_arm(folder, room):
+    """The archive for 64-bit ARM, with the heap of crates/zoned_ffi/install."""
+    if not shutil.which(f"{ARM}-gcc"):
+        print(f"{ARM}-gcc isn't installed: no archive for 64-bit ARM")
+        return
+    run("tools/build_archive.py", "--target", "aarch64-unknown-linux-gnu")
+    run(f"{ARM}-gcc", "-O2", "-fPIC", "-c", "-o", room / "heap.o", TOP / "crates/zoned_ffi/install/heap.c")
+    run(f"{ARM}-ar", "rcsD", room / "heap.a", room / "heap.o")
+    tree = room / f"libzoned-{version()}-linux-aarch64"
+    tools = {name: f"{ARM}-{name.lower()}" for name in ("LD", "NM", "AR", "OBJCOPY")}
+    installed(tree, PREFIX="/", ARCHIVE=str(ARCHIVES / "libzoned_ffi-aarch64.a"), HEAP=str(room / "heap.a"), CC=f"{ARM}-gcc", **tools)
+    shutil.rmtree(tree / "bin", ignore_errors=True)
+    add_licences(tree)
+    packed(tree, folder / f"{tree.name}.tar.xz")
+
+
+def add_licences(tree):
+    for name in ("LICENSE", "LICENSE-APACHE", "CHANGELOG.md"):
+        shutil.copy(TOP / name, tree / name)
+
+
+# Debian
+
+
+def debian_packages(folder, room):
+    """Three packages, each unpacked into a root of its own and tried there."""
+    arch, root = run("dpkg-architecture", "-qDEB_HOST_MULTIARCH").strip(), room / "debian"
+    abi = ".".join(version().split(".")[:2])
+    installed(root, PREFIX="/usr", LIBDIR=f"lib/{arch}")
+    for program in ("zonedump", "zoneq"):
+        (root / "usr/bin").mkdir(exist_ok=True)
+        shutil.copy(TOP / f"crates/{program}/out/{program}", root / "usr/bin" / program)
+    run("strip", root / "usr/bin/zonedump", root / "usr/bin/zoneq", root / f"usr/lib/{arch}/libzoned.so")
+    system = room / "system"
+    for name, (section, what, depends, paths) in PACKAGES.items():
+        name, depends = name.format(abi=abi), depends.format(abi=abi, version=version())
+        tree = room / name
+        tree.mkdir()
+        for path in [path for pattern in paths for path in root.glob(pattern.format(arch=arch))]:
+            run("cp", "-a", "--parents", path.relative_to(root), tree, cwd=root)
+        documented(tree / "usr/share/doc" / name)
+        (tree / "DEBIAN").mkdir()
+        size = sum(path.stat().st_size for path in tree.rglob("*") if path.is_file() and not path.is_symlink()) // 1024 + 1
+        (tree / "DEBIAN/control").write_text(
+            f"Package: {name}\nVersion: {version()}\nArchitecture: amd64\nMaintainer: {MAINTAINER}\nSection: {section}\nPriority: optional\n"
+            f"Multi-Arch: {'foreign' if section == 'utils' else 'same'}\nDepends: {depends}\nInstalled-Size: {size}\nDescription: {what}\n"
+            " Offsets, wall clocks and clock changes of TZif files and TZ strings.\n Each function is proved to meet its contract.\n"
+        )
+        if section == "libs":
+            (tree / "DEBIAN/shlibs").write_text(f"libzoned {abi} {name} (>= {version()})\n")
+            (tree / "DEBIAN/triggers").write_text("activate-noawait ldconfig\n")
+        run("chmod", "-R", "u+rwX,go+rX,go-w", tree)
+        package = folder / f"{name}_{version()}_amd64.deb"
+        run("dpkg-deb", "--build", "--root-owner-group", tree, package, env={**os.environ, "SOURCE_DATE_EPOCH": moment()})
+        run("dpkg-deb", "-x", package, system)
+    tried_in(room, system / "usr/include", system / f"usr/lib/{arch}")
+    printed = run(system / "usr/bin/zonedump", "--from", "2021", "--to", "2021", "--text", "EST5EDT,M3.2.0,M11.1.0")
+    if "2021-03-14 07:00:00 UTC" not in printed:
+        sys.exit("zonedump of the Debian package answers otherwise")
+
+
+def documented(folder):
+    """The licence and the changelog, as Debian wants them."""
+    folder.mkdir(parents=True)
+    licence = (TOP / "LICENSE").read_text()
+    words = "\n".join(f" {line}" if line.strip() else " ." for line in licence.splitlines())
+    (folder / "copyright").write_text(
+        "Format: https://www.debian.org/doc/packaging-manuals/copyright-format/1.0/\n\n"
+        f"Files: *\nCopyright: 2026 Sahvumbi maintainers\nLicense: MIT or Apache-2.0\n{words}\n .\n"
+        " On Debian systems the Apache License 2.0 is in /usr/share/common-licenses/Apache-2.0.\n"
+    )
+    when = run("git", "log", "-1", "--format=%cD").strip()
+    entry = f"zoned ({version()}) unstable; urgency=medium\n\n  * See CHANGELOG.md of the sources.\n\n -- {MAINTAINER}  {when}\n"
+    (folder / "changelog.gz").write_bytes(gzip.compress(entry.encode(), 9, mtime=0))
+
+
+# Python, and the sources
+
+
+def wheel(folder, room, proof):
+    """The wheel, installed into an environment of its own and asked."""
+    copy = room / "python"
+    shutil.copytree(TOP / "python", copy, ignore=shutil.ignore_patterns("build", "*.egg-info", "__pycache__"))
+    for name in ("LICENSE", "LICENSE-APACHE"):
+        shutil.copy(TOP / name, copy / name)
+    installed(room / "for_python", PREFIX="/usr")
+    shutil.copy(room / "for_python/usr/lib/libzoned.so", copy / "src/sahvumbi/libzoned_ffi.so")
+    (copy / "src/sahvumbi/proof.json").write_text(proof)
+    python = "/usr/bin/python3"
+    run(python, "-m", "pip", "wheel", "--no-index", "--no-build-isolation", "--no-deps", "-w", folder, copy)
+    run(python, "-m", "venv", "--system-site-packages", room / "environment")
+    made = next(folder.glob("sahvumbi-*.whl"))
+    run(room / "environment/bin/pip", "install", "--no-index", "--no-deps", made)
+    asked = "from sahvumbi import Zone; print(Zone.from_text('EST5EDT,M3.2.0,M11.1.0').offsets([1615705200])[0])"
+    if run(room / "environment/bin/python", "-c", asked, cwd=room) != OFFSET:
+        sys.exit("the wheel answers otherwise")
+    if json.loads(run(room / "environment/bin/python", "-m", "sahvumbi", "--proof", cwd=room)) != json.loads(proof):
+        sys.exit("the wheel has another record of the proof")
+
+
+def sources(folder, room):
+    name = f"sahvumbi-{version()}"
+    plain = room / f"{name}.tar"
+    run("git", "archive", f"--prefix={name}/", "-o", plain, "HEAD")
+    run("xz", "-9", "-T1", plain)
+    shutil.move(f"{plain}.xz", folder / f"{name}.tar.xz")
+
+
+def main():
+    parser = argparse.ArgumentParser(description=__doc__, formatter_class=argparse.RawDescriptionHelpFormatter)
+    parser.add_argument("--proof", type=Path, metavar="FILE")
+    parser.add_argument("log", type=Path)
+    parser.add_argument("folder", type=Path, nargs="?")
+    asked = parser.parse_args()
+    proof = json.dumps(record(asked.log), indent=1) + "\n"
+    if asked.proof:
+        asked.proof.write_text(proof)
+        return
+    if not asked.folder:
+        parser.error("FOLDER is missing")
+    needs("rt", "gcc", "dpkg-deb", "dpkg-architecture", "xz", "/usr/bin/python3", ARCHIVES / "libzoned_ffi.a")
+    folder = asked.folder.absolute()
+    folder.mkdir(parents=True, exist_ok=True)
+    (folder / "proof.json").write_text(proof)
+    with tempfile.TemporaryDirectory() as place:
+        room = Path(place)
+        for step in (tarball, tarball_for_arm, debian_packages, sources):
+            step(folder, room)
+        wheel(folder, room, proof)
+    files = sorted(path for path in folder.iterdir() if path.name != "SHA256SUMS")
+    sums = "".join(f"{hashlib.sha256(path.read_bytes()).hexdigest()}  {path.name}\n" for path in files)
+    (folder / "SHA256SUMS").write_text(sums)
+    print(sums, end="")
+
+
+if __name__ == "__main__":
+    main()
