@@ -7,7 +7,7 @@ LOG is the output of a whole `.ci/run` or `rt ci` in this checkout. In FOLDER it
 
 - libzoned-VERSION-linux-x86_64.tar.xz: the C library, both programs, man pages and examples; and one for 64-bit ARM, without the
   programs, if Debian's gcc-aarch64-linux-gnu is installed;
-- Debian packages: libzoned0.4, libzoned-dev and zonedump;
+- Debian packages: libzoned0, libzoned-dev and zonedump;
 - the Python wheel;
 - sahvumbi-VERSION.tar.xz: the source files of the commit;
 - proof.json: what was proved. For each crate the SHA-256 of its source, definitions and proofs, the verdict and the number of functions;
@@ -38,11 +38,10 @@ ARM = "aarch64-linux-gnu"
 MAINTAINER = "Sahvumbi maintainers <maintainers@users.noreply.sahvumbi.example>"
 # The Debian packages: what each is, what it needs, and the paths that go into it.
 PACKAGES = {
-    "libzoned{abi}": ("libs", "time zones for C, proved (shared library)", "libc6", ["usr/lib/{arch}/libzoned.so.*"]),
+    "libzoned{abi}": ("libs", "time zones for C, proved (shared library)", "libc6", ["{lib}/libzoned.so.*"]),
     "libzoned-dev": (
         "libdevel", "time zones for C, proved (development files)", "libzoned{abi} (= {version})",
-        ["usr/include", "usr/lib/{arch}/libzoned.a", "usr/lib/{arch}/libzoned.so", "usr/lib/{arch}/pkgconfig", "usr/lib/{arch}/cmake",
-         "usr/share/man/man3"],
+        ["usr/include", "{lib}/libzoned.a", "{lib}/libzoned.so", "{lib}/pkgconfig", "{lib}/cmake", "usr/share/man/man3"],
     ),
     "zonedump": ("utils", "lists, compares, draws and writes time zones", "libc6", ["usr/bin", "usr/share/man/man1"]),
 }
@@ -178,26 +177,26 @@ def add_licences(tree):
 
 def debian_packages(folder, room):
     """Three packages, each unpacked into a root of its own and tried there."""
-    arch, root = run("dpkg-architecture", "-qDEB_HOST_MULTIARCH").strip(), room / "debian"
-    abi = ".".join(version().split(".")[:2])
-    installed(root, PREFIX="/usr", LIBDIR=f"lib/{arch}")
+    root, lib = room / "debian", "usr/lib"
+    installed(root, PREFIX="/usr")
+    abi = os.readlink(root / lib / "libzoned.so").removeprefix("libzoned.so.")
     for program in ("zonedump", "zoneq"):
         (root / "usr/bin").mkdir(exist_ok=True)
         shutil.copy(TOP / f"crates/{program}/out/{program}", root / "usr/bin" / program)
-    run("strip", root / "usr/bin/zonedump", root / "usr/bin/zoneq", root / f"usr/lib/{arch}/libzoned.so")
+    run("strip", root / "usr/bin/zonedump", root / "usr/bin/zoneq", root / lib / f"libzoned.so.{version()}")
     system = room / "system"
     for name, (section, what, depends, paths) in PACKAGES.items():
         name, depends = name.format(abi=abi), depends.format(abi=abi, version=version())
         tree = room / name
         tree.mkdir()
-        for path in [path for pattern in paths for path in root.glob(pattern.format(arch=arch))]:
+        for path in [path for pattern in paths for path in root.glob(pattern.format(lib=lib))]:
             run("cp", "-a", "--parents", path.relative_to(root), tree, cwd=root)
         documented(tree / "usr/share/doc" / name)
         (tree / "DEBIAN").mkdir()
         size = sum(path.stat().st_size for path in tree.rglob("*") if path.is_file() and not path.is_symlink()) // 1024 + 1
         (tree / "DEBIAN/control").write_text(
             f"Package: {name}\nVersion: {version()}\nArchitecture: amd64\nMaintainer: {MAINTAINER}\nSection: {section}\nPriority: optional\n"
-            f"Multi-Arch: {'foreign' if section == 'utils' else 'same'}\nDepends: {depends}\nInstalled-Size: {size}\nDescription: {what}\n"
+            f"Depends: {depends}\nInstalled-Size: {size}\nDescription: {what}\n"
             " Offsets, wall clocks and clock changes of TZif files and TZ strings.\n Each function is proved to meet its contract.\n"
         )
         if section == "libs":
@@ -207,7 +206,7 @@ def debian_packages(folder, room):
         package = folder / f"{name}_{version()}_amd64.deb"
         run("dpkg-deb", "--build", "--root-owner-group", tree, package, env={**os.environ, "SOURCE_DATE_EPOCH": moment()})
         run("dpkg-deb", "-x", package, system)
-    tried_in(room, system / "usr/include", system / f"usr/lib/{arch}")
+    tried_in(room, system / "usr/include", system / lib)
     printed = run(system / "usr/bin/zonedump", "--from", "2021", "--to", "2021", "--text", "EST5EDT,M3.2.0,M11.1.0")
     if "2021-03-14 07:00:00 UTC" not in printed:
         sys.exit("zonedump of the Debian package answers otherwise")
@@ -272,7 +271,7 @@ def main():
         return
     if not asked.folder:
         parser.error("FOLDER is missing")
-    needs("rt", "gcc", "dpkg-deb", "dpkg-architecture", "xz", "/usr/bin/python3", ARCHIVES / "libzoned_ffi.a")
+    needs("rt", "gcc", "dpkg-deb", "xz", "/usr/bin/python3", ARCHIVES / "libzoned_ffi.a")
     folder = asked.folder.absolute()
     folder.mkdir(parents=True, exist_ok=True)
     (folder / "proof.json").write_text(proof)
