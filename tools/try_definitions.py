@@ -3,10 +3,11 @@
 
 usage: tools/try_definitions.py [--lanes N] [NAME ..]
 
-A wrong definition is a file crates/tests_pins/wrong/NAME.edit: the page and the texts that it exchanges there, each of which is once
-in the page, what the definition says then, and the pins that are no longer proved:
+A wrong definition is a block of its crate's wrong_definitions.txt: the page and the texts that it exchanges there, each of which is
+once in the page, what the definition says then, and the pins that are no longer proved:
 
-    file: crates/tz_info/specs/Changes.antt
+    [change_of_offset_only]
+    file: specs/Changes.antt
     old: pub differ : c.before ≢ c.after
     new: pub differ : c.before.offset ≢ c.after.offset
     says: change: by another offset only
@@ -37,10 +38,10 @@ from functools import lru_cache
 from pathlib import Path
 from queue import Queue
 
+from edits import WRONG_DEFINITIONS, all_blocks
 from kit import PROVED_WITHOUT_LEMMAS, UNREAD, VERDICT, words_over_pages
 from sources import TOP, imports_of, libraries_below, text_of, uses
 
-WRONG = TOP / "crates/tests_pins/wrong"
 DEFINITIONS = TOP / "docs/DEFINITIONS.md"
 # A line below a definition: pins, what they say, and the wrong definitions that they reject.
 PINNED = re.compile(r"(?m)^  - ((?:`\w+::\w+`(?:, )?)+): (.*?)(?: Rejects (?:.*))?$")
@@ -79,24 +80,11 @@ class Edit:
 def edits():
     """The wrong definitions, in the order of their pages and names."""
     found = []
-    for path in sorted(WRONG.glob("*.edit")):
-        edit, old = Edit(path.stem), ""
-        for line in text_of(path).splitlines():
-            key, _, text = line.partition(":")
-            text = text.removeprefix(" ")
-            if key == "file":
-                edit.file = text
-            elif key == "old":
-                old = text
-            elif key == "new":
-                edit.pairs.append((old, text))
-            elif key == "says":
-                edit.says = text
-            elif key == "pins":
-                edit.pins = text.split(", ")
-            elif key == "law":
-                edit.law = tuple(text.split())
-        found.append(edit)
+    for block in all_blocks(WRONG_DEFINITIONS):
+        file, notes = f"crates/{block.crate}/{block.pairs[0][0]}", block.notes
+        pairs = [(old, new) for _, old, new in block.pairs]
+        pins = [pin for row in notes["pins"] for pin in row.split(", ")]
+        found.append(Edit(block.name, file, pairs, "".join(notes["says"]), pins, tuple(" ".join(notes["law"]).split())))
     return sorted(found, key=lambda edit: (edit.file, edit.name))
 
 
@@ -105,12 +93,12 @@ def faults():
     for edit in edits():
         path = TOP / edit.file
         if not path.is_file() or not edit.pairs or edit.applied(text_of(path)) is None:
-            yield f"crates/tests_pins/wrong/{edit.name}.edit: an old text doesn't stand once in {edit.file}"
+            yield f"wrong definition {edit.name}: an old text isn't once in {edit.file}"
         for pin in edit.pins:
             module, _, function = pin.partition("::")
             source = TOP / f"crates/tests_pins/src/{module}.rt"
             if not source.is_file() or f"pub fn {function}()" not in text_of(source):
-                yield f"crates/tests_pins/wrong/{edit.name}.edit: there is no pin {pin}"
+                yield f"wrong definition {edit.name}: there is no pin {pin}"
     listed = [pin for found in PINNED.finditer(text_of(DEFINITIONS)) for pin in re.findall(r"[\w:]+", found[1])]
     for pin in sorted(pins() ^ set(listed)) + [pin for pin in set(listed) if listed.count(pin) > 1]:
         yield f"docs/DEFINITIONS.md: it doesn't list the pin {pin} once, or there is none"
@@ -314,10 +302,11 @@ def named(words, own, imports):
 def spoken_of(pin):
     """Each definition that the pin speaks of: in its clauses and its answers, and through other definitions and lemmas."""
     module, _, function = pin.partition("::")
-    source = text_of(TOP / f"crates/tests_pins/src/{module}.rt")
+    crate = TOP / "crates" / ("zoned_ffi" if module == "pins" else "tests_pins")
+    source = text_of(crate / f"src/{module}.rt")
     start = source.index(f"pub fn {function}()")
     todo = set(named(WORD.findall(source[start : source.index("{}\n", start)]), None, imports_of(source)))
-    answers = TOP / f"crates/tests_pins/proofs/{module}/{function}/Answers.antt"
+    answers = crate / f"proofs/{module}/{function}/Answers.antt"
     if answers.is_file():
         todo |= set(named(WORD.findall(text_of(answers)), answers, imports_of(text_of(answers))))
     seen = set()

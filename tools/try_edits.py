@@ -4,8 +4,8 @@
 usage: tools/try_edits.py [--lanes N] [--beside FILE] [--tenth] [NAME | NAME/EDIT ..]
        tools/try_edits.py --self-test [--beside FILE]
 
-Without names it tries the edits of mutants/, and with --tenth also a tenth of those of mutants-by-hand/, chosen by the commit, as
-the gate does. For a named crate it tries all of both.
+Each crate has a table of them, planted_bugs.txt. Without names it tries those with the line `in: the gate`, and with --tenth also a
+tenth of the others, chosen by the commit. For a named crate it tries all.
 
 A planted bug is rejected by the contract of the function that has it, whatever is above and below that function. So only the
 functions that edits change are checked, in a copy of their crate, and one check tries all edits of a crate that change different
@@ -32,8 +32,8 @@ the same copy without the edits, and the edits of one that isn't proved there, o
 TRIED. Without FILE nothing is left out: the functions that the edited ones call are proved as well, starting from what `rt
 check` has kept of the crate.
 
---self-test tries this script without a proof, and then the edits of harmless/, which change the text and not the meaning: it fails if
-one of them is refuted.
+--self-test tries this script without a proof, and then the edits of each crate's harmless_edits.txt, which change the text and not
+the meaning: it fails if one of them is refuted.
 
 N crates are tried at a time (3). The last line counts the verdicts. The status is 1 if one is a failure.
 """
@@ -51,10 +51,10 @@ from concurrent.futures import ThreadPoolExecutor
 from dataclasses import dataclass, field, replace
 from pathlib import Path
 
+from edits import HARMLESS, PLANTED_BUGS, blocks
 from kit import FALSE, GOAL, OPEN, PROVED_WITHOUT_PROOFS, TOLD, UNDECIDED, UNREAD, VERDICT, messages, wait_for, words
 from sources import TOP, crates, files, libraries_below
 
-IN_PART, BY_HAND, HARMLESS = "mutants", "mutants-by-hand", "harmless"
 REFUTED, OPEN_GOAL, NO_LONGER_FITS, NOT_REJECTED, NOT_TRIED = "refuted", "open", "no longer fits", "NOT REJECTED", "NOT TRIED"
 # Its proof takes as long as those of all crates that can be proved beside it.
 EARLY = "tz_info"
@@ -85,27 +85,18 @@ class Edit:
         return f"{self.crate}/{self.name}"
 
 
-def read(crate, path):
-    """An edit, and of each text that it changes the function that has it."""
-    edit, file, old, texts = Edit(crate, path.stem), "", "", {}
-    for line in path.read_text().splitlines():
-        key, _, text = line.partition(": ")
-        if key == "file":
-            file = text
-        elif key == "only":
-            edit.parts.append(text)
-        elif key == "old":
-            old = text
-        elif key.rstrip(":") == "new":
-            texts[file] = texts.get(file) or (TOP / "crates" / crate / file).read_text()
-            if texts[file].count(old) != 1:
-                sys.exit(f"{edit}: the old text is {texts[file].count(old)} times in {file}: {old}")
-            edit.changed.add(function_at(texts[file], old))
-            texts[file] = texts[file].replace(old, text)
-            edit.pairs.append((file, old, text))
+def read(block):
+    """A table's edit, and of each text that it changes the function that has it."""
+    for fault in block.faults():
+        sys.exit(fault)
+    edit, texts = Edit(block.crate, block.name, block.pairs), {}
+    for file, old, new in block.pairs:
+        texts[file] = texts.get(file) or (TOP / "crates" / block.crate / file).read_text()
+        edit.changed.add(function_at(texts[file], old))
+        texts[file] = texts[file].replace(old, new)
     edit.is_alone = None in edit.changed
     edit.changed.discard(None)
-    edit.parts = edit.parts or sorted(edit.changed)
+    edit.parts = block.notes["only"] or sorted(edit.changed)
     if not edit.parts:
         sys.exit(f"{edit}: it changes no function, so it needs a line `only: PATH`")
     return edit
@@ -135,28 +126,23 @@ def function_at(text, part):
     return "::".join([*([of_trait[3] + of_trait[1] + (of_trait[2] or "")] if of_trait else []), name])
 
 
-def wanted(names, is_chosen=None):
-    """The edits to be tried, by their crates: for each name all of its edits, and without names those of mutants/ and of
-    mutants-by-hand/ those that are chosen."""
-    found = {}
+def wanted(names, is_chosen):
+    """The edits to be tried, by their crates: for each name all of its edits, and without names those of the gate and those that are
+    chosen."""
+    found = defaultdict(list)
     for word in names or crates():
-        crate, _, stem = word.partition("/")
-        paths = edits_in(crate, IN_PART) + [path for path in edits_in(crate, BY_HAND) if names or is_chosen and is_chosen(path)]
-        edits = [read(crate, path) for path in paths if stem in ("", path.stem)]
-        if names and not edits:
-            sys.exit(f"no edit of {IN_PART} or {BY_HAND}: {word}")
-        found.setdefault(crate, []).extend(edits)
+        crate, _, name = word.partition("/")
+        those = [block for block in blocks(PLANTED_BUGS, crate) if (name in ("", block.name) if names else block.is_in_gate or is_chosen(block))]
+        if names and not those:
+            sys.exit(f"no planted bug: {word}")
+        found[crate] += map(read, those)
     return {crate: edits for crate, edits in found.items() if edits}
 
 
-def edits_in(crate, folder):
-    return sorted((TOP / "crates" / crate / folder).glob("*.edit"))
-
-
 def tenth():
-    """Whether an edit's file is in the tenth that the commit chooses."""
+    """Whether an edit is in the tenth that the commit chooses."""
     commit = subprocess.run(["git", "rev-parse", "HEAD"], cwd=TOP, capture_output=True, text=True, check=True).stdout
-    return lambda path: hashlib.sha256(f"{commit}{path.relative_to(TOP)}".encode()).digest()[0] * 10 < 256
+    return lambda block: hashlib.sha256(f"{commit}{block.crate}/{block.name}".encode()).digest()[0] * 10 < 256
 
 
 def apart(edits):
@@ -437,7 +423,7 @@ def self_test():
 
 def harmless(log):
     """Tries the edits that change nothing but the text, and returns the rows of those that are refuted, or not tried."""
-    edits = {crate: [read(crate, path) for path in edits_in(crate, HARMLESS)] for crate in crates()}
+    edits = {crate: [read(block) for block in blocks(HARMLESS, crate)] for crate in crates()}
     rows = [row for crate, those in edits.items() if those for row in tried(crate, those, threading.Semaphore(1), log)]
     print(*[f"{edit}: {verdict}, and changes nothing" for edit, verdict, _ in rows], sep="\n")
     return [row for row in rows if row[1] in (REFUTED, NOT_TRIED)] if rows else [("no harmless edit", NOT_TRIED, "")]
@@ -456,7 +442,7 @@ def main():
         wrong = harmless(given.beside)
         print(*[f"tools/try_edits.py: {edit}: {verdict}: {why}" for edit, verdict, why in wrong], sep="\n", end="\n" * bool(wrong))
         return 1 if wrong else 0
-    edits, free = wanted(given.names, tenth() if given.tenth else None), threading.Semaphore(given.lanes)
+    edits, free = wanted(given.names, tenth() if given.tenth else lambda block: False), threading.Semaphore(given.lanes)
     count, failures = Counter(), 0
     with ThreadPoolExecutor(len(edits)) as pool:
         for rows in pool.map(lambda crate: tried(crate, edits[crate], free, given.beside), edits):

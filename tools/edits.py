@@ -1,0 +1,63 @@
+"""Reads tables of edits: the planted bugs, harmless edits, wrong definitions and scans of a crate.
+
+A table is a file of the crate with a block for each edit: its name in brackets, and lines of a key and a text. `file:` names a file
+of the crate, and each `old:` with its `new:` a text that is once in that file, and what takes its place. `only:` names the function
+or module whose contract rejects a planted bug, if that isn't the edited function, or if two functions have the same name; `in:` says
+who tries it. `says:` is what a wrong definition says, `pins:` and `law:` are what must reject it.
+"""
+
+from collections import defaultdict
+from dataclasses import dataclass, field
+from functools import lru_cache
+
+from sources import TOP, crates, text_of
+
+PLANTED_BUGS, HARMLESS, SCANS, WRONG_DEFINITIONS = "planted_bugs.txt", "harmless_edits.txt", "scans.txt", "wrong_definitions.txt"
+
+
+@dataclass
+class Block:
+    """An edit of a table: for each file the texts that it exchanges there, in order, and the texts of its other keys."""
+
+    crate: str
+    name: str
+    pairs: list = field(default_factory=list)
+    notes: dict = field(default_factory=lambda: defaultdict(list))
+
+    @property
+    def is_in_gate(self):
+        return self.notes["in"] == ["the gate"]
+
+    def faults(self):
+        """Each old text that isn't once in its file, after the texts before it are exchanged."""
+        texts = {}
+        for file, old, new in self.pairs:
+            path = TOP / "crates" / self.crate / file
+            texts.setdefault(file, text_of(path) if path.is_file() else "")
+            if texts[file].count(old) != 1:
+                yield f"{self.crate}/{self.name}: its old text is {texts[file].count(old)} times in {file}: {old}"
+            texts[file] = texts[file].replace(old, new)
+
+
+@lru_cache(maxsize=None)
+def blocks(table, crate):
+    """The blocks of a crate's table of that name."""
+    path, found = TOP / "crates" / crate / table, []
+    for line in text_of(path).splitlines() if path.is_file() else []:
+        key, _, text = line.partition(":")
+        text = text.removeprefix(" ")
+        if line.startswith("["):
+            found.append(Block(crate, line.strip("[]")))
+        elif key == "file":
+            file = text
+        elif key == "old":
+            old = text
+        elif key == "new":
+            found[-1].pairs.append((file, old, text))
+        elif line and not line.startswith("#"):
+            found[-1].notes[key].append(text)
+    return found
+
+
+def all_blocks(table):
+    return [block for crate in crates() for block in blocks(table, crate)]
