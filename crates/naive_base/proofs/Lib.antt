@@ -7,4 +7,5 @@ pub mod Values
 pub mod IsoWeeks
 pub mod Named
 pub mod MonthDates
+pub mod Lengths
 pub mod ForCallers

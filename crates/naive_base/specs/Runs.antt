@@ -1,7 +1,9 @@
 -- Runs of days and of weeks.
 use Rattle.std.specs.Prelude.{ℕ, ◌/◌, ℤ, ◌-ℤ◌, int_lt, if◌then◌else◌, unsigned_abs}
-use Rattle.naive_base.specs.Range.{last_day}
+use Rattle.naive_base.specs.Range.{first_day, last_day}
 use Rattle.naive_base.specs.NaiveDate.{day_of}
+use Rattle.naive_base.specs.declared.date.back.NaiveDateDaysBack.{NaiveDateDaysBack}
+use Rattle.naive_base.specs.declared.date.back.NaiveDateWeeksBack.{NaiveDateWeeksBack}
 use Rattle.naive_base.specs.declared.date.days.NaiveDateDaysIterator.{NaiveDateDaysIterator}
 use Rattle.naive_base.specs.declared.date.days.NaiveDateWeeksIterator.{NaiveDateWeeksIterator}
 
@@ -22,3 +24,19 @@ days_left run = days_before_last (days_from run)
 
 abbrev pub weeks_left : NaiveDateWeeksIterator → ℕ
 weeks_left run = days_before_last (weeks_from run) / 7
+
+-- the same of runs that go back in time: the day of the next date, how many days come after the first one in range, and how many dates are left
+abbrev pub days_back_from : NaiveDateDaysBack → ℤ
+days_back_from run = day_of run.value
+
+abbrev pub weeks_back_from : NaiveDateWeeksBack → ℤ
+weeks_back_from run = day_of run.value
+
+abbrev pub days_after_first : ℤ → ℕ
+days_after_first day = if int_lt day first_day then 0 else unsigned_abs (day -ℤ first_day)
+
+abbrev pub days_back_left : NaiveDateDaysBack → ℕ
+days_back_left run = days_after_first (days_back_from run)
+
+abbrev pub weeks_back_left : NaiveDateWeeksBack → ℕ
+weeks_back_left run = days_after_first (weeks_back_from run) / 7

@@ -7,6 +7,7 @@ ghost use Rattle.naive_base.specs.Range as range;
 ghost use Rattle.naive_base.specs.Clock.{IsClock, clock_second};
 ghost use Rattle.naive_base.specs.Reading.{reading_at, day_at, second_at};
 
+mod back;
 mod days;
 mod fields;
 mod found;
@@ -16,6 +17,7 @@ mod operators;
 use crate::day_second::day_and_second;
 use crate::range::{FIRST_DAY_IN_RANGE, FIRST_YEAR, LAST_DAY_IN_RANGE, LAST_YEAR};
 use crate::{NaiveDateTime, NaiveTime};
+pub use back::{NaiveDateDaysBack, NaiveDateWeeksBack};
 pub use days::{NaiveDateDaysIterator, NaiveDateWeeksIterator};
 use gregorian::YearMonthDay;
 

@@ -1,6 +1,9 @@
 //! Values that show a date.
 ghost use Rattle.std.specs.Prelude.{◌≡◌, ◌+◌, ◌<◌, ◌≤◌, ℤ, Option};
+ghost use Rattle.gregorian.specs.Month.{days_in_month};
+ghost use Rattle.gregorian.specs.Year.{is_leap};
 ghost use Rattle.gregorian.specs.DateOf.{year_of, day_of_year, month_of, day_of_month};
+ghost use Rattle.naive_base.specs.Range.{IsWideYear};
 ghost use Rattle.naive_base.specs.Weekday.{weekday_of, weekday_number};
 ghost use Rattle.naive_base.specs.IsoWeek.{IsWeekOf};
 ghost use Rattle.naive_base.specs.Fields.{IsDateGiven, IsOrdinalGiven};
@@ -39,7 +42,8 @@ pub trait Datelike: Sized {
 
     /// Returns the year; the year 0 is the one before the year 1.
     fn year(&self) -> i32
-        ensures { result ≡ year_of (day_shown self.now) };
+        ensures value { result ≡ year_of (day_shown self.now) }
+        ensures bound { IsWideYear result };
 
     /// Returns the month, from 1 to 12.
     fn month(&self) -> u32
@@ -54,7 +58,9 @@ pub trait Datelike: Sized {
     /// Returns the day of the month, from 1 to 31.
     fn day(&self) -> u32
         ensures value { result ≡ day_of_month (day_shown self.now) }
-        ensures bound { (1 ≤ result) × (result ≤ 31) };
+        ensures bound { (1 ≤ result) × (result ≤ 31) }
+        ensures in_month { let day = day_shown self.now in
+            result ≤ days_in_month (is_leap (year_of day)) (month_of day) };
 
     /// Returns the day of the month, from 0 to 30.
     fn day0(&self) -> u32

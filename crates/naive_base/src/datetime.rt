@@ -38,6 +38,9 @@ impl NaiveDateTime {
         frac: 0,
     };
 
+    /// 1970-01-01 00:00:00.
+    pub const UNIX_EPOCH: NaiveDateTime = NaiveDateTime { secs: 0, frac: 0 };
+
     /// The last local date-time in range that is no leap second, the last nanosecond of the year
     /// 262142.
     pub const MAX: NaiveDateTime = NaiveDateTime {

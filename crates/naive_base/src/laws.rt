@@ -1,6 +1,6 @@
 //! Theorems: the contract of each function is proved, and none is called. Each is empty, except one
 //! that names constants.
-ghost use Rattle.std.specs.Prelude.{◌≡◌, ◌↔◌, ◌<◌, ℕ, ℤ, pos, neg_ℤ};
+ghost use Rattle.std.specs.Prelude.{◌≡◌, ◌↔◌, ◌<◌, ℕ, ℤ, pos, neg_ℤ, ◌+ℤ◌, ◌-ℤ◌, ◌*ℤ◌};
 ghost use Rattle.gregorian.specs.Year.{floor_div};
 ghost use Rattle.gregorian.specs.Date.{day_number};
 ghost use Rattle.gregorian.specs.DateOf.{year_of};
@@ -30,14 +30,20 @@ pub fn range_law()
     ensures wide_seconds { (s : ℤ) → range.IsWide s ↔ range.IsWideDay (floor_div s 86_400) }
 {}
 
-/// The constants: the first local date-time in range, the last that is no leap second, and
-/// midnight.
-pub fn constants() -> (NaiveDateTime, NaiveDateTime, NaiveTime)
+/// The constants: the first local date-time in range, the last that is no leap second, midnight,
+/// and the epoch.
+pub fn constants() -> (NaiveDateTime, NaiveDateTime, NaiveTime, NaiveDateTime)
     ensures least { reading result.0 ≡ range.first_reading }
     ensures greatest { reading result.1 ≡ range.last_reading }
     ensures midnight { (second_of result.2 ≡ 0) × (fraction_of result.2 ≡ 0) }
+    ensures epoch { reading result.3 ≡ range.epoch }
 {
-    (NaiveDateTime::MIN, NaiveDateTime::MAX, NaiveTime::MIN)
+    (
+        NaiveDateTime::MIN,
+        NaiveDateTime::MAX,
+        NaiveTime::MIN,
+        NaiveDateTime::UNIX_EPOCH,
+    )
 }
 
 /// The first and the last date in range.
@@ -55,6 +61,19 @@ pub fn parts_law()
     ensures parted { (day : ℤ) (second f : ℕ) → second < 86_400
         → (readings.day_at (readings.reading_at day second f) ≡ day)
         × (readings.second_at (readings.reading_at day second f) ≡ second) }
+{}
+
+/// If no leap second is among them, the time from a first local date-time to a second and that from
+/// there to a third add up to the time from the first to the third. If one is, they miss it by the
+/// leap seconds that count between two of the three but not between the others.
+pub fn lengths_add()
+    ensures plain { (a b c : readings.Reading) → a.f < 1_000_000_000 → b.f < 1_000_000_000
+        → c.f < 1_000_000_000
+        → readings.difference b a +ℤ readings.difference c b ≡ readings.difference c a }
+    ensures leaps { (a b c : readings.Reading)
+        → readings.difference b a +ℤ readings.difference c b -ℤ readings.difference c a
+        ≡ pos 1_000_000_000 *ℤ (readings.leap_between b a +ℤ readings.leap_between c b
+        -ℤ readings.leap_between c a) }
 {}
 
 /// The order of local date-times is the order of their days and, on one day, of their times.

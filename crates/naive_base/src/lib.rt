@@ -1,6 +1,7 @@
 //! Dates, times of day and local date-times, without a time zone.
 #![tactic(auto)]
 
+mod convert;
 mod date;
 mod datelike;
 mod datetime;
@@ -17,7 +18,9 @@ mod timelike;
 mod week;
 mod weekday;
 
-pub use date::{NaiveDate, NaiveDateDaysIterator, NaiveDateWeeksIterator};
+pub use date::{
+    NaiveDate, NaiveDateDaysBack, NaiveDateDaysIterator, NaiveDateWeeksBack, NaiveDateWeeksIterator,
+};
 pub use datelike::Datelike;
 pub use datetime::NaiveDateTime;
 pub use iso_week::IsoWeek;

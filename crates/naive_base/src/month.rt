@@ -1,5 +1,5 @@
 //! The months of a year, by name.
-ghost use Rattle.std.specs.Prelude.{◌≡◌, ◌+◌, ◌%◌, ◌<◌, ◌≤◌, ◌⊎◌, Some, SomeIff, MatchResult};
+ghost use Rattle.std.specs.Prelude.{◌≡◌, ◌+◌, ◌%◌, ◌<◌, ◌≤◌, ◌⊎◌, Some, SomeIff, MatchResult, option_map, take};
 ghost use Rattle.gregorian.specs.Year.{is_leap};
 ghost use Rattle.gregorian.specs.Month.{days_in_month};
 ghost use Rattle.naive_base.specs.MonthNames.{number_of_month, month_name};
@@ -58,6 +58,21 @@ impl Month {
             11 => Month::November,
             _ => Month::December,
         }
+    }
+
+    /// Returns the month of a number from 1, for January, to 12, as a date's month is. `None` for any
+    /// other number.
+    ///
+    /// ```
+    /// let march = Month::from_u32(date.month())?.name(); // March
+    /// ```
+    pub fn from_u32(number: u32) -> Option<Month>
+        ensures { SomeIff (option_map number_of_month result) ((1 ≤ number) × (number ≤ 12)) number }
+    {
+        if number == 0 || number > 12 {
+            return None;
+        }
+        Some(Month::of_number(number))
     }
 
     /// Returns the next month, which is January after December.
@@ -119,6 +134,30 @@ impl Month {
         }
     }
 
+    /// Returns the first three letters of the name, such as `Jan`.
+    ///
+    /// ```
+    /// let name = Month::September.short_name(); // Sep
+    /// ```
+    pub fn short_name(&self) -> &'static str
+        ensures { result.now ≡ take 3 (month_name self.now) }
+    {
+        match self {
+            Month::January => "Jan",
+            Month::February => "Feb",
+            Month::March => "Mar",
+            Month::April => "Apr",
+            Month::May => "May",
+            Month::June => "Jun",
+            Month::July => "Jul",
+            Month::August => "Aug",
+            Month::September => "Sep",
+            Month::October => "Oct",
+            Month::November => "Nov",
+            Month::December => "Dec",
+        }
+    }
+
     /// Returns how many days the month has in that year. `None` if the year is not one from -262143
     /// to 262142.
     pub fn num_days(&self, year: i32) -> Option<u8>
@@ -148,9 +187,6 @@ impl TryFrom<u8> for Month {
 
     // A number from 1, for January, to 12.
     fn try_from(value: u8) -> Result<Month, OutOfRange> {
-        if value == 0 || value > 12 {
-            return Err(OutOfRange::new());
-        }
-        Ok(Month::of_number(value as u32))
+        Month::from_u32(value as u32).ok_or(OutOfRange::new())
     }
 }

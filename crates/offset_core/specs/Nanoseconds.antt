@@ -1,11 +1,17 @@
 -- Lengths of time, as whole numbers of nanoseconds.
 use Rattle.std.specs.Prelude.{ℕ, ◌<◌, ℤ, pos, neg_ℤ, ◌+ℤ◌, ◌*ℤ◌, ◌≤ℤ◌}
+use Rattle.std.specs.Int.{int_min, int_max}
 
 -- at most the milliseconds of a signed 64-bit number, either way
 abbrev pub FitsTimeDelta : ℤ → Type 0
 FitsTimeDelta nanos =
     (neg_ℤ (pos 9_223_372_036_854_775_807_000_000) ≤ℤ nanos)
     × (nanos ≤ℤ pos 9_223_372_036_854_775_807_000_000)
+
+-- the nearest number of nanoseconds that a length may have
+abbrev pub nearest_length : ℤ → ℤ
+nearest_length nanos =
+    int_max (neg_ℤ (pos 9_223_372_036_854_775_807_000_000)) (int_min nanos (pos 9_223_372_036_854_775_807_000_000))
 
 -- how many nanoseconds a microsecond lasts, a millisecond, and so on
 abbrev pub nanos_per_microsecond : ℤ

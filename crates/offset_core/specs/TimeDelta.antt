@@ -1,5 +1,7 @@
 -- What a `TimeDelta` shows.
 use Rattle.std.specs.Prelude.{◌≡◌, ℕ, ◌<◌, List, fold, ℤ, pos, ◌+ℤ◌, ◌*ℤ◌, Option, Some, None}
+use Rattle.std.specs.Prelude.{[], ◌∷◌, ⊤}
+use Rattle.std.specs.Borrow.{Bor}
 use Rattle.offset_core.specs.declared.time_delta.TimeDelta.{TimeDelta}
 use Rattle.offset_core.specs.Nanoseconds.{FitsTimeDelta, nanos_per_second}
 
@@ -23,3 +25,17 @@ IsDeltaOfParts secs nanos None =
 -- the nanoseconds of all these lengths
 abbrev pub sum_of : List TimeDelta → ℤ
 sum_of deltas = fold (λ sum delta. sum +ℤ nanos_of delta) (pos 0) deltas
+
+-- the same of lengths behind references
+abbrev pub sum_behind : List (Bor TimeDelta) → ℤ
+sum_behind deltas = fold (λ sum delta. sum +ℤ nanos_of delta.now) (pos 0) deltas
+
+-- each sum is in range, where the lengths are added to a total one by one
+abbrev pub SumsFit : ℤ → List TimeDelta → Type 0
+SumsFit total [] = ⊤
+SumsFit total (delta ∷ deltas) = FitsTimeDelta (total +ℤ nanos_of delta) × SumsFit (total +ℤ nanos_of delta) deltas
+
+-- the sum of these lengths, if and only if each sum on the way is in range
+abbrev pub IsCheckedSum : List TimeDelta → Option TimeDelta → Type 0
+IsCheckedSum deltas (Some sum) = SumsFit (pos 0) deltas × (nanos_of sum ≡ sum_of deltas)
+IsCheckedSum deltas None = SumsFit (pos 0) deltas → ⊥

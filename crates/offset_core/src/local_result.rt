@@ -1,5 +1,5 @@
 //! The answer of a lookup by local time.
-ghost use Rattle.std.specs.Prelude.{◌≡◌, IsSome};
+ghost use Rattle.std.specs.Prelude.{◌≡◌, ◌↔◌, IsSome, IsTrue};
 ghost use Rattle.offset_core.specs.LocalResult as results;
 
 /// The answer of a lookup by local time: no value, one, or two.
@@ -30,6 +30,16 @@ pub enum LocalResult<T> {
 pub type MappedLocalTime<T> = LocalResult<T>;
 
 impl<T> LocalResult<T> {
+    /// Returns whether there is no value.
+    pub fn is_none(&self) -> bool
+        ensures { IsTrue result ↔ (self.now ≡ LocalResult.None) }
+    {
+        match self {
+            LocalResult::None => true,
+            _ => false,
+        }
+    }
+
     /// Returns the value if there is exactly one, else `None`.
     pub fn single(self) -> Option<T>
     where

@@ -6,11 +6,12 @@ ghost use Rattle.gregorian.specs.DateOf.{year_of};
 ghost use Rattle.offset_core.specs.Nanoseconds.{nanos_per_day};
 ghost use Rattle.offset_core.specs.TimeDelta.{nanos_of};
 ghost use Rattle.naive_base.specs.Range.{last_day};
+ghost use Rattle.naive_base.specs.Months.{days_of};
 ghost use Rattle.naive_base.specs.NaiveDate.{day_of, IsDateOfDay};
 ghost use Rattle.naive_base.specs.Named.{whole_years, is_earlier_in_year};
 ghost use Rattle.naive_base.specs.Runs.{days_from, weeks_from, days_left, weeks_left};
 
-use crate::{Datelike, NaiveDate};
+use crate::{Datelike, Days, NaiveDate};
 use offset_core::TimeDelta;
 use std::iter::FusedIterator;
 
@@ -56,6 +57,18 @@ impl NaiveDate {
         ensures { nanos_of result ≡ (day_of self -ℤ day_of rhs) *ℤ nanos_per_day }
     {
         TimeDelta::days(self.number() - rhs.number())
+    }
+
+    /// Returns the number of days between the two dates, whichever is earlier.
+    ///
+    /// ```
+    /// let first = NaiveDate::from_ymd_opt(2024, 1, 1)?;
+    /// let days = first.abs_diff(NaiveDate::from_ymd_opt(2025, 1, 1)?); // 366 days
+    /// ```
+    pub fn abs_diff(self, rhs: NaiveDate) -> Days
+        ensures { days_of result ≡ unsigned_abs (day_of self -ℤ day_of rhs) }
+    {
+        Days::new((self.number() - rhs.number()).unsigned_abs())
     }
 
     /// Returns the whole years from another date to this one, or `None` if this one is earlier.
@@ -118,13 +131,13 @@ fn is_earlier_in_year(month: u32, day: u32, base_month: u32, base_day: u32) -> b
 /// A date and the days after it. From [`NaiveDate::iter_days`].
 #[derive(Clone, Copy, PartialEq, Eq, PartialOrd, Ord, Hash, Debug)]
 pub struct NaiveDateDaysIterator {
-    value: NaiveDate,
+    pub(super) value: NaiveDate,
 }
 
 /// A date and the dates that are some weeks after it. From [`NaiveDate::iter_weeks`].
 #[derive(Clone, Copy, PartialEq, Eq, PartialOrd, Ord, Hash, Debug)]
 pub struct NaiveDateWeeksIterator {
-    value: NaiveDate,
+    pub(super) value: NaiveDate,
 }
 
 impl Iterator for NaiveDateDaysIterator {

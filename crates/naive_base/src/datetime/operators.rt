@@ -1,15 +1,16 @@
 //! The operators of local date-times. Each requires a result in range; the checked forms return `None` for
 //! any other.
 ghost use Rattle.std.specs.Prelude.{◌≡◌, pos, neg_ℤ, ◌+ℤ◌, Some};
+ghost use Rattle.offset_core.specs.FixedOffset.{seconds_of};
 ghost use Rattle.offset_core.specs.TimeDelta.{nanos_of};
 ghost use Rattle.naive_base.specs.Fields.{MayShowDay, IsMonthsLater, month_after};
 ghost use Rattle.naive_base.specs.Months.{months_of, days_of, year_of_number};
 ghost use Rattle.naive_base.specs.NaiveDateTime.{reading, day_shown_by, IsReadingOnDay};
 ghost use Rattle.naive_base.specs.Range.{IsInRange, IsYearInRange};
-ghost use Rattle.naive_base.specs.Reading.{reading_at, day_at, second_at, moved, difference};
+ghost use Rattle.naive_base.specs.Reading.{reading_at, day_at, second_at, ahead, behind, moved, difference};
 
 use crate::{Days, Months, NaiveDateTime};
-use offset_core::TimeDelta;
+use offset_core::{FixedOffset, TimeDelta};
 use std::ops::{Add, AddAssign, Sub, SubAssign};
 
 /// [`NaiveDateTime::checked_add_signed`], which must return a value.
@@ -65,6 +66,37 @@ impl SubAssign<TimeDelta> for NaiveDateTime {
 
     fn sub_assign(&mut self, rhs: TimeDelta) {
         *self = *self - rhs;
+    }
+}
+
+/// [`NaiveDateTime::checked_add_offset`], which must return a value.
+///
+/// ```
+/// let local = utc + FixedOffset::east(3600); // an hour ahead of UTC
+/// ```
+impl Add<FixedOffset> for NaiveDateTime {
+    type Output = NaiveDateTime;
+
+    ghost can_add = { λ r offset. IsInRange (ahead (reading r) (seconds_of offset)).s };
+
+    ghost add_gives = { λ r offset later. reading later ≡ ahead (reading r) (seconds_of offset) };
+
+    fn add(self, rhs: FixedOffset) -> NaiveDateTime {
+        self.checked_add_offset(rhs).unwrap()
+    }
+}
+
+/// [`NaiveDateTime::checked_sub_offset`], which must return a value.
+impl Sub<FixedOffset> for NaiveDateTime {
+    type Output = NaiveDateTime;
+
+    ghost can_sub = { λ r offset. IsInRange (behind (reading r) (seconds_of offset)).s };
+
+    ghost sub_gives = { λ r offset earlier. reading earlier
+        ≡ behind (reading r) (seconds_of offset) };
+
+    fn sub(self, rhs: FixedOffset) -> NaiveDateTime {
+        self.checked_sub_offset(rhs).unwrap()
     }
 }
 

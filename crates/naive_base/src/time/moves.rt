@@ -1,15 +1,16 @@
 //! Times moved by a length of time, past midnight too, and the time between two.
 ghost use Rattle.std.specs.Prelude.{◌≡◌, ◌<◌, pos, neg_ℤ, ◌*ℤ◌};
+ghost use Rattle.offset_core.specs.FixedOffset.{seconds_of};
 ghost use Rattle.offset_core.specs.TimeDelta.{nanos_of};
 ghost use Rattle.naive_base.specs.Fields.{time_at};
 ghost use Rattle.naive_base.specs.NaiveTime.{second_of, fraction_of, time_of};
 ghost use Rattle.naive_base.specs.NaiveDateTime.{reading};
-ghost use Rattle.naive_base.specs.Reading.{reading_at, day_at, moved, difference};
+ghost use Rattle.naive_base.specs.Reading.{reading_at, day_at, ahead, behind, moved, difference};
 ghost use Rattle.naive_base.specs.Stamp.{of_secs};
 ghost use Rattle.naive_base.specs.Steps.Moves.{IsWithin};
 
 use crate::{NaiveDate, NaiveDateTime, NaiveTime};
-use offset_core::TimeDelta;
+use offset_core::{FixedOffset, TimeDelta};
 use std::ops::{Add, AddAssign, Sub, SubAssign};
 
 impl NaiveTime {
@@ -129,6 +130,35 @@ impl SubAssign<TimeDelta> for NaiveTime {
 
     fn sub_assign(&mut self, rhs: TimeDelta) {
         *self = *self - rhs;
+    }
+}
+
+/// The time that a clock with that offset shows when one without shows this: past midnight it goes
+/// on, and a leap second stays one.
+///
+/// ```
+/// let late = NaiveTime::from_hms_opt(23, 30, 0)? + FixedOffset::east(3600); // 00:30:00
+/// ```
+impl Add<FixedOffset> for NaiveTime {
+    type Output = NaiveTime;
+
+    ghost add_gives = { λ time offset later. time_of later ≡ time_at
+        (ahead (reading_at (pos 0) (second_of time) (fraction_of time)) (seconds_of offset)) };
+
+    fn add(self, rhs: FixedOffset) -> NaiveTime {
+        self.on_epoch().overflowing_add_offset(rhs).time()
+    }
+}
+
+/// The time that a clock without an offset shows when one with it shows this.
+impl Sub<FixedOffset> for NaiveTime {
+    type Output = NaiveTime;
+
+    ghost sub_gives = { λ time offset earlier. time_of earlier ≡ time_at
+        (behind (reading_at (pos 0) (second_of time) (fraction_of time)) (seconds_of offset)) };
+
+    fn sub(self, rhs: FixedOffset) -> NaiveTime {
+        self.on_epoch().checked_sub_offset(rhs).unwrap().time()
     }
 }
 

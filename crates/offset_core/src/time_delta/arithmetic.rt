@@ -1,6 +1,7 @@
 //! Lengths of time added, multiplied and divided.
 ghost use Rattle.std.specs.Prelude.{◌≡◌, ◌≢◌, ◌↔◌, ◌+ℤ◌, ◌-ℤ◌, ◌*ℤ◌};
-ghost use Rattle.std.specs.Prelude.{IsTrue, pos, int_div, unsigned_abs, SomeIff, option_map};
+ghost use Rattle.std.specs.Prelude.{IsTrue, pos, neg_ℤ, ◌<ℤ◌, ◌≤ℤ◌, int_div, unsigned_abs, SomeIff, option_map};
+ghost use Rattle.offset_core.specs.Nanoseconds.{nearest_length};
 ghost use Rattle.offset_core.specs.TimeDelta.{nanos_of, IsDeltaOf};
 
 use crate::TimeDelta;
@@ -35,6 +36,51 @@ impl TimeDelta {
     {
         let nanos = self.nanos + (1_000_000_000 - other.nanos);
         TimeDelta::carried(self.secs - other.secs - 1, nanos)
+    }
+
+    /// Returns the sum of two lengths, or the nearest length if that is out of range: the longest or
+    /// the least.
+    ///
+    /// ```
+    /// let day = TimeDelta::hours(9).saturating_add(TimeDelta::hours(15)); // 24 hours
+    /// let longest = TimeDelta::MAX.saturating_add(day); // TimeDelta::MAX
+    /// ```
+    pub fn saturating_add(self, other: TimeDelta) -> TimeDelta
+        ensures { nanos_of result ≡ nearest_length (nanos_of self +ℤ nanos_of other) }
+    {
+        match self.checked_add(&other) {
+            Some(sum) => sum,
+            None => self.end(),
+        }
+    }
+
+    /// Returns the difference of two lengths, or the nearest length if that is out of range: the
+    /// longest or the least.
+    ///
+    /// ```
+    /// let rest = TimeDelta::hours(24).saturating_sub(TimeDelta::hours(9)); // 15 hours
+    /// ```
+    pub fn saturating_sub(self, other: TimeDelta) -> TimeDelta
+        ensures { nanos_of result ≡ nearest_length (nanos_of self -ℤ nanos_of other) }
+    {
+        match self.checked_sub(&other) {
+            Some(difference) => difference,
+            None => self.end(),
+        }
+    }
+
+    // The least length for a negative one, the longest for any other.
+    fn end(self) -> TimeDelta
+        ensures less { nanos_of self <ℤ pos 0
+            → nanos_of result ≡ neg_ℤ (pos 9_223_372_036_854_775_807_000_000) }
+        ensures more { pos 0 ≤ℤ nanos_of self
+            → nanos_of result ≡ pos 9_223_372_036_854_775_807_000_000 }
+    {
+        if self.secs < 0 {
+            TimeDelta::MIN
+        } else {
+            TimeDelta::MAX
+        }
     }
 
     /// Returns this length times a number, or `None` if that is out of range.
