@@ -1,4 +1,4 @@
-//! Spans between clock changes.
+//! Spans: the longest stretches of seconds with one local time type.
 
 use crate::local_time_type::LocalTimeType;
 
@@ -7,10 +7,10 @@ use crate::local_time_type::LocalTimeType;
 pub struct Span {
     /// The type in force.
     pub local_time_type: LocalTimeType,
-    /// The first second of the span as a Unix time, at which clocks change to its type; `None` if
-    /// no change comes before.
+    /// The first second of the span as a Unix time: clocks change to its type then, or the zone has no
+    /// type at the second before. `None` if the type is in force at all earlier seconds of 64 bits.
     pub from: Option<i64>,
-    /// The first second after the span as a Unix time, at which clocks change from its type; `None`
-    /// if no change follows.
+    /// The first second after the span as a Unix time: clocks change from its type then, or the zone
+    /// has no type. `None` if the type is in force at all later seconds of 64 bits.
     pub until: Option<i64>,
 }

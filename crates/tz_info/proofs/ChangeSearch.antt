@@ -27,7 +27,7 @@ nearest_moved w f g p q None to from h = λ d is k. let m = to d is k in h d m.0
 nearest_moved w f g p q (Some c) to from h = grind arith
 
 -- of the nearest change of some seconds and that of others the one that comes first is the nearest one of all
-nearest_either : (w : Bool) (f : InForce) (p q : ℤ → Type 0) (found other : Option Change) → IsNearest w f p found → IsNearest w f q other → IsNearest w f (λ u. p u ⊎ q u) (nearer_one w found other)
+pub nearest_either : (w : Bool) (f : InForce) (p q : ℤ → Type 0) (found other : Option Change) → IsNearest w f p found → IsNearest w f q other → IsNearest w f (λ u. p u ⊎ q u) (nearer_one w found other)
 nearest_either w f p q None None h k = λ d is. ⊎_elim (h d is) (k d is)
 nearest_either w f p q None (Some d) h k = record { is = k.is; inside = inr k.inside; nearest = λ e is. ⊎_elim (λ i. absurd (h e is i)) (k.nearest e is) }
 nearest_either w f p q (Some c) None h k = record { is = h.is; inside = inl h.inside; nearest = λ e is. ⊎_elim (h.nearest e is) (λ i. absurd (k e is i)) }
@@ -42,7 +42,7 @@ precedes_itself false x y e = omega (arith, ints)
 abbrev pub IsAsked : InForce → ℤ → ℤ → ℤ → Option Change → Type 0
 IsAsked f after last second other = MatchOption other (IsIdle f after last second) (λ c. IsChange f c × (c.at ≡ second) × IsInStretch after last second)
 
-asked : (w : Bool) (f : InForce) (after last second : ℤ) (other : Option Change) → IsAsked f after last second other → IsNearest w f (λ u. (second ≡ u) × IsInStretch after last u) other
+pub asked : (w : Bool) (f : InForce) (after last second : ℤ) (other : Option Change) → IsAsked f after last second other → IsNearest w f (λ u. (second ≡ u) × IsInStretch after last u) other
 asked w f after last second None h = λ d is k. h d is (sym k.0) k.1
 asked w f after last second (Some c) h = record { is = h.0; inside = (sym h.1, rw h.1 h.2); nearest = λ d is k. precedes_itself w c.at d.at (h.1 ∙ k.0) }
 
@@ -56,7 +56,7 @@ nearest_more w f seconds n after last found other told h =
     (nearest_either w f (IsOneOf seconds n after last) _ found other h (asked w f after last (get_or seconds n (pos 0)) other told))
 
 -- the stretch ahead of a second
-in_ahead : (w : Bool) (begin s after last u : ℤ) → SFits w64 u → IsStretchAhead w begin s after last → IsInStretch after last u ↔ ((begin <ℤ u) × IsAhead w s u)
+pub in_ahead : (w : Bool) (begin s after last u : ℤ) → SFits w64 u → IsStretchAhead w begin s after last → IsInStretch after last u ↔ ((begin <ℤ u) × IsAhead w s u)
 in_ahead true begin s after last u fits e =
     let l = e.0 (u -ℤ pos 1) in grind (arith, ints)
 in_ahead false begin s after last u fits e = let l = e.0 in grind arith
@@ -67,10 +67,6 @@ pub nearest_ahead : (w : Bool) (f : InForce) (begin s after last : ℤ) (found :
 nearest_ahead w f begin s after last found e = nearest_moved w f f (IsInStretch after last) (λ u. (begin <ℤ u) × IsAhead w s u) found
     (λ d is k. (is, (in_ahead w begin s after last d.at is.fits e).1 k))
     (λ d is k. (is, (in_ahead w begin s after last d.at is.fits e).0 k))
-
-pub nearest_of_all : (w : Bool) (f : InForce) (s : ℤ) (found : Option Change)
-    → IsNearest w f (λ u. (neg_ℤ (pos 9_223_372_036_854_775_808) <ℤ u) × IsAhead w s u) found → IsNearest w f (IsAhead w s) found
-nearest_of_all w f s found = grind (arith, ints)
 
 -- the seconds of a stretch are ahead of where it begins, and so are those before a second of it
 ahead_within : (w : Bool) (after last u : ℤ) → IsInStretch after last u → IsAhead w (near_end w after last) u

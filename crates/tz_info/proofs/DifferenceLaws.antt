@@ -1,7 +1,7 @@
 -- The differences of two zones, from one pair of types to the next.
 use Rattle.tz_info.proofs.Words.{AreDifferences, AreListedTo, Contains, Contains-append_left, Contains-get_or, Contains-push, Contains-push_cases, Difference}
 use Rattle.tz_info.proofs.Words.{IsDifference, IsInDifference, IsListedIf, IsPairUntil, IsRunUntil, List, LocalType, TypeAt, Zone, all_pairs_push, arith}
-use Rattle.tz_info.proofs.Words.{by_lt_z, get_or, inl, inr, ints, pos, subst, sym, ℤ, [], ◌-ℤ◌, ◌<ℤ◌, ◌∙◌, ◌∷◌, ◌≡◌, ◌≢◌, ◌≤ℤ◌}
+use Rattle.tz_info.proofs.Words.{by_lt_z, get_or, inl, inr, ints, pos, refl, subst, sym, ℤ, [], ◌-ℤ◌, ◌<ℤ◌, ◌∙◌, ◌∷◌, ◌≡◌, ◌≢◌, ◌≤ℤ◌}
 use Rattle.tz_info.proofs.{ChangeSearch.{InForce}, ZoneLaws.{type_once}}
 
 -- ---- two that share a second are the same
@@ -11,7 +11,8 @@ made u v s t = record { from = u; until = v; old = s; new = t }
 the_same : (u v a b : ℤ) (s t m n : LocalType) → u ≡ a → v ≡ b → s ≡ m → t ≡ n → made u v s t ≡ made a b m n
 the_same u v a b s t m n e g h k = cc
 
-not_earlier : (z w : Zone) (from until u : ℤ) (d e : Difference) → IsDifference (TypeAt z) (TypeAt w) from until d → IsDifference (TypeAt z) (TypeAt w) from until e
+not_earlier : (z w : Zone) (from until u : ℤ) (d e : Difference) → IsDifference (TypeAt z) (TypeAt w) from until d
+    → IsDifference (TypeAt z) (TypeAt w) from until e
     → d.old ≡ e.old → d.new ≡ e.new → IsInDifference u d → IsInDifference u e → d.from ≤ℤ e.from
 not_earlier z w from until u d e h k old new i j = by_lt_z e.from d.from
     (λ less.
@@ -20,7 +21,8 @@ not_earlier z w from until u d e h k old new i j = by_lt_z e.from d.from
     absurd (h.begins (omega (arith, ints)) (subst (TypeAt z (d.from -ℤ pos 1)) (sym old) types.0) (subst (TypeAt w (d.from -ℤ pos 1)) (sym new) types.1)))
     (λ m. m)
 
-not_later : (z w : Zone) (from until u : ℤ) (d e : Difference) → IsDifference (TypeAt z) (TypeAt w) from until d → IsDifference (TypeAt z) (TypeAt w) from until e
+not_later : (z w : Zone) (from until u : ℤ) (d e : Difference) → IsDifference (TypeAt z) (TypeAt w) from until d
+    → IsDifference (TypeAt z) (TypeAt w) from until e
     → d.old ≡ e.old → d.new ≡ e.new → IsInDifference u d → IsInDifference u e → e.until ≤ℤ d.until
 not_later z w from until u d e h k old new i j = by_lt_z d.until e.until
     (λ less.
@@ -32,7 +34,8 @@ not_later z w from until u d e h k old new i j = by_lt_z d.until e.until
 equal : (u v : ℤ) → u ≤ℤ v → v ≤ℤ u → u ≡ v
 equal u v h k = omega (arith, ints)
 
-pub one_difference : (z w : Zone) (from until u : ℤ) (d e : Difference) → IsDifference (TypeAt z) (TypeAt w) from until d → IsDifference (TypeAt z) (TypeAt w) from until e
+pub one_difference : (z w : Zone) (from until u : ℤ) (d e : Difference) → IsDifference (TypeAt z) (TypeAt w) from until d
+    → IsDifference (TypeAt z) (TypeAt w) from until e
     → IsInDifference u d → IsInDifference u e → d ≡ e
 one_difference z w from until u d e h k i j =
     let types = h.each u i.0 i.1 in
@@ -57,7 +60,8 @@ turned_at z w from until at end s t pair h k less m n a b c d =
     pair.turns less s t h k (subst (TypeAt z end) same a) (subst (TypeAt w end) same_other b)
 
 -- what is made of a pair that differs
-is_difference : (z w : Zone) (from until at end : ℤ) (s t : LocalType) (ds : List Difference) → AreListedTo (TypeAt z) (TypeAt w) from until at ds → IsPairUntil (TypeAt z) (TypeAt w) at until end
+is_difference : (z w : Zone) (from until at end : ℤ) (s t : LocalType) (ds : List Difference) → AreListedTo (TypeAt z) (TypeAt w) from until at ds
+    → IsPairUntil (TypeAt z) (TypeAt w) at until end
     → TypeAt z at s → TypeAt w at t → s ≢ t → IsDifference (TypeAt z) (TypeAt w) from until (made at end s t)
 is_difference z w from until at end s t ds h pair k l differ =
     let later = pair.later in let most = pair.most in
@@ -71,7 +75,8 @@ is_difference z w from until at end s t ds h pair k l differ =
       ends = λ less m n. pair.turns less s t k l m n;
     }
 
-pub listed_more : (z w : Zone) (from until at end : ℤ) (s t : LocalType) (ds es : List Difference) → AreListedTo (TypeAt z) (TypeAt w) from until at ds → IsPairUntil (TypeAt z) (TypeAt w) at until end
+pub listed_more : (z w : Zone) (from until at end : ℤ) (s t : LocalType) (ds es : List Difference) → AreListedTo (TypeAt z) (TypeAt w) from until at ds
+    → IsPairUntil (TypeAt z) (TypeAt w) at until end
     → TypeAt z at s → TypeAt w at t → IsListedIf ds (made at end s t) es → AreListedTo (TypeAt z) (TypeAt w) from until end es
 listed_more z w from until at end s t ds es h pair k l (inl (same, is)) =
     let later = pair.later in let reached = h.reached in
@@ -103,8 +108,14 @@ listed_more z w from until at end s t ds es h pair k l (inr (differ, is)) =
       turned = λ _ less m n a b c d. turned_at z w from until at end s t pair k l less m n a b c d;
     })
 
+-- a pair that begins at the second `at`
+pub listed_pair : (ds es : List Difference) (d : Difference) (at : ℤ) → d.from ≡ at → IsListedIf ds d es → IsListedIf ds (made at d.until d.old d.new) es
+listed_pair ds es d at from h =
+    subst (λ (x : Difference). IsListedIf ds x es) (the_same d.from d.until at d.until d.old d.new d.old d.new from refl refl refl) h
+
 -- at the end of the window all are listed
-pub all_listed : (z w : Zone) (from until at : ℤ) (ds : List Difference) → AreListedTo (TypeAt z) (TypeAt w) from until at ds → until ≤ℤ at → AreDifferences (TypeAt z) (TypeAt w) from until ds
+pub all_listed : (z w : Zone) (from until at : ℤ) (ds : List Difference) → AreListedTo (TypeAt z) (TypeAt w) from until at ds → until ≤ℤ at
+    → AreDifferences (TypeAt z) (TypeAt w) from until ds
 all_listed z w from until at ds h over = record {
   rising = h.rising;
   each = λ d. (

@@ -8,7 +8,8 @@ use Rattle.tz_base.specs.{declared.error.Error.TheVariants.{FindLocalTimeType}, 
 use Rattle.tz_info.proofs.Words.{Err, Error, IsBeforeLast, IsRefusedBy, MatchResult, Ok, Result, RuleOrElse, RuleOrType, TransitionRule, TypeAtLeapTime, false, index_at, true}
 use Rattle.tz_info.proofs.Words.{AreLeapSeconds, Counts, IsLastOf, IsNear, RoseWithin, LeapSecond, digits, digits-more, length-take, nat_tests, ◌==◌, ◌∷◌}
 use Rattle.tz_info.proofs.Prefixes.{last_taken}
-use Rattle.tz_info.proofs.{LeapOrder.{leap_times_answer}, TableSearch.{search_found}, ZoneChanges.{refused_on, time_of}, ZoneLaws.{before_or_from_last, inside_listed, last_index_below, leap_time_decided}}
+use Rattle.tz_info.proofs.{LeapOrder.{leap_times_answer}, TableSearch.{search_found}, ZoneChanges.{out_before, out_from, refused_on, time_of}}
+use Rattle.tz_info.proofs.{ZoneLaws.{before_or_from_last, inside_listed, last_index_below, leap_time_decided}}
 use Rattle.tz_info.specs.Steps.Entries.{AreEntries, Entries, HaveComeAt, IsBetween, IsCome, IsEntryChange, last_index, most_looks}
 use Rattle.tz_info.specs.declared.zone.change_table.{Between.{Between}, Come.{Come}}
 
@@ -403,18 +404,11 @@ span_between z e u b t valid made h is fits low high has =
       in_force_then = type_between z e u u b t valid made h fits since before has;
       inside = record { fits = fits; since = since; until = before };
       span = record {
-        each = λ v f i at.
-            let mine = amid_type z e v k f valid made i.fits (omega arith) (count_amid e u v b made.rising h i.since i.until) (omega arith) at in
-            some_same (sym mine ∙ own);
-        begins = (
-          r,
-          entry_change z e (k - 1) (record { at = b.from; before = r; after = t }) valid made (omega arith) (omega arith)
-              (begin, low, (λ q. omega (arith, ints)), has_r, ap (λ i. slice_get z.types (index_of e.items i)) same ∙ own),
-        );
-        ends = (
-          s,
-          entry_change z e k (record { at = b.until; before = t; after = s }) valid made inside more
-              (h.until, high, (λ q. omega (arith, ints)), own, has_s),
-        );
+        some = (u, record { fits = fits; since = since; until = before });
+        each = λ v i. type_between z e u v b t valid made h i.fits i.since i.until has;
+        begins = out_before z (record { at = b.from; before = r; after = t }) (entry_change z e (k - 1) _ valid made (omega arith) (omega arith)
+            (begin, low, (λ q. omega (arith, ints)), has_r, ap (λ i. slice_get z.types (index_of e.items i)) same ∙ own));
+        ends = out_from z (record { at = b.until; before = t; after = s }) (entry_change z e k _ valid made inside more
+            (h.until, high, (λ q. omega (arith, ints)), own, has_s));
       };
     }

@@ -9,7 +9,7 @@ pub use Rattle.tz_info.proofs.LeapOrder.{leap_times_answer}
 pub use Rattle.tz_base.proofs.ForCallers.{run_splits, run_again}
 pub use Rattle.tz_info.proofs.PosixLaws.{fault_or_zone as text_fault_or_zone, one_posix_fault as text_fault_once}
 pub use Rattle.tz_info.proofs.PosixZoneLaws.{posix_zone_valid}
-pub use Rattle.tz_timeline.proofs.ForCallers.{le_is, le_true}
+pub use Rattle.tz_info.proofs.FirstItems.{le_is, le_true}
 pub use Rattle.tz_info.proofs.RuleLaws.{rule_year}
 pub use Rattle.tz_info.proofs.WallTimes.{wall_decided}
 pub use Rattle.tz_info.proofs.ZoneLaws.{type_error_number, type_once, type_not_refused, type_decided, type_listed}

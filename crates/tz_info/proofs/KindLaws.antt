@@ -5,6 +5,7 @@ use Rattle.tz_info.proofs.Words.{day_number, day_time_second, days_of_months, en
 use Rattle.tz_info.proofs.Words.{is_calm, is_calm_kind, is_leap, kind_place, margin_of, moment, nat_le, nat_tests, neg_ℤ, place_by, places_by_kind}
 use Rattle.tz_info.proofs.Words.{pos, refl, rule_day, second_in, seconds_by_kind, start_in, sym, true, weekday_below, weekday_later, weekday_of}
 use Rattle.tz_info.proofs.Words.{year_start, ℕ, ℤ, ◌%◌, ◌*ℤ◌, ◌+ℤ◌, ◌+◌, ◌-ℤ◌, ◌-◌, ◌<◌, ◌∙◌, ◌≡◌, ◌≤ℤ◌, ◌⊎◌}
+use Rattle.tz_info.specs.Steps.ChangingYears.{AreWithinYears}
 use Rattle.tz_info.specs.declared.rule.day.DayForm.TheVariants.{Julian0, Julian1, MonthWeekday}
 use Rattle.tz_info.proofs.{ListLaws.{one_true}, Neighbours.{IsNear, KeepsMargin, ends_near, near_margin, starts_near}, RuleDays.{rule_day_closed}}
 
@@ -55,6 +56,12 @@ moment_by_kind t offset year first d seconds kind fits near e f g =
     let here : get_or seconds kind d ≡ second_in t offset year = rw (e, f) (kind_found t offset year d fits) in
     let low = near.low year in let high = near.high year in
     (omega (arith, floors), omega (arith, floors), omega (arith, floors))
+
+pub within_years : (t : DayTime) (offset : ℤ) (seconds : List ℤ) → IsRuleDay t.day → IsNear (moment t offset) → seconds ≡ seconds_by_kind t offset
+    → AreWithinYears seconds
+within_years t offset seconds fits near e year =
+    let kept = moment_by_kind t offset year (year_start year) (pos 0) seconds (kind_place year) fits near e refl refl in
+    (omega (arith, floors, kept.1), omega (arith, floors, kept.2))
 
 -- ---- margins
 -- how far the moments of a rule lie from the ends of their years; further outside than eight days they never lie

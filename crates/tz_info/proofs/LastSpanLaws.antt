@@ -1,8 +1,11 @@
 -- The last span, and the local times that only one of its seconds shows.
-use Rattle.tz_info.proofs.Words.{AreExtremes, Change, Extremes, HasNoChange, IsEndOrTyped, IsLast, IsLastSpan, IsRuleOrNone, IsShownOnce, IsSpanAt, IsValid, IsWide, LastSpan, LocalType}
-use Rattle.tz_info.proofs.Words.{None, Option, SFits, Shows, Span, TypeAt, Zone, arith, by_lt_z, false, ints, offsets, pos, saturate_signed, w32, w64, ℤ, ◌+ℤ◌, ◌-ℤ◌, ◌<ℤ◌, ◌≡◌}
+use Rattle.tz_info.proofs.Words.{AreExtremes, Change, Extremes, HasNoChange, IsLast, IsLastSpan, IsLastTyped, IsShownOnce, IsInSpan, IsSince, IsSpanAt}
+use Rattle.tz_info.proofs.Words.{IsValid, IsWide, LastSpan, LocalType}
+use Rattle.tz_info.proofs.Words.{Option, SFits, Shows, Span, TypeAt, Zone, arith, by_lt_z, false, ints, offsets, pos, saturate_signed, w32, w64, ℤ, ◌+ℤ◌}
+use Rattle.tz_info.proofs.Words.{◌-ℤ◌, ◌<ℤ◌, ◌≡◌}
 use Rattle.tz_info.proofs.Words.{◌≤ℤ◌}
-use Rattle.tz_info.proofs.{ChangeSearch.{nearest_moved}, ExtremeLaws.{at_least_least, at_most_greatest}, LeapStarts.{saturated}, SpanLaws.{in_last_span, none_after}, ZoneLaws.{type_once}}
+use Rattle.tz_info.proofs.{ChangeSearch.{nearest_moved}, ExtremeLaws.{at_least_least, at_most_greatest}, LeapStarts.{saturated}}
+use Rattle.tz_info.proofs.{SpanLaws.{no_change_within, until_less}, ZoneLaws.{type_once}}
 
 -- each second later than that one, up to `last`, lies in the span
 abbrev HasAllAfter : Zone → Span → ℤ → ℤ → Type 0
@@ -38,7 +41,8 @@ shown_once_after z s after last local e h each =
       shown = record { fits = b.0; type = (each u b.0 b.1 b.2).in_force_then; shown = omega (arith, ints) };
       only = λ v t k.
           let c = shows_after z after last local v v e t h k.type k.shown in
-          let same = type_once z v t s.local_time_type k.type (each v c.0 c.1 c.2).in_force_then in grind (arith, ints);
+          let same = type_once z v t s.local_time_type k.type (each v c.0 c.1 c.2).in_force_then in
+          let shown : v +ℤ s.local_time_type.offset ≡ local = rw same at k.shown in omega (arith, ints);
     }
 
 -- if no change comes after two seconds, the last one up to the one is the last one up to the other
@@ -49,20 +53,36 @@ last_up_to z u v found none_u none_v =
     (λ d is up. (is, by_lt_z v d.at (λ l. absurd (none_v d is l)) (λ m. m)))
     (λ d is up. (is, by_lt_z u d.at (λ l. absurd (none_u d is l)) (λ m. m)))
 
--- a span far from now that has no end is the last one
-pub last_spans : (z : Zone) (last : LastSpan) (first : ℤ) (e : Extremes) → IsValid z → IsRuleOrNone z.rule
-    → AreExtremes (offsets z.types z.rule) e → SFits w32 e.least → SFits w32 e.greatest → SFits w64 last.after → SFits w64 last.last → pos 10_000_000_000_000 ≤ℤ last.last
-    → IsSpanAt (TypeAt z) last.last last.span → last.span.until ≡ None → IsEndOrTyped z last.span.from first
-    → ((u : ℤ) → SFits w64 u → last.after <ℤ u → first ≤ℤ u) → last.local_after ≡ saturate_signed w64 (last.after +ℤ e.greatest)
+-- the span of the last second that has a type is the last one
+pub last_spans : (z : Zone) (last : LastSpan) (e : Extremes) → IsValid z → AreExtremes (offsets z.types z.rule) e → SFits w32 e.least → SFits w32 e.greatest
+    → SFits w64 last.after → SFits w64 last.last → IsLastTyped z last.last → IsSpanAt (TypeAt z) last.last last.span
+    → ((u : ℤ) → SFits w64 u → last.after <ℤ u → IsSince last.span.from u) → last.local_after ≡ saturate_signed w64 (last.after +ℤ e.greatest)
     → IsLast (TypeAt z) (λ v. v ≤ℤ last.last) last.begin → IsLastSpan z last
-last_spans z last first e valid limits extremes low high fits last_fits far h endless from after local_after begin =
-    let each : HasAllAfter z last.span last.after last.last = λ u is l most. in_last_span z last.span first last.last u valid limits h from last_fits is (after u is l) most in
+last_spans z last e valid extremes low high fits last_fits typed h after local_after begin =
+    let none_last : HasNoChange (TypeAt z) (λ v. last.last <ℤ v) = λ d change later. typed.none d.at change.fits later (d.after, change.after) in
+    let each : HasAllAfter z last.span last.after last.last = λ u is l most.
+    let inside : IsInSpan last.span u = record { fits = is; since = after u is l; until = until_less last.span.until u last.last h.inside.until most } in
+    record { in_force_then = h.span.each u inside; inside = inside; span = h.span } in
+    let none : (u : ℤ) → SFits w64 u → last.after <ℤ u → HasNoChange (TypeAt z) (λ v. u <ℤ v) = λ u fits_u l d change later.
+    by_lt_z last.last d.at (λ beyond. none_last d change beyond) (λ within.
+    let this = each (d.at -ℤ pos 1) change.fits_before (omega (arith, ints)) (omega (arith, ints)) in
+    let that = each d.at change.fits (omega (arith, ints)) within in
+    no_change_within z last.span d h.span this.inside that.inside change) in
     record {
       each = each;
-      endless = endless;
-      begins = λ u is l most. last_up_to z u last.last last.begin (none_after (TypeAt z) last.span u (each u is l most) endless) (none_after (TypeAt z) last.span last.last h endless) begin;
+      none = none;
+      begins = λ u is l. last_up_to z u last.last last.begin (none u is l) none_last begin;
       shown = λ local wide later.
           let near = (saturated (last.after +ℤ e.greatest) (local -ℤ pos 1) (omega (arith, ints))).0 (omega (arith, ints)) in
           shown_once_after z last.span last.after last.last local e
-          (record { far = far; last_fits = last_fits; wide = wide; later = omega (arith, ints); extremes = extremes; least = low; greatest = high; after_fits = fits }) each;
+          (record {
+            far = typed.far;
+            last_fits = last_fits;
+            wide = wide;
+            later = omega (arith, ints);
+            extremes = extremes;
+            least = low;
+            greatest = high;
+            after_fits = fits;
+          }) each;
     }

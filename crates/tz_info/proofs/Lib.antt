@@ -1,3 +1,8 @@
+pub mod SearchWords
+pub mod FirstItems
+pub mod DigitLaws
+pub mod SearchSteps
+pub mod HintLaws
 pub mod Words
 pub mod Ranges
 pub mod RuleDays
@@ -6,12 +11,14 @@ pub mod RuleLaws
 pub mod RuleTurns
 pub mod NextMoments
 pub mod KindLaws
+pub mod YearKeys
 pub mod SeasonLaws
 pub mod RuleChanges
 pub mod RuleGaps
 pub mod ChangeSearch
-pub mod SeasonChanges
-pub mod BesideLaws
+pub mod ChangingYears
+pub mod CalmYears
+pub mod AskedYears
 pub mod Prefixes
 pub mod LeapEntries
 pub mod LeapOrder
@@ -44,6 +51,7 @@ pub mod GapLaws
 pub mod AroundLaws
 pub mod ZoneChanges
 pub mod SpanLaws
+pub mod TypedLaws
 pub mod LastSpanLaws
 pub mod SpanSearch
 pub mod RunLaws

@@ -11,18 +11,18 @@ pub record IsNear (moments : ℤ → ℤ) : Type 0 where
   pub low : (year : ℤ) → (pos 86_400 *ℤ year_start year -ℤ pos 691_198) ≤ℤ moments year
   pub high : (year : ℤ) → moments year ≤ℤ (pos 86_400 *ℤ (year_start year +ℤ pos 365) +ℤ pos 691_198)
 
-moments_near : (t : DayTime) (offset : ℤ) → IsRuleDay t.day → IsWithinWeek t.time → IsWithinDay offset → IsNear (moment t offset)
+pub near_years : (t : DayTime) (offset : ℤ) → IsRuleDay t.day → IsWithinWeek t.time → IsWithinDay offset → IsNear (moment t offset)
 unfolding moment
-moments_near t offset fits week day = record {
+near_years t offset fits week day = record {
   low = λ year. let within = day_within t.day year fits in omega (arith, floors);
   high = λ year. let within = day_within t.day year fits in omega (arith, floors);
 }
 
 pub starts_near : (a : Alternate) → IsAlternateRule a → IsNear (start_in a)
-starts_near a h = moments_near a.start a.std.offset h.start_day h.within.start_time h.within.std_offset
+starts_near a h = near_years a.start a.std.offset h.start_day h.within.start_time h.within.std_offset
 
 pub ends_near : (a : Alternate) → IsAlternateRule a → IsNear (end_in a)
-ends_near a h = moments_near a.end a.dst.offset h.end_day h.within.end_time h.within.dst_offset
+ends_near a h = near_years a.end a.dst.offset h.end_day h.within.end_time h.within.dst_offset
 
 -- a later year begins at least 365 days later
 pub year_after : (a b : ℤ) → a <ℤ b → (year_start a +ℤ pos 365) ≤ℤ year_start b

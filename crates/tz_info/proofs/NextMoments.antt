@@ -1,6 +1,6 @@
--- A rule has one type from a second on, until the next moment of three years or the year's end; and the nearest of two moments.
-use Rattle.tz_info.proofs.Words.{Alternate, AlternateAt, Bool, IsAhead, IsAlternateRule, IsDstAt, IsInSomeYear, IsRuleYear, IsYearOf, LocalType, Precedes}
-use Rattle.tz_info.proofs.Words.{arith, end_in, false, floor_div, floors, ints, nearer_moment, one_year, pos, start_in}
+-- A rule has one type from a second on, until the next moment of three years or the year's end.
+use Rattle.tz_info.proofs.Words.{Alternate, AlternateAt, Bool, IsAlternateRule, IsDstAt, IsInSomeYear, IsRuleYear, IsYearOf, LocalType, Precedes}
+use Rattle.tz_info.proofs.Words.{arith, end_in, false, floor_div, floors, ints, one_year, pos, start_in}
 use Rattle.tz_info.proofs.Words.{subst, true, year_start, ℤ, ⊎_elim, ◌*ℤ◌, ◌+ℤ◌, ◌-ℤ◌, ◌<ℤ◌, ◌≡◌, ◌≤ℤ◌, ◌⊎◌}
 use Rattle.tz_info.proofs.Neighbours.{IsNear, ends_near, not_earlier, not_later, place, second_low, starts_near}
 
@@ -57,17 +57,3 @@ steady_until a year u next rule of_u later end out_start out_end = record {
         shown = k.shown;
       };
 }
-
--- ---- the nearest of two moments and a limit
--- `next` is ahead of s, and not beyond the limit, nor beyond those of the two moments that are ahead of s; it is one of them
-pub record IsNearestMoment (forward : Bool) (first second s limit next : ℤ) : Type 0 where
-  pub ahead : IsAhead forward s next
-  pub within : Precedes forward next limit
-  pub of_first : IsAhead forward s first → Precedes forward next first
-  pub of_second : IsAhead forward s second → Precedes forward next second
-  pub one : (next ≡ limit → ⊥) → (next ≡ first) ⊎ (next ≡ second)
-
-pub nearest_moment : (w : Bool) (first second s limit : ℤ) → IsAhead w s limit
-    → IsNearestMoment w first second s limit (nearer_moment w s (nearer_moment w s limit first) second)
-nearest_moment true first second s limit h = grind (arith, ints)
-nearest_moment false first second s limit h = grind (arith, ints)

@@ -3,7 +3,7 @@ use Rattle.std.proofs.lemmas.Bool.Decides.{Decides-int_eq}
 use Rattle.std.proofs.lemmas.Map.Made.{is_member-Decides}
 use Rattle.std.specs.Ordering.{int_eq}
 use Rattle.std.specs.Set.{is_member}
-use Rattle.tz_info.proofs.Words.{Alternate, AlternateAt, AreIn, Bool, Change, DayTime, HasNoChange, IsAlternateRule, IsChange, IsDstAt, IsEarlierOf}
+use Rattle.tz_info.proofs.Words.{Alternate, AlternateAt, Bool, Change, DayTime, HasNoChange, IsAlternateRule, IsChange, IsDstAt, IsEarlierOf}
 use Rattle.tz_info.proofs.Words.{IsInSomeYear, IsInStretch, IsLaterOf, IsNearRuleTime, IsNearest, IsNearestChange, IsOfYear, IsOneOf, IsRuleDay, IsRuleTime}
 use Rattle.tz_info.proofs.Words.{Contains, IsRuleYear, IsYearOf, LocalType, Option, Precedes, arith, by_lt_z, end_in, false, floor_div}
 use Rattle.tz_info.proofs.Words.{floors, get_or_default, inl, inr, ints, is_leap, kind_place, length, moment, moments_near, near_end, new_year, pos}
@@ -26,7 +26,7 @@ weekday_again day k = grind arith
 kind_again : (y k : ℤ) → kind_place (y +ℤ pos 400 *ℤ k) ≡ kind_place y
 kind_again y k = grind (arith, leap_again, start_again, weekday_again)
 
-abbrev cycle : ℤ
+abbrev pub cycle : ℤ
 cycle = pos 12_622_780_800
 
 pub moment_again : (t : DayTime) (offset year k : ℤ) → IsRuleDay t.day → moment t offset (year +ℤ pos 400 *ℤ k) ≡ moment t offset year +ℤ cycle *ℤ k
@@ -91,7 +91,7 @@ of_year u year h = let a = h.0 in let b = h.1 in (omega (arith, floors), omega (
 beside : (m u : ℤ) → (m ≡ u → ⊥) → (m ≤ℤ (u -ℤ pos 1)) ⊎ ((u +ℤ pos 1) ≤ℤ m)
 beside m u not = by_lt_z m u (λ l. inl (omega (arith, ints))) (λ h. by_lt_z u m (λ l. inr (omega (arith, ints))) (λ k. absurd (not (omega (arith, ints)))))
 
-same_or_not : (x u : ℤ) → (x ≡ u) ⊎ (x ≡ u → ⊥)
+pub same_or_not : (x u : ℤ) → (x ≡ u) ⊎ (x ≡ u → ⊥)
 same_or_not x u = decided (x ≡ u) (int_eq x u) (Decides-int_eq x u)
 
 -- a change comes at a moment near its year, or with the next year
@@ -112,7 +112,7 @@ change_near a year d rule is of_second =
 
 -- ---- years beside seconds
 -- years rise with seconds
-years_rise : (u v x y : ℤ) → IsYearOf u x → IsYearOf v y → u ≤ℤ v → x ≤ℤ y
+pub years_rise : (u v x y : ℤ) → IsYearOf u x → IsYearOf v y → u ≤ℤ v → x ≤ℤ y
 years_rise u v x y h k l =
     let low = second_low u x h in let high = second_high v y k in
     by_lt_z y x
@@ -120,7 +120,7 @@ years_rise u v x y h k l =
     (λ m. m)
 
 -- of two seconds, the one of a later year is later
-later_year : (u v x y : ℤ) → IsYearOf u x → IsYearOf v y → x <ℤ y → u <ℤ v
+pub later_year : (u v x y : ℤ) → IsYearOf u x → IsYearOf v y → x <ℤ y → u <ℤ v
 later_year u v x y h k l = by_lt_z u v (λ m. m) (λ m. let r = years_rise v u y x k h m in absurd (omega (arith, ints)))
 
 pub rule_second : (a : Alternate) (u : ℤ) (t : LocalType) → AlternateAt a u t → IsRuleTime u
@@ -133,11 +133,11 @@ next_at_most u year own before here = by_lt_z (year +ℤ pos 1) own
     let far = year_after (year +ℤ pos 1) own more in grind (arith, second_high, floors))
     (λ m. m)
 
-abbrev change_then : Change → ℤ → Change
+abbrev pub change_then : Change → ℤ → Change
 change_then d k = record d { at = d.at +ℤ cycle *ℤ k }
 
 -- a change comes again, if the rule answers in that year and in the next one
-change_again : (a : Alternate) (d : Change) (k : ℤ) → IsAlternateRule a → (is : IsChange (AlternateAt a) d) → IsRuleYear (is.before.year +ℤ pos 400 *ℤ k) → IsRuleYear ((is.before.year +ℤ pos 400 *ℤ k) +ℤ pos 1)
+pub change_again : (a : Alternate) (d : Change) (k : ℤ) → IsAlternateRule a → (is : IsChange (AlternateAt a) d) → IsRuleYear (is.before.year +ℤ pos 400 *ℤ k) → IsRuleYear ((is.before.year +ℤ pos 400 *ℤ k) +ℤ pos 1)
     → IsChange (AlternateAt a) (change_then d k) × IsYearOf ((d.at +ℤ cycle *ℤ k) -ℤ pos 1) (is.before.year +ℤ pos 400 *ℤ k)
 change_again a d k rule is here next =
     let b = is.before in let t = is.after in
@@ -152,35 +152,12 @@ change_again a d k rule is here next =
     let f0 = f.0 in let f1 = f.1 in let g0 = g.0 in let g1 = g.1 in
     (record { fits = omega (arith, ints); fits_before = omega (arith, ints); before = before; after = after; differ = is.differ }, rw shift at (year_again (d.at -ℤ pos 1) b.year k b.of_second))
 
--- ---- the nearest change of a stretch, year by year
--- the first year is that of the second of the rule's years that is nearest to the stretch
-pub record IsStart (a : Alternate) (w : Bool) (after last first : ℤ) : Type 0 where
-  pub rule : IsAlternateRule a
-  pub inside : IsRuleYear first
-  pub second : ℤ
-  pub of_second : IsYearOf second first
-  pub near : IsNearRuleTime (near_end w after last) second
-
-pub in_first : (a : Alternate) (w : Bool) (after last first : ℤ) → IsStart a w after last first → AreIn a w after last (year_at w first 0)
-in_first a true after last first start d is inside y of_year =
-    let l = inside.0 in
-    let m = start.near.from (d.at -ℤ pos 1) (rule_second a (d.at -ℤ pos 1) d.before is.before) (omega (arith, ints)) in
-    let r = years_rise start.second (d.at -ℤ pos 1) first y start.of_second of_year m in
-    omega (arith, ints)
-in_first a false after last first start d is inside y of_year =
-    let m = start.near.until (d.at -ℤ pos 1) (rule_second a (d.at -ℤ pos 1) d.before is.before) (omega (arith, ints)) in
-    let r = years_rise (d.at -ℤ pos 1) start.second y first of_year start.of_second m in
-    omega (arith, ints)
-
-year_on : (w : Bool) (first y : ℤ) (n : ℕ) → (y ≡ year_at w first n → ⊥) → Precedes w (year_at w first n) y → Precedes w (year_at w first (n + 1)) y
+-- ---- changes year by year
+pub year_on : (w : Bool) (first y : ℤ) (n : ℕ) → (y ≡ year_at w first n → ⊥) → Precedes w (year_at w first n) y → Precedes w (year_at w first (n + 1)) y
 year_on true first y n not h = by_lt_z (first +ℤ pos n) y (λ l. omega (arith, ints)) (λ m. absurd (not (omega (arith, ints))))
 year_on false first y n not h = by_lt_z y (first -ℤ pos n) (λ l. omega (arith, ints)) (λ m. absurd (not (omega (arith, ints))))
 
--- where a year has none they come in the next one or behind it
-pub in_next : (a : Alternate) (w : Bool) (after last first : ℤ) (n : ℕ) → AreIn a w after last (year_at w first n) → HasNoChange (AlternateAt a) (IsOfYear after last (year_at w first n)) → AreIn a w after last (year_at w first (n + 1))
-in_next a w after last first n h none d is inside y of_year = grind (arith, year_on)
-
-seconds_follow : (w : Bool) (u v x y : ℤ) → IsYearOf (u -ℤ pos 1) x → IsYearOf (v -ℤ pos 1) y → (y ≡ x → ⊥) → Precedes w x y → Precedes w u v
+pub seconds_follow : (w : Bool) (u v x y : ℤ) → IsYearOf (u -ℤ pos 1) x → IsYearOf (v -ℤ pos 1) y → (y ≡ x → ⊥) → Precedes w x y → Precedes w u v
 seconds_follow true u v x y h k not p =
     let r = later_year (u -ℤ pos 1) (v -ℤ pos 1) x y h k (by_lt_z x y (λ l. l) (λ m. absurd (not (omega (arith, ints))))) in
     omega (arith, ints)
@@ -188,54 +165,9 @@ seconds_follow false u v x y h k not p =
     let r = later_year (v -ℤ pos 1) (u -ℤ pos 1) y x k h (by_lt_z y x (λ l. l) (λ m. absurd (not (omega (arith, ints))))) in
     omega (arith, ints)
 
--- the nearest one of that year is the nearest one of the stretch
-pub found_in : (a : Alternate) (w : Bool) (after last year : ℤ) (c : Change) → AreIn a w after last year → IsNearestChange w (AlternateAt a) (IsOfYear after last year) c → IsNearestChange w (AlternateAt a) (IsInStretch after last) c
-found_in a w after last year c h k = record {
-  is = k.is;
-  inside = k.inside.inside;
-  nearest = λ d is inside. elim (same_or_not is.before.year year) [
-    | inl e ↦ k.nearest d is (record { inside = inside; of_year = rw e at is.before.of_second })
-    | inr not ↦ seconds_follow w c.at d.at year is.before.year k.inside.of_year is.before.of_second not (h d is inside is.before.year is.before.of_second)
-  ];
-}
-
--- no change comes where the rule doesn't answer
-pub none_out : (a : Alternate) (w : Bool) (after last first : ℤ) (n : ℕ) → IsRuleYear first → AreIn a w after last (year_at w first n) → (IsRuleYear (year_at w first n) → ⊥) → HasNoChange (AlternateAt a) (IsInStretch after last)
-none_out a true after last first n inside h out d is k =
-    let from = h d is k is.before.year is.before.of_second in grind (arith, ints)
-none_out a false after last first n inside h out d is k =
-    let until = h d is k is.before.year is.before.of_second in let most = inside.1 in let least = is.before.inside.0 in
-    out (omega (arith, ints), omega (arith, ints))
-
 -- one of 400 years is a number of cycles away
-cycles_to : (y first : ℤ) → (k : ℤ) × ((first +ℤ pos 1) ≤ℤ (y +ℤ pos 400 *ℤ k)) × ((y +ℤ pos 400 *ℤ k) ≤ℤ (first +ℤ pos 400))
+pub cycles_to : (y first : ℤ) → (k : ℤ) × ((first +ℤ pos 1) ≤ℤ (y +ℤ pos 400 *ℤ k)) × ((y +ℤ pos 400 *ℤ k) ≤ℤ (first +ℤ pos 400))
 cycles_to y first = (pos 0 -ℤ floor_div ((y -ℤ first) -ℤ pos 1) 400, omega (arith, floors), omega (arith, floors))
-
--- where 401 years have no change of the stretch, it has none
-pub never : (a : Alternate) (w : Bool) (after last first : ℤ) → IsStart a w after last first → AreIn a w after last (year_at w first 401) → HasNoChange (AlternateAt a) (IsInStretch after last)
-never a true after last first start h d is inside =
-    let b = is.before in
-    let from = h d is inside b.year b.of_second in
-    let (k, low, high) = cycles_to b.year first in
-    let least = start.inside.0 in let most = b.inside.1 in
-    let (again, of_year) = change_again a d k start.rule is (omega (arith, ints), omega (arith, ints)) (omega (arith, ints), omega (arith, ints)) in
-    let t = rule_second a ((d.at +ℤ cycle *ℤ k) -ℤ pos 1) d.before again.before in
-    let later = later_year start.second ((d.at +ℤ cycle *ℤ k) -ℤ pos 1) first (b.year +ℤ pos 400 *ℤ k) start.of_second of_year (omega (arith, ints)) in
-    let behind : after <ℤ ((d.at +ℤ cycle *ℤ k) -ℤ pos 1) = by_lt_z after ((d.at +ℤ cycle *ℤ k) -ℤ pos 1) (λ l. l) (λ m. let n = start.near.until ((d.at +ℤ cycle *ℤ k) -ℤ pos 1) t m in absurd (omega (arith, ints))) in
-    let i = inside.1 in
-    let r = h (change_then d k) again (omega (arith, ints), omega (arith, ints)) (b.year +ℤ pos 400 *ℤ k) of_year in
-    omega (arith, ints)
-never a false after last first start h d is inside =
-    let b = is.before in
-    let until = h d is inside b.year b.of_second in
-    let (k, low, high) = cycles_to b.year (first -ℤ pos 401) in
-    let most = start.inside.1 in let least = b.inside.0 in
-    let (again, of_year) = change_again a d k start.rule is (omega (arith, ints), omega (arith, ints)) (omega (arith, ints), omega (arith, ints)) in
-    let t = rule_second a ((d.at +ℤ cycle *ℤ k) -ℤ pos 1) d.before again.before in
-    let sooner = later_year ((d.at +ℤ cycle *ℤ k) -ℤ pos 1) start.second (b.year +ℤ pos 400 *ℤ k) first of_year start.of_second (omega (arith, ints)) in
-    let ahead : ((d.at +ℤ cycle *ℤ k) -ℤ pos 1) <ℤ last = by_lt_z ((d.at +ℤ cycle *ℤ k) -ℤ pos 1) last (λ l. l) (λ m. let n = start.near.from ((d.at +ℤ cycle *ℤ k) -ℤ pos 1) t m in absurd (omega (arith, ints))) in
-    let r = h (change_then d k) again (omega (arith, ints), omega (arith, ints)) (b.year +ℤ pos 400 *ℤ k) of_year in
-    omega (arith, ints)
 
 -- the nearest change among the seconds near a year is the nearest one of that year
 pub nearest_of_year : (w : Bool) (a : Alternate) (year after last from until : ℤ) (found : Option Change) → IsAlternateRule a → IsLaterOf after (new_year year) from → IsEarlierOf last (new_year (year +ℤ pos 1)) until

@@ -1,16 +1,16 @@
 -- The first second at which clocks show a local time or a later one: that of the first segment that ends later.
 use Rattle.tz_info.proofs.Words.{AreRising, Counts, IsFirstAtOrAfter, IsTrue, IsNear, IsRuleOrNone, IsTable, IsTableLess, IsUtOffset, IsValid, IsWide, IsWindowOf, List, LocalType, Option, RoseWithin, SFits, Some, None}
 use Rattle.tz_info.proofs.Words.{Transition, TransitionRule, TypeAt, Zone, AreWithin, IsBegunNear, ap, arith, begin_of, by_lt_z, cases_lt, get_or, get_or_append_left, get_or_push, index_of, inl, inr, int_lt, ints, lt_is, lt_true, least_time, length, length_push}
-use Rattle.tz_info.proofs.Words.{place_at, pos, refl, rises, saturate_signed, segment_of, slice_get, suc, table_count, top_of, w64, zero, ℕ, ℤ, ◌+ℤ◌, ◌+◌, ◌++◌, ◌∷◌, []}
+use Rattle.tz_info.proofs.Words.{place_at, pos, refl, rises, saturate_signed, segment_of, slice_get, suc, table_count, top_of, w64, zero, ℕ, ℤ, ◌+ℤ◌, ◌++◌, ◌∷◌, []}
 use Rattle.tz_info.proofs.Words.{◌-ℤ◌, ◌-◌, ◌<ℤ◌, ◌<◌, ◌↔◌, ◌∙◌, ◌≡◌, ◌≤ℤ◌, ◌≤◌, ◌⊎◌}
 use Rattle.tz_info.proofs.Words.{All-contains, All-push, AreJoinedByRule, Contains, Extremes, IsTypeOf, RuleOrElse, rule_offsets, table_count_by}
 use Rattle.tz_info.specs.declared.rule.transition_rule.TransitionRule.TheVariants.{Alternate, Fixed}
 use Rattle.tz_info.specs.Steps.Entries.{AreEntries, Entries}
 use Rattle.tz_info.specs.Steps.Runs.{ArePartFrom}
-use Rattle.tz_info.specs.Steps.SegmentEnds.{AreEnds, AreEndsRising, AreMaxima, IsFirstOf, IsFirstSegment, IsReached, end_of}
+use Rattle.tz_info.specs.Steps.SegmentEnds.{AreEndsRising, AreMaxima, IsFirstOf, IsFirstSegment, IsReached, end_of}
 use Rattle.tz_info.proofs.{ExtremeLaws.{at_least_least, rule_among}, GapLaws.{near_type}, LeapStarts.{saturated}, TableLaws.{same_table, time_then}}
 use Rattle.tz_info.proofs.SegmentLaws.{begin_first, begins_rise, come_from, place_most, places_rise, segment_most, type_from}
-use Rattle.tz_info.proofs.WallSegments.{leap_time_of, near_of, type_there}
+use Rattle.tz_info.proofs.WallSegments.{near_of, type_there}
 
 -- ---- ends
 near_wide : (l : ℤ) → IsWide l → IsNear l

@@ -1,7 +1,7 @@
 -- What a zone's entries say of its table: the seconds before the last transition, or without a rule all, by the segments between entries.
 use Rattle.tz_base.specs.LocalTypes.{IsUtOffset}
 use Rattle.tz_info.specs.Looks.{RoseByWallClock}
-use Rattle.tz_timeline.specs.Counts.{RoseByPieces}
+use Rattle.tz_info.specs.Counts.{RoseByPieces}
 use Rattle.tz_info.proofs.Words.{AreExtremes, ArePieces, Counts, Extremes, HasReach, IsWide, Piece, RoseWithin, nat_tests, offsets, w32, ◌*◌}
 use Rattle.tz_info.proofs.Words.{AreBelow, AreLess, AreListed, Change, HasGap, HasType, IsBegin, IsBegun, IsBegunNear, IsIndex, IsJump, IsLeapTime, IsNear}
 use Rattle.tz_info.proofs.Words.{IsRuleOrNone, IsShownAmong, IsStart, IsTable, IsTableAnswer, IsTableLess, IsValid, IsWallAnswer, IsWindowOf, Jumps, List}

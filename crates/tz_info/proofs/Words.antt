@@ -55,15 +55,17 @@ pub use Rattle.tz_base.specs.Refusals.{LocalTimeType}
 pub use Rattle.tz_base.specs.declared.change.Change.{Change}
 pub use Rattle.tz_base.specs.declared.error.Error.{Error}
 pub use Rattle.tz_base.specs.declared.span.Span.{Span}
-pub use Rattle.tz_timeline.proofs.ForCallers.{count_first, count_least, digits-le, digits-more, filter_first, first_come, le_false, le_is, le_is_not, le_true}
-pub use Rattle.tz_timeline.proofs.ForCallers.{lt_false, lt_is, lt_true, mapped_at, rises, times_ordered}
-pub use Rattle.tz_timeline.proofs.Words.{AreOrdered, ArePassed, Bool, Counts, IsLastOf, List, SFits, add-suc, add-zero, ap, arith, cases_lt, cond, count_by}
-pub use Rattle.tz_timeline.proofs.Words.{cases_eq, drop, false, filter, get_or, get_or-set_at, get_or-set_other, length-set, set, inl, inr, int_le}
-pub use Rattle.tz_timeline.proofs.Words.{int_lt, ints, length, length-map, map, negsuc, option_map, pos, refl}
-pub use Rattle.tz_timeline.proofs.Words.{rules, slice_index, suc, sum_by-cons, sym, take, to_z-of_z, true, w64, zero, ℕ, ℤ, [], ◌*◌, ◌+ℤ◌, ◌+◌, ◌-ℤ◌, ◌-◌, ◌/◌}
-pub use Rattle.tz_timeline.proofs.Words.{◌<ℤ◌, ◌<◌, ◌∙◌, ◌∷◌, ◌≡◌, ◌≢◌, ◌≤ℤ◌, ◌≤◌, ◌⊎◌}
-unfoldable pub use Rattle.tz_timeline.proofs.Words.{digits}
-pub use Rattle.tz_timeline.specs.Counts.{RoseWithin, reads_more}
+pub use Rattle.std.proofs.lemmas.List.{get_or-map as mapped_at}
+pub use Rattle.tz_info.proofs.DigitLaws.{digits-le, digits-more}
+pub use Rattle.tz_info.proofs.FirstItems.{count_first, count_least, filter_first, le_false, le_is, le_is_not, le_true, lt_false, lt_is, lt_true, rises}
+pub use Rattle.tz_info.proofs.SearchSteps.{first_come, times_ordered}
+pub use Rattle.tz_info.proofs.SearchWords.{AreOrdered, ArePassed, Bool, Counts, IsLastOf, List, SFits, add-suc, add-zero, ap, arith, cases_lt, cond, count_by}
+pub use Rattle.tz_info.proofs.SearchWords.{cases_eq, drop, false, filter, get_or, get_or-set_at, get_or-set_other, length-set, set, inl, inr, int_le}
+pub use Rattle.tz_info.proofs.SearchWords.{int_lt, ints, length, length-map, map, negsuc, option_map, pos, refl}
+pub use Rattle.tz_info.proofs.SearchWords.{rules, slice_index, suc, sum_by-cons, sym, take, to_z-of_z, true, w64, zero, ℕ, ℤ, [], ◌*◌, ◌+ℤ◌, ◌+◌, ◌-ℤ◌, ◌-◌, ◌/◌}
+pub use Rattle.tz_info.proofs.SearchWords.{◌<ℤ◌, ◌<◌, ◌∙◌, ◌∷◌, ◌≡◌, ◌≢◌, ◌≤ℤ◌, ◌≤◌, ◌⊎◌}
+unfoldable pub use Rattle.tz_info.proofs.SearchWords.{digits}
+pub use Rattle.tz_info.specs.Counts.{RoseWithin, reads_more}
 pub use Rattle.tz_info.specs.Around.{AreTypesAround}
 pub use Rattle.tz_info.specs.Changes.{AreChanges, HasNoChange, IsChange, IsFirst, IsFirstChange, IsFromUntil, IsLast, IsLastChange, IsNearest}
 pub use Rattle.tz_info.specs.Changes.{IsNearestChange, Precedes}
@@ -86,7 +88,7 @@ pub use Rattle.tz_info.specs.Leaps.{thresholds}
 pub use Rattle.tz_info.specs.Lists.{last_else}
 pub use Rattle.tz_info.specs.Looks.{RoseByWalk}
 pub use Rattle.tz_info.specs.Moments.{AlternateAt, IsAlternateRefused, IsBetween, IsDstAt, IsInSomeYear, IsRuleTime, IsRuleYear, IsYearOf, end_in, start_in}
-pub use Rattle.tz_info.specs.Moments.{type_when}
+pub use Rattle.tz_info.specs.Moments.{NeverChanges, type_when}
 unfoldable pub use Rattle.tz_info.specs.Moments.{moment}
 pub use Rattle.tz_info.specs.PosixZones.{IsExtendedZone, IsPosixFault, IsPosixZone, posix_zone, types_of}
 pub use Rattle.tz_info.specs.Questions.{IsAskedAt, IsAskedAtEach, IsAskedFor, IsByRuleFor}
@@ -99,19 +101,19 @@ pub use Rattle.tz_info.specs.Steps.Segments.{table_count, table_count_by}
 unfoldable pub use Rattle.tz_info.specs.Steps.Segments.{segment_of}
 pub use Rattle.tz_info.specs.ShownSeconds.{AreEndsWithin, AreShownWithin, IsFirstAtOrAfter, IsFirstWithin, IsLastWithin, IsNeverWithin, ShowsAtOrAfter}
 pub use Rattle.tz_info.specs.ShownSeconds.{ShowsWithin}
-pub use Rattle.tz_info.specs.Spans.{IsInSpan, IsSince, IsSpan, IsSpanAt, IsUntil}
+pub use Rattle.tz_info.specs.Spans.{IsInSpan, IsOutOfForce, IsSince, IsSpan, IsSpanAt, IsUntil}
 pub use Rattle.tz_info.specs.Steps.Answers.{joined, shown_if}
 pub use Rattle.tz_info.specs.Steps.Asked.{IsAskedAtLeapTime}
 pub use Rattle.tz_info.specs.Steps.Below.{all_below}
-pub use Rattle.tz_info.specs.Steps.Beside.{HasTwoChanges, IsMomentAhead, IsNearestMomentOf, IsSecondOfNearest, change_found}
+pub use Rattle.tz_info.specs.Steps.Beside.{IsNearestMomentOf, IsSecondOfNearest, change_found}
 pub use Rattle.tz_info.specs.Steps.ChangeLists.{all_fit, alternate_type, change_between, change_here, changes_in, is_dst_by_three, is_rule_year, is_second}
 pub use Rattle.tz_info.specs.Steps.ChangeLists.{rule_type, rule_type_or, type_at_leap_time}
 unfoldable pub use Rattle.tz_info.specs.Steps.ChangeLists.{changes_of, seconds_between, type_or_none}
-pub use Rattle.tz_info.specs.Steps.Held.{IsEndOrTyped}
 pub use Rattle.tz_info.specs.Steps.LastSpans.{IsLastSpan}
-pub use Rattle.tz_info.specs.Steps.Changes.{AreIn, IsAhead, IsAheadUpTo, IsBegin}
-pub use Rattle.tz_info.specs.Steps.Changes.{IsChangeByRule, IsEarlierOf, IsIdle, IsIdleTo, IsInStretch, IsInTable, IsLaterOf, IsNearRuleTime, IsOfYear, IsOneOf}
-pub use Rattle.tz_info.specs.Steps.Changes.{IsStretchAhead, far_side, near_end, near_side, nearer_one, new_year, year_at}
+pub use Rattle.tz_info.specs.Steps.Typed.{IsAfterTyped, IsBeginBy, IsEndBy, IsFirstTyped, IsLastTyped, IsSearched, IsTyped, IsTypedFrom, IsTypedUntil}
+pub use Rattle.tz_info.specs.Steps.Changes.{IsAhead, IsBegin}
+pub use Rattle.tz_info.specs.Steps.Changes.{IsChangeByRule, IsEarlierOf, IsIdle, IsInStretch, IsInTable, IsLaterOf, IsNearRuleTime, IsOfYear, IsOneOf}
+pub use Rattle.tz_info.specs.Steps.Changes.{IsStretchAhead, near_end, nearer_one, new_year, year_at}
 unfoldable pub use Rattle.tz_info.specs.Steps.Changes.{moments_near}
 pub use Rattle.tz_info.specs.Steps.ContentReading.{GivesInMemory, front_of, is_name_or_none, is_zero, leap_second_in, leap_second_of, mark_of, pair_agrees}
 pub use Rattle.tz_info.specs.Steps.ContentReading.{record_at, transition_in, type_in, values_below, with_next_type}
@@ -125,9 +127,10 @@ unfoldable pub use Rattle.tz_info.specs.Steps.FooterReading.{footer_at, rule_in,
 pub use Rattle.tz_info.specs.Steps.Gaps.{AreLess, HasReach, IsNeverFrom, IsRuleGap, moment_change}
 unfoldable pub use Rattle.tz_info.specs.Steps.KindPlaces.{place_by, places_by_kind}
 pub use Rattle.tz_info.specs.Steps.Kinds.{day_time_second, is_calm, is_calm_kind, is_inside, kind_place, second_in}
+pub use Rattle.tz_info.specs.Steps.AskedYears.{AreFrom, HasNoneBeyond, IsAskedYear, IsCalmRule, IsNextChanging, IsYearNear, changes_in_year, turn_of}
+unfoldable pub use Rattle.tz_info.specs.Steps.ChangingYears.{changing_keys, key_years}
 unfoldable pub use Rattle.tz_info.specs.Steps.Kinds.{are_calm, margin_of, seconds_by_kind}
 pub use Rattle.tz_info.specs.Steps.Merging.{IsMerged, IsNext, IsStep}
-pub use Rattle.tz_info.specs.Steps.NextMoments.{nearer_moment}
 pub use Rattle.tz_info.specs.Steps.Pieces.{AreBelow, AreCutsCrossed, AreListed, ArePieces, ArePiecesAt, IsCutAt, IsFold, IsGap, IsJump, IsPlaced, IsSegment}
 pub use Rattle.tz_info.specs.Steps.Pieces.{cut_of, zone_in}
 pub use Rattle.tz_info.specs.Steps.RuleDays.{closed_day_is, julian_is, julian_place, number_after, weekday_at, weekday_is, weekday_place}
@@ -135,7 +138,7 @@ unfoldable pub use Rattle.tz_info.specs.Steps.RuleDays.{closed_day}
 pub use Rattle.tz_info.specs.Steps.RuleSeconds.{AreUtOffsets, IsAskedFrom, IsAskedSince, IsSecondFrom, TypeFrom}
 pub use Rattle.tz_info.specs.Steps.Runs.{AreWithin, HaveOneTypeFrom, IsBeyondJumps, IsEnd, IsEndWithin, IsNextRun, IsRunUntil, IsWindowOf}
 pub use Rattle.tz_info.specs.Steps.Runs.{IsWithinRun}
-pub use Rattle.tz_info.specs.Steps.Seasons.{IsAmid, IsAmidFrom, IsDecidedIn, IsLimit, IsSeason, IsSeasonFor, IsSeasonIn, IsSeasonOf}
+pub use Rattle.tz_info.specs.Steps.Seasons.{IsAmidFrom, IsDecidedIn, IsSeason, IsSeasonFor, IsSeasonIn, IsSeasonOf}
 pub use Rattle.tz_info.specs.Steps.Segments.{begin_of, index_of}
 pub use Rattle.tz_info.specs.Steps.Shown.{together}
 pub use Rattle.tz_info.specs.Steps.Starts.{HaveCome, leap_time_at}

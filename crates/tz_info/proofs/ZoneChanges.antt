@@ -2,7 +2,7 @@
 use Rattle.std.proofs.lemmas.List.Sums.{sum_by-le-sum_by}
 use Rattle.tz_info.proofs.Words.{Alternate as AlternateRule, AlternateAt, AreLeapSeconds, Change, Bool}
 use Rattle.tz_info.proofs.Words.{HasNoChange, false, true, HaveCome, IsAhead, IsBegin, IsChangeByRule, IsChange, IsFirst, IsFirstChange, IsInTable}
-use Rattle.tz_info.proofs.Words.{IsLast, IsLastChange, IsLeapTime, IsLeapTimeRefused, IsNearest, IsRuleTime, IsValid, LeapSecond, List, LocalType}
+use Rattle.tz_info.proofs.Words.{IsLast, IsLastChange, IsLeapTime, IsLeapTimeRefused, IsNearest, IsOutOfForce, IsRuleTime, IsValid, LeapSecond, List, LocalType}
 use Rattle.tz_info.proofs.Words.{Option, RuleOrType, SFits, Some, TypeAt, Zone, arith, cases_lt, cond}
 use Rattle.tz_info.proofs.Words.{get_or, inl, inr, int_le, ints, length, nat_tests, passed_count, pos, refl, segment_of, suc, sym}
 use Rattle.tz_info.proofs.Words.{thresholds, w64, zero, ℕ, ℤ, ◌-ℤ◌, ◌-◌, ◌<ℤ◌, ◌<◌, ◌↔◌, ◌∙◌, ◌≡◌, ◌≤ℤ◌, ◌≤◌, ◌⊎◌}
@@ -10,7 +10,7 @@ use Rattle.tz_info.specs.declared.rule.transition_rule.TransitionRule.TheVariant
 use Rattle.tz_info.proofs.{ChangeSearch.{nearest_moved}, GapLaws.{HasOneType, one_type}, LeapEntries.{follow, threshold_at}, LeapOrder.{bounded}}
 use Rattle.tz_info.proofs.{LeapStarts.{correction_behind, reached_later, times_rise}, RuleChanges.{rule_second}}
 use Rattle.tz_info.proofs.SegmentLaws.{come_at_time, later_segment, segment_at, segment_most, segments_rise, type_from, type_in_from}
-use Rattle.tz_info.proofs.ZoneLaws.{leap_time_decided}
+use Rattle.tz_info.proofs.ZoneLaws.{leap_time_decided, type_once}
 
 -- ---- which seconds have a leap time
 one_counted : (t u v : ℤ) → u ≤ℤ v → cond (int_le t u) 1 0 ≤ cond (int_le t v) 1 0
@@ -175,3 +175,10 @@ reached_exactly es x u y p q (suc m) d valid h some e f l =
 
 pub entry_late : (es : List LeapSecond) (i : ℕ) (d : LeapSecond) → AreLeapSeconds es → i < length es → pos 0 ≤ℤ (get_or es i d).unix_leap_time
 entry_late es i d valid h = let r = times_rise es 0 i d valid (omega arith) h in let f = (valid.first d (omega arith)).since_epoch in omega (arith, ints)
+
+-- ---- at the ends of a span
+pub out_before : (z : Zone) (c : Change) → IsChange (TypeAt z) c → IsOutOfForce (TypeAt z) c.after (c.at -ℤ pos 1)
+out_before z c is = record { fits = is.fits_before; out = λ k. is.differ (type_once z (c.at -ℤ pos 1) c.before c.after is.before k) }
+
+pub out_from : (z : Zone) (c : Change) → IsChange (TypeAt z) c → IsOutOfForce (TypeAt z) c.before c.at
+out_from z c is = record { fits = is.fits; out = λ k. is.differ (type_once z c.at c.before c.after k is.after) }

@@ -1,3 +1,5 @@
+pub mod Counts
+pub mod Digits
 pub mod RuleDays
 pub mod RuleDayOf
 pub mod Rules

@@ -1,7 +1,7 @@
 -- How many looks a zone's lookups take: the bounds, each in one place.
 use Rattle.std.specs.Prelude.{ℕ, ℤ, ◌+◌, ◌*◌, ◌<◌, length}
-use Rattle.tz_timeline.specs.Counts.{Counts, RoseWithin, RoseByPieces}
-use Rattle.tz_timeline.specs.Digits.{digits}
+use Rattle.tz_info.specs.Counts.{Counts, RoseWithin, RoseByPieces}
+use Rattle.tz_info.specs.Digits.{digits}
 use Rattle.tz_info.specs.Windows.{IsWindowCount}
 use Rattle.tz_info.specs.Zones.{Zone}
 use Rattle.offset_core.specs.declared.around.Around.{Around}

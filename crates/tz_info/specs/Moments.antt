@@ -53,6 +53,10 @@ pub record AlternateAt (a : Alternate) (u : ℤ) (t : LocalType) : Type 0 where
   pub when : IsDstAt (start_in a) (end_in a) year u dst
   pub shown : t ≡ type_when a dst
 
+-- the rule never changes the clocks: no two seconds of the years that it answers in have different types
+abbrev pub NeverChanges : Alternate → Type 0
+NeverChanges a = (u v : ℤ) (s t : LocalType) → AlternateAt a u s → AlternateAt a v t → s ≡ t
+
 -- the year of the second u is none that a rule answers in
 abbrev pub IsAlternateRefused : ℤ → Type 0
 IsAlternateRefused u = (year : ℤ) → IsYearOf u year → ¬ (IsRuleYear year)

@@ -1,8 +1,7 @@
--- Spans: from one change of the clocks to the next.
-use Rattle.std.specs.Prelude.{ℤ, ◌≡◌, ◌≤ℤ◌, ◌<ℤ◌, FitsSigned, Option, Some, None, IfSome}
+-- Spans: the longest stretches of seconds with one type.
+use Rattle.std.specs.Prelude.{ℤ, pos, ◌-ℤ◌, ◌≤ℤ◌, ◌<ℤ◌, FitsSigned, Option, Some, None, IfSome}
 use Rattle.std.specs.Int.{w64}
 use Rattle.tz_base.specs.LocalTypes.{LocalType}
-use Rattle.tz_info.specs.Changes.{IsChange}
 use Rattle.tz_base.specs.declared.span.Span.{Span}
 
 -- at that second or later, or anywhere
@@ -21,12 +20,18 @@ pub record IsInSpan (s : Span) (u : ℤ) : Type 0 where
   pub since : IsSince s.from u
   pub until : IsUntil s.until u
 
--- at no second of the span is another type in force, and at each of its ends clocks change: to its type where it begins, and
--- from it where it ends
+-- at the second u of 64 bits the type t is not in force: another one is, or the zone has none
+pub record IsOutOfForce (in_force : ℤ → LocalType → Type 0) (t : LocalType) (u : ℤ) : Type 0 where
+  pub fits : FitsSigned w64 u
+  pub out : ¬ (in_force u t)
+
+-- the span has a second, and at each of its seconds its type is in force; a second before it, and at the first second after it,
+-- that type is not: another one is, or the zone has none
 pub record IsSpan (in_force : ℤ → LocalType → Type 0) (s : Span) : Type 0 where
-  pub each : (u : ℤ) (t : LocalType) → IsInSpan s u → in_force u t → t ≡ s.local_time_type
-  pub begins : IfSome s.from (λ from. (t : LocalType) × IsChange in_force (record { at = from; before = t; after = s.local_time_type }))
-  pub ends : IfSome s.until (λ until. (t : LocalType) × IsChange in_force (record { at = until; before = s.local_time_type; after = t }))
+  pub some : (u : ℤ) × IsInSpan s u
+  pub each : (u : ℤ) → IsInSpan s u → in_force u s.local_time_type
+  pub begins : IfSome s.from (λ from. IsOutOfForce in_force s.local_time_type (from -ℤ pos 1))
+  pub ends : IfSome s.until (λ until. IsOutOfForce in_force s.local_time_type until)
 
 -- the span that the second u lies in, at which its type is in force
 pub record IsSpanAt (in_force : ℤ → LocalType → Type 0) (u : ℤ) (s : Span) : Type 0 where

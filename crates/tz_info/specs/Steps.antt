@@ -1,9 +1,10 @@
 -- Steps of the proofs: what private functions ensure, and what private fields keep. No contract of a public function cites a
 -- page of this folder.
+pub mod Search
+pub mod Hints
 pub mod Extremes
 pub mod Below
 pub mod Turns
-pub mod NextMoments
 pub mod Seasons
 pub mod Answers
 pub mod Segments
@@ -27,10 +28,13 @@ pub mod ChangeLists
 pub mod Beside
 pub mod Held
 pub mod LastSpans
+pub mod Typed
 pub mod Entries
 pub mod Runs
 pub mod Differences
 pub mod Asked
 pub mod KindPlaces
 pub mod Kinds
+pub mod ChangingYears
+pub mod AskedYears
 pub mod RuleDays

@@ -6,13 +6,14 @@ mod change;
 mod file;
 pub mod laws;
 mod rule;
+mod timeline;
 mod zone;
 
 pub use change::{HeldChange, HeldSpan};
 pub use offset_core::Around;
 pub use rule::{AlternateTime, DayForm, RuleDay, TransitionRule};
+pub use timeline::Probes;
 pub use tz_base::{Change, Cursor, Error, Expected, LocalTimeType, Span, TimeZoneName};
-pub use tz_timeline::Probes;
 pub use zone::all_changes::Changes;
 pub use zone::differences::Difference;
 pub use zone::lookups::Lookups;

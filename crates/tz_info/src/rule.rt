@@ -1,12 +1,13 @@
 //! The rule of a TZ string: one type forever, or two that take turns each year.
 
 mod alternate;
+mod asked;
 mod beside;
 mod changes;
+mod changing;
 mod day;
 mod day_places;
 mod kinds;
-mod next_moment;
 pub(crate) mod reader;
 mod season;
 mod transition_rule;

@@ -5,11 +5,9 @@ use Rattle.tz_info.specs.Changes.{HasNoChange, IsChange}
 use Rattle.tz_info.specs.Moments.{AlternateAt, type_when}
 use Rattle.tz_info.specs.Rules.{Alternate}
 use Rattle.tz_info.specs.Changes.{IsNearest}
-use Rattle.tz_info.specs.Steps.Changes.{IsAhead, IsIdleTo, near_side}
+use Rattle.tz_info.specs.Steps.Changes.{IsAhead}
 use Rattle.tz_info.specs.Steps.Gaps.{moment_change}
-use Rattle.tz_info.specs.Steps.Seasons.{IsAmid}
 use Rattle.tz_base.specs.declared.change.Change.{Change}
-use Rattle.tz_info.specs.declared.rule.season.Season.{Season}
 use Rattle.tz_info.specs.declared.rule.beside.Beside.{Beside}
 use Rattle.tz_info.specs.declared.rule.wall_clock.Moment.{Moment}
 
@@ -35,13 +33,3 @@ pub record IsBeside (a : Alternate) (u : ℤ) (b : Beside) : Type 0 where
   pub in_force : AlternateAt a u (type_when a b.is_dst)
   pub previous : IsSecondOfNearest false (AlternateAt a) (IsAhead false u) b.previous
   pub next : IsSecondOfNearest true (AlternateAt a) (IsAhead true u) b.next
-
--- clocks change at each of the season's moments
-abbrev pub HasTwoChanges : Alternate → Season → Type 0
-HasTwoChanges a season = (season.turns.start ≢ season.turns.end) × (a.std ≢ a.dst)
-
--- it is one of the season's moments, which decide there, and in that direction no change comes from the second s up to it
-pub record IsMomentAhead (forward : Bool) (a : Alternate) (season : Season) (s moment : ℤ) : Type 0 where
-  pub idle : IsIdleTo forward (AlternateAt a) s (near_side forward moment)
-  pub amid : IsAmid season moment
-  pub one : (moment ≡ season.turns.start) ⊎ (moment ≡ season.turns.end)

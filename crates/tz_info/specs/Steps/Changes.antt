@@ -63,20 +63,6 @@ abbrev pub IsAheadUpTo : Bool → ℤ → ℤ → ℤ → Type 0
 IsAheadUpTo true s end u = (s <ℤ u) × (u ≤ℤ end)
 IsAheadUpTo false s end u = (end <ℤ u) × (u ≤ℤ s)
 
--- in that direction no change comes from the second s up to `end`
-pub record IsIdleTo (forward : Bool) (in_force : ℤ → LocalType → Type 0) (s end : ℤ) : Type 0 where
-  pub reached : Precedes forward s end
-  pub none : HasNoChange in_force (IsAheadUpTo forward s end)
-
--- of the second at which a change may come and the one before it, the one that comes first in that direction, and the other one
-abbrev pub near_side : Bool → ℤ → ℤ
-near_side true moment = moment -ℤ pos 1
-near_side false moment = moment
-
-abbrev pub far_side : Bool → ℤ → ℤ
-far_side true moment = moment
-far_side false moment = moment -ℤ pos 1
-
 -- the stretch of all seconds after `begin` that are ahead of s
 abbrev pub IsStretchAhead : Bool → ℤ → ℤ → ℤ → ℤ → Type 0
 IsStretchAhead true begin s after last = IsLaterOf begin s after × (last ≡ pos 9_223_372_036_854_775_807)
@@ -96,10 +82,6 @@ pub record IsNearRuleTime (near second : ℤ) : Type 0 where
 abbrev pub year_at : Bool → ℤ → ℕ → ℤ
 year_at true first step = first +ℤ pos step
 year_at false first step = first -ℤ pos step
-
--- the second before each change of the stretch lies in that year, or behind it in that direction
-abbrev pub AreIn : Alternate → Bool → ℤ → ℤ → ℤ → Type 0
-AreIn a forward after last year = (d : Change) → IsChange (AlternateAt a) d → IsInStretch after last d.at → (y : ℤ) → IsYearOf (d.at -ℤ pos 1) y → Precedes forward year y
 
 -- the second u lies in the stretch, and the second before it in the year
 pub record IsOfYear (after last year u : ℤ) : Type 0 where

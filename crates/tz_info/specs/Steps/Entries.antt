@@ -10,10 +10,11 @@ use Rattle.tz_info.specs.Steps.Starts.{leap_time_at}
 use Rattle.tz_info.specs.Transitions.{AreRising, NameTypes, passed}
 use Rattle.tz_info.specs.Zones.{Zone, IsFromLast, index_at}
 use Rattle.tz_base.specs.declared.change.Change.{Change}
-use Rattle.tz_timeline.specs.Digits.{digits}
+use Rattle.tz_info.specs.Digits.{digits}
 use Rattle.tz_info.specs.declared.zone.change_table.Between.{Between}
 use Rattle.tz_info.specs.declared.zone.change_table.Come.{Come}
 use Rattle.tz_info.specs.declared.zone.leap_second.LeapSecond.{LeapSecond}
+use Rattle.tz_info.specs.declared.zone.table.Entry.{Entry}
 use Rattle.tz_info.specs.declared.zone.transition.Transition.{Transition}
 
 -- a list of entries, how many of them have come where all transitions have, and the transitions as listed
@@ -25,6 +26,12 @@ pub record Entries : Type 0 where
 -- the index that the last entry names, or 0 where there is none
 abbrev pub last_index : List Transition → ℕ
 last_index entries = last_else 0 (map (λ t. t.type_index) entries)
+
+-- the entry at that place
+pub record IsEntryAt (entries : List Transition) (place : ℕ) (e : Entry) : Type 0 where
+  pub before : e.before ≡ index_of entries place
+  pub after : e.after ≡ index_of entries (place + 1)
+  pub at : e.at ≡ begin_of entries (place + 1)
 
 -- the entries are those of the zone: they rise, at each second with a leap time the last one that has come names the type of the last transition that has, `all` of them
 -- have come where all transitions have, and each comes at a second with a leap time and changes the type, except perhaps the last one with the last transition

@@ -1,8 +1,7 @@
 -- Seasons: the moments of one year, for several seconds near it.
-use Rattle.std.specs.Prelude.{Bool, true, false, Option, Some, ℤ, pos, neg_ℤ, length, ◌-ℤ◌, ◌≤ℤ◌, ◌<ℤ◌}
+use Rattle.std.specs.Prelude.{Option, Some, ℤ, length, ◌-ℤ◌, ◌≤ℤ◌, ◌<ℤ◌}
 use Rattle.tz_info.specs.Moments.{AlternateAt, IsRuleTime, type_when}
 use Rattle.tz_info.specs.Rules.{Alternate}
-use Rattle.tz_info.specs.Steps.Changes.{IsEarlierOf, IsLaterOf}
 use Rattle.tz_info.specs.Steps.Turns.{is_dst_by_one}
 use Rattle.tz_info.specs.Steps.WallPieces.{IsStart}
 use Rattle.tz_info.specs.Zones.{Zone}
@@ -14,18 +13,9 @@ use Rattle.tz_info.specs.declared.rule.transition_rule.TransitionRule.TheVariant
 abbrev pub IsDecidedIn : Season → ℤ → Type 0
 IsDecidedIn s u = (s.from ≤ℤ u) × (u <ℤ s.until)
 
--- the season decides at the second u and at the one before, both of the rule's years
-abbrev pub IsAmid : Season → ℤ → Type 0
-IsAmid s u = (IsRuleTime u × IsRuleTime (u -ℤ pos 1)) × IsDecidedIn s u × IsDecidedIn s (u -ℤ pos 1)
-
 -- at each second of the season its two moments alone decide
 pub record IsSeason (a : Alternate) (s : Season) : Type 0 where
   pub decided : (u : ℤ) → IsRuleTime u → IsDecidedIn s u → AlternateAt a u (type_when a (is_dst_by_one s.turns.start s.turns.end u))
-
--- in that direction no second beyond the limit is one of the season's and of the rule's years
-abbrev pub IsLimit : Bool → Season → ℤ → Type 0
-IsLimit true s limit = IsEarlierOf s.until (pos 67_767_976_170_460_800) limit
-IsLimit false s limit = IsLaterOf s.from (neg_ℤ (pos 67_768_100_504_812_800)) limit
 
 -- the second u comes at `from` or later, and the season's moments decide there
 pub record IsAmidFrom (s : Season) (from u : ℤ) : Type 0 where

@@ -1,5 +1,6 @@
 -- What the code asks of the moments of a year and of its neighbours.
 use Rattle.std.specs.Prelude.{Bool, ◌&&◌, ◌||◌, not, if◌then◌else◌, ℤ, pos, ◌+ℤ◌, ◌-ℤ◌, int_le, int_lt}
+use Rattle.tz_info.specs.declared.rule.season.Turns.{Turns}
 
 -- from the first moment on, and before the last
 abbrev pub is_between : ℤ → ℤ → ℤ → Bool
@@ -14,3 +15,9 @@ abbrev pub is_in_three : (ℤ → ℤ) → (ℤ → ℤ) → ℤ → ℤ → Boo
 is_in_three firsts lasts year u =
     is_between (firsts (year -ℤ pos 1)) (lasts (year -ℤ pos 1)) u || is_between (firsts year) (lasts year) u
     || is_between (firsts (year +ℤ pos 1)) (lasts (year +ℤ pos 1)) u
+
+-- daylight saving time by the moments of a year and of the years before and after it
+abbrev pub dst_by : Turns → Turns → Turns → ℤ → Bool
+dst_by before here after u =
+    if int_le here.start here.end then is_between before.start before.end u || is_between here.start here.end u || is_between after.start after.end u
+    else not (is_between before.end before.start u || is_between here.end here.start u || is_between after.end after.start u)

@@ -6,6 +6,8 @@ ghost use Rattle.tz_base.specs.declared.error.Error.TheVariants.{OutOfRange, Tra
 ghost use Rattle.tz_base.specs.declared.error.Expected.TheVariants.{YearThatRuleAnswersIn};
 ghost use Rattle.tz_info.specs.Rules.{Alternate, expected_of_alternate, IsAlternate, IsAlternateRule};
 
+use crate::change::is_same_type;
+use crate::rule::changing::{any_of, changing_keys, year_key};
 use crate::rule::day::{DayTime, RuleDay};
 use crate::rule::kinds::margin_of;
 use crate::rule::season::is_rule_time;
@@ -26,12 +28,18 @@ pub struct AlternateTime {
     pub(super) ends: [i64; 14],
     // How far inside its year each moment lies at least; below 0, how far outside at most.
     pub(super) margin: i64,
+    // Whether clocks change in a year, by the year's key, if the types differ.
+    pub(super) changing: [bool; 35],
+    // Whether they do in some year.
+    pub(super) is_changing: bool,
 }
 
 impl Model for AlternateTime {
     ghost use Rattle.std.specs.Prelude.{◌≡◌};
     ghost use Rattle.std.proofs.Common.{sym};
     ghost use Rattle.tz_info.specs.Rules.{Alternate, IsAlternateRule};
+    ghost use Rattle.std.specs.List.{list_any};
+    ghost use Rattle.tz_info.specs.Steps.ChangingYears.{changing_keys};
     ghost use Rattle.tz_info.specs.Steps.Kinds.{seconds_by_kind, margin_of};
 
     ghost Value = { Alternate };
@@ -52,7 +60,12 @@ impl Model for AlternateTime {
         × (a.starts ≡ seconds_by_kind a.dst_start a.std_type.offset)
         × (a.ends ≡ seconds_by_kind a.dst_end a.dst_type.offset)
         × (a.margin ≡ margin_of (seconds_by_kind a.dst_start a.std_type.offset)
-        (seconds_by_kind a.dst_end a.dst_type.offset)) };
+        (seconds_by_kind a.dst_end a.dst_type.offset))
+        × (a.changing ≡ changing_keys (seconds_by_kind a.dst_start a.std_type.offset)
+        (seconds_by_kind a.dst_end a.dst_type.offset))
+        × (a.is_changing ≡ list_any (λ b. b)
+        (changing_keys (seconds_by_kind a.dst_start a.std_type.offset)
+        (seconds_by_kind a.dst_end a.dst_type.offset))) };
 
     ghost inverse = { λ a. record {
       std_type = a.std;
@@ -63,6 +76,10 @@ impl Model for AlternateTime {
       ends = seconds_by_kind a.end a.dst.offset;
       margin = margin_of (seconds_by_kind a.start a.std.offset)
           (seconds_by_kind a.end a.dst.offset);
+      changing = changing_keys (seconds_by_kind a.start a.std.offset)
+          (seconds_by_kind a.end a.dst.offset);
+      is_changing = list_any (λ b. b) (changing_keys (seconds_by_kind a.start a.std.offset)
+          (seconds_by_kind a.end a.dst.offset));
     } };
 
     ghost inverse_ok = { λ a h i. record {
@@ -73,6 +90,8 @@ impl Model for AlternateTime {
       starts = sym h.1 i;
       ends = sym h.2 i;
       margin = sym h.3 i;
+      changing = sym h.4 i;
+      is_changing = sym h.5 i;
     } };
 }
 
@@ -115,7 +134,8 @@ impl fmt::Debug for AlternateTime {
 }
 
 impl AlternateTime {
-    ghost use Rattle.tz_info.specs.Moments.{AlternateAt, IsAlternateRefused};
+    ghost use Rattle.tz_info.specs.Moments.{AlternateAt, IsAlternateRefused, IsRuleYear, NeverChanges};
+    ghost use Rattle.tz_info.specs.Steps.AskedYears.{changes_in_year};
 
     /// The rule by which daylight saving time starts on one day and ends on another, each a
     /// number of seconds after the day's midnight: the start on the clock of standard time, the end on that
@@ -154,6 +174,7 @@ impl AlternateTime {
         let starts = start.seconds_by_kind(std.offset());
         let ends = end.seconds_by_kind(dst.offset());
         let margin = margin_of(&starts, &ends);
+        let changing = changing_keys(&starts, &ends);
         Ok(AlternateTime {
             std_type: std,
             dst_type: dst,
@@ -162,6 +183,8 @@ impl AlternateTime {
             starts,
             ends,
             margin,
+            changing,
+            is_changing: any_of(&changing),
         })
     }
 
@@ -183,6 +206,25 @@ impl AlternateTime {
             return Err(Error::OutOfRange(Expected::YearThatRuleAnswersIn));
         }
         Ok(self.type_in(self.season(unix_time), unix_time))
+    }
+
+    // Whether clocks change in the year, or as the next one begins, if the types differ.
+    pub(super) fn changes_in_year(&self, year: i32) -> bool
+        requires { IsRuleYear year }
+        ensures value { result ≡ changes_in_year self.now year }
+        ensures rule { IsAlternateRule self.now }
+    {
+        self.changing[year_key(year)]
+    }
+
+    // Whether no two seconds have different types.
+    pub(crate) fn never_changes(&self) -> bool
+        ensures { IsTrue result ↔ NeverChanges self.now }
+    {
+        if !self.is_changing {
+            return true;
+        }
+        is_same_type(&self.std_type, &self.dst_type)
     }
 
     /// The type of standard time.

@@ -77,7 +77,7 @@ pub(super) fn margin_of(starts: &[i64; 14], ends: &[i64; 14]) -> i64
 
 // Whether in years of each kind the moments lie two days or more from the ends of the year, and
 // come in the order in which they come in years of the first kind.
-fn are_calm(starts: &[i64; 14], ends: &[i64; 14]) -> bool
+pub(super) fn are_calm(starts: &[i64; 14], ends: &[i64; 14]) -> bool
     ensures { result ≡ are_calm starts.now ends.now }
 {
     for kind in 0..14 {

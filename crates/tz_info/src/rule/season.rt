@@ -8,7 +8,7 @@ ghost use Rattle.tz_info.specs.Rules.{IsAlternateRule};
 ghost use Rattle.tz_info.specs.Moments.{IsRuleTime};
 ghost use Rattle.tz_info.specs.Steps.Kinds.{kind_place};
 ghost use Rattle.tz_info.specs.Steps.Seasons.{IsDecidedIn};
-ghost use Rattle.tz_info.specs.Steps.Turns.{is_between, is_dst_by_one};
+ghost use Rattle.tz_info.specs.Steps.Turns.{dst_by, is_between, is_dst_by_one};
 
 use crate::rule::alternate::AlternateTime;
 use crate::rule::kinds::{kind_by, kind_of};
@@ -161,7 +161,7 @@ impl Season {
 
 impl Turns {
     // Whether it is daylight saving time at the second, where no other year's moments matter.
-    fn is_dst(self, unix_time: i64) -> bool
+    pub(super) fn is_dst(self, unix_time: i64) -> bool
         ensures { result ≡ is_dst_by_one self.start self.end unix_time }
     {
         let has_started = self.start <= unix_time;
@@ -202,13 +202,8 @@ impl Turns {
 
 // Whether it is daylight saving time at the second by the moments of its year and of the years
 // before and after it.
-fn is_dst_by_three(before: Turns, here: Turns, after: Turns, unix_time: i64) -> bool
-    ensures { result ≡ (if int_le here.start here.end
-        then is_between before.start before.end unix_time
-        || is_between here.start here.end unix_time || is_between after.start after.end unix_time
-        else not (is_between before.end before.start unix_time
-        || is_between here.end here.start unix_time
-        || is_between after.end after.start unix_time)) }
+pub(super) fn is_dst_by_three(before: Turns, here: Turns, after: Turns, unix_time: i64) -> bool
+    ensures { result ≡ dst_by before here after unix_time }
 {
     if here.is_start_first() {
         is_any(

@@ -7,7 +7,7 @@ ghost use Rattle.naive_base.specs.Range.{IsWide};
 ghost use Rattle.offset_core.specs.LocalResult.{map_of};
 ghost use Rattle.offset_core.specs.WallAnswer.{IsWallAnswer};
 ghost use Rattle.tz_base.specs.LocalTypes.{IsUtOffset};
-ghost use Rattle.tz_timeline.specs.Counts.{RoseWithin, HasRoomFor};
+ghost use Rattle.tz_info.specs.Counts.{RoseWithin, HasRoomFor};
 ghost use Rattle.tz_info.specs.Moments.{type_when};
 ghost use Rattle.tz_info.specs.RuleTypes.{RuleAt};
 ghost use Rattle.tz_info.specs.Rules.{IsAlternateRule};
@@ -22,10 +22,10 @@ ghost use Rattle.tz_info.specs.declared.rule.transition_rule.TransitionRule.TheV
 use crate::answers::{answer_of_two, copied, joined, second_showing};
 use crate::change::HeldChange;
 use crate::rule::{AlternateTime, Season, TransitionRule};
+use crate::timeline::Probes;
 use naive_base::NaiveDateTime;
 use offset_core::MappedLocalTime;
 use tz_base::{Error, LocalTimeType};
-use tz_timeline::Probes;
 
 // A second at which daylight saving time starts, or ends.
 #[derive(Clone, Copy)]

@@ -3,19 +3,22 @@
 //! They do so at moments of the rule, and at a turn of the year where the one moment comes first in
 //! the old year, and the other one in the new. Every 400 years they do so alike.
 
-ghost use Rattle.std.specs.Prelude.{◌≡◌, ◌≤◌, length, ◌≤ℤ◌, IsTrue, ◌↔◌, IfSome, MatchOption, Some};
-ghost use Rattle.tz_info.specs.Changes.{IsChange};
+ghost use Rattle.std.specs.Prelude.{◌≡◌, ◌≤◌, length, pos, ◌≤ℤ◌, ◌-ℤ◌, IsTrue, ◌↔◌, IfSome, MatchOption, Some};
+ghost use Rattle.tz_info.specs.Changes.{HasNoChange, IsChange};
 ghost use Rattle.tz_info.specs.Moments.{AlternateAt, IsRuleYear, IsRuleTime, IsYearOf, type_when};
 ghost use Rattle.tz_info.specs.Rules.{Alternate, IsAlternateRule};
 ghost use Rattle.tz_info.specs.Steps.Beside.{IsMomentAt, IsNearestMomentOf, change_found};
 ghost use Rattle.tz_info.specs.Steps.Changes.{IsAhead, IsIdle, IsInStretch, IsEarlierOf, IsLaterOf, IsNearRuleTime};
 ghost use Rattle.tz_info.specs.Steps.Changes.{IsOfYear, IsOneOf, IsStretchAhead, moments_near, near_end, new_year};
 ghost use Rattle.tz_info.specs.Steps.Changes.{year_at};
+ghost use Rattle.tz_info.specs.Steps.AskedYears.{IsAskedYear, IsNextChanging, HasNoneBeyond, IsYearNear};
+ghost use Rattle.tz_info.specs.Counts.{HasRoomFor, RoseWithin};
 
 use crate::rule::alternate::AlternateTime;
-use crate::rule::beside::nearer;
+use crate::rule::asked::{AskedYear, nearer};
 use crate::rule::season::{FIRST_RULE_TIME, LAST_RULE_TIME, day_of};
 use crate::rule::wall_clock::Moment;
+use crate::timeline::Probes;
 use gregorian::{year_of, year_start};
 
 // The first and the last of the years that a rule answers in.
@@ -31,7 +34,7 @@ pub(super) struct Stretch {
 }
 
 impl Stretch {
-    fn has(self, second: i64) -> bool
+    pub(super) fn has(self, second: i64) -> bool
         ensures { IsTrue result ↔ IsInStretch self.after self.last second }
     {
         self.after < second && second <= self.last
@@ -66,38 +69,96 @@ impl Stretch {
 }
 
 impl AlternateTime {
-    // The nearest moment, year by year.
-    #[inline(never)]
-    pub(super) fn moment_by_years(&self, second: i64, forward: bool) -> Option<Moment>
-        ensures { IsNearestMomentOf forward self.now (IsAhead forward second) result }
+    // The nearest moment. It is asked about the second's year, and about one other year.
+    pub(super) fn nearest_moment(
+        &self,
+        second: i64,
+        forward: bool,
+        probes: &mut Probes,
+    ) -> Option<Moment>
+        requires { HasRoomFor 2 probes.old.rule_questions }
+        ensures nearest { IsNearestMomentOf forward self.now (IsAhead forward second) result }
+        ensures cost { RoseWithin probes.old probes.new 0 2 }
     {
-        self.moment_in_years(stretch_ahead(i64::MIN, second, forward), forward)
+        let asked = self.ask_year_at(rule_time_near(second), probes);
+        self.moment_from(asked, second, forward, probes)
     }
 
-    // The first moment of the stretch, or the last one, year by year. Every 400 years the rule does
-    // the same, so that 401 years are enough.
+    // The nearest moment, if the year of the rule's second nearest to that one was asked about.
+    #[inline(always)]
+    pub(super) fn moment_from(
+        &self,
+        asked: AskedYear,
+        second: i64,
+        forward: bool,
+        probes: &mut Probes,
+    ) -> Option<Moment>
+        requires asked { IsAskedYear self.now asked }
+        requires near { IsYearNear second asked.year }
+        requires room { HasRoomFor 1 probes.old.rule_questions }
+        ensures nearest { IsNearestMomentOf forward self.now (IsAhead forward second) result }
+        ensures cost { RoseWithin probes.old probes.new 0 1 }
+    {
+        let stretch = stretch_ahead(i64::MIN, second, forward);
+        match self.nearest_in(asked, stretch, forward) {
+            Some(moment) => Some(moment),
+            None => self.moment_beyond(asked.year(), second, forward, probes),
+        }
+    }
+
+    // The nearest moment, if the year itself has none that is ahead of the second.
+    #[inline(never)]
+    fn moment_beyond(
+        &self,
+        first: i32,
+        second: i64,
+        forward: bool,
+        probes: &mut Probes,
+    ) -> Option<Moment>
+        requires near { IsYearNear second first }
+        requires none { HasNoChange (AlternateAt self.now)
+            (λ u. IsAhead forward second u × IsYearOf (u -ℤ pos 1) first) }
+        requires room { HasRoomFor 1 probes.old.rule_questions }
+        ensures nearest { IsNearestMomentOf forward self.now (IsAhead forward second) result }
+        ensures cost { RoseWithin probes.old probes.new 0 1 }
+    {
+        let year = self.changing_year(first, forward)?;
+        let asked = self.ask_year(year, probes);
+        self.nearest_in(asked, stretch_ahead(i64::MIN, second, forward), forward)
+    }
+
+    // The nearest year beyond that one in which clocks change. Every 400 years the rule does the
+    // same, so that no more years are looked at. The rule isn't asked about them.
     #[tactic(auto, using(crate::proofs::Ranges::in_range))]
-    fn moment_in_years(&self, stretch: Stretch, forward: bool) -> Option<Moment>
-        ensures { IsNearestMomentOf forward self.now (IsInStretch stretch.after stretch.last) result }
+    fn changing_year(&self, first: i32, forward: bool) -> Option<i32>
+        requires { IsRuleYear first }
+        ensures { MatchOption result (HasNoneBeyond self.now forward first)
+            (IsNextChanging self.now forward first) }
     {
         let _ = &self.std_type;
-        let second = rule_time_near(stretch.near_end(forward));
-        let first = rule_year_of(second);
-        for step in 0..401u32 {
+        if self.never_changes() {
+            return None;
+        }
+        for step in 1..401u32 {
             let year = year_at(first, step, forward);
             if !is_rule_year(year) {
                 return None;
             }
-            match self.nearest_in(year as i32, stretch, forward) {
-                Some(moment) => return Some(moment),
-                None => {}
+            if self.changes_in_year(year as i32) {
+                return Some(year as i32);
             }
         }
         None
     }
 
-    // The same of those for which the second before lies in the year.
-    fn nearest_in(&self, year: i32, stretch: Stretch, forward: bool) -> Option<Moment>
+    // The nearest moment of a year, by its moments and those of its neighbours.
+    #[inline(never)]
+    pub(super) fn nearest_by_three(
+        &self,
+        year: i32,
+        stretch: Stretch,
+        forward: bool,
+    ) -> Option<Moment>
         requires { IsRuleYear year }
         ensures { IsNearestMomentOf forward self.now (IsOfYear stretch.after stretch.last year)
             result }
@@ -200,13 +261,12 @@ fn first_second(year: i32) -> i64
 }
 
 // The year of a second that a rule answers at.
-fn rule_year_of(second: i64) -> i64
+pub(super) fn rule_year_of(second: i64) -> i32
     requires { IsRuleTime second }
     ensures year { IsYearOf second result }
     ensures bound { IsRuleYear result }
 {
-    let day = day_of(second);
-    year_of(day) as i64
+    year_of(day_of(second))
 }
 
 // The second of the rule's years that is nearest to that one.
@@ -224,15 +284,15 @@ fn rule_time_near(second: i64) -> i64
 }
 
 // The year that comes `step` years after the first one, or before it.
-fn year_at(first: i64, step: u32, forward: bool) -> i64
+fn year_at(first: i32, step: u32, forward: bool) -> i64
     requires first { IsRuleYear first }
     requires step { step ≤ 401 }
     ensures { result ≡ year_at forward first step }
 {
     if forward {
-        first + step as i64
+        first as i64 + step as i64
     } else {
-        first - step as i64
+        first as i64 - step as i64
     }
 }
 

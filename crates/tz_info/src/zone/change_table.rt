@@ -1,4 +1,5 @@
-//! A zone's transitions as one list of clock changes by Unix time.
+//! A zone's transitions as one list of clock changes by Unix time. It is made as a [`ChangeList`]. Lookups
+//! have it as a [`ChangeTable`], each of whose looks is counted.
 
 ghost use Rattle.std.specs.Prelude.{◌≡◌, [], ◌+◌, ◌<◌, ◌≤◌, ◌*◌, ◌^◌, length, IsTrue, ◌↔◌, map};
 ghost use Rattle.std.specs.Prelude.{IsFalse, ℤ, ◌+ℤ◌};
@@ -8,39 +9,47 @@ ghost use Rattle.std.specs.Prelude.{vec_capacity, vec_len};
 ghost use Rattle.tz_base.specs.declared.error.Error.TheVariants.{OutOfMemory};
 ghost use Rattle.tz_info.specs.Leaps.{AreLeapSeconds, IsLeapTime, IsLeapTimeRefused, correction_at};
 ghost use Rattle.tz_info.specs.Steps.Entries.{AreBefore, AreEntries, EndsAt, Entries, IsAdded};
-ghost use Rattle.tz_info.specs.Steps.Entries.{IsBetween, IsCome, IsEntryChange, IsStartIn};
+ghost use Rattle.tz_info.specs.Steps.Entries.{IsBetween, IsCome, IsEntryAt, IsEntryChange, IsStartIn};
 ghost use Rattle.tz_info.specs.Steps.Entries.{NeverComes, last_index, most_looks};
 ghost use Rattle.tz_info.specs.Steps.Segments.{index_of};
 ghost use Rattle.tz_info.specs.Steps.Pieces.{zone_in, IsJump, IsPlaced};
-ghost use Rattle.tz_info.specs.Steps.WallPieces.{IsBegun, top_of};
+ghost use Rattle.tz_info.specs.Steps.WallPieces.{IsBegun, IsBegunNear, top_of};
 ghost use Rattle.tz_info.specs.HeldChanges.{change_held};
 ghost use Rattle.tz_info.specs.Transitions.{AreRising, NameTypes, passed};
 ghost use Rattle.tz_info.specs.Zones.{IsValid};
 ghost use Rattle.tz_info.specs.declared.zone.transition.Transition.{Transition};
-ghost use Rattle.tz_timeline.specs.Counts.{HasRoomFor, RoseWithin};
+ghost use Rattle.tz_info.specs.Counts.{HasRoomFor, RoseWithin};
 
 use crate::change::{HeldChange, is_same_type};
 use crate::rule::TransitionRule;
+use crate::timeline::{Probes, Timed};
 use crate::zone::kept::Kept;
 use crate::zone::leap_second::LeapSecond;
 use crate::zone::lookup::{NEAR, has_leap_time};
 use crate::zone::segments::Lists;
 use crate::zone::shown::Shown;
 use crate::zone::starts::first_second;
-use crate::zone::table::Table;
+use crate::zone::table::{Entry, Table};
 use std::alloc::{AllocError, Global};
 use std::marker::Model;
 use tz_base::{Error, LocalTimeType};
-use tz_timeline::{Probes, Timed};
 
 // The transitions by Unix time, without those that change nothing. The last one is kept in any case,
 // since the rule begins there.
 #[derive(Drop)]
-pub(super) struct ChangeTable {
-    entries: Table,
+pub(super) struct ChangeList {
+    items: Vec<Kept>,
     // How many entries have come where all transitions have: more than there are, if never.
     all: usize,
     // The transitions as listed, if these are not the entries.
+    listed: Option<Vec<Kept>>,
+}
+
+// The same for lookups.
+#[derive(Drop)]
+pub(super) struct ChangeTable {
+    entries: Table,
+    all: usize,
     listed: Option<Table>,
 }
 
@@ -63,6 +72,19 @@ pub(super) struct Between {
     pub(super) is_span: bool,
 }
 
+impl Model for ChangeList {
+    ghost use Rattle.std.specs.Prelude.{option_map, unwrap_or};
+    ghost use Rattle.tz_info.specs.Steps.Entries.{Entries};
+
+    ghost Value = { Entries };
+
+    ghost view = { λ l. record {
+      items = l.items.items;
+      all = l.all;
+      transitions = unwrap_or (option_map (λ v. v.items) l.listed) l.items.items;
+    } };
+}
+
 impl Model for ChangeTable {
     ghost use Rattle.std.specs.Prelude.{unwrap_or};
     ghost use Rattle.tz_info.specs.Steps.Entries.{Entries};
@@ -76,15 +98,15 @@ impl Model for ChangeTable {
     } };
 }
 
-impl ChangeTable {
-    // The table of the zone of those lists, which keeps its transitions.
+impl ChangeList {
+    // The list of the zone of those lists, which keeps its transitions.
     pub(super) fn new(
         alloc: Global,
         transitions: Vec<Kept>,
         types: &[LocalTimeType],
         leaps: &[LeapSecond],
         rule: &Option<TransitionRule>,
-    ) -> Result<ChangeTable, Error>
+    ) -> Result<ChangeList, Error>
         requires { IsValid (record {
           transitions = transitions.items;
           types = types.now;
@@ -106,16 +128,94 @@ impl ChangeTable {
         };
         if are_entries(lists) {
             let all = transitions.len();
-            let entries = Table::new(alloc, transitions)?;
-            return Ok(ChangeTable {
-                entries,
+            return Ok(ChangeList {
+                items: transitions,
                 all,
                 listed: None,
             });
         }
         let (items, all) = entries_of(alloc, lists)?;
+        Ok(ChangeList {
+            items,
+            all,
+            listed: Some(transitions),
+        })
+    }
+
+    // The list of a zone without transitions, which takes no memory.
+    pub(super) fn none(alloc: Global) -> ChangeList
+        ensures { result ≡ record { items = []; all = 0; transitions = [] } }
+    {
+        ChangeList {
+            items: Vec::new(alloc),
+            all: 0,
+            listed: None,
+        }
+    }
+
+    // The transitions as listed.
+    pub(super) fn transitions(&self) -> &[Kept]
+        ensures { result.now ≡ self.now.transitions }
+    {
+        match &self.listed {
+            Some(transitions) => transitions,
+            None => &self.items,
+        }
+    }
+
+    // The entries.
+    #[inline(always)]
+    pub(super) fn items(&self) -> &[Kept]
+        ensures { result.now ≡ self.now.items }
+    {
+        &self.items
+    }
+
+    // How many segments between entries are the table's, and not the rule's.
+    pub(super) fn segment_count(&self, rule: &Option<TransitionRule>) -> usize
+        ensures { result ≡ top_of rule.now self.now }
+    {
+        match rule {
+            Some(_) => self.all,
+            None => self.items.len() + 1,
+        }
+    }
+
+    // The second from which the rule is asked, of those of 64 bits: the last one, if it never is.
+    pub(super) fn rule_from(&self) -> i64
+        requires rising { AreRising self.now.items }
+        requires more { length self.now.items ≤ self.now.all }
+        ensures begun { IsBegunNear self.now result }
+        ensures never { 0 < self.now.all → length self.now.items ≡ 0
+            → result ≡ pos 9_223_372_036_854_775_807 }
+    {
+        if self.all == 0 {
+            return i64::MIN;
+        }
+        if self.all > self.items.len() {
+            return i64::MAX;
+        }
+        self.items[self.all - 1].second()
+    }
+}
+
+impl ChangeTable {
+    // The table of that list.
+    pub(super) fn new(alloc: Global, list: ChangeList) -> Result<ChangeTable, Error>
+        requires rising { AreRising list.items }
+        requires listed { AreRising list.transitions }
+        ensures { MatchResult result (λ t. t ≡ list) (λ e. e ≡ OutOfMemory) }
+    {
+        let ChangeList { items, all, listed } = list;
         let entries = Table::new(alloc, items)?;
-        let listed = Some(Table::listed(alloc, transitions));
+        let Some(listed) = listed else {
+            return Ok(ChangeTable {
+                entries,
+                all,
+                listed: None,
+            });
+        };
+        let listed = Some(Table::listed(alloc, listed));
         Ok(ChangeTable {
             entries,
             all,
@@ -184,21 +284,14 @@ impl ChangeTable {
         self.entries.len()
     }
 
-    // The entries.
-    #[inline(always)]
-    pub(super) fn items(&self) -> &[Kept]
-        ensures { result.now ≡ self.now.items }
-    {
-        self.entries.items()
-    }
-
-    // How many segments between entries are the table's, and not the rule's.
-    pub(super) fn segment_count(&self, rule: &Option<TransitionRule>) -> usize
-        ensures { result ≡ top_of rule.now self.now }
+    // Whether the segment at that place is the table's, and not the rule's.
+    pub(super) fn has_segment(&self, place: usize, rule: &Option<TransitionRule>) -> bool
+        requires { place ≤ length self.now.items }
+        ensures { IsTrue result ↔ (place < top_of rule.now self.now) }
     {
         match rule {
-            Some(_) => self.all,
-            None => self.items().len() + 1,
+            Some(_) => place < self.all,
+            None => true,
         }
     }
 
@@ -237,12 +330,28 @@ impl ChangeTable {
         let Shown::Skipped(place) = shown else {
             return None;
         };
-        probes.count_read();
+        let entry = self.entry(types, place - 1, probes);
         Some(HeldChange {
-            before: &types[self.index_after(types, place - 1)],
-            after: &types[self.index_after(types, place)],
-            at: self.second(place - 1),
+            before: &types[entry.before],
+            after: &types[entry.after],
+            at: entry.at,
         })
+    }
+
+    // The entry at that place. One look is counted.
+    #[inline(always)]
+    #[tactic(auto, using(crate::proofs::SegmentLaws::index_next))]
+    pub(super) fn entry(&self, types: &[LocalTimeType], place: usize, probes: &mut Probes) -> Entry
+        requires place { place < length self.now.items }
+        requires some { 0 < length types.now }
+        requires named { NameTypes (length types.now) self.now.items }
+        requires room { HasRoomFor 1 probes.old.reads }
+        ensures entry { IsEntryAt self.now.items place result }
+        ensures before { result.before < length types.now }
+        ensures after { result.after < length types.now }
+        ensures cost { RoseWithin probes.old probes.new 1 0 }
+    {
+        self.entries.entry(place, probes)
     }
 
     // Whether the transitions of the entry at that place are the last ones.
@@ -260,7 +369,7 @@ impl ChangeTable {
         requires { place < length self.now.items }
         ensures { (d : Transition) → result ≡ (slice_index_or self.now.items place d).unix_leap_time }
     {
-        self.entries.item(place).second()
+        self.entries.read(place, &mut Probes::new()).unix_leap_time
     }
 
     // The index of the type in force after the first `count` entries, and before the next.
@@ -287,7 +396,7 @@ impl ChangeTable {
         ensures index { result ≡ index_of self.now.items (place + 1) }
         ensures below { result < length types.now }
     {
-        self.entries.item(place).type_index()
+        self.entries.read(place, &mut Probes::new()).type_index
     }
 
     // The change that comes with the entry at that place, which is not that of the last transition:

@@ -15,6 +15,7 @@ ghost use Rattle.tz_info.specs.declared.rule.transition_rule.TransitionRule.TheV
 
 use crate::change::{HeldChange, change_between, copied, held};
 use crate::rule::{AlternateTime, TransitionRule};
+use crate::timeline::Probes;
 use crate::zone::TimeZone;
 use tz_base::{Change, LocalTimeType};
 
@@ -44,12 +45,12 @@ impl TimeZone {
         ensures { IsFirst (TypeAt self.now) (λ u. after <ℤ u) (option_map change_held result) }
     {
         let _ = &self.changes;
-        match self.last_span_at(after) {
-            Some(_) => None,
-            None => match self.next_in_table(after) {
-                Some(change) => Some(change),
-                None => self.change_by_rule(after, true),
-            },
+        if self.last_span.has_begun(after) {
+            return None;
+        }
+        match self.next_in_table(after) {
+            Some(change) => Some(change),
+            None => self.change_by_rule(after, true),
         }
     }
 
@@ -82,7 +83,7 @@ impl TimeZone {
         if begin > i64::MAX as i128 {
             return None;
         }
-        turns.nearest_change(begin as i64, second, forward)
+        turns.nearest_change(begin as i64, second, forward, &mut Probes::new())
     }
 
     /// The last change of the clocks at that second or before it, or `None` if none comes at such a
@@ -105,7 +106,7 @@ impl TimeZone {
         ensures { IsLast (TypeAt self.now) (λ u. u ≤ℤ before_or_at)
             (option_map change_held result) }
     {
-        if self.last_span.has(before_or_at) {
+        if self.last_span.has_begun(before_or_at) {
             return held(&self.last_span.begin);
         }
         match self.change_by_rule(before_or_at, false) {

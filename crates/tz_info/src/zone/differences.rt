@@ -9,6 +9,7 @@ ghost use Rattle.tz_info.specs.Steps.Differences.{IsListedIf, IsPairUntil};
 ghost use Rattle.tz_info.specs.Zones.{TypeAt};
 
 use crate::change::is_same_type;
+use crate::zone::runs::end_by;
 use crate::zone::time_zone::TimeZone;
 use std::alloc::Global;
 use tz_base::{Error, LocalTimeType};
@@ -62,33 +63,33 @@ impl TimeZone {
         let mut found = Vec::new(alloc);
         let mut at = from;
         while at < until {
-            let end = self.pair_until(other, at, until);
-            let old = *self.type_at(at);
-            let new = *other.type_at(at);
-            list_if_differing(
-                &mut found,
-                Difference {
-                    from: at,
-                    until: end,
-                    old,
-                    new,
-                },
-            )?;
+            let pair = self.pair_at(other, at, until);
+            let end = pair.until;
+            list_if_differing(&mut found, pair)?;
             at = end;
         }
         Ok(found)
     }
 
-    // The first second after it at which either zone has another type in force, or `limit` if that
-    // comes first.
-    fn pair_until(&self, other: &TimeZone, second: i64, limit: i64) -> i64
+    // Both types at the second, up to the first later second at which either zone has another one in
+    // force, or to `limit` if that comes first.
+    fn pair_at(&self, other: &TimeZone, second: i64, limit: i64) -> Difference
         requires near { IsNear second }
         requires limit { IsNear limit }
         requires ahead { second <ℤ limit }
-        ensures { IsPairUntil (TypeAt self.now) (TypeAt other.now) second limit result }
+        ensures from { result.from ≡ second }
+        ensures until { IsPairUntil (TypeAt self.now) (TypeAt other.now) second limit result.until }
+        ensures types { TypeAt self.now second result.old × TypeAt other.now second result.new }
     {
-        let own = self.run_until(second, limit);
-        other.run_until(second, own)
+        let old = self.near_span_at(second);
+        let new = other.near_span_at(second);
+        let own = end_by(old.until, limit);
+        Difference {
+            from: second,
+            until: end_by(new.until, own),
+            old: *old.local_time_type,
+            new: *new.local_time_type,
+        }
     }
 }
 

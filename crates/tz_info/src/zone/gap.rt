@@ -4,7 +4,7 @@ ghost use Rattle.std.specs.Prelude.{MatchOption, option_map, ⊤};
 ghost use Rattle.naive_base.specs.NaiveDateTime.{reading};
 ghost use Rattle.naive_base.specs.Range.{IsWide};
 ghost use Rattle.offset_core.specs.WallAnswer.{IsNeverShown};
-ghost use Rattle.tz_timeline.specs.Counts.{HasRoom};
+ghost use Rattle.tz_info.specs.Counts.{HasRoom};
 ghost use Rattle.tz_info.specs.Around.{AreTypesAround, IsAroundOrBefore, map_both};
 ghost use Rattle.tz_info.specs.HeldChanges.{change_held};
 ghost use Rattle.tz_info.specs.Gaps.{IsTypeBeforeGap, HasGap, IsShown};
@@ -18,11 +18,11 @@ ghost use Rattle.tz_info.specs.Zones.{TypeAt};
 
 use crate::change::HeldChange;
 use crate::rule::Season;
+use crate::timeline::Probes;
 use crate::zone::time_zone::TimeZone;
 use naive_base::NaiveDateTime;
 use offset_core::{Around, MappedLocalTime};
 use tz_base::{Change, LocalTimeType};
-use tz_timeline::Probes;
 
 impl TimeZone {
     /// Returns the local time types in force at the instants at which a clock of this zone shows the

@@ -1,16 +1,16 @@
 //! A zone's index of the wall-clock axis.
 
-ghost use Rattle.std.specs.Prelude.{◌≡◌, pos, ◌<◌, ◌≤◌, ◌^◌, length, MatchResult};
+ghost use Rattle.std.specs.Prelude.{◌≡◌, ◌-◌, ◌<◌, ◌≤◌, ◌^◌, length, slice_index_or, MatchOption, MatchResult};
 ghost use Rattle.tz_base.specs.declared.error.Error.TheVariants.{OutOfMemory};
-ghost use Rattle.tz_timeline.specs.Counts.{RoseByPieces, HasRoomFor};
+ghost use Rattle.tz_info.specs.Counts.{RoseByPieces, RoseWithin, HasRoomFor};
 ghost use Rattle.tz_info.specs.Steps.Entries.{AreEntries, most_looks};
 ghost use Rattle.tz_info.specs.Steps.Pieces.{zone_in, ArePieces};
 ghost use Rattle.tz_info.specs.Steps.SegmentEnds.{AreEnds};
-ghost use Rattle.tz_info.specs.Steps.WallPieces.{answer_at, IsBegunNear, IsCounted, IsIndex, top_of};
-ghost use Rattle.tz_info.specs.Transitions.{AreRising};
+ghost use Rattle.tz_info.specs.Steps.WallPieces.{answer_at, IsCounted, IsIndex, top_of};
 ghost use Rattle.tz_info.specs.Zones.{IsValid};
 
-use crate::zone::change_table::ChangeTable;
+use crate::timeline::{Probes, Timed, Timeline};
+use crate::zone::change_table::ChangeList;
 use crate::zone::one_pass::pieces_in_one_pass;
 use crate::zone::pieces::Piece;
 use crate::zone::segment_ends::maxima_of;
@@ -19,7 +19,6 @@ use crate::zone::shown::Shown;
 use std::alloc::Global;
 use std::marker::Model;
 use tz_base::Error;
-use tz_timeline::{Probes, Timed, Timeline};
 
 // The pieces of a zone's wall-clock axis. A lookup can look at one of them only where the look is
 // counted.
@@ -48,7 +47,7 @@ impl Model for Index {
 }
 
 impl Timed for Piece {
-    ghost use Rattle.tz_timeline.specs.Counts.{pieces_more, pieces_more_on, pieces_more_none, pieces_more_looks};
+    ghost use Rattle.tz_info.specs.Counts.{pieces_more, pieces_more_on, pieces_more_none, pieces_more_looks};
 
     ghost time = { λ p. p.start };
 
@@ -75,7 +74,7 @@ impl Timed for Piece {
 
 impl Index {
     // The index of the zone of those lists and of those entries.
-    pub(super) fn new(alloc: Global, lists: Lists, changes: &ChangeTable) -> Result<Index, Error>
+    pub(super) fn new(alloc: Global, lists: Lists, changes: &ChangeList) -> Result<Index, Error>
         requires valid { IsValid (zone_in lists) }
         requires list { AreEntries (zone_in lists) changes.now }
         ensures { MatchResult result (λ i. IsIndex (zone_in lists.entry) changes.now i)
@@ -99,7 +98,7 @@ impl Index {
     fn of_pieces(
         alloc: Global,
         lists: Lists,
-        changes: &ChangeTable,
+        changes: &ChangeList,
         all: Pieces,
         maxima: Vec<i64>,
     ) -> Result<Index, Error>
@@ -115,12 +114,12 @@ impl Index {
             before: all.before,
             pieces,
             maxima,
-            rule_from: rule_from(changes),
+            rule_from: changes.rule_from(),
         })
     }
 
     // The index of a zone without entries, which takes no memory.
-    pub(super) fn without_pieces(alloc: Global, lists: Lists, changes: &ChangeTable) -> Index
+    pub(super) fn without_pieces(alloc: Global, lists: Lists, changes: &ChangeList) -> Index
         requires valid { IsValid (zone_in lists) }
         requires list { AreEntries (zone_in lists) changes.now }
         requires none { length changes.now.items ≡ 0 }
@@ -136,7 +135,7 @@ impl Index {
             before,
             pieces: Timeline::none(alloc),
             maxima: Vec::new(alloc),
-            rule_from: rule_from(changes),
+            rule_from: changes.rule_from(),
         }
     }
 
@@ -147,13 +146,23 @@ impl Index {
         self.pieces.len()
     }
 
-    // For each segment the latest end of those up to it, or none if each ends later than the one
-    // before.
+    // The latest end of the first `place` segments, which is counted as a look at a transition; none if each
+    // segment ends later than the one before.
     #[inline(always)]
-    pub(super) fn maxima(&self) -> &[i64]
-        ensures { result.now ≡ self.now.maxima }
+    pub(super) fn latest_end(&self, place: usize, probes: &mut Probes) -> Option<i64>
+        requires first { 0 < place }
+        requires place { 0 < length self.now.maxima → place ≤ length self.now.maxima }
+        requires room { HasRoomFor 1 probes.old.reads }
+        ensures end { MatchOption result (length self.now.maxima ≡ 0)
+            (λ e. (0 < length self.now.maxima) × (e ≡ slice_index_or self.now.maxima (place - 1) e)) }
+        ensures cost { RoseWithin probes.old probes.new 1 0 }
+        ensures free { length self.now.maxima ≡ 0 → probes.new ≡ probes.old }
     {
-        &self.maxima
+        if self.maxima.is_empty() {
+            return None;
+        }
+        probes.count_read();
+        Some(self.maxima[place - 1])
     }
 
     // The second from which the zone's rule is asked.
@@ -184,19 +193,4 @@ impl Index {
             None => self.before,
         }
     }
-}
-
-// The second from which the rule is asked, of those of 64 bits: the last one, if it never is.
-fn rule_from(changes: &ChangeTable) -> i64
-    requires rising { AreRising changes.now.items }
-    requires more { length changes.now.items ≤ changes.now.all }
-    ensures begun { IsBegunNear changes.now result }
-    ensures never { 0 < changes.now.all → length changes.now.items ≡ 0
-        → result ≡ pos 9_223_372_036_854_775_807 }
-{
-    let begin = changes.rule_begin();
-    if begin > i64::MAX as i128 {
-        return i64::MAX;
-    }
-    begin as i64
 }

@@ -2,11 +2,11 @@
 
 ghost use Rattle.std.specs.Prelude.{◌≡◌, MatchResult, ⊤};
 
+use crate::timeline::{Probes, Timed};
 use crate::zone::transition::{AsTransition, Transition};
 use std::alloc::{AllocError, Global};
 use std::fmt;
 use std::marker::Model;
-use tz_timeline::{Probes, Timed};
 
 // A transition, its time in two halves: a number of eight bytes would be followed by four more, so
 // that the next one begins at a multiple of eight.
@@ -95,7 +95,7 @@ impl AsTransition for Kept {
 }
 
 impl Timed for Kept {
-    ghost use Rattle.tz_timeline.specs.Counts.{reads_more, reads_more_on, reads_more_none, reads_more_looks};
+    ghost use Rattle.tz_info.specs.Counts.{reads_more, reads_more_on, reads_more_none, reads_more_looks};
 
     ghost time = { λ k. k.unix_leap_time };
 

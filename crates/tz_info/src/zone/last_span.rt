@@ -1,7 +1,7 @@
 //! The span that goes on after a zone's last clock change. It is kept, so that a second in it needs
 //! no search.
 
-ghost use Rattle.std.specs.Prelude.{◌≡◌, ◌≤ℤ◌, ◌<ℤ◌, ◌↔◌, pos, IfSome, IsTrue, None};
+ghost use Rattle.std.specs.Prelude.{◌≡◌, ◌≤ℤ◌, ◌<ℤ◌, ◌↔◌, IfSome, IsTrue};
 ghost use Rattle.naive_base.specs.Range.{IsWide};
 ghost use Rattle.offset_core.specs.WallAnswer.{IsShownOnce};
 ghost use Rattle.tz_info.specs.HeldChanges.{span_held};
@@ -12,18 +12,14 @@ ghost use Rattle.tz_info.specs.Zones.{Zone, TypeAt};
 
 use crate::change::HeldSpan;
 use crate::zone::all_changes::second_before;
-use crate::zone::lookups::LATEST;
+use crate::zone::runs::start_by;
 use crate::zone::starts::cut_at;
 use crate::zone::time_zone::TimeZone;
+use crate::zone::typed::FIRST_OF_RULE;
 use tz_base::{Change, LocalTimeType, Span};
 
-// The first and the last second of the years -2147483646 to 2147483645, for which rules answer.
-const FIRST_OF_RULE: i64 = -67_768_100_504_812_800;
-
-const LAST_OF_RULE: i64 = 67_767_976_170_460_799;
-
-// The span of each second later than `after`, up to `last`. Only one second shows a local time later
-// than `local_after`, and lies in it.
+// The span of each second later than `after`, up to `last`, after which none has a type. Only one second
+// shows a local time later than `local_after`, and lies in it.
 #[derive(Clone, Copy)]
 pub(super) struct LastSpan {
     after: i64,
@@ -60,6 +56,14 @@ impl LastSpan {
     {
         self.after < unix_time && unix_time <= self.last
     }
+
+    // Whether it is known to have begun by that second.
+    #[inline(always)]
+    pub(super) fn has_begun(&self, unix_time: i64) -> bool
+        ensures { IsTrue result ↔ (self.now.after <ℤ unix_time) }
+    {
+        self.after < unix_time
+    }
 }
 
 impl TimeZone {
@@ -73,9 +77,7 @@ impl TimeZone {
         }
     }
 
-    // The span of the last second that has a type, or of `LATEST`, if no change follows, and the first
-    // second has a type or a change begins the span. Mostly a rule of two types goes on to change, as
-    // it does first from where it begins.
+    // The span of the last second that has a type, unless the zone has a rule that changes the clocks.
     fn find_last_span(&self) -> Option<LastSpan>
         ensures { IfSome result (IsLastSpan self.now) }
     {
@@ -83,14 +85,11 @@ impl TimeZone {
         if self.goes_on_to_change() {
             return None;
         }
-        let (first, last) = self.typed_ends(i64::MIN, LATEST);
+        let last = self.last_typed();
         let Ok(span) = self.span_at(last) else {
             return None;
         };
-        if span.until.is_some() {
-            return None;
-        }
-        let after = second_before(self.end_or_typed(span.from, first)?);
+        let after = second_before(start_by(span.from, i64::MIN));
         Some(LastSpan {
             after,
             last,
@@ -100,41 +99,19 @@ impl TimeZone {
         })
     }
 
-    // Whether a rule of two types changes the clocks after it has begun. Only the time that questions
-    // take depends on it.
+    // Whether the zone has a rule that changes the clocks. Only the time that questions take depends
+    // on it.
     fn goes_on_to_change(&self) -> bool {
-        if self.turns().is_none() {
-            return false;
-        }
-        let begin = self.rule_begin();
-        if begin > i64::MAX as i128 {
-            return true;
-        }
-        let from = if begin < FIRST_OF_RULE as i128 {
-            0
-        } else {
-            begin as i64
-        };
-        self.next_held_change(from).is_some()
-    }
-
-    // The first and the last second that a rule of two types answers for, or without one those two.
-    pub(super) fn typed_ends(&self, first: i64, last: i64) -> (i64, i64)
-        requires { pos 10_000_000_000_000 ≤ℤ last }
-        ensures { pos 10_000_000_000_000 ≤ℤ result.1 }
-    {
-        if self.turns().is_some() {
-            (FIRST_OF_RULE, LAST_OF_RULE)
-        } else {
-            (first, last)
+        match self.turns() {
+            Some(turns) => !turns.never_changes(),
+            None => false,
         }
     }
 
     // The last span, if the second is known to lie in it.
     #[inline(always)]
     pub(super) fn last_span_at(&self, unix_time: i64) -> Option<HeldSpan<'_>>
-        ensures { IfSome result (λ s. IsSpanAt (TypeAt self.now) unix_time (span_held s)
-            × (s.until ≡ None)) }
+        ensures { IfSome result (λ s. IsSpanAt (TypeAt self.now) unix_time (span_held s)) }
     {
         let _ = &self.changes;
         if self.last_span.has(unix_time) {

@@ -5,8 +5,8 @@ ghost use Rattle.std.specs.Prelude.{IfOk, IfSome, IsFalse, IsTrue, ◌+ℤ◌, �
 ghost use Rattle.std.specs.Prelude.{MatchOption, MatchResult, Some, None};
 ghost use Rattle.tz_base.specs.declared.error.Error.TheVariants.{FindLocalTimeType};
 ghost use Rattle.tz_base.specs.declared.error.Expected.TheVariants.{YearThatRuleAnswersIn};
-ghost use Rattle.tz_timeline.specs.Counts.{HasRoom, RoseWithin, HasRoomFor};
-ghost use Rattle.tz_timeline.specs.Digits.{digits};
+ghost use Rattle.tz_info.specs.Counts.{HasRoom, RoseWithin, HasRoomFor};
+ghost use Rattle.tz_info.specs.Digits.{digits};
 ghost use Rattle.tz_info.specs.Leaps.{AreLeapSeconds, IsLeapTime, IsLeapTimeRefused, IsNear, correction_at};
 ghost use Rattle.tz_info.specs.Looks.{RoseByInstant};
 ghost use Rattle.tz_info.specs.Questions.{IsAskedAt};
@@ -17,11 +17,11 @@ ghost use Rattle.tz_info.specs.Transitions.{passed};
 ghost use Rattle.tz_info.specs.Zones.{RuleOrType, IsRefusedBy, IsFromLast, TypeAtLeapTime, TypeAt, IsTypeError};
 ghost use Rattle.tz_info.specs.declared.rule.transition_rule.TransitionRule.{TransitionRule};
 
+use crate::timeline::Probes;
 use crate::zone::change_table::Come;
 use crate::zone::leap_time::leap_time;
 use crate::zone::{LeapSecond, TimeZone, Transition};
 use tz_base::{Error, Expected, LocalTimeType};
-use tz_timeline::Probes;
 
 // No leap time of a second up to this one leaves 64 bits, nor of one down to its negative.
 pub(super) const NEAR: i64 = 10_000_000_000_000;

@@ -1,9 +1,10 @@
 //! Lookups at one instant after another, which keep the span of the last ones.
 
 ghost use Rattle.std.specs.Prelude.{◌≡◌, ◌≤ℤ◌, ◌<ℤ◌, ◌↔◌, IfSome, IsTrue, MatchResult};
-ghost use Rattle.tz_info.specs.Steps.Held.{IsEndOrTyped, IsHeld};
+ghost use Rattle.tz_info.specs.Steps.Held.{IsHeld};
 ghost use Rattle.tz_info.specs.Zones.{TypeAt, IsTypeError};
 
+use crate::zone::runs::{end_by, start_by};
 use crate::zone::time_zone::TimeZone;
 use std::marker::Model;
 use tz_base::{Error, LocalTimeType};
@@ -18,11 +19,6 @@ const NEAR_MISSES: u32 = 2;
 
 // One in 256 far instants outside the kept span asks for its span: the first time after 16 others.
 const FIRST_FAR_MISSES: u8 = 240;
-
-// Half of the seconds of 64 bits, so that their leap times can be counted too.
-const EARLIEST: i64 = -4_611_686_018_427_387_904;
-
-pub(super) const LATEST: i64 = 4_611_686_018_427_387_904;
 
 /// A zone's lookups at one instant after another, from [`TimeZone::lookups`].
 ///
@@ -84,8 +80,7 @@ impl TimeZone {
         }
     }
 
-    // The span of the second. One without an end is held as far as `EARLIEST` or `LATEST`, or as
-    // its rule answers.
+    // The span of the second.
     #[inline(never)]
     pub(super) fn held_at(&self, unix_time: i64) -> Option<Held>
         ensures { IfSome result (IsHeld self.now) }
@@ -94,27 +89,11 @@ impl TimeZone {
         let Ok(span) = self.span_at(unix_time) else {
             return None;
         };
-        let (earliest, latest) = self.typed_ends(EARLIEST, LATEST);
-        let first = self.end_or_typed(span.from, earliest)?;
-        let end = self.end_or_typed(span.until, latest)?;
         Some(Held {
-            first,
-            end,
+            first: start_by(span.from, i64::MIN),
+            end: end_by(span.until, i64::MAX),
             local_time_type: span.local_time_type,
         })
-    }
-
-    // The span's end, or without one that second if it has a type.
-    pub(super) fn end_or_typed(&self, end: Option<i64>, second: i64) -> Option<i64>
-        ensures { IfSome result (IsEndOrTyped self.now end) }
-    {
-        if end.is_some() {
-            return end;
-        }
-        match self.find_local_time_type(second) {
-            Ok(_) => Some(second),
-            Err(_) => None,
-        }
     }
 }
 

@@ -19,8 +19,8 @@ pub struct OffsetStretch {
 
 impl TimeZone {
     /// Returns the span of that second as a stretch of one offset, or a part of it from one transition
-    /// to the next. A span without an end is cut 146 billion years from 1970. `None` if the zone has no
-    /// type at that second or at such a cut.
+    /// to the next. A span without an end ends at `i64::MAX` here. `None` if the zone has no type at
+    /// that second.
     pub fn offset_stretch_at(&self, unix_time: i64) -> Option<OffsetStretch>
         ensures { IfSome result (λ s. (u : ℤ) → s.from ≤ℤ u → u <ℤ s.until
             → (t : LocalType) × TypeAt self.now u t × (s.offset ≡ t.offset)) }

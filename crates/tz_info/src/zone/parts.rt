@@ -6,11 +6,11 @@ ghost use Rattle.tz_info.specs.Windows.{IsGreatest, IsLeast, offsets};
 ghost use Rattle.tz_info.specs.Zones.{IsValid, IsRuleOrNone};
 
 use crate::rule::TransitionRule;
+use crate::timeline::Probes;
 use crate::zone::leap_second::LeapSecond;
 use crate::zone::time_zone::TimeZone;
 use crate::zone::transition::Transition;
 use tz_base::LocalTimeType;
-use tz_timeline::Probes;
 
 impl TimeZone {
     /// How many transitions the zone has.

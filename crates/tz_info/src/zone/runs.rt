@@ -4,7 +4,7 @@ ghost use Rattle.std.specs.Prelude.{◌<ℤ◌, ◌≤ℤ◌, ◌↔◌, ℤ};
 ghost use Rattle.tz_info.specs.HeldChanges.{span_held};
 ghost use Rattle.tz_info.specs.Leaps.{IsNear};
 ghost use Rattle.tz_info.specs.Spans.{IsSince, IsSpanAt, IsUntil};
-ghost use Rattle.tz_info.specs.Steps.Runs.{IsFirstOfRun, IsLastOfRun, IsRunUntil};
+ghost use Rattle.tz_info.specs.Steps.Runs.{IsFirstOfRun, IsLastOfRun};
 ghost use Rattle.tz_info.specs.Zones.{TypeAt};
 
 use crate::change::HeldSpan;
@@ -34,18 +34,6 @@ impl TimeZone {
             Ok(span) => span,
             Err(_) => unreachable!(),
         }
-    }
-
-    // The first second after it at which another type is in force, or `limit` if that comes first.
-    pub(super) fn run_until(&self, second: i64, limit: i64) -> i64
-        requires near { IsNear second }
-        requires limit { IsNear limit }
-        requires ahead { second <ℤ limit }
-        ensures { IsRunUntil (TypeAt self.now) second limit result }
-    {
-        let _ = &self.changes;
-        let span = self.near_span_at(second);
-        end_by(span.until, limit)
     }
 }
 

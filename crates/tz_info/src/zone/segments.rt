@@ -8,6 +8,7 @@ ghost use Rattle.tz_info.specs.Steps.WallPieces.{IsTable};
 ghost use Rattle.tz_info.specs.Transitions.{NameTypes};
 
 use crate::rule::TransitionRule;
+use crate::timeline::Timed;
 use crate::zone::kept::Kept;
 use crate::zone::leap_second::LeapSecond;
 use crate::zone::pieces::{Piece, merged};
@@ -15,7 +16,6 @@ use crate::zone::shown::{Shown, together};
 use crate::zone::starts::cut_at;
 use std::alloc::Global;
 use tz_base::{Error, LocalTimeType};
-use tz_timeline::Timed;
 
 // The lists of a zone, lent.
 #[derive(Clone, Copy)]

@@ -13,18 +13,19 @@ ghost use Rattle.tz_info.specs.Steps.Runs.{IsEndWithin, IsNextRun};
 ghost use Rattle.tz_info.specs.Steps.WallPieces.{IsTableLess};
 ghost use Rattle.tz_info.specs.Windows.{rule_offsets};
 ghost use Rattle.tz_info.specs.Zones.{TypeAt};
-ghost use Rattle.tz_timeline.specs.Counts.{HasRoom, RoseWithin};
-ghost use Rattle.tz_timeline.specs.Digits.{digits};
+ghost use Rattle.tz_info.specs.Counts.{HasRoom, RoseWithin};
+ghost use Rattle.tz_info.specs.Digits.{digits};
 
 use crate::answers::second_showing;
 use crate::rule::TransitionRule;
+use crate::timeline::Probes;
 use crate::zone::extremes::Extremes;
 use crate::zone::runs::{end_by, first_of_run, last_of_run, start_by};
-use crate::zone::segment_ends::{first_of, first_reaching, later};
+use crate::zone::segment_ends::later;
+use crate::zone::segment_search::{first_of, first_reaching};
 use crate::zone::time_zone::TimeZone;
 use naive_base::{NaiveDate, NaiveDateTime, NaiveTime};
 use tz_base::LocalTimeType;
-use tz_timeline::Probes;
 
 /// A second of Unix time, and the local time type in force then.
 #[derive(Clone, Copy, Debug, PartialEq, Eq)]
@@ -135,12 +136,9 @@ impl TimeZone {
             (2 * digits (length self.now.transitions)) 0 }
     {
         let _ = (self.extremes.least, self.extremes.greatest);
-        let entries = self.changes.items();
-        let maxima = self.index.maxima();
-        let count = self.changes.segment_count(&self.last_rule);
-        let place = first_reaching(&self.local_types, entries, maxima, local, probes);
-        if place < count {
-            return first_of(&self.local_types, entries, place, local);
+        let place = first_reaching(&self.local_types, &self.changes, &self.index, local, probes);
+        if self.changes.has_segment(place, &self.last_rule) {
+            return first_of(&self.local_types, &self.changes, place, local, probes);
         }
         self.first_by_rule(local)
     }

@@ -1,21 +1,24 @@
 //! Spans: the type in force at an instant, since which change, and until which one.
 //!
 //! One search finds the second's place between transitions, or between moments of the rule. If clocks
-//! change on both sides of that place, these changes are the span's ends.
+//! change on both sides of that place, these changes are the span's ends. The first span begins with the
+//! first second that has a type, and the last one ends after the last such second.
 
-ghost use Rattle.std.specs.Prelude.{◌≡◌, ◌<◌, ◌≤ℤ◌, ◌<ℤ◌, length, option_map, IfSome, MatchOption, MatchResult, Some};
-ghost use Rattle.tz_info.specs.HeldChanges.{change_held, span_held};
+ghost use Rattle.std.specs.Prelude.{◌≡◌, ◌<◌, ◌≤ℤ◌, ◌<ℤ◌, length, IfSome, MatchOption, MatchResult, Some};
+ghost use Rattle.tz_info.specs.HeldChanges.{span_held};
 ghost use Rattle.tz_info.specs.Spans.{IsSpanAt};
 ghost use Rattle.tz_info.specs.Zones.{TypeAt, IsTypeError};
 
-use crate::change::{HeldChange, HeldSpan};
+use crate::change::HeldSpan;
+use crate::timeline::Probes;
 use crate::zone::TimeZone;
 use tz_base::{Error, Span};
 
 impl TimeZone {
-    /// Returns the span of the second of Unix time: the local time type in force, the clock change
-    /// that began it, and the one that ends it, as [`TimeZone::previous_change`] and
-    /// [`TimeZone::next_change`] find them.
+    /// Returns the span of the second of Unix time: the local time type in force, the second since
+    /// when it is, and the first second at which it no longer is. These are the clock changes that
+    /// [`TimeZone::previous_change`] and [`TimeZone::next_change`] find, or else the ends of the
+    /// seconds at which the zone has a type.
     ///
     /// ```
     /// let zone = TimeZone::from_posix_tz(alloc, "EST5EDT,M3.2.0,M11.1.0")?;
@@ -70,7 +73,7 @@ impl TimeZone {
         })
     }
 
-    // The same by a rule of two types, if the second comes after one of its changes: a function of
+    // The same by a rule of two types, if the second lies between two of its changes: a function of
     // its own, so that the other has few values to keep.
     #[inline(never)]
     fn span_from_last(&self, unix_time: i64) -> Result<HeldSpan<'_>, Error>
@@ -81,16 +84,19 @@ impl TimeZone {
         let Some(turns) = self.turns() else {
             return self.span_by_changes(unix_time);
         };
-        let Some(beside) = turns.beside(unix_time) else {
+        let Some(beside) = turns.beside(unix_time, &mut Probes::new()) else {
             return self.span_by_changes(unix_time);
         };
         let Some(from) = if_after(beside.previous, self.rule_begin()) else {
             return self.span_by_changes(unix_time);
         };
+        let Some(until) = beside.next else {
+            return self.span_by_changes(unix_time);
+        };
         Ok(HeldSpan {
             local_time_type: turns.type_when(beside.is_dst),
             from: Some(from),
-            until: beside.next,
+            until: Some(until),
         })
     }
 
@@ -104,16 +110,10 @@ impl TimeZone {
         let local_time_type = self.find_local_time_type(unix_time)?;
         Ok(HeldSpan {
             local_time_type,
-            from: second_of(self.previous_held_change(unix_time)),
-            until: second_of(self.next_held_change(unix_time)),
+            from: self.span_begin(self.previous_held_change(unix_time)),
+            until: self.span_end(self.next_held_change(unix_time)),
         })
     }
-}
-
-fn second_of(change: Option<HeldChange<'_>>) -> Option<i64>
-    ensures { result ≡ option_map (λ c. c.at) (option_map change_held change.entry) }
-{
-    Some(change?.at)
 }
 
 // The second that was found, if it comes after that one.

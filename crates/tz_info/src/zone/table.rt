@@ -1,19 +1,28 @@
-//! The transitions of a zone. A lookup can look at one of them only where the look is counted.
+//! The transitions of a zone. Each call that looks at one of them counts the look.
 
 ghost use Rattle.std.specs.Prelude.{◌≡◌, ◌+◌, ◌<◌, ◌≤◌, [], length, option_map, take, slice_index_or, MatchResult};
 ghost use Rattle.tz_base.specs.declared.error.Error.TheVariants.{OutOfMemory};
-ghost use Rattle.tz_timeline.specs.Counts.{RoseWithin, HasRoomFor};
-ghost use Rattle.tz_timeline.specs.Search.{IsLastOf};
-ghost use Rattle.tz_timeline.specs.Digits.{digits};
+ghost use Rattle.tz_info.specs.Counts.{RoseWithin, HasRoomFor};
+ghost use Rattle.tz_info.specs.Steps.Entries.{IsEntryAt};
+ghost use Rattle.tz_info.specs.Steps.Search.{IsLastOf};
+ghost use Rattle.tz_info.specs.Digits.{digits};
 ghost use Rattle.tz_info.specs.Transitions.{AreRising, passed};
 
+use crate::timeline::{Passed, Probes, Timed, Timeline};
 use crate::zone::kept::Kept;
 use crate::zone::transition::{AsTransition, Transition};
 use std::alloc::Global;
 use std::fmt;
 use std::marker::Model;
 use tz_base::Error;
-use tz_timeline::{Passed, Probes, Timeline};
+
+// A transition: the indexes of the types before it and from it on, and when it comes.
+#[derive(Clone, Copy)]
+pub(super) struct Entry {
+    pub(super) before: usize,
+    pub(super) after: usize,
+    pub(super) at: i64,
+}
 
 // Transitions whose times rise.
 #[derive(Drop)]
@@ -37,7 +46,7 @@ impl Model for Table {
 impl fmt::Debug for Table {
     fn fmt<W: fmt::Write>(&self, f: &mut fmt::Formatter<W>) -> fmt::Result {
         f.debug_struct("Table")
-            .field("entries", &self.entries.items())
+            .field("entries", &self.entries)
             .finish()
     }
 }
@@ -53,7 +62,7 @@ impl PartialEq for Table {
     ghost laws = { partial_equiv_from_equiv (lists_equiv laws-law) };
 
     fn eq(&self, other: &Table) -> bool {
-        self.entries.items() == other.entries.items()
+        self.entries == other.entries
     }
 }
 
@@ -96,7 +105,7 @@ impl Table {
         self.entries.len()
     }
 
-    // The transition at that place. This is the only look that a lookup can take.
+    // The transition at that place.
     #[inline(always)]
     pub(super) fn read(&self, place: usize, probes: &mut Probes) -> Transition
         requires place { place < length self.now }
@@ -107,22 +116,25 @@ impl Table {
         self.entries.read(place, probes).transition()
     }
 
-    // All of them, for what is no lookup.
+    // The transition at that place, and the index of the type before it: 0 before all of them. One look.
     #[inline(always)]
-    pub(super) fn items(&self) -> &[Kept]
-        ensures items { result.now ≡ self.now }
-        ensures rising { AreRising self.now }
-    {
-        self.entries.items()
-    }
-
-    // The same without a count, for what is no lookup.
-    #[inline(always)]
-    pub(super) fn item(&self, place: usize) -> &Kept
+    #[tactic(auto, using(crate::proofs::SegmentLaws::index_next, crate::proofs::SegmentLaws::begin_next))]
+    pub(super) fn entry(&self, place: usize, probes: &mut Probes) -> Entry
         requires place { place < length self.now }
-        ensures { result.now ≡ slice_index_or self.now place result.now }
+        requires room { HasRoomFor 1 probes.old.reads }
+        ensures entry { IsEntryAt self.now place result }
+        ensures count { probes.new ≡ record probes.old { reads = probes.old.reads + 1 } }
     {
-        &self.entries.items()[place]
+        let (before, entry) = self.entries.read_pair(place, probes);
+        let before = match before {
+            Some(before) => before.type_index(),
+            None => 0,
+        };
+        Entry {
+            before,
+            after: entry.type_index(),
+            at: entry.second(),
+        }
     }
 
     // How many transitions come at or before the leap time, and the last of them.

@@ -9,7 +9,7 @@ ghost use Rattle.tz_base.specs.declared.error.Expected.TheVariants.{OffsetAboveI
 ghost use Rattle.tz_info.specs.Zones.{Zone, IsValid, ListFault, IsRuleOrNone, plain_zone, zone_of_rule, zone_of_type};
 
 use crate::rule::TransitionRule;
-use crate::zone::change_table::ChangeTable;
+use crate::zone::change_table::{ChangeList, ChangeTable};
 use crate::zone::extremes::{Extremes, extremes_of};
 use crate::zone::index::Index;
 use crate::zone::kept::{Kept, all_kept};
@@ -169,14 +169,15 @@ impl TimeZone {
           rule = rule;
         }) (λ e. e ≡ OutOfMemory) }
     {
-        let changes = ChangeTable::new(alloc, transitions, &types, &leaps, &rule)?;
+        let list = ChangeList::new(alloc, transitions, &types, &leaps, &rule)?;
         let lists = Lists {
-            transitions: changes.listed().items(),
+            transitions: list.transitions(),
             types: &types,
             leaps: &leaps,
             rule: &rule,
         };
-        let index = Index::new(alloc, lists, &changes)?;
+        let index = Index::new(alloc, lists, &list)?;
+        let changes = ChangeTable::new(alloc, list)?;
         let extremes = extremes_of(&types, &rule);
         let mut zone = TimeZone {
             changes,
@@ -224,17 +225,17 @@ impl TimeZone {
     {
         let alloc = *types.allocator();
         let leaps = Vec::new(alloc);
-        let changes = ChangeTable::none(alloc);
+        let list = ChangeList::none(alloc);
         let lists = Lists {
-            transitions: changes.listed().items(),
+            transitions: list.transitions(),
             types: &types,
             leaps: &leaps,
             rule: &rule,
         };
-        let index = Index::without_pieces(alloc, lists, &changes);
+        let index = Index::without_pieces(alloc, lists, &list);
         let extremes = extremes_of(&types, &rule);
         let mut zone = TimeZone {
-            changes,
+            changes: ChangeTable::none(alloc),
             local_types: types,
             leap_seconds: leaps,
             last_rule: rule,

@@ -7,7 +7,7 @@ ghost use Rattle.naive_base.specs.NaiveDateTime.{reading};
 ghost use Rattle.naive_base.specs.Range.{IsWide};
 ghost use Rattle.offset_core.specs.LocalResult.{map_of};
 ghost use Rattle.offset_core.specs.WallAnswer.{IsWallAnswer};
-ghost use Rattle.tz_timeline.specs.Counts.{HasRoom, RoseWithin, HasRoomFor};
+ghost use Rattle.tz_info.specs.Counts.{HasRoom, RoseWithin, HasRoomFor};
 ghost use Rattle.tz_info.specs.Looks.{RoseByWalk};
 ghost use Rattle.tz_info.specs.Questions.{IsAskedFor};
 ghost use Rattle.tz_info.specs.Steps.Segments.{begin_of, index_of};
@@ -16,11 +16,11 @@ ghost use Rattle.tz_info.specs.WallClocks.{Shows};
 ghost use Rattle.tz_info.specs.Zones.{TypeAt};
 
 use crate::answers::{copied, joined, second_showing};
+use crate::timeline::Probes;
 use crate::zone::{TimeZone, Transition};
 use naive_base::NaiveDateTime;
 use offset_core::MappedLocalTime;
 use tz_base::{Error, LocalTimeType};
-use tz_timeline::Probes;
 
 impl TimeZone {
     /// As [`TimeZone::find_local_time_type_from_local_counted`], by looks at transitions in place

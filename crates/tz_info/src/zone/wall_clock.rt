@@ -6,8 +6,8 @@ ghost use Rattle.naive_base.specs.NaiveDateTime.{reading};
 ghost use Rattle.naive_base.specs.Range.{IsWide};
 ghost use Rattle.offset_core.specs.LocalResult.{map_of};
 ghost use Rattle.offset_core.specs.WallAnswer.{IsWallAnswer};
-ghost use Rattle.tz_timeline.specs.Counts.{HasRoom, RoseByPieces, RoseWithin, HasRoomFor};
-ghost use Rattle.tz_timeline.specs.Digits.{digits};
+ghost use Rattle.tz_info.specs.Counts.{HasRoom, RoseByPieces, RoseWithin, HasRoomFor};
+ghost use Rattle.tz_info.specs.Digits.{digits};
 ghost use Rattle.tz_info.specs.Looks.{RoseByWallClock};
 ghost use Rattle.tz_info.specs.Questions.{IsAskedFor};
 ghost use Rattle.tz_info.specs.WallClocks.{Shows};
@@ -19,12 +19,12 @@ ghost use Rattle.tz_info.specs.Zones.{TypeAt};
 
 use crate::answers::{copied, joined};
 use crate::rule::{Season, TransitionRule};
+use crate::timeline::Probes;
 use crate::zone::shown::Shown;
 use crate::zone::time_zone::TimeZone;
 use naive_base::NaiveDateTime;
 use offset_core::MappedLocalTime;
 use tz_base::{Error, LocalTimeType};
-use tz_timeline::Probes;
 
 impl TimeZone {
     /// Returns the types in force at the instants at which a clock of this zone shows the local time.

@@ -1,4 +1,4 @@
-use Rattle.tz_info.proofs.Words.{SFits, ap, cut_of, refl, rules, sym, to_z-of_z, w64, ◌∙◌}
+use Rattle.tz_info.proofs.Words.{SFits, ap, cut_of, rules, sym, to_z-of_z, w64, ◌∙◌}
 use Rattle.tz_info.proofs.OnePass.{end_before}
 use Rattle.tz_info.proofs.zone.segment_ends.end_of.Goals as goal
 

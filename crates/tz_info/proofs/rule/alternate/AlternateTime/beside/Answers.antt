@@ -1,14 +1,22 @@
-use Rattle.tz_info.proofs.Words.{to_z-of_z}
+use Rattle.tz_info.proofs.Words.{arith, change_found, ints, to_z-of_z}
 use Rattle.tz_info.proofs.rule.alternate.AlternateTime.beside.Goals as goal
 
-pub returns-then-not-changes_in : goal.returns-then-not-changes_in
-returns-then-not-changes_in c = let fs = c.ranges.second in simp to_z-of_z at c.beside_by_years.ensures
-
-pub returns : goal.returns
-returns c =
+pub moment_from-previous-requires-clause-near : goal.moment_from-previous-requires-clause-near
+moment_from-previous-requires-clause-near c =
     let fs = c.ranges.second in
+    simp to_z-of_z (record {
+      near = c.args.second;
+      of_near = simp to_z-of_z at c.ask_year_at-asked.ensures.year;
+      is_near = record { from = λ u is from. from; until = λ u is until. until };
+      inside = c.ask_year_at-asked.ensures.asked.inside;
+    })
+
+pub returns-clause-found : goal.returns-clause-found
+returns-clause-found c =
+    let fs = c.ranges.second in
+    let a = c.args.self.now in
     record {
-      in_force = simp to_z-of_z at c.is_dst_in.ensures;
-      previous = simp to_z-of_z at c.nearest_second.ensures;
-      next = simp to_z-of_z at c.nearest_second-2.ensures;
+      in_force = simp to_z-of_z at c.is_dst_in_year.ensures;
+      previous = (change_found a c.moment_from-previous.result, simp to_z-of_z at c.moment_from-previous.ensures.nearest, c.second_of.ensures a);
+      next = (change_found a c.moment_from-next.result, simp to_z-of_z at c.moment_from-next.ensures.nearest, c.second_of-2.ensures a);
     }

@@ -2,6 +2,7 @@ use Rattle.tz_base.specs.{declared.error.Expected.TheVariants.{EndWithinWeek}}
 use Rattle.tz_info.proofs.Words.{Alternate, DayTime, IsAlternate, IsWithinDay, IsWithinWeek, LocalType, SFits, arith, expected_of_alternate, ints, lt_true}
 use Rattle.tz_info.proofs.Words.{neg_ℤ, pos, refl, rules, seconds_by_kind, subst, to_z-of_z, true, w64, ℤ, ◌<ℤ◌, ◌≡◌}
 use Rattle.tz_info.specs.Rules.{is_strictly_within}
+use Rattle.tz_info.proofs.{KindLaws.{within_years}, Neighbours.{near_years}}
 use Rattle.tz_info.proofs.rule.alternate.AlternateTime.new.Goals as goal
 
 shown : LocalType → LocalType → DayTime → DayTime → Alternate
@@ -12,6 +13,16 @@ same_shown std dst start end a b p q = cc
 
 pub seconds_by_kind-ends-requires-clause-offset : goal.seconds_by_kind-ends-requires-clause-offset
 seconds_by_kind-ends-requires-clause-offset c = grind (arith, ints)
+
+pub changing_keys-changing-requires-clause-starts : goal.changing_keys-changing-requires-clause-starts
+changing_keys-changing-requires-clause-starts c =
+    within_years c.in-Some.start c.args.std.offset c.seconds_by_kind-starts.result c.in-Some.ensures.1
+    (near_years c.in-Some.start c.args.std.offset c.in-Some.ensures.1 c.in-Some.ensures.0 (search rules)) (search rules)
+
+pub changing_keys-changing-requires-clause-ends : goal.changing_keys-changing-requires-clause-ends
+changing_keys-changing-requires-clause-ends c =
+    within_years c.in-Some-at.end c.args.dst.offset c.seconds_by_kind-ends.result c.in-Some-at.ensures.1
+    (near_years c.in-Some-at.end c.args.dst.offset c.in-Some-at.ensures.1 c.in-Some-at.ensures.0 (search rules)) (search rules)
 
 pub invariant_of-result : goal.invariant_of-result
 invariant_of-result c =
@@ -26,6 +37,8 @@ invariant_of-result c =
       starts,
       ends,
       simp to_z-of_z (rw (starts, ends) at c.margin_of-margin.ensures),
+      rw (starts, ends) at c.changing_keys-changing.ensures,
+      rw (rw (starts, ends) at c.changing_keys-changing.ensures) at c.any_of.ensures,
     )
 
 pub returns : goal.returns

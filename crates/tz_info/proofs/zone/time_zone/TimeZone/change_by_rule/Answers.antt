@@ -22,4 +22,4 @@ returns c =
     rule_found c.args.self.now c.in_ok-turns.turns.now c.args.forward c.args.second c.rule_begin-begin.result
     (option_map change_held c.nearest_change.result) (rw
     (← c.self.view_is) c.self.invariant.valid)
-    c.in_ok-turns.ensures c.rule_begin-begin.ensures.begin (simp to_z-of_z at c.nearest_change.ensures)
+    c.in_ok-turns.ensures c.rule_begin-begin.ensures.begin (simp to_z-of_z at c.nearest_change.ensures.nearest)

@@ -6,15 +6,14 @@ returns c =
     let e = c.self.inside.extremes in
     let least : SFits w32 e.least = search rules in
     let greatest : SFits w32 e.greatest = search rules in
-    let first : SFits w64 c.in_ok-end_or_typed.field-0 = search rules in
+    let start : SFits w64 c.start_by.result = search rules in
     let after : SFits w64 c.second_before-after.result = search rules in
     let local_after : SFits w64 c.cut_at.result = search rules in
     let offset : SFits w64 c.from.result = search rules in
     let is_offset : c.from.result ≡ e.greatest = simp to_z-of_z at c.from.ensures in
-    let last : SFits w64 c.typed_ends-first.result.1 = search rules in
-    let far = c.typed_ends-first.ensures in
-    simp to_z-of_z (last_spans c.args.self.now _ c.in_ok-end_or_typed.field-0 e (rw (← c.self.view_is) c.self.invariant.valid)
-    (rw (← c.self.view_is) c.self.invariant.limits) (rw (← c.self.view_is) c.self.invariant.extremes) least greatest after last far
-    (simp to_z-of_z at c.in-Ok.ensures) (search rules) c.in_ok-end_or_typed.ensures
-    (λ u fits later. (simp to_z-of_z at (c.second_before-after.ensures u (omega (arith, ints)))).0 later)
+    let last : SFits w64 c.last_typed-last.result = search rules in
+    simp to_z-of_z (last_spans c.args.self.now _ e (rw (← c.self.view_is) c.self.invariant.valid)
+    (rw (← c.self.view_is) c.self.invariant.extremes) least greatest after last c.last_typed-last.ensures
+    (simp to_z-of_z at c.in-Ok.ensures)
+    (λ u fits later. ((c.start_by.ensures u).0 ((simp to_z-of_z at (c.second_before-after.ensures u (omega (arith, ints)))).0 later)).1)
     (rw is_offset at (simp to_z-of_z at c.cut_at.ensures)) (simp to_z-of_z at c.previous_change.ensures))

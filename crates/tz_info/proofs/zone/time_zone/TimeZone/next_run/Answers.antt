@@ -9,7 +9,7 @@ returns c =
     let here = rw c.end.ensures at (simp to_z-of_z at c.near_span_at-span.ensures.inside) in
     record {
       run = simp to_z-of_z (next_run c.args.forward _ c.args.left.low c.args.left.high c.start_by.result c.end_by.result c.requires.some here starts ends);
-      one_type = simp to_z-of_z (one_type c.args.self.now _ c.args.left.low c.args.left.high c.start_by.result c.end_by.result (rw (← c.self.view_is) c.self.invariant.valid) (rw (← c.self.view_is) c.self.invariant.limits)
+      one_type = simp to_z-of_z (one_type c.args.self.now _ c.args.left.low c.args.left.high c.start_by.result c.end_by.result
           c.requires.low c.requires.high c.near_span_at-span.ensures.span starts ends);
     }
 

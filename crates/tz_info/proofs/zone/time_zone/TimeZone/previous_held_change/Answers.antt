@@ -14,8 +14,7 @@ returns-in-None c =
     (rw (← c.self.view_is) c.self.invariant.valid)
     (simp to_z-of_z at c.in-None.ensures) (simp to_z-of_z at c.previous_in_table.ensures)
 
-pub returns-then-has : goal.returns-then-has
-returns-then-has c =
+pub returns-then-has_begun : goal.returns-then-has_begun
+returns-then-has_begun c =
     let fa = c.ranges.before_or_at in
-    let inside = simp to_z-of_z at (c.has.ensures.0 c.if-has.true) in
-    rw (← c.self.view_is, c.held.ensures) (c.self.invariant.last.begins c.args.before_or_at fa inside.0 inside.1)
+    rw (← c.self.view_is, c.held.ensures) (c.self.invariant.last.begins c.args.before_or_at fa (simp to_z-of_z at (c.has_begun.ensures.0 c.if-has_begun.true)))

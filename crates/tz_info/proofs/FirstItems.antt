@@ -1,0 +1,64 @@
+-- Lists whose first n items pass a test and whose others do not, and functions that rise from place to place.
+use Rattle.tz_info.proofs.SearchWords.{Bool, List, add-suc, add-zero, ap, arith, cond, count_by, false, filter, get_or, int_le, int_lt, ints, length, refl, suc}
+use Rattle.tz_info.proofs.SearchWords.{sum_by-cons, take, true, zero, ℕ, ℤ, [], ◌+◌, ◌-◌, ◌<ℤ◌, ◌<◌, ◌∙◌, ◌∷◌, ◌≡◌, ◌≤ℤ◌, ◌≤◌}
+
+-- the first n items pass
+abbrev pub PassFirst : {X : Type 0} → (X → Bool) → List X → ℕ → Type 0
+PassFirst {X} p xs n = (k : ℕ) (d : X) → k < n → p (get_or xs k d) ≡ true
+
+-- the items from place n on fail
+abbrev pub FailFrom : {X : Type 0} → (X → Bool) → List X → ℕ → Type 0
+FailFrom {X} p xs n = (k : ℕ) (d : X) → n ≤ k → k < length xs → p (get_or xs k d) ≡ false
+
+pub filter_first : {X : Type 0} (p : X → Bool) (xs : List X) (n : ℕ) → n ≤ length xs → PassFirst p xs n → FailFrom p xs n → filter p xs ≡ take n xs
+filter_first p [] zero h passes fails = refl
+filter_first p [] (suc n) h passes fails = absurd (omega arith)
+filter_first p (x ∷ xs) zero h passes fails =
+    rw (fails 0 x (omega arith) (omega arith)) (filter_first p xs zero (omega arith) (λ k d l. absurd (omega arith)) (λ k d l u. fails (suc k) d (omega arith) (omega arith)))
+filter_first p (x ∷ xs) (suc n) h passes fails =
+    rw (passes 0 x (omega arith)) (ap (λ ys. x ∷ ys) (filter_first p xs n (omega arith) (λ k d l. passes (suc k) d (omega arith)) (λ k d l u. fails (suc k) d (omega arith) (omega arith))))
+
+pub count_first : {X : Type 0} (p : X → Bool) (xs : List X) (n : ℕ) → n ≤ length xs → PassFirst p xs n → FailFrom p xs n → count_by p xs ≡ n
+count_first p [] n h passes fails = omega arith
+count_first p (x ∷ xs) zero h passes fails =
+    let rest = count_first p xs zero (omega arith) (λ k d l. absurd (omega arith)) (λ k d l u. fails (suc k) d (omega arith) (omega arith)) in
+    sum_by-cons (λ x. cond (p x) 1 0) x xs ∙ rw (fails 0 x (omega arith) (omega arith)) (omega arith)
+count_first p (x ∷ xs) (suc n) h passes fails =
+    let rest = count_first p xs n (omega arith) (λ k d l. passes (suc k) d (omega arith)) (λ k d l u. fails (suc k) d (omega arith) (omega arith)) in
+    sum_by-cons (λ x. cond (p x) 1 0) x xs ∙ rw (passes 0 x (omega arith)) (omega arith)
+
+pub count_least : {X : Type 0} (p : X → Bool) (xs : List X) (n : ℕ) → n ≤ length xs → PassFirst p xs n → n ≤ count_by p xs
+count_least p xs zero h passes = omega arith
+count_least p [] (suc n) h passes = absurd (omega arith)
+count_least p (x ∷ xs) (suc n) h passes =
+    let rest = count_least p xs n (omega arith) (λ k d l. passes (suc k) d (omega arith)) in
+    rw (sum_by-cons (λ x. cond (p x) 1 0) x xs, passes 0 x (omega arith)) (omega arith)
+
+rises_by : (f : ℕ → ℤ) (n : ℕ) → ((i : ℕ) → suc i < n → f i ≤ℤ f (suc i)) → (i k : ℕ) → i + k < n → f i ≤ℤ f (i + k)
+rises_by f n step i zero h = rw add-zero (omega (arith, ints))
+rises_by f n step i (suc k) h = rw add-suc (let r = rises_by f n step i k (omega arith) in let s = step (i + k) (omega arith) in omega (arith, ints))
+
+-- what does not fall from place to place does not fall
+pub rises : (f : ℕ → ℤ) (n : ℕ) → ((i : ℕ) → suc i < n → f i ≤ℤ f (suc i)) → (i k : ℕ) → i ≤ k → k < n → f i ≤ℤ f k
+rises f n step i k h l = let e : i + (k - i) ≡ k = omega arith in rw e at (rises_by f n step i (k - i) (omega arith))
+
+pub le_true : (a b : ℤ) → a ≤ℤ b → int_le a b ≡ true
+le_true a b h = grind (arith, ints)
+
+pub le_false : (a b : ℤ) → b <ℤ a → int_le a b ≡ false
+le_false a b h = grind (arith, ints)
+
+pub le_is : (a b : ℤ) → int_le a b ≡ true → a ≤ℤ b
+le_is a b h = grind (arith, ints)
+
+pub le_is_not : (a b : ℤ) → int_le a b ≡ false → ¬ (a ≤ℤ b)
+le_is_not a b h l = let t = le_true a b l in cc
+
+pub lt_true : (a b : ℤ) → a <ℤ b → int_lt a b ≡ true
+lt_true a b h = grind (arith, ints)
+
+pub lt_is : (a b : ℤ) → int_lt a b ≡ true → a <ℤ b
+lt_is a b h = grind (arith, ints)
+
+pub lt_false : (a b : ℤ) → b ≤ℤ a → int_lt a b ≡ false
+lt_false a b h = grind (arith, ints)

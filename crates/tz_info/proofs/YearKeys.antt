@@ -1,0 +1,234 @@
+-- Years of one key have changes at the same places.
+use Rattle.std.proofs.{Math.Dec.{eqb}, lemmas.Bool.{eqb-true}}
+use Rattle.tz_info.proofs.Words.{Bool, List, all_below, and_parts, ap, arith, cond, false, floor_div, floor_mod, floor_mod_parts, floors, get_or, int_le}
+use Rattle.tz_info.proofs.Words.{int_lt, length}
+use Rattle.tz_info.proofs.Words.{ints, is_between, is_leap, kind_place, pos, refl, sym, true, weekday_below, weekday_of, year_start, year_step, ℕ, ℤ}
+use Rattle.tz_info.proofs.Words.{◌*ℤ◌, ◌+ℤ◌, ◌-ℤ◌, ◌&&◌, ◌<◌, ◌∙◌, ◌≡◌, ◌≤ℤ◌}
+use Rattle.tz_info.specs.Steps.ChangingYears.{dst_near, flips_at, has_flip, is_changing, key_years, leap_place, moment_by, turns_in, year_key, years_near}
+use Rattle.tz_info.specs.Steps.Turns.{dst_by}
+use Rattle.tz_info.specs.declared.{rule.changing.YearsNear.{YearsNear}, rule.season.Turns.{Turns}}
+use Rattle.tz_info.proofs.ListLaws.{one_true}
+
+-- ---- the same seconds, all as much later
+between_later : (x y u k : ℤ) → is_between (x +ℤ k) (y +ℤ k) (u +ℤ k) ≡ is_between x y u
+between_later x y u k = grind (arith, ints)
+
+le_later : (x y k : ℤ) → int_le (x +ℤ k) (y +ℤ k) ≡ int_le x y
+le_later x y k = grind (arith, ints)
+
+lt_later : (x y k : ℤ) → int_lt (x +ℤ k) (y +ℤ k) ≡ int_lt x y
+lt_later x y k = grind (arith, ints)
+
+moved : Turns → ℤ → Turns
+moved t k = record { start = t.start +ℤ k; end = t.end +ℤ k }
+
+dst_moved : (a b c : Turns) (u k : ℤ) → dst_by (moved a k) (moved b k) (moved c k) (u +ℤ k) ≡ dst_by a b c u
+unfolding moved
+dst_moved a b c u k =
+    rw (
+      le_later b.start b.end k,
+      between_later a.start a.end u k,
+      between_later b.start b.end u k,
+      between_later c.start c.end u k,
+      between_later a.end a.start u k,
+      between_later b.end b.start u k,
+      between_later c.end c.start u k,
+    ) refl
+
+all_moved : YearsNear → ℤ → YearsNear
+all_moved y k = record {
+  before = moved y.before k;
+  here = moved y.here k;
+  after = moved y.after k;
+  later = moved y.later k;
+  first = y.first +ℤ k;
+  next = y.next +ℤ k;
+}
+
+near_moved : (y : YearsNear) (u k : ℤ) → dst_near (all_moved y k) (u +ℤ k) ≡ dst_near y u
+unfolding all_moved
+near_moved y u k = rw (lt_later u y.next k, dst_moved y.before y.here y.after u k, dst_moved y.here y.after y.later u k) refl
+
+flip_moved : (y : YearsNear) (u k : ℤ) → flips_at (all_moved y k) (u +ℤ k) ≡ flips_at y u
+unfolding all_moved
+flip_moved y u k =
+    let e : (u +ℤ k) -ℤ pos 1 ≡ (u -ℤ pos 1) +ℤ k = omega (arith, ints) in
+    rw (e, le_later u y.first k, lt_later y.next u k, near_moved y u k, near_moved y (u -ℤ pos 1) k) refl
+
+has_moved : (y : YearsNear) (k : ℤ) → has_flip (all_moved y k) ≡ has_flip y
+unfolding all_moved moved
+has_moved y k =
+    rw (
+      flip_moved y y.before.start k,
+      flip_moved y y.before.end k,
+      flip_moved y y.here.start k,
+      flip_moved y y.here.end k,
+      flip_moved y y.after.start k,
+      flip_moved y y.after.end k,
+      flip_moved y y.next k,
+    ) refl
+
+-- ---- years of one key
+-- one of four years is a leap year at most
+record LeapsAlike (x y : ℤ) : Type 0 where
+  before : is_leap (x -ℤ pos 1) ≡ is_leap (y -ℤ pos 1)
+  here : is_leap x ≡ is_leap y
+  after : is_leap (x +ℤ pos 1) ≡ is_leap (y +ℤ pos 1)
+  later : is_leap (x +ℤ pos 2) ≡ is_leap (y +ℤ pos 2)
+
+leap_fourth : (z : ℤ) → is_leap z ≡ true → floor_mod z 4 ≡ 0
+leap_fourth z h = eqb-true (floor_mod z 4) 0 (and_parts _ _ h).0
+
+one_leap : (z w : ℤ) (n : ℕ) → w ≡ z +ℤ pos n → 0 < n → n < 4 → is_leap z ≡ true → is_leap w ≡ true → ⊥
+one_leap z w n e low high h k =
+    let a = leap_fourth z h in let b = leap_fourth w k in
+    let c = floor_mod_parts z 4 (omega arith) in let d = floor_mod_parts w 4 (omega arith) in omega (arith, ints)
+
+-- of such tests, which hold at one place at most, the place tells each
+abbrev place_of : Bool → Bool → Bool → Bool → ℕ
+place_of a b c d = cond a 0 (cond b 1 (cond c 2 (cond d 3 4)))
+
+IsSolo : Bool → Bool → Bool → Bool → Type 0
+IsSolo a b c d = (a ≡ true → b ≡ true → ⊥) × (a ≡ true → c ≡ true → ⊥) × (a ≡ true → d ≡ true → ⊥) × (b ≡ true → c ≡ true → ⊥) × (b ≡ true → d ≡ true → ⊥) ×
+    (c ≡ true → d ≡ true → ⊥)
+
+test_at : ℕ → ℕ → Bool
+test_at k n = eqb k n
+
+solo_at : (a b c d : Bool) → IsSolo a b c d
+    → (a ≡ test_at 0 (place_of a b c d)) × (b ≡ test_at 1 (place_of a b c d)) × (c ≡ test_at 2 (place_of a b c d)) × (d ≡ test_at 3 (place_of a b c d))
+unfolding IsSolo test_at
+solo_at true true c d h = absurd (h.0 refl refl)
+solo_at true false true d h = absurd (h.1 refl refl)
+solo_at true false false true h = absurd (h.2 refl refl)
+solo_at true false false false h = (refl, refl, refl, refl)
+solo_at false true true d h = absurd (h.3 refl refl)
+solo_at false true false true h = absurd (h.4 refl refl)
+solo_at false true false false h = (refl, refl, refl, refl)
+solo_at false false true true h = absurd (h.5 refl refl)
+solo_at false false true false h = (refl, refl, refl, refl)
+solo_at false false false true h = (refl, refl, refl, refl)
+solo_at false false false false h = (refl, refl, refl, refl)
+
+leaps_solo : (x : ℤ) → IsSolo (is_leap (x -ℤ pos 1)) (is_leap x) (is_leap (x +ℤ pos 1)) (is_leap (x +ℤ pos 2))
+unfolding IsSolo
+leaps_solo x = (
+  one_leap (x -ℤ pos 1) x 1 (omega (arith, ints)) (omega arith) (omega arith),
+  one_leap (x -ℤ pos 1) (x +ℤ pos 1) 2 (omega (arith, ints)) (omega arith) (omega arith),
+  one_leap (x -ℤ pos 1) (x +ℤ pos 2) 3 (omega (arith, ints)) (omega arith) (omega arith),
+  one_leap x (x +ℤ pos 1) 1 refl (omega arith) (omega arith),
+  one_leap x (x +ℤ pos 2) 2 refl (omega arith) (omega arith),
+  one_leap (x +ℤ pos 1) (x +ℤ pos 2) 1 (omega (arith, ints)) (omega arith) (omega arith),
+)
+
+leaps_alike : (x y : ℤ) → leap_place x ≡ leap_place y → LeapsAlike x y
+leaps_alike x y e =
+    let a = solo_at (is_leap (x -ℤ pos 1)) (is_leap x) (is_leap (x +ℤ pos 1)) (is_leap (x +ℤ pos 2)) (leaps_solo x) in
+    let b = solo_at (is_leap (y -ℤ pos 1)) (is_leap y) (is_leap (y +ℤ pos 1)) (is_leap (y +ℤ pos 2)) (leaps_solo y) in
+    let at : (k : ℕ) → test_at k (leap_place x) ≡ test_at k (leap_place y) = λ k. ap (λ n. test_at k n) e in
+    record { before = a.0 ∙ at 0 ∙ sym b.0; here = a.1 ∙ at 1 ∙ sym b.1; after = a.2 ∙ at 2 ∙ sym b.2; later = a.3 ∙ at 3 ∙ sym b.3 }
+
+leap_places : (x y : ℤ) → year_key x ≡ year_key y → (leap_place x ≡ leap_place y) × (weekday_of (year_start x) ≡ weekday_of (year_start y))
+leap_places x y e = grind (arith, floors)
+
+-- the one year's days are those of the other one, whole weeks later
+weeks : (s t : ℤ) → weekday_of s ≡ weekday_of t → (q : ℤ) × (t ≡ s +ℤ pos 7 *ℤ q)
+weeks s t e =
+    let a = floor_mod_parts (s +ℤ pos 4) 7 (omega arith) in let b = floor_mod_parts (t +ℤ pos 4) 7 (omega arith) in
+    (floor_div (t +ℤ pos 4) 7 -ℤ floor_div (s +ℤ pos 4) 7, omega (arith, ints))
+
+weekday_on : (s q : ℤ) → weekday_of (s +ℤ pos 7 *ℤ q) ≡ weekday_of s
+weekday_on s q = grind arith
+
+kind_same : (x y : ℤ) (q : ℤ) → is_leap x ≡ is_leap y → year_start y ≡ year_start x +ℤ pos 7 *ℤ q → kind_place y ≡ kind_place x
+kind_same x y q leap start = rw (← leap, start, weekday_on (year_start x) q) refl
+
+moment_moved : (seconds : List ℤ) (x y q : ℤ) → is_leap x ≡ is_leap y → year_start y ≡ year_start x +ℤ pos 7 *ℤ q
+    → moment_by seconds y ≡ moment_by seconds x +ℤ pos 86_400 *ℤ (pos 7 *ℤ q)
+moment_moved seconds x y q leap start = rw (kind_same x y q leap start) (omega (arith, ints))
+
+turns_moved : (starts ends : List ℤ) (x y q : ℤ) → is_leap x ≡ is_leap y → year_start y ≡ year_start x +ℤ pos 7 *ℤ q
+    → turns_in (moment_by starts) (moment_by ends) y ≡ moved (turns_in (moment_by starts) (moment_by ends) x) (pos 86_400 *ℤ (pos 7 *ℤ q))
+unfolding moved
+turns_moved starts ends x y q leap start = rw (moment_moved starts x y q leap start, moment_moved ends x y q leap start) refl
+
+-- the years beside them begin as many weeks later too
+record StartsAlike (x y q : ℤ) : Type 0 where
+  before : year_start (y -ℤ pos 1) ≡ year_start (x -ℤ pos 1) +ℤ pos 7 *ℤ q
+  after : year_start (y +ℤ pos 1) ≡ year_start (x +ℤ pos 1) +ℤ pos 7 *ℤ q
+  later : year_start (y +ℤ pos 2) ≡ year_start (x +ℤ pos 2) +ℤ pos 7 *ℤ q
+
+next_alike : (x y q : ℤ) → is_leap x ≡ is_leap y → year_start y ≡ year_start x +ℤ pos 7 *ℤ q → year_start (y +ℤ pos 1) ≡ year_start (x +ℤ pos 1) +ℤ pos 7 *ℤ q
+next_alike x y q leap start = let a = year_step x in let b = rw (← leap) at (year_step y) in omega (arith, floors)
+
+starts_alike : (x y q : ℤ) → LeapsAlike x y → year_start y ≡ year_start x +ℤ pos 7 *ℤ q → StartsAlike x y q
+starts_alike x y q leaps start =
+    let after = next_alike x y q leaps.here start in
+    let e : (x +ℤ pos 1) +ℤ pos 1 ≡ x +ℤ pos 2 = omega (arith, ints) in
+    let f : (y +ℤ pos 1) +ℤ pos 1 ≡ y +ℤ pos 2 = omega (arith, ints) in
+    let g : (x -ℤ pos 1) +ℤ pos 1 ≡ x = omega (arith, ints) in
+    let h : (y -ℤ pos 1) +ℤ pos 1 ≡ y = omega (arith, ints) in
+    let a = rw g at (year_step (x -ℤ pos 1)) in let b = rw (h, ← leaps.before) at (year_step (y -ℤ pos 1)) in
+    record { before = omega (arith, floors); after = after; later = rw (e, f) at (next_alike (x +ℤ pos 1) (y +ℤ pos 1) q leaps.after after) }
+
+near_alike : (starts ends : List ℤ) (x y q : ℤ) → LeapsAlike x y → year_start y ≡ year_start x +ℤ pos 7 *ℤ q
+    → years_near (moment_by starts) (moment_by ends) y ≡ all_moved (years_near (moment_by starts) (moment_by ends) x) (pos 86_400 *ℤ (pos 7 *ℤ q))
+unfolding all_moved
+near_alike starts ends x y q leaps start =
+    let s = starts_alike x y q leaps start in
+    let first : pos 86_400 *ℤ year_start y ≡ pos 86_400 *ℤ year_start x +ℤ pos 86_400 *ℤ (pos 7 *ℤ q) = rw start (omega (arith, ints)) in
+    let next : pos 86_400 *ℤ year_start (y +ℤ pos 1) ≡ pos 86_400 *ℤ year_start (x +ℤ pos 1) +ℤ pos 86_400 *ℤ (pos 7 *ℤ q) = rw s.after (omega (arith, ints)) in
+    let a = turns_moved starts ends (x -ℤ pos 1) (y -ℤ pos 1) q leaps.before s.before in
+    let b = turns_moved starts ends x y q leaps.here start in
+    let c = turns_moved starts ends (x +ℤ pos 1) (y +ℤ pos 1) q leaps.after s.after in
+    let d = turns_moved starts ends (x +ℤ pos 2) (y +ℤ pos 2) q leaps.later s.later in
+    rw (a, b, c, d, first, next) refl
+
+by_calm : (starts ends : List ℤ) (calm : Bool) (x y q : ℤ) → LeapsAlike x y → year_start y ≡ year_start x +ℤ pos 7 *ℤ q
+    → is_changing starts ends calm y ≡ is_changing starts ends calm x
+by_calm starts ends true x y q leaps start = rw (kind_same x y q leaps.here start) refl
+by_calm starts ends false x y q leaps start = ap (λ n. has_flip n) (near_alike starts ends x y q leaps start)
+    ∙ has_moved (years_near (moment_by starts) (moment_by ends) x) (pos 86_400 *ℤ (pos 7 *ℤ q))
+
+-- they change alike
+pub changing_alike : (starts ends : List ℤ) (calm : Bool) (x y : ℤ) → year_key x ≡ year_key y → is_changing starts ends calm y ≡ is_changing starts ends calm x
+changing_alike starts ends calm x y e =
+    let (places, weekday) = leap_places x y e in
+    let leaps = leaps_alike x y places in
+    let (q, start) = weeks (year_start x) (year_start y) weekday in
+    by_calm starts ends calm x y q leaps start
+
+-- the year of each key has that key
+each_key : all_below 35 (λ k. eqb (year_key (get_or key_years k (pos 0))) k) ≡ true
+unfolding key_years year_start
+each_key = refl
+
+pub own_key : (k : ℕ) → k < 35 → year_key (get_or key_years k (pos 0)) ≡ k
+own_key k h = eqb-true _ k (one_true 35 k (λ k. eqb (year_key (get_or key_years k (pos 0))) k) h each_key)
+
+pub key_count : length key_years ≡ 35
+unfolding key_years
+key_count = refl
+
+each_bound : all_below 35 (λ k. int_le (pos 2000) (get_or key_years k (pos 0)) && int_le (get_or key_years k (pos 0)) (pos 2299)) ≡ true
+unfolding key_years
+each_bound = refl
+
+pub year_bounds : (k : ℕ) → k < 35 → (pos 2000 ≤ℤ get_or key_years k (pos 0)) × (get_or key_years k (pos 0) ≤ℤ pos 2299)
+year_bounds k h =
+    let at = get_or key_years k (pos 0) in
+    let (low, high) = and_parts (int_le (pos 2000) at) (int_le at (pos 2299))
+    (one_true 35 k (λ k. int_le (pos 2000) (get_or key_years k (pos 0)) && int_le (get_or key_years k (pos 0)) (pos 2299)) h each_bound) in
+    (grind (arith, ints), grind (arith, ints))
+
+place_below : (a b c d : Bool) → place_of a b c d < 5
+place_below true b c d = omega arith
+place_below false true c d = omega arith
+place_below false false true d = omega arith
+place_below false false false true = omega arith
+place_below false false false false = omega arith
+
+pub key_below : (year : ℤ) → year_key year < 35
+key_below year =
+    let place = place_below (is_leap (year -ℤ pos 1)) (is_leap year) (is_leap (year +ℤ pos 1)) (is_leap (year +ℤ pos 2)) in
+    let weekday = weekday_below (year_start year) in omega arith

@@ -1,0 +1,70 @@
+use Rattle.tz_info.proofs.SearchWords.{AreRaised, List, SFits, arith, drop, item_time, length, length-map, length-replicate, map, pos, rules, take}
+use Rattle.tz_info.proofs.SearchWords.{take-append-le, take_all, to_z-of_z, w64, ℕ, ◌++◌, ◌+◌, ◌-ℤ◌, ◌-◌, ◌/◌, ◌^◌, ◌∙◌, ◌≡◌}
+use Rattle.tz_info.proofs.{HintLaws.{first_least, hints_made, raised_rising, slots}, SearchSteps.{time_read}, timeline.hints.Hints.new.Given.{Over}}
+use Rattle.tz_info.proofs.timeline.hints.Hints.new.Goals.{After-deref, After-deref_mut}
+use Rattle.tz_info.proofs.timeline.hints.Hints.new.Goals as goal
+
+-- the first item's time, and the span
+first_is : (g : Over) (c : After-deref_mut g) → c.second-first.result ≡ item_time (map g.T.Timed.time c.args.items.now) 0
+first_is g c = c.second-first.ensures ∙ time_read g.T.Timed.time c.args.items.now 0 c.index-items-0.result (omega arith) c.index-items-0.is
+
+span_is : (g : Over) (c : After-deref_mut g) → pos c.seconds_between-span.result ≡ item_time (map g.T.Timed.time c.args.items.now) (length (map g.T.Timed.time c.args.items.now) - 1) -ℤ c.second-first.result
+span_is g c =
+    let fs : SFits w64 c.second.result = search rules in
+    let ff : SFits w64 c.second-first.result = search rules in
+    let long = length-map c.args.items.now g.T.Timed.time in
+    let last = c.second.ensures ∙ time_read g.T.Timed.time c.args.items.now (length c.args.items.now - 1) c.index-items-count.result (omega arith) c.index-items-count.is in
+    let between = simp to_z-of_z at c.seconds_between-span.ensures in grind arith
+
+zeros_count : (g : Over) (c : After-deref_mut g) → length c.deref_mut.result.now ≡ c.seconds_between-span.result / 2 ^ c.shift_for-shift.result + 2
+zeros_count g c = grind (arith, length-replicate)
+
+pub mark-requires-clause-first : goal.mark-requires-clause-first
+mark-requires-clause-first g c = λ k h.
+    let ff : SFits w64 c.second-first.result = search rules in
+    let long = length-map c.args.items.now g.T.Timed.time in
+    simp to_z-of_z (first_least _ c.second-first.result k c.requires (first_is g c) (omega arith))
+
+pub mark-requires-clause-room : goal.mark-requires-clause-room
+mark-requires-clause-room g c = λ k h.
+    let ff : SFits w64 c.second-first.result = search rules in
+    let long = length-map c.args.items.now g.T.Timed.time in
+    let slot = slots (map g.T.Timed.time c.args.items.now) c.second-first.result c.seconds_between-span.result c.shift_for-shift.result k c.requires (first_is g c) (span_is g c) (omega arith) in
+    let count = zeros_count g c in grind (arith, to_z-of_z)
+
+-- what a slice of all numbers was written to
+written : (len : ℕ) (new old : List ℕ) → length new ≡ len → take len (new ++ drop (length new) old) ≡ new
+written len new old e = take-append-le len new (drop (length new) old) (omega arith) ∙ take_all len new (omega arith)
+
+-- the numbers that were raised are those that were marked
+raised : (g : Over) (c : After-deref g) → length c.deref_mut.result.now ≡ c.seconds_between-span.result / 2 ^ c.shift_for-shift.result + 2
+    → AreRaised c.mark.new.places c.raise.new.numbers
+raised g c count = let same = c.mark.ensures.length in grind (arith, written)
+
+-- and are kept
+kept : (g : Over) (c : After-deref g) → length c.deref_mut.result.now ≡ c.seconds_between-span.result / 2 ^ c.shift_for-shift.result + 2
+    → c.deref.result.now ≡ c.raise.new.numbers
+kept g c count = let same = c.mark.ensures.length in grind (arith, raised, written)
+
+pub most_between-most-requires : goal.most_between-most-requires
+most_between-most-requires g c =
+    let count = zeros_count g (goal.at.most_between-most-requires g c).After-deref_mut in
+    rw (kept g c count) (raised_rising c.mark.new.places c.raise.new.numbers (raised g c count))
+
+pub returns : goal.returns
+returns g c =
+    let at = (goal.at.returns g c).After-deref_mut in
+    let end = (goal.at.returns g c).After-deref in
+    let ff : SFits w64 c.second-first.result = search rules in
+    let long = length-map c.args.items.now g.T.Timed.time in
+    let count = zeros_count g at in
+    let m = simp to_z-of_z at c.mark.ensures in
+    let same = m.length in
+    let size = c.in_ok-places.ensures.len in
+    let as_raised = raised g end count in
+    let as_long = as_raised.count in
+    let steps = rw (kept g end count) at c.most_between-most.ensures in
+    hints_made _ _ c.second-first.result c.seconds_between-span.result c.most_between-most.result c.mark.new.places c.requires (omega arith)
+    c.shift_for-shift.ensures.shift (first_is g at) (span_is g at) (omega arith) (rw long m.marked)
+    (rw (written c.in_ok-places.places.len c.raise.new.numbers _ (omega arith)) as_raised)
+    (rw (written c.in_ok-places.places.len c.raise.new.numbers _ (omega arith)) steps) (omega arith)

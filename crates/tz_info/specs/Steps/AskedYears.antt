@@ -1,0 +1,55 @@
+-- A rule is asked about years: which one is asked, and which one next.
+use Rattle.std.specs.Prelude.{◌≡◌, Bool, true, if◌then◌else◌, ℤ, pos, ◌-ℤ◌}
+use Rattle.tz_base.specs.declared.change.Change.{Change}
+use Rattle.tz_info.specs.Changes.{IsChange, Precedes}
+use Rattle.tz_info.specs.Moments.{AlternateAt, IsRuleYear, IsYearOf, end_in, start_in}
+use Rattle.tz_info.specs.Rules.{Alternate, IsAlternateRule}
+use Rattle.tz_info.specs.Steps.Changes.{IsNearRuleTime, year_at}
+use Rattle.tz_info.specs.Steps.ChangingYears.{is_changing}
+use Rattle.tz_info.specs.Steps.Kinds.{are_calm, seconds_by_kind}
+use Rattle.tz_info.specs.declared.rule.asked.AskedYear.{AskedYear}
+
+-- whether clocks change in the year, by a rule whose types differ
+abbrev pub changes_in_year : Alternate → ℤ → Bool
+changes_in_year a year =
+    is_changing (seconds_by_kind a.start a.std.offset) (seconds_by_kind a.end a.dst.offset)
+    (are_calm (seconds_by_kind a.start a.std.offset) (seconds_by_kind a.end a.dst.offset)) year
+
+-- all moments of the rule keep away from the ends of their years
+abbrev pub IsCalmRule : Alternate → Type 0
+IsCalmRule a = are_calm (seconds_by_kind a.start a.std.offset) (seconds_by_kind a.end a.dst.offset) ≡ true
+
+-- when daylight saving time starts in the year, or ends
+abbrev pub turn_of : Alternate → Bool → ℤ → ℤ
+turn_of a to_dst year = if to_dst then start_in a year else end_in a year
+
+-- the rule was asked about the year
+pub record IsAskedYear (a : Alternate) (asked : AskedYear) : Type 0 where
+  pub rule : IsAlternateRule a
+  pub inside : IsRuleYear asked.year
+  pub start : asked.turns.start ≡ start_in a asked.year
+  pub end : asked.turns.end ≡ end_in a asked.year
+
+-- the second of the rule's years that is nearest to that one lies in the year
+pub record IsYearNear (second year : ℤ) : Type 0 where
+  pub near : ℤ
+  pub of_near : IsYearOf near year
+  pub is_near : IsNearRuleTime second near
+  pub inside : IsRuleYear year
+
+-- the changes beyond the year `first` in that direction come in the year or beyond it, if the second before each counts
+abbrev pub AreFrom : Alternate → Bool → ℤ → ℤ → Type 0
+AreFrom a w first year =
+    (d : Change) → IsChange (AlternateAt a) d → (y : ℤ) → IsYearOf (d.at -ℤ pos 1) y → Precedes w (year_at w first 1) y → Precedes w year y
+
+-- there are none
+abbrev pub HasNoneBeyond : Alternate → Bool → ℤ → Type 0
+HasNoneBeyond a w first =
+    (d : Change) → IsChange (AlternateAt a) d → (y : ℤ) → IsYearOf (d.at -ℤ pos 1) y → Precedes w (year_at w first 1) y → ⊥
+
+-- the first year beyond that one in which clocks change
+pub record IsNextChanging (a : Alternate) (w : Bool) (first year : ℤ) : Type 0 where
+  pub inside : IsRuleYear year
+  pub beyond : Precedes w (year_at w first 1) year
+  pub from : AreFrom a w first year
+  pub changes : changes_in_year a year ≡ true

@@ -1,0 +1,52 @@
+-- From which second on, and up to which one, a zone has a type.
+use Rattle.std.specs.Prelude.{ℤ, pos, ◌≡◌, ◌-ℤ◌, ◌≤ℤ◌, ◌<ℤ◌, FitsSigned, Option, Some, MatchOption}
+use Rattle.std.specs.Int.{w64}
+use Rattle.tz_base.specs.LocalTypes.{LocalType}
+use Rattle.tz_base.specs.declared.change.Change.{Change}
+use Rattle.tz_info.specs.Leaps.{least_time}
+use Rattle.tz_info.specs.Zones.{Zone, TypeAt}
+
+-- the zone has a type at the second u
+abbrev pub IsTyped : Zone → ℤ → Type 0
+IsTyped z u = (t : LocalType) × TypeAt z u t
+
+-- it has one, and none just before it
+pub record IsFirstTyped (z : Zone) (u : ℤ) : Type 0 where
+  pub fits : FitsSigned w64 (u -ℤ pos 1)
+  pub typed : IsTyped z u
+  pub before : ¬ (IsTyped z (u -ℤ pos 1))
+
+-- it has none, and one just before it
+pub record IsAfterTyped (z : Zone) (u : ℤ) : Type 0 where
+  pub fits : FitsSigned w64 u
+  pub typed : IsTyped z (u -ℤ pos 1)
+  pub after : ¬ (IsTyped z u)
+
+-- it has one, and none at a later second; that is far from now
+pub record IsLastTyped (z : Zone) (u : ℤ) : Type 0 where
+  pub typed : IsTyped z u
+  pub none : (v : ℤ) → FitsSigned w64 v → u <ℤ v → ¬ (IsTyped z v)
+  pub far : pos 10_000_000_000_000 ≤ℤ u
+
+-- a known second that has a type, far from now, and a later one that has none
+pub record IsSearched (z : Zone) (known end : ℤ) : Type 0 where
+  pub typed : IsTyped z known
+  pub not : ¬ (IsTyped z end)
+  pub far : pos 10_000_000_000_000 ≤ℤ known
+  pub less : known <ℤ end
+
+-- the first second that has a type, or nothing if the first one of 64 bits has one
+abbrev pub IsTypedFrom : Zone → Option ℤ → Type 0
+IsTypedFrom z from = MatchOption from (IsTyped z least_time) (IsFirstTyped z)
+
+-- the second after the last one that has a type, or nothing if the last one of 64 bits has one
+abbrev pub IsTypedUntil : Zone → Option ℤ → Type 0
+IsTypedUntil z until = MatchOption until (IsTyped z (pos 9_223_372_036_854_775_807)) (IsAfterTyped z)
+
+-- the second of the change that begins a span, or without one the first second that has a type
+abbrev pub IsBeginBy : Zone → Option Change → Option ℤ → Type 0
+IsBeginBy z change from = MatchOption change (IsTypedFrom z from) (λ c. from ≡ Some c.at)
+
+-- the second of the change that ends a span, or without one that after the last one that has a type
+abbrev pub IsEndBy : Zone → Option Change → Option ℤ → Type 0
+IsEndBy z change until = MatchOption change (IsTypedUntil z until) (λ c. until ≡ Some c.at)

@@ -1,4 +1,0 @@
-pub mod Counts
-pub mod Digits
-pub mod Search
-pub mod Steps

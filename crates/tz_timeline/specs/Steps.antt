@@ -1,3 +1,0 @@
--- Steps of the proofs: what private functions ensure. No public contract cites a page of this folder.
-pub mod Hints
-pub mod Search
