@@ -14,7 +14,7 @@ pub record IsLeft (plan : ℤ → Type 0) (before day : ℤ) (from : ℕ) : Type
 pub all_left : (plan : ℤ → Type 0) (day : ℤ) (from : ℕ) → from ≤ 86_400 → IsLeft plan (second_before day from) day from
 all_left plan day from in_day = record { in_day = in_day; later = omega (arith, ints); left = λ m planned later. omega (arith, ints) }
 
-on_its_day : (on : ℤ → ℕ → Type 0) (day m : ℤ) → floor_div m 86_400 ≡ day → IsPlannedOnItsDay on m → on day (floor_mod m 86_400)
+pub on_its_day : (on : ℤ → ℕ → Type 0) (day m : ℤ) → floor_div m 86_400 ≡ day → IsPlannedOnItsDay on m → on day (floor_mod m 86_400)
 on_its_day on day m is planned = subst (λ (d : ℤ). on d (floor_mod m 86_400)) is planned
 
 pub none_on_day : (on : ℤ → ℕ → Type 0) (before day : ℤ) (from : ℕ) → IsLeft (IsPlannedOnItsDay on) before day from → HasNoSecondFrom (on day) from

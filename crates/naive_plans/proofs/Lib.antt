@@ -1,2 +1,11 @@
 mod DayWalk
 mod CronWalk
+mod RuleParts
+mod Periods
+mod OccasionWalk
+mod OccasionsBack
+mod RuleTimes
+mod Counted
+mod TimeLists
+mod Selected
+mod MinuteSteps

@@ -1,4 +1,8 @@
 pub mod Plans
 pub mod DayPlans
+pub mod PlanSets
 pub mod Cron
+pub mod RecurrenceRules
+pub mod AllowedRules
+pub mod RecurrenceSets
 pub mod Steps

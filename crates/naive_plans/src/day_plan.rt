@@ -119,7 +119,7 @@ fn last_local_until<D: ReversibleDayPlan>(
 }
 
 // The local time at a second of a date.
-fn at_second(date: NaiveDate, second: u32) -> NaiveDateTime
+pub(crate) fn at_second(date: NaiveDate, second: u32) -> NaiveDateTime
     requires { second < 86_400 }
     ensures { reading result ≡ reading_at (day_of date) second 0 }
 {
@@ -144,7 +144,7 @@ fn date_after(date: NaiveDate) -> Option<NaiveDate>
 }
 
 // The date before, which may be the buffer day before the range.
-fn date_before(date: NaiveDate) -> Option<NaiveDate>
+pub(crate) fn date_before(date: NaiveDate) -> Option<NaiveDate>
     ensures { MatchOption result (IsWideDay (day_of date -ℤ pos 1) → ⊥)
         (λ last. day_of last ≡ (day_of date -ℤ pos 1)) }
 {

@@ -7,8 +7,15 @@
 
 mod cron;
 mod day_plan;
+mod occasions;
 mod plan;
+mod recurrence;
+mod rule;
+mod sets;
 
 pub use cron::Cron;
 pub use day_plan::{DayPlan, ReversibleDayPlan, last_local_time, next_local_time};
 pub use plan::{Plan, ReversiblePlan};
+pub use recurrence::{Recurrence, RecurrenceEnd, RecurrenceError};
+pub use rule::{Frequency, NthWeekday, RecurrenceRule};
+pub use sets::{Except, Intersection, LocalTimes, Union};

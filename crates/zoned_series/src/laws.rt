@@ -27,7 +27,8 @@ pub fn one_item<Tz: TimeZone>()
         → IsItem (Tz.law zone) s n d → IsMissing (Tz.law zone) s n e → ⊥ }
 {}
 
-/// A clone of a series is that series except for a clone of its zone, and so is one of its items.
+/// A clone of a series is that series except for a clone of its zone, and so is one of its items. They
+/// don't fail unless the clone of the zone does.
 pub fn clones<Tz: TimeZone>(
     a: &DailySeries<Tz>,
     b: &DailySeries<Tz>,
@@ -41,6 +42,10 @@ pub fn clones<Tz: TimeZone>(
         × ((items_of d.now).end ≡ (items_of c.now).end)
         × ((items_of d.now).series
         ≡ record (items_of c.now).series { zone = (items_of d.now).series.zone }) }
+    ensures series_infallible { Tz.is_infallible (series_of a.now).zone
+        → ⟦<DailySeries<Tz> as Clone>⟧.is_infallible a.now }
+    ensures items_infallible { Tz.is_infallible (items_of c.now).series.zone
+        → ⟦<DailyItems<Tz> as Clone>⟧.is_infallible c.now }
 {}
 
 /// As many items are left as lie between the next one and the end: a step gives none only

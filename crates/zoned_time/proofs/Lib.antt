@@ -5,6 +5,7 @@ pub mod DayStarts
 pub mod DayEnds
 pub mod ReachedTimes
 pub mod FireTimes
+pub mod RunMoves
 pub mod ForCallers
 pub mod Homes
 pub mod Instants

@@ -4,6 +4,7 @@ pub mod Days
 pub mod DayEnds
 pub mod Fields
 pub mod Fires
+pub mod Moves
 pub mod Order
 pub mod Reached
 pub mod Relocal

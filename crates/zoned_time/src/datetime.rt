@@ -16,6 +16,7 @@ mod print;
 mod stamps;
 
 use crate::{Offset, TimeZone};
+pub use arithmetic::AsInstant;
 pub use constants::{MAX_DATETIME, MIN_DATETIME};
 use naive_base::NaiveDateTime;
 use std::alloc::AllocError;

@@ -4,6 +4,7 @@ ghost use Rattle.std.specs.Iterator.{at_most};
 ghost use Rattle.zoned_time.specs.DateTime.{zoned};
 ghost use Rattle.zoned_time.specs.Fires.{GivesFire, fires_between, left_of, seconds_left};
 
+use crate::moves::fire_until;
 use crate::{DateTime, Utc, ZoneDays};
 use naive_plans::Plan;
 use std::iter::FusedIterator;
@@ -40,10 +41,7 @@ impl<Tz: ZoneDays, P: Plan + Drop> Iterator for Fires<Tz, P> {
     ghost remaining = { λ s. at_most (seconds_left (left_of s)) };
 
     fn next(&mut self) -> Option<DateTime<Tz>> {
-        let next = self.zone.next_fire(&self.plan, &self.after)?;
-        if next.timestamp() > self.until.timestamp() {
-            return None;
-        }
+        let next = fire_until(&self.zone, &self.plan, &self.after, &self.until)?;
         self.after = next.to_utc();
         Some(next)
     }

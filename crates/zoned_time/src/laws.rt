@@ -3,7 +3,7 @@
 pub mod days;
 pub mod fires;
 
-ghost use Rattle.std.specs.Prelude.{◌≡◌, ◌↔◌, ◌++◌, ◌⊎◌, IsTrue, ℕ, ℤ, Option, Some, SomeIff, FitsSigned};
+ghost use Rattle.std.specs.Prelude.{◌≡◌, ◌↔◌, ◌++◌, ◌⊎◌, [], IsTrue, ℕ, ℤ, Option, Some, SomeIff, FitsSigned};
 ghost use Rattle.std.specs.Hash as fed;
 ghost use Rattle.std.specs.declared.cmp.Ordering.TheVariants.{Less, Equal};
 ghost use Rattle.std.specs.Int.{w64};
@@ -63,9 +63,10 @@ pub fn earlier_is_less()
     ensures equal { (a b : Reading) → (compared a b ≡ Equal) ↔ (a ≡ b) }
 {}
 
-/// UTC is one zone.
+/// UTC is one zone, of which a hash writes nothing.
 pub fn one_utc(a: &Utc, b: &Utc)
     ensures equal { IsTrue (⟦<Utc as PartialEq>⟧.eq a.now b.now) }
+    ensures hashed { ⟦<Utc as Hash>⟧.hash_input a.now ≡ [] }
     ensures one { a.now ≡ b.now }
     ensures infallible { ⟦<Utc as Clone>⟧.is_infallible a.now }
 {}

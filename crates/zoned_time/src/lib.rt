@@ -6,6 +6,7 @@ mod fires;
 mod fixed;
 mod fixed_days;
 pub mod laws;
+mod moves;
 mod naive_zoned;
 mod offset;
 mod reached;
@@ -14,8 +15,9 @@ mod time_zone;
 mod utc;
 mod zone_days;
 
-pub use datetime::{DateTime, MAX_DATETIME, MIN_DATETIME};
+pub use datetime::{AsInstant, DateTime, Instant, MAX_DATETIME, MIN_DATETIME};
 pub use fires::Fires;
+pub use moves::{Move, Moves, moved};
 pub use naive_zoned::NaiveZoned;
 pub use offset::Offset;
 pub use offset_core::{Around, ResolveError, Taken};

@@ -4,7 +4,7 @@ ghost use Rattle.offset_core.specs.LocalResult.{map_of};
 ghost use Rattle.offset_core.specs.TimeDelta.{nanos_of};
 ghost use Rattle.naive_base.specs.NaiveDateTime.{reading};
 ghost use Rattle.naive_base.specs.Range.{IsInRange};
-ghost use Rattle.naive_base.specs.Reading.{moved, difference};
+ghost use Rattle.naive_base.specs.Reading.{Reading, moved, difference};
 ghost use Rattle.zoned_time.specs.DateTime.{zoned, home_law_of};
 ghost use Rattle.zoned_time.specs.Relocal.{IsRelocal};
 ghost use Rattle.zoned_time.specs.Zoned.{IsAt, IsAtInRange};
@@ -63,15 +63,45 @@ impl<Tz: TimeZone> DateTime<Tz> {
     }
 }
 
+/// An instant of any zone, or a reference to one.
+pub trait AsInstant {
+    // its UTC date-time
+    ghost utc: { Self → Reading };
+
+    /// Returns its UTC date-time.
+    fn as_utc(&self) -> NaiveDateTime
+        ensures { reading result ≡ utc self.now };
+}
+
+impl<Tz, O: Offset> AsInstant for Instant<Tz, O> {
+    ghost utc = { λ d. (zoned d).utc };
+
+    fn as_utc(&self) -> NaiveDateTime {
+        self.datetime
+    }
+}
+
+impl<'a, Tz, O: Offset> AsInstant for &'a Instant<Tz, O> {
+    ghost utc = { λ d. (zoned d.now).utc };
+
+    fn as_utc(&self) -> NaiveDateTime {
+        self.datetime
+    }
+}
+
 impl<Tz, O: Offset> Instant<Tz, O> {
-    /// Returns the time from another instant to this one, negative if this one is earlier. The two
-    /// may be in different zones.
+    /// Returns the time from another instant to this one, negative if this one is earlier. The other
+    /// is given by value or by reference, and may be in another zone.
     ///
     /// An instant's own leap second counts if its second of the day, in UTC, is less than the
     /// other's.
-    pub fn signed_duration_since<Tz2: TimeZone>(&self, rhs: &DateTime<Tz2>) -> TimeDelta
-        ensures { nanos_of result ≡ difference (zoned self.now).utc (zoned rhs.now).utc }
+    ///
+    /// ```
+    /// let hour = Utc.timestamp(3_600, 0).signed_duration_since(Utc.timestamp(0, 0)); // an hour
+    /// ```
+    pub fn signed_duration_since<R: AsInstant + Copy>(&self, rhs: R) -> TimeDelta
+        ensures { nanos_of result ≡ difference (zoned self.now).utc (R.utc rhs) }
     {
-        self.datetime.signed_duration_since(rhs.naive_utc())
+        self.datetime.signed_duration_since(rhs.as_utc())
     }
 }

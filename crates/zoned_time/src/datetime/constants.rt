@@ -6,11 +6,11 @@ ghost use Rattle.zoned_time.specs.Stamps.{in_utc};
 ghost use Rattle.zoned_time.specs.Zoned.{IsFixedFrom};
 
 use super::DateTime;
-use crate::Utc;
+use crate::{TimeZone, Utc};
 use naive_base::NaiveDateTime;
 use offset_core::FixedOffset;
 
-impl DateTime<Utc> {
+impl<Tz: TimeZone> DateTime<Tz> {
     /// The first instant, at [`NaiveDateTime::MIN`] in UTC.
     #[allow(non_snake_case)]
     pub fn MIN_UTC() -> DateTime<Utc>
@@ -26,7 +26,9 @@ impl DateTime<Utc> {
     {
         DateTime::from_naive_utc_and_offset(NaiveDateTime::MAX, Utc)
     }
+}
 
+impl DateTime<Utc> {
     /// 1970-01-01 00:00:00 UTC.
     #[allow(non_snake_case)]
     pub fn UNIX_EPOCH() -> DateTime<Utc>

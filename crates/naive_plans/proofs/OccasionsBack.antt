@@ -1,0 +1,142 @@
+-- The walk back over the times that a rule's parts let through.
+use Rattle.naive_base.proofs.Words.{MatchOption, None, Option, Some, arith, by_lt_z, date_is, date_only, day_number, floor_div, floor_mod, floors}
+use Rattle.naive_base.proofs.Words.{ints, pos, unsigned_abs, ℕ, ℤ, ◌*◌, ◌*ℤ◌, ◌+ℤ◌, ◌+◌, ◌-ℤ◌, ◌-◌, ◌/◌, ◌<ℤ◌, ◌<◌, ◌≡◌, ◌≤ℤ◌, ◌≤◌}
+use Rattle.naive_base.proofs.Words.{day_of_month, days_in_month, is_leap, month_of, year_of}
+use Rattle.naive_base.proofs.Words.{nat_tests}
+use Rattle.std.proofs.{Common.{Bool}}
+use Rattle.naive_plans.proofs.DayWalk.{IsLeftBefore}
+use Rattle.naive_plans.specs.DayPlans.{HasNoSecondUntil, IsLastSecondUntil, IsPlannedOnItsDay}
+use Rattle.naive_plans.specs.Plans.{HasNoneUntil}
+use Rattle.naive_base.proofs.Words.{weekday_number}
+use Rattle.naive_plans.proofs.Periods.{long_before}
+use Rattle.naive_plans.specs.Steps.OccasionSteps.{IsCounted, IsSkippedBack, IsTimeOn}
+use Rattle.naive_plans.specs.Steps.RuleSteps.{IsNextPeriod, own_period}
+use Rattle.naive_plans.specs.RecurrenceRules.{HasHour, HasMinute, HasMonth, IsOccasion, IsOccasionOn, IsOnDate}
+use Rattle.naive_plans.specs.declared.rule.RecurrenceRule.{RecurrenceRule}
+
+-- ---- seconds of a day
+pub hour_back : (r : RecurrenceRule) (start day : ℤ) (second : ℕ) → (HasHour r (floor_mod start 86_400) second → ⊥)
+    → IsSkippedBack (IsTimeOn r start day) second (second / 3600 * 3600)
+hour_back r start day second not = record {
+  earlier = omega arith;
+  none = λ k on le. let other : k / 3600 ≡ second / 3600 → ⊥ = λ same. not (rw same at on.hour) in grind (arith, other);
+}
+
+pub minute_back : (r : RecurrenceRule) (start day : ℤ) (second : ℕ) → (HasMinute r (floor_mod start 86_400) second → ⊥)
+    → IsSkippedBack (IsTimeOn r start day) second (second / 60 * 60)
+minute_back r start day second not = record {
+  earlier = omega arith;
+  none = λ k on le. let other : k / 60 ≡ second / 60 → ⊥ = λ same. not (rw same at on.minute) in grind (arith, other);
+}
+
+pub one_back : (on : ℕ → Type 0) (second : ℕ) → (on second → ⊥) → IsSkippedBack on second second
+one_back on second not = record {
+  earlier = omega arith;
+  none = λ k one le. let other : k ≡ second → ⊥ = λ same. not (rw same at one) in grind (arith, other);
+}
+
+-- none comes from a second of the day on and up to another one
+abbrev pub IsPassedBack : (ℕ → Type 0) → ℕ → ℕ → Type 0
+IsPassedBack on until left = (left ≤ until + 1) × ((k : ℕ) → k < 86_400 → on k → k ≤ until → k < left)
+
+pub more_back : (on : ℕ → Type 0) (until left end : ℕ) → IsPassedBack on until left → 0 < left → IsSkippedBack on (left - 1) end → IsPassedBack on until end
+more_back on until left end h some skip = (
+  let earlier = skip.earlier in let low = h.0 in omega (arith, earlier, low, some),
+  λ k in_day one le. let below = h.1 k in_day one le in skip.none k one (omega (arith, below, some)),
+)
+
+pub found_back : (on : ℕ → Type 0) (until left : ℕ) → until < 86_400 → IsPassedBack on until left → 0 < left → on (left - 1)
+    → IsLastSecondUntil on until (left - 1)
+found_back on until left short h some one = record {
+  planned = one;
+  not_after = let low = h.0 in omega (arith, low, some);
+  in_day = let low = h.0 in omega (arith, low, some, short);
+  greatest = λ k in_day other le. let below = h.1 k in_day other le in omega (arith, below, some);
+}
+
+-- ---- days
+pub with_date_back : (r : RecurrenceRule) (start day : ℤ) (until : ℕ) (found : Option ℕ) → IsOnDate r (floor_div start 86_400) day
+    → MatchOption found (HasNoSecondUntil (IsTimeOn r start day) until) (λ s. IsLastSecondUntil (IsTimeOn r start day) until s)
+    → MatchOption found (HasNoSecondUntil (IsOccasionOn r start day) until) (λ s. IsLastSecondUntil (IsOccasionOn r start day) until s)
+with_date_back r start day until None date none = λ k in_day on le. none k in_day (record {
+  counts = on.counts;
+  hour = on.hour;
+  minute = on.minute;
+  at_second
+      = on.at_second;
+}) le
+with_date_back r start day until (Some s) date last = record {
+  planned = let one = last.planned in record { counts = one.counts; date = date; hour = one.hour; minute = one.minute; at_second = one.at_second };
+  not_after = last.not_after;
+  in_day = last.in_day;
+  greatest = λ k in_day on le. last.greatest k in_day (record { counts = on.counts; hour = on.hour; minute = on.minute; at_second = on.at_second }) le;
+}
+
+earlier_number : (y : ℤ) (m d k : ℕ) (day : ℤ) → 1 ≤ d → day_number y m (d + k) ≡ day → day_number y m d ≡ day -ℤ pos k
+unfolding day_number
+earlier_number y m d k day low is = omega (arith, ints, low, is)
+
+same_month_back : (day : ℤ) (d k : ℕ) → 1 ≤ d → d + k ≡ day_of_month day → month_of (day -ℤ pos k) ≡ month_of day
+same_month_back day d k low sum =
+    let own = date_is day in let last = own.0.3 in
+    (date_only (day -ℤ pos k) (year_of day) (month_of day) d (own.0.0, own.0.1, low, omega (arith, sum, last))
+    (earlier_number (year_of day) (month_of day) d k day low (rw sum own.1))).1
+
+pub month_begun : (day d : ℤ) → d <ℤ day → (day -ℤ pos (day_of_month day)) <ℤ d → month_of d ≡ month_of day
+month_begun day d less after =
+    let k : ℕ = unsigned_abs (day -ℤ d) in let is : day -ℤ pos k ≡ d = omega (arith, ints, less) in
+    rw is at (same_month_back day (day_of_month day - k) k (omega (arith, ints, less, after)) (omega (arith, ints, less, after)))
+
+pub before_month : (r : RecurrenceRule) (start day d result : ℤ) (m f dom : ℕ) → m ≡ month_of day → dom ≡ day_of_month day → f ≡ month_of start
+    → result ≡ day -ℤ pos dom → (HasMonth r f m → ⊥) → IsOnDate r start d → d <ℤ day → d ≤ℤ result
+before_month r start day d result m f dom is_month is_day is_first is none on less =
+    by_lt_z result d
+    (λ more. let same = month_begun day d less (omega (arith, ints, is, is_day, more)) in absurd (none (rw (is_month, is_first) (rw same at on.month))))
+    (λ not. not)
+
+most_days : (b : Bool) (m : ℕ) → days_in_month b m ≤ 31
+most_days b m = grind (arith, nat_tests)
+
+pub in_month : (day : ℤ) (dom : ℕ) → dom ≡ day_of_month day → dom ≤ 31
+in_month day dom is = let last = (date_is day).0.3 in let most = most_days (is_leap (year_of day)) (month_of day) in omega (arith, is, last, most)
+
+-- an earlier day after which there is none
+pub left_earlier : (on : ℤ → ℕ → Type 0) (until day last : ℤ) → IsLeftBefore (IsPlannedOnItsDay on) until (day -ℤ pos 1) 86_399 → last <ℤ day
+    → ((d : ℤ) (second : ℕ) → on d second → d <ℤ day → d ≤ℤ last) → IsLeftBefore (IsPlannedOnItsDay on) until last 86_399
+left_earlier on until day last h earlier none = record {
+  in_day = omega arith;
+  not_later = let from = h.not_later in omega (arith, ints, from, earlier);
+  left = λ m planned come. let most = h.left m planned come in
+      let from = none (floor_div m 86_400) (floor_mod m 86_400) planned (omega (arith, ints, floors, most)) in omega (arith, ints, floors, from);
+}
+
+-- no occasion comes 367 days before the start
+pub after_all : (r : RecurrenceRule) (start l : ℤ) → IsOccasion r start l → (start -ℤ pos 31_708_800) <ℤ l
+after_all r start l one = by_lt_z (start -ℤ pos 31_708_800) l (λ less. less)
+    (λ not. let early = long_before r.frequency (weekday_number r.week_start) l start (omega (arith, ints, not)) in
+    let same : floor_div l 86_400 *ℤ pos 86_400 +ℤ pos (floor_mod l 86_400) ≡ l = omega (arith, ints, floors) in
+    let counts = (rw same at one.counts).is in absurd (omega (arith, ints, early, counts)))
+
+pub none_until : (r : RecurrenceRule) (start until day : ℤ) (to : ℕ) → IsLeftBefore (IsOccasion r start) until day to
+    → ((day *ℤ pos 86_400 +ℤ pos 86_400) ≤ℤ (start -ℤ pos 31_708_800)) → HasNoneUntil (IsOccasion r start) until
+none_until r start until day to h over m wide one come =
+    let most = h.left m one come in let short = h.in_day in let after = after_all r start m one in omega (arith, ints, most, short, over, after)
+
+pub all_until : (set : ℤ → Type 0) (until day : ℤ) (second : ℕ) → day ≡ floor_div until 86_400 → second ≡ floor_mod until 86_400
+    → IsLeftBefore set until day second
+all_until set until day second is_day is_second = record {
+  in_day = omega (arith, ints, floors, is_second);
+  not_later = omega (arith, ints, floors, is_day, is_second);
+  left = λ m one come. omega (arith, ints, floors, is_day, is_second, come);
+}
+
+-- ---- a period that counts
+pub counted_late : (r : RecurrenceRule) (start second first period : ℤ) → first ≡ own_period r start → period ≡ own_period r second
+    → IsCounted r start second → first ≤ℤ period
+counted_late r start second first period is_first is_period own = let is = own.is in omega (arith, ints, is, is_first, is_period)
+
+pub counts_now : (r : RecurrenceRule) (start second first period next : ℤ) → first ≡ own_period r start → period ≡ own_period r second
+    → IsNextPeriod r.interval first period next → IsCounted r start second → next ≡ period
+counts_now r start second first period next is_first is_period own counted =
+    let least = own.least (own_period r second) (rw is_first counted) (omega (arith, ints, is_period)) in let from = own.not_before in
+    omega (arith, ints, is_period, least, from)

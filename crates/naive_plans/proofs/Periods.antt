@@ -1,0 +1,201 @@
+-- The periods of rules.
+use Rattle.naive_base.proofs.Words.{arith, ints, floors, neg_ℤ, pos, ℕ, ℤ, ◌%◌, ◌*◌, ◌*ℤ◌, ◌+ℤ◌, ◌+◌, ◌-ℤ◌, ◌-◌, ◌/◌, ◌<◌, ◌≡◌, ◌≤ℤ◌, ◌≤◌, ◌<ℤ◌}
+use Rattle.naive_base.proofs.Words.{date_is, date_only, day_number, floor_mod, unsigned_abs, day_of_month, floor_div, is_leap, lies_in}
+use Rattle.naive_base.proofs.Words.{month_of, starts_rise, year_of, year_start}
+use Rattle.naive_base.proofs.Words.{refl, weekday_number}
+use Rattle.naive_base.specs.declared.weekday.Weekday.{Weekday}
+use Rattle.naive_base.specs.declared.weekday.Weekday.TheVariants.{Fri, Mon, Sat, Sun, Thu, Tue, Wed}
+use Rattle.naive_base.proofs.Words.{days_in_month, inl, inr, nat_tests, sym, ◌⊎◌}
+use Rattle.std.proofs.{Common.{Bool}}
+use Rattle.std.proofs.Math.Nat.{add-mul, div-add-mod', mod-lt, mul-le-mul_right}
+use Rattle.std.proofs.lemmas.Bool.{cases_order}
+use Rattle.std.proofs.lemmas.Int.{by_lt_z}
+use Rattle.gregorian.proofs.ForCallers.{date_lies, day_of_year_is, days_at_most, months_rise, months_step}
+use Rattle.naive_plans.specs.Steps.RuleSteps.{IsNextPeriod}
+use Rattle.naive_plans.specs.RecurrenceRules.{month_number, period_of}
+use Rattle.naive_plans.specs.declared.rule.Frequency.{Frequency}
+use Rattle.naive_plans.specs.declared.rule.Frequency.TheVariants.{Daily, Hourly, Minutely, Monthly, Weekly, Yearly}
+
+least_days : (b : Bool) (m : ℕ) → 1 ≤ days_in_month b m
+least_days b m = grind (arith, nat_tests)
+
+pub year_from : (y l : ℤ) → y ≤ℤ year_of (floor_div l 86_400) → (year_start y *ℤ pos 86_400) ≤ℤ l
+year_from y l h =
+    let rise = starts_rise y (year_of (floor_div l 86_400)) h in let lies = (lies_in (floor_div l 86_400)).0 in omega (arith, ints, floors, rise, lies)
+
+pub year_later : (y least l r : ℤ) → r ≡ year_start least *ℤ pos 86_400 → least ≤ℤ y → y ≤ℤ year_of (floor_div l 86_400) → r ≤ℤ l
+year_later y least l r is below h = let from = year_from least l (omega (arith, ints, below, h)) in omega (arith, ints, is, from)
+
+same_year : (y : ℤ) (m k d : ℕ) → m ≤ k → 1 ≤ d → day_number y m 1 ≤ℤ day_number y k d
+unfolding day_number
+same_year y m k d least low = let rise = months_rise (is_leap y) (m - 1) (k - 1) (omega (arith, least)) in omega (arith, ints, rise, low)
+
+first_of_month : (y : ℤ) (m : ℕ) (day : ℤ) → 1 ≤ m → m ≤ 12 → (y *ℤ pos 12 +ℤ pos m -ℤ pos 1) ≤ℤ month_number day → day_number y m 1 ≤ℤ day
+first_of_month y m day low high h =
+    let own = date_is day in
+    by_lt_z y (year_of day)
+    (λ less. let before = date_lies y m 1 (low, high, omega arith, least_days (is_leap y) m) in let rise = starts_rise (y +ℤ pos 1) (year_of day) (omega
+    (arith, ints, less)) in
+    let lies = (lies_in day).0 in omega (arith, ints, before.1, rise, lies))
+    (λ not. let same : year_of day ≡ y = omega (arith, ints, not, h, own.0.1, low) in
+    let least : m ≤ month_of day = omega (arith, ints, same, h, low) in
+    rw (sym same) (rw own.1 at (same_year (year_of day) m (month_of day) (day_of_month day) least own.0.2)))
+
+pub month_later : (l r least number : ℤ) → r ≡ day_number (floor_div least 12) (floor_mod least 12 + 1) 1 *ℤ pos 86_400 → least ≤ℤ number
+    → number ≤ℤ month_number (floor_div l 86_400) → r ≤ℤ l
+month_later l r least number is below h =
+    let from = first_of_month (floor_div least 12) (floor_mod least 12 + 1) (floor_div l 86_400) (omega arith) (omega (arith, ints, floors)) (omega
+    (arith, ints, floors, below, h)) in omega (arith, ints, floors, is, from)
+
+-- ---- later seconds have later periods
+year_rises : (a b : ℤ) → a ≤ℤ b → year_of a ≤ℤ year_of b
+year_rises a b le = by_lt_z (year_of b) (year_of a)
+    (λ less. let rise = starts_rise (year_of b +ℤ pos 1) (year_of a) (omega (arith, ints, less)) in let early = (lies_in a).0 in let late = (lies_in b).1 in
+    absurd (omega (arith, ints, le, rise, early, late)))
+    (λ not. omega (arith, ints, not))
+
+month_in_same : (y : ℤ) (m d k e : ℕ) → 1 ≤ m → d ≤ days_in_month (is_leap y) m → 1 ≤ e → m < k → day_number y m d <ℤ day_number y k e
+unfolding day_number
+month_in_same y m d k e low last first less =
+    let step = months_step (is_leap y) m low in let rise = months_rise (is_leap y) m (k - 1) (omega (arith, less)) in let some = least_days (is_leap y) m in
+    omega (arith, ints, step, rise, last, first, some)
+
+month_rises : (a b : ℤ) → a ≤ℤ b → month_number a ≤ℤ month_number b
+month_rises a b le =
+    let year = year_rises a b le in let early = date_is a in let late = date_is b in
+    by_lt_z (year_of a) (year_of b) (λ less. omega (arith, ints, less, early.0.1, late.0.0))
+    (λ not. let same : year_of b ≡ year_of a = omega (arith, ints, year, not) in
+    elim (cases_order (month_of a) (month_of b)) [
+      | inl alike ↦ omega (arith, ints, same, alike)
+      | inr (inl less) ↦ omega (arith, ints, same, less)
+      | inr (inr more) ↦
+          let last : day_of_month b ≤ days_in_month (is_leap (year_of a)) (month_of b) = rw same at late.0.3 in
+          let before = month_in_same (year_of a) (month_of b) (day_of_month b) (month_of a) (day_of_month a) late.0.0 last early.0.2 more in
+          let number : day_number (year_of a) (month_of b) (day_of_month b) ≡ b = rw same at late.1 in
+          absurd (let is = early.1 in omega (arith, ints, le, before, number, is))
+    ])
+
+pub period_rises : (f : Frequency) (first : ℕ) (a b : ℤ) → a ≤ℤ b → period_of f first a ≤ℤ period_of f first b
+period_rises Yearly first a b le = year_rises (floor_div a 86_400) (floor_div b 86_400) (omega (arith, ints, floors, le))
+period_rises Monthly first a b le = month_rises (floor_div a 86_400) (floor_div b 86_400) (omega (arith, ints, floors, le))
+period_rises Weekly first a b le = omega (arith, ints, floors, le)
+period_rises Daily first a b le = omega (arith, ints, floors, le)
+period_rises Hourly first a b le = omega (arith, ints, floors, le)
+period_rises Minutely first a b le = omega (arith, ints, floors, le)
+
+-- ---- the rest of a month
+later_number : (y : ℤ) (m d k : ℕ) (day : ℤ) → 1 ≤ d → day_number y m d ≡ day → day_number y m (d + k) ≡ day +ℤ pos k
+unfolding day_number
+later_number y m d k day low is = omega (arith, ints, low, is)
+
+same_month : (day : ℤ) (k : ℕ) → day_of_month day + k ≤ days_in_month (is_leap (year_of day)) (month_of day) → month_of (day +ℤ pos k) ≡ month_of day
+same_month day k within =
+    let own = date_is day in
+    (date_only (day +ℤ pos k) (year_of day) (month_of day) (day_of_month day + k) (own.0.0, own.0.1, let low = own.0.2 in omega (arith, low), within)
+    (later_number (year_of day) (month_of day) (day_of_month day) k day own.0.2 own.1)).1
+
+pub month_left : (day d : ℤ) → day <ℤ d → d ≤ℤ (day +ℤ pos (days_in_month (is_leap (year_of day)) (month_of day) - day_of_month day))
+    → month_of d ≡ month_of day
+month_left day d later come =
+    let k : ℕ = unsigned_abs (d -ℤ day) in let is : day +ℤ pos k ≡ d = omega (arith, ints, later) in
+    let last = (date_is day).0.3 in rw is at (same_month day k (omega (arith, ints, later, come, last)))
+
+-- ---- the periods that count
+multiple : (first period : ℤ) (passed q r : ℕ) → period ≡ first +ℤ pos passed → q + r ≡ passed → r ≡ 0 → period ≡ first +ℤ pos q
+multiple first period passed q r is parts none = omega (arith, ints, is, parts, none)
+
+pub period_now : (n : ℕ) (first period : ℤ) (passed : ℕ) → period ≡ first +ℤ pos passed → passed % n ≡ 0 → IsNextPeriod n first period period
+period_now n first period passed is none = record {
+  counts = record { times = passed / n; is = multiple first period passed (passed / n * n) (passed % n) is (div-add-mod' passed n) none };
+  not_before = omega (arith, ints);
+  near = omega (arith, ints);
+  least = λ p counts le. le;
+}
+
+next_multiple : (first period next : ℤ) (passed q q₂ r n : ℕ) → period ≡ first +ℤ pos passed → q + r ≡ passed → q₂ ≡ q + n → r ≤ n
+    → next ≡ period +ℤ pos (n - r) → next ≡ first +ℤ pos q₂
+next_multiple first period next passed q q₂ r n is parts more under is_next = omega (arith, ints, is, parts, more, under, is_next)
+
+one_more : (t n : ℕ) → (t + 1) * n ≡ t * n + n
+one_more t n = let e = add-mul t 1 n in let one : 1 * n ≡ n = omega arith in rw one at e
+
+above : (first period next p : ℤ) (passed q q₂ r n k : ℕ) → period ≡ first +ℤ pos passed → q + r ≡ passed → q₂ ≡ q + n → next ≡ first +ℤ pos q₂
+    → (k ≤ q) ⊎ (q₂ ≤ k) → (r ≡ 0 → ⊥)
+    → p ≡ first +ℤ pos k → period ≤ℤ p → next ≤ℤ p
+above first period next p passed q q₂ r n k is parts more is_next order some is_p le = elim order [
+  | inl low ↦ absurd (some (omega (arith, ints, is, parts, low, is_p, le)))
+  | inr high ↦ omega (arith, ints, is_next, high, is_p)
+]
+
+multiples_apart : (n t k : ℕ) → (k * n ≤ t * n) ⊎ ((t + 1) * n ≤ k * n)
+multiples_apart n t k = elim (cases_order t k) [
+  | inl same ↦ inl (mul-le-mul_right n (omega (arith, same)))
+  | inr (inl less) ↦ inr (mul-le-mul_right n (omega (arith, less)))
+  | inr (inr more) ↦ inl (mul-le-mul_right n (omega (arith, more)))
+]
+
+pub period_later : (n : ℕ) (first period next : ℤ) (passed : ℕ) → period ≡ first +ℤ pos passed → (passed % n ≡ 0 → ⊥) → passed % n ≤ n
+    → next ≡ period +ℤ pos (n - passed % n) → IsNextPeriod n first period next
+period_later n first period next passed is some under is_next =
+    let counts : next ≡ first +ℤ pos ((passed / n + 1) * n) =
+    next_multiple first period next passed (passed / n * n) ((passed / n + 1) * n) (passed % n) n is (div-add-mod' passed n) (one_more
+    (passed / n) n) under is_next in
+    record {
+      counts = record { times = passed / n + 1; is = counts };
+      not_before = omega (arith, ints, is_next);
+      near = omega (arith, ints, is_next);
+      least = λ p own le. above first period next p passed (passed / n * n) ((passed / n + 1) * n) (passed % n) n (own.times * n) is (div-add-mod' passed n)
+          (one_more (passed / n) n) counts
+          (multiples_apart n (passed / n) own.times) some own.is le;
+    }
+
+pub under : (k n : ℕ) → 1 ≤ n → k % n ≤ n
+under k n some = let less = mod-lt k some in omega (arith, less)
+
+-- ---- from the year 0 on
+year_low : (day : ℤ) → neg_ℤ (pos 719_528) ≤ℤ day → pos 0 ≤ℤ year_of day
+unfolding year_start
+year_low day le = by_lt_z (year_of day) (pos 0)
+    (λ less. let rise = starts_rise (year_of day +ℤ pos 1) (pos 0) (omega (arith, ints, less)) in let late = (lies_in day).1 in
+    let zero_start : year_start (pos 0) ≡ neg_ℤ (pos 719_528) = refl in absurd (omega (arith, ints, le, rise, late, zero_start)))
+    (λ not. omega (arith, ints, not))
+
+pub period_low : (f : Frequency) (first : ℕ) (start : ℤ) → first < 7 → neg_ℤ (pos 62_167_219_200) ≤ℤ start
+    → neg_ℤ (pos 1_100_000_000) ≤ℤ period_of f first start
+period_low Yearly first start week le = let low = year_low (floor_div start 86_400) (omega (arith, ints, floors, le)) in omega (arith, ints, low)
+period_low Monthly first start week le = let low = year_low (floor_div start 86_400) (omega (arith, ints, floors, le)) in
+    let month = (date_is (floor_div start 86_400)).0.0 in omega (arith, ints, low, month)
+period_low Weekly first start week le = omega (arith, ints, floors, le, week)
+period_low Daily first start week le = omega (arith, ints, floors, le)
+period_low Hourly first start week le = omega (arith, ints, floors, le)
+period_low Minutely first start week le = omega (arith, ints, floors, le)
+
+pub weekday_under : (w : Weekday) → weekday_number w < 7
+weekday_under Sun = omega arith
+weekday_under Mon = omega arith
+weekday_under Tue = omega arith
+weekday_under Wed = omega arith
+weekday_under Thu = omega arith
+weekday_under Fri = omega arith
+weekday_under Sat = omega arith
+
+pub near_period : (period next interval : ℤ) → (neg_ℤ (pos 1_100_000_000) ≤ℤ period) → period ≤ℤ pos 100_000_000_000 → period ≤ℤ next
+    → next ≤ℤ (period +ℤ interval) → interval <ℤ pos 4_294_967_296
+    → (neg_ℤ (pos 2_000_000_000) ≤ℤ next) × (next ≤ℤ pos 200_000_000_000)
+near_period period next interval low high le near small = (omega (arith, ints, low, le), omega (arith, ints, high, near, small))
+
+-- ---- a period is no longer than a year
+earlier_year : (a b : ℤ) → (a +ℤ pos 366) ≤ℤ b → year_of a <ℤ year_of b
+earlier_year a b le = by_lt_z (year_of a) (year_of b) (λ less. less)
+    (λ not. let rise = starts_rise (year_of b) (year_of a) not in let first = (day_of_year_is a).0 in let last = day_of_year_is b in
+    let same = last.0 in let within = last.1 in let most = days_at_most (year_of b) in absurd (omega (arith, ints, le, rise, first, same, within, most)))
+
+pub long_before : (f : Frequency) (first : ℕ) (l start : ℤ) → (l +ℤ pos 31_708_800) ≤ℤ start → period_of f first l <ℤ period_of f first start
+long_before Yearly first l start le = earlier_year (floor_div l 86_400) (floor_div start 86_400) (omega (arith, ints, floors, le))
+long_before Monthly first l start le =
+    let year = earlier_year (floor_div l 86_400) (floor_div start 86_400) (omega (arith, ints, floors, le)) in
+    let high = (date_is (floor_div l 86_400)).0.1 in let low = (date_is (floor_div start 86_400)).0.0 in omega (arith, ints, year, high, low)
+long_before Weekly first l start le = omega (arith, ints, floors, le)
+long_before Daily first l start le = omega (arith, ints, floors, le)
+long_before Hourly first l start le = omega (arith, ints, floors, le)
+long_before Minutely first l start le = omega (arith, ints, floors, le)

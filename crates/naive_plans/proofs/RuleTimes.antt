@@ -1,0 +1,157 @@
+-- The times of a rule without BYSETPOS, and those after a second.
+use Rattle.naive_base.proofs.Words.{IsWide, MatchOption, None, Option, Some, arith, ints, pos, ℤ, ◌+ℤ◌, ◌-ℤ◌, ◌<ℤ◌, ◌≡◌, ◌≤ℤ◌}
+use Rattle.std.proofs.Common.{◌↔◌}
+use Rattle.naive_plans.specs.Steps.OccasionSteps.{HasNoneBetween, IsFirstBetween}
+use Rattle.naive_plans.specs.Plans.{HasNoneUntil, IsLastUntil, IsNextAfter}
+use Rattle.naive_plans.specs.RecurrenceSets.{IsRecurrenceTime, IsRuleTime, IsWithinCount}
+use Rattle.naive_plans.specs.declared.recurrence.RecurrenceEnd.TheVariants.{Count, Never, Until}
+use Rattle.naive_base.specs.NaiveDateTime.{reading}
+use Rattle.naive_base.specs.declared.datetime.NaiveDateTime.{NaiveDateTime}
+use Rattle.std.proofs.Common.{neg_ℤ, ℕ}
+use Rattle.naive_plans.specs.declared.recurrence.RecurrenceEnd.{RecurrenceEnd}
+use Rattle.naive_plans.specs.Steps.RecurrenceSteps.{HasNoneLater, IsFirstLater, IsLastSecond}
+use Rattle.naive_plans.specs.RecurrenceRules.{IsOccasion}
+use Rattle.naive_plans.specs.RecurrenceSets.{IsPlannedUpTo, IsWithinEnd}
+use Rattle.naive_plans.specs.Steps.OccasionSteps.{IsTimeOn}
+use Rattle.naive_base.proofs.Words.{floor_div, floor_mod, floors}
+use Rattle.std.proofs.Common.{◌<◌}
+use Rattle.naive_plans.specs.Steps.RuleSteps.{IsBounded}
+use Rattle.naive_plans.specs.declared.rule.RecurrenceRule.{RecurrenceRule}
+
+pub without_places : (r : RecurrenceRule) (start from end : ℤ) (found : Option ℤ) → start ≤ℤ from → end ≤ℤ pos 253_402_300_800
+    → MatchOption found (HasNoneBetween (IsOccasion r start) from end) (λ l. IsFirstBetween (IsOccasion r start) from end l)
+    → MatchOption found (HasNoneBetween (IsRuleTime r start) from end) (λ l. IsFirstBetween (IsRuleTime r start) from end l)
+without_places r start from end None le last none = λ m time come before. none m time.occasion come before
+without_places r start from end (Some l) le last first = record {
+  one = record {
+    occasion = first.one;
+    from_start = let come = first.not_before in omega (arith, ints, le, come);
+    in_years = let before = first.before_end in omega (arith, ints, before, last);
+  };
+  not_before = first.not_before;
+  before_end = first.before_end;
+  least = λ m time come. first.least m time.occasion come;
+}
+
+pub from_later : (r : RecurrenceRule) (start after last from end : ℤ) (found : Option ℤ) → after <ℤ from → ((m : ℤ) → after <ℤ m → start ≤ℤ m → from ≤ℤ m)
+    → end ≡ last +ℤ pos 1
+    → MatchOption found (HasNoneBetween (IsRuleTime r start) from end) (λ l. IsFirstBetween (IsRuleTime r start) from end l)
+    → MatchOption found (HasNoneLater (IsRuleTime r start) after last) (λ l. IsFirstLater (IsRuleTime r start) after last l)
+from_later r start after last from end None later least is none = λ m time come le. none m time (least m come time.from_start) (omega (arith, ints, is, le))
+from_later r start after last from end (Some l) later least is first = record {
+  one = first.one;
+  later = let come = first.not_before in omega (arith, ints, later, come);
+  not_after = let before = first.before_end in omega (arith, ints, before, is);
+  least = λ m time come. first.least m time (least m come time.from_start);
+}
+
+pub none_left : (r : RecurrenceRule) (start after last from : ℤ) → ((m : ℤ) → after <ℤ m → start ≤ℤ m → from ≤ℤ m) → last <ℤ from
+    → HasNoneLater (IsRuleTime r start) after last
+none_left r start after last from least over m time come le = let more = least m come time.from_start in omega (arith, ints, over, le, more)
+
+pub next_later : (r : RecurrenceRule) (start last local l : ℤ) → IsFirstLater (IsRuleTime r start) local last l → IsNextAfter (λ m. IsRuleTime r start m ×
+    (m ≤ℤ last)) local l
+next_later r start last local l first = record {
+  planned = (first.one, first.not_after);
+  after = first.later;
+  least = λ m wide own come. first.least m own.0 come;
+}
+
+-- ---- ends
+pub none_up : (r : RecurrenceRule) (start last s : ℤ) → ((l : ℤ) → IsRuleTime r start l → l ≤ℤ last → ⊥) → s ≡ start -ℤ pos 1
+    → (l : ℤ) → IsRuleTime r start l → (l ≤ℤ s) ↔ (l ≤ℤ last)
+none_up r start last s none is l time = (λ low. absurd (let from = time.from_start in omega (arith, ints, low, is, from)), λ le. absurd (none l time le))
+
+time_is_wide : (r : RecurrenceRule) (start l : ℤ) → neg_ℤ (pos 62_167_219_200) ≤ℤ start → IsRuleTime r start l → IsWide l
+time_is_wide r start l low time = let from = time.from_start in let years = time.in_years in (omega (arith, ints, low, from), omega (arith, ints, years))
+
+pub none_to : (r : RecurrenceRule) (start last : ℤ) → neg_ℤ (pos 62_167_219_200) ≤ℤ start → HasNoneUntil (IsRuleTime r start) last
+    → (l : ℤ) → IsRuleTime r start l → l ≤ℤ last → ⊥
+none_to r start last low none l time le = none l (time_is_wide r start l low time) time le
+
+pub same_to : (r : RecurrenceRule) (start last s : ℤ) → neg_ℤ (pos 62_167_219_200) ≤ℤ start → IsLastUntil (IsRuleTime r start) last s
+    → (l : ℤ) → IsRuleTime r start l → (l ≤ℤ s) ↔ (l ≤ℤ last)
+same_to r start last s low own l time = (
+  λ le. let up = own.not_after in omega (arith, ints, le, up),
+  λ le. own.greatest l (time_is_wide r start l low time) time le,
+)
+
+pub bounded_to : (r : RecurrenceRule) (start last s : ℤ) → neg_ℤ (pos 62_167_219_200) ≤ℤ start → IsLastUntil (IsRuleTime r start) last s → IsBounded s
+bounded_to r start last s low own = let from = own.planned.from_start in let short = own.planned.in_years in (omega (arith, ints, low, from), short)
+
+-- ---- and back
+pub not_from : (r : RecurrenceRule) (start until : ℤ) → (start ≤ℤ until → ⊥) → HasNoneUntil (IsRuleTime r start) until
+not_from r start until not m wide time come = not (let from = time.from_start in omega (arith, ints, from, come))
+
+pub none_of_them : (r : RecurrenceRule) (start until : ℤ) → HasNoneUntil (IsOccasion r start) until → HasNoneUntil (IsRuleTime r start) until
+none_of_them r start until none m wide time come = none m wide time.occasion come
+
+pub last_from : (r : RecurrenceRule) (start until last : ℤ) (found : Option ℤ) → until <ℤ pos 253_402_300_800 → IsLastUntil (IsOccasion r start) until last
+    → MatchOption found (last <ℤ start) (λ l. (l ≡ last) × (start ≤ℤ l)) → MatchOption found (HasNoneUntil (IsRuleTime r start) until) (λ l. IsLastUntil
+    (IsRuleTime r start) until l)
+last_from r start until last None short own early = λ m wide time come.
+    let most = own.greatest m wide time.occasion come in let from = time.from_start in omega (arith, ints, most, from, early)
+last_from r start until last (Some l) short own is = record {
+  planned = record { occasion = rw is.0 own.planned; from_start = is.1; in_years = let up = own.not_after in omega (arith, ints, up, is.0, short) };
+  not_after = let up = own.not_after in omega (arith, ints, up, is.0);
+  greatest = λ m wide time come. let most = own.greatest m wide time.occasion come in omega (arith, ints, most, is.0);
+}
+
+pub last_planned : (r : RecurrenceRule) (start local last until l : ℤ) → (until ≤ℤ local) × (until ≤ℤ last) → ((m : ℤ) → m ≤ℤ local → m ≤ℤ last → m ≤ℤ until)
+    → IsLastUntil (IsRuleTime r start) until l → IsLastUntil (IsPlannedUpTo r start last) local l
+last_planned r start local last until l both most own =
+    let up = own.not_after in let low = both.0 in let le = both.1 in
+    record {
+      planned = (own.planned, omega (arith, ints, up, le));
+      not_after = omega (arith, ints, up, low);
+      greatest = λ m wide time come. own.greatest m wide time.0 (most m come time.1);
+    }
+
+pub none_planned : (r : RecurrenceRule) (start local last until : ℤ) → ((m : ℤ) → m ≤ℤ local → m ≤ℤ last → m ≤ℤ until)
+    → HasNoneUntil (IsRuleTime r start) until → HasNoneUntil (IsPlannedUpTo r start last) local
+none_planned r start local last until most none m wide time come = none m wide time.0 (most m come time.1)
+
+pub no_rule_time : (r : RecurrenceRule) (start : ℤ) → ((day : ℤ) (second : ℕ) → second < 86_400 → IsTimeOn r start day second → ⊥) → (l : ℤ)
+    → IsRuleTime r start l → ⊥
+no_rule_time r start none l time =
+    let on = time.occasion in
+    none (floor_div l 86_400) (floor_mod l 86_400) (omega (arith, ints, floors)) (record {
+      counts = on.counts;
+      hour = on.hour;
+      minute = on.minute;
+      at_second = on.at_second;
+    })
+
+pub end_shortened : (r : RecurrenceRule) (start : ℤ) (end : RecurrenceEnd) (last short : ℤ)
+    → ((l : ℤ) → IsRuleTime r start l → (l ≤ℤ last) ↔ IsWithinEnd r start end l)
+    → ((l : ℤ) → IsRuleTime r start l → (l ≤ℤ short) ↔ (l ≤ℤ last)) → (l : ℤ) → IsRuleTime r start l → (l ≤ℤ short) ↔ IsWithinEnd r start end l
+end_shortened r start end last short own same l time = (
+  λ le. (own l time).0 ((same l time).0 le),
+  λ within. (same l time).1 ((own l time).1 within),
+)
+
+pub has_times : (r : RecurrenceRule) (start : ℤ) (end : RecurrenceEnd) (last : ℤ)
+    → ((l : ℤ) → IsRuleTime r start l → (l ≤ℤ last) ↔ IsWithinEnd r start end l)
+    → (l : ℤ) → (IsRuleTime r start l × (l ≤ℤ last)) ↔ IsRecurrenceTime r start end l
+has_times r start end last same l = (
+  λ own. record { time = own.0; within = (same l own.0).0 own.1 },
+  λ own. (own.time, (same l own.time).1 own.within),
+)
+
+pub never_last : (r : RecurrenceRule) (start : ℤ) → IsLastSecond r start Never (pos 253_402_300_799)
+never_last r start = record {
+  same = λ l time. (λ _. tt, λ _. let last = time.in_years in omega (arith, ints, last));
+  bound = (
+    omega (arith, ints),
+    omega
+        (arith, ints),
+  );
+}
+
+pub until_last : (r : RecurrenceRule) (start last : ℤ) (until : NaiveDateTime) → ((l : ℤ) → l <ℤ pos 253_402_300_800 → (l ≤ℤ last) ↔ (l ≤ℤ (reading until).s))
+    → (neg_ℤ (pos 10_000_000_000_000) ≤ℤ last) × (last <ℤ pos 253_402_300_800) → IsLastSecond r start (Until until) last
+until_last r start last until same bound = record { same = λ l time. same l time.in_years; bound = bound }
+
+pub count_last : (r : RecurrenceRule) (start last : ℤ) (count : ℕ) → ((l : ℤ) → IsRuleTime r start l → (l ≤ℤ last) ↔ IsWithinCount r start count l)
+    → (neg_ℤ (pos 10_000_000_000_000) ≤ℤ last) × (last <ℤ pos 253_402_300_800) → IsLastSecond r start (Count count) last
+count_last r start last count same bound = record { same = same; bound = bound }

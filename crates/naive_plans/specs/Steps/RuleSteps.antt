@@ -1,0 +1,39 @@
+-- Steps of the walks over local times.
+use Rattle.std.specs.Prelude.{ℕ, ◌<◌, ◌≤◌, ℤ, pos, neg_ℤ, ◌≤ℤ◌, ◌<ℤ◌, ◌+ℤ◌}
+use Rattle.naive_base.specs.Weekday.{weekday_number}
+use Rattle.naive_plans.specs.RecurrenceRules.{Counts, period_of}
+use Rattle.naive_plans.specs.declared.rule.RecurrenceRule.{RecurrenceRule}
+
+-- the days of the years -200 to 12000, about, and a week more
+abbrev pub IsRuleDay : ℤ → Type 0
+IsRuleDay day = (neg_ℤ (pos 800_000) ≤ℤ day) × (day ≤ℤ pos 4_000_000)
+
+abbrev pub IsNearRuleDay : ℤ → Type 0
+IsNearRuleDay day = (neg_ℤ (pos 800_007) ≤ℤ day) × (day ≤ℤ pos 4_000_007)
+
+-- the seconds of those days
+abbrev pub IsRuleSecond : ℤ → Type 0
+IsRuleSecond l = (neg_ℤ (pos 69_120_000_000) ≤ℤ l) × (l <ℤ pos 345_600_086_400)
+
+-- a period's number that is not too large
+abbrev pub IsPeriod : ℤ → Type 0
+IsPeriod p = (neg_ℤ (pos 100_000_000_000) ≤ℤ p) × (p ≤ℤ pos 100_000_000_000)
+
+-- the period that a local second lies in
+abbrev pub own_period : RecurrenceRule → ℤ → ℤ
+own_period r l = period_of r.frequency (weekday_number r.week_start) l
+
+-- an interval and a start in the years 0 to 9999
+abbrev pub IsStarted : ℕ → ℤ → Type 0
+IsStarted interval start = (1 ≤ interval) × (interval < 4_294_967_296) × (neg_ℤ (pos 62_167_219_200) ≤ℤ start) × (start <ℤ pos 253_402_300_800)
+
+-- of the periods that count, the first one from a period on
+pub record IsNextPeriod (interval : ℕ) (first period next : ℤ) : Type 0 where
+  pub counts : Counts interval first next
+  pub not_before : period ≤ℤ next
+  pub near : next ≤ℤ (period +ℤ pos interval)
+  pub least : (p : ℤ) → Counts interval first p → period ≤ℤ p → next ≤ℤ p
+
+-- a last second: in the years 0 to 9999, or the second before them
+abbrev pub IsBounded : ℤ → Type 0
+IsBounded last = (neg_ℤ (pos 62_167_219_201) ≤ℤ last) × (last <ℤ pos 253_402_300_800)
