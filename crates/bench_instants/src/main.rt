@@ -9,20 +9,29 @@
 //! and `borrowed` ask such a zone for an `instant`, for a `wall` clock or in a `gap`, COUNT
 //! times, and print what the answers sum up to: `bench/time_instants.py` times them. With other words,
 //! or other files, it ends with status 1.
+//!
+//! No function has a contract. `values` draws what is asked about, `question` names the questions,
+//! `answers` sums up their answers, and `lookups` asks the zone itself, many times over.
 #![tactic(auto)]
 
+mod answers;
+mod lookups;
+mod question;
 mod timing;
+mod values;
 mod work_error;
 
-use bench_questions::{Lookup, Question, Values, sum_of, sum_of_lookups};
+use answers::sum_of;
+use lookups::{Lookup, sum_of_lookups};
+use question::Question;
 use std::alloc::Global;
 use std::io::{BufWriter, Write};
 use std::process::ExitCode;
 use std::{env, fs, io, str};
 use timing::COUNT;
+use values::Values;
 use work_error::WorkError;
-use zoned_kept::KeptZone;
-use zoned_ref::TimeZoneRef;
+use zoned_ref::{KeptZone, TimeZoneRef};
 use zoned_time::DateTime;
 
 // How many instants are sorted.

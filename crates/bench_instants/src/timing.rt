@@ -1,11 +1,13 @@
 //! How long answers take.
 
+use crate::answers::sum_of;
+use crate::question::Question;
+use crate::values::Values;
 use crate::work_error::WorkError;
-use bench_questions::{Question, Values, sum_of};
 use std::alloc::{AllocError, Global};
 use std::io;
 use std::time::{Clock, Instant};
-use zoned_kept::KeptZone;
+use zoned_ref::KeptZone;
 use zoned_time::DateTime;
 
 /// How many values are asked about.

@@ -2,7 +2,7 @@
 
 use std::alloc::{AllocError, AllocFailed};
 use thiserror::Error;
-use zoned::{KeepError, ResolveError, SeriesError, tz_info};
+use zoned::{OpenError, ResolveError, SeriesError, tz_info};
 
 /// What can go wrong.
 #[derive(Clone, Copy, Debug, PartialEq, Eq, Error)]
@@ -34,12 +34,11 @@ impl<T: Drop> From<AllocFailed<T>> for MyError {
     }
 }
 
-// The zone that wasn't kept is let go.
-impl From<KeepError> for MyError {
-    fn from(refused: KeepError) -> MyError {
+impl From<OpenError> for MyError {
+    fn from(refused: OpenError) -> MyError {
         match refused {
-            KeepError::WideZone(_) => MyError::WideZone,
-            KeepError::OutOfMemory(_) => MyError::OutOfMemory,
+            OpenError::Zone(fault) => MyError::Zone(fault),
+            OpenError::WideZone => MyError::WideZone,
         }
     }
 }

@@ -171,7 +171,7 @@ pub fn alarm_at(
     local: NaiveDateTime,
     choice: Choice,
 ) -> Result<Alarm, MyError> {
-    let new_york = KeptZone::keep(alloc, tz_info::TimeZone::from_tz_data(alloc, bytes)?)?;
+    let new_york = KeptZone::open(alloc, bytes)?;
     let next = new_york.resolve(&local, choice)?;
     Ok(Alarm {
         zone: new_york,

@@ -4,16 +4,23 @@
 //! instants of UTC and of fixed offsets, `borrowed` instants of a borrowed zone, `calendar_days` when
 //! days, weeks, months and years start, `own_zone` the zone of docs/OWN_ZONE.md, and `facts` contracts
 //! of a client's own.
+//!
+//! Three modules are clients as a user would write them: `calendar` has events at instants and on whole
+//! days, `log_reader` reads logs whose lines have local times, and `text` writes instants as text, for
+//! people and for other programs.
 #![tactic(auto)]
 
 mod borrowed;
+pub mod calendar;
 mod calendar_days;
 mod error;
 mod facts;
 mod fixed;
 mod front_page;
+pub mod log_reader;
 mod own_zone;
 mod readme;
+pub mod text;
 
 pub use borrowed::{by_clock, earliest_first, keep, line};
 pub use calendar_days::{Question, day_answer, same_day, seconds_of_day};

@@ -4,7 +4,7 @@ use crate::MyError;
 use std::alloc::Global;
 use zoned::{
     Choice, DateTime, FixedOffset, FoldChoice, GapChoice, KeptZone, LocalResult, NaiveDate,
-    TimeDelta, TimeZone, Utc, tz_info,
+    TimeDelta, TimeZone, Utc,
 };
 
 /// What those lines make, to keep.
@@ -18,7 +18,7 @@ pub struct FirstLines {
 
 /// 02:30 on the day on which New York's clocks skipped it; `bytes` are those of its TZif file.
 pub fn half_past_two(alloc: Global, bytes: &[u8]) -> Result<FirstLines, MyError> {
-    let new_york = KeptZone::keep(alloc, tz_info::TimeZone::from_tz_data(alloc, bytes)?)?;
+    let new_york = KeptZone::open(alloc, bytes)?;
     let gap = new_york.with_ymd_and_hms(2021, 3, 14, 2, 30, 0);
     let fold = new_york.with_ymd_and_hms(2021, 11, 7, 1, 30, 0);
     let day = NaiveDate::from_ymd_opt(2021, 3, 14).ok_or(MyError::NoSuchTime)?;
@@ -49,7 +49,7 @@ pub struct ChangeLines {
 
 /// When New York's clocks change in 2021; `bytes` are those of its TZif file.
 pub fn clocks_change(alloc: Global, bytes: &[u8]) -> Result<Option<ChangeLines>, MyError> {
-    let new_york = KeptZone::keep(alloc, tz_info::TimeZone::from_tz_data(alloc, bytes)?)?;
+    let new_york = KeptZone::open(alloc, bytes)?;
     let new_year = Utc.timestamp(1_609_459_200, 0);
     let Some(change) = new_york.next_change(&new_year) else {
         return Ok(None);

@@ -1,1 +1,2 @@
 mod Times
+mod Waiting

@@ -1,10 +1,18 @@
 -- When a schedule runs.
-use Rattle.std.specs.Prelude.{ℕ, ℤ, ◌≡◌, ◌≤◌, ⊤, Contains}
+use Rattle.std.specs.declared.fmt.Debug as debug
+use Rattle.std.specs.Prelude.{ℕ, ℤ, ◌≡◌, ◌≤◌, ⊤, Contains, Option, MatchOption}
 use Rattle.naive_base.specs.DateOf.{day_of_month}
 use Rattle.naive_base.specs.NaiveTime.{second_of}
 use Rattle.naive_base.specs.Weekday.{weekday_of, weekday_number}
 use Rattle.naive_base.specs.declared.time.NaiveTime.{NaiveTime}
 use Rattle.naive_plans.specs.DayPlans.{IsPlannedOnItsDay}
+use Rattle.zoned_ref.specs.KeptZone.{law_of}
+use Rattle.zoned_ref.specs.declared.zone_offset.ZoneOffset.{ZoneOffset}
+use Rattle.zoned_time.specs.DateTime.{zoned}
+use Rattle.zoned_time.specs.Fires.{IsZonedNextFire, NoneFiresAfter}
+use Rattle.zoned_time.specs.declared.datetime.Instant.{Instant}
+use Rattle.zoned_time.specs.declared.offset.Offset as offset
+use Rattle.demo_scheduler.specs.declared.job.Job.{Job}
 use Rattle.demo_scheduler.specs.declared.run_days.RunDays.{RunDays}
 use Rattle.demo_scheduler.specs.declared.run_days.RunDays.TheVariants.{Every, Workdays, Weekday, MonthDay}
 use Rattle.demo_scheduler.specs.declared.schedule.Schedule.{Schedule}
@@ -26,3 +34,8 @@ pub record IsPlannedOn (s : Schedule) (day : ℤ) (second : ℕ) : Type 0 where
 -- its local times
 abbrev pub planned_by : Schedule → ℤ → Type 0
 planned_by s = IsPlannedOnItsDay (IsPlannedOn s)
+
+-- the first run of a job after the second t, or `None` if there is none in range
+abbrev pub IsNextRun : {Tz : Type 0} {f : offset.Ghosts ZoneOffset} {g : debug.Ghosts ZoneOffset} → Job → ℤ → Option (Instant Tz ZoneOffset f g) → Type 0
+IsNextRun job t next = let law = law_of job.zone in let plan = planned_by job.schedule in
+    MatchOption next (NoneFiresAfter law.off plan t) (λ d. IsZonedNextFire law plan t (zoned d))

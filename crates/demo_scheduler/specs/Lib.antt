@@ -1,1 +1,2 @@
 pub mod Fires
+pub mod Queues

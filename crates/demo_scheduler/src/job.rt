@@ -1,8 +1,10 @@
 //! Jobs.
+ghost use Rattle.demo_scheduler.specs.Fires.{IsNextRun};
+ghost use Rattle.zoned_time.specs.DateTime.{zoned};
 
 use crate::{Schedule, SchedulerError};
 use std::alloc::Global;
-use zoned_kept::KeptZone;
+use zoned_ref::KeptZone;
 use zoned_time::DateTime;
 
 /// A job that runs by the clocks of its zone.
@@ -25,8 +27,7 @@ impl Job {
         file: &[u8],
         schedule: Schedule,
     ) -> Result<Job, SchedulerError> {
-        let parsed = tz_info::TimeZone::from_tz_data(alloc, file)?;
-        let zone = KeptZone::keep(alloc, parsed)?;
+        let zone = KeptZone::open(alloc, file)?;
         Ok(Job {
             name,
             zone,
@@ -35,7 +36,9 @@ impl Job {
     }
 
     /// Returns when it runs next after an instant; `None` if it never runs again.
-    pub fn next_fire(&self, after: &DateTime<KeptZone>) -> Option<DateTime<KeptZone>> {
+    pub fn next_fire(&self, after: &DateTime<KeptZone>) -> Option<DateTime<KeptZone>>
+        ensures { IsNextRun self.now (zoned after.now).utc.s result }
+    {
         self.schedule.next_fire(&self.zone, after)
     }
 }

@@ -9,11 +9,13 @@
 mod error;
 mod job;
 mod queue;
+mod queued;
 mod run_days;
 mod schedule;
 
 pub use error::SchedulerError;
 pub use job::Job;
 pub use queue::{Fire, Queue};
+pub use queued::Queued;
 pub use run_days::RunDays;
 pub use schedule::Schedule;

@@ -1,14 +1,16 @@
 //! Jobs in the order in which they run.
+ghost use Rattle.std.specs.Prelude.{◌≡◌, ◌≤◌, [], length, slice_get, Some, IfNone, IfSome, MatchOption};
+ghost use Rattle.std.specs.Prelude.{◌⊎◌, ◌≤ℤ◌, ◌<ℤ◌, MatchResult};
+ghost use Rattle.demo_scheduler.specs.Queues.{IsAdded, IsFirstAt, IsFirstRun, IsNoneDue, IsTaken, NoneRuns, jobs_of};
+ghost use Rattle.zoned_time.specs.DateTime.{zoned};
 
-use crate::{Job, SchedulerError};
+use crate::{Job, Queued, SchedulerError};
 use std::alloc::Global;
-use std::cmp::Reverse;
-use std::collections::BinaryHeap;
 use std::fmt;
-use zoned_kept::KeptZone;
+use zoned_ref::KeptZone;
 use zoned_time::DateTime;
 
-/// A job's next run: its instant, then its place in the queue.
+/// A job's run: its instant, and the job's place in the queue.
 #[derive(Clone, Copy, Debug, PartialEq, Eq, PartialOrd, Ord)]
 pub struct Fire {
     pub at: DateTime<KeptZone>,
@@ -16,18 +18,24 @@ pub struct Fire {
 }
 
 /// A queue of jobs of several zones, each at its next run.
+///
+/// ```
+/// while let Some(fire) = queue.take_due(&now) {
+///     // run the job `queue.job(&fire)`
+/// }
+/// ```
 #[derive(Drop)]
 pub struct Queue {
-    jobs: Vec<Job>,
-    fires: BinaryHeap<Reverse<Fire>>,
+    queued: Vec<Queued>,
 }
 
 impl Queue {
     /// Returns a queue without jobs.
-    pub fn new(alloc: Global) -> Queue {
+    pub fn new(alloc: Global) -> Queue
+        ensures { jobs_of result ≡ [] }
+    {
         Queue {
-            jobs: Vec::new(alloc),
-            fires: BinaryHeap::new(alloc),
+            queued: Vec::new(alloc),
         }
     }
 
@@ -36,67 +44,76 @@ impl Queue {
     /// # Errors
     ///
     /// Running out of memory.
-    pub fn add(&mut self, job: Job, now: &DateTime<KeptZone>) -> Result<(), SchedulerError> {
-        let place = self.jobs.len();
-        let next = job.next_fire(now);
-        self.jobs.push(job)?;
-        if let Some(at) = next {
-            self.fires.push(Reverse(Fire { at, job: place }))?;
-        }
+    pub fn add(&mut self, job: Job, now: DateTime<KeptZone>) -> Result<(), SchedulerError>
+        ensures { MatchResult result
+            (λ _. IsAdded job (zoned now.entry) (jobs_of self.old) (jobs_of self.new))
+            (λ _. jobs_of self.new ≡ jobs_of self.old) }
+    {
+        self.queued.push(Queued::new(job, now))?;
         Ok(())
     }
 
-    /// Returns when the next job runs; `None` if none does.
-    pub fn next_due(&self) -> Option<DateTime<KeptZone>> {
-        let Reverse(fire) = self.fires.peek().copied()?;
-        Some(fire.at)
+    /// Returns the next run of all jobs; `None` if none runs again.
+    pub fn next_due(&self) -> Option<Fire>
+        ensures { MatchOption result (NoneRuns (jobs_of self.now)) (IsFirstRun (jobs_of self.now)) }
+    {
+        let (job, _) = self.first()?;
+        let at = self.queued.get(job)?.next.as_ref().copied()?;
+        Some(Fire { at, job })
     }
 
-    /// Takes the next run that is due at an instant, and queues the job's next one; `None` if no run is
-    /// due.
-    ///
-    /// # Errors
-    ///
-    /// Running out of memory.
-    pub fn take_due(&mut self, now: &DateTime<KeptZone>) -> Result<Option<Fire>, SchedulerError> {
-        if self.next_due().is_none_or(|at| at > *now) {
-            return Ok(None);
+    /// Takes the next run that is due at an instant, after which its job waits for its next one; `None`
+    /// if no run is due. It looks at each job.
+    pub fn take_due(&mut self, now: &DateTime<KeptZone>) -> Option<Fire>
+        ensures { MatchOption result
+            (IsNoneDue (jobs_of self.old) (zoned now.now).utc.s × (jobs_of self.new ≡ jobs_of self.old))
+            (λ fire. IsTaken (jobs_of self.old) (zoned now.now).utc.s fire (jobs_of self.new)) }
+    {
+        let fire = self.next_due()?;
+        if fire.at.timestamp() > now.timestamp() {
+            return None;
         }
-        let Some(Reverse(fire)) = self.fires.pop() else {
-            return Ok(None);
-        };
-        if let Some(job) = self.jobs.get(fire.job) {
-            if let Some(at) = job.next_fire(&fire.at) {
-                self.fires.push(Reverse(Fire { at, ..fire }))?;
+        match self.queued.get_mut(fire.job) {
+            Some(queued) => queued.run(),
+            None => {}
+        }
+        Some(fire)
+    }
+
+    // The job that runs next, and the second of its run.
+    fn first(&self) -> Option<(usize, i64)>
+        ensures { MatchOption result (NoneRuns (jobs_of self.now))
+            (λ first. IsFirstAt (jobs_of self.now) first.0 first.1) }
+    {
+        let mut first: Option<(usize, i64)> = None;
+        for job in 0..self.queued.len() {
+            match &self.queued[job].next {
+                Some(at) => first = sooner(first, job, at.timestamp()),
+                None => {}
             }
         }
-        Ok(Some(fire))
-    }
-
-    /// Takes the runs that are due at an instant, the earliest first, at most as many as the limit.
-    ///
-    /// # Errors
-    ///
-    /// Running out of memory.
-    pub fn take_all_due(
-        &mut self,
-        alloc: Global,
-        now: &DateTime<KeptZone>,
-        limit: usize,
-    ) -> Result<Vec<Fire>, SchedulerError> {
-        let mut taken = Vec::new(alloc);
-        for _ in 0..limit {
-            let Some(fire) = self.take_due(now)? else {
-                break;
-            };
-            taken.push(fire)?;
-        }
-        Ok(taken)
+        first
     }
 
     /// Returns the job of a run, or `None` if the queue has no such job.
-    pub fn job(&self, fire: &Fire) -> Option<&Job> {
-        self.jobs.get(fire.job)
+    pub fn job(&self, fire: &Fire) -> Option<&Job>
+        ensures none { IfNone result (length (jobs_of self.now) ≤ fire.now.job) }
+        ensures some { IfSome result (λ job. (q : Queued) × (slice_get (jobs_of self.now) fire.now.job ≡ Some q)
+            × (job.now ≡ q.job)) }
+    {
+        let queued = self.queued.get(fire.job)?;
+        Some(&queued.job)
+    }
+}
+
+// The run of that job at that second, if it comes before the first so far.
+fn sooner(first: Option<(usize, i64)>, job: usize, second: i64) -> Option<(usize, i64)>
+    ensures { MatchOption first (result ≡ Some (job, second))
+        (λ f. ((f.1 ≤ℤ second) × (result ≡ first)) ⊎ ((second <ℤ f.1) × (result ≡ Some (job, second)))) }
+{
+    match first {
+        Some((_, other)) if other <= second => first,
+        _ => Some((job, second)),
     }
 }
 

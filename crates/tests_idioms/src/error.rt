@@ -1,8 +1,7 @@
 //! What can go wrong.
 
 use thiserror::Error;
-use zoned_round::RoundingError;
-use zoned_time::ResolveError;
+use zoned::{ResolveError, RoundingError};
 
 /// Why there is no such instant.
 #[derive(Clone, Copy, Debug, PartialEq, Eq, Error)]

@@ -1,20 +1,22 @@
-//! What is written every day over instants, compiled, proved and tested: comparisons, sorting, maps,
-//! print, iteration, lookups. No function has a contract, a lemma or a proof file.
+//! What is written every day over instants, dates, times of day and lengths of time, compiled, proved
+//! and tested: comparisons, sorting, maps, print, iteration, lookups. No function has a contract, a lemma
+//! or a proof file, and none is generic over the zone.
 //!
-//! The same functions are in `tests_idioms_utc`, `tests_idioms_borrowed` (over a `TimeZoneRef`) and
-//! `tests_idioms_kept` (over a `KeptZone`). None is generic over the zone. The last two use only `zoned`,
-//! and `tests_idioms_utc` the libraries that know no file, so that it is proved before those that do.
-//! Here is what they share, with the crates whose errors it joins, and each one's tests.
+//! The instants are those of a kept zone. Functions whose code differs over UTC are in [`utc`] too, and
+//! those whose code differs over a `TimeZoneRef` in [`borrowed`]. [`dates`], [`clocks`], [`lengths`] and
+//! [`plans`] have what programs do with the dates, local times and lengths of such instants and with
+//! plans, and [`agenda`] is a client of two structs that hold a zone and instants. [`naive`] needs no
+//! zone.
 //!
 //! # What isn't covered
 //!
 //! | over | what | write instead | words |
 //! |---|---|---|---|
 //! | a borrowed zone, a kept zone | a copy in place: `*instant` | `iter().copied()`, [`copy_of`] | 1 |
-//! | a borrowed zone | a closure that captures an instant: `any(\|t\| t > than)` | a `for` | 1 |
-//! | a borrowed zone | a closure that asks the zone: `map(\|t\| t.hour())` | a `for` | 1 |
-//! | UTC | a guard over what its pattern takes: `Some(best) if now < best` | `max`, an `if` | 2 |
-//! | UTC | a pattern that takes an array of zones apart: `let [a, b] = zones;` | a pair | 3 |
+//! | a borrowed zone | a closure that captures an instant: `any(\|t\| t > than)` | a `for`: [`borrowed::any_after`] | 1 |
+//! | a borrowed zone | a closure that asks the zone: `map(\|t\| t.hour())` | a `for`: [`borrowed::hours`] | 1 |
+//! | UTC | a guard over what its pattern takes: `Some(best) if now < best` | `max`, an `if`: [`utc::latest_so_far`] | 2 |
+//! | UTC | a pattern that takes an array of zones apart: `let [a, b] = zones;` | a pair: [`utc::first_noon`] | 3 |
 //!
 //! A copy in place is also that in `(instant, instant)` and in `let now = self.next;`, and
 //! `instant.clone()?` replaces it too. The checker's words:
@@ -26,7 +28,23 @@
 //! 3. a pointer to an element of a type of no size
 #![tactic(auto)]
 
+pub mod agenda;
+pub mod borrowed;
+pub mod clocks;
+pub mod closures;
+pub mod compare;
+pub mod copies;
+pub mod dates;
 mod error;
+pub mod iterate;
+pub mod lengths;
+pub mod maps;
+pub mod naive;
+pub mod plans;
+pub mod print;
+pub mod sort;
+pub mod utc;
+pub mod zones;
 
 pub use error::IdiomError;
 

@@ -11,7 +11,6 @@ pub use Rattle.zoned_round.proofs.Words.{IsMultiple, floors, moved, multiple_bel
 pub use Rattle.zoned_round.{proofs.Words.{total}}
 pub use Rattle.zoned_ref.proofs.Words.{HasInstant, IsAfter, IsAt, IsFirst, IsInRange, IsNarrow, IsWallAnswer, Law, Meaning, Reading, SomeIff, TypeAt, Zoned}
 pub use Rattle.zoned_ref.proofs.Words.{all_or_none, floor_div, instant_of, map_of, reading, type_once, zoned, ◌-ℤ◌}
-pub use Rattle.zoned_kept.specs.{KeepError.{IsRefused}, declared.keep_error.KeepError.{KeepError}}
 pub use Rattle.tz_write.proofs.Words.{List, MatchOption, Zone, ap, arith, get_or, inr, ints, length, pos, refl, subst, suc, sym, unsigned_abs, zero, ℕ, ℤ, []}
 pub use Rattle.tz_write.proofs.Words.{◌+ℤ◌, ◌<ℤ◌, ◌<◌, ◌∙◌, ◌∷◌, ◌≡◌, ◌≢◌, ◌≤ℤ◌, ◌⊎◌}
 pub use Rattle.zoned.specs.Within.{IsFromFirstToLast}

@@ -35,6 +35,10 @@ pub use Rattle.naive_base.specs.Week
 pub use Rattle.naive_plans.specs.Plans
 pub use Rattle.naive_plans.specs.DayPlans
 pub use Rattle.naive_plans.specs.Cron
+pub use Rattle.naive_plans.specs.PlanSets
+pub use Rattle.naive_plans.specs.RecurrenceRules
+pub use Rattle.naive_plans.specs.AllowedRules
+pub use Rattle.naive_plans.specs.RecurrenceSets
 pub use Rattle.tz_base.specs.Errors
 pub use Rattle.tz_base.specs.Names
 pub use Rattle.tz_base.specs.LocalTypes
@@ -46,8 +50,8 @@ pub use Rattle.tz_info.specs.RuleTypes
 pub use Rattle.tz_info.specs.RuleEquality
 pub use Rattle.tz_info.specs.Lists
 pub use Rattle.tz_info.specs.Leaps
-pub use Rattle.tz_timeline.specs.Digits as BinaryDigits
-pub use Rattle.tz_timeline.specs.Counts
+pub use Rattle.tz_info.specs.Digits as BinaryDigits
+pub use Rattle.tz_info.specs.Counts
 pub use Rattle.tz_info.specs.Transitions
 pub use Rattle.tz_info.specs.Zones
 pub use Rattle.tz_info.specs.WallClocks
@@ -86,6 +90,7 @@ pub use Rattle.zoned_time.specs.DayEnds
 pub use Rattle.zoned_time.specs.DateTime
 pub use Rattle.zoned_time.specs.Fields as InstantFields
 pub use Rattle.zoned_time.specs.Fires
+pub use Rattle.zoned_time.specs.Moves
 pub use Rattle.zoned_time.specs.Order
 pub use Rattle.zoned_time.specs.Reached
 pub use Rattle.zoned_time.specs.Relocal
@@ -94,16 +99,15 @@ pub use Rattle.zoned_time.specs.Years
 pub use Rattle.zoned_time.specs.Zone
 pub use Rattle.zoned_time.specs.Zoned
 pub use Rattle.zoned_ref.specs.Instants
+pub use Rattle.zoned_ref.specs.KeepError
+pub use Rattle.zoned_ref.specs.KeptZone
+pub use Rattle.zoned_ref.specs.OpenError
 pub use Rattle.zoned_ref.specs.OffsetAt
 pub use Rattle.zoned_ref.specs.Offsets
 pub use Rattle.zoned_ref.specs.TimeZoneRef
 pub use Rattle.zoned_ref.specs.WallClock
 pub use Rattle.zoned_ref.specs.ZoneChange
 pub use Rattle.zoned_ref.specs.ZoneOffset
-pub use Rattle.zoned_kept.specs.KeepError
-pub use Rattle.zoned_kept.specs.KeptChange
-pub use Rattle.zoned_kept.specs.KeptOffset
-pub use Rattle.zoned_kept.specs.KeptZone
 pub use Rattle.zoned_round.specs.Multiples
 pub use Rattle.zoned_round.specs.Subseconds
 pub use Rattle.zoned_round.specs.Durations
@@ -112,5 +116,4 @@ pub use Rattle.zoned_round.specs.Laws
 pub use Rattle.zoned_series.specs.DailySeries
 pub use Rattle.zoned_series.specs.Numbers
 pub use Rattle.zoned_series.specs.Series
-pub mod NoZone
 pub mod Within

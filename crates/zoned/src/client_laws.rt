@@ -27,6 +27,7 @@ ghost use Rattle.zoned.specs.Within.{IsFromFirstToLast};
 use crate::{
     Choice, DateTime, DurationRound, LocalResult, NaiveDateTime, Offset, TimeDelta, TimeZone,
 };
+pub use naive_base::laws::lengths_add;
 pub use zoned_ref::laws::one_change;
 pub use zoned_round::laws::one_rounded_value;
 pub use zoned_series::laws::one_item;

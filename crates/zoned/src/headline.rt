@@ -16,7 +16,7 @@ ghost use Rattle.tz_base.specs.Errors.{error_number};
 ghost use Rattle.tz_base.specs.LocalTypes.{LocalType};
 ghost use Rattle.tz_base.specs.declared.error.Error.{Error as Fault};
 ghost use Rattle.tz_base.specs.declared.error.Error.TheVariants.{OutOfMemory};
-ghost use Rattle.tz_timeline.specs.Counts.{HasRoom};
+ghost use Rattle.tz_info.specs.Counts.{HasRoom};
 ghost use Rattle.tz_info.specs.FilePieces.{FilePieces, HasPieces};
 ghost use Rattle.tz_info.specs.Looks.{RoseByWallClock};
 ghost use Rattle.tz_info.specs.PosixZones.{IsPosixZone, IsPosixFault};
@@ -26,11 +26,9 @@ ghost use Rattle.tz_info.specs.Zones.{Zone, IsValid, TypeAt};
 ghost use Rattle.zoned_time.specs.Zone.{IsZoneSecond, SameOffsets};
 ghost use Rattle.zoned_ref.specs.Offsets.{IsNarrow, AreOffsetsOf};
 ghost use Rattle.zoned_ref.specs.TimeZoneRef.{zone_of, off_of};
-ghost use Rattle.zoned_kept.specs.KeptZone.{zone_of as kept_zone, off_of as kept_off};
-ghost use Rattle.zoned.specs.NoZone.{IsWhyNoZone, IsOutOfMemory};
 ghost use Rattle.zoned_time.specs.Zone as zones;
 
-use crate::{KeepError, KeptZone, LocalResult, NaiveDateTime, TimeZoneRef};
+use crate::{LocalResult, NaiveDateTime, TimeZoneRef};
 use std::alloc::Global;
 use tz_info::{Error, LocalTimeType, Probes};
 
@@ -150,43 +148,6 @@ pub fn lawful_zone(zone: &tz_info::TimeZone) -> Option<TimeZoneRef<'_>>
     ensures offsets { IfSome result (λ r. AreOffsetsOf zone.now (off_of r)) }
 {
     TimeZoneRef::new(zone)
-}
-
-/// Why the bytes of a file give no kept zone.
-#[derive(Debug, Drop)]
-pub enum NoZone {
-    /// The bytes have a fault, or memory ran out while they were read.
-    NotRead(Error),
-    /// Their zone isn't kept, and is given back: one of its offsets is a day or more, or there is no
-    /// memory to keep it in.
-    NotKept(KeepError),
-}
-
-/// From the bytes of a TZif file to a lawful zone that stays until the program ends.
-///
-/// # Errors
-///
-/// [`NoZone::NotRead`] with the error of
-/// [`TimeZone::from_tz_data`](tz_info::TimeZone::from_tz_data), and [`NoZone::NotKept`] with that of
-/// [`KeptZone::keep`].
-pub fn kept_zone_of_file(alloc: Global, bytes: &[u8]) -> Result<KeptZone, NoZone>
-    // The bytes are the file of a valid zone, which is kept, and whose offsets are its law.
-    ensures kept { IfOk result (λ kept. (z : Zone) × IsTzFile bytes.now z × IsValid z
-        × IsNarrow z × (kept_zone kept ≡ z) × AreOffsetsOf z (kept_off kept)) }
-    // The file of a valid and narrow zone gives it, unless memory runs out.
-    ensures only { (z : Zone) → IsTzFile bytes.now z → IsValid z → IsNarrow z → MatchResult result
-        (λ kept. kept_zone kept ≡ z)
-        IsOutOfMemory }
-    // An error says what stands in the file, or why its zone isn't kept.
-    ensures fault { IfErr result (λ e. IsWhyNoZone bytes.now e) }
-{
-    match tz_info::TimeZone::from_tz_data(alloc, bytes) {
-        Ok(parsed) => match KeptZone::keep(alloc, parsed) {
-            Ok(kept) => Ok(kept),
-            Err(e) => Err(NoZone::NotKept(e)),
-        },
-        Err(e) => Err(NoZone::NotRead(e)),
-    }
 }
 
 /// What a lawful zone answers is what the bytes' zone answers: the offsets of the types in force are

@@ -11,17 +11,17 @@
 //!
 //! # Programs to read first
 //!
-//! Four small libraries of the repository, each written as a user would write it, tested against
-//! values from outside, and proved:
+//! Four small clients in the repository, a library and three modules of `demo_examples`, each written
+//! as a user would write it, tested against values from outside, and proved:
 //!
 //! | you write | read | its fact |
 //! |---|---|---|
 //! | a scheduler | `demo_scheduler`: jobs of several zones, at several times of day, in a queue | no run is skipped, and one in a gap runs at its end |
-//! | a calendar | `demo_calendar`: events, days of 23 and 25 hours, weeks, birthdays | no instant is in two days |
-//! | a reader of logs | `demo_log_reader`: local times with and without offsets, in order through a fold | an instant's local time and offset spell that instant |
-//! | texts | `demo_text`: RFC 3339, RFC 2822, HTTP, iCalendar, ISO weeks, lengths | the bytes of RFC 3339's form |
+//! | a calendar | `calendar`: events, days of 23 and 25 hours, weeks, birthdays | no instant is in two days |
+//! | a reader of logs | `log_reader`: local times with and without offsets, in order through a fold | an instant's local time and offset spell that instant |
+//! | texts | `text`: RFC 3339, RFC 2822, HTTP, iCalendar, ISO weeks, lengths | the bytes of RFC 3339's form |
 //!
-//! The first and the last name only the libraries that they need, the other two `zoned`.
+//! The first names only the libraries that it needs, the other three `zoned`.
 //!
 //! # The types
 //!
@@ -139,14 +139,14 @@
 //! | the bytes of a TZif file | a zone | [`tz_info::TimeZone::from_tz_data`] |
 //! | a TZ string | a zone | [`tz_info::TimeZone::from_posix_tz`] |
 //! | a parsed zone | a zone of `DateTime`s | [`TimeZoneRef::new`]: `None` if one of its offsets is a day or more |
-//! | a parsed zone | one for the whole program, without a lifetime | [`KeptZone::keep`]: an error gives the zone back |
+//! | a parsed zone | one for the whole program, without a lifetime | [`KeptZone::open`] from the bytes of a file; [`KeptZone::keep`], whose error gives the zone back |
 //! | a wall clock | each instant that shows it | [`TimeZone::with_ymd_and_hms`], [`TimeZone::from_local_datetime`] |
 //! | a wall clock | one instant | [`TimeZone::resolve`] |
 //! | a Unix time | the instant | [`TimeZone::timestamp_opt`], [`DateTime::from_timestamp`] |
 //! | a UTC date-time | the instant | [`TimeZone::from_utc_datetime`], [`NaiveZoned::and_utc`] |
 //! | an instant | what clocks elsewhere show then | [`DateTime::with_timezone`] |
 //! | an instant | what its clock shows | [`DateTime::naive_local`], and the fields of [`Datelike`] and [`Timelike`] |
-//! | an instant of a parsed zone | its abbreviation | `instant.offset().name()`: [`ZoneOffset`], [`KeptOffset`] |
+//! | an instant of a parsed zone | its abbreviation | `instant.offset().name()`: [`ZoneOffset`] |
 //! | an instant of a parsed zone | if it is daylight saving time | `instant.offset().is_dst()` |
 //! | a parsed zone and a Unix time | the local time type, since when and until when | [`tz_info::TimeZone::span_at`] |
 //! | a borrowed or a kept zone | when its clocks change next | [`TimeZoneRef::next_change`] |
@@ -161,8 +161,11 @@
 //! | a date | when its week, month or year starts | [`ZoneDays::start_of_week`], [`ZoneDays::start_of_month`], [`ZoneDays::start_of_year`] |
 //! | an instant | the date of the day that it lies in; when that day starts | [`ZoneDays::date_of`]; [`DateTime::start_of_day`] |
 //! | an instant | the last local time that clocks have shown by then | [`ZoneDays::reached`] |
+//! | a rule of RFC 5545 and its start | its local times, as a plan | [`Recurrence::new`] |
+//! | local times, or several plans | a plan of them | [`LocalTimes`], [`Union`], [`Intersection`], [`Except`] |
 //! | a plan, such as a line of a crontab ([`Cron`]) | when it fires next, or fired last | [`ZoneDays::next_fire`]; [`ZoneDays::last_fire`], [`ZoneDays::previous_fire`] |
 //! | a plan | each time that it fires between two instants | [`ZoneDays::fires`] |
+//! | two versions of a zone, and a plan | the runs that only one of them has | [`moved`] |
 //! | a date | the first and the last second at which clocks show it | [`ZoneDays::day`] |
 //! | a wall clock | the first instant at which clocks have reached it | [`ZoneDays::first_at_or_after`] |
 //! | two versions of a zone | what differs | [`tz_info::TimeZone::differences`] |
@@ -188,7 +191,7 @@
 //! likes.
 //!
 //! ```
-//! let new_york = KeptZone::keep(alloc, tz_info::TimeZone::from_tz_data(alloc, bytes)?)?;
+//! let new_york = KeptZone::open(alloc, bytes)?;
 //! let alarm = Alarm { zone: new_york, next: new_york.resolve(&local, choice)? };
 //!
 //! #[derive(Clone, Copy, Debug, PartialEq, Eq, Hash)]
@@ -209,7 +212,6 @@
 //! | dates, times of day, lengths | `offset_core naive_base` | 5 |
 //! | instants of UTC and of fixed offsets too | `offset_core naive_base zoned_time` | 12 |
 //! | zones of files and TZ strings too, borrowed | `offset_core naive_base tz_info zoned_time zoned_ref` | 32 |
-//! | zones kept for the whole program too | `offset_core naive_base tz_info zoned_time zoned_ref zoned_kept` | 33 |
 //! | rounding too | the same and `zoned_round` | 5 more |
 //! | a local time on each day too | the same and `zoned_series` | 2 more |
 //! | everything, with what writes zones | `zoned` | 45 |
@@ -220,17 +222,17 @@
 //!
 //! # What the checker doesn't cover
 //!
-//! What is written every day needs no contract, no lemma and no proof file: the repository's crates
-//! `tests_idioms_utc`, `tests_idioms_borrowed` and `tests_idioms_kept` have sixty such functions and more for each kind
-//! of zone, and `tests_idioms_dates` has those over dates, times of day and lengths. These aren't covered
-//! yet:
+//! What is written every day needs no contract, no lemma and no proof file: the repository's crate
+//! `tests_idioms` has more than a hundred such functions over instants of a kept zone, those whose code
+//! differs over UTC or over a borrowed zone, and those over dates, times of day and lengths.
+//! These aren't covered yet:
 //!
 //! | of | in place of | write |
 //! |---|---|---|
-//! | an instant of a borrowed or of a kept zone | a copy in place: `*instant`, `(instant, instant)`, `map.insert(*instant, ..)` | `iter().copied()`, `instant.clone()?`, or `copy_of(instant)` by `fn copy_of<T: Copy>(value: &T) -> T { *value }` |
+//! | an instant of a borrowed or of a kept zone | a copy in place: `*instant`, `(instant, instant)`, `Some(*now)`, `map.insert(*instant, ..)`, since the zone's type holds a reference | a reference; `iter().copied()`, `instant.clone()?`, or `copy_of(instant)` by `fn copy_of<T: Copy>(value: &T) -> T { *value }` |
 //! | an instant in a struct or an enum that is borrowed | `Some(heap.peek()?.at)`; `match self.when { When::Timed { start, .. } => .. }` | `Some(heap.peek().copied()?.at)`; `match &self.when { .. }` |
 //! | instants of a borrowed zone | a closure that captures an instant, as `any(\|instant\| instant > than)`, or asks the zone, as `map(\|instant\| instant.hour())` | a `for`, or a kept zone |
-//! | instants, dates | a guard that compares what its pattern takes: `Some(next) if next <= until` | the same over a reference: `match &next { Some(next) if *next <= until => .. }`; `next.is_some_and(\|next\| next <= until)`; `let .. else` and an `if`; an `if` in the arm; or `max` |
+//! | dates, times, lengths, and instants of UTC and of fixed offsets | a guard that compares what its pattern takes: `Some(next) if next <= until` | the same over a reference: `match &next { Some(next) if *next <= until => .. }`; `next.is_some_and(\|next\| next <= until)`; `let .. else` and an `if`; an `if` in the arm; or `max` |
 //! | an enum that holds an instant or a date | a literal in its pattern: `When::AllDay { first, days: 1 }` | a guard on the number: `When::AllDay { first, days } if days == 1` |
 //! | a `WallClock` | `?` on the call that makes it | `match` with `Ok(clock) => match clock.instants { .. }` |
 //! | a map keyed by instants or dates | `map.entry(key)` | `map.get` and `map.insert` |
@@ -243,27 +245,32 @@
 
 pub mod client_laws;
 pub mod headline;
+pub mod prelude;
 
 pub use gregorian;
 pub use naive_base::{
-    Datelike, Days, IsoWeek, Month, Months, NaiveDate, NaiveDateDaysIterator, NaiveDateTime,
-    NaiveDateWeeksIterator, NaiveTime, NaiveWeek, OutOfRange, Timelike, Weekday,
+    Datelike, Days, IsoWeek, Month, Months, NaiveDate, NaiveDateDaysBack, NaiveDateDaysIterator,
+    NaiveDateTime, NaiveDateWeeksBack, NaiveDateWeeksIterator, NaiveTime, NaiveWeek, OutOfRange,
+    Timelike, Weekday,
 };
 pub use naive_plans::{
-    Cron, DayPlan, Plan, ReversibleDayPlan, ReversiblePlan, last_local_time, next_local_time,
+    Cron, DayPlan, Except, Frequency, Intersection, LocalTimes, NthWeekday, Plan, Recurrence,
+    RecurrenceEnd, RecurrenceError, RecurrenceRule, ReversibleDayPlan, ReversiblePlan, Union,
+    last_local_time, next_local_time,
 };
 pub use offset_core::{
     Around, Choice, FixedOffset, FoldChoice, GapChoice, LocalResult, MappedLocalTime,
-    OutOfRangeError, ResolveError, Taken, TimeDelta,
+    OutOfRangeError, ResolveError, Taken, TimeDelta, TimeDelta as Duration,
 };
 pub use tz_base;
 pub use tz_info;
 pub use tz_write::{ToPosixTz, ToTzData, ToTzString, TzText};
-pub use zoned_kept::{KeepError, KeptChange, KeptOffset, KeptZone};
-pub use zoned_ref::{TimeZoneRef, WallClock, ZoneChange, ZoneOffset};
+pub use zoned_ref::{
+    KeepError, KeptChange, KeptZone, OpenError, TimeZoneRef, WallClock, ZoneChange, ZoneOffset,
+};
 pub use zoned_round::{DurationRound, RoundingError, SubsecRound};
 pub use zoned_series::{DailyItems, DailySeries, SeriesError};
 pub use zoned_time::{
-    DateTime, Fires, MAX_DATETIME, MIN_DATETIME, NaiveZoned, Offset, ShownDay, TimeZone, Utc,
-    ZoneDays,
+    AsInstant, DateTime, Fires, Instant, MAX_DATETIME, MIN_DATETIME, Move, Moves, NaiveZoned,
+    Offset, ShownDay, TimeZone, Utc, ZoneDays, moved,
 };

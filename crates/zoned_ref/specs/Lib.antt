@@ -1,4 +1,7 @@
 pub mod Instants
+pub mod KeepError
+pub mod KeptZone
+pub mod OpenError
 pub mod OffsetAt
 pub mod Offsets
 pub mod Steps

@@ -4,17 +4,23 @@ ghost use Rattle.std.specs.Hash as fed;
 ghost use Rattle.tz_base.specs.declared.change.Change.{Change};
 ghost use Rattle.tz_info.specs.Changes.{IsFirst, IsLast};
 ghost use Rattle.tz_info.specs.Zones.{Zone, TypeAt};
+ghost use Rattle.zoned_ref.specs.KeptZone as kept;
+ghost use Rattle.zoned_ref.specs.TimeZoneRef.{zone_of, writes_of};
 ghost use Rattle.zoned_ref.specs.ZoneChange.{IsAfter, IsUpTo};
 ghost use Rattle.zoned_ref.specs.ZoneOffset.{ahead_of, type_of};
+ghost use Rattle.zoned_ref.specs.declared.kept_zone.KeptZone.{KeptZone as AnyKept};
+ghost use Rattle.zoned_ref.specs.declared.time_zone_ref.TimeZoneRef.{TimeZoneRef as AnyZone};
 ghost use Rattle.zoned_ref.specs.declared.zone_offset.ZoneOffset.{ZoneOffset as AnyOffset};
 
-use crate::{TimeZoneRef, WallClock, ZoneChange, ZoneOffset};
+use crate::{KeptChange, KeptZone, TimeZoneRef, WallClock, ZoneChange, ZoneOffset};
 use std::hash::Hash;
 use std::mem::size_of;
 use zoned_time::DateTime;
 
 // An instant is a date-time of UTC, and references to the zone and to the type in force.
 const _: () = prove!(size_of::<DateTime<TimeZoneRef<'static>>>() == 32);
+
+const _: () = prove!(size_of::<DateTime<KeptZone>>() == 32);
 
 /// Offsets are equal if and only if their types of local time are, a hash looks at the seconds, and
 /// a clone is the offset.
@@ -29,16 +35,43 @@ pub fn zone_offsets<'a>()
     tz_base::laws::local_time_types();
 }
 
-/// A clone of a borrowed zone is that zone, and making it never fails.
-pub fn time_zone_refs<'a>(a: &TimeZoneRef<'a>, b: &TimeZoneRef<'a>)
-    ensures cloned { ⟦<TimeZoneRef<'a> as Clone>⟧.is_clone a.now b.now → b.now ≡ a.now }
-    ensures infallible { ⟦<TimeZoneRef<'a> as Clone>⟧.is_infallible a.now }
-{}
+/// Zones are equal if and only if their transitions, types, leap seconds and rules are. A hash looks
+/// at the count of transitions and the offset of the first type. A clone is the zone, and making it
+/// never fails.
+pub fn time_zone_refs<'a>()
+    ensures equal { (a b : AnyZone) → IsTrue (⟦<TimeZoneRef<'a> as PartialEq>⟧.eq a b)
+        ↔ (zone_of a ≡ zone_of b) }
+    ensures hashed { (a : AnyZone) → ⟦<TimeZoneRef<'a> as Hash>⟧.hash_input a
+        ≡ writes_of (zone_of a) }
+    ensures cloned { (a b : AnyZone) → ⟦<TimeZoneRef<'a> as Clone>⟧.is_clone a b ↔ (b ≡ a) }
+    ensures infallible { (a : AnyZone) → ⟦<TimeZoneRef<'a> as Clone>⟧.is_infallible a }
+{
+    tz_info::laws::equality::zones();
+}
 
 /// A clone of a change of the clocks is that change, and making it never fails.
 pub fn zone_changes<'a>(a: &ZoneChange<'a>, b: &ZoneChange<'a>)
     ensures cloned { ⟦<ZoneChange<'a> as Clone>⟧.is_clone a.now b.now → b.now ≡ a.now }
     ensures infallible { ⟦<ZoneChange<'a> as Clone>⟧.is_infallible a.now }
+{}
+
+/// Kept zones are equal and hashed as the borrowed zones that they are; a clone is the zone, and
+/// making it never fails.
+pub fn kept_zones()
+    ensures equal { (a b : AnyKept) → IsTrue (⟦<KeptZone as PartialEq>⟧.eq a b)
+        ↔ (kept.zone_of a ≡ kept.zone_of b) }
+    ensures hashed { (a : AnyKept) → ⟦<KeptZone as Hash>⟧.hash_input a
+        ≡ writes_of (kept.zone_of a) }
+    ensures cloned { (a b : AnyKept) → ⟦<KeptZone as Clone>⟧.is_clone a b ↔ (b ≡ a) }
+    ensures infallible { (a : AnyKept) → ⟦<KeptZone as Clone>⟧.is_infallible a }
+{
+    tz_info::laws::equality::zones();
+}
+
+/// A clone of a change of a kept zone's clocks is that change, and making it never fails.
+pub fn kept_changes(a: &KeptChange, b: &KeptChange)
+    ensures cloned { ⟦<KeptChange as Clone>⟧.is_clone a.now b.now → b.now ≡ a.now }
+    ensures infallible { ⟦<KeptChange as Clone>⟧.is_infallible a.now }
 {}
 
 /// A clone of a `WallClock` is the same, and making it never fails.

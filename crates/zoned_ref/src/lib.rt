@@ -5,6 +5,10 @@
 //! [`WallClock`] goes the whole way, from bytes to the instants at which a clock shows a local time.
 #![tactic(auto)]
 
+mod keep_error;
+mod kept_change;
+mod kept_lookup;
+mod kept_zone;
 pub mod laws;
 mod lookup;
 mod time_zone_ref;
@@ -13,6 +17,9 @@ mod zone_change;
 mod zone_days;
 mod zone_offset;
 
+pub use keep_error::{KeepError, OpenError};
+pub use kept_change::KeptChange;
+pub use kept_zone::KeptZone;
 pub use time_zone_ref::TimeZoneRef;
 pub use wall_clock::WallClock;
 pub use zone_change::ZoneChange;

@@ -1,11 +1,14 @@
 //! Parsed zones, borrowed.
-ghost use Rattle.std.specs.Prelude.{◌≡◌, ◌↔◌, IsTrue, IsSome, IfSome, ℤ};
+ghost use Rattle.std.specs.Prelude.{◌≡◌, ◌↔◌, IsTrue, IsSome, IfSome, ℤ, slice_get, option_map};
+ghost use Rattle.std.specs.Ordering.{on};
 ghost use Rattle.offset_core.specs.Offset.{IsWithinDay};
 ghost use Rattle.zoned_time.specs.Zone.{IsFixed, IsZoneSecond};
 ghost use Rattle.zoned_ref.specs.OffsetAt.{offset_at};
 ghost use Rattle.zoned_ref.specs.Offsets.{IsNarrow, HasOneOffset, HasOffsets, AreOffsetsOf};
 
 use offset_core::FixedOffset;
+use std::fmt;
+use std::hash::{Hash, Hasher};
 
 /// A parsed time zone as a zone of [`DateTime`](zoned_time::DateTime)s: at each instant it has the
 /// offset of the local time type in force then.
@@ -73,6 +76,60 @@ impl<'a> TimeZoneRef<'a> {
     {
         has_offsets(self.zone);
         self.zone
+    }
+
+    // The offset of the first type that the zone lists; there is one.
+    fn first_offset(&self) -> Option<i32>
+        ensures { result ≡ option_map (λ t. t.offset) (slice_get (zone_of self.now).types 0) }
+    {
+        let first = self.zone.local_time_types().first()?;
+        Some(first.offset())
+    }
+}
+
+// It compares lists, and two that borrow one zone have the same.
+impl PartialEq for TimeZoneRef<'_> {
+    ghost use Rattle.std.specs.Cmp.{on_per};
+    ghost use Rattle.tz_info.specs.contracts.zone.time_zone.TimeZonePartialEq.TheImpl.Laws.{laws-law};
+    ghost use Rattle.zoned_ref.specs.TimeZoneRef.{zone_of};
+
+    ghost eq = { on zone_of ⟦<tz_info::TimeZone as PartialEq>⟧.eq };
+
+    ghost laws = { on_per zone_of laws-law };
+
+    fn eq(&self, other: &TimeZoneRef<'_>) -> bool {
+        *self.zone == *other.zone
+    }
+}
+
+impl Eq for TimeZoneRef<'_> {
+    ghost use Rattle.std.specs.Cmp.{on_equiv};
+    ghost use Rattle.tz_info.specs.contracts.zone.time_zone.TimeZoneEq.TheImpl.Laws.{laws-law};
+    ghost use Rattle.zoned_ref.specs.TimeZoneRef.{zone_of};
+
+    ghost laws = { on_equiv zone_of laws-law };
+}
+
+// By the count of transitions and the first type's offset, mostly that of local mean time: few zones
+// share both.
+impl Hash for TimeZoneRef<'_> {
+    ghost use Rattle.std.proofs.Common.{ap};
+    ghost use Rattle.tz_info.proofs.ForCallers.{zone_exact};
+    ghost use Rattle.zoned_ref.specs.TimeZoneRef.{zone_of, writes_of};
+
+    ghost hash_input = { λ r. writes_of (zone_of r) };
+
+    ghost respects_eq = { λ a b same. ap writes_of ((zone_exact (zone_of a) (zone_of b)).0 same) };
+
+    fn hash<H: Hasher>(&self, state: &mut H) {
+        self.zone.transition_count().hash(state);
+        self.first_offset().hash(state);
+    }
+}
+
+impl fmt::Debug for TimeZoneRef<'_> {
+    fn fmt<W: fmt::Write>(&self, f: &mut fmt::Formatter<W>) -> fmt::Result {
+        f.debug_tuple("TimeZoneRef").field(self.zone).finish()
     }
 }
 

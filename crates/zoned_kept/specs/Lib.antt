@@ -1,4 +1,0 @@
-pub mod KeepError
-pub mod KeptChange
-pub mod KeptOffset
-pub mod KeptZone
