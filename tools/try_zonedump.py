@@ -11,7 +11,10 @@ and the line on standard error that are due. Folders are compared of which some 
 The JSON of a file and of a TZ string must have the changes of the table. A file that is written must print as the one that was
 read, and show the same times in Python's zoneinfo. A file that can't be written whole must be left as it was, without a temporary
 file beside it, and one that is written again and again must never be seen in part. A picture must be the one in docs/, have the
-changes of the table as steps of its line at their places, and the wall clocks of the table in its panels. Prints a line for each
+changes of the table as steps of its line at their places, and the wall clocks of the table in its panels. Zones are asked for by
+name, and a wrong name never leads out of the database's folder. What --at prints must be what zoneinfo has, a summary and the times
+that move those of two folders, and each line of JSON must fit the schema in docs/. Each of some thirty wrong uses must be answered by
+what to type, and each failing system call of --diff by status 2. The table of a large file must need no more memory than one question about it. Prints a line for each
 run, and ends with status 1 if an answer differs. It takes half a minute, and needs the C compiler cc for the two lines that
 choose a random number.
 """
@@ -22,6 +25,7 @@ import re
 import resource
 import shutil
 import signal
+import struct
 import subprocess
 import sys
 import tempfile
@@ -138,7 +142,7 @@ def try_write(program, folder):
     status, output, errors = run(program, "--write", "folder", "good", folder=folder)
     check("--write into a folder", (1, "", True), (status, output, errors.startswith("zonedump: folder: ")))
     several = run(program, "--write", "again", "good", "written", folder=folder)
-    check("--write of two files", (2, "", ONE_ZONE), several)
+    check("--write of two files", (2, "", ONE_ZONE.format("write")), several)
 
 
 def try_failed_writes(program, folder):
@@ -230,7 +234,7 @@ def try_names(program, folder):
 def try_controls(program, folder):
     """Names with characters that control a terminal, end a line or turn text around."""
     name, shown = "a\x1b[31m\nb\x7f\x85\u202eé'\\", "a\\u{1b}[31m\\nb\\u{7f}\\u{85}\\u{202e}é'\\"
-    check("a name with controls", (1, "", f"zonedump: {shown}: No such file or directory (os error 2)\n"),
+    check("a name with controls", (1, "", f"zonedump: {shown}: {UNKNOWN}\n"),
           run(program, name, folder=folder))
     (folder / name).write_bytes(b"TZig" + bytes(60))
     check("  of a wrong file", refused(shown, MAGIC), run(program, name, folder=folder))
@@ -265,7 +269,7 @@ def try_closed(program, folder):
     whether the zones differ."""
     for words in (["good"], ["good", "good"], ["--json", "good"], ["--zdump", "good"], ["--text", "UTC0"], ["--help"], ["--version"]):
         check(f"{' '.join(words)}, unread", (0, ""), unread(program, *words, folder=folder))
-    missing = "zonedump: missing: No such file or directory (os error 2)\n"
+    missing = f"zonedump: missing: {UNKNOWN}\n"
     check("a missing file and a good one, unread", (1, missing), unread(program, "missing", "good", folder=folder))
     check("--diff, unread", (1, ""), unread(program, "--diff", "good", "new", folder=folder))
     check("--json --diff of one file, unread", (0, ""), unread(program, "--json", "--diff", "good", "good", folder=folder))
@@ -326,9 +330,9 @@ def try_folders(program, folder, line):
     check("the zone that differs", [("before/moved", "after/moved", [-3600])],
           [(each["old"], each["new"], [d["moved"] for d in each["differences"]]) for each in told[2:]])
     for words in (("good", "before"), ("before", "good")):
-        why = "zonedump: --diff takes two files or two folders (before is a folder, good is not)\n"
+        why = f"{TWO} (before is a folder, good is not)\n"
         check(f"--diff of {' and '.join(words)}", (2, "", why), run(program, "--diff", *words, folder=folder))
-    why = "zonedump: missing: No such file or directory (os error 2)\n"
+    why = f"zonedump: missing: {UNKNOWN}\n"
     for words in (("good", "missing"), ("before", "missing"), ("missing", "before")):
         check(f"--diff of {' and '.join(words)}", (2, "", why), run(program, "--diff", *words, folder=folder))
     check("--diff of two that are missing", (2, "", why + why), run(program, "--diff", "missing", "missing", folder=folder))
@@ -412,7 +416,7 @@ def try_diff(program, folder):
     check("seconds moved", [-3600], [d["moved"] for d in told["differences"]])
     status, output, errors = run(program, *years, "--json", "--diff", "good", "good", folder=folder)
     check("--json --diff of one file", (0, "", []), (status, errors, json.loads(output)["differences"]))
-    check("--diff with one file", (2, "", "zonedump: --diff takes two files or two folders\n"),
+    check("--diff with one file", (2, "", f"{TWO}\n"),
           run(program, "--diff", "good", folder=folder))
     try_folders(program, folder, line)
     check("--diff with --svg", (2, ""), run(program, "--svg", "new.svg", "--diff", "good", "new", folder=folder)[:2])
@@ -423,8 +427,13 @@ def try_help(program):
     status, output, errors = run(program, "--help")
     check("--help", (0, "", True), (status, errors, all(word in output for word in HELP)))
     version = re.search(r'version__ = "(.*)"', (HERE / "python/src/sahvumbi/_version.py").read_text()).group(1)
-    check("--version", (0, f"zonedump {version}\n", ""), run(program, "--version"))
+    kit, logic = re.search(r"`(rattle-kit-\d+)`, `(logic \w+)`", (HERE / "README.md").read_text()).groups()
+    check("--version", (0, f"zonedump {version} (proved with {kit}, {logic})\n", ""), run(program, "--version"))
     check("no arguments name --text", True, "--text TZ" in run(program)[2])
+    options = set(re.findall(r"--[a-z]+", re.search(r"(?s)Options:\n(.*?)\n\n", output).group(1)))
+    for name, form in (("zonedump.1", r"\\-\\-([a-z]+)"), ("zonedump.bash", r"--([a-z]+)"), ("_zonedump", r"--([a-z]+)")):
+        text = (STORED / "install" / name).read_text()
+        check(f"  the options of {name}", options, {f"--{option}" for option in re.findall(form, text)})
 
 
 def shapes(picture, name):
@@ -475,10 +484,22 @@ def try_svg(program, folder):
     """Pictures, and what isn't drawn."""
     data = STORED / "data"
     year = ["--from", "2021", "--to", "2021"]
-    drawn = run(program, *year, "--svg", str(folder / "picture"), "New_York", folder=data)
-    check("--svg", (0, "", ""), drawn)
-    picture = (folder / "picture").read_bytes()
-    check("  the picture in docs/", (HERE / "docs" / "new_york_2021.svg").read_bytes(), picture)
+    for colors, stored in (("light", "new_york_2021.svg"), ("dark", "new_york_2021_dark.svg")):
+        drawn = run(program, *year, "--svg", str(folder / "picture"), "--colors", colors, "America/New_York")
+        check(f"--svg --colors {colors}", (0, "", ""), drawn)
+        picture = (folder / "picture").read_bytes()
+        check("  the picture in docs/", (HERE / "docs" / stored).read_bytes(), picture)
+    check("--svg -", (0, True, ""), (lambda s, o, e: (s, "prefers-color-scheme" in o, e))(
+        *run(program, *year, "--svg", "-", "New_York", folder=data)))
+    description, = [part.text for part in ElementTree.fromstring(picture).iter() if part.tag.endswith("}desc")]
+    check("  its description", True, "gap of 1 h at 2021-03-14 07:00:00 UTC. fold of 1 h at 2021-11-07 06:00:00 UTC." in description)
+    check("  the answers in its bands", ["None", "Ambiguous(EDT, EST)"], [text.text for text in shapes(picture, "answer")])
+    whole = run(program, "--svg", "-", "America/New_York")[1].encode()
+    titles = [title.text for title in shapes(whole, "title")], [note.text for note in shapes(whole, "note")][:1]
+    check("  of a zone by name", (["America/New_York"], ["offset from UTC in 2020 to 2030"]), titles)
+    path = run(program, "--svg", "-", f"{DATABASE}/Asia/Tokyo")[1].encode()
+    titles = [title.text for title in shapes(path, "title")], [note.text for note in shapes(path, "note")][:1]
+    check("  of a path in the database", (["Asia/Tokyo"], ["offset from UTC in 1951"]), titles)
     table = run(program, *year, "New_York", folder=data)[1]
     clocks_shown = [text.text for text in shapes(picture, "clock")]
     seconds_shown = [text.text for text in shapes(picture, "middle") if text.text.endswith(" UTC")]
@@ -498,8 +519,196 @@ def try_svg(program, folder):
     check("  what was there stays", picture, (folder / "picture").read_bytes())
     status, output, errors = run(program, "--svg", "folder", "good", folder=folder)
     check("--svg into a folder", (1, "", True), (status, output, errors.startswith("zonedump: folder: ")))
-    check("--svg of two files", (2, "", ONE_ZONE), run(program, "--svg", "picture", "good", "limit", folder=folder))
+    check("--svg of two files", (2, "", ONE_ZONE.format("svg")), run(program, "--svg", "picture", "good", "limit", folder=folder))
     check("  what was there stays", picture, (folder / "picture").read_bytes())
+
+
+def try_zone_names(program, folder):
+    """Zones by name, which never lead out of the folder of the database."""
+    known = run(program, f"{DATABASE}/Europe/Paris")[1].split("\n", 1)[1]
+    check("a zone by name", (0, f"Europe/Paris\n{known}", ""), run(program, "Europe/Paris", folder=folder))
+    two = run(program, "Europe/Paris", "Asia/Tokyo")
+    check("two zones by name", (0, 2, ""), (two[0], len(re.findall("(?m)^rule:", two[1])), two[2]))
+    place = folder / "database"
+    (place / "Here").mkdir(parents=True)
+    (place / "Here" / "Now").write_bytes((folder / "good").read_bytes())
+    good = run(program, "good", folder=folder)[1].split("\n", 1)[1]
+    check("--tzdir", (0, f"Here/Now\n{good}", ""), run(program, "--tzdir", str(place), "Here/Now"))
+    os.environ["TZDIR"] = str(place)
+    check("TZDIR", (0, f"Here/Now\n{good}", ""), run(program, "Here/Now"))
+    check("  has not the others", refused("Asia/Tokyo", UNKNOWN), run(program, "Asia/Tokyo"))
+    del os.environ["TZDIR"]
+    for name in ("../good", "Here/../../good", "./Here/Now", "Here//Now", "Here/", "Here"):
+        status, output, errors = run(program, "--tzdir", str(place), name, folder=place.parent.parent)
+        check(f"  {name} is no name", (1, "", True), (status, output, "no such file or zone" in errors))
+    given = subprocess.run([str(program), "-"], stdin=open(folder / "good", "rb"), capture_output=True, text=True)
+    check("standard input", (0, f"-\n{good}", ""), (given.returncode, given.stdout, given.stderr))
+    copied = subprocess.run([str(program), "--write", "-", "good"], cwd=folder, capture_output=True)
+    check("standard output", (0, b"TZif2"), (copied.returncode, copied.stdout[:5]))
+
+
+def try_at(program):
+    """What clocks show at times, as zoneinfo has it."""
+    names = ("Europe/Paris", "Asia/Tokyo", "America/New_York", "Australia/Lord_Howe", "Asia/Kathmandu", "Africa/Casablanca")
+    for second in range(-1_200_000_000, 2_100_000_000, 123_456_789):
+        due = ""
+        for name in names:
+            time = datetime.fromtimestamp(second, ZoneInfo(name))
+            offset = f"{time:%z}"
+            due += f"{name}  {time:%Y-%m-%d %H:%M:%S} {offset[:3]}:{offset[3:]} {time.tzname()}\n"
+        status, output, errors = run(program, "--at", f"@{second}", *names)
+        shown = re.sub(r"(?m)( [+-]\d\d:\d\d(?::\d\d)?) \w+ (\S+), .*$", r"\1 \2", output)
+        check(f"--at @{second}", (0, due, ""), (status, shown, errors))
+    check("--at of a minute", (0, "Asia/Tokyo  2026-11-01 18:00:00 +09:00 std JST, with no later change\n", ""),
+          run(program, "--at", "2026-11-01T09:00", "Asia/Tokyo"))
+    check("  with seconds and Z", (0, "Europe/Paris  2026-11-01 10:00:30 +01:00 std CET, until 2027-03-28 01:00:00 UTC\n", ""),
+          run(program, "--at", "2026-11-01T09:00:30Z", "Europe/Paris"))
+    for time, name, words in LOCAL_TIMES:
+        check(f"--local {time} {name}", (0, f"{name}  {words}\n", ""), run(program, "--at", time, "--local", name))
+
+
+def try_summary(program, folder):
+    """The differences of two folders in few lines, and which stored times move."""
+    (folder / "after/moved").write_bytes((folder / "new").read_bytes())
+    for side in ("before", "after"):
+        (folder / side / "right").mkdir()
+        (folder / side / "right" / "moved").write_bytes((folder / side / "moved").read_bytes())
+        (folder / side / "again").write_bytes((folder / side / "moved").read_bytes())
+    years = ("--from", "2021", "--to", "2023")
+    due = ("again, moved\n"
+           "  2021-03-14 07:00:00 to 2021-11-07 06:00:00 UTC: clocks are 60 min back, -04:00 dst EDT becomes -05:00 std EST, and 2 more\n"
+           "only in before: gone\nonly in after: b/added\n"
+           "zones that differ: 2 of 3; only in before: 1; only in after: 1\n")
+    check("--summary", (1, due, ""), run(program, *years, "--diff", "before", "after", "--summary", folder=folder))
+    check("  of one folder", (0, "zones that differ: 0 of 4; only in before: 0; only in before: 0\n", ""),
+          run(program, *years, "--diff", "before", "before", "--summary", folder=folder))
+    check("  of two files", (1, "zones that differ: 1 of 1; only in good: 0; only in new: 0\n"),
+          (lambda s, o, e: (s, o.splitlines(True)[-1]))(*run(program, *years, "--diff", "good", "new", "--summary", folder=folder)))
+    times = "2021-07-01T12:00,moved\n2021-12-01T12:00 moved\n\n2021-07-01T12:00Z moved\n2021-07-01 12:00:00,a/same\n"
+    (folder / "times").write_text(times)
+    due = ("2021-07-01T12:00,moved: 2021-07-01 16:00:00 UTC becomes 2021-07-01 17:00:00 UTC\n"
+           "2021-07-01T12:00Z moved: 2021-07-01 08:00:00 becomes 2021-07-01 07:00:00\n"
+           "times that move: 2 of 4\n")
+    check("--times", (1, due, ""), run(program, "--diff", "before", "after", "--times", "times", folder=folder))
+    given = subprocess.run([str(program), "--diff", "before", "after", "--times", "-"], cwd=folder, input=times, capture_output=True, text=True)
+    check("  of standard input", (1, due, ""), (given.returncode, given.stdout, given.stderr))
+    (folder / "times").write_text("2021-03-14T02:30\n2021-11-07T01:30\n2021-12-01\n")
+    due = ("2021-03-14T02:30: never (a gap at 2021-03-14 07:00:00 UTC) becomes 2021-03-14 07:30:00 UTC\n"
+           "2021-11-07T01:30: 2021-11-07 05:30:00 or 2021-11-07 06:30:00 UTC becomes 2021-11-07 06:30:00 UTC\n"
+           "times that move: 2 of 3\n")
+    check("  of two files", (1, due, ""), run(program, "--diff", "good", "new", "--times", "times", folder=folder))
+    (folder / "times").write_text("soon,moved\n2021-07-01T12:00,../good\n2021-07-01T12:00,none\n2021-12-01T12:00,moved\n")
+    status, output, errors = run(program, "--diff", "before", "after", "--times", "times", folder=folder)
+    check("  with lines that aren't times", (2, "times that move: 0 of 4\n", 3), (status, output, errors.count("\n")))
+
+
+def fits(value, form, forms):
+    """Whether a value fits a form of the JSON schema, of the words that the schema uses."""
+    kinds = {"object": dict, "array": list, "string": str, "integer": int, "boolean": bool, "null": type(None)}
+    if "$ref" in form:
+        return fits(value, forms[form["$ref"].rsplit("/", 1)[1]], forms)
+    if "oneOf" in form:
+        return sum(fits(value, each, forms) for each in form["oneOf"]) == 1
+    if "enum" in form:
+        return value in form["enum"]
+    names = form["type"] if isinstance(form["type"], list) else [form["type"]]
+    if type(value) not in [kinds[name] for name in names]:
+        return False
+    if isinstance(value, dict):
+        known = form["properties"]
+        return set(form["required"]) <= set(value) <= set(known) and all(fits(value[name], known[name], forms) for name in value)
+    if isinstance(value, list):
+        return all(fits(each, form["items"], forms) for each in value)
+    return not isinstance(value, int) or form.get("minimum", value) <= value <= form.get("maximum", value)
+
+
+def try_schema(program, folder):
+    """Each line of JSON fits the schema in docs/, and wrong ones don't."""
+    schema = json.loads((HERE / "docs/zonedump.schema.json").read_text())
+    names = sorted(str(path) for path in Path(DATABASE).glob("*/*") if path.is_file() and path.read_bytes()[:4] == b"TZif")
+    lines = run(program, "--json", *names)[1].splitlines() + run(program, "--json", "--text", "EST5EDT,J60/2,300/2")[1].splitlines()
+    lines += run(program, "--json", "--diff", "before", "after", folder=folder)[1].splitlines()
+    check("JSON fits its schema", (True, []),
+          (len(lines) > 300, [line[:80] for line in lines if not fits(json.loads(line), schema, schema["$defs"])]))
+    whole = json.loads(lines[0])
+    wrong = [{**whole, "from": 0}, {**whole, "also": 1}, {**whole, "rule": {}}, {name: whole[name] for name in whole if name != "types"}]
+    check("  and what is wrong doesn't", [], [each for each in wrong if fits(each, schema, schema["$defs"])])
+
+
+def try_wrong_uses(program, folder):
+    """What a new user may type: the answer says what to type."""
+    for words, answer in WRONG_USES:
+        status, output, errors = run(program, *words, folder=folder)
+        check(f"zonedump {' '.join(words)}", (True, "", answer, True), (status in (1, 2), output, answer if answer in errors else errors,
+                                                                         errors.startswith(("zonedump: ", "error: "))))
+
+
+FAULTS = r"""
+#define _GNU_SOURCE
+#include <errno.h>
+#include <fcntl.h>
+#include <stdarg.h>
+#include <stdlib.h>
+#include <sys/stat.h>
+#include <sys/syscall.h>
+#include <unistd.h>
+static int fails(void) {
+    static long calls;
+    if (++calls != atol(getenv("FAIL_AT"))) return 0;
+    syscall(SYS_openat, AT_FDCWD, getenv("FAILED"), O_CREAT, 0600);
+    return errno = EIO;
+}
+int openat(int folder, const char *path, int flags, ...) {
+    va_list more; va_start(more, flags); int mode = va_arg(more, int); va_end(more);
+    return fails() ? -1 : (int)syscall(SYS_openat, folder, path, flags, mode);
+}
+int open(const char *path, int flags, ...) {
+    va_list more; va_start(more, flags); int mode = va_arg(more, int); va_end(more);
+    return openat(AT_FDCWD, path, flags, mode);
+}
+ssize_t read(int file, void *to, size_t room) { return fails() ? -1 : syscall(SYS_read, file, to, room); }
+ssize_t getdents64(int file, void *to, size_t room) { return fails() ? -1 : syscall(SYS_getdents64, file, to, room); }
+int statx(int folder, const char *restrict path, int flags, unsigned mask, struct statx *restrict to) {
+    return fails() ? -1 : (int)syscall(SYS_statx, folder, path, flags, mask, to);
+}
+"""
+
+
+def try_faults(program, folder):
+    """Each system call by which --diff opens, lists or reads fails in turn: what is printed is right, and the fault is reported, or the
+    answer is whole."""
+    (folder / "faults.c").write_text(FAULTS)
+    subprocess.run(["cc", "-shared", "-fPIC", "-o", "faults.so", "faults.c"], cwd=folder, check=True)
+    for form in ([], ["--summary"]):
+        words = ["--from", "2021", "--to", "2021", "--diff", "before", "after", *form]
+        due = run(program, *words, folder=folder)
+        wrong, calls, failed = [], 0, folder / "failed"
+        while True:
+            calls += 1
+            failed.unlink(missing_ok=True)
+            environment = {**os.environ, "LD_PRELOAD": str(folder / "faults.so"), "FAIL_AT": str(calls), "FAILED": str(failed)}
+            ran = subprocess.run([str(program), *words], cwd=folder, env=environment, capture_output=True, text=True, timeout=SECONDS)
+            answer = ran.returncode, ran.stdout, ran.stderr
+            if not failed.exists():
+                break
+            printed = set(ran.stdout.splitlines()) <= set(due[1].splitlines()) if form == [] else True
+            if answer != due and (ran.returncode != 2 or ran.stderr == "" or not printed):
+                wrong.append((calls, *answer))
+        check(f"--diff {' '.join(form)} with {calls - 1} calls that fail", (True, [], due), (calls > 20, wrong, (ran.returncode, ran.stdout, ran.stderr)))
+
+
+def try_memory(program, folder):
+    """The table of a zone needs memory for the zone, and not for its lines."""
+    count = 1_000_000
+    block = lambda size, form: b"TZif2" + bytes(15) + struct.pack(">6l", 0, 0, 0, count if size else 0, 2 if size else 1, 8 if size else 4)
+    times = struct.pack(f">{count}q", *range(-2_000_000_000, -2_000_000_000 + 3000 * count, 3000))
+    (folder / "many").write_bytes(block(0, 0) + struct.pack(">lBB", 0, 0, 0) + b"UTC\0" + block(8, 0) + times + bytes([1, 0]) * (count // 2)
+                                  + struct.pack(">lBB", 0, 0, 0) + struct.pack(">lBB", 3600, 1, 4) + b"AAA\0BBB\0" + b"\n\n")
+    most = []
+    for words in (["--at", "@0"], ["--from", "1", "--to", "9999"]):
+        child = subprocess.Popen([str(program), *words, "many"], cwd=folder, stdout=subprocess.DEVNULL)
+        most.append(os.wait4(child.pid, 0)[2].ru_maxrss)
+    check("memory of a table of a million lines", True, most[1] < most[0] + 2048)
 
 
 def main():
@@ -527,10 +736,17 @@ def main():
         try_diff(program, folder)
         try_closed(program, folder)
         try_empty(program)
-        over = "zonedump: --svg names the file that is read\n"
+        over = "zonedump: --svg names the file that is read; name a new file\n"
         for words in (["--svg", "good", "good"], ["--svg", "./good", "good"]):
             check(" ".join(words), (2, "", over), run(program, *words, folder=folder))
         try_svg(program, folder)
+        try_zone_names(program, folder)
+        try_at(program)
+        try_summary(program, folder)
+        try_schema(program, folder)
+        try_wrong_uses(program, folder)
+        try_memory(program, folder)
+        try_faults(program, folder)
         check("a full standard output", (1, ""), run(program, "good", folder=folder, redirect=">/dev/full")[:2])
     for words in WRONG_WORDS:
         status, output, errors = run(program, *words)
@@ -541,7 +757,9 @@ def main():
     return exit_status()
 
 
-ONE_ZONE = "zonedump: only one zone is written or drawn\n"
+ONE_ZONE = "zonedump: --{} takes one zone; call zonedump once for each zone\n"
+TWO = "zonedump: --diff takes two files or two folders, OLD and NEW"
+UNKNOWN = "no such file or zone; a zone has a name like Europe/Paris"
 
 MAGIC = "not a TZif file: invalid TZif file: expected TZif at the front of a header (5)"
 SHORT = "not a TZif file: unexpected end: expected more bytes (7)"
@@ -550,7 +768,7 @@ WRONG = {
     "zip": MAGIC, "text": MAGIC, "limit": MAGIC, "empty": SHORT, "head": SHORT, "short": SHORT,
     "footer": "not a TZif file: invalid TZif file: expected a footer between newlines (5)",
     "large": "larger than 64 MiB", "folder": "Is a directory (os error 21)",
-    "missing": "No such file or directory (os error 2)",
+    "missing": UNKNOWN,
 }
 
 WRONG_WORDS = (
@@ -560,6 +778,56 @@ WRONG_WORDS = (
     ["--svg", "y", "--write", "z", "x"], ["--write", "y", "--json", "x"], ["--write", "y", "--zdump", "x"],
     ["--write", "y", "--from", "2000", "x"], ["--write", "y", "--to", "2000", "x"], ["--extended", "x"], ["--extended"],
     ["--svg", "y", "--svg", "z", "x"], ["--json", "--json", "x"], ["--text", "UTC0", "--text", "UTC0"],
+)
+
+LOCAL_TIMES = (
+    ("2021-03-14T02:30", "America/New_York",
+     "never shown: clocks went from 2021-03-14 02:00:00 to 2021-03-14 03:00:00, at 2021-03-14 07:00:00 UTC"),
+    ("2021-11-07T01:30", "America/New_York",
+     "shown more than once: first at 2021-11-07 05:30:00 UTC, -04:00 dst EDT, and last at 2021-11-07 06:30:00 UTC, -05:00 std EST"
+     "; clocks went from 2021-11-07 02:00:00 to 2021-11-07 01:00:00, at 2021-11-07 06:00:00 UTC"),
+    ("2021-04-04T01:45", "Australia/Lord_Howe",
+     "shown more than once: first at 2021-04-03 14:45:00 UTC, +11:00 dst +11, and last at 2021-04-03 15:15:00 UTC, +10:30 std +1030"
+     "; clocks went from 2021-04-04 02:00:00 to 2021-04-04 01:30:00, at 2021-04-03 15:00:00 UTC"),
+    ("2011-12-30T12:00", "Pacific/Apia",
+     "never shown: clocks went from 2011-12-30 00:00:00 to 2011-12-31 00:00:00, at 2011-12-30 10:00:00 UTC"),
+    ("2026-11-01T09:00", "Europe/Paris", "2026-11-01 08:00:00 UTC, +01:00 std CET, until 2027-03-28 01:00:00 UTC"),
+    ("2026-11-01", "Asia/Tokyo", "2026-10-31 15:00:00 UTC, +09:00 std JST, with no later change"),
+)
+
+WRONG_USES = (
+    ([], "name a zone, as in zonedump Europe/Paris"),
+    (["Europe/Pariss"], "did you mean Europe/Paris?"),
+    (["Paris"], "did you mean Europe/Paris?"),
+    (["europe/paris"], "did you mean Europe/Paris?"),
+    (["New York"], "did you mean America/New_York?"),
+    (["Foo/Bar"], "a zone has a name like Europe/Paris"),
+    (["EST5EDT,M3.2.0,M11.1.0"], "a TZ string is given by --text 'EST5EDT,M3.2.0,M11.1.0'"),
+    (["--text", "America/New_York"], "leave out --text, as in zonedump America/New_York"),
+    (["--text", "UTC"], "leave out --text, as in zonedump UTC"),
+    (["--text", "UTC0", "Europe/Paris"], "cannot be used with"),
+    (["--from", "0", "Europe/Paris"], "--from takes a year from 1 to 9999, as in --from 2026, and not '0'"),
+    (["--from", "-5", "Europe/Paris"], "--from takes a year from 1 to 9999, as in --from 2026, and not '-5'"),
+    (["--to", "soon", "Europe/Paris"], "--to takes a year from 1 to 9999, as in --to 2026, and not 'soon'"),
+    (["--from", "2040", "--to", "1990", "Europe/Paris"], "write the earlier year after --from"),
+    (["--form", "2020", "Europe/Paris"], "--from"),
+    (["--at", "soon", "Europe/Paris"], "--at takes a time, as in --at 2026-11-01T09:00"),
+    (["--at", "2026-02-29T09:00", "Europe/Paris"], "--at takes a time, as in --at 2026-11-01T09:00"),
+    (["--at", "09:00", "Europe/Paris"], "--at takes a time, as in --at 2026-11-01T09:00"),
+    (["--at", "2026-11-01T09:00"], "name a zone, as in zonedump Europe/Paris"),
+    (["--at", "2026-11-01T09:00Z", "--local", "Europe/Paris"], "--at takes a time, as in --at 2026-11-01T09:00"),
+    (["--local", "Europe/Paris"], "--local goes with --at, as in --at 2026-11-01T09:00 --local"),
+    (["--diff", "good"], "--diff takes two files or two folders, OLD and NEW"),
+    (["--diff", "good", "folder"], "--diff takes two files or two folders, OLD and NEW (folder is a folder, good is not)"),
+    (["--diff", "good", "Europe/Pariss"], "did you mean Europe/Paris?"),
+    (["--summary", "good"], "--summary goes with --diff, as in zonedump --diff OLD NEW --summary"),
+    (["--times", "times", "good"], "--times goes with --diff, as in zonedump --diff OLD NEW --times"),
+    (["--write", "x", "Europe/Paris", "Asia/Tokyo"], "call zonedump once for each zone"),
+    (["--svg", "x", "Europe/Paris", "Asia/Tokyo"], "call zonedump once for each zone"),
+    (["--svg", "good", "good"], "name a new file"),
+    (["--colors", "dark", "Europe/Paris"], "--colors goes with --svg, as in --svg NEW --colors dark"),
+    (["--svg", "x", "--colors", "blue", "Europe/Paris"], "--colors takes light or dark, as in --colors dark"),
+    (["--json", "--zdump", "Europe/Paris"], "cannot be used with"),
 )
 
 HELP = ("1 to 9999", "one zone", "--extended", "Exit status", "--text <TZ>")

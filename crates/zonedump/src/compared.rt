@@ -1,8 +1,11 @@
 //! Two files compared, or the files of two folders.
 
-use crate::folders::Contents;
+use crate::output::print;
+use crate::source::{NOT_UTF8, path_of, say, zone_of_file};
+use crate::summary::Summary;
 use crate::words::{is_utf8, report, shown};
-use crate::{files, folders, told};
+use crate::{files, folders, guesses, times};
+use folders::Contents;
 use std::fmt::Write;
 use std::io::ErrorKind;
 use std::{fs, io};
@@ -10,39 +13,84 @@ use tz_info::Difference;
 use zonedump_lib::{Years, differences_in, differences_to_json, lone_to_json, push_differences};
 
 // The status of a run, as that of diff. Of several files it is the greatest.
-const EQUAL: u8 = 0;
+pub const EQUAL: u8 = 0;
 
-const DIFFERENT: u8 = 1;
+pub const DIFFERENT: u8 = 1;
 
-const ERROR: u8 = 2;
+pub const ERROR: u8 = 2;
 
-/// What is compared: the years, and whether the differences are printed as JSON.
+/// The form in which differences are printed.
 #[derive(Clone, Copy)]
-pub struct Compared {
-    pub years: Years,
-    pub is_json: bool,
+pub enum Form<'a> {
+    Lines,
+    Json,
+    /// Zones with the same differences together.
+    Summary,
+    /// Which of the times in that file move.
+    Times(&'a str),
 }
 
-/// Prints the differences of the zones of two files or of two folders, and returns the status: 0 if
+/// How zones are compared.
+#[derive(Clone, Copy)]
+pub struct Compared<'a> {
+    pub years: Years,
+    pub form: Form<'a>,
+    /// The folders of the tz database with the zones that are named.
+    pub folders: &'a [String],
+}
+
+/// Prints the differences of two zones, or of the zones of two folders, and returns the status: 0 if
 /// they are equal, 1 if there are differences, and 2 for an error.
-pub fn print(rt: &HostRuntime, old: &str, new: &str, asked: Compared) -> u8 {
-    match compare(rt, old, new, asked) {
+pub fn compare(rt: &HostRuntime, words: [&str; 2], asked: Compared<'_>) -> u8 {
+    match compare_words(rt, words, asked) {
         Ok(status) => status,
         Err(error) => {
-            let _ = eprintln!(rt; "zonedump: {error}");
+            say(rt, error);
             ERROR
         }
     }
 }
 
-fn compare(rt: &HostRuntime, old: &str, new: &str, asked: Compared) -> io::Result<u8> {
-    match (kind_of(rt, old), kind_of(rt, new)) {
-        (Kind::Folder, Kind::Folder) => compare_folders(rt, old, new, asked),
-        (Kind::File, Kind::File) => compare_files(rt, None, old, new, asked),
-        (Kind::Folder, Kind::File) => Ok(refuse_kinds(rt, old, new)),
-        (Kind::File, Kind::Folder) => Ok(refuse_kinds(rt, new, old)),
+// Compares what the two words lead to.
+fn compare_words(rt: &HostRuntime, words: [&str; 2], asked: Compared<'_>) -> io::Result<u8> {
+    let [old, new] = words;
+    let old = path_or_report(rt, old, asked.folders)?;
+    let new = path_or_report(rt, new, asked.folders)?;
+    match (old, new) {
+        (Some(old), Some(new)) => compare_paths(rt, old.as_str(), new.as_str(), asked),
         _ => Ok(ERROR),
     }
+}
+
+fn path_or_report(rt: &HostRuntime, word: &str, folders: &[String]) -> io::Result<Option<String>> {
+    let found = path_of(rt, word, folders)?;
+    if found.is_none() {
+        guesses::report_unknown(rt, word, folders)?;
+    }
+    Ok(found)
+}
+
+fn compare_paths(rt: &HostRuntime, old: &str, new: &str, asked: Compared<'_>) -> io::Result<u8> {
+    let are_folders = match (kind_of(rt, old), kind_of(rt, new)) {
+        (Kind::Folder, Kind::Folder) => true,
+        (Kind::File, Kind::File) => false,
+        (Kind::Folder, Kind::File) => return Ok(refuse_kinds(rt, old, new)),
+        (Kind::File, Kind::Folder) => return Ok(refuse_kinds(rt, new, old)),
+        _ => return Ok(ERROR),
+    };
+    if let Form::Times(file) = asked.form {
+        return times::print_moves(rt, old, new, are_folders, file);
+    }
+    let mut summary = Summary::new(rt.alloc());
+    let status = if are_folders {
+        compare_folders(rt, old, new, asked, &mut summary)?
+    } else {
+        compare_files(rt, None, old, new, asked, &mut summary)?
+    };
+    if let Form::Summary = asked.form {
+        print_part(rt, summary.text(rt.alloc(), old, new)?.as_bytes())?;
+    }
+    Ok(status)
 }
 
 // What a path leads to.
@@ -57,7 +105,7 @@ enum Kind {
 
 fn kind_of(rt: &HostRuntime, path: &str) -> Kind {
     if !is_utf8(path) {
-        report(rt, path, told::NOT_UTF8);
+        report(rt, path, NOT_UTF8);
         return Kind::Unread;
     }
     match fs::metadata(rt, path) {
@@ -70,24 +118,35 @@ fn kind_of(rt: &HostRuntime, path: &str) -> Kind {
     }
 }
 
+/// What `--diff` compares.
+pub const TWO: &str = "--diff takes two files or two folders, OLD and NEW";
+
 fn refuse_kinds(rt: &HostRuntime, folder: &str, file: &str) -> u8 {
     let folder = shown(folder);
     let file = shown(file);
-    let _ = eprintln!(rt;
-        "zonedump: {} ({folder} is a folder, {file} is not)",
-        told::TWO
-    );
+    let _ = eprintln!(rt; "zonedump: {TWO} ({folder} is a folder, {file} is not)");
     ERROR
 }
 
 // Compares the files of the same name, in order, and reports each zone that only one folder has.
-fn compare_folders(rt: &HostRuntime, old: &str, new: &str, asked: Compared) -> io::Result<u8> {
+fn compare_folders(
+    rt: &HostRuntime,
+    old: &str,
+    new: &str,
+    asked: Compared<'_>,
+    summary: &mut Summary,
+) -> io::Result<u8> {
     let old_contents = folders::contents_of(rt, old)?;
     let new_contents = folders::contents_of(rt, new)?;
     let is_whole = old_contents.unread.is_empty() && new_contents.unread.is_empty();
     let mut status = if is_whole { EQUAL } else { ERROR };
     for name in names_of_both(rt, &old_contents, &new_contents)?.iter() {
-        status = status.max(compare_named(rt, name.as_str(), old, new, asked)?);
+        if let Form::Summary = asked.form
+            && folders::is_double(name.as_str())
+        {
+            continue;
+        }
+        status = status.max(compare_named(rt, name.as_str(), old, new, asked, summary)?);
     }
     Ok(status)
 }
@@ -122,7 +181,8 @@ fn compare_named(
     name: &str,
     old: &str,
     new: &str,
-    asked: Compared,
+    asked: Compared<'_>,
+    summary: &mut Summary,
 ) -> io::Result<u8> {
     let old_path = folders::path_of(rt, old, name)?;
     let new_path = folders::path_of(rt, new, name)?;
@@ -131,10 +191,17 @@ fn compare_named(
         side_at(rt, new_path.as_str()),
     ) {
         (Side::Zone, Side::Zone) => {
-            compare_files(rt, Some(name), old_path.as_str(), new_path.as_str(), asked)
+            let (old, new) = (old_path.as_str(), new_path.as_str());
+            compare_files(rt, Some(name), old, new, asked, summary)
         }
-        (Side::Zone, Side::NoZone) => print_lone(rt, old, name, asked),
-        (Side::NoZone, Side::Zone) => print_lone(rt, new, name, asked),
+        (Side::Zone, Side::NoZone) => {
+            summary.add_old(rt.alloc(), name)?;
+            print_lone(rt, old, name, asked)
+        }
+        (Side::NoZone, Side::Zone) => {
+            summary.add_new(rt.alloc(), name)?;
+            print_lone(rt, new, name, asked)
+        }
         (Side::NoZone, Side::NoZone) => Ok(EQUAL),
         _ => Ok(ERROR),
     }
@@ -150,10 +217,7 @@ enum Side {
 }
 
 fn side_at(rt: &HostRuntime, path: &str) -> Side {
-    if !folders::is_file(rt, path) {
-        return Side::NoZone;
-    }
-    match files::is_zone(rt, path) {
+    match is_zone_at(rt, path) {
         Ok(true) => Side::Zone,
         Ok(false) => Side::NoZone,
         Err(error) => {
@@ -163,26 +227,45 @@ fn side_at(rt: &HostRuntime, path: &str) -> Side {
     }
 }
 
+// Whether a path leads to a file that begins as a zone does.
+fn is_zone_at(rt: &HostRuntime, path: &str) -> io::Result<bool> {
+    match fs::metadata(rt, path) {
+        Ok(found) => Ok(found.is_file() && files::is_zone(rt, path)?),
+        Err(error) => match error.kind() {
+            ErrorKind::NotFound | ErrorKind::NotADirectory => Ok(false),
+            _ => Err(error),
+        },
+    }
+}
+
 // Prints that only one of the folders has a zone.
-fn print_lone(rt: &HostRuntime, folder: &str, name: &str, asked: Compared) -> io::Result<u8> {
-    let text = if asked.is_json {
-        let path = folders::path_of(rt, folder, name)?;
-        let mut line = lone_to_json(rt.alloc(), path.as_str())?;
-        line.push(b'\n')?;
-        line
-    } else {
-        let name = shown(name);
-        let folder = shown(folder);
-        format!(in rt.alloc(); "{name}: only in {folder}\n")?.into_bytes()
-    };
-    print_part(rt, text.as_slice())?;
+fn print_lone(rt: &HostRuntime, folder: &str, name: &str, asked: Compared<'_>) -> io::Result<u8> {
+    match asked.form {
+        Form::Json => {
+            let path = folders::path_of(rt, folder, name)?;
+            let mut line = lone_to_json(rt.alloc(), path.as_str())?;
+            line.push(b'\n')?;
+            print_part(rt, line.as_slice())?;
+        }
+        Form::Lines => {
+            let name = shown(name);
+            let folder = shown(folder);
+            let line = format!(in rt.alloc(); "{name}: only in {folder}\n")?;
+            print_part(rt, line.as_bytes())?;
+        }
+        Form::Summary | Form::Times(_) => {}
+    }
     Ok(DIFFERENT)
 }
 
-// Prints one part of the differences. If nobody reads them any more, the rest is still compared for
-// the status.
-fn print_part(rt: &HostRuntime, bytes: &[u8]) -> io::Result<()> {
-    match told::print(rt, bytes) {
+/// Prints one part of the differences. If nobody reads them any more, the rest is still compared for
+/// the status.
+///
+/// # Errors
+///
+/// Standard output can't be written, and isn't closed.
+pub fn print_part(rt: &HostRuntime, bytes: &[u8]) -> io::Result<()> {
+    match print(rt, bytes) {
         Err(error) if error.kind() != ErrorKind::BrokenPipe => Err(error),
         _ => Ok(()),
     }
@@ -193,49 +276,55 @@ fn compare_files(
     name: Option<&str>,
     old: &str,
     new: &str,
-    asked: Compared,
+    asked: Compared<'_>,
+    summary: &mut Summary,
 ) -> io::Result<u8> {
-    let old_zone = told::zone_of_file(rt, old)?;
-    let new_zone = told::zone_of_file(rt, new)?;
+    let old_zone = zone_of_file(rt, old, &[])?;
+    let new_zone = zone_of_file(rt, new, &[])?;
     let Some(old_zone) = old_zone else {
         return Ok(ERROR);
     };
     let Some(new_zone) = new_zone else {
         return Ok(ERROR);
     };
-    match differences_in(rt.alloc(), &old_zone, &new_zone, asked.years) {
-        Ok(found) => print_found(rt, name, old, new, asked, &found),
-        Err(_) => {
-            report(rt, new, "out of memory");
-            Ok(ERROR)
-        }
+    let Ok(found) = differences_in(rt.alloc(), &old_zone, &new_zone, asked.years) else {
+        report(rt, new, "out of memory");
+        return Ok(ERROR);
+    };
+    let status = if found.is_empty() { EQUAL } else { DIFFERENT };
+    match asked.form {
+        Form::Json => print_json(rt, name, old, new, asked.years, &found)?,
+        Form::Summary => summary.add(rt.alloc(), name.unwrap_or(new), found)?,
+        Form::Lines | Form::Times(_) => print_lines(rt, name, &found)?,
     }
+    Ok(status)
 }
 
-// Prints the differences, those of a file in a folder after its name.
-fn print_found(
+// Prints the differences as JSON. Of a folder's files only those that differ are printed.
+fn print_json(
     rt: &HostRuntime,
     name: Option<&str>,
     old: &str,
     new: &str,
-    asked: Compared,
+    years: Years,
     found: &[Difference],
-) -> io::Result<u8> {
-    if asked.is_json {
-        if name.is_none() || !found.is_empty() {
-            let mut line = differences_to_json(rt.alloc(), old, new, asked.years, found)?;
-            line.push(b'\n')?;
-            print_part(rt, line.as_slice())?;
-        }
-    } else {
-        let mut lines = String::new(rt.alloc());
-        if let Some(name) = name
-            && !found.is_empty()
-        {
-            writeln!(lines, "{}", shown(name))?;
-        }
-        push_differences(&mut lines, found)?;
-        print_part(rt, lines.as_bytes())?;
+) -> io::Result<()> {
+    if name.is_some() && found.is_empty() {
+        return Ok(());
     }
-    Ok(if found.is_empty() { EQUAL } else { DIFFERENT })
+    let mut line = differences_to_json(rt.alloc(), old, new, years, found)?;
+    line.push(b'\n')?;
+    print_part(rt, line.as_slice())
+}
+
+// Prints the differences, those of a file in a folder after its name.
+fn print_lines(rt: &HostRuntime, name: Option<&str>, found: &[Difference]) -> io::Result<()> {
+    let mut lines = String::new(rt.alloc());
+    if let Some(name) = name
+        && !found.is_empty()
+    {
+        writeln!(lines, "{}", shown(name))?;
+    }
+    push_differences(&mut lines, found)?;
+    print_part(rt, lines.as_bytes())
 }

@@ -8,9 +8,6 @@ use std::path::Path;
 use std::random::RandomSource;
 use std::{fs, io};
 
-// 64 MiB, far above any zone of the tz database.
-const LIMIT: u64 = 67_108_864;
-
 // How many characters of a file's name are in the name of its temporary file, which may have 255
 // bytes.
 const NAME: usize = 50;
@@ -20,21 +17,6 @@ const MAGIC: [u8; 4] = *b"TZif";
 
 // Who may read, write and run a file.
 const ACCESS: u32 = 0o777;
-
-/// Returns the bytes of a file, or nothing if there are more than 64 MiB of them.
-///
-/// # Errors
-///
-/// The file can't be opened or read, or there is no memory for its bytes.
-pub fn read_limited(rt: &HostRuntime, path: &str) -> io::Result<Option<Vec<u8>>> {
-    let file = File::open(rt, path)?;
-    let mut bytes = Vec::new(rt.alloc());
-    file.take(LIMIT + 1).read_to_end(&mut bytes)?;
-    if bytes.len() as u64 > LIMIT {
-        return Ok(None);
-    }
-    Ok(Some(bytes))
-}
 
 /// Whether a file begins as a TZif file does. Only its first four bytes are read.
 ///

@@ -1,6 +1,6 @@
 //! The files of a folder.
 
-use crate::told;
+use crate::source::NOT_UTF8;
 use crate::words::{self, report};
 use std::fs::{self, Files};
 use std::io;
@@ -15,9 +15,15 @@ pub fn path_of(rt: &HostRuntime, folder: &str, name: &str) -> io::Result<String>
     Ok(Path::new(folder).join(rt.alloc(), name)?.into_string())
 }
 
-/// Whether a path leads to a file.
-pub fn is_file(rt: &HostRuntime, path: &str) -> bool {
-    fs::metadata(rt, path).is_ok_and(|found| found.is_file())
+/// Whether a path leads to a folder.
+pub fn is_folder(rt: &HostRuntime, path: &str) -> bool {
+    fs::metadata(rt, path).is_ok_and(|found| found.is_dir())
+}
+
+/// Whether a zone of the tz database is there a second time under another name: with leap seconds,
+/// or without them for certain.
+pub fn is_double(name: &str) -> bool {
+    name.starts_with("right/") || name.starts_with("posix/")
 }
 
 /// What a folder holds, and the folders in it. Names are relative to it.
@@ -113,7 +119,7 @@ fn add(
     let name = path_of(rt, within, words::word(rt, name)?.as_str())?;
     let path = path_of(rt, top, name.as_str())?;
     if !words::is_utf8(name.as_str()) {
-        return leave_out(rt, path.as_str(), told::NOT_UTF8, name, found);
+        return leave_out(rt, path.as_str(), NOT_UTF8, name, found);
     }
     match kind_of(rt, path.as_str()) {
         Ok(Kind::Folder) => Ok(folders.push(name)?),

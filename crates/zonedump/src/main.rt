@@ -1,24 +1,31 @@
-//! Lists, compares, draws and writes the clock changes of TZif files, or of a TZ string.
+//! Lists, compares, draws and writes the clock changes of zones, and says what their clocks show.
 #![tactic(auto)]
 
+mod answers;
 mod arguments;
 mod compared;
 mod files;
 mod folders;
-mod told;
+mod guesses;
+mod moments;
+mod output;
+mod source;
+mod summary;
+mod times;
 mod words;
 
+use arguments::Fault;
 use clap::ArgMatches;
-use compared::Compared;
+use compared::{Compared, TWO};
+use output::{Asked, What, write_out};
+use source::{Source, say};
 use std::fmt::Write;
 use std::io::{self, ErrorKind};
 use std::process::ExitCode;
-use told::{Asked, What, tell_file, tell_text};
 use words::OneLine;
-use zonedump_lib::Years;
 
 // The status of a run that printed everything, of one that did not, and of wrong arguments.
-const TOLD: u8 = 0;
+const DONE: u8 = 0;
 
 const FAILED: u8 = 1;
 
@@ -28,9 +35,9 @@ fn main(rt: HostRuntime) -> ExitCode {
     match run(&rt) {
         Ok(status) => ExitCode::from(status),
         // Nobody reads what is printed, as after `head`.
-        Err(error) if error.kind() == ErrorKind::BrokenPipe => ExitCode::from(TOLD),
+        Err(error) if error.kind() == ErrorKind::BrokenPipe => ExitCode::from(DONE),
         Err(error) => {
-            let _ = eprintln!(rt; "zonedump: {error}");
+            say(&rt, error);
             ExitCode::from(FAILED)
         }
     }
@@ -39,7 +46,7 @@ fn main(rt: HostRuntime) -> ExitCode {
 fn run(rt: &HostRuntime) -> io::Result<u8> {
     let words = words::of_call(rt)?;
     match arguments::command(rt.alloc())?.try_get_matches_from(words.as_slice()) {
-        Ok(matches) => tell_matched(rt, &matches),
+        Ok(matches) => answer(rt, &matches),
         Err(error) => explain(rt, &error),
     }
 }
@@ -59,69 +66,103 @@ fn explain(rt: &HostRuntime, error: &clap::Error) -> io::Result<u8> {
     Ok(error.exit_code() as u8)
 }
 
-fn tell_matched(rt: &HostRuntime, matches: &ArgMatches<'_>) -> io::Result<u8> {
-    let Some(years) = arguments::years_of(matches) else {
-        return refuse(rt, "years must be 1 to 9999, --from not after --to");
-    };
-    if matches.get_flag("diff") {
-        return compare(rt, matches, years);
-    }
-    let what = arguments::what_of(matches);
-    tell_asked(rt, matches, Asked { years, what })
-}
-
-// Prints the differences of two files or folders.
-fn compare(rt: &HostRuntime, matches: &ArgMatches<'_>, years: Years) -> io::Result<u8> {
-    match matches.get_strs("FILE") {
-        Some([old, new]) => {
-            let is_json = matches.get_flag("json");
-            Ok(compared::print(rt, old, new, Compared { years, is_json }))
-        }
-        _ => refuse(rt, told::TWO),
-    }
-}
-
-fn tell_asked(rt: &HostRuntime, matches: &ArgMatches<'_>, asked: Asked<'_>) -> io::Result<u8> {
-    if let Some(text) = matches.get_str("text") {
-        let is_told = tell_text(rt, text, matches.get_flag("extended"), asked)?;
-        return Ok(if is_told { TOLD } else { FAILED });
-    }
-    match matches.get_strs("FILE") {
-        Some(files) => tell_files(rt, files, asked),
-        None => Ok(TOLD),
+fn answer(rt: &HostRuntime, matches: &ArgMatches<'_>) -> io::Result<u8> {
+    let words = matches.get_strs("ZONE").unwrap_or(&[]);
+    match arguments::asked_of(matches, words.len()) {
+        Err(fault) => Ok(refuse(rt, fault)),
+        Ok(asked) if matches.get_flag("diff") => compare(rt, matches, words, asked),
+        Ok(asked) => write_zones(rt, matches, words, asked),
     }
 }
 
 // Says why what is asked for can't be done.
-fn refuse(rt: &HostRuntime, why: &str) -> io::Result<u8> {
-    let _ = eprintln!(rt; "zonedump: {why}");
-    Ok(WRONG)
+fn refuse<T: std::fmt::Display + Drop>(rt: &HostRuntime, why: T) -> u8 {
+    say(rt, why);
+    WRONG
 }
 
-fn tell_files(rt: &HostRuntime, files: &[&str], asked: Asked<'_>) -> io::Result<u8> {
-    if asked.what.target().is_some() && files.len() > 1 {
-        return refuse(rt, "only one zone is written or drawn");
+// Prints the differences of two files or folders.
+fn compare(
+    rt: &HostRuntime,
+    matches: &ArgMatches<'_>,
+    words: &[&str],
+    asked: Asked<'_>,
+) -> io::Result<u8> {
+    let [old, new] = words else {
+        return Ok(refuse(rt, TWO));
+    };
+    let folders = folders_of(rt, matches)?;
+    let asked = Compared {
+        years: asked.years,
+        form: arguments::form_of(matches),
+        folders: folders.as_slice(),
+    };
+    Ok(compared::compare(rt, [old, new], asked))
+}
+
+fn write_zones(
+    rt: &HostRuntime,
+    matches: &ArgMatches<'_>,
+    words: &[&str],
+    asked: Asked<'_>,
+) -> io::Result<u8> {
+    if let Some(text) = matches.get_str("text") {
+        let source = if matches.get_flag("extended") {
+            Source::Extended(text)
+        } else {
+            Source::Text(text)
+        };
+        let is_done = write_out(rt, source, asked)?;
+        return Ok(if is_done { DONE } else { FAILED });
     }
-    if draws_over(rt, asked.what, files) {
-        return refuse(rt, "--svg names the file that is read");
+    let folders = folders_of(rt, matches)?;
+    if draws_over(rt, asked.what, words, folders.as_slice())? {
+        return Ok(refuse(rt, Fault::DrawsOver));
     }
-    tell_each(rt, files, asked)
+    write_each(rt, words, folders.as_slice(), asked)
+}
+
+// The folders of the tz database with the zones that are named.
+fn folders_of(rt: &HostRuntime, matches: &ArgMatches<'_>) -> io::Result<Vec<String>> {
+    let Some(folder) = matches.get_str("tzdir") else {
+        return zoned_files::folders(rt);
+    };
+    let mut folders = Vec::new(rt.alloc());
+    folders.push(String::from_str(rt.alloc(), folder)?)?;
+    Ok(folders)
 }
 
 // Whether the picture is to replace a file that is read.
-fn draws_over(rt: &HostRuntime, what: What<'_>, files: &[&str]) -> bool {
-    let What::Draw(target) = what else {
-        return false;
+fn draws_over(
+    rt: &HostRuntime,
+    what: What<'_>,
+    words: &[&str],
+    folders: &[String],
+) -> io::Result<bool> {
+    let What::Draw(target, _) = what else {
+        return Ok(false);
     };
-    files.iter().any(|file| files::are_same(rt, target, file))
+    for word in words {
+        if let Some(path) = source::path_of(rt, word, folders)?
+            && files::are_same(rt, target, path.as_str())
+        {
+            return Ok(true);
+        }
+    }
+    Ok(false)
 }
 
-// Tells each of the files, as long as somebody reads what is printed. One that is rejected leaves the
-// others as they are.
-fn tell_each(rt: &HostRuntime, files: &[&str], asked: Asked<'_>) -> io::Result<u8> {
-    let mut status = TOLD;
-    for file in files {
-        match tell_file(rt, file, asked) {
+// Writes each of the zones, as long as somebody reads what is printed. One that is rejected leaves
+// the others as they are.
+fn write_each(
+    rt: &HostRuntime,
+    words: &[&str],
+    folders: &[String],
+    asked: Asked<'_>,
+) -> io::Result<u8> {
+    let mut status = DONE;
+    for word in words {
+        match write_out(rt, Source::File(word, folders), asked) {
             Ok(true) => {}
             Ok(false) => status = FAILED,
             Err(error) if error.kind() == ErrorKind::BrokenPipe => return Ok(status),

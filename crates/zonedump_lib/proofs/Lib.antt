@@ -1,3 +1,4 @@
-pub mod Words
+pub mod CitedWords
+mod LineLaws
 mod TableLaws
-mod JsonPutting
+pub mod JsonPutting

@@ -1,6 +1,8 @@
 -- Lines one after the other, and the seconds of the changes in some years.
-use Rattle.zonedump_lib.proofs.Words.{All, AreChanges, AreYears, Change, Contains-get_or, IsInYears, IsNearYears, List, LocalType, append_assoc, arith}
-use Rattle.zonedump_lib.proofs.Words.{from_first, get_or, ints, pos, until_last, year_second, year_until, ℕ, ℤ, ◌++◌, ◌+ℤ◌, ◌≡◌}
+use Rattle.zonedump_lib.proofs.CitedWords.{All, AreChanges, AreYears, Change, Contains-get_or, IsInYears, IsNearYears, List, LocalType, append_assoc, arith, []}
+use Rattle.zonedump_lib.proofs.CitedWords.{change_lines, change_text, get_or, ints, length, pos, year_second, year_until, ℕ, ℤ, ◌++◌, ◌+ℤ◌, ◌+◌, ◌-◌, ◌∷◌, ◌≡◌}
+use Rattle.zonedump_lib.proofs.LineLaws.{from_first, until_last}
+use Rattle.std.proofs.lemmas.List.Elements.{All-head, All-tail}
 
 -- four pieces are appended, one by one
 pub four_pieces : (start one two three four a b d e : List ℕ) → one ≡ start ++ a → two ≡ one ++ b → three ≡ two ++ d → four ≡ three ++ e
@@ -20,3 +22,18 @@ pub near_years : (in_force : ℤ → LocalType → Type 0) (first last : ℤ) (c
 near_years in_force first last changes years are k d within =
     let here = ((are.each (get_or changes k d)).0 (Contains-get_or changes k d within)).1 in
     grind (arith, ints, from_first first years.after_zero, until_last last years.four_digits)
+
+-- ---- a line is written of the first of the changes that are left
+
+pub near_first : (c : Change) (left rest : List Change) → left ≡ c ∷ rest → All (λ x. IsNearYears x.at) left → IsNearYears c.at
+near_first c left rest first near = All-head (λ x. IsNearYears x.at) c rest (rw first at near)
+
+pub near_rest : (c : Change) (left rest : List Change) → left ≡ c ∷ rest → All (λ x. IsNearYears x.at) left → All (λ x. IsNearYears x.at) rest
+near_rest c left rest first near = All-tail (λ x. IsNearYears x.at) c rest (rw first at near)
+
+pub line_written : (c : Change) (left rest : List Change) (before after whole : List ℕ) → left ≡ c ∷ rest
+    → after ≡ before ++ (change_text c ++ 10 ∷ []) → before ++ change_lines left ≡ whole → after ++ change_lines rest ≡ whole
+line_written c left rest before after whole first line lines = grind (arith, append_assoc)
+
+pub one_less : (c : Change) (left rest : List Change) (n k : ℕ) → left ≡ c ∷ rest → length left ≡ n - k → length rest ≡ n - (k + 1)
+one_less c left rest n k first count = let l : length left ≡ length rest + 1 = grind arith in omega (arith, l, count)

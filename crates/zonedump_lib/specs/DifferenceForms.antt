@@ -8,11 +8,11 @@ use Rattle.json.specs.Tree.{json_tokens}
 use Rattle.tz_info.specs.Differences.{AreDifferences}
 use Rattle.tz_info.specs.Zones.{Zone, TypeAt}
 use Rattle.tz_info.specs.declared.zone.differences.Difference.{Difference}
-use Rattle.change_views.specs.ChangeLines.{ended_line}
-use Rattle.change_views.specs.ChangeValues.{fields, list_value, type_value}
-use Rattle.change_views.specs.Clocks.{clock_words}
-use Rattle.change_views.specs.Spans.{year_second, year_until}
-use Rattle.change_views.specs.Words.{type_words}
+use Rattle.zonedump_lib.specs.ChangeLines.{ended_line}
+use Rattle.zonedump_lib.specs.ChangeValues.{fields, list_value, type_value}
+use Rattle.zonedump_lib.specs.Clocks.{clock_words}
+use Rattle.zonedump_lib.specs.Spans.{year_second, year_until}
+use Rattle.zonedump_lib.specs.Words.{type_words}
 
 -- the differences of two zones from the first second of the first year to the last second of the last year in UTC
 abbrev pub AreDifferencesInYears : Zone → Zone → ℤ → ℤ → List Difference → Type 0

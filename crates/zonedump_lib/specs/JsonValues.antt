@@ -13,8 +13,8 @@ use Rattle.tz_info.specs.declared.rule.day.DayTime.{DayTime}
 use Rattle.tz_info.specs.declared.rule.transition_rule.TransitionRule.{TransitionRule}
 use Rattle.tz_info.specs.declared.rule.transition_rule.TransitionRule.TheVariants as rules
 use Rattle.tz_info.specs.declared.zone.leap_second.LeapSecond.{LeapSecond}
-use Rattle.change_views.specs.ChangeValues.{change_value, fields, list_value, type_value}
-use Rattle.change_views.specs.Spans.{year_second, year_until}
+use Rattle.zonedump_lib.specs.ChangeValues.{change_value, fields, list_value, type_value}
+use Rattle.zonedump_lib.specs.Spans.{year_second, year_until}
 
 -- a day of each year in its form: `J` with n, `n` with n, or `M` with month, week and weekday
 abbrev pub day_value : DayForm → Json

@@ -1,6 +1,13 @@
+pub mod Clocks
+pub mod JsonSteps
+pub mod ChangeValues
+pub mod Spans
+pub mod Words
+pub mod ChangeLines
+pub mod ZdumpLines
+pub mod Steps
 pub mod DifferenceForms
 pub mod RuleWords
 pub mod JsonValues
 pub mod Tables
 pub mod Zdump
-pub mod Forms

@@ -8,7 +8,7 @@ use Rattle.tz_info.specs.declared.rule.day.DayForm.TheVariants as days
 use Rattle.tz_info.specs.declared.rule.day.DayTime.{DayTime}
 use Rattle.tz_info.specs.declared.rule.transition_rule.TransitionRule.{TransitionRule}
 use Rattle.tz_info.specs.declared.rule.transition_rule.TransitionRule.TheVariants as rules
-use Rattle.change_views.specs.Words.{type_words}
+use Rattle.zonedump_lib.specs.Words.{type_words}
 
 -- a week of a month, where the fifth has the last such weekday
 unfoldable pub week_words : ℕ → List ℕ

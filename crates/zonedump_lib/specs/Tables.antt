@@ -6,8 +6,8 @@ use Rattle.tz_info.specs.Changes.{AreChanges}
 use Rattle.tz_info.specs.Zones.{Zone, TypeAt}
 use Rattle.tz_base.specs.declared.change.Change.{Change}
 use Rattle.tz_info.specs.declared.zone.leap_second.LeapSecond.{LeapSecond}
-use Rattle.change_views.specs.ChangeLines.{change_lines, ended_line}
-use Rattle.change_views.specs.Spans.{year_second, year_until}
+use Rattle.zonedump_lib.specs.ChangeLines.{change_lines, ended_line}
+use Rattle.zonedump_lib.specs.Spans.{year_second, year_until}
 use Rattle.zonedump_lib.specs.RuleWords.{rule_words}
 
 -- a leap second
@@ -46,3 +46,7 @@ table_text zone first last changes = head_text zone first last (length changes) 
 abbrev pub IsTable : Zone → ℤ → ℤ → List ℕ → Type 0
 IsTable zone first last text =
     (changes : List Change) × AreChanges (TypeAt zone) (year_second first) (year_until last) changes × (text ≡ table_text zone first last changes)
+
+-- the beginning of a table, to which the lines of some changes are still to be added
+abbrev pub BeginsTable : Zone → ℤ → ℤ → List ℕ → List Change → Type 0
+BeginsTable zone first last text left = IsTable zone first last (text ++ change_lines left)

@@ -3,8 +3,8 @@ use Rattle.std.specs.Prelude.{◌≡◌, ℕ, ℤ, pos, ◌+ℤ◌, List}
 use Rattle.tz_info.specs.Changes.{AreChanges}
 use Rattle.tz_info.specs.Zones.{Zone, TypeAt}
 use Rattle.tz_base.specs.declared.change.Change.{Change}
-use Rattle.change_views.specs.Spans.{year_second, year_until}
-use Rattle.change_views.specs.ZdumpLines.{zdump_text}
+use Rattle.zonedump_lib.specs.Spans.{year_second, year_until}
+use Rattle.zonedump_lib.specs.ZdumpLines.{zdump_text}
 
 -- the lines of the zone: the pairs are exactly the changes after the first second of the first year, up to the first second after
 -- the last year, in order

@@ -3,9 +3,9 @@
 ghost use Rattle.std.specs.Prelude.{◌≡◌, ◌+ℤ◌, pos, IfOk};
 ghost use Rattle.tz_info.specs.Changes.{AreChanges};
 ghost use Rattle.tz_info.specs.Zones.{TypeAt};
-ghost use Rattle.change_views.specs.Spans.{IsInYears, year_second, year_until};
+ghost use Rattle.zonedump_lib.specs.Spans.{IsInYears, year_second, year_until};
 
-use change_views::Years;
+use crate::years::Years;
 use std::alloc::{AllocError, Global};
 use tz_info::{Change, TimeZone};
 

@@ -1,21 +1,22 @@
 //! The differences of two zones as JSON.
-#![tactic(auto, using(change_views::proofs::ForCallers::wrote, change_views::proofs::ForCallers::puts_then))]
+#![tactic(auto, using(crate::proofs::JsonPutting::wrote, crate::proofs::JsonPutting::puts_then))]
 
 ghost use Rattle.std.specs.Prelude.{◌≡◌, [], ◌∷◌, ◌++◌, IfOk, codes, flat_map};
 ghost use Rattle.std.specs.Fmt.{signed_decimal};
 ghost use Rattle.json.specs.Token.{key, string, number};
 ghost use Rattle.json.specs.Tree.{json_tokens};
-ghost use Rattle.change_views.specs.ChangeValues.{list_value};
-ghost use Rattle.change_views.specs.Clocks.{clock_words};
-ghost use Rattle.change_views.specs.JsonSteps.{Puts};
+ghost use Rattle.zonedump_lib.specs.ChangeValues.{list_value};
+ghost use Rattle.zonedump_lib.specs.Clocks.{clock_words};
+ghost use Rattle.zonedump_lib.specs.JsonSteps.{Puts};
 ghost use Rattle.zonedump_lib.specs.DifferenceForms.{IsDifferencesJson, IsLoneJson};
 ghost use Rattle.zonedump_lib.specs.DifferenceForms.{difference_value, differences_value};
 ghost use Rattle.zonedump_lib.specs.DifferenceForms.{lone_value, moved_by};
 
+use crate::change_json::{put_number, put_string, put_type};
+use crate::clocks::Clock;
 use crate::differences::seconds_ahead;
 use crate::json_text::put_years;
-use change_views::json_text::{put_number, put_string, put_type};
-use change_views::{Clock, Years};
+use crate::years::Years;
 use json::Writer;
 use std::alloc::{AllocError, Global};
 use tz_info::Difference;

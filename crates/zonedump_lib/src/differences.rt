@@ -5,7 +5,9 @@ ghost use Rattle.tz_base.specs.declared.error.Error.TheVariants.{OutOfMemory};
 ghost use Rattle.zonedump_lib.specs.DifferenceForms.{AreDifferencesInYears, difference_text};
 ghost use Rattle.zonedump_lib.specs.DifferenceForms.{difference_lines, moved_by};
 
-use change_views::{Clock, TypeWords, Years};
+use crate::clocks::Clock;
+use crate::words::TypeWords;
+use crate::years::Years;
 use std::alloc::{AllocError, Global};
 use std::fmt::Write;
 use tz_info::{Difference, Error, LocalTimeType, TimeZone};

@@ -1,5 +1,5 @@
 //! A zone and the changes of its clocks as JSON.
-#![tactic(auto, using(change_views::proofs::ForCallers::wrote, change_views::proofs::ForCallers::puts_then))]
+#![tactic(auto, using(crate::proofs::JsonPutting::wrote, crate::proofs::JsonPutting::puts_then))]
 
 ghost use Rattle.std.specs.Prelude.{◌≡◌, [], ◌∷◌, ◌++◌, IfOk, Some, codes, decimal, flat_map};
 ghost use Rattle.std.specs.Prelude.{length};
@@ -11,14 +11,14 @@ ghost use Rattle.json.specs.Tree.{json_tokens};
 ghost use Rattle.tz_info.specs.declared.rule.day.DayForm.TheVariants.{MonthWeekday};
 ghost use Rattle.tz_info.specs.declared.rule.transition_rule.TransitionRule.TheVariants.{Fixed};
 ghost use Rattle.tz_info.specs.declared.rule.transition_rule.TransitionRule.TheVariants.{Alternate};
-ghost use Rattle.change_views.specs.JsonSteps.{Puts};
-ghost use Rattle.change_views.specs.ChangeValues.{list_value};
+ghost use Rattle.zonedump_lib.specs.JsonSteps.{Puts};
+ghost use Rattle.zonedump_lib.specs.ChangeValues.{list_value};
 ghost use Rattle.zonedump_lib.specs.JsonValues.{IsJson, day_value, leap_value, moment_value};
 ghost use Rattle.zonedump_lib.specs.JsonValues.{rule_value, zone_value};
 
+use crate::change_json::{put_changes, put_count, put_number, put_string, put_type};
 use crate::changes::changes_in;
-use change_views::Years;
-use change_views::json_text::{put_changes, put_count, put_number, put_string, put_type};
+use crate::years::Years;
 use json::Writer;
 use std::alloc::{AllocError, Global};
 use tz_info::{

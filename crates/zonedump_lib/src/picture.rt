@@ -1,16 +1,30 @@
-//! A picture of what the clocks of a zone do, as SVG.
+//! A picture of what the clocks of a zone do, as SVG. Tests hold it: no contract says what is drawn.
+
+mod chart;
+mod frame;
+mod line;
+mod panels;
+mod scale;
+mod words;
 
 use crate::changes::changes_in;
-use change_views::{Years, put_picture};
+use crate::years::{SECONDS_PER_DAY, Years};
+use chart::put_chart;
+pub use frame::Colors;
+use frame::{put_heading, put_opening, put_title};
+use gregorian::{is_day, year_of, year_start};
+use panels::put_panels;
 use std::alloc::{AllocError, Global};
-use tz_info::{LocalTimeType, TimeZone};
+use tz_info::{Change, LocalTimeType, TimeZone};
+
+// The most changes that each have a panel.
+const FEW: usize = 8;
 
 /// Returns a picture of the zone's clocks in those years, as SVG: a chart of the offset from UTC, with
-/// a step at each change, and a panel for each change of the last year that has one, with what wall
-/// clocks skip or repeat.
+/// a step at each change, and a panel for each change, or if there are more than eight, for each of
+/// the last year that has one, with what wall clocks skip or repeat.
 ///
-/// Each part of the chart's line that is wide enough has its abbreviation. Tests hold the picture: no
-/// contract says what is drawn.
+/// Each part of the chart's line that is wide enough has its abbreviation.
 ///
 /// # Errors
 ///
@@ -20,12 +34,37 @@ pub fn draw(
     title: &str,
     zone: &TimeZone,
     years: Years,
+    colors: Colors,
 ) -> Result<String, AllocError> {
     let changes = changes_in(alloc, zone, years)?;
     let start = type_at(zone, years.from());
     let mut out = String::new(alloc);
-    put_picture(&mut out, title, years, start, &changes)?;
+    put_picture(&mut out, title, years, start, &changes, colors)?;
     Ok(out)
+}
+
+/// Appends a picture of those changes in the years, under that title: a chart, whose line begins at
+/// the offset of `start`, and a panel for each change, or if there are more than eight, for each of
+/// the last year that has one. Changes are in order of time.
+///
+/// # Errors
+///
+/// There is no memory for it.
+pub fn put_picture(
+    out: &mut String,
+    title: &str,
+    years: Years,
+    start: LocalTimeType,
+    changes: &[Change],
+    colors: Colors,
+) -> Result<(), AllocError> {
+    let panels = with_panels(changes);
+    put_opening(out, title, years, panels, colors)?;
+    put_title(out, title, years)?;
+    put_chart(out, years, &start, changes)?;
+    put_heading(out, years_of(panels).unwrap_or(years), panels.len())?;
+    put_panels(out, panels)?;
+    write!(out, "</svg>\n")
 }
 
 // The type in force at the second, or UTC if the zone has none.
@@ -34,4 +73,30 @@ fn type_at(zone: &TimeZone, second: i64) -> LocalTimeType {
         Ok(found) => *found,
         Err(_) => LocalTimeType::utc(),
     }
+}
+
+// The changes that have a panel.
+fn with_panels(changes: &[Change]) -> &[Change] {
+    match changes.last() {
+        Some(last) if changes.len() > FEW => since(changes, year_at(last)),
+        _ => changes,
+    }
+}
+
+// The years that changes come in.
+fn years_of(changes: &[Change]) -> Option<Years> {
+    Years::new(year_at(changes.first()?), year_at(changes.last()?))
+}
+
+// The year of a change, by UTC.
+fn year_at(change: &Change) -> i32 {
+    let day = change.at.div_euclid(SECONDS_PER_DAY);
+    if is_day(day) { year_of(day) } else { 0 }
+}
+
+// The changes from the first second of a year on.
+fn since(changes: &[Change], year: i32) -> &[Change] {
+    let first = year_start(year).saturating_mul(SECONDS_PER_DAY);
+    let earlier = changes.iter().filter(|change| change.at < first).count();
+    changes.get(earlier..).unwrap_or(&[])
 }

@@ -7,7 +7,7 @@ ghost use Rattle.naive_base.specs.NaiveTime.{printed_time};
 ghost use Rattle.zonedump_lib.specs.RuleWords.{week_words, weekday_words, month_words, day_words};
 ghost use Rattle.zonedump_lib.specs.RuleWords.{moment_words, turn_words, turns_words, rule_words};
 
-use change_views::TypeWords;
+use crate::words::TypeWords;
 use naive_base::NaiveTime;
 use std::fmt;
 use std::fmt::Write;

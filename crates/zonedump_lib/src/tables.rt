@@ -1,33 +1,110 @@
-//! A zone as a table.
+//! A zone as a table, whose lines are written as they are made.
 
-ghost use Rattle.std.specs.Prelude.{◌≡◌, ◌++◌, ◌∷◌, [], IfOk, OnOk, Some, codes, string_bytes};
+ghost use Rattle.std.specs.Prelude.{◌≡◌, ◌++◌, ◌∷◌, ◌-◌, [], All, IfOk, OnOk, Some, codes, length};
+ghost use Rattle.std.specs.Prelude.{string_bytes};
 ghost use Rattle.std.specs.Fmt.{signed_decimal};
-ghost use Rattle.zonedump_lib.specs.Tables.{IsTable, leap_text, leap_lines, counts_text, years_text, head_text};
+ghost use Rattle.zonedump_lib.specs.ChangeLines.{change_lines};
+ghost use Rattle.zonedump_lib.specs.Spans.{IsNearYears, year_second, year_until};
+ghost use Rattle.tz_info.specs.Changes.{AreChanges};
+ghost use Rattle.tz_info.specs.ChangesLeft.{changes_left};
+ghost use Rattle.tz_info.specs.Zones.{TypeAt};
+ghost use Rattle.zonedump_lib.specs.Tables.{BeginsTable, leap_text, leap_lines, counts_text, years_text};
+ghost use Rattle.zonedump_lib.specs.Tables.{head_text};
 
-use crate::changes::changes_in;
+use crate::change_lines::push_change;
 use crate::rule_words::RuleWords;
-use change_views::{Years, push_changes};
+use crate::years::Years;
 use std::alloc::{AllocError, Global};
 use std::fmt;
 use std::fmt::Write;
-use tz_info::{LeapSecond, TimeZone};
+use tz_info::laws::changes::one_change_law;
+use tz_info::{Changes, LeapSecond, TimeZone};
 
-/// The zone as a table: the counts of its lists, its rule, its leap seconds, and a line for each
-/// change of its clocks in those years.
+/// The changes of a table whose lines are still to be written.
+#[derive(Drop)]
+pub struct LinesLeft<'a> {
+    left: Changes<'a>,
+    pub ghost near: { All (λ c. IsNearYears c.at) (changes_left left) },
+}
+
+/// Returns the head of a zone's table: the counts of its lists, its rule, its leap seconds, and how
+/// many changes its clocks have in those years. [`LinesLeft::push_lines`] writes the lines that follow.
 ///
 /// # Errors
 ///
-/// There is no memory for it.
-pub fn table(alloc: Global, zone: &TimeZone, years: Years) -> Result<String, AllocError>
-    ensures { IfOk result (λ text.
-        IsTable zone.now years.first years.last (string_bytes text)) }
+/// There is no memory for the head.
+pub fn begin_table<'a>(
+    alloc: Global,
+    zone: &'a TimeZone,
+    years: Years,
+) -> Result<(String, LinesLeft<'a>), AllocError>
+    ensures { IfOk result (λ r. BeginsTable zone.now years.first years.last
+        (string_bytes r.0) (changes_left r.1.left)) }
 {
-    let changes = changes_in(alloc, zone, years)?;
+    one_change_law();
+    let counted = changes_of(zone, years);
+    let count = count_of(counted)?;
+    let left = changes_of(zone, years);
     let mut text = String::new(alloc);
-    let listed = changes.as_slice();
-    push_head(&mut text, zone, years, listed.len())?;
-    push_changes(&mut text, listed)?;
-    Ok(text)
+    push_head(&mut text, zone, years, count)?;
+    Ok((text, LinesLeft { left }))
+}
+
+// The changes of the years.
+fn changes_of(zone: &TimeZone, years: Years) -> Changes<'_>
+    ensures { AreChanges (TypeAt zone.now) (year_second years.first) (year_until years.last)
+        (changes_left result) }
+{
+    zone.changes(years.from(), years.until())
+}
+
+// How many changes are left.
+fn count_of(mut left: Changes<'_>) -> Result<usize, AllocError>
+    ensures { IfOk result (λ n. n ≡ length (changes_left left.entry)) }
+{
+    for count in 0..usize::MAX {
+        if left.next().is_none() {
+            return Ok(count);
+        }
+    }
+    Err(AllocError)
+}
+
+impl<'a> LinesLeft<'a> {
+    /// Appends the lines of the next changes, a thousand or all that are left, and returns what is left
+    /// then.
+    ///
+    /// # Errors
+    ///
+    /// There is no memory for them.
+    pub fn push_lines(self, out: &mut String) -> Result<LinesLeft<'a>, AllocError>
+        ensures lines { IfOk result (λ r. string_bytes out.new ++ change_lines (changes_left r.left)
+            ≡ string_bytes out.old ++ change_lines (changes_left self.entry.left)) }
+        ensures count { IfOk result (λ r. length (changes_left r.left)
+            ≡ length (changes_left self.entry.left) - 1000) }
+    {
+        let mut left = self.left;
+        push_some(&mut left, out)?;
+        Ok(LinesLeft { left })
+    }
+}
+
+// Appends the lines of the next changes, a thousand or all that are left.
+fn push_some(left: &mut Changes<'_>, out: &mut String) -> Result<(), AllocError>
+    requires { All (λ c. IsNearYears c.at) (changes_left left.old) }
+    ensures near { OnOk result (All (λ c. IsNearYears c.at) (changes_left left.new)) }
+    ensures lines { OnOk result (string_bytes out.new ++ change_lines (changes_left left.new)
+        ≡ string_bytes out.old ++ change_lines (changes_left left.old)) }
+    ensures count { OnOk result
+        (length (changes_left left.new) ≡ length (changes_left left.old) - 1000) }
+{
+    for _turn in 0..1000_usize {
+        match left.next() {
+            Some(change) => push_change(out, &change)?,
+            None => return Ok(()),
+        }
+    }
+    Ok(())
 }
 
 fn push_head(

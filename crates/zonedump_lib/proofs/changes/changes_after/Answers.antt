@@ -1,4 +1,4 @@
-use Rattle.zonedump_lib.proofs.Words.{IfOk-weaker, YieldsList-from_first, arith, changes_left, items_from_collect, refl, to_z-of_z}
+use Rattle.zonedump_lib.proofs.CitedWords.{IfOk-weaker, YieldsList-from_first, arith, changes_left, items_from_collect, refl, to_z-of_z}
 use Rattle.zonedump_lib.proofs.changes.changes_after.Goals as goal
 
 pub returns : goal.returns

@@ -1,4 +1,4 @@
-use Rattle.zonedump_lib.proofs.{Words.{differences_value, ◌∙◌}, JsonPutting.{differences_shallow, read_back}}
+use Rattle.zonedump_lib.proofs.{CitedWords.{differences_value, ◌∙◌}, JsonPutting.{differences_shallow, read_back}}
 use Rattle.zonedump_lib.proofs.difference_json.differences_to_json.Goals as goal
 
 pub returns : goal.returns

@@ -1,4 +1,4 @@
-use Rattle.zonedump_lib.proofs.{Words.{arith, lone_value, ◌∙◌}, JsonPutting.{read_back}}
+use Rattle.zonedump_lib.proofs.{CitedWords.{arith, lone_value, ◌∙◌}, JsonPutting.{read_back}}
 use Rattle.zonedump_lib.proofs.difference_json.lone_to_json.Goals as goal
 
 pub returns : goal.returns

@@ -1,4 +1,4 @@
-use Rattle.zonedump_lib.proofs.Words.{FitsSigned, SFits, puts_then, rules, to_z-of_z, w64, wrote}
+use Rattle.zonedump_lib.proofs.{CitedWords.{FitsSigned, SFits, rules, to_z-of_z, w64}, JsonPutting.{puts_then, wrote}}
 use Rattle.zonedump_lib.proofs.difference_json.put_difference.Goals as goal
 
 pub returns : goal.returns

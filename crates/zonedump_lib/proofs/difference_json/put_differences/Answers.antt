@@ -1,4 +1,4 @@
-use Rattle.zonedump_lib.proofs.Words.{difference_value, items_all, puts_then, wrote}
+use Rattle.zonedump_lib.proofs.{CitedWords.{difference_value}, JsonPutting.{items_all, puts_then, wrote}}
 use Rattle.zonedump_lib.proofs.difference_json.put_differences.Goals as goal
 
 pub returns : goal.returns

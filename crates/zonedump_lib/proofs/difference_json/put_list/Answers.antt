@@ -1,4 +1,4 @@
-use Rattle.zonedump_lib.proofs.Words.{arith, difference_value, json_tokens, pushed, ◌∙◌}
+use Rattle.zonedump_lib.proofs.{CitedWords.{arith, difference_value, json_tokens, ◌∙◌}, JsonPutting.{pushed}}
 use Rattle.zonedump_lib.proofs.difference_json.put_list.Goals as goal
 
 pub loop-one-preserved : goal.loop-one-preserved

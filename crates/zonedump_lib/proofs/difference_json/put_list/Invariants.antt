@@ -1,4 +1,4 @@
-use Rattle.zonedump_lib.proofs.Words.{difference_value, flat_map, json_tokens, take, ◌++◌, ◌≡◌}
+use Rattle.zonedump_lib.proofs.CitedWords.{difference_value, flat_map, json_tokens, take, ◌++◌, ◌≡◌}
 use Rattle.zonedump_lib.proofs.difference_json.put_list.Given as goal
 
 abbrev pub invariant-loop-one : goal.invariant-loop-one

@@ -1,4 +1,4 @@
-use Rattle.zonedump_lib.proofs.Words.{FitsSigned, SFits, append_assoc, arith, ints, rules, to_z-of_z, w128, w64}
+use Rattle.zonedump_lib.proofs.CitedWords.{FitsSigned, SFits, append_assoc, arith, ints, rules, to_z-of_z, w128, w64}
 use Rattle.zonedump_lib.proofs.differences.push_difference.Goals as goal
 
 pub returns : goal.returns

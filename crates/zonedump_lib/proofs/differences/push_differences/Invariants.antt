@@ -1,4 +1,4 @@
-use Rattle.zonedump_lib.proofs.Words.{difference_lines, string_bytes, take, ◌++◌, ◌≡◌}
+use Rattle.zonedump_lib.proofs.CitedWords.{difference_lines, string_bytes, take, ◌++◌, ◌≡◌}
 use Rattle.zonedump_lib.proofs.differences.push_differences.Given as goal
 
 abbrev pub invariant-loop-one : goal.invariant-loop-one

@@ -1,4 +1,4 @@
-use Rattle.zonedump_lib.proofs.Words.{flat_map, json_tokens, leap_value, take, ◌++◌, ◌≡◌}
+use Rattle.zonedump_lib.proofs.CitedWords.{flat_map, json_tokens, leap_value, take, ◌++◌, ◌≡◌}
 use Rattle.zonedump_lib.proofs.json_text.put_leap_list.Given as goal
 
 abbrev pub invariant-loop-leap : goal.invariant-loop-leap

@@ -1,4 +1,4 @@
-use Rattle.zonedump_lib.proofs.Words.{items_all, leap_value, puts_then, wrote}
+use Rattle.zonedump_lib.proofs.{CitedWords.{leap_value}, JsonPutting.{items_all, puts_then, wrote}}
 use Rattle.zonedump_lib.proofs.json_text.put_leaps.Goals as goal
 
 pub returns : goal.returns

@@ -1,4 +1,4 @@
-use Rattle.zonedump_lib.proofs.Words.{FitsSigned, puts_then, rules, to_z-of_z, w32, wrote}
+use Rattle.zonedump_lib.proofs.{CitedWords.{FitsSigned, rules, to_z-of_z, w32}, JsonPutting.{puts_then, wrote}}
 use Rattle.zonedump_lib.proofs.json_text.put_turns.Goals as goal
 
 pub returns : goal.returns

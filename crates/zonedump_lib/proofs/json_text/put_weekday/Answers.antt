@@ -1,4 +1,4 @@
-use Rattle.zonedump_lib.proofs.Words.{puts_then, wrote}
+use Rattle.zonedump_lib.proofs.JsonPutting.{puts_then, wrote}
 use Rattle.zonedump_lib.proofs.json_text.put_weekday.Goals as goal
 
 pub returns : goal.returns

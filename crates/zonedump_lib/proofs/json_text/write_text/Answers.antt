@@ -1,4 +1,4 @@
-use Rattle.zonedump_lib.proofs.{Words.{zone_value, ◌∙◌}, JsonPutting.{read_back, zone_shallow}}
+use Rattle.zonedump_lib.proofs.{CitedWords.{zone_value, ◌∙◌}, JsonPutting.{read_back, zone_shallow}}
 use Rattle.zonedump_lib.proofs.json_text.write_text.Goals as goal
 
 pub returns-clause-value : goal.returns-clause-value

@@ -1,4 +1,4 @@
-use Rattle.zonedump_lib.proofs.{Words.{counts_text, ended_line, leap_lines, on_ok_weaker, rule_text, years_text}, TableLaws.{four_pieces}}
+use Rattle.zonedump_lib.proofs.{CitedWords.{counts_text, ended_line, leap_lines, on_ok_weaker, rule_text, years_text}, TableLaws.{four_pieces}}
 use Rattle.zonedump_lib.proofs.tables.push_head.Goals as goal
 
 pub returns : goal.returns

@@ -1,4 +1,4 @@
-use Rattle.zonedump_lib.proofs.Words.{ended_line, get_or, leap_text, pushed, refl}
+use Rattle.zonedump_lib.proofs.{CitedWords.{ended_line, get_or, leap_text, refl}, JsonPutting.{pushed}}
 use Rattle.zonedump_lib.proofs.tables.push_leap_seconds.Goals as goal
 
 pub loop-leap-preserved : goal.loop-leap-preserved

@@ -1,4 +1,4 @@
-use Rattle.zonedump_lib.proofs.Words.{leap_lines, string_bytes, take, ◌++◌, ◌≡◌}
+use Rattle.zonedump_lib.proofs.CitedWords.{leap_lines, string_bytes, take, ◌++◌, ◌≡◌}
 use Rattle.zonedump_lib.proofs.tables.push_leap_seconds.Given as goal
 
 abbrev pub invariant-loop-leap : goal.invariant-loop-leap

@@ -1,4 +1,4 @@
-use Rattle.zonedump_lib.proofs.{Words.{TypeAt}, TableLaws.{in_years}}
+use Rattle.zonedump_lib.proofs.{CitedWords.{TypeAt}, TableLaws.{in_years}}
 use Rattle.zonedump_lib.proofs.zdump.zdump_lines.Goals as goal
 
 pub push_zdump-requires : goal.push_zdump-requires

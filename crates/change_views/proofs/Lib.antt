@@ -1,4 +1,0 @@
-pub mod CitedWords
-mod LineLaws
-pub mod JsonPutting
-pub mod ForCallers

@@ -1,0 +1,62 @@
+//! Times as they are typed: `2026-11-01`, `2026-11-01T09:00`, `2026-11-01T09:00:30Z`, `@1793523600`.
+
+use naive_base::{NaiveDate, NaiveDateTime, NaiveTime};
+
+/// A time as it is typed.
+#[derive(Clone, Copy)]
+pub enum Typed {
+    /// A date and a time of day, with no zone.
+    Plain(NaiveDateTime),
+    /// A Unix time: the text ends in `Z`, or has the seconds after `@`.
+    Instant(i64),
+}
+
+/// Returns the time that a text means. `None` if it has not one of the forms, or if the calendar or
+/// the clock has no such date or time.
+pub fn read_time(text: &str) -> Option<Typed> {
+    if let Some(seconds) = text.strip_prefix('@') {
+        return Some(Typed::Instant(seconds.parse::<i64>().ok()?));
+    }
+    if let Some(utc) = text.strip_suffix('Z') {
+        return Some(Typed::Instant(date_time_of(utc)?.secs_since_epoch()));
+    }
+    Some(Typed::Plain(date_time_of(text)?))
+}
+
+fn date_time_of(text: &str) -> Option<NaiveDateTime> {
+    if let Some((date, time)) = text.split_once('T') {
+        return Some(NaiveDateTime::new(date_of(date)?, time_of(time)?));
+    }
+    if let Some((date, time)) = text.split_once(' ') {
+        return Some(NaiveDateTime::new(date_of(date)?, time_of(time)?));
+    }
+    date_of(text)?.and_hms_opt(0, 0, 0)
+}
+
+// `2026-11-01`
+fn date_of(text: &str) -> Option<NaiveDate> {
+    let (year, rest) = text.split_once('-')?;
+    let (month, day) = rest.split_once('-')?;
+    let year = number(year, 4)?;
+    let month = number(month, 2)?;
+    let day = number(day, 2)?;
+    NaiveDate::from_ymd_opt(year as i32, month as u32, day as u32)
+}
+
+// `09:00` or `09:00:30`
+fn time_of(text: &str) -> Option<NaiveTime> {
+    let (hour, rest) = text.split_once(':')?;
+    let (minute, second) = rest.split_once(':').unwrap_or((rest, "00"));
+    let hour = number(hour, 2)?;
+    let minute = number(minute, 2)?;
+    let second = number(second, 2)?;
+    NaiveTime::from_hms_opt(hour as u32, minute as u32, second as u32)
+}
+
+// A number of that many digits.
+fn number(text: &str, digits: usize) -> Option<u16> {
+    if text.len() != digits || !text.bytes().all(|byte| byte.is_ascii_digit()) {
+        return None;
+    }
+    text.parse::<u16>().ok()
+}

@@ -1,0 +1,15 @@
+-- What the sides of a change print.
+use Rattle.std.specs.Prelude.{ℕ, List, ◌++◌, codes}
+use Rattle.naive_base.specs.NaiveDateTime.{reading}
+use Rattle.naive_base.specs.Text.{reading_text}
+use Rattle.zonedump_lib.specs.Words.{type_words}
+use Rattle.zonedump_lib.specs.declared.change_lines.Side.{Side}
+use Rattle.zonedump_lib.specs.declared.change_lines.SidesText.{SidesText}
+
+-- the reading, and the type
+abbrev pub side_of : Side → List ℕ
+side_of side = reading_text 32 (reading side.0) ++ codes " " ++ type_words side.1.now
+
+-- what a clock of UTC shows, and both sides
+abbrev pub sides_of : SidesText → List ℕ
+sides_of sides = reading_text 32 (reading sides.0) ++ codes " UTC  " ++ side_of sides.1 ++ codes " -> " ++ side_of sides.2
