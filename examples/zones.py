@@ -75,8 +75,8 @@ class Zones:
         library.zoned_error_text.argtypes = [c_uint32, c_char_p, c_size_t]
         library.zoned_error_text.restype = c_size_t
         self.types = self._question(library.zoned_zone_types, [], LocalType)
-        self.wall_clocks = self._question(library.zoned_zone_wall_instants, [], WallClock)
-        self.instants = self._question(library.zoned_zone_resolve, [c_uint32, c_uint32], Resolved)
+        self.wall_clocks = self._question(library.zoned_zone_wall_clocks, [], WallClock)
+        self.instants = self._question(library.zoned_zone_instants, [c_uint32, c_uint32], Resolved)
 
     def _question(self, function, before, answer):
         function.argtypes = [POINTER(Handle), *before, POINTER(c_int64), c_size_t, POINTER(answer), c_size_t]

@@ -38,7 +38,9 @@ _Static_assert(sizeof(zoned_span) == 32 && _Alignof(zoned_span) == 8, "the size 
 _Static_assert(offsetof(zoned_span, from) == 0 && offsetof(zoned_span, until) == 8, "the places of a span's ends");
 _Static_assert(offsetof(zoned_span, local_type) == 16, "the place of a span's type");
 _Static_assert(ZONED_UNKNOWN_UNIT == 36 && ZONED_NO_LOCAL_TIME == 37 && ZONED_NO_GAP == 38, "other numbers of a call");
-_Static_assert(ZONED_NO_DATE_TIME == 39, "no date or time of day");
+_Static_assert(ZONED_NO_DATE_TIME == 39 && ZONED_WIDE_ZONE == 40, "numbers of dates and offsets");
+_Static_assert(ZONED_NO_SUCH_ZONE == 45 && ZONED_UNREADABLE_FILE == 46, "numbers of names");
+_Static_assert(sizeof(enum zoned_number) == 4, "the size of a number");
 _Static_assert(sizeof(zoned_fields) == 32 && _Alignof(zoned_fields) == 4, "the size of fields");
 _Static_assert(offsetof(zoned_fields, year) == 0 && offsetof(zoned_fields, month) == 4, "the places of the year and the month");
 _Static_assert(offsetof(zoned_fields, day) == 8 && offsetof(zoned_fields, hour) == 12, "the places of the day and the hour");
@@ -104,6 +106,14 @@ static const uint8_t NEW_YORK[] = "EST5EDT,M3.2.0,M11.1.0";
    first second after the calendar's range. */
 static const int64_t LOCALS[4] = {1615689000, 1636248600, 1636286400, 8210266876800};
 
+/* What opening a zone returns. */
+static uint32_t opened(uint32_t kind, const void *bytes, size_t len) {
+    struct zoned_zone zone = {0};
+    const uint32_t number = zoned_open(kind, bytes, len, &zone);
+    zoned_close(&zone);
+    return number;
+}
+
 /* A file of version 1 whose transitions are the given ones, with one local time type. */
 static uint32_t fault_of(int32_t first, uint8_t first_index, int32_t second, uint8_t second_index) {
     uint8_t file[64] = {'T', 'Z', 'i', 'f'};
@@ -111,30 +121,26 @@ static uint32_t fault_of(int32_t first, uint8_t first_index, int32_t second, uin
     for (int k = 0; k < 4; k++) file[44 + k] = (uint8_t)((uint32_t)first >> (24 - 8 * k)), file[48 + k] = (uint8_t)((uint32_t)second >> (24 - 8 * k));
     file[52] = first_index, file[53] = second_index;
     memcpy(file + 60, "UTC", 4);
-    const uint32_t number = zoned_fault(ZONED_FILE, file, sizeof file);
-    const uint32_t parsed = zoned_parse(ZONED_FILE, file, sizeof file);
-    return number == parsed || (number > 40 && parsed == ZONED_TIME_ZONE) ? number : 0xFFFF;
+    return opened(ZONED_FILE, file, sizeof file);
 }
 
-static uint32_t parsed(const char *text) { return zoned_parse(ZONED_TEXT, text, strlen(text)); }
+static uint32_t parsed(const char *text) { return opened(ZONED_TEXT, text, strlen(text)); }
 
 int main(void) {
     const int64_t instants[3] = {1615705199, 1615705200, INT64_MAX};
     int32_t offsets[3];
-    IS(zoned_at(ZONED_TEXT, NEW_YORK, LEN, instants, 3, offsets, 3), ZONED_OK);
+    struct zoned_zone zone = {0};
+    IS(zoned_open(ZONED_TEXT, NEW_YORK, LEN, &zone), ZONED_OK);
+    IS(zoned_zone_offsets(&zone, instants, 3, offsets, 3), ZONED_OK);
     IS(offsets[0], -18000);
     IS(offsets[1], -14400);
     IS(offsets[2], ZONED_NO_OFFSET);
 
-    int32_t triples[12];
-    IS(zoned_wall(ZONED_TEXT, NEW_YORK, LEN, LOCALS, 4, triples, 12), ZONED_OK);
     const int32_t told[12] = {ZONED_NEVER, 0,      0,      ZONED_SEVERAL_TIMES, -14400, -18000,
                               ZONED_ONCE,  -18000, -18000, ZONED_OUT_OF_RANGE,  0,      0};
-    for (int i = 0; i < 12; i++) IS(triples[i], told[i]);
-
     zoned_wall_clock clocks[4];
     memset(clocks, 0x55, sizeof clocks); /* what stood there doesn't matter */
-    IS(zoned_wall_instants(ZONED_TEXT, NEW_YORK, LEN, LOCALS, 4, clocks, 4), ZONED_OK);
+    IS(zoned_zone_wall_clocks(&zone, LOCALS, 4, clocks, 4), ZONED_OK);
     for (int i = 0; i < 4; i++) {
         IS(clocks[i].shown, told[3 * i]);
         IS(clocks[i].first_offset, told[3 * i + 1]);
@@ -147,31 +153,29 @@ int main(void) {
     IS(clocks[2].first, 1636304400);
     IS(clocks[2].last, 1636304400);
 
+    zoned_close(&zone);
+
     /* Numbers of faults. */
-    IS(zoned_parse(ZONED_TEXT, NEW_YORK, LEN), ZONED_OK);
-    IS(zoned_parse(ZONED_FILE, NEW_YORK, LEN), 5);
-    IS(zoned_parse(ZONED_FILE, "TZif", 4), 7);
-    IS(zoned_parse(3, NEW_YORK, LEN), ZONED_UNKNOWN_KIND);
+    IS(opened(ZONED_TEXT, NEW_YORK, LEN), ZONED_OK);
+    IS(opened(ZONED_FILE, NEW_YORK, LEN), 5);
+    IS(opened(ZONED_FILE, "TZif", 4), 7);
+    IS(opened(3, NEW_YORK, LEN), ZONED_UNKNOWN_KIND);
     IS(fault_of(0, 0, 1, 0), ZONED_OK);
     IS(fault_of(0, 0, 1, 1), ZONED_OTHER_TYPE_INDEX);
     IS(fault_of(0, 0, 0, 0), ZONED_OTHER_TRANSITION_TIMES);
-    IS(zoned_fault(ZONED_TEXT, NEW_YORK, LEN), ZONED_OK);
-    IS(zoned_fault(ZONED_FILE, NEW_YORK, LEN), ZONED_INVALID_TZ_FILE);
-    IS(zoned_fault(3, NEW_YORK, LEN), ZONED_UNKNOWN_KIND);
     IS(parsed(" EST5EDT,M3.2.0,M11.1.0\r\n"), ZONED_OK);
     IS(parsed("EST5EDT,M13.2.0,M11.1.0"), ZONED_TRANSITION_RULE);
     IS(parsed("EST5EDT"), ZONED_UNSUPPORTED_TZ_STRING);
     IS(parsed("<-03>3<-02>,M3.5.0/-2,M10.5.0/-1"), ZONED_PARSE_INT);
     IS(parsed("IST-2IDT,M3.4.4/26,M10.5.0"), ZONED_INVALID_TZ_STRING);
-    IS(zoned_parse(ZONED_EXTENDED_STRING, "<-03>3<-02>,M3.5.0/-2,M10.5.0/-1", 32), ZONED_OK);
-    IS(zoned_parse(ZONED_EXTENDED_STRING, "IST-2IDT,M3.4.4/26,M10.5.0", 26), ZONED_OK);
-    IS(zoned_parse(ZONED_EXTENDED_STRING, "IST-2IDT,M3.4.4/168,M10.5.0", 27), ZONED_INVALID_TZ_STRING);
-    IS(zoned_parse(ZONED_EXTENDED_STRING, " UTC0", 5) != ZONED_OK, 1);
-    IS(zoned_parse(ZONED_EXTENDED_STRING, "", 0) != ZONED_OK, 1);
-    IS(zoned_parse(ZONED_FILE, (const uint8_t[44]){'T', 'Z', 'i', 'f', '4'}, 44), ZONED_UNSUPPORTED_TZ_FILE);
+    IS(opened(ZONED_EXTENDED_STRING, "<-03>3<-02>,M3.5.0/-2,M10.5.0/-1", 32), ZONED_OK);
+    IS(opened(ZONED_EXTENDED_STRING, "IST-2IDT,M3.4.4/26,M10.5.0", 26), ZONED_OK);
+    IS(opened(ZONED_EXTENDED_STRING, "IST-2IDT,M3.4.4/168,M10.5.0", 27), ZONED_INVALID_TZ_STRING);
+    IS(opened(ZONED_EXTENDED_STRING, " UTC0", 5) != ZONED_OK, 1);
+    IS(opened(ZONED_EXTENDED_STRING, "", 0) != ZONED_OK, 1);
+    IS(opened(ZONED_FILE, (const uint8_t[44]){'T', 'Z', 'i', 'f', '4'}, 44), ZONED_UNSUPPORTED_TZ_FILE);
 
     /* By a handle. The gap's instant by the offset before it is 2021-03-14 07:30:00 UTC. */
-    struct zoned_zone zone = {0};
     int32_t offset = 77;
     IS(zoned_zone_offset(&zone, 0, &offset), ZONED_NOT_OPEN);
     IS(offset, 77);
@@ -193,10 +197,10 @@ int main(void) {
     IS(memcmp(types[2].abbreviation, "\0\0\0\0\0\0\0", 8), 0);
     zoned_resolved taken[4];
     const uint32_t numbers[4] = {ZONED_IN_GAP, ZONED_IN_FOLD, ZONED_OK, ZONED_INSTANT_OUT_OF_RANGE};
-    IS(zoned_zone_resolve(&zone, ZONED_GAP_REFUSE, ZONED_FOLD_REFUSE, LOCALS, 4, taken, 4), ZONED_OK);
+    IS(zoned_zone_instants(&zone, ZONED_GAP_REFUSE, ZONED_FOLD_REFUSE, LOCALS, 4, taken, 4), ZONED_OK);
     for (int i = 0; i < 4; i++) IS(taken[i].number, numbers[i]);
     IS(taken[2].instant, 1636304400);
-    IS(zoned_zone_resolved_instants(&zone, ZONED_GAP_SHIFT_FORWARD, ZONED_FOLD_EARLIEST, LOCALS, 4, taken, 4), ZONED_OK);
+    IS(zoned_zone_instants(&zone, ZONED_GAP_SHIFT_FORWARD, ZONED_FOLD_EARLIEST, LOCALS, 4, taken, 4), ZONED_OK);
     IS(taken[0].instant, 1615707000);
     IS(taken[0].offset, -14400);
     IS(taken[1].instant, 1636263000);
@@ -206,7 +210,7 @@ int main(void) {
     IS(taken[0].offset, -18000);
     IS(zoned_zone_instant(&zone, 3, ZONED_FOLD_LATEST, LOCALS[1], taken), ZONED_UNKNOWN_CHOICE);
     IS(zoned_zone_instant(&zone, ZONED_GAP_REFUSE, 3, LOCALS[1], taken), ZONED_UNKNOWN_CHOICE);
-    IS(zoned_zone_resolved_instant(&zone, ZONED_GAP_END, ZONED_FOLD_REFUSE, LOCALS[0], taken), ZONED_OK);
+    IS(zoned_zone_instant(&zone, ZONED_GAP_END, ZONED_FOLD_REFUSE, LOCALS[0], taken), ZONED_OK);
     IS(taken[0].instant, 1615705200);
     IS(taken[0].offset, -14400);
     /* The gap, by both its sides; no gap; out of range. */
@@ -225,7 +229,7 @@ int main(void) {
     zoned_change changes[3], next;
     size_t count = 77;
     memset(changes, 0x55, sizeof changes);
-    IS(zoned_zone_changes(&zone, 1615705200, 1647154801, changes, 2, &count), ZONED_OK);
+    IS(zoned_zone_changes(&zone, 1615705200, 1647154801, SIZE_MAX, changes, 2, &count), ZONED_OK);
     IS(count, 3);
     IS(changes[0].at, 1615705200);
     IS(changes[0].before.offset, -18000);
@@ -234,11 +238,11 @@ int main(void) {
     IS(changes[1].at, 1636264800);
     IS(memcmp(changes[1].after.abbreviation, "EST\0\0\0\0", 8), 0);
     IS(changes[2].at, 0x5555555555555555);
-    IS(zoned_zone_changes(&zone, 1615705201, 1636264800, changes, 3, &count), ZONED_OK);
+    IS(zoned_zone_changes(&zone, 1615705201, 1636264800, SIZE_MAX, changes, 3, &count), ZONED_OK);
     IS(count, 0);
-    IS(zoned_zone_changes(&zone, INT64_MAX, INT64_MIN, changes, 0, &count), ZONED_OK);
+    IS(zoned_zone_changes(&zone, INT64_MAX, INT64_MIN, SIZE_MAX, changes, 0, &count), ZONED_OK);
     IS(count, 0);
-    IS(zoned_zone_first_changes(&zone, 1615705200, INT64_MAX, 2, changes, 1, &count), ZONED_OK);
+    IS(zoned_zone_changes(&zone, 1615705200, INT64_MAX, 2, changes, 1, &count), ZONED_OK);
     IS(count, 2);
     IS(changes[0].at, 1615705200);
     IS(zoned_zone_next_change(&zone, 1636264800, &next), ZONED_OK);
@@ -261,7 +265,8 @@ int main(void) {
     IS(span.local_type.is_dst, 1);
     IS(zoned_zone_span(&zone, 67767976165557600, &span), ZONED_OK);
     IS(span.from, 67767976165557600);
-    IS(span.until, INT64_MAX);
+    IS(span.until, 67767976170460800);
+    IS(zoned_zone_span(&zone, 67767976170460800, &span), ZONED_NO_LOCAL_TIME);
     IS(zoned_zone_span(&zone, INT64_MAX, &span), ZONED_NO_LOCAL_TIME);
     IS(span.from, 67767976165557600);
     /* In the gap and in the fold, at noon, and out of range. */
@@ -334,58 +339,68 @@ int main(void) {
     IS(zoned_zone_span(&zone, 0, &span), ZONED_NOT_OPEN);
     IS(zoned_zone_first_at_or_after(&zone, 0, taken), ZONED_NOT_OPEN);
     count = 77;
-    IS(zoned_zone_changes(&zone, 0, INT64_MAX, changes, 3, &count), ZONED_NOT_OPEN);
+    IS(zoned_zone_changes(&zone, 0, INT64_MAX, SIZE_MAX, changes, 3, &count), ZONED_NOT_OPEN);
     IS(count, 77);
     IS(changes[0].at, 1615705200);
     /* 2021-03-14 06:59:59.999 and 07:00:00 UTC, on both sides of the gap; no time; and a row whose sum doesn't fit. */
     const int64_t column[4] = {1615705199999, 1615705200000, ZONED_NO_TIME, INT64_MIN + 1};
     int64_t locals[4] = {77, 77, 77, 77};
     size_t row = 77;
-    IS(zoned_zone_local(&zone, 1000, column, 3, locals, 3, &row), ZONED_NOT_OPEN);
+    IS(zoned_column_locals(&zone, 1000, column, 3, locals, 3, &row), ZONED_NOT_OPEN);
     IS(zoned_open(ZONED_TEXT, NEW_YORK, LEN, &zone), ZONED_OK);
-    IS(zoned_zone_local(&zone, 60, column, 3, locals, 3, &row), ZONED_UNKNOWN_UNIT);
+    IS(zoned_column_locals(&zone, 60, column, 3, locals, 3, &row), ZONED_UNKNOWN_UNIT);
     IS(locals[0], 77);
-    IS(zoned_zone_local(&zone, 1000, column, 3, locals, 3, &row), ZONED_OK);
+    IS(zoned_column_locals(&zone, 1000, column, 3, locals, 3, &row), ZONED_OK);
     IS(locals[0], 1615687199999);
     IS(locals[1], 1615690800000);
     IS(locals[2], ZONED_NO_TIME);
     IS(row, 77);
-    IS(zoned_zone_local(&zone, 1000, column, 4, locals, 4, &row), ZONED_NO_LOCAL_TIME);
+    IS(zoned_column_locals(&zone, 1000, column, 4, locals, 4, &row), ZONED_NO_LOCAL_TIME);
     IS(row, 3);
     IS(locals[3], 77);
     /* Of the gap and of the fold by half a second more; no time; and a row in a gap, under a policy that rejects it. */
     const int64_t shown[4] = {1615689000500, 1636248600500, ZONED_NO_TIME, 1615689000500};
     int64_t times[4] = {77, 77, 77, 77};
     row = 77;
-    IS(zoned_zone_instants(&zone, 3, ZONED_FOLD_REFUSE, 60, shown, 4, times, 4, &row), ZONED_UNKNOWN_CHOICE);
-    IS(zoned_zone_instants(&zone, ZONED_GAP_END, ZONED_FOLD_LATEST, 60, shown, 4, times, 4, &row), ZONED_UNKNOWN_UNIT);
-    IS(zoned_zone_instants(&zone, ZONED_GAP_END, ZONED_FOLD_LATEST, 1000, shown, 4, times, 3, &row), ZONED_OTHER_SIZE);
+    IS(zoned_column_instants(&zone, 3, ZONED_FOLD_REFUSE, 60, shown, 4, times, 4, &row), ZONED_UNKNOWN_CHOICE);
+    IS(zoned_column_instants(&zone, ZONED_GAP_END, ZONED_FOLD_LATEST, 60, shown, 4, times, 4, &row), ZONED_UNKNOWN_UNIT);
+    IS(zoned_column_instants(&zone, ZONED_GAP_END, ZONED_FOLD_LATEST, 1000, shown, 4, times, 3, &row), ZONED_OTHER_SIZE);
     IS(times[0], 77);
-    IS(zoned_zone_instants(&zone, ZONED_GAP_END, ZONED_FOLD_LATEST, 1000, shown, 3, times, 3, &row), ZONED_OK);
+    IS(zoned_column_instants(&zone, ZONED_GAP_END, ZONED_FOLD_LATEST, 1000, shown, 3, times, 3, &row), ZONED_OK);
     IS(times[0], 1615705200000);
     IS(times[1], 1636266600500);
     IS(times[2], ZONED_NO_TIME);
     IS(row, 77);
-    IS(zoned_zone_instants(&zone, ZONED_GAP_SHIFT_FORWARD, ZONED_FOLD_EARLIEST, 1000, shown, 3, times, 3, &row), ZONED_OK);
+    IS(zoned_column_instants(&zone, ZONED_GAP_SHIFT_FORWARD, ZONED_FOLD_EARLIEST, 1000, shown, 3, times, 3, &row), ZONED_OK);
     IS(times[0], 1615707000500);
     IS(times[1], 1636263000500);
-    IS(zoned_zone_instants(&zone, ZONED_GAP_REFUSE, ZONED_FOLD_LATEST, 1000, shown + 1, 3, times + 1, 3, &row), ZONED_IN_GAP);
+    IS(zoned_column_instants(&zone, ZONED_GAP_REFUSE, ZONED_FOLD_LATEST, 1000, shown + 1, 3, times + 1, 3, &row), ZONED_IN_GAP);
     IS(row, 2);
     IS(times[1], 1636266600500);
     IS(times[3], 77);
+    /* A wrong count is reported, and nothing is written. */
+    int32_t guarded[4] = {77, 77, 77, 77};
+    IS(zoned_zone_offsets(&zone, instants, 3, guarded + 1, 2), ZONED_OTHER_SIZE);
+    for (int i = 0; i < 4; i++) IS(guarded[i], 77);
+    /* Clocks have reached 01:59:59 on the second pass. */
+    int64_t clock_at = 77;
+    IS(zoned_zone_reached(&zone, 1636266600, &clock_at), ZONED_OK);
+    IS(clock_at, 1636250399);
+    /* A fixed offset: Nepal's; one of a day, whose clocks are too far ahead for that; and one that no zone has. */
+    IS(zoned_open_fixed(20700, &zone), ZONED_OK);
+    IS(zoned_zone_type(&zone, 0, types), ZONED_OK);
+    IS(types[0].offset, 20700);
+    IS(types[0].is_dst, 0);
+    IS(types[0].abbreviation[0], 0);
+    IS(zoned_open_fixed(INT32_MIN, &zone), ZONED_LOCAL_TIME_TYPE);
+    IS(zoned_open_fixed(86400, &zone), ZONED_OK);
+    IS(zoned_zone_reached(&zone, 0, &clock_at), ZONED_WIDE_ZONE);
     zoned_close(&zone);
-    zoned_close(NULL);
     IS(zoned_version(), ZONED_VERSION_NUMBER);
     char text[8] = "1234567";
     IS(zoned_error_text(17, text, 4), 13);
     IS(memcmp(text, "out\000567", 8), 0);
 
-    /* A wrong count is reported, and nothing is written: also one whose product by three is the room, as it wraps. */
-    int32_t guarded[4] = {77, 77, 77, 77};
-    IS(zoned_wall(ZONED_TEXT, NEW_YORK, LEN, LOCALS, (size_t)0x5555555555555556, guarded + 1, 2), ZONED_OTHER_SIZE);
-    IS(zoned_wall(ZONED_TEXT, NEW_YORK, LEN, LOCALS, 1, guarded + 1, 2), ZONED_OTHER_SIZE);
-    IS(zoned_at(ZONED_TEXT, NEW_YORK, LEN, instants, 3, guarded + 1, 2), ZONED_OTHER_SIZE);
-    for (int i = 0; i < 4; i++) IS(guarded[i], 77);
 #ifdef OWN_HEAP
     IS(requests > 0, 1);
     IS(blocks, 0);

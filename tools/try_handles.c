@@ -3,8 +3,8 @@
      try_handles CALLS SEED FILE ..       of these TZif files, and of TZ strings
 
    Random calls: handles are opened on zones, on parts of their bytes and on bytes with faults, by kinds that are and that
-   aren't, shared, closed and asked, with counts that fit and that don't. What a handle answers is compared with what the
-   calls without a handle say of the bytes that it was opened on, and the changes of a stretch with what stepping through
+   aren't, shared, closed and asked, with counts that fit and that don't. What a handle answers is compared with what a
+   handle answers that is opened on the same bytes for one question, and the changes of a stretch with what stepping through
    them comes to. Then eight threads ask one handle in a read-only page, and shares of it; a question is left by siglongjmp;
    the shares of a zone are closed in every order; and each request for memory of a call that opens is refused in turn. It
    prints a line, and ends with 0 if nothing differs. Linked with --wrap=malloc and --wrap=realloc. */
@@ -140,13 +140,29 @@ static struct bytes some_bytes(void) {
     return bytes;
 }
 
+/* The answers of a handle that is opened on the bytes for this question. */
+static uint32_t fresh_offsets(struct bytes of, const int64_t *instants, size_t count, int32_t *offsets) {
+    struct zoned_zone zone = {0};
+    uint32_t number = zoned_open(of.kind, of.at, of.len, &zone);
+    if (!number) number = zoned_zone_offsets(&zone, instants, count, offsets, count);
+    zoned_close(&zone);
+    return number;
+}
+
+static uint32_t fresh_clocks(struct bytes of, const int64_t *locals, size_t count, zoned_wall_clock *clocks) {
+    struct zoned_zone zone = {0};
+    uint32_t number = zoned_open(of.kind, of.at, of.len, &zone);
+    if (!number) number = zoned_zone_wall_clocks(&zone, locals, count, clocks, count);
+    zoned_close(&zone);
+    return number;
+}
+
 static void try_open(struct tried *to) {
     struct bytes bytes = some_bytes();
     void *before = to->zone.zone;
     uint32_t number = zoned_open(bytes.kind, bytes.at, bytes.len, &to->zone);
-    EXPECT(number == zoned_parse(bytes.kind, bytes.at, bytes.len));
-    uint32_t fault = zoned_fault(bytes.kind, bytes.at, bytes.len);
-    EXPECT(number == ZONED_TIME_ZONE ? fault >= ZONED_OTHER_TYPE_INDEX && fault <= ZONED_OTHER_RULE : fault == number);
+    EXPECT(number == fresh_offsets(bytes, NULL, 0, NULL));
+    EXPECT(number < 18 || (number >= ZONED_OTHER_TYPE_INDEX && number <= ZONED_OTHER_RULE) || number == ZONED_UNKNOWN_KIND);
     if (number) {
         EXPECT(to->zone.zone == before);
         free(bytes.at);
@@ -202,7 +218,7 @@ static void try_instants(struct tried *of) {
     zoned_local_type types[MOST];
     size_t count = below(MOST + 1), room = below(4) ? count : below(MOST + 1);
     for (size_t i = 0; i < MOST; i++) instants[i] = second();
-    if (of->of.at) EXPECT(zoned_at(of->of.kind, of->of.at, of->of.len, instants, MOST, expected, MOST) == ZONED_OK);
+    if (of->of.at) EXPECT(fresh_offsets(of->of, instants, MOST, expected) == ZONED_OK);
     memset(offsets, 0x55, sizeof offsets);
     memset(types, 0x55, sizeof types);
     uint32_t number = zoned_zone_offsets(&of->zone, instants, count, offsets, room);
@@ -259,7 +275,14 @@ static void try_changes(struct tried *of) {
     EXPECT(zoned_zone_type(&of->zone, between, &there) == ZONED_OK && is_same_type(&there, &type));
 }
 
-/* The span of a second: it begins at the previous change, ends at the next one, and has the type that is in force. */
+/* Whether the zone has no type at the second. */
+static int has_no_type(struct tried *of, int64_t at) {
+    zoned_local_type type = {0};
+    return zoned_zone_type(&of->zone, at, &type) == ZONED_OK && type.offset == ZONED_NO_OFFSET;
+}
+
+/* The span of a second: it begins at the previous change, or when the zone begins to have a type, ends at the next one, or
+   when the zone ceases to have one, and has the type that is in force. */
 static void try_span(struct tried *of) {
     int64_t at = second();
     zoned_span span;
@@ -274,8 +297,11 @@ static void try_span(struct tried *of) {
         return;
     }
     EXPECT(is_same_type(&span.local_type, &type));
-    EXPECT(span.from == (zoned_zone_previous_change(&of->zone, at, &change) ? INT64_MIN : change.at));
-    EXPECT(span.until == (zoned_zone_next_change(&of->zone, at, &change) ? INT64_MAX : change.at));
+    EXPECT(span.from <= at && (at < span.until || at == INT64_MAX));
+    if (!zoned_zone_previous_change(&of->zone, at, &change)) EXPECT(span.from == change.at);
+    else EXPECT(span.from == INT64_MIN || has_no_type(of, span.from - 1));
+    if (!zoned_zone_next_change(&of->zone, at, &change)) EXPECT(span.until == change.at);
+    else EXPECT(span.until == INT64_MAX || has_no_type(of, span.until));
 }
 
 /* The first second from `from` on at which a clock shows the local time or a later one, by the changes before `until`. */
@@ -333,6 +359,24 @@ static void try_gap(struct tried *of) {
     EXPECT(zoned_zone_first_at_or_after(&of->zone, local, &reached) == ZONED_OK && (reached.number || reached.instant == gap.at));
 }
 
+/* What clocks have reached is the greatest local time up to a second, and rises. */
+static void try_reached(struct tried *of) {
+    int64_t at = second(), reached = 77, later = 77, step = (int64_t)below(10000);
+    int32_t offset;
+    uint32_t number = zoned_zone_reached(&of->zone, at, &reached);
+    if (!of->of.at) EXPECT(number == ZONED_NOT_OPEN);
+    EXPECT(number == ZONED_OK || number == ZONED_NOT_OPEN || number == ZONED_WIDE_ZONE || number == ZONED_INSTANT_OUT_OF_RANGE);
+    if (number) {
+        EXPECT(reached == 77);
+        return;
+    }
+    EXPECT(zoned_zone_offset(&of->zone, at, &offset) == ZONED_OK && reached >= at + offset);
+    if (zoned_zone_reached(&of->zone, at + step, &later) == ZONED_OK) EXPECT(reached <= later && later <= reached + 2 * 86400);
+    zoned_resolved first;
+    EXPECT(zoned_zone_first_at_or_after(&of->zone, reached, &first) == ZONED_OK && (first.number || first.instant <= at));
+    EXPECT(zoned_zone_first_at_or_after(&of->zone, reached + 1, &first) == ZONED_OK && (first.number || first.instant > at));
+}
+
 /* The second, or that of the next change, or one beside it. */
 static int64_t end_of_stretch(struct tried *of, int64_t at) {
     zoned_change next;
@@ -359,7 +403,7 @@ static void try_list(struct tried *of) {
     size_t rooms[] = {0, found ? found - 1 : 0, found, found + 1, below(ROOM + 1)}, room = rooms[below(5)];
     if (room > ROOM) room = ROOM;
     memset(written, 0x55, sizeof written);
-    uint32_t number = zoned_zone_changes(&of->zone, from, until, written, room, &count);
+    uint32_t number = zoned_zone_changes(&of->zone, from, until, SIZE_MAX, written, room, &count);
     EXPECT(number == due(of, 0, 0) && count == (number ? 77 : found));
     size_t kept = found < room ? found : room;
     for (size_t i = 0; i < kept; i++) {
@@ -372,7 +416,7 @@ static void try_list(struct tried *of) {
     size_t most = below(8) ? below(found + 3) : SIZE_MAX - below(2), first = found < most ? found : most;
     count = 77;
     memset(written, 0x55, sizeof written);
-    EXPECT(zoned_zone_first_changes(&of->zone, from, until, most, written, room, &count) == number && count == (number ? 77 : first));
+    EXPECT(zoned_zone_changes(&of->zone, from, until, most, written, room, &count) == number && count == (number ? 77 : first));
     kept = number ? 0 : first < room ? first : room;
     for (size_t i = 0; i < kept; i++) EXPECT(written[i].at == expected[i].at && is_same_type(&written[i].after, &expected[i].after));
     EXPECT(is_untouched(written + kept, (ROOM - kept) * sizeof *written));
@@ -397,7 +441,7 @@ static void expect_resolved(struct tried *of, const zoned_wall_clock *clock, uin
     }
     if (clock->shown == ZONED_NEVER && gap == ZONED_GAP_SHIFT_FORWARD && !resolved->number) {
         instant = resolved->instant;
-        EXPECT(zoned_at(of->of.kind, of->of.at, of->of.len, &instant, 1, &offset, 1) == ZONED_OK);
+        EXPECT(fresh_offsets(of->of, &instant, 1, &offset) == ZONED_OK);
         EXPECT(offset > local - instant);
     }
     if (!number && (instant < -8334601228800 || instant > 8210266876799)) number = ZONED_INSTANT_OUT_OF_RANGE;
@@ -408,15 +452,13 @@ static void expect_resolved(struct tried *of, const zoned_wall_clock *clock, uin
 static void try_locals(struct tried *of) {
     int64_t locals[MOST];
     zoned_wall_clock clocks[MOST], expected[MOST] = {{0}};
-    int32_t triples[3 * MOST];
     zoned_resolved resolved[MOST];
-    size_t count = below(MOST + 1), room = below(4) ? count : below(MOST + 1), triple_room = below(4) ? 3 * count : below(3 * MOST + 1);
+    size_t count = below(MOST + 1), room = below(4) ? count : below(MOST + 1);
     uint32_t gap = (uint32_t)below(below(8) ? 3 : 5), fold = (uint32_t)below(below(8) ? 3 : 5);
     int is_choice = gap <= ZONED_GAP_END && fold <= ZONED_FOLD_LATEST;
     for (size_t i = 0; i < MOST; i++) locals[i] = second();
-    if (of->of.at) EXPECT(zoned_wall_instants(of->of.kind, of->of.at, of->of.len, locals, MOST, expected, MOST) == ZONED_OK);
+    if (of->of.at) EXPECT(fresh_clocks(of->of, locals, MOST, expected) == ZONED_OK);
     memset(clocks, 0x55, sizeof clocks);
-    memset(triples, 0x55, sizeof triples);
     memset(resolved, 0x55, sizeof resolved);
     uint32_t number = zoned_zone_wall_clocks(&of->zone, locals, count, clocks, room);
     EXPECT(number == due(of, count, room));
@@ -424,14 +466,7 @@ static void try_locals(struct tried *of) {
     EXPECT(is_untouched(clocks + written, (MOST - written) * sizeof *clocks));
     for (size_t i = 0; i < written; i++) EXPECT(is_same_clock(&clocks[i], &expected[i]));
 
-    number = zoned_zone_wall(&of->zone, locals, count, triples, triple_room);
-    EXPECT(number == due(of, 3 * count, triple_room));
-    written = number ? 0 : count;
-    EXPECT(is_untouched(triples + 3 * written, (3 * MOST - 3 * written) * sizeof *triples));
-    for (size_t i = 0; i < written; i++)
-        EXPECT(triples[3 * i] == expected[i].shown && triples[3 * i + 1] == expected[i].first_offset && triples[3 * i + 2] == expected[i].last_offset);
-
-    number = zoned_zone_resolved_instants(&of->zone, gap, fold, locals, count, resolved, room);
+    number = zoned_zone_instants(&of->zone, gap, fold, locals, count, resolved, room);
     EXPECT(number == (is_choice ? due(of, count, room) : ZONED_UNKNOWN_CHOICE));
     written = number ? 0 : count;
     EXPECT(is_untouched(resolved + written, (MOST - written) * sizeof *resolved));
@@ -442,7 +477,7 @@ static void try_locals(struct tried *of) {
     number = zoned_zone_wall_clock(&of->zone, locals[0], &clock);
     EXPECT(number == due(of, 0, 0));
     if (!number) EXPECT(is_same_clock(&clock, &expected[0]));
-    number = zoned_zone_resolved_instant(&of->zone, gap, fold, locals[0], &one);
+    number = zoned_zone_instant(&of->zone, gap, fold, locals[0], &one);
     EXPECT(number == (is_choice ? due(of, 0, 0) : ZONED_UNKNOWN_CHOICE));
     if (!number) expect_resolved(of, &expected[0], gap, fold, locals[0], &one);
 }
@@ -460,13 +495,13 @@ static int has_local(struct tried *of, int64_t per_second, int64_t instant, int6
     int32_t offset;
     *local = instant;
     if (instant == ZONED_NO_TIME) return 1;
-    EXPECT(zoned_at(of->of.kind, of->of.at, of->of.len, &at, 1, &offset, 1) == ZONED_OK);
+    EXPECT(zoned_zone_offset(&of->zone, at, &offset) == ZONED_OK);
     __int128 sum = (__int128)instant + (__int128)offset * per_second;
     *local = (int64_t)sum;
     return offset != ZONED_NO_OFFSET && sum > INT64_MIN && sum <= INT64_MAX;
 }
 
-/* A column of instants, in order or not: what zoned_at says of each, up to the first row that has no local time. */
+/* A column of instants, in order or not: what zoned_zone_offset says of each, up to the first row that has no local time. */
 static void try_column(struct tried *of) {
     static const int64_t UNITS[] = {1, 1000, 1000000, 1000000000, 0, -1, 60};
     int64_t instants[COLUMN] = {0}, locals[COLUMN], per_second = UNITS[below(below(8) ? 4 : 7)];
@@ -478,7 +513,7 @@ static void try_column(struct tried *of) {
         if (is_sorted && i > 0 && instants[i - 1] < INT64_MAX - step) instants[i] = instants[i - 1] + step;
     }
     memset(locals, 0x55, sizeof locals);
-    uint32_t number = zoned_zone_local(&of->zone, per_second, instants, count, locals, room, &row);
+    uint32_t number = zoned_column_locals(&of->zone, per_second, instants, count, locals, room, &row);
     if (!is_unit || due(of, count, room) != ZONED_OK) {
         EXPECT(number == (is_unit ? due(of, count, room) : ZONED_UNKNOWN_UNIT));
     } else {
@@ -526,7 +561,7 @@ static void try_instants_of_column(struct tried *of) {
         if (is_sorted && i > 0 && locals[i - 1] < INT64_MAX - step) locals[i] = locals[i - 1] + step;
     }
     memset(instants, 0x55, sizeof instants);
-    uint32_t number = zoned_zone_instants(&of->zone, gap, fold, per_second, locals, count, instants, room, &row);
+    uint32_t number = zoned_column_instants(&of->zone, gap, fold, per_second, locals, count, instants, room, &row);
     if (!is_choice || !is_unit || due(of, count, room) != ZONED_OK) {
         EXPECT(number == (!is_choice ? ZONED_UNKNOWN_CHOICE : !is_unit ? ZONED_UNKNOWN_UNIT : due(of, count, room)));
     } else {
@@ -544,7 +579,7 @@ static int by_time(const void *a, const void *b) {
 }
 
 /* A long column, for which a table of stretches is kept: instants from 1900 to 2100, many of them near a change, and the same
-   numbers as local times, are answered as zoned_zone_at and zoned_zone_resolve answer their seconds. */
+   numbers as local times, are answered as zoned_zone_offsets and zoned_zone_instants answer their seconds. */
 static void try_long_column(const struct zoned_zone *zone, int64_t per_second, int is_sorted) {
     static int64_t times[LONG], answers[LONG], seconds[LONG];
     static int32_t offsets[LONG];
@@ -559,11 +594,11 @@ static void try_long_column(const struct zoned_zone *zone, int64_t per_second, i
     }
     if (is_sorted) qsort(times, LONG, sizeof *times, by_time);
     for (size_t i = 0; i < LONG; i++) seconds[i] = times[i] / per_second - (times[i] % per_second < 0);
-    EXPECT(zoned_zone_local(zone, per_second, times, LONG, answers, LONG, &row) == ZONED_OK);
-    EXPECT(zoned_zone_at(zone, seconds, LONG, offsets, LONG) == ZONED_OK);
+    EXPECT(zoned_column_locals(zone, per_second, times, LONG, answers, LONG, &row) == ZONED_OK);
+    EXPECT(zoned_zone_offsets(zone, seconds, LONG, offsets, LONG) == ZONED_OK);
     for (size_t i = 0; i < LONG; i++) EXPECT(answers[i] == times[i] + offsets[i] * per_second);
-    EXPECT(zoned_zone_instants(zone, gap, fold, per_second, times, LONG, answers, LONG, &row) == ZONED_OK);
-    EXPECT(zoned_zone_resolve(zone, gap, fold, seconds, LONG, resolved, LONG) == ZONED_OK);
+    EXPECT(zoned_column_instants(zone, gap, fold, per_second, times, LONG, answers, LONG, &row) == ZONED_OK);
+    EXPECT(zoned_zone_instants(zone, gap, fold, seconds, LONG, resolved, LONG) == ZONED_OK);
     for (size_t i = 0; i < LONG; i++) {
         int64_t rest = times[i] - seconds[i] * per_second;
         zoned_wall_clock clock;
@@ -617,33 +652,34 @@ static void try_fields(struct tried *of) {
     else EXPECT(memcmp(&fields, &other, sizeof fields) == 0);
 }
 
-/* A count whose product by three wraps to the room is told, and nothing is written. */
-static void try_wrapping_count(void) {
-    struct zoned_zone zone = {0};
-    int32_t guarded[4] = {77, 77, 77, 77};
-    int64_t locals[1] = {0};
-    EXPECT(zoned_open(zones[0].kind, zones[0].at, zones[0].len, &zone) == ZONED_OK);
-    EXPECT(zoned_zone_wall(&zone, locals, (size_t)0x5555555555555556, guarded + 1, 2) == ZONED_OTHER_SIZE);
-    for (int i = 0; i < 4; i++) EXPECT(guarded[i] == 77);
-    zoned_close(&zone);
-}
-
 /* NULL with a count of 0 is an empty array. */
 static void try_null(void) {
     struct zoned_zone zone = {0};
     size_t count = 77;
-    EXPECT(zoned_parse(ZONED_TEXT, NULL, 0) == ZONED_OK && zoned_fault(ZONED_FILE, NULL, 0) == ZONED_UNEXPECTED_END);
-    EXPECT(zoned_at(ZONED_TEXT, NULL, 0, NULL, 0, NULL, 0) == ZONED_OK && zoned_wall(ZONED_TEXT, NULL, 0, NULL, 0, NULL, 0) == ZONED_OK);
-    EXPECT(zoned_wall_instants(ZONED_TEXT, NULL, 0, NULL, 0, NULL, 0) == ZONED_OK);
+    EXPECT(zoned_open(ZONED_FILE, NULL, 0, &zone) == ZONED_UNEXPECTED_END);
     EXPECT(zoned_open(ZONED_TEXT, NULL, 0, &zone) == ZONED_OK);
-    EXPECT(zoned_zone_at(&zone, NULL, 0, NULL, 0) == ZONED_OK && zoned_zone_types(&zone, NULL, 0, NULL, 0) == ZONED_OK);
-    EXPECT(zoned_zone_wall(&zone, NULL, 0, NULL, 0) == ZONED_OK && zoned_zone_wall_instants(&zone, NULL, 0, NULL, 0) == ZONED_OK);
-    EXPECT(zoned_zone_resolve(&zone, ZONED_GAP_REFUSE, ZONED_FOLD_REFUSE, NULL, 0, NULL, 0) == ZONED_OK);
-    EXPECT(zoned_zone_changes(&zone, 0, INT64_MAX / 1000, NULL, 0, &count) == ZONED_OK && count == 0);
-    EXPECT(zoned_zone_local(&zone, 1, NULL, 0, NULL, 0, &count) == ZONED_OK);
-    EXPECT(zoned_zone_instants(&zone, ZONED_GAP_REFUSE, ZONED_FOLD_REFUSE, 1, NULL, 0, NULL, 0, &count) == ZONED_OK);
-    zoned_close(NULL);
+    EXPECT(zoned_zone_offsets(&zone, NULL, 0, NULL, 0) == ZONED_OK && zoned_zone_types(&zone, NULL, 0, NULL, 0) == ZONED_OK);
+    EXPECT(zoned_zone_wall_clocks(&zone, NULL, 0, NULL, 0) == ZONED_OK);
+    EXPECT(zoned_zone_instants(&zone, ZONED_GAP_REFUSE, ZONED_FOLD_REFUSE, NULL, 0, NULL, 0) == ZONED_OK);
+    EXPECT(zoned_zone_changes(&zone, 0, INT64_MAX / 1000, SIZE_MAX, NULL, 0, &count) == ZONED_OK && count == 0);
+    EXPECT(zoned_column_locals(&zone, 1, NULL, 0, NULL, 0, &count) == ZONED_OK);
+    EXPECT(zoned_column_instants(&zone, ZONED_GAP_REFUSE, ZONED_FOLD_REFUSE, 1, NULL, 0, NULL, 0, &count) == ZONED_OK);
     EXPECT(zoned_error_text(ZONED_OK, NULL, 0) > 0);
+    zoned_close(&zone);
+}
+
+/* A fixed offset is in force at each second, without an abbreviation; no zone has the least one. */
+static void try_fixed(void) {
+    struct zoned_zone zone = {0};
+    zoned_span span;
+    for (int i = 0; i < 100; i++) {
+        int32_t offset = i ? (int32_t)next() : INT32_MAX;
+        if (offset == INT32_MIN) continue;
+        EXPECT(zoned_open_fixed(offset, &zone) == ZONED_OK && zoned_zone_span(&zone, second(), &span) == ZONED_OK);
+        EXPECT(span.local_type.offset == offset && span.local_type.is_dst == 0 && span.local_type.abbreviation[0] == 0);
+        EXPECT(span.from == INT64_MIN && span.until == INT64_MAX);
+    }
+    EXPECT(zoned_open_fixed(INT32_MIN, &zone) == ZONED_LOCAL_TIME_TYPE && zone.zone != NULL);
     zoned_close(&zone);
 }
 
@@ -696,6 +732,7 @@ static void try_calls(uint64_t count) {
         case 9:
             try_changes(one);
             try_span(one);
+            try_reached(one);
             calls += 3;
             break;
         case 10:
@@ -743,7 +780,9 @@ static uint64_t ask_one(const struct zoned_zone *zone, int64_t at, uint64_t sum)
     zoned_wall_clock clock;
     zoned_resolved resolved, reached;
     zoned_span span;
+    int64_t clock_at = 0;
     uint32_t numbers[] = {zoned_zone_offset(zone, at, &offset),
+                          zoned_zone_reached(zone, at, &clock_at),
                           zoned_zone_type(zone, at, &type),
                           zoned_zone_span(zone, at, &span),
                           zoned_zone_first_at_or_after(zone, at, &reached),
@@ -755,28 +794,28 @@ static uint64_t ask_one(const struct zoned_zone *zone, int64_t at, uint64_t sum)
     sum = mix(mix(mix(sum, numbers, sizeof numbers), &offset, sizeof offset), &type, sizeof type);
     sum = mix(mix(sum, &next, sizeof next), &previous, sizeof previous);
     sum = mix(mix(mix(sum, &span, sizeof span), &reached, sizeof reached), &gap, sizeof gap);
+    sum = mix(sum, &clock_at, sizeof clock_at);
     return mix(mix_clock(sum, &clock), &resolved, sizeof resolved);
 }
 
 /* The same of several, and of the changes of a stretch. */
 static uint64_t ask_many(const struct zoned_zone *zone, const int64_t *at, uint64_t sum) {
-    int32_t offsets[MOST], triples[3 * MOST];
+    int32_t offsets[MOST];
     zoned_local_type types[MOST];
     zoned_wall_clock clocks[MOST];
     zoned_resolved resolved[MOST];
     zoned_change changes[MOST] = {{0}};
     int64_t locals[MOST], instants[MOST];
     size_t count, row;
-    uint32_t numbers[] = {zoned_zone_at(zone, at, MOST, offsets, MOST),
+    uint32_t numbers[] = {zoned_zone_offsets(zone, at, MOST, offsets, MOST),
                           zoned_zone_types(zone, at, MOST, types, MOST),
-                          zoned_zone_wall_instants(zone, at, MOST, clocks, MOST),
-                          zoned_zone_wall(zone, at, MOST, triples, 3 * MOST),
-                          zoned_zone_resolve(zone, ZONED_GAP_REFUSE, ZONED_FOLD_EARLIEST, at, MOST, resolved, MOST),
-                          zoned_zone_changes(zone, at[0], at[0] + 100000000, changes, MOST, &count),
-                          zoned_zone_first_changes(zone, at[0], INT64_MAX, MOST, changes, MOST, &count),
-                          zoned_zone_local(zone, 1, at, MOST, locals, MOST, &row),
-                          zoned_zone_instants(zone, ZONED_GAP_END, ZONED_FOLD_EARLIEST, 1, at, MOST, instants, MOST, &row)};
-    sum = mix(mix(mix(sum, numbers, sizeof numbers), offsets, sizeof offsets), triples, sizeof triples);
+                          zoned_zone_wall_clocks(zone, at, MOST, clocks, MOST),
+                          zoned_zone_instants(zone, ZONED_GAP_REFUSE, ZONED_FOLD_EARLIEST, at, MOST, resolved, MOST),
+                          zoned_zone_changes(zone, at[0], at[0] + 100000000, SIZE_MAX, changes, MOST, &count),
+                          zoned_zone_changes(zone, at[0], INT64_MAX, MOST, changes, MOST, &count),
+                          zoned_column_locals(zone, 1, at, MOST, locals, MOST, &row),
+                          zoned_column_instants(zone, ZONED_GAP_END, ZONED_FOLD_EARLIEST, 1, at, MOST, instants, MOST, &row)};
+    sum = mix(mix(sum, numbers, sizeof numbers), offsets, sizeof offsets);
     for (int i = 0; i < MOST; i++) sum = mix_clock(sum, &clocks[i]);
     sum = mix(mix(mix(sum, types, sizeof types), resolved, sizeof resolved), locals, sizeof locals);
     sum = mix(sum, instants, sizeof instants);
@@ -869,7 +908,7 @@ static void try_leaving(void) {
     signal(SIGALRM, leave);
     if (sigsetjmp(left, 1) == 0) {
         ualarm(1000, 0);
-        EXPECT(zoned_zone_changes(&zone, 0, INT64_MAX, &change, 1, &count) != ZONED_OK);
+        EXPECT(zoned_zone_changes(&zone, 0, INT64_MAX, SIZE_MAX, &change, 1, &count) != ZONED_OK);
     }
     signal(SIGALRM, SIG_DFL);
     EXPECT(zone.zone == before && zoned_zone_offset(&zone, 1615705200, &offset) == ZONED_OK && offset == -14400);
@@ -951,12 +990,12 @@ int main(int count, char **words) {
         zones[zone_count++] = copy((struct bytes){ZONED_TEXT, (uint8_t *)TEXTS[i], strlen(TEXTS[i])});
     for (size_t i = 0; i < sizeof EXTENDED / sizeof *EXTENDED; i++)
         zones[zone_count++] = copy((struct bytes){ZONED_EXTENDED_STRING, (uint8_t *)EXTENDED[i], strlen(EXTENDED[i])});
-    for (size_t i = 0; i < zone_count; i++) EXPECT(zoned_parse(zones[i].kind, zones[i].at, zones[i].len) == ZONED_OK);
+    for (size_t i = 0; i < zone_count; i++) EXPECT(fresh_offsets(zones[i], NULL, 0, NULL) == ZONED_OK);
     EXPECT(zoned_version() == ZONED_VERSION_NUMBER);
-    try_wrapping_count();
     try_null();
     try_long_columns();
     try_texts();
+    try_fixed();
     try_calls(wanted);
     try_orders();
     try_refusals();

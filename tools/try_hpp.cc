@@ -1,10 +1,15 @@
 // Compares zoned.hpp with the definition of its answers, one time at a time and in columns, in each unit and with each policy:
-// around New York's clock changes of 2021, and at the ends of 64 bits. tools/try_install.py builds and runs it.
+// around New York's clock changes of 2021, and at the ends of 64 bits. From C++20 on std::chrono's calendar, time zones and format
+// are tried over its zones. tools/try_install.py builds and runs it.
 #include <zoned.hpp>
 
 #include <array>
 #include <cstdio>
+#if ZONED_STD_CHRONO >= 2
+#include <format>
+#endif
 
+using std::chrono::seconds;
 using zoned::fold, zoned::gap, zoned::policy, zoned::time_zone;
 
 // A clock change as zdump prints it: its second, and the offsets before and after it.
@@ -34,6 +39,12 @@ template <class Call> answer answer_of(Call call) {
         return {ZONED_OK, int64_t(call().time_since_epoch().count())};
     } catch (const zoned::error &error) {
         return {error.number, 0};
+#if ZONED_STD_CHRONO >= 2
+    } catch (const std::chrono::nonexistent_local_time &) {
+        return {ZONED_IN_GAP, 0};
+    } catch (const std::chrono::ambiguous_local_time &) {
+        return {ZONED_IN_FOLD, 0};
+#endif
     }
 }
 
@@ -140,6 +151,122 @@ static void try_other_units(const time_zone &new_york) {
     same("to_local of hours", 1, 1800, {ZONED_OK, -16200}, one_local(new_york, part_hours(0.5)));
 }
 
+static void is_so(const char *what, bool so) {
+    tried++;
+    if (so) return;
+    wrong++;
+    std::printf("not so: %s\n", what);
+}
+
+static void try_names(const time_zone &new_york) {
+    const char bytes[] = "UTC0";
+    const auto again = time_zone::from_string(new_york.name()), extended = time_zone::from_extended_string(new_york.name());
+    auto copy = new_york, moved = std::move(copy);
+    is_so("a TZ string is a zone's name", new_york.name() == "EST5EDT,M3.2.0,M11.1.0");
+    is_so("a copy is the same zone", moved == new_york && !(moved != new_york));
+    is_so("zones of one TZ string are equal", again == new_york);
+    is_so("zones of two TZ strings differ", time_zone::from_string("UTC0") != new_york);
+    is_so("a TZ string of another kind is another", extended != new_york);
+    is_so("a moved zone leaves no name", copy.name().empty() && copy != new_york);
+    moved = extended;
+    is_so("assignment takes the name along", moved == extended);
+    try {
+        time_zone::from_bytes(bytes, 4, "Nowhere");
+        is_so("four letters are no file", false);
+    } catch (const zoned::error &error) {
+        is_so("four letters are no file", error.number == ZONED_INVALID_TZ_FILE);
+    }
+}
+
+// A name that there isn't, and one that leads out of a folder; and a zone by its name, if there is a tz database.
+static void try_located() {
+    using namespace std::string_view_literals;
+    for (auto name : {"Nowhere/Land"sv, "../zoneinfo/UTC"sv, "/usr/share/zoneinfo/UTC"sv, "UTC\0"sv, ""sv}) {
+        try {
+            time_zone::locate(name);
+            is_so("a name of no zone", false);
+        } catch (const zoned::error &error) {
+            is_so("a name of no zone", error.number == ZONED_NO_SUCH_ZONE && std::string_view(error.what()).find(name.data()) != name.npos);
+        }
+    }
+    try {
+        const auto tokyo = time_zone::locate("Asia/Tokyo"), again = time_zone::locate("Asia/Tokyo");
+        is_so("a located zone has its name", tokyo.name() == "Asia/Tokyo" && tokyo == again);
+        is_so("and its offset", tokyo.get_offset(zoned::sys_seconds(seconds(0))) == seconds(32400));
+        is_so("in a folder too", time_zone::locate("Asia/Tokyo", "/nowhere:/usr/share/zoneinfo").get_offset(zoned::sys_seconds()) == seconds(32400));
+        is_so("in no folder", (zoned::tz_version("/nowhere").empty()));
+    } catch (const zoned::error &) {
+        std::printf("no Asia/Tokyo in the tz database\n");
+    }
+}
+
+// What clocks have reached, of New York in 2021; and fixed offsets.
+static void try_reached(const time_zone &new_york) {
+    const auto at = [](int64_t second) { return zoned::sys_seconds(seconds(second)); };
+    is_so("clocks have reached", new_york.reached(at(1636266600)).time_since_epoch() == seconds(1636250399));
+    const auto nepal = time_zone::fixed(seconds(20700)), west = time_zone::fixed(seconds(-12345));
+    is_so("a fixed offset has a name", nepal.name() == "+05:45" && west.name() == "-03:25:45" && time_zone::fixed(seconds(0)).name() == "+00:00");
+    is_so("and its offset", nepal.get_offset(at(0)) == seconds(20700) && west.get_offset(at(0)) == seconds(-12345));
+    is_so("two of one offset are equal", nepal == time_zone::fixed(seconds(20700)) && nepal != west);
+}
+
+// std::chrono's choose: the earliest or the latest instant, and the end of a gap.
+static void try_choose(const time_zone &new_york) {
+    const seconds in_gap{1615689000}, in_fold{1636248600};
+    for (auto which : {zoned::choose::earliest, zoned::choose::latest}) {
+        same("to_sys with choose", 1, in_gap.count(), {ZONED_OK, spring.at}, one_instant(new_york, in_gap, which));
+        const auto offset = which == zoned::choose::earliest ? autumn.before : autumn.after;
+        same("to_sys with choose", 1, in_fold.count(), {ZONED_OK, in_fold.count() - offset}, one_instant(new_york, in_fold, which));
+    }
+    same("to_sys with a fold", 1, in_fold.count(), {ZONED_OK, 1636266600}, one_instant(new_york, in_fold, fold::latest));
+    same("to_sys with a fold", 1, in_gap.count(), {ZONED_IN_GAP, 0}, one_instant(new_york, in_gap, fold::latest));
+    same("to_sys with a gap", 1, in_gap.count(), {ZONED_OK, 1615707000}, one_instant(new_york, in_gap, gap::shift_forward));
+}
+
+#if ZONED_STD_CHRONO >= 1
+static void try_calendar(const time_zone &new_york) {
+    using std::chrono::floor, std::chrono::hours, std::chrono::local_days, std::chrono::sys_days, std::chrono::year;
+    const auto noon = local_days{year{2021} / 3 / 14} + hours{12};
+    same("to_sys of a day of the calendar", 1, 0, {ZONED_OK, 1615737600}, answer_of([&] { return new_york.to_sys(noon); }));
+    const auto late = new_york.to_local(sys_days{year{2021} / 3 / 14} + hours{4});
+    is_so("a local time has a date", std::chrono::year_month_day{floor<std::chrono::days>(late)} == year{2021} / 3 / 13);
+    is_so("and a weekday", std::chrono::weekday{floor<std::chrono::days>(late)} == std::chrono::Saturday);
+}
+#endif
+
+#if ZONED_STD_CHRONO >= 2
+static void try_zoned_time(const time_zone &new_york) {
+    using std::chrono::hours, std::chrono::local_info, std::chrono::milliseconds, std::chrono::minutes, std::chrono::year;
+    using in_seconds = std::chrono::zoned_time<seconds, const time_zone *>;
+    using in_millis = std::chrono::zoned_time<milliseconds, const time_zone *>;
+    const auto change = std::chrono::sys_days{year{2021} / 3 / 14} + hours{7};
+    const std::chrono::local_seconds in_gap{seconds{1615689000}}, in_fold{seconds{1636248600}};
+    const in_seconds meeting{&new_york, change};
+    is_so("zoned_time prints", std::format("{:%F %T %Z}", meeting) == "2021-03-14 03:00:00 EDT");
+    is_so("and in milliseconds", std::format("{:%T %z}", in_millis{&new_york, change - milliseconds{1}}) == "01:59:59.999 -0500");
+    is_so("a local time prints", std::format("{:%F %T}", new_york.to_local(change)) == "2021-03-14 03:00:00");
+    is_so("zoned_time takes local times", in_seconds{&new_york, std::chrono::local_days{year{2021} / 3 / 14} + hours{3}} == meeting);
+    is_so("and a choice", in_seconds(&new_york, in_gap, std::chrono::choose::latest) == meeting);
+    const std::chrono::sys_info info = meeting.get_info();
+    is_so("its info", info.begin == change && info.offset == hours{-4} && info.save != minutes{0} && info.abbrev == "EDT");
+    const local_info skipped = new_york.get_info(in_gap), repeated = new_york.get_info(in_fold);
+    is_so("a gap", skipped.result == local_info::nonexistent && skipped.first.save == minutes{0} && skipped.second.begin == change);
+    is_so("a fold", repeated.result == local_info::ambiguous && repeated.first.abbrev == "EDT" && repeated.second.abbrev == "EST");
+    try {
+        in_seconds{&new_york, in_gap};
+        is_so("no instant in a gap", false);
+    } catch (const std::chrono::nonexistent_local_time &refused) {
+        is_so("what is thrown names both types", std::string_view(refused.what()).find("EST") != std::string_view::npos);
+    }
+    try {
+        new_york.to_sys(in_fold);
+        is_so("two instants in a fold", false);
+    } catch (const std::chrono::ambiguous_local_time &) {
+        tried++;
+    }
+}
+#endif
+
 int main() {
     const auto new_york = time_zone::from_string("EST5EDT,M3.2.0,M11.1.0");
     try_unit<std::chrono::seconds>(new_york), try_ends<std::chrono::seconds>();
@@ -147,6 +274,13 @@ int main() {
     try_unit<std::chrono::microseconds>(new_york), try_ends<std::chrono::microseconds>();
     try_unit<std::chrono::nanoseconds>(new_york), try_ends<std::chrono::nanoseconds>();
     try_other_units(new_york);
+    try_names(new_york), try_located(), try_choose(new_york), try_reached(new_york);
+#if ZONED_STD_CHRONO >= 1
+    try_calendar(new_york);
+#endif
+#if ZONED_STD_CHRONO >= 2
+    try_zoned_time(new_york);
+#endif
     std::printf("%d answers of zoned.hpp, %d wrong\n", tried, wrong);
     return tried == 0 || wrong != 0;
 }

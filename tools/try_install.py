@@ -1,19 +1,24 @@
 #!/usr/bin/env python3
 """Tries the installed library for C: tools/install.sh into an empty folder, and programs over what it puts there.
 
-usage: tools/try_install.py
+usage: tools/try_install.py [RELEASE]
 
-It needs crates/zoned_ffi/out/libzoned_ffi.a, which `rt lib` builds in crates/zoned_ffi, gcc, g++ and binutils; pkg-config and
+RELEASE is a folder of Debian's packages, as mmdebstrap unpacks them, with g++ or clang and libc++: its compilers are tried with
+zoned.hpp too, by chroot and as root. It needs crates/zoned_ffi/out/libzoned_ffi.a, which `rt lib` builds in crates/zoned_ffi, gcc, g++ and binutils; pkg-config and
 CMake are used if they are installed. It tries that
 
-- libzoned.a and libzoned.so define the calls of the header and nothing else, and need six functions of the C library;
+- libzoned.a and libzoned.so define the calls of the headers and nothing else, and need few functions of the C library: the object of
+  the proved calls six;
 - libzoned.so has the SONAME of the header's version;
 - examples/zones.c and zones.cc are built over each library, with pkg-config and with CMake, zones.py loads the shared one, and all
   print the same lines;
 - a program that has a function rattle_alloc of its own keeps it to itself;
-- what zoned.hpp answers one time at a time and in columns is what its definition says (tools/try_hpp.cc), as C++17 and C++20;
-- install.sh lists what it installs, and a program starts after what it says or does about the loader's cache;
-- the man page names each call of the header;
+- what zoned.hpp answers one time at a time and in columns is what its definition says (tools/try_hpp.cc), as C++17, 20 and 23, by
+  g++ and, if it is installed, by clang with libc++;
+- install.sh lists what it installs, in folders of other names too, and --uninstall leaves nothing; a program starts after what it
+  says or does about the loader's cache, and a tree that was moved is still found by pkg-config;
+- zones are opened by name as tools/try_names.c says, and no name leads out of a folder;
+- the man page has a section for each call of the headers;
 - the library for 64-bit ARM gives the same lines under qemu, if `tools/build_archive.py --target aarch64-unknown-linux-gnu` has
   built it. This needs Debian's gcc-aarch64-linux-gnu, libc6-dev-arm64-cross and qemu-user.
 
@@ -32,19 +37,31 @@ from sources import TOP, needs
 
 PREFIX = "/usr/local"
 HEADER = TOP / "crates/zoned_ffi/include/zoned_ffi.h"
+HEADERS = [HEADER, HEADER.with_name("zoned.h")]
 ARCHIVE = TOP / "crates/zoned_ffi/out/libzoned_ffi.a"
 EXAMPLES = TOP / "examples"
 HPP = TOP / "tools/try_hpp.cc"
 ARM, ARM_ARCHIVE, ARM_HEAP = "aarch64-linux-gnu", TOP / "crates/zoned_ffi/out/libzoned_ffi-aarch64.a", TOP / "crates/zoned_ffi/install/heap.c"
+NAMES = TOP / "tools/try_names.c"
 NEEDED = {"malloc", "realloc", "free", "memcpy", "memmove", "memset"}
+# What the C code for zones by name needs, and what a compiler that hardens it adds.
+NEEDED_BY_NAMES = {"__errno_location", "close", "lseek", "memcmp", "open", "read", "secure_getenv", "strcspn", "strlen"}
+HARDENED = {"__read_chk", "__memcpy_chk", "__open_2", "__stack_chk_fail"}
 ASKED = ["/usr/share/zoneinfo/America/New_York", "1615705200", "1615689000", "1636248600"]
+STANDARDS = ["c++17", "c++20", "c++2b"]
 WARNINGS = ["-O2", "-Wall", "-Wextra", "-Werror"]
 OWN_HEAP = """
 #include <zoned.h>
 int calls;
 struct tried { _Bool ok; void *p; };
 struct tried rattle_alloc(size_t size, size_t align) { (void)size, (void)align; calls++; return (struct tried){0, 0}; }
-int main(void) { return zoned_parse(ZONED_TEXT, "EST5EDT,M3.2.0,M11.1.0", 22) != ZONED_OK || calls != 0; }
+int main(void) {
+    struct zoned_zone zone = {0};
+    int opened = zoned_open(ZONED_TEXT, "EST5EDT,M3.2.0,M11.1.0", 22, &zone) == ZONED_OK;
+    zoned_close(&zone);
+    zoned_close(NULL);
+    return !opened || calls != 0;
+}
 """
 CMAKE = """
 cmake_minimum_required(VERSION 3.10)
@@ -66,12 +83,17 @@ def run(*words, **more):
 
 
 def declared():
-    text = re.sub(r"/\*.*?\*/", "", HEADER.read_text(), flags=re.S)
-    return set(re.findall(r"^(?!ZONED_INLINE)(?:\w+ )*(zoned_\w+)\(", text, re.M))
+    text = re.sub(r"/\*.*?\*/", "", "".join(header.read_text() for header in HEADERS), flags=re.S)
+    return set(re.findall(r"^(?!ZONED_INLINE)(?:\w+ )*\**(zoned_\w+)\(", text, re.M))
 
 
 def version():
     return re.search(r'^#define ZONED_VERSION "(.*)"$', HEADER.read_text(), re.M)[1]
+
+
+def interface():
+    first, second, _ = version().split(".")
+    return f"{first}.{second}" if first == "0" else first
 
 
 def names(library, *flags):
@@ -81,14 +103,19 @@ def names(library, *flags):
     return {name for name, kind in rows if kind not in "UA"}, {name for name, kind in rows if kind == "U"}
 
 
-def complaints_of_names(lib):
+def complaints_of_calls(lib):
     for library, flags in ((lib / "libzoned.a", []), (lib / "libzoned.so", ["-D"])):
         defined, needed = names(library, *flags)
         if defined != declared():
             yield f"{library.name} and the header differ in {sorted(defined ^ declared())}"
-        if needed != NEEDED:
+        if needed - declared() - HARDENED != NEEDED | NEEDED_BY_NAMES:
             yield f"{library.name} needs {sorted(needed)}"
-    if f"Library soname: [libzoned.so.{version().split('.')[0]}]" not in run("readelf", "-d", lib / "libzoned.so"):
+    (lib / "alone").mkdir()
+    run("ar", "x", lib / "libzoned.a", "zoned.o", cwd=lib / "alone")
+    if (needed := names(lib / "alone/zoned.o")[1]) != NEEDED:
+        yield f"the object of the proved calls needs {sorted(needed)}"
+    shutil.rmtree(lib / "alone")
+    if f"Library soname: [libzoned.so.{interface()}]" not in run("readelf", "-d", lib / "libzoned.so"):
         yield "libzoned.so has another SONAME"
 
 
@@ -130,14 +157,34 @@ def complaints_of_programs(root, room):
     print(f"{len(made)} programs over the installed library")
 
 
-def complaints_of_cpp(root, room):
-    """What try_hpp.cc finds amiss with zoned.hpp."""
-    flags = [*WARNINGS, "-Wshadow", "-fsanitize=undefined", "-fno-sanitize-recover=all", "-I", root / f"{PREFIX[1:]}/include"]
-    for standard in ("c++17", "c++20"):
-        run("g++", *flags, f"-std={standard}", "-o", room / "hpp", HPP, root / f"{PREFIX[1:]}/lib/libzoned.a")
-        tried = subprocess.run([room / "hpp"], capture_output=True, text=True)
-        if tried.returncode:
-            yield f"{HPP.name} as {standard}: {tried.stdout}{tried.stderr}"
+def complaints_of_cpp(root, room, release):
+    """What try_hpp.cc finds amiss with zoned.hpp, by each compiler of this machine and of an unpacked release."""
+    with tempfile.TemporaryDirectory(dir=release / "tmp" if release else room) as folder:
+        place = Path(folder) / "hpp"
+        shutil.copytree(root / f"{PREFIX[1:]}/include", place)
+        shutil.copy(root / f"{PREFIX[1:]}/lib/libzoned.a", place)
+        shutil.copy(HPP, place)
+        yield from complaints_of_compilers([], Path("/"), place)
+        if release:
+            yield from complaints_of_compilers(["chroot", release], release, Path("/") / place.relative_to(release))
+
+
+def complaints_of_compilers(start, top, place):
+    """What the program of that folder finds with each compiler below `top`."""
+    found = [["g++", "-fsanitize=undefined", "-fno-sanitize-recover=all"]] if (top / "usr/bin/g++").exists() else []
+    for path in sorted((top / "usr/bin").glob("clang++-*")):
+        if any(top.glob("usr/lib/llvm-*/include/c++/v1/chrono")):
+            found.append([path.name, "-stdlib=libc++"])
+            if re.search(r"-(19|2\d)$", path.name):
+                found.append([*found[-1], "-fexperimental-library"])
+    for compiler in found:
+        for standard in STANDARDS:
+            words = [*start, *compiler, *WARNINGS, "-Wshadow", f"-std={standard}", "-I", place]
+            run(*words, "-o", place / "tried", place / HPP.name, place / "libzoned.a")
+            tried = subprocess.run([*start, place / "tried"], capture_output=True, text=True)
+            if tried.returncode:
+                yield f"{HPP.name} by {compiler[0]} as {standard}: {tried.stdout}{tried.stderr}"
+    print(f"zoned.hpp by {len(found)} compilers below {top}, each as {len(STANDARDS)} standards")
 
 
 def complaints_of_loader(room):
@@ -152,9 +199,7 @@ def complaints_of_loader(room):
             (room / "bin" / name).write_text(f"#!/bin/sh\n{text}\n")
             (room / "bin" / name).chmod(0o755)
         lines = run(TOP / "tools/install.sh", env={**os.environ, **where}).splitlines()
-        listed = {line.strip() for line in lines if line.startswith("  ")}
-        there = {str(path.relative_to(prefix)) for path in prefix.rglob("*") if not path.is_dir()}
-        return "".join(lines[-1:]), sorted(listed ^ there)
+        return "".join(lines[-1:]), sorted(listed(lines) ^ files_below(prefix))
 
     (room / "bin").mkdir()
     folders.write_text("")
@@ -170,16 +215,60 @@ def complaints_of_loader(room):
         yield f"after `{said}` a program ends with {ran.returncode}: {ran.stderr}"
     folders.write_text(f"{prefix}/lib\n")
     last_line(0)
-    if f"=> {prefix}/lib/libzoned.so.{version().split('.')[0]}\n" not in run(ldconfig, "-C", cache, "-p"):
+    if f"=> {prefix}/lib/libzoned.so.{interface()}\n" not in run(ldconfig, "-C", cache, "-p"):
         yield "install.sh, run by root, doesn't put the library into the loader's cache"
     if not (said := last_line(1000)[0]).endswith("as root: ldconfig"):
         yield f"install.sh, not run by root, doesn't say that root must run ldconfig: {said}"
 
 
+def listed(lines):
+    return {line.strip() for line in lines if line.startswith("  ")}
+
+
+def files_below(folder):
+    return {str(path.relative_to(folder)) for path in folder.rglob("*") if not path.is_dir()}
+
+
+def complaints_of_folders(room):
+    """What differs if the folders have other names, as in Debian; after the tree was moved; and after it is removed."""
+    root, folders = room / "debian", {"LIBDIR": "lib/x86_64-linux-gnu", "DOCDIR": "/usr/share/doc/libzoned-dev", "MANDIR": "man"}
+    settings = {**os.environ, "DESTDIR": str(root), "PREFIX": "/usr", **folders}
+    told = listed(run(TOP / "tools/install.sh", env=settings).splitlines())
+    if files_below(root / "usr") != told:
+        yield "install.sh lists other files than it installs in folders of other names"
+    for name in ("lib/x86_64-linux-gnu/libzoned.so", "share/doc/libzoned-dev/LICENSE", "man/man3/zoned.3", "include/zoned.h"):
+        if not (root / "usr" / name).exists():
+            yield f"install.sh doesn't install {name}"
+    moved = room / "moved"
+    (root / "usr").rename(moved)
+    lib = moved / "lib/x86_64-linux-gnu"
+    if shutil.which("pkg-config"):
+        flags = run("pkg-config", "--cflags", "--libs", "zoned", env={**os.environ, "PKG_CONFIG_PATH": str(lib / "pkgconfig")}).split()
+        run("gcc", "-o", room / "by_moved", EXAMPLES / "zones.c", *flags, f"-Wl,-rpath,{lib}")
+    moved.rename(root / "usr")
+    run(TOP / "tools/install.sh", "--uninstall", env=settings)
+    left = [*files_below(root), *(path for path in root.rglob("*zoned*"))]
+    if left:
+        yield f"--uninstall leaves {left}"
+
+
+def complaints_of_names(root, room):
+    """What try_names.c finds amiss with zones by name, and with numbers in words."""
+    flags = [*WARNINGS, "-fsanitize=address,undefined", "-fno-sanitize-recover=all", "-I", root / f"{PREFIX[1:]}/include"]
+    run("gcc", *flags, "-o", room / "names", NAMES, root / f"{PREFIX[1:]}/lib/libzoned.a")
+    tried = subprocess.run([room / "names", room / "folders"], capture_output=True, text=True)
+    if tried.returncode:
+        yield f"{NAMES.name}: {tried.stdout}{tried.stderr}"
+
+
 def complaints_of_man_page(root):
-    named = set(re.findall(r"\bzoned_\w+", (root / f"{PREFIX[1:]}/share/man/man3/zoned.3").read_text()))
-    for call in sorted(declared() - named):
-        yield f"the man page doesn't name {call}"
+    pages = root / f"{PREFIX[1:]}/share/man/man3"
+    sections = {name for line in re.findall(r"^\.SS (zoned_.*)", (pages / "zoned.3").read_text(), re.M) for name in line.split(", ")}
+    for call in sorted(declared() ^ sections):
+        yield f"the man page and the header differ in {call}"
+    for call in sorted(sections):
+        if not (pages / f"{call}.3").exists():
+            yield f"there is no man page {call}(3)"
 
 
 def installed(root, **more):
@@ -204,13 +293,15 @@ def complaints_of_arm(room):
 
 
 def main():
+    release = Path(sys.argv[1]).resolve() if len(sys.argv) == 2 else None
     needs("rt", "gcc", "g++", "nm", ARCHIVE)
     with tempfile.TemporaryDirectory() as folder:
         root, room = Path(folder) / "root", Path(folder) / "room"
         room.mkdir()
         lib = installed(root)
-        found = [*complaints_of_names(lib), *complaints_of_programs(root, room), *complaints_of_man_page(root)]
-        found += [*complaints_of_cpp(root, room), *complaints_of_loader(room)]
+        found = [*complaints_of_calls(lib), *complaints_of_programs(root, room), *complaints_of_man_page(root)]
+        found += [*complaints_of_cpp(root, room, release), *complaints_of_loader(room), *complaints_of_folders(room)]
+        found += complaints_of_names(root, room)
         if ARM_ARCHIVE.exists():
             found += complaints_of_arm(room)
     for complaint in found:

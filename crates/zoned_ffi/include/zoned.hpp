@@ -1,4 +1,4 @@
-// zoned.hpp: time zones for C++17, over zoned.h. Names and meanings follow the time zones of C++20's std::chrono.
+// zoned.hpp: time zones for C++17 and later, over zoned.h. Names and meanings follow the time zones of C++20's std::chrono.
 //
 //   const auto paris = zoned::time_zone::locate("Europe/Paris");
 //   auto local = paris.to_local(zoned::sys_seconds(std::chrono::seconds(1615705200)));
@@ -6,27 +6,46 @@
 //
 // A zone may be asked by any number of threads at once, by its const members. A copy shares what was read.
 // Errors are thrown: zoned::error has the number of zoned.h, and std::bad_alloc is thrown if memory runs out.
+//
+// From C++20 on local times are those of std::chrono, so its calendar takes them. If std::chrono has time zones too (libstdc++
+// 14, or libc++ 19 with -fexperimental-library), a pointer to a zone is the zone of a std::chrono::zoned_time, which std::format
+// prints, and sys_info and local_info become std's:
+//
+//   std::chrono::zoned_time<seconds, const zoned::time_zone *> meeting{&paris, std::chrono::local_days{2021y / 10 / 31} + 12h};
 #pragma once
 
-#include "zoned_ffi.h"
+#include "zoned.h"
 
 #include <chrono>
 #include <cstdio>
 #include <memory>
 #include <new>
-#include <optional>
 #include <stdexcept>
 #include <string>
 #include <string_view>
 #include <type_traits>
 #include <utility>
-#include <vector>
 
 namespace zoned {
 
+// What <chrono> has: 1, C++20's local times; 2, its time zones too.
+#if __cplusplus < 202002L || (!defined(_LIBCPP_VERSION) && _GLIBCXX_RELEASE < 11)
+#define ZONED_STD_CHRONO 0
+#elif defined(_LIBCPP_HAS_EXPERIMENTAL_TZDB)
+#define ZONED_STD_CHRONO (1 + _LIBCPP_HAS_EXPERIMENTAL_TZDB)
+#elif defined(_LIBCPP_VERSION) ? _LIBCPP_VERSION >= 190000 && !defined(_LIBCPP_HAS_NO_EXPERIMENTAL_TZDB) : __cpp_lib_chrono >= 201907L
+#define ZONED_STD_CHRONO 2
+#else
+#define ZONED_STD_CHRONO 1
+#endif
+
 using std::chrono::seconds;
 
-struct local_t {}; // C++20 has std::chrono::local_t
+#if ZONED_STD_CHRONO >= 1
+using std::chrono::local_t;
+#else
+struct local_t {};
+#endif
 template <class Duration> using sys_time = std::chrono::time_point<std::chrono::system_clock, Duration>;
 template <class Duration> using local_time = std::chrono::time_point<local_t, Duration>;
 using sys_seconds = sys_time<seconds>;
@@ -35,9 +54,22 @@ using local_seconds = local_time<seconds>;
 // What to do with a local time that the clocks skipped, and with one that they show several times.
 enum class gap : uint32_t { refuse = ZONED_GAP_REFUSE, shift_forward = ZONED_GAP_SHIFT_FORWARD, end = ZONED_GAP_END };
 enum class fold : uint32_t { refuse = ZONED_FOLD_REFUSE, earliest = ZONED_FOLD_EARLIEST, latest = ZONED_FOLD_LATEST };
+
+// The policies of std::chrono: the earliest or the latest instant that shows a local time, and the end of a gap.
+#if ZONED_STD_CHRONO >= 2
+using std::chrono::choose;
+#else
+enum class choose { earliest, latest };
+#endif
+
 struct policy {
     enum gap gap = gap::refuse;
     enum fold fold = fold::refuse;
+
+    constexpr policy() = default;
+    constexpr policy(enum gap skipped, enum fold repeated = fold::refuse) : gap(skipped), fold(repeated) {}
+    constexpr policy(enum fold repeated) : fold(repeated) {}
+    constexpr policy(choose which) : policy(gap::end, which == choose::earliest ? fold::earliest : fold::latest) {}
 };
 
 // An error of the library, with its number. `row` is the first row of a column that has it, else 0.
@@ -46,6 +78,7 @@ public:
     const uint32_t number;
     const size_t row;
     explicit error(uint32_t code, size_t at = 0) : std::runtime_error(text(code)), number(code), row(at) {}
+    error(uint32_t code, const std::string &what) : std::runtime_error(what), number(code), row(0) {}
 
 private:
     static std::string text(uint32_t code) {
@@ -67,6 +100,10 @@ struct sys_info {
     seconds offset;
     bool is_dst;
     std::string abbrev;
+#if ZONED_STD_CHRONO >= 2
+    // A TZif file doesn't say how much time daylight saving time saves: std's `save` is a minute, or none.
+    operator std::chrono::sys_info() const { return {begin, end, offset, std::chrono::minutes(is_dst), abbrev}; }
+#endif
 };
 
 // How a zone shows a local time. `first` is what is in force at the only or the first instant that shows it, and `second` at
@@ -74,64 +111,98 @@ struct sys_info {
 struct local_info {
     enum { unique, nonexistent, ambiguous } result;
     sys_info first, second;
+#if ZONED_STD_CHRONO >= 2
+    operator std::chrono::local_info() const { return {int(result), first, second}; }
+    static_assert(int(unique) == std::chrono::local_info::unique && int(nonexistent) == std::chrono::local_info::nonexistent &&
+                  int(ambiguous) == std::chrono::local_info::ambiguous);
+#endif
 };
 
 class time_zone {
 public:
-    // The zone of a TZif file, given its bytes.
-    static time_zone from_bytes(const void *bytes, size_t count) { return open(ZONED_FILE, bytes, count); }
-
-    // The zone of a TZ string, such as EST5EDT,M3.2.0,M11.1.0.
-    static time_zone from_string(std::string_view text) { return open(ZONED_TEXT, text.data(), text.size()); }
-
-    // The zone of a TZ string that may have the extensions of RFC 8536: hours of a time of day from -167 to 167.
-    static time_zone from_extended_string(std::string_view text) { return open(ZONED_EXTENDED_STRING, text.data(), text.size()); }
-
-    // The zone of that name in a folder of TZif files. Throws std::runtime_error if there is no such file.
-    static time_zone locate(std::string_view name, const std::string &folder = "/usr/share/zoneinfo") {
-        auto is_inside = !name.empty() && name[0] != '/' && name.find("..") == name.npos && name.find('\0') == name.npos;
-        auto path = folder + '/' + std::string(name);
-        std::unique_ptr<std::FILE, int (*)(std::FILE *)> file(nullptr, std::fclose);
-        if (is_inside) file.reset(std::fopen(path.c_str(), "rb"));
-        if (!file) throw std::runtime_error("no time zone " + std::string(name));
-        std::vector<unsigned char> bytes;
-        size_t count = 0, read = 0;
-        do {
-            bytes.resize(2 * count + 4096);
-            read = std::fread(bytes.data() + count, 1, bytes.size() - count, file.get());
-            count += read;
-        } while (read != 0);
-        if (std::ferror(file.get())) throw std::runtime_error("can't read " + path);
-        return from_bytes(bytes.data(), count);
+    // The zone of a TZif file, given its bytes, under a name of yours.
+    static time_zone from_bytes(const void *bytes, size_t count, std::string_view name = {}) {
+        return open(ZONED_FILE, bytes, count, {std::string(name), {}});
     }
 
-    time_zone(time_zone &&other) noexcept : zone(std::exchange(other.zone, {})) {}
-    time_zone(const time_zone &other) { check(zoned_share(&other.zone, &zone)); }
+    // The zone of a TZ string, such as EST5EDT,M3.2.0,M11.1.0, which is its name.
+    static time_zone from_string(std::string_view text) { return of_text(ZONED_TEXT, text); }
+
+    // The zone of a TZ string that may have the extensions of RFC 8536: hours of a time of day from -167 to 167.
+    static time_zone from_extended_string(std::string_view text) { return of_text(ZONED_EXTENDED_STRING, text); }
+
+    // The zone of that name, such as Europe/Paris, in the first of the folders that has it: paths with : between them, or those of
+    // zoned_open_name. Throws error with ZONED_NO_SUCH_ZONE if there is none.
+    static time_zone locate(std::string_view name, const std::string &folders = {}) {
+        const std::string path(name);
+        time_zone opened({path, folders + ':' + path});
+        auto number = uint32_t(ZONED_NO_SUCH_ZONE);
+        if (path.find('\0') == path.npos)
+            number = zoned_open_name(path.c_str(), folders.empty() ? nullptr : folders.c_str(), &opened.zone);
+        if (number == ZONED_OUT_OF_MEMORY) throw std::bad_alloc();
+        if (number != ZONED_OK) throw error(number, zoned_error_words(number) + (": " + path));
+        return opened;
+    }
+
+    // The zone whose clocks are always as far ahead of UTC. Its name is such as +05:30.
+    static time_zone fixed(seconds offset) {
+        const auto count = offset.count();
+        if (count <= INT32_MIN || count > INT32_MAX) throw error(ZONED_LOCAL_TIME_TYPE);
+        const auto length = count < 0 ? -count : count;
+        char name[32];
+        auto written = std::snprintf(name, sizeof name, "%c%02d:%02d", count < 0 ? '-' : '+', int(length / 3600), int(length / 60 % 60));
+        if (length % 60 != 0) std::snprintf(name + written, sizeof name - size_t(written), ":%02d", int(length % 60));
+        time_zone opened({name, name});
+        check(zoned_open_fixed(int32_t(count), &opened.zone));
+        return opened;
+    }
+
+    time_zone(time_zone &&other) noexcept : zone(std::exchange(other.zone, {})), origin(std::move(other.origin)) {}
+    time_zone(const time_zone &other) : origin(other.origin) { check(zoned_share(&other.zone, &zone)); }
     time_zone &operator=(time_zone other) noexcept {
         std::swap(zone, other.zone);
+        std::swap(origin, other.origin);
         return *this;
     }
     ~time_zone() { zoned_close(&zone); }
 
+    // The name by which the zone was located, its TZ string, its fixed offset, or the name given with its bytes.
+    std::string_view name() const { return origin ? std::string_view(origin->name) : std::string_view(); }
+
+    // Whether one zone is a copy of the other, or both have one name in the same folders, or are of one TZ string or one fixed offset.
+    friend bool operator==(const time_zone &one, const time_zone &other) {
+        if (one.origin == other.origin) return true;
+        return one.origin && other.origin && !one.origin->place.empty() && one.origin->place == other.origin->place;
+    }
+    friend bool operator!=(const time_zone &one, const time_zone &other) { return !(one == other); }
+
     // The offset in force at an instant, east of UTC.
-    seconds get_offset(sys_seconds at) const {
+    template <class Duration> seconds get_offset(sys_time<Duration> at) const {
         int32_t offset;
-        check(zoned_zone_offset(&zone, count(at), &offset));
+        check(zoned_zone_offset(&zone, second(at), &offset));
         return seconds(known(offset));
     }
 
-    sys_info get_info(sys_seconds at) const {
+    template <class Duration> sys_info get_info(sys_time<Duration> at) const {
         zoned_span span;
-        check(zoned_zone_span(&zone, count(at), &span));
+        check(zoned_zone_span(&zone, second(at), &span));
         const auto &type = span.local_type;
         return {sys(span.from), sys(span.until), seconds(type.offset), type.is_dst != 0, type.abbreviation};
     }
 
     // The date and the time of day that clocks show at an instant, with the weekday and the day of the year.
-    zoned_fields get_fields(sys_seconds at) const {
+    template <class Duration> zoned_fields get_fields(sys_time<Duration> at) const {
         zoned_fields fields;
-        check(zoned_zone_fields(&zone, count(at), &fields));
+        check(zoned_zone_fields(&zone, second(at), &fields));
         return fields;
+    }
+
+    // The last local time, in whole seconds, that clocks have shown up to an instant. Throws error with ZONED_WIDE_ZONE or
+    // ZONED_INSTANT_OUT_OF_RANGE.
+    template <class Duration> local_seconds reached(sys_time<Duration> at) const {
+        int64_t local;
+        check(zoned_zone_reached(&zone, second(at), &local));
+        return local_seconds(seconds(local));
     }
 
     // A single time is converted as a row of a column is, in the unit of its Duration, or in seconds if that unit is longer. So the
@@ -143,42 +214,43 @@ public:
         using Unit = std::common_type_t<Duration, seconds>;
         const Unit instant = at.time_since_epoch();
         if (is_no_time(instant)) return local_time<Unit>(instant);
-        const Unit offset = get_offset(std::chrono::floor<seconds>(at));
+        const Unit offset = get_offset(at);
         return local_time<Unit>(sum(instant, offset, ZONED_NO_LOCAL_TIME));
     }
 
-    // The instant of a local time. Throws error with ZONED_IN_GAP, ZONED_IN_FOLD or ZONED_INSTANT_OUT_OF_RANGE.
+    // The instant of a local time. Throws error with ZONED_IN_GAP, ZONED_IN_FOLD or ZONED_INSTANT_OUT_OF_RANGE; if std::chrono has
+    // time zones, std::chrono::nonexistent_local_time and ambiguous_local_time in place of the first two.
     template <class Duration> auto to_sys(local_time<Duration> at, policy choice = {}) const {
         using Unit = std::common_type_t<Duration, seconds>;
         const Unit local = at.time_since_epoch();
         if (is_no_time(local)) return sys_time<Unit>(local);
-        const int64_t second = count(std::chrono::floor<seconds>(at));
+        const int64_t shown = second(at);
         zoned_resolved resolved;
-        check(zoned_zone_resolved_instant(&zone, uint32_t(choice.gap), uint32_t(choice.fold), second, &resolved));
-        check(resolved.number);
-        Unit step = seconds(resolved.instant - second);
+        check(zoned_zone_instant(&zone, uint32_t(choice.gap), uint32_t(choice.fold), shown, &resolved));
+        must_be_taken(resolved.number, shown);
+        Unit step = seconds(resolved.instant - shown);
         // In a gap clocks show another local time at that instant. The end of a gap is a whole second.
-        if (choice.gap == gap::end && resolved.instant + resolved.offset != second) step -= part_of_second(local);
+        if (choice.gap == gap::end && resolved.instant + resolved.offset != shown) step -= part_of_second(local);
         return sys_time<Unit>(sum(local, step, ZONED_INSTANT_OUT_OF_RANGE));
     }
 
     // The first instant at which clocks show a local time or a later one: in a gap the instant at which it ends.
     sys_seconds first_at_or_after(local_seconds local) const {
         zoned_resolved reached;
-        check(zoned_zone_first_at_or_after(&zone, count(local), &reached));
+        check(zoned_zone_first_at_or_after(&zone, second(local), &reached));
         check(reached.number);
         return sys(reached.instant);
     }
 
-    local_info get_info(local_seconds local) const {
+    template <class Duration> local_info get_info(local_time<Duration> local) const {
         zoned_wall_clock clock;
-        check(zoned_zone_wall_clock(&zone, count(local), &clock));
+        check(zoned_zone_wall_clock(&zone, second(local), &clock));
         if (clock.shown == ZONED_OUT_OF_RANGE) throw error(ZONED_INSTANT_OUT_OF_RANGE);
         if (clock.shown == ZONED_ONCE) return {local_info::unique, get_info(sys(clock.first)), {}};
         if (clock.shown == ZONED_SEVERAL_TIMES)
             return {local_info::ambiguous, get_info(sys(clock.first)), get_info(sys(clock.last))};
         zoned_change gap;
-        check(zoned_zone_gap(&zone, count(local), &gap));
+        check(zoned_zone_gap(&zone, second(local), &gap));
         return {local_info::nonexistent, get_info(sys(gap.at - 1)), get_info(sys(gap.at))};
     }
 
@@ -191,7 +263,8 @@ public:
         auto from = numbers<std::chrono::system_clock>(instants.data());
         auto to = numbers<local_t>(locals.data());
         size_t row = 0;
-        auto number = zoned_zone_local(&zone, per_second(instants.data(), locals.data()), from, instants.size(), to, locals.size(), &row);
+        auto unit = per_second(instants.data(), locals.data());
+        auto number = zoned_column_locals(&zone, unit, from, instants.size(), to, locals.size(), &row);
         check(number, row);
     }
 
@@ -201,8 +274,9 @@ public:
         auto from = numbers<local_t>(locals.data());
         auto to = numbers<std::chrono::system_clock>(instants.data());
         size_t row = 0;
-        auto number = zoned_zone_instants(&zone, uint32_t(choice.gap), uint32_t(choice.fold), per_second(locals.data(), instants.data()),
-                                          from, locals.size(), to, instants.size(), &row);
+        auto unit = per_second(locals.data(), instants.data());
+        auto number = zoned_column_instants(&zone, uint32_t(choice.gap), uint32_t(choice.fold), unit, from, locals.size(), to,
+                                            instants.size(), &row);
         check(number, row);
     }
 
@@ -210,17 +284,42 @@ public:
     const zoned_zone *handle() const { return &zone; }
 
 private:
+    // A zone's name, and what it was made from: nothing if that is bytes.
+    struct source {
+        std::string name, place;
+    };
+
     zoned_zone zone{};
+    std::shared_ptr<const source> origin;
 
-    time_zone() = default;
+    explicit time_zone(source from) : origin(std::make_shared<const source>(std::move(from))) {}
 
-    static time_zone open(uint32_t kind, const void *bytes, size_t count) {
-        time_zone opened;
+    static time_zone open(uint32_t kind, const void *bytes, size_t count, source from) {
+        time_zone opened(std::move(from));
         check(zoned_open(kind, bytes, count, &opened.zone));
         return opened;
     }
 
-    template <class Time> static int64_t count(Time at) { return at.time_since_epoch().count(); }
+    // The place of a TZ string differs from each path and offset: it has a zero byte.
+    static time_zone of_text(uint32_t kind, std::string_view text) {
+        return open(kind, text.data(), text.size(), {std::string(text), char(kind) + std::string(1, '\0').append(text)});
+    }
+
+    // The number of the second that a time lies in.
+    template <class Clock, class Duration> static int64_t second(std::chrono::time_point<Clock, Duration> at) {
+        return std::chrono::floor<seconds>(at).time_since_epoch().count();
+    }
+
+    // Throws what a local time has in place of an instant.
+    void must_be_taken(uint32_t number, [[maybe_unused]] int64_t shown) const {
+#if ZONED_STD_CHRONO >= 2
+        const local_seconds at{seconds(shown)};
+        if (number == ZONED_IN_GAP) throw std::chrono::nonexistent_local_time(at, get_info(at));
+        if (number == ZONED_IN_FOLD) throw std::chrono::ambiguous_local_time(at, get_info(at));
+#endif
+        check(number);
+    }
+
     static sys_seconds sys(int64_t at) { return sys_seconds(seconds(at)); }
 
     // Whether a time is a whole number that may be negative, as in a column.
@@ -255,10 +354,16 @@ private:
 
     // A time point of 64 bits is the number of its units, and nothing else.
     template <class Clock, class Time> static auto numbers(Time *column) {
-        static_assert(std::is_same_v<typename Time::clock, Clock> && std::is_same_v<typename Time::rep, int64_t>);
+        static_assert(std::is_same_v<typename Time::clock, Clock> && is_counted<typename Time::duration>);
         static_assert(sizeof(Time) == sizeof(int64_t) && std::is_standard_layout_v<Time>);
         return reinterpret_cast<std::conditional_t<std::is_const_v<Time>, const int64_t, int64_t> *>(column);
     }
 };
+
+// The version of the tz database in the first of the folders that states it, such as 2026a: empty if none does.
+inline std::string tz_version(const std::string &folders = {}) {
+    char text[64];
+    return std::string(text, zoned_tz_version(folders.empty() ? nullptr : folders.c_str(), text, sizeof text));
+}
 
 } // namespace zoned

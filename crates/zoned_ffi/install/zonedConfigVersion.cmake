@@ -1,14 +1,10 @@
-# A version fits if its first number is the one that is wanted, and it isn't an earlier one.
+# A version fits if it isn't an earlier one and its interface, @ABI@, is the one that is wanted: 0.4 for 0.4.0.
 set(PACKAGE_VERSION "@VERSION@")
-string(REGEX MATCH "^[0-9]+" zoned_WANTED "${PACKAGE_FIND_VERSION}")
-if("${PACKAGE_FIND_VERSION}" STREQUAL "")
+set(PACKAGE_VERSION_COMPATIBLE FALSE)
+if("${PACKAGE_FIND_VERSION}" STREQUAL "" OR
+   ("${PACKAGE_FIND_VERSION}." MATCHES "^@ABI@[.]" AND NOT PACKAGE_VERSION VERSION_LESS PACKAGE_FIND_VERSION))
   set(PACKAGE_VERSION_COMPATIBLE TRUE)
-elseif("${zoned_WANTED}" STREQUAL "@ABI@" AND NOT PACKAGE_VERSION VERSION_LESS PACKAGE_FIND_VERSION)
-  set(PACKAGE_VERSION_COMPATIBLE TRUE)
-else()
-  set(PACKAGE_VERSION_COMPATIBLE FALSE)
 endif()
 if("${PACKAGE_FIND_VERSION}" STREQUAL "${PACKAGE_VERSION}")
   set(PACKAGE_VERSION_EXACT TRUE)
 endif()
-unset(zoned_WANTED)

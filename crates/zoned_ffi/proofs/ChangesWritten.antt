@@ -1,5 +1,5 @@
 -- The changes of a stretch: how many there can be, and how they are written into a room.
-use Rattle.zoned_ffi.proofs.Words.{AreChanges, AreFirstWritten, AreWrittenChanges, Change, Contains-get_or, Fits, FitsSigned, List, TypeAt, WrittenChange, Zone}
+use Rattle.zoned_ffi.proofs.Words.{AreChanges, AreFirstWritten, Change, Contains-get_or, Fits, FitsSigned, List, TypeAt, WrittenChange, Zone}
 use Rattle.std.proofs.Math.Seq.{take-nil}
 use Rattle.zoned_ffi.proofs.Words.{append-nil, arith, get_or, ints, length, length-map, map, map-append, pos, refl, slice_set, suc}
 use Rattle.zoned_ffi.proofs.Words.{take, take-append_seam, take_all, w64, written_change, written_into, zero, ℕ, ℤ, [], ◌++◌, ◌+ℤ◌, ◌+◌, ◌<◌, ◌∷◌}
@@ -27,19 +27,8 @@ module _ (z : Zone) (from until : ℤ) (changes : List Change) (are : AreChanges
       let here = (are.each (get_or changes k d)).0 (Contains-get_or changes k d place) in
       omega (arith, ints, here.1.1, risen k d place)
 
--- so all of them can be counted
-count_fits : (z : Zone) (from until : ℤ) (changes : List Change) → AreChanges (TypeAt z) from until changes → FitsSigned w64 from → FitsSigned w64 until
-    → length changes ≤ 18_446_744_073_709_551_615
-count_fits z from until [] are low high = omega arith
-count_fits z from until (c ∷ cs) are low high = omega (arith, place_fits z from until (c ∷ cs) are (length cs) c (omega arith) low high)
-
 pub first_written : (z : Zone) (from until : ℤ) (most : ℕ) (found rest : List Change) (room written : List WrittenChange) (count : ℕ)
     → AreChanges (TypeAt z) from until (found ++ rest) → count ≡ length found → count ≤ most → (count ≡ most) ⊎ (rest ≡ []) → written ≡ written_into (map written_change found) room
     → AreFirstWritten z from until most room written count
 first_written z from until most found rest room written count are counted within end was =
     let same : take most (found ++ rest) ≡ found = grind (arith, take-append_seam found rest, append-nil found, take_all most found) in grind arith
-
--- with a limit that no count passes all are written
-pub all_written : (z : Zone) (from until : ℤ) (most : ℕ) (room written : List WrittenChange) (count : ℕ) → FitsSigned w64 from → FitsSigned w64 until
-    → 18_446_744_073_709_551_615 ≤ most → AreFirstWritten z from until most room written count → AreWrittenChanges z from until room written count
-all_written z from until most room written count low high big first = grind (arith, count_fits z from until first.0 first.1, take_all most first.0)

@@ -4,6 +4,9 @@ use Rattle.zoned_ffi.proofs.Words.{IsLeast, IsLocal, IsNoInstant, IsOffsetStretc
 use Rattle.zoned_ffi.proofs.Words.{List, LocalType, MatchOption, None, OffsetStretch, Option, Shows, Some, Taken, TypeAt, Unit, Zone, ap, arith}
 use Rattle.zoned_ffi.proofs.Words.{first_second, floor_div, floors, get_or, ints, neg_ℤ, offsets, per_second, pos, refl, second_holding, subst}
 use Rattle.zoned_ffi.proofs.Words.{taken_instant, uncounted, w64, ℕ, ℤ, ◌*ℤ◌, ◌+ℤ◌, ◌+◌, ◌-ℤ◌, ◌<ℤ◌, ◌≡◌, ◌≤ℤ◌}
+use Rattle.zoned_ffi.proofs.Words.{AreWritten, drop, length, take, take_all, ◌∙◌, ◌≤◌}
+use Rattle.zoned_ffi.proofs.Slices.{same_behind}
+use Rattle.zoned_ffi.specs.{Steps.KeptTimes.{IsStop}, declared.column.{Question.{Question}, Stop.{Stop}}}
 use Rattle.zoned_ffi.proofs.Resolving.{none_is, taken_once}
 use Rattle.zoned_ffi.specs.{declared.column.Way.TheVariants.{ToInstants, ToLocal}, declared.resolved.Taken.TheVariants.{BeforeGap, GapEnd, InForce}}
 use Rattle.tz_info.proofs.{ExtremeLaws.{at_least_least, at_most_greatest}, ForCallers.{type_once}}
@@ -104,6 +107,27 @@ pub instant_told : (z : Zone) (unit : Unit) (choice : Choice) (local : ℤ) (tak
 instant_told z unit choice local taken None in_range is none = IsNoInstant.uncounted (taken_instant unit local taken) in_range (taken_gives z unit choice local taken is) none
 instant_told z unit choice local taken (Some i) in_range is found =
     record { in_range = in_range; taken = rw found.0 (taken_gives z unit choice local taken is); counted = found.1 }
+
+-- a column that is as it was behind a place stops as well for one that was the same there
+pub stop_behind : (q : Question) (times old mid new : List ℤ) (s : Stop) (from : ℕ) → IsStop q times mid new s → from ≤ s.row → drop from mid ≡ drop from old
+    → IsStop q times old new s
+stop_behind q times old mid new s from stop late same = record {
+  within = stop.within;
+  before = stop.before;
+  time = stop.time;
+  without = stop.without;
+  behind = stop.behind ∙ same_behind mid old from s.row late same;
+}
+
+-- the last block of a column
+pub last_block : (q : Question) (times old mid new : List ℤ) (from to : ℕ) (r : Option Stop)
+    → MatchOption r (AreWritten q (take to times) (take to new) × (drop to new ≡ drop to mid)) (λ s. (from ≤ s.row) × IsStop q times mid new s)
+    → length times ≤ to → length new ≡ length times → drop from mid ≡ drop from old → MatchOption r (AreWritten q times new) (λ s. IsStop q times old new s)
+last_block q times old mid new from to None (written, rest) whole as_many same =
+    let all : take to times ≡ times = take_all to times whole in
+    let each : take to new ≡ new = take_all to new (omega (arith, whole, as_many)) in
+    subst (λ ys. AreWritten q times ys) each (subst (λ xs. AreWritten q xs (take to new)) all written)
+last_block q times old mid new from to (Some s) (late, stop) whole as_many same = stop_behind q times old mid new s from stop late same
 
 pub row_number : (z : Zone) (unit : Unit) (choice : Choice) (local : ℤ) (n : ℕ) → IsNoInstant z unit choice local n → IsRowNumber n
 row_number z unit choice local n none = grind (arith, none_is)

@@ -1,7 +1,7 @@
 -- A call that is rejected has one number, unless memory runs out.
 use Rattle.tz_info.proofs.TextLaws.{one_fault as string_fault_once}
 use Rattle.tz_info.specs.TzFiles.IsZoneFault.{In_file as Of_file}
-use Rattle.zoned_ffi.proofs.Words.{IsErrorOfKind, IsExtendedFault, IsFault, IsFileError, IsStringError, Kind, List, ap, arith, error_number, file_fault_once}
+use Rattle.zoned_ffi.proofs.Words.{IsErrorOfKind, IsExtendedFault, IsFault, IsFileError, IsStringError, Kind, List, ap, arith, detail_number, error_number, file_fault_once}
 use Rattle.zoned_ffi.proofs.Words.{inl, inr, refl, text_fault_once, ℕ, ◌≡◌, ◌⊎◌}
 use Rattle.zoned_ffi.specs.{Refusals.IsFileError.{In_file}}
 use Rattle.zoned_ffi.specs.{Refusals.IsStringError.{In_text, No_memory, Not_utf8}}
@@ -10,7 +10,7 @@ abbrev Alike : ℕ → ℕ → Type 0
 Alike m n = (m ≡ n) ⊎ (m ≡ 17) ⊎ (n ≡ 17)
 
 file_alike : (bytes : List ℕ) (m n : ℕ) → IsFileError bytes m → IsFileError bytes n → Alike m n
-file_alike bytes m n (In_file d (Of_file _ f)) (In_file e (Of_file _ g)) = inl (ap error_number (file_fault_once bytes d e f g))
+file_alike bytes m n (In_file d (Of_file _ f)) (In_file e (Of_file _ g)) = inl (ap detail_number (file_fault_once bytes d e f g))
 file_alike bytes m n f g = grind arith
 
 text_alike : (bytes : List ℕ) (m n : ℕ) → IsStringError bytes m → IsStringError bytes n → Alike m n
@@ -27,5 +27,5 @@ extended_alike bytes m n f g = grind (arith, string_fault_once)
 fault_alike : (k : Kind) (bytes : List ℕ) (m n : ℕ) → IsFault k bytes m → IsFault k bytes n → Alike m n
 fault_alike k bytes m n f g = grind (arith, file_alike, text_alike, extended_alike)
 
-pub one_number : (kind : ℕ) (bytes : List ℕ) (wanted room m n : ℕ) → IsErrorOfKind kind bytes wanted room m → IsErrorOfKind kind bytes wanted room n → Alike m n
-one_number kind bytes wanted room m n f g = grind (arith, fault_alike)
+pub one_number : (kind : ℕ) (bytes : List ℕ) (m n : ℕ) → IsErrorOfKind kind bytes m → IsErrorOfKind kind bytes n → Alike m n
+one_number kind bytes m n f g = grind (arith, fault_alike)

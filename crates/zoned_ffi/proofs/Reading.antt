@@ -1,11 +1,12 @@
 -- What comes of reading, as a call tells it.
-use Rattle.zoned_ffi.proofs.Words.{Bool, Error, IfErr, IsErrorOfKind, IsExtendedFault, IsFalse, IsFault, IsFileError, IsOutOfMemory, IsPosixFault}
-use Rattle.zoned_ffi.proofs.Words.{IsPosixZone, IsReaderNumber, IsStringError, IsTrue, IsUtf8, IsZoneFault, IsZoneOf, Kind, List, Refusal, Result}
-use Rattle.zoned_ffi.proofs.Words.{SpellsZone, Zone, arith, error_number, inl, inr, refusal_number, true, ℕ, ◌↔◌, ◌≡◌, ◌≢◌, ◌⊎◌}
-use Rattle.zoned_ffi.specs.{Kinds.{kind_number}, Refusals.IsErrorOfKind.{Other_size, Unknown_kind}, Refusals.IsFileError.{In_file}}
+use Rattle.zoned_ffi.proofs.Words.{Error, IfErr, IsErrorOfKind, IsExtendedFault, IsFault, IsFileError, IsOutOfMemory, IsPosixFault, detail_number}
+use Rattle.zoned_ffi.proofs.Words.{IsPosixZone, IsReaderNumber, IsStringError, IsUtf8, IsZoneFault, IsZoneOf, Kind, List, Refusal, Result}
+use Rattle.zoned_ffi.proofs.Words.{SpellsZone, Zone, arith, error_number, inl, inr, refusal_number, true, ℕ, ◌≡◌, ◌⊎◌}
+use Rattle.zoned_ffi.specs.{Kinds.{kind_number}, Refusals.IsErrorOfKind.{Unknown_kind}, Refusals.IsFileError.{In_file}}
 use Rattle.zoned_ffi.specs.Refusals.IsStringError.{Not_utf8}
 use Rattle.tz_info.specs.{PosixZones.{IsExtendedZone}, TzGrammar.{IsTextFault}}
 use Rattle.tz_base.specs.declared.error.Error.TheVariants as errors
+use Rattle.tz_base.specs.declared.error.Expected.TheVariants as expected
 use Rattle.zoned_ffi.specs.declared.kind.Kind.TheVariants as kinds
 
 -- the number of a text's error is that of its fault
@@ -21,9 +22,12 @@ extended_refused bytes e (inr there) memory = IsExtendedFault.In_string e there
 pub reader_number : (e : Error) → IsReaderNumber (error_number e)
 reader_number e = grind arith
 
--- answers that don't fit are wanted in another count than there is room for
-pub not_fitting : (fits : Bool) (wanted room : ℕ) → IsFalse fits → IsTrue fits ↔ wanted ≡ room → wanted ≢ room
-not_fitting fits wanted room is same equal = grind arith
+pub detail_in_range : (e : Error) → IsReaderNumber (detail_number e)
+detail_in_range (errors.TimeZone expected.TypeIndexesWithinTypes) = grind arith
+detail_in_range (errors.TimeZone expected.TransitionTimesThatRise) = grind arith
+detail_in_range (errors.TimeZone expected.LeapSecondsInOrder) = grind arith
+detail_in_range (errors.TimeZone expected.RuleThatAgreesWithLastTransition) = grind arith
+detail_in_range e = grind arith
 
 -- where there is no memory for a zone that is spelled, that is the fault
 no_memory : (kind : Kind) (bytes : List ℕ) (z : Zone) → SpellsZone kind bytes z → IsFault kind bytes 17
@@ -31,12 +35,12 @@ no_memory kinds.File bytes z spells = IsFileError.In_file errors.OutOfMemory (Is
 no_memory kinds.Text bytes z spells = IsStringError.No_memory z spells.0 spells.1
 no_memory kinds.ExtendedText bytes z spells = IsExtendedFault.No_memory z spells
 
-pub no_memory_refused : (number : ℕ) (bytes : List ℕ) (z : Zone) → IsZoneOf number bytes z → IsErrorOfKind number bytes 0 0 17
+pub no_memory_refused : (number : ℕ) (bytes : List ℕ) (z : Zone) → IsZoneOf number bytes z → IsErrorOfKind number bytes 17
 no_memory_refused number bytes z of_kind = grind (arith, IsErrorOfKind.Not_read, no_memory)
 
 -- bytes that are refused are why the call is
-pub not_read : (number : ℕ) (bytes : List ℕ) (fits : Bool) (kind : Kind) (read : Result Zone Refusal) → number ≡ kind_number kind → IsTrue fits → IfErr read (λ e. IsFault kind bytes (refusal_number e)) → IfErr read (λ e. IsReaderNumber (refusal_number e)) → IfErr read (λ e. (wanted room : ℕ) → IsTrue fits ↔ wanted ≡ room → IsErrorOfKind number bytes wanted room (refusal_number e))
-not_read number bytes fits kind read is fit fault reader = grind (arith, IsErrorOfKind.Not_read)
+pub not_read : (number : ℕ) (bytes : List ℕ) (kind : Kind) (read : Result Zone Refusal) → number ≡ kind_number kind → IfErr read (λ e. IsFault kind bytes (refusal_number e)) → IfErr read (λ e. IsReaderNumber (refusal_number e)) → IfErr read (λ e. IsErrorOfKind number bytes (refusal_number e))
+not_read number bytes kind read is fault reader = grind (arith, IsErrorOfKind.Not_read)
 
 -- why bytes are rejected
-pub ruleset rejections = (In_file, Not_utf8, Other_size, Unknown_kind, not_fitting, not_read, reader_number)
+pub ruleset rejections = (In_file, Not_utf8, Unknown_kind, not_read, reader_number, detail_in_range)

@@ -2,8 +2,9 @@
 pub use Rattle.std.proofs.{Common.{Err, Fits, IsFalse, None, Ok, Option, Result, Some, lit<, slice_set, take_all, ◌-◌}, GlobalToken.{dealloc_token-Testable}}
 pub use Rattle.std.proofs.{Math.IntN.{+ℤ-neg_ℤ_cancel}, ResultValues.{and_tt}, alloc.{Calls.{handle_tells}, Shapes.{after}}, cell.Inside.{Good}}
 pub use Rattle.std.proofs.lemmas.{Bool.{and_parts, eq-eqb}, List.{Elements.{All-contains, All-replicate, All-set}, get_or-set_other, get_or-set_same}}
+pub use Rattle.std.proofs.lemmas.List.{drop-drop, drop-set-lt}
 pub use Rattle.std.proofs.{lemmas.List.{length-set, map-append}, option.Made.{Some-of, none_of}, raw_atomic.Walks.{leaves, proved, proved_at}}
-pub use Rattle.std.specs.List.{AllZip}
+pub use Rattle.std.specs.{List.{AllZip}, Prelude.{drop}}
 pub use Rattle.core.specs.declared.alloc.Allocator.{Ghosts}
 pub use Rattle.std_alloc.specs.Box.Ownership.{box_owns}
 pub use base.{Fml.{Fml, Incl-refl, Lft, Share, fbor, fdead, fex, flft, fsep, fshr_bor, ftrue, fupd, fwand}, Fraction.{full_share}, Logic.{SProp, emp, ent}}
@@ -45,12 +46,12 @@ unfoldable pub use Rattle.tz_info.proofs.Words.{changes_left}
 pub use Rattle.zoned_ffi.specs.Columns.{AreAnswered, IsAnswered, IsAnsweredOrNone, IsInstantOf, IsInstantTaken, IsNoInstant, IsNotAnswered, IsRowNumber}
 pub use Rattle.zoned_ffi.specs.{Columns.{second_holding}, Handles.{IsLent}, Instants.{AreOffsetsAt, IsWrittenOffsetAt}, Kinds.{IsZoneOf, SpellsZone}}
 pub use Rattle.zoned_ffi.specs.{Owned.{boxed, held, lent, loan, shared_row}, Refusals.{IsErrorOfKind, IsExtendedFault, IsFault, IsFileError, IsReaderNumber}}
-pub use Rattle.zoned_ffi.specs.{Refusals.{IsRefusalInDetail, IsStringError, refusal_number}, Resolved.{AreResolved, IsNoneTaken, IsReachedAt, IsResolvedAt}}
+pub use Rattle.zoned_ffi.specs.{Refusals.{IsStringError, refusal_number, detail_number}, Resolved.{AreResolved, IsNoneTaken, IsReachedAt, IsResolvedAt}}
 pub use Rattle.zoned_ffi.specs.{Resolved.{IsTakenGapEnd, IsTakenType, TakesOf, policy_of}, Steps.KeptTimes.{AreKept, AreKeptTimes, AreWritten, IsAnsweredBy}}
 pub use Rattle.zoned_ffi.specs.Steps.{KeptTimes.{IsKept, IsKeptOf, IsNotAnsweredBy, IsNotWritten, IsWritten, LieWithin}, ResolvedInstants.{IsResolvedStamp}}
 pub use Rattle.zoned_ffi.specs.{Steps.{ResolvedInstants.{IsTakenAs, taken_instant}, Told.{told_of}}, Texts.{IsSaidOf, IsTextOf}, Units.{IsCounted, IsLocal}}
-pub use Rattle.zoned_ffi.specs.{Units.{IsOffsetStretch, IsWithout, no_time, no_type, per_second, uncounted}, WallClocks.{AreWallClocks, IsTripleAt}}
-pub use Rattle.zoned_ffi.specs.{WallClocks.{IsWallClockAt, ShowsAt}, WrittenChanges.{AreFirstWritten, AreWrittenChanges, written_change, written_into}}
+pub use Rattle.zoned_ffi.specs.{Units.{IsOffsetStretch, IsWithout, no_time, no_type, per_second, uncounted}, WallClocks.{AreWallClocks}}
+pub use Rattle.zoned_ffi.specs.{WallClocks.{IsWallClockAt, ShowsAt}, WrittenChanges.{AreFirstWritten, written_change, written_into}}
 pub use Rattle.zoned_ffi.specs.{WrittenTypes.{AreWrittenTypesAt, IsWrittenTypeAt}, declared.{changes.WrittenChange.{WrittenChange}, choice.Choice.{Choice}}}
 pub use Rattle.zoned_ffi.specs.declared.{column.{Question.{Question}, Way.{Way}, kept.Kept.{Kept}}, kind.Kind.{Kind}, refusal.Refusal.{Refusal}}
 pub use Rattle.zoned_ffi.specs.declared.{resolved.{Resolved.{Resolved}, Taken.{Taken}}, unit.Unit.{Unit}, local_result.WrittenLocalResult.{WrittenLocalResult}}

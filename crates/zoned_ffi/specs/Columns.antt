@@ -1,5 +1,5 @@
 -- Columns: instants as local times, and local times as instants, counted in a unit.
-use Rattle.std.specs.Prelude.{ℕ, ℤ, ◌≡◌, ◌≢◌, ◌⊎◌, ◌-ℤ◌, ◌*ℤ◌, ◌<◌, ◌≤◌, pos, List, length, take, slice_index_or}
+use Rattle.std.specs.Prelude.{ℕ, ℤ, ◌≡◌, ◌≢◌, ◌⊎◌, ◌-ℤ◌, ◌*ℤ◌, ◌<◌, ◌≤◌, pos, List, drop, length, take, slice_index_or}
 use Rattle.std.specs.List.{AllZip}
 use Rattle.gregorian.specs.Year.{floor_div}
 use Rattle.naive_base.specs.Range.{IsInRange}
@@ -55,12 +55,14 @@ IsAnsweredOrNone z unit way x y = ((x ≡ no_time) × (y ≡ no_time)) ⊎ ((x �
 abbrev pub AreAnswered : Zone → Unit → Way → List ℤ → List ℤ → Type 0
 AreAnswered z unit way times answers = AllZip (IsAnsweredOrNone z unit way) times answers
 
--- the row at that place is the first without an answer, for the reason of that number, and those before it are written
-pub record IsFirstWithout (z : Zone) (unit : Unit) (way : Way) (times answers : List ℤ) (row n : ℕ) : Type 0 where
+-- the row at that place is the first without an answer, for the reason of that number: those before it are written, and it and those
+-- behind it are as they were
+pub record IsFirstWithout (z : Zone) (unit : Unit) (way : Way) (times old answers : List ℤ) (row n : ℕ) : Type 0 where
   pub within : row < length times
   pub before : AreAnswered z unit way (take row times) (take row answers)
   pub time : slice_index_or times row (pos 0) ≢ no_time
   pub without : IsNotAnswered z unit way (slice_index_or times row (pos 0)) n
+  pub behind : drop row answers ≡ drop row old
 
 -- the numbers of a local time without an instant: in a gap 21, in a fold 22, out of range 23
 abbrev pub IsRowNumber : ℕ → Type 0

@@ -10,6 +10,7 @@ pub mod Texts
 pub mod Units
 pub mod Columns
 pub mod Fields
+pub mod Reached
 pub mod Owned
 pub mod Handles
 pub mod Steps

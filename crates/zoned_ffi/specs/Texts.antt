@@ -28,10 +28,13 @@ pub data IsSaidOf : ℕ → List ℕ → Type 0 where
   No_local_time : IsSaidOf 37 (codes "an instant has no local time")
   No_gap : IsSaidOf 38 (codes "the local time lies in no gap")
   No_date_time : IsSaidOf 39 (codes "no such date or time of day")
+  Wide_zone : IsSaidOf 40 (codes "an offset of the zone is a day or more")
   Other_index : IsSaidOf 41 (codes "a transition of a TZif file names no local time type")
   Not_rising : IsSaidOf 42 (codes "the transition times of a TZif file do not rise")
   Other_leaps : IsSaidOf 43 (codes "the leap seconds of a TZif file cannot follow one another")
   Other_rule : IsSaidOf 44 (codes "the footer of a TZif file disagrees with the last transition")
+  No_such_zone : IsSaidOf 45 (codes "no time zone of that name")
+  Unreadable_file : IsSaidOf 46 (codes "the file of a time zone can't be read")
 
 -- the text of a number: what it says, or of a number that says nothing that it is none
 abbrev pub IsTextOf : ℕ → List ℕ → Type 0

@@ -1,5 +1,5 @@
 -- What is written for wall clocks.
-use Rattle.std.specs.Prelude.{ℕ, ℤ, ◌≡◌, ◌⊎◌, ◌+◌, ◌*◌, ◌<◌, pos, List, length, slice_index_or}
+use Rattle.std.specs.Prelude.{ℤ, ◌≡◌, ◌⊎◌, pos, List}
 use Rattle.std.specs.List.{AllZip}
 use Rattle.naive_base.specs.Range.{IsInRange}
 use Rattle.offset_core.specs.WallAnswer.{IsWallAnswer}
@@ -35,14 +35,3 @@ IsWallClockAt z local w =
 -- one for each local time, in their order
 abbrev pub AreWallClocks : Zone → List ℤ → List WrittenLocalResult → Type 0
 AreWallClocks z locals clocks = AllZip (IsWallClockAt z) locals clocks
-
--- the three numbers from the place k on are the first three of what is written of the local time
-abbrev pub IsTripleAt : Zone → ℤ → List ℤ → ℕ → Type 0
-IsTripleAt z local numbers k =
-    (w : WrittenLocalResult) × IsWallClockAt z local w × (slice_index_or numbers k (pos 0) ≡ w.shown)
-    × (slice_index_or numbers (k + 1) (pos 0) ≡ w.first_offset) × (slice_index_or numbers (k + 2) (pos 0) ≡ w.last_offset)
-
--- three numbers for each local time, in their order
-pub record AreTriples (z : Zone) (locals numbers : List ℤ) : Type 0 where
-  pub as_many : length numbers ≡ 3 * length locals
-  pub each : (i : ℕ) → i < length locals → IsTripleAt z (slice_index_or locals i (pos 0)) numbers (3 * i)

@@ -32,11 +32,6 @@ IsNoGap z local n = ((n ≡ 23) × ¬ (IsInRange local)) ⊎ ((n ≡ 38) × IsSh
 abbrev pub written_into : {A : Type 0} → List A → List A → List A
 written_into new room = take (length room) new ++ drop (length new) room
 
--- the changes of the stretch are so many, and they are written into the room, in their order
-abbrev pub AreWrittenChanges : Zone → ℤ → ℤ → List WrittenChange → List WrittenChange → ℕ → Type 0
-AreWrittenChanges z from until room written count =
-    (all : List Change) × AreChanges (TypeAt z) from until all × (count ≡ length all) × (written ≡ written_into (map written_change all) room)
-
 -- the first changes of the stretch, at most so many, are counted and written into the room, in their order
 abbrev pub AreFirstWritten : Zone → ℤ → ℤ → ℕ → List WrittenChange → List WrittenChange → ℕ → Type 0
 AreFirstWritten z from until most room written count =

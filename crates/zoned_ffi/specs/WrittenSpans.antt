@@ -13,7 +13,7 @@ least_second = neg_ℤ (pos 9_223_372_036_854_775_808)
 abbrev pub greatest_second : ℤ
 greatest_second = pos 9_223_372_036_854_775_807
 
--- how a span is written: without a change before it, it begins at the least second, and without one after it, it ends at the greatest
+-- how a span is written: without a first second it begins at the least second, and without an end it ends at the greatest
 abbrev pub written_span : Span → WrittenSpan
 written_span s = record {
   from = unwrap_or s.from least_second;

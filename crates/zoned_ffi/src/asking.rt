@@ -2,14 +2,14 @@
 //! instant for a local time.
 #![tactic(auto, using(crate::proofs::Casts::passed_on))]
 
-ghost use Rattle.std.specs.Prelude.{◌≡◌, ◌≢◌, ◌*◌, ◌⊎◌, pos, length};
+ghost use Rattle.std.specs.Prelude.{◌≡◌, ◌≢◌, ◌⊎◌, pos, length};
 ghost use Rattle.tz_info.specs.Zones.{Zone, TypeAt, IsTypeRefused};
 ghost use Rattle.zoned_ffi.specs.Handles.{IsLent, IsNoneLent, IsUnanswered};
 ghost use Rattle.zoned_ffi.specs.Instants.{AreOffsetsAt, IsWrittenOffsetAt};
 ghost use Rattle.zoned_ffi.specs.Columns.{AreAnswered, IsFirstWithout};
 ghost use Rattle.zoned_ffi.specs.Fields.{AreFieldsAt, AreNoFieldsAt};
 ghost use Rattle.zoned_ffi.specs.Units.{IsUnit, per_second};
-ghost use Rattle.zoned_ffi.specs.WallClocks.{AreTriples, AreWallClocks, IsWallClockAt};
+ghost use Rattle.zoned_ffi.specs.WallClocks.{AreWallClocks, IsWallClockAt};
 ghost use Rattle.zoned_ffi.specs.WrittenSpans.{IsWrittenSpanAt};
 ghost use Rattle.zoned_ffi.specs.declared.column.Way.TheVariants.{ToLocal};
 ghost use Rattle.zoned_ffi.specs.declared.unit.Unit.{Unit as AnyUnit};
@@ -21,15 +21,14 @@ use crate::column::answer_locals;
 use crate::fields::{Fields, answer_fields};
 use crate::instants::{offset_at, write_offsets};
 use crate::lent::Lent;
-use crate::local_result::{
-    WrittenLocalResult, has_room_for_triples, write_local_results, write_triples,
-};
+use crate::local_result::{WrittenLocalResult, write_local_results};
 use crate::local_type::{WrittenType, write_types};
 use crate::refusal::{NO_LOCAL_TIME, NOT_OPEN, OTHER_SIZE, UNKNOWN_UNIT};
 use crate::span::WrittenSpan;
 use crate::unit::Unit;
 
-/// Writes the offset in force at the instant, as [`crate::zoned_at`] does.
+/// Writes the offset in force at the instant, in seconds east of UTC. Where the zone has none it writes
+/// `i32::MIN`: its leap time leaves 64 bits, or its rule does not answer in that year.
 #[unsafe(no_mangle)]
 pub extern "C" fn zoned_zone_offset(zone: &Lent, instant: i64, offset: &mut i32) -> u32
     // 0: the answer is the zone's.
@@ -44,9 +43,9 @@ pub extern "C" fn zoned_zone_offset(zone: &Lent, instant: i64, offset: &mut i32)
     0
 }
 
-/// Writes the offset in force at each instant, as [`crate::zoned_at`] does.
+/// Writes the offset in force at each instant, as [`zoned_zone_offset`] does.
 #[unsafe(no_mangle)]
-pub extern "C" fn zoned_zone_at(zone: &Lent, instants: &[i64], offsets: &mut [i32]) -> u32
+pub extern "C" fn zoned_zone_offsets(zone: &Lent, instants: &[i64], offsets: &mut [i32]) -> u32
     // 0: each answer is the zone's.
     ensures answered { result ≡ 0
         → (z : Zone) × IsLent zone.now z × AreOffsetsAt z instants.now offsets.new }
@@ -160,7 +159,7 @@ pub extern "C" fn zoned_zone_wall_clock(
 
 /// Writes when the zone's clocks show each local time.
 #[unsafe(no_mangle)]
-pub extern "C" fn zoned_zone_wall_instants(
+pub extern "C" fn zoned_zone_wall_clocks(
     zone: &Lent,
     locals: &[i64],
     clocks: &mut [WrittenLocalResult],
@@ -182,30 +181,10 @@ pub extern "C" fn zoned_zone_wall_instants(
     0
 }
 
-/// Writes three numbers for each local time, as [`crate::zoned_wall`] does.
-#[unsafe(no_mangle)]
-pub extern "C" fn zoned_zone_wall(zone: &Lent, locals: &[i64], answers: &mut [i32]) -> u32
-    // 0: each answer is the zone's.
-    ensures answered { result ≡ 0
-        → (z : Zone) × IsLent zone.now z × AreTriples z locals.now answers.new }
-    // Another number says what is wrong, and nothing is written.
-    ensures refused { result ≢ 0 → IsUnanswered zone.now (3 * length locals.now) (length answers.old) result
-        × (answers.new ≡ answers.old) }
-{
-    let Some(share) = zone.share() else {
-        return NOT_OPEN;
-    };
-    if !has_room_for_triples(locals, answers) {
-        return OTHER_SIZE;
-    }
-    write_triples(share, locals, answers);
-    0
-}
-
 /// Writes the local time of each instant, both counted in the unit of which `count` make a second.
 /// The least number of 64 bits is no time, and stays.
 #[unsafe(no_mangle)]
-pub extern "C" fn zoned_zone_local(
+pub extern "C" fn zoned_column_locals(
     zone: &Lent,
     count: i64,
     instants: &[i64],
@@ -219,7 +198,7 @@ pub extern "C" fn zoned_zone_local(
     // 37: the instant in the row that is written has none. Those before it are answered.
     ensures without { result ≡ 37 → (unit : AnyUnit) × (count ≡ pos (per_second unit))
         × ((z : Zone) × IsLent zone.now z
-        × IsFirstWithout z unit ToLocal instants.now locals.new row.new 37) }
+        × IsFirstWithout z unit ToLocal instants.now locals.old locals.new row.new 37) }
     // 36: no unit has that count in a second. Others as in the calls above. Nothing is written.
     ensures refused { result ≢ 0 → result ≢ 37 → (((result ≡ 36) × ¬ (IsUnit count))
         ⊎ (IsUnit count × IsUnanswered zone.now (length instants.now) (length locals.old) result))

@@ -5,8 +5,8 @@ ghost use Rattle.std.specs.Prelude.{◌≡◌, ◌≢◌, ◌⊎◌, ◌≤ℤ�
 ghost use Rattle.tz_info.specs.Changes.{HasNoChange};
 ghost use Rattle.tz_info.specs.Zones.{Zone, TypeAt};
 ghost use Rattle.zoned_ffi.specs.Handles.{IsLent, IsNoneLent};
-ghost use Rattle.zoned_ffi.specs.WrittenChanges.{AreFirstWritten, AreWrittenChanges};
-ghost use Rattle.zoned_ffi.specs.WrittenChanges.{IsFirstWritten, IsLastWritten, written_change};
+ghost use Rattle.zoned_ffi.specs.WrittenChanges.{AreFirstWritten, IsFirstWritten, IsLastWritten};
+ghost use Rattle.zoned_ffi.specs.WrittenChanges.{written_change};
 
 use crate::lent::Lent;
 use crate::local_type::WrittenType;
@@ -90,32 +90,9 @@ pub extern "C" fn zoned_zone_previous_change(
 }
 
 /// Writes the changes of the zone's clocks from the second `from` on and before `until`, as many as
-/// there is room for, and how many there are.
+/// there is room for, and how many there are, or `most` if there are more.
 #[unsafe(no_mangle)]
 pub extern "C" fn zoned_zone_changes(
-    zone: &Lent,
-    from: i64,
-    until: i64,
-    changes: &mut [WrittenChange],
-    count: &mut usize,
-) -> u32
-    // 0: they are written, in their order, and counted. What stood behind them is as it was.
-    ensures answered { result ≡ 0 → (z : Zone) × IsLent zone.now z
-        × AreWrittenChanges z from until changes.old changes.new count.new }
-    // 33: no zone is open, and nothing is written.
-    ensures refused { result ≢ 0 → (result ≡ 33) × IsNoneLent zone.now
-        × (changes.new ≡ changes.old) × (count.new ≡ count.old) }
-{
-    let Some(share) = zone.share() else {
-        return NOT_OPEN;
-    };
-    *count = write_changes(share, from, until, changes);
-    0
-}
-
-/// Writes the first changes as `zoned_zone_changes` does, and counts them up to `most`.
-#[unsafe(no_mangle)]
-pub extern "C" fn zoned_zone_first_changes(
     zone: &Lent,
     from: i64,
     until: i64,
@@ -133,21 +110,13 @@ pub extern "C" fn zoned_zone_first_changes(
     let Some(share) = zone.share() else {
         return NOT_OPEN;
     };
-    *count = write_first_changes(share, from, until, most, changes);
+    *count = write_changes(share, from, until, most, changes);
     0
 }
 
-/// Writes the changes from the second `from` on and before `until`, in their order, as far as there
-/// is room. Returns how many there are.
-pub fn write_changes(zone: &TimeZone, from: i64, until: i64, changes: &mut [WrittenChange]) -> usize
-    ensures { AreWrittenChanges zone.now from until changes.old changes.new result }
-{
-    write_first_changes(zone, from, until, usize::MAX, changes)
-}
-
-/// Writes the first of these changes, at most that many, as far as there is room. Returns how many
-/// there are, and no more than that many.
-pub fn write_first_changes(
+/// Writes the changes from the second `from` on and before `until`, in their order and at most that
+/// many, as far as there is room. Returns how many there are, and no more than that many.
+pub fn write_changes(
     zone: &TimeZone,
     from: i64,
     until: i64,

@@ -72,7 +72,7 @@ const BLOCK: usize = 32;
 fn write_column(question: Question, times: &[i64], answers: &mut [i64]) -> Option<Stop>
     requires { length times.now ≡ length answers.old }
     ensures { MatchOption result (AreWritten question.entry times.now answers.new)
-        (λ s. IsStop question.entry times.now answers.new s) }
+        (λ s. IsStop question.entry times.now answers.old answers.new s) }
 {
     if times.len() < LONG {
         let mut places = [Kept::none(question); 2];
@@ -85,7 +85,7 @@ fn write_column(question: Question, times: &[i64], answers: &mut [i64]) -> Optio
 fn write_with_table(question: Question, times: &[i64], answers: &mut [i64]) -> Option<Stop>
     requires { length times.now ≡ length answers.old }
     ensures { MatchOption result (AreWritten question.entry times.now answers.new)
-        (λ s. IsStop question.entry times.now answers.new s) }
+        (λ s. IsStop question.entry times.now answers.old answers.new s) }
 {
     let mut places = [Kept::none(question); PLACES];
     let mut parts = [0; PARTS];
@@ -104,14 +104,14 @@ fn write_with(
     requires size { length times.now ≡ length answers.old }
     requires kept { AreKept question places.old }
     ensures { MatchOption result (AreWritten question.entry times.now answers.new)
-        (λ s. IsStop question.entry times.now answers.new s) }
+        (λ s. IsStop question.entry times.now answers.old answers.new s) }
 {
     let mut search = Search::none(pace, times.len());
     let blocks = times.len() / BLOCK;
     for block in 0..blocks {
         let from = block * BLOCK;
         let to = from + BLOCK;
-        if let Some(stop) = write_block(
+        match write_block(
             question,
             times,
             answers,
@@ -121,7 +121,8 @@ fn write_with(
             from,
             to,
         ) {
-            return Some(stop);
+            Some(stop) => return Some(stop),
+            None => {}
         }
     }
     let from = blocks * BLOCK;
@@ -153,7 +154,7 @@ pub fn answer_locals(
     ensures answered { result ≡ 0
         → AreAnswered zone.now unit ToLocal instants.now locals.new × (row.new ≡ row.old) }
     ensures without { result ≡ 37
-        → IsFirstWithout zone.now unit ToLocal instants.now locals.new row.new 37 }
+        → IsFirstWithout zone.now unit ToLocal instants.now locals.old locals.new row.new 37 }
     ensures refused { result ≢ 0 → result ≢ 37
         → (result ≡ 32) × (length instants.now ≢ length locals.old)
         × (locals.new ≡ locals.old) × (row.new ≡ row.old) }
@@ -190,7 +191,8 @@ pub fn answer_times(
         → AreAnswered zone.now unit (ToInstants choice) locals.now instants.new
         × (row.new ≡ row.old) }
     ensures without { IsRowNumber result
-        → IsFirstWithout zone.now unit (ToInstants choice) locals.now instants.new row.new result }
+        → IsFirstWithout zone.now unit (ToInstants choice) locals.now
+        instants.old instants.new row.new result }
     ensures refused { result ≢ 0 → ¬ (IsRowNumber result)
         → (result ≡ 32) × (length locals.now ≢ length instants.old)
         × (instants.new ≡ instants.old) × (row.new ≡ row.old) }

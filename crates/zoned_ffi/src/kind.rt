@@ -1,7 +1,7 @@
 //! How bytes are read: as a TZif file, or as a TZ string, with extensions or without.
 #![tactic(auto, using(crate::proofs::Reading::rejections))]
 
-ghost use Rattle.std.specs.Prelude.{◌≡◌, ◌↔◌, ℕ, IsTrue, IfOk, IfErr, MatchOption, MatchResult};
+ghost use Rattle.std.specs.Prelude.{◌≡◌, IfOk, IfErr, MatchOption, MatchResult};
 ghost use Rattle.tz_info.specs.Zones.{Zone};
 ghost use Rattle.zoned_ffi.specs.Kinds.{IsKind, IsZoneOf, SpellsZone, kind_number};
 ghost use Rattle.zoned_ffi.specs.Refusals.{IsErrorOfKind, IsFault, IsReaderNumber, refusal_number};
@@ -45,18 +45,11 @@ impl Kind {
         ensures number { IfErr result (λ e. IsReaderNumber (refusal_number e)) }
     {
         match self {
-            Kind::File => TimeZone::from_tz_data(alloc, bytes).map_err(Refusal::Reader),
+            Kind::File => TimeZone::from_tz_data(alloc, bytes).map_err(Refusal::File),
             Kind::Text => read_text(alloc, bytes),
             Kind::ExtendedText => read_extended(alloc, bytes),
         }
     }
-}
-
-/// Whether the kind of that number is a TZif file.
-pub fn is_file(number: u32) -> bool
-    ensures { IsTrue result ↔ (number ≡ kind_number File) }
-{
-    number == 0
 }
 
 // The zone of a TZ string.
@@ -91,20 +84,15 @@ fn read_extended(alloc: Global, bytes: &[u8]) -> Result<TimeZone, Refusal>
     }
 }
 
-/// The zone of the bytes, which are read by the kind of that number, where the answers fit: there
-/// is room for as many as are wanted, and for no more.
-pub fn read_zone(alloc: Global, number: u32, bytes: &[u8], fits: bool) -> Result<TimeZone, Refusal>
-    ensures found { IfOk result (λ z. IsZoneOf number bytes.now z × IsTrue fits) }
-    ensures only { (z : Zone) → IsZoneOf number bytes.now z → IsTrue fits
+/// The zone of the bytes, which are read by the kind of that number.
+pub fn read_zone(alloc: Global, number: u32, bytes: &[u8]) -> Result<TimeZone, Refusal>
+    ensures found { IfOk result (λ z. IsZoneOf number bytes.now z) }
+    ensures only { (z : Zone) → IsZoneOf number bytes.now z
         → MatchResult result (λ y. y ≡ z) (λ e. refusal_number e ≡ 17) }
-    ensures fault { IfErr result (λ e. (wanted room : ℕ) → (IsTrue fits ↔ (wanted ≡ room))
-        → IsErrorOfKind number bytes.now wanted room (refusal_number e)) }
+    ensures fault { IfErr result (λ e. IsErrorOfKind number bytes.now (refusal_number e)) }
 {
     let Some(kind) = Kind::from_number(number) else {
         return Err(Refusal::UnknownKind);
     };
-    if !fits {
-        return Err(Refusal::OtherSize);
-    }
     kind.read(alloc, bytes)
 }

@@ -1,10 +1,10 @@
 //! When wall clocks show local times.
 
-ghost use Rattle.std.specs.Prelude.{◌≡◌, ◌↔◌, IsTrue, ◌*◌, ◌-ℤ◌, pos, length};
+ghost use Rattle.std.specs.Prelude.{◌≡◌, ◌-ℤ◌, pos, length};
 ghost use Rattle.naive_base.specs.Range.{IsInRange};
 ghost use Rattle.offset_core.specs.LocalResult.{map_of};
 ghost use Rattle.zoned_ffi.specs.Steps.Told.{told_of};
-ghost use Rattle.zoned_ffi.specs.WallClocks.{AreTriples, AreWallClocks, IsWallClockAt, written};
+ghost use Rattle.zoned_ffi.specs.WallClocks.{AreWallClocks, IsWallClockAt, written};
 
 use naive_base::NaiveDateTime;
 use offset_core::MappedLocalTime;
@@ -118,27 +118,5 @@ pub fn write_local_results(zone: &TimeZone, locals: &[i64], clocks: &mut [Writte
 {
     for (i, local) in locals.iter().enumerate() {
         clocks[i] = WrittenLocalResult::at(zone, *local);
-    }
-}
-
-/// Whether there is room for three numbers of each local time, and for no more. The count of local
-/// times comes from C, and may be wrong: no product of it is formed, which could wrap to the room.
-pub fn has_room_for_triples(locals: &[i64], numbers: &[i32]) -> bool
-    ensures { IsTrue result ↔ (3 * length locals.now ≡ length numbers.now) }
-{
-    numbers.len() % 3 == 0 && numbers.len() / 3 == locals.len()
-}
-
-/// Writes three numbers of each local time: how often it is shown, and the offsets at the first and
-/// the last second.
-pub fn write_triples(zone: &TimeZone, locals: &[i64], numbers: &mut [i32])
-    requires { 3 * length locals.now ≡ length numbers.old }
-    ensures { AreTriples zone.now locals.now numbers.new }
-{
-    for (i, local) in locals.iter().enumerate() {
-        let clock = WrittenLocalResult::at(zone, *local);
-        numbers[3 * i] = clock.shown;
-        numbers[3 * i + 1] = clock.first_offset;
-        numbers[3 * i + 2] = clock.last_offset;
     }
 }

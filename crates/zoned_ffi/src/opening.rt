@@ -2,7 +2,8 @@
 
 ghost use Rattle.std.specs.Prelude.{◌≡◌, ◌≢◌, ◌⊎◌, IfErr, IfOk, IfSome};
 ghost use Rattle.std.specs.Arc.{arc_value};
-ghost use Rattle.tz_info.specs.Zones.{Zone};
+ghost use Rattle.tz_base.specs.LocalTypes.{IsUtOffset};
+ghost use Rattle.tz_info.specs.Zones.{Zone, plain_zone};
 ghost use Rattle.zoned_ffi.specs.Handles.{IsClosed, IsLent, IsNoneLent, IsOpen};
 ghost use Rattle.zoned_ffi.specs.Kinds.{IsZoneOf};
 ghost use Rattle.zoned_ffi.specs.Refusals.{IsErrorOfKind, refusal_number};
@@ -10,7 +11,7 @@ ghost use Rattle.zoned_ffi.specs.Refusals.{IsErrorOfKind, refusal_number};
 use crate::handle::Handle;
 use crate::kind::read_zone;
 use crate::lent::Lent;
-use crate::refusal::{NOT_OPEN, OUT_OF_MEMORY, Refusal};
+use crate::refusal::{LOCAL_TIME_TYPE, NOT_OPEN, OUT_OF_MEMORY, Refusal};
 use std::alloc::Global;
 use std::sync::Arc;
 use tz_info::{Error, TimeZone};
@@ -21,7 +22,7 @@ pub extern "C" fn zoned_open(alloc: Global, kind: u32, zone: &[u8], out: &mut Ha
     // 0: the zone that the bytes spell is open.
     ensures opened { result ≡ 0 → (z : Zone) × IsZoneOf kind zone.now z × IsOpen out.new z }
     // Another number says what is wrong, and `out` is as it was.
-    ensures refused { result ≢ 0 → IsErrorOfKind kind zone.now 0 0 result × (out.new ≡ out.old) }
+    ensures refused { result ≢ 0 → IsErrorOfKind kind zone.now result × (out.new ≡ out.old) }
     // The zone that is spelled is opened, unless memory runs out.
     ensures only { (z : Zone) → IsZoneOf kind zone.now z → (result ≡ 0) ⊎ (result ≡ 17) }
 {
@@ -39,9 +40,9 @@ fn opened(alloc: Global, kind: u32, bytes: &[u8]) -> Result<Handle, Refusal>
     ensures found { IfOk result (λ handle. (z : Zone) × IsZoneOf kind bytes.now z × IsOpen handle z) }
     ensures only { (z : Zone) → IsZoneOf kind bytes.now z
         → IfErr result (λ e. refusal_number e ≡ 17) }
-    ensures fault { IfErr result (λ e. IsErrorOfKind kind bytes.now 0 0 (refusal_number e)) }
+    ensures fault { IfErr result (λ e. IsErrorOfKind kind bytes.now (refusal_number e)) }
 {
-    match read_zone(alloc, kind, bytes, true) {
+    match read_zone(alloc, kind, bytes) {
         Ok(zone) => match boxed(alloc, zone) {
             Some(handle) => Ok(handle),
             None => Err(Refusal::Reader(Error::OutOfMemory)),
@@ -57,6 +58,30 @@ fn boxed(alloc: Global, zone: TimeZone) -> Option<Handle>
     let share = Arc::new(alloc, zone).ok()?;
     let share = Box::new(alloc, share).ok()?;
     Some(Handle::of(share))
+}
+
+/// Opens the zone whose clocks are always that many seconds ahead of UTC. Its type has no abbreviation. A
+/// zone that `out` had open is closed.
+#[unsafe(no_mangle)]
+pub extern "C" fn zoned_open_fixed(alloc: Global, offset: i32, out: &mut Handle) -> u32
+    // 0: it is open.
+    ensures opened { result ≡ 0 → IsUtOffset offset × IsOpen out.new (plain_zone offset) }
+    // 3: no zone has that offset. 17: memory ran out. `out` is as it was.
+    ensures refused { result ≢ 0 → (((result ≡ 3) × ¬ (IsUtOffset offset)) ⊎ ((result ≡ 17) × IsUtOffset offset))
+        × (out.new ≡ out.old) }
+{
+    let Ok(zone) = TimeZone::fixed(alloc, offset) else {
+        return if offset == i32::MIN {
+            LOCAL_TIME_TYPE
+        } else {
+            OUT_OF_MEMORY
+        };
+    };
+    let Some(handle) = boxed(alloc, zone) else {
+        return OUT_OF_MEMORY;
+    };
+    *out = handle;
+    0
 }
 
 /// Opens the zone of `zone` in `out` too, without reading it again. A zone that `out` had open is

@@ -1,20 +1,34 @@
 //! Facts about only the definitions, each proved with no code between: the numbers that the header
 //! gives to C. The functions are empty, and never called.
 
-ghost use Rattle.std.specs.Prelude.{◌≡◌, ◌∷◌, [], ◌⊎◌, ℕ, ℤ, pos, neg_ℤ, true, false, Some, None};
+ghost use Rattle.std.specs.Prelude.{◌≡◌, ◌∷◌, [], ◌⊎◌, ℕ, ℤ, pos, neg_ℤ, true, false, Some, None, List, codes};
 ghost use Rattle.tz_base.specs.LocalTypes.{LocalType};
 ghost use Rattle.tz_info.specs.Zones.{Zone};
+ghost use Rattle.tz_base.specs.declared.error.Error.TheVariants as errors;
+ghost use Rattle.tz_base.specs.declared.error.Expected.TheVariants as expected;
+ghost use Rattle.tz_info.specs.Zones.{IsTypeRefused, TypeAt};
+ghost use Rattle.zoned_ffi.specs.Columns.{IsAnsweredOrNone, IsFirstWithout, IsInstantOf, IsNoInstant};
+ghost use Rattle.zoned_ffi.specs.Columns.{IsRowNumber, second_holding};
 ghost use Rattle.zoned_ffi.specs.Fields.{AreFieldsOf, IsNoLocalOf};
 ghost use Rattle.zoned_ffi.specs.Handles.{IsUnanswered};
 ghost use Rattle.zoned_ffi.specs.Instants.{no_offset};
 ghost use Rattle.zoned_ffi.specs.Kinds.{IsKind, kind_number};
-ghost use Rattle.zoned_ffi.specs.Resolved.{IsChoice, IsChoiceOf, IsNoneTaken, unresolved};
+ghost use Rattle.zoned_ffi.specs.Refusals.{IsErrorOfKind, IsReaderNumber, detail_number, refusal_number};
+ghost use Rattle.zoned_ffi.specs.Resolved.{IsChoice, IsChoiceOf, IsNoneTaken, IsReachedAt, IsResolvedAt};
+ghost use Rattle.zoned_ffi.specs.Resolved.{IsTakenGapEnd, IsTakenType, unresolved};
+ghost use Rattle.zoned_ffi.specs.Texts.{IsTextOf, written_over};
+ghost use Rattle.zoned_ffi.specs.Units.{IsCounted, IsLocal, IsUnit, local_by, no_time, per_second};
 ghost use Rattle.zoned_ffi.specs.WallClocks.{written, out_of_range};
 ghost use Rattle.zoned_ffi.specs.WrittenChanges.{written_change, written_into};
 ghost use Rattle.zoned_ffi.specs.WrittenSpans.{written_span};
 ghost use Rattle.zoned_ffi.specs.WrittenTypes.{mark, no_type, written_type, zero_ended, zeros};
 ghost use Rattle.zoned_ffi.specs.declared.choice.Choice.{Choice};
+ghost use Rattle.zoned_ffi.specs.declared.column.Way.{Way};
+ghost use Rattle.zoned_ffi.specs.declared.column.Way.TheVariants as ways;
 ghost use Rattle.zoned_ffi.specs.declared.lent.Lent.{Lent};
+ghost use Rattle.zoned_ffi.specs.declared.refusal.Refusal.TheVariants as refusals;
+ghost use Rattle.zoned_ffi.specs.declared.unit.Unit.{Unit};
+ghost use Rattle.zoned_ffi.specs.declared.unit.Unit.TheVariants as units;
 ghost use Rattle.offset_core.specs.declared.choice.FoldChoice.TheVariants as folds;
 ghost use Rattle.offset_core.specs.declared.local_result.LocalResult.TheVariants as results;
 ghost use Rattle.zoned_ffi.specs.declared.choice.ChoiceInGap.TheVariants as gaps;
@@ -170,4 +184,85 @@ pub fn refusal_numbers()
         → n ≡ 22 }
     ensures unanswered { (handle : Lent) (wanted n : ℕ)
         → IsUnanswered handle wanted wanted n → n ≡ 33 }
+{}
+
+/// A second has 1, 1,000, 1,000,000 or 1,000,000,000 of a unit. INT64_MIN is no time, and a time
+/// before 1970 lies in the second before it.
+pub fn units()
+    ensures seconds { per_second units.Seconds ≡ 1 }
+    ensures milliseconds { per_second units.Milliseconds ≡ 1_000 }
+    ensures microseconds { per_second units.Microseconds ≡ 1_000_000 }
+    ensures nanoseconds { per_second units.Nanoseconds ≡ 1_000_000_000 }
+    ensures unit { IsUnit (pos 1_000) }
+    ensures no_unit { ¬ (IsUnit (pos 60)) }
+    ensures none { no_time ≡ neg_ℤ (pos 9_223_372_036_854_775_808) }
+    ensures counted { IsCounted (neg_ℤ (pos 9_223_372_036_854_775_807)) }
+    ensures not_counted { ¬ (IsCounted no_time) }
+    ensures holding { second_holding units.Milliseconds (neg_ℤ (pos 1)) ≡ neg_ℤ (pos 1) }
+    ensures local { (t : LocalType) → t.offset ≡ neg_ℤ (pos 18_000)
+        → local_by units.Milliseconds (pos 1_615_705_199_500) t ≡ pos 1_615_687_199_500 }
+{}
+
+/// New York's 02:30:00.500 on 2021-03-14, 1615689000500 ms, lies in the gap that ends at 1615705200: it is
+/// that second, or by the offset before the gap 1615707000500 ms. No time stays none, a row without an
+/// answer ends a column, and a second after the calendar's range has no instant.
+pub fn columns()
+    ensures gap_end { (z : Zone) (choice : Choice) (after : LocalType)
+        → IsTakenGapEnd z (pos 1_615_689_000) choice (pos 1_615_705_200) after
+        → IsInstantOf z units.Milliseconds choice (pos 1_615_689_000_500) (pos 1_615_705_200_000) }
+    ensures shifted { (z : Zone) (choice : Choice) (t : LocalType)
+        → IsTakenType z (pos 1_615_689_000) choice t → t.offset ≡ neg_ℤ (pos 18_000)
+        → IsInstantOf z units.Milliseconds choice (pos 1_615_689_000_500) (pos 1_615_707_000_500) }
+    ensures local { (z : Zone) (t : LocalType)
+        → TypeAt z (pos 1_615_705_199) t → t.offset ≡ neg_ℤ (pos 18_000)
+        → IsLocal z units.Milliseconds (pos 1_615_705_199_500) (pos 1_615_687_199_500) }
+    ensures outside { (z : Zone) (choice : Choice)
+        → IsNoInstant z units.Seconds choice (pos 8_210_266_876_800) 23 }
+    ensures none { (z : Zone) (unit : Unit) (way : Way) → IsAnsweredOrNone z unit way no_time no_time }
+    ensures none_only { (z : Zone) (unit : Unit) (way : Way)
+        → ¬ (IsAnsweredOrNone z unit way no_time (pos 0)) }
+    ensures stops { (z : Zone) (y : ℤ) → IsTypeRefused z (pos 5)
+        → IsFirstWithout z units.Seconds ways.ToLocal (no_time ∷ pos 5 ∷ [])
+        (y ∷ y ∷ []) (no_time ∷ y ∷ []) 1 37 }
+    ensures rest { (z : Zone) (n : ℕ)
+        → ¬ (IsFirstWithout z units.Seconds ways.ToLocal (pos 5 ∷ []) (pos 7 ∷ []) (pos 0 ∷ []) 0 n) }
+    ensures not_later { (z : Zone) (n : ℕ)
+        → ¬ (IsFirstWithout z units.Seconds ways.ToLocal (no_time ∷ []) (no_time ∷ [])
+        (no_time ∷ []) 0 n) }
+    ensures first_number { IsRowNumber 21 }
+    ensures last_number { IsRowNumber 23 }
+    ensures no_number { ¬ (IsRowNumber 37) }
+{}
+
+/// The numbers of errors: a TZ string that is not UTF-8 is 16, an unknown kind 31. Lists that make no zone
+/// have the numbers 41 to 44; each other error keeps its own.
+pub fn numbers()
+    ensures not_utf8 { refusal_number refusals.TextNotUtf8 ≡ 16 }
+    ensures unknown_kind { refusal_number refusals.UnknownKind ≡ 31 }
+    ensures kind_3 { (bytes : List ℕ) → IsErrorOfKind 3 bytes 31 }
+    ensures index { detail_number (errors.TimeZone expected.TypeIndexesWithinTypes) ≡ 41 }
+    ensures times { detail_number (errors.TimeZone expected.TransitionTimesThatRise) ≡ 42 }
+    ensures leaps { detail_number (errors.TimeZone expected.LeapSecondsInOrder) ≡ 43 }
+    ensures rule { detail_number (errors.TimeZone expected.RuleThatAgreesWithLastTransition) ≡ 44 }
+    ensures memory { detail_number errors.OutOfMemory ≡ 17 }
+    ensures last_of_reader { IsReaderNumber 17 }
+    ensures last_of_lists { IsReaderNumber 44 }
+    ensures not_of_reader { ¬ (IsReaderNumber 21) }
+    ensures not_after_lists { ¬ (IsReaderNumber 45) }
+{}
+
+/// The words of 33, and of a number that means nothing; a text is cut for the zero byte at its end.
+pub fn number_texts()
+    ensures closed { IsTextOf 33 (codes "no zone is open") }
+    ensures unknown { IsTextOf 99 (codes "no number of this library") }
+    ensures cut { written_over (1 ∷ 2 ∷ 3 ∷ []) (9 ∷ 9 ∷ []) ≡ 1 ∷ 0 ∷ [] }
+    ensures room { written_over (1 ∷ []) (9 ∷ 9 ∷ 9 ∷ []) ≡ 1 ∷ 0 ∷ 9 ∷ [] }
+    ensures no_room { written_over (1 ∷ []) [] ≡ [] }
+{}
+
+/// A local time after the calendar's range has no instant, by 23.
+pub fn out_of_range_numbers()
+    ensures resolved { (z : Zone) (choice : Choice)
+        → IsResolvedAt z choice (pos 8_210_266_876_800) (unresolved 23) }
+    ensures reached { (z : Zone) → IsReachedAt z (pos 8_210_266_876_800) (unresolved 23) }
 {}

@@ -29,8 +29,14 @@ pub const NO_GAP: u32 = 38;
 /// What it returns if the calendar has no such date, or a clock no such time.
 pub const NO_DATE_TIME: u32 = 39;
 
+/// What it returns if an offset of the zone is a day or more, and its clocks are to be compared.
+pub const WIDE_ZONE: u32 = 40;
+
 /// The number of a local time that is outside the calendar's range, or whose instant is.
 pub const INSTANT_OUT_OF_RANGE: u32 = 23;
+
+/// What a call returns for an offset that no local time type can have.
+pub const LOCAL_TIME_TYPE: u32 = 3;
 
 /// What a call returns where memory runs out.
 pub const OUT_OF_MEMORY: u32 = 17;
@@ -38,35 +44,34 @@ pub const OUT_OF_MEMORY: u32 = 17;
 /// Why a call returns an error.
 #[derive(Clone, Copy)]
 pub enum Refusal {
-    /// The reader rejects the bytes, with a number from 1 to 17.
+    /// The reader rejects a TZif file, with a number from 1 to 17 or from 41 to 44.
+    File(Error),
+    /// The reader rejects a TZ string, with a number from 1 to 17.
     Reader(Error),
     /// A TZ string is not UTF-8.
     TextNotUtf8,
     /// No kind of bytes has that number.
     UnknownKind,
-    /// The slice for the answers has another size than they have.
-    OtherSize,
 }
 
 impl Refusal {
-    /// The number that a call returns: from 1 to 17 for bytes that are rejected, 31 for a kind, 32
-    /// for a size.
+    /// The number that a call returns: from 1 to 17 or from 41 to 44 for bytes that are rejected, 31 for
+    /// a kind.
     pub fn number(self) -> u32
         ensures value { result ≡ refusal_number self }
         ensures some { result ≢ 0 }
     {
         match self {
+            Refusal::File(error) => detail_number(error),
             Refusal::Reader(error) => u32::from(error.number()),
             Refusal::TextNotUtf8 => 16,
             Refusal::UnknownKind => 31,
-            Refusal::OtherSize => 32,
         }
     }
 }
 
-/// The number of a file's error, in detail: what is wrong with lists that make no zone has one of
-/// its own.
-pub fn detail_number(error: Error) -> u32
+// The number of a file's error: what is wrong with lists that make no zone has one of its own.
+fn detail_number(error: Error) -> u32
     ensures value { result ≡ detail_number error }
     ensures some { result ≢ 0 }
 {

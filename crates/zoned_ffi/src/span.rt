@@ -1,4 +1,4 @@
-//! Spans between changes of a zone's clocks, as C reads them.
+//! Spans of a zone's time, as C reads them.
 
 ghost use Rattle.std.specs.Prelude.{◌≡◌};
 ghost use Rattle.tz_info.specs.HeldChanges.{span_held};
@@ -7,14 +7,13 @@ ghost use Rattle.zoned_ffi.specs.WrittenSpans.{written_span};
 use crate::local_type::WrittenType;
 use tz_info::HeldSpan;
 
-/// A span: the seconds from one change of the clocks to the next, at which one local time type is in
-/// force.
+/// A span: the seconds at which one local time type is in force, and before and after which it isn't.
 #[repr(C)]
 #[derive(Clone, Copy)]
 pub struct WrittenSpan {
-    /// The first second, a Unix second; `i64::MIN` if no change comes before.
+    /// The first second, a Unix second; `i64::MIN` if the type is in force at all seconds before.
     pub from: i64,
-    /// The first second after the span; `i64::MAX` if no change follows.
+    /// The first second after the span; `i64::MAX` if the type is in force at all seconds after.
     pub until: i64,
     /// The type in force.
     pub local_type: WrittenType,

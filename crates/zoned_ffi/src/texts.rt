@@ -61,10 +61,13 @@ fn text_of(number: u32) -> &'static str
         37 => "an instant has no local time",
         38 => "the local time lies in no gap",
         39 => "no such date or time of day",
+        40 => "an offset of the zone is a day or more",
         41 => "a transition of a TZif file names no local time type",
         42 => "the transition times of a TZif file do not rise",
         43 => "the leap seconds of a TZif file cannot follow one another",
         44 => "the footer of a TZif file disagrees with the last transition",
+        45 => "no time zone of that name",
+        46 => "the file of a time zone can't be read",
         _ => "no number of this library",
     }
 }

@@ -27,8 +27,8 @@ IsNotWritten q x n = (x ≢ no_time) × IsNotAnsweredBy q x n
 abbrev pub AreWritten : Question → List ℤ → List ℤ → Type 0
 AreWritten q times answers = AreAnswered q.zone.now q.unit q.way times answers
 
-abbrev pub IsStop : Question → List ℤ → List ℤ → Stop → Type 0
-IsStop q times answers s = IsFirstWithout q.zone.now q.unit q.way times answers s.row s.number
+abbrev pub IsStop : Question → List ℤ → List ℤ → List ℤ → Stop → Type 0
+IsStop q times old answers s = IsFirstWithout q.zone.now q.unit q.way times old answers s.row s.number
 
 -- what is from `low` on, and before `high`, is a time, and its answer is `add` more
 abbrev pub IsKeptOf : Zone → Unit → Way → Kept → Type 0

@@ -52,7 +52,7 @@ pub extern "C" fn zoned_zone_instant(
 
 /// Writes the instant that a choice takes for each local time.
 #[unsafe(no_mangle)]
-pub extern "C" fn zoned_zone_resolve(
+pub extern "C" fn zoned_zone_instants(
     zone: &Lent,
     gap: u32,
     fold: u32,
@@ -128,7 +128,7 @@ pub extern "C" fn zoned_zone_gap(zone: &Lent, local: i64, gap: &mut WrittenChang
 /// Writes the instant of each local time under the choice, both counted in the unit of which `count`
 /// make a second. The least number of 64 bits is no time, and stays.
 #[unsafe(no_mangle)]
-pub extern "C" fn zoned_zone_instants(
+pub extern "C" fn zoned_column_instants(
     zone: &Lent,
     gap: u32,
     fold: u32,
@@ -147,7 +147,7 @@ pub extern "C" fn zoned_zone_instants(
     ensures without { IsRowNumber result → (choice : AnyChoice) × IsChoiceOf gap fold choice
         × ((unit : AnyUnit) × (count ≡ pos (per_second unit))
         × ((z : Zone) × IsLent zone.now z
-        × IsFirstWithout z unit (ToInstants choice) locals.now instants.new row.new result)) }
+        × IsFirstWithout z unit (ToInstants choice) locals.now instants.old instants.new row.new result)) }
     // 34: no choice has these numbers. 36: no unit has that count in a second. Others as in the calls
     // above. Nothing is written.
     ensures refused { result ≢ 0 → ¬ (IsRowNumber result)

@@ -1,6 +1,6 @@
 //! Rows that follow one another, answered together.
 
-ghost use Rattle.std.specs.Prelude.{◌≡◌, ◌≤◌, ◌<◌, length, take, IsTrue, MatchOption};
+ghost use Rattle.std.specs.Prelude.{◌≡◌, ◌≤◌, ◌<◌, drop, length, take, IsTrue, MatchOption};
 ghost use Rattle.zoned_ffi.specs.Steps.KeptTimes.{AreKept, AreKeptTimes, AreWritten, IsKept, IsStop};
 
 use crate::column::kept::Kept;
@@ -26,8 +26,9 @@ pub fn write_block(
     ensures size { length answers.new ≡ length times.now }
     ensures kept { AreKept question.entry places.new }
     ensures answered { MatchOption result
-        (AreWritten question.entry (take to times.now) (take to answers.new))
-        (λ s. IsStop question.entry times.now answers.new s) }
+        (AreWritten question.entry (take to times.now) (take to answers.new)
+        × (drop to answers.new ≡ drop to answers.old))
+        (λ s. (from ≤ s.row) × IsStop question.entry times.now answers.old answers.new s) }
 {
     if search.tries_block() {
         let kept = kept_for(question, parts, places, times[from]);
@@ -83,6 +84,7 @@ fn write_sums(
     requires before { AreWritten question (take from times.now) (take from answers.old) }
     ensures size { length answers.new ≡ length times.now }
     ensures answered { AreWritten question.entry (take to times.now) (take to answers.new) }
+    ensures rest { drop to answers.new ≡ drop to answers.old }
 {
     let _ = question;
     for row in from..to {
@@ -107,8 +109,9 @@ fn write_pairs(
     requires kept { AreKept question places.now }
     requires before { AreWritten question (take from times.now) (take from answers.old) }
     ensures size { length answers.new ≡ length times.now }
-    ensures row { result ≤ to }
+    ensures row { (from ≤ result) × (result ≤ to) }
     ensures answered { AreWritten question.entry (take result times.now) (take result answers.new) }
+    ensures rest { drop result answers.new ≡ drop result answers.old }
 {
     let mut row = from;
     while row + 1 < to {

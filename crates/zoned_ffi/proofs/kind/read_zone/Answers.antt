@@ -3,4 +3,4 @@ use Rattle.zoned_ffi.proofs.kind.read_zone.Goals as goal
 
 pub returns-clause-fault : goal.returns-clause-fault
 returns-clause-fault c =
-    not_read c.args.number c.args.bytes.now c.args.fits c.in-Some.kind c.read.result c.in-Some.ensures c.if-not-fits.false c.read.ensures.fault c.read.ensures.number
+    not_read c.args.number c.args.bytes.now c.in-Some.kind c.read.result c.in-Some.ensures c.read.ensures.fault c.read.ensures.number

@@ -1,6 +1,6 @@
-use Rattle.zoned_ffi.proofs.Words.{AreWritten, FitsSigned, IsWritten, and_parts, arith, get_or, inr, length-set, pos, rules, slice_set, subst, take, to_z-of_z}
-use Rattle.zoned_ffi.proofs.Words.{w64, ◌+ℤ◌, ◌+◌, ◌∙◌, ◌≡◌}
-use Rattle.zoned_ffi.proofs.Slices.{zip_more}
+use Rattle.zoned_ffi.proofs.Words.{AreWritten, FitsSigned, IsWritten, and_parts, arith, drop, get_or, inr, length-set, pos, rules, slice_set, subst, take}
+use Rattle.zoned_ffi.proofs.Words.{to_z-of_z, w64, ◌+ℤ◌, ◌+◌, ◌∙◌, ◌≡◌}
+use Rattle.zoned_ffi.proofs.Slices.{written_behind, zip_more}
 use Rattle.zoned_ffi.proofs.column.block.write_pairs.Goals as goal
 
 pub overflow_add-answers : goal.overflow_add-answers
@@ -48,4 +48,7 @@ loop-row-preserved c =
       length-set (slice_set at.answers at.row first) (at.row + 1) second ∙ long,
       omega arith,
       subst (λ n. AreWritten q (take n c.args.times.now) (take n (slice_set (slice_set at.answers at.row first) (at.row + 1) second))) last both,
+      subst (λ n. drop n (slice_set (slice_set at.answers at.row first) (at.row + 1) second) ≡ drop n c.args.answers.now) last
+          (written_behind more c.args.answers.now (at.row + 1) second (written_behind at.answers c.args.answers.now at.row first at.invariant.3)),
+      omega (arith, at.invariant.4),
     )

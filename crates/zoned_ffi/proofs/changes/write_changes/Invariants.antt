@@ -1,5 +1,5 @@
 use Rattle.zoned_ffi.proofs.Words.{AreChanges, TypeAt, changes_left, length, map, written_change, written_into, ◌++◌, ◌≡◌, ◌≤◌}
-use Rattle.zoned_ffi.proofs.changes.write_first_changes.Given as goal
+use Rattle.zoned_ffi.proofs.changes.write_changes.Given as goal
 
 -- what is found so far is counted and written, and with what is left it is the list
 abbrev pub invariant-loop-change : goal.invariant-loop-change

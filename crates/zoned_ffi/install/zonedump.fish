@@ -1,0 +1,12 @@
+# Completion of zonedump for fish.
+complete -c zonedump -l from -x -d 'First year (UTC), 1 to 9999'
+complete -c zonedump -l to -x -d 'Last year (UTC), 1 to 9999'
+complete -c zonedump -l zdump -d 'Print what zdump -v prints'
+complete -c zonedump -l json -d 'Print an object of JSON for each zone'
+complete -c zonedump -l write -r -d 'Write one zone as a TZif file'
+complete -c zonedump -l svg -r -d 'Draw one zone as a picture'
+complete -c zonedump -l diff -d 'Print where two zones or two folders differ'
+complete -c zonedump -l text -x -d 'A TZ string in place of files'
+complete -c zonedump -l extended -d 'Read the TZ string with the extensions of RFC 8536'
+complete -c zonedump -l help -d 'Print help'
+complete -c zonedump -l version -d 'Print the version'
