@@ -81,7 +81,10 @@ def test_forms_of_spans():
 
 
 def test_ends_of_spans():
-    """Near the ends of 64 bits, and where an end doesn't fit the unit."""
+    """Near the ends of 64 bits, at the ends of a rule, and where an end doesn't fit the unit."""
+    years = Zone.from_text("AAA0BBB0,J60/2,J60/2")
+    assert years.spans(0)[3:] == (-67_768_100_504_812_800, 67_767_976_170_460_800)
+    assert np.isnat(years.spans(np.array([0], "M8[ns]"))[3:]).all()
     fixed = Zone.from_text("EST5").spans([LEAST, GREATEST, GREATEST])
     assert fixed.from_.tolist() == [LEAST] * 3 and fixed.until.tolist() == [GREATEST] * 3
     last = np.array([2**63 - 1], np.int64).view("M8[ns]")

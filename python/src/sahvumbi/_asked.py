@@ -8,6 +8,8 @@ import numpy as np
 
 from ._columns import GREATEST, Block, Column, extremes
 from ._door import (
+    END_OF_RULE,
+    FIRST_OF_RULE,
     LEAST,
     NEVER,
     NO_OFFSET,
@@ -67,8 +69,11 @@ def spans(door: Door, column: Column) -> Any:
         offsets_of(door, block)
         found = _spans_of(door, block)
         written.write(block, found["type"])
-        for bound, none, instants in (("from", LEAST, begin), ("until", GREATEST, end)):
+        ends = (("from", LEAST, FIRST_OF_RULE, begin), ("until", GREATEST, END_OF_RULE, end))
+        for bound, none, far, instants in ends:
             is_none = found[bound] == none
+            if column.per_second > 1:
+                is_none |= found[bound] == far
             write_seconds(block, np.where(is_none, 0, found[bound]), instants)
             instants[block.rows][is_none] = NAT if column.has_nat or column.is_time else none
     # Each array is let go before the next answer is made.
@@ -84,7 +89,7 @@ def _spans_of(door: Door, block: Block) -> Array:
     while len(found) < MANY:
         until = int(found[-1]["until"][0])
         following = door.span(until) if until <= last else None
-        # No change comes at the greatest second, but for one case.
+        # None begins at the greatest second, but for one case.
         if following is None or following["from"][0] != until:
             spans = np.concatenate(found)
             return spans[np.searchsorted(spans["from"][1:], block.seconds, "right")]
@@ -123,7 +128,8 @@ def explained(door: Door, column: Column) -> Any:
     first, last = np.empty(len(column), np.int64), np.empty(len(column), np.int64)
     first_offset, last_offset = np.empty(len(column), np.int32), np.empty(len(column), np.int32)
     for block in column.blocks():
-        times, *ends = door.wall_clocks(block.seconds).T
+        clocks = door.wall_clocks(block.seconds)
+        times = clocks["shown"]
         is_none = times == OUT_OF_RANGE
         shown[block.rows] = times
         skipped = times == NEVER
@@ -132,8 +138,8 @@ def explained(door: Door, column: Column) -> Any:
             is_none |= block.is_nat
             skipped &= ~block.is_nat
         for found, its_offsets, its_instants in (
-            (ends[0], first_offset, first),
-            (ends[1], last_offset, last),
+            (clocks["first_offset"], first_offset, first),
+            (clocks["last_offset"], last_offset, last),
         ):
             its_offsets[block.rows] = found
             _move(block, -1, found, its_instants)

@@ -15,7 +15,7 @@ import numpy.typing as npt
 
 from ._asked import offsets_of, write_seconds
 from ._columns import FIRST_SECOND, GREATEST, LAST_SECOND, Block, Column
-from ._door import LEAST, Door
+from ._door import END_OF_RULE, LEAST, Door
 from ._forms import NAT, Array
 from .errors import GAP, OUT_OF_RANGE, GapError, OutOfRangeError, printable
 
@@ -242,7 +242,7 @@ class Steps:
             if shown is not None and (step != shown or part == 0):
                 return second
             end = second - part + self.step
-            if end < until:
+            if end < until or until == END_OF_RULE:
                 return end
             second, shown = until, step
 

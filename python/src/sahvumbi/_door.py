@@ -9,8 +9,9 @@ from __future__ import annotations
 import ctypes
 import platform
 from ctypes import byref, c_char, c_char_p, c_int32, c_int64, c_size_t, c_uint32, c_void_p
+from datetime import timedelta
 from pathlib import Path
-from typing import Any, Callable, Optional
+from typing import Any, Callable, NamedTuple, Optional
 
 import numpy as np
 import numpy.typing as npt
@@ -24,7 +25,7 @@ EXTENDED_TEXT = 2
 #: What `offsets` has where the zone has none.
 NO_OFFSET = -(2**31)
 
-#: How often a local time is shown, in the first column of `wall_clocks`.
+#: How often a local time is shown: `shown` of `WALL_CLOCK`.
 NEVER, ONCE, SEVERAL_TIMES, OUT_OF_RANGE = range(4)
 
 #: What `instants` and `resolved` take of a local time that clocks skipped, and of one that they
@@ -34,6 +35,18 @@ REFUSE, EARLIEST, LATEST = range(3)
 
 #: An answer of `resolved`: 0 or why there is no instant, the offset in force there, the instant.
 RESOLVED = np.dtype([("number", np.uint32), ("offset", np.int32), ("instant", np.int64)])
+
+#: When clocks show a local time: how often, the offsets at the first and the last time, and both.
+WALL_CLOCK = np.dtype(
+    [
+        ("shown", np.int32),
+        ("first_offset", np.int32),
+        ("last_offset", np.int32),
+        ("first", np.int64),
+        ("last", np.int64),
+    ],
+    align=True,
+)
 
 #: A type of local time, and a change from one to another.
 LOCAL_TYPE = np.dtype([("offset", np.int32), ("is_dst", np.int32), ("abbreviation", "S8")])
@@ -45,7 +58,6 @@ SPAN = np.dtype([("from", np.int64), ("until", np.int64), ("type", LOCAL_TYPE)])
 
 #: What a second may have of a unit, for `local_times` and `instants`.
 COLUMN_UNITS = 1, 10**3, 10**6, 10**9
-
 
 
 class LocalType(ctypes.Structure):
@@ -72,15 +84,47 @@ class WallClock(ctypes.Structure):
     ]
 
 
+class Span(ctypes.Structure):
+    """One `SPAN`."""
+
+    _fields_ = [("begin", c_int64), ("until", c_int64), ("type", LocalType)]
+
+
+class Resolved(ctypes.Structure):
+    """One `RESOLVED`."""
+
+    _fields_ = [("number", c_uint32), ("offset", c_int32), ("instant", c_int64)]
+
+
+class InForce(NamedTuple):
+    """A type of local time that is in force through some days."""
+
+    offset: timedelta
+    is_dst: bool
+    abbreviation: str
+
+
 NO_CHANGE = 35
+WIDE_ZONE = 40
 # Why a row of a column has no local time, or no instant.
 ROW_REFUSED = 37, 21, 22, 23
 LEAST = -(2**63)
+# The first second of the years for which rules answer, and the one after them. Units shorter than
+# a second can't count them.
+FIRST_OF_RULE, END_OF_RULE = -67_768_100_504_812_800, 67_767_976_170_460_800
+# No limit to a count of changes.
+MOST = 2**64 - 1
 # Rows that one call is asked; changes that it has room for, and seconds: a thousand years. Between
 # two calls Python may stop.
 ROWS = 1 << 22
 ROOM = 2_048
 STRETCH = 1_000 * 31_556_952
+# Days of a stretch whose type is kept, as a power of two, and days around it in which no clock may
+# change: an offset of a narrow zone is less than one. So a local time of the stretch is shown once.
+DAYS_OF_STRETCH = 3
+AROUND = 2 * 86_400
+# How many stretches a zone keeps.
+KEPT = 1 << 12
 
 LIBRARY = Path(__file__).with_name("libzoned_ffi.so")
 # What the library's code needs of a processor, in the words of /proc/cpuinfo.
@@ -127,23 +171,23 @@ def _calls() -> tuple[ctypes.CDLL, ctypes.PyDLL]:
     array: list[Any] = [c_void_p, c_size_t]
     column: list[Any] = [c_int64, *array, *array, c_void_p]
     for call, arguments in (
-        (library.zoned_fault, bytes_),
         (library.zoned_open, [*bytes_, c_void_p]),
         (library.zoned_close, [c_void_p]),
-        (library.zoned_zone_at, [c_void_p, *array, *array]),
-        (library.zoned_zone_local, [c_void_p, *column]),
+        (library.zoned_zone_offsets, [c_void_p, *array, *array]),
+        (library.zoned_column_locals, [c_void_p, *column]),
         (library.zoned_zone_types, [c_void_p, *array, *array]),
-        (library.zoned_zone_wall, [c_void_p, *array, *array]),
-        (library.zoned_zone_instants, [c_void_p, c_uint32, c_uint32, *column]),
-        (library.zoned_zone_resolve, [c_void_p, c_uint32, c_uint32, *array, *array]),
+        (library.zoned_zone_wall_clocks, [c_void_p, *array, *array]),
+        (library.zoned_column_instants, [c_void_p, c_uint32, c_uint32, *column]),
+        (library.zoned_zone_instants, [c_void_p, c_uint32, c_uint32, *array, *array]),
         (brief.zoned_zone_first_at_or_after, [c_void_p, c_int64, c_void_p]),
         (brief.zoned_zone_gap, [c_void_p, c_int64, c_void_p]),
         (brief.zoned_zone_offset, [c_void_p, c_int64, c_void_p]),
+        (brief.zoned_zone_reached, [c_void_p, c_int64, c_void_p]),
         (brief.zoned_zone_span, [c_void_p, c_int64, c_void_p]),
         (brief.zoned_zone_type, [c_void_p, c_int64, c_void_p]),
         (brief.zoned_zone_wall_clock, [c_void_p, c_int64, c_void_p]),
         (library.zoned_zone_next_change, [c_void_p, c_int64, c_void_p]),
-        (library.zoned_zone_changes, [c_void_p, c_int64, c_int64, *array, c_void_p]),
+        (library.zoned_zone_changes, [c_void_p, c_int64, c_int64, c_size_t, *array, c_void_p]),
     ):
         call.argtypes, call.restype = arguments, c_uint32
     library.zoned_close.restype = None
@@ -166,20 +210,22 @@ class _Handle(ctypes.Structure):
 class Door:
     """An open zone. Raises `ZoneRefusedError` if the bytes are none."""
 
-    __slots__ = ("kind", "data", "what", "_zone")
+    __slots__ = ("kind", "data", "what", "_zone", "_kept", "_is_narrow")
 
     def __init__(self, kind: int, data: bytes, what: str):
         self.kind, self.data, self.what = kind, data, what
+        self._kept: dict[int, Optional[InForce]] = {}
+        self._is_narrow: Optional[bool] = None
         self._zone = byref(_Handle())
         number = _LIBRARY.zoned_open(kind, data, len(data), self._zone)
         if number:
-            raise ZoneRefusedError(_LIBRARY.zoned_fault(kind, data, len(data)) or number, what)
+            raise ZoneRefusedError(number, what)
 
     # Instants. Seconds are contiguous, aligned int64 of the machine's byte order, in one dimension.
 
     def offsets(self, instants: Array) -> Array:
         """The offset at each Unix second, in seconds east of UTC; `NO_OFFSET` if there is none."""
-        return self._answered(_LIBRARY.zoned_zone_at, (), instants, np.int32)
+        return self._answered(_LIBRARY.zoned_zone_offsets, (), instants, np.int32)
 
     def types(self, instants: Array) -> Array:
         """The local time type at each Unix second, as `LOCAL_TYPE`."""
@@ -190,7 +236,7 @@ class Door:
         up to the first row that has none, and returns that row.
 
         Units are those of `COLUMN_UNITS`. The least int64 is no time, and stays."""
-        return self._rows(_LIBRARY.zoned_zone_local, (per_second,), instants, answers)(0)
+        return self._rows(_LIBRARY.zoned_column_locals, (per_second,), instants, answers)(0)
 
     # Local times, counted in seconds but for those of `instants`.
 
@@ -200,15 +246,15 @@ class Door:
         """Returns a call that writes the instant that the choice takes for each local time, from a
         row on and up to the next one that has none, and returns that row."""
         words = gap, fold, per_second
-        return self._rows(_LIBRARY.zoned_zone_instants, words, local_times, answers)
+        return self._rows(_LIBRARY.zoned_column_instants, words, local_times, answers)
 
     def wall_clocks(self, local_times: Array) -> Array:
-        """How often each local time is shown, and the offsets at the first and the last time."""
-        return self._answered(_LIBRARY.zoned_zone_wall, (), local_times, np.int32, 3)
+        """When clocks show each local time, as `WALL_CLOCK`."""
+        return self._answered(_LIBRARY.zoned_zone_wall_clocks, (), local_times, WALL_CLOCK)
 
     def resolved(self, gap: int, fold: int, local_times: Array) -> Array:
         """The instant that the choice takes for each local time, as `RESOLVED`."""
-        return self._answered(_LIBRARY.zoned_zone_resolve, (gap, fold), local_times, RESOLVED)
+        return self._answered(_LIBRARY.zoned_zone_instants, (gap, fold), local_times, RESOLVED)
 
     def first_at_or_after(self, local_times: Array) -> Array:
         """The first second at which clocks show each local time or a later one, as `RESOLVED`.
@@ -222,6 +268,40 @@ class Door:
         return answers
 
     # One instant, one local time
+
+    def in_force(self, day: int) -> Optional[InForce]:
+        """What is in force at each instant and at each local time of a day, counted from 1970-01-01,
+        and shown once, if clocks don't change within some days; else None."""
+        stretch = day >> DAYS_OF_STRETCH
+        try:
+            return self._kept[stretch]
+        except KeyError:
+            if len(self._kept) >= KEPT:
+                self._kept.clear()
+            found = self._kept[stretch] = self._in_force_through(stretch)
+            return found
+
+    def _in_force_through(self, stretch: int) -> Optional[InForce]:
+        begin, end = ((at << DAYS_OF_STRETCH) * 86_400 for at in (stretch, stretch + 1))
+        if self._is_narrow is None:
+            number = _BRIEF.zoned_zone_reached(self._zone, 0, byref(c_int64()))
+            self._is_narrow = number != WIDE_ZONE
+        span = Span()
+        if not self._is_narrow or _BRIEF.zoned_zone_span(self._zone, begin, byref(span)):
+            return None
+        if span.begin > begin - AROUND or span.until < end + AROUND:
+            return None
+        found = span.type
+        return InForce(timedelta(0, found.offset), bool(found.is_dst), found.abbreviation.decode())
+
+    def first_instant_of(self, local_time: int) -> Optional[int]:
+        """The first second at which clocks show a local time or a later one, or None if it lies
+        outside the range of years."""
+        found = Resolved()
+        self._must_be_answered(
+            _BRIEF.zoned_zone_first_at_or_after(self._zone, local_time, byref(found))
+        )
+        return None if found.number else found.instant
 
     def offset_at(self, instant: int) -> Optional[int]:
         """The offset at a Unix second, or None."""
@@ -281,18 +361,16 @@ class Door:
         while True:
             changes = np.empty(room, CHANGE)
             number = _LIBRARY.zoned_zone_changes(
-                self._zone, begin, end, *_array(changes), byref(count)
+                self._zone, begin, end, MOST, *_array(changes), byref(count)
             )
             self._must_be_answered(number)
             if count.value <= room:
                 return changes[: count.value]
             room = count.value
 
-    def _answered(
-        self, call: Any, words: tuple[int, ...], asked: Array, dtype: Any, *width: int
-    ) -> Array:
-        """What a call answers to each row of an array: one value of that type, or `width`."""
-        answers: Array = np.empty((asked.size, *width), dtype)
+    def _answered(self, call: Any, words: tuple[int, ...], asked: Array, dtype: Any) -> Array:
+        """What a call answers to each row of an array: one value of that type."""
+        answers: Array = np.empty(asked.size, dtype)
         self._must_be_answered(call(self._zone, *words, *_array(asked), *_array(answers)))
         return answers
 

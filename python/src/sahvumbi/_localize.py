@@ -83,7 +83,9 @@ class Clocks:
 
     def __init__(self, door: Door, block: Block, choice: Choice):
         self.door, self.block, self.choice = door, block, choice
-        self.shown, self.first, self.last = door.wall_clocks(block.seconds).T
+        clocks = door.wall_clocks(block.seconds)
+        self.shown = clocks["shown"].copy()
+        self.first, self.last = clocks["first_offset"].copy(), clocks["last_offset"].copy()
         # The rows that become NaT, those that are moved to an end of their gap, and those that the
         # order of rows decides.
         self.lost = self.cut = self.open = NO_ROWS

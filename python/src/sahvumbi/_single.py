@@ -1,4 +1,4 @@
-"""Answers for one value, without an array: a datetime without a zone, or an int.
+"""Answers for one value, without an array: a datetime or a date without a zone, or an int.
 
 Each call returns None for what it leaves to the calls about columns: another type of value, and each value
 without an answer, so that those alone raise errors.
@@ -6,29 +6,32 @@ without an answer, so that those alone raise errors.
 
 from __future__ import annotations
 
-from datetime import datetime, timedelta, timezone
-from typing import Any
+from datetime import date, datetime, timedelta, timezone
+from typing import Any, Optional
 
 import numpy as np
 
 from ._choice import FOLDS, GAPS
 from ._columns import GREATEST
-from ._door import EARLIEST, LATEST, ONCE, SEVERAL_TIMES, Door
+from ._door import ONCE, SEVERAL_TIMES, Door
 from ._forms import EPOCH, NAT
+from ._types import LocalTypes
 
 EPOCH_OF_UTC = EPOCH.replace(tzinfo=timezone.utc)
+DAY = 86_400
+#: The number of 1970-01-01 among the days of a `date`.
+FIRST_DAY = 719_163
 
 
 def seconds_of(since: timedelta) -> int:
     """The whole seconds of a time since 1970-01-01 00:00:00."""
-    return since.days * 86_400 + since.seconds
+    return since.days * DAY + since.seconds
 
 
 def offset(door: Door, instant: Any) -> Any:
     """The offset at an instant, as a timedelta of a datetime and as an int32 of an int."""
     if type(instant) is datetime:
-        found = door.offset_at(seconds_of(_since(instant)))
-        return None if found is None else timedelta(0, found)
+        return _offset_at(door, _since(instant))
     if type(instant) is int and NAT <= instant <= GREATEST:
         found = door.offset_at(instant)
         return None if found is None else np.int32(found)
@@ -39,16 +42,35 @@ def local_time(door: Door, instant: Any) -> Any:
     """What clocks show at an instant."""
     if type(instant) is datetime:
         since = _since(instant)
-        found = door.offset_at(seconds_of(since))
+        found = _offset_at(door, since)
         try:
-            return None if found is None else EPOCH + (since + timedelta(0, found))
+            return None if found is None else EPOCH + (since + found)
         except OverflowError:
             return None
     if type(instant) is int and NAT <= instant <= GREATEST:
-        found = door.offset_at(instant)
-        shown = None if found is None else instant + found
+        offset = door.offset_at(instant)
+        shown = None if offset is None else instant + offset
         return None if shown is None or not NAT <= shown <= GREATEST else np.int64(shown)
     return None
+
+
+def types(door: Door, instant: Any) -> Optional[LocalTypes]:
+    """The type of local time at an instant, with its offset as `offset` has it."""
+    if type(instant) is datetime:
+        since = _since(instant)
+        kept = door.in_force(since.days)
+        if kept is not None:
+            return LocalTypes(kept.offset, np.bool_(kept.is_dst), np.str_(kept.abbreviation))  # type: ignore[arg-type]
+        found = door.type_at(seconds_of(since))
+        offset: Any = None if found is None else timedelta(0, found.offset)
+    elif type(instant) is int and NAT <= instant <= GREATEST:
+        found = door.type_at(instant)
+        offset = None if found is None else np.int32(found.offset)
+    else:
+        return None
+    if found is None:
+        return None
+    return LocalTypes(offset, np.bool_(found.is_dst), np.str_(found.abbreviation.decode()))  # type: ignore[arg-type]
 
 
 def instant(door: Door, local: Any, gap: Any, fold: Any) -> Any:
@@ -58,15 +80,49 @@ def instant(door: Door, local: Any, gap: Any, fold: Any) -> Any:
     if type(gap) is not str or type(fold) is not str or gap not in GAPS or fold not in FOLDS:
         return None
     since = local - EPOCH
-    clock = door.wall_clock(seconds_of(since))
-    if clock.shown == ONCE or (clock.shown == SEVERAL_TIMES and fold == "earliest"):
-        chosen = clock.first_offset
-    elif clock.shown == SEVERAL_TIMES and fold == "latest":
-        chosen = clock.last_offset
-    else:
+    kept = door.in_force(since.days)
+    chosen = _chosen(door, seconds_of(since), fold) if kept is None else kept.offset
+    return None if chosen is None else _utc(since - chosen)
+
+
+def start_of_day(door: Door, local: Any) -> Any:
+    """The first instant of the day of a date, or of a local time."""
+    if type(local) is datetime:
+        if local.tzinfo is not None:
+            return None
+    elif type(local) is not date:
         return None
+    day = local.toordinal() - FIRST_DAY
+    kept = door.in_force(day)
+    if kept is not None:
+        return _utc(timedelta(day) - kept.offset)
+    first = door.first_instant_of(day * DAY)
+    return None if first is None else _utc(timedelta(0, first))
+
+
+def _chosen(door: Door, local: int, fold: str) -> Optional[timedelta]:
+    """The offset at which clocks show a local time, if it is one, or if a word decides."""
+    clock = door.wall_clock(local)
+    if clock.shown == ONCE or (clock.shown == SEVERAL_TIMES and fold == "earliest"):
+        return timedelta(0, clock.first_offset)
+    if clock.shown == SEVERAL_TIMES and fold == "latest":
+        return timedelta(0, clock.last_offset)
+    return None
+
+
+def _offset_at(door: Door, since: timedelta) -> Optional[timedelta]:
+    """The offset at a time since 1970-01-01 00:00:00 UTC."""
+    kept = door.in_force(since.days)
+    if kept is not None:
+        return kept.offset
+    found = door.offset_at(seconds_of(since))
+    return None if found is None else timedelta(0, found)
+
+
+def _utc(since: timedelta) -> Optional[datetime]:
+    """The datetime of UTC at that time since 1970-01-01 00:00:00, or None outside the years 1 to 9999."""
     try:
-        return EPOCH_OF_UTC + (since - timedelta(0, chosen))
+        return EPOCH_OF_UTC + since
     except OverflowError:
         return None
 

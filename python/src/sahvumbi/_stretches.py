@@ -7,6 +7,7 @@ from typing import Any, Union, overload
 
 from . import _asked as asked
 from . import _days as of_days
+from . import _single as single
 from ._changes import Changes, Time, of_stretch
 from ._days import Days, Step
 from ._differences import Differences, door_of, of_zones
@@ -47,6 +48,9 @@ class Zone(Opened):
         array(['1919-03-30T05:00:00', '1919-03-31T04:30:00'],
               dtype='datetime64[s]')
         """
+        start = single.start_of_day(self._door, dates)
+        if start is not None:
+            return start
         column = taken_days(dates, "zone.start_of_day(s.index)")
         return column.instants(of_days.starts(self._door, column))
 
@@ -181,8 +185,8 @@ class Zone(Opened):
         """Returns the local time type in force at each instant, since when and until when.
 
         The answer is a `Spans`, or a DataFrame for a Series or an Index. A span goes from one clock
-        change on to the next; without a change before or after it an end is NaT (None for a
-        datetime), or the least or the greatest int64. Errors are raised as by `offsets`, and
+        change on to the next, or to the first second without a type; without such an end that the column's
+        unit can count, it is NaT (None for a datetime), or the least or the greatest int64. Errors are raised as by `offsets`, and
         `OutOfRangeError` if an end doesn't fit the column's type.
 
         >>> from sahvumbi import Zone

@@ -64,14 +64,17 @@ class LocalTypes(NamedTuple):
 
 class Spans(NamedTuple):
     """The spans that the instants of a column lie in: in each one local time type is in force, from
-    one clock change to the next. Each field has the column's shape."""
+    its first second on to the first one at which the type is no longer in force. Each field has the
+    column's shape."""
 
     offset: npt.NDArray[Any]
     """The offset, the DST flag and the abbreviation, as in `LocalTypes`."""
     is_dst: npt.NDArray[np.bool_]
     abbreviation: npt.NDArray[np.str_]
     from_: npt.NDArray[Any]
-    """The instant of the clock change that began the span, counted as the column is; if no change
-    comes before, NaT, or the least int64."""
+    """The first second of the span, counted as the column is: clocks change then, or the zone has no
+    type before. If the type is in force at all seconds before that the column can count, NaT, or the
+    least int64."""
     until: npt.NDArray[Any]
-    """The instant of the change that ends it; if no change follows, NaT, or the greatest int64."""
+    """The first second after the span: clocks change then, or the zone has no type. If the type is in
+    force at all seconds after that the column can count, NaT, or the greatest int64."""

@@ -8,7 +8,7 @@ from typing import Any, Optional
 from ._door import NEVER, ONCE, OUT_OF_RANGE, SEVERAL_TIMES, Door
 from ._forms import EPOCH
 from ._opening import Zone
-from ._single import seconds_of
+from ._single import FIRST_DAY, seconds_of
 from .errors import NO_OFFSET, NoOffsetError
 
 ZERO = timedelta(0)
@@ -23,10 +23,11 @@ class ZoneTime(tzinfo):
     TZif file has a flag for it, and no length.
     """
 
-    __slots__ = ("zone",)
+    __slots__ = ("zone", "_in_force")
 
     def __init__(self, zone: Zone):
         self.zone = zone
+        self._in_force = zone._door.in_force
 
     @property
     def key(self) -> Optional[str]:
@@ -37,6 +38,9 @@ class ZoneTime(tzinfo):
         """Returns the offset of a local time of the zone; None for None."""
         if when is None:
             return None
+        kept = self._in_force(when.toordinal() - FIRST_DAY)
+        if kept is not None:
+            return kept.offset
         clock = self.zone._door.wall_clock(_seconds(when))
         if clock.shown == ONCE or clock.shown == SEVERAL_TIMES:
             return timedelta(0, clock.last_offset if when.fold else clock.first_offset)
@@ -44,11 +48,17 @@ class ZoneTime(tzinfo):
 
     def tzname(self, when: Optional[datetime]) -> Optional[str]:
         """Returns the abbreviation at a local time of the zone; None for None."""
-        return None if when is None else self._type(when).abbreviation.decode()
+        if when is None:
+            return None
+        kept = self._in_force(when.toordinal() - FIRST_DAY)
+        return self._type(when).abbreviation.decode() if kept is None else kept.abbreviation
 
     def dst(self, when: Optional[datetime]) -> Optional[timedelta]:
         """Returns zero in standard time; None in daylight saving time, and for None."""
-        return None if when is None or self._type(when).is_dst else ZERO
+        if when is None:
+            return None
+        kept = self._in_force(when.toordinal() - FIRST_DAY)
+        return None if (self._type(when) if kept is None else kept).is_dst else ZERO
 
     def fromutc(self, when: datetime) -> datetime:
         """Returns what the zone's clocks show at a datetime of UTC that has this tzinfo."""
@@ -56,7 +66,11 @@ class ZoneTime(tzinfo):
             raise TypeError(f"fromutc takes a datetime, and not {type(when).__name__}")
         if when.tzinfo is not self:
             raise ValueError("fromutc takes a datetime that has this tzinfo")
-        door, instant = self.zone._door, _seconds(when)
+        door = self.zone._door
+        kept = self._in_force(when.toordinal() - FIRST_DAY)
+        if kept is not None:
+            return when + kept.offset
+        instant = _seconds(when)
         offset = _at(door, instant).offset
         shown = when + timedelta(0, offset)
         return shown.replace(fold=1) if door.wall_clock(instant + offset).first != instant else shown

@@ -123,6 +123,9 @@ class Zone(Stretches):
         >>> types.abbreviation
         array(['EST', 'EDT'], dtype='<U7')
         """
+        local_type = single.types(self._door, instants)
+        if local_type is not None:
+            return local_type
         return asked.types(self._door, taken(instants, "zone.types(s.index)", may_be_aware=True))
 
     # Local times

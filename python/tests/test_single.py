@@ -1,0 +1,71 @@
+"""One value has the answer of a column that has it as its only row, near changes of the clocks and far from them."""
+
+from datetime import date, datetime, timedelta, timezone
+
+import numpy as np
+import pytest
+
+from definitions import tzif
+from sahvumbi import Zone
+
+# An offset of five days, for a while; changes a minute apart; and changes at the ends of the days that a zone keeps together.
+WIDE = Zone.from_bytes(tzif([(0, 1), (86_400 * 30, 0)], [(0, 0, "UTC"), (432_000, 0, "FAR")]))
+EDGES = Zone.from_bytes(tzif([(86_400 * 8, 1), (86_400 * 24, 0)], [(0, 0, "UTC"), (-18_000, 0, "FIVE")]))
+CLOSE = Zone.from_bytes(tzif([(0, 1), (60, 2), (120, 0)], [(0, 0, "UTC"), (3600, 1, "ONE"), (-3600, 0, "TWO")]))
+ZONES = [WIDE, EDGES, CLOSE, *map(Zone, ["America/New_York", "Pacific/Apia", "Australia/Lord_Howe", "America/Toronto", "UTC"])]
+# Half hours around changes of these zones, and some far away.
+STARTS = [datetime(1970, 1, 1), datetime(1970, 1, 9), datetime(1970, 1, 25), datetime(1970, 1, 31), datetime(1970, 2, 3), datetime(2021, 3, 14), datetime(2021, 11, 7), datetime(2011, 12, 30)]
+STARTS += [datetime(1919, 3, 31), datetime(2021, 4, 4), datetime(1, 1, 2), datetime(9999, 12, 27), datetime(2038, 1, 19)]
+MOMENTS = [start + timedelta(minutes=30 * half_hours) for start in STARTS for half_hours in range(-40, 140, 3) if start.year > 1 or half_hours > 0]
+
+
+def answer(call, *words, **choices):
+    """What a call returns, or the type of its error."""
+    try:
+        return call(*words, **choices)
+    except Exception as error:
+        return type(error)
+
+
+def rows(call, moment, **choices):
+    """The answer for a column of one row."""
+    found = answer(call, np.array([moment], "M8[us]"), **choices)
+    return found if isinstance(found, type) else found[0]
+
+
+@pytest.mark.parametrize("zone", ZONES, ids=repr)
+def test_one_value_is_a_row(zone):
+    for moment in MOMENTS:
+        utc = moment.replace(tzinfo=timezone.utc)
+        for value in (moment, utc):
+            assert answer(zone.to_local, value) == rows(zone.to_local, moment), value
+            assert answer(zone.offsets, value) == rows(zone.offsets, moment), value
+        types, row = zone.types(moment), zone.types(np.array([moment], "M8[s]"))
+        assert (types.offset, types.is_dst, types.abbreviation) == (row.offset[0], row.is_dst[0], row.abbreviation[0]), moment
+        for fold in ("earliest", "latest"):
+            found = answer(zone.localize, moment, gap="shift", fold=fold)
+            due = rows(zone.localize, moment, gap="shift", fold=fold)
+            assert (found.replace(tzinfo=None) if isinstance(found, datetime) else found) == due, moment
+        start = answer(zone.start_of_day, moment)
+        assert (start.replace(tzinfo=None) if isinstance(start, datetime) else start) == rows(zone.start_of_day, moment), moment
+        assert answer(zone.start_of_day, date(moment.year, moment.month, moment.day)) == start, moment
+
+
+@pytest.mark.parametrize("zone", ZONES, ids=repr)
+def test_the_tzinfo_is_of_the_same_types(zone):
+    for moment in MOMENTS:
+        shown = answer(zone.to_local, moment)
+        there = answer(moment.replace(tzinfo=timezone.utc).astimezone, zone.tzinfo)
+        if isinstance(shown, datetime) and isinstance(there, datetime):
+            types = zone.types(moment)
+            assert there.replace(tzinfo=None, fold=0) == shown, moment
+            assert there.tzname() == types.abbreviation and (there.dst() is None) == bool(types.is_dst), moment
+            if abs(types.offset) < timedelta(days=1):
+                assert there.utcoffset() == types.offset, moment
+
+
+def test_a_zone_keeps_a_limited_number_of_days():
+    zone = Zone("UTC")
+    for year in range(1, 10_000):
+        zone.to_local(datetime(year, 6, 1))
+    assert len(zone._door._kept) <= 1 << 12
