@@ -4,7 +4,7 @@ use Rattle.tz_info.proofs.Words.{alternate, date, day, days, designation_at, dst
 use Rattle.tz_info.proofs.Words.{julian_date, lists_in, month_date, named, next_hour, offset, optional_time, pieces_at, rule_in, text_before_zero, time}
 use Rattle.tz_info.proofs.Words.{trimmed, type_of, type_of_record}
 use Rattle.tz_info.proofs.{PosixLaws.{zone_in}, Words.{with_rule, with_types}}
-use Rattle.tz_timeline.specs.Digits.{digits as binary_digits}
+use Rattle.tz_info.specs.Digits.{digits as binary_digits}
 use Rattle.zoneq_lib.specs.Questions.{calendar_day, fold, gap, text_query, unix_seconds}
 use Rattle.zoneq_lib.proofs.CitedWords.{Begins, Word, at_query, data_query, int_at, integer, local_time, next, question, resolve_query, show_query, tag_at}
 use Rattle.zoneq_lib.proofs.CitedWords.{wall_query}

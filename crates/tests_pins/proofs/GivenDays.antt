@@ -8,4 +8,11 @@ given_day p v answer holds h = grind arith
 pub given_none : (p : Type 0) (v : ℤ) (answer : Option ℤ) → ¬ p → IsGiven itself given p v answer → answer ≡ None
 given_none p v answer not h = grind arith
 
-pub ruleset given_days = (given_day, given_none)
+-- these are the answers
+pub is_given : (p : Type 0) (v : ℤ) → p → IsGiven itself given p v (Some v)
+is_given p v holds = grind arith
+
+pub is_none : (p : Type 0) (v : ℤ) → ¬ p → IsGiven itself given p v None
+is_none p v not = grind arith
+
+pub ruleset given_days = (given_day, given_none, is_given, is_none)

@@ -4,6 +4,7 @@ pub mod Weeks
 pub mod LeapSeconds
 pub mod NewYork
 pub mod NewYorkChanges
+pub mod RuleYears
 pub mod AskedRules
 pub mod SpelledTexts
 pub mod FileParts
@@ -15,3 +16,4 @@ pub mod ChangeDays
 pub mod WrittenPins
 pub mod SetDays
 pub mod SetFires
+pub mod SetTypes

@@ -5,7 +5,9 @@ use Rattle.tests_pins.proofs.Words.{AreChanges, Change, Contains, IsChange, IsFr
 use Rattle.tests_pins.proofs.Words.{edt, est, false, fits_signed_from_abs, get_or, inl, inr, ints, new_york_zone, pos, refl, spring, subst, sym, w64, winter, ℕ}
 use Rattle.tests_pins.proofs.Words.{ℤ, ◌+ℤ◌, ◌-ℤ◌, ◌<ℤ◌, ◌<◌, ◌∙◌, ◌∷◌, ◌≡◌, ◌≤ℤ◌, ◌⊎◌}
 use Rattle.tests_pins.proofs.NewYork.{by_dst, edt_until_2020, is_summer, never, once, one_type, second_of, type_at, type_of_rule, wall}
-use Rattle.tz_info.specs.Moments.{type_when}
+use Rattle.tz_info.specs.{Moments.{type_when}, Spans.{IsInSpan}}
+use Rattle.tz_info.proofs.{SpanLaws.{span_once}, ZoneLaws.{type_once}}
+use Rattle.tz_base.specs.declared.span.Span.{Span}
 use Rattle.tests_pins.specs.NewYork.{new_york}
 
 pub apart : est ≡ edt → ⊥
@@ -117,16 +119,24 @@ none_between c is within = let low = within.0 in let high = within.1 in no_chang
 pub winter_is : IsSpanAt (TypeAt new_york_zone) (pos 1_615_705_199) winter
 winter_is = record {
   in_force_then = type_at (pos 1_615_705_199) (omega arith) (omega arith);
-  inside = record { fits = fits_signed_from_abs w64 (pos 1_615_705_199) (omega arith); since = omega arith; until = omega arith };
+  inside = inside;
   span = record {
-    each = λ u t inside here.
-        let since = inside.since in let until = inside.until in let same : is_summer u ≡ false = grind (arith, ints) in
-        rw same at (one_type u t since (omega (arith, ints)) here);
-    begins = (
-      edt,
-      change_is (pos 1_604_210_400) edt est (omega arith) (omega arith) (type_of_rule (pos 1_604_210_399) edt edt_until_2020)
-          (type_at (pos 1_604_210_400) (omega arith) (omega arith)) (λ e. apart (sym e)),
-    );
-    ends = (edt, spring_is);
+    some = (pos 1_615_705_199, inside);
+    each = λ u i.
+        let since = i.since in let until = i.until in let same : is_summer u ≡ false = grind (arith, ints) in
+        rw same at (type_at u since (omega (arith, ints)));
+    begins = record {
+      fits = fits_signed_from_abs w64 (pos 1_604_210_399) (omega arith);
+      out = λ h. apart (type_once new_york_zone (pos 1_604_210_399) est edt h (type_of_rule (pos 1_604_210_399) edt edt_until_2020));
+    };
+    ends = record {
+      fits = fits_signed_from_abs w64 (pos 1_615_705_200) (omega arith);
+      out = λ h. apart (type_once new_york_zone (pos 1_615_705_200) est edt h gap.here);
+    };
   };
-}
+} where
+  inside : IsInSpan winter (pos 1_615_705_199)
+  inside = record { fits = fits_signed_from_abs w64 (pos 1_615_705_199) (omega arith); since = omega arith; until = omega arith }
+
+pub only_winter : (s : Span) → IsSpanAt (TypeAt new_york_zone) (pos 1_615_705_199) s → s ≡ winter
+only_winter s h = span_once new_york_zone s winter (pos 1_615_705_199) h.span winter_is.span h.inside winter_is.inside

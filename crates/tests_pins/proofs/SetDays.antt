@@ -1,6 +1,7 @@
 -- Days of clocks that are set once.
 use Rattle.tests_pins.proofs.Words.{AreEndsOfDay, AreSetAt, IsEarlier, IsFirstInstantFrom, IsNeverOnDay, IsZoneSecond, Reading, arith, by_lt_z, ints, midnight}
-use Rattle.tests_pins.proofs.Words.{of_secs, pos, ℤ, ◌*ℤ◌, ◌+ℤ◌, ◌<ℤ◌, ◌≡◌, ◌≤ℤ◌}
+use Rattle.tests_pins.proofs.Words.{IsFirstToReach, of_secs, pos, ℤ, ◌*ℤ◌, ◌+ℤ◌, ◌-ℤ◌, ◌<◌, ◌<ℤ◌, ◌≡◌, ◌≤ℤ◌}
+use Rattle.zoned_time.specs.DayEnds.{IsLengthOfDay}
 
 pub not_earlier_than : (x y : Reading) → y.f ≡ 0 → y.s ≤ℤ x.s → ¬ (IsEarlier x y)
 not_earlier_than x y whole h early = grind (arith, ints)
@@ -45,6 +46,25 @@ day_over_the_jump off at k m day first last set inside inside_last early late be
   shown_last = let is = set.from last late in record { in_zone = inside_last; since = omega (arith, ints); before = omega (arith, ints) };
   not_before = λ u h. let since = h.since in by_lt_z u at (λ less. let is = set.before u less in omega (arith, ints)) (λ from. omega (arith, ints));
   not_after = λ u h. let before = h.before in by_lt_z u at (λ less. omega (arith, ints)) (λ from. let is = set.from u from in omega (arith, ints));
+}
+
+-- an instant before a whole second is not later than its second before and the last nanosecond of that, but for leap seconds
+pub last_before : (at : ℤ) (q next : Reading) → q.f < 1_000_000_000 → IsEarlier q next → ¬ (IsEarlier (of_secs at 0) next)
+    → ¬ (IsEarlier (record { s = at -ℤ pos 1; f = 999_999_999 }) q)
+last_before at q next less before until later = grind (arith, ints)
+
+-- a day that starts when the next one does is empty
+pub never_both : (at r start next : Reading) → ¬ (IsEarlier r start) → IsEarlier r next → ¬ (IsEarlier start at) → ¬ (IsEarlier at next) → ⊥
+never_both at r start next from before begins until = grind (arith, ints)
+
+-- the length of a day, where both starts are known
+pub length_between : (off : ℤ → ℤ) (day start next nanos : ℤ) → IsFirstToReach off (midnight day).s start
+    → IsFirstToReach off (midnight (day +ℤ pos 1)).s next → nanos ≡ (next -ℤ start) *ℤ pos 1_000_000_000 → IsLengthOfDay off day nanos
+length_between off day start next nanos starts ends length = record {
+  start = start;
+  next = next;
+  are_starts = record { starts = starts; ends = ends };
+  length = length;
 }
 
 pub ruleset set_days = (ints, at_the_jump, before_the_jump, after_the_jump, skipped, day_after_the_jump, day_over_the_jump)

@@ -1,6 +1,9 @@
 -- The week of a day, where its Thursday and the Thursday's year are known.
 use Rattle.tests_pins.proofs.Words.{IsThursdayOf, IsWeekOf, IsoWeek, LiesIn, arith, day_number, day_of_year, day_of_year_is, days_at_least, days_of_months}
-use Rattle.tests_pins.proofs.Words.{floors, ints, iso_number, iso_year, lies_in, one_year, pos, refl, year_of, year_start, year_step, ℕ, ℤ, ◌+ℤ◌, ◌+◌, ◌/◌, ◌≡◌}
+use Rattle.std.specs.Prelude.{◌≢◌}
+use Rattle.naive_base.specs.Named.{IsDayOfIsoWeek}
+use Rattle.tests_pins.proofs.Words.{floors, ints, iso_number, iso_year, lies_in, one_year, pos, refl, subst, sym, weekday_of, year_of, year_start, year_step}
+use Rattle.tests_pins.proofs.Words.{ℕ, ℤ, ◌+ℤ◌, ◌+◌, ◌/◌, ◌∙◌, ◌≡◌}
 
 one_thursday : (day a b : ℤ) → IsThursdayOf day a → IsThursdayOf day b → a ≡ b
 one_thursday day a b h k = grind (arith, ints, floors)
@@ -15,6 +18,29 @@ place_is t y n lies e = let own = rw (year_is t y lies) at (day_of_year_is t).0 
 pub week_is : (day t y : ℤ) (n : ℕ) (week : IsoWeek) → IsThursdayOf day t → LiesIn t y → year_start y +ℤ pos n ≡ t
     → IsWeekOf day week → (iso_year week ≡ y) × (iso_number week ≡ n / 7 + 1)
 week_is day t y n week h lies e w = let same = one_thursday day w.thursday t w.in_week h in grind (arith, ints, year_is, place_is)
+
+pub is_week : (day t y : ℤ) (n : ℕ) (week : IsoWeek) → IsThursdayOf day t → LiesIn t y → year_start y +ℤ pos n ≡ t
+    → iso_year week ≡ y → iso_number week ≡ n / 7 + 1 → IsWeekOf day week
+is_week day t y n week h lies e of_year number = record {
+  thursday = t;
+  in_week = h;
+  year = rw (year_is t y lies) of_year;
+  number = rw (place_is t y n lies e) number;
+}
+
+pub day_of_week : (day t y : ℤ) (w n : ℕ) → weekday_of day ≡ w → IsThursdayOf day t → LiesIn t y → year_start y +ℤ pos n ≡ t
+    → IsDayOfIsoWeek y (n / 7 + 1) w day
+day_of_week day t y w n weekday h lies e = record {
+  weekday = weekday;
+  thursday = t;
+  in_week = h;
+  of_year = record { weekday = h.0; year = year_is t y lies; number = rw (place_is t y n lies e) refl };
+}
+
+pub not_of_year : (day t y other : ℤ) (n w : ℕ) → IsThursdayOf day t → LiesIn t y → y ≢ other → ¬ (IsDayOfIsoWeek other n w day)
+not_of_year day t y other n w h lies differ of_other =
+    let same = one_thursday day of_other.thursday t of_other.in_week h in
+    differ (sym (year_is t y lies) ∙ (subst (λ (u : ℤ). year_of u ≡ other) same of_other.of_year.year))
 
 fourth : (y : ℤ) → day_number y 1 4 ≡ year_start y +ℤ pos 3
 unfolding day_number days_of_months

@@ -8,8 +8,6 @@ pub use Rattle.naive_base.{proofs.Words.{IsDate, IsThursdayOf, IsWeekOf, date_on
 pub use Rattle.naive_base.specs.declared.iso_week.IsoWeek.{IsoWeek}
 unfoldable pub use Rattle.naive_base.proofs.Words.{day_of_year, in_digits, year_text}
 pub use Rattle.tz_base.specs.{LocalTypes.{plain_type}, declared.{change.Change.{Change}, error.Error.{Error}}}
-unfoldable pub use Rattle.change_views.{proofs.CitedWords.{step_words}, specs.{Clocks.{clock_words}, Words.{offset_words}, ZdumpLines.{short_day, short_month}}}
-unfoldable pub use Rattle.change_views.specs.ZdumpLines.{short_weekday}
 pub use Rattle.tz_info.proofs.Words.{AreLeapSeconds, Contains, IsAskedAt, IsAskedFor, IsByRuleFor, IsChange, IsFromUntil, IsNextLeap, IsOneStep, IsSpanAt}
 pub use Rattle.tz_info.proofs.Words.{IsTextFault, IsYearOf, LiesIn, add-one, days_at_least, one_year, weekday_of, year_step}
 pub use Rattle.tz_info.specs.{Questions.{IsByRule}, declared.file.header.{Counts.{Counts}, Place.{Place}}}
@@ -25,7 +23,8 @@ unfoldable pub use Rattle.zoned_ref.proofs.Words.{year_of}
 pub use Rattle.tz_write.proofs.Words.{AreInPairs, AreShortest, HasPieces, IsMark, IsNamedIn, IsTzText, IsWrittenText, IsWrittenZone, Parts, SpellTransitions}
 pub use Rattle.tz_write.proofs.Words.{SpellTypes, counts_test, false≢true, magic, unsigned_abs, ◌/◌, ◌<ℤ◌, ◌≤ℤ◌}
 unfoldable pub use Rattle.tz_write.proofs.Words.{after_first_block, be_u32, block, file, first_version, header, signed, six_counts, tzif, version, version_1}
-pub use Rattle.zonedump_lib.proofs.Words.{AreChanges, TypeAt, floors, ◌+ℤ◌}
+pub use Rattle.zonedump_lib.proofs.CitedWords.{AreChanges, TypeAt, floors, ◌+ℤ◌}
+unfoldable pub use Rattle.zonedump_lib.specs.{Clocks.{clock_words}, Words.{offset_words, step_words}, ZdumpLines.{short_day, short_month, short_weekday}}
 pub use Rattle.zoneq_lib.proofs.CitedWords.{Asks, Bool, IsBadLine, IsPosixZone, IsTaken, IsTzFile, IsZoneSecond, List, LocalType, Query, Reading, Spells, Zone}
 pub use Rattle.zoneq_lib.proofs.CitedWords.{Zoned, ap, arith, behind, by_lt_z, codes, false, get_or, inl, inr, ints, lawful, length, neg_ℤ, of_secs, pos, read}
 pub use Rattle.zoneq_lib.proofs.CitedWords.{refl, subst, suc, sym, true, w32, w64, zero, ℕ, ℤ, [], ◌*◌, ◌++◌, ◌+◌, ◌-ℤ◌, ◌<◌, ◌∙◌, ◌∷◌, ◌≡◌, ◌≤◌, ◌⊎◌}

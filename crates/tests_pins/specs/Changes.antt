@@ -3,6 +3,7 @@ use Rattle.std.specs.Prelude.{◌≡◌, ℤ, pos, ◌≤ℤ◌, ◌<ℤ◌, ◌
 use Rattle.tz_base.specs.LocalTypes.{LocalType}
 use Rattle.tz_base.specs.declared.change.Change.{Change}
 use Rattle.tz_info.specs.Zones.{Zone, plain_zone}
+use Rattle.tz_info.specs.declared.zone.shown_seconds.ShownSeconds.{ShownSeconds}
 use Rattle.tests_pins.specs.NewYork.{est, edt}
 
 -- a change at that second, from one type to another
@@ -29,6 +30,14 @@ renamed = record { offset = pos 3_600; dst = false; name = Some (77 ∷ 69 ∷ 8
 
 abbrev pub dst_cet : LocalType
 dst_cet = record { offset = pos 3_600; dst = true; name = Some (67 ∷ 69 ∷ 84 ∷ []) }
+
+-- `UTC`
+abbrev pub utc : LocalType
+utc = record { offset = pos 0; dst = false; name = Some (85 ∷ 84 ∷ 67 ∷ []) }
+
+-- these two seconds, with their types
+abbrev pub ends : ℤ → LocalType → ℤ → LocalType → ShownSeconds
+ends u s v t = record { first = record { at = u; local_time_type = s }; last = record { at = v; local_time_type = t } }
 
 -- standard time an hour ahead of UTC, without a name
 abbrev pub unnamed : LocalType

@@ -1,6 +1,7 @@
 pub mod Changes
 pub mod Choices
 pub mod Days
+pub mod Differences
 pub mod Fields
 pub mod Files
 pub mod Honolulu

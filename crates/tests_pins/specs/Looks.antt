@@ -1,6 +1,6 @@
 -- Counts of looks.
 use Rattle.std.specs.Prelude.{ℕ}
-use Rattle.tz_timeline.specs.Counts.{Counts}
+use Rattle.tz_info.specs.Counts.{Counts}
 
 -- so many looks at transitions, questions to rules, and looks at pieces of an index
 abbrev pub looks : ℕ → ℕ → ℕ → Counts

@@ -1,14 +1,17 @@
 //! The Gregorian calendar, weekdays and the weeks of ISO 8601.
 #![tactic(auto, using(crate::proofs::ChangeDays::march_2021), unfolding(crate::proofs::Computed::calendar))]
 
-ghost use Rattle.std.specs.Prelude.{◌≡◌, ℕ, ◌≤◌, ℤ, pos, neg_ℤ, ◌+ℤ◌, true, false};
+ghost use Rattle.std.specs.Prelude.{◌≡◌, ℕ, ◌≤◌, ℤ, pos, neg_ℤ, ◌+ℤ◌, true, false, codes};
 ghost use Rattle.naive_base.specs.Year.{is_leap, days_in_year, year_start};
 ghost use Rattle.naive_base.specs.Month.{days_in_month, days_of_months};
 ghost use Rattle.naive_base.specs.Date.{IsDate, day_number};
 ghost use Rattle.naive_base.specs.DateOf.{year_of, day_of_year, month_of, day_of_month};
+ghost use Rattle.naive_base.specs.MonthNames.{month_name, number_of_month};
+ghost use Rattle.naive_base.specs.Named.{IsDayOfIsoWeek, IsWeekdayOfMonth, whole_years};
 ghost use Rattle.naive_base.specs.Weekday.{weekday_of};
 ghost use Rattle.naive_base.specs.IsoWeek.{IsWeekOf, iso_year, iso_number};
 ghost use Rattle.naive_base.specs.declared.iso_week.IsoWeek.{IsoWeek};
+ghost use Rattle.naive_base.specs.declared.month.Month.TheVariants.{January, September, December};
 
 /// Of the full centuries only every fourth is a leap year.
 pub fn leap_years()
@@ -85,6 +88,33 @@ pub fn weeks()
         → (iso_year week ≡ pos 2020) × (iso_number week ≡ 53) }
     ensures monday { (week : IsoWeek) → IsWeekOf (day_number (pos 2018) 12 31) week
         → (iso_year week ≡ pos 2019) × (iso_number week ≡ 1) }
+    ensures is_friday { (week : IsoWeek) → iso_year week ≡ pos 2020 → iso_number week ≡ 53
+        → IsWeekOf (day_number (pos 2021) 1 1) week }
+    ensures is_monday { (week : IsoWeek) → iso_year week ≡ pos 2019 → iso_number week ≡ 1
+        → IsWeekOf (day_number (pos 2018) 12 31) week }
     ensures fourth_of_january { (y : ℤ) (week : IsoWeek) → IsWeekOf (day_number y 1 4) week
         → (iso_year week ≡ y) × (iso_number week ≡ 1) }
+{}
+
+/// 2021-01-29, day 18656, is the fifth Friday of its month, and 2021-01-01, day 18628, the first.
+/// 2016-01-03, day 16803, is the Sunday of week 53 of 2015, and 2021-01-04, day 18631, the Monday of
+/// week 1 of 2021. From 2000-02-29, day 11016, no year has passed on 2001-02-28, and one on 2001-03-01.
+pub fn named()
+    ensures fifth_friday { IsWeekdayOfMonth (pos 2021) 1 5 5 (pos 18_656) }
+    ensures not_fourth { ¬ (IsWeekdayOfMonth (pos 2021) 1 5 4 (pos 18_656)) }
+    ensures first_friday { IsWeekdayOfMonth (pos 2021) 1 5 1 (pos 18_628) }
+    ensures week_53 { IsDayOfIsoWeek (pos 2015) 53 0 (pos 16_803) }
+    ensures week_1 { IsDayOfIsoWeek (pos 2021) 1 1 (pos 18_631) }
+    ensures not_of_2016 { ¬ (IsDayOfIsoWeek (pos 2016) 1 0 (pos 16_803)) }
+    ensures no_year { whole_years (pos 11_381) (pos 11_016) ≡ pos 0 }
+    ensures one_year { whole_years (pos 11_382) (pos 11_016) ≡ pos 1 }
+{}
+
+/// The months are counted from 1, and have their English names.
+pub fn month_names()
+    ensures first { number_of_month January ≡ 1 }
+    ensures ninth { number_of_month September ≡ 9 }
+    ensures last { number_of_month December ≡ 12 }
+    ensures january { month_name January ≡ codes "January" }
+    ensures december { month_name December ≡ codes "December" }
 {}

@@ -17,23 +17,34 @@ pub fn gaps()
     ensures before { (k : ℤ) → IsBeforeGap set_forward (pos 1_800) k → k ≡ pos 0 }
     ensures is_before { IsBeforeGap set_forward (pos 1_800) (pos 0) }
     ensures shifted { (k : ℤ) → IsTaken set_forward (pos 1_800) shift k → k ≡ pos 0 }
+    ensures is_shifted { IsTaken set_forward (pos 1_800) shift (pos 0) }
     ensures refused { (k : ℤ) → ¬ (IsTaken set_forward (pos 1_800) refuse k) }
     ensures why { (e : ResolveError) → IsUnresolved set_forward (pos 1_800) refuse e → e ≡ Gap }
+    ensures is_why { IsUnresolved set_forward (pos 1_800) refuse Gap }
     ensures instant { (d : Zoned ℤ) → IsResolved forward half_past shift d
         → d ≡ record { utc = half_past; offset = pos 3_600 } }
+    ensures is_instant { IsResolved forward half_past shift
+        (record { utc = half_past; offset = pos 3_600 }) }
 {}
 
 /// In the fold 00:30 is shown first by the offset of an hour, and last by 0.
 pub fn folds()
     ensures first { (k : ℤ) → IsTaken set_back (pos 1_800) earliest k → k ≡ pos 3_600 }
+    ensures is_first { IsTaken set_back (pos 1_800) earliest (pos 3_600) }
     ensures last { (k : ℤ) → IsTaken set_back (pos 1_800) latest k → k ≡ pos 0 }
+    ensures is_last { IsTaken set_back (pos 1_800) latest (pos 0) }
     ensures refused { (k : ℤ) → ¬ (IsTaken set_back (pos 1_800) refuse k) }
     ensures why { (e : ResolveError) → IsUnresolved set_back (pos 1_800) refuse e → e ≡ Fold }
+    ensures is_why { IsUnresolved set_back (pos 1_800) refuse Fold }
     ensures instant { (d : Zoned ℤ) → IsResolved back half_past earliest d
         → d ≡ record {
           utc = record { s = neg_ℤ (pos 1_800); f = half_past.f };
           offset = pos 3_600;
         } }
+    ensures is_instant { IsResolved back half_past earliest (record {
+      utc = record { s = neg_ℤ (pos 1_800); f = half_past.f };
+      offset = pos 3_600;
+    }) }
 {}
 
 /// On clocks an hour ahead of UTC the first local date-time of the range has no instant in range, and the

@@ -31,6 +31,8 @@ pub fn months_later()
     ensures earlier { (answer : Option ℤ)
         → IsMonthsLater itself given (day_number (pos 2022) 2 20) (neg_ℤ (pos 6)) answer
         → answer ≡ Some (day_number (pos 2021) 8 20) }
+    ensures is_later { IsMonthsLater itself given (day_number (pos 2022) 7 31) (pos 2)
+        (Some (day_number (pos 2022) 9 30)) }
 {}
 
 /// Nine days after 20 February 2022 it is 1 March.
@@ -41,6 +43,8 @@ pub fn days_later()
     ensures earlier { (answer : Option ℤ)
         → IsDaysLater itself given (day_number (pos 2022) 2 20) (neg_ℤ (pos 6)) answer
         → answer ≡ Some (day_number (pos 2022) 2 14) }
+    ensures is_later { IsDaysLater itself given (day_number (pos 2022) 2 20) (pos 9)
+        (Some (day_number (pos 2022) 3 1)) }
 {}
 
 /// From 8 September 2015 on: there is a 30 September, and no 31. Day 60 of the year is 1 March, and
@@ -61,6 +65,13 @@ pub fn dates()
     ensures ordinal_366_of_2016 { (answer : Option ℤ)
         → IsOrdinalGiven itself given (day_number (pos 2015) 9 8) (pos 2016) 366 answer
         → answer ≡ Some (day_number (pos 2016) 12 31) }
+    ensures is_day_30 { IsDateGiven itself given (day_number (pos 2015) 9 8) (pos 2015) 9 30
+        (Some (day_number (pos 2015) 9 30)) }
+    ensures is_day_31 { IsDateGiven itself given (day_number (pos 2015) 9 8) (pos 2015) 9 31 None }
+    ensures is_ordinal_60 { IsOrdinalGiven itself given (day_number (pos 2015) 9 8) (pos 2015) 60
+        (Some (day_number (pos 2015) 3 1)) }
+    ensures is_ordinal_366 { IsOrdinalGiven itself given (day_number (pos 2015) 9 8) (pos 2015) 366
+        None }
 {}
 
 /// 23:56:04.012345678 with another hour, minute, second and fraction.

@@ -3,7 +3,7 @@
 #![tactic(auto)]
 
 ghost use Rattle.std.specs.Prelude.{◌≡◌, ℤ, pos, neg_ℤ, List, [], ◌∷◌};
-ghost use Rattle.zoned_time.specs.Fires.{AreFires, IsFire};
+ghost use Rattle.zoned_time.specs.Fires.{AreFires, IsFire, IsLastFire, IsNextFire, second_before};
 ghost use Rattle.zoned_time.specs.Reached.{IsReachedAt};
 ghost use Rattle.tests_pins.specs.Days.{AreSetAt};
 ghost use Rattle.tests_pins.specs.Plans.{daily, twice_daily};
@@ -42,4 +42,27 @@ pub fn new_york_in_spring()
         → AreSetAt off (pos 1_615_705_200) (neg_ℤ (pos 18_000)) (neg_ℤ (pos 14_400))
         → AreFires off (twice_daily 8_100 9_900) (pos 1_615_698_000) (pos 1_615_790_700) us
         → us ≡ (pos 1_615_705_200 ∷ pos 1_615_788_900 ∷ pos 1_615_790_700 ∷ []) }
+{}
+
+/// In Apia clocks went over the whole of 2011-12-30, at 10:00:00 UTC. A run at 09:00 on each day is then,
+/// since clocks show 00:00 of the next day: it is the next one after the second before, and the last one
+/// until then.
+pub fn apia()
+    ensures at_the_end { (off : ℤ → ℤ)
+        → AreSetAt off (pos 1_325_239_200) (neg_ℤ (pos 36_000)) (pos 50_400)
+        → IsFire off (daily 32_400) (pos 1_325_239_200) }
+    ensures next { (off : ℤ → ℤ)
+        → AreSetAt off (pos 1_325_239_200) (neg_ℤ (pos 36_000)) (pos 50_400)
+        → IsNextFire off (daily 32_400) (pos 1_325_239_199) (pos 1_325_239_200) }
+    ensures last { (off : ℤ → ℤ)
+        → AreSetAt off (pos 1_325_239_200) (neg_ℤ (pos 36_000)) (pos 50_400)
+        → IsLastFire off (daily 32_400) (pos 1_325_239_200) (pos 1_325_239_200) }
+    ensures not_after_itself { (off : ℤ → ℤ)
+        → ¬ (IsNextFire off (daily 32_400) (pos 1_325_239_200) (pos 1_325_239_200)) }
+{}
+
+/// The last whole second before an instant: before a whole second it is the one before it.
+pub fn seconds_before()
+    ensures within { second_before (record { s = pos 5; f = 1 }) ≡ pos 5 }
+    ensures whole { second_before (record { s = pos 5; f = 0 }) ≡ pos 4 }
 {}

@@ -84,4 +84,10 @@ pub fn years()
         → n ≡ pos 4 }
     ensures backwards { (n : ℤ) → IsWholeYears (noon (pos 1999) 2 28 0) (noon (pos 2000) 2 29 0) n
         → n ≡ neg_ℤ (pos 2) }
+    ensures is_none { IsWholeYears (noon (pos 2001) 2 28 0) (noon (pos 2000) 2 29 0) (pos 0) }
+    ensures is_one { IsWholeYears (noon (pos 2001) 3 1 0) (noon (pos 2000) 2 29 0) (pos 1) }
+    ensures is_three { IsWholeYears (noon (pos 2004) 2 29 0) (noon (pos 2000) 2 29 1) (pos 3) }
+    ensures is_four { IsWholeYears (noon (pos 2004) 2 29 1) (noon (pos 2000) 2 29 1) (pos 4) }
+    ensures is_backwards { IsWholeYears (noon (pos 1999) 2 28 0) (noon (pos 2000) 2 29 0)
+        (neg_ℤ (pos 2)) }
 {}

@@ -5,8 +5,11 @@ ghost use Rattle.naive_base.specs.Range.{first_second, last_second};
 ghost use Rattle.naive_base.specs.Stamp.{of_secs};
 ghost use Rattle.zoned_ref.specs.ZoneChange.{IsAfter, IsUpTo, change_of_instants};
 ghost use Rattle.zoned_ref.specs.Offsets.{IsNarrow};
-ghost use Rattle.zoned_kept.specs.KeepError.{IsRefused, given_back};
-ghost use Rattle.zoned_kept.specs.declared.keep_error.KeepError.TheVariants.{WideZone, OutOfMemory};
+ghost use Rattle.tz_base.specs.declared.error.Error.TheVariants as faults;
+ghost use Rattle.zoned_ref.specs.KeepError.{IsRefused, given_back};
+ghost use Rattle.zoned_ref.specs.OpenError.{reason_of};
+ghost use Rattle.zoned_ref.specs.declared.keep_error.OpenError.TheVariants as why;
+ghost use Rattle.zoned_ref.specs.declared.keep_error.KeepError.TheVariants.{WideZone, OutOfMemory};
 ghost use Rattle.tests_pins.specs.Changes.{spring, wide};
 ghost use Rattle.tests_pins.specs.NewYork.{new_york_zone, est, edt};
 ghost use Rattle.tests_pins.specs.Zones.{utc_zone};
@@ -34,4 +37,6 @@ pub fn not_kept()
     ensures memory { IsRefused utc_zone (OutOfMemory utc_zone) }
     ensures other_zone { ¬ (IsRefused utc_zone (OutOfMemory wide)) }
     ensures back { given_back (WideZone wide) ≡ wide }
+    ensures reason { reason_of (WideZone wide) ≡ why.WideZone }
+    ensures no_memory { reason_of (OutOfMemory utc_zone) ≡ why.Zone faults.OutOfMemory }
 {}

@@ -2,8 +2,8 @@
 #![tactic(auto, unfolding(crate::proofs::Computed::binary))]
 
 ghost use Rattle.std.specs.Prelude.{◌≡◌, ℕ};
-ghost use Rattle.tz_timeline.specs.Counts.{Counts};
-ghost use Rattle.tz_timeline.specs.Digits.{digits};
+ghost use Rattle.tz_info.specs.Counts.{Counts};
+ghost use Rattle.tz_info.specs.Digits.{digits};
 ghost use Rattle.tz_info.specs.Looks.{RoseByInstant, RoseByWallClock};
 ghost use Rattle.tests_pins.specs.Zones.{honolulu, hst10};
 ghost use Rattle.tests_pins.specs.Looks.{looks};

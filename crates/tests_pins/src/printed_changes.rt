@@ -4,12 +4,15 @@
 ghost use Rattle.std.specs.Prelude.{◌≡◌, ◌∷◌, [], ◌++◌, codes, pos, neg_ℤ, true, false};
 ghost use Rattle.json.specs.Print.{print};
 ghost use Rattle.json.specs.Tree.{json_tokens};
-ghost use Rattle.change_views.specs.ChangeLines.{change_lines};
-ghost use Rattle.change_views.specs.ChangeValues.{change_value, step_name, type_value};
-ghost use Rattle.change_views.specs.Words.{offset_words, type_words, step_words};
-ghost use Rattle.change_views.specs.ZdumpLines.{pair_lines, first_lines, last_lines, short_month};
-ghost use Rattle.change_views.specs.ZdumpLines.{short_weekday, short_day, flag_text};
+ghost use Rattle.zonedump_lib.specs.ChangeLines.{change_lines};
+ghost use Rattle.zonedump_lib.specs.ChangeValues.{change_value, step_name, type_value};
+ghost use Rattle.zonedump_lib.specs.Words.{offset_words, type_words, step_words};
+ghost use Rattle.zonedump_lib.specs.ZdumpLines.{pair_lines, first_lines, last_lines, short_month};
+ghost use Rattle.zonedump_lib.specs.ZdumpLines.{short_weekday, short_day, flag_text};
+ghost use Rattle.zonedump_lib.specs.DifferenceForms.{difference_lines, differences_value, lone_value};
+ghost use Rattle.zonedump_lib.specs.DifferenceForms.{moved_by};
 ghost use Rattle.tests_pins.specs.Changes.{change_at, spring, unnamed};
+ghost use Rattle.tests_pins.specs.Differences.{in_march};
 ghost use Rattle.tests_pins.specs.NewYork.{est, edt};
 
 /// What `zdump -v` prints of New York's change on 11 March 2007.
@@ -92,4 +95,21 @@ pub fn json_words()
     ensures none { step_name (pos 3_600) (pos 3_600) ≡ codes "none" }
     ensures unnamed { print (json_tokens (type_value unnamed))
         ≡ codes "{\"offset\":3600,\"dst\":false,\"name\":null}" }
+{}
+
+/// An hour in which one zone has EST and another one EDT, whose clocks are an hour ahead: as a line and as
+/// JSON. A zone that only one of two folders has.
+pub fn differences()
+    ensures moved { moved_by in_march ≡ pos 3_600 }
+    ensures line { difference_lines (in_march ∷ [])
+        ≡ codes "2021-03-14 07:00:00 to 2021-03-14 08:00:00 UTC  -05:00 std EST"
+        ++ codes " -> -04:00 dst EDT  moved by 3600 s\n" }
+    ensures json { print (json_tokens (differences_value (codes "a") (codes "b")
+        (pos 2021) (pos 2022) (in_march ∷ [])))
+        ≡ codes "{\"old\":\"a\",\"new\":\"b\",\"from\":2021,\"to\":2022,\"differences\":["
+        ++ codes "{\"from\":1615705200,\"from_utc\":\"2021-03-14 07:00:00\","
+        ++ codes "\"until\":1615708800,\"until_utc\":\"2021-03-14 08:00:00\","
+        ++ codes "\"old\":{\"offset\":-18000,\"dst\":false,\"name\":\"EST\"},"
+        ++ codes "\"new\":{\"offset\":-14400,\"dst\":true,\"name\":\"EDT\"},\"moved\":3600}]}" }
+    ensures lone { print (json_tokens (lone_value (codes "a"))) ≡ codes "{\"only\":\"a\"}" }
 {}

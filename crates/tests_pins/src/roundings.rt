@@ -34,6 +34,7 @@ pub fn refusals()
     ensures longest { IsRoundingLength (pos 9_223_372_036_854_775_807) }
     ensures too_long { ¬ (IsRoundingLength (pos 9_223_372_036_854_775_808)) }
     ensures both { (e : RoundingError) → IsRoundingFault ⊥ ⊥ e → e ≡ DurationExceedsLimit }
+    ensures is_both { IsRoundingFault ⊥ ⊥ DurationExceedsLimit }
     ensures limit { message DurationExceedsLimit
         ≡ codes "duration exceeds num_nanoseconds limit" }
     ensures timestamp { message TimestampExceedsLimit

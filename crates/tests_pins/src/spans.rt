@@ -1,19 +1,30 @@
-//! Spans: New York's standard time from November 2020 to March 2021.
+//! Spans: New York's standard time from November 2020 to March 2021, and the years of a rule that never
+//! changes the clocks.
 
 ghost use Rattle.std.specs.Prelude.{◌≡◌, pos, Some, None};
+ghost use Rattle.tz_base.specs.declared.span.Span.{Span};
 ghost use Rattle.tz_info.specs.Spans.{IsInSpan, IsSpan, IsSpanAt};
 ghost use Rattle.tz_info.specs.Zones.{TypeAt};
 ghost use Rattle.tests_pins.specs.NewYork.{new_york_zone, est};
-ghost use Rattle.tests_pins.specs.Spans.{winter, span_of};
+ghost use Rattle.tests_pins.specs.Spans.{rule_years, span_of, steady_zone, winter};
 
-/// The span of 1615705199 is EST, from 1604210400 until 1615705200. It has its first second, and
-/// not its end.
-#[tactic(auto, using(crate::proofs::NewYorkChanges::winter_is))]
+/// The span of 1615705199 is EST, from 1604210400 until 1615705200, and no other. It has its first
+/// second, and not its end.
+#[tactic(auto, using(crate::proofs::NewYorkChanges::winter_is, crate::proofs::NewYorkChanges::only_winter))]
 pub fn new_york()
     ensures winter { IsSpanAt (TypeAt new_york_zone) (pos 1_615_705_199) winter }
+    ensures only { (s : Span) → IsSpanAt (TypeAt new_york_zone) (pos 1_615_705_199) s → s ≡ winter }
     ensures first { IsInSpan winter (pos 1_604_210_400) }
     ensures before { ¬ (IsInSpan winter (pos 1_604_210_399)) }
     ensures end { ¬ (IsInSpan winter (pos 1_615_705_200)) }
+{}
+
+/// A rule whose two types are one has a single span: the years in which rules answer, from -2147483646
+/// to 2147483645.
+#[tactic(auto, using(crate::proofs::RuleYears::years_are, crate::proofs::RuleYears::only_years))]
+pub fn rule_years()
+    ensures span { IsSpanAt (TypeAt steady_zone) (pos 0) rule_years }
+    ensures only { (s : Span) → IsSpanAt (TypeAt steady_zone) (pos 0) s → s ≡ rule_years }
 {}
 
 /// A span begins and ends at changes of the clocks, and has no other change within it.

@@ -6,19 +6,17 @@ ghost use Rattle.json.specs.Print.{print};
 ghost use Rattle.json.specs.Tree.{json_tokens};
 ghost use Rattle.tz_info.specs.declared.rule.day.DayForm.TheVariants.{Julian1, Julian0};
 ghost use Rattle.tz_info.specs.declared.rule.day.DayForm.TheVariants.{MonthWeekday};
-ghost use Rattle.change_views.specs.ZdumpLines.{zdump_text};
-ghost use Rattle.zonedump_lib.specs.Forms.{IsTold};
+ghost use Rattle.zonedump_lib.specs.ZdumpLines.{zdump_text};
 ghost use Rattle.zonedump_lib.specs.JsonValues.{day_value, rule_value, zone_value, leap_value};
 ghost use Rattle.zonedump_lib.specs.RuleWords.{rule_words, day_words, moment_words, month_words};
 ghost use Rattle.zonedump_lib.specs.RuleWords.{week_words, weekday_words};
-ghost use Rattle.zonedump_lib.specs.Tables.{head_text, leap_text, table_text};
+ghost use Rattle.zonedump_lib.specs.Tables.{IsTable, head_text, leap_text, table_text};
 ghost use Rattle.zonedump_lib.specs.Zdump.{IsZdump};
 ghost use Rattle.tests_pins.specs.Changes.{spring, autumn};
 ghost use Rattle.tests_pins.specs.LeapSeconds.{entry};
 ghost use Rattle.tests_pins.specs.NewYork.{new_york_rule, new_york_zone};
 ghost use Rattle.tests_pins.specs.Texts.{utc_rule};
 ghost use Rattle.tests_pins.specs.Zones.{utc_zone};
-ghost use Rattle.zonedump_lib.specs.declared.form.Form.TheVariants as forms;
 
 /// New York's rule, one type, and no rule.
 pub fn rules()
@@ -75,7 +73,7 @@ pub fn table_heads()
 
 /// New York in 2021 has two changes, in the table and in the lines of zdump.
 pub fn year_2021()
-    ensures table { IsTold forms.Table new_york_zone (pos 2021) (pos 2021)
+    ensures table { IsTable new_york_zone (pos 2021) (pos 2021)
         (table_text new_york_zone (pos 2021) (pos 2021) (spring ∷ autumn ∷ [])) }
     ensures zdump { IsZdump (codes "NY") new_york_zone (pos 2021) (pos 2021)
         (zdump_text (codes "NY") (spring ∷ autumn ∷ [])) }

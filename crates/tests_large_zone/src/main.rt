@@ -1,0 +1,91 @@
+//! Asks a zone of 1,048,576 clock changes about each of them: what is in force at it, and when clocks show the local time at which it is
+//! over, by the index and by the walk.
+//!
+//! It prints how many answers of each kind are right. `rt ci` gives a program two minutes; a lookup that read the transitions or the
+//! index from end to end would read some 5 * 10^11 of them.
+#![tactic(auto)]
+
+use anyhow::Result;
+use naive_base::NaiveDateTime;
+use offset_core::LocalResult;
+use std::alloc::Global;
+use tz_info::{LocalTimeType, Probes, TimeZone, Transition};
+
+const CHANGES: u32 = 1_048_576;
+
+const SECONDS_APART: i64 = 1_000_000;
+
+fn main(rt: HostRuntime) -> Result<()> {
+    let zone = zone_in_turn(rt.alloc())?;
+    for (what, lookup) in [
+        ("by instant", Lookup::ByInstant),
+        ("by local time", Lookup::ByLocalTime),
+        ("by local time, without the index", Lookup::ByWalk),
+    ] {
+        println!(rt;
+            "{what}: {} of {CHANGES} right",
+            right_answers(&zone, lookup)
+        )?;
+    }
+    Ok(())
+}
+
+// Clocks change each 1,000,000 seconds from 1970 on, to an hour ahead of UTC and back in turn.
+fn zone_in_turn(alloc: Global) -> Result<TimeZone> {
+    let mut types = Vec::new(alloc);
+    types.push(LocalTimeType::with_offset(0)?)?;
+    types.push(LocalTimeType::with_offset(3600)?)?;
+    let mut transitions = Vec::new(alloc);
+    let mut time = 0i64;
+    for number in 0..CHANGES {
+        let index = if number % 2 == 0 { 1 } else { 0 };
+        transitions.push(Transition::new(time, index))?;
+        time = time.saturating_add(SECONDS_APART);
+    }
+    Ok(TimeZone::new(alloc, transitions, types, Vec::new(alloc), None)?)
+}
+
+#[derive(Clone, Copy)]
+enum Lookup {
+    ByInstant,
+    ByLocalTime,
+    ByWalk,
+}
+
+// How many changes a lookup answers for as it should.
+fn right_answers(zone: &TimeZone, lookup: Lookup) -> u32 {
+    let mut right = 0u32;
+    let mut time = 0i64;
+    for number in 0..CHANGES {
+        let offset = if number % 2 == 0 { 3600 } else { 0 };
+        if lookup.offset(zone, time) == Some(offset) {
+            right = right.saturating_add(1);
+        }
+        time = time.saturating_add(SECONDS_APART);
+    }
+    right
+}
+
+impl Lookup {
+    // The offset that it finds at the second of a change, or at the local time 3600 seconds later, which clocks show once.
+    fn offset(self, zone: &TimeZone, time: i64) -> Option<i32> {
+        let local = NaiveDateTime::from_timestamp_opt(time.saturating_add(3600), 0)?;
+        match self {
+            Lookup::ByInstant => match zone.find_local_time_type(time) {
+                Ok(local_type) => Some(local_type.offset()),
+                Err(_) => None,
+            },
+            Lookup::ByLocalTime => match zone.local_time_types_at(local) {
+                LocalResult::Single(local_type) => Some(local_type.offset()),
+                _ => None,
+            },
+            Lookup::ByWalk => {
+                let mut probes = Probes::new();
+                match zone.find_local_time_type_from_local_by_walk(local, &mut probes) {
+                    Ok(LocalResult::Single(local_type)) => Some(local_type.offset()),
+                    _ => None,
+                }
+            }
+        }
+    }
+}
