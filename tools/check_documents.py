@@ -20,7 +20,7 @@ usage: tools/check_documents.py
   all tests, and .ci/run runs both. The lines that make the Python package ready are lines of python/README.md, which the gate tries. No
   sentence of README.md has more than 35 words.
 - README.md names the number and the logic of the kit that `rt version` prints (if there is rt); docs/FROM_CHRONO.md says how many
-  functions the crates of idioms have.
+  functions the crate of idioms has.
 - The tables of docs/SPEED.md and README.md have the figures of the latest file of bench/results (bench/write_speed.py).
 
 Prints a line for each fault, with its place, and ends with status 1 if there is one.
@@ -34,8 +34,9 @@ from functools import lru_cache
 
 from check_headline import CITATION
 from definitions import clauses
+from edits import HARMLESS, PLANTED_BUGS, all_blocks
 from generate_documents import (
-    BY_HAND, DEFINITIONS, ERROR, IN_GATE, PROGRAMS, README, counts, generated, head_of, numbers_of_errors, words_in_contracts,
+    DEFINITIONS, ERROR, PROGRAMS, README, counts, generated, head_of, numbers_of_errors, words_in_contracts,
 )
 from sources import (
     NAME, TOP, cited, crates, files, imports_of, module_of, public_clauses, shown, text_of, without_comments,
@@ -163,26 +164,9 @@ def claims():
 # Planted bugs
 
 
-def edits():
-    for crate in crates():
-        for path in [*files(IN_GATE, ".edit", [crate]), *files(BY_HAND, ".edit", [crate])]:
-            yield from edit_faults(crate, path)
-
-
-def edit_faults(crate, path):
-    """An edit that can't be applied: its old text isn't in the file, or is there twice."""
-    texts, file = {}, None
-    for row in text_of(path).splitlines():
-        key, _, value = row.partition(": ")
-        if key == "file":
-            file = TOP / "crates" / crate / value
-            texts.setdefault(file, text_of(file))
-        elif key == "old":
-            old = value
-            if texts[file].count(old) != 1:
-                yield f"{shown(path)}: its old text stands {texts[file].count(old)} times in {shown(file)}: {old}"
-        elif key == "new":
-            texts[file] = texts[file].replace(old, value)
+def planted_bugs():
+    for block in [*all_blocks(PLANTED_BUGS), *all_blocks(HARMLESS)]:
+        yield from block.faults()
 
 
 # Lemmas
@@ -297,9 +281,8 @@ def facts_of_documents():
     number, logic = re.sub(r"^(rattle-kit-\d+)\w* (logic \w+)$", r"\1 \2", version).partition(" ")[::2]
     if version and f"`{number}`, `{logic}`" not in text:
         yield f"{shown(README)}: it doesn't name the kit and its logic, `{number}`, `{logic}`"
-    idioms = ["tests_idioms_utc", "tests_idioms_borrowed", "tests_idioms_kept"]
-    counts = [str(sum(len(re.findall(r"(?m)^ *pub fn ", text_of(path))) for path in files("src", ".rt", [crate]))) for crate in idioms]
-    due = f"`crates/{idioms[0]}`, `{idioms[1]}` and `{idioms[2]}` have {counts[0]}, {counts[1]} and {counts[2]} "
+    count = sum(len(re.findall(r"(?m)^ *pub fn ", text_of(path))) for path in files("src", ".rt", ["tests_idioms"]))
+    due = f"`crates/tests_idioms` has {count} functions "
     if due not in text_of(FROM_CHRONO):
         yield f"{shown(FROM_CHRONO)}: it doesn't say: {due}"
 
@@ -385,7 +368,7 @@ def not_passed_on():
 
 
 CHECKS = [
-    links, merge_lines, stale_parts, contract_words, types_with_steps, unsafe_code, claims, edits, wrong_definitions, unused_lemmas,
+    links, merge_lines, stale_parts, contract_words, types_with_steps, unsafe_code, claims, planted_bugs, wrong_definitions, unused_lemmas,
     unlisted_pages, modules_without_a_comment, not_passed_on, required_of_c, number_faults, facts_of_documents, first_screen, package_lines,
     long_sentences, figure_faults, rattle_blocks,
 ]

@@ -18,6 +18,7 @@ A generated table is between `<!-- NAME -->` and `<!-- end -->`, or ends its pag
 import ast
 import re
 
+from edits import PLANTED_BUGS, WRONG_DEFINITIONS, all_blocks, blocks
 from sources import TOP, cited, crates, files, public_clauses, module_of, text_of, uses, words_of
 from try_definitions import with_rejected
 
@@ -30,7 +31,6 @@ PYTHON = TOP / "python/src/sahvumbi"
 # The modules whose calls PYTHON.md lists: those of a zone, and functions of the package.
 OF_ZONES, OF_PACKAGE = ["zone", "_stretches"], ["_differences", "_many"]
 PLANTED = "## Planted bugs and wrong definitions by crate\n"
-IN_GATE, BY_HAND = "mutants", "mutants-by-hand"
 LAST_OF_TESTS = re.compile(r"(?m)^\d+ of \d+ tests passed, status 0$")
 
 
@@ -79,12 +79,12 @@ def index():
 
 def planted():
     """The table of planted bugs and wrong definitions: how many each crate has."""
-    wrong = [text_of(path).split("crates/", 1)[1].split("/")[0] for path in files("wrong", ".edit", ["tests_pins"])]
-    rows = [(crate, len(files(IN_GATE, ".edit", [crate])), len(files(BY_HAND, ".edit", [crate])), wrong.count(crate)) for crate in crates()]
+    bugs = {crate: [block.is_in_gate for block in blocks(PLANTED_BUGS, crate)] for crate in crates()}
+    rows = [(crate, sum(those), len(those) - sum(those), len(blocks(WRONG_DEFINITIONS, crate))) for crate, those in bugs.items()]
     table = [f"| `{crate}` | {in_gate} | {by_hand} | {definitions} |" for crate, in_gate, by_hand, definitions in rows if in_gate + by_hand + definitions]
     return "\n".join([
-        PLANTED, "A planted bug is a file of its crate's folder `mutants/`, which the gate tries, or `mutants-by-hand/`. A wrong definition is a file of",
-        "`crates/tests_pins/wrong/`, and counts for the crate whose page it changes.\n", "| crate | in the gate | by hand | wrong definitions |",
+        PLANTED, f"A planted bug is a block of its crate's `{PLANTED_BUGS}`; the gate tries those with the line `in: the gate`. A wrong definition is one of",
+        f"the `{WRONG_DEFINITIONS}` of the crate whose page it changes.\n", "| crate | in the gate | by hand | wrong definitions |",
         "|---|--:|--:|--:|", *table, ""
     ])
 
@@ -162,13 +162,13 @@ def how_often(pattern, paths):
 def counts():
     """The words after the number, at the start of a row or in bold: `| 468 | tests in Rattle ..`, `**468** tests in Rattle ..`."""
     pins = [*files("src", ".rt", ["tests_pins"]), TOP / "crates/zoned_ffi/src/pins.rt"]
-    in_part, by_hand = files("mutants", ".edit"), files("mutants-by-hand", ".edit")
+    bugs = all_blocks(PLANTED_BUGS)
     return {
         "tests in Rattle": how_often(r"(?m)^#\[test\]$", files("tests", ".txt")),
         "worked examples": how_often(r"(?m)^pub fn ", pins),
-        "planted bugs in the gate": len(in_part),
-        "planted bugs in all": len(in_part) + len(by_hand),
-        "wrong definitions": len(files("wrong", ".edit", ["tests_pins"])),
+        "planted bugs in the gate": sum(block.is_in_gate for block in bugs),
+        "planted bugs in all": len(bugs),
+        "wrong definitions": len(all_blocks(WRONG_DEFINITIONS)),
         "programs that must not compile": len(list((TOP / "tools/refused").glob("*.txt"))),
         "tests of the Python package": how_often(r"(?m)^ *def test_", sorted((TOP / "python/tests").glob("test_*.py"))),
     }

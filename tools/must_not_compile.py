@@ -35,7 +35,7 @@ def repository(top):
     listed = [line for line in listed if line.split(":")[0] in LIBRARIES]
     (top / "crates.txt").write_text("\n".join([*listed, f"tried: {' '.join(LIBRARIES)}\n"]))
     for library in LIBRARIES:
-        kept = shutil.ignore_patterns("out", "mutants*")
+        kept = shutil.ignore_patterns("out")
         shutil.copytree(TOP / "crates" / library, top / "crates" / library, ignore=kept)
     (top / "crates/tried/src").mkdir(parents=True)
     return top / "crates/tried"

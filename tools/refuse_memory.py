@@ -17,10 +17,11 @@ tests_out_of_memory makes zones by each constructor, and prints a line for each.
 The lines of headers whose counts say more than there is are never missing: they were refused before memory was asked for. And
 each zone's line is missing at least once, for each of them takes memory.
 
-zoneq answers lines. In each run either
+zoneq answers lines, of which the first are those of its stored run; with memory enough their answers must be that run's. In each run
+either
 
 - the status is 0, and one line that asks for a zone is answered `refused 17`, and every other line as if that one were not
-  there: the earlier zone stayed; or
+  there: the earlier zone stayed, or no zone if it was the first; or
 - the status is 1, standard error has `zoneq: out of memory`, and the answers end early, after a whole line.
 
 Ends with status 1 where any of that is otherwise.
@@ -41,10 +42,12 @@ NO_MEMORY = 17
 SECONDS = 60
 # Longer than a block of zoneq's input, so that memory is asked for the line's beginning.
 LONG_TEXT = b"text UTC" + b"0" * 40_000
-QUESTIONS = [
-    b"at 0", b"text EST5EDT,M3.2.0,M11.1.0", b"wall 2021 11 7 1 30 0", b"data 00", b"show 1636264800 0", LONG_TEXT,
-    b"at 0", b"text HST10", b"wall 2021 3 14 2 0 0", b"text FOO24", b"show 0 0", b"wall 2021 2 29 0 0 0",
+# The dialogue that the program's stored run begins with, and lines after it.
+DIALOGUE = [
+    b"text EST5EDT,M3.2.0,M11.1.0", b"wall 2021 3 14 2 0 0", b"wall 2021 11 7 1 30 0", b"show 1636264800 0", b"text FOO24", b"at 0",
+    b"wall 2021 2 29 0 0 0",
 ]
+QUESTIONS = [*DIALOGUE, b"data 00", LONG_TEXT, b"at 0", b"text HST10", b"wall 2021 3 14 2 0 0", b"show 0 0"]
 
 
 class Program:
@@ -93,7 +96,7 @@ def try_constructors(program, due):
     return request - 1
 
 
-def try_lines(program):
+def try_lines(program, stored):
     """How many requests were refused, and how many runs stopped; ends the program where an answer is not as it must be."""
 
     @lru_cache(None)
@@ -105,6 +108,8 @@ def try_lines(program):
             sys.exit(f"zoneq, with memory enough: status {status}, {errors}, {output}")
         return lines
 
+    if answers()[: len(DIALOGUE)] != stored[: len(DIALOGUE)]:
+        sys.exit(f"zoneq, with memory enough: {answers()}, and not the stored run")
     zones = [place for place, line in enumerate(QUESTIONS) if line.startswith((b"text ", b"data "))]
     kept = [[*answers(place)[:place], b"refused 17\n", *answers(place)[place:]] for place in zones]
     stopped = refused = 0
@@ -138,7 +143,8 @@ def main():
         due = (crates / "tests_out_of_memory/stdout").read_bytes().splitlines()
         tried = try_constructors(Program(constructors, shim, room), due)
         print(f"out_of_memory: {tried} requests refused in turn: each zone was made as due, or there was no memory for it")
-        tried, stopped, refused = try_lines(Program(lines, shim, room))
+        stored = (crates / "zoneq/stdout").read_bytes().splitlines(True)
+        tried, stopped, refused = try_lines(Program(lines, shim, room), stored)
         print(f"zoneq: {tried} requests refused in turn: {stopped} runs stopped after whole answers, {refused} kept the earlier zone")
     return 0
 

@@ -27,6 +27,7 @@ SCRIPTS = {
     "try_handles.py": (["rt", "gcc"], [ARCHIVE]),
     "try_examples.py": (["rt", "gcc", "g++", "rustc", "nm"], [ARCHIVE]),
     "try_install.py": (["rt", "gcc", "g++", "nm"], [ARCHIVE]),
+    "try_databases.py": (["gcc"], [ARCHIVE]),
     "install.sh": (["rt"], [ARCHIVE]),
     "try_documents.py programs": ([], [ZONEQ, ZONEDUMP]),
     "try_documents.py c": (["rt", "gcc"], [ARCHIVE]),
@@ -38,12 +39,14 @@ SCRIPTS = {
     "compare.py strings": (["rt"], []),
     "compare.py days": (["gcc"], [ARCHIVE]),
     "compare.py differences . .": ([], [ZONEDUMP]),
+    "compare.py plans": (["rt"], []),
     "kit.py --self-test": (["rt"], []),
     "try_tests.py gregorian": (["rt"], []),
     "try_tests.py --fmt gregorian": (["rt"], []),
     "must_not_compile.py": (["rt"], []),
     "try_edits.py gregorian": (["rt"], []),
     "try_definitions.py": (["rt"], []),
+    "try_scans.py": (["rt"], []),
     "build_archive.py": (["rt"], []),
 }
 PROGRAMS = ["rt", "gcc", "g++", "rustc", "binutils", "python3 (3.9 or later)"]

@@ -48,7 +48,7 @@ def repository(top, names):
     below = {library for name in apart for library in [name, *uses()[name], *named_in(texts_of(name))]}
     for file in ("HANDLES", "crates.txt"):
         shutil.copy(TOP / file, top / file)
-    left = shutil.ignore_patterns("out", "mutants*", LAID)
+    left = shutil.ignore_patterns("out", LAID)
     shutil.copytree(TOP / "crates", top / "crates", ignore=left)
     laid_in = {top / "crates" / name: ([name], uses()[name]) for name in names if is_static(name)}
     if apart:

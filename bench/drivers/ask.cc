@@ -28,8 +28,8 @@ static void ask_each(struct zoned_zone *zone, bool is_instant, const int64_t *as
 }
 
 static void ask_all(struct zoned_zone *zone, bool is_instant, const int64_t *asked, size_t count, int32_t *offsets, zoned_wall_clock *clocks) {
-    uint32_t refused = is_instant ? zoned_zone_at(zone, asked, count, offsets, count)
-                                  : zoned_zone_wall_instants(zone, asked, count, clocks, count);
+    uint32_t refused = is_instant ? zoned_zone_offsets(zone, asked, count, offsets, count)
+                                  : zoned_zone_wall_clocks(zone, asked, count, clocks, count);
     if (refused) exit(1);
 }
 

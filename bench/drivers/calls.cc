@@ -66,11 +66,11 @@ int main(int count, char **words) {
             print_cells(in_turn(
                 run.seconds("at", years),
                 [&](const int64_t *asked) { each_at(&zone, asked, offsets.data()); },
-                [&](const int64_t *asked) { expect_ok(zoned_zone_at(&zone, asked, SLICE, offsets.data(), SLICE)); }));
+                [&](const int64_t *asked) { expect_ok(zoned_zone_offsets(&zone, asked, SLICE, offsets.data(), SLICE)); }));
             print_cells(in_turn(
                 run.seconds("wall", years),
                 [&](const int64_t *asked) { each_wall(&zone, asked, clocks.data()); },
-                [&](const int64_t *asked) { expect_ok(zoned_zone_wall_instants(&zone, asked, SLICE, clocks.data(), SLICE)); }));
+                [&](const int64_t *asked) { expect_ok(zoned_zone_wall_clocks(&zone, asked, SLICE, clocks.data(), SLICE)); }));
             printf("\n");
             fflush(stdout);
         }

@@ -107,7 +107,7 @@ int main() {
         if (zoned_open(ZONED_FILE, bytes.data(), bytes.size(), &zone) != ZONED_OK) return 2;
         const Answer one_call = [&](const Column &instants, Column &locals) {
             size_t row;
-            if (zoned_zone_local(&zone, NANOS, instants.data(), ROWS, locals.data(), ROWS, &row) != ZONED_OK) exit(2);
+            if (zoned_column_locals(&zone, NANOS, instants.data(), ROWS, locals.data(), ROWS, &row) != ZONED_OK) exit(2);
         };
         const std::vector<Peer> others = peers(name);
         for (const auto &column : columns) {

@@ -8,7 +8,12 @@ struct Zone {
     std::string bytes;
 
     const uint8_t *data() const { return (const uint8_t *)bytes.data(); }
-    uint32_t read() const { return zoned_parse(kind, data(), bytes.size()); }
+    uint32_t read() const {
+        struct zoned_zone zone = {};
+        const auto number = zoned_open(kind, data(), bytes.size(), &zone);
+        zoned_close(&zone);
+        return number;
+    }
 };
 
 static void expect_ok(uint32_t number) {

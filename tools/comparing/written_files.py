@@ -31,7 +31,7 @@ def laid(top):
         shutil.copy(TOP / file, top / file)
     with (top / "crates.txt").open("a") as file:
         file.write(f"{NAME}: tz_info tz_write\n")
-    shutil.copytree(TOP / "crates", top / "crates", ignore=shutil.ignore_patterns("out", "mutants*", "tests"))
+    shutil.copytree(TOP / "crates", top / "crates", ignore=shutil.ignore_patterns("out", "tests"))
     source = top / "crates" / NAME / "src"
     source.mkdir(parents=True)
     shutil.copy(Path(__file__).with_suffix(".txt"), source / "main.rt")
