@@ -89,7 +89,7 @@ def rattle():
     for path in WITH_RATTLE:
         for place, _, text in blocks(path, "rust"):
             for line in re.finditer(r"(?m)^.*$", without_comments(text, "//")):
-                if bare(line[0]) not in known:
+                if bare(line[0]).rstrip(",") not in known:
                     yield f"{shown(path, place + line.start())}: no code has the line: {line[0].strip()}"
     for place, span in ours(text_of(FROM_CHRONO)):
         if bare(span) not in known:

@@ -1,1 +1,2 @@
 pub mod InDay
+mod Wrapped

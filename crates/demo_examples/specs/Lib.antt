@@ -1,1 +1,2 @@
+pub mod AnyZone
 pub mod Nepal

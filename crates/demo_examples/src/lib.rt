@@ -2,7 +2,7 @@
 //!
 //! `readme` and `front_page` have the examples of README.md and of the library's front page, `fixed`
 //! instants of UTC and of fixed offsets, `borrowed` instants of a borrowed zone, `calendar_days` when
-//! days, weeks, months and years start, `own_zone` the zone of docs/OWN_ZONE.md, and `facts` contracts
+//! days, weeks, months and years start, `own_zone` and `any_zone` the zones of docs/OWN_ZONE.md, and `facts` contracts
 //! of a client's own.
 //!
 //! Three modules are clients as a user would write them: `calendar` has events at instants and on whole
@@ -10,6 +10,7 @@
 //! people and for other programs.
 #![tactic(auto)]
 
+mod any_zone;
 mod borrowed;
 pub mod calendar;
 mod calendar_days;
@@ -22,6 +23,7 @@ mod own_zone;
 mod readme;
 pub mod text;
 
+pub use any_zone::{AnyOffset, AnyZone};
 pub use borrowed::{by_clock, earliest_first, keep, line};
 pub use calendar_days::{Question, day_answer, same_day, seconds_of_day};
 pub use error::MyError;

@@ -1,2 +1,4 @@
 -- Lemmas for those who implement the trait `TimeZone`.
 pub use Rattle.zoned_time.proofs.ForCallers.{same_itself, wall_by_seconds, gap_by_seconds, constant_wall, constant_no_gap}
+-- of a zone that hands its lookups on to another one
+pub use Rattle.zoned.proofs.Wrapped.{IsWrapped, wrapped_wall, wrapped_gap, wrapped_at}

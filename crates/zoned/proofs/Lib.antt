@@ -1,4 +1,5 @@
 pub mod Words
 pub mod ForCallers
+mod Wrapped
 mod Shown
 mod FirstChange

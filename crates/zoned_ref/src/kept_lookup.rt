@@ -3,10 +3,11 @@ ghost use Rattle.std.specs.Prelude.{MatchOption, refl};
 ghost use Rattle.offset_core.specs.LocalResult.{map_of};
 ghost use Rattle.offset_core.specs.WallAnswer.{IsWallAnswer};
 ghost use Rattle.naive_base.specs.NaiveDateTime.{reading};
+ghost use Rattle.tz_info.specs.Around.{IsAroundOrBefore, map_both};
 ghost use Rattle.tz_info.specs.Gaps.{IsTypeBeforeGap, IsShown};
 ghost use Rattle.tz_info.specs.WallClocks.{Shows};
 ghost use Rattle.tz_info.specs.Zones.{TypeAt};
-ghost use Rattle.zoned_time.specs.Choice.{IsOffsetBeforeGap};
+ghost use Rattle.zoned_time.specs.Choice.{AreOffsetsAround, IsOffsetBeforeGap};
 ghost use Rattle.zoned_time.specs.Zone.{IsOffsetAt, AreOffsetsFor, midnight_of};
 ghost use Rattle.zoned_ref.specs.ZoneOffset.{meaning_of, type_of};
 ghost use Rattle.zoned_ref.specs.KeptZone.{law_of, zone_of};
@@ -68,7 +69,12 @@ impl TimeZone for KeptZone {
     fn offsets_around(
         &self,
         local: &NaiveDateTime,
-    ) -> Around<ZoneOffset<'static>, ZoneOffset<'static>> {
+    ) -> Around<ZoneOffset<'static>, ZoneOffset<'static>>
+        ensures offsets { AreOffsetsAround (law_of self.now) (reading local.now).s result }
+        // They are the offsets of the types in force, or of the type before the gap.
+        ensures local_types { IsAroundOrBefore (TypeAt (zone_of self.now)) (reading local.now).s
+            (map_both type_of type_of result) }
+    {
         self.borrowed.offsets_around(local)
     }
 

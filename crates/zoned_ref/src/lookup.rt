@@ -3,6 +3,7 @@ ghost use Rattle.std.specs.Prelude.{◌≡◌, MatchOption, refl};
 ghost use Rattle.offset_core.specs.LocalResult.{map_of};
 ghost use Rattle.offset_core.specs.WallAnswer.{IsWallAnswer};
 ghost use Rattle.naive_base.specs.NaiveDateTime.{reading};
+ghost use Rattle.tz_info.specs.Around.{IsAroundOrBefore, map_both};
 ghost use Rattle.tz_info.specs.Gaps.{IsTypeBeforeGap, IsShown};
 ghost use Rattle.tz_info.specs.WallClocks.{Shows};
 ghost use Rattle.tz_info.specs.Zones.{TypeAt};
@@ -74,7 +75,10 @@ impl<'a> TimeZone for TimeZoneRef<'a> {
     }
 
     fn offsets_around(&self, local: &NaiveDateTime) -> Around<ZoneOffset<'a>, ZoneOffset<'a>>
-        ensures { AreOffsetsAround (law_of self.now) (reading local.now).s result }
+        ensures offsets { AreOffsetsAround (law_of self.now) (reading local.now).s result }
+        // They are the offsets of the types in force, or of the type before the gap.
+        ensures local_types { IsAroundOrBefore (TypeAt (zone_of self.now)) (reading local.now).s
+            (map_both type_of type_of result) }
     {
         match self.zone().local_time_types_around(*local) {
             Around::Single(only) => Around::Single(ZoneOffset::new(*self, only)),
