@@ -30,6 +30,7 @@ import re
 import shutil
 import subprocess
 import sys
+from collections import Counter
 from functools import lru_cache
 
 from check_headline import CITATION
@@ -43,11 +44,12 @@ from sources import (
 )
 from try_definitions import faults as wrong_definitions
 from try_documents import TESTS, blocks, commands, rattle as rattle_blocks
+from try_edits import FUNCTION, read as read_edit
 
 sys.path.append(str(TOP / "bench"))
 from write_speed import latest as latest_results, written as with_figures  # noqa: E402
 
-DOCUMENTS = [*sorted(TOP.glob("*.md")), *sorted((TOP / "docs").glob("*.md"))]
+DOCUMENTS = [*sorted(TOP.glob("*.md")), *sorted((TOP / "docs").glob("*.md")), *sorted(TOP.glob("crates/*/README.md"))]
 FACADE = TOP / "crates/zoned"
 PACKAGE = TOP / "python/README.md"
 GATE = TOP / ".ci/run"
@@ -164,9 +166,20 @@ def claims():
 # Planted bugs
 
 
+@lru_cache(maxsize=None)
+def function_names(crate):
+    return Counter(head[2] for path in files("src", ".rt") if TOP / "crates" / crate in path.parents for head in FUNCTION.finditer(text_of(path)))
+
+
+def unclear_functions(edit):
+    for part in edit.parts:
+        if "::" not in part and function_names(edit.crate)[part] > 1:
+            yield f"{edit}: several functions are called {part}, so it needs a line `only: PATH`"
+
+
 def planted_bugs():
     for block in [*all_blocks(PLANTED_BUGS), *all_blocks(HARMLESS)]:
-        yield from block.faults()
+        yield from [*block.faults()] or unclear_functions(read_edit(block))
 
 
 # Lemmas

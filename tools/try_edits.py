@@ -121,7 +121,7 @@ def function_at(text, part):
     if name is None:
         return None
     before = text[:place]
-    owner = before[before.rfind("\n}") + 1 :]
+    owner = re.sub(r"(?m)^.*\{\}$", "", before[before.rfind("\n}") + 1 :])
     of_trait = re.search(r"(?m)^(?:unsafe )?impl\b.*?\b(\w+)(?:<(\w+)>)? for (\w+)", owner)
     return "::".join([*([of_trait[3] + of_trait[1] + (of_trait[2] or "")] if of_trait else []), name])
 
