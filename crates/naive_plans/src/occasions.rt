@@ -139,7 +139,7 @@ fn start_of_year_up(year: i64) -> i64
     seconds_of(gregorian::year_start(year as i32))
 }
 
-// The day that comes after so many days more.
+// The day after the next `days` days.
 fn days_later(day: i64, days: u32) -> i64
     requires day { IsRuleDay day }
     requires days { days < 31 }
@@ -148,7 +148,7 @@ fn days_later(day: i64, days: u32) -> i64
     day + days as i64 + 1
 }
 
-// The day that comes so many days before.
+// The day that is `days` days earlier.
 fn days_earlier(day: i64, days: u32) -> i64
     requires day { IsRuleDay day }
     requires days { days ≤ 31 }
@@ -288,7 +288,7 @@ pub(crate) fn second_of(second: i64) -> u32
     second.rem_euclid(SECONDS_PER_DAY) as u32
 }
 
-// Of the periods that count, a period so many after the first one, the first one from a period on.
+// The first period from `period` on that is a multiple of the interval after the first one.
 fn next_period(interval: u32, first: i64, period: i64) -> i64
     requires interval { 1 ≤ interval }
     requires first { IsPeriod first }

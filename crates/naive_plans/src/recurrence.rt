@@ -83,7 +83,7 @@ impl<'a> Recurrence<'a> {
     ///
     /// It searches for the last of them, with `COUNT` through all of them. So later searches stop there,
     /// and those of a rule without a local time return `None` at once. A search looks at each date from
-    /// one local time to the next, and at up to 3.7 million dates if there is none.
+    /// one local time to the next, and at up to 3.7 million dates if no local time follows.
     ///
     /// # Errors
     ///
@@ -158,7 +158,7 @@ fn until_second(until: &NaiveDateTime) -> i64
     second
 }
 
-// The last one of the first so many times.
+// The last of the first `count` times.
 fn last_of(of: &Occasions<'_>, count: u32) -> i64
     ensures last { (l : ℤ) → IsRuleTime of.now.rule of.now.start l
         → (l ≤ℤ result) ↔ IsWithinCount of.now.rule of.now.start count l }
@@ -179,7 +179,7 @@ fn last_of(of: &Occasions<'_>, count: u32) -> i64
     last
 }
 
-// The last time up to a second, or the second before the start if there is none.
+// The last time up to `last`, or the second before the start if no time is that early.
 fn shortened(of: &Occasions<'_>, last: i64) -> i64
     requires { (neg_ℤ (pos 10_000_000_000_000) ≤ℤ last) × (last <ℤ pos 253_402_300_800) }
     ensures same { (l : ℤ) → IsRuleTime of.now.rule of.now.start l → (l ≤ℤ result) ↔ (l ≤ℤ last) }

@@ -78,7 +78,7 @@ impl<'a> RecurrenceRule<'a> {
         }
     }
 
-    // Whether the rule's start tells the time of day: so if its periods are days or longer.
+    // Whether the hour can come from the rule's start: if its periods are days or longer.
     pub(crate) fn tells_hour(&self) -> bool
         ensures { IsTrue result ↔ rules.TellsHour self.now }
     {
@@ -88,7 +88,7 @@ impl<'a> RecurrenceRule<'a> {
         }
     }
 
-    // Whether it tells the minute: so if its periods are hours or longer.
+    // Whether the minute can come from the start: if its periods are hours or longer.
     fn tells_minute(&self) -> bool
         ensures { IsTrue result ↔ rules.TellsMinute self.now }
     {
@@ -107,7 +107,7 @@ impl<'a> RecurrenceRule<'a> {
             && self.by_month_day.is_empty()
     }
 
-    // Whether its start tells the month.
+    // Whether the month can come from the start.
     fn tells_month(&self) -> bool
         ensures { IsTrue result ↔ rules.TellsMonth self.now }
     {
@@ -117,7 +117,7 @@ impl<'a> RecurrenceRule<'a> {
         }
     }
 
-    // Whether its start tells the day of the month.
+    // Whether the day of the month can come from the start.
     fn tells_month_day(&self) -> bool
         ensures { IsTrue result ↔ rules.TellsMonthDay self.now }
     {
@@ -129,7 +129,7 @@ impl<'a> RecurrenceRule<'a> {
         }
     }
 
-    // Whether its start tells the weekday.
+    // Whether the weekday can come from the start.
     fn tells_weekday(&self) -> bool
         ensures { IsTrue result ↔ rules.TellsWeekday self.now }
     {
@@ -281,7 +281,7 @@ fn fourth_of_week(day: i64, week_start: Weekday) -> i64
     fourth_after(day, days_of_week(day, week_start))
 }
 
-// The fourth day of a week, so many days of which come before a day.
+// The fourth day of a week of which `passed` days come before `day`.
 fn fourth_after(day: i64, passed: u32) -> i64
     requires day { IsRuleDay day }
     requires passed { passed < 7 }
