@@ -1,7 +1,8 @@
--- Errors are equal by `==` if and only if they are equal.
-use Rattle.std.proofs.Common.{IsTrue, ap, refl, rules, ◌↔◌, ◌≡◌}
+-- Errors are equal by `==` if and only if they are equal, and so are errors with their place.
+use Rattle.std.proofs.{Common.{IsTrue, ap, arith, nat_eq, refl, rules, ◌&&◌, ◌↔◌, ◌≡◌}, lemmas.Bool.Decides.{Decides-and}}
+use Rattle.std.specs.{Option.{option_eq}, Prelude.{Option, ℕ}}
 use Rattle.tz_base.specs.{contracts.error.ErrorPartialEq.TheImpl.{eq-value as error_eq}, contracts.error.ExpectedPartialEq.TheImpl.{eq-value as expected_eq}}
-use Rattle.tz_base.specs.{declared.error.Error.{Error}, declared.error.Expected.{Expected}}
+use Rattle.tz_base.specs.{declared.error.Error.{Error}, declared.error.Expected.{Expected}, declared.parse_error.ParseError.{ParseError}}
 use Rattle.tz_base.specs.declared.error.Error.TheVariants.{DateTime, FindLocalTimeType, InvalidSlice, InvalidTzFile, InvalidTzString, LocalTimeType, MissingTag}
 use Rattle.tz_base.specs.declared.error.Error.TheVariants.{OutOfMemory, OutOfRange, ParseInt, ProjectDateTime, TimeZone, TransitionRule, UnexpectedEnd}
 use Rattle.tz_base.specs.declared.error.Error.TheVariants.{UnsupportedTzFile, UnsupportedTzString, Utf8}
@@ -40,3 +41,9 @@ error_self a = search (rules, expected_self)
 
 pub error_exact : (a b : Error) → IsTrue (error_eq.it a b) ↔ (a ≡ b)
 error_exact a b = (λ h. error_from a b h, λ e. rw e (error_self b))
+
+position_exact : (u v : Option ℕ) → IsTrue (option_eq nat_eq u v) ↔ (u ≡ v)
+position_exact u v = search rules
+
+pub parse_error_exact : (a b : ParseError) → IsTrue (error_eq.it a.error b.error && option_eq nat_eq a.position b.position) ↔ (a ≡ b)
+parse_error_exact a b = grind (arith, Decides-and _ _ (error_exact a.error b.error) (position_exact a.position b.position))

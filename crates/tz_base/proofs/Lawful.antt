@@ -5,7 +5,7 @@ use Rattle.std.proofs.lemmas.Int.{ints}
 use Rattle.std.specs.Bool.{Decides}
 use Rattle.tz_base.specs.{Errors.{error_number}, declared.error.Error.{Error}}
 use Rattle.tz_base.specs.Fronts.{AllOf, NoneFirst, after_run, exact_at, int_at, is_digit, number_within, optional_tag_at, run_of, tag_at, value_from}
-use Rattle.tz_base.specs.Grammar.{Byte, ByteFault, Check, Ended, Exact, Grammar, HasFault, IsNumber, IsRun, Marked, Nothing, Number, NumberFault, Refused, Rest}
+use Rattle.tz_base.specs.Grammar.{At, Byte, ByteFault, Check, Ended, Exact, Grammar, HasFault, Here, IsNumber, IsRun, Marked, Nothing, Number, NumberFault, Refused, Rest}
 use Rattle.tz_base.specs.Grammar.{Run, Spells, Then, is_end, read}
 use Rattle.tz_base.specs.Refusals.{Refusal, error}
 use Rattle.tz_base.specs.declared.error.Error.TheVariants.{ParseInt}
@@ -95,3 +95,5 @@ lawful (Exact n) bytes = exact_read n bytes
 lawful Rest bytes = rest_read bytes
 lawful (Refused refusal) bytes = refused_read refusal bytes
 lawful (Check P test refusal v) bytes = check_read P test.passes test.decides refusal v bytes
+lawful (Here f) bytes = lawful (f bytes) bytes
+lawful (At place g) bytes = lawful g bytes

@@ -1,5 +1,7 @@
 -- Longest runs, and what digits stand for.
-use Rattle.std.proofs.Common.{Bool, Err, List, Ok, Result, add-one, arith, drop, drop-cons, false, get_or, length, refl, suc, sym, true, ℕ, [], ◌*◌, ◌++◌, ◌+◌}
+use Rattle.std.proofs.Common.{Bool, Err, List, Ok, Result, add-one, arith, drop, drop-cons, false, get_or, length, refl, subst, suc, sym, true, ℕ, [], ◌*◌, ◌++◌, ◌+◌}
+use Rattle.std.specs.Fn.{FnReturnsAt}
+use denote.{Param.Members.{Shared}, Ref.{Bor}}
 use Rattle.std.proofs.Common.{◌-◌, ◌<◌, ◌∷◌, ◌≡◌, ◌≤◌}
 use Rattle.std.proofs.lemmas.Bool.Decides.{nat_tests}
 use Rattle.tz_base.specs.{Fronts.{AllOf, after_run, int_at, is_digit, number_within, run_of, value_from, ◌>>=◌}, declared.error.Error.{Error}}
@@ -37,3 +39,7 @@ runs_are p bytes xs ys e passes stops = let r = run_is p xs ys passes stops in (
 
 -- a number grows with each digit, and stays above its limit
 pub ruleset grown = (next_value, value_grows, above_is)
+
+-- what a test says of a byte that it was called with, if each of its calls says p
+pub tested : {F : Type 0} (g : Shared F (Bor ℕ × Unit {0}) Bool) {f : F} {b : ℕ} {r : Bool} (p : ℕ → Bool) → ((shown : Bor ℕ) → g.post f (shown, tt) r → r ≡ p shown.now) → FnReturnsAt g f b r → p b ≡ r
+tested g {r = r} p each h = subst (λ k. p k ≡ r) h.shows (sym (each h.shown h.says.met))

@@ -1,7 +1,7 @@
--- Grammars. One value says three things of bytes: which value their front spells, with which error they are rejected if it
--- spells none, and what a reader reads. `lawful` (proofs/Lawful) proves for every grammar that what is read is what is
--- spelled, and that an error is the one of the first fault.
-use Rattle.std.specs.Prelude.{ℕ, ◌≡◌, ◌≢◌, ◌<◌, ◌≤◌, ◌⊎◌, Bool, true, false, if◌then◌else◌, List, [], ◌∷◌, ◌++◌, length, Result, Ok, Err}
+-- Grammars. One value says four things of bytes: which value their front spells, with which error they are rejected if it
+-- spells none, where that fault is, and what a reader reads. `lawful` (proofs/Lawful) proves for every grammar that what is
+-- read is what is spelled, and that an error is the one of the first fault.
+use Rattle.std.specs.Prelude.{ℕ, ◌≡◌, ◌≢◌, ◌<◌, ◌≤◌, ◌-◌, ◌⊎◌, Bool, true, false, if◌then◌else◌, List, [], ◌∷◌, ◌++◌, length, Result, Ok, Err}
 use Rattle.std.specs.Int.{w32, from_be_bytes}
 use Rattle.tz_base.specs.Fronts.{is_digit, value_from, AllOf, NoneFirst, AllDigits, optional_tag_at, tag_at, int_at, exact_at, run_of, after_run}
 use Rattle.tz_base.specs.Fronts as fronts
@@ -34,6 +34,10 @@ pub data Grammar : Type 0 → Type 1 where
   Refused : {X : Type 0} → Refusal → Grammar X
   -- no bytes, which spell that value if P holds, and are rejected with that error if it does not
   Check : {X : Type 0} (P : Type 0) → Test P → Refusal → X → Grammar X
+  -- the grammar that the bytes from here on name, which it names only to say where a fault is
+  Here : {X : Type 0} → (List ℕ → Grammar X) → Grammar X
+  -- the grammar, with its fault where those bytes begin
+  At : {X : Type 0} → List ℕ → Grammar X → Grammar X
 
 infixl 10 ◌>>=◌
 abbrev pub ◌>>=◌ : {X Y : Type 0} → Grammar X → (X → Grammar Y) → Grammar Y
@@ -86,6 +90,8 @@ Spells (Exact count) bytes some rest = (bytes ≡ some ++ rest) × (length some 
 Spells Rest bytes some rest = (some ≡ bytes) × (rest ≡ [])
 Spells (Refused refusal) bytes x rest = ⊥
 Spells (Check P test refusal v) bytes x rest = P × (x ≡ v) × (bytes ≡ rest)
+Spells (Here f) bytes x rest = Spells (f bytes) bytes x rest
+Spells (At place g) bytes x rest = Spells g bytes x rest
 
 -- ---- its faults: the first parts are spelled, and the next one is rejected with the error
 abbrev pub ByteFault : ℕ → List ℕ → Error → Type 0
@@ -113,6 +119,8 @@ HasFault (Exact count) bytes e = (length bytes < count) × (e ≡ UnexpectedEnd 
 HasFault Rest bytes e = ⊥
 HasFault (Refused refusal) bytes e = e ≡ error refusal
 HasFault (Check P test refusal v) bytes e = (P → ⊥) × (e ≡ error refusal)
+HasFault (Here f) bytes e = HasFault (f bytes) bytes e
+HasFault (At place g) bytes e = HasFault g bytes e
 
 -- ---- what a reader reads: the value with the bytes after it, or the error
 abbrev pub is_end : List ℕ → Bool
@@ -134,6 +142,33 @@ read (Exact count) bytes = exact_at count bytes
 read Rest bytes = Ok (bytes, [])
 read (Refused refusal) bytes = Err (error refusal)
 read (Check P test refusal v) bytes = fronts.◌>>=◌ (checked test.passes refusal v) (λ x. Ok (x, bytes))
+read (Here f) bytes = read (f bytes) bytes
+read (At place g) bytes = read g bytes
+
+-- ---- where the fault is: the bytes from it on. That is where the part that is rejected begins, or the end if bytes are
+-- missing; `At` moves it to the field whose value is rejected
+abbrev pub if_read : {X : Type 0} → Result (X × List ℕ) Error → (X → List ℕ → List ℕ) → List ℕ → List ℕ
+if_read (Ok p) next here = next p.0 p.1
+if_read (Err e) next here = here
+
+abbrev pub from_fault : {X : Type 0} → Grammar X → List ℕ → List ℕ
+from_fault (Then g f) bytes = if_read (read g bytes) (λ x after. from_fault (f x) after) (from_fault g bytes)
+from_fault (Marked tag g h) bytes = let mark = optional_tag_at (tag ∷ []) bytes in if mark.0 then from_fault g mark.1 else from_fault h mark.1
+from_fault (Ended g h) bytes = if is_end bytes then from_fault g bytes else from_fault h bytes
+from_fault (Exact count) bytes = []
+from_fault (Here f) bytes = from_fault (f bytes) bytes
+from_fault (At place g) bytes = place
+from_fault g bytes = bytes
+
+-- where it is, as the number of bytes in front of it
+abbrev pub fault_position : {X : Type 0} → Grammar X → List ℕ → ℕ
+fault_position g bytes = length bytes - length (from_fault g bytes)
+
+-- what a reader returned, seen by `view`, and the bytes that are left for the next one: the value and the bytes after it, or
+-- the error and the bytes from the fault on
+abbrev pub IsRead : {X Y : Type 0} → Grammar Y → List ℕ → (X → Y) → Result X Error → List ℕ → Type 0
+IsRead g bytes view (Ok x) left = read g bytes ≡ Ok (view x, left)
+IsRead g bytes view (Err e) left = (read g bytes ≡ Err e) × (left ≡ from_fault g bytes)
 
 -- ---- a big-endian number of four bytes
 unfoldable pub be_u32 : Grammar ℕ

@@ -2,6 +2,7 @@
 
 ghost use Rattle.std.specs.Prelude.{◌≡◌, ◌≤◌, ◌<◌, ◌++◌, [], true, false, length, slice_get, slice_index, OnErr, IfOk};
 ghost use Rattle.std.specs.Prelude.{IsTrue, ◌↔◌, EachIndex};
+ghost use Rattle.std.specs.Fn.{FnReturnsAt};
 ghost use Rattle.std.specs.Option.{option_copied};
 ghost use Rattle.tz_base.specs.Grammar.{be_u32, read};
 ghost use Rattle.tz_base.specs.Fronts.{Gives, exact_at, tag_at, optional_tag_at, int_at, number_within, is_digit};
@@ -124,15 +125,15 @@ impl<'a> Cursor<'a> {
     /// Returns the longest run of next bytes for which `f` holds, and goes past it.
     ///
     /// Requires: `f` may be called with every byte.
-    pub fn read_while<F: Fn(u8) -> bool + Drop>(&mut self, f: F) -> &'a [u8]
+    pub fn read_while<F: Fn(&u8) -> bool + Drop>(&mut self, f: F) -> &'a [u8]
         requires { F.IsAlwaysCallable f }
         ensures whole { result.now ++ self.new ≡ self.old }
-        ensures run { EachIndex result.now (λ k. F.post f (slice_index result.now k) true) }
-        ensures stop { 0 < length self.new → F.post f (slice_index self.new 0) false }
+        ensures run { EachIndex result.now (λ k. FnReturnsAt F.Fn f (slice_index result.now k) true) }
+        ensures stop { 0 < length self.new → FnReturnsAt F.Fn f (slice_index self.new 0) false }
     {
         let bytes = self.rest;
         let mut n = 0;
-        while n < bytes.len() && f(bytes[n]) {
+        while n < bytes.len() && f(&bytes[n]) {
             n += 1;
         }
         let (run, rest) = bytes.split_at(n);
@@ -143,15 +144,15 @@ impl<'a> Cursor<'a> {
     /// Returns the longest run of next bytes for which `f` fails, and goes past it.
     ///
     /// Requires: `f` may be called with every byte.
-    pub fn read_until<F: Fn(u8) -> bool + Drop>(&mut self, f: F) -> &'a [u8]
+    pub fn read_until<F: Fn(&u8) -> bool + Drop>(&mut self, f: F) -> &'a [u8]
         requires { F.IsAlwaysCallable f }
         ensures whole { result.now ++ self.new ≡ self.old }
-        ensures run { EachIndex result.now (λ k. F.post f (slice_index result.now k) false) }
-        ensures stop { 0 < length self.new → F.post f (slice_index self.new 0) true }
+        ensures run { EachIndex result.now (λ k. FnReturnsAt F.Fn f (slice_index result.now k) false) }
+        ensures stop { 0 < length self.new → FnReturnsAt F.Fn f (slice_index self.new 0) true }
     {
         let bytes = self.rest;
         let mut n = 0;
-        while n < bytes.len() && !f(bytes[n]) {
+        while n < bytes.len() && !f(&bytes[n]) {
             n += 1;
         }
         let (run, rest) = bytes.split_at(n);
@@ -171,11 +172,7 @@ impl<'a> Cursor<'a> {
         ensures limit { IfOk result (λ n. n ≤ max) }
     {
         let mut ahead = Cursor { rest: self.rest };
-        let digits = ahead.read_while(
-            |b: u8| -> bool
-                ensures { result ≡ is_digit b }
-            { b.is_ascii_digit() },
-        );
+        let digits = ahead.read_while(u8::is_ascii_digit);
         let n = number(digits, max)?;
         self.rest = ahead.rest;
         Ok(n)

@@ -5,12 +5,14 @@ ghost use Rattle.tz_base.specs.LocalTypes.{LocalType};
 ghost use Rattle.tz_base.specs.declared.change.Change.{Change as ClockChange};
 ghost use Rattle.tz_base.specs.declared.error.Error.{Error as Refusal};
 ghost use Rattle.tz_base.specs.declared.error.Expected.{Expected as Wanted};
+ghost use Rattle.tz_base.specs.declared.parse_error.ParseError.{ParseError as PlacedError};
 ghost use Rattle.tz_base.specs.declared.span.Span.{Span as Stretch};
 
 use crate::change::Change;
 use crate::error::{Error, Expected};
 use crate::local_time_type::LocalTimeType;
 use crate::name::TimeZoneName;
+use crate::parse_error::ParseError;
 use crate::span::Span;
 
 /// Names are equal if and only if their bytes are. A clone is the value, and does not fail.
@@ -59,4 +61,13 @@ pub fn errors()
     ensures equal { (a b : Refusal) → IsTrue (⟦<Error as PartialEq>⟧.eq a b) ↔ (a ≡ b) }
     ensures clone { (a b : Refusal) → ⟦<Error as Clone>⟧.is_clone a b ↔ (b ≡ a) }
     ensures infallible { (a : Refusal) → ⟦<Error as Clone>⟧.is_infallible a }
+{}
+
+/// Errors with their place are equal if and only if their errors and their places are. A clone is the
+/// value, and does not fail.
+#[tactic(auto, using(crate::proofs::ErrorEquality::parse_error_exact))]
+pub fn parse_errors()
+    ensures equal { (a b : PlacedError) → IsTrue (⟦<ParseError as PartialEq>⟧.eq a b) ↔ (a ≡ b) }
+    ensures clone { (a b : PlacedError) → ⟦<ParseError as Clone>⟧.is_clone a b ↔ (b ≡ a) }
+    ensures infallible { (a : PlacedError) → ⟦<ParseError as Clone>⟧.is_infallible a }
 {}

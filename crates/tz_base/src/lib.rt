@@ -8,6 +8,7 @@ mod error;
 pub mod laws;
 mod local_time_type;
 mod name;
+mod parse_error;
 mod span;
 
 pub use change::Change;
@@ -15,4 +16,5 @@ pub use cursor::Cursor;
 pub use error::{Error, Expected};
 pub use local_time_type::LocalTimeType;
 pub use name::TimeZoneName;
+pub use parse_error::ParseError;
 pub use span::Span;

@@ -1,8 +1,8 @@
 -- Where all moments keep away from the ends of their years, the changes of a year come at its own two moments.
 use Rattle.tz_info.proofs.Words.{Alternate, AlternateAt, Bool, Change, HasNoChange, IsAlternateRule, IsCalmRule, IsChange, IsNearest, IsOfYear, IsRuleYear}
-use Rattle.tz_info.proofs.Words.{IsYearOf, None, Option, ap, arith, days_at_least, end_in, false, floors, inl, inr, ints, is_dst_by_one, new_year, nearer_one}
+use Rattle.tz_info.proofs.Words.{IsYearOf, Option, ap, arith, days_at_least, end_in, false, floors, inl, inr, ints, is_dst_by_one, nearer_one}
 use Rattle.tz_info.proofs.Words.{not, pos, refl, start_in}
-use Rattle.tz_info.proofs.Words.{sym, true, turn_of, type_when, year_start, year_step, ℤ, ⊎_elim, ◌*ℤ◌, ◌+ℤ◌, ◌-ℤ◌, ◌∙◌, ◌≡◌, ◌≢◌, ◌≤ℤ◌, ◌⊎◌}
+use Rattle.tz_info.proofs.Words.{sym, true, turn_of, type_when, year_step, ℤ, ⊎_elim, ◌-ℤ◌, ◌∙◌, ◌≡◌, ◌≢◌, ◌⊎◌}
 use Rattle.tz_info.proofs.ChangeSearch.{IsAsked, asked, nearest_either, nearest_moved}
 use Rattle.tz_info.proofs.ChangingYears.{calm_margin, calm_type, differ_by, none_calm, steady_alike}
 use Rattle.tz_info.proofs.{KindLaws.{IsMargin}, Neighbours.{second_high, second_low}}

@@ -384,6 +384,23 @@ stretch_between z e u v b t valid made h low high has from until = type_between 
 pub index_between : (z : Zone) (e : Entries) (u : ℤ) (b : Between) → IsValid z → AreEntries z e → IsBetween e u b → b.index < length z.types
 index_between z e u b valid made h = let some = h.some in rw h.index (index_below z e h.place valid made (omega arith))
 
+-- the second of which they are asked is one of them
+since_place : (e : Entries) (u from : ℤ) (k : ℕ) → AreRising e.items → k ≤ length e.items → k ≡ count_at e u → from ≡ begin_of e.items k → SFits w64 u → from ≤ℤ u
+since_place e u from zero rising few come begin fits = omega (arith, ints)
+since_place e u from (suc j) rising few come begin fits =
+    let d : Transition = record { unix_leap_time = pos 0; type_index = 0 } in
+    let same : suc j ≡ j + 1 = omega arith in
+    let first = begin ∙ ap (λ i. begin_of e.items i) same ∙ begin_next e.items j d (omega arith) in
+    let r = (come_by e j d u rising (omega arith)).0 (omega arith) in omega (arith, ints)
+
+pub inside_between : (z : Zone) (e : Entries) (u : ℤ) (b : Between) → AreEntries z e → IsBetween e u b → SFits w64 u → (b.from ≤ℤ u) × (u <ℤ b.until)
+inside_between z e u b made h fits =
+    let d : Transition = record { unix_leap_time = pos 0; type_index = 0 } in
+    let come = h.come in let inside = h.some in let end = h.until d in (
+      since_place e u b.from h.place made.rising (omega arith) come h.from fits,
+      by_lt_z u b.until (λ q. q) (λ q. let r = (come_by e h.place d u made.rising inside).1 (omega (arith, ints)) in absurd (omega arith)),
+    )
+
 pub span_between : (z : Zone) (e : Entries) (u : ℤ) (b : Between) (t : LocalType) → IsValid z → AreEntries z e → IsBetween e u b → IsTrue b.is_span → SFits w64 u → SFits w64 b.from → SFits w64 b.until
     → HasType z b.index t → IsSpanAt (TypeAt z) u (record { local_time_type = t; from = Some b.from; until = Some b.until })
 span_between z e u b t valid made h is fits low high has =

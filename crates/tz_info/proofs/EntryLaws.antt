@@ -3,12 +3,12 @@ use Rattle.std.proofs.Math.Seq.{take-suc}
 use Rattle.std.proofs.lemmas.List.{take-append-le}
 use Rattle.std.proofs.lemmas.List.Elements.{filter-append}
 use Rattle.tz_info.proofs.Words.{AreLeapSeconds, AreRising, Bool, IsFromLast, IsLeapTime, IsLeapTimeRefused, IsValid, LeapSecond, List, SFits, Transition, Zone}
-use Rattle.tz_info.proofs.Words.{all_pairs_push, append-nil, ap, arith, by_lt_z, cases_lt, correction_at, false, get_or, get_or_append_left, get_or_default, get_or_push, index_of}
+use Rattle.tz_info.proofs.Words.{all_pairs_push, append-nil, ap, arith, by_lt_z, cases_lt, false, get_or, get_or_append_left, get_or_default, get_or_push, index_of}
 use Rattle.tz_info.proofs.Words.{inl, inr, int_le, ints, last_else, le_false, le_true, length, length_push, map, nat_tests, pos, passed, refl, slice_get, slice_get-get_or, Option, Some, None, suc, sym}
-use Rattle.tz_info.proofs.Words.{take, take_all, true, w64, zero, ℕ, ℤ, [], ◌++◌, ◌+ℤ◌, ◌+◌, ◌-◌, ◌==◌, ◌<ℤ◌, ◌<◌, ◌↔◌, ◌∙◌, ◌∷◌, ◌≡◌, ◌≢◌, ◌≤ℤ◌, ◌≤◌, ◌⊎◌}
+use Rattle.tz_info.proofs.Words.{take, take_all, true, w64, zero, ℕ, ℤ, [], ◌++◌, ◌+◌, ◌-◌, ◌==◌, ◌<ℤ◌, ◌<◌, ◌↔◌, ◌∙◌, ◌∷◌, ◌≡◌, ◌≢◌, ◌≤ℤ◌, ◌≤◌, ◌⊎◌}
 use Rattle.std.specs.Prelude.{option_to_list}
 use Rattle.std.proofs.lemmas.Option.{slice_get_within}
-use Rattle.tz_info.proofs.{LeapSearch.{own_leap_time}, Prefixes.{last_taken}, SegmentLaws.{come_by_time, not_later, place_most}, ZoneChanges.{refused_on}, ZoneLaws.{leap_time_decided}}
+use Rattle.tz_info.proofs.{LeapSearch.{own_leap_time}, Prefixes.{last_taken}, SegmentLaws.{come_by_time, not_later, place_most}, ZoneChanges.{refused_on}}
 use Rattle.tz_info.specs.Steps.Entries.{AreBefore, AreEntries, EndsAt, IsAdded, IsStartIn, NeverComes, added, idle, last_index, none_there, one_there}
 
 -- ---- lists with one item more
@@ -310,13 +310,6 @@ own_entries z valid none differ = record {
 -- ---- the second at which a transition comes
 pub never_then : (leaps : List LeapSecond) (x start : ℤ) → ((u y : ℤ) → IsLeapTime leaps u y → (x ≤ℤ y) ↔ (start ≤ℤ u)) → pos 9_223_372_036_854_775_807 <ℤ start → NeverComes leaps x
 never_then leaps x start reached late u y f l = by_lt_z y x (λ h. h) (λ h. let a = (reached u y l).0 h in absurd (omega (arith, ints)))
-
--- before a second with a leap time each has one
-pub leap_time_before : (leaps : List LeapSecond) (u v y : ℤ) → AreLeapSeconds leaps → u ≤ℤ v → IsLeapTime leaps v y → IsLeapTime leaps u (u +ℤ correction_at leaps u)
-leap_time_before leaps u v y valid early l = elim (leap_time_decided leaps u) [
-  | inl x ↦ record { sum = refl; fits = x.1.fits }
-  | inr r ↦ absurd (refused_on leaps u v y valid early r l)
-]
 
 pub never_refused : (leaps : List LeapSecond) (x start : ℤ) → AreLeapSeconds leaps → ((u y : ℤ) → IsLeapTime leaps u y → (x ≤ℤ y) ↔ (start ≤ℤ u)) → IsLeapTimeRefused leaps start
     → NeverComes leaps x

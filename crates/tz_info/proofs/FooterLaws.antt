@@ -1,11 +1,11 @@
 -- The law of footers.
 use Rattle.tz_base.specs.declared.error.Error.TheVariants.{InvalidTzFile, Utf8}
 use Rattle.tz_base.specs.declared.error.Expected.TheVariants.{FooterBetweenNewlines, FooterInUtf8, TzTextInFooter}
-use Rattle.tz_info.proofs.Words.{Bool, Colon, Decided, Decides, Decides-eqb, Decides-or, Err, Error, FooterFault, Gives, HasNoZero, HasText, In_text}
-use Rattle.tz_info.proofs.Words.{IsBetweenNewlines, IsFooter, IsTextFault, IsTzText, IsUtf8, IsUtf8-from_is_utf8, List, No_newlines, None, Not_utf8, Ok, Option}
-use Rattle.tz_info.proofs.Words.{Result, SaysRule, Some, TransitionRule, Zero, arith, choice, done, ends_with, false, false_unless, footer_at, inl}
-use Rattle.tz_info.proofs.Words.{inr, is_between_newlines, is_no_text, is_utf8-from_IsUtf8, is_zero, like, list_any, made, nat_eq, nat_tests, read, refl}
-use Rattle.tz_info.proofs.Words.{refused, rule_in, rule_or_none, said, slice_index, starts_with, subst, sym, text as tz_text, trimmed, ℕ, [], ◌==◌, ◌∷◌, ◌≡◌}
+use Rattle.tz_info.proofs.Words.{Bool, Colon, Decided, Decides, Decides-eqb, Decides-or, Error, FooterFault, HasNoZero, HasText, In_text}
+use Rattle.tz_info.proofs.Words.{IsBetweenNewlines, IsFooter, IsTextFault, IsTzText, IsUtf8, IsUtf8-from_is_utf8, List, No_newlines, None, Not_utf8, Option}
+use Rattle.tz_info.proofs.Words.{SaysRule, Some, TransitionRule, Zero, arith, choice, done, ends_with, false, false_unless, footer_at, inl}
+use Rattle.tz_info.proofs.Words.{inr, is_between_newlines, is_no_text, is_utf8-from_IsUtf8, is_zero, like, list_any, made, nat_eq, nat_tests, refl}
+use Rattle.tz_info.proofs.Words.{refused, rule_in, rule_or_none, said, slice_index, starts_with, subst, sym, trimmed, ℕ, [], ◌==◌, ◌∷◌, ◌≡◌}
 use Rattle.tz_info.proofs.Words.{◌≢◌, ◌⊎◌}
 use Rattle.std.proofs.{lemmas.Bool.{or_parts, true_from_ne_false}, lemmas.Slice.Eq.{ends_is, starts_is}}
 use Rattle.tz_info.proofs.{TextLaws.{text_law}, TrimLaws.{trim_again, trim_is}}
@@ -24,12 +24,6 @@ no_zero_is (b ∷ bs) h = let p = or_parts (b == 0) (list_any is_zero bs) h in l
 no_zero_again : (text : List ℕ) → HasNoZero text → list_any is_zero text ≡ false
 no_zero_again [] h = refl
 no_zero_again (b ∷ bs) h = let n = h.0 in let e : (b == 0) ≡ false = grind (arith, nat_tests) in rw e (no_zero_again bs h.1)
-
--- what the reader of TZ strings answers
-pub rule_given : (extended : Bool) (text rest : List ℕ) (r : Result TransitionRule Error) → Gives (λ rule. (rule, rest)) r (read (tz_text extended) text) → Gives (λ rule. rule) r (rule_in extended text)
-unfolding rule_in
-rule_given extended text rest (Ok rule) g = rw g refl
-rule_given extended text rest (Err e) g = rw g refl
 
 pub spelled_law : (extended : Bool) (text : List ℕ) → Decided TransitionRule (rule_in extended text) (IsTzText extended text) (IsTextFault extended text)
 unfolding rule_in

@@ -1,9 +1,9 @@
 -- What follows for leap seconds from their being valid: the thresholds rise, so the passed entries are the first ones.
 use Rattle.tz_base.specs.declared.error.Expected.TheVariants.{UnixTimeOf64Bits}
-use Rattle.tz_info.proofs.Words.{AreLeapSeconds, IsLeapTime, IsLeapTimeRefused, IsNextLeap, IsOneStep, LeapSecond, List, SFits, add-one, ap, arith, below_more}
-use Rattle.tz_info.proofs.Words.{correction_before, corrections, count_first, count_least, expected_of_leap_time, false_unless, filter_first, get_or}
-use Rattle.tz_info.proofs.Words.{get_or_default, inl, inr, int_le, int_lt, ints, last_else, le_false, le_is, le_true, least_time, length, lt_false, lt_true}
-use Rattle.tz_info.proofs.Words.{mapped_at, passed_count, pos, refl, rises, suc, sym, take, thresholds, w64, zero, ℕ, ℤ, [], ◌+ℤ◌, ◌+◌, ◌-ℤ◌, ◌<ℤ◌, ◌<◌, ◌∷◌}
+use Rattle.tz_info.proofs.Words.{AreLeapSeconds, IsNextLeap, IsOneStep, LeapSecond, List, add-one, ap, arith}
+use Rattle.tz_info.proofs.Words.{correction_before, corrections, expected_of_leap_time, false_unless, filter_first, get_or}
+use Rattle.tz_info.proofs.Words.{get_or_default, inl, inr, int_le, int_lt, ints, last_else, le_is, least_time, length, lt_false, lt_true}
+use Rattle.tz_info.proofs.Words.{pos, refl, rises, suc, sym, take, thresholds, zero, ℕ, ℤ, [], ◌+ℤ◌, ◌+◌, ◌-ℤ◌, ◌<ℤ◌, ◌<◌, ◌∷◌}
 use Rattle.tz_info.proofs.Words.{◌≡◌, ◌≤ℤ◌, ◌≤◌}
 use Rattle.tz_info.proofs.Prefixes.{last_taken}
 
@@ -31,61 +31,9 @@ threshold_at p (e ∷ es) (suc k) d z h = threshold_at e.correction es k d z (om
 pub threshold_apart : (a b : LeapSecond) (p : ℤ) → IsNextLeap a b → IsOneStep p a.correction → ((a.unix_leap_time -ℤ p) +ℤ pos 2_419_198) ≤ℤ (b.unix_leap_time -ℤ a.correction)
 threshold_apart a b p n s = let l = n.later in elim s [ inl e ↦ omega (arith, ints) | inr e ↦ omega (arith, ints) ]
 
-threshold_step : (p : ℤ) (es : List LeapSecond) (z : ℤ) → Follow p es → (i : ℕ) → suc i < length es → (get_or (thresholds p es) i z +ℤ pos 2_419_198) ≤ℤ get_or (thresholds p es) (suc i) z
-threshold_step p [] z f i h = absurd (omega arith)
-threshold_step p (e ∷ []) z f i h = absurd (omega arith)
-threshold_step p (e ∷ g ∷ es) z f zero h = threshold_apart e g p (f.next 0 e (omega arith)) (f.step e (omega arith))
-threshold_step p (e ∷ g ∷ es) z f (suc i) h = threshold_step e.correction (g ∷ es) z (follow_tail p e (g ∷ es) f) i (omega arith)
-
 -- the threshold of the entry at place k
 abbrev pub threshold : List LeapSecond → ℕ → ℤ
 threshold es k = get_or (thresholds (pos 0) es) k (pos 0)
-
--- where the first i entries are passed and the next is not, i are passed
-passed_first : (es : List LeapSecond) (i : ℕ) (u : ℤ) → AreLeapSeconds es → i ≤ length es → ((k : ℕ) → k < i → threshold es k ≤ℤ u) → (i < length es → u <ℤ threshold es i) → passed_count es u ≡ i
-passed_first es i u valid h passed stops =
-    let n = threshold_count (pos 0) es in
-    let xs : List ℤ = thresholds (pos 0) es in
-    count_first (λ t. int_le t u) xs i (omega arith)
-    (λ k d l. rw (get_or_default xs k d (pos 0) (omega arith)) (le_true _ _ (passed k l)))
-    (λ k d l m.
-    let r = rises (λ j. get_or xs j (pos 0)) (length xs) (λ j b. let t = threshold_step (pos 0) es (pos 0) (follow es valid) j (omega arith) in omega (arith, ints)) i k l m in
-    rw (get_or_default xs k d (pos 0) m) (le_false (get_or xs k (pos 0)) u (omega (arith, ints))))
-
--- the value v is below the entry's leap time just where u is below the entry's threshold
-pub before_threshold : (es : List LeapSecond) (i : ℕ) (d : LeapSecond) (u v : ℤ) → i < length es → v ≡ u +ℤ last_else (pos 0) (corrections (take i es)) → v <ℤ (get_or es i d).unix_leap_time → u <ℤ threshold es i
-before_threshold es i d u v h e l = let t = threshold_at (pos 0) es i d (pos 0) h in omega (arith, ints)
-
-at_threshold : (es : List LeapSecond) (i : ℕ) (d : LeapSecond) (u v : ℤ) → i < length es → v ≡ u +ℤ last_else (pos 0) (corrections (take i es)) → (get_or es i d).unix_leap_time ≤ℤ v → threshold es i ≤ℤ u
-at_threshold es i d u v h e l = let t = threshold_at (pos 0) es i d (pos 0) h in omega (arith, ints)
-
--- the first i entries are passed at u, and v is u with the correction of the last of them
-pub record Passed (es : List LeapSecond) (u v : ℤ) (i : ℕ) : Type 0 where
-  pub value : v ≡ u +ℤ last_else (pos 0) (corrections (take i es))
-  pub passed : (k : ℕ) → k < i → threshold es k ≤ℤ u
-  pub fits : (k : ℕ) → k < i → SFits w64 (u +ℤ get_or (corrections es) k (pos 0))
-
-pub passed_more : (es : List LeapSecond) (i : ℕ) (d : LeapSecond) (u v s : ℤ) → i < length es → Passed es u v i → (get_or es i d).unix_leap_time ≤ℤ v → s ≡ u +ℤ (get_or es i d).correction → SFits w64 s → Passed es u s (i + 1)
-passed_more es i d u v s h p l e f = record {
-  value = rw (add-one, last_taken (λ (e : LeapSecond). e.correction) (pos 0) es i d h) e;
-  passed = below_more (λ k. threshold es k ≤ℤ u) i p.passed (at_threshold es i d u v h p.value l);
-  fits = below_more (λ k. SFits w64 (u +ℤ get_or (corrections es) k (pos 0))) i p.fits (rw (mapped_at (λ (e : LeapSecond). e.correction) es i d (pos 0) h) (rw e at f));
-}
-
-pub leap_time_found : (es : List LeapSecond) (i : ℕ) (u v : ℤ) → AreLeapSeconds es → i ≤ length es → Passed es u v i → (i < length es → u <ℤ threshold es i) → IsLeapTime es u v
-leap_time_found es i u v valid h p stops =
-    let e = passed_first es i u valid h p.passed stops in
-    record { sum = rw e p.value; fits = rw e p.fits }
-
-pub leap_time_refused : (es : List LeapSecond) (i : ℕ) (d : LeapSecond) (u v : ℤ) → i < length es → Passed es u v i → (get_or es i d).unix_leap_time ≤ℤ v → (SFits w64 (u +ℤ (get_or es i d).correction) → ⊥) → IsLeapTimeRefused es u
-leap_time_refused es i d u v h p l out =
-    let n = threshold_count (pos 0) es in
-    let all = below_more (λ k. threshold es k ≤ℤ u) i p.passed (at_threshold es i d u v h p.value l) in
-    record {
-      place = i;
-      passed = omega (arith, count_least (λ t. int_le t u) (thresholds (pos 0) es) (i + 1) (omega arith) (λ k e m. rw (get_or_default (thresholds (pos 0) es) k e (pos 0) (omega arith)) (le_true (threshold es k) u (all k m))));
-      leaves = λ f. out (rw (mapped_at (λ (e : LeapSecond). e.correction) es i d (pos 0) h) at f);
-    }
 
 -- the first i entries come before the leap time x, and v is the correction of the last of them
 pub record Before (es : List LeapSecond) (x v : ℤ) (i : ℕ) : Type 0 where

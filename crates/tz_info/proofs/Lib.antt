@@ -53,6 +53,7 @@ pub mod ZoneChanges
 pub mod SpanLaws
 pub mod TypedLaws
 pub mod LastSpanLaws
+pub mod FoldLaws
 pub mod SpanSearch
 pub mod RunLaws
 pub mod ShownSecondLaws

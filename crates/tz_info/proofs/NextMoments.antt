@@ -1,7 +1,7 @@
 -- A rule has one type from a second on, until the next moment of three years or the year's end.
-use Rattle.tz_info.proofs.Words.{Alternate, AlternateAt, Bool, IsAlternateRule, IsDstAt, IsInSomeYear, IsRuleYear, IsYearOf, LocalType, Precedes}
-use Rattle.tz_info.proofs.Words.{arith, end_in, false, floor_div, floors, ints, one_year, pos, start_in}
-use Rattle.tz_info.proofs.Words.{subst, true, year_start, ℤ, ⊎_elim, ◌*ℤ◌, ◌+ℤ◌, ◌-ℤ◌, ◌<ℤ◌, ◌≡◌, ◌≤ℤ◌, ◌⊎◌}
+use Rattle.tz_info.proofs.Words.{Alternate, AlternateAt, Bool, IsAlternateRule, IsDstAt, IsInSomeYear, IsRuleYear, IsYearOf, LocalType}
+use Rattle.tz_info.proofs.Words.{arith, end_in, floor_div, floors, one_year, pos, start_in}
+use Rattle.tz_info.proofs.Words.{subst, year_start, ℤ, ⊎_elim, ◌*ℤ◌, ◌+ℤ◌, ◌-ℤ◌, ◌<ℤ◌, ◌≡◌, ◌≤ℤ◌, ◌⊎◌}
 use Rattle.tz_info.proofs.Neighbours.{IsNear, ends_near, not_earlier, not_later, place, second_low, starts_near}
 
 -- in the year and in its neighbours no moment comes after u and before `next`

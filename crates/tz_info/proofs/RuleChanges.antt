@@ -3,10 +3,10 @@ use Rattle.std.proofs.lemmas.Bool.Decides.{Decides-int_eq}
 use Rattle.std.proofs.lemmas.Map.Made.{is_member-Decides}
 use Rattle.std.specs.Ordering.{int_eq}
 use Rattle.std.specs.Set.{is_member}
-use Rattle.tz_info.proofs.Words.{Alternate, AlternateAt, Bool, Change, DayTime, HasNoChange, IsAlternateRule, IsChange, IsDstAt, IsEarlierOf}
-use Rattle.tz_info.proofs.Words.{IsInSomeYear, IsInStretch, IsLaterOf, IsNearRuleTime, IsNearest, IsNearestChange, IsOfYear, IsOneOf, IsRuleDay, IsRuleTime}
+use Rattle.tz_info.proofs.Words.{Alternate, AlternateAt, Bool, Change, DayTime, IsAlternateRule, IsChange, IsDstAt, IsEarlierOf}
+use Rattle.tz_info.proofs.Words.{IsInSomeYear, IsLaterOf, IsNearest, IsOfYear, IsOneOf, IsRuleDay, IsRuleTime}
 use Rattle.tz_info.proofs.Words.{Contains, IsRuleYear, IsYearOf, LocalType, Option, Precedes, arith, by_lt_z, end_in, false, floor_div}
-use Rattle.tz_info.proofs.Words.{floors, get_or_default, inl, inr, ints, is_leap, kind_place, length, moment, moments_near, near_end, new_year, pos}
+use Rattle.tz_info.proofs.Words.{floors, get_or_default, inl, inr, ints, is_leap, kind_place, length, moment, moments_near, new_year, pos}
 use Rattle.tz_info.proofs.Words.{start_in, starts_rise, true, weekday_of, year_at, year_start, ℕ, ℤ, ◌*ℤ◌, ◌+ℤ◌, ◌+◌, ◌-ℤ◌}
 use Rattle.tz_info.proofs.Words.{◌<ℤ◌, ◌∙◌, ◌≡◌, ◌≤ℤ◌, ◌⊎◌}
 use Rattle.tz_info.proofs.{ChangeSearch.{decided, nearest_moved}, KindLaws.{kind_found}, Neighbours.{second_high, second_low, year_after}}

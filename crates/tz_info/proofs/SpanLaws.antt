@@ -4,7 +4,6 @@ use Rattle.tz_info.proofs.Words.{IsEndBy, IsFirstChange}
 use Rattle.tz_info.proofs.Words.{IsFirst, IsFromLast, IsInSpan, IsLast, IsLastChange, IsLeapTime, IsOutOfForce, IsRefusedBy, IsRuleOrNone}
 use Rattle.tz_info.proofs.Words.{IsRuleTime, IsSince, IsSpan, IsSpanAt, IsTypeRefused, IsTyped, IsUnixTime, IsUntil, IsValid, LeapSecond, List, LocalType}
 use Rattle.tz_info.proofs.Words.{None, Option, SFits, Some, Span, Transition, TransitionRule, TypeAt, Zone, ap, arith, by_leap_time, by_lt_z, by_rule, cases_lt}
-use Rattle.tz_info.proofs.Words.{false, true}
 use Rattle.tz_info.proofs.Words.{correction_before, floor_div, inl, inr, ints, last_transition, least_time, length, lies_in, neg_ℤ, option_map, passed_count}
 use Rattle.tz_info.proofs.Words.{pos, refl}
 use Rattle.tz_info.proofs.Words.{segment_of, subst, sym, w64, year_of, ℤ, ◌-ℤ◌, ◌-◌, ◌<ℤ◌, ◌<◌, ◌∙◌, ◌≡◌, ◌≤ℤ◌, ◌⊎◌}

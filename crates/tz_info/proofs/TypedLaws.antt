@@ -1,7 +1,7 @@
 -- The seconds at which a zone has a type.
-use Rattle.tz_info.proofs.Words.{Alternate as AlternateRule, AreLeapSeconds, IsFirstTyped, IsFromLast, IsLastTyped, IsSearched, IsLeapTime, IsLeapTimeRefused}
+use Rattle.tz_info.proofs.Words.{AreLeapSeconds, IsFirstTyped, IsFromLast, IsLastTyped, IsSearched, IsLeapTime, IsLeapTimeRefused}
 use Rattle.tz_info.proofs.Words.{IsRefusedBy, IsRuleOrNone, IsTypeRefused}
-use Rattle.tz_info.proofs.Words.{IsAfterTyped, IsTyped, IsValid, LeapSecond, List, None, Option, Some, TransitionRule, TypeAt, Zone, arith, by_leap_time}
+use Rattle.tz_info.proofs.Words.{IsAfterTyped, IsTyped, IsValid, LeapSecond, List, None, Option, Some, TransitionRule, Zone, arith, by_leap_time}
 use Rattle.tz_info.proofs.Words.{by_rule, inl, inr, ints, least_time, length, neg_ℤ}
 use Rattle.tz_info.proofs.Words.{SFits, by_lt_z, pos, refl, subst, w64, ℤ, ◌+ℤ◌, ◌-ℤ◌, ◌<ℤ◌, ◌<◌, ◌≡◌, ◌≤ℤ◌}
 use Rattle.tz_info.specs.declared.rule.transition_rule.TransitionRule.TheVariants.{Alternate, Fixed}

@@ -43,7 +43,7 @@ unfoldable pub use Rattle.naive_base.proofs.Words.{day_number, days_of_months, y
 pub use Rattle.naive_base.specs.Year.{IsDay}
 pub use Rattle.offset_core.specs.LocalResult.{map_of}
 pub use Rattle.tz_base.proofs.ForCallers.{Decided, IsExact, and_both, and_left, and_right, apart, bind, bind_err, by_error, choice, done, drop_front, either}
-pub use Rattle.tz_base.proofs.ForCallers.{exact_cut, false_unless, fault_low, fault_once, guard, lawful, like, made, ok_same, refused, runs_are, said}
+pub use Rattle.tz_base.proofs.ForCallers.{exact_cut, false_unless, fault_low, fault_once, guard, lawful, like, made, ok_same, refused, runs_are, said, tested}
 pub use Rattle.tz_base.proofs.ForCallers.{same_byte, type_exact, value_once}
 pub use Rattle.tz_base.specs.Errors.{IsOutOfMemory, error_number}
 pub use Rattle.tz_base.specs.Fronts.{Gives, ◌>>=◌}
@@ -80,6 +80,7 @@ pub use Rattle.tz_info.specs.FileHeaders.{HasOtherMagic, is_magic, magic, magic_
 pub use Rattle.tz_info.specs.FilePieces.{FilePieces, HasPieces, PieceFault}
 unfoldable pub use Rattle.tz_info.specs.FilePieces.{after_first_block, file, first_version, later_version}
 pub use Rattle.tz_info.specs.Footers.{Colon, FooterFault, HasText, In_text, IsBetweenNewlines, IsFooter, No_newlines, Not_utf8, SaysRule, Zero}
+pub use Rattle.tz_info.specs.Folds.{HasFold}
 pub use Rattle.tz_info.specs.Gaps.{HasGap, IsTypeBeforeGap}
 pub use Rattle.tz_info.specs.HeldChanges.{change_held, span_held}
 pub use Rattle.tz_info.specs.Leaps.{AreCounted, AreLeapSeconds, IsLeapTime, IsLeapTimeRefused, IsNear, IsNextLeap, IsOneStep, IsUnixTime}
@@ -163,7 +164,7 @@ pub use Rattle.tz_info.specs.Zones.{by_leap_time, by_rule, index_at, last_transi
 pub use Rattle.tz_info.specs.declared.file.header.Version.{Version}
 pub use Rattle.tz_info.specs.declared.file.reader.Lists.{Lists}
 pub use Rattle.tz_info.specs.declared.rule.season.Season.{Season}
-pub use Rattle.tz_info.specs.declared.rule.season.Turns.{Turns}
+pub use Rattle.tz_info.specs.declared.rule.moments.Turns.{Turns}
 pub use Rattle.tz_info.specs.declared.rule.day.DayForm.{DayForm}
 pub use Rattle.tz_info.specs.declared.rule.day.DayTime.{DayTime}
 pub use Rattle.tz_info.specs.declared.rule.transition_rule.TransitionRule.{TransitionRule}
@@ -176,6 +177,6 @@ pub use Rattle.tz_info.specs.declared.zone.pieces.Piece.{Piece}
 pub use Rattle.tz_info.specs.declared.zone.segments.Segment.{Segment}
 pub use Rattle.tz_info.specs.declared.zone.shown.Shown.{Shown}
 pub use Rattle.tz_info.specs.declared.zone.shown_seconds.ShownSeconds.{ShownSeconds}
-pub use Rattle.tz_info.specs.declared.zone.shown_seconds.TypedSecond.{TypedSecond}
+pub use Rattle.tz_info.specs.declared.change.TypedSecond.{TypedSecond}
 pub use Rattle.tz_info.specs.declared.zone.time_zone.TimeZone.{TimeZone}
 pub use Rattle.tz_info.specs.declared.zone.transition.Transition.{Transition}

@@ -6,7 +6,7 @@ use Rattle.tz_info.proofs.Words.{ints, is_between, is_leap, kind_place, pos, ref
 use Rattle.tz_info.proofs.Words.{◌*ℤ◌, ◌+ℤ◌, ◌-ℤ◌, ◌&&◌, ◌<◌, ◌∙◌, ◌≡◌, ◌≤ℤ◌}
 use Rattle.tz_info.specs.Steps.ChangingYears.{dst_near, flips_at, has_flip, is_changing, key_years, leap_place, moment_by, turns_in, year_key, years_near}
 use Rattle.tz_info.specs.Steps.Turns.{dst_by}
-use Rattle.tz_info.specs.declared.{rule.changing.YearsNear.{YearsNear}, rule.season.Turns.{Turns}}
+use Rattle.tz_info.specs.declared.{rule.changing.YearsNear.{YearsNear}, rule.moments.Turns.{Turns}}
 use Rattle.tz_info.proofs.ListLaws.{one_true}
 
 -- ---- the same seconds, all as much later

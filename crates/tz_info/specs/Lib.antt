@@ -13,6 +13,7 @@ pub mod Zones
 pub mod WallClocks
 pub mod Gaps
 pub mod Around
+pub mod Folds
 pub mod Changes
 pub mod HeldChanges
 pub mod ChangesLeft

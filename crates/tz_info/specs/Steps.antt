@@ -23,6 +23,7 @@ pub mod ContentReading
 pub mod FooterReading
 pub mod FileLists
 pub mod Gaps
+pub mod Folds
 pub mod Changes
 pub mod ChangeLists
 pub mod Beside

@@ -8,7 +8,7 @@ use Rattle.std.proofs.lemmas.Int.{ints}
 use Rattle.tz_base.specs.Names.{IsName, name_test, expected_of_name}
 use Rattle.tz_base.specs.Tests.{Test}
 use Rattle.tz_base.specs.LocalTypes.{LocalType}
-use Rattle.tz_base.specs.Grammar.{Grammar, Nothing, Marked, Optional, Ended, End, Byte, Run, Number, Check, ◌>>=◌, ◌>>◌, Spells, HasFault}
+use Rattle.tz_base.specs.Grammar.{Grammar, Nothing, Marked, Optional, Ended, End, Byte, Run, Number, Check, Here, At, ◌>>=◌, ◌>>◌, Spells, HasFault, fault_position}
 use Rattle.tz_base.specs.Grammar as grammar
 use Rattle.tz_base.specs.Refusals as refused
 use Rattle.tz_base.specs.declared.error.Error.{Error}
@@ -111,12 +111,16 @@ within_to limit h m s (a, b, c) = grind (arith, nat_tests)
 abbrev pub within_test : (limit h m s : ℕ) → Test (AreWithin limit h m s)
 within_test limit h m s = record { passes = are_within limit h m s; decides = (within_from limit h m s, within_to limit h m s) }
 
--- the seconds of a duration without its sign
+abbrev pub checked_seconds : ℕ → Bool → ℕ → ℕ → ℕ → Grammar ℤ
+checked_seconds limit negative h m s =
+    Check (AreWithin limit h m s) (within_test limit h m s) (refused.InvalidTzString expected.HoursMinutesAndSecondsWithinTheirLimits)
+    (signed_seconds negative h m s)
+
+-- the seconds of a duration without its sign; one out of its limits is rejected where its hours begin
 unfoldable pub duration : ℕ → Bool → Grammar ℤ
-duration limit negative = do
+duration limit negative = Here λ at_hours. do
   (h, m, s) ← hours_minutes_seconds
-  Check (AreWithin limit h m s) (within_test limit h m s) (refused.InvalidTzString expected.HoursMinutesAndSecondsWithinTheirLimits)
-      (signed_seconds negative h m s)
+  At at_hours (checked_seconds limit negative h m s)
 
 -- an offset, in seconds east of UTC: a text counts west, and so a minus leads east; its hours go to 23 (POSIX allows 24)
 unfoldable pub offset : Grammar ℤ
@@ -154,27 +158,34 @@ name = Marked less quoted (Run is_letter)
 unfoldable pub checked_day : DayForm → Grammar DayForm
 checked_day form = Check (IsRuleDay form) (rule_day_test form) (refused.TransitionRule (expected_of_day form)) form
 
+-- of a month, a week and a weekday, each with the place at which it begins, the place of the first that is out of its limits
+abbrev pub place_of_day : ℕ → ℕ → List ℕ → List ℕ → List ℕ → List ℕ
+place_of_day month week at_month at_week at_weekday =
+    if nat_le 1 month && nat_le month 12 then (if nat_le 1 week && nat_le week 5 then at_weekday else at_week) else at_month
+
 -- after `M`: month, week and weekday
 unfoldable pub month_date : Grammar DayForm
-month_date = do
+month_date = Here λ at_month. do
   month ← Number date_max
   Byte dot
-  week ← Number date_max
-  Byte dot
-  weekday ← Number date_max
-  checked_day (MonthWeekday month week weekday)
+  Here λ at_week. do
+    week ← Number date_max
+    Byte dot
+    Here λ at_weekday. do
+      weekday ← Number date_max
+      At (place_of_day month week at_month at_week at_weekday) (checked_day (MonthWeekday month week weekday))
 
 -- after `J`: the day of a common year
 unfoldable pub julian_date : Grammar DayForm
-julian_date = do
+julian_date = Here λ at_day. do
   n ← Number day_max
-  checked_day (Julian1 n)
+  At at_day (checked_day (Julian1 n))
 
 -- the days after 1 January
 unfoldable pub numbered_day : Grammar DayForm
-numbered_day = do
+numbered_day = Here λ at_day. do
   n ← Number day_max
-  checked_day (Julian0 n)
+  At at_day (checked_day (Julian0 n))
 
 unfoldable pub date : Grammar DayForm
 date = Marked letter_M month_date (Marked letter_J julian_date numbered_day)
@@ -229,45 +240,47 @@ given_offset = do
   Byte comma
   Nothing east
 
+-- if there is none, an offset out of its limits is rejected at the comma
 unfoldable pub dst_offset : ℤ → Grammar ℤ
-dst_offset std = Marked comma (next_hour std) given_offset
+dst_offset std = Here λ at_comma. Marked comma (At at_comma (next_hour std)) given_offset
 
 -- ---- the whole
 abbrev pub named_type : List ℕ → Bool → ℤ → LocalType
 named_type text dst offset = record { offset = offset; dst = dst; name = Some text }
 
--- the type of that name, if a type can have it
-unfoldable pub named : List ℕ → Bool → ℤ → Grammar LocalType
-named text dst offset = Check (IsName text) (name_test text) (refused.LocalTimeType (expected_of_name text)) (named_type text dst offset)
+-- the type of that name, if a type can have it; if not, the name is rejected where it begins
+unfoldable pub named : List ℕ → List ℕ → Bool → ℤ → Grammar LocalType
+named at_name text dst offset = At at_name
+    (Check (IsName text) (name_test text) (refused.LocalTimeType (expected_of_name text)) (named_type text dst offset))
 
 unfoldable pub end : Grammar (Unit {0})
 end = End (refused.InvalidTzString expected.NothingAfterText)
 
 -- one type
-unfoldable pub fixed : List ℕ → ℤ → Grammar TransitionRule
-fixed std_name std_offset = do
-  std ← named std_name false std_offset
+unfoldable pub fixed : List ℕ → List ℕ → ℤ → Grammar TransitionRule
+fixed at_name std_name std_offset = do
+  std ← named at_name std_name false std_offset
   Nothing (Fixed std)
 
 -- two types that take turns; their names are judged last
-unfoldable pub alternate : Bool → List ℕ → ℤ → Grammar TransitionRule
-alternate extended std_name std_offset = do
+unfoldable pub alternate : Bool → List ℕ → List ℕ → ℤ → Grammar TransitionRule
+alternate extended at_std std_name std_offset = Here λ at_dst. do
   dst_name ← name
   dst_offset ← dst_offset std_offset
   (start, stop) ← days extended
   end
-  std ← named std_name false std_offset
-  dst ← named dst_name true dst_offset
+  std ← named at_std std_name false std_offset
+  dst ← named at_dst dst_name true dst_offset
   Nothing (Alternate (record { std = std; dst = dst; start = start; end = stop }))
 
-unfoldable pub rule : Bool → List ℕ → ℤ → Grammar TransitionRule
-rule extended std_name std_offset = Ended (fixed std_name std_offset) (alternate extended std_name std_offset)
+unfoldable pub rule : Bool → List ℕ → List ℕ → ℤ → Grammar TransitionRule
+rule extended at_name std_name std_offset = Ended (fixed at_name std_name std_offset) (alternate extended at_name std_name std_offset)
 
 unfoldable pub text : Bool → Grammar TransitionRule
-text extended = do
+text extended = Here λ at_name. do
   std_name ← name
   std_offset ← offset
-  rule extended std_name std_offset
+  rule extended at_name std_name std_offset
 
 -- the bytes are a TZ string, with extensions or without, that spells the rule
 abbrev pub IsTzText : Bool → List ℕ → TransitionRule → Type 0
@@ -276,3 +289,7 @@ IsTzText extended bytes rule = Spells (text extended) bytes rule []
 -- what is wrong with a TZ string
 abbrev pub IsTextFault : Bool → List ℕ → Error → Type 0
 IsTextFault extended bytes e = HasFault (text extended) bytes e
+
+-- and where, as the number of bytes in front of it
+abbrev pub text_fault_position : Bool → List ℕ → ℕ
+text_fault_position extended bytes = fault_position (text extended) bytes

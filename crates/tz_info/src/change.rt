@@ -1,4 +1,4 @@
-//! Clock changes, made of two types, and spans between them, with references to the types.
+//! Clock changes, spans between them, and seconds, each with the types in force.
 
 ghost use Rattle.std.specs.Prelude.{◌≡◌, ◌≢◌, IsTrue, ◌↔◌, IfSome, MatchOption, Some, option_map};
 ghost use Rattle.tz_info.specs.HeldChanges.{change_held, span_held};
@@ -67,6 +67,15 @@ impl HeldSpan<'_> {
             until: self.until,
         }
     }
+}
+
+/// A second of Unix time, and the local time type in force then.
+#[derive(Clone, Copy, Debug, PartialEq, Eq)]
+pub struct TypedSecond {
+    /// The second.
+    pub at: i64,
+    /// The type in force.
+    pub local_time_type: LocalTimeType,
 }
 
 // The change at that second, if the types differ.

@@ -9,14 +9,14 @@ mod rule;
 mod timeline;
 mod zone;
 
-pub use change::{HeldChange, HeldSpan};
+pub use change::{HeldChange, HeldSpan, TypedSecond};
 pub use offset_core::Around;
 pub use rule::{AlternateTime, DayForm, RuleDay, TransitionRule};
 pub use timeline::Probes;
-pub use tz_base::{Change, Cursor, Error, Expected, LocalTimeType, Span, TimeZoneName};
+pub use tz_base::{Change, Cursor, Error, Expected, LocalTimeType, ParseError, Span, TimeZoneName};
 pub use zone::all_changes::Changes;
 pub use zone::differences::Difference;
 pub use zone::lookups::Lookups;
 pub use zone::offset_stretch::OffsetStretch;
-pub use zone::shown_seconds::{ShownSeconds, TypedSecond};
+pub use zone::shown_seconds::ShownSeconds;
 pub use zone::{LeapSecond, TimeZone, Transition};

@@ -7,6 +7,7 @@ use Rattle.tz_write.proofs.Words.{spelled_signed, time_limit, spelled_time, true
 use Rattle.tz_write.proofs.Words.{◌≡◌, ◌≤◌}
 use Rattle.tz_write.proofs.Decimals.{Begins, number_begins, number_front, number_writes, pair_front, pair_writes, two_digits, without}
 use Rattle.tz_write.proofs.Shortest.{Front, front_cons, front_longer, front_optional, front_then}
+use Rattle.tz_write.proofs.TextBytes.{writes_here}
 use Rattle.tz_write.proofs.TextBytes.{Writes, first_optional, writes_colon, writes_first, writes_last, writes_mark, writes_nothing, writes_optional, writes_other, writes_then}
 use Rattle.tz_info.specs.TzGrammar as tz
 
@@ -63,8 +64,8 @@ duration_writes : (limit : ℕ) (negative : Bool) (n : ℕ) (z : ℤ) (rest : Li
 unfolding spelled_clock tz.duration
 duration_writes limit negative n z rest l k v stops =
     let e : 3600 * (n / 3600) + 60 * (n / 60 % 60) + n % 60 ≡ n = omega arith in
-    writes_last (hours_writes (n / 3600) (n / 60 % 60) (n % 60) rest (omega arith) (omega arith) (omega arith) stops)
-    ((l, omega arith, omega arith), rw e v, refl)
+    writes_here (writes_last (hours_writes (n / 3600) (n / 60 % 60) (n % 60) rest (omega arith) (omega arith) (omega arith) stops)
+    ((l, omega arith, omega arith), rw e v, refl))
 
 abs_signed : (negative : Bool) (n : ℕ) → unsigned_abs (signed negative n) ≡ n
 abs_signed negative n = grind (arith, ints)
@@ -92,13 +93,13 @@ signed_writes true f limit false n z rest may l k v stops =
 signed_writes false f limit true n z rest may l k v stops = let e = may refl in cc
 signed_writes false f limit false n z rest may l k v stops = writes_first false (refl, refl) (duration_writes limit (f false) n z rest l k v stops)
 
--- a minus stands where one is needed, and else nothing
+-- there is a minus if one is needed, and otherwise nothing
 sign_front : (signs needed negative : Bool) (text bytes unsigned rest : List ℕ) → Spells (tz.time_sign signs) bytes negative unsigned → (needed ≡ true → negative ≡ true)
     → Front text unsigned rest → Front (cond needed (minus ∷ text) text) bytes rest
 unfolding tz.time_sign tz.sign
 sign_front signs needed negative text bytes unsigned rest h need f = grind (arith, both_ways, front_cons, front_longer)
 
--- seconds below so many hours, before or after midnight
+-- seconds below n hours, before or after midnight
 hours_within : (hours : ℕ) (z : ℤ) → (neg_ℤ (pos (3600 * hours)) <ℤ z) × (z <ℤ pos (3600 * hours)) → unsigned_abs z / 3600 < hours
 hours_within hours z h = grind (arith, ints)
 

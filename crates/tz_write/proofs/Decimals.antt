@@ -16,7 +16,7 @@ is_digit_of d h = grind (arith, nat_tests)
 digit_within : (b : ℕ) → is_digit b ≡ true → (48 ≤ b) × (b ≤ 57)
 digit_within b h = (grind (arith, nat_tests), grind (arith, nat_tests))
 
--- ---- what stands first
+-- ---- what comes first
 -- the bytes begin with one between those two
 pub record Begins (low high : ℕ) (bytes : List ℕ) : Type 0 where
   pub first : ℕ

@@ -1,4 +1,4 @@
--- Where any designations have the names of the types at places that a byte can name, those that are laid have them.
+-- If any designations have the names of the types at places that a byte can name, those that are laid have them.
 use Rattle.tz_write.proofs.Words.{All, All-cons, All-head, All-nil, All-weaker, AreNamesIn, AreNotPlacedBefore, ArePlaced, AreShortest, Bool, Decides}
 use Rattle.tz_write.proofs.Words.{Decides-by_and, HasNoZero, HasPlace, HavePlaces, In_order, IsFirstPlaced, IsLaid, IsNameOrNone, IsNamedIn, IsPlacedFrom, List}
 use Rattle.tz_write.proofs.Words.{LocalType, MatchOption, Option, StandsAt, ap, append-nil, append_assoc, arith, before_last, before_zero, cases_lt}
@@ -18,7 +18,7 @@ name_size name h = grind (arith, nat_tests)
 whole_size : (bytes b x a : List ℕ) → bytes ≡ b ++ (x ++ (0 ∷ a)) → length bytes ≡ length b + length x + 1 + length a
 whole_size bytes b x a e = grind (arith, length-append)
 
--- the text at the place where a text stands
+-- the text at the place of a text
 front_is : (text rest : List ℕ) → HasNoZero text → before_zero (text ++ (0 ∷ rest)) ≡ text
 front_is [] rest none = refl
 front_is (b ∷ bs) rest none = let h = none.0 in let e : (b == 0) ≡ false = grind (arith, nat_tests) in rw e (ap (λ (s : List ℕ). b ∷ s) (front_is bs rest none.1))
@@ -48,11 +48,11 @@ served bytes t named h =
     let s = h.stands in let at = place_of_stands bytes (name_of t) (record { before = s.before; after = s.after; whole = s.whole }) in
     let size = whole_size bytes s.before (name_of t) s.after s.whole in grind (arith, has_text)
 
--- the byte behind the text, and of two texts before one 0 byte the longer
+-- the byte after the text, and of two texts before one 0 byte the longer
 key_in : List ℕ → LocalType → ℕ
 key_in bytes t = 8 * (place_of (name_of t) bytes + length (name_of t)) + length (name_of t)
 
--- the text stands in front of the last one, or ends where that ends
+-- the text is in front of the last one, or ends with it
 pub record EndsWith (bytes : List ℕ) (m t : LocalType) : Type 0 where
   pub ends : Ends (name_of m) (name_of t)
   pub at : place_of (name_of t) bytes + length (name_of t) ≡ place_of (name_of m) bytes + length (name_of m)
@@ -74,7 +74,7 @@ kept_low : (designations other text : List ℕ) → In designations text → pla
 kept_low designations other text h = by_text (λ d. place_of text d ≤ place_of text designations) designations other (omega arith)
     (λ _ _. place_kept text designations (other ++ 0 ∷ []) h)
 
--- a text has its place in what is laid, if it stands before the last one, or else in what that ends
+-- a text has its place in what is laid, if it comes before the last one, or else in what that ends
 in_place : (designations last : List ℕ) (t : LocalType) → length designations ≤ 256 → In designations (name_of t) → HasPlace (with_text designations last) t
 in_place designations last t short h = grind (arith, kept, kept_low)
 
@@ -126,7 +126,7 @@ places_with bytes types m sm s top =
     λ i d l. laid_place bytes (before_last (name_of m) types) m (get_or types i d) sm (s i d l) p.room (before_filled (name_of m) types) (inside i d l)
     (where_is bytes m (get_or types i d) sm (s i d l) (top i d l))
 
--- ---- the texts stand in what is laid in order
+-- ---- the texts are in what is laid in order
 stands_with : (bytes : List ℕ) (m t : LocalType) (sm : Served bytes m) → Stands sm.stands.before (name_of t) ⊎ EndsWith bytes m t → Stands (sm.stands.before ++ (name_of m ++ 0 ∷ [])) (name_of t)
 stands_with bytes m t sm (inl s) = grind (arith, nat_tests, append_assoc)
 stands_with bytes m t sm (inr q) = end_stands (put_stands sm.stands.before (name_of m)) q.ends

@@ -7,7 +7,7 @@ use Rattle.tz_write.proofs.Words.{designation_of, file, first_version, get_or_ap
 use Rattle.tz_write.proofs.Words.{map, name_or_none, place_in, six_counts, subst, sym, ℕ, [], ◌*◌, ◌++◌, ◌+◌, ◌/◌, ◌<◌, ◌^◌, ◌∙◌, ◌∷◌, ◌≡◌, ◌⊎◌}
 use Rattle.tz_write.proofs.{FileRecords.{records_length}, FileSpelled.{CountsFit}, RuleTexts.{rule_named}}
 use Rattle.std.proofs.{Math.Nat.{mul-div_cancel}, lemmas.List.{get_or-map}}
-use Rattle.tz_base.specs.Grammar.{Byte, Check, Ended, Exact, Grammar, Marked, Nothing, Number, Refused, Rest, Run, Then}
+use Rattle.tz_base.specs.Grammar.{At, Byte, Check, Ended, Exact, Grammar, Here, Marked, Nothing, Number, Refused, Rest, Run, Then}
 
 abbrev IsByte : ℕ → Type 0
 IsByte b = b < 256
@@ -28,6 +28,7 @@ Values (Ended g h) x = Values g x ⊎ Values h x
 Values (Exact n) x = AreBytes x × (length x ≡ n)
 Values Rest x = AreBytes x
 Values (Check P test refusal v) x = P × (x ≡ v)
+Values (At place g) x = Values g x
 Values g x = Unit {0}
 
 values : {X : Type 0} (g : Grammar X) (bytes : List ℕ) (x : X) (rest : List ℕ) → Spells g bytes x rest → AreBytes bytes → Values g x × AreBytes rest
@@ -44,6 +45,8 @@ values (Exact n) bytes x rest h b = let c = subst AreBytes h.0 b in ((front x re
 values Rest bytes x rest h b = (subst AreBytes (sym h.0) b, subst AreBytes (sym h.1) (All-nil IsByte))
 values (Refused refusal) bytes x rest h b = absurd h
 values (Check P test refusal v) bytes x rest h b = ((h.0, h.1), subst AreBytes h.2 b)
+values (Here f) bytes x rest h b = (tt, (values (f bytes) bytes x rest h b).1)
+values (At place g) bytes x rest h b = values g bytes x rest h b
 
 -- ---- counts
 number_fits : (n : ℕ) → Values be_u32 n → n < 2 ^ 32

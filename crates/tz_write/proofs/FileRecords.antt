@@ -48,7 +48,7 @@ pub leaps_are : (leaps : List LeapSecond) → All IsEntry leaps → SpellLeapSec
 unfolding leap_bytes signed_bytes
 leaps_are leaps h = grind (arith, records_are, leap_is)
 
--- ---- where a text stands
+-- ---- the place of a text
 pub begins_is : (text bytes : List ℕ) → begins text bytes ≡ true → bytes ≡ text ++ (0 ∷ drop (length text + 1) bytes)
 unfolding begins
 begins_is text bytes h = grind (arith, and_parts, starts_with, nat_eq, nat_lt, starts_is, drop_more, ltb-true, eqb-true)

@@ -1,11 +1,11 @@
--- Texts that stand in designations, and how much room those take: each text that is put in has bytes of its own in any others that have the texts.
+-- Texts in designations, and how much room those take: each text that is put in has bytes of its own in any others that have the texts.
 use Rattle.tz_write.proofs.Words.{All, Decides-eqb, HasNoZero, List, LocalType, ℕ, ap, append-nil, append_assoc, arith, before_last, begins, cases_lt, ends}
 use Rattle.tz_write.proofs.Words.{ends_is, eq-eqb, fold, get_or, get_or_at, inl, inr, le-ltb, length, length-append, lt-ltb, name_of, nat_eq, nat_tests}
 use Rattle.tz_write.proofs.Words.{place_of, refl, starts_is, starts_with, suc, sym, true, with_text, with_text_of, with_texts, zero, [], ◌++◌, ◌+◌, ◌<◌, ◌∙◌}
 use Rattle.tz_write.proofs.Words.{◌∷◌, ◌≡◌, ◌≤◌, ◌⊎◌}
 use Rattle.tz_write.proofs.FileRecords.{begins_is, has_text}
 
--- a text and its 0 byte stand in the bytes
+-- a text and its 0 byte are in the bytes
 pub record Stands (bytes text : List ℕ) : Type 0 where
   pub before : List ℕ
   pub after : List ℕ
@@ -16,21 +16,21 @@ pub record Ends (whole text : List ℕ) : Type 0 where
   pub front : List ℕ
   pub is : whole ≡ front ++ text
 
--- how y, between c and d, stands to x, between b and a
+-- how y, between c and d, lies to x, between b and a
 pub data Meeting (b x a c y d : List ℕ) : Type 0 where
   In_front : (e : List ℕ) → b ≡ c ++ (y ++ (0 ∷ e)) → Meeting b x a c y d
   Behind : (e : List ℕ) → a ≡ e ++ (y ++ (0 ∷ d)) → Meeting b x a c y d
   Is_end : (m : List ℕ) → x ≡ m ++ y → a ≡ d → Meeting b x a c y d
   Has_end : (m : List ℕ) → y ≡ m ++ x → a ≡ d → Meeting b x a c y d
 
--- in front of the first 0 byte stands one text
+-- in front of the first 0 byte is one text
 pub same_text : (x a y d : List ℕ) → HasNoZero x → HasNoZero y → x ++ (0 ∷ a) ≡ y ++ (0 ∷ d) → (x ≡ y) × (a ≡ d)
 same_text [] a [] d n k e = (refl, cc)
 same_text [] a (y ∷ ys) d n k e = absurd (k.0 (cc))
 same_text (x ∷ xs) a [] d n k e = absurd (n.0 (cc))
 same_text (x ∷ xs) a (y ∷ ys) d n k e = let (same, rest) = same_text xs a ys d n.1 k.1 (cc) in (cc, rest)
 
--- x stands at the front
+-- x is at the front
 data Front (x a c y d : List ℕ) : Type 0 where
   Past : (e : List ℕ) → c ≡ x ++ (0 ∷ e) → a ≡ e ++ (y ++ (0 ∷ d)) → Front x a c y d
   Inside : (m : List ℕ) → x ≡ m ++ y → a ≡ d → Front x a c y d
@@ -63,7 +63,7 @@ ends_of last text h = record { front = _; is = (ends_is {E = nat_eq} Decides-eqb
 pub ends_again : (last text : List ℕ) → Ends last text → ends last text ≡ true
 ends_again last text h = (ends_is {E = nat_eq} Decides-eqb last text (ends last text) refl).1 h.front h.is
 
--- ---- where a text stands
+-- ---- the place of a text
 begins_again : (text rest : List ℕ) → begins text (text ++ (0 ∷ rest)) ≡ true
 unfolding begins
 begins_again text rest =
@@ -78,7 +78,7 @@ pub place_behind : (text front rest : List ℕ) → place_of text (front ++ (tex
 place_behind text [] rest = in_front text rest
 place_behind text (b ∷ bs) rest = let later = place_behind text bs rest in grind (arith, nat_tests)
 
--- bytes put behind don't move it
+-- bytes put after it don't move it
 still_begins : (text bytes more : List ℕ) → begins text bytes ≡ true → begins text (bytes ++ more) ≡ true
 still_begins text bytes more h = let whole = begins_is text bytes h in grind (arith, append_assoc, begins_again)
 
@@ -86,21 +86,21 @@ pub place_kept : (text bytes more : List ℕ) → place_of text bytes < length b
 place_kept text [] more h = absurd (omega arith)
 place_kept text (b ∷ bs) more h = let still = still_begins text (b ∷ bs) more in let later = place_kept text bs more in grind (arith, nat_tests)
 
--- the text stands in the designations
+-- the text is in the designations
 abbrev pub In : List ℕ → List ℕ → Type 0
 In designations text = place_of text designations < length designations
 
 pub in_longer : (designations more text : List ℕ) → In designations text → In (designations ++ more) text
 in_longer designations more text h = grind (arith, place_kept, length-append)
 
--- a text stands no later than there
+-- a text comes no later than there
 pub place_of_stands : (bytes text : List ℕ) (s : Stands bytes text) → place_of text bytes ≤ length s.before
 place_of_stands bytes text s = grind (arith, place_behind)
 
 stands_in : (bytes text : List ℕ) → Stands bytes text → In bytes text
 stands_in bytes text s = grind (arith, place_of_stands, length-append)
 
--- the end of a text that stands there
+-- the end of a text that is there
 abbrev pub end_stands : {bytes text other : List ℕ} → Stands bytes text → Ends text other → Stands bytes other
 end_stands {other = other} s h = record { before = s.before ++ h.front; after = s.after; whole = grind (arith, append_assoc) }
 
@@ -117,12 +117,12 @@ put_in designations text other h = stands_in _ other (end_stands (put_stands des
 pub in_stands : (bytes text : List ℕ) → HasNoZero text → In bytes text → Stands bytes text
 in_stands bytes text none l = let s = has_text text bytes none l in grind arith
 
--- what a text that stands there ends with stands there too
+-- what a text that is there ends with is there too
 pub end_in : (designations text other : List ℕ) → HasNoZero text → Ends text other → In designations text → In designations other
 end_in designations text other none h l = stands_in designations other (end_stands (in_stands designations text none l) h)
 
--- what is left of other bytes when the texts that stand in the designations are cut out of them: the texts that are to come, of
--- at most that size or at the end of the last one, still stand there
+-- what is left of other bytes when the texts in the designations are cut out of them: the texts that are to come, of
+-- at most that size or at the end of the last one, are still there
 pub record Room (last designations others : List ℕ) (size : ℕ) : Type 0 where
   pub left : List ℕ
   pub fits : length designations + length left ≤ length others
@@ -189,7 +189,7 @@ pub put : (designations text : List ℕ) → (length designations ≤ place_of t
 put designations text room = grind (arith, kept, put_is, put_in)
 
 -- ---- the texts of types
--- the text has no 0 byte, and stands in the other bytes if it is to be put in
+-- the text has no 0 byte, and is in the other bytes if it is to be put in
 pub record Given (last others : List ℕ) (t : LocalType) : Type 0 where
   pub none : HasNoZero (name_of t)
   pub stands : (Ends last (name_of t) → ⊥) → Stands others (name_of t)
@@ -257,7 +257,7 @@ pub before_keeps : (P : List ℕ → Type 0) → ((d text : List ℕ) → P d �
 unfolding before_last with_texts
 before_keeps P step last types h = let all = keeps_all P step last in grind arith
 
--- ---- a 0 byte stands in designations that have bytes
+-- ---- a 0 byte is in designations that have bytes
 abbrev Filled : List ℕ → Type 0
 Filled designations = (designations ≡ []) ⊎ In designations []
 

@@ -9,6 +9,7 @@ use Rattle.tz_write.proofs.Words.{list_all, nat_tests, pos, refl, slash, spelled
 use Rattle.tz_write.proofs.Words.{sym, time_after, true, [], ◌++◌, ◌+ℤ◌, ◌<◌, ◌∷◌, ◌≡◌, ◌≢◌}
 use Rattle.tz_write.proofs.Decimals.{Begins, without, not_empty, number_begins, number_front, number_writes}
 use Rattle.tz_write.proofs.Shortest.{Best, Front, front_cons, front_nothing, front_optional, front_then, front_unless}
+use Rattle.tz_write.proofs.TextBytes.{writes_at, writes_here}
 use Rattle.tz_write.proofs.TextBytes.{Writes, all_others, first_optional, names_are, pairs_over, writes_byte, writes_check, writes_first, writes_last}
 use Rattle.tz_write.proofs.TextBytes.{writes_mark, writes_nothing, writes_optional, writes_other, writes_then}
 use Rattle.tz_write.proofs.Clocks.{Stops, comma_stops, offset_begins, offset_front, offset_writes, time_front, time_plain, time_writes}
@@ -28,7 +29,7 @@ not_colon b h e = absurd (both_ways (is_name_byte b) (subst (λ (x : ℕ). is_na
 not_greater : (b : ℕ) → is_name_byte b ≡ true → is_not_greater b ≡ true
 not_greater b h = grind (arith, nat_tests)
 
--- letters are above `<`, which stands in front of other names
+-- letters are above `<`, which comes in front of other names
 letters_begin : (bs rest : List ℕ) → 0 < length bs → AllOf is_letter bs → Begins 65 122 (bs ++ rest)
 letters_begin [] rest some each = absurd (omega arith)
 letters_begin (b ∷ bs) rest some each = grind arith
@@ -66,15 +67,15 @@ name_begins name rest h = elim (list_all is_letter name) as (λ t. list_all is_l
 date_writes : (form : DayForm) (rest : List ℕ) → IsRuleDay form → NoneFirst is_digit rest → Writes tz.date (spelled_date form) form rest
 unfolding tz.date tz.month_date tz.julian_date tz.numbered_day tz.checked_day
 date_writes (Julian1 n) rest h none = let l = h.1 in
-    writes_other (λ e. absurd (omega arith)) (writes_mark refl (writes_last (number_writes day_max n rest (omega arith) (omega arith) none) (h, refl, refl)))
+    writes_other (λ e. absurd (omega arith)) (writes_mark refl (writes_here (writes_last (number_writes day_max n rest (omega arith) (omega arith) none) (h, refl, refl))))
 date_writes (Julian0 n) rest h none = let first = number_begins n rest (omega arith) in
     writes_other (without letter_M first (inr (omega arith))) (writes_other (without letter_J first (inr (omega arith)))
-    (writes_last (number_writes day_max n rest (omega arith) (omega arith) none) (h, refl, refl)))
+    (writes_here (writes_last (number_writes day_max n rest (omega arith) (omega arith) none) (h, refl, refl))))
 date_writes (MonthWeekday m w d) rest h none =
     let a = h.1 in let b = h.3 in let c = h.4 in
-    writes_mark refl (writes_then (number_writes date_max m _ (omega arith) (omega arith) refl) (writes_byte refl
-    (writes_then (number_writes date_max w _ (omega arith) (omega arith) refl)
-    (writes_byte refl (writes_last (number_writes date_max d rest (omega arith) (omega arith) none) (h, refl, refl))))))
+    writes_mark refl (writes_here (writes_then (number_writes date_max m _ (omega arith) (omega arith) refl) (writes_byte refl
+    (writes_here (writes_then (number_writes date_max w _ (omega arith) (omega arith) refl)
+    (writes_byte refl (writes_here (writes_last (number_writes date_max d rest (omega arith) (omega arith) none) (h, refl, refl)))))))))
 
 date_front : (bytes : List ℕ) (form : DayForm) (rest : List ℕ) → Spells tz.date bytes form rest → Front (spelled_date form) bytes rest
 unfolding tz.date tz.month_date tz.julian_date tz.numbered_day tz.checked_day
@@ -118,10 +119,10 @@ day_plain bytes d rest (_, after, _, (at, end, time, (value, _))) = rw value (af
 pub dst_offset_writes : (std dst : ℤ) (rest : List ℕ) → IsWithinDay dst → Writes (tz.dst_offset std) (spelled_dst_offset std dst ++ (comma ∷ [])) dst rest
 unfolding tz.dst_offset tz.next_hour tz.given_offset tz.more
 dst_offset_writes std dst rest h = elim (int_eq dst (std +ℤ pos 3_600)) as (λ t. int_eq dst (std +ℤ pos 3_600) ≡ t → Writes (tz.dst_offset std) (cond t [] (spelled_offset dst) ++ (comma ∷ [])) dst rest) [
-  | true ↦ λ e. let v = (Decides-int_eq dst _).0 e in writes_mark refl (rw v (writes_check (let l = h.1 in omega (arith, ints))))
+  | true ↦ λ e. let v = (Decides-int_eq dst _).0 e in writes_here (writes_mark refl (writes_at (rw v (writes_check (let l = h.1 in omega (arith, ints))))))
   | false ↦ λ e. let first : Begins 45 57 ((spelled_offset dst ++ (comma ∷ [])) ++ rest) = rw (append_assoc (spelled_offset dst) (comma ∷ []) rest) (offset_begins dst (comma ∷ rest) h) in
-      writes_other (without comma first (inl (omega arith))) (writes_first tt (inr (not_empty first, (refl, refl)))
-      (writes_then (offset_writes dst (comma ∷ rest) h (comma_stops rest)) (writes_first tt (inr ((λ e. cc), (refl, refl))) (writes_byte refl (writes_nothing refl)))))
+      writes_here (writes_other (without comma first (inl (omega arith))) (writes_first tt (inr (not_empty first, (refl, refl)))
+      (writes_then (offset_writes dst (comma ∷ rest) h (comma_stops rest)) (writes_first tt (inr ((λ e. cc), (refl, refl))) (writes_byte refl (writes_nothing refl))))))
 ] refl
 
 given_front : (bytes : List ℕ) (dst : ℤ) (rest : List ℕ) → Spells tz.given_offset bytes dst rest → Front (spelled_offset dst) bytes (comma ∷ rest)

@@ -7,6 +7,7 @@ use Rattle.tz_write.proofs.Words.{pos, refl, subst, spelled_rule, true, ℕ, ℤ
 use Rattle.tz_write.proofs.{Clocks.{Stops, comma_stops, offset_begins, offset_front, offset_writes}, Decimals.{Begins, none_first, not_empty, without}}
 use Rattle.tz_write.proofs.PieceTexts.{day_front, day_plain, day_writes, dst_offset_front, dst_offset_writes, name_begins, name_front, name_writes}
 use Rattle.tz_write.proofs.Shortest.{Best, Front, front_cons, front_then, front_whole}
+use Rattle.tz_write.proofs.TextBytes.{writes_here}
 use Rattle.tz_write.proofs.TextBytes.{AreTextBytes, Writes, writes_byte, writes_last, writes_more, writes_then}
 use Rattle.tz_info.specs.TzGrammar as tz
 use Rattle.tz_info.specs.declared.rule.transition_rule.TransitionRule.TheVariants as rules
@@ -44,7 +45,7 @@ pub rule_named : (extended : Bool) (bytes : List ℕ) (rule : TransitionRule) �
 rule_named extended bytes rule h = (rule_read extended bytes rule h).named
 
 -- ---- its own text
--- the parts of the text, each with what stands after it
+-- the parts of the text, each with what comes after it
 abbrev days_of : Alternate → List ℕ
 days_of a = spelled_day a.start ++ (comma ∷ spelled_day a.end)
 
@@ -81,19 +82,19 @@ rule_writes : (extended : Bool) (rule : TransitionRule) → IsRule rule → CanB
 unfolding tz.text tz.rule tz.fixed tz.alternate tz.named tz.end
 rule_writes extended (rules.Fixed t) fits ((name, h), w) times =
     let n : name_of t ≡ name = ap name_or_none h.named in
-    rw n (writes_then (name_writes name (spelled_offset t.offset ++ []) h.allowed (no_letter (offset_begins t.offset [] w)))
-    (writes_last (offset_writes t.offset [] w (tt, tt, tt)) (inl (refl, (t, [], (h.allowed, type_is name false t h, refl), (refl, refl))))))
+    rw n (writes_here (writes_then (name_writes name (spelled_offset t.offset ++ []) h.allowed (no_letter (offset_begins t.offset [] w)))
+    (writes_last (offset_writes t.offset [] w (tt, tt, tt)) (inl (refl, (t, [], (h.allowed, type_is name false t h, refl), (refl, refl)))))))
 rule_writes extended (rules.Alternate a) fits ((m, s), (n, d)) (start, end) =
     let first : name_of a.std ≡ m = ap name_or_none s.named in let second : name_of a.dst ≡ n = ap name_or_none d.named in
     let std = a.std.offset in let dst = a.dst.offset in let tail = spelled_name n ++ from_offset a in
     rw (first, second, append_assoc (spelled_name m) (spelled_offset std) tail)
-    (writes_then (name_writes m ((spelled_offset std ++ tail) ++ []) s.allowed (rw (append_assoc (spelled_offset std) tail []) (no_letter (offset_begins std (tail ++ []) fits.within.std_offset))))
+    (writes_here (writes_then (name_writes m ((spelled_offset std ++ tail) ++ []) s.allowed (rw (append_assoc (spelled_offset std) tail []) (no_letter (offset_begins std (tail ++ []) fits.within.std_offset))))
     (writes_then (offset_writes std (tail ++ []) fits.within.std_offset (rw (append_assoc (spelled_name n) (from_offset a) []) (name_stops n (from_offset a ++ []) d.allowed)))
     (writes_more (rw (append_assoc (spelled_name n) (from_offset a) []) (not_empty (name_begins n (from_offset a ++ []) d.allowed)))
-    (writes_then (name_writes n (from_offset a ++ []) d.allowed (rw (append_assoc (spelled_dst_offset std dst) (comma ∷ days_of a) []) (dst_ends_name std dst (days_of a ++ []) fits.within.dst_offset)))
+    (writes_here (writes_then (name_writes n (from_offset a ++ []) d.allowed (rw (append_assoc (spelled_dst_offset std dst) (comma ∷ days_of a) []) (dst_ends_name std dst (days_of a ++ []) fits.within.dst_offset)))
     (rw (← append_assoc (spelled_dst_offset std dst) (comma ∷ []) (days_of a)) (writes_then (dst_offset_writes std dst (days_of a ++ []) fits.within.dst_offset)
     (writes_last (days_write extended a fits start end)
-    (tt, [], inl (refl, (refl, refl)), (a.std, [], (s.allowed, type_is m false a.std s, refl), (a.dst, [], (d.allowed, type_is n true a.dst d, refl), (refl, refl)))))))))))
+    (tt, [], inl (refl, (refl, refl)), (a.std, [], (s.allowed, type_is m false a.std s, refl), (a.dst, [], (d.allowed, type_is n true a.dst d, refl), (refl, refl)))))))))))))
 
 -- ---- rules
 pub times_extended : (rule : TransitionRule) → IsRule rule → AreTimesOf true rule
@@ -112,7 +113,7 @@ text_are rule fits h = (rule_writes true rule fits h (times_extended rule fits))
 pub text_begins : (rule : TransitionRule) → CanBeSpelled rule → Begins 60 122 (spelled_rule rule)
 text_begins rule named = grind (arith, name_begins, append_assoc)
 
--- the text has extensions where one without doesn't have room for the times
+-- the text has extensions if one without doesn't have room for the times
 pub written : (rule : TransitionRule) (plain : Bool) → IsRule rule → CanBeSpelled rule → ((plain ≡ true) ↔ AreTimesOf false rule) → IsWrittenText rule (spelled_rule rule) (not plain)
 written rule plain fits h is = grind (arith, rule_spelled, rule_pairs, rule_read)
 
@@ -142,7 +143,7 @@ text_some rule fits named = let s = text_is rule fits named in (spelled_rule rul
 pub rule_text : (rule : TransitionRule) (text : List ℕ) (extended : Bool) → IsRule rule → IsWrittenText rule text extended → text ≡ spelled_rule rule
 rule_text rule text extended fits h = grind (arith, ints, nat_tests, text_is, rule_named, text_once)
 
--- a text has extensions where the rule's times need them
+-- a text has extensions if the rule's times need them
 pub extensions : (rule : TransitionRule) (text : List ℕ) (extended : Bool) → IsRule rule → IsWrittenText rule text extended → (extended ≡ true) ↔ (¬ (AreTimesOf false rule))
 extensions rule text extended fits h = grind (arith, rule_spelled, rule_named, both_ways, rule_read)
 

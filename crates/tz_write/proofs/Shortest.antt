@@ -1,4 +1,4 @@
--- What is not longer than what spells the same: the front of bytes beside a text.
+-- What is not longer than what spells the same: the front of bytes compared with a text.
 use Rattle.tz_base.specs.Grammar.{Grammar, Optional}
 use Rattle.tz_write.proofs.Words.{AreInPairs, Bool, List, Spells, append-nil, append_assoc, arith, cond, inl, inr, length, length-append, refl, true, ℕ, []}
 use Rattle.tz_write.proofs.Words.{◌++◌, ◌<◌, ◌∷◌, ◌≡◌, ◌⊎◌}
@@ -7,7 +7,7 @@ use Rattle.tz_write.proofs.Words.{◌++◌, ◌<◌, ◌∷◌, ◌≡◌, ◌�
 abbrev pub Best : List ℕ → List ℕ → Type 0
 Best text front = (front ≡ text) ⊎ (length text < length front)
 
--- the bytes before the rest are the text, or more of them, if two digits stand after each colon
+-- the bytes before the rest are the text, or more of them, if each colon has two digits after it
 pub record Front (text bytes rest : List ℕ) : Type 0 where
   pub front : List ℕ
   pub whole : bytes ≡ front ++ rest

@@ -1,6 +1,6 @@
 -- Texts that spell a value, made of their pieces. Their bytes are letters, digits, and those of `+ - , . / : < >`: so they are ASCII, and
 -- have no white space.
-use Rattle.tz_base.specs.{Grammar.{Byte, Check, Ended, Grammar, Marked, Nothing, Optional, Then}, Refusals.{Refusal}, Tests.{Test}}
+use Rattle.tz_base.specs.{Grammar.{At, Byte, Check, Ended, Grammar, Here, Marked, Nothing, Optional, Then}, Refusals.{Refusal}, Tests.{Test}}
 use Rattle.tz_write.proofs.Words.{AllDigits, AllOf, AreInPairs, BeginsBare, Bool, EndsBare, IsTrimmed, List, Spells, TwoDigits, Without, and_parts, append-nil}
 use Rattle.tz_write.proofs.Words.{HasNoZero, NoneFirst, append_assoc, arith, colon, comma, cond, dot, false, greater, inl, inr, is_ascii_whitespace, is_digit}
 use Rattle.tz_write.proofs.Words.{is_name_byte, less, nat_tests, not, refl, slash, sym, true, ℕ, [], ◌&&◌, ◌++◌, ◌==◌, ◌||◌, ◌∷◌, ◌<◌, ◌≡◌, ◌≢◌}
@@ -26,7 +26,7 @@ digits_are = all_others is_digit is_text_byte (λ b h. grind (arith, nat_tests))
 pub names_are : (bs : List ℕ) → AllOf is_name_byte bs → AreTextBytes bs
 names_are = all_others is_name_byte is_text_byte (λ b h. rw h refl)
 
--- no colon, and so no two digits to stand after one
+-- no colon, so none lacks its two digits
 pub pairs_over : (p : ℕ → Bool) → ((b : ℕ) → p b ≡ true → b ≢ colon) → (bs rest : List ℕ) → AllOf p bs → AreInPairs rest → AreInPairs (bs ++ rest)
 pairs_over p other [] rest h pairs = pairs
 pairs_over p other (b ∷ bs) rest h pairs = ((λ e. absurd (other b h.0 e)), pairs_over p other bs rest h.1 pairs)
@@ -39,7 +39,7 @@ no_zeros [] h = tt
 no_zeros (b ∷ bs) h = ((limits b h.0).0, no_zeros bs h.1)
 
 -- ---- texts of pieces
--- the text before that rest spells x; it has only those bytes; and two digits stand after each of its colons, if they do in the rest
+-- the text before that rest spells x; it has only those bytes; and each of its colons has two digits after it, if they do in the rest
 pub record Writes {X : Type 0} (g : Grammar X) (text : List ℕ) (x : X) (rest : List ℕ) : Type 0 where
   pub spelled : Spells g (text ++ rest) x rest
   pub bytes : AreTextBytes text
@@ -64,6 +64,13 @@ writes_first {b = b} {rest = rest} x p q = record { spelled = (x, b ++ rest, p, 
 
 pub writes_check : {X : Type 0} {P : Type 0} {test : Test P} {refusal : Refusal} {v : X} {rest : List ℕ} → P → Writes (Check P test refusal v) [] v rest
 writes_check h = record { spelled = (h, refl, refl); bytes = tt; pairs = λ r. r }
+
+-- a fault has a place, and what is spelled has none
+pub writes_here : {X : Type 0} {f : List ℕ → Grammar X} {a : List ℕ} {x : X} {rest : List ℕ} → Writes (f (a ++ rest)) a x rest → Writes (Here f) a x rest
+writes_here p = record { spelled = p.spelled; bytes = p.bytes; pairs = p.pairs }
+
+pub writes_at : {X : Type 0} {place a : List ℕ} {g : Grammar X} {x : X} {rest : List ℕ} → Writes g a x rest → Writes (At place g) a x rest
+writes_at p = record { spelled = p.spelled; bytes = p.bytes; pairs = p.pairs }
 
 -- a sign other than a colon
 abbrev is_sign : ℕ → Bool

@@ -1,4 +1,4 @@
--- The designations of a TZif file (RFC 8536 section 3.2): texts that each end before a 0 byte, and where the text of a type begins.
+-- The designations of a TZif file (RFC 8536 section 3.2): texts that each end before a 0 byte, and the place at which the text of a type begins.
 use Rattle.std.specs.Prelude.{ℕ, suc, ◌<◌, ◌≤◌, Bool, ◌&&◌, ◌==◌, nat_lt, if◌then◌else◌, List, [], ◌∷◌, length, slice_index, All, Option, Some, None}
 use Rattle.std.specs.Bool.{nat_eq}
 use Rattle.std.specs.List.{starts_with}
@@ -17,7 +17,7 @@ name_of t = name_or_none t.name
 abbrev pub place_limit : ℕ
 place_limit = 256
 
--- the type's text stands in the designations, at a place that a byte can name
+-- the type's text is in the designations, at a place that a byte can name
 pub record IsNamedIn (designations : List ℕ) (t : LocalType) : Type 0 where
   pub place : ℕ
   pub stands : StandsAt designations place (name_of t)
@@ -36,7 +36,7 @@ pub record AreShortest (designations : List ℕ) (types : List LocalType) : Type
 unfoldable pub begins : List ℕ → List ℕ → Bool
 begins text bytes = starts_with nat_eq bytes text && (nat_lt (length text) (length bytes) && (slice_index bytes (length text) == 0))
 
--- the first place at which the text stands, or the end
+-- the first place of the text, or the end
 abbrev pub place_of : List ℕ → List ℕ → ℕ
 place_of text [] = 0
 place_of text (b ∷ bs) = if begins text (b ∷ bs) then 0 else suc (place_of text bs)

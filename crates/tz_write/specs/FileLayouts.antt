@@ -7,7 +7,7 @@ use Rattle.std.specs.List.{fold, ends_with}
 use Rattle.tz_base.specs.LocalTypes.{LocalType}
 use Rattle.tz_write.specs.FileDesignations.{name_of, place_of, place_limit}
 
--- the type's text stands in the designations, and its first place is one that a byte can name
+-- the type's text is in the designations, and its first place is one that a byte can name
 pub record HasPlace (designations : List ℕ) (t : LocalType) : Type 0 where
   pub stands : place_of (name_of t) designations < length designations
   pub named : place_of (name_of t) designations < place_limit
@@ -19,7 +19,7 @@ HavePlaces designations types = All (HasPlace designations) types
 abbrev pub room : ℕ
 room = 263
 
--- the text and a 0 byte are put at the end, unless the text stands there already, or there is no room for it
+-- the text and a 0 byte are put at the end, unless the text is there already, or there is no room for it
 unfoldable pub with_text : List ℕ → List ℕ → List ℕ
 with_text designations text =
     if nat_lt (place_of text designations) (length designations) then designations

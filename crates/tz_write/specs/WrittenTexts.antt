@@ -18,7 +18,7 @@ TwoDigits [] = ⊥
 TwoDigits (a ∷ []) = ⊥
 TwoDigits (a ∷ b ∷ rest) = (is_digit a ≡ true) × (is_digit b ≡ true) × NoneFirst is_digit rest
 
--- two digits stand after each colon: minutes and seconds are written `mm` and `ss`, as POSIX has them
+-- each colon has two digits after it: minutes and seconds are written `mm` and `ss`, as POSIX has them
 abbrev pub AreInPairs : List ℕ → Type 0
 AreInPairs [] = Unit {0}
 AreInPairs (b ∷ bs) = (b ≡ colon → TwoDigits bs) × AreInPairs bs

@@ -29,7 +29,7 @@ pub trait ToTzData {
     ///
     /// [`Error::OutOfMemory`] if there is no memory for the bytes.
     fn to_tz_data(&self, alloc: Global) -> Result<Option<Vec<u8>>, Error>
-        // The file is the zone's; there is none only if no file spells it.
+        // The file is the zone's; it is `None` only if no file spells it.
         ensures written { MatchResult result
             (λ answer. MatchOption answer (IsInNoFile (zone self.now))
             (λ bytes. IsWrittenFile (zone self.now) bytes.items))

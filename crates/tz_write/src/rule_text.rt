@@ -51,7 +51,7 @@ pub trait ToTzString {
     ///
     /// [`Error::OutOfMemory`] if there is no memory for the string.
     fn to_tz_string(&self, alloc: Global) -> Result<Option<TzText>, Error>
-        // The text is the rule's, and the shortest; there is none only if no text spells the rule.
+        // The text is the rule's, and the shortest; it is `None` only if no text spells the rule.
         ensures written { MatchResult result
             (λ answer. MatchOption answer (IsUnspelled (rule self.now))
             (λ t. IsWrittenText (rule self.now) (string_bytes t.text) t.extended))

@@ -31,7 +31,7 @@ pub trait ToPosixTz {
     ///
     /// [`Error::OutOfMemory`] if there is no memory for the string.
     fn to_posix_tz(&self, alloc: Global) -> Result<Option<String>, Error>
-        // The text is the zone's, and the shortest; there is none only if no text gives the zone.
+        // The text is the zone's, and the shortest; it is `None` only if no text gives the zone.
         ensures written { MatchResult result
             (λ answer. MatchOption answer (IsNoPosixZone (zone self.now))
             (λ text. IsWrittenZone (zone self.now) (string_bytes text)))

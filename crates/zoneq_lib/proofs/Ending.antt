@@ -1,4 +1,4 @@
--- What stands written where a run ends.
+-- What has been written when a run ends.
 use Rattle.zoneq_lib.proofs.CitedWords.{Answered, Answers, AnswersAtEnd, Appends, Bool, Consumes, Err, IfErr, IsAtEnd, List, MatchResult, None, Ok, OnOk}
 use Rattle.zoneq_lib.proofs.CitedWords.{Option, Result, RunError, StopsAtEnd, StopsIn, StopsWith, Zone, append-nil, append_assoc, arith, false, inl, inr}
 use Rattle.zoneq_lib.proofs.{CitedWords.{length, length-append, take, true, ℕ, ◌++◌, ◌<◌, ◌≡◌, []}, Bytes.{appends_join, consumes_join}}

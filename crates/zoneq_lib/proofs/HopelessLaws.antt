@@ -2,7 +2,7 @@
 use Rattle.zoneq_lib.specs.{Steps.LineReading.{scan}, declared.bad_line.BadLine.TheVariants.{Hopeless}}
 use Rattle.zoneq_lib.proofs.CitedWords.{Begins, Err, IsBadLine, IsHopeless, List, Spells, after_byte, ap, append-nil, append_assoc, arith, codes, drop, inl}
 use Rattle.zoneq_lib.proofs.CitedWords.{inr, length, length-append, query_line, question, refl, subst, sym, take, take-append-add, take-append-drop}
-use Rattle.zoneq_lib.proofs.{CitedWords.{without_return, ℕ, ◌++◌, ◌-◌, ◌<◌, ◌∙◌, ◌∷◌, ◌≡◌, ◌⊎◌, []}, ScanLaws.{never, stops}}
+use Rattle.zoneq_lib.proofs.{CitedWords.{without_return, ℕ, ◌++◌, ◌-◌, ◌<◌, ◌∙◌, ◌∷◌, ◌≡◌, ◌⊎◌, []}, PlainLines.{plain_line}, ScanLaws.{never, stops}}
 
 cut_or_whole : (bytes : List ℕ) → (without_return bytes ≡ take (length bytes - 1) bytes) ⊎ (without_return bytes ≡ bytes)
 cut_or_whole bytes = grind arith
@@ -30,7 +30,7 @@ some_bytes [] h = absurd (rw h at (stops query_line))
 some_bytes (c ∷ front) h = omega arith
 
 still_bad : (front bytes : List ℕ) → scan query_line front ≡ Err Hopeless → GoesOn front bytes → IsBadLine bytes
-still_bad front bytes h on = λ query asks. never query_line front on.0 h query [] (subst (λ (l : List ℕ). Spells query_line l query []) on.1 asks)
+still_bad front bytes h on = λ query asks. never query_line front on.0 plain_line h query [] (subst (λ (l : List ℕ). Spells query_line l query []) on.1 asks)
 
 pub hopeless : (front : List ℕ) → scan query_line (without_return front) ≡ Err Hopeless → IsHopeless front
 hopeless front h = grind (arith, some_bytes, still_bad, from_front, from_front_ended)

@@ -2,6 +2,7 @@
 use Rattle.tz_base.{proofs.RunLaws.{value_grows}, specs.declared.error.Error.TheVariants.{ParseInt}}
 use Rattle.tz_base.specs.declared.error.Expected.TheVariants.{NumberWithinItsLimit}
 use Rattle.zoneq_lib.specs.{Steps.LineReading.{scan}, declared.bad_line.BadLine.TheVariants.{Hopeless, Unfinished}}
+use Rattle.tz_base.specs.Grammar.{At, Here}
 use Rattle.zoneq_lib.proofs.CitedWords.{AllOf, BadLine, Bool, Ended, Err, Error, Exact, Grammar, List, Marked, Number, Ok, Result, Run, Spells, Then}
 use Rattle.zoneq_lib.proofs.CitedWords.{after_byte, append-nil, append_assoc, arith, exact_at, exact_cut, int_at, is_digit, lawful, length-append, length-take}
 use Rattle.zoneq_lib.proofs.CitedWords.{number_within, optional_tag_at, read, refl, run_again, run_of, run_splits, tag_at, take, take-append-drop, value_from}
@@ -23,6 +24,8 @@ same (Then g f) bytes = same_bind (scan g bytes) (read g bytes) (λ p. scan (f p
 same (Marked tag g h) [] = same h []
 same (Marked tag g h) (b ∷ bytes) = grind (arith, same h (b ∷ bytes), same g bytes)
 same (Ended g h) bytes = grind (arith, same g bytes, same h bytes)
+same (Here f) bytes = same (f bytes) bytes
+same (At place g) bytes = same g bytes
 same g bytes = grind arith
 
 -- ---- at the end of the bytes nothing is hopeless, and nothing is left
@@ -42,9 +45,20 @@ unfolding after_byte int_at exact_at
 stops (Then g f) = stops_bind (scan g []) (λ p. scan (f p.0) p.1) (stops g) (λ x. stops (f x))
 stops (Marked tag g h) = stops h
 stops (Ended g h) = stops g
+stops (Here f) = stops (f [])
+stops (At place g) = stops g
 stops g = grind arith
 
 -- ---- what is read before the end is read also if more bytes follow, and what is hopeless stays so
+-- no part of it sees the bytes that follow, as `Here` does
+abbrev pub IsPlain : {X : Type 0} → Grammar X → Type 0
+IsPlain (Then {X = X} g f) = IsPlain g × ((x : X) → IsPlain (f x))
+IsPlain (Marked tag g h) = IsPlain g × IsPlain h
+IsPlain (Ended g h) = IsPlain g × IsPlain h
+IsPlain (Here f) = ⊥
+IsPlain (At place g) = IsPlain g
+IsPlain g = Unit {0}
+
 abbrev Onward : {A : Type 0} → List ℕ → Result (A × List ℕ) BadLine → Result (A × List ℕ) BadLine → Type 0
 Onward more (Ok (x, [])) r = Unit {0}
 Onward more (Ok (x, b ∷ rest)) r = r ≡ Ok (x, b ∷ (rest ++ more))
@@ -78,15 +92,17 @@ unfolding exact_at
 exact_onward count bytes more =
     grind (arith, length-append, take-append-drop count bytes, append_assoc, exact_cut count (bytes ++ more) (take count bytes), length-take)
 
-pub onward : {X : Type 0} (g : Grammar X) (bytes more : List ℕ) → Onward more (scan g bytes) (scan g (bytes ++ more))
+pub onward : {X : Type 0} (g : Grammar X) (bytes more : List ℕ) → IsPlain g → Onward more (scan g bytes) (scan g (bytes ++ more))
 unfolding after_byte
-onward g [] more = grind (arith, stops g)
-onward (Then g f) (b ∷ bytes) more = bind_onward more (scan g (b ∷ bytes)) (scan g (b ∷ (bytes ++ more))) (λ p. scan (f p.0) p.1) (onward g (b ∷ bytes) more) (λ x. stops (f x)) (λ x rest. onward (f x) rest more)
-onward (Marked tag g h) (b ∷ bytes) more = grind (arith, onward g bytes more, onward h (b ∷ bytes) more)
-onward (Ended g h) (b ∷ bytes) more = onward h (b ∷ bytes) more
-onward (Run p) (b ∷ bytes) more = grind (arith, append_assoc, run_again, run_splits p (b ∷ bytes))
-onward (Exact count) (b ∷ bytes) more = exact_onward count (b ∷ bytes) more
-onward g (b ∷ bytes) more = grind (arith, number_onward)
+onward g [] more p = grind (arith, stops g)
+onward (Then g f) (b ∷ bytes) more p = bind_onward more (scan g (b ∷ bytes)) (scan g (b ∷ (bytes ++ more))) (λ p. scan (f p.0) p.1) (onward g (b ∷ bytes) more p.0) (λ x. stops (f x)) (λ x rest. onward (f x) rest more (p.1 x))
+onward (Marked tag g h) (b ∷ bytes) more p = grind (arith, onward g bytes more p.0, onward h (b ∷ bytes) more p.1)
+onward (Ended g h) (b ∷ bytes) more p = onward h (b ∷ bytes) more p.1
+onward (Run test) (b ∷ bytes) more p = grind (arith, append_assoc, run_again, run_splits test (b ∷ bytes))
+onward (Exact count) (b ∷ bytes) more p = exact_onward count (b ∷ bytes) more
+onward (Here f) (b ∷ bytes) more p = absurd p
+onward (At place g) (b ∷ bytes) more p = onward g (b ∷ bytes) more p
+onward g (b ∷ bytes) more p = grind (arith, number_onward)
 
 -- ---- what callers use
 pub scanned : {X : Type 0} (g : Grammar X) (bytes : List ℕ) (x : X) (rest : List ℕ) → scan g bytes ≡ Ok (x, rest) → Spells g bytes x rest
@@ -95,5 +111,5 @@ scanned g bytes x rest h = grind (arith, same g bytes, (lawful g bytes).takes (x
 pub not_scanned : {X : Type 0} (g : Grammar X) (bytes : List ℕ) (e : BadLine) → scan g bytes ≡ Err e → (x : X) (rest : List ℕ) → Spells g bytes x rest → ⊥
 not_scanned g bytes e h x rest spelled = grind (arith, same g bytes, (lawful g bytes).again (x, rest) spelled)
 
-pub never : {X : Type 0} (g : Grammar X) (bytes more : List ℕ) → scan g bytes ≡ Err Hopeless → (x : X) (rest : List ℕ) → Spells g (bytes ++ more) x rest → ⊥
-never g bytes more h = grind (arith, onward g bytes more, not_scanned g (bytes ++ more) Hopeless)
+pub never : {X : Type 0} (g : Grammar X) (bytes more : List ℕ) → IsPlain g → scan g bytes ≡ Err Hopeless → (x : X) (rest : List ℕ) → Spells g (bytes ++ more) x rest → ⊥
+never g bytes more p h = grind (arith, onward g bytes more p, not_scanned g (bytes ++ more) Hopeless)

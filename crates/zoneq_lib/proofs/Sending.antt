@@ -1,4 +1,4 @@
--- What stands written where answers were sent on their way, or could not be.
+-- What has been written when answers were sent on their way, or could not be.
 use Rattle.zoneq_lib.proofs.CitedWords.{AnswersAtEnd, AnswersIn, Appends, Bool, Err, IfErr, IsSentOf, Keeps, List, Ok, OnOk, Option, Result, RunError}
 use Rattle.zoneq_lib.proofs.CitedWords.{StopsAtEnd, StopsIn, WritesUnlessFailed, Zone, append-nil, append_assoc, arith, drop, false, inl, inr, sym, take}
 use Rattle.zoneq_lib.proofs.{CitedWords.{take-append-drop, true, ℕ, ◌++◌, ◌≡◌, []}, Bytes.{appends_join, appends_kept}}
@@ -17,7 +17,7 @@ block_not_sent f f' (Err errors.Memory) r a b c z begun block after rest (inr lo
     rw lost.0 (lost.2, stop.1, [], stop.2, stop.3, stop.4, stop.5, stop.6, rw append-nil stop.8, appends_kept a b c stop.1 stop.9 keeps)
 block_not_sent f f' (Err _) r a b c z begun block after rest h keeps ok stop = absurd stop
 
--- the last line stopped the run, or what stood written could not be sent
+-- the last line stopped the run, or what was written could not be sent
 pub last_not_sent : (f f' : Bool) (o r : Result (Unit {0}) RunError) (a b c : Option (List ℕ)) (z : Option Zone) (l : List ℕ)
     → IsSentOf f f' o r → Keeps b c → OnOk o (AnswersAtEnd f a b z l) → IfErr o (StopsAtEnd f a b z l) → IfErr r (StopsAtEnd f' a c z l)
 last_not_sent f f' (Ok u) r a b c z l sent keeps ok stop = grind (arith, append-nil)

@@ -1,4 +1,4 @@
--- What stands written where a step of a run goes on or stops.
+-- What has been written when a step of a run goes on or stops.
 use Rattle.zoneq_lib.proofs.CitedWords.{Answered, AnswersAtEnd, AnswersLine, Appends, Bool, Err, HasNoNewline, IfErr, IsKeptFor, List, Ok, OnOk, Option}
 use Rattle.zoneq_lib.proofs.CitedWords.{Replies, Result, RunError, StopsAt, StopsAtEnd, StopsIn, Zone, append-nil, append_assoc, arith, codes, false, length}
 use Rattle.zoneq_lib.proofs.CitedWords.{length-append, nil_from_length, refl, subst, take, take-append-drop, true, without_return, ℕ, ◌++◌, ◌<◌, ◌==◌, ◌∷◌, ◌≡◌}
@@ -28,7 +28,7 @@ line_stops f a b' c z b block done output m k rest piece more errors.Write e s h
     let written : Answered z b (done ++ (piece ++ codes "\n")) ((output ++ stop.1) ++ stop.2) stop.4 [] = grind (arith, append_assoc) in grind (arith, append_assoc)
 line_stops f a b' c z b block done output m k rest piece more e stopped s h cut wrote stop = grind (arith, length-append, append-nil)
 
--- what is after the last newline of a block is kept, or stood for
+-- what is after the last newline of a block is kept, or counted
 pub rest_kept : (z : Option Zone) (b block done output : List ℕ) (m : Option Zone) (k rest : List ℕ) (m' : Option Zone) (k' : List ℕ) → block ≡ done ++ rest → Answered z b done output m k → HasNoNewline rest → m' ≡ m → IsKeptFor k' (k ++ rest) → HasNoNewline k' → Answered z b block output m' k'
 rest_kept z b block done output m k rest m' k' e s h same kept lone =
     rw (e, same) (rw append-nil at (answered_join z b done output m k rest [] m k' s (answered_more m k rest k' s.lone h kept lone)))

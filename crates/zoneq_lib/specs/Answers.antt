@@ -44,7 +44,7 @@ shown_wall results.None = codes "none"
 shown_wall (results.Single t) = codes "single " ++ shown_type t
 shown_wall (results.Ambiguous first last) = codes "ambiguous " ++ shown_type first ++ codes ", " ++ shown_type last
 
--- a reading of UTC as a clock shows it that is so many seconds ahead, and that offset: `YYYY-MM-DD HH:MM:SS +HH:MM`
+-- a UTC date-time as a clock shows it that is that many seconds ahead, and that offset: `YYYY-MM-DD HH:MM:SS +HH:MM`
 abbrev pub shown_date_time : Reading → ℤ → List ℕ
 shown_date_time utc offset = reading_text 32 (ahead utc offset) ++ codes " " ++ offset_text offset
 
@@ -98,7 +98,7 @@ seconds_in off = meaning_by_seconds (λ k. k) (λ _. off)
 abbrev pub law_by : (off : ℤ → ℤ) → Law (seconds_in off)
 law_by off = law_by_seconds off
 
--- the instant that the choice takes for that reading, as `show` prints it; or the number of why there is none
+-- the instant that the policy takes for that local date-time, as `show` prints it; or the number of the reason why it takes no instant
 abbrev pub AnswersChoice : (ℤ → ℤ) → Reading → Choice → List ℕ → Type 0
 AnswersChoice off l choice answer =
     ((d : Zoned ℤ) × IsResolved (law_by off) l choice d × (answer ≡ shown_date_time d.utc d.offset))

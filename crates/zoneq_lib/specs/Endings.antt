@@ -9,7 +9,7 @@ abbrev pub status_of : Result (Unit {0}) RunError → ℕ
 status_of (Ok _) = 0
 status_of (Err _) = 1
 
--- what it tells of the run on standard error
+-- what it says of the run on standard error
 abbrev pub message_of : Result (Unit {0}) RunError → List ℕ
 message_of (Ok _) = []
 message_of (Err e) = fault_text e ++ codes "\n"

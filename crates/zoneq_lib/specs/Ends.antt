@@ -1,4 +1,4 @@
--- What a call on a reader or a writer tells of it.
+-- What a call on a reader or a writer shows of it.
 use Rattle.std.specs.Prelude.{ℕ, ◌==◌, ◌&&◌, Bool, true, false, nat_lt, Result, Ok, Err}
 
 -- the call answered an error

@@ -1,11 +1,11 @@
 -- The lines of an input: a line ends with a newline, and one carriage return before the newline is no part of it. What
--- follows the last newline is a line, as it stands, if it is not empty.
+-- follows the last newline is a line, as it is, if it is not empty.
 use Rattle.std.specs.Prelude.{◌≡◌, ◌≢◌, ◌==◌, ℕ, ◌-◌, List, [], ◌∷◌, ◌++◌, All, map, flat_map, length, slice_index, take, codes, if◌then◌else◌}
 
 abbrev pub HasNoNewline : List ℕ → Type 0
 HasNoNewline bytes = All (λ b. b ≢ 10) bytes
 
--- the input is these pieces, each with a newline after it, and a rest; no newline stands in a piece or in the rest
+-- the input is these pieces, each with a newline after it, and a rest; no piece has a newline, nor has the rest
 pub record IsSplit (input : List ℕ) (pieces : List (List ℕ)) (rest : List ℕ) : Type 0 where
   pub whole : input ≡ flat_map (λ piece. piece ++ codes "\n") pieces ++ rest
   pub each : All HasNoNewline pieces

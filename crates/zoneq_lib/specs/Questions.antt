@@ -22,8 +22,8 @@ use Rattle.zoneq_lib.specs.Hex.{SpellBytes, bytes_test, bytes_of}
 
 -- a question: to read a TZ string or the bytes of a TZif file as the zone; for the type in force at a Unix time; for the
 -- types that are in force when a clock shows a local time, the seconds from 1970-01-01 00:00:00 on the clock, every day
--- counted as 86,400; for the instant that a choice for gaps and folds takes for a reading of a clock; or for what the
--- zone's clocks show at a Unix time, and nanoseconds beside it
+-- counted as 86,400; for the instant that a choice for gaps and folds takes for a local date-time; or for what the
+-- zone's clocks show at a Unix time, and nanoseconds after it
 pub data Query : Type 0 where
   Text : List ℕ → Query
   Data : List ℕ → Query

@@ -23,7 +23,7 @@ AnswersEnded input output =
 abbrev pub BeginsAnswers : List ℕ → List ℕ → Type 0
 BeginsAnswers input output = (more : List ℕ) × Answers input (output ++ more)
 
--- the output answers each line before one that stands in the input, or begins there
+-- the output answers each line before one that is in the input, or begins there
 abbrev pub AnswersBefore : List ℕ → List ℕ → Type 0
 AnswersBefore input output =
     (pieces : List (List ℕ)) × (done : List ℕ) × (failed : List ℕ) × (after : Option Zone)

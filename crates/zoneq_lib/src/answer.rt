@@ -148,7 +148,7 @@ fn tell_types(
     }
 }
 
-// Tells the instant that a choice takes for a date and time.
+// Answers with the instant that a policy takes for a date and time.
 fn tell_resolved(
     zone: &Option<TimeZone>,
     local: NaiveDateTime,
@@ -171,7 +171,7 @@ fn tell_resolved(
     }
 }
 
-// Tells what the zone's clocks show at a timestamp.
+// Answers with what the zone's clocks show at a timestamp.
 fn tell_instant(
     zone: &Option<TimeZone>,
     seconds: i64,

@@ -5,8 +5,8 @@
 //! bytes of a TZif file. A line `at SECS` asks for the local time type in force at a Unix time, a
 //! line `wall Y M D h m s` for those in force when a clock shows a date and time, or, with a policy
 //! `GAP/FOLD` after it, for the instant that the policy selects, and a line `show SECS NANOS` for
-//! what the zone's clocks show at an instant. Any other line is answered `bad line`, so that no
-//! input stops a run but its end, a failed end, or running out of memory.
+//! what the zone's clocks show at an instant. Any other line is answered `bad line`. So
+//! only the end of the input, an I/O error or lack of memory ends a run.
 #![tactic(auto)]
 
 mod answer;

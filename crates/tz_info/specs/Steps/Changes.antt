@@ -4,9 +4,9 @@ use Rattle.std.specs.Prelude.{Option, Some, None, Bool, true, false, FitsSigned,
 use Rattle.std.specs.Int.{w64}
 use Rattle.naive_base.specs.Year.{year_start}
 use Rattle.tz_base.specs.LocalTypes.{LocalType}
-use Rattle.tz_info.specs.Changes.{IsChange, HasNoChange, Precedes}
+use Rattle.tz_info.specs.Changes.{IsChange}
 use Rattle.tz_info.specs.Leaps.{IsLeapTime}
-use Rattle.tz_info.specs.Moments.{AlternateAt, IsRuleTime, IsYearOf, start_in, end_in}
+use Rattle.tz_info.specs.Moments.{IsRuleTime, IsYearOf, start_in, end_in}
 use Rattle.tz_info.specs.Rules.{Alternate}
 use Rattle.tz_info.specs.Steps.Segments.{segment_of}
 use Rattle.tz_info.specs.Zones.{Zone, IsFromLast}

@@ -9,7 +9,7 @@ use Rattle.naive_base.specs.Weekday.{weekday_of}
 use Rattle.tz_info.specs.Steps.Kinds.{are_calm, kind_place}
 use Rattle.tz_info.specs.Steps.Turns.{dst_by}
 use Rattle.tz_info.specs.declared.rule.changing.YearsNear.{YearsNear}
-use Rattle.tz_info.specs.declared.rule.season.Turns.{Turns}
+use Rattle.tz_info.specs.declared.rule.moments.Turns.{Turns}
 
 -- the place of the leap year among the four, or 4
 abbrev pub leap_place : ℤ → ℕ

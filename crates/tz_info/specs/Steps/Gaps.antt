@@ -7,7 +7,7 @@ use Rattle.tz_info.specs.Moments.{AlternateAt, type_when}
 use Rattle.tz_info.specs.Rules.{Alternate}
 use Rattle.tz_info.specs.Steps.Runs.{IsWindowOf}
 use Rattle.tz_info.specs.Zones.{Zone, TypeAt}
-use Rattle.tz_info.specs.declared.rule.wall_clock.Moment.{Moment}
+use Rattle.tz_info.specs.declared.rule.moments.Moment.{Moment}
 
 -- clocks show less at each near second up to s
 abbrev pub AreLess : Zone → ℤ → ℤ → Type 0

@@ -1,8 +1,11 @@
 -- What the reader of a TZ string hands from one function to the next: the rule of it, and its limits.
-use Rattle.std.specs.Prelude.{ℤ}
+use Rattle.std.specs.Prelude.{ℕ, ℤ, ◌≡◌, Bool, List, Result, Ok, Err, Some}
 use Rattle.offset_core.specs.Offset.{IsWithinDay}
+use Rattle.tz_base.specs.Grammar.{read}
 use Rattle.tz_base.specs.LocalTypes.{LocalType}
+use Rattle.tz_base.specs.declared.parse_error.ParseError.{ParseError}
 use Rattle.tz_info.specs.Rules.{Alternate, IsWithinWeek}
+use Rattle.tz_info.specs.TzGrammar.{text, text_fault_position}
 use Rattle.tz_info.specs.declared.rule.day.DayForm.{DayForm}
 use Rattle.tz_info.specs.declared.rule.day.DayTime.{DayTime}
 use Rattle.tz_info.specs.declared.rule.reader.text.Spelled.{Spelled}
@@ -26,3 +29,8 @@ rule_of (spelled.Alternate std dst start end) = rules.Alternate (alternate_of st
 abbrev pub IsSpelled : Spelled → Type 0
 IsSpelled (spelled.Fixed t) = Unit {0}
 IsSpelled (spelled.Alternate std dst start end) = IsWithinDay std.offset × IsWithinDay dst.offset × IsWithinWeek start.1 × IsWithinWeek end.1
+
+-- what all bytes of a string were read as: the rule, or the error and its place
+abbrev pub IsParsed : Bool → List ℕ → Result TransitionRule ParseError → Type 0
+IsParsed extended bytes (Ok rule) = (rest : List ℕ) × (read (text extended) bytes ≡ Ok (rule, rest))
+IsParsed extended bytes (Err e) = (read (text extended) bytes ≡ Err e.error) × (e.position ≡ Some (text_fault_position extended bytes))

@@ -1,6 +1,6 @@
--- From which second on a transition has come.
-use Rattle.std.specs.Prelude.{ℕ, ℤ, ◌<◌, ◌≤◌, ◌+ℤ◌, ◌≤ℤ◌, ◌<ℤ◌, List, length, slice_index_or}
-use Rattle.tz_info.specs.Leaps.{correction_at}
+-- From which second on a transition has come, and which seconds have a leap time.
+use Rattle.std.specs.Prelude.{ℕ, ℤ, pos, ◌<◌, ◌≤◌, ◌+ℤ◌, ◌≤ℤ◌, ◌<ℤ◌, List, length, slice_index_or}
+use Rattle.tz_info.specs.Leaps.{IsLeapTime, IsLeapTimeRefused, correction_at, least_time}
 use Rattle.tz_info.specs.Zones.{Zone}
 use Rattle.tz_info.specs.declared.zone.leap_second.LeapSecond.{LeapSecond}
 
@@ -19,3 +19,8 @@ pub record AreBefore (leaps : List LeapSecond) (x : ℤ) (n : ℕ) : Type 0 wher
   pub within : n ≤ length leaps
   pub before : (k : ℕ) (d : LeapSecond) → k < n → (slice_index_or leaps k d).unix_leap_time <ℤ x
   pub from : (d : LeapSecond) → n < length leaps → x ≤ℤ (slice_index_or leaps n d).unix_leap_time
+
+-- each second of 64 bits up to that one has a leap time, and no later one has
+pub record IsLastWithLeapTime (leaps : List LeapSecond) (last : ℤ) : Type 0 where
+  pub has : (u : ℤ) → least_time ≤ℤ u → u ≤ℤ last → IsLeapTime leaps u (u +ℤ correction_at leaps u)
+  pub refused : (u : ℤ) → last <ℤ u → u ≤ℤ pos 9_223_372_036_854_775_807 → IsLeapTimeRefused leaps u

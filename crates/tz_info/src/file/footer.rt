@@ -45,12 +45,11 @@ fn rule_or_none(extended: bool, text: &[u8]) -> Result<Option<TransitionRule>, E
     Ok(Some(read_rule(extended, text)?))
 }
 
-// A function of its own, since the reader's clause keeps the bytes after the text.
-#[tactic(auto, using(crate::proofs::FooterLaws::rule_given))]
+#[tactic(auto, unfolding(crate::specs::Steps::FooterReading::rule_in))]
 fn read_rule(extended: bool, text: &[u8]) -> Result<TransitionRule, Error>
     ensures { Gives (λ r. r) result (rule_in extended text.now) }
 {
-    read_all(text, extended)
+    Ok(read_all(text, extended)?)
 }
 
 fn is_utf8(bytes: &[u8]) -> bool

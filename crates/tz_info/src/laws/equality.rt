@@ -9,13 +9,14 @@ ghost use Rattle.tz_info.specs.declared.rule.transition_rule.TransitionRule.{Tra
 ghost use Rattle.tz_info.specs.declared.zone.differences.Difference.{Difference as Differing};
 ghost use Rattle.tz_info.specs.declared.zone.leap_second.LeapSecond.{LeapSecond as Leap};
 ghost use Rattle.tz_info.specs.declared.zone.shown_seconds.ShownSeconds.{ShownSeconds as Seconds};
-ghost use Rattle.tz_info.specs.declared.zone.shown_seconds.TypedSecond.{TypedSecond as Second};
+ghost use Rattle.tz_info.specs.declared.change.TypedSecond.{TypedSecond as Second};
 ghost use Rattle.tz_info.specs.declared.zone.transition.Transition.{Transition as ListedTransition};
 
+use crate::change::TypedSecond;
 use crate::rule::{AlternateTime, RuleDay, TransitionRule};
 use crate::zone::all_changes::Changes;
 use crate::zone::differences::Difference;
-use crate::zone::shown_seconds::{ShownSeconds, TypedSecond};
+use crate::zone::shown_seconds::ShownSeconds;
 use crate::zone::{LeapSecond, TimeZone, Transition};
 
 /// Transitions are equal if and only if their times and their indexes are. A clone is the value,

@@ -2,15 +2,13 @@
 
 ghost use Rattle.std.specs.Prelude.{◌≡◌, MatchResult, IsTrue, ◌↔◌};
 ghost use Rattle.offset_core.specs.Offset.{IsWithinDay};
-ghost use Rattle.tz_base.specs.declared.error.Error.TheVariants.{OutOfRange, TransitionRule};
-ghost use Rattle.tz_base.specs.declared.error.Expected.TheVariants.{YearThatRuleAnswersIn};
+ghost use Rattle.tz_base.specs.declared.error.Error.TheVariants.{TransitionRule};
 ghost use Rattle.tz_info.specs.Rules.{Alternate, expected_of_alternate, IsAlternate, IsAlternateRule};
 
 use crate::change::is_same_type;
 use crate::rule::changing::{any_of, changing_keys, year_key};
 use crate::rule::day::{DayTime, RuleDay};
 use crate::rule::kinds::margin_of;
-use crate::rule::season::is_rule_time;
 use std::fmt;
 use std::marker::Model;
 use tz_base::{Error, Expected, LocalTimeType};
@@ -134,7 +132,7 @@ impl fmt::Debug for AlternateTime {
 }
 
 impl AlternateTime {
-    ghost use Rattle.tz_info.specs.Moments.{AlternateAt, IsAlternateRefused, IsRuleYear, NeverChanges};
+    ghost use Rattle.tz_info.specs.Moments.{IsRuleYear, NeverChanges, type_when};
     ghost use Rattle.tz_info.specs.Steps.AskedYears.{changes_in_year};
 
     /// The rule by which daylight saving time starts on one day and ends on another, each a
@@ -188,26 +186,6 @@ impl AlternateTime {
         })
     }
 
-    /// The type in force at the second of Unix time, as `TransitionRule::find_local_time_type` has
-    /// it.
-    ///
-    /// # Errors
-    ///
-    /// [`Error::OutOfRange`] if the second's UTC year is below `i32::MIN + 2` or above
-    /// `i32::MAX - 2`.
-    #[inline(always)]
-    #[tactic(auto, using(crate::proofs::Ranges::in_range, crate::proofs::RuleLaws::refused_outside))]
-    pub fn find_local_time_type(&self, unix_time: i64) -> Result<&LocalTimeType, Error>
-        ensures { MatchResult result
-            (λ t. AlternateAt self.now unix_time t.now)
-            (λ e. (e ≡ OutOfRange YearThatRuleAnswersIn) × IsAlternateRefused unix_time) }
-    {
-        if !is_rule_time(unix_time) {
-            return Err(Error::OutOfRange(Expected::YearThatRuleAnswersIn));
-        }
-        Ok(self.type_in(self.season(unix_time), unix_time))
-    }
-
     // Whether clocks change in the year, or as the next one begins, if the types differ.
     pub(super) fn changes_in_year(&self, year: i32) -> bool
         requires { IsRuleYear year }
@@ -241,6 +219,14 @@ impl AlternateTime {
         ensures rule { IsAlternateRule self.now }
     {
         &self.dst_type
+    }
+
+    // The type of daylight saving time, or of standard time.
+    #[inline(always)]
+    pub(crate) fn type_when(&self, is_dst: bool) -> &LocalTimeType
+        ensures { result.now ≡ type_when self.now is_dst }
+    {
+        if is_dst { self.dst() } else { self.std() }
     }
 
     /// The day on which daylight saving time starts.

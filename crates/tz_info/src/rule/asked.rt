@@ -7,14 +7,12 @@ ghost use Rattle.tz_info.specs.Counts.{HasRoomFor};
 ghost use Rattle.tz_info.specs.Changes.{IsChange};
 ghost use Rattle.tz_info.specs.Moments.{AlternateAt, IsRuleTime, IsRuleYear, IsYearOf, type_when};
 ghost use Rattle.tz_info.specs.Steps.Beside.{IsNearestMomentOf, change_found};
-ghost use Rattle.tz_info.specs.Rules.{Alternate};
-ghost use Rattle.tz_info.specs.Steps.Changes.{IsIdle, IsInStretch, IsOfYear, nearer_one};
+ghost use Rattle.tz_info.specs.Steps.Changes.{IsIdle, IsInStretch, IsOfYear};
 ghost use Rattle.tz_info.specs.Steps.AskedYears.{IsAskedYear, IsCalmRule, turn_of};
 
 use crate::change::is_same_type;
 use crate::rule::alternate::AlternateTime;
-use crate::rule::season::Turns;
-use crate::rule::wall_clock::Moment;
+use crate::rule::moments::{Moment, Turns, nearer};
 use crate::rule::years::{Stretch, rule_year_of};
 use crate::timeline::Probes;
 
@@ -145,23 +143,4 @@ impl AlternateTime {
             self.is_dst_at(second)
         }
     }
-}
-
-// The moment that comes first, or the one that comes last.
-pub(super) fn nearer(found: Option<Moment>, other: Option<Moment>, forward: bool) -> Option<Moment>
-    ensures { (a : Alternate) → change_found a result
-        ≡ nearer_one forward (change_found a found) (change_found a other) }
-{
-    let Some(one) = found else {
-        return other;
-    };
-    let Some(second) = other else {
-        return Some(one);
-    };
-    let is_nearer = if forward {
-        second.at < one.at
-    } else {
-        one.at < second.at
-    };
-    if is_nearer { Some(second) } else { Some(one) }
 }

@@ -8,8 +8,8 @@ ghost use Rattle.tz_info.specs.Rules.{Alternate};
 ghost use Rattle.tz_info.specs.Steps.Beside.{IsBeside, change_found};
 
 use crate::rule::alternate::AlternateTime;
+use crate::rule::moments::Moment;
 use crate::rule::season::is_rule_time;
-use crate::rule::wall_clock::Moment;
 use crate::timeline::Probes;
 
 // Whether it is daylight saving time at a second, and the seconds of the last change up to it and of

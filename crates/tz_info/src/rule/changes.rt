@@ -1,19 +1,27 @@
 //! When a rule's types give way to each other.
 
-ghost use Rattle.std.specs.Prelude.{◌≡◌, ◌≢◌, ◌<ℤ◌, MatchOption, option_map};
-ghost use Rattle.tz_info.specs.Changes.{IsNearest};
+ghost use Rattle.std.specs.Prelude.{◌≡◌, ◌≤◌, pos, ◌-ℤ◌, ◌<ℤ◌, ◌↔◌, IsTrue, MatchOption, not, option_map};
+ghost use Rattle.tz_info.specs.Changes.{HasNoChange, IsNearest};
 ghost use Rattle.tz_info.specs.HeldChanges.{change_held};
-ghost use Rattle.tz_info.specs.Moments.{AlternateAt, type_when};
-ghost use Rattle.tz_info.specs.Steps.Beside.{change_found};
-ghost use Rattle.tz_info.specs.Steps.Changes.{IsAhead};
+ghost use Rattle.tz_info.specs.Moments.{AlternateAt, IsRuleTime, IsRuleYear, IsYearOf, type_when};
+ghost use Rattle.tz_info.specs.Steps.AskedYears.{HasNoneBeyond, IsAskedYear, IsNextChanging};
+ghost use Rattle.tz_info.specs.Steps.AskedYears.{IsYearNear};
+ghost use Rattle.tz_info.specs.Steps.Beside.{IsNearestMomentOf, change_found};
+ghost use Rattle.tz_info.specs.Steps.Changes.{IsAhead, IsNearRuleTime, year_at};
 ghost use Rattle.tz_info.specs.Counts.{HasRoomFor, RoseWithin};
 
-use crate::change::{HeldChange, is_same_type};
+use crate::change::HeldChange;
 use crate::rule::alternate::AlternateTime;
-use crate::rule::wall_clock::Moment;
+use crate::rule::asked::AskedYear;
+use crate::rule::moments::Moment;
+use crate::rule::season::{FIRST_RULE_TIME, LAST_RULE_TIME};
 use crate::rule::years::stretch_ahead;
 use crate::timeline::Probes;
-use tz_base::LocalTimeType;
+
+// The first and the last of the years that a rule answers in.
+const FIRST_RULE_YEAR: i64 = -2_147_483_646;
+
+const LAST_RULE_YEAR: i64 = 2_147_483_645;
 
 impl AlternateTime {
     // The nearest change ahead of the second in that direction, of those that come after `begin`.
@@ -38,6 +46,88 @@ impl AlternateTime {
         self.change_if(ahead.moment_within(self.nearest_moment(near, forward, probes)))
     }
 
+    // The nearest moment. It is asked about the second's year, and about one other year.
+    pub(super) fn nearest_moment(
+        &self,
+        second: i64,
+        forward: bool,
+        probes: &mut Probes,
+    ) -> Option<Moment>
+        requires { HasRoomFor 2 probes.old.rule_questions }
+        ensures nearest { IsNearestMomentOf forward self.now (IsAhead forward second) result }
+        ensures cost { RoseWithin probes.old probes.new 0 2 }
+    {
+        let asked = self.ask_year_at(rule_time_near(second), probes);
+        self.moment_from(asked, second, forward, probes)
+    }
+
+    // The nearest moment, if the year of the rule's second nearest to that one was asked about.
+    #[inline(always)]
+    pub(super) fn moment_from(
+        &self,
+        asked: AskedYear,
+        second: i64,
+        forward: bool,
+        probes: &mut Probes,
+    ) -> Option<Moment>
+        requires asked { IsAskedYear self.now asked }
+        requires near { IsYearNear second asked.year }
+        requires room { HasRoomFor 1 probes.old.rule_questions }
+        ensures nearest { IsNearestMomentOf forward self.now (IsAhead forward second) result }
+        ensures cost { RoseWithin probes.old probes.new 0 1 }
+    {
+        let stretch = stretch_ahead(i64::MIN, second, forward);
+        match self.nearest_in(asked, stretch, forward) {
+            Some(moment) => Some(moment),
+            None => self.moment_beyond(asked.year(), second, forward, probes),
+        }
+    }
+
+    // The nearest moment, if the year itself has none that is ahead of the second.
+    #[inline(never)]
+    fn moment_beyond(
+        &self,
+        first: i32,
+        second: i64,
+        forward: bool,
+        probes: &mut Probes,
+    ) -> Option<Moment>
+        requires near { IsYearNear second first }
+        requires none { HasNoChange (AlternateAt self.now)
+            (λ u. IsAhead forward second u × IsYearOf (u -ℤ pos 1) first) }
+        requires room { HasRoomFor 1 probes.old.rule_questions }
+        ensures nearest { IsNearestMomentOf forward self.now (IsAhead forward second) result }
+        ensures cost { RoseWithin probes.old probes.new 0 1 }
+    {
+        let year = self.changing_year(first, forward)?;
+        let asked = self.ask_year(year, probes);
+        self.nearest_in(asked, stretch_ahead(i64::MIN, second, forward), forward)
+    }
+
+    // The nearest year beyond that one in which clocks change. Every 400 years the rule does the
+    // same, so that no more years are looked at. The rule isn't asked about them.
+    #[tactic(auto, using(crate::proofs::Ranges::in_range))]
+    fn changing_year(&self, first: i32, forward: bool) -> Option<i32>
+        requires { IsRuleYear first }
+        ensures { MatchOption result (HasNoneBeyond self.now forward first)
+            (IsNextChanging self.now forward first) }
+    {
+        let _ = &self.std_type;
+        if self.never_changes() {
+            return None;
+        }
+        for step in 1..401u32 {
+            let year = year_at(first, step, forward);
+            if !is_rule_year(year) {
+                return None;
+            }
+            if self.changes_in_year(year as i32) {
+                return Some(year as i32);
+            }
+        }
+        None
+    }
+
     #[inline(always)]
     fn change_if(&self, found: Option<Moment>) -> Option<HeldChange<'_>>
         ensures { option_map change_held result ≡ change_found self.now found }
@@ -45,28 +135,50 @@ impl AlternateTime {
         Some(self.change_of(found?))
     }
 
-    // The moment at that second, before and after which it is daylight saving time or not, if the
-    // types then differ.
     #[inline(always)]
-    pub(super) fn moment_between(&self, at: i64, before: bool, after: bool) -> Option<Moment>
-        ensures { MatchOption (change_found self.now result)
-            (type_when self.now before ≡ type_when self.now after)
-            (λ c. (type_when self.now before ≢ type_when self.now after) × (c ≡ record {
-              at = at;
-              before = type_when self.now before;
-              after = type_when self.now after;
-            })) }
+    pub(crate) fn change_of(&self, moment: Moment) -> HeldChange<'_>
+        ensures at { result.at ≡ moment.at }
+        ensures before { result.before.now ≡ type_when self.now (not moment.to_dst) }
+        ensures after { result.after.now ≡ type_when self.now moment.to_dst }
     {
-        if before == after || is_same_type(self.std(), self.dst()) {
-            return None;
+        HeldChange {
+            at: moment.at,
+            before: self.type_when(!moment.to_dst),
+            after: self.type_when(moment.to_dst),
         }
-        Some(Moment { at, to_dst: after })
     }
+}
 
-    #[inline(always)]
-    pub(crate) fn type_when(&self, is_dst: bool) -> &LocalTimeType
-        ensures { result.now ≡ type_when self.now is_dst }
-    {
-        if is_dst { self.dst() } else { self.std() }
+// The second of the rule's years that is nearest to that one.
+fn rule_time_near(second: i64) -> i64
+    ensures time { IsRuleTime result }
+    ensures near { IsNearRuleTime second result }
+{
+    if second < FIRST_RULE_TIME {
+        FIRST_RULE_TIME
+    } else if second > LAST_RULE_TIME {
+        LAST_RULE_TIME
+    } else {
+        second
     }
+}
+
+// The year that comes `step` years after the first one, or before it.
+fn year_at(first: i32, step: u32, forward: bool) -> i64
+    requires first { IsRuleYear first }
+    requires step { step ≤ 401 }
+    ensures { result ≡ year_at forward first step }
+{
+    if forward {
+        first as i64 + step as i64
+    } else {
+        first as i64 - step as i64
+    }
+}
+
+// Whether a rule answers in the year.
+fn is_rule_year(year: i64) -> bool
+    ensures { IsTrue result ↔ IsRuleYear year }
+{
+    FIRST_RULE_YEAR <= year && year <= LAST_RULE_YEAR
 }

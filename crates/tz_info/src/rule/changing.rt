@@ -12,7 +12,7 @@ ghost use Rattle.tz_info.specs.Steps.ChangingYears.{turns_in, year_key, years_ne
 ghost use Rattle.tz_info.specs.Steps.Kinds.{are_calm};
 
 use crate::rule::kinds::{are_calm, kind_of};
-use crate::rule::season::{Turns, is_dst_by_three};
+use crate::rule::moments::{Turns, is_dst_by_three};
 use gregorian::{is_leap_year, weekday_of, year_start};
 
 // The moments of four years, from the one before a year to the second one after it, and the first

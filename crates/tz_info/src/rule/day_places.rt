@@ -1,97 +1,15 @@
 //! How many days of a year come before a rule's day.
 
-ghost use Rattle.std.specs.Prelude.{◌≡◌, [], ◌∷◌, ◌≤◌, ◌<◌, ℤ, pos, ◌+ℤ◌};
+ghost use Rattle.std.specs.Prelude.{◌≡◌, ◌≤◌, ◌<◌, pos, ◌+ℤ◌};
 ghost use Rattle.std.specs.Int.{IsInRange};
 ghost use Rattle.naive_base.specs.Year.{is_leap, year_start};
 ghost use Rattle.naive_base.specs.Month.{days_in_month};
 ghost use Rattle.naive_base.specs.Date.{day_number};
 ghost use Rattle.naive_base.specs.Weekday.{weekday_of};
 ghost use Rattle.tz_info.specs.RuleDays.{IsWrittenDate};
-ghost use Rattle.tz_info.specs.Steps.KindPlaces.{weekday_place_from, places_by_kind};
 ghost use Rattle.tz_info.specs.Steps.RuleDays.{julian_place, weekday_place};
-ghost use Rattle.tz_info.specs.declared.rule.day.DayForm.TheVariants.{MonthWeekday};
 
-use crate::rule::day::{DayForm, RuleDay};
-use gregorian::{
-    day_number, days_before_month, days_in_month, days_in_year, is_leap_year, month_and_day,
-    weekday_of, year_start,
-};
-
-impl RuleDay {
-    ghost use Rattle.tz_info.specs.RuleDays.{IsRuleDay};
-
-    // How many days of a year come before the rule's day, in years of each kind: the common years
-    // that begin with Sunday to Saturday, and then the leap years. All are found at once, from the
-    // month's front in a common year and in a leap year.
-    pub(super) fn places_by_kind(&self) -> [u32; 14]
-        ensures value { result ≡ places_by_kind self.now }
-        ensures rule { IsRuleDay self.now }
-    {
-        match self.form {
-            DayForm::Julian1(n) => {
-                same_places(julian_place(2017, n as u32), julian_place(2012, n as u32))
-            }
-            DayForm::Julian0(n) => same_places(n as u32, n as u32),
-            DayForm::MonthWeekday(month, week, weekday) => {
-                weekday_places(month as u32, week as u32, weekday as u32)
-            }
-        }
-    }
-}
-
-// The same place in all common years, and the same in all leap years.
-fn same_places(common: u32, leap: u32) -> [u32; 14]
-    ensures { result ≡ (common ∷ common ∷ common ∷ common ∷ common ∷ common ∷ common
-        ∷ leap ∷ leap ∷ leap ∷ leap ∷ leap ∷ leap ∷ leap ∷ []) }
-{
-    [
-        common, common, common, common, common, common, common, leap, leap, leap, leap, leap, leap,
-        leap,
-    ]
-}
-
-// The places of the weekday in that week of the month.
-fn weekday_places(month: u32, week: u32, weekday: u32) -> [u32; 14]
-    requires month_in { IsInRange 1 12 month }
-    requires week_in { IsInRange 1 5 week }
-    requires weekday_in { weekday ≤ 6 }
-    ensures { result ≡ places_by_kind (MonthWeekday month week weekday) }
-{
-    let common = days_before_month(2017, month);
-    let common_days = days_in_month(2017, month);
-    let leap = days_before_month(2012, month);
-    let leap_days = days_in_month(2012, month);
-    [
-        place_from(common, common_days, 0, week, weekday),
-        place_from(common, common_days, 1, week, weekday),
-        place_from(common, common_days, 2, week, weekday),
-        place_from(common, common_days, 3, week, weekday),
-        place_from(common, common_days, 4, week, weekday),
-        place_from(common, common_days, 5, week, weekday),
-        place_from(common, common_days, 6, week, weekday),
-        place_from(leap, leap_days, 0, week, weekday),
-        place_from(leap, leap_days, 1, week, weekday),
-        place_from(leap, leap_days, 2, week, weekday),
-        place_from(leap, leap_days, 3, week, weekday),
-        place_from(leap, leap_days, 4, week, weekday),
-        place_from(leap, leap_days, 5, week, weekday),
-        place_from(leap, leap_days, 6, week, weekday),
-    ]
-}
-
-// The place of the weekday in that week of a month of `days` days, which begins `before` days after
-// its year, if the year begins with the weekday `first`.
-#[inline(always)]
-fn place_from(before: u32, days: u32, first: u32, week: u32, weekday: u32) -> u32
-    requires before { before < 366 }
-    requires days_in { IsInRange 28 31 days }
-    requires first_in { first < 7 }
-    requires week_in { IsInRange 1 5 week }
-    requires weekday_in { weekday ≤ 6 }
-    ensures { result ≡ weekday_place_from before days first week weekday }
-{
-    before + weekday_place(days, (first + before) % 7, week, weekday)
-}
+use gregorian::{day_number, days_in_month, days_in_year, is_leap_year, month_and_day, weekday_of};
 
 // The month and the day of the month `place` days after the year's 1 January, up to the next
 // 1 January.
@@ -135,7 +53,7 @@ pub(super) fn place_in_month(year: i32, month: u32, week: u32, weekday: u32) -> 
 
 // How many days come before the weekday of that week, in a month of `days` days that begins with
 // the weekday `first`.
-fn weekday_place(days: u32, first: u32, week: u32, weekday: u32) -> u32
+pub(super) fn weekday_place(days: u32, first: u32, week: u32, weekday: u32) -> u32
     requires days_in { IsInRange 28 31 days }
     requires first_in { first < 7 }
     requires week_in { IsInRange 1 5 week }

@@ -1,20 +1,20 @@
 //! The reader of TZ strings.
 
-ghost use Rattle.std.specs.Prelude.{◌≡◌, List, ℕ, IfOk, IfErr};
+ghost use Rattle.std.specs.Prelude.{◌≡◌, IfOk, IfErr, Some};
 ghost use Rattle.std.specs.Result.{IsOkAnd};
-ghost use Rattle.tz_base.specs.Fronts.{Gives};
-ghost use Rattle.tz_base.specs.Grammar.{read};
-ghost use Rattle.tz_info.specs.TzGrammar.{text, IsTzText, IsTextFault};
+ghost use Rattle.tz_info.specs.Steps.Spelled.{IsParsed};
+ghost use Rattle.tz_info.specs.TzGrammar.{IsTzText, IsTextFault, text_fault_position};
 ghost use Rattle.tz_info.specs.declared.rule.transition_rule.TransitionRule.{TransitionRule as Rule};
 
 mod clock;
 mod date;
 mod name;
+mod place;
 mod text;
 
 use crate::rule::transition_rule::TransitionRule;
 use text::{read_text, rule_of};
-use tz_base::{Cursor, Error};
+use tz_base::{Cursor, Error, ParseError};
 
 impl TransitionRule {
     /// The rule that a TZ string spells, as `EST5EDT,M3.2.0,M11.1.0` (POSIX.1 section 8.3). With
@@ -39,15 +39,50 @@ impl TransitionRule {
         // An error is the first fault of the text.
         ensures fault { IfErr result (λ e. IsTextFault extended bytes.now e) }
     {
+        Ok(TransitionRule::parse_tz_string(bytes, extended)?)
+    }
+
+    /// Returns the rule of [`TransitionRule::from_tz_string`], or its error with the place of the
+    /// fault.
+    ///
+    /// ```
+    /// match TransitionRule::parse_tz_string(b"EST5EDT,M3.2.0,M13.1.0", false) {
+    ///     Ok(rule) => Ok(rule),
+    ///     Err(e) => Err(e.position), // Some(16), at the month 13
+    /// }
+    /// ```
+    ///
+    /// # Errors
+    ///
+    /// Those of [`TransitionRule::from_tz_string`], at the first byte with which no TZ string goes
+    /// on; at the end if the string ends too soon; and for numbers and names out of their limits
+    /// where the number, the time or the name begins. If the offset of daylight saving time is left
+    /// out, and an hour more than that of standard time is no offset, the fault is at the comma.
+    pub fn parse_tz_string(bytes: &[u8], extended: bool) -> Result<TransitionRule, ParseError>
+        // What is read is spelled so.
+        ensures found { IfOk result (λ rule. IsTzText extended bytes.now rule) }
+        // What is spelled so is read.
+        ensures only { (rule : Rule) → IsTzText extended bytes.now rule
+            → IsOkAnd result (λ r. r ≡ rule) }
+        // An error is the first fault of the text.
+        ensures fault { IfErr result (λ e. IsTextFault extended bytes.now e.error) }
+        // Its place is that of the fault.
+        ensures place { IfErr result
+            (λ e. e.position ≡ Some (text_fault_position extended bytes.now)) }
+    {
         read_all(bytes, extended)
     }
 }
 
-pub(crate) fn read_all(bytes: &[u8], extended: bool) -> Result<TransitionRule, Error>
-    ensures { (rest : List ℕ) × Gives (λ rule. (rule, rest)) result
-        (read (text extended) bytes.now) }
+pub(crate) fn read_all(bytes: &[u8], extended: bool) -> Result<TransitionRule, ParseError>
+    ensures { IsParsed extended bytes.now result }
 {
     let mut cursor = Cursor::new(bytes);
-    let spelled = read_text(extended, &mut cursor)?;
-    Ok(rule_of(spelled))
+    match read_text(extended, &mut cursor) {
+        Ok(spelled) => Ok(rule_of(spelled)),
+        Err(error) => Err(ParseError {
+            error,
+            position: Some(bytes.len().saturating_sub(cursor.remaining().len())),
+        }),
+    }
 }

@@ -1,19 +1,21 @@
 //! The moments of one year at which a rule's types give way to each other, and the seconds at which
 //! only these decide.
 
-ghost use Rattle.std.specs.Prelude.{◌≡◌, ◌<◌, pos, ◌+ℤ◌, int_le, IsTrue, ◌↔◌, ◌||◌, not, if◌then◌else◌};
+ghost use Rattle.std.specs.Prelude.{◌≡◌, ◌<◌, pos, ◌+ℤ◌, IsTrue, ◌↔◌, MatchResult};
 ghost use Rattle.naive_base.specs.DateOf.{year_of, day_of_year};
 ghost use Rattle.naive_base.specs.Year.{floor_div, year_start, LiesIn, IsDay};
+ghost use Rattle.tz_base.specs.declared.error.Error.TheVariants.{OutOfRange};
+ghost use Rattle.tz_base.specs.declared.error.Expected.TheVariants.{YearThatRuleAnswersIn};
 ghost use Rattle.tz_info.specs.Rules.{IsAlternateRule};
 ghost use Rattle.tz_info.specs.Moments.{IsRuleTime};
 ghost use Rattle.tz_info.specs.Steps.Kinds.{kind_place};
 ghost use Rattle.tz_info.specs.Steps.Seasons.{IsDecidedIn};
-ghost use Rattle.tz_info.specs.Steps.Turns.{dst_by, is_between, is_dst_by_one};
 
 use crate::rule::alternate::AlternateTime;
 use crate::rule::kinds::{kind_by, kind_of};
+use crate::rule::moments::{Turns, is_dst_by_three};
 use gregorian::{year_day_of, year_of, year_start};
-use tz_base::LocalTimeType;
+use tz_base::{Error, Expected, LocalTimeType};
 
 // The first and the last second of the years that a rule answers in.
 pub(super) const FIRST_RULE_TIME: i64 = -67_768_100_504_812_800;
@@ -22,13 +24,6 @@ pub(super) const LAST_RULE_TIME: i64 = 67_767_976_170_460_799;
 
 // How many days before 1970 they begin.
 const DAYS_BEFORE_1970: i64 = 784_353_015_102;
-
-// The seconds at which daylight saving time starts and ends in one year.
-#[derive(Clone, Copy)]
-pub(super) struct Turns {
-    pub(super) start: i64,
-    pub(super) end: i64,
-}
 
 // The moments of one year, and from when until when these alone decide.
 #[derive(Clone, Copy)]
@@ -39,8 +34,29 @@ pub(crate) struct Season {
 }
 
 impl AlternateTime {
-    ghost use Rattle.tz_info.specs.Moments.{AlternateAt, IsRuleYear, IsDstAt, start_in, end_in, type_when};
+    ghost use Rattle.tz_info.specs.Moments.{AlternateAt, IsAlternateRefused, IsDstAt, IsRuleYear};
+    ghost use Rattle.tz_info.specs.Moments.{end_in, start_in, type_when};
     ghost use Rattle.tz_info.specs.Steps.Seasons.{IsSeason};
+
+    /// The type in force at the second of Unix time, as `TransitionRule::find_local_time_type` has
+    /// it.
+    ///
+    /// # Errors
+    ///
+    /// [`Error::OutOfRange`] if the second's UTC year is below `i32::MIN + 2` or above
+    /// `i32::MAX - 2`.
+    #[inline(always)]
+    #[tactic(auto, using(crate::proofs::Ranges::in_range, crate::proofs::RuleLaws::refused_outside))]
+    pub fn find_local_time_type(&self, unix_time: i64) -> Result<&LocalTimeType, Error>
+        ensures { MatchResult result
+            (λ t. AlternateAt self.now unix_time t.now)
+            (λ e. (e ≡ OutOfRange YearThatRuleAnswersIn) × IsAlternateRefused unix_time) }
+    {
+        if !is_rule_time(unix_time) {
+            return Err(Error::OutOfRange(Expected::YearThatRuleAnswersIn));
+        }
+        Ok(self.type_in(self.season(unix_time), unix_time))
+    }
 
     // The type in force at the second: a function of its own, for seconds that are seldom asked.
     #[inline(never)]
@@ -157,74 +173,6 @@ impl Season {
     {
         (self.from <= unix_time) & (unix_time < self.until)
     }
-}
-
-impl Turns {
-    // Whether it is daylight saving time at the second, where no other year's moments matter.
-    pub(super) fn is_dst(self, unix_time: i64) -> bool
-        ensures { result ≡ is_dst_by_one self.start self.end unix_time }
-    {
-        let has_started = self.start <= unix_time;
-        let has_not_ended = unix_time < self.end;
-        if self.is_start_first() {
-            has_started & has_not_ended
-        } else {
-            has_started | has_not_ended
-        }
-    }
-
-    // The start, or the end.
-    pub(super) fn moment(self, to_dst: bool) -> i64
-        ensures { result ≡ (if to_dst then self.start else self.end) }
-    {
-        if to_dst { self.start } else { self.end }
-    }
-
-    // Whether the start does not come after the end.
-    fn is_start_first(self) -> bool
-        ensures { result ≡ int_le self.start self.end }
-    {
-        self.start <= self.end
-    }
-
-    fn is_from_start(self, unix_time: i64) -> bool
-        ensures { result ≡ is_between self.start self.end unix_time }
-    {
-        self.start <= unix_time && unix_time < self.end
-    }
-
-    fn is_from_end(self, unix_time: i64) -> bool
-        ensures { result ≡ is_between self.end self.start unix_time }
-    {
-        self.end <= unix_time && unix_time < self.start
-    }
-}
-
-// Whether it is daylight saving time at the second by the moments of its year and of the years
-// before and after it.
-pub(super) fn is_dst_by_three(before: Turns, here: Turns, after: Turns, unix_time: i64) -> bool
-    ensures { result ≡ dst_by before here after unix_time }
-{
-    if here.is_start_first() {
-        is_any(
-            before.is_from_start(unix_time),
-            here.is_from_start(unix_time),
-            after.is_from_start(unix_time),
-        )
-    } else {
-        !is_any(
-            before.is_from_end(unix_time),
-            here.is_from_end(unix_time),
-            after.is_from_end(unix_time),
-        )
-    }
-}
-
-// Whether one of them holds: a function of its own, so that no case is made of each.
-fn is_any(a: bool, b: bool, c: bool) -> bool
-    ensures { result ≡ (a || b || c) }
-{
-    a || b || c
 }
 
 // Whether the second lies in a year that a rule answers in.

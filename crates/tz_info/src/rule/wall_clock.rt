@@ -1,6 +1,6 @@
 //! The wall clock of a rule.
 
-ghost use Rattle.std.specs.Prelude.{◌≡◌, ◌≢◌, ◌-ℤ◌, ℤ, MatchOption, Some, not, ⊤};
+ghost use Rattle.std.specs.Prelude.{◌≡◌, ◌≢◌, ◌-ℤ◌, ℤ, MatchOption, Some, ⊤};
 ghost use Rattle.std.specs.Result.{IsOkAnd};
 ghost use Rattle.naive_base.specs.NaiveDateTime.{reading};
 ghost use Rattle.naive_base.specs.Range.{IsWide};
@@ -8,7 +8,6 @@ ghost use Rattle.offset_core.specs.LocalResult.{map_of};
 ghost use Rattle.offset_core.specs.WallAnswer.{IsWallAnswer};
 ghost use Rattle.tz_base.specs.LocalTypes.{IsUtOffset};
 ghost use Rattle.tz_info.specs.Counts.{RoseWithin, HasRoomFor};
-ghost use Rattle.tz_info.specs.Moments.{type_when};
 ghost use Rattle.tz_info.specs.RuleTypes.{RuleAt};
 ghost use Rattle.tz_info.specs.Rules.{IsAlternateRule};
 ghost use Rattle.tz_info.specs.Steps.Gaps.{IsNeverFrom, IsRuleGap};
@@ -21,18 +20,12 @@ ghost use Rattle.tz_info.specs.declared.rule.transition_rule.TransitionRule.TheV
 
 use crate::answers::{answer_of_two, copied, joined, second_showing};
 use crate::change::HeldChange;
+use crate::rule::moments::Moment;
 use crate::rule::{AlternateTime, Season, TransitionRule};
 use crate::timeline::Probes;
 use naive_base::NaiveDateTime;
 use offset_core::MappedLocalTime;
 use tz_base::{Error, LocalTimeType};
-
-// A second at which daylight saving time starts, or ends.
-#[derive(Clone, Copy)]
-pub(crate) struct Moment {
-    pub(crate) at: i64,
-    pub(crate) to_dst: bool,
-}
 
 impl TransitionRule {
     /// Returns the types in force at the instants at which a clock by this rule shows the local time.
@@ -193,19 +186,6 @@ impl AlternateTime {
             at: season.turns.moment(to_dst),
             to_dst,
         })
-    }
-
-    #[inline(always)]
-    pub(crate) fn change_of(&self, moment: Moment) -> HeldChange<'_>
-        ensures at { result.at ≡ moment.at }
-        ensures before { result.before.now ≡ type_when self.now (not moment.to_dst) }
-        ensures after { result.after.now ≡ type_when self.now moment.to_dst }
-    {
-        HeldChange {
-            at: moment.at,
-            before: self.type_when(!moment.to_dst),
-            after: self.type_when(moment.to_dst),
-        }
     }
 
     // Asks for the one second that could show the local time at the offset, unless it comes before

@@ -24,8 +24,7 @@ use crate::change::{HeldChange, is_same_type};
 use crate::rule::TransitionRule;
 use crate::timeline::{Probes, Timed};
 use crate::zone::kept::Kept;
-use crate::zone::leap_second::LeapSecond;
-use crate::zone::lookup::{NEAR, has_leap_time};
+use crate::zone::leap_seconds::LeapSeconds;
 use crate::zone::segments::Lists;
 use crate::zone::shown::Shown;
 use crate::zone::starts::first_second;
@@ -104,7 +103,7 @@ impl ChangeList {
         alloc: Global,
         transitions: Vec<Kept>,
         types: &[LocalTimeType],
-        leaps: &[LeapSecond],
+        leaps: &LeapSeconds,
         rule: &Option<TransitionRule>,
     ) -> Result<ChangeList, Error>
         requires { IsValid (record {
@@ -476,7 +475,7 @@ fn are_entries(lists: Lists) -> bool
       transitions = lists.entry.transitions.now;
     }) }
 {
-    if !lists.leaps.is_empty() {
+    if !lists.leaps.entries().is_empty() {
         return false;
     }
     let mut before = &lists.types[0];
@@ -500,11 +499,10 @@ fn entries_of(alloc: Global, lists: Lists) -> Result<(Vec<Kept>, usize), AllocEr
     })) (λ _. ⊤) }
 {
     let count = lists.transitions.len();
-    let known = known_leap_time(lists.leaps, lists.transitions);
     let mut entries = Vec::with_capacity(alloc, count)?;
     for place in 0..count {
         let transition = &lists.transitions[place];
-        let Some(start) = start_in(lists.leaps, transition.second(), known) else {
+        let Some(start) = start_in(lists.leaps, transition.second()) else {
             let all = entries.len() + 1;
             return Ok((entries, all));
         };
@@ -520,69 +518,16 @@ fn entries_of(alloc: Global, lists: Lists) -> Result<(Vec<Kept>, usize), AllocEr
     Ok((entries, all))
 }
 
-// A second that has a leap time, and so has each before it. It is the last one, if a transition comes far
-// from now: then each leap second may have to be looked at to find whether a second has a leap time.
-fn known_leap_time(leaps: &[LeapSecond], transitions: &[Kept]) -> i64
-    requires { AreLeapSeconds leaps.now }
-    ensures { (x : ℤ) × IsLeapTime leaps.now result x }
-{
-    let Some(last) = transitions.last() else {
-        return NEAR;
-    };
-    if last.second() <= NEAR {
-        return NEAR;
-    }
-    let mut known = NEAR;
-    let mut seconds = 1 << 62;
-    for _bit in 0..63 {
-        known = later_leap_time(leaps, known, seconds);
-        seconds /= 2;
-    }
-    known
-}
-
-// The second so many seconds later, if it has a leap time, or else the same one.
-fn later_leap_time(leaps: &[LeapSecond], known: i64, seconds: i64) -> i64
-    requires leaps { AreLeapSeconds leaps.now }
-    requires known { (x : ℤ) × IsLeapTime leaps.now known x }
-    ensures { (x : ℤ) × IsLeapTime leaps.now result x }
-{
-    let Some(later) = known.checked_add(seconds) else {
-        return known;
-    };
-    if has_leap_time(leaps, later) {
-        return later;
-    }
-    known
-}
-
-// Whether the second has a leap time, where a known one has.
-#[inline(always)]
-fn has_leap_time_beside(leaps: &[LeapSecond], unix_time: i64, known: i64) -> bool
-    requires leaps { AreLeapSeconds leaps.now }
-    requires known { (x : ℤ) × IsLeapTime leaps.now known x }
-    ensures yes { IsTrue result → IsLeapTime leaps.now unix_time
-        (unix_time +ℤ correction_at leaps.now unix_time) }
-    ensures no { IsFalse result → IsLeapTimeRefused leaps.now unix_time }
-{
-    if unix_time <= known {
-        return true;
-    }
-    has_leap_time(leaps, unix_time)
-}
-
 // The first second at which the leap time has come, if one of 64 bits has a leap time then.
-fn start_in(leaps: &[LeapSecond], time: i64, known: i64) -> Option<i64>
-    requires leaps { AreLeapSeconds leaps.now }
-    requires known { (x : ℤ) × IsLeapTime leaps.now known x }
+fn start_in(leaps: &LeapSeconds, time: i64) -> Option<i64>
     ensures { MatchOption result (NeverComes leaps.now time) (IsStartIn leaps.now time) }
 {
-    let start = first_second(leaps, time);
+    let start = first_second(leaps.entries(), time);
     if start > i64::MAX as i128 {
         return None;
     }
     let second = start as i64;
-    if has_leap_time_beside(leaps, second, known) {
+    if leaps.has_leap_time(second) {
         Some(second)
     } else {
         None

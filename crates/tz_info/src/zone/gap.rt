@@ -31,15 +31,20 @@ impl TimeZone {
     ///
     /// In New York clocks were set forward from 02:00 to 03:00 on 14 March 2021. For 02:30 that day
     /// it returns the change at 1615705200 from EST to EDT, and for 03:30 EDT.
+    #[inline(always)]
     pub fn find_local_time_type_around(&self, local: NaiveDateTime) -> Around<LocalTimeType, Change>
         ensures { AreTypesAround (TypeAt self.now) (reading local).s result }
     {
-        self.find_local_time_type_around_counted(local, &mut Probes::new())
+        match self.last_type_at(local.secs_since_epoch()) {
+            Some(only) => Around::Single(*only),
+            None => self.find_local_time_type_around_counted(local, &mut Probes::new()),
+        }
     }
 
     /// As [`TimeZone::find_local_time_type_around`], and counts as
     /// [`TimeZone::find_local_time_type_from_local_counted`] does. In a gap one transition is
-    /// looked at besides, and otherwise none.
+    /// looked at besides, and otherwise none. It always searches:
+    /// [`TimeZone::find_local_time_type_around`] needs no search after the last change.
     ///
     /// In a gap that the rule makes, its types around the gap are not counted as questions.
     ///
@@ -65,6 +70,7 @@ impl TimeZone {
 
     /// As [`TimeZone::find_local_time_type_around`], with references to the zone's types; of a gap it
     /// returns the type before it.
+    #[inline(always)]
     pub fn local_time_types_around(
         &self,
         local: NaiveDateTime,
@@ -72,7 +78,21 @@ impl TimeZone {
         ensures { IsAroundOrBefore (TypeAt self.now) (reading local).s
             (map_both (λ r. r.now) (λ r. r.now) result) }
     {
-        match self.around(local.secs_since_epoch(), &mut Probes::new()) {
+        let local = local.secs_since_epoch();
+        match self.last_type_at(local) {
+            Some(only) => Around::Single(only),
+            None => self.types_around(local),
+        }
+    }
+
+    // The same, by a search.
+    #[inline(always)]
+    fn types_around(&self, local: i64) -> Around<&LocalTimeType, &LocalTimeType>
+        requires { IsWide local }
+        ensures { IsAroundOrBefore (TypeAt self.now) local
+            (map_both (λ r. r.now) (λ r. r.now) result) }
+    {
+        match self.around(local, &mut Probes::new()) {
             Around::Single(only) => Around::Single(only),
             Around::Ambiguous(first, last) => Around::Ambiguous(first, last),
             Around::Gap(gap) => Around::Gap(gap.before),

@@ -11,9 +11,6 @@ ghost use Rattle.tz_info.specs.Steps.Starts.{AreBefore};
 use crate::zone::{LeapSecond, TimeZone};
 use tz_base::{Error, Expected};
 
-// Up to this second no sum with the correction of a passed entry leaves 64 bits.
-const LAST_WITH_ROOM: i64 = 1 << 62;
-
 impl TimeZone {
     /// The leap time of a Unix time: the second counted from 1970 with the zone's leap seconds.
     ///
@@ -27,7 +24,7 @@ impl TimeZone {
             (λ e. (e ≡ OutOfRange LeapTimeOf64Bits)
             × IsLeapTimeRefused self.now.leaps unix_time) }
     {
-        leap_time(&self.leap_seconds, unix_time)
+        self.leap_seconds.leap_time(unix_time)
     }
 
     /// The Unix time of a leap time: the second without the leap seconds before it. An inserted
@@ -43,49 +40,13 @@ impl TimeZone {
             (λ e. (e ≡ OutOfRange (expected_of_leap_time unix_leap_time))
             × IsUnixTimeRefused self.now.leaps unix_leap_time) }
     {
-        unix_time(&self.leap_seconds, unix_leap_time)
+        unix_time(self.leap_seconds.entries(), unix_leap_time)
     }
-}
-
-#[inline(always)]
-pub(super) fn leap_time(entries: &[LeapSecond], unix_time: i64) -> Result<i64, Error>
-    requires { AreLeapSeconds entries.now }
-    ensures { MatchResult result
-        (λ x. IsLeapTime entries.now unix_time x)
-        (λ e. (e ≡ OutOfRange LeapTimeOf64Bits)
-        × IsLeapTimeRefused entries.now unix_time) }
-{
-    if entries.is_empty() {
-        return Ok(unix_time);
-    }
-    leap_time_among(entries, unix_time)
-}
-
-// The leap time of a Unix time, by a search by halves. No entry is passed before 1970, and only the
-// sums of the last seconds leave 64 bits.
-#[inline(never)]
-fn leap_time_among(entries: &[LeapSecond], unix_time: i64) -> Result<i64, Error>
-    requires { AreLeapSeconds entries.now }
-    ensures { MatchResult result
-        (λ x. IsLeapTime entries.now unix_time x)
-        (λ e. (e ≡ OutOfRange LeapTimeOf64Bits)
-        × IsLeapTimeRefused entries.now unix_time) }
-{
-    if unix_time < 0 {
-        return Ok(unix_time);
-    }
-    if unix_time > LAST_WITH_ROOM {
-        return leap_time_at_the_end(entries, unix_time);
-    }
-    let passed = passed_at(entries, unix_time);
-    Ok(unix_time + correction_after(entries, passed) as i64)
 }
 
 // How many entries are passed at the Unix time.
-fn passed_at(entries: &[LeapSecond], unix_time: i64) -> usize
-    requires leaps { AreLeapSeconds entries.now }
-    requires some { pos 0 ≤ℤ unix_time }
-    requires room { unix_time ≤ℤ pos 4_611_686_018_427_387_904 }
+pub(super) fn passed_at(entries: &[LeapSecond], unix_time: i64) -> usize
+    requires { AreLeapSeconds entries.now }
     ensures { result ≡ passed_count entries.now unix_time }
 {
     let mut first = 0;
@@ -107,11 +68,10 @@ fn passed_at(entries: &[LeapSecond], unix_time: i64) -> usize
 fn is_passed(entries: &[LeapSecond], place: usize, unix_time: i64) -> bool
     requires leaps { AreLeapSeconds entries.now }
     requires place { place < length entries.now }
-    requires some { pos 0 ≤ℤ unix_time }
-    requires room { unix_time ≤ℤ pos 4_611_686_018_427_387_904 }
     ensures { IsTrue result ↔ (place < passed_count entries.now unix_time) }
 {
-    entries[place].unix_leap_time <= unix_time + correction_after(entries, place) as i64
+    let correction = correction_after(entries, place) as i64;
+    entries[place].unix_leap_time <= unix_time.saturating_add(correction)
 }
 
 // The correction after the first `count` entries.
@@ -123,27 +83,6 @@ pub(super) fn correction_after(entries: &[LeapSecond], count: usize) -> i32
         return 0;
     }
     entries[count - 1].correction
-}
-
-// The leap time of a Unix time, by one passed entry after another.
-fn leap_time_at_the_end(entries: &[LeapSecond], unix_time: i64) -> Result<i64, Error>
-    requires { AreLeapSeconds entries.now }
-    ensures { MatchResult result
-        (λ x. IsLeapTime entries.now unix_time x)
-        (λ e. (e ≡ OutOfRange LeapTimeOf64Bits)
-        × IsLeapTimeRefused entries.now unix_time) }
-{
-    let mut leap_time = unix_time;
-    for entry in entries {
-        if leap_time < entry.unix_leap_time {
-            return Ok(leap_time);
-        }
-        match unix_time.checked_add(entry.correction as i64) {
-            Some(sum) => leap_time = sum,
-            None => return Err(Error::OutOfRange(Expected::LeapTimeOf64Bits)),
-        }
-    }
-    Ok(leap_time)
 }
 
 pub(super) fn unix_time(entries: &[LeapSecond], leap_time: i64) -> Result<i64, Error>

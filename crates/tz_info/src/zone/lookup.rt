@@ -1,47 +1,32 @@
 //! The type in force at an instant, and the reads that several lookups share.
 
 ghost use Rattle.std.specs.Prelude.{◌≡◌, ◌+◌, ◌<◌, ◌≤◌, ◌^◌, length, take, slice_index_or};
-ghost use Rattle.std.specs.Prelude.{IfOk, IfSome, IsFalse, IsTrue, ◌+ℤ◌, ◌↔◌};
+ghost use Rattle.std.specs.Prelude.{IfOk, IfSome, IsTrue, ◌↔◌};
 ghost use Rattle.std.specs.Prelude.{MatchOption, MatchResult, Some, None};
+ghost use Rattle.naive_base.specs.Range.{IsWide};
+ghost use Rattle.offset_core.specs.WallAnswer.{IsShownOnce};
 ghost use Rattle.tz_base.specs.declared.error.Error.TheVariants.{FindLocalTimeType};
 ghost use Rattle.tz_base.specs.declared.error.Expected.TheVariants.{YearThatRuleAnswersIn};
 ghost use Rattle.tz_info.specs.Counts.{HasRoom, RoseWithin, HasRoomFor};
 ghost use Rattle.tz_info.specs.Digits.{digits};
-ghost use Rattle.tz_info.specs.Leaps.{AreLeapSeconds, IsLeapTime, IsLeapTimeRefused, IsNear, correction_at};
+ghost use Rattle.tz_info.specs.HeldChanges.{span_held};
+ghost use Rattle.tz_info.specs.Leaps.{IsLeapTime, IsLeapTimeRefused, IsNear};
 ghost use Rattle.tz_info.specs.Looks.{RoseByInstant};
 ghost use Rattle.tz_info.specs.Questions.{IsAskedAt};
+ghost use Rattle.tz_info.specs.Spans.{IsSpanAt};
 ghost use Rattle.tz_info.specs.Steps.Asked.{IsAskedAtLeapTime};
 ghost use Rattle.tz_info.specs.Steps.Entries.{HaveComeAt};
 ghost use Rattle.tz_info.specs.Steps.Starts.{leap_time_at};
 ghost use Rattle.tz_info.specs.Transitions.{passed};
+ghost use Rattle.tz_info.specs.WallClocks.{Shows};
 ghost use Rattle.tz_info.specs.Zones.{RuleOrType, IsRefusedBy, IsFromLast, TypeAtLeapTime, TypeAt, IsTypeError};
 ghost use Rattle.tz_info.specs.declared.rule.transition_rule.TransitionRule.{TransitionRule};
 
+use crate::change::HeldSpan;
 use crate::timeline::Probes;
 use crate::zone::change_table::Come;
-use crate::zone::leap_time::leap_time;
-use crate::zone::{LeapSecond, TimeZone, Transition};
+use crate::zone::{TimeZone, Transition};
 use tz_base::{Error, Expected, LocalTimeType};
-
-// No leap time of a second up to this one leaves 64 bits, nor of one down to its negative.
-pub(super) const NEAR: i64 = 10_000_000_000_000;
-
-// Whether the second has a leap time. Only a second far from now is converted to it.
-#[inline(always)]
-pub(super) fn has_leap_time(leaps: &[LeapSecond], unix_time: i64) -> bool
-    requires { AreLeapSeconds leaps.now }
-    ensures yes { IsTrue result → IsLeapTime leaps.now unix_time
-        (unix_time +ℤ correction_at leaps.now unix_time) }
-    ensures no { IsFalse result → IsLeapTimeRefused leaps.now unix_time }
-{
-    if -NEAR <= unix_time && unix_time <= NEAR {
-        return true;
-    }
-    match leap_time(leaps, unix_time) {
-        Ok(_) => true,
-        Err(_) => false,
-    }
-}
 
 impl TimeZone {
     /// The type in force at the second of Unix time.
@@ -124,6 +109,33 @@ impl TimeZone {
         }
     }
 
+    // The last span, if the second is known to lie in it.
+    #[inline(always)]
+    pub(super) fn last_span_at(&self, unix_time: i64) -> Option<HeldSpan<'_>>
+        ensures { IfSome result (λ s. IsSpanAt (TypeAt self.now) unix_time (span_held s)) }
+    {
+        let _ = &self.changes;
+        if self.last_span.has(unix_time) {
+            Some(HeldSpan::of(&self.last_span.span))
+        } else {
+            None
+        }
+    }
+
+    // The type at the only second that shows the local time, if the last span is known to have it.
+    #[inline(always)]
+    pub(super) fn last_type_at(&self, local: i64) -> Option<&LocalTimeType>
+        requires { IsWide local }
+        ensures { IfSome result (λ t. IsShownOnce (Shows (TypeAt self.now) local) t.now) }
+    {
+        let _ = &self.changes;
+        if self.last_span.local_after < local {
+            Some(&self.last_span.span.local_time_type)
+        } else {
+            None
+        }
+    }
+
     // Whether the zone has no transition.
     #[inline(always)]
     pub(super) fn has_no_transition(&self) -> bool
@@ -142,7 +154,7 @@ impl TimeZone {
         ensures cost { RoseWithin probes.old probes.new (digits (length self.now.transitions)) 0 }
         ensures looked { IfSome result (λ _. probes.old.reads < probes.new.reads) }
     {
-        if has_leap_time(&self.leap_seconds, unix_time) {
+        if self.leap_seconds.has_leap_time(unix_time) {
             Some(self.changes.come(unix_time, probes))
         } else {
             None
@@ -213,7 +225,7 @@ impl TimeZone {
         requires { IsNear second }
         ensures { IsLeapTime self.now.leaps second result }
     {
-        match leap_time(&self.leap_seconds, second) {
+        match self.leap_seconds.leap_time(second) {
             Ok(leap_time) => leap_time,
             Err(_) => unreachable!(),
         }

@@ -53,14 +53,14 @@ impl TimeZone {
     pub fn leap_seconds(&self) -> &[LeapSecond]
         ensures { result.now ≡ self.now.leaps }
     {
-        &self.leap_seconds
+        self.leap_seconds.entries()
     }
 
     /// How many leap seconds the zone has.
     pub fn leap_count(&self) -> usize
         ensures { result ≡ length self.now.leaps }
     {
-        self.leap_seconds.len()
+        self.leap_seconds.entries().len()
     }
 
     /// The rule that says what follows the last transition, or `None` if the zone has none.

@@ -9,11 +9,11 @@ ghost use Rattle.tz_info.specs.Steps.Segments.{begin_of, index_of};
 ghost use Rattle.tz_info.specs.Transitions.{NameTypes};
 
 use crate::answers::second_showing;
+use crate::change::TypedSecond;
 use crate::timeline::Probes;
 use crate::zone::change_table::ChangeTable;
 use crate::zone::index::Index;
 use crate::zone::segment_ends::later;
-use crate::zone::shown_seconds::TypedSecond;
 use crate::zone::starts::cut_at;
 use tz_base::LocalTimeType;
 

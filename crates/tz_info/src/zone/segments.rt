@@ -10,7 +10,7 @@ ghost use Rattle.tz_info.specs.Transitions.{NameTypes};
 use crate::rule::TransitionRule;
 use crate::timeline::Timed;
 use crate::zone::kept::Kept;
-use crate::zone::leap_second::LeapSecond;
+use crate::zone::leap_seconds::LeapSeconds;
 use crate::zone::pieces::{Piece, merged};
 use crate::zone::shown::{Shown, together};
 use crate::zone::starts::cut_at;
@@ -22,7 +22,7 @@ use tz_base::{Error, LocalTimeType};
 pub(super) struct Lists<'a> {
     pub(super) transitions: &'a [Kept],
     pub(super) types: &'a [LocalTimeType],
-    pub(super) leaps: &'a [LeapSecond],
+    pub(super) leaps: &'a LeapSeconds,
     pub(super) rule: &'a Option<TransitionRule>,
 }
 

@@ -17,6 +17,7 @@ ghost use Rattle.tz_info.specs.Counts.{HasRoom, RoseWithin};
 ghost use Rattle.tz_info.specs.Digits.{digits};
 
 use crate::answers::second_showing;
+use crate::change::TypedSecond;
 use crate::rule::TransitionRule;
 use crate::timeline::Probes;
 use crate::zone::extremes::Extremes;
@@ -26,15 +27,6 @@ use crate::zone::segment_search::{first_of, first_reaching};
 use crate::zone::time_zone::TimeZone;
 use naive_base::{NaiveDate, NaiveDateTime, NaiveTime};
 use tz_base::LocalTimeType;
-
-/// A second of Unix time, and the local time type in force then.
-#[derive(Clone, Copy, Debug, PartialEq, Eq)]
-pub struct TypedSecond {
-    /// The second.
-    pub at: i64,
-    /// The type in force.
-    pub local_time_type: LocalTimeType,
-}
 
 /// The first and the last second at which clocks show a local time of a certain stretch, such as a
 /// day. If clocks are set back, some seconds between the two may show other local times.

@@ -6,12 +6,14 @@ ghost use Rattle.tz_info.specs.Steps.Typed.{IsBeginBy, IsEndBy, IsLastTyped, IsS
 ghost use Rattle.tz_info.specs.Steps.Typed.{IsTyped, IsTypedFrom, IsTypedUntil};
 
 use crate::change::HeldChange;
-use crate::zone::lookup::NEAR;
 use crate::zone::time_zone::TimeZone;
 
 // The first second of the years -2147483646 to 2147483645, for which rules answer, and the one after
 // them.
 pub(super) const FIRST_OF_RULE: i64 = -67_768_100_504_812_800;
+
+// No leap time of a second up to this one leaves 64 bits.
+const NEAR: i64 = 10_000_000_000_000;
 
 const END_OF_RULE: i64 = 67_767_976_170_460_800;
 

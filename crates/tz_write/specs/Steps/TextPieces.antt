@@ -18,18 +18,18 @@ use Rattle.tz_write.specs.FileDesignations.{name_of}
 abbrev pub spelled_pair : ℕ → List ℕ
 spelled_pair n = colon ∷ (48 + n / 10) ∷ (48 + n % 10) ∷ []
 
--- seconds, left out where they are 0
+-- seconds, left out if they are 0
 abbrev pub spelled_seconds : ℕ → List ℕ
 spelled_seconds s = if s == 0 then [] else spelled_pair s
 
--- minutes and seconds, left out where both are 0
+-- minutes and seconds, left out if both are 0
 abbrev pub spelled_minutes : ℕ → ℕ → List ℕ
 spelled_minutes m s = if (m == 0) && (s == 0) then [] else spelled_pair m ++ spelled_seconds s
 
 abbrev pub spelled_hands : ℕ → ℕ → ℕ → List ℕ
 spelled_hands h m s = decimal h ++ spelled_minutes m s
 
--- so many seconds, as hours, minutes and seconds
+-- that many seconds, as hours, minutes and seconds
 unfoldable pub spelled_clock : ℕ → List ℕ
 spelled_clock n = spelled_hands (n / 3600) (n / 60 % 60) (n % 60)
 
@@ -56,7 +56,7 @@ abbrev pub time_after : ℤ → List ℕ
 time_after time = if int_eq time (pos 7_200) then [] else slash ∷ spelled_time time
 
 -- ---- names
--- letters alone stand bare
+-- a name of letters has no marks around it
 abbrev pub spelled_name : List ℕ → List ℕ
 spelled_name name = if list_all is_letter name then name else less ∷ name ++ (greater ∷ [])
 
@@ -70,7 +70,7 @@ abbrev pub spelled_day : DayTime → List ℕ
 spelled_day d = spelled_date d.day ++ time_after d.time
 
 -- ---- the whole
--- the offset of daylight saving time, left out where it is an hour more than that of standard time
+-- the offset of daylight saving time, left out if it is an hour more than that of standard time
 abbrev pub spelled_dst_offset : ℤ → ℤ → List ℕ
 spelled_dst_offset std dst = if int_eq dst (std +ℤ pos 3_600) then [] else spelled_offset dst
 

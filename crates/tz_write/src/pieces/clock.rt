@@ -59,7 +59,7 @@ fn push_minutes(text: &mut String, minutes: u32, seconds: u32) -> Result<(), All
     push_seconds(text, seconds)
 }
 
-// So many seconds, as hours, minutes and seconds.
+// That many seconds, as hours, minutes and seconds.
 #[tactic(auto, unfolding(crate::specs::Steps::TextPieces::spelled_clock))]
 fn push_clock(text: &mut String, seconds: u32) -> Result<(), AllocError>
     ensures { OnOk result
@@ -69,7 +69,7 @@ fn push_clock(text: &mut String, seconds: u32) -> Result<(), AllocError>
     push_minutes(text, seconds / 60 % 60, seconds % 60)
 }
 
-// So many seconds, with a minus in front or with nothing.
+// That many seconds, with a minus in front or without a sign.
 pub(crate) fn push_signed(text: &mut String, negative: bool, seconds: u32) -> Result<(), AllocError>
     ensures { OnOk result
         (string_bytes text.new ≡ string_bytes text.old ++ spelled_signed negative seconds) }

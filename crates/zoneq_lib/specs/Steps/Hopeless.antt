@@ -3,7 +3,7 @@ use Rattle.std.specs.Prelude.{◌≡◌, ℕ, ◌<◌, ◌++◌, ◌⊎◌, List
 use Rattle.zoneq_lib.specs.Lines.{without_return}
 use Rattle.zoneq_lib.specs.Questions.{IsBadLine}
 
--- each line that begins so is bad, also where a carriage return before its newline is dropped
+-- each line that begins so is bad, also if a carriage return before its newline is dropped
 pub record IsHopeless (front : List ℕ) : Type 0 where
   pub some : 0 < length front
   pub whole : (more : List ℕ) → IsBadLine (front ++ more)

@@ -18,7 +18,7 @@ AnswersAtEnd failed old new zone begun =
     (failed ≡ false) × ((output : List ℕ) × AnswersLast zone begun output × Appends old new output)
 
 -- how the last line stopped the run: its answer was written in part or could not be sent, or it could not be made; or what
--- stood written before could not be sent
+-- was written before could not be sent
 abbrev pub StopsAtEnd : Bool → Option (List ℕ) → Option (List ℕ) → Option Zone → List ℕ → RunError → Type 0
 StopsAtEnd failed old new zone begun errors.Write =
     (failed ≡ true)

@@ -1,7 +1,7 @@
--- What is read at the front of a line: a value with the bytes after it, or why there is none.
+-- What is read at the front of a line: a value with the bytes after it, or the reason why it has no value.
 use Rattle.std.specs.Prelude.{◌≡◌, ℕ, ◌==◌, if◌then◌else◌, List, [], ◌∷◌, Result, Ok, Err, Option, Some, None}
 use Rattle.tz_base.specs.Fronts.{run_of, after_run, int_at, exact_at}
-use Rattle.tz_base.specs.Grammar.{Grammar, Nothing, Then, Marked, Ended, Byte, Run, Number, Exact, Rest, Refused, Check, is_end}
+use Rattle.tz_base.specs.Grammar.{Grammar, Nothing, Then, Marked, Ended, Byte, Run, Number, Exact, Rest, Refused, Check, Here, At, is_end}
 use Rattle.tz_base.specs.declared.error.Error.{Error}
 use Rattle.zoneq_lib.specs.declared.bad_line.BadLine.{BadLine}
 use Rattle.zoneq_lib.specs.declared.bad_line.BadLine.TheVariants.{Unfinished, Hopeless}
@@ -39,7 +39,7 @@ unfoldable pub after_byte : ℕ → List ℕ → Option (List ℕ)
 after_byte tag [] = None
 after_byte tag (b ∷ bytes) = if tag == b then Some bytes else None
 
--- the first with the value, or the second if there is none
+-- the first with the value, or the second if there is no value
 abbrev pub if_some : {A B : Type 0} → Option A → (A → B) → B → B
 if_some (Some x) first second = first x
 if_some None first second = second
@@ -58,3 +58,5 @@ scan (Exact count) bytes = or_unfinished (exact_at count bytes)
 scan Rest bytes = Ok (bytes, [])
 scan (Refused refusal) bytes = Err (stop bytes)
 scan (Check P test refusal v) bytes = if test.passes then Ok (v, bytes) else Err (stop bytes)
+scan (Here f) bytes = scan (f bytes) bytes
+scan (At place g) bytes = scan g bytes

@@ -3,13 +3,14 @@
 ghost use Rattle.std.specs.Prelude.{◌≡◌, ◌≤◌, not, Ok, IfOk};
 ghost use Rattle.offset_core.specs.Offset.{IsWithinDay};
 ghost use Rattle.tz_base.specs.Fronts.{Gives};
-ghost use Rattle.tz_base.specs.Grammar.{read, checked};
+ghost use Rattle.tz_base.specs.Grammar.{IsRead, read, checked};
 ghost use Rattle.tz_base.specs.Refusals.{InvalidTzString};
 ghost use Rattle.tz_base.specs.declared.error.Expected.TheVariants.{HoursMinutesAndSecondsWithinTheirLimits};
 ghost use Rattle.tz_info.specs.Rules.{IsWithinWeek};
 ghost use Rattle.tz_info.specs.TzGrammar.{sign, seconds, optional_minutes, are_within, signed_seconds, duration};
 ghost use Rattle.tz_info.specs.TzGrammar.{offset, time_sign, optional_time};
 
+use crate::rule::reader::place::checked_at;
 use tz_base::{Cursor, Error, Expected};
 
 // The limit of each number, before those of hours, minutes and seconds.
@@ -18,7 +19,7 @@ const CLOCK_MAX: u32 = i32::MAX as u32;
 // An offset, in seconds east of UTC. The text counts west.
 #[tactic(auto, unfolding(crate::specs::TzGrammar::offset))]
 pub(super) fn read_offset(cursor: &mut Cursor<'_>) -> Result<i32, Error>
-    ensures value { Gives (λ z. (z, cursor.new)) result (read offset cursor.old) }
+    ensures value { IsRead offset cursor.old (λ z. z) result cursor.new }
     ensures bound { IfOk result (λ z. IsWithinDay z) }
 {
     let is_minus = read_sign(cursor);
@@ -28,7 +29,7 @@ pub(super) fn read_offset(cursor: &mut Cursor<'_>) -> Result<i32, Error>
 // A `/` and a time of day, in seconds after midnight, or nothing for two o'clock.
 #[tactic(auto, unfolding(crate::specs::TzGrammar::optional_time, crate::specs::TzGrammar::time))]
 pub(super) fn read_optional_time(extended: bool, cursor: &mut Cursor<'_>) -> Result<i32, Error>
-    ensures value { Gives (λ z. (z, cursor.new)) result (read (optional_time extended) cursor.old) }
+    ensures value { IsRead (optional_time extended) cursor.old (λ z. z) result cursor.new }
     ensures bound { IfOk result (λ z. IsWithinWeek z) }
 {
     if !cursor.read_optional_tag(b"/") {
@@ -60,19 +61,20 @@ fn read_sign(cursor: &mut Cursor<'_>) -> bool
 #[tactic(auto, unfolding(crate::specs::TzGrammar::duration, crate::specs::TzGrammar::hours_minutes_seconds))]
 fn read_duration(limit: u32, negative: bool, cursor: &mut Cursor<'_>) -> Result<i32, Error>
     requires { limit ≤ 167 }
-    ensures value { Gives (λ z. (z, cursor.new)) result (read (duration limit negative) cursor.old) }
+    ensures value { IsRead (duration limit negative) cursor.old (λ z. z) result cursor.new }
     ensures day { limit ≤ 23 → IfOk result (λ z. IsWithinDay z) }
     ensures week { IfOk result (λ z. IsWithinWeek z) }
 {
+    let at_hours = cursor.remaining();
     let h = cursor.read_int(CLOCK_MAX)?;
     let (m, s) = read_optional_minutes(cursor)?;
-    seconds_of(limit, negative, h, m, s)
+    checked_at(at_hours, cursor, seconds_of(limit, negative, h, m, s))
 }
 
 // The minutes and the seconds; 0 for what is left out.
 #[tactic(auto, unfolding(crate::specs::TzGrammar::optional_minutes, crate::specs::TzGrammar::minutes_seconds))]
 fn read_optional_minutes(cursor: &mut Cursor<'_>) -> Result<(u32, u32), Error>
-    ensures { Gives (λ t. ((t.0, t.1), cursor.new)) result (read optional_minutes cursor.old) }
+    ensures { IsRead optional_minutes cursor.old (λ t. (t.0, t.1)) result cursor.new }
 {
     if !cursor.read_optional_tag(b":") {
         return Ok((0, 0));
@@ -84,7 +86,7 @@ fn read_optional_minutes(cursor: &mut Cursor<'_>) -> Result<(u32, u32), Error>
 
 #[tactic(auto, unfolding(crate::specs::TzGrammar::seconds))]
 fn read_seconds(cursor: &mut Cursor<'_>) -> Result<u32, Error>
-    ensures { Gives (λ s. (s, cursor.new)) result (read seconds cursor.old) }
+    ensures { IsRead seconds cursor.old (λ s. s) result cursor.new }
 {
     if cursor.read_optional_tag(b":") {
         cursor.read_int(CLOCK_MAX)

@@ -1,14 +1,15 @@
 //! The days of a TZ string: a date, and a time of that day.
 
 ghost use Rattle.std.specs.Prelude.{IfOk};
-ghost use Rattle.tz_base.specs.Fronts.{Gives, int_at};
-ghost use Rattle.tz_base.specs.Grammar.{read};
+ghost use Rattle.std.specs.Prelude.{◌≡◌};
+ghost use Rattle.tz_base.specs.Grammar.{IsRead, Number};
 ghost use Rattle.tz_info.specs.Rules.{IsWithinWeek};
-ghost use Rattle.tz_info.specs.TzGrammar.{date, month_date, julian_date, numbered_day, day};
+ghost use Rattle.tz_info.specs.TzGrammar.{date, place_of_day, month_date, julian_date, numbered_day, day};
 ghost use Rattle.tz_info.specs.Steps.Spelled.{day_time_of};
 
 use crate::rule::day::RuleDay;
 use crate::rule::reader::clock::read_optional_time;
+use crate::rule::reader::place::checked_at;
 use tz_base::{Cursor, Error};
 
 // The limit of a month, a week and a weekday, before their own.
@@ -20,7 +21,7 @@ const DAY_MAX: u32 = u16::MAX as u32;
 // A date, and its time of day, in seconds after midnight.
 #[tactic(auto, unfolding(crate::specs::TzGrammar::day))]
 pub(super) fn read_day(extended: bool, cursor: &mut Cursor<'_>) -> Result<(RuleDay, i32), Error>
-    ensures value { Gives (λ d. (day_time_of d, cursor.new)) result (read (day extended) cursor.old) }
+    ensures value { IsRead (day extended) cursor.old day_time_of result cursor.new }
     ensures bound { IfOk result (λ d. IsWithinWeek d.1) }
 {
     let date = read_date(cursor)?;
@@ -30,7 +31,7 @@ pub(super) fn read_day(extended: bool, cursor: &mut Cursor<'_>) -> Result<(RuleD
 
 #[tactic(auto, unfolding(crate::specs::TzGrammar::date))]
 fn read_date(cursor: &mut Cursor<'_>) -> Result<RuleDay, Error>
-    ensures { Gives (λ d. (d, cursor.new)) result (read date cursor.old) }
+    ensures { IsRead date cursor.old (λ d. d) result cursor.new }
 {
     if cursor.read_optional_tag(b"M") {
         read_month_date(cursor)
@@ -44,18 +45,43 @@ fn read_date(cursor: &mut Cursor<'_>) -> Result<RuleDay, Error>
 // `month.week.weekday`, after the `M`.
 #[tactic(auto, unfolding(crate::specs::TzGrammar::month_date, crate::specs::TzGrammar::checked_day))]
 fn read_month_date(cursor: &mut Cursor<'_>) -> Result<RuleDay, Error>
-    ensures { Gives (λ d. (d, cursor.new)) result (read month_date cursor.old) }
+    ensures { IsRead month_date cursor.old (λ d. d) result cursor.new }
 {
+    let at_month = cursor.remaining();
     let month = read_byte(cursor)?;
     cursor.read_tag(b".")?;
+    let at_week = cursor.remaining();
     let week = read_byte(cursor)?;
     cursor.read_tag(b".")?;
+    let at_weekday = cursor.remaining();
     let weekday = read_byte(cursor)?;
-    RuleDay::month_weekday(month, week, weekday)
+    let place = place_of_day(month, week, at_month, at_week, at_weekday);
+    checked_at(place, cursor, RuleDay::month_weekday(month, week, weekday))
+}
+
+// Of a month, a week and a weekday, each with the place at which it begins, the place of the first
+// that is out of its limits.
+fn place_of_day<'a>(
+    month: u8,
+    week: u8,
+    at_month: &'a [u8],
+    at_week: &'a [u8],
+    at_weekday: &'a [u8],
+) -> &'a [u8]
+    ensures { result.now
+        ≡ place_of_day month week at_month.now at_week.now at_weekday.now }
+{
+    if month < 1 || month > 12 {
+        at_month
+    } else if week < 1 || week > 5 {
+        at_week
+    } else {
+        at_weekday
+    }
 }
 
 fn read_byte(cursor: &mut Cursor<'_>) -> Result<u8, Error>
-    ensures { Gives (λ n. (n, cursor.new)) result (int_at 255 cursor.old) }
+    ensures { IsRead (Number 255) cursor.old (λ n. n) result cursor.new }
 {
     Ok(cursor.read_int(DATE_MAX)? as u8)
 }
@@ -63,16 +89,18 @@ fn read_byte(cursor: &mut Cursor<'_>) -> Result<u8, Error>
 // The number after the `J`.
 #[tactic(auto, unfolding(crate::specs::TzGrammar::julian_date, crate::specs::TzGrammar::checked_day))]
 fn read_julian_date(cursor: &mut Cursor<'_>) -> Result<RuleDay, Error>
-    ensures { Gives (λ d. (d, cursor.new)) result (read julian_date cursor.old) }
+    ensures { IsRead julian_date cursor.old (λ d. d) result cursor.new }
 {
+    let at_day = cursor.remaining();
     let n = cursor.read_int(DAY_MAX)?;
-    RuleDay::julian_1(n as u16)
+    checked_at(at_day, cursor, RuleDay::julian_1(n as u16))
 }
 
 #[tactic(auto, unfolding(crate::specs::TzGrammar::numbered_day, crate::specs::TzGrammar::checked_day))]
 fn read_day_number(cursor: &mut Cursor<'_>) -> Result<RuleDay, Error>
-    ensures { Gives (λ d. (d, cursor.new)) result (read numbered_day cursor.old) }
+    ensures { IsRead numbered_day cursor.old (λ d. d) result cursor.new }
 {
+    let at_day = cursor.remaining();
     let n = cursor.read_int(DAY_MAX)?;
-    RuleDay::julian_0(n as u16)
+    checked_at(at_day, cursor, RuleDay::julian_0(n as u16))
 }

@@ -1,8 +1,8 @@
 //! The names of a TZ string: letters, or any bytes between `<` and `>`.
 
 ghost use Rattle.std.specs.Prelude.{◌≡◌, ◌==◌};
-ghost use Rattle.tz_base.specs.Fronts.{Gives, run_of, after_run};
-ghost use Rattle.tz_base.specs.Grammar.{read};
+ghost use Rattle.tz_base.specs.Fronts.{run_of, after_run};
+ghost use Rattle.tz_base.specs.Grammar.{IsRead};
 ghost use Rattle.tz_info.specs.TzGrammar.{greater, is_letter, is_not_greater, name};
 
 use tz_base::{Cursor, Error};
@@ -10,7 +10,7 @@ use tz_base::{Cursor, Error};
 // A name as the text gives it, which need not be one that a type can have.
 #[tactic(auto, unfolding(crate::specs::TzGrammar::name, crate::specs::TzGrammar::quoted))]
 pub(super) fn read_name<'a>(cursor: &mut Cursor<'a>) -> Result<&'a [u8], Error>
-    ensures { Gives (λ name. (name.now, cursor.new)) result (read name cursor.old) }
+    ensures { IsRead name cursor.old (λ name. name.now) result cursor.new }
 {
     if !cursor.read_optional_tag(b"<") {
         return Ok(read_letters(cursor));
@@ -25,9 +25,9 @@ fn read_until_greater<'a>(cursor: &mut Cursor<'a>) -> &'a [u8]
     ensures rest { cursor.new ≡ after_run is_not_greater cursor.old }
 {
     cursor.read_until(
-        |b: u8| -> bool
-            ensures { result ≡ (b == greater) }
-        { b == b'>' },
+        |b: &u8| -> bool
+            ensures { result ≡ (b.now == greater) }
+        { *b == b'>' },
     )
 }
 
@@ -35,9 +35,5 @@ fn read_letters<'a>(cursor: &mut Cursor<'a>) -> &'a [u8]
     ensures run { result.now ≡ run_of is_letter cursor.old }
     ensures rest { cursor.new ≡ after_run is_letter cursor.old }
 {
-    cursor.read_while(
-        |b: u8| -> bool
-            ensures { result ≡ is_letter b }
-        { b.is_ascii_alphabetic() },
-    )
+    cursor.read_while(u8::is_ascii_alphabetic)
 }

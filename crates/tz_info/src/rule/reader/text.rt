@@ -3,18 +3,19 @@
 ghost use Rattle.std.specs.Prelude.{◌≡◌, IfOk, int_le, pos, ◌+ℤ◌};
 ghost use Rattle.offset_core.specs.Offset.{IsWithinDay};
 ghost use Rattle.tz_base.specs.Fronts.{Gives};
-ghost use Rattle.tz_base.specs.Grammar.{read, checked, is_end};
+ghost use Rattle.tz_base.specs.Grammar.{IsRead, checked, is_end};
 ghost use Rattle.tz_base.specs.Names.{expected_of_name, is_name};
 ghost use Rattle.tz_base.specs.Refusals.{InvalidTzString, LocalTimeType as BadType};
 ghost use Rattle.tz_base.specs.declared.error.Expected.TheVariants.{OffsetOfDaylightSavingTimeWithinDay};
 ghost use Rattle.tz_info.specs.Rules.{IsWithinWeek};
-ghost use Rattle.tz_info.specs.TzGrammar.{more, end, given_offset, dst_offset, named_type, fixed, alternate, days};
-ghost use Rattle.tz_info.specs.TzGrammar.{text};
+ghost use Rattle.tz_info.specs.TzGrammar.{more, end, given_offset, dst_offset, named_type, named, fixed, alternate};
+ghost use Rattle.tz_info.specs.TzGrammar.{text, days};
 ghost use Rattle.tz_info.specs.Steps.Spelled.{day_time_of, rule_of, IsSpelled};
 
 use crate::rule::reader::clock::read_offset;
 use crate::rule::reader::date::read_day;
 use crate::rule::reader::name::read_name;
+use crate::rule::reader::place::checked_at;
 use crate::rule::{AlternateTime, RuleDay, TransitionRule};
 use tz_base::{Cursor, Error, Expected, LocalTimeType};
 
@@ -45,48 +46,55 @@ pub(super) fn rule_of(spelled: Spelled) -> TransitionRule
 // What all bytes of the cursor spell.
 #[tactic(auto, unfolding(crate::specs::TzGrammar::text, crate::specs::TzGrammar::rule))]
 pub(super) fn read_text(extended: bool, cursor: &mut Cursor<'_>) -> Result<Spelled, Error>
-    ensures value { Gives (λ spelled. (rule_of spelled, cursor.new)) result
-        (read (text extended) cursor.old) }
+    ensures value { IsRead (text extended) cursor.old rule_of result cursor.new }
     ensures limits { IfOk result (λ spelled. IsSpelled spelled) }
 {
+    let at_name = cursor.remaining();
     let name = read_name(cursor)?;
     let offset = read_offset(cursor)?;
     if is_at_end(cursor) {
-        read_fixed(name, offset, cursor)
+        read_fixed(at_name, name, offset, cursor)
     } else {
-        read_alternate(extended, name, offset, cursor)
+        read_alternate(extended, at_name, name, offset, cursor)
     }
 }
 
-#[tactic(auto, unfolding(crate::specs::TzGrammar::fixed, crate::specs::TzGrammar::named))]
-fn read_fixed(name: &[u8], offset: i32, cursor: &mut Cursor<'_>) -> Result<Spelled, Error>
+#[tactic(auto, unfolding(crate::specs::TzGrammar::fixed))]
+fn read_fixed<'a>(
+    at_name: &'a [u8],
+    name: &[u8],
+    offset: i32,
+    cursor: &mut Cursor<'a>,
+) -> Result<Spelled, Error>
     requires { IsWithinDay offset }
-    ensures value { Gives (λ spelled. (rule_of spelled, cursor.new)) result
-        (read (fixed name.now offset) cursor.old) }
+    ensures value { IsRead (fixed at_name.now name.now offset) cursor.old rule_of result cursor.new }
     ensures limits { IfOk result (λ spelled. IsSpelled spelled) }
 {
-    Ok(Spelled::Fixed(named_type(name, false, offset)?))
+    let std = read_named(at_name, name, false, offset, cursor)?;
+    Ok(Spelled::Fixed(std))
 }
 
 // What follows the offset of standard time. The names are looked at last.
-#[tactic(auto, unfolding(crate::specs::TzGrammar::alternate, crate::specs::TzGrammar::named))]
-fn read_alternate(
+#[tactic(auto, unfolding(crate::specs::TzGrammar::alternate))]
+fn read_alternate<'a>(
     extended: bool,
+    at_name: &'a [u8],
     name: &[u8],
     offset: i32,
-    cursor: &mut Cursor<'_>,
+    cursor: &mut Cursor<'a>,
 ) -> Result<Spelled, Error>
     requires { IsWithinDay offset }
-    ensures value { Gives (λ spelled. (rule_of spelled, cursor.new)) result
-        (read (alternate extended name.now offset) cursor.old) }
+    ensures value { IsRead (alternate extended at_name.now name.now offset) cursor.old rule_of result
+        cursor.new }
     ensures limits { IfOk result (λ spelled. IsSpelled spelled) }
 {
+    let at_dst_name = cursor.remaining();
     let dst_name = read_name(cursor)?;
     let dst_offset = read_dst_offset(offset, cursor)?;
     let (start, end) = read_days(extended, cursor)?;
     expect_end(cursor)?;
-    let std = named_type(name, false, offset)?;
-    let dst = named_type(dst_name, true, dst_offset)?;
+    let std = read_named(at_name, name, false, offset, cursor)?;
+    let dst = read_named(at_dst_name, dst_name, true, dst_offset, cursor)?;
     Ok(Spelled::Alternate(std, dst, start, end))
 }
 
@@ -96,8 +104,8 @@ fn read_days(
     extended: bool,
     cursor: &mut Cursor<'_>,
 ) -> Result<((RuleDay, i32), (RuleDay, i32)), Error>
-    ensures value { Gives (λ days. ((day_time_of days.0, day_time_of days.1), cursor.new)) result
-        (read (days extended) cursor.old) }
+    ensures value { IsRead (days extended) cursor.old
+        (λ days. (day_time_of days.0, day_time_of days.1)) result cursor.new }
     ensures bound { IfOk result (λ days. IsWithinWeek days.0.1 × IsWithinWeek days.1.1) }
 {
     let start = read_day(extended, cursor)?;
@@ -111,11 +119,12 @@ fn read_days(
 #[tactic(auto, unfolding(crate::specs::TzGrammar::dst_offset, crate::specs::TzGrammar::next_hour))]
 fn read_dst_offset(std: i32, cursor: &mut Cursor<'_>) -> Result<i32, Error>
     requires { IsWithinDay std }
-    ensures value { Gives (λ z. (z, cursor.new)) result (read (dst_offset std) cursor.old) }
+    ensures value { IsRead (dst_offset std) cursor.old (λ z. z) result cursor.new }
     ensures bound { IfOk result (λ z. IsWithinDay z) }
 {
+    let at_comma = cursor.remaining();
     if cursor.read_optional_tag(b",") {
-        next_hour(std)
+        checked_at(at_comma, cursor, next_hour(std))
     } else {
         read_given_offset(cursor)
     }
@@ -123,7 +132,7 @@ fn read_dst_offset(std: i32, cursor: &mut Cursor<'_>) -> Result<i32, Error>
 
 #[tactic(auto, unfolding(crate::specs::TzGrammar::given_offset))]
 fn read_given_offset(cursor: &mut Cursor<'_>) -> Result<i32, Error>
-    ensures value { Gives (λ z. (z, cursor.new)) result (read given_offset cursor.old) }
+    ensures value { IsRead given_offset cursor.old (λ z. z) result cursor.new }
     ensures bound { IfOk result (λ z. IsWithinDay z) }
 {
     expect_more(cursor)?;
@@ -146,7 +155,23 @@ fn next_hour(std: i32) -> Result<i32, Error>
     Ok(offset)
 }
 
-// The type of that name, if a type can have it.
+// The type of the name that begins at that place, if a type can have it.
+#[tactic(auto, unfolding(crate::specs::TzGrammar::named))]
+fn read_named<'a>(
+    at_name: &'a [u8],
+    name: &[u8],
+    dst: bool,
+    offset: i32,
+    cursor: &mut Cursor<'a>,
+) -> Result<LocalTimeType, Error>
+    requires { IsWithinDay offset }
+    ensures value { IsRead (named at_name.now name.now dst offset) cursor.old (λ t. t) result
+        cursor.new }
+    ensures offset { IfOk result (λ t. IsWithinDay t.offset) }
+{
+    checked_at(at_name, cursor, named_type(name, dst, offset))
+}
+
 #[tactic(auto, using(crate::proofs::NamedTypes::named_by))]
 fn named_type(name: &[u8], dst: bool, offset: i32) -> Result<LocalTimeType, Error>
     requires { IsWithinDay offset }
@@ -159,7 +184,7 @@ fn named_type(name: &[u8], dst: bool, offset: i32) -> Result<LocalTimeType, Erro
 
 #[tactic(auto, unfolding(crate::specs::TzGrammar::more))]
 fn expect_more(cursor: &Cursor<'_>) -> Result<(), Error>
-    ensures { Gives (λ unit. (unit, cursor.now)) result (read more cursor.now) }
+    ensures { IsRead more cursor.now (λ unit. unit) result cursor.now }
 {
     if is_at_end(cursor) {
         Err(Error::UnsupportedTzString(Expected::DaysWhenDaylightSavingTimeStartsAndEnds))
@@ -170,7 +195,7 @@ fn expect_more(cursor: &Cursor<'_>) -> Result<(), Error>
 
 #[tactic(auto, unfolding(crate::specs::TzGrammar::end))]
 fn expect_end(cursor: &Cursor<'_>) -> Result<(), Error>
-    ensures { Gives (λ unit. (unit, cursor.now)) result (read end cursor.now) }
+    ensures { IsRead end cursor.now (λ unit. unit) result cursor.now }
 {
     if is_at_end(cursor) {
         Ok(())

@@ -1,10 +1,11 @@
 use Rattle.std.proofs.Common.{length, ◌-◌, ℕ, true, get_or, ◌≤◌, ◌<◌}
+use Rattle.std.specs.Fn.{FnReturnsAt}
 use Rattle.tz_base.proofs.cursor.Cursor.read_while.Given as goal
 
 abbrev pub invariant-loop-n : goal.invariant-loop-n
 invariant-loop-n g l = record {
   within : l.n ≤ length l.bytes;
-  passed : (k : ℕ) → k < l.n → goal.F-post g l.f (get_or l.bytes k 0) true;
+  passed : (k : ℕ) → k < l.n → FnReturnsAt g.F.Fn l.f (get_or l.bytes k 0) true;
 }
 
 abbrev pub decreases-loop-n : goal.decreases-loop-n

@@ -1,4 +1,4 @@
-use Rattle.tz_info.proofs.Words.{arith, change_found, ints, to_z-of_z}
+use Rattle.tz_info.proofs.Words.{change_found, to_z-of_z}
 use Rattle.tz_info.proofs.rule.alternate.AlternateTime.beside.Goals as goal
 
 pub moment_from-previous-requires-clause-near : goal.moment_from-previous-requires-clause-near

@@ -1,4 +1,4 @@
-use Rattle.tz_info.proofs.Words.{IsAlternateRule, IsRuleYear, SFits, arith, changes_in_year, false, ints, refl, rules, sym, to_z-of_z, w32, w64, year_at, ◌∙◌}
+use Rattle.tz_info.proofs.Words.{IsRuleYear, SFits, arith, changes_in_year, false, ints, refl, rules, sym, to_z-of_z, w32, w64, year_at, ◌∙◌}
 use Rattle.tz_info.proofs.Words.{◌≡◌}
 use Rattle.tz_info.proofs.AskedYears.{beyond_first, from_first, from_next, never_at_all, never_beyond, none_out}
 use Rattle.tz_info.proofs.rule.alternate.AlternateTime.changing_year.Goals.{Else-not-is_rule_year}

@@ -1,4 +1,4 @@
-use Rattle.tz_info.proofs.Words.{None, SFits, Some, change_found, moment_change, rules, to_z-of_z, w32, w64}
+use Rattle.tz_info.proofs.Words.{None, SFits, Some, moment_change, rules, to_z-of_z, w32, w64}
 use Rattle.tz_info.proofs.AskedYears.{found_here, of_stretch}
 use Rattle.tz_info.proofs.rule.alternate.AlternateTime.moment_from.Goals as goal
 

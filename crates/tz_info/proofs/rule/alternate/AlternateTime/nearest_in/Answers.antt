@@ -1,4 +1,4 @@
-use Rattle.tz_info.proofs.Words.{SFits, rules, to_z-of_z, w32, w64}
+use Rattle.tz_info.proofs.Words.{SFits, rules, to_z-of_z, w32}
 use Rattle.tz_info.proofs.rule.alternate.AlternateTime.nearest_in.Goals as goal
 
 pub returns-then-is_calm : goal.returns-then-is_calm

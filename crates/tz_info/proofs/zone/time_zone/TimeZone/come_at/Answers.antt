@@ -4,7 +4,7 @@ use Rattle.tz_info.proofs.zone.time_zone.TimeZone.come_at.Goals as goal
 pub returns-then-has_leap_time-clause-come : goal.returns-then-has_leap_time-clause-come
 returns-then-has_leap_time-clause-come c =
     let fu = c.ranges.unix_time in
-    let time = rw c.deref.ensures.value at (simp to_z-of_z at (c.has_leap_time.ensures.yes c.if-has_leap_time.true)) in
+    let time = simp to_z-of_z at (c.has_leap_time.ensures.yes c.if-has_leap_time.true) in
     rw (← c.self.view_is) (have_come _ c.self.inside.changes c.args.unix_time c.come.result c.self.invariant.valid c.self.invariant.list fu time (simp to_z-of_z at c.come.ensures.come))
 
 pub returns-then-has_leap_time-clause-cost : goal.returns-then-has_leap_time-clause-cost

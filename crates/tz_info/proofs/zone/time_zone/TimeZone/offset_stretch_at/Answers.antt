@@ -1,4 +1,4 @@
-use Rattle.tz_info.proofs.{Words.{IsValid, SFits, arith, length, slice_get, Some, vec_len, rules, slice_get_read, to_z-of_z, w32, w64, ◌≡◌}, EntryChanges.{index_between, stretch_between}}
+use Rattle.tz_info.proofs.{Words.{IsValid, SFits, arith, length, slice_get, Some, vec_len, rules, slice_get_read, to_z-of_z, w32, w64, ◌≡◌}, EntryChanges.{index_between, inside_between, stretch_between}}
 use Rattle.tz_info.specs.Steps.Entries.{AreEntries}
 use Rattle.tz_info.proofs.zone.time_zone.TimeZone.offset_stretch_at.Goals as goal
 
@@ -8,8 +8,19 @@ index-requires c =
     let n : vec_len c.self.inside.local_types ≡ length c.self.inside.local_types.items = search rules in
     rw n (index_between _ c.self.inside.changes c.args.unix_time c.in-Some.between c.self.invariant.valid c.self.invariant.list (simp to_z-of_z at c.in-Some.ensures))
 
-pub returns-in-Some : goal.returns-in-Some
-returns-in-Some c =
+pub returns-in-Some-clause-at : goal.returns-in-Some-clause-at
+returns-in-Some-clause-at c =
+    let fu = c.ranges.unix_time in
+    let e = c.self.inside.changes in
+    let list : AreEntries c.args.self.now e = rw (← c.self.view_is) c.self.invariant.list in
+    let low : SFits w64 c.in-Some.between.from = search rules in
+    let high : SFits w64 c.in-Some.between.until = search rules in
+    let h = simp to_z-of_z at c.in-Some.ensures in
+    let inside = inside_between c.args.self.now e c.args.unix_time c.in-Some.between list h fu in
+    simp to_z-of_z inside
+
+pub returns-in-Some-clause-each : goal.returns-in-Some-clause-each
+returns-in-Some-clause-each c =
     let fu = c.ranges.unix_time in
     let z = c.args.self.now in
     let e = c.self.inside.changes in

@@ -1,0 +1,214 @@
+//! How a zone is made: its lists are checked, and what lookups need is prepared from them.
+
+ghost use Rattle.std.specs.Prelude.{◌≡◌, pos, ◌<◌, length, IfSome, MatchResult, ◌⊎◌};
+ghost use Rattle.tz_base.specs.Errors.{IsOutOfMemory};
+ghost use Rattle.tz_base.specs.LocalTypes.{IsUtOffset};
+ghost use Rattle.tz_base.specs.declared.error.Error.TheVariants.{LocalTimeType as TypeError, OutOfMemory};
+ghost use Rattle.tz_base.specs.declared.error.Expected.TheVariants.{OffsetAboveI32Min};
+ghost use Rattle.tz_info.specs.Steps.LastSpans.{IsLastSpan};
+ghost use Rattle.tz_info.specs.Zones.{Zone, IsValid, ListFault, plain_zone, zone_of_rule, zone_of_type};
+
+use crate::rule::TransitionRule;
+use crate::zone::all_changes::second_before;
+use crate::zone::change_table::{ChangeList, ChangeTable};
+use crate::zone::extremes::extremes_of;
+use crate::zone::index::Index;
+use crate::zone::kept::{Kept, all_kept};
+use crate::zone::last_span::LastSpan;
+use crate::zone::leap_second::LeapSecond;
+use crate::zone::leap_seconds::LeapSeconds;
+use crate::zone::runs::start_by;
+use crate::zone::segments::Lists;
+use crate::zone::starts::cut_at;
+use crate::zone::time_zone::TimeZone;
+use crate::zone::transition::Transition;
+use crate::zone::valid::check;
+use std::alloc::Global;
+use tz_base::{Error, LocalTimeType};
+
+impl TimeZone {
+    /// The zone of those transitions, types, leap seconds and rule.
+    ///
+    /// There is a type; each transition names one, and their times rise. The first leap second
+    /// comes in 1970 or later and has the correction 1 or -1; each other one comes at least 28
+    /// days, less a second, after the one before, and its correction is one more or one less. Where
+    /// there are a rule and a transition, the rule's type at the last transition's Unix time is
+    /// that transition's type.
+    ///
+    /// # Errors
+    ///
+    /// [`Error::TimeZone`] if the lists are otherwise, with what was expected of the first one with
+    /// a fault: the types, the type indexes, then the times of the transitions, the leap seconds,
+    /// the rule. [`Error::OutOfMemory`] if there is no memory for the zone's index and hints,
+    /// or if there are 1,073,741,824 transitions or types, or more: the index numbers no more of them.
+    pub fn new(
+        alloc: Global,
+        transitions: Vec<Transition>,
+        types: Vec<LocalTimeType>,
+        leaps: Vec<LeapSecond>,
+        rule: Option<TransitionRule>,
+    ) -> Result<TimeZone, Error>
+        ensures { let lists : Zone = record {
+          transitions = transitions.items;
+          types = types.items;
+          leaps = leaps.items;
+          rule = rule;
+        } in
+            MatchResult result (λ z. IsValid lists × (z ≡ lists))
+            (λ e. (ListFault lists e × ¬ (IsValid lists))
+            ⊎ ((e ≡ OutOfMemory) × IsValid lists)) }
+    {
+        check(&transitions, &types, &leaps, &rule)?;
+        let kept = all_kept(alloc, &transitions)?;
+        TimeZone::of_valid(alloc, kept, types, leaps, rule)
+    }
+
+    // The zone of lists that make a valid one.
+    pub(crate) fn of_valid(
+        alloc: Global,
+        transitions: Vec<Kept>,
+        types: Vec<LocalTimeType>,
+        leaps: Vec<LeapSecond>,
+        rule: Option<TransitionRule>,
+    ) -> Result<TimeZone, Error>
+        requires { IsValid (record {
+          transitions = transitions.items;
+          types = types.items;
+          leaps = leaps.items;
+          rule = rule;
+        }) }
+        ensures { MatchResult result (λ z. z ≡ record {
+          transitions = transitions.items;
+          types = types.items;
+          leaps = leaps.items;
+          rule = rule;
+        }) (λ e. e ≡ OutOfMemory) }
+    {
+        let leaps = LeapSeconds::new(leaps);
+        let list = ChangeList::new(alloc, transitions, &types, &leaps, &rule)?;
+        let lists = Lists {
+            transitions: list.transitions(),
+            types: &types,
+            leaps: &leaps,
+            rule: &rule,
+        };
+        let index = Index::new(alloc, lists, &list)?;
+        let changes = ChangeTable::new(alloc, list)?;
+        let extremes = extremes_of(&types, &rule);
+        let mut zone = TimeZone {
+            changes,
+            local_types: types,
+            leap_seconds: leaps,
+            last_rule: rule,
+            extremes,
+            index,
+            last_span: LastSpan::none(),
+        };
+        zone.keep_last_span();
+        Ok(zone)
+    }
+
+    /// The zone of UTC: one type, that of [`LocalTimeType::utc`], at every instant.
+    ///
+    /// # Errors
+    ///
+    /// [`Error::OutOfMemory`] if there is no memory for it.
+    pub fn utc(alloc: Global) -> Result<TimeZone, Error>
+        ensures { MatchResult result (λ z. z ≡ plain_zone (pos 0)) (λ e. IsOutOfMemory e) }
+    {
+        TimeZone::of_type(alloc, LocalTimeType::utc())
+    }
+
+    /// The zone of one type at every instant: that offset, in seconds east of UTC, without a name.
+    ///
+    /// # Errors
+    ///
+    /// [`Error::LocalTimeType`] if the offset is `i32::MIN`; [`Error::OutOfMemory`] if there is no
+    /// memory for the zone.
+    pub fn fixed(alloc: Global, ut_offset: i32) -> Result<TimeZone, Error>
+        ensures { MatchResult result
+            (λ z. IsUtOffset ut_offset × (z ≡ plain_zone ut_offset))
+            (λ e. ((e ≡ TypeError OffsetAboveI32Min) × ¬ (IsUtOffset ut_offset))
+            ⊎ (IsOutOfMemory e × IsUtOffset ut_offset)) }
+    {
+        TimeZone::of_type(alloc, LocalTimeType::with_offset(ut_offset)?)
+    }
+
+    // The zone of those types, of which there is one at least, and of that rule.
+    pub(crate) fn with_rule(types: Vec<LocalTimeType>, rule: Option<TransitionRule>) -> TimeZone
+        requires { 0 < length types.items }
+        ensures { result ≡ zone_of_rule types.items rule }
+    {
+        let alloc = *types.allocator();
+        let leaps = LeapSeconds::none(alloc);
+        let list = ChangeList::none(alloc);
+        let lists = Lists {
+            transitions: list.transitions(),
+            types: &types,
+            leaps: &leaps,
+            rule: &rule,
+        };
+        let index = Index::without_pieces(alloc, lists, &list);
+        let extremes = extremes_of(&types, &rule);
+        let mut zone = TimeZone {
+            changes: ChangeTable::none(alloc),
+            local_types: types,
+            leap_seconds: leaps,
+            last_rule: rule,
+            extremes,
+            index,
+            last_span: LastSpan::none(),
+        };
+        zone.keep_last_span();
+        zone
+    }
+
+    // The zone of one type at every instant.
+    fn of_type(alloc: Global, local: LocalTimeType) -> Result<TimeZone, Error>
+        ensures { MatchResult result (λ z. z ≡ zone_of_type local) (λ e. IsOutOfMemory e) }
+    {
+        let types = vec![in alloc; local]?;
+        Ok(TimeZone::with_rule(types, None))
+    }
+
+    // Keeps the last span, if there is one.
+    pub(super) fn keep_last_span(&mut self)
+        ensures { self.new ≡ self.old }
+    {
+        match self.find_last_span() {
+            Some(last_span) => self.last_span = last_span,
+            None => {}
+        }
+    }
+
+    // The span of the last second that has a type, unless the zone has a rule that changes the clocks.
+    fn find_last_span(&self) -> Option<LastSpan>
+        ensures { IfSome result (IsLastSpan self.now) }
+    {
+        let _ = (self.extremes.least, self.extremes.greatest);
+        if self.goes_on_to_change() {
+            return None;
+        }
+        let last = self.last_typed();
+        let Ok(span) = self.span_at(last) else {
+            return None;
+        };
+        let after = second_before(start_by(span.from, i64::MIN));
+        Some(LastSpan {
+            after,
+            last,
+            local_after: cut_at(after, i64::from(self.extremes.greatest)),
+            span,
+            begin: self.previous_change(last),
+        })
+    }
+
+    // Whether the zone has a rule that changes the clocks. Only the time that questions take depends
+    // on it.
+    fn goes_on_to_change(&self) -> bool {
+        match self.turns() {
+            Some(turns) => !turns.never_changes(),
+            None => false,
+        }
+    }
+}
