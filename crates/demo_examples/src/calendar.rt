@@ -1,5 +1,5 @@
-//! A calendar: events at instants and on whole days, and the days and weeks that show them by the clocks
-//! of whoever looks.
+//! A calendar: events at instants and on whole days, with day and week views in the viewer's time
+//! zone.
 //!
 //! A day starts when clocks first show its midnight or a later time: mostly at 00:00, and later if
 //! midnight lies in a gap. So days divide time, even if clocks are set back over midnight, and each

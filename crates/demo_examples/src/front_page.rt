@@ -41,7 +41,8 @@ pub fn outcome(
     outcome_in(alloc, &parsed, local, choice)
 }
 
-// That of a parsed zone: no `?` stands where the zone would be let go, which takes long to prove.
+// That of a parsed zone: there is no `?` at a place at which the zone would be dropped, which takes
+// long to prove.
 fn outcome_in(
     alloc: Global,
     parsed: &tz_info::TimeZone,

@@ -1,4 +1,4 @@
-//! A zone of one's own, whose clocks are never set.
+//! A custom zone, whose clocks are never set.
 ghost use Rattle.std.specs.Prelude.{◌≡◌, refl};
 ghost use Rattle.std.proofs.Common.{rules};
 ghost use Rattle.zoned.specs.FixedOffset.{seconds_of};

@@ -1,4 +1,4 @@
-//! A zone of one's own: how to implement the trait [`TimeZone`](zoned_time::TimeZone) for a zone
+//! A custom zone: how to implement the trait [`TimeZone`](zoned_time::TimeZone) for a zone
 //! that is neither UTC, nor fixed, nor read from a file.
 //!
 //! The clocks of the zone [`Odd`] are set forward by a second at each odd second, and back at each

@@ -35,7 +35,7 @@ pub record IsPlannedOn (s : Schedule) (day : ℤ) (second : ℕ) : Type 0 where
 abbrev pub planned_by : Schedule → ℤ → Type 0
 planned_by s = IsPlannedOnItsDay (IsPlannedOn s)
 
--- the first run of a job after the second t, or `None` if there is none in range
+-- the first run of a job after the second t, or `None` if no run is in range
 abbrev pub IsNextRun : {Tz : Type 0} {f : offset.Ghosts ZoneOffset} {g : debug.Ghosts ZoneOffset} → Job → ℤ → Option (Instant Tz ZoneOffset f g) → Type 0
 IsNextRun job t next = let law = law_of job.zone in let plan = planned_by job.schedule in
     MatchOption next (NoneFiresAfter law.off plan t) (λ d. IsZonedNextFire law plan t (zoned d))

@@ -9,3 +9,4 @@ mod Counted
 mod TimeLists
 mod Selected
 mod MinuteSteps
+mod ClockSteps

@@ -16,7 +16,7 @@ use Rattle.naive_plans.specs.RecurrenceRules.{month_number, period_of}
 use Rattle.naive_plans.specs.declared.rule.Frequency.{Frequency}
 use Rattle.naive_plans.specs.declared.rule.Frequency.TheVariants.{Daily, Hourly, Minutely, Monthly, Weekly, Yearly}
 
-least_days : (b : Bool) (m : ℕ) → 1 ≤ days_in_month b m
+pub least_days : (b : Bool) (m : ℕ) → 1 ≤ days_in_month b m
 least_days b m = grind (arith, nat_tests)
 
 pub year_from : (y l : ℤ) → y ≤ℤ year_of (floor_div l 86_400) → (year_start y *ℤ pos 86_400) ≤ℤ l
@@ -84,7 +84,7 @@ period_rises Hourly first a b le = omega (arith, ints, floors, le)
 period_rises Minutely first a b le = omega (arith, ints, floors, le)
 
 -- ---- the rest of a month
-later_number : (y : ℤ) (m d k : ℕ) (day : ℤ) → 1 ≤ d → day_number y m d ≡ day → day_number y m (d + k) ≡ day +ℤ pos k
+pub later_number : (y : ℤ) (m d k : ℕ) (day : ℤ) → 1 ≤ d → day_number y m d ≡ day → day_number y m (d + k) ≡ day +ℤ pos k
 unfolding day_number
 later_number y m d k day low is = omega (arith, ints, low, is)
 
@@ -116,7 +116,7 @@ next_multiple : (first period next : ℤ) (passed q q₂ r n : ℕ) → period �
     → next ≡ period +ℤ pos (n - r) → next ≡ first +ℤ pos q₂
 next_multiple first period next passed q q₂ r n is parts more under is_next = omega (arith, ints, is, parts, more, under, is_next)
 
-one_more : (t n : ℕ) → (t + 1) * n ≡ t * n + n
+pub one_more : (t n : ℕ) → (t + 1) * n ≡ t * n + n
 one_more t n = let e = add-mul t 1 n in let one : 1 * n ≡ n = omega arith in rw one at e
 
 above : (first period next p : ℤ) (passed q q₂ r n k : ℕ) → period ≡ first +ℤ pos passed → q + r ≡ passed → q₂ ≡ q + n → next ≡ first +ℤ pos q₂
@@ -127,7 +127,7 @@ above first period next p passed q q₂ r n k is parts more is_next order some i
   | inr high ↦ omega (arith, ints, is_next, high, is_p)
 ]
 
-multiples_apart : (n t k : ℕ) → (k * n ≤ t * n) ⊎ ((t + 1) * n ≤ k * n)
+pub multiples_apart : (n t k : ℕ) → (k * n ≤ t * n) ⊎ ((t + 1) * n ≤ k * n)
 multiples_apart n t k = elim (cases_order t k) [
   | inl same ↦ inl (mul-le-mul_right n (omega (arith, same)))
   | inr (inl less) ↦ inr (mul-le-mul_right n (omega (arith, less)))

@@ -2,6 +2,8 @@ pub mod Plans
 pub mod DayPlans
 pub mod PlanSets
 pub mod Cron
+pub mod PartsOfDay
+pub mod ClockSteps
 pub mod RecurrenceRules
 pub mod AllowedRules
 pub mod RecurrenceSets

@@ -1,5 +1,6 @@
 -- Steps of the proofs: what private functions ensure. No public contract cites a page of this folder.
 pub mod CronDates
+pub mod StepPlaces
 pub mod Sets
 pub mod RuleSteps
 pub mod OccasionSteps

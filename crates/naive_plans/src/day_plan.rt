@@ -130,7 +130,7 @@ pub(crate) fn at_second(date: NaiveDate, second: u32) -> NaiveDateTime
 }
 
 // The next date, which may be the buffer day after the range.
-fn date_after(date: NaiveDate) -> Option<NaiveDate>
+pub(crate) fn date_after(date: NaiveDate) -> Option<NaiveDate>
     ensures { MatchOption result (IsWideDay (day_of date +ℤ pos 1) → ⊥)
         (λ next. day_of next ≡ (day_of date +ℤ pos 1)) }
 {

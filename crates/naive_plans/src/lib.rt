@@ -5,16 +5,20 @@
 //! has on each date. [`Cron`] is one.
 #![tactic(auto)]
 
+mod clock_step;
 mod cron;
 mod day_plan;
 mod occasions;
+mod part_of_day;
 mod plan;
 mod recurrence;
 mod rule;
 mod sets;
 
+pub use clock_step::ClockStep;
 pub use cron::Cron;
 pub use day_plan::{DayPlan, ReversibleDayPlan, last_local_time, next_local_time};
+pub use part_of_day::PartOfDay;
 pub use plan::{Plan, ReversiblePlan};
 pub use recurrence::{Recurrence, RecurrenceEnd, RecurrenceError};
 pub use rule::{Frequency, NthWeekday, RecurrenceRule};

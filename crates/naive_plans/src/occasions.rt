@@ -203,8 +203,8 @@ pub(crate) fn is_from(second: i64, start: i64) -> bool
 }
 
 // The second of a day, from 1970.
-fn second_at(day: i64, second: u32) -> i64
-    requires day { (neg_ℤ (pos 10_000_000) ≤ℤ day) × (day ≤ℤ pos 10_000_000) }
+pub(crate) fn second_at(day: i64, second: u32) -> i64
+    requires day { (neg_ℤ (pos 100_000_000) ≤ℤ day) × (day ≤ℤ pos 100_000_000) }
     requires second { second ≤ 86_400 }
     ensures { result ≡ day *ℤ pos 86_400 +ℤ pos second }
 {

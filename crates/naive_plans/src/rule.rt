@@ -6,6 +6,7 @@ ghost use Rattle.gregorian.specs.DateOf.{year_of, month_of, day_of_month, day_of
 ghost use Rattle.gregorian.specs.Month.{days_in_month};
 ghost use Rattle.gregorian.specs.Weekdays.{weekday_of};
 ghost use Rattle.gregorian.specs.Year.{days_in_year, floor_mod, is_leap};
+ghost use Rattle.naive_base.specs.Range.{IsWideDay};
 ghost use Rattle.naive_base.specs.Weekday.{weekday_number};
 ghost use Rattle.naive_plans.specs.Steps.RuleSteps.{IsNearRuleDay, IsRuleDay};
 ghost use Rattle.naive_plans.specs.RecurrenceRules as rules;
@@ -292,8 +293,8 @@ fn fourth_after(day: i64, passed: u32) -> i64
 }
 
 // How many days of its week come before a day.
-fn days_of_week(day: i64, week_start: Weekday) -> u32
-    requires { IsRuleDay day }
+pub(crate) fn days_of_week(day: i64, week_start: Weekday) -> u32
+    requires { IsWideDay day }
     ensures value { result ≡ floor_mod (day +ℤ pos 4 -ℤ pos (weekday_number week_start)) 7 }
     ensures bound { result < 7 }
 {
@@ -301,8 +302,8 @@ fn days_of_week(day: i64, week_start: Weekday) -> u32
 }
 
 // How many days of its year come before a day, and how many after it.
-fn place_in_year(day: i64) -> (u32, u32)
-    requires { IsNearRuleDay day }
+pub(crate) fn place_in_year(day: i64) -> (u32, u32)
+    requires { IsWideDay day }
     ensures before { result.0 ≡ day_of_year day }
     ensures after { result.1 ≡ days_in_year (year_of day) - 1 - day_of_year day }
     ensures bounds { (result.0 < 366) × (result.1 < 366) }

@@ -1,10 +1,10 @@
--- The changes of a zone's types as instants, and that clocks stand between them.
+-- The changes of a zone's types as instants, and that clocks keep their type between them.
 use Rattle.tz_info.specs.Steps.Changes.{IsAheadUpTo as IsBetween}
 use Rattle.zoned_ref.proofs.Words.{AreAround, AreOffsetsOf, Bool, Change, HasNoChange, IfSome, IsAfter, IsAhead, IsAt, IsInRange, IsNearest, IsNearestChange}
 use Rattle.zoned_ref.proofs.Words.{IsUpTo, Law, LocalType, MatchOption, Meaning, Option, Precedes, StandAlike, StandWithin, TypeAt, Zone, Zoned, ap, arith}
 use Rattle.zoned_ref.proofs.Words.{change_of_instants, false, ints, of_secs, option_map, pos, stays, subst, sym, true, type_once, ℤ, ◌-ℤ◌, ◌∙◌, ◌≡◌, ◌≤ℤ◌}
 
--- ---- the nearest change that instants tell
+-- ---- the nearest change that instants show
 -- in that direction from the second s on, as far as both its seconds are in range
 abbrev pub IsTold : Bool → ℤ → ℤ → Type 0
 IsTold true s u = IsAfter s u
@@ -23,7 +23,7 @@ sooner w s c d here a p before at = grind (arith, ints)
 pub none_told : (w : Bool) (in_force : ℤ → LocalType → Type 0) (s : ℤ) → IsInRange s → HasNoChange in_force (IsAhead w s) → HasNoChange in_force (IsTold w s)
 none_told w in_force s here none = λ d is k. none d is (told w s d.at here k).0
 
--- what tells a change if and only if both its seconds are in range
+-- what shows a change if and only if both its seconds are in range
 abbrev pub TellsInRange : {T : Type 0} → (T → Change) → (T → Type 0) → Change → Option T → Type 0
 TellsInRange change also c found = MatchOption found (IsInRange (c.at -ℤ pos 1) → IsInRange c.at → ⊥)
     (λ d. (change d ≡ c) × also d × IsInRange (c.at -ℤ pos 1) × IsInRange c.at)
@@ -32,7 +32,7 @@ pub nearest_told : {T : Type 0} (w : Bool) (change : T → Change) (also : T →
     → IsInRange s → IsNearestChange w in_force (IsAhead w s) c → TellsInRange change also c found → IsNearest w in_force (IsTold w s) (option_map change found)
 nearest_told w change also in_force s c found here h tells = grind (arith, ints, told, sooner, is_told)
 
--- ---- where no change comes the type in force stands
+-- ---- if no change comes, the type in force stays
 stands_on : (z : Zone) (off : ℤ → ℤ) → AreOffsetsOf z off → (s u : ℤ) (t : LocalType) → IsInRange s → IsInRange u → s ≤ℤ u
     → HasNoChange (TypeAt z) (IsBetween true s u) → TypeAt z s t → TypeAt z u t
 stands_on z off has s u t here there on none h =
@@ -71,7 +71,7 @@ pub stand_within : {T : Type 0} (w : Bool) (change : T → Change) (z : Zone) (o
 stand_within w change z off has s here found h = λ u there within.
     alike z off has s u here there (λ t. stands w z off has s u t here there within.0 (none_between w change (TypeAt z) s u found here there h within.1))
 
--- ---- two instants of the zone tell the change of its types at their seconds
+-- ---- two instants of the zone show the change of its types at their seconds
 pub around_by : {O : Type 0} {m : Meaning O} (law : Law m) (u : ℤ) (d e : Zoned O) → IsAt law (of_secs (u -ℤ pos 1) 0) d → IsAt law (of_secs u 0) e → AreAround law d e
 around_by law u d e before at = grind (arith, ints)
 

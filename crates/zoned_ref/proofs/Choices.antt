@@ -1,4 +1,4 @@
--- Each choice has an answer for each reading, by the offsets of a narrow zone.
+-- Each choice has an answer for each local date-time, by the offsets of a narrow zone.
 use Rattle.zoned_ref.proofs.Words.{AreOffsetsOf, Choice, IsInRange, IsNarrow, IsRuleOrNone, IsTaken, IsUnresolved, IsValid, IsWide, ResolveError, Zone}
 use Rattle.zoned_ref.proofs.Words.{choice_decided, map_of, offset_at, wall_decided, ℤ, ◌-ℤ◌, ◌⊎◌}
 use Rattle.zoned_ref.proofs.{Offsets.{are_offsets, offsets_within, zone_has_offsets}, Walls.{zone_wall}}

@@ -1,4 +1,4 @@
--- The type before a gap tells the offset before it.
+-- The type before a gap gives the offset before it.
 use Rattle.zoned_ref.proofs.Words.{AreOffsetsOf, IsBeforeGap, IsNarrow, IsOffsetBeforeGap, IsWide, IsWithinDay, IsZoneSecond, Law, LocalType, Meaning, None}
 use Rattle.zoned_ref.proofs.Words.{Some, TimeZoneRef, TypeAt, Zone, ZoneOffset, arith, ints, law_of, off_of, pos, sym, type_of, zone_of, ℤ, ◌+ℤ◌, ◌-ℤ◌, ◌≡◌}
 use Rattle.zoned_ref.proofs.{Days.{same_offset}, Offsets.{type_within}, Walls.{same_law, shown_by_offset, shown_by_type}}

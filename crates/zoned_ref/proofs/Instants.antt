@@ -3,7 +3,7 @@ use Rattle.offset_core.specs.declared.local_result.LocalResult.TheVariants.{Ambi
 use Rattle.zoned_ref.proofs.Words.{AreInstantsAt, AreTypesFor, HasInstant, LocalResult, LocalType, Option, Reading, SomeIff, Zone, Zoned, all_or_none, arith}
 use Rattle.zoned_ref.proofs.Words.{instant_of, one_wall_answer, refl, type_once, ℤ}
 
--- the instants of the types in force, where there is but one answer
+-- the instants of the types in force, if there is only one answer
 pub instants_for : (z : Zone) (l : Reading) (types : LocalResult LocalType) (instants : LocalResult (Zoned ℤ))
     → AreTypesFor z l types → AreInstantsAt l types instants → (other : LocalResult LocalType) → AreTypesFor z l other → AreInstantsAt l other instants
 instants_for z l types instants wall at other also = grind (arith, one_wall_answer, type_once)

@@ -55,7 +55,7 @@ type_has P z u t types rule h = elim (type_listed z u t h) [
 pub type_within : (z : Zone) (u : ℤ) (t : LocalType) → IsNarrow z → TypeAt z u t → IsWithinDay t.offset
 type_within z u t narrow h = type_has (λ s. IsWithinDay s.offset) z u t narrow.types narrow.rule h
 
--- and where all have one offset, it is that
+-- and if all have one offset, it is that
 pub offset_alone : (z : Zone) (off : ℤ → ℤ) (k : ℤ) → AreOffsetsOf z off → HasOneOffset z k → (u : ℤ) → IsZoneSecond u → off u ≡ k
 offset_alone z off k of_zone one u inside =
     let there = of_zone u inside in there.offset ∙ type_has (λ s. s.offset ≡ k) z u there.type one.types one.rule there.in_force

@@ -1,5 +1,5 @@
 -- The wall clock's answer over all seconds of 64 bits is the one over the range that zones answer in: whoever shows a
--- reading is less than a day away from it.
+-- local date-time is less than a day away from it.
 use Rattle.offset_core.specs.declared.local_result.LocalResult.TheVariants.{Ambiguous, None, Single}
 use Rattle.zoned_ref.proofs.Words.{AreOffsetsOf, IsNarrow, IsWallAnswer, IsWallAnswer-map_of, IsWide, IsWithinDay, LocalResult, LocalType, SameLaw, TimeZoneRef}
 use Rattle.zoned_ref.proofs.Words.{TypeAt, Zone, ZoneOffset, arith, home_law, ints, law_of, map_of, meaning_of, off_of, same_itself, subst, sym, type_of}

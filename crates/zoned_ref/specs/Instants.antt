@@ -1,4 +1,4 @@
--- The instants at which the clocks of a parsed zone show a reading.
+-- The instants at which the clocks of a parsed zone show a local date-time.
 use Rattle.std.specs.Prelude.{ℤ, Option, Some as some, None as none}
 use Rattle.offset_core.specs.declared.local_result.LocalResult.{LocalResult}
 use Rattle.offset_core.specs.LocalResult.{map_of}
@@ -15,11 +15,11 @@ use Rattle.zoned_ref.specs.Offsets.{IsNarrow}
 abbrev pub AreTypesFor : Zone → Reading → LocalResult LocalType → Type 0
 AreTypesFor z l types = IsWallAnswer (Shows (TypeAt z) l.s) types
 
--- each of their offsets gives its instant; where the UTC reading of one is out of range there is none
+-- each of their offsets gives its instant; if the UTC date-time of one is out of range, none has
 abbrev pub AreInstantsAt : Reading → LocalResult LocalType → LocalResult (Zoned ℤ) → Type 0
 AreInstantsAt l types instants = AreInstantsOf (λ k. k) l (map_of (λ t. t.offset) types) instants
 
--- instants are told of a narrow zone, and of no other
+-- only a narrow zone has instants
 abbrev pub AreInstantsFor : Zone → Reading → Option (LocalResult (Zoned ℤ)) → Type 0
 AreInstantsFor z l (some instants) = IsNarrow z × ((types : LocalResult LocalType) → AreTypesFor z l types → AreInstantsAt l types instants)
 AreInstantsFor z l none = IsNarrow z → ⊥

@@ -23,7 +23,7 @@ off_of k = borrowed.off_of k.borrowed
 abbrev pub law_of : KeptZone → Law meaning_of
 law_of k = offsets.law_of k.borrowed
 
--- the change that it tells
+-- the change that it shows
 abbrev pub change_of : KeptChange → Change
 change_of c = change_of_instants type_of (zoned c.before) (zoned c.at)
 

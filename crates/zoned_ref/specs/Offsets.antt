@@ -32,6 +32,6 @@ pub record HasOffset (z : Zone) (u k : ℤ) : Type 0 where
 abbrev pub HasOffsets : Zone → Type 0
 HasOffsets z = (u : ℤ) → IsZoneSecond u → (k : ℤ) × HasOffset z u k
 
--- `off` tells it
+-- `off` shows it
 abbrev pub AreOffsetsOf : Zone → (ℤ → ℤ) → Type 0
 AreOffsetsOf z off = (u : ℤ) → IsZoneSecond u → HasOffset z u (off u)

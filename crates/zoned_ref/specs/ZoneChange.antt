@@ -1,4 +1,4 @@
--- When the clocks of a zone change, told by instants.
+-- When the clocks of a zone change, as instants.
 use Rattle.std.specs.Prelude.{◌≡◌, ℤ, pos, ◌-ℤ◌, ◌≤ℤ◌, ◌<ℤ◌}
 use Rattle.naive_base.specs.Range.{first_second, last_second, IsInRange}
 use Rattle.naive_base.specs.Stamp.{of_secs}
@@ -20,7 +20,7 @@ IsAfter s u = (s <ℤ u) × (u ≤ℤ last_second)
 abbrev pub IsUpTo : ℤ → ℤ → Type 0
 IsUpTo s u = (first_second <ℤ u) × (u ≤ℤ s)
 
--- the change that two instants tell: it comes at the second of the latter, and leads from the type of the former's offset to
+-- the change that two instants show: it comes at the second of the latter, and leads from the type of the former's offset to
 -- that of the latter's
 abbrev pub change_of_instants : {O : Type 0} → (O → LocalType) → Zoned O → Zoned O → Change
 change_of_instants type_of before at = record { at = at.utc.s; before = type_of before.offset; after = type_of at.offset }
@@ -30,7 +30,7 @@ pub record AreAround {O : Type 0} {m : Meaning O} (law : Law m) (d e : Zoned O) 
   pub before : IsAt law (of_secs (e.utc.s -ℤ pos 1) 0) d
   pub at : IsAt law (of_secs e.utc.s 0) e
 
--- the change that a `ZoneChange` tells
+-- the change that a `ZoneChange` shows
 abbrev pub change_of : ZoneChange → Change
 change_of c = change_of_instants type_of (zoned c.before) (zoned c.at)
 
@@ -38,7 +38,7 @@ change_of c = change_of_instants type_of (zoned c.before) (zoned c.at)
 abbrev pub IsOfZone : TimeZoneRef → ZoneChange → Type 0
 IsOfZone r c = AreAround (law_of r) (zoned c.before) (zoned c.at)
 
--- at the second u the clocks of a zone stand as at the second s: they have the same offset, and by the same type
+-- at the second u the clocks of a zone are as at the second s: they have the same offset, and by the same type
 pub record StandAlike (z : Zone) (off : ℤ → ℤ) (s u : ℤ) : Type 0 where
   pub offset : off u ≡ off s
   pub in_force : (t : LocalType) → TypeAt z s t → TypeAt z u t

@@ -32,8 +32,8 @@ use std::hash::{Hash, Hasher};
 #[derive(Clone, Copy)]
 pub struct TimeZoneRef<'a> {
     zone: &'a tz_info::TimeZone,
-    // Every zone has the second of these facts. It stands here so that the third one, and all that
-    // is said of a zone of `DateTime`s, can speak of its offset at a second.
+    // Every zone has the second of these facts. It is a fact here so that the third one, and all
+    // that is said of a zone of `DateTime`s, can speak of its offset at a second.
     pub ghost narrow: { IsNarrow zone.now },
     pub ghost offsets: { ∥ HasOffsets zone.now ∥₁ },
     pub ghost within_day: { (u : ℤ) → IsZoneSecond u → IsWithinDay (offset_at zone.now offsets u) },
@@ -51,7 +51,7 @@ impl<'a> TimeZoneRef<'a> {
         ensures zone { IfSome result (λ r. zone_of r ≡ zone.now) }
         // Its offsets are those of the types in force.
         ensures offsets { IfSome result (λ r. AreOffsetsOf zone.now (off_of r)) }
-        // Where each of its types has the offset k, that is its offset at each second,
+        // If each of its types has the offset k, that is its offset at each second,
         ensures one_offset { IfSome result (λ r. (k : ℤ) → HasOneOffset zone.now k
             → (u : ℤ) → IsZoneSecond u → off_of r u ≡ k) }
         // and its clocks are never set.

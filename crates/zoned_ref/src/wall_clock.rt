@@ -138,7 +138,7 @@ impl WallClock {
     }
 }
 
-// The instants at which clocks of those types show the reading, where the zone is narrow.
+// The instants at which clocks of those types show the local date-time, if the zone is narrow.
 #[tactic(auto, using(crate::proofs::Instants::instants_for, crate::proofs::Walls::each_within))]
 fn instants(
     zone: &tz_info::TimeZone,
@@ -153,7 +153,7 @@ fn instants(
     Some(instants_of(local, types))
 }
 
-// The instant of each type; none at all where one of them is out of range.
+// The instant of each type, or `None` if one of them is out of range.
 fn instants_of(
     local: &NaiveDateTime,
     types: &LocalResult<LocalTimeType>,
@@ -193,7 +193,7 @@ fn instants_of_two(
     }
 }
 
-// The instant at which a clock of that type shows the reading, where it is in range.
+// The instant at which a clock of that type shows the local date-time, if it is in range.
 fn instant_of(local: &NaiveDateTime, local_type: &LocalTimeType) -> Option<DateTime<FixedOffset>>
     requires { IsWithinDay local_type.now.offset }
     ensures { let k = local_type.now.offset in let l = reading local.now in

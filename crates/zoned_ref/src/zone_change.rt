@@ -58,7 +58,8 @@ impl<'a> TimeZoneRef<'a> {
             (IsAfter (zoned after.now).utc.s)
             (option_map change_of result) }
         ensures instants { IfSome result (IsOfZone self.now) }
-        // Up to it clocks stand as at that instant; without one up to the end of the range.
+        // Until then the clocks keep that instant's offset and type; if there is no change, to the
+        // end of the range.
         ensures until { let s = (zoned after.now).utc.s in
             StandWithin (zone_of self.now) (off_of self.now) s
             (λ u. (s ≤ℤ u) × IfSome result (λ c. u <ℤ (zoned c.at).utc.s)) }
@@ -86,7 +87,8 @@ impl<'a> TimeZoneRef<'a> {
             (IsUpTo (zoned before_or_at.now).utc.s)
             (option_map change_of result) }
         ensures instants { IfSome result (IsOfZone self.now) }
-        // From it on clocks stand as at that instant; without one from the start of the range on.
+        // From then on the clocks have had that instant's offset and type; if there is no change,
+        // from the start of the range.
         ensures since { let s = (zoned before_or_at.now).utc.s in
             StandWithin (zone_of self.now) (off_of self.now) s
             (λ u. (u ≤ℤ s) × IfSome result (λ c. (zoned c.at).utc.s ≤ℤ u)) }

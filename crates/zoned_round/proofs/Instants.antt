@@ -31,7 +31,7 @@ pub itself-in : {T : Type 0} (P Other : T → Type 0) (value answer : T) (n : �
     → P value → ((new : T) → Other new → P new) → IsItselfOr (n ≡ 0) Other value answer → P answer
 itself-in P Other value answer n here moves h = grind arith
 
--- two values that went one way show one reading
+-- two values that were moved alike show one local date-time
 pub gone-once : {T : Type 0} (instant : T → Reading) (IsMoved : ℤ → T → Type 0) (value a b : T) (way : ℤ)
     → ((d : ℤ) (new : T) → IsMoved d new → instant new ≡ moved (instant value) d)
     → IsGone IsMoved way value a → IsGone IsMoved way value b → instant a ≡ instant b
@@ -41,6 +41,6 @@ gone-once instant IsMoved value a b way moves h k = grind (arith, ints)
 pub refusal-once : (p q : Type 0) (e f : RoundingError) → IsRoundingFault p q e → IsRoundingFault p q f → e ≡ f
 refusal-once p q e f h k = grind arith
 
--- and none where both fit
+-- and none if both fit
 pub not-refused : (p q : Type 0) (e : RoundingError) → p → q → IsRoundingFault p q e → ⊥
 not-refused p q e x y h = grind arith

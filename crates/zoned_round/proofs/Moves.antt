@@ -1,4 +1,4 @@
--- Readings moved within their second, and by how much.
+-- Local date-times moved within their second, and by how much.
 use Rattle.zoned_round.proofs.Words.{Reading, arith, by_lt_z, floors, ints, moved, moved-leap, moved-plain, moved_leap-within, neg_ℤ, of_total, pos, ℕ, ℤ, ◌*ℤ◌}
 use Rattle.zoned_round.proofs.Words.{◌+ℤ◌, ◌-◌, ◌<◌, ◌≡◌, ◌≤◌}
 

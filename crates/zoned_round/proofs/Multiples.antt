@@ -7,7 +7,7 @@ pub below-near : (n : ℤ) (span : ℕ) → 0 < span
     → (multiple_below n span ≤ℤ n) × (n <ℤ (multiple_below n span +ℤ pos span))
 below-near n span some = let parts = floor_mod_parts n span some in (omega (arith, floors), omega (arith, floors))
 
--- the one above is the one below where that is no way off, and else one span further
+-- the one above is the one below if that is the value, and else one span further
 pub above-is : (n : ℤ) (span : ℕ) → 0 < span
     → ((multiple_above n span ≡ multiple_below n span) × (n ≡ multiple_below n span))
     ⊎ ((multiple_above n span ≡ multiple_below n span +ℤ pos span) × (multiple_below n span <ℤ n))

@@ -1,4 +1,4 @@
--- Readings rounded to digits of a second.
+-- Local date-times rounded to digits of a second.
 use Rattle.std.proofs.Math.Nat.{one-le-pow, pow-le-pow_right}
 use Rattle.zoned_round.proofs.Words.{IsInRange, Reading, arith, by_lt_z, floors, ints, moved, moved-leap, moved-plain, moved_leap-behind, moved_leap-within}
 use Rattle.zoned_round.proofs.Words.{multiple_below, nanos_per_digit, nearest_multiple, neg_ℤ, of_total, pos, rounded, ℕ, ℤ, ◌*ℤ◌, ◌+ℤ◌, ◌-ℤ◌, ◌-◌, ◌<ℤ◌, ◌<◌}
@@ -27,7 +27,7 @@ nearest-some f span some = grind (arith, ints, below-some f span, nearest-is (po
 per_digit : (digits : ℕ) → (0 < nanos_per_digit digits) × (nanos_per_digit digits ≤ 1_000_000_000)
 per_digit digits = (one-le-pow (9 - digits) 10 (omega arith), pow-le-pow_right {n = 10} (omega arith) {i = 9 - digits} {j = 9} (omega arith))
 
--- a reading before the last second of the range is rounded within it
+-- a local date-time before the last second of the range is rounded within it
 pub rounded-in_range : (r : Reading) (digits : ℕ) → r.f < 2_000_000_000
     → neg_ℤ (pos 8_334_601_228_800) ≤ℤ r.s → (r.s +ℤ pos 1) ≤ℤ pos 8_210_266_876_799
     → IsInRange (rounded r digits).s

@@ -12,11 +12,11 @@ use Rattle.zoned_round.specs.Multiples.{IsItselfOr}
 abbrev pub IsRoundingLength : ℤ → Type 0
 IsRoundingLength nanos = (pos 0 <ℤ nanos) × FitsSigned w64 nanos
 
--- the value, gone so far: itself where that is nowhere
+-- the value moved by that length: itself if the length is 0
 abbrev pub IsGone : {T : Type 0} → (ℤ → T → Type 0) → ℤ → T → T → Type 0
 IsGone IsMoved way value answer = IsItselfOr (way ≡ pos 0) (IsMoved way) value answer
 
--- the reading so many nanoseconds later
+-- the local date-time that many nanoseconds later
 abbrev pub IsReadingMoved : NaiveDateTime → ℤ → NaiveDateTime → Type 0
 IsReadingMoved value way answer = reading answer ≡ moved (reading value) way
 

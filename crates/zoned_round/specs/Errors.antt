@@ -3,7 +3,7 @@ use Rattle.std.specs.Prelude.{ℕ, List, codes}
 use Rattle.zoned_round.specs.declared.error.RoundingError.{RoundingError}
 use Rattle.zoned_round.specs.declared.error.RoundingError.TheVariants.{DurationExceedsTimestamp, DurationExceedsLimit, TimestampExceedsLimit}
 
--- The span's fault comes first, the stamp's only where the span has none.
+-- The span's fault comes first, the stamp's only if the span has none.
 abbrev pub IsRoundingFault : Type 0 → Type 0 → RoundingError → Type 0
 IsRoundingFault span_fits stamp_fits DurationExceedsLimit = span_fits → ⊥
 IsRoundingFault span_fits stamp_fits TimestampExceedsLimit = span_fits × (stamp_fits → ⊥)

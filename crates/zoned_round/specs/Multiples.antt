@@ -12,13 +12,13 @@ multiple_above n span =
     if int_lt (multiple_below n span) n then multiple_below n span +ℤ pos span
     else multiple_below n span
 
--- the nearer of the two; the one above where both are as near
+-- the nearer of the two; the one above if both are as near
 abbrev pub nearest_multiple : ℤ → ℕ → ℤ
 nearest_multiple n span =
     if int_lt (n -ℤ multiple_below n span) (multiple_above n span -ℤ n) then multiple_below n span
     else multiple_above n span
 
--- the value itself where it stays as it is, and else what is said of another
+-- the value itself if it stays as it is, and else what is said of another
 pub record IsItselfOr {T : Type 0} (stays : Type 0) (IsOther : T → Type 0) (value answer : T)
     : Type 0 where
   pub itself : stays → answer ≡ value

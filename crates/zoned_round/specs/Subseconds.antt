@@ -1,4 +1,4 @@
--- Readings rounded to digits of a second.
+-- Local date-times rounded to digits of a second.
 use Rattle.std.specs.Prelude.{◌≡◌, ℕ, ◌-◌, ◌^◌, ◌%◌, pos, ◌-ℤ◌}
 use Rattle.naive_base.specs.Reading.{Reading, moved}
 use Rattle.zoned_round.specs.Multiples.{nearest_multiple, IsItselfOr}
@@ -19,11 +19,11 @@ cut r digits = record { s = r.s; f = r.f - nanos_behind r digits }
 abbrev pub rounded : Reading → ℕ → Reading
 rounded r digits = moved r (nearest_multiple (pos r.f) (nanos_per_digit digits) -ℤ pos r.f)
 
--- what a value that shows r asks where it is rounded, and what it then is; likewise where it is cut
+-- the precondition of rounding a value that shows r, and the result; likewise of cutting it
 abbrev pub MayRound : (Reading → Type 0) → Reading → ℕ → Type 0
 MayRound MayShow r digits = (nanos_behind r digits ≡ 0 → ⊥) → MayShow (rounded r digits)
 
--- what comes of a value that shows r where it is rounded to so many digits
+-- the result of rounding a value that shows r to n digits
 abbrev pub IsRounded : {T : Type 0} → (Reading → T → Type 0) → Reading → ℕ → T → T → Type 0
 IsRounded IsShowing r digits value answer =
     IsItselfOr (nanos_behind r digits ≡ 0) (IsShowing (rounded r digits)) value answer

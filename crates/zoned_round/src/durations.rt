@@ -95,7 +95,7 @@ pub trait DurationRound: Sized {
         ensures { let stamp = total (clock self) in
             IsRoundedTo multiple_above fault (IsMoved self) stamp (nanos_of duration) self result };
 
-    // what moves is the reading
+    // what moves is the local date-time
     ghost moves: { (value : Self) (way : ℤ) (answer : Self)
         → IsMoved value way answer → instant answer ≡ moved (instant value) way };
 }
@@ -162,7 +162,7 @@ impl<Tz: TimeZone> DurationRound for DateTime<Tz> {
     }
 }
 
-// The reading so much later.
+// The local date-time later by that length.
 fn reading_after(here: NaiveDateTime, way: TimeDelta) -> NaiveDateTime
     requires near { IsNearRange (reading here) }
     requires short { FitsSigned w64 (nanos_of way) }

@@ -20,7 +20,7 @@ pub(crate) struct Stamp {
     ghost positive: { pos 0 <ℤ span },
 }
 
-// All of a reading in nanoseconds, where that fits.
+// All of a local date-time in nanoseconds, if that fits.
 fn nanos_shown(clock: NaiveDateTime) -> Option<i64>
     ensures { SomeIff result (FitsSigned w64 (total (reading clock))) (total (reading clock)) }
 {
@@ -76,7 +76,7 @@ impl Stamp {
         }
     }
 
-    // The way to the nearer one, and to the one above where both are as near.
+    // The way to the nearer one, and to the one above if both are as near.
     pub(crate) fn way_to_nearest(&self) -> TimeDelta
         ensures is { let here = self.now.nanos in
             nanos_of result ≡ nearest_multiple here (unsigned_abs self.now.span) -ℤ here }

@@ -27,7 +27,7 @@ pub trait SubsecRound: Sized {
     // the value that shows others in their place
     ghost IsShowing: { Self → Reading → Self → Type 0 };
 
-    // where there is one
+    // if there is one
     ghost MayShow: { Self → Reading → Type 0 };
 
     /// Returns the nearest value with that many digits of a second; if two are as near, the later

@@ -33,7 +33,7 @@ pub data IsMissing {Z O : Type 0} {m : Meaning O} (law : Law m) (s : Series Z) (
   unresolved : (cause : ResolveError) → IsDayInRange (s.first +ℤ pos n) → IsUnresolved law.off (reading_of s n).s s.choice cause
       → e ≡ Resolve cause → IsMissing law s n e
 
--- what is told of item n, where `zoned` shows an instant
+-- what holds of item n, if `zoned` shows an instant
 abbrev pub IsItemOrError : {Z O D : Type 0} {m : Meaning O} → Law m → (D → Zoned O) → Series Z → ℕ → Result D SeriesError → Type 0
 IsItemOrError law zoned s n answer = MatchResult answer (λ d. IsItem law s n (zoned d)) (λ e. IsMissing law s n e)
 

@@ -88,7 +88,7 @@ impl<Tz: TimeZone> DailySeries<Tz> {
         DailyItems::new(*self, count)
     }
 
-    // The day n days after the first, where it is in range.
+    // The day n days after the first, if it is in range.
     fn date(&self, n: u32) -> Option<NaiveDate>
         ensures { IsDateOfDay ((series_of self.now).first +ℤ pos n) result }
     {

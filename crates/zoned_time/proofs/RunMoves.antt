@@ -2,7 +2,6 @@
 use Rattle.zoned_time.proofs.Words.{IsAt, IsFire, IsNextFire, IsZonedNextFire, Law, Meaning, Zoned, arith, by_lt_z, inl, inr, ints, ℤ, ◌<ℤ◌, ◌≡◌, ◌≤ℤ◌}
 use Rattle.zoned_time.specs.Fires.{NoneFiresBetween}
 use Rattle.zoned_time.specs.Moves.{FiresInFirstOnly, IsMove, IsNextMove, NoneMovesBefore}
-use Rattle.zoned_time.specs.declared.moves.Move.{Move}
 use Rattle.zoned_time.specs.declared.moves.Move.TheVariants.{Added, Removed}
 use Rattle.zoned_time.proofs.Words.{of_secs}
 

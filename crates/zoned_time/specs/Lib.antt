@@ -9,6 +9,7 @@ pub mod Order
 pub mod Reached
 pub mod Relocal
 pub mod Stamps
+pub mod StepBounds
 pub mod Steps
 pub mod Years
 pub mod Zone

@@ -2,6 +2,7 @@
 
 pub mod days;
 pub mod fires;
+pub mod steps;
 
 ghost use Rattle.std.specs.Prelude.{◌≡◌, ◌↔◌, ◌++◌, ◌⊎◌, [], IsTrue, ℕ, ℤ, Option, Some, SomeIff, FitsSigned};
 ghost use Rattle.std.specs.Hash as fed;

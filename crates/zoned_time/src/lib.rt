@@ -23,4 +23,4 @@ pub use offset::Offset;
 pub use offset_core::{Around, ResolveError, Taken};
 pub use time_zone::TimeZone;
 pub use utc::Utc;
-pub use zone_days::{ShownDay, ZoneDays};
+pub use zone_days::{ShownDay, StepBounds, ZoneDays};

@@ -1,5 +1,5 @@
 //! The days of a zone, and when plans fire in it.
-ghost use Rattle.std.specs.Prelude.{◌≡◌, ◌<◌, ℤ, pos, ◌+ℤ◌, ◌-ℤ◌, ◌≤ℤ◌, MatchOption};
+ghost use Rattle.std.specs.Prelude.{◌≡◌, ◌↔◌, ◌<◌, ℤ, pos, ◌+ℤ◌, ◌-ℤ◌, ◌≤ℤ◌, IsTrue, MatchOption};
 ghost use Rattle.offset_core.specs.TimeDelta.{nanos_of};
 ghost use Rattle.naive_base.specs.NaiveDate.{day_of};
 ghost use Rattle.naive_base.specs.NaiveDateTime.{reading};
@@ -7,17 +7,20 @@ ghost use Rattle.naive_base.specs.Range.{IsInRange, IsWideDay};
 ghost use Rattle.naive_base.specs.Stamp.{of_secs};
 ghost use Rattle.naive_base.specs.Weekday.{weekday_number};
 ghost use Rattle.naive_base.specs.Year.{floor_div};
+ghost use Rattle.naive_plans.specs.ClockSteps.{BeginsStep};
 ghost use Rattle.zoned_time.specs.DateTime.{zoned};
 ghost use Rattle.zoned_time.specs.Days as instants;
 ghost use Rattle.zoned_time.specs.DayEnds as ends;
 ghost use Rattle.zoned_time.specs.Fires as fire_times;
+ghost use Rattle.zoned_time.specs.Fires.{IsFire};
 ghost use Rattle.zoned_time.specs.Reached.{IsReachedAt};
+ghost use Rattle.zoned_time.specs.StepBounds as bounds;
 ghost use Rattle.zoned_time.specs.Zoned.{IsAt};
 
 use crate::reached::reached_at;
 use crate::{DateTime, Fires, TimeZone, Utc};
 use naive_base::{Datelike, Days, NaiveDate, NaiveDateTime, NaiveTime, Weekday};
-use naive_plans::{Plan, ReversiblePlan};
+use naive_plans::{ClockStep, Plan, ReversiblePlan};
 use offset_core::{FixedOffset, TimeDelta};
 
 /// The first and the last second at which clocks show a date: of a zone's instants, or of Unix time.
@@ -27,6 +30,15 @@ pub struct ShownDay<T> {
     pub first: T,
     /// The last second, which still shows the date: the day ends when it is over.
     pub last: T,
+}
+
+/// Where a step of the local clock begins and where it ends, which is where the next one begins.
+#[derive(Clone, Copy, Debug)]
+pub struct StepBounds<T> {
+    /// The first instant of the step.
+    pub begin: T,
+    /// The first instant after it.
+    pub end: T,
 }
 
 /// A zone whose days can be found.
@@ -311,6 +323,28 @@ pub trait ZoneDays: TimeZone {
         instant_at(self, self.first_second_at_or_after(&local), 0)
     }
 
+    /// Returns the first instant at which a plan fires that isn't before the given one, of any zone; `None`
+    /// if no such instant is in the range of [`DateTime`].
+    ///
+    /// ```
+    /// let first = new_york.first_fire(&daily, &last)?; // of 02:30 each day, from its last fire on: that one
+    /// ```
+    final fn first_fire<P: ReversiblePlan, Tz: TimeZone>(
+        &self,
+        plan: &P,
+        from: &DateTime<Tz>,
+    ) -> Option<DateTime<Self>>
+        ensures { let law = Self.law self.now in
+            let s = fire_times.second_before (zoned from.now).utc in
+            MatchOption result (fire_times.NoneFiresAfter law.off (P.planned plan.now) s)
+            (λ d. fire_times.IsZonedNextFire law (P.planned plan.now) s (zoned d)) }
+    {
+        if let Some(now) = fire_at(self, plan, from) {
+            return Some(now);
+        }
+        self.next_fire(plan, from)
+    }
+
     /// Returns the last instant at which a plan fires before the given one, of any zone; `None` if no such
     /// instant is in the range of [`DateTime`].
     ///
@@ -332,6 +366,75 @@ pub trait ZoneDays: TimeZone {
         }
         let until = DateTime::<Utc>::from_timestamp(before.timestamp() - 1, 0)?;
         self.last_fire(plan, &until)
+    }
+
+    /// Returns the first instant of the step of the local clock that an instant of any zone lies in, such
+    /// as its day, week or hour; `None` if it is out of the range of [`DateTime`].
+    ///
+    /// A step begins at the first instant at which clocks show its first local time or a later one, and
+    /// lasts to before the next step begins. So each instant lies in one step. A step doesn't begin again
+    /// if clocks are set back: until they have caught up, instants lie in the step in which that happened.
+    /// So the hour of 01:00 has 120 minutes in New York on 2021-11-07, and 90 in Lord Howe on 2021-04-04,
+    /// where clocks went from 02:00 back to 01:30.
+    ///
+    /// ```
+    /// let second_pass = Utc.with_ymd_and_hms(2021, 11, 7, 6, 30, 0).single()?; // 01:30:00 -05:00
+    /// let hour = new_york.floor(&second_pass, ClockStep::HOUR)?; // 2021-11-07 01:00:00 -04:00
+    /// ```
+    final fn floor<Tz: TimeZone>(
+        &self,
+        instant: &DateTime<Tz>,
+        step: ClockStep,
+    ) -> Option<DateTime<Self>>
+        ensures { let law = Self.law self.now in
+            let s = (zoned instant.now).utc.s in
+            MatchOption result (fire_times.NoneFiresUntil law.off (BeginsStep step) s)
+            (λ d. fire_times.IsZonedLastFire law (BeginsStep step) s (zoned d)) }
+    {
+        self.last_fire(&step, instant)
+    }
+
+    /// Returns the first instant that isn't before the given one, of any zone, and at which a step of the
+    /// local clock begins; `None` if no such instant is in the range of [`DateTime`].
+    ///
+    /// ```
+    /// let second_pass = Utc.with_ymd_and_hms(2021, 11, 7, 6, 30, 0).single()?; // 01:30:00 -05:00
+    /// let next = new_york.ceil(&second_pass, ClockStep::HOUR)?; // 2021-11-07 02:00:00 -05:00
+    /// ```
+    final fn ceil<Tz: TimeZone>(
+        &self,
+        instant: &DateTime<Tz>,
+        step: ClockStep,
+    ) -> Option<DateTime<Self>>
+        ensures { let law = Self.law self.now in
+            let s = fire_times.second_before (zoned instant.now).utc in
+            MatchOption result (fire_times.NoneFiresAfter law.off (BeginsStep step) s)
+            (λ d. fire_times.IsZonedNextFire law (BeginsStep step) s (zoned d)) }
+    {
+        self.first_fire(&step, instant)
+    }
+
+    /// Returns where the step of the local clock that an instant of any zone lies in begins and where it
+    /// ends; `None` if one of the two is out of the range of [`DateTime`].
+    ///
+    /// ```
+    /// let second_pass = Utc.with_ymd_and_hms(2021, 11, 7, 6, 30, 0).single()?; // 01:30:00 -05:00
+    /// let hour = new_york.step_at(&second_pass, ClockStep::HOUR)?;
+    /// let length = hour.end.signed_duration_since(&hour.begin).num_minutes(); // 120
+    /// ```
+    final fn step_at<Tz: TimeZone>(
+        &self,
+        instant: &DateTime<Tz>,
+        step: ClockStep,
+    ) -> Option<StepBounds<DateTime<Self>>>
+        ensures { let law = Self.law self.now in
+            let s = (zoned instant.now).utc.s in
+            MatchOption result (bounds.IsStepOutOfRange law.off (BeginsStep step) s)
+            (λ d. bounds.AreInstantsOfStep law (BeginsStep step) s (zoned d.begin) (zoned d.end)) }
+    {
+        let begin = self.last_fire(&step, instant)?;
+        let end = self.next_fire(&step, instant)?;
+        Some(StepBounds { begin, end })
     }
 }
 
@@ -377,4 +480,33 @@ fn instant_at<Tz: TimeZone>(zone: &Tz, second: i64, nanos: u32) -> Option<DateTi
         (λ d. IsInRange second × IsAt (Tz.law zone.now) (of_secs second nanos) (zoned d)) }
 {
     zone.timestamp_opt(second, nanos).single()
+}
+
+// The instant itself, if a plan fires at it.
+fn fire_at<Zone: ZoneDays, P: ReversiblePlan, Tz: TimeZone>(
+    zone: &Zone,
+    plan: &P,
+    instant: &DateTime<Tz>,
+) -> Option<DateTime<Zone>>
+    ensures { let law = Zone.law zone.now in let r = (zoned instant.now).utc in
+        MatchOption result (IsFire law.off (P.planned plan.now) r.s → r.f ≡ 0 → ⊥)
+        (λ d. IsFire law.off (P.planned plan.now) r.s × (r.f ≡ 0)
+        × IsAt law (of_secs r.s 0) (zoned d)) }
+{
+    let last = zone.last_fire(plan, instant)?;
+    if !is_whole_second_of(&last, instant) {
+        return None;
+    }
+    Some(last)
+}
+
+// Whether both are in the same second, and the second instant has no fraction.
+fn is_whole_second_of<Zone: TimeZone, Tz: TimeZone>(
+    second: &DateTime<Zone>,
+    instant: &DateTime<Tz>,
+) -> bool
+    ensures { let r = (zoned instant.now).utc in
+        IsTrue result ↔ (((zoned second.now).utc.s ≡ r.s) × (r.f ≡ 0)) }
+{
+    second.timestamp() == instant.timestamp() && instant.timestamp_subsec_nanos() == 0
 }

@@ -1,4 +1,4 @@
--- The offset of a zone made a function of the second: a second has one at most, so that where it has some, that is one to
+-- The offset of a zone made a function of the second: a second has one at most, so that if it has some, that is one to
 -- speak of.
 use Rattle.std.specs.Prelude.{◌≡◌, ℤ, pos, neg_ℤ}
 use Rattle.std.specs.Coded.{Coded-set, coded_ℤ}

@@ -1,4 +1,4 @@
--- Stamps beside the span that they are rounded by.
+-- Stamps with the span that they are rounded by.
 use Rattle.std.specs.Prelude.{◌≡◌, ℤ, pos, neg_ℤ, ◌≤ℤ◌, FitsSigned, Result, Ok, Err}
 use Rattle.std.specs.Int.{w64}
 use Rattle.naive_base.specs.Reading.{Reading, total}
@@ -7,7 +7,7 @@ use Rattle.zoned_round.specs.declared.stamp.Stamp.{Stamp}
 use Rattle.zoned_round.specs.Errors.{IsRoundingFault}
 use Rattle.zoned_round.specs.Durations.{IsRoundingLength}
 
--- the stamp and the span, or why there are none
+-- the stamp and the span, or the reason why they don't exist
 abbrev pub IsStampOf : ℤ → ℤ → Result Stamp RoundingError → Type 0
 IsStampOf stamp span (Ok found) =
     IsRoundingLength span × FitsSigned w64 stamp × (found.nanos ≡ stamp) × (found.span ≡ span)

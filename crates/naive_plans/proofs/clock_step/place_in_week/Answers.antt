@@ -1,0 +1,7 @@
+use Rattle.naive_base.proofs.Words.{to_z-of_z}
+use Rattle.naive_plans.proofs.ClockSteps.{in_week}
+use Rattle.naive_plans.proofs.clock_step.place_in_week.Goals as goal
+
+pub returns-clause-place : goal.returns-clause-place
+returns-clause-place c =
+    let fits = c.ranges.day in in_week c.args.first c.args.day c.days_of_week-before.result (simp to_z-of_z at c.days_of_week-before.ensures.value)
