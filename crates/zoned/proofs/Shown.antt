@@ -1,4 +1,4 @@
--- The instants at which the clocks of a zone show a local time, told by their seconds.
+-- The instants at which the clocks of a zone show a local time, as their seconds.
 use Rattle.offset_core.specs.declared.local_result.LocalResult.TheVariants.{Ambiguous, None as none, Single}
 use Rattle.zoned.proofs.Words.{AreInstantsOf, Each, HasInstant, IsFromFirstToLast, IsInRange, IsNeverShown, IsRelocal, IsShownBetween, IsShownOnce}
 use Rattle.zoned.proofs.Words.{IsWallAnswer, Law, LocalResult, Meaning, None, Option, Reading, ShowsByOffset, Some, SomeIff, Zoned, all_or_none, arith, inr}
@@ -36,7 +36,7 @@ between_seconds off l j k s t h is also = record {
 outside : (off : ℤ → ℤ) (l u k : ℤ) → ShowsByOffset off l u k → (IsInRange (l -ℤ k) → ⊥) → ShowsOutside off l
 outside off l u k shows out = (u, k, shows, λ inside. out (subst IsInRange (sym (second_of off l u k shows)) inside))
 
--- what is shown of the instants, if there are some and if there are none
+-- what is shown of the instants, if there are some and if there aren't any
 abbrev pub AreAllSeconds : {O : Type 0} → (ℤ → ℤ) → ℤ → LocalResult (Zoned O) → Type 0
 AreAllSeconds off l none = IsNeverShown (ShowsByOffset off l) ⊎ ShowsOutside off l
 AreAllSeconds off l (Single d) = IsShownOnce (IsSecond off l) d.utc.s

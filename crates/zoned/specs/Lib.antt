@@ -35,6 +35,8 @@ pub use Rattle.naive_base.specs.Week
 pub use Rattle.naive_plans.specs.Plans
 pub use Rattle.naive_plans.specs.DayPlans
 pub use Rattle.naive_plans.specs.Cron
+pub use Rattle.naive_plans.specs.PartsOfDay
+pub use Rattle.naive_plans.specs.ClockSteps
 pub use Rattle.naive_plans.specs.PlanSets
 pub use Rattle.naive_plans.specs.RecurrenceRules
 pub use Rattle.naive_plans.specs.AllowedRules
@@ -56,6 +58,7 @@ pub use Rattle.tz_info.specs.Transitions
 pub use Rattle.tz_info.specs.Zones
 pub use Rattle.tz_info.specs.WallClocks
 pub use Rattle.tz_info.specs.Gaps
+pub use Rattle.tz_info.specs.Folds
 pub use Rattle.tz_info.specs.Around
 pub use Rattle.tz_info.specs.Changes
 pub use Rattle.tz_info.specs.HeldChanges
@@ -95,6 +98,7 @@ pub use Rattle.zoned_time.specs.Order
 pub use Rattle.zoned_time.specs.Reached
 pub use Rattle.zoned_time.specs.Relocal
 pub use Rattle.zoned_time.specs.Stamps
+pub use Rattle.zoned_time.specs.StepBounds
 pub use Rattle.zoned_time.specs.Years
 pub use Rattle.zoned_time.specs.Zone
 pub use Rattle.zoned_time.specs.Zoned
@@ -116,4 +120,5 @@ pub use Rattle.zoned_round.specs.Laws
 pub use Rattle.zoned_series.specs.DailySeries
 pub use Rattle.zoned_series.specs.Numbers
 pub use Rattle.zoned_series.specs.Series
+pub mod Headline
 pub mod Within

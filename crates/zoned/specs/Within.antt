@@ -1,4 +1,4 @@
--- Where a second lies among those of the instants of a local time.
+-- Which seconds lie among those of the instants of a local time.
 use Rattle.std.specs.Prelude.{◌≡◌, ⊤, ℤ, ◌≤ℤ◌}
 use Rattle.offset_core.specs.declared.local_result.LocalResult.{LocalResult}
 use Rattle.offset_core.specs.declared.local_result.LocalResult.TheVariants.{Single, Ambiguous, None}

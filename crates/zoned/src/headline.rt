@@ -1,36 +1,40 @@
-//! The headline, as theorems: from any bytes, through the zone, to the wall clock's answer with its
-//! count, and to the law that each call of a `DateTime` relies on.
+//! The headline, as one statement ([`statement`]), and what it rests on: that bytes spell one zone or have
+//! a fault, and that a lawful zone answers what the bytes' zone does.
 //!
-//! If a function is empty, its contract is the theorem. The others make the calls one after
-//! another, so that nobody has to join their contracts by hand.
+//! If a function is empty, its contract is the theorem. [`statement`] makes the calls, so that nobody has to
+//! join their contracts by hand.
 
-ghost use Rattle.std.specs.Prelude.{◌≡◌, ◌↔◌, ℕ, ℤ, List, IfOk, IfErr, IfSome, IsSome, MatchResult};
-ghost use Rattle.std.specs.Prelude.{◌⊎◌};
+ghost use Rattle.std.specs.Prelude.{◌≡◌, ◌↔◌, ℕ, ℤ, List, IfSome, IsSome, IsTrue};
 ghost use Rattle.offset_core.specs.LocalResult.{map_of};
 ghost use Rattle.offset_core.specs.Offset.{IsWithinDay};
 ghost use Rattle.offset_core.specs.WallAnswer.{IsWallAnswer};
 ghost use Rattle.offset_core.specs.declared.local_result.LocalResult.{LocalResult as Answer};
 ghost use Rattle.naive_base.specs.NaiveDateTime.{reading};
 ghost use Rattle.naive_base.specs.Range.{IsWide};
-ghost use Rattle.tz_base.specs.Errors.{error_number};
 ghost use Rattle.tz_base.specs.LocalTypes.{LocalType};
 ghost use Rattle.tz_base.specs.declared.error.Error.{Error as Fault};
-ghost use Rattle.tz_base.specs.declared.error.Error.TheVariants.{OutOfMemory};
 ghost use Rattle.tz_info.specs.Counts.{HasRoom};
 ghost use Rattle.tz_info.specs.FilePieces.{FilePieces, HasPieces};
 ghost use Rattle.tz_info.specs.Looks.{RoseByWallClock};
 ghost use Rattle.tz_info.specs.PosixZones.{IsPosixZone, IsPosixFault};
-ghost use Rattle.tz_info.specs.TzFiles.{IsTzFile, IsFileFault, IsZoneFault};
+ghost use Rattle.tz_info.specs.TzFiles.{IsTzFile, IsFileFault};
+ghost use Rattle.tz_info.specs.TzGrammar.{IsTzText, IsTextFault};
 ghost use Rattle.tz_info.specs.WallClocks.{Shows};
 ghost use Rattle.tz_info.specs.Zones.{Zone, IsValid, TypeAt};
 ghost use Rattle.zoned_time.specs.Zone.{IsZoneSecond, SameOffsets};
 ghost use Rattle.zoned_ref.specs.Offsets.{IsNarrow, AreOffsetsOf};
 ghost use Rattle.zoned_ref.specs.TimeZoneRef.{zone_of, off_of};
+ghost use Rattle.zoned_time.specs.DateTime.{zoned};
 ghost use Rattle.zoned_time.specs.Zone as zones;
+ghost use Rattle.zoned.specs.Headline.{Headline, IsAnswerOf, IsAnsweredByRule, IsAnsweredInZone, IsValidFile};
+ghost use Rattle.zoned.specs.Headline.{AreCalls, IsLawful, IsLawOf};
 
-use crate::{LocalResult, NaiveDateTime, TimeZoneRef};
+mod answers;
+
+use crate::{DateTime, DurationRound, LocalResult, NaiveDateTime, TimeZone, TimeZoneRef};
+pub use answers::{Answers, Asked, Calls, InLaw, InZone};
 use std::alloc::Global;
-use tz_info::{Error, LocalTimeType, Probes};
+use tz_info::{Error, LocalTimeType, Probes, TransitionRule};
 
 /// No bytes spell two zones. A file spells no valid zone if and only if it has a fault, and one of
 /// its faults is the first. A text with a fault spells no zone at all; a text's zone is valid.
@@ -49,82 +53,92 @@ pub fn one_zone()
     ensures text_is_valid { (text : List ℕ) (z : Zone) → IsPosixZone text z → IsValid z }
 {}
 
-/// From the bytes of a TZif file to the types of local time whose clocks show a local time.
+/// The headline: what bytes give and what clocks show in the zone that they spell, which zones are
+/// lawful, and what each call of an instant means there.
 ///
-/// Requires: [`Probes::has_room`].
-///
-/// # Errors
-///
-/// Those of [`TimeZone::from_tz_data`](tz_info::TimeZone::from_tz_data).
-pub fn answer_of_file(
+/// It is proved for all bytes, for every lawful zone, for any two instants, also with offsets that
+/// disagree with their zones, and for all arguments of the calls. It makes the calls, and returns what
+/// they answer. Calls that require something, such as operators and `unwrap`, return the value of
+/// those that are asked here; those of the traits `Datelike` and `Timelike`, and printing, mean what
+/// their ghost members say.
+pub fn statement<Tz: TimeZone>(
     alloc: Global,
     bytes: &[u8],
-    local: &NaiveDateTime,
-    probes: &mut Probes,
-) -> Result<LocalResult<LocalTimeType>, Error>
-    requires { HasRoom probes.old }
-    // The bytes are the file of a valid zone; the answer is that of all seconds of 64 bits there,
-    // within the stated count of looks.
-    ensures answered { IfOk result (λ types. (z : Zone) × IsTzFile bytes.now z × IsValid z
-        × IsWallAnswer (Shows (TypeAt z) (reading local.now).s) types
-        × RoseByWallClock z probes.old probes.new) }
-    // The file of a valid zone is answered, unless memory runs out.
-    ensures only { (z : Zone) → IsTzFile bytes.now z → IsValid z → MatchResult result
-        (IsWallAnswer (Shows (TypeAt z) (reading local.now).s))
-        (λ e. e ≡ OutOfMemory) }
-    // An error is the first fault of the file, or says that memory ran out.
-    ensures fault { IfErr result (λ e. IsZoneFault bytes.now e) }
-    // Running out of memory is answered only if every piece of the file is there.
-    ensures memory { IfErr result (λ e. e ≡ OutOfMemory
-        → (p : FilePieces) × HasPieces bytes.now p) }
-    // An error leaves the counts as they were.
-    ensures kept { IfErr result (λ _. probes.new ≡ probes.old) }
+    text: &str,
+    string: &[u8],
+    extended: bool,
+    zone: &Tz,
+    instant: &DateTime<Tz>,
+    other: &DateTime<Tz>,
+    asked: &Asked,
+) -> Answers<Tz, Tz::Offset>
+    ensures { Headline bytes.now text.now string.now extended (Tz.law zone.now) instant.now
+        other.now asked.now result }
+{
+    Answers {
+        file: in_zone_of_file(alloc, bytes, &asked.local),
+        text: in_zone_of_text(alloc, text, &asked.local),
+        string: by_rule_of_string(string, extended, &asked.local),
+        lawful: in_law(zone, &instant.naive_utc(), &asked.local),
+        calls: calls_of(zone, instant, other, asked),
+    }
+}
+
+fn in_zone_of_file(alloc: Global, bytes: &[u8], local: &NaiveDateTime) -> Result<InZone, Error>
+    ensures { IsAnswerOf (IsValidFile bytes.now) (IsFileFault bytes.now)
+        (IsAnsweredInZone (reading local.now).s) ((p : FilePieces) × HasPieces bytes.now p) result }
 {
     match tz_info::TimeZone::from_tz_data(alloc, bytes) {
-        Ok(zone) => Ok(answer_in(&zone, local, probes)),
+        Ok(zone) => Ok(asked_zone(&zone, local)),
         Err(e) => Err(e),
     }
 }
 
-/// From a TZ string to the local time types whose clocks show a local time.
-///
-/// Requires: [`Probes::has_room`].
-///
-/// # Errors
-///
-/// Those of [`TimeZone::from_posix_tz`](tz_info::TimeZone::from_posix_tz).
-pub fn answer_of_text(
-    alloc: Global,
-    text: &str,
-    local: &NaiveDateTime,
-    probes: &mut Probes,
-) -> Result<LocalResult<LocalTimeType>, Error>
-    requires { HasRoom probes.old }
-    // The text gives a zone; the answer is that of all seconds of 64 bits there, within the stated
-    // count of looks.
-    ensures answered { IfOk result (λ types. (z : Zone) × IsPosixZone text.now z
-        × IsWallAnswer (Shows (TypeAt z) (reading local.now).s) types
-        × RoseByWallClock z probes.old probes.new) }
-    // A text that gives a zone is answered, unless memory runs out.
-    ensures only { (z : Zone) → IsPosixZone text.now z → MatchResult result
-        (IsWallAnswer (Shows (TypeAt z) (reading local.now).s))
-        (λ e. error_number e ≡ 17) }
-    // An error is the first fault of the text, or says that memory ran out.
-    ensures fault { IfErr result (λ e. (error_number e ≡ 17) ⊎ IsPosixFault text.now e) }
-    // Running out of memory is answered only for a text that gives a zone.
-    ensures memory { IfErr result (λ e. error_number e ≡ 17
-        → (z : Zone) × IsPosixZone text.now z) }
-    // An error leaves the counts as they were.
-    ensures kept { IfErr result (λ _. probes.new ≡ probes.old) }
+fn in_zone_of_text(alloc: Global, text: &str, local: &NaiveDateTime) -> Result<InZone, Error>
+    ensures { IsAnswerOf (IsPosixZone text.now) (IsPosixFault text.now)
+        (IsAnsweredInZone (reading local.now).s) ((z : Zone) × IsPosixZone text.now z) result }
 {
     match tz_info::TimeZone::from_posix_tz(alloc, text) {
-        Ok(zone) => Ok(answer_in(&zone, local, probes)),
+        Ok(zone) => Ok(asked_zone(&zone, local)),
         Err(e) => Err(e),
     }
 }
 
-// The types of the zone whose clocks show a reading.
-fn answer_in(
+fn by_rule_of_string(
+    string: &[u8],
+    extended: bool,
+    local: &NaiveDateTime,
+) -> Result<LocalResult<LocalTimeType>, Error>
+    ensures { IsAnswerOf (IsTzText extended string.now) (IsTextFault extended string.now)
+        (IsAnsweredByRule (reading local.now).s) ⊥ result }
+{
+    match TransitionRule::from_tz_string(string, extended) {
+        Ok(rule) => rule.find_local_time_type_from_local(*local),
+        Err(e) => Err(e),
+    }
+}
+
+fn asked_zone(zone: &tz_info::TimeZone, local: &NaiveDateTime) -> InZone
+    ensures { IsAnsweredInZone (reading local.now).s zone.now result }
+{
+    let mut probes = Probes::new();
+    let shown = types_in(zone, local, &mut probes);
+    InZone {
+        shown,
+        probes,
+        is_lawful: is_lawful(zone),
+    }
+}
+
+fn is_lawful(zone: &tz_info::TimeZone) -> bool
+    ensures narrow { IsTrue result ↔ IsNarrow zone.now }
+    ensures law { IsNarrow zone.now → (off : ℤ → ℤ) × IsLawOf zone.now off }
+{
+    lawful_zone(zone).is_some()
+}
+
+// The types of the zone whose clocks show a local time.
+fn types_in(
     zone: &tz_info::TimeZone,
     local: &NaiveDateTime,
     probes: &mut Probes,
@@ -139,8 +153,61 @@ fn answer_in(
     }
 }
 
-/// From a parsed zone to a lawful one, which [`TimeZone`](crate::TimeZone)'s law names, or `None`
-/// if one of its offsets is a day or more.
+fn in_law<Tz: TimeZone>(zone: &Tz, utc: &NaiveDateTime, local: &NaiveDateTime) -> InLaw<Tz::Offset>
+    ensures { IsLawful (Tz.law zone.now) (reading utc.now).s (reading local.now).s result }
+{
+    InLaw {
+        by_instant: zone.offset_from_utc_datetime(utc),
+        by_wall_clock: zone.offset_from_local_datetime(local),
+        before_gap: zone.offset_before_gap(local),
+    }
+}
+
+fn calls_of<Tz: TimeZone>(
+    zone: &Tz,
+    instant: &DateTime<Tz>,
+    other: &DateTime<Tz>,
+    asked: &Asked,
+) -> Calls<Tz, Tz::Offset>
+    ensures { AreCalls Tz.meaning (Tz.law zone.now) instant.now other.now asked.now result }
+{
+    Calls {
+        from_local: zone.from_local_datetime(&asked.local),
+        resolved: zone.resolve(&asked.local, asked.choice),
+        utc: instant.naive_utc(),
+        local: instant.naive_local(),
+        in_zone: instant.with_timezone(zone),
+        in_utc: instant.to_utc(),
+        fixed: instant.fixed_offset(),
+        later: instant.checked_add_signed(asked.length),
+        earlier: instant.checked_sub_signed(asked.length),
+        months_later: instant.checked_add_months(asked.months),
+        months_earlier: instant.checked_sub_months(asked.months),
+        days_later: instant.checked_add_days(asked.days),
+        days_earlier: instant.checked_sub_days(asked.days),
+        at_time: instant.with_time(asked.time),
+        since: instant.signed_duration_since(other),
+        years: instant.years_since(*other),
+        is_equal: is_equal(instant, other),
+        order: instant.cmp(other),
+        seconds: instant.timestamp(),
+        millis: instant.timestamp_millis(),
+        micros: instant.timestamp_micros(),
+        nanos: instant.timestamp_nanos_opt(),
+        truncated: (*instant).duration_trunc(asked.length),
+        rounded: (*instant).duration_round(asked.length),
+        rounded_up: (*instant).duration_round_up(asked.length),
+    }
+}
+
+fn is_equal<Tz: TimeZone>(instant: &DateTime<Tz>, other: &DateTime<Tz>) -> bool
+    ensures { IsTrue result ↔ ((zoned instant.now).utc ≡ (zoned other.now).utc) }
+{
+    *instant == *other
+}
+
+/// From a parsed zone to a lawful one, which [`TimeZone`]'s law names, or `None` if one of its offsets
+/// is a day or more.
 pub fn lawful_zone(zone: &tz_info::TimeZone) -> Option<TimeZoneRef<'_>>
     ensures narrow { IsSome result ↔ IsNarrow zone.now }
     ensures zone { IfSome result (λ r. zone_of r ≡ zone.now) }

@@ -161,9 +161,10 @@
 //! | a date | when its week, month or year starts | [`ZoneDays::start_of_week`], [`ZoneDays::start_of_month`], [`ZoneDays::start_of_year`] |
 //! | an instant | the date of the day that it lies in; when that day starts | [`ZoneDays::date_of`]; [`DateTime::start_of_day`] |
 //! | an instant | the last local time that clocks have shown by then | [`ZoneDays::reached`] |
+//! | an instant | where its day, week, month, year, hour or another [`ClockStep`] begins and ends | [`ZoneDays::floor`], [`ZoneDays::ceil`], [`ZoneDays::step_at`] |
 //! | a rule of RFC 5545 and its start | its local times, as a plan | [`Recurrence::new`] |
 //! | local times, or several plans | a plan of them | [`LocalTimes`], [`Union`], [`Intersection`], [`Except`] |
-//! | a plan, such as a line of a crontab ([`Cron`]) | when it fires next, or fired last | [`ZoneDays::next_fire`]; [`ZoneDays::last_fire`], [`ZoneDays::previous_fire`] |
+//! | a plan, such as a line of a crontab ([`Cron`]) | when it fires next, or fired last | [`ZoneDays::next_fire`], [`ZoneDays::first_fire`]; [`ZoneDays::last_fire`], [`ZoneDays::previous_fire`] |
 //! | a plan | each time that it fires between two instants | [`ZoneDays::fires`] |
 //! | two versions of a zone, and a plan | the runs that only one of them has | [`moved`] |
 //! | a date | the first and the last second at which clocks show it | [`ZoneDays::day`] |
@@ -254,9 +255,9 @@ pub use naive_base::{
     Timelike, Weekday,
 };
 pub use naive_plans::{
-    Cron, DayPlan, Except, Frequency, Intersection, LocalTimes, NthWeekday, Plan, Recurrence,
-    RecurrenceEnd, RecurrenceError, RecurrenceRule, ReversibleDayPlan, ReversiblePlan, Union,
-    last_local_time, next_local_time,
+    ClockStep, Cron, DayPlan, Except, Frequency, Intersection, LocalTimes, NthWeekday, PartOfDay,
+    Plan, Recurrence, RecurrenceEnd, RecurrenceError, RecurrenceRule, ReversibleDayPlan,
+    ReversiblePlan, Union, last_local_time, next_local_time,
 };
 pub use offset_core::{
     Around, Choice, FixedOffset, FoldChoice, GapChoice, LocalResult, MappedLocalTime,
@@ -272,5 +273,5 @@ pub use zoned_round::{DurationRound, RoundingError, SubsecRound};
 pub use zoned_series::{DailyItems, DailySeries, SeriesError};
 pub use zoned_time::{
     AsInstant, DateTime, Fires, Instant, MAX_DATETIME, MIN_DATETIME, Move, Moves, NaiveZoned,
-    Offset, ShownDay, TimeZone, Utc, ZoneDays, moved,
+    Offset, ShownDay, StepBounds, TimeZone, Utc, ZoneDays, moved,
 };
