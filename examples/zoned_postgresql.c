@@ -9,7 +9,7 @@
        returns timestamptz as '/path/zoned_postgresql' language c strict stable parallel safe;
      select zoned_to_local('2021-03-14 07:00Z', 'America/New_York');
 
-   The gap is 'shift_forward', 'end' or 'refuse', the fold 'earliest', 'latest' or 'refuse'. */
+   The gap is 'shift_forward', 'shift_backward', 'end' or 'refuse', the fold 'earliest', 'latest' or 'refuse'. */
 #include "postgres.h"
 
 #include "fmgr.h"
@@ -86,7 +86,7 @@ Datum zoned_to_local(PG_FUNCTION_ARGS) {
 PG_FUNCTION_INFO_V1(zoned_to_utc);
 
 Datum zoned_to_utc(PG_FUNCTION_ARGS) {
-    static const char *const gaps[] = {"refuse", "shift_forward", "end", NULL};
+    static const char *const gaps[] = {"refuse", "shift_forward", "end", "shift_backward", NULL};
     static const char *const folds[] = {"refuse", "earliest", "latest", NULL};
     Timestamp local = PG_GETARG_TIMESTAMP(0);
     if (TIMESTAMP_NOT_FINITE(local)) PG_RETURN_TIMESTAMPTZ(local);

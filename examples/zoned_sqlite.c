@@ -3,7 +3,7 @@
      to_local(instant, zone)               the local time of a Unix second: to_local(1615705200, 'America/New_York') is
                                            2021-03-14 03:00:00
      to_utc(local, zone[, gap[, fold]])    the Unix second of a local time, such as 2021-03-14 03:00:00 or 2021-03-14. The gap is
-                                           'shift_forward' (the default), 'end' or 'refuse', the fold 'earliest' (the default),
+                                           'shift_forward' (the default), 'shift_backward', 'end' or 'refuse', the fold 'earliest' (the default),
                                            'latest' or 'refuse'
      tz_abbrev(instant, zone)              the abbreviation in force, such as EDT
 
@@ -106,7 +106,7 @@ static uint32_t index_of(const char *const *words, sqlite3_value *value) {
 }
 
 static void to_utc(sqlite3_context *context, int count, sqlite3_value **values) {
-    static const char *const gaps[] = {"refuse", "shift_forward", "end", NULL};
+    static const char *const gaps[] = {"refuse", "shift_forward", "end", "shift_backward", NULL};
     static const char *const folds[] = {"refuse", "earliest", "latest", NULL};
     if (any_is_null(count, values)) return;
     uint32_t gap = count > 2 ? index_of(gaps, values[2]) : ZONED_GAP_SHIFT_FORWARD;

@@ -35,7 +35,8 @@ REFUSED = {
     "to_utc('2021-11-07 01:30:00', 'America/New_York', 'forward')": "no such choice for gaps and folds",
     "to_utc('2021-11-07 01:30:00', '../../etc/passwd')": "no time zone of that name",
 }
-GAP_END = "to_utc('2021-03-14 02:30:00', 'America/New_York', 'end')"
+GAP_ENDS = {f"to_utc('2021-03-14 02:30:00', 'America/New_York', '{gap}')": instant for gap, instant in
+            [("end", "1615705200"), ("shift_backward", "1615703400")]}
 
 
 def run(*words, **more):
@@ -71,7 +72,7 @@ def questions():
             for fold, word in enumerate(["earliest", "latest"]):
                 if fold == 0 or instant_of(name, local, 1) > instant_of(name, local, 0):
                     yield f"to_utc('{local.strftime(FORM)}', '{name}', 'shift_forward', '{word}')", str(instant_of(name, local, fold))
-    yield GAP_END, "1615705200"
+    yield from GAP_ENDS.items()
     yield "tz_abbrev(1615705200, 'America/New_York')", "EDT"
 
 

@@ -422,7 +422,7 @@ static void try_list(struct tried *of) {
     EXPECT(is_untouched(written + kept, (ROOM - kept) * sizeof *written));
 }
 
-/* The clock's answer under a choice. In a gap: the instant by an offset before it, which is less than the one after it. */
+/* The clock's answer under a choice. In a gap that is shifted: the instant by the offset before it, or after it. */
 static void expect_resolved(struct tried *of, const zoned_wall_clock *clock, uint32_t gap, uint32_t fold, int64_t local, const zoned_resolved *resolved) {
     int64_t instant = clock->first;
     int32_t offset = clock->first_offset;
@@ -439,10 +439,10 @@ static void expect_resolved(struct tried *of, const zoned_wall_clock *clock, uin
         instant = skips.at;
         offset = skips.after.offset;
     }
-    if (clock->shown == ZONED_NEVER && gap == ZONED_GAP_SHIFT_FORWARD && !resolved->number) {
-        instant = resolved->instant;
+    if (clock->shown == ZONED_NEVER && (gap == ZONED_GAP_SHIFT_FORWARD || gap == ZONED_GAP_SHIFT_BACKWARD) && !resolved->number) {
+        EXPECT(zoned_zone_gap(&of->zone, local, &skips) == ZONED_OK);
+        instant = local - (gap == ZONED_GAP_SHIFT_FORWARD ? skips.before.offset : skips.after.offset);
         EXPECT(fresh_offsets(of->of, &instant, 1, &offset) == ZONED_OK);
-        EXPECT(offset > local - instant);
     }
     if (!number && (instant < -8334601228800 || instant > 8210266876799)) number = ZONED_INSTANT_OUT_OF_RANGE;
     EXPECT(resolved->number == number);
@@ -454,8 +454,8 @@ static void try_locals(struct tried *of) {
     zoned_wall_clock clocks[MOST], expected[MOST] = {{0}};
     zoned_resolved resolved[MOST];
     size_t count = below(MOST + 1), room = below(4) ? count : below(MOST + 1);
-    uint32_t gap = (uint32_t)below(below(8) ? 3 : 5), fold = (uint32_t)below(below(8) ? 3 : 5);
-    int is_choice = gap <= ZONED_GAP_END && fold <= ZONED_FOLD_LATEST;
+    uint32_t gap = (uint32_t)below(below(8) ? 4 : 6), fold = (uint32_t)below(below(8) ? 3 : 5);
+    int is_choice = gap <= ZONED_GAP_SHIFT_BACKWARD && fold <= ZONED_FOLD_LATEST;
     for (size_t i = 0; i < MOST; i++) locals[i] = second();
     if (of->of.at) EXPECT(fresh_clocks(of->of, locals, MOST, expected) == ZONED_OK);
     memset(clocks, 0x55, sizeof clocks);
@@ -553,8 +553,9 @@ static void try_instants_of_column(struct tried *of) {
     static const int64_t UNITS[] = {1, 1000, 1000000, 1000000000, 0, -1, 60};
     int64_t locals[COLUMN] = {0}, instants[COLUMN], per_second = UNITS[below(below(8) ? 4 : 7)];
     size_t count = below(COLUMN + 1), room = below(8) ? count : below(COLUMN + 1), row = 77, first = 0;
-    uint32_t gap = (uint32_t)below(below(8) ? 3 : 5), fold = (uint32_t)below(below(8) ? 3 : 5), why = ZONED_OK;
-    int is_unit = per_second > 0 && per_second != 60, is_choice = gap <= ZONED_GAP_END && fold <= ZONED_FOLD_LATEST, is_sorted = below(2) == 0;
+    uint32_t gap = (uint32_t)below(below(8) ? 4 : 6), fold = (uint32_t)below(below(8) ? 3 : 5), why = ZONED_OK;
+    int is_unit = per_second > 0 && per_second != 60, is_sorted = below(2) == 0;
+    int is_choice = gap <= ZONED_GAP_SHIFT_BACKWARD && fold <= ZONED_FOLD_LATEST;
     int64_t step = (int64_t)below(20000) * (is_unit ? per_second : 1);
     for (size_t i = 0; i < count; i++) {
         locals[i] = time_of(is_unit ? per_second : 1);
@@ -584,7 +585,7 @@ static void try_long_column(const struct zoned_zone *zone, int64_t per_second, i
     static int64_t times[LONG], answers[LONG], seconds[LONG];
     static int32_t offsets[LONG];
     static zoned_resolved resolved[LONG];
-    uint32_t gap = 1 + (uint32_t)below(2), fold = 1 + (uint32_t)below(2);
+    uint32_t gap = 1 + (uint32_t)below(3), fold = 1 + (uint32_t)below(2);
     size_t row = 77;
     for (size_t i = 0; i < LONG; i++) {
         int64_t at = (int64_t)below(6311433600) - 2208988800;

@@ -75,7 +75,8 @@ static answer due_instant(int64_t second, int64_t rest, int64_t unit, policy cho
     if (second < spring.at + spring.before) return at_offset(spring.before);
     if (second < spring.at + spring.after) {
         if (choice.gap == gap::refuse) return {ZONED_IN_GAP, 0};
-        return choice.gap == gap::end ? answer{ZONED_OK, spring.at * unit} : at_offset(spring.before);
+        if (choice.gap == gap::end) return {ZONED_OK, spring.at * unit};
+        return at_offset(choice.gap == gap::shift_forward ? spring.before : spring.after);
     }
     if (second < autumn.at + autumn.after) return at_offset(autumn.before);
     if (second >= autumn.at + autumn.before) return at_offset(autumn.after);
@@ -89,7 +90,7 @@ static answer due_local(int64_t second, int64_t rest, int64_t unit) {
 }
 
 template <class Call> void each_policy(Call call) {
-    for (auto skipped : {gap::refuse, gap::shift_forward, gap::end})
+    for (auto skipped : {gap::refuse, gap::shift_forward, gap::end, gap::shift_backward})
         for (auto repeated : {fold::refuse, fold::earliest, fold::latest}) call(policy{skipped, repeated});
 }
 
@@ -221,6 +222,7 @@ static void try_choose(const time_zone &new_york) {
     same("to_sys with a fold", 1, in_fold.count(), {ZONED_OK, 1636266600}, one_instant(new_york, in_fold, fold::latest));
     same("to_sys with a fold", 1, in_gap.count(), {ZONED_IN_GAP, 0}, one_instant(new_york, in_gap, fold::latest));
     same("to_sys with a gap", 1, in_gap.count(), {ZONED_OK, 1615707000}, one_instant(new_york, in_gap, gap::shift_forward));
+    same("to_sys with a gap", 1, in_gap.count(), {ZONED_OK, 1615703400}, one_instant(new_york, in_gap, gap::shift_backward));
 }
 
 #if ZONED_STD_CHRONO >= 1

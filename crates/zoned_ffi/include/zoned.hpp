@@ -52,7 +52,12 @@ using sys_seconds = sys_time<seconds>;
 using local_seconds = local_time<seconds>;
 
 // What to do with a local time that the clocks skipped, and with one that they show several times.
-enum class gap : uint32_t { refuse = ZONED_GAP_REFUSE, shift_forward = ZONED_GAP_SHIFT_FORWARD, end = ZONED_GAP_END };
+enum class gap : uint32_t {
+    refuse = ZONED_GAP_REFUSE,
+    shift_forward = ZONED_GAP_SHIFT_FORWARD,
+    end = ZONED_GAP_END,
+    shift_backward = ZONED_GAP_SHIFT_BACKWARD
+};
 enum class fold : uint32_t { refuse = ZONED_FOLD_REFUSE, earliest = ZONED_FOLD_EARLIEST, latest = ZONED_FOLD_LATEST };
 
 // The policies of std::chrono: the earliest or the latest instant that shows a local time, and the end of a gap.

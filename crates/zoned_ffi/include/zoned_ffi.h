@@ -231,7 +231,9 @@ enum zoned_gap {
     ZONED_GAP_REFUSE = 0,       /* nothing */
     ZONED_GAP_SHIFT_FORWARD = 1, /* the instant at which a clock that was not set forward shows it. New York's clocks skipped
                                     02:30 on 2021-03-14: it is the instant at which they showed 03:30 */
-    ZONED_GAP_END = 2           /* the second at which the gap ends: the instant at which they showed 03:00 */
+    ZONED_GAP_END = 2,          /* the second at which the gap ends: the instant at which they showed 03:00 */
+    ZONED_GAP_SHIFT_BACKWARD = 3 /* the instant at which a clock that had been set forward already shows it: the instant at which
+                                    they showed 01:30. Temporal's and jiff's "earlier", fold=1 of Python's PEP 495, cctz's `post` */
 };
 
 /* What to take for a local time in a fold, which they show several times: `fold`. */
@@ -244,7 +246,8 @@ enum zoned_fold {
 /* The instant of a local time. */
 typedef struct zoned_resolved {
     uint32_t number; /* ZONED_OK, or ZONED_IN_GAP, ZONED_IN_FOLD or ZONED_INSTANT_OUT_OF_RANGE: then the others are 0 */
-    int32_t offset;  /* the offset in force at the instant, in seconds east of UTC; in a gap mostly that after it */
+    int32_t offset;  /* the offset in force at the instant, in seconds east of UTC: in a gap that is shifted forward mostly the
+                        one after it, and in one that is shifted backward the one before it */
     int64_t instant; /* a Unix second */
 } zoned_resolved;
 

@@ -8,7 +8,7 @@ use Rattle.zoned_ffi.proofs.Words.{AreWritten, drop, length, take, take_all, ◌
 use Rattle.zoned_ffi.proofs.Slices.{same_behind}
 use Rattle.zoned_ffi.specs.{Steps.KeptTimes.{IsStop}, declared.column.{Question.{Question}, Stop.{Stop}}}
 use Rattle.zoned_ffi.proofs.Resolving.{none_is, taken_once}
-use Rattle.zoned_ffi.specs.{declared.column.Way.TheVariants.{ToInstants, ToLocal}, declared.resolved.Taken.TheVariants.{BeforeGap, GapEnd, InForce}}
+use Rattle.zoned_ffi.specs.{declared.column.Way.TheVariants.{ToInstants, ToLocal}, declared.resolved.Taken.TheVariants.{GapEnd, InForce, Shifted}}
 use Rattle.tz_info.proofs.{ExtremeLaws.{at_least_least, at_most_greatest}, ForCallers.{type_once}}
 
 -- the second that an instant lies in, of one that comes with a second or behind it
@@ -98,7 +98,7 @@ local_times_kept z unit choice s low high p q r t f e from until add k stretch f
 -- the instant by what is taken
 taken_gives : (z : Zone) (unit : Unit) (choice : Choice) (local : ℤ) (taken : Taken) → IsTakenAs z (second_holding unit local) choice taken → IsInstantTaken z unit choice local (taken_instant unit local taken)
 taken_gives z unit choice local (InForce offset) ((t, taken, is), there) = IsInstantTaken.by_offset t taken (rw is)
-taken_gives z unit choice local (BeforeGap offset) (t, taken, is) = IsInstantTaken.by_offset t taken (rw is)
+taken_gives z unit choice local (Shifted offset) (t, taken, is) = IsInstantTaken.by_offset t taken (rw is)
 taken_gives z unit choice local (GapEnd at offset) (after, end, is) = IsInstantTaken.by_gap_end at after end refl
 
 -- it is the local time's, if it can be counted

@@ -12,3 +12,4 @@ pub mod Telling
 pub mod Sayings
 pub mod OneNumber
 pub mod Casts
+pub mod SetBack

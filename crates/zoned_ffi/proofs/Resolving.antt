@@ -6,9 +6,14 @@ use Rattle.tz_info.specs.Around.{AreTypesAround}
 use Rattle.zoned_ffi.proofs.Words.{Choice, IsFirstAtOrAfter, IsTakenGapEnd, IsNoneTaken, IsInRange, IsWrittenOffsetAt, IsReachedAt, IsResolvedAt, IsShownOnce}
 use Rattle.zoned_ffi.proofs.Words.{arith, IsResolvedStamp, IsTakenType, IsTakenAs, IsUtOffset, LocalType, Resolved, Shows, TypeAt, Zone, inl, inr}
 use Rattle.zoned_ffi.proofs.Words.{ℤ}
-use Rattle.zoned_ffi.proofs.Words.{+ℤ-neg_ℤ_cancel, ◌-ℤ◌, Err, Result, TakesOf, policy_of, refl, taken_in_range, taken_of, ℕ, ◌≡◌, ◌⊎◌}
+use Rattle.zoned_ffi.proofs.Words.{+ℤ-neg_ℤ_cancel, ◌-ℤ◌, Err, Ok, Result, TakesOf, policy_of, refl, taken_in_range, taken_of, ℕ, ◌≡◌, ◌≢◌, ◌⊎◌}
 use Rattle.zoned_ffi.specs.declared.resolved.Taken.TheVariants.{InForce}
+use Rattle.zoned_ffi.specs.Resolved.{gap_policy}
+use Rattle.zoned_ffi.specs.declared.choice.ChoiceInGap.{ChoiceInGap}
+use Rattle.zoned_ffi.specs.declared.choice.ChoiceInGap.TheVariants as in_gap
+use Rattle.offset_core.specs.declared.around.Taken.TheVariants.{InGap}
 use Rattle.offset_core.specs.declared.choice.Choice as any_choice
+use Rattle.offset_core.specs.declared.choice.FoldChoice.{FoldChoice}
 use Rattle.offset_core.specs.declared.choice.FoldChoice.TheVariants as folds
 use Rattle.offset_core.specs.declared.choice.GapChoice.TheVariants as gaps
 use Rattle.offset_core.specs.declared.resolve_error.ResolveError.TheVariants as reasons
@@ -37,6 +42,21 @@ in_force z local u choice t offset shows taken same bound = grind (arith, +ℤ-n
 pub taken_as : (z : Zone) (local : ℤ) (choice : Choice) (a : Around LocalType Change) (p : any_choice.Choice) (r o : Result (Found LocalType Change) ResolveError)
     → AreTypesAround (TypeAt z) local a → p ≡ policy_of choice → r ≡ taken_of p a → r ≡ o → TakesOf z local choice o
 taken_as z local choice a p r o right policy found is = grind arith
+
+-- a choice that takes a gap, and neither its end nor the offset after it, shifts forward
+none_by_refusal : (f : FoldChoice) (a : Around LocalType Change) (change : Change) → taken_of (record { gap = gaps.Refuse; fold = f }) a ≡ Ok (InGap change) → ⊥
+none_by_refusal f a change taken = grind arith
+
+forward_is : (g : ChoiceInGap) (f : FoldChoice) (a : Around LocalType Change) (change : Change)
+    → taken_of (record { gap = gap_policy g; fold = f }) a ≡ Ok (InGap change) → g ≢ in_gap.End → g ≢ in_gap.ShiftBackward → g ≡ in_gap.ShiftForward
+forward_is in_gap.Refuse f a change taken not_end not_back = absurd (none_by_refusal f a change taken)
+forward_is in_gap.ShiftForward f a change taken not_end not_back = refl
+forward_is in_gap.End f a change taken not_end not_back = absurd (not_end refl)
+forward_is in_gap.ShiftBackward f a change taken not_end not_back = absurd (not_back refl)
+
+pub shifts_forward : (choice : Choice) (a : Around LocalType Change) (change : Change) → taken_of (policy_of choice) a ≡ Ok (InGap change)
+    → choice.gap ≢ in_gap.End → choice.gap ≢ in_gap.ShiftBackward → choice.gap ≡ in_gap.ShiftForward
+shifts_forward choice a change taken not_end not_back = forward_is choice.gap choice.fold a change taken not_end not_back
 
 -- a local time that one second shows is taken by every choice
 pub taken_once : (z : Zone) (local : ℤ) (choice : Choice) (t : LocalType) → IsShownOnce (Shows (TypeAt z) local) t → IsTakenType z local choice t

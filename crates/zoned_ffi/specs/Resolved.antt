@@ -28,6 +28,7 @@ abbrev pub gap_number : ChoiceInGap → ℕ
 gap_number gaps.Refuse = 0
 gap_number gaps.ShiftForward = 1
 gap_number gaps.End = 2
+gap_number gaps.ShiftBackward = 3
 
 abbrev pub fold_number : FoldChoice → ℕ
 fold_number folds.Refuse = 0
@@ -42,11 +43,12 @@ IsChoiceOf gap fold choice = (gap ≡ gap_number choice.gap) × (fold ≡ fold_n
 abbrev pub IsChoice : ℕ → ℕ → Type 0
 IsChoice gap fold = (choice : Choice) × IsChoiceOf gap fold choice
 
--- the choice between taking and refusing: the end of a gap is one way to take an instant in it
+-- the choice between taking and refusing: a gap is refused, or some instant is taken for it
 abbrev pub gap_policy : ChoiceInGap → any_gap.GapChoice
 gap_policy gaps.Refuse = any_gaps.Refuse
 gap_policy gaps.ShiftForward = any_gaps.ShiftForward
 gap_policy gaps.End = any_gaps.ShiftForward
+gap_policy gaps.ShiftBackward = any_gaps.ShiftForward
 
 abbrev pub policy_of : Choice → any_choice.Choice
 policy_of choice = record { gap = gap_policy choice.gap; fold = choice.fold }
@@ -56,10 +58,13 @@ abbrev pub TakesOf : Zone → ℤ → Choice → Result (Taken LocalType Change)
 TakesOf z local choice = Takes (Shows (TypeAt z) local) (Skips (TypeAt z) local) (policy_of choice)
 
 -- the type by whose offset a choice takes the local time for an instant: that of the only second which shows it; in a fold that
--- of the first, or of the last; in a gap the one before it
+-- of the first, or of the last; in a gap the one before it, or, if the choice shifts backward, the one after it
 pub data IsTakenType (z : Zone) (local : ℤ) (choice : Choice) (t : LocalType) : Type 0 where
   shown : TakesOf z local choice (Ok (Shown t)) → IsTakenType z local choice t
-  shifted : (change : Change) → TakesOf z local choice (Ok (InGap change)) → choice.gap ≢ gaps.End → t ≡ change.before → IsTakenType z local choice t
+  shifted_forward : (change : Change) → TakesOf z local choice (Ok (InGap change)) → choice.gap ≡ gaps.ShiftForward → t ≡ change.before
+      → IsTakenType z local choice t
+  shifted_backward : (change : Change) → TakesOf z local choice (Ok (InGap change)) → choice.gap ≡ gaps.ShiftBackward → t ≡ change.after
+      → IsTakenType z local choice t
 
 -- the choice takes the second `at`, at which the gap that the local time lies in ends, and `after` is in force from then on
 pub record IsTakenGapEnd (z : Zone) (local : ℤ) (choice : Choice) (at : ℤ) (after : LocalType) : Type 0 where
@@ -76,7 +81,7 @@ abbrev pub unresolved : ℕ → Resolved
 unresolved n = record { number = n; offset = pos 0; instant = pos 0 }
 
 -- What is written of a local time. The instant is the local time less the offset that is taken, or the gap's end, and the offset is the
--- one in force there: in a gap mostly the one after it. The number is 23 where the local time or the instant is outside the calendar's range.
+-- one in force there: mostly the one after the gap if the choice shifts forward, and the one before it if it shifts backward. The number is 23 where the local time or the instant is outside the calendar's range.
 pub data IsResolvedAt (z : Zone) (choice : Choice) (local : ℤ) (w : Resolved) : Type 0 where
   found : (t : LocalType) (offset : ℤ) → IsInRange local → IsTakenType z local choice t → IsInRange (local -ℤ t.offset)
       → IsWrittenOffsetAt z (local -ℤ t.offset) offset

@@ -2,3 +2,4 @@
 pub mod KeptTimes
 pub mod ResolvedInstants
 pub mod Told
+pub mod SetBack

@@ -14,6 +14,8 @@ pub enum ChoiceInGap {
     ShiftForward,
     /// The second at which the gap ends.
     End,
+    /// The instant at which a clock that had been set forward already shows it.
+    ShiftBackward,
 }
 
 /// What to take of local times in gaps and folds.
@@ -26,8 +28,8 @@ pub struct Choice {
 }
 
 impl Choice {
-    /// Returns what the library's own choice takes: it has no end of a gap, which is one way to take an
-    /// instant in it.
+    /// Returns what the library's own choice takes. It has one way to take an instant for a gap, and gives
+    /// the clock change, from which the others follow.
     pub fn policy(&self) -> Policy
         ensures { result ≡ policy_of self.now }
     {
@@ -35,6 +37,7 @@ impl Choice {
             ChoiceInGap::Refuse => GapChoice::Refuse,
             ChoiceInGap::ShiftForward => GapChoice::ShiftForward,
             ChoiceInGap::End => GapChoice::ShiftForward,
+            ChoiceInGap::ShiftBackward => GapChoice::ShiftForward,
         };
         Policy {
             gap,
@@ -43,8 +46,8 @@ impl Choice {
     }
 }
 
-/// The choice of those numbers: of a gap 0 is rejected, 1 shifts forward, and 2 takes its end; of a
-/// fold 0 is rejected, 1 takes the earliest and 2 the latest.
+/// The choice of those numbers: of a gap 0 is rejected, 1 shifts forward, 2 takes its end, and 3 shifts
+/// backward; of a fold 0 is rejected, 1 takes the earliest and 2 the latest.
 pub fn choice_of(gap: u32, fold: u32) -> Option<Choice>
     ensures { MatchOption result (¬ (IsChoice gap fold)) (λ choice. IsChoiceOf gap fold choice) }
 {
@@ -52,6 +55,7 @@ pub fn choice_of(gap: u32, fold: u32) -> Option<Choice>
         0 => ChoiceInGap::Refuse,
         1 => ChoiceInGap::ShiftForward,
         2 => ChoiceInGap::End,
+        3 => ChoiceInGap::ShiftBackward,
         _ => return None,
     };
     let fold = match fold {

@@ -37,7 +37,8 @@ pub extern "C" fn zoned_open(alloc: Global, kind: u32, zone: &[u8], out: &mut Ha
 
 // The zone of the bytes.
 fn opened(alloc: Global, kind: u32, bytes: &[u8]) -> Result<Handle, Refusal>
-    ensures found { IfOk result (λ handle. (z : Zone) × IsZoneOf kind bytes.now z × IsOpen handle z) }
+    ensures found { IfOk result
+        (λ handle. (z : Zone) × IsZoneOf kind bytes.now z × IsOpen handle z) }
     ensures only { (z : Zone) → IsZoneOf kind bytes.now z
         → IfErr result (λ e. refusal_number e ≡ 17) }
     ensures fault { IfErr result (λ e. IsErrorOfKind kind bytes.now (refusal_number e)) }
@@ -67,7 +68,8 @@ pub extern "C" fn zoned_open_fixed(alloc: Global, offset: i32, out: &mut Handle)
     // 0: it is open.
     ensures opened { result ≡ 0 → IsUtOffset offset × IsOpen out.new (plain_zone offset) }
     // 3: no zone has that offset. 17: memory ran out. `out` is as it was.
-    ensures refused { result ≢ 0 → (((result ≡ 3) × ¬ (IsUtOffset offset)) ⊎ ((result ≡ 17) × IsUtOffset offset))
+    ensures refused { result ≢ 0
+        → (((result ≡ 3) × ¬ (IsUtOffset offset)) ⊎ ((result ≡ 17) × IsUtOffset offset))
         × (out.new ≡ out.old) }
 {
     let Ok(zone) = TimeZone::fixed(alloc, offset) else {

@@ -1,8 +1,12 @@
 //! Facts about only the definitions, each proved with no code between: the numbers that the header
 //! gives to C. The functions are empty, and never called.
 
-ghost use Rattle.std.specs.Prelude.{◌≡◌, ◌∷◌, [], ◌⊎◌, ℕ, ℤ, pos, neg_ℤ, true, false, Some, None, List, codes};
+ghost use Rattle.std.specs.Prelude.{◌≡◌, ◌∷◌, [], ◌⊎◌, ℕ, ℤ, pos, neg_ℤ, true, false, Some, None, Ok, List, codes};
+ghost use Rattle.offset_core.specs.declared.around.Taken.TheVariants.{InGap};
 ghost use Rattle.tz_base.specs.LocalTypes.{LocalType};
+ghost use Rattle.tz_base.specs.declared.change.Change.{Change};
+ghost use Rattle.tz_info.specs.Folds.{HasFold, Repeats, SkipsOrRepeats};
+ghost use Rattle.zoned_ffi.specs.Steps.SetBack.{set_back, summer, winter};
 ghost use Rattle.tz_info.specs.Zones.{Zone};
 ghost use Rattle.tz_base.specs.declared.error.Error.TheVariants as errors;
 ghost use Rattle.tz_base.specs.declared.error.Expected.TheVariants as expected;
@@ -11,11 +15,11 @@ ghost use Rattle.zoned_ffi.specs.Columns.{IsAnsweredOrNone, IsFirstWithout, IsIn
 ghost use Rattle.zoned_ffi.specs.Columns.{IsRowNumber, second_holding};
 ghost use Rattle.zoned_ffi.specs.Fields.{AreFieldsOf, IsNoLocalOf};
 ghost use Rattle.zoned_ffi.specs.Handles.{IsUnanswered};
-ghost use Rattle.zoned_ffi.specs.Instants.{no_offset};
+ghost use Rattle.zoned_ffi.specs.Instants.{IsWrittenOffsetAt, no_offset};
 ghost use Rattle.zoned_ffi.specs.Kinds.{IsKind, kind_number};
 ghost use Rattle.zoned_ffi.specs.Refusals.{IsErrorOfKind, IsReaderNumber, detail_number, refusal_number};
 ghost use Rattle.zoned_ffi.specs.Resolved.{IsChoice, IsChoiceOf, IsNoneTaken, IsReachedAt, IsResolvedAt};
-ghost use Rattle.zoned_ffi.specs.Resolved.{IsTakenGapEnd, IsTakenType, unresolved};
+ghost use Rattle.zoned_ffi.specs.Resolved.{IsTakenGapEnd, IsTakenType, TakesOf, unresolved};
 ghost use Rattle.zoned_ffi.specs.Texts.{IsTextOf, written_over};
 ghost use Rattle.zoned_ffi.specs.Units.{IsCounted, IsLocal, IsUnit, local_by, no_time, per_second};
 ghost use Rattle.zoned_ffi.specs.WallClocks.{written, out_of_range};
@@ -42,14 +46,36 @@ pub fn kind_numbers()
     ensures three { ¬ (IsKind 3) }
 {}
 
-/// For a gap 0 refuses, 1 shifts and 2 takes its end; for a fold 0 refuses, 1 takes the earliest and 2 the latest.
+/// For a gap 0 refuses, 1 shifts forward, 2 takes its end and 3 shifts backward; for a fold 0 refuses, 1
+/// takes the earliest and 2 the latest.
 pub fn choice_numbers()
     ensures refused { IsChoiceOf 0 0 (record { gap = gaps.Refuse; fold = folds.Refuse }) }
     ensures earliest { IsChoiceOf 1 1 (record { gap = gaps.ShiftForward; fold = folds.Earliest }) }
     ensures latest { IsChoiceOf 1 2 (record { gap = gaps.ShiftForward; fold = folds.Latest }) }
     ensures end { IsChoiceOf 2 0 (record { gap = gaps.End; fold = folds.Refuse }) }
-    ensures gap_3 { ¬ (IsChoice 3 0) }
+    ensures backward { IsChoiceOf 3 0 (record { gap = gaps.ShiftBackward; fold = folds.Refuse }) }
+    ensures gap_4 { ¬ (IsChoice 4 0) }
     ensures fold_3 { ¬ (IsChoice 0 3) }
+{}
+
+/// In a gap a policy that shifts forward takes the type before it, and one that shifts backward the type
+/// after it. By that New York's 02:30:00 on 2021-03-14 is 06:30:00 UTC, at which clocks showed 01:30:00.
+pub fn shifted_gaps()
+    ensures forward { (z : Zone) (local : ℤ) (change : Change)
+        → TakesOf z local (record { gap = gaps.ShiftForward; fold = folds.Refuse })
+        (Ok (InGap change))
+        → IsTakenType z local (record { gap = gaps.ShiftForward; fold = folds.Refuse })
+        change.before }
+    ensures backward { (z : Zone) (local : ℤ) (change : Change)
+        → TakesOf z local (record { gap = gaps.ShiftBackward; fold = folds.Refuse })
+        (Ok (InGap change))
+        → IsTakenType z local (record { gap = gaps.ShiftBackward; fold = folds.Refuse })
+        change.after }
+    ensures instant { (z : Zone) (choice : Choice) (t : LocalType)
+        → IsTakenType z (pos 1_615_689_000) choice t → t.offset ≡ neg_ℤ (pos 14_400)
+        → IsWrittenOffsetAt z (pos 1_615_703_400) (neg_ℤ (pos 18_000))
+        → IsResolvedAt z choice (pos 1_615_689_000)
+        (record { number = 0; offset = neg_ℤ (pos 18_000); instant = pos 1_615_703_400 }) }
 {}
 
 /// 29 February 2000 was a Tuesday and the day 60 of its year, and its last second is 951868799. 2021
@@ -265,4 +291,16 @@ pub fn out_of_range_numbers()
     ensures resolved { (z : Zone) (choice : Choice)
         → IsResolvedAt z choice (pos 8_210_266_876_800) (unresolved 23) }
     ensures reached { (z : Zone) → IsReachedAt z (pos 8_210_266_876_800) (unresolved 23) }
+{}
+
+/// Clocks that are an hour ahead of UTC before second 0, and not from then on, show 1800 at -1800 and at
+/// 1800. The change of that fold is at 0.
+pub fn folds()
+    ensures fold { HasFold set_back (pos 1_800) summer winter (pos 0) }
+    ensures only { (before after : LocalType) (at : ℤ)
+        → HasFold set_back (pos 1_800) before after at → at ≡ pos 0 }
+    ensures repeats { Repeats set_back (pos 1_800)
+        (record { at = pos 0; before = summer; after = winter }) }
+    ensures either { SkipsOrRepeats set_back (pos 1_800)
+        (record { at = pos 0; before = summer; after = winter }) }
 {}

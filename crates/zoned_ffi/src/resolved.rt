@@ -36,7 +36,7 @@ impl Resolved {
         };
         match take(zone, choice, reading) {
             Ok(Taken::InForce(offset)) => Resolved::within(instant_by(local, offset), offset),
-            Ok(Taken::BeforeGap(offset)) => {
+            Ok(Taken::Shifted(offset)) => {
                 let instant = instant_by(local, offset);
                 Resolved::within(instant, offset_at(zone, instant))
             }
@@ -95,8 +95,9 @@ fn instant_by(local: i64, offset: i32) -> i64
 pub enum Taken {
     /// The offset in force at that instant, at which a clock shows the local time.
     InForce(i32),
-    /// The offset before the gap that the local time lies in.
-    BeforeGap(i32),
+    /// The offset before the gap that the local time lies in, or the one after it: at the instant a clock
+    /// shows another local time.
+    Shifted(i32),
     /// The second at which that gap ends, and the offset from then on.
     GapEnd(i64, i32),
 }
@@ -112,7 +113,8 @@ pub fn take(zone: &TimeZone, choice: Choice, local: NaiveDateTime) -> Result<Tak
         Ok(Found::Shown(only)) => Ok(Taken::InForce(only.offset())),
         Ok(Found::InGap(change)) => match choice.gap {
             ChoiceInGap::End => Ok(Taken::GapEnd(change.at, change.after.offset())),
-            _ => Ok(Taken::BeforeGap(change.before.offset())),
+            ChoiceInGap::ShiftBackward => Ok(Taken::Shifted(change.after.offset())),
+            _ => Ok(Taken::Shifted(change.before.offset())),
         },
         Err(reason) => Err(u32::from(reason.number())),
     }

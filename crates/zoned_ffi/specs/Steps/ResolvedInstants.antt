@@ -9,7 +9,7 @@ use Rattle.zoned_ffi.specs.Units.{per_second}
 use Rattle.zoned_ffi.specs.declared.choice.Choice.{Choice}
 use Rattle.zoned_ffi.specs.declared.resolved.Resolved.{Resolved}
 use Rattle.zoned_ffi.specs.declared.resolved.Taken.{Taken}
-use Rattle.zoned_ffi.specs.declared.resolved.Taken.TheVariants.{InForce, BeforeGap, GapEnd}
+use Rattle.zoned_ffi.specs.declared.resolved.Taken.TheVariants.{InForce, Shifted, GapEnd}
 use Rattle.zoned_ffi.specs.declared.unit.Unit.{Unit}
 
 -- the second u and an offset, or that u is out of range
@@ -21,11 +21,11 @@ IsResolvedStamp u offset w =
 abbrev pub IsTakenAs : Zone → ℤ → Choice → Taken → Type 0
 IsTakenAs z local choice (InForce offset) = ((t : LocalType) × IsTakenType z local choice t × (offset ≡ t.offset)) × IsWrittenOffsetAt z (local -ℤ offset)
     offset
-IsTakenAs z local choice (BeforeGap offset) = (t : LocalType) × IsTakenType z local choice t × (offset ≡ t.offset)
+IsTakenAs z local choice (Shifted offset) = (t : LocalType) × IsTakenType z local choice t × (offset ≡ t.offset)
 IsTakenAs z local choice (GapEnd at offset) = (after : LocalType) × IsTakenGapEnd z local choice at after × (offset ≡ after.offset)
 
 -- the instant by what is taken of the local time, counted in the unit
 abbrev pub taken_instant : Unit → ℤ → Taken → ℤ
 taken_instant unit local (InForce offset) = local -ℤ (offset *ℤ pos (per_second unit))
-taken_instant unit local (BeforeGap offset) = local -ℤ (offset *ℤ pos (per_second unit))
+taken_instant unit local (Shifted offset) = local -ℤ (offset *ℤ pos (per_second unit))
 taken_instant unit local (GapEnd at offset) = at *ℤ pos (per_second unit)

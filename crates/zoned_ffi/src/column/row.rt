@@ -80,7 +80,7 @@ fn instant_taken(unit: Unit, local: i64, taken: Taken) -> Option<i64>
 {
     match taken {
         Taken::InForce(offset) => added(local, less(unit.counts_of(offset))),
-        Taken::BeforeGap(offset) => added(local, less(unit.counts_of(offset))),
+        Taken::Shifted(offset) => added(local, less(unit.counts_of(offset))),
         Taken::GapEnd(at, _) => counted(unit.counts_at(at)),
     }
 }

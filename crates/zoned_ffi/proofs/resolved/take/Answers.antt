@@ -3,7 +3,7 @@ use Rattle.offset_core.specs.declared.around.Taken.TheVariants.{Shown}
 use Rattle.tz_info.specs.Around.{Skips}
 use Rattle.zoned_ffi.proofs.Words.{FitsSigned, IsTakenType, Ok, Shows, TypeAt, ap, policy_of, refl, rules, taken_right, to_z-of_z, w32, w64}
 use Rattle.zoned_ffi.proofs.Words.{◌∙◌}
-use Rattle.zoned_ffi.proofs.Resolving.{in_force, taken_as}
+use Rattle.zoned_ffi.proofs.Resolving.{in_force, shifts_forward, taken_as}
 use Rattle.zoned_ffi.proofs.resolved.take.Goals as goal
 
 pub returns-in-Ok-Shown : goal.returns-in-Ok-Shown
@@ -23,13 +23,22 @@ returns-in-End c =
     (c.in-Ok-InGap.is ∙ ap Ok c.in-Ok-InGap.field-0-is) in
     simp to_z-of_z (change.after, record { before = change.before; takes = takes; end = c.in-End.is }, c.offset-in-End.ensures.value)
 
+pub returns-in-ShiftBackward : goal.returns-in-ShiftBackward
+returns-in-ShiftBackward c =
+    let fits : FitsSigned w32 c.offset-in-ShiftBackward.result = search rules in
+    let takes = taken_as _ _ c.args.choice _ _ _ _ c.find_local_time_type_around_counted-around.ensures.found c.policy.ensures c.take.ensures
+    (c.in-Ok-InGap.is ∙ ap Ok c.in-Ok-InGap.field-0-is) in
+    let change = c.in-Ok-InGap.change in
+    (change.after, IsTakenType.shifted_backward change takes c.in-ShiftBackward.is refl, to_z-of_z fits ∙ c.offset-in-ShiftBackward.ensures.value)
+
 pub returns-in_default : goal.returns-in_default
 returns-in_default c =
     let fits : FitsSigned w32 c.offset-in_default.result = search rules in
     let takes = taken_as _ _ c.args.choice _ _ _ _ c.find_local_time_type_around_counted-around.ensures.found c.policy.ensures c.take.ensures
     (c.in-Ok-InGap.is ∙ ap Ok c.in-Ok-InGap.field-0-is) in
     let change = c.in-Ok-InGap.change in
-    (change.before, IsTakenType.shifted change takes c.in_default.not-End refl, to_z-of_z fits ∙ c.offset-in_default.ensures.value)
+    let forward = shifts_forward c.args.choice takes.around change takes.taken c.in_default.not-End c.in_default.not-ShiftBackward in
+    (change.before, IsTakenType.shifted_forward change takes forward refl, to_z-of_z fits ∙ c.offset-in_default.ensures.value)
 
 pub returns-in-Err : goal.returns-in-Err
 returns-in-Err c = grind (arith, taken_as)

@@ -10,14 +10,14 @@ returns-in-Ok-InForce c =
     let at = simp to_z-of_z at c.instant_by.ensures in
     resolved_by _ _ _ taken.0.0 _ _ stamp.0.0 taken.0.1 (rw taken.0.2 at taken.1) (rw (at, taken.0.2) at (simp to_z-of_z at c.within.ensures))
 
-pub returns-in-Ok-BeforeGap : goal.returns-in-Ok-BeforeGap
-returns-in-Ok-BeforeGap c =
-    let taken_offset : FitsSigned w32 c.in-Ok-BeforeGap.offset = search rules in
+pub returns-in-Ok-Shifted : goal.returns-in-Ok-Shifted
+returns-in-Ok-Shifted c =
+    let taken_offset : FitsSigned w32 c.in-Ok-Shifted.offset = search rules in
     let fits : FitsSigned w32 c.offset_at.result = search rules in let instant : FitsSigned w64 c.instant_by-instant.result = search rules in
     let local : FitsSigned w64 c.args.local = c.ranges.local in
-    let stamp = simp to_z-of_z at c.in-Some.ensures in let taken = rw (c.in-Ok-BeforeGap.field-0-is, ap (λ r. r.s) stamp.1) at c.in-Ok-BeforeGap.ensures in
+    let stamp = simp to_z-of_z at c.in-Some.ensures in let taken = rw (c.in-Ok-Shifted.field-0-is, ap (λ r. r.s) stamp.1) at c.in-Ok-Shifted.ensures in
     let at = simp to_z-of_z at c.instant_by-instant.ensures in let there = simp to_z-of_z at c.offset_at.ensures in
-    let written = simp to_z-of_z at c.within-in-Ok-BeforeGap.ensures in
+    let written = simp to_z-of_z at c.within-in-Ok-Shifted.ensures in
     resolved_by _ _ _ taken.0 _ _ stamp.0.0 taken.1 (rw (at, taken.2) at there) (rw (at, taken.2) at written)
 
 pub returns-in-Ok-GapEnd : goal.returns-in-Ok-GapEnd
