@@ -1,7 +1,7 @@
 #!/usr/bin/env python3
 """Makes the files of a release from what the gate has proved and built, and tries each of them in a folder of its own.
 
-usage: tools/release.py [--proof FILE] LOG FOLDER
+usage: tools/release.py [--proof FILE] [--root ROOT] LOG FOLDER
 
 LOG is the output of a whole `.ci/run` or `rt ci` in this checkout. In FOLDER it makes
 
@@ -10,13 +10,18 @@ LOG is the output of a whole `.ci/run` or `rt ci` in this checkout. In FOLDER it
 - Debian packages: libzoned0, libzoned-dev and zonedump;
 - the Python wheel;
 - sahvumbi-VERSION.tar.xz: the source files of the commit;
-- proof.json: what was proved. For each crate the SHA-256 of its source, definitions and proofs, the verdict and the number of functions;
-  the commit, the kit and its logic. The wheel has it too: `python -m sahvumbi --proof` prints it;
+- proof.json: what was proved. For each crate the verdict, the number of functions, after how many minutes of the run it was proved, and
+  the SHA-256 of its source, definitions and proofs; the commit, the kit and its logic. `zonedump --version` prints it too, and so does
+  `python -m sahvumbi --proof` of the wheel;
 - SHA256SUMS.
 
---proof only writes proof.json to FILE. It needs what tools/install.sh and tools/python_tests.sh need, and dpkg-deb and xz. A file has the
+--proof only writes proof.json to FILE. With --root the archive and the packages are installed in copies of ROOT, a clean system without
+the kit, as `debootstrap --variant=minbase bookworm ROOT` makes it, and tried in them by chroot, as root. Packages are checked by lintian if
+that is installed, and the archive for 64-bit ARM runs a program if qemu-aarch64-static is. It needs what tools/install.sh and tools/python_tests.sh need, and dpkg-deb and xz. A file has the
 same bytes each time, except for the wheel: times are those of the commit, and owners are root.
 """
+
+from __future__ import annotations
 
 import argparse
 import gzip
@@ -28,6 +33,8 @@ import shutil
 import subprocess
 import sys
 import tempfile
+from contextlib import contextmanager
+from dataclasses import dataclass
 from pathlib import Path
 
 from sources import TOP, crates, needs
@@ -43,7 +50,10 @@ PACKAGES = {
         "libdevel", "time zones for C, proved (development files)", "libzoned{abi} (= {version})",
         ["usr/include", "{lib}/libzoned.a", "{lib}/libzoned.so", "{lib}/pkgconfig", "{lib}/cmake", "usr/share/man/man3"],
     ),
-    "zonedump": ("utils", "lists, compares, draws and writes time zones", "libc6", ["usr/bin", "usr/share/man/man1"]),
+    "zonedump": (
+        "utils", "lists, compares, draws and writes time zones", "libc6",
+        ["usr/bin", "usr/share/man/man1", "usr/share/zoned", "usr/share/bash-completion", "usr/share/zsh"],
+    ),
 }
 PROGRAM = """#include <zoned.h>
 #include <stdio.h>
@@ -90,14 +100,18 @@ def record(log):
     passed = re.findall(r"(?m)^(\d+) passed, (\d+) failed$", text)
     if not passed or passed[-1][1] != "0":
         sys.exit(f"{log} isn't the output of a run in which all passed")
-    functions, found, count = {}, {}, None
+    found, last, count = {}, None, None
     for line in text.splitlines():
         proved = re.match(r"logic=proved functions=(\d+) ", line)
         named = re.match(r"rt: (\w+) (proved|is kept: .*)$", line)
+        after = re.match(r"\(after (\d+) minutes\)$", line)
         if proved:
             count = int(proved[1])
         elif named:
-            found[named[1]], functions[named[1]], count = "proved", count, None
+            last, count = {"verdict": "proved", "functions": count, "minutes": None}, None
+            found[named[1]] = last
+        elif after and last:
+            last["minutes"] = int(after[1])
     missing = [crate for crate in crates() if crate not in found]
     if missing:
         sys.exit(f"{log} has no verdict on {', '.join(missing)}")
@@ -107,10 +121,15 @@ def record(log):
         "commit": run("git", "rev-parse", "HEAD").strip(),
         "kit": kit,
         "logic": logic,
-        "crates": {
-            crate: {"verdict": found[crate], "functions": functions[crate], "sha256": checksum(crate)} for crate in crates()
-        },
+        "crates": {crate: {**found[crate], "sha256": checksum(crate)} for crate in crates()},
     }
+
+
+def written(record):
+    """The record as JSON, with a line for each crate."""
+    crate_lines = ",\n".join(f'  "{crate}": {json.dumps(values)}' for crate, values in record["crates"].items())
+    head = json.dumps({name: value for name, value in record.items() if name != "crates"}, indent=1).removesuffix("\n}")
+    return f'{head},\n "crates": {{\n{crate_lines}\n }}\n}}\n'
 
 
 # Archives
@@ -132,13 +151,44 @@ def installed(root, **settings):
     run("tools/install.sh", env={**os.environ, "DESTDIR": str(root), **settings})
 
 
-def tarball(folder, room):
-    """The archive for this processor, tried: a program is built against it in another folder."""
-    tree = room / f"libzoned-{version()}-linux-x86_64"
+def with_record(prefix, proof):
+    """Puts the record of the proof where zonedump looks for it."""
+    (prefix / "share/zoned").mkdir(parents=True, exist_ok=True)
+    (prefix / "share/zoned/proof.json").write_text(proof)
+
+
+def tarball(release):
+    """The archive for this processor, tried: a program is built against it in another folder, and in a clean system."""
+    tree = release.room / f"libzoned-{version()}-linux-x86_64"
     installed(tree, PREFIX="/")
+    with_record(tree, release.proof)
     add_licences(tree)
-    tried_in(room, tree / "include", tree / "lib")
-    packed(tree, folder / f"{tree.name}.tar.xz")
+    tried_in(release.room, tree / "include", tree / "lib")
+    tried_programs([tree / "bin/zonedump"], release.proof)
+    made = release.folder / f"{tree.name}.tar.xz"
+    packed(tree, made)
+    if release.root:
+        with release.system() as root:
+            run("tar", "-xJf", made, "--strip-components=1", "--no-same-owner", "-C", root / "usr/local")
+            run("chroot", root, "ldconfig")
+            tried_as_installed(release, root, "usr/local/bin")
+
+
+def tried_programs(zonedump, proof):
+    """Asks the program for a year's changes, and for its version."""
+    printed = run(*zonedump, "--from", "2021", "--to", "2021", "--text", "EST5EDT,M3.2.0,M11.1.0")
+    if "2021-03-14 07:00:00 UTC" not in printed:
+        sys.exit("zonedump of the release answers otherwise")
+    if not run(*zonedump, "--version").endswith(f")\n{proof}"):
+        sys.exit("zonedump of the release prints another record of the proof")
+
+
+def tried_as_installed(release, root, folder):
+    """Tries zonedump and a program with the shared library in a clean system."""
+    tried_programs(["chroot", root, f"/{folder}/zonedump"], release.proof)
+    shutil.copy(release.room / "shared", root / "shared")
+    if run("chroot", root, "/shared") != OFFSET:
+        sys.exit(f"a program with the library in {folder} answers otherwise")
 
 
 def tried_in(room, include, lib):
@@ -151,8 +201,9 @@ def tried_in(room, include, lib):
             sys.exit(f"a program with the {name} library of the release answers otherwise")
 
 
-def tarball_for_arm(folder, room):
+def tarball_for_arm(release):
     """The archive for 64-bit ARM, with the heap of crates/zoned_ffi/install."""
+    room = release.room
     if not shutil.which(f"{ARM}-gcc"):
         print(f"{ARM}-gcc isn't installed: no archive for 64-bit ARM")
         return
@@ -163,8 +214,14 @@ def tarball_for_arm(folder, room):
     tools = {name: f"{ARM}-{name.lower()}" for name in ("LD", "NM", "AR", "OBJCOPY")}
     installed(tree, PREFIX="/", ARCHIVE=str(ARCHIVES / "libzoned_ffi-aarch64.a"), HEAP=str(room / "heap.a"), CC=f"{ARM}-gcc", **tools)
     shutil.rmtree(tree / "bin", ignore_errors=True)
+    with_record(tree, release.proof)
     add_licences(tree)
-    packed(tree, folder / f"{tree.name}.tar.xz")
+    run(f"{ARM}-gcc", f"-I{tree}/include", "-static", "-o", room / "arm", room / "tried.c", tree / "lib/libzoned.a")
+    if not shutil.which("qemu-aarch64-static"):
+        print("qemu-aarch64-static isn't installed: the archive for 64-bit ARM is built and not run")
+    elif run("qemu-aarch64-static", room / "arm") != OFFSET:
+        sys.exit("a program with the library for 64-bit ARM answers otherwise")
+    packed(tree, release.folder / f"{tree.name}.tar.xz")
 
 
 def add_licences(tree):
@@ -175,16 +232,18 @@ def add_licences(tree):
 # Debian
 
 
-def debian_packages(folder, room):
-    """Three packages, each unpacked into a root of its own and tried there."""
+def debian_packages(release):
+    """Three packages, checked by lintian, unpacked into a folder and installed in a clean system, and tried there."""
+    folder, room = release.folder, release.room
     root, lib = room / "debian", "usr/lib"
     installed(root, PREFIX="/usr")
+    with_record(root / "usr", release.proof)
     abi = os.readlink(root / lib / "libzoned.so").removeprefix("libzoned.so.")
     for program in ("zonedump", "zoneq"):
         (root / "usr/bin").mkdir(exist_ok=True)
         shutil.copy(TOP / f"crates/{program}/out/{program}", root / "usr/bin" / program)
     run("strip", root / "usr/bin/zonedump", root / "usr/bin/zoneq", root / lib / f"libzoned.so.{version()}")
-    system = room / "system"
+    system, made = room / "system", []
     for name, (section, what, depends, paths) in PACKAGES.items():
         name, depends = name.format(abi=abi), depends.format(abi=abi, version=version())
         tree = room / name
@@ -192,6 +251,10 @@ def debian_packages(folder, room):
         for path in [path for pattern in paths for path in root.glob(pattern.format(lib=lib))]:
             run("cp", "-a", "--parents", path.relative_to(root), tree, cwd=root)
         documented(tree / "usr/share/doc" / name)
+        for page in (tree / "usr/share").glob("man/man*/*"):
+            packed_page = page.with_name(f"{page.name}.gz")
+            packed_page.write_bytes(gzip.compress(page.read_bytes(), 9, mtime=0))
+            page.unlink()
         (tree / "DEBIAN").mkdir()
         size = sum(path.stat().st_size for path in tree.rglob("*") if path.is_file() and not path.is_symlink()) // 1024 + 1
         (tree / "DEBIAN/control").write_text(
@@ -203,13 +266,22 @@ def debian_packages(folder, room):
             (tree / "DEBIAN/shlibs").write_text(f"libzoned {abi} {name} (>= {version()})\n")
             (tree / "DEBIAN/triggers").write_text("activate-noawait ldconfig\n")
         run("chmod", "-R", "u+rwX,go+rX,go-w", tree)
+        for library in (tree / lib).glob("libzoned.so.*.*.*"):
+            library.chmod(0o644)
         package = folder / f"{name}_{version()}_amd64.deb"
         run("dpkg-deb", "--build", "--root-owner-group", tree, package, env={**os.environ, "SOURCE_DATE_EPOCH": moment()})
         run("dpkg-deb", "-x", package, system)
+        made.append(package)
+    if shutil.which("lintian"):
+        print(run("lintian", "--allow-root", "--fail-on", "error", "--suppress-tags", "bad-distribution-in-changes-file", *made), end="")
     tried_in(room, system / "usr/include", system / lib)
-    printed = run(system / "usr/bin/zonedump", "--from", "2021", "--to", "2021", "--text", "EST5EDT,M3.2.0,M11.1.0")
-    if "2021-03-14 07:00:00 UTC" not in printed:
-        sys.exit("zonedump of the Debian package answers otherwise")
+    tried_programs([system / "usr/bin/zonedump"], release.proof)
+    if release.root:
+        with release.system() as clean:
+            for package in made:
+                shutil.copy(package, clean)
+            run("chroot", clean, "dpkg", "-i", *(f"/{package.name}" for package in made))
+            tried_as_installed(release, clean, "usr/bin")
 
 
 def documented(folder):
@@ -230,8 +302,9 @@ def documented(folder):
 # Python, and the sources
 
 
-def wheel(folder, room, proof):
+def wheel(release):
     """The wheel, installed into an environment of its own and asked."""
+    folder, room, proof = release.folder, release.room, release.proof
     copy = room / "python"
     shutil.copytree(TOP / "python", copy, ignore=shutil.ignore_patterns("build", "*.egg-info", "__pycache__"))
     for name in ("LICENSE", "LICENSE-APACHE"):
@@ -251,35 +324,58 @@ def wheel(folder, room, proof):
         sys.exit("the wheel has another record of the proof")
 
 
-def sources(folder, room):
+def sources(release):
     name = f"sahvumbi-{version()}"
-    plain = room / f"{name}.tar"
+    plain = release.room / f"{name}.tar"
     run("git", "archive", f"--prefix={name}/", "-o", plain, "HEAD")
     run("xz", "-9", "-T1", plain)
-    shutil.move(f"{plain}.xz", folder / f"{name}.tar.xz")
+    shutil.move(f"{plain}.xz", release.folder / f"{name}.tar.xz")
+
+
+@dataclass
+class Release:
+    """The folder of the files, one to work in, the record of the proof, and a clean system or None."""
+
+    folder: Path
+    room: Path
+    proof: str
+    root: Path | None
+
+    @contextmanager
+    def system(self):
+        """A copy of the clean system, with /proc, through which a program finds its own folder."""
+        with tempfile.TemporaryDirectory(dir=self.room) as place:
+            copy = Path(place) / "root"
+            run("cp", "-a", self.root, copy)
+            run("mount", "-t", "proc", "proc", copy / "proc")
+            try:
+                yield copy
+            finally:
+                run("umount", copy / "proc")
 
 
 def main():
     parser = argparse.ArgumentParser(description=__doc__, formatter_class=argparse.RawDescriptionHelpFormatter)
     parser.add_argument("--proof", type=Path, metavar="FILE")
+    parser.add_argument("--root", type=Path)
     parser.add_argument("log", type=Path)
     parser.add_argument("folder", type=Path, nargs="?")
     asked = parser.parse_args()
-    proof = json.dumps(record(asked.log), indent=1) + "\n"
+    proof = written(record(asked.log))
     if asked.proof:
         asked.proof.write_text(proof)
         return
     if not asked.folder:
         parser.error("FOLDER is missing")
-    needs("rt", "gcc", "dpkg-deb", "xz", "/usr/bin/python3", ARCHIVES / "libzoned_ffi.a")
+    programs = [TOP / f"crates/{program}/out/{program}" for program in ("zonedump", "zoneq")]
+    needs("rt", "gcc", "dpkg-deb", "xz", "/usr/bin/python3", ARCHIVES / "libzoned_ffi.a", *programs)
     folder = asked.folder.absolute()
     folder.mkdir(parents=True, exist_ok=True)
     (folder / "proof.json").write_text(proof)
     with tempfile.TemporaryDirectory() as place:
-        room = Path(place)
-        for step in (tarball, tarball_for_arm, debian_packages, sources):
-            step(folder, room)
-        wheel(folder, room, proof)
+        release = Release(folder, Path(place), proof, asked.root and asked.root.absolute())
+        for step in (tarball, tarball_for_arm, debian_packages, sources, wheel):
+            step(release)
     files = sorted(path for path in folder.iterdir() if path.name != "SHA256SUMS")
     sums = "".join(f"{hashlib.sha256(path.read_bytes()).hexdigest()}  {path.name}\n" for path in files)
     (folder / "SHA256SUMS").write_text(sums)

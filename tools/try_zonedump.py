@@ -13,8 +13,8 @@ read, and show the same times in Python's zoneinfo. A file that can't be written
 file beside it, and one that is written again and again must never be seen in part. A picture must be the one in docs/, have the
 changes of the table as steps of its line at their places, and the wall clocks of the table in its panels. Zones are asked for by
 name, and a wrong name never leads out of the database's folder. What --at prints must be what zoneinfo has, a summary and the times
-that move those of two folders, and each line of JSON must fit the schema in docs/. Each of some thirty wrong uses must be answered by
-what to type, and each failing system call of --diff by status 2. The table of a large file must need no more memory than one question about it. Prints a line for each
+that move those of two folders, and each line of JSON must fit the schema in docs/. Each of the wrong uses of WRONG_USES must be answered by
+what to type, and each failing system call by a fault or the whole answer. The table of a large file must need no more memory than one question about it. Prints a line for each
 run, and ends with status 1 if an answer differs. It takes half a minute, and needs the C compiler cc for the two lines that
 choose a random number.
 """
@@ -23,6 +23,7 @@ import json
 import os
 import re
 import resource
+import shlex
 import shutil
 import signal
 import struct
@@ -422,13 +423,25 @@ def try_diff(program, folder):
     check("--diff with --svg", (2, ""), run(program, "--svg", "new.svg", "--diff", "good", "new", folder=folder)[:2])
 
 
-def try_help(program):
+def try_record(program, folder, line):
+    """The record of the proof that a release installs is printed after the version."""
+    for name in ("prefix/bin", "prefix/share/zoned"):
+        (folder / name).mkdir(parents=True)
+    copied = shutil.copy(program, folder / "prefix/bin/zonedump")
+    check("--version of a program that is copied", (0, line, ""), run(copied, "--version"))
+    (folder / "prefix/share/zoned/proof.json").write_text('{"kit": "rattle"}\n')
+    check("  with the record of the proof", (0, line + '{"kit": "rattle"}\n', ""), run(copied, "--version"))
+
+
+def try_help(program, folder):
     """What --help and --version say."""
     status, output, errors = run(program, "--help")
     check("--help", (0, "", True), (status, errors, all(word in output for word in HELP)))
     version = re.search(r'version__ = "(.*)"', (HERE / "python/src/sahvumbi/_version.py").read_text()).group(1)
     kit, logic = re.search(r"`(rattle-kit-\d+)`, `(logic \w+)`", (HERE / "README.md").read_text()).groups()
-    check("--version", (0, f"zonedump {version} (proved with {kit}, {logic})\n", ""), run(program, "--version"))
+    line = f"zonedump {version} (proved with {kit}, {logic})\n"
+    check("--version", (0, line, ""), run(program, "--version"))
+    try_record(program, folder, line)
     check("no arguments name --text", True, "--text TZ" in run(program)[2])
     options = set(re.findall(r"--[a-z]+", re.search(r"(?s)Options:\n(.*?)\n\n", output).group(1)))
     for name, form in (("zonedump.1", r"\\-\\-([a-z]+)"), ("zonedump.bash", r"--([a-z]+)"), ("_zonedump", r"--([a-z]+)")):
@@ -637,10 +650,10 @@ def try_schema(program, folder):
 
 def try_wrong_uses(program, folder):
     """What a new user may type: the answer says what to type."""
-    for words, answer in WRONG_USES:
-        status, output, errors = run(program, *words, folder=folder)
-        check(f"zonedump {' '.join(words)}", (True, "", answer, True), (status in (1, 2), output, answer if answer in errors else errors,
-                                                                         errors.startswith(("zonedump: ", "error: "))))
+    for words, status, sentences in WRONG_USES:
+        found, output, errors = run(program, *shlex.split(words)[1:], folder=folder)
+        usage = re.compile(r"(?m)^(?:Usage: .*\n(?: {7}.*\n)*|\n)")
+        check(words, (status, "", f"{sentences}\n"), (found, output, usage.sub("", errors)))
 
 
 FAULTS = r"""
@@ -649,52 +662,100 @@ FAULTS = r"""
 #include <fcntl.h>
 #include <stdarg.h>
 #include <stdlib.h>
+#include <string.h>
 #include <sys/stat.h>
 #include <sys/syscall.h>
 #include <unistd.h>
-static int fails(void) {
+static int fails(const char *name) {
     static long calls;
     if (++calls != atol(getenv("FAIL_AT"))) return 0;
-    syscall(SYS_openat, AT_FDCWD, getenv("FAILED"), O_CREAT, 0600);
+    int file = (int)syscall(SYS_openat, AT_FDCWD, getenv("FAILED"), O_CREAT | O_WRONLY | O_TRUNC, 0600);
+    syscall(SYS_write, file, name, strlen(name));
+    syscall(SYS_close, file);
     return errno = EIO;
 }
 int openat(int folder, const char *path, int flags, ...) {
     va_list more; va_start(more, flags); int mode = va_arg(more, int); va_end(more);
-    return fails() ? -1 : (int)syscall(SYS_openat, folder, path, flags, mode);
+    return fails("open") ? -1 : (int)syscall(SYS_openat, folder, path, flags, mode);
 }
 int open(const char *path, int flags, ...) {
     va_list more; va_start(more, flags); int mode = va_arg(more, int); va_end(more);
     return openat(AT_FDCWD, path, flags, mode);
 }
-ssize_t read(int file, void *to, size_t room) { return fails() ? -1 : syscall(SYS_read, file, to, room); }
-ssize_t getdents64(int file, void *to, size_t room) { return fails() ? -1 : syscall(SYS_getdents64, file, to, room); }
-int statx(int folder, const char *restrict path, int flags, unsigned mask, struct statx *restrict to) {
-    return fails() ? -1 : (int)syscall(SYS_statx, folder, path, flags, mask, to);
-}
+#define CALL(type, name, parameters, ...) \
+    type name parameters { return fails(#name) ? -1 : (type)syscall(SYS_##name, __VA_ARGS__); }
+CALL(ssize_t, read, (int file, void *to, size_t room), file, to, room)
+CALL(ssize_t, write, (int file, const void *from, size_t size), file, from, size)
+CALL(ssize_t, getdents64, (int file, void *to, size_t room), file, to, room)
+CALL(int, statx, (int folder, const char *restrict path, int flags, unsigned mask, struct statx *restrict to), folder, path, flags, mask, to)
+CALL(int, fsync, (int file), file)
+CALL(int, fchmod, (int file, mode_t mode), file, mode)
+CALL(int, rename, (const char *old, const char *new), old, new)
+CALL(int, renameat, (int old_folder, const char *old, int new_folder, const char *new), old_folder, old, new_folder, new)
+CALL(int, unlink, (const char *path), path)
+CALL(int, unlinkat, (int folder, const char *path, int flags), folder, path, flags)
+CALL(ssize_t, readlink, (const char *restrict path, char *restrict to, size_t room), path, to, room)
+CALL(ssize_t, readlinkat, (int folder, const char *restrict path, char *restrict to, size_t room), folder, path, to, room)
+int getentropy(void *to, size_t size) { return fails("getentropy") ? -1 : (syscall(SYS_getrandom, to, size, 0) == (long)size ? 0 : -1); }
 """
 
 
+def runs_with_faults(program, words, folder, reset=lambda: None):
+    """Runs the program again and again, each time with the next system call failing: gives the call, the status, output and error text,
+    until no call fails."""
+    failed = folder / "failed"
+    for number in range(1, 2000):
+        failed.unlink(missing_ok=True)
+        reset()
+        environment = {**os.environ, "LD_PRELOAD": str(folder / "faults.so"), "FAIL_AT": str(number), "FAILED": str(failed)}
+        ran = subprocess.run([str(program), *words], cwd=folder, env=environment, capture_output=True, text=True, timeout=SECONDS)
+        if not failed.exists():
+            return
+        yield failed.read_text(), ran.returncode, ran.stdout, ran.stderr
+
+
 def try_faults(program, folder):
-    """Each system call by which --diff opens, lists or reads fails in turn: what is printed is right, and the fault is reported, or the
-    answer is whole."""
+    """Each system call fails in turn: the fault is reported, and what is printed is right, or the answer is whole. A file that is to be
+    replaced has its old bytes or all of the new ones, and no other file is left unless it can't be removed."""
     (folder / "faults.c").write_text(FAULTS)
     subprocess.run(["cc", "-shared", "-fPIC", "-o", "faults.so", "faults.c"], cwd=folder, check=True)
-    for form in ([], ["--summary"]):
-        words = ["--from", "2021", "--to", "2021", "--diff", "before", "after", *form]
-        due = run(program, *words, folder=folder)
-        wrong, calls, failed = [], 0, folder / "failed"
-        while True:
-            calls += 1
-            failed.unlink(missing_ok=True)
-            environment = {**os.environ, "LD_PRELOAD": str(folder / "faults.so"), "FAIL_AT": str(calls), "FAILED": str(failed)}
-            ran = subprocess.run([str(program), *words], cwd=folder, env=environment, capture_output=True, text=True, timeout=SECONDS)
-            answer = ran.returncode, ran.stdout, ran.stderr
-            if not failed.exists():
-                break
-            printed = set(ran.stdout.splitlines()) <= set(due[1].splitlines()) if form == [] else True
-            if answer != due and (ran.returncode != 2 or ran.stderr == "" or not printed):
-                wrong.append((calls, *answer))
-        check(f"--diff {' '.join(form)} with {calls - 1} calls that fail", (True, [], due), (calls > 20, wrong, (ran.returncode, ran.stdout, ran.stderr)))
+    diff = ["--from", "2021", "--to", "2021", "--diff", "before", "after"]
+    for words, status in ((diff, 2), ([*diff, "--summary"], 2), ([*diff, "--json"], 2), ([*diff, "--times", "times"], 2), (["good"], 1),
+                          (["--json", "good", "new"], 1), (["--at", "@0", "--tzdir", ".", "before/moved"], 1)):
+        due, calls, wrong = run(program, *words, folder=folder), 0, []
+        for calls, (name, *answer) in enumerate(runs_with_faults(program, words, folder), 1):
+            lines = set(answer[1].splitlines())
+            is_right = "--summary" in words or "--times" in words or lines <= set(due[1].splitlines())
+            if tuple(answer) != due and (answer[0] != status or answer[2] == "" or not is_right):
+                wrong.append((name, *answer))
+        check(f"{' '.join(words)} with {calls} calls that fail", (True, []), (calls > 4, wrong))
+    try_failing_writes(program, folder)
+
+
+def try_failing_writes(program, folder):
+    """The same of files that are written: one is replaced, one is new."""
+    place = folder / "faulty"
+    place.mkdir()
+    for option in ("--write", "--svg"):
+        check(f"{option} to compare with", 0, run(program, option, "faulty/due", "good", folder=folder)[0])
+        due = (place / "due").read_bytes()
+        for target, old in (("old", b"OLD"), ("new", None)):
+
+            def reset():
+                for path in place.iterdir():
+                    path.unlink()
+                if old:
+                    (place / target).write_bytes(old)
+
+            calls, wrong = 0, []
+            for calls, (name, status, output, errors) in enumerate(runs_with_faults(program, [option, f"faulty/{target}", "good"], folder, reset), 1):
+                now = (place / target).read_bytes() if (place / target).exists() else None
+                others = [path.name for path in place.iterdir() if path.name != target]
+                is_done = (status, now, errors) == (0, due, "")
+                is_undone = status == 1 and now == old and errors != ""
+                if output or not (is_done or is_undone) or others and not name.startswith("unlink"):
+                    wrong.append((name, status, errors, others))
+            check(f"{option} {target} with {calls} calls that fail", (True, []), (calls > 6, wrong))
 
 
 def try_memory(program, folder):
@@ -732,7 +793,7 @@ def main():
         try_failed_writes(program, folder)
         try_names(program, folder)
         try_extended(program, folder)
-        try_help(program)
+        try_help(program, folder)
         try_diff(program, folder)
         try_closed(program, folder)
         try_empty(program)
@@ -754,11 +815,20 @@ def main():
     for text in WRONG_TEXTS:
         status, output, errors = run(program, "--text", text)
         check(f"--text {text!r}", (1, "", True), (status, output, f"{text}: not a TZ string: " in errors))
+    for text, shown, words, place, column in POINTED:
+        due = f"zonedump: {shown}: not a TZ string: {words}\n  {shown}\n  {' ' * column}^ at offset {place}\n"
+        check(f"the caret under {text!r}", (1, "", due), run(program, "--text", text))
+        check(f"the caret under {text!r} with --extended", (1, "", due), run(program, "--extended", "--text", text))
     return exit_status()
 
 
 ONE_ZONE = "zonedump: --{} takes one zone; call zonedump once for each zone\n"
-TWO = "zonedump: --diff takes two files or two folders, OLD and NEW"
+TWO = "zonedump: --diff takes two files or two folders, as in zonedump --diff OLD NEW"
+FOLDER = "a folder; name a file in it, or compare two with zonedump --diff OLD NEW"
+TIME = "--at takes a time, as in --at 2026-11-01T09:00 or --at @1793523600, and not"
+TIMES = "no zone; a time is one word, as in --at 2026-11-01T09:00, and years are --from 2026 --to 2027"
+LEAVE_OUT = "Leave out one of them; --help has examples."
+AS_ZDUMP = "  tip: --zdump prints what zdump -v prints; --from and --to take the years\n--help has examples."
 UNKNOWN = "no such file or zone; a zone has a name like Europe/Paris"
 
 MAGIC = "not a TZif file: invalid TZif file: expected TZif at the front of a header (5)"
@@ -767,9 +837,20 @@ SHORT = "not a TZif file: unexpected end: expected more bytes (7)"
 WRONG = {
     "zip": MAGIC, "text": MAGIC, "limit": MAGIC, "empty": SHORT, "head": SHORT, "short": SHORT,
     "footer": "not a TZif file: invalid TZif file: expected a footer between newlines (5)",
-    "large": "larger than 64 MiB", "folder": "Is a directory (os error 21)",
+    "large": "larger than 64 MiB", "folder": FOLDER,
     "missing": UNKNOWN,
 }
+
+MONTH = "invalid transition rule: expected a month from 1 to 12 (13)"
+NO_DIGIT = "invalid number: expected a digit (10)"
+
+# A TZ string, what is printed of it, what is wrong with it, the number of bytes in front of the fault, and the caret's column.
+POINTED = (
+    ("EST5EDT,M3.2.0,M13.1.0", "EST5EDT,M3.2.0,M13.1.0", MONTH, 16, 16),
+    ("AAA5BBB", "AAA5BBB", "unsupported TZ string: expected days when daylight saving time starts and ends (15)", 7, 7),
+    ("<\x1b\u00e9>x", "<\\u{1b}\u00e9>x", NO_DIGIT, 5, 9),
+    ("E", "E", NO_DIGIT, 1, 1),
+)
 
 WRONG_WORDS = (
     [], ["--from", "2040", "--to", "1990", "x"], ["--from", "0", "x"], ["--to", "10000", "x"], ["--from", "soon", "x"],
@@ -795,39 +876,66 @@ LOCAL_TIMES = (
     ("2026-11-01", "Asia/Tokyo", "2026-10-31 15:00:00 UTC, +09:00 std JST, with no later change"),
 )
 
+# What a new user may type, the exit status, and the sentences on standard error without the lines of the usage.
 WRONG_USES = (
-    ([], "name a zone, as in zonedump Europe/Paris"),
-    (["Europe/Pariss"], "did you mean Europe/Paris?"),
-    (["Paris"], "did you mean Europe/Paris?"),
-    (["europe/paris"], "did you mean Europe/Paris?"),
-    (["New York"], "did you mean America/New_York?"),
-    (["Foo/Bar"], "a zone has a name like Europe/Paris"),
-    (["EST5EDT,M3.2.0,M11.1.0"], "a TZ string is given by --text 'EST5EDT,M3.2.0,M11.1.0'"),
-    (["--text", "America/New_York"], "leave out --text, as in zonedump America/New_York"),
-    (["--text", "UTC"], "leave out --text, as in zonedump UTC"),
-    (["--text", "UTC0", "Europe/Paris"], "cannot be used with"),
-    (["--from", "0", "Europe/Paris"], "--from takes a year from 1 to 9999, as in --from 2026, and not '0'"),
-    (["--from", "-5", "Europe/Paris"], "--from takes a year from 1 to 9999, as in --from 2026, and not '-5'"),
-    (["--to", "soon", "Europe/Paris"], "--to takes a year from 1 to 9999, as in --to 2026, and not 'soon'"),
-    (["--from", "2040", "--to", "1990", "Europe/Paris"], "write the earlier year after --from"),
-    (["--form", "2020", "Europe/Paris"], "--from"),
-    (["--at", "soon", "Europe/Paris"], "--at takes a time, as in --at 2026-11-01T09:00"),
-    (["--at", "2026-02-29T09:00", "Europe/Paris"], "--at takes a time, as in --at 2026-11-01T09:00"),
-    (["--at", "09:00", "Europe/Paris"], "--at takes a time, as in --at 2026-11-01T09:00"),
-    (["--at", "2026-11-01T09:00"], "name a zone, as in zonedump Europe/Paris"),
-    (["--at", "2026-11-01T09:00Z", "--local", "Europe/Paris"], "--at takes a time, as in --at 2026-11-01T09:00"),
-    (["--local", "Europe/Paris"], "--local goes with --at, as in --at 2026-11-01T09:00 --local"),
-    (["--diff", "good"], "--diff takes two files or two folders, OLD and NEW"),
-    (["--diff", "good", "folder"], "--diff takes two files or two folders, OLD and NEW (folder is a folder, good is not)"),
-    (["--diff", "good", "Europe/Pariss"], "did you mean Europe/Paris?"),
-    (["--summary", "good"], "--summary goes with --diff, as in zonedump --diff OLD NEW --summary"),
-    (["--times", "times", "good"], "--times goes with --diff, as in zonedump --diff OLD NEW --times"),
-    (["--write", "x", "Europe/Paris", "Asia/Tokyo"], "call zonedump once for each zone"),
-    (["--svg", "x", "Europe/Paris", "Asia/Tokyo"], "call zonedump once for each zone"),
-    (["--svg", "good", "good"], "name a new file"),
-    (["--colors", "dark", "Europe/Paris"], "--colors goes with --svg, as in --svg NEW --colors dark"),
-    (["--svg", "x", "--colors", "blue", "Europe/Paris"], "--colors takes light or dark, as in --colors dark"),
-    (["--json", "--zdump", "Europe/Paris"], "cannot be used with"),
+    ("zonedump", 2, "zonedump: name a zone, as in zonedump Europe/Paris, or write --text TZ; zonedump --help has examples"),
+    ("zonedump Europe/Pariss", 1, "zonedump: Europe/Pariss: no such file or zone; did you mean Europe/Paris?"),
+    ("zonedump Paris", 1, "zonedump: Paris: no such file or zone; did you mean Europe/Paris?"),
+    ("zonedump europe/paris", 1, "zonedump: europe/paris: no such file or zone; did you mean Europe/Paris?"),
+    ("zonedump 'New York'", 1, "zonedump: New York: no such file or zone; did you mean America/New_York?"),
+    ("zonedump America/New", 1, "zonedump: America/New: no such file or zone; did you mean America/New_York?"),
+    ("zonedump Foo/Bar", 1, f"zonedump: Foo/Bar: {UNKNOWN}"),
+    ("zonedump PST", 1, f"zonedump: PST: {UNKNOWN}"),
+    ("zonedump EST5EDT,M3.2.0,M11.1.0", 1,
+     "zonedump: EST5EDT,M3.2.0,M11.1.0: no such file or zone; a TZ string is given by --text 'EST5EDT,M3.2.0,M11.1.0'"),
+    ("zonedump UTC+1", 1, "zonedump: UTC+1: no such file or zone; a TZ string is given by --text 'UTC+1', with + for west of UTC"),
+    ("zonedump CET-1CEST", 1,
+     "zonedump: CET-1CEST: no such file or zone; a TZ string needs a rule, as in --text 'CET-1CEST,M3.5.0,M10.5.0/3'"),
+    ("zonedump 2026", 1, f"zonedump: 2026: {TIMES}"),
+    ("zonedump folder", 1, f"zonedump: folder: {FOLDER}"),
+    ("zonedump --tzdir nowhere Europe/Paris", 1,
+     "zonedump: Europe/Paris: no such file, and no tz database is here; name its folder with --tzdir FOLDER"),
+    ("zonedump --text America/New_York", 1,
+     "zonedump: America/New_York: not a TZ string: invalid number: expected a digit (10)\n"
+     "zonedump: America/New_York is the name of a zone: leave out --text, as in zonedump America/New_York"),
+    ("zonedump --text UTC", 1,
+     "zonedump: UTC: not a TZ string: invalid number: expected a digit (10)\n"
+     "zonedump: UTC is the name of a zone: leave out --text, as in zonedump UTC"),
+    ("zonedump --text CET-1CEST", 1,
+     "zonedump: CET-1CEST: not a TZ string: unsupported TZ string: expected days when daylight saving time starts and ends (15)\n"
+     "zonedump: a rule says when daylight saving time starts and ends, as in --text 'CET-1CEST,M3.5.0,M10.5.0/3'"),
+    ("zonedump --text UTC0 Europe/Paris", 2, f"error: the argument '--text <TZ>' cannot be used with '[ZONE]...'\n{LEAVE_OUT}"),
+    ("zonedump -v Europe/Paris", 2, f"error: unexpected argument '-v' found\n{AS_ZDUMP}"),
+    ("zonedump --year 2026 Europe/Paris", 2, f"error: unexpected argument '--year' found\n{AS_ZDUMP}"),
+    ("zonedump --form 2020 Europe/Paris", 2,
+     "error: unexpected argument '--form' found\n  tip: a similar argument exists: '--from'\n--help has examples."),
+    ("zonedump --from 0 Europe/Paris", 2, "zonedump: --from takes a year from 1 to 9999, as in --from 2026, and not '0'"),
+    ("zonedump --from -5 Europe/Paris", 2, "zonedump: --from takes a year from 1 to 9999, as in --from 2026, and not '-5'"),
+    ("zonedump --to soon Europe/Paris", 2, "zonedump: --to takes a year from 1 to 9999, as in --to 2026, and not 'soon'"),
+    ("zonedump --from 2040 --to 1990 Europe/Paris", 2, "zonedump: --from 2040 comes after --to 1990; write the earlier year after --from"),
+    ("zonedump --from 2020 --from 2021 Europe/Paris", 2, f"error: the argument '--from <YEAR>' cannot be used multiple times\n{LEAVE_OUT}"),
+    ("zonedump --from", 2, "error: a value is required for '--from <YEAR>' but none was supplied\n--help has examples."),
+    ("zonedump --at now Europe/Paris", 2, f"zonedump: {TIME} 'now'"),
+    ("zonedump --at 1793523600 Europe/Paris", 2, f"zonedump: {TIME} '1793523600'"),
+    ("zonedump --at 2026-02-29T09:00 Europe/Paris", 2, f"zonedump: {TIME} '2026-02-29T09:00'"),
+    ("zonedump --at 2026-11-01T09:00+01:00 Europe/Paris", 2, f"zonedump: {TIME} '2026-11-01T09:00+01:00'"),
+    ("zonedump --at 2026-11-01T09:00Z --local Europe/Paris", 2, f"zonedump: {TIME} '2026-11-01T09:00Z'"),
+    ("zonedump --at 2026-11-01T09:00", 2,
+     "zonedump: name a zone, as in zonedump Europe/Paris, or write --text TZ; zonedump --help has examples"),
+    ("zonedump --at 2026-11-01 --json Europe/Paris", 2, f"error: the argument '--at <TIME>' cannot be used with '--json'\n{LEAVE_OUT}"),
+    ("zonedump --local Europe/Paris", 2, "zonedump: --local goes with --at, as in --at 2026-11-01T09:00 --local"),
+    ("zonedump --diff good", 2, TWO),
+    ("zonedump --diff good folder", 2, f"{TWO} (folder is a folder, good is not)"),
+    ("zonedump --diff good Europe/Pariss", 2, "zonedump: Europe/Pariss: no such file or zone; did you mean Europe/Paris?"),
+    ("zonedump --summary good", 2, "zonedump: --summary goes with --diff, as in zonedump --diff OLD NEW --summary"),
+    ("zonedump --times times good", 2, "zonedump: --times goes with --diff, as in zonedump --diff OLD NEW --times"),
+    ("zonedump --write Europe/Paris", 2, "zonedump: --write takes a new file and then a zone, as in zonedump --write NEW Europe/Paris"),
+    ("zonedump --write x Europe/Paris Asia/Tokyo", 2, "zonedump: --write takes one zone; call zonedump once for each zone"),
+    ("zonedump --svg Europe/Paris", 2, "zonedump: --svg takes a new file and then a zone, as in zonedump --svg NEW Europe/Paris"),
+    ("zonedump --svg good good", 2, "zonedump: --svg names the file that is read; name a new file"),
+    ("zonedump --colors dark Europe/Paris", 2, "zonedump: --colors goes with --svg, as in --svg NEW --colors dark"),
+    ("zonedump --svg x --colors blue Europe/Paris", 2, "zonedump: --colors takes light or dark, as in --colors dark, and not 'blue'"),
+    ("zonedump --json --zdump Europe/Paris", 2, f"error: the argument '--json' cannot be used with '--zdump'\n{LEAVE_OUT}"),
 )
 
 HELP = ("1 to 9999", "one zone", "--extended", "Exit status", "--text <TZ>")

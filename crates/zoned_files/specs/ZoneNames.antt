@@ -42,7 +42,7 @@ folder_above [] = []
 folder_above (name ∷ []) = []
 folder_above (name ∷ other ∷ names) = name ∷ folder_above (other ∷ names)
 
--- where the parts of a path lead from a folder, which is a list of names from the root on: to a file or folder in it, to itself, or to the folder above
+-- the place to which the parts of a path lead from a folder, a list of names from the root on: a file or folder in it, itself, or the folder above
 abbrev pub led_to : List (List ℕ) → List (List ℕ) → List (List ℕ)
 led_to folder [] = folder
 led_to folder (part ∷ parts) =

@@ -157,7 +157,7 @@ fn with_zones<'a>(alloc: Global, command: Command<'a>) -> Result<Command<'a>, Al
     command.arg(zones)
 }
 
-// The command, where the argument of that name is used with none of the others.
+// The command, in which the argument of that name is used with no other one of these.
 fn without<'a>(
     command: Command<'a>,
     name: &str,
@@ -194,6 +194,8 @@ pub enum Fault<'a> {
     YearsInReverse(i32, i32),
     NoTime(&'a str),
     NoZone,
+    /// No zone for the file of this option.
+    NoZoneFor(&'a str),
     LocalWithoutTime,
     /// This option goes with `--diff`.
     WithoutDiff(&'a str),
@@ -225,6 +227,10 @@ impl fmt::Display for Fault<'_> {
             ),
             Fault::NoZone => f.write_str(
                 "name a zone, as in zonedump Europe/Paris, or write --text TZ; zonedump --help has examples",
+            ),
+            Fault::NoZoneFor(name) => write!(
+                f,
+                "--{name} takes a new file and then a zone, as in zonedump --{name} NEW Europe/Paris"
             ),
             Fault::LocalWithoutTime => {
                 f.write_str("--local goes with --at, as in --at 2026-11-01T09:00 --local")
@@ -282,14 +288,18 @@ fn check_zones<'a>(matches: &ArgMatches<'a>, zones: usize) -> Result<(), Fault<'
     if matches.get_str("colors").is_some() && matches.get_str("svg").is_none() {
         return Err(Fault::ColorsWithoutPicture);
     }
-    if zones == 0 && matches.get_str("text").is_none() {
+    let is_none = zones == 0 && matches.get_str("text").is_none();
+    for name in ["write", "svg"] {
+        let is_asked = matches.get_str(name).is_some();
+        if is_asked && is_none {
+            return Err(Fault::NoZoneFor(name));
+        }
+        if is_asked && zones > 1 {
+            return Err(Fault::SeveralZones(name));
+        }
+    }
+    if is_none {
         return Err(Fault::NoZone);
-    }
-    if zones > 1 && matches.get_str("write").is_some() {
-        return Err(Fault::SeveralZones("write"));
-    }
-    if zones > 1 && matches.get_str("svg").is_some() {
-        return Err(Fault::SeveralZones("svg"));
     }
     Ok(())
 }

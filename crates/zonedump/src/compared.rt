@@ -1,9 +1,9 @@
 //! Two files compared, or the files of two folders.
 
 use crate::output::print;
-use crate::source::{NOT_UTF8, path_of, say, zone_of_file};
+use crate::source::{path_of, zone_of_file};
 use crate::summary::Summary;
-use crate::words::{is_utf8, report, shown};
+use crate::words::{NOT_UTF8, is_utf8, report, say, shown};
 use crate::{files, folders, guesses, times};
 use folders::Contents;
 use std::fmt::Write;
@@ -71,11 +71,11 @@ fn path_or_report(rt: &HostRuntime, word: &str, folders: &[String]) -> io::Resul
 }
 
 fn compare_paths(rt: &HostRuntime, old: &str, new: &str, asked: Compared<'_>) -> io::Result<u8> {
-    let are_folders = match (kind_of(rt, old), kind_of(rt, new)) {
-        (Kind::Folder, Kind::Folder) => true,
-        (Kind::File, Kind::File) => false,
-        (Kind::Folder, Kind::File) => return Ok(refuse_kinds(rt, old, new)),
-        (Kind::File, Kind::Folder) => return Ok(refuse_kinds(rt, new, old)),
+    let are_folders = match (path_kind(rt, old), path_kind(rt, new)) {
+        (PathKind::Folder, PathKind::Folder) => true,
+        (PathKind::File, PathKind::File) => false,
+        (PathKind::Folder, PathKind::File) => return Ok(refuse_kinds(rt, old, new)),
+        (PathKind::File, PathKind::Folder) => return Ok(refuse_kinds(rt, new, old)),
         _ => return Ok(ERROR),
     };
     if let Form::Times(file) = asked.form {
@@ -95,7 +95,7 @@ fn compare_paths(rt: &HostRuntime, old: &str, new: &str, asked: Compared<'_>) ->
 
 // What a path leads to.
 #[derive(Clone, Copy)]
-enum Kind {
+enum PathKind {
     Folder,
     // or what else isn't a folder
     File,
@@ -103,23 +103,23 @@ enum Kind {
     Unread,
 }
 
-fn kind_of(rt: &HostRuntime, path: &str) -> Kind {
+fn path_kind(rt: &HostRuntime, path: &str) -> PathKind {
     if !is_utf8(path) {
         report(rt, path, NOT_UTF8);
-        return Kind::Unread;
+        return PathKind::Unread;
     }
     match fs::metadata(rt, path) {
-        Ok(found) if found.is_dir() => Kind::Folder,
-        Ok(_) => Kind::File,
+        Ok(found) if found.is_dir() => PathKind::Folder,
+        Ok(_) => PathKind::File,
         Err(error) => {
             report(rt, path, error);
-            Kind::Unread
+            PathKind::Unread
         }
     }
 }
 
 /// What `--diff` compares.
-pub const TWO: &str = "--diff takes two files or two folders, OLD and NEW";
+pub const TWO: &str = "--diff takes two files or two folders, as in zonedump --diff OLD NEW";
 
 fn refuse_kinds(rt: &HostRuntime, folder: &str, file: &str) -> u8 {
     let folder = shown(folder);
@@ -155,14 +155,14 @@ fn compare_folders(
 // out.
 fn names_of_both(rt: &HostRuntime, old: &Contents, new: &Contents) -> io::Result<Vec<String>> {
     let mut names = Vec::new(rt.alloc());
-    push_names(rt, old, new, &mut names)?;
-    push_names(rt, new, old, &mut names)?;
+    push_readable_names(rt, old, new, &mut names)?;
+    push_readable_names(rt, new, old, &mut names)?;
     names.sort_unstable();
     names.dedup();
     Ok(names)
 }
 
-fn push_names(
+fn push_readable_names(
     rt: &HostRuntime,
     from: &Contents,
     other: &Contents,
@@ -184,8 +184,8 @@ fn compare_named(
     asked: Compared<'_>,
     summary: &mut Summary,
 ) -> io::Result<u8> {
-    let old_path = folders::path_of(rt, old, name)?;
-    let new_path = folders::path_of(rt, new, name)?;
+    let old_path = folders::path_within(rt, old, name)?;
+    let new_path = folders::path_within(rt, new, name)?;
     match (
         side_at(rt, old_path.as_str()),
         side_at(rt, new_path.as_str()),
@@ -242,7 +242,7 @@ fn is_zone_at(rt: &HostRuntime, path: &str) -> io::Result<bool> {
 fn print_lone(rt: &HostRuntime, folder: &str, name: &str, asked: Compared<'_>) -> io::Result<u8> {
     match asked.form {
         Form::Json => {
-            let path = folders::path_of(rt, folder, name)?;
+            let path = folders::path_within(rt, folder, name)?;
             let mut line = lone_to_json(rt.alloc(), path.as_str())?;
             line.push(b'\n')?;
             print_part(rt, line.as_slice())?;
@@ -293,15 +293,15 @@ fn compare_files(
     };
     let status = if found.is_empty() { EQUAL } else { DIFFERENT };
     match asked.form {
-        Form::Json => print_json(rt, name, old, new, asked.years, &found)?,
+        Form::Json => print_difference_json(rt, name, old, new, asked.years, &found)?,
         Form::Summary => summary.add(rt.alloc(), name.unwrap_or(new), found)?,
-        Form::Lines | Form::Times(_) => print_lines(rt, name, &found)?,
+        Form::Lines | Form::Times(_) => print_difference_lines(rt, name, &found)?,
     }
     Ok(status)
 }
 
 // Prints the differences as JSON. Of a folder's files only those that differ are printed.
-fn print_json(
+fn print_difference_json(
     rt: &HostRuntime,
     name: Option<&str>,
     old: &str,
@@ -318,7 +318,11 @@ fn print_json(
 }
 
 // Prints the differences, those of a file in a folder after its name.
-fn print_lines(rt: &HostRuntime, name: Option<&str>, found: &[Difference]) -> io::Result<()> {
+fn print_difference_lines(
+    rt: &HostRuntime,
+    name: Option<&str>,
+    found: &[Difference],
+) -> io::Result<()> {
     let mut lines = String::new(rt.alloc());
     if let Some(name) = name
         && !found.is_empty()

@@ -1,14 +1,13 @@
 //! The files of a folder.
 
-use crate::source::NOT_UTF8;
-use crate::words::{self, report};
+use crate::words::{self, NOT_UTF8, report};
 use std::fs::{self, Files};
 use std::io;
 use std::io::{BufRead, BufReader, ErrorKind};
 use std::path::Path;
 
 /// The path of what has a name in a folder, and of the folder for an empty name.
-pub fn path_of(rt: &HostRuntime, folder: &str, name: &str) -> io::Result<String> {
+pub fn path_within(rt: &HostRuntime, folder: &str, name: &str) -> io::Result<String> {
     if name.is_empty() {
         return Ok(String::from_str(rt.alloc(), folder)?);
     }
@@ -81,7 +80,7 @@ fn list(
     found: &mut Contents,
     folders: &mut Vec<String>,
 ) -> io::Result<()> {
-    let folder = path_of(rt, top, within.as_str())?;
+    let folder = path_within(rt, top, within.as_str())?;
     match names_in(rt, folder.as_str()) {
         Ok(names) => {
             for name in names.iter() {
@@ -116,15 +115,15 @@ fn add(
     if name == b".".as_slice() || name == b"..".as_slice() {
         return Ok(());
     }
-    let name = path_of(rt, within, words::word(rt, name)?.as_str())?;
-    let path = path_of(rt, top, name.as_str())?;
+    let name = path_within(rt, within, words::word(rt, name)?.as_str())?;
+    let path = path_within(rt, top, name.as_str())?;
     if !words::is_utf8(name.as_str()) {
         return leave_out(rt, path.as_str(), NOT_UTF8, name, found);
     }
-    match kind_of(rt, path.as_str()) {
-        Ok(Kind::Folder) => Ok(folders.push(name)?),
-        Ok(Kind::File) => Ok(found.files.push(name)?),
-        Ok(Kind::Other) => Ok(()),
+    match entry_kind(rt, path.as_str()) {
+        Ok(EntryKind::Folder) => Ok(folders.push(name)?),
+        Ok(EntryKind::File) => Ok(found.files.push(name)?),
+        Ok(EntryKind::Other) => Ok(()),
         Err(error) => leave_out(rt, path.as_str(), error, name, found),
     }
 }
@@ -144,20 +143,20 @@ fn leave_out<T: std::fmt::Display + Drop>(
 
 // What a path leads to. Links to folders, and those to nothing, are left out.
 #[derive(Clone, Copy)]
-enum Kind {
+enum EntryKind {
     Folder,
     File,
     Other,
 }
 
-fn kind_of(rt: &HostRuntime, path: &str) -> io::Result<Kind> {
+fn entry_kind(rt: &HostRuntime, path: &str) -> io::Result<EntryKind> {
     if fs::symlink_metadata(rt, path)?.is_dir() {
-        return Ok(Kind::Folder);
+        return Ok(EntryKind::Folder);
     }
     match fs::metadata(rt, path) {
-        Ok(found) if found.is_file() => Ok(Kind::File),
-        Ok(_) => Ok(Kind::Other),
-        Err(error) if error.kind() == ErrorKind::NotFound => Ok(Kind::Other),
+        Ok(found) if found.is_file() => Ok(EntryKind::File),
+        Ok(_) => Ok(EntryKind::Other),
+        Err(error) if error.kind() == ErrorKind::NotFound => Ok(EntryKind::Other),
         Err(error) => Err(error),
     }
 }

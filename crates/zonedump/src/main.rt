@@ -9,6 +9,7 @@ mod folders;
 mod guesses;
 mod moments;
 mod output;
+mod record;
 mod source;
 mod summary;
 mod times;
@@ -16,13 +17,14 @@ mod words;
 
 use arguments::Fault;
 use clap::ArgMatches;
+use clap::error::ErrorKind as Rejection;
 use compared::{Compared, TWO};
-use output::{Asked, What, write_out};
-use source::{Source, say};
+use output::{Asked, What, print, write_out};
+use source::Source;
 use std::fmt::Write;
 use std::io::{self, ErrorKind};
 use std::process::ExitCode;
-use words::OneLine;
+use words::{OneLine, say};
 
 // The status of a run that printed everything, of one that did not, and of wrong arguments.
 const DONE: u8 = 0;
@@ -56,21 +58,40 @@ fn explain(rt: &HostRuntime, error: &clap::Error) -> io::Result<u8> {
     let mut text = String::new(rt.alloc());
     write!(text, "{error}")?;
     for line in text.lines() {
-        let line = OneLine(line);
+        let line = OneLine(mended(line, error.kind()));
         if error.use_stderr() {
             let _ = eprintln!(rt; "{line}");
         } else {
             println!(rt; "{line}")?;
         }
     }
+    if let Rejection::DisplayVersion = error.kind()
+        && let Some(record) = record::of_release(rt)?
+    {
+        print(rt, record.as_slice())?;
+    }
     Ok(error.exit_code() as u8)
+}
+
+// A line of the parser's words, or what a user of zonedump can type in its place.
+fn mended(line: &str, kind: Rejection) -> &str {
+    if line.starts_with("  tip: to pass ") {
+        return "  tip: --zdump prints what zdump -v prints; --from and --to take the years";
+    }
+    if !line.starts_with("For more information") {
+        return line;
+    }
+    match kind {
+        Rejection::ArgumentConflict => "Leave out one of them; --help has examples.",
+        _ => "--help has examples.",
+    }
 }
 
 fn answer(rt: &HostRuntime, matches: &ArgMatches<'_>) -> io::Result<u8> {
     let words = matches.get_strs("ZONE").unwrap_or(&[]);
     match arguments::asked_of(matches, words.len()) {
         Err(fault) => Ok(refuse(rt, fault)),
-        Ok(asked) if matches.get_flag("diff") => compare(rt, matches, words, asked),
+        Ok(asked) if matches.get_flag("diff") => compare_two(rt, matches, words, asked),
         Ok(asked) => write_zones(rt, matches, words, asked),
     }
 }
@@ -82,7 +103,7 @@ fn refuse<T: std::fmt::Display + Drop>(rt: &HostRuntime, why: T) -> u8 {
 }
 
 // Prints the differences of two files or folders.
-fn compare(
+fn compare_two(
     rt: &HostRuntime,
     matches: &ArgMatches<'_>,
     words: &[&str],

@@ -2,8 +2,8 @@
 
 use crate::answers::{When, push_answer};
 use crate::files;
-use crate::source::{NOT_UTF8, STANDARD, Source};
-use crate::words::{is_utf8, report, shown};
+use crate::source::{STANDARD, Source};
+use crate::words::{NOT_UTF8, is_utf8, report, shown};
 use naive_base::{Datelike, NaiveDateTime};
 use std::fmt::Write;
 use std::io;

@@ -1,16 +1,16 @@
 //! What a zone is read from: a file, a zone of the tz database, standard input, or a TZ string.
 
-use crate::guesses;
-use crate::words::{OneLine, is_utf8, report, shown};
+use crate::words::{NOT_UTF8, OneLine, is_utf8, report, shown};
+use crate::{folders, guesses};
 use std::alloc::Global;
 use std::fmt::Write;
+use std::fs;
 use std::io::{self, ErrorKind};
-use std::{fmt, fs};
-use tz_info::{Error, TimeZone};
+use tz_info::{Error, TimeZone, TransitionRule};
 use zoned_files::ReadError;
 
-/// Why a file of that name can't be opened.
-pub const NOT_UTF8: &str = "the name is not UTF-8";
+// Why a folder is no zone.
+const FOLDER: &str = "a folder; name a file in it, or compare two with zonedump --diff OLD NEW";
 
 /// The word that means standard input, or standard output.
 pub const STANDARD: &str = "-";
@@ -48,11 +48,12 @@ impl<'a> Source<'a> {
                 Ok(None)
             }
             Source::Text(text) => {
-                zone_of_text(rt, text, TimeZone::from_posix_tz(rt.alloc(), text))
+                let zone = TimeZone::from_posix_tz(rt.alloc(), text);
+                zone_of_text(rt, text, false, zone)
             }
             Source::Extended(text) => {
                 let zone = TimeZone::from_extended_tz(rt.alloc(), text.as_bytes());
-                zone_of_text(rt, text, zone)
+                zone_of_text(rt, text, true, zone)
             }
         }
     }
@@ -61,16 +62,54 @@ impl<'a> Source<'a> {
 fn zone_of_text(
     rt: &HostRuntime,
     text: &str,
+    extended: bool,
     read: Result<TimeZone, Error>,
 ) -> io::Result<Option<TimeZone>> {
     match read {
         Ok(zone) => Ok(Some(zone)),
         Err(fault) => {
             reject(rt, text, "TZ string", &fault);
-            guesses::hint_at_name(rt, text)?;
+            let tz_string = if extended { text } else { text.trim_ascii() };
+            if let Some(position) = fault_position(tz_string, extended) {
+                point_at_fault(rt, tz_string, position)?;
+            }
+            guesses::hint_for(rt, text, &fault)?;
             Ok(None)
         }
     }
+}
+
+// Where a TZ string can't be read; `None` if it can.
+fn fault_position(tz_string: &str, extended: bool) -> Option<usize> {
+    match TransitionRule::parse_tz_string(tz_string.as_bytes(), extended) {
+        Ok(_) => None,
+        Err(error) => error.position,
+    }
+}
+
+// Prints a TZ string, and a caret below the first byte that can't be read, with where that is.
+fn point_at_fault(rt: &HostRuntime, text: &str, position: usize) -> io::Result<()> {
+    let line = printed(rt.alloc(), text)?;
+    let front = printed(rt.alloc(), text_before(text, position))?;
+    let column = front.chars().count();
+    let _ = eprintln!(rt; "  {line}");
+    let _ = eprintln!(rt; "  {:column$}^ at offset {position}", "");
+    Ok(())
+}
+
+// The characters that begin in front of that byte.
+fn text_before(text: &str, position: usize) -> &str {
+    match text.split_at_checked(position) {
+        Some((front, _)) => front,
+        None => text,
+    }
+}
+
+// The text as it is printed, on one line.
+fn printed(alloc: Global, text: &str) -> io::Result<String> {
+    let mut line = String::new(alloc);
+    write!(line, "{}", OneLine(text))?;
+    Ok(line)
 }
 
 /// Returns the zone of a file, or of the name of a zone. `None` if it can't be read, which is
@@ -106,6 +145,10 @@ fn bytes_of(rt: &HostRuntime, word: &str, folders: &[String]) -> io::Result<Opti
         return Ok(bytes_or_report(rt, word, zoned_files::read_all(rt.alloc(), rt.stdin())));
     }
     match path_of(rt, word, folders)? {
+        Some(path) if folders::is_folder(rt, path.as_str()) => {
+            report(rt, word, FOLDER);
+            Ok(None)
+        }
         Some(path) => Ok(bytes_or_report(rt, word, zoned_files::read_limited(rt, path.as_str()))),
         None => {
             guesses::report_unknown(rt, word, folders)?;
@@ -158,20 +201,4 @@ fn reject(rt: &HostRuntime, name: &str, kind: &str, fault: &Error) {
     let number = fault.number();
     let name = shown(name);
     let _ = eprintln!(rt; "zonedump: {name}: not a {kind}: {fault} ({number})");
-}
-
-/// Says why nothing is done, on a line of its own.
-pub fn say<T: fmt::Display + Drop>(rt: &HostRuntime, why: T) {
-    let _ = eprintln!(rt; "zonedump: {why}");
-}
-
-/// The text of a name in a sentence: at most 64 characters of it, on one line.
-pub fn quoted(alloc: Global, name: &str) -> io::Result<String> {
-    let mut text = String::new(alloc);
-    for letter in name.chars().take(64) {
-        text.push(letter)?;
-    }
-    let mut line = String::new(alloc);
-    write!(line, "{}", OneLine(text.as_str()))?;
-    Ok(line)
 }

@@ -27,7 +27,7 @@ struct Group {
 
 // Differences with the same types before and after.
 #[derive(Clone, Copy)]
-struct Kind {
+struct Repeated {
     first: Difference,
     more: u64,
 }
@@ -87,7 +87,7 @@ impl Summary {
         Ok(self.groups.push(Group { names, found })?)
     }
 
-    /// Returns the summary as lines: for each group the names of its zones and a line for each kind of
+    /// Returns the summary as lines: for each group the names of its zones and a line for the
     /// difference; the zones that only one folder has; and the counts.
     ///
     /// # Errors
@@ -100,7 +100,7 @@ impl Summary {
             count = count.saturating_add(group.names.len() as u64);
             push_names(&mut out, group.names.as_slice())?;
             out.push('\n')?;
-            push_kinds(&mut out, alloc, group.found.as_slice())?;
+            push_repeated(&mut out, alloc, group.found.as_slice())?;
         }
         push_lone(&mut out, old, self.old.as_slice())?;
         push_lone(&mut out, new, self.new.as_slice())?;
@@ -136,48 +136,48 @@ fn push_lone(out: &mut String, folder: &str, names: &[String]) -> Result<(), All
     out.push('\n')
 }
 
-// A line for each kind of difference, with its first stretch and how many more there are.
-fn push_kinds(out: &mut String, alloc: Global, found: &[Difference]) -> Result<(), AllocError> {
-    let kinds = kinds_of(alloc, found)?;
-    for kind in kinds.iter() {
-        write!(out, "  {}", KindText(kind))?;
-        if kind.more > 0 {
-            write!(out, ", and {} more", kind.more)?;
+// A line for the differences with the same types: the first stretch, and how many more there are.
+fn push_repeated(out: &mut String, alloc: Global, found: &[Difference]) -> Result<(), AllocError> {
+    let all = repeated_in(alloc, found)?;
+    for repeated in all.iter() {
+        write!(out, "  {}", RepeatedText(repeated))?;
+        if repeated.more > 0 {
+            write!(out, ", and {} more", repeated.more)?;
         }
         out.push('\n')?;
     }
     Ok(())
 }
 
-fn kinds_of(alloc: Global, found: &[Difference]) -> Result<Vec<Kind>, AllocError> {
-    let mut kinds = Vec::new(alloc);
+fn repeated_in(alloc: Global, found: &[Difference]) -> Result<Vec<Repeated>, AllocError> {
+    let mut all = Vec::new(alloc);
     for one in found {
-        if !count_if_known(&mut kinds, one) {
-            kinds.push(Kind {
+        if !count_if_known(&mut all, one) {
+            all.push(Repeated {
                 first: *one,
                 more: 0,
             })?;
         }
     }
-    Ok(kinds)
+    Ok(all)
 }
 
-// Counts a difference of a kind that is known, or returns `false`.
-fn count_if_known(kinds: &mut Vec<Kind>, one: &Difference) -> bool {
-    for kind in kinds.iter_mut() {
-        if kind.first.old == one.old && kind.first.new == one.new {
-            kind.more = kind.more.saturating_add(1);
+// Counts a difference whose types are known, or returns `false`.
+fn count_if_known(known: &mut Vec<Repeated>, one: &Difference) -> bool {
+    for repeated in known.iter_mut() {
+        if repeated.first.old == one.old && repeated.first.new == one.new {
+            repeated.more = repeated.more.saturating_add(1);
             return true;
         }
     }
     false
 }
 
-// The first stretch of a kind, and what changes there.
+// The first stretch of those differences, and what changes there.
 #[derive(Clone, Copy)]
-struct KindText<'a>(&'a Kind);
+struct RepeatedText<'a>(&'a Repeated);
 
-impl fmt::Display for KindText<'_> {
+impl fmt::Display for RepeatedText<'_> {
     fn fmt<W: fmt::Write>(&self, f: &mut fmt::Formatter<W>) -> fmt::Result {
         let first = &self.0.first;
         let from = Clock(first.from as i128);

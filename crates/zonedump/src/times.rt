@@ -3,8 +3,8 @@
 use crate::answers::instant_of;
 use crate::compared::{DIFFERENT, EQUAL, ERROR, print_part};
 use crate::moments::{Typed, read_time};
-use crate::source::{STANDARD, say, zone_of_file};
-use crate::words::{OneLine, report, shown};
+use crate::source::{STANDARD, zone_of_file};
+use crate::words::{OneLine, report, say, shown};
 use naive_base::NaiveDateTime;
 use offset_core::Around;
 use std::fmt::Write;

@@ -1,4 +1,4 @@
-//! The words of a call, of which some may not be UTF-8, and names as they are printed.
+//! The words of a call, of which some may not be UTF-8; names as they are printed, and what is said on standard error.
 
 use std::env::{Env, FillError};
 use std::fmt::Write;
@@ -49,6 +49,9 @@ pub fn word(rt: &HostRuntime, bytes: &[u8]) -> io::Result<String> {
     Ok(word)
 }
 
+/// Why a file of that name can't be opened.
+pub const NOT_UTF8: &str = "the name is not UTF-8";
+
 /// Whether the bytes of a word were UTF-8.
 pub fn is_utf8(word: &str) -> bool {
     !word.ends_with(MARK)
@@ -96,4 +99,22 @@ fn is_printed(letter: char) -> bool {
 pub fn report<T: fmt::Display + Drop>(rt: &HostRuntime, name: &str, why: T) {
     let name = shown(name);
     let _ = eprintln!(rt; "zonedump: {name}: {why}");
+}
+
+/// Says why nothing is done, on a line of its own.
+pub fn say<T: fmt::Display + Drop>(rt: &HostRuntime, why: T) {
+    let _ = eprintln!(rt; "zonedump: {why}");
+}
+
+/// A name in a sentence: at most 64 characters of it, on one line.
+#[derive(Clone, Copy)]
+pub struct Quoted<'a>(pub &'a str);
+
+impl fmt::Display for Quoted<'_> {
+    fn fmt<W: fmt::Write>(&self, f: &mut fmt::Formatter<W>) -> fmt::Result {
+        for letter in self.0.chars().take(64) {
+            put_letter(f, letter)?;
+        }
+        Ok(())
+    }
 }

@@ -5,7 +5,7 @@ use Rattle.naive_base.specs.Range.{first_second, last_second}
 use Rattle.naive_base.specs.Stamp.{of_secs}
 use Rattle.naive_base.specs.Text.{reading_text}
 
--- the date and the time of so many seconds after 1970-01-01 00:00:00, or the seconds where the calendar's range ends
+-- the date and the time of that many seconds after 1970-01-01 00:00:00, or the seconds if the calendar's range doesn't have them
 abbrev pub is_shown : ℤ → Bool
 is_shown s = int_le first_second s && int_le s last_second
 

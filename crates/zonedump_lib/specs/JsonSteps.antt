@@ -3,7 +3,7 @@ use Rattle.std.specs.Prelude.{◌≡◌, List, ◌++◌, OnOk, Result}
 use Rattle.json.specs.Token.{Token}
 use Rattle.json.specs.Written.{Written}
 
--- those tokens are appended, and what stood before stays
+-- those tokens are appended, and what was before stays
 pub record Puts {E : Type 0} (r : Result (Unit {0}) E) (old new : Written) (ts : List Token) : Type 0 where
   pub tokens : OnOk r (new.tokens ≡ old.tokens ++ ts)
   pub before : OnOk r (new.before ≡ old.before)

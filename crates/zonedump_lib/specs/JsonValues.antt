@@ -38,7 +38,7 @@ rule_value (Some (rules.Alternate a)) =
     ((codes "std", type_value a.std) ∷ (codes "dst", type_value a.dst) ∷ (codes "start", moment_value a.start)
     ∷ (codes "end", moment_value a.end) ∷ [])
 
--- a leap second: the leap time from which on its correction stands, and the correction
+-- a leap second: the leap time from which its correction holds, and the correction
 abbrev pub leap_value : LeapSecond → Json
 leap_value e = fields ((codes "leap_time", number (signed_decimal e.unix_leap_time)) ∷ (codes "correction", number (signed_decimal e.correction)) ∷ [])
 

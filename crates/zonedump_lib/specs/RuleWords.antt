@@ -1,4 +1,4 @@
--- How a rule is told.
+-- A rule in words.
 use Rattle.std.specs.Prelude.{ℕ, ◌==◌, ℤ, pos, List, ◌++◌, Option, Some, None, codes, decimal, int_lt, int_le, ◌&&◌, unsigned_abs, if◌then◌else◌}
 use Rattle.std.specs.Fmt.{signed_decimal}
 use Rattle.naive_base.specs.Text.{time_text}
@@ -10,7 +10,7 @@ use Rattle.tz_info.specs.declared.rule.transition_rule.TransitionRule.{Transitio
 use Rattle.tz_info.specs.declared.rule.transition_rule.TransitionRule.TheVariants as rules
 use Rattle.zonedump_lib.specs.Words.{type_words}
 
--- a week of a month, where the fifth has the last such weekday
+-- a week of a month, if the fifth has the last such weekday
 unfoldable pub week_words : ℕ → List ℕ
 week_words week =
     if week == 1 then codes "first" else if week == 2 then codes "second" else if week == 3 then codes "third"

@@ -1,4 +1,4 @@
--- What a table tells of a zone in some years: a head, and a line for each change of its clocks.
+-- The table of a zone in some years: a head, and a line for each change of its clocks.
 use Rattle.std.specs.Prelude.{◌≡◌, ℕ, ℤ, List, ◌++◌, codes, decimal, length}
 use Rattle.std.specs.Fmt.{signed_decimal}
 use Rattle.std.specs.List.{flat_map}

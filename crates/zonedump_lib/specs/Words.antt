@@ -1,4 +1,4 @@
--- How a type of local time and a step of the clocks are told.
+-- A type of local time and a step of the clocks in words.
 use Rattle.std.specs.Prelude.{ℤ, pos, neg_ℤ, ℕ, List, ◌++◌, Bool, true, false, Option, Some, None, codes, decimal, int_lt, ◌&&◌, unsigned_abs, if◌then◌else◌}
 use Rattle.std.specs.Fmt.{signed_decimal}
 use Rattle.offset_core.specs.Offset.{offset_text}
@@ -14,7 +14,7 @@ abbrev pub mark_words : Bool → List ℕ
 mark_words true = codes "dst"
 mark_words false = codes "std"
 
--- a name, or `-` where there is none
+-- a name, or `-` for no name
 abbrev pub name_words : Option (List ℕ) → List ℕ
 name_words None = codes "-"
 name_words (Some name) = name
@@ -23,7 +23,7 @@ name_words (Some name) = name
 abbrev pub type_words : LocalType → List ℕ
 type_words t = offset_words t.offset ++ codes " " ++ mark_words t.dst ++ codes " " ++ name_words t.name
 
--- clocks that are set forward by so many seconds skip as many, which is a gap; clocks that are set back repeat them, which
+-- clocks that are set forward by that many seconds skip as many, which is a gap; clocks that are set back repeat them, which
 -- is a fold
 unfoldable pub step_words : ℤ → List ℕ
 step_words step =

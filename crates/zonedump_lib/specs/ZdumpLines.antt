@@ -35,7 +35,7 @@ short_day day = if nat_lt day 10 then codes " " ++ decimal day else decimal day
 abbrev pub zdump_day_text : ℤ → List ℕ
 zdump_day_text day = short_weekday (weekday_of day) ++ codes " " ++ short_month (month_of day) ++ codes " " ++ short_day (day_of_month day)
 
--- a reading, as asctime of the C library has it: `Sun Apr  3 07:00:00 2005`
+-- a local date-time, as asctime of the C library has it: `Sun Apr  3 07:00:00 2005`
 abbrev pub asctime_text : Reading → List ℕ
 asctime_text r = zdump_day_text (day_at r) ++ codes " " ++ time_text (second_at r) r.f ++ codes " " ++ signed_decimal (year_of (day_at r))
 

@@ -30,7 +30,7 @@ impl fmt::Display for Clock {
     }
 }
 
-// The reading of a second, if it is in the calendar's range.
+// The local date-time of a second, if it is in the calendar's range.
 fn reading_at(second: i128) -> Option<NaiveDateTime>
     ensures { MatchOption result (is_shown second ≡ false)
         (λ shown. (is_shown second ≡ true)

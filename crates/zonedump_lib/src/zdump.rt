@@ -141,7 +141,7 @@ impl fmt::Display for ClocksText {
     }
 }
 
-// A reading, as asctime of the C library has it.
+// A local date-time, as asctime of the C library has it.
 #[derive(Clone, Copy)]
 struct Asctime(NaiveDateTime);
 
@@ -156,7 +156,7 @@ impl fmt::Display for Asctime {
     }
 }
 
-// The date of a reading, but its year.
+// The date of a local date-time, but its year.
 #[derive(Clone, Copy)]
 struct DayText(NaiveDateTime);
 

@@ -6,7 +6,7 @@ use Rattle.zonedump_lib.specs.Words.{type_words}
 use Rattle.zonedump_lib.specs.declared.change_lines.Side.{Side}
 use Rattle.zonedump_lib.specs.declared.change_lines.SidesText.{SidesText}
 
--- the reading, and the type
+-- the local date-time, and the type
 abbrev pub side_of : Side → List ℕ
 side_of side = reading_text 32 (reading side.0) ++ codes " " ++ type_words side.1.now
 
