@@ -1,21 +1,28 @@
 """What pyproject.toml can't say: a wheel has the library, and is for the machines that run it."""
 
+import os
 import re
 import shutil
+import subprocess
 import sys
 from pathlib import Path
 
-from setuptools import Distribution, setup
-from wheel.bdist_wheel import bdist_wheel
+import setuptools
+
+try:
+    from setuptools.command.bdist_wheel import bdist_wheel
+except ImportError:  # setuptools before 70.1
+    from wheel.bdist_wheel import bdist_wheel
 
 HERE = Path(__file__).resolve().parent
 LIBRARY = HERE / "src/sahvumbi/libzoned_ffi.so"
 MACHINE = "x86_64"
 # The newest C library that manylinux2014 may need (PEP 599).
 GLIBC = 2, 17
+LICENSE = "MIT OR Apache-2.0"
 
 
-class ForThisMachine(Distribution):
+class ForThisMachine(setuptools.Distribution):
     """The package has no module to compile, and yet is no package for every machine."""
 
     def has_ext_modules(self):
@@ -27,11 +34,27 @@ class ForEachPython(bdist_wheel):
 
     def run(self):
         if not LIBRARY.exists():
-            sys.exit(f"{LIBRARY} is missing. The README beside setup.py says how it is built.")
+            shutil.copyfile(installed_library(), LIBRARY)
         super().run()
 
     def get_tag(self):
         return "py3", "none", f"{family()}_{MACHINE}"
+
+
+def installed_library():
+    """Returns libzoned.so as it is installed on this machine. An sdist has no library of its own."""
+    named = os.environ.get("ZONED_LIBRARY")
+    if named:
+        return Path(named)
+    asked = ["pkg-config", "--variable=libdir", "zoned"]
+    try:
+        folder = subprocess.run(asked, capture_output=True, text=True, check=True).stdout.strip()
+    except (OSError, subprocess.CalledProcessError):
+        folder = "/usr/local/lib"
+    found = Path(folder, "libzoned.so")
+    if not found.exists():
+        sys.exit(f"neither {LIBRARY} nor {found} exists: ZONED_LIBRARY names libzoned.so, which README says how to build")
+    return found
 
 
 def family():
@@ -41,7 +64,13 @@ def family():
     return "manylinux2014" if newest <= GLIBC else "linux"
 
 
+def license_of():
+    """Returns the licence by the keyword of this setuptools: that of PEP 639 came with 77."""
+    is_new = int(setuptools.__version__.partition(".")[0]) >= 77
+    return {"license_expression" if is_new else "license": LICENSE}
+
+
 for name in ("LICENSE", "LICENSE-APACHE"):
     if (HERE.parent / name).exists():
         shutil.copyfile(HERE.parent / name, HERE / name)
-setup(distclass=ForThisMachine, cmdclass={"bdist_wheel": ForEachPython})
+setuptools.setup(distclass=ForThisMachine, cmdclass={"bdist_wheel": ForEachPython}, **license_of())

@@ -17,7 +17,7 @@
 # - examples/at_scale.py on 100,000 rows, with one of its workers ended midway.
 set -euo pipefail
 cd "$(dirname "$0")/.."
-PACKAGES=(gcc binutils libc6-dev tzdata python3 python3-venv python3-pip python3-setuptools python3-wheel
+PACKAGES=(gcc binutils libc6-dev tzdata python3 python3-venv python3-pip python3-setuptools python3-wheel python3-cffi
   python3-numpy python3-pandas python3-pytest python3-hypothesis python3-dask python3-distributed mypy)
 ARCHIVE=crates/zoned_ffi/out/libzoned_ffi.a
 
@@ -89,7 +89,7 @@ case $where in
 esac
 python -m pytest -q -p no:cacheprovider python/tests
 python -m pytest -q -p no:cacheprovider --doctest-modules --pyargs sahvumbi
-(cd python && quietly /usr/bin/mypy --cache-dir "$room/mypy")
-(cd python && quietly /usr/bin/mypy --cache-dir "$room/mypy" tests/typed.py)
+(cd python && quietly /usr/bin/mypy --python-version 3.9 --cache-dir "$room/mypy")
+(cd python && quietly /usr/bin/mypy --python-version 3.9 --cache-dir "$room/mypy" tests/typed.py)
 timeout 600 "$room/venv/bin/python" examples/at_scale.py --rows 100000 --partition 5000 \
   --workers 1,2 --kill --folder "$room/at_scale" </dev/null || fail 'examples/at_scale.py failed'

@@ -1,9 +1,10 @@
 #!/usr/bin/env python3
 """Columns of time by this package and by pandas: time, memory and answers.
 
-usage: python/bench/side_by_side.py [--rows N] [--write]
+usage: python/bench/side_by_side.py [--rows N] [--write] [--part NAME ..]
 
-Prints the tables of docs/PYTHON.md, or with --write puts them there. It takes two minutes.
+Prints the tables of docs/PYTHON.md, or with --write puts them there. It takes three minutes. --part prints
+some of them: ratios, sizes, calls, memory, kinds; and arrow, which needs pyarrow.
 
 2,000,000 instants of the years 1970 to 2036, drawn evenly with a fixed seed, are asked for their
 local time: in no order, sorted, all of one day (2021-07-01), and all equal. The local times, moved
@@ -140,6 +141,67 @@ def ratios(rows):
         yield from table(["zone", *names], 4, lines)
 
 
+def sizes():
+    """pandas' time through ours for shorter columns: the least ratio of all orders, also with old dates among new ones."""
+    lines = []
+    for rows in (1_000, 10_000, 100_000):
+        cells = []
+        for local in (True, False):
+            found = {}
+            for name in ZONES:
+                zone = Zone(name)
+                for order, seconds in [*orders(rows), ("old among new", with_old_dates(rows))]:
+                    column = instants_of(seconds) if local else local_times_of(zone, seconds)
+                    ours = zone.to_local if local else lambda each: zone.localize(each, gap="nat", fold="nat")
+                    theirs = pandas_local if local else pandas_instants
+                    asks = [lambda: ours(column), lambda: theirs(column, name)]
+                    _, times = timed(asks, 5, calls=max(1, 50_000 // rows))
+                    found[times[1] / times[0]] = name, order
+            ratio = min(found)
+            cells += [f"{ratio:.1f} ({', '.join(found[ratio])})", f"{sorted(found)[len(found) // 2]:.1f}"]
+        lines.append(row(f"{rows:,}", *cells))
+    yield "### Shorter columns: pandas' time through ours\n"
+    yield "The least of six zones and five orders (as above, and one row in a thousand before 1970), and the median.\n"
+    yield from table(["rows", "to local times, least", "median", "to instants, least", "median"], 4, lines)
+
+
+def with_old_dates(rows):
+    """Instants of 1970 to 2036 in no order, and one in a thousand of 1850 to 1969."""
+    seconds = years(1970, 2037, rows, 1)
+    seconds[::1_000] = years(1850, 1970, seconds[::1_000].size, 4)
+    return seconds
+
+
+def arrow(rows):
+    """Columns of microseconds, as Arrow has them, by pandas, by pyarrow and by this package."""
+    import pyarrow
+    import pyarrow.compute
+
+    zone, lines = Zone(ZONES[0]), []
+    for order, seconds in list(orders(rows))[:2]:
+        column = pyarrow.array(seconds * 10**6, pyarrow.timestamp("us", "UTC"))
+        there, series = column.cast(pyarrow.timestamp("us", zone.key)), column.to_pandas()
+        asks = [
+            lambda: zone.to_local(column),
+            lambda: pandas_local(series, zone.key),
+            lambda: pyarrow.compute.local_timestamp(there),
+        ]
+        _, times = timed(asks, 5)
+        lines.append(row("to local times", order, *(f"{1e9 * each / rows:.1f} ns" for each in times)))
+        local = zone.to_local(column)
+        naive = local.to_pandas()
+        choices = {"ambiguous_time": "earliest", "nonexistent_time": "earliest"}
+        asks = [
+            lambda: zone.localize(local, gap="shift", fold="earliest"),
+            lambda: pandas_instants(naive, zone.key),
+            lambda: pyarrow.compute.assume_timezone(local, zone.key, **choices),
+        ]
+        _, times = timed(asks, 3)
+        lines.append(row("to instants", order, *(f"{1e9 * each / rows:.1f} ns" for each in times)))
+    yield f"### Arrow: {zone.key}, microseconds\n"
+    yield from table(["question", "order", "here", "pandas", "pyarrow"], 3, lines)
+
+
 def calls():
     """Calls on one row."""
     zone, name = Zone(ZONES[0]), ZONES[0]
@@ -248,11 +310,20 @@ def main():
     parser = argparse.ArgumentParser(description=__doc__.split("\n")[0])
     parser.add_argument("--rows", type=int, default=2_000_000)
     parser.add_argument("--write", action="store_true", help="put the tables into docs/PYTHON.md")
+    parser.add_argument("--part", nargs="+", default=["ratios", "sizes", "calls", "memory", "kinds"])
     given = parser.parse_args()
     lines = [machine(given.rows)]
-    few = min(given.rows, 200_000)
-    for part in (ratios(given.rows), calls(), memory(given.rows), kinds(few)):
-        for line in part:
+    print(lines[0])
+    parts = {
+        "ratios": lambda: ratios(given.rows),
+        "sizes": sizes,
+        "calls": calls,
+        "memory": lambda: memory(given.rows),
+        "kinds": lambda: kinds(min(given.rows, 200_000)),
+        "arrow": lambda: arrow(given.rows),
+    }
+    for part in given.part:
+        for line in parts[part]():
             lines.append(line)
             print(line, flush=True)
     if given.write:

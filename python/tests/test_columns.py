@@ -280,7 +280,8 @@ def test_an_error_tells_its_row(row, value, kind, number):
         np.datetime64(value, "s"),
         number,
     )
-    assert str(raised.value) == f"row {row}: {value}:00: {raised.value.words} ({number})"
+    said = f"zone.localize: row {row}: {value}:00: {raised.value.words} ({number}); "
+    assert str(raised.value).startswith(said)
 
 
 def test_an_error_of_int64_tells_its_number():
@@ -499,7 +500,7 @@ def test_a_shift_out_of_range():
     zone = Zone.from_bytes(Lists([(last, 1)], [-100, -40]).file())
     assert zone.explain([last - 100, last - 60]).shown.tolist() == [0, 0]
     assert zone.localize([last - 100], gap="shift").tolist() == [last]
-    with pytest.raises(sahvumbi.OutOfRangeError, match="the instant is out of range") as raised:
+    with pytest.raises(sahvumbi.OutOfRangeError, match="the local time or its instant is out of range") as raised:
         zone.localize([0, last - 100, last - 60, last - 61], gap="shift")
     assert (raised.value.row, raised.value.value, raised.value.number) == (2, last - 60, 23)
 

@@ -12,6 +12,7 @@ from hypothesis import strategies as st
 
 import sahvumbi
 from sahvumbi import Zone
+from sahvumbi._door import FEW
 
 NEW_YORK = Zone("America/New_York")
 # Zones that change by quarters of an hour, so that a look at each of those is enough.
@@ -53,6 +54,27 @@ def test_start_and_end_of_day(lists, dates, time):
     else:
         seconds = zone.end_of_day([DAY * each for each in dates])
         assert seconds.tolist() == [until - 1 for until in untils]
+
+
+@st.composite
+def hasty_zones(draw):
+    """Zones whose clocks are changed several times in a day."""
+    offsets = [QUARTER * each for each in draw(st.lists(st.integers(-GREATEST, GREATEST), min_size=2, max_size=4))]
+    quarters = sorted(draw(st.sets(st.integers(-20, 20), min_size=2, max_size=8)))
+    return Lists([(QUARTER * each, draw(st.integers(0, len(offsets) - 1))) for each in quarters], offsets)
+
+
+@settings(max_examples=100)
+@given(hasty_zones())
+def test_many_local_times_are_asked_together(lists):
+    """Some lie near changes, and some as far as days after them."""
+    window = range(-200 * QUARTER, 500 * QUARTER, QUARTER)
+    local = np.arange(-90 * QUARTER, 400 * QUARTER, 5 * QUARTER)
+    assert local.size > FEW
+    found = Zone.from_bytes(lists.file())._door.first_at_or_after(local)
+    assert found["instant"].tolist() == [lists.first_at_or_after(each, window) for each in local.tolist()]
+    assert (found["number"] == 0).all()
+    assert found["offset"].tolist() == [lists.offset(each) for each in found["instant"].tolist()]
 
 
 @settings(max_examples=200)
@@ -255,9 +277,9 @@ def test_errors():
         NEW_YORK.end_of_day(nanoseconds[1:])
     assert raised.value.row == 0
     assert str(NEW_YORK.floor(nanoseconds[1:], "h")[0]) == "2262-04-11T23:00:00.000000000"
-    lengths = timedelta(hours=7), timedelta(milliseconds=500), timedelta(0), timedelta(days=2)
-    for step in ("", "7h", "2D", "0h", "h1", "25min", "1.5h", *lengths):
-        with pytest.raises(ValueError, match="step is a day"):
+    lengths = timedelta(hours=7), timedelta(milliseconds=700), timedelta(0), timedelta(-1)
+    for step in ("", "7h", "0h", "h1", "25min", "1.5h", *lengths):
+        with pytest.raises(ValueError, match="step is a number of days"):
             NEW_YORK.floor([0], step)
     with pytest.raises(TypeError, match="step is 'D'"):
         NEW_YORK.floor([0], 3_600)

@@ -51,14 +51,14 @@ def test_each_kind_of_failure():
     assert failures.label.tolist() == ["a", "b", "d", "f"]
     frame = failures.to_frame()
     assert frame.index.tolist() == ["a", "b", "d", "f"] and frame["row"].tolist() == [0, 1, 3, 5]
-    assert frame["words"]["b"] == "no clock of the zone shows that time"
+    assert frame["words"]["b"] == "the local time lies in a gap"
     answers, failures = NEW_YORK.localize(series, fold=[0] * 6, gap="shift", errors="collect")
     assert failures.row.tolist() == [0, 5]
     far = np.array([0, 10**12, -(10**12)], "M8[D]")
     answers, failures = NEW_YORK.localize(far, errors="collect")
     assert failures.row.tolist() == [1, 2] and failures.number.tolist() == [23, 23]
     _, failures = NEW_YORK.localize(column(SUMMER, GAP), errors="collect")
-    assert failures.to_frame()["words"].tolist() == ["no clock of the zone shows that time"]
+    assert failures.to_frame()["words"].tolist() == ["the local time lies in a gap"]
     answer, failures = NEW_YORK.localize(pd.Timestamp(GAP), errors="collect")
     assert answer is pd.NaT and failures.number.tolist() == [21]
     index, failures = NEW_YORK.localize(pd.DatetimeIndex(values), errors="collect")

@@ -29,8 +29,8 @@ def test_each_zone_is_closed_once(monkeypatch):
             opened.append(handle._obj.zone)
             return number
 
-    LIBRARY = _door._LIBRARY
-    monkeypatch.setattr(_door, "_LIBRARY", Library())
+    LIBRARY = _door.LIBRARY
+    monkeypatch.setattr(_door, "LIBRARY", Library())
     close = _door._Handle.__del__
     monkeypatch.setattr(_door._Handle, "__del__", lambda self: (closed.append(self.zone), close(self)))
     zone = Zone("America/New_York")

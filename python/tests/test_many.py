@@ -62,6 +62,22 @@ def test_choices_of_mixed_zones():
     assert (answers[:2] == answers[2:]).all() and answers[1] > answers[0]
 
 
+def test_categories():
+    """Codes of a Categorical are taken as they are: in any order, with categories that no row has."""
+    names = pd.Series(["b", "a", "b", "a"], dtype=pd.CategoricalDtype(["unused", "b", "a"]), index=list("wxyz"))
+    zones = {"a": Zone("America/New_York"), "b": Zone("Asia/Kolkata")}
+    seconds = pd.Series([0, 0, 1, 1], index=names.index)
+    want = [19_800, -18_000, 19_801, -17_999]
+    for keys in (names, pd.Categorical(names), pd.CategoricalIndex(names), names.astype(str)):
+        assert to_local_many(zones, keys, seconds).tolist() == want
+    with pytest.raises(ValueError, match="no key in row 1"):
+        to_local_many(zones, names.where([True, False, True, True]), seconds)
+    with pytest.raises(ValueError, match="no zone's code in row 0"):
+        to_local_many({"a": zones["a"]}, names, seconds)
+    with pytest.raises(ValueError, match="another index"):
+        to_local_many(zones, names[::-1], seconds)
+
+
 def test_the_first_row_is_told():
     values = pd.Series(np.array([SUMMER, FOLD, SUMMER, GAP, GAP], "M8[ns]"), index=list("abcde"))
     with pytest.raises(sahvumbi.FoldError) as raised:

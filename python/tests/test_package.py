@@ -1,5 +1,6 @@
 """What the package is: its version, its program, its library's processor, its types."""
 
+import os
 import re
 import shutil
 import subprocess
@@ -12,10 +13,10 @@ import numpy as np
 import pytest
 
 import sahvumbi
-from sahvumbi import _door
+from sahvumbi import _library
 
 PROJECT = Path(__file__).resolve().parents[1]
-FLAGS = "flags\t\t: fpu " + " ".join(sorted(_door.NEEDED))
+FLAGS = "flags\t\t: fpu " + " ".join(sorted(_library.NEEDED))
 
 
 def ask(*words, **given):
@@ -50,17 +51,17 @@ def test_the_program():
 
 
 def test_the_processor():
-    _door.must_run_here("x86_64", f"processor\t: 0\n{FLAGS}\n\nflags : fpu")
-    _door.must_run_here("x86_64", "")
+    _library.must_run_here("x86_64", f"processor\t: 0\n{FLAGS}\n\nflags : fpu")
+    _library.must_run_here("x86_64", "")
     with pytest.raises(ImportError, match="this one lacks sse4_2$"):
-        _door.must_run_here("x86_64", FLAGS.replace("sse4_2", "sse2"))
+        _library.must_run_here("x86_64", FLAGS.replace("sse4_2", "sse2"))
     with pytest.raises(ImportError, match="this is aarch64"):
-        _door.must_run_here("aarch64", "")
+        _library.must_run_here("aarch64", "")
 
 
-def test_the_import_needs_no_pandas():
+def test_the_import_needs_numpy_alone():
     words = "import sahvumbi, sys; sahvumbi.Zone('Asia/Tokyo').to_local([0]); "
-    words += "sys.exit('pandas' in sys.modules)"
+    words += "sys.exit(bool({'pandas', 'numpy.typing', 'pyarrow', 'cffi'} & set(sys.modules)))"
     subprocess.run([sys.executable, "-c", words], check=True)
 
 
@@ -94,7 +95,9 @@ def test_the_wheel(project):
     with zipfile.ZipFile(wheel) as files:
         names = files.namelist()
         metadata = files.read(next(name for name in names if name.endswith("METADATA"))).decode()
-    assert {"License: MIT OR Apache-2.0", "License-File: LICENSE"} <= set(metadata.splitlines())
+    assert {"License-File: LICENSE", "License-File: LICENSE-APACHE"} <= set(metadata.splitlines())
+    # setuptools 77 and later has the name of PEP 639.
+    assert re.search("^License(-Expression)?: MIT OR Apache-2.0$", metadata, re.MULTILINE)
     assert "\nAuthor: Sahvumbi maintainers\n" in metadata
     assert f"Version: {sahvumbi.__version__}" in metadata
     for name in ("sahvumbi/libzoned_ffi.so", "sahvumbi/py.typed", "sahvumbi/__main__.py"):
@@ -126,3 +129,19 @@ def test_the_sdist_has_no_library(project):
         names = {Path(name).name for name in files.getnames()}
     assert {"LICENSE", "LICENSE-APACHE", "README.md", "setup.py", "zone.py", "py.typed"} <= names
     assert not any(name.endswith(".so") for name in names)
+
+
+def test_the_sdist_takes_the_library_that_is_installed(project, tmp_path):
+    with tarfile.open(built(project, "sdist")) as files:
+        files.extractall(tmp_path)
+    (folder,) = tmp_path.iterdir()
+    command = [sys.executable, "setup.py", "-q", "bdist_wheel", "-d", str(tmp_path)]
+    given = {"cwd": folder, "capture_output": True, "text": True}
+    ran = subprocess.run(command, env={**os.environ, "ZONED_LIBRARY": "", "PATH": "/nowhere"}, **given)
+    if not Path("/usr/local/lib/libzoned.so").exists():
+        assert ran.returncode != 0 and "ZONED_LIBRARY names libzoned.so" in ran.stderr
+    library = project / "src/sahvumbi/libzoned_ffi.so"
+    ran = subprocess.run(command, env={**os.environ, "ZONED_LIBRARY": str(library)}, **given)
+    assert ran.returncode == 0, ran.stderr
+    with zipfile.ZipFile(next(tmp_path.glob("*.whl"))) as files:
+        assert files.read("sahvumbi/libzoned_ffi.so") == library.read_bytes()

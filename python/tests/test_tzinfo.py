@@ -2,7 +2,7 @@
 
 import copy
 import pickle
-from datetime import datetime, timedelta, timezone
+from datetime import datetime, time, timedelta, timezone
 from zoneinfo import ZoneInfo
 
 import pytest
@@ -56,6 +56,13 @@ def test_it_is_pickled_and_compared_by_its_zone():
     moment = datetime(2021, 7, 1, 12, tzinfo=new_york)
     assert pickle.loads(pickle.dumps(moment)) == moment
     assert str(new_york) == "America/New_York"
+
+
+def test_a_time_of_day_has_the_offset_of_a_zone_that_never_changes():
+    """As with zoneinfo."""
+    for name in ("UTC", "Etc/GMT+5", "America/New_York"):
+        ours, theirs = (time(12, tzinfo=zone) for zone in (Zone(name).tzinfo, ZoneInfo(name)))
+        assert (ours.utcoffset(), ours.tzname(), ours.dst()) == (theirs.utcoffset(), theirs.tzname(), theirs.dst())
 
 
 def test_none_has_no_offset():

@@ -1,13 +1,19 @@
 """Words of pandas, policies for gaps, fixed offsets and extended TZ strings, with values from outside."""
 
+import ast
+import inspect
+import pickle
+import re
 from datetime import datetime, timedelta, timezone
+from typing import get_args
 
 import numpy as np
 import pandas as pd
 import pytest
 
 import sahvumbi.pandas  # noqa: F401
-from sahvumbi import FoldError, GapError, Zone, ZoneRefusedError
+from sahvumbi import Comparison, FoldError, GapError, Zone, ZoneRefusedError, localize_many, moved
+from sahvumbi._types import FoldWord, Gap
 
 NEW_YORK = Zone("America/New_York")
 # On 2021-03-14 New York's clocks went from 02:00 to 03:00, on 2021-11-07 from 02:00 to 01:00 (zdump -v).
@@ -105,6 +111,68 @@ def test_tz_localize_as_pandas_has_it():
         local.sahvumbi.tz_localize("America/New_York", ambiguous="NaT")
     with pytest.raises(ValueError, match="nonexistent is one of"):
         local.sahvumbi.tz_localize("America/New_York", nonexistent="after")
+
+
+def test_flags_are_pandas_own():
+    """True is the first instant. In Dublin that is summer time, which is standard time in the tz database."""
+    local = pd.Series(pd.to_datetime(["2021-10-31 01:30"] * 2))
+    for flags in ([True, False], np.array([True, False]), pd.Series([True, False]), [1, 0]):
+        theirs = local.dt.tz_localize("Europe/Dublin", ambiguous=np.array([True, False]))
+        ours = local.sahvumbi.tz_localize("Europe/Dublin", ambiguous=flags)
+        assert in_utc(ours) == in_utc(theirs) == ["2021-10-31 00:30:00", "2021-10-31 01:30:00"]
+    assert in_utc(local.sahvumbi.tz_localize("Europe/Dublin", ambiguous=False)) == ["2021-10-31 01:30:00"] * 2
+    for wrong in (0.5, ["first", "last"], None):
+        with pytest.raises(TypeError, match="ambiguous is raise, NaT, infer, or flags"):
+            local.sahvumbi.tz_localize("Europe/Dublin", ambiguous=wrong)
+
+
+def test_errors_name_the_argument_to_change():
+    column = pd.Series(pd.to_datetime(["2021-07-01 12:00", "2021-03-14 02:30"]), index=["a", "b"])
+    with pytest.raises(GapError, match=r"^zone.localize: row 1 \(label 'b'\): 2021-03-14T02:30.*; gap= says what to return$"):
+        NEW_YORK.localize(column)
+    with pytest.raises(GapError, match=r"^tz_localize: row 1 .*; nonexistent= says what to return$"):
+        column.sahvumbi.tz_localize("America/New_York")
+    with pytest.raises(FoldError, match=r"^zone.localize: 2021-11-07T01:30:00.000000: .*; fold= says what to return$"):
+        NEW_YORK.localize(FOLD)
+    with pytest.raises(FoldError, match=r"and is_dst= does not say which it is \(22\)$"):
+        NEW_YORK.localize(np.array([FOLD], "M8[s]"), is_dst=pd.array([None], "boolean"))
+    with pytest.raises(GapError, match="^localize_many: row 0: "):
+        localize_many([NEW_YORK], [0], np.array([GAP], "M8[s]"))
+    error = pytest.raises(GapError, column.sahvumbi.tz_localize, "America/New_York").value
+    assert str(pickle.loads(pickle.dumps(error))) == str(error)
+    with pytest.raises(TypeError, match=r"Zone.floor\(\) takes no keyword argument 'ambiguous': a step begins at one instant"):
+        column.sahvumbi.floor("America/New_York", "h", ambiguous="NaT")
+
+
+def test_texts_and_periods_say_what_to_write():
+    periods = pd.Series(pd.period_range("2021-03-14", periods=2))
+    with pytest.raises(TypeError, match=r"period\[D\] is no column of time: dt.to_timestamp\(\) gives"):
+        NEW_YORK.localize(periods)
+    with pytest.raises(TypeError, match=r": to_timestamp\(\) gives"):
+        NEW_YORK.localize(pd.PeriodIndex(periods))
+    with pytest.raises(TypeError, match=r"to_timestamp\(\) gives the local time of its start"):
+        NEW_YORK.localize(periods[0])
+    for texts in (pd.Series(["2021-03-14"]), pd.Series(["2021-03-14"], dtype="string"), pd.Index(["2021-03-14"])):
+        with pytest.raises(TypeError, match="pandas.to_datetime"):
+            NEW_YORK.localize(texts)
+
+
+def test_help_has_the_words():
+    for call in (Zone.localize, localize_many, moved, Comparison.moved):
+        said = str(inspect.signature(call))
+        assert all(repr(word) in said.replace('"', "'") for word in (*get_args(Gap), *get_args(FoldWord))), call
+        gaps = re.search(r"gap: .*?Literal\[(.*?)\]", said)[1]
+        assert tuple(ast.literal_eval(f"({gaps})")) == get_args(Gap)
+
+
+def test_tables_in_a_notebook():
+    column = np.array([GAP, FOLD], "M8[s]")
+    failures = NEW_YORK.localize(column, errors="collect")[1]
+    changes = NEW_YORK.changes(np.datetime64("2021"), np.datetime64("2022"))
+    found = moved(Zone.from_text("EST5"), NEW_YORK, np.array(["2021-07-01"], "M8[s]"))
+    differences = Zone.from_text("EST5").differences(NEW_YORK, 1_609_459_200, 1_640_995_200)
+    for table in (failures, changes, found, differences):
+        assert table._repr_html_() == table.to_frame()._repr_html_() and "<table" in table._repr_html_()
 
 
 def test_tz_convert_normalize_and_round():

@@ -13,6 +13,7 @@ array(['2021-11-07T06:30:00.000'], dtype='datetime64[ms]')
 """
 
 from ._changes import Changes, Time
+from ._compare import Comparison, ZoneGroup, compare
 from ._days import Days
 from ._differences import Differences, Moved, moved
 from ._forms import Failures
@@ -34,6 +35,7 @@ from .zone import Zone
 
 __all__ = [
     "Changes",
+    "Comparison",
     "Days",
     "Differences",
     "Failures",
@@ -50,9 +52,11 @@ __all__ = [
     "WallClocks",
     "Zone",
     "ZoneError",
+    "ZoneGroup",
     "ZoneNotFoundError",
     "ZoneRefusedError",
     "__version__",
+    "compare",
     "localize_many",
     "moved",
     "to_local_many",

@@ -10,7 +10,7 @@ import zoneinfo
 import numpy as np
 
 from . import Zone, ZoneNotFoundError, ZoneRefusedError, __version__, zones
-from ._door import LIBRARY
+from ._library import PATH
 
 YEAR = 31_556_952
 
@@ -20,14 +20,14 @@ def about() -> str:
     folders = ", ".join(zoneinfo.TZPATH) or "no folder"
     return (
         f"sahvumbi {__version__}, numpy {np.__version__}, Python {sys.version.split()[0]}\n"
-        f"library: {LIBRARY}\n"
+        f"library: {PATH}\n"
         f"zones: {len(zones())}, of {folders} or the package tzdata"
     )
 
 
 def proof() -> str:
     """Returns the record of the proof: what was proved, by which kit. A wheel of a release has it."""
-    record = LIBRARY.with_name("proof.json")
+    record = PATH.with_name("proof.json")
     return record.read_text() if record.exists() else "no record: this isn't the wheel of a release"
 
 

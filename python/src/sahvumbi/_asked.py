@@ -7,20 +7,9 @@ from typing import Any, Optional
 import numpy as np
 
 from ._columns import GREATEST, Block, Column, extremes
-from ._door import (
-    END_OF_RULE,
-    FIRST_OF_RULE,
-    LEAST,
-    NEVER,
-    NO_OFFSET,
-    ONCE,
-    OUT_OF_RANGE,
-    REFUSE,
-    SEVERAL_TIMES,
-    SHIFT_FORWARD,
-    Door,
-)
+from ._door import END_OF_RULE, FIRST_OF_RULE, LEAST, Door
 from ._forms import NAT, Array
+from ._library import FOLD_REFUSE, GAP_SHIFT_FORWARD, NEVER, NO_OFFSET, ONCE, OUT_OF_RANGE, SEVERAL_TIMES
 from ._types import LocalTypes, Spans, WallClocks
 from .errors import NO_OFFSET as HAS_NO_OFFSET
 from .errors import NoOffsetError
@@ -67,35 +56,37 @@ def spans(door: Door, column: Column) -> Any:
     begin, end = np.empty(len(column), np.int64), np.empty(len(column), np.int64)
     for block in column.blocks():
         offsets_of(door, block)
-        found = _spans_of(door, block)
-        written.write(block, found["type"])
-        ends = (("from", LEAST, FIRST_OF_RULE, begin), ("until", GREATEST, END_OF_RULE, end))
+        found, places = _spans_of(door, block)
+        written.write(block, found["local_type"], places)
+        ends = (("from_", LEAST, FIRST_OF_RULE, begin), ("until", GREATEST, END_OF_RULE, end))
         for bound, none, far, instants in ends:
             is_none = found[bound] == none
             if column.per_second > 1:
                 is_none |= found[bound] == far
-            write_seconds(block, np.where(is_none, 0, found[bound]), instants)
-            instants[block.rows][is_none] = NAT if column.has_nat or column.is_time else none
+            write_seconds(block, np.where(is_none, 0, found[bound])[places], instants)
+            if is_none.any():
+                missing = NAT if column.has_nat or column.is_time else none
+                instants[block.rows][is_none[places]] = missing
     # Each array is let go before the next answer is made.
     begin = column.instants(begin)
     end = column.instants(end)
     return column.form.table(Spans(*written.columns(), begin, end))
 
 
-def _spans_of(door: Door, block: Block) -> Array:
-    """The span of each instant of a block, as `SPAN`."""
+def _spans_of(door: Door, block: Block) -> tuple[Array, Array]:
+    """The spans of a block's instants, as `SPAN`, and the place among them for each row."""
     first, last = extremes(block.seconds)
     found = [door.span(first)]
     while len(found) < MANY:
         until = int(found[-1]["until"][0])
         following = door.span(until) if until <= last else None
         # None begins at the greatest second, but for one case.
-        if following is None or following["from"][0] != until:
+        if following is None or following["from_"][0] != until:
             spans = np.concatenate(found)
-            return spans[np.searchsorted(spans["from"][1:], block.seconds, "right")]
+            return spans, np.searchsorted(spans["from_"][1:], block.seconds, "right")
         found.append(following)
-    seconds, rows = np.unique(block.seconds, return_inverse=True)
-    return np.concatenate([door.span(second) for second in seconds.tolist()])[rows]
+    seconds, places = np.unique(block.seconds, return_inverse=True)
+    return np.concatenate([door.span(int(second)) for second in seconds]), places
 
 
 class Types:
@@ -107,11 +98,18 @@ class Types:
         self.abbreviation = np.empty(len(column), column.form.text)
         self.is_nat = np.zeros(len(column), bool)
 
-    def write(self, block: Block, found: Array) -> None:
-        """Writes the rows of a block, of `LOCAL_TYPE`."""
+    def write(self, block: Block, found: Array, places: Optional[Array] = None) -> None:
+        """Writes the rows of a block, of `LOCAL_TYPE`: one for each row, or few of them, and the place among
+        them for each row."""
         rows = block.rows
-        self.offset[rows], self.is_dst[rows] = found["offset"], found["is_dst"] != 0
-        _write_texts(found["abbreviation"], self.abbreviation[rows])
+        offset, is_dst, words = found["offset"], found["is_dst"] != 0, found["abbreviation"]
+        if places is None:
+            self.offset[rows], self.is_dst[rows] = offset, is_dst
+            _write_texts(words, self.abbreviation[rows])
+        else:
+            texts = np.array([word.decode() for word in words], self.abbreviation.dtype)
+            self.offset[rows], self.is_dst[rows] = offset[places], is_dst[places]
+            self.abbreviation[rows] = texts[places]
         if block.is_nat is not None:
             self.is_nat[rows] = block.is_nat
 
@@ -165,7 +163,7 @@ def _explain_gaps(
     block = Block(skipped, 0)
     found, places = np.unique(block.seconds, return_inverse=True)
     end = door.first_at_or_after(found)[places]
-    shifted = door.resolved(SHIFT_FORWARD, REFUSE, found)[places]
+    shifted = door.resolved(GAP_SHIFT_FORWARD, FOLD_REFUSE, found)[places]
     instants = np.empty(rows.size, np.int64)
     instants[block.in_units(end["instant"], instants)] = NAT
     first[rows] = last[rows] = instants
@@ -174,6 +172,13 @@ def _explain_gaps(
 
 def offsets_of(door: Door, block: Block) -> Array:
     """Returns the offset at each instant of a block. Raises at a row that has none."""
+    if block.fits_calls():
+        # A column of local times takes a third of the time of one of offsets.
+        shown, per_second = np.empty(block.values.size, np.int64), block.column.per_second
+        if door.local_times(per_second, block.values, shown) is None:
+            np.subtract(shown, block.values, out=shown)
+            seconds: Array = shown if per_second == 1 else shown // per_second
+            return seconds.astype(np.int32)
     found = door.offsets(block.seconds)
     _must_have_offsets(block, found)
     return found

@@ -3,18 +3,18 @@
 from __future__ import annotations
 
 from datetime import datetime
-from typing import TYPE_CHECKING, Any, NamedTuple, Union
+from typing import TYPE_CHECKING, Any, NamedTuple, Optional, Union
 
 import numpy as np
-import numpy.typing as npt
 
 from ._columns import GREATEST, Column
 from ._door import Door
-from ._forms import NAT, Array, SeriesForm
+from ._forms import NAT, Array, SeriesForm, as_html
 from ._inputs import taken
 from .errors import OUT_OF_RANGE, OutOfRangeError
 
 if TYPE_CHECKING:
+    import numpy.typing as npt
     import pandas
 
 #: An end of a stretch: seconds since 1970-01-01 00:00:00 UTC, a datetime64 of any unit, a datetime
@@ -57,6 +57,9 @@ class Changes(NamedTuple):
         if self.at.dtype.kind == "M":
             frame["at"] = frame["at"].dt.tz_localize("UTC")
         return frame
+
+    def _repr_html_(self) -> Optional[str]:
+        return as_html(self)
 
 
 def of_stretch(door: Door, begin: Time, end: Time) -> Changes:

@@ -4,26 +4,29 @@ from __future__ import annotations
 
 import sys
 from datetime import tzinfo
-from typing import Any, NamedTuple, Optional
+from typing import Any, NamedTuple, Optional, get_args
 from zoneinfo import ZoneInfo
 
 import numpy as np
 
 from ._columns import Column
-from ._forms import NAT, Array, Failures, SeriesForm
+from ._forms import NAT, Array, Failures, IndexForm, SeriesForm
 from ._inputs import type_name
 from ._names import bytes_of_key, zoneinfo_of
 from ._opening import Zone
+from ._types import FoldWord, Gap
 from .errors import FOLD, GAP, OUT_OF_RANGE, FoldError, GapError, OutOfRangeError, printable
 
-GAPS = ("raise", "shift", "before", "after", "shift_back", "nat")
-FOLDS = ("raise", "earliest", "latest", "nat", "infer")
+GAPS: tuple[str, ...] = get_args(Gap)
+FOLDS: tuple[str, ...] = get_args(FoldWord)
 #: What pandas says for some of these words, and for the keywords.
 OF_PANDAS = {
     "gap": {"shift_forward": "after", "shift_backward": "before", "NaT": "nat"},
     "fold": {"NaT": "nat"},
 }
 KEYWORDS_OF_PANDAS = {"ambiguous": "fold", "nonexistent": "gap"}
+#: The calls whose answers need no choice.
+STEPS = ("floor", "ceil", "round")
 KINDS = {GAP: GapError, FOLD: FoldError, OUT_OF_RANGE: OutOfRangeError}
 #: A row for which nothing is given.
 UNKNOWN = NAT
@@ -151,12 +154,17 @@ def must_be_among(name: str, word: Any, words: tuple[str, ...]) -> None:
         raise ValueError(f"{name} is one of {', '.join(words)}, and not {shown}{hint}")
 
 
-def must_have_no_others(others: dict[str, Any]) -> None:
+def must_have_no_others(call: str, others: dict[str, Any]) -> None:
     """Raises TypeError at a keyword of another library, or at one that no library has."""
     for name in others:
         ours = KEYWORDS_OF_PANDAS.get(name)
-        hint = f": pandas' {name}= is {ours}= here" if ours else ""
-        raise TypeError(f"Zone.localize() takes no keyword argument {name!r}{hint}")
+        if ours is None:
+            hint = ""
+        elif call in STEPS:
+            hint = ": a step begins at one instant, also in a gap and in a fold"
+        else:
+            hint = f": pandas' {name}= is {ours}= here"
+        raise TypeError(f"Zone.{call}() takes no keyword argument {name!r}{hint}")
 
 
 def _given(column: Column, fold: Any, is_dst: Any, offset: Any) -> Optional[Given]:
@@ -199,8 +207,10 @@ def _seconds(values: Array) -> Array:
 def row_by_row(name: str, values: Any, column: Column) -> Array:
     """An array with a value for each row, in the order of rows; `UNKNOWN` where there is none."""
     pandas = sys.modules.get("pandas")
+    form = column.form
     if pandas is not None and isinstance(values, pandas.Series):
-        if type(column.form) is SeriesForm and not values.index.equals(column.form.index):
+        is_series = isinstance(form, SeriesForm) and not isinstance(form, IndexForm)
+        if is_series and not values.index.equals(form.labels(slice(None))):
             raise ValueError(f"{name}= has another index than the column")
     dtype: Any = getattr(values, "dtype", None)
     if pandas is not None and pandas.api.types.is_extension_array_dtype(dtype):
@@ -215,12 +225,14 @@ def row_by_row(name: str, values: Any, column: Column) -> Array:
 
 def factorized(name: str, keys: Any, column: Column) -> tuple[Array, list[Any]]:
     """A number for each row, and the key of each number. Raises ValueError at a row without one."""
-    keys = row_by_row(name, keys, column)
     pandas = sys.modules.get("pandas")
-    if pandas is None:
-        found, numbers = np.unique(keys, return_inverse=True)
+    if pandas is not None and isinstance(getattr(keys, "dtype", None), pandas.CategoricalDtype):
+        found, codes = keys.dtype.categories, getattr(keys, "cat", keys).codes
+        numbers = row_by_row(name, codes, column)
+    elif pandas is None:
+        found, numbers = np.unique(row_by_row(name, keys, column), return_inverse=True)
     else:
-        numbers, found = pandas.factorize(keys)
+        numbers, found = pandas.factorize(row_by_row(name, keys, column))
     missing = np.flatnonzero(numbers < 0)
     if missing.size:
         raise ValueError(f"{name}= has no key in row {missing[0]}")

@@ -38,7 +38,7 @@ FEW = 32
 def extremes(values: Array) -> tuple[int, int]:
     """Returns the least and the greatest number of an array that has one."""
     if values.size <= FEW:
-        numbers = values.tolist()
+        numbers: Any = values.tolist()
         return min(numbers), max(numbers)
     return int(values.min()), int(values.max())
 
@@ -59,6 +59,8 @@ class Column:
         places: Optional[Array] = None,
     ):
         self.values, self.unit, self.form, self.places = values, unit, form, places
+        # The call that the column was handed to, which errors name.
+        self.call: Optional[str] = None
         self.per_second = PER_SECOND[unit or "s"]
         self.is_time = unit is not None
         self.has_nat = self.is_time if form.has_nat is None else form.has_nat
@@ -100,7 +102,9 @@ class Column:
     def part(self, places: Array) -> Column:
         """Returns the column of these rows."""
         mine = places if self.places is None else self.places[places]
-        return Column(self.values[places], self.unit, self.form, mine)
+        part = Column(self.values[places], self.unit, self.form, mine)
+        part.call = self.call
+        return part
 
     # Errors
 
@@ -113,7 +117,9 @@ class Column:
         value = self.values[row]
         shown = value.astype(f"M8[{self.unit}]") if self.is_time else int(value)
         place = self.place(row)
-        return kind(self.form.row(place), shown, number, words, self.form.label(place))
+        error = kind(self.form.row(place), shown, number, words, self.form.label(place))
+        error.call = self.call
+        return error
 
     @property
     def misfit_words(self) -> str:
@@ -197,6 +203,10 @@ class Block:
         self.counted = counted
         self.seconds = counted if column.per_second == 1 else counted // column.per_second
 
+    def fits_calls(self) -> bool:
+        """Returns whether the calls for C that count in units take the rows as they are."""
+        return self.column.per_second in COLUMN_UNITS and (self.column.has_nat or self.least != NAT)
+
     def outside(self, first: int, last: int) -> Array:
         """Returns the places of the rows before the second `first` or after `last`."""
         per_second = self.column.per_second
@@ -204,6 +214,11 @@ class Block:
             return NO_ROWS
         found = (self.seconds < first) | (self.seconds > last)
         return np.flatnonzero(found if self.is_nat is None else found & ~self.is_nat)
+
+    def keep_nat(self, answers: Array) -> None:
+        """Writes NaT to the rows of an answer that have no time."""
+        if self.is_nat is not None:
+            answers[self.rows][self.is_nat] = NAT
 
     def in_units(self, seconds: Array, out: Array) -> Array:
         """Writes a second for each row to `out`, in the unit of the column; NaT stays.
@@ -223,7 +238,7 @@ class Block:
 
         Returns the places in the block of the rows that don't fit, which are not moved."""
         column = self.column
-        misfits = NO_ROWS
+        misfits: Array = NO_ROWS
         least, greatest = extremes(offsets)
         far = max(-least, greatest) * column.per_second
         if far > GREATEST or self.least - far <= NAT or self.greatest + far > GREATEST:

@@ -6,32 +6,28 @@ next day ends it. So each instant lies in one day, and a day that clocks skipped
 
 from __future__ import annotations
 
-import re
-from datetime import timedelta
-from typing import Any, NamedTuple, Union
+from typing import TYPE_CHECKING, Any, NamedTuple, Union
 
 import numpy as np
-import numpy.typing as npt
 
 from ._asked import offsets_of, write_seconds
 from ._columns import FIRST_SECOND, GREATEST, LAST_SECOND, Block, Column
 from ._door import END_OF_RULE, LEAST, Door
 from ._forms import NAT, Array
-from .errors import GAP, OUT_OF_RANGE, GapError, OutOfRangeError, printable
+from ._steps import DAY, DayCount, MonthCount, PartOfDay, PartOfSecond, SECOND, Step, step_of
+from .errors import GAP, OUT_OF_RANGE, GapError, OutOfRangeError
 
-DAY = 86_400
-SECONDS = {"D": DAY, "h": 3_600, "min": 60, "s": 1}
+if TYPE_CHECKING:
+    import numpy.typing as npt
+
 # No two offsets differ by as much.
 FAR = 2**32
-# No second of a day: it was not asked yet, or the day is outside the calendar.
-UNKNOWN, NONE = NAT, GREATEST
+# No second of a day: it is outside the calendar.
+NONE = GREATEST
 # Days that are listed for a column of few rows, and a day that no calendar reaches.
-FEW, NO_DAY = 1 << 12, 10**9
+FEW, NO_DAY = 64, 10**9
 EMPTY = "no clock of the zone shows a time of that day"
 OUTSIDE = "the day is outside the years -262143 to 262142"
-
-#: A length of time: 'D', 'h', '15min', or a timedelta.
-Step = Union[str, timedelta]
 
 
 class Days(NamedTuple):
@@ -88,7 +84,10 @@ def days(door: Door, column: Column) -> Any:
 
 def floored(door: Door, column: Column, step: Step) -> Array:
     """Returns the first instant of the step that each instant lies in."""
-    answers, stretches = np.empty(len(column), np.int64), stretches_of(door, column, step)
+    parsed = step_of(step)
+    if isinstance(parsed, PartOfSecond):
+        return _floored_in_second(column, parsed)
+    answers, stretches = np.empty(len(column), np.int64), stretches_of(door, column, parsed)
     for block in column.blocks():
         _write(block, stretches.begun(block), answers)
     return answers
@@ -96,7 +95,10 @@ def floored(door: Door, column: Column, step: Step) -> Array:
 
 def ceiled(door: Door, column: Column, step: Step) -> Array:
     """Returns the first instant of a step that does not come before each instant."""
-    answers, stretches = np.empty(len(column), np.int64), stretches_of(door, column, step)
+    parsed = step_of(step)
+    if isinstance(parsed, PartOfSecond):
+        return _ceiled_in_second(column, parsed)
+    answers, stretches = np.empty(len(column), np.int64), stretches_of(door, column, parsed)
     for block in column.blocks():
         seconds = stretches.begun(block)
         is_within = seconds < block.seconds
@@ -115,66 +117,75 @@ def rounded(door: Door, column: Column, step: Step) -> Array:
     return np.where(before < after, earlier, later)
 
 
-def stretches_of(door: Door, column: Column, step: Step) -> Union[Beginnings, Steps]:
+def stretches_of(
+    door: Door, column: Column, step: Union[PartOfDay, DayCount, MonthCount]
+) -> Union[Periods, Steps]:
     """Returns the days of the zone, or the shorter steps of its clocks."""
-    seconds = seconds_of(step)
-    return Beginnings(door, column) if seconds == DAY else Steps(door, column, seconds)
+    if isinstance(step, PartOfDay):
+        return Steps(door, column, step.seconds)
+    return Periods(Beginnings(door, column), step)
 
 
-def seconds_of(step: Step) -> int:
-    """Returns the seconds of a step. Raises ValueError if a day has no whole number of it."""
-    if isinstance(step, timedelta):
-        seconds = 0 if step.microseconds else step // timedelta(seconds=1)
-    elif isinstance(step, str):
-        found = re.fullmatch(f"([0-9]{{0,5}})({'|'.join(SECONDS)})", step)
-        seconds = int(found[1] or 1) * SECONDS[found[2]] if found else 0
-    else:
-        raise TypeError(f"step is 'D', 'h', '15min' or a timedelta, and not {type(step).__name__}")
-    if not (0 < seconds <= DAY and DAY % seconds == 0):
-        raise ValueError(
-            "step is a day ('D') or a whole part of one in whole seconds, as 'h' or '15min', "
-            f"and not {printable(repr(step))}"
-        )
-    return seconds
+def _floored_in_second(column: Column, step: PartOfSecond) -> Array:
+    """An offset has whole seconds, so such a step begins in every zone at the same instants."""
+    answers, units = np.empty(len(column), np.int64), _units_of(column, step)
+    least = -((-NAT - column.has_nat) // units) * units
+    for block in column.blocks():
+        _must_be_in_calendar(block)
+        _must_fit(block, block.counted < least)
+        np.subtract(block.counted, block.counted % units, out=answers[block.rows])
+        block.keep_nat(answers)
+    return answers
+
+
+def _ceiled_in_second(column: Column, step: PartOfSecond) -> Array:
+    answers, units = np.empty(len(column), np.int64), _units_of(column, step)
+    for block in column.blocks():
+        _must_be_in_calendar(block)
+        _must_fit(block, block.counted > GREATEST // units * units)
+        np.add(block.counted, -block.counted % units, out=answers[block.rows])
+        block.keep_nat(answers)
+    return answers
+
+
+def _must_fit(block: Block, misfits: Array) -> None:
+    """Raises at the first row whose answer doesn't fit the column."""
+    if misfits.any():
+        raise block.column.misfit(block.start + int(misfits.argmax()))
+
+
+def _units_of(column: Column, step: PartOfSecond) -> int:
+    """How many units of a column a step is long; 1 if each unit has a whole number of steps."""
+    units, rest = divmod(step.nanoseconds * column.per_second, SECOND)
+    if rest and SECOND % (step.nanoseconds * column.per_second):
+        raise ValueError(f"step has parts of the column's unit, {column.unit}")
+    return max(units, 1)
 
 
 class Beginnings:
-    """The first second of each day, which a zone is asked once about each day of a column."""
+    """The first second of each day. All days of a column are listed at first, if it has not fewer rows."""
 
     def __init__(self, door: Door, column: Column):
         self.door = door
         least, greatest = column.ends()
         # Offsets are less than two days, but for zones that no one keeps.
         self.first, count = least // DAY - 2, (greatest - least) // DAY + 6
-        self.listed = np.full(count if count <= max(FEW, len(column)) else 0, UNKNOWN)
+        days = np.arange(self.first, self.first + (count if count <= max(FEW, len(column)) else 0))
+        self.listed = self._asked(days)
 
     def of(self, days: Array) -> Array:
         """Returns the first second of each day, or `NONE` if that is outside the calendar."""
-        places = days - self.first
-        if int(places.min()) < 0 or int(places.max()) >= self.listed.size:
-            found, rows = np.unique(days, return_inverse=True)
-            found = self._asked(found)
-            return found[rows]
-        seconds: Array = self.listed[places]
-        unknown = places[seconds == UNKNOWN]
-        if unknown.size:
-            unknown = np.unique(unknown)
-            self.listed[unknown] = self._asked(unknown + self.first)
-            seconds = self.listed[places]
-        return seconds
+        places, seconds = days - self.first, self.listed
+        if int(places.min()) < 0 or int(places.max()) >= seconds.size:
+            found, places = np.unique(days, return_inverse=True)
+            seconds = self._asked(found)
+        chosen: Array = seconds[places]
+        return chosen
 
     def _asked(self, days: Array) -> Array:
         midnights = np.clip(days, -NO_DAY, NO_DAY) * DAY
         reached = self.door.first_at_or_after(midnights)
         return np.where(reached["number"] == 0, reached["instant"], NONE)
-
-    def begun(self, block: Block) -> Array:
-        """Returns the first second of the day that each instant lies in."""
-        return self.of(self.days_at(block))
-
-    def ended(self, block: Block) -> Array:
-        """Returns the first second of the day after that."""
-        return self.of(self.days_at(block) + 1)
 
     def days_at(self, block: Block) -> Array:
         """Returns the day that each instant lies in, counted from 1970-01-01."""
@@ -186,6 +197,22 @@ class Beginnings:
             shown = _latest_shown(self.door, block.seconds[back], local[back])
             days[back] = shown // DAY
         return days
+
+
+class Periods:
+    """Steps of whole days: a number of days, or of months."""
+
+    def __init__(self, beginnings: Beginnings, step: Union[DayCount, MonthCount]):
+        self.beginnings, self.step = beginnings, step
+
+    def begun(self, block: Block) -> Array:
+        """Returns the first second of the step that each instant lies in."""
+        return self.beginnings.of(self.step.first_day(self.beginnings.days_at(block)))
+
+    def ended(self, block: Block) -> Array:
+        """Returns the first second of the step after that."""
+        first = self.step.first_day(self.beginnings.days_at(block))
+        return self.beginnings.of(self.step.next_first(first))
 
 
 class Steps:
@@ -217,7 +244,7 @@ class Steps:
         early = self._apart(block, ended, offsets)
         if early.size:
             found, rows = np.unique(block.seconds[early], return_inverse=True)
-            ended[early] = np.array([self._end(second) for second in found.tolist()])[rows]
+            ended[early] = np.array([self._end(int(second)) for second in found])[rows]
         return ended
 
     def _shown(self, block: Block) -> tuple[Array, Array]:
@@ -237,7 +264,7 @@ class Steps:
         shown = None
         while True:
             span = self.door.span(second)
-            offset, until = int(span["type"]["offset"][0]), int(span["until"][0])
+            offset, until = int(span["local_type"]["offset"][0]), int(span["until"][0])
             step, part = divmod(second + offset, self.step)
             if shown is not None and (step != shown or part == 0):
                 return second
@@ -277,10 +304,14 @@ class Steps:
 
 def _local_seconds(door: Door, block: Block) -> Array:
     """The second that clocks show at each instant. Raises at a row outside the calendar."""
+    _must_be_in_calendar(block)
+    return block.seconds + offsets_of(door, block)
+
+
+def _must_be_in_calendar(block: Block) -> None:
     outside = block.outside(FIRST_SECOND, LAST_SECOND)
     if outside.size:
         _raise_outside(block, outside)
-    return block.seconds + offsets_of(door, block)
 
 
 def _latest_shown(door: Door, seconds: Array, local: Array) -> Array:

@@ -2,22 +2,25 @@
 
 from __future__ import annotations
 
-from typing import TYPE_CHECKING, Any, NamedTuple
+from typing import TYPE_CHECKING, Any, Literal, NamedTuple, Optional, Union
 
 import numpy as np
-import numpy.typing as npt
 
 from ._changes import Time, columns_of, ends_of_stretch, seconds_of
 from ._choice import chosen
-from ._door import NO_OFFSET, Door
-from ._forms import Array
+from ._columns import Column
+from ._door import Door
+from ._forms import Array, as_html
 from ._inputs import taken
+from ._library import NO_OFFSET
 from ._localize import localized
 from ._opening import Zone
+from ._types import Labels, Rows
 from .errors import NO_OFFSET as HAS_NO_OFFSET
 from .errors import NoOffsetError
 
 if TYPE_CHECKING:
+    import numpy.typing as npt
     import pandas
 
 
@@ -54,6 +57,9 @@ class Differences(NamedTuple):
             frame[name] = frame[name].dt.tz_localize("UTC")
         return frame
 
+    def _repr_html_(self) -> Optional[str]:
+        return as_html(self)
+
 
 class Moved(NamedTuple):
     """Local times whose instant changes, in the order of rows: each field has a value for each."""
@@ -83,6 +89,9 @@ class Moved(NamedTuple):
         for name in ("old", "new") if self.value.dtype.kind == "M" else ():
             frame[name] = frame[name].dt.tz_localize("UTC")
         return frame
+
+    def _repr_html_(self) -> Optional[str]:
+        return as_html(self)
 
 
 def door_of(zone: Any) -> Door:
@@ -135,8 +144,8 @@ def moved(
     old: Zone,
     new: Zone,
     local_times: Any,
-    gap: Any = "raise",
-    fold: Any = "raise",
+    gap: Literal["raise", "shift", "after", "shift_back", "before", "nat"] = "raise",
+    fold: Union[Literal["raise", "earliest", "latest", "nat", "infer"], Rows, Labels, int] = "raise",
     *,
     is_dst: Any = None,
     offset: Any = None,
@@ -158,6 +167,11 @@ def moved(
     column = taken(local_times, "moved(old, new, s.index)", may_be_aware=False)
     choice = chosen(column, gap, fold, is_dst, offset, by)
     before, after = (localized(door_of(zone), column, choice) for zone in (old, new))
+    return moved_rows(column, before, after)
+
+
+def moved_rows(column: Column, before: Array, after: Array) -> Moved:
+    """Returns the rows whose instants differ."""
     rows = np.flatnonzero(before != after)
     value, before, after = (
         column.times_of(values[rows]) for values in (column.values, before, after)

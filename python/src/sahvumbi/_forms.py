@@ -4,15 +4,22 @@ from __future__ import annotations
 
 import sys
 from datetime import datetime, timedelta, timezone
-from typing import Any, NamedTuple, Optional
+from typing import TYPE_CHECKING, Any, NamedTuple, Optional, Union
 
 import numpy as np
-import numpy.typing as npt
+
+from . import _arrow
+
+if TYPE_CHECKING:
+    import numpy.typing as npt
+
+    Array = npt.NDArray[Any]
+else:
+    # The import of numpy.typing takes a third as long as that of this package.
+    Array = np.ndarray
 
 NAT = int(np.iinfo(np.int64).min)
 EPOCH = datetime(1970, 1, 1)
-
-Array = npt.NDArray[Any]
 
 
 class ArrayForm:
@@ -36,7 +43,7 @@ class ArrayForm:
         """Returns the row's label in an index, or None."""
         return None
 
-    def labels(self, rows: Array) -> Any:
+    def labels(self, rows: Union[Array, slice]) -> Any:
         """Returns the labels of rows, or None."""
         return None
 
@@ -80,7 +87,7 @@ class SeriesForm(ArrayForm):
     def label(self, row: int) -> Any:
         return self.index[row]
 
-    def labels(self, rows: Array) -> Any:
+    def labels(self, rows: Union[Array, slice]) -> Any:
         return self.index[rows]
 
     def times(self, values: Array, unit: Optional[str], zone: Any) -> Any:
@@ -128,6 +135,53 @@ class IndexForm(SeriesForm):
         return pandas.DataFrame(columns._asdict(), index=self.of, copy=False)
 
 
+class OfArrow(SeriesForm):
+    """A Series or an Index of pandas that has its values in Arrow. So have its answers."""
+
+    def __init__(self, of: Any):
+        super().__init__(of, has_nat=True)
+        self.length_unit = "s"
+
+    def times(self, values: Array, unit: Optional[str], zone: Any) -> Any:
+        return self.plain(_arrow.to_pandas(_arrow.of_times(values, unit, zone)))
+
+    def numbers(self, values: Array) -> Any:
+        return self.plain(_arrow.to_pandas(_arrow.of_numbers(values)))
+
+    def lengths(self, values: Array) -> Any:
+        return self.plain(_arrow.to_pandas(_arrow.of_lengths(values)))
+
+
+class ArrowSeriesForm(OfArrow):
+    """A Series of an ArrowDtype."""
+
+
+class ArrowIndexForm(OfArrow, IndexForm):
+    """An Index of an ArrowDtype."""
+
+
+class ArrowForm(ArrayForm):
+    """An array of pyarrow. Its answers are such arrays, and a table of them."""
+
+    has_nat = True
+    text = object
+
+    def times(self, values: Array, unit: Optional[str], zone: Any) -> Any:
+        return _arrow.of_times(values, unit, zone)
+
+    def numbers(self, values: Array) -> Any:
+        return _arrow.of_numbers(values)
+
+    def lengths(self, values: Array) -> Any:
+        return _arrow.of_lengths(values)
+
+    def plain(self, values: Array) -> Any:
+        return _arrow.of_plain(values)
+
+    def table(self, columns: Any) -> Any:
+        return _arrow.table_of(columns._asdict())
+
+
 class TimestampForm(ArrayForm):
     """A Timestamp of pandas."""
 
@@ -166,6 +220,14 @@ class DatetimeForm(ArrayForm):
         return None if np.isnat(values[0]) else timedelta(seconds=int(values[0].astype(np.int64)))
 
 
+def as_html(table: Any) -> Optional[str]:
+    """Returns the table that a notebook shows for an answer that has `to_frame`, or None without pandas."""
+    if "pandas" not in sys.modules:
+        return None
+    shown: str = table.to_frame()._repr_html_()
+    return shown
+
+
 class Failures(NamedTuple):
     """The rows that have no answer, in order: each field has a value for each of them."""
 
@@ -190,8 +252,11 @@ class Failures(NamedTuple):
 
         columns = self._asdict()
         del columns["label"]
-        columns["words"] = [WORDS[number] for number in self.number.tolist()]
+        columns["words"] = [WORDS[int(number)] for number in self.number]
         return pandas.DataFrame(columns, index=self.label)
+
+    def _repr_html_(self) -> Optional[str]:
+        return as_html(self)
 
 
 def _times_of_pandas(values: Array, unit: str, zone: Any) -> Any:

@@ -8,9 +8,22 @@ from typing import Any, Optional
 
 import numpy as np
 
+from ._arrow import array_of, is_arrow, values_of
 from ._columns import GREATEST, Column
-from ._forms import EPOCH, NAT, Array, ArrayForm, DatetimeForm, IndexForm, SeriesForm, TimestampForm
-from .errors import OUT_OF_RANGE, OutOfRangeError
+from ._forms import (
+    EPOCH,
+    NAT,
+    Array,
+    ArrayForm,
+    ArrowForm,
+    ArrowIndexForm,
+    ArrowSeriesForm,
+    DatetimeForm,
+    IndexForm,
+    SeriesForm,
+    TimestampForm,
+)
+from .errors import OUT_OF_RANGE, OutOfRangeError, RowError
 
 SECONDS = {"m": 60, "h": 3_600, "D": 86_400, "W": 604_800}
 # Numbers of months and years that numpy turns into seconds without leaving 64 bits.
@@ -23,6 +36,17 @@ def taken(values: Any, line: str, may_be_aware: bool) -> Column:
     """The column that a user hands over. Raises TypeError if it isn't one.
 
     `line` is the call as it is written for the times in the index of a Series."""
+    call = line.partition("(")[0]
+    try:
+        column = _column_of(values, line, may_be_aware)
+    except RowError as error:
+        error.call = call
+        raise
+    column.call = call
+    return column
+
+
+def _column_of(values: Any, line: str, may_be_aware: bool) -> Column:
     if isinstance(values, (np.ndarray, np.generic)):
         if isinstance(values, np.ma.MaskedArray):
             raise TypeError(
@@ -37,6 +61,8 @@ def taken(values: Any, line: str, may_be_aware: bool) -> Column:
         return _of_pandas(pandas, values, may_be_aware)
     if isinstance(values, datetime):
         return _of_datetime(pandas, values, may_be_aware)
+    if is_arrow(values) and type(values).__module__.partition(".")[0] != "pandas":
+        return _of_arrow(array_of(values), None, may_be_aware)
     raise TypeError(f"a {type_name(values)} is no column of time: {_advice(values)}")
 
 
@@ -65,6 +91,8 @@ def _advice(values: Any) -> str:
         return "datetime.datetime.combine gives it a time of day"
     if place == "pandas" and hasattr(values, "columns"):
         return "pass one of its columns, or apply the call to each"
+    if place == "pandas" and hasattr(values, "to_timestamp"):
+        return "to_timestamp() gives the local time of its start"
     if place == "pandas" and hasattr(values, "dtype"):
         return "pass a Series or an Index of it"
     if hasattr(values, "__array__") or hasattr(values, "__array_interface__"):
@@ -92,7 +120,8 @@ def _of_datetime(pandas: Any, value: datetime, may_be_aware: bool) -> Column:
     if value.tzinfo is not None and not may_be_aware:
         raise TypeError("a local time has no zone, and this one has: replace(tzinfo=None) drops it")
     if pandas is not None and (value is pandas.NaT or isinstance(value, pandas.Timestamp)):
-        moment = value.to_datetime64()  # type: ignore[attr-defined]
+        stamp: Any = value
+        moment = stamp.to_datetime64()
         if 1678 <= value.year <= 2261:
             # One of pandas 2 may count seconds. Its day ends with a nanosecond, as in pandas 1.
             moment = moment.astype("M8[ns]")
@@ -130,6 +159,14 @@ def _of_pandas(pandas: Any, values: Any, may_be_aware: bool) -> Column:
             drop = "tz_localize(None)" if is_index else "dt.tz_localize(None)"
             raise TypeError(f"local times have no zone, and these are {dtype}: {drop} removes it")
         return _of_array(values.values, form(values))
+    if isinstance(dtype, pandas.PeriodDtype):
+        gives = "to_timestamp()" if is_index else "dt.to_timestamp()"
+        raise TypeError(f"{kind} of {dtype} is no column of time: {gives} gives the local time of each start")
+    if isinstance(dtype, pandas.StringDtype):
+        raise TypeError(f"{kind} of texts is no column of time: pandas.to_datetime reads them")
+    if isinstance(dtype, getattr(pandas, "ArrowDtype", ())):
+        of_arrow = ArrowIndexForm if is_index else ArrowSeriesForm
+        return _of_arrow(array_of(values.array.__arrow_array__()), of_arrow(values), may_be_aware)
     if pandas.api.types.is_extension_array_dtype(dtype):
         if pandas.api.types.is_integer_dtype(dtype) and hasattr(dtype, "numpy_dtype"):
             return _of_nullable(values, form(values, has_nat=True))
@@ -151,6 +188,19 @@ def _of_nullable(values: Any, form: ArrayForm) -> Column:
     _must_fit(numbers, column.values == NAT, "Int64 beside NA", form)
     column.values = np.where(is_missing, NAT, column.values)
     return column
+
+
+def _of_arrow(array: Any, form: Optional[ArrayForm], may_be_aware: bool) -> Column:
+    """A column of Arrow, with the least int64 for what is missing."""
+    values, unit, missing = values_of(array, may_be_aware)
+    form = form or ArrowForm((values.size,))
+    is_nat = values == NAT
+    is_nat[missing] = False
+    _must_fit(values, is_nat, "a column with missing values", form)
+    if missing.size:
+        values = values.copy()
+        values[missing] = NAT
+    return Column(values, unit, form)
 
 
 # Arrays

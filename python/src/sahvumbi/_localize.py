@@ -8,19 +8,20 @@ import numpy as np
 
 from ._choice import Choice, Fault
 from ._columns import BLOCK, FIRST_SECOND, LAST_SECOND, NO_ROWS, Block, Column
-from ._door import (
-    EARLIEST,
+from ._door import Door
+from ._forms import NAT, Array
+from ._library import (
+    FOLD_EARLIEST,
+    FOLD_LATEST,
+    FOLD_REFUSE,
     GAP_END,
-    LATEST,
+    GAP_REFUSE,
+    GAP_SHIFT_FORWARD,
     NEVER,
     ONCE,
     OUT_OF_RANGE,
-    REFUSE,
     SEVERAL_TIMES,
-    SHIFT_FORWARD,
-    Door,
 )
-from ._forms import NAT, Array
 from ._order import Folds, decide
 from .errors import FOLD, GAP, WORDS
 from .errors import OUT_OF_RANGE as IS_OUT_OF_RANGE
@@ -30,8 +31,8 @@ FAR = 2**31
 OUTSIDE = "the local time is outside the years -262143 to 262142"
 
 # What the zone decides by itself.
-GAPS = {"shift": SHIFT_FORWARD, "after": GAP_END}
-FOLDS = {"earliest": EARLIEST, "latest": LATEST}
+GAPS = {"shift": GAP_SHIFT_FORWARD, "after": GAP_END}
+FOLDS = {"earliest": FOLD_EARLIEST, "latest": FOLD_LATEST}
 # If fewer rows than these come between two that are left, more of them are left at a time.
 CLOSE = 128
 
@@ -59,7 +60,7 @@ def _left(door: Door, column: Column, choice: Choice, answers: Array) -> Iterato
 
     Yields the places of the other rows, in order, `BLOCK` at most at a time."""
     left, count, row, step, size = [], 0, 0, 1, len(column)
-    gap, fold = GAPS.get(choice.gap, REFUSE), FOLDS.get(choice.fold, REFUSE)
+    gap, fold = GAPS.get(choice.gap, GAP_REFUSE), FOLDS.get(choice.fold, FOLD_REFUSE)
     asked = door.instants(gap, fold, column.per_second, column.values, answers)
     # The call gives instants outside the calendar too.
     asks = column.fits_calls() and column.lies_in(FIRST_SECOND + FAR, LAST_SECOND - FAR)
@@ -88,7 +89,9 @@ class Clocks:
         self.first, self.last = clocks["first_offset"].copy(), clocks["last_offset"].copy()
         # The rows that become NaT, those that are moved to an end of their gap, and those that the
         # order of rows decides.
-        self.lost = self.cut = self.open = NO_ROWS
+        self.lost: Array = NO_ROWS
+        self.cut: Array = NO_ROWS
+        self.open: Array = NO_ROWS
         self.faults: list[Fault] = []
 
     def take(self) -> None:
@@ -118,7 +121,7 @@ class Clocks:
         the first second that shows a later time."""
         local_times = self.block.seconds[skipped]
         if self.choice.gap == "shift":
-            resolved = self.door.resolved(SHIFT_FORWARD, REFUSE, local_times)
+            resolved = self.door.resolved(GAP_SHIFT_FORWARD, FOLD_REFUSE, local_times)
         else:
             found, rows = np.unique(local_times, return_inverse=True)
             resolved = self.door.first_at_or_after(found)[rows]

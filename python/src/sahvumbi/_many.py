@@ -2,7 +2,7 @@
 
 from __future__ import annotations
 
-from typing import Any, Callable, Iterator, Mapping, Sequence, Union
+from typing import Any, Callable, Iterator, Literal, Mapping, Sequence, Union
 
 import numpy as np
 
@@ -12,6 +12,7 @@ from ._columns import Column
 from ._forms import Array
 from ._inputs import taken
 from ._localize import localized
+from ._types import Labels, Rows
 from .errors import RowError
 from .zone import Zone
 
@@ -23,13 +24,13 @@ def localize_many(
     zones: Zones,
     codes: Any,
     local_times: Any,
-    gap: Any = "raise",
-    fold: Any = "raise",
+    gap: Literal["raise", "shift", "after", "shift_back", "before", "nat"] = "raise",
+    fold: Union[Literal["raise", "earliest", "latest", "nat", "infer"], Rows, Labels, int] = "raise",
     *,
     is_dst: Any = None,
     offset: Any = None,
     by: Any = None,
-    errors: str = "raise",
+    errors: Literal["raise", "collect"] = "raise",
     tz: Any = "UTC",
 ) -> Any:
     """Returns the instant at which the clocks of each row's zone show its local time.
@@ -50,7 +51,7 @@ def localize_many(
     def ask(zone: Zone, places: Array) -> Array:
         return localized(zone._door, column.part(places), choice.part(places))
 
-    return choice.answer(column, _answered(zones, codes, column, ask))
+    return choice.answer(column, answered(zones, codes, column, ask))
 
 
 def to_local_many(zones: Zones, codes: Any, instants: Any) -> Any:
@@ -64,13 +65,13 @@ def to_local_many(zones: Zones, codes: Any, instants: Any) -> Any:
     def ask(zone: Zone, places: Array) -> Array:
         return local_times(zone._door, column.part(places))
 
-    return column.local_times(_answered(zones, codes, column, ask))
+    return column.local_times(answered(zones, codes, column, ask))
 
 
-def _answered(
+def answered(
     zones: Zones, codes: Any, column: Column, ask: Callable[[Zone, Array], Array]
 ) -> Array:
-    """The answers of all rows. Of several zones' errors the one of the first row is raised."""
+    """Returns the answers of all rows. Of several zones' errors the one of the first row is raised."""
     answers = np.empty(len(column), np.int64)
     errors: list[RowError] = []
     for zone, places in _parts(zones, codes, column):
@@ -86,7 +87,8 @@ def _answered(
 def _parts(zones: Zones, codes: Any, column: Column) -> Iterator[tuple[Zone, Array]]:
     """Each zone that rows have, and the places of its rows, in order."""
     listed, numbers = _numbered(zones, codes, column)
-    order = np.argsort(numbers, kind="stable")
+    # numpy sorts numbers of 16 bits in one pass.
+    order = np.argsort(numbers.astype(np.min_scalar_type(len(listed))), kind="stable")
     ends = np.cumsum(np.bincount(numbers, minlength=len(listed)))
     for zone, places in zip(listed, np.split(order, ends)):
         if not isinstance(zone, Zone):

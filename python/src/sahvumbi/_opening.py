@@ -8,7 +8,8 @@ from datetime import timedelta
 from typing import Any, Optional, TypeVar, Union
 from zoneinfo import ZoneInfo
 
-from ._door import EXTENDED_TEXT, FILE, TEXT, Door
+from ._door import Door
+from ._library import EXTENDED_STRING, FILE, TEXT
 from ._names import bytes_of_file, bytes_of_key
 
 Self = TypeVar("Self", bound="Zone")
@@ -80,7 +81,7 @@ class Zone:
         if not isinstance(text, str):
             raise TypeError(f"a TZ string is a str, and not {type(text).__name__}")
         data = str.encode(text, "utf-8", "surrogatepass")
-        kind, word = (EXTENDED_TEXT, ", extended=True") if extended else (TEXT, "")
+        kind, word = (EXTENDED_STRING, ", extended=True") if extended else (TEXT, "")
         return cls._of(kind, data, text, None, f"Zone.from_text({text!r}{word})")
 
     @classmethod

@@ -73,7 +73,7 @@ def _sequences(
     ends = np.cumsum(np.bincount(groups[order], minlength=int(groups.max()) + 1))
     by_group = np.argsort(groups[folds.rows], kind="stable")
     found, begins = np.unique(groups[folds.rows][by_group], return_index=True)
-    for group, mine in zip(found.tolist(), np.split(by_group, begins[1:])):
+    for group, mine in zip(map(int, found), np.split(by_group, begins[1:])):
         places = order[ends[group - 1] if group else 0 : ends[group]]
         opens = np.searchsorted(places, folds.rows[mine])
         yield Sequence(answers[places], opens, folds.last[mine], places.__getitem__)
@@ -120,8 +120,7 @@ def _steps_back(falls: Any, first: Array, opens: Array) -> list[int]:
     """The first row that `falls` behind the row above it, if none of the two is open."""
     back = falls(first[1:], first[:-1])
     back[opens[opens > 0] - 1] = back[opens[opens < back.size]] = False
-    found: list[int] = (1 + np.flatnonzero(back)[:1]).tolist()
-    return found
+    return [1 + int(row) for row in np.flatnonzero(back)[:1]]
 
 
 def _ends(falls: Any, first: Array, last: Array) -> tuple[Array, Array, int]:

@@ -13,8 +13,9 @@ import numpy as np
 
 from ._choice import FOLDS, GAPS
 from ._columns import GREATEST
-from ._door import ONCE, SEVERAL_TIMES, Door
+from ._door import Door
 from ._forms import EPOCH, NAT
+from ._library import ONCE, SEVERAL_TIMES
 from ._types import LocalTypes
 
 EPOCH_OF_UTC = EPOCH.replace(tzinfo=timezone.utc)

@@ -9,11 +9,13 @@ from . import _asked as asked
 from . import _days as of_days
 from . import _single as single
 from ._changes import Changes, Time, of_stretch
-from ._days import Days, Step
+from ._choice import must_have_no_others
+from ._days import Days
 from ._differences import Differences, door_of, of_zones
 from ._forms import Array
 from ._inputs import taken, taken_days
 from ._opening import Zone as Opened
+from ._steps import Step
 from ._types import Labelled, Labels, Moment, Rows, Single, Spans
 
 
@@ -109,12 +111,14 @@ class Zone(Opened):
     @overload
     def floor(self, instants: Single, step: Step) -> Any: ...
 
-    def floor(self, instants: Any, step: Step) -> Any:
+    def floor(self, instants: Any, step: Step, **others: Any) -> Any:
         """Returns the first instant of the local day, hour or other step that each instant lies in.
 
-        `step` is 'D', the day as `day` has it, or a part of a day in whole hours ('h'), minutes
-        ('15min') or seconds, or such a timedelta. A step begins when clocks show a multiple of it,
-        or another step than just before. Raises `OutOfRangeError` as `start_of_day` does.
+        `step` is 'D', the day as `day` has it, '2D', a number of days that are counted from 1970-01-01,
+        'W', a week that begins on Monday, 'MS', 'QS' or 'YS', a month, quarter or year; or a whole
+        part of a day ('h', '15min', '30s') or of a second ('500ms'); or such a timedelta. A step of
+        days begins with its first day, and a shorter one when clocks show a multiple of it, or
+        another step than just before. Raises `OutOfRangeError` as `start_of_day` does.
 
         >>> import numpy as np
         >>> from sahvumbi import Zone
@@ -123,6 +127,7 @@ class Zone(Opened):
         array(['2021-11-07T05:00:00', '2021-11-07T06:00:00'],
               dtype='datetime64[s]')
         """
+        must_have_no_others("floor", others)
         column = taken(instants, "zone.floor(s.index, step)", may_be_aware=True)
         return column.instants(of_days.floored(self._door, column, step))
 
@@ -135,7 +140,7 @@ class Zone(Opened):
     @overload
     def ceil(self, instants: Single, step: Step) -> Any: ...
 
-    def ceil(self, instants: Any, step: Step) -> Any:
+    def ceil(self, instants: Any, step: Step, **others: Any) -> Any:
         """Returns the first instant, from each on, at which a local day, hour or other step begins.
 
         Steps and errors are those of `floor`.
@@ -147,6 +152,7 @@ class Zone(Opened):
         array(['2021-11-07T06:00:00', '2021-11-07T06:00:00'],
               dtype='datetime64[s]')
         """
+        must_have_no_others("ceil", others)
         column = taken(instants, "zone.ceil(s.index, step)", may_be_aware=True)
         return column.instants(of_days.ceiled(self._door, column, step))
 
@@ -159,7 +165,7 @@ class Zone(Opened):
     @overload
     def round(self, instants: Single, step: Step) -> Any: ...
 
-    def round(self, instants: Any, step: Step) -> Any:
+    def round(self, instants: Any, step: Step, **others: Any) -> Any:
         """Returns the nearest instant at which a local day, hour or other step begins.
 
         Of two that are equally near it is the later one. Steps and errors are those of `floor`.
@@ -171,6 +177,7 @@ class Zone(Opened):
         array(['2021-03-15T04:00:00', '2021-03-14T05:00:00'],
               dtype='datetime64[s]')
         """
+        must_have_no_others("round", others)
         column = taken(instants, "zone.round(s.index, step)", may_be_aware=True)
         return column.instants(of_days.rounded(self._door, column, step))
 

@@ -3,10 +3,14 @@
 from __future__ import annotations
 
 from datetime import datetime
-from typing import Any, Literal, NamedTuple, Protocol, Sequence, TypeVar, Union
+from typing import TYPE_CHECKING, Any, Literal, NamedTuple, Protocol, Sequence, TypeVar, Union
 
 import numpy as np
-import numpy.typing as npt
+
+from ._forms import Array
+
+if TYPE_CHECKING:
+    import numpy.typing as npt
 
 
 class Labels(Protocol):
@@ -19,7 +23,7 @@ class Labels(Protocol):
 
 
 #: Numbers and times that are answered by an array.
-Rows = Union[npt.NDArray[Any], Sequence[int], Sequence[np.datetime64]]
+Rows = Union[Array, Sequence[int], Sequence[np.datetime64]]
 #: A second or a time.
 Single = Union[int, "np.integer[Any]", np.datetime64]
 #: All that the calls take as a column.
@@ -29,7 +33,7 @@ Labelled = TypeVar("Labelled", bound=Labels)
 #: A datetime or a Timestamp, which is answered by one.
 Moment = TypeVar("Moment", bound=datetime)
 
-Gap = Literal["raise", "shift", "before", "after", "shift_back", "nat"]
+Gap = Literal["raise", "shift", "after", "shift_back", "before", "nat"]
 FoldWord = Literal["raise", "earliest", "latest", "nat", "infer"]
 #: A word, or 0 and 1 for each row.
 Fold = Union[FoldWord, Rows, Labels, int]

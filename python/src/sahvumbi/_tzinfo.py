@@ -5,8 +5,9 @@ from __future__ import annotations
 from datetime import datetime, timedelta, tzinfo
 from typing import Any, Optional
 
-from ._door import NEVER, ONCE, OUT_OF_RANGE, SEVERAL_TIMES, Door
+from ._door import Door
 from ._forms import EPOCH
+from ._library import NEVER, ONCE, OUT_OF_RANGE, SEVERAL_TIMES
 from ._opening import Zone
 from ._single import FIRST_DAY, seconds_of
 from .errors import NO_OFFSET, NoOffsetError
@@ -23,11 +24,13 @@ class ZoneTime(tzinfo):
     TZif file has a flag for it, and no length.
     """
 
-    __slots__ = ("zone", "_in_force")
+    __slots__ = ("zone", "_in_force", "_only")
 
     def __init__(self, zone: Zone):
         self.zone = zone
         self._in_force = zone._door.in_force
+        # What is in force at a time of day without a date: known if clocks never change.
+        self._only = zone._door.only_type()
 
     @property
     def key(self) -> Optional[str]:
@@ -35,9 +38,9 @@ class ZoneTime(tzinfo):
         return self.zone.key
 
     def utcoffset(self, when: Optional[datetime]) -> Optional[timedelta]:
-        """Returns the offset of a local time of the zone; None for None."""
+        """Returns the offset of a local time of the zone; for None, that of all times, or None."""
         if when is None:
-            return None
+            return None if self._only is None else self._only.offset
         kept = self._in_force(when.toordinal() - FIRST_DAY)
         if kept is not None:
             return kept.offset
@@ -47,16 +50,16 @@ class ZoneTime(tzinfo):
         return timedelta(0, self._type(when).offset)
 
     def tzname(self, when: Optional[datetime]) -> Optional[str]:
-        """Returns the abbreviation at a local time of the zone; None for None."""
+        """Returns the abbreviation at a local time of the zone; for None, that of all times, or None."""
         if when is None:
-            return None
+            return None if self._only is None else self._only.abbreviation
         kept = self._in_force(when.toordinal() - FIRST_DAY)
         return self._type(when).abbreviation.decode() if kept is None else kept.abbreviation
 
     def dst(self, when: Optional[datetime]) -> Optional[timedelta]:
-        """Returns zero in standard time; None in daylight saving time, and for None."""
+        """Returns zero in standard time, and None in daylight saving time; for None as `utcoffset` does."""
         if when is None:
-            return None
+            return None if self._only is None or self._only.is_dst else ZERO
         kept = self._in_force(when.toordinal() - FIRST_DAY)
         return None if (self._type(when) if kept is None else kept).is_dst else ZERO
 

@@ -13,34 +13,18 @@ from __future__ import annotations
 from typing import Any, Optional
 from zoneinfo import ZoneInfoNotFoundError
 
+from ._library import IN_FOLD, IN_GAP, INSTANT_OUT_OF_RANGE, words_of
+
 NO_OFFSET = 2
 TIME_ZONE = 12
-GAP = 21
-FOLD = 22
-OUT_OF_RANGE = 23
+GAP, FOLD, OUT_OF_RANGE = IN_GAP, IN_FOLD, INSTANT_OUT_OF_RANGE
 
-#: The words of each number that an error of a zone or of a row has.
+#: The words of each number that an error of a zone or of a row has: the library's, but for `NO_OFFSET`, which
+#: C reports as an answer.
 WORDS = {
     NO_OFFSET: "the zone has no local time type at that instant",
-    3: "an offset or abbreviation that no local time type can have",
-    5: "a fault in the form of a TZif file",
-    6: "a time or offset of a TZ string is out of its limits, or extra bytes follow the string",
-    7: "unexpected end of input",
-    8: "unexpected byte in a TZ string",
-    10: "a number of a TZ string is missing or too large",
-    12: "the lists of a TZif file make no valid zone",
-    13: "a month, week, weekday or day of a TZ string is out of its limits",
-    14: "a TZif version other than 1, 2 and 3",
-    15: "a TZ string names daylight saving time but has no rule for it",
-    16: "a TZ string that is not UTF-8",
-    17: "out of memory",
-    41: "a transition of a TZif file names no local time type",
-    42: "the transition times of a TZif file do not rise",
-    43: "the leap seconds of a TZif file cannot follow one another",
-    44: "the footer of a TZif file disagrees with the last transition",
-    GAP: "no clock of the zone shows that time",
-    FOLD: "clocks of the zone show that time more than once",
-    OUT_OF_RANGE: "the instant is out of range",
+    **{number: words_of(number) for number in (3, *range(5, 9), 10, *range(12, 18), *range(41, 45))},
+    **{number: words_of(number) for number in (GAP, FOLD, OUT_OF_RANGE)},
 }
 
 
@@ -92,7 +76,12 @@ class RowError(ZoneError):
     `row` is its place from 0 on, in the order of the rows (of an array of several dimensions in C
     order), `value` is what the column has there, and `label` is its label in the index of a Series,
     else None. Of one value and of an end of a stretch `row` is None; `label` is the end's name.
+    `call` is the call that raises the error, such as "zone.localize", or None.
     """
+
+    call: Optional[str] = None
+    #: The argument that says what to return for such a row.
+    argument: Optional[str] = None
 
     def __init__(
         self,
@@ -108,18 +97,26 @@ class RowError(ZoneError):
 
     def __str__(self) -> str:
         text = f"{printable(self.value)}: {self.words} ({self.number})"
-        if self.row is None:
-            return text if self.label is None else f"{printable(self.label)}: {text}"
-        label = "" if self.label is None else f" (label {printable(repr(self.label))})"
-        return f"row {self.row}{label}: {text}"
+        if self.argument is not None and self.words == WORDS[self.number]:
+            text += f"; {self.argument}= says what to return"
+        if self.row is not None:
+            label = "" if self.label is None else f" (label {printable(repr(self.label))})"
+            text = f"row {self.row}{label}: {text}"
+        elif self.label is not None:
+            text = f"{printable(self.label)}: {text}"
+        return text if self.call is None else f"{self.call}: {text}"
 
 
 class GapError(RowError):
     """The zone's clocks skipped that local time (21)."""
 
+    argument = "gap"
+
 
 class FoldError(RowError):
     """The zone's clocks showed that local time more than once (22)."""
+
+    argument = "fold"
 
 
 class OutOfRangeError(RowError):

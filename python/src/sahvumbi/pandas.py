@@ -12,13 +12,16 @@ dtype: datetime64[ns, UTC]
 from __future__ import annotations
 
 from datetime import timedelta
-from typing import Any, Union
+from typing import Any, Literal, Union
 from zoneinfo import ZoneInfo
 
+import numpy as np
+from pandas import Series
 from pandas.api.extensions import register_index_accessor, register_series_accessor
 
-from ._days import Step
 from ._names import zoneinfo_of
+from ._steps import Step
+from .errors import FoldError, GapError
 from .zone import Zone
 
 #: A zone, or its name.
@@ -60,13 +63,17 @@ class Accessor:
         """Returns the day that each instant lies in, as `Zone.day` does."""
         return zone_of(zone).day(self._column)
 
-    def floor(self, zone: ZoneLike, step: Step) -> Any:
+    def floor(self, zone: ZoneLike, step: Step, **others: Any) -> Any:
         """Returns the first instant of the step of each instant, as `Zone.floor` does."""
-        return zone_of(zone).floor(self._column, step)
+        return zone_of(zone).floor(self._column, step, **others)
 
-    def ceil(self, zone: ZoneLike, step: Step) -> Any:
+    def ceil(self, zone: ZoneLike, step: Step, **others: Any) -> Any:
         """Returns the first instant from each on at which a step begins, as `Zone.ceil` does."""
-        return zone_of(zone).ceil(self._column, step)
+        return zone_of(zone).ceil(self._column, step, **others)
+
+    def round(self, zone: ZoneLike, step: Step, **others: Any) -> Any:
+        """Returns the nearest beginning of a step, as `Zone.round` does."""
+        return zone_of(zone).round(self._column, step, **others)
 
     def start_of_day(self, zone: ZoneLike) -> Any:
         """Returns the first instant of the day of each date, as `Zone.start_of_day` does."""
@@ -84,15 +91,20 @@ class Accessor:
         """Returns how often, and when, each local time is shown, as `Zone.explain` does."""
         return zone_of(zone).explain(self._column)
 
-
     # pandas' words
 
-    def tz_localize(self, zone: ZoneLike, ambiguous: Any = "raise", nonexistent: Any = "raise") -> Any:
+    def tz_localize(
+        self,
+        zone: ZoneLike,
+        ambiguous: Union[Literal["raise", "NaT", "infer"], bool, Any] = "raise",
+        nonexistent: Union[Literal["raise", "NaT", "shift_forward", "shift_backward"], timedelta] = "raise",
+    ) -> Any:
         """Returns the instants of local times, in the zone, as pandas' `tz_localize` does.
 
-        `ambiguous` is 'raise', 'NaT', 'infer', or a column that is True for daylight saving time.
-        `nonexistent` is 'raise', 'NaT', 'shift_forward', 'shift_backward', or a timedelta that is added
-        to local times in gaps.
+        `ambiguous` is 'raise', 'NaT', 'infer', or flags, one or a column of them: True for the first
+        instant, which pandas calls daylight saving time. `nonexistent` is 'raise', 'NaT',
+        'shift_forward' and 'shift_backward', the ends of the gap, or a timedelta that is added to local
+        times in gaps. (`Zone.localize` says more of each.)
 
         >>> import pandas
         >>> import sahvumbi.pandas
@@ -101,47 +113,62 @@ class Accessor:
         0   2021-03-14 03:00:00-04:00
         dtype: datetime64[ns, America/New_York]
         """
-        opened, column = zone_of(zone), self._column
-        choices: dict[str, Any] = {"tz": opened}
-        if isinstance(ambiguous, str):
-            choices["fold"] = _word("ambiguous", ambiguous, {"raise": "raise", "NaT": "nat", "infer": "infer"})
-        else:
-            choices["is_dst"] = ambiguous
+        opened = _named(zone, "tz_localize")
+        column, gap = self._column, "raise"
         if isinstance(nonexistent, timedelta):
-            skipped = opened.explain(column)["shown"].to_numpy() == 0
-            moved = column + nonexistent
-            column = column.where(~skipped, moved)
+            is_skipped = opened.explain(column)["shown"].to_numpy() == 0
+            column = column.where(~is_skipped, column + nonexistent)
         else:
-            choices["gap"] = _word("nonexistent", nonexistent, GAPS)
-        return opened.localize(column, **choices)
+            gap = _word("nonexistent", nonexistent, GAPS)
+        fold = _word("ambiguous", ambiguous, FOLDS) if isinstance(ambiguous, str) else _folds(ambiguous)
+        try:
+            return opened.localize(column, gap, fold, tz=opened)  # type: ignore[call-overload]
+        except (GapError, FoldError) as error:
+            error.call = "tz_localize"
+            error.argument = "nonexistent" if isinstance(error, GapError) else "ambiguous"
+            raise
 
     def tz_convert(self, zone: ZoneLike) -> Any:
         """Returns the same instants, shown in the zone: times with a zone of their own are needed."""
-        opened = zone_of(zone)
-        if opened.key is None:
-            raise ValueError(f"tz_convert takes a zone with a name, and {opened!r} has none")
+        key = _named(zone, "tz_convert").key
         if getattr(self._column.dtype, "tz", None) is None:
             raise TypeError("tz_convert takes instants with a zone: tz_localize gives local times one")
         times = getattr(self._column, "dt", self._column)
-        return times.tz_convert("UTC" if opened.key == "UTC" else zoneinfo_of(opened.key))
+        return times.tz_convert("UTC" if key == "UTC" else zoneinfo_of(str(key)))
 
     def normalize(self, zone: ZoneLike) -> Any:
         """Returns the start of the day that each instant lies in, as `Zone.floor(.., 'D')` does."""
         return zone_of(zone).floor(self._column, "D")
 
-    def round(self, zone: ZoneLike, step: Step) -> Any:
-        """Returns the nearest beginning of a step, as `Zone.round` does."""
-        return zone_of(zone).round(self._column, step)
 
-
-#: What pandas says of gaps, and what `Zone.localize` says.
+#: What pandas says of gaps and folds, and what `Zone.localize` says.
 GAPS = {"raise": "raise", "NaT": "nat", "shift_forward": "after", "shift_backward": "before"}
+FOLDS = {"raise": "raise", "NaT": "nat", "infer": "infer"}
+
+
+def _named(zone: ZoneLike, call: str) -> Zone:
+    opened = zone_of(zone)
+    if opened.key is None:
+        raise ValueError(f"{call} takes a zone with a name, and {opened!r} has none: localize takes it")
+    return opened
 
 
 def _word(name: str, word: Any, words: dict[str, str]) -> str:
     if not isinstance(word, str) or word not in words:
-        raise ValueError(f"{name} is one of {', '.join(words)}, and not {word!r}")
+        ours = next((theirs for theirs, own in words.items() if own == word), None)
+        hint = f": our {word!r} is {ours!r} in pandas' words" if ours else ""
+        raise ValueError(f"tz_localize: {name} is one of {', '.join(words)}, and not {word!r}{hint}")
     return words[word]
+
+
+def _folds(flags: Any) -> Any:
+    """0 for each flag that is true, which means the first instant, and 1 for each that isn't."""
+    if isinstance(flags, Series):
+        return 1 - flags.astype("Int8")
+    array = np.asarray(flags)
+    if array.dtype.kind not in "biu":
+        raise TypeError(f"tz_localize: ambiguous is {', '.join(FOLDS)}, or flags, and not {array.dtype}")
+    return 1 - array.astype(np.int8)
 
 
 register_series_accessor("sahvumbi")(Accessor)

@@ -159,13 +159,13 @@ class Zone(Stretches):
     def localize(
         self,
         local_times: Any,
-        gap: Any = "raise",
-        fold: Any = "raise",
+        gap: Literal["raise", "shift", "after", "shift_back", "before", "nat"] = "raise",
+        fold: Union[Literal["raise", "earliest", "latest", "nat", "infer"], Rows, Labels, int] = "raise",
         *,
         is_dst: Any = None,
         offset: Any = None,
         by: Any = None,
-        errors: str = "raise",
+        errors: Literal["raise", "collect"] = "raise",
         tz: Any = "UTC",
         **others: Any,
     ) -> Any:
@@ -205,7 +205,7 @@ class Zone(Stretches):
         >>> new_york.localize(skipped)  # doctest: +ELLIPSIS
         Traceback (most recent call last):
         ...
-        sahvumbi.errors.GapError: row 0: 2021-...: no clock of the zone shows that time (21)
+        sahvumbi.errors.GapError: zone.localize: row 0: 2021-...: the local time lies in a gap (21); ...
         >>> new_york.localize(skipped, gap="shift")
         array(['2021-03-14T07:30:00', '2021-07-01T16:00:00'],
               dtype='datetime64[s]')
@@ -220,7 +220,7 @@ class Zone(Stretches):
         array(['2021-11-07T05:10:00', '2021-11-07T05:50:00',
                '2021-11-07T06:20:00'], dtype='datetime64[s]')
         """
-        must_have_no_others(others)
+        must_have_no_others("localize", others)
         if is_dst is None and offset is None and by is None and errors == "raise" and tz == "UTC":
             instant = single.instant(self._door, local_times, gap, fold)
             if instant is not None:

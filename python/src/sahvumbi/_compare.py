@@ -1,0 +1,228 @@
+"""What a new tz database changes: the zones of two folders, and the stored times that move."""
+
+from __future__ import annotations
+
+import os
+from html import escape
+from typing import TYPE_CHECKING, Any, Literal, NamedTuple, Union
+
+import numpy as np
+
+from ._changes import Time, ends_of_stretch
+from ._choice import chosen, factorized
+from ._differences import Differences, Moved, moved_rows, of_zones
+from ._forms import Array
+from ._inputs import taken
+from ._localize import localized
+from ._many import answered
+from ._types import Labels, Rows
+from .errors import ZoneError, ZoneNotFoundError, printable
+from .zone import Zone
+
+if TYPE_CHECKING:
+    import pandas
+
+#: Folders of a tz database that have its zones once more, with and without leap seconds.
+LEFT_OUT = {"right", "posix"}
+FIRST, LAST = np.datetime64("1900", "s"), np.datetime64("2038", "s")
+
+Folder = Union[str, "os.PathLike[str]"]
+
+
+class ZoneGroup(NamedTuple):
+    """Zones with the same differences."""
+
+    zones: list[str]
+    differences: Differences
+
+
+class Comparison:
+    """What the new one of two tz databases changes. Printed, it is a summary as that of
+    `zonedump --diff OLD NEW --summary`."""
+
+    old: str
+    """The folders, as they were given."""
+    new: str
+    both: list[str]
+    """The names that both folders have and that were compared, in order."""
+    groups: list[ZoneGroup]
+    """The zones that differ: those with the same differences together, in the order of names."""
+    only_old: list[str]
+    """The names that only the old folder has, in order."""
+    only_new: list[str]
+    """The names that only the new folder has, in order."""
+    rejected: dict[str, Exception]
+    """Zones that can't be read in one of the folders, and why. They are not compared."""
+
+    def __init__(self, old: Folder, new: Folder, from_: Time, to: Time):
+        ends_of_stretch(from_, to)
+        self.old, self.new = os.fspath(old), os.fspath(new)
+        before, after = _paths_in(self.old), _paths_in(self.new)
+        self.only_old = [name for name in before if name not in after]
+        self.only_new = [name for name in after if name not in before]
+        self.both, self.rejected = [], {}
+        groups: dict[tuple[bytes, ...], ZoneGroup] = {}
+        for name in (name for name in before if name in after):
+            try:
+                zones = Zone.from_file(before[name]), Zone.from_file(after[name])
+                found = of_zones(zones[0]._door, zones[1]._door, from_, to)
+            except (OSError, ZoneError) as error:
+                self.rejected[name] = error
+                continue
+            self.both.append(name)
+            if found:
+                key = tuple(np.ascontiguousarray(field).tobytes() for field in found)
+                groups.setdefault(key, ZoneGroup([], found)).zones.append(name)
+        self.groups = list(groups.values())
+
+    def __bool__(self) -> bool:
+        """Returns whether a zone differs, or is in only one of the folders."""
+        return bool(self.groups or self.only_old or self.only_new)
+
+    def __str__(self) -> str:
+        lines = [line for group in self.groups for line in _lines_of(group)]
+        old, new = printable(self.old), printable(self.new)
+        for folder, names in ((old, self.only_old), (new, self.only_new)):
+            if names:
+                lines.append(f"only in {folder}: {', '.join(names)}")
+        lines += [f"{name}: {error}" for name, error in self.rejected.items()]
+        count = sum(len(group.zones) for group in self.groups)
+        only = f"only in {old}: {len(self.only_old)}; only in {new}: {len(self.only_new)}"
+        return "\n".join([*lines, f"zones that differ: {count} of {len(self.both)}; {only}"])
+
+    __repr__ = __str__
+
+    def _repr_html_(self) -> str:
+        return f"<pre>{escape(str(self))}</pre>"
+
+    def to_frame(self) -> pandas.DataFrame:
+        """Returns a DataFrame with a row for each zone and stretch in which it differs."""
+        import pandas
+
+        frames = [
+            group.differences.to_frame().assign(zone=name) for group in self.groups for name in group.zones
+        ]
+        columns = ["zone", *Differences._fields]
+        return pandas.concat(frames, ignore_index=True)[columns] if frames else pandas.DataFrame(columns=columns)
+
+    def moved(
+        self,
+        local_times: Any,
+        zones: Any,
+        gap: Literal["raise", "shift", "after", "shift_back", "before", "nat"] = "raise",
+        fold: Union[Literal["raise", "earliest", "latest", "nat", "infer"], Rows, Labels, int] = "raise",
+        *,
+        is_dst: Any = None,
+        offset: Any = None,
+        by: Any = None,
+    ) -> Moved:
+        """Returns the rows whose local time has another instant in the new database.
+
+        `zones` is the name of all rows' zone, or a column with the name of each row's. Choices and errors
+        are those of `Zone.localize`, for both databases. Raises `ZoneNotFoundError` if one of them
+        has no zone of a name.
+        """
+        column = taken(local_times, "comparison.moved(s.index, zones)", may_be_aware=False)
+        choice = chosen(column, gap, fold, is_dst, offset, by)
+        codes, names = factorized("zones", zones, column)
+
+        def instants(folder: str) -> Array:
+            opened = [_zone_in(folder, name) for name in names]
+
+            def ask(zone: Zone, places: Array) -> Array:
+                return localized(zone._door, column.part(places), choice.part(places))
+
+            return answered(opened, codes, column, ask)
+
+        return moved_rows(column, instants(self.old), instants(self.new))
+
+
+def compare(old: Folder, new: Folder, from_: Time = FIRST, to: Time = LAST) -> Comparison:
+    """Returns what the new one of two tz databases changes from `from_` on and before `to`.
+
+    `old` and `new` are folders such as /usr/share/zoneinfo: the zones of the same name in both are
+    compared, also those in folders below. Zones below `right/` and `posix/` are left out; to compare
+    these, name the folders themselves. A file that doesn't begin with `TZif` is no zone, and a link
+    to a folder isn't followed. Ends are as in `Zone.changes`. Raises OSError if a folder can't be
+    read.
+
+    >>> from sahvumbi import compare
+    >>> print(compare("/usr/share/zoneinfo/Arctic", "/usr/share/zoneinfo/Arctic"))
+    zones that differ: 0 of 1; only in /usr/share/zoneinfo/Arctic: 0; only in /usr/share/zoneinfo/Arctic: 0
+    """
+    return Comparison(old, new, from_, to)
+
+
+def _paths_in(folder: str) -> dict[str, str]:
+    """The zones of a folder, in the order of their names, and the path of each."""
+    os.scandir(folder).close()
+    found = {}
+    for top, folders, files in os.walk(folder):
+        if top == folder:
+            folders[:] = [name for name in folders if name not in LEFT_OUT]
+        for path in (os.path.join(top, file) for file in files):
+            if _is_zone(path):
+                found[os.path.relpath(path, folder)] = path
+    return dict(sorted(found.items()))
+
+
+def _is_zone(path: str) -> bool:
+    """Whether a file begins as a TZif file does, or can't be read, which is said when it is opened."""
+    if not os.path.isfile(path):
+        return False
+    try:
+        with open(path, "rb") as file:
+            return file.read(4) == b"TZif"
+    except OSError:
+        return True
+
+
+def _zone_in(folder: str, name: str) -> Zone:
+    path = os.path.join(folder, str(name))
+    if not os.path.isfile(path):
+        raise ZoneNotFoundError(f"no zone has the name {printable(name)!r} in {printable(folder)}")
+    return Zone.from_file(path)
+
+
+# A summary
+
+
+def _lines_of(group: ZoneGroup) -> list[str]:
+    """The names of a group, and a line for each pair of types, with its first stretch."""
+    found = group.differences
+    lines: dict[tuple[str, str], str] = {}
+    counts: dict[tuple[str, str], int] = {}
+    for row in range(found.from_.size):
+        old, new = _type_of(found, row, "old"), _type_of(found, row, "new")
+        counts[old, new] = counts.get((old, new), -1) + 1
+        if counts[old, new] == 0:
+            moved = _seconds(found.offset_new[row]) - _seconds(found.offset_old[row])
+            ends = f"{_time(found.from_[row])} to {_time(found.until[row])} UTC"
+            lines[old, new] = f"  {ends}: {_moved(moved)}, {old} becomes {new}"
+    more = (f", and {count} more" if count else "" for count in counts.values())
+    return [", ".join(group.zones), *(line + rest for line, rest in zip(lines.values(), more))]
+
+
+def _type_of(found: Differences, row: int, side: str) -> str:
+    """A type as its offset, `dst` or `std`, and its abbreviation."""
+    seconds = _seconds(getattr(found, f"offset_{side}")[row])
+    minutes, rest = divmod(abs(seconds), 60)
+    offset = f"{'-' if seconds < 0 else '+'}{minutes // 60:02}:{minutes % 60:02}" + f":{rest:02}" * bool(rest)
+    word = "dst" if getattr(found, f"is_dst_{side}")[row] else "std"
+    return f"{offset} {word} {getattr(found, f'name_{side}')[row] or '-'}"
+
+
+def _moved(seconds: int) -> str:
+    if seconds == 0:
+        return "no clock moves"
+    sense, length = "ahead" if seconds > 0 else "back", abs(seconds)
+    shown = f"{length} s" if length % 60 else f"{length // 60} min"
+    return f"clocks are {shown} {sense}"
+
+
+def _seconds(offset: Any) -> int:
+    return int(offset.astype("m8[s]").astype(np.int64))
+
+
+def _time(instant: Any) -> str:
+    return str(instant.astype("M8[s]")).replace("T", " ")
