@@ -270,12 +270,11 @@ def number_faults():
     places = {
         TEXTS: {int(number): said for number, said in re.findall(r'IsSaidOf (\d+) \(codes "(.*)"\)', text_of(TEXTS))},
         HEADER: {int(number): said for name, number, said in defines if constants.get(name) == int(number)},
-        PYTHON: {int(number): said for number, said in re.findall(r'(?m)^ {4}(\d+): "(.*)",$', text_of(PYTHON))},
+        # Python asks the library for the others.
+        PYTHON: {2: said for said in re.findall(r'(?m)^ {4}NO_OFFSET: "(.*)",$', text_of(PYTHON))},
     }
-    at_instants = re.search(r'(?m)^ {4}NO_OFFSET: "(.*)",$', text_of(PYTHON))
-    places[PYTHON][2] = at_instants and at_instants[1]
     returned = {number for number in places[TEXTS] if 0 < number < 18}
-    due = {TEXTS: returned, HEADER: returned, PYTHON: returned | {2}}
+    due = {TEXTS: returned, HEADER: returned, PYTHON: {2}}
     if sorted(words) != list(range(1, 18)) or len(returned) < 12:
         yield f"{shown(ERROR)}: its comments aren't read, or the table of {shown(TEXTS)}"
     for path, said in places.items():

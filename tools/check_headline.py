@@ -5,7 +5,8 @@ A citation is `crate::module::function` {`clause`}, or `crate::module::function`
 whose only clause has no name: the clause is one of the function's `ensures`. A ghost member is cited
 by its trait, as `crate::module::Trait` {`ghost`}, or by its impl, as
 `crate::module::Trait<Argument> for Type` {`ghost`}, without the impl's parameters. The type's
-arguments may be left out. The module is a path of files below src/.
+arguments may be left out. The module is a path of files below src/. The blocks of definitions on that page are
+parts of crates/zoned/specs/Headline.antt.
 """
 import re
 import sys
@@ -79,12 +80,15 @@ def main():
     citations = CITATION.findall(text)
     faults = [missing(path, re.findall(r"`(\w+)`", clauses) or [""]) for path, clauses in citations]
     faults = [fault for fault in faults if fault]
+    blocks = re.findall(r"(?ms)^```antt\n(.*?)^```$", text)
+    page = TOP / "crates/zoned/specs/Headline.antt"
+    faults += [f"no part of {page.relative_to(TOP)}: {block.splitlines()[0]}" for block in blocks if block not in text_of(page)]
     for fault in faults:
         print(fault)
-    if not citations:
-        print("docs/PROVED.md cites no clause")
+    if not citations or not blocks:
+        print("docs/PROVED.md cites no clause, or doesn't have the headline")
     print(f"{len(citations)} citations, {len(faults)} missing")
-    return 1 if faults or not citations else 0
+    return 1 if faults or not citations or not blocks else 0
 
 
 if __name__ == "__main__":

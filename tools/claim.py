@@ -15,6 +15,7 @@ given, as docs/PROVED.md cites them. For each clause it prints:
 A pin is printed with a definition if its clauses cite it; pins of words below it bear on it too (tools/claim.py doesn't follow them).
 """
 
+import os
 import sys
 
 from check_headline import CITATION
@@ -80,4 +81,8 @@ def main():
 
 
 if __name__ == "__main__":
-    main()
+    try:
+        main()
+    except BrokenPipeError:
+        # Nobody reads on, as after `head`.
+        os.dup2(os.open(os.devnull, os.O_WRONLY), sys.stdout.fileno())

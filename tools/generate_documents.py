@@ -5,9 +5,11 @@ usage: tools/generate_documents.py
 
 - docs/INDEX.md: each word of specs/ that a public contract cites, other than a pin, with its page and its meaning, which is the comment
   before its definition, or before that of several words.
+- docs/TRUSTED.md: the definitions, ghost members and `unsafe` code that a reader must trust (tools/trusted.py).
 - docs/DEFINITIONS.md: the wrong definitions that each pin rejects (tools/try_definitions.py).
-- docs/TESTING.md: a table of planted bugs and wrong definitions by crate.
+- docs/TESTING.md: a table of planted bugs and wrong definitions by crate, and one of the tables of tools/comparing/peers.
 - docs/MAP.md: a table of crates, each with the libraries of crates.txt and the first sentence of its root.
+- docs/DIFFERENCES.md: the calls that chrono doesn't have (tools/own_calls.py).
 - docs/PROGRAMS.md: the error numbers 1 to 17 with the words of the comments of tz_info's `Error`.
 - docs/PYTHON.md: the calls about columns, each with the first sentence of its docstring.
 - README.md and docs/TESTING.md: how many tests, planted bugs and wrong definitions there are, and the last line that the tests print.
@@ -18,18 +20,22 @@ A generated table is between `<!-- NAME -->` and `<!-- end -->`, or ends its pag
 import ast
 import re
 
+import trusted
+from comparing.peers import KNOWN, TABLES as PEERS
 from edits import PLANTED_BUGS, WRONG_DEFINITIONS, all_blocks, blocks
+from own_calls import own_calls
 from sources import TOP, cited, crates, files, public_clauses, module_of, text_of, uses, words_of
 from try_definitions import with_rejected
 
 DEFINITIONS, INDEX, MAP = TOP / "docs/DEFINITIONS.md", TOP / "docs/INDEX.md", TOP / "docs/MAP.md"
-PROGRAMS, PYTHON_PAGE = TOP / "docs/PROGRAMS.md", TOP / "docs/PYTHON.md"
+TRUSTED = TOP / "docs/TRUSTED.md"
+DIFFERENCES, PROGRAMS, PYTHON_PAGE = TOP / "docs/DIFFERENCES.md", TOP / "docs/PROGRAMS.md", TOP / "docs/PYTHON.md"
 README, TESTING = TOP / "README.md", TOP / "docs/TESTING.md"
 ERROR = TOP / "crates/tz_base/src/error.rt"
 NUMBERS = TOP / "crates/tz_base/specs/Errors.antt"
 PYTHON = TOP / "python/src/sahvumbi"
 # The modules whose calls PYTHON.md lists: those of a zone, and functions of the package.
-OF_ZONES, OF_PACKAGE = ["zone", "_stretches"], ["_differences", "_many"]
+OF_ZONES, OF_PACKAGE = ["zone", "_stretches"], ["_differences", "_compare", "_many"]
 PLANTED = "## Planted bugs and wrong definitions by crate\n"
 LAST_OF_TESTS = re.compile(r"(?m)^\d+ of \d+ tests passed, status 0$")
 
@@ -89,6 +95,22 @@ def planted():
     ])
 
 
+# Other projects' tests
+
+
+def with_peers(text):
+    """The page with a row for each table of other projects' tests: how many rows agree, and why the others don't."""
+
+    def row(table):
+        source = re.match(r"# Rows of (.*?)'s (\S+?),? ", text_of(table))
+        count = sum(line[:1].isdigit() for line in text_of(table).splitlines())
+        reasons = KNOWN.get(table.stem, {})
+        differ = "; ".join(f"{len(lines)}: {reason}" for reason, lines in reasons.items()) or "none"
+        return f"| {source[1]}, `{source[2]}` | {count} | {count - sum(map(len, reasons.values()))} | {differ} |"
+
+    return between("peers", text, ["| test of | rows | agree | differ, and why |", "|---|--:|--:|---|", *map(row, sorted(PEERS.glob("*.txt")))])
+
+
 # The map of crates
 
 
@@ -138,7 +160,8 @@ def with_numbers(text):
 
 def documented_calls(module):
     """The calls of a module that users have, each with the first sentence of its docstring."""
-    for node in ast.walk(ast.parse(text_of(PYTHON / f"{module}.py"))):
+    tree = ast.parse(text_of(PYTHON / f"{module}.py"))
+    for node in ast.walk(tree) if module in OF_ZONES else tree.body:
         says = isinstance(node, ast.FunctionDef) and not node.name.startswith("_") and ast.get_docstring(node)
         if says and (module in OF_ZONES or f'"{node.name}"' in text_of(PYTHON / "__init__.py")):
             parameters = [each.arg for each in node.args.args if each.arg != "self"]
@@ -169,13 +192,14 @@ def counts():
         "planted bugs in the gate": sum(block.is_in_gate for block in bugs),
         "planted bugs in all": len(bugs),
         "wrong definitions": len(all_blocks(WRONG_DEFINITIONS)),
+        "rows of [other projects' tests]": how_often(r"(?m)^\d", sorted(PEERS.glob("*.txt"))),
         "programs that must not compile": len(list((TOP / "tools/refused").glob("*.txt"))),
         "tests of the Python package": how_often(r"(?m)^ *def test_", sorted((TOP / "python/tests").glob("test_*.py"))),
     }
 
 
 def row(words):
-    return re.compile(rf"(?m)(^\| |\*\*)([\d,]+)( \| |\*\* )(?={re.escape(words)}\b)")
+    return re.compile(rf"(?m)(^\| |\*\*)([\d,]+)( \| |\*\* )(?={re.escape(words)}(?!\w))")
 
 
 def with_counts(text):
@@ -195,9 +219,11 @@ def generated():
     testing = text_of(TESTING)
     return {
         INDEX: index(),
+        TRUSTED: trusted.page(),
         DEFINITIONS: with_rejected(text_of(DEFINITIONS)),
-        TESTING: with_counts(testing[: testing.find(PLANTED)] + planted()),
+        TESTING: with_counts(with_peers(testing[: testing.find(PLANTED)] + planted())),
         MAP: with_crates(text_of(MAP)),
+        DIFFERENCES: between("own calls", text_of(DIFFERENCES), ["| crate | type or trait | calls |", "|---|---|---|", *own_calls()]),
         PROGRAMS: with_numbers(text_of(PROGRAMS)),
         PYTHON_PAGE: with_calls(text_of(PYTHON_PAGE)),
         README: LAST_OF_TESTS.sub(last_of_tests(), with_counts(text_of(README))),

@@ -815,8 +815,8 @@ def main():
     for text in WRONG_TEXTS:
         status, output, errors = run(program, "--text", text)
         check(f"--text {text!r}", (1, "", True), (status, output, f"{text}: not a TZ string: " in errors))
-    for text, shown, words, place, column in POINTED:
-        due = f"zonedump: {shown}: not a TZ string: {words}\n  {shown}\n  {' ' * column}^ at offset {place}\n"
+    for text, shown, words, place, column, hint in POINTED:
+        due = f"zonedump: {shown}: not a TZ string: {words}\n  {shown}\n  {' ' * column}^ at offset {place}\n{hint}"
         check(f"the caret under {text!r}", (1, "", due), run(program, "--text", text))
         check(f"the caret under {text!r} with --extended", (1, "", due), run(program, "--extended", "--text", text))
     return exit_status()
@@ -844,12 +844,15 @@ WRONG = {
 MONTH = "invalid transition rule: expected a month from 1 to 12 (13)"
 NO_DIGIT = "invalid number: expected a digit (10)"
 
-# A TZ string, what is printed of it, what is wrong with it, the number of bytes in front of the fault, and the caret's column.
+NO_RULE = "zonedump: a rule says when daylight saving time starts and ends, as in --text 'AAA5BBB,M3.5.0,M10.5.0/3'\n"
+
+# A TZ string, what is printed of it, what is wrong with it, the number of bytes in front of the fault, the caret's column, and what to
+# type.
 POINTED = (
-    ("EST5EDT,M3.2.0,M13.1.0", "EST5EDT,M3.2.0,M13.1.0", MONTH, 16, 16),
-    ("AAA5BBB", "AAA5BBB", "unsupported TZ string: expected days when daylight saving time starts and ends (15)", 7, 7),
-    ("<\x1b\u00e9>x", "<\\u{1b}\u00e9>x", NO_DIGIT, 5, 9),
-    ("E", "E", NO_DIGIT, 1, 1),
+    ("EST5EDT,M3.2.0,M13.1.0", "EST5EDT,M3.2.0,M13.1.0", MONTH, 16, 16, ""),
+    ("AAA5BBB", "AAA5BBB", "unsupported TZ string: expected days when daylight saving time starts and ends (15)", 7, 7, NO_RULE),
+    ("<\x1b\u00e9>x", "<\\u{1b}\u00e9>x", NO_DIGIT, 5, 9, ""),
+    ("E", "E", NO_DIGIT, 1, 1, ""),
 )
 
 WRONG_WORDS = (
@@ -897,12 +900,15 @@ WRONG_USES = (
      "zonedump: Europe/Paris: no such file, and no tz database is here; name its folder with --tzdir FOLDER"),
     ("zonedump --text America/New_York", 1,
      "zonedump: America/New_York: not a TZ string: invalid number: expected a digit (10)\n"
+     "  America/New_York\n         ^ at offset 7\n"
      "zonedump: America/New_York is the name of a zone: leave out --text, as in zonedump America/New_York"),
     ("zonedump --text UTC", 1,
      "zonedump: UTC: not a TZ string: invalid number: expected a digit (10)\n"
+     "  UTC\n     ^ at offset 3\n"
      "zonedump: UTC is the name of a zone: leave out --text, as in zonedump UTC"),
     ("zonedump --text CET-1CEST", 1,
      "zonedump: CET-1CEST: not a TZ string: unsupported TZ string: expected days when daylight saving time starts and ends (15)\n"
+     "  CET-1CEST\n           ^ at offset 9\n"
      "zonedump: a rule says when daylight saving time starts and ends, as in --text 'CET-1CEST,M3.5.0,M10.5.0/3'"),
     ("zonedump --text UTC0 Europe/Paris", 2, f"error: the argument '--text <TZ>' cannot be used with '[ZONE]...'\n{LEAVE_OUT}"),
     ("zonedump -v Europe/Paris", 2, f"error: unexpected argument '-v' found\n{AS_ZDUMP}"),

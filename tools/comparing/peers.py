@@ -19,9 +19,10 @@ EPOCH = datetime(1970, 1, 1)
 
 A_DAY = "an offset of 24 hours is rejected, as chrono rejects it (POSIX allows it)"
 ONE_DIGIT = "minutes and seconds of one digit are read, as POSIX's grammar has them"
+SHORT_NAMES = "names of one letter are rejected: POSIX has three letters at least"
 NEW_YEAR = "Go ends each span at the new year in UTC; no clock changes then"
 # The checks whose rows name a zone of the tz database; those of the others have a TZ string.
-OF_THE_DATABASE = ("change", "type", "offset")
+OF_THE_DATABASE = ("change", "type", "offset", "never", "twice")
 # The rows that are known to differ, with the reason: the project's file, and the lines of its test.
 KNOWN = {
     "cpython": {
@@ -29,6 +30,7 @@ KNOWN = {
         ONE_DIGIT: [1100, 1102, 1105, 1107, 1146, 1148, 1151, 1153],
     },
     "go": {NEW_YEAR: [268, 272, 273]},
+    "tzinfo": {SHORT_NAMES: [48, 80]},
 }
 
 
@@ -118,6 +120,8 @@ CHECKS = {
     "type": kind,
     "span": span,
     "offset": lambda zoneq, second, offset: zoneq.at(second)[0] == int(offset),
+    "never": lambda zoneq, local: not zoneq.wall(datetime.fromisoformat(local)),
+    "twice": lambda zoneq, local: len(zoneq.wall(datetime.fromisoformat(local))) == 2,
     "valid": lambda zoneq: True,
 }
 

@@ -7,8 +7,9 @@ zone to zone. `ZoneDays::next_fire` and `previous_fire` list their fires in both
 - the instants that croniter and rrule themselves list in that zone, but for local times in a gap or a fold, which are counted. In a
   gap croniter and rrule have instants that show another local time, or none; in a fold croniter may have the second pass, or both.
 
-Any other difference is printed. The plans run in one test with no proof, as tools/try_tests.py runs tests. It takes some minutes and
-needs Debian's python3-croniter and python3-dateutil.
+Any other difference is printed. The plans run in one test with no proof, as tools/try_tests.py runs tests, so unoptimized: the twenty of
+a zone take one or two minutes of processor time, and croniter and dateutil more, since dateutil passes through each minute of a
+minutely rule. All thirty zones take over an hour. It needs Debian's python3-croniter and python3-dateutil.
 """
 
 import calendar

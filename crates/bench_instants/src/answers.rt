@@ -10,13 +10,13 @@ use zoned_round::DurationRound;
 use zoned_series::DailySeries;
 use zoned_time::{DateTime, Offset, TimeZone};
 
-// The answer where there is none, as of a month later at a reading in a gap.
+// The number for no answer, as of a month later at a local date-time in a gap.
 const NONE: i64 = i64::MIN;
 
 // How many days a series has.
 const DAYS: u32 = 28;
 
-// What java.time and Abseil take where they aren't asked.
+// What java.time and Abseil take if they aren't asked.
 const CHOICE: Choice = Choice {
     gap: GapChoice::ShiftForward,
     fold: FoldChoice::Earliest,
@@ -228,7 +228,7 @@ fn second_resolved<Tz: TimeZone>(zone: &Tz, reading: &NaiveDateTime) -> i64 {
     second_of(zone.resolve(reading, CHOICE).ok())
 }
 
-// The sum of the instants on four weeks, from the day of the reading on.
+// The sum of the instants on four weeks, from the day of the local date-time on.
 fn seconds_daily<Tz: TimeZone>(zone: Tz, reading: &NaiveDateTime) -> i64 {
     let Some(half_past_two) = NaiveTime::from_hms_opt(2, 30, 0) else {
         return NONE;

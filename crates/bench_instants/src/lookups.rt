@@ -79,7 +79,7 @@ fn at_instant<Tz: TimeZone>(zone: &Tz, second: i64) -> i64 {
     }
 }
 
-// Those at the first and the last instant that show a reading, the last one's twice.
+// Those at the first and the last instant that show a local date-time, the last one's twice.
 fn at_wall_clock<Tz: TimeZone>(zone: &Tz, second: i64) -> i64 {
     let Some(local) = NaiveDateTime::from_timestamp_opt(second, 0) else {
         return 0;
@@ -93,7 +93,7 @@ fn at_wall_clock<Tz: TimeZone>(zone: &Tz, second: i64) -> i64 {
     }
 }
 
-// Those at the instant that is taken for a reading in a gap.
+// Those at the instant that is taken for a local date-time in a gap.
 fn in_gap<Tz: TimeZone>(zone: &Tz, second: i64) -> i64 {
     let Some(local) = NaiveDateTime::from_timestamp_opt(second, 0) else {
         return 0;

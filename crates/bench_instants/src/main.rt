@@ -60,7 +60,7 @@ fn work(rt: &HostRuntime) -> Result<(), WorkError> {
     )
 }
 
-// A word that isn't needed is empty where there is none.
+// A word that isn't needed is empty if it isn't given.
 fn text_of(word: &Option<String>) -> &str {
     match word {
         Some(word) => word.as_str(),

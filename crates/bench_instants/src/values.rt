@@ -9,12 +9,13 @@ const FIRST: i64 = 1_577_836_800;
 
 const SECONDS: u64 = 315_619_200;
 
-// The seeds of the instants, and of the readings.
+// The seeds of the instants, and of the local date-times.
 const INSTANTS: u64 = 2;
 
 const READINGS: u64 = 4;
 
-// The readings at which New York's clocks were set forward from two to three, in each of the years.
+// The local date-times at which New York's clocks were set forward from two to three, in each of
+// the years.
 const GAPS: [i64; 10] = [
     1_583_632_800,
     1_615_687_200,

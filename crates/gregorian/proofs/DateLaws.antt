@@ -55,7 +55,7 @@ one_date y m d y₂ m₂ d₂ h k e =
     let here : IsDate y₂ m d = rw same at h in let f : day_number y₂ m d ≡ day_number y₂ m₂ d₂ = rw same at e in
     grind (arith, floors, same_place (is_leap y₂) m d m₂ d₂ here.0 here.2 here.3 k.0 k.2 k.3 (places_of y₂ m d m₂ d₂ f))
 
--- the date that a day number stands for
+-- the date of a day number
 pub date_is : (day : ℤ)
     → IsDate (year_of day) (month_of day) (day_of_month day)
     × (day_number (year_of day) (month_of day) (day_of_month day) ≡ day)

@@ -1,2 +1,2 @@
--- The ruleset `floors`, whose page stands with the steps of definitions.
+-- The ruleset `floors`, whose page is among the steps of definitions.
 pub use Rattle.gregorian.specs.Steps.Floor.{floors}

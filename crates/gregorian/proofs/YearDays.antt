@@ -1,4 +1,4 @@
--- What tells a year's calendar, by centuries and years after a January.
+-- What decides a year's calendar, by centuries and years after a January.
 use Rattle.std.proofs.Common.{◌≡◌, ℕ, ◌+◌, ◌*◌, ◌/◌, ◌%◌, ◌<◌, arith, ◌==◌, not, ◌&&◌, ◌||◌, ℤ, pos, ◌+ℤ◌, ◌-ℤ◌}
 use Rattle.gregorian.specs.{Year.{is_leap, year_start}, DateOf.{year_of}, Steps.Cycle.{days_of_years}, Weekdays.{weekday_of}}
 use Rattle.gregorian.proofs.{Floor.{floors}, Cycle.{january_start, year_found}, YearLaws.{one_year, lies_in}}

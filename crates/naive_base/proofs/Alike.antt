@@ -1,4 +1,4 @@
--- Dates, times and readings print alike only where they are equal: what is printed can be read back.
+-- Dates, times and local date-times print alike only if they are equal: what is printed can be read back.
 use Rattle.std.proofs.Math.Nat.{pow-suc}
 use Rattle.std.proofs.lemmas.Fmt.{decimal_by_steps}
 use Rattle.std.specs.Prelude.{if◌then◌else◌, ◌==◌}
@@ -67,7 +67,7 @@ day_text-read day rest wide =
     let is = date_is day in let days = month_bounds (is_leap (year_of day)) (month_of day) in
     grind (arith, append_assoc, year_text-read, pair_read, wide_year day wide)
 
--- Times and readings.
+-- Times and local date-times.
 
 abbrev triple_at : List ℕ → ℕ → ℕ
 triple_at text i = (get_or text i 48 - 48) * 100 + pair_at text (suc i)

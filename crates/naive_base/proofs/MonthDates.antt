@@ -1,4 +1,4 @@
--- The month so many months from a day's has the day of the month, or its own last one.
+-- The month that many months from a day's has the day of the month, or its own last one.
 use Rattle.std.proofs.Math.Nat.{le-min, min-le_right}
 use Rattle.naive_base.proofs.Words.{IsDate, IsMonthsLater, IsSome, IsYearInRange, None, Option, arith, date_is, day_of_month, days_in_month, floor_mod_parts}
 use Rattle.naive_base.proofs.Words.{floors, is_leap, min, month_after, month_bounds, month_of_number, option_map, year_of_number, ℤ, ◌≡◌}

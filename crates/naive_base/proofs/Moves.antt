@@ -16,7 +16,7 @@ pub moved_leap-behind : (s p : ℤ) → pos 2_000_000_000 ≤ℤ p
     → moved_leap s p ≡ of_total (s *ℤ pos 1_000_000_000 +ℤ p -ℤ pos 1_000_000_000)
 moved_leap-behind s p h = grind (arith, ints)
 
--- Readings that are no leap second are their whole nanoseconds.
+-- Local date-times that are no leap second are their whole nanoseconds.
 
 of_total-total-reading : (r : Reading) → r.f < 1_000_000_000 → of_total (total r) ≡ r
 of_total-total-reading r h = grind arith
@@ -46,12 +46,12 @@ difference-plain a b h k = rw (leap_between-plain a b h k) (omega (arith, floors
 pub difference-moved : (r : Reading) (d : ℤ) → r.f < 1_000_000_000 → difference (moved r d) r ≡ d
 difference-moved r d h = omega (arith, floors, difference-plain (moved r d) r (moved-plain_again r d h) h, total-moved r d h)
 
--- A reading and itself.
+-- A local date-time and itself.
 
 pub difference-itself : (r : Reading) → difference r r ≡ pos 0
 difference-itself r = grind (arith, floors)
 
--- by a move of no length a reading stays
+-- by a move of no length a local date-time stays
 pub moved-none : (r : Reading) → r.f < 2_000_000_000 → moved r (pos 0) ≡ r
 moved-none r h = grind arith
 

@@ -6,7 +6,7 @@ use Rattle.naive_base.proofs.Words.{weekday_later, weekday_number, weekday_of, w
 use Rattle.naive_base.proofs.Words.{◌-◌, ◌<◌, ◌≡◌, ◌≤◌}
 use Rattle.std.proofs.lemmas.Int.{ints}
 
--- the day of the month of the n-th weekday w, where the month begins on the weekday f
+-- the day of the month of the n-th weekday w, if the month begins on the weekday f
 abbrev pub nth_day : ℕ → ℕ → ℕ → ℕ
 nth_day f w n = (w + 7 - f) % 7 + 7 * (n - 1) + 1
 
@@ -21,7 +21,7 @@ pub only_nth : (y : ℤ) (m w n : ℕ) (day : ℤ) → IsWeekdayOfMonth y m w n 
     → IsDate y m (nth_day (weekday_of (day_number y m 1)) w n) × IsDate y m 1 × (1 ≤ n)
 only_nth y m w n day h = grind (arith, date_is, weekday_later, number_at)
 
--- the place in its year of the Thursday of the n-th week, where the year begins on the weekday f
+-- the place in its year of the Thursday of the n-th week, if the year begins on the weekday f
 abbrev pub thursday_place : ℕ → ℕ → ℕ
 thursday_place f n = (11 - f) % 7 + 7 * (n - 1)
 

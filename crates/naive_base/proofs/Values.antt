@@ -1,4 +1,4 @@
--- Dates, times and readings are what they show.
+-- Dates, times and local date-times are what they show.
 use Rattle.naive_base.proofs.Words.{IsReading, IsTime, IsWideDay, IsWideYear, IsoWeek, NaiveDate, NaiveDateTime, NaiveTime, ap, day_of, fraction_of, iso_number}
 use Rattle.naive_base.proofs.Words.{iso_year, props, reading, second_of, subst, ℕ, ℤ, ◌≡◌, ◌≤◌}
 

@@ -21,7 +21,7 @@ pub record IsGiven {T V : Type 0} (shows : T → V) (gives : Option V → Option
 abbrev pub MayShow : ℤ → ℤ → ℕ → ℕ → Type 0
 MayShow old y m d = IsDate y m d × (IsYearInRange y ⊎ (day_number y m d ≡ old))
 
--- the answer where the day `old` gives way to that of a date
+-- the answer if the day `old` gives way to that of a date
 abbrev pub IsDateGiven : {T : Type 0} → (T → ℤ) → (Option ℤ → Option T → Type 0) → ℤ → ℤ → ℕ → ℕ → Option T → Type 0
 IsDateGiven shows gives old y m d answer = IsGiven shows gives (MayShow old y m d) (day_number y m d) answer
 
@@ -29,16 +29,16 @@ IsDateGiven shows gives old y m d answer = IsGiven shows gives (MayShow old y m 
 abbrev pub MayShowOrdinal : ℤ → ℤ → ℕ → Type 0
 MayShowOrdinal old y n = (1 ≤ n) × (n ≤ days_in_year y) × (IsYearInRange y ⊎ (year_start y +ℤ pos (n - 1) ≡ old))
 
--- the answer where it gives way to the n-th day of a year
+-- the answer if it gives way to the n-th day of a year
 abbrev pub IsOrdinalGiven : {T : Type 0} → (T → ℤ) → (Option ℤ → Option T → Type 0) → ℤ → ℤ → ℕ → Option T → Type 0
 IsOrdinalGiven shows gives old y n answer = IsGiven shows gives (MayShowOrdinal old y n) (year_start y +ℤ pos (n - 1)) answer
 
--- the answer where it gives way to a month of a year: the day of the month stays, or is that month's last
+-- the answer if it gives way to a month of a year: the day of the month stays, or is that month's last
 abbrev pub IsMonthGiven : {T : Type 0} → (T → ℤ) → (Option ℤ → Option T → Type 0) → ℤ → ℤ → ℕ → Option T → Type 0
 IsMonthGiven shows gives old y m answer =
     IsDateGiven shows gives old y m (min (day_of_month old) (days_in_month (is_leap y) m)) answer
 
--- the number of the month so many months after a day's, or before it for a negative number
+-- the number of the month that many months after a day's, or before it for a negative number
 abbrev pub month_after : ℤ → ℤ → ℤ
 month_after old by = month_number (year_of old) (month_of old) +ℤ by
 
@@ -52,7 +52,7 @@ IsMonthsLater shows gives old by answer =
 abbrev pub MayShowDay : ℤ → ℤ → Type 0
 MayShowDay old day = IsDayInRange day ⊎ (day ≡ old)
 
--- the answer where it gives way to the day so many days later, or earlier for a negative number
+-- the answer if it gives way to the day that many days later, or earlier for a negative number
 abbrev pub IsDaysLater : {T : Type 0} → (T → ℤ) → (Option ℤ → Option T → Type 0) → ℤ → ℤ → Option T → Type 0
 IsDaysLater shows gives old by answer = IsGiven shows gives (MayShowDay old (old +ℤ by)) (old +ℤ by) answer
 
@@ -74,10 +74,10 @@ with_second t sec = record { second = clock_second (hour_hand t.second) (minute_
 abbrev pub with_fraction : TimeOfDay → ℕ → TimeOfDay
 with_fraction t nano = record { second = t.second; fraction = nano }
 
--- the reading of a day and a time, and the time of a reading
+-- the local date-time of a day and a time, and the time of a local date-time
 abbrev pub reading_on : ℤ → TimeOfDay → Reading
 reading_on day t = reading_at day t.second t.fraction
 
--- the time of day of a reading
+-- the time of day of a local date-time
 abbrev pub time_at : Reading → TimeOfDay
 time_at r = record { second = second_at r; fraction = r.f }

@@ -20,7 +20,7 @@ abbrev pub IsDateOfDay : ℤ → Option NaiveDate → Type 0
 IsDateOfDay day (Some date) = IsDayInRange day × (day_of date ≡ day)
 IsDateOfDay day None = IsDayInRange day → ⊥
 
--- the date on the day given, or none where none is given
+-- the date on the day given, or nothing if no day is given
 abbrev pub IsDateOn : Option ℤ → Option NaiveDate → Type 0
 IsDateOn day answer = option_map day_of answer ≡ day
 

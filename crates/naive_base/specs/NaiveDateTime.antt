@@ -7,16 +7,16 @@ use Rattle.naive_base.specs.Fields.{TimeOfDay, reading_on}
 use Rattle.naive_base.specs.Text.{reading_text}
 use Rattle.naive_base.specs.declared.datetime.NaiveDateTime.{NaiveDateTime}
 
--- the reading that a `NaiveDateTime` shows
+-- the local date-time that a `NaiveDateTime` shows
 abbrev pub reading : NaiveDateTime → Reading
 reading datetime = record { s = datetime.secs; f = datetime.frac }
 
--- that reading, if and only if it is in range
+-- that local date-time, if and only if it is in range
 abbrev pub IsReadingOf : Reading → Option NaiveDateTime → Type 0
 IsReadingOf r (Some datetime) = IsInRange r.s × (reading datetime ≡ r)
 IsReadingOf r None = IsInRange r.s → ⊥
 
--- the reading of that day, at that second of the day and those nanoseconds, if and only if the clock has the second and a
+-- the local date-time of that day, at that second of the day and those nanoseconds, if and only if the clock has the second and a
 -- new time may have the nanoseconds
 abbrev pub IsReadingOn : ℤ → Type 0 → ℕ → ℕ → Option NaiveDateTime → Type 0
 IsReadingOn day on_clock second f (Some datetime) =
@@ -27,11 +27,11 @@ IsReadingOn day on_clock second f None = on_clock → IsFraction second f → �
 abbrev pub day_shown_by : NaiveDateTime → ℤ
 day_shown_by datetime = day_at (reading datetime)
 
--- a reading's time on the day given, or none where none is given
+-- a local date-time's time on the day given, or nothing if nothing is given
 abbrev pub IsReadingOnDay : Reading → Option ℤ → Option NaiveDateTime → Type 0
 IsReadingOnDay old day answer = option_map reading answer ≡ option_map (λ n. reading_at n (second_at old) old.f) day
 
--- a reading's day at the time given, or none where none is given
+-- a local date-time's day at the time given, or nothing if nothing is given
 abbrev pub IsReadingAtTime : Reading → Option TimeOfDay → Option NaiveDateTime → Type 0
 IsReadingAtTime old time answer = option_map reading answer ≡ option_map (reading_on (day_at old)) time
 

@@ -1,4 +1,4 @@
--- The range of dates and readings, and the buffer day at either end of it.
+-- The range of dates and local date-times, and the buffer day at either end of it.
 use Rattle.std.specs.Prelude.{ℕ, ◌<◌, ℤ, pos, neg_ℤ, ◌≤ℤ◌}
 use Rattle.naive_base.specs.Reading.{Reading}
 
@@ -59,7 +59,7 @@ IsInner s = (neg_ℤ (pos 8_334_569_692_800) ≤ℤ s) × (s ≤ℤ pos 8_210_23
 abbrev pub IsWide : ℤ → Type 0
 IsWide s = (neg_ℤ (pos 8_334_601_315_200) ≤ℤ s) × (s ≤ℤ pos 8_210_266_963_199)
 
--- what a reading holds
+-- what a local date-time holds
 abbrev pub IsReading : ℤ → ℕ → Type 0
 IsReading s f = IsWide s × (f < 2_000_000_000)
 
@@ -71,10 +71,10 @@ IsTime s f = (s < 86_400) × (f < 2_000_000_000)
 abbrev pub epoch : Reading
 epoch = record { s = pos 0; f = 0 }
 
--- the first reading in range, and the last that is no leap second
+-- the first local date-time in range, and the last that is no leap second
 abbrev pub first_reading : Reading
 first_reading = record { s = first_second; f = 0 }
 
--- the last reading in range that is no leap second
+-- the last local date-time in range that is no leap second
 abbrev pub last_reading : Reading
 last_reading = record { s = last_second; f = 999_999_999 }

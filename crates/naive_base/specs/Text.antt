@@ -1,4 +1,4 @@
--- What dates, times and readings print, as lists of bytes.
+-- What dates, times and local date-times print, as lists of bytes.
 use Rattle.std.specs.Prelude.{ℕ, ◌+◌, ◌-◌, ◌/◌, ◌%◌, ◌==◌, nat_lt, ◌||◌, if◌then◌else◌, List, [], ◌∷◌, ◌++◌, ℤ, pos, unsigned_abs, int_lt}
 use Rattle.std.specs.Fmt.{decimal}
 use Rattle.offset_core.specs.Digits.{in_digits, sign_byte}

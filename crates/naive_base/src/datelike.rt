@@ -36,7 +36,7 @@ pub trait Datelike: Sized {
     // the day that it shows
     ghost day_shown: { Self → ℤ };
 
-    // the value that shows the day given, and all else as it was, where there is one; none where
+    // the value that shows the day given, and all else as it was, if there is one; `None` if
     // none is given
     ghost IsOnDay: { Self → Option ℤ → Option Self → Type 0 };
 

@@ -85,7 +85,7 @@ impl NaiveDateTime {
         NaiveDateTime::at_second(secs, nsecs)
     }
 
-    // The reading at a second, where it is in range.
+    // The local date-time at a second, if it is in range.
     fn at_second(secs: i64, frac: u32) -> Option<NaiveDateTime>
         requires { frac < 2_000_000_000 }
         ensures { IsReadingOf (record { s = secs; f = frac }) result }

@@ -92,7 +92,7 @@ fn push_week(week: IsoWeek, text: &mut ShortText)
     text.push_two_digits(week.week());
 }
 
-// A reading, with that byte between its date and its time.
+// A local date-time, with that byte between its date and its time.
 fn text_of(datetime: NaiveDateTime, between: u8) -> ShortText
     requires { between < 128 }
     ensures { result ≡ reading_text between (reading datetime) }

@@ -23,7 +23,7 @@ pub trait Timelike: Sized {
     // the time that it shows
     ghost time_shown: { Self → TimeOfDay };
 
-    // the value that shows the time given, and all else as it was, where there is one; none where
+    // the value that shows the time given, and all else as it was, if there is one; `None` if
     // none is given
     ghost IsAtTime: { Self → Option TimeOfDay → Option Self → Type 0 };
 

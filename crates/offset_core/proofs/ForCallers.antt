@@ -13,7 +13,7 @@ pub map_all : {D Z : Type 0} (show : D → Z) (x : LocalResult (Option D))
     → map_of show (all_or_none x) ≡ all_or_none (map_of (option_map show) x)
 map_all show x = grind arith
 
--- what a closure gave for each value, where each of its calls keeps K, and gives v if and only if p holds
+-- what a closure gave for each value, if each of its calls keeps K, and gives v if and only if p holds
 pub and_then_told : {F O D Z : Type 0} (show : D → Z) (p : O → Type 0) (v : O → Z) (step : F → O → Option D → F → Type 0)
     (f : F) (K : F → Type 0) (offsets : LocalResult O) (result : LocalResult D) → K f
     → ((e g : F) (o : O) (d : Option D) → K e → step e o d g → K g × SomeIff (option_map show d) (p o) (v o))

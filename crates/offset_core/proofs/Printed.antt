@@ -1,4 +1,4 @@
--- Offsets print alike only where they are equal: a printed offset can be read back.
+-- Offsets print alike only if they are equal: a printed offset can be read back.
 use Rattle.std.proofs.lemmas.Bool.Decides.{nat_tests}
 use Rattle.std.specs.Prelude.{if◌then◌else◌, ◌==◌}
 use Rattle.offset_core.specs.Digits.{in_digits}

@@ -11,7 +11,7 @@ pub one_wall_answer : {T : Type 0} (shows : ℤ → T → Type 0) → HasOneValu
     → IsWallAnswer shows x → IsWallAnswer shows y → x ≡ y
 one_wall_answer shows value x y p q = grind (arith, ints)
 
--- where each value of one relation has its image in another at the same second, and the other shows no more, the images
+-- if each value of one relation has its image in another at the same second, and the other shows no more, the images
 -- make its answer: so types make an answer of offsets, and a bounded range of seconds the answer of all seconds
 pub IsWallAnswer-map_of : {T U : Type 0} (shows : ℤ → T → Type 0) (shows_too : ℤ → U → Type 0) (f : T → U)
     → ((u : ℤ) (a : T) → shows u a → shows_too u (f a))

@@ -7,7 +7,7 @@ use Rattle.offset_core.specs.Offset.{IsWithinDay, offset_text}
 abbrev pub seconds_of : FixedOffset → ℤ
 seconds_of offset = offset.local_minus_utc
 
--- the offset of so many seconds, if and only if that is within a day
+-- the offset of that many seconds, if and only if that is within a day
 abbrev pub IsOffsetOf : ℤ → Option FixedOffset → Type 0
 IsOffsetOf secs (Some offset) = IsWithinDay secs × (seconds_of offset ≡ secs)
 IsOffsetOf secs None = IsWithinDay secs → ⊥

@@ -18,7 +18,7 @@ part_text nanos = if nanos == 0 then [] else 46 ∷ without_zeros 9 nanos
 abbrev pub seconds_text : ℕ → List ℕ
 seconds_text nanos = 80 ∷ (84 ∷ (decimal (nanos / 1_000_000_000) ++ (part_text (nanos % 1_000_000_000) ++ (83 ∷ []))))
 
--- a length of so many nanoseconds: `P0D` for 0, and a '-' (45) before that of a negative one
+-- a length of that many nanoseconds: `P0D` for 0, and a '-' (45) before that of a negative one
 abbrev pub length_text : ℤ → List ℕ
 length_text nanos =
     if unsigned_abs nanos == 0 then 80 ∷ (48 ∷ (68 ∷ []))

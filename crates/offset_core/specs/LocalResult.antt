@@ -63,7 +63,7 @@ IsMapped {F} {T} {U} step f (Ambiguous first last) new =
     × (new ≡ Ambiguous one other)
 IsMapped step f None new = new ≡ None
 
--- the values, where none of them is missing
+-- the values, if none of them is missing
 abbrev pub all_or_none : {T : Type 0} → LocalResult (Option T) → LocalResult T
 all_or_none (Single (some value)) = Single value
 all_or_none (Single none) = None
@@ -72,7 +72,7 @@ all_or_none (Ambiguous (some first) none) = None
 all_or_none (Ambiguous none last) = None
 all_or_none None = None
 
--- f was asked for each value, the first one first, and its answers are kept where none of them is missing
+-- f was asked for each value, the first one first, and its answers are kept if none of them is missing
 pub record IsAndThen {F T U : Type 0} (step : F → T → Option U → F → Type 0) (f : F)
     (old : LocalResult T) (new : LocalResult U) : Type 0 where
   pub answers : LocalResult (Option U)

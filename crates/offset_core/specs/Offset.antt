@@ -6,7 +6,7 @@ use Rattle.offset_core.specs.Digits.{in_digits, sign_byte}
 abbrev pub IsWithinDay : ℤ → Type 0
 IsWithinDay secs = (neg_ℤ (pos 86_400) <ℤ secs) × (secs <ℤ pos 86_400)
 
--- `HH:MM`, and `:SS` where the seconds of the minute aren't 0 (':' is 58)
+-- `HH:MM`, and `:SS` if the seconds of the minute aren't 0 (':' is 58)
 abbrev pub short_clock_text : ℕ → List ℕ
 short_clock_text secs =
     let hour = in_digits 2 (secs / 3600) in

@@ -119,7 +119,7 @@ impl fmt::Debug for FixedOffset {
     }
 }
 
-// Hours and minutes, and the seconds where there are any.
+// Hours and minutes, and the seconds if there are any.
 fn push_clock(seconds: u32, text: &mut ShortText)
     requires seconds { seconds < 86_400 }
     requires room { length text.old + 8 ≤ 32 }

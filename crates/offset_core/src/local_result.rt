@@ -123,7 +123,7 @@ impl<T> LocalResult<T> {
 }
 
 impl<T: Drop> LocalResult<Option<T>> {
-    // The values, or `None` where one of them is missing.
+    // The values, or `None` if one of them is missing.
     fn all_or_none(self) -> LocalResult<T>
         ensures { result ≡ results.all_or_none self }
     {

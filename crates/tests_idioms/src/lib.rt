@@ -21,7 +21,7 @@
 //! A copy in place is also that in `(instant, instant)` and in `let now = self.next;`, and
 //! `instant.clone()?` replaces it too. The checker's words:
 //!
-//! 1. a struct with an `impl Model` is copied where it holds a reference, or a type argument names
+//! 1. a struct with an `impl Model` is copied if it holds a reference, or a type argument names
 //!    two lifetimes that the function keeps apart
 //! 2. a pattern binds a `&mut`, or reaches further in, at a variant that holds a struct which has a
 //!    ghost field

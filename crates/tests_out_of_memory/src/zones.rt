@@ -2,7 +2,7 @@
 
 use std::alloc::{AllocError, Global};
 use std::io;
-use tz_info::{Error, LocalTimeType, TimeZone, Transition};
+use tz_info::{Error, LeapSecond, LocalTimeType, TimeZone, Transition};
 use zoned_vectors::vectors::{GUAYAQUIL, HONOLULU, JERUSALEM};
 
 // 2038-07-01 00:00:00 UTC.
@@ -13,7 +13,8 @@ pub fn print_zones(rt: &HostRuntime) -> io::Result<bool> {
     let files = print_files(rt, rt.alloc())?;
     let texts = print_texts(rt, rt.alloc())?;
     let made = print_made(rt, rt.alloc())?;
-    Ok(files & texts & made)
+    let lists = print_lists(rt, rt.alloc())?;
+    Ok(files & texts & made & lists)
 }
 
 fn print_files(rt: &HostRuntime, alloc: Global) -> io::Result<bool> {
@@ -39,6 +40,18 @@ fn print_made(rt: &HostRuntime, alloc: Global) -> io::Result<bool> {
     let utc = print_zone(rt, "UTC", TimeZone::utc(alloc))?;
     let fixed = print_zone(rt, "fixed", TimeZone::fixed(alloc, -36_000))?;
     Ok(lists & utc & fixed)
+}
+
+// Lists for which a constructor keeps more than their transitions.
+fn print_lists(rt: &HostRuntime, alloc: Global) -> io::Result<bool> {
+    let leaps = print_zone(rt, "leap seconds", with_leap_second(alloc))?;
+    let overlapping = print_zone(rt, "folds that overlap", with_overlapping_folds(alloc))?;
+    let idle = print_zone(
+        rt,
+        "transitions that change nothing",
+        with_idle_transitions(alloc),
+    )?;
+    Ok(leaps & overlapping & idle)
 }
 
 // Prints what the zone is; whether there was memory for it.
@@ -80,13 +93,52 @@ fn of_file(alloc: Global, digits: &str) -> Result<TimeZone, Error> {
 }
 
 fn of_lists(alloc: Global) -> Result<TimeZone, Error> {
-    let types = two_types(alloc)?;
-    let transitions = [Transition::new(0, 1)].to_vec(alloc)?;
-    TimeZone::new(alloc, transitions, types, Vec::new(alloc), None)
+    zone_of(alloc, &[Transition::new(0, 1)], [0, 3600, 7200], &[])
 }
 
-fn two_types(alloc: Global) -> Result<Vec<LocalTimeType>, Error> {
-    let standard = LocalTimeType::with_offset(0)?;
-    let summer = LocalTimeType::with_offset(3600)?;
-    Ok([standard, summer].to_vec(alloc)?)
+// Both transitions come at the Unix time 78796800: the leap second lies between them.
+fn with_leap_second(alloc: Global) -> Result<TimeZone, Error> {
+    let transitions = [
+        Transition::new(78_796_800, 1),
+        Transition::new(78_796_801, 2),
+    ];
+    let leaps = [LeapSecond::new(78_796_800, 1)];
+    zone_of(alloc, &transitions, [0, 3600, 7200], &leaps)
+}
+
+// Clocks are set back by an hour, and half an hour later again.
+fn with_overlapping_folds(alloc: Global) -> Result<TimeZone, Error> {
+    let transitions = [Transition::new(0, 1), Transition::new(1_800, 2)];
+    zone_of(alloc, &transitions, [0, -3600, -7200], &[])
+}
+
+fn with_idle_transitions(alloc: Global) -> Result<TimeZone, Error> {
+    let transitions = [
+        Transition::new(0, 0),
+        Transition::new(1_000_000, 1),
+        Transition::new(2_000_000, 1),
+        Transition::new(3_000_000, 2),
+    ];
+    zone_of(alloc, &transitions, [0, 3600, 7200], &[])
+}
+
+fn zone_of(
+    alloc: Global,
+    transitions: &[Transition],
+    offsets: [i32; 3],
+    leaps: &[LeapSecond],
+) -> Result<TimeZone, Error> {
+    let [first, second, third] = offsets;
+    let types = [
+        LocalTimeType::with_offset(first)?,
+        LocalTimeType::with_offset(second)?,
+        LocalTimeType::with_offset(third)?,
+    ];
+    TimeZone::new(
+        alloc,
+        transitions.to_vec(alloc)?,
+        types.to_vec(alloc)?,
+        leaps.to_vec(alloc)?,
+        None,
+    )
 }

@@ -1,4 +1,4 @@
--- Days that are given another day, where the answer is that day.
+-- Days that are given another day, if the answer is that day.
 use Rattle.tests_pins.proofs.Words.{IsGiven, None, Option, Some, arith, given, itself, ℤ, ◌≡◌}
 
 -- the day is given if it may be shown, and else none is

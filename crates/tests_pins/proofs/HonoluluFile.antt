@@ -1,4 +1,4 @@
--- Honolulu's file, by what a reading of it comes to.
+-- Honolulu's file, from what its grammar reads.
 use Rattle.std.proofs.Common.{if◌then◌else◌}
 use Rattle.std.proofs.lemmas.Str.{IsUtf8-from_ascii, is_utf8-from_IsUtf8}
 use Rattle.std.specs.Str.{IsAscii}

@@ -16,4 +16,5 @@ pub mod ChangeDays
 pub mod WrittenPins
 pub mod SetDays
 pub mod SetFires
+pub mod SetSteps
 pub mod SetTypes

@@ -57,7 +57,7 @@ last_before at q next less before until later = grind (arith, ints)
 pub never_both : (at r start next : Reading) → ¬ (IsEarlier r start) → IsEarlier r next → ¬ (IsEarlier start at) → ¬ (IsEarlier at next) → ⊥
 never_both at r start next from before begins until = grind (arith, ints)
 
--- the length of a day, where both starts are known
+-- the length of a day, if both starts are known
 pub length_between : (off : ℤ → ℤ) (day start next nanos : ℤ) → IsFirstToReach off (midnight day).s start
     → IsFirstToReach off (midnight (day +ℤ pos 1)).s next → nanos ≡ (next -ℤ start) *ℤ pos 1_000_000_000 → IsLengthOfDay off day nanos
 length_between off day start next nanos starts ends length = record {

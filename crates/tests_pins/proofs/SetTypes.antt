@@ -1,4 +1,4 @@
--- Two zones of one type each: where they differ.
+-- The seconds at which two zones of one type each differ.
 use Rattle.std.specs.Prelude.{AllPairs, Contains, List, [], ◌∷◌, ◌↔◌, ◌≢◌}
 use Rattle.tz_info.specs.Differences.{AreDifferences, IsDifference}
 use Rattle.tz_info.specs.declared.zone.differences.Difference.{Difference}

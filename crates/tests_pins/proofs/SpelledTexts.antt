@@ -1,4 +1,4 @@
--- What bytes spell, and that they spell nothing: what a reading of them comes to.
+-- What bytes spell, and that they spell nothing: what the grammar reads of them.
 use Rattle.tz_info.proofs.PosixLaws.{posix_law, zone_in}
 use Rattle.tz_info.specs.{PosixZones.{posix_zone}, Trims.{IsTrimmed}}
 use Rattle.tests_pins.proofs.Words.{Asks, Bool, Err, Error, FoldChoice, GapChoice, IsBadLine, IsPosixZone, IsTextFault, IsTzText, List, Ok, Query, Result}

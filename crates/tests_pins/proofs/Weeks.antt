@@ -1,4 +1,4 @@
--- The week of a day, where its Thursday and the Thursday's year are known.
+-- The week of a day, if its Thursday and the Thursday's year are known.
 use Rattle.tests_pins.proofs.Words.{IsThursdayOf, IsWeekOf, IsoWeek, LiesIn, arith, day_number, day_of_year, day_of_year_is, days_at_least, days_of_months}
 use Rattle.std.specs.Prelude.{◌≢◌}
 use Rattle.naive_base.specs.Named.{IsDayOfIsoWeek}

@@ -14,7 +14,7 @@ one_to_six =
     0 ∷ 0 ∷ 0 ∷ 6 ∷
     []
 
--- so many indicators of each kind, types, and bytes of designations
+-- that many indicators of each kind, types, and bytes of designations
 abbrev pub of_types : ℕ → ℕ → ℕ → Counts
 of_types indicators types designations = record {
   ut_local = indicators;

@@ -12,6 +12,6 @@ own_seconds k = k
 abbrev pub in_new_york : ℤ → Zoned ℤ
 in_new_york u = record { utc = record { s = u; f = 5 }; offset = neg_ℤ (pos 18_000) }
 
--- so many seconds after noon of that date
+-- that many seconds after noon of that date
 abbrev pub noon : ℤ → ℕ → ℕ → ℕ → Reading
 noon y m d after = reading_at (day_number y m d) (43_200 + after) 0

@@ -2,7 +2,7 @@
 use Rattle.std.specs.Prelude.{ℕ}
 use Rattle.tz_info.specs.Counts.{Counts}
 
--- so many looks at transitions, questions to rules, and looks at pieces of an index
+-- that many probes of transitions, questions to rules, and probes of pieces
 abbrev pub looks : ℕ → ℕ → ℕ → Counts
 looks reads questions pieces = record {
   reads = reads;

@@ -32,7 +32,7 @@ pub fn year_2021()
         (pos 1_640_995_200) (spring ∷ [])) }
 {}
 
-/// The first change of 2021 and the last one; between them there is none.
+/// The first change of 2021 and the last one; there is no change between them.
 pub fn first_and_last()
     ensures first { IsFirst (TypeAt new_york_zone)
         (IsFromUntil (pos 1_609_459_200) (pos 1_640_995_200)) (Some spring) }

@@ -23,7 +23,7 @@ ghost use Rattle.tests_pins.specs.Files.{with_leap_second};
 ghost use Rattle.tests_pins.specs.LeapSeconds.{entry};
 ghost use Rattle.tests_pins.specs.Zones.{hst, hst10};
 
-/// A 0 byte and the digits 2 and 3 are versions; 1 and 4 are none. Nothing comes after the block of
+/// A 0 byte and the digits 2 and 3 are versions; 1 and 4 aren't. Nothing comes after the block of
 /// version 1.
 pub fn versions()
     ensures one { Spells (version First) (0 ∷ []) One [] }
@@ -82,7 +82,7 @@ pub fn extended()
     ensures three { is_extended Three ≡ true }
 {}
 
-/// A type's record: its offset, its isdst byte, and where its name begins.
+/// A type's record: its offset, its isdst byte, and the place of its name.
 pub fn types()
     ensures hst { SpellsType designations (hst_record 0) hst }
     ensures least_offset { (t : LocalType)

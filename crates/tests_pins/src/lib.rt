@@ -1,4 +1,4 @@
-//! Facts about only the definitions: each function is empty, its contract is proved; never called.
+//! Theorems about the definitions only, stated as contracts of empty functions.
 //!
 //! Contracts are written in the words of `specs/`. A wrong word makes each proof that uses it a
 //! proof of something else, and no proof of code can notice. These facts can: they are worked
@@ -31,6 +31,7 @@ pub mod roundings;
 pub mod rules;
 pub mod shown_seconds;
 pub mod spans;
+pub mod steps;
 pub mod texts;
 pub mod told_zones;
 pub mod values;

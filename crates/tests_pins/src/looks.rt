@@ -28,7 +28,7 @@ pub fn by_instant()
     ensures pieces { ¬ (RoseByInstant (honolulu hst10) (looks 0 0 0) (looks 0 0 1)) }
 {}
 
-/// By wall clock they take four looks at pieces of the index at most, one at least, and two
+/// By wall clock they take four probes of pieces at most, one at least, and two
 /// questions.
 pub fn by_wall_clock()
     ensures most { RoseByWallClock (honolulu hst10) (looks 0 0 0) (looks 0 2 4) }

@@ -8,7 +8,7 @@ ghost use Rattle.tz_base.specs.declared.error.Expected.TheVariants.{DayFromJ1ToJ
 ghost use Rattle.tz_base.specs.declared.error.Expected.TheVariants.{DaysWhenDaylightSavingTimeStartsAndEnds, Digit};
 ghost use Rattle.tz_base.specs.declared.error.Expected.TheVariants.{HoursMinutesAndSecondsWithinTheirLimits};
 ghost use Rattle.tz_base.specs.declared.error.Expected.TheVariants.{NameOfThreeToSevenBytes};
-ghost use Rattle.tz_info.specs.TzGrammar.{time_limit, signed_seconds, IsTzText, IsTextFault};
+ghost use Rattle.tz_info.specs.TzGrammar.{time_limit, signed_seconds, IsTzText, IsTextFault, text_fault_position};
 ghost use Rattle.tz_info.specs.PosixZones.{IsPosixZone, posix_zone, types_of};
 ghost use Rattle.tz_info.specs.Zones.{Zone, plain_zone};
 ghost use Rattle.tz_info.specs.declared.rule.transition_rule.TransitionRule.{TransitionRule};
@@ -71,7 +71,7 @@ pub fn extensions()
     ensures nuuk { IsTzText true nuuk_text nuuk_rule }
 {}
 
-/// `EST5EDT` ends where the days should come, and gives no zone.
+/// `EST5EDT` ends before the days of its rule, and gives no zone.
 pub fn faults()
     ensures ends { IsTextFault false no_days
         (UnsupportedTzString DaysWhenDaylightSavingTimeStartsAndEnds) }
@@ -88,6 +88,27 @@ pub fn fault_numbers()
         (LocalTimeType NameOfThreeToSevenBytes) }
     ensures date_0 { (extended : Bool) → IsTextFault extended day_0
         (RuleError DayFromJ1ToJ365) }
+{}
+
+/// A fault is at the number, the time or the name whose value is rejected, at the first byte that no
+/// string goes on with, or at the end of a string that is too short.
+pub fn fault_places()
+    ensures month { (extended : Bool)
+        → text_fault_position extended (codes "EST5EDT,M3.2.0,M13.1.0") ≡ 16 }
+    ensures week { (extended : Bool)
+        → text_fault_position extended (codes "EST5EDT,M3.6.0,M11.1.0") ≡ 11 }
+    ensures weekday { (extended : Bool)
+        → text_fault_position extended (codes "EST5EDT,M3.2.7,M11.1.0") ≡ 13 }
+    ensures hours { (extended : Bool) → text_fault_position extended foo_24 ≡ 3 }
+    ensures name { (extended : Bool)
+        → text_fault_position extended (codes "EST5ED,M3.2.0,M11.1.0") ≡ 4 }
+    ensures offset_left_out { (extended : Bool)
+        → text_fault_position extended (codes "EST-23:30EDT,M3.2.0,M11.1.0") ≡ 12 }
+    ensures no_dot { (extended : Bool)
+        → text_fault_position extended (codes "EST5EDT,M3,M11.1.0") ≡ 10 }
+    ensures bytes_after { (extended : Bool)
+        → text_fault_position extended (codes "EST5EDT,M3.2.0,M11.1.0;") ≡ 22 }
+    ensures end { (extended : Bool) → text_fault_position extended no_days ≡ 7 }
 {}
 
 /// The hours of an offset go to 23, and not to 24 as POSIX.1 allows.

@@ -13,7 +13,7 @@ ghost use Rattle.tests_pins.specs.Texts.{new_york_text, new_york_long, utc_text}
 ghost use Rattle.tests_pins.specs.WrittenZones.{first_block, second_header};
 ghost use Rattle.tests_pins.specs.Zones.{honolulu, hst10, hst};
 
-/// A text leaves out a time of 2 o'clock, needs no extensions where it has none, spells the rule,
+/// A text leaves out a time of 2 o'clock, needs no extensions if it has none, spells the rule,
 /// and has minutes in two digits.
 pub fn texts()
     ensures not_longer { (extended : Bool)

@@ -12,7 +12,7 @@ pub floor_mod_parts : (z : ℤ) (n : ℕ) → 0 < n
 floor_mod_parts (pos a) n some = omega arith
 floor_mod_parts (negsuc a) n some = omega arith
 
--- One year's days: from a year to the next, each floor of the year's start rises where the year is its multiple.
+-- One year's days: from a year to the next, each floor of the year's start rises if the year is its multiple.
 
 days_by_remainders : (by_4 by_100 by_400 : ℕ) → (by_100 ≡ 0 → by_4 ≡ 0) → (by_400 ≡ 0 → by_100 ≡ 0)
     → cond ((by_4 == 0) && (not (by_100 == 0) || (by_400 == 0))) 366 365 + cond (by_100 == 0) 1 0 ≡ 365 + cond (by_4 == 0) 1 0 + cond (by_400 == 0) 1 0

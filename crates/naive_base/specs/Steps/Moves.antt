@@ -18,7 +18,7 @@ IsSmall n = (neg_ℤ (pos 100_000_000_000_000_000_000_000_000) ≤ℤ n) × (n �
 abbrev pub IsWithin : ℕ → ℤ → Type 0
 IsWithin n z = (neg_ℤ (pos n) ≤ℤ z) × (z ≤ℤ pos n)
 
--- the day in that month which has the number of the old one, or is the month's last, where the old one may change to it
+-- the day in that month which has the number of the old one, or is the month's last, if the old one may change to it
 abbrev pub IsInMonth : ℤ → ℤ → ℕ → Option ℤ → Type 0
 IsInMonth old y m answer =
     let d = min (day_of_month old) (days_in_month (is_leap y) m) in SomeIff answer (MayShow old y m d) (day_number y m d)

@@ -26,7 +26,7 @@ fn sum_of(secs: i64, nanos: i32) -> TimeDelta
     near_sum(secs, nanos)
 }
 
-// The same, where the nanoseconds are a second at most.
+// The sum of a second and nanoseconds that are a second at most.
 fn near_sum(secs: i64, nanos: i32) -> TimeDelta
     requires secs { IsWithin 20_000_000_000_001 secs }
     requires least { neg_ℤ (pos 1_000_000_000) ≤ℤ nanos }
@@ -39,7 +39,7 @@ fn near_sum(secs: i64, nanos: i32) -> TimeDelta
     TimeDelta::from_parts(secs, nanos as u32)
 }
 
-// The second and the nanoseconds of a reading that is no leap second.
+// The second and the nanoseconds of a local date-time that is no leap second.
 fn parts_of(total: i128) -> (i64, u32)
     requires { IsSmall total }
     ensures value { record { s = result.0; f = result.1 } ≡ of_total total }
@@ -182,7 +182,7 @@ impl NaiveDateTime {
         self.secs as i128 * NANOS_PER_SECOND + within
     }
 
-    // The same, where the leap second lies between.
+    // The same, if the leap second lies between.
     fn total_past(self, within: i128) -> i128
         requires { IsShort within }
         ensures value { result ≡ (reading self).s *ℤ pos 1_000_000_000 +ℤ within -ℤ pos

@@ -78,7 +78,7 @@ impl NaiveTime {
     }
 }
 
-// The time of day of a reading, and the seconds from 1970-01-01 to its day.
+// The time of day of a local date-time, and the seconds from 1970-01-01 to its day.
 fn time_and_days(secs: i64, frac: u32) -> (NaiveTime, i64)
     requires second { IsWithin 100_000_000_000_000_000 secs }
     requires fraction { frac < 2_000_000_000 }
