@@ -19,7 +19,7 @@ CRATE = "mutated"
 # What a program that is tried may write at most.
 OUTPUT = 1 << 20
 PROGRAM = """//! Reads TZ strings, a line each, and writes two bytes for each: the number of its error and where it
-//! is, each with 32 added; two spaces if there is none.
+//! is, each with 32 added; two spaces if the line is accepted.
 #![tactic(auto)]
 
 use std::io::{BufWriter, Write};

@@ -22,7 +22,7 @@ from .zone import Zone
 if TYPE_CHECKING:
     import pandas
 
-#: Folders of a tz database that have its zones once more, with and without leap seconds.
+#: Folders of a tz database that repeat its zones, with and without leap seconds.
 LEFT_OUT = {"right", "posix"}
 FIRST, LAST = np.datetime64("1900", "s"), np.datetime64("2038", "s")
 
