@@ -47,7 +47,7 @@ pub(crate) fn days_of_years(years: u64) -> u64
     1461 * years / 4 - century + century / 4
 }
 
-// Where a day lies: how many whole centuries, years and days after a January.
+// The place of a day: how many whole centuries, years and days after a January.
 #[derive(Clone, Copy)]
 pub(crate) struct Place {
     pub(crate) century: u64,

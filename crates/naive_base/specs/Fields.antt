@@ -42,7 +42,7 @@ IsMonthGiven shows gives old y m answer =
 abbrev pub month_after : ℤ → ℤ → ℤ
 month_after old by = month_number (year_of old) (month_of old) +ℤ by
 
--- and to that month
+-- the answer if it gives way to the month that many months later (earlier if negative)
 abbrev pub IsMonthsLater : {T : Type 0} → (T → ℤ) → (Option ℤ → Option T → Type 0) → ℤ → ℤ → Option T → Type 0
 IsMonthsLater shows gives old by answer =
     let n = month_after old by in
@@ -61,7 +61,7 @@ pub record TimeOfDay : Type 0 where
   pub second : ℕ
   pub fraction : ℕ
 
--- that time with another hour, or minute, or second of the minute, or other nanoseconds
+-- a time of day with another hour, or minute, or second of the minute, or other nanoseconds
 abbrev pub with_hour : TimeOfDay → ℕ → TimeOfDay
 with_hour t hour = record { second = clock_second hour (minute_hand t.second) (second_hand t.second); fraction = t.fraction }
 

@@ -18,7 +18,7 @@ number_of_month October = 10
 number_of_month November = 11
 number_of_month December = 12
 
--- its name, and the bytes of its `Display`
+-- the month's name, which is the text of its `Display`
 abbrev pub month_name : Month → List ℕ
 month_name January = codes "January"
 month_name February = codes "February"

@@ -6,7 +6,7 @@ use Rattle.naive_base.specs.Range.{IsYearInRange, IsDayInRange}
 use Rattle.naive_base.specs.Text.{date_text}
 use Rattle.naive_base.specs.declared.date.NaiveDate.{NaiveDate}
 
--- its day number
+-- the date's day number
 abbrev pub day_of : NaiveDate → ℤ
 day_of date = date.day
 

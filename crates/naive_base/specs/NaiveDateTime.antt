@@ -11,7 +11,7 @@ use Rattle.naive_base.specs.declared.datetime.NaiveDateTime.{NaiveDateTime}
 abbrev pub reading : NaiveDateTime → Reading
 reading datetime = record { s = datetime.secs; f = datetime.frac }
 
--- that local date-time, if and only if it is in range
+-- the `NaiveDateTime` that shows the local date-time, if and only if it is in range
 abbrev pub IsReadingOf : Reading → Option NaiveDateTime → Type 0
 IsReadingOf r (Some datetime) = IsInRange r.s × (reading datetime ≡ r)
 IsReadingOf r None = IsInRange r.s → ⊥

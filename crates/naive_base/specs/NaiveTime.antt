@@ -5,11 +5,11 @@ use Rattle.naive_base.specs.Clock.{IsFraction}
 use Rattle.naive_base.specs.Text.{time_text}
 use Rattle.naive_base.specs.declared.time.NaiveTime.{NaiveTime}
 
--- its second of the day
+-- the time's second of the day
 abbrev pub second_of : NaiveTime → ℕ
 second_of time = time.secs
 
--- its nanoseconds, from 10^9 on those of a leap second
+-- the time's nanoseconds, from 10^9 on those of a leap second
 abbrev pub fraction_of : NaiveTime → ℕ
 fraction_of time = time.frac
 
@@ -23,6 +23,6 @@ IsTimeOf on_clock second f None = on_clock → IsFraction second f → ⊥
 abbrev pub printed_time : NaiveTime → List ℕ
 printed_time time = time_text (second_of time) (fraction_of time)
 
--- its time of day
+-- the second of the day and the nanoseconds of a `NaiveTime`
 abbrev pub time_of : NaiveTime → TimeOfDay
 time_of time = record { second = time.secs; fraction = time.frac }

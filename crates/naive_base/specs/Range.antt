@@ -39,11 +39,11 @@ IsDayInRange day = (first_day ≤ℤ day) × (day ≤ℤ last_day)
 abbrev pub IsInnerDay : ℤ → Type 0
 IsInnerDay day = (neg_ℤ (pos 96_464_927) ≤ℤ day) × (day ≤ℤ pos 95_025_871)
 
--- with the years of the buffer days
+-- the years in range and those of the buffer days
 abbrev pub IsWideYear : ℤ → Type 0
 IsWideYear y = (neg_ℤ (pos 262_144) ≤ℤ y) × (y ≤ℤ pos 262_143)
 
--- in range or a buffer day, which lies in the year -262144 or 262143
+-- a day in range or a buffer day, which lies in the year -262144 or 262143
 abbrev pub IsWideDay : ℤ → Type 0
 IsWideDay day = (neg_ℤ (pos 96_465_293) ≤ℤ day) × (day ≤ℤ pos 95_026_237)
 

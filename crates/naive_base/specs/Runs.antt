@@ -25,7 +25,7 @@ days_left run = days_before_last (days_from run)
 abbrev pub weeks_left : NaiveDateWeeksIterator → ℕ
 weeks_left run = days_before_last (weeks_from run) / 7
 
--- the same of runs that go back in time: the day of the next date, how many days come after the first one in range, and how many dates are left
+-- of runs that go back in time: the day of the next date, how many days come after the first one in range, and how many dates are left
 abbrev pub days_back_from : NaiveDateDaysBack → ℤ
 days_back_from run = day_of run.value
 

@@ -18,7 +18,7 @@ weekday_number Sat = 6
 abbrev pub days_from_monday : Weekday → ℕ
 days_from_monday weekday = (weekday_number weekday + 6) % 7
 
--- its first three letters, the bytes of its `Display`
+-- the first three letters of the weekday's name, which are the text of its `Display`
 abbrev pub weekday_text : Weekday → List ℕ
 weekday_text Sun = codes "Sun"
 weekday_text Mon = codes "Mon"

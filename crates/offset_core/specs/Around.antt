@@ -55,7 +55,7 @@ AreAlikeAround R S (Ambiguous a b) (Gap c) = ⊥
 AreAlikeAround R S (Gap a) (Single b) = ⊥
 AreAlikeAround R S (Gap a) (Ambiguous c d) = ⊥
 
--- each value has the property, and the gap has the other
+-- each value of the answer has the one property, or its gap the other
 abbrev pub HoldsOfEachAround : {T G : Type 0} → (T → Type 0) → (G → Type 0) → Around T G → Type 0
 HoldsOfEachAround P Q (Single a) = P a
 HoldsOfEachAround P Q (Ambiguous a b) = P a × P b

@@ -35,7 +35,7 @@ AreAlike R (Ambiguous a b) None = ⊥
 AreAlike R None (Single c) = ⊥
 AreAlike R None (Ambiguous c d) = ⊥
 
--- each value has the property
+-- each value of the answer has the property
 abbrev pub HoldsOfEach : {T : Type 0} → (T → Type 0) → LocalResult T → Type 0
 HoldsOfEach P (Single value) = P value
 HoldsOfEach P (Ambiguous first last) = P first × P last
@@ -47,13 +47,13 @@ fed_of fed (Single value) = isize (pos 0) ++ fed value
 fed_of fed (Ambiguous first last) = isize (pos 1) ++ (fed first ++ fed last)
 fed_of fed None = isize (pos 2)
 
--- each value replaced by its image
+-- the answer with each value replaced by its image
 abbrev pub map_of : {T U : Type 0} → (T → U) → LocalResult T → LocalResult U
 map_of f (Single value) = Single (f value)
 map_of f (Ambiguous first last) = Ambiguous (f first) (f last)
 map_of f None = None
 
--- each value replaced by what one call of f gave for it, the first value first
+-- the answer with each value replaced by what one call of f gave for it, the first value first
 abbrev pub IsMapped : {F T U : Type 0} → (F → T → U → F → Type 0) → F
     → LocalResult T → LocalResult U → Type 0
 IsMapped {F} {T} {U} step f (Single value) new =

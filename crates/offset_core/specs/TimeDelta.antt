@@ -5,7 +5,7 @@ use Rattle.std.specs.Borrow.{Bor}
 use Rattle.offset_core.specs.declared.time_delta.TimeDelta.{TimeDelta}
 use Rattle.offset_core.specs.Nanoseconds.{FitsTimeDelta, nanos_per_second}
 
--- its length in nanoseconds
+-- the length in nanoseconds
 abbrev pub nanos_of : TimeDelta → ℤ
 nanos_of delta = delta.secs *ℤ nanos_per_second +ℤ pos delta.nanos
 
@@ -26,7 +26,7 @@ IsDeltaOfParts secs nanos None =
 abbrev pub sum_of : List TimeDelta → ℤ
 sum_of deltas = fold (λ sum delta. sum +ℤ nanos_of delta) (pos 0) deltas
 
--- the same of references to lengths
+-- the nanoseconds of all the lengths that these references point to
 abbrev pub sum_behind : List (Bor TimeDelta) → ℤ
 sum_behind deltas = fold (λ sum delta. sum +ℤ nanos_of delta.now) (pos 0) deltas
 

@@ -12,7 +12,7 @@ use Rattle.tz_base.specs.declared.error.Error.TheVariants.{ParseInt}
 use Rattle.tz_base.specs.declared.error.Expected.TheVariants.{Digit, NumberWithinItsLimit}
 use Rattle.tz_base.proofs.{Decided.{Decided, and_then, choice, like, refused}, ReadLaws.{drop_front}}
 
--- reading gives P, or the fault F
+-- a parser returns P, or the fault F
 abbrev Reads : {X : Type 0} → (List ℕ → Result (X × List ℕ) Error) → (List ℕ → X → List ℕ → Type 0) → (List ℕ → Error → Type 0) → Type 0
 Reads {X} at P F = (bytes : List ℕ) → Decided (X × List ℕ) (at bytes) (λ p. P bytes p.0 p.1) (F bytes)
 
@@ -63,7 +63,7 @@ run_again p (d ∷ ds) rest h k = grind (arith, run_again p ds rest h.1 k)
 run_read : (p : ℕ → Bool) → Reads (λ bytes. Ok (run_of p bytes, after_run p bytes)) (IsRun p) (λ bytes e. ⊥)
 run_read p bytes = grind (arith, run_splits p bytes, run_again p)
 
--- ---- so many bytes
+-- ---- n bytes
 pub exact_cut : (n : ℕ) (bytes some rest : List ℕ) → bytes ≡ some ++ rest → length some ≡ n → (take n bytes ≡ some) × (drop n bytes ≡ rest)
 exact_cut n bytes some rest whole size = rw (whole, ← size) (take-append_seam some rest, drop_front some rest)
 

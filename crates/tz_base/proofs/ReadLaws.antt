@@ -1,4 +1,4 @@
--- Steps of a reading: what a value or an error has passed.
+-- Steps of a parser: what a value or an error has passed.
 use Rattle.std.proofs.Common.{arith, ◌≡◌, ℕ, ◌<◌, ◌≤◌, refl, List, [], ◌∷◌, ◌++◌, length, drop, Bool, true, false, Ok, Err, Result, inl, inr, ◌⊎◌}
 use Rattle.std.proofs.lemmas.Bool.{cases_lt}
 use Rattle.tz_base.specs.{Fronts.{◌>>=◌}, declared.error.Error.{Error}}

@@ -1,4 +1,4 @@
--- Longest runs, and what digits stand for.
+-- Longest runs, and the values of digits.
 use Rattle.std.proofs.Common.{Bool, Err, List, Ok, Result, add-one, arith, drop, drop-cons, false, get_or, length, refl, subst, suc, sym, true, ℕ, [], ◌*◌, ◌++◌, ◌+◌}
 use Rattle.std.specs.Fn.{FnReturnsAt}
 use denote.{Param.Members.{Shared}, Ref.{Bor}}

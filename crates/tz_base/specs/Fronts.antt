@@ -11,12 +11,12 @@ abbrev pub ◌>>=◌ : {A B : Type 0} → Result A Error → (A → Result B Err
 (Ok x) >>= f = f x
 (Err e) >>= f = Err e
 
--- what a call returned, seen by `view`, is what stands there
+-- a call returned, seen by `view`, what the front of the bytes is
 abbrev pub Gives : {X Y : Type 0} → (X → Y) → Result X Error → Result Y Error → Type 0
 Gives view (Ok x) front = front ≡ Ok (view x)
 Gives view (Err e) front = front ≡ Err e
 
--- so many bytes
+-- the first `count` bytes, and the bytes after them
 unfoldable pub exact_at : ℕ → List ℕ → Result (List ℕ × List ℕ) Error
 exact_at count bytes = if nat_lt (length bytes) count then Err (UnexpectedEnd MoreBytes) else Ok (take count bytes, drop count bytes)
 
@@ -26,7 +26,7 @@ tag_at tag bytes =
     if nat_lt (length bytes) (length tag) then Err (UnexpectedEnd Tag) else
     (if starts_with nat_eq bytes tag then Ok (tt, drop (length tag) bytes) else Err (MissingTag OtherBytes))
 
--- whether the tag stands there, and the bytes after it if so
+-- whether the bytes begin with the tag, and the bytes after it if so
 unfoldable pub optional_tag_at : List ℕ → List ℕ → Bool × List ℕ
 optional_tag_at tag bytes = if starts_with nat_eq bytes tag then (true, drop (length tag) bytes) else (false, bytes)
 
@@ -56,16 +56,16 @@ NoneFirst p (b ∷ bs) = p b ≡ false
 abbrev pub AllDigits : List ℕ → Type 0
 AllDigits = AllOf is_digit
 
--- what digits stand for, after those of n
+-- the value of the digits of n followed by these digits
 abbrev pub value_from : ℕ → List ℕ → ℕ
 value_from n [] = n
 value_from n (d ∷ ds) = value_from (10 * n + (d - 48)) ds
 
--- what digits stand for, if there are any and it is not above the limit
+-- the value of digits, if there are any and it is not above the limit
 abbrev pub number_within : ℕ → List ℕ → Result ℕ Error
 number_within max [] = Err (ParseInt Digit)
 number_within max (d ∷ ds) = if nat_le (value_from 0 (d ∷ ds)) max then Ok (value_from 0 (d ∷ ds)) else Err (ParseInt NumberWithinItsLimit)
 
--- the number that the longest run of digits stands for
+-- the value of the longest run of digits, and the bytes after it
 unfoldable pub int_at : ℕ → List ℕ → Result (ℕ × List ℕ) Error
 int_at max bytes = number_within max (run_of is_digit bytes) >>= λ n. Ok (n, after_run is_digit bytes)

@@ -1,6 +1,6 @@
 -- Grammars. One value says four things of bytes: which value their front spells, with which error they are rejected if it
--- spells none, where that fault is, and what a reader reads. `lawful` (proofs/Lawful) proves for every grammar that what is
--- read is what is spelled, and that an error is the one of the first fault.
+-- spells none, the position of that fault, and what a reader reads. `lawful` (proofs/Lawful) proves for every grammar that what
+-- is read is what is spelled, and that an error is the one of the first fault.
 use Rattle.std.specs.Prelude.{ℕ, ◌≡◌, ◌≢◌, ◌<◌, ◌≤◌, ◌-◌, ◌⊎◌, Bool, true, false, if◌then◌else◌, List, [], ◌∷◌, ◌++◌, length, Result, Ok, Err}
 use Rattle.std.specs.Int.{w32, from_be_bytes}
 use Rattle.tz_base.specs.Fronts.{is_digit, value_from, AllOf, NoneFirst, AllDigits, optional_tag_at, tag_at, int_at, exact_at, run_of, after_run}
@@ -26,7 +26,7 @@ pub data Grammar : Type 0 → Type 1 where
   Run : (ℕ → Bool) → Grammar (List ℕ)
   -- the longest run of digits, at least one, with any leading zeros; the number is not above the limit
   Number : ℕ → Grammar ℕ
-  -- so many bytes of any value
+  -- that many bytes of any value
   Exact : ℕ → Grammar (List ℕ)
   -- all bytes that are left
   Rest : Grammar (List ℕ)
@@ -34,7 +34,7 @@ pub data Grammar : Type 0 → Type 1 where
   Refused : {X : Type 0} → Refusal → Grammar X
   -- no bytes, which spell that value if P holds, and are rejected with that error if it does not
   Check : {X : Type 0} (P : Type 0) → Test P → Refusal → X → Grammar X
-  -- the grammar that the bytes from here on name, which it names only to say where a fault is
+  -- the grammar that the bytes from here on name, which it names only to give the position of a fault
   Here : {X : Type 0} → (List ℕ → Grammar X) → Grammar X
   -- the grammar, with its fault where those bytes begin
   At : {X : Type 0} → List ℕ → Grammar X → Grammar X
@@ -58,8 +58,8 @@ Some refusal = Ended (Refused refusal) (Nothing tt)
 abbrev pub End : Refusal → Grammar (Unit {0})
 End refusal = Ended (Nothing tt) (Refused refusal)
 
--- ---- what is spelled: the front of the bytes spells x, and rest stands after it
--- no such byte stands in front
+-- ---- what is spelled: the front of the bytes spells x, and rest follows it
+-- the bytes don't begin with that byte
 abbrev pub Without : ℕ → List ℕ → Type 0
 Without tag [] = Unit {0}
 Without tag (b ∷ bs) = b ≢ tag
@@ -145,8 +145,8 @@ read (Check P test refusal v) bytes = fronts.◌>>=◌ (checked test.passes refu
 read (Here f) bytes = read (f bytes) bytes
 read (At place g) bytes = read g bytes
 
--- ---- where the fault is: the bytes from it on. That is where the part that is rejected begins, or the end if bytes are
--- missing; `At` moves it to the field whose value is rejected
+-- ---- the position of the fault: the bytes from it on. The fault is at the start of the rejected part, or at the end if bytes
+-- are missing; `At` moves it to the field whose value is rejected
 abbrev pub if_read : {X : Type 0} → Result (X × List ℕ) Error → (X → List ℕ → List ℕ) → List ℕ → List ℕ
 if_read (Ok p) next here = next p.0 p.1
 if_read (Err e) next here = here
@@ -160,7 +160,7 @@ from_fault (Here f) bytes = from_fault (f bytes) bytes
 from_fault (At place g) bytes = place
 from_fault g bytes = bytes
 
--- where it is, as the number of bytes in front of it
+-- the position of the fault, as the number of bytes in front of it
 abbrev pub fault_position : {X : Type 0} → Grammar X → List ℕ → ℕ
 fault_position g bytes = length bytes - length (from_fault g bytes)
 

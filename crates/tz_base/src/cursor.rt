@@ -12,7 +12,7 @@ use crate::error::{Error, Expected};
 use std::marker::Model;
 
 /// A place in a list of bytes. Each call reads from there on, and what it returns is lent from those
-/// bytes. A call that returns an error leaves the cursor where it was.
+/// bytes. A call that returns an error doesn't move the cursor.
 #[derive(Drop)]
 pub struct Cursor<'a> {
     rest: &'a [u8],
@@ -179,7 +179,7 @@ impl<'a> Cursor<'a> {
     }
 }
 
-// What the digits stand for.
+// The value of the digits.
 #[tactic(auto, using(crate::proofs::RunLaws::grown))]
 fn number(digits: &[u8], max: u32) -> Result<u32, Error>
     requires { AllDigits digits.now }

@@ -3,14 +3,14 @@
 use crate::error::Error;
 use std::fmt;
 
-/// An error of bytes or text that can't be read, and where it is. `?` turns it into its [`Error`].
+/// An error in bytes or text, and its position. `?` turns it into its [`Error`].
 #[derive(Clone, Copy, Debug, PartialEq, Eq)]
 pub struct ParseError {
     /// What is wrong.
     pub error: Error,
-    /// The number of bytes in front of the fault: where the first byte that can't be read is, or the
-    /// field whose value is rejected, or the end if bytes are missing. `None` for an error that is
-    /// at no one place, such as running out of memory.
+    /// The number of bytes in front of the fault: the first byte that can't be read, the field whose
+    /// value is rejected, or the end if bytes are missing. `None` for an error without a position,
+    /// such as running out of memory.
     pub position: Option<usize>,
 }
 

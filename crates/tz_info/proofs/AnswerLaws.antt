@@ -53,6 +53,6 @@ joined_answer p q r (Ambiguous a b) None o x y = first_alone p q r (Ambiguous a 
 joined_answer p q r (Ambiguous a b) (Single c) o x y = both p q r _ _ _ _ a b c c o (of_several p a b x) (of_one q c y)
 joined_answer p q r (Ambiguous a b) (Ambiguous c d) o x y = both p q r _ _ _ _ a b c d o (of_several p a b x) (of_several q c d y)
 
--- q takes the second c more, which comes behind all others
+-- q takes the second c more, which comes after all others
 pub behind_answer : {T : Type 0} (p q : ℤ → T → Type 0) (c : ℤ) (t : T) (answer : LocalResult T) → ((u : ℤ) (f : T) → p u f → q u f) → ((u : ℤ) (f : T) → q u f → p u f ⊎ (u ≡ c)) → q c t → ((u : ℤ) (f : T) → p u f → u <ℤ c) → IsWallAnswer p answer → IsWallAnswer q (joined answer (Single t))
 behind_answer p q c t answer old only h below s = grind arith

@@ -62,7 +62,7 @@ found_here w a s first c h = found_first w a s first c (λ d is ahead y of_year.
   | inr l ↦ beyond_on w first y l
 ])
 
--- where the year has none, all come beyond it
+-- if the year has none, all come beyond it
 beyond_only : (w : Bool) (a : Alternate) (s first : ℤ) (d : Change) (y : ℤ) → IsYearNear s first → HasNoChange (AlternateAt a) (IsAheadIn w s first)
     → IsChange (AlternateAt a) d → IsAhead w s d.at
     → IsYearOf (d.at -ℤ pos 1) y → Precedes w (year_at w first 1) y

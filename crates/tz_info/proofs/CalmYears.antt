@@ -1,4 +1,4 @@
--- Where all moments keep away from the ends of their years, the changes of a year come at its own two moments.
+-- If all moments keep away from the ends of their years, the changes of a year come at its own two moments.
 use Rattle.tz_info.proofs.Words.{Alternate, AlternateAt, Bool, Change, HasNoChange, IsAlternateRule, IsCalmRule, IsChange, IsNearest, IsOfYear, IsRuleYear}
 use Rattle.tz_info.proofs.Words.{IsYearOf, Option, ap, arith, days_at_least, end_in, false, floors, inl, inr, ints, is_dst_by_one, nearer_one}
 use Rattle.tz_info.proofs.Words.{not, pos, refl, start_in}

@@ -48,7 +48,7 @@ std_or_dst a from l u t s = grind (arith, shown_at)
 pub dst_or_std : (a : AlternateRule) (from l u : ℤ) (t : LocalType) → Shows (TypeFrom (Alternate a) from) l u t → (u ≡ l -ℤ a.dst.offset) ⊎ (u ≡ l -ℤ a.std.offset)
 dst_or_std a from l u t s = elim (std_or_dst a from l u t s) [ inl e ↦ inr e | inr e ↦ inl e ]
 
--- where both offsets are one
+-- if both offsets are equal
 pub one_second : (a : AlternateRule) (from l : ℤ) → a.std.offset ≡ a.dst.offset → (u : ℤ) (t : LocalType) → Shows (TypeFrom (Alternate a) from) l u t → u ≡ l -ℤ a.std.offset
 one_second a from l same u t s = elim (std_or_dst a from l u t s) [
   | inl e ↦ e

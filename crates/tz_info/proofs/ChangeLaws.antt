@@ -42,7 +42,7 @@ not_before c d cs rise (suc k, l, same) = let m = later c d cs rise (k, omega (a
 rest_rises : (c : Change) (cs : List Change) → Rise (c ∷ cs) → Rise cs
 rest_rises c cs rise = λ i j d l m. rise (suc i) (suc j) d (omega (arith, l)) (omega (arith, m))
 
--- of two lists that contain the same, what comes behind the same front is the same
+-- two lists with the same items and the same first item have the same rest
 rest_same : (c : Change) (cs ds : List Change) → Rise (c ∷ cs) → ((x : Change) → Contains (c ∷ cs) x → Contains (c ∷ ds) x) → (x : Change) → Contains cs x → Contains ds x
 rest_same c cs ds rise same x h = Contains-tail c ds x
     (λ e. let l = subst (λ (y : Change). c.at <ℤ y.at) (sym e) (later c x cs rise h) in absurd (omega (arith, ints, l)))

@@ -18,7 +18,7 @@ no_changes f from until none = grind arith
 abbrev pub AreApart : InForce → Type 0
 AreApart f = (c d : Change) → IsChange f c → IsChange f d → c.at ≡ d.at → c ≡ d
 
--- a change at the last second comes behind those before it
+-- a change at the last second comes after those before it
 then_here : (f : InForce) (from last : ℤ) (c : Change) (cs : List Change) → AreApart f → IsChange f c → c.at ≡ last → from ≤ℤ last → AreChanges f from last cs → AreChanges f from (last +ℤ pos 1) (cs ++ c ∷ [])
 then_here f from last c cs apart is at low h = record {
   rising = all_pairs_push (λ a b. a.at <ℤ b.at) cs c h.rising (λ k d below. rw at ((h.each (get_or cs k d)).0 (Contains-get_or cs k d below)).1.1);
@@ -33,7 +33,7 @@ then_here f from last c cs apart is at low h = record {
   );
 }
 
--- where no change comes at the last second, the list is that of those before it
+-- if no change comes at the last second, the list is that of those before it
 pub same_without : (f : InForce) (from last : ℤ) (cs : List Change) → HasNoChange f (λ u. u ≡ last) → AreChanges f from last cs → AreChanges f from (last +ℤ pos 1) cs
 same_without f from last cs none h = grind (arith, ints)
 

@@ -20,7 +20,7 @@ one_still : (seconds : List ℤ) (n : ℕ) (after last u : ℤ) → IsOneOf seco
 one_still seconds n after last u (inl one) = let b = one.below in record { place = one.place; below = omega arith; is = one.is; inside = one.inside }
 one_still seconds n after last u (inr here) = record { place = n; below = omega arith; is = here.0; inside = here.1 }
 
--- the same changes, told otherwise
+-- the same changes, by other conditions
 pub nearest_moved : (w : Bool) (f g : InForce) (p q : ℤ → Type 0) (found : Option Change) → ((d : Change) → IsChange g d → q d.at → IsChange f d × p d.at) → ((d : Change) → IsChange f d → p d.at → IsChange g d × q d.at)
     → IsNearest w f p found → IsNearest w g q found
 nearest_moved w f g p q None to from h = λ d is k. let m = to d is k in h d m.0 m.1
@@ -68,12 +68,12 @@ nearest_ahead w f begin s after last found e = nearest_moved w f f (IsInStretch 
     (λ d is k. (is, (in_ahead w begin s after last d.at is.fits e).1 k))
     (λ d is k. (is, (in_ahead w begin s after last d.at is.fits e).0 k))
 
--- the seconds of a stretch are ahead of where it begins, and so are those before a second of it
+-- the seconds of a stretch are ahead of its near end, and so are those before a second of it
 ahead_within : (w : Bool) (after last u : ℤ) → IsInStretch after last u → IsAhead w (near_end w after last) u
 ahead_within true after last u k = k.0
 ahead_within false after last u k = k.1
 
--- the nearest change ahead of where a stretch begins is its nearest one, if it lies in it
+-- the nearest change ahead of a stretch's near end is its nearest one, if it lies in it
 pub nearest_within : (w : Bool) (f : InForce) (after last : ℤ) (found r : Option Change) → IsNearest w f (IsAhead w (near_end w after last)) found
     → MatchOption r (IfSome found (λ c. IsInStretch after last c.at → ⊥)) (λ c. IsInStretch after last c.at × (found ≡ Some c))
     → IsNearest w f (IsInStretch after last) r
@@ -81,7 +81,7 @@ nearest_within w f after last None None h out = λ d is k. h d is (ahead_within 
 nearest_within w f after last (Some c) None h out = λ d is k. grind arith
 nearest_within w f after last found (Some c) h within = grind arith
 
--- where the stretch is empty, it has none
+-- an empty stretch has none
 pub none_in_empty : (f : InForce) (after last : ℤ) → last ≤ℤ after → HasNoChange f (IsInStretch after last)
 none_in_empty f after last h d is k = let a = k.0 in let b = k.1 in omega (arith, ints)
 
@@ -102,7 +102,7 @@ none_before f second without d is at = without d.before (rw at at is.before)
 pub none_here : (f : InForce) (second : ℤ) → ((t : LocalType) → f second t → ⊥) → HasNoChange f (λ u. u ≡ second)
 none_here f second without d is at = without d.after (rw at at is.after)
 
--- ---- where no change comes the type stays
+-- ---- without a change the type stays
 -- some type is in force at the second
 abbrev pub Typed : InForce → ℤ → Type 0
 Typed f u = (t : LocalType) × f u t
@@ -120,7 +120,7 @@ step_up f v w s t e fits fits_next none h k = elim (decided (s ≡ t) (type_eq.i
       absurd (none c (record { fits = fits_next; fits_before = rw e at fits; before = rw e at h; after = k; differ = differ }) refl)
 ]
 
--- so many seconds on
+-- n seconds later
 steps_up : (f : InForce) (u v : ℤ) (t : LocalType) (n : ℕ) → v ≡ u +ℤ pos n → SFits w64 u → SFits w64 v → HasNoChange f (λ w. (u <ℤ w) × (w ≤ℤ v))
     → ((w : ℤ) → u ≤ℤ w → w ≤ℤ v → Typed f w) → f u t → f v t
 steps_up f u v t zero e fits fits_end none typed h = let same : u ≡ v = omega (arith, ints) in subst (λ w. f w t) same h

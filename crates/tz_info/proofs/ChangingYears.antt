@@ -45,7 +45,7 @@ near_type a year u rule inside low high next = elim (year_or_next u year low hig
       rw (lt_false u (new_year (year +ℤ pos 1)) from) (rw (e, f) at (own_type a (year +ℤ pos 1) u rule of_second (next of_second)))
 ]
 
--- ---- a change is where it begins or ends
+-- ---- clocks change when daylight saving time begins or ends
 flip_off : (first next u : ℤ) (b c : Bool) → first <ℤ u → u ≤ℤ next → cond (int_le u first) false (cond (int_lt next u) false (not (beq b c))) ≡ false → b ≡ c
 flip_off first next u true true low high h = refl
 flip_off first next u false false low high h = refl

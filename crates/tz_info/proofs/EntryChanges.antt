@@ -11,7 +11,7 @@ use Rattle.tz_info.proofs.Prefixes.{last_taken}
 use Rattle.tz_info.proofs.{LeapOrder.{leap_times_answer}, TableSearch.{search_found}, ZoneChanges.{out_before, out_from, refused_on, time_of}}
 use Rattle.tz_info.proofs.{ZoneLaws.{before_or_from_last, inside_listed, last_index_below, leap_time_decided}}
 use Rattle.tz_info.specs.Steps.Entries.{AreEntries, Entries, HaveComeAt, IsBetween, IsCome, IsEntryChange, last_index, most_looks}
-use Rattle.tz_info.specs.declared.zone.change_table.{Between.{Between}, Come.{Come}}
+use Rattle.tz_info.specs.declared.zone.made.change_table.{Between.{Between}, Come.{Come}}
 
 abbrev count_at : Entries → ℤ → ℕ
 count_at e u = length (passed e.items u)
@@ -22,7 +22,7 @@ count_most e u rising = place_most e.items u rising
 some_same : {a b : LocalType} → Some a ≡ Some b → a ≡ b
 some_same e = cc
 
--- an entry is among those that have come just where its time has
+-- an entry is among those that have come if and only if its time has
 come_by : (e : Entries) (k : ℕ) (d : Transition) (u : ℤ) → AreRising e.items → k < length e.items → (k < count_at e u) ↔ ((get_or e.items k d).unix_leap_time ≤ℤ u)
 come_by e k d u rising h = let c = come_by_time e.items u k d rising h in ((λ l. c.0 (omega arith)), (λ l. let q = c.1 l in omega arith))
 
@@ -70,7 +70,7 @@ or_same : (rule : Option TransitionRule) (z : Zone) (u : ℤ) (i j : ℕ) (t : L
 or_same (Some rule) z u i j t same h = h
 or_same None z u i j t same h = same ∙ h
 
--- all have come, and the rule is asked, or there is none
+-- all have come, and the rule is asked, or the zone has no rule
 pub at_last : {T : Type 0} (view : T → LocalType) (z : Zone) (u : ℤ) (c : Come) (r : Result T Error) → HaveComeAt z u c → c.are_all ≡ true
     → MatchResult r (λ t. RuleOrType z u c.index (view t)) (λ e. (e ≡ FindLocalTimeType YearThatRuleAnswersIn) × IsRefusedBy z.rule u)
     → MatchResult r (λ t. TypeAtLeapTime z u (leap_time_at z u) (view t))
@@ -272,7 +272,7 @@ next_by_last z e after second None valid made some last at none = λ d is inside
 next_by_last z e after second (Some c) valid made some last at h = next_found z e after c valid made some h.0 (λ d. h.1 ∙ at d)
 
 -- ---- the previous change of the table
--- none of the entries behind the first k, of those that have come, makes a change
+-- of the entries that have come, those after the first k make no change
 abbrev pub AreIdleBehind : Zone → Entries → ℤ → ℕ → Type 0
 AreIdleBehind z e last k = (j : ℕ) → k ≤ j → j < count_at e last → (d : Change) → IsChange (TypeAt z) d → ((t : Transition) → (get_or e.items j t).unix_leap_time ≡ d.at) → ⊥
 
@@ -330,7 +330,7 @@ previous_by_entry z e last k (Some c) valid made come more idle h =
 pub none_behind : (z : Zone) (e : Entries) (last : ℤ) (k : ℕ) → count_at e last ≡ k → AreIdleBehind z e last k
 none_behind z e last k all j low high d is time = absurd (omega arith)
 
--- where the last one that has come makes none
+-- if the last one that has come makes none
 pub idle_more : (z : Zone) (e : Entries) (last second : ℤ) (k : ℕ) → count_at e last ≡ k + 1 → ((d : Transition) → second ≡ (get_or e.items k d).unix_leap_time)
     → HasNoChange (TypeAt z) (λ u. u ≡ second) → AreIdleBehind z e last k
 idle_more z e last second k all at none j low high d is time =

@@ -30,7 +30,7 @@ pub passed_none : (ts : List Transition) (x : ℤ) → ((k : ℕ) (d : Transitio
 passed_none [] x h = refl
 passed_none (t ∷ ts) x h = rw (le_false t.unix_leap_time x (h 0 t (omega arith)), passed_none ts x (λ k d l. h (suc k) d (omega arith))) refl
 
--- none behind the first k has come
+-- none after the first k has come
 pub passed_first : (ts : List Transition) (k : ℕ) (x : ℤ) → ((i : ℕ) (d : Transition) → k ≤ i → i < length ts → x <ℤ (get_or ts i d).unix_leap_time) → passed ts x ≡ passed (take k ts) x
 passed_first [] zero x h = refl
 passed_first [] (suc k) x h = refl
@@ -48,10 +48,10 @@ pub record AreMadeOf (z : Zone) (entries : List Transition) (k : ℕ) : Type 0 w
   pub few : length entries ≤ k
   pub named : (u x : ℤ) → IsLeapTime z.leaps u x → slice_get z.types (last_index (passed (take k z.transitions) x)) ≡ slice_get z.types (last_index (passed entries u))
   pub leap_time : (j : ℕ) (d : Transition) → j < length entries → (x : ℤ) × IsLeapTime z.leaps (get_or entries j d).unix_leap_time x
-  -- they have come where the first k transitions have
+  -- they have come once the first k transitions have
   pub until : (u y : ℤ) → IsLeapTime z.leaps u y → ((i : ℕ) (d : Transition) → i < k → (get_or z.transitions i d).unix_leap_time ≤ℤ y)
       → (j : ℕ) (d : Transition) → j < length entries → (get_or entries j d).unix_leap_time ≤ℤ u
-  -- the last transition has come where they have
+  -- the last transition has come once they have
   pub last : (i : ℕ) (d : Transition) → i + 1 ≡ k → k ≡ length z.transitions → (u y : ℤ) → IsLeapTime z.leaps u y
       → ((j : ℕ) (e : Transition) → j < length entries → (get_or entries j e).unix_leap_time ≤ℤ u) → (get_or z.transitions i d).unix_leap_time ≤ℤ y
   pub some : 0 < k → k ≡ length z.transitions → 0 < length entries
@@ -68,7 +68,7 @@ record AreKept (z : Zone) (entries kept : List Transition) (s : ℤ) : Type 0 wh
   same : (u : ℤ) → u <ℤ s → passed entries u ≡ passed kept u
   differ : (j : ℕ) → j < length kept → slice_get z.types (index_of kept (j + 1)) ≢ slice_get z.types (index_of kept j)
 
--- the index behind the first j of a list is that of a longer one
+-- the index after the first j of a list is that of a longer one
 index_left : (ts us : List Transition) (j : ℕ) → j ≤ length ts → index_of (ts ++ us) j ≡ index_of ts j
 index_left ts us j h = ap (λ (s : List Transition). last_else 0 (map (λ (t : Transition). t.type_index) s)) (take-append-le j ts us h)
 
@@ -210,7 +210,7 @@ one_more z old kept entries k s t entry is_last valid more item made start befor
         }
 
 -- ---- all transitions
--- those that have come are all, just where each has
+-- those that have come are all, if and only if each has
 all_passed : (ts : List Transition) (x : ℤ) → AreRising ts → length (passed ts x) ≡ length ts → (k : ℕ) (d : Transition) → k < length ts → (get_or ts k d).unix_leap_time ≤ℤ x
 all_passed ts x rising e k d h = (come_by_time ts x k d rising h).0 (omega arith)
 

@@ -1,4 +1,4 @@
--- Values are equal by `==` exactly where they are equal.
+-- Values are equal by `==` if and only if they are equal.
 use Rattle.std.specs.Cmp.Lexicographic.{pointwise}
 use Rattle.tz_base.proofs.ChangeEquality.{second_exact}
 use Rattle.tz_base.specs.contracts.local_time_type.LocalTimeTypePartialEq.TheImpl.{eq-value as type_eq}
@@ -7,11 +7,11 @@ use Rattle.tz_info.proofs.Words.{ShownSeconds, Some, Transition, TransitionRule,
 use Rattle.tz_info.proofs.Words.{rules, slice_eq-Decides, sym, type_exact, zone_eq, ◌&&◌, ◌↔◌, ◌∙◌, ◌≡◌}
 use Rattle.tz_info.specs.contracts.rule.day.DayTimePartialEq.TheImpl.{eq-value as day_time_eq}
 use Rattle.tz_info.specs.contracts.rule.transition_rule.TransitionRulePartialEq.TheImpl.{eq-value as rule_eq}
-use Rattle.tz_info.specs.contracts.zone.differences.DifferencePartialEq.TheImpl.{eq-value as difference_eq}
-use Rattle.tz_info.specs.contracts.zone.leap_second.LeapSecondPartialEq.TheImpl.{eq-value as leap_eq}
-use Rattle.tz_info.specs.contracts.zone.shown_seconds.ShownSecondsPartialEq.TheImpl.{eq-value as seconds_eq}
+use Rattle.tz_info.specs.contracts.zone.ask.differences.DifferencePartialEq.TheImpl.{eq-value as difference_eq}
+use Rattle.tz_info.specs.contracts.zone.lists.leap_second.LeapSecondPartialEq.TheImpl.{eq-value as leap_eq}
+use Rattle.tz_info.specs.contracts.zone.ask.shown_seconds.ShownSecondsPartialEq.TheImpl.{eq-value as seconds_eq}
 use Rattle.tz_info.specs.contracts.change.TypedSecondPartialEq.TheImpl.{eq-value as second_eq}
-use Rattle.tz_info.specs.contracts.zone.transition.TransitionPartialEq.TheImpl.{eq-value as transition_eq}
+use Rattle.tz_info.specs.contracts.zone.lists.transition.TransitionPartialEq.TheImpl.{eq-value as transition_eq}
 use Rattle.tz_info.specs.declared.rule.transition_rule.TransitionRule.TheVariants.{Alternate, Fixed}
 use Rattle.std.proofs.Common.{arith}
 

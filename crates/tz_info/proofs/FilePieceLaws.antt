@@ -3,7 +3,7 @@ use Rattle.tz_info.proofs.Words.{Bool, Decided, FilePieces, HasLengths, HasPiece
 use Rattle.tz_info.proofs.Words.{file, first_version, inl, inr, later_version, lawful, made, pieces_at, refl, said, subst, sym, ℕ, [], ◌∙◌, ◌≡◌, ◌⊎◌}
 use Rattle.tz_info.specs.{declared.file.header.Counts.{Counts}, declared.file.header.Version.TheVariants.{One, Three, Two}}
 
--- nothing stands after a file
+-- no byte follows a file
 after_ends : (v : Version) (c : Counts) (b : Parts) (bytes : List ℕ) (p : FilePieces) (rest : List ℕ) → Spells (after_first_block v c b) bytes p rest → rest ≡ []
 unfolding after_first_block first_version later_version
 after_ends One c b bytes p rest (_, _, inl (none, (_, same)), (_, e)) = sym e ∙ sym same ∙ none

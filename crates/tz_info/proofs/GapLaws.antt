@@ -1,4 +1,4 @@
--- Gaps: where the first second lies at which clocks show more than a local time that they never show.
+-- Gaps: the first second at which clocks show more than a local time that they never show.
 use Rattle.tz_info.proofs.Words.{AreLess, HasGap, IsFirstAtOrAfter, IsNear, IsNeverShown, IsRefusedBy, IsRuleOrNone}
 use Rattle.tz_info.proofs.Words.{IsTypeRefused, IsValid, IsWindowOf, LocalType, None, Option, RuleOrElse, Shows, Some}
 use Rattle.tz_info.proofs.Words.{TransitionRule, TypeAt, Zone, arith, by_leap_time, by_lt_z, by_rule, floor_div, index_of, inl, inr, ints, length, lies_in, pos}
@@ -29,7 +29,7 @@ near_type z u valid limits near = elim (type_decided z u valid limits) [
 ]
 
 -- ---- in a segment that is not an alternate rule's one type is in force
--- the rule has one type, or there is none
+-- the rule has one type, or the zone has no rule
 abbrev pub IsSteady : Option TransitionRule → Type 0
 IsSteady None = Unit {0}
 IsSteady (Some (Fixed t)) = Unit {0}
@@ -64,7 +64,7 @@ not_less z l low high s valid limits reach all h =
     omega (arith, ints)
 
 -- ---- the first second that shows more
--- where all near seconds before c show less, it is the first that shows more
+-- if all near seconds before c show less, it is the first that shows more
 pub gap_found : (z : Zone) (l low high c : ℤ) (s t : LocalType) → IsNever z l → IsWindowOf z l l low high → IsNear c → AreLess z l (c -ℤ pos 1)
     → TypeAt z c s → l <ℤ (c +ℤ s.offset) → TypeAt z (c -ℤ pos 1) t → HasGap (TypeAt z) l t s c
 gap_found z l low high c s t never reach far all here more before = record {

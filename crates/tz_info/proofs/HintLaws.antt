@@ -25,7 +25,7 @@ size_of (negsuc n) h = absurd (omega (arith, ints))
 size_of_rise : (first time : ℤ) → first ≤ℤ time → pos (nat_abs (time -ℤ first)) ≡ time -ℤ first
 size_of_rise first time h = size_of (time -ℤ first) (omega (arith, ints))
 
--- no item comes before the first, and none lies in a stretch behind that of the last
+-- no item comes before the first, and none lies in a stretch after that of the last
 pub first_least : (times : List ℤ) (first : ℤ) (k : ℕ) → AreOrdered times → first ≡ item_time times 0 → k < length times → first ≤ℤ item_time times k
 first_least times first k ordered from l = let low = not_before times 0 k ordered (omega arith) l in omega (arith, ints)
 

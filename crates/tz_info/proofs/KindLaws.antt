@@ -79,7 +79,7 @@ record IsCalm (start_first : Bool) (start end : ℤ) : Type 0 where
 calm_is : (start_first : Bool) (start end : ℤ) → is_calm start_first start end ≡ true → IsCalm start_first start end
 calm_is start_first start end h = grind arith
 
--- where all kinds are calm, each year is
+-- if all kinds are calm, each year is
 calm_year : (a : Alternate) (starts ends : List ℤ) (year : ℤ) → IsAlternateRule a → starts ≡ seconds_by_kind a.start a.std.offset → ends ≡ seconds_by_kind a.end a.dst.offset → are_calm starts ends ≡ true
     → IsCalm (int_le (get_or starts 0 (pos 0)) (get_or ends 0 (pos 0))) (second_in a.start a.std.offset year) (second_in a.end a.dst.offset year)
 unfolding are_calm

@@ -23,7 +23,7 @@ said (Some r) types leaps ts last u t agrees is unix has =
     let same : a.unix_time ≡ u = a.of_transition.difference ∙ sym unix.difference in
     rw (same, some_once (slice_get types last.type_index) a.type t a.listed has) at a.of_rule
 
--- where the last transition has come by its second, its type is in force there
+-- if the last transition has come by its second, its type is in force there
 pub last_type : (z : Zone) (last : Transition) (u x : ℤ) (t : LocalType) → IsValid z → last_transition z.transitions ≡ Some last → IsUnixTime z.leaps last.unix_leap_time u → IsLeapTime z.leaps u x → last.unix_leap_time ≤ℤ x → HasType z last.type_index t → TypeAt z u t
 last_type z last u x t valid is unix time come has =
     let ts : List Transition = z.transitions in

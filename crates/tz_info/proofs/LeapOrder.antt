@@ -6,7 +6,7 @@ use Rattle.tz_info.proofs.Words.{int_lt, ints, last_else, le_false, le_true, len
 use Rattle.tz_info.proofs.Words.{sum_by-cons, sym, take, thresholds, zero, ℕ, ℤ, [], ◌*◌, ◌+ℤ◌, ◌-ℤ◌, ◌<ℤ◌, ◌<◌, ◌∙◌, ◌∷◌, ◌≡◌, ◌≤ℤ◌, ◌≤◌}
 use Rattle.tz_info.proofs.{LeapEntries.{Follow, follow, follow_tail, threshold_apart, threshold_at, threshold_count}, Prefixes.{last_taken}}
 
--- how many entries behind one of correction p are passed at u
+-- how many entries after one of correction p are passed at u
 abbrev pub counted_from : ℤ → List LeapSecond → ℤ → ℕ
 counted_from p es u = count_by (λ t. int_le t u) (thresholds p es)
 

@@ -32,7 +32,7 @@ by_saturated l s r fits some e p =
     let same = le_saturated l s fits some in
     rw e ((λ t. p.0 (le_true l s (same.0 (le_is l (saturate_signed w64 s) t)))), (λ h. le_true l (saturate_signed w64 s) (same.1 (le_is l s (p.1 h)))))
 
--- an entry is passed just where its time has come with the correction before it
+-- an entry is passed if and only if its time has come with the correction before it
 pub passed_here : (es : List LeapSecond) (u v : ℤ) (k : ℕ) (d : LeapSecond) → AreLeapSeconds es → k < length es → v ≡ correction_behind es k
     → (int_le (get_or es k d).unix_leap_time (u +ℤ v) ≡ true) ↔ (k < passed_count es u)
 passed_here es u v k d valid h e =

@@ -5,7 +5,7 @@ use Rattle.tz_info.proofs.Words.{count_by-le-length, get_or, inl, inr, int_le, i
 use Rattle.tz_info.proofs.Words.{thresholds, w64, zero, ℕ, ℤ, [], ◌+ℤ◌, ◌-ℤ◌, ◌-◌, ◌<ℤ◌, ◌<◌, ◌↔◌, ◌∷◌, ◌≡◌, ◌≤ℤ◌, ◌≤◌}
 use Rattle.tz_info.proofs.{LeapEntries.{follow, threshold, threshold_at, threshold_count}, LeapOrder.{split}, Prefixes.{last_taken}}
 
--- the correction that stands behind the first k entries
+-- the correction in force after the first k entries
 abbrev pub correction_behind : List LeapSecond → ℕ → ℤ
 correction_behind es k = last_else (pos 0) (corrections (take k es))
 
@@ -33,7 +33,7 @@ above_law es x u y n c d valid h l is more =
     let e : y ≡ u +ℤ correction_behind es (suc c) = rw is at l.sum in
     elim (one_step es c d valid (omega arith)) [ inl k ↦ omega (arith, ints) | inr k ↦ omega (arith, ints) ]
 
--- and then x less the correction that stands at x comes before u
+-- and then x less the correction in force at x comes before u
 above_start : (es : List LeapSecond) (x u : ℤ) (n : ℕ) (d : LeapSecond) → AreLeapSeconds es → HaveCome es x n → n < passed_count es u → (x -ℤ correction_behind es n) ≤ℤ u
 above_start es x u n d valid h more =
     let m = passed_at_most es u in
@@ -44,7 +44,7 @@ pub no_first : {X : Type 0} (xs : List X) (n : ℕ) → n < length xs → X
 no_first [] n h = absurd (omega arith)
 no_first (x ∷ xs) n h = x
 
--- where none has come, the leap time is reached at the same number
+-- if none has come, the leap time is reached at the same number
 pub reached_first : (es : List LeapSecond) (x u y : ℤ) → AreLeapSeconds es → HaveCome es x 0 → IsLeapTime es u y → (x ≤ℤ y) ↔ (x ≤ℤ u)
 reached_first es x u y valid h l = elim (cases_lt 0 (passed_count es u)) [
   | inl more ↦
@@ -56,7 +56,7 @@ reached_first es x u y valid h l = elim (cases_lt 0 (passed_count es u)) [
   | inr none ↦ grind arith
 ]
 
--- else at the later of two seconds: where the latest entry is passed, and where that entry's correction leads back to
+-- else at the later of two seconds: the one at which the latest entry is passed, and the one that its correction leads back to
 pub reached_later : (es : List LeapSecond) (x u y : ℤ) (n : ℕ) (d : LeapSecond) → AreLeapSeconds es → HaveCome es x (suc n) → IsLeapTime es u y
     → (x ≤ℤ y) ↔ ((threshold es n ≤ℤ u) × ((x -ℤ correction_behind es (suc n)) ≤ℤ u))
 reached_later es x u y n d valid h l =
@@ -77,7 +77,7 @@ reached_later es x u y n d valid h l =
           ]
     ]
 
--- a number held within 64 bits stands on the same side of each second near now
+-- a number limited to 64 bits is on the same side of each second near now
 pub saturated : (v u : ℤ) → IsNear u → (saturate_signed w64 v ≤ℤ u) ↔ (v ≤ℤ u)
 saturated v u near = let a = near.0 in let b = near.1 in ((λ k. grind (arith, ints)), (λ k. grind (arith, ints)))
 

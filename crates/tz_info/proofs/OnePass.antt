@@ -3,7 +3,7 @@ use Rattle.tz_info.proofs.Words.{AreCutsCrossed, AreInOrder, ArePieces, ArePiece
 use Rattle.tz_info.proofs.Words.{List, LocalType, Piece, Segment, Transition, Zone, all_pairs_push, answer_at, answer_before, arith, cut_of, index_of, inl}
 use Rattle.tz_info.proofs.Words.{cases_lt, inr, ints, le_false, le_true, length, length_push, refl, suc, together, zero, ℕ, ℤ, [], ⊎_elim, ◌++◌, ◌-◌, ◌<ℤ◌}
 use Rattle.tz_info.proofs.Words.{Some, slice_get, sym, ◌<◌, ◌∙◌, ◌∷◌, ◌≡◌, ◌≤ℤ◌, ◌≤◌, ◌⊎◌}
-use Rattle.tz_info.specs.declared.zone.shown.Shown.TheVariants.{Less, Once, Skipped}
+use Rattle.tz_info.specs.declared.zone.made.shown.Shown.TheVariants.{Less, Once, Skipped}
 use Rattle.tz_info.specs.Steps.SegmentEnds.{AreEndsRising, end_of}
 use Rattle.tz_info.proofs.WallPieces.{Answer, StartBy, at_all, at_earlier, at_later, before_pushed, start_by_push}
 use Rattle.tz_info.proofs.WallSegments.{first_pieces, inner_pieces, last_pieces, piece, pieces_joined}
@@ -31,14 +31,14 @@ some_same e = cc
 start_by_later : (ps : List Piece) (a b : ℤ) → StartBy ps a → a ≤ℤ b → StartBy ps b
 start_by_later ps a b by h = λ k d l. let q = by k d l in omega (arith, ints)
 
--- at no local time the pieces' last segment is behind it, which has no end
+-- the pieces' last segment has no end, so it is over at no local time
 abbrev IsOpen : Answer → List Piece → Type 0
 IsOpen b ps = (l : ℤ) (j : ℕ) → together (answer_at b ps l) (Skipped j) ≡ answer_at b ps l
 
 open_push : (b : Answer) (ps : List Piece) (p : Piece) → IsOpen b ps → ((j : ℕ) → together p.answer (Skipped j) ≡ p.answer) → IsOpen b (ps ++ (p ∷ []))
 open_push b ps p o h l j = grind (arith, at_earlier, at_later)
 
--- where the later segment ends too, at t
+-- if the later segment ends too, at t
 end_merged : (i : ℕ) (xs : List Piece) (s t : ℤ) (j y : ℕ) (out : List Piece) → IsMerged (Once i) xs (Skipped j) (piece s (Once y) ∷ []) out → StartBy out t → StartBy xs t → s ≤ℤ t
     → answer_before (Once i) xs ≡ Less
     → IsMerged (Once i) xs (Skipped j) (piece s (Once y) ∷ piece t Less ∷ []) (out ++ (piece t Less ∷ []))
@@ -53,8 +53,8 @@ end_merged i xs s t j y out m by by_xs h ended =
 
 -- ---- one segment more
 
--- the pieces of the first `place` segments where the last of them has no end: with any end that comes behind all their
--- starts they are those of the segments, and as they stand where the last is the table's last
+-- the pieces of the first `place` segments, the last of them without an end: with any end after all their starts they are those of the
+-- segments, and without one they are so if the last is the table's last
 pub record AreOpen (z : Zone) (ts : List Transition) (place : ℕ) (first : ℕ) (pieces : List Piece) (latest : ℤ) : Type 0 where
   pub ordered : AreInOrder pieces
   pub started : (l : ℤ) → (1 < place → latest ≤ℤ l) → StartBy pieces l
@@ -81,7 +81,7 @@ open_first z ts top latest table own any = record {
   ended = λ h. absurd (omega arith);
 }
 
--- the pieces where the next segment starts are pushed: what they give without an end of that segment
+-- the pieces at the start of the next segment are added: what they give without an end of that segment
 record IsOpened (first : ℕ) (pieces : List Piece) (end start : ℤ) (place : ℕ) (index : ℕ) (out : List Piece) (latest : ℤ) : Type 0 where
   end_by : end ≤ℤ latest
   start_by : start ≤ℤ latest
@@ -200,7 +200,7 @@ ends_closed z ts place i ps latest o all last k some within = elim (cases_lt (su
       rw at (later_end _ latest _ _ (rw k_is at (o.ended (omega arith))) (last (omega arith)) (omega (arith, ints)))
 ]
 
--- where the next cut doesn't come behind the latest, they cross
+-- if the next cut doesn't come after the latest, they cross
 pub crossed_by : (z : Zone) (ts : List Transition) (place i : ℕ) (ps : List Piece) (latest cut : ℤ) → place ≤ length ts → 1 < place → AreOpen z ts place i ps latest → IsCutAt z.types ts place cut → cut ≤ℤ latest → AreCutsCrossed z.types ts
 crossed_by z ts zero i ps latest cut n more o c less = absurd (omega arith)
 crossed_by z ts (suc k) i ps latest cut n more o c less = grind arith

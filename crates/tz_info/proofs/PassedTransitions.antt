@@ -6,7 +6,7 @@ use Rattle.tz_info.proofs.Words.{by_rule, length, refl, ℤ}
 use Rattle.tz_info.proofs.Words.{◌≡◌}
 pub use Rattle.tz_info.proofs.Words.{nil_from_length as no_items}
 
--- without transitions the rule is asked, or there is none
+-- without transitions the rule is asked, or the zone has no rule
 pub without_transitions : {T : Type 0} (view : T → LocalType) (z : Zone) (u : ℤ) (r : Result T Error) → length z.transitions ≡ 0
     → MatchResult r (λ t. RuleOrType z u 0 (view t)) (λ e. (e ≡ FindLocalTimeType YearThatRuleAnswersIn) × IsRefusedBy z.rule u)
     → MatchResult r (λ t. TypeAt z u (view t)) (IsTypeError z u)

@@ -8,7 +8,7 @@ has_type : (rule : TransitionRule) → 0 < length (types_of rule)
 has_type (rules.Fixed t) = omega arith
 has_type (rules.Alternate a) = omega arith
 
--- types and a rule, without transitions and leap seconds, make a zone where there is a type
+-- types and a rule, without transitions and leap seconds, make a zone if there is a type
 pub posix_zone_valid : (text : List ℕ) (zone : Zone) → IsPosixZone text zone → IsValid zone × IsRuleOrNone zone.rule
 posix_zone_valid text zone h = elim h [
   | inl a ↦ subst (λ (y : Zone). IsValid y × IsRuleOrNone y.rule) (sym a.1) (zone_of_rule_valid _ None (omega arith), tt)

@@ -96,7 +96,7 @@ pub asked_dst_std : (a : AlternateRule) (from l : ℤ) (p q r : ℕ) → a.std.o
 asked_dst_std a from l p q r other dst std = two_seconds (IsSecondFrom (Alternate a) from l) (l -ℤ a.dst.offset) (l -ℤ a.std.offset) p q r (λ e. other (omega (arith, ints))) (λ u k. elim (std_or_dst a from l u k) [ inl e ↦ inr e | inr e ↦ inl e ])
     (asked_since (Alternate a) from l a.dst.offset p q (1, omega arith, refl) dst) (asked_since (Alternate a) from l a.std.offset q r (0, omega arith, refl) std)
 
--- where both offsets are one
+-- if both offsets are equal
 pub asked_once : (a : AlternateRule) (from l : ℤ) (p q : ℕ) → a.std.offset ≡ a.dst.offset → IsAskedSince from (l -ℤ a.std.offset) p q → IsAskedFrom (Alternate a) from l p q
 asked_once a from l p q same std = one_second (IsSecondFrom (Alternate a) from l) (l -ℤ a.std.offset) p q (λ u k.
     grind arith) (asked_since (Alternate a) from l a.std.offset p q (0, omega arith, refl) std)
@@ -105,7 +105,7 @@ asked_once a from l p q same std = one_second (IsSecondFrom (Alternate a) from l
 pub asked_none : (z : Zone) (l : ℤ) (p : ℕ) → z.rule ≡ None → IsAskedFor z l p p
 asked_none z l p e = nowhere (IsByRuleFor z l) p p (λ u k. none-some k.by_rule.rule (sym e ∙ k.by_rule.of_zone)) refl
 
--- ---- none, where a transition comes after all of the local time's window
+-- ---- none, if a transition comes after all of the local time's window
 pub asked_for_window : (z : Zone) (l low high : ℤ) (n : ℕ) (d : Transition) (p q : ℕ) → IsValid z → IsWindow z l low high → n < length z.transitions → high <ℤ (get_or z.transitions n d).unix_leap_time → q ≡ p → IsAskedFor z l p q
 asked_for_window z l low high n d p q valid w h later e = nowhere (IsByRuleFor z l) p q (λ u k.
     let among = Contains-append_right (offsets_of z.types) (rule_offsets z.rule) k.offset k.of_rule in

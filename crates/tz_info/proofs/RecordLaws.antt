@@ -18,7 +18,7 @@ values_same : {X : Type 0} (n : ℕ) (read other : ℕ → Result X Error) → (
 values_same zero read other h = refl
 values_same (suc n) read other h = rw (values_same n read other h, h n) refl
 
--- the first value, and then those of another reading
+-- the first value, and then those of another parse
 pub first_and_more : {X : Type 0} {P : X → Type 0} {F : Error → Type 0} {Q : List X → Type 0} {G : Error → Type 0} (n : ℕ) (read other : ℕ → Result X Error) (first : Result X Error) → read 0 ≡ first → ((k : ℕ) → read (suc k) ≡ other k) → Decided X first P F → Decided (List X) (values_below n other) Q G
     → Decided (List X) (values_below (suc n) read) (λ ys. (x : X) × P x × ((xs : List X) × Q xs × (x ∷ xs ≡ ys))) (λ m. F m ⊎ ((x : X) × P x × G m))
 first_and_more n read other first is next d more = rw (values_front n read, is, values_same n (λ k. read (suc k)) other next) (bind d (λ x _. made (λ xs. x ∷ xs) more))

@@ -1,4 +1,4 @@
--- Where a rule's types give way to each other: at its moments and at turns of the year, and every 400 years alike.
+-- When a rule's types give way to each other: at its moments and at turns of the year, and every 400 years alike.
 use Rattle.std.proofs.lemmas.Bool.Decides.{Decides-int_eq}
 use Rattle.std.proofs.lemmas.Map.Made.{is_member-Decides}
 use Rattle.std.specs.Ordering.{int_eq}
@@ -110,7 +110,7 @@ change_near a year d rule is of_second =
           absurd (is.differ (alternate_once a d.at d.before d.after (steady.same d.at (omega (arith, ints)) (omega (arith, ints)) d.before is.before) is.after))
     ]
 
--- ---- years beside seconds
+-- ---- years and seconds
 -- years rise with seconds
 pub years_rise : (u v x y : ℤ) → IsYearOf u x → IsYearOf v y → u ≤ℤ v → x ≤ℤ y
 years_rise u v x y h k l =

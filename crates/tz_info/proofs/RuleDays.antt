@@ -6,7 +6,7 @@ use Rattle.tz_info.proofs.Words.{weekday_at, weekday_below, weekday_is, weekday_
 use Rattle.tz_info.proofs.Words.{◌<ℤ◌, ◌<◌, ◌∙◌, ◌≡◌, ◌≤ℤ◌, ◌≤◌}
 use Rattle.tz_info.specs.declared.rule.day.DayForm.TheVariants.{Julian0, Julian1, MonthWeekday}
 
--- the day behind 31 December
+-- the day after 31 December
 pub behind_december : (year : ℤ) → day_number year 12 32 ≡ year_start year +ℤ pos (days_in_year year)
 unfolding day_number
 behind_december year = omega (arith, floors, months_step (is_leap year) 12 (omega arith), months_all year)
@@ -44,14 +44,14 @@ julian_at_most leap n high = omega (arith, leap_at_most (leap && nat_le 60 n))
 julian_below : (year : ℤ) (n : ℕ) → 1 ≤ n → n ≤ 365 → julian_place (is_leap year) n < days_in_year year
 julian_below year n low high = grind (arith, nat_tests)
 
--- the rule's day is a date of its year, where it is no plain day number
+-- the rule's day is a date of its year, if it is no plain day number
 weekday_lies : (year : ℤ) (month week weekday : ℕ) → IsRuleDay (MonthWeekday month week weekday) → LiesIn (closed_day (MonthWeekday month week weekday) year) year
 unfolding closed_day
 weekday_lies year month week weekday fits =
     let place = weekday_place (days_in_month (is_leap year) month) (weekday_of (day_number year month 1)) week weekday in
     rw (number_after year month place) at (date_lies year month (place + 1) (weekday_is year month week weekday fits.0 fits.1 fits.2 fits.3 fits.4).date)
 
--- the rule's day lies in its year, or is the day behind it
+-- the rule's day lies in its year, or is the day after it
 closed_within : (form : DayForm) (year : ℤ) → IsRuleDay form → (year_start year ≤ℤ closed_day form year) × (closed_day form year ≤ℤ (year_start year +ℤ pos 365))
 unfolding closed_day
 closed_within (Julian1 n) year fits = let most = julian_at_most (is_leap year) n fits.1 in (omega (arith, floors), omega (arith, floors))

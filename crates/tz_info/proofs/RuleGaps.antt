@@ -1,4 +1,4 @@
--- A rule's gaps: where a season's moments decide at both seconds that could show a local time and neither does, one moment lies between them.
+-- A rule's gaps: if a season's moments decide at both seconds that could show a local time and neither does, one moment lies between them.
 use Rattle.std.specs.Prelude.{⊤}
 use Rattle.tz_info.proofs.Words.{Alternate as AlternateRule, AlternateAt, AreLess, Bool, Change, HasGap, IsAlternateRule, IsDecidedIn, IsNear}
 use Rattle.tz_info.proofs.Words.{IsNeverFrom, IsRuleGap, IsSeason, IsSeasonFor, IsSeasonIn, IsSeasonOf, IsStart, IsTableLess, IsValid, IsWide, IsWindowOf, LocalType, MatchOption}

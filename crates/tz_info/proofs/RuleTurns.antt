@@ -1,4 +1,4 @@
--- A rule's types beside its moments: from which second on a type is in force, and which one a second before.
+-- A rule's types and its moments: from which second on a type is in force, and which one a second before.
 use Rattle.tz_info.proofs.Words.{Alternate, AlternateAt, DayTime, IsAlternateRule, IsBetween, IsDayOf, IsDstAt, IsInSomeYear, IsRuleDay, IsRuleYear}
 use Rattle.tz_info.proofs.Words.{IsYearOf, ap, arith, by_lt_z, end_in, false, false≢true, floors, inl, inr, ints, moment, pos, refl, rule_day, start_in, true, ℤ}
 use Rattle.tz_info.proofs.Words.{◌*ℤ◌, ◌+ℤ◌, ◌-ℤ◌, ◌<ℤ◌, ◌≡◌, ◌≤ℤ◌}

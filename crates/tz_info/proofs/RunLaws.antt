@@ -30,7 +30,7 @@ next_run false s low high start end some here starts ends =
     let first = (starts (high -ℤ pos 1)).1 (omega (arith, ints), here.since) in
     (omega (arith, ints), ((starts start).0 (omega (arith, ints))).0, omega (arith, ints))
 
--- a span that ends before the limit ends where its type is out of force
+-- a span that ends before the limit ends when its type is out of force
 turned : (z : Zone) (until : Option ℤ) (limit end : ℤ) (f : LocalType) → IfSome until (IsOutOfForce (TypeAt z) f) → EndsBy until limit end → end <ℤ limit
     → TypeAt z end f → ⊥
 turned z None limit end f out ends less here = let beyond = (ends end).1 (less, tt) in omega (arith, ints)

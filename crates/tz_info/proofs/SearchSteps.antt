@@ -16,7 +16,7 @@ times_ordered time items x order i j d h l =
     let same = length-map items time in
     let o = order i j h (omega arith) in grind (arith, ints, mapped_at)
 
--- the items that have come are the first so many
+-- the items that have come are the first n
 pub first_come : {A : Type 0} (time : A → ℤ) (items : List A) (v : ℤ) (n : ℕ) → ArePassed (map time items) v n
     → filter (λ (x : A). int_le (time x) v) items ≡ take n items
 first_come {A = A} time items v n come =
@@ -29,7 +29,7 @@ first_come {A = A} time items v n come =
 pub not_before : (times : List ℤ) (i k : ℕ) → AreOrdered times → i ≤ k → k < length times → item_time times i ≤ℤ item_time times k
 not_before times i k ordered h l = grind arith
 
--- all have come where the last has
+-- all have come once the last has
 pub all_passed : (times : List ℤ) (v : ℤ) (n : ℕ) (ends : Ends) → AreOrdered times → n ≡ length times → 0 < n → AreEnds times ends → ends.last ≤ℤ v → ArePassed times v n
 all_passed times v n ends ordered e some are le =
     record {
@@ -38,7 +38,7 @@ all_passed times v n ends ordered e some are le =
       behind = λ k h l. absurd (omega arith);
     }
 
--- and none where the first has not
+-- and none if the first has not
 pub none_passed : (times : List ℤ) (v : ℤ) (ends : Ends) → AreOrdered times → 0 < length times → AreEnds times ends → v <ℤ ends.first → ArePassed times v 0
 none_passed times v ends ordered some are lt =
     record {

@@ -53,7 +53,7 @@ season_for a s from l true season first last = record { season = season; standar
 season_for a s from l false season first last = record { season = season; standard = first; daylight = last }
 
 -- ---- the answer
--- the second of the one type was asked, where it is daylight saving time or not
+-- the second of the one type was asked, whether or not it is daylight saving time
 asked_side : (a : AlternateRule) (from l : ℤ) (dst b : Bool) (before : LocalResult LocalType) → IsKnown from l (type_when a dst).offset
     → a.std.offset ≢ a.dst.offset
     → AlternateAt a (l -ℤ (type_when a dst).offset) (type_when a b)

@@ -72,7 +72,7 @@ type_told z u valid limits = elim (cases_lt 0 (length z.transitions)) [
   | inr none ↦ grind (arith, at_leap_time)
 ]
 
--- what is asked tells the type of each second
+-- `types` gives the type of each second, or none
 abbrev pub AreTypes : InForce → (ℤ → Option LocalType) → Type 0
 AreTypes f types = (u : ℤ) → MatchOption (types u) ((t : LocalType) → f u t → ⊥) (f u)
 

@@ -25,7 +25,7 @@ ends_rise types ts (suc j) zero rising some order within = absurd (omega arith)
 ends_rise types ts (suc j) (suc k) rising some order within =
     rises (λ i. end_of types ts (suc i)) (length ts) (λ i h. let r = rising (suc i) (omega arith) h in omega (arith, ints)) j k (omega arith) (omega arith)
 
--- where the ends rise the last one decides
+-- if the ends rise the last one decides
 pub reached_plain : (types : List LocalType) (ts : List Transition) (k : ℕ) (l : ℤ) → AreEndsRising types ts → 0 < k → k ≤ length ts → (l <ℤ end_of types ts k) ↔ IsReached types ts k l
 reached_plain types ts k l rising some within = (
   λ h. record { by = k; some = some; within = omega arith; later = h },
@@ -58,7 +58,7 @@ reached_more types ts k l = (
 pub never_reached : (types : List LocalType) (ts : List Transition) (l : ℤ) → IsReached types ts 0 l → ⊥
 never_reached types ts l r = let s = r.some in let w = r.within in omega arith
 
--- the later of where the segment begins and the second that shows the local time by its type
+-- the later of the segment's begin and the second that shows the local time by its type
 pub first_of_made : (types : List LocalType) (ts : List Transition) (k i : ℕ) (l at begin shown : ℤ) (t : LocalType) → i ≡ index_of ts k → slice_get types i ≡ Some t → IsUtOffset t.offset
     → begin ≡ begin_of ts k → shown ≡ l -ℤ t.offset → ((u : ℤ) → (at ≤ℤ u) ↔ ((begin ≤ℤ u) × (shown ≤ℤ u))) → IsFirstOf types ts k l at t
 first_of_made types ts k i l at begin shown t is listed offset begins shows from = record { listed = rw is at listed; offset = offset; from = rw (begins, shows) at from }

@@ -5,7 +5,7 @@ use Rattle.tz_info.proofs.Words.{length, length-take, passed, pos, refl, segment
 use Rattle.tz_info.proofs.Words.{◌≤◌}
 use Rattle.tz_info.proofs.{LeapOrder.{leap_sums_rise}, PassedTransitions.{no_items}, Prefixes.{last_taken}, TableSearch.{Between, search_found}}
 
--- no transition comes later than one that stands behind it
+-- no transition comes later than one after it in the list
 pub not_later : (ts : List Transition) (i k : ℕ) (d : Transition) → AreRising ts → i ≤ k → k < length ts
     → (get_or ts i d).unix_leap_time ≤ℤ (get_or ts k d).unix_leap_time
 not_later ts i k d r h l = elim (cases_lt i k) [
@@ -76,7 +76,7 @@ segments_rise z u v r leaps h =
 pub later_segment : (z : Zone) (u v : ℤ) → IsValid z → segment_of z u < segment_of z v → u <ℤ v
 later_segment z u v valid h = by_lt_z u v (λ l. l) (λ m. let r = segments_rise z v u valid.transitions.rising valid.leaps m in absurd (omega arith))
 
--- ---- where a segment begins
+-- ---- the begin of a segment
 pub begin_first : (ts : List Transition) → begin_of ts 0 ≡ least_time
 begin_first [] = refl
 begin_first (t ∷ ts) = refl
@@ -93,7 +93,7 @@ begun_before ts x (suc i) h b =
     let w = b.within in let d : Transition = record { unix_leap_time = x; type_index = 0 } in
     rw (last_taken (λ (t : Transition). t.unix_leap_time) least_time ts i d (omega arith)) (b.below i d (omega arith))
 
--- a leap time is in segment i where it comes from the segment's begin on, and before the next transition
+-- a leap time is in segment i if it comes from the segment's begin on, and before the next transition
 pub record IsWithin (ts : List Transition) (i : ℕ) (x : ℤ) : Type 0 where
   pub since : begin_of ts i ≤ℤ x
   pub until : (d : Transition) → i < length ts → x <ℤ (get_or ts i d).unix_leap_time
@@ -124,7 +124,7 @@ come_by_then z u x time = ap length (passed_here z u x time)
 pub come_at_time : (z : Zone) (u x : ℤ) → IsLeapTime z.leaps u x → length (passed z.transitions x) ≡ segment_of z u
 come_at_time z u x time = come_by_then z u x (λ _. time)
 
--- the transition at place k is among those that have come just where its time has
+-- the transition at place k is among those that have come if and only if its time has
 pub come_by_time : (ts : List Transition) (x : ℤ) (k : ℕ) (d : Transition) → AreRising ts → k < length ts → (suc k ≤ length (passed ts x)) ↔ ((get_or ts k d).unix_leap_time ≤ℤ x)
 come_by_time ts x k d rising h =
     let p = split_at ts x rising in

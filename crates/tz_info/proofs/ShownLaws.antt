@@ -1,7 +1,7 @@
 -- What neighbouring segments show of a local time, put together.
 use Rattle.tz_info.proofs.Words.{AreLessAmong, IsSideAmong, Jumps, List, Shown, Transition, Zone, arith, cases_lt, inl, inr, joined, place_at, refl, shown_indexes}
 use Rattle.tz_info.proofs.Words.{together, ℕ, ℤ, ◌<◌, ◌≡◌, ◌≤◌}
-use Rattle.tz_info.specs.declared.zone.shown.Shown.TheVariants.{Less, Once, Several, Skipped}
+use Rattle.tz_info.specs.declared.zone.made.shown.Shown.TheVariants.{Less, Once, Several, Skipped}
 
 -- the wall clock's answers are joined
 pub wall_together : (a b : Shown) → shown_indexes (together a b) ≡ joined (shown_indexes a) (shown_indexes b)
@@ -25,7 +25,7 @@ less_joined z ts low middle high l a b u t near from below k = elim (cases_lt (p
   | inr g ↦ b u t near (omega arith) below k
 ]
 
--- of segments more the jump is the first one, where clocks show less before it
+-- of more segments the jump is the first one before which clocks show less
 moved : (z : Zone) (ts : List Transition) (low high from below : ℕ) (l : ℤ) (j : ℕ) → AreLessAmong z ts from j l → j < below → Jumps z ts low high l j → Jumps z ts from below l j
 moved z ts low high from below l j less inside a = record {
   some = a.some;

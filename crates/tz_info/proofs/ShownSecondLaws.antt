@@ -87,7 +87,7 @@ one_answer z from until (Some a) (Some b) h k =
     let (first, type) = one_end z a.first.at b.first.at a.first.local_time_type b.first.local_time_type h.first.shown.type k.first.shown.type (h.first.first _ _ k.first.shown) (k.first.first _ _ h.first.shown) in
     grind (arith, one_end)
 
--- ---- where one type is in force near the stretch
+-- ---- if one type is in force near the stretch
 abbrev pub IsAllOf : Zone → ℤ → ℤ → LocalType → Type 0
 IsAllOf z low high t = (u : ℤ) → low ≤ℤ u → u <ℤ high → TypeAt z u t
 

@@ -95,7 +95,7 @@ typed_between z a b v s t valid limits low high h k = elim (type_decided z v val
   between (by_rule x of_second last r) = rule_between z.rule z a b v x s t refl valid of_second last low high h k r
 
 -- ---- from the last change up to u to the first one after it
--- where no change comes between two seconds that have types, these are the same
+-- if no change comes between two seconds that have types, these are the same
 pub no_change : (z : Zone) (u v : ℤ) (s t : LocalType) → IsValid z → IsRuleOrNone z.rule → SFits w64 u → SFits w64 v → u ≤ℤ v
     → HasNoChange (TypeAt z) (λ w. (u <ℤ w) × (w ≤ℤ v)) → TypeAt z u s → TypeAt z v t → s ≡ t
 no_change z u v s t valid limits fits fits_end h none k l =

@@ -9,7 +9,7 @@ use Rattle.tz_info.proofs.Words.{LocalResult, LocalType, MatchOption, None, Opti
 use Rattle.tz_info.proofs.Words.{begin_of, by_lt_z, cases_lt, index_of, inl, inr, ints, last_else, least_time, length, map, place_at, pos, refl, segment_of, shown_indexes}
 use Rattle.tz_info.proofs.Words.{slice_get, suc, sym, table_count, table_count_by, top_of, w64, zero, ℕ, ℤ, [], ◌+◌, ◌-ℤ◌, ◌-◌, ◌<ℤ◌, ◌<◌, ◌↔◌, ◌∙◌, ◌≡◌}
 use Rattle.tz_info.proofs.Words.{◌≤ℤ◌, ◌≤◌}
-use Rattle.tz_info.specs.declared.zone.shown.Shown.TheVariants.{Less, Once, Several, Skipped}
+use Rattle.tz_info.specs.declared.zone.made.shown.Shown.TheVariants.{Less, Once, Several, Skipped}
 use Rattle.tz_info.proofs.{EntryChanges.{index_there, looks_most}, ExtremeLaws.{window_made}, GapLaws.{IsNever, gap_found, not_less}, PassedTransitions.{no_items}, TableSearch.{search_found}, ZoneChanges.{time_of}}
 use Rattle.tz_info.proofs.SegmentLaws.{come_at_time, come_from, place_before, place_begin, place_most, segment_here, segment_most}
 use Rattle.tz_info.proofs.WallSegments.{indexes_below, leap_time_of, shown_inside, type_in_table, type_of_table, typed_answer}
@@ -112,7 +112,7 @@ begin_by z e s valid made low begun = record {
       let b = (begun least_time (omega (arith, ints))).0 (omega arith) in omega (arith, ints);
 }
 
--- ---- the gap where a segment begins
+-- ---- the gap at the begin of a segment
 jump_found : (z : Zone) (e : Entries) (l low high : ℤ) (k : ℕ) (c : Change) → IsValid z → IsRuleOrNone z.rule → AreEntries z e → IsNever z l → IsWindowOf z l l low high
     → Jumps z e.items 0 (top_of z.rule e) l k → IsJump z.types e.items (Skipped k) (Some c) → HasGap (TypeAt z) l c.before c.after c.at
 jump_found z e l low high zero c valid limits made never reach jump h = let some = jump.some in absurd (omega arith)
@@ -156,7 +156,7 @@ reach_of z l x wide fg fl found = (
   window_made z l l x.greatest x.least (omega (arith, ints, wide), omega (arith, ints, wide)) (omega (arith, ints, wide), omega (arith, ints, wide)) fg fl found.greatest found.least,
 )
 
--- looks at pieces, and then questions to the rule
+-- piece probes, and then questions to the rule
 pub rose_by_wall : (z : Zone) (a b c : Counts) (n : ℕ) → n ≤ 2 * length z.transitions → RoseByPieces a b (most_looks n) 0 → (0 < length z.transitions → a.piece_reads < b.piece_reads) → RoseWithin b c 0 2 → RoseByWallClock z a c
 rose_by_wall z a b c n few pieces looked rule =
     let most = looks_most n (2 * length z.transitions + 1) (omega arith) (omega arith) in

@@ -1,4 +1,4 @@
--- Where a search in transitions whose times rise comes to an end.
+-- The end of a search in transitions whose times rise.
 use Rattle.tz_info.proofs.Words.{AreOrdered, AreRising, List, Stands, Transition, arith, cases_lt, filter_first, get_or, inl, inr, ints}
 use Rattle.tz_info.proofs.Words.{length, map, passed, pos, take, times_ordered, ℕ, ℤ, ◌+◌, ◌-◌, ◌<ℤ◌, ◌<◌, ◌≡◌, ◌≤ℤ◌, ◌≤◌}
 
@@ -18,7 +18,7 @@ in_order xs rising = times_ordered (λ (t : Transition). t.unix_leap_time) xs no
   none : Transition
   none = record { unix_leap_time = pos 0; type_index = 0 }
 
--- transitions that stand so far rise so far
+-- the transitions up to that place are valid, so their times rise
 pub record StandUntil (types : ℕ) (xs : List Transition) (n : ℕ) : Type 0 where
   pub indexes : (k : ℕ) (d : Transition) → k < n → (get_or xs k d).type_index < types
   pub rising : (i j : ℕ) (d : Transition) → i < j → j < n → (get_or xs i d).unix_leap_time <ℤ (get_or xs j d).unix_leap_time

@@ -5,7 +5,7 @@ use Rattle.tz_info.proofs.Words.{text, value_once, ℕ, ℤ, [], ◌∙◌, ◌�
 use Rattle.tz_base.specs.declared.parse_error.ParseError.{ParseError}
 use Rattle.tz_info.specs.Steps.Spelled.{IsParsed}
 
--- nothing stands after a text
+-- no byte follows a TZ string
 rule_ends : (extended : Bool) (at name : List ℕ) (east : ℤ) (bytes : List ℕ) (r : TransitionRule) (rest : List ℕ) → Spells (rule extended at name east) bytes r rest → rest ≡ []
 unfolding rule fixed alternate named end
 rule_ends extended at name east bytes r rest (inl (none, (_, _, std, (_, e)))) = sym e ∙ sym std.2 ∙ none

@@ -1,7 +1,9 @@
 -- White space at both ends of bytes.
 use Rattle.tz_info.proofs.Words.{BeginsBare, EndsBare, IsAsciiWhitespaceBelow, IsAsciiWhitespaceFrom, IsSpace, IsTrimAscii, IsTrimmed, List, ap, arith}
 use Rattle.tz_info.proofs.Words.{cases_lt, cond, drop, false, inl, inr, is_ascii_whitespace, length, length-take, min, refl, slice_index, subst, suc, sym, take}
-use Rattle.tz_info.proofs.Words.{trimmed, trimmed_back, trimmed_front, true, true≢false, unless_space, zero, ℕ, [], ◌++◌, ◌-◌, ◌<◌, ◌∙◌, ◌∷◌, ◌≡◌, ◌≤◌}
+use Rattle.tz_info.proofs.Words.{trimmed, trimmed_back, trimmed_front, true, true≢false, unless_space, zero, ℕ, [], ◌++◌, ◌+◌, ◌-◌, ◌<◌, ◌∙◌, ◌∷◌, ◌≡◌, ◌≤◌, IsTrimAsciiStart, length-append}
+use Rattle.std.proofs.lemmas.List.Sums.{prefix_len-le-length, prefix_len_is}
+use Rattle.std.specs.List.{prefix_len}
 
 -- ---- what is trimmed, and how it is found
 space_front : (before rest : List ℕ) → IsSpace before → trimmed_front (before ++ rest) ≡ trimmed_front rest
@@ -73,7 +75,7 @@ back_take (suc (suc n)) (b ∷ []) l w e = absurd (omega arith)
 back_take (suc (suc n)) (b ∷ c ∷ cs) l w e =
     grind (arith, back_take (suc n) (c ∷ cs) (omega arith) (λ i h k. w (suc i) (omega arith) (omega arith)) (λ m h. e (suc m) (omega arith)))
 
--- no white space is behind the end
+-- no white space follows the end
 behind_end : (s : List ℕ) → slice_index s (length s) ≡ 0
 behind_end [] = refl
 behind_end (b ∷ bs) = behind_end bs
@@ -91,3 +93,20 @@ trims_both s r t =
     let least : length r ≡ min (length r) (length (drop t.0 s)) = ap length t.1 ∙ length-take (length r) (drop t.0 s) in
     let back = back_take (length r) (drop t.0 s) (omega arith) t.4 (λ m h. let k : length r - 1 ≡ m = omega arith in rw k at (t.5 (omega arith))) in
     subst (IsTrimmed s) (sym (t.1 ∙ (back ∙ ap trimmed_back front))) (trim_is s)
+
+-- ---- how much white space is in front
+pub front_counted : (s r : List ℕ) → IsTrimAsciiStart s r → length r + prefix_len is_ascii_whitespace s ≡ length s
+front_counted s r t =
+    let counted = prefix_len_is is_ascii_whitespace s t.0 0 (omega (arith, t.2)) t.3 t.4 in omega (arith, t.2, counted)
+
+bare_counted : (before : List ℕ) (b : ℕ) (rest : List ℕ) → IsSpace before → is_ascii_whitespace b ≡ false → prefix_len is_ascii_whitespace (before ++ (b ∷ rest)) ≡ length before
+bare_counted [] b rest s bare = rw bare refl
+bare_counted (x ∷ xs) b rest s bare = rw s.0 (omega (arith, bare_counted xs b rest s.1 bare))
+
+-- the text fits behind it
+pub fits_behind : (bytes text : List ℕ) → IsTrimmed bytes text → prefix_len is_ascii_whitespace bytes + length text ≤ length bytes
+fits_behind bytes [] t = omega (arith, prefix_len-le-length is_ascii_whitespace bytes)
+fits_behind bytes (b ∷ bs) t =
+    let front : prefix_len is_ascii_whitespace bytes ≡ length t.before = rw t.whole (bare_counted t.before b (bs ++ t.after) t.space_before t.first) in
+    let whole = ap length t.whole ∙ length-append t.before (b ∷ (bs ++ t.after)) in
+    omega (arith, front, whole, length-append bs t.after)

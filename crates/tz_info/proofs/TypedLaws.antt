@@ -14,7 +14,7 @@ early_time : (es : List LeapSecond) (u : ℤ) → AreLeapSeconds es → u <ℤ p
 early_time es u valid before refused =
     refused_on es u (pos 0) _ valid (omega (arith, ints)) refused (near_time es (pos 0) valid (omega (arith, ints), omega (arith, ints)))
 
--- where the first second of 64 bits has no type, the first one that has is that of the rule's years
+-- if the first second of 64 bits has no type, the first one that has is that of the rule's years
 first_by : (rule : Option TransitionRule) (z : Zone) (x : ℤ) → z.rule ≡ rule → IsValid z → IsRuleOrNone z.rule
     → (0 < length z.transitions → IsLeapTime z.leaps least_time x) → IsFromLast z x
     → IsRefusedBy rule least_time → IsFirstTyped z (neg_ℤ (pos 67_768_100_504_812_800))

@@ -12,7 +12,7 @@ use Rattle.tz_info.proofs.SegmentLaws.{within_of}
 use Rattle.tz_info.specs.Steps.Walk.{IsTimeWithin}
 
 -- ---- one segment more
--- the next transition comes at `until`, or there is none
+-- the next transition comes at `until`, or there is no next one
 abbrev pub IsNextAt : Zone → ℕ → Option ℤ → Type 0
 IsNextAt z i until = ((d : Transition) × (i < length z.transitions) × (until ≡ Some (get_or z.transitions i d).unix_leap_time)) ⊎ ((i ≡ length z.transitions) × (until ≡ None))
 
@@ -50,7 +50,7 @@ tried_segment z l i since until before after valid inside own begin next k s =
     (λ a. absurd (h.0 (test.1 k.candidate.leap_fits (rw (sym k.candidate.of_second.sum) at (segment_at z c i rising (rw a.0 at a.1)))))) (only u f m)) s))
     k.tried
 
--- ---- the rule behind the last transition
+-- ---- the rule after the last transition
 -- from `start` on the zone's types are the rule's, and before it those of the segments before the last one
 pub with_rule : (z : Zone) (rule : TransitionRule) (start l : ℤ) → IsValid z → z.rule ≡ Some rule → IsStart z.transitions z.leaps (length z.transitions) start → IsWide l → AreUtOffsets rule
     → Parts (IsShownIn z l (length z.transitions)) (Shows (TypeFrom rule start) l) (IsShownIn z l (length z.transitions + 1))

@@ -3,7 +3,7 @@ use Rattle.tz_info.proofs.Words.{All-push, AreInOrder, AreOrdered, ArePassed, Is
 use Rattle.tz_info.proofs.Words.{all_pairs_push, answer_at, answer_before, ap, arith, by_lt_z, cases_lt, first_come, get_or, inl, inr, ints, le_false, le_true}
 use Rattle.tz_info.proofs.Words.{length, length-map, length_push, map, none-some, pos, refl, suc, sym, take, take_more, times_ordered, together, unwrap_or}
 use Rattle.tz_info.proofs.Words.{zero, ℕ, ℤ, [], ◌++◌, ◌+◌, ◌-◌, ◌<ℤ◌, ◌<◌, ◌∙◌, ◌∷◌, ◌≡◌, ◌≤ℤ◌, ◌≤◌}
-use Rattle.tz_info.specs.declared.zone.shown.Shown.TheVariants.{Once}
+use Rattle.tz_info.specs.declared.zone.made.shown.Shown.TheVariants.{Once}
 use Rattle.tz_info.proofs.Prefixes.{last_taken}
 
 abbrev pub Answer : Type 0
@@ -26,7 +26,7 @@ at_earlier b (q ∷ ps) p l h = grind (arith, at_earlier b ps p l h, at_earlier 
 abbrev pub StartBy : List Piece → ℤ → Type 0
 StartBy ps l = (k : ℕ) (d : Piece) → k < length ps → (get_or ps k d).start ≤ℤ l
 
--- where all have started the last one answers
+-- if all have started the last one answers
 pub at_all : (b : Answer) (ps : List Piece) (l : ℤ) → StartBy ps l → answer_at b ps l ≡ answer_before b ps
 at_all b [] l h = refl
 at_all b (q ∷ ps) l h = rw (le_true q.start l (h 0 q (omega arith))) (at_all q.answer ps l (λ k d m. h (suc k) d (omega arith)))
@@ -43,7 +43,7 @@ start_by_pushed (q ∷ ps) p l h =
 pub start_by_push : (ps : List Piece) (p : Piece) (l : ℤ) → StartBy ps l → p.start ≤ℤ l → StartBy (ps ++ (p ∷ [])) l
 start_by_push ps p l h s = All-push (λ (q : Piece). q.start ≤ℤ l) ps p h s
 
--- how the answers of both are joined, and the same where the second comes first
+-- how the answers of both are joined, and the same if the second comes first
 abbrev Join : Type 0
 Join = Answer → Answer → Answer
 
@@ -115,7 +115,7 @@ step_count xs ys i j i_after j_after start (inr s) = let p = s.passed in let q =
 pub starts_in_order : (ps : List Piece) → AreInOrder ps → AreOrdered (map (λ (p : Piece). p.start) ps)
 starts_in_order ps order = times_ordered (λ (p : Piece). p.start) ps (record { start = pos 0; answer = Once 0 }) (λ i j h l. order i j _ h l)
 
--- the last of the pieces that have started answers, and where none has, what stands before them
+-- the last of the pieces that have started answers, and `b` does if none has
 started : (b : Answer) (ps : List Piece) (l : ℤ) (n : ℕ) → ArePassed (map (λ (p : Piece). p.start) ps) l n → answer_at b ps l ≡ answer_before b (take n ps)
 started b ps l n passed = ap (answer_before b) (first_come (λ (p : Piece). p.start) ps l n passed)
 

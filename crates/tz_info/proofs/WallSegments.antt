@@ -6,7 +6,7 @@ use Rattle.tz_info.proofs.Words.{Shown, ShownAmong, Shows, Some as some, Transit
 use Rattle.tz_info.proofs.Words.{by_lt_z, cases_lt, cut_of, index_of, inl, inr, ints, le_false, le_true, length, nat_tests, place_at, refl, segment_of, shown_indexes}
 use Rattle.tz_info.proofs.Words.{subst, suc, table_count, table_count_by, together, w64, zero, ℕ, ℤ, [], ⊎_elim, ◌+ℤ◌, ◌+◌, ◌-ℤ◌, ◌<ℤ◌, ◌<◌, ◌↔◌, ◌∷◌, ◌≡◌}
 use Rattle.tz_info.proofs.Words.{◌≤ℤ◌, ◌≤◌, ◌⊎◌}
-use Rattle.tz_info.specs.declared.zone.shown.Shown.TheVariants.{Less, Once, Skipped}
+use Rattle.tz_info.specs.declared.zone.made.shown.Shown.TheVariants.{Less, Once, Skipped}
 use Rattle.tz_info.proofs.{AnswerLaws.{Parts, joined_answer, same_answer}, LeapOrder.{leap_times_answer}, LeapStarts.{saturated, saturated_rise}}
 use Rattle.tz_info.proofs.SegmentLaws.{begins_rise, come_at_time, come_from, place_most, places_rise, segment_most}
 use Rattle.tz_info.proofs.SegmentLaws.{type_before, type_from, type_in_before, type_in_from}
@@ -96,7 +96,7 @@ second_of z ts top k l v j t table own has a =
     let e = ap (λ (x : LocalType). x.offset) (type_there z ts top k v a.local_type t table own a.shows.fits has (let f = a.from in let b = a.below in omega arith) a.shows.type) in
     let s = a.shows.shown in omega (arith, ints)
 
--- the one second that could show the local time by the type of that offset lies from the segment on just where the cut has come
+-- the one second that could show the local time by the type of that offset lies in or after the segment if and only if the cut has come
 cut_begun : (ts : List Transition) (k : ℕ) (l o : ℤ) → AreRising ts → 0 < k → k ≤ length ts → IsUtOffset o → IsWide l → (k ≤ place_at ts (l -ℤ o)) ↔ (cut_of ts k o ≤ℤ l)
 cut_begun ts k l o rising inner within offset wide =
     let near : IsNear l = let a = wide.0 in let b = wide.1 in (omega (arith, ints), omega (arith, ints)) in
@@ -107,7 +107,7 @@ cut_begun ts k l o rising inner within offset wide =
 near_fits : (u : ℤ) → IsNear u → SFits w64 u
 near_fits u near = let p = near.0 in let q = near.1 in omega (arith, ints)
 
--- where the local time lies between the segment's cuts, it shows it once
+-- if the local time lies between the segment's cuts, it shows it once
 pub shown_inside : (z : Zone) (ts : List Transition) (top k : ℕ) (l : ℤ) (i : ℕ) (t : LocalType) → IsTable z ts top → k < top → i ≡ index_of ts k → HasType z i t → IsUtOffset t.offset → IsWide l
     → (0 < k → k ≤ length ts → cut_of ts k t.offset ≤ℤ l) → (k < length ts → l <ℤ cut_of ts (suc k) t.offset) → IsShownAmong z ts k (suc k) l (Once i)
 shown_inside z ts top k l i t table own is has offset wide from until =
@@ -131,7 +131,7 @@ shown_inside z ts top k l i t table own is has offset wide from until =
       side = tt;
     }
 
--- where it comes behind the segment's end, its clocks show less
+-- if it comes after the segment's end, its clocks show less
 shown_behind : (z : Zone) (ts : List Transition) (top k : ℕ) (l : ℤ) (t : LocalType) → IsTable z ts top → k < top → k < length ts → HasType z (index_of ts k) t → IsUtOffset t.offset → IsWide l → cut_of ts (suc k) t.offset ≤ℤ l → IsShownAmong z ts k (suc k) l Less
 shown_behind z ts top k l t table own inner has offset wide h =
     let passed = (cut_begun ts (suc k) l t.offset table.rising (omega arith) (omega arith) offset wide).1 h in
@@ -142,7 +142,7 @@ shown_behind z ts top k l t table own inner has offset wide h =
           by_lt_z (u +ℤ f.offset) l (λ m. m) (λ m. let r = places_rise ts (l -ℤ t.offset) u table.rising (omega (arith, ints)) in absurd (omega arith));
     }
 
--- where it comes before its beginning, clocks jump over it there
+-- if it comes before its beginning, clocks jump over it there
 shown_before : (z : Zone) (ts : List Transition) (top k : ℕ) (l : ℤ) (t : LocalType) → IsTable z ts top → k < top → 0 < k → HasType z (index_of ts k) t → IsUtOffset t.offset → IsWide l → l <ℤ cut_of ts k t.offset → IsShownAmong z ts k (suc k) l (Skipped k)
 shown_before z ts top k l t table own inner has offset wide h =
     let within = table.within in
@@ -256,7 +256,7 @@ typed_answer z ts top l (Ambiguous i j) (Ambiguous s t) table same e h = record 
 }
 typed_answer z ts top l _ _ table same e h = absurd e
 
--- ---- the table, and what comes behind it
+-- ---- the table, and what comes after it
 
 -- the first segments that are all of them
 pub all_segments : (z : Zone) (l : ℤ) (answer : LocalResult LocalType) → AreRising z.transitions → IsWallAnswer (IsShownIn z l (length z.transitions + 1)) answer → IsWallAnswer (Shows (TypeAt z) l) answer

@@ -84,7 +84,7 @@ one_leap z w n e low high h k =
     let a = leap_fourth z h in let b = leap_fourth w k in
     let c = floor_mod_parts z 4 (omega arith) in let d = floor_mod_parts w 4 (omega arith) in omega (arith, ints)
 
--- of such tests, which hold at one place at most, the place tells each
+-- at most one of these tests holds, so its place gives the result of each
 abbrev place_of : Bool → Bool → Bool → Bool → ℕ
 place_of a b c d = cond a 0 (cond b 1 (cond c 2 (cond d 3 4)))
 
@@ -152,7 +152,7 @@ turns_moved : (starts ends : List ℤ) (x y q : ℤ) → is_leap x ≡ is_leap y
 unfolding moved
 turns_moved starts ends x y q leap start = rw (moment_moved starts x y q leap start, moment_moved ends x y q leap start) refl
 
--- the years beside them begin as many weeks later too
+-- the years before and after them begin as many weeks later too
 record StartsAlike (x y q : ℤ) : Type 0 where
   before : year_start (y -ℤ pos 1) ≡ year_start (x -ℤ pos 1) +ℤ pos 7 *ℤ q
   after : year_start (y +ℤ pos 1) ≡ year_start (x +ℤ pos 1) +ℤ pos 7 *ℤ q

@@ -1,4 +1,4 @@
--- Where a zone's types change: at its transitions, and behind them where the rule's types do.
+-- When a zone's types change: at its transitions, and after them when the rule's types do.
 use Rattle.std.proofs.lemmas.List.Sums.{sum_by-le-sum_by}
 use Rattle.tz_info.proofs.Words.{Alternate as AlternateRule, AlternateAt, AreLeapSeconds, Change, Bool}
 use Rattle.tz_info.proofs.Words.{HasNoChange, false, true, HaveCome, IsAhead, IsBegin, IsChangeByRule, IsChange, IsFirst, IsFirstChange, IsInTable}
@@ -38,7 +38,7 @@ rule_leap_time es u valid within = elim (leap_time_decided es u) [
 pub time_of : (z : Zone) (u : ℤ) (t : LocalType) → 0 < length z.transitions → (h : TypeAt z u t) → IsLeapTime z.leaps u h.leap_time
 time_of z u t some h = h.of_second some
 
--- a change comes from one segment to a later one, where one type is in force in the segment
+-- a change comes from one segment to a later one, if one type is in force in the segment
 changes_segment : (z : Zone) (d : Change) → IsValid z → IsChange (TypeAt z) d → HasOneType z (segment_of z (d.at -ℤ pos 1)) → segment_of z (d.at -ℤ pos 1) < segment_of z d.at
 changes_segment z d valid is one = elim (cases_lt (segment_of z (d.at -ℤ pos 1)) (segment_of z d.at)) [
   | inl l ↦ l
@@ -47,7 +47,7 @@ changes_segment z d valid is one = elim (cases_lt (segment_of z (d.at -ℤ pos 1
       absurd (is.differ (one_type z (segment_of z (d.at -ℤ pos 1)) (d.at -ℤ pos 1) d.at d.before d.after valid one refl (omega arith) is.before is.after))
 ]
 
--- ---- behind the last transition
+-- ---- after the last transition
 last_too : (z : Zone) (u : ℤ) → IsValid z → segment_of z (u -ℤ pos 1) ≡ length z.transitions → segment_of z u ≡ length z.transitions
 last_too z u valid e = grind (arith, segments_rise, segment_most)
 
@@ -119,7 +119,7 @@ rule_found z a w s begin found valid rule h =
     (λ d is inside. let k = (by_rule z a begin d valid rule h).0 (is, inside.by_rule) in (k.0, (k.1, inside.inside)))
     (λ d is inside. let k = (by_rule z a begin d valid rule h).1 (is, inside.0) in (k.0, record { inside = inside.1; by_rule = k.1 }))
 
--- where none of those seconds comes after `begin`, no change comes at one behind the last transition
+-- if none of those seconds comes after `begin`, no change comes at one after the last transition
 pub none_begun : (z : Zone) (within : ℤ → Type 0) (begin : ℤ) → IsValid z → IsBegin z begin → ((u : ℤ) → SFits w64 u → within u → u ≤ℤ begin) → HasNoChange (TypeAt z) (IsChangeByRule z within)
 none_begun z within begin valid h most d is inside =
     let b = begun z begin (d.at -ℤ pos 1) d.before valid h is.fits_before is.before inside.by_rule in grind arith

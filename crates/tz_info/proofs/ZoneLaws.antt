@@ -32,7 +32,7 @@ pub type_not_refused : (z : Zone) (u : ℤ) (t : LocalType) → TypeAt z u t →
 type_not_refused z u t a (by_leap_time some r) = r.leaves ((a.of_second some).fits r.place r.passed)
 type_not_refused z u t a (by_rule x of_second last refused) = grind (arith, same_passed)
 
--- what stands in a list
+-- an item of a list
 pub inside_listed : {X : Type 0} (xs : List X) (i : ℕ) → i < length xs → (x : X) × (slice_get xs i ≡ Some x)
 inside_listed xs i h = ⊎_elim (λ found. (found.0, found.2)) (λ past. let beyond = past.0 in absurd (omega arith)) (slice_get_cases xs i).1
 
@@ -40,7 +40,7 @@ or_else_listed : (rule : Option TransitionRule) (z : Zone) (u : ℤ) (i : ℕ) (
 or_else_listed (Some rule) z u i t h = inr h
 or_else_listed None z u i t h = inl (i, slice_get_within z.types i t h, h)
 
--- a type in force stands in the list or is the rule's
+-- a type in force is in the list or is the rule's
 pub type_listed : (z : Zone) (u : ℤ) (t : LocalType) → TypeAt z u t → ((k : ℕ) × (k < length z.types) × HasType z k t) ⊎ IsTypeOf z.rule u t
 type_listed z u t a = ⊎_elim
     (λ h. let k = a.in_force.before_last h in inl (index_at z a.leap_time, slice_get_within z.types (index_at z a.leap_time) t k, k))

@@ -16,11 +16,11 @@ Skips in_force local change = HasGap in_force local change.before change.after c
 abbrev pub AreTypesAround : (ℤ → LocalType → Type 0) → ℤ → Around LocalType Change → Type 0
 AreTypesAround in_force local = any.IsAround (Shows in_force local) (Skips in_force local)
 
--- the same, with the type before the gap
+-- exactly one second shows the local time, or several do, or it lies in a gap, with that type before it
 abbrev pub IsAroundOrBefore : (ℤ → LocalType → Type 0) → ℤ → Around LocalType LocalType → Type 0
 IsAroundOrBefore in_force local = any.IsAround (Shows in_force local) (IsTypeBeforeGap in_force local)
 
--- each value replaced by its image, and the gap by its own
+-- the answer with each value, or the gap, replaced by its image
 abbrev pub map_both : {T U G H : Type 0} → (T → U) → (G → H) → Around T G → Around U H
 map_both f g (Single a) = Single (f a)
 map_both f g (Ambiguous a b) = Ambiguous (f a) (f b)

@@ -39,11 +39,11 @@ IsLastChange in_force within c = IsNearestChange false in_force within c
 abbrev pub IsNearest : Bool → (ℤ → LocalType → Type 0) → (ℤ → Type 0) → Option Change → Type 0
 IsNearest forward in_force within found = MatchOption found (HasNoChange in_force within) (IsNearestChange forward in_force within)
 
--- the first change at a second that `within` takes, or nothing if there is none
+-- the first change at a second that `within` accepts, if there is one
 abbrev pub IsFirst : (ℤ → LocalType → Type 0) → (ℤ → Type 0) → Option Change → Type 0
 IsFirst in_force within found = IsNearest true in_force within found
 
--- the last change at a second that `within` takes, or nothing if there is none
+-- the last change at a second that `within` accepts, if there is one
 abbrev pub IsLast : (ℤ → LocalType → Type 0) → (ℤ → Type 0) → Option Change → Type 0
 IsLast in_force within found = IsNearest false in_force within found
 

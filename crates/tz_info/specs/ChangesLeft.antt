@@ -3,7 +3,7 @@
 use Rattle.std.specs.Prelude.{List, pos, ◌+ℤ◌}
 use Rattle.tz_info.specs.Steps.ChangeLists.{changes_of}
 use Rattle.tz_base.specs.declared.change.Change.{Change}
-use Rattle.tz_info.specs.declared.zone.all_changes.Changes.{Changes}
+use Rattle.tz_info.specs.declared.zone.ask.all_changes.Changes.{Changes}
 
 -- the changes that are left
 unfoldable pub changes_left : Changes → List Change

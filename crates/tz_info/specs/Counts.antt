@@ -1,14 +1,14 @@
--- Counts of what lookups looked at.
+-- Counts of the probes of lookups.
 use Rattle.std.specs.Prelude.{ℕ, ◌≡◌, ◌+◌, ◌^◌, ◌<◌, ◌≤◌}
 use Rattle.std.proofs.Common.{arith, ap}
 
--- how many looks at transitions there were, how many questions to rules, and how many looks at pieces of an index
+-- the number of transition probes, of questions to rules, and of piece probes
 pub record Counts : Type 0 where
   pub reads : ℕ
   pub rule_questions : ℕ
   pub piece_reads : ℕ
 
--- so many looks at transitions more
+-- c with k more transition probes
 abbrev pub reads_more : Counts → ℕ → Counts
 reads_more c k = record c { reads = c.reads + k }
 
@@ -21,7 +21,7 @@ reads_more_none c = ap (λ n. record c { reads = n }) (omega arith)
 pub reads_more_looks : (c : Counts) (k : ℕ) → (reads_more c k).reads ≡ c.reads + k
 reads_more_looks c k = omega arith
 
--- so many looks at pieces more
+-- c with k more piece probes
 abbrev pub pieces_more : Counts → ℕ → Counts
 pieces_more c k = record c { piece_reads = c.piece_reads + k }
 
@@ -44,7 +44,7 @@ pub record HasRoom (c : Counts) : Type 0 where
   pub rule_questions : c.rule_questions < 2 ^ 120
   pub piece_reads : c.piece_reads < 2 ^ 120
 
--- the counts rose by at most so many reads and rule questions, and no piece was looked at
+-- the counts rose by at most that many transition probes and rule questions, and by no piece probe
 pub record RoseWithin (before after : Counts) (reads rule_questions : ℕ) : Type 0 where
   pub reads_kept : before.reads ≤ after.reads
   pub reads_most : after.reads ≤ before.reads + reads
@@ -52,7 +52,7 @@ pub record RoseWithin (before after : Counts) (reads rule_questions : ℕ) : Typ
   pub questions_most : after.rule_questions ≤ before.rule_questions + rule_questions
   pub pieces_same : after.piece_reads ≡ before.piece_reads
 
--- the counts rose by at most so many piece reads and rule questions, and no transition was looked at
+-- the counts rose by at most that many piece probes and rule questions, and by no transition probe
 pub record RoseByPieces (before after : Counts) (piece_reads rule_questions : ℕ) : Type 0 where
   pub reads_same : after.reads ≡ before.reads
   pub pieces_kept : before.piece_reads ≤ after.piece_reads

@@ -1,7 +1,7 @@
 -- Differences of two zones: the stretches of time in which they have different local time types.
 use Rattle.std.specs.Prelude.{ℤ, pos, ◌≢◌, ◌-ℤ◌, ◌≤ℤ◌, ◌<ℤ◌, ◌↔◌, List, AllPairs, Contains}
 use Rattle.tz_base.specs.LocalTypes.{LocalType}
-use Rattle.tz_info.specs.declared.zone.differences.Difference.{Difference}
+use Rattle.tz_info.specs.declared.zone.ask.differences.Difference.{Difference}
 
 -- from the second d.from to before d.until the first zone has the type d.old, and the second one another type, d.new; and that is so
 -- neither at the second before d.from nor at d.until, unless the stretch searched begins or ends there

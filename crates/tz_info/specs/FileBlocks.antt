@@ -1,4 +1,4 @@
--- The data blocks of a TZif file (RFC 8536 section 3.2). Each line of `block` is a part, in the order in which it stands there.
+-- The data blocks of a TZif file (RFC 8536 section 3.2). The lines of `block` are the parts, in order.
 use Rattle.std.specs.Prelude.{ℕ, ◌+◌, ◌*◌, List}
 use Rattle.tz_base.specs.Grammar.{Grammar, Nothing, Exact, ◌>>=◌}
 use Rattle.tz_info.specs.declared.file.header.Counts.{Counts}

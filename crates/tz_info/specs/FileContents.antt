@@ -7,8 +7,8 @@ use Rattle.tz_base.specs.declared.error.Error.TheVariants.{InvalidTzFile, LocalT
 use Rattle.tz_base.specs.declared.error.Expected.{Expected}
 use Rattle.tz_base.specs.declared.error.Expected.TheVariants.{ZeroOrOneAsIsDst, NameWithinDesignations, ZeroByteAfterName}
 use Rattle.tz_base.specs.Names.{IsNameOrNone}
-use Rattle.tz_info.specs.declared.zone.transition.Transition.{Transition}
-use Rattle.tz_info.specs.declared.zone.leap_second.LeapSecond.{LeapSecond}
+use Rattle.tz_info.specs.declared.zone.lists.transition.Transition.{Transition}
+use Rattle.tz_info.specs.declared.zone.lists.leap_second.LeapSecond.{LeapSecond}
 
 -- a number in two's complement, the highest byte first
 unfoldable pub signed : Width → List ℕ → ℤ
@@ -76,7 +76,7 @@ abbrev pub IsMark : ℕ → Bool → Type 0
 IsMark byte true = byte ≡ 1
 IsMark byte false = byte ≡ 0
 
--- the parts of a type's record: four bytes of the offset, the mark, and where its designation begins
+-- the parts of a type's record: four bytes of the offset, the DST flag, and the place at which its designation begins
 abbrev pub offset_in : List ℕ → ℤ
 offset_in bytes = signed w32 (take 4 bytes)
 
@@ -119,6 +119,6 @@ abbrev pub HasTypeFault : List ℕ → List ℕ → Error → Type 0
 HasTypeFault designations bytes e = HasRecordFault 6 (SpellsType designations) (TypeFault designations) bytes e
 
 -- ---- indicators
--- where a type's time is given in UT, it is given in standard time; an indicator left out is 0
+-- a type whose time is given in UT is also given in standard time; a missing indicator is 0
 abbrev pub IndicatorsAgree : List ℕ → List ℕ → Type 0
 IndicatorsAgree standard_wall ut_local = (k : ℕ) → slice_index standard_wall k ≡ 0 → slice_index ut_local k ≢ 1

@@ -1,4 +1,4 @@
--- The headers of a TZif file (RFC 8536 section 3.1). Each line is a field, in the order in which it stands there.
+-- The headers of a TZif file (RFC 8536 section 3.1). The lines are the fields, in order.
 use Rattle.std.specs.Prelude.{ℕ, ◌≡◌, ◌≢◌, ◌≤◌, ◌==◌, ◌⊎◌, not, ◌&&◌, ◌||◌, Bool, true, false, List, [], ◌∷◌, length, take}
 use Rattle.std.specs.Bool.{nat_eq}
 use Rattle.std.proofs.Common.{arith, refl, inl, inr}
@@ -26,7 +26,7 @@ is_magic s = pointwise nat_eq s magic
 abbrev pub magic_test : (four : List ℕ) → Test (four ≡ magic)
 magic_test four = record { passes = is_magic four; decides = slice_eq-Decides Decides-eqb four magic (is_magic four) refl }
 
--- four other bytes stand at the front
+-- the first four bytes are not the magic
 abbrev pub HasOtherMagic : List ℕ → Type 0
 HasOtherMagic bytes = (4 ≤ length bytes) × (take 4 bytes ≢ magic)
 
@@ -40,7 +40,7 @@ unfoldable pub version_1 : Place → Grammar Version
 version_1 First = Nothing One
 version_1 Second = Refused (refused.InvalidTzFile expected.Version2Or3InSecondHeader)
 
--- a 0 byte is version 1, the digits 2 and 3 are versions 2 and 3, and another byte is none
+-- a 0 byte is version 1, the digits 2 and 3 are versions 2 and 3; any other byte is rejected
 unfoldable pub version : Place → Grammar Version
 version place = Marked 0 (version_1 place)
     (Marked 50 (Nothing Two) (Marked 51 (Nothing Three) (do Exact 1; Refused (refused.UnsupportedTzFile expected.Version1To3))))
@@ -62,7 +62,7 @@ six_counts = do
     designations = designations;
   })
 
--- so many indicators are given for no type, or for each
+-- n indicators: none at all, or one for each type
 abbrev pub IsNoneOrAll : ℕ → ℕ → Type 0
 IsNoneOrAll types n = (n ≡ 0) ⊎ (n ≡ types)
 

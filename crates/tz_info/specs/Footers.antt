@@ -21,7 +21,7 @@ abbrev pub SaysRule : Bool → List ℕ → Option TransitionRule → Type 0
 SaysRule extended text None = text ≡ []
 SaysRule extended text (Some rule) = (text ≢ []) × IsTzText extended text rule
 
--- UTF-8 that stands between newlines, and the text that it is without the white space at its ends
+-- UTF-8 between newlines, and its text without the white space at its ends
 pub record HasText (bytes text : List ℕ) : Type 0 where
   pub utf8 : IsUtf8 bytes
   pub newlines : IsBetweenNewlines bytes

@@ -7,7 +7,7 @@ use Rattle.std.specs.List.{AllAdjacentBelow}
 use Rattle.tz_base.specs.declared.error.Expected.{Expected}
 use Rattle.tz_base.specs.declared.error.Expected.TheVariants.{LeapTimeAboveI64Min, UnixTimeOf64Bits}
 use Rattle.tz_info.specs.Lists.{last_else}
-use Rattle.tz_info.specs.declared.zone.leap_second.LeapSecond.{LeapSecond}
+use Rattle.tz_info.specs.declared.zone.lists.leap_second.LeapSecond.{LeapSecond}
 
 -- one second more or one less
 abbrev pub IsOneStep : ℤ → ℤ → Type 0
@@ -31,7 +31,7 @@ pub record AreLeapSeconds (entries : List LeapSecond) : Type 0 where
 abbrev pub corrections : List LeapSecond → List ℤ
 corrections entries = map (λ e. e.correction) entries
 
--- the Unix times from which on the entries stand, after an entry of that correction: each entry's time less the
+-- the Unix times from which on the entries apply, after an entry of that correction: each entry's time less the
 -- correction before it
 abbrev pub thresholds : ℤ → List LeapSecond → List ℤ
 thresholds before [] = []
@@ -41,7 +41,7 @@ thresholds before (e ∷ es) = (e.unix_leap_time -ℤ before) ∷ thresholds e.c
 abbrev pub passed_count : List LeapSecond → ℤ → ℕ
 passed_count entries u = count_by (λ t. int_le t u) (thresholds (pos 0) entries)
 
--- the correction that stands at the Unix time u
+-- the correction in force at the Unix time u
 abbrev pub correction_at : List LeapSecond → ℤ → ℤ
 correction_at entries u = last_else (pos 0) (corrections (take (passed_count entries u) entries))
 

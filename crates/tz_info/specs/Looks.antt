@@ -1,4 +1,4 @@
--- How many looks a zone's lookups take: the bounds, each in one place.
+-- How many probes a zone's lookups take: the bounds, each in one place.
 use Rattle.std.specs.Prelude.{ℕ, ℤ, ◌+◌, ◌*◌, ◌<◌, length}
 use Rattle.tz_info.specs.Counts.{Counts, RoseWithin, RoseByPieces}
 use Rattle.tz_info.specs.Digits.{digits}
@@ -9,29 +9,29 @@ use Rattle.offset_core.specs.declared.around.Around.TheVariants.{Gap}
 use Rattle.tz_base.specs.LocalTypes.{LocalType}
 use Rattle.tz_base.specs.declared.change.Change.{Change}
 
--- by instant: the looks of one search in the transitions, and one question to the rule
+-- by instant: the probes of one search in the transitions, and one question to the rule
 abbrev pub RoseByInstant : Zone → Counts → Counts → Type 0
 RoseByInstant z before after = RoseWithin before after (digits (length z.transitions)) 1
 
--- by wall clock: the looks of one search in the pieces of the index, one at least where there is a transition, and two
+-- by wall clock: the probes of one search in the pieces of the index (at least one if there is a transition), and two
 -- questions
 pub record RoseByWallClock (z : Zone) (before after : Counts) : Type 0 where
   pub most : RoseByPieces before after (digits (2 * length z.transitions + 1)) 2
   pub least : 0 < length z.transitions → before.piece_reads < after.piece_reads
 
--- by wall clock without the index: the looks of one search in the transitions, one for each transition of the window and two
--- more, one at least where there is a transition, and two questions
+-- by wall clock without the index: the probes of one search in the transitions, one for each transition of the window and two
+-- more (at least one if there is a transition), and two questions
 pub record RoseByWalk (z : Zone) (local : ℤ) (before after : Counts) : Type 0 where
   pub window : ℕ
   pub counted : IsWindowCount z local window
   pub most : RoseWithin before after (digits (length z.transitions) + window + 2) 2
   pub least : 0 < length z.transitions → before.reads < after.reads
 
--- in a gap one transition is looked at
+-- the one transition probed in a gap
 abbrev pub gap_reads : Around LocalType Change → ℕ
 gap_reads (Gap gap) = 1
 gap_reads _ = 0
 
--- by wall clock with both sides of a gap: the looks and questions of a lookup by wall clock, and in a gap at most one look at a transition
+-- by wall clock with both sides of a gap: the probes and questions of a lookup by wall clock, and in a gap at most one transition probe
 abbrev pub RoseAround : Zone → Around LocalType Change → Counts → Counts → Type 0
 RoseAround z found before after = (looked_up : Counts) × RoseByWallClock z before looked_up × RoseWithin looked_up after (gap_reads found) 0

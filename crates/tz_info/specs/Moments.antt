@@ -26,8 +26,8 @@ IsYearOf u year = LiesIn (floor_div u 86_400) year
 abbrev pub IsInSomeYear : (ℤ → ℤ) → (ℤ → ℤ) → ℤ → Type 0
 IsInSomeYear firsts lasts u = (year : ℤ) × (firsts year ≤ℤ u) × (u <ℤ lasts year)
 
--- whether it is daylight saving time at the second u of the year: where the start comes first in that year, if and only if
--- u lies from some year's start to its end; where the end comes first, if and only if u does not lie from some year's end to
+-- whether it is daylight saving time at the second u of the year. If the start comes first in that year, it is if and only if
+-- u lies from some year's start to its end; if the end comes first, it is if and only if u does not lie from some year's end to
 -- its start
 pub record IsDstAt (starts ends : ℤ → ℤ) (year u : ℤ) (dst : Bool) : Type 0 where
   pub start_first : starts year ≤ℤ ends year → IsTrue dst ↔ IsInSomeYear starts ends u
@@ -57,7 +57,7 @@ pub record AlternateAt (a : Alternate) (u : ℤ) (t : LocalType) : Type 0 where
 abbrev pub NeverChanges : Alternate → Type 0
 NeverChanges a = (u v : ℤ) (s t : LocalType) → AlternateAt a u s → AlternateAt a v t → s ≡ t
 
--- the year of the second u is none that a rule answers in
+-- a rule does not answer in the year of the second u
 abbrev pub IsAlternateRefused : ℤ → Type 0
 IsAlternateRefused u = (year : ℤ) → IsYearOf u year → ¬ (IsRuleYear year)
 

@@ -1,10 +1,14 @@
 -- The zones of TZ strings (POSIX.1 section 8.3, "TZ").
-use Rattle.std.specs.Prelude.{ℕ, pos, ◌≡◌, ◌≢◌, ◌⊎◌, false, true, List, [], ◌∷◌, Some}
+use Rattle.std.specs.Prelude.{ℕ, pos, ◌≡◌, ◌≢◌, ◌⊎◌, ◌+◌, false, true, List, [], ◌∷◌, Some, MatchOption}
+use Rattle.std.specs.Char.{is_ascii_whitespace}
+use Rattle.std.specs.List.{prefix_len}
+use Rattle.tz_base.specs.Errors.{IsOutOfMemory}
 use Rattle.tz_base.specs.LocalTypes.{LocalType}
 use Rattle.tz_base.specs.declared.error.Error.{Error}
+use Rattle.tz_base.specs.declared.parse_error.ParseError.{ParseError}
 use Rattle.tz_info.specs.Zones.{Zone, plain_zone, zone_of_rule}
 use Rattle.tz_info.specs.Trims.{IsTrimmed}
-use Rattle.tz_info.specs.TzGrammar.{IsTzText, IsTextFault}
+use Rattle.tz_info.specs.TzGrammar.{IsTzText, IsTextFault, text_fault_position}
 use Rattle.tz_info.specs.declared.rule.transition_rule.TransitionRule.{TransitionRule}
 use Rattle.tz_info.specs.declared.rule.transition_rule.TransitionRule.TheVariants as rules
 
@@ -41,3 +45,18 @@ pub record IsPosixFault (text : List ℕ) (e : Error) : Type 0 where
 -- the text spells, with the extensions of RFC 8536, section 3.3.1, the rule that the zone has at every instant
 abbrev pub IsExtendedZone : List ℕ → Zone → Type 0
 IsExtendedZone text z = (rule : TransitionRule) × IsTzText true text rule × (z ≡ posix_zone rule)
+
+-- ---- where a fault is, as the number of bytes in front of it
+-- the error is at such a place, or says that memory ran out and is at none
+abbrev pub IsPlaced : (ℕ → Type 0) → ParseError → Type 0
+IsPlaced IsPlace e = MatchOption e.position (IsOutOfMemory e.error) (λ place. ¬ (IsOutOfMemory e.error) × IsPlace place)
+
+-- the white space in front is counted
+pub record IsPosixFaultPlace (text : List ℕ) (place : ℕ) : Type 0 where
+  pub trimmed : List ℕ
+  pub trims : IsTrimmed text trimmed
+  pub counted : place ≡ prefix_len is_ascii_whitespace text + text_fault_position false trimmed
+
+-- nothing is trimmed
+abbrev pub IsExtendedFaultPlace : List ℕ → ℕ → Type 0
+IsExtendedFaultPlace text place = place ≡ text_fault_position true text

@@ -13,7 +13,7 @@ pub record IsByRule (z : Zone) (u : ℤ) : Type 0 where
   pub of_second : 0 < length z.transitions → IsLeapTime z.leaps u leap_time
   pub from_last : IsFromLast z leap_time
 
--- one question more where the rule says the type at the second u, else none
+-- one more question if the rule gives the type at the second u, else none
 abbrev pub IsAskedAt : Zone → ℤ → ℕ → ℕ → Type 0
 IsAskedAt z u before after = (IsByRule z u × (after ≡ before + 1)) ⊎ ((¬ (IsByRule z u)) × (after ≡ before))
 

@@ -7,13 +7,13 @@ use Rattle.tz_base.specs.LocalTypes.{LocalType}
 use Rattle.tz_info.specs.Rules.{Alternate}
 use Rattle.tz_info.specs.declared.rule.day.DayTime.{DayTime}
 
--- by tests of types and of days with their times
+-- whether two alternate rules are equal, given tests of types and of days with their times
 abbrev pub alternate_eq : (LocalType → LocalType → Bool) → (DayTime → DayTime → Bool) → Alternate → Alternate → Bool
 alternate_eq types days =
     eq_of_both (on (λ a. a.std) types)
     (eq_of_both (on (λ a. a.dst) types) (eq_of_both (on (λ a. a.start) days) (on (λ a. a.end) days)))
 
--- that test is an equivalence
+-- `alternate_eq` is an equivalence
 pub alternate_eq_equiv : {T : LocalType → LocalType → Bool} {D : DayTime → DayTime → Bool} → IsEquivalence T → IsEquivalence D
     → IsEquivalence (alternate_eq T D)
 alternate_eq_equiv t d =

@@ -1,5 +1,5 @@
 -- TZ strings, stdoffset[dst[offset],start[/time],end[/time]] (POSIX.1 section 8.3, "TZ"), with the extensions of RFC 8536
--- section 3.3.1 where `extended` holds. Each line is a piece of the text, in the order in which it stands there.
+-- section 3.3.1 if `extended` is true. The lines of a definition are the parts of the string, in order.
 use Rattle.std.specs.Prelude.{ℕ, ℤ, pos, neg_ℤ, ◌+ℤ◌, ◌+◌, ◌*◌, ◌≡◌, ◌≤◌, ◌≤ℤ◌, ◌==◌, nat_le, int_le, Bool, true, false, not, ◌&&◌, ◌||◌, if◌then◌else◌, List}
 use Rattle.std.specs.Prelude.{[], Some}
 use Rattle.std.proofs.Common.{arith}
@@ -88,7 +88,7 @@ hours_minutes_seconds = do
   (m, s) ← optional_minutes
   Nothing (h, m, s)
 
--- whether a minus stands there; a plus says the same as no sign
+-- whether there is a minus; a plus means the same as no sign
 unfoldable pub sign : Grammar Bool
 sign = Marked plus (Nothing false) (Marked minus (Nothing true) (Nothing false))
 
@@ -116,7 +116,7 @@ checked_seconds limit negative h m s =
     Check (AreWithin limit h m s) (within_test limit h m s) (refused.InvalidTzString expected.HoursMinutesAndSecondsWithinTheirLimits)
     (signed_seconds negative h m s)
 
--- the seconds of a duration without its sign; one out of its limits is rejected where its hours begin
+-- the seconds of a duration without its sign; one outside its limits is rejected at its hours
 unfoldable pub duration : ℕ → Bool → Grammar ℤ
 duration limit negative = Here λ at_hours. do
   (h, m, s) ← hours_minutes_seconds
@@ -190,7 +190,7 @@ numbered_day = Here λ at_day. do
 unfoldable pub date : Grammar DayForm
 date = Marked letter_M month_date (Marked letter_J julian_date numbered_day)
 
--- the time is 2 o'clock where it is left out
+-- the default time is 2 o'clock
 unfoldable pub optional_time : Bool → Grammar ℤ
 optional_time extended = Optional slash (pos 7_200) (time extended)
 
@@ -228,7 +228,7 @@ hour_more_test std = record { passes = is_hour_more_within_day std; decides = (h
 unfoldable pub next_hour : ℤ → Grammar ℤ
 next_hour std = Check (IsHourMoreWithinDay std) (hour_more_test std) (refused.InvalidTzString expected.OffsetOfDaylightSavingTimeWithinDay) (std +ℤ pos 3_600)
 
--- a text that ends before the days is none that is supported
+-- a string that ends before the days is not supported
 unfoldable pub more : Grammar (Unit {0})
 more = grammar.Some (refused.UnsupportedTzString expected.DaysWhenDaylightSavingTimeStartsAndEnds)
 
@@ -240,7 +240,7 @@ given_offset = do
   Byte comma
   Nothing east
 
--- if there is none, an offset out of its limits is rejected at the comma
+-- a default offset outside its limits is rejected at the comma
 unfoldable pub dst_offset : ℤ → Grammar ℤ
 dst_offset std = Here λ at_comma. Marked comma (At at_comma (next_hour std)) given_offset
 
@@ -248,7 +248,7 @@ dst_offset std = Here λ at_comma. Marked comma (At at_comma (next_hour std)) gi
 abbrev pub named_type : List ℕ → Bool → ℤ → LocalType
 named_type text dst offset = record { offset = offset; dst = dst; name = Some text }
 
--- the type of that name, if a type can have it; if not, the name is rejected where it begins
+-- the type of that name, if a type can have it; if not, the name is rejected at its first byte
 unfoldable pub named : List ℕ → List ℕ → Bool → ℤ → Grammar LocalType
 named at_name text dst offset = At at_name
     (Check (IsName text) (name_test text) (refused.LocalTimeType (expected_of_name text)) (named_type text dst offset))
@@ -290,6 +290,6 @@ IsTzText extended bytes rule = Spells (text extended) bytes rule []
 abbrev pub IsTextFault : Bool → List ℕ → Error → Type 0
 IsTextFault extended bytes e = HasFault (text extended) bytes e
 
--- and where, as the number of bytes in front of it
+-- the position of the fault of a TZ string: the number of bytes in front of it
 abbrev pub text_fault_position : Bool → List ℕ → ℕ
 text_fault_position extended bytes = fault_position (text extended) bytes

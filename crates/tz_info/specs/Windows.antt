@@ -5,7 +5,7 @@ use Rattle.tz_info.specs.Leaps.{IsLeapTime}
 use Rattle.tz_info.specs.Zones.{Zone}
 use Rattle.tz_info.specs.declared.rule.transition_rule.TransitionRule.{TransitionRule}
 use Rattle.tz_info.specs.declared.rule.transition_rule.TransitionRule.TheVariants.{Fixed, Alternate}
-use Rattle.tz_info.specs.declared.zone.transition.Transition.{Transition}
+use Rattle.tz_info.specs.declared.zone.lists.transition.Transition.{Transition}
 
 -- the offsets of a rule's types
 abbrev pub rule_offsets : Option TransitionRule → List ℤ

@@ -8,17 +8,17 @@ use Rattle.std.proofs.lemmas.Cmp.{on_equiv, and_equiv, lists_equiv}
 use Rattle.tz_base.specs.LocalTypes.{LocalType}
 use Rattle.tz_info.specs.Zones.{Zone}
 use Rattle.tz_info.specs.declared.rule.transition_rule.TransitionRule.{TransitionRule}
-use Rattle.tz_info.specs.declared.zone.leap_second.LeapSecond.{LeapSecond}
-use Rattle.tz_info.specs.declared.zone.transition.Transition.{Transition}
+use Rattle.tz_info.specs.declared.zone.lists.leap_second.LeapSecond.{LeapSecond}
+use Rattle.tz_info.specs.declared.zone.lists.transition.Transition.{Transition}
 
--- by tests of what the lists hold
+-- whether two zones are equal, given tests of the items of their lists
 abbrev pub zone_eq : (Transition → Transition → Bool) → (LocalType → LocalType → Bool) → (LeapSecond → LeapSecond → Bool) → (TransitionRule → TransitionRule → Bool) → Zone → Zone → Bool
 zone_eq transitions types leaps rules =
     eq_of_both (on (λ z. z.transitions) (pointwise transitions))
     (eq_of_both (on (λ z. z.types) (pointwise types))
     (eq_of_both (on (λ z. z.leaps) (pointwise leaps)) (on (λ z. z.rule) (option_eq rules))))
 
--- that test is an equivalence
+-- `zone_eq` is an equivalence
 pub zone_eq_equiv : {T : Transition → Transition → Bool} {L : LocalType → LocalType → Bool} {S : LeapSecond → LeapSecond → Bool}
     {R : TransitionRule → TransitionRule → Bool} → IsEquivalence T → IsEquivalence L → IsEquivalence S → IsEquivalence R → IsEquivalence (zone_eq T L S R)
 zone_eq_equiv t l s r =

@@ -10,8 +10,8 @@ use Rattle.tz_info.specs.Lists.{last_else}
 use Rattle.tz_info.specs.RuleTypes.{RuleAt, IsRuleRefused, IsRule}
 use Rattle.tz_info.specs.Transitions.{NameTypes, AreRising, AreTransitions, passed}
 use Rattle.tz_info.specs.declared.rule.transition_rule.TransitionRule.{TransitionRule}
-use Rattle.tz_info.specs.declared.zone.leap_second.LeapSecond.{LeapSecond}
-use Rattle.tz_info.specs.declared.zone.transition.Transition.{Transition}
+use Rattle.tz_info.specs.declared.zone.lists.leap_second.LeapSecond.{LeapSecond}
+use Rattle.tz_info.specs.declared.zone.lists.transition.Transition.{Transition}
 
 -- what a zone shows: its transitions, its types of local time, its leap seconds, and the rule of its TZ string if it has one
 pub record Zone : Type 0 where
@@ -82,7 +82,7 @@ abbrev pub IsRefusedBy : Option TransitionRule → ℤ → Type 0
 IsRefusedBy (Some rule) u = IsRuleRefused rule u
 IsRefusedBy None u = ⊥
 
--- the index of the last transition at or before the leap time x, or 0 where there is none
+-- the type index of the last transition at or before the leap time x, or 0 if no transition is
 abbrev pub index_at : Zone → ℤ → ℕ
 index_at z x = last_else 0 (map (λ t. t.type_index) (passed z.transitions x))
 

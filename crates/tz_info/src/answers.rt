@@ -27,7 +27,7 @@ pub(crate) fn joined<'a>(
     }
 }
 
-// The answer of two seconds, the first of which is the earlier, where each shows the local time or
+// The answer of two seconds, the first of which is the earlier; each shows the local time or
 // doesn't.
 #[inline(always)]
 pub(crate) fn answer_of_two<'a>(

@@ -24,8 +24,8 @@ ghost use Rattle.tz_info.specs.Zones.{IsTypeOf};
 ghost use Rattle.tz_info.specs.declared.rule.day.DayForm.{DayForm};
 ghost use Rattle.tz_info.specs.declared.rule.transition_rule.TransitionRule.{TransitionRule};
 ghost use Rattle.tz_info.specs.declared.rule.transition_rule.TransitionRule.TheVariants.{Alternate};
-ghost use Rattle.tz_info.specs.declared.zone.leap_second.LeapSecond.{LeapSecond};
-ghost use Rattle.tz_info.specs.declared.zone.transition.Transition.{Transition};
+ghost use Rattle.tz_info.specs.declared.zone.lists.leap_second.LeapSecond.{LeapSecond};
+ghost use Rattle.tz_info.specs.declared.zone.lists.transition.Transition.{Transition};
 
 /// A rule has one day in each year, and its moments at a fixed time of day come later in a later
 /// year.

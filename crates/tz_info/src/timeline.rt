@@ -31,7 +31,7 @@ pub(crate) struct Timeline<T: Timed> {
     hints: Hints,
 }
 
-// The times of the first and the last item, or 0 where there is none.
+// The times of the first and the last item, or 0 if there are no items.
 #[derive(Clone, Copy)]
 struct Ends {
     first: i64,
@@ -196,7 +196,7 @@ impl<T: Timed> Timeline<T> {
         }
     }
 
-    // The same, where the latest item is one of those. Four steps are written out: in a loop the
+    // The same, if the latest item is one of those. Four steps are written out: in a loop the
     // compiler makes each a jump, which the processor guesses wrong every other time.
     #[inline(always)]
     fn passed_near(&self, second: i64, near: Near, probes: &mut Probes) -> Passed<'_, T>
@@ -225,7 +225,7 @@ impl<T: Timed> Timeline<T> {
         }
     }
 
-    // What is left after a look at the item in the middle.
+    // What is left after a probe of the item in the middle.
     #[inline(always)]
     fn narrowed(&self, second: i64, left: Near, probes: &mut Probes) -> Near
         requires near { IsNarrowedTo (map T.time self.now) second left }
@@ -271,7 +271,7 @@ impl<T: Timed> Timeline<T> {
         }
     }
 
-    // What is left after a look at the item in the middle.
+    // What is left after a probe of the item in the middle.
     #[inline(always)]
     fn halved<'a>(&'a self, second: i64, left: Left<'a, T>, probes: &mut Probes) -> Left<'a, T>
         requires left { IsLeft (map T.time self.now) second left.first (left.first + left.count) }

@@ -13,6 +13,6 @@ joined (Ambiguous s v) None = Ambiguous s v
 joined (Ambiguous s v) (Single t) = Ambiguous s t
 joined (Ambiguous s v) (Ambiguous t w) = Ambiguous s w
 
--- the answer of one second, where it shows the local time or doesn't
+-- the answer of one second, which shows the local time or doesn't
 abbrev pub shown_if : {T : Type 0} → Bool → T → LocalResult T
 shown_if b t = if b then Single t else None

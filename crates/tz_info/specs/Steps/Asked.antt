@@ -3,7 +3,7 @@ use Rattle.std.specs.Prelude.{ℕ, ℤ, ◌≡◌, ◌+◌, ◌⊎◌, Some, Non
 use Rattle.tz_info.specs.Zones.{Zone, IsBeforeLast, IsFromLast}
 use Rattle.tz_info.specs.declared.rule.transition_rule.TransitionRule.{TransitionRule}
 
--- one question more where the rule says the type at the leap time x, else none
+-- one more question if the rule gives the type at the leap time x, else none
 abbrev pub IsAskedAtLeapTime : Zone → ℤ → ℕ → ℕ → Type 0
 IsAskedAtLeapTime z x before after =
     ((rule : TransitionRule) × (z.rule ≡ Some rule) × IsFromLast z x × (after ≡ before + 1))

@@ -42,7 +42,7 @@ abbrev pub AreFrom : Alternate → Bool → ℤ → ℤ → Type 0
 AreFrom a w first year =
     (d : Change) → IsChange (AlternateAt a) d → (y : ℤ) → IsYearOf (d.at -ℤ pos 1) y → Precedes w (year_at w first 1) y → Precedes w year y
 
--- there are none
+-- no change comes beyond the year `first` in that direction
 abbrev pub HasNoneBeyond : Alternate → Bool → ℤ → Type 0
 HasNoneBeyond a w first =
     (d : Change) → IsChange (AlternateAt a) d → (y : ℤ) → IsYearOf (d.at -ℤ pos 1) y → Precedes w (year_at w first 1) y → ⊥

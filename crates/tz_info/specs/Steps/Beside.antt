@@ -15,11 +15,11 @@ use Rattle.tz_info.specs.declared.rule.moments.Moment.{Moment}
 abbrev pub change_found : Alternate → Option Moment → Option Change
 change_found a found = option_map (moment_change a) found
 
--- of the changes at seconds that `within` takes the first one in that direction, or nothing if there is none
+-- the first change in that direction at a second that `within` accepts, if there is one
 abbrev pub IsNearestMomentOf : Bool → Alternate → (ℤ → Type 0) → Option Moment → Type 0
 IsNearestMomentOf forward a within found = IsNearest forward (AlternateAt a) within (change_found a found)
 
--- the change at the second, or nothing if there is none
+-- the change at the second, if there is one
 abbrev pub IsMomentAt : Alternate → ℤ → Option Moment → Type 0
 IsMomentAt a second found = MatchOption (change_found a found) (HasNoChange (AlternateAt a) (λ u. u ≡ second)) (λ c. IsChange (AlternateAt a) c ×
     (c.at ≡ second))

@@ -68,7 +68,7 @@ abbrev pub IsStretchAhead : Bool → ℤ → ℤ → ℤ → ℤ → Type 0
 IsStretchAhead true begin s after last = IsLaterOf begin s after × (last ≡ pos 9_223_372_036_854_775_807)
 IsStretchAhead false begin s after last = (after ≡ begin) × (last ≡ s)
 
--- where the stretch begins in that direction
+-- the end of the stretch at which it begins in that direction
 abbrev pub near_end : Bool → ℤ → ℤ → ℤ
 near_end true after last = after
 near_end false after last = last

@@ -1,4 +1,4 @@
--- Reading what the parts of a TZif file's block say, by the places of records: values, or the error.
+-- How the parts of a TZif file's block are parsed, by the places of records: values, or the error.
 use Rattle.std.specs.Prelude.{ℕ, ℤ, zero, suc, int_lt, nat_lt, ◌+◌, ◌*◌, ◌==◌, Bool, true, false, not, ◌&&◌, if◌then◌else◌, List, [], ◌∷◌, ◌++◌, length, take}
 use Rattle.std.specs.Prelude.{drop, slice_index, Result, Ok, Err, Option, Some, None, ◌≡◌, ◌⊎◌}
 use Rattle.std.specs.Int.{w32}
@@ -11,15 +11,15 @@ use Rattle.tz_base.specs.declared.error.Expected.TheVariants.{ZeroOrOneAsIsDst, 
 use Rattle.tz_info.specs.Steps.Below.{all_below}
 use Rattle.tz_base.specs.Names.{is_name}
 use Rattle.tz_info.specs.FileContents.{signed, file_time, designation_of, offset_in, mark_in, place_in, least_offset}
-use Rattle.tz_info.specs.declared.zone.transition.Transition.{Transition}
-use Rattle.tz_info.specs.declared.zone.leap_second.LeapSecond.{LeapSecond}
+use Rattle.tz_info.specs.declared.zone.lists.transition.Transition.{Transition}
+use Rattle.tz_info.specs.declared.zone.lists.leap_second.LeapSecond.{LeapSecond}
 
--- what a function returned is what reading gives, unless memory ran out
+-- a function returned what parsing gives, unless memory ran out
 abbrev pub GivesInMemory : {X Y : Type 0} → (X → Y) → Result X Error → Result Y Error → Type 0
 GivesInMemory view (Ok x) read = read ≡ Ok (view x)
 GivesInMemory view (Err e) read = (e ≡ OutOfMemory) ⊎ (read ≡ Err e)
 
--- the record of that place, where each has that size
+-- the record at that place, if each has that size
 abbrev pub record_at : ℕ → List ℕ → ℕ → List ℕ
 record_at size part place = take size (drop (place * size) part)
 

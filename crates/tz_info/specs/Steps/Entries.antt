@@ -11,19 +11,19 @@ use Rattle.tz_info.specs.Transitions.{AreRising, NameTypes, passed}
 use Rattle.tz_info.specs.Zones.{Zone, IsFromLast, index_at}
 use Rattle.tz_base.specs.declared.change.Change.{Change}
 use Rattle.tz_info.specs.Digits.{digits}
-use Rattle.tz_info.specs.declared.zone.change_table.Between.{Between}
-use Rattle.tz_info.specs.declared.zone.change_table.Come.{Come}
-use Rattle.tz_info.specs.declared.zone.leap_second.LeapSecond.{LeapSecond}
-use Rattle.tz_info.specs.declared.zone.table.Entry.{Entry}
-use Rattle.tz_info.specs.declared.zone.transition.Transition.{Transition}
+use Rattle.tz_info.specs.declared.zone.made.change_table.Between.{Between}
+use Rattle.tz_info.specs.declared.zone.made.change_table.Come.{Come}
+use Rattle.tz_info.specs.declared.zone.lists.leap_second.LeapSecond.{LeapSecond}
+use Rattle.tz_info.specs.declared.zone.lists.table.Entry.{Entry}
+use Rattle.tz_info.specs.declared.zone.lists.transition.Transition.{Transition}
 
--- a list of entries, how many of them have come where all transitions have, and the transitions as listed
+-- a list of entries, how many of them have come once all transitions have, and the transitions as listed
 pub record Entries : Type 0 where
   pub items : List Transition
   pub all : ℕ
   pub transitions : List Transition
 
--- the index that the last entry names, or 0 where there is none
+-- the type index of the last entry, or 0 if the list is empty
 abbrev pub last_index : List Transition → ℕ
 last_index entries = last_else 0 (map (λ t. t.type_index) entries)
 
@@ -34,7 +34,7 @@ pub record IsEntryAt (entries : List Transition) (place : ℕ) (e : Entry) : Typ
   pub at : e.at ≡ begin_of entries (place + 1)
 
 -- the entries are those of the zone: they rise, at each second with a leap time the last one that has come names the type of the last transition that has, `all` of them
--- have come where all transitions have, and each comes at a second with a leap time and changes the type, except perhaps the last one with the last transition
+-- have come once all transitions have, and each comes at a second with a leap time and changes the type, except perhaps the last one with the last transition
 pub record AreEntries (z : Zone) (e : Entries) : Type 0 where
   pub listed : e.transitions ≡ z.transitions
   pub rising : AreRising e.items
@@ -83,12 +83,12 @@ pub record HaveComeAt (z : Zone) (u : ℤ) (come : Come) : Type 0 where
   pub named : slice_get z.types (index_at z (leap_time_at z u)) ≡ slice_get z.types come.index
   pub below : come.index < length z.types
 
--- as many looks as the number of entries has digits, and one where there is none
+-- as many probes as the number of entries has binary digits, but at least one
 abbrev pub most_looks : ℕ → ℕ
 most_looks zero = 1
 most_looks (suc n) = digits (suc n)
 
--- the change that the entry at that place makes, or none where it comes at the least second
+-- the change that the entry at that place makes, or none if it comes at the least second
 abbrev pub IsEntryChange : List LocalType → List Transition → ℕ → Option Change → Type 0
 IsEntryChange types items place None = (d : Transition) → (slice_index_or items place d).unix_leap_time ≡ least_time
 IsEntryChange types items place (Some c) =

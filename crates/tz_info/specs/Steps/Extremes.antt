@@ -4,7 +4,7 @@ use Rattle.tz_base.specs.LocalTypes.{LocalType}
 use Rattle.tz_info.specs.Windows.{IsGreatest, IsLeast}
 use Rattle.tz_info.specs.declared.rule.transition_rule.TransitionRule.{TransitionRule}
 use Rattle.tz_info.specs.declared.rule.transition_rule.TransitionRule.TheVariants.{Fixed, Alternate}
-use Rattle.tz_info.specs.declared.zone.extremes.Extremes.{Extremes}
+use Rattle.tz_info.specs.declared.zone.made.extremes.Extremes.{Extremes}
 
 abbrev pub offsets_of : List LocalType → List ℤ
 offsets_of types = map (λ t. t.offset) types

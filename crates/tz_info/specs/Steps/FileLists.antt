@@ -1,4 +1,4 @@
--- Reading the lists of a TZif file, and what its reader answers.
+-- How the lists of a TZif file are parsed, and what its parser returns.
 use Rattle.std.specs.Prelude.{ℕ, ◌≡◌, ◌⊎◌, ◌*◌, ◌+◌, Result, Ok, Err, List, length, Option, option_map}
 use Rattle.tz_base.specs.LocalTypes.{LocalType}
 use Rattle.tz_base.specs.Fronts.{◌>>=◌}

@@ -1,4 +1,4 @@
--- Reading the footer of a TZif file: its rule, or the error.
+-- How the footer of a TZif file is parsed: its rule, or the error.
 use Rattle.std.specs.Prelude.{ℕ, ◌==◌, ◌&&◌, ◌||◌, Bool, if◌then◌else◌, List, [], ◌∷◌, slice_index, Result, Ok, Err, Option, Some, None}
 use Rattle.std.specs.Bool.{nat_eq}
 use Rattle.std.specs.List.{list_any, starts_with, ends_with}

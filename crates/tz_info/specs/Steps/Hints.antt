@@ -5,7 +5,7 @@ use Rattle.tz_info.specs.Steps.Search.{item_time}
 use Rattle.tz_info.specs.declared.timeline.hints.Hints.{Hints}
 use Rattle.tz_info.specs.declared.timeline.hints.Near.{Near}
 
--- the last item before that time stands at the place, or where none comes before it the first does
+-- the place is that of the last item before that time, or of the first item if no item comes before it
 pub record IsLastBefore (times : List ℤ) (time : ℤ) (place : ℕ) : Type 0 where
   pub within : place < length times
   pub before : 0 < place → item_time times place <ℤ time
@@ -34,7 +34,7 @@ pub record IsHinted (places : List ℕ) (stretch : ℕ) (near : Near) : Type 0 w
 abbrev pub stretch_of : ℤ → ℤ → ℕ → ℕ
 stretch_of first time shift = nat_abs (time -ℤ first) / 2 ^ shift
 
--- of the first n items the last one in each stretch is noted after it, and 0 where there is none
+-- for each stretch the hint after it is the last of the first n items that lies in it, or 0 if none does
 pub record AreMarked (times : List ℤ) (first : ℤ) (shift n : ℕ) (places : List ℕ) : Type 0 where
   pub of_item : (b : ℕ) → b < length places
       → (slice_index places b ≡ 0) ⊎ ((slice_index places b < n) × (suc (stretch_of first (item_time times (slice_index places b)) shift) ≡ b))

@@ -1,4 +1,4 @@
--- How many days of a year come before a rule's day: the year's length tells it, and the weekday that the year begins with.
+-- How many days of a year come before a rule's day: it follows from the year's length and its first weekday.
 use Rattle.std.specs.List.{range_with_len}
 use Rattle.std.specs.Prelude.{ℕ, ◌+◌, ◌-◌, ◌%◌, Bool, List, map, nat_le}
 use Rattle.naive_base.specs.Month.{days_in_month, days_of_months}

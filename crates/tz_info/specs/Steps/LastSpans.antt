@@ -7,7 +7,7 @@ use Rattle.tz_info.specs.Changes.{HasNoChange, IsLast}
 use Rattle.tz_info.specs.Spans.{IsSpanAt}
 use Rattle.tz_info.specs.WallClocks.{Shows}
 use Rattle.tz_info.specs.Zones.{Zone, TypeAt}
-use Rattle.tz_info.specs.declared.zone.last_span.LastSpan.{LastSpan}
+use Rattle.tz_info.specs.declared.zone.made.last_span.LastSpan.{LastSpan}
 
 -- each later second up to the last that has a type lies in the span; after no later second clocks change, and the change that began
 -- the span is the last one up to it; only one second shows a later local time, at the span's type

@@ -9,18 +9,18 @@ use Rattle.tz_base.specs.declared.change.Change.{Change}
 use Rattle.tz_info.specs.Steps.Segments.{begin_of, index_of}
 use Rattle.tz_info.specs.Steps.WallPieces.{AreInOrder, IsShownAmong, answer_at}
 use Rattle.tz_info.specs.Zones.{Zone}
-use Rattle.tz_info.specs.declared.zone.segments.Segment.{Segment}
-use Rattle.tz_info.specs.declared.zone.pieces.Piece.{Piece}
-use Rattle.tz_info.specs.declared.zone.segments.Lists.{Lists}
-use Rattle.tz_info.specs.declared.zone.shown.Shown.{Shown}
-use Rattle.tz_info.specs.declared.zone.shown.Shown.TheVariants.{Skipped, Once, Several}
-use Rattle.tz_info.specs.declared.zone.transition.Transition.{Transition}
+use Rattle.tz_info.specs.declared.zone.made.segments.Segment.{Segment}
+use Rattle.tz_info.specs.declared.zone.made.pieces.Piece.{Piece}
+use Rattle.tz_info.specs.declared.zone.made.segments.Lists.{Lists}
+use Rattle.tz_info.specs.declared.zone.made.shown.Shown.{Shown}
+use Rattle.tz_info.specs.declared.zone.made.shown.Shown.TheVariants.{Skipped, Once, Several}
+use Rattle.tz_info.specs.declared.zone.lists.transition.Transition.{Transition}
 
 -- the zone of lists that are lent
 abbrev pub zone_in : Lists → Zone
 zone_in l = record { transitions = l.transitions.now; types = l.types.now; leaps = l.leaps.now; rule = l.rule.now }
 
--- the answer's indexes stand in a list of so many
+-- the answer's indexes are less than n
 abbrev pub AreBelow : ℕ → LocalResult ℕ → Type 0
 AreBelow n None = Unit {0}
 AreBelow n (Single i) = i < n
@@ -33,12 +33,12 @@ AreListed types (Single i) (Single t) = slice_get types i ≡ some t
 AreListed types (Ambiguous i j) (Ambiguous s t) = (slice_get types i ≡ some s) × (slice_get types j ≡ some t)
 AreListed types _ _ = ⊥
 
--- a jump's place is that of a segment behind an entry
+-- a jump's place is that of a segment after an entry
 abbrev pub IsPlaced : ℕ → Shown → Type 0
 IsPlaced count (Skipped place) = (0 < place) × (place ≤ count)
 IsPlaced count _ = Unit {0}
 
--- the change where the segment at a jump's place begins, or none where there is no jump
+-- the change at which the segment at a jump's place begins, or none if the answer is no jump
 abbrev pub IsJump : List LocalType → List Transition → Shown → Option Change → Type 0
 IsJump types entries (Skipped place) (some c) =
     (c.at ≡ begin_of entries place) × (slice_get types (index_of entries (place - 1)) ≡ some c.before) × (slice_get types (index_of entries place) ≡ some c.after)
@@ -46,7 +46,7 @@ IsJump types entries (Skipped place) none = ⊥
 IsJump types entries _ none = Unit {0}
 IsJump types entries _ (some c) = ⊥
 
--- one piece less where the first segment is among them, which has no start, and one less where the last is, which has no end
+-- one piece less if the first segment, which has no start, is included, and one less if the last, which has no end, is
 abbrev pub opening : ℕ → ℕ
 opening zero = 1
 opening (suc low) = 0
@@ -85,7 +85,7 @@ pub record IsFold (end start : ℤ) (index_before index : ℕ) (first last : Pie
   pub both : first ≡ record { start = start; answer = Several index_before index }
   pub next : last ≡ record { start = end; answer = Once index }
 
--- the two pieces where the segment at that place starts and the one before it ends
+-- the two pieces that begin when the segment at that place starts and the one before it ends
 pub record ArePiecesAt (types : List LocalType) (entries : List Transition) (place : ℕ) (first last : Piece) : Type 0 where
   pub before : LocalType
   pub type : LocalType
@@ -102,7 +102,7 @@ pub record IsCutAt (types : List LocalType) (entries : List Transition) (place :
   pub listed : (slice_get types (index_of entries (place - 1)) ≡ some type) ⊎ (slice_get types (index_of entries place) ≡ some type)
   pub is_cut : cut ≡ cut_of entries place type.offset
 
--- of two neighbouring entries the later one cuts the axis where the earlier one does, or before it
+-- the later of two neighbouring entries cuts the axis at or before a cut of the earlier one
 pub record AreCutsCrossed (types : List LocalType) (entries : List Transition) : Type 0 where
   pub place : ℕ
   pub first : 0 < place

@@ -1,12 +1,12 @@
--- What a zone keeps beside its lists.
+-- What a zone keeps in addition to its lists.
 use Rattle.tz_info.specs.Steps.Extremes.{AreExtremes}
 use Rattle.tz_info.specs.Steps.Entries.{AreEntries, Entries}
 use Rattle.tz_info.specs.Steps.LastSpans.{IsLastSpan}
 use Rattle.tz_info.specs.Steps.WallPieces.{WallIndex, IsIndex}
 use Rattle.tz_info.specs.Windows.{offsets}
 use Rattle.tz_info.specs.Zones.{Zone, IsValid, IsRuleOrNone}
-use Rattle.tz_info.specs.declared.zone.extremes.Extremes.{Extremes}
-use Rattle.tz_info.specs.declared.zone.last_span.LastSpan.{LastSpan}
+use Rattle.tz_info.specs.declared.zone.made.extremes.Extremes.{Extremes}
+use Rattle.tz_info.specs.declared.zone.made.last_span.LastSpan.{LastSpan}
 
 -- a valid zone with its least and greatest offset, its index, its entries and its last span, which were made from its lists when it was
 pub record IsPrepared (z : Zone) (found : Extremes) (made : WallIndex) (entries : Entries) (last_span : LastSpan) : Type 0 where

@@ -11,7 +11,7 @@ pub record TypeFrom (rule : TransitionRule) (from u : ℤ) (t : LocalType) : Typ
   pub type : RuleAt rule u t
   pub since : from ≤ℤ u
 
--- one question more where the second u comes at `from` or later, else none
+-- one more question if the second u comes at `from` or later, else none
 abbrev pub IsAskedSince : ℤ → ℤ → ℕ → ℕ → Type 0
 IsAskedSince from u before after = ((from ≤ℤ u) × (after ≡ before + 1)) ⊎ ((u <ℤ from) × (after ≡ before))
 

@@ -7,7 +7,7 @@ use Rattle.tz_info.specs.Windows.{IsGreatest, IsLeast, offsets}
 use Rattle.tz_info.specs.Zones.{Zone, TypeAt}
 use Rattle.tz_info.specs.ShownSeconds.{IsFirstWithin, IsLastWithin, ShowsWithin}
 
--- from the second `at` on the type of `at` is in force before `end`; where that comes before `limit`, another one is in force then
+-- the type of `at` is in force from the second `at` on and before `end`; if `end` is before `limit`, another type is in force then
 pub record IsRunUntil (in_force : ℤ → LocalType → Type 0) (at limit end : ℤ) : Type 0 where
   pub later : at <ℤ end
   pub most : end ≤ℤ limit

@@ -4,7 +4,7 @@ use Rattle.tz_info.specs.Counts.{Counts}
 use Rattle.tz_info.specs.declared.timeline.hints.Near.{Near}
 use Rattle.tz_info.specs.declared.timeline.Ends.{Ends}
 
--- none comes before one that stands earlier
+-- the times don't fall
 abbrev pub AreOrdered : List ℤ → Type 0
 AreOrdered times = AllPairs (λ a b. a ≤ℤ b) times
 
@@ -23,14 +23,14 @@ pub record IsLastOf {A : Type 0} (items : List A) (count : ℕ) (last : Option A
   pub none : count ≡ 0 → last ≡ None
   pub some : 0 < count → (x : A) × (last ≡ Some x) × (x ≡ slice_index_or items (count - 1) x)
 
--- at least one look was counted, and at most `most`
+-- at least one probe was counted, and at most `most`
 pub record AreProbesCounted (counted : Counts → ℕ → Counts) (before after : Counts) (most : ℕ) : Type 0 where
   pub looks : ℕ
   pub some : 0 < looks
   pub within : looks ≤ most
   pub counts : after ≡ counted before looks
 
--- the first and the last of the times, where there is one
+-- the first and the last of the times, if there are any
 pub record AreEnds (times : List ℤ) (ends : Ends) : Type 0 where
   pub first : 0 < length times → ends.first ≡ item_time times 0
   pub last : 0 < length times → ends.last ≡ item_time times (length times - 1)

@@ -4,7 +4,7 @@ use Rattle.std.specs.Int.{saturate_signed, w64}
 use Rattle.naive_base.specs.Range.{IsWide}
 use Rattle.tz_base.specs.LocalTypes.{IsUtOffset, LocalType}
 use Rattle.tz_info.specs.Steps.Segments.{begin_of, index_of}
-use Rattle.tz_info.specs.declared.zone.transition.Transition.{Transition}
+use Rattle.tz_info.specs.declared.zone.lists.transition.Transition.{Transition}
 
 abbrev pub offset_of : Option LocalType → ℤ
 offset_of (Some t) = t.offset

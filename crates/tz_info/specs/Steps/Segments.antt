@@ -5,7 +5,7 @@ use Rattle.tz_info.specs.Lists.{last_else}
 use Rattle.tz_info.specs.Transitions.{passed}
 use Rattle.tz_info.specs.Zones.{Zone}
 use Rattle.tz_info.specs.declared.rule.transition_rule.TransitionRule.{TransitionRule}
-use Rattle.tz_info.specs.declared.zone.transition.Transition.{Transition}
+use Rattle.tz_info.specs.declared.zone.lists.transition.Transition.{Transition}
 
 -- the segment of the second u: how many transitions have come by then
 unfoldable pub segment_of : Zone → ℤ → ℕ

@@ -1,7 +1,7 @@
 -- What earlier segments and later ones show of a local time together, and the four answers by number.
-use Rattle.std.specs.Prelude.{ℕ, zero, suc}
-use Rattle.tz_info.specs.declared.zone.shown.Shown.{Shown}
-use Rattle.tz_info.specs.declared.zone.shown.Shown.TheVariants.{Less, Skipped, Once, Several}
+use Rattle.std.specs.Prelude.{ℕ, zero, suc, ◌≤◌, ◌⊎◌}
+use Rattle.tz_info.specs.declared.zone.made.shown.Shown.{Shown}
+use Rattle.tz_info.specs.declared.zone.made.shown.Shown.TheVariants.{Less, Skipped, Once, Several}
 
 abbrev pub together : Shown → Shown → Shown
 together Less a = a
@@ -24,3 +24,10 @@ unpacked zero i j = Less
 unpacked (suc zero) i j = Skipped i
 unpacked (suc (suc zero)) i j = Once i
 unpacked (suc (suc (suc kind))) i j = Several i j
+
+-- a number of the answer is 2^30 or more
+abbrev pub HasGreatNumber : Shown → Type 0
+HasGreatNumber Less = ⊥
+HasGreatNumber (Skipped place) = 1_073_741_824 ≤ place
+HasGreatNumber (Once i) = 1_073_741_824 ≤ i
+HasGreatNumber (Several i k) = (1_073_741_824 ≤ i) ⊎ (1_073_741_824 ≤ k)

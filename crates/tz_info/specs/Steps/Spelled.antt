@@ -1,11 +1,14 @@
 -- What the reader of a TZ string hands from one function to the next: the rule of it, and its limits.
-use Rattle.std.specs.Prelude.{ℕ, ℤ, ◌≡◌, Bool, List, Result, Ok, Err, Some}
+use Rattle.std.specs.Prelude.{ℕ, ℤ, ◌≡◌, ◌+◌, Bool, false, List, Result, Ok, Err, Some}
+use Rattle.std.specs.Char.{is_ascii_whitespace}
+use Rattle.std.specs.List.{prefix_len}
 use Rattle.offset_core.specs.Offset.{IsWithinDay}
 use Rattle.tz_base.specs.Grammar.{read}
 use Rattle.tz_base.specs.LocalTypes.{LocalType}
 use Rattle.tz_base.specs.declared.parse_error.ParseError.{ParseError}
 use Rattle.tz_info.specs.Rules.{Alternate, IsWithinWeek}
-use Rattle.tz_info.specs.TzGrammar.{text, text_fault_position}
+use Rattle.tz_info.specs.Trims.{IsTrimmed}
+use Rattle.tz_info.specs.TzGrammar.{text, text_fault_position, IsTzText, IsTextFault}
 use Rattle.tz_info.specs.declared.rule.day.DayForm.{DayForm}
 use Rattle.tz_info.specs.declared.rule.day.DayTime.{DayTime}
 use Rattle.tz_info.specs.declared.rule.reader.text.Spelled.{Spelled}
@@ -34,3 +37,10 @@ IsSpelled (spelled.Alternate std dst start end) = IsWithinDay std.offset × IsWi
 abbrev pub IsParsed : Bool → List ℕ → Result TransitionRule ParseError → Type 0
 IsParsed extended bytes (Ok rule) = (rest : List ℕ) × (read (text extended) bytes ≡ Ok (rule, rest))
 IsParsed extended bytes (Err e) = (read (text extended) bytes ≡ Err e.error) × (e.position ≡ Some (text_fault_position extended bytes))
+
+-- the same of a string without the white space at its ends, with the place in the whole string
+abbrev pub IsTrimmedRule : List ℕ → Result TransitionRule ParseError → Type 0
+IsTrimmedRule text (Ok rule) = (trimmed : List ℕ) × IsTrimmed text trimmed × IsTzText false trimmed rule
+IsTrimmedRule text (Err e) =
+    (trimmed : List ℕ) × IsTrimmed text trimmed × IsTextFault false trimmed e.error
+    × (e.position ≡ Some (prefix_len is_ascii_whitespace text + text_fault_position false trimmed))

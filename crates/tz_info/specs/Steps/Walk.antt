@@ -20,7 +20,7 @@ pub record TypeIn (z : Zone) (i : ℕ) (u : ℤ) (t : LocalType) : Type 0 where
 abbrev pub IsShownIn : Zone → ℤ → ℕ → ℤ → LocalType → Type 0
 IsShownIn z local n = ShownAmong z 0 n local
 
--- the one second that could show the local time at the offset was asked, and put after all others where it does
+-- the one second that could show the local time at the offset was asked, and is added after all others if it does
 abbrev pub IsAskedLast : (ℤ → LocalType → Type 0) → ℤ → ℤ → LocalResult LocalType → LocalResult LocalType → Type 0
 IsAskedLast in_force local offset before after =
     ((after ≡ before) × ((t : LocalType) → Shows in_force local (local -ℤ offset) t → ⊥))
@@ -38,7 +38,7 @@ pub record IsTimeWithin (since : ℤ) (until : Option ℤ) (x : ℤ) : Type 0 wh
   pub from : since ≤ℤ x
   pub before : (end : ℤ) → until ≡ Some end → x <ℤ end
 
--- it was tried: put after all others where its leap time is one of those
+-- it was tried: added after all others if its leap time is one of those
 pub record IsTried (z : Zone) (local : ℤ) (index : ℕ) (since : ℤ) (until : Option ℤ) (before after : LocalResult LocalType) : Type 0 where
   pub type : LocalType
   pub leap_time : ℤ

@@ -16,21 +16,21 @@ use Rattle.tz_info.specs.Transitions.{AreRising, NameTypes, passed}
 use Rattle.tz_info.specs.WallClocks.{Shows}
 use Rattle.tz_info.specs.Zones.{Zone, HasType, TypeAt}
 use Rattle.tz_info.specs.declared.rule.transition_rule.TransitionRule.{TransitionRule}
-use Rattle.tz_info.specs.declared.zone.leap_second.LeapSecond.{LeapSecond}
-use Rattle.tz_info.specs.declared.zone.pieces.Piece.{Piece}
-use Rattle.tz_info.specs.declared.zone.shown.Shown.{Shown}
-use Rattle.tz_info.specs.declared.zone.shown.Shown.TheVariants.{Less, Skipped, Once, Several}
-use Rattle.tz_info.specs.declared.zone.transition.Transition.{Transition}
+use Rattle.tz_info.specs.declared.zone.lists.leap_second.LeapSecond.{LeapSecond}
+use Rattle.tz_info.specs.declared.zone.made.pieces.Piece.{Piece}
+use Rattle.tz_info.specs.declared.zone.made.shown.Shown.{Shown}
+use Rattle.tz_info.specs.declared.zone.made.shown.Shown.TheVariants.{Less, Skipped, Once, Several}
+use Rattle.tz_info.specs.declared.zone.lists.transition.Transition.{Transition}
 
--- none starts before one that stands earlier
+-- the starts of the pieces don't fall
 abbrev pub AreInOrder : List Piece → Type 0
 AreInOrder pieces = AllPairs (λ p q. p.start ≤ℤ q.start) pieces
 
--- the answer of the last piece, or what stands before all of them
+-- the answer of the last piece, or `before` if the list is empty
 abbrev pub answer_before : Shown → List Piece → Shown
 answer_before before pieces = last_else before (map (λ p. p.answer) pieces)
 
--- the answer of the last piece that starts at or before the local time, or what stands before all of them
+-- the answer of the last piece that starts at or before the local time, or `before` if no piece does
 abbrev pub answer_at : Shown → List Piece → ℤ → Shown
 answer_at before pieces local = answer_before before (filter (λ p. int_le p.start local) pieces)
 
@@ -77,7 +77,7 @@ shown_indexes (Several i j) = Ambiguous i j
 abbrev pub AreLessAmong : Zone → List Transition → ℕ → ℕ → ℤ → Type 0
 AreLessAmong z entries low high local = (u : ℤ) (t : LocalType) → IsNear u → low ≤ place_at entries u → place_at entries u < high → TypeAt z u t → (u +ℤ t.offset) <ℤ local
 
--- where the segment at that place begins, clocks jump over the local time: at the seconds of the segments from `low` on and before it they show less, and at
+-- clocks jump over the local time when the segment at that place begins: at the seconds of the segments from `low` on and before it they show less, and at
 -- its first second they show more
 pub record Jumps (z : Zone) (entries : List Transition) (low high : ℕ) (local : ℤ) (place : ℕ) : Type 0 where
   pub some : 0 < place
@@ -120,7 +120,7 @@ IsBegun e start = (u : ℤ) → FitsSigned w64 u → (place_at e.items u ≡ e.a
 abbrev pub IsBegunNear : Entries → ℤ → Type 0
 IsBegunNear e start = (u : ℤ) → IsNear u → (place_at e.items u ≡ e.all) ↔ (start ≤ℤ u)
 
--- the pieces of a zone's wall-clock axis, what stands before the first of them, the latest ends of its segments if these don't rise, and the second from which
+-- the pieces of a zone's wall-clock axis, the answer before the first of them, the latest ends of its segments if these don't rise, and the second from which
 -- its rule is asked
 pub record WallIndex : Type 0 where
   pub before : Shown
@@ -128,12 +128,12 @@ pub record WallIndex : Type 0 where
   pub maxima : List ℤ
   pub rule_from : ℤ
 
--- one look at least is counted: at a piece, or in its place where there is none and the rule never begins
+-- at least one probe is counted: there is a piece to probe, or the rule never begins
 abbrev pub IsCounted : WallIndex → Type 0
 IsCounted i = (0 < length i.pieces) ⊎ (i.rule_from ≡ pos 9_223_372_036_854_775_807)
 
--- the index is that of the zone: its pieces stand in the order of their starts, at each local time they answer for all seconds of the table, which are those before
--- the last transition, or without a rule all; and the rule is asked from the last transition on
+-- the index is that of the zone: its pieces are sorted by their starts; at each local time they answer for all seconds of the table, which are those before
+-- the last transition, or all if there is no rule; and the rule is asked from the last transition on
 pub record IsIndex (z : Zone) (e : Entries) (i : WallIndex) : Type 0 where
   pub most : length i.pieces ≤ 2 * length e.items
   pub some : 0 < length z.transitions → IsCounted i

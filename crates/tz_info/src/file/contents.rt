@@ -8,7 +8,7 @@ ghost use Rattle.tz_info.specs.Steps.Below.{all_below};
 
 use crate::file::numbers::{record_at, signed_32, time_of};
 use crate::zone::LeapSecond;
-use crate::zone::kept::Kept;
+use crate::zone::lists::kept::Kept;
 use std::alloc::Global;
 use tz_base::{Error, Expected};
 

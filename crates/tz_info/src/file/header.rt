@@ -117,7 +117,7 @@ fn read_counts(cursor: &mut Cursor<'_>) -> Result<Counts, Error>
 }
 
 impl Counts {
-    // There is a type and a byte of names, and indicators stand for no type or for each.
+    // There is a type and a byte of names, and indicators are given for no type or for each.
     fn agree(&self) -> bool
         ensures { result ≡ counts_agree self.now }
     {

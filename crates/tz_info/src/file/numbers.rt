@@ -5,7 +5,7 @@ ghost use Rattle.std.specs.Int.{w32, w64};
 ghost use Rattle.tz_info.specs.FileContents.{signed, file_time};
 ghost use Rattle.tz_info.specs.Steps.ContentReading.{record_at};
 
-/// The record of that place, where each has that size.
+/// Returns the record at that place, if each has that size.
 pub fn record_at(part: &[u8], size: usize, place: usize) -> &[u8]
     requires { place * size + size ≤ length part.now }
     ensures value { result.now ≡ record_at size part.now place }

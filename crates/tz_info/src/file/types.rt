@@ -88,8 +88,8 @@ fn first_zero(bytes: &[u8]) -> Option<usize>
     bytes.iter().position(|byte| *byte == 0)
 }
 
-// The type of an offset, a mark and a text: a function of its own, so that its clause says what
-// reading one gives.
+// The type of an offset, a DST flag and a text: a function of its own, so that its clause says what
+// parsing one gives.
 fn local_type(ut_offset: i32, is_dst: bool, text: &[u8]) -> Result<LocalTimeType, Error>
     ensures { Gives (λ t. t) result (type_of ut_offset is_dst text.now) }
 {

@@ -6,17 +6,17 @@ ghost use Rattle.tz_info.specs.ChangesLeft.{changes_left};
 ghost use Rattle.tz_info.specs.Zones.{Zone};
 ghost use Rattle.tz_info.specs.declared.rule.day.DayForm.{DayForm};
 ghost use Rattle.tz_info.specs.declared.rule.transition_rule.TransitionRule.{TransitionRule as Rule};
-ghost use Rattle.tz_info.specs.declared.zone.differences.Difference.{Difference as Differing};
-ghost use Rattle.tz_info.specs.declared.zone.leap_second.LeapSecond.{LeapSecond as Leap};
-ghost use Rattle.tz_info.specs.declared.zone.shown_seconds.ShownSeconds.{ShownSeconds as Seconds};
+ghost use Rattle.tz_info.specs.declared.zone.ask.differences.Difference.{Difference as Differing};
+ghost use Rattle.tz_info.specs.declared.zone.lists.leap_second.LeapSecond.{LeapSecond as Leap};
+ghost use Rattle.tz_info.specs.declared.zone.ask.shown_seconds.ShownSeconds.{ShownSeconds as Seconds};
 ghost use Rattle.tz_info.specs.declared.change.TypedSecond.{TypedSecond as Second};
-ghost use Rattle.tz_info.specs.declared.zone.transition.Transition.{Transition as ListedTransition};
+ghost use Rattle.tz_info.specs.declared.zone.lists.transition.Transition.{Transition as ListedTransition};
 
 use crate::change::TypedSecond;
 use crate::rule::{AlternateTime, RuleDay, TransitionRule};
-use crate::zone::all_changes::Changes;
-use crate::zone::differences::Difference;
-use crate::zone::shown_seconds::ShownSeconds;
+use crate::zone::ask::all_changes::Changes;
+use crate::zone::ask::differences::Difference;
+use crate::zone::ask::shown_seconds::ShownSeconds;
 use crate::zone::{LeapSecond, TimeZone, Transition};
 
 /// Transitions are equal if and only if their times and their indexes are. A clone is the value,

@@ -9,7 +9,7 @@ ghost use Rattle.tz_info.specs.ShownSeconds.{IsFirstAtOrAfter};
 ghost use Rattle.tz_info.specs.WallClocks.{Shows};
 ghost use Rattle.tz_info.specs.Windows.{IsGreatest, IsLeast, offsets};
 ghost use Rattle.tz_info.specs.Zones.{Zone, TypeAt};
-ghost use Rattle.tz_info.specs.declared.zone.shown_seconds.ShownSeconds.{ShownSeconds};
+ghost use Rattle.tz_info.specs.declared.zone.ask.shown_seconds.ShownSeconds.{ShownSeconds};
 
 /// A stretch of local time has one answer.
 #[tactic(auto, using(crate::proofs::ShownSecondLaws::one_answer))]

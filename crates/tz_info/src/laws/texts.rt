@@ -1,11 +1,11 @@
 //! Theorems of TZ strings and of the zones that they give: each function is empty, its contract is
 //! proved; never called.
 
-ghost use Rattle.std.specs.Prelude.{◌≡◌, ◌≤◌, List, ℕ, Bool};
+ghost use Rattle.std.specs.Prelude.{◌≡◌, ◌≤◌, List, ℕ, Bool, length};
 ghost use Rattle.tz_base.specs.Errors.{error_number};
 ghost use Rattle.tz_base.specs.declared.error.Error.{Error as Fault};
-ghost use Rattle.tz_info.specs.TzGrammar.{IsTzText, IsTextFault};
-ghost use Rattle.tz_info.specs.PosixZones.{IsPosixZone, IsPosixFault};
+ghost use Rattle.tz_info.specs.TzGrammar.{IsTzText, IsTextFault, text_fault_position};
+ghost use Rattle.tz_info.specs.PosixZones.{IsPosixZone, IsPosixFault, IsPosixFaultPlace};
 ghost use Rattle.tz_info.specs.Zones.{Zone, IsValid, IsRuleOrNone};
 ghost use Rattle.tz_info.specs.declared.rule.transition_rule.TransitionRule.{TransitionRule as Rule};
 
@@ -45,4 +45,14 @@ pub fn fault_or_zone()
     ensures once { (text : List ℕ) (d e : Fault) → IsPosixFault text d → IsPosixFault text e
         → d ≡ e }
     ensures low { (text : List ℕ) (e : Fault) → IsPosixFault text e → error_number e ≤ 16 }
+{}
+
+/// The fault of a text has one place, in the text or at its end.
+pub fn fault_place()
+    ensures once { (text : List ℕ) (a b : ℕ) → IsPosixFaultPlace text a → IsPosixFaultPlace text b
+        → a ≡ b }
+    ensures within { (text : List ℕ) (place : ℕ) → IsPosixFaultPlace text place
+        → place ≤ length text }
+    ensures string { (extended : Bool) (bytes : List ℕ)
+        → text_fault_position extended bytes ≤ length bytes }
 {}

@@ -62,7 +62,7 @@ impl DayTime {
     }
 }
 
-// How far inside its year each moment lies at least, where the two also come in one order in all
+// How far inside its year each moment lies at least, if the two also come in one order in all
 // years; else how far outside of it none lies, as a number below 0.
 #[tactic(auto, unfolding(crate::specs::Steps::Kinds::margin_of))]
 pub(super) fn margin_of(starts: &[i64; 14], ends: &[i64; 14]) -> i64

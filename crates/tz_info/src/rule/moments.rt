@@ -21,7 +21,7 @@ pub(super) struct Turns {
 }
 
 impl Turns {
-    // Whether it is daylight saving time at the second, where no other year's moments matter.
+    // Whether it is daylight saving time at the second, if no other year's moments matter.
     pub(super) fn is_dst(self, unix_time: i64) -> bool
         ensures { result ≡ is_dst_by_one self.start self.end unix_time }
     {

@@ -24,8 +24,8 @@ impl TransitionRule {
     /// # Errors
     ///
     /// The first of these faults in the string: [`Error::UnexpectedEnd`] or
-    /// [`Error::MissingTag`] where a `>`, a `.` or a comma must come; [`Error::ParseInt`] where a
-    /// number must come; [`Error::InvalidTzString`] for hours, minutes, seconds or an offset of
+    /// [`Error::MissingTag`] for a missing `>`, `.` or comma; [`Error::ParseInt`] for a missing
+    /// number; [`Error::InvalidTzString`] for hours, minutes, seconds or an offset of
     /// daylight saving time out of their limits, and for bytes left over; [`Error::TransitionRule`]
     /// for a date out of its limits; [`Error::UnsupportedTzString`] if the string ends after the
     /// name of daylight saving time or its offset; and, looked at last, [`Error::LocalTimeType`]
@@ -55,9 +55,9 @@ impl TransitionRule {
     /// # Errors
     ///
     /// Those of [`TransitionRule::from_tz_string`], at the first byte with which no TZ string goes
-    /// on; at the end if the string ends too soon; and for numbers and names out of their limits
-    /// where the number, the time or the name begins. If the offset of daylight saving time is left
-    /// out, and an hour more than that of standard time is no offset, the fault is at the comma.
+    /// on; at the end if the string ends too soon; and at the first byte of a number, a time or a name
+    /// that is out of its limits. If the offset of daylight saving time is left out, and an hour more
+    /// than that of standard time is no offset, the fault is at the comma.
     pub fn parse_tz_string(bytes: &[u8], extended: bool) -> Result<TransitionRule, ParseError>
         // What is read is spelled so.
         ensures found { IfOk result (λ rule. IsTzText extended bytes.now rule) }

@@ -84,7 +84,7 @@ impl AlternateTime {
         }
     }
 
-    // The type in force at the second, by the season's moments where these decide.
+    // The type in force at the second, by the season's moments if these decide.
     #[inline(always)]
     pub(super) fn type_in(&self, season: Season, unix_time: i64) -> &LocalTimeType
         requires season { IsSeason self.now season }
@@ -94,8 +94,7 @@ impl AlternateTime {
         self.type_when(self.is_dst_in(season, unix_time))
     }
 
-    // Whether it is daylight saving time at the second, by the season's moments where these
-    // decide.
+    // Whether it is daylight saving time at the second, by the season's moments if these decide.
     #[inline(always)]
     pub(super) fn is_dst_in(&self, season: Season, unix_time: i64) -> bool
         requires season { IsSeason self.now season }

@@ -136,7 +136,7 @@ impl AlternateTime {
         (None, self.ask(from, local, last, one, probes))
     }
 
-    // Asks for the two seconds that could show the local time, where the season's moments decide at
+    // Asks for the two seconds that could show the local time, if the season's moments decide at
     // both, and hands the season on.
     #[inline(always)]
     fn answer_amid(
@@ -170,7 +170,7 @@ impl AlternateTime {
         (Some(season), answer_of_two(first, is_first, last, is_last))
     }
 
-    // The change at which clocks jump over the local time, where the season's moments decide at both
+    // The change at which clocks jump over the local time, if the season's moments decide at both
     // seconds that could show it.
     //
     // At the earlier of these two the type of the lesser offset is in force, and at the later one

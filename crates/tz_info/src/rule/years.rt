@@ -1,6 +1,6 @@
 //! When a rule's types give way to each other, year by year.
 //!
-//! They do so at moments of the rule, and at a turn of the year where the one moment comes first in
+//! They do so at moments of the rule, and at a turn of the year if the one moment comes first in
 //! the old year, and the other one in the new. Every 400 years they do so alike.
 
 ghost use Rattle.std.specs.Prelude.{◌≡◌, ◌≢◌, length, ◌≤ℤ◌, IsTrue, ◌↔◌, IfSome, MatchOption, Some};
@@ -51,7 +51,7 @@ impl Stretch {
         }
     }
 
-    // Where the stretch begins, in that direction.
+    // The end of the stretch at which it begins in that direction.
     pub(super) fn near_end(self, forward: bool) -> i64
         ensures { result ≡ near_end forward self.after self.last }
     {
@@ -105,7 +105,7 @@ impl AlternateTime {
     }
 
     // The seconds after the year's first one, up to the next year's, at which types may change,
-    // and some beside them.
+    // and some near them.
     fn moments_near(&self, year: i32) -> [i64; 7]
         requires { IsRuleYear year }
         ensures moments { result ≡ moments_near self.now year }

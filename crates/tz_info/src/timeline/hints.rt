@@ -18,9 +18,9 @@ use std::cmp::max;
 // A longer list has a stretch for 8 to 16 items, so that its hints take little memory.
 const LONG: usize = 65_536;
 
-// The place of the last item before each stretch, or of the first item where none comes before it.
-// There are no hints where they would leave more than half of the items between two of them, or
-// where there are fewer than five items.
+// The place of the last item before each stretch, or of the first item if none comes before it.
+// There are no hints if they would leave more than half of the items between two of them, or if
+// there are fewer than five items.
 #[derive(Drop)]
 pub(crate) struct Hints {
     places: Vec<u32>,
@@ -97,7 +97,7 @@ pub(crate) fn seconds_between(first: i64, second: i64) -> u64
     (second as i128 - first as i128) as u64
 }
 
-// How many stretches there are at most, beside two more, for that many items.
+// How many stretches there are at most, without two more, for that many items.
 fn most_stretches(count: usize) -> u64
     ensures { result ≤ count }
 {
@@ -120,8 +120,8 @@ fn shift_for(span: u64, most: u64) -> u32
     63
 }
 
-// Notes the place of each item after its stretch, where there are only zeros. Where several lie in
-// one stretch, the last of them stays.
+// Notes the place of each item after its stretch, over zeros. If several items lie in one stretch,
+// the last of them stays.
 fn mark<T: Timed>(places: &mut [u32], items: &[T], first: i64, shift: u32)
     requires shift { shift < 64 }
     requires ordered { AreOrdered (map T.time items.now) }

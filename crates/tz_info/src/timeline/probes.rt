@@ -27,7 +27,7 @@ impl Model for Probes {
 }
 
 impl Probes {
-    // What each count is below where a lookup may start.
+    // The limit below which each count must be when a lookup starts.
     const ROOM: u128 = 1 << 120;
 
     /// Returns counts of 0.

@@ -1,4 +1,4 @@
-//! An item that has a time, and the count that a look at it raises.
+//! An item that has a time, and the count that a probe of it raises.
 
 ghost use Rattle.std.specs.Prelude.{◌≡◌, ◌+◌, ℕ};
 ghost use Rattle.tz_info.specs.Counts.{Counts, HasRoomFor};
@@ -12,10 +12,10 @@ pub(crate) trait Timed: Drop {
     // when it comes
     ghost time: { Self → ℤ };
 
-    // counts with that many more looks
+    // counts with that many more probes
     ghost counted: { Counts → ℕ → Counts };
 
-    // how many looks there were
+    // how many probes there were
     ghost looks: { Counts → ℕ };
 
     // Its time, a second.

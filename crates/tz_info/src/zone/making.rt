@@ -1,6 +1,6 @@
 //! How a zone is made: its lists are checked, and what lookups need is prepared from them.
 
-ghost use Rattle.std.specs.Prelude.{◌≡◌, pos, ◌<◌, length, IfSome, MatchResult, ◌⊎◌};
+ghost use Rattle.std.specs.Prelude.{◌≡◌, [], pos, ◌<◌, length, IfSome, MatchResult, ◌⊎◌};
 ghost use Rattle.tz_base.specs.Errors.{IsOutOfMemory};
 ghost use Rattle.tz_base.specs.LocalTypes.{IsUtOffset};
 ghost use Rattle.tz_base.specs.declared.error.Error.TheVariants.{LocalTimeType as TypeError, OutOfMemory};
@@ -9,20 +9,20 @@ ghost use Rattle.tz_info.specs.Steps.LastSpans.{IsLastSpan};
 ghost use Rattle.tz_info.specs.Zones.{Zone, IsValid, ListFault, plain_zone, zone_of_rule, zone_of_type};
 
 use crate::rule::TransitionRule;
-use crate::zone::all_changes::second_before;
-use crate::zone::change_table::{ChangeList, ChangeTable};
-use crate::zone::extremes::extremes_of;
-use crate::zone::index::Index;
-use crate::zone::kept::{Kept, all_kept};
-use crate::zone::last_span::LastSpan;
-use crate::zone::leap_second::LeapSecond;
-use crate::zone::leap_seconds::LeapSeconds;
-use crate::zone::runs::start_by;
-use crate::zone::segments::Lists;
-use crate::zone::starts::cut_at;
+use crate::zone::ask::all_changes::second_before;
+use crate::zone::ask::runs::start_by;
+use crate::zone::lists::kept::{Kept, all_kept};
+use crate::zone::lists::leap_second::LeapSecond;
+use crate::zone::lists::leap_seconds::LeapSeconds;
+use crate::zone::lists::starts::cut_at;
+use crate::zone::lists::transition::Transition;
+use crate::zone::lists::valid::check;
+use crate::zone::made::change_table::{ChangeList, ChangeTable};
+use crate::zone::made::extremes::extremes_of;
+use crate::zone::made::index::Index;
+use crate::zone::made::last_span::LastSpan;
+use crate::zone::made::segments::Lists;
 use crate::zone::time_zone::TimeZone;
-use crate::zone::transition::Transition;
-use crate::zone::valid::check;
 use std::alloc::Global;
 use tz_base::{Error, LocalTimeType};
 
@@ -39,8 +39,9 @@ impl TimeZone {
     ///
     /// [`Error::TimeZone`] if the lists are otherwise, with what was expected of the first one with
     /// a fault: the types, the type indexes, then the times of the transitions, the leap seconds,
-    /// the rule. [`Error::OutOfMemory`] if there is no memory for the zone's index and hints,
-    /// or if there are 1,073,741,824 transitions or types, or more: the index numbers no more of them.
+    /// the rule. [`Error::OutOfMemory`] if there is no memory for the zone's index and hints, or if there
+    /// are 1,073,741,824 transitions or types, or more: the index numbers no more of them. A zone without
+    /// transitions has no index, and takes no memory but that of its lists.
     pub fn new(
         alloc: Global,
         transitions: Vec<Transition>,
@@ -56,7 +57,7 @@ impl TimeZone {
         } in
             MatchResult result (λ z. IsValid lists × (z ≡ lists))
             (λ e. (ListFault lists e × ¬ (IsValid lists))
-            ⊎ ((e ≡ OutOfMemory) × IsValid lists)) }
+            ⊎ ((e ≡ OutOfMemory) × IsValid lists × (0 < length lists.transitions))) }
     {
         check(&transitions, &types, &leaps, &rule)?;
         let kept = all_kept(alloc, &transitions)?;
@@ -82,9 +83,12 @@ impl TimeZone {
           types = types.items;
           leaps = leaps.items;
           rule = rule;
-        }) (λ e. e ≡ OutOfMemory) }
+        }) (λ e. (e ≡ OutOfMemory) × (0 < length transitions.items)) }
     {
         let leaps = LeapSeconds::new(leaps);
+        if transitions.is_empty() {
+            return Ok(TimeZone::without_transitions(types, leaps, rule));
+        }
         let list = ChangeList::new(alloc, transitions, &types, &leaps, &rule)?;
         let lists = Lists {
             transitions: list.transitions(),
@@ -139,8 +143,30 @@ impl TimeZone {
         requires { 0 < length types.items }
         ensures { result ≡ zone_of_rule types.items rule }
     {
+        let leaps = LeapSeconds::none(*types.allocator());
+        TimeZone::without_transitions(types, leaps, rule)
+    }
+
+    // The zone of those lists and without transitions.
+    fn without_transitions(
+        types: Vec<LocalTimeType>,
+        leaps: LeapSeconds,
+        rule: Option<TransitionRule>,
+    ) -> TimeZone
+        requires { IsValid (record {
+          transitions = [];
+          types = types.items;
+          leaps = leaps;
+          rule = rule;
+        }) }
+        ensures { result ≡ record {
+          transitions = [];
+          types = types.items;
+          leaps = leaps;
+          rule = rule;
+        } }
+    {
         let alloc = *types.allocator();
-        let leaps = LeapSeconds::none(alloc);
         let list = ChangeList::none(alloc);
         let lists = Lists {
             transitions: list.transitions(),

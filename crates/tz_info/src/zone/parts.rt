@@ -7,9 +7,9 @@ ghost use Rattle.tz_info.specs.Zones.{IsValid, IsRuleOrNone};
 
 use crate::rule::TransitionRule;
 use crate::timeline::Probes;
-use crate::zone::leap_second::LeapSecond;
+use crate::zone::lists::leap_second::LeapSecond;
+use crate::zone::lists::transition::Transition;
 use crate::zone::time_zone::TimeZone;
-use crate::zone::transition::Transition;
 use tz_base::LocalTimeType;
 
 impl TimeZone {

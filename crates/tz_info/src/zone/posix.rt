@@ -1,15 +1,17 @@
 //! Zones of TZ strings.
 
-ghost use Rattle.std.specs.Prelude.{◌≡◌, IfOk, IfErr, MatchResult, ◌⊎◌, [], ◌∷◌, true};
+ghost use Rattle.std.specs.Prelude.{◌≡◌, IfOk, IfErr, MatchResult, ◌⊎◌, ◌-◌, [], ◌∷◌, true, None, option_map, pos};
 ghost use Rattle.tz_base.specs.Errors.{IsOutOfMemory};
-ghost use Rattle.tz_info.specs.Zones.{Zone};
+ghost use Rattle.tz_info.specs.Zones.{Zone, plain_zone};
 ghost use Rattle.tz_info.specs.PosixZones.{IsPosixZone, IsPosixFault, IsExtendedZone, types_of, posix_zone};
+ghost use Rattle.tz_info.specs.PosixZones.{IsPlaced, IsPosixFaultPlace, IsExtendedFaultPlace};
+ghost use Rattle.tz_info.specs.Steps.Spelled.{IsTrimmedRule};
 ghost use Rattle.tz_info.specs.TzGrammar.{IsTextFault};
 
 use crate::rule::TransitionRule;
 use crate::zone::time_zone::TimeZone;
 use std::alloc::Global;
-use tz_base::{Error, LocalTimeType};
+use tz_base::{Error, LocalTimeType, ParseError};
 
 impl TimeZone {
     /// The zone of a TZ string, such as `EST5EDT,M3.2.0,M11.1.0` (POSIX.1 section 8.3): its rule, and
@@ -39,10 +41,43 @@ impl TimeZone {
         ensures memory { IfErr result
             (λ e. IsOutOfMemory e → (z : Zone) × IsPosixZone text.now z) }
     {
+        Ok(TimeZone::parse_posix_tz(alloc, text)?)
+    }
+
+    /// Returns the zone of [`TimeZone::from_posix_tz`], or its error with the place of the fault: the
+    /// number of bytes in front of it, white space among them. It is the place that
+    /// [`TransitionRule::parse_tz_string`] gives, counted from the start of the text.
+    ///
+    /// ```
+    /// match TimeZone::parse_posix_tz(alloc, " EST5EDT,M3.2.0,M13.1.0") {
+    ///     Ok(zone) => Ok(zone),
+    ///     Err(e) => Err(e.position), // Some(17), at the month 13
+    /// }
+    /// ```
+    ///
+    /// # Errors
+    ///
+    /// Those of [`TimeZone::from_posix_tz`]. [`Error::OutOfMemory`] has no place, and each other
+    /// error has one.
+    pub fn parse_posix_tz(alloc: Global, text: &str) -> Result<TimeZone, ParseError>
+        // The zone is the text's.
+        ensures found { IfOk result (λ z. IsPosixZone text.now z) }
+        // A text that has a zone gives it, unless there is no memory.
+        ensures only { (z : Zone) → IsPosixZone text.now z
+            → MatchResult result (λ y. y ≡ z) (λ e. IsOutOfMemory e.error) }
+        // An error is the first fault of the text, or says that memory ran out.
+        ensures fault { IfErr result
+            (λ e. IsOutOfMemory e.error ⊎ IsPosixFault text.now e.error) }
+        // A fault has its place.
+        ensures place { IfErr result (λ e. IsPlaced (IsPosixFaultPlace text.now) e) }
+        // Running out of memory is answered only for a text that has a zone.
+        ensures memory { IfErr result
+            (λ e. IsOutOfMemory e.error → (z : Zone) × IsPosixZone text.now z) }
+    {
         if text.is_empty() {
-            return TimeZone::utc(alloc);
+            return TimeZone::utc_zone(alloc);
         }
-        let rule = TransitionRule::from_tz_string(text.trim_ascii().as_bytes(), false)?;
+        let rule = read_trimmed(text)?;
         TimeZone::of_rule(alloc, rule)
     }
 
@@ -70,15 +105,80 @@ impl TimeZone {
         ensures memory { IfErr result
             (λ e. IsOutOfMemory e → (z : Zone) × IsExtendedZone text.now z) }
     {
-        let rule = TransitionRule::from_tz_string(text, true)?;
+        Ok(TimeZone::parse_extended_tz(alloc, text)?)
+    }
+
+    /// Returns the zone of [`TimeZone::from_extended_tz`], or its error with the place of the fault.
+    ///
+    /// ```
+    /// match TimeZone::parse_extended_tz(alloc, b"<-03>3<-02>,M3.5.0/-2,M10.5.0/-168") {
+    ///     Ok(zone) => Ok(zone),
+    ///     Err(e) => Err(e.position), // Some(31), at the hours
+    /// }
+    /// ```
+    ///
+    /// # Errors
+    ///
+    /// Those of [`TimeZone::from_extended_tz`]. [`Error::OutOfMemory`] has no place, and each other
+    /// error has one.
+    pub fn parse_extended_tz(alloc: Global, text: &[u8]) -> Result<TimeZone, ParseError>
+        // The zone is the string's.
+        ensures found { IfOk result (λ z. IsExtendedZone text.now z) }
+        // A string that has a zone gives it, unless there is no memory.
+        ensures only { (z : Zone) → IsExtendedZone text.now z
+            → MatchResult result (λ y. y ≡ z) (λ e. IsOutOfMemory e.error) }
+        // An error is the first fault of the string, or says that memory ran out.
+        ensures fault { IfErr result
+            (λ e. IsOutOfMemory e.error ⊎ IsTextFault true text.now e.error) }
+        // A fault has its place.
+        ensures place { IfErr result (λ e. IsPlaced (IsExtendedFaultPlace text.now) e) }
+        // Running out of memory is reported only for a string that has a zone.
+        ensures memory { IfErr result
+            (λ e. IsOutOfMemory e.error → (z : Zone) × IsExtendedZone text.now z) }
+    {
+        let rule = TransitionRule::parse_tz_string(text, true)?;
         TimeZone::of_rule(alloc, rule)
     }
 
-    fn of_rule(alloc: Global, rule: TransitionRule) -> Result<TimeZone, Error>
-        ensures { MatchResult result (λ z. z ≡ posix_zone rule) (λ e. IsOutOfMemory e) }
+    fn utc_zone(alloc: Global) -> Result<TimeZone, ParseError>
+        ensures { MatchResult result
+            (λ z. z ≡ plain_zone (pos 0))
+            (λ e. IsOutOfMemory e.error × (e.position ≡ None)) }
+    {
+        Ok(TimeZone::utc(alloc)?)
+    }
+
+    fn of_rule(alloc: Global, rule: TransitionRule) -> Result<TimeZone, ParseError>
+        ensures { MatchResult result
+            (λ z. z ≡ posix_zone rule)
+            (λ e. IsOutOfMemory e.error × (e.position ≡ None)) }
     {
         let types = types_of(alloc, &rule)?;
         Ok(TimeZone::with_rule(types, Some(rule)))
+    }
+}
+
+// The rule of a text without the white space at its ends.
+fn read_trimmed(text: &str) -> Result<TransitionRule, ParseError>
+    ensures { IsTrimmedRule text.now result }
+{
+    let start = text.trim_ascii_start();
+    match TransitionRule::parse_tz_string(text.trim_ascii().as_bytes(), false) {
+        Ok(rule) => Ok(rule),
+        Err(fault) => Err(ParseError {
+            error: fault.error,
+            position: place_in(text.len(), start.len(), fault.position),
+        }),
+    }
+}
+
+// The place, if it is that many bytes behind the start of the bytes that are left.
+fn place_in(len: usize, left: usize, place: Option<usize>) -> Option<usize>
+    ensures { result ≡ option_map (λ p. len - (left - p)) place }
+{
+    match place {
+        Some(place) => Some(len.saturating_sub(left.saturating_sub(place))),
+        None => None,
     }
 }
 

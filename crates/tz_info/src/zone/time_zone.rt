@@ -4,13 +4,13 @@
 ghost use Rattle.tz_info.specs.Zones.{IsValid, IsRuleOrNone};
 
 use crate::rule::TransitionRule;
-use crate::zone::change_table::ChangeTable;
-use crate::zone::extremes::Extremes;
-use crate::zone::index::Index;
-use crate::zone::last_span::LastSpan;
-use crate::zone::leap_second::LeapSecond;
-use crate::zone::leap_seconds::LeapSeconds;
-use crate::zone::transition::Transition;
+use crate::zone::lists::leap_second::LeapSecond;
+use crate::zone::lists::leap_seconds::LeapSeconds;
+use crate::zone::lists::transition::Transition;
+use crate::zone::made::change_table::ChangeTable;
+use crate::zone::made::extremes::Extremes;
+use crate::zone::made::index::Index;
+use crate::zone::made::last_span::LastSpan;
 use std::fmt;
 use std::marker::Model;
 use tz_base::LocalTimeType;
@@ -76,8 +76,8 @@ impl PartialEq for TimeZone {
     ghost use Rattle.std.specs.Cmp.{partial_equiv_from_equiv};
     ghost use Rattle.tz_base.specs.contracts.local_time_type.LocalTimeTypeEq.TheImpl.Laws.{laws-law as types};
     ghost use Rattle.tz_info.specs.ZoneEquality.{zone_eq, zone_eq_equiv};
-    ghost use Rattle.tz_info.specs.contracts.zone.transition.TransitionEq.TheImpl.Laws.{laws-law as transitions};
-    ghost use Rattle.tz_info.specs.contracts.zone.leap_second.LeapSecondEq.TheImpl.Laws.{laws-law as leaps};
+    ghost use Rattle.tz_info.specs.contracts.zone.lists.transition.TransitionEq.TheImpl.Laws.{laws-law as transitions};
+    ghost use Rattle.tz_info.specs.contracts.zone.lists.leap_second.LeapSecondEq.TheImpl.Laws.{laws-law as leaps};
     ghost use Rattle.tz_info.specs.contracts.rule.transition_rule.TransitionRuleEq.TheImpl.Laws.{laws-law as rules};
 
     ghost eq = { zone_eq ⟦<Transition as PartialEq>⟧.eq ⟦<LocalTimeType as PartialEq>⟧.eq
@@ -96,8 +96,8 @@ impl PartialEq for TimeZone {
 impl Eq for TimeZone {
     ghost use Rattle.tz_base.specs.contracts.local_time_type.LocalTimeTypeEq.TheImpl.Laws.{laws-law as types};
     ghost use Rattle.tz_info.specs.ZoneEquality.{zone_eq_equiv};
-    ghost use Rattle.tz_info.specs.contracts.zone.transition.TransitionEq.TheImpl.Laws.{laws-law as transitions};
-    ghost use Rattle.tz_info.specs.contracts.zone.leap_second.LeapSecondEq.TheImpl.Laws.{laws-law as leaps};
+    ghost use Rattle.tz_info.specs.contracts.zone.lists.transition.TransitionEq.TheImpl.Laws.{laws-law as transitions};
+    ghost use Rattle.tz_info.specs.contracts.zone.lists.leap_second.LeapSecondEq.TheImpl.Laws.{laws-law as leaps};
     ghost use Rattle.tz_info.specs.contracts.rule.transition_rule.TransitionRuleEq.TheImpl.Laws.{laws-law as rules};
 
     ghost laws = { zone_eq_equiv transitions types leaps rules };

@@ -1,4 +1,4 @@
-//! Where a fault is.
+//! The position of a fault.
 
 ghost use Rattle.std.specs.Prelude.{◌≡◌, IfOk, OnErr};
 

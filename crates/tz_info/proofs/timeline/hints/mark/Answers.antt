@@ -10,7 +10,7 @@ seconds_between-requires g c =
     let time = c.second.ensures ∙ time_read g.T.Timed.time c.args.items.now c.loop-place.place c.index-items-place.result c.loop-place-test.true c.index-items-place.is in
     omega (arith, ints)
 
--- the stretch of the item, which has a slot behind it
+-- the stretch of the item, which has a slot after it
 slot : (g : Over) (c : goal.After-seconds_between g) → c.seconds_between.result / 2 ^ c.args.shift ≡ stretch_of c.args.first (item_time (map g.T.Timed.time c.args.items.now) c.loop-place.place) c.args.shift
 slot g c =
     let ff = c.ranges.first in

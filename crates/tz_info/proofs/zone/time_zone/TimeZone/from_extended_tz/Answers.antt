@@ -1,10 +1,7 @@
-use Rattle.tz_info.proofs.{Words.{IsExtendedZone, arith, err_from_is_err_and, refl, true}, PosixLaws.{zone_memory}, TextLaws.{text_low}}
+use Rattle.tz_info.proofs.Words.{err_from_is_err_and}
 use Rattle.tz_info.proofs.zone.time_zone.TimeZone.from_extended_tz.Goals as goal
 
-pub returns-clause-memory : goal.returns-clause-memory
-returns-clause-memory c = zone_memory (IsExtendedZone c.args.text.now) _ c.of_rule.result (c.in_ok-rule.rule, c.in_ok-rule.ensures.found, refl)
-
-pub returns-in_err-rule-clause-memory : goal.returns-in_err-rule-clause-memory
-returns-in_err-rule-clause-memory c =
+pub returns-in_err-parse_extended_tz-clause-only : goal.returns-in_err-parse_extended_tz-clause-only
+returns-in_err-parse_extended_tz-clause-only c z spelled =
     let p = err_from_is_err_and c.from_residual.result c.from_residual.ensures.1 in
-    rw (p.1, p.2) (λ m. let low = text_low true c.args.text.now _ c.in_err-rule.ensures.fault in absurd (omega (arith, m, low)))
+    rw (p.1, p.2) (c.in_err-parse_extended_tz.ensures.only z spelled)

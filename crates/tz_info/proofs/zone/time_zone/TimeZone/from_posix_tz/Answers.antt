@@ -1,33 +1,7 @@
-use Rattle.tz_info.proofs.Words.{IsPosixZone, err_from_is_err_and, inl, inr, refl}
-use Rattle.tz_info.proofs.PosixLaws.{fault_of_text, fault_or_zone, is_empty, only_found, refused_memory, zone_found, zone_memory, zone_of_text}
+use Rattle.tz_info.proofs.Words.{err_from_is_err_and}
 use Rattle.tz_info.proofs.zone.time_zone.TimeZone.from_posix_tz.Goals as goal
 
-pub returns-clause-found : goal.returns-clause-found
-returns-clause-found c =
-    let zone = zone_of_text c.args.text.now c.trim_ascii.result.now c.in_ok-rule.rule _ c.is_empty.ensures c.if-is_empty.false c.trim_ascii.ensures.value (rw c.as_bytes.ensures.value at c.in_ok-rule.ensures.found) in
-    zone_found c.args.text.now _ c.of_rule.result zone c.of_rule.ensures
-
-pub returns-clause-only : goal.returns-clause-only
-returns-clause-only c =
-    let zone = zone_of_text c.args.text.now c.trim_ascii.result.now c.in_ok-rule.rule _ c.is_empty.ensures c.if-is_empty.false c.trim_ascii.ensures.value (rw c.as_bytes.ensures.value at c.in_ok-rule.ensures.found) in
-    only_found c.args.text.now _ c.of_rule.result zone c.of_rule.ensures
-
-pub returns-clause-memory : goal.returns-clause-memory
-returns-clause-memory c = zone_memory (IsPosixZone c.args.text.now) _ c.of_rule.result (zone_of_text c.args.text.now c.trim_ascii.result.now c.in_ok-rule.rule _ c.is_empty.ensures c.if-is_empty.false c.trim_ascii.ensures.value (rw c.as_bytes.ensures.value at c.in_ok-rule.ensures.found))
-
-pub returns-in_err-rule-clause-only : goal.returns-in_err-rule-clause-only
-returns-in_err-rule-clause-only c z p =
-    absurd (fault_or_zone c.args.text.now _ z (fault_of_text c.args.text.now c.trim_ascii.result.now _ _ c.is_empty.ensures c.if-is_empty.false c.trim_ascii.ensures.value (rw c.as_bytes.ensures.value at c.in_err-rule.ensures.fault)) p)
-
-pub returns-in_err-rule-clause-fault : goal.returns-in_err-rule-clause-fault
-returns-in_err-rule-clause-fault c =
+pub returns-in_err-parse_posix_tz-clause-only : goal.returns-in_err-parse_posix_tz-clause-only
+returns-in_err-parse_posix_tz-clause-only c z spelled =
     let p = err_from_is_err_and c.from_residual.result c.from_residual.ensures.1 in
-    rw (p.1, p.2) (inr (fault_of_text c.args.text.now c.trim_ascii.result.now _ _ c.is_empty.ensures c.if-is_empty.false c.trim_ascii.ensures.value (rw c.as_bytes.ensures.value at c.in_err-rule.ensures.fault)))
-
-pub returns-in_err-rule-clause-memory : goal.returns-in_err-rule-clause-memory
-returns-in_err-rule-clause-memory c =
-    let p = err_from_is_err_and c.from_residual.result c.from_residual.ensures.1 in
-    rw (p.1, p.2) (refused_memory c.args.text.now _ (fault_of_text c.args.text.now c.trim_ascii.result.now _ _ c.is_empty.ensures c.if-is_empty.false c.trim_ascii.ensures.value (rw c.as_bytes.ensures.value at c.in_err-rule.ensures.fault)))
-
-pub returns-then-is_empty-clause-memory : goal.returns-then-is_empty-clause-memory
-returns-then-is_empty-clause-memory c = zone_memory (IsPosixZone c.args.text.now) _ c.utc.result (inl (is_empty c.args.text.now c.is_empty.result c.is_empty.ensures c.if-is_empty.true, refl))
+    rw (p.1, p.2) (c.in_err-parse_posix_tz.ensures.only z spelled)

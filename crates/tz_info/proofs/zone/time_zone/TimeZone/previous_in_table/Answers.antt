@@ -3,7 +3,7 @@ use Rattle.tz_info.specs.Steps.Entries.{AreEntries}
 use Rattle.tz_info.proofs.zone.time_zone.TimeZone.previous_in_table.Goals.{After-count-count}
 use Rattle.tz_info.proofs.zone.time_zone.TimeZone.previous_in_table.Goals as goal
 
--- the zone is valid, these are its entries, and so many have come
+-- the zone is valid, these are its entries, and the count is of those that have come
 given : (c : After-count-count) → IsValid c.args.self.now × AreEntries c.args.self.now c.self.inside.changes × (c.count-count.result ≡ length (passed c.self.inside.changes.items c.args.last))
 given c = let fa = c.ranges.last in (rw (← c.self.view_is) c.self.invariant.valid, rw (← c.self.view_is) c.self.invariant.list, simp to_z-of_z at c.count-count.ensures.count)
 

@@ -1,0 +1,5 @@
+use Rattle.tz_info.proofs.{Words.{IsTrue, map, ◌↔◌}, TableSearch.{StandUntil}}
+use Rattle.tz_info.proofs.zone.lists.valid.are_transitions.Given as goal
+
+abbrev pub invariant-loop-place : goal.invariant-loop-place
+invariant-loop-place g l = IsTrue l.all_stand ↔ StandUntil l.type_count (map g.T.AsTransition.transition l.transitions) l.place

@@ -1,0 +1,16 @@
+use Rattle.tz_info.proofs.Words.{ap, arith, digits-le, length, length-take, sym, to_z-of_z, ◌∙◌}
+use Rattle.tz_info.proofs.{EntryChanges.{none_passed}}
+use Rattle.tz_info.proofs.zone.made.change_table.ChangeTable.count.Goals as goal
+
+pub passed-requires : goal.passed-requires
+passed-requires c = let n = c.len.ensures.count in let p = c.new.ensures in grind (arith, digits-le)
+
+pub returns-then-len-eq0-clause-count : goal.returns-then-len-eq0-clause-count
+returns-then-len-eq0-clause-count c = let fs = c.ranges.second in rw (← c.self.view_is) (none_passed c.self.inside.entries c.args.second (sym c.len.ensures.count ∙ c.if-len-eq0.true))
+
+pub returns-clause-count : goal.returns-clause-count
+returns-clause-count c =
+    let fs = c.ranges.second in
+    let f = c.passed.ensures in
+    let within = f.within in
+    rw (← c.self.view_is) (sym (ap length (simp to_z-of_z at f.passed) ∙ (simp length-take (omega arith))))

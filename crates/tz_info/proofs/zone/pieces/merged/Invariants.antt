@@ -1,8 +1,0 @@
-use Rattle.tz_info.proofs.{Words.{together, ◌+◌, ◌≡◌}, WallPieces.{Merging}}
-use Rattle.tz_info.proofs.zone.pieces.merged.Given as goal
-
-abbrev pub invariant-loop-step : goal.invariant-loop-step
-invariant-loop-step l = record {
-  merging : Merging together l.before_first l.first l.before_last l.last l.pieces.items l.i l.j;
-  step : l.i + l.j ≡ l._step;
-}

@@ -1,0 +1,18 @@
+//! What a zone is asked: by instant, by local time, and from change to change.
+
+pub(crate) mod all_changes;
+mod changes;
+pub(crate) mod differences;
+mod folds;
+mod gap;
+mod leap_times;
+mod lookup;
+pub(crate) mod lookups;
+pub(crate) mod offset_stretch;
+pub(super) mod runs;
+mod segment_search;
+pub(crate) mod shown_seconds;
+mod span;
+mod typed;
+mod walk;
+mod wall_clock;

@@ -1,0 +1,184 @@
+//! When clocks change: the next change of the type in force, and the previous one.
+//!
+//! Before the last transition only an entry of the change table can change the type, and each does.
+//! After it only the rule can. What the last transition itself changes is asked.
+
+ghost use Rattle.std.specs.Prelude.{◌≡◌, ◌≢◌, ◌<◌, length, pos, neg_ℤ, ◌<ℤ◌, ◌≤ℤ◌, MatchOption, Some};
+ghost use Rattle.std.specs.Prelude.{option_map};
+ghost use Rattle.tz_info.specs.Changes.{IsChange, HasNoChange, IsFirst, IsLast, IsNearest};
+ghost use Rattle.tz_info.specs.Rules.{Alternate as AlternateRule};
+ghost use Rattle.tz_info.specs.Steps.Changes.{IsAhead, IsBegin, IsChangeByRule};
+ghost use Rattle.tz_info.specs.Steps.Changes.{IsInTable};
+ghost use Rattle.tz_info.specs.HeldChanges.{change_held};
+ghost use Rattle.tz_info.specs.Zones.{HasType, TypeAt};
+ghost use Rattle.tz_info.specs.declared.rule.transition_rule.TransitionRule.TheVariants.{Alternate};
+
+use crate::change::{HeldChange, change_between, copied, held};
+use crate::rule::{AlternateTime, TransitionRule};
+use crate::timeline::Probes;
+use crate::zone::TimeZone;
+use tz_base::{Change, LocalTimeType};
+
+impl TimeZone {
+    /// The first change of the clocks after that second, or `None` if none comes at a later second
+    /// of 64 bits.
+    ///
+    /// A transition that changes nothing is no change, and what a rule does after the last
+    /// transition is. It takes no memory. A run of transitions that change nothing is stepped over
+    /// at once.
+    ///
+    /// ```
+    /// let zone = TimeZone::from_posix_tz(alloc, "EST5EDT,M3.2.0,M11.1.0")?;
+    /// let change = zone.next_change(1_609_459_200)?;    // from 2021-01-01 00:00:00 UTC on
+    /// let at = change.at;                               // 1615705200: 14 March, 02:00 EST
+    /// let name = change.after.name();                   // EDT
+    /// ```
+    pub fn next_change(&self, after: i64) -> Option<Change>
+        ensures { IsFirst (TypeAt self.now) (λ u. after <ℤ u) result }
+    {
+        copied(self.next_held_change(after))
+    }
+
+    /// As [`TimeZone::next_change`], with references to the zone's types.
+    #[inline(always)]
+    pub fn next_held_change(&self, after: i64) -> Option<HeldChange<'_>>
+        ensures { IsFirst (TypeAt self.now) (λ u. after <ℤ u) (option_map change_held result) }
+    {
+        let _ = &self.changes;
+        if self.last_span.has_begun(after) {
+            return None;
+        }
+        match self.next_in_table(after) {
+            Some(change) => Some(change),
+            None => self.change_by_rule(after, true),
+        }
+    }
+
+    // The first change with an entry after the second.
+    #[inline(always)]
+    fn next_in_table(&self, after: i64) -> Option<HeldChange<'_>>
+        ensures { IsFirst (TypeAt self.now) (IsInTable self.now (λ u. after <ℤ u))
+            (option_map change_held result) }
+    {
+        let _ = &self.changes;
+        let place = self.changes.count(after);
+        if place == self.changes.len() {
+            return None;
+        }
+        if self.changes.is_last(place) {
+            return self.change_at(self.changes.second(place));
+        }
+        self.changes.change_at(&self.local_types, place)
+    }
+
+    // The nearest change ahead of the second in that direction, of those that come after all
+    // transitions.
+    fn change_by_rule(&self, second: i64, forward: bool) -> Option<HeldChange<'_>>
+        ensures { IsNearest forward (TypeAt self.now) (IsChangeByRule self.now (IsAhead forward second))
+            (option_map change_held result) }
+    {
+        let _ = &self.changes;
+        let turns = self.turns()?;
+        let begin = self.rule_begin();
+        if begin > i64::MAX as i128 {
+            return None;
+        }
+        turns.nearest_change(begin as i64, second, forward, &mut Probes::new())
+    }
+
+    /// The last change of the clocks at that second or before it, or `None` if none comes at such a
+    /// second of 64 bits.
+    ///
+    /// ```
+    /// let zone = TimeZone::from_posix_tz(alloc, "EST5EDT,M3.2.0,M11.1.0")?;
+    /// let change = zone.previous_change(1_609_459_200)?; // up to 2021-01-01 00:00:00 UTC
+    /// let at = change.at;                                // 1604210400: 1 November, 02:00 EDT
+    /// ```
+    pub fn previous_change(&self, before_or_at: i64) -> Option<Change>
+        ensures { IsLast (TypeAt self.now) (λ u. u ≤ℤ before_or_at) result }
+    {
+        copied(self.previous_held_change(before_or_at))
+    }
+
+    /// As [`TimeZone::previous_change`], with references to the zone's types.
+    #[inline(always)]
+    pub fn previous_held_change(&self, before_or_at: i64) -> Option<HeldChange<'_>>
+        ensures { IsLast (TypeAt self.now) (λ u. u ≤ℤ before_or_at)
+            (option_map change_held result) }
+    {
+        if self.last_span.has_begun(before_or_at) {
+            return held(&self.last_span.begin);
+        }
+        match self.change_by_rule(before_or_at, false) {
+            Some(change) => Some(change),
+            None => self.previous_in_table(before_or_at),
+        }
+    }
+
+    // The last change with an entry at the second or before it.
+    #[inline(always)]
+    fn previous_in_table(&self, last: i64) -> Option<HeldChange<'_>>
+        ensures { IsLast (TypeAt self.now) (IsInTable self.now (λ u. u ≤ℤ last))
+            (option_map change_held result) }
+    {
+        let _ = &self.changes;
+        let count = self.changes.count(last);
+        if count == 0 {
+            return None;
+        }
+        if !self.changes.is_last(count - 1) {
+            return self.changes.change_at(&self.local_types, count - 1);
+        }
+        if let Some(change) = self.change_at(self.changes.second(count - 1)) {
+            return Some(change);
+        }
+        if count == 1 {
+            return None;
+        }
+        self.changes.change_at(&self.local_types, count - 2)
+    }
+
+    // The rule, if it has two types.
+    pub(in crate::zone) fn turns(&self) -> Option<&AlternateTime>
+        ensures { MatchOption result ((a : AlternateRule) → self.now.rule ≢ Some (Alternate a))
+            (λ a. self.now.rule ≡ Some (Alternate a.now)) }
+    {
+        match &self.last_rule {
+            Some(TransitionRule::Alternate(turns)) => Some(turns),
+            _ => None,
+        }
+    }
+
+    pub(in crate::zone) fn listed(&self, index: usize) -> &LocalTimeType
+        requires { index < length self.now.types }
+        ensures { HasType self.now index result.now }
+    {
+        &self.local_types[index]
+    }
+
+    // The change at that second, if there is one.
+    fn change_at(&self, second: i64) -> Option<HeldChange<'_>>
+        ensures { MatchOption (option_map change_held result)
+            (HasNoChange (TypeAt self.now) (λ u. u ≡ second))
+            (λ c. IsChange (TypeAt self.now) c × (c.at ≡ second)) }
+    {
+        let second_before = second.checked_sub(1)?;
+        let Ok(before) = self.find_local_time_type(second_before) else {
+            return None;
+        };
+        let Ok(after) = self.find_local_time_type(second) else {
+            return None;
+        };
+        change_between(second, before, after)
+    }
+
+    // The first second at which all transitions have come, or the first one of 64 bits if there is
+    // no transition.
+    pub(in crate::zone) fn rule_begin(&self) -> i128
+        ensures begin { IsBegin self.now result }
+        ensures bound { neg_ℤ (pos 9_223_372_036_854_775_808) ≤ℤ result }
+    {
+        let _ = &self.changes;
+        self.changes.rule_begin()
+    }
+}

@@ -1,0 +1,312 @@
+//! When clocks show certain local times: the first and the last second of a day or of any other
+//! stretch of local time, and the first second at or after a local time.
+
+ghost use Rattle.std.specs.Prelude.{◌≡◌, pos, ◌+ℤ◌, ◌*ℤ◌, ◌-ℤ◌, ◌≤ℤ◌, ◌<ℤ◌, ℤ, Contains};
+ghost use Rattle.std.specs.Prelude.{MatchOption, if◌then◌else◌, ◌*◌, length};
+ghost use Rattle.naive_base.specs.NaiveDate.{day_of};
+ghost use Rattle.naive_base.specs.NaiveDateTime.{reading};
+ghost use Rattle.naive_base.specs.Range.{IsWide};
+ghost use Rattle.tz_info.specs.Leaps.{IsNear};
+ghost use Rattle.tz_info.specs.ShownSeconds.{IsNeverWithin, AreShownWithin, IsFirstAtOrAfter};
+ghost use Rattle.tz_info.specs.Steps.Runs.{ArePartFrom, AreWithin, HaveOneTypeFrom, IsEnd, IsBeyondJumps, IsEndOfRun};
+ghost use Rattle.tz_info.specs.Steps.Runs.{IsEndWithin, IsNextRun};
+ghost use Rattle.tz_info.specs.Steps.WallPieces.{IsTableLess};
+ghost use Rattle.tz_info.specs.Windows.{rule_offsets};
+ghost use Rattle.tz_info.specs.Zones.{TypeAt};
+ghost use Rattle.tz_info.specs.Counts.{HasRoom, RoseWithin};
+ghost use Rattle.tz_info.specs.Digits.{digits};
+
+use crate::answers::second_showing;
+use crate::change::TypedSecond;
+use crate::rule::TransitionRule;
+use crate::timeline::Probes;
+use crate::zone::ask::runs::{end_by, first_of_run, last_of_run, start_by};
+use crate::zone::ask::segment_search::{first_of, first_reaching};
+use crate::zone::made::extremes::Extremes;
+use crate::zone::made::segment_ends::later;
+use crate::zone::time_zone::TimeZone;
+use naive_base::{NaiveDate, NaiveDateTime, NaiveTime};
+use tz_base::LocalTimeType;
+
+/// The first and the last second at which clocks show a local time of a certain stretch, such as a
+/// day. If clocks are set back, some seconds between the two may show other local times.
+#[derive(Clone, Copy, Debug, PartialEq, Eq)]
+pub struct ShownSeconds {
+    /// The first second.
+    pub first: TypedSecond,
+    /// The last second, which still shows a local time of the stretch.
+    pub last: TypedSecond,
+}
+
+// The seconds from `low` to before `high`.
+#[derive(Clone, Copy)]
+struct Interval {
+    low: i64,
+    high: i64,
+}
+
+impl TimeZone {
+    /// Returns the first and the last second at which a clock of this zone shows a local time from
+    /// `from` to before `until`, both in whole seconds; `None` if no clock ever does.
+    ///
+    /// The search goes over the changes of the clocks that come in that stretch, or within the
+    /// zone's offsets from it, and takes no memory.
+    pub fn find_seconds_within(
+        &self,
+        from: NaiveDateTime,
+        until: NaiveDateTime,
+    ) -> Option<ShownSeconds>
+        ensures { AreShownWithin (TypeAt self.now) (reading from).s (reading until).s result }
+    {
+        self.seconds_between(from.secs_since_epoch(), until.secs_since_epoch())
+    }
+
+    /// Returns the first and the last second at which a clock of this zone shows that date; `None`
+    /// if clocks were set forward over the whole day.
+    ///
+    /// An ordinary day has 86,400 seconds. Two days may overlap: if clocks are set back over
+    /// midnight, they show the old date again after they have shown the new one.
+    ///
+    /// ```
+    /// let apia = TimeZone::from_tz_data(alloc, bytes)?;
+    /// let skipped = apia.find_seconds_of_day(NaiveDate::from_ymd_opt(2011, 12, 30)?); // None: skipped
+    /// let day = apia.find_seconds_of_day(NaiveDate::from_ymd_opt(2011, 12, 31)?)?;
+    /// let at = day.first.at; // 1325239200: 2011-12-30 10:00:00 UTC
+    /// ```
+    pub fn find_seconds_of_day(&self, date: NaiveDate) -> Option<ShownSeconds>
+        ensures { AreShownWithin (TypeAt self.now)
+            (pos 86_400 *ℤ day_of date) (pos 86_400 *ℤ day_of date +ℤ pos 86_400) result }
+    {
+        let midnight = date.and_time(NaiveTime::MIN).secs_since_epoch();
+        self.seconds_between(midnight, midnight + 86_400)
+    }
+
+    /// Returns the first second at which a clock of this zone shows that local time, in whole
+    /// seconds, or a later one.
+    ///
+    /// If the local time lies in a gap, it is the second at which the gap ends; in a fold, the
+    /// first of its two seconds. A later local time never has an earlier answer. So the seconds of
+    /// midnights divide time into days, each of which lasts until the next one begins.
+    ///
+    /// ```
+    /// let local = NaiveDate::from_ymd_opt(2021, 3, 14)?.and_hms_opt(2, 30, 0)?; // in a gap
+    /// let at = new_york.find_first_at_or_after(local).at; // 1615705200: 03:00 EDT
+    /// ```
+    pub fn find_first_at_or_after(&self, local: NaiveDateTime) -> TypedSecond
+        ensures { IsFirstAtOrAfter (TypeAt self.now) (reading local).s
+            result.at result.local_time_type }
+    {
+        self.find_first_at_or_after_counted(local, &mut Probes::new())
+    }
+
+    /// As [`TimeZone::find_first_at_or_after`], and counts the probes of the zone's transitions: at
+    /// most twice as many as the number of transitions has binary digits. From the last transition
+    /// on, the search goes over the rule's changes near the local time, which are not counted.
+    ///
+    /// Requires: [`Probes::has_room`].
+    pub fn find_first_at_or_after_counted(
+        &self,
+        local: NaiveDateTime,
+        probes: &mut Probes,
+    ) -> TypedSecond
+        requires { HasRoom probes.old }
+        ensures found { IsFirstAtOrAfter (TypeAt self.now) (reading local).s
+            result.at result.local_time_type }
+        ensures cost { RoseWithin probes.old probes.new
+            (2 * digits (length self.now.transitions)) 0 }
+    {
+        self.first_at_or_after(local.secs_since_epoch(), probes)
+    }
+
+    // The first second at which a clock shows that local time or a later one.
+    pub(super) fn first_at_or_after(&self, local: i64, probes: &mut Probes) -> TypedSecond
+        requires local { IsWide local }
+        requires room { HasRoom probes.old }
+        ensures found { IsFirstAtOrAfter (TypeAt self.now) local
+            result.at result.local_time_type }
+        ensures cost { RoseWithin probes.old probes.new
+            (2 * digits (length self.now.transitions)) 0 }
+    {
+        let _ = (self.extremes.least, self.extremes.greatest);
+        let place = first_reaching(&self.local_types, &self.changes, &self.index, local, probes);
+        if self.changes.has_segment(place, &self.last_rule) {
+            return first_of(&self.local_types, &self.changes, place, local, probes);
+        }
+        self.first_by_rule(local)
+    }
+
+    // The same if clocks show less at all seconds before the last transition.
+    fn first_by_rule(&self, local: i64) -> TypedSecond
+        requires local { IsWide local }
+        requires less { IsTableLess self.now local }
+        ensures { IsFirstAtOrAfter (TypeAt self.now) local result.at result.local_time_type }
+    {
+        let _ = &self.changes;
+        let until = self.beyond_jumps(local);
+        let all = self.seconds_around(local, until);
+        let shown = first_by_offsets(&self.last_rule, local);
+        let left = all.from(later(self.index.rule_from(), shown));
+        match self.end_in(left, local, until, true) {
+            Some(first) => first,
+            None => unreachable!(),
+        }
+    }
+
+    // A local time so much later that clocks cannot be set forward over all those between.
+    fn beyond_jumps(&self, from: i64) -> i64
+        requires { IsWide from }
+        ensures beyond { IsBeyondJumps self.now from result }
+        ensures end { IsEnd result }
+    {
+        from + self.extremes.greatest as i64 - self.extremes.least as i64 + 1
+    }
+
+    fn seconds_between(&self, from: i64, until: i64) -> Option<ShownSeconds>
+        requires from { IsEnd from }
+        requires until { IsEnd until }
+        ensures { AreShownWithin (TypeAt self.now) from until result }
+    {
+        let first = self.end_within(from, until, true)?;
+        let last = self.end_within(from, until, false)?;
+        Some(ShownSeconds { first, last })
+    }
+
+    // The first second that shows a local time of the stretch, or the last one: goes from run to run
+    // in that direction, until one has such a second.
+    fn end_within(&self, from: i64, until: i64, forward: bool) -> Option<TypedSecond>
+        requires from { IsEnd from }
+        requires until { IsEnd until }
+        ensures { MatchOption result (IsNeverWithin (TypeAt self.now) from until)
+            (λ s. IsEndWithin forward (TypeAt self.now) from until s.at s.local_time_type) }
+    {
+        self.end_in(self.seconds_around(from, until), from, until, forward)
+    }
+
+    // The seconds at which clocks may show a local time of the stretch.
+    fn seconds_around(&self, from: i64, until: i64) -> Interval
+        requires from { IsEnd from }
+        requires until { IsEnd until }
+        ensures { AreWithin self.now from until result.low result.high }
+    {
+        Interval {
+            low: second_showing(from, self.extremes.greatest),
+            high: second_showing(until, self.extremes.least),
+        }
+    }
+
+    // The same of those seconds, which have all that show such a local time.
+    fn end_in(&self, all: Interval, from: i64, until: i64, forward: bool) -> Option<TypedSecond>
+        requires from { IsEnd from }
+        requires until { IsEnd until }
+        requires all { AreWithin self.now from until all.low all.high }
+        ensures { MatchOption result (IsNeverWithin (TypeAt self.now) from until)
+            (λ s. IsEndWithin forward (TypeAt self.now) from until s.at s.local_time_type) }
+    {
+        let mut left = all;
+        while left.low < left.high {
+            let (run, local_type) = self.next_run(left, forward);
+            let since = second_showing(from, local_type.offset());
+            let before = second_showing(until, local_type.offset());
+            if let Some(at) = run.end_between(since, before, forward) {
+                return Some(TypedSecond {
+                    at,
+                    local_time_type: *local_type,
+                });
+            }
+            left = left.without(run, forward);
+        }
+        None
+    }
+
+    // The first run of the interval, or the last one, and its type: the part that the interval has
+    // of the span of its first second, or of its last one.
+    fn next_run(&self, left: Interval, forward: bool) -> (Interval, &LocalTimeType)
+        requires low { IsNear left.low }
+        requires high { IsNear left.high }
+        requires some { left.low <ℤ left.high }
+        ensures run { IsNextRun forward left.low left.high result.0.low result.0.high }
+        ensures one_type { HaveOneTypeFrom (TypeAt self.now)
+            result.0.low result.0.high result.1.now }
+    {
+        let _ = &self.changes;
+        let span = self.near_span_at(left.end(forward));
+        let run = Interval {
+            low: start_by(span.from, left.low),
+            high: end_by(span.until, left.high),
+        };
+        (run, span.local_time_type)
+    }
+}
+
+// The first second at which a clock at an offset of the rule's types shows the local time.
+fn first_by_offsets(rule: &Option<TransitionRule>, local: i64) -> i64
+    requires { IsWide local }
+    ensures { (o : ℤ) → Contains (rule_offsets rule.now) o → result ≤ℤ (local -ℤ o) }
+{
+    match rule {
+        None => local,
+        Some(rule) => {
+            let none = Extremes {
+                least: i32::MAX,
+                greatest: i32::MIN,
+            };
+            second_showing(local, none.with_rule(rule).greatest)
+        }
+    }
+}
+
+impl Interval {
+    // Its seconds from that one on.
+    fn from(self, second: i64) -> Interval
+        ensures { ArePartFrom self.low self.high second result.low result.high }
+    {
+        let low = if second < self.low {
+            self.low
+        } else if second < self.high {
+            second
+        } else {
+            self.high
+        };
+        Interval {
+            low,
+            high: self.high,
+        }
+    }
+
+    // Its first second, or its last one.
+    fn end(self, forward: bool) -> i64
+        requires { IsNear self.high }
+        ensures { result ≡ (if forward then self.low else self.high -ℤ pos 1) }
+    {
+        if forward { self.low } else { self.high - 1 }
+    }
+
+    // The first of its seconds, or the last one, that is `from` or later and comes before `until`.
+    fn end_between(self, from: i64, until: i64, forward: bool) -> Option<i64>
+        ensures { IsEndOfRun forward self.low self.high from until result }
+    {
+        if forward {
+            first_of_run(self.low, self.high, from, until)
+        } else {
+            last_of_run(self.low, self.high, from, until)
+        }
+    }
+
+    // What its first run leaves of it, or its last one.
+    fn without(self, run: Interval, forward: bool) -> Interval
+        ensures low { result.low ≡ (if forward then run.high else self.low) }
+        ensures high { result.high ≡ (if forward then self.high else run.low) }
+    {
+        if forward {
+            Interval {
+                low: run.high,
+                high: self.high,
+            }
+        } else {
+            Interval {
+                low: self.low,
+                high: run.low,
+            }
+        }
+    }
+}

@@ -1,0 +1,99 @@
+//! The pieces of a zone's table in one pass over its entries, where their cuts come in order.
+
+ghost use Rattle.std.specs.Prelude.{◌≡◌, ◌≤ℤ◌, ◌<ℤ◌, ◌-◌, ◌<◌, ◌≤◌, length, IsTrue, IsFalse, MatchOption};
+ghost use Rattle.std.specs.Prelude.{MatchResult, ⊤};
+ghost use Rattle.tz_base.specs.declared.error.Error.TheVariants.{OutOfMemory};
+ghost use Rattle.tz_info.specs.Steps.Pieces.{zone_in, ArePieces, ArePiecesAt, AreCutsCrossed, IsSegment};
+ghost use Rattle.tz_info.specs.Steps.SegmentEnds.{AreEndsRising};
+ghost use Rattle.tz_info.specs.Steps.WallPieces.{IsTable};
+
+use crate::zone::lists::kept::Kept;
+use crate::zone::made::pieces::Piece;
+use crate::zone::made::segments::{Lists, Pieces, Segment, cut_of, segment_at};
+use crate::zone::made::shown::Shown;
+use std::alloc::{AllocError, Global};
+use tz_base::Error;
+
+// The pieces of the first `count` segments, two for each entry. None where an entry does not cut the
+// axis after the one before it, as if the two lie closer together than their offsets differ.
+#[inline(never)]
+pub(super) fn pieces_in_one_pass(
+    alloc: Global,
+    lists: Lists,
+    entries: &[Kept],
+    count: usize,
+) -> Result<Option<Pieces>, Error>
+    requires table { IsTable (zone_in lists) entries.now count }
+    requires some { 0 < length entries.now }
+    requires count { length entries.now ≤ count }
+    ensures { MatchResult result
+        (λ made. MatchOption made (AreCutsCrossed lists.entry.types.now entries.now)
+        (λ s. ArePieces (zone_in lists.entry) entries.now 0 count s.before s.pieces.items
+        × AreEndsRising lists.entry.types.now entries.now))
+        (λ e. e ≡ OutOfMemory) }
+{
+    let mut pieces = Vec::with_capacity(alloc, entries.len() + count - 1)?;
+    let mut latest = i64::MIN;
+    let mut before = segment_at(lists.types, entries, 0);
+    for place in 1..count {
+        let behind = segment_at(lists.types, entries, place);
+        let (first, last) = pieces_at(lists, entries, place, before, behind)?;
+        if is_crossed(place, latest, first.start) {
+            return Ok(None);
+        }
+        latest = last.start;
+        pieces.push_reserved(first);
+        pieces.push_reserved(last);
+        before = behind;
+    }
+    if count == entries.len() {
+        let end = cut_of(entries, count, before.offset);
+        if is_crossed(count, latest, end) {
+            return Ok(None);
+        }
+        let piece = Piece::new(end, Shown::Less)?;
+        pieces.push_reserved(piece);
+    }
+    Ok(Some(Pieces {
+        before: Shown::Once(segment_at(lists.types, entries, 0).index),
+        pieces,
+    }))
+}
+
+// Whether the next cut, at that place, does not come after the latest, if there is one.
+#[inline(always)]
+fn is_crossed(place: usize, latest: i64, cut: i64) -> bool
+    ensures crossed { IsTrue result → (1 < place) × (cut ≤ℤ latest) }
+    ensures behind { IsFalse result → 1 < place → latest <ℤ cut }
+{
+    place > 1 && cut <= latest
+}
+
+// The pieces at the entry between the segment at that place and the one before: in a gap neither
+// shows the local time, in a fold both do.
+#[inline(always)]
+fn pieces_at(
+    lists: Lists,
+    entries: &[Kept],
+    place: usize,
+    before: Segment,
+    behind: Segment,
+) -> Result<(Piece, Piece), AllocError>
+    requires some { 0 < place }
+    requires place { place ≤ length entries.now }
+    requires before { IsSegment lists.types.now entries.now (place - 1) before }
+    requires behind { IsSegment lists.types.now entries.now place behind }
+    ensures { MatchResult result
+        (λ made. ArePiecesAt lists.entry.types.now entries.now place made.0 made.1) (λ _. ⊤) }
+{
+    let end = cut_of(entries, place, before.offset);
+    let start = cut_of(entries, place, behind.offset);
+    let (first, answer, last) = if end <= start {
+        (end, Shown::Skipped(place), start)
+    } else {
+        (start, Shown::Several(before.index, behind.index), end)
+    };
+    let earlier = Piece::new(first, answer)?;
+    let later = Piece::new(last, Shown::Once(behind.index))?;
+    Ok((earlier, later))
+}

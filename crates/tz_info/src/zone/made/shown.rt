@@ -1,0 +1,99 @@
+//! What neighbouring segments show of a local time.
+
+ghost use Rattle.std.specs.Prelude.{◌≡◌, ◌<◌, ◌≤◌, ◌⊎◌, MatchResult};
+ghost use Rattle.tz_info.specs.Steps.Shown.{HasGreatNumber, together, unpacked};
+
+use std::alloc::AllocError;
+use std::marker::Model;
+
+// Places and indexes from this number on aren't packed.
+const TOO_GREAT: usize = 1 << 30;
+
+// What a clock shows of a local time in the segments, by indexes of types.
+#[derive(Clone, Copy, Debug)]
+pub(in crate::zone) enum Shown {
+    // Less at all seconds.
+    Less,
+    // Less at all seconds before the segment at that place, and more at its first one.
+    Skipped(usize),
+    // The local time itself, at one second.
+    Once(usize),
+    // The local time itself: the types at the first and at the last second.
+    Several(usize, usize),
+}
+
+// The same in eight bytes: the first number and which of the four it is, and the second number.
+#[derive(Debug, Drop)]
+pub(in crate::zone) struct Packed {
+    first: u32,
+    second: u32,
+}
+
+impl Model for Packed {
+    ghost use Rattle.std.specs.Prelude.{◌/◌, ◌%◌};
+    ghost use Rattle.tz_info.specs.declared.zone.made.shown.Shown.{Shown};
+    ghost use Rattle.tz_info.specs.Steps.Shown.{unpacked};
+
+    ghost Value = { Shown };
+
+    ghost view = { λ p. unpacked (p.first % 4) (p.first / 4) p.second };
+}
+
+impl Packed {
+    // What is shown, if its numbers are small enough.
+    #[inline(always)]
+    pub(in crate::zone) fn new(shown: Shown) -> Result<Packed, AllocError>
+        ensures { MatchResult result (λ p. p ≡ shown) (λ _. HasGreatNumber shown) }
+    {
+        match shown {
+            Shown::Less => Packed::of(0, 0, 0),
+            Shown::Skipped(place) => Packed::of(1, place, 0),
+            Shown::Once(only) => Packed::of(2, only, 0),
+            Shown::Several(first, last) => Packed::of(3, first, last),
+        }
+    }
+
+    #[inline(always)]
+    fn of(kind: u32, first: usize, second: usize) -> Result<Packed, AllocError>
+        requires { kind < 4 }
+        ensures { MatchResult result (λ p. p ≡ unpacked kind first second)
+            (λ _. (1_073_741_824 ≤ first) ⊎ (1_073_741_824 ≤ second)) }
+    {
+        if first >= TOO_GREAT || second >= TOO_GREAT {
+            return Err(AllocError);
+        }
+        Ok(Packed {
+            first: first as u32 * 4 + kind,
+            second: second as u32,
+        })
+    }
+
+    #[inline(always)]
+    pub(in crate::zone) fn shown(&self) -> Shown
+        ensures { result ≡ self.now }
+    {
+        let first = (self.first / 4) as usize;
+        let second = self.second as usize;
+        match self.first % 4 {
+            0 => Shown::Less,
+            1 => Shown::Skipped(first),
+            2 => Shown::Once(first),
+            _ => Shown::Several(first, second),
+        }
+    }
+}
+
+// What earlier segments and later ones show together.
+pub(super) fn together(first: Shown, last: Shown) -> Shown
+    ensures { result ≡ together first last }
+{
+    match (first, last) {
+        (Shown::Less, shown) => shown,
+        (shown, Shown::Less) | (shown, Shown::Skipped(_)) => shown,
+        (Shown::Skipped(_), shown) => shown,
+        (
+            Shown::Once(least) | Shown::Several(least, _),
+            Shown::Once(greatest) | Shown::Several(_, greatest),
+        ) => Shown::Several(least, greatest),
+    }
+}
