@@ -61,7 +61,7 @@ header_fits place h (_, _, (_, _, (_, _, (c, (i, j, (k, l, (m, n, (o, p, (q, r, 
 same_factor : (a b c : ℕ) → 0 < c → a * c ≡ b * c → a ≡ b
 same_factor a b c p h = sym (mul-div_cancel a p) ∙ (ap (λ n. n / c) h ∙ mul-div_cancel b p)
 
--- so many transitions, types and leap seconds have room
+-- the numbers of transitions, types and leap seconds fit their fields
 record Limits (p : FilePieces) : Type 0 where
   pub indexes : AreBytes p.parts.type_indexes
   pub types : AreBytes p.parts.types

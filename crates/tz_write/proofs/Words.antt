@@ -23,7 +23,7 @@ pub use Rattle.tz_info.{proofs.Words.{◌||◌, ◌↔◌, ◌∙◌, ◌∷◌,
 pub use Rattle.tz_info.specs.{FilePieces.{later_pieces}, TzGrammar.{clock_max, colon, comma, date_max, day_max, dot, greater, less, letter_J, letter_M, minus}}
 pub use Rattle.tz_info.specs.{TzGrammar.{plus, slash}, declared.file.header.{Counts.{Counts}, Header.{Header}, Place.{Place}, Version.{Version}}}
 pub use Rattle.tz_info.specs.declared.rule.{day.{DayForm.{DayForm}, DayTime.{DayTime}}, transition_rule.TransitionRule.{TransitionRule}}
-pub use Rattle.tz_info.specs.declared.zone.{leap_second.LeapSecond.{LeapSecond}, transition.Transition.{Transition}}
+pub use Rattle.tz_info.specs.declared.zone.lists.{leap_second.LeapSecond.{LeapSecond}, transition.Transition.{Transition}}
 unfoldable pub use Rattle.tz_info.{proofs.Words.{after_first_block, block, file, first_version, later_version}, specs.FileContents.{signed}}
 unfoldable pub use Rattle.tz_info.specs.FileHeaders.{header, six_counts, tzif, version, version_1}
 pub use Rattle.tz_write.specs.FileBytes.{block_bytes, footer_bytes, index_bytes, least_block, least_counts, mark_byte, time_bytes, unused, version_byte}

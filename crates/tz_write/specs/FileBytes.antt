@@ -8,8 +8,8 @@ use Rattle.tz_info.specs.FileBlocks.{Parts}
 use Rattle.tz_info.specs.FileHeaders.{magic}
 use Rattle.tz_info.specs.Zones.{Zone}
 use Rattle.tz_info.specs.declared.file.header.Counts.{Counts}
-use Rattle.tz_info.specs.declared.zone.leap_second.LeapSecond.{LeapSecond}
-use Rattle.tz_info.specs.declared.zone.transition.Transition.{Transition}
+use Rattle.tz_info.specs.declared.zone.lists.leap_second.LeapSecond.{LeapSecond}
+use Rattle.tz_info.specs.declared.zone.lists.transition.Transition.{Transition}
 use Rattle.tz_write.specs.FileDesignations.{name_of, place_of}
 
 -- ---- numbers, the highest byte first

@@ -6,8 +6,8 @@ use Rattle.tz_base.specs.Names.{IsNameOrNone}
 use Rattle.tz_info.specs.TzFiles.{IsTzFile}
 use Rattle.tz_info.specs.Zones.{Zone}
 use Rattle.tz_info.specs.declared.rule.transition_rule.TransitionRule.{TransitionRule}
-use Rattle.tz_info.specs.declared.zone.leap_second.LeapSecond.{LeapSecond}
-use Rattle.tz_info.specs.declared.zone.transition.Transition.{Transition}
+use Rattle.tz_info.specs.declared.zone.lists.leap_second.LeapSecond.{LeapSecond}
+use Rattle.tz_info.specs.declared.zone.lists.transition.Transition.{Transition}
 use Rattle.tz_write.specs.FileBytes.{version_byte, file_bytes}
 use Rattle.tz_write.specs.FileDesignations.{AreNamesIn, AreShortest}
 use Rattle.tz_write.specs.FileLayouts.{IsLaid}

@@ -82,6 +82,11 @@ pub use Rattle.tz_info.specs.FileContents
 pub use Rattle.tz_info.specs.Footers
 pub use Rattle.tz_info.specs.FilePieces
 pub use Rattle.tz_info.specs.TzFiles
+pub use Rattle.tz_saving.specs.Reach
+pub use Rattle.tz_saving.specs.Sides
+pub use Rattle.tz_saving.specs.Candidates
+pub use Rattle.tz_saving.specs.Amounts
+pub use Rattle.tz_saving.specs.Savings
 pub use Rattle.tz_write.specs.WrittenTexts
 pub use Rattle.tz_write.specs.FileDesignations
 pub use Rattle.tz_write.specs.FileLayouts

@@ -148,6 +148,7 @@
 //! | an instant | what its clock shows | [`DateTime::naive_local`], and the fields of [`Datelike`] and [`Timelike`] |
 //! | an instant of a parsed zone | its abbreviation | `instant.offset().name()`: [`ZoneOffset`] |
 //! | an instant of a parsed zone | if it is daylight saving time | `instant.offset().is_dst()` |
+//! | a parsed zone and a second | how much of its offset is daylight saving time | [`daylight_saving`] |
 //! | a parsed zone and a Unix time | the local time type, since when and until when | [`tz_info::TimeZone::span_at`] |
 //! | a borrowed or a kept zone | when its clocks change next | [`TimeZoneRef::next_change`] |
 //! | a borrowed or a kept zone | when they changed last | [`TimeZoneRef::previous_change`] |
@@ -161,7 +162,7 @@
 //! | a date | when its week, month or year starts | [`ZoneDays::start_of_week`], [`ZoneDays::start_of_month`], [`ZoneDays::start_of_year`] |
 //! | an instant | the date of the day that it lies in; when that day starts | [`ZoneDays::date_of`]; [`DateTime::start_of_day`] |
 //! | an instant | the last local time that clocks have shown by then | [`ZoneDays::reached`] |
-//! | an instant | where its day, week, month, year, hour or another [`ClockStep`] begins and ends | [`ZoneDays::floor`], [`ZoneDays::ceil`], [`ZoneDays::step_at`] |
+//! | an instant | when its day, week, month, year, hour or another [`ClockStep`] begins and ends | [`ZoneDays::floor`], [`ZoneDays::ceil`], [`ZoneDays::step_at`] |
 //! | a rule of RFC 5545 and its start | its local times, as a plan | [`Recurrence::new`] |
 //! | local times, or several plans | a plan of them | [`LocalTimes`], [`Union`], [`Intersection`], [`Except`] |
 //! | a plan, such as a line of a crontab ([`Cron`]) | when it fires next, or fired last | [`ZoneDays::next_fire`], [`ZoneDays::first_fire`]; [`ZoneDays::last_fire`], [`ZoneDays::previous_fire`] |
@@ -265,6 +266,7 @@ pub use offset_core::{
 };
 pub use tz_base;
 pub use tz_info;
+pub use tz_saving::{Saving, daylight_saving};
 pub use tz_write::{ToPosixTz, ToTzData, ToTzString, TzText};
 pub use zoned_ref::{
     KeepError, KeptChange, KeptZone, OpenError, TimeZoneRef, WallClock, ZoneChange, ZoneOffset,

@@ -4,7 +4,7 @@ ghost use Rattle.std.specs.Prelude.{◌≡◌, ◌<◌, ◌↔◌, ◌++◌, len
 ghost use Rattle.std.specs.List.{flat_map};
 ghost use Rattle.tz_write.specs.FileBytes.{time_bytes, index_bytes, leap_bytes};
 ghost use Rattle.tz_write.specs.WrittenFiles.{HasIndex, HasTimeOf64Bits, IsEntry};
-ghost use Rattle.tz_info.specs.declared.zone.transition.Transition.{Transition as AnyTransition};
+ghost use Rattle.tz_info.specs.declared.zone.lists.transition.Transition.{Transition as AnyTransition};
 
 use crate::file::numbers::{push_signed_32, push_signed_64};
 use std::alloc::AllocError;

@@ -1,0 +1,6 @@
+pub mod Words
+pub mod SideLaws
+pub mod AmountLaws
+mod Found
+mod Reach
+mod Walks

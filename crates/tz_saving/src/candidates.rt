@@ -1,0 +1,68 @@
+//! Candidates: the amounts that standard time on each side of a second allows.
+
+ghost use Rattle.std.specs.Prelude.{◌≡◌, ◌≢◌, ◌↔◌, pos, true, IsTrue, Some};
+ghost use Rattle.offset_core.specs.Offset.{IsWithinDay};
+ghost use Rattle.tz_info.specs.Zones.{TypeAt};
+ghost use Rattle.tz_saving.specs.Candidates.{AreCandidates, IsOnly, IsCandidate};
+ghost use Rattle.tz_saving.specs.Sides.{IsFound};
+
+use crate::sides::{standard_after, standard_before};
+use tz_info::{LocalTimeType, TimeZone};
+
+// The two candidates of a second at which that type is in force, with the DST flag.
+#[tactic(auto, using(crate::proofs::SideLaws::candidates_found))]
+pub(crate) fn candidates_at(
+    zone: &TimeZone,
+    second: i64,
+    local: &LocalTimeType,
+) -> (Option<i32>, Option<i32>)
+    requires in_force { TypeAt zone.now second local.now }
+    requires flagged { local.now.dst ≡ true }
+    ensures { AreCandidates (TypeAt zone.now) zone.now.rule second local.now.offset result.0 result.1 }
+{
+    let before = standard_before(zone, second, local);
+    let after = standard_after(zone, second, local);
+    let offset = local.offset();
+    (candidate_of(offset, before), candidate_of(offset, after))
+}
+
+// The candidate by a standard offset, if one was found.
+fn candidate_of(offset: i32, standard: Option<i32>) -> Option<i32>
+    ensures { IsFound (IsCandidate (λ s. standard ≡ Some s) offset) result }
+{
+    match standard {
+        Some(standard) => candidate(offset, standard),
+        None => None,
+    }
+}
+
+// How far the offset is from a standard offset, unless that is 0, or a day or more.
+fn candidate(offset: i32, standard: i32) -> Option<i32>
+    ensures { IsFound (IsCandidate (λ s. s ≡ standard) offset) result }
+{
+    let amount = offset as i64 - standard as i64;
+    if is_amount(amount) {
+        Some(amount as i32)
+    } else {
+        None
+    }
+}
+
+// Whether it is not 0, and less than a day either way.
+fn is_amount(seconds: i64) -> bool
+    ensures { IsTrue result ↔ ((seconds ≢ pos 0) × IsWithinDay seconds) }
+{
+    seconds != 0 && -86_400 < seconds && seconds < 86_400
+}
+
+// The only one of two candidates.
+pub(crate) fn only_of(early: Option<i32>, late: Option<i32>) -> Option<i32>
+    ensures { IsFound (IsOnly early late) result }
+{
+    match (early, late) {
+        (None, None) => None,
+        (Some(only), None) => Some(only),
+        (None, Some(only)) => Some(only),
+        (Some(early), Some(late)) => if early == late { Some(early) } else { None },
+    }
+}

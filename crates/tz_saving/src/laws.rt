@@ -1,0 +1,15 @@
+//! Theorems of amounts: each function is empty, its contract is proved; never called.
+
+ghost use Rattle.std.specs.Prelude.{◌≡◌, ℤ};
+ghost use Rattle.tz_info.specs.Zones.{Zone, TypeAt};
+ghost use Rattle.tz_saving.specs.Amounts.{IsAmount};
+ghost use Rattle.tz_saving.specs.Savings.{IsSavingAt};
+ghost use Rattle.tz_saving.specs.declared.saving.Saving.{Saving};
+
+/// A second has one amount, and one standard offset.
+pub fn one_amount_law()
+    ensures once { (z : Zone) (u a b : ℤ) → IsAmount (TypeAt z) z.rule u a
+        → IsAmount (TypeAt z) z.rule u b → a ≡ b }
+    ensures both { (z : Zone) (u : ℤ) (s t : Saving) → IsSavingAt z u s
+        → IsSavingAt z u t → s ≡ t }
+{}
