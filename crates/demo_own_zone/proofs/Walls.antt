@@ -2,12 +2,12 @@
 use Rattle.demo_own_zone.proofs.Words.{IsBeforeGap, IsShownBetween, IsWide, ShowsByOffset, arith, floor_div, floor_mod, ints, negsuc, odd_offset, pos, refl, ℤ}
 use Rattle.demo_own_zone.proofs.Words.{◌*ℤ◌, ◌+ℤ◌, ◌-ℤ◌, ◌<◌, ◌≡◌}
 
--- a second is twice its half, and one more where it is odd
+-- a second is twice its half, and one more if it is odd
 pub two_halves : (u : ℤ) → (pos 2 *ℤ floor_div u 2 +ℤ odd_offset u ≡ u) × (floor_mod u 2 < 2)
 two_halves (pos a) = omega (arith, ints)
 two_halves (negsuc a) = omega (arith, ints)
 
--- behind an even second lies an odd one
+-- an odd second comes before an even one
 pub odd_before : (l : ℤ) → floor_mod l 2 ≡ 0 → floor_mod (l -ℤ pos 1) 2 ≡ 1
 odd_before l even =
     let here = two_halves l in let before = two_halves (l -ℤ pos 1) in
@@ -25,7 +25,7 @@ shown_twice l wide even = record {
   not_after = λ u k s. let parts = two_halves u in let is = s.offset in let there = s.shown in omega (arith, ints);
 }
 
--- behind an odd second lies an even one
+-- an even second comes before an odd one
 even_before : (l : ℤ) → floor_mod l 2 ≡ 1 → floor_mod (l -ℤ pos 1) 2 ≡ 0
 even_before l odd =
     let here = two_halves l in let before = two_halves (l -ℤ pos 1) in

@@ -17,21 +17,21 @@ use Rattle.demo_scheduler.specs.declared.run_days.RunDays.{RunDays}
 use Rattle.demo_scheduler.specs.declared.run_days.RunDays.TheVariants.{Every, Workdays, Weekday, MonthDay}
 use Rattle.demo_scheduler.specs.declared.schedule.Schedule.{Schedule}
 
--- that day is one of these
+-- the day is a run day
 abbrev pub RunsOn : RunDays → ℤ → Type 0
 RunsOn Every day = ⊤
 RunsOn Workdays day = (1 ≤ weekday_of day) × (weekday_of day ≤ 5)
 RunsOn (Weekday weekday) day = weekday_of day ≡ weekday_number weekday
 RunsOn (MonthDay n) day = day_of_month day ≡ n
 
--- on that day it has that second of the day
+-- the schedule has that second of that day
 pub record IsPlannedOn (s : Schedule) (day : ℤ) (second : ℕ) : Type 0 where
   pub runs : RunsOn s.days day
   pub time : NaiveTime
   pub listed : Contains s.times.items time
   pub at : second_of time ≡ second
 
--- its local times
+-- the schedule's local times
 abbrev pub planned_by : Schedule → ℤ → Type 0
 planned_by s = IsPlannedOnItsDay (IsPlannedOn s)
 

@@ -9,7 +9,7 @@ use Rattle.demo_scheduler.specs.declared.queue.Fire.{Fire}
 use Rattle.demo_scheduler.specs.declared.queue.Queue.{Queue}
 use Rattle.demo_scheduler.specs.declared.queued.Queued.{Queued}
 
--- its jobs, in the order in which they were added
+-- the queue's jobs, in the order in which they were added
 abbrev pub jobs_of : Queue → List Queued
 jobs_of q = q.queued.items
 

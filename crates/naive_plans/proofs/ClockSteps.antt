@@ -10,7 +10,7 @@ use Rattle.std.proofs.Math.Nat.{div-add-mod', mod-lt, mul-mod_left, zero-mod}
 use Rattle.std.proofs.lemmas.Bool.{cases_order}
 use Rattle.naive_plans.proofs.Periods.{later_number, least_days, multiples_apart, one_more, weekday_under}
 use Rattle.naive_plans.specs.{ClockSteps.{BeginsOnDay, BeginsStep, seconds_of_step}, PartsOfDay.{IsPartOfDay}}
-use Rattle.naive_plans.specs.Steps.StepPlaces.{IsLastBegin, IsNextBegin, IsPlace}
+use Rattle.naive_plans.specs.Steps.{Members.{IsFirstAfter, IsLastUpTo}, StepPlaces.{IsPlace}}
 use Rattle.naive_plans.specs.declared.clock_step.ClockStep.{ClockStep}
 use Rattle.naive_plans.specs.declared.clock_step.ClockStep.TheVariants.{Day, Month, Part, Week, Year}
 
@@ -92,7 +92,7 @@ last_member day d before at k b n kind whole_days same short below le =
 
 pub last_begin : (step : ClockStep) (s day : ℤ) (at before n : ℕ) (after : ℕ) → day ≡ floor_div s 86_400 → at ≡ floor_mod s 86_400 → n ≡ seconds_of_step step
     → IsPartOfDay n → IsPlace (BeginsOnDay step) day before after
-    → IsLastBegin (BeginsStep step) s ((day -ℤ pos before) *ℤ pos 86_400 +ℤ pos (at - at % n))
+    → IsLastUpTo (BeginsStep step) s ((day -ℤ pos before) *ℤ pos 86_400 +ℤ pos (at - at % n))
 last_begin step s day at before n after is_day is_at is_n part h =
     let short : at < 86_400 = omega (arith, ints, floors, is_at) in
     record {
@@ -119,7 +119,7 @@ next_member day d after e k here from later most =
 
 pub next_begin : (step : ClockStep) (s day : ℤ) (at before after n : ℕ) → day ≡ floor_div s 86_400 → at ≡ floor_mod s 86_400 → n ≡ seconds_of_step step
     → IsPartOfDay n → IsPlace (BeginsOnDay step) day before after
-    → IsNextBegin (BeginsStep step) s ((day +ℤ pos after) *ℤ pos 86_400 +ℤ pos (at - at % n + n))
+    → IsFirstAfter (BeginsStep step) s ((day +ℤ pos after) *ℤ pos 86_400 +ℤ pos (at - at % n + n))
 next_begin step s day at before after n is_day is_at is_n part h =
     let short : at < 86_400 = omega (arith, ints, floors, is_at) in let less = mod-lt at part.0 in
     let most = next_multiple n at 86_400 part.1 short in
@@ -226,13 +226,13 @@ in_year day =
 -- ---- the same of what the code computes
 pub last_is : (step : ClockStep) (s day first l : ℤ) (at before after n begin : ℕ) → day ≡ floor_div s 86_400 → at ≡ floor_mod s 86_400
     → n ≡ seconds_of_step step → IsPartOfDay n → IsPlace (BeginsOnDay step) day before after → first ≡ day -ℤ pos before → begin ≡ at - at % n
-    → l ≡ first *ℤ pos 86_400 +ℤ pos begin → IsLastBegin (BeginsStep step) s l
+    → l ≡ first *ℤ pos 86_400 +ℤ pos begin → IsLastUpTo (BeginsStep step) s l
 last_is step s day first l at before after n begin is_day is_at is_n part h is_first is_begin is =
     rw (is, is_first, is_begin) (last_begin step s day at before n after is_day is_at is_n part h)
 
 pub next_is : (step : ClockStep) (s day last l : ℤ) (at before after n next : ℕ) → day ≡ floor_div s 86_400 → at ≡ floor_mod s 86_400
     → n ≡ seconds_of_step step → IsPartOfDay n → IsPlace (BeginsOnDay step) day before after → last ≡ day +ℤ pos after → next ≡ at - at % n + n
-    → l ≡ last *ℤ pos 86_400 +ℤ pos next → IsNextBegin (BeginsStep step) s l
+    → l ≡ last *ℤ pos 86_400 +ℤ pos next → IsFirstAfter (BeginsStep step) s l
 next_is step s day last l at before after n next is_day is_at is_n part h is_last is_next is =
     rw (is, is_last, is_next) (next_begin step s day at before after n is_day is_at is_n part h)
 

@@ -1,4 +1,4 @@
--- The first so many members of a set.
+-- The first n members of a set.
 use Rattle.naive_base.proofs.Words.{arith, by_lt_z, inl, inr, ints, pos, refl, suc, zero, ℕ, ℤ, ◌+ℤ◌, ◌+◌, ◌-ℤ◌, ◌<ℤ◌, ◌<◌, ◌≡◌, ◌≤ℤ◌, ◌≤◌, ◌⊎◌}
 use Rattle.std.proofs.Common.{◌↔◌}
 use Rattle.std.proofs.lemmas.Bool.{cases_order}

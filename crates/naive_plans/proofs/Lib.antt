@@ -6,7 +6,9 @@ mod OccasionWalk
 mod OccasionsBack
 mod RuleTimes
 mod Counted
+mod NthTimes
+mod Chains
 mod TimeLists
 mod Selected
-mod MinuteSteps
+mod PeriodsOfDay
 mod ClockSteps

@@ -1,5 +1,5 @@
 -- The walk over the times that a rule's parts let through.
-use Rattle.naive_base.proofs.Words.{MatchOption, None, Option, Some, arith, by_lt_z, floor_div, floor_mod, floors, ints, neg_ℤ, pos, refl}
+use Rattle.naive_base.proofs.Words.{MatchOption, None, Option, Some, arith, by_lt_z, floor_div, floor_mod, floors, ints, neg_ℤ, pos, refl, sym}
 use Rattle.naive_base.proofs.Words.{ℕ, ℤ, ◌*◌, ◌*ℤ◌, ◌+ℤ◌, ◌+◌, ◌-ℤ◌, ◌-◌, ◌/◌, ◌<ℤ◌, ◌<◌, ◌≡◌, ◌≤ℤ◌, ◌≤◌}
 use Rattle.naive_base.specs.Weekday.{weekday_number}
 use Rattle.naive_base.proofs.Words.{day_of_month, days_in_month, is_leap, month_of, year_of}
@@ -7,7 +7,7 @@ use Rattle.naive_plans.proofs.DayWalk.{IsLeft, on_its_day}
 use Rattle.naive_plans.proofs.Periods.{month_left, period_rises}
 use Rattle.naive_plans.specs.DayPlans.{HasNoSecondFrom, IsFirstSecondFrom, IsPlannedOnItsDay}
 use Rattle.naive_plans.specs.Steps.OccasionSteps.{HasNoneBetween, IsCounted, IsFirstBetween, IsSkipped, IsStartOfNext, IsTimeOn}
-use Rattle.naive_plans.specs.Steps.RuleSteps.{IsNextPeriod, own_period}
+use Rattle.naive_plans.specs.Steps.RuleSteps.{IsLastPeriod, IsPeriod, own_period}
 use Rattle.naive_plans.specs.RecurrenceRules.{HasHour, HasMinute, HasMonth, HasSecond, IsOccasionOn, IsOnDate}
 use Rattle.naive_plans.specs.declared.rule.RecurrenceRule.{RecurrenceRule}
 
@@ -16,20 +16,40 @@ pub first_not_later : (r : RecurrenceRule) (start second first period : ℤ) →
 first_not_later r start second first period is_first is_period le = rw (is_first, is_period) (period_rises r.frequency
     (weekday_number r.week_start) start second le)
 
-pub counts_here : (r : RecurrenceRule) (start second first period next : ℤ) → first ≡ own_period r start → period ≡ own_period r second
-    → IsNextPeriod r.interval first period next → next ≡ period → IsCounted r start second
-counts_here r start second first period next is_first is_period own same = rw (same, is_period, is_first) at own.counts
+pub counts_here : (r : RecurrenceRule) (start second first period last : ℤ) → first ≡ own_period r start → period ≡ own_period r second
+    → IsLastPeriod r.interval first period last → last ≡ period → IsCounted r start second
+counts_here r start second first period last is_first is_period own same = rw (same, is_period, is_first) at own.counts
 
-pub starts_later : (r : RecurrenceRule) (start second first period next s : ℤ) → first ≡ own_period r start → period ≡ own_period r second
-    → IsNextPeriod r.interval first period next → (next ≡ period → ⊥) → ((l : ℤ) → next ≤ℤ own_period r l → s ≤ℤ l)
+-- if the last period that counts is an earlier one, its own doesn't
+pub not_counted : (r : RecurrenceRule) (start second first period last : ℤ) → first ≡ own_period r start → period ≡ own_period r second
+    → IsLastPeriod r.interval first period last → (last ≡ period → ⊥) → IsCounted r start second → ⊥
+not_counted r start second first period last is_first is_period own other counted =
+    let most = own.greatest (own_period r second) (rw is_first counted) (omega (arith, ints, is_period)) in let up = own.not_after in
+    other (omega (arith, ints, is_period, most, up))
+
+pub starts_later : (r : RecurrenceRule) (start second first period last next s : ℤ) → first ≡ own_period r start → period ≡ own_period r second
+    → IsLastPeriod r.interval first period last → (last ≡ period → ⊥) → next ≡ last +ℤ pos r.interval
+    → ((l : ℤ) → next ≤ℤ own_period r l → s ≤ℤ l)
     → (neg_ℤ (pos 1_000_000_000_000_000_000) ≤ℤ s) × (s ≤ℤ pos 1_000_000_000_000_000_000) → IsStartOfNext r start second s
-starts_later r start second first period next s is_first is_period own other later bound = record {
-  none = λ l counted le. later l (own.least (own_period r l) (rw is_first counted) (rw is_period (period_rises r.frequency
-      (weekday_number r.week_start) second l le)));
-  not_here = λ counted. let least = own.least (own_period r second) (rw is_first counted) (omega (arith, ints, is_period)) in let from = own.not_before in
-      other (omega (arith, ints, is_period, least, from));
+starts_later r start second first period last next s is_first is_period own other is_next later bound = record {
+  none = λ l counted le.
+      let from : period ≤ℤ own_period r l = rw is_period (period_rises r.frequency (weekday_number r.week_start) second l le) in
+      let here : period ≡ own_period r l → ⊥ = λ same. not_counted r start second first period last is_first is_period own other
+      (record { times = counted.times; is = rw (sym is_period) (rw same counted.is) }) in
+      later l (rw is_next (own.next (own_period r l) (rw is_first counted) (grind (arith, ints, from, here))));
+  not_here = not_counted r start second first period last is_first is_period own other;
   bound = bound;
 }
+
+pub last_bounds : (n : ℕ) (first period last : ℤ) → IsLastPeriod n first period last → IsPeriod first → IsPeriod period → IsPeriod last
+last_bounds n first period last own low high = let is = own.counts.is in let up = own.not_after in let least = low.0 in let most = high.1 in
+    (omega (arith, ints, is, least), omega (arith, ints, up, most))
+
+pub later_bounds : (n by : ℕ) (least first period last next : ℤ) → IsLastPeriod n first period last → least ≤ℤ first → IsPeriod period
+    → next ≡ last +ℤ pos by → by < 4_294_967_296 → (least ≤ℤ next) × (next ≤ℤ pos 400_000_000_000)
+later_bounds n by least first period last next own low high is_next small =
+    let is = own.counts.is in let up = own.not_after in let most = high.1 in
+    (omega (arith, ints, is, low, is_next), omega (arith, ints, up, most, is_next, small))
 
 -- ---- within a day
 pub hour_skipped : (r : RecurrenceRule) (start day : ℤ) (second : ℕ) → second < 86_400 → (HasHour r (floor_mod start 86_400) second → ⊥)
@@ -98,7 +118,7 @@ month_passed r start day d none on later =
     by_lt_z (day +ℤ pos (days_in_month (is_leap (year_of day)) (month_of day) - day_of_month day)) d (λ more. more)
     (λ not. absurd (none (rw (month_left day d later (omega (arith, ints, not))) at on.month)))
 
--- a later day before which there is none
+-- a later day with none before it
 pub left_later : (on : ℤ → ℕ → Type 0) (before day next : ℤ) → IsLeft (IsPlannedOnItsDay on) before (day +ℤ pos 1) 0 → day <ℤ next
     → ((d : ℤ) (second : ℕ) → on d second → second < 86_400 → day <ℤ d → next ≤ℤ d) → IsLeft (IsPlannedOnItsDay on) before next 0
 left_later on before day next h later none = record {

@@ -1,6 +1,6 @@
 -- The walk back over the times that a rule's parts let through.
 use Rattle.naive_base.proofs.Words.{MatchOption, None, Option, Some, arith, by_lt_z, date_is, date_only, day_number, floor_div, floor_mod, floors}
-use Rattle.naive_base.proofs.Words.{ints, pos, unsigned_abs, ℕ, ℤ, ◌*◌, ◌*ℤ◌, ◌+ℤ◌, ◌+◌, ◌-ℤ◌, ◌-◌, ◌/◌, ◌<ℤ◌, ◌<◌, ◌≡◌, ◌≤ℤ◌, ◌≤◌}
+use Rattle.naive_base.proofs.Words.{ints, neg_ℤ, pos, unsigned_abs, ℕ, ℤ, ◌*◌, ◌*ℤ◌, ◌+ℤ◌, ◌+◌, ◌-ℤ◌, ◌-◌, ◌/◌, ◌<ℤ◌, ◌<◌, ◌≡◌, ◌≤ℤ◌, ◌≤◌}
 use Rattle.naive_base.proofs.Words.{day_of_month, days_in_month, is_leap, month_of, year_of}
 use Rattle.naive_base.proofs.Words.{nat_tests}
 use Rattle.std.proofs.{Common.{Bool}}
@@ -8,9 +8,10 @@ use Rattle.naive_plans.proofs.DayWalk.{IsLeftBefore}
 use Rattle.naive_plans.specs.DayPlans.{HasNoSecondUntil, IsLastSecondUntil, IsPlannedOnItsDay}
 use Rattle.naive_plans.specs.Plans.{HasNoneUntil}
 use Rattle.naive_base.proofs.Words.{weekday_number}
-use Rattle.naive_plans.proofs.Periods.{long_before}
-use Rattle.naive_plans.specs.Steps.OccasionSteps.{IsCounted, IsSkippedBack, IsTimeOn}
-use Rattle.naive_plans.specs.Steps.RuleSteps.{IsNextPeriod, own_period}
+use Rattle.naive_plans.proofs.OccasionWalk.{not_counted}
+use Rattle.naive_plans.proofs.Periods.{long_before, period_rises}
+use Rattle.naive_plans.specs.Steps.OccasionSteps.{IsCounted, IsEndOfLast, IsSkippedBack, IsTimeOn}
+use Rattle.naive_plans.specs.Steps.RuleSteps.{IsLastPeriod, own_period}
 use Rattle.naive_plans.specs.RecurrenceRules.{HasHour, HasMinute, HasMonth, IsOccasion, IsOccasionOn, IsOnDate}
 use Rattle.naive_plans.specs.declared.rule.RecurrenceRule.{RecurrenceRule}
 
@@ -100,14 +101,15 @@ most_days b m = grind (arith, nat_tests)
 pub in_month : (day : ℤ) (dom : ℕ) → dom ≡ day_of_month day → dom ≤ 31
 in_month day dom is = let last = (date_is day).0.3 in let most = most_days (is_leap (year_of day)) (month_of day) in omega (arith, is, last, most)
 
--- an earlier day after which there is none
+-- an earlier day with none after it
 pub left_earlier : (on : ℤ → ℕ → Type 0) (until day last : ℤ) → IsLeftBefore (IsPlannedOnItsDay on) until (day -ℤ pos 1) 86_399 → last <ℤ day
-    → ((d : ℤ) (second : ℕ) → on d second → d <ℤ day → d ≤ℤ last) → IsLeftBefore (IsPlannedOnItsDay on) until last 86_399
+    → ((d : ℤ) (second : ℕ) → on d second → second < 86_400 → d <ℤ day → d ≤ℤ last) → IsLeftBefore (IsPlannedOnItsDay on) until last 86_399
 left_earlier on until day last h earlier none = record {
   in_day = omega arith;
   not_later = let from = h.not_later in omega (arith, ints, from, earlier);
   left = λ m planned come. let most = h.left m planned come in
-      let from = none (floor_div m 86_400) (floor_mod m 86_400) planned (omega (arith, ints, floors, most)) in omega (arith, ints, floors, from);
+      let from = none (floor_div m 86_400) (floor_mod m 86_400) planned (omega (arith, ints, floors)) (omega (arith, ints, floors, most)) in
+      omega (arith, ints, floors, from);
 }
 
 -- no occasion comes 367 days before the start
@@ -130,13 +132,47 @@ all_until set until day second is_day is_second = record {
   left = λ m one come. omega (arith, ints, floors, is_day, is_second, come);
 }
 
--- ---- a period that counts
-pub counted_late : (r : RecurrenceRule) (start second first period : ℤ) → first ≡ own_period r start → period ≡ own_period r second
-    → IsCounted r start second → first ≤ℤ period
-counted_late r start second first period is_first is_period own = let is = own.is in omega (arith, ints, is, is_first, is_period)
+-- ---- periods that count
+pub none_counted : (r : RecurrenceRule) (start second first period end : ℤ) → first ≡ own_period r start → period ≡ own_period r second
+    → (first ≤ℤ period → ⊥) → start <ℤ pos 253_402_300_800 → end ≡ start -ℤ pos 31_708_800 → IsEndOfLast r start second end
+none_counted r start second first period end is_first is_period early in_years is_end = record {
+  none = λ l counted le. absurd (early (let rise = period_rises r.frequency (weekday_number r.week_start) l second le in let is = counted.is in
+      omega (arith, ints, rise, is, is_first, is_period)));
+  not_here = λ counted. early (let is = counted.is in omega (arith, ints, is, is_first, is_period));
+  bound = (omega (arith, ints, is_end), omega (arith, ints, is_end, in_years));
+}
 
-pub counts_now : (r : RecurrenceRule) (start second first period next : ℤ) → first ≡ own_period r start → period ≡ own_period r second
-    → IsNextPeriod r.interval first period next → IsCounted r start second → next ≡ period
-counts_now r start second first period next is_first is_period own counted =
-    let least = own.least (own_period r second) (rw is_first counted) (omega (arith, ints, is_period)) in let from = own.not_before in
-    omega (arith, ints, is_period, least, from)
+pub ends_earlier : (r : RecurrenceRule) (start second first period last next end : ℤ) → first ≡ own_period r start → period ≡ own_period r second
+    → IsLastPeriod r.interval first period last → (last ≡ period → ⊥) → next ≡ last +ℤ pos 1 → second <ℤ pos 345_600_086_400
+    → ((l : ℤ) → l <ℤ pos 345_600_086_400 → own_period r l <ℤ next → l <ℤ end)
+    → ((l : ℤ) → next ≤ℤ own_period r l → end ≤ℤ l) → start <ℤ pos 253_402_300_800 → IsEndOfLast r start second end
+ends_earlier r start second first period last next end is_first is_period own other is_next in_years earlier later start_in_years = record {
+  none = λ l counted le.
+      let rise : own_period r l ≤ℤ period = rw is_period (period_rises r.frequency (weekday_number r.week_start) l second le) in
+      let most = own.greatest (own_period r l) (rw is_first counted) rise in
+      earlier l (omega (arith, ints, le, in_years)) (omega (arith, ints, most, is_next));
+  not_here = not_counted r start second first period last is_first is_period own other;
+  bound = (
+    let is = own.counts.is in let from = earlier start (omega (arith, ints, start_in_years)) (omega (arith, ints, is, is_first, is_next)) in
+        omega (arith, ints, from),
+    by_lt_z last period
+        (λ less. let up = later second (omega (arith, ints, less, is_next, is_period)) in omega (arith, ints, up, in_years))
+        (λ not. absurd (other (let up = own.not_after in omega (arith, ints, not, up)))),
+  );
+}
+
+pub period_back : (r : RecurrenceRule) (start day l e : ℤ) (second end : ℕ) → l ≡ day *ℤ pos 86_400 +ℤ pos second → IsEndOfLast r start l e
+    → end ≤ second → ((k : ℕ) → k < second → (day *ℤ pos 86_400 +ℤ pos k) <ℤ e → k < end) → IsSkippedBack (IsTimeOn r start day) second end
+period_back r start day l e second end is own earlier to = record {
+  earlier = earlier;
+  none = λ k on le.
+      let other : k ≡ second → ⊥ = λ same. own.not_here (rw is (rw same at on.counts)) in
+      to k (grind (arith, other, le)) (own.none (day *ℤ pos 86_400 +ℤ pos k) on.counts (omega (arith, ints, is, le)));
+}
+
+-- a day of a second that counts, up to one that none counts after
+pub day_to : (end day d : ℤ) (second : ℕ) → day ≡ floor_div (end -ℤ pos 1) 86_400 → second < 86_400 → (d *ℤ pos 86_400 +ℤ pos second) <ℤ end → d ≤ℤ day
+day_to end day d second is short less = omega (arith, ints, floors, is, short, less)
+
+pub days_up_to : (last d : ℤ) (second : ℕ) → d ≤ℤ last → second < 86_400 → (d *ℤ pos 86_400 +ℤ pos second) ≤ℤ (last *ℤ pos 86_400 +ℤ pos 86_399)
+days_up_to last d second le short = omega (arith, ints, le, short)

@@ -11,10 +11,10 @@ use Rattle.std.proofs.Math.Nat.{add-mul, div-add-mod', mod-lt, mul-le-mul_right}
 use Rattle.std.proofs.lemmas.Bool.{cases_order}
 use Rattle.std.proofs.lemmas.Int.{by_lt_z}
 use Rattle.gregorian.proofs.ForCallers.{date_lies, day_of_year_is, days_at_most, months_rise, months_step}
-use Rattle.naive_plans.specs.Steps.RuleSteps.{IsNextPeriod}
+use Rattle.naive_plans.specs.Steps.RuleSteps.{IsLastPeriod, least_period}
 use Rattle.naive_plans.specs.RecurrenceRules.{month_number, period_of}
 use Rattle.naive_plans.specs.declared.rule.Frequency.{Frequency}
-use Rattle.naive_plans.specs.declared.rule.Frequency.TheVariants.{Daily, Hourly, Minutely, Monthly, Weekly, Yearly}
+use Rattle.naive_plans.specs.declared.rule.Frequency.TheVariants.{Daily, Hourly, Minutely, Monthly, Secondly, Weekly, Yearly}
 
 pub least_days : (b : Bool) (m : ℕ) → 1 ≤ days_in_month b m
 least_days b m = grind (arith, nat_tests)
@@ -46,6 +46,24 @@ pub month_later : (l r least number : ℤ) → r ≡ day_number (floor_div least
 month_later l r least number is below h =
     let from = first_of_month (floor_div least 12) (floor_mod least 12 + 1) (floor_div l 86_400) (omega arith) (omega (arith, ints, floors)) (omega
     (arith, ints, floors, below, h)) in omega (arith, ints, floors, is, from)
+
+-- ---- and the seconds before them
+year_before : (y l : ℤ) → year_of (floor_div l 86_400) <ℤ y → l <ℤ (year_start y *ℤ pos 86_400)
+year_before y l h =
+    let rise = starts_rise (year_of (floor_div l 86_400) +ℤ pos 1) y (omega (arith, ints, h)) in let lies = (lies_in (floor_div l 86_400)).1 in
+    omega (arith, ints, floors, rise, lies)
+
+year_high : (day : ℤ) → day ≤ℤ pos 4_000_000 → year_of day <ℤ pos 13_000
+unfolding year_start
+year_high day le = by_lt_z (year_of day) (pos 13_000) (λ less. less)
+    (λ not. let rise = starts_rise (pos 13_000) (year_of day) not in let early = (lies_in day).0 in
+    let start : year_start (pos 13_000) ≡ pos 4_028_625 = refl in absurd (omega (arith, ints, le, rise, early, start)))
+
+pub year_earlier : (y most l r : ℤ) → r ≡ year_start most *ℤ pos 86_400 → ((k : ℤ) → k <ℤ y → k <ℤ pos 20_000 → k <ℤ most) → l <ℤ pos 345_600_086_400
+    → year_of (floor_div l 86_400) <ℤ y → l <ℤ r
+year_earlier y most l r is above in_years h =
+    let high = year_high (floor_div l 86_400) (omega (arith, ints, floors, in_years)) in
+    let before = year_before most l (above (year_of (floor_div l 86_400)) h (omega (arith, ints, high))) in omega (arith, ints, is, before)
 
 -- ---- later seconds have later periods
 year_rises : (a b : ℤ) → a ≤ℤ b → year_of a ≤ℤ year_of b
@@ -82,6 +100,20 @@ period_rises Weekly first a b le = omega (arith, ints, floors, le)
 period_rises Daily first a b le = omega (arith, ints, floors, le)
 period_rises Hourly first a b le = omega (arith, ints, floors, le)
 period_rises Minutely first a b le = omega (arith, ints, floors, le)
+period_rises Secondly first a b le = le
+
+month_before : (y : ℤ) (m : ℕ) (day : ℤ) → 1 ≤ m → m ≤ 12 → month_number day <ℤ (y *ℤ pos 12 +ℤ pos m -ℤ pos 1) → day <ℤ day_number y m 1
+month_before y m day low high h = by_lt_z day (day_number y m 1) (λ less. less)
+    (λ not. let own = date_only (day_number y m 1) y m 1 (low, high, omega arith, least_days (is_leap y) m) refl in
+    let rise = month_rises (day_number y m 1) day not in absurd (omega (arith, ints, h, own.0, own.1, rise)))
+
+pub month_earlier : (number most l r : ℤ) → r ≡ day_number (floor_div most 12) (floor_mod most 12 + 1) 1 *ℤ pos 86_400
+    → ((k : ℤ) → k <ℤ number → k <ℤ pos 240_000 → k <ℤ most) → l <ℤ pos 345_600_086_400 → month_number (floor_div l 86_400) <ℤ number → l <ℤ r
+month_earlier number most l r is above in_years h =
+    let high = year_high (floor_div l 86_400) (omega (arith, ints, floors, in_years)) in let month = (date_is (floor_div l 86_400)).0.1 in
+    let own = above (month_number (floor_div l 86_400)) h (omega (arith, ints, high, month)) in
+    let before = month_before (floor_div most 12) (floor_mod most 12 + 1) (floor_div l 86_400) (omega arith) (omega (arith, ints, floors)) (omega
+    (arith, ints, floors, own)) in omega (arith, ints, floors, is, before)
 
 -- ---- the rest of a month
 pub later_number : (y : ℤ) (m d k : ℕ) (day : ℤ) → 1 ≤ d → day_number y m d ≡ day → day_number y m (d + k) ≡ day +ℤ pos k
@@ -101,31 +133,8 @@ month_left day d later come =
     let last = (date_is day).0.3 in rw is at (same_month day k (omega (arith, ints, later, come, last)))
 
 -- ---- the periods that count
-multiple : (first period : ℤ) (passed q r : ℕ) → period ≡ first +ℤ pos passed → q + r ≡ passed → r ≡ 0 → period ≡ first +ℤ pos q
-multiple first period passed q r is parts none = omega (arith, ints, is, parts, none)
-
-pub period_now : (n : ℕ) (first period : ℤ) (passed : ℕ) → period ≡ first +ℤ pos passed → passed % n ≡ 0 → IsNextPeriod n first period period
-period_now n first period passed is none = record {
-  counts = record { times = passed / n; is = multiple first period passed (passed / n * n) (passed % n) is (div-add-mod' passed n) none };
-  not_before = omega (arith, ints);
-  near = omega (arith, ints);
-  least = λ p counts le. le;
-}
-
-next_multiple : (first period next : ℤ) (passed q q₂ r n : ℕ) → period ≡ first +ℤ pos passed → q + r ≡ passed → q₂ ≡ q + n → r ≤ n
-    → next ≡ period +ℤ pos (n - r) → next ≡ first +ℤ pos q₂
-next_multiple first period next passed q q₂ r n is parts more under is_next = omega (arith, ints, is, parts, more, under, is_next)
-
 pub one_more : (t n : ℕ) → (t + 1) * n ≡ t * n + n
 one_more t n = let e = add-mul t 1 n in let one : 1 * n ≡ n = omega arith in rw one at e
-
-above : (first period next p : ℤ) (passed q q₂ r n k : ℕ) → period ≡ first +ℤ pos passed → q + r ≡ passed → q₂ ≡ q + n → next ≡ first +ℤ pos q₂
-    → (k ≤ q) ⊎ (q₂ ≤ k) → (r ≡ 0 → ⊥)
-    → p ≡ first +ℤ pos k → period ≤ℤ p → next ≤ℤ p
-above first period next p passed q q₂ r n k is parts more is_next order some is_p le = elim order [
-  | inl low ↦ absurd (some (omega (arith, ints, is, parts, low, is_p, le)))
-  | inr high ↦ omega (arith, ints, is_next, high, is_p)
-]
 
 pub multiples_apart : (n t k : ℕ) → (k * n ≤ t * n) ⊎ ((t + 1) * n ≤ k * n)
 multiples_apart n t k = elim (cases_order t k) [
@@ -134,23 +143,33 @@ multiples_apart n t k = elim (cases_order t k) [
   | inr (inr more) ↦ inl (mul-le-mul_right n (omega (arith, more)))
 ]
 
-pub period_later : (n : ℕ) (first period next : ℤ) (passed : ℕ) → period ≡ first +ℤ pos passed → (passed % n ≡ 0 → ⊥) → passed % n ≤ n
-    → next ≡ period +ℤ pos (n - passed % n) → IsNextPeriod n first period next
-period_later n first period next passed is some under is_next =
-    let counts : next ≡ first +ℤ pos ((passed / n + 1) * n) =
-    next_multiple first period next passed (passed / n * n) ((passed / n + 1) * n) (passed % n) n is (div-add-mod' passed n) (one_more
-    (passed / n) n) under is_next in
-    record {
-      counts = record { times = passed / n + 1; is = counts };
-      not_before = omega (arith, ints, is_next);
-      near = omega (arith, ints, is_next);
-      least = λ p own le. above first period next p passed (passed / n * n) ((passed / n + 1) * n) (passed % n) n (own.times * n) is (div-add-mod' passed n)
-          (one_more (passed / n) n) counts
-          (multiples_apart n (passed / n) own.times) some own.is le;
-    }
+no_later : (first period last p : ℤ) (passed q q₂ r n k : ℕ) → period ≡ first +ℤ pos passed → q + r ≡ passed → r < n → q₂ ≡ q + n → last ≡ first +ℤ pos q
+    → (k ≤ q) ⊎ (q₂ ≤ k) → p ≡ first +ℤ pos k → p ≤ℤ period → p ≤ℤ last
+no_later first period last p passed q q₂ r n k is parts short more is_last order is_p le = elim order [
+  | inl low ↦ omega (arith, ints, is_last, low, is_p)
+  | inr high ↦ absurd (omega (arith, ints, is, parts, short, more, high, is_p, le))
+]
 
-pub under : (k n : ℕ) → 1 ≤ n → k % n ≤ n
-under k n some = let less = mod-lt k some in omega (arith, less)
+interval_later : (first period last p : ℤ) (passed q q₂ r n k : ℕ) → period ≡ first +ℤ pos passed → q + r ≡ passed → q₂ ≡ q + n → last ≡ first +ℤ pos q
+    → (k ≤ q) ⊎ (q₂ ≤ k) → p ≡ first +ℤ pos k → period <ℤ p → (last +ℤ pos n) ≤ℤ p
+interval_later first period last p passed q q₂ r n k is parts more is_last order is_p later = elim order [
+  | inl low ↦ absurd (omega (arith, ints, is, parts, low, is_p, later))
+  | inr high ↦ omega (arith, ints, is_last, more, high, is_p)
+]
+
+not_later : (first period last : ℤ) (passed q r : ℕ) → period ≡ first +ℤ pos passed → q + r ≡ passed → last ≡ first +ℤ pos q → last ≤ℤ period
+not_later first period last passed q r is parts is_last = omega (arith, ints, is, parts, is_last)
+
+pub last_one : (n : ℕ) (first period last : ℤ) (passed : ℕ) → 1 ≤ n → period ≡ first +ℤ pos passed → last ≡ first +ℤ pos (passed / n * n)
+    → IsLastPeriod n first period last
+last_one n first period last passed some is is_last = record {
+  counts = record { times = passed / n; is = is_last };
+  not_after = not_later first period last passed (passed / n * n) (passed % n) is (div-add-mod' passed n) is_last;
+  greatest = λ p own le. no_later first period last p passed (passed / n * n) ((passed / n + 1) * n) (passed % n) n (own.times * n) is (div-add-mod' passed n)
+      (mod-lt passed some) (one_more (passed / n) n) is_last (multiples_apart n (passed / n) own.times) own.is le;
+  next = λ p own later. interval_later first period last p passed (passed / n * n) ((passed / n + 1) * n) (passed % n) n (own.times * n) is
+      (div-add-mod' passed n) (one_more (passed / n) n) is_last (multiples_apart n (passed / n) own.times) own.is later;
+}
 
 -- ---- from the year 0 on
 year_low : (day : ℤ) → neg_ℤ (pos 719_528) ≤ℤ day → pos 0 ≤ℤ year_of day
@@ -160,8 +179,7 @@ year_low day le = by_lt_z (year_of day) (pos 0)
     let zero_start : year_start (pos 0) ≡ neg_ℤ (pos 719_528) = refl in absurd (omega (arith, ints, le, rise, late, zero_start)))
     (λ not. omega (arith, ints, not))
 
-pub period_low : (f : Frequency) (first : ℕ) (start : ℤ) → first < 7 → neg_ℤ (pos 62_167_219_200) ≤ℤ start
-    → neg_ℤ (pos 1_100_000_000) ≤ℤ period_of f first start
+pub period_low : (f : Frequency) (first : ℕ) (start : ℤ) → first < 7 → neg_ℤ (pos 62_167_219_200) ≤ℤ start → least_period f ≤ℤ period_of f first start
 period_low Yearly first start week le = let low = year_low (floor_div start 86_400) (omega (arith, ints, floors, le)) in omega (arith, ints, low)
 period_low Monthly first start week le = let low = year_low (floor_div start 86_400) (omega (arith, ints, floors, le)) in
     let month = (date_is (floor_div start 86_400)).0.0 in omega (arith, ints, low, month)
@@ -169,6 +187,7 @@ period_low Weekly first start week le = omega (arith, ints, floors, le, week)
 period_low Daily first start week le = omega (arith, ints, floors, le)
 period_low Hourly first start week le = omega (arith, ints, floors, le)
 period_low Minutely first start week le = omega (arith, ints, floors, le)
+period_low Secondly first start week le = le
 
 pub weekday_under : (w : Weekday) → weekday_number w < 7
 weekday_under Sun = omega arith
@@ -178,11 +197,6 @@ weekday_under Wed = omega arith
 weekday_under Thu = omega arith
 weekday_under Fri = omega arith
 weekday_under Sat = omega arith
-
-pub near_period : (period next interval : ℤ) → (neg_ℤ (pos 1_100_000_000) ≤ℤ period) → period ≤ℤ pos 100_000_000_000 → period ≤ℤ next
-    → next ≤ℤ (period +ℤ interval) → interval <ℤ pos 4_294_967_296
-    → (neg_ℤ (pos 2_000_000_000) ≤ℤ next) × (next ≤ℤ pos 200_000_000_000)
-near_period period next interval low high le near small = (omega (arith, ints, low, le), omega (arith, ints, high, near, small))
 
 -- ---- a period is no longer than a year
 earlier_year : (a b : ℤ) → (a +ℤ pos 366) ≤ℤ b → year_of a <ℤ year_of b
@@ -199,3 +213,4 @@ long_before Weekly first l start le = omega (arith, ints, floors, le)
 long_before Daily first l start le = omega (arith, ints, floors, le)
 long_before Hourly first l start le = omega (arith, ints, floors, le)
 long_before Minutely first l start le = omega (arith, ints, floors, le)
+long_before Secondly first l start le = omega (arith, ints, le)

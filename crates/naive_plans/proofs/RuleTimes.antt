@@ -1,9 +1,9 @@
--- The times of a rule without BYSETPOS, and those after a second.
-use Rattle.naive_base.proofs.Words.{IsWide, MatchOption, None, Option, Some, arith, ints, pos, ℤ, ◌+ℤ◌, ◌-ℤ◌, ◌<ℤ◌, ◌≡◌, ◌≤ℤ◌}
+-- The times of a rule, and those after a second.
+use Rattle.naive_base.proofs.Words.{IsWide, MatchOption, None, Option, Some, arith, by_lt_z, ints, pos, ℤ, ◌+ℤ◌, ◌-ℤ◌, ◌<ℤ◌, ◌≡◌, ◌≤ℤ◌}
 use Rattle.std.proofs.Common.{◌↔◌}
 use Rattle.naive_plans.specs.Steps.OccasionSteps.{HasNoneBetween, IsFirstBetween}
 use Rattle.naive_plans.specs.Plans.{HasNoneUntil, IsLastUntil, IsNextAfter}
-use Rattle.naive_plans.specs.RecurrenceSets.{IsRecurrenceTime, IsRuleTime, IsWithinCount}
+use Rattle.naive_plans.specs.RecurrenceSets.{IsAtPosition, IsRecurrenceTime, IsRuleTime, IsWithinCount}
 use Rattle.naive_plans.specs.declared.recurrence.RecurrenceEnd.TheVariants.{Count, Never, Until}
 use Rattle.naive_base.specs.NaiveDateTime.{reading}
 use Rattle.naive_base.specs.declared.datetime.NaiveDateTime.{NaiveDateTime}
@@ -18,20 +18,37 @@ use Rattle.std.proofs.Common.{◌<◌}
 use Rattle.naive_plans.specs.Steps.RuleSteps.{IsBounded}
 use Rattle.naive_plans.specs.declared.rule.RecurrenceRule.{RecurrenceRule}
 
-pub without_places : (r : RecurrenceRule) (start from end : ℤ) (found : Option ℤ) → start ≤ℤ from → end ≤ℤ pos 253_402_300_800
-    → MatchOption found (HasNoneBetween (IsOccasion r start) from end) (λ l. IsFirstBetween (IsOccasion r start) from end l)
-    → MatchOption found (HasNoneBetween (IsRuleTime r start) from end) (λ l. IsFirstBetween (IsRuleTime r start) from end l)
-without_places r start from end None le last none = λ m time come before. none m time.occasion come before
-without_places r start from end (Some l) le last first = record {
+-- the rule's times from a second on come from another one on
+abbrev pub AreFrom : RecurrenceRule → ℤ → ℤ → ℤ → Type 0
+AreFrom r start from left = (from ≤ℤ left) × ((m : ℤ) → IsRuleTime r start m → from ≤ℤ m → left ≤ℤ m)
+
+pub none_from : (r : RecurrenceRule) (start from left end : ℤ) → AreFrom r start from left → HasNoneBetween (IsOccasion r start) left end
+    → HasNoneBetween (IsRuleTime r start) from end
+none_from r start from left end h none m time come before = none m time.occasion (h.1 m time come) before
+
+pub first_from : (r : RecurrenceRule) (start from left end l : ℤ) → start ≤ℤ from → end ≤ℤ pos 253_402_300_800 → AreFrom r start from left
+    → IsFirstBetween (IsOccasion r start) left end l → IsAtPosition r start l → IsFirstBetween (IsRuleTime r start) from end l
+first_from r start from left end l le last h first own = record {
   one = record {
     occasion = first.one;
-    from_start = let come = first.not_before in omega (arith, ints, le, come);
+    position = own;
+    from_start = let come = first.not_before in let later = h.0 in omega (arith, ints, le, come, later);
     in_years = let before = first.before_end in omega (arith, ints, before, last);
   };
-  not_before = first.not_before;
+  not_before = let come = first.not_before in let later = h.0 in omega (arith, ints, come, later);
   before_end = first.before_end;
-  least = λ m time come. first.least m time.occasion come;
+  least = λ m time come. first.least m time.occasion (h.1 m time come);
 }
+
+pub more_from : (r : RecurrenceRule) (start from left end l next : ℤ) → AreFrom r start from left → IsFirstBetween (IsOccasion r start) left end l
+    → (IsAtPosition r start l → ⊥) → next ≡ l +ℤ pos 1 → AreFrom r start from next
+more_from r start from left end l next h first not is = (
+  let come = first.not_before in let later = h.0 in omega (arith, ints, come, later, is),
+  λ m time come.
+      let least = first.least m time.occasion (h.1 m time come) in
+      by_lt_z l m (λ less. omega (arith, ints, less, is))
+      (λ over. absurd (let same : l ≡ m = omega (arith, ints, over, least) in not (rw same time.position))),
+)
 
 pub from_later : (r : RecurrenceRule) (start after last from end : ℤ) (found : Option ℤ) → after <ℤ from → ((m : ℤ) → after <ℤ m → start ≤ℤ m → from ≤ℤ m)
     → end ≡ last +ℤ pos 1
@@ -80,22 +97,39 @@ pub bounded_to : (r : RecurrenceRule) (start last s : ℤ) → neg_ℤ (pos 62_1
 bounded_to r start last s low own = let from = own.planned.from_start in let short = own.planned.in_years in (omega (arith, ints, low, from), short)
 
 -- ---- and back
-pub not_from : (r : RecurrenceRule) (start until : ℤ) → (start ≤ℤ until → ⊥) → HasNoneUntil (IsRuleTime r start) until
-not_from r start until not m wide time come = not (let from = time.from_start in omega (arith, ints, from, come))
+-- the rule's times up to a second come up to another one
+abbrev pub AreTo : RecurrenceRule → ℤ → ℤ → ℤ → Type 0
+AreTo r start until to = (to ≤ℤ until) × ((m : ℤ) → IsRuleTime r start m → m ≤ℤ until → m ≤ℤ to)
 
-pub none_of_them : (r : RecurrenceRule) (start until : ℤ) → HasNoneUntil (IsOccasion r start) until → HasNoneUntil (IsRuleTime r start) until
-none_of_them r start until none m wide time come = none m wide time.occasion come
+pub none_to_start : (r : RecurrenceRule) (start until to : ℤ) → AreTo r start until to → (start ≤ℤ to → ⊥) → HasNoneUntil (IsRuleTime r start) until
+none_to_start r start until to h not m wide time come = not (let from = time.from_start in let le = h.1 m time come in omega (arith, ints, from, le))
 
-pub last_from : (r : RecurrenceRule) (start until last : ℤ) (found : Option ℤ) → until <ℤ pos 253_402_300_800 → IsLastUntil (IsOccasion r start) until last
-    → MatchOption found (last <ℤ start) (λ l. (l ≡ last) × (start ≤ℤ l)) → MatchOption found (HasNoneUntil (IsRuleTime r start) until) (λ l. IsLastUntil
-    (IsRuleTime r start) until l)
-last_from r start until last None short own early = λ m wide time come.
-    let most = own.greatest m wide time.occasion come in let from = time.from_start in omega (arith, ints, most, from, early)
-last_from r start until last (Some l) short own is = record {
-  planned = record { occasion = rw is.0 own.planned; from_start = is.1; in_years = let up = own.not_after in omega (arith, ints, up, is.0, short) };
-  not_after = let up = own.not_after in omega (arith, ints, up, is.0);
-  greatest = λ m wide time come. let most = own.greatest m wide time.occasion come in omega (arith, ints, most, is.0);
+pub none_of_them : (r : RecurrenceRule) (start until to : ℤ) → AreTo r start until to → HasNoneUntil (IsOccasion r start) to
+    → HasNoneUntil (IsRuleTime r start) until
+none_of_them r start until to h none m wide time come = none m wide time.occasion (h.1 m time come)
+
+pub all_early : (r : RecurrenceRule) (start until to last : ℤ) → AreTo r start until to → IsLastUntil (IsOccasion r start) to last → (start ≤ℤ last → ⊥)
+    → HasNoneUntil (IsRuleTime r start) until
+all_early r start until to last h own early m wide time come =
+    let most = own.greatest m wide time.occasion (h.1 m time come) in let from = time.from_start in early (omega (arith, ints, most, from))
+
+pub last_found : (r : RecurrenceRule) (start until to last : ℤ) → until <ℤ pos 253_402_300_800 → AreTo r start until to
+    → IsLastUntil (IsOccasion r start) to last → start ≤ℤ last → IsAtPosition r start last → IsLastUntil (IsRuleTime r start) until last
+last_found r start until to last short h own from at_position = let up = own.not_after in let low = h.0 in record {
+  planned = record { occasion = own.planned; position = at_position; from_start = from; in_years = omega (arith, ints, up, low, short) };
+  not_after = omega (arith, ints, up, low);
+  greatest = λ m wide time come. own.greatest m wide time.occasion (h.1 m time come);
 }
+
+pub more_to : (r : RecurrenceRule) (start until to last next : ℤ) → neg_ℤ (pos 62_167_219_200) ≤ℤ start → AreTo r start until to
+    → IsLastUntil (IsOccasion r start) to last → (IsAtPosition r start last → ⊥) → next ≡ last -ℤ pos 1 → AreTo r start until next
+more_to r start until to last next first h own not is_next = let up = own.not_after in let low = h.0 in (
+  omega (arith, ints, up, low, is_next),
+  λ m time come.
+      let most = own.greatest m (time_is_wide r start m first time) time.occasion (h.1 m time come) in
+      by_lt_z m last (λ less. omega (arith, ints, less, is_next))
+      (λ over. absurd (let same : last ≡ m = omega (arith, ints, over, most) in not (rw same time.position))),
+)
 
 pub last_planned : (r : RecurrenceRule) (start local last until l : ℤ) → (until ≤ℤ local) × (until ≤ℤ last) → ((m : ℤ) → m ≤ℤ local → m ≤ℤ last → m ≤ℤ until)
     → IsLastUntil (IsRuleTime r start) until l → IsLastUntil (IsPlannedUpTo r start last) local l

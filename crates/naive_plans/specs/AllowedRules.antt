@@ -41,6 +41,7 @@ pub record HasAllowedNumbers (r : RecurrenceRule) : Type 0 where
   pub hour : AreWithin r.by_hour.now 0 23
   pub minute : AreWithin r.by_minute.now 0 59
   pub at_second : AreWithin r.by_second.now 0 60
+  pub position : ArePlaces r.by_set_position.now 366
 
 -- BYWEEKNO is for years
 abbrev pub AllowsWeekNumbers : RecurrenceRule → Type 0
@@ -58,6 +59,21 @@ AllowsMonthDays r = IsAbsent r.by_month_day.now ⊎ (r.frequency ≢ Weekly)
 abbrev pub AllowsNth : RecurrenceRule → Type 0
 AllowsNth r = All (λ e. e.nth ≡ pos 0) r.by_weekday.now ⊎ (r.frequency ≡ Monthly) ⊎ ((r.frequency ≡ Yearly) × IsAbsent r.by_week_number.now)
 
+-- no BY part but BYSETPOS
+pub record HasNoPart (r : RecurrenceRule) : Type 0 where
+  pub month : IsAbsent r.by_month.now
+  pub week_number : IsAbsent r.by_week_number.now
+  pub year_day : IsAbsent r.by_year_day.now
+  pub month_day : IsAbsent r.by_month_day.now
+  pub day : IsAbsent r.by_weekday.now
+  pub hour : IsAbsent r.by_hour.now
+  pub minute : IsAbsent r.by_minute.now
+  pub at_second : IsAbsent r.by_second.now
+
+-- BYSETPOS needs another BY part
+abbrev pub AllowsPositions : RecurrenceRule → Type 0
+AllowsPositions r = IsAbsent r.by_set_position.now ⊎ (HasNoPart r → ⊥)
+
 -- a rule, a start and an end that the RFC allows
 pub record IsAllowed (r : RecurrenceRule) (start : ℤ) (end : RecurrenceEnd) : Type 0 where
   pub in_years : IsInYears start
@@ -68,6 +84,7 @@ pub record IsAllowed (r : RecurrenceRule) (start : ℤ) (end : RecurrenceEnd) : 
   pub year_day : AllowsYearDays r
   pub month_day : AllowsMonthDays r
   pub nth : AllowsNth r
+  pub position : AllowsPositions r
 
 -- what is wrong with them
 abbrev pub IsFault : RecurrenceRule → ℤ → RecurrenceEnd → RecurrenceError → Type 0
@@ -79,3 +96,4 @@ IsFault r start end errors.WeekNumber = AllowsWeekNumbers r → ⊥
 IsFault r start end errors.YearDay = AllowsYearDays r → ⊥
 IsFault r start end errors.MonthDay = AllowsMonthDays r → ⊥
 IsFault r start end errors.NthWeekday = AllowsNth r → ⊥
+IsFault r start end errors.SetPosition = AllowsPositions r → ⊥

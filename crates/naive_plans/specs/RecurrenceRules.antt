@@ -1,5 +1,5 @@
 -- The local times that a rule means, by RFC 5545, section 3.3.10.
-use Rattle.std.specs.Prelude.{◌≡◌, ◌≢◌, ◌⊎◌, ⊤, ℕ, ◌+◌, ◌-◌, ◌*◌, ◌/◌, ◌%◌, ℤ, pos, neg_ℤ, ◌+ℤ◌, ◌-ℤ◌, ◌*ℤ◌, List, Contains, length}
+use Rattle.std.specs.Prelude.{◌≡◌, ◌≢◌, ◌⊎◌, ℕ, ◌+◌, ◌-◌, ◌*◌, ◌/◌, ◌%◌, ℤ, pos, neg_ℤ, ◌+ℤ◌, ◌-ℤ◌, ◌*ℤ◌, List, Contains, length}
 use Rattle.gregorian.specs.DateOf.{year_of, month_of, day_of_month, day_of_year}
 use Rattle.gregorian.specs.Month.{days_in_month}
 use Rattle.gregorian.specs.Weekdays.{weekday_of}
@@ -7,7 +7,7 @@ use Rattle.gregorian.specs.Year.{days_in_year, floor_div, floor_mod, is_leap}
 use Rattle.naive_base.specs.Weekday.{weekday_number}
 use Rattle.naive_plans.specs.DayPlans.{IsPlannedOnItsDay}
 use Rattle.naive_plans.specs.declared.rule.Frequency.{Frequency}
-use Rattle.naive_plans.specs.declared.rule.Frequency.TheVariants.{Yearly, Monthly, Weekly, Daily, Hourly, Minutely}
+use Rattle.naive_plans.specs.declared.rule.Frequency.TheVariants.{Yearly, Monthly, Weekly, Daily, Hourly, Minutely, Secondly}
 use Rattle.naive_plans.specs.declared.rule.NthWeekday.{NthWeekday}
 use Rattle.naive_plans.specs.declared.rule.RecurrenceRule.{RecurrenceRule}
 
@@ -16,8 +16,8 @@ use Rattle.naive_plans.specs.declared.rule.RecurrenceRule.{RecurrenceRule}
 abbrev pub month_number : ℤ → ℤ
 month_number day = year_of day *ℤ pos 12 +ℤ pos (month_of day) -ℤ pos 1
 
--- the period that a local second lies in, by its number: a year, a month, a week, a day, an hour or a minute. Weeks begin on the
--- weekday of that number
+-- the period that a local second lies in, by its number: a year, a month, a week, a day, an hour, a minute or the second itself.
+-- Weeks begin on the weekday of that number
 abbrev pub period_of : Frequency → ℕ → ℤ → ℤ
 period_of Yearly first l = year_of (floor_div l 86_400)
 period_of Monthly first l = month_number (floor_div l 86_400)
@@ -25,6 +25,7 @@ period_of Weekly first l = floor_div (floor_div l 86_400 +ℤ pos 4 -ℤ pos fir
 period_of Daily first l = floor_div l 86_400
 period_of Hourly first l = floor_div l 3600
 period_of Minutely first l = floor_div l 60
+period_of Secondly first l = l
 
 -- INTERVAL: the period comes a multiple of it after the start's
 pub record Counts (interval : ℕ) (first period : ℤ) : Type 0 where
@@ -36,12 +37,12 @@ pub record Counts (interval : ℕ) (first period : ℤ) : Type 0 where
 abbrev pub IsAbsent : {X : Type 0} → List X → Type 0
 IsAbsent part = length part ≡ 0
 
--- the part lists that number; or the rule has no such part, and then the number is the start's, if that tells it
+-- the part lists that number; or the rule has no such part, and then the number is the start's, if the start determines it
 pub record IsListed (part : List ℕ) (tells : Type 0) (start n : ℕ) : Type 0 where
   pub listed : IsAbsent part ⊎ Contains part n
   pub told : IsAbsent part → tells → n ≡ start
 
--- the part lists a place, of which so many others come before it and so many after it: 1 is the first one, -1 the last
+-- the part lists the place that has `before` others before it and `after` others after it: 1 is the first one, -1 the last
 abbrev pub ListsPlace : List ℤ → ℕ → ℕ → Type 0
 ListsPlace part before after = Contains part (pos (before + 1)) ⊎ Contains part (neg_ℤ (pos (after + 1)))
 
@@ -55,7 +56,7 @@ pub record ListsWeekday (part : List NthWeekday) (weekday before after : ℕ) : 
   pub listed : Contains part entry
   pub is : IsEntry weekday before after entry
 
--- ---- what the start tells
+-- ---- what the start determines
 -- no part but BYMONTH and BYDAY speaks of dates
 abbrev pub HasNoNumbers : RecurrenceRule → Type 0
 HasNoNumbers r = IsAbsent r.by_week_number.now × IsAbsent r.by_year_day.now × IsAbsent r.by_month_day.now
@@ -73,13 +74,17 @@ abbrev pub TellsWeekday : RecurrenceRule → Type 0
 TellsWeekday r = (r.frequency ≡ Weekly) ⊎ ((r.frequency ≡ Yearly) × (IsAbsent r.by_week_number.now
     → ⊥) × IsAbsent r.by_year_day.now × IsAbsent r.by_month_day.now)
 
--- the hour, where periods are days or longer
-abbrev pub TellsHour : RecurrenceRule → Type 0
-TellsHour r = (r.frequency ≢ Hourly) × (r.frequency ≢ Minutely)
+-- the second, where periods are minutes or longer
+abbrev pub TellsSecond : RecurrenceRule → Type 0
+TellsSecond r = r.frequency ≢ Secondly
 
 -- the minute, where periods are hours or longer
 abbrev pub TellsMinute : RecurrenceRule → Type 0
-TellsMinute r = r.frequency ≢ Minutely
+TellsMinute r = (r.frequency ≢ Minutely) × TellsSecond r
+
+-- the hour, where periods are days or longer
+abbrev pub TellsHour : RecurrenceRule → Type 0
+TellsHour r = (r.frequency ≢ Hourly) × TellsMinute r
 
 -- ---- dates
 abbrev pub HasMonth : RecurrenceRule → ℕ → ℕ → Type 0
@@ -134,7 +139,7 @@ abbrev pub HasMinute : RecurrenceRule → ℕ → ℕ → Type 0
 HasMinute r start second = IsListed r.by_minute.now (TellsMinute r) (start / 60 % 60) (second / 60 % 60)
 
 abbrev pub HasSecond : RecurrenceRule → ℕ → ℕ → Type 0
-HasSecond r start second = IsListed r.by_second.now ⊤ (start % 60) (second % 60)
+HasSecond r start second = IsListed r.by_second.now (TellsSecond r) (start % 60) (second % 60)
 
 -- ---- the set
 -- the rule's parts but BYSETPOS let a second of a day through, for a start at some local second

@@ -1,6 +1,8 @@
 -- Steps of the proofs: what private functions ensure. No public contract cites a page of this folder.
 pub mod CronDates
 pub mod StepPlaces
+pub mod Members
+pub mod PositionSteps
 pub mod Sets
 pub mod RuleSteps
 pub mod OccasionSteps

@@ -6,12 +6,13 @@ ghost use Rattle.naive_base.specs.NaiveDateTime.{reading};
 ghost use Rattle.naive_base.specs.Range.{IsWide, IsWideDay};
 ghost use Rattle.naive_plans.specs.ClockSteps.{BeginsOnDay, BeginsStep, IsPart, seconds_of_step};
 ghost use Rattle.naive_plans.specs.PartsOfDay.{IsPartOfDay};
-ghost use Rattle.naive_plans.specs.Steps.StepPlaces.{IsLastBegin, IsNear, IsNearDay, IsNextBegin, IsPlace};
+ghost use Rattle.naive_plans.specs.Steps.Members.{IsFirstAfter, IsLastUpTo};
+ghost use Rattle.naive_plans.specs.Steps.StepPlaces.{IsNear, IsNearDay, IsPlace};
 ghost use Rattle.naive_plans.specs.declared.clock_step.ClockStep.TheVariants as steps;
 
 use crate::day_plan::{at_second, date_after, date_before};
-use crate::occasions::{day_of, second_at, second_of};
 use crate::rule::{days_of_week, month_length, place_in_year};
+use crate::seconds::{day_of, second_at, second_of};
 use crate::{PartOfDay, Plan, ReversiblePlan};
 use naive_base::{NaiveDate, NaiveDateTime, Weekday};
 
@@ -99,7 +100,7 @@ impl ClockStep {
     // The last second up to that one at which a step begins.
     fn last_begin(&self, second: i64) -> i64
         requires { IsWide second }
-        ensures value { IsLastBegin (BeginsStep self.now) second result }
+        ensures value { IsLastUpTo (BeginsStep self.now) second result }
         ensures bound { IsNear result }
     {
         let day = day_of(second);
@@ -111,7 +112,7 @@ impl ClockStep {
     // The first second after that one at which a step begins.
     fn next_begin(&self, second: i64) -> i64
         requires { IsWide second }
-        ensures value { IsNextBegin (BeginsStep self.now) second result }
+        ensures value { IsFirstAfter (BeginsStep self.now) second result }
         ensures bound { IsNear result }
     {
         let day = day_of(second);

@@ -11,8 +11,11 @@ mod day_plan;
 mod occasions;
 mod part_of_day;
 mod plan;
+mod positions;
 mod recurrence;
 mod rule;
+mod rule_periods;
+mod seconds;
 mod sets;
 
 pub use clock_step::ClockStep;

@@ -10,7 +10,8 @@ ghost use Rattle.naive_plans.specs.Steps.OccasionSteps.{HasNoneBetween, IsFirstB
 ghost use Rattle.naive_plans.specs.Steps.RecurrenceSteps.{HasNoneLater, IsFirstLater, IsLastSecond};
 ghost use Rattle.naive_plans.specs.Steps.RuleSteps.{IsBounded};
 
-use crate::occasions::{LAST_SECOND, Occasions, is_from, later, local_at};
+use crate::occasions::{LAST_SECOND, Occasions, local_at};
+use crate::seconds::{is_from, later, second_after, second_before};
 use crate::{Frequency, NthWeekday, Plan, RecurrenceRule, ReversiblePlan};
 use naive_base::NaiveDateTime;
 use thiserror::Error;
@@ -56,6 +57,9 @@ pub enum RecurrenceError {
     /// A numbered weekday with neither `FREQ=MONTHLY` nor `FREQ=YEARLY`, or with `BYWEEKNO`.
     #[error("a numbered weekday is not allowed here")]
     NthWeekday,
+    /// `BYSETPOS` without another `BY` part.
+    #[error("BYSETPOS needs another BY part")]
+    SetPosition,
 }
 
 /// The local times of a rule of RFC 5545 from its start (`DTSTART`) on, in whole seconds.
@@ -83,7 +87,10 @@ impl<'a> Recurrence<'a> {
     ///
     /// It searches for the last of them, with `COUNT` through all of them. So later searches stop there,
     /// and those of a rule without a local time return `None` at once. A search looks at each date from
-    /// one local time to the next, and at up to 3.7 million dates if no local time follows.
+    /// one local time to the next, and at up to 3.7 million dates if no local time follows. With
+    /// `BYSETPOS` it tries each local time that the other parts let through: for each place n that is
+    /// listed it searches up to n times for others of the period. Days and shorter periods that are too
+    /// short for all places are found at once; longer ones are walked through.
     ///
     /// # Errors
     ///
@@ -130,6 +137,9 @@ fn last_within(of: &Occasions<'_>, end: &RecurrenceEnd) -> i64
     ensures bound { IsBounded result }
 {
     if of.has_no_time() {
+        return before_start(of);
+    }
+    if of.has_no_position() {
         return before_start(of);
     }
     shortened(of, last_second(of, end))
@@ -197,20 +207,20 @@ fn last_to(of: &Occasions<'_>, until: i64) -> Option<i64>
     ensures { let set = IsRuleTime of.now.rule of.now.start in
         MatchOption result (HasNoneUntil set until) (λ l. IsLastUntil set until l) }
 {
-    if !is_from(until, of.start) {
-        return None;
+    let mut to = until;
+    'times: while is_from(to, of.start) {
+        let Some(last) = of.last_until(to) else {
+            return None;
+        };
+        if !is_from(last, of.start) {
+            return None;
+        }
+        if of.is_at_position(last) {
+            return Some(last);
+        }
+        to = second_before(last);
     }
-    match of.last_until(until) {
-        None => None,
-        Some(last) => from_start(last, of.start),
-    }
-}
-
-// A second, if it isn't before a start.
-fn from_start(second: i64, start: i64) -> Option<i64>
-    ensures { MatchOption result (second <ℤ start) (λ l. (l ≡ second) × (start ≤ℤ l)) }
-{
-    if second >= start { Some(second) } else { None }
+    None
 }
 
 // The second before the start.
@@ -229,7 +239,16 @@ fn first_between(of: &Occasions<'_>, from: i64, end: i64) -> Option<i64>
     ensures { MatchOption result (HasNoneBetween (IsRuleTime of.now.rule of.now.start) from end)
         (λ l. IsFirstBetween (IsRuleTime of.now.rule of.now.start) from end l) }
 {
-    of.first_between(from, end)
+    let mut left = from;
+    'times: loop {
+        let Some(time) = of.first_between(left, end) else {
+            return None;
+        };
+        if of.is_at_position(time) {
+            return Some(time);
+        }
+        left = second_after(time);
+    }
 }
 
 impl<'a> Plan for Recurrence<'a> {
@@ -264,13 +283,6 @@ fn earlier(second: i64, last: i64) -> i64
         return second;
     }
     last
-}
-
-fn second_after(second: i64) -> i64
-    requires { (neg_ℤ (pos 10_000_000_000_000) ≤ℤ second) × (second <ℤ pos 253_402_300_800) }
-    ensures { result ≡ second +ℤ pos 1 }
-{
-    second + 1
 }
 
 fn is_before(second: i64, end: i64) -> bool
@@ -312,6 +324,9 @@ fn check(
     }
     if !allows_nth(rule) {
         return Err(RecurrenceError::NthWeekday);
+    }
+    if !allows_positions(rule) {
+        return Err(RecurrenceError::SetPosition);
     }
     Ok(())
 }
@@ -369,6 +384,25 @@ fn allows_nth(rule: &RecurrenceRule<'_>) -> bool
     }
 }
 
+fn allows_positions(rule: &RecurrenceRule<'_>) -> bool
+    ensures { IsTrue result ↔ allowed.AllowsPositions rule.now }
+{
+    rule.by_set_position.is_empty() || !has_no_part(rule)
+}
+
+fn has_no_part(rule: &RecurrenceRule<'_>) -> bool
+    ensures { IsTrue result ↔ allowed.HasNoPart rule.now }
+{
+    rule.by_month.is_empty()
+        && rule.by_week_number.is_empty()
+        && rule.by_year_day.is_empty()
+        && rule.by_month_day.is_empty()
+        && rule.by_weekday.is_empty()
+        && rule.by_hour.is_empty()
+        && rule.by_minute.is_empty()
+        && rule.by_second.is_empty()
+}
+
 fn has_no_nth(list: &[NthWeekday]) -> bool
     ensures { IsTrue result ↔ All (λ e. e.nth ≡ pos 0) list.now }
 {
@@ -391,6 +425,7 @@ fn has_allowed_numbers(rule: &RecurrenceRule<'_>) -> bool
         && are_within(rule.by_hour, 0, 23)
         && are_within(rule.by_minute, 0, 59)
         && are_within(rule.by_second, 0, 60)
+        && are_places(rule.by_set_position, 366)
 }
 
 fn are_within(list: &[u32], least: u32, most: u32) -> bool

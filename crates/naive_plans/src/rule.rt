@@ -9,6 +9,8 @@ ghost use Rattle.gregorian.specs.Year.{days_in_year, floor_mod, is_leap};
 ghost use Rattle.naive_base.specs.Range.{IsWideDay};
 ghost use Rattle.naive_base.specs.Weekday.{weekday_number};
 ghost use Rattle.naive_plans.specs.Steps.RuleSteps.{IsNearRuleDay, IsRuleDay};
+ghost use Rattle.naive_base.specs.declared.weekday.Weekday.TheVariants.{Mon};
+ghost use Rattle.naive_plans.specs.AllowedRules.{HasNoPart};
 ghost use Rattle.naive_plans.specs.RecurrenceRules as rules;
 
 use gregorian::YearMonthDay;
@@ -23,6 +25,7 @@ pub enum Frequency {
     Daily,
     Hourly,
     Minutely,
+    Secondly,
 }
 
 /// An entry of `BYDAY`: a weekday, or the n-th one of the month or the year.
@@ -59,11 +62,17 @@ pub struct RecurrenceRule<'a> {
     pub by_minute: &'a [u32],
     /// `BYSECOND`: from 0 to 60. No [`NaiveDateTime`](naive_base::NaiveDateTime) is at second 60.
     pub by_second: &'a [u32],
+    /// `BYSETPOS`: from 1 to 366, or from -366 to -1 for places from the end of the period.
+    pub by_set_position: &'a [i32],
 }
 
 impl<'a> RecurrenceRule<'a> {
     /// Returns the rule that has only a frequency: one local time in each period, as its start has it.
-    pub fn new(frequency: Frequency) -> RecurrenceRule<'a> {
+    pub fn new(frequency: Frequency) -> RecurrenceRule<'a>
+        ensures parts { (result.frequency ≡ frequency) × (result.interval ≡ 1)
+            × (result.week_start ≡ Mon) }
+        ensures absent { HasNoPart result × rules.IsAbsent result.by_set_position.now }
+    {
         RecurrenceRule {
             frequency,
             interval: 1,
@@ -76,15 +85,16 @@ impl<'a> RecurrenceRule<'a> {
             by_hour: &[],
             by_minute: &[],
             by_second: &[],
+            by_set_position: &[],
         }
     }
 
     // Whether the hour can come from the rule's start: if its periods are days or longer.
-    pub(crate) fn tells_hour(&self) -> bool
+    fn tells_hour(&self) -> bool
         ensures { IsTrue result ↔ rules.TellsHour self.now }
     {
         match self.frequency {
-            Frequency::Hourly | Frequency::Minutely => false,
+            Frequency::Hourly | Frequency::Minutely | Frequency::Secondly => false,
             _ => true,
         }
     }
@@ -94,7 +104,17 @@ impl<'a> RecurrenceRule<'a> {
         ensures { IsTrue result ↔ rules.TellsMinute self.now }
     {
         match self.frequency {
-            Frequency::Minutely => false,
+            Frequency::Minutely | Frequency::Secondly => false,
+            _ => true,
+        }
+    }
+
+    // Whether the second can come from the start: if its periods are minutes or longer.
+    fn tells_second(&self) -> bool
+        ensures { IsTrue result ↔ rules.TellsSecond self.now }
+    {
+        match self.frequency {
+            Frequency::Secondly => false,
             _ => true,
         }
     }
@@ -215,7 +235,7 @@ impl<'a> RecurrenceRule<'a> {
         lists_weekday(self.by_weekday, weekday, before / 7, after / 7)
     }
 
-    // Whether it has a day, as far as its parts for dates tell.
+    // Whether it has a day, as far as its parts for dates matter.
     pub(crate) fn has_date(&self, day: i64, start: i64) -> bool
         requires day { IsRuleDay day }
         requires start { IsRuleDay start }
@@ -259,7 +279,7 @@ impl<'a> RecurrenceRule<'a> {
         ensures { IsTrue result ↔ rules.HasSecond self.now start second }
     {
         if self.by_second.is_empty() {
-            return second % 60 == start % 60;
+            return !self.tells_second() || second % 60 == start % 60;
         }
         lists(self.by_second, second % 60)
     }
@@ -336,7 +356,7 @@ pub(crate) fn lists_signed(part: &[i32], number: i32) -> bool
     false
 }
 
-// Whether a part lists a place, of which so many others come before it and so many after it.
+// Whether a part lists the place with `before` others before it and `after` others after it.
 fn lists_place(part: &[i32], before: u32, after: u32) -> bool
     requires { (before < 366) × (after < 366) }
     ensures { IsTrue result ↔ rules.ListsPlace part.now before after }
@@ -344,7 +364,7 @@ fn lists_place(part: &[i32], before: u32, after: u32) -> bool
     lists_signed(part, before as i32 + 1) || lists_signed(part, from_end(after))
 }
 
-// A place that so many others come after.
+// The place with `after` others after it.
 fn from_end(after: u32) -> i32
     requires { after < 366 }
     ensures { result ≡ neg_ℤ (pos (after + 1)) }
@@ -380,7 +400,7 @@ impl NthWeekday {
         NthWeekday { weekday, nth }
     }
 
-    // Whether it is a weekday of which so many come before it and so many after it.
+    // Whether it is that weekday, with `before` others before it and `after` others after it.
     fn is_at(&self, weekday: u32, before: u32, after: u32) -> bool
         requires { (before < 366) × (after < 366) }
         ensures { IsTrue result ↔ rules.IsEntry weekday before after self.now }

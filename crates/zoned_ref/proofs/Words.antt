@@ -15,7 +15,7 @@ pub use Rattle.tz_info.proofs.Words.{Precedes, IsRefusedBy, IsRuleOrNone, IsType
 pub use Rattle.tz_info.proofs.Words.{Zone, by_leap_time, by_rule, false, false≢true, get_or, length, length-map, lies_in, map, offsets, rule_offsets, slice_get}
 pub use Rattle.tz_info.proofs.Words.{true, type_when, ◌<◌, ◌≢◌}
 pub use Rattle.tz_info.specs.declared.rule.transition_rule.TransitionRule.{TransitionRule}
-pub use Rattle.tz_info.specs.declared.zone.shown_seconds.ShownSeconds.{ShownSeconds}
+pub use Rattle.tz_info.specs.declared.zone.ask.shown_seconds.ShownSeconds.{ShownSeconds}
 pub use Rattle.zoned_time.proofs.ForCallers.{choice_decided, same_itself}
 pub use Rattle.zoned_time.proofs.Words.{AreEndsOfDay, HasInstant, HasReached, IsAt, IsBeforeGap, IsFirstToReach, IsInRange, IsNeverOnDay, IsOffsetBeforeGap}
 pub use Rattle.zoned_time.proofs.Words.{IsOnDay, IsTaken, IsUnresolved, IsWallAnswer, IsWide, IsWideDay, IsWithinDay, IsZoneSecond, Law, List, MatchOption}

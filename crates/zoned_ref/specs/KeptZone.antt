@@ -15,7 +15,7 @@ use Rattle.zoned_ref.specs.declared.kept_zone.KeptZone.{KeptZone}
 abbrev pub zone_of : KeptZone → Zone
 zone_of k = borrowed.zone_of k.borrowed
 
--- and its offsets, second by second
+-- the zone's offset at each second
 abbrev pub off_of : KeptZone → ℤ → ℤ
 off_of k = borrowed.off_of k.borrowed
 
@@ -27,6 +27,6 @@ law_of k = offsets.law_of k.borrowed
 abbrev pub change_of : KeptChange → Change
 change_of c = change_of_instants type_of (zoned c.before) (zoned c.at)
 
--- its instants are those of the zone
+-- the change's instants are those of the zone
 abbrev pub IsOfZone : KeptZone → KeptChange → Type 0
 IsOfZone k c = AreAround (law_of k) (zoned c.before) (zoned c.at)

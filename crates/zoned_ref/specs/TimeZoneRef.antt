@@ -9,7 +9,7 @@ use Rattle.zoned_ref.specs.declared.time_zone_ref.TimeZoneRef.{TimeZoneRef}
 abbrev pub zone_of : TimeZoneRef → Zone
 zone_of r = r.zone.now
 
--- and its offsets, second by second
+-- the zone's offset at each second
 abbrev pub off_of : TimeZoneRef → ℤ → ℤ
 off_of r = offset_at r.zone.now r.offsets
 

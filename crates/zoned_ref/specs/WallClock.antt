@@ -9,7 +9,7 @@ use Rattle.zoned_time.specs.Zoned.{in_seconds}
 use Rattle.zoned_ref.specs.Instants.{AreTypesFor, AreInstantsFor}
 use Rattle.zoned_ref.specs.declared.wall_clock.WallClock.{WallClock}
 
--- it has the types by which the clocks of the zone show l, and the instants if all are in range
+-- the types by which the clocks of the zone show l, and the instants if all are in range
 pub record IsWallClockOf (z : Zone) (l : Reading) (w : WallClock) : Type 0 where
   pub types : AreTypesFor z l w.types
   pub instants : AreInstantsFor z l (option_map (map_of (λ d. in_seconds seconds_of (zoned d))) w.instants)

@@ -34,7 +34,7 @@ pub record AreAround {O : Type 0} {m : Meaning O} (law : Law m) (d e : Zoned O) 
 abbrev pub change_of : ZoneChange → Change
 change_of c = change_of_instants type_of (zoned c.before) (zoned c.at)
 
--- its instants are those of the zone
+-- the change's instants are those of the zone
 abbrev pub IsOfZone : TimeZoneRef → ZoneChange → Type 0
 IsOfZone r c = AreAround (law_of r) (zoned c.before) (zoned c.at)
 
@@ -43,6 +43,6 @@ pub record StandAlike (z : Zone) (off : ℤ → ℤ) (s u : ℤ) : Type 0 where
   pub offset : off u ≡ off s
   pub in_force : (t : LocalType) → TypeAt z s t → TypeAt z u t
 
--- so they do at each second in range that `within` takes
+-- the clocks of a zone are as at the second s at each second in range that `within` accepts
 abbrev pub StandWithin : Zone → (ℤ → ℤ) → ℤ → (ℤ → Type 0) → Type 0
 StandWithin z off s within = (u : ℤ) → IsInRange u → within u → StandAlike z off s u

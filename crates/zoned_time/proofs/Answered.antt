@@ -1,4 +1,4 @@
--- Each choice has an answer for each reading that the wall clock has one for.
+-- Each choice has an answer for each local date-time that the wall clock has one for.
 use Rattle.offset_core.specs.{Around.{IsAround}, declared.around.Around.TheVariants.{Ambiguous as Twice, Gap, Single as Once}}
 use Rattle.offset_core.specs.declared.local_result.LocalResult.TheVariants.{Ambiguous, None, Single}
 use Rattle.offset_core.specs.declared.resolve_error.ResolveError.TheVariants.{OutOfRange}
@@ -18,7 +18,7 @@ first_from p decide (suc n) start end e h = elim (decide start) [
 less_or_not : (a b : ℤ) → (a <ℤ b) ⊎ (a <ℤ b → ⊥)
 less_or_not a b = grind (arith, ints)
 
--- a reading that no clock shows has an offset before it
+-- a local time that no clock shows has an offset before it
 pub gap_has_offset : (off : ℤ → ℤ) (l : ℤ) → ((u : ℤ) → IsZoneSecond u → IsWithinDay (off u)) → IsWide l → IsNeverShown (ShowsByOffset off l) → (k : ℤ) × IsBeforeGap off l k
 gap_has_offset off l day wide never =
     let p = λ (u : ℤ). l <ℤ (u +ℤ off u) in let start : ℤ = l -ℤ pos 86_399 in let end : ℤ = l +ℤ pos 86_400 in
@@ -37,7 +37,7 @@ gap_has_offset off l day wide never =
       },
     )
 
--- an instant in range, by the offset that is taken; or why there is none
+-- an instant in range, by the offset that is taken; or the error
 abbrev pub IsDecided : (ℤ → ℤ) → ℤ → Choice → Type 0
 IsDecided off l choice = ((k : ℤ) × IsTaken off l choice k × IsInRange (l -ℤ k)) ⊎ ((e : ResolveError) × IsUnresolved off l choice e)
 

@@ -8,7 +8,7 @@ use Rattle.zoned_time.proofs.Words.{Taken, Takes, Zoned, behind, arith, home_law
 use Rattle.zoned_time.proofs.Words.{out_of_range, subst, taken_holds, taken_of, taken_of_images, ℤ, ◌-ℤ◌, ◌≡◌}
 use Rattle.zoned_time.proofs.Relocals.{at_shown}
 
--- an offset at which clocks show the reading, in force then
+-- an offset at which clocks show the local time, in force then
 abbrev IsShownBy : {O : Type 0} {m : Meaning O} → Law m → ℤ → O → Type 0
 IsShownBy {m = m} law l o = (u : ℤ) × ShowsByOffset law.off l u (m.seconds o) × law.in_force (l -ℤ m.seconds o) o × SameLaw (home_law m o) law
 
@@ -34,7 +34,7 @@ pub taken_resolved : {O D : Type 0} {m : Meaning O} (law : Law m) (l : Reading) 
 taken_resolved law l choice a t show (Ok d) around e h = grind (arith, ints, map_taken, is_taken)
 taken_resolved law l choice a t show (Err f) around e h = out_of_range _ (is_taken law l.s choice a t around e) h.1 h.0
 
--- by one at which clocks show the reading
+-- by one at which clocks show the local date-time
 pub shown_resolved : {O D : Type 0} {m : Meaning O} (law : Law m) (l : Reading) (choice : Choice) (a : Around O O) (o : O) (show : D → Zoned O)
     (result : Result D ResolveError)
     → AreOffsetsAround law l.s a → taken_of choice a ≡ Ok (Shown o)

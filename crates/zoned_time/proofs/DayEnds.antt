@@ -68,7 +68,7 @@ pub told_end : {O T : Type 0} {m : Meaning O} (law : Law m) (day start next : �
 told_end law day start next told found h some out =
     grind (arith, ints, end_out_of_range law.off day start next h, end_of_day law.off day start next h, in_order law.off day start next h)
 
--- ---- the day so many days before that of a date
+-- ---- the day n days before that of a date
 pub no_earlier_day : (off : ℤ → ℤ) (old : ℤ) (n : ℕ) → StayWithinDay off → IsWideDay old → IsDaysLater day_of IsDateOn old (neg_ℤ (pos n)) None → IsFirstOutOfRange off (midnight (old -ℤ pos n))
 no_earlier_day off old n within wide h = grind (arith, too_early)
 

@@ -3,7 +3,7 @@ pub use Rattle.zoned_time.proofs.Answered.{choice_decided}
 pub use Rattle.zoned_time.proofs.Homes.{same_itself, same_through, offset_home, at_home, offsets_home, relocal_home}
 pub use Rattle.zoned_time.proofs.Instants.{told_in_seconds, relocal_once, given_some}
 pub use Rattle.zoned_time.proofs.Relocals.{relocal_shown}
--- of a zone whose offsets are told by their seconds
+-- of a zone whose offsets are nothing but seconds
 pub use Rattle.zoned_time.proofs.Walls.{wall_by_seconds, gap_by_seconds}
 -- of a zone whose offset never changes: its wall clock's answer, and that it has no gap; and that midnights are in the range
 pub use Rattle.zoned_time.proofs.Walls.{constant_wall, constant_no_gap}

@@ -6,7 +6,7 @@ use Rattle.zoned_time.proofs.Words.{option_map, subst, ℕ, [], ◌++?◌, ◌++
 abbrev pub Appends : List ℕ → List ℕ → List ℕ → Type 0
 Appends old piece new = new ≡ old ++ piece
 
--- where the text in o came into an empty buffer, the buffer's text was written
+-- if the text in o came into an empty buffer, the buffer's text was written
 pub at_once : {W : Type 0} (took : W → List ℕ → W → Type 0) (f g : Formatter W) (r : Result (Unit {0}) Error)
     (o : Option (List ℕ)) (empty text bytes : List ℕ) → empty ≡ [] → bytes ≡ text → WritesText Appends empty o text
     → WritesOnOk took f r bytes g → DisplaysOnOk took f r o g

@@ -1,4 +1,4 @@
--- Readings brought back to UTC by clocks whose offset never changes.
+-- Local date-times converted to UTC by clocks whose offset never changes.
 use Rattle.offset_core.specs.declared.local_result.LocalResult.TheVariants.{Ambiguous, None as none, Single}
 use Rattle.zoned_time.proofs.Words.{AreInstantsOf, AreOffsetsFor, Each, HasInstant, IsAndThen, IsAt, IsFixed, IsInRange, IsRelocal, IsShownBetween, IsSome}
 use Rattle.zoned_time.proofs.Words.{IsWallAnswer, IsZoneSecond, Law, LocalResult, Meaning, Option, Reading, SameLaw, ShowsByOffset, SingleIff, SomeIff, Utc}
@@ -17,12 +17,12 @@ not_between law l a b fixed between = grind (arith, ints)
 epoch_in_zone : IsZoneSecond (pos 0)
 epoch_in_zone = (omega (arith, ints), omega (arith, ints))
 
--- and a second in range shows its reading
+-- and a second in range shows its local time
 shown_in_range : {O : Type 0} {m : Meaning O} (law : Law m) (l : ℤ) → IsFixed law → IsInRange (l -ℤ law.off (pos 0))
     → ShowsByOffset law.off l (l -ℤ law.off (pos 0)) (law.off (pos 0))
 shown_in_range law l fixed range = grind arith
 
--- one offset's instant, where that is in range, or no offset, where none is
+-- one offset's instant, if it is in range, or no offset, if none is
 abbrev GivenOnce : {O : Type 0} {m : Meaning O} → Law m → Reading → LocalResult (Zoned O) → Type 0
 GivenOnce {O} {m} law l answer =
     ((o : O) × (m.seconds o ≡ law.off (pos 0)) × SingleIff answer (HasInstant m.seconds l o) (instant_of m.seconds l o))
@@ -34,7 +34,7 @@ given_once law l none answer fixed wall instants = grind (arith, ints, shown_in_
 given_once law l (Single o) answer fixed wall instants = grind (arith, ints, epoch_in_zone, single_instant)
 given_once {m = m} law l (Ambiguous a b) answer fixed wall instants = grind (arith, ints, not_between law l.s (m.seconds a) (m.seconds b) fixed wall)
 
--- so a zone of one offset gives one instant, or none where that is out of range
+-- so a zone of one offset gives one instant, or none if that is out of range
 pub fixed_relocal : {O : Type 0} {m : Meaning O} (law : Law m) (zone : O) (l : Reading) (answer : LocalResult (Zoned O))
     → m.seconds zone ≡ law.off (pos 0) → ((o : O) → m.seconds o ≡ law.off (pos 0) → o ≡ zone) → IsFixed law → IsRelocal law l answer
     → SingleIff answer (HasInstant m.seconds l zone) (instant_of m.seconds l zone)
@@ -45,7 +45,7 @@ pub fixed_single : {T O : Type 0} {m : Meaning O} (law : Law m) (l : Reading) (s
     → IsFixed law → IsInRange (l.s -ℤ law.off (pos 0)) → IsRelocal law l (map_of show answer) → IsSome (single_of answer)
 fixed_single law l show answer fixed range h = grind (arith, ints, given_once law l h.offsets (map_of show answer) fixed h.wall.wall h.instants)
 
--- which in UTC has the reading itself
+-- which is the local date-time itself for UTC
 pub utc_instant : (l : Reading) (answer : LocalResult (Zoned Utc))
     → SingleIff answer (HasInstant {O = Utc} (λ _. pos 0) l (record {})) (instant_of {O = Utc} (λ _. pos 0) l (record {}))
     → SingleIff answer (IsInRange l.s) (in_utc l)

@@ -14,7 +14,7 @@ single_each P a d is h = grind (arith, ints)
 only_in : {O : Type 0} {m : Meaning O} (law : Law m) (l : Reading) (d : Zoned O) → IsOnly law l (Some d) → IsOffsetAt law d.utc.s d.offset
 only_in law l d h = (single_each _ h.instants d h.only (relocal_shown law l h.instants h.relocal)).1.offset
 
--- the only instant that shows some reading has the offset of the zone
+-- the only instant that shows some local date-time has the offset of the zone
 pub only_where_in : {O : Type 0} {m : Meaning O} (law : Law m) (l : Option Reading) (d : Zoned O) → IsOnlyWhere law l (Some d)
     → IsOffsetAt law d.utc.s d.offset
 only_where_in law l d h = grind (arith, ints, only_in)

@@ -1,4 +1,4 @@
--- Wall clocks of a zone whose offsets are told by their seconds, and of one whose offset never changes.
+-- Wall clocks of a zone whose offsets are nothing but seconds, and of one whose offset never changes.
 use Rattle.offset_core.specs.declared.local_result.LocalResult.TheVariants.{Single}
 use Rattle.zoned_time.proofs.Words.{AreOffsetsFor, Each, IsBeforeGap, IsOffsetBeforeGap, IsShownOnce, IsWallAnswer, IsWide, IsWithinDay, LocalResult, Meaning}
 use Rattle.zoned_time.proofs.Words.{None as none, SameLaw, ShowsByOffset, Some, arith, home_law, ints, law_by_seconds, map_of, refl, ℤ, ◌+ℤ◌, ◌-ℤ◌, ◌≡◌}
@@ -28,7 +28,7 @@ pub constant_wall : {O : Type 0} (m : Meaning O) (offset : O) (k l : ℤ)
     → AreOffsetsFor {m = m} (law_by_seconds (λ _. k)) l (Single offset)
 constant_wall m offset k l is same day wide = grind (arith, ints, wall_by_seconds, shown_once)
 
--- and no reading lies in a gap
+-- and no local time lies in a gap
 pub constant_no_gap : {O : Type 0} (m : Meaning O) (k l : ℤ)
     → IsWithinDay k → IsWide l → IsOffsetBeforeGap {m = m} (law_by_seconds (λ _. k)) l none
 constant_no_gap m k l day wide = let once = shown_once k l day wide in (once.second, k, once.shown)

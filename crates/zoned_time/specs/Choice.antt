@@ -24,7 +24,7 @@ pub record IsBeforeGap (off : ℤ → ℤ) (l k : ℤ) : Type 0 where
   pub least : (u : ℤ) → IsZoneSecond u → l <ℤ (u +ℤ off u) → first ≤ℤ u
   pub before : k ≡ off (first -ℤ pos 1)
 
--- an offset of the zone before the gap of l, in force at the second before its first; none where a clock shows l
+-- the zone's offset before the gap that l lies in, in force at the second before the gap; none if a clock shows l
 abbrev pub IsOffsetBeforeGap : {O : Type 0} {m : Meaning O} → Law m → ℤ → Option O → Type 0
 IsOffsetBeforeGap {m = m} law l (Some o) =
     (gap : IsBeforeGap law.off l (m.seconds o)) × law.in_force (gap.first -ℤ pos 1) o × SameLaw (home_law m o) law
@@ -48,14 +48,14 @@ pub record IsTaken (off : ℤ → ℤ) (l : ℤ) (choice : Choice) (k : ℤ) : T
   pub takes : Takes (ShowsByOffset off l) (IsBeforeGap off l) choice (Ok taken)
   pub offset : k ≡ offset_taken taken
 
--- the instant of the reading l under a choice: the offset is the zone's own there, which in a gap is the one after it
+-- the instant of the local date-time l under a choice: the offset is the zone's own there, which in a gap is the one after it
 pub record IsResolved {O : Type 0} {m : Meaning O} (law : Law m) (l : Reading) (choice : Choice) (d : Zoned O) : Type 0 where
   pub offset : ℤ
   pub taken : IsTaken law.off l.s choice offset
   pub in_range : IsInRange (behind l offset).s
   pub at : IsAt law (behind l offset) d
 
--- why there is none: the choice takes nothing of l, or what it takes is out of range
+-- why l has no instant: the choice rejects l, or its instant is out of range
 pub data IsUnresolved (off : ℤ → ℤ) (l : ℤ) (choice : Choice) (e : ResolveError) : Type 0 where
   refused : Takes (ShowsByOffset off l) (IsBeforeGap off l) choice (Err e) → IsUnresolved off l choice e
   out_of_range : (k : ℤ) → IsTaken off l choice k → ¬ (IsInRange (l -ℤ k)) → e ≡ OutOfRange → IsUnresolved off l choice e

@@ -10,7 +10,7 @@ use Rattle.zoned_time.specs.Fields.{IsOnlyWhere}
 use Rattle.zoned_time.specs.Zone.{Meaning, Law, home_law, IsOffsetAt}
 use Rattle.zoned_time.specs.Zoned.{Zoned, shown, local_of, IsAt}
 
--- its reading of UTC, and its offset
+-- the instant's date-time in UTC, and its offset
 abbrev pub zoned : {Tz O : Type 0} {f : offset.Ghosts O} {g : debug.Ghosts O} → Instant Tz O f g → Zoned O
 zoned d = shown d.datetime d.offset
 
@@ -22,19 +22,19 @@ wall_of {f = f} d = local_of f.seconds (zoned d)
 abbrev pub home_law_of : {Tz O : Type 0} {f : offset.Ghosts O} {g : debug.Ghosts O} (m : Meaning O) → Instant Tz O f g → Law m
 home_law_of m d = home_law m (zoned d).offset
 
--- its offset is one that a zone gives at that instant
+-- the instant's offset is one that the zone gives then
 abbrev pub IsIn : {Tz O : Type 0} {f : offset.Ghosts O} {g : debug.Ghosts O} {m : Meaning O} → Law m → Instant Tz O f g → Type 0
 IsIn law d = IsOffsetAt law (zoned d).utc.s (zoned d).offset
 
--- so many nanoseconds later, or earlier for a negative number, the reading of UTC is in range
+-- the instant's date-time in UTC stays in range when moved by that many nanoseconds (backward if negative)
 abbrev pub CanMove : {Tz O : Type 0} {f : offset.Ghosts O} {g : debug.Ghosts O} → Instant Tz O f g → ℤ → Type 0
 CanMove d by = IsInRange (moved (zoned d).utc by).s
 
--- the instant then, with the offset of that zone
+-- the instant moved by that many nanoseconds, with the offset of the zone that its offset came from
 abbrev pub IsMoved : {Tz O : Type 0} {f : offset.Ghosts O} {g : debug.Ghosts O} (m : Meaning O) → Instant Tz O f g → ℤ → Instant Tz O f g → Type 0
 IsMoved m d by new = IsAt (home_law_of m d) (moved (zoned d).utc by) (zoned new)
 
--- the instant of another reading of UTC, with the same offset
+-- the instant of another date-time in UTC, with the same offset
 abbrev pub IsSetTo : {Tz O : Type 0} {f : offset.Ghosts O} {g : debug.Ghosts O} → Instant Tz O f g → Reading → Instant Tz O f g → Type 0
 IsSetTo d utc new = ((zoned new).utc ≡ utc) × ((zoned new).offset ≡ (zoned d).offset)
 
@@ -42,29 +42,28 @@ IsSetTo d utc new = ((zoned new).utc ≡ utc) × ((zoned new).offset ≡ (zoned 
 abbrev pub day_shown_by : {Tz O : Type 0} {f : offset.Ghosts O} {g : debug.Ghosts O} → Instant Tz O f g → ℤ
 day_shown_by d = day_at (wall_of d)
 
--- the only instant at which the clocks of its zone show, on the day given, the time that this clock shows; none where no day
--- is given
+-- the only instant at which the clocks of its zone show, on the given day, the time that this clock shows; none without a day
 abbrev pub IsOnlyOnDay : {Tz O : Type 0} {f : offset.Ghosts O} {g : debug.Ghosts O} (m : Meaning O)
     → Instant Tz O f g → Option ℤ → Option (Instant Tz O f g) → Type 0
 IsOnlyOnDay m d day new =
     let l = wall_of d in IsOnlyWhere (home_law_of m d) (option_map (λ n. reading_at n (second_at l) l.f) day) (option_map (λ e. zoned e) new)
 
--- the only instant at which they show the time given, on the day that this clock shows
+-- the only instant at which the clocks of its zone show the given time, on the day that this clock shows
 abbrev pub IsOnlyAtTime : {Tz O : Type 0} {f : offset.Ghosts O} {g : debug.Ghosts O} (m : Meaning O)
     → Instant Tz O f g → Option TimeOfDay → Option (Instant Tz O f g) → Type 0
 IsOnlyAtTime m d time new = IsOnlyWhere (home_law_of m d) (option_map (reading_on (day_at (wall_of d))) time) (option_map (λ e. zoned e) new)
 
--- the only instant at which they show that time so many months later, or earlier for a negative number
+-- the only instant at which the clocks of its zone show its local time that many months later (earlier if negative)
 abbrev pub IsOnlyMonthsLater : {Tz O : Type 0} {f : offset.Ghosts O} {g : debug.Ghosts O} (m : Meaning O)
     → Instant Tz O f g → ℤ → Option (Instant Tz O f g) → Type 0
 IsOnlyMonthsLater m d by new = IsMonthsLater (λ e. day_shown_by e) (IsOnlyOnDay m d) (day_shown_by d) by new
 
--- and so many days later, or earlier
+-- the only instant at which the clocks of its zone show its local time that many days later (earlier if negative)
 abbrev pub IsOnlyDaysLater : {Tz O : Type 0} {f : offset.Ghosts O} {g : debug.Ghosts O} (m : Meaning O)
     → Instant Tz O f g → ℤ → Option (Instant Tz O f g) → Type 0
 IsOnlyDaysLater m d by new = IsDaysLater (λ e. day_shown_by e) (IsOnlyOnDay m d) (day_shown_by d) by new
 
--- the same of days added: none of them leave the instant as it is
+-- the only instant of its local time that many days later; adding 0 days gives the instant itself
 pub record IsDaysAdded {Tz O : Type 0} {f : offset.Ghosts O} {g : debug.Ghosts O} (m : Meaning O) (d : Instant Tz O f g)
     (days : ℕ) (new : Option (Instant Tz O f g)) : Type 0 where
   pub none : days ≡ 0 → new ≡ Some d

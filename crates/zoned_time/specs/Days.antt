@@ -23,7 +23,7 @@ pub record AreEndsOfDay (off : ℤ → ℤ) (day first last : ℤ) : Type 0 wher
 abbrev pub IsNeverOnDay : (ℤ → ℤ) → ℤ → Type 0
 IsNeverOnDay off day = (u : ℤ) → IsOnDay off day u → ⊥
 
--- these two as instants of the zone, of whole seconds
+-- the first and the last second of the day, as instants of the zone
 pub record AreInstantsOfDay {O : Type 0} {m : Meaning O} (law : Law m) (day : ℤ) (d e : Zoned O) : Type 0 where
   pub ends : AreEndsOfDay law.off day d.utc.s e.utc.s
   pub at_first : IsAt law (of_secs d.utc.s 0) d
@@ -38,7 +38,7 @@ pub record HasReached (off : ℤ → ℤ) (l u : ℤ) : Type 0 where
   pub in_zone : IsZoneSecond u
   pub reached : l ≤ℤ (u +ℤ off u)
 
--- u is the first such second
+-- u is the first second, at which zones have offsets, at which the clocks show the second l or a later one
 pub record IsFirstToReach (off : ℤ → ℤ) (l u : ℤ) : Type 0 where
   pub reached : HasReached off l u
   pub first : (v : ℤ) → HasReached off l v → u ≤ℤ v
@@ -53,7 +53,7 @@ pub record IsFirstInstantFrom (off : ℤ → ℤ) (l r : Reading) : Type 0 where
   pub shown : IsInstantFrom off l r
   pub first : (q : Reading) → IsInstantFrom off l q → ¬ (IsEarlier q r)
 
--- that instant is out of range
+-- the first instant at which the clocks show the local time l or a later one is out of range
 abbrev pub IsFirstOutOfRange : (ℤ → ℤ) → Reading → Type 0
 IsFirstOutOfRange off l = (r : Reading) × IsFirstInstantFrom off l r × (IsInRange r.s → ⊥)
 

@@ -13,7 +13,7 @@ pub record IsOnly {O : Type 0} {m : Meaning O} (law : Law m) (l : Reading) (answ
   pub relocal : IsRelocal law l instants
   pub only : answer ≡ single_of instants
 
--- the same of a reading that may be missing
+-- the only instant of a local date-time, if there is such a date-time
 abbrev pub IsOnlyWhere : {O : Type 0} {m : Meaning O} → Law m → Option Reading → Option (Zoned O) → Type 0
 IsOnlyWhere law (Some l) answer = IsOnly law l answer
 IsOnlyWhere law None answer = answer ≡ None

@@ -89,6 +89,6 @@ GivesFire law plan zoned before answer after = MatchOption answer
     (λ d. IsZonedNextFire law plan before.after (zoned d) × ((zoned d).utc.s ≤ℤ before.until)
     × (after ≡ record before { after = (zoned d).utc.s }))
 
--- these are all that are left
+-- the fires that a `Fires` has left, in order
 abbrev pub AreLeft : {Z P O : Type 0} {m : Meaning O} → (Z → Law m) → (P → ℤ → Type 0) → FiresLeft Z P → List ℤ → Type 0
 AreLeft law planned l us = AreFires (law l.zone).off (planned l.plan) l.after l.until us

@@ -1,8 +1,8 @@
--- The order of instants: that of their readings of UTC.
+-- The order of instants: that of their date-times in UTC.
 use Rattle.std.specs.declared.cmp.Ordering.{Ordering}
 use Rattle.std.specs.Ordering.{on, int_cmp, nat_cmp, then_cmp}
 use Rattle.naive_base.specs.Reading.{Reading}
 
--- by the second, then by the nanoseconds
+-- the order of date-times: by the second, then by the nanoseconds
 abbrev pub compared : Reading → Reading → Ordering
 compared = then_cmp (on (λ r. r.s) int_cmp) (on (λ r. r.f) nat_cmp)

@@ -1,4 +1,4 @@
--- Local readings brought back to UTC.
+-- Local date-times converted to UTC.
 use Rattle.std.specs.Prelude.{◌≡◌, ℤ, SomeIff}
 use Rattle.offset_core.specs.declared.local_result.LocalResult.{LocalResult}
 use Rattle.offset_core.specs.declared.local_result.LocalResult.TheVariants.{Single, Ambiguous, None}
@@ -12,11 +12,11 @@ use Rattle.zoned_time.specs.Zoned.{Zoned}
 abbrev pub instant_of : {O : Type 0} → (O → ℤ) → Reading → O → Zoned O
 instant_of seconds l offset = record { utc = behind l (seconds offset); offset = offset }
 
--- its reading of UTC is in range
+-- the date-time in UTC of a local date-time at an offset is in range
 abbrev pub HasInstant : {O : Type 0} → (O → ℤ) → Reading → O → Type 0
 HasInstant seconds l offset = IsInRange (behind l (seconds offset)).s
 
--- the instant of each offset; where one of them is out of range, none at all
+-- the instant at each offset; none at all if one of them is out of range
 abbrev pub AreInstantsOf : {O : Type 0} → (O → ℤ) → Reading → LocalResult O → LocalResult (Zoned O) → Type 0
 AreInstantsOf seconds l offsets answer =
     IsAndThen (λ _ o d _. SomeIff d (HasInstant seconds l o) (instant_of seconds l o)) (tt {0}) offsets answer

@@ -11,7 +11,7 @@ pub record AreStepBounds (off : ℤ → ℤ) (begins : ℤ → Type 0) (t begin 
   pub begin_is : IsLastFire off begins t begin
   pub end_is : IsNextFire off begins t end
 
--- these two as instants of the zone, of whole seconds
+-- the begin and the end of the step, as instants of the zone, of whole seconds
 pub record AreInstantsOfStep {O : Type 0} {m : Meaning O} (law : Law m) (begins : ℤ → Type 0) (t : ℤ) (d e : Zoned O) : Type 0 where
   pub bounds : AreStepBounds law.off begins t d.utc.s e.utc.s
   pub at_begin : IsAt law (of_secs d.utc.s 0) d

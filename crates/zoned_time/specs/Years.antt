@@ -1,4 +1,4 @@
--- Whole years from one reading to another.
+-- Whole years from one local date-time to another.
 use Rattle.std.specs.Prelude.{◌≡◌, ◌<◌, ◌⊎◌, ℕ, ℤ, pos, ◌+ℤ◌, ◌≤ℤ◌, ◌<ℤ◌, unsigned_abs, Option, SomeIff}
 use Rattle.naive_base.specs.DateOf.{year_of, month_of, day_of_month}
 use Rattle.naive_base.specs.Reading.{Reading, day_at, second_at, IsEarlierTime}
@@ -23,6 +23,6 @@ pub record IsWholeYears (l m : Reading) (n : ℤ) : Type 0 where
   pub passed : HaveYearsPassed l m n
   pub greatest : (k : ℤ) → HaveYearsPassed l m k → k ≤ℤ n
 
--- these, where they are not negative
+-- the whole years from the one to the other, if not negative
 abbrev pub IsYearsSince : Reading → Reading → Option ℕ → Type 0
 IsYearsSince l m years = (n : ℤ) × IsWholeYears l m n × SomeIff years (pos 0 ≤ℤ n) (unsigned_abs n)

@@ -7,7 +7,7 @@ use Rattle.offset_core.specs.WallAnswer.{IsWallAnswer}
 use Rattle.naive_base.specs.declared.date.NaiveDate.{NaiveDate}
 use Rattle.naive_base.specs.NaiveDate.{day_of}
 
--- the seconds at which a zone has an offset: the range of readings, widened by two days each way
+-- the seconds at which a zone has an offset: the range of date-times, widened by two days each way
 abbrev pub IsZoneSecond : ℤ → Type 0
 IsZoneSecond u = (neg_ℤ (pos 8_334_601_401_600) ≤ℤ u) × (u ≤ℤ pos 8_210_267_049_599)
 
@@ -35,7 +35,7 @@ pub record Law {O : Type 0} (meaning : Meaning O) : Type 1 where
 abbrev pub home_law : {O : Type 0} (m : Meaning O) → O → Law m
 home_law m offset = record { off = m.home offset; in_force = m.home_in_force offset }
 
--- the same of offsets that are told by their seconds alone: those in force are those of the zone's seconds
+-- the meaning of offsets that are nothing but seconds: an offset in force has the zone's seconds
 abbrev pub meaning_by_seconds : {O : Type 0} → (O → ℤ) → (O → ℤ → ℤ) → Meaning O
 meaning_by_seconds seconds home =
     record { seconds = seconds; home = home; home_in_force = λ o u p. seconds p ≡ home o u }
@@ -72,7 +72,7 @@ pub record ShowsByOffset (off : ℤ → ℤ) (l u k : ℤ) : Type 0 where
   pub offset : k ≡ off u
   pub shown : u +ℤ k ≡ l
 
--- p holds of each value
+-- p holds of each value of the answer
 abbrev pub Each : {O : Type 0} → (O → Type 0) → LocalResult O → Type 0
 Each p None = Unit {0}
 Each p (Single a) = p a

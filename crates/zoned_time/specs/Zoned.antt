@@ -1,4 +1,4 @@
--- Zoned readings: a reading of UTC, and an offset.
+-- Zoned date-times: a date-time in UTC, and an offset.
 use Rattle.std.specs.Prelude.{◌≡◌, ℤ, Option, Some, None}
 use Rattle.offset_core.specs.declared.fixed_offset.FixedOffset.{FixedOffset}
 use Rattle.offset_core.specs.FixedOffset.{seconds_of}
@@ -8,12 +8,12 @@ use Rattle.naive_base.specs.Range.{IsInRange}
 use Rattle.naive_base.specs.Reading.{Reading, ahead}
 use Rattle.zoned_time.specs.Zone.{Meaning, Law, IsOffsetAt}
 
--- a reading of UTC, and an offset
+-- a date-time in UTC, and an offset
 pub record Zoned (O : Type 0) : Type 0 where
   pub utc : Reading
   pub offset : O
 
--- of these two fields of a `DateTime`. (Its word is `zoned`; the trait `TimeZone` can't cite that, since it names the trait.)
+-- the zoned date-time of the two fields of a `DateTime`. (Its word is `zoned`; the trait `TimeZone` can't cite that, since it names the trait.)
 abbrev pub shown : {O : Type 0} → NaiveDateTime → O → Zoned O
 shown utc offset = record { utc = reading utc; offset = offset }
 
@@ -21,11 +21,11 @@ shown utc offset = record { utc = reading utc; offset = offset }
 abbrev pub local_of : {O : Type 0} → (O → ℤ) → Zoned O → Reading
 local_of seconds d = ahead d.utc (seconds d.offset)
 
--- with the offset in plain seconds
+-- the zoned date-time with its offset in plain seconds
 abbrev pub in_seconds : {O : Type 0} → (O → ℤ) → Zoned O → Zoned ℤ
 in_seconds seconds d = record { utc = d.utc; offset = seconds d.offset }
 
--- the reading r of UTC with the offset that the zone gives there
+-- the date-time r in UTC with the zone's offset then
 pub record IsAt {O : Type 0} {m : Meaning O} (law : Law m) (r : Reading) (d : Zoned O) : Type 0 where
   pub utc : d.utc ≡ r
   pub offset : IsOffsetAt law d.utc.s d.offset

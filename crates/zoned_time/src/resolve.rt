@@ -12,7 +12,7 @@ use crate::{DateTime, Offset, TimeZone};
 use naive_base::NaiveDateTime;
 use offset_core::ResolveError;
 
-// The instant when a clock with that offset shows the reading, where it is in range.
+// The instant when a clock with that offset shows the local date-time, if it is in range.
 pub(crate) fn instant_by<Tz: TimeZone>(
     local: &NaiveDateTime,
     offset: Tz::Offset,
@@ -28,7 +28,7 @@ pub(crate) fn instant_by<Tz: TimeZone>(
     }
 }
 
-// The instant at which a clock of that offset would show the reading, by the zone's own offset there.
+// The instant at which a clock of that offset would show the local date-time, with the zone's own offset there.
 pub(crate) fn shifted<Tz: TimeZone>(
     zone: &Tz,
     local: &NaiveDateTime,

@@ -108,7 +108,7 @@ pub trait TimeZone: Sized + Copy {
     final fn from_local_datetime(&self, local: &NaiveDateTime) -> LocalResult<DateTime<Self>>
         ensures instants { IsRelocal (law self.now) (reading local.now)
             (map_of (λ d. shown d.datetime d.offset) result) }
-        // A zone of one offset has exactly one, where that is in range.
+        // A zone of one offset has exactly one, if it is in range.
         ensures fixed { zones.IsFixed (law self.now)
             → IsInRange (behind (reading local.now) ((law self.now).off (pos 0))).s
             → IsSome (single_of result) }

@@ -32,7 +32,7 @@ pub struct ShownDay<T> {
     pub last: T,
 }
 
-/// Where a step of the local clock begins and where it ends, which is where the next one begins.
+/// The begin of a step of the local clock, and its end, which is the begin of the next step.
 #[derive(Clone, Copy, Debug)]
 pub struct StepBounds<T> {
     /// The first instant of the step.
@@ -375,7 +375,7 @@ pub trait ZoneDays: TimeZone {
     /// lasts to before the next step begins. So each instant lies in one step. A step doesn't begin again
     /// if clocks are set back: until they have caught up, instants lie in the step in which that happened.
     /// So the hour of 01:00 has 120 minutes in New York on 2021-11-07, and 90 in Lord Howe on 2021-04-04,
-    /// where clocks went from 02:00 back to 01:30.
+    /// when clocks went from 02:00 back to 01:30.
     ///
     /// ```
     /// let second_pass = Utc.with_ymd_and_hms(2021, 11, 7, 6, 30, 0).single()?; // 01:30:00 -05:00
@@ -414,8 +414,8 @@ pub trait ZoneDays: TimeZone {
         self.first_fire(&step, instant)
     }
 
-    /// Returns where the step of the local clock that an instant of any zone lies in begins and where it
-    /// ends; `None` if one of the two is out of the range of [`DateTime`].
+    /// Returns the begin and the end of the step of the local clock that contains an instant of any zone;
+    /// `None` if one of the two is out of the range of [`DateTime`].
     ///
     /// ```
     /// let second_pass = Utc.with_ymd_and_hms(2021, 11, 7, 6, 30, 0).single()?; // 01:30:00 -05:00

@@ -1,8 +1,9 @@
 -- What the walks over local times answer.
-use Rattle.std.specs.Prelude.{ℕ, ◌<◌, ◌≤◌, ℤ, pos, neg_ℤ, ◌+ℤ◌, ◌*ℤ◌, ◌≤ℤ◌, ◌<ℤ◌}
+use Rattle.std.specs.Prelude.{◌≡◌, ◌⊎◌, ℕ, ◌<◌, ◌≤◌, ℤ, pos, neg_ℤ, ◌+ℤ◌, ◌-ℤ◌, ◌*ℤ◌, ◌≤ℤ◌, ◌<ℤ◌}
 use Rattle.gregorian.specs.Year.{floor_mod}
 use Rattle.naive_plans.specs.Steps.RuleSteps.{own_period}
 use Rattle.naive_plans.specs.RecurrenceRules.{Counts, HasHour, HasMinute, HasSecond}
+use Rattle.naive_plans.specs.declared.rule.Frequency.TheVariants.{Hourly, Minutely, Secondly}
 use Rattle.naive_plans.specs.declared.rule.RecurrenceRule.{RecurrenceRule}
 
 -- a second's period counts
@@ -14,6 +15,22 @@ pub record IsStartOfNext (r : RecurrenceRule) (start second next : ℤ) : Type 0
   pub none : (l : ℤ) → IsCounted r start l → second ≤ℤ l → next ≤ℤ l
   pub not_here : IsCounted r start second → ⊥
   pub bound : (neg_ℤ (pos 1_000_000_000_000_000_000) ≤ℤ next) × (next ≤ℤ pos 1_000_000_000_000_000_000)
+
+-- no period counts from a second on and up to another one, and the last second's own one doesn't
+pub record IsEndOfLast (r : RecurrenceRule) (start second end : ℤ) : Type 0 where
+  pub none : (l : ℤ) → IsCounted r start l → l ≤ℤ second → l <ℤ end
+  pub not_here : IsCounted r start second → ⊥
+  pub bound : ((start -ℤ pos 31_708_800) ≤ℤ end) × (end <ℤ pos 345_600_086_400)
+
+-- the rule's periods are hours, minutes or seconds, of so many seconds
+abbrev pub IsPartOfHours : RecurrenceRule → ℕ → Type 0
+IsPartOfHours r n = ((r.frequency ≡ Hourly) × (n ≡ 3600)) ⊎ ((r.frequency ≡ Minutely) × (n ≡ 60)) ⊎ ((r.frequency ≡ Secondly) × (n ≡ 1))
+
+-- the rule's parts for hours, minutes and seconds let a period of that length through, by its first second
+pub record HasPeriodOfDay (r : RecurrenceRule) (start length second : ℕ) : Type 0 where
+  pub hour : HasHour r start second
+  pub minute : length ≤ 60 → HasMinute r start second
+  pub at_second : length ≤ 1 → HasSecond r start second
 
 -- its parts but those for dates let the second of the day through
 pub record IsTimeOn (r : RecurrenceRule) (start day : ℤ) (second : ℕ) : Type 0 where

@@ -2,6 +2,8 @@
 use Rattle.std.specs.Prelude.{ℕ, ◌<◌, ◌≤◌, ℤ, pos, neg_ℤ, ◌≤ℤ◌, ◌<ℤ◌, ◌+ℤ◌}
 use Rattle.naive_base.specs.Weekday.{weekday_number}
 use Rattle.naive_plans.specs.RecurrenceRules.{Counts, period_of}
+use Rattle.naive_plans.specs.declared.rule.Frequency.{Frequency}
+use Rattle.naive_plans.specs.declared.rule.Frequency.TheVariants.{Secondly}
 use Rattle.naive_plans.specs.declared.rule.RecurrenceRule.{RecurrenceRule}
 
 -- the days of the years -200 to 12000, about, and a week more
@@ -17,7 +19,7 @@ IsRuleSecond l = (neg_ℤ (pos 69_120_000_000) ≤ℤ l) × (l <ℤ pos 345_600_
 
 -- a period's number that is not too large
 abbrev pub IsPeriod : ℤ → Type 0
-IsPeriod p = (neg_ℤ (pos 100_000_000_000) ≤ℤ p) × (p ≤ℤ pos 100_000_000_000)
+IsPeriod p = (neg_ℤ (pos 350_000_000_000) ≤ℤ p) × (p ≤ℤ pos 350_000_000_000)
 
 -- the period that a local second lies in
 abbrev pub own_period : RecurrenceRule → ℤ → ℤ
@@ -27,12 +29,17 @@ own_period r l = period_of r.frequency (weekday_number r.week_start) l
 abbrev pub IsStarted : ℕ → ℤ → Type 0
 IsStarted interval start = (1 ≤ interval) × (interval < 4_294_967_296) × (neg_ℤ (pos 62_167_219_200) ≤ℤ start) × (start <ℤ pos 253_402_300_800)
 
--- of the periods that count, the first one from a period on
-pub record IsNextPeriod (interval : ℕ) (first period next : ℤ) : Type 0 where
-  pub counts : Counts interval first next
-  pub not_before : period ≤ℤ next
-  pub near : next ≤ℤ (period +ℤ pos interval)
-  pub least : (p : ℤ) → Counts interval first p → period ≤ℤ p → next ≤ℤ p
+-- a number that is not after the first period from the year 0 on
+abbrev pub least_period : Frequency → ℤ
+least_period Secondly = neg_ℤ (pos 62_167_219_200)
+least_period _ = neg_ℤ (pos 1_100_000_000)
+
+-- of the periods that count, the last one up to a period; the next one comes an interval later
+pub record IsLastPeriod (interval : ℕ) (first period last : ℤ) : Type 0 where
+  pub counts : Counts interval first last
+  pub not_after : last ≤ℤ period
+  pub greatest : (p : ℤ) → Counts interval first p → p ≤ℤ period → p ≤ℤ last
+  pub next : (p : ℤ) → Counts interval first p → period <ℤ p → (last +ℤ pos interval) ≤ℤ p
 
 -- a last second: in the years 0 to 9999, or the second before them
 abbrev pub IsBounded : ℤ → Type 0

@@ -15,7 +15,7 @@ use naive_base::NaiveDateTime;
 use offset_core::{LocalResult, TimeDelta};
 
 impl<Tz: TimeZone> DateTime<Tz> {
-    // The instant of a UTC reading in range, in the zone that this one's offset came from.
+    // The instant of a UTC date-time in range, in the zone that this one's offset came from.
     pub(super) fn at(&self, utc: &NaiveDateTime) -> DateTime<Tz>
         requires { IsInRange (reading utc.now).s }
         ensures { IsAt (home_law_of Tz.meaning self.now) (reading utc.now) (zoned result) }
@@ -23,7 +23,7 @@ impl<Tz: TimeZone> DateTime<Tz> {
         self.timezone().from_utc_datetime(utc)
     }
 
-    // The instant when the clocks of that zone show a reading.
+    // The instant when the clocks of that zone show a local date-time.
     #[tactic(auto, using(crate::proofs::Homes::relocal_home))]
     pub(super) fn relocal(&self, local: &NaiveDateTime) -> LocalResult<DateTime<Tz>>
         ensures { IsRelocal (home_law_of Tz.meaning self.now) (reading local.now)

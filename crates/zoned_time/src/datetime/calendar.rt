@@ -108,7 +108,7 @@ fn unless_negative(years: i64) -> Option<u32>
     u32::try_from(years).ok()
 }
 
-// The whole years from one reading to another, negative where this one is earlier.
+// The whole years from one local date-time to another, negative if this one is earlier.
 fn whole_years(local: &NaiveDateTime, base: &NaiveDateTime) -> i64
     ensures years { IsWholeYears (reading local.now) (reading base.now) result }
     ensures bound { result ≤ℤ pos 4_294_967_295 }

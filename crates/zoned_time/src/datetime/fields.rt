@@ -10,7 +10,7 @@ use crate::TimeZone;
 use naive_base::{Datelike, IsoWeek, NaiveDateTime, Timelike, Weekday};
 
 impl<Tz: TimeZone> DateTime<Tz> {
-    // The only instant when the clocks of the zone that the offset came from show the reading.
+    // The only instant when the clocks of the offset's own zone show the local date-time.
     pub(super) fn only_at(&self, local: &NaiveDateTime) -> Option<DateTime<Tz>>
         ensures only { IsOnly (home_law_of Tz.meaning self.now) (reading local.now)
             (option_map zoned result) }

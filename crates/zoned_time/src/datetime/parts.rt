@@ -70,7 +70,7 @@ impl<Tz: TimeZone> DateTime<Tz> {
         DateTime::from_naive_utc_and_offset(utc, offset)
     }
 
-    // The instant when a clock with that offset shows the reading, where it is in range.
+    // The instant when a clock with that offset shows the local date-time, if it is in range.
     pub(crate) fn from_local_opt(
         datetime: &NaiveDateTime,
         offset: Tz::Offset,
@@ -132,7 +132,7 @@ impl<Tz, O: Offset> Instant<Tz, O> {
         self.local().time()
     }
 
-    // What a clock with the offset shows, be it on a buffer day.
+    // What a clock with the offset shows, even on a buffer day.
     pub(super) fn local(&self) -> NaiveDateTime
         ensures { reading result ≡ wall_of self.now }
     {

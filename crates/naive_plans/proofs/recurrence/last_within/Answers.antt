@@ -6,6 +6,9 @@ pub returns-then-has_no_time-clause-same : goal.returns-then-has_no_time-clause-
 returns-then-has_no_time-clause-same c l time =
     absurd (no_rule_time c.args.of.now.rule c.args.of.now.start (c.has_no_time.ensures c.if-has_no_time.true) l time)
 
+pub returns-then-has_no_position-clause-same : goal.returns-then-has_no_position-clause-same
+returns-then-has_no_position-clause-same c l time = absurd (c.has_no_position.ensures c.if-has_no_position.true l time.occasion time.position)
+
 pub returns-clause-same : goal.returns-clause-same
 returns-clause-same c =
     rw (to_z-of_z {w = w64} (record { sfits = c.shortened.type_inv }))

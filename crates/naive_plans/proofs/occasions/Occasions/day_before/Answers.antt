@@ -1,22 +1,43 @@
-use Rattle.naive_base.proofs.Words.{arith, floor_div, ints, rules, to_z-of_z, w64, ◌≡◌}
-use Rattle.naive_plans.proofs.OccasionsBack.{before_month, in_month}
+use Rattle.naive_base.proofs.Words.{arith, floor_div, floors, ints, of_z, pos, rules, to_z, to_z-of_z, w64, ◌-ℤ◌, ◌≡◌}
+use Rattle.std.proofs.lemmas.Int.{clamps}
+use Rattle.naive_plans.proofs.OccasionsBack.{day_to, days_up_to}
 use Rattle.naive_plans.proofs.occasions.Occasions.day_before.Goals as goal
 
-pub returns-clause-none : goal.returns-clause-none
-returns-clause-none c =
-    let fits = c.ranges.day in let same : c.day_of.result ≡ floor_div c.args.self.now.start 86_400 = search rules in
-    λ d on less. rw (to_z-of_z {w = w64} (record { sfits = c.days_earlier.type_inv }))
-    (before_month c.args.self.now.rule (floor_div c.args.self.now.start 86_400) c.args.day d c.days_earlier.result _ _ _
-    (simp to_z-of_z at c.date_of-date.ensures.month)
-    (simp to_z-of_z at c.date_of-date.ensures.day) (rw same at (rw (to_z-of_z {w = w64} (record { sfits = c.day_of.type_inv })) at
-    c.date_of-first.ensures.month))
-    (simp to_z-of_z at c.days_earlier.ensures) (λ has. let yes = c.has_month.ensures.1 has in grind (arith, yes, c.if-has_month.false)) on less)
+pub returns-in-None-clause-none : goal.returns-in-None-clause-none
+returns-in-None-clause-none c =
+    let fits = c.ranges.day in λ d second on short less.
+    rw (to_z-of_z {w = w64} (record { sfits = c.previous_day-last.type_inv })) ((rw (to_z-of_z {w = w64} fits) at c.previous_day-last.ensures.none) d on.date less)
 
-pub days_earlier-requires-clause-days : goal.days_earlier-requires-clause-days
-days_earlier-requires-clause-days c = let fits = c.ranges.day in in_month c.args.day _ (simp to_z-of_z at c.date_of-date.ensures.day)
+pub returns-in-Some-clause-bound : goal.returns-in-Some-clause-bound
+returns-in-Some-clause-bound c =
+    let fits = c.ranges.day in let bound = c.in-Some.ensures.bound in let started = c.args.self.now.started.2 in
+    let same : to_z w64 (of_z w64 c.in-Some.end) ≡ c.in-Some.end = search rules in
+    let is_end = rw same at c.second_before.ensures in
+    let is_second : to_z w64 (of_z w64 c.second_before.result) ≡ c.second_before.result = to_z-of_z {w = w64} (record { sfits = c.second_before.type_inv }) in
+    let is_last : to_z w64 (of_z w64 c.previous_day-last.result) ≡ c.previous_day-last.result = to_z-of_z {w = w64} (record {
+      sfits = c.previous_day-last.type_inv;
+    }) in
+    let is_day : to_z w64 (of_z w64 c.day_of.result) ≡ c.day_of.result = to_z-of_z {w = w64} (record { sfits = c.day_of.type_inv }) in
+    let day = rw is_end at (rw is_second at c.day_of.ensures) in
+    let is_min = rw (is_last, is_day) at c.min.ensures.value in
+    let near = rw (to_z-of_z {w = w64} fits) at c.previous_day-last.ensures.near in let low = c.requires.0 in let from = bound.0 in
+    rw (to_z-of_z {w = w64} (record { sfits = c.min.type_inv })) (omega (arith, ints, floors, clamps, is_min, near, low, day, from, started))
 
-pub returns-clause-near : goal.returns-clause-near
-returns-clause-near c =
-    let fits = c.ranges.day in let short = in_month c.args.day _ (simp to_z-of_z at c.date_of-date.ensures.day) in
-    let is = simp to_z-of_z at c.days_earlier.ensures in
-    rw (to_z-of_z {w = w64} (record { sfits = c.days_earlier.type_inv })) (omega (arith, ints, is, short))
+pub returns-in-Some-clause-none : goal.returns-in-Some-clause-none
+returns-in-Some-clause-none c =
+    let fits = c.ranges.day in let bound = c.in-Some.ensures.bound in let started = c.args.self.now.started.2 in
+    let same : to_z w64 (of_z w64 c.in-Some.end) ≡ c.in-Some.end = search rules in
+    let is_last : to_z w64 (of_z w64 c.previous_day-last.result) ≡ c.previous_day-last.result = to_z-of_z {w = w64} (record {
+      sfits = c.previous_day-last.type_inv;
+    }) in
+    let is_day : to_z w64 (of_z w64 c.day_of.result) ≡ c.day_of.result = to_z-of_z {w = w64} (record { sfits = c.day_of.type_inv }) in
+    λ d second on short less.
+    let le = (rw (to_z-of_z {w = w64} fits) at c.previous_day-last.ensures.none) d on.date less in
+    let at = rw is_last at c.second_at.ensures in
+    let own = rw at at (rw (to_z-of_z {w = w64} (record { sfits = c.second_at.type_inv })) at c.in-Some.ensures) in
+    let before = own.none _ on.counts (days_up_to _ d second le short) in
+    let is_end = rw same at c.second_before.ensures in
+    let day = rw is_end at (rw (to_z-of_z {w = w64} (record { sfits = c.second_before.type_inv })) at c.day_of.ensures) in
+    let up = day_to c.in-Some.end c.day_of.result d second day short before in
+    let is_min = rw (is_last, is_day) at c.min.ensures.value in
+    rw (to_z-of_z {w = w64} (record { sfits = c.min.type_inv })) (omega (arith, ints, clamps, is_min, le, up))

@@ -1,6 +1,6 @@
 use Rattle.gregorian.specs.Year.{floor_mod}
 use Rattle.naive_base.proofs.Words.{arith}
-use Rattle.naive_plans.proofs.MinuteSteps.{no_second}
+use Rattle.naive_plans.proofs.PeriodsOfDay.{no_second}
 use Rattle.naive_plans.proofs.occasions.Occasions.has_no_second.Goals as goal
 
 pub returns : goal.returns

@@ -14,18 +14,22 @@ days-init c =
       all_until _ c.args.until _ _ day (rw (to_z-of_z {w = w64} fits) at c.second_of-second.ensures.value),
     )
 
+pub day_before-day-requires : goal.day_before-day-requires
+day_before-day-requires c =
+    let inv = c.days.invariant in let started = c.args.self.now.started.2 in let earliest = c.second_before_all-earliest.ensures in
+    let ends = (rw (to_z-of_z {w = w64} (record { sfits = c.second_before_all-earliest.type_inv })) at c.ends_after.ensures).0 c.days-test.true in
+    (omega (arith, ints, ends, started, earliest), inv.1)
+
 pub days-preserved : goal.days-preserved
 days-preserved c =
     let on = IsOccasionOn c.args.self.now.rule c.args.self.now.start in let inv = c.days.invariant in
-    let high = inv.1 in let earlier = c.day_before-day.ensures.earlier in let near = c.day_before-day.ensures.near in
-    let started = c.args.self.now.started.2 in let earliest = c.second_before_all-earliest.ensures in
-    let ends = (rw (to_z-of_z {w = w64} (record { sfits = c.second_before_all-earliest.type_inv })) at c.ends_after.ensures).0 c.days-test.true in
+    let high = inv.1 in let earlier = c.day_before-day.ensures.earlier in let bound = c.day_before-day.ensures.bound in
     rw (to_z-of_z {w = w64} (record { sfits = c.day_before-day.type_inv })) (
-      omega (arith, ints, ends, near, started, earliest),
+      bound,
       omega (arith, ints, high, earlier),
       left_earlier on _ (to_z w64 c.days.day-bits) c.day_before-day.result (none_back on _ (to_z w64 c.days.day-bits) c.days.second inv.2
           c.in_default.ensures) earlier
-          (λ d second one less. c.day_before-day.ensures.none d one.date less),
+          c.day_before-day.ensures.none,
     )
 
 pub returns-in-Some : goal.returns-in-Some

@@ -1,5 +1,5 @@
-use Rattle.naive_base.proofs.Words.{arith, refl, to_z-of_z, w64}
-use Rattle.naive_plans.proofs.OccasionsBack.{hour_back, minute_back, one_back}
+use Rattle.naive_base.proofs.Words.{arith, of_z, refl, rules, to_z, to_z-of_z, w64, ◌≡◌}
+use Rattle.naive_plans.proofs.OccasionsBack.{hour_back, minute_back, one_back, period_back}
 use Rattle.naive_plans.proofs.occasions.Occasions.skipped_back.Goals as goal
 
 pub returns-then-not-has_hour : goal.returns-then-not-has_hour
@@ -14,20 +14,23 @@ pub returns-then-not-has_second : goal.returns-then-not-has_second
 returns-then-not-has_second c = one_back _ c.args.second (λ on. let yes = c.has_second.ensures.1 on.at_second in
     absurd (grind (arith, yes, c.if-not-has_second.true)))
 
-pub returns-then-not-counts : goal.returns-then-not-counts
-returns-then-not-counts c =
+pub returns-in-Some : goal.returns-in-Some
+returns-in-Some c =
     let fits = c.ranges.day in let at = simp to_z-of_z at c.second_at.ensures in
-    let counts = rw (to_z-of_z {w = w64} (record { sfits = c.second_at.type_inv }), at) at c.counts.ensures in
-    one_back _ c.args.second (λ on. let yes = counts.1 on.counts in absurd (grind (arith, yes, c.if-not-counts.true)))
+    period_back c.args.self.now.rule c.args.self.now.start c.args.day c.second_at.result c.in-Some.end c.args.second _ at
+    (rw (to_z-of_z {w = w64} (record { sfits = c.second_at.type_inv })) at c.in-Some.ensures) c.earlier_in_day.ensures.earlier
+    (λ k before less.
+    let bound = c.in-Some.ensures.bound in let started = c.args.self.now.started.2 in
+    let same : to_z w64 (of_z w64 c.in-Some.end) ≡ c.in-Some.end = search rules in
+    let midnight = simp to_z-of_z at c.seconds_of.ensures in
+    c.earlier_in_day.ensures.end k before (rw (same, to_z-of_z {w = w64} (record { sfits = c.seconds_of.type_inv }), midnight) less))
 
 pub returns : goal.returns
 returns c =
     let fits = c.ranges.day in let at = simp to_z-of_z at c.second_at.ensures in
-    let counts = rw (to_z-of_z {w = w64} (record { sfits = c.second_at.type_inv }), at) at c.if-not-counts.ensures in
     record {
-      counts = counts.0 refl;
+      counts = rw at at (rw (to_z-of_z {w = w64} (record { sfits = c.second_at.type_inv })) at c.in_default.ensures);
       hour = c.if-not-has_hour.ensures.0 refl;
       minute = c.if-not-has_minute.ensures.0 refl;
-      at_second =
-          c.if-not-has_second.ensures.0 refl;
+      at_second = c.if-not-has_second.ensures.0 refl;
     }
