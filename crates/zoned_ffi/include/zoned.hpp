@@ -77,6 +77,27 @@ struct policy {
     constexpr policy(choose which) : policy(gap::end, which == choose::earliest ? fold::earliest : fold::latest) {}
 };
 
+// A step of the local clock: a length of which a day has a whole number, counted from midnight, as std::chrono::minutes(15); or a
+// week, from the weekday `first`, 0 for Sunday to 6; a month; or a year.
+struct step {
+    uint32_t number; // that of zoned_step; 0, which no step has, for another length
+    template <class Length, class = std::enable_if_t<std::is_convertible_v<Length, seconds>>>
+    constexpr step(Length length) : step(of(length)) {}
+    static constexpr step week(uint32_t first = 1) { return step(first < 7 ? ZONED_STEP_WEEK + first : 0); }
+    static constexpr step month() { return step(uint32_t(ZONED_STEP_MONTH)); }
+    static constexpr step year() { return step(uint32_t(ZONED_STEP_YEAR)); }
+
+private:
+    constexpr explicit step(uint32_t code) : number(code) {}
+    static constexpr uint32_t of(seconds length) { return length.count() > 0 && length.count() <= ZONED_STEP_DAY ? uint32_t(length.count()) : 0; }
+};
+
+// The day that an instant lies in: its date, as the local time of its midnight, and where it and the next day begin.
+struct day_info {
+    local_seconds date;
+    sys_seconds begin, end;
+};
+
 // An error of the library, with its number. `row` is the first row of a column that has it, else 0.
 class error : public std::runtime_error {
 public:
@@ -99,15 +120,18 @@ inline void check(uint32_t number, size_t row = 0) {
 }
 
 // What is in force from `begin` on and before `end`. Without a clock change on that side it is the least or the greatest
-// second.
+// second. `save` is what daylight saving time adds to the standard offset, as zoned_zone_standard_offset infers it.
 struct sys_info {
     sys_seconds begin, end;
-    seconds offset;
+    seconds offset, save;
     bool is_dst;
     std::string abbrev;
 #if ZONED_STD_CHRONO >= 2
-    // A TZif file doesn't say how much time daylight saving time saves: std's `save` is a minute, or none.
-    operator std::chrono::sys_info() const { return {begin, end, offset, std::chrono::minutes(is_dst), abbrev}; }
+    // std's `save` has whole minutes: a part of one is counted as a whole one, so that only standard time has none.
+    operator std::chrono::sys_info() const {
+        using std::chrono::minutes;
+        return {begin, end, offset, save < save.zero() ? std::chrono::floor<minutes>(save) : std::chrono::ceil<minutes>(save), abbrev};
+    }
 #endif
 };
 
@@ -137,7 +161,7 @@ public:
     static time_zone from_extended_string(std::string_view text) { return of_text(ZONED_EXTENDED_STRING, text); }
 
     // The zone of that name, such as Europe/Paris, in the first of the folders that has it: paths with : between them, or those of
-    // zoned_open_name. Throws error with ZONED_NO_SUCH_ZONE if there is none.
+    // zoned_open_name. Throws error with ZONED_NO_SUCH_ZONE if no folder has it.
     static time_zone locate(std::string_view name, const std::string &folders = {}) {
         const std::string path(name);
         time_zone opened({path, folders + ':' + path});
@@ -191,8 +215,7 @@ public:
     template <class Duration> sys_info get_info(sys_time<Duration> at) const {
         zoned_span span;
         check(zoned_zone_span(&zone, second(at), &span));
-        const auto &type = span.local_type;
-        return {sys(span.from), sys(span.until), seconds(type.offset), type.is_dst != 0, type.abbreviation};
+        return info_of(span);
     }
 
     // The date and the time of day that clocks show at an instant, with the weekday and the day of the year.
@@ -208,6 +231,28 @@ public:
         int64_t local;
         check(zoned_zone_reached(&zone, second(at), &local));
         return local_seconds(seconds(local));
+    }
+
+    // The day that an instant lies in. Throws error as `reached` does.
+    template <class Duration> day_info get_day(sys_time<Duration> at) const {
+        zoned_day day;
+        check(zoned_zone_day(&zone, second(at), &day));
+        return {local_seconds(seconds(day.date)), sys(day.begin), sys(day.end)};
+    }
+
+    // The instant at which the step of the local clock that an instant lies in begins. Throws error as `reached` does, or with
+    // ZONED_UNKNOWN_STEP.
+    template <class Duration> sys_seconds floor(sys_time<Duration> at, step length) const {
+        int64_t floor;
+        check(zoned_zone_floor(&zone, length.number, second(at), &floor));
+        return sys(floor);
+    }
+
+    // The first instant from an instant on at which such a step begins.
+    template <class Duration> sys_seconds ceil(sys_time<Duration> at, step length) const {
+        int64_t ceil;
+        check(zoned_zone_ceil(&zone, length.number, second(std::chrono::ceil<seconds>(at)), &ceil));
+        return sys(ceil);
     }
 
     // A single time is converted as a row of a column is, in the unit of its Duration, or in seconds if that unit is longer. So the
@@ -248,15 +293,11 @@ public:
     }
 
     template <class Duration> local_info get_info(local_time<Duration> local) const {
-        zoned_wall_clock clock;
-        check(zoned_zone_wall_clock(&zone, second(local), &clock));
-        if (clock.shown == ZONED_OUT_OF_RANGE) throw error(ZONED_INSTANT_OUT_OF_RANGE);
-        if (clock.shown == ZONED_ONCE) return {local_info::unique, get_info(sys(clock.first)), {}};
-        if (clock.shown == ZONED_SEVERAL_TIMES)
-            return {local_info::ambiguous, get_info(sys(clock.first)), get_info(sys(clock.last))};
-        zoned_change gap;
-        check(zoned_zone_gap(&zone, second(local), &gap));
-        return {local_info::nonexistent, get_info(sys(gap.at - 1)), get_info(sys(gap.at))};
+        zoned_local_info info;
+        check(zoned_zone_local_info(&zone, second(local), &info));
+        if (info.shown == ZONED_ONCE) return {local_info::unique, info_of(info.first), {}};
+        const auto result = info.shown == ZONED_NEVER ? local_info::nonexistent : local_info::ambiguous;
+        return {result, info_of(info.first), info_of(info.last)};
     }
 
     // Columns: vectors, std::span or whatever else has data() and size(). The second is as long as the first. Throws error with
@@ -285,6 +326,26 @@ public:
         check(number, row);
     }
 
+    // The last local times, in whole seconds, that clocks have shown up to instants, in these units. No time stays.
+    template <class Instants, class Locals> void reached_column(const Instants &instants, Locals &&locals) const {
+        auto from = numbers<std::chrono::system_clock>(instants.data());
+        auto to = numbers<local_t>(locals.data());
+        size_t row = 0;
+        auto unit = per_second(instants.data(), locals.data());
+        auto number = zoned_column_reached(&zone, unit, from, instants.size(), to, locals.size(), &row);
+        check(number, row);
+    }
+
+    // Where the steps that instants lie in begin, in these units. No time stays.
+    template <class Instants, class Floors> void floor_column(const Instants &instants, step length, Floors &&floors) const {
+        step_column(zoned_column_floors, instants, length, floors);
+    }
+
+    // The first instants from instants on at which steps begin, in these units. No time stays.
+    template <class Instants, class Ceils> void ceil_column(const Instants &instants, step length, Ceils &&ceils) const {
+        step_column(zoned_column_ceils, instants, length, ceils);
+    }
+
     // The handle, for calls of zoned.h. It stays this zone's.
     const zoned_zone *handle() const { return &zone; }
 
@@ -310,6 +371,15 @@ private:
         return open(kind, text.data(), text.size(), {std::string(text), char(kind) + std::string(1, '\0').append(text)});
     }
 
+    template <class Call, class Instants, class Begins>
+    void step_column(Call call, const Instants &instants, step length, Begins &begins) const {
+        auto from = numbers<std::chrono::system_clock>(instants.data());
+        auto to = numbers<std::chrono::system_clock>(begins.data());
+        size_t row = 0;
+        auto unit = per_second(instants.data(), begins.data());
+        check(call(&zone, length.number, unit, from, instants.size(), to, begins.size(), &row), row);
+    }
+
     // The number of the second that a time lies in.
     template <class Clock, class Duration> static int64_t second(std::chrono::time_point<Clock, Duration> at) {
         return std::chrono::floor<seconds>(at).time_since_epoch().count();
@@ -326,6 +396,13 @@ private:
     }
 
     static sys_seconds sys(int64_t at) { return sys_seconds(seconds(at)); }
+
+    sys_info info_of(const zoned_span &span) const {
+        const auto &type = span.local_type;
+        zoned_saving saving{};
+        if (type.is_dst != 0) check(zoned_zone_standard_offset(&zone, span.from, &saving));
+        return {sys(span.from), sys(span.until), seconds(type.offset), seconds(saving.amount), type.is_dst != 0, type.abbreviation};
+    }
 
     // Whether a time is a whole number that may be negative, as in a column.
     template <class Unit, class Number = typename Unit::rep>

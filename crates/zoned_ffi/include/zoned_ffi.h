@@ -24,7 +24,7 @@
 /* The offset of an instant at which the zone has none. No zone has it as an offset. */
 #define ZONED_NO_OFFSET INT32_MIN
 
-/* No time: what a column has where a time is missing, as NaT of numpy. */
+/* No time: the value of a missing time in a column, as NaT of numpy. */
 #define ZONED_NO_TIME INT64_MIN
 
 #ifdef __cplusplus
@@ -68,10 +68,9 @@ enum zoned_number {
     ZONED_OTHER_SIZE = 32,             /* there is room for another count of answers */
     ZONED_NOT_OPEN = 33,               /* the handle has no zone open */
     ZONED_UNKNOWN_CHOICE = 34,         /* no policy for gaps or folds has that number */
-    ZONED_NO_CHANGE = 35,              /* there is no such change of the clocks */
+    ZONED_NO_CHANGE = 35,              /* there is no such change of the clocks; clocks show the local time once */
     ZONED_UNKNOWN_UNIT = 36,           /* no unit has that count in a second */
     ZONED_NO_LOCAL_TIME = 37,          /* an instant has no local time */
-    ZONED_NO_GAP = 38,                 /* the local time lies in no gap */
     ZONED_NO_DATE_TIME = 39,           /* the calendar has no such date, or a clock no such time of day */
     ZONED_WIDE_ZONE = 40,              /* an offset of the zone is a day or more */
     ZONED_OTHER_TYPE_INDEX = 41,       /* a transition of a TZif file names no local time type */
@@ -79,7 +78,8 @@ enum zoned_number {
     ZONED_OTHER_LEAP_SECONDS = 43,     /* the leap seconds of a TZif file cannot follow one another */
     ZONED_OTHER_RULE = 44,             /* the footer of a TZif file disagrees with the last transition */
     ZONED_NO_SUCH_ZONE = 45,           /* there is no time zone of that name */
-    ZONED_UNREADABLE_FILE = 46         /* the file of a time zone can't be read */
+    ZONED_UNREADABLE_FILE = 46,        /* the file of a time zone can't be read */
+    ZONED_UNKNOWN_STEP = 47            /* no step of the local clock has that number */
 };
 
 /* How often the clocks of a zone show a local time: `shown`. */
@@ -99,11 +99,16 @@ typedef struct zoned_zone {
    closed. */
 uint32_t zoned_open(uint32_t kind, const void *zone, size_t zone_len, struct zoned_zone *out);
 
+/* Returns how many bytes are in front of the fault for which zoned_open rejects a TZ string: where the first byte is with which no
+   string goes on; the number, the time or the name that is out of its limits; the end if bytes are missing; or the first byte that is
+   not UTF-8. SIZE_MAX: the string spells a zone, or `kind` is neither ZONED_TEXT nor ZONED_EXTENDED_STRING. */
+size_t zoned_fault_position(uint32_t kind, const void *zone, size_t zone_len);
+
 /* Opens the zone whose clocks are always `offset` seconds ahead of UTC. Its type has no abbreviation. ZONED_LOCAL_TIME_TYPE: no zone
    has the offset INT32_MIN. ZONED_OUT_OF_MEMORY. Then `out` is as it was. */
 uint32_t zoned_open_fixed(int32_t offset, struct zoned_zone *out);
 
-/* Opens the zone of `zone` in `out` too, another struct, without reading it again: ZONED_OK; or ZONED_NOT_OPEN, or 17 if memory
+/* Opens the zone of `zone` in `out` too, another struct, without parsing it again: ZONED_OK; or ZONED_NOT_OPEN, or 17 if memory
    runs out, and then `out` is as it was. */
 uint32_t zoned_share(const struct zoned_zone *zone, struct zoned_zone *out);
 
@@ -177,6 +182,23 @@ typedef struct zoned_span {
      } */
 uint32_t zoned_zone_span(const struct zoned_zone *zone, int64_t instant, zoned_span *span);
 
+/* The parts of the offset in force, which is their sum. */
+typedef struct zoned_saving {
+    int64_t standard_offset; /* the offset of standard time, in seconds east of UTC */
+    int64_t amount;          /* what daylight saving time adds, in seconds: 0 if and only if the DST flag is 0 */
+} zoned_saving;
+
+/* *saving is the standard offset and the amount of daylight saving time in force at the instant. A TZif file doesn't have the
+   amount: it is inferred from standard time before and after the instant, at most 64 clock changes away. No inference is right for
+   every file, since sources with other amounts compile to the same bytes. The amount is less than 24 hours; it is negative if clocks
+   are behind standard time.
+
+   In New York at 1625097600 (2021-07-01 00:00:00 UTC) the offset is -4 hours: -18000 and 3600. In Dublin at 1609459200 (2021-01-01
+   00:00:00 UTC), by Debian's files, it is 0: 3600 and -3600.
+
+   ZONED_NO_LOCAL_TIME: the zone has no type at the instant, and nothing is written. */
+uint32_t zoned_zone_standard_offset(const struct zoned_zone *zone, int64_t instant, zoned_saving *saving);
+
 /* A change of the clocks: at the second `at` another type is in force than at the second before it, one of another offset,
    DST flag or abbreviation. */
 typedef struct zoned_change {
@@ -185,15 +207,27 @@ typedef struct zoned_change {
     zoned_local_type after;
 } zoned_change;
 
-/* *change is the first change after that second, or the last one at that second or before it. ZONED_NO_CHANGE: there is none at
-   a second of 64 bits, and nothing is written. The changes of a zone are listed by asking again after change->at.
+/* *change is the first change after that second, or the last one at that second or before it. ZONED_NO_CHANGE: no change
+   comes at a second of 64 bits, and nothing is written. The changes of a zone are listed by asking again after change->at.
 
    A transition of the file that changes nothing doesn't count, and what a rule does after the last transition does. A second at
    which the zone begins or ends to have a type is no change either: the last change of the rule EST5EDT,M3.2.0,M11.1.0, which answers up to the
    year 2147483645, is that of November of that year, 67767976165557600, also before INT64_MAX. The calls skip any
-   number of transitions that change nothing at once. */
+   number of transitions that change nothing at once.
+
+   Bound a loop that asks again and again: a rule of two types has two changes in each of the 4,294,967,292 years that it answers in,
+   so it takes some 8.6 billion calls until there is no next change. */
 uint32_t zoned_zone_next_change(const struct zoned_zone *zone, int64_t after, zoned_change *change);
 uint32_t zoned_zone_previous_change(const struct zoned_zone *zone, int64_t before_or_at, zoned_change *change);
+
+/* Writes the TZ string of the rule that governs from the zone's last transition on, as much as fits into `text` with a zero byte after it
+   (nothing if text_len is 0). *length is the length of the whole string, as with snprintf: 0 if the zone has no rule.
+
+   It is the shortest string that zoned_open reads as that rule with ZONED_EXTENDED_STRING; New York's is EST5EDT,M3.2.0,M11.1.0. A zone
+   of zoned_open_fixed has no rule, nor has one of a file whose footer is empty.
+
+   ZONED_OUT_OF_MEMORY: this call takes memory, and gives it back. Nothing is written then. */
+uint32_t zoned_zone_rule_text(const struct zoned_zone *zone, char *text, size_t text_len, size_t *length);
 
 /* *count is how many changes there are from the second `from` on and before the second `until`, or `most` if there are more: 0 if
    `until` is `from` or comes before it. The first of them, as many as changes_len, are written to `changes`, in the order of time;
@@ -226,7 +260,7 @@ uint32_t zoned_zone_wall_clocks(const struct zoned_zone *zone,
                                 const int64_t *locals, size_t locals_len,
                                 zoned_wall_clock *clocks, size_t clocks_len);
 
-/* What to take for a local time in a gap, which the clocks skipped: `gap`. */
+/* `gap`: what to return for a local time that the clocks skipped. */
 enum zoned_gap {
     ZONED_GAP_REFUSE = 0,       /* nothing */
     ZONED_GAP_SHIFT_FORWARD = 1, /* the instant at which a clock that was not set forward shows it. New York's clocks skipped
@@ -236,7 +270,7 @@ enum zoned_gap {
                                     they showed 01:30. Temporal's and jiff's "earlier", fold=1 of Python's PEP 495, cctz's `post` */
 };
 
-/* What to take for a local time in a fold, which they show several times: `fold`. */
+/* `fold`: what to return for a local time that they show several times. */
 enum zoned_fold {
     ZONED_FOLD_REFUSE = 0,   /* nothing */
     ZONED_FOLD_EARLIEST = 1, /* the first instant */
@@ -275,22 +309,42 @@ uint32_t zoned_column_instants(const struct zoned_zone *zone, uint32_t gap, uint
                                const int64_t *locals, size_t locals_len,
                                int64_t *instants, size_t instants_len, size_t *row);
 
-/* *reached is the first instant at which a clock of the zone shows the local time or a later one, and the offset in force then.
+/* *reached is the first instant at which a clock of the zone shows the local time or a later one, and the offset in force then;
+   reached[i] is that of locals[i].
    If the local time lies in a gap, it is the second at which the gap ends; in a fold, the first of the instants that show it. A
    later local time never has an earlier answer, so the answers of midnights divide time into days.
 
    In New York 02:30 on 2021-03-14 (1615689000) lies in a gap: the answer is 1615705200, 03:00 EDT, at the offset -14400.
 
-   reached->number is ZONED_OK, or ZONED_INSTANT_OUT_OF_RANGE: then the others are 0. */
+   The number in it is ZONED_OK, or ZONED_INSTANT_OUT_OF_RANGE: then the others are 0. reached_len is locals_len. */
 uint32_t zoned_zone_first_at_or_after(const struct zoned_zone *zone, int64_t local, zoned_resolved *reached);
+uint32_t zoned_zone_firsts_at_or_after(const struct zoned_zone *zone,
+                                       const int64_t *locals, size_t locals_len,
+                                       zoned_resolved *reached, size_t reached_len);
 
-/* *gap is the change of the clocks that skips the local time: they show less than the local time before it, and more from it on.
+/* *change is the change of the clocks around the local time: in a gap the one that skips it, and in a fold the one that sets clocks back,
+   so that they show it again. In a gap the offset after the change is greater than the one before it, and in a fold it is less. If
+   clocks are set back more than once between the first and the last second that show the local time, it is the last change at which
+   they showed it, or a later time, the second before.
 
-   In New York 02:30 on 2021-03-14 (1615689000) lies in a gap: the change is at 1615705200, from EST, -18000, to EDT, -14400.
+   In New York 02:30 on 2021-03-14 (1615689000) lies in a gap: the change is at 1615705200, from EST, -18000, to EDT, -14400. And 01:30
+   on 2021-11-07 (1636248600) lies in a fold: the change is at 1636264800, back to EST.
 
-   ZONED_INSTANT_OUT_OF_RANGE: the local time lies outside the years -262143 to 262142. ZONED_NO_GAP: clocks show the local
-   time. Nothing is written then. */
-uint32_t zoned_zone_gap(const struct zoned_zone *zone, int64_t local, zoned_change *gap);
+   ZONED_INSTANT_OUT_OF_RANGE: the local time lies outside the years -262143 to 262142. ZONED_NO_CHANGE: clocks show the local
+   time once. Nothing is written then. */
+uint32_t zoned_zone_local_change(const struct zoned_zone *zone, int64_t local, zoned_change *change);
+
+/* How often the clocks of a zone show a local time, and the spans of the seconds that show it: C++20's local_info. */
+typedef struct zoned_local_info {
+    int32_t shown;    /* ZONED_NEVER, ZONED_ONCE or ZONED_SEVERAL_TIMES */
+    zoned_span first; /* that of the first second that shows it; in a gap the span up to the change that skips it */
+    zoned_span last;  /* that of the last one; in a gap the span from the change on */
+} zoned_local_info;
+
+/* *info is that of the local time. One search finds it, and one more each span.
+
+   ZONED_INSTANT_OUT_OF_RANGE: the local time lies outside the years -262143 to 262142, and nothing is written. */
+uint32_t zoned_zone_local_info(const struct zoned_zone *zone, int64_t local, zoned_local_info *info);
 
 /* *local is the last local time that clocks of the zone have shown up to the instant: the local time at the instant, unless clocks
    were set back and haven't caught up yet. A later instant never has an earlier answer, and zoned_zone_first_at_or_after of a local
@@ -301,6 +355,70 @@ uint32_t zoned_zone_gap(const struct zoned_zone *zone, int64_t local, zoned_chan
    ZONED_WIDE_ZONE: an offset of the zone is a day or more. ZONED_INSTANT_OUT_OF_RANGE: the instant lies outside the years -262143
    to 262142. Nothing is written then. */
 uint32_t zoned_zone_reached(const struct zoned_zone *zone, int64_t instant, int64_t *local);
+
+/* The day that an instant lies in. */
+typedef struct zoned_day {
+    int64_t date;  /* its date, as the local time of its midnight: zoned_fields_of has its year, month and day */
+    int64_t begin; /* its first second, a Unix second */
+    int64_t end;   /* the first second of the next day */
+} zoned_day;
+
+/* *day is the day that the instant lies in. A day begins at the first second at which clocks show its midnight or a later local
+   time, and lasts to before the next day begins. So each instant lies in one day; clocks that were set back over midnight show the
+   date before again, but stay in the later day.
+
+   In St. John's at 1130641320 (2005-10-30 03:02:00 UTC) clocks show 23:32:00 of 2005-10-29 again: the day is 2005-10-30, 1130630400,
+   from 1130639400 (02:30 UTC) until 1130729400.
+
+   ZONED_WIDE_ZONE: an offset of the zone is a day or more. ZONED_INSTANT_OUT_OF_RANGE: the instant, or where the day begins or
+   ends, lies outside the years -262143 to 262142. Nothing is written then. */
+uint32_t zoned_zone_day(const struct zoned_zone *zone, int64_t instant, zoned_day *day);
+
+/* A step of the local clock: `step`. It is a number of seconds of which a day has a whole number, such as 900 or the first three, or
+   one of the others. A step of seconds is counted from midnight. */
+enum zoned_step {
+    ZONED_STEP_MINUTE = 60,
+    ZONED_STEP_HOUR = 3600,
+    ZONED_STEP_DAY = 86400,
+    ZONED_STEP_WEEK = 100000,  /* more by the weekday that it begins on, 0, Sunday, to 6: 100001 is a week from Monday */
+    ZONED_STEP_MONTH = 200000, /* from its first day */
+    ZONED_STEP_YEAR = 300000   /* from 1 January */
+};
+
+/* *floor is the second at which the step that the instant lies in begins, and *ceil the first second from the instant on at which
+   one begins. A step begins at the first second at which clocks show its first local time or a later one, and lasts to before the
+   next one begins. It doesn't begin again if clocks are set back: until they have caught up, instants lie in the step in which
+   that happened.
+
+   In New York at 1636266600 (2021-11-07 01:30:00 EST, on the second pass) the hour of 01:00, which has 120 minutes, has begun at
+   1636261200 (01:00 EDT), and the next one begins at 1636268400 (02:00 EST).
+
+   ZONED_UNKNOWN_STEP: no step has that number. ZONED_WIDE_ZONE: an offset of the zone is a day or more.
+   ZONED_INSTANT_OUT_OF_RANGE: the instant or the answer lies outside the years -262143 to 262142. Nothing is written then. */
+uint32_t zoned_zone_floor(const struct zoned_zone *zone, uint32_t step, int64_t instant, int64_t *floor);
+uint32_t zoned_zone_ceil(const struct zoned_zone *zone, uint32_t step, int64_t instant, int64_t *ceil);
+
+/* locals[i], floors[i] and ceils[i] are the answers of the three calls above to instants[i]. All are counted in one unit, of which
+   per_second make a second, as in zoned_column_locals. The local time that clocks have reached and the beginnings of steps are whole
+   seconds: floors[i] is at or before instants[i], and ceils[i] at or after it. ZONED_NO_TIME stays. A row takes a lookup or
+   two: no answer is kept for the rows after it.
+
+   The date of the day that instants[i] lies in is that of locals[i], and ceils of instants[i] + 1 are where the next steps begin.
+
+   ZONED_WIDE_ZONE, ZONED_INSTANT_OUT_OF_RANGE: instants[*row] is the first that has no answer, for this reason; it is out of range
+   too if its answer doesn't fit 64 bits. The rows before it are written. In all other cases *row is as it was. ZONED_UNKNOWN_STEP
+   comes before ZONED_UNKNOWN_UNIT.
+
+   The answers are as many as the instants. */
+uint32_t zoned_column_reached(const struct zoned_zone *zone, int64_t per_second,
+                              const int64_t *instants, size_t instants_len,
+                              int64_t *locals, size_t locals_len, size_t *row);
+uint32_t zoned_column_floors(const struct zoned_zone *zone, uint32_t step, int64_t per_second,
+                             const int64_t *instants, size_t instants_len,
+                             int64_t *floors, size_t floors_len, size_t *row);
+uint32_t zoned_column_ceils(const struct zoned_zone *zone, uint32_t step, int64_t per_second,
+                            const int64_t *instants, size_t instants_len,
+                            int64_t *ceils, size_t ceils_len, size_t *row);
 
 /* A date and a time of day on a clock, and what the calendar says of the date. */
 typedef struct zoned_fields {
@@ -353,8 +471,10 @@ ZONED_CHECKED(zoned_column_locals, (1, 7));
 ZONED_CHECKED(zoned_zone_type, (1, 3));
 ZONED_CHECKED(zoned_zone_types, (1));
 ZONED_CHECKED(zoned_zone_span, (1, 3));
+ZONED_CHECKED(zoned_zone_standard_offset, (1, 3));
 ZONED_CHECKED(zoned_zone_next_change, (1, 3));
 ZONED_CHECKED(zoned_zone_previous_change, (1, 3));
+ZONED_CHECKED(zoned_zone_rule_text, (1, 4));
 ZONED_CHECKED(zoned_zone_changes, (1, 7));
 ZONED_CHECKED(zoned_zone_wall_clock, (1, 3));
 ZONED_CHECKED(zoned_zone_wall_clocks, (1));
@@ -362,8 +482,16 @@ ZONED_CHECKED(zoned_zone_instant, (1, 5));
 ZONED_CHECKED(zoned_zone_instants, (1));
 ZONED_CHECKED(zoned_column_instants, (1, 9));
 ZONED_CHECKED(zoned_zone_first_at_or_after, (1, 3));
-ZONED_CHECKED(zoned_zone_gap, (1, 3));
+ZONED_CHECKED(zoned_zone_firsts_at_or_after, (1));
+ZONED_CHECKED(zoned_zone_local_change, (1, 3));
+ZONED_CHECKED(zoned_zone_local_info, (1, 3));
 ZONED_CHECKED(zoned_zone_reached, (1, 3));
+ZONED_CHECKED(zoned_zone_day, (1, 3));
+ZONED_CHECKED(zoned_zone_floor, (1, 4));
+ZONED_CHECKED(zoned_zone_ceil, (1, 4));
+ZONED_CHECKED(zoned_column_reached, (1, 7));
+ZONED_CHECKED(zoned_column_floors, (1, 8));
+ZONED_CHECKED(zoned_column_ceils, (1, 8));
 ZONED_CHECKED(zoned_zone_fields, (1, 3));
 ZONED_CHECKED(zoned_fields_of, (2));
 ZONED_CHECKED(zoned_local_of, (1, 2));

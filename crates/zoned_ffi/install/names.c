@@ -171,7 +171,6 @@ const char *zoned_error_words(uint32_t number) {
         [ZONED_NO_CHANGE] = "no change of the clocks",
         [ZONED_UNKNOWN_UNIT] = "no such unit of time",
         [ZONED_NO_LOCAL_TIME] = "an instant has no local time",
-        [ZONED_NO_GAP] = "the local time lies in no gap",
         [ZONED_NO_DATE_TIME] = "no such date or time of day",
         [ZONED_WIDE_ZONE] = "an offset of the zone is a day or more",
         [ZONED_OTHER_TYPE_INDEX] = "a transition of a TZif file names no local time type",
@@ -180,6 +179,7 @@ const char *zoned_error_words(uint32_t number) {
         [ZONED_OTHER_RULE] = "the footer of a TZif file disagrees with the last transition",
         [ZONED_NO_SUCH_ZONE] = "no time zone of that name",
         [ZONED_UNREADABLE_FILE] = "the file of a time zone can't be read",
+        [ZONED_UNKNOWN_STEP] = "no such step of the local clock",
     };
     const char *const words = number < sizeof WORDS / sizeof *WORDS ? WORDS[number] : NULL;
     return words ? words : "no number of this library";

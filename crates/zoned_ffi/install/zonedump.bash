@@ -1,15 +1,18 @@
-# Completion of zonedump for bash.
+# Completion of zonedump for bash: options, files, and the names of zones of the tz database.
 _zonedump() {
     local word=${COMP_WORDS[COMP_CWORD]} before=${COMP_WORDS[COMP_CWORD - 1]}
-    COMPREPLY=()
+    local folder=${TZDIR:-/usr/share/zoneinfo}
     case $before in
-    --from | --to | --text) return ;;
+        --from | --to | --at | --text) return ;;
+        --colors) COMPREPLY=($(compgen -W 'light dark' -- "$word")); return ;;
+        --tzdir) COMPREPLY=($(compgen -d -- "$word")); return ;;
+        --write | --svg | --times) COMPREPLY=($(compgen -f -- "$word")); return ;;
     esac
-    if [[ $word == -* && $before != --write && $before != --svg ]]; then
-        mapfile -t COMPREPLY < <(compgen -W '--from --to --zdump --json --write --svg --diff --text --extended --help --version' -- "$word")
-    else
-        compopt -o filenames
-        mapfile -t COMPREPLY < <(compgen -f -- "$word")
+    if [[ $word == -* ]]; then
+        COMPREPLY=($(compgen -W '--from --to --zdump --json --write --svg --colors --at --local --diff --summary --times --tzdir
+            --text --extended --help --version' -- "$word"))
+        return
     fi
+    COMPREPLY=($(compgen -f -- "$word") $(cd "$folder" 2>/dev/null && compgen -f -- "$word"))
 }
-complete -F _zonedump zonedump
+complete -o filenames -F _zonedump zonedump

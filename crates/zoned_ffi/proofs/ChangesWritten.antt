@@ -21,7 +21,7 @@ module _ (z : Zone) (from until : ℤ) (changes : List Change) (are : AreChanges
   risen zero d place = let here = (are.each (get_or changes zero d)).0 (Contains-get_or changes zero d place) in omega (arith, ints, here.1.0)
   risen (suc k) d place = omega (arith, ints, risen k d (omega arith), are.rising k (suc k) d (omega arith) place)
 
-  -- so each place before their end, and the place behind it, can be counted
+  -- so each place before their end, and the place after it, can be counted
   pub place_fits : (k : ℕ) (d : Change) → k < length changes → FitsSigned w64 from → FitsSigned w64 until → Fits w64 (k + 1)
   place_fits k d place low high =
       let here = (are.each (get_or changes k d)).0 (Contains-get_or changes k d place) in

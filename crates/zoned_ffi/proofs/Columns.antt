@@ -11,7 +11,7 @@ use Rattle.zoned_ffi.proofs.Resolving.{none_is, taken_once}
 use Rattle.zoned_ffi.specs.{declared.column.Way.TheVariants.{ToInstants, ToLocal}, declared.resolved.Taken.TheVariants.{GapEnd, InForce, Shifted}}
 use Rattle.tz_info.proofs.{ExtremeLaws.{at_least_least, at_most_greatest}, ForCallers.{type_once}}
 
--- the second that an instant lies in, of one that comes with a second or behind it
+-- the second that an instant lies in, if the instant comes with a second or after it
 floor_low : (unit : Unit) (x u : ℤ) → (u *ℤ pos (per_second unit)) ≤ℤ x → u ≤ℤ floor_div x (per_second unit)
 floor_low unit x u h = grind (arith, ints, floors)
 
@@ -108,7 +108,7 @@ instant_told z unit choice local taken None in_range is none = IsNoInstant.uncou
 instant_told z unit choice local taken (Some i) in_range is found =
     record { in_range = in_range; taken = rw found.0 (taken_gives z unit choice local taken is); counted = found.1 }
 
--- a column that is as it was behind a place stops as well for one that was the same there
+-- a column that is as it was after a place stops as well for one that was the same there
 pub stop_behind : (q : Question) (times old mid new : List ℤ) (s : Stop) (from : ℕ) → IsStop q times mid new s → from ≤ s.row → drop from mid ≡ drop from old
     → IsStop q times old new s
 stop_behind q times old mid new s from stop late same = record {

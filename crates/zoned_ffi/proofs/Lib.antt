@@ -9,7 +9,11 @@ pub mod Slots
 pub mod Reading
 pub mod Resolving
 pub mod Telling
+pub mod LocalInfoLaws
+pub mod RuleStringLaws
 pub mod Sayings
 pub mod OneNumber
 pub mod Casts
 pub mod SetBack
+pub mod WholeSeconds
+pub mod FaultLaws

@@ -1,4 +1,4 @@
--- What comes of reading, as a call tells it.
+-- What comes of parsing, as a call reports it.
 use Rattle.zoned_ffi.proofs.Words.{Error, IfErr, IsErrorOfKind, IsExtendedFault, IsFault, IsFileError, IsOutOfMemory, IsPosixFault, detail_number}
 use Rattle.zoned_ffi.proofs.Words.{IsPosixZone, IsReaderNumber, IsStringError, IsUtf8, IsZoneFault, IsZoneOf, Kind, List, Refusal, Result}
 use Rattle.zoned_ffi.proofs.Words.{SpellsZone, Zone, arith, error_number, inl, inr, refusal_number, true, ℕ, ◌≡◌, ◌⊎◌}
@@ -29,7 +29,7 @@ detail_in_range (errors.TimeZone expected.LeapSecondsInOrder) = grind arith
 detail_in_range (errors.TimeZone expected.RuleThatAgreesWithLastTransition) = grind arith
 detail_in_range e = grind arith
 
--- where there is no memory for a zone that is spelled, that is the fault
+-- if there is no memory for a zone that is spelled, that is the fault
 no_memory : (kind : Kind) (bytes : List ℕ) (z : Zone) → SpellsZone kind bytes z → IsFault kind bytes 17
 no_memory kinds.File bytes z spells = IsFileError.In_file errors.OutOfMemory (IsZoneFault.No_memory spells.0.0 spells.0.1)
 no_memory kinds.Text bytes z spells = IsStringError.No_memory z spells.0 spells.1

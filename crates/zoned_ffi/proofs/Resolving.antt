@@ -1,4 +1,4 @@
--- What a choice takes, told by instants.
+-- What a choice takes, in terms of instants.
 use Rattle.offset_core.specs.{declared.around.Around.{Around}, declared.around.Taken.{Taken as Found}}
 use Rattle.offset_core.specs.{declared.around.Around.TheVariants.{Single}, declared.resolve_error.ResolveError.{ResolveError}}
 use Rattle.tz_base.specs.declared.change.Change.{Change}

@@ -1,5 +1,5 @@
 -- Clocks that are an hour ahead of UTC before second 0, and not from then on, for pins: they show 1800 at -1800 and at 1800.
-use Rattle.zoned_ffi.proofs.Words.{FitsSigned, LocalType, None, Shows, arith, inl, inr, ints, neg_ℤ, pos, refl, subst, sym, true, w64, ℤ, ◌+ℤ◌, ◌-ℤ◌, ◌<ℤ◌, ◌≡◌}
+use Rattle.zoned_ffi.proofs.Words.{LocalType, Shows, arith, inl, inr, ints, neg_ℤ, pos, refl, subst, sym, ℤ, ◌+ℤ◌, ◌-ℤ◌, ◌<ℤ◌, ◌≡◌}
 use Rattle.zoned_ffi.proofs.Words.{◌≤ℤ◌, ◌⊎◌}
 use Rattle.naive_base.proofs.Words.{by_lt_z}
 use Rattle.offset_core.specs.WallAnswer.{IsShownBetween}

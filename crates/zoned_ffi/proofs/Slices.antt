@@ -11,13 +11,13 @@ zip_step R xs ys i d y as_many within before this = grind arith
 pub zip_more : {B : Type 0} (R : ℤ → B → Type 0) (xs : List ℤ) (ys : List B) (i : ℕ) (y : B) → length ys ≡ length xs → i < length xs → AllZip R (take i xs) (take i ys) → R (get_or xs i (pos 0)) y → AllZip R (take (i + 1) xs) (take (i + 1) (slice_set ys i y))
 zip_more R xs ys i y as_many within before this = grind (arith, zip_step R xs ys i (pos 0) y)
 
--- what two columns have behind a place they have behind a later one too
+-- what two columns share after a place they share after a later one too
 pub same_behind : {B : Type 0} (xs ys : List B) (i j : ℕ) → i ≤ j → drop i xs ≡ drop i ys → drop j xs ≡ drop j ys
 same_behind xs ys i j less same =
     let at : i + (j - i) ≡ j = omega (arith, less) in
     subst (λ k. drop k xs ≡ drop k ys) at (sym (drop-drop (j - i) i xs) ∙ ap (λ zs. drop (j - i) zs) same ∙ drop-drop (j - i) i ys)
 
--- and behind the place that is written next
+-- and after the place that is written next
 pub written_behind : {B : Type 0} (xs ys : List B) (i : ℕ) (y : B) → drop i xs ≡ drop i ys → drop (i + 1) (slice_set xs i y) ≡ drop (i + 1) ys
 written_behind xs ys i y same = drop-set-lt (i + 1) xs i y (omega arith) ∙ same_behind xs ys i (i + 1) (omega arith) same
 

@@ -24,7 +24,7 @@ module _ (R Z : RattleType) (L : Laws Z) (g : Ghosts Z.Denot) where
   abbrev pub block : Z.Denot → Ptr → R.Denot → Fml
   block a = box_owns (g.dealloc_token a) R
 
-  -- a pointer into a block, beside an allocator, fits
+  -- a pointer into a block fits next to an allocator
   pub slot_fits : (b o : ℕ) (h : Val) → Good (layout Z) h → T (has_ty (layout Z) h && true) × WT (two (vptr b o) h)
   slot_fits b o h fits = (and_tt (has_ty (layout Z) h) fits.0, (tt, (fits.1, tt)))
 

@@ -1,4 +1,4 @@
--- An answer of types, told by seconds and offsets.
+-- An answer of types, in terms of seconds and offsets.
 use Rattle.zoned_ffi.proofs.Words.{IsWallAnswer, IsWallAnswer-map_of, LocalResult, LocalType, Shows, ShowsAt, TypeAt, Zone, arith, ints, told_of, ℤ}
 
 pub told_answer : (z : Zone) (local : ℤ) (types : LocalResult LocalType) → IsWallAnswer (Shows (TypeAt z) local) types → IsWallAnswer (ShowsAt z local) (told_of local types)

@@ -6,11 +6,13 @@ use Rattle.naive_base.specs.Range.{IsInRange}
 use Rattle.tz_base.specs.LocalTypes.{LocalType}
 use Rattle.tz_info.specs.Zones.{Zone}
 use Rattle.zoned_ffi.specs.Resolved.{IsNoneTaken, IsTakenGapEnd, IsTakenType}
+use Rattle.zoned_ffi.specs.WholeSeconds.{IsFound, IsNotFound}
 use Rattle.zoned_ffi.specs.Units.{IsCounted, IsLocal, IsWithout, no_time, per_second}
 use Rattle.zoned_ffi.specs.declared.choice.Choice.{Choice}
 use Rattle.zoned_ffi.specs.declared.column.Way.{Way}
 use Rattle.zoned_ffi.specs.declared.column.Way.TheVariants as ways
 use Rattle.zoned_ffi.specs.declared.unit.Unit.{Unit}
+use Rattle.zoned_ffi.specs.declared.whole_second.WholeSecond.{WholeSecond}
 
 -- the second that a time lies in
 abbrev pub second_holding : Unit → ℤ → ℤ
@@ -37,26 +39,43 @@ pub data IsNoInstant (z : Zone) (unit : Unit) (choice : Choice) (local : ℤ) : 
   uncounted : (instant : ℤ) → IsInRange (second_holding unit local) → IsInstantTaken z unit choice local instant → ¬ (IsCounted instant)
       → IsNoInstant z unit choice local 23
 
--- the answer to a time of a column: the local time of an instant, or the instant of a local time
+-- the whole second that is found for an instant, counted in the unit. The last second before the instant is the one that the unit before
+-- it lies in
+pub record IsWholeSecondOf (z : Zone) (unit : Unit) (sought : WholeSecond) (instant time : ℤ) : Type 0 where
+  pub second : ℤ
+  pub found : IsFound z sought (second_holding unit instant) (second_holding unit (instant -ℤ pos 1)) second
+  pub counts : time ≡ second *ℤ pos (per_second unit)
+  pub counted : IsCounted time
+
+-- why there is none, by its number
+pub data IsNoWholeSecondOf (z : Zone) (unit : Unit) (sought : WholeSecond) (instant : ℤ) : ℕ → Type 0 where
+  not_found : (n : ℕ) → IsNotFound z sought (second_holding unit instant) (second_holding unit (instant -ℤ pos 1)) n
+      → IsNoWholeSecondOf z unit sought instant n
+  uncounted : (second : ℤ) → IsFound z sought (second_holding unit instant) (second_holding unit (instant -ℤ pos 1)) second
+      → ¬ (IsCounted (second *ℤ pos (per_second unit))) → IsNoWholeSecondOf z unit sought instant 23
+
+-- the answer to a time of a column: the local time of an instant, the instant of a local time, or a whole second for an instant
 abbrev pub IsAnswered : Zone → Unit → Way → ℤ → ℤ → Type 0
 IsAnswered z unit ways.ToLocal x y = IsLocal z unit x y
 IsAnswered z unit (ways.ToInstants choice) x y = IsInstantOf z unit choice x y
+IsAnswered z unit (ways.ToWholeSeconds sought) x y = IsWholeSecondOf z unit sought x y
 
--- why there is none, by its number
+-- the number of the error that a time without an answer gets
 abbrev pub IsNotAnswered : Zone → Unit → Way → ℤ → ℕ → Type 0
 IsNotAnswered z unit ways.ToLocal x n = (n ≡ 37) × IsWithout z unit x
 IsNotAnswered z unit (ways.ToInstants choice) x n = IsNoInstant z unit choice x n
+IsNotAnswered z unit (ways.ToWholeSeconds sought) x n = IsNoWholeSecondOf z unit sought x n
 
 -- what is written: no time stays none
 abbrev pub IsAnsweredOrNone : Zone → Unit → Way → ℤ → ℤ → Type 0
 IsAnsweredOrNone z unit way x y = ((x ≡ no_time) × (y ≡ no_time)) ⊎ ((x ≢ no_time) × IsAnswered z unit way x y)
 
--- one for each time, in their order
+-- one answer for each time, in the same order
 abbrev pub AreAnswered : Zone → Unit → Way → List ℤ → List ℤ → Type 0
 AreAnswered z unit way times answers = AllZip (IsAnsweredOrNone z unit way) times answers
 
 -- the row at that place is the first without an answer, for the reason of that number: those before it are written, and it and those
--- behind it are as they were
+-- after it are as they were
 pub record IsFirstWithout (z : Zone) (unit : Unit) (way : Way) (times old answers : List ℤ) (row n : ℕ) : Type 0 where
   pub within : row < length times
   pub before : AreAnswered z unit way (take row times) (take row answers)
@@ -67,3 +86,7 @@ pub record IsFirstWithout (z : Zone) (unit : Unit) (way : Way) (times old answer
 -- the numbers of a local time without an instant: in a gap 21, in a fold 22, out of range 23
 abbrev pub IsRowNumber : ℕ → Type 0
 IsRowNumber n = (21 ≤ n) × (n ≤ 23)
+
+-- the numbers of an instant for which no whole second is found: out of range 23, of a zone with an offset of a day or more 40
+abbrev pub IsSoughtNumber : ℕ → Type 0
+IsSoughtNumber n = (n ≡ 23) ⊎ (n ≡ 40)

@@ -35,7 +35,7 @@ pub record IsLocalOf (f : Fields) (local : ℤ) : Type 0 where
   pub named : local ≡ local_of_fields f
   pub in_range : IsInRange local
 
--- why there is none, by its number
+-- the number of the error of fields without a local time
 pub data IsNoLocalOf (f : Fields) : ℕ → Type 0 where
   no_date_time : ¬ (IsDateTime f) → IsNoLocalOf f 39
   outside : IsDateTime f → ¬ (IsInRange (local_of_fields f)) → IsNoLocalOf f 23
@@ -47,7 +47,7 @@ pub record AreFieldsAt (z : Zone) (u : ℤ) (f : Fields) : Type 0 where
   pub in_range : IsInRange (u +ℤ type.offset)
   pub fields : AreFieldsOf (u +ℤ type.offset) f
 
--- why there are none, by its number
+-- the number of the error of a second without fields
 pub data AreNoFieldsAt (z : Zone) (u : ℤ) : ℕ → Type 0 where
   no_type : IsTypeRefused z u → AreNoFieldsAt z u 37
   outside : (t : LocalType) → TypeAt z u t → ¬ (IsInRange (u +ℤ t.offset)) → AreNoFieldsAt z u 23

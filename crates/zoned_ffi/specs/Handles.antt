@@ -14,11 +14,11 @@ abbrev pub shared_zone : Option (Arc Zone Global) → Option Zone
 shared_zone None = None
 shared_zone (Some share) = Some (arc_value share)
 
--- the zone is open
+-- the handle has the zone open
 abbrev pub IsOpen : Handle → Zone → Type 0
 IsOpen handle z = shared_zone handle.shared ≡ Some z
 
--- none is
+-- the handle has no zone open
 abbrev pub IsClosed : Handle → Type 0
 IsClosed handle = handle.shared ≡ None
 
@@ -26,7 +26,7 @@ IsClosed handle = handle.shared ≡ None
 abbrev pub IsLent : Lent → Zone → Type 0
 IsLent lent z = shared_zone lent.shared ≡ Some z
 
--- a handle that is only read has none
+-- a handle that is only read has no zone open
 abbrev pub IsNoneLent : Lent → Type 0
 IsNoneLent lent = lent.shared ≡ None
 

@@ -8,12 +8,12 @@ use Rattle.tz_info.specs.Zones.{Zone, TypeAt, IsTypeRefused}
 abbrev pub no_offset : ℤ
 no_offset = neg_ℤ (pos 2_147_483_648)
 
--- the offset of the type in force at the second u, or the mark where the zone has no type there
+-- the offset of the type in force at the second u, or the mark if the zone has no type there
 abbrev pub IsWrittenOffsetAt : Zone → ℤ → ℤ → Type 0
 IsWrittenOffsetAt z u offset =
     ((t : LocalType) × TypeAt z u t × (offset ≡ t.offset) × IsUtOffset offset)
     ⊎ (IsTypeRefused z u × (offset ≡ no_offset))
 
--- one for each instant, in their order
+-- one offset for each instant, in the same order
 abbrev pub AreOffsetsAt : Zone → List ℤ → List ℤ → Type 0
 AreOffsetsAt z instants offsets = AllZip (IsWrittenOffsetAt z) instants offsets

@@ -1,5 +1,5 @@
--- What a handle owns: nothing where it is null, and else the block at its pointer, in which a share of a zone lies.
--- What a handle that is only read has: nothing where it is null, and else some part of the token of a lifetime for which what lies at
+-- What a handle owns: nothing if it is null, and else the block at its pointer, which holds a share of a zone.
+-- What a handle that is only read has: nothing if it is null, and else some part of the token of a lifetime for which what lies at
 -- its pointer is lent. Parts can be parted again, so any number of readers have one, and the lifetime ends once all are back.
 use base.Fml.{Fml, Share, ftrue, fex, fsep, flft}
 use denote.RattleType.{RattleType}

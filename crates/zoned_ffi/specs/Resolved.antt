@@ -1,5 +1,5 @@
 -- The instants that a choice takes for local times that clocks show never, once or several times.
-use Rattle.std.specs.Prelude.{ℕ, ℤ, ◌≡◌, ◌≢◌, ◌-ℤ◌, pos, List, Result, Ok, Err}
+use Rattle.std.specs.Prelude.{ℕ, ℤ, ◌≡◌, ◌-ℤ◌, pos, List, Result, Ok, Err}
 use Rattle.std.specs.List.{AllZip}
 use Rattle.naive_base.specs.Range.{IsInRange}
 use Rattle.offset_core.specs.Around.{Takes}
@@ -39,7 +39,7 @@ fold_number folds.Latest = 2
 abbrev pub IsChoiceOf : ℕ → ℕ → Choice → Type 0
 IsChoiceOf gap fold choice = (gap ≡ gap_number choice.gap) × (fold ≡ fold_number choice.fold)
 
--- there is one
+-- the numbers are those of a choice
 abbrev pub IsChoice : ℕ → ℕ → Type 0
 IsChoice gap fold = (choice : Choice) × IsChoiceOf gap fold choice
 
@@ -76,12 +76,13 @@ pub record IsTakenGapEnd (z : Zone) (local : ℤ) (choice : Choice) (at : ℤ) (
 abbrev pub IsNoneTaken : Zone → ℤ → Choice → ℕ → Type 0
 IsNoneTaken z local choice n = (e : ResolveError) × TakesOf z local choice (Err e) × (n ≡ resolve_error_number e)
 
--- what is written where there is no instant: the number that says why
+-- what is written if there is no instant: the number that says why
 abbrev pub unresolved : ℕ → Resolved
 unresolved n = record { number = n; offset = pos 0; instant = pos 0 }
 
 -- What is written of a local time. The instant is the local time less the offset that is taken, or the gap's end, and the offset is the
--- one in force there: mostly the one after the gap if the choice shifts forward, and the one before it if it shifts backward. The number is 23 where the local time or the instant is outside the calendar's range.
+-- one in force there: mostly the one after the gap if the choice shifts forward, and the one before it if it shifts backward. The number is
+-- 23 if the local time or the instant is outside the calendar's range.
 pub data IsResolvedAt (z : Zone) (choice : Choice) (local : ℤ) (w : Resolved) : Type 0 where
   found : (t : LocalType) (offset : ℤ) → IsInRange local → IsTakenType z local choice t → IsInRange (local -ℤ t.offset)
       → IsWrittenOffsetAt z (local -ℤ t.offset) offset
@@ -95,15 +96,19 @@ pub data IsResolvedAt (z : Zone) (choice : Choice) (local : ℤ) (w : Resolved) 
   ended_outside : (at : ℤ) (after : LocalType) → IsInRange local → IsTakenGapEnd z local choice at after → ¬ (IsInRange at) → w ≡ unresolved 23
       → IsResolvedAt z choice local w
 
--- one for each local time, in their order
+-- one answer for each local time, in the same order
 abbrev pub AreResolved : Zone → Choice → List ℤ → List Resolved → Type 0
 AreResolved z choice locals resolved = AllZip (IsResolvedAt z choice) locals resolved
 
 -- What is written of the first second at which a clock shows a local time or a later one: that second, and the offset in force then.
--- The number is 23 where the local time or that second is outside the calendar's range.
+-- The number is 23 if the local time or that second is outside the calendar's range.
 pub data IsReachedAt (z : Zone) (local : ℤ) (w : Resolved) : Type 0 where
   reached : (u : ℤ) (t : LocalType) → IsInRange local → IsFirstAtOrAfter (TypeAt z) local u t → IsInRange u
       → w ≡ record { number = 0; offset = t.offset; instant = u } → IsReachedAt z local w
   unreached : ¬ (IsInRange local) → w ≡ unresolved 23 → IsReachedAt z local w
   reached_outside : (u : ℤ) (t : LocalType) → IsInRange local → IsFirstAtOrAfter (TypeAt z) local u t → ¬ (IsInRange u) → w ≡ unresolved 23
       → IsReachedAt z local w
+
+-- one for each local time, in their order
+abbrev pub AreReached : Zone → List ℤ → List Resolved → Type 0
+AreReached z locals firsts = AllZip (IsReachedAt z) locals firsts

@@ -26,7 +26,6 @@ pub data IsSaidOf : ℕ → List ℕ → Type 0 where
   No_change : IsSaidOf 35 (codes "no change of the clocks")
   Unknown_unit : IsSaidOf 36 (codes "no such unit of time")
   No_local_time : IsSaidOf 37 (codes "an instant has no local time")
-  No_gap : IsSaidOf 38 (codes "the local time lies in no gap")
   No_date_time : IsSaidOf 39 (codes "no such date or time of day")
   Wide_zone : IsSaidOf 40 (codes "an offset of the zone is a day or more")
   Other_index : IsSaidOf 41 (codes "a transition of a TZif file names no local time type")
@@ -35,12 +34,13 @@ pub data IsSaidOf : ℕ → List ℕ → Type 0 where
   Other_rule : IsSaidOf 44 (codes "the footer of a TZif file disagrees with the last transition")
   No_such_zone : IsSaidOf 45 (codes "no time zone of that name")
   Unreadable_file : IsSaidOf 46 (codes "the file of a time zone can't be read")
+  Unknown_step : IsSaidOf 47 (codes "no such step of the local clock")
 
--- the text of a number: what it says, or of a number that says nothing that it is none
+-- the text of an error number, or the text for a number that is not an error's
 abbrev pub IsTextOf : ℕ → List ℕ → Type 0
 IsTextOf n text = IsSaidOf n text ⊎ (((said : List ℕ) → ¬ (IsSaidOf n said)) × (text ≡ codes "no number of this library"))
 
--- as much of the text as leaves room for a zero byte, then that byte, then what stood there
+-- as much of the text as leaves room for a zero byte, then that byte, then the old bytes
 abbrev pub written_over : List ℕ → List ℕ → List ℕ
 written_over said [] = []
 written_over said (b ∷ bs) = take (length bs) said ++ (0 ∷ drop (length (take (length bs) said)) bs)

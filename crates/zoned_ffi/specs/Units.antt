@@ -4,7 +4,7 @@ use Rattle.std.specs.Int.{w64}
 use Rattle.gregorian.specs.Year.{floor_div}
 use Rattle.tz_base.specs.LocalTypes.{LocalType}
 use Rattle.tz_info.specs.Zones.{Zone, TypeAt, IsTypeRefused}
-use Rattle.tz_info.specs.declared.zone.offset_stretch.OffsetStretch.{OffsetStretch}
+use Rattle.tz_info.specs.declared.zone.ask.offset_stretch.OffsetStretch.{OffsetStretch}
 use Rattle.zoned_ffi.specs.declared.unit.Unit.{Unit}
 use Rattle.zoned_ffi.specs.declared.unit.Unit.TheVariants as units
 

@@ -10,7 +10,7 @@ use Rattle.tz_info.specs.WallClocks.{Shows}
 use Rattle.tz_info.specs.Zones.{Zone, TypeAt}
 use Rattle.zoned_ffi.specs.declared.local_result.WrittenLocalResult.{WrittenLocalResult}
 
--- a clock of the zone shows the local time at the second u; of such a second we tell the second and the offset in force
+-- a clock of the zone shows the local time at the second u; the answer is that second and the offset in force then
 abbrev pub ShowsAt : Zone → ℤ → ℤ → ℤ × ℤ → Type 0
 ShowsAt z local u told = (told.0 ≡ u) × ((t : LocalType) × Shows (TypeAt z) local u t × (told.1 ≡ t.offset))
 
@@ -32,6 +32,6 @@ IsWallClockAt z local w =
     (IsInRange local × ((answer : LocalResult (ℤ × ℤ)) × IsWallAnswer (ShowsAt z local) answer × (w ≡ written answer)))
     ⊎ (¬ (IsInRange local) × (w ≡ out_of_range))
 
--- one for each local time, in their order
+-- one answer for each local time, in the same order
 abbrev pub AreWallClocks : Zone → List ℤ → List WrittenLocalResult → Type 0
 AreWallClocks z locals clocks = AllZip (IsWallClockAt z) locals clocks

@@ -23,7 +23,7 @@ mark false = pos 0
 abbrev pub written_type : LocalType → WrittenType
 written_type t = record { offset = t.offset; is_dst = mark t.dst; abbreviation = zero_ended t.name }
 
--- what is written where the zone has no type
+-- what is written if the zone has no type
 abbrev pub no_type : WrittenType
 no_type = record { offset = no_offset; is_dst = pos 0; abbreviation = zeros }
 
@@ -33,6 +33,6 @@ IsWrittenTypeAt z u w =
     ((t : LocalType) × TypeAt z u t × (w ≡ written_type t))
     ⊎ (IsTypeRefused z u × (w ≡ no_type))
 
--- one for each instant, in their order
+-- one type for each instant, in the same order
 abbrev pub AreWrittenTypesAt : Zone → List ℤ → List WrittenType → Type 0
 AreWrittenTypesAt z instants types = AllZip (IsWrittenTypeAt z) instants types

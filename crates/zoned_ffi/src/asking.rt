@@ -1,5 +1,6 @@
 //! Questions to a zone that C keeps, about instants and local times; `locals` has those that take an
-//! instant for a local time.
+//! instant for a local time, `around` those about its clock change and spans, and `reached` those about
+//! what clocks have reached.
 #![tactic(auto, using(crate::proofs::Casts::passed_on))]
 
 ghost use Rattle.std.specs.Prelude.{◌≡◌, ◌≢◌, ◌⊎◌, pos, length};
@@ -15,7 +16,9 @@ ghost use Rattle.zoned_ffi.specs.declared.column.Way.TheVariants.{ToLocal};
 ghost use Rattle.zoned_ffi.specs.declared.unit.Unit.{Unit as AnyUnit};
 ghost use Rattle.zoned_ffi.specs.WrittenTypes.{AreWrittenTypesAt, IsWrittenTypeAt};
 
+pub mod around;
 pub mod locals;
+pub mod reached;
 
 use crate::column::answer_locals;
 use crate::fields::{Fields, answer_fields};
@@ -27,7 +30,7 @@ use crate::refusal::{NO_LOCAL_TIME, NOT_OPEN, OTHER_SIZE, UNKNOWN_UNIT};
 use crate::span::WrittenSpan;
 use crate::unit::Unit;
 
-/// Writes the offset in force at the instant, in seconds east of UTC. Where the zone has none it writes
+/// Writes the offset in force at the instant, in seconds east of UTC. If the zone has none it writes
 /// `i32::MIN`: its leap time leaves 64 bits, or its rule does not answer in that year.
 #[unsafe(no_mangle)]
 pub extern "C" fn zoned_zone_offset(zone: &Lent, instant: i64, offset: &mut i32) -> u32

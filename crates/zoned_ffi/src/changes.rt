@@ -100,7 +100,7 @@ pub extern "C" fn zoned_zone_changes(
     changes: &mut [WrittenChange],
     count: &mut usize,
 ) -> u32
-    // 0: they are written, in their order, and counted. What stood behind them is as it was.
+    // 0: they are written, in their order, and counted. The elements after them are as they were.
     ensures answered { result ≡ 0 → (z : Zone) × IsLent zone.now z
         × AreFirstWritten z from until most changes.old changes.new count.new }
     // 33: no zone is open, and nothing is written.

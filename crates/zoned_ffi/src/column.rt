@@ -1,9 +1,9 @@
 //! Columns of instants as local times, and of local times as instants, in one pass.
 
 ghost use Rattle.std.specs.Prelude.{◌≡◌, ◌≢◌, length, MatchOption};
-ghost use Rattle.zoned_ffi.specs.Columns.{AreAnswered, IsFirstWithout, IsRowNumber};
+ghost use Rattle.zoned_ffi.specs.Columns.{AreAnswered, IsFirstWithout, IsRowNumber, IsSoughtNumber};
 ghost use Rattle.zoned_ffi.specs.Steps.KeptTimes.{AreKept, AreWritten, IsStop};
-ghost use Rattle.zoned_ffi.specs.declared.column.Way.TheVariants.{ToInstants, ToLocal};
+ghost use Rattle.zoned_ffi.specs.declared.column.Way.TheVariants.{ToInstants, ToLocal, ToWholeSeconds};
 
 mod block;
 mod kept;
@@ -13,12 +13,13 @@ mod table;
 use crate::choice::Choice;
 use crate::refusal::{NO_LOCAL_TIME, OTHER_SIZE};
 use crate::unit::Unit;
+use crate::whole_second::WholeSecond;
 use block::write_block;
 use kept::Kept;
 use table::Search;
 use tz_info::TimeZone;
 
-/// No time: what a column has where a time is missing.
+/// No time: the value of a missing time in a column.
 pub(crate) const NO_TIME: i64 = i64::MIN;
 
 /// Which way a column goes.
@@ -28,6 +29,8 @@ pub enum Way {
     ToLocal,
     /// Local times become instants, under a choice for gaps and folds.
     ToInstants(Choice),
+    /// Instants become whole seconds that are found for them.
+    ToWholeSeconds(WholeSecond),
 }
 
 /// What is asked about the times of a column.
@@ -209,6 +212,45 @@ pub fn answer_times(
         Some(stop) => {
             let Stop { row: first, number } = stop;
             *row = first;
+            number
+        }
+        None => 0,
+    }
+}
+
+/// Writes what is found for each instant if there is room for as many: 0, or why not. If nothing is found
+/// for an instant, the row of the first such instant is written too.
+#[tactic(auto, using(crate::proofs::WholeSeconds::row_number))]
+pub fn answer_whole_seconds(
+    zone: &TimeZone,
+    unit: Unit,
+    sought: WholeSecond,
+    instants: &[i64],
+    found: &mut [i64],
+    row: &mut usize,
+) -> u32
+    ensures answered { result ≡ 0
+        → AreAnswered zone.now unit (ToWholeSeconds sought) instants.now found.new
+        × (row.new ≡ row.old) }
+    ensures without { IsSoughtNumber result
+        → IsFirstWithout zone.now unit (ToWholeSeconds sought) instants.now
+        found.old found.new row.new result }
+    ensures refused { result ≢ 0 → ¬ (IsSoughtNumber result)
+        → (result ≡ 32) × (length instants.now ≢ length found.old)
+        × (found.new ≡ found.old) × (row.new ≡ row.old) }
+{
+    if instants.len() != found.len() {
+        return OTHER_SIZE;
+    }
+    let question = Question {
+        zone,
+        unit,
+        way: Way::ToWholeSeconds(sought),
+    };
+    match write_column(question, instants, found) {
+        Some(stop) => {
+            let Stop { row: place, number } = stop;
+            *row = place;
             number
         }
         None => 0,

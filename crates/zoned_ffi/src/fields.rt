@@ -70,7 +70,7 @@ impl Fields {
             && self.second < 60
     }
 
-    // The local time of the date and the time of day, or the number that says why there is none.
+    // The local time of the date and the time of day, or the number of the error.
     fn local(&self) -> Result<i64, u32>
         ensures { MatchResult result (IsLocalOf self.now) (IsNoLocalOf self.now) }
     {

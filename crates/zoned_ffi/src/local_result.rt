@@ -10,14 +10,14 @@ use naive_base::NaiveDateTime;
 use offset_core::MappedLocalTime;
 use tz_info::{LocalTimeType, TimeZone};
 
-// The number of seconds that show a local time, as [`WrittenLocalResult::shown`] has it: none.
-const NEVER: i32 = 0;
+/// The number of seconds that show a local time, as [`WrittenLocalResult::shown`] has it: none.
+pub const NEVER: i32 = 0;
 
-// One.
-const ONCE: i32 = 1;
+/// One.
+pub const ONCE: i32 = 1;
 
-// Two or more.
-const SEVERAL_TIMES: i32 = 2;
+/// Two or more.
+pub const SEVERAL_TIMES: i32 = 2;
 
 // Not known: the local time is outside the calendar's range.
 const OUT_OF_RANGE: i32 = 3;
@@ -29,8 +29,8 @@ pub struct WrittenLocalResult {
     /// How often: 0 never, 1 once, 2 several times. 3: the local time is outside the calendar's
     /// range.
     pub shown: i32,
-    /// The offset in force at the first of these seconds, in seconds east of UTC; 0 where there is
-    /// none.
+    /// The offset in force at the first of these seconds, in seconds east of UTC; 0 if there isn't
+    /// one.
     pub first_offset: i32,
     /// The offset in force at the last of them.
     pub last_offset: i32,

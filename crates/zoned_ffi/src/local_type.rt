@@ -10,7 +10,7 @@ use tz_info::{LocalTimeType, Lookups, TimeZone};
 #[repr(C)]
 #[derive(Clone, Copy)]
 pub struct WrittenType {
-    /// Seconds east of UTC; `i32::MIN` where the zone has no type.
+    /// Seconds east of UTC; `i32::MIN` if the zone has no type.
     pub offset: i32,
     /// 1 if it is daylight saving time, else 0.
     pub is_dst: i32,

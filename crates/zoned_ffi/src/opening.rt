@@ -86,13 +86,13 @@ pub extern "C" fn zoned_open_fixed(alloc: Global, offset: i32, out: &mut Handle)
     0
 }
 
-/// Opens the zone of `zone` in `out` too, without reading it again. A zone that `out` had open is
+/// Opens the zone of `zone` in `out` too, without parsing it again. A zone that `out` had open is
 /// closed.
 #[unsafe(no_mangle)]
 pub extern "C" fn zoned_share(alloc: Global, zone: &Lent, out: &mut Handle) -> u32
     // 0: both have the zone open.
     ensures shared { result ≡ 0 → (z : Zone) × IsLent zone.now z × IsOpen out.new z }
-    // Another number: 33 where none is open, 17 where memory ran out; `out` is as it was.
+    // Another number: 33 if none is open, 17 if memory ran out; `out` is as it was.
     ensures refused { result ≢ 0 → ((result ≡ 33) × IsNoneLent zone.now
         ⊎ (result ≡ 17) × ((z : Zone) × IsLent zone.now z)) × (out.new ≡ out.old) }
 {

@@ -1,7 +1,7 @@
 //! Facts about only the definitions, each proved with no code between: the numbers that the header
 //! gives to C. The functions are empty, and never called.
 
-ghost use Rattle.std.specs.Prelude.{◌≡◌, ◌∷◌, [], ◌⊎◌, ℕ, ℤ, pos, neg_ℤ, true, false, Some, None, Ok, List, codes};
+ghost use Rattle.std.specs.Prelude.{◌≡◌, ◌∷◌, [], ◌⊎◌, ◌-ℤ◌, ℕ, ℤ, pos, neg_ℤ, true, false, Some, None, Ok, List, codes};
 ghost use Rattle.offset_core.specs.declared.around.Taken.TheVariants.{InGap};
 ghost use Rattle.tz_base.specs.LocalTypes.{LocalType};
 ghost use Rattle.tz_base.specs.declared.change.Change.{Change};
@@ -10,9 +10,21 @@ ghost use Rattle.zoned_ffi.specs.Steps.SetBack.{set_back, summer, winter};
 ghost use Rattle.tz_info.specs.Zones.{Zone};
 ghost use Rattle.tz_base.specs.declared.error.Error.TheVariants as errors;
 ghost use Rattle.tz_base.specs.declared.error.Expected.TheVariants as expected;
+ghost use Rattle.tz_info.specs.PosixZones.{IsExtendedZone};
 ghost use Rattle.tz_info.specs.Zones.{IsTypeRefused, TypeAt};
 ghost use Rattle.zoned_ffi.specs.Columns.{IsAnsweredOrNone, IsFirstWithout, IsInstantOf, IsNoInstant};
-ghost use Rattle.zoned_ffi.specs.Columns.{IsRowNumber, second_holding};
+ghost use Rattle.zoned_ffi.specs.Columns.{IsNoWholeSecondOf, IsRowNumber, IsSoughtNumber};
+ghost use Rattle.zoned_ffi.specs.Columns.{IsWholeSecondOf, second_holding};
+ghost use Rattle.zoned_ffi.specs.WholeSeconds.{IsDayAt, IsFound, IsNoDayAt, IsStep, step_number};
+ghost use Rattle.zoned_ffi.specs.declared.whole_second.WholeSecond.{WholeSecond};
+ghost use Rattle.naive_base.specs.Stamp.{of_secs};
+ghost use Rattle.naive_base.specs.declared.weekday.Weekday.TheVariants as weekdays;
+ghost use Rattle.naive_plans.specs.ClockSteps.{BeginsStep};
+ghost use Rattle.naive_plans.specs.declared.clock_step.ClockStep.TheVariants as clock_steps;
+ghost use Rattle.zoned_ref.specs.Offsets.{AreOffsetsOf};
+ghost use Rattle.zoned_time.specs.Days.{IsInDay};
+ghost use Rattle.zoned_time.specs.StepBounds.{AreStepBounds};
+ghost use Rattle.zoned_ffi.specs.FaultPlaces.{IsFaultPosition, no_position};
 ghost use Rattle.zoned_ffi.specs.Fields.{AreFieldsOf, IsNoLocalOf};
 ghost use Rattle.zoned_ffi.specs.Handles.{IsUnanswered};
 ghost use Rattle.zoned_ffi.specs.Instants.{IsWrittenOffsetAt, no_offset};
@@ -24,6 +36,7 @@ ghost use Rattle.zoned_ffi.specs.Texts.{IsTextOf, written_over};
 ghost use Rattle.zoned_ffi.specs.Units.{IsCounted, IsLocal, IsUnit, local_by, no_time, per_second};
 ghost use Rattle.zoned_ffi.specs.WallClocks.{written, out_of_range};
 ghost use Rattle.zoned_ffi.specs.WrittenChanges.{written_change, written_into};
+ghost use Rattle.zoned_ffi.specs.WrittenSavings.{written_saving};
 ghost use Rattle.zoned_ffi.specs.WrittenSpans.{written_span};
 ghost use Rattle.zoned_ffi.specs.WrittenTypes.{mark, no_type, written_type, zero_ended, zeros};
 ghost use Rattle.zoned_ffi.specs.declared.choice.Choice.{Choice};
@@ -37,6 +50,17 @@ ghost use Rattle.offset_core.specs.declared.choice.FoldChoice.TheVariants as fol
 ghost use Rattle.offset_core.specs.declared.local_result.LocalResult.TheVariants as results;
 ghost use Rattle.zoned_ffi.specs.declared.choice.ChoiceInGap.TheVariants as gaps;
 ghost use Rattle.zoned_ffi.specs.declared.kind.Kind.TheVariants as kinds;
+ghost use Rattle.offset_core.specs.WallAnswer.{IsShownBetween, IsShownOnce};
+ghost use Rattle.tz_info.specs.Around.{Skips};
+ghost use Rattle.tz_info.specs.WallClocks.{Shows};
+ghost use Rattle.tz_info.specs.declared.rule.transition_rule.TransitionRule.{TransitionRule};
+ghost use Rattle.tz_write.specs.WrittenTexts.{IsWrittenText};
+ghost use Rattle.zoned_ffi.specs.LocalInfos.{IsLocalInfo};
+ghost use Rattle.zoned_ffi.specs.RuleStrings.{IsRuleString};
+ghost use Rattle.zoned_ffi.specs.WrittenChanges.{IsNoLocalChange};
+ghost use Rattle.zoned_ffi.specs.WrittenSpans.{IsWrittenSpanAt};
+ghost use Rattle.zoned_ffi.specs.declared.local_info.WrittenLocalInfo.{WrittenLocalInfo};
+ghost use Rattle.zoned_ffi.specs.declared.span.WrittenSpan.{WrittenSpan};
 
 /// A file is of kind 0, a TZ string of kind 1, and one with extensions of kind 2; there is no kind 3.
 pub fn kind_numbers()
@@ -44,6 +68,16 @@ pub fn kind_numbers()
     ensures text { kind_number kinds.Text ≡ 1 }
     ensures extended { kind_number kinds.ExtendedText ≡ 2 }
     ensures three { ¬ (IsKind 3) }
+{}
+
+/// A file has no position of a fault, nor has a string that spells a zone.
+pub fn fault_positions()
+    ensures file { (bytes : List ℕ) → IsFaultPosition 0 bytes no_position }
+    ensures only_file { (bytes : List ℕ) (n : ℕ) → IsFaultPosition 0 bytes n → n ≡ no_position }
+    ensures zone { (bytes : List ℕ) (z : Zone) → IsExtendedZone bytes z
+        → IsFaultPosition 2 bytes no_position }
+    ensures only_zone { (bytes : List ℕ) (n : ℕ) (z : Zone) → IsExtendedZone bytes z
+        → IsFaultPosition 2 bytes n → n ≡ no_position }
 {}
 
 /// For a gap 0 refuses, 1 shifts forward, 2 takes its end and 3 shifts backward; for a fold 0 refuses, 1
@@ -165,6 +199,12 @@ pub fn spans()
         ≡ record { from = pos 5; until = pos 9; local_type = written_type t } }
 {}
 
+/// In Dublin's winter standard time is an hour ahead of UTC, and clocks are an hour behind that.
+pub fn savings()
+    ensures winter { written_saving (record { standard_offset = pos 3_600; amount = neg_ℤ (pos 3_600) })
+        ≡ record { standard_offset = pos 3_600; amount = neg_ℤ (pos 3_600) } }
+{}
+
 /// A local time is shown never, once or more than once, by 0, 1 and 2; 3 is out of range. The
 /// earlier second comes first.
 pub fn wall_clocks()
@@ -260,6 +300,47 @@ pub fn columns()
     ensures no_number { ¬ (IsRowNumber 37) }
 {}
 
+/// A day is the step 86400, and a quarter of an hour 900. A week from Sunday is 100000 and one from Monday
+/// 100001, a month 200000 and a year 300000. No step has seven seconds.
+pub fn steps()
+    ensures day { step_number clock_steps.Day ≡ 86_400 }
+    ensures from_sunday { step_number (clock_steps.Week weekdays.Sun) ≡ 100_000 }
+    ensures from_monday { step_number (clock_steps.Week weekdays.Mon) ≡ 100_001 }
+    ensures month { step_number clock_steps.Month ≡ 200_000 }
+    ensures year { step_number clock_steps.Year ≡ 300_000 }
+    ensures quarter_hour { IsStep 900 }
+    ensures seven { ¬ (IsStep 7) }
+{}
+
+/// 5.001 lies in the second 5, which is the last second before it, and before 5.000 that is 4. A second
+/// that is found is counted in milliseconds.
+pub fn whole_seconds()
+    ensures after { (z : Zone) (sought : WholeSecond) → IsFound z sought (pos 5) (pos 5) (pos 7)
+        → IsWholeSecondOf z units.Milliseconds sought (pos 5_001) (pos 7_000) }
+    ensures at { (z : Zone) (sought : WholeSecond) → IsFound z sought (pos 5) (pos 4) (pos 5)
+        → IsWholeSecondOf z units.Milliseconds sought (pos 5_000) (pos 5_000) }
+    ensures outside { (z : Zone) (sought : WholeSecond)
+        → IsNoWholeSecondOf z units.Seconds sought (pos 8_210_266_876_800) 23 }
+    ensures out_of_range { IsSoughtNumber 23 }
+    ensures wide { IsSoughtNumber 40 }
+    ensures no_number { ¬ (IsSoughtNumber 37) }
+{}
+
+/// St. John's on 2005-10-30: clocks went from 00:01 back to 23:01, so at 03:02:00 UTC they show the day
+/// before. That instant lies in the day 13086, whose midnight is 1130630400.
+pub fn days()
+    ensures date { (z : Zone) (off : ℤ → ℤ) → AreOffsetsOf z off
+        → IsInDay off (pos 13_086) (of_secs (pos 1_130_641_320) 0)
+        → AreStepBounds off (BeginsStep clock_steps.Day) (pos 1_130_641_320) (pos 1_130_639_400)
+        (pos 1_130_729_400)
+        → IsDayAt z (pos 1_130_641_320) (record {
+          date = pos 1_130_630_400;
+          begin = pos 1_130_639_400;
+          end = pos 1_130_729_400;
+        }) }
+    ensures outside { (z : Zone) → IsNoDayAt z (pos 8_210_266_876_800) 23 }
+{}
+
 /// The numbers of errors: a TZ string that is not UTF-8 is 16, an unknown kind 31. Lists that make no zone
 /// have the numbers 41 to 44; each other error keeps its own.
 pub fn numbers()
@@ -303,4 +384,39 @@ pub fn folds()
         (record { at = pos 0; before = summer; after = winter }) }
     ensures either { SkipsOrRepeats set_back (pos 1_800)
         (record { at = pos 0; before = summer; after = winter }) }
+{}
+
+/// A local time that one second shows has no clock change, by 35, and one after the calendar's range by 23.
+pub fn local_changes()
+    ensures once { (z : Zone) (local : ℤ) (t : LocalType) → IsShownOnce (Shows (TypeAt z) local) t
+        → IsNoLocalChange z local 35 }
+    ensures outside { (z : Zone) → IsNoLocalChange z (pos 8_210_266_876_800) 23 }
+    ensures others { (z : Zone) (local : ℤ) (n : ℕ) → IsNoLocalChange z local n
+        → (n ≡ 23) ⊎ (n ≡ 35) }
+{}
+
+/// A local time in a gap is shown never, by 0, between the span of the second before the change and that of
+/// the change. In a fold it is shown several times, by 2, in the spans of its first and its last second; and
+/// otherwise once, by 1, in one span.
+pub fn local_infos()
+    ensures never { (z : Zone) (local : ℤ) (c : Change) (a b : WrittenSpan) → Skips (TypeAt z) local c
+        → IsWrittenSpanAt z (c.at -ℤ pos 1) a → IsWrittenSpanAt z c.at b
+        → IsLocalInfo z local (record { shown = pos 0; first = a; last = b }) }
+    ensures several { (z : Zone) (local : ℤ) (s t : LocalType) (a b : WrittenSpan)
+        → (shown : IsShownBetween (Shows (TypeAt z) local) s t)
+        → IsWrittenSpanAt z shown.first a → IsWrittenSpanAt z shown.last b
+        → IsLocalInfo z local (record { shown = pos 2; first = a; last = b }) }
+    ensures once { (z : Zone) (local : ℤ) (t : LocalType) (a : WrittenSpan)
+        → (shown : IsShownOnce (Shows (TypeAt z) local) t) → IsWrittenSpanAt z shown.second a
+        → IsLocalInfo z local (record { shown = pos 1; first = a; last = a }) }
+    ensures no_other { (z : Zone) (local : ℤ) (w : WrittenLocalInfo) → IsLocalInfo z local w
+        → (w.shown ≡ pos 0) ⊎ (w.shown ≡ pos 1) ⊎ (w.shown ≡ pos 2) }
+{}
+
+/// Without a rule the string is empty; the string of a rule is the one that is written of it.
+pub fn rule_strings()
+    ensures no_rule { IsRuleString None [] }
+    ensures only { (text : List ℕ) → IsRuleString None text → text ≡ [] }
+    ensures spelled { (rule : TransitionRule) (text : List ℕ) → IsWrittenText rule text true
+        → IsRuleString (Some rule) text }
 {}

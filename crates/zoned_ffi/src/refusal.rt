@@ -14,7 +14,8 @@ pub const OTHER_SIZE: u32 = 32;
 /// What it returns if no policy for gaps and folds has these numbers.
 pub const UNKNOWN_CHOICE: u32 = 34;
 
-/// What it returns where no change of the clocks comes after a second, or up to it.
+/// What it returns if no change of the clocks comes after a second, or up to it, or if clocks show a local
+/// time once.
 pub const NO_CHANGE: u32 = 35;
 
 /// What it returns if no unit of time has that count in a second.
@@ -23,14 +24,14 @@ pub const UNKNOWN_UNIT: u32 = 36;
 /// What it returns if an instant has no local time.
 pub const NO_LOCAL_TIME: u32 = 37;
 
-/// What it returns if a local time lies in no gap.
-pub const NO_GAP: u32 = 38;
-
 /// What it returns if the calendar has no such date, or a clock no such time.
 pub const NO_DATE_TIME: u32 = 39;
 
 /// What it returns if an offset of the zone is a day or more, and its clocks are to be compared.
 pub const WIDE_ZONE: u32 = 40;
+
+/// What it returns if no step of the local clock has that number.
+pub const UNKNOWN_STEP: u32 = 47;
 
 /// The number of a local time that is outside the calendar's range, or whose instant is.
 pub const INSTANT_OUT_OF_RANGE: u32 = 23;

@@ -3,7 +3,7 @@
 ghost use Rattle.std.specs.Prelude.{◌≡◌, ◌-ℤ◌, pos, length, MatchResult};
 ghost use Rattle.naive_base.specs.NaiveDateTime.{reading};
 ghost use Rattle.naive_base.specs.Range.{IsInRange};
-ghost use Rattle.zoned_ffi.specs.Resolved.{AreResolved, IsNoneTaken, IsReachedAt, IsResolvedAt, unresolved};
+ghost use Rattle.zoned_ffi.specs.Resolved.{AreReached, AreResolved, IsNoneTaken, IsReachedAt, IsResolvedAt, unresolved};
 ghost use Rattle.zoned_ffi.specs.Steps.ResolvedInstants.{IsResolvedStamp, IsTakenAs};
 
 use crate::choice::{Choice, ChoiceInGap};
@@ -81,9 +81,9 @@ impl Resolved {
     }
 }
 
-// The second at which a clock of that offset shows the local time.
+/// The second at which a clock of that offset shows the local time.
 #[tactic(auto, using(crate::proofs::Words::casts))]
-fn instant_by(local: i64, offset: i32) -> i64
+pub fn instant_by(local: i64, offset: i32) -> i64
     requires { IsInRange local }
     ensures { result ≡ local -ℤ offset }
 {
@@ -127,5 +127,15 @@ pub fn write_resolved(zone: &TimeZone, choice: Choice, locals: &[i64], resolved:
 {
     for (i, local) in locals.iter().enumerate() {
         resolved[i] = Resolved::at(zone, choice, *local);
+    }
+}
+
+/// Writes the first instant at which a clock shows each local time or a later one.
+pub fn write_reached(zone: &TimeZone, locals: &[i64], reached: &mut [Resolved])
+    requires { length locals.now ≡ length reached.old }
+    ensures { AreReached zone.now locals.now reached.new }
+{
+    for (i, local) in locals.iter().enumerate() {
+        reached[i] = Resolved::first_at_or_after(zone, *local);
     }
 }

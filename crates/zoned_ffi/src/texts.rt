@@ -15,10 +15,17 @@ pub extern "C" fn zoned_error_text(number: u32, text: &mut [u8]) -> usize
     ensures short { result < 128 }
 {
     let said = text_of(number).as_bytes();
+    write_over(said, text);
+    said.len()
+}
+
+/// Writes as many of the bytes as fit in front of a zero byte, and that byte.
+pub fn write_over(said: &[u8], text: &mut [u8])
+    ensures { text.new ≡ written_over said.now text.old }
+{
     if let Some(most) = text.len().checked_sub(1) {
         write_text(&said[..min(most, said.len())], text);
     }
-    said.len()
 }
 
 // Writes the bytes, and a zero byte after them.
@@ -59,7 +66,6 @@ fn text_of(number: u32) -> &'static str
         35 => "no change of the clocks",
         36 => "no such unit of time",
         37 => "an instant has no local time",
-        38 => "the local time lies in no gap",
         39 => "no such date or time of day",
         40 => "an offset of the zone is a day or more",
         41 => "a transition of a TZif file names no local time type",
@@ -68,6 +74,7 @@ fn text_of(number: u32) -> &'static str
         44 => "the footer of a TZif file disagrees with the last transition",
         45 => "no time zone of that name",
         46 => "the file of a time zone can't be read",
+        47 => "no such step of the local clock",
         _ => "no number of this library",
     }
 }

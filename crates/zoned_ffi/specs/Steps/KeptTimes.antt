@@ -9,7 +9,7 @@ use Rattle.zoned_ffi.specs.declared.column.Way.{Way}
 use Rattle.zoned_ffi.specs.declared.column.kept.Kept.{Kept}
 use Rattle.zoned_ffi.specs.declared.unit.Unit.{Unit}
 
--- the answer to a time by a question, and why there is none
+-- the answer to a time by a question, and the error if it has no answer
 abbrev pub IsAnsweredBy : Question → ℤ → ℤ → Type 0
 IsAnsweredBy q x y = IsAnswered q.zone.now q.unit q.way x y
 

@@ -1,4 +1,4 @@
--- How an answer of types is told.
+-- How an answer of types is written.
 use Rattle.std.specs.Prelude.{ℤ, ◌-ℤ◌}
 use Rattle.offset_core.specs.LocalResult.{map_of}
 use Rattle.offset_core.specs.declared.local_result.LocalResult.{LocalResult}

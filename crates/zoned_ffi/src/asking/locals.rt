@@ -1,28 +1,22 @@
-//! The instants of local times, and the gaps that they lie in.
+//! The instants of local times.
 #![tactic(auto, using(crate::proofs::Casts::passed_on))]
 
 ghost use Rattle.std.specs.Prelude.{◌≡◌, ◌≢◌, ◌⊎◌, pos, length};
 ghost use Rattle.tz_info.specs.Zones.{Zone};
 ghost use Rattle.zoned_ffi.specs.Columns.{AreAnswered, IsFirstWithout, IsRowNumber};
 ghost use Rattle.zoned_ffi.specs.Handles.{IsLent, IsNoneLent, IsUnanswered};
-ghost use Rattle.zoned_ffi.specs.Resolved.{AreResolved, IsChoice, IsChoiceOf, IsReachedAt, IsResolvedAt};
+ghost use Rattle.zoned_ffi.specs.Resolved.{AreReached, AreResolved, IsChoice, IsChoiceOf, IsReachedAt, IsResolvedAt};
 ghost use Rattle.zoned_ffi.specs.Units.{IsUnit, per_second};
-ghost use Rattle.zoned_ffi.specs.WrittenChanges.{IsGapWritten, IsNoGap};
 ghost use Rattle.zoned_ffi.specs.declared.choice.Choice.{Choice as AnyChoice};
 ghost use Rattle.zoned_ffi.specs.declared.column.Way.TheVariants.{ToInstants};
 ghost use Rattle.zoned_ffi.specs.declared.unit.Unit.{Unit as AnyUnit};
 
-use crate::changes::WrittenChange;
 use crate::choice::choice_of;
 use crate::column::answer_times;
 use crate::lent::Lent;
-use crate::refusal::{
-    INSTANT_OUT_OF_RANGE, NO_GAP, NOT_OPEN, OTHER_SIZE, UNKNOWN_CHOICE, UNKNOWN_UNIT,
-};
-use crate::resolved::{Resolved, write_resolved};
+use crate::refusal::{NOT_OPEN, OTHER_SIZE, UNKNOWN_CHOICE, UNKNOWN_UNIT};
+use crate::resolved::{Resolved, write_reached, write_resolved};
 use crate::unit::Unit;
-use naive_base::NaiveDateTime;
-use tz_info::Around;
 
 /// Writes the instant that a choice takes for the local time.
 #[unsafe(no_mangle)]
@@ -100,29 +94,28 @@ pub extern "C" fn zoned_zone_first_at_or_after(
     0
 }
 
-/// Writes the change at which the zone's clocks skip the local time.
+/// Writes the first instant at which a clock of the zone shows each local time or a later one.
 #[unsafe(no_mangle)]
-pub extern "C" fn zoned_zone_gap(zone: &Lent, local: i64, gap: &mut WrittenChange) -> u32
-    // 0: it is written.
-    ensures answered { result ≡ 0 → (z : Zone) × IsLent zone.now z × IsGapWritten z local gap.new }
-    // 33: no zone is open. 23: the local time is out of range. 38: clocks show it. Nothing is written.
-    ensures refused { result ≢ 0 → (((result ≡ 33) × IsNoneLent zone.now)
-        ⊎ ((z : Zone) × IsLent zone.now z × IsNoGap z local result)) × (gap.new ≡ gap.old) }
+pub extern "C" fn zoned_zone_firsts_at_or_after(
+    zone: &Lent,
+    locals: &[i64],
+    reached: &mut [Resolved],
+) -> u32
+    // 0: each answer is the zone's.
+    ensures answered { result ≡ 0
+        → (z : Zone) × IsLent zone.now z × AreReached z locals.now reached.new }
+    // Others as in the calls above. Nothing is written.
+    ensures refused { result ≢ 0 → IsUnanswered zone.now (length locals.now) (length reached.old) result
+        × (reached.new ≡ reached.old) }
 {
     let Some(share) = zone.share() else {
         return NOT_OPEN;
     };
-    let Some(reading) = NaiveDateTime::from_timestamp_opt(local, 0) else {
-        return INSTANT_OUT_OF_RANGE;
-    };
-    match share.find_local_time_type_around(reading) {
-        Around::Gap(found) => {
-            *gap = WrittenChange::of(&found);
-            0
-        }
-        Around::Single(_) => NO_GAP,
-        Around::Ambiguous(_, _) => NO_GAP,
+    if locals.len() != reached.len() {
+        return OTHER_SIZE;
     }
+    write_reached(share, locals, reached);
+    0
 }
 
 /// Writes the instant of each local time under the choice, both counted in the unit of which `count`

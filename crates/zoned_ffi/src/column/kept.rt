@@ -97,7 +97,20 @@ pub fn kept_at(question: Question, second: i64) -> Kept
     match way {
         Way::ToLocal => instants_in(zone, unit, stretch),
         Way::ToInstants(choice) => local_times_in(zone, unit, choice, stretch),
+        Way::ToWholeSeconds(_) => none_in(question, stretch),
     }
+}
+
+// What is found for instants of one stretch isn't as far from each of them: none of it is kept.
+fn none_in(question: Question, stretch: OffsetStretch) -> Kept
+    ensures { IsKept question.entry result }
+{
+    let OffsetStretch {
+        from: _,
+        until: _,
+        offset: _,
+    } = stretch;
+    Kept::none(question)
 }
 
 // The instants of the stretch.

@@ -1,16 +1,20 @@
 //! The answer to one time of a column, by a lookup.
 
-ghost use Rattle.std.specs.Prelude.{◌≡◌, ◌+ℤ◌, ◌≤ℤ◌, neg_ℤ, pos, MatchOption, MatchResult};
-ghost use Rattle.zoned_ffi.specs.Columns.{IsInstantOf, IsNoInstant};
+ghost use Rattle.std.specs.Prelude.{◌≡◌, ◌<◌, ◌+ℤ◌, ◌-ℤ◌, ◌≤ℤ◌, neg_ℤ, pos, MatchOption, MatchResult};
+ghost use Rattle.gregorian.specs.Year.{floor_div};
+ghost use Rattle.naive_base.specs.Stamp.{of_secs};
+ghost use Rattle.zoned_time.specs.Fires.{second_before};
+ghost use Rattle.zoned_ffi.specs.Columns.{IsInstantOf, IsNoInstant, IsNoWholeSecondOf, IsWholeSecondOf};
 ghost use Rattle.zoned_ffi.specs.Steps.KeptTimes.{IsAnsweredBy, IsNotAnsweredBy};
 ghost use Rattle.zoned_ffi.specs.Steps.ResolvedInstants.{taken_instant};
-ghost use Rattle.zoned_ffi.specs.Units.{IsCounted, IsLocal, IsWithout};
+ghost use Rattle.zoned_ffi.specs.Units.{IsCounted, IsLocal, IsWithout, per_second};
 
 use crate::choice::Choice;
 use crate::column::{NO_TIME, Question, Way};
 use crate::refusal::{INSTANT_OUT_OF_RANGE, NO_LOCAL_TIME};
 use crate::resolved::{Taken, take};
 use crate::unit::{GREATEST, LEAST, Unit};
+use crate::whole_second::WholeSecond;
 use naive_base::NaiveDateTime;
 use tz_info::TimeZone;
 
@@ -26,6 +30,7 @@ pub fn looked_up(question: &Question, time: i64) -> Result<i64, u32>
             None => Err(NO_LOCAL_TIME),
         },
         Way::ToInstants(choice) => instant_of(zone, unit, choice, time),
+        Way::ToWholeSeconds(sought) => whole_second_of(zone, unit, sought, time),
     }
 }
 
@@ -82,6 +87,41 @@ fn instant_taken(unit: Unit, local: i64, taken: Taken) -> Option<i64>
         Taken::InForce(offset) => added(local, less(unit.counts_of(offset))),
         Taken::Shifted(offset) => added(local, less(unit.counts_of(offset))),
         Taken::GapEnd(at, _) => counted(unit.counts_at(at)),
+    }
+}
+
+// The whole second that is sought for the instant, or the number that says why there is none.
+fn whole_second_of(
+    zone: &TimeZone,
+    unit: Unit,
+    sought: WholeSecond,
+    instant: i64,
+) -> Result<i64, u32>
+    ensures { MatchResult result (IsWholeSecondOf zone.now unit sought instant)
+        (IsNoWholeSecondOf zone.now unit sought instant) }
+{
+    let second = unit.second_of(instant);
+    let nanos = nanos_after(unit, second, instant);
+    match sought.find(zone, second, nanos) {
+        Ok(found) => match counted(unit.counts_at(found)) {
+            Some(time) => Ok(time),
+            None => Err(INSTANT_OUT_OF_RANGE),
+        },
+        Err(number) => Err(number),
+    }
+}
+
+// Some nanoseconds, if the instant is more than the second that it lies in.
+fn nanos_after(unit: Unit, second: i64, instant: i64) -> u32
+    requires { second ≡ floor_div instant (per_second unit) }
+    ensures nanos { result < 1_000_000_000 }
+    ensures before { second_before (of_secs second result)
+        ≡ floor_div (instant -ℤ pos 1) (per_second unit) }
+{
+    if unit.counts_at(second) < instant as i128 {
+        1
+    } else {
+        0
     }
 }
 

@@ -157,7 +157,7 @@ fn pair_of(parts: &[u8], part: i64) -> usize
     }
 }
 
-// Where the part is noted.
+// The index at which the part is noted.
 #[inline(always)]
 fn index_of(part: i64) -> usize {
     (part.cast_unsigned() % 2_048) as usize
@@ -205,7 +205,7 @@ fn second_before(unit: Unit, time: i64, offset: i32) -> i64 {
 // The least offset of the zone and the greatest; of instants both are 0, since no offset moves them.
 fn offsets(question: &Question) -> (i32, i32) {
     match question.way {
-        Way::ToLocal => (0, 0),
+        Way::ToLocal | Way::ToWholeSeconds(_) => (0, 0),
         Way::ToInstants(_) => (
             question.zone.least_offset(),
             question.zone.greatest_offset(),

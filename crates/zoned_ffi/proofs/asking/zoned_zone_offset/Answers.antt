@@ -1,4 +1,3 @@
-use Rattle.zoned_ffi.proofs.Words.{zero}
 use Rattle.zoned_ffi.proofs.Words.{FitsSigned, IsLent, IsWrittenOffsetAt, of_z, rules, to_z, to_z-of_z, w32, w64}
 use Rattle.zoned_ffi.proofs.asking.zoned_zone_offset.Goals as goal
 

@@ -1,4 +1,3 @@
-use Rattle.zoned_ffi.proofs.Words.{zero}
 use Rattle.zoned_ffi.proofs.Words.{FitsSigned, rules, to_z-of_z, w64}
 use Rattle.zoned_ffi.proofs.asking.zoned_zone_type.Goals as goal
 

@@ -1,4 +1,3 @@
-use Rattle.zoned_ffi.proofs.Words.{zero}
 use Rattle.zoned_ffi.proofs.Words.{FitsSigned, IsLent, rules, to_z-of_z, w64}
 use Rattle.zoned_ffi.proofs.asking.locals.zoned_zone_first_at_or_after.Goals as goal
 

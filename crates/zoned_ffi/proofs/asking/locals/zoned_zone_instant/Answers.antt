@@ -1,4 +1,3 @@
-use Rattle.zoned_ffi.proofs.Words.{zero}
 use Rattle.zoned_ffi.proofs.Words.{FitsSigned, rules, to_z-of_z, w64}
 use Rattle.zoned_ffi.proofs.asking.locals.zoned_zone_instant.Goals as goal
 

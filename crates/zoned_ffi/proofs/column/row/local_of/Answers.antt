@@ -1,4 +1,3 @@
-use Rattle.zoned_ffi.proofs.Resolving.{in_force}
 use Rattle.zoned_ffi.proofs.Words.{FitsSigned, IsTypeRefused, TypeAt, ap, no_type, per_second, pos, rules, subst, to_z-of_z, w32, w64, ℤ, ◌*ℤ◌, ◌∙◌}
 use Rattle.zoned_ffi.proofs.Columns.{looked_up}
 use Rattle.zoned_ffi.proofs.column.row.local_of.Goals as goal

@@ -1,4 +1,4 @@
--- `into_slot` tests the pointer, and gives the slot back where there is one.
+-- `into_slot` tests the pointer, and gives the slot back if there is one.
 use Rattle.std.specs.{contracts.impls.GlobalAllocator.TheImpl.{ghosts}, declared.option.Option.TheVariants.{None, Some}}
 use Rattle.zoned_ffi.proofs.Words.{Goes-dropped, Good, List, Ptr, RattleType, SProp, Some-of, Stays, Val, WpFn, after, agg, alloc_all, and_then, and_tt, ap}
 use Rattle.zoned_ffi.proofs.Words.{at_ret, bin, block_ptr, branches, by, emp, ent, enter, env, exec, fact, fact_i, first, fjoin, fld, free_all, fsep, fsplit}
