@@ -10,7 +10,7 @@ use std::fmt::Write;
 use std::io::ErrorKind;
 use std::{fs, io};
 use tz_info::Difference;
-use zonedump_lib::{Years, differences_in, differences_to_json, lone_to_json, push_differences};
+use zonedump_lib::{Period, differences_in, differences_to_json, lone_to_json, push_differences};
 
 // The status of a run, as that of diff. Of several files it is the greatest.
 pub const EQUAL: u8 = 0;
@@ -33,7 +33,7 @@ pub enum Form<'a> {
 /// How zones are compared.
 #[derive(Clone, Copy)]
 pub struct Compared<'a> {
-    pub years: Years,
+    pub period: Period,
     pub form: Form<'a>,
     /// The folders of the tz database with the zones that are named.
     pub folders: &'a [String],
@@ -287,13 +287,13 @@ fn compare_files(
     let Some(new_zone) = new_zone else {
         return Ok(ERROR);
     };
-    let Ok(found) = differences_in(rt.alloc(), &old_zone, &new_zone, asked.years) else {
+    let Ok(found) = differences_in(rt.alloc(), &old_zone, &new_zone, asked.period) else {
         report(rt, new, "out of memory");
         return Ok(ERROR);
     };
     let status = if found.is_empty() { EQUAL } else { DIFFERENT };
     match asked.form {
-        Form::Json => print_difference_json(rt, name, old, new, asked.years, &found)?,
+        Form::Json => print_difference_json(rt, name, old, new, asked.period, &found)?,
         Form::Summary => summary.add(rt.alloc(), name.unwrap_or(new), found)?,
         Form::Lines | Form::Times(_) => print_difference_lines(rt, name, &found)?,
     }
@@ -306,13 +306,13 @@ fn print_difference_json(
     name: Option<&str>,
     old: &str,
     new: &str,
-    years: Years,
+    period: Period,
     found: &[Difference],
 ) -> io::Result<()> {
     if name.is_some() && found.is_empty() {
         return Ok(());
     }
-    let mut line = differences_to_json(rt.alloc(), old, new, years, found)?;
+    let mut line = differences_to_json(rt.alloc(), old, new, period, found)?;
     line.push(b'\n')?;
     print_part(rt, line.as_slice())
 }

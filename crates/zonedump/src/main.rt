@@ -4,21 +4,23 @@
 mod answers;
 mod arguments;
 mod compared;
+mod faults;
 mod files;
 mod folders;
 mod guesses;
 mod moments;
 mod output;
 mod record;
+mod requests;
 mod source;
 mod summary;
 mod times;
 mod words;
 
-use arguments::Fault;
 use clap::ArgMatches;
 use clap::error::ErrorKind as Rejection;
 use compared::{Compared, TWO};
+use faults::Fault;
 use output::{Asked, What, print, write_out};
 use source::Source;
 use std::fmt::Write;
@@ -76,7 +78,7 @@ fn explain(rt: &HostRuntime, error: &clap::Error) -> io::Result<u8> {
 // A line of the parser's words, or what a user of zonedump can type in its place.
 fn mended(line: &str, kind: Rejection) -> &str {
     if line.starts_with("  tip: to pass ") {
-        return "  tip: --zdump prints what zdump -v prints; --from and --to take the years";
+        return "  tip: --zdump prints what zdump -v prints; --from and --to take years or dates";
     }
     if !line.starts_with("For more information") {
         return line;
@@ -89,7 +91,7 @@ fn mended(line: &str, kind: Rejection) -> &str {
 
 fn answer(rt: &HostRuntime, matches: &ArgMatches<'_>) -> io::Result<u8> {
     let words = matches.get_strs("ZONE").unwrap_or(&[]);
-    match arguments::asked_of(matches, words.len()) {
+    match requests::asked_of(matches, words.len()) {
         Err(fault) => Ok(refuse(rt, fault)),
         Ok(asked) if matches.get_flag("diff") => compare_two(rt, matches, words, asked),
         Ok(asked) => write_zones(rt, matches, words, asked),
@@ -114,8 +116,8 @@ fn compare_two(
     };
     let folders = folders_of(rt, matches)?;
     let asked = Compared {
-        years: asked.years,
-        form: arguments::form_of(matches),
+        period: asked.period,
+        form: requests::form_of(matches),
         folders: folders.as_slice(),
     };
     Ok(compared::compare(rt, [old, new], asked))

@@ -1,6 +1,7 @@
-//! Times as they are typed: `2026-11-01`, `2026-11-01T09:00`, `2026-11-01T09:00:30Z`, `@1793523600`.
+//! Times as they are typed: `2026`, `2026-11-01`, `2026-11-01T09:00`, `2026-11-01T09:00:30Z`, `@1793523600`.
 
-use naive_base::{NaiveDate, NaiveDateTime, NaiveTime};
+use naive_base::{Datelike, NaiveDate, NaiveDateTime, NaiveTime};
+use zonedump_lib::Bound;
 
 /// A time as it is typed.
 #[derive(Clone, Copy)]
@@ -21,6 +22,25 @@ pub fn read_time(text: &str) -> Option<Typed> {
         return Some(Typed::Instant(date_time_of(utc)?.secs_since_epoch()));
     }
     Some(Typed::Plain(date_time_of(text)?))
+}
+
+/// Returns the year or the date that a text means. `None` if it is neither, or not in the years 1 to
+/// 9999.
+pub fn read_bound(text: &str) -> Option<Bound> {
+    let Some(date) = date_of(text) else {
+        return Some(Bound::Year(year_of(text)?));
+    };
+    if date.year() > 0 {
+        Some(Bound::Date(date))
+    } else {
+        None
+    }
+}
+
+// A year from 1 to 9999.
+fn year_of(text: &str) -> Option<u16> {
+    let year = text.parse::<u16>().ok()?;
+    (0 < year && year < 10_000).then_some(year)
 }
 
 fn date_time_of(text: &str) -> Option<NaiveDateTime> {

@@ -10,7 +10,7 @@ use std::io;
 use std::io::Write as _;
 use tz_info::TimeZone;
 use tz_write::ToTzData;
-use zonedump_lib::{Colors, Years, begin_table, to_json, zdump_lines};
+use zonedump_lib::{Bound, Colors, Period, begin_table, to_json, zdump_lines};
 
 /// What is done with a zone.
 #[derive(Clone, Copy)]
@@ -26,13 +26,20 @@ pub enum What<'a> {
     Draw(&'a str, Colors),
 }
 
-/// What is done, and in which years.
+/// What is done, and in which period.
 #[derive(Clone, Copy)]
 pub struct Asked<'a> {
-    pub years: Years,
-    /// Whether no year was given.
-    pub is_any_year: bool,
+    pub period: Period,
+    /// Whether the period was given.
+    pub has_period: bool,
     pub what: What<'a>,
+}
+
+// How a zone is drawn.
+#[derive(Clone, Copy)]
+struct Picture {
+    period: Period,
+    colors: Colors,
 }
 
 /// Prints or writes a zone, and returns whether that was done. Why not is reported.
@@ -46,26 +53,25 @@ pub fn write_out(rt: &HostRuntime, source: Source<'_>, asked: Asked<'_>) -> io::
     };
     let name = source.name();
     match asked.what {
-        What::Table => print_table(rt, name, &zone, asked.years),
-        What::Zdump => print_zdump(rt, name, &zone, asked.years),
-        What::Json => print_json(rt, name, &zone, asked.years),
+        What::Table => print_table(rt, name, &zone, asked.period),
+        What::Zdump => print_zdump(rt, name, &zone, asked.period),
+        What::Json => print_json(rt, name, &zone, asked.period),
         What::Answer(when) => print_answer(rt, name, &zone, when),
         What::Write(path) => write_zone(rt, name, &zone, path),
         What::Draw(path, colors) => {
-            let years = if asked.is_any_year {
-                years_to_draw(&zone).unwrap_or(asked.years)
-            } else {
-                asked.years
+            let picture = Picture {
+                period: period_to_draw(&zone, asked),
+                colors,
             };
-            draw(rt, name, &zone, years, colors, path)
+            draw(rt, name, &zone, picture, path)
         }
     }
 }
 
 // Prints the lines of the table as they are made.
-fn print_table(rt: &HostRuntime, name: &str, zone: &TimeZone, years: Years) -> io::Result<bool> {
+fn print_table(rt: &HostRuntime, name: &str, zone: &TimeZone, period: Period) -> io::Result<bool> {
     let mut text = format!(in rt.alloc(); "{}\n", shown(name))?;
-    let Ok((head, mut left)) = begin_table(rt.alloc(), zone, years) else {
+    let Ok((head, mut left)) = begin_table(rt.alloc(), zone, period) else {
         return Ok(skip(rt, name));
     };
     text.push_str(head.as_str())?;
@@ -83,17 +89,17 @@ fn print_table(rt: &HostRuntime, name: &str, zone: &TimeZone, years: Years) -> i
     Ok(true)
 }
 
-fn print_zdump(rt: &HostRuntime, name: &str, zone: &TimeZone, years: Years) -> io::Result<bool> {
+fn print_zdump(rt: &HostRuntime, name: &str, zone: &TimeZone, period: Period) -> io::Result<bool> {
     let shown = format!(in rt.alloc(); "{}", shown(name))?;
-    match zdump_lines(rt.alloc(), shown.as_str(), zone, years) {
+    match zdump_lines(rt.alloc(), shown.as_str(), zone, period) {
         Ok(lines) => print(rt, lines.as_bytes()),
         Err(_) => Ok(skip(rt, name)),
     }
 }
 
 // An object of JSON, on a line of its own.
-fn print_json(rt: &HostRuntime, name: &str, zone: &TimeZone, years: Years) -> io::Result<bool> {
-    let mut line = to_json(rt.alloc(), name, zone, years)?;
+fn print_json(rt: &HostRuntime, name: &str, zone: &TimeZone, period: Period) -> io::Result<bool> {
+    let mut line = to_json(rt.alloc(), name, zone, period)?;
     line.push(b'\n')?;
     print(rt, line.as_slice())
 }
@@ -123,33 +129,42 @@ fn draw(
     rt: &HostRuntime,
     name: &str,
     zone: &TimeZone,
-    years: Years,
-    colors: Colors,
+    picture: Picture,
     path: &str,
 ) -> io::Result<bool> {
-    match zonedump_lib::draw(rt.alloc(), title_of(name), zone, years, colors) {
+    let Picture { period, colors } = picture;
+    match zonedump_lib::draw(rt.alloc(), title_of(name), zone, period, colors) {
         Ok(picture) => write_file(rt, path, picture.as_bytes()),
         Err(_) => Ok(skip(rt, name)),
     }
 }
 
-// The years of a picture: 2020 to 2030, or if clocks don't change then, the year of the last change
-// before.
-fn years_to_draw(zone: &TimeZone) -> Option<Years> {
-    let years = Years::new(2020, 2030)?;
-    if zone
-        .next_change(years.from())
-        .is_some_and(|change| change.at < years.until())
-    {
-        return Some(years);
+// The period of a picture.
+fn period_to_draw(zone: &TimeZone, asked: Asked<'_>) -> Period {
+    if asked.has_period {
+        return asked.period;
     }
-    let Some(change) = zone.previous_change(years.from()) else {
-        return Some(years);
-    };
-    let year = NaiveDateTime::from_timestamp_opt(change.at, 0)?
-        .date()
-        .year();
-    Years::new(year, year)
+    recent_years(zone).unwrap_or(asked.period)
+}
+
+// The years 2020 to 2030, or if clocks don't change then, the year of the last change before.
+fn recent_years(zone: &TimeZone) -> Option<Period> {
+    let years = Period::new(Bound::Year(2020), Bound::Year(2030))?;
+    let until = years.until();
+    match zone.next_change(years.from()) {
+        Some(change) if change.at < until => Some(years),
+        _ => match zone.previous_change(years.from()) {
+            Some(change) => whole_year(change.at),
+            None => Some(years),
+        },
+    }
+}
+
+// The year of a second.
+fn whole_year(second: i64) -> Option<Period> {
+    let date = NaiveDateTime::from_timestamp_opt(second, 0)?.date();
+    let year = u16::try_from(date.year()).ok()?;
+    Period::new(Bound::Year(year), Bound::Year(year))
 }
 
 // The title of a picture: of a path into a tz database the zone's name.

@@ -6,7 +6,7 @@ use std::alloc::Global;
 use std::fmt::Write;
 use std::fs;
 use std::io::{self, ErrorKind};
-use tz_info::{Error, TimeZone, TransitionRule};
+use tz_info::{Error, ParseError, TimeZone};
 use zoned_files::ReadError;
 
 // Why a folder is no zone.
@@ -48,12 +48,12 @@ impl<'a> Source<'a> {
                 Ok(None)
             }
             Source::Text(text) => {
-                let zone = TimeZone::from_posix_tz(rt.alloc(), text);
-                zone_of_text(rt, text, false, zone)
+                let zone = TimeZone::parse_posix_tz(rt.alloc(), text);
+                zone_of_text(rt, text, zone)
             }
             Source::Extended(text) => {
-                let zone = TimeZone::from_extended_tz(rt.alloc(), text.as_bytes());
-                zone_of_text(rt, text, true, zone)
+                let zone = TimeZone::parse_extended_tz(rt.alloc(), text.as_bytes());
+                zone_of_text(rt, text, zone)
             }
         }
     }
@@ -62,28 +62,18 @@ impl<'a> Source<'a> {
 fn zone_of_text(
     rt: &HostRuntime,
     text: &str,
-    extended: bool,
-    read: Result<TimeZone, Error>,
+    read: Result<TimeZone, ParseError>,
 ) -> io::Result<Option<TimeZone>> {
     match read {
         Ok(zone) => Ok(Some(zone)),
         Err(fault) => {
-            reject(rt, text, "TZ string", &fault);
-            let tz_string = if extended { text } else { text.trim_ascii() };
-            if let Some(position) = fault_position(tz_string, extended) {
-                point_at_fault(rt, tz_string, position)?;
+            reject(rt, text, "TZ string", &fault.error);
+            if let Some(position) = fault.position {
+                point_at_fault(rt, text, position)?;
             }
-            guesses::hint_for(rt, text, &fault)?;
+            guesses::hint_for(rt, text, &fault.error)?;
             Ok(None)
         }
-    }
-}
-
-// Where a TZ string can't be read; `None` if it can.
-fn fault_position(tz_string: &str, extended: bool) -> Option<usize> {
-    match TransitionRule::parse_tz_string(tz_string.as_bytes(), extended) {
-        Ok(_) => None,
-        Err(error) => error.position,
     }
 }
 

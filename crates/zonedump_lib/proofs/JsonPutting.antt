@@ -1,7 +1,7 @@
 -- Tokens that are written one after the other, and read back as a value, and how deep values nest.
 use Rattle.json.proofs.Printed.Trees.{value-json_tokens}
-use Rattle.zonedump_lib.proofs.CitedWords.{Change, Difference, Json, LeapSecond, List, LocalType, Ok, Option, Puts, Result, Some, Token, TransitionRule, Writes}
-use Rattle.zonedump_lib.proofs.CitedWords.{Written, Zone, append-nil, append_assoc, arith, change_value, depth, difference_value, differences_value, document, []}
+use Rattle.zonedump_lib.proofs.CitedWords.{Bound, Change, Difference, Json, LeapSecond, List, LocalType, Ok, Option, Puts, Result, Some, Token, TransitionRule, Writes}
+use Rattle.zonedump_lib.proofs.CitedWords.{Written, Zone, append-nil, append_assoc, arith, bound_value, change_value, depth, difference_value, differences_value, document, []}
 use Rattle.zonedump_lib.proofs.CitedWords.{end_array, flat_map, flat_map_more, get_or, items_depth, items_of, items_tokens, json_tokens, leap_value, length, map}
 use Rattle.zonedump_lib.proofs.CitedWords.{max_depth, name_value, on_ok_weaker, print, refl, rule_value, take, take_more, tokens, type_value, zone_value, ℕ, ℤ, ◌++◌}
 use Rattle.zonedump_lib.proofs.CitedWords.{◌+◌, ◌<◌, ◌∷◌, ◌≡◌, ◌≤◌}
@@ -33,7 +33,10 @@ pub read_back : (text before : List ℕ) (j : Json) (ts : List Token) → ts ≡
     → depth j ≤ max_depth → (document text ≡ Some j) × (text ≡ print (json_tokens j))
 read_back text before j ts are none printed back shallow = grind (arith, append-nil (json_tokens j), value-json_tokens j max_depth [] shallow)
 
--- ---- how deep the values of a change, of a zone and of a difference nest
+-- ---- how deep the values of a year or day, of a change, of a zone and of a difference nest
+
+bound_shallow : (b : Bound) → depth (bound_value b) ≤ 0
+bound_shallow b = grind arith
 
 name_shallow : (n : Option (List ℕ)) → depth (name_value n) ≤ 0
 name_shallow n = grind arith
@@ -50,12 +53,12 @@ rule_shallow r = grind arith
 leap_shallow : (e : LeapSecond) → depth (leap_value e) ≤ 2
 leap_shallow e = omega arith
 
-pub zone_shallow : (name : List ℕ) (first last : ℤ) (zone : Zone) (changes : List Change) → depth (zone_value name first last zone changes) ≤ max_depth
+pub zone_shallow : (name : List ℕ) (first last : Bound) (zone : Zone) (changes : List Change) → depth (zone_value name first last zone changes) ≤ max_depth
 zone_shallow name first last zone changes =
-    omega (arith, rule_shallow zone.rule, items_shallow leap_value 2 leap_shallow zone.leaps, items_shallow change_value 2 change_shallow changes)
+    omega (arith, bound_shallow first, bound_shallow last, rule_shallow zone.rule, items_shallow leap_value 2 leap_shallow zone.leaps, items_shallow change_value 2 change_shallow changes)
 
 difference_shallow : (d : Difference) → depth (difference_value d) ≤ 2
 difference_shallow d = omega (arith, type_shallow d.old, type_shallow d.new)
 
-pub differences_shallow : (old_name new_name : List ℕ) (first last : ℤ) (ds : List Difference) → depth (differences_value old_name new_name first last ds) ≤ max_depth
-differences_shallow old_name new_name first last ds = omega (arith, items_shallow difference_value 2 difference_shallow ds)
+pub differences_shallow : (old_name new_name : List ℕ) (first last : Bound) (ds : List Difference) → depth (differences_value old_name new_name first last ds) ≤ max_depth
+differences_shallow old_name new_name first last ds = omega (arith, bound_shallow first, bound_shallow last, items_shallow difference_value 2 difference_shallow ds)

@@ -1,7 +1,6 @@
--- Lines one after the other, and the seconds of the changes in some years.
-use Rattle.zonedump_lib.proofs.CitedWords.{All, AreChanges, AreYears, Change, Contains-get_or, IsInYears, IsNearYears, List, LocalType, append_assoc, arith, []}
-use Rattle.zonedump_lib.proofs.CitedWords.{change_lines, change_text, get_or, ints, length, pos, year_second, year_until, ℕ, ℤ, ◌++◌, ◌+ℤ◌, ◌+◌, ◌-◌, ◌∷◌, ◌≡◌}
-use Rattle.zonedump_lib.proofs.LineLaws.{from_first, until_last}
+-- Lines one after the other, and the seconds of the changes in a period.
+use Rattle.zonedump_lib.proofs.CitedWords.{All, AreChanges, Bound, Change, Contains-get_or, IsInYears, IsNearYears, IsPeriod, List, LocalType, append_assoc, arith, []}
+use Rattle.zonedump_lib.proofs.CitedWords.{change_lines, change_text, first_second, get_or, ints, length, pos, second_after, ℕ, ℤ, ◌++◌, ◌+ℤ◌, ◌+◌, ◌-◌, ◌∷◌, ◌≡◌}
 use Rattle.std.proofs.lemmas.List.Elements.{All-head, All-tail}
 
 -- four pieces are appended, one by one
@@ -9,19 +8,19 @@ pub four_pieces : (start one two three four a b d e : List ℕ) → one ≡ star
     → four ≡ start ++ (a ++ b ++ d ++ e)
 four_pieces start one two three four a b d e first second third last = grind (arith, append_assoc)
 
--- the changes after the first second of years, and up to the first second after them, come in them
-pub in_years : (in_force : ℤ → LocalType → Type 0) (first last : ℤ) (changes : List Change) → AreYears first last
-    → AreChanges in_force (year_second first +ℤ pos 1) (year_until last +ℤ pos 1) changes → All (λ c. IsInYears c.at) changes
-in_years in_force first last changes years are k d within =
+-- the changes after the first second of a period, and up to the first second after it, come in the years
+pub in_years : (in_force : ℤ → LocalType → Type 0) (first last : Bound) (changes : List Change) → IsPeriod first last
+    → AreChanges in_force (first_second first +ℤ pos 1) (second_after last +ℤ pos 1) changes → All (λ c. IsInYears c.at) changes
+in_years in_force first last changes period are k d within =
     let here = ((are.each (get_or changes k d)).0 (Contains-get_or changes k d within)).1 in
-    grind (arith, ints, from_first first years.after_zero, until_last last years.four_digits)
+    grind (arith, ints, period.begins, period.ends)
 
--- the changes in years come at seconds near them
-pub near_years : (in_force : ℤ → LocalType → Type 0) (first last : ℤ) (changes : List Change) → AreYears first last
-    → AreChanges in_force (year_second first) (year_until last) changes → All (λ c. IsNearYears c.at) changes
-near_years in_force first last changes years are k d within =
+-- the changes in a period come at seconds near the years
+pub near_years : (in_force : ℤ → LocalType → Type 0) (first last : Bound) (changes : List Change) → IsPeriod first last
+    → AreChanges in_force (first_second first) (second_after last) changes → All (λ c. IsNearYears c.at) changes
+near_years in_force first last changes period are k d within =
     let here = ((are.each (get_or changes k d)).0 (Contains-get_or changes k d within)).1 in
-    grind (arith, ints, from_first first years.after_zero, until_last last years.four_digits)
+    grind (arith, ints, period.begins, period.ends)
 
 -- ---- a line is written of the first of the changes that are left
 

@@ -1,4 +1,4 @@
--- The differences of two zones in some years, as lines and as a JSON value.
+-- The differences of two zones in a period, as lines and as a JSON value.
 use Rattle.std.specs.Prelude.{◌≡◌, ℕ, ℤ, ◌-ℤ◌, List, [], ◌∷◌, ◌++◌, Some, codes}
 use Rattle.std.specs.Fmt.{signed_decimal}
 use Rattle.std.specs.List.{flat_map}
@@ -7,16 +7,17 @@ use Rattle.json.specs.Print.{print}
 use Rattle.json.specs.Tree.{json_tokens}
 use Rattle.tz_info.specs.Differences.{AreDifferences}
 use Rattle.tz_info.specs.Zones.{Zone, TypeAt}
-use Rattle.tz_info.specs.declared.zone.differences.Difference.{Difference}
+use Rattle.tz_info.specs.declared.zone.ask.differences.Difference.{Difference}
 use Rattle.zonedump_lib.specs.ChangeLines.{ended_line}
 use Rattle.zonedump_lib.specs.ChangeValues.{fields, list_value, type_value}
 use Rattle.zonedump_lib.specs.Clocks.{clock_words}
-use Rattle.zonedump_lib.specs.Spans.{year_second, year_until}
+use Rattle.zonedump_lib.specs.Periods.{bound_value, first_second, second_after}
 use Rattle.zonedump_lib.specs.Words.{type_words}
+use Rattle.zonedump_lib.specs.declared.period.Bound.{Bound}
 
--- the differences of two zones from the first second of the first year to the last second of the last year in UTC
-abbrev pub AreDifferencesInYears : Zone → Zone → ℤ → ℤ → List Difference → Type 0
-AreDifferencesInYears old_zone new_zone first last ds = AreDifferences (TypeAt old_zone) (TypeAt new_zone) (year_second first) (year_until last) ds
+-- the differences of two zones from the first second of a period to its last one in UTC
+abbrev pub AreDifferencesIn : Zone → Zone → Bound → Bound → List Difference → Type 0
+AreDifferencesIn old_zone new_zone first last ds = AreDifferences (TypeAt old_zone) (TypeAt new_zone) (first_second first) (second_after last) ds
 
 -- by how many seconds clocks of the new zone are ahead of those of the old one
 abbrev pub moved_by : Difference → ℤ
@@ -47,18 +48,18 @@ difference_value d =
     ∷ [])
 
 -- the two zones under their names, with those differences
-abbrev pub differences_value : List ℕ → List ℕ → ℤ → ℤ → List Difference → Json
+abbrev pub differences_value : List ℕ → List ℕ → Bound → Bound → List Difference → Json
 differences_value old_name new_name first last ds =
     fields
     ((codes "old", string old_name)
     ∷ (codes "new", string new_name)
-    ∷ (codes "from", number (signed_decimal first))
-    ∷ (codes "to", number (signed_decimal last))
+    ∷ (codes "from", bound_value first)
+    ∷ (codes "to", bound_value last)
     ∷ (codes "differences", list_value difference_value ds)
     ∷ [])
 
 -- the JSON text of that value: its printed tokens
-pub record IsDifferencesJson (old_name new_name : List ℕ) (first last : ℤ) (ds : List Difference) (text : List ℕ) : Type 0 where
+pub record IsDifferencesJson (old_name new_name : List ℕ) (first last : Bound) (ds : List Difference) (text : List ℕ) : Type 0 where
   pub value_is : document text ≡ Some (differences_value old_name new_name first last ds)
   pub printed : text ≡ print (json_tokens (differences_value old_name new_name first last ds))
 

@@ -1,5 +1,5 @@
--- What the clocks of a zone do in some years, as a JSON value.
-use Rattle.std.specs.Prelude.{◌≡◌, ℕ, ℤ, List, [], ◌∷◌, length, Option, Some, None, codes, decimal}
+-- What the clocks of a zone do in a period, as a JSON value.
+use Rattle.std.specs.Prelude.{◌≡◌, ℕ, List, [], ◌∷◌, length, Option, Some, None, codes, decimal}
 use Rattle.std.specs.Fmt.{signed_decimal}
 use Rattle.json.specs.Json.{Json, null, number, string, document}
 use Rattle.json.specs.Print.{print}
@@ -12,9 +12,10 @@ use Rattle.tz_info.specs.declared.rule.day.DayForm.TheVariants as days
 use Rattle.tz_info.specs.declared.rule.day.DayTime.{DayTime}
 use Rattle.tz_info.specs.declared.rule.transition_rule.TransitionRule.{TransitionRule}
 use Rattle.tz_info.specs.declared.rule.transition_rule.TransitionRule.TheVariants as rules
-use Rattle.tz_info.specs.declared.zone.leap_second.LeapSecond.{LeapSecond}
+use Rattle.tz_info.specs.declared.zone.lists.leap_second.LeapSecond.{LeapSecond}
 use Rattle.zonedump_lib.specs.ChangeValues.{change_value, fields, list_value, type_value}
-use Rattle.zonedump_lib.specs.Spans.{year_second, year_until}
+use Rattle.zonedump_lib.specs.Periods.{bound_value, first_second, second_after}
+use Rattle.zonedump_lib.specs.declared.period.Bound.{Bound}
 
 -- a day of each year in its form: `J` with n, `n` with n, or `M` with month, week and weekday
 abbrev pub day_value : DayForm → Json
@@ -43,12 +44,12 @@ abbrev pub leap_value : LeapSecond → Json
 leap_value e = fields ((codes "leap_time", number (signed_decimal e.unix_leap_time)) ∷ (codes "correction", number (signed_decimal e.correction)) ∷ [])
 
 -- the zone under that name, with those changes
-abbrev pub zone_value : List ℕ → ℤ → ℤ → Zone → List Change → Json
+abbrev pub zone_value : List ℕ → Bound → Bound → Zone → List Change → Json
 zone_value name first last zone changes =
     fields
     ((codes "zone", string name)
-    ∷ (codes "from", number (signed_decimal first))
-    ∷ (codes "to", number (signed_decimal last))
+    ∷ (codes "from", bound_value first)
+    ∷ (codes "to", bound_value last)
     ∷ (codes "transitions", number (decimal (length zone.transitions)))
     ∷ (codes "types", number (decimal (length zone.types)))
     ∷ (codes "rule", rule_value zone.rule)
@@ -56,11 +57,11 @@ zone_value name first last zone changes =
     ∷ (codes "changes", list_value change_value changes)
     ∷ [])
 
--- the JSON text of the zone, whose changes are exactly those from the first second of the first year to the last second of the last
--- year in UTC, in order: the printed tokens of its value, and so without white space outside its strings, in which a line feed is
+-- the JSON text of the zone, whose changes are exactly those from the first second of the period to its last one in UTC, in
+-- order: the printed tokens of its value, and so without white space outside its strings, in which a line feed is
 -- escaped
-pub record IsJson (zone : Zone) (name : List ℕ) (first last : ℤ) (text : List ℕ) : Type 0 where
+pub record IsJson (zone : Zone) (name : List ℕ) (first last : Bound) (text : List ℕ) : Type 0 where
   pub changes : List Change
-  pub all : AreChanges (TypeAt zone) (year_second first) (year_until last) changes
+  pub all : AreChanges (TypeAt zone) (first_second first) (second_after last) changes
   pub value_is : document text ≡ Some (zone_value name first last zone changes)
   pub printed : text ≡ print (json_tokens (zone_value name first last zone changes))

@@ -2,6 +2,7 @@ pub mod Clocks
 pub mod JsonSteps
 pub mod ChangeValues
 pub mod Spans
+pub mod Periods
 pub mod Words
 pub mod ChangeLines
 pub mod ZdumpLines

@@ -2,12 +2,6 @@
 use Rattle.std.specs.Prelude.{ℤ, pos, neg_ℤ, ◌≤ℤ◌, ◌+ℤ◌, ◌*ℤ◌}
 use Rattle.naive_base.specs.Year.{year_start}
 
--- years that a table may be asked for: from one year to the same one or a later one, each of them from 1 to 9999
-pub record AreYears (first last : ℤ) : Type 0 where
-  pub after_zero : pos 1 ≤ℤ first
-  pub ordered : first ≤ℤ last
-  pub four_digits : last ≤ℤ pos 9999
-
 -- the second of Unix time at which the year begins in UTC
 abbrev pub year_second : ℤ → ℤ
 year_second year = year_start year *ℤ pos 86_400

@@ -1,38 +1,38 @@
-//! The changes of a zone's clocks in some years.
+//! The changes of a zone's clocks in a period.
 
 ghost use Rattle.std.specs.Prelude.{◌≡◌, ◌+ℤ◌, pos, IfOk};
 ghost use Rattle.tz_info.specs.Changes.{AreChanges};
 ghost use Rattle.tz_info.specs.Zones.{TypeAt};
-ghost use Rattle.zonedump_lib.specs.Spans.{IsInYears, year_second, year_until};
+ghost use Rattle.zonedump_lib.specs.Periods.{first_second, second_after};
+ghost use Rattle.zonedump_lib.specs.Spans.{IsInYears};
 
-use crate::years::Years;
+use crate::period::Period;
 use std::alloc::{AllocError, Global};
 use tz_info::{Change, TimeZone};
 
-/// Returns the clock changes from the first second of the first year to the last second of the last
-/// year, in UTC, in order.
+/// Returns the clock changes from the first second of the period to its last one, in order.
 ///
 /// # Errors
 ///
 /// There is no memory for them.
-pub fn changes_in(alloc: Global, zone: &TimeZone, years: Years) -> Result<Vec<Change>, AllocError>
+pub fn changes_in(alloc: Global, zone: &TimeZone, period: Period) -> Result<Vec<Change>, AllocError>
     ensures { IfOk result (λ v.
-        AreChanges (TypeAt zone.now) (year_second years.first) (year_until years.last) v.items) }
+        AreChanges (TypeAt zone.now) (first_second period.first) (second_after period.last) v.items) }
 {
-    zone.changes(years.from(), years.until()).collect(alloc)
+    zone.changes(period.from(), period.until()).collect(alloc)
 }
 
-// The changes after the first second of the first year, up to the first second after the last year.
+// The changes after the first second of the period, up to the first second after it.
 pub(crate) fn changes_after(
     alloc: Global,
     zone: &TimeZone,
-    years: Years,
+    period: Period,
 ) -> Result<Vec<Change>, AllocError>
     ensures { IfOk result (λ v. AreChanges (TypeAt zone.now)
-        (year_second years.first +ℤ pos 1) (year_until years.last +ℤ pos 1) v.items) }
+        (first_second period.first +ℤ pos 1) (second_after period.last +ℤ pos 1) v.items) }
 {
-    let from = second_after(years.from());
-    let until = second_after(years.until());
+    let from = second_after(period.from());
+    let until = second_after(period.until());
     zone.changes(from, until).collect(alloc)
 }
 

@@ -15,13 +15,13 @@ ghost use Rattle.zonedump_lib.specs.DifferenceForms.{lone_value, moved_by};
 use crate::change_json::{put_number, put_string, put_type};
 use crate::clocks::Clock;
 use crate::differences::seconds_ahead;
-use crate::json_text::put_years;
-use crate::years::Years;
+use crate::json_text::put_bound;
+use crate::period::Period;
 use json::Writer;
 use std::alloc::{AllocError, Global};
 use tz_info::Difference;
 
-/// Returns the differences of two zones in those years, under the zones' names, as a JSON object on
+/// Returns the differences of two zones in the period, under the zones' names, as a JSON object on
 /// one line: `old`, `new`, `from`, `to` and `differences`.
 ///
 /// # Errors
@@ -31,14 +31,14 @@ pub fn differences_to_json(
     alloc: Global,
     old_name: &str,
     new_name: &str,
-    years: Years,
+    period: Period,
     found: &[Difference],
 ) -> Result<Vec<u8>, AllocError>
     ensures { IfOk result (λ text. IsDifferencesJson old_name.now new_name.now
-        years.first years.last found.now text.items) }
+        period.first period.last found.now text.items) }
 {
     let mut writer = Writer::new(Vec::new(alloc));
-    put_zones(&mut writer, alloc, old_name, new_name, years, found)?;
+    put_zones(&mut writer, alloc, old_name, new_name, period, found)?;
     Ok(writer.into_inner())
 }
 
@@ -68,16 +68,17 @@ fn put_zones(
     alloc: Global,
     old_name: &str,
     new_name: &str,
-    years: Years,
+    period: Period,
     found: &[Difference],
 ) -> Result<(), AllocError>
     ensures { Puts result writer.old writer.new (json_tokens (differences_value
-        old_name.now new_name.now years.first years.last found.now)) }
+        old_name.now new_name.now period.first period.last found.now)) }
 {
     writer.begin_object()?;
     put_string(writer, "old", old_name)?;
     put_string(writer, "new", new_name)?;
-    put_years(writer, years)?;
+    put_bound(writer, alloc, "from", period.first)?;
+    put_bound(writer, alloc, "to", period.last)?;
     put_differences(writer, alloc, found)?;
     writer.end_object()
 }

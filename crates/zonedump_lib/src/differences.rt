@@ -1,18 +1,18 @@
-//! The differences of two zones in some years.
+//! The differences of two zones in a period.
 
 ghost use Rattle.std.specs.Prelude.{◌≡◌, ◌++◌, ◌∷◌, [], ◌-ℤ◌, MatchResult, OnOk, string_bytes};
 ghost use Rattle.tz_base.specs.declared.error.Error.TheVariants.{OutOfMemory};
-ghost use Rattle.zonedump_lib.specs.DifferenceForms.{AreDifferencesInYears, difference_text};
+ghost use Rattle.zonedump_lib.specs.DifferenceForms.{AreDifferencesIn, difference_text};
 ghost use Rattle.zonedump_lib.specs.DifferenceForms.{difference_lines, moved_by};
 
 use crate::clocks::Clock;
+use crate::period::Period;
 use crate::words::TypeWords;
-use crate::years::Years;
 use std::alloc::{AllocError, Global};
 use std::fmt::Write;
 use tz_info::{Difference, Error, LocalTimeType, TimeZone};
 
-/// Returns the stretches of time in those years in which two zones have different types, in order.
+/// Returns the stretches of time in the period in which two zones have different types, in order.
 ///
 /// # Errors
 ///
@@ -21,13 +21,13 @@ pub fn differences_in(
     alloc: Global,
     old_zone: &TimeZone,
     new_zone: &TimeZone,
-    years: Years,
+    period: Period,
 ) -> Result<Vec<Difference>, Error>
     ensures { MatchResult result
-        (λ ds. AreDifferencesInYears old_zone.now new_zone.now years.first years.last ds.items)
+        (λ ds. AreDifferencesIn old_zone.now new_zone.now period.first period.last ds.items)
         (λ e. e ≡ OutOfMemory) }
 {
-    old_zone.differences(alloc, new_zone, years.from(), years.until())
+    old_zone.differences(alloc, new_zone, period.from(), period.until())
 }
 
 /// Writes a line for each difference.

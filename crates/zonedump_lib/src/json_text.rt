@@ -11,21 +11,24 @@ ghost use Rattle.json.specs.Tree.{json_tokens};
 ghost use Rattle.tz_info.specs.declared.rule.day.DayForm.TheVariants.{MonthWeekday};
 ghost use Rattle.tz_info.specs.declared.rule.transition_rule.TransitionRule.TheVariants.{Fixed};
 ghost use Rattle.tz_info.specs.declared.rule.transition_rule.TransitionRule.TheVariants.{Alternate};
+ghost use Rattle.naive_base.specs.NaiveDate.{printed_date};
 ghost use Rattle.zonedump_lib.specs.JsonSteps.{Puts};
 ghost use Rattle.zonedump_lib.specs.ChangeValues.{list_value};
 ghost use Rattle.zonedump_lib.specs.JsonValues.{IsJson, day_value, leap_value, moment_value};
 ghost use Rattle.zonedump_lib.specs.JsonValues.{rule_value, zone_value};
+ghost use Rattle.zonedump_lib.specs.Periods.{bound_value};
 
 use crate::change_json::{put_changes, put_count, put_number, put_string, put_type};
 use crate::changes::changes_in;
-use crate::years::Years;
+use crate::period::{Bound, Period};
 use json::Writer;
+use naive_base::NaiveDate;
 use std::alloc::{AllocError, Global};
 use tz_info::{
     AlternateTime, Change, DayForm, LeapSecond, LocalTimeType, RuleDay, TimeZone, TransitionRule,
 };
 
-/// The zone under that name, and the changes of its clocks in those years, as a JSON object on one
+/// The zone under that name, and the changes of its clocks in the period, as a JSON object on one
 /// line: `zone`, `from`, `to`, how many `transitions` and `types` there are, `rule`,
 /// `leap_seconds` and `changes`.
 ///
@@ -36,12 +39,12 @@ pub fn to_json(
     alloc: Global,
     name: &str,
     zone: &TimeZone,
-    years: Years,
+    period: Period,
 ) -> Result<Vec<u8>, AllocError>
-    ensures { IfOk result (λ text. IsJson zone.now name.now years.first years.last text.items) }
+    ensures { IfOk result (λ text. IsJson zone.now name.now period.first period.last text.items) }
 {
-    let changes = changes_in(alloc, zone, years)?;
-    write_text(alloc, name, zone, years, &changes)
+    let changes = changes_in(alloc, zone, period)?;
+    write_text(alloc, name, zone, period, &changes)
 }
 
 // The text of the zone's value.
@@ -49,16 +52,16 @@ fn write_text(
     alloc: Global,
     name: &str,
     zone: &TimeZone,
-    years: Years,
+    period: Period,
     changes: &[Change],
 ) -> Result<Vec<u8>, AllocError>
     ensures value { IfOk result (λ text. document text.items
-        ≡ Some (zone_value name.now years.first years.last zone.now changes.now)) }
+        ≡ Some (zone_value name.now period.first period.last zone.now changes.now)) }
     ensures printed { IfOk result (λ text. text.items ≡ print (json_tokens
-        (zone_value name.now years.first years.last zone.now changes.now))) }
+        (zone_value name.now period.first period.last zone.now changes.now))) }
 {
     let mut writer = Writer::new(Vec::new(alloc));
-    put_zone(&mut writer, alloc, name, zone, years, changes)?;
+    put_zone(&mut writer, alloc, name, zone, period, changes)?;
     Ok(writer.into_inner())
 }
 
@@ -67,48 +70,59 @@ fn put_zone(
     alloc: Global,
     name: &str,
     zone: &TimeZone,
-    years: Years,
+    period: Period,
     changes: &[Change],
 ) -> Result<(), AllocError>
     ensures { Puts result writer.old writer.new (json_tokens
-        (zone_value name.now years.first years.last zone.now changes.now)) }
+        (zone_value name.now period.first period.last zone.now changes.now)) }
 {
     writer.begin_object()?;
-    put_head(writer, name, zone, years)?;
+    put_string(writer, "zone", name)?;
+    put_bound(writer, alloc, "from", period.first)?;
+    put_bound(writer, alloc, "to", period.last)?;
+    put_counts(writer, zone)?;
     put_rule(writer, zone)?;
     put_leaps(writer, zone)?;
     put_changes(writer, alloc, changes)?;
     writer.end_object()
 }
 
-// The name, the years and the counts.
-fn put_head(
-    writer: &mut Writer,
-    name: &str,
-    zone: &TimeZone,
-    years: Years,
-) -> Result<(), AllocError>
-    ensures { Puts result writer.old writer.new (key (codes "zone") ∷ string name.now
-        ∷ key (codes "from") ∷ number (signed_decimal years.first)
-        ∷ key (codes "to") ∷ number (signed_decimal years.last)
-        ∷ key (codes "transitions") ∷ number (decimal (length zone.now.transitions))
+// The counts of the zone's lists.
+fn put_counts(writer: &mut Writer, zone: &TimeZone) -> Result<(), AllocError>
+    ensures { Puts result writer.old writer.new
+        (key (codes "transitions") ∷ number (decimal (length zone.now.transitions))
         ∷ key (codes "types") ∷ number (decimal (length zone.now.types)) ∷ []) }
 {
-    put_string(writer, "zone", name)?;
-    put_years(writer, years)?;
     put_count(writer, "transitions", zone.transition_count() as u64)?;
     put_count(writer, "types", zone.type_count() as u64)
 }
 
-pub(crate) fn put_years(writer: &mut Writer, years: Years) -> Result<(), AllocError>
+// Writes a member whose value is a year or a date.
+pub(crate) fn put_bound(
+    writer: &mut Writer,
+    alloc: Global,
+    name: &str,
+    bound: Bound,
+) -> Result<(), AllocError>
     ensures { Puts result writer.old writer.new
-        (key (codes "from") ∷ number (signed_decimal years.first)
-        ∷ key (codes "to") ∷ number (signed_decimal years.last) ∷ []) }
+        (key name.now ∷ json_tokens (bound_value bound)) }
 {
-    let first = years.first;
-    let last = years.last;
-    put_number(writer, "from", first as i64)?;
-    put_number(writer, "to", last as i64)
+    match bound {
+        Bound::Year(year) => put_count(writer, name, year as u64),
+        Bound::Date(date) => put_date(writer, alloc, name, date),
+    }
+}
+
+fn put_date(
+    writer: &mut Writer,
+    alloc: Global,
+    name: &str,
+    date: NaiveDate,
+) -> Result<(), AllocError>
+    ensures { Puts result writer.old writer.new (key name.now ∷ string (printed_date date) ∷ []) }
+{
+    let text = format!(in alloc; "{date}")?;
+    put_string(writer, name, text.as_str())
 }
 
 fn put_rule(writer: &mut Writer, zone: &TimeZone) -> Result<(), AllocError>

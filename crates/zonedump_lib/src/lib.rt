@@ -1,6 +1,6 @@
-//! The clock changes of a zone in some years, as a table, as `zdump` prints them, as JSON, and drawn.
+//! The clock changes of a zone in a period, as a table, as `zdump` prints them, as JSON, and drawn.
 //!
-//! [`begin_table`], [`zdump_lines`] and [`to_json`] write a zone's clock changes in those years, in order.
+//! [`begin_table`], [`zdump_lines`] and [`to_json`] write a zone's clock changes in a period, in order.
 #![tactic(auto)]
 
 mod change_json;
@@ -10,11 +10,11 @@ mod clocks;
 mod difference_json;
 mod differences;
 mod json_text;
+mod period;
 mod picture;
 mod rule_words;
 mod tables;
 mod words;
-mod years;
 mod zdump;
 
 pub use changes::changes_in;
@@ -22,8 +22,8 @@ pub use clocks::Clock;
 pub use difference_json::{differences_to_json, lone_to_json};
 pub use differences::{differences_in, push_differences};
 pub use json_text::to_json;
+pub use period::{Bound, Period};
 pub use picture::{Colors, draw, put_picture};
 pub use tables::{LinesLeft, begin_table};
 pub use words::TypeWords;
-pub use years::Years;
 pub use zdump::zdump_lines;

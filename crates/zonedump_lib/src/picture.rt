@@ -8,7 +8,7 @@ mod scale;
 mod words;
 
 use crate::changes::changes_in;
-use crate::years::{SECONDS_PER_DAY, Years};
+use crate::period::{Bound, Period, SECONDS_PER_DAY};
 use chart::put_chart;
 pub use frame::Colors;
 use frame::{put_heading, put_opening, put_title};
@@ -20,7 +20,7 @@ use tz_info::{Change, LocalTimeType, TimeZone};
 // The most changes that each have a panel.
 const FEW: usize = 8;
 
-/// Returns a picture of the zone's clocks in those years, as SVG: a chart of the offset from UTC, with
+/// Returns a picture of the zone's clocks in the period, as SVG: a chart of the offset from UTC, with
 /// a step at each change, and a panel for each change, or if there are more than eight, for each of
 /// the last year that has one, with what wall clocks skip or repeat.
 ///
@@ -33,17 +33,17 @@ pub fn draw(
     alloc: Global,
     title: &str,
     zone: &TimeZone,
-    years: Years,
+    period: Period,
     colors: Colors,
 ) -> Result<String, AllocError> {
-    let changes = changes_in(alloc, zone, years)?;
-    let start = type_at(zone, years.from());
+    let changes = changes_in(alloc, zone, period)?;
+    let start = type_at(zone, period.from());
     let mut out = String::new(alloc);
-    put_picture(&mut out, title, years, start, &changes, colors)?;
+    put_picture(&mut out, title, period, start, &changes, colors)?;
     Ok(out)
 }
 
-/// Appends a picture of those changes in the years, under that title: a chart, whose line begins at
+/// Appends a picture of those changes in the period, under that title: a chart, whose line begins at
 /// the offset of `start`, and a panel for each change, or if there are more than eight, for each of
 /// the last year that has one. Changes are in order of time.
 ///
@@ -53,16 +53,16 @@ pub fn draw(
 pub fn put_picture(
     out: &mut String,
     title: &str,
-    years: Years,
+    period: Period,
     start: LocalTimeType,
     changes: &[Change],
     colors: Colors,
 ) -> Result<(), AllocError> {
     let panels = with_panels(changes);
-    put_opening(out, title, years, panels, colors)?;
-    put_title(out, title, years)?;
-    put_chart(out, years, &start, changes)?;
-    put_heading(out, years_of(panels).unwrap_or(years), panels.len())?;
+    put_opening(out, title, period, panels, colors)?;
+    put_title(out, title, period)?;
+    put_chart(out, period, &start, changes)?;
+    put_heading(out, years_of(panels).unwrap_or(period), panels.len())?;
     put_panels(out, panels)?;
     write!(out, "</svg>\n")
 }
@@ -78,19 +78,21 @@ fn type_at(zone: &TimeZone, second: i64) -> LocalTimeType {
 // The changes that have a panel.
 fn with_panels(changes: &[Change]) -> &[Change] {
     match changes.last() {
-        Some(last) if changes.len() > FEW => since(changes, year_at(last)),
+        Some(last) if changes.len() > FEW => since(changes, year_at(last.at)),
         _ => changes,
     }
 }
 
 // The years that changes come in.
-fn years_of(changes: &[Change]) -> Option<Years> {
-    Years::new(year_at(changes.first()?), year_at(changes.last()?))
+fn years_of(changes: &[Change]) -> Option<Period> {
+    let first = u16::try_from(year_at(changes.first()?.at)).ok()?;
+    let last = u16::try_from(year_at(changes.last()?.at)).ok()?;
+    Period::new(Bound::Year(first), Bound::Year(last))
 }
 
-// The year of a change, by UTC.
-fn year_at(change: &Change) -> i32 {
-    let day = change.at.div_euclid(SECONDS_PER_DAY);
+// The year of a second, by UTC.
+fn year_at(at: i64) -> i32 {
+    let day = at.div_euclid(SECONDS_PER_DAY);
     if is_day(day) { year_of(day) } else { 0 }
 }
 

@@ -4,16 +4,17 @@ ghost use Rattle.std.specs.Prelude.{◌≡◌, ◌++◌, ◌∷◌, ◌-◌, [],
 ghost use Rattle.std.specs.Prelude.{string_bytes};
 ghost use Rattle.std.specs.Fmt.{signed_decimal};
 ghost use Rattle.zonedump_lib.specs.ChangeLines.{change_lines};
-ghost use Rattle.zonedump_lib.specs.Spans.{IsNearYears, year_second, year_until};
+ghost use Rattle.zonedump_lib.specs.Periods.{first_second, second_after};
+ghost use Rattle.zonedump_lib.specs.Spans.{IsNearYears};
 ghost use Rattle.tz_info.specs.Changes.{AreChanges};
 ghost use Rattle.tz_info.specs.ChangesLeft.{changes_left};
 ghost use Rattle.tz_info.specs.Zones.{TypeAt};
-ghost use Rattle.zonedump_lib.specs.Tables.{BeginsTable, leap_text, leap_lines, counts_text, years_text};
+ghost use Rattle.zonedump_lib.specs.Tables.{BeginsTable, leap_text, leap_lines, counts_text, period_text};
 ghost use Rattle.zonedump_lib.specs.Tables.{head_text};
 
 use crate::change_lines::push_change;
+use crate::period::Period;
 use crate::rule_words::RuleWords;
-use crate::years::Years;
 use std::alloc::{AllocError, Global};
 use std::fmt;
 use std::fmt::Write;
@@ -28,7 +29,7 @@ pub struct LinesLeft<'a> {
 }
 
 /// Returns the head of a zone's table: the counts of its lists, its rule, its leap seconds, and how
-/// many changes its clocks have in those years. [`LinesLeft::push_lines`] writes the lines that follow.
+/// many changes its clocks have in the period. [`LinesLeft::push_lines`] writes the lines that follow.
 ///
 /// # Errors
 ///
@@ -36,26 +37,26 @@ pub struct LinesLeft<'a> {
 pub fn begin_table<'a>(
     alloc: Global,
     zone: &'a TimeZone,
-    years: Years,
+    period: Period,
 ) -> Result<(String, LinesLeft<'a>), AllocError>
-    ensures { IfOk result (λ r. BeginsTable zone.now years.first years.last
+    ensures { IfOk result (λ r. BeginsTable zone.now period.first period.last
         (string_bytes r.0) (changes_left r.1.left)) }
 {
     one_change_law();
-    let counted = changes_of(zone, years);
+    let counted = changes_of(zone, period);
     let count = count_of(counted)?;
-    let left = changes_of(zone, years);
+    let left = changes_of(zone, period);
     let mut text = String::new(alloc);
-    push_head(&mut text, zone, years, count)?;
+    push_head(&mut text, zone, period, count)?;
     Ok((text, LinesLeft { left }))
 }
 
-// The changes of the years.
-fn changes_of(zone: &TimeZone, years: Years) -> Changes<'_>
-    ensures { AreChanges (TypeAt zone.now) (year_second years.first) (year_until years.last)
+// The changes of the period.
+fn changes_of(zone: &TimeZone, period: Period) -> Changes<'_>
+    ensures { AreChanges (TypeAt zone.now) (first_second period.first) (second_after period.last)
         (changes_left result) }
 {
-    zone.changes(years.from(), years.until())
+    zone.changes(period.from(), period.until())
 }
 
 // How many changes are left.
@@ -110,16 +111,16 @@ fn push_some(left: &mut Changes<'_>, out: &mut String) -> Result<(), AllocError>
 fn push_head(
     out: &mut String,
     zone: &TimeZone,
-    years: Years,
+    period: Period,
     count: usize,
 ) -> Result<(), AllocError>
     ensures { OnOk result (string_bytes out.new ≡ string_bytes out.old
-        ++ head_text zone.now years.first years.last count) }
+        ++ head_text zone.now period.first period.last count) }
 {
     writeln!(out, "{}", CountsText(zone))?;
     writeln!(out, "rule: {}", RuleWords(zone.rule()))?;
     push_leap_seconds(out, zone.leap_seconds())?;
-    writeln!(out, "{}", YearsText(years, count))
+    writeln!(out, "{}", PeriodText(period, count))
 }
 
 fn push_leap_seconds(out: &mut String, leaps: &[LeapSecond]) -> Result<(), AllocError>
@@ -173,12 +174,12 @@ impl fmt::Display for LeapText {
     }
 }
 
-// The years, and how many changes come in them.
+// The period, and how many changes come in it.
 #[derive(Clone, Copy)]
-struct YearsText(Years, usize);
+struct PeriodText(Period, usize);
 
-impl fmt::Display for YearsText {
-    ghost output = { λ text. Some (years_text text.0.first text.0.last text.1) };
+impl fmt::Display for PeriodText {
+    ghost output = { λ text. Some (period_text text.0.first text.0.last text.1) };
 
     fn fmt<W: fmt::Write>(&self, f: &mut fmt::Formatter<W>) -> fmt::Result {
         let first = self.0.first;

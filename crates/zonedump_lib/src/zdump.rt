@@ -16,7 +16,7 @@ ghost use Rattle.zonedump_lib.specs.Zdump.{IsZdump};
 
 use crate::change_lines::{shown, utc_at};
 use crate::changes::changes_after;
-use crate::years::Years;
+use crate::period::Period;
 use naive_base::{Datelike, NaiveDateTime};
 use std::alloc::{AllocError, Global};
 use std::fmt;
@@ -25,7 +25,7 @@ use tz_info::{Change, LocalTimeType, TimeZone};
 
 /// The zone as `zdump -v -c LO,HI` prints it under that name, where LO is the first year and HI the
 /// year after the last one: a pair of lines for each change of its clocks, the second before it and
-/// its own.
+/// its own. Of days LO is the first second, and HI the one after the last.
 ///
 /// # Errors
 ///
@@ -34,12 +34,12 @@ pub fn zdump_lines(
     alloc: Global,
     name: &str,
     zone: &TimeZone,
-    years: Years,
+    period: Period,
 ) -> Result<String, AllocError>
     ensures { IfOk result (λ text.
-        IsZdump name.now zone.now years.first years.last (string_bytes text)) }
+        IsZdump name.now zone.now period.first period.last (string_bytes text)) }
 {
-    let changes = changes_after(alloc, zone, years)?;
+    let changes = changes_after(alloc, zone, period)?;
     let listed = changes.as_slice();
     let mut text = String::new(alloc);
     push_zdump(&mut text, name, listed)?;

@@ -28,7 +28,7 @@ answered_line z b piece answer next h k line =
 same_answer : (z : Option Zone) (line other answer : List ℕ) (after : Option Zone) → IsBadLine line → IsBadLine other → AnswersLine z line answer after → AnswersLine z other answer after
 same_answer z line other answer after bad bad' h = grind arith
 
--- where a line ends that has begun, its beginning is the piece's
+-- if a line that has begun ends, its beginning is the piece's
 piece_begins : (k ys p more : List ℕ) → HasNoNewline k → k ++ ys ≡ p ++ 10 ∷ more → (q : List ℕ) × (p ≡ k ++ q) × (ys ≡ q ++ 10 ∷ more)
 piece_begins [] ys p more h e = (p, refl, e)
 piece_begins (c ∷ k) ys [] more h e = grind (arith, All-head (λ b. b ≢ 10) c k h)

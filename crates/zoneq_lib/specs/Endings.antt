@@ -4,7 +4,7 @@ use Rattle.std.specs.Io.KnownBytes.{Appends}
 use Rattle.zoneq_lib.specs.Faults.{fault_text}
 use Rattle.zoneq_lib.specs.declared.run_error.RunError.{RunError}
 
--- its exit status
+-- the exit status of a run
 abbrev pub status_of : Result (Unit {0}) RunError → ℕ
 status_of (Ok _) = 0
 status_of (Err _) = 1

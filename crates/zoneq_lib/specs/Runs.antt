@@ -1,5 +1,5 @@
--- What a run has written for what it has read. Nothing but the input decides where a line ends: not how it was cut into
--- reads, and not how the answers were cut into writes.
+-- What a run has written for what it has read. Only the input decides the ends of lines: not how it was cut into reads, and
+-- not how the answers were cut into writes.
 use Rattle.std.specs.Prelude.{◌≡◌, ℕ, ◌<◌, ◌^◌, ◌-◌, List, [], ◌++◌, Bool, true, false, Option, None, length}
 use Rattle.tz_info.specs.Zones.{Zone}
 use Rattle.zoneq_lib.specs.Answers.{AnswersLines}

@@ -51,8 +51,8 @@ pub fn run<R: Read, W: Write>(
         (λ _. (reader.new.ended ≡ true) × IsAtEnd (R.remaining reader.new.inner)
         × (reader.new.failed ≡ false) × (writer.new.failed ≡ false) × Answers input output)
         (λ e. StopsWith reader.new.failed writer.new.failed reader.new.reads e input output) }
-    // Nothing that was written is left unsent at the end, nor where the run stops, unless the
-    // writer failed.
+    // Nothing that was written is left unsent at the end, nor when the run stops, unless the writer
+    // failed.
     ensures sent { OnOk result (writer.new.unsent ≡ false) }
     ensures none_left { writer.old.unsent ≡ false → writer.new.failed ≡ false
         → writer.new.unsent ≡ false }

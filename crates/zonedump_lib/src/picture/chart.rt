@@ -2,28 +2,31 @@
 
 ghost use Rattle.std.specs.Prelude.{◌<◌};
 
+use crate::period::{Period, SECONDS_PER_DAY};
 use crate::picture::line::{put_line, put_names};
 use crate::picture::scale::{BOTTOM, LEFT, RIGHT, Scale, TOP};
 use crate::picture::words::{Place, Tick};
-use crate::years::{SECONDS_PER_DAY, Years};
+use crate::picture::year_at;
 use crate::zdump::month_name;
 use gregorian::{day_number, year_start};
 use std::alloc::AllocError;
 use tz_base::{Change, LocalTimeType};
 
-/// Appends the chart of those changes in the years; at first the type `start` is in force.
+/// Appends the chart of those changes in the period; at first the type `start` is in force.
 pub(super) fn put_chart(
     out: &mut String,
-    years: Years,
+    period: Period,
     start: &LocalTimeType,
     changes: &[Change],
 ) -> Result<(), AllocError> {
-    let scale = Scale::of(years, start, changes);
+    let scale = Scale::of(period, start, changes);
     put_offsets(out, scale)?;
-    if years.first < years.last {
-        put_years(out, years, scale)?;
+    let first = year_at(scale.from);
+    let last = year_at(scale.until.saturating_sub(1));
+    if first < last {
+        put_years(out, first, last, scale)?;
     } else {
-        put_months(out, years.first, scale)?;
+        put_months(out, first, scale)?;
     }
     put_line(out, scale, start, changes)?;
     put_names(out, scale, start, changes)
@@ -51,29 +54,36 @@ fn put_offset(out: &mut String, scale: Scale, offset: i64) -> Result<(), AllocEr
     )
 }
 
-// The months of one year, each with a line down the chart where it begins.
+// The months of one year that begin in the chart, each with a line down the chart where it begins.
 fn put_months(out: &mut String, year: i32, scale: Scale) -> Result<(), AllocError> {
     for month in 1..=12 {
-        let x = scale.across(day_number(year, month, 1).saturating_mul(SECONDS_PER_DAY));
-        put_tick(out, x, x.saturating_add(330))?;
-        write!(out, "{}</text>\n", month_name(month))?;
-    }
-    Ok(())
-}
-
-// Those of the years that a gap divides, each with a line down the chart where it begins.
-fn put_years(out: &mut String, years: Years, scale: Scale) -> Result<(), AllocError> {
-    let gap = year_gap(years.last.abs_diff(years.first));
-    for year in years.first..=years.last {
-        if year.unsigned_abs() % gap == 0 {
-            put_year(out, scale, year)?;
+        let start = day_number(year, month, 1).saturating_mul(SECONDS_PER_DAY);
+        if scale.has(start) {
+            put_month(out, scale.across(start), month)?;
         }
     }
     Ok(())
 }
 
-fn put_year(out: &mut String, scale: Scale, year: i32) -> Result<(), AllocError> {
-    let x = scale.across(year_start(year).saturating_mul(SECONDS_PER_DAY));
+fn put_month(out: &mut String, x: u64, month: u32) -> Result<(), AllocError> {
+    put_tick(out, x, x.saturating_add(330).min(RIGHT))?;
+    write!(out, "{}</text>\n", month_name(month))
+}
+
+// Those of the years that a gap divides and that begin in the chart, each with a line down the chart
+// where it begins.
+fn put_years(out: &mut String, first: i32, last: i32, scale: Scale) -> Result<(), AllocError> {
+    let gap = year_gap(last.abs_diff(first));
+    for year in first..=last {
+        let start = year_start(year).saturating_mul(SECONDS_PER_DAY);
+        if year.unsigned_abs() % gap == 0 && scale.has(start) {
+            put_year(out, scale.across(start), year)?;
+        }
+    }
+    Ok(())
+}
+
+fn put_year(out: &mut String, x: u64, year: i32) -> Result<(), AllocError> {
     put_tick(out, x, x)?;
     write!(out, "{year}</text>\n")
 }

@@ -1,8 +1,8 @@
 //! The frame around the chart and the panels.
 
 use crate::clocks::Clock;
+use crate::period::Period;
 use crate::picture::words::{Span, Step, put_escaped};
-use crate::years::Years;
 use std::alloc::AllocError;
 use tz_base::Change;
 
@@ -47,26 +47,27 @@ const IF_DARK: &str = "@media(prefers-color-scheme:dark){";
 pub(super) fn put_opening(
     out: &mut String,
     title: &str,
-    years: Years,
+    period: Period,
     panels: &[Change],
     colors: Colors,
 ) -> Result<(), AllocError> {
     let height = 298 + (panels.len() as u128 + 1) / 2 * 270;
     write!(
         out,
-        "<svg xmlns='http://www.w3.org/2000/svg' width='900' height='{height}' viewBox='0 0 900 {height}' role='img'>\n<title>"
+        "<svg xmlns='http://www.w3.org/2000/svg' width='900' height='{height}' \
+         viewBox='0 0 900 {height}' role='img'>\n<title>"
     )?;
     put_escaped(out, title)?;
-    let span = Span(years);
+    let span = Span(period);
     write!(out, ": clock changes, {span}</title>\n")?;
-    put_description(out, years, panels)?;
+    put_description(out, period, panels)?;
     put_style(out, colors)?;
     write!(out, "<rect class='paper' width='900' height='100%'/>\n")
 }
 
 // What the picture shows, for readers that don't see it.
-fn put_description(out: &mut String, years: Years, panels: &[Change]) -> Result<(), AllocError> {
-    let span = Span(years);
+fn put_description(out: &mut String, period: Period, panels: &[Change]) -> Result<(), AllocError> {
+    let span = Span(period);
     write!(out, "<desc>A chart of the offset from UTC in {span}.")?;
     for change in panels {
         write!(
@@ -89,22 +90,26 @@ fn put_style(out: &mut String, colors: Colors) -> Result<(), AllocError> {
     write!(out, "</style>\n")
 }
 
-/// Appends the title, and which years the chart shows.
-pub(super) fn put_title(out: &mut String, title: &str, years: Years) -> Result<(), AllocError> {
+/// Appends the title, and which period the chart shows.
+pub(super) fn put_title(out: &mut String, title: &str, period: Period) -> Result<(), AllocError> {
     // A path may be long.
     let class = if title.len() < 70 { "title" } else { "note" };
     write!(out, "<text class='{class}' x='20' y='32'>")?;
     put_escaped(out, title)?;
-    let span = Span(years);
+    let span = Span(period);
     write!(
         out,
         "</text>\n<text class='note' x='20' y='54'>offset from UTC in {span}</text>\n"
     )
 }
 
-/// Appends the heading of the panels, which show changes of those years.
-pub(super) fn put_heading(out: &mut String, years: Years, panels: usize) -> Result<(), AllocError> {
-    let span = Span(years);
+/// Appends the heading of the panels, which show changes of that period.
+pub(super) fn put_heading(
+    out: &mut String,
+    period: Period,
+    panels: usize,
+) -> Result<(), AllocError> {
+    let span = Span(period);
     write!(out, "<text class='head' x='20' y='280'>")?;
     if panels == 0 {
         write!(out, "no clock change in {span}")?;

@@ -84,7 +84,7 @@ fn is_unknown(shown: &LocalTimeType) -> bool {
     name_of(shown) == "-00"
 }
 
-// Where a change lies. `None` if there are fewer.
+// The position of a change. `None` if there are fewer.
 fn across_at(scale: Scale, changes: &[Change], place: usize) -> Option<u64> {
     changes.get(place).map(|change| scale.across(change.at))
 }

@@ -1,6 +1,6 @@
 //! Where seconds and offsets lie in the chart, in tenths of a pixel.
 
-use crate::years::Years;
+use crate::period::Period;
 use tz_base::{Change, LocalTimeType};
 
 // The chart's box: its sides, in tenths of a pixel.
@@ -37,10 +37,10 @@ pub(super) struct Scale {
 }
 
 impl Scale {
-    /// Returns the scale of the chart of those changes in the years. One offset has its own tick, and
+    /// Returns the scale of the chart of those changes in the period. One offset has its own tick, and
     /// two have theirs; of more the ticks are round, one at or below the least and one at or above
     /// the greatest.
-    pub(super) fn of(years: Years, start: &LocalTimeType, changes: &[Change]) -> Scale {
+    pub(super) fn of(period: Period, start: &LocalTimeType, changes: &[Change]) -> Scale {
         let first = start.offset();
         let low = changes
             .iter()
@@ -60,12 +60,17 @@ impl Scale {
             step_for(low, high)
         };
         Scale {
-            from: years.from(),
-            until: years.until(),
+            from: period.from(),
+            until: period.until(),
             low: round_down(low, if few { 1 } else { step }),
             high: round_up(high, if few { 1 } else { step }),
             step,
         }
+    }
+
+    /// Whether the chart has that second.
+    pub(super) fn has(self, at: i64) -> bool {
+        self.from <= at && at < self.until
     }
 
     /// Returns how far to the right a second lies.

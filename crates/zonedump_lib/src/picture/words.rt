@@ -1,6 +1,6 @@
 //! What is written in a picture: names, clocks, lengths and places.
 
-use crate::years::Years;
+use crate::period::Period;
 use std::alloc::AllocError;
 use std::fmt;
 use tz_base::{Change, LocalTimeType};
@@ -96,18 +96,18 @@ impl fmt::Display for Step<'_> {
     }
 }
 
-/// The years from one to another, or only one.
+/// The years or days from one to another, or only one.
 #[derive(Clone, Copy)]
-pub(super) struct Span(pub(super) Years);
+pub(super) struct Span(pub(super) Period);
 
 impl fmt::Display for Span {
     fn fmt<W: fmt::Write>(&self, f: &mut fmt::Formatter<W>) -> fmt::Result {
         let first = self.0.first;
         let last = self.0.last;
-        if first < last {
-            write!(f, "{first} to {last}")
+        if first == last {
+            write!(f, "{first}")
         } else {
-            write!(f, "{last}")
+            write!(f, "{first} to {last}")
         }
     }
 }

@@ -44,8 +44,8 @@ abbrev pub if_some : {A B : Type 0} → Option A → (A → B) → B → B
 if_some (Some x) first second = first x
 if_some None first second = second
 
--- what a grammar reads at the front of a line. A reading that stops at the end of the bytes is unfinished, since more may
--- come; one that stops at a byte is hopeless
+-- what a grammar reads at the front of a line. If it stops at the end of the bytes, the line is unfinished, since more may
+-- come; if it stops at a byte, the line is hopeless
 abbrev pub scan : {X : Type 0} → Grammar X → List ℕ → Result (X × List ℕ) BadLine
 scan (Nothing v) bytes = Ok (v, bytes)
 scan (Then g f) bytes = scan g bytes >>= λ p. scan (f p.0) p.1

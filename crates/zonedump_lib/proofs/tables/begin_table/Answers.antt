@@ -4,7 +4,7 @@ use Rattle.zonedump_lib.proofs.tables.begin_table.Goals as goal
 pub invariant_of-result : goal.invariant_of-result
 invariant_of-result c = record {
   near =
-      near_years (TypeAt c.args.zone.now) c.args.years.first c.args.years.last (changes_left c.changes_of-left.result) c.args.years.in_range
+      near_years (TypeAt c.args.zone.now) c.args.period.first c.args.period.last (changes_left c.changes_of-left.result) c.args.period.in_range
       c.changes_of-left.ensures;
 }
 
@@ -15,6 +15,6 @@ returns c =
     c.one_change_law.ensures.lists c.args.zone.now _ _ (changes_left c.changes_of-counted.result) (changes_left c.changes_of-left.result)
     c.changes_of-counted.ensures c.changes_of-left.ensures in
     let count : c.in_ok-count.count ≡ length (changes_left c.changes_of-counted.result) = c.in_ok-count.ensures in
-    let head : string_bytes c.push_head.new.out ≡ head_text c.args.zone.now c.args.years.first c.args.years.last c.in_ok-count.count =
+    let head : string_bytes c.push_head.new.out ≡ head_text c.args.zone.now c.args.period.first c.args.period.last c.in_ok-count.count =
     rw c.new-text.ensures.bytes at c.in_ok-push_head.ensures in
     (left, c.changes_of-left.ensures, rw (head, count, same) refl)
