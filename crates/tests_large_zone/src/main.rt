@@ -1,5 +1,5 @@
 //! Asks a zone of 1,048,576 clock changes about each of them: what is in force at it, and when clocks show the local time at which it is
-//! over, by the index and by the walk.
+//! over, by the index and by the walk. Then it asks a zone of 5,000,000 changes about the last of them: with memory at hand it is made.
 //!
 //! It prints how many answers of each kind are right. `rt ci` gives a program two minutes; a lookup that read the transitions or the
 //! index from end to end would read some 5 * 10^11 of them.
@@ -13,10 +13,12 @@ use tz_info::{LocalTimeType, Probes, TimeZone, Transition};
 
 const CHANGES: u32 = 1_048_576;
 
+const MORE_CHANGES: u32 = 5_000_000;
+
 const SECONDS_APART: i64 = 1_000_000;
 
 fn main(rt: HostRuntime) -> Result<()> {
-    let zone = zone_in_turn(rt.alloc())?;
+    let zone = zone_in_turn(rt.alloc(), CHANGES)?;
     for (what, lookup) in [
         ("by instant", Lookup::ByInstant),
         ("by local time", Lookup::ByLocalTime),
@@ -24,20 +26,25 @@ fn main(rt: HostRuntime) -> Result<()> {
     ] {
         println!(rt;
             "{what}: {} of {CHANGES} right",
-            right_answers(&zone, lookup)
+            right_answers(&zone, lookup, 0, CHANGES)
         )?;
     }
+    let larger = zone_in_turn(rt.alloc(), MORE_CHANGES)?;
+    println!(rt;
+        "the last of {MORE_CHANGES}: {} right",
+        right_answers(&larger, Lookup::ByLocalTime, MORE_CHANGES - 1, MORE_CHANGES)
+    )?;
     Ok(())
 }
 
 // Clocks change each 1,000,000 seconds from 1970 on, to an hour ahead of UTC and back in turn.
-fn zone_in_turn(alloc: Global) -> Result<TimeZone> {
+fn zone_in_turn(alloc: Global, changes: u32) -> Result<TimeZone> {
     let mut types = Vec::new(alloc);
     types.push(LocalTimeType::with_offset(0)?)?;
     types.push(LocalTimeType::with_offset(3600)?)?;
     let mut transitions = Vec::new(alloc);
     let mut time = 0i64;
-    for number in 0..CHANGES {
+    for number in 0..changes {
         let index = if number % 2 == 0 { 1 } else { 0 };
         transitions.push(Transition::new(time, index))?;
         time = time.saturating_add(SECONDS_APART);
@@ -52,11 +59,11 @@ enum Lookup {
     ByWalk,
 }
 
-// How many changes a lookup answers for as it should.
-fn right_answers(zone: &TimeZone, lookup: Lookup) -> u32 {
+// How many of the changes from `first` on, up to `end`, a lookup answers for as it should.
+fn right_answers(zone: &TimeZone, lookup: Lookup, first: u32, end: u32) -> u32 {
     let mut right = 0u32;
-    let mut time = 0i64;
-    for number in 0..CHANGES {
+    let mut time = i64::from(first).saturating_mul(SECONDS_APART);
+    for number in first..end {
         let offset = if number % 2 == 0 { 3600 } else { 0 };
         if lookup.offset(zone, time) == Some(offset) {
             right = right.saturating_add(1);

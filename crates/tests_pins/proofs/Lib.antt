@@ -18,3 +18,4 @@ pub mod SetDays
 pub mod SetFires
 pub mod SetSteps
 pub mod SetTypes
+pub mod SetSavings

@@ -12,7 +12,7 @@ pub use Rattle.tz_info.proofs.Words.{AreLeapSeconds, Contains, IsAskedAt, IsAske
 pub use Rattle.tz_info.proofs.Words.{IsTextFault, IsYearOf, LiesIn, add-one, days_at_least, one_year, weekday_of, year_step}
 pub use Rattle.tz_info.specs.{Questions.{IsByRule}, declared.file.header.{Counts.{Counts}, Place.{Place}}}
 pub use Rattle.tz_info.specs.declared.{file.header.Version.{Version}, rule.transition_rule.TransitionRule.{TransitionRule}}
-pub use Rattle.tz_info.specs.declared.zone.{leap_second.LeapSecond.{LeapSecond}}
+pub use Rattle.tz_info.specs.declared.zone.lists.{leap_second.LeapSecond.{LeapSecond}}
 unfoldable pub use Rattle.tz_info.{proofs.Words.{closed_day, days_of_months, rule, text, year_start}, specs.TzGrammar.{seconds}}
 pub use Rattle.zoned_time.proofs.Words.{IsEarlier, IsFirstInstantFrom, IsGiven, day_at, day_of_year_is}
 pub use Rattle.zoned_time.specs.Years.{IsEarlierInYear, IsWholeYears}

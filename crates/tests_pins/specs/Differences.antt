@@ -2,7 +2,7 @@
 use Rattle.std.specs.Prelude.{◌≡◌, ℤ, pos, false, [], ◌∷◌, Some}
 use Rattle.tz_base.specs.LocalTypes.{LocalType}
 use Rattle.tests_pins.specs.NewYork.{edt, est}
-use Rattle.tz_info.specs.declared.zone.differences.Difference.{Difference}
+use Rattle.tz_info.specs.declared.zone.ask.differences.Difference.{Difference}
 
 -- that type, at each second
 abbrev pub always : LocalType → ℤ → LocalType → Type 0

@@ -15,3 +15,4 @@ pub mod Spans
 pub mod Texts
 pub mod WrittenZones
 pub mod Zones
+pub mod Savings

@@ -4,7 +4,7 @@ use Rattle.tz_base.specs.LocalTypes.{LocalType}
 use Rattle.tz_info.specs.Zones.{Zone}
 use Rattle.tz_info.specs.declared.rule.transition_rule.TransitionRule.{TransitionRule}
 use Rattle.tz_info.specs.declared.rule.transition_rule.TransitionRule.TheVariants as rules
-use Rattle.tz_info.specs.declared.zone.transition.Transition.{Transition}
+use Rattle.tz_info.specs.declared.zone.lists.transition.Transition.{Transition}
 use Rattle.tz_info.specs.PosixZones.{posix_zone}
 use Rattle.tests_pins.specs.LeapSeconds.{utc_leaps}
 use Rattle.tests_pins.specs.Texts.{utc_rule}

@@ -17,7 +17,7 @@ ghost use Rattle.tests_pins.specs.Instants.{own_seconds, in_new_york, noon};
 ghost use Rattle.std.specs.declared.cmp.Ordering.TheVariants as orders;
 
 /// New York's clocks show 2021-11-07 01:30:00 five hours and a half after 06:30:00 of UTC began to
-/// be shown at Greenwich: at an offset of five hours behind.
+/// be shown at Greenwich: at an offset of -5 hours.
 pub fn shown()
     ensures local { local_of own_seconds (in_new_york (pos 1_636_266_600))
         ≡ record { s = pos 1_636_248_600; f = 5 } }

@@ -4,7 +4,7 @@ ghost use Rattle.std.specs.Prelude.{◌≡◌, [], ◌∷◌, map, pos, neg_ℤ,
 ghost use Rattle.tz_info.specs.Leaps.{AreLeapSeconds, IsLeapTime, IsNear, IsUnixTime, thresholds};
 ghost use Rattle.tests_pins.specs.LeapSeconds.{utc_leaps, days_after, entry};
 
-/// They may be a zone's, and each ends where a month does: at midnight of UTC.
+/// They may be a zone's, and each ends with a month: at midnight of UTC.
 #[tactic(auto, using(crate::proofs::LeapSeconds::utc_valid), unfolding(crate::proofs::Computed::calendar))]
 pub fn table()
     ensures valid { AreLeapSeconds utc_leaps }

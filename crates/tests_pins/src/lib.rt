@@ -29,6 +29,7 @@ pub mod questions;
 pub mod readings;
 pub mod roundings;
 pub mod rules;
+pub mod savings;
 pub mod shown_seconds;
 pub mod spans;
 pub mod steps;

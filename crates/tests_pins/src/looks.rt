@@ -1,4 +1,4 @@
-//! How many looks a lookup may take.
+//! How many probes a lookup may take.
 #![tactic(auto, unfolding(crate::proofs::Computed::binary))]
 
 ghost use Rattle.std.specs.Prelude.{◌≡◌, ℕ};
@@ -20,7 +20,7 @@ pub fn binary_digits()
     ensures thousand { digits 1_000 ≡ 10 }
 {}
 
-/// By instant, Honolulu's seven transitions take three looks at most, and the rule one question.
+/// By instant, Honolulu's seven transitions take at most three probes, and the rule one question.
 pub fn by_instant()
     ensures most { RoseByInstant (honolulu hst10) (looks 0 0 0) (looks 3 1 0) }
     ensures too_many { ¬ (RoseByInstant (honolulu hst10) (looks 0 0 0) (looks 4 0 0)) }

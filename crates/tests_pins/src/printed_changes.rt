@@ -11,6 +11,11 @@ ghost use Rattle.zonedump_lib.specs.ZdumpLines.{pair_lines, first_lines, last_li
 ghost use Rattle.zonedump_lib.specs.ZdumpLines.{short_weekday, short_day, flag_text};
 ghost use Rattle.zonedump_lib.specs.DifferenceForms.{difference_lines, differences_value, lone_value};
 ghost use Rattle.zonedump_lib.specs.DifferenceForms.{moved_by};
+ghost use Rattle.naive_base.specs.NaiveDate.{day_of};
+ghost use Rattle.naive_base.specs.declared.date.NaiveDate.{NaiveDate};
+ghost use Rattle.zonedump_lib.specs.Periods.{IsPeriod, bound_value, bound_words, first_second};
+ghost use Rattle.zonedump_lib.specs.Periods.{second_after};
+ghost use Rattle.zonedump_lib.specs.declared.period.Bound.TheVariants.{Date, Year};
 ghost use Rattle.tests_pins.specs.Changes.{change_at, spring, unnamed};
 ghost use Rattle.tests_pins.specs.Differences.{in_march};
 ghost use Rattle.tests_pins.specs.NewYork.{est, edt};
@@ -97,6 +102,26 @@ pub fn json_words()
         ≡ codes "{\"offset\":3600,\"dst\":false,\"name\":null}" }
 {}
 
+/// The day 2021-03-14 begins a period, which may end on that day or with that year, and not with
+/// the year before.
+pub fn days()
+    ensures begins { (d : NaiveDate) → day_of d ≡ pos 18_700
+        → first_second (Date d) ≡ pos 1_615_680_000 }
+    ensures ends { (d : NaiveDate) → day_of d ≡ pos 18_700
+        → second_after (Date d) ≡ pos 1_615_766_400 }
+    ensures words { (d : NaiveDate) → day_of d ≡ pos 18_700
+        → bound_words (Date d) ≡ codes "2021-03-14" }
+    ensures json { (d : NaiveDate) → day_of d ≡ pos 18_700
+        → print (json_tokens (bound_value (Date d))) ≡ codes "\"2021-03-14\"" }
+    ensures one_day { (d : NaiveDate) → day_of d ≡ pos 18_700 → IsPeriod (Date d) (Date d) }
+    ensures in_its_year { (d : NaiveDate) → day_of d ≡ pos 18_700
+        → IsPeriod (Date d) (Year 2021) }
+    ensures over_before { (d : NaiveDate) → day_of d ≡ pos 18_700
+        → IsPeriod (Date d) (Year 2020) → ⊥ }
+    ensures no_year { IsPeriod (Year 0) (Year 2021) → ⊥ }
+    ensures five_digits { IsPeriod (Year 2021) (Year 10_000) → ⊥ }
+{}
+
 /// An hour in which one zone has EST and another one EDT, whose clocks are an hour ahead: as a line and as
 /// JSON. A zone that only one of two folders has.
 pub fn differences()
@@ -105,7 +130,7 @@ pub fn differences()
         ≡ codes "2021-03-14 07:00:00 to 2021-03-14 08:00:00 UTC  -05:00 std EST"
         ++ codes " -> -04:00 dst EDT  moved by 3600 s\n" }
     ensures json { print (json_tokens (differences_value (codes "a") (codes "b")
-        (pos 2021) (pos 2022) (in_march ∷ [])))
+        (Year 2021) (Year 2022) (in_march ∷ [])))
         ≡ codes "{\"old\":\"a\",\"new\":\"b\",\"from\":2021,\"to\":2022,\"differences\":["
         ++ codes "{\"from\":1615705200,\"from_utc\":\"2021-03-14 07:00:00\","
         ++ codes "\"until\":1615708800,\"until_utc\":\"2021-03-14 08:00:00\","

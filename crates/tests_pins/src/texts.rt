@@ -1,14 +1,15 @@
 //! TZ strings and the rules that they spell (POSIX.1 section 8.3, RFC 8536 section 3.3.1).
 
-ghost use Rattle.std.specs.Prelude.{◌≡◌, ℕ, [], ◌∷◌, ◌++◌, List, Bool, true, false, codes, pos, neg_ℤ};
+ghost use Rattle.std.specs.Prelude.{◌≡◌, ℕ, None, Some, [], ◌∷◌, ◌++◌, List, Bool, true, false, codes, pos, neg_ℤ};
 ghost use Rattle.tz_base.specs.Names.{IsName};
-ghost use Rattle.tz_base.specs.declared.error.Error.TheVariants.{InvalidTzString, LocalTimeType, ParseInt};
+ghost use Rattle.tz_base.specs.declared.error.Error.TheVariants.{InvalidTzString, LocalTimeType, OutOfMemory, ParseInt};
 ghost use Rattle.tz_base.specs.declared.error.Error.TheVariants.{TransitionRule as RuleError, UnsupportedTzString};
 ghost use Rattle.tz_base.specs.declared.error.Expected.TheVariants.{DayFromJ1ToJ365};
 ghost use Rattle.tz_base.specs.declared.error.Expected.TheVariants.{DaysWhenDaylightSavingTimeStartsAndEnds, Digit};
 ghost use Rattle.tz_base.specs.declared.error.Expected.TheVariants.{HoursMinutesAndSecondsWithinTheirLimits};
 ghost use Rattle.tz_base.specs.declared.error.Expected.TheVariants.{NameOfThreeToSevenBytes};
 ghost use Rattle.tz_info.specs.TzGrammar.{time_limit, signed_seconds, IsTzText, IsTextFault, text_fault_position};
+ghost use Rattle.tz_info.specs.PosixZones.{IsExtendedFaultPlace, IsPlaced, IsPosixFaultPlace};
 ghost use Rattle.tz_info.specs.PosixZones.{IsPosixZone, posix_zone, types_of};
 ghost use Rattle.tz_info.specs.Zones.{Zone, plain_zone};
 ghost use Rattle.tz_info.specs.declared.rule.transition_rule.TransitionRule.{TransitionRule};
@@ -28,7 +29,7 @@ pub fn rules()
     ensures zone { IsPosixZone new_york_text new_york_zone }
 {}
 
-/// Offsets count west of UTC: `+5` is five hours behind it, as `5` is, and `-5` five hours ahead.
+/// Offsets count west of UTC: `+5`, like `5`, means -5 hours from UTC, and `-5` means +5 hours.
 pub fn signs()
     ensures plus { (extended : Bool) → IsTzText extended foo_plus_5 foo_behind }
     ensures minus { (extended : Bool) → IsTzText extended foo_minus_5 foo_ahead }
@@ -109,6 +110,30 @@ pub fn fault_places()
     ensures bytes_after { (extended : Bool)
         → text_fault_position extended (codes "EST5EDT,M3.2.0,M11.1.0;") ≡ 22 }
     ensures end { (extended : Bool) → text_fault_position extended no_days ≡ 7 }
+{}
+
+/// White space in front of the TZ string of a zone is counted, and a string of white space has its
+/// fault at its end.
+pub fn zone_fault_places()
+    ensures spaced { IsPosixFaultPlace (32 ∷ (foo_24 ++ (10 ∷ []))) 4 }
+    ensures only_spaced { (place : ℕ) → IsPosixFaultPlace (32 ∷ (foo_24 ++ (10 ∷ []))) place
+        → place ≡ 4 }
+    ensures spaces { IsPosixFaultPlace (32 ∷ 32 ∷ 32 ∷ []) 3 }
+    ensures only_spaces { (place : ℕ) → IsPosixFaultPlace (32 ∷ 32 ∷ 32 ∷ []) place → place ≡ 3 }
+    ensures extended { IsExtendedFaultPlace foo_24 3 }
+    ensures only_extended { (place : ℕ) → IsExtendedFaultPlace foo_24 place → place ≡ 3 }
+{}
+
+/// A fault has a place, and running out of memory has none.
+pub fn placed_errors()
+    ensures there { IsPlaced (λ n. n ≡ 3) (record { error = ParseInt Digit; position = Some 3 }) }
+    ensures elsewhere { ¬ (IsPlaced (λ n. n ≡ 3)
+        (record { error = ParseInt Digit; position = Some 4 })) }
+    ensures nowhere { ¬ (IsPlaced (λ n. n ≡ 3)
+        (record { error = ParseInt Digit; position = None })) }
+    ensures memory { IsPlaced (λ n. n ≡ 3) (record { error = OutOfMemory; position = None }) }
+    ensures memory_there { ¬ (IsPlaced (λ n. n ≡ 3)
+        (record { error = OutOfMemory; position = Some 3 })) }
 {}
 
 /// The hours of an offset go to 23, and not to 24 as POSIX.1 allows.

@@ -12,6 +12,7 @@ ghost use Rattle.zonedump_lib.specs.RuleWords.{rule_words, day_words, moment_wor
 ghost use Rattle.zonedump_lib.specs.RuleWords.{week_words, weekday_words};
 ghost use Rattle.zonedump_lib.specs.Tables.{IsTable, head_text, leap_text, table_text};
 ghost use Rattle.zonedump_lib.specs.Zdump.{IsZdump};
+ghost use Rattle.zonedump_lib.specs.declared.period.Bound.TheVariants.{Year};
 ghost use Rattle.tests_pins.specs.Changes.{spring, autumn};
 ghost use Rattle.tests_pins.specs.LeapSeconds.{entry};
 ghost use Rattle.tests_pins.specs.NewYork.{new_york_rule, new_york_zone};
@@ -62,7 +63,7 @@ pub fn names()
 
 /// The head of the table of New York in 2021, and the line of a leap second.
 pub fn table_heads()
-    ensures new_york { head_text new_york_zone (pos 2021) (pos 2021) 2
+    ensures new_york { head_text new_york_zone (Year 2021) (Year 2021) 2
         ≡ codes "0 transitions, 2 types, 0 leap seconds\n"
         ++ codes "rule: -05:00 std EST, and -04:00 dst EDT from the second Sunday of March"
         ++ codes " at 02:00:00 to the first Sunday of November at 02:00:00\n"
@@ -73,9 +74,9 @@ pub fn table_heads()
 
 /// New York in 2021 has two changes, in the table and in the lines of zdump.
 pub fn year_2021()
-    ensures table { IsTable new_york_zone (pos 2021) (pos 2021)
-        (table_text new_york_zone (pos 2021) (pos 2021) (spring ∷ autumn ∷ [])) }
-    ensures zdump { IsZdump (codes "NY") new_york_zone (pos 2021) (pos 2021)
+    ensures table { IsTable new_york_zone (Year 2021) (Year 2021) (table_text
+        new_york_zone (Year 2021) (Year 2021) (spring ∷ autumn ∷ [])) }
+    ensures zdump { IsZdump (codes "NY") new_york_zone (Year 2021) (Year 2021)
         (zdump_text (codes "NY") (spring ∷ autumn ∷ [])) }
 {}
 
@@ -96,7 +97,8 @@ pub fn json()
         ++ codes "\"time\":7200}}" }
     ensures leap { print (json_tokens (leap_value (entry (pos 78_796_800) 1)))
         ≡ codes "{\"leap_time\":78796800,\"correction\":1}" }
-    ensures zone { print (json_tokens (zone_value (codes "UTC") (pos 2020) (pos 2021) utc_zone []))
+    ensures zone { print (json_tokens (zone_value
+        (codes "UTC") (Year 2020) (Year 2021) utc_zone []))
         ≡ codes "{\"zone\":\"UTC\",\"from\":2020,\"to\":2021,\"transitions\":0,\"types\":1,"
         ++ codes "\"rule\":{\"always\":{\"offset\":0,\"dst\":false,\"name\":\"UTC\"}},"
         ++ codes "\"leap_seconds\":[],\"changes\":[]}" }
