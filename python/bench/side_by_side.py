@@ -216,7 +216,16 @@ def calls():
         lambda: instants.tz_convert(name).tz_localize(None),
         lambda: local.tz_localize(name, ambiguous="NaT", nonexistent="NaT").tz_convert("UTC"),
     ]
-    asks = [("a DatetimeIndex, by pandas", *theirs)]
+    moment, clock, there = datetime(2021, 7, 1, tzinfo=timezone.utc), datetime(2021, 7, 1), ZoneInfo(name)
+    asks = [
+        ("a DatetimeIndex, by pandas", *theirs),
+        (
+            "a datetime, by zoneinfo",
+            lambda: moment.astimezone(there).replace(tzinfo=None),
+            lambda: clock.replace(tzinfo=there).astimezone(timezone.utc),
+        ),
+        ("a datetime", lambda: zone.to_local(moment), lambda: zone.localize(clock)),
+    ]
     for form, made in shown.items():
         a, b = made(instants), made(local)
         asks.append((form, lambda a=a: zone.to_local(a), lambda b=b: zone.localize(b, "nat", "nat")))

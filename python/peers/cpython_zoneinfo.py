@@ -4,9 +4,8 @@ usage: python python/peers/cpython_zoneinfo.py
 
 It needs the package `test` of Python's library (Debian: libpython3.11-testsuite). The class under test is the
 ZoneInfo of that library, with its files, cache and pickles; what it answers comes from the `tzinfo` of a
-`Zone` of the same bytes. Only `dst()` is its own, since a TZif file has no amount: it must be zero
-when the DST flag is not set, and not zero when it is. Some tests write files with a block that has no local
-time type, which RFC 8536 forbids and `Zone` rejects (5): such a block gets a type.
+`Zone` of the same bytes. Some tests write files with a block that has no local time type, which RFC 8536
+forbids and `Zone` rejects (5): such a block gets a type.
 """
 
 import io
@@ -39,10 +38,7 @@ class ZoneInfo(Theirs):
         return self._ours.tzname(when)
 
     def dst(self, when):
-        amount, ours = super().dst(when), self._ours.dst(when)
-        if when is not None and (amount == timedelta(0)) != (ours == timedelta(0)):
-            raise AssertionError(f"the DST flag of {self} at {when} is another one")
-        return amount
+        return self._ours.dst(when)
 
     def fromutc(self, when):
         if not isinstance(when, datetime) or when.tzinfo is not self:

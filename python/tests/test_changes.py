@@ -10,7 +10,7 @@ from definitions import Lists
 
 import sahvumbi
 from sahvumbi import Zone
-from sahvumbi._door import ROOM, STRETCH
+from sahvumbi._native import ROOM, STRETCH
 
 DATABASE = Path("/usr/share/zoneinfo")
 NEW_YORK = Zone.from_text("EST5EDT,M3.2.0,M11.1.0")

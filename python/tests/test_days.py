@@ -12,7 +12,6 @@ from hypothesis import strategies as st
 
 import sahvumbi
 from sahvumbi import Zone
-from sahvumbi._door import FEW
 
 NEW_YORK = Zone("America/New_York")
 # Zones that change by quarters of an hour, so that a look at each of those is enough.
@@ -70,11 +69,22 @@ def test_many_local_times_are_asked_together(lists):
     """Some lie near changes, and some as far as days after them."""
     window = range(-200 * QUARTER, 500 * QUARTER, QUARTER)
     local = np.arange(-90 * QUARTER, 400 * QUARTER, 5 * QUARTER)
-    assert local.size > FEW
-    found = Zone.from_bytes(lists.file())._door.first_at_or_after(local)
+    found = Zone.from_bytes(lists.file())._native.first_at_or_after(local)
     assert found["instant"].tolist() == [lists.first_at_or_after(each, window) for each in local.tolist()]
     assert (found["number"] == 0).all()
     assert found["offset"].tolist() == [lists.offset(each) for each in found["instant"].tolist()]
+
+
+@settings(max_examples=40)
+@given(hasty_zones(), st.sampled_from([("h", 3_600), ("3h", 10_800), ("12h", 43_200)]))
+def test_steps_that_go_on_over_changes(lists, step):
+    word, seconds = step
+    zone, window = Zone.from_bytes(lists.file()), range(-200 * QUARTER, 200 * QUARTER, QUARTER)
+    for asked in (np.arange(-25 * QUARTER, 75 * QUARTER, 2 * QUARTER), np.array([5 * QUARTER])):
+        floors = [lists.floor(each, seconds, window) for each in asked.tolist()]
+        assert zone.floor(asked, word).tolist() == floors
+        ceils = [lists.ceil(each, seconds, window) for each in asked.tolist()]
+        assert zone.ceil(asked, word).tolist() == ceils
 
 
 @settings(max_examples=200)

@@ -7,7 +7,7 @@ from hypothesis import given, settings
 from hypothesis import strategies as st
 
 import sahvumbi
-from sahvumbi import Zone, _door
+from sahvumbi import Zone, _native
 
 EDGE, GREATEST_OFFSET = 300, 90
 WINDOW = range(-EDGE - 3 * GREATEST_OFFSET, EDGE + 3 * GREATEST_OFFSET)
@@ -175,8 +175,8 @@ def test_changes(lists, first, last, room, stretch):
         first, last = last, first
     zone = Zone.from_bytes(lists.file())
     with pytest.MonkeyPatch.context() as patch:
-        patch.setattr(_door, "ROOM", room)
-        patch.setattr(_door, "STRETCH", stretch)
+        patch.setattr(_native, "ROOM", room)
+        patch.setattr(_native, "STRETCH", stretch)
         assert listed(zone.changes(first, last)) == lists.changes(range(first, last))
 
 

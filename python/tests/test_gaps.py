@@ -1,6 +1,6 @@
-"""The first instant after a gap, and the last one before it."""
+"""Local times in gaps: the ends of the gap, and the instants by the offsets before and after it."""
 
-from datetime import timedelta
+from datetime import timedelta, timezone
 from zoneinfo import ZoneInfo
 
 import numpy as np
@@ -27,9 +27,9 @@ def after_gap(lists, local):
     COLUMNS,
     st.sampled_from(["s", "ms", "ns"]),
     st.integers(0, 999),
-    st.sampled_from(["after", "before"]),
+    st.sampled_from(["after", "before", "shift", "shift_back"]),
 )
-def test_ends_of_gaps(drawn, unit, part, gap):
+def test_gaps(drawn, unit, part, gap):
     lists, locals_ = drawn
     parts = {"s": 1, "ms": 10**3, "ns": 10**9}[unit]
     part = part if parts > 1 else 0
@@ -37,8 +37,14 @@ def test_ends_of_gaps(drawn, unit, part, gap):
     expected = []
     for local in locals_:
         seconds = lists.shown_at(local, WINDOW)
-        end = None if seconds else after_gap(lists, local) * parts
-        expected.append(seconds[0] * parts + part if seconds else end - (gap == "before"))
+        end = None if seconds else after_gap(lists, local)
+        if seconds:
+            expected.append(seconds[0] * parts + part)
+        elif gap in ("after", "before"):
+            expected.append(end * parts - (gap == "before"))
+        else:
+            offset = lists.offset(end - 1 if gap == "shift" else end)
+            expected.append((local - offset) * parts + part)
     answers = Zone.from_bytes(lists.file()).localize(values, gap=gap, fold="earliest")
     assert answers.view(np.int64).tolist() == expected
 
@@ -57,7 +63,9 @@ def test_shifts_of_pandas(name):
     locals_ = around_gaps(zone)
     assert (zone.explain(locals_)["shown"] == NEVER).any()
     folds = np.ones(len(locals_), bool)
-    for gap, word in (("after", "shift_forward"), ("before", "shift_backward")):
+    hour = pd.Timedelta("1h")
+    words = {"after": "shift_forward", "before": "shift_backward", "shift": hour, "shift_back": -hour}
+    for gap, word in words.items():
         theirs = locals_.dt.tz_localize(name, ambiguous=folds, nonexistent=word)
         ours = zone.localize(locals_, gap=gap, is_dst=folds)
         pd.testing.assert_series_equal(ours, theirs.dt.tz_convert("UTC"))
@@ -81,14 +89,17 @@ def test_where_shift_forward_of_pandas_differs(name, skipped, after):
     "name",
     ["America/New_York", "Europe/London", "Australia/Lord_Howe", "Pacific/Apia"],
 )
-def test_after_beside_zoneinfo(name):
+def test_gaps_beside_zoneinfo(name):
     """At the instant a clock shows a later time, and a second before an earlier one."""
     zone, theirs = Zone(name), ZoneInfo(name)
     locals_ = around_gaps(zone)
     locals_ = locals_[zone.explain(locals_)["shown"] == NEVER]
     assert len(locals_)
-    after, before = (zone.localize(locals_, gap=gap) for gap in ("after", "before"))
+    after, before, *shifted = (zone.localize(locals_, gap) for gap in ("after", "before", "shift", "shift_back"))
     assert (after - before == pd.Timedelta(1, "ns")).all()
+    for fold, ours in enumerate(shifted):  # PEP 495
+        moments = (local.to_pydatetime().replace(tzinfo=theirs, fold=fold) for local in locals_)
+        assert ours.tolist() == [moment.astimezone(timezone.utc) for moment in moments]
     for local, instant in zip(locals_, after):
         moment = instant.to_pydatetime().astimezone(ZoneInfo("UTC"))
         before = (moment - timedelta(seconds=1)).astimezone(theirs).replace(tzinfo=None)
@@ -109,6 +120,7 @@ def test_after_far_from_today():
         skipped = change + np.timedelta64(-5 * 3_600 + 1_800, "s")
         assert NEW_YORK.localize(skipped, gap="after") == change
         assert NEW_YORK.localize(skipped, gap="shift") == change + np.timedelta64(1_800, "s")
+        assert NEW_YORK.localize(skipped, gap="shift_back") == change - np.timedelta64(1_800, "s")
 
 
 def test_after_may_not_fit():

@@ -9,7 +9,7 @@ import threading
 
 import numpy as np
 
-from sahvumbi import Zone, _door
+from sahvumbi import Zone, _native
 
 NEW_YORK = Zone("America/New_York")
 SECONDS = np.random.default_rng(0).integers(-(2**31), 2**32, 2_000)
@@ -29,10 +29,10 @@ def test_each_zone_is_closed_once(monkeypatch):
             opened.append(handle._obj.zone)
             return number
 
-    LIBRARY = _door.LIBRARY
-    monkeypatch.setattr(_door, "LIBRARY", Library())
-    close = _door._Handle.__del__
-    monkeypatch.setattr(_door._Handle, "__del__", lambda self: (closed.append(self.zone), close(self)))
+    LIBRARY = _native.LIBRARY
+    monkeypatch.setattr(_native, "LIBRARY", Library())
+    close = _native._Handle.__del__
+    monkeypatch.setattr(_native._Handle, "__del__", lambda self: (closed.append(self.zone), close(self)))
     zone = Zone("America/New_York")
     other = pickle.loads(pickle.dumps(zone))
     same = zone
@@ -53,7 +53,7 @@ def test_many_zones_take_no_memory():
         with open("/proc/self/statm") as file:
             return int(file.read().split()[1]) * os.sysconf("SC_PAGE_SIZE")
 
-    data = NEW_YORK._door.data
+    data = NEW_YORK._native.data
     for _ in range(1_000):
         Zone.from_bytes(data)
     before = resident()

@@ -25,6 +25,8 @@ STRUCTS = {
     _library.Span: "zoned_span",
     _library.WallClock: "zoned_wall_clock",
     _library.Resolved: "zoned_resolved",
+    _library.Saving: "zoned_saving",
+    _library.Day: "zoned_day",
 }
 DTYPES = {
     "zoned_local_type": _library.LOCAL_TYPE,

@@ -238,7 +238,7 @@ def test_what_is_shown_is_what_was_given(zone):
 
 def test_what_would_be_shown_wrong():
     other = pickle.loads(pickle.dumps(NEW_YORK))
-    other._door = Zone("Asia/Tokyo")._door
+    other._native = Zone("Asia/Tokyo")._native
     for zone, words in (
         (pytz.timezone("America/New_York"), "and not pytz America/New_York: pass the name"),
         (tz.gettz("America/New_York"), "and not dateutil tzfile: pass the name"),

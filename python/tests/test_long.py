@@ -7,7 +7,7 @@ import numpy as np
 import pytest
 
 import sahvumbi
-from sahvumbi import Zone, _door
+from sahvumbi import Zone, _native
 from sahvumbi._columns import BLOCK
 
 NAT = np.iinfo(np.int64).min
@@ -126,7 +126,7 @@ def test_each_row_of_a_fold_and_all_failures(expected):
 
 def test_a_column_in_many_calls(monkeypatch):
     """As one of millions of rows is asked."""
-    monkeypatch.setattr(_door, "ROWS", 777)
+    monkeypatch.setattr(_native, "ROWS", 777)
     zone = Zone("Europe/Dublin")
     for name, places in columns(DUBLIN):
         taken = DUBLIN.taken("shift", "latest")[places]

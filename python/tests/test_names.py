@@ -257,6 +257,23 @@ def test_files_that_end_early(tmp_path, count):
     assert of_file.value.number == of_bytes.value.number
 
 
+@pytest.mark.parametrize(
+    "text, position",
+    [("EST5EDT,M3.2.0,M13.1.0", 16), (" EST5EDT", 8), ("UTC", 3), ("UTC0\u00e9", 4), ("   ", 3)],
+)
+def test_a_fault_of_a_text_has_a_position(text, position):
+    with pytest.raises(sahvumbi.ZoneRefusedError, match=f"at offset {position}$") as raised:
+        Zone.from_text(text)
+    assert raised.value.position == position
+    assert pickle.loads(pickle.dumps(raised.value)).position == position
+
+
+def test_a_fault_of_a_file_has_no_position():
+    with pytest.raises(sahvumbi.ZoneRefusedError) as raised:
+        Zone.from_bytes(b"TZif")
+    assert raised.value.position is None
+
+
 @pytest.mark.parametrize("data", [5, "TZif", None, [84, 90]])
 def test_bytes_are_bytes(data):
     with pytest.raises(TypeError):

@@ -42,10 +42,38 @@ def test_a_gap_has_the_offset_before_it_and_the_one_after_it():
     assert skipped.replace(fold=1).tzname() == "EDT"
 
 
-def test_the_length_of_daylight_saving_time_is_not_known():
+# By the column SAVE of the tz database's rules (tzdata.zi).
+AMOUNTS = [
+    ("America/New_York", datetime(2021, 1, 1), 0),
+    ("America/New_York", datetime(2021, 7, 1), 60),
+    ("Europe/Dublin", datetime(2021, 1, 1), -60),
+    ("Europe/Dublin", datetime(2021, 7, 1), 0),
+    ("Australia/Lord_Howe", datetime(2021, 1, 1), 30),
+    ("Antarctica/Troll", datetime(2021, 7, 1), 120),
+    ("Europe/London", datetime(1941, 3, 1), 60),
+    ("Europe/London", datetime(1941, 6, 1), 120),
+    ("Africa/Casablanca", datetime(2019, 5, 20), -60),
+    ("Africa/Windhoek", datetime(2000, 7, 1), -60),
+    ("America/Argentina/Buenos_Aires", datetime(2000, 1, 1), 60),
+    ("Pacific/Rarotonga", datetime(1979, 1, 1), 30),
+]
+
+
+@pytest.mark.parametrize("name, local, minutes", AMOUNTS)
+def test_dst_is_the_amount_of_the_tz_database(name, local, minutes):
+    assert local.replace(tzinfo=Zone(name).tzinfo).dst() == timedelta(minutes=minutes)
+
+
+def test_dst_is_inferred():
+    # Clocks of Paris were two hours ahead of standard time (SAVE 2), and then an hour ahead of what came after.
+    assert datetime(1944, 9, 1, tzinfo=Zone("Europe/Paris").tzinfo).dst() == timedelta(hours=1)
+
+
+def test_dst_of_a_gap_and_a_fold_goes_by_the_fold():
     new_york = Zone("America/New_York").tzinfo
-    assert datetime(2021, 1, 1, tzinfo=new_york).dst() == timedelta(0)
-    assert datetime(2021, 7, 1, tzinfo=new_york).dst() is None
+    skipped, repeated = datetime(2021, 3, 14, 2, 30, tzinfo=new_york), datetime(2021, 11, 7, 1, 30, tzinfo=new_york)
+    assert skipped.dst() == timedelta(0) and skipped.replace(fold=1).dst() == timedelta(hours=1)
+    assert repeated.dst() == timedelta(hours=1) and repeated.replace(fold=1).dst() == timedelta(0)
 
 
 def test_it_is_pickled_and_compared_by_its_zone():

@@ -14,10 +14,10 @@ array(['2021-11-07T06:30:00.000'], dtype='datetime64[ms]')
 
 from ._changes import Changes, Time
 from ._compare import Comparison, ZoneGroup, compare
+from ._containers import Failures
 from ._days import Days
 from ._differences import Differences, Moved, moved
-from ._forms import Failures
-from ._many import localize_many, to_local_many
+from ._mixed_zones import localize_many, to_local_many
 from ._names import zones
 from ._types import LocalTypes, Spans, Times, WallClocks
 from ._version import __version__

@@ -48,11 +48,11 @@ def main() -> int:
     parser.add_argument("zone", nargs="?", help="its name, such as Europe/Paris")
     parser.add_argument("--version", action="version", version=f"sahvumbi {__version__}")
     parser.add_argument("--proof", action="store_true", help="print the record of the proof")
-    asked = parser.parse_args()
-    if asked.proof:
+    given = parser.parse_args()
+    if given.proof:
         print(proof())
         return 0
-    name = asked.zone
+    name = given.zone
     try:
         print(about() if name is None else clocks(Zone(name), int(time.time())))
     except (ZoneNotFoundError, ZoneRefusedError) as error:

@@ -8,7 +8,7 @@ from typing import TYPE_CHECKING, Any, Optional
 import numpy as np
 
 if TYPE_CHECKING:
-    from ._forms import Array
+    from ._containers import Array
 
 
 def is_arrow(values: Any) -> bool:

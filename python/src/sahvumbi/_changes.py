@@ -8,9 +8,9 @@ from typing import TYPE_CHECKING, Any, NamedTuple, Optional, Union
 import numpy as np
 
 from ._columns import GREATEST, Column
-from ._door import Door
-from ._forms import NAT, Array, SeriesForm, as_html
+from ._containers import NAT, Array, SeriesContainer, as_html, frame_of
 from ._inputs import taken
+from ._native import NativeZone
 from .errors import OUT_OF_RANGE, OutOfRangeError
 
 if TYPE_CHECKING:
@@ -51,21 +51,16 @@ class Changes(NamedTuple):
         0 2021-03-28 01:00:00+00:00 0 days 02:00:00       CEST
         1 2021-10-31 01:00:00+00:00 0 days 01:00:00        CET
         """
-        import pandas
-
-        frame = pandas.DataFrame(self._asdict())
-        if self.at.dtype.kind == "M":
-            frame["at"] = frame["at"].dt.tz_localize("UTC")
-        return frame
+        return frame_of(self, "at")
 
     def _repr_html_(self) -> Optional[str]:
         return as_html(self)
 
 
-def of_stretch(door: Door, begin: Time, end: Time) -> Changes:
+def of_stretch(native: NativeZone, begin: Time, end: Time) -> Changes:
     """The changes from `begin` on and before `end`."""
     first, last, is_time = ends_of_stretch(begin, end)
-    found = door.changes(first, last)
+    found = native.changes(first, last)
     offset_before, is_dst_before, name_before = columns_of(found["before"], is_time)
     offset_after, is_dst_after, name_after = columns_of(found["after"], is_time)
     return Changes(
@@ -110,7 +105,7 @@ def _end(name: str, value: Any) -> Column:
         raise OutOfRangeError(None, error.value, error.number, error.words, name) from None
     except TypeError as error:
         raise TypeError(f"{name}: {error}") from None
-    if column.form.shape or isinstance(column.form, SeriesForm):
+    if column.container.shape or isinstance(column.container, SeriesContainer):
         raise TypeError(f"{name} is one instant, and no column of them")
     return column
 

@@ -10,7 +10,7 @@ from zoneinfo import ZoneInfo
 import numpy as np
 
 from ._columns import Column
-from ._forms import NAT, Array, Failures, IndexForm, SeriesForm
+from ._containers import NAT, Array, Failures, IndexContainer, SeriesContainer
 from ._inputs import type_name
 from ._names import bytes_of_key, zoneinfo_of
 from ._opening import Zone
@@ -93,7 +93,7 @@ class Choice(NamedTuple):
         rows = rows[order]
         values = column.times_of(column.values[rows])
         numbers = numbers[order].astype(np.uint8)
-        return Failures(rows, values, numbers, column.form.labels(rows))
+        return Failures(rows, values, numbers, column.container.labels(rows))
 
 
 def chosen(
@@ -207,17 +207,17 @@ def _seconds(values: Array) -> Array:
 def row_by_row(name: str, values: Any, column: Column) -> Array:
     """An array with a value for each row, in the order of rows; `UNKNOWN` where there is none."""
     pandas = sys.modules.get("pandas")
-    form = column.form
+    container = column.container
     if pandas is not None and isinstance(values, pandas.Series):
-        is_series = isinstance(form, SeriesForm) and not isinstance(form, IndexForm)
-        if is_series and not values.index.equals(form.labels(slice(None))):
+        is_series = isinstance(container, SeriesContainer) and not isinstance(container, IndexContainer)
+        if is_series and not values.index.equals(container.labels(slice(None))):
             raise ValueError(f"{name}= has another index than the column")
     dtype: Any = getattr(values, "dtype", None)
     if pandas is not None and pandas.api.types.is_extension_array_dtype(dtype):
         if dtype.kind in "biu":
             values = values.astype("Int64").to_numpy(np.int64, na_value=UNKNOWN)
     array = np.asarray(values)
-    shape = column.form.shape
+    shape = column.container.shape
     if array.shape not in ((), shape):
         raise ValueError(f"{name}= has the shape {array.shape}, and the column {shape}")
     return np.broadcast_to(array, shape).reshape(-1)

@@ -1,4 +1,4 @@
-"""Columns of time: what users hand over as int64 in one dimension, and answers in its form.
+"""Columns of time: what users hand over as int64 in one dimension, and answers as they gave it.
 
 A column counts units since 1970-01-01 00:00:00: seconds in an array of integers, and the unit of
 the type in one of datetime64. Units longer than a second become seconds, since offsets are counted
@@ -12,8 +12,8 @@ from typing import Any, Iterator, Optional
 
 import numpy as np
 
-from ._door import COLUMN_UNITS
-from ._forms import EPOCH, NAT, Array, ArrayForm
+from ._containers import EPOCH, NAT, Array, ArrayContainer
+from ._native import COLUMN_UNITS
 from .errors import OUT_OF_RANGE, OutOfRangeError, RowError
 
 GREATEST = int(np.iinfo(np.int64).max)
@@ -55,15 +55,15 @@ class Column:
         self,
         values: Array,
         unit: Optional[str],
-        form: ArrayForm,
+        container: ArrayContainer,
         places: Optional[Array] = None,
     ):
-        self.values, self.unit, self.form, self.places = values, unit, form, places
+        self.values, self.unit, self.container, self.places = values, unit, container, places
         # The call that the column was handed to, which errors name.
         self.call: Optional[str] = None
         self.per_second = PER_SECOND[unit or "s"]
         self.is_time = unit is not None
-        self.has_nat = self.is_time if form.has_nat is None else form.has_nat
+        self.has_nat = self.is_time if container.has_nat is None else container.has_nat
 
     def __len__(self) -> int:
         return self.values.size
@@ -102,7 +102,7 @@ class Column:
     def part(self, places: Array) -> Column:
         """Returns the column of these rows."""
         mine = places if self.places is None else self.places[places]
-        part = Column(self.values[places], self.unit, self.form, mine)
+        part = Column(self.values[places], self.unit, self.container, mine)
         part.call = self.call
         return part
 
@@ -117,7 +117,7 @@ class Column:
         value = self.values[row]
         shown = value.astype(f"M8[{self.unit}]") if self.is_time else int(value)
         place = self.place(row)
-        error = kind(self.form.row(place), shown, number, words, self.form.label(place))
+        error = kind(self.container.row(place), shown, number, words, self.container.label(place))
         error.call = self.call
         return error
 
@@ -146,7 +146,7 @@ class Column:
 
     def _must_be_shown(self, values: Array, zone: Any) -> None:
         """Raises TypeError if the answer has no zone, and at a row that pandas would show wrong in it."""
-        if not self.is_time or type(self.form) is ArrayForm:
+        if not self.is_time or type(self.container) is ArrayContainer:
             raise TypeError("tz= is for a datetime and for times of pandas: an array and numbers have no zone")
         times = values[values != NAT]
         for instant in extremes(times) if times.size else ():
@@ -157,7 +157,7 @@ class Column:
 
     def _times(self, values: Array, zone: Any) -> Any:
         try:
-            return self.form.times(values, self.unit, zone)
+            return self.container.times(values, self.unit, zone)
         except OverflowError:
             words = "the answer does not fit datetime"
             raise self.error(OutOfRangeError, 0, OUT_OF_RANGE, words) from None
@@ -167,14 +167,14 @@ class Column:
         if not self.is_time:
             if self.has_nat:
                 seconds[is_nat] = np.iinfo(seconds.dtype).min
-            return self.form.numbers(seconds)
+            return self.container.numbers(seconds)
         lengths = seconds.astype(np.int64)
-        lengths *= PER_SECOND[self.form.length_unit]
+        lengths *= PER_SECOND[self.container.length_unit]
         lengths[is_nat] = NAT
-        return self.form.lengths(lengths.view(f"m8[{self.form.length_unit}]"))
+        return self.container.lengths(lengths.view(f"m8[{self.container.length_unit}]"))
 
     def plain(self, values: Array) -> Any:
-        return self.form.plain(values)
+        return self.container.plain(values)
 
 
 def _shown_at(second: int, zone: Any) -> int:

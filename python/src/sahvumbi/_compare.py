@@ -11,10 +11,8 @@ import numpy as np
 from ._changes import Time, ends_of_stretch
 from ._choice import chosen, factorized
 from ._differences import Differences, Moved, moved_rows, of_zones
-from ._forms import Array
 from ._inputs import taken
-from ._localize import localized
-from ._many import answered
+from ._mixed_zones import instants
 from ._types import Labels, Rows
 from .errors import ZoneError, ZoneNotFoundError, printable
 from .zone import Zone
@@ -65,7 +63,7 @@ class Comparison:
         for name in (name for name in before if name in after):
             try:
                 zones = Zone.from_file(before[name]), Zone.from_file(after[name])
-                found = of_zones(zones[0]._door, zones[1]._door, from_, to)
+                found = of_zones(zones[0]._native, zones[1]._native, from_, to)
             except (OSError, ZoneError) as error:
                 self.rejected[name] = error
                 continue
@@ -125,16 +123,11 @@ class Comparison:
         column = taken(local_times, "comparison.moved(s.index, zones)", may_be_aware=False)
         choice = chosen(column, gap, fold, is_dst, offset, by)
         codes, names = factorized("zones", zones, column)
-
-        def instants(folder: str) -> Array:
-            opened = [_zone_in(folder, name) for name in names]
-
-            def ask(zone: Zone, places: Array) -> Array:
-                return localized(zone._door, column.part(places), choice.part(places))
-
-            return answered(opened, codes, column, ask)
-
-        return moved_rows(column, instants(self.old), instants(self.new))
+        before, after = (
+            instants([_zone_in(folder, name) for name in names], codes, column, choice)
+            for folder in (self.old, self.new)
+        )
+        return moved_rows(column, before, after)
 
 
 def compare(old: Folder, new: Folder, from_: Time = FIRST, to: Time = LAST) -> Comparison:

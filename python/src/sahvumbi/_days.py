@@ -6,26 +6,25 @@ next day ends it. So each instant lies in one day, and a day that clocks skipped
 
 from __future__ import annotations
 
-from typing import TYPE_CHECKING, Any, NamedTuple, Union
+from typing import TYPE_CHECKING, Any, Iterator, NamedTuple, Union
 
 import numpy as np
 
-from ._asked import offsets_of, write_seconds
 from ._columns import FIRST_SECOND, GREATEST, LAST_SECOND, Block, Column
-from ._door import END_OF_RULE, LEAST, Door
-from ._forms import NAT, Array
+from ._containers import NAT, Array
+from ._lookups import write_seconds
+from ._native import LEAST, NativeZone
 from ._steps import DAY, DayCount, MonthCount, PartOfDay, PartOfSecond, SECOND, Step, step_of
 from .errors import GAP, OUT_OF_RANGE, GapError, OutOfRangeError
 
 if TYPE_CHECKING:
     import numpy.typing as npt
 
-# No two offsets differ by as much.
-FAR = 2**32
 # No second of a day: it is outside the calendar.
 NONE = GREATEST
-# Days that are listed for a column of few rows, and a day that no calendar reaches.
-FEW, NO_DAY = 64, 10**9
+# Days that are listed for a column of few rows, and for each row: to look days up takes less time than to find
+# the different ones among rows. A day that no calendar reaches.
+FEW, MORE, NO_DAY = 64, 4, 10**9
 EMPTY = "no clock of the zone shows a time of that day"
 OUTSIDE = "the day is outside the years -262143 to 262142"
 
@@ -41,17 +40,17 @@ class Days(NamedTuple):
     """The first instant of the next day."""
 
 
-def starts(door: Door, column: Column) -> Array:
+def starts(native: NativeZone, column: Column) -> Array:
     """Returns the first instant of the day of each local time."""
-    answers, beginnings = np.empty(len(column), np.int64), Beginnings(door, column)
+    answers, beginnings = np.empty(len(column), np.int64), Beginnings(native, column)
     for block in column.blocks():
         _write(block, beginnings.of(block.seconds // DAY), answers)
     return answers
 
 
-def ends(door: Door, column: Column) -> Array:
+def ends(native: NativeZone, column: Column) -> Array:
     """Returns the last instant of the day of each local time, in the unit of the column."""
-    answers, beginnings = np.empty(len(column), np.int64), Beginnings(door, column)
+    answers, beginnings = np.empty(len(column), np.int64), Beginnings(native, column)
     for block in column.blocks():
         numbers = block.seconds // DAY
         until = beginnings.of(numbers + 1)
@@ -67,71 +66,65 @@ def ends(door: Door, column: Column) -> Array:
     return answers
 
 
-def days(door: Door, column: Column) -> Any:
+def days(native: NativeZone, column: Column) -> Any:
     """Returns the day that each instant lies in."""
     date, start, until = (np.empty(len(column), np.int64) for _ in Days._fields)
-    beginnings = Beginnings(door, column)
-    for block in column.blocks():
-        numbers = beginnings.days_at(block)
+    beginnings = Beginnings(native, column)
+    for block in _blocks_in_calendar(column):
+        numbers = beginnings.days_at(block.seconds)
         _write(block, numbers * DAY, date)
         _write(block, beginnings.of(numbers), start)
         _write(block, beginnings.of(numbers + 1), until)
     # Each array is let go before the next answer is made.
     start = column.instants(start)
     until = column.instants(until)
-    return column.form.table(Days(column.local_times(date), start, until))
+    return column.container.table(Days(column.local_times(date), start, until))
 
 
-def floored(door: Door, column: Column, step: Step) -> Array:
+def floored(native: NativeZone, column: Column, step: Step) -> Array:
     """Returns the first instant of the step that each instant lies in."""
     parsed = step_of(step)
     if isinstance(parsed, PartOfSecond):
         return _floored_in_second(column, parsed)
-    answers, stretches = np.empty(len(column), np.int64), stretches_of(door, column, parsed)
-    for block in column.blocks():
-        _write(block, stretches.begun(block), answers)
+    answers, stretches = np.empty(len(column), np.int64), stretches_of(native, column, parsed)
+    for block in _blocks_in_calendar(column):
+        _write(block, stretches.begun(block.seconds), answers)
     return answers
 
 
-def ceiled(door: Door, column: Column, step: Step) -> Array:
+def ceiled(native: NativeZone, column: Column, step: Step) -> Array:
     """Returns the first instant of a step that does not come before each instant."""
     parsed = step_of(step)
     if isinstance(parsed, PartOfSecond):
         return _ceiled_in_second(column, parsed)
-    answers, stretches = np.empty(len(column), np.int64), stretches_of(door, column, parsed)
-    for block in column.blocks():
-        seconds = stretches.begun(block)
-        is_within = seconds < block.seconds
-        if column.per_second > 1:
-            is_within |= block.counted % column.per_second != 0
-        if is_within.any():
-            seconds = np.where(is_within, stretches.ended(block), seconds)
-        _write(block, seconds, answers)
+    answers, stretches = np.empty(len(column), np.int64), stretches_of(native, column, parsed)
+    for block in _blocks_in_calendar(column):
+        # The first step after the unit before the instant.
+        _write(block, stretches.ended((block.counted - 1) // column.per_second), answers)
     return answers
 
 
-def rounded(door: Door, column: Column, step: Step) -> Array:
+def rounded(native: NativeZone, column: Column, step: Step) -> Array:
     """Returns the nearest first instant of a step; the later of two that are equally near."""
-    earlier, later = floored(door, column, step), ceiled(door, column, step)
+    earlier, later = floored(native, column, step), ceiled(native, column, step)
     before, after = column.values - earlier, later - column.values
     return np.where(before < after, earlier, later)
 
 
 def stretches_of(
-    door: Door, column: Column, step: Union[PartOfDay, DayCount, MonthCount]
-) -> Union[Periods, Steps]:
+    native: NativeZone, column: Column, step: Union[PartOfDay, DayCount, MonthCount]
+) -> Union[Periods, Parts]:
     """Returns the days of the zone, or the shorter steps of its clocks."""
     if isinstance(step, PartOfDay):
-        return Steps(door, column, step.seconds)
-    return Periods(Beginnings(door, column), step)
+        return Parts(native, column, step.seconds)
+    return Periods(Beginnings(native, column), step)
 
 
 def _floored_in_second(column: Column, step: PartOfSecond) -> Array:
     """An offset has whole seconds, so such a step begins in every zone at the same instants."""
     answers, units = np.empty(len(column), np.int64), _units_of(column, step)
     least = -((-NAT - column.has_nat) // units) * units
-    for block in column.blocks():
-        _must_be_in_calendar(block)
+    for block in _blocks_in_calendar(column):
         _must_fit(block, block.counted < least)
         np.subtract(block.counted, block.counted % units, out=answers[block.rows])
         block.keep_nat(answers)
@@ -140,8 +133,7 @@ def _floored_in_second(column: Column, step: PartOfSecond) -> Array:
 
 def _ceiled_in_second(column: Column, step: PartOfSecond) -> Array:
     answers, units = np.empty(len(column), np.int64), _units_of(column, step)
-    for block in column.blocks():
-        _must_be_in_calendar(block)
+    for block in _blocks_in_calendar(column):
         _must_fit(block, block.counted > GREATEST // units * units)
         np.add(block.counted, -block.counted % units, out=answers[block.rows])
         block.keep_nat(answers)
@@ -163,39 +155,49 @@ def _units_of(column: Column, step: PartOfSecond) -> int:
 
 
 class Beginnings:
-    """The first second of each day. All days of a column are listed at first, if it has not fewer rows."""
+    """The first second of each day. All days of a column are listed at first, if there are no more than `FEW` or
+    `MORE` for each row."""
 
-    def __init__(self, door: Door, column: Column):
-        self.door = door
+    def __init__(self, native: NativeZone, column: Column):
+        self.native = native
         least, greatest = column.ends()
         # Offsets are less than two days, but for zones that no one keeps.
         self.first, count = least // DAY - 2, (greatest - least) // DAY + 6
-        days = np.arange(self.first, self.first + (count if count <= max(FEW, len(column)) else 0))
-        self.listed = self._asked(days)
+        days = np.arange(self.first, self.first + (count if count <= max(FEW, MORE * len(column)) else 0))
+        self.listed = self._looked_up(days)
 
     def of(self, days: Array) -> Array:
         """Returns the first second of each day, or `NONE` if that is outside the calendar."""
         places, seconds = days - self.first, self.listed
         if int(places.min()) < 0 or int(places.max()) >= seconds.size:
             found, places = np.unique(days, return_inverse=True)
-            seconds = self._asked(found)
+            seconds = self._looked_up(found)
         chosen: Array = seconds[places]
         return chosen
 
-    def _asked(self, days: Array) -> Array:
+    def _looked_up(self, days: Array) -> Array:
         midnights = np.clip(days, -NO_DAY, NO_DAY) * DAY
-        reached = self.door.first_at_or_after(midnights)
+        reached = self.native.first_at_or_after(midnights)
         return np.where(reached["number"] == 0, reached["instant"], NONE)
 
-    def days_at(self, block: Block) -> Array:
-        """Returns the day that each instant lies in, counted from 1970-01-01."""
-        local = _local_seconds(self.door, block)
-        days = local // DAY
+    def days_at(self, seconds: Array) -> Array:
+        """Returns the day that each second lies in, counted from 1970-01-01: the last one that has begun."""
+        days: Array = _local_seconds(self.native, seconds) // DAY
         # Clocks that were set back over midnight show the day before for a while.
-        back = np.flatnonzero(self.of(days + 1) <= block.seconds)
+        back = np.flatnonzero(self.of(days + 1) <= seconds)
         if back.size:
-            shown = _latest_shown(self.door, block.seconds[back], local[back])
-            days[back] = shown // DAY
+            days[back] = self._last_begun(days[back], seconds[back])
+        return days
+
+    def _last_begun(self, days: Array, seconds: Array) -> Array:
+        """The last day that has begun at each second: one of `days` has, and none begins before an earlier one."""
+        days, step = days.copy(), 1
+        while (has_begun := self.of(days + step) <= seconds).any():
+            days[has_begun] += step
+            step *= 2
+        while step > 1:
+            step //= 2
+            days[self.of(days + step) <= seconds] += step
         return days
 
 
@@ -205,122 +207,98 @@ class Periods:
     def __init__(self, beginnings: Beginnings, step: Union[DayCount, MonthCount]):
         self.beginnings, self.step = beginnings, step
 
-    def begun(self, block: Block) -> Array:
-        """Returns the first second of the step that each instant lies in."""
-        return self.beginnings.of(self.step.first_day(self.beginnings.days_at(block)))
+    def begun(self, seconds: Array) -> Array:
+        """Returns the first second of the step that each second lies in."""
+        return self.beginnings.of(self.step.first_day(self.beginnings.days_at(seconds)))
 
-    def ended(self, block: Block) -> Array:
+    def ended(self, seconds: Array) -> Array:
         """Returns the first second of the step after that."""
-        first = self.step.first_day(self.beginnings.days_at(block))
+        first = self.step.first_day(self.beginnings.days_at(seconds))
         return self.beginnings.of(self.step.next_first(first))
 
 
-class Steps:
-    """The stretches in which clocks show local times of one step, each a whole part of a day.
+class Parts:
+    """Steps that are a whole part of a day: the stretches in which clocks show local times of one step.
 
-    Clocks that are set back to the step before begin it again; a stretch goes on over a change
-    after which they show the same step."""
+    One begins when clocks show a multiple of the step, or another step than at the second before. So clocks
+    that are set back to the step before begin it again, and a stretch goes on over a change after which they
+    show the same step."""
 
-    def __init__(self, door: Door, column: Column, step: int):
-        self.door, self.step = door, step
+    def __init__(self, native: NativeZone, column: Column, step: int):
+        self.native, self.step = native, step
         least, greatest = column.ends()
-        at = self._turns(least - step, greatest + step)["at"]
-        self.is_near = at.size > 1 and int(np.diff(at).min()) < step
-        self.at = at
+        self.changes = self._listed(least, greatest, step + 1)
 
-    def begun(self, block: Block) -> Array:
-        """Returns the first second of the stretch that each instant lies in."""
-        floors, offsets = self._shown(block)
-        begun: Array = floors - offsets
-        late = self._apart(block, begun, offsets)
-        if late.size:
-            begun[late] = self._walked(block.seconds[late], floors[late], begun[late], 2 * FAR)
+    def begun(self, seconds: Array) -> Array:
+        """Returns the first second of the stretch that each second lies in."""
+        begun: Array = seconds - _local_seconds(self.native, seconds) % self.step
+        last = np.searchsorted(self.changes.at, seconds, "right") - 1
+        late = np.flatnonzero(begun < self.changes.at[last])
+        begun[late] = self.changes.begun[last[late]]
         return begun
 
-    def ended(self, block: Block) -> Array:
+    def ended(self, seconds: Array) -> Array:
         """Returns the first second of the stretch after that."""
-        floors, offsets = self._shown(block)
-        ended: Array = floors + self.step - offsets
-        early = self._apart(block, ended, offsets)
-        if early.size:
-            found, rows = np.unique(block.seconds[early], return_inverse=True)
-            ended[early] = np.array([self._end(int(second)) for second in found])[rows]
+        ended: Array = seconds - _local_seconds(self.native, seconds) % self.step + self.step
+        following = np.searchsorted(self.changes.at, seconds, "right")
+        early = np.flatnonzero(ended >= self.changes.at[following])
+        ended[early] = self.changes.following[following[early]]
         return ended
 
-    def _shown(self, block: Block) -> tuple[Array, Array]:
-        """The step that clocks show at each instant, and the offset."""
-        local = _local_seconds(self.door, block)
-        return local // self.step * self.step, local - block.seconds
-
-    def _apart(self, block: Block, seconds: Array, offsets: Array) -> Array:
-        """The rows in which the offset changes between an instant and another second."""
-        if not self.is_near:
-            return np.flatnonzero(self.door.offsets(seconds) != offsets)
-        turns = (np.searchsorted(self.at, each, "right") for each in (block.seconds, seconds))
-        return np.flatnonzero(np.not_equal(*turns))
-
-    def _end(self, second: int) -> int:
-        """Goes on from change to change while clocks show the same step after it."""
-        shown = None
-        while True:
-            span = self.door.span(second)
-            offset, until = int(span["local_type"]["offset"][0]), int(span["until"][0])
-            step, part = divmod(second + offset, self.step)
-            if shown is not None and (step != shown or part == 0):
-                return second
-            end = second - part + self.step
-            if end < until or until == END_OF_RULE:
-                return end
-            second, shown = until, step
-
-    def _walked(self, seconds: Array, floors: Array, begun: Array, window: int) -> Array:
-        """Goes back from change to change while clocks show the same step before it."""
-        low = max(int(seconds.min()) - window, LEAST)
-        turns = self._turns(low, int(seconds.max()) + 1)
-        at, before = turns["at"], turns["before"]["offset"].astype(np.int64)
-        found, come = begun.copy(), np.searchsorted(at, seconds, "right") - 1
-        rows = np.arange(seconds.size)
-        while True:
-            rows = rows[come[rows] >= 0]
-            rows = rows[found[rows] < at[come[rows]]]
-            if not rows.size:
-                break
-            turn = come[rows]
-            is_same = (at[turn] - 1 + before[turn]) // self.step * self.step == floors[rows]
-            found[rows] = np.where(is_same, floors[rows] - before[turn], at[turn])
-            rows = rows[is_same]
-            come[rows] -= 1
-        if low > LEAST and int(found.min()) < low:
-            return self._walked(seconds, floors, begun, 2 * window)
+    def _listed(self, least: int, greatest: int, around: int) -> StepChanges:
+        """The changes of offset among these seconds and around them, as far as their steps reach."""
+        low, high = max(least - around, FIRST_SECOND), min(greatest + around, LAST_SECOND + DAY)
+        changes = self.native.changes(low, high)
+        changes = changes[changes["before"]["offset"] != changes["after"]["offset"]]
+        found = StepChanges.of(changes, self.step)
+        if changes.size:
+            # A step that goes on over the first of them may begin before an earlier one, and likewise at the end.
+            is_early = low > FIRST_SECOND and found.begun[1] < low
+            if is_early or (high <= LAST_SECOND and found.following[-2] >= high):
+                return self._listed(least, greatest, 2 * around)
         return found
 
-    def _turns(self, low: int, high: int) -> Array:
-        """The changes of offset from a second on and before another."""
-        changes = self.door.changes(max(low, FIRST_SECOND), min(high, LAST_SECOND + DAY))
-        is_turn = changes["before"]["offset"] != changes["after"]["offset"]
-        turns: Array = changes[is_turn]
-        return turns
+
+class StepChanges(NamedTuple):
+    """Changes of offset, between a first one and a last one that never come."""
+
+    at: Array
+    begun: Array
+    """The last second up to each at which a step begins."""
+    following: Array
+    """The first second from each on at which a step begins."""
+
+    @classmethod
+    def of(cls, changes: Array, step: int) -> StepChanges:
+        at = np.concatenate([[LEAST], changes["at"], [GREATEST]])
+        begun, following = at.copy(), at.copy()
+        before = changes["at"] - 1 + changes["before"]["offset"]
+        after = changes["at"] + changes["after"]["offset"]
+        is_same = (before // step == after // step) & (after % step != 0)
+        goes_on = [1 + int(place) for place in np.flatnonzero(is_same)]
+        for change in goes_on:
+            first = int(at[change]) - 1 - int(before[change - 1]) % step
+            begun[change] = first if first >= at[change - 1] else begun[change - 1]
+        for change in reversed(goes_on):
+            first = int(at[change]) + -int(after[change - 1]) % step
+            following[change] = first if first < at[change + 1] else following[change + 1]
+        return cls(at, begun, following)
 
 
-def _local_seconds(door: Door, block: Block) -> Array:
-    """The second that clocks show at each instant. Raises at a row outside the calendar."""
-    _must_be_in_calendar(block)
-    return block.seconds + offsets_of(door, block)
+def _local_seconds(native: NativeZone, seconds: Array) -> Array:
+    """The second that clocks show at each second of the calendar."""
+    local = np.empty(seconds.size, np.int64)
+    native.local_times(1, seconds, local)
+    return local
 
 
-def _must_be_in_calendar(block: Block) -> None:
-    outside = block.outside(FIRST_SECOND, LAST_SECOND)
-    if outside.size:
-        _raise_outside(block, outside)
-
-
-def _latest_shown(door: Door, seconds: Array, local: Array) -> Array:
-    """The latest local time that clocks have shown up to each of these seconds."""
-    changes = door.changes(int(seconds.min()) - FAR, int(seconds.max()) + 1)
-    shown = np.maximum.accumulate(changes["at"] - 1 + changes["before"]["offset"])
-    come = np.searchsorted(changes["at"], seconds, side="right")
-    latest: Array = np.maximum(local, shown[come - 1])
-    return latest
+def _blocks_in_calendar(column: Column) -> Iterator[Block]:
+    """The blocks of a column. Raises at a row outside the calendar."""
+    for block in column.blocks():
+        outside = block.outside(FIRST_SECOND, LAST_SECOND)
+        if outside.size:
+            _raise_outside(block, outside)
+        yield block
 
 
 def _raise_outside(block: Block, places: Array) -> None:

@@ -9,11 +9,11 @@ import numpy as np
 from ._changes import Time, columns_of, ends_of_stretch, seconds_of
 from ._choice import chosen
 from ._columns import Column
-from ._door import Door
-from ._forms import Array, as_html
+from ._containers import Array, as_html, frame_of
 from ._inputs import taken
 from ._library import NO_OFFSET
 from ._localize import localized
+from ._native import NativeZone
 from ._opening import Zone
 from ._types import Labels, Rows
 from .errors import NO_OFFSET as HAS_NO_OFFSET
@@ -50,12 +50,7 @@ class Differences(NamedTuple):
 
     def to_frame(self) -> pandas.DataFrame:
         """Returns a DataFrame with a row for each stretch; ends are in UTC if they are times."""
-        import pandas
-
-        frame = pandas.DataFrame(self._asdict())
-        for name in ("from_", "until") if self.from_.dtype.kind == "M" else ():
-            frame[name] = frame[name].dt.tz_localize("UTC")
-        return frame
+        return frame_of(self, "from_", "until")
 
     def _repr_html_(self) -> Optional[str]:
         return as_html(self)
@@ -81,36 +76,29 @@ class Moved(NamedTuple):
 
     def to_frame(self) -> pandas.DataFrame:
         """Returns a DataFrame with a row for each of them, labelled as in the column."""
-        import pandas
-
-        columns = self._asdict()
-        del columns["label"]
-        frame = pandas.DataFrame(columns, index=self.label)
-        for name in ("old", "new") if self.value.dtype.kind == "M" else ():
-            frame[name] = frame[name].dt.tz_localize("UTC")
-        return frame
+        return frame_of(self, "old", "new")
 
     def _repr_html_(self) -> Optional[str]:
         return as_html(self)
 
 
-def door_of(zone: Any) -> Door:
-    """The door of a zone. Raises TypeError if it is none."""
+def native_of(zone: Any) -> NativeZone:
+    """The open zone of a Zone. Raises TypeError if it is none."""
     if not isinstance(zone, Zone):
         raise TypeError(f"a {type(zone).__name__} is no Zone")
-    return zone._door
+    return zone._native
 
 
-def of_zones(old: Door, new: Door, from_: Time, to: Time) -> Differences:
+def of_zones(old: NativeZone, new: NativeZone, from_: Time, to: Time) -> Differences:
     """The stretches from `from_` on and before `to` in which the types of two zones differ."""
     begin, end, is_time = ends_of_stretch(from_, to)
     first = np.array([begin] if begin < end else [], np.int64)
-    for door in (old, new):
-        _must_have_types(door, {"from_": first, "to": first + (end - 1 - begin)})
-    changes = [door.changes(min(begin + 1, end), end) for door in (old, new)]
+    for native in (old, new):
+        _must_have_types(native, {"from_": first, "to": first + (end - 1 - begin)})
+    changes = [native.changes(min(begin + 1, end), end) for native in (old, new)]
     cuts = np.unique(np.concatenate([first, *(found["at"] for found in changes)]))
     before, after = (
-        _types_at(door, first, found, cuts) for door, found in zip((old, new), changes)
+        _types_at(native, first, found, cuts) for native, found in zip((old, new), changes)
     )
     differ = before != after
     offset_old, is_dst_old, name_old = columns_of(before[differ], is_time)
@@ -127,16 +115,16 @@ def of_zones(old: Door, new: Door, from_: Time, to: Time) -> Differences:
     )
 
 
-def _types_at(door: Door, first: Array, changes: Array, seconds: Array) -> Array:
+def _types_at(native: NativeZone, first: Array, changes: Array, seconds: Array) -> Array:
     """The types at seconds, by the one at the first of them and the changes after it."""
-    types = np.concatenate([door.types(first), changes["after"]])
+    types = np.concatenate([native.types(first), changes["after"]])
     found: Array = types[np.searchsorted(changes["at"], seconds, "right")]
     return found
 
 
-def _must_have_types(door: Door, ends: dict[str, Array]) -> None:
+def _must_have_types(native: NativeZone, ends: dict[str, Array]) -> None:
     for name, second in ends.items():
-        if (door.offsets(second) == NO_OFFSET).any():
+        if (native.offsets(second) == NO_OFFSET).any():
             raise NoOffsetError(None, int(second[0]), HAS_NO_OFFSET, label=name)
 
 
@@ -166,7 +154,7 @@ def moved(
     """
     column = taken(local_times, "moved(old, new, s.index)", may_be_aware=False)
     choice = chosen(column, gap, fold, is_dst, offset, by)
-    before, after = (localized(door_of(zone), column, choice) for zone in (old, new))
+    before, after = (localized(native_of(zone), column, choice) for zone in (old, new))
     return moved_rows(column, before, after)
 
 
@@ -176,4 +164,4 @@ def moved_rows(column: Column, before: Array, after: Array) -> Moved:
     value, before, after = (
         column.times_of(values[rows]) for values in (column.values, before, after)
     )
-    return Moved(rows, value, before, after, column.form.labels(rows))
+    return Moved(rows, value, before, after, column.container.labels(rows))

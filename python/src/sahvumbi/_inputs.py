@@ -10,18 +10,18 @@ import numpy as np
 
 from ._arrow import array_of, is_arrow, values_of
 from ._columns import GREATEST, Column
-from ._forms import (
+from ._containers import (
     EPOCH,
     NAT,
     Array,
-    ArrayForm,
-    ArrowForm,
-    ArrowIndexForm,
-    ArrowSeriesForm,
-    DatetimeForm,
-    IndexForm,
-    SeriesForm,
-    TimestampForm,
+    ArrayContainer,
+    ArrowContainer,
+    ArrowIndexContainer,
+    ArrowSeriesContainer,
+    DatetimeContainer,
+    IndexContainer,
+    SeriesContainer,
+    TimestampContainer,
 )
 from .errors import OUT_OF_RANGE, OutOfRangeError, RowError
 
@@ -112,7 +112,7 @@ def _of_list(values: Any) -> Column:
         if all(isinstance(each, (int, np.integer)) for each in numbers.flat):
             # No type of numpy has them all.
             misfits = (numbers < NAT) | (numbers > GREATEST)
-            _must_fit(numbers, misfits.reshape(-1), "int64", ArrayForm(array.shape))
+            _must_fit(numbers, misfits.reshape(-1), "int64", ArrayContainer(array.shape))
     return _of_array(array)
 
 
@@ -126,11 +126,11 @@ def _of_datetime(pandas: Any, value: datetime, may_be_aware: bool) -> Column:
             # One of pandas 2 may count seconds. Its day ends with a nanosecond, as in pandas 1.
             moment = moment.astype("M8[ns]")
         column = _of_array(np.asarray(moment))
-        column.form = TimestampForm()
+        column.container = TimestampContainer()
         return column
     since = value.replace(tzinfo=None) - EPOCH - (value.utcoffset() or timedelta(0))
     count = since // timedelta(microseconds=1)
-    return Column(np.array([count], np.int64), "us", DatetimeForm())
+    return Column(np.array([count], np.int64), "us", DatetimeContainer())
 
 
 # Series and Indexes
@@ -150,26 +150,26 @@ def _must_have_times(pandas: Any, values: Any, line: str) -> None:
 def _of_pandas(pandas: Any, values: Any, may_be_aware: bool) -> Column:
     is_index = isinstance(values, pandas.Index)
     kind = "an Index" if is_index else "a Series"
-    form = IndexForm if is_index else SeriesForm
+    container = IndexContainer if is_index else SeriesContainer
     dtype = values.dtype
     if isinstance(dtype, np.dtype) and dtype != object:
-        return _of_array(values.values, form(values))
+        return _of_array(values.values, container(values))
     if isinstance(dtype, pandas.DatetimeTZDtype):
         if not may_be_aware:
             drop = "tz_localize(None)" if is_index else "dt.tz_localize(None)"
             raise TypeError(f"local times have no zone, and these are {dtype}: {drop} removes it")
-        return _of_array(values.values, form(values))
+        return _of_array(values.values, container(values))
     if isinstance(dtype, pandas.PeriodDtype):
         gives = "to_timestamp()" if is_index else "dt.to_timestamp()"
         raise TypeError(f"{kind} of {dtype} is no column of time: {gives} gives the local time of each start")
     if isinstance(dtype, pandas.StringDtype):
         raise TypeError(f"{kind} of texts is no column of time: pandas.to_datetime reads them")
     if isinstance(dtype, getattr(pandas, "ArrowDtype", ())):
-        of_arrow = ArrowIndexForm if is_index else ArrowSeriesForm
+        of_arrow = ArrowIndexContainer if is_index else ArrowSeriesContainer
         return _of_arrow(array_of(values.array.__arrow_array__()), of_arrow(values), may_be_aware)
     if pandas.api.types.is_extension_array_dtype(dtype):
         if pandas.api.types.is_integer_dtype(dtype) and hasattr(dtype, "numpy_dtype"):
-            return _of_nullable(values, form(values, has_nat=True))
+            return _of_nullable(values, container(values, has_nat=True))
         raise TypeError(
             f"{kind} of {dtype} is no column of time: astype gives datetime64, int64 or Int64"
         )
@@ -180,45 +180,45 @@ def _of_pandas(pandas: Any, values: Any, may_be_aware: bool) -> Column:
     )
 
 
-def _of_nullable(values: Any, form: ArrayForm) -> Column:
+def _of_nullable(values: Any, container: ArrayContainer) -> Column:
     """A column of nullable integers, with the least int64 for NA."""
     is_missing = np.asarray(values.isna())
     numbers = values.to_numpy(dtype=values.dtype.numpy_dtype, na_value=0)
-    column = _of_array(numbers, form)
-    _must_fit(numbers, column.values == NAT, "Int64 beside NA", form)
+    column = _of_array(numbers, container)
+    _must_fit(numbers, column.values == NAT, "Int64 beside NA", container)
     column.values = np.where(is_missing, NAT, column.values)
     return column
 
 
-def _of_arrow(array: Any, form: Optional[ArrayForm], may_be_aware: bool) -> Column:
+def _of_arrow(array: Any, container: Optional[ArrayContainer], may_be_aware: bool) -> Column:
     """A column of Arrow, with the least int64 for what is missing."""
     values, unit, missing = values_of(array, may_be_aware)
-    form = form or ArrowForm((values.size,))
+    container = container or ArrowContainer((values.size,))
     is_nat = values == NAT
     is_nat[missing] = False
-    _must_fit(values, is_nat, "a column with missing values", form)
+    _must_fit(values, is_nat, "a column with missing values", container)
     if missing.size:
         values = values.copy()
         values[missing] = NAT
-    return Column(values, unit, form)
+    return Column(values, unit, container)
 
 
 # Arrays
 
 
-def _of_array(array: Array, form: Optional[ArrayForm] = None) -> Column:
+def _of_array(array: Array, container: Optional[ArrayContainer] = None) -> Column:
     """An array of int64 or datetime64 that the calls take as it is, is not copied."""
-    form = form or ArrayForm(array.shape)
+    container = container or ArrayContainer(array.shape)
     kind = array.dtype.kind
     if kind == "M":
-        return _of_datetime64(array, form)
+        return _of_datetime64(array, container)
     if kind not in "iu":
         raise TypeError(f"an array of {array.dtype} is no column of time: {_of_type(kind)}")
     if array.dtype.newbyteorder("=") == np.uint64:
         values = _laid_out(array, "=u8")
-        _must_fit(array, values > np.uint64(GREATEST), "int64", form)
-        return Column(values.view(np.int64), None, form)
-    return Column(_laid_out(array, "=i8"), None, form)
+        _must_fit(array, values > np.uint64(GREATEST), "int64", container)
+        return Column(values.view(np.int64), None, container)
+    return Column(_laid_out(array, "=i8"), None, container)
 
 
 def _of_type(kind: str) -> str:
@@ -237,7 +237,7 @@ def _laid_out(array: Array, dtype: Any) -> Array:
     return array.reshape(-1)
 
 
-def _of_datetime64(array: Array, form: ArrayForm) -> Column:
+def _of_datetime64(array: Array, container: ArrayContainer) -> Column:
     unit, count = np.datetime_data(array.dtype)
     if unit == "generic":
         raise TypeError("datetime64 without a unit: datetime64[s] has one")
@@ -247,24 +247,24 @@ def _of_datetime64(array: Array, form: ArrayForm) -> Column:
     else:
         factor, base = count * SECONDS.get(unit, 1), "s" if unit in SECONDS else unit
         if factor == 1:
-            return Column(values, base, form)
+            return Column(values, base, container)
         most = GREATEST // factor
     is_nat = values == NAT
     misfits = ((values > most) | (values < -most)) & ~is_nat
-    _must_fit(array, misfits, f"datetime64[{base}]", form)
+    _must_fit(array, misfits, f"datetime64[{base}]", container)
     counted = np.where(is_nat, 0, values)
     if unit in MOST:
         counted = (counted * count).view(f"M8[{unit}]").astype("M8[s]").view(np.int64)
     else:
         counted *= factor
     counted[is_nat] = NAT
-    return Column(counted, base, form)
+    return Column(counted, base, container)
 
 
-def _must_fit(array: Array, misfits: Array, what: str, form: ArrayForm) -> None:
+def _must_fit(array: Array, misfits: Array, what: str, container: ArrayContainer) -> None:
     if misfits.any():
         row = int(misfits.argmax())
         value = array.reshape(-1)[row]
         shown = value if array.dtype.kind == "M" else int(value)
         words = f"it does not fit {what}"
-        raise OutOfRangeError(form.row(row), shown, OUT_OF_RANGE, words, form.label(row))
+        raise OutOfRangeError(container.row(row), shown, OUT_OF_RANGE, words, container.label(row))

@@ -10,7 +10,7 @@ import ctypes
 import platform
 from ctypes import c_char, c_char_p, c_int32, c_int64, c_size_t, c_uint32, c_void_p
 from pathlib import Path
-from typing import Any
+from typing import Any, Optional
 
 import numpy as np
 
@@ -21,7 +21,7 @@ FILE, TEXT, EXTENDED_STRING = range(3)
 #: How often a local time is shown: `zoned_shown`.
 NEVER, ONCE, SEVERAL_TIMES, OUT_OF_RANGE = range(4)
 #: What is taken for a local time in a gap, `zoned_gap`, and for one in a fold, `zoned_fold`.
-GAP_REFUSE, GAP_SHIFT_FORWARD, GAP_END = range(3)
+GAP_REFUSE, GAP_SHIFT_FORWARD, GAP_END, GAP_SHIFT_BACKWARD = range(4)
 FOLD_REFUSE, FOLD_EARLIEST, FOLD_LATEST = range(3)
 #: What calls return: `zoned_number`.
 IN_GAP, IN_FOLD, INSTANT_OUT_OF_RANGE = 21, 22, 23
@@ -79,6 +79,18 @@ class Resolved(ctypes.Structure):
     _fields_ = [("number", c_uint32), ("offset", c_int32), ("instant", c_int64)]
 
 
+class Saving(ctypes.Structure):
+    """`zoned_saving`: the standard offset, and the amount of daylight saving time."""
+
+    _fields_ = [("standard_offset", c_int64), ("amount", c_int64)]
+
+
+class Day(ctypes.Structure):
+    """`zoned_day`: the local time of a day's midnight, its first second, and that of the next day."""
+
+    _fields_ = [("date", c_int64), ("begin", c_int64), ("end", c_int64)]
+
+
 def _dtype_of(struct: type[ctypes.Structure]) -> np.dtype[Any]:
     """numpy's type of a struct; an array of `char` is bytes of that length."""
     names, formats, offsets = [], [], []
@@ -111,6 +123,7 @@ CALLS: dict[str, list[Any]] = {
     "zoned_zone_offsets": [*_ZONE, *_ARRAY, *_ARRAY],
     "zoned_zone_types": [*_ZONE, *_ARRAY, *_ARRAY],
     "zoned_zone_wall_clocks": [*_ZONE, *_ARRAY, *_ARRAY],
+    "zoned_zone_firsts_at_or_after": [*_ZONE, *_ARRAY, *_ARRAY],
     "zoned_zone_instants": [*_ZONE, c_uint32, c_uint32, *_ARRAY, *_ARRAY],
     "zoned_zone_next_change": [*_ZONE, c_int64, c_void_p],
     "zoned_zone_changes": [*_ZONE, c_int64, c_int64, c_size_t, *_ARRAY, c_void_p],
@@ -119,11 +132,13 @@ CALLS: dict[str, list[Any]] = {
 }
 #: Calls about one value, with the types of what they take.
 BRIEF_CALLS: dict[str, list[Any]] = {
+    "zoned_zone_day": [*_ZONE, c_int64, c_void_p],
     "zoned_zone_first_at_or_after": [*_ZONE, c_int64, c_void_p],
-    "zoned_zone_gap": [*_ZONE, c_int64, c_void_p],
+    "zoned_zone_local_change": [*_ZONE, c_int64, c_void_p],
     "zoned_zone_offset": [*_ZONE, c_int64, c_void_p],
     "zoned_zone_reached": [*_ZONE, c_int64, c_void_p],
     "zoned_zone_span": [*_ZONE, c_int64, c_void_p],
+    "zoned_zone_standard_offset": [*_ZONE, c_int64, c_void_p],
     "zoned_zone_type": [*_ZONE, c_int64, c_void_p],
     "zoned_zone_wall_clock": [*_ZONE, c_int64, c_void_p],
 }
@@ -167,17 +182,25 @@ def _loaded() -> tuple[ctypes.CDLL, ctypes.PyDLL]:
     except OSError as error:
         raise ImportError(f"{PATH} can't be loaded, see python/README.md: {error}") from error
     brief = ctypes.PyDLL(str(PATH))
-    for door, calls in ((library, CALLS), (brief, BRIEF_CALLS)):
+    for loaded, calls in ((library, CALLS), (brief, BRIEF_CALLS)):
         for name, arguments in calls.items():
-            call = getattr(door, name)
+            call = getattr(loaded, name)
             call.argtypes, call.restype = arguments, c_uint32
     library.zoned_close.argtypes, library.zoned_close.restype = [c_void_p], None
+    library.zoned_fault_position.argtypes = [c_uint32, c_char_p, c_size_t]
+    library.zoned_fault_position.restype = c_size_t
     library.zoned_error_text.argtypes = [c_uint32, c_char_p, c_size_t]
     library.zoned_error_text.restype = c_size_t
     return library, brief
 
 
 LIBRARY, BRIEF = _loaded()
+
+
+def position_of(kind: int, data: bytes) -> Optional[int]:
+    """Returns how many bytes are in front of the fault of a TZ string; None if it has none."""
+    position: int = LIBRARY.zoned_fault_position(kind, data, len(data))
+    return None if position == c_size_t(-1).value else position
 
 
 def words_of(number: int) -> str:

@@ -8,21 +8,22 @@ import numpy as np
 
 from ._choice import Choice, Fault
 from ._columns import BLOCK, FIRST_SECOND, LAST_SECOND, NO_ROWS, Block, Column
-from ._door import Door
-from ._forms import NAT, Array
+from ._containers import NAT, Array
+from ._fold_order import Folds, decide
 from ._library import (
     FOLD_EARLIEST,
     FOLD_LATEST,
     FOLD_REFUSE,
     GAP_END,
     GAP_REFUSE,
+    GAP_SHIFT_BACKWARD,
     GAP_SHIFT_FORWARD,
     NEVER,
     ONCE,
     OUT_OF_RANGE,
     SEVERAL_TIMES,
 )
-from ._order import Folds, decide
+from ._native import NativeZone
 from .errors import FOLD, GAP, WORDS
 from .errors import OUT_OF_RANGE as IS_OUT_OF_RANGE
 
@@ -30,20 +31,20 @@ from .errors import OUT_OF_RANGE as IS_OUT_OF_RANGE
 FAR = 2**31
 OUTSIDE = "the local time is outside the years -262143 to 262142"
 
-# What the zone decides by itself.
-GAPS = {"shift": GAP_SHIFT_FORWARD, "after": GAP_END}
+# What the zone decides by itself. Before the end of a gap comes a unit of the column, which the zone can't know.
+GAPS = {"shift": GAP_SHIFT_FORWARD, "after": GAP_END, "shift_back": GAP_SHIFT_BACKWARD}
 FOLDS = {"earliest": FOLD_EARLIEST, "latest": FOLD_LATEST}
 # If fewer rows than these come between two that are left, more of them are left at a time.
 CLOSE = 128
 
 
-def localized(door: Door, column: Column, choice: Choice) -> Array:
+def localized(native: NativeZone, column: Column, choice: Choice) -> Array:
     """Returns the instant of each row; NaT where the choice gives none."""
     answers = np.empty(len(column), np.int64)
     rows, last = [], []
-    for places in _left(door, column, choice, answers):
+    for places in _left(native, column, choice, answers):
         part = column.part(places)
-        clocks = Clocks(door, Block(part, 0), choice.part(places))
+        clocks = Clocks(native, Block(part, 0), choice.part(places))
         clocks.take()
         answers[places] = clocks.instants(clocks.last if choice.fold == "latest" else clocks.first)
         rows.append(places[clocks.open])
@@ -55,13 +56,13 @@ def localized(door: Door, column: Column, choice: Choice) -> Array:
     return answers
 
 
-def _left(door: Door, column: Column, choice: Choice, answers: Array) -> Iterator[Array]:
+def _left(native: NativeZone, column: Column, choice: Choice, answers: Array) -> Iterator[Array]:
     """Writes the instants that the zone gives by itself.
 
     Yields the places of the other rows, in order, `BLOCK` at most at a time."""
     left, count, row, step, size = [], 0, 0, 1, len(column)
     gap, fold = GAPS.get(choice.gap, GAP_REFUSE), FOLDS.get(choice.fold, FOLD_REFUSE)
-    asked = door.instants(gap, fold, column.per_second, column.values, answers)
+    asked = native.instants(gap, fold, column.per_second, column.values, answers)
     # The call gives instants outside the calendar too.
     asks = column.fits_calls() and column.lies_in(FIRST_SECOND + FAR, LAST_SECOND - FAR)
     while row < size:
@@ -82,9 +83,9 @@ def _left(door: Door, column: Column, choice: Choice, answers: Array) -> Iterato
 class Clocks:
     """How often a block's local times are shown, and the offsets at the first and the last time."""
 
-    def __init__(self, door: Door, block: Block, choice: Choice):
-        self.door, self.block, self.choice = door, block, choice
-        clocks = door.wall_clocks(block.seconds)
+    def __init__(self, native: NativeZone, block: Block, choice: Choice):
+        self.native, self.block, self.choice = native, block, choice
+        clocks = native.wall_clocks(block.seconds)
         self.shown = clocks["shown"].copy()
         self.first, self.last = clocks["first_offset"].copy(), clocks["last_offset"].copy()
         # The rows that become NaT, those that are moved to an end of their gap, and those that the
@@ -108,7 +109,7 @@ class Clocks:
         self._fail(rows[never & (gap == "raise")], GAP)
         self._fail(rows[several & (fold == "raise")], FOLD)
         skipped = rows[never]
-        if skipped.size and gap in ("shift", "before", "after", "shift_back"):
+        if skipped.size and gap in (*GAPS, "before"):
             self._resolve(skipped)
         if fold == "given" and several.any():
             self._take_given(rows[several])
@@ -117,19 +118,12 @@ class Clocks:
         self._lose(rows[(never & (gap == "nat")) | (several & (fold == "nat"))])
 
     def _resolve(self, skipped: Array) -> None:
-        """Takes the instant of each row that clocks skipped: by the offset before or after the gap, or
-        the first second that shows a later time."""
+        """Takes the instant of each row that clocks skipped."""
         local_times = self.block.seconds[skipped]
-        if self.choice.gap == "shift":
-            resolved = self.door.resolved(GAP_SHIFT_FORWARD, FOLD_REFUSE, local_times)
-        else:
-            found, rows = np.unique(local_times, return_inverse=True)
-            resolved = self.door.first_at_or_after(found)[rows]
-        if self.choice.gap == "shift_back":
-            self.first[skipped] = self.last[skipped] = resolved["offset"]
-        else:
-            self.first[skipped] = self.last[skipped] = local_times - resolved["instant"]
-        if self.choice.gap in ("before", "after"):
+        policy = GAPS.get(self.choice.gap, GAP_END)
+        resolved = self.native.resolved(policy, FOLD_REFUSE, local_times)
+        self.first[skipped] = self.last[skipped] = local_times - resolved["instant"]
+        if policy == GAP_END:
             self.cut = skipped
         outside = skipped[resolved["number"] != 0]
         self.first[outside] = self.last[outside] = 0
@@ -151,13 +145,13 @@ class Clocks:
         else:
             is_decided = (values > -FAR) & (values < FAR)
             offsets = np.where(is_decided, values, 0)
-            is_decided &= self.door.offsets(local_times - offsets) == offsets
+            is_decided &= self.native.offsets(local_times - offsets) == offsets
         self.first[rows] = self.last[rows] = offsets
         words = f"{WORDS[FOLD]}, and {given.name}= does not say which it is"
         self._fail(rows[~is_decided], FOLD, words)
 
     def _is_dst(self, instants: Array) -> Array:
-        flags: Array = self.door.types(instants)["is_dst"]
+        flags: Array = self.native.types(instants)["is_dst"]
         return flags
 
     # Instants

@@ -8,9 +8,9 @@ from datetime import timedelta
 from typing import Any, Optional, TypeVar, Union
 from zoneinfo import ZoneInfo
 
-from ._door import Door
 from ._library import EXTENDED_STRING, FILE, TEXT
 from ._names import bytes_of_file, bytes_of_key
+from ._native import NativeZone
 
 Self = TypeVar("Self", bound="Zone")
 
@@ -19,9 +19,9 @@ Self = TypeVar("Self", bound="Zone")
 class Zone:
     """A zone that is opened by its name, or made of a file, of bytes or of a TZ string."""
 
-    __slots__ = ("_door", "_key", "_made", "__weakref__")
+    __slots__ = ("_native", "_key", "_made", "__weakref__")
 
-    _door: Door
+    _native: NativeZone
     _key: Optional[str]
     _made: str
 
@@ -29,7 +29,7 @@ class Zone:
         self._open(FILE, bytes_of_key(key), key, str(key), f"Zone({str(key)!r})")
 
     def _open(self, kind: int, data: bytes, what: str, key: Optional[str], made: str) -> None:
-        self._door = Door(kind, data, what)
+        self._native = NativeZone(kind, data, what)
         self._key, self._made = key, made
 
     @classmethod
@@ -144,13 +144,13 @@ class Zone:
 
     def __reduce__(self) -> tuple[Any, ...]:
         kind, data = self._spelled()
-        return _restored, (type(self), kind, data, self._door.what, self._key, self._made)
+        return _restored, (type(self), kind, data, self._native.what, self._key, self._made)
 
     def __dask_tokenize__(self) -> tuple[Any, ...]:
         return "sahvumbi.Zone", *self._spelled()
 
     def _spelled(self) -> tuple[int, bytes]:
-        return self._door.kind, self._door.data
+        return self._native.kind, self._native.data
 
 
 def _restored(kind: type[Self], *opened: Any) -> Self:

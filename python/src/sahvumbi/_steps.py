@@ -7,7 +7,7 @@ import re
 from datetime import timedelta
 from typing import Any, NamedTuple, Union
 
-from ._forms import Array
+from ._containers import Array
 from .errors import printable
 
 DAY = 86_400
@@ -25,7 +25,10 @@ UNITS = {
 #: The months of each step that begins with a month.
 MONTHS = {"MS": 1, "QS": 3, "YS": 12}
 #: What pandas 1 says for some of these.
-OF_PANDAS = {"H": "h", "T": "min", "S": "s", "L": "ms", "U": "us", "N": "ns", "M": "MS", "Q": "QS", "A": "YS", "Y": "YS"}
+OF_PANDAS = {
+    **{"H": "h", "T": "min", "S": "s", "L": "ms", "U": "us", "N": "ns"},
+    **{"M": "MS", "Q": "QS", "A": "YS", "Y": "YS"},
+}
 #: The day of a Monday, counted from 1970-01-01, a Thursday.
 MONDAY = 4
 
@@ -53,7 +56,7 @@ class DayCount(NamedTuple):
 
     def first_day(self, days: Array) -> Array:
         """Returns the first day of the step that each day lies in."""
-        first: Array = days - (days - self.origin) % self.length
+        first: Array = days if self.length == 1 else days - (days - self.origin) % self.length
         return first
 
     def next_first(self, first: Array) -> Array:

@@ -5,14 +5,14 @@ from __future__ import annotations
 from datetime import date, datetime
 from typing import Any, Union, overload
 
-from . import _asked as asked
+from . import _lookups as lookups
 from . import _days as of_days
 from . import _single as single
 from ._changes import Changes, Time, of_stretch
 from ._choice import must_have_no_others
+from ._containers import Array
 from ._days import Days
-from ._differences import Differences, door_of, of_zones
-from ._forms import Array
+from ._differences import Differences, native_of, of_zones
 from ._inputs import taken, taken_days
 from ._opening import Zone as Opened
 from ._steps import Step
@@ -50,11 +50,11 @@ class Zone(Opened):
         array(['1919-03-30T05:00:00', '1919-03-31T04:30:00'],
               dtype='datetime64[s]')
         """
-        start = single.start_of_day(self._door, dates)
+        start = single.start_of_day(self._native, dates)
         if start is not None:
             return start
         column = taken_days(dates, "zone.start_of_day(s.index)")
-        return column.instants(of_days.starts(self._door, column))
+        return column.instants(of_days.starts(self._native, column))
 
     @overload
     def end_of_day(self, dates: Rows) -> Array: ...
@@ -80,7 +80,7 @@ class Zone(Opened):
         dtype: datetime64[ns, UTC]
         """
         column = taken_days(dates, "zone.end_of_day(s.index)")
-        return column.instants(of_days.ends(self._door, column))
+        return column.instants(of_days.ends(self._native, column))
 
     @overload
     def day(self, instants: Union[Rows, Single, datetime]) -> Days: ...
@@ -100,7 +100,10 @@ class Zone(Opened):
         >>> print(day.date, day.start, day.until)
         1130630400 1130639400 1130729400
         """
-        return of_days.days(self._door, taken(instants, "zone.day(s.index)", may_be_aware=True))
+        day = single.day(self._native, instants)
+        if day is not None:
+            return day
+        return of_days.days(self._native, taken(instants, "zone.day(s.index)", may_be_aware=True))
 
     @overload
     def floor(self, instants: Rows, step: Step) -> Array: ...
@@ -129,7 +132,7 @@ class Zone(Opened):
         """
         must_have_no_others("floor", others)
         column = taken(instants, "zone.floor(s.index, step)", may_be_aware=True)
-        return column.instants(of_days.floored(self._door, column, step))
+        return column.instants(of_days.floored(self._native, column, step))
 
     @overload
     def ceil(self, instants: Rows, step: Step) -> Array: ...
@@ -154,7 +157,7 @@ class Zone(Opened):
         """
         must_have_no_others("ceil", others)
         column = taken(instants, "zone.ceil(s.index, step)", may_be_aware=True)
-        return column.instants(of_days.ceiled(self._door, column, step))
+        return column.instants(of_days.ceiled(self._native, column, step))
 
     @overload
     def round(self, instants: Rows, step: Step) -> Array: ...
@@ -179,7 +182,7 @@ class Zone(Opened):
         """
         must_have_no_others("round", others)
         column = taken(instants, "zone.round(s.index, step)", may_be_aware=True)
-        return column.instants(of_days.rounded(self._door, column, step))
+        return column.instants(of_days.rounded(self._native, column, step))
 
     # Spans and changes
 
@@ -193,15 +196,15 @@ class Zone(Opened):
 
         The answer is a `Spans`, or a DataFrame for a Series or an Index. A span goes from one clock
         change on to the next, or to the first second without a type; without such an end that the column's
-        unit can count, it is NaT (None for a datetime), or the least or the greatest int64. Errors are raised as by `offsets`, and
-        `OutOfRangeError` if an end doesn't fit the column's type.
+        unit can count, it is NaT (None for a datetime), or the least or the greatest int64. Errors are
+        raised as by `offsets`, and `OutOfRangeError` if an end doesn't fit the column's type.
 
         >>> from sahvumbi import Zone
         >>> span = Zone("America/New_York").spans(1_609_459_200)
         >>> print(span.abbreviation, span.from_, span.until)
         EST 1604210400 1615705200
         """
-        return asked.spans(self._door, taken(instants, "zone.spans(s.index)", may_be_aware=True))
+        return lookups.spans(self._native, taken(instants, "zone.spans(s.index)", may_be_aware=True))
 
     # Changes
 
@@ -216,7 +219,8 @@ class Zone(Opened):
         The ends are both numbers of seconds since 1970-01-01 00:00:00 UTC, or both times: those
         without a zone are of UTC. Raises ValueError if one is NaT (TypeError if that has no unit),
         and `OutOfRangeError` if one doesn't fit 64 bits of seconds. A rule has some two changes in
-        a year, and those of all 64 bits are 8.6 billion, so give a stretch that can be listed.
+        a year, and those of all 64 bits are 8.6 billion, so ask for a range short
+        enough to list.
 
         >>> import numpy as np
         >>> from sahvumbi import Zone
@@ -230,7 +234,7 @@ class Zone(Opened):
         >>> new_york.changes(1_609_459_200, 1_640_995_200).offset_after
         array([-14400, -18000], dtype=int32)
         """
-        return of_stretch(self._door, from_, to)
+        return of_stretch(self._native, from_, to)
 
     def differences(self, new: Opened, from_: Time, to: Time) -> Differences:
         """Returns the stretches from `from_` on and before `to` in which another zone differs.
@@ -248,4 +252,4 @@ class Zone(Opened):
         >>> found.offset_new - found.offset_old
         array([3600, 3600], dtype=int32)
         """
-        return of_zones(self._door, door_of(new), from_, to)
+        return of_zones(self._native, native_of(new), from_, to)

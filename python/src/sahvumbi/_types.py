@@ -7,7 +7,7 @@ from typing import TYPE_CHECKING, Any, Literal, NamedTuple, Protocol, Sequence, 
 
 import numpy as np
 
-from ._forms import Array
+from ._containers import Array
 
 if TYPE_CHECKING:
     import numpy.typing as npt

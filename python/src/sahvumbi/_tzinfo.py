@@ -5,14 +5,12 @@ from __future__ import annotations
 from datetime import datetime, timedelta, tzinfo
 from typing import Any, Optional
 
-from ._door import Door
-from ._forms import EPOCH
+from ._containers import EPOCH
 from ._library import NEVER, ONCE, OUT_OF_RANGE, SEVERAL_TIMES
+from ._native import NativeZone
 from ._opening import Zone
 from ._single import FIRST_DAY, seconds_of
 from .errors import NO_OFFSET, NoOffsetError
-
-ZERO = timedelta(0)
 
 
 class ZoneTime(tzinfo):
@@ -20,17 +18,17 @@ class ZoneTime(tzinfo):
 
     A local time that clocks showed several times is the first of them with `fold=0` and the last with
     `fold=1`. One that they skipped has the offset before the gap with `fold=0`, and the one after it
-    with `fold=1`. `dst()` is zero in standard time, and None while daylight saving time is in force: a
-    TZif file has a flag for it, and no length.
+    with `fold=1`. `dst()` is zero in standard time, and not zero in daylight saving time. A TZif file has
+    only a flag for that: the amount is inferred from standard time before and after.
     """
 
     __slots__ = ("zone", "_in_force", "_only")
 
     def __init__(self, zone: Zone):
         self.zone = zone
-        self._in_force = zone._door.in_force
+        self._in_force = zone._native.in_force
         # What is in force at a time of day without a date: known if clocks never change.
-        self._only = zone._door.only_type()
+        self._only = zone._native.only_type()
 
     @property
     def key(self) -> Optional[str]:
@@ -44,7 +42,7 @@ class ZoneTime(tzinfo):
         kept = self._in_force(when.toordinal() - FIRST_DAY)
         if kept is not None:
             return kept.offset
-        clock = self.zone._door.wall_clock(_seconds(when))
+        clock = self.zone._native.wall_clock(_seconds(when))
         if clock.shown == ONCE or clock.shown == SEVERAL_TIMES:
             return timedelta(0, clock.last_offset if when.fold else clock.first_offset)
         return timedelta(0, self._type(when).offset)
@@ -57,11 +55,14 @@ class ZoneTime(tzinfo):
         return self._type(when).abbreviation.decode() if kept is None else kept.abbreviation
 
     def dst(self, when: Optional[datetime]) -> Optional[timedelta]:
-        """Returns zero in standard time, and None in daylight saving time; for None as `utcoffset` does."""
+        """Returns what daylight saving time adds to the standard offset at a local time of the zone; for None
+        as `utcoffset` does."""
         if when is None:
-            return None if self._only is None or self._only.is_dst else ZERO
+            return None if self._only is None else self._only.dst
         kept = self._in_force(when.toordinal() - FIRST_DAY)
-        return None if (self._type(when) if kept is None else kept).is_dst else ZERO
+        if kept is not None:
+            return kept.dst
+        return timedelta(0, self.zone._native.amount_at(self._instant(when)))
 
     def fromutc(self, when: datetime) -> datetime:
         """Returns what the zone's clocks show at a datetime of UTC that has this tzinfo."""
@@ -69,25 +70,30 @@ class ZoneTime(tzinfo):
             raise TypeError(f"fromutc takes a datetime, and not {type(when).__name__}")
         if when.tzinfo is not self:
             raise ValueError("fromutc takes a datetime that has this tzinfo")
-        door = self.zone._door
+        native = self.zone._native
         kept = self._in_force(when.toordinal() - FIRST_DAY)
         if kept is not None:
             return when + kept.offset
         instant = _seconds(when)
-        offset = _at(door, instant).offset
+        offset = _at(native, instant).offset
         shown = when + timedelta(0, offset)
-        return shown.replace(fold=1) if door.wall_clock(instant + offset).first != instant else shown
+        return shown.replace(fold=1) if native.wall_clock(instant + offset).first != instant else shown
 
     def _type(self, when: datetime) -> Any:
         """The type of a local time, by its fold."""
-        door, local = self.zone._door, _seconds(when)
-        clock = door.wall_clock(local)
+        return _at(self.zone._native, self._instant(when))
+
+    def _instant(self, when: datetime) -> int:
+        """The second at which that type is in force."""
+        native, local = self.zone._native, _seconds(when)
+        clock = native.wall_clock(local)
         if clock.shown == NEVER:
-            gap = door.gap(local)
-            return gap.after if when.fold else gap.before
+            change: int = native.local_change(local).at
+            return change if when.fold else change - 1
         if clock.shown == OUT_OF_RANGE:
             raise NoOffsetError(None, when.replace(tzinfo=None), NO_OFFSET)
-        return _at(door, clock.last if when.fold else clock.first)
+        shown: int = clock.last if when.fold else clock.first
+        return shown
 
     def __repr__(self) -> str:
         return f"{self.zone!r}.tzinfo"
@@ -116,9 +122,9 @@ def _seconds(when: datetime) -> int:
     return seconds_of(when.replace(tzinfo=None) - EPOCH)
 
 
-def _at(door: Door, instant: int) -> Any:
+def _at(native: NativeZone, instant: int) -> Any:
     """The type at an instant."""
-    found = door.type_at(instant)
+    found = native.type_at(instant)
     if found is None:
         raise NoOffsetError(None, instant, NO_OFFSET)
     return found

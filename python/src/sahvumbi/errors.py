@@ -58,16 +58,23 @@ class ZoneError(ValueError):
 
 
 class ZoneRefusedError(ZoneError):
-    """The bytes make no zone."""
+    """The bytes make no zone.
 
-    def __init__(self, number: int, what: str = "the zone"):
+    `position` is the number of bytes in front of the fault of a TZ string: where the first byte is
+    with which no string goes on, or the number, the time or the name that is out of its limits, or
+    the end if bytes are missing. None for a file.
+    """
+
+    def __init__(self, number: int, what: str = "the zone", position: Optional[int] = None):
         self.number = TIME_ZONE if 41 <= number <= 44 else number
         self.words = WORDS.get(number, "a fault of another kind")
         self.what = printable(what)
-        super().__init__(number, self.what)
+        self.position = position
+        super().__init__(number, self.what, position)
 
     def __str__(self) -> str:
-        return f"{self.what}: {self.words} ({self.number})"
+        place = "" if self.position is None else f" at offset {self.position}"
+        return f"{self.what}: {self.words} ({self.number}){place}"
 
 
 class RowError(ZoneError):

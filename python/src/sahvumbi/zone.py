@@ -5,15 +5,15 @@ from __future__ import annotations
 from datetime import datetime
 from typing import Any, Literal, Union, overload
 
-from . import _asked as asked
+from . import _lookups as lookups
 from . import _single as single
 from ._choice import chosen, must_have_no_others
-from ._forms import Array, Failures
+from ._containers import Array, Failures
 from ._inputs import taken
 from ._localize import localized
 from ._stretches import Zone as Stretches
-from ._tzinfo import ZoneTime
 from ._types import Fold, Gap, Labelled, Labels, LocalTypes, Moment, Rows, Single, Times, WallClocks
+from ._tzinfo import ZoneTime
 
 
 class Zone(Stretches):
@@ -75,10 +75,10 @@ class Zone(Stretches):
         >>> Zone("America/New_York").offsets([1_615_705_199, 1_615_705_200])
         array([-18000, -14400], dtype=int32)
         """
-        offset = single.offset(self._door, instants)
+        offset = single.offset(self._native, instants)
         if offset is not None:
             return offset
-        return asked.offsets(self._door, taken(instants, "zone.offsets(s.index)", may_be_aware=True))
+        return lookups.offsets(self._native, taken(instants, "zone.offsets(s.index)", may_be_aware=True))
 
     @overload
     def to_local(self, instants: Rows) -> Array: ...
@@ -100,11 +100,11 @@ class Zone(Stretches):
         >>> Zone("Asia/Kolkata").to_local(datetime(2021, 7, 1, 12))
         datetime.datetime(2021, 7, 1, 17, 30)
         """
-        local_time = single.local_time(self._door, instants)
+        local_time = single.local_time(self._native, instants)
         if local_time is not None:
             return local_time
         column = taken(instants, "zone.to_local(s.index)", may_be_aware=True)
-        return column.local_times(asked.local_times(self._door, column))
+        return column.local_times(lookups.local_times(self._native, column))
 
     @overload
     def types(self, instants: Union[Rows, Single, datetime]) -> LocalTypes: ...
@@ -123,10 +123,10 @@ class Zone(Stretches):
         >>> types.abbreviation
         array(['EST', 'EDT'], dtype='<U7')
         """
-        local_type = single.types(self._door, instants)
+        local_type = single.types(self._native, instants)
         if local_type is not None:
             return local_type
-        return asked.types(self._door, taken(instants, "zone.types(s.index)", may_be_aware=True))
+        return lookups.types(self._native, taken(instants, "zone.types(s.index)", may_be_aware=True))
 
     # Local times
 
@@ -222,12 +222,12 @@ class Zone(Stretches):
         """
         must_have_no_others("localize", others)
         if is_dst is None and offset is None and by is None and errors == "raise" and tz == "UTC":
-            instant = single.instant(self._door, local_times, gap, fold)
+            instant = single.instant(self._native, local_times, gap, fold)
             if instant is not None:
                 return instant
         column = taken(local_times, "zone.localize(s.index)", may_be_aware=False)
         choice = chosen(column, gap, fold, is_dst, offset, by, errors, tz)
-        return choice.answer(column, localized(self._door, column, choice))
+        return choice.answer(column, localized(self._native, column, choice))
 
     @overload
     def explain(self, local_times: Union[Rows, Single, datetime]) -> WallClocks: ...
@@ -252,4 +252,4 @@ class Zone(Stretches):
         >>> explained.last_offset
         array([-14400, -18000], dtype=int32)
         """
-        return asked.explained(self._door, taken(local_times, "zone.explain(s.index)", may_be_aware=False))
+        return lookups.explained(self._native, taken(local_times, "zone.explain(s.index)", may_be_aware=False))

@@ -7,9 +7,9 @@ from typing import Any, Optional
 import numpy as np
 
 from ._columns import GREATEST, Block, Column, extremes
-from ._door import END_OF_RULE, FIRST_OF_RULE, LEAST, Door
-from ._forms import NAT, Array
-from ._library import FOLD_REFUSE, GAP_SHIFT_FORWARD, NEVER, NO_OFFSET, ONCE, OUT_OF_RANGE, SEVERAL_TIMES
+from ._containers import NAT, Array
+from ._library import FOLD_REFUSE, GAP_END, GAP_SHIFT_FORWARD, NEVER, NO_OFFSET, ONCE, OUT_OF_RANGE, SEVERAL_TIMES
+from ._native import END_OF_RULE, FIRST_OF_RULE, LEAST, NativeZone
 from ._types import LocalTypes, Spans, WallClocks
 from .errors import NO_OFFSET as HAS_NO_OFFSET
 from .errors import NoOffsetError
@@ -18,45 +18,45 @@ from .errors import NoOffsetError
 MANY = 1_024
 
 
-def offsets(door: Door, column: Column) -> Any:
+def offsets(native: NativeZone, column: Column) -> Any:
     """Returns the offset in force at each instant."""
     seconds, is_nat = np.empty(len(column), np.int32), np.zeros(len(column), bool)
     for block in column.blocks():
-        seconds[block.rows] = offsets_of(door, block)
+        seconds[block.rows] = offsets_of(native, block)
         if block.is_nat is not None:
             is_nat[block.rows] = block.is_nat
     return column.offsets(seconds, is_nat)
 
 
-def local_times(door: Door, column: Column) -> Array:
+def local_times(native: NativeZone, column: Column) -> Array:
     """Returns the local time at each instant, as int64."""
     answers = np.empty(len(column), np.int64)
     row: Optional[int] = 0
     if column.fits_calls():
-        row = door.local_times(column.per_second, column.values, answers)
+        row = native.local_times(column.per_second, column.values, answers)
     if row is not None:
         for block in column.blocks(row):
-            _move(block, 1, offsets_of(door, block), answers)
+            _move(block, 1, offsets_of(native, block), answers)
     return answers
 
 
-def types(door: Door, column: Column) -> Any:
+def types(native: NativeZone, column: Column) -> Any:
     """Returns the local time type in force at each instant."""
     written = Types(column)
     for block in column.blocks():
-        found = door.types(block.seconds)
+        found = native.types(block.seconds)
         _must_have_offsets(block, found["offset"])
         written.write(block, found)
-    return column.form.table(LocalTypes(*written.columns()))
+    return column.container.table(LocalTypes(*written.columns()))
 
 
-def spans(door: Door, column: Column) -> Any:
+def spans(native: NativeZone, column: Column) -> Any:
     """Returns the local time type at each instant, and since when and until when it is in force."""
     written = Types(column)
     begin, end = np.empty(len(column), np.int64), np.empty(len(column), np.int64)
     for block in column.blocks():
-        offsets_of(door, block)
-        found, places = _spans_of(door, block)
+        offsets_of(native, block)
+        found, places = _spans_of(native, block)
         written.write(block, found["local_type"], places)
         ends = (("from_", LEAST, FIRST_OF_RULE, begin), ("until", GREATEST, END_OF_RULE, end))
         for bound, none, far, instants in ends:
@@ -70,23 +70,23 @@ def spans(door: Door, column: Column) -> Any:
     # Each array is let go before the next answer is made.
     begin = column.instants(begin)
     end = column.instants(end)
-    return column.form.table(Spans(*written.columns(), begin, end))
+    return column.container.table(Spans(*written.columns(), begin, end))
 
 
-def _spans_of(door: Door, block: Block) -> tuple[Array, Array]:
+def _spans_of(native: NativeZone, block: Block) -> tuple[Array, Array]:
     """The spans of a block's instants, as `SPAN`, and the place among them for each row."""
     first, last = extremes(block.seconds)
-    found = [door.span(first)]
+    found = [native.span(first)]
     while len(found) < MANY:
         until = int(found[-1]["until"][0])
-        following = door.span(until) if until <= last else None
+        following = native.span(until) if until <= last else None
         # None begins at the greatest second, but for one case.
         if following is None or following["from_"][0] != until:
             spans = np.concatenate(found)
             return spans, np.searchsorted(spans["from_"][1:], block.seconds, "right")
         found.append(following)
     seconds, places = np.unique(block.seconds, return_inverse=True)
-    return np.concatenate([door.span(int(second)) for second in seconds]), places
+    return np.concatenate([native.span(int(second)) for second in seconds]), places
 
 
 class Types:
@@ -95,7 +95,7 @@ class Types:
     def __init__(self, column: Column):
         self.column = column
         self.offset, self.is_dst = np.empty(len(column), np.int32), np.empty(len(column), bool)
-        self.abbreviation = np.empty(len(column), column.form.text)
+        self.abbreviation = np.empty(len(column), column.container.text)
         self.is_nat = np.zeros(len(column), bool)
 
     def write(self, block: Block, found: Array, places: Optional[Array] = None) -> None:
@@ -120,13 +120,13 @@ class Types:
         return offsets, plain(self.is_dst), plain(self.abbreviation)
 
 
-def explained(door: Door, column: Column) -> Any:
+def explained(native: NativeZone, column: Column) -> Any:
     """Returns how often, and when, clocks show each local time."""
     shown = np.empty(len(column), np.int8)
     first, last = np.empty(len(column), np.int64), np.empty(len(column), np.int64)
     first_offset, last_offset = np.empty(len(column), np.int32), np.empty(len(column), np.int32)
     for block in column.blocks():
-        clocks = door.wall_clocks(block.seconds)
+        clocks = native.wall_clocks(block.seconds)
         times = clocks["shown"]
         is_none = times == OUT_OF_RANGE
         shown[block.rows] = times
@@ -144,42 +144,41 @@ def explained(door: Door, column: Column) -> Any:
             its_instants[block.rows][is_none] = NAT if column.has_nat or column.is_time else 0
         if skipped.any():
             rows = np.flatnonzero(skipped) + block.start
-            _explain_gaps(door, column.part(rows), rows, first, last, first_offset, last_offset)
+            _explain_gaps(native, column.part(rows), rows, first, last, first_offset, last_offset)
     is_none = (shown != ONCE) & (shown != SEVERAL_TIMES) & (shown != NEVER)
     # Each array is let go before the next answer is made.
     first = column.instants(first)
     last = column.instants(last)
     first_offset = column.offsets(first_offset, is_none)
     last_offset = column.offsets(last_offset, is_none)
-    return column.form.table(
+    return column.container.table(
         WallClocks(column.plain(shown), first, last, first_offset, last_offset)
     )
 
 
 def _explain_gaps(
-    door: Door, skipped: Column, rows: Array, first: Array, last: Array, before: Array, after: Array
+    native: NativeZone, skipped: Column, rows: Array, first: Array, last: Array, before: Array, after: Array
 ) -> None:
     """Writes the change that skips each of these local times, and the offsets on both sides."""
     block = Block(skipped, 0)
-    found, places = np.unique(block.seconds, return_inverse=True)
-    end = door.first_at_or_after(found)[places]
-    shifted = door.resolved(GAP_SHIFT_FORWARD, FOLD_REFUSE, found)[places]
+    end = native.resolved(GAP_END, FOLD_REFUSE, block.seconds)
+    shifted = native.resolved(GAP_SHIFT_FORWARD, FOLD_REFUSE, block.seconds)
     instants = np.empty(rows.size, np.int64)
     instants[block.in_units(end["instant"], instants)] = NAT
     first[rows] = last[rows] = instants
     before[rows], after[rows] = block.seconds - shifted["instant"], end["offset"]
 
 
-def offsets_of(door: Door, block: Block) -> Array:
+def offsets_of(native: NativeZone, block: Block) -> Array:
     """Returns the offset at each instant of a block. Raises at a row that has none."""
     if block.fits_calls():
         # A column of local times takes a third of the time of one of offsets.
         shown, per_second = np.empty(block.values.size, np.int64), block.column.per_second
-        if door.local_times(per_second, block.values, shown) is None:
+        if native.local_times(per_second, block.values, shown) is None:
             np.subtract(shown, block.values, out=shown)
             seconds: Array = shown if per_second == 1 else shown // per_second
             return seconds.astype(np.int32)
-    found = door.offsets(block.seconds)
+    found = native.offsets(block.seconds)
     _must_have_offsets(block, found)
     return found
 

@@ -7,7 +7,7 @@ from typing import Any, Callable, Iterator, NamedTuple, Optional
 import numpy as np
 
 from ._columns import Column
-from ._forms import NAT, Array
+from ._containers import NAT, Array
 from .errors import FOLD, WORDS, FoldError
 
 OUT_OF_ORDER = "rows are not in order of time here, so the order can't decide folds"

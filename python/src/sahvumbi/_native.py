@@ -32,7 +32,7 @@ from ._library import (
 from .errors import ZoneRefusedError
 
 if TYPE_CHECKING:
-    from ._forms import Array
+    from ._containers import Array
 
 #: What a second may have of a unit, for `local_times` and `instants`.
 COLUMN_UNITS = 1, 10**3, 10**6, 10**9
@@ -42,6 +42,7 @@ class InForce(NamedTuple):
     """A type of local time that is in force through some days."""
 
     offset: timedelta
+    dst: timedelta
     is_dst: bool
     abbreviation: str
 
@@ -59,8 +60,6 @@ MOST = 2**64 - 1
 ROWS = 1 << 22
 ROOM = 2_048
 STRETCH = 1_000 * 31_556_952
-# So few local times are asked about one after another in less time than together.
-FEW = 32
 # Days of a stretch whose type is kept, as a power of two, and days around it in which no clock may
 # change: an offset of a narrow zone is less than one. So a local time of the stretch is shown once.
 DAYS_OF_STRETCH = 3
@@ -77,7 +76,7 @@ class _Handle(library.Handle):
         close(byref(self))
 
 
-class Door:
+class NativeZone:
     """An open zone. Raises `ZoneRefusedError` if the bytes are none."""
 
     __slots__ = ("kind", "data", "what", "_zone", "_kept", "_is_narrow")
@@ -89,7 +88,7 @@ class Door:
         self._zone = byref(_Handle())
         number = LIBRARY.zoned_open(kind, data, len(data), self._zone)
         if number:
-            raise ZoneRefusedError(number, what)
+            raise ZoneRefusedError(number, what, library.position_of(kind, data))
 
     # Instants. Seconds are contiguous, aligned int64 of the machine's byte order, in one dimension.
 
@@ -127,36 +126,8 @@ class Door:
         return self._answered(LIBRARY.zoned_zone_instants, (gap, fold), local_times, RESOLVED)
 
     def first_at_or_after(self, local_times: Array) -> Array:
-        """The first second at which clocks show each local time or a later one, as `RESOLVED`.
-
-        Near clock changes the zone is asked about one after another, which takes a microsecond."""
-        late: Array = np.arange(local_times.size)
-        if local_times.size <= FEW:
-            answers: Array = np.empty(local_times.size, RESOLVED)
-        else:
-            answers = self.resolved(library.GAP_END, library.FOLD_EARLIEST, local_times)
-            late = np.flatnonzero(self._may_be_late(answers))
-        begin = answers.ctypes.data
-        for row in map(int, late):
-            place, local = begin + row * RESOLVED.itemsize, int(local_times[row])
-            self._must_be_answered(BRIEF.zoned_zone_first_at_or_after(self._zone, local, place))
-        return answers
-
-    def _may_be_late(self, answers: Array) -> Array:
-        """Whether clocks may have shown a later local time before each of these answers.
-
-        They have not if they weren't changed in the two days before: offsets are less than a day."""
-        is_late: Array = np.ones(answers.size, bool)
-        found = np.flatnonzero(answers["number"] == 0)
-        instants = answers["instant"][found]
-        if not found.size or not self.is_narrow():
-            return is_late
-        first, last = int(instants.min()), int(instants.max())
-        if last - first <= STRETCH:
-            at = self.changes(first - AROUND, last + 1)["at"]
-            come = np.searchsorted(at, instants, "right")
-            is_late[found] = np.append(LEAST, at)[come] > instants - AROUND
-        return is_late
+        """The first second at which clocks show each local time or a later one, as `RESOLVED`."""
+        return self._answered(LIBRARY.zoned_zone_firsts_at_or_after, (), local_times, RESOLVED)
 
     # One instant, one local time
 
@@ -179,7 +150,7 @@ class Door:
             return None
         if span.from_ > begin - AROUND or span.until < end + AROUND:
             return None
-        return _in_force(span.local_type)
+        return self._in_force_at(begin, span.local_type)
 
     def is_narrow(self) -> bool:
         """Whether all offsets of the zone are less than a day."""
@@ -194,7 +165,11 @@ class Door:
         if BRIEF.zoned_zone_span(self._zone, 0, byref(span)):
             return None
         is_whole = span.from_ == LEAST and span.until == GREATEST
-        return _in_force(span.local_type) if is_whole else None
+        return self._in_force_at(0, span.local_type) if is_whole else None
+
+    def _in_force_at(self, instant: int, local_type: library.LocalType) -> InForce:
+        offset, dst = timedelta(0, local_type.offset), timedelta(0, self.amount_at(instant))
+        return InForce(offset, dst, bool(local_type.is_dst), local_type.abbreviation.decode())
 
     def first_instant_of(self, local_time: int) -> Optional[int]:
         """The first second at which clocks show a local time or a later one, or None if it lies
@@ -217,16 +192,32 @@ class Door:
         self._must_be_answered(BRIEF.zoned_zone_type(self._zone, instant, byref(found)))
         return None if found.offset == NO_OFFSET else found
 
+    def amount_at(self, instant: int) -> int:
+        """The amount of daylight saving time at a Unix second at which the zone has a type."""
+        found = library.Saving()
+        self._must_be_answered(BRIEF.zoned_zone_standard_offset(self._zone, instant, byref(found)))
+        return int(found.amount)
+
+    def day(self, instant: int) -> Optional[library.Day]:
+        """The day that a Unix second lies in, or None if a day begins outside the calendar, or the zone has an
+        offset of a day or more."""
+        found = library.Day()
+        number = BRIEF.zoned_zone_day(self._zone, instant, byref(found))
+        if number in (INSTANT_OUT_OF_RANGE, WIDE_ZONE):
+            return None
+        self._must_be_answered(number)
+        return found
+
     def wall_clock(self, local_time: int) -> library.WallClock:
         """When clocks show a local time, counted in seconds."""
         found = library.WallClock()
         self._must_be_answered(BRIEF.zoned_zone_wall_clock(self._zone, local_time, byref(found)))
         return found
 
-    def gap(self, local_time: int) -> library.Change:
-        """The change that skips a local time. There must be one."""
+    def local_change(self, local_time: int) -> library.Change:
+        """The clock change of a local time that clocks skip, or show several times."""
         found = library.Change()
-        self._must_be_answered(BRIEF.zoned_zone_gap(self._zone, local_time, byref(found)))
+        self._must_be_answered(BRIEF.zoned_zone_local_change(self._zone, local_time, byref(found)))
         return found
 
     # Spans and changes
@@ -298,11 +289,6 @@ class Door:
     def _must_be_answered(self, number: int) -> None:
         if number:
             raise ZoneRefusedError(number, self.what)
-
-
-def _in_force(local_type: library.LocalType) -> InForce:
-    offset, name = timedelta(0, local_type.offset), local_type.abbreviation.decode()
-    return InForce(offset, bool(local_type.is_dst), name)
 
 
 def _array(array: Array) -> tuple[int, int]:

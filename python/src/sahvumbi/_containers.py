@@ -1,4 +1,4 @@
-"""The form of an answer: that of its question, an array, a Series, an Index or one moment."""
+"""What an answer comes in, as its question did: an array, a Series, an Index or one moment."""
 
 from __future__ import annotations
 
@@ -22,7 +22,7 @@ NAT = int(np.iinfo(np.int64).min)
 EPOCH = datetime(1970, 1, 1)
 
 
-class ArrayForm:
+class ArrayContainer:
     """A numpy array of a shape, or one value if the shape is ()."""
 
     #: Whether the least int64 is NaT: None if it is so of times, and not of numbers.
@@ -68,7 +68,7 @@ class ArrayForm:
         return columns
 
 
-class SeriesForm(ArrayForm):
+class SeriesContainer(ArrayContainer):
     """A Series of pandas. Its answers have its index, name, attrs and class."""
 
     text = object
@@ -109,7 +109,7 @@ class SeriesForm(ArrayForm):
         return self.of._constructor_expanddim(frame).__finalize__(self.of)
 
 
-class IndexForm(SeriesForm):
+class IndexContainer(SeriesContainer):
     """An Index of pandas. Its answers are Indexes of its name; it is the index of its tables."""
 
     @property
@@ -135,7 +135,7 @@ class IndexForm(SeriesForm):
         return pandas.DataFrame(columns._asdict(), index=self.of, copy=False)
 
 
-class OfArrow(SeriesForm):
+class InArrow(SeriesContainer):
     """A Series or an Index of pandas that has its values in Arrow. So have its answers."""
 
     def __init__(self, of: Any):
@@ -152,15 +152,15 @@ class OfArrow(SeriesForm):
         return self.plain(_arrow.to_pandas(_arrow.of_lengths(values)))
 
 
-class ArrowSeriesForm(OfArrow):
+class ArrowSeriesContainer(InArrow):
     """A Series of an ArrowDtype."""
 
 
-class ArrowIndexForm(OfArrow, IndexForm):
+class ArrowIndexContainer(InArrow, IndexContainer):
     """An Index of an ArrowDtype."""
 
 
-class ArrowForm(ArrayForm):
+class ArrowContainer(ArrayContainer):
     """An array of pyarrow. Its answers are such arrays, and a table of them."""
 
     has_nat = True
@@ -182,7 +182,7 @@ class ArrowForm(ArrayForm):
         return _arrow.table_of(columns._asdict())
 
 
-class TimestampForm(ArrayForm):
+class TimestampContainer(ArrayContainer):
     """A Timestamp of pandas."""
 
     def __init__(self) -> None:
@@ -199,7 +199,7 @@ class TimestampForm(ArrayForm):
         return pandas.NaT if np.isnat(values[0]) else pandas.Timedelta(values[0])
 
 
-class DatetimeForm(ArrayForm):
+class DatetimeContainer(ArrayContainer):
     """A datetime of Python, counted in microseconds."""
 
     has_nat = False
@@ -218,6 +218,20 @@ class DatetimeForm(ArrayForm):
 
     def lengths(self, values: Array) -> Any:
         return None if np.isnat(values[0]) else timedelta(seconds=int(values[0].astype(np.int64)))
+
+
+def frame_of(table: Any, *in_utc: str) -> Any:
+    """Returns a DataFrame of the columns of a table, with its `label` as the index. Times of these columns are
+    in UTC."""
+    import pandas
+
+    columns = table._asdict()
+    labels = columns.pop("label", None)
+    frame = pandas.DataFrame(columns, index=labels)
+    for name in in_utc:
+        if frame[name].dtype.kind == "M":
+            frame[name] = frame[name].dt.tz_localize("UTC")
+    return frame
 
 
 def as_html(table: Any) -> Optional[str]:
@@ -246,14 +260,9 @@ class Failures(NamedTuple):
 
     def to_frame(self) -> Any:
         """Returns a DataFrame with a row for each of them, labelled as in the column."""
-        import pandas
-
         from .errors import WORDS
 
-        columns = self._asdict()
-        del columns["label"]
-        columns["words"] = [WORDS[int(number)] for number in self.number]
-        return pandas.DataFrame(columns, index=self.label)
+        return frame_of(self).assign(words=[WORDS[int(number)] for number in self.number])
 
     def _repr_html_(self) -> Optional[str]:
         return as_html(self)

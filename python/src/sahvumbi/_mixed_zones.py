@@ -6,12 +6,12 @@ from typing import Any, Callable, Iterator, Literal, Mapping, Sequence, Union
 
 import numpy as np
 
-from ._asked import local_times
-from ._choice import chosen, factorized, row_by_row
+from ._choice import Choice, chosen, factorized, row_by_row
 from ._columns import Column
-from ._forms import Array
+from ._containers import Array
 from ._inputs import taken
 from ._localize import localized
+from ._lookups import local_times
 from ._types import Labels, Rows
 from .errors import RowError
 from .zone import Zone
@@ -47,11 +47,7 @@ def localize_many(
     """
     column = taken(local_times, "localize_many(zones, codes, s.index)", may_be_aware=False)
     choice = chosen(column, gap, fold, is_dst, offset, by, errors, tz)
-
-    def ask(zone: Zone, places: Array) -> Array:
-        return localized(zone._door, column.part(places), choice.part(places))
-
-    return choice.answer(column, answered(zones, codes, column, ask))
+    return choice.answer(column, instants(zones, codes, column, choice))
 
 
 def to_local_many(zones: Zones, codes: Any, instants: Any) -> Any:
@@ -63,12 +59,21 @@ def to_local_many(zones: Zones, codes: Any, instants: Any) -> Any:
     column = taken(instants, "to_local_many(zones, codes, s.index)", may_be_aware=True)
 
     def ask(zone: Zone, places: Array) -> Array:
-        return local_times(zone._door, column.part(places))
+        return local_times(zone._native, column.part(places))
 
-    return column.local_times(answered(zones, codes, column, ask))
+    return column.local_times(_answered(zones, codes, column, ask))
 
 
-def answered(
+def instants(zones: Zones, codes: Any, column: Column, choice: Choice) -> Array:
+    """Returns the instant of each row, by the clocks of its zone."""
+
+    def ask(zone: Zone, places: Array) -> Array:
+        return localized(zone._native, column.part(places), choice.part(places))
+
+    return _answered(zones, codes, column, ask)
+
+
+def _answered(
     zones: Zones, codes: Any, column: Column, ask: Callable[[Zone, Array], Array]
 ) -> Array:
     """Returns the answers of all rows. Of several zones' errors the one of the first row is raised."""
