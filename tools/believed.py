@@ -10,6 +10,8 @@ Pages below specs/Steps are steps of proofs and are left out: no contract of a p
 """
 
 import argparse
+import os
+import sys
 
 from definitions import below, pages, used_in
 from sources import TOP, files, imports_of, public_clauses, shown, text_of
@@ -64,4 +66,8 @@ def main():
 
 
 if __name__ == "__main__":
-    main()
+    try:
+        main()
+    except BrokenPipeError:
+        # Nobody reads on, as after `head`.
+        os.dup2(os.open(os.devnull, os.O_WRONLY), sys.stdout.fileno())

@@ -4,10 +4,15 @@
 usage: tools/check_documents.py
 
 - Each relative link of a document leads to a file, and its anchor to a heading there; no line is left of a merge.
+- Each name and each path in backticks, each path of a `sh` block and each module that docs/MAP.md names is in the code, or is one of
+  another project (OTHERS). That page names the scripts that the gate doesn't run. The headers have the names of zoned(3). The calls
+  that the README of a crate cites are calls of that crate. The table of crates in docs/PROVED.md has the first sentence of each README.
+  docs/PROGRAMS.md has the options of zonedump.
 - What tools/generate_documents.py writes is up to date.
 - No clause of a public function cites a step of a proof (specs/Steps). docs/DEFINITIONS.md names the types whose invariants do. Each word
   that a contract cites has a comment. README.md says how many `unsafe` blocks and impls there are.
-- tools/claim.py finds each clause that docs/PROVED.md cites.
+- tools/claim.py finds each clause that a document cites.
+- No code of tz_info returns error 17 by itself, but for numbers above the limits that contracts state.
 - Each old text of a planted bug is once in its file, and each text of a wrong definition once in its page; its pins exist.
 - A lemma that nothing names is an error, and so is a page of lemmas that its proofs/Lib.antt doesn't name.
 - Each module begins with a comment that says what it is.
@@ -19,8 +24,10 @@ usage: tools/check_documents.py
 - README.md has two commands with their output before its first heading, one that answers a question by `rt try` and one that runs
   all tests, and .ci/run runs both. The lines that make the Python package ready are lines of python/README.md, which the gate tries. No
   sentence of README.md has more than 35 words.
-- README.md names the number and the logic of the kit that `rt version` prints (if there is rt); docs/FROM_CHRONO.md says how many
-  functions the crate of idioms has.
+- README.md names the number and the logic of the kit that `rt version` prints (if there is rt), and the kit's libraries of crates.txt.
+- One version is in the C header, the Python package, zonedump, README.md, docs/FAQ.md and CHANGELOG.md.
+- Counts and limits that documents state in a sentence are those of the code, such as the functions of the crate of idioms. A test calls
+  each of these.
 - The tables of docs/SPEED.md and README.md have the figures of the latest file of bench/results (bench/write_speed.py).
 
 Prints a line for each fault, with its place, and ends with status 1 if there is one.
@@ -32,24 +39,27 @@ import subprocess
 import sys
 from collections import Counter
 from functools import lru_cache
+from pathlib import Path
 
-from check_headline import CITATION
+from check_headline import CITATION, DOCUMENTS
 from definitions import clauses
 from edits import HARMLESS, PLANTED_BUGS, all_blocks
 from generate_documents import (
-    DEFINITIONS, ERROR, PROGRAMS, README, counts, generated, head_of, numbers_of_errors, words_in_contracts,
+    DEFINITIONS, ERROR, MAP, PROGRAMS, README, TESTING, byte_changes, counts, generated, head_of, numbers_of_errors, words_in_contracts,
 )
 from sources import (
-    NAME, TOP, cited, crates, files, imports_of, module_of, public_clauses, shown, text_of, without_comments,
+    NAME, TOP, cited, crates, files, imports_of, module_of, public_clauses, shown, text_of, uses, without_comments,
 )
+from trusted import pages_of_headline
 from try_definitions import faults as wrong_definitions
 from try_documents import TESTS, blocks, commands, rattle as rattle_blocks
 from try_edits import FUNCTION, read as read_edit
+from try_shapes import MOST_GROWTH, MOST_TIMES, shapes
+from try_zonedump import WRONG_USES
 
 sys.path.append(str(TOP / "bench"))
 from write_speed import latest as latest_results, written as with_figures  # noqa: E402
 
-DOCUMENTS = [*sorted(TOP.glob("*.md")), *sorted((TOP / "docs").glob("*.md")), *sorted(TOP.glob("crates/*/README.md"))]
 FACADE = TOP / "crates/zoned"
 PACKAGE = TOP / "python/README.md"
 GATE = TOP / ".ci/run"
@@ -58,8 +68,12 @@ FROM_CHRONO = TOP / "docs/FROM_CHRONO.md"
 SPEED = TOP / "docs/SPEED.md"
 TEXTS = TOP / "crates/zoned_ffi/specs/Texts.antt"
 HEADER = TOP / "crates/zoned_ffi/include/zoned_ffi.h"
+MAN_PAGE = TOP / "crates/zoned_ffi/install/zoned.3"
 PYTHON = TOP / "python/src/sahvumbi/errors.py"
 WORD = r"[A-Za-z_][A-Za-z0-9_]*"
+# The pages of tz_info whose numbers have a limit: their contracts say which ones are above it.
+LIMITS = ("kept", "shown")
+OWN_ERROR = r"(?:Err|ok_or|else)\W+(?:\w+::)*(?:AllocError|OutOfMemory)\b"
 
 
 def without_blocks(text):
@@ -84,7 +98,7 @@ def anchors(path):
 def links():
     for path in DOCUMENTS:
         text = without_blocks(text_of(path))
-        for link in re.finditer(r"\]\(([^)\s]+)\)", text):
+        for link in re.finditer(r"(?m)(?:\]\(|^\[[^\]]+\]: )([^)\s]+)", text):
             target, _, place = link[1].partition("#")
             if re.match(r"\w+:", target):
                 continue
@@ -143,7 +157,7 @@ def types_with_steps():
         yield f"{shown(DEFINITIONS)}: it doesn't say: {due}"
 
 
-NUMBERS_IN_WORDS = ["no", "one", "two", "three", "four", "five", "six", "seven", "eight", "nine"]
+NUMBERS_IN_WORDS = "no one two three four five six seven eight nine ten eleven twelve thirteen".split()
 
 
 def unsafe_code():
@@ -158,9 +172,20 @@ def unsafe_code():
 
 
 def claims():
-    for path, names in CITATION.findall(text_of(PROVED)):
-        if not clauses(path, re.findall(r"`(\w+)`", names)):
-            yield f"{shown(PROVED)}: tools/claim.py doesn't find {path} {{{names}}}"
+    for document in DOCUMENTS:
+        for path, names in CITATION.findall(text_of(document)):
+            if not clauses(path, re.findall(r"`(\w+)`", names)):
+                yield f"{shown(document)}: tools/claim.py doesn't find {path} {{{names}}}"
+
+
+# Error 17
+
+
+def own_memory_errors():
+    for path in files("src", ".rt", ["tz_info"]):
+        for found in re.finditer(OWN_ERROR, without_comments(text_of(path), "//")):
+            if path.stem not in LIMITS:
+                yield f"{shown(path, found.start())}: error 17, and no allocation failed"
 
 
 # Planted bugs
@@ -171,10 +196,16 @@ def function_names(crate):
     return Counter(head[2] for path in files("src", ".rt") if TOP / "crates" / crate in path.parents for head in FUNCTION.finditer(text_of(path)))
 
 
+@lru_cache(maxsize=None)
+def module_names(crate):
+    return {path.stem for path in files("src", ".rt") if TOP / "crates" / crate in path.parents}
+
+
 def unclear_functions(edit):
     for part in edit.parts:
-        if "::" not in part and function_names(edit.crate)[part] > 1:
-            yield f"{edit}: several functions are called {part}, so it needs a line `only: PATH`"
+        functions = 0 if "::" in part else function_names(edit.crate)[part]
+        if functions > 1 or functions == 1 and part in module_names(edit.crate):
+            yield f"{edit}: another function or a module is called {part}, so it needs a line `only: PATH`"
 
 
 def planted_bugs():
@@ -283,20 +314,211 @@ def number_faults():
                 yield f"{shown(path)}: {number} is {said.get(number)!r}, and {words.get(number)!r} in {shown(ERROR)}"
 
 
-# What README and FROM_CHRONO say of the kit and of the code
+# Names
+
+# Names of other projects and of the kit, and parts of names.
+OTHERS = set(
+    """AsRef In NonExistentTimeError SECONDLY SystemTime Unix ZoneBounds _counted _opt as_seconds_f32 as_seconds_f64 checked_ deprecated
+    from_epoch_days from_ymd getStandardOffset hour12 losAngeles max_value min_value must_use num_days_in_month overflow_ parse_from_rfc3339
+    parse_from_str plant repartition set_axis start_io time_zone_format_test to_epoch_days track_caller try_ unusable year_ce""".split()
+)
+FOLDERS = ("crates", "tools", "docs", "python", "examples", "bench")
+IN_CRATES = ("src", "specs", "proofs", "tests", "include", "install")
+# A path that isn't there: of any crate, of the reader's own one, or one that commands make.
+MADE = r"NAME|my_app|/out\b|\*|^python/build\b|\.so$"
+
+
+MADE_BY_TOOLS = {"out", "build", "__pycache__"}
+
+
+@lru_cache(maxsize=None)
+def paths_of_code():
+    """The files below FOLDERS, without what tools made."""
+    found = [path for folder in FOLDERS for path in (TOP / folder).rglob("*") if path.is_file()]
+    return [path for path in found if not MADE_BY_TOOLS & set(path.parts) and path.suffix not in (".md", ".svg", ".so")]
+
+
+@lru_cache(maxsize=None)
+def words_of_code():
+    """The words of all files but the documents, and of their paths."""
+    found = set(re.findall(WORD, " ".join(str(path.relative_to(TOP)) for path in paths_of_code())))
+    for path in [*paths_of_code(), TOP / "crates.txt", GATE]:
+        if path.suffix != ".whl":
+            found |= set(re.findall(WORD, path.read_text(errors="replace")))
+    return found
+
+
+def is_there(path):
+    """Whether the repository, or one of its crates, has that path; the ending may be left out."""
+    if path.startswith(IN_CRATES):
+        return any(is_there(f"crates/{crate}/{path}") for crate in crates())
+    whole = TOP / path
+    return whole.exists() or bool(list(whole.parent.glob(f"{whole.name}.*")))
+
+
+def unknown_names():
+    known = words_of_code() | OTHERS
+    for path in [*DOCUMENTS, PACKAGE]:
+        # The changelog has names that are gone, and the table of peers has files of other projects.
+        text = re.sub(r"(?s)<!-- peers -->.*?<!-- end -->", lambda table: re.sub(r"[^\n]", " ", table[0]), without_blocks(text_of(path)))
+        for span in re.finditer(r"`([^`\n]+)`", text if path.name != "CHANGELOG.md" else ""):
+            for name in re.findall(WORD, span[1]):
+                if len(name) > 2 and name not in known:
+                    yield f"{shown(path, span.start())}: nothing is called {name}"
+            yield from missing_paths(path, span.start(), span[1])
+        for place, _, commands_there in blocks(path, "sh"):
+            yield from missing_paths(path, place, commands_there)
+
+
+def missing_paths(path, place, text):
+    for there in re.findall(rf"(?<![\w/.])(?:{'|'.join(FOLDERS + IN_CRATES)})/[\w./*-]*\w", text):
+        if not re.search(MADE, there) and not is_there(there):
+            yield f"{shown(path, place)}: there is no {there}"
+
+
+def cited_calls():
+    """The calls that the README of a crate cites by a path."""
+    for path in sorted(TOP.glob("crates/*/README.md")):
+        crate = path.parent.name
+        code = "".join(text_of(each) for each in files("src", ".rt", [crate]))
+        for span in re.finditer(r"`((?:\w+::)+)(\w+)`", text_of(path)):
+            first, name = span[1].split("::")[0], span[2]
+            if first not in [*crates(), "i64"] and not re.search(rf"\b(?:fn|mod|struct|enum|const) {name}\b|^ *{name}\b.*,$", code, re.M):
+                yield f"{shown(path, span.start())}: {crate} has no {span[1]}{name}"
+
+
+def modules_of_map():
+    modules = {path.relative_to(TOP / "crates").with_suffix("") for path in files("src", ".rt")}
+    named = {str(Path(module.parts[0], *module.parts[2:])) for module in modules} | {str(Path(*module.parts[2:])) for module in modules}
+    for span in re.finditer(r"`([a-z_]+(?:/[a-z_]+)+)`", without_blocks(text_of(MAP))):
+        if span[1] not in named and not any(name.startswith(span[1] + "/") for name in named) and not (TOP / span[1]).exists():
+            yield f"{shown(MAP, span.start())}: there is no module {span[1]}"
+
+
+def names_of_man_page():
+    known = set(re.findall(WORD, "".join(text_of(header) for header in HEADER.parent.iterdir())))
+    for found in re.finditer(r"\b(?:zoned_[a-z_]+|ZONED_[A-Z_]+)\b", text_of(MAN_PAGE)):
+        if found[0] not in known:
+            yield f"{shown(MAN_PAGE, found.start())}: no header has {found[0]}"
+
+
+def scripts_by_hand():
+    for path in [*sorted((TOP / "tools").glob("*.py")), *sorted((TOP / "tools").glob("*.sh"))]:
+        is_run = "\nusage: " in text_of(path).replace("\n# ", "\n")
+        if is_run and f"tools/{path.name}" not in text_of(GATE) and f"`{path.name}" not in text_of(MAP):
+            yield f"{shown(MAP)}: it doesn't name tools/{path.name}, which .ci/run doesn't run"
+
+
+def options_of_zonedump():
+    known = set(re.findall(r'name: "([a-z]+)"', text_of(TOP / "crates/zonedump/src/arguments.rt"))) | {"help", "version"}
+    for name in sorted(known ^ set(re.findall(r"(?<![\w-])--([a-z]+)", text_of(PROGRAMS)))):
+        yield f"{shown(PROGRAMS)}: the option --{name} is here or in crates/zonedump/src/arguments.rt, but not in both"
+
+
+def table_of_crates():
+    for path in sorted(TOP.glob("crates/*/README.md")):
+        sentence = text_of(path).split("\n\n")[1]
+        row = f"| [`{path.parent.name}`](../{path.relative_to(TOP)}) | {sentence} |"
+        if row not in text_of(PROVED):
+            yield f"{shown(PROVED)}: it doesn't have the row: {row}"
+
+
+# What documents say of the kit and of the code
+
+
+def in_words(number):
+    return NUMBERS_IN_WORDS[number] if number < len(NUMBERS_IN_WORDS) else f"{number:,}"
+
+
+def functions_of(path):
+    return len(re.findall(r"(?m)^ *pub fn ", text_of(path)))
+
+
+def constant(path, name):
+    """The number of a constant of the code, which has no sign."""
+    return int(re.search(rf"(?m)\b{name}(?:: \w+)? = ([\d_]+)[;,\n]", text_of(TOP / path))[1].replace("_", ""))
+
+
+def kits_libraries():
+    """The libraries of the kit that this repository's libraries and programs use, besides the standard library."""
+    found = []
+    for crate, libraries in uses().items():
+        if not crate.startswith(("tests_", "demo_", "bench_")):
+            found += [each for each in libraries if each not in [*uses(), *found, "core", "std_alloc"]]
+    return found
+
+
+def counted():
+    """Sentences with a number of the code, each with the document that has it."""
+    made, changed = byte_changes()
+    *libraries, last = (f"`{library}`" for library in kits_libraries())
+    grammar = text_of(TOP / "crates/tz_base/specs/Grammar.antt").partition("pub data Grammar ")[2].partition("\n\n")[0]
+    kinds = len(re.findall(r"(?m)^  [A-Z]\w* : ", grammar))
+    idioms = sum(functions_of(path) for path in files("src", ".rt", ["tests_idioms"]))
+    book = sum(len(text_of(path).splitlines()) for path, _ in pages_of_headline())
+    refused = in_words(len(list((TOP / "tools/refused").glob("*.txt"))))
+    large = "crates/tests_large_zone/src/main.rt"
+    threads = in_words(constant("tools/try_handles.c", "THREADS"))
+    stack, of_one = (constant("tools/try_handles.c", name) for name in ("STACK_KB", "OF_ONE_KB"))
+    return [
+        (README, f"`core` and `std_alloc`, and {', '.join(libraries)} and {last}"),
+        (FROM_CHRONO, f"`crates/tests_idioms` has {idioms} functions "),
+        (FROM_CHRONO, f"[`facts`](../crates/demo_examples/src/facts.rt) has {functions_of(TOP / 'crates/demo_examples/src/facts.rt')},"),
+        (TOP / "docs/GRAMMARS.md", f"{in_words(kinds).capitalize()} kinds are the constructors of `Grammar`"),
+        (TESTING, f"{made:,} files, of which {made - changed:,} are unchanged"),
+        (TESTING, f"the answers to {len(WRONG_USES)} wrong uses"),
+        (TESTING, f"`tools/must_not_compile.py` tries {refused} programs"),
+        (TESTING, f"tries {in_words(len(all_blocks(HARMLESS)))} edits that change nothing but the text"),
+        (TESTING, f"counts instructions for {sum(1 for _ in shapes())} shapes of input"),
+        (TESTING, f"at most {in_words(MOST_TIMES)} times as many as in New York"),
+        (TESTING, f"at most {MOST_GROWTH} times the kept count"),
+        (TESTING, f"makes a zone of {constant(large, 'MORE_CHANGES'):,} clock changes"),
+        (TESTING, f"a zone of {constant(large, 'CHANGES'):,} clock changes"),
+        (TESTING, f"asks one zone from {threads} threads"),
+        (MAN_PAGE, f"has {threads} threads ask one handle"),
+        *((page, f"{stack} KB of stack") for page in (MAN_PAGE, TESTING)),
+        (MAN_PAGE, f"A question about one time takes less than {of_one} KB"),
+        (TESTING, f"no question about one time more than {of_one} KB"),
+        (PROGRAMS, f"A file is read up to {constant('crates/zoned_files/src/files.rt', 'LIMIT') >> 20} MiB."),
+        (PROGRAMS, f"blocks of {constant('crates/zoneq_lib/src/runs.rt', 'BLOCK') >> 10} KiB"),
+        (PROGRAMS, f"a buffer of {constant('crates/zoneq/src/main.rt', 'OUTPUT') >> 10} KiB"),
+        (PROGRAMS, f"if there are more than {in_words(constant('crates/zonedump_lib/src/picture.rt', 'FEW'))}"),
+        (TOP / "docs/DECISIONS.md", f"A column of {constant('crates/zoned_ffi/src/column.rt', 'LONG'):,} rows or more"),
+        (PROVED, f"one book of some {round(book, -2):,} lines"),
+    ]
+
+
+def untested_idioms():
+    tests = "".join(text_of(path) for path in files("tests", ".txt"))
+    for path in files("src", ".rt", ["tests_idioms"]):
+        for function in re.finditer(r"(?m)^ *pub fn (\w+)", text_of(path)):
+            if not re.search(rf"\b{function[1]}\b", tests):
+                yield f"{shown(path, function.start())}: no test calls {function[1]}, and docs/FROM_CHRONO.md says that each is tested"
 
 
 def facts_of_documents():
-    text = text_of(README)
     version = subprocess.run(["rt", "version"], capture_output=True, text=True).stdout.strip() if shutil.which("rt") else ""
     # Kits of one number differ in a letter, and prove the same if their logic is the same.
     number, logic = re.sub(r"^(rattle-kit-\d+)\w* (logic \w+)$", r"\1 \2", version).partition(" ")[::2]
-    if version and f"`{number}`, `{logic}`" not in text:
-        yield f"{shown(README)}: it doesn't name the kit and its logic, `{number}`, `{logic}`"
-    count = sum(len(re.findall(r"(?m)^ *pub fn ", text_of(path))) for path in files("src", ".rt", ["tests_idioms"]))
-    due = f"`crates/tests_idioms` has {count} functions "
-    if due not in text_of(FROM_CHRONO):
-        yield f"{shown(FROM_CHRONO)}: it doesn't say: {due}"
+    due = [(README, f"`{number}`, `{logic}`")] if version else []
+    for document, words in [*due, *counted(), *versions()]:
+        if words not in text_of(document):
+            yield f"{shown(document)}: it doesn't say: {words}"
+
+
+def versions():
+    """What names the version of the header."""
+    version = re.search(r'(?m)^#define ZONED_VERSION "(.*)"$', text_of(HEADER))[1]
+    abi = version.rpartition(".")[0]
+    return [
+        (TOP / "python/src/sahvumbi/_version.py", f'__version__ = "{version}"'),
+        (TOP / "crates/zonedump/src/arguments.rt", f'const VERSION: &str = "{version} ('),
+        (README, f"libzoned-{version}-linux-x86_64.tar.xz "),
+        (README, f"./libzoned{abi}_{version}_amd64.deb ./libzoned-dev_{version}_amd64.deb ./zonedump_{version}_amd64.deb\n"),
+        (README, f"sahvumbi-{version}-*.whl"),
+        (TOP / "docs/FAQ.md", f" {version} "),
+        (TOP / "CHANGELOG.md", f"\n## {version} "),
+    ]
 
 
 # The first screen of README
@@ -380,9 +602,10 @@ def not_passed_on():
 
 
 CHECKS = [
-    links, merge_lines, stale_parts, contract_words, types_with_steps, unsafe_code, claims, planted_bugs, wrong_definitions, unused_lemmas,
-    unlisted_pages, modules_without_a_comment, not_passed_on, required_of_c, number_faults, facts_of_documents, first_screen, package_lines,
-    long_sentences, figure_faults, rattle_blocks,
+    links, merge_lines, stale_parts, contract_words, types_with_steps, unsafe_code, claims, own_memory_errors, planted_bugs,
+    wrong_definitions, unused_lemmas, unlisted_pages, modules_without_a_comment, not_passed_on, required_of_c, number_faults,
+    unknown_names, cited_calls, modules_of_map, names_of_man_page, scripts_by_hand, options_of_zonedump, table_of_crates,
+    untested_idioms, facts_of_documents, first_screen, package_lines, long_sentences, figure_faults, rattle_blocks,
 ]
 
 

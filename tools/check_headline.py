@@ -1,11 +1,11 @@
 #!/usr/bin/env python3
-"""Check that each clause that docs/PROVED.md cites is one of the code.
+"""Check that each clause that a document cites is one of the code.
 
 A citation is `crate::module::function` {`clause`}, or `crate::module::function` {} for a function
 whose only clause has no name: the clause is one of the function's `ensures`. A ghost member is cited
 by its trait, as `crate::module::Trait` {`ghost`}, or by its impl, as
 `crate::module::Trait<Argument> for Type` {`ghost`}, without the impl's parameters. The type's
-arguments may be left out. The module is a path of files below src/. The blocks of definitions on that page are
+arguments may be left out. The module is a path of files below src/. The blocks of definitions in docs/PROVED.md are
 parts of crates/zoned/specs/Headline.antt.
 """
 import re
@@ -13,6 +13,8 @@ import sys
 
 from sources import TOP, block_end, text_of, without_comments
 
+DOCUMENTS = [*sorted(TOP.glob("*.md")), *sorted((TOP / "docs").glob("*.md")), *sorted(TOP.glob("crates/*/README.md"))]
+PROVED = TOP / "docs/PROVED.md"
 CITATION = re.compile(r"`((?:\w+::)+[^`\n]+)` \{([^}]*)\}")
 
 
@@ -76,19 +78,19 @@ def missing(path, clauses):
 
 
 def main():
-    text = text_of(TOP / "docs" / "PROVED.md")
-    citations = CITATION.findall(text)
+    citations = [citation for document in DOCUMENTS for citation in CITATION.findall(text_of(document))]
     faults = [missing(path, re.findall(r"`(\w+)`", clauses) or [""]) for path, clauses in citations]
     faults = [fault for fault in faults if fault]
-    blocks = re.findall(r"(?ms)^```antt\n(.*?)^```$", text)
+    blocks = re.findall(r"(?ms)^```antt\n(.*?)^```$", text_of(PROVED))
     page = TOP / "crates/zoned/specs/Headline.antt"
     faults += [f"no part of {page.relative_to(TOP)}: {block.splitlines()[0]}" for block in blocks if block not in text_of(page)]
     for fault in faults:
         print(fault)
-    if not citations or not blocks:
-        print("docs/PROVED.md cites no clause, or doesn't have the headline")
-    print(f"{len(citations)} citations, {len(faults)} missing")
-    return 1 if faults or not citations or not blocks else 0
+    if not CITATION.search(text_of(PROVED)) or not blocks:
+        faults.append("docs/PROVED.md cites no clause, or doesn't have the headline")
+        print(faults[-1])
+    print(f"{len(citations)} citations, {len(faults)} faults")
+    return 1 if faults else 0
 
 
 if __name__ == "__main__":

@@ -10,7 +10,7 @@ given, as docs/PROVED.md cites them. For each clause it prints:
 - the definitions that the clause cites, each with its place and its meaning, the worked examples (pins) that speak of it, and the
   wrong definitions that these reject;
 - how many definitions those use in turn;
-- the command that proves the function.
+- the command that proves the function, or each function of that name.
 
 A pin is printed with a definition if its clauses cite it; pins of words below it bear on it too (tools/claim.py doesn't follow them).
 """
@@ -65,7 +65,7 @@ def explain(path, names):
         for edit in wrong:
             print(f"    rejected: {edit.name} ({edit.says})")
     further = below(cited)
-    print(f"\n  {len(further) - len(cited)} more definitions are used by these, on {len({page for page, _ in further})} pages in all.")
+    print(f"\n  More definitions that these use: {len(further) - len(cited)}. Pages in all: {len({page for page, _ in further})}.")
     crate, name = path.split("::")[0], path.split("::")[-1]
     if re.fullmatch(r"\w+", name):
         print(f"  To prove it again: (cd crates/{crate} && rt check --only {name})")
@@ -78,6 +78,7 @@ def main():
         sys.exit(__doc__)
     for path, names in citations(sys.argv[1:]):
         explain(path, names)
+    print("\nA function that is proved ends with `only=N proved=N`. The first check in a checkout also proves the libraries below its crate.")
 
 
 if __name__ == "__main__":

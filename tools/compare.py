@@ -7,6 +7,7 @@ usage: tools/compare.py zoneinfo [ZONEQ [FOLDER]]    zoneq's answers with Python
        tools/compare.py files [FOLDER [SLIM]]        written TZif files with the files that were read
        tools/compare.py strings [FOLDER]             written TZ strings with those in footers
        tools/compare.py days [FOLDER [ARCHIVE]]      starts of days, by the C library, with zoneinfo
+       tools/compare.py saving [FOLDER [ARCHIVE]]    amounts of daylight saving time with SAVE of tzdata.zi
        tools/compare.py differences OLD NEW [ZONEDUMP]  zonedump --diff of two databases with zoneinfo
        tools/compare.py faults [COUNT [SEED]]        errors of mutated TZ strings and their places with a reader of its own
        tools/compare.py peers                        zoneq's answers with rows of other projects' tests; the gate runs it
@@ -20,11 +21,11 @@ has no known reason.
 
 import sys
 
-from comparing import changes, days, differences, dumps, faults, peers, plans, with_zoneinfo, written_files, written_strings
+from comparing import changes, days, differences, dumps, faults, peers, plans, saving, with_zoneinfo, written_files, written_strings
 
 COMPARISONS = {
     "zoneinfo": with_zoneinfo.main, "changes": changes.main, "dumps": dumps.main, "files": written_files.main,
-    "strings": written_strings.main, "days": days.main, "differences": differences.main, "peers": peers.main,
+    "strings": written_strings.main, "days": days.main, "saving": saving.main, "differences": differences.main, "peers": peers.main,
     "plans": plans.main, "faults": faults.main,
 }
 

@@ -2,10 +2,14 @@
 
 A table is a file of the crate with a block for each edit: its name in brackets, and lines of a key and a text. `file:` names a file
 of the crate, and each `old:` with its `new:` a text that is once in that file, and what takes its place. `only:` names the function
-or module whose contract rejects a planted bug, if that isn't the edited function, or if two functions have the same name; `in:` says
-who tries it. `says:` is what a wrong definition says, `pins:` and `law:` are what must reject it.
+or module whose contract rejects a planted bug, if that isn't the edited function, or if another function or a module has the same
+name; `in:` says who tries it. `listed:` says why no goal of its function is open by itself, if only the hand-written part of the
+proof fails.
+`says:` is what a wrong definition says, `pins:` and `law:` are what must reject it.
 """
 
+import hashlib
+import subprocess
 from collections import defaultdict
 from dataclasses import dataclass, field
 from functools import lru_cache
@@ -27,6 +31,10 @@ class Block:
     @property
     def is_in_gate(self):
         return self.notes["in"] == ["the gate"]
+
+    @property
+    def why_listed(self):
+        return " ".join(self.notes["listed"])
 
     def faults(self):
         """Each old text that isn't once in its file, after the texts before it are exchanged."""
@@ -57,6 +65,12 @@ def blocks(table, crate):
         elif line and not line.startswith("#"):
             found[-1].notes[key].append(text)
     return found
+
+
+def tenth():
+    """Whether the edit of a name is in the tenth that the commit chooses."""
+    commit = subprocess.run(["git", "rev-parse", "HEAD"], cwd=TOP, capture_output=True, text=True, check=True).stdout
+    return lambda name: hashlib.sha256(f"{commit}{name}".encode()).digest()[0] * 10 < 256
 
 
 def all_blocks(table):

@@ -7,7 +7,8 @@ usage: tools/generate_documents.py
   before its definition, or before that of several words.
 - docs/TRUSTED.md: the definitions, ghost members and `unsafe` code that a reader must trust (tools/trusted.py).
 - docs/DEFINITIONS.md: the wrong definitions that each pin rejects (tools/try_definitions.py).
-- docs/TESTING.md: a table of planted bugs and wrong definitions by crate, and one of the tables of tools/comparing/peers.
+- docs/TESTING.md: a table of planted bugs and wrong definitions by crate, with how many functions they cover, and one of the tables of
+  tools/comparing/peers.
 - docs/MAP.md: a table of crates, each with the libraries of crates.txt and the first sentence of its root.
 - docs/DIFFERENCES.md: the calls that chrono doesn't have (tools/own_calls.py).
 - docs/PROGRAMS.md: the error numbers 1 to 17 with the words of the comments of tz_info's `Error`.
@@ -20,12 +21,14 @@ A generated table is between `<!-- NAME -->` and `<!-- end -->`, or ends its pag
 import ast
 import re
 
+import crafted_files
 import trusted
 from comparing.peers import KNOWN, TABLES as PEERS
 from edits import PLANTED_BUGS, WRONG_DEFINITIONS, all_blocks, blocks
 from own_calls import own_calls
 from sources import TOP, cited, crates, files, public_clauses, module_of, text_of, uses, words_of
 from try_definitions import with_rejected
+from try_edits import bodies
 
 DEFINITIONS, INDEX, MAP = TOP / "docs/DEFINITIONS.md", TOP / "docs/INDEX.md", TOP / "docs/MAP.md"
 TRUSTED = TOP / "docs/TRUSTED.md"
@@ -35,7 +38,7 @@ ERROR = TOP / "crates/tz_base/src/error.rt"
 NUMBERS = TOP / "crates/tz_base/specs/Errors.antt"
 PYTHON = TOP / "python/src/sahvumbi"
 # The modules whose calls PYTHON.md lists: those of a zone, and functions of the package.
-OF_ZONES, OF_PACKAGE = ["zone", "_stretches"], ["_differences", "_compare", "_many"]
+OF_ZONES, OF_PACKAGE = ["zone", "_stretches"], ["_differences", "_compare", "_mixed_zones"]
 PLANTED = "## Planted bugs and wrong definitions by crate\n"
 LAST_OF_TESTS = re.compile(r"(?m)^\d+ of \d+ tests passed, status 0$")
 
@@ -60,10 +63,18 @@ def words_in_contracts():
 
 
 def index_row(page, meaning, names):
-    _, crate, _, *inside = page.split(".")
     words = ", ".join(f"`{name}`" for name in sorted(names, key=str.lower))
-    path = "/".join(inside)
-    return f"| {words} | [`{crate}` {path}](../crates/{crate}/specs/{path}.antt) | {meaning.replace('|', '/')} |"
+    return f"| {words} | {label(page)} | {meaning.replace('|', '/')} |"
+
+
+def label(page):
+    _, crate, _, *inside = page.split(".")
+    return f"[`{crate}` `{'/'.join(inside)}`]"
+
+
+def target(page):
+    _, crate, _, *inside = page.split(".")
+    return f"{label(page)}: ../crates/{crate}/specs/{'/'.join(inside)}.antt"
 
 
 def index():
@@ -72,26 +83,49 @@ def index():
         if ".Steps" not in page and ".pins." not in page:
             words.setdefault((page, word.meaning), []).append(name)
     rows = [index_row(*group, names) for group, names in words.items()]
+    targets = sorted({target(page) for page, _ in words})
     head = (
         "# Index of the words that contracts cite\n\nEach word with its page and the comment above its definition. "
         "[DEFINITIONS](DEFINITIONS.md) explains the most important ones, with their worked examples; `tools/claim.py` shows the definitions "
         "that a clause uses. (`tools/generate_documents.py` makes this page.)\n\n| word | page | means |\n|---|---|---|\n"
     )
-    return head + "\n".join(sorted(rows, key=str.lower)) + "\n"
+    return head + "\n".join([*sorted(rows, key=str.lower), "", *targets]) + "\n"
 
 
 # Planted bugs
 
 
+def covered(crate, bugs):
+    """How many functions of a crate have a clause of their own, and how many of these a planted bug changes."""
+    found = []
+    for path in files("src", ".rt", [crate]):
+        text, file = text_of(path), str(path.relative_to(TOP / "crates" / crate))
+        places = [text.find(old) for bug in bugs for changed, old, _ in bug.pairs if changed == file]
+        for head, opening, end in bodies(text):
+            if re.search(r"\bensures\b", text[head.end() : opening if opening > 0 else text.find("{\n", head.end())]):
+                found.append(any(head.start() <= place <= end for place in places))
+    return len(found), sum(found)
+
+
 def planted():
-    """The table of planted bugs and wrong definitions: how many each crate has."""
-    bugs = {crate: [block.is_in_gate for block in blocks(PLANTED_BUGS, crate)] for crate in crates()}
-    rows = [(crate, sum(those), len(those) - sum(those), len(blocks(WRONG_DEFINITIONS, crate))) for crate, those in bugs.items()]
-    table = [f"| `{crate}` | {in_gate} | {by_hand} | {definitions} |" for crate, in_gate, by_hand, definitions in rows if in_gate + by_hand + definitions]
+    """The table of planted bugs and wrong definitions: how many each crate has, and how many functions they cover."""
+    bugs = {crate: blocks(PLANTED_BUGS, crate) for crate in crates()}
+    rows = {
+        crate: (
+            *covered(crate, those), sum(bug.is_in_gate for bug in those), sum(not bug.is_in_gate for bug in those),
+            sum(bool(bug.why_listed) for bug in those), len(blocks(WRONG_DEFINITIONS, crate)),
+        )
+        for crate, those in bugs.items()
+    }
+    rows = {crate: row for crate, row in rows.items() if any(row[2:])}
+    rows["all"] = tuple(map(sum, zip(*rows.values())))
+    table = [f"| {crate if crate == 'all' else f'`{crate}`'} | {' | '.join(f'{count:,}' for count in row)} |" for crate, row in rows.items()]
     return "\n".join([
-        PLANTED, f"A planted bug is a block of its crate's `{PLANTED_BUGS}`; the gate tries those with the line `in: the gate`. A wrong definition is one of",
-        f"the `{WRONG_DEFINITIONS}` of the crate whose page it changes.\n", "| crate | in the gate | by hand | wrong definitions |",
-        "|---|--:|--:|--:|", *table, ""
+        PLANTED, f"A planted bug is a block of its crate's `{PLANTED_BUGS}`; the gate tries those with the line `in: the gate`, and a tenth of the others.",
+        "Of those with a line `listed:` only a hand-written part of the proof fails; the line says why. A wrong definition is one of the",
+        f"`{WRONG_DEFINITIONS}` of the crate whose page it changes; the gate tries a tenth of them. *Functions* are those with a clause of their own,",
+        "and *covered* those of them that some planted bug changes.\n",
+        "| crate | functions | covered | in the gate | by hand | listed | wrong definitions |", "|---|--:|--:|--:|--:|--:|--:|", *table, ""
     ])
 
 
@@ -182,6 +216,12 @@ def how_often(pattern, paths):
     return sum(len(re.findall(pattern, text_of(path))) for path in paths)
 
 
+def byte_changes():
+    """How many files tools/crafted_files.py makes, and how many of them differ from the file that they are made of."""
+    made = [(old, new) for content in crafted_files.vectors().values() for new in crafted_files.OTHERS for old in content]
+    return len(made), sum(old != new for old, new in made)
+
+
 def counts():
     """The words after the number, at the start of a row or in bold: `| 468 | tests in Rattle ..`, `**468** tests in Rattle ..`."""
     pins = [*files("src", ".rt", ["tests_pins"]), TOP / "crates/zoned_ffi/src/pins.rt"]
@@ -193,6 +233,9 @@ def counts():
         "planted bugs in all": len(bugs),
         "wrong definitions": len(all_blocks(WRONG_DEFINITIONS)),
         "rows of [other projects' tests]": how_often(r"(?m)^\d", sorted(PEERS.glob("*.txt"))),
+        "files in which one byte is set": byte_changes()[0],
+        "TZif files with one byte changed": byte_changes()[1],
+        "random calls by handle from C": int(re.search(r'\["(\d+)", "1"\]', text_of(TOP / "tools/try_handles.py"))[1]),
         "programs that must not compile": len(list((TOP / "tools/refused").glob("*.txt"))),
         "tests of the Python package": how_often(r"(?m)^ *def test_", sorted((TOP / "python/tests").glob("test_*.py"))),
     }

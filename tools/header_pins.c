@@ -34,12 +34,22 @@ _Static_assert(sizeof(zoned_change) == 40 && _Alignof(zoned_change) == 8, "the s
 _Static_assert(offsetof(zoned_change, at) == 0, "the place of at");
 _Static_assert(offsetof(zoned_change, before) == 8, "the place of the type before");
 _Static_assert(offsetof(zoned_change, after) == 24, "the place of the type after");
+_Static_assert(sizeof(zoned_local_info) == 72 && _Alignof(zoned_local_info) == 8, "the size of an info");
+_Static_assert(offsetof(zoned_local_info, shown) == 0 && offsetof(zoned_local_info, first) == 8, "the places of an info");
+_Static_assert(offsetof(zoned_local_info, last) == 40, "the place of the last span");
 _Static_assert(sizeof(zoned_span) == 32 && _Alignof(zoned_span) == 8, "the size of a span");
 _Static_assert(offsetof(zoned_span, from) == 0 && offsetof(zoned_span, until) == 8, "the places of a span's ends");
 _Static_assert(offsetof(zoned_span, local_type) == 16, "the place of a span's type");
-_Static_assert(ZONED_UNKNOWN_UNIT == 36 && ZONED_NO_LOCAL_TIME == 37 && ZONED_NO_GAP == 38, "other numbers of a call");
+_Static_assert(sizeof(zoned_saving) == 16 && _Alignof(zoned_saving) == 8, "the size of the parts of an offset");
+_Static_assert(offsetof(zoned_saving, standard_offset) == 0 && offsetof(zoned_saving, amount) == 8, "the places of these parts");
+_Static_assert(ZONED_UNKNOWN_UNIT == 36 && ZONED_NO_LOCAL_TIME == 37, "other numbers of a call");
 _Static_assert(ZONED_NO_DATE_TIME == 39 && ZONED_WIDE_ZONE == 40, "numbers of dates and offsets");
 _Static_assert(ZONED_NO_SUCH_ZONE == 45 && ZONED_UNREADABLE_FILE == 46, "numbers of names");
+_Static_assert(ZONED_UNKNOWN_STEP == 47, "the number of no step");
+_Static_assert(ZONED_STEP_MINUTE == 60 && ZONED_STEP_HOUR == 3600 && ZONED_STEP_DAY == 86400, "steps of seconds");
+_Static_assert(ZONED_STEP_WEEK == 100000 && ZONED_STEP_MONTH == 200000 && ZONED_STEP_YEAR == 300000, "other steps");
+_Static_assert(sizeof(zoned_day) == 24 && _Alignof(zoned_day) == 8, "the size of a day");
+_Static_assert(offsetof(zoned_day, date) == 0 && offsetof(zoned_day, begin) == 8 && offsetof(zoned_day, end) == 16, "the places of a day");
 _Static_assert(sizeof(enum zoned_number) == 4, "the size of a number");
 _Static_assert(sizeof(zoned_fields) == 32 && _Alignof(zoned_fields) == 4, "the size of fields");
 _Static_assert(offsetof(zoned_fields, year) == 0 && offsetof(zoned_fields, month) == 4, "the places of the year and the month");
@@ -217,17 +227,46 @@ int main(void) {
     IS(zoned_zone_instant(&zone, ZONED_GAP_SHIFT_BACKWARD, ZONED_FOLD_REFUSE, LOCALS[0], taken), ZONED_OK);
     IS(taken[0].instant, 1615703400);
     IS(taken[0].offset, -18000);
-    /* The gap, by both its sides; no gap; out of range. */
-    zoned_change gap;
-    IS(zoned_zone_gap(&zone, LOCALS[0], &gap), ZONED_OK);
-    IS(gap.at, 1615705200);
-    IS(gap.before.offset, -18000);
-    IS(memcmp(gap.before.abbreviation, "EST\0\0\0\0", 8), 0);
-    IS(gap.after.offset, -14400);
-    IS(gap.after.is_dst, 1);
-    IS(zoned_zone_gap(&zone, LOCALS[1], &gap), ZONED_NO_GAP);
-    IS(zoned_zone_gap(&zone, LOCALS[3], &gap), ZONED_INSTANT_OUT_OF_RANGE);
-    IS(gap.at, 1615705200);
+    /* The change of the gap, with both its sides, and that of the fold; noon; out of range. */
+    zoned_change around;
+    IS(zoned_zone_local_change(&zone, LOCALS[0], &around), ZONED_OK);
+    IS(around.at, 1615705200);
+    IS(around.before.offset, -18000);
+    IS(memcmp(around.before.abbreviation, "EST\0\0\0\0", 8), 0);
+    IS(around.after.offset, -14400);
+    IS(around.after.is_dst, 1);
+    IS(zoned_zone_local_change(&zone, LOCALS[1], &around), ZONED_OK);
+    IS(around.at, 1636264800);
+    IS(around.before.offset, -14400);
+    IS(around.after.offset, -18000);
+    IS(zoned_zone_local_change(&zone, LOCALS[2], &around), ZONED_NO_CHANGE);
+    IS(zoned_zone_local_change(&zone, LOCALS[3], &around), ZONED_INSTANT_OUT_OF_RANGE);
+    IS(around.at, 1636264800);
+    /* The spans around: of the gap, of the fold, and of noon. */
+    zoned_local_info info;
+    const int32_t shown_times[3] = {ZONED_NEVER, ZONED_SEVERAL_TIMES, ZONED_ONCE};
+    const int64_t first_from[3] = {1604210400, 1615705200, 1636264800}, last_from[3] = {1615705200, 1636264800, 1636264800};
+    for (int i = 0; i < 3; i++) {
+        IS(zoned_zone_local_info(&zone, LOCALS[i], &info), ZONED_OK);
+        IS(info.shown, shown_times[i]);
+        IS(info.first.from, first_from[i]);
+        IS(info.last.from, last_from[i]);
+    }
+    IS(info.last.until, 1647154800);
+    IS(memcmp(info.last.local_type.abbreviation, "EST\0\0\0\0", 8), 0);
+    IS(zoned_zone_local_info(&zone, LOCALS[3], &info), ZONED_INSTANT_OUT_OF_RANGE);
+    IS(info.shown, ZONED_ONCE);
+    /* The rule's string, with room and without. */
+    char rule[24] = "";
+    size_t length = 77;
+    IS(zoned_zone_rule_text(&zone, rule, sizeof rule, &length), ZONED_OK);
+    IS(length, LEN);
+    IS(strcmp(rule, (const char *)NEW_YORK), 0);
+    IS(zoned_zone_rule_text(&zone, rule, 4, &length), ZONED_OK);
+    IS(length, LEN);
+    IS(strcmp(rule, "EST"), 0);
+    IS(zoned_zone_rule_text(&zone, NULL, 0, &length), ZONED_OK);
+    IS(length, LEN);
     /* The changes of 2021, from the first one on and before the second, and on into 2022 (2022-03-13 07:00:00 UTC). After an
        error all is as it was, and so is what comes after the list. */
     zoned_change changes[3], next;
@@ -273,6 +312,16 @@ int main(void) {
     IS(zoned_zone_span(&zone, 67767976170460800, &span), ZONED_NO_LOCAL_TIME);
     IS(zoned_zone_span(&zone, INT64_MAX, &span), ZONED_NO_LOCAL_TIME);
     IS(span.from, 67767976165557600);
+    /* Daylight saving time adds an hour to standard time, which is 5 hours behind UTC. */
+    zoned_saving saving;
+    IS(zoned_zone_standard_offset(&zone, 1615705200, &saving), ZONED_OK);
+    IS(saving.standard_offset, -18000);
+    IS(saving.amount, 3600);
+    IS(zoned_zone_standard_offset(&zone, 67767976170460800, &saving), ZONED_NO_LOCAL_TIME);
+    IS(saving.amount, 3600);
+    IS(zoned_zone_standard_offset(&zone, 1615705199, &saving), ZONED_OK);
+    IS(saving.standard_offset, -18000);
+    IS(saving.amount, 0);
     /* In the gap and in the fold, at noon, and out of range. */
     const int64_t reached[3] = {1615705200, 1636263000, 1636304400};
     const int32_t offsets_there[3] = {-14400, -14400, -18000};
@@ -285,6 +334,10 @@ int main(void) {
     IS(zoned_zone_first_at_or_after(&zone, LOCALS[3], taken), ZONED_OK);
     IS(taken[0].number, ZONED_INSTANT_OUT_OF_RANGE);
     IS(taken[0].instant, 0);
+    IS(zoned_zone_firsts_at_or_after(&zone, LOCALS, 4, taken, 4), ZONED_OK);
+    for (int i = 0; i < 3; i++) IS(taken[i].instant, reached[i]);
+    IS(taken[3].number, ZONED_INSTANT_OUT_OF_RANGE);
+    IS(zoned_zone_firsts_at_or_after(&zone, LOCALS, 4, taken, 3), ZONED_OTHER_SIZE);
     /* 2021-03-14 03:00:00 in New York, a Sunday; a second without a type; and one after the last year of the calendar. */
     zoned_fields fields;
     memset(&fields, 0x55, sizeof fields);
@@ -341,7 +394,9 @@ int main(void) {
     IS(zone.zone != NULL, 0);
     IS(zoned_zone_fields(&zone, 0, &fields), ZONED_NOT_OPEN);
     IS(zoned_zone_span(&zone, 0, &span), ZONED_NOT_OPEN);
+    IS(zoned_zone_standard_offset(&zone, 0, &saving), ZONED_NOT_OPEN);
     IS(zoned_zone_first_at_or_after(&zone, 0, taken), ZONED_NOT_OPEN);
+    IS(zoned_zone_firsts_at_or_after(&zone, LOCALS, 4, taken, 4), ZONED_NOT_OPEN);
     count = 77;
     IS(zoned_zone_changes(&zone, 0, INT64_MAX, SIZE_MAX, changes, 3, &count), ZONED_NOT_OPEN);
     IS(count, 77);
@@ -393,6 +448,56 @@ int main(void) {
     int64_t clock_at = 77;
     IS(zoned_zone_reached(&zone, 1636266600, &clock_at), ZONED_OK);
     IS(clock_at, 1636250399);
+    /* So the day and the steps of that instant: the hour of 01:00 lasts from 05:00 to 07:00 UTC. 2021-11-07 is a Sunday. */
+    zoned_day day = {77, 77, 77};
+    const uint32_t steps[] = {ZONED_STEP_HOUR, ZONED_STEP_DAY, ZONED_STEP_WEEK, ZONED_STEP_WEEK + 1, ZONED_STEP_MONTH, ZONED_STEP_YEAR, 900};
+    const int64_t floors[] = {1636261200, 1636257600, 1636257600, 1635739200, 1635739200, 1609477200, 1636263900};
+    const int64_t ceils[] = {1636268400, 1636347600, 1636866000, 1636347600, 1638334800, 1641013200, 1636268400};
+    IS(zoned_zone_day(&zone, 1636266600, &day), ZONED_OK);
+    IS(day.date, 1636243200);
+    IS(day.begin, 1636257600);
+    IS(day.end, 1636347600);
+    IS(zoned_zone_day(&zone, 8210266876800, &day), ZONED_INSTANT_OUT_OF_RANGE);
+    IS(zoned_zone_floor(&zone, ZONED_STEP_HOUR, 8210266876800, &clock_at), ZONED_INSTANT_OUT_OF_RANGE);
+    IS(day.end, 1636347600);
+    IS(clock_at, 1636250399);
+    for (size_t i = 0; i < sizeof steps / sizeof *steps; i++) {
+        IS(zoned_zone_floor(&zone, steps[i], 1636266600, &clock_at), ZONED_OK);
+        IS(clock_at, floors[i]);
+        IS(zoned_zone_ceil(&zone, steps[i], 1636266600, &clock_at), ZONED_OK);
+        IS(clock_at, ceils[i]);
+        IS(zoned_zone_ceil(&zone, steps[i], ceils[i], &clock_at), ZONED_OK);
+        IS(clock_at, ceils[i]);
+    }
+    const uint32_t no_steps[] = {0, 7, 86401, ZONED_STEP_WEEK + 7, ZONED_STEP_MONTH + 1, ZONED_STEP_YEAR + 1};
+    for (size_t i = 0; i < sizeof no_steps / sizeof *no_steps; i++) IS(zoned_zone_floor(&zone, no_steps[i], 0, &clock_at), ZONED_UNKNOWN_STEP);
+    /* Columns, in milliseconds: no time stays, and the third instant is out of range. */
+    const int64_t asked[3] = {1636268400001, ZONED_NO_TIME, 8210266876800000};
+    int64_t found[3] = {77, 77, 77};
+    row = 77;
+    IS(zoned_column_floors(&zone, 7, 60, asked, 2, found, 2, &row), ZONED_UNKNOWN_STEP);
+    IS(zoned_column_floors(&zone, ZONED_STEP_HOUR, 60, asked, 2, found, 2, &row), ZONED_UNKNOWN_UNIT);
+    IS(zoned_column_floors(&zone, ZONED_STEP_HOUR, 1000, asked, 2, found, 3, &row), ZONED_OTHER_SIZE);
+    IS(found[0], 77);
+    IS(zoned_column_floors(&zone, ZONED_STEP_HOUR, 1000, asked, 2, found, 2, &row), ZONED_OK);
+    IS(found[0], 1636268400000);
+    IS(found[1], ZONED_NO_TIME);
+    IS(zoned_column_ceils(&zone, ZONED_STEP_HOUR, 1000, asked, 2, found, 2, &row), ZONED_OK);
+    IS(found[0], 1636272000000);
+    IS(row, 77);
+    IS(zoned_column_reached(&zone, 1000, asked, 3, found, 3, &row), ZONED_INSTANT_OUT_OF_RANGE);
+    IS(found[0], 1636250400000);
+    IS(found[2], 77);
+    IS(row, 2);
+    /* St. John's: on 2010-11-07 clocks went from 00:01 back to 23:01 of the day before, which lies in the later day. */
+    static const char ST_JOHNS[] = "NST3:30NDT,M3.2.0/0:01,M11.1.0/0:01";
+    IS(zoned_open(ZONED_TEXT, ST_JOHNS, sizeof ST_JOHNS - 1, &zone), ZONED_OK);
+    IS(zoned_zone_day(&zone, 1289097120, &day), ZONED_OK);
+    IS(day.date, 1289088000);
+    IS(day.begin, 1289097000);
+    IS(day.end, 1289187000);
+    IS(zoned_zone_floor(&zone, ZONED_STEP_DAY, 1289097120, &clock_at), ZONED_OK);
+    IS(clock_at, 1289097000);
     /* A fixed offset: Nepal's; one of a day, whose clocks are too far ahead for that; and one that no zone has. */
     IS(zoned_open_fixed(20700, &zone), ZONED_OK);
     IS(zoned_zone_type(&zone, 0, types), ZONED_OK);
@@ -402,6 +507,11 @@ int main(void) {
     IS(zoned_open_fixed(INT32_MIN, &zone), ZONED_LOCAL_TIME_TYPE);
     IS(zoned_open_fixed(86400, &zone), ZONED_OK);
     IS(zoned_zone_reached(&zone, 0, &clock_at), ZONED_WIDE_ZONE);
+    IS(zoned_zone_day(&zone, 0, &day), ZONED_WIDE_ZONE);
+    IS(zoned_zone_floor(&zone, ZONED_STEP_DAY, 0, &clock_at), ZONED_WIDE_ZONE);
+    row = 77;
+    IS(zoned_column_floors(&zone, ZONED_STEP_DAY, 1000, asked + 1, 2, found + 1, 2, &row), ZONED_WIDE_ZONE);
+    IS(row, 1);
     zoned_close(&zone);
     IS(zoned_version(), ZONED_VERSION_NUMBER);
     char text[8] = "1234567";

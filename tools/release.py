@@ -7,7 +7,7 @@ LOG is the output of a whole `.ci/run` or `rt ci` in this checkout. In FOLDER it
 
 - libzoned-VERSION-linux-x86_64.tar.xz: the C library, both programs, man pages and examples; and one for 64-bit ARM, without the
   programs, if Debian's gcc-aarch64-linux-gnu is installed;
-- Debian packages: libzoned0, libzoned-dev and zonedump;
+- Debian packages: libzoned0.4, libzoned-dev and zonedump;
 - the Python wheel;
 - sahvumbi-VERSION.tar.xz: the source files of the commit;
 - proof.json: what was proved. For each crate the verdict, the number of functions, after how many minutes of the run it was proved, and
@@ -52,7 +52,7 @@ PACKAGES = {
     ),
     "zonedump": (
         "utils", "lists, compares, draws and writes time zones", "libc6",
-        ["usr/bin", "usr/share/man/man1", "usr/share/zoned", "usr/share/bash-completion", "usr/share/zsh"],
+        ["usr/bin", "usr/share/man/man1", "usr/share/zoned", "usr/share/bash-completion", "usr/share/zsh", "usr/share/fish"],
     ),
 }
 PROGRAM = """#include <zoned.h>
@@ -235,8 +235,8 @@ def add_licences(tree):
 def debian_packages(release):
     """Three packages, checked by lintian, unpacked into a folder and installed in a clean system, and tried there."""
     folder, room = release.folder, release.room
-    root, lib = room / "debian", "usr/lib"
-    installed(root, PREFIX="/usr")
+    root, lib = room / "debian", "usr/lib/x86_64-linux-gnu"
+    installed(root, PREFIX="/usr", LIBDIR=f"/{lib}")
     with_record(root / "usr", release.proof)
     abi = os.readlink(root / lib / "libzoned.so").removeprefix("libzoned.so.")
     for program in ("zonedump", "zoneq"):

@@ -1,7 +1,7 @@
 #!/usr/bin/env python3
 """Tries wrong definitions: edits of pages of specs/ that a pin or a law must reject.
 
-usage: tools/try_definitions.py [--lanes N] [NAME ..]
+usage: tools/try_definitions.py [--lanes N] [--tenth] [NAME ..]
 
 A wrong definition is a block of its crate's wrong_definitions.txt: the page and the texts that it exchanges there, each of which is
 once in the page, what the definition says then, and the pins that are no longer proved:
@@ -23,7 +23,8 @@ keeps its functions and its lemmas.
 Edits are tried together if none of them changes a definition that a pin of another one speaks of, also through other definitions
 and through lemmas of crates/tests_pins. An edit doesn't count if a page can't be read any more, or if a proof misses a name.
 
-With no names all are tried, N at a time (2). It takes half an hour of a processor and more, and is run by hand. Ends with status 1 unless each edit is rejected.
+With no names all are tried, N at a time (2), which takes half an hour of a processor and more; with --tenth only a tenth of them,
+chosen by the commit. Ends with status 1 unless each edit is rejected.
 """
 
 import argparse
@@ -38,7 +39,7 @@ from functools import lru_cache
 from pathlib import Path
 from queue import Queue
 
-from edits import WRONG_DEFINITIONS, all_blocks
+from edits import WRONG_DEFINITIONS, all_blocks, tenth
 from kit import PROVED_WITHOUT_LEMMAS, UNREAD, VERDICT, words_over_pages
 from sources import TOP, imports_of, libraries_below, text_of, uses
 
@@ -47,8 +48,8 @@ DEFINITIONS = TOP / "docs/DEFINITIONS.md"
 PINNED = re.compile(r"(?m)^  - ((?:`\w+::\w+`(?:, )?)+): (.*?)(?: Rejects (?:.*))?$")
 BY_LAW = re.compile(r"(?m)(are rejected by a law, which is checked in a copy of its crate: ).*$")
 WORD = re.compile(r"[^\s(){}\[\],;:.λ→×≡∙|\"`?]+")
-FUNCTION = re.compile(r'( *)(?:pub(?:\([a-z]+\))? )?(?:(?:final|const|unsafe|extern "C") )*fn (\w+)')
-BLOCK = re.compile(r"(?:pub(?:\([a-z]+\))? )?(?:unsafe )?(impl|trait)\b")
+FUNCTION = re.compile(r'( *)(?:pub(?:\([a-z: ]+\))? )?(?:(?:final|const|unsafe|extern "C") )*fn (\w+)')
+BLOCK = re.compile(r"(?:pub(?:\([a-z: ]+\))? )?(?:unsafe )?(impl|trait)\b")
 SIGNATURE = re.compile(r"(?:pub )?([^\s(){}\[\],;]+) :(?: |$)")
 
 
@@ -213,7 +214,7 @@ def without_names(text, removed):
             body = shorter
         return "" if re.search(r"::\s*$", body) or body.strip() in ("", "{}") else f"{found[1]}{body};"
 
-    return re.sub(r"(?m)^( *(?:pub(?:\([a-z]+\))? )?use )([^;]*);", fewer, text)
+    return re.sub(r"(?m)^( *(?:pub(?:\([a-z: ]+\))? )?use )([^;]*);", fewer, text)
 
 
 def lay(room, crate, with_code=False):
@@ -452,6 +453,7 @@ def tried_by_pins(chosen, lanes):
 def main():
     given = argparse.ArgumentParser(usage=__doc__.partition("usage: ")[2].partition("\n\n")[0])
     given.add_argument("--lanes", type=int, default=2)
+    given.add_argument("--tenth", action="store_true")
     given.add_argument("names", nargs="*")
     given = given.parse_args()
     missing = set(given.names) - {edit.name for edit in edits()}
@@ -460,7 +462,8 @@ def main():
     for edit in edits():
         if not edit.pairs or edit.applied(text_of(TOP / edit.file)) is None:
             sys.exit(f"{edit.name}: an old text doesn't stand once in {edit.file}")
-    chosen = [edit for edit in edits() if edit.name in given.names or not given.names]
+    is_chosen = tenth() if given.tenth else lambda name: not given.names or name in given.names
+    chosen = [edit for edit in edits() if is_chosen(edit.name)]
     count = rejected = 0
     by_law = (tried_by_law(edit) for edit in chosen if edit.law)
     by_pins = [edit for edit in chosen if edit.pins]

@@ -15,13 +15,16 @@ functions, or a function and a module, have the same name. An edit that changes 
 The verdict on an edit is one of these.
 
 refuted         A goal of its function is open: the checker has values at which it is false, or searched to the end and found no proof.
-open            The search for a proof of such a goal stopped at one of its limits.
+open            The search for a proof of such a goal stopped at one of its limits, or the tactic that answers it found none.
 no longer fits  Only a hand-written part of the function's proof fails: an answer, or a name in it. The edit is then tried again
-                without the answers, and is refuted if the checker has values at which a goal is false.
+                without the answers: it is refuted if the checker has values at which a goal is false, and NOT REJECTED if the
+                search proves the function.
+listed          The same of an edit whose block says after `listed:` why it can't be refuted. It isn't tried again.
 NOT REJECTED    The function is proved.
 NOT TRIED       The edit's text is not in the files that are checked, or the edited code can't be read.
 
-The last two are failures. The third says little, since a harmless edit may have it too: rewrite such an edit until it is refuted.
+The last two are failures, except that an edit chosen by --tenth may be NOT TRIED. Without --beside `no longer fits` is a failure too,
+since a harmless edit may have it: rewrite such an edit until it is refuted, or say why it can't be.
 
 Libraries are used as `rt ci` or `rt check` has built them. Beside an `rt ci` that is still running, with its output in FILE, a
 crate's edits wait until the crate is proved. Then each function that FILE reports as proved, and that no edit changes, is
@@ -39,7 +42,6 @@ N crates are tried at a time (3). The last line counts the verdicts. The status 
 """
 
 import argparse
-import hashlib
 import re
 import shutil
 import subprocess
@@ -51,14 +53,17 @@ from concurrent.futures import ThreadPoolExecutor
 from dataclasses import dataclass, field, replace
 from pathlib import Path
 
-from edits import HARMLESS, PLANTED_BUGS, blocks
-from kit import FALSE, GOAL, OPEN, PROVED_WITHOUT_PROOFS, TOLD, UNDECIDED, UNREAD, VERDICT, messages, wait_for, words
+from edits import HARMLESS, PLANTED_BUGS, blocks, tenth
+from kit import (
+    ANSWER_FALSE, ANSWER_OPEN, FALSE, GOAL, OPEN, PROVED_WITHOUT_PROOFS, SAME_HOLES, TOLD, UNDECIDED, UNREAD, VERDICT, messages, wait_for, words,
+)
 from sources import TOP, crates, files, libraries_below
 
-REFUTED, OPEN_GOAL, NO_LONGER_FITS, NOT_REJECTED, NOT_TRIED = "refuted", "open", "no longer fits", "NOT REJECTED", "NOT TRIED"
+REFUTED, OPEN_GOAL, NO_LONGER_FITS, LISTED = "refuted", "open", "no longer fits", "listed"
+NOT_REJECTED, NOT_TRIED = "NOT REJECTED", "NOT TRIED"
 # Its proof takes as long as those of all crates that can be proved beside it.
 EARLY = "tz_info"
-FUNCTION = re.compile(r'(?m)^( *)(?:pub(?:\([a-z]+\))? )?(?:(?:final|const|unsafe|extern "C") )*fn (\w+)')
+FUNCTION = re.compile(r'(?m)^( *)(?:pub(?:\([a-z: ]+\))? )?(?:(?:final|const|unsafe|extern "C") )*fn (\w+)')
 LOST = "its text is not in the files that are checked"
 # What takes the place of a body that is left out. `rt fmt` writes no such line.
 LEFT_OUT = "{ unreachable!() }"
@@ -80,6 +85,8 @@ class Edit:
     changed: set = field(default_factory=set)
     parts: list = field(default_factory=list)
     is_alone: bool = False
+    is_in_gate: bool = False
+    why_listed: str = ""
 
     def __str__(self):
         return f"{self.crate}/{self.name}"
@@ -89,7 +96,7 @@ def read(block):
     """A table's edit, and of each text that it changes the function that has it."""
     for fault in block.faults():
         sys.exit(fault)
-    edit, texts = Edit(block.crate, block.name, block.pairs), {}
+    edit, texts = Edit(block.crate, block.name, block.pairs, is_in_gate=block.is_in_gate, why_listed=block.why_listed), {}
     for file, old, new in block.pairs:
         texts[file] = texts.get(file) or (TOP / "crates" / block.crate / file).read_text()
         edit.changed.add(function_at(texts[file], old))
@@ -132,17 +139,11 @@ def wanted(names, is_chosen):
     found = defaultdict(list)
     for word in names or crates():
         crate, _, name = word.partition("/")
-        those = [block for block in blocks(PLANTED_BUGS, crate) if (name in ("", block.name) if names else block.is_in_gate or is_chosen(block))]
+        those = [block for block in blocks(PLANTED_BUGS, crate) if (name in ("", block.name) if names else block.is_in_gate or is_chosen(f"{crate}/{block.name}"))]
         if names and not those:
             sys.exit(f"no planted bug: {word}")
         found[crate] += map(read, those)
     return {crate: edits for crate, edits in found.items() if edits}
-
-
-def tenth():
-    """Whether an edit is in the tenth that the commit chooses."""
-    commit = subprocess.run(["git", "rev-parse", "HEAD"], cwd=TOP, capture_output=True, text=True, check=True).stdout
-    return lambda block: hashlib.sha256(f"{commit}{block.crate}/{block.name}".encode()).digest()[0] * 10 < 256
 
 
 def apart(edits):
@@ -266,19 +267,21 @@ def verdict_of(edit, said):
             if edits_function(edit, "::".join(Path(place[1]).parent.parts[1:])):
                 answers.append(f"{place[1]}: {place[2]}")
         elif place:
-            is_fault = GOAL not in place[2] and re.search(UNREAD, place[2])
+            is_fault = not re.search(GOAL, place[2]) and re.search(UNREAD, place[2])
             (faults if is_fault else notes).append(f"{place[1]}: {place[2]}")
     if faults or not verdicts:
         return NOT_TRIED, (faults or [said[-900:]])[0]
     if not any(verdict.startswith(OPEN) for verdict in verdicts):
         return NOT_REJECTED, "; ".join(verdicts)
-    goals = [goal for goal in goals if GOAL in goal]
-    false = [goal for goal in goals if FALSE in goal]
+    goals = [goal for goal in goals if re.search(GOAL, goal)]
+    false = [*(goal for goal in goals if FALSE in goal), *(answer for answer in answers if re.search(ANSWER_FALSE, answer))]
     # A goal whose answer misses a name may be open for that alone, unless values make it false.
-    decided = false or [goal for goal in goals if UNDECIDED not in goal and not any(re.search(UNREAD, answer) for answer in answers)]
-    if decided:
-        return REFUTED, decided[0]
-    return (OPEN_GOAL, goals[0]) if goals and not answers else (NO_LONGER_FITS, (answers or verdicts)[0])
+    own = [goal for goal in goals if not any(re.search(UNREAD, answer) for answer in answers)]
+    refuting = false or [goal for goal in own if UNDECIDED not in goal]
+    undecided = own + [answer for answer in answers if re.search(ANSWER_OPEN, answer)]
+    if refuting:
+        return REFUTED, refuting[0]
+    return (OPEN_GOAL, undecided[0]) if undecided else (NO_LONGER_FITS, (answers or verdicts)[0])
 
 
 def not_proved(crate, edits, proved):
@@ -295,24 +298,35 @@ def not_proved(crate, edits, proved):
     verdicts = re.findall(f"(?m)^{VERDICT}$", said)
     for edit in edits:
         of_edit = [verdict for path, verdict in verdicts if edits_function(edit, path)] or [said[-900:]]
-        if not all(re.fullmatch(PROVED_WITHOUT_PROOFS, verdict) for verdict in of_edit):
+        if not all(is_proved(verdict, dict(verdicts)) for verdict in of_edit):
             rows[edit.name] = (edit, NOT_TRIED, f"without the edit: {'; '.join(of_edit)}")
     return rows
 
 
+def is_proved(verdict, verdicts):
+    """Whether a function is proved but for what is left out. A verdict may say that this is the same as for another function."""
+    same = re.fullmatch(SAME_HOLES, verdict)
+    return bool(re.fullmatch(PROVED_WITHOUT_PROOFS, verdicts.get(same[1], "") if same else verdict))
+
+
 def tried_together(crate, edits, around, proved):
-    """Tries edits by one check, each alone of which it says nothing, and without its answers each that no longer fits."""
+    """Tries edits by one check, each alone of which it says nothing, and by another one without their answers those that no longer fit."""
     said = checked(crate, edits, around, proved)
-    rows = []
+    rows, unfit = [], []
     for edit in edits:
         verdict, why = verdict_of(edit, said)
         if verdict == NOT_TRIED and len(edits) > 1:
             rows += tried_together(crate, [edit], around, proved)
-            continue
-        if verdict == NO_LONGER_FITS:
-            by_search = verdict_of(edit, checked(crate, [edit], around, proved, by_search=True))
-            verdict, why = by_search if FALSE in by_search[1] else (verdict, why)
-        rows.append((edit, verdict, why))
+        elif verdict != NO_LONGER_FITS:
+            rows.append((edit, verdict, why))
+        elif edit.why_listed:
+            rows.append((edit, LISTED, edit.why_listed))
+        else:
+            unfit.append((edit, verdict, why))
+    by_search = checked(crate, [edit for edit, _, _ in unfit], around, proved, by_search=True) if unfit else ""
+    for row in unfit:
+        verdict, why = verdict_of(row[0], by_search)
+        rows.append((row[0], verdict, why) if verdict == NOT_REJECTED or FALSE in why else row)
     return rows
 
 
@@ -336,7 +350,7 @@ def proved_of(crate, log):
 def plain_functions(crate):
     """The functions that are in no impl, and the methods of types without parameters."""
     texts = {path: path.read_text() for path in files("src", ".rt", [crate])}
-    declared = r"(?m)^(?:pub(?:\([a-z]+\))? )?(?:struct|enum) (\w+)"
+    declared = r"(?m)^(?:pub(?:\([a-z: ]+\))? )?(?:struct|enum) (\w+)"
     homes, found = defaultdict(list), set()
     for path, text in texts.items():
         for name in re.findall(declared, text):
@@ -404,7 +418,10 @@ def self_test():
         # An edit whose text is lost, and the goal of the body that is left out.
         line = text_without(["third"], []).splitlines().index(LEFT_OUT) + 1
         assert made([edit], folder) is None and verdict_of(edit, LOST) == (NOT_TRIED, LOST)
-        goal = f"note: src/lib.rt:{{}}:3: {GOAL} control never comes here{{}}\nfn it::third: no proof: it is open"
+        same = "depends on a hole in the same 2 declarations as `it::second`"
+        assert is_proved(same, {"second": "depends on a hole in `It.proofs.third.Proof.third_spec`, `It.proofs.fourth.Proof.fourth_spec`"})
+        assert not is_proved(same, {"second": "depends on a hole in `It.proofs.Lemmas.open`"}) and not is_proved(same, {})
+        goal = "note: src/lib.rt:{}:3: it is not proved that control never comes here{}\nfn it::third: no proof: it is open"
         assert verdict_of(edit, without_left_out(goal.format(line, ""), folder))[0] == NO_LONGER_FITS
         # A proof that misses a name, in a message of two lines, and one that has another type.
         answer = "./proofs/third/Answers.antt:3:9: error: `returns`: record `It.Lts`{}\nfn it::third: not proved; it stands on it"
@@ -412,9 +429,12 @@ def self_test():
         for text, verdict in (
             (goal.format(line - 1, ""), REFUTED),
             (goal.format(line - 1, f"; {UNDECIDED}"), OPEN_GOAL),
+            (goal.replace("it is not proved that control never comes here", "`search` found no proof (`invariant`)").format(line - 1, ""), REFUTED),
             (misses, NO_LONGER_FITS),
             (differs, NO_LONGER_FITS),
             (misses + "\n" + goal.format(line - 1, ""), NO_LONGER_FITS),
+            (differs.replace("has another type", "`grind` found no proof"), OPEN_GOAL),
+            (differs.replace("has another type", "the goal does not follow. The hypotheses hold, and it fails at `x` = `1`"), REFUTED),
             (misses + "\n" + goal.format(line - 1, f"; the facts known there {FALSE}"), REFUTED),
             ("fn it::third: no holes", NOT_REJECTED),
         ):
@@ -442,16 +462,17 @@ def main():
         wrong = harmless(given.beside)
         print(*[f"tools/try_edits.py: {edit}: {verdict}: {why}" for edit, verdict, why in wrong], sep="\n", end="\n" * bool(wrong))
         return 1 if wrong else 0
-    edits, free = wanted(given.names, tenth() if given.tenth else lambda block: False), threading.Semaphore(given.lanes)
+    edits, free = wanted(given.names, tenth() if given.tenth else lambda name: False), threading.Semaphore(given.lanes)
+    faults = {NOT_REJECTED, NOT_TRIED} if given.beside else {NO_LONGER_FITS, NOT_REJECTED, NOT_TRIED}
     count, failures = Counter(), 0
     with ThreadPoolExecutor(len(edits)) as pool:
         for rows in pool.map(lambda crate: tried(crate, edits[crate], free, given.beside), edits):
             for edit, verdict, why in rows:
-                is_due = verdict not in (NOT_REJECTED, NOT_TRIED)
+                is_due = verdict not in faults or given.tenth and verdict == NOT_TRIED and not edit.is_in_gate
                 print(f"{edit}: {verdict}: {why[:300 if is_due else 900]}", flush=True)
                 count[verdict] += 1
                 failures += not is_due
-    kinds = ", ".join(f"{count[verdict]} {verdict}" for verdict in (REFUTED, OPEN_GOAL, NO_LONGER_FITS, NOT_REJECTED, NOT_TRIED) if count[verdict])
+    kinds = ", ".join(f"{count[verdict]} {verdict}" for verdict in (REFUTED, OPEN_GOAL, NO_LONGER_FITS, LISTED, NOT_REJECTED, NOT_TRIED) if count[verdict])
     print(f"{sum(count.values())} tried: {kinds}; {failures} failures")
     return 0 if count and not failures else 1
 

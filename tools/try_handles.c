@@ -1,13 +1,15 @@
 /* Tries the calls of zoned_ffi.h by handle, as a C program makes them. tools/try_handles.py builds and runs it.
 
      try_handles CALLS SEED FILE ..       of these TZif files, and of TZ strings
+     try_handles stack                    how much stack calls use
 
    Random calls: handles are opened on zones, on parts of their bytes and on bytes with faults, by kinds that are and that
    aren't, shared, closed and asked, with counts that fit and that don't. What a handle answers is compared with what a
    handle answers that is opened on the same bytes for one question, and the changes of a stretch with what stepping through
    them comes to. Then eight threads ask one handle in a read-only page, and shares of it; a question is left by siglongjmp;
-   the shares of a zone are closed in every order; and each request for memory of a call that opens is refused in turn. It
-   prints a line, and ends with 0 if nothing differs. Linked with --wrap=malloc and --wrap=realloc. */
+   the shares of a zone are closed in every order; and each request for memory of a call that opens is refused in turn. The stack
+   of a thread is painted before each call, and what is no longer paint was used. It prints a line, and ends with 0 if nothing
+   differs. Linked with --wrap=malloc and --wrap=realloc. */
 #define _GNU_SOURCE
 #include "../crates/zoned_ffi/include/zoned_ffi.h"
 
@@ -60,7 +62,7 @@ struct bytes {
 
 static const char *const EXTENDED[] = {"<-02>2<-01>,M3.5.0/-1,M10.5.0/0", "EET-2EEST,M3.4.4/50,M10.4.4/50", "IST-2IDT,M3.4.4/26,M10.5.0"};
 
-static const char *const TEXTS[] = {"UTC0", "EST5EDT,M3.2.0,M11.1.0", "<-03>3", "LHST-10:30LHDT-11,M10.1.0,M4.1.0", ""};
+static const char *const TEXTS[] = {"UTC0", "EST5EDT,M3.2.0,M11.1.0", "AAA-1BBB-1,M3.2.0,M11.1.0", "<-03>3", "LHST-10:30LHDT-11,M10.1.0,M4.1.0", ""};
 
 static struct bytes zones[64];
 static size_t zone_count;
@@ -163,6 +165,9 @@ static void try_open(struct tried *to) {
     uint32_t number = zoned_open(bytes.kind, bytes.at, bytes.len, &to->zone);
     EXPECT(number == fresh_offsets(bytes, NULL, 0, NULL));
     EXPECT(number < 18 || (number >= ZONED_OTHER_TYPE_INDEX && number <= ZONED_OTHER_RULE) || number == ZONED_UNKNOWN_KIND);
+    int is_string = bytes.kind == ZONED_TEXT || bytes.kind == ZONED_EXTENDED_STRING;
+    size_t position = zoned_fault_position(bytes.kind, bytes.at, bytes.len);
+    EXPECT(is_string && number ? position <= bytes.len : position == SIZE_MAX);
     if (number) {
         EXPECT(to->zone.zone == before);
         free(bytes.at);
@@ -304,6 +309,24 @@ static void try_span(struct tried *of) {
     else EXPECT(span.until == INT64_MAX || has_no_type(of, span.until));
 }
 
+/* The parts of the offset of a second: their sum is the offset, and daylight saving time adds nothing if and only if the DST flag
+   is 0. All seconds of a span have the same. */
+static void try_saving(struct tried *of) {
+    int64_t at = second();
+    zoned_span span;
+    zoned_saving saving, first = {0};
+    memset(&saving, 0x55, sizeof saving);
+    uint32_t number = zoned_zone_standard_offset(&of->zone, at, &saving);
+    EXPECT(number == zoned_zone_span(&of->zone, at, &span));
+    if (number) {
+        EXPECT(is_untouched(&saving, sizeof saving));
+        return;
+    }
+    EXPECT(saving.standard_offset + saving.amount == span.local_type.offset);
+    EXPECT((saving.amount != 0) == (span.local_type.is_dst == 1) && -86400 < saving.amount && saving.amount < 86400);
+    EXPECT(zoned_zone_standard_offset(&of->zone, span.from, &first) == ZONED_OK && !memcmp(&first, &saving, sizeof first));
+}
+
 /* The first second from `from` on at which a clock shows the local time or a later one, by the changes before `until`. */
 static int64_t first_by_changes(struct tried *of, int64_t local, int64_t from, int64_t until, int32_t *offset) {
     zoned_change change;
@@ -335,28 +358,106 @@ static void try_first(struct tried *of) {
     if (at < -8334601228800 || at > 8210266876799) is_known = 0;
     EXPECT(reached.number == (is_known ? ZONED_OK : ZONED_INSTANT_OUT_OF_RANGE));
     EXPECT(reached.instant == (is_known ? at : 0) && reached.offset == (is_known ? offset : 0));
+    int64_t locals[] = {local, second()};
+    zoned_resolved each[2], next;
+    memset(each, 0x55, sizeof each);
+    EXPECT(zoned_zone_firsts_at_or_after(&of->zone, locals, 2, each, 1) == ZONED_OTHER_SIZE && is_untouched(each, sizeof each));
+    EXPECT(zoned_zone_firsts_at_or_after(&of->zone, locals, 2, each, 2) == ZONED_OK);
+    EXPECT(zoned_zone_first_at_or_after(&of->zone, locals[1], &next) == ZONED_OK);
+    EXPECT(memcmp(&each[0], &reached, sizeof reached) == 0 && memcmp(&each[1], &next, sizeof next) == 0);
 }
 
-/* The gap that a local time lies in: a change of the clocks that passes over it, and the first after which they show more. */
-static void try_gap(struct tried *of) {
+/* Whether the clock change is one of the zone's. */
+static int is_listed(struct tried *of, const zoned_change *change) {
+    zoned_change found;
+    return zoned_zone_previous_change(&of->zone, change->at, &found) == ZONED_OK && found.at == change->at &&
+           is_same_type(&found.before, &change->before) && is_same_type(&found.after, &change->after);
+}
+
+/* The clock change of a local time: in a gap the first after which clocks show more, and in a fold the last before which they show it or
+   more, of those between the first and the last second that show it. */
+static void try_local_change(struct tried *of) {
     int64_t local = second();
-    zoned_change gap, change;
+    zoned_change change, step;
     zoned_wall_clock clock = {0};
     zoned_resolved reached;
-    memset(&gap, 0x55, sizeof gap);
+    memset(&change, 0x55, sizeof change);
     if (of->of.at) EXPECT(zoned_zone_wall_clock(&of->zone, local, &clock) == ZONED_OK);
-    uint32_t number = zoned_zone_gap(&of->zone, local, &gap);
+    uint32_t number = zoned_zone_local_change(&of->zone, local, &change);
     if (!of->of.at) EXPECT(number == ZONED_NOT_OPEN);
     else if (clock.shown == ZONED_OUT_OF_RANGE) EXPECT(number == ZONED_INSTANT_OUT_OF_RANGE);
-    else EXPECT(number == (clock.shown == ZONED_NEVER ? ZONED_OK : ZONED_NO_GAP));
+    else EXPECT(number == (clock.shown == ZONED_ONCE ? ZONED_NO_CHANGE : ZONED_OK));
     if (number) {
-        EXPECT(is_untouched(&gap, sizeof gap));
+        EXPECT(is_untouched(&change, sizeof change));
         return;
     }
-    EXPECT(zoned_zone_previous_change(&of->zone, gap.at, &change) == ZONED_OK && change.at == gap.at);
-    EXPECT(is_same_type(&change.before, &gap.before) && is_same_type(&change.after, &gap.after));
-    EXPECT(gap.at + gap.before.offset <= local && local < gap.at + gap.after.offset);
-    EXPECT(zoned_zone_first_at_or_after(&of->zone, local, &reached) == ZONED_OK && (reached.number || reached.instant == gap.at));
+    EXPECT(is_listed(of, &change));
+    if (clock.shown == ZONED_NEVER) {
+        EXPECT(change.at + change.before.offset <= local && local < change.at + change.after.offset);
+        EXPECT(zoned_zone_first_at_or_after(&of->zone, local, &reached) == ZONED_OK && (reached.number || reached.instant == change.at));
+        return;
+    }
+    EXPECT(change.after.offset < change.before.offset && clock.first < change.at && change.at <= clock.last);
+    EXPECT(local < change.at + change.before.offset && change.at + change.after.offset <= local);
+    for (step = change; !zoned_zone_next_change(&of->zone, step.at, &step) && step.at <= clock.last;)
+        EXPECT(step.at + step.before.offset <= local);
+}
+
+/* The spans of the first and the last second that show a local time, or of those around its gap. */
+static void try_local_info(struct tried *of) {
+    int64_t local = second(), first, last;
+    zoned_local_info info;
+    zoned_wall_clock clock = {0};
+    zoned_span span;
+    zoned_change change;
+    memset(&info, 0x55, sizeof info);
+    if (of->of.at) EXPECT(zoned_zone_wall_clock(&of->zone, local, &clock) == ZONED_OK);
+    uint32_t number = zoned_zone_local_info(&of->zone, local, &info);
+    EXPECT(number == (!of->of.at ? ZONED_NOT_OPEN : clock.shown == ZONED_OUT_OF_RANGE ? ZONED_INSTANT_OUT_OF_RANGE : ZONED_OK));
+    if (number) {
+        EXPECT(is_untouched(&info, sizeof info));
+        return;
+    }
+    first = clock.first, last = clock.last;
+    if (clock.shown == ZONED_NEVER) {
+        EXPECT(zoned_zone_local_change(&of->zone, local, &change) == ZONED_OK);
+        first = change.at - 1, last = change.at;
+    }
+    EXPECT(info.shown == clock.shown);
+    EXPECT(zoned_zone_span(&of->zone, first, &span) == ZONED_OK && memcmp(&span, &info.first, sizeof span) == 0);
+    EXPECT(zoned_zone_span(&of->zone, last, &span) == ZONED_OK && memcmp(&span, &info.last, sizeof span) == 0);
+}
+
+/* The string of the zone's rule, in rooms of every size: a zone of it has the same types in the last years of rules, and without a string the
+   clocks change no more at the last seconds of 64 bits. */
+static void try_rule_text(struct tried *of) {
+    enum { ROOM_OF_RULE = 100 };
+    char text[ROOM_OF_RULE], whole[ROOM_OF_RULE];
+    size_t length = 77, again = 77, room = below(ROOM_OF_RULE), cut;
+    int64_t at = 67767976000000000 - (int64_t)below(1577880000);
+    zoned_change change;
+    zoned_local_type here, there;
+    struct zoned_zone ruled = {0};
+    memset(text, 0x55, sizeof text);
+    uint32_t number = zoned_zone_rule_text(&of->zone, text, room, &length);
+    EXPECT(number == due(of, 0, 0));
+    if (number) {
+        EXPECT(length == 77 && is_untouched(text, sizeof text));
+        return;
+    }
+    EXPECT(zoned_zone_rule_text(&of->zone, whole, sizeof whole, &again) == ZONED_OK);
+    EXPECT(again == length && length < sizeof whole && strlen(whole) == length);
+    cut = room == 0 ? 0 : length < room - 1 ? length : room - 1;
+    EXPECT(memcmp(text, whole, cut) == 0 && (room == 0 || text[cut] == 0));
+    EXPECT(is_untouched(text + cut + (room != 0), sizeof text - cut - (room != 0)));
+    if (length == 0) {
+        EXPECT(zoned_zone_next_change(&of->zone, INT64_MAX - 1 - (int64_t)below(1000), &change) == ZONED_NO_CHANGE);
+        return;
+    }
+    EXPECT(zoned_open(ZONED_EXTENDED_STRING, whole, length, &ruled) == ZONED_OK);
+    EXPECT(zoned_zone_type(&of->zone, at, &here) == ZONED_OK && zoned_zone_type(&ruled, at, &there) == ZONED_OK);
+    EXPECT(is_same_type(&here, &there));
+    zoned_close(&ruled);
 }
 
 /* What clocks have reached is the greatest local time up to a second, and rises. */
@@ -435,12 +536,12 @@ static void expect_resolved(struct tried *of, const zoned_wall_clock *clock, uin
     if (clock->shown == ZONED_NEVER && gap == ZONED_GAP_REFUSE) number = ZONED_IN_GAP;
     zoned_change skips;
     if (clock->shown == ZONED_NEVER && gap == ZONED_GAP_END) {
-        EXPECT(zoned_zone_gap(&of->zone, local, &skips) == ZONED_OK);
+        EXPECT(zoned_zone_local_change(&of->zone, local, &skips) == ZONED_OK);
         instant = skips.at;
         offset = skips.after.offset;
     }
     if (clock->shown == ZONED_NEVER && (gap == ZONED_GAP_SHIFT_FORWARD || gap == ZONED_GAP_SHIFT_BACKWARD) && !resolved->number) {
-        EXPECT(zoned_zone_gap(&of->zone, local, &skips) == ZONED_OK);
+        EXPECT(zoned_zone_local_change(&of->zone, local, &skips) == ZONED_OK);
         instant = local - (gap == ZONED_GAP_SHIFT_FORWARD ? skips.before.offset : skips.after.offset);
         EXPECT(fresh_offsets(of->of, &instant, 1, &offset) == ZONED_OK);
     }
@@ -574,6 +675,111 @@ static void try_instants_of_column(struct tried *of) {
     EXPECT(is_untouched(instants + first, (COLUMN - first) * sizeof *instants));
 }
 
+static int64_t floor_to(int64_t number, int64_t size) { return number - (number % size + size) % size; }
+
+/* The local time at which the step of a local time begins, or the next one, by a calendar; no time if that is outside the calendar's
+   range. */
+static int64_t begin_of(uint32_t step, int64_t local, int next) {
+    int64_t week = ((int64_t)step - ZONED_STEP_WEEK - 4) * 86400, begin = 77; /* 1970-01-01 was a Thursday, 4 */
+    zoned_fields fields;
+    if (step <= ZONED_STEP_DAY) return floor_to(local, step) + (next ? step : 0);
+    if (step < ZONED_STEP_MONTH) return floor_to(local - week, 7 * 86400) + week + (next ? 7 * 86400 : 0);
+    if (zoned_fields_of(local, &fields) != ZONED_OK) return ZONED_NO_TIME;
+    zoned_fields first = {.year = fields.year, .month = step == ZONED_STEP_MONTH ? fields.month : 1, .day = 1};
+    if (next && step == ZONED_STEP_MONTH && first.month < 12) first.month++;
+    else if (next) first.year++, first.month = 1;
+    return zoned_local_of(&first, &begin) == ZONED_OK ? begin : ZONED_NO_TIME;
+}
+
+/* The answers of zoned_zone_floor and zoned_zone_ceil follow from what clocks have reached, and when they reach a local time. */
+static void try_step(struct tried *of, uint32_t step, int64_t at) {
+    int64_t reached = 77, floor = 77, ceil = 77;
+    zoned_resolved begin = {0}, next = {0};
+    uint32_t number = zoned_zone_reached(&of->zone, at, &reached);
+    uint32_t of_floor = zoned_zone_floor(&of->zone, step, at, &floor), of_ceil = zoned_zone_ceil(&of->zone, step, at, &ceil);
+    if (of_floor) EXPECT(floor == 77);
+    if (of_ceil) EXPECT(ceil == 77);
+    if (number) {
+        EXPECT(of_floor == number && of_ceil == number);
+        return;
+    }
+    EXPECT(of_floor == ZONED_OK || of_floor == ZONED_INSTANT_OUT_OF_RANGE);
+    EXPECT(of_ceil == ZONED_OK || of_ceil == ZONED_INSTANT_OUT_OF_RANGE);
+    EXPECT(zoned_zone_first_at_or_after(&of->zone, begin_of(step, reached, 0), &begin) == ZONED_OK);
+    EXPECT(zoned_zone_first_at_or_after(&of->zone, begin_of(step, reached, 1), &next) == ZONED_OK);
+    if (!begin.number) EXPECT(!of_floor && floor == begin.instant);
+    if (!of_floor && floor == at) EXPECT(!of_ceil && ceil == at);
+    else if (!next.number) EXPECT(!of_ceil && ceil == next.instant);
+    zoned_day day;
+    memset(&day, 0x55, sizeof day);
+    number = zoned_zone_day(&of->zone, at, &day);
+    if (number) EXPECT(number == ZONED_INSTANT_OUT_OF_RANGE && is_untouched(&day, sizeof day));
+    else EXPECT(day.date == floor_to(reached, 86400) && day.begin <= at && at < day.end);
+    if (!number && step == ZONED_STEP_DAY) EXPECT(day.begin == floor && (floor == at || day.end == ceil));
+}
+
+/* What a column of steps has for an instant: the answer of the call for its second, or for the next one if it has more. */
+static uint32_t has_step(struct tried *of, uint32_t step, int64_t per_second, int is_ceil, int64_t instant, int64_t *answer) {
+    int64_t at = instant / per_second - (instant % per_second < 0), found = 77;
+    *answer = instant;
+    if (instant == ZONED_NO_TIME) return ZONED_OK;
+    uint32_t number = zoned_zone_reached(&of->zone, at, &found);
+    if (number) return number;
+    if (is_ceil) number = zoned_zone_ceil(&of->zone, step, at + (at * (__int128)per_second < instant), &found);
+    else number = zoned_zone_floor(&of->zone, step, at, &found);
+    __int128 time = (__int128)found * per_second;
+    *answer = (int64_t)time;
+    return number ? number : time > INT64_MIN && time <= INT64_MAX ? ZONED_OK : ZONED_INSTANT_OUT_OF_RANGE;
+}
+
+static void try_steps(struct tried *of) {
+    static const int64_t UNITS[] = {1, 1000, 1000000, 1000000000, 60};
+    static const uint32_t STEPS[] = {1, 60, 900, 3600, 10800, 43200, ZONED_STEP_DAY, ZONED_STEP_WEEK, ZONED_STEP_WEEK + 1, ZONED_STEP_WEEK + 6,
+                                     ZONED_STEP_MONTH, ZONED_STEP_YEAR, 0, 7, 86401, ZONED_STEP_WEEK + 7, ZONED_STEP_MONTH + 1, UINT32_MAX};
+    int64_t instants[COLUMN] = {0}, answers[COLUMN], per_second = UNITS[below(below(8) ? 4 : 5)];
+    uint32_t place = (uint32_t)below(below(8) ? 12 : 18), step = STEPS[place], why = ZONED_OK;
+    size_t count = below(COLUMN + 1), room = below(8) ? count : below(COLUMN + 1), row = 77, first = 0;
+    int is_unit = per_second != 60, is_step = place < 12, is_ceil = below(2) == 0;
+    if (is_step) try_step(of, step, second());
+    int64_t apart = (int64_t)below(20000) * per_second;
+    for (size_t i = 0; i < count; i++) {
+        instants[i] = time_of(per_second);
+        if (i > 0 && below(2) && instants[i - 1] < INT64_MAX - apart) instants[i] = instants[i - 1] + apart;
+    }
+    memset(answers, 0x55, sizeof answers);
+    uint32_t number = is_ceil ? zoned_column_ceils(&of->zone, step, per_second, instants, count, answers, room, &row)
+                              : zoned_column_floors(&of->zone, step, per_second, instants, count, answers, room, &row);
+    if (!is_step || !is_unit || due(of, count, room) != ZONED_OK) {
+        EXPECT(number == (!is_step ? ZONED_UNKNOWN_STEP : !is_unit ? ZONED_UNKNOWN_UNIT : due(of, count, room)));
+    } else {
+        for (int64_t due; first < count && !(why = has_step(of, step, per_second, is_ceil, instants[first], &due)); first++)
+            EXPECT(answers[first] == due);
+        EXPECT(number == why);
+    }
+    EXPECT(row == (why ? first : 77));
+    EXPECT(is_untouched(answers + first, (COLUMN - first) * sizeof *answers));
+    /* What clocks have reached, row by row. */
+    memset(answers, 0x55, sizeof answers), row = 77, first = 0, why = ZONED_OK;
+    number = zoned_column_reached(&of->zone, per_second, instants, count, answers, room, &row);
+    if (!is_unit || due(of, count, room) != ZONED_OK) {
+        EXPECT(number == (!is_unit ? ZONED_UNKNOWN_UNIT : due(of, count, room)));
+    } else {
+        for (; first < count; first++) {
+            int64_t reached = 77;
+            if (instants[first] == ZONED_NO_TIME) reached = ZONED_NO_TIME;
+            else if ((why = zoned_zone_reached(&of->zone, instants[first] / per_second - (instants[first] % per_second < 0), &reached))) break;
+            else if (__builtin_mul_overflow(reached, per_second, &reached) || reached == ZONED_NO_TIME) {
+                why = ZONED_INSTANT_OUT_OF_RANGE;
+                break;
+            }
+            EXPECT(answers[first] == reached);
+        }
+        EXPECT(number == why);
+    }
+    EXPECT(row == (why ? first : 77));
+    EXPECT(is_untouched(answers + first, (COLUMN - first) * sizeof *answers));
+}
+
 static int by_time(const void *a, const void *b) {
     int64_t x = *(const int64_t *)a, y = *(const int64_t *)b;
     return (x > y) - (x < y);
@@ -658,6 +864,7 @@ static void try_null(void) {
     struct zoned_zone zone = {0};
     size_t count = 77;
     EXPECT(zoned_open(ZONED_FILE, NULL, 0, &zone) == ZONED_UNEXPECTED_END);
+    EXPECT(zoned_fault_position(ZONED_TEXT, "EST5EDT,M3.2.0,M13.1.0", 22) == 16 && zoned_fault_position(ZONED_TEXT, "  \xff", 3) == 2);
     EXPECT(zoned_open(ZONED_TEXT, NULL, 0, &zone) == ZONED_OK);
     EXPECT(zoned_zone_offsets(&zone, NULL, 0, NULL, 0) == ZONED_OK && zoned_zone_types(&zone, NULL, 0, NULL, 0) == ZONED_OK);
     EXPECT(zoned_zone_wall_clocks(&zone, NULL, 0, NULL, 0) == ZONED_OK);
@@ -665,6 +872,8 @@ static void try_null(void) {
     EXPECT(zoned_zone_changes(&zone, 0, INT64_MAX / 1000, SIZE_MAX, NULL, 0, &count) == ZONED_OK && count == 0);
     EXPECT(zoned_column_locals(&zone, 1, NULL, 0, NULL, 0, &count) == ZONED_OK);
     EXPECT(zoned_column_instants(&zone, ZONED_GAP_REFUSE, ZONED_FOLD_REFUSE, 1, NULL, 0, NULL, 0, &count) == ZONED_OK);
+    EXPECT(zoned_column_reached(&zone, 1, NULL, 0, NULL, 0, &count) == ZONED_OK);
+    EXPECT(zoned_column_floors(&zone, ZONED_STEP_DAY, 1, NULL, 0, NULL, 0, &count) == ZONED_OK);
     EXPECT(zoned_error_text(ZONED_OK, NULL, 0) > 0);
     zoned_close(&zone);
 }
@@ -733,8 +942,10 @@ static void try_calls(uint64_t count) {
         case 9:
             try_changes(one);
             try_span(one);
+            try_saving(one);
             try_reached(one);
-            calls += 3;
+            try_rule_text(one);
+            calls += 6;
             break;
         case 10:
             try_list(one);
@@ -743,14 +954,16 @@ static void try_calls(uint64_t count) {
         case 11:
             try_column(one);
             try_instants_of_column(one);
-            calls += 2;
+            try_steps(one);
+            calls += 4;
             break;
         default:
             try_locals(one);
             try_first(one);
-            try_gap(one);
+            try_local_change(one);
+            try_local_info(one);
             try_fields(one);
-            calls += 10;
+            calls += 11;
             break;
         }
     }
@@ -777,25 +990,34 @@ static uint64_t mix_clock(uint64_t sum, const zoned_wall_clock *clock) {
 static uint64_t ask_one(const struct zoned_zone *zone, int64_t at, uint64_t sum) {
     int32_t offset;
     zoned_local_type type;
-    zoned_change next = {0}, previous = {0}, gap = {0};
+    zoned_change next = {0}, previous = {0}, of_local = {0};
+    zoned_local_info info = {0};
     zoned_wall_clock clock;
     zoned_resolved resolved, reached;
     zoned_span span;
-    int64_t clock_at = 0;
+    int64_t clock_at = 0, floor = 0;
+    zoned_day day = {0};
+    zoned_saving saving = {0};
     uint32_t numbers[] = {zoned_zone_offset(zone, at, &offset),
                           zoned_zone_reached(zone, at, &clock_at),
+                          zoned_zone_day(zone, at, &day),
+                          zoned_zone_floor(zone, ZONED_STEP_HOUR, at, &floor),
                           zoned_zone_type(zone, at, &type),
                           zoned_zone_span(zone, at, &span),
+                          zoned_zone_standard_offset(zone, at, &saving),
                           zoned_zone_first_at_or_after(zone, at, &reached),
-                          zoned_zone_gap(zone, at, &gap),
+                          zoned_zone_local_change(zone, at, &of_local),
+                          zoned_zone_local_info(zone, at, &info),
                           zoned_zone_next_change(zone, at, &next),
                           zoned_zone_previous_change(zone, at, &previous),
                           zoned_zone_wall_clock(zone, at, &clock),
                           zoned_zone_instant(zone, ZONED_GAP_SHIFT_FORWARD, ZONED_FOLD_LATEST, at, &resolved)};
     sum = mix(mix(mix(sum, numbers, sizeof numbers), &offset, sizeof offset), &type, sizeof type);
     sum = mix(mix(sum, &next, sizeof next), &previous, sizeof previous);
-    sum = mix(mix(mix(sum, &span, sizeof span), &reached, sizeof reached), &gap, sizeof gap);
-    sum = mix(sum, &clock_at, sizeof clock_at);
+    sum = mix(mix(mix(sum, &span, sizeof span), &reached, sizeof reached), &of_local, sizeof of_local);
+    sum = mix(mix(sum, &info.first, sizeof info.first), &info.last, sizeof info.last);
+    sum = mix(mix(mix(sum, &clock_at, sizeof clock_at), &day, sizeof day), &floor, sizeof floor);
+    sum = mix(sum, &saving, sizeof saving);
     return mix(mix_clock(sum, &clock), &resolved, sizeof resolved);
 }
 
@@ -967,6 +1189,126 @@ static void try_refusals(void) {
                 }
 }
 
+/* The stack that zoned(3) asks for, and what a question about one time may use of it. */
+enum { STACK_KB = 24, OF_ONE_KB = 2, AREA = 1 << 18, PAINT = 0xA5, TRANSITIONS = 1000000 };
+
+static uint8_t *area;
+static uintptr_t caller;
+static size_t most_used;
+
+/* Paints the stack below the caller, but for the frames of the next calls of these two functions. */
+static __attribute__((noinline)) void paint(void) {
+    caller = (uintptr_t)__builtin_frame_address(0);
+    for (volatile uint8_t *at = area; (uintptr_t)at + 256 < caller; at++) *at = PAINT;
+}
+
+static __attribute__((noinline)) size_t used(void) {
+    const uint8_t *at = area;
+    while (*at == PAINT) at++;
+    return caller - (uintptr_t)at;
+}
+
+#define WITHIN(kilobytes, call)                                                                                            \
+    do {                                                                                                                   \
+        paint();                                                                                                           \
+        EXPECT((call) == ZONED_OK);                                                                                        \
+        size_t bytes_used = used();                                                                                        \
+        if (bytes_used > most_used) most_used = bytes_used;                                                                \
+        EXPECT(bytes_used <= (kilobytes) * 1024);                                                                          \
+    } while (0)
+
+static uint8_t *put(uint8_t *at, uint64_t number, int size) {
+    for (int i = 0; i < size; i++) at[i] = (uint8_t)(number >> 8 * (size - 1 - i));
+    return at + size;
+}
+
+static uint8_t *put_header(uint8_t *at, size_t transitions, size_t types, size_t characters) {
+    memcpy(at, "TZif2", 5);
+    memset(at + 5, 0, 27);
+    return put(put(put(at + 32, transitions, 4), types, 4), characters, 4);
+}
+
+static uint8_t *put_type(uint8_t *at, int64_t offset, int is_dst, int place) {
+    return put(put(put(at, (uint64_t)offset, 4), (uint64_t)is_dst, 1), (uint64_t)place, 1);
+}
+
+/* A file of many transitions, from one offset to another and back every 2,000 seconds: their gaps and folds overlap. */
+static struct bytes overlapping_changes(void) {
+    struct bytes file = {ZONED_FILE, malloc(200 + 9 * (size_t)TRANSITIONS), 0};
+    EXPECT(file.at);
+    uint8_t *at = put_type(put_header(file.at, 0, 1, 4), 0, 0, 0);
+    memcpy(at, "UTC", 4);
+    at = put_header(at + 4, TRANSITIONS, 2, 8);
+    for (int64_t i = 0; i < TRANSITIONS; i++) at = put(at, (uint64_t)(2000 * i), 8);
+    for (int i = 0; i < TRANSITIONS; i++) at = put(at, i % 2 == 0, 1);
+    at = put_type(put_type(at, 0, 0, 0), 3600, 1, 4);
+    memcpy(at, "STD\0DST\0\n\n", 10);
+    file.len = (size_t)(at + 10 - file.at);
+    return file;
+}
+
+static void ask_on_painted_stack(const struct zoned_zone *zone) {
+    static int64_t times[LONG], answers[LONG];
+    int64_t at = 1615705199, number;
+    int32_t offset;
+    size_t row, count;
+    zoned_local_type type;
+    zoned_change change, changes[MOST];
+    zoned_wall_clock clock;
+    zoned_resolved resolved;
+    zoned_span span;
+    zoned_day day;
+    zoned_fields fields;
+    WITHIN(OF_ONE_KB, zoned_zone_offset(zone, at, &offset));
+    WITHIN(OF_ONE_KB, zoned_zone_type(zone, at, &type));
+    WITHIN(OF_ONE_KB, zoned_zone_span(zone, at, &span));
+    WITHIN(OF_ONE_KB, zoned_zone_next_change(zone, at, &change));
+    WITHIN(OF_ONE_KB, zoned_zone_previous_change(zone, at, &change));
+    WITHIN(OF_ONE_KB, zoned_zone_changes(zone, at, at + 100000000, MOST, changes, MOST, &count));
+    WITHIN(OF_ONE_KB, zoned_zone_wall_clock(zone, at, &clock));
+    WITHIN(OF_ONE_KB, zoned_zone_instant(zone, ZONED_GAP_SHIFT_FORWARD, ZONED_FOLD_LATEST, at, &resolved));
+    WITHIN(OF_ONE_KB, zoned_zone_first_at_or_after(zone, at, &resolved));
+    WITHIN(OF_ONE_KB, zoned_zone_reached(zone, at, &number));
+    WITHIN(OF_ONE_KB, zoned_zone_day(zone, at, &day));
+    WITHIN(OF_ONE_KB, zoned_zone_floor(zone, ZONED_STEP_MONTH, at, &number));
+    WITHIN(OF_ONE_KB, zoned_zone_ceil(zone, ZONED_STEP_YEAR, at, &number));
+    WITHIN(OF_ONE_KB, zoned_zone_fields(zone, at, &fields));
+    for (int64_t i = 0; i < LONG; i++) times[i] = i * 7919 % LONG * 300000;
+    WITHIN(STACK_KB, zoned_column_locals(zone, 1, times, LONG, answers, LONG, &row));
+    WITHIN(STACK_KB, zoned_column_instants(zone, ZONED_GAP_END, ZONED_FOLD_EARLIEST, 1, times, LONG, answers, LONG, &row));
+    WITHIN(STACK_KB, zoned_column_reached(zone, 1, times, LONG, answers, LONG, &row));
+    WITHIN(STACK_KB, zoned_column_floors(zone, ZONED_STEP_DAY, 1, times, LONG, answers, LONG, &row));
+    WITHIN(STACK_KB, zoned_column_ceils(zone, ZONED_STEP_HOUR, 1, times, LONG, answers, LONG, &row));
+}
+
+static void *on_painted_stack(void *given) {
+    struct bytes file = overlapping_changes();
+    struct zoned_zone rule = {0}, table = {0}, share = {0};
+    char text[200];
+    WITHIN(STACK_KB, zoned_open(ZONED_TEXT, TEXTS[1], strlen(TEXTS[1]), &rule));
+    WITHIN(STACK_KB, zoned_open(ZONED_FILE, file.at, file.len, &table));
+    WITHIN(STACK_KB, zoned_share(&table, &share));
+    WITHIN(STACK_KB, zoned_fault_position(ZONED_TEXT, "EST5EDT,M3.2.0,M13.1.0", 22) != 16);
+    WITHIN(STACK_KB, zoned_error_text(ZONED_TIME_ZONE, text, sizeof text) == 0);
+    ask_on_painted_stack(&rule);
+    ask_on_painted_stack(&table);
+    WITHIN(STACK_KB, (zoned_close(&share), zoned_close(&table), ZONED_OK));
+    zoned_close(&rule);
+    free(file.at);
+    return given;
+}
+
+static void try_stack(void) {
+    pthread_attr_t attributes;
+    pthread_t thread;
+    area = mmap(NULL, AREA, PROT_READ | PROT_WRITE, MAP_PRIVATE | MAP_ANONYMOUS, -1, 0);
+    EXPECT(area != MAP_FAILED && pthread_attr_init(&attributes) == 0 && pthread_attr_setstack(&attributes, area, AREA) == 0);
+    EXPECT(pthread_create(&thread, &attributes, on_painted_stack, NULL) == 0 && pthread_join(thread, NULL) == 0);
+    pthread_attr_destroy(&attributes);
+    munmap(area, AREA);
+    printf("at most %zu bytes of stack\n", most_used);
+}
+
 static struct bytes read_file(const char *path) {
     struct bytes bytes = {ZONED_FILE, malloc(1 << 20), 0};
     FILE *file = fopen(path, "rb");
@@ -980,8 +1322,12 @@ static struct bytes read_file(const char *path) {
 }
 
 int main(int count, char **words) {
+    if (count == 2 && strcmp(words[1], "stack") == 0) {
+        try_stack();
+        return 0;
+    }
     if (count < 4) {
-        fprintf(stderr, "usage: %s CALLS SEED FILE ..\n", words[0]);
+        fprintf(stderr, "usage: %s CALLS SEED FILE .. | stack\n", words[0]);
         return 2;
     }
     uint64_t wanted = strtoull(words[1], NULL, 10);

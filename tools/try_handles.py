@@ -4,10 +4,11 @@
 usage: tools/try_handles.py [CALLS [SEED]]
 
 CALLS random calls are made (a million), by SEED (1). It needs crates/zoned_ffi/out/libzoned_ffi.a, which `rt lib` builds in
-crates/zoned_ffi, gcc, and a tz database in /usr/share/zoneinfo. The program is built and run as it is; with AddressSanitizer,
-which finds leaks, and UndefinedBehaviorSanitizer, and with ThreadSanitizer, a tenth as often; and, if valgrind is installed,
-under memcheck, helgrind and drd, with fewer calls. (The archive isn't instrumented: ThreadSanitizer sees what the program and the
-heap do, helgrind and drd see all.) It takes a minute. The gate runs it. Ends with status 1 if anything differs, leaks or races.
+crates/zoned_ffi, gcc, and a tz database in /usr/share/zoneinfo. The program is built and run as it is, also to see how much stack
+calls use; with AddressSanitizer, which finds leaks, and UndefinedBehaviorSanitizer, and with ThreadSanitizer, a tenth as often; and, if
+valgrind is installed, under memcheck, helgrind and drd, with fewer calls. (The archive isn't instrumented: ThreadSanitizer sees what the
+program and the heap do, helgrind and drd see all.) It takes a minute. The gate runs it. Ends with status 1 if anything differs, leaks or
+races.
 """
 
 import shutil
@@ -53,6 +54,7 @@ def main():
         raced = build("raced", Path(folder), THREAD_SANITIZER)
         results = [
             failed("handles", [plain, str(calls), str(seed), *files]),
+            failed("stack", [plain, "stack"]),
             failed("handles, with sanitizers", [checked, str(calls // 10), str(seed + 1), *files]),
             failed("handles, with ThreadSanitizer", [raced, str(calls // 10), str(seed + 1), *files]),
         ]

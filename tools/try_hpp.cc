@@ -5,6 +5,7 @@
 
 #include <array>
 #include <cstdio>
+#include <vector>
 #if ZONED_STD_CHRONO >= 2
 #include <format>
 #endif
@@ -201,14 +202,63 @@ static void try_located() {
     }
 }
 
+// Steps of the local clock, around the second pass of 2021-11-07 01:30:00: the hour of 01:00 has 120 minutes.
+static void try_steps(const time_zone &new_york) {
+    using std::chrono::hours, std::chrono::milliseconds, zoned::step;
+    const auto at = [](int64_t second) { return zoned::sys_seconds(seconds(second)); };
+    const auto second_pass = at(1636266600);
+    const auto day = new_york.get_day(second_pass);
+    is_so("the day of an instant", day.date.time_since_epoch() == seconds(1636243200) && day.begin == at(1636257600) && day.end == at(1636347600));
+    is_so("floor to an hour", new_york.floor(second_pass, hours(1)) == at(1636261200));
+    is_so("ceil to an hour", new_york.ceil(second_pass, hours(1)) == at(1636268400));
+    is_so("ceil of a beginning", new_york.ceil(at(1636268400), hours(1)) == at(1636268400));
+    is_so("ceil after it", new_york.ceil(at(1636268400) + milliseconds(1), hours(1)) == at(1636272000));
+    is_so("floor to a day", new_york.floor(second_pass, hours(24)) == day.begin);
+    is_so("floor to a week", new_york.floor(second_pass, step::week()) == at(1635739200) && new_york.floor(second_pass, step::week(0)) == day.begin);
+    is_so("floor to a month", new_york.floor(second_pass, step::month()) == at(1635739200));
+    is_so("ceil to a year", new_york.ceil(second_pass, step::year()) == at(1641013200));
+    std::vector<zoned::sys_time<milliseconds>> instants{second_pass + milliseconds(1)}, begins(1);
+    std::vector<zoned::local_time<milliseconds>> locals(1);
+    new_york.reached_column(instants, locals);
+    is_so("a column of reached times", locals[0].time_since_epoch() == seconds(1636250399));
+    new_york.floor_column(instants, hours(1), begins);
+    is_so("a column of floors", begins[0] == at(1636261200));
+    new_york.ceil_column(instants, hours(1), begins);
+    is_so("a column of ceils", begins[0] == at(1636268400));
+    for (step none : {step(seconds(7)), step(hours(48)), step(seconds(0)), step::week(7)}) {
+        try {
+            new_york.floor(second_pass, none);
+            is_so("a length that is no step", false);
+        } catch (const zoned::error &error) {
+            is_so("a length that is no step", error.number == ZONED_UNKNOWN_STEP);
+        }
+    }
+}
+
 // What clocks have reached, of New York in 2021; and fixed offsets.
 static void try_reached(const time_zone &new_york) {
     const auto at = [](int64_t second) { return zoned::sys_seconds(seconds(second)); };
     is_so("clocks have reached", new_york.reached(at(1636266600)).time_since_epoch() == seconds(1636250399));
+    try_steps(new_york);
     const auto nepal = time_zone::fixed(seconds(20700)), west = time_zone::fixed(seconds(-12345));
     is_so("a fixed offset has a name", nepal.name() == "+05:45" && west.name() == "-03:25:45" && time_zone::fixed(seconds(0)).name() == "+00:00");
     is_so("and its offset", nepal.get_offset(at(0)) == seconds(20700) && west.get_offset(at(0)) == seconds(-12345));
     is_so("two of one offset are equal", nepal == time_zone::fixed(seconds(20700)) && nepal != west);
+}
+
+// What daylight saving time adds: an hour in New York, and an hour less in Dublin's winter. std's minutes are counted away from zero.
+static void try_save(const time_zone &new_york) {
+    const zoned::sys_seconds summer{seconds{1625097600}}, winter{seconds{1609459200}};
+    const auto dublin = time_zone::from_string("IST-1GMT0,M10.5.0,M3.5.0/1");
+    is_so("New York saves an hour", new_york.get_info(summer).save == seconds{3600} && new_york.get_info(winter).save == seconds{0});
+    is_so("Dublin an hour less", dublin.get_info(winter).save == seconds{-3600} && dublin.get_info(summer).save == seconds{0});
+    const auto skipped = new_york.get_info(zoned::local_seconds{seconds{1615689000}});
+    is_so("a gap has both amounts", skipped.first.save == seconds{0} && skipped.second.save == seconds{3600});
+#if ZONED_STD_CHRONO >= 2
+    const auto ahead = time_zone::from_string("AAA0BBB-0:00:20,M3.2.0,M11.1.0"), behind = time_zone::from_string("AAA0BBB0:01:20,M3.2.0,M11.1.0");
+    is_so("20 seconds are a minute", std::chrono::sys_info(ahead.get_info(summer)).save == std::chrono::minutes{1});
+    is_so("80 seconds less are two less", std::chrono::sys_info(behind.get_info(summer)).save == std::chrono::minutes{-2});
+#endif
 }
 
 // std::chrono's choose: the earliest or the latest instant, and the end of a gap.
@@ -250,7 +300,7 @@ static void try_zoned_time(const time_zone &new_york) {
     is_so("zoned_time takes local times", in_seconds{&new_york, std::chrono::local_days{year{2021} / 3 / 14} + hours{3}} == meeting);
     is_so("and a choice", in_seconds(&new_york, in_gap, std::chrono::choose::latest) == meeting);
     const std::chrono::sys_info info = meeting.get_info();
-    is_so("its info", info.begin == change && info.offset == hours{-4} && info.save != minutes{0} && info.abbrev == "EDT");
+    is_so("its info", info.begin == change && info.offset == hours{-4} && info.save == minutes{60} && info.abbrev == "EDT");
     const local_info skipped = new_york.get_info(in_gap), repeated = new_york.get_info(in_fold);
     is_so("a gap", skipped.result == local_info::nonexistent && skipped.first.save == minutes{0} && skipped.second.begin == change);
     is_so("a fold", repeated.result == local_info::ambiguous && repeated.first.abbrev == "EDT" && repeated.second.abbrev == "EST");
@@ -276,7 +326,7 @@ int main() {
     try_unit<std::chrono::microseconds>(new_york), try_ends<std::chrono::microseconds>();
     try_unit<std::chrono::nanoseconds>(new_york), try_ends<std::chrono::nanoseconds>();
     try_other_units(new_york);
-    try_names(new_york), try_located(), try_choose(new_york), try_reached(new_york);
+    try_names(new_york), try_located(), try_choose(new_york), try_reached(new_york), try_save(new_york);
 #if ZONED_STD_CHRONO >= 1
     try_calendar(new_york);
 #endif

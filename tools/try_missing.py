@@ -25,6 +25,7 @@ SCRIPTS = {
     "try_zonedump.py": ([], [ZONEDUMP]),
     "refuse_memory.py": (["cc"], ["crates/tests_out_of_memory/out/tests_out_of_memory", ZONEQ]),
     "try_handles.py": (["rt", "gcc"], [ARCHIVE]),
+    "try_shapes.py": (["rt", "gcc"], [ARCHIVE]),
     "try_examples.py": (["rt", "gcc", "g++", "rustc", "nm"], [ARCHIVE]),
     "try_install.py": (["rt", "gcc", "g++", "nm"], [ARCHIVE]),
     "try_databases.py": (["gcc"], [ARCHIVE]),

@@ -96,7 +96,32 @@ static void try_words(void) {
         IS(strcmp(words, text), 0);
     }
     IS(strcmp(zoned_error_words(UINT32_MAX), "no number of this library"), 0);
-    IS(strcmp(zoned_error_words(ZONED_NO_SUCH_ZONE), zoned_error_words(47)) != 0, 1);
+    IS(strcmp(zoned_error_words(ZONED_NO_SUCH_ZONE), zoned_error_words(48)) != 0, 1);
+}
+
+/* London, where British summer time became standard time on 1968-10-27, at the same offset, until 1971-10-31 (zdump -v). */
+static void try_london(void) {
+    struct zoned_zone zone = {0};
+    zoned_change change;
+    zoned_local_info info;
+    char rule[32] = "";
+    size_t length = 0;
+    IS(zoned_open_name("Europe/London", "/usr/share/zoneinfo", &zone), ZONED_OK);
+    /* 02:30 on 1971-10-31 was shown twice, and 02:30 on 1968-02-18 never. */
+    IS(zoned_zone_local_change(&zone, 57724200, &change), ZONED_OK);
+    IS(change.at, 57722400);
+    IS(zoned_zone_local_info(&zone, 57724200, &info), ZONED_OK);
+    IS(info.shown, ZONED_SEVERAL_TIMES);
+    IS(info.first.from, -37242000);
+    IS(info.last.from, 57722400);
+    IS(zoned_zone_local_info(&zone, -59002200, &info), ZONED_OK);
+    IS(info.shown, ZONED_NEVER);
+    IS(info.first.until, -59004000);
+    IS(info.last.until, -37242000);
+    IS(zoned_zone_rule_text(&zone, rule, sizeof rule, &length), ZONED_OK);
+    IS(strcmp(rule, "GMT0BST,M3.5.0/1,M10.5.0"), 0);
+    IS(length, strlen(rule));
+    zoned_close(&zone);
 }
 
 int main(int count, char **words) {
@@ -183,5 +208,6 @@ int main(int count, char **words) {
 
     try_versions();
     try_words();
+    if (access("/usr/share/zoneinfo/Europe/London", R_OK) == 0) try_london();
     return differences != 0;
 }

@@ -12,11 +12,12 @@ The JSON of a file and of a TZ string must have the changes of the table. A file
 read, and show the same times in Python's zoneinfo. A file that can't be written whole must be left as it was, without a temporary
 file beside it, and one that is written again and again must never be seen in part. A picture must be the one in docs/, have the
 changes of the table as steps of its line at their places, and the wall clocks of the table in its panels. Zones are asked for by
-name, and a wrong name never leads out of the database's folder. What --at prints must be what zoneinfo has, a summary and the times
-that move those of two folders, and each line of JSON must fit the schema in docs/. Each of the wrong uses of WRONG_USES must be answered by
-what to type, and each failing system call by a fault or the whole answer. The table of a large file must need no more memory than one question about it. Prints a line for each
-run, and ends with status 1 if an answer differs. It takes half a minute, and needs the C compiler cc for the two lines that
-choose a random number.
+name, and a wrong name never leads out of the database's folder. What is listed from a year or a date to another, and what --at
+prints, must be what zoneinfo has, a summary and the times that move those of two folders, and each line of JSON must fit the
+schema in docs/. Each of the wrong uses of WRONG_USES must be answered by what to type, and each failing system call by a fault or
+the whole answer. The table of a large file must need no more memory than one question about it. Prints a line for each run, and
+ends with status 1 if an answer differs. It takes half a minute, and needs the C compiler cc for the two lines that choose a random
+number.
 """
 
 import json
@@ -297,8 +298,7 @@ def try_extended(program, folder):
 
 def differing(old, new, year):
     """The stretches of a year in which two files differ in offset or abbreviation, found with zoneinfo at each quarter of an hour."""
-    begin = int(datetime(year, 1, 1, tzinfo=timezone.utc).timestamp())
-    end = int(datetime(year + 1, 1, 1, tzinfo=timezone.utc).timestamp())
+    begin, end = second_of(year), second_of(year + 1)
     with open(old, "rb") as file, open(new, "rb") as other:
         zones = [ZoneInfo.from_file(file), ZoneInfo.from_file(other)]
     found, last = [], None
@@ -444,8 +444,9 @@ def try_help(program, folder):
     try_record(program, folder, line)
     check("no arguments name --text", True, "--text TZ" in run(program)[2])
     options = set(re.findall(r"--[a-z]+", re.search(r"(?s)Options:\n(.*?)\n\n", output).group(1)))
-    for name, form in (("zonedump.1", r"\\-\\-([a-z]+)"), ("zonedump.bash", r"--([a-z]+)"), ("_zonedump", r"--([a-z]+)")):
-        text = (STORED / "install" / name).read_text()
+    forms = {"zonedump.1": r"\\-\\-([a-z]+)", "zonedump.bash": r"--([a-z]+)", "zonedump.zsh": r"--([a-z]+)", "zonedump.fish": r" -l ([a-z]+)"}
+    for name, form in forms.items():
+        text = (HERE / "crates/zoned_ffi/install" / name).read_text()
         check(f"  the options of {name}", options, {f"--{option}" for option in re.findall(form, text)})
 
 
@@ -454,8 +455,8 @@ def shapes(picture, name):
     return [shape for shape in ElementTree.fromstring(picture).iter() if name in shape.get("class", "").split()]
 
 
-def second_of_year(year):
-    return int(datetime(year, 1, 1, tzinfo=timezone.utc).timestamp())
+def second_of(year, month=1, day=1):
+    return int(datetime(year, month, day, tzinfo=timezone.utc).timestamp())
 
 
 def seconds_of_tick(words):
@@ -464,16 +465,15 @@ def seconds_of_tick(words):
     return (-1 if sign == "-" else 1) * sum(int(part or 0) * unit for part, unit in zip(parts, (3600, 60, 1)))
 
 
-def wrong_steps(picture, zone, seconds, first, last):
+def wrong_steps(picture, zone, seconds, start, until):
     """The clock changes that are neither a step of the line nor in a band, and the steps at which clocks don't change: by
     zoneinfo's offsets, the ticks of the picture and the sides of its chart."""
-    start, until = second_of_year(first), second_of_year(last + 1)
     ticks = sorted((seconds_of_tick(tick.text), float(tick.get("y")) - 4) for tick in shapes(picture, "end"))
     (low, bottom), (high, top) = ticks[0], ticks[-1]
     offsets = [int(datetime.fromtimestamp(second, timezone.utc).astimezone(zone).utcoffset().total_seconds())
                for second in [start, *seconds]]
     across = [90 + 780 * (second - start) / (until - start) for second in seconds]
-    down = [top + (high - offset) * (bottom - top) / (high - low) for offset in offsets]
+    down = [top + (high - offset) * (bottom - top) / (high - low or 1) for offset in offsets]
     due = [(x, before, after) for x, before, after in zip(across, down, down[1:]) if before != after]
     line, = shapes(picture, "line")
     steps = [tuple(map(float, step)) for step in re.findall(r"M([\d.]+) ([\d.]+)V([\d.]+)", line.get("d"))]
@@ -524,7 +524,7 @@ def try_svg(program, folder):
         span = ["--from", str(first), "--to", str(last)]
         run(program, *span, "--svg", "line", "good", folder=folder)
         seconds = seconds_of_table(run(program, *span, "good", folder=folder)[1])
-        check(f"  its line from {first} to {last}", [], wrong_steps((folder / "line").read_bytes(), zone, seconds, first, last))
+        check(f"  its line from {first} to {last}", [], wrong_steps((folder / "line").read_bytes(), zone, seconds, second_of(first), second_of(last + 1)))
     text = "<-03>3<-02>,M3.5.0/22,M10.5.0/23:30"
     check("--svg of a text", (0, "", ""), run(program, *year, "--svg", "by_text", "--text", text, folder=folder))
     check("  its title", [text], [title.text for title in shapes((folder / "by_text").read_bytes(), "title")])
@@ -558,6 +558,51 @@ def try_zone_names(program, folder):
     check("standard input", (0, f"-\n{good}", ""), (given.returncode, given.stdout, given.stderr))
     copied = subprocess.run([str(program), "--write", "-", "good"], cwd=folder, capture_output=True)
     check("standard output", (0, b"TZif2"), (copied.returncode, copied.stdout[:5]))
+
+
+def changes_due(name, start, until):
+    """The seconds from `start` on and before `until` at which zoneinfo changes offset or abbreviation, found at each quarter of an
+    hour."""
+    shown = lambda second: (lambda time: (time.utcoffset(), time.tzname()))(datetime.fromtimestamp(second, ZoneInfo(name)))
+    return [second for second in range(start, until, 900) if shown(second) != shown(second - 1)]
+
+
+# The first and the last year or date of a list, its first second and the one after it.
+PERIODS = (
+    ("2026-03-29", "2026-03-29", second_of(2026, 3, 29), second_of(2026, 3, 30)),
+    ("2026-03-30", "2026-10-24", second_of(2026, 3, 30), second_of(2026, 10, 25)),
+    ("2025-10-26", "2026-03-28", second_of(2025, 10, 26), second_of(2026, 3, 29)),
+    ("2026-03-01", "2027", second_of(2026, 3), second_of(2028)),
+    ("2024", "2026-10-25", second_of(2024), second_of(2026, 10, 26)),
+    ("2024-02-29", "2024-12-31", second_of(2024, 2, 29), second_of(2025)),
+)
+
+
+def try_dates(program, folder):
+    """Years and dates of --from and --to: what is listed, compared and drawn is what zoneinfo has in them."""
+    name = "Europe/Paris"
+    for first, last, start, until in PERIODS:
+        due, words = changes_due(name, start, until), ["--from", first, "--to", last]
+        table = run(program, *words, name)
+        check(" ".join(words), (0, f"changes from {first} to {last}: {len(due)}", due, ""),
+              (table[0], table[1].splitlines()[3], seconds_of_table(table[1]), table[2]))
+        told = json.loads(run(program, "--json", *words, name)[1])
+        ends = [int(text) if text.isdigit() else text for text in (first, last)]
+        check("  as JSON", (ends, due), ([told["from"], told["to"]], [change["at"] for change in told["changes"]]))
+        lines = run(program, "--zdump", *words, name)[1].splitlines()
+        pairs = [line.split(" UT = ")[0].split("  ", 1)[1] for line in lines[2:-2]]
+        check("  as zdump", [time.strftime("%a %b %e %H:%M:%S %Y") for second in due for time in
+                             (datetime.fromtimestamp(second - 1, timezone.utc), datetime.fromtimestamp(second, timezone.utc))], pairs)
+        picture = run(program, "--svg", "-", *words, name)[1].encode()
+        check("  as a picture", [], wrong_steps(picture, ZoneInfo(name), due, start, until))
+        span = first if first == last else f"{first} to {last}"
+        check("  its title", f"offset from UTC in {span}", [note.text for note in shapes(picture, "note")][0])
+    line = "2021-03-14 07:00:00 to 2021-03-15 00:00:00 UTC  -04:00 dst EDT -> -05:00 std EST  moved by -3600 s\n"
+    check("--diff of a day", (1, line, ""), run(program, "--from", "2021-03-14", "--to", "2021-03-14", "--diff", "good", "new", folder=folder))
+    check("  of the day before", (0, "", ""), run(program, "--from", "2021-03-13", "--to", "2021-03-13", "--diff", "good", "new", folder=folder))
+    for first, last in (("0001-01-01", "9999-12-31"), ("0001", "9999")):
+        told = json.loads(run(program, "--json", "--from", first, "--to", last, "--text", "UTC0")[1])
+        check(f"--from {first} --to {last}", [], told["changes"])
 
 
 def try_at(program):
@@ -632,6 +677,8 @@ def fits(value, form, forms):
         return set(form["required"]) <= set(value) <= set(known) and all(fits(value[name], known[name], forms) for name in value)
     if isinstance(value, list):
         return all(fits(each, form["items"], forms) for each in value)
+    if isinstance(value, str):
+        return re.fullmatch(form.get("pattern", "(?s).*"), value) is not None
     return not isinstance(value, int) or form.get("minimum", value) <= value <= form.get("maximum", value)
 
 
@@ -640,11 +687,12 @@ def try_schema(program, folder):
     schema = json.loads((HERE / "docs/zonedump.schema.json").read_text())
     names = sorted(str(path) for path in Path(DATABASE).glob("*/*") if path.is_file() and path.read_bytes()[:4] == b"TZif")
     lines = run(program, "--json", *names)[1].splitlines() + run(program, "--json", "--text", "EST5EDT,J60/2,300/2")[1].splitlines()
-    lines += run(program, "--json", "--diff", "before", "after", folder=folder)[1].splitlines()
+    for words in (["--diff", "before", "after"], ["--from", "2021-03-14", "--to", "2021-11-07", "--diff", "before", "after"], ["--from", "2021-03-14", "good"]):
+        lines += run(program, "--json", *words, folder=folder)[1].splitlines()
     check("JSON fits its schema", (True, []),
           (len(lines) > 300, [line[:80] for line in lines if not fits(json.loads(line), schema, schema["$defs"])]))
     whole = json.loads(lines[0])
-    wrong = [{**whole, "from": 0}, {**whole, "also": 1}, {**whole, "rule": {}}, {name: whole[name] for name in whole if name != "types"}]
+    wrong = [{**whole, "from": 0}, {**whole, "to": "2026-3-1"}, {**whole, "also": 1}, {**whole, "rule": {}}, {name: whole[name] for name in whole if name != "types"}]
     check("  and what is wrong doesn't", [], [each for each in wrong if fits(each, schema, schema["$defs"])])
 
 
@@ -802,6 +850,7 @@ def main():
             check(" ".join(words), (2, "", over), run(program, *words, folder=folder))
         try_svg(program, folder)
         try_zone_names(program, folder)
+        try_dates(program, folder)
         try_at(program)
         try_summary(program, folder)
         try_schema(program, folder)
@@ -825,10 +874,12 @@ def main():
 ONE_ZONE = "zonedump: --{} takes one zone; call zonedump once for each zone\n"
 TWO = "zonedump: --diff takes two files or two folders, as in zonedump --diff OLD NEW"
 FOLDER = "a folder; name a file in it, or compare two with zonedump --diff OLD NEW"
+BOUND = "--{0} takes a year from 1 to 9999 or a date, as in --{0} 2026 or --{0} 2026-03-01, and not"
+EARLIER = "write the earlier one after --from (unless given, they are 1900 and 2037)"
 TIME = "--at takes a time, as in --at 2026-11-01T09:00 or --at @1793523600, and not"
-TIMES = "no zone; a time is one word, as in --at 2026-11-01T09:00, and years are --from 2026 --to 2027"
+TIMES = "no zone; a time is one word, as in --at 2026-11-01T09:00, and years or dates are --from 2026 --to 2027-03-31"
 LEAVE_OUT = "Leave out one of them; --help has examples."
-AS_ZDUMP = "  tip: --zdump prints what zdump -v prints; --from and --to take the years\n--help has examples."
+AS_ZDUMP = "  tip: --zdump prints what zdump -v prints; --from and --to take years or dates\n--help has examples."
 UNKNOWN = "no such file or zone; a zone has a name like Europe/Paris"
 
 MAGIC = "not a TZif file: invalid TZif file: expected TZif at the front of a header (5)"
@@ -915,12 +966,18 @@ WRONG_USES = (
     ("zonedump --year 2026 Europe/Paris", 2, f"error: unexpected argument '--year' found\n{AS_ZDUMP}"),
     ("zonedump --form 2020 Europe/Paris", 2,
      "error: unexpected argument '--form' found\n  tip: a similar argument exists: '--from'\n--help has examples."),
-    ("zonedump --from 0 Europe/Paris", 2, "zonedump: --from takes a year from 1 to 9999, as in --from 2026, and not '0'"),
-    ("zonedump --from -5 Europe/Paris", 2, "zonedump: --from takes a year from 1 to 9999, as in --from 2026, and not '-5'"),
-    ("zonedump --to soon Europe/Paris", 2, "zonedump: --to takes a year from 1 to 9999, as in --to 2026, and not 'soon'"),
-    ("zonedump --from 2040 --to 1990 Europe/Paris", 2, "zonedump: --from 2040 comes after --to 1990; write the earlier year after --from"),
-    ("zonedump --from 2020 --from 2021 Europe/Paris", 2, f"error: the argument '--from <YEAR>' cannot be used multiple times\n{LEAVE_OUT}"),
-    ("zonedump --from", 2, "error: a value is required for '--from <YEAR>' but none was supplied\n--help has examples."),
+    ("zonedump --from 0 Europe/Paris", 2, f"zonedump: {BOUND.format('from')} '0'"),
+    ("zonedump --from -5 Europe/Paris", 2, f"zonedump: {BOUND.format('from')} '-5'"),
+    ("zonedump --to soon Europe/Paris", 2, f"zonedump: {BOUND.format('to')} 'soon'"),
+    ("zonedump --to 2026-02-29 Europe/Paris", 2, f"zonedump: {BOUND.format('to')} '2026-02-29'"),
+    ("zonedump --from 2026-3-1 Europe/Paris", 2, f"zonedump: {BOUND.format('from')} '2026-3-1'"),
+    ("zonedump --from 0000-01-01 Europe/Paris", 2, f"zonedump: {BOUND.format('from')} '0000-01-01'"),
+    ("zonedump --from 2026-03-01T09:00 Europe/Paris", 2, f"zonedump: {BOUND.format('from')} '2026-03-01T09:00'"),
+    ("zonedump --from 2040 --to 1990 Europe/Paris", 2, f"zonedump: --from 2040 comes after --to 1990; {EARLIER}"),
+    ("zonedump --from 2040 Europe/Paris", 2, f"zonedump: --from 2040 comes after --to 2037; {EARLIER}"),
+    ("zonedump --from 2026-03-02 --to 2026-03-01 Europe/Paris", 2, f"zonedump: --from 2026-03-02 comes after --to 2026-03-01; {EARLIER}"),
+    ("zonedump --from 2020 --from 2021 Europe/Paris", 2, f"error: the argument '--from <WHEN>' cannot be used multiple times\n{LEAVE_OUT}"),
+    ("zonedump --from", 2, "error: a value is required for '--from <WHEN>' but none was supplied\n--help has examples."),
     ("zonedump --at now Europe/Paris", 2, f"zonedump: {TIME} 'now'"),
     ("zonedump --at 1793523600 Europe/Paris", 2, f"zonedump: {TIME} '1793523600'"),
     ("zonedump --at 2026-02-29T09:00 Europe/Paris", 2, f"zonedump: {TIME} '2026-02-29T09:00'"),
@@ -944,7 +1001,7 @@ WRONG_USES = (
     ("zonedump --json --zdump Europe/Paris", 2, f"error: the argument '--json' cannot be used with '--zdump'\n{LEAVE_OUT}"),
 )
 
-HELP = ("1 to 9999", "one zone", "--extended", "Exit status", "--text <TZ>")
+HELP = ("1 to 9999", "2026-03-01", "one zone", "--extended", "Exit status", "--text <TZ>")
 
 WRONG_TEXTS = ("EST", "EST5EDT,M13.2.0,M11.1.0", "EST5EDT", "5")
 

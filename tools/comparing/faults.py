@@ -1,5 +1,6 @@
 """Reads mutated TZ strings by a reader of its own, written from POSIX.1 and RFC 8536 and this repository's list of errors, and
-compares the number of each string's error, and where it is, with those of `TransitionRule::parse_tz_string`.
+compares the number of each string's error, and where it is, with those of `TransitionRule::parse_tz_string`,
+`TimeZone::parse_extended_tz` and, for strings in white space, `TimeZone::parse_posix_tz`.
 
 A string is a real one in which one to three bytes are put in, left out or replaced, or whose end is cut off. COUNT strings are
 made from SEED. The library reads them in a program that is run and not proved. Prints how many are rejected, and the first
@@ -19,11 +20,22 @@ CRATE = "mutated"
 # What a program that is tried may write at most.
 OUTPUT = 1 << 20
 PROGRAM = """//! Reads TZ strings, a line each, and writes two bytes for each: the number of its error and where it
-//! is, each with 32 added; two spaces if the line is accepted.
+//! is, each with 32 added; two spaces if the line is accepted. The first byte says how it is read.
 #![tactic(auto)]
 
+use std::alloc::Global;
 use std::io::{BufWriter, Write};
-use tz_info::TransitionRule;
+use std::str;
+use tz_info::{ParseError, TimeZone, TransitionRule};
+
+fn fault(alloc: Global, kind: u8, text: &[u8]) -> Option<ParseError> {
+    match kind {
+        b'0' => TransitionRule::parse_tz_string(text, false).err(),
+        b'1' => TransitionRule::parse_tz_string(text, true).err(),
+        b'2' => TimeZone::parse_posix_tz(alloc, str::from_utf8(text).ok()?).err(),
+        _ => TimeZone::parse_extended_tz(alloc, text).err(),
+    }
+}
 
 fn main(rt: HostRuntime) {
     let Ok(bytes) = zoned_files::read_all(rt.alloc(), rt.stdin()) else {
@@ -34,9 +46,9 @@ fn main(rt: HostRuntime) {
     };
     for line in bytes.as_slice().split(|byte| *byte == b'\\n') {
         if let Some((first, text)) = line.split_first() {
-            let (number, place) = match TransitionRule::parse_tz_string(text, *first == b'1') {
-                Ok(_) => (0, 0),
-                Err(e) => (e.error.number(), e.position.unwrap_or(94)),
+            let (number, place) = match fault(rt.alloc(), *first, text) {
+                None => (0, 0),
+                Some(e) => (e.error.number(), e.position.unwrap_or(94)),
             };
             let _ = out.write_all(&[32 + number, 32 + place.min(94) as u8]);
         }
@@ -54,6 +66,9 @@ DIGITS, LETTERS = re.compile(rb"\d+"), re.compile(rb"[A-Za-z]*")
 NAME = re.compile(rb"[A-Za-z0-9+-]{3,7}")
 
 TYPE, STRING, END, TAG, NUMBER, RULE, UNSUPPORTED = 3, 6, 7, 8, 10, 13, 15
+# How a string is read: as a rule, or as a zone, with extensions or without. White space around a zone's string is skipped.
+PLAIN, EXTENDED, ZONE, EXTENDED_ZONE = b"0", b"1", b"2", b"3"
+SPACE = b" \t\f\r"
 
 
 class Fault(Exception):
@@ -158,11 +173,17 @@ class Reader:
             raise Fault(UNSUPPORTED, self.place)
 
 
-def read(text, extended):
+def read(kind, text):
+    """The number and the place of the string's fault, read as a string of that kind."""
+    front = len(text) - len(text.lstrip(SPACE)) if kind == ZONE else 0
+    string = text.strip(SPACE) if kind == ZONE else text
+    if kind == ZONE and not text:
+        return 0, 0
     try:
-        Reader(text, extended).whole()
+        Reader(string, kind in (EXTENDED, EXTENDED_ZONE)).whole()
     except Fault as fault:
-        return fault.args
+        number, place = fault.args
+        return number, front + place
     return 0, 0
 
 
@@ -180,6 +201,15 @@ def mutated(chance):
         else:
             text[place:place + 1] = bytes([chance.choice(BYTES)])
     return bytes(text).replace(b"\n", b"")
+
+
+def line_of(chance):
+    """A kind and a string of it, in white space if that is skipped. A zone's string is UTF-8."""
+    kind, text = chance.choice((PLAIN, EXTENDED, ZONE, EXTENDED_ZONE)), mutated(chance)
+    if kind == ZONE:
+        front, back = (bytes(chance.choices(SPACE, k=chance.choice((0, 0, 1, 3)))) for _ in range(2))
+        text = (front + text + back).replace(b"\xc3", b"").replace(b"\xff", b"")
+    return kind + text
 
 
 def answers(lines):
@@ -200,16 +230,16 @@ def answers(lines):
 
 def main(count="1000000", seed="0"):
     chance = random.Random(int(seed))
-    lines = [chance.choice((b"0", b"1")) + mutated(chance) for _ in range(int(count))]
+    lines = [line_of(chance) for _ in range(int(count))]
     wrong = rejected = 0
     batch = OUTPUT // 2
     said = [answer for k in range(0, len(lines), batch) for answer in answers(lines[k:k + batch])]
     for line, answer in zip(lines, said):
-        due = read(line[1:], line[:1] == b"1")
+        due = read(line[:1], line[1:])
         rejected += due != (0, 0)
         if answer != due:
             wrong += 1
             if wrong <= 10:
-                print(f"{line[1:]!r}{' with extensions' if line[:1] == b'1' else ''}: error {answer[0]} at {answer[1]}, due {due[0]} at {due[1]}")
+                print(f"{line[1:]!r} of kind {line[:1].decode()}: error {answer[0]} at {answer[1]}, due {due[0]} at {due[1]}")
     print(f"{len(lines)} strings, {rejected} are rejected, {wrong} differ")
     return 1 if wrong or not rejected else 0

@@ -17,12 +17,16 @@ TABLES = Path(__file__).parent / "peers"
 ZONEQ = TOP / "crates/zoneq/out/zoneq"
 EPOCH = datetime(1970, 1, 1)
 
-A_DAY = "an offset of 24 hours is rejected, as chrono rejects it (POSIX allows it)"
+A_DAY = "an offset of 24 hours or more is rejected, as chrono rejects it (POSIX allows 24)"
 ONE_DIGIT = "minutes and seconds of one digit are read, as POSIX's grammar has them"
 SHORT_NAMES = "names of one letter are rejected: POSIX has three letters at least"
 NEW_YEAR = "Go ends each span at the new year in UTC; no clock changes then"
-# The checks whose rows name a zone of the tz database; those of the others have a TZ string.
+YEAR_9999 = "jiff has no changes outside the years -9999 to 9999"
+# The checks whose rows name a zone of the tz database; those of the others have a TZ string, and rows of EITHER have one or the other.
 OF_THE_DATABASE = ("change", "type", "offset", "never", "twice")
+EITHER = ("wall", "instant", "previous", "next")
+# How far a change is looked for if a row says that none comes, and at how many seconds at most.
+A_CENTURY, SAMPLES = 36_525 * 86_400, 500
 # The rows that are known to differ, with the reason: the project's file, and the lines of its test.
 KNOWN = {
     "cpython": {
@@ -30,13 +34,15 @@ KNOWN = {
         ONE_DIGIT: [1100, 1102, 1105, 1107, 1146, 1148, 1151, 1153],
     },
     "go": {NEW_YEAR: [268, 272, 273]},
+    "jiff": {A_DAY: [3489, 3495], YEAR_9999: [3689, 3711, 3727, 3780, 3792, 3806, 3849, 3861, 3875]},
+    "jiff_core": {A_DAY: [3363, 3386, 3721, 3729]},
     "tzinfo": {SHORT_NAMES: [48, 80]},
 }
 
 
 def zone_line(check, zone):
     """The line of zoneq that makes this the zone: a file of the database, or a file with the TZ string as its footer."""
-    if check in OF_THE_DATABASE:
+    if check in OF_THE_DATABASE or check in EITHER and (DATABASE / zone).is_file():
         return f"data {(DATABASE / zone).read_bytes().hex()}"
     header = b"TZif3" + bytes(15) + struct.pack(">6l", 0, 0, 0, 0, 1, 4)
     return f"data {(2 * (header + bytes(6) + b'UTC' + bytes(1)) + b'%c%s%c' % (10, zone.encode(), 10)).hex()}"
@@ -114,7 +120,44 @@ def span(zoneq, second, name, offset, flag, first, until):
     return all(zoneq.at(each) == wanted for each in inside if each != "-") and all(zoneq.at(each) != wanted for each in outside if each != "-")
 
 
+def wall(zoneq, local, kind, *offsets):
+    """Whether the local time is shown once, or lies in a gap or a fold, with these offsets."""
+    local = datetime.fromisoformat(local)
+    found = zoneq.wall(local)
+    types = found or zoneq.around_gap(local)
+    return kind == ("gap", "once", "fold")[len(found)] and offsets == tuple(str(each[0]) for each in types)
+
+
+def instant(zoneq, second, offset, name, local):
+    """Whether clocks show that local time then, with this offset and abbreviation."""
+    found = zoneq.at(second)
+    shown = zoneq.ask(f"show {second} 0").rpartition(" ")[0]
+    return found[0] == int(offset) and name in (found[2], "-") and shown == local.replace("T", " ")
+
+
+def stays(zoneq, first, last):
+    """Whether one type is in force at seconds from the first to the last, a day apart or more."""
+    step = max(86_400, (last - first) // SAMPLES)
+    return len({zoneq.at(second) for second in (*range(first, last, step), last)}) == 1
+
+
+def previous_change(zoneq, given, found):
+    """Whether the last change before that second is the one found, or none comes."""
+    first, last = int(found) if found != "-" else int(given) - A_CENTURY, int(given) - 1
+    return stays(zoneq, first, last) and (found == "-" or zoneq.at(first - 1) != zoneq.at(first))
+
+
+def next_change(zoneq, given, found):
+    """Whether the first change after that second is the one found, or none comes."""
+    first, last = int(given), int(found) - 1 if found != "-" else int(given) + A_CENTURY
+    return stays(zoneq, first, last) and (found == "-" or zoneq.at(last) != zoneq.at(last + 1))
+
+
 CHECKS = {
+    "wall": wall,
+    "instant": instant,
+    "previous": previous_change,
+    "next": next_change,
     "change": change,
     "shown": shown,
     "type": kind,
