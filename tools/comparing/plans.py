@@ -240,21 +240,21 @@ def main(random_plans="2", zones_used=len(ZONES)):
     clocks = {name: Clock(FOLDER / name, name) for name in ZONES[: int(zones_used)]}
     own = [next(answers[number % 2]) for number, (_, _, those) in enumerate(plans) for _ in those]
     for (name, plan, start, found), listed, (fires, same) in zip(asked, theirs, own, strict=True):
-        clock, told, kind = clocks[name], f"{name} {plan} {start or ''}", "croniter" if start is None else "rrule"
+        clock, label, kind = clocks[name], f"{name} {plan} {start or ''}", "croniter" if start is None else "rrule"
         if not same:
             tally["wrong"] += 1
-            print("back differs:", told)
+            print("back differs:", label)
         want = clock.fires(found)
         tally[f"plans of {kind} in a zone"] += 1
         tally[f"fires of {kind}"] += len(fires)
         if want != fires:
             tally["wrong"] += 1
-            print(f"{kind} and zoneinfo differ:", told, sorted(set(want) ^ set(fires))[:5])
+            print(f"{kind} and zoneinfo differ:", label, sorted(set(want) ^ set(fires))[:5])
         for at in {at for at in listed if FIRST < at <= LAST} ^ set(fires):
             if clock.near_change(at):
                 tally[f"instants that only one has near a clock change, of {kind}"] += 1
             else:
                 tally["wrong"] += 1
-                print(f"{kind} in its zone differs:", told, at, datetime.fromtimestamp(at, timezone.utc))
+                print(f"{kind} in its zone differs:", label, at, datetime.fromtimestamp(at, timezone.utc))
     print(", ".join(f"{count:,} {what}" for what, count in tally.items() if what != "wrong"), f"{tally['wrong']} differences", sep="; ")
     return 1 if tally["wrong"] or not plans else 0

@@ -83,7 +83,7 @@ class Moved(NamedTuple):
 
 
 def native_of(zone: Any) -> NativeZone:
-    """The open zone of a Zone. Raises TypeError if it is none."""
+    """Returns the open zone of a Zone. Raises TypeError for anything else."""
     if not isinstance(zone, Zone):
         raise TypeError(f"a {type(zone).__name__} is no Zone")
     return zone._native
