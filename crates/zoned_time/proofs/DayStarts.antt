@@ -19,14 +19,18 @@ one_first off l a b h k = let not_later = h.first b k.shown in let not_earlier =
 not_earlier_day : (c d : ℤ) → c ≤ℤ d → ¬ (IsEarlier (midnight d) (midnight c))
 not_earlier_day c d h e = grind (arith, ints)
 
+-- a later day starts no earlier
+pub days_rise : (off : ℤ → ℤ) (c d : ℤ) (a b : Reading) → c ≤ℤ d → IsFirstInstantFrom off (midnight c) a → IsFirstInstantFrom off (midnight d) b → ¬ (IsEarlier b a)
+days_rise off c d a b less = rises off (midnight c) (midnight d) a b (not_earlier_day c d less)
+
 -- clocks that show the second of a midnight or a later one
 at_midnight : (off : ℤ → ℤ) (day : ℤ) (r : Reading) → IsZoneSecond r.s → (day *ℤ pos 86_400) ≤ℤ (r.s +ℤ off r.s) → IsInstantFrom off (midnight day) r
 at_midnight off day r inside past = record { in_zone = inside; not_before = λ e. grind (arith, ints) }
 
--- a later day starts no earlier than the next day
+-- no instant lies in two days
 not_in_both : (off : ℤ → ℤ) (c d : ℤ) (r : Reading) → c <ℤ d → IsInDay off c r → IsInDay off d r → ⊥
 not_in_both off c d r less h k =
-    through r k.start h.next k.not_before (rises off (midnight (c +ℤ pos 1)) (midnight d) h.next k.start (not_earlier_day (c +ℤ pos 1) d (omega (arith, ints))) h.ends k.starts) h.before
+    through r k.start h.next k.not_before (days_rise off (c +ℤ pos 1) d h.next k.start (omega (arith, ints)) h.ends k.starts) h.before
 
 pub one_day : (off : ℤ → ℤ) (r : Reading) (c d : ℤ) → IsInDay off c r → IsInDay off d r → c ≡ d
 one_day off r c d h k = by_lt_z c d (λ less. absurd (not_in_both off c d r less h k)) (λ more. by_lt_z d c (λ less. absurd (not_in_both off d c r less k h)) (λ most. omega (arith, ints)))
@@ -36,7 +40,7 @@ pub skipped : (off : ℤ → ℤ) (day : ℤ) (a b : Reading) → IsNeverOnDay o
 skipped off day a b never h k =
     let reached = (to_reached off (midnight day) a h.shown).reached in
     let past : ((day +ℤ pos 1) *ℤ pos 86_400) ≤ℤ (a.s +ℤ off a.s) = grind (arith, ints, never a.s) in
-    let not_earlier = rises off (midnight day) (midnight (day +ℤ pos 1)) a b (not_earlier_day day (day +ℤ pos 1) (omega (arith, ints))) h k in
+    let not_earlier = days_rise off day (day +ℤ pos 1) a b (omega (arith, ints)) h k in
     grind (arith, ints)
 
 -- in a day no later date is shown

@@ -49,6 +49,15 @@ pub fn reached_times()
         → IsReachedAt off v m → l ≤ℤ m }
 {}
 
+/// Days start in the order of their dates: a later day never starts before an earlier one. Both start
+/// at once if clocks were set forward over the days between.
+#[tactic(auto, using(crate::proofs::DayStarts::days_rise))]
+pub fn days_rise()
+    ensures { (off : ℤ → ℤ) (c d : ℤ) (a b : Reading) → c ≤ℤ d
+        → IsFirstInstantFrom off (midnight c) a → IsFirstInstantFrom off (midnight d) b
+        → ¬ (IsEarlier b a) }
+{}
+
 /// The starts of days divide time: each instant in range lies in exactly one day.
 pub fn days_partition<Tz: TimeZone>()
     ensures exists { (zone : Tz) (r : Reading) → IsInRange r.s
