@@ -11,7 +11,7 @@ use Rattle.std.proofs.{lemmas.Bool.{or_parts, true_from_ne_false}, lemmas.Slice.
 use Rattle.tz_info.proofs.{TextLaws.{text_law}, TrimLaws.{trim_again, trim_is}}
 
 -- ---- newlines
-between : (bytes : List ℕ) → Decides (is_between_newlines bytes) (IsBetweenNewlines bytes)
+pub between : (bytes : List ℕ) → Decides (is_between_newlines bytes) (IsBetweenNewlines bytes)
 between bytes =
     let (to, from) = starts_is {E = nat_eq} Decides-eqb bytes (10 ∷ []) (starts_with nat_eq bytes (10 ∷ [])) refl in
     let (to_last, from_last) = ends_is {E = nat_eq} Decides-eqb bytes (10 ∷ []) (ends_with nat_eq bytes (10 ∷ [])) refl in grind arith

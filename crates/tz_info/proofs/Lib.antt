@@ -60,6 +60,7 @@ pub mod ShownSecondLaws
 pub mod DifferenceLaws
 pub mod PosixZoneLaws
 pub mod FilePieceLaws
+pub mod FilePlaceLaws
 pub mod ListLaws
 pub mod RecordLaws
 pub mod ContentLaws

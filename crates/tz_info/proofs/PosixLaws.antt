@@ -45,7 +45,7 @@ string_place_within extended bytes = omega arith
 pub string_placed : (bytes : List ℕ) (e : ParseError) → IsTextFault true bytes e.error → e.position ≡ Some (text_fault_position true bytes) → IsPlaced (IsExtendedFaultPlace bytes) e
 string_placed bytes e fault place = let low = text_low true bytes e.error fault in rw place ((λ m. absurd (omega (arith, low, m))), refl)
 
-not_empty : (text : List ℕ) (b : Bool) → b ≡ (length text == 0) → b ≡ false → text ≢ []
+pub not_empty : (text : List ℕ) (b : Bool) → b ≡ (length text == 0) → b ≡ false → text ≢ []
 not_empty [] b h e k = cc
 not_empty (c ∷ cs) b h e k = cc
 

@@ -1,11 +1,11 @@
 -- The headers of a TZif file (RFC 8536 section 3.1). The lines are the fields, in order.
-use Rattle.std.specs.Prelude.{ℕ, ◌≡◌, ◌≢◌, ◌≤◌, ◌==◌, ◌⊎◌, not, ◌&&◌, ◌||◌, Bool, true, false, List, [], ◌∷◌, length, take}
+use Rattle.std.specs.Prelude.{ℕ, ◌≡◌, ◌≢◌, ◌≤◌, ◌==◌, ◌⊎◌, not, ◌&&◌, ◌||◌, Bool, true, false, List, [], ◌∷◌, length, take, drop, if◌then◌else◌}
 use Rattle.std.specs.Bool.{nat_eq}
 use Rattle.std.proofs.Common.{arith, refl, inl, inr}
 use Rattle.std.proofs.lemmas.Bool.Decides.{Decides-eqb, nat_tests}
 use Rattle.std.proofs.lemmas.Slice.Eq.{slice_eq-Decides}
 use Rattle.std.specs.Cmp.Lexicographic.{pointwise}
-use Rattle.tz_base.specs.Grammar.{Grammar, Nothing, Marked, Exact, Refused, Check, be_u32, ◌>>=◌, ◌>>◌}
+use Rattle.tz_base.specs.Grammar.{Grammar, Nothing, Marked, Exact, Refused, Check, Here, At, be_u32, ◌>>=◌, ◌>>◌}
 use Rattle.tz_base.specs.Refusals as refused
 use Rattle.tz_base.specs.Tests.{Test}
 use Rattle.tz_base.specs.declared.error.Expected.TheVariants as expected
@@ -30,20 +30,21 @@ magic_test four = record { passes = is_magic four; decides = slice_eq-Decides De
 abbrev pub HasOtherMagic : List ℕ → Type 0
 HasOtherMagic bytes = (4 ≤ length bytes) × (take 4 bytes ≢ magic)
 
+-- other bytes are rejected at the first of the four
 unfoldable pub tzif : Grammar (Unit {0})
-tzif = do
+tzif = Here λ at_magic. do
   four ← Exact 4
-  Check (four ≡ magic) (magic_test four) (refused.InvalidTzFile expected.TZifAtFrontOfHeader) tt
+  At at_magic (Check (four ≡ magic) (magic_test four) (refused.InvalidTzFile expected.TZifAtFrontOfHeader) tt)
 
 -- a second header is there from version 2 on
 unfoldable pub version_1 : Place → Grammar Version
 version_1 First = Nothing One
 version_1 Second = Refused (refused.InvalidTzFile expected.Version2Or3InSecondHeader)
 
--- a 0 byte is version 1, the digits 2 and 3 are versions 2 and 3; any other byte is rejected
+-- a 0 byte is version 1, the digits 2 and 3 are versions 2 and 3; any other byte is rejected, and a version is rejected at its byte
 unfoldable pub version : Place → Grammar Version
-version place = Marked 0 (version_1 place)
-    (Marked 50 (Nothing Two) (Marked 51 (Nothing Three) (do Exact 1; Refused (refused.UnsupportedTzFile expected.Version1To3))))
+version place = Here λ at_version. Marked 0 (At at_version (version_1 place))
+    (Marked 50 (Nothing Two) (Marked 51 (Nothing Three) (do Exact 1; At at_version (Refused (refused.UnsupportedTzFile expected.Version1To3)))))
 
 unfoldable pub six_counts : Grammar Counts
 six_counts = do
@@ -107,11 +108,31 @@ agree_to c a =
 abbrev pub counts_test : (c : Counts) → Test (CountsAgree c)
 counts_test c = record { passes = counts_agree c; decides = (agree_from c, agree_to c) }
 
--- `TZif`, a version, fifteen bytes of any value, six counts
+-- of counts that don't agree, how many bytes of the six are in front of the one that is rejected: that of types or of designations
+-- if it is 0, or else that of UT/local or of standard/wall indicators
+abbrev pub before_count : Counts → ℕ
+before_count c =
+    if c.types == 0 then 16 else (if c.designations == 0 then 20 else (if is_none_or_all c.types c.ut_local then 4 else 0))
+
+abbrev pub counts_of : Version → Grammar Header
+counts_of version = Here λ at_counts. do
+  counts ← six_counts
+  At (drop (before_count counts) at_counts)
+      (Check (CountsAgree counts) (counts_test counts) (refused.InvalidTzFile expected.CountsThatAgree) (record { version = version; counts = counts }))
+
+-- fifteen bytes of any value, six counts
+abbrev pub after_version : Version → Grammar Header
+after_version version = do
+  Exact 15
+  counts_of version
+
+abbrev pub from_version : Place → Grammar Header
+from_version place = do
+  version ← version place
+  after_version version
+
+-- `TZif`, a version, and the rest
 unfoldable pub header : Place → Grammar Header
 header place = do
   tzif
-  version ← version place
-  Exact 15
-  counts ← six_counts
-  Check (CountsAgree counts) (counts_test counts) (refused.InvalidTzFile expected.CountsThatAgree) (record { version = version; counts = counts })
+  from_version place

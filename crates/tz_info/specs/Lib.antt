@@ -33,4 +33,5 @@ pub mod FileContents
 pub mod Footers
 pub mod FilePieces
 pub mod TzFiles
+pub mod FilePlaces
 pub mod Steps

@@ -22,6 +22,7 @@ pub mod RuleSeconds
 pub mod ContentReading
 pub mod FooterReading
 pub mod FileLists
+pub mod Places
 pub mod Gaps
 pub mod Folds
 pub mod Changes

@@ -8,6 +8,8 @@ ghost use Rattle.tz_base.specs.declared.error.Error.TheVariants.{InvalidTzFile, 
 ghost use Rattle.tz_base.specs.declared.error.Expected.TheVariants.{TZifAtFrontOfHeader};
 ghost use Rattle.tz_info.specs.FileHeaders.{HasOtherMagic};
 ghost use Rattle.tz_info.specs.FilePieces.{FilePieces, HasPieces};
+ghost use Rattle.tz_info.specs.FilePlaces.{IsFilePlace};
+ghost use Rattle.tz_info.specs.PosixZones.{IsPlaced};
 ghost use Rattle.tz_info.specs.TzFiles.{IsTzFile, IsFileFault, IsZoneFault};
 ghost use Rattle.tz_info.specs.Zones.{Zone, IsValid};
 
@@ -16,13 +18,15 @@ mod contents;
 mod footer;
 mod header;
 mod numbers;
+mod place;
 mod reader;
 mod types;
 
 use crate::zone::TimeZone;
+use place::place_of_fault;
 use reader::read_lists;
 use std::alloc::Global;
-use tz_base::Error;
+use tz_base::{Error, ParseError};
 
 impl TimeZone {
     /// The zone of a TZif file of version 1, 2 or 3 (RFC 8536 section 3). Of version 1 the one data
@@ -71,4 +75,64 @@ impl TimeZone {
         let lists = read_lists(alloc, bytes)?;
         lists.into_zone(alloc)
     }
+
+    /// Returns the zone of [`TimeZone::from_tz_data`], or its error with the position of the fault: the
+    /// number of bytes in front of it.
+    ///
+    /// ```
+    /// match TimeZone::parse_tz_data(alloc, b"TZif4") {
+    ///     Ok(zone) => Ok(zone),
+    ///     Err(e) => Err(e.position), // Some(4), at the version
+    /// }
+    /// ```
+    ///
+    /// # Errors
+    ///
+    /// Those of [`TimeZone::from_tz_data`]. [`Error::OutOfMemory`] has no position, and each other error
+    /// has one: the end of a file that is too short, and of any other the first byte of the field whose
+    /// value is rejected.
+    ///
+    /// | fault | position |
+    /// |---|---|
+    /// | a header | its first byte, the version, or the count that is 0 or isn't that of the types |
+    /// | bytes after a file of version 1 | the first of them |
+    /// | a type | in its record: the offset, the DST flag, or the index of its designation |
+    /// | an indicator | the UT/local indicator of the type |
+    /// | a footer | the first byte that isn't UTF-8 or a newline, the end if a newline is missing there, or the byte of the TZ string |
+    /// | the lists | the type index, the time, or the entry of the leap second |
+    /// | a rule that doesn't agree with the last transition | the TZ string |
+    pub fn parse_tz_data(alloc: Global, bytes: &[u8]) -> Result<TimeZone, ParseError>
+        // The zone is the file's, and valid.
+        ensures found { IfOk result (λ z. IsTzFile bytes.now z × IsValid z) }
+        // A file that has a valid zone gives it, unless memory runs out.
+        ensures only { (z : Zone) → IsTzFile bytes.now z → IsValid z
+            → MatchResult result (λ y. y ≡ z) (λ e. e.error ≡ OutOfMemory) }
+        // An error is the first fault of the file, or says that memory ran out.
+        ensures fault { IfErr result (λ e. IsZoneFault bytes.now e.error) }
+        // A fault has its place.
+        ensures place { IfErr result (λ e. IsPlaced (IsFilePlace bytes.now) e) }
+        // A file with a fault is rejected by its first one, unless memory runs out.
+        ensures first { (fault : Fault) → IsFileFault bytes.now fault
+            → IsErrAnd result (λ e. (e.error ≡ fault) ⊎ IsOutOfMemory e.error) }
+        // Running out of memory is answered only where every piece of the file is there.
+        ensures memory { IfErr result
+            (λ e. e.error ≡ OutOfMemory → (p : FilePieces) × HasPieces bytes.now p) }
+    {
+        match TimeZone::from_tz_data(alloc, bytes) {
+            Ok(zone) => Ok(zone),
+            Err(error) => Err(placed(bytes, error)),
+        }
+    }
+}
+
+// The error with its position, of bytes that have that fault.
+fn placed(bytes: &[u8], error: Error) -> ParseError
+    ensures error { result.error ≡ error }
+    ensures place { IsPlaced (IsFilePlace bytes.now) result }
+{
+    let position = match error {
+        Error::OutOfMemory => None,
+        _ => Some(place_of_fault(bytes)),
+    };
+    ParseError { error, position }
 }

@@ -54,7 +54,7 @@ pub fn read_leap_seconds(
     Ok(leap_seconds)
 }
 
-fn leap_second_of(time_size: usize, bytes: &[u8]) -> LeapSecond
+pub fn leap_second_of(time_size: usize, bytes: &[u8]) -> LeapSecond
     requires size { (time_size ≡ 4) ⊎ (time_size ≡ 8) }
     requires room { length bytes.now ≡ time_size + 4 }
     ensures { result ≡ leap_second_of time_size bytes.now }

@@ -62,7 +62,7 @@ fn is_utf8(bytes: &[u8]) -> bool
 }
 
 // One newline alone begins and ends the footer.
-fn is_between_newlines(bytes: &[u8]) -> bool
+pub fn is_between_newlines(bytes: &[u8]) -> bool
     ensures { result ≡ is_between_newlines bytes.now }
 {
     bytes.starts_with(b"\n") && bytes.ends_with(b"\n")

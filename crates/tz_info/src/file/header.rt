@@ -63,7 +63,7 @@ pub fn read_header(cursor: &mut Cursor<'_>, place: Place) -> Result<Header, Erro
 }
 
 #[tactic(auto, unfolding(crate::specs::FileHeaders::tzif))]
-fn read_magic(cursor: &mut Cursor<'_>) -> Result<(), Error>
+pub fn read_magic(cursor: &mut Cursor<'_>) -> Result<(), Error>
     ensures rest { Gives (λ unit. (unit, cursor.new)) result (read tzif cursor.old) }
     ensures magic { HasOtherMagic cursor.old
         → IsErrAnd result (λ e. e ≡ InvalidTzFile TZifAtFrontOfHeader) }
@@ -76,7 +76,7 @@ fn read_magic(cursor: &mut Cursor<'_>) -> Result<(), Error>
 }
 
 #[tactic(auto, unfolding(crate::specs::FileHeaders::version))]
-fn read_version(cursor: &mut Cursor<'_>, place: Place) -> Result<Version, Error>
+pub fn read_version(cursor: &mut Cursor<'_>, place: Place) -> Result<Version, Error>
     ensures { Gives (λ v. (v, cursor.new)) result (read (version place) cursor.old) }
 {
     if cursor.read_optional_tag(b"\0") {
@@ -103,7 +103,7 @@ fn version_1(cursor: &Cursor<'_>, place: Place) -> Result<Version, Error>
 }
 
 #[tactic(auto, unfolding(crate::specs::FileHeaders::six_counts))]
-fn read_counts(cursor: &mut Cursor<'_>) -> Result<Counts, Error>
+pub fn read_counts(cursor: &mut Cursor<'_>) -> Result<Counts, Error>
     ensures { Gives (λ c. (c, cursor.new)) result (read six_counts cursor.old) }
 {
     Ok(Counts {

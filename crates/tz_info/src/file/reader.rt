@@ -66,19 +66,19 @@ pub fn read_lists(alloc: Global, bytes: &[u8]) -> Result<Lists, Error>
     lists_of(alloc, &pieces)
 }
 
-// The pieces of a file that say what its zone is: the last block, with its header's counts and the
-// size of its times, the footer, and whether the footer's text may have extensions.
+/// The pieces of a file that say what its zone is: the last block, with its header's counts and the
+/// size of its times, the footer, and whether the footer's text may have extensions.
 #[derive(Clone, Copy)]
-struct Pieces<'a> {
-    extended: bool,
-    time_size: usize,
-    counts: Counts,
-    block: Block<'a>,
-    footer: Option<&'a [u8]>,
+pub struct Pieces<'a> {
+    pub extended: bool,
+    pub time_size: usize,
+    pub counts: Counts,
+    pub block: Block<'a>,
+    pub footer: Option<&'a [u8]>,
 }
 
 #[tactic(auto, unfolding(crate::specs::FilePieces::file, crate::specs::Steps::FileLists::pieces_at))]
-fn read_pieces(bytes: &[u8]) -> Result<Pieces<'_>, Error>
+pub fn read_pieces(bytes: &[u8]) -> Result<Pieces<'_>, Error>
     ensures pieces { Gives pieces_of result (pieces_at bytes.now) }
     ensures magic { HasOtherMagic bytes.now
         → IsErrAnd result (λ e. e ≡ InvalidTzFile TZifAtFrontOfHeader) }

@@ -41,7 +41,7 @@ fn read_next(types: &mut Vec<LocalTimeType>, designations: &[u8], bytes: &[u8]) 
 }
 
 #[tactic(auto, unfolding(crate::specs::Steps::ContentReading::type_of_record))]
-fn read_type(designations: &[u8], bytes: &[u8]) -> Result<LocalTimeType, Error>
+pub fn read_type(designations: &[u8], bytes: &[u8]) -> Result<LocalTimeType, Error>
     requires { length bytes.now ≡ 6 }
     ensures { Gives (λ t. t) result (type_of_record designations.now bytes.now) }
 {

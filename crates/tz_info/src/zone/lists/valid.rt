@@ -139,13 +139,13 @@ fn are_leap_seconds(entries: &[LeapSecond]) -> bool
     }
 }
 
-fn is_first(entry: LeapSecond) -> bool
+pub(crate) fn is_first(entry: LeapSecond) -> bool
     ensures { IsTrue result ↔ IsFirstLeap entry }
 {
     entry.unix_leap_time >= 0 && is_one_step(0, entry.correction)
 }
 
-fn is_next(before: LeapSecond, entry: LeapSecond) -> bool
+pub(crate) fn is_next(before: LeapSecond, entry: LeapSecond) -> bool
     ensures { IsTrue result ↔ IsNextLeap before entry }
 {
     is_far_enough(before.unix_leap_time, entry.unix_leap_time)

@@ -1,0 +1,229 @@
+-- Where a file is at fault.
+use Rattle.std.specs.{Char.{is_ascii_whitespace}, List.{prefix_len}}
+use Rattle.tz_base.specs.{Fronts.{optional_tag_at}, Grammar.{At, Byte, Check, Ended, Grammar, Here, Marked, Nothing, Number, Refused, Rest, Run, Then, be_u32, from_fault, if_read}}
+use Rattle.tz_info.proofs.Words.{Bool, Decides-ltb, Err, Error, Exact, FilePieces, HasNoZero, HasPieces, IndicatorsAgree, IsBetweenNewlines, IsTrimAscii, IsTrimAsciiStart, IsTrimmed, IsTrue, IsUtf8}
+use Rattle.tz_info.proofs.Words.{List, LocalType, Ok, Option, Parts, Result, Some, Spells, TransitionRule, after_first_block, ap, append-nil, append_assoc, arith, below_more, block, cases_lt, exact_at}
+use Rattle.tz_info.proofs.Words.{false, false_unless, file, first_version, get_or, get_or-eq_default, inl, inr, ints, is_between_newlines, later_version, length, length-append, nat_lt, nat_tests}
+use Rattle.tz_info.proofs.Words.{read, record_at, refl, slice_index, suc, sym, true, type_of_record, ℕ, ℤ, [], ◌*◌, ◌++◌, ◌+◌, ◌-◌, ◌<ℤ◌, ◌<◌, ◌>>=◌, ◌∙◌, ◌∷◌, ◌≡◌, ◌≢◌, ◌≤◌, ◌↔◌, ◌⊎◌}
+use Rattle.tz_info.proofs.{FooterLaws.{between}, PosixLaws.{string_place_within}, TrimLaws.{fits_behind, front_counted, trims_both}, TypeLaws.{type_law}}
+use Rattle.tz_info.specs.FileHeaders.{header, six_counts, tzif, version, version_1}
+use Rattle.tz_info.specs.FilePieces.{after_header, later_pieces}
+use Rattle.tz_info.specs.FilePlaces.{Colon, HoldsOfNone, In_string, In_text, IsFooterPlace, IsNotLater, IsTextPlace, IsTypeAt, IsTypePlace, No_first, No_last, Not_utf8, Zero, before_field, footer_bytes, time_at}
+use Rattle.tz_info.specs.{Steps.Places.{SaysSome}, TzFiles.{HasRule}}
+use Rattle.tz_info.specs.declared.file.header.{Counts.{Counts}, Header.{Header}, Place.{Place}, Place.TheVariants.{First, Second}, Version.{Version}, Version.TheVariants.{One, Three, Two}}
+
+-- ---- what is spelled stands in front of what follows
+pub front : {X : Type 0} (g : Grammar X) (bytes : List ℕ) (x : X) (rest : List ℕ) → Spells g bytes x rest → (before : List ℕ) × (bytes ≡ before ++ rest)
+front (Nothing v) bytes x rest h = ([], h.1)
+front (Then g f) bytes x rest (y, after, h, k) =
+    let a = front g bytes y after h in
+    let b = front (f y) after x rest k in
+    (a.0 ++ b.0, a.1 ∙ ap (λ s. a.0 ++ s) b.1 ∙ sym (append_assoc a.0 b.0 rest))
+front (Marked tag g h) bytes x rest (inl k) = let a = front g k.0 x rest k.2 in (tag ∷ a.0, k.1 ∙ ap (λ s. tag ∷ s) a.1)
+front (Marked tag g h) bytes x rest (inr k) = front h bytes x rest k.1
+front (Ended g h) bytes x rest (inl k) = front g bytes x rest k.1
+front (Ended g h) bytes x rest (inr k) = front h bytes x rest k.1
+front (Byte tag) bytes x rest h = (tag ∷ [], h)
+front (Run p) bytes x rest h = (x, h.whole)
+front (Number max) bytes x rest h = (h.digits, h.whole)
+front (Exact count) bytes x rest h = (x, h.0)
+front Rest bytes x rest h = (bytes, rw h.1 (sym (append-nil bytes)))
+front (Refused refusal) bytes x rest h = absurd h
+front (Check P test refusal v) bytes x rest h = ([], h.2)
+front (Here f) bytes x rest h = front (f bytes) bytes x rest h
+front (At place g) bytes x rest h = front g bytes x rest h
+
+-- ---- the parts of a block, and how long they are
+abbrev pub parts_length : Parts → ℕ
+parts_length b = length b.times + (length b.type_indexes + (length b.types + (length b.designations + (length b.leap_seconds + (length b.standard_wall + length b.ut_local)))))
+
+block_length : (w : ℕ) (c : Counts) (bytes : List ℕ) (b : Parts) (rest : List ℕ) → Spells (block w c) bytes b rest → length bytes ≡ parts_length b + length rest
+unfolding block
+block_length w c bytes b rest (t, a1, h1, (i, a2, h2, (y, a3, h3, (d, a4, h4, (l, a5, h5, (s, a6, h6, (u, a7, h7, (value, same)))))))) =
+    rw value (omega (
+      arith,
+      ap length h1.0 ∙ length-append t a1,
+      ap length h2.0 ∙ length-append i a2,
+      ap length h3.0 ∙ length-append y a3,
+      ap length h4.0 ∙ length-append d a4,
+      ap length h5.0 ∙ length-append l a5,
+      ap length h6.0 ∙ length-append s a6,
+      ap length h7.0 ∙ length-append u a7,
+      ap length same,
+    ))
+
+shorter : {X : Type 0} (g : Grammar X) (bytes : List ℕ) (x : X) (rest : List ℕ) → Spells g bytes x rest → length rest ≤ length bytes
+shorter g bytes x rest h = let f = front g bytes x rest h in omega (arith, ap length f.1 ∙ length-append f.0 rest)
+
+after_fits : (v : Version) (c : Counts) (b : Parts) (start bytes : List ℕ) (p : FilePieces) (rest : List ℕ) → Spells (block 4 c) start b bytes → Spells (after_first_block v c b) bytes p rest
+    → parts_length p.parts + length (footer_bytes p.footer) ≤ length start
+unfolding after_first_block first_version later_version
+after_fits One c b start bytes p rest h (_, _, _, (value, _)) = rw value (omega (arith, block_length 4 c start b bytes h))
+after_fits Two c b start bytes p rest h (second, after, first, (parts, end, k, (footer, _, f, (value, _)))) =
+    rw value (omega (arith, block_length 4 c start b bytes h, shorter (header Second) bytes second after first, block_length 8 second.counts after parts end k, ap length f.0))
+after_fits Three c b start bytes p rest h (second, after, first, (parts, end, k, (footer, _, f, (value, _)))) =
+    rw value (omega (arith, block_length 4 c start b bytes h, shorter (header Second) bytes second after first, block_length 8 second.counts after parts end k, ap length f.0))
+
+-- the parts and the footer are no longer than the file
+pub fit : (bytes : List ℕ) (p : FilePieces) → HasPieces bytes p → parts_length p.parts + length (footer_bytes p.footer) ≤ length bytes
+unfolding file
+fit bytes p (one, after, first, (parts, end, h, k)) = omega (arith, shorter (header First) bytes one after first, after_fits one.version one.counts parts after end p [] h k)
+
+-- ---- the end of a piece that is too short
+-- what can't be read is too short
+pub record EndsShort {X : Type 0} (g : Grammar X) : Type 0 where
+  pub short : (bytes : List ℕ) (e : Error) → read g bytes ≡ Err e → from_fault g bytes ≡ []
+
+nothing_short : {X : Type 0} (x : X) → EndsShort (Nothing x)
+nothing_short x = record { short = λ bytes e h. cc }
+
+exact_short : (n : ℕ) → EndsShort (Exact n)
+exact_short n = record { short = λ bytes e h. refl }
+
+then_left : {X Y : Type 0} (g : Grammar X) (f : X → Grammar Y) (bytes : List ℕ) (e : Error) (r : Result (X × List ℕ) Error) → EndsShort g → ((x : X) → EndsShort (f x)) → read g bytes ≡ r
+    → (r >>= λ p. read (f p.0) p.1) ≡ Err e → if_read r (λ x after. from_fault (f x) after) (from_fault g bytes) ≡ []
+then_left g f bytes e (Ok p) first next is h = (next p.0).short p.1 e h
+then_left g f bytes e (Err d) first next is h = first.short bytes d is
+
+then_short : {X Y : Type 0} {g : Grammar X} {f : X → Grammar Y} → EndsShort g → ((x : X) → EndsShort (f x)) → EndsShort (Then g f)
+then_short {g = g} {f = f} first next = record { short = λ bytes e h. then_left g f bytes e (read g bytes) first next refl h }
+
+pub block_short : (w : ℕ) (c : Counts) → EndsShort (block w c)
+unfolding block
+block_short w c = then_short (exact_short _) (λ _. then_short (exact_short _) (λ _. then_short (exact_short _) (λ _. then_short (exact_short _) (λ _.
+    then_short (exact_short _) (λ _. then_short (exact_short _) (λ _. then_short (exact_short _) (λ _. nothing_short _)))))))
+
+pub block_left : (w : ℕ) (c : Counts) (bytes : List ℕ) (e : Error) → read (block w c) bytes ≡ Err e → from_fault (block w c) bytes ≡ []
+block_left w c = (block_short w c).short
+
+number_short : EndsShort be_u32
+unfolding be_u32
+number_short = then_short (exact_short _) (λ _. nothing_short _)
+
+pub counts_short : EndsShort six_counts
+unfolding six_counts
+counts_short = then_short number_short (λ _. then_short number_short (λ _. then_short number_short (λ _. then_short number_short (λ _.
+    then_short number_short (λ _. then_short number_short (λ _. nothing_short _))))))
+
+-- ---- what follows a header
+ends_at : {X Y : Type 0} (g : Grammar X) (f : X → Grammar Y) (bytes : List ℕ) (r : Result (X × List ℕ) Error) → read g bytes ≡ r → ((e : Error) → read g bytes ≡ Err e → from_fault g bytes ≡ [])
+    → ((x : X) (rest : List ℕ) → from_fault (f x) rest ≡ []) → if_read r (λ x after. from_fault (f x) after) (from_fault g bytes) ≡ []
+ends_at g f bytes (Ok p) is short next = next p.0 p.1
+ends_at g f bytes (Err d) is short next = short d is
+
+later_block : (h : Header) (after : List ℕ) → if_read (read (block 8 h.counts) after) (λ parts rest. from_fault (Then Rest (λ footer. Nothing (later_pieces h parts footer))) rest) (from_fault (block 8 h.counts) after) ≡ []
+later_block h after = ends_at (block 8 h.counts) (λ parts. Then Rest (λ footer. Nothing (later_pieces h parts footer))) after (read (block 8 h.counts) after) refl (block_left 8 h.counts after) (λ x rest. refl)
+
+pub later_left : (bytes after : List ℕ) (h : Header) → read (header Second) bytes ≡ Ok (h, after) → from_fault later_version bytes ≡ []
+unfolding later_version
+later_left bytes after h is = rw is (later_block h after)
+
+pub later_bad : (bytes : List ℕ) (e : Error) → read (header Second) bytes ≡ Err e → from_fault later_version bytes ≡ from_fault (header Second) bytes
+unfolding later_version
+later_bad bytes e is = rw is refl
+
+pub first_left : (c : Counts) (p : Parts) (bytes : List ℕ) → from_fault (after_first_block One c p) bytes ≡ bytes
+unfolding after_first_block first_version
+first_left c p [] = refl
+first_left c p (b ∷ bs) = refl
+
+pub later_again : (v : Version) (c : Counts) (p : Parts) (bytes : List ℕ) (n : ℕ) → (v ≡ Two) ⊎ (v ≡ Three) → n ≡ length (from_fault later_version bytes) → n ≡ length (from_fault (after_first_block v c p) bytes)
+unfolding after_first_block
+later_again v c p bytes n (inl two) is = rw two is
+later_again v c p bytes n (inr three) is = rw three is
+
+pub file_left : (bytes after : List ℕ) (h : Header) → read (header First) bytes ≡ Ok (h, after) → from_fault file bytes ≡ from_fault (after_header h) after
+unfolding file
+file_left bytes after h is = rw is refl
+
+pub file_bad : (bytes : List ℕ) (e : Error) → read (header First) bytes ≡ Err e → from_fault file bytes ≡ from_fault (header First) bytes
+unfolding file
+file_bad bytes e is = rw is refl
+
+pub rest_left : (h : Header) (bytes after : List ℕ) (parts : Parts) → read (block 4 h.counts) bytes ≡ Ok (parts, after) → from_fault (after_header h) bytes ≡ from_fault (after_first_block h.version h.counts parts) after
+rest_left h bytes after parts is = rw is refl
+
+pub rest_bad : (h : Header) (bytes : List ℕ) (e : Error) → read (block 4 h.counts) bytes ≡ Err e → from_fault (after_header h) bytes ≡ []
+rest_bad h bytes e is = rw is (block_left 4 h.counts bytes e is)
+
+-- ---- the magic and the version
+pub magic_short : (bytes : List ℕ) → length bytes < 4 → from_fault tzif bytes ≡ []
+unfolding tzif exact_at
+magic_short bytes l = rw ((Decides-ltb (length bytes) 4).1 l) refl
+
+pub magic_left : (bytes : List ℕ) → 4 ≤ length bytes → from_fault tzif bytes ≡ bytes
+unfolding tzif exact_at
+magic_left bytes l = rw (false_unless (nat_lt (length bytes) 4) (λ t. let m = (Decides-ltb (length bytes) 4).0 t in absurd (omega arith))) refl
+
+-- a version is rejected at its byte
+pub version_fault : (place : Place) (bytes : List ℕ) (e : Error) → read (version place) bytes ≡ Err e → length (from_fault (version place) bytes) ≡ length bytes
+unfolding version version_1 exact_at optional_tag_at
+version_fault First [] e h = refl
+version_fault Second [] e h = refl
+version_fault First (b ∷ bs) e h = grind (arith, nat_tests)
+version_fault Second (b ∷ bs) e h = grind (arith, nat_tests)
+
+-- ---- what the loops keep
+pub next_none : (P : ℕ → Type 0) (n : ℕ) → HoldsOfNone P n → ¬ (P n) → HoldsOfNone P (n + 1)
+next_none P n before here = below_more (λ k. ¬ (P k)) n before here
+
+pub next_false : (P : ℕ → Type 0) (n : ℕ) (b : Bool) → HoldsOfNone P n → IsTrue b ↔ P n → b ≡ false → HoldsOfNone P (n + 1)
+next_false P n b none is other = next_none P n none (λ h. let t = is.1 h in cc)
+
+pub next_type : (p : FilePieces) (k : ℕ) (t : LocalType) → ((j : ℕ) → j < k → IsTypeAt p j) → type_of_record p.parts.designations (record_at 6 p.parts.types k) ≡ Ok t
+    → (j : ℕ) → j < k + 1 → IsTypeAt p j
+next_type p k t before here = below_more (IsTypeAt p) k before (t, (type_law p.parts.designations (record_at 6 p.parts.types k)).takes t here)
+
+pub type_place : (p : FilePieces) (k : ℕ) (e : Error) → k < p.counts.types → ((j : ℕ) → j < k → IsTypeAt p j) → type_of_record p.parts.designations (record_at 6 p.parts.types k) ≡ Err e
+    → IsTypePlace p (6 * k + before_field e)
+type_place p k e below before here =
+    record { index = k; below = below; before = before; error = e; fault = (type_law p.parts.designations (record_at 6 p.parts.types k)).fails e here; place = refl }
+
+pub pairs_agree : (s u : List ℕ) → ((k : ℕ) → k < length u → ¬ ((slice_index s k ≡ 0) × (slice_index u k ≡ 1))) → IndicatorsAgree s u
+pairs_agree s u none = λ k zero. elim (cases_lt k (length u)) as (λ _. slice_index u k ≢ 1) [
+  | inl l ↦ λ one. none k l (zero, one)
+  | inr m ↦ let there : get_or u k 0 ≡ 0 = get_or-eq_default u 0 m in λ one. absurd (omega arith)
+]
+
+pub no_zero : (text : List ℕ) → HoldsOfNone (λ i. slice_index text i ≡ 0) (length text) → HasNoZero text
+no_zero [] h = tt
+no_zero (b ∷ bs) h = (h 0 (omega arith), no_zero bs (λ k l. h (suc k) (omega arith)))
+
+pub next_later : (p : FilePieces) (k : ℕ) (here before : ℤ) → HoldsOfNone (IsNotLater p) k → here ≡ time_at p k → before ≡ time_at p (k - 1) → before <ℤ here → HoldsOfNone (IsNotLater p) (k + 1)
+next_later p k here before none is was later = next_none (IsNotLater p) k none (λ h. let m = h.1 in absurd (omega (arith, ints, is, was, later, m)))
+
+-- ---- the footer
+pub space_is : (bytes start : List ℕ) → IsTrimAsciiStart bytes start → length bytes - length start ≡ prefix_len is_ascii_whitespace bytes
+space_is bytes start t = omega (arith, front_counted bytes start t)
+
+text_within : (extended : Bool) (text : List ℕ) (n : ℕ) → IsTextPlace extended text n → n ≤ length text
+text_within extended text n (Colon c) = omega arith
+text_within extended text n (Zero k c first) = omega (arith, first.below)
+text_within extended text n (In_string e c z some fault) = string_place_within extended text
+
+pub in_text : (extended : Bool) (bytes text : List ℕ) (n : ℕ) → IsTrimmed bytes text → IsTextPlace extended text n → prefix_len is_ascii_whitespace bytes + n ≤ length bytes
+in_text extended bytes text n t place = omega (arith, fits_behind bytes text t, text_within extended text n place)
+
+pub footer_within : (extended : Bool) (bytes : List ℕ) (n : ℕ) → IsFooterPlace extended bytes n → n ≤ length bytes
+footer_within extended bytes n (Not_utf8 m bad up) = omega (arith, up)
+footer_within extended bytes n (No_first u s) = omega arith
+footer_within extended bytes n (No_last u s b) = omega arith
+footer_within extended bytes n (In_text text m has place) = in_text extended bytes text m has.trimmed place
+
+pub not_between : (bytes : List ℕ) → is_between_newlines bytes ≡ false → ¬ (IsBetweenNewlines bytes)
+not_between bytes is b = let t = (between bytes).1 b in cc
+
+pub is_between : (bytes : List ℕ) → is_between_newlines bytes ≡ true → IsBetweenNewlines bytes
+is_between bytes = (between bytes).0
+
+pub text_place : (extended : Bool) (bytes start text : List ℕ) (n : ℕ) → IsUtf8 bytes → IsBetweenNewlines bytes → IsTrimAsciiStart bytes start → IsTrimAscii bytes text → IsTextPlace extended text n
+    → IsFooterPlace extended bytes ((length bytes - length start) + n)
+text_place extended bytes start text n utf8 newlines s t place =
+    rw (space_is bytes start s) (In_text text n (record { utf8 = utf8; newlines = newlines; trimmed = trims_both bytes text t }) place)
+
+pub text_fits : (extended : Bool) (bytes start text : List ℕ) (n : ℕ) → IsTrimAsciiStart bytes start → IsTrimAscii bytes text → IsTextPlace extended text n → (length bytes - length start) + n ≤ length bytes
+text_fits extended bytes start text n s t place = rw (space_is bytes start s) (in_text extended bytes text n (trims_both bytes text t) place)
+
+pub text_says : (extended : Bool) (bytes text : List ℕ) → IsUtf8 bytes → IsBetweenNewlines bytes → IsTrimAscii bytes text → SaysSome extended text → (rule : Option TransitionRule) × HasRule extended (Some bytes) rule
+text_says extended bytes text utf8 newlines t s =
+    (s.rule, record { text = text; has_text = record { utf8 = utf8; newlines = newlines; trimmed = trims_both bytes text t }; no_colon = s.no_colon; no_zero = s.no_zero; says = s.says })

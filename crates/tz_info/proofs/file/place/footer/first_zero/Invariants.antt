@@ -1,0 +1,6 @@
+use Rattle.tz_info.proofs.Words.{slice_index, ◌≡◌}
+use Rattle.tz_info.specs.FilePlaces.{HoldsOfNone}
+use Rattle.tz_info.proofs.file.place.footer.first_zero.Given as goal
+
+abbrev pub invariant-loop-k : goal.invariant-loop-k
+invariant-loop-k l = HoldsOfNone (λ i. slice_index l.text i ≡ 0) l.k

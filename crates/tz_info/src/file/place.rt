@@ -1,0 +1,83 @@
+//! Where a file is at fault, as the number of bytes in front of the fault.
+
+ghost use Rattle.std.specs.Prelude.{◌≡◌, ◌+◌, length, option_map};
+ghost use Rattle.tz_base.specs.Grammar.{fault_position};
+ghost use Rattle.tz_info.specs.FilePieces.{HasPieces, file};
+ghost use Rattle.tz_info.specs.FilePlaces.{ArePartPlaces, IsFilePlace, footer_bytes};
+ghost use Rattle.tz_info.specs.Steps.FileLists.{pieces_of};
+
+mod contents;
+mod footer;
+mod lists;
+mod pieces;
+
+use crate::file::reader::{Pieces, read_pieces};
+use contents::place_in_contents;
+use pieces::left_of_file;
+
+/// Where the parts of the last data block begin, and where the footer and the file end.
+#[derive(Clone, Copy)]
+pub struct PartPlaces {
+    pub times: usize,
+    pub type_indexes: usize,
+    pub types: usize,
+    pub designations: usize,
+    pub leap_seconds: usize,
+    pub standard_wall: usize,
+    pub ut_local: usize,
+    pub footer: usize,
+    pub end: usize,
+}
+
+/// Returns the position of the fault of a file that has one.
+pub fn place_of_fault(bytes: &[u8]) -> usize
+    ensures { IsFilePlace bytes.now result }
+{
+    match read_pieces(bytes) {
+        Ok(pieces) => place_in_contents(&pieces, part_places(bytes, &pieces)),
+        Err(_) => place_in_pieces(bytes),
+    }
+}
+
+fn place_in_pieces(bytes: &[u8]) -> usize
+    ensures { result ≡ fault_position file bytes.now }
+{
+    bytes.len().saturating_sub(left_of_file(bytes))
+}
+
+// The parts stand one after the other, and the footer ends with the file.
+fn part_places(bytes: &[u8], pieces: &Pieces<'_>) -> PartPlaces
+    requires { HasPieces bytes.now (pieces_of pieces.now) }
+    ensures places { ArePartPlaces (pieces_of pieces.now) result }
+    ensures end { result.end ≡ length bytes.now }
+{
+    let block = pieces.block;
+    let footer = bytes.len() - footer_bytes(pieces.footer).len();
+    let ut_local = footer - block.ut_local.len();
+    let standard_wall = ut_local - block.standard_wall.len();
+    let leap_seconds = standard_wall - block.leap_seconds.len();
+    let designations = leap_seconds - block.designations.len();
+    let types = designations - block.types.len();
+    let type_indexes = types - block.type_indexes.len();
+    PartPlaces {
+        times: type_indexes - block.times.len(),
+        type_indexes,
+        types,
+        designations,
+        leap_seconds,
+        standard_wall,
+        ut_local,
+        footer,
+        end: bytes.len(),
+    }
+}
+
+/// Returns the footer, or no bytes if there is none.
+pub fn footer_bytes(footer: Option<&[u8]>) -> &[u8]
+    ensures { result.now ≡ footer_bytes (option_map (λ f. f.now) footer.entry) }
+{
+    match footer {
+        Some(bytes) => bytes,
+        None => &[],
+    }
+}

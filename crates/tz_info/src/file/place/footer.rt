@@ -1,0 +1,80 @@
+//! Where a footer is at fault.
+
+ghost use Rattle.std.specs.Prelude.{◌≡◌, Some, MatchOption, length, option_map, slice_index};
+ghost use Rattle.std.specs.Str.{IsUtf8};
+ghost use Rattle.tz_info.specs.FilePlaces.{HoldsOfNone, IsFirstBelow};
+ghost use Rattle.tz_info.specs.Steps.FileLists.{pieces_of};
+ghost use Rattle.tz_info.specs.Steps.Places.{FaultInFooter, FaultInText};
+
+use crate::file::contents::byte_or_zero;
+use crate::file::footer::is_between_newlines;
+use crate::file::reader::Pieces;
+use crate::rule::reader::read_all;
+use std::str;
+
+/// Returns the position of the fault in the footer, or `None` if it has none or there is no footer.
+pub fn fault_in_footer(pieces: &Pieces<'_>) -> Option<usize>
+    ensures { FaultInFooter (pieces_of pieces.now).extended (pieces_of pieces.now).footer result }
+{
+    match pieces.footer {
+        Some(bytes) => fault_in_bytes(pieces.extended, bytes),
+        None => None,
+    }
+}
+
+fn fault_in_bytes(extended: bool, bytes: &[u8]) -> Option<usize>
+    ensures { FaultInFooter extended (Some bytes.now) result }
+{
+    match str::from_utf8(bytes) {
+        Ok(_) => fault_in_utf8(extended, bytes),
+        Err(error) => Some(error.valid_up_to()),
+    }
+}
+
+fn fault_in_utf8(extended: bool, bytes: &[u8]) -> Option<usize>
+    requires { IsUtf8 bytes.now }
+    ensures { FaultInFooter extended (Some bytes.now) result }
+{
+    if byte_or_zero(bytes, 0) != b'\n' {
+        return Some(0);
+    }
+    if !is_between_newlines(bytes) {
+        return Some(bytes.len());
+    }
+    let start = bytes.trim_ascii_start();
+    match fault_in_text(extended, bytes.trim_ascii()) {
+        Some(place) => Some((bytes.len() - start.len()) + place),
+        None => None,
+    }
+}
+
+fn fault_in_text(extended: bool, text: &[u8]) -> Option<usize>
+    ensures { FaultInText extended text.now result }
+{
+    if byte_or_zero(text, 0) == b':' {
+        return Some(0);
+    }
+    if let Some(place) = first_zero(text) {
+        return Some(place);
+    }
+    if text.is_empty() {
+        return None;
+    }
+    match read_all(text, extended) {
+        Ok(_) => None,
+        Err(error) => error.position,
+    }
+}
+
+fn first_zero(text: &[u8]) -> Option<usize>
+    ensures { MatchOption result
+        (HoldsOfNone (λ i. slice_index text.now i ≡ 0) (length text.now))
+        (IsFirstBelow (λ i. slice_index text.now i ≡ 0) (length text.now)) }
+{
+    for k in 0..text.len() {
+        if text[k] == 0 {
+            return Some(k);
+        }
+    }
+    None
+}
