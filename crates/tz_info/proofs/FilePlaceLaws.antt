@@ -2,14 +2,15 @@
 use Rattle.std.specs.{Char.{is_ascii_whitespace}, List.{prefix_len}}
 use Rattle.tz_base.specs.{Fronts.{optional_tag_at}, Grammar.{At, Byte, Check, Ended, Grammar, Here, Marked, Nothing, Number, Refused, Rest, Run, Then, be_u32, from_fault, if_read}}
 use Rattle.tz_info.proofs.Words.{Bool, Decides-ltb, Err, Error, Exact, FilePieces, HasNoZero, HasPieces, IndicatorsAgree, IsBetweenNewlines, IsTrimAscii, IsTrimAsciiStart, IsTrimmed, IsTrue, IsUtf8}
-use Rattle.tz_info.proofs.Words.{List, LocalType, Ok, Option, Parts, Result, Some, Spells, TransitionRule, after_first_block, ap, append-nil, append_assoc, arith, below_more, block, cases_lt, exact_at}
+use Rattle.tz_info.proofs.Words.{List, LocalType, Ok, Option, Parts, Result, Some, Spells, TransitionRule, after_first_block, ap, append-nil, append_assoc, arith, below_more, block, cases_lt, drop, drop_front, exact_at}
 use Rattle.tz_info.proofs.Words.{false, false_unless, file, first_version, get_or, get_or-eq_default, inl, inr, ints, is_between_newlines, later_version, length, length-append, nat_lt, nat_tests}
 use Rattle.tz_info.proofs.Words.{read, record_at, refl, slice_index, suc, sym, true, type_of_record, ℕ, ℤ, [], ◌*◌, ◌++◌, ◌+◌, ◌-◌, ◌<ℤ◌, ◌<◌, ◌>>=◌, ◌∙◌, ◌∷◌, ◌≡◌, ◌≢◌, ◌≤◌, ◌↔◌, ◌⊎◌}
 use Rattle.tz_info.proofs.{FooterLaws.{between}, PosixLaws.{string_place_within}, TrimLaws.{fits_behind, front_counted, trims_both}, TypeLaws.{type_law}}
 use Rattle.tz_info.specs.FileHeaders.{header, six_counts, tzif, version, version_1}
 use Rattle.tz_info.specs.FilePieces.{after_header, later_pieces}
-use Rattle.tz_info.specs.FilePlaces.{Colon, HoldsOfNone, In_string, In_text, IsFooterPlace, IsNotLater, IsTextPlace, IsTypeAt, IsTypePlace, No_first, No_last, Not_utf8, Zero, before_field, footer_bytes, time_at}
+use Rattle.tz_info.specs.FilePlaces.{ArePartPlaces, Colon, HoldsOfNone, In_string, In_text, IsFooterPlace, IsNotLater, IsTextPlace, IsTypeAt, IsTypePlace, No_first, No_last, Not_utf8, Zero, before_field, footer_bytes, in_order, time_at}
 use Rattle.tz_info.specs.{Steps.Places.{SaysSome}, TzFiles.{HasRule}}
+use Rattle.tz_info.specs.declared.file.place.PartPlaces.{PartPlaces}
 use Rattle.tz_info.specs.declared.file.header.{Counts.{Counts}, Header.{Header}, Place.{Place}, Place.TheVariants.{First, Second}, Version.{Version}, Version.TheVariants.{One, Three, Two}}
 
 -- ---- what is spelled stands in front of what follows
@@ -33,41 +34,53 @@ front (Check P test refusal v) bytes x rest h = ([], h.2)
 front (Here f) bytes x rest h = front (f bytes) bytes x rest h
 front (At place g) bytes x rest h = front g bytes x rest h
 
--- ---- the parts of a block, and how long they are
+-- ---- the parts of a block, in order
+block_whole : (w : ℕ) (c : Counts) (bytes : List ℕ) (b : Parts) (rest : List ℕ) → Spells (block w c) bytes b rest → bytes ≡ in_order b rest
+unfolding block
+block_whole w c bytes b rest (t, a1, h1, (i, a2, h2, (y, a3, h3, (d, a4, h4, (l, a5, h5, (s, a6, h6, (u, a7, h7, (value, same)))))))) =
+    rw value (h1.0 ∙ ap (λ x. t ++ x) (h2.0 ∙ ap (λ x. i ++ x) (h3.0 ∙ ap (λ x. y ++ x) (h4.0 ∙ ap (λ x. d ++ x) (h5.0 ∙ ap (λ x. l ++ x) (h6.0 ∙ ap (λ x. s ++ x) (h7.0 ∙ ap (λ x. u ++ x) same)))))))
+
+later_whole : (c : Counts) (b : Parts) (start bytes after end : List ℕ) (second : Header) (parts : Parts) → Spells (block 4 c) start b bytes → Spells (header Second) bytes second after → Spells (block 8 second.counts) after parts end
+    → (before : List ℕ) × (start ≡ before ++ in_order parts end)
+later_whole c b start bytes after end second parts h k m =
+    let one = front (block 4 c) start b bytes h in
+    let two = front (header Second) bytes second after k in
+    (one.0 ++ two.0, one.1 ∙ ap (λ x. one.0 ++ x) (two.1 ∙ ap (λ x. two.0 ++ x) (block_whole 8 second.counts after parts end m)) ∙ sym (append_assoc one.0 two.0 (in_order parts end)))
+
+after_whole : (v : Version) (c : Counts) (b : Parts) (start bytes : List ℕ) (p : FilePieces) (rest : List ℕ) → Spells (block 4 c) start b bytes → Spells (after_first_block v c b) bytes p rest
+    → (before : List ℕ) × (start ≡ before ++ in_order p.parts (footer_bytes p.footer))
+unfolding after_first_block first_version later_version
+after_whole One c b start bytes p rest h (_, _, inl (none, _), (value, _)) = rw (value, ← none) ([], block_whole 4 c start b bytes h)
+after_whole One c b start bytes p rest h (_, _, inr (_, never), _) = absurd never
+after_whole Two c b start bytes p rest h (second, after, k, (parts, end, m, (footer, _, f, (value, _)))) = rw (value, f.0) (later_whole c b start bytes after end second parts h k m)
+after_whole Three c b start bytes p rest h (second, after, k, (parts, end, m, (footer, _, f, (value, _)))) = rw (value, f.0) (later_whole c b start bytes after end second parts h k m)
+
+-- the last block and the footer are the end of the file
+pub whole : (bytes : List ℕ) (p : FilePieces) → HasPieces bytes p → (before : List ℕ) × (bytes ≡ before ++ in_order p.parts (footer_bytes p.footer))
+unfolding file
+whole bytes p (one, after, first, (parts, end, h, k)) =
+    let a = front (header First) bytes one after first in
+    let b = after_whole one.version one.counts parts after end p [] h k in
+    (a.0 ++ b.0, a.1 ∙ ap (λ x. a.0 ++ x) b.1 ∙ sym (append_assoc a.0 b.0 (in_order p.parts (footer_bytes p.footer))))
+
 abbrev pub parts_length : Parts → ℕ
 parts_length b = length b.times + (length b.type_indexes + (length b.types + (length b.designations + (length b.leap_seconds + (length b.standard_wall + length b.ut_local)))))
 
-block_length : (w : ℕ) (c : Counts) (bytes : List ℕ) (b : Parts) (rest : List ℕ) → Spells (block w c) bytes b rest → length bytes ≡ parts_length b + length rest
-unfolding block
-block_length w c bytes b rest (t, a1, h1, (i, a2, h2, (y, a3, h3, (d, a4, h4, (l, a5, h5, (s, a6, h6, (u, a7, h7, (value, same)))))))) =
-    rw value (omega (
-      arith,
-      ap length h1.0 ∙ length-append t a1,
-      ap length h2.0 ∙ length-append i a2,
-      ap length h3.0 ∙ length-append y a3,
-      ap length h4.0 ∙ length-append d a4,
-      ap length h5.0 ∙ length-append l a5,
-      ap length h6.0 ∙ length-append s a6,
-      ap length h7.0 ∙ length-append u a7,
-      ap length same,
-    ))
+order_length : (b : Parts) (rest : List ℕ) → length (in_order b rest) ≡ parts_length b + length rest
+order_length b rest = simp length-append (omega arith)
 
-shorter : {X : Type 0} (g : Grammar X) (bytes : List ℕ) (x : X) (rest : List ℕ) → Spells g bytes x rest → length rest ≤ length bytes
-shorter g bytes x rest h = let f = front g bytes x rest h in omega (arith, ap length f.1 ∙ length-append f.0 rest)
-
-after_fits : (v : Version) (c : Counts) (b : Parts) (start bytes : List ℕ) (p : FilePieces) (rest : List ℕ) → Spells (block 4 c) start b bytes → Spells (after_first_block v c b) bytes p rest
-    → parts_length p.parts + length (footer_bytes p.footer) ≤ length start
-unfolding after_first_block first_version later_version
-after_fits One c b start bytes p rest h (_, _, _, (value, _)) = rw value (omega (arith, block_length 4 c start b bytes h))
-after_fits Two c b start bytes p rest h (second, after, first, (parts, end, k, (footer, _, f, (value, _)))) =
-    rw value (omega (arith, block_length 4 c start b bytes h, shorter (header Second) bytes second after first, block_length 8 second.counts after parts end k, ap length f.0))
-after_fits Three c b start bytes p rest h (second, after, first, (parts, end, k, (footer, _, f, (value, _)))) =
-    rw value (omega (arith, block_length 4 c start b bytes h, shorter (header Second) bytes second after first, block_length 8 second.counts after parts end k, ap length f.0))
-
--- the parts and the footer are no longer than the file
+-- they are no longer than the file
 pub fit : (bytes : List ℕ) (p : FilePieces) → HasPieces bytes p → parts_length p.parts + length (footer_bytes p.footer) ≤ length bytes
-unfolding file
-fit bytes p (one, after, first, (parts, end, h, k)) = omega (arith, shorter (header First) bytes one after first, after_fits one.version one.counts parts after end p [] h k)
+fit bytes p h =
+    let w = whole bytes p h in
+    omega (arith, ap length w.1 ∙ length-append w.0 (in_order p.parts (footer_bytes p.footer)), order_length p.parts (footer_bytes p.footer))
+
+-- and stand where they are said to
+pub parts_stand : (bytes : List ℕ) (p : FilePieces) (q : PartPlaces) → HasPieces bytes p → ArePartPlaces p q → q.end ≡ length bytes → drop q.times bytes ≡ in_order p.parts (footer_bytes p.footer)
+parts_stand bytes p q h are end =
+    let w = whole bytes p h in
+    let at : length w.0 ≡ q.times = omega (arith, ap length w.1 ∙ length-append w.0 (in_order p.parts (footer_bytes p.footer)), order_length p.parts (footer_bytes p.footer)) in
+    rw (w.1, ← at) (drop_front w.0 (in_order p.parts (footer_bytes p.footer)))
 
 -- ---- the end of a piece that is too short
 -- what can't be read is too short

@@ -61,6 +61,7 @@ pub mod DifferenceLaws
 pub mod PosixZoneLaws
 pub mod FilePieceLaws
 pub mod FilePlaceLaws
+pub mod FilePlaceOnce
 pub mod ListLaws
 pub mod RecordLaws
 pub mod ContentLaws

@@ -1,6 +1,6 @@
 -- The position of the fault of a TZif file: the number of bytes in front of it (RFC 8536 section 3). A file that is too short
 -- is at fault at its end, and any other at the first byte of the field whose value is rejected.
-use Rattle.std.specs.Prelude.{ℕ, ◌≡◌, ◌≢◌, ◌+◌, ◌*◌, ◌-◌, ◌<◌, ◌≤◌, ◌⊎◌, Bool, List, [], length, slice_index, Option, Some, None, ◌≤ℤ◌, ℤ}
+use Rattle.std.specs.Prelude.{ℕ, ◌≡◌, ◌≢◌, ◌+◌, ◌*◌, ◌-◌, ◌<◌, ◌≤◌, ◌⊎◌, Bool, List, [], ◌++◌, length, slice_index, Option, Some, None, ◌≤ℤ◌, ℤ}
 use Rattle.std.specs.Char.{is_ascii_whitespace}
 use Rattle.std.specs.List.{prefix_len}
 use Rattle.std.specs.Str.{IsUtf8, IsValidUpTo}
@@ -9,6 +9,7 @@ use Rattle.tz_base.specs.LocalTypes.{LocalType}
 use Rattle.tz_base.specs.declared.error.Error.{Error}
 use Rattle.tz_base.specs.declared.error.Error.TheVariants.{LocalTimeType, InvalidTzFile}
 use Rattle.tz_base.specs.declared.error.Expected.TheVariants.{OffsetAboveI32Min, ZeroOrOneAsIsDst}
+use Rattle.tz_info.specs.FileBlocks.{Parts}
 use Rattle.tz_info.specs.FileContents.{HasNoZero, IndicatorsAgree, SpellsType, TypeFault, file_time}
 use Rattle.tz_info.specs.FilePieces.{FilePieces, HasPieces, PieceFault, file}
 use Rattle.tz_info.specs.Footers.{HasText, IsBetweenNewlines}
@@ -35,6 +36,10 @@ HoldsOfNone P n = (k : ℕ) → k < n → ¬ (P k)
 abbrev pub footer_bytes : Option (List ℕ) → List ℕ
 footer_bytes (Some footer) = footer
 footer_bytes None = []
+
+-- the parts of a block, in order, and what follows them
+abbrev pub in_order : Parts → List ℕ → List ℕ
+in_order b rest = b.times ++ (b.type_indexes ++ (b.types ++ (b.designations ++ (b.leap_seconds ++ (b.standard_wall ++ (b.ut_local ++ rest))))))
 
 -- the positions of the parts: each ends where the next one begins, and the footer at the end of the file
 pub record ArePartPlaces (p : FilePieces) (q : PartPlaces) : Type 0 where

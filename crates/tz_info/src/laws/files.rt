@@ -1,8 +1,11 @@
 //! Theorems of time zone files: each function is empty, its contract is proved; never called.
 
-ghost use Rattle.std.specs.Prelude.{◌≡◌, ◌≤◌, List, ℕ};
+ghost use Rattle.std.specs.Prelude.{◌≡◌, ◌≤◌, List, ℕ, length, drop};
 ghost use Rattle.tz_base.specs.Errors.{error_number};
 ghost use Rattle.tz_base.specs.declared.error.Error.{Error as Fault};
+ghost use Rattle.tz_info.specs.FilePieces.{FilePieces, HasPieces};
+ghost use Rattle.tz_info.specs.FilePlaces.{ArePartPlaces, IsFilePlace, footer_bytes, in_order};
+ghost use Rattle.tz_info.specs.declared.file.place.PartPlaces.{PartPlaces};
 ghost use Rattle.tz_info.specs.TzFiles.{IsTzFile, IsFileFault};
 ghost use Rattle.tz_info.specs.Zones.{Zone, IsValid, IsRuleOrNone};
 
@@ -26,4 +29,19 @@ pub fn fault_or_zone()
     ensures some { (bytes : List ℕ) → ((zone : Zone) → IsTzFile bytes zone → ¬ (IsValid zone))
         → (e : Fault) × IsFileFault bytes e }
     ensures low { (bytes : List ℕ) (e : Fault) → IsFileFault bytes e → error_number e ≤ 16 }
+{}
+
+/// The fault of a file has one position, in the file or at its end.
+pub fn fault_place()
+    ensures once { (bytes : List ℕ) (a b : ℕ) → IsFilePlace bytes a → IsFilePlace bytes b
+        → a ≡ b }
+    ensures within { (bytes : List ℕ) (place : ℕ) → IsFilePlace bytes place
+        → place ≤ length bytes }
+{}
+
+/// The bytes from the position of the first part on are the parts, in order, and the footer.
+pub fn part_places()
+    ensures { (bytes : List ℕ) (p : FilePieces) (q : PartPlaces) → HasPieces bytes p
+        → ArePartPlaces p q → q.end ≡ length bytes
+        → drop q.times bytes ≡ in_order p.parts (footer_bytes p.footer) }
 {}
