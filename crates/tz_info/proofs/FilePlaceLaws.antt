@@ -1,10 +1,10 @@
 -- Where a file is at fault.
 use Rattle.std.specs.{Char.{is_ascii_whitespace}, List.{prefix_len}}
 use Rattle.tz_base.specs.{Fronts.{optional_tag_at}, Grammar.{At, Byte, Check, Ended, Grammar, Here, Marked, Nothing, Number, Refused, Rest, Run, Then, be_u32, from_fault, if_read}}
-use Rattle.tz_info.proofs.Words.{Bool, Decides-ltb, Err, Error, Exact, FilePieces, HasNoZero, HasPieces, IndicatorsAgree, IsBetweenNewlines, IsTrimAscii, IsTrimAsciiStart, IsTrimmed, IsTrue, IsUtf8}
-use Rattle.tz_info.proofs.Words.{List, LocalType, Ok, Option, Parts, Result, Some, Spells, TransitionRule, after_first_block, ap, append-nil, append_assoc, arith, below_more, block, cases_lt, drop, drop_front, exact_at}
-use Rattle.tz_info.proofs.Words.{false, false_unless, file, first_version, get_or, get_or-eq_default, inl, inr, ints, is_between_newlines, later_version, length, length-append, nat_lt, nat_tests}
-use Rattle.tz_info.proofs.Words.{read, record_at, refl, slice_index, suc, sym, true, type_of_record, ℕ, ℤ, [], ◌*◌, ◌++◌, ◌+◌, ◌-◌, ◌<ℤ◌, ◌<◌, ◌>>=◌, ◌∙◌, ◌∷◌, ◌≡◌, ◌≢◌, ◌≤◌, ◌↔◌, ◌⊎◌}
+use Rattle.tz_info.proofs.Words.{Bool, Decides-ltb, Err, Error, Exact, FilePieces, HasNoZero, HasPieces, IsBetweenNewlines, IsTrimAscii, IsTrimAsciiStart, IsTrimmed, IsTrue, IsUtf8}
+use Rattle.tz_info.proofs.Words.{List, LocalType, Ok, Option, Parts, Result, Some, Spells, TransitionRule, after_first_block, ap, append-nil, append_assoc, arith, below_more, block, drop, drop_front, exact_at}
+use Rattle.tz_info.proofs.Words.{false, false_unless, file, first_version, inl, inr, ints, is_between_newlines, later_version, length, length-append, nat_lt, nat_tests}
+use Rattle.tz_info.proofs.Words.{read, record_at, refl, slice_index, suc, sym, true, type_of_record, ℕ, ℤ, [], ◌*◌, ◌++◌, ◌+◌, ◌-◌, ◌<ℤ◌, ◌<◌, ◌>>=◌, ◌∙◌, ◌∷◌, ◌≡◌, ◌≤◌, ◌↔◌, ◌⊎◌}
 use Rattle.tz_info.proofs.{FooterLaws.{between}, PosixLaws.{string_place_within}, TrimLaws.{fits_behind, front_counted, trims_both}, TypeLaws.{type_law}}
 use Rattle.tz_info.specs.FileHeaders.{header, six_counts, tzif, version, version_1}
 use Rattle.tz_info.specs.FilePieces.{after_header, later_pieces}
@@ -191,12 +191,6 @@ pub type_place : (p : FilePieces) (k : ℕ) (e : Error) → k < p.counts.types �
     → IsTypePlace p (6 * k + before_field e)
 type_place p k e below before here =
     record { index = k; below = below; before = before; error = e; fault = (type_law p.parts.designations (record_at 6 p.parts.types k)).fails e here; place = refl }
-
-pub pairs_agree : (s u : List ℕ) → ((k : ℕ) → k < length u → ¬ ((slice_index s k ≡ 0) × (slice_index u k ≡ 1))) → IndicatorsAgree s u
-pairs_agree s u none = λ k zero. elim (cases_lt k (length u)) as (λ _. slice_index u k ≢ 1) [
-  | inl l ↦ λ one. none k l (zero, one)
-  | inr m ↦ let there : get_or u k 0 ≡ 0 = get_or-eq_default u 0 m in λ one. absurd (omega arith)
-]
 
 pub no_zero : (text : List ℕ) → HoldsOfNone (λ i. slice_index text i ≡ 0) (length text) → HasNoZero text
 no_zero [] h = tt

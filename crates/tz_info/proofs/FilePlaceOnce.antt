@@ -6,7 +6,7 @@ use Rattle.tz_info.proofs.Words.{fault_once, inl, inr, length, record_at, refl, 
 use Rattle.std.proofs.lemmas.List.Sums.{prefix_len-le-length}
 use Rattle.tz_base.specs.declared.error.{Error.TheVariants.{InvalidTzFile, LocalTimeType}, Expected.TheVariants.{OffsetAboveI32Min, ZeroOrOneAsIsDst}}
 use Rattle.tz_info.proofs.{FilePieceLaws.{has_lengths, pieces_law}, FilePlaceLaws.{footer_within}, FooterLaws.{spelled_law}, TrimLaws.{trim_again}, TypeLaws.{type_law}}
-use Rattle.tz_info.specs.FilePlaces.{ArePartPlaces, AreTypes, At_index, At_leap, At_rule, At_time, Colon, HoldsOfNone, In_contents, In_footer, In_indicators, In_lists, In_piece, In_string, In_text}
+use Rattle.tz_info.specs.FilePlaces.{ArePartPlaces, AreTypes, At_index, At_leap, At_rule, At_time, Colon, In_contents, In_footer, In_indicators, In_lists, In_piece, In_string, In_text}
 use Rattle.tz_info.specs.FilePlaces.{In_type, IsContentPlace, IsFilePlace, IsFirstBelow, IsFooterPlace, IsListPlace, IsOtherPair, IsTextPlace, IsTypePlace, No_first, No_last, Not_utf8, Zero, before_field, footer_bytes}
 use Rattle.tz_info.specs.TzFiles.{HasRule}
 use Rattle.tz_info.specs.declared.file.place.PartPlaces.{PartPlaces}

@@ -82,6 +82,7 @@ pub use Rattle.tz_info.specs.FileContents
 pub use Rattle.tz_info.specs.Footers
 pub use Rattle.tz_info.specs.FilePieces
 pub use Rattle.tz_info.specs.TzFiles
+pub use Rattle.tz_info.specs.FilePlaces
 pub use Rattle.tz_saving.specs.Reach
 pub use Rattle.tz_saving.specs.Sides
 pub use Rattle.tz_saving.specs.Candidates
