@@ -28,6 +28,7 @@ Values (Ended g h) x = Values g x ⊎ Values h x
 Values (Exact n) x = AreBytes x × (length x ≡ n)
 Values Rest x = AreBytes x
 Values (Check P test refusal v) x = P × (x ≡ v)
+Values (Here f) x = (bytes : List ℕ) × Values (f bytes) x
 Values (At place g) x = Values g x
 Values g x = Unit {0}
 
@@ -45,7 +46,7 @@ values (Exact n) bytes x rest h b = let c = subst AreBytes h.0 b in ((front x re
 values Rest bytes x rest h b = (subst AreBytes (sym h.0) b, subst AreBytes (sym h.1) (All-nil IsByte))
 values (Refused refusal) bytes x rest h b = absurd h
 values (Check P test refusal v) bytes x rest h b = ((h.0, h.1), subst AreBytes h.2 b)
-values (Here f) bytes x rest h b = (tt, (values (f bytes) bytes x rest h b).1)
+values (Here f) bytes x rest h b = let (v, c) = values (f bytes) bytes x rest h b in ((bytes, v), c)
 values (At place g) bytes x rest h b = values g bytes x rest h b
 
 -- ---- counts
@@ -55,7 +56,7 @@ number_fits n (four, (all, size), value) = grind arith
 
 header_fits : (place : Place) (h : Header) → Values (header place) h → CountsFit h.counts
 unfolding header six_counts
-header_fits place h (_, _, (_, _, (_, _, (c, (i, j, (k, l, (m, n, (o, p, (q, r, (s, t, value)))))), (_, is))))) = grind (arith, number_fits)
+header_fits place h (_, _, (_, _, (_, _, (_, (c, (i, j, (k, l, (m, n, (o, p, (q, r, (s, t, value)))))), (_, is)))))) = grind (arith, number_fits)
 
 -- ---- blocks and pieces
 same_factor : (a b c : ℕ) → 0 < c → a * c ≡ b * c → a ≡ b
