@@ -9,7 +9,7 @@ usage: tools/compare.py zoneinfo [ZONEQ [FOLDER]]    zoneq's answers with Python
        tools/compare.py days [FOLDER [ARCHIVE]]      starts of days, by the C library, with zoneinfo
        tools/compare.py saving [FOLDER [ARCHIVE]]    amounts of daylight saving time with SAVE of tzdata.zi
        tools/compare.py differences OLD NEW [ZONEDUMP]  zonedump --diff of two databases with zoneinfo
-       tools/compare.py faults [COUNT [SEED]]        errors of mutated TZ strings and their places with a reader of its own
+       tools/compare.py faults [COUNT [SEED]]        errors of mutated TZ strings and files and their places with readers of its own
        tools/compare.py peers                        zoneq's answers with rows of other projects' tests; the gate runs it
        tools/compare.py plans [RANDOM [ZONES]]          fires of plans with croniter, dateutil's rrule and zoneinfo
 
