@@ -11,7 +11,7 @@ usage: tools/compare.py zoneinfo [ZONEQ [FOLDER]]    zoneq's answers with Python
        tools/compare.py differences OLD NEW [ZONEDUMP]  zonedump --diff of two databases with zoneinfo
        tools/compare.py faults [COUNT [SEED]]        errors of mutated TZ strings and files and their places with readers of its own
        tools/compare.py peers                        zoneq's answers with rows of other projects' tests; the gate runs it
-       tools/compare.py plans [RANDOM [ZONES]]          fires of plans with croniter, dateutil's rrule and zoneinfo
+       tools/compare.py plans [--random N] [--zones N] [--years FIRST LAST]  fires of plans with croniter, dateutil's rrule and zoneinfo
 
 ZONEQ and ZONEDUMP are the built programs (crates/zoneq/out/zoneq), ARCHIVE is the static library
 (crates/zoned_ffi/out/libzoned_ffi.a), FOLDER the database (/usr/share/zoneinfo), SLIM one that `zic -b slim` compiled.

@@ -4,20 +4,37 @@ Crontab lines and rules of RFC 5545 that touch the hours at which clocks change 
 each. `ZoneDays::next_fire` and `previous_fire` list their fires in both directions. They must be
 
 - the first seconds at which clocks show, by Python's zoneinfo, the local times that croniter or rrule lists, or later ones, each once;
-- the instants that croniter and rrule themselves list in that zone, but for local times in a gap or a fold, which are counted. In a
-  gap croniter and rrule have instants that show another local time, or none; in a fold croniter may have the second pass, or both.
+- the instants that croniter and rrule themselves list in that zone, but for days on which clocks change at a local time of the plan.
+  These are counted, by their reason:
+  gap: clocks skip the local time. Here the plan fires at the gap's end, once for all that it skips. rrule has the instant that the
+       offset before the gap gives, as late after the gap's end as the local time is after the gap's begin. croniter has the instant
+       that the offset after the gap gives, an hour early, and returns it again and again: it is started again after the gap.
+  fold: clocks show the local time twice. Here the plan fires on the first pass only, as rrule does. croniter has the second pass,
+       or both.
+  late: the first run after a clock change comes too early or too late by as much as clocks were set, and croniter passes over
+       those between. croniter 1.3.5 adds to an instant what only times of pytz need, which keep the offset from before a change.
 
 Any other difference is printed. A plan of all zones is asked itself in one of them; in the others it is the list of its local times. A
 rule by seconds goes over the weeks in which most zones set their clocks, since dateutil passes through each of its seconds. The
-plans run in two tests with no proof, as tools/try_tests.py runs tests. It needs Debian's python3-croniter and python3-dateutil.
+plans run in a test with no proof, as tools/try_tests.py runs tests, which is slow: the compiler adds checks of memory. It needs
+Debian's python3-croniter and python3-dateutil, so it is run by /usr/bin/python3.
+
+usage: /usr/bin/python3 tools/compare.py plans [--random N] [--zones N] [--years FIRST LAST]
+
+  --random N   that many random lines, and as many rules, for each zone (2)
+  --zones N    only the first N zones
+  --years ..   only these years (1970 2069)
 """
 
+import argparse
 import calendar
 import multiprocessing
 import random
 import shutil
 import sys
 import tempfile
+import time
+from bisect import bisect_left
 from collections import Counter
 from concurrent.futures import ThreadPoolExecutor
 from datetime import datetime, timedelta, timezone
@@ -33,8 +50,7 @@ ZONES = """America/New_York Pacific/Apia America/St_Johns Australia/Lord_Howe Eu
 Africa/Johannesburg America/Bogota America/Havana America/Los_Angeles America/Nuuk America/Santiago America/Sao_Paulo Antarctica/Troll
 Asia/Gaza Asia/Kathmandu Asia/Kolkata Asia/Manila Asia/Tehran Asia/Tokyo Atlantic/Azores Australia/Adelaide Europe/Lisbon Europe/London
 Europe/Moscow Europe/Paris Pacific/Auckland Pacific/Kwajalein UTC""".split()
-FIRST, LAST = calendar.timegm((1970, 1, 1, 0, 0, 0)), calendar.timegm((2070, 1, 1, 0, 0, 0))
-DAY = 86_400
+HOUR, DAY = 3_600, 86_400
 EPOCH = datetime(1970, 1, 1)
 LONGEST = "3600"
 LINES = ["30 2 * 3,4,9,10,11 0", "0 0 * 3,4,9,10 0", "0,30 1-2 * 3,10 0", "59 23 31 12 *", "0 0 1 * *", "30 4 1,15 1 5"]
@@ -109,84 +125,113 @@ def numbers_of_line(line):
     return [int("*" not in (days, weekdays)), *made]
 
 
-def numbers_of_rule(rule, start):
+def numbers_of_rule(rule, start, last):
     made = [rule["freq"], rule.get("interval", 1), rule.get("wkst", 0)]
     for part in PARTS:
         values = [number for entry in rule.get(part, []) for number in entry] if part == "day" else rule.get(part, [])
         made += [len(values), *values]
-    return [*made, second(start), 2, last_of(rule)]
+    return [*made, second(start), 2, last_of(rule, last)]
 
 
-def last_of(rule):
-    return second(rule["until"]) if "until" in rule else LAST + 2 * DAY
+def last_of(rule, last):
+    return second(rule["until"]) if "until" in rule else last + 2 * DAY
 
 
-def runs_of_line(line, tz=None):
-    """The local times, or in a zone the instants, that croniter lists."""
+def runs_of_line(line, between, tz=timezone.utc):
+    """The instants that croniter lists in a zone, from two days before the years to two days after them. In UTC they are the plan's
+    local times.
+
+    If croniter returns an instant again, or an earlier one, it is started again there, and if it stays there an hour later.
+    """
     from croniter import croniter
 
-    begin, made = EPOCH - timedelta(days=2), []
-    for run in croniter(line, begin if tz is None else begin.replace(tzinfo=tz), max_years_between_matches=9).all_next(datetime):
-        at = second(run) if tz is None else int(run.timestamp())
-        if at > LAST + 2 * DAY:
-            return made
-        made.append(at)
+    begin, made = between[0] - 2 * DAY, []
+    while begin <= between[1] + 2 * DAY:
+        for run in croniter(line, datetime.fromtimestamp(begin, tz), max_years_between_matches=9).all_next(datetime):
+            at = int(run.timestamp())
+            if at > between[1] + 2 * DAY:
+                return made
+            if made and at <= made[-1]:
+                break
+            made.append(at)
+        begin = made[-1] if made and begin < made[-1] else begin + HOUR
     return made
 
 
-def runs_of_rule(rule, start):
+def runs_of_rule(rule, start, last):
     """The local times that rrule lists. In a zone it lists the same with the zone's name."""
     from dateutil import rrule
 
     words = {f"by{part}": rule[part] for part in PARTS if part in rule and part != "day"}
     if "day" in rule:
         words["byweekday"] = [rrule.weekday(day, nth or None) for day, nth in rule["day"]]
-    until = EPOCH + timedelta(seconds=last_of(rule))
+    until = EPOCH + timedelta(seconds=last_of(rule, last))
     made = rrule.rrule(rule["freq"], dtstart=start, interval=rule.get("interval", 1), wkst=rule.get("wkst", 0), until=until, **words)
     return [second(run) for run in made]
 
 
-def listed_by(plan, start):
-    return runs_of_line(plan) if start is None else runs_of_rule(plan, start)
+def listed_by(plan, start, between):
+    return runs_of_line(plan, between) if start is None else runs_of_rule(plan, start, between[1])
 
 
 def in_zone(asked):
     """The instants that croniter or rrule lists in a zone, if it lists those local times in none."""
-    from dateutil import tz as zones
-
-    name, plan, start, locals_ = asked
-    tz = zones.gettz(name)
+    name, plan, start, locals_, between = asked
     if start is None:
-        return runs_of_line(plan, tz)
-    return [int((EPOCH + timedelta(seconds=at)).replace(tzinfo=tz).timestamp()) for at in locals_]
+        return runs_of_line(plan, between, ZoneInfo(name))
+    return [int((EPOCH + timedelta(seconds=at)).replace(tzinfo=ZoneInfo(name)).timestamp()) for at in locals_]
 
 
 class Clock:
     """A zone's clock as zoneinfo has it: its stretches of one offset."""
 
-    def __init__(self, path, name):
-        self.zone = ZoneInfo(name)
-        self.found = stretches(TzFile(path.read_bytes()), self.zone, FIRST - 7 * DAY, LAST + 7 * DAY)
+    def __init__(self, path, name, between):
+        self.first, self.last = between
+        self.found = stretches(TzFile(path.read_bytes()), ZoneInfo(name), self.first - 7 * DAY, self.last + 7 * DAY)
         self.changes = [(at, before, after) for (_, before), (at, after) in zip(self.found, self.found[1:])]
+
+    def is_inside(self, at):
+        return self.first < at <= self.last
 
     def fires(self, locals_):
         """The first seconds at which clocks show each of these local times, which rise, or a later one: each once, within the years."""
-        at, made = 0, []
+        place, made = 0, []
         for local in locals_:
             while True:
-                begin, offset = self.found[at]
-                end = self.found[at + 1][0] if at + 1 < len(self.found) else LAST + 7 * DAY
-                at_second = max(begin, local - offset)
-                if at_second < end:
+                begin, offset = self.found[place]
+                end = self.found[place + 1][0] if place + 1 < len(self.found) else self.last + 7 * DAY
+                at = max(begin, local - offset)
+                if at < end or place + 1 == len(self.found):
                     break
-                at += 1
-            if FIRST < at_second <= LAST and (not made or made[-1] != at_second):
-                made.append(at_second)
+                place += 1
+            if self.is_inside(at) and (not made or made[-1] != at):
+                made.append(at)
         return made
 
-    def near_change(self, at):
-        """Whether clocks are set within a day of a second: then its local time may be one in a gap or a fold."""
-        return any(abs(at - change) <= DAY for change, _, _ in self.changes)
+    def reason(self, at, locals_):
+        """`gap` or `fold`, if clocks are set within a day of that second and one of those local times is in that gap or fold."""
+        for change, before, after in self.changes:
+            if abs(at - change) <= DAY:
+                place = bisect_left(locals_, change + min(before, after))
+                if place < len(locals_) and locals_[place] < change + max(before, after):
+                    return "gap" if before < after else "fold"
+        return None
+
+    def is_day_after_change(self, at):
+        return any(0 <= at - change <= DAY for change, _, _ in self.changes)
+
+    def shifts(self, fires):
+        """The instants that croniter may have in place of a fire: each with the fire."""
+        found, place = {}, 0
+        for before, at in zip([self.first, self.first, *fires], fires):
+            while place + 1 < len(self.found) and self.found[place + 1][0] <= at:
+                place += 1
+            there = place
+            while there >= 0 and (there == place or self.found[there + 1][0] > before):
+                if self.found[there][1] != self.found[place][1]:
+                    found[at - self.found[place][1] + self.found[there][1]] = at
+                there -= 1
+        return found
 
 
 def ours(plans, folder):
@@ -224,37 +269,54 @@ def asked_plans(zones, random_plans):
     return plans
 
 
-def main(random_plans="2", zones_used=len(ZONES)):
+def options(given):
+    words = argparse.ArgumentParser(prog="tools/compare.py plans")
+    words.add_argument("--random", type=int, default=2)
+    words.add_argument("--zones", type=int, default=len(ZONES))
+    words.add_argument("--years", type=int, nargs=2, default=(1970, 2069))
+    chosen = words.parse_args(given)
+    return chosen.random, chosen.zones, tuple(calendar.timegm((year, 1, 1, 0, 0, 0)) for year in (chosen.years[0], chosen.years[1] + 1))
+
+
+def main(*given):
     needs("rt")
-    plans, tally = asked_plans(list(range(int(zones_used))), int(random_plans)), Counter()
-    given = []
+    random_plans, zones_used, between = options(given)
+    plans, tally, begun = asked_plans(list(range(zones_used)), random_plans), Counter(), time.monotonic()
+    numbers = []
     for plan, start, those in plans:
-        numbers = numbers_of_line(plan) if start is None else numbers_of_rule(plan, start)
-        given.append([int(start is not None), len(those), *those, FIRST, LAST, *numbers])
-    with tempfile.TemporaryDirectory() as folder, ThreadPoolExecutor(2) as threads, multiprocessing.Pool(2) as pool:
-        halves = [threads.submit(ours, given[half::2], Path(folder, str(half))) for half in (0, 1)]
-        locals_ = pool.starmap(listed_by, [(plan, start) for plan, start, _ in plans], chunksize=1)
-        asked = [(ZONES[at], plan, start, found) for (plan, start, those), found in zip(plans, locals_) for at in those]
+        own = numbers_of_line(plan) if start is None else numbers_of_rule(plan, start, between[1])
+        numbers.append([int(start is not None), len(those), *those, *between, *own])
+    with tempfile.TemporaryDirectory() as folder, ThreadPoolExecutor(1) as thread, multiprocessing.Pool(2) as pool:
+        fired = thread.submit(ours, numbers, Path(folder))
+        locals_ = pool.starmap(listed_by, [(plan, start, between) for plan, start, _ in plans], chunksize=1)
+        asked = [(ZONES[at], plan, start, found, between) for (plan, start, those), found in zip(plans, locals_) for at in those]
         theirs = pool.map(in_zone, asked, chunksize=1)
-        answers = [iter(half.result()) for half in halves]
-    clocks = {name: Clock(FOLDER / name, name) for name in ZONES[: int(zones_used)]}
-    own = [next(answers[number % 2]) for number, (_, _, those) in enumerate(plans) for _ in those]
-    for (name, plan, start, found), listed, (fires, same) in zip(asked, theirs, own, strict=True):
+        print(f"croniter and rrule: {time.monotonic() - begun:.0f} s", file=sys.stderr)
+        all_fires = fired.result()
+        print(f"the plans: {time.monotonic() - begun:.0f} s", file=sys.stderr)
+    clocks = {name: Clock(FOLDER / name, name, between) for name in ZONES[:zones_used]}
+    for (name, plan, start, found, _), listed, (fires, same) in zip(asked, theirs, all_fires, strict=True):
         clock, label, kind = clocks[name], f"{name} {plan} {start or ''}", "croniter" if start is None else "rrule"
+        tally[f"plans of {kind} in a zone"] += 1
+        tally[f"fires of {kind}"] += len(fires)
         if not same:
             tally["wrong"] += 1
             print("back differs:", label)
         want = clock.fires(found)
-        tally[f"plans of {kind} in a zone"] += 1
-        tally[f"fires of {kind}"] += len(fires)
         if want != fires:
             tally["wrong"] += 1
             print(f"{kind} and zoneinfo differ:", label, sorted(set(want) ^ set(fires))[:5])
-        for at in {at for at in listed if FIRST < at <= LAST} ^ set(fires):
-            if clock.near_change(at):
-                tally[f"instants that only one has near a clock change, of {kind}"] += 1
+        listed, shifts = set(filter(clock.is_inside, listed)), clock.shifts(fires) if start is None else {}
+        late = [(min(shifted, at), max(shifted, at)) for shifted, at in shifts.items() if shifted in listed]
+        for at in sorted(listed ^ set(fires)):
+            whose, reason = kind if at in listed else "the plan", clock.reason(at, found)
+            if not reason and (any(first <= at <= last for first, last in late) or start is None and clock.is_day_after_change(at)):
+                reason = "late"
+            if reason:
+                tally[f"instants that only {whose} has ({kind}, {reason})"] += 1
             else:
                 tally["wrong"] += 1
-                print(f"{kind} in its zone differs:", label, at, datetime.fromtimestamp(at, timezone.utc))
-    print(", ".join(f"{count:,} {what}" for what, count in tally.items() if what != "wrong"), f"{tally['wrong']} differences", sep="; ")
+                print(f"only {whose} has:", label, at, datetime.fromtimestamp(at, timezone.utc))
+    counts = [f"{count:,} {what}" for what, count in sorted(tally.items()) if what != "wrong"]
+    print(", ".join(counts), f"{tally['wrong']} differences", sep="; ")
     return 1 if tally["wrong"] or not plans else 0
