@@ -220,7 +220,7 @@ def definitions(text):
     """The blocks of a page of proofs: each name with its text, from its signature to the next one."""
     starts = [*re.finditer(rf"(?m)^(?:(?:pub|abbrev|unfoldable|opaque|data|record) )*({NAME}) : ", text)]
     starts += [*re.finditer(rf"(?m)^(?:(?:pub|unfoldable|opaque) )*(?:data|record) ({NAME})", text)]
-    starts += [*re.finditer(rf"(?m)^(?:pub )?ruleset ({NAME}) = ", text)]
+    starts += [*re.finditer(rf"(?m)^(?:pub )?ruleset ({NAME}) =\s", text)]
     starts = sorted({start.start(): start for start in starts}.values(), key=lambda start: start.start())
     for start, after in zip(starts, [*starts[1:], None]):
         yield start[1], start.start(), text[start.start() : after.start() if after else len(text)]
