@@ -4,9 +4,10 @@
 usage: /usr/bin/python3 bench/time_fires.py     (it needs Debian's python3-croniter)
 
 Both go from run to run of each line in New York from 2021 on. Of each run the least time in PASSES passes counts, so that what other
-processes took doesn't show. The library runs as tests run: compiled with AddressSanitizer, so much slower than in a built program. It
-prints a row for each line: nanoseconds for a run, and how many of croniter's instants the plan has too (tools/compare.py plans says why
-some differ).
+processes took doesn't show. The library runs as tests run: compiled with AddressSanitizer, so much slower than in a built program. How
+much is seen by `with_timezone`, whose time in a built program docs/SPEED.md has (BUILT): the nanoseconds of a built program are
+estimated by that ratio. It prints a row for each line: nanoseconds for a run, and how many of croniter's instants the plan has too
+(tools/compare.py plans says why some differ).
 """
 
 import re
@@ -26,6 +27,8 @@ from sources import DATABASE, TOP, needs
 ZONE, START = "America/New_York", 1_609_477_200
 LINES = ["*/15 * * * *", "0 9 * * 1-5", "0 9 1 * *", "59 23 31 12 *"]
 RUNS, PASSES = 200, 12
+# Nanoseconds of `with_timezone` in a built program.
+BUILT = 7.7
 SIZES = {"minutes": 60, "hours": 24, "days": 32, "months": 13, "weekdays": 7}
 PROGRAM = """//! Times plans.
 
@@ -72,11 +75,26 @@ fn fires(rt: &HostRuntime, zone: &KeptZone, cron: &Cron, least: &mut [u128]) -> 
     Ok(found)
 }
 
+// The least nanoseconds for a hundred times `with_timezone`, and a sum, so that no compiler leaves them out.
+fn yardstick(rt: &HostRuntime, zone: &KeptZone) -> Result<(u128, i64), Fail> {
+    let at = start();
+    let (mut least, mut sum) = (u128::MAX, 0i64);
+    for _ in 0..RUNS {
+        let begun = Instant::now(rt)?;
+        for _ in 0..100 {
+            sum = sum.wrapping_add(at.with_timezone(zone).timestamp());
+        }
+        least = least.min(begun.elapsed(rt)?.as_nanos());
+    }
+    Ok((least, sum))
+}
+
 #[test]
 fn run(rt: HostRuntime) -> Result<(), Fail> {
     let bytes = fs::read(&rt, "ZONE")?;
     let zone = KeptZone::keep(rt.alloc(), tz_info::TimeZone::from_tz_data(rt.alloc(), &bytes)?)?;
-    let mut out = String::new(rt.alloc());
+    let (hundred, sum) = yardstick(&rt, &zone)?;
+    let mut out = format!(in rt.alloc(); "{sum} | {hundred}\\n")?;
     for line in 0..COUNT {
         let cron = plan(line);
         let mut least = [u128::MAX; RUNS];
@@ -111,7 +129,7 @@ def listed():
 
 
 def ours():
-    """For each line its fires, and the nanoseconds for all of them."""
+    """The nanoseconds of the yardstick, and for each line its fires and the nanoseconds for all of them."""
     with tempfile.TemporaryDirectory() as room:
         folder = Path(room)
         shutil.copytree(TOP / "crates", folder / "crates", ignore=shutil.ignore_patterns("out", "tests"))
@@ -144,9 +162,13 @@ def theirs(line):
 
 def main():
     needs("rt", DATABASE / ZONE)
-    for line, (fires, took) in zip(LINES, ours(), strict=True):
+    (_, hundred), *rows = ours()
+    slower = hundred / 100 / BUILT
+    print(f"with_timezone: {hundred / 100:,.0f} ns as tests run, {slower:,.0f} times as long as in a built program")
+    for line, (fires, took) in zip(LINES, rows, strict=True):
         found, there = theirs(line)
-        times = f"next_fire {took / RUNS:10,.0f} ns, croniter {there / RUNS:10,.0f} ns, {there / took:.1f} times as long"
+        built = took / RUNS / slower
+        times = f"next_fire {took / RUNS:,.0f} ns, about {built:,.0f} ns in a built program; croniter {there / RUNS:,.0f} ns"
         print(f"{line:15} {times}; {len({*fires} & {*found})} of {RUNS} the same", flush=True)
 
 
