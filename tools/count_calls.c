@@ -73,6 +73,14 @@ static void ask_column(const zoned_zone *zone, const int64_t *from, size_t len) 
     int64_t *to = room((int64_t)(len * sizeof *to));
     size_t row;
     COUNTED("locals", numbers_returned |= zoned_column_locals(zone, 1, from, len, to, len, &row));
+    zoned_wall_clock *clocks = room((int64_t)(len * sizeof *clocks));
+    zoned_resolved *resolved = room((int64_t)(len * sizeof *resolved));
+    zoned_local_type *types = room((int64_t)(len * sizeof *types));
+    int32_t *offsets = room((int64_t)(len * sizeof *offsets));
+    COUNTED("offsets", numbers_returned |= zoned_zone_offsets(zone, from, len, offsets, len));
+    COUNTED("types", numbers_returned |= zoned_zone_types(zone, from, len, types, len));
+    COUNTED("wall clocks", numbers_returned |= zoned_zone_wall_clocks(zone, from, len, clocks, len));
+    COUNTED("resolved", numbers_returned |= zoned_zone_instants(zone, ZONED_GAP_SHIFT_FORWARD, ZONED_FOLD_EARLIEST, from, len, resolved, len));
     COUNTED("instants", numbers_returned |= zoned_column_instants(zone, ZONED_GAP_SHIFT_FORWARD, ZONED_FOLD_EARLIEST, 1, from, len, to, len, &row));
 }
 

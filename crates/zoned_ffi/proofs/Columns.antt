@@ -54,7 +54,7 @@ instants_kept z unit s from until add k stretch a b d within = λ x low high.
     grind arith
 
 -- a local time so far inside a stretch that by each offset of the zone its second lies in it: only the second by the stretch's offset shows it
-once_shown : (z : Zone) (s : OffsetStretch) (low high local : ℤ) → IsOffsetStretch z s → FitsSigned w64 s.from → FitsSigned w64 s.until
+pub once_shown : (z : Zone) (s : OffsetStretch) (low high local : ℤ) → IsOffsetStretch z s → FitsSigned w64 s.from → FitsSigned w64 s.until
     → IsLeast (offsets z.types z.rule) low → IsGreatest (offsets z.types z.rule) high → (s.from +ℤ high) ≤ℤ local → local <ℤ (s.until +ℤ low)
     → (t : LocalType) × IsShownOnce (Shows (TypeAt z) local) t × (s.offset ≡ t.offset)
 once_shown z s low high local stretch f g is_low is_high since before =

@@ -9,6 +9,7 @@ pub mod Slots
 pub mod Reading
 pub mod Resolving
 pub mod Telling
+pub mod HeldTimes
 pub mod LocalInfoLaws
 pub mod RuleStringLaws
 pub mod Sayings

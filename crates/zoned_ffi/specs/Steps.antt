@@ -3,3 +3,4 @@ pub mod KeptTimes
 pub mod ResolvedInstants
 pub mod Told
 pub mod SetBack
+pub mod ShownOnce

@@ -2,12 +2,13 @@
 
 ghost use Rattle.std.specs.Prelude.{◌≡◌, ◌≢◌, length, MatchOption};
 ghost use Rattle.zoned_ffi.specs.Columns.{AreAnswered, IsFirstWithout, IsRowNumber, IsSoughtNumber};
-ghost use Rattle.zoned_ffi.specs.Steps.KeptTimes.{AreKept, AreWritten, IsStop};
+ghost use Rattle.zoned_ffi.specs.Steps.KeptTimes.{AreWritten, IsStop};
 ghost use Rattle.zoned_ffi.specs.declared.column.Way.TheVariants.{ToInstants, ToLocal, ToWholeSeconds};
 
 mod block;
 mod kept;
 mod row;
+mod short;
 mod table;
 
 use crate::choice::Choice;
@@ -15,8 +16,8 @@ use crate::refusal::{NO_LOCAL_TIME, OTHER_SIZE};
 use crate::unit::Unit;
 use crate::whole_second::WholeSecond;
 use block::write_block;
-use kept::Kept;
-use table::Search;
+use short::write_short;
+use table::{Search, Table};
 use tz_info::TimeZone;
 
 /// No time: the value of a missing time in a column.
@@ -53,19 +54,8 @@ pub struct Stop {
     pub number: u32,
 }
 
-// The stretches in the table of a long column, two for each number of a pair.
-const PLACES: usize = 512;
-
-// The parts of the axis, 136 years or more, for which it notes the pair.
-const PARTS: usize = 2_048;
-
 // The rows of a column that pays for a table.
-const LONG: usize = 2_048;
-
-// How eagerly stretches are searched for, in a short column and in a long one.
-const SHORT_PACE: usize = 1;
-
-const LONG_PACE: usize = 16;
+const LONG: usize = 1_024;
 
 // The rows that are tried at once to lie in one stretch.
 const BLOCK: usize = 32;
@@ -78,52 +68,26 @@ fn write_column(question: Question, times: &[i64], answers: &mut [i64]) -> Optio
         (λ s. IsStop question.entry times.now answers.old answers.new s) }
 {
     if times.len() < LONG {
-        let mut places = [Kept::none(question); 2];
-        return write_with(question, times, answers, &mut [], &mut places, SHORT_PACE);
+        write_short(question, times, answers)
+    } else {
+        write_long(question, times, answers)
     }
-    write_with_table(question, times, answers)
 }
 
+// The same, with a table.
 #[inline(never)]
-fn write_with_table(question: Question, times: &[i64], answers: &mut [i64]) -> Option<Stop>
+fn write_long(question: Question, times: &[i64], answers: &mut [i64]) -> Option<Stop>
     requires { length times.now ≡ length answers.old }
     ensures { MatchOption result (AreWritten question.entry times.now answers.new)
         (λ s. IsStop question.entry times.now answers.old answers.new s) }
 {
-    let mut places = [Kept::none(question); PLACES];
-    let mut parts = [0; PARTS];
-    write_with(question, times, answers, &mut parts, &mut places, LONG_PACE)
-}
-
-#[inline(never)]
-fn write_with(
-    question: Question,
-    times: &[i64],
-    answers: &mut [i64],
-    parts: &mut [u8],
-    places: &mut [Kept],
-    pace: usize,
-) -> Option<Stop>
-    requires size { length times.now ≡ length answers.old }
-    requires kept { AreKept question places.old }
-    ensures { MatchOption result (AreWritten question.entry times.now answers.new)
-        (λ s. IsStop question.entry times.now answers.old answers.new s) }
-{
-    let mut search = Search::none(pace, times.len());
+    let mut table = Table::none(question);
+    let mut search = Search::none();
     let blocks = times.len() / BLOCK;
     for block in 0..blocks {
         let from = block * BLOCK;
         let to = from + BLOCK;
-        match write_block(
-            question,
-            times,
-            answers,
-            parts,
-            places,
-            &mut search,
-            from,
-            to,
-        ) {
+        match write_block(question, times, answers, &mut table, &mut search, from, to) {
             Some(stop) => return Some(stop),
             None => {}
         }
@@ -133,16 +97,7 @@ fn write_with(
     if from == to {
         return None;
     }
-    write_block(
-        question,
-        times,
-        answers,
-        parts,
-        places,
-        &mut search,
-        from,
-        to,
-    )
+    write_block(question, times, answers, &mut table, &mut search, from, to)
 }
 
 /// Writes the local time of each instant if there is room for as many: 0, or why not. If an instant

@@ -6,6 +6,7 @@ ghost use Rattle.offset_core.specs.LocalResult.{map_of};
 ghost use Rattle.zoned_ffi.specs.Steps.Told.{told_of};
 ghost use Rattle.zoned_ffi.specs.WallClocks.{AreWallClocks, IsWallClockAt, written};
 
+use crate::local_lookups::LocalLookups;
 use naive_base::NaiveDateTime;
 use offset_core::MappedLocalTime;
 use tz_info::{LocalTimeType, TimeZone};
@@ -52,6 +53,18 @@ impl WrittenLocalResult {
             return WrittenLocalResult::nowhere(OUT_OF_RANGE);
         };
         WrittenLocalResult::of_types(local, zone.local_time_types_at(reading))
+    }
+
+    // The same of the next local time.
+    #[inline(always)]
+    fn next(lookups: &mut LocalLookups<'_>, local: i64) -> WrittenLocalResult
+        ensures written { IsWallClockAt lookups.old local result }
+        ensures zone { lookups.new ≡ lookups.old }
+    {
+        match lookups.offset_of(local) {
+            Some(offset) => WrittenLocalResult::between(ONCE, local, offset, offset),
+            None => WrittenLocalResult::at(lookups.zone(), local),
+        }
     }
 
     // That of the types in force at the first and the last second that show it.
@@ -116,7 +129,8 @@ pub fn write_local_results(zone: &TimeZone, locals: &[i64], clocks: &mut [Writte
     requires { length locals.now ≡ length clocks.old }
     ensures { AreWallClocks zone.now locals.now clocks.new }
 {
+    let mut lookups = LocalLookups::new(zone);
     for (i, local) in locals.iter().enumerate() {
-        clocks[i] = WrittenLocalResult::at(zone, *local);
+        clocks[i] = WrittenLocalResult::next(&mut lookups, *local);
     }
 }

@@ -8,10 +8,11 @@ ghost use Rattle.zoned_ffi.specs.Steps.ResolvedInstants.{IsResolvedStamp, IsTake
 
 use crate::choice::{Choice, ChoiceInGap};
 use crate::instants::offset_at;
+use crate::local_lookups::LocalLookups;
 use crate::refusal::INSTANT_OUT_OF_RANGE;
 use naive_base::NaiveDateTime;
-use offset_core::Taken as Found;
-use tz_info::{Probes, TimeZone};
+use offset_core::{Around, Taken as Found};
+use tz_info::TimeZone;
 
 /// The instant that a choice takes for a local time.
 #[repr(C)]
@@ -28,6 +29,7 @@ pub struct Resolved {
 impl Resolved {
     /// That of the local time: seconds after 1970-01-01 00:00:00 on a clock, every day
     /// counted as 86,400.
+    #[inline(always)]
     pub fn at(zone: &TimeZone, choice: Choice, local: i64) -> Resolved
         ensures { IsResolvedAt zone.now choice local result }
     {
@@ -42,6 +44,18 @@ impl Resolved {
             }
             Ok(Taken::GapEnd(at, offset)) => Resolved::within(at, offset),
             Err(number) => Resolved::none(number),
+        }
+    }
+
+    // That of the next local time.
+    #[inline(always)]
+    fn next(lookups: &mut LocalLookups<'_>, choice: Choice, local: i64) -> Resolved
+        ensures written { IsResolvedAt lookups.old choice local result }
+        ensures zone { lookups.new ≡ lookups.old }
+    {
+        match lookups.offset_of(local) {
+            Some(offset) => Resolved::within(instant_by(local, offset), offset),
+            None => Resolved::at(lookups.zone(), choice, local),
         }
     }
 
@@ -103,12 +117,24 @@ pub enum Taken {
 }
 
 /// What the choice takes of the local time, or the number that says why it takes nothing.
+#[inline(always)]
 pub fn take(zone: &TimeZone, choice: Choice, local: NaiveDateTime) -> Result<Taken, u32>
     ensures { MatchResult result (λ taken. IsTakenAs zone.now (reading local).s choice taken)
         (λ n. IsNoneTaken zone.now (reading local).s choice n) }
 {
-    let mut probes = Probes::new();
-    let around = zone.find_local_time_type_around_counted(local, &mut probes);
+    match zone.local_time_types_around(local) {
+        Around::Single(only) => Ok(Taken::InForce(only.offset())),
+        _ => take_around(zone, choice, local),
+    }
+}
+
+// The same of any local time. Only those in gaps and folds need it, and both sides of a change with it.
+#[inline(never)]
+fn take_around(zone: &TimeZone, choice: Choice, local: NaiveDateTime) -> Result<Taken, u32>
+    ensures { MatchResult result (λ taken. IsTakenAs zone.now (reading local).s choice taken)
+        (λ n. IsNoneTaken zone.now (reading local).s choice n) }
+{
+    let around = zone.find_local_time_type_around(local);
     match around.take(choice.policy()) {
         Ok(Found::Shown(only)) => Ok(Taken::InForce(only.offset())),
         Ok(Found::InGap(change)) => match choice.gap {
@@ -125,8 +151,9 @@ pub fn write_resolved(zone: &TimeZone, choice: Choice, locals: &[i64], resolved:
     requires { length locals.now ≡ length resolved.old }
     ensures { AreResolved zone.now choice locals.now resolved.new }
 {
+    let mut lookups = LocalLookups::new(zone);
     for (i, local) in locals.iter().enumerate() {
-        resolved[i] = Resolved::at(zone, choice, *local);
+        resolved[i] = Resolved::next(&mut lookups, choice, *local);
     }
 }
 

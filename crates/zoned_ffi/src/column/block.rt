@@ -4,7 +4,7 @@ ghost use Rattle.std.specs.Prelude.{◌≡◌, ◌≤◌, ◌<◌, drop, length,
 ghost use Rattle.zoned_ffi.specs.Steps.KeptTimes.{AreKept, AreKeptTimes, AreWritten, IsKept, IsStop};
 
 use crate::column::kept::Kept;
-use crate::column::table::{Search, answer, kept_for};
+use crate::column::table::{Search, Table};
 use crate::column::{Question, Stop};
 
 /// Writes the answers of the rows from `from` on and before `to`, up to the first without.
@@ -13,25 +13,24 @@ pub fn write_block(
     question: Question,
     times: &[i64],
     answers: &mut [i64],
-    parts: &mut [u8],
-    places: &mut [Kept],
+    table: &mut Table,
     search: &mut Search,
     from: usize,
     to: usize,
 ) -> Option<Stop>
     requires size { length answers.old ≡ length times.now }
     requires rows { (from < to) × (to ≤ length times.now) }
-    requires kept { AreKept question places.old }
+    requires kept { AreKept question table.old.places }
     requires before { AreWritten question (take from times.now) (take from answers.old) }
     ensures size { length answers.new ≡ length times.now }
-    ensures kept { AreKept question.entry places.new }
+    ensures kept { AreKept question.entry table.new.places }
     ensures answered { MatchOption result
         (AreWritten question.entry (take to times.now) (take to answers.new)
         × (drop to answers.new ≡ drop to answers.old))
         (λ s. (from ≤ s.row) × IsStop question.entry times.now answers.old answers.new s) }
 {
     if search.tries_block() {
-        let kept = kept_for(question, parts, places, times[from]);
+        let kept = table.kept_for(question, times[from]);
         if are_in(kept, times, from, to) {
             search.found_block();
             write_sums(question, kept, times, answers, from, to);
@@ -39,9 +38,9 @@ pub fn write_block(
         }
         search.missed_block();
     }
-    let left = write_pairs(question, times, answers, parts, places, from, to);
+    let left = write_pairs(question, times, answers, table, from, to);
     for row in left..to {
-        match answer(question, parts, places, search, row, times[row]) {
+        match table.answer(question, search, row, times[row]) {
             Ok(found) => answers[row] = found,
             Err(number) => return Some(Stop { row, number }),
         }
@@ -99,14 +98,13 @@ fn write_pairs(
     question: Question,
     times: &[i64],
     answers: &mut [i64],
-    parts: &[u8],
-    places: &[Kept],
+    table: &Table,
     from: usize,
     to: usize,
 ) -> usize
     requires size { length answers.old ≡ length times.now }
     requires rows { (from < to) × (to ≤ length times.now) }
-    requires kept { AreKept question places.now }
+    requires kept { AreKept question table.now.places }
     requires before { AreWritten question (take from times.now) (take from answers.old) }
     ensures size { length answers.new ≡ length times.now }
     ensures row { (from ≤ result) × (result ≤ to) }
@@ -115,8 +113,8 @@ fn write_pairs(
 {
     let mut row = from;
     while row + 1 < to {
-        let one = kept_for(question, parts, places, times[row]);
-        let other = kept_for(question, parts, places, times[row + 1]);
+        let one = table.kept_for(question, times[row]);
+        let other = table.kept_for(question, times[row + 1]);
         let both = one.has(times[row]) & other.has(times[row + 1]);
         if !both {
             return row;

@@ -31,8 +31,8 @@ impl Kept {
     {
         let _ = question;
         Kept {
-            low: i64::MAX,
-            high: i64::MIN,
+            low: 0,
+            high: 0,
             add: 0,
         }
     }
@@ -43,6 +43,13 @@ impl Kept {
         ensures { IsTrue result ↔ ((self.low ≤ℤ time) × (time <ℤ self.high)) }
     {
         (self.low <= time) & (time < self.high)
+    }
+
+    // These, or the other ones if there are none.
+    fn or(self, other: Kept) -> Kept
+        ensures { (result ≡ self) ⊎ (result ≡ other) }
+    {
+        if self.low < self.high { self } else { other }
     }
 
     /// The answer to the time if it is one of them.
@@ -73,8 +80,8 @@ impl Kept {
         let high = lesser(until, last);
         if high <= low {
             return Kept {
-                low: i64::MAX,
-                high: i64::MIN,
+                low: 0,
+                high: 0,
                 add,
             };
         }
@@ -86,8 +93,51 @@ impl Kept {
     }
 }
 
-/// What is kept of the stretch that the second lies in.
-pub fn kept_at(question: Question, second: i64) -> Kept
+/// What is kept of the stretch that the time lies in, if it lies far enough from both ends.
+pub fn kept_around(question: Question, time: i64) -> Kept
+    ensures { IsKept question.entry result }
+{
+    let greatest = offsets(&question).1;
+    kept_at(question, second_before(question.unit, time, greatest))
+}
+
+/// Of the stretch before that one, or of that one if none comes before it.
+pub fn kept_before(question: Question, kept: Kept) -> Kept
+    requires { IsKept question kept }
+    ensures { IsKept question.entry result }
+{
+    let greatest = offsets(&question).1;
+    let first = second_before(question.unit, kept.low, greatest);
+    kept_at(question, first.wrapping_sub(1)).or(kept)
+}
+
+/// Of the stretch after that one, or of that one if none comes after it.
+pub fn kept_after(question: Question, kept: Kept) -> Kept
+    requires { IsKept question kept }
+    ensures { IsKept question.entry result }
+{
+    let least = offsets(&question).0;
+    kept_at(question, second_before(question.unit, kept.high, least)).or(kept)
+}
+
+// The least offset of the zone and the greatest; of instants both are 0, since no offset moves them.
+fn offsets(question: &Question) -> (i32, i32) {
+    match question.way {
+        Way::ToLocal | Way::ToWholeSeconds(_) => (0, 0),
+        Way::ToInstants(_) => (
+            question.zone.least_offset(),
+            question.zone.greatest_offset(),
+        ),
+    }
+}
+
+// The second of the time, less the offset.
+fn second_before(unit: Unit, time: i64, offset: i32) -> i64 {
+    unit.second_of(time).wrapping_sub(i64::from(offset))
+}
+
+// What is kept of the stretch that the second lies in.
+fn kept_at(question: Question, second: i64) -> Kept
     ensures { IsKept question.entry result }
 {
     let Question { zone, unit, way } = question;

@@ -5,11 +5,12 @@ ghost use Rattle.gregorian.specs.Year.{floor_div};
 ghost use Rattle.naive_base.specs.Stamp.{of_secs};
 ghost use Rattle.zoned_time.specs.Fires.{second_before};
 ghost use Rattle.zoned_ffi.specs.Columns.{IsInstantOf, IsNoInstant, IsNoWholeSecondOf, IsWholeSecondOf};
-ghost use Rattle.zoned_ffi.specs.Steps.KeptTimes.{IsAnsweredBy, IsNotAnsweredBy};
+ghost use Rattle.zoned_ffi.specs.Steps.KeptTimes.{IsAnsweredBy, IsKept, IsNotAnsweredBy, IsNotWritten, IsWritten};
 ghost use Rattle.zoned_ffi.specs.Steps.ResolvedInstants.{taken_instant};
 ghost use Rattle.zoned_ffi.specs.Units.{IsCounted, IsLocal, IsWithout, per_second};
 
 use crate::choice::Choice;
+use crate::column::kept::Kept;
 use crate::column::{NO_TIME, Question, Way};
 use crate::refusal::{INSTANT_OUT_OF_RANGE, NO_LOCAL_TIME};
 use crate::resolved::{Taken, take};
@@ -18,9 +19,36 @@ use crate::whole_second::WholeSecond;
 use naive_base::NaiveDateTime;
 use tz_info::TimeZone;
 
-/// What is written of the time, or the number that says why nothing is.
-#[inline(never)]
-pub fn looked_up(question: &Question, time: i64) -> Result<i64, u32>
+/// What is written of the time, or the number that says why nothing is: by the stretch, if that has it, or
+/// by a lookup.
+#[inline(always)]
+pub fn answer_by(question: Question, kept: Kept, time: i64) -> Result<i64, u32>
+    requires { IsKept question kept }
+    ensures { MatchResult result (IsWritten question.entry time)
+        (λ n. IsNotWritten question.entry time n) }
+{
+    match kept.answer_to(question, time) {
+        Some(found) => Ok(found),
+        None => answer_by_zone(&question, time),
+    }
+}
+
+/// The same by a lookup.
+#[tactic(auto, using(crate::proofs::Casts::passed_on))]
+#[inline(always)]
+pub fn answer_by_zone(question: &Question, time: i64) -> Result<i64, u32>
+    ensures { MatchResult result (IsWritten question.now time)
+        (λ n. IsNotWritten question.now time n) }
+{
+    if time == NO_TIME {
+        return Ok(NO_TIME);
+    }
+    looked_up(question, time)
+}
+
+// The answer to a time, or the number that says why it has none.
+#[inline(always)]
+fn looked_up(question: &Question, time: i64) -> Result<i64, u32>
     ensures { MatchResult result (IsAnsweredBy question.now time) (IsNotAnsweredBy question.now time) }
 {
     let Question { zone, unit, way } = *question;

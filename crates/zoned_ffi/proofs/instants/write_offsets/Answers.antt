@@ -3,8 +3,13 @@ use Rattle.zoned_ffi.proofs.instants.write_offsets.Goals as goal
 
 pub loop-i-preserved : goal.loop-i-preserved
 loop-i-preserved c =
-    let at = c.loop-i in let offset = c.offset_at.result in
+    let at = c.loop-i in let offset = c.next_offset.result in
     let instant : FitsSigned w64 (get_or c.args.instants.now at.i (pos 0)) = search rules in
     let fits : FitsSigned w32 offset = search rules in
-    let told = simp to_z-of_z at c.offset_at.ensures in
-    simp to_z-of_z (length-set at.offsets at.i offset ∙ at.invariant.0, zip_more (IsWrittenOffsetAt c.args.zone.now) c.args.instants.now at.offsets at.i offset at.invariant.0 (omega arith) at.invariant.1 told)
+    let same = at.invariant.0 in
+    let told = rw same at (simp to_z-of_z at c.next_offset.ensures.written) in
+    simp to_z-of_z (
+      c.next_offset.ensures.zone ∙ same,
+      length-set at.offsets at.i offset ∙ at.invariant.1,
+      zip_more (IsWrittenOffsetAt c.args.zone.now) c.args.instants.now at.offsets at.i offset at.invariant.1 (omega arith) at.invariant.2 told,
+    )

@@ -5,5 +5,9 @@ pub loop-i-preserved : goal.loop-i-preserved
 loop-i-preserved c =
     let at = c.loop-i in
     let asked : FitsSigned w64 (get_or c.args.locals.now at.i (pos 0)) = search rules in
-    let told = simp to_z-of_z at c.at.ensures in
-    (length-set at.resolved at.i c.at.result ∙ at.invariant.0, zip_more (IsResolvedAt c.args.zone.now c.args.choice) c.args.locals.now at.resolved at.i c.at.result at.invariant.0 (omega arith) at.invariant.1 told)
+    let same = at.invariant.0 in
+    let told = rw same at (simp to_z-of_z at c.next.ensures.written) in (
+      c.next.ensures.zone ∙ same,
+      length-set at.resolved at.i c.next.result ∙ at.invariant.1,
+      zip_more (IsResolvedAt c.args.zone.now c.args.choice) c.args.locals.now at.resolved at.i c.next.result at.invariant.1 (omega arith) at.invariant.2 told,
+    )

@@ -1,6 +1,6 @@
 use Rattle.zoned_ffi.proofs.Words.{AreWritten, arith, drop, subst, take, ◌*◌, ◌+◌, ◌∙◌, ◌≡◌}
 use Rattle.zoned_ffi.proofs.{Columns.{last_block, stop_behind}, Slices.{same_behind}}
-use Rattle.zoned_ffi.proofs.column.write_with.Goals as goal
+use Rattle.zoned_ffi.proofs.column.write_long.Goals as goal
 
 pub returns-in-Some : goal.returns-in-Some
 returns-in-Some c =

@@ -1,8 +1,8 @@
 use Rattle.zoned_ffi.proofs.Words.{AreKept, AreWritten, drop, length, take, ◌*◌, ◌≡◌}
-use Rattle.zoned_ffi.proofs.column.write_with.Given as goal
+use Rattle.zoned_ffi.proofs.column.write_long.Given as goal
 
 -- the answers so far, and the stretches that are kept
 abbrev pub invariant-loop-block : goal.invariant-loop-block
-invariant-loop-block l = (length l.answers ≡ length l.times) × AreKept l.fn.question l.places
+invariant-loop-block l = (length l.answers ≡ length l.times) × AreKept l.fn.question l.table.places
     × AreWritten l.fn.question (take (l.block * 32) l.times) (take (l.block * 32) l.answers)
     × (drop (l.block * 32) l.answers ≡ drop (l.block * 32) l.fn.answers)
