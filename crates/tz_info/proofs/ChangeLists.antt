@@ -105,24 +105,24 @@ around z from until c valid limits is inside =
 -- ---- a step of the iterator
 pub steps_first : (s t : Changes) (c : Change) → IsValid s.zone.now → IsRuleOrNone s.zone.now.rule
     → IsFirstChange (TypeAt s.zone.now) (IsInStretch s.after s.last) c
-    → t ≡ record { zone = s.zone; after = c.at; last = s.last } → changes_left s ≡ c ∷ changes_left t
+    → t.zone ≡ s.zone → t.after ≡ c.at → t.last ≡ s.last → changes_left s ≡ c ∷ changes_left t
 unfolding changes_left
-steps_first s t c valid limits h e =
+steps_first s t c valid limits h zone after last =
     let low = h.inside.0 in let high = h.inside.1 in
     let none = none_left s.zone.now (s.after +ℤ pos 1) c.at valid limits
     (λ d is k. let l = k.0 in let u = k.1 in let m = h.nearest d is (omega (arith, ints), omega (arith, ints)) in omega (arith, ints)) in
-    rw e (rw none at (around s.zone.now (s.after +ℤ pos 1) (s.last +ℤ pos 1) c valid limits h.is (omega (arith, ints), omega (arith, ints))))
+    rw (zone, after, last) (rw none at (around s.zone.now (s.after +ℤ pos 1) (s.last +ℤ pos 1) c valid limits h.is (omega (arith, ints), omega (arith, ints))))
 
 pub steps_last : (s t : Changes) (c : Change) → IsValid s.zone.now → IsRuleOrNone s.zone.now.rule
     → IsLastChange (TypeAt s.zone.now) (IsInStretch s.after s.last) c
-    → t ≡ record { zone = s.zone; after = s.after; last = c.at -ℤ pos 1 } → changes_left s ≡ changes_left t ++ c ∷ []
+    → t.zone ≡ s.zone → t.after ≡ s.after → t.last ≡ c.at -ℤ pos 1 → changes_left s ≡ changes_left t ++ c ∷ []
 unfolding changes_left
-steps_last s t c valid limits h e =
+steps_last s t c valid limits h zone after last =
     let low = h.inside.0 in let high = h.inside.1 in
     let none = none_left s.zone.now (c.at +ℤ pos 1) (s.last +ℤ pos 1) valid limits
     (λ d is k. let l = k.0 in let u = k.1 in let m = h.nearest d is (omega (arith, ints), omega (arith, ints)) in omega (arith, ints)) in
     let until : (c.at -ℤ pos 1) +ℤ pos 1 ≡ c.at = omega (arith, ints) in
-    rw (e, until) (rw none at (around s.zone.now (s.after +ℤ pos 1) (s.last +ℤ pos 1) c valid limits h.is (omega (arith, ints), omega (arith, ints))))
+    rw (zone, after, last, until) (rw none at (around s.zone.now (s.after +ℤ pos 1) (s.last +ℤ pos 1) c valid limits h.is (omega (arith, ints), omega (arith, ints))))
 
 pub steps_none : (s : Changes) → IsValid s.zone.now → IsRuleOrNone s.zone.now.rule → HasNoChange (TypeAt s.zone.now) (IsInStretch s.after s.last)
     → changes_left s ≡ []

@@ -33,6 +33,16 @@ index_there e u rising =
     let first : passed e.items u ≡ take (count_at e u) e.items = rw n (search_found e.items u p.0 p.0 (omega arith) p.1) in
     ap (λ (s : List Transition). last_index s) first
 
+-- so many have come if the last one of them has, and the next one has not
+pub count_here : (ts : List Transition) (u : ℤ) (n : ℕ) → AreRising ts → n ≤ length ts → ((d : Transition) → 0 < n → (get_or ts (n - 1) d).unix_leap_time ≤ℤ u)
+    → ((d : Transition) → n < length ts → u <ℤ (get_or ts n d).unix_leap_time) → n ≡ length (passed ts u)
+count_here ts u n rising within since until = sym (split_count ts u n (record {
+  ordered = omega arith;
+  within = omega arith;
+  below = λ k d l. let m = not_later ts k (n - 1) d rising (omega arith) (omega arith) in let q = since d (omega arith) in omega (arith, ints);
+  above = λ k d a l. let m = not_later ts n k d rising a l in let q = until d (omega arith) in omega (arith, ints);
+}))
+
 pub none_passed : (ts : List Transition) (u : ℤ) → length ts ≡ 0 → 0 ≡ length (passed ts u)
 none_passed [] u none = refl
 none_passed (t ∷ ts) u none = absurd (omega arith)

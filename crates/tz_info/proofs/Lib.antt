@@ -55,6 +55,7 @@ pub mod TypedLaws
 pub mod LastSpanLaws
 pub mod FoldLaws
 pub mod SpanSearch
+pub mod SpanStepLaws
 pub mod RunLaws
 pub mod ShownSecondLaws
 pub mod DifferenceLaws

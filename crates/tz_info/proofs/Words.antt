@@ -102,6 +102,7 @@ pub use Rattle.tz_info.specs.Steps.Segments.{table_count, table_count_by}
 unfoldable pub use Rattle.tz_info.specs.Steps.Segments.{segment_of}
 pub use Rattle.tz_info.specs.ShownSeconds.{AreEndsWithin, AreShownWithin, IsFirstAtOrAfter, IsFirstWithin, IsLastWithin, IsNeverWithin, ShowsAtOrAfter}
 pub use Rattle.tz_info.specs.ShownSeconds.{ShowsWithin}
+pub use Rattle.tz_info.specs.SpanSteps.{SpanPlace}
 pub use Rattle.tz_info.specs.Spans.{IsInSpan, IsOutOfForce, IsSince, IsSpan, IsSpanAt, IsUntil}
 pub use Rattle.tz_info.specs.Steps.Answers.{joined, shown_if}
 pub use Rattle.tz_info.specs.Steps.Asked.{IsAskedAtLeapTime}

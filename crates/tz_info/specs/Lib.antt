@@ -18,6 +18,7 @@ pub mod Changes
 pub mod HeldChanges
 pub mod ChangesLeft
 pub mod Spans
+pub mod SpanSteps
 pub mod ShownSeconds
 pub mod Differences
 pub mod Windows

@@ -19,4 +19,5 @@ pub use zone::ask::differences::Difference;
 pub use zone::ask::lookups::Lookups;
 pub use zone::ask::offset_stretch::OffsetStretch;
 pub use zone::ask::shown_seconds::ShownSeconds;
+pub use zone::ask::spans::Spans;
 pub use zone::{LeapSecond, TimeZone, Transition};

@@ -64,6 +64,7 @@ pub use Rattle.tz_info.specs.Changes
 pub use Rattle.tz_info.specs.HeldChanges
 pub use Rattle.tz_info.specs.ChangesLeft
 pub use Rattle.tz_info.specs.Spans
+pub use Rattle.tz_info.specs.SpanSteps
 pub use Rattle.tz_info.specs.ShownSeconds
 pub use Rattle.tz_info.specs.Differences
 pub use Rattle.tz_info.specs.Windows

@@ -13,6 +13,7 @@ pub(super) mod runs;
 mod segment_search;
 pub(crate) mod shown_seconds;
 mod span;
+pub(crate) mod spans;
 mod typed;
 mod walk;
 mod wall_clock;

@@ -20,6 +20,9 @@ pub struct Changes<'a> {
     // Those that come after the second `after`, and up to the second `last`, are left.
     after: i64,
     last: i64,
+    // How many entries of the zone's table have come by then, if that is known.
+    near_after: usize,
+    near_last: usize,
 }
 
 impl TimeZone {
@@ -28,8 +31,7 @@ impl TimeZone {
     ///
     /// The iterator is empty unless `from` comes before `until`. A change at `i64::MAX` comes before
     /// no second of 64 bits, so it is in no such list: ask [`TimeZone::previous_change`] for it. It
-    /// takes no memory; each step asks [`TimeZone::next_change`] or
-    /// [`TimeZone::previous_change`] once.
+    /// takes no memory, and keeps its place: a step searches nothing but the years of a rule.
     ///
     /// ```
     /// let zone = TimeZone::from_posix_tz(alloc, "EST5EDT,M3.2.0,M11.1.0")?;
@@ -46,6 +48,8 @@ impl TimeZone {
             zone: self,
             after: second_before(from),
             last: second_before(until),
+            near_after: usize::MAX,
+            near_last: usize::MAX,
         }
     }
 }
@@ -64,7 +68,7 @@ pub(in crate::zone) fn second_before(second: i64) -> i64
 impl Changes<'_> {
     // The change that is left and comes first in that direction.
     #[inline(always)]
-    fn nearest(&self, forward: bool) -> Option<Change>
+    fn nearest(&self, forward: bool, near: &mut usize) -> Option<Change>
         ensures found { IsNearest forward (TypeAt self.now.zone.now)
             (IsInStretch self.now.after self.now.last) result }
         ensures valid { IsValid self.now.zone.now }
@@ -72,10 +76,10 @@ impl Changes<'_> {
     {
         self.zone.valid_law();
         if forward {
-            let found = self.zone.next_held_change(self.after);
+            let found = self.zone.next_change_near(self.after, near);
             if_within(found, self.after, self.last)
         } else {
-            let found = self.zone.previous_held_change(self.last);
+            let found = self.zone.previous_change_near(self.last, near);
             if_within(found, self.after, self.last)
         }
     }
@@ -89,8 +93,10 @@ impl<'a> Iterator for Changes<'a> {
     ghost remaining = { item_count changes_left };
 
     fn next(&mut self) -> Option<Change> {
-        let change = self.nearest(true)?;
+        let mut near = self.near_after;
+        let change = self.nearest(true, &mut near)?;
         self.after = change.at;
+        self.near_after = near.wrapping_add(1);
         Some(change)
     }
 }
@@ -99,8 +105,10 @@ impl<'a> DoubleEndedIterator for Changes<'a> {
     ghost next_back_gives = { YieldsLast changes_left };
 
     fn next_back(&mut self) -> Option<Change> {
-        let change = self.nearest(false)?;
+        let mut near = self.near_last;
+        let change = self.nearest(false, &mut near)?;
         self.last = change.at - 1;
+        self.near_last = near.wrapping_sub(1);
         Some(change)
     }
 }

@@ -44,11 +44,20 @@ impl TimeZone {
     pub fn next_held_change(&self, after: i64) -> Option<HeldChange<'_>>
         ensures { IsFirst (TypeAt self.now) (λ u. after <ℤ u) (option_map change_held result) }
     {
+        self.next_change_near(after, &mut usize::MAX)
+    }
+
+    // The same, without a search of the table if `near` of its entries have come by that second. Then as
+    // many as have come are near.
+    #[inline(always)]
+    pub(super) fn next_change_near(&self, after: i64, near: &mut usize) -> Option<HeldChange<'_>>
+        ensures { IsFirst (TypeAt self.now) (λ u. after <ℤ u) (option_map change_held result) }
+    {
         let _ = &self.changes;
         if self.last_span.has_begun(after) {
             return None;
         }
-        match self.next_in_table(after) {
+        match self.next_in_table(after, near) {
             Some(change) => Some(change),
             None => self.change_by_rule(after, true),
         }
@@ -56,12 +65,12 @@ impl TimeZone {
 
     // The first change with an entry after the second.
     #[inline(always)]
-    fn next_in_table(&self, after: i64) -> Option<HeldChange<'_>>
+    fn next_in_table(&self, after: i64, near: &mut usize) -> Option<HeldChange<'_>>
         ensures { IsFirst (TypeAt self.now) (IsInTable self.now (λ u. after <ℤ u))
             (option_map change_held result) }
     {
         let _ = &self.changes;
-        let place = self.changes.count(after);
+        let place = self.changes.count_near(after, near);
         if place == self.changes.len() {
             return None;
         }
@@ -106,23 +115,37 @@ impl TimeZone {
         ensures { IsLast (TypeAt self.now) (λ u. u ≤ℤ before_or_at)
             (option_map change_held result) }
     {
+        self.previous_change_near(before_or_at, &mut usize::MAX)
+    }
+
+    // The same, without a search of the table if `near` of its entries have come by that second. Then as
+    // many as have come are near.
+    #[inline(always)]
+    pub(super) fn previous_change_near(
+        &self,
+        before_or_at: i64,
+        near: &mut usize,
+    ) -> Option<HeldChange<'_>>
+        ensures { IsLast (TypeAt self.now) (λ u. u ≤ℤ before_or_at)
+            (option_map change_held result) }
+    {
         if self.last_span.has_begun(before_or_at) {
             return held(&self.last_span.begin);
         }
         match self.change_by_rule(before_or_at, false) {
             Some(change) => Some(change),
-            None => self.previous_in_table(before_or_at),
+            None => self.previous_in_table(before_or_at, near),
         }
     }
 
     // The last change with an entry at the second or before it.
     #[inline(always)]
-    fn previous_in_table(&self, last: i64) -> Option<HeldChange<'_>>
+    fn previous_in_table(&self, last: i64, near: &mut usize) -> Option<HeldChange<'_>>
         ensures { IsLast (TypeAt self.now) (IsInTable self.now (λ u. u ≤ℤ last))
             (option_map change_held result) }
     {
         let _ = &self.changes;
-        let count = self.changes.count(last);
+        let count = self.changes.count_near(last, near);
         if count == 0 {
             return None;
         }

@@ -31,7 +31,10 @@ impl TimeZone {
             (IsTypeRefused self.now unix_time ⊎ (unix_time ≡ pos 9_223_372_036_854_775_807))
             (λ s. (s.from ≤ℤ unix_time) × (unix_time <ℤ s.until)) }
     {
-        match self.changes.between(&self.local_types, unix_time) {
+        match self
+            .changes
+            .between(&self.local_types, unix_time, &mut usize::MAX)
+        {
             Some(between) => Some(OffsetStretch {
                 from: between.from,
                 until: between.until,

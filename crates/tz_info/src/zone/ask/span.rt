@@ -44,23 +44,33 @@ impl TimeZone {
         ensures { MatchResult result (λ s. IsSpanAt (TypeAt self.now) unix_time (span_held s))
             (IsTypeError self.now unix_time) }
     {
+        self.span_near(unix_time, &mut usize::MAX)
+    }
+
+    // The same, without a search of the table if `near` of its entries have come by that second. Then as
+    // many as have come are near.
+    #[inline(always)]
+    pub(super) fn span_near(&self, unix_time: i64, near: &mut usize) -> Result<HeldSpan<'_>, Error>
+        ensures { MatchResult result (λ s. IsSpanAt (TypeAt self.now) unix_time (span_held s))
+            (IsTypeError self.now unix_time) }
+    {
         if let Some(span) = self.last_span_at(unix_time) {
             return Ok(span);
         }
         if self.has_no_transition() {
             return self.span_from_last(unix_time);
         }
-        self.span_by_place(unix_time)
+        self.span_by_place(unix_time, near)
     }
 
     // The same by the place between entries: a function of its own, since a zone without any needs no
     // search.
     #[inline(never)]
-    fn span_by_place(&self, unix_time: i64) -> Result<HeldSpan<'_>, Error>
+    fn span_by_place(&self, unix_time: i64, near: &mut usize) -> Result<HeldSpan<'_>, Error>
         ensures { MatchResult result (λ s. IsSpanAt (TypeAt self.now) unix_time (span_held s))
             (IsTypeError self.now unix_time) }
     {
-        let Some(between) = self.changes.between(&self.local_types, unix_time) else {
+        let Some(between) = self.changes.between(&self.local_types, unix_time, near) else {
             return self.span_from_last(unix_time);
         };
         if !between.is_span {

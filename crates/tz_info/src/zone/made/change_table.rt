@@ -1,9 +1,9 @@
 //! A zone's transitions as one list of clock changes by Unix time. It is made as a [`ChangeList`]. Lookups
 //! have it as a [`ChangeTable`], which counts each probe.
 
-ghost use Rattle.std.specs.Prelude.{◌≡◌, [], ◌+◌, ◌<◌, ◌≤◌, ◌*◌, ◌^◌, length, IsTrue, ◌↔◌, map};
+ghost use Rattle.std.specs.Prelude.{◌≡◌, [], ◌+◌, ◌<◌, ◌≤◌, ◌-◌, ◌*◌, ◌^◌, length, IsTrue, ◌↔◌, map};
 ghost use Rattle.std.specs.Prelude.{IsFalse, ℤ, ◌+ℤ◌};
-ghost use Rattle.std.specs.Prelude.{option_map, slice_index_or, pos, neg_ℤ, ◌≤ℤ◌, IfSome, MatchOption, MatchResult, ⊤};
+ghost use Rattle.std.specs.Prelude.{option_map, slice_index_or, pos, neg_ℤ, ◌<ℤ◌, ◌≤ℤ◌, IfSome, MatchOption, MatchResult, ⊤};
 ghost use Rattle.std.specs.List.{slice_get};
 ghost use Rattle.std.specs.Prelude.{vec_capacity, vec_len};
 ghost use Rattle.tz_base.specs.declared.error.Error.TheVariants.{OutOfMemory};
@@ -275,6 +275,50 @@ impl ChangeTable {
         self.entries.passed(second, &mut Probes::new()).count
     }
 
+    // The same, without a search if `near` of them have. Then `near` is the answer.
+    #[inline(always)]
+    pub(in crate::zone) fn count_near(&self, second: i64, near: &mut usize) -> usize
+        ensures count { result ≡ length (passed self.now.items second) }
+        ensures within { result ≤ length self.now.items }
+    {
+        if !self.have_come(*near, second) {
+            *near = self.count(second);
+        }
+        *near
+    }
+
+    // Whether the first `count` entries have come at the second, and no others.
+    #[inline(always)]
+    fn have_come(&self, count: usize, second: i64) -> bool
+        ensures { IsTrue result → (count ≤ length self.now.items)
+            × (count ≡ length (passed self.now.items second)) }
+    {
+        if count > self.entries.len() {
+            return false;
+        }
+        self.is_since(count, second) & self.is_until(count, second)
+    }
+
+    // Whether the last one of the first `count` entries has come at the second, if there is one.
+    #[inline(always)]
+    fn is_since(&self, count: usize, second: i64) -> bool
+        requires { count ≤ length self.now.items }
+        ensures { IsTrue result → (d : Transition) → 0 < count
+            → (slice_index_or self.now.items (count - 1) d).unix_leap_time ≤ℤ second }
+    {
+        count == 0 || self.second(count - 1) <= second
+    }
+
+    // Whether the entry after those has not come, if there is one.
+    #[inline(always)]
+    fn is_until(&self, count: usize, second: i64) -> bool
+        requires { count ≤ length self.now.items }
+        ensures { IsTrue result → (d : Transition) → count < length self.now.items
+            → second <ℤ (slice_index_or self.now.items count d).unix_leap_time }
+    {
+        count == self.len() || second < self.second(count)
+    }
+
     // How many there are.
     #[inline(always)]
     pub(in crate::zone) fn len(&self) -> usize
@@ -427,14 +471,20 @@ impl ChangeTable {
         })
     }
 
-    // The seconds between two entries that have the second, if one comes after it.
+    // The seconds between two entries that have the second, if one comes after it. If `near` entries have
+    // come by then, it is found without a search.
     #[inline(always)]
-    pub(in crate::zone) fn between(&self, types: &[LocalTimeType], second: i64) -> Option<Between>
+    pub(in crate::zone) fn between(
+        &self,
+        types: &[LocalTimeType],
+        second: i64,
+        near: &mut usize,
+    ) -> Option<Between>
         requires some { 0 < length types.now }
         requires named { NameTypes (length types.now) self.now.items }
         ensures { IfSome result (IsBetween self.now second) }
     {
-        let place = self.count(second);
+        let place = self.count_near(second, near);
         if place == self.len() {
             return None;
         }

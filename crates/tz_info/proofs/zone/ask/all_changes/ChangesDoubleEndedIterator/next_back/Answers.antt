@@ -6,8 +6,8 @@ returns-clause-steps c =
     let s = c.args.self.now in
     let last = c.in_ok-change.ensures.found in let fits = last.is.fits in
     let fb : SFits w64 (c.in_ok-change.change.at -ℤ pos 1) = last.is.fits_before in
-    simp to_z-of_z (steps_last s (record { zone = s.zone; after = s.after; last = c.in_ok-change.change.at -ℤ pos 1 }) c.in_ok-change.change
-    c.nearest.ensures.valid c.nearest.ensures.rule last refl)
+    simp to_z-of_z (steps_last s _ c.in_ok-change.change
+    c.nearest.ensures.valid c.nearest.ensures.rule last refl refl refl)
 
 pub returns-clause-goes : goal.returns-clause-goes
 returns-clause-goes c =

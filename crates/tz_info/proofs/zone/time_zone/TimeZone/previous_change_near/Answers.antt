@@ -1,5 +1,5 @@
 use Rattle.tz_info.proofs.{Words.{change_held, option_map, to_z-of_z, ◌≤ℤ◌}, ZoneChanges.{rule_is_last, table_is_last}}
-use Rattle.tz_info.proofs.zone.time_zone.TimeZone.previous_held_change.Goals as goal
+use Rattle.tz_info.proofs.zone.time_zone.TimeZone.previous_change_near.Goals as goal
 
 pub returns-in-Some : goal.returns-in-Some
 returns-in-Some c =

@@ -1,5 +1,5 @@
 use Rattle.tz_info.proofs.{Words.{change_held, option_map, to_z-of_z, ◌<ℤ◌}, ZoneChanges.{rule_first, table_first}}
-use Rattle.tz_info.proofs.zone.time_zone.TimeZone.next_held_change.Goals as goal
+use Rattle.tz_info.proofs.zone.time_zone.TimeZone.next_change_near.Goals as goal
 
 pub returns-then-has_begun : goal.returns-then-has_begun
 returns-then-has_begun c =
