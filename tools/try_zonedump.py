@@ -874,20 +874,20 @@ def main():
 ONE_ZONE = "zonedump: --{} takes one zone; call zonedump once for each zone\n"
 TWO = "zonedump: --diff takes two files or two folders, as in zonedump --diff OLD NEW"
 FOLDER = "a folder; name a file in it, or compare two with zonedump --diff OLD NEW"
-BOUND = "--{0} takes a year from 1 to 9999 or a date, as in --{0} 2026 or --{0} 2026-03-01, and not"
-EARLIER = "write the earlier one after --from (unless given, they are 1900 and 2037)"
-TIME = "--at takes a time, as in --at 2026-11-01T09:00 or --at @1793523600, and not"
-TIMES = "no zone; a time is one word, as in --at 2026-11-01T09:00, and years or dates are --from 2026 --to 2027-03-31"
+BOUND = "--{0} takes a year from 1 to 9999 or a date, as in --{0} 2026 or --{0} 2026-03-01; '{1}' is neither"
+EARLIER = "the defaults are --from 1900 and --to 2037"
+TIME = "--at takes a time, as in --at 2026-11-01T09:00 or --at @1793523600; '{}' is neither"
+TIMES = "not a zone; write a time as --at 2026-11-01T09:00, and years or dates as --from 2026 --to 2027-03-31"
 LEAVE_OUT = "Leave out one of them; --help has examples."
 AS_ZDUMP = "  tip: --zdump prints what zdump -v prints; --from and --to take years or dates\n--help has examples."
 UNKNOWN = "no such file or zone; a zone has a name like Europe/Paris"
 
-MAGIC = "not a TZif file: invalid TZif file: expected TZif at the front of a header (5)"
-SHORT = "not a TZif file: unexpected end: expected more bytes (7)"
+MAGIC = "not a TZif file: invalid TZif file: expected TZif at the front of a header (5) at offset 0"
+SHORT = "not a TZif file: unexpected end: expected more bytes (7) at offset {}"
 
 WRONG = {
-    "zip": MAGIC, "text": MAGIC, "limit": MAGIC, "empty": SHORT, "head": SHORT, "short": SHORT,
-    "footer": "not a TZif file: invalid TZif file: expected a footer between newlines (5)",
+    "zip": MAGIC, "text": MAGIC, "limit": MAGIC, "empty": SHORT.format(0), "head": SHORT.format(30), "short": SHORT.format(200),
+    "footer": "not a TZif file: invalid TZif file: expected a footer between newlines (5) at offset 1724",
     "large": "larger than 64 MiB", "folder": FOLDER,
     "missing": UNKNOWN,
 }
@@ -966,23 +966,23 @@ WRONG_USES = (
     ("zonedump --year 2026 Europe/Paris", 2, f"error: unexpected argument '--year' found\n{AS_ZDUMP}"),
     ("zonedump --form 2020 Europe/Paris", 2,
      "error: unexpected argument '--form' found\n  tip: a similar argument exists: '--from'\n--help has examples."),
-    ("zonedump --from 0 Europe/Paris", 2, f"zonedump: {BOUND.format('from')} '0'"),
-    ("zonedump --from -5 Europe/Paris", 2, f"zonedump: {BOUND.format('from')} '-5'"),
-    ("zonedump --to soon Europe/Paris", 2, f"zonedump: {BOUND.format('to')} 'soon'"),
-    ("zonedump --to 2026-02-29 Europe/Paris", 2, f"zonedump: {BOUND.format('to')} '2026-02-29'"),
-    ("zonedump --from 2026-3-1 Europe/Paris", 2, f"zonedump: {BOUND.format('from')} '2026-3-1'"),
-    ("zonedump --from 0000-01-01 Europe/Paris", 2, f"zonedump: {BOUND.format('from')} '0000-01-01'"),
-    ("zonedump --from 2026-03-01T09:00 Europe/Paris", 2, f"zonedump: {BOUND.format('from')} '2026-03-01T09:00'"),
-    ("zonedump --from 2040 --to 1990 Europe/Paris", 2, f"zonedump: --from 2040 comes after --to 1990; {EARLIER}"),
-    ("zonedump --from 2040 Europe/Paris", 2, f"zonedump: --from 2040 comes after --to 2037; {EARLIER}"),
-    ("zonedump --from 2026-03-02 --to 2026-03-01 Europe/Paris", 2, f"zonedump: --from 2026-03-02 comes after --to 2026-03-01; {EARLIER}"),
+    ("zonedump --from 0 Europe/Paris", 2, f"zonedump: {BOUND.format('from', '0')}"),
+    ("zonedump --from -5 Europe/Paris", 2, f"zonedump: {BOUND.format('from', '-5')}"),
+    ("zonedump --to soon Europe/Paris", 2, f"zonedump: {BOUND.format('to', 'soon')}"),
+    ("zonedump --to 2026-02-29 Europe/Paris", 2, f"zonedump: {BOUND.format('to', '2026-02-29')}"),
+    ("zonedump --from 2026-3-1 Europe/Paris", 2, f"zonedump: {BOUND.format('from', '2026-3-1')}"),
+    ("zonedump --from 0000-01-01 Europe/Paris", 2, f"zonedump: {BOUND.format('from', '0000-01-01')}"),
+    ("zonedump --from 2026-03-01T09:00 Europe/Paris", 2, f"zonedump: {BOUND.format('from', '2026-03-01T09:00')}"),
+    ("zonedump --from 2040 --to 1990 Europe/Paris", 2, f"zonedump: --from 2040 is after --to 1990; {EARLIER}"),
+    ("zonedump --from 2040 Europe/Paris", 2, f"zonedump: --from 2040 is after --to 2037; {EARLIER}"),
+    ("zonedump --from 2026-03-02 --to 2026-03-01 Europe/Paris", 2, f"zonedump: --from 2026-03-02 is after --to 2026-03-01; {EARLIER}"),
     ("zonedump --from 2020 --from 2021 Europe/Paris", 2, f"error: the argument '--from <WHEN>' cannot be used multiple times\n{LEAVE_OUT}"),
     ("zonedump --from", 2, "error: a value is required for '--from <WHEN>' but none was supplied\n--help has examples."),
-    ("zonedump --at now Europe/Paris", 2, f"zonedump: {TIME} 'now'"),
-    ("zonedump --at 1793523600 Europe/Paris", 2, f"zonedump: {TIME} '1793523600'"),
-    ("zonedump --at 2026-02-29T09:00 Europe/Paris", 2, f"zonedump: {TIME} '2026-02-29T09:00'"),
-    ("zonedump --at 2026-11-01T09:00+01:00 Europe/Paris", 2, f"zonedump: {TIME} '2026-11-01T09:00+01:00'"),
-    ("zonedump --at 2026-11-01T09:00Z --local Europe/Paris", 2, f"zonedump: {TIME} '2026-11-01T09:00Z'"),
+    ("zonedump --at now Europe/Paris", 2, f"zonedump: {TIME.format('now')}"),
+    ("zonedump --at 1793523600 Europe/Paris", 2, f"zonedump: {TIME.format('1793523600')}"),
+    ("zonedump --at 2026-02-29T09:00 Europe/Paris", 2, f"zonedump: {TIME.format('2026-02-29T09:00')}"),
+    ("zonedump --at 2026-11-01T09:00+01:00 Europe/Paris", 2, f"zonedump: {TIME.format('2026-11-01T09:00+01:00')}"),
+    ("zonedump --at 2026-11-01T09:00Z --local Europe/Paris", 2, f"zonedump: {TIME.format('2026-11-01T09:00Z')}"),
     ("zonedump --at 2026-11-01T09:00", 2,
      "zonedump: name a zone, as in zonedump Europe/Paris, or write --text TZ; zonedump --help has examples"),
     ("zonedump --at 2026-11-01 --json Europe/Paris", 2, f"error: the argument '--at <TIME>' cannot be used with '--json'\n{LEAVE_OUT}"),
@@ -997,7 +997,7 @@ WRONG_USES = (
     ("zonedump --svg Europe/Paris", 2, "zonedump: --svg takes a new file and then a zone, as in zonedump --svg NEW Europe/Paris"),
     ("zonedump --svg good good", 2, "zonedump: --svg names the file that is read; name a new file"),
     ("zonedump --colors dark Europe/Paris", 2, "zonedump: --colors goes with --svg, as in --svg NEW --colors dark"),
-    ("zonedump --svg x --colors blue Europe/Paris", 2, "zonedump: --colors takes light or dark, as in --colors dark, and not 'blue'"),
+    ("zonedump --svg x --colors blue Europe/Paris", 2, "zonedump: --colors takes light or dark, as in --colors dark; 'blue' is neither"),
     ("zonedump --json --zdump Europe/Paris", 2, f"error: the argument '--json' cannot be used with '--zdump'\n{LEAVE_OUT}"),
 )
 

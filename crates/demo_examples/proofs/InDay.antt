@@ -7,7 +7,8 @@ use Rattle.zoned.specs.{Days.{IsFirstInstantFrom, IsInDay, midnight}, Reading.{R
 abbrev Once : (ℤ → ℤ) → Type 0
 Once off = (l a b : Reading) → IsFirstInstantFrom off l a → IsFirstInstantFrom off l b → a ≡ b
 
-pub lies : (off : ℤ → ℤ) (day : ℤ) (r a b : Reading) → IsFirstInstantFrom off (midnight day) a → IsFirstInstantFrom off (midnight (day +ℤ pos 1)) b → ¬ (IsEarlier r a) → IsEarlier r b → IsInDay off day r
+pub lies : (off : ℤ → ℤ) (day : ℤ) (r a b : Reading) → IsFirstInstantFrom off (midnight day) a → IsFirstInstantFrom off (midnight (day +ℤ pos 1)) b
+    → ¬ (IsEarlier r a) → IsEarlier r b → IsInDay off day r
 lies off day r a b h k not_before before = record { start = a; next = b; starts = h; ends = k; not_before = not_before; before = before }
 
 pub not_over : (off : ℤ → ℤ) (day : ℤ) (r b : Reading) → Once off → IsFirstInstantFrom off (midnight (day +ℤ pos 1)) b → IsInDay off day r → IsEarlier r b

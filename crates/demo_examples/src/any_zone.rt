@@ -1,6 +1,5 @@
 //! A zone that is one of several kinds of zone, and asks the one that it is.
-ghost use Rattle.std.specs.Prelude.{◌≡◌, refl};
-ghost use Rattle.std.proofs.Common.{rules};
+ghost use Rattle.std.{proofs.Common.{rules}, specs.Prelude.{refl}};
 ghost use Rattle.demo_examples.specs.AnyZone.{ahead_of, law_of, meaning_of};
 
 use zoned::{FixedOffset, KeptZone, LocalResult, NaiveDateTime, Offset, TimeZone, Utc, ZoneOffset};

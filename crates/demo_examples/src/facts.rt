@@ -1,20 +1,10 @@
 //! Facts about instants, stated in the words that the library passes on. None has a proof file.
-ghost use Rattle.std.specs.Prelude.{◌≡◌, ℤ, pos, ◌+ℤ◌, ◌≤ℤ◌, ◌<ℤ◌, ◌++◌, ◌∷◌, IfErr, IfOk, IfSome, option_map};
-ghost use Rattle.std.specs.Prelude.{string_bytes, FitsSigned};
-ghost use Rattle.std.specs.Int.{w64};
-ghost use Rattle.zoned.specs.Choice.{IsUnresolved};
-ghost use Rattle.zoned.specs.DateTime.{zoned, wall_of, IsIn};
-ghost use Rattle.zoned.specs.FixedOffset.{seconds_of, printed_offset};
-ghost use Rattle.zoned.specs.InstantFields.{IsOnly};
-ghost use Rattle.zoned.specs.KeptZone.{change_of, law_of, zone_of, off_of};
-ghost use Rattle.zoned.specs.Laws.{IsMultiple};
-ghost use Rattle.zoned.specs.LocalTypes.{LocalType};
-ghost use Rattle.zoned.specs.NaiveDate.{day_of};
-ghost use Rattle.zoned.specs.NaiveDateTime.{reading};
-ghost use Rattle.zoned.specs.Range.{IsInRange};
-ghost use Rattle.zoned.specs.Reading.{reading_at, total};
-ghost use Rattle.zoned.specs.Zone.{ShowsByOffset};
-ghost use Rattle.zoned.specs.Zoned.{in_seconds};
+ghost use Rattle.std.specs.{Int.{w64}, Prelude.{IfOk, IfSome, ℤ}};
+ghost use Rattle.std.specs.Prelude.{◌≡◌, ◌<ℤ◌, ◌≤ℤ◌, ◌+ℤ◌, ◌++◌, ◌∷◌, option_map, pos, string_bytes, FitsSigned, IfErr};
+ghost use Rattle.zoned.specs.{Choice.{IsUnresolved}, InstantFields.{IsOnly}, Laws.{IsMultiple}, LocalTypes.{LocalType}};
+ghost use Rattle.zoned.specs.{DateTime.{wall_of, zoned, IsIn}, NaiveDateTime.{reading}, Reading.{reading_at, total}};
+ghost use Rattle.zoned.specs.{FixedOffset.{printed_offset, seconds_of}, KeptZone.{change_of, law_of, off_of, zone_of}};
+ghost use Rattle.zoned.specs.{NaiveDate.{day_of}, Range.{IsInRange}, Zone.{ShowsByOffset}, Zoned.{in_seconds}};
 ghost use Rattle.zoned.specs.Zones.{TypeAt};
 
 use std::alloc::{AllocError, Global};

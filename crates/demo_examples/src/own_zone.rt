@@ -1,8 +1,7 @@
 //! A custom zone, whose clocks are never set.
-ghost use Rattle.std.specs.Prelude.{◌≡◌, refl};
-ghost use Rattle.std.proofs.Common.{rules};
+ghost use Rattle.std.{proofs.Common.{rules}, specs.Prelude.{◌≡◌, refl}};
 ghost use Rattle.zoned.specs.FixedOffset.{seconds_of};
-ghost use Rattle.demo_examples.specs.Nepal.{ahead_of_utc, meaning_of, law_of};
+ghost use Rattle.demo_examples.specs.Nepal.{ahead_of_utc, law_of, meaning_of};
 
 use zoned::{FixedOffset, LocalResult, NaiveDateTime, TimeZone};
 

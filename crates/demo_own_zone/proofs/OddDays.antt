@@ -18,9 +18,15 @@ reached_itself l wide odd = record {
 }
 
 -- a day lasts 86,400 seconds, from the second before its midnight
-pub ends_of_day : (day first last : ℤ) → IsWideDay day → IsFirstToReach odd_offset (midnight day).s first → last ≡ first +ℤ pos 86_399 → AreEndsOfDay odd_offset day first last
+pub ends_of_day : (day first last : ℤ) → IsWideDay day → IsFirstToReach odd_offset (midnight day).s first → last ≡ first +ℤ pos 86_399
+    → AreEndsOfDay odd_offset day first last
 ends_of_day day first last wide h is =
-    let least = h.first (day *ℤ pos 86_400 -ℤ pos 1) (record { in_zone = (omega (arith, ints, wide), omega (arith, ints, wide)); reached = let parts = two_halves (day *ℤ pos 86_400 -ℤ pos 1) in omega (arith, ints) }) in
+    let least = h.first (day *ℤ pos 86_400 -ℤ pos 1)
+    (record {
+      in_zone = (omega (arith, ints, wide), omega (arith, ints, wide));
+      reached = let parts = two_halves (day *ℤ pos 86_400 -ℤ pos 1) in
+          omega (arith, ints);
+    }) in
     let inside = h.reached.in_zone in let reached = h.reached.reached in let parts = two_halves first in
     let at_last = two_halves last in
     record {

@@ -1,11 +1,9 @@
 //! Theorems: each function is empty, its contract is proved; never called.
-ghost use Rattle.std.specs.Prelude.{◌≡◌, ◌↔◌, IsTrue, ℤ, pos};
+ghost use Rattle.std.specs.Prelude.{◌≡◌, ◌↔◌, pos, IsTrue, ℤ};
 ghost use Rattle.offset_core.specs.WallAnswer.{IsNeverShown, IsShownBetween};
-ghost use Rattle.naive_base.specs.Range.{IsWide};
-ghost use Rattle.naive_base.specs.Year.{floor_mod};
+ghost use Rattle.naive_base.specs.{Range.{IsWide}, Year.{floor_mod}};
 ghost use Rattle.zoned_time.specs.Zone.{ShowsByOffset};
 ghost use Rattle.demo_own_zone.specs.Odd.{odd_offset};
-ghost use Rattle.demo_own_zone.specs.declared.offset.OddOffset.{OddOffset as AnyOffset};
 
 use crate::{Odd, OddOffset};
 
@@ -19,9 +17,9 @@ pub fn odd_seconds_are_gaps_and_even_ones_folds()
 
 /// Offsets are equal if and only if they are the same one, and a clone is the offset.
 pub fn offsets()
-    ensures equal { (a b : AnyOffset) → IsTrue (⟦<OddOffset as PartialEq>⟧.eq a b) ↔ (a ≡ b) }
-    ensures cloned { (a b : AnyOffset) → ⟦<OddOffset as Clone>⟧.is_clone a b ↔ (a ≡ b) }
-    ensures infallible { (a : AnyOffset) → ⟦<OddOffset as Clone>⟧.is_infallible a }
+    ensures equal { (a b : OddOffset) → IsTrue (⟦<OddOffset as PartialEq>⟧.eq a b) ↔ (a ≡ b) }
+    ensures cloned { (a b : OddOffset) → ⟦<OddOffset as Clone>⟧.is_clone a b ↔ (a ≡ b) }
+    ensures infallible { (a : OddOffset) → ⟦<OddOffset as Clone>⟧.is_infallible a }
 {}
 
 /// There is one odd zone, and making a clone of it never fails.

@@ -1,5 +1,5 @@
 //! The offsets of the odd zone.
-ghost use Rattle.std.specs.Prelude.{◌≡◌, Some};
+ghost use Rattle.std.specs.Prelude.{Some};
 ghost use Rattle.offset_core.specs.Offset.{offset_text};
 
 use offset_core::FixedOffset;

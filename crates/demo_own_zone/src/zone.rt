@@ -1,8 +1,6 @@
 //! The odd zone.
-ghost use Rattle.std.specs.Prelude.{◌≡◌, refl};
-ghost use Rattle.demo_own_zone.specs.Odd.{odd_offset};
-ghost use Rattle.demo_own_zone.specs.OddOffset.{ahead_of, meaning_of, law_of};
-ghost use Rattle.std.proofs.Common.{rules};
+ghost use Rattle.std.{proofs.Common.{rules}, specs.Prelude.{◌≡◌, refl}};
+ghost use Rattle.demo_own_zone.specs.{Odd.{odd_offset}, OddOffset.{ahead_of, law_of, meaning_of}};
 
 use crate::OddOffset;
 use naive_base::{NaiveDate, NaiveDateTime, NaiveTime};

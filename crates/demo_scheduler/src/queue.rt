@@ -1,8 +1,8 @@
 //! Jobs in the order in which they run.
-ghost use Rattle.std.specs.Prelude.{◌≡◌, ◌≤◌, [], length, slice_get, Some, IfNone, IfSome, MatchOption};
-ghost use Rattle.std.specs.Prelude.{◌⊎◌, ◌≤ℤ◌, ◌<ℤ◌, MatchResult};
-ghost use Rattle.demo_scheduler.specs.Queues.{IsAdded, IsFirstAt, IsFirstRun, IsNoneDue, IsTaken, NoneRuns, jobs_of};
+ghost use Rattle.std.specs.Prelude.{◌≡◌, ◌⊎◌, ◌≤◌, ◌<ℤ◌, ◌≤ℤ◌, [], length, slice_get, IfNone, IfSome, MatchOption};
+ghost use Rattle.std.specs.Prelude.{MatchResult};
 ghost use Rattle.zoned_time.specs.DateTime.{zoned};
+ghost use Rattle.demo_scheduler.specs.Queues.{jobs_of, IsAdded, IsFirstAt, IsFirstRun, IsNoneDue, IsTaken, NoneRuns};
 
 use crate::{Job, Queued, SchedulerError};
 use std::alloc::Global;

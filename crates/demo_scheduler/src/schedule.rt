@@ -1,8 +1,7 @@
 //! When a job runs.
-ghost use Rattle.std.specs.Prelude.{◌≡◌, ◌≤◌, ◌⊎◌, ⊤, Some, MatchOption};
-ghost use Rattle.demo_scheduler.specs.Fires.{IsPlannedOn, planned_by};
-ghost use Rattle.zoned_time.specs.DateTime.{zoned};
-ghost use Rattle.zoned_time.specs.Fires.{IsZonedNextFire, NoneFiresAfter};
+ghost use Rattle.std.specs.Prelude.{◌≡◌, ◌⊎◌, ◌≤◌, ⊤, MatchOption};
+ghost use Rattle.zoned_time.specs.{DateTime.{zoned}, Fires.{IsZonedNextFire, NoneFiresAfter}};
+ghost use Rattle.demo_scheduler.specs.Fires.{planned_by, IsPlannedOn};
 
 use crate::RunDays;
 use naive_base::{NaiveDate, NaiveDateTime, NaiveTime};

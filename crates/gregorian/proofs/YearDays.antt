@@ -10,7 +10,8 @@ pub first_by : (y : ℤ) (c n : ℕ) → n < 100 → y +ℤ pos 2_147_484_000 �
 first_by y c n h e = let start = january_start y (100 * c + n) (omega (arith, floors)) in grind (arith, floors)
 
 -- the year of the day that lies there
-pub own_year : (day : ℤ) (c n passed k : ℕ) → day +ℤ pos 784_353_144_032 ≡ pos k → days_of_years (100 * c + n) + passed ≡ k → k < days_of_years (100 * c + n + 1)
+pub own_year : (day : ℤ) (c n passed k : ℕ) → day +ℤ pos 784_353_144_032 ≡ pos k → days_of_years (100 * c + n) + passed ≡ k
+    → k < days_of_years (100 * c + n + 1)
     → year_of day +ℤ pos 2_147_484_000 ≡ pos (100 * c + n + 1)
 own_year day c n passed k e f below =
     let y = pos (100 * c + n + 1) -ℤ pos 2_147_484_000 in

@@ -1,10 +1,7 @@
 //! Dates: a year, a month and a day of the month.
-ghost use Rattle.std.specs.Prelude.{ℕ, ◌↔◌, IsTrue, ◌≡◌, ◌+◌, ◌-◌, ◌*◌, ◌/◌, ◌%◌, ◌<◌, ◌≤◌, ℤ, pos, ◌+ℤ◌};
-ghost use Rattle.std.specs.Int.{IsInRange};
-ghost use Rattle.gregorian.specs.Year.{days_in_year, year_start, LiesIn, IsDay};
-ghost use Rattle.gregorian.specs.Date.{IsDate, day_number};
-ghost use Rattle.gregorian.specs.DateOf.{year_of, month_of, day_of_month};
-ghost use Rattle.gregorian.specs.Steps.Cycle.{number_from_march};
+ghost use Rattle.std.specs.{Int.{IsInRange}, Prelude.{◌≡◌, ◌↔◌, ◌<◌, ◌≤◌, ◌+◌, ◌*◌, ◌/◌, ◌%◌, ◌+ℤ◌, pos, IsTrue, ℕ, ℤ}};
+ghost use Rattle.gregorian.specs.{Date.{day_number, IsDate}, DateOf.{day_of_month, month_of, year_of}};
+ghost use Rattle.gregorian.specs.{Steps.Cycle.{number_from_march}, Year.{days_in_year, year_start, IsDay, LiesIn}};
 
 use super::years::{days_of_years, place_of, year_from_base, years_since_base};
 use super::{days_before_month, days_in_month};

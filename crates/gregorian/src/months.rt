@@ -1,8 +1,6 @@
 //! Months of a year.
-ghost use Rattle.std.specs.Prelude.{◌≡◌, ◌+◌, ◌-◌, ◌*◌, ◌/◌, ◌≤◌};
-ghost use Rattle.std.specs.Int.{IsInRange};
-ghost use Rattle.gregorian.specs.Year.{is_leap};
-ghost use Rattle.gregorian.specs.Month.{days_in_month, days_of_months};
+ghost use Rattle.std.specs.{Int.{IsInRange}, Prelude.{◌≡◌, ◌≤◌, ◌-◌}};
+ghost use Rattle.gregorian.specs.{Month.{days_in_month, days_of_months}, Year.{is_leap}};
 
 use super::is_leap_year;
 

@@ -1,8 +1,6 @@
 //! Weekdays, by their numbers.
-ghost use Rattle.std.specs.Prelude.{ℕ, ◌≡◌, ◌+◌, ◌/◌, ◌%◌, ◌<◌, ℤ, pos, ◌+ℤ◌};
-ghost use Rattle.std.specs.Int.{IsInRange};
-ghost use Rattle.gregorian.specs.Year.{IsDay};
-ghost use Rattle.gregorian.specs.Weekdays.{weekday_of};
+ghost use Rattle.std.specs.{Int.{IsInRange}, Prelude.{◌≡◌, ◌<◌, ◌+◌, ◌/◌, ◌%◌, ◌+ℤ◌, pos, ℕ, ℤ}};
+ghost use Rattle.gregorian.specs.{Weekdays.{weekday_of}, Year.{IsDay}};
 
 // The days from a Sunday before all years of an `i32` to 1970-01-01.
 pub(crate) const DAYS_FROM_SUNDAY: i64 = 784_353_144_341;

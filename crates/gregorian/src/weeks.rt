@@ -1,7 +1,6 @@
 //! Weeks from Monday to Sunday.
-ghost use Rattle.std.specs.Prelude.{◌≡◌, ◌+◌, ◌%◌, ◌<◌, ℤ, pos, ◌+ℤ◌, ◌-ℤ◌};
-ghost use Rattle.gregorian.specs.Year.{IsDay};
-ghost use Rattle.gregorian.specs.Weeks.{IsThursdayOf};
+ghost use Rattle.std.specs.Prelude.{◌≡◌, ◌+◌, ◌+ℤ◌, ◌-ℤ◌, pos, ℤ};
+ghost use Rattle.gregorian.specs.{Weeks.{IsThursdayOf}, Year.{IsDay}};
 
 use super::weekdays::{DAYS_FROM_SUNDAY, days_since_sunday, split_weeks};
 

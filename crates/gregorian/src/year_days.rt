@@ -1,9 +1,8 @@
 //! Days in their years, and what a year's calendar depends on.
 
-ghost use Rattle.std.specs.Prelude.{◌≡◌, ◌+◌, ◌*◌, ◌/◌, ◌%◌, ◌<◌, ◌==◌, not, ◌&&◌, ◌||◌};
-ghost use Rattle.gregorian.specs.DateOf.{year_of, day_of_year};
+ghost use Rattle.std.specs.Prelude.{◌≡◌, ◌<◌, ◌+◌, ◌*◌, ◌/◌, ◌%◌, ◌&&◌, ◌==◌, ◌||◌, not};
+ghost use Rattle.gregorian.specs.{DateOf.{day_of_year, year_of}, Year.{is_leap, year_start, IsDay}};
 ghost use Rattle.gregorian.specs.Weekdays.{weekday_of};
-ghost use Rattle.gregorian.specs.Year.{is_leap, year_start, IsDay};
 
 use super::years::{days_since_january, place_of};
 

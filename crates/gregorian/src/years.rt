@@ -1,9 +1,7 @@
 //! Years, laid end to end.
-ghost use Rattle.std.specs.Prelude.{ℕ, ◌↔◌, IsTrue, ◌≡◌, ◌+◌, ◌-◌, ◌*◌, ◌/◌, ◌%◌, ◌<◌, ◌≤◌, ℤ, pos, ◌+ℤ◌};
-ghost use Rattle.std.specs.Int.{IsInRange};
-ghost use Rattle.gregorian.specs.Year.{is_leap, days_in_year, year_start, LiesIn, IsYear, IsDay};
-ghost use Rattle.gregorian.specs.DateOf.{year_of, day_of_year};
-ghost use Rattle.gregorian.specs.Steps.Cycle.{days_of_years};
+ghost use Rattle.std.specs.{Int.{IsInRange}, Prelude.{◌≡◌, ◌↔◌, ◌<◌, ◌≤◌, ◌+◌, ◌*◌, ◌/◌, ◌%◌, ◌+ℤ◌, pos, IsTrue, ℤ}};
+ghost use Rattle.gregorian.specs.{DateOf.{day_of_year, year_of}, Steps.Cycle.{days_of_years}};
+ghost use Rattle.gregorian.specs.Year.{days_in_year, is_leap, year_start, IsDay, IsYear, LiesIn};
 
 /// The first day of the years that an `i32` holds.
 pub const FIRST_DAY: i64 = -784_353_015_833;

@@ -20,13 +20,15 @@ same_date a b days =
 pub same_time : (a b : NaiveTime) → second_of a ≡ second_of b → fraction_of a ≡ fraction_of b → a ≡ b
 same_time a b seconds fractions =
     let SameAt : ℕ → ℕ → Type 0 = λ second f. (is_time : IsTime second f) → a ≡ record { secs = second; frac = f; in_range = is_time } in
-    let at_a : SameAt (second_of a) (fraction_of a) = λ is_time. ap (λ t. record a { in_range = t }) (IsTime-once (second_of a) (fraction_of a) a.in_range is_time) in
+    let at_a : SameAt (second_of a) (fraction_of a) =
+    λ is_time. ap (λ t. record a { in_range = t }) (IsTime-once (second_of a) (fraction_of a) a.in_range is_time) in
     subst (λ (second : ℕ). SameAt second (fraction_of b)) seconds (subst (SameAt (second_of a)) fractions at_a) b.in_range
 
 pub same_reading : (a b : NaiveDateTime) → (reading a).s ≡ (reading b).s → (reading a).f ≡ (reading b).f → a ≡ b
 same_reading a b seconds fractions =
     let SameAt : ℤ → ℕ → Type 0 = λ s f. (is_reading : IsReading s f) → a ≡ record { secs = s; frac = f; in_range = is_reading } in
-    let at_a : SameAt (reading a).s (reading a).f = λ is_reading. ap (λ r. record a { in_range = r }) (IsReading-once (reading a).s (reading a).f a.in_range is_reading) in
+    let at_a : SameAt (reading a).s (reading a).f =
+    λ is_reading. ap (λ r. record a { in_range = r }) (IsReading-once (reading a).s (reading a).f a.in_range is_reading) in
     subst (λ (s : ℤ). SameAt s (reading b).f) seconds (subst (SameAt (reading a).s) fractions at_a) b.in_range
 
 InYear-once : (year : ℤ) (week : ℕ) → IsProp (IsWideYear year × (1 ≤ week) × (week ≤ 53))
@@ -34,6 +36,7 @@ InYear-once year week = hlevel props
 
 pub same_week : (a b : IsoWeek) → iso_year a ≡ iso_year b → iso_number a ≡ iso_number b → a ≡ b
 same_week a b years numbers =
-    let SameAt : ℤ → ℕ → Type 0 = λ year week. (in_year : IsWideYear year × (1 ≤ week) × (week ≤ 53)) → a ≡ record { year = year; week = week; in_year = in_year } in
+    let SameAt : ℤ → ℕ → Type 0 = λ year week. (in_year : IsWideYear year × (1 ≤ week) × (week ≤ 53))
+    → a ≡ record { year = year; week = week; in_year = in_year } in
     let at_a : SameAt (iso_year a) (iso_number a) = λ in_year. ap (λ w. record a { in_year = w }) (InYear-once (iso_year a) (iso_number a) a.in_year in_year) in
     subst (λ (year : ℤ). SameAt year (iso_number b)) years (subst (SameAt (iso_year a)) numbers at_a) b.in_year

@@ -1,8 +1,6 @@
 //! Dates from local date-times, and local date-times from dates.
 ghost use Rattle.std.specs.Prelude.{◌≡◌};
-ghost use Rattle.naive_base.specs.NaiveDate.{day_of};
-ghost use Rattle.naive_base.specs.NaiveDateTime.{reading};
-ghost use Rattle.naive_base.specs.Reading.{day_at, reading_at};
+ghost use Rattle.naive_base.specs.{NaiveDate.{day_of}, NaiveDateTime.{reading}, Reading.{day_at, reading_at}};
 
 use crate::{NaiveDate, NaiveDateTime, NaiveTime};
 

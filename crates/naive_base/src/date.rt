@@ -1,11 +1,9 @@
 //! Dates.
-ghost use Rattle.std.specs.Prelude.{◌≡◌, ◌↔◌, IsTrue, IfSome, ◌+◌, ◌*◌, pos, ◌+ℤ◌, ◌-ℤ◌, ◌*ℤ◌};
+ghost use Rattle.std.specs.Prelude.{◌≡◌, ◌↔◌, ◌+◌, ◌*◌, ◌+ℤ◌, ◌-ℤ◌, ◌*ℤ◌, pos, IfSome, IsTrue};
+ghost use Rattle.gregorian.specs.{Date.{day_number, IsDate}, DateOf.{day_of_month, month_of, year_of}};
 ghost use Rattle.gregorian.specs.Year.{floor_div};
-ghost use Rattle.gregorian.specs.Date.{IsDate, day_number};
-ghost use Rattle.gregorian.specs.DateOf.{year_of, month_of, day_of_month};
 ghost use Rattle.naive_base.specs.Range as range;
-ghost use Rattle.naive_base.specs.Clock.{IsClock, clock_second};
-ghost use Rattle.naive_base.specs.Reading.{reading_at, day_at, second_at};
+ghost use Rattle.naive_base.specs.{Clock.{clock_second, IsClock}, Reading.{day_at, reading_at, second_at}};
 
 mod back;
 mod days;
@@ -46,9 +44,8 @@ fn day_in_range(year: i32, month: u32, day: u32) -> i32
 }
 
 impl NaiveDate {
-    ghost use Rattle.naive_base.specs.NaiveDate.{day_of, IsDateOf, IsDateOfDay};
-    ghost use Rattle.naive_base.specs.NaiveTime.{second_of, fraction_of};
-    ghost use Rattle.naive_base.specs.NaiveDateTime.{reading, IsReadingOn};
+    ghost use Rattle.naive_base.specs.{NaiveDate.{day_of, IsDateOf, IsDateOfDay}, NaiveDateTime.{reading, IsReadingOn}};
+    ghost use Rattle.naive_base.specs.NaiveTime.{fraction_of, second_of};
 
     /// The first date in range, 1 January of the year -262143.
     pub const MIN: NaiveDate = NaiveDate {

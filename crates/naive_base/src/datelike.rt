@@ -1,12 +1,9 @@
 //! Values that show a date.
-ghost use Rattle.std.specs.Prelude.{◌≡◌, ◌+◌, ◌<◌, ◌≤◌, ℤ, Option};
-ghost use Rattle.gregorian.specs.Month.{days_in_month};
+ghost use Rattle.std.specs.Prelude.{◌≡◌, ◌<◌, ◌≤◌, ◌+◌, Option, ℤ};
+ghost use Rattle.gregorian.specs.{DateOf.{day_of_month, day_of_year, month_of, year_of}, Month.{days_in_month}};
 ghost use Rattle.gregorian.specs.Year.{is_leap};
-ghost use Rattle.gregorian.specs.DateOf.{year_of, day_of_year, month_of, day_of_month};
-ghost use Rattle.naive_base.specs.Range.{IsWideYear};
-ghost use Rattle.naive_base.specs.Weekday.{weekday_of, weekday_number};
-ghost use Rattle.naive_base.specs.IsoWeek.{IsWeekOf};
-ghost use Rattle.naive_base.specs.Fields.{IsDateGiven, IsOrdinalGiven};
+ghost use Rattle.naive_base.specs.{Fields.{IsDateGiven, IsOrdinalGiven}, Weekday.{weekday_number, weekday_of}};
+ghost use Rattle.naive_base.specs.{IsoWeek.{IsWeekOf}, Range.{IsWideYear}};
 
 use crate::{IsoWeek, Weekday};
 

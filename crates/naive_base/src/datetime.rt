@@ -1,9 +1,8 @@
 //! Local date-times.
-ghost use Rattle.std.specs.Prelude.{◌≡◌, ◌↔◌, ◌<◌, IsTrue, SomeIff, option_map, pos, ◌+ℤ◌, ◌-ℤ◌};
+ghost use Rattle.std.specs.Prelude.{◌≡◌, ◌↔◌, ◌<◌, ◌+ℤ◌, ◌-ℤ◌, option_map, pos, IsTrue, SomeIff};
 ghost use Rattle.offset_core.specs.FixedOffset.{seconds_of};
-ghost use Rattle.naive_base.specs.Range.{IsReading, IsInRange};
-ghost use Rattle.naive_base.specs.Reading.{reading_at, day_at, second_at, ahead, behind};
-ghost use Rattle.naive_base.specs.Stamp.{of_secs, IsStamp};
+ghost use Rattle.naive_base.specs.Range.{IsInRange, IsReading};
+ghost use Rattle.naive_base.specs.{Reading.{ahead, behind, day_at, reading_at, second_at}, Stamp.{of_secs, IsStamp}};
 
 mod fields;
 mod moves;
@@ -29,8 +28,7 @@ pub struct NaiveDateTime {
 
 impl NaiveDateTime {
     ghost use Rattle.naive_base.specs.NaiveDate.{day_of};
-    ghost use Rattle.naive_base.specs.NaiveTime.{second_of, fraction_of};
-    ghost use Rattle.naive_base.specs.NaiveDateTime.{reading, IsReadingOf};
+    ghost use Rattle.naive_base.specs.{NaiveDateTime.{reading, IsReadingOf}, NaiveTime.{fraction_of, second_of}};
 
     /// The first local date-time in range, the start of the year -262143.
     pub const MIN: NaiveDateTime = NaiveDateTime {

@@ -1,21 +1,14 @@
 //! Theorems: the contract of each function is proved, and none is called. Each is empty, except one
 //! that names constants.
-ghost use Rattle.std.specs.Prelude.{◌≡◌, ◌↔◌, ◌<◌, ℕ, ℤ, pos, neg_ℤ, ◌+ℤ◌, ◌-ℤ◌, ◌*ℤ◌};
-ghost use Rattle.gregorian.specs.Year.{floor_div};
-ghost use Rattle.gregorian.specs.Date.{day_number};
-ghost use Rattle.gregorian.specs.DateOf.{year_of};
-ghost use Rattle.naive_base.specs.IsoWeek.{IsWeekOf, iso_year, iso_number};
+ghost use Rattle.std.specs.Prelude.{◌≡◌, ◌↔◌, ◌<◌, ◌+ℤ◌, ◌-ℤ◌, ◌*ℤ◌, neg_ℤ, pos, ℕ, ℤ};
+ghost use Rattle.gregorian.specs.{Date.{day_number}, DateOf.{year_of}, Year.{floor_div}};
 ghost use Rattle.naive_base.specs.Range as range;
 ghost use Rattle.naive_base.specs.Reading as readings;
-ghost use Rattle.naive_base.specs.NaiveDate.{day_of, printed_date};
-ghost use Rattle.naive_base.specs.NaiveTime.{second_of, fraction_of, printed_time};
-ghost use Rattle.naive_base.specs.NaiveDateTime.{reading, printed_reading, debug_reading};
-ghost use Rattle.naive_base.specs.declared.date.NaiveDate.{NaiveDate as AnyDate};
-ghost use Rattle.naive_base.specs.declared.iso_week.IsoWeek.{IsoWeek as AnyWeek};
-ghost use Rattle.naive_base.specs.declared.time.NaiveTime.{NaiveTime as AnyTime};
-ghost use Rattle.naive_base.specs.declared.datetime.NaiveDateTime.{NaiveDateTime as AnyReading};
+ghost use Rattle.naive_base.specs.IsoWeek.{iso_number, iso_year, IsWeekOf};
+ghost use Rattle.naive_base.specs.{NaiveDate.{day_of, printed_date}, NaiveTime.{fraction_of, printed_time, second_of}};
+ghost use Rattle.naive_base.specs.NaiveDateTime.{debug_reading, printed_reading, reading};
 
-use crate::{NaiveDate, NaiveDateTime, NaiveTime};
+use crate::{IsoWeek, NaiveDate, NaiveDateTime, NaiveTime};
 
 pub mod comparisons;
 
@@ -96,21 +89,21 @@ pub fn moves_law()
 
 /// Each day lies in one ISO week, and in each year 4 January lies in the first.
 pub fn iso_weeks_law()
-    ensures first { (y : ℤ) (week : AnyWeek) → IsWeekOf (day_number y 1 4) week
+    ensures first { (y : ℤ) (week : IsoWeek) → IsWeekOf (day_number y 1 4) week
         → (iso_year week ≡ y) × (iso_number week ≡ 1) }
-    ensures once { (day : ℤ) (a b : AnyWeek) → IsWeekOf day a → IsWeekOf day b → a ≡ b }
+    ensures once { (day : ℤ) (a b : IsoWeek) → IsWeekOf day a → IsWeekOf day b → a ≡ b }
 {}
 
 /// What prints alike is equal, leap seconds aside: 12:00:30 with 1,500,000,000 nanoseconds prints
 /// as 12:00:31.500 does.
 pub fn print_law()
-    ensures dates { (a b : AnyDate) → printed_date a ≡ printed_date b → a ≡ b }
-    ensures times { (a b : AnyTime) → fraction_of a < 1_000_000_000 → fraction_of b < 1_000_000_000
+    ensures dates { (a b : NaiveDate) → printed_date a ≡ printed_date b → a ≡ b }
+    ensures times { (a b : NaiveTime) → fraction_of a < 1_000_000_000 → fraction_of b < 1_000_000_000
         → printed_time a ≡ printed_time b → a ≡ b }
-    ensures readings { (a b : AnyReading) → (reading a).f < 1_000_000_000
+    ensures readings { (a b : NaiveDateTime) → (reading a).f < 1_000_000_000
         → (reading b).f < 1_000_000_000
         → printed_reading a ≡ printed_reading b → a ≡ b }
-    ensures debugged { (a b : AnyReading) → (reading a).f < 1_000_000_000
+    ensures debugged { (a b : NaiveDateTime) → (reading a).f < 1_000_000_000
         → (reading b).f < 1_000_000_000
         → debug_reading a ≡ debug_reading b → a ≡ b }
 {}

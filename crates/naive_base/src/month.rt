@@ -1,9 +1,7 @@
 //! The months of a year, by name.
-ghost use Rattle.std.specs.Prelude.{◌≡◌, ◌+◌, ◌%◌, ◌<◌, ◌≤◌, ◌⊎◌, Some, SomeIff, MatchResult, option_map, take};
-ghost use Rattle.gregorian.specs.Year.{is_leap};
-ghost use Rattle.gregorian.specs.Month.{days_in_month};
-ghost use Rattle.naive_base.specs.MonthNames.{number_of_month, month_name};
-ghost use Rattle.naive_base.specs.Range.{IsYearInRange};
+ghost use Rattle.std.specs.Prelude.{◌≡◌, ◌⊎◌, ◌<◌, ◌≤◌, ◌+◌, ◌%◌, option_map, take, MatchResult, Some, SomeIff};
+ghost use Rattle.gregorian.specs.{Month.{days_in_month}, Year.{is_leap}};
+ghost use Rattle.naive_base.specs.{MonthNames.{month_name, number_of_month}, Range.{IsYearInRange}};
 
 use crate::OutOfRange;
 use crate::range::{FIRST_YEAR, LAST_YEAR};

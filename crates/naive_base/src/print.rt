@@ -1,12 +1,8 @@
 //! How dates, times and local date-times print.
-ghost use Rattle.std.specs.Prelude.{◌≡◌, ◌+◌, ◌<◌, ◌≤◌, ◌++◌, length, Some};
-ghost use Rattle.std.specs.Fmt.{decimal};
-ghost use Rattle.naive_base.specs.Range.{IsWideYear};
-ghost use Rattle.naive_base.specs.Text.{four_digits, year_text, clock_text, fraction_text, reading_text};
-ghost use Rattle.naive_base.specs.NaiveDate.{printed_date};
-ghost use Rattle.naive_base.specs.NaiveTime.{printed_time};
-ghost use Rattle.naive_base.specs.NaiveDateTime.{reading, printed_reading, debug_reading};
-ghost use Rattle.naive_base.specs.IsoWeek.{printed_week};
+ghost use Rattle.std.specs.{Fmt.{decimal}, Prelude.{◌≡◌, ◌<◌, ◌≤◌, ◌+◌, ◌++◌, length, Some}};
+ghost use Rattle.naive_base.specs.{IsoWeek.{printed_week}, NaiveTime.{printed_time}, Range.{IsWideYear}};
+ghost use Rattle.naive_base.specs.{NaiveDate.{printed_date}, NaiveDateTime.{debug_reading, printed_reading, reading}};
+ghost use Rattle.naive_base.specs.Text.{clock_text, four_digits, fraction_text, reading_text, year_text};
 
 use crate::{IsoWeek, NaiveDate, NaiveDateTime, NaiveTime, Timelike};
 use offset_core::ShortText;

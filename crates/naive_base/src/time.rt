@@ -1,9 +1,7 @@
 //! Times of day.
-ghost use Rattle.std.specs.Prelude.{◌≡◌, ◌+◌, ◌*◌, ◌<◌};
+ghost use Rattle.std.specs.Prelude.{◌≡◌, ◌<◌, ◌*◌};
 ghost use Rattle.gregorian.specs.Year.{floor_mod};
-ghost use Rattle.naive_base.specs.Range.{IsTime};
-ghost use Rattle.naive_base.specs.Clock.{IsClock, clock_second};
-ghost use Rattle.naive_base.specs.Steps.Moves.{IsWithin};
+ghost use Rattle.naive_base.specs.{Clock.{clock_second, IsClock}, Range.{IsTime}, Steps.Moves.{IsWithin}};
 
 mod fields;
 mod moves;

@@ -1,10 +1,8 @@
 //! Weeks that begin on a chosen day of the week.
-ghost use Rattle.std.specs.Prelude.{◌≡◌, pos, ◌+ℤ◌, ◌≤ℤ◌, ◌<ℤ◌, MatchOption};
-ghost use Rattle.std.specs.Range.{range_inclusive_start, range_inclusive_end};
-ghost use Rattle.naive_base.specs.NaiveDate.{day_of, IsDateOfDay};
-ghost use Rattle.naive_base.specs.Range.{IsDayInRange};
-ghost use Rattle.naive_base.specs.Week.{first_of};
-ghost use Rattle.naive_base.specs.Weekday.{weekday_of, weekday_number};
+ghost use Rattle.std.specs.Prelude.{◌≡◌, ◌<ℤ◌, ◌≤ℤ◌, ◌+ℤ◌, pos, MatchOption};
+ghost use Rattle.std.specs.Range.{range_inclusive_end, range_inclusive_start};
+ghost use Rattle.naive_base.specs.{NaiveDate.{day_of, IsDateOfDay}, Weekday.{weekday_number, weekday_of}};
+ghost use Rattle.naive_base.specs.{Range.{IsDayInRange}, Week.{first_of}};
 
 use crate::{Datelike, NaiveDate, Weekday};
 use std::ops::RangeInclusive;

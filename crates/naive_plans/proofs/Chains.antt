@@ -62,7 +62,7 @@ has_its_second r start length l kind one = elim kind [
 ]
 
 -- ---- counted
--- so many times at most come before a second of a period
+-- at most `counted` times of a period come before one of its seconds
 abbrev pub AreFew : RecurrenceRule → ℤ → ℕ → ℕ → ℕ → Type 0
 AreFew r start length second counted = (p from to : ℤ) (n : ℕ) → IsChain (IsInPeriod r start p) from n to → floor_mod to length < second → n < counted
 

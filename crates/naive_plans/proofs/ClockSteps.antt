@@ -145,7 +145,10 @@ next_begin step s day at before after n is_day is_at is_n part h =
           let from : day ≤ℤ d = omega (arith, ints, floors, is_day, later) in
           let at_least = next_member day d after (at - at % n + n) k
           (λ same. let le = next_multiple n at k none (omega (arith, ints, floors, is_day, is_at, same, later)) in (
-            elim (around step day before after h) [ inl midnight ↦ absurd (let day_long : n ≡ 86_400 = rw is_n midnight in omega (arith, le, in_day, day_long)) | inr both ↦ both.1 ],
+            elim (around step day before after h) [
+              | inl midnight ↦ absurd (let day_long : n ≡ 86_400 = rw is_n midnight in omega (arith, le, in_day, day_long))
+              | inr both ↦ both.1
+            ],
             le,
           )) from (λ more. h.none_between d begins.on (omega (arith, ints, more))) most in
           omega (arith, ints, floors, at_least);

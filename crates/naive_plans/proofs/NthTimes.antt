@@ -66,7 +66,7 @@ after_in_period r start time from end next (Some l) is_from own is = record {
   least = λ m one later. let least = own.least m one.occasion (omega (arith, ints, later, is_from)) in omega (arith, ints, least, is.0);
 }
 
--- ---- so many before
+-- ---- the nth time before
 member : (set : ℤ → Type 0) (n : ℕ) (l : ℤ) → HasBefore set n l → set l
 member set zero l h = h.0
 member set (suc n) l h = h.2
@@ -96,7 +96,7 @@ not_later set n l none h = let less = h.3 in none h.0 (member set n h.0 h.1) (om
 pub not_first : (set : ℤ → Type 0) (l k : ℤ) → IsLastUpTo set (l -ℤ pos 1) k → HasBefore set zero l → ⊥
 not_first set l k last h = let le = h.1 k last.one in let up = last.not_after in omega (arith, ints, le, up)
 
--- so many come before `time` as `left` before `first`
+-- `count` times come before `time` if and only if `left` come before `first`
 pub record IsAsFar (r : RecurrenceRule) (start time : ℤ) (count left : ℕ) (first : ℤ) : Type 0 where
   pub same : HasBefore (around r start time) count time ↔ HasBefore (around r start time) left first
   pub one : around r start time first
@@ -138,7 +138,7 @@ all_passed r start time first count left (Some l) false h zero_left is own =
 all_passed r start time first count left None false h zero_left is own = absurd (grind (arith, is))
 all_passed r start time first count left (Some l) true h zero_left is own = absurd (grind (arith, is))
 
--- ---- so many after
+-- ---- the nth time after
 member_of : (set : ℤ → Type 0) (n : ℕ) (l : ℤ) → HasAfter set n l → set l
 member_of set zero l h = h.0
 member_of set (suc n) l h = h.2
@@ -168,7 +168,7 @@ not_earlier set n l none h = none h.0 (member_of set n h.0 h.1) h.3
 not_last : (set : ℤ → Type 0) (l k : ℤ) → IsFirstAfter set l k → HasAfter set zero l → ⊥
 not_last set l k first h = let le = h.1 k first.one in let later = first.after in omega (arith, ints, le, later)
 
--- so many come after `time` as `left` after `last`
+-- `count` times come after `time` if and only if `left` come after `last`
 pub record IsAsFarOn (r : RecurrenceRule) (start time : ℤ) (count left : ℕ) (last : ℤ) : Type 0 where
   pub same : HasAfter (around r start time) count time ↔ HasAfter (around r start time) left last
   pub one : around r start time last

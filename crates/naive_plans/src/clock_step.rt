@@ -1,14 +1,9 @@
 //! Steps of the local clock: days, weeks, months, years and parts of a day.
-ghost use Rattle.std.specs.Prelude.{◌≡◌, ◌<◌, ◌≤◌, ◌-◌, ◌+◌, ◌%◌, pos, neg_ℤ, ◌+ℤ◌, ◌-ℤ◌, ◌≤ℤ◌, MatchOption};
-ghost use Rattle.gregorian.specs.Year.{floor_div, floor_mod};
-ghost use Rattle.naive_base.specs.NaiveDate.{day_of};
-ghost use Rattle.naive_base.specs.NaiveDateTime.{reading};
-ghost use Rattle.naive_base.specs.Range.{IsWide, IsWideDay};
-ghost use Rattle.naive_plans.specs.ClockSteps.{BeginsOnDay, BeginsStep, IsPart, seconds_of_step};
+ghost use Rattle.std.specs.Prelude.{◌≡◌, ◌<◌, ◌≤◌, ◌+◌, ◌-◌, ◌%◌, ◌≤ℤ◌, ◌+ℤ◌, ◌-ℤ◌, neg_ℤ, pos, MatchOption};
+ghost use Rattle.naive_base.specs.{NaiveDate.{day_of}, NaiveDateTime.{reading}, Range.{IsWide, IsWideDay}};
+ghost use Rattle.naive_plans.specs.ClockSteps.{seconds_of_step, BeginsOnDay, BeginsStep, IsPart};
 ghost use Rattle.naive_plans.specs.PartsOfDay.{IsPartOfDay};
-ghost use Rattle.naive_plans.specs.Steps.Members.{IsFirstAfter, IsLastUpTo};
-ghost use Rattle.naive_plans.specs.Steps.StepPlaces.{IsNear, IsNearDay, IsPlace};
-ghost use Rattle.naive_plans.specs.declared.clock_step.ClockStep.TheVariants as steps;
+ghost use Rattle.naive_plans.specs.Steps.{Members.{IsFirstAfter, IsLastUpTo}, StepPlaces.{IsNear, IsNearDay, IsPlace}};
 
 use crate::day_plan::{at_second, date_after, date_before};
 use crate::rule::{days_of_week, month_length, place_in_year};
@@ -139,7 +134,7 @@ impl ReversiblePlan for ClockStep {
 // How many days of a week that begins on `first` come before a day, and how many after it.
 fn place_in_week(day: i64, first: Weekday) -> (u32, u32)
     requires { IsWideDay day }
-    ensures place { IsPlace (BeginsOnDay (steps.Week first)) day result.0 result.1 }
+    ensures place { IsPlace (BeginsOnDay (ClockStep.Week first)) day result.0 result.1 }
     ensures bound { (result.0 < 7) × (result.1 < 7) }
 {
     let before = days_of_week(day, first);
@@ -149,7 +144,7 @@ fn place_in_week(day: i64, first: Weekday) -> (u32, u32)
 // How many days of its month come before a day, and how many after it.
 fn place_in_month(day: i64) -> (u32, u32)
     requires { IsWideDay day }
-    ensures place { IsPlace (BeginsOnDay steps.Month) day result.0 result.1 }
+    ensures place { IsPlace (BeginsOnDay ClockStep.Month) day result.0 result.1 }
     ensures bound { (result.0 < 31) × (result.1 < 31) }
 {
     let date = gregorian::date_of(day);

@@ -2,8 +2,7 @@
 ghost use Rattle.std.specs.Prelude.{◌↔◌, ◌⊎◌, ◌<◌, ◌≤◌, IsTrue, ℤ};
 ghost use Rattle.naive_base.specs.NaiveDate.{day_of};
 ghost use Rattle.naive_plans.specs.Cron.{IsCronDay, IsCronMinute, IsCronTime};
-ghost use Rattle.naive_plans.specs.Steps.CronDates.{ListsNoDateBefore, ListsNoDayUpTo};
-ghost use Rattle.naive_plans.specs.DayPlans.{IsPlannedOnItsDay};
+ghost use Rattle.naive_plans.specs.{DayPlans.{IsPlannedOnItsDay}, Steps.CronDates.{ListsNoDateBefore, ListsNoDayUpTo}};
 
 use crate::{DayPlan, Plan, ReversibleDayPlan, ReversiblePlan, last_local_time, next_local_time};
 use naive_base::{Datelike, NaiveDate, NaiveDateTime};

@@ -1,11 +1,9 @@
 //! Plans that list seconds of the day for each date.
-ghost use Rattle.std.specs.Prelude.{◌≡◌, ◌<◌, ◌≤◌, ℕ, ℤ, pos, ◌+ℤ◌, ◌-ℤ◌, MatchOption, IsTrue};
-ghost use Rattle.naive_base.specs.NaiveDate.{day_of};
-ghost use Rattle.naive_base.specs.NaiveDateTime.{reading};
+ghost use Rattle.std.specs.Prelude.{◌≡◌, ◌<◌, ◌≤◌, ◌+ℤ◌, ◌-ℤ◌, pos, IsTrue, MatchOption, ℕ, ℤ};
+ghost use Rattle.naive_base.specs.{NaiveDate.{day_of}, NaiveDateTime.{reading}, Reading.{reading_at}};
 ghost use Rattle.naive_base.specs.Range.{IsWideDay};
-ghost use Rattle.naive_base.specs.Reading.{reading_at};
-ghost use Rattle.naive_plans.specs.DayPlans.{HasNoSecondFrom, HasNoSecondUntil, IsFirstSecondFrom};
-ghost use Rattle.naive_plans.specs.DayPlans.{IsLastSecondUntil, IsPlannedOnItsDay, second_before};
+ghost use Rattle.naive_plans.specs.DayPlans.{second_before, HasNoSecondFrom, HasNoSecondUntil, IsFirstSecondFrom};
+ghost use Rattle.naive_plans.specs.DayPlans.{IsLastSecondUntil, IsPlannedOnItsDay};
 ghost use Rattle.naive_plans.specs.Plans.{HasNoneAfter, HasNoneUntil, IsLastUntil, IsNextAfter};
 
 use naive_base::{NaiveDate, NaiveDateTime, NaiveTime};

@@ -1,19 +1,15 @@
 //! The times that a rule's parts let through, in whole seconds.
-ghost use Rattle.std.specs.Prelude.{◌≡◌, ◌↔◌, ◌<◌, ◌≤◌, ℕ, ℤ, pos, neg_ℤ, ◌+ℤ◌, ◌-ℤ◌, ◌*ℤ◌, ◌*◌, ◌%◌};
-ghost use Rattle.std.specs.Prelude.{◌<ℤ◌, ◌≤ℤ◌, IsTrue, MatchOption};
+ghost use Rattle.std.specs.Prelude.{◌≡◌, ◌↔◌, ◌<◌, ◌≤◌, ◌*◌, ◌%◌, ◌<ℤ◌, ◌≤ℤ◌, ◌+ℤ◌, ◌-ℤ◌, ◌*ℤ◌, neg_ℤ, pos, IsTrue};
+ghost use Rattle.std.specs.Prelude.{MatchOption, ℕ, ℤ};
 ghost use Rattle.gregorian.specs.Year.{floor_div, floor_mod};
-ghost use Rattle.naive_base.specs.Range.{IsInRange};
-ghost use Rattle.naive_base.specs.NaiveDateTime.{reading};
-ghost use Rattle.naive_plans.specs.DayPlans.{HasNoSecondFrom, HasNoSecondUntil, IsFirstSecondFrom};
-ghost use Rattle.naive_plans.specs.DayPlans.{IsLastSecondUntil};
-ghost use Rattle.naive_plans.specs.Plans.{HasNoneUntil, IsLastUntil};
-ghost use Rattle.naive_plans.specs.RecurrenceRules.{HasHour, HasMinute, HasSecond, IsOccasion, IsOccasionOn};
-ghost use Rattle.naive_plans.specs.RecurrenceRules.{IsOnDate};
-ghost use Rattle.naive_plans.specs.Steps.OccasionSteps.{HasNoneBetween, HasPeriodOfDay, IsCounted};
-ghost use Rattle.naive_plans.specs.Steps.OccasionSteps.{IsEndOfLast, IsFirstBetween, IsPartOfHours};
-ghost use Rattle.naive_plans.specs.Steps.OccasionSteps.{IsSkipped, IsSkippedBack, IsStartOfNext, IsTimeOn};
-ghost use Rattle.naive_plans.specs.Steps.RuleSteps.{IsPeriod, IsRuleDay, IsRuleSecond, IsStarted};
-ghost use Rattle.naive_plans.specs.Steps.RuleSteps.{least_period, own_period};
+ghost use Rattle.naive_base.specs.{NaiveDateTime.{reading}, Range.{IsInRange}};
+ghost use Rattle.naive_plans.specs.DayPlans.{HasNoSecondFrom, HasNoSecondUntil, IsFirstSecondFrom, IsLastSecondUntil};
+ghost use Rattle.naive_plans.specs.{Plans.{HasNoneUntil, IsLastUntil}, Steps.OccasionSteps.{IsStartOfNext, IsTimeOn}};
+ghost use Rattle.naive_plans.specs.RecurrenceRules.{HasHour, HasMinute, HasSecond, IsOccasion, IsOccasionOn, IsOnDate};
+ghost use Rattle.naive_plans.specs.Steps.OccasionSteps.{HasNoneBetween, HasPeriodOfDay, IsCounted, IsEndOfLast};
+ghost use Rattle.naive_plans.specs.Steps.OccasionSteps.{IsFirstBetween, IsPartOfHours, IsSkipped, IsSkippedBack};
+ghost use Rattle.naive_plans.specs.Steps.RuleSteps.{least_period, own_period, IsPeriod, IsRuleDay, IsRuleSecond};
+ghost use Rattle.naive_plans.specs.Steps.RuleSteps.{IsStarted};
 
 use crate::rule::month_length;
 use crate::rule_periods::last_period;
@@ -287,8 +283,9 @@ impl<'a> Occasions<'a> {
         true
     }
 
-    // Whether the periods of so many seconds that count are never those that it has. On each day they
-    // have the same remainder by a number that divides both the periods of a day and the interval.
+    // Whether the rule has no time in a period that counts, if its periods are `length` seconds long. On
+    // each day the periods that count have the same remainder modulo a number that divides both the
+    // periods of a day and the interval.
     fn has_no_period(&self, length: u32) -> bool
         requires { IsPartOfHours self.now.rule length }
         ensures { IsTrue result → (day : ℤ) (second : ℕ) → second < 86_400
@@ -489,7 +486,7 @@ fn earlier_in_day(second: u32, end: i64, midnight: i64) -> u32
     at as u32
 }
 
-// The period that is so many later.
+// The period that is `by` periods after another one.
 fn later_period(period: i64, by: u32) -> i64
     requires { IsPeriod period }
     ensures { result ≡ period +ℤ pos by }

@@ -1,13 +1,11 @@
 //! `BYSETPOS`: places among the times that a rule's other parts let through in one of its periods.
-ghost use Rattle.std.specs.Prelude.{◌≡◌, ◌⊎◌, ◌↔◌, ◌<◌, ◌≤◌, ℕ, ℤ, pos, neg_ℤ, ◌+ℤ◌, ◌-ℤ◌, ◌<ℤ◌, ◌≤ℤ◌, ◌+◌};
-ghost use Rattle.std.specs.Prelude.{Contains, IsTrue, MatchOption};
+ghost use Rattle.std.specs.Prelude.{◌≡◌, ◌↔◌, ◌⊎◌, ◌<◌, ◌≤◌, ◌+◌, ◌<ℤ◌, ◌≤ℤ◌, ◌+ℤ◌, ◌-ℤ◌, neg_ℤ, pos, Contains, IsTrue};
+ghost use Rattle.std.specs.Prelude.{MatchOption, ℕ, ℤ};
 ghost use Rattle.gregorian.specs.Year.{floor_mod};
-ghost use Rattle.naive_plans.specs.RecurrenceRules.{IsOccasion};
-ghost use Rattle.naive_plans.specs.RecurrenceSets.{HasAfter, HasBefore, IsAtPosition, IsInPeriod, IsListedNth};
-ghost use Rattle.naive_plans.specs.RecurrenceSets.{IsNth};
+ghost use Rattle.naive_plans.specs.{RecurrenceRules.{IsOccasion}, Steps.RuleSteps.{own_period, IsRuleSecond}};
+ghost use Rattle.naive_plans.specs.RecurrenceSets.{HasAfter, HasBefore, IsAtPosition, IsInPeriod, IsListedNth, IsNth};
 ghost use Rattle.naive_plans.specs.Steps.Members.{HasNoneLeft, HasNoneUpTo, IsFirstAfter, IsLastUpTo};
 ghost use Rattle.naive_plans.specs.Steps.PositionSteps.{HasSecondAt, IsBeyond, IsChain, IsLength};
-ghost use Rattle.naive_plans.specs.Steps.RuleSteps.{IsRuleSecond, own_period};
 
 use crate::Frequency;
 use crate::occasions::Occasions;
@@ -163,7 +161,7 @@ impl<'a> Occasions<'a> {
         }
     }
 
-    // Whether a period of so many seconds has fewer times than each position needs.
+    // Whether a period of `length` seconds has fewer times than each position needs.
     fn is_too_short(&self, length: u32) -> bool
         requires { IsLength self.now.rule length }
         ensures { IsTrue result → (p l n : ℤ) → Contains self.now.rule.by_set_position.now n
@@ -172,7 +170,7 @@ impl<'a> Occasions<'a> {
         are_beyond(self.rule.by_set_position, self.times_in(length))
     }
 
-    // How many seconds of a period of so many seconds it has, at most.
+    // The most times that the rule can have in a period of `length` seconds.
     fn times_in(&self, length: u32) -> u32
         requires { IsLength self.now.rule length }
         ensures few { (p from to : ℤ) (n : ℕ)
@@ -188,7 +186,8 @@ impl<'a> Occasions<'a> {
         counted
     }
 
-    // Whether it has a second of a period of so many seconds, as far as the parts for it tell.
+    // Whether the rule's parts for hours, minutes and seconds let a second of a period of `length` seconds
+    // through.
     fn has_second_at(&self, second: u32, length: u32) -> bool
         requires { IsLength self.now.rule length }
         ensures { IsTrue result ↔ HasSecondAt self.now.rule (floor_mod self.now.start 86_400) length second }
@@ -203,7 +202,7 @@ impl<'a> Occasions<'a> {
     }
 }
 
-// Whether each position needs more than so many times.
+// Whether each position needs more than `count` times.
 fn are_beyond(positions: &[i32], count: u32) -> bool
     requires { count ≤ 86_400 }
     ensures { IsTrue result → (n : ℤ) → Contains positions.now n → IsBeyond count n }

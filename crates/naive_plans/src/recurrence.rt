@@ -1,14 +1,12 @@
 //! Recurrences of RFC 5545.
-ghost use Rattle.std.specs.Prelude.{◌≡◌, ◌≢◌, ◌⊎◌, ◌↔◌, ◌<◌, ◌≤ℤ◌, ◌<ℤ◌, ◌+ℤ◌, ◌-ℤ◌, ℤ, pos, neg_ℤ};
-ghost use Rattle.std.specs.Prelude.{All, IsTrue, MatchOption, MatchResult};
-ghost use Rattle.naive_base.specs.NaiveDateTime.{reading};
-ghost use Rattle.naive_base.specs.Range.{IsWide};
+ghost use Rattle.std.specs.Prelude.{◌≡◌, ◌≢◌, ◌↔◌, ◌<◌, ◌<ℤ◌, ◌≤ℤ◌, ◌-ℤ◌, neg_ℤ, pos, All, IsTrue, MatchOption};
+ghost use Rattle.std.specs.Prelude.{MatchResult, ℤ};
+ghost use Rattle.naive_base.specs.{NaiveDateTime.{reading}, Range.{IsWide}};
 ghost use Rattle.naive_plans.specs.AllowedRules as allowed;
 ghost use Rattle.naive_plans.specs.Plans.{HasNoneUntil, IsLastUntil};
 ghost use Rattle.naive_plans.specs.RecurrenceSets.{HasTimesOf, IsPlannedUpTo, IsRuleTime, IsWithinCount, IsWithinEnd};
-ghost use Rattle.naive_plans.specs.Steps.OccasionSteps.{HasNoneBetween, IsFirstBetween};
+ghost use Rattle.naive_plans.specs.Steps.{OccasionSteps.{HasNoneBetween, IsFirstBetween}, RuleSteps.{IsBounded}};
 ghost use Rattle.naive_plans.specs.Steps.RecurrenceSteps.{HasNoneLater, IsFirstLater, IsLastSecond};
-ghost use Rattle.naive_plans.specs.Steps.RuleSteps.{IsBounded};
 
 use crate::occasions::{LAST_SECOND, Occasions, local_at};
 use crate::seconds::{is_from, later, second_after, second_before};

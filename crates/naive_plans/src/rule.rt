@@ -1,17 +1,11 @@
 //! Rules of RFC 5545: what their parts say of a date and of a time of day.
 
-ghost use Rattle.std.specs.Prelude.{◌≡◌, ◌↔◌, ◌-◌, ◌+◌, ◌/◌, ◌%◌, ◌<◌, ◌≤◌, ℕ, pos, neg_ℤ, ◌+ℤ◌, ◌-ℤ◌};
-ghost use Rattle.std.specs.Prelude.{IsTrue, Contains, length};
-ghost use Rattle.gregorian.specs.DateOf.{year_of, month_of, day_of_month, day_of_year};
+ghost use Rattle.std.specs.Prelude.{◌≡◌, ◌↔◌, ◌<◌, ◌≤◌, ◌+◌, ◌-◌, ◌+ℤ◌, ◌-ℤ◌, neg_ℤ, pos, Contains, IsTrue};
+ghost use Rattle.gregorian.specs.{DateOf.{day_of_year, year_of}, Year.{days_in_year, floor_mod, is_leap}};
 ghost use Rattle.gregorian.specs.Month.{days_in_month};
-ghost use Rattle.gregorian.specs.Weekdays.{weekday_of};
-ghost use Rattle.gregorian.specs.Year.{days_in_year, floor_mod, is_leap};
-ghost use Rattle.naive_base.specs.Range.{IsWideDay};
-ghost use Rattle.naive_base.specs.Weekday.{weekday_number};
-ghost use Rattle.naive_plans.specs.Steps.RuleSteps.{IsNearRuleDay, IsRuleDay};
-ghost use Rattle.naive_base.specs.declared.weekday.Weekday.TheVariants.{Mon};
-ghost use Rattle.naive_plans.specs.AllowedRules.{HasNoPart};
+ghost use Rattle.naive_base.specs.{Range.{IsWideDay}, Weekday.{weekday_number}};
 ghost use Rattle.naive_plans.specs.RecurrenceRules as rules;
+ghost use Rattle.naive_plans.specs.{AllowedRules.{HasNoPart}, Steps.RuleSteps.{IsNearRuleDay, IsRuleDay}};
 
 use gregorian::YearMonthDay;
 use naive_base::Weekday;
@@ -70,7 +64,7 @@ impl<'a> RecurrenceRule<'a> {
     /// Returns the rule that has only a frequency: one local time in each period, as its start has it.
     pub fn new(frequency: Frequency) -> RecurrenceRule<'a>
         ensures parts { (result.frequency ≡ frequency) × (result.interval ≡ 1)
-            × (result.week_start ≡ Mon) }
+            × (result.week_start ≡ Weekday.Mon) }
         ensures absent { HasNoPart result × rules.IsAbsent result.by_set_position.now }
     {
         RecurrenceRule {

@@ -1,12 +1,9 @@
 //! The periods of rules, by their numbers.
-ghost use Rattle.std.specs.Prelude.{◌≡◌, ◌<◌, ◌≤◌, ℤ, pos, neg_ℤ, ◌+ℤ◌, ◌-ℤ◌, ◌*ℤ◌, ◌+◌, ◌*◌, ◌/◌, ◌<ℤ◌, ◌≤ℤ◌};
-ghost use Rattle.gregorian.specs.Date.{day_number};
-ghost use Rattle.gregorian.specs.DateOf.{year_of};
-ghost use Rattle.gregorian.specs.Year.{floor_div, floor_mod, year_start};
+ghost use Rattle.std.specs.Prelude.{◌≡◌, ◌<◌, ◌≤◌, ◌+◌, ◌*◌, ◌/◌, ◌<ℤ◌, ◌≤ℤ◌, ◌+ℤ◌, ◌-ℤ◌, ◌*ℤ◌, neg_ℤ, pos, ℤ};
+ghost use Rattle.gregorian.specs.{Date.{day_number}, DateOf.{year_of}, Year.{floor_div, floor_mod, year_start}};
 ghost use Rattle.naive_base.specs.Weekday.{weekday_number};
-ghost use Rattle.naive_plans.specs.RecurrenceRules.{month_number};
-ghost use Rattle.naive_plans.specs.Steps.RuleSteps.{IsLastPeriod, IsPeriod, IsRuleDay, IsRuleSecond, least_period};
-ghost use Rattle.naive_plans.specs.Steps.RuleSteps.{own_period};
+ghost use Rattle.naive_plans.specs.{RecurrenceRules.{month_number}, Steps.RuleSteps.{IsRuleSecond}};
+ghost use Rattle.naive_plans.specs.Steps.RuleSteps.{least_period, own_period, IsLastPeriod, IsPeriod, IsRuleDay};
 
 use crate::seconds::{SECONDS_PER_DAY, day_of, seconds_of};
 use crate::{Frequency, RecurrenceRule};
@@ -202,7 +199,7 @@ fn passed_since(first: i64, period: i64) -> u64
     (period - first) as u64
 }
 
-// The periods of the whole intervals among so many.
+// How many of `passed` periods belong to whole intervals.
 fn whole_intervals(passed: u64, interval: u64) -> u64
     requires { 1 ≤ interval }
     ensures value { result ≡ passed / interval * interval }

@@ -1,9 +1,8 @@
 //! Lists of local times, and plans made of others.
-ghost use Rattle.std.specs.Prelude.{◌≡◌, ◌↔◌, ◌-ℤ◌, IsTrue, MatchOption, pos};
-ghost use Rattle.naive_base.specs.NaiveDateTime.{reading};
-ghost use Rattle.naive_base.specs.Range.{IsWide};
-ghost use Rattle.naive_plans.specs.PlanSets.{HasLocalTime, IsInBoth, IsInEither, IsInFirstOnly};
+ghost use Rattle.std.specs.Prelude.{◌≡◌, ◌↔◌, ◌-ℤ◌, pos, IsTrue, MatchOption};
+ghost use Rattle.naive_base.specs.{NaiveDateTime.{reading}, Range.{IsWide}};
 ghost use Rattle.naive_plans.specs.Plans.{HasNoneAfter, HasNoneUntil, IsLastUntil, IsNextAfter};
+ghost use Rattle.naive_plans.specs.PlanSets.{HasLocalTime, IsInBoth, IsInEither, IsInFirstOnly};
 ghost use Rattle.naive_plans.specs.Steps.Sets.{IsEarlierOf, IsKept, IsLaterOf, IsSelected};
 
 use crate::day_plan::{at_second, date_before};

@@ -1,13 +1,10 @@
 //! Theorems: each function is empty, its contract is proved; never called.
-ghost use Rattle.std.specs.Prelude.{◌≡◌, ℕ, ℤ, neg_ℤ, pos, ◌+ℤ◌, ◌*ℤ◌, Option, int_div, int_rem};
-ghost use Rattle.offset_core.specs.declared.fixed_offset.FixedOffset.{FixedOffset};
-ghost use Rattle.offset_core.specs.declared.local_result.LocalResult.{LocalResult};
-ghost use Rattle.offset_core.specs.declared.time_delta.TimeDelta.{TimeDelta};
-ghost use Rattle.offset_core.specs.FixedOffset.{IsOffsetOf, printed_offset};
-ghost use Rattle.offset_core.specs.LocalResult.{single_of, earliest_of, latest_of};
-ghost use Rattle.offset_core.specs.Nanoseconds.{nanos_per_second};
-ghost use Rattle.offset_core.specs.TimeDelta.{nanos_of, IsDeltaOfParts};
-ghost use Rattle.offset_core.specs.WallAnswer.{IsWallAnswer, IsNeverShown, IsShownOnce, IsShownBetween};
+ghost use Rattle.std.specs.Prelude.{◌≡◌, ◌+ℤ◌, ◌*ℤ◌, int_div, int_rem, neg_ℤ, pos, Option, ℕ, ℤ};
+ghost use Rattle.offset_core.specs.{FixedOffset.{printed_offset, IsOffsetOf}, TimeDelta.{nanos_of, IsDeltaOfParts}};
+ghost use Rattle.offset_core.specs.{LocalResult.{earliest_of, latest_of, single_of}, Nanoseconds.{nanos_per_second}};
+ghost use Rattle.offset_core.specs.WallAnswer.{IsNeverShown, IsShownBetween, IsShownOnce, IsWallAnswer};
+
+use crate::{FixedOffset, LocalResult, TimeDelta};
 
 pub mod comparisons;
 

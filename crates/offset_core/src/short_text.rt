@@ -17,8 +17,7 @@ pub struct ShortText {
 }
 
 impl Model for ShortText {
-    ghost use Rattle.std.specs.Prelude.{List, ℕ, take, ◌≤◌};
-    ghost use Rattle.std.specs.Str.{IsUtf8};
+    ghost use Rattle.std.specs.{Prelude.{◌≤◌, take, List, ℕ}, Str.{IsUtf8}};
 
     ghost Value = { List ℕ };
 

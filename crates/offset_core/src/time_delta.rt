@@ -1,6 +1,5 @@
 //! Lengths of time.
-ghost use Rattle.std.specs.Prelude.{◌≡◌, ◌<◌, ◌≤ℤ◌, pos, neg_ℤ, ◌+ℤ◌, ◌*ℤ◌};
-ghost use Rattle.std.specs.Duration.{as_nanos};
+ghost use Rattle.std.specs.{Duration.{as_nanos}, Prelude.{◌≡◌, ◌<◌, ◌≤ℤ◌, ◌+ℤ◌, ◌*ℤ◌, neg_ℤ, pos}};
 ghost use Rattle.offset_core.specs.Nanoseconds as lengths;
 
 mod arithmetic;

@@ -20,16 +20,40 @@ four_bytes : (a b c d : ℕ) (rest : List ℕ) → Spells be_u32 (a ∷ b ∷ c 
 unfolding be_u32
 four_bytes a b c d rest = (a ∷ b ∷ c ∷ d ∷ [], rest, (refl, refl), (refl, refl))
 
-counted : (rest : List ℕ) → Spells six_counts (0 ∷ 0 ∷ 0 ∷ 6 ∷ 0 ∷ 0 ∷ 0 ∷ 6 ∷ 0 ∷ 0 ∷ 0 ∷ 0 ∷ 0 ∷ 0 ∷ 0 ∷ 7 ∷ 0 ∷ 0 ∷ 0 ∷ 6 ∷ 0 ∷ 0 ∷ 0 ∷ 20 ∷ rest) counts rest
+counted : (rest : List ℕ)
+    → Spells six_counts (0 ∷ 0 ∷ 0 ∷ 6 ∷ 0 ∷ 0 ∷ 0 ∷ 6 ∷ 0 ∷ 0 ∷ 0 ∷ 0 ∷ 0 ∷ 0 ∷ 0 ∷ 7 ∷ 0 ∷ 0 ∷ 0 ∷ 6 ∷ 0 ∷ 0 ∷ 0 ∷ 20 ∷ rest) counts rest
 unfolding six_counts
-counted rest =
-    (_, _, four_bytes 0 0 0 6 _, (_, _, four_bytes 0 0 0 6 _, (_, _, four_bytes 0 0 0 0 _, (_, _, four_bytes 0 0 0 7 _, (_, _, four_bytes 0 0 0 6 _, (_, _, four_bytes 0 0 0 20 _, (refl, refl)))))))
+counted rest = (
+  _,
+  _,
+  four_bytes 0 0 0 6 _,
+  (
+    _,
+    _,
+    four_bytes 0 0 0 6 _,
+    (_, _, four_bytes 0 0 0 0 _, (_, _, four_bytes 0 0 0 7 _, (_, _, four_bytes 0 0 0 6 _, (_, _, four_bytes 0 0 0 20 _, (refl, refl))))),
+  ),
+)
 
 pub is_header : (place : Place) (byte : ℕ) (v : Version) (rest : List ℕ) → ((after : List ℕ) → Spells (version place) (byte ∷ after) v after)
     → Spells (a_header place) (honolulu_header byte ++ rest) (record { version = v; counts = counts }) rest
 unfolding a_header tzif
-is_header place byte v rest stands =
-    (tt, _, (magic, _, (refl, refl), (refl, refl, refl)), (v, _, stands _, (0 ∷ 0 ∷ 0 ∷ 0 ∷ 0 ∷ 0 ∷ 0 ∷ 0 ∷ 0 ∷ 0 ∷ 0 ∷ 0 ∷ 0 ∷ 0 ∷ 0 ∷ [], _, (refl, refl), (counts, _, counted rest, ((counts_test counts).decides.0 refl, refl, refl)))))
+is_header place byte v rest stands = (
+  tt,
+  _,
+  (magic, _, (refl, refl), (refl, refl, refl)),
+  (
+    v,
+    _,
+    stands _,
+    (
+      0 ∷ 0 ∷ 0 ∷ 0 ∷ 0 ∷ 0 ∷ 0 ∷ 0 ∷ 0 ∷ 0 ∷ 0 ∷ 0 ∷ 0 ∷ 0 ∷ 0 ∷ [],
+      _,
+      (refl, refl),
+      (counts, _, counted rest, ((counts_test counts).decides.0 refl, refl, refl)),
+    ),
+  ),
+)
 
 pub version_2 : (place : Place) (after : List ℕ) → Spells (version place) (50 ∷ after) Two after
 unfolding version

@@ -32,7 +32,14 @@ gap = record {
 
 pub before_gap : IsTypeBeforeGap (TypeAt new_york_zone) (pos 1_615_689_000) est
 before_gap =
-    record { never = gap.never; first = pos 1_615_705_200; more = record { type = edt; here = gap.here; more = gap.more }; least = gap.least; before = gap.earlier }
+    record {
+      never = gap.never;
+      first = pos 1_615_705_200;
+      more = record { type = edt; here = gap.here; more = gap.more };
+      least =
+          gap.least;
+      before = gap.earlier;
+    }
 
 pub only_before_gap : (t : LocalType) → IsTypeBeforeGap (TypeAt new_york_zone) (pos 1_615_689_000) t → t ≡ est
 only_before_gap t h = one_type_before_gap new_york_zone (pos 1_615_689_000) t est h before_gap
@@ -100,7 +107,8 @@ pub until_autumn : AreChanges (TypeAt new_york_zone) (pos 1_615_705_200) (pos 1_
 until_autumn = record {
   rising = λ i j d before below. absurd (omega (arith, before, below));
   each = λ c. (
-    λ inside. subst (λ (x : Change). IsChange (TypeAt new_york_zone) x × IsFromUntil (pos 1_615_705_200) (pos 1_636_264_800) x.at) (only_spring c inside) (spring_is, (omega arith, omega arith)),
+    λ inside. subst (λ (x : Change). IsChange (TypeAt new_york_zone) x × IsFromUntil (pos 1_615_705_200) (pos 1_636_264_800) x.at) (only_spring c inside)
+        (spring_is, (omega arith, omega arith)),
     λ k. let low = k.1.0 in let high = k.1.1 in elim (one_of_two c (omega (arith, ints)) (omega (arith, ints)) k.0) [
       | inl same ↦ (0, omega arith, sym same)
       | inr same ↦ let at = rw same at high in absurd (omega (arith, at))

@@ -86,4 +86,5 @@ takes_last = record {
 pub zoned_is : (d : Zoned ℤ) (r : Reading) (k : ℤ) → d.utc ≡ r → d.offset ≡ k → d ≡ record { utc = r; offset = k }
 zoned_is d r k h e = rw (sym h, sym e) refl
 
-pub ruleset set_clocks = (ints, one_taken, taken_once, unresolved_once, before_gap, only_before_gap, takes_gap, taken_shifted, is_taken_below, takes_last, zoned_is)
+pub ruleset set_clocks =
+    (ints, one_taken, taken_once, unresolved_once, before_gap, only_before_gap, takes_gap, taken_shifted, is_taken_below, takes_last, zoned_is)

@@ -7,30 +7,36 @@ pub not_earlier_than : (x y : Reading) → y.f ≡ 0 → y.s ≤ℤ x.s → ¬ (
 not_earlier_than x y whole h early = grind (arith, ints)
 
 -- a whole second is the first instant at or after a midnight if clocks show the midnight or more then, and less at each second before
-first_instant : (off : ℤ → ℤ) (day u : ℤ) → IsZoneSecond u → (day *ℤ pos 86_400) ≤ℤ (u +ℤ off u) → ((v : ℤ) → v <ℤ u → (v +ℤ off v) <ℤ (day *ℤ pos 86_400)) → IsFirstInstantFrom off (midnight day) (of_secs u 0)
+first_instant : (off : ℤ → ℤ) (day u : ℤ) → IsZoneSecond u → (day *ℤ pos 86_400) ≤ℤ (u +ℤ off u) → ((v : ℤ) → v <ℤ u → (v +ℤ off v) <ℤ (day *ℤ pos 86_400))
+    → IsFirstInstantFrom off (midnight day) (of_secs u 0)
 first_instant off day u inside reached less = grind (arith, ints, not_earlier_than, by_lt_z)
 
 -- the second at which clocks are set, if they jump over the midnight
-pub at_the_jump : (off : ℤ → ℤ) (at k m day : ℤ) → AreSetAt off at k m → IsZoneSecond at → (at +ℤ k) ≤ℤ (day *ℤ pos 86_400) → (day *ℤ pos 86_400) ≤ℤ (at +ℤ m) → IsFirstInstantFrom off (midnight day) (of_secs at 0)
+pub at_the_jump : (off : ℤ → ℤ) (at k m day : ℤ) → AreSetAt off at k m → IsZoneSecond at → (at +ℤ k) ≤ℤ (day *ℤ pos 86_400) → (day *ℤ pos 86_400) ≤ℤ (at +ℤ m)
+    → IsFirstInstantFrom off (midnight day) (of_secs at 0)
 at_the_jump off at k m day set inside below above = grind (arith, ints, first_instant)
 
 -- a second before they are set shows the midnight
-pub before_the_jump : (off : ℤ → ℤ) (at k m day u : ℤ) → AreSetAt off at k m → IsZoneSecond u → u <ℤ at → (u +ℤ k) ≡ day *ℤ pos 86_400 → IsFirstInstantFrom off (midnight day) (of_secs u 0)
+pub before_the_jump : (off : ℤ → ℤ) (at k m day u : ℤ) → AreSetAt off at k m → IsZoneSecond u → u <ℤ at → (u +ℤ k) ≡ day *ℤ pos 86_400
+    → IsFirstInstantFrom off (midnight day) (of_secs u 0)
 before_the_jump off at k m day u set inside early shown = grind (arith, ints, first_instant)
 
 -- and a second after they are set back does
-pub after_the_jump : (off : ℤ → ℤ) (at k m day u : ℤ) → AreSetAt off at k m → IsZoneSecond u → at ≤ℤ u → (u +ℤ m) ≡ day *ℤ pos 86_400 → (at +ℤ k) ≤ℤ (day *ℤ pos 86_400) → IsFirstInstantFrom off (midnight day) (of_secs u 0)
+pub after_the_jump : (off : ℤ → ℤ) (at k m day u : ℤ) → AreSetAt off at k m → IsZoneSecond u → at ≤ℤ u → (u +ℤ m) ≡ day *ℤ pos 86_400
+    → (at +ℤ k) ≤ℤ (day *ℤ pos 86_400) → IsFirstInstantFrom off (midnight day) (of_secs u 0)
 after_the_jump off at k m day u set inside late shown below = grind (arith, ints, set.from u late)
 
 -- clocks are set over the whole day
-pub skipped : (off : ℤ → ℤ) (at k m day : ℤ) → AreSetAt off at k m → (at +ℤ k) ≤ℤ (day *ℤ pos 86_400) → ((day +ℤ pos 1) *ℤ pos 86_400) ≤ℤ (at +ℤ m) → IsNeverOnDay off day
+pub skipped : (off : ℤ → ℤ) (at k m day : ℤ) → AreSetAt off at k m → (at +ℤ k) ≤ℤ (day *ℤ pos 86_400)
+    → ((day +ℤ pos 1) *ℤ pos 86_400) ≤ℤ (at +ℤ m) → IsNeverOnDay off day
 skipped off at k m day set below above u h =
     let since = h.since in let before = h.before in
     by_lt_z u at
     (λ early. let is = set.before u early in omega (arith, ints))
     (λ late. let is = set.from u late in omega (arith, ints))
 
-pub day_after_the_jump : (off : ℤ → ℤ) (at k m day last : ℤ) → AreSetAt off at k m → IsZoneSecond at → IsZoneSecond last → (at +ℤ k) ≤ℤ (day *ℤ pos 86_400) → (day *ℤ pos 86_400) ≤ℤ (at +ℤ m)
+pub day_after_the_jump : (off : ℤ → ℤ) (at k m day last : ℤ) → AreSetAt off at k m → IsZoneSecond at → IsZoneSecond last → (at +ℤ k) ≤ℤ (day *ℤ pos 86_400)
+    → (day *ℤ pos 86_400) ≤ℤ (at +ℤ m)
     → (last +ℤ m) +ℤ pos 1 ≡ (day +ℤ pos 1) *ℤ pos 86_400 → at ≤ℤ last → AreEndsOfDay off day at last
 day_after_the_jump off at k m day last set inside inside_last below above ends late = record {
   shown_first = let is = set.from at (omega (arith, ints)) in record { in_zone = inside; since = omega (arith, ints); before = omega (arith, ints) };
@@ -39,7 +45,8 @@ day_after_the_jump off at k m day last set inside inside_last below above ends l
   not_after = λ u h. by_lt_z u at (λ early. omega (arith, ints)) (λ from. let is = set.from u from in let before = h.before in omega (arith, ints));
 }
 
-pub day_over_the_jump : (off : ℤ → ℤ) (at k m day first last : ℤ) → AreSetAt off at k m → IsZoneSecond first → IsZoneSecond last → first <ℤ at → at ≤ℤ last → (first +ℤ k) ≡ day *ℤ pos 86_400
+pub day_over_the_jump : (off : ℤ → ℤ) (at k m day first last : ℤ) → AreSetAt off at k m → IsZoneSecond first → IsZoneSecond last → first <ℤ at → at ≤ℤ last
+    → (first +ℤ k) ≡ day *ℤ pos 86_400
     → (last +ℤ m) +ℤ pos 1 ≡ (day +ℤ pos 1) *ℤ pos 86_400 → m ≤ℤ k → AreEndsOfDay off day first last
 day_over_the_jump off at k m day first last set inside inside_last early late begins ends back = record {
   shown_first = let is = set.before first early in record { in_zone = inside; since = omega (arith, ints); before = omega (arith, ints) };

@@ -1,21 +1,16 @@
 //! Lines that `zoneq` reads, and their answers.
 
-ghost use Rattle.std.specs.Prelude.{◌≡◌, ◌∷◌, [], codes, pos, neg_ℤ, None, Some, Ok, Err};
+ghost use Rattle.std.specs.Prelude.{◌≡◌, ◌∷◌, [], codes, neg_ℤ, pos};
 ghost use Rattle.naive_base.specs.Stamp.{of_secs};
 ghost use Rattle.tz_base.specs.Grammar.{Spells};
-ghost use Rattle.zoneq_lib.specs.Answers.{AnswersAt, AnswersWall, shown_date_time, shown_refusal};
-ghost use Rattle.zoneq_lib.specs.Answers.{shown_type, shown_wall, shown_zone};
-ghost use Rattle.zoneq_lib.specs.Endings.{message_of, status_of};
-ghost use Rattle.zoneq_lib.specs.Faults.{fault_text};
-ghost use Rattle.zoneq_lib.specs.Lines.{IsSplit, ended_lines, last_line};
-ghost use Rattle.zoneq_lib.specs.Questions.{Asks, At, Data, Wall, Resolve, Show, IsBadLine, choice};
-ghost use Rattle.tests_pins.specs.Changes.{unnamed};
-ghost use Rattle.tests_pins.specs.NewYork.{new_york_zone, est, edt};
-ghost use Rattle.tests_pins.specs.Zones.{honolulu, hst10, utc_zone};
-ghost use Rattle.offset_core.specs.declared.choice.GapChoice.TheVariants as gaps;
-ghost use Rattle.offset_core.specs.declared.choice.FoldChoice.TheVariants as folds;
-ghost use Rattle.offset_core.specs.declared.local_result.LocalResult.TheVariants as results;
-ghost use Rattle.zoneq_lib.specs.declared.run_error.RunError.TheVariants as errors;
+ghost use Rattle.zoneq_lib.specs.Answers.{shown_date_time, shown_refusal, shown_type, shown_wall, shown_zone};
+ghost use Rattle.zoneq_lib.specs.{Answers.{AnswersAt, AnswersWall}, Lines.{ended_lines, last_line, IsSplit}};
+ghost use Rattle.zoneq_lib.specs.{Endings.{message_of, status_of}, Faults.{fault_text}};
+ghost use Rattle.zoneq_lib.specs.Questions.{choice, Asks, At, Data, IsBadLine, Resolve, Show, Wall};
+ghost use Rattle.tests_pins.specs.{Changes.{unnamed}, NewYork.{edt, est, new_york_zone}, Zones.{honolulu, hst10}};
+
+use offset_core::{FoldChoice, GapChoice, LocalResult};
+use zoneq_lib::RunError;
 
 /// A line of each kind but `text`.
 #[tactic(auto, using(crate::proofs::SpelledTexts::asks), unfolding(crate::proofs::Computed::lines))]
@@ -25,7 +20,7 @@ pub fn questions()
     ensures wall { Asks (codes "wall 2021 3 14 2 30 0") (Wall (pos 1_615_689_000)) }
     ensures resolve { Asks (codes "wall 2021 3 14 2 30 0 shift/latest")
         (Resolve (of_secs (pos 1_615_689_000) 0)
-        (record { gap = gaps.ShiftForward; fold = folds.Latest })) }
+        (record { gap = GapChoice.ShiftForward; fold = FoldChoice.Latest })) }
     ensures show { Asks (codes "show 1615705200 7") (Show (pos 1_615_705_200) 7) }
 {}
 
@@ -47,9 +42,9 @@ pub fn bad_lines()
 pub fn words()
     ensures edt { shown_type edt ≡ codes "-14400 dst EDT" }
     ensures unnamed { shown_type unnamed ≡ codes "3600 std -" }
-    ensures none { shown_wall results.None ≡ codes "none" }
-    ensures single { shown_wall (results.Single est) ≡ codes "single -18000 std EST" }
-    ensures ambiguous { shown_wall (results.Ambiguous edt est)
+    ensures none { shown_wall LocalResult.None ≡ codes "none" }
+    ensures single { shown_wall (LocalResult.Single est) ≡ codes "single -18000 std EST" }
+    ensures ambiguous { shown_wall (LocalResult.Ambiguous edt est)
         ≡ codes "ambiguous -14400 dst EDT, -18000 std EST" }
     ensures new_york { shown_zone new_york_zone ≡ codes "ok 0 2 0 alternate" }
     ensures honolulu { shown_zone (honolulu hst10) ≡ codes "ok 7 6 0 fixed" }
@@ -63,11 +58,11 @@ pub fn words()
 #[tactic(auto, using(crate::proofs::SpelledTexts::chooses), unfolding(crate::proofs::Computed::lines))]
 pub fn choices()
     ensures shift_earliest { Spells choice (codes "shift/earliest")
-        (record { gap = gaps.ShiftForward; fold = folds.Earliest }) [] }
+        (record { gap = GapChoice.ShiftForward; fold = FoldChoice.Earliest }) [] }
     ensures refuse_latest { Spells choice (codes "refuse/latest")
-        (record { gap = gaps.Refuse; fold = folds.Latest }) [] }
+        (record { gap = GapChoice.Refuse; fold = FoldChoice.Latest }) [] }
     ensures refuse_refuse { Spells choice (codes "refuse/refuse")
-        (record { gap = gaps.Refuse; fold = folds.Refuse }) [] }
+        (record { gap = GapChoice.Refuse; fold = FoldChoice.Refuse }) [] }
 {}
 
 /// New York's answers: the type at an instant, no clock in the gap, two in the fold.
@@ -92,10 +87,10 @@ pub fn lines()
 /// The exit status and the message of a run.
 pub fn endings()
     ensures fine { status_of (Ok tt) ≡ 0 }
-    ensures failed { status_of (Err errors.Read) ≡ 1 }
+    ensures failed { status_of (Err RunError.Read) ≡ 1 }
     ensures silent { message_of (Ok tt) ≡ [] }
-    ensures read { message_of (Err errors.Read) ≡ codes "zoneq: read failed\n" }
-    ensures write { fault_text errors.Write ≡ codes "zoneq: write failed" }
-    ensures memory { fault_text errors.Memory ≡ codes "zoneq: out of memory" }
-    ensures too_long { fault_text errors.TooLong ≡ codes "zoneq: input too long" }
+    ensures read { message_of (Err RunError.Read) ≡ codes "zoneq: read failed\n" }
+    ensures write { fault_text RunError.Write ≡ codes "zoneq: write failed" }
+    ensures memory { fault_text RunError.Memory ≡ codes "zoneq: out of memory" }
+    ensures too_long { fault_text RunError.TooLong ≡ codes "zoneq: input too long" }
 {}

@@ -1,17 +1,13 @@
 //! The Gregorian calendar, weekdays and the weeks of ISO 8601.
 #![tactic(auto, using(crate::proofs::ChangeDays::march_2021), unfolding(crate::proofs::Computed::calendar))]
 
-ghost use Rattle.std.specs.Prelude.{◌≡◌, ℕ, ◌≤◌, ℤ, pos, neg_ℤ, ◌+ℤ◌, true, false, codes};
-ghost use Rattle.naive_base.specs.Year.{is_leap, days_in_year, year_start};
-ghost use Rattle.naive_base.specs.Month.{days_in_month, days_of_months};
-ghost use Rattle.naive_base.specs.Date.{IsDate, day_number};
-ghost use Rattle.naive_base.specs.DateOf.{year_of, day_of_year, month_of, day_of_month};
-ghost use Rattle.naive_base.specs.MonthNames.{month_name, number_of_month};
-ghost use Rattle.naive_base.specs.Named.{IsDayOfIsoWeek, IsWeekdayOfMonth, whole_years};
-ghost use Rattle.naive_base.specs.Weekday.{weekday_of};
-ghost use Rattle.naive_base.specs.IsoWeek.{IsWeekOf, iso_year, iso_number};
-ghost use Rattle.naive_base.specs.declared.iso_week.IsoWeek.{IsoWeek};
-ghost use Rattle.naive_base.specs.declared.month.Month.TheVariants.{January, September, December};
+ghost use Rattle.std.specs.Prelude.{◌≡◌, ◌+ℤ◌, codes, false, neg_ℤ, pos, true, ℤ};
+ghost use Rattle.naive_base.specs.{Date.{day_number, IsDate}, DateOf.{day_of_month, day_of_year, month_of, year_of}};
+ghost use Rattle.naive_base.specs.{IsoWeek.{iso_number, iso_year, IsWeekOf}, MonthNames.{month_name, number_of_month}};
+ghost use Rattle.naive_base.specs.{Month.{days_in_month, days_of_months}, Year.{days_in_year, is_leap, year_start}};
+ghost use Rattle.naive_base.specs.{Named.{whole_years, IsDayOfIsoWeek, IsWeekdayOfMonth}, Weekday.{weekday_of}};
+
+use naive_base::{IsoWeek, Month};
 
 /// Of the full centuries only every fourth is a leap year.
 pub fn leap_years()
@@ -112,9 +108,9 @@ pub fn named()
 
 /// The months are counted from 1, and have their English names.
 pub fn month_names()
-    ensures first { number_of_month January ≡ 1 }
-    ensures ninth { number_of_month September ≡ 9 }
-    ensures last { number_of_month December ≡ 12 }
-    ensures january { month_name January ≡ codes "January" }
-    ensures december { month_name December ≡ codes "December" }
+    ensures first { number_of_month Month.January ≡ 1 }
+    ensures ninth { number_of_month Month.September ≡ 9 }
+    ensures last { number_of_month Month.December ≡ 12 }
+    ensures january { month_name Month.January ≡ codes "January" }
+    ensures december { month_name Month.December ≡ codes "December" }
 {}

@@ -2,15 +2,14 @@
 //! are set back by an hour then: 00:30 is shown never, or twice.
 #![tactic(auto, using(crate::proofs::SetClocks::set_clocks))]
 
-ghost use Rattle.std.specs.Prelude.{◌≡◌, ℤ, pos, neg_ℤ};
-ghost use Rattle.naive_base.specs.Range.{first_second, last_second, first_reading};
-ghost use Rattle.zoned_time.specs.Choice.{IsBeforeGap, IsTaken, IsResolved, IsUnresolved};
+ghost use Rattle.std.specs.Prelude.{◌≡◌, neg_ℤ, pos, ℤ};
 ghost use Rattle.offset_core.specs.ResolveNumbers.{resolve_error_number};
-ghost use Rattle.zoned_time.specs.Zoned.{Zoned};
-ghost use Rattle.offset_core.specs.declared.resolve_error.ResolveError.{ResolveError};
-ghost use Rattle.offset_core.specs.declared.resolve_error.ResolveError.TheVariants.{Gap, Fold, OutOfRange};
-ghost use Rattle.tests_pins.specs.Choices.{set_forward, set_back, forward, back, half_past, refuse, shift, earliest};
-ghost use Rattle.tests_pins.specs.Choices.{latest};
+ghost use Rattle.naive_base.specs.Range.{first_reading, first_second, last_second};
+ghost use Rattle.zoned_time.specs.{Choice.{IsBeforeGap, IsResolved, IsTaken, IsUnresolved}, Zoned.{Zoned}};
+ghost use Rattle.tests_pins.specs.Choices.{back, earliest, forward, half_past, latest, refuse, set_back, set_forward};
+ghost use Rattle.tests_pins.specs.Choices.{shift};
+
+use offset_core::ResolveError;
 
 /// Before the gap clocks were at 0, and by no other offset 00:30 is taken.
 pub fn gaps()
@@ -19,8 +18,8 @@ pub fn gaps()
     ensures shifted { (k : ℤ) → IsTaken set_forward (pos 1_800) shift k → k ≡ pos 0 }
     ensures is_shifted { IsTaken set_forward (pos 1_800) shift (pos 0) }
     ensures refused { (k : ℤ) → ¬ (IsTaken set_forward (pos 1_800) refuse k) }
-    ensures why { (e : ResolveError) → IsUnresolved set_forward (pos 1_800) refuse e → e ≡ Gap }
-    ensures is_why { IsUnresolved set_forward (pos 1_800) refuse Gap }
+    ensures why { (e : ResolveError) → IsUnresolved set_forward (pos 1_800) refuse e → e ≡ ResolveError.Gap }
+    ensures is_why { IsUnresolved set_forward (pos 1_800) refuse ResolveError.Gap }
     ensures instant { (d : Zoned ℤ) → IsResolved forward half_past shift d
         → d ≡ record { utc = half_past; offset = pos 3_600 } }
     ensures is_instant { IsResolved forward half_past shift
@@ -34,8 +33,8 @@ pub fn folds()
     ensures last { (k : ℤ) → IsTaken set_back (pos 1_800) latest k → k ≡ pos 0 }
     ensures is_last { IsTaken set_back (pos 1_800) latest (pos 0) }
     ensures refused { (k : ℤ) → ¬ (IsTaken set_back (pos 1_800) refuse k) }
-    ensures why { (e : ResolveError) → IsUnresolved set_back (pos 1_800) refuse e → e ≡ Fold }
-    ensures is_why { IsUnresolved set_back (pos 1_800) refuse Fold }
+    ensures why { (e : ResolveError) → IsUnresolved set_back (pos 1_800) refuse e → e ≡ ResolveError.Fold }
+    ensures is_why { IsUnresolved set_back (pos 1_800) refuse ResolveError.Fold }
     ensures instant { (d : Zoned ℤ) → IsResolved back half_past earliest d
         → d ≡ record {
           utc = record { s = neg_ℤ (pos 1_800); f = half_past.f };
@@ -50,14 +49,14 @@ pub fn folds()
 /// On clocks an hour ahead of UTC the first local date-time of the range has no instant in range, and the
 /// last second has one.
 pub fn range()
-    ensures below { IsUnresolved set_back first_second refuse OutOfRange }
+    ensures below { IsUnresolved set_back first_second refuse ResolveError.OutOfRange }
     ensures no_instant { (d : Zoned ℤ) → ¬ (IsResolved back first_reading refuse d) }
     ensures within { (e : ResolveError) → ¬ (IsUnresolved set_forward last_second refuse e) }
 {}
 
 /// The numbers of the reasons.
 pub fn numbers()
-    ensures gap { resolve_error_number Gap ≡ 21 }
-    ensures fold { resolve_error_number Fold ≡ 22 }
-    ensures out_of_range { resolve_error_number OutOfRange ≡ 23 }
+    ensures gap { resolve_error_number ResolveError.Gap ≡ 21 }
+    ensures fold { resolve_error_number ResolveError.Fold ≡ 22 }
+    ensures out_of_range { resolve_error_number ResolveError.OutOfRange ≡ 23 }
 {}

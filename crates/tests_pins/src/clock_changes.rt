@@ -1,13 +1,10 @@
 //! Clock changes: New York's in 2021, and what counts as one.
 
-ghost use Rattle.std.specs.Prelude.{◌≡◌, ◌∷◌, [], pos, neg_ℤ, Some, None, ⊤};
+ghost use Rattle.std.specs.Prelude.{◌∷◌, [], neg_ℤ, pos, ⊤};
 ghost use Rattle.tz_base.specs.LocalTypes.{LocalType};
-ghost use Rattle.tz_base.specs.declared.change.Change.{Change};
-ghost use Rattle.tz_info.specs.Changes.{IsChange, IsFirst, IsLast, IsFromUntil, AreChanges};
-ghost use Rattle.tz_info.specs.Zones.{TypeAt};
-ghost use Rattle.tests_pins.specs.Changes.{spring, autumn, at_epoch, change_at, cet, renamed};
-ghost use Rattle.tests_pins.specs.Changes.{dst_cet};
-ghost use Rattle.tests_pins.specs.NewYork.{new_york_zone, est, edt};
+ghost use Rattle.tz_info.specs.{Changes.{AreChanges, IsChange, IsFirst, IsFromUntil, IsLast}, Zones.{TypeAt}};
+ghost use Rattle.tests_pins.specs.Changes.{at_epoch, autumn, cet, change_at, dst_cet, renamed, spring};
+ghost use Rattle.tests_pins.specs.NewYork.{new_york_zone};
 
 /// EDT comes into force at 1615705200 and EST at 1636264800; nothing changes a second earlier.
 pub fn new_york()

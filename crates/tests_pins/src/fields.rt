@@ -2,14 +2,14 @@
 //! documentation has them.
 #![tactic(auto, using(crate::proofs::GivenDays::given_days), unfolding(crate::proofs::Computed::calendar))]
 
-ghost use Rattle.std.specs.Prelude.{◌≡◌, ℤ, pos, neg_ℤ, Option, Some, None};
-ghost use Rattle.naive_base.specs.Date.{day_number};
-ghost use Rattle.naive_base.specs.Fields.{IsDateGiven, IsOrdinalGiven, IsMonthsLater, IsDaysLater, with_hour};
-ghost use Rattle.naive_base.specs.Fields.{with_minute, with_second, with_fraction};
-ghost use Rattle.naive_base.specs.Months.{month_number, year_of_number, month_of_number};
-ghost use Rattle.naive_base.specs.Weekday.{weekday_of, weekday_number, days_from_monday};
-ghost use Rattle.naive_base.specs.declared.weekday.Weekday.TheVariants.{Mon, Tue, Wed, Thu, Fri, Sat, Sun};
-ghost use Rattle.tests_pins.specs.Fields.{itself, march_day, given, clock};
+ghost use Rattle.std.specs.Prelude.{◌≡◌, neg_ℤ, pos, Option, ℤ};
+ghost use Rattle.naive_base.specs.{Date.{day_number}, Months.{month_number, month_of_number, year_of_number}};
+ghost use Rattle.naive_base.specs.Fields.{with_fraction, with_hour, with_minute, with_second, IsDateGiven, IsDaysLater};
+ghost use Rattle.naive_base.specs.Fields.{IsMonthsLater, IsOrdinalGiven};
+ghost use Rattle.naive_base.specs.Weekday.{days_from_monday, weekday_number, weekday_of};
+ghost use Rattle.tests_pins.specs.Fields.{clock, given, itself, march_day};
+
+use naive_base::Weekday;
 
 /// Months are counted from January of the year 0.
 pub fn months_counted()
@@ -85,13 +85,13 @@ pub fn times()
 
 /// The weekdays of the week of 2021-03-14, and how many days each comes after Monday.
 pub fn weekdays()
-    ensures sunday { weekday_of (march_day 14) ≡ weekday_number Sun }
-    ensures monday { weekday_of (march_day 15) ≡ weekday_number Mon }
-    ensures tuesday { weekday_of (march_day 16) ≡ weekday_number Tue }
-    ensures wednesday { weekday_of (march_day 17) ≡ weekday_number Wed }
-    ensures thursday { weekday_of (march_day 18) ≡ weekday_number Thu }
-    ensures friday { weekday_of (march_day 19) ≡ weekday_number Fri }
-    ensures saturday { weekday_of (march_day 20) ≡ weekday_number Sat }
-    ensures after_itself { days_from_monday Mon ≡ 0 }
-    ensures after_monday { days_from_monday Sun ≡ 6 }
+    ensures sunday { weekday_of (march_day 14) ≡ weekday_number Weekday.Sun }
+    ensures monday { weekday_of (march_day 15) ≡ weekday_number Weekday.Mon }
+    ensures tuesday { weekday_of (march_day 16) ≡ weekday_number Weekday.Tue }
+    ensures wednesday { weekday_of (march_day 17) ≡ weekday_number Weekday.Wed }
+    ensures thursday { weekday_of (march_day 18) ≡ weekday_number Weekday.Thu }
+    ensures friday { weekday_of (march_day 19) ≡ weekday_number Weekday.Fri }
+    ensures saturday { weekday_of (march_day 20) ≡ weekday_number Weekday.Sat }
+    ensures after_itself { days_from_monday Weekday.Mon ≡ 0 }
+    ensures after_monday { days_from_monday Weekday.Sun ≡ 6 }
 {}

@@ -1,27 +1,18 @@
 //! Parts of TZif files, as Honolulu's file has them (RFC 8536 appendix B.2).
 
-ghost use Rattle.std.specs.Prelude.{◌≡◌, ℕ, Bool, true, false, [], ◌∷◌, ◌++◌, List, None, pos, neg_ℤ};
-ghost use Rattle.tz_base.specs.LocalTypes.{LocalType};
-ghost use Rattle.tz_base.specs.declared.error.Error.TheVariants.{InvalidTzFile, LocalTimeType};
-ghost use Rattle.tz_base.specs.declared.error.Expected.TheVariants.{OffsetAboveI32Min, TzTextInFooter};
-ghost use Rattle.tz_base.specs.declared.error.Expected.TheVariants.{ZeroOrOneAsIsDst};
-ghost use Rattle.tz_info.specs.FileContents.{IsMark, SpellsType, TypeFault, SpellsLeapSecond, IndicatorsAgree};
-ghost use Rattle.tz_info.specs.FileContents.{file_time};
-ghost use Rattle.tz_base.specs.Grammar.{Spells, be_u32};
-ghost use Rattle.tz_info.specs.FileHeaders.{version, six_counts, CountsAgree};
-ghost use Rattle.tz_info.specs.FilePieces.{FilePieces, after_first_block, is_extended};
-ghost use Rattle.tz_info.specs.FileBlocks.{block, Parts};
-ghost use Rattle.tz_info.specs.declared.file.header.Place.{Place};
-ghost use Rattle.tz_info.specs.declared.file.header.Place.TheVariants.{First};
-ghost use Rattle.tz_info.specs.declared.file.header.Counts.{Counts};
-ghost use Rattle.tz_info.specs.declared.file.header.Version.{Version};
-ghost use Rattle.tz_info.specs.declared.file.header.Version.TheVariants.{One, Two, Three};
-ghost use Rattle.tz_info.specs.Footers.{IsFooter, FooterFault};
-ghost use Rattle.tests_pins.specs.Honolulu.{designations, hst_record, hst_footer, first_time, least_time_bytes};
-ghost use Rattle.tests_pins.specs.Files.{one_to_six, of_types, short_record, long_record, one_leap_second};
-ghost use Rattle.tests_pins.specs.Files.{with_leap_second};
-ghost use Rattle.tests_pins.specs.LeapSeconds.{entry};
-ghost use Rattle.tests_pins.specs.Zones.{hst, hst10};
+ghost use Rattle.std.specs.Prelude.{◌≡◌, ◌++◌, ◌∷◌, [], false, neg_ℤ, pos, true, Bool, List, ℕ};
+ghost use Rattle.tz_base.specs.{Grammar.{be_u32, Spells}, LocalTypes.{LocalType}};
+ghost use Rattle.tz_info.specs.{FileBlocks.{block, Parts}, FilePieces.{after_first_block, is_extended, FilePieces}};
+ghost use Rattle.tz_info.specs.FileContents.{file_time, IndicatorsAgree, IsMark, SpellsLeapSecond, SpellsType};
+ghost use Rattle.tz_info.specs.FileContents.{TypeFault};
+ghost use Rattle.tz_info.specs.{FileHeaders.{six_counts, version, CountsAgree}, declared.file.header.Version.{Version}};
+ghost use Rattle.tz_info.specs.{Footers.{FooterFault, IsFooter}, declared.file.header.{Counts.{Counts}, Place.{Place}}};
+ghost use Rattle.tz_info.specs.declared.file.header.{Place.TheVariants.{First}, Version.TheVariants.{One, Three, Two}};
+ghost use Rattle.tests_pins.specs.Files.{long_record, of_types, one_leap_second, one_to_six, short_record};
+ghost use Rattle.tests_pins.specs.{Files.{with_leap_second}, LeapSeconds.{entry}, Zones.{hst, hst10}};
+ghost use Rattle.tests_pins.specs.Honolulu.{designations, first_time, hst_footer, hst_record, least_time_bytes};
+
+use tz_base::{Error, Expected};
 
 /// A 0 byte and the digits 2 and 3 are versions; 1 and 4 aren't. Nothing comes after the block of
 /// version 1.
@@ -94,9 +85,9 @@ pub fn types()
 /// 32 bits is a fault.
 pub fn type_faults()
     ensures flag { TypeFault designations (128 ∷ 0 ∷ 0 ∷ 0 ∷ 2 ∷ 0 ∷ [])
-        (InvalidTzFile ZeroOrOneAsIsDst) }
+        (Error.InvalidTzFile Expected.ZeroOrOneAsIsDst) }
     ensures not_offset { ¬ (TypeFault designations (128 ∷ 0 ∷ 0 ∷ 0 ∷ 2 ∷ 0 ∷ [])
-        (LocalTimeType OffsetAboveI32Min)) }
+        (Error.LocalTimeType Expected.OffsetAboveI32Min)) }
 {}
 
 /// Honolulu's footer, `HST10` between newlines, says a rule of one type. One newline alone says
@@ -104,7 +95,7 @@ pub fn type_faults()
 pub fn footers()
     ensures hst { IsFooter false hst_footer hst10 }
     ensures none { IsFooter false (10 ∷ []) None }
-    ensures colon { FooterFault false (10 ∷ 58 ∷ 10 ∷ []) (InvalidTzFile TzTextInFooter) }
+    ensures colon { FooterFault false (10 ∷ 58 ∷ 10 ∷ []) (Error.InvalidTzFile Expected.TzTextInFooter) }
 {}
 
 /// A leap second's record: its time, and the correction from then on. 1972-06-30 23:59:60 was the

@@ -1,23 +1,18 @@
 //! The file of Pacific/Honolulu, whole (RFC 8536 appendix B.2): its bytes spell the lists that the
 //! appendix says, these make a zone, and they spell no other.
 
-ghost use Rattle.std.specs.Prelude.{◌≡◌, ℕ, List, [], ◌∷◌, ◌++◌, None, pos, neg_ℤ};
+ghost use Rattle.std.specs.Prelude.{◌≡◌, ◌++◌, ◌∷◌, [], neg_ℤ, pos, List, ℕ};
 ghost use Rattle.tz_base.specs.Grammar.{Spells};
-ghost use Rattle.tz_base.specs.declared.error.Error.TheVariants.{InvalidTzFile, UnsupportedTzFile};
-ghost use Rattle.tz_base.specs.declared.error.Expected.TheVariants.{NothingAfterBlockOfVersion1, Version1To3};
-ghost use Rattle.tz_base.specs.declared.error.Expected.TheVariants.{Version2Or3InSecondHeader};
-ghost use Rattle.tz_info.specs.FileBlocks.{block as a_block};
-ghost use Rattle.tz_info.specs.FileContents.{SpellTransitions, SpellTypes, IndicatorsAgree};
-ghost use Rattle.tz_info.specs.FileHeaders.{header as a_header};
-ghost use Rattle.tz_info.specs.FilePieces.{HasPieces};
-ghost use Rattle.tz_info.specs.TzFiles.{IsTzFile, IsZoneFault};
-ghost use Rattle.tz_info.specs.Zones.{Zone, IsValid};
-ghost use Rattle.tz_info.specs.declared.file.header.Place.TheVariants.{First, Second};
-ghost use Rattle.tz_info.specs.declared.file.header.Version.TheVariants.{Two};
-ghost use Rattle.tests_pins.specs.Honolulu.{counts, honolulu_header, short_times, long_times, type_indexes};
-ghost use Rattle.tests_pins.specs.Honolulu.{type_records, designations, indicators, parts, honolulu_block, pieces};
-ghost use Rattle.tests_pins.specs.Honolulu.{file_with, honolulu_file, short_file};
+ghost use Rattle.tz_info.specs.{FileBlocks.{block as a_block}, Zones.{IsValid, Zone}};
+ghost use Rattle.tz_info.specs.{FileContents.{IndicatorsAgree, SpellTransitions, SpellTypes}, FilePieces.{HasPieces}};
+ghost use Rattle.tz_info.specs.{FileHeaders.{header as a_header}, TzFiles.{IsTzFile, IsZoneFault}};
+ghost use Rattle.tz_info.specs.declared.file.header.{Place.TheVariants.{First, Second}, Version.TheVariants.{Two}};
+ghost use Rattle.tests_pins.specs.Honolulu.{counts, designations, file_with, honolulu_block, honolulu_file};
+ghost use Rattle.tests_pins.specs.Honolulu.{honolulu_header, indicators, long_times, parts, pieces, short_file};
+ghost use Rattle.tests_pins.specs.Honolulu.{short_times, type_indexes, type_records};
 ghost use Rattle.tests_pins.specs.Zones.{honolulu, honolulu_from, hst10};
+
+use tz_base::{Error, Expected};
 
 /// Both headers are of version 2, and have the same counts.
 pub fn headers()
@@ -62,13 +57,13 @@ pub fn version_1()
     ensures spells { IsTzFile short_file (honolulu_from (neg_ℤ (pos 2_147_483_648)) None) }
     ensures byte_after { (b : ℕ) (z : Zone) → ¬ (IsTzFile (short_file ++ (b ∷ [])) z) }
     ensures byte_after_fault { (b : ℕ) → IsZoneFault (short_file ++ (b ∷ []))
-        (InvalidTzFile NothingAfterBlockOfVersion1) }
+        (Error.InvalidTzFile Expected.NothingAfterBlockOfVersion1) }
 {}
 
 /// With a second header of version 1, or with the digit 1 in its place, the bytes are no file.
 pub fn second_versions()
     ensures version_1 { (z : Zone) → ¬ (IsTzFile (file_with 0) z) }
-    ensures version_1_fault { IsZoneFault (file_with 0) (InvalidTzFile Version2Or3InSecondHeader) }
+    ensures version_1_fault { IsZoneFault (file_with 0) (Error.InvalidTzFile Expected.Version2Or3InSecondHeader) }
     ensures digit_1 { (z : Zone) → ¬ (IsTzFile (file_with 49) z) }
-    ensures digit_1_fault { IsZoneFault (file_with 49) (UnsupportedTzFile Version1To3) }
+    ensures digit_1_fault { IsZoneFault (file_with 49) (Error.UnsupportedTzFile Expected.Version1To3) }
 {}

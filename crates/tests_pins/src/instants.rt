@@ -1,20 +1,14 @@
 //! Instants: what clocks with an offset show then, their order, their timestamps, and whole years
 //! between what two clocks show.
 
-ghost use Rattle.std.specs.Prelude.{◌≡◌, ℤ, pos, neg_ℤ};
-ghost use Rattle.naive_base.specs.NaiveDate.{day_of};
-ghost use Rattle.naive_base.specs.Reading.{Reading};
-ghost use Rattle.naive_base.specs.Stamp.{IsSubsecond};
-ghost use Rattle.naive_base.specs.declared.date.NaiveDate.{NaiveDate};
-ghost use Rattle.zoned_time.specs.Order.{compared};
-ghost use Rattle.zoned_time.specs.Relocal.{instant_of};
-ghost use Rattle.zoned_time.specs.Stamps.{millis_of, micros_of, of_millis, of_micros};
-ghost use Rattle.zoned_time.specs.Years.{IsWholeYears};
-ghost use Rattle.zoned_time.specs.Zone.{midnight_of};
-ghost use Rattle.zoned_time.specs.Zoned.{Zoned, local_of};
-ghost use Rattle.tests_pins.specs.Readings.{clock_reading};
-ghost use Rattle.tests_pins.specs.Instants.{own_seconds, in_new_york, noon};
-ghost use Rattle.std.specs.declared.cmp.Ordering.TheVariants as orders;
+ghost use Rattle.std.specs.Prelude.{◌≡◌, neg_ℤ, pos, ℤ};
+ghost use Rattle.naive_base.specs.{NaiveDate.{day_of}, Stamp.{IsSubsecond}};
+ghost use Rattle.zoned_time.specs.{Order.{compared}, Years.{IsWholeYears}, Zone.{midnight_of}, Zoned.{local_of}};
+ghost use Rattle.zoned_time.specs.{Relocal.{instant_of}, Stamps.{micros_of, millis_of, of_micros, of_millis}};
+ghost use Rattle.tests_pins.specs.{Instants.{in_new_york, noon, own_seconds}, Readings.{clock_reading}};
+
+use naive_base::NaiveDate;
+use std::cmp::Ordering;
 
 /// New York's clocks show 2021-11-07 01:30:00 five hours and a half after 06:30:00 of UTC began to
 /// be shown at Greenwich: at an offset of -5 hours.
@@ -39,12 +33,12 @@ pub fn midnights()
 
 /// By the second first, then by the nanoseconds.
 pub fn order()
-    ensures second { compared (clock_reading 3 0 1 0) (clock_reading 3 0 0 999) ≡ orders.Greater }
+    ensures second { compared (clock_reading 3 0 1 0) (clock_reading 3 0 0 999) ≡ Ordering.Greater }
     ensures nanoseconds { compared (clock_reading 3 0 0 998) (clock_reading 3 0 0 999)
-        ≡ orders.Less }
+        ≡ Ordering.Less }
     ensures leap_second { compared (clock_reading 2 59 59 1_999) (clock_reading 3 0 0 0)
-        ≡ orders.Less }
-    ensures same { compared (clock_reading 3 0 0 0) (clock_reading 3 0 0 0) ≡ orders.Equal }
+        ≡ Ordering.Less }
+    ensures same { compared (clock_reading 3 0 0 0) (clock_reading 3 0 0 0) ≡ Ordering.Equal }
 {}
 
 /// 1,444 milliseconds after 1970 began, a nanosecond before, and a leap second.

@@ -1,18 +1,14 @@
 //! Clock changes of parsed zones as two instants, and zones that are not kept.
 
-ghost use Rattle.std.specs.Prelude.{◌≡◌, ◌∷◌, [], pos, neg_ℤ};
-ghost use Rattle.naive_base.specs.Range.{first_second, last_second};
-ghost use Rattle.naive_base.specs.Stamp.{of_secs};
-ghost use Rattle.zoned_ref.specs.ZoneChange.{IsAfter, IsUpTo, change_of_instants};
-ghost use Rattle.zoned_ref.specs.Offsets.{IsNarrow};
-ghost use Rattle.tz_base.specs.declared.error.Error.TheVariants as faults;
-ghost use Rattle.zoned_ref.specs.KeepError.{IsRefused, given_back};
-ghost use Rattle.zoned_ref.specs.OpenError.{reason_of};
-ghost use Rattle.zoned_ref.specs.declared.keep_error.OpenError.TheVariants as why;
-ghost use Rattle.zoned_ref.specs.declared.keep_error.KeepError.TheVariants.{WideZone, OutOfMemory};
-ghost use Rattle.tests_pins.specs.Changes.{spring, wide};
-ghost use Rattle.tests_pins.specs.NewYork.{new_york_zone, est, edt};
-ghost use Rattle.tests_pins.specs.Zones.{utc_zone};
+ghost use Rattle.std.specs.Prelude.{◌≡◌, pos};
+ghost use Rattle.naive_base.specs.{Range.{first_second, last_second}, Stamp.{of_secs}};
+ghost use Rattle.zoned_ref.specs.{KeepError.{given_back, IsRefused}, ZoneChange.{change_of_instants, IsAfter, IsUpTo}};
+ghost use Rattle.zoned_ref.specs.{Offsets.{IsNarrow}, OpenError.{reason_of}};
+ghost use Rattle.zoned_ref.specs.declared.keep_error.KeepError.TheVariants.{OutOfMemory, WideZone};
+ghost use Rattle.tests_pins.specs.{Changes.{spring, wide}, NewYork.{edt, est}, Zones.{utc_zone}};
+
+use tz_base::Error;
+use zoned_ref::OpenError;
 
 /// 06:59:59 UTC with EST and 07:00:00 UTC with EDT are New York's change of 14 March 2021.
 pub fn changes()
@@ -37,6 +33,6 @@ pub fn not_kept()
     ensures memory { IsRefused utc_zone (OutOfMemory utc_zone) }
     ensures other_zone { ¬ (IsRefused utc_zone (OutOfMemory wide)) }
     ensures back { given_back (WideZone wide) ≡ wide }
-    ensures reason { reason_of (WideZone wide) ≡ why.WideZone }
-    ensures no_memory { reason_of (OutOfMemory utc_zone) ≡ why.Zone faults.OutOfMemory }
+    ensures reason { reason_of (WideZone wide) ≡ OpenError.WideZone }
+    ensures no_memory { reason_of (OutOfMemory utc_zone) ≡ OpenError.Zone Error.OutOfMemory }
 {}

@@ -1,17 +1,14 @@
 //! Plans: their local times after and up to another one, and lines of a crontab.
 #![tactic(auto)]
 
-ghost use Rattle.std.specs.Prelude.{◌≡◌, ◌⊎◌, ℕ, ℤ, pos, neg_ℤ};
-ghost use Rattle.naive_base.specs.declared.weekday.Weekday.TheVariants.{Mon};
-ghost use Rattle.naive_plans.specs.ClockSteps.{BeginsStep, IsPart};
-ghost use Rattle.naive_plans.specs.Cron.{IsCronDay, IsCronTime};
+ghost use Rattle.std.specs.Prelude.{◌≡◌, ◌⊎◌, neg_ℤ, pos, ℕ, ℤ};
+ghost use Rattle.naive_plans.specs.{ClockSteps.{BeginsStep, IsPart}, Plans.{IsLastUntil, IsNextAfter}};
+ghost use Rattle.naive_plans.specs.{Cron.{IsCronDay, IsCronTime}, PartsOfDay.{IsPartOfDay}};
 ghost use Rattle.naive_plans.specs.DayPlans.{IsFirstSecondFrom, IsLastSecondUntil, IsPlannedOnItsDay};
-ghost use Rattle.naive_plans.specs.PartsOfDay.{IsPartOfDay};
-ghost use Rattle.naive_plans.specs.Plans.{IsLastUntil, IsNextAfter};
-ghost use Rattle.naive_plans.specs.declared.clock_step.ClockStep.TheVariants as steps;
-ghost use Rattle.naive_plans.specs.declared.cron.Cron.{Cron};
-ghost use Rattle.naive_plans.specs.declared.part_of_day.PartOfDay.{PartOfDay};
-ghost use Rattle.tests_pins.specs.Plans.{IsAlsoOnFridays, IsOnTheFirst, daily};
+ghost use Rattle.tests_pins.specs.Plans.{daily, IsAlsoOnFridays, IsOnTheFirst};
+
+use naive_base::Weekday;
+use naive_plans::{ClockStep, Cron, PartOfDay};
 
 /// 02:30 on each day. After 1970-01-01 02:30, the second 9,000, comes that of the next day, and up to
 /// a second before it that of 1969-12-31.
@@ -55,26 +52,26 @@ pub fn on_the_first()
 /// Midnights of Monday 2021-03-15, of 2021-03-01 and of 2021-01-01, the days 18701, 18687 and 18628, begin
 /// a week from Monday on, a month and a year, and those of the days after them don't.
 pub fn beginnings_of_weeks_and_months()
-    ensures monday { BeginsStep (steps.Week Mon) (pos 1_615_766_400) }
-    ensures tuesday { BeginsStep (steps.Week Mon) (pos 1_615_852_800) → ⊥ }
-    ensures first { BeginsStep steps.Month (pos 1_614_556_800) }
-    ensures second { BeginsStep steps.Month (pos 1_614_643_200) → ⊥ }
-    ensures january { BeginsStep steps.Year (pos 1_609_459_200) }
-    ensures not_the_second { BeginsStep steps.Year (pos 1_609_545_600) → ⊥ }
+    ensures monday { BeginsStep (ClockStep.Week Weekday.Mon) (pos 1_615_766_400) }
+    ensures tuesday { BeginsStep (ClockStep.Week Weekday.Mon) (pos 1_615_852_800) → ⊥ }
+    ensures first { BeginsStep ClockStep.Month (pos 1_614_556_800) }
+    ensures second { BeginsStep ClockStep.Month (pos 1_614_643_200) → ⊥ }
+    ensures january { BeginsStep ClockStep.Year (pos 1_609_459_200) }
+    ensures not_the_second { BeginsStep ClockStep.Year (pos 1_609_545_600) → ⊥ }
 {}
 
 /// 1970-01-01 02:00:00 begins an hour and no day; a second later none begins. The second before 1970 begins
 /// no day, and the first one of 1970 does. A day has a whole number of hours, and not of seven hours.
 pub fn beginnings_in_days()
     ensures hour { (hour : PartOfDay) → hour.seconds ≡ 3_600
-        → BeginsStep (steps.Part hour) (pos 7_200) }
+        → BeginsStep (ClockStep.Part hour) (pos 7_200) }
     ensures later { (hour : PartOfDay) → hour.seconds ≡ 3_600
-        → BeginsStep (steps.Part hour) (pos 7_201) → ⊥ }
-    ensures no_day { BeginsStep steps.Day (pos 7_200) → ⊥ }
-    ensures midnight { BeginsStep steps.Day (pos 0) }
-    ensures is_part { (hour : PartOfDay) → hour.seconds ≡ 3_600 → IsPart 3_600 (steps.Part hour) }
-    ensures no_part { IsPart 86_400 steps.Day → ⊥ }
+        → BeginsStep (ClockStep.Part hour) (pos 7_201) → ⊥ }
+    ensures no_day { BeginsStep ClockStep.Day (pos 7_200) → ⊥ }
+    ensures midnight { BeginsStep ClockStep.Day (pos 0) }
+    ensures is_part { (hour : PartOfDay) → hour.seconds ≡ 3_600 → IsPart 3_600 (ClockStep.Part hour) }
+    ensures no_part { IsPart 86_400 ClockStep.Day → ⊥ }
     ensures whole { IsPartOfDay 3_600 }
     ensures not_whole { IsPartOfDay 25_200 → ⊥ }
-    ensures before { BeginsStep steps.Day (neg_ℤ (pos 1)) → ⊥ }
+    ensures before { BeginsStep ClockStep.Day (neg_ℤ (pos 1)) → ⊥ }
 {}

@@ -1,11 +1,9 @@
 //! Printed bytes of offsets, times, dates and local date-times.
 #![tactic(auto, unfolding(crate::proofs::Computed::printing))]
 
-ghost use Rattle.std.specs.Prelude.{◌≡◌, ◌∷◌, pos, neg_ℤ, codes};
-ghost use Rattle.std.specs.Fmt.{decimal};
-ghost use Rattle.offset_core.specs.Offset.{IsWithinDay, offset_text};
-ghost use Rattle.naive_base.specs.Reading.{Reading};
-ghost use Rattle.naive_base.specs.Text.{year_text, time_text, date_text, reading_text};
+ghost use Rattle.std.specs.{Fmt.{decimal}, Prelude.{◌≡◌, ◌∷◌, codes, neg_ℤ, pos}};
+ghost use Rattle.offset_core.specs.Offset.{offset_text, IsWithinDay};
+ghost use Rattle.naive_base.specs.Text.{date_text, reading_text, time_text, year_text};
 
 /// Strictly within a day.
 pub fn limits()

@@ -1,24 +1,18 @@
 //! Clock changes as text: the lines of `zdump -v`, a line of a table, and JSON.
 #![tactic(auto, using(crate::proofs::ChangeDays::march_2021), unfolding(crate::proofs::Computed::wording))]
 
-ghost use Rattle.std.specs.Prelude.{◌≡◌, ◌∷◌, [], ◌++◌, codes, pos, neg_ℤ, true, false};
-ghost use Rattle.json.specs.Print.{print};
-ghost use Rattle.json.specs.Tree.{json_tokens};
-ghost use Rattle.zonedump_lib.specs.ChangeLines.{change_lines};
-ghost use Rattle.zonedump_lib.specs.ChangeValues.{change_value, step_name, type_value};
-ghost use Rattle.zonedump_lib.specs.Words.{offset_words, type_words, step_words};
-ghost use Rattle.zonedump_lib.specs.ZdumpLines.{pair_lines, first_lines, last_lines, short_month};
-ghost use Rattle.zonedump_lib.specs.ZdumpLines.{short_weekday, short_day, flag_text};
-ghost use Rattle.zonedump_lib.specs.DifferenceForms.{difference_lines, differences_value, lone_value};
-ghost use Rattle.zonedump_lib.specs.DifferenceForms.{moved_by};
+ghost use Rattle.std.specs.Prelude.{◌≡◌, ◌++◌, ◌∷◌, [], codes, false, neg_ℤ, pos, true};
+ghost use Rattle.json.specs.{Print.{print}, Tree.{json_tokens}};
 ghost use Rattle.naive_base.specs.NaiveDate.{day_of};
-ghost use Rattle.naive_base.specs.declared.date.NaiveDate.{NaiveDate};
-ghost use Rattle.zonedump_lib.specs.Periods.{IsPeriod, bound_value, bound_words, first_second};
-ghost use Rattle.zonedump_lib.specs.Periods.{second_after};
-ghost use Rattle.zonedump_lib.specs.declared.period.Bound.TheVariants.{Date, Year};
-ghost use Rattle.tests_pins.specs.Changes.{change_at, spring, unnamed};
-ghost use Rattle.tests_pins.specs.Differences.{in_march};
-ghost use Rattle.tests_pins.specs.NewYork.{est, edt};
+ghost use Rattle.zonedump_lib.specs.{ChangeLines.{change_lines}, ChangeValues.{change_value, step_name, type_value}};
+ghost use Rattle.zonedump_lib.specs.DifferenceForms.{difference_lines, differences_value, lone_value, moved_by};
+ghost use Rattle.zonedump_lib.specs.Periods.{bound_value, bound_words, first_second, second_after, IsPeriod};
+ghost use Rattle.zonedump_lib.specs.{Words.{offset_words, step_words, type_words}, ZdumpLines.{short_weekday}};
+ghost use Rattle.zonedump_lib.specs.ZdumpLines.{first_lines, flag_text, last_lines, pair_lines, short_day, short_month};
+ghost use Rattle.tests_pins.specs.{Changes.{change_at, spring, unnamed}, Differences.{in_march}, NewYork.{edt, est}};
+
+use naive_base::NaiveDate;
+use zonedump_lib::Bound;
 
 /// What `zdump -v` prints of New York's change on 11 March 2007.
 pub fn zdump_pair()
@@ -106,20 +100,20 @@ pub fn json_words()
 /// the year before.
 pub fn days()
     ensures begins { (d : NaiveDate) → day_of d ≡ pos 18_700
-        → first_second (Date d) ≡ pos 1_615_680_000 }
+        → first_second (Bound.Date d) ≡ pos 1_615_680_000 }
     ensures ends { (d : NaiveDate) → day_of d ≡ pos 18_700
-        → second_after (Date d) ≡ pos 1_615_766_400 }
+        → second_after (Bound.Date d) ≡ pos 1_615_766_400 }
     ensures words { (d : NaiveDate) → day_of d ≡ pos 18_700
-        → bound_words (Date d) ≡ codes "2021-03-14" }
+        → bound_words (Bound.Date d) ≡ codes "2021-03-14" }
     ensures json { (d : NaiveDate) → day_of d ≡ pos 18_700
-        → print (json_tokens (bound_value (Date d))) ≡ codes "\"2021-03-14\"" }
-    ensures one_day { (d : NaiveDate) → day_of d ≡ pos 18_700 → IsPeriod (Date d) (Date d) }
+        → print (json_tokens (bound_value (Bound.Date d))) ≡ codes "\"2021-03-14\"" }
+    ensures one_day { (d : NaiveDate) → day_of d ≡ pos 18_700 → IsPeriod (Bound.Date d) (Bound.Date d) }
     ensures in_its_year { (d : NaiveDate) → day_of d ≡ pos 18_700
-        → IsPeriod (Date d) (Year 2021) }
+        → IsPeriod (Bound.Date d) (Bound.Year 2021) }
     ensures over_before { (d : NaiveDate) → day_of d ≡ pos 18_700
-        → IsPeriod (Date d) (Year 2020) → ⊥ }
-    ensures no_year { IsPeriod (Year 0) (Year 2021) → ⊥ }
-    ensures five_digits { IsPeriod (Year 2021) (Year 10_000) → ⊥ }
+        → IsPeriod (Bound.Date d) (Bound.Year 2020) → ⊥ }
+    ensures no_year { IsPeriod (Bound.Year 0) (Bound.Year 2021) → ⊥ }
+    ensures five_digits { IsPeriod (Bound.Year 2021) (Bound.Year 10_000) → ⊥ }
 {}
 
 /// An hour in which one zone has EST and another one EDT, whose clocks are an hour ahead: as a line and as
@@ -130,7 +124,7 @@ pub fn differences()
         ≡ codes "2021-03-14 07:00:00 to 2021-03-14 08:00:00 UTC  -05:00 std EST"
         ++ codes " -> -04:00 dst EDT  moved by 3600 s\n" }
     ensures json { print (json_tokens (differences_value (codes "a") (codes "b")
-        (Year 2021) (Year 2022) (in_march ∷ [])))
+        (Bound.Year 2021) (Bound.Year 2022) (in_march ∷ [])))
         ≡ codes "{\"old\":\"a\",\"new\":\"b\",\"from\":2021,\"to\":2022,\"differences\":["
         ++ codes "{\"from\":1615705200,\"from_utc\":\"2021-03-14 07:00:00\","
         ++ codes "\"until\":1615708800,\"until_utc\":\"2021-03-14 08:00:00\","

@@ -1,15 +1,12 @@
 //! Multiples and digits, as chrono's documentation of rounding has them.
 
-ghost use Rattle.std.specs.Prelude.{◌≡◌, pos, neg_ℤ, codes};
-ghost use Rattle.zoned_round.specs.Durations.{IsRoundingLength};
-ghost use Rattle.zoned_round.specs.Errors.{IsRoundingFault, message};
-ghost use Rattle.zoned_round.specs.Multiples.{multiple_below, multiple_above, nearest_multiple};
-ghost use Rattle.zoned_round.specs.Subseconds.{rounded, cut};
-ghost use Rattle.zoned_round.specs.declared.error.RoundingError.{RoundingError};
-ghost use Rattle.zoned_round.specs.declared.error.RoundingError.TheVariants.{DurationExceedsLimit};
-ghost use Rattle.zoned_round.specs.declared.error.RoundingError.TheVariants.{DurationExceedsTimestamp};
-ghost use Rattle.zoned_round.specs.declared.error.RoundingError.TheVariants.{TimestampExceedsLimit};
+ghost use Rattle.std.specs.Prelude.{◌≡◌, codes, neg_ℤ, pos};
+ghost use Rattle.zoned_round.specs.{Durations.{IsRoundingLength}, Errors.{message, IsRoundingFault}};
+ghost use Rattle.zoned_round.specs.Multiples.{multiple_above, multiple_below, nearest_multiple};
+ghost use Rattle.zoned_round.specs.Subseconds.{cut, rounded};
 ghost use Rattle.tests_pins.specs.Readings.{clock_reading};
+
+use zoned_round::RoundingError;
 
 /// 12:00:00.154 to ten milliseconds is 12:00:00.150, and to a day the next midnight. A tie goes up,
 /// before 1970 too.
@@ -33,13 +30,13 @@ pub fn refusals()
     ensures shortest { IsRoundingLength (pos 1) }
     ensures longest { IsRoundingLength (pos 9_223_372_036_854_775_807) }
     ensures too_long { ¬ (IsRoundingLength (pos 9_223_372_036_854_775_808)) }
-    ensures both { (e : RoundingError) → IsRoundingFault ⊥ ⊥ e → e ≡ DurationExceedsLimit }
-    ensures is_both { IsRoundingFault ⊥ ⊥ DurationExceedsLimit }
-    ensures limit { message DurationExceedsLimit
+    ensures both { (e : RoundingError) → IsRoundingFault ⊥ ⊥ e → e ≡ RoundingError.DurationExceedsLimit }
+    ensures is_both { IsRoundingFault ⊥ ⊥ RoundingError.DurationExceedsLimit }
+    ensures limit { message RoundingError.DurationExceedsLimit
         ≡ codes "duration exceeds num_nanoseconds limit" }
-    ensures timestamp { message TimestampExceedsLimit
+    ensures timestamp { message RoundingError.TimestampExceedsLimit
         ≡ codes "timestamp exceeds num_nanoseconds limit" }
-    ensures exceeds { message DurationExceedsTimestamp
+    ensures exceeds { message RoundingError.DurationExceedsTimestamp
         ≡ codes "duration in nanoseconds exceeds timestamp" }
 {}
 

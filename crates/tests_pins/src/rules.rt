@@ -1,45 +1,42 @@
 //! The days of rules, and New York's clocks in 2021 by `EST5EDT,M3.2.0,M11.1.0` (POSIX.1 section
 //! 8.3).
 
-ghost use Rattle.std.specs.Prelude.{◌≡◌, pos, neg_ℤ};
+ghost use Rattle.std.specs.Prelude.{◌≡◌, neg_ℤ, pos};
 ghost use Rattle.naive_base.specs.Date.{day_number};
-ghost use Rattle.tz_info.specs.RuleDays.{IsDayOf, IsRuleDay};
-ghost use Rattle.tz_info.specs.RuleDayOf.{rule_day};
-ghost use Rattle.tz_info.specs.Rules.{IsWithinWeek};
-ghost use Rattle.tz_info.specs.Moments.{start_in, end_in, IsYearOf, IsRuleYear};
-ghost use Rattle.tz_info.specs.RuleTypes.{RuleAt, IsRuleRefused};
-ghost use Rattle.tz_info.specs.declared.rule.day.DayForm.TheVariants.{Julian1, Julian0};
-ghost use Rattle.tz_info.specs.declared.rule.day.DayForm.TheVariants.{MonthWeekday};
-ghost use Rattle.tests_pins.specs.NewYork.{new_york, new_york_rule, est, edt};
+ghost use Rattle.tz_info.specs.{Moments.{end_in, start_in, IsRuleYear, IsYearOf}, RuleTypes.{IsRuleRefused, RuleAt}};
+ghost use Rattle.tz_info.specs.{RuleDayOf.{rule_day}, RuleDays.{IsDayOf, IsRuleDay}, Rules.{IsWithinWeek}};
+ghost use Rattle.tests_pins.specs.NewYork.{edt, est, new_york, new_york_rule};
+
+use tz_info::DayForm;
 
 /// `Jn` never counts 29 February, `n` does, from 0 on; week 5 of `Mm.w.d` is the last.
 pub fn days()
-    ensures j60_common { rule_day (Julian1 60) (pos 2021) ≡ day_number (pos 2021) 3 1 }
-    ensures j60_leap { rule_day (Julian1 60) (pos 2024) ≡ day_number (pos 2024) 3 1 }
-    ensures j59_leap { rule_day (Julian1 59) (pos 2024) ≡ day_number (pos 2024) 2 28 }
-    ensures j1 { rule_day (Julian1 1) (pos 2024) ≡ day_number (pos 2024) 1 1 }
-    ensures n59_common { rule_day (Julian0 59) (pos 2021) ≡ day_number (pos 2021) 3 1 }
-    ensures n59_leap { rule_day (Julian0 59) (pos 2024) ≡ day_number (pos 2024) 2 29 }
-    ensures n0 { rule_day (Julian0 0) (pos 2024) ≡ day_number (pos 2024) 1 1 }
-    ensures second_sunday { rule_day (MonthWeekday 3 2 0) (pos 2021)
+    ensures j60_common { rule_day (DayForm.Julian1 60) (pos 2021) ≡ day_number (pos 2021) 3 1 }
+    ensures j60_leap { rule_day (DayForm.Julian1 60) (pos 2024) ≡ day_number (pos 2024) 3 1 }
+    ensures j59_leap { rule_day (DayForm.Julian1 59) (pos 2024) ≡ day_number (pos 2024) 2 28 }
+    ensures j1 { rule_day (DayForm.Julian1 1) (pos 2024) ≡ day_number (pos 2024) 1 1 }
+    ensures n59_common { rule_day (DayForm.Julian0 59) (pos 2021) ≡ day_number (pos 2021) 3 1 }
+    ensures n59_leap { rule_day (DayForm.Julian0 59) (pos 2024) ≡ day_number (pos 2024) 2 29 }
+    ensures n0 { rule_day (DayForm.Julian0 0) (pos 2024) ≡ day_number (pos 2024) 1 1 }
+    ensures second_sunday { rule_day (DayForm.MonthWeekday 3 2 0) (pos 2021)
         ≡ day_number (pos 2021) 3 14 }
-    ensures first_sunday { rule_day (MonthWeekday 11 1 0) (pos 2021)
+    ensures first_sunday { rule_day (DayForm.MonthWeekday 11 1 0) (pos 2021)
         ≡ day_number (pos 2021) 11 7 }
-    ensures last_sunday { rule_day (MonthWeekday 10 5 0) (pos 2021)
+    ensures last_sunday { rule_day (DayForm.MonthWeekday 10 5 0) (pos 2021)
         ≡ day_number (pos 2021) 10 31 }
-    ensures fourth_is_last { rule_day (MonthWeekday 3 5 0) (pos 2021)
+    ensures fourth_is_last { rule_day (DayForm.MonthWeekday 3 5 0) (pos 2021)
         ≡ day_number (pos 2021) 3 28 }
 {}
 
 /// The same days, by what a day of a rule is: 1 March is the 60th of 365 dates, 29 February comes
 /// 59 days after 1 January, 14 March 2021 is the second Sunday, and 28 March 2021 the last.
 pub fn days_themselves()
-    ensures j60_leap { IsDayOf (Julian1 60) (pos 2024) (day_number (pos 2024) 3 1) }
-    ensures n59_leap { IsDayOf (Julian0 59) (pos 2024) (day_number (pos 2024) 2 29) }
-    ensures second_sunday { IsDayOf (MonthWeekday 3 2 0) (pos 2021) (day_number (pos 2021) 3 14) }
-    ensures last_sunday { IsDayOf (MonthWeekday 3 5 0) (pos 2021) (day_number (pos 2021) 3 28) }
-    ensures first_monday { IsDayOf (MonthWeekday 11 1 1) (pos 2021) (day_number (pos 2021) 11 1) }
-    ensures seventh_of_month { IsDayOf (MonthWeekday 11 1 0) (pos 2021)
+    ensures j60_leap { IsDayOf (DayForm.Julian1 60) (pos 2024) (day_number (pos 2024) 3 1) }
+    ensures n59_leap { IsDayOf (DayForm.Julian0 59) (pos 2024) (day_number (pos 2024) 2 29) }
+    ensures second_sunday { IsDayOf (DayForm.MonthWeekday 3 2 0) (pos 2021) (day_number (pos 2021) 3 14) }
+    ensures last_sunday { IsDayOf (DayForm.MonthWeekday 3 5 0) (pos 2021) (day_number (pos 2021) 3 28) }
+    ensures first_monday { IsDayOf (DayForm.MonthWeekday 11 1 1) (pos 2021) (day_number (pos 2021) 11 1) }
+    ensures seventh_of_month { IsDayOf (DayForm.MonthWeekday 11 1 0) (pos 2021)
         (day_number (pos 2021) 11 7) }
 {}
 
@@ -53,16 +50,16 @@ pub fn times()
 
 /// The numbers that a day may have.
 pub fn limits()
-    ensures j0 { ¬ (IsRuleDay (Julian1 0)) }
-    ensures j365 { IsRuleDay (Julian1 365) }
-    ensures j366 { ¬ (IsRuleDay (Julian1 366)) }
-    ensures n365 { IsRuleDay (Julian0 365) }
-    ensures n366 { ¬ (IsRuleDay (Julian0 366)) }
-    ensures month_13 { ¬ (IsRuleDay (MonthWeekday 13 1 0)) }
-    ensures week_0 { ¬ (IsRuleDay (MonthWeekday 3 0 0)) }
-    ensures week_6 { ¬ (IsRuleDay (MonthWeekday 3 6 0)) }
-    ensures saturday { IsRuleDay (MonthWeekday 3 1 6) }
-    ensures weekday_7 { ¬ (IsRuleDay (MonthWeekday 3 1 7)) }
+    ensures j0 { ¬ (IsRuleDay (DayForm.Julian1 0)) }
+    ensures j365 { IsRuleDay (DayForm.Julian1 365) }
+    ensures j366 { ¬ (IsRuleDay (DayForm.Julian1 366)) }
+    ensures n365 { IsRuleDay (DayForm.Julian0 365) }
+    ensures n366 { ¬ (IsRuleDay (DayForm.Julian0 366)) }
+    ensures month_13 { ¬ (IsRuleDay (DayForm.MonthWeekday 13 1 0)) }
+    ensures week_0 { ¬ (IsRuleDay (DayForm.MonthWeekday 3 0 0)) }
+    ensures week_6 { ¬ (IsRuleDay (DayForm.MonthWeekday 3 6 0)) }
+    ensures saturday { IsRuleDay (DayForm.MonthWeekday 3 1 6) }
+    ensures weekday_7 { ¬ (IsRuleDay (DayForm.MonthWeekday 3 1 7)) }
 {}
 
 /// 2021-03-14 07:00:00 and 2021-11-07 06:00:00 of UTC.

@@ -1,10 +1,8 @@
 //! Amounts of daylight saving time: spans of the tz database, with the column SAVE of its rules.
 
-ghost use Rattle.std.specs.Prelude.{◌≡◌, ◌≢◌, ℤ, pos, neg_ℤ, None, Some};
-ghost use Rattle.tz_saving.specs.Amounts.{IsAmount, IsOfTwo, usual};
-ghost use Rattle.tz_saving.specs.Candidates.{IsCandidate, IsOnly};
-ghost use Rattle.tz_saving.specs.Reach.{HasChanges, IsWithinReach};
-ghost use Rattle.tz_saving.specs.Sides.{IsBefore, IsFirstAfter};
+ghost use Rattle.std.specs.Prelude.{◌≡◌, neg_ℤ, pos, ℤ};
+ghost use Rattle.tz_saving.specs.{Amounts.{usual, IsAmount, IsOfTwo}, Reach.{HasChanges, IsWithinReach}};
+ghost use Rattle.tz_saving.specs.{Candidates.{IsCandidate, IsOnly}, Sides.{IsBefore}};
 ghost use Rattle.tests_pins.specs.Savings.{restless, summer};
 
 /// New York in 2021 (`R u 2007 ma - Mar Su>=8 2 1 D`): an hour.

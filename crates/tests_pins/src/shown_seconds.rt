@@ -2,7 +2,7 @@
 //! 1970-01-01 00:00:00 UTC, back from `CET` to `UTC` or forward from `UTC` to `CET`.
 #![tactic(auto, using(crate::proofs::Words::ints, crate::proofs::Words::fits_signed_from_abs))]
 
-ghost use Rattle.std.specs.Prelude.{pos, neg_ℤ, Some, None};
+ghost use Rattle.std.specs.Prelude.{neg_ℤ, pos};
 ghost use Rattle.tz_info.specs.ShownSeconds.{AreShownWithin, IsFirstAtOrAfter, IsFirstWithin, IsLastWithin};
 ghost use Rattle.tz_info.specs.ShownSeconds.{ShowsWithin};
 ghost use Rattle.tests_pins.specs.Changes.{at_epoch, cet, ends, utc};

@@ -1,12 +1,11 @@
 //! Spans: New York's standard time from November 2020 to March 2021, and the years of a rule that never
 //! changes the clocks.
 
-ghost use Rattle.std.specs.Prelude.{◌≡◌, pos, Some, None};
-ghost use Rattle.tz_base.specs.declared.span.Span.{Span};
-ghost use Rattle.tz_info.specs.Spans.{IsInSpan, IsSpan, IsSpanAt};
-ghost use Rattle.tz_info.specs.Zones.{TypeAt};
-ghost use Rattle.tests_pins.specs.NewYork.{new_york_zone, est};
-ghost use Rattle.tests_pins.specs.Spans.{rule_years, span_of, steady_zone, winter};
+ghost use Rattle.std.specs.Prelude.{◌≡◌, pos};
+ghost use Rattle.tz_info.specs.{Spans.{IsInSpan, IsSpan, IsSpanAt}, Zones.{TypeAt}};
+ghost use Rattle.tests_pins.specs.{NewYork.{est, new_york_zone}, Spans.{rule_years, span_of, steady_zone, winter}};
+
+use tz_base::Span;
 
 /// The span of 1615705199 is EST, from 1604210400 until 1615705200, and no other. It has its first
 /// second, and not its end.

@@ -2,12 +2,12 @@
 //! them.
 #![tactic(auto)]
 
-ghost use Rattle.std.specs.Prelude.{◌≡◌, ℤ, pos, neg_ℤ};
+ghost use Rattle.std.specs.Prelude.{◌≡◌, neg_ℤ, pos, ℤ};
 ghost use Rattle.naive_plans.specs.ClockSteps.{BeginsStep};
-ghost use Rattle.naive_plans.specs.declared.clock_step.ClockStep.TheVariants.{Day, Part};
-ghost use Rattle.naive_plans.specs.declared.part_of_day.PartOfDay.{PartOfDay};
 ghost use Rattle.zoned_time.specs.StepBounds.{AreStepBounds};
 ghost use Rattle.tests_pins.specs.Days.{AreSetAt};
+
+use naive_plans::{ClockStep, PartOfDay};
 
 /// In New York clocks went from 02:00 on 2021-11-07 back to 01:00, at 06:00:00 UTC. At 06:30:00 UTC they
 /// are in the hour of 01:00, which began at 05:00:00 UTC and ends when they show 02:00 again, at 07:00:00
@@ -15,7 +15,7 @@ ghost use Rattle.tests_pins.specs.Days.{AreSetAt};
 pub fn new_york_in_autumn()
     ensures { (off : ℤ → ℤ) (hour : PartOfDay) → hour.seconds ≡ 3_600
         → AreSetAt off (pos 1_636_264_800) (neg_ℤ (pos 14_400)) (neg_ℤ (pos 18_000))
-        → AreStepBounds off (BeginsStep (Part hour)) (pos 1_636_266_600)
+        → AreStepBounds off (BeginsStep (ClockStep.Part hour)) (pos 1_636_266_600)
         (pos 1_636_261_200) (pos 1_636_268_400) }
 {}
 
@@ -24,7 +24,7 @@ pub fn new_york_in_autumn()
 pub fn lord_howe()
     ensures { (off : ℤ → ℤ) (hour : PartOfDay) → hour.seconds ≡ 3_600
         → AreSetAt off (pos 1_617_462_000) (pos 39_600) (pos 37_800)
-        → AreStepBounds off (BeginsStep (Part hour)) (pos 1_617_462_900)
+        → AreStepBounds off (BeginsStep (ClockStep.Part hour)) (pos 1_617_462_900)
         (pos 1_617_458_400) (pos 1_617_463_800) }
 {}
 
@@ -33,11 +33,11 @@ pub fn lord_howe()
 pub fn st_johns()
     ensures day { (off : ℤ → ℤ)
         → AreSetAt off (pos 1_130_639_460) (neg_ℤ (pos 9_000)) (neg_ℤ (pos 12_600))
-        → AreStepBounds off (BeginsStep Day) (pos 1_130_641_320)
+        → AreStepBounds off (BeginsStep ClockStep.Day) (pos 1_130_641_320)
         (pos 1_130_639_400) (pos 1_130_729_400) }
     ensures only { (off : ℤ → ℤ) (begin end : ℤ)
         → AreSetAt off (pos 1_130_639_460) (neg_ℤ (pos 9_000)) (neg_ℤ (pos 12_600))
-        → AreStepBounds off (BeginsStep Day) (pos 1_130_641_320) begin end
+        → AreStepBounds off (BeginsStep ClockStep.Day) (pos 1_130_641_320) begin end
         → (begin ≡ pos 1_130_639_400) × (end ≡ pos 1_130_729_400) }
 {}
 
@@ -46,6 +46,6 @@ pub fn st_johns()
 pub fn toronto()
     ensures { (off : ℤ → ℤ)
         → AreSetAt off (neg_ℤ (pos 1_601_753_400)) (neg_ℤ (pos 18_000)) (neg_ℤ (pos 14_400))
-        → AreStepBounds off (BeginsStep Day) (neg_ℤ (pos 1_601_753_400))
+        → AreStepBounds off (BeginsStep ClockStep.Day) (neg_ℤ (pos 1_601_753_400))
         (neg_ℤ (pos 1_601_753_400)) (neg_ℤ (pos 1_601_668_800)) }
 {}

@@ -1,23 +1,18 @@
 //! TZ strings and the rules that they spell (POSIX.1 section 8.3, RFC 8536 section 3.3.1).
 
-ghost use Rattle.std.specs.Prelude.{◌≡◌, ℕ, None, Some, [], ◌∷◌, ◌++◌, List, Bool, true, false, codes, pos, neg_ℤ};
+ghost use Rattle.std.specs.Prelude.{◌≡◌, ◌++◌, ◌∷◌, [], codes, false, neg_ℤ, pos, true, Bool, ℕ};
 ghost use Rattle.tz_base.specs.Names.{IsName};
-ghost use Rattle.tz_base.specs.declared.error.Error.TheVariants.{InvalidTzString, LocalTimeType, OutOfMemory, ParseInt};
-ghost use Rattle.tz_base.specs.declared.error.Error.TheVariants.{TransitionRule as RuleError, UnsupportedTzString};
-ghost use Rattle.tz_base.specs.declared.error.Expected.TheVariants.{DayFromJ1ToJ365};
-ghost use Rattle.tz_base.specs.declared.error.Expected.TheVariants.{DaysWhenDaylightSavingTimeStartsAndEnds, Digit};
-ghost use Rattle.tz_base.specs.declared.error.Expected.TheVariants.{HoursMinutesAndSecondsWithinTheirLimits};
-ghost use Rattle.tz_base.specs.declared.error.Expected.TheVariants.{NameOfThreeToSevenBytes};
-ghost use Rattle.tz_info.specs.TzGrammar.{time_limit, signed_seconds, IsTzText, IsTextFault, text_fault_position};
-ghost use Rattle.tz_info.specs.PosixZones.{IsExtendedFaultPlace, IsPlaced, IsPosixFaultPlace};
-ghost use Rattle.tz_info.specs.PosixZones.{IsPosixZone, posix_zone, types_of};
-ghost use Rattle.tz_info.specs.Zones.{Zone, plain_zone};
-ghost use Rattle.tz_info.specs.declared.rule.transition_rule.TransitionRule.{TransitionRule};
-ghost use Rattle.tests_pins.specs.NewYork.{new_york_rule, new_york_zone, est, edt};
-ghost use Rattle.tests_pins.specs.Texts.{new_york_text, no_days, foo_23, foo_23_rule, foo_24, foo_5_60, foo, fo_5};
-ghost use Rattle.tests_pins.specs.Texts.{day_0, utc_text, utc_rule, jerusalem_text, jerusalem_rule, nuuk_text};
-ghost use Rattle.tests_pins.specs.Texts.{nuuk_rule, foo_plus_5, foo_minus_5, foo_behind, foo_ahead, foo_5_06_07};
-ghost use Rattle.tests_pins.specs.Texts.{foo_5_30, small, numbered_text, numbered_rule};
+ghost use Rattle.tz_info.specs.PosixZones.{posix_zone, types_of, IsExtendedFaultPlace, IsPlaced, IsPosixFaultPlace};
+ghost use Rattle.tz_info.specs.{PosixZones.{IsPosixZone}, Zones.{plain_zone, Zone}};
+ghost use Rattle.tz_info.specs.TzGrammar.{signed_seconds, text_fault_position, time_limit, IsTextFault, IsTzText};
+ghost use Rattle.tests_pins.specs.NewYork.{edt, est, new_york_rule, new_york_zone};
+ghost use Rattle.tests_pins.specs.Texts.{day_0, fo_5, foo, foo_23, foo_23_rule, foo_24, foo_5_06_07, foo_5_30};
+ghost use Rattle.tests_pins.specs.Texts.{foo_5_60, foo_ahead, foo_behind, foo_minus_5, foo_plus_5, jerusalem_rule};
+ghost use Rattle.tests_pins.specs.Texts.{jerusalem_text, new_york_text, no_days, numbered_rule, numbered_text};
+ghost use Rattle.tests_pins.specs.Texts.{nuuk_rule, nuuk_text, small, utc_rule, utc_text};
+
+use tz_base::{Error, Expected};
+use tz_info::TransitionRule;
 
 /// `EST5EDT,M3.2.0,M11.1.0` spells that rule, as it does with the offset of EDT in it; and `UTC0` one
 /// of one type.
@@ -75,7 +70,7 @@ pub fn extensions()
 /// `EST5EDT` ends before the days of its rule, and gives no zone.
 pub fn faults()
     ensures ends { IsTextFault false no_days
-        (UnsupportedTzString DaysWhenDaylightSavingTimeStartsAndEnds) }
+        (Error.UnsupportedTzString Expected.DaysWhenDaylightSavingTimeStartsAndEnds) }
     ensures none { (zone : Zone) → ¬ (IsPosixZone no_days zone) }
 {}
 
@@ -83,12 +78,12 @@ pub fn faults()
 /// is `J1`.
 pub fn fault_numbers()
     ensures minute_60 { (extended : Bool) → IsTextFault extended foo_5_60
-        (InvalidTzString HoursMinutesAndSecondsWithinTheirLimits) }
-    ensures no_digit { (extended : Bool) → IsTextFault extended foo (ParseInt Digit) }
+        (Error.InvalidTzString Expected.HoursMinutesAndSecondsWithinTheirLimits) }
+    ensures no_digit { (extended : Bool) → IsTextFault extended foo (Error.ParseInt Expected.Digit) }
     ensures two_letters { (extended : Bool) → IsTextFault extended fo_5
-        (LocalTimeType NameOfThreeToSevenBytes) }
+        (Error.LocalTimeType Expected.NameOfThreeToSevenBytes) }
     ensures date_0 { (extended : Bool) → IsTextFault extended day_0
-        (RuleError DayFromJ1ToJ365) }
+        (Error.TransitionRule Expected.DayFromJ1ToJ365) }
 {}
 
 /// A fault is at the number, the time or the name whose value is rejected, at the first byte that no
@@ -126,21 +121,21 @@ pub fn zone_fault_places()
 
 /// A fault has a place, and running out of memory has none.
 pub fn placed_errors()
-    ensures there { IsPlaced (λ n. n ≡ 3) (record { error = ParseInt Digit; position = Some 3 }) }
+    ensures there { IsPlaced (λ n. n ≡ 3) (record { error = Error.ParseInt Expected.Digit; position = Some 3 }) }
     ensures elsewhere { ¬ (IsPlaced (λ n. n ≡ 3)
-        (record { error = ParseInt Digit; position = Some 4 })) }
+        (record { error = Error.ParseInt Expected.Digit; position = Some 4 })) }
     ensures nowhere { ¬ (IsPlaced (λ n. n ≡ 3)
-        (record { error = ParseInt Digit; position = None })) }
-    ensures memory { IsPlaced (λ n. n ≡ 3) (record { error = OutOfMemory; position = None }) }
+        (record { error = Error.ParseInt Expected.Digit; position = None })) }
+    ensures memory { IsPlaced (λ n. n ≡ 3) (record { error = Error.OutOfMemory; position = None }) }
     ensures memory_there { ¬ (IsPlaced (λ n. n ≡ 3)
-        (record { error = OutOfMemory; position = Some 3 })) }
+        (record { error = Error.OutOfMemory; position = Some 3 })) }
 {}
 
 /// The hours of an offset go to 23, and not to 24 as POSIX.1 allows.
 pub fn limits()
     ensures hours_23 { (extended : Bool) → IsTzText extended foo_23 foo_23_rule }
     ensures hours_24 { (extended : Bool) → IsTextFault extended foo_24
-        (InvalidTzString HoursMinutesAndSecondsWithinTheirLimits) }
+        (Error.InvalidTzString Expected.HoursMinutesAndSecondsWithinTheirLimits) }
     ensures none { (zone : Zone) → ¬ (IsPosixZone foo_24 zone) }
 {}
 

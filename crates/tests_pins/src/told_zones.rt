@@ -1,23 +1,17 @@
 //! Rules, tables and zones as `zonedump` prints them.
 #![tactic(auto, unfolding(crate::proofs::Computed::wording))]
 
-ghost use Rattle.std.specs.Prelude.{◌≡◌, ◌∷◌, [], ◌++◌, codes, pos, neg_ℤ, None, Some};
-ghost use Rattle.json.specs.Print.{print};
-ghost use Rattle.json.specs.Tree.{json_tokens};
-ghost use Rattle.tz_info.specs.declared.rule.day.DayForm.TheVariants.{Julian1, Julian0};
-ghost use Rattle.tz_info.specs.declared.rule.day.DayForm.TheVariants.{MonthWeekday};
+ghost use Rattle.std.specs.Prelude.{◌≡◌, ◌++◌, ◌∷◌, [], codes, neg_ℤ, pos};
+ghost use Rattle.json.specs.{Print.{print}, Tree.{json_tokens}};
+ghost use Rattle.zonedump_lib.specs.{JsonValues.{day_value, leap_value, rule_value, zone_value}, Zdump.{IsZdump}};
+ghost use Rattle.zonedump_lib.specs.RuleWords.{day_words, moment_words, month_words, rule_words, week_words};
+ghost use Rattle.zonedump_lib.specs.{RuleWords.{weekday_words}, Tables.{head_text, leap_text, table_text, IsTable}};
 ghost use Rattle.zonedump_lib.specs.ZdumpLines.{zdump_text};
-ghost use Rattle.zonedump_lib.specs.JsonValues.{day_value, rule_value, zone_value, leap_value};
-ghost use Rattle.zonedump_lib.specs.RuleWords.{rule_words, day_words, moment_words, month_words};
-ghost use Rattle.zonedump_lib.specs.RuleWords.{week_words, weekday_words};
-ghost use Rattle.zonedump_lib.specs.Tables.{IsTable, head_text, leap_text, table_text};
-ghost use Rattle.zonedump_lib.specs.Zdump.{IsZdump};
-ghost use Rattle.zonedump_lib.specs.declared.period.Bound.TheVariants.{Year};
-ghost use Rattle.tests_pins.specs.Changes.{spring, autumn};
-ghost use Rattle.tests_pins.specs.LeapSeconds.{entry};
-ghost use Rattle.tests_pins.specs.NewYork.{new_york_rule, new_york_zone};
-ghost use Rattle.tests_pins.specs.Texts.{utc_rule};
-ghost use Rattle.tests_pins.specs.Zones.{utc_zone};
+ghost use Rattle.tests_pins.specs.{Changes.{autumn, spring}, NewYork.{new_york_rule, new_york_zone}, Texts.{utc_rule}};
+ghost use Rattle.tests_pins.specs.{LeapSeconds.{entry}, Zones.{utc_zone}};
+
+use tz_info::DayForm;
+use zonedump_lib::Bound;
 
 /// New York's rule, one type, and no rule.
 pub fn rules()
@@ -26,8 +20,8 @@ pub fn rules()
         ++ codes " to the first Sunday of November at 02:00:00" }
     ensures utc { rule_words (Some utc_rule) ≡ codes "+00:00 std UTC always" }
     ensures none { rule_words None ≡ codes "none" }
-    ensures julian { day_words (Julian1 60) ≡ codes "date 60 of 365" }
-    ensures numbered { day_words (Julian0 300) ≡ codes "300 days after 1 January" }
+    ensures julian { day_words (DayForm.Julian1 60) ≡ codes "date 60 of 365" }
+    ensures numbered { day_words (DayForm.Julian0 300) ≡ codes "300 days after 1 January" }
     ensures next_day { moment_words (pos 93_600) ≡ codes "93600 s after midnight" }
     ensures day_before { moment_words (neg_ℤ (pos 3_600)) ≡ codes "-3600 s after midnight" }
     ensures midnight_after { moment_words (pos 86_400) ≡ codes "86400 s after midnight" }
@@ -63,7 +57,7 @@ pub fn names()
 
 /// The head of the table of New York in 2021, and the line of a leap second.
 pub fn table_heads()
-    ensures new_york { head_text new_york_zone (Year 2021) (Year 2021) 2
+    ensures new_york { head_text new_york_zone (Bound.Year 2021) (Bound.Year 2021) 2
         ≡ codes "0 transitions, 2 types, 0 leap seconds\n"
         ++ codes "rule: -05:00 std EST, and -04:00 dst EDT from the second Sunday of March"
         ++ codes " at 02:00:00 to the first Sunday of November at 02:00:00\n"
@@ -74,19 +68,19 @@ pub fn table_heads()
 
 /// New York in 2021 has two changes, in the table and in the lines of zdump.
 pub fn year_2021()
-    ensures table { IsTable new_york_zone (Year 2021) (Year 2021) (table_text
-        new_york_zone (Year 2021) (Year 2021) (spring ∷ autumn ∷ [])) }
-    ensures zdump { IsZdump (codes "NY") new_york_zone (Year 2021) (Year 2021)
+    ensures table { IsTable new_york_zone (Bound.Year 2021) (Bound.Year 2021) (table_text
+        new_york_zone (Bound.Year 2021) (Bound.Year 2021) (spring ∷ autumn ∷ [])) }
+    ensures zdump { IsZdump (codes "NY") new_york_zone (Bound.Year 2021) (Bound.Year 2021)
         (zdump_text (codes "NY") (spring ∷ autumn ∷ [])) }
 {}
 
 /// Rules, leap seconds and a zone as JSON.
 pub fn json()
-    ensures julian { print (json_tokens (day_value (Julian1 60)))
+    ensures julian { print (json_tokens (day_value (DayForm.Julian1 60)))
         ≡ codes "{\"form\":\"J\",\"n\":60}" }
-    ensures numbered { print (json_tokens (day_value (Julian0 300)))
+    ensures numbered { print (json_tokens (day_value (DayForm.Julian0 300)))
         ≡ codes "{\"form\":\"n\",\"n\":300}" }
-    ensures weekday { print (json_tokens (day_value (MonthWeekday 3 2 0)))
+    ensures weekday { print (json_tokens (day_value (DayForm.MonthWeekday 3 2 0)))
         ≡ codes "{\"form\":\"M\",\"month\":3,\"week\":2,\"weekday\":0}" }
     ensures rule { print (json_tokens (rule_value (Some new_york_rule)))
         ≡ codes "{\"std\":{\"offset\":-18000,\"dst\":false,\"name\":\"EST\"},"
@@ -98,7 +92,7 @@ pub fn json()
     ensures leap { print (json_tokens (leap_value (entry (pos 78_796_800) 1)))
         ≡ codes "{\"leap_time\":78796800,\"correction\":1}" }
     ensures zone { print (json_tokens (zone_value
-        (codes "UTC") (Year 2020) (Year 2021) utc_zone []))
+        (codes "UTC") (Bound.Year 2020) (Bound.Year 2021) utc_zone []))
         ≡ codes "{\"zone\":\"UTC\",\"from\":2020,\"to\":2021,\"transitions\":0,\"types\":1,"
         ++ codes "\"rule\":{\"always\":{\"offset\":0,\"dst\":false,\"name\":\"UTC\"}},"
         ++ codes "\"leap_seconds\":[],\"changes\":[]}" }

@@ -1,25 +1,26 @@
 //! What is taken of two values, and lengths of time.
 
-ghost use Rattle.std.specs.Prelude.{◌≡◌, ℕ, pos, neg_ℤ, ◌*ℤ◌, Some, None};
-ghost use Rattle.offset_core.specs.LocalResult.{single_of, earliest_of, latest_of, all_or_none};
-ghost use Rattle.offset_core.specs.Nanoseconds.{FitsTimeDelta, nanos_per_microsecond, nanos_per_millisecond};
-ghost use Rattle.offset_core.specs.Nanoseconds.{nanos_per_second, nanos_per_minute, nanos_per_hour, nanos_per_day};
-ghost use Rattle.offset_core.specs.Nanoseconds.{nanos_per_week};
-ghost use Rattle.offset_core.specs.declared.local_result.LocalResult.TheVariants as results;
+ghost use Rattle.std.specs.Prelude.{◌≡◌, ◌*ℤ◌, neg_ℤ, pos, ℕ};
+ghost use Rattle.offset_core.specs.LocalResult.{all_or_none, earliest_of, latest_of, single_of};
+ghost use Rattle.offset_core.specs.Nanoseconds.{nanos_per_day, nanos_per_hour, nanos_per_microsecond};
+ghost use Rattle.offset_core.specs.Nanoseconds.{nanos_per_millisecond, nanos_per_minute, nanos_per_second};
+ghost use Rattle.offset_core.specs.Nanoseconds.{nanos_per_week, FitsTimeDelta};
+
+use offset_core::LocalResult;
 
 /// Of the values 1 and 2 of a fold there is no single one, the earliest is 1 and the latest 2. One
 /// that is missing takes the other with it.
 pub fn lookups()
-    ensures single_of_one { single_of {T = ℕ} (results.Single 1) ≡ Some 1 }
-    ensures earliest_of_one { earliest_of {T = ℕ} (results.Single 1) ≡ Some 1 }
-    ensures latest_of_one { latest_of {T = ℕ} (results.Single 1) ≡ Some 1 }
-    ensures single { single_of {T = ℕ} (results.Ambiguous 1 2) ≡ None }
-    ensures earliest { earliest_of {T = ℕ} (results.Ambiguous 1 2) ≡ Some 1 }
-    ensures latest { latest_of {T = ℕ} (results.Ambiguous 1 2) ≡ Some 2 }
-    ensures both { all_or_none {T = ℕ} (results.Ambiguous (Some 1) (Some 2))
-        ≡ results.Ambiguous 1 2 }
-    ensures last_missing { all_or_none {T = ℕ} (results.Ambiguous (Some 1) None) ≡ results.None }
-    ensures first_missing { all_or_none {T = ℕ} (results.Ambiguous None (Some 2)) ≡ results.None }
+    ensures single_of_one { single_of {T = ℕ} (LocalResult.Single 1) ≡ Some 1 }
+    ensures earliest_of_one { earliest_of {T = ℕ} (LocalResult.Single 1) ≡ Some 1 }
+    ensures latest_of_one { latest_of {T = ℕ} (LocalResult.Single 1) ≡ Some 1 }
+    ensures single { single_of {T = ℕ} (LocalResult.Ambiguous 1 2) ≡ None }
+    ensures earliest { earliest_of {T = ℕ} (LocalResult.Ambiguous 1 2) ≡ Some 1 }
+    ensures latest { latest_of {T = ℕ} (LocalResult.Ambiguous 1 2) ≡ Some 2 }
+    ensures both { all_or_none {T = ℕ} (LocalResult.Ambiguous (Some 1) (Some 2))
+        ≡ LocalResult.Ambiguous 1 2 }
+    ensures last_missing { all_or_none {T = ℕ} (LocalResult.Ambiguous (Some 1) None) ≡ LocalResult.None }
+    ensures first_missing { all_or_none {T = ℕ} (LocalResult.Ambiguous None (Some 2)) ≡ LocalResult.None }
 {}
 
 /// A week has seven days, and so on down to nanoseconds. The longest length is `i64::MAX`

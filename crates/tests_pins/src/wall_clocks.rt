@@ -4,22 +4,21 @@
 ghost use Rattle.std.specs.Prelude.{◌≡◌, pos};
 ghost use Rattle.offset_core.specs.WallAnswer.{IsWallAnswer};
 ghost use Rattle.tz_base.specs.LocalTypes.{LocalType};
-ghost use Rattle.tz_info.specs.Gaps.{IsTypeBeforeGap};
-ghost use Rattle.tz_info.specs.WallClocks.{Shows};
-ghost use Rattle.tz_info.specs.Zones.{TypeAt};
-ghost use Rattle.tests_pins.specs.NewYork.{new_york_zone, est, edt};
-ghost use Rattle.offset_core.specs.declared.local_result.LocalResult.TheVariants as results;
+ghost use Rattle.tz_info.specs.{Gaps.{IsTypeBeforeGap}, WallClocks.{Shows}, Zones.{TypeAt}};
+ghost use Rattle.tests_pins.specs.NewYork.{edt, est, new_york_zone};
+
+use offset_core::LocalResult;
 
 /// No second shows 02:30, nor 02:00. 01:59:59 is shown once, by EST, and 03:00 once, by EDT.
 pub fn gap()
     ensures before { IsWallAnswer (Shows (TypeAt new_york_zone) (pos 1_615_687_199))
-        (results.Single est) }
-    ensures first { IsWallAnswer (Shows (TypeAt new_york_zone) (pos 1_615_687_200)) results.None }
+        (LocalResult.Single est) }
+    ensures first { IsWallAnswer (Shows (TypeAt new_york_zone) (pos 1_615_687_200)) LocalResult.None }
     ensures half_past_two { IsWallAnswer (Shows (TypeAt new_york_zone) (pos 1_615_689_000))
-        results.None }
-    ensures last { IsWallAnswer (Shows (TypeAt new_york_zone) (pos 1_615_690_799)) results.None }
+        LocalResult.None }
+    ensures last { IsWallAnswer (Shows (TypeAt new_york_zone) (pos 1_615_690_799)) LocalResult.None }
     ensures after { IsWallAnswer (Shows (TypeAt new_york_zone) (pos 1_615_690_800))
-        (results.Single edt) }
+        (LocalResult.Single edt) }
     ensures type_before { IsTypeBeforeGap (TypeAt new_york_zone) (pos 1_615_689_000) est }
     ensures no_other_before { (t : LocalType)
         → IsTypeBeforeGap (TypeAt new_york_zone) (pos 1_615_689_000) t → t ≡ est }
@@ -29,11 +28,11 @@ pub fn gap()
 #[tactic(auto, using(crate::proofs::NewYork::once, crate::proofs::NewYork::twice))]
 pub fn fold()
     ensures before { IsWallAnswer (Shows (TypeAt new_york_zone) (pos 1_636_246_799))
-        (results.Single edt) }
+        (LocalResult.Single edt) }
     ensures first { IsWallAnswer (Shows (TypeAt new_york_zone) (pos 1_636_246_800))
-        (results.Ambiguous edt est) }
+        (LocalResult.Ambiguous edt est) }
     ensures half_past_one { IsWallAnswer (Shows (TypeAt new_york_zone) (pos 1_636_248_600))
-        (results.Ambiguous edt est) }
+        (LocalResult.Ambiguous edt est) }
     ensures last { IsWallAnswer (Shows (TypeAt new_york_zone) (pos 1_636_250_399))
-        (results.Ambiguous edt est) }
+        (LocalResult.Ambiguous edt est) }
 {}

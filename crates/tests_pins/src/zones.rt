@@ -1,11 +1,12 @@
 //! Zones with transitions: what is in force before the first, at it, and from the last on.
 #![tactic(auto, using(crate::proofs::LeapSeconds::leapless))]
 
-ghost use Rattle.std.specs.Prelude.{◌≡◌, [], ◌∷◌, pos, neg_ℤ, true, Some, None};
-ghost use Rattle.tz_info.specs.Zones.{TypeAt, IsValid};
-ghost use Rattle.tz_info.specs.declared.rule.transition_rule.TransitionRule.TheVariants as rules;
-ghost use Rattle.tests_pins.specs.Zones.{honolulu, hst10, lmt, early_hst, hst, honolulu_type, change, listed};
+ghost use Rattle.std.specs.Prelude.{◌∷◌, [], neg_ℤ, pos, true};
+ghost use Rattle.tz_info.specs.Zones.{IsValid, TypeAt};
+ghost use Rattle.tests_pins.specs.Zones.{change, early_hst, honolulu, honolulu_type, hst, hst10, listed, lmt};
 ghost use Rattle.tests_pins.specs.Zones.{two_types};
+
+use tz_info::TransitionRule;
 
 /// The first type before the first transition, and the transition's own type from its second on.
 pub fn honolulu_types()
@@ -19,7 +20,7 @@ pub fn honolulu_types()
 
 /// From the last transition on the rule answers, whatever the transition's type is.
 pub fn rule_answers()
-    ensures { TypeAt (honolulu (Some (rules.Fixed lmt))) (pos 1_615_705_200) lmt }
+    ensures { TypeAt (honolulu (Some (TransitionRule.Fixed lmt))) (pos 1_615_705_200) lmt }
 {}
 
 /// Transitions are at leap times. One at 78796801, the second after the first leap second, is the
@@ -43,7 +44,7 @@ pub fn lists()
 /// A rule has the last transition's type then, in its offset, its DST flag and its name.
 pub fn valid()
     ensures other_flag { ¬ (IsValid (two_types (pos 78_796_801)
-        (Some (rules.Fixed (honolulu_type (pos 36_000) true 72 83))))) }
+        (Some (TransitionRule.Fixed (honolulu_type (pos 36_000) true 72 83))))) }
     ensures other_offset { ¬ (IsValid (two_types (pos 78_796_801)
-        (Some (rules.Fixed early_hst)))) }
+        (Some (TransitionRule.Fixed early_hst)))) }
 {}

@@ -29,6 +29,7 @@ change_exact a b = grind (arith, second_exact, type_exact)
 end_exact : IsExact (option_eq int_eq)
 end_exact u v = search rules
 
-pub span_exact : (a b : Span) → IsTrue (type_eq.it a.local_time_type b.local_time_type && (option_eq int_eq a.from b.from && option_eq int_eq a.until b.until)) ↔ (a ≡ b)
+pub span_exact : (a b : Span) → IsTrue (type_eq.it a.local_time_type b.local_time_type && (option_eq int_eq a.from b.from && option_eq int_eq a.until b.until))
+    ↔ (a ≡ b)
 span_exact a b =
     grind (arith, Decides-and _ _ (type_exact a.local_time_type b.local_time_type) (Decides-and _ _ (end_exact a.from b.from) (end_exact a.until b.until)))

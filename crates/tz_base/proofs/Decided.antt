@@ -31,19 +31,24 @@ pub fault_low : {X : Type 0} {r : Result X Error} {P : X → Type 0} {F : Error 
 fault_low d err f = d.low err (d.refuses err f)
 
 -- the same in other words
-pub like : {X : Type 0} {r : Result X Error} {P Q : X → Type 0} {F G : Error → Type 0} → Decided X r P F → ((x : X) → P x → Q x) → ((x : X) → Q x → P x) → ((err : Error) → F err → G err) → ((err : Error) → G err → F err) → Decided X r Q G
+pub like : {X : Type 0} {r : Result X Error} {P Q : X → Type 0} {F G : Error → Type 0} → Decided X r P F → ((x : X) → P x → Q x) → ((x : X) → Q x → P x)
+    → ((err : Error) → F err → G err) → ((err : Error) → G err → F err) → Decided X r Q G
 like d to from fault refused = grind arith
 
 -- the value in other words, and the same faults
-pub said : {X : Type 0} {r : Result X Error} {P Q : X → Type 0} {F : Error → Type 0} → Decided X r P F → ((x : X) → P x → Q x) → ((x : X) → Q x → P x) → Decided X r Q F
+pub said : {X : Type 0} {r : Result X Error} {P Q : X → Type 0} {F : Error → Type 0} → Decided X r P F → ((x : X) → P x → Q x)
+    → ((x : X) → Q x → P x) → Decided X r Q F
 said d to from = like d to from (λ err f. f) (λ err f. f)
 
 -- the only error is that one, and so it is returned where nothing is meant
-pub by_error : {X : Type 0} {r : Result X Error} {P Q : X → Type 0} {F : Error → Type 0} (other : Error) → Decided X r P F → ((x : X) → P x → Q x) → ((x : X) → Q x → P x) → ((err : Error) → F err → err ≡ other) → Decided X r Q (λ err. ((x : X) → ¬ (Q x)) × (err ≡ other))
+pub by_error : {X : Type 0} {r : Result X Error} {P Q : X → Type 0} {F : Error → Type 0} (other : Error) → Decided X r P F → ((x : X) → P x → Q x)
+    → ((x : X) → Q x → P x) → ((err : Error) → F err → err ≡ other) → Decided X r Q (λ err. ((x : X) → ¬ (Q x)) × (err ≡ other))
 by_error other d to from only = grind (arith, either d)
 
 -- ---- one value after the other
-pub bind : {X Y : Type 0} {r : Result X Error} {P : X → Type 0} {F : Error → Type 0} {f : X → Result Y Error} {Q : X → Y → Type 0} {G : X → Error → Type 0} → Decided X r P F → ((x : X) → P x → Decided Y (f x) (Q x) (G x)) → Decided Y (r >>= f) (λ y. (x : X) × P x × Q x y) (λ err. F err ⊎ ((x : X) × P x × G x err))
+pub bind : {X Y : Type 0} {r : Result X Error} {P : X → Type 0} {F : Error → Type 0} {f : X → Result Y Error} {Q : X → Y → Type 0} {G : X → Error → Type 0}
+    → Decided X r P F → ((x : X) → P x → Decided Y (f x) (Q x) (G x))
+    → Decided Y (r >>= f) (λ y. (x : X) × P x × Q x y) (λ err. F err ⊎ ((x : X) × P x × G x err))
 bind d e = grind arith
 
 -- ---- a value, and an error
@@ -54,20 +59,27 @@ pub refused : {X : Type 0} (err : Error) → error_number err ≤ 16 → Decided
 refused err l = grind arith
 
 -- a value made of a value
-pub made : {X Y : Type 0} {r : Result X Error} {P : X → Type 0} {F : Error → Type 0} (f : X → Y) → Decided X r P F → Decided Y (r >>= λ x. Ok (f x)) (λ y. (x : X) × P x × (f x ≡ y)) F
+pub made : {X Y : Type 0} {r : Result X Error} {P : X → Type 0} {F : Error → Type 0} (f : X → Y) → Decided X r P F
+    → Decided Y (r >>= λ x. Ok (f x)) (λ y. (x : X) × P x × (f x ≡ y)) F
 made f d = grind arith
 
 -- ---- tests
 -- one of two, by a test
-pub choice : {X A : Type 0} {b : Bool} {r s : Result X Error} {P Q : X → Type 0} {F G : Error → Type 0} → Decides b A → Decided X r P F → Decided X s Q G → Decided X (cond b r s) (λ x. (A × P x) ⊎ (¬ A × Q x)) (λ err. (A × F err) ⊎ (¬ A × G err))
+pub choice : {X A : Type 0} {b : Bool} {r s : Result X Error} {P Q : X → Type 0} {F G : Error → Type 0} → Decides b A → Decided X r P F → Decided X s Q G
+    → Decided X (cond b r s) (λ x. (A × P x) ⊎ (¬ A × Q x)) (λ err. (A × F err) ⊎ (¬ A × G err))
 choice d e f = grind arith
 
 -- a value if the test holds, the error if it does not
-pub guard : {X A : Type 0} {b : Bool} (x : X) (err : Error) → error_number err ≤ 16 → Decides b A → Decided X (cond b (Ok x) (Err err)) (λ y. A × (x ≡ y)) (λ other. ¬ A × (other ≡ err))
+pub guard : {X A : Type 0} {b : Bool} (x : X) (err : Error) → error_number err ≤ 16 → Decides b A
+    → Decided X (cond b (Ok x) (Err err)) (λ y. A × (x ≡ y)) (λ other. ¬ A × (other ≡ err))
 guard x err l d = grind (arith, like, choice, done, refused)
 
 -- ---- pieces of bytes, one after the other: a value and the bytes after it, and what is read of these
-pub and_then : {X Y : Type 0} {a : Result (X × List ℕ) Error} {P : X → List ℕ → Type 0} {F : Error → Type 0} {b : X → List ℕ → Result Y Error} {Q : X → List ℕ → Y → Type 0} {G : X → List ℕ → Error → Type 0} → Decided (X × List ℕ) a (λ p. P p.0 p.1) F → ((x : X) (rest : List ℕ) → P x rest → Decided Y (b x rest) (Q x rest) (G x rest)) → Decided Y (a >>= λ p. b p.0 p.1) (λ y. (x : X) × (rest : List ℕ) × P x rest × Q x rest y) (λ err. F err ⊎ ((x : X) × (rest : List ℕ) × P x rest × G x rest err))
+pub and_then : {X Y : Type 0} {a : Result (X × List ℕ) Error} {P : X → List ℕ → Type 0} {F : Error → Type 0} {b : X → List ℕ → Result Y Error} {Q : X → List ℕ
+    → Y → Type 0} {G : X → List ℕ → Error → Type 0} → Decided (X × List ℕ) a (λ p. P p.0 p.1) F
+    → ((x : X) (rest : List ℕ) → P x rest → Decided Y (b x rest) (Q x rest) (G x rest))
+    → Decided Y (a >>= λ p. b p.0 p.1) (λ y. (x : X) × (rest : List ℕ) × P x rest × Q x rest y)
+    (λ err. F err ⊎ ((x : X) × (rest : List ℕ) × P x rest × G x rest err))
 and_then d e = like (bind d (λ p h. e p.0 p.1 h))
     (λ y h. (h.0.0, h.0.1, h.1, h.2))
     (λ y h. ((h.0, h.1), h.2, h.3))

@@ -5,7 +5,8 @@ use Rattle.std.proofs.lemmas.Int.{ints}
 use Rattle.std.specs.Bool.{Decides}
 use Rattle.tz_base.specs.{Errors.{error_number}, declared.error.Error.{Error}}
 use Rattle.tz_base.specs.Fronts.{AllOf, NoneFirst, after_run, exact_at, int_at, is_digit, number_within, optional_tag_at, run_of, tag_at, value_from}
-use Rattle.tz_base.specs.Grammar.{At, Byte, ByteFault, Check, Ended, Exact, Grammar, HasFault, Here, IsNumber, IsRun, Marked, Nothing, Number, NumberFault, Refused, Rest}
+use Rattle.tz_base.specs.Grammar.{At, Byte, ByteFault, Check, Ended, Exact, Grammar, HasFault, Here, IsNumber, IsRun, Marked, Nothing, Number, NumberFault}
+use Rattle.tz_base.specs.Grammar.{Refused, Rest}
 use Rattle.tz_base.specs.Grammar.{Run, Spells, Then, is_end, read}
 use Rattle.tz_base.specs.Refusals.{Refusal, error}
 use Rattle.tz_base.specs.declared.error.Error.TheVariants.{ParseInt}
@@ -75,7 +76,9 @@ rest_read : Lawful Rest
 rest_read bytes = grind arith
 
 -- ---- a number
-within_law : (max : ℕ) (ds : List ℕ) → Decided ℕ (number_within max ds) (λ n. (0 < length ds) × (value_from 0 ds ≡ n) × (n ≤ max)) (λ e. ((length ds ≡ 0) × (e ≡ ParseInt Digit)) ⊎ ((0 < length ds) × (max < value_from 0 ds) × (e ≡ ParseInt NumberWithinItsLimit)))
+within_law : (max : ℕ) (ds : List ℕ)
+    → Decided ℕ (number_within max ds) (λ n. (0 < length ds) × (value_from 0 ds ≡ n) × (n ≤ max))
+    (λ e. ((length ds ≡ 0) × (e ≡ ParseInt Digit)) ⊎ ((0 < length ds) × (max < value_from 0 ds) × (e ≡ ParseInt NumberWithinItsLimit)))
 within_law max ds = grind (arith, nat_tests)
 
 number_read : (max : ℕ) → Reads (int_at max) (IsNumber max) (NumberFault max)

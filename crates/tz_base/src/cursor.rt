@@ -1,12 +1,9 @@
 //! A cursor over bytes.
 
-ghost use Rattle.std.specs.Prelude.{◌≡◌, ◌≤◌, ◌<◌, ◌++◌, [], true, false, length, slice_get, slice_index, OnErr, IfOk};
-ghost use Rattle.std.specs.Prelude.{IsTrue, ◌↔◌, EachIndex};
-ghost use Rattle.std.specs.Fn.{FnReturnsAt};
-ghost use Rattle.std.specs.Option.{option_copied};
+ghost use Rattle.std.specs.{Fn.{FnReturnsAt}, Option.{option_copied}, Prelude.{EachIndex, IfOk, IsTrue, OnErr}};
+ghost use Rattle.std.specs.Prelude.{◌≡◌, ◌↔◌, ◌<◌, ◌≤◌, ◌++◌, [], false, length, slice_get, slice_index, true};
+ghost use Rattle.tz_base.specs.Fronts.{exact_at, int_at, number_within, optional_tag_at, tag_at, AllDigits, Gives};
 ghost use Rattle.tz_base.specs.Grammar.{be_u32, read};
-ghost use Rattle.tz_base.specs.Fronts.{Gives, exact_at, tag_at, optional_tag_at, int_at, number_within, is_digit};
-ghost use Rattle.tz_base.specs.Fronts.{AllDigits};
 
 use crate::error::{Error, Expected};
 use std::marker::Model;

@@ -1,8 +1,7 @@
 //! Why bytes, values or instants give an error.
 
 ghost use Rattle.std.specs.Prelude.{◌≡◌};
-ghost use Rattle.tz_base.specs.Errors.{error_number};
-ghost use Rattle.tz_base.specs.declared.error.Error.TheVariants.{OutOfMemory};
+ghost use Rattle.tz_base.specs.{Errors.{error_number}, declared.error.Error.TheVariants.{OutOfMemory}};
 
 use std::alloc::{AllocError, AllocFailed};
 use std::fmt;

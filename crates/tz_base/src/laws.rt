@@ -1,12 +1,7 @@
 //! Theorems of equality and clones: each function is empty, its contract is proved; never called.
 
-ghost use Rattle.std.specs.Prelude.{◌≡◌, ◌↔◌, List, ℕ, IsTrue};
+ghost use Rattle.std.specs.Prelude.{◌≡◌, ◌↔◌, IsTrue, List, ℕ};
 ghost use Rattle.tz_base.specs.LocalTypes.{LocalType};
-ghost use Rattle.tz_base.specs.declared.change.Change.{Change as ClockChange};
-ghost use Rattle.tz_base.specs.declared.error.Error.{Error as Refusal};
-ghost use Rattle.tz_base.specs.declared.error.Expected.{Expected as Wanted};
-ghost use Rattle.tz_base.specs.declared.parse_error.ParseError.{ParseError as PlacedError};
-ghost use Rattle.tz_base.specs.declared.span.Span.{Span as Stretch};
 
 use crate::change::Change;
 use crate::error::{Error, Expected};
@@ -34,40 +29,40 @@ pub fn local_time_types()
 /// A clone is the value, and does not fail.
 #[tactic(auto, using(crate::proofs::ChangeEquality::change_exact))]
 pub fn changes()
-    ensures equal { (a b : ClockChange) → IsTrue (⟦<Change as PartialEq>⟧.eq a b) ↔ (a ≡ b) }
-    ensures clone { (a b : ClockChange) → ⟦<Change as Clone>⟧.is_clone a b ↔ (b ≡ a) }
-    ensures infallible { (a : ClockChange) → ⟦<Change as Clone>⟧.is_infallible a }
+    ensures equal { (a b : Change) → IsTrue (⟦<Change as PartialEq>⟧.eq a b) ↔ (a ≡ b) }
+    ensures clone { (a b : Change) → ⟦<Change as Clone>⟧.is_clone a b ↔ (b ≡ a) }
+    ensures infallible { (a : Change) → ⟦<Change as Clone>⟧.is_infallible a }
 {}
 
 /// Spans are equal if and only if their types and both of their ends are. A clone is the value, and
 /// does not fail.
 #[tactic(auto, using(crate::proofs::ChangeEquality::span_exact))]
 pub fn spans()
-    ensures equal { (a b : Stretch) → IsTrue (⟦<Span as PartialEq>⟧.eq a b) ↔ (a ≡ b) }
-    ensures clone { (a b : Stretch) → ⟦<Span as Clone>⟧.is_clone a b ↔ (b ≡ a) }
-    ensures infallible { (a : Stretch) → ⟦<Span as Clone>⟧.is_infallible a }
+    ensures equal { (a b : Span) → IsTrue (⟦<Span as PartialEq>⟧.eq a b) ↔ (a ≡ b) }
+    ensures clone { (a b : Span) → ⟦<Span as Clone>⟧.is_clone a b ↔ (b ≡ a) }
+    ensures infallible { (a : Span) → ⟦<Span as Clone>⟧.is_infallible a }
 {}
 
 /// What was expected is equal if it is the same. A clone is the value, and does not fail.
 pub fn expectations()
-    ensures equal { (a b : Wanted) → IsTrue (⟦<Expected as PartialEq>⟧.eq a b) ↔ (a ≡ b) }
-    ensures clone { (a b : Wanted) → ⟦<Expected as Clone>⟧.is_clone a b ↔ (b ≡ a) }
-    ensures infallible { (a : Wanted) → ⟦<Expected as Clone>⟧.is_infallible a }
+    ensures equal { (a b : Expected) → IsTrue (⟦<Expected as PartialEq>⟧.eq a b) ↔ (a ≡ b) }
+    ensures clone { (a b : Expected) → ⟦<Expected as Clone>⟧.is_clone a b ↔ (b ≡ a) }
+    ensures infallible { (a : Expected) → ⟦<Expected as Clone>⟧.is_infallible a }
 {}
 
 /// Errors are equal if they are the same. A clone is the error, and does not fail.
 #[tactic(auto, using(crate::proofs::ErrorEquality::error_exact))]
 pub fn errors()
-    ensures equal { (a b : Refusal) → IsTrue (⟦<Error as PartialEq>⟧.eq a b) ↔ (a ≡ b) }
-    ensures clone { (a b : Refusal) → ⟦<Error as Clone>⟧.is_clone a b ↔ (b ≡ a) }
-    ensures infallible { (a : Refusal) → ⟦<Error as Clone>⟧.is_infallible a }
+    ensures equal { (a b : Error) → IsTrue (⟦<Error as PartialEq>⟧.eq a b) ↔ (a ≡ b) }
+    ensures clone { (a b : Error) → ⟦<Error as Clone>⟧.is_clone a b ↔ (b ≡ a) }
+    ensures infallible { (a : Error) → ⟦<Error as Clone>⟧.is_infallible a }
 {}
 
 /// Errors with their place are equal if and only if their errors and their places are. A clone is the
 /// value, and does not fail.
 #[tactic(auto, using(crate::proofs::ErrorEquality::parse_error_exact))]
 pub fn parse_errors()
-    ensures equal { (a b : PlacedError) → IsTrue (⟦<ParseError as PartialEq>⟧.eq a b) ↔ (a ≡ b) }
-    ensures clone { (a b : PlacedError) → ⟦<ParseError as Clone>⟧.is_clone a b ↔ (b ≡ a) }
-    ensures infallible { (a : PlacedError) → ⟦<ParseError as Clone>⟧.is_infallible a }
+    ensures equal { (a b : ParseError) → IsTrue (⟦<ParseError as PartialEq>⟧.eq a b) ↔ (a ≡ b) }
+    ensures clone { (a b : ParseError) → ⟦<ParseError as Clone>⟧.is_clone a b ↔ (b ≡ a) }
+    ensures infallible { (a : ParseError) → ⟦<ParseError as Clone>⟧.is_infallible a }
 {}

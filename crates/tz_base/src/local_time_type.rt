@@ -1,10 +1,7 @@
 //! Local time types.
 
-ghost use Rattle.std.specs.Prelude.{◌≡◌, ℤ, pos, neg_ℤ, ◌-ℤ◌, ◌≤ℤ◌, MatchResult, option_map};
-ghost use Rattle.tz_base.specs.LocalTypes.{LocalType, IsUtOffset, plain_type, expected_of_type};
-ghost use Rattle.tz_base.specs.Names.{IsNameOrNone};
-ghost use Rattle.tz_base.specs.declared.error.Error.TheVariants.{LocalTimeType as TypeError};
-ghost use Rattle.tz_base.specs.declared.error.Expected.TheVariants.{OffsetAboveI32Min};
+ghost use Rattle.std.specs.Prelude.{◌≡◌, option_map, pos, MatchResult};
+ghost use Rattle.tz_base.specs.{LocalTypes.{expected_of_type, plain_type, IsUtOffset}, Names.{IsNameOrNone}};
 
 use crate::error::{Error, Expected};
 use crate::name::TimeZoneName;
@@ -49,7 +46,7 @@ impl LocalTimeType {
             MatchResult result
             (λ t. IsUtOffset ut_offset × IsNameOrNone bytes
             × (t ≡ record { offset = ut_offset; dst = is_dst; name = bytes }))
-            (λ e. (e ≡ TypeError (expected_of_type ut_offset bytes))
+            (λ e. (e ≡ Error.LocalTimeType (expected_of_type ut_offset bytes))
             × ¬ (IsUtOffset ut_offset × IsNameOrNone bytes)) }
     {
         if ut_offset == i32::MIN {
@@ -74,7 +71,7 @@ impl LocalTimeType {
     /// [`Error::LocalTimeType`] if the offset is `i32::MIN`.
     pub fn with_offset(ut_offset: i32) -> Result<LocalTimeType, Error>
         ensures { MatchResult result (λ t. IsUtOffset ut_offset × (t ≡ plain_type ut_offset))
-            (λ e. (e ≡ TypeError OffsetAboveI32Min) × ¬ (IsUtOffset ut_offset)) }
+            (λ e. (e ≡ Error.LocalTimeType Expected.OffsetAboveI32Min) × ¬ (IsUtOffset ut_offset)) }
     {
         if ut_offset == i32::MIN {
             return Err(Error::LocalTimeType(Expected::OffsetAboveI32Min));

@@ -1,11 +1,8 @@
 //! Abbreviations of local time types.
 
-ghost use Rattle.std.specs.Prelude.{◌≡◌, ℕ, ◌<◌, ◌≤◌, length, IfErr, ◌↔◌, IsTrue, MatchResult};
-ghost use Rattle.std.specs.Bool.{nat_eq};
-ghost use Rattle.std.specs.Cmp.{partial_equiv_from_equiv};
-ghost use Rattle.std.specs.Cmp.Lexicographic.{pointwise, nat_list_eq_equiv};
-ghost use Rattle.tz_base.specs.Names.{IsName, is_name_byte, expected_of_name, zero_ended};
-ghost use Rattle.tz_base.specs.declared.error.Error.TheVariants.{LocalTimeType};
+ghost use Rattle.std.specs.{Bool.{nat_eq}, Cmp.{partial_equiv_from_equiv}};
+ghost use Rattle.std.specs.{Cmp.Lexicographic.{nat_list_eq_equiv, pointwise}, Prelude.{◌≡◌, ◌↔◌, IsTrue, MatchResult}};
+ghost use Rattle.tz_base.specs.Names.{expected_of_name, is_name_byte, zero_ended, IsName};
 
 use crate::error::{Error, Expected};
 use std::fmt;
@@ -25,8 +22,7 @@ impl Model for TimeZoneName {
 
     ghost Value = { List ℕ };
 
-    ghost use Rattle.tz_base.specs.Names.{zero_ended};
-    ghost use Rattle.tz_base.specs.Steps.StoredNames.{Holds, padded_back, length_back};
+    ghost use Rattle.tz_base.specs.{Names.{zero_ended}, Steps.StoredNames.{length_back, padded_back, Holds}};
 
     ghost view = { λ n. take n.len n.buffer };
 
@@ -51,7 +47,7 @@ impl TimeZoneName {
     /// is a byte other than `A` to `Z`, `a` to `z`, `0` to `9`, `+` and `-`.
     pub fn new(name: &[u8]) -> Result<TimeZoneName, Error>
         ensures { MatchResult result (λ n. IsName name.now × (n ≡ name.now))
-            (λ e. (e ≡ LocalTimeType (expected_of_name name.now)) × ¬ (IsName name.now)) }
+            (λ e. (e ≡ Error.LocalTimeType (expected_of_name name.now)) × ¬ (IsName name.now)) }
     {
         let len = name.len();
         if len < 3 || len > 7 {

@@ -1,6 +1,7 @@
 -- At a second there is one change, and so one next change, one previous change and one list of them.
 use Rattle.std.proofs.lemmas.Map.Made.{Contains-tail}
-use Rattle.tz_info.proofs.Words.{AllPairs, AreChanges, Bool, Change, Contains, Contains-append_right, IsTypeBeforeGap, IsChange, IsFirst, IsNearest, List, LocalType, None, Option}
+use Rattle.tz_info.proofs.Words.{AllPairs, AreChanges, Bool, Change, Contains, Contains-append_right, IsTypeBeforeGap, IsChange, IsFirst, IsNearest, List}
+use Rattle.tz_info.proofs.Words.{LocalType, None, Option}
 use Rattle.tz_info.proofs.Words.{Precedes, Some, TypeAt, Zone, ap, arith, by_lt_z, false, ints, pos, refl, subst, suc, sym, true, zero, ℤ, [], ◌-ℤ◌}
 use Rattle.tz_info.proofs.Words.{◌<ℤ◌, ◌∷◌, ◌≡◌, ◌≤ℤ◌}
 use Rattle.tz_info.proofs.ZoneLaws.{type_once}
@@ -43,12 +44,14 @@ rest_rises : (c : Change) (cs : List Change) → Rise (c ∷ cs) → Rise cs
 rest_rises c cs rise = λ i j d l m. rise (suc i) (suc j) d (omega (arith, l)) (omega (arith, m))
 
 -- two lists with the same items and the same first item have the same rest
-rest_same : (c : Change) (cs ds : List Change) → Rise (c ∷ cs) → ((x : Change) → Contains (c ∷ cs) x → Contains (c ∷ ds) x) → (x : Change) → Contains cs x → Contains ds x
+rest_same : (c : Change) (cs ds : List Change) → Rise (c ∷ cs) → ((x : Change) → Contains (c ∷ cs) x → Contains (c ∷ ds) x) → (x : Change)
+    → Contains cs x → Contains ds x
 rest_same c cs ds rise same x h = Contains-tail c ds x
     (λ e. let l = subst (λ (y : Change). c.at <ℤ y.at) (sym e) (later c x cs rise h) in absurd (omega (arith, ints, l)))
     (same x (Contains-append_right (c ∷ []) cs x h))
 
-one_list : (z : Zone) (a b : List Change) → Rise a → Rise b → ((c : Change) → Contains a c → IsChange (TypeAt z) c) → ((c : Change) → Contains b c → IsChange (TypeAt z) c)
+one_list : (z : Zone) (a b : List Change) → Rise a → Rise b → ((c : Change) → Contains a c → IsChange (TypeAt z) c)
+    → ((c : Change) → Contains b c → IsChange (TypeAt z) c)
     → ((c : Change) → Contains a c → Contains b c) → ((c : Change) → Contains b c → Contains a c) → a ≡ b
 one_list z [] [] p q are_a are_b to from = refl
 one_list z [] (d ∷ ds) p q are_a are_b to from = let h = from d (at_front d ds) in absurd (omega (arith, h.1))
@@ -60,7 +63,8 @@ one_list z (c ∷ cs) (d ∷ ds) p q are_a are_b to from =
     let to' = subst (λ (x : Change). (y : Change) → Contains (c ∷ cs) y → Contains (x ∷ ds) y) (sym same) to in
     let from' = subst (λ (x : Change). (y : Change) → Contains (x ∷ ds) y → Contains (c ∷ cs) y) (sym same) from in
     let q' = subst (λ (x : Change). Rise (x ∷ ds)) (sym same) q in
-    let rest : cs ≡ ds = one_list z cs ds (rest_rises c cs p) (rest_rises c ds q') (λ x h. are_a x (Contains-append_right (c ∷ []) cs x h)) (λ x h. are_b x (Contains-append_right (d ∷ []) ds x h)) (rest_same c cs ds p to') (rest_same c ds cs q' from') in
+    let rest : cs ≡ ds = one_list z cs ds (rest_rises c cs p) (rest_rises c ds q') (λ x h. are_a x (Contains-append_right (c ∷ []) cs x h))
+    (λ x h. are_b x (Contains-append_right (d ∷ []) ds x h)) (rest_same c cs ds p to') (rest_same c ds cs q' from') in
     λ i. same i ∷ rest i
 
 pub one_list_of_changes : (z : Zone) (from until : ℤ) (a b : List Change) → AreChanges (TypeAt z) from until a → AreChanges (TypeAt z) from until b → a ≡ b
@@ -71,7 +75,8 @@ one_list_of_changes z from until a b h k = one_list z a b h.rising k.rising
     (λ c inside. (h.each c).1 ((k.each c).0 inside))
 
 -- the front of a list is the first change at or after its first second
-pub front_is_first : (z : Zone) (from until : ℤ) (c : Change) (cs : List Change) → AreChanges (TypeAt z) from until (c ∷ cs) → IsFirst (TypeAt z) (λ u. (from -ℤ pos 1) <ℤ u) (Some c)
+pub front_is_first : (z : Zone) (from until : ℤ) (c : Change) (cs : List Change) → AreChanges (TypeAt z) from until (c ∷ cs)
+    → IsFirst (TypeAt z) (λ u. (from -ℤ pos 1) <ℤ u) (Some c)
 front_is_first z from until c cs h =
     let here = (h.each c).0 (at_front c cs) in
     let low = here.1.0 in

@@ -19,13 +19,15 @@ abbrev pub AreApart : InForce → Type 0
 AreApart f = (c d : Change) → IsChange f c → IsChange f d → c.at ≡ d.at → c ≡ d
 
 -- a change at the last second comes after those before it
-then_here : (f : InForce) (from last : ℤ) (c : Change) (cs : List Change) → AreApart f → IsChange f c → c.at ≡ last → from ≤ℤ last → AreChanges f from last cs → AreChanges f from (last +ℤ pos 1) (cs ++ c ∷ [])
+then_here : (f : InForce) (from last : ℤ) (c : Change) (cs : List Change) → AreApart f → IsChange f c → c.at ≡ last → from ≤ℤ last → AreChanges f from last cs
+    → AreChanges f from (last +ℤ pos 1) (cs ++ c ∷ [])
 then_here f from last c cs apart is at low h = record {
   rising = all_pairs_push (λ a b. a.at <ℤ b.at) cs c h.rising (λ k d below. rw at ((h.each (get_or cs k d)).0 (Contains-get_or cs k d below)).1.1);
   each = λ d. (
     λ inside. elim (Contains-push_cases cs c d inside) [
       | inl earlier ↦ let k = (h.each d).0 earlier in let l = k.1.1 in (k.0, (k.1.0, omega (arith, ints, l)))
-      | inr same ↦ subst (λ (x : Change). IsChange f x × IsFromUntil from (last +ℤ pos 1) x.at) same (is, (omega (arith, ints, at, low), omega (arith, ints, at)))
+      | inr same ↦ subst (λ (x : Change). IsChange f x × IsFromUntil from (last +ℤ pos 1) x.at) same
+          (is, (omega (arith, ints, at, low), omega (arith, ints, at)))
     ],
     λ k. by_lt_z d.at last
         (λ less. Contains-append_left cs (c ∷ []) d ((h.each d).1 (k.0, (k.1.0, less))))
@@ -34,7 +36,8 @@ then_here f from last c cs apart is at low h = record {
 }
 
 -- if no change comes at the last second, the list is that of those before it
-pub same_without : (f : InForce) (from last : ℤ) (cs : List Change) → HasNoChange f (λ u. u ≡ last) → AreChanges f from last cs → AreChanges f from (last +ℤ pos 1) cs
+pub same_without : (f : InForce) (from last : ℤ) (cs : List Change) → HasNoChange f (λ u. u ≡ last) → AreChanges f from last cs
+    → AreChanges f from (last +ℤ pos 1) cs
 same_without f from last cs none h = grind (arith, ints)
 
 -- ---- the list that is made second by second
@@ -46,9 +49,11 @@ the_same u v a b s t e g h = cc
 
 apart : (f : InForce) → IsOnce f → AreApart f
 apart f once c d h k at =
-    the_same c.at d.at c.before d.before c.after d.after at (once (d.at -ℤ pos 1) c.before d.before (rw at at h.before) k.before) (once d.at c.after d.after (rw at at h.after) k.after)
+    the_same c.at d.at c.before d.before c.after d.after
+    at (once (d.at -ℤ pos 1) c.before d.before (rw at at h.before) k.before) (once d.at c.after d.after (rw at at h.after) k.after)
 
-changes_made : (f : InForce) (types : ℤ → Option LocalType) (from : ℤ) (n : ℕ) → IsOnce f → AreTypes f types → AreChanges f from (from +ℤ pos n) (changes_in types from n)
+changes_made : (f : InForce) (types : ℤ → Option LocalType) (from : ℤ) (n : ℕ) → IsOnce f → AreTypes f types
+    → AreChanges f from (from +ℤ pos n) (changes_in types from n)
 changes_made f types from zero once told = no_changes f from (from +ℤ pos 0) (λ d is inside. let l = inside.0 in let m = inside.1 in omega (arith, ints, l, m))
 changes_made f types from (suc n) once told =
     let last = from +ℤ pos n in
@@ -74,8 +79,11 @@ once_of z u s t h k = type_once z u s t h k
 pub changes_are : (z : Zone) (from until : ℤ) → IsValid z → IsRuleOrNone z.rule → AreChanges (TypeAt z) from until (changes_of z from until)
 unfolding changes_of
 changes_are z from until valid limits = by_lt_z from until
-    (λ less. subst (λ (u : ℤ). AreChanges (TypeAt z) from u (changes_in (type_or_none z) from (seconds_between from until))) (until_is from until (omega (arith, ints, less))) (changes_made (TypeAt z) (type_or_none z) from (seconds_between from until) (once_of z) (types_told z valid limits)))
-    (λ late. rw (none_between from until late) (no_changes (TypeAt z) from until (λ d is inside. let l = inside.0 in let m = inside.1 in omega (arith, ints, l, m, late))))
+    (λ less. subst (λ (u : ℤ). AreChanges (TypeAt z) from u (changes_in (type_or_none z) from (seconds_between from until)))
+    (until_is from until (omega (arith, ints, less)))
+    (changes_made (TypeAt z) (type_or_none z) from (seconds_between from until) (once_of z) (types_told z valid limits)))
+    (λ late. rw (none_between from until late)
+    (no_changes (TypeAt z) from until (λ d is inside. let l = inside.0 in let m = inside.1 in omega (arith, ints, l, m, late))))
 
 pub none_left : (z : Zone) (from until : ℤ) → IsValid z → IsRuleOrNone z.rule → HasNoChange (TypeAt z) (IsFromUntil from until) → changes_of z from until ≡ []
 none_left z from until valid limits none = empty _ (λ c inside. let k = ((changes_are z from until valid limits).each c).0 inside in none c k.0 k.1)
@@ -85,22 +93,26 @@ parts : (types : ℤ → Option LocalType) (from : ℤ) (m n : ℕ) → changes_
 parts types from m zero = rw add-zero (sym (append-nil (changes_in types from m)))
 parts types from m (suc n) =
     let e : (from +ℤ pos m) +ℤ pos n ≡ from +ℤ pos (m + n) = omega (arith, ints) in
-    rw (add-suc, e, parts types from m n) (append_assoc (changes_in types from m) (changes_in types (from +ℤ pos m) n) (change_here types (from +ℤ pos (m + n))))
+    rw (add-suc, e, parts types from m n)
+    (append_assoc (changes_in types from m) (changes_in types (from +ℤ pos m) n) (change_here types (from +ℤ pos (m + n))))
 
 -- a change, those before it and those after it
-around : (z : Zone) (from until : ℤ) (c : Change) → IsValid z → IsRuleOrNone z.rule → IsChange (TypeAt z) c → IsFromUntil from until c.at → changes_of z from until ≡ changes_of z from c.at ++ c ∷ changes_of z (c.at +ℤ pos 1) until
+around : (z : Zone) (from until : ℤ) (c : Change) → IsValid z → IsRuleOrNone z.rule → IsChange (TypeAt z) c → IsFromUntil from until c.at
+    → changes_of z from until ≡ changes_of z from c.at ++ c ∷ changes_of z (c.at +ℤ pos 1) until
 unfolding changes_of
 around z from until c valid limits is inside =
     let low = inside.0 in let high = inside.1 in
     let m = seconds_between from c.at in let n = seconds_between (c.at +ℤ pos 1) until in
-    let all = until_is from until (omega (arith, ints)) in let first = until_is from c.at low in let last = until_is (c.at +ℤ pos 1) until (omega (arith, ints)) in
+    let all = until_is from until (omega (arith, ints)) in let first = until_is from c.at low in
+    let last = until_is (c.at +ℤ pos 1) until (omega (arith, ints)) in
     let split : seconds_between from until ≡ m + (1 + n) = omega (arith, ints) in
     let at : c.at +ℤ pos 0 ≡ c.at = omega (arith, ints) in
     let here : change_here (type_or_none z) c.at ≡ c ∷ [] = elim (here_listed (TypeAt z) (type_or_none z) c.at (once_of z) (types_told z valid limits)) [
       | inl none ↦ absurd (none.1 c is refl)
       | inr one ↦ one.1 ∙ ap (λ d. d ∷ []) (apart (TypeAt z) (once_of z) one.0 c one.2 is one.3)
     ] in
-    rw split (parts (type_or_none z) from m (1 + n) ∙ rw first (ap (λ cs. changes_in (type_or_none z) from m ++ cs) (parts (type_or_none z) c.at 1 n ∙ rw (at, here) refl)))
+    rw split (parts (type_or_none z) from m (1 + n)
+    ∙ rw first (ap (λ cs. changes_in (type_or_none z) from m ++ cs) (parts (type_or_none z) c.at 1 n ∙ rw (at, here) refl)))
 
 -- ---- a step of the iterator
 pub steps_first : (s t : Changes) (c : Change) → IsValid s.zone.now → IsRuleOrNone s.zone.now.rule
@@ -122,7 +134,8 @@ steps_last s t c valid limits h zone after last =
     let none = none_left s.zone.now (c.at +ℤ pos 1) (s.last +ℤ pos 1) valid limits
     (λ d is k. let l = k.0 in let u = k.1 in let m = h.nearest d is (omega (arith, ints), omega (arith, ints)) in omega (arith, ints)) in
     let until : (c.at -ℤ pos 1) +ℤ pos 1 ≡ c.at = omega (arith, ints) in
-    rw (zone, after, last, until) (rw none at (around s.zone.now (s.after +ℤ pos 1) (s.last +ℤ pos 1) c valid limits h.is (omega (arith, ints), omega (arith, ints))))
+    rw (zone, after, last, until)
+    (rw none at (around s.zone.now (s.after +ℤ pos 1) (s.last +ℤ pos 1) c valid limits h.is (omega (arith, ints), omega (arith, ints))))
 
 pub steps_none : (s : Changes) → IsValid s.zone.now → IsRuleOrNone s.zone.now.rule → HasNoChange (TypeAt s.zone.now) (IsInStretch s.after s.last)
     → changes_left s ≡ []

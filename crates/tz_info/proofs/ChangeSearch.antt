@@ -13,21 +13,25 @@ pub none_of : (f : InForce) (seconds : List ℤ) (after last : ℤ) → HasNoCha
 none_of f seconds after last d is one = let b = one.below in omega arith
 
 -- one of the first n, or the one at place n
-one_more : (seconds : List ℤ) (n : ℕ) (after last u : ℤ) → IsOneOf seconds (n + 1) after last u → IsOneOf seconds n after last u ⊎ ((get_or seconds n (pos 0) ≡ u) × IsInStretch after last u)
+one_more : (seconds : List ℤ) (n : ℕ) (after last u : ℤ) → IsOneOf seconds (n + 1) after last u
+    → IsOneOf seconds n after last u ⊎ ((get_or seconds n (pos 0) ≡ u) × IsInStretch after last u)
 one_more seconds n after last u one = grind arith
 
-one_still : (seconds : List ℤ) (n : ℕ) (after last u : ℤ) → IsOneOf seconds n after last u ⊎ ((get_or seconds n (pos 0) ≡ u) × IsInStretch after last u) → IsOneOf seconds (n + 1) after last u
+one_still : (seconds : List ℤ) (n : ℕ) (after last u : ℤ) → IsOneOf seconds n after last u ⊎ ((get_or seconds n (pos 0) ≡ u) × IsInStretch after last u)
+    → IsOneOf seconds (n + 1) after last u
 one_still seconds n after last u (inl one) = let b = one.below in record { place = one.place; below = omega arith; is = one.is; inside = one.inside }
 one_still seconds n after last u (inr here) = record { place = n; below = omega arith; is = here.0; inside = here.1 }
 
 -- the same changes, by other conditions
-pub nearest_moved : (w : Bool) (f g : InForce) (p q : ℤ → Type 0) (found : Option Change) → ((d : Change) → IsChange g d → q d.at → IsChange f d × p d.at) → ((d : Change) → IsChange f d → p d.at → IsChange g d × q d.at)
+pub nearest_moved : (w : Bool) (f g : InForce) (p q : ℤ → Type 0) (found : Option Change) → ((d : Change) → IsChange g d → q d.at → IsChange f d × p d.at)
+    → ((d : Change) → IsChange f d → p d.at → IsChange g d × q d.at)
     → IsNearest w f p found → IsNearest w g q found
 nearest_moved w f g p q None to from h = λ d is k. let m = to d is k in h d m.0 m.1
 nearest_moved w f g p q (Some c) to from h = grind arith
 
 -- of the nearest change of some seconds and that of others the one that comes first is the nearest one of all
-pub nearest_either : (w : Bool) (f : InForce) (p q : ℤ → Type 0) (found other : Option Change) → IsNearest w f p found → IsNearest w f q other → IsNearest w f (λ u. p u ⊎ q u) (nearer_one w found other)
+pub nearest_either : (w : Bool) (f : InForce) (p q : ℤ → Type 0) (found other : Option Change) → IsNearest w f p found → IsNearest w f q other
+    → IsNearest w f (λ u. p u ⊎ q u) (nearer_one w found other)
 nearest_either w f p q None None h k = λ d is. ⊎_elim (h d is) (k d is)
 nearest_either w f p q None (Some d) h k = record { is = k.is; inside = inr k.inside; nearest = λ e is. ⊎_elim (λ i. absurd (h e is i)) (k.nearest e is) }
 nearest_either w f p q (Some c) None h k = record { is = h.is; inside = inl h.inside; nearest = λ e is. ⊎_elim (h.nearest e is) (λ i. absurd (k e is i)) }
@@ -42,12 +46,14 @@ precedes_itself false x y e = omega (arith, ints)
 abbrev pub IsAsked : InForce → ℤ → ℤ → ℤ → Option Change → Type 0
 IsAsked f after last second other = MatchOption other (IsIdle f after last second) (λ c. IsChange f c × (c.at ≡ second) × IsInStretch after last second)
 
-pub asked : (w : Bool) (f : InForce) (after last second : ℤ) (other : Option Change) → IsAsked f after last second other → IsNearest w f (λ u. (second ≡ u) × IsInStretch after last u) other
+pub asked : (w : Bool) (f : InForce) (after last second : ℤ) (other : Option Change) → IsAsked f after last second other
+    → IsNearest w f (λ u. (second ≡ u) × IsInStretch after last u) other
 asked w f after last second None h = λ d is k. h d is (sym k.0) k.1
 asked w f after last second (Some c) h = record { is = h.0; inside = (sym h.1, rw h.1 h.2); nearest = λ d is k. precedes_itself w c.at d.at (h.1 ∙ k.0) }
 
 -- one second more
-pub nearest_more : (w : Bool) (f : InForce) (seconds : List ℤ) (n : ℕ) (after last : ℤ) (found other : Option Change) → IsAsked f after last (get_or seconds n (pos 0)) other
+pub nearest_more : (w : Bool) (f : InForce) (seconds : List ℤ) (n : ℕ) (after last : ℤ) (found other : Option Change)
+    → IsAsked f after last (get_or seconds n (pos 0)) other
     → IsNearest w f (IsOneOf seconds n after last) found → IsNearest w f (IsOneOf seconds (n + 1) after last) (nearer_one w found other)
 nearest_more w f seconds n after last found other told h =
     nearest_moved w f f _ (IsOneOf seconds (n + 1) after last) (nearer_one w found other)
@@ -56,7 +62,8 @@ nearest_more w f seconds n after last found other told h =
     (nearest_either w f (IsOneOf seconds n after last) _ found other h (asked w f after last (get_or seconds n (pos 0)) other told))
 
 -- the stretch ahead of a second
-pub in_ahead : (w : Bool) (begin s after last u : ℤ) → SFits w64 u → IsStretchAhead w begin s after last → IsInStretch after last u ↔ ((begin <ℤ u) × IsAhead w s u)
+pub in_ahead : (w : Bool) (begin s after last u : ℤ) → SFits w64 u → IsStretchAhead w begin s after last
+    → IsInStretch after last u ↔ ((begin <ℤ u) × IsAhead w s u)
 in_ahead true begin s after last u fits e =
     let l = e.0 (u -ℤ pos 1) in grind (arith, ints)
 in_ahead false begin s after last u fits e = let l = e.0 in grind arith
@@ -90,10 +97,13 @@ none_in_empty f after last h d is k = let a = k.0 in let b = k.1 in omega (arith
 abbrev pub IsOnce : InForce → Type 0
 IsOnce f = (u : ℤ) (s t : LocalType) → f u s → f u t → s ≡ t
 
-pub change_made : (f : InForce) (second : ℤ) (s t : LocalType) (r : Option Change) → IsOnce f → SFits w64 second → SFits w64 (second -ℤ pos 1) → f (second -ℤ pos 1) s → f second t
-    → MatchOption r (s ≡ t) (λ c. (s ≢ t) × (c ≡ record { at = second; before = s; after = t })) → MatchOption r (HasNoChange f (λ u. u ≡ second)) (λ c. IsChange f c × (c.at ≡ second))
+pub change_made : (f : InForce) (second : ℤ) (s t : LocalType) (r : Option Change) → IsOnce f → SFits w64 second → SFits w64 (second -ℤ pos 1)
+    → f (second -ℤ pos 1) s → f second t
+    → MatchOption r (s ≡ t) (λ c. (s ≢ t) × (c ≡ record { at = second; before = s; after = t }))
+    → MatchOption r (HasNoChange f (λ u. u ≡ second)) (λ c. IsChange f c × (c.at ≡ second))
 change_made f second s t None once fits fits_before h k e = grind arith
-change_made f second s t (Some c) once fits fits_before h k e = rw e.1 (record { fits = fits; fits_before = fits_before; before = h; after = k; differ = e.0 }, refl)
+change_made f second s t (Some c) once fits fits_before h k e =
+    rw e.1 (record { fits = fits; fits_before = fits_before; before = h; after = k; differ = e.0 }, refl)
 
 -- no type is in force a second before, or at the second
 pub none_before : (f : InForce) (second : ℤ) → ((t : LocalType) → f (second -ℤ pos 1) t → ⊥) → HasNoChange f (λ u. u ≡ second)
@@ -126,7 +136,8 @@ steps_up : (f : InForce) (u v : ℤ) (t : LocalType) (n : ℕ) → v ≡ u +ℤ 
 steps_up f u v t zero e fits fits_end none typed h = let same : u ≡ v = omega (arith, ints) in subst (λ w. f w t) same h
 steps_up f u v t (suc n) e fits fits_end none typed h =
     let fits_n : SFits w64 (v -ℤ pos 1) = omega (arith, ints) in
-    let before = steps_up f u (v -ℤ pos 1) t n (omega (arith, ints)) fits fits_n (λ d is k. let a = k.0 in let b = k.1 in none d is (a, omega (arith, ints))) (λ w low high. typed w low (omega (arith, ints))) h in
+    let before = steps_up f u (v -ℤ pos 1) t n (omega (arith, ints)) fits fits_n (λ d is k. let a = k.0 in let b = k.1 in
+    none d is (a, omega (arith, ints))) (λ w low high. typed w low (omega (arith, ints))) h in
     let next = typed v (omega (arith, ints)) (omega (arith, ints)) in
     let same = step_up f (v -ℤ pos 1) v t next.0 refl fits_n fits_end (λ d is k. none d is (omega (arith, ints), omega (arith, ints))) before next.1 in
     subst (f v) (sym same) next.1

@@ -9,7 +9,9 @@ use Rattle.tz_info.proofs.{ListLaws.{one_true}, RecordLaws.{behind_first, first_
 
 -- ---- transitions
 -- the first one and the others
-first_transition : (w : ℕ) (times : List ℕ) (i : ℕ) (is : List ℕ) (ts : List Transition) → SpellTransitions w times (i ∷ is) ts → (t : Transition) × (record { unix_leap_time = file_time w (take w times); type_index = i } ≡ t) × ((more : List Transition) × SpellTransitions w (drop w times) is more × (t ∷ more ≡ ts))
+first_transition : (w : ℕ) (times : List ℕ) (i : ℕ) (is : List ℕ) (ts : List Transition) → SpellTransitions w times (i ∷ is) ts
+    → (t : Transition) × (record { unix_leap_time = file_time w (take w times); type_index = i } ≡ t)
+    × ((more : List Transition) × SpellTransitions w (drop w times) is more × (t ∷ more ≡ ts))
 first_transition w times i is [] h = let e = h.indexes_are in cc
 first_transition w times i is (t ∷ ts) h =
     let r = h.times_are in let e = h.indexes_are in
@@ -55,7 +57,8 @@ leap_takes w bytes l = record {
 leap_law : (w : ℕ) (bytes : List ℕ) → length bytes ≡ w + 4 → Decided LeapSecond (Ok (leap_second_of w bytes)) (SpellsLeapSecond w bytes) (λ _. ⊥)
 leap_law w bytes l = grind (arith, leap_takes, exact_cut)
 
-pub leap_seconds_law : (n w : ℕ) (part : List ℕ) → length part ≡ n * (w + 4) → Decided (List LeapSecond) (values_below n (leap_second_in w part)) (SpellLeapSeconds w part) (λ _. ⊥)
+pub leap_seconds_law : (n w : ℕ) (part : List ℕ) → length part ≡ n * (w + 4)
+    → Decided (List LeapSecond) (values_below n (leap_second_in w part)) (SpellLeapSeconds w part) (λ _. ⊥)
 leap_seconds_law n w part l = like (records n (w + 4) part (omega arith) l (leap_law w)) (λ leaps h. h) (λ leaps h. h) (λ e f. f.fault) (λ e f. absurd f)
 
 -- ---- indicators
@@ -69,6 +72,7 @@ agree_is s u h = λ k a. elim (cases_lt k (length u)) as (λ _. slice_index u k 
   | inr m ↦ let zero_there : get_or u k 0 ≡ 0 = get_or-eq_default u 0 m in λ b. absurd (omega arith)
 ]
 
-pub indicators_law : (s u : List ℕ) → Decided (Unit {0}) (indicators_of s u) (λ _. IndicatorsAgree s u) (λ e. ¬ (IndicatorsAgree s u) × (e ≡ InvalidTzFile StandardTimeWhereTimeIsUt))
+pub indicators_law : (s u : List ℕ)
+    → Decided (Unit {0}) (indicators_of s u) (λ _. IndicatorsAgree s u) (λ e. ¬ (IndicatorsAgree s u) × (e ≡ InvalidTzFile StandardTimeWhereTimeIsUt))
 unfolding indicators_of
 indicators_law s u = grind (arith, agree_is, below_again)

@@ -1,11 +1,15 @@
 -- What a zone's entries say of it: the types in force, the clock changes, and the spans between them.
-use Rattle.tz_info.proofs.Words.{AreRising, Change, HasNoChange, HasType, IsChange, IsFirst, IsFirstChange, IsFromLast, IsInTable, IsLast, IsLastChange, IsLeapTime}
-use Rattle.tz_info.proofs.Words.{IsSpanAt, IsTrue, IsValid, List, LocalType, MatchOption, None, Option, SFits, Some, Transition, TypeAt, Zone, ap, arith, begin_of, by_lt_z, cases_lt}
+use Rattle.tz_info.proofs.Words.{AreRising, Change, HasNoChange, HasType, IsChange, IsFirst, IsFirstChange, IsFromLast, IsInTable, IsLast, IsLastChange}
+use Rattle.tz_info.proofs.Words.{IsLeapTime}
+use Rattle.tz_info.proofs.Words.{IsSpanAt, IsTrue, IsValid, List, LocalType, MatchOption, None, Option, SFits, Some, Transition, TypeAt, Zone, ap, arith}
+use Rattle.tz_info.proofs.Words.{begin_of, by_lt_z, cases_lt}
 use Rattle.tz_info.proofs.Words.{correction_at, get_or, index_of, inl, inr, ints, leap_time_at, least_time, length, passed, pos, refl, segment_of, slice_get}
 use Rattle.tz_info.proofs.Words.{suc, sym, take, w64, zero, ℕ, ℤ, [], ◌+ℤ◌, ◌+◌, ◌-ℤ◌, ◌-◌, ◌<ℤ◌, ◌<◌, ◌↔◌, ◌∙◌, ◌≡◌, ◌≤ℤ◌, ◌≤◌}
-use Rattle.tz_info.proofs.SegmentLaws.{begin_next, come_at_time, come_by_time, index_next, not_later, place_before, place_begin, place_most, segment_most, split_at, split_count}
+use Rattle.tz_info.proofs.SegmentLaws.{begin_next, come_at_time, come_by_time, index_next, not_later, place_before, place_begin, place_most, segment_most}
+use Rattle.tz_info.proofs.SegmentLaws.{split_at, split_count}
 use Rattle.tz_base.specs.{declared.error.Error.TheVariants.{FindLocalTimeType}, declared.error.Expected.TheVariants.{YearThatRuleAnswersIn}}
-use Rattle.tz_info.proofs.Words.{Err, Error, IsBeforeLast, IsRefusedBy, MatchResult, Ok, Result, RuleOrElse, RuleOrType, TransitionRule, TypeAtLeapTime, false, index_at, true}
+use Rattle.tz_info.proofs.Words.{Err, Error, IsBeforeLast, IsRefusedBy, MatchResult, Ok, Result, RuleOrElse, RuleOrType, TransitionRule, TypeAtLeapTime, false}
+use Rattle.tz_info.proofs.Words.{index_at, true}
 use Rattle.tz_info.proofs.Words.{AreLeapSeconds, Counts, IsLastOf, IsNear, RoseWithin, LeapSecond, digits, digits-more, length-take, nat_tests, ◌==◌, ◌∷◌}
 use Rattle.tz_info.proofs.Prefixes.{last_taken}
 use Rattle.tz_info.proofs.{LeapOrder.{leap_times_answer}, TableSearch.{search_found}, ZoneChanges.{out_before, out_from, refused_on, time_of}}
@@ -23,7 +27,8 @@ some_same : {a b : LocalType} → Some a ≡ Some b → a ≡ b
 some_same e = cc
 
 -- an entry is among those that have come if and only if its time has
-come_by : (e : Entries) (k : ℕ) (d : Transition) (u : ℤ) → AreRising e.items → k < length e.items → (k < count_at e u) ↔ ((get_or e.items k d).unix_leap_time ≤ℤ u)
+come_by : (e : Entries) (k : ℕ) (d : Transition) (u : ℤ) → AreRising e.items → k < length e.items
+    → (k < count_at e u) ↔ ((get_or e.items k d).unix_leap_time ≤ℤ u)
 come_by e k d u rising h = let c = come_by_time e.items u k d rising h in ((λ l. c.0 (omega arith)), (λ l. let q = c.1 l in omega arith))
 
 pub index_there : (e : Entries) (u : ℤ) → AreRising e.items → last_index (passed e.items u) ≡ index_of e.items (count_at e u)
@@ -33,7 +38,7 @@ index_there e u rising =
     let first : passed e.items u ≡ take (count_at e u) e.items = rw n (search_found e.items u p.0 p.0 (omega arith) p.1) in
     ap (λ (s : List Transition). last_index s) first
 
--- so many have come if the last one of them has, and the next one has not
+-- n entries have come if the last of them has and the next one hasn't
 pub count_here : (ts : List Transition) (u : ℤ) (n : ℕ) → AreRising ts → n ≤ length ts → ((d : Transition) → 0 < n → (get_or ts (n - 1) d).unix_leap_time ≤ℤ u)
     → ((d : Transition) → n < length ts → u <ℤ (get_or ts n d).unix_leap_time) → n ≡ length (passed ts u)
 count_here ts u n rising within since until = sym (split_count ts u n (record {
@@ -49,7 +54,8 @@ none_passed (t ∷ ts) u none = absurd (omega arith)
 
 pub begin_at : (ts : List Transition) (k : ℕ) (d : Transition) → 0 < k → k ≤ length ts → (get_or ts (k - 1) d).unix_leap_time ≡ begin_of ts k
 begin_at ts zero d some within = absurd (omega arith)
-begin_at ts (suc k) d some within = let e : suc k ≡ k + 1 = omega arith in let p : suc k - 1 ≡ k = omega arith in rw (e, begin_next ts k d (omega arith), ← e, p) refl
+begin_at ts (suc k) d some within = let e : suc k ≡ k + 1 = omega arith in let p : suc k - 1 ≡ k = omega arith in
+    rw (e, begin_next ts k d (omega arith), ← e, p) refl
 
 -- ---- which seconds have a leap time
 pub own_time : (es : List LeapSecond) (u x : ℤ) → IsLeapTime es u x → IsLeapTime es u (u +ℤ correction_at es u)
@@ -59,7 +65,8 @@ pub near_time : (es : List LeapSecond) (u : ℤ) → AreLeapSeconds es → IsNea
 near_time es u valid near = elim (leap_time_decided es u) [ inl x ↦ own_time es u x.0 x.1 | inr r ↦ absurd (leap_times_answer es u valid near.0 near.1 r) ]
 
 -- ---- the type in force
-pub have_come : (z : Zone) (e : Entries) (u : ℤ) (c : Come) → IsValid z → AreEntries z e → SFits w64 u → IsLeapTime z.leaps u (leap_time_at z u) → IsCome e u c → HaveComeAt z u c
+pub have_come : (z : Zone) (e : Entries) (u : ℤ) (c : Come) → IsValid z → AreEntries z e → SFits w64 u → IsLeapTime z.leaps u (leap_time_at z u)
+    → IsCome e u c → HaveComeAt z u c
 have_come z e u c valid made fits l come =
     let last = made.come u (leap_time_at z u) fits l in
     record {
@@ -70,13 +77,15 @@ have_come z e u c valid made fits l come =
     }
 
 -- some have not come
-pub at_entry : (z : Zone) (u : ℤ) (c : Come) (t : LocalType) → HaveComeAt z u c → c.are_all ≡ false → HasType z c.index t → TypeAtLeapTime z u (leap_time_at z u) t
+pub at_entry : (z : Zone) (u : ℤ) (c : Come) (t : LocalType) → HaveComeAt z u c → c.are_all ≡ false → HasType z c.index t
+    → TypeAtLeapTime z u (leap_time_at z u) t
 at_entry z u c t h not has = record { before_last = λ _. h.named ∙ has; from_last = λ q. let a = h.all.1 q in absurd (grind arith) }
 
 pub not_last : (z : Zone) (u : ℤ) (c : Come) → HaveComeAt z u c → c.are_all ≡ false → IsBeforeLast z (leap_time_at z u)
 not_last z u c h not = elim (before_or_from_last z (leap_time_at z u)) [ inl b ↦ b | inr q ↦ let a = h.all.1 q in absurd (grind arith) ]
 
-or_same : (rule : Option TransitionRule) (z : Zone) (u : ℤ) (i j : ℕ) (t : LocalType) → slice_get z.types i ≡ slice_get z.types j → RuleOrElse rule u (HasType z j t) t → RuleOrElse rule u (HasType z i t) t
+or_same : (rule : Option TransitionRule) (z : Zone) (u : ℤ) (i j : ℕ) (t : LocalType) → slice_get z.types i ≡ slice_get z.types j
+    → RuleOrElse rule u (HasType z j t) t → RuleOrElse rule u (HasType z i t) t
 or_same (Some rule) z u i j t same h = h
 or_same None z u i j t same h = same ∙ h
 
@@ -90,18 +99,21 @@ at_last view z u c (Ok t) h all k =
     record { before_last = λ q. absurd (omega arith); from_last = λ _. or_same z.rule z u (index_at z (leap_time_at z u)) c.index (view t) h.named k }
 at_last view z u c (Err e) h all k = (k.0, h.all.0 (grind arith), k.1)
 
-pub type_amid : (z : Zone) (e : Entries) (u x : ℤ) (n : ℕ) (t : LocalType) → AreEntries z e → SFits w64 u → IsLeapTime z.leaps u x → count_at e u ≡ n → n < e.all
+pub type_amid : (z : Zone) (e : Entries) (u x : ℤ) (n : ℕ) (t : LocalType) → AreEntries z e → SFits w64 u → IsLeapTime z.leaps u x
+    → count_at e u ≡ n → n < e.all
     → slice_get z.types (index_of e.items n) ≡ Some t → TypeAt z u t
 type_amid z e u x n t made fits l count more has = record {
   leap_time = x;
   of_second = λ _. l;
   in_force = record {
-    before_last = λ _. made.named u x fits l ∙ ap (λ i. slice_get z.types i) (index_there e u made.rising) ∙ ap (λ k. slice_get z.types (index_of e.items k)) count ∙ has;
+    before_last = λ _. made.named u x fits l ∙ ap (λ i. slice_get z.types i) (index_there e u made.rising)
+        ∙ ap (λ k. slice_get z.types (index_of e.items k)) count ∙ has;
     from_last = λ q. let a = (made.come u x fits l).0 q in absurd (omega arith);
   };
 }
 
-pub amid_type : (z : Zone) (e : Entries) (u : ℤ) (n : ℕ) (t : LocalType) → IsValid z → AreEntries z e → SFits w64 u → 0 < length z.transitions → count_at e u ≡ n → n < e.all → TypeAt z u t
+pub amid_type : (z : Zone) (e : Entries) (u : ℤ) (n : ℕ) (t : LocalType) → IsValid z → AreEntries z e → SFits w64 u → 0 < length z.transitions
+    → count_at e u ≡ n → n < e.all → TypeAt z u t
     → slice_get z.types (index_of e.items n) ≡ Some t
 amid_type z e u n t valid made fits some count more h =
     let l = time_of z u t some h in
@@ -113,16 +125,23 @@ amid_type z e u n t valid made fits some count more h =
       | inl b ↦ b
       | inr m ↦ let q = last.0 (omega arith) in absurd (omega arith)
     ] in
-    sym (made.named u x fits l ∙ ap (λ i. slice_get z.types i) (index_there e u made.rising) ∙ ap (λ k. slice_get z.types (index_of e.items k)) count) ∙ h.in_force.before_last before
+    sym (made.named u x fits l ∙ ap (λ i. slice_get z.types i) (index_there e u made.rising) ∙ ap (λ k. slice_get z.types (index_of e.items k)) count)
+    ∙ h.in_force.before_last before
 
 -- what a search among them finds
-pub is_come : (e : Entries) (u : ℤ) (n : ℕ) (latest : Option Transition) (c : Come) → n ≤ length e.items → passed e.items u ≡ take n e.items → IsLastOf e.items n latest
+pub is_come : (e : Entries) (u : ℤ) (n : ℕ) (latest : Option Transition) (c : Come) → n ≤ length e.items
+    → passed e.items u ≡ take n e.items → IsLastOf e.items n latest
     → MatchOption latest (c.index ≡ 0) (λ t. c.index ≡ t.type_index) → c.are_all ≡ (n == e.all) → IsCome e u c
 is_come e u n latest c within come last index all =
     let many : length (passed e.items u) ≡ n = ap length come ∙ (simp length-take (omega arith)) in
-    record { all = rw (many, all) ((λ t. grind (arith, nat_tests)), (λ q. grind (arith, nat_tests))); index = rw come (named_by e.items n latest c.index within last index) }
+    record {
+      all = rw (many, all) ((λ t. grind (arith, nat_tests)), (λ q. grind (arith, nat_tests)));
+      index = rw come
+          (named_by e.items n latest c.index within last index);
+    }
   where
-    named_by : (ts : List Transition) (n : ℕ) (latest : Option Transition) (i : ℕ) → n ≤ length ts → IsLastOf ts n latest → MatchOption latest (i ≡ 0) (λ t. i ≡ t.type_index)
+    named_by : (ts : List Transition) (n : ℕ) (latest : Option Transition) (i : ℕ) → n ≤ length ts → IsLastOf ts n latest
+        → MatchOption latest (i ≡ 0) (λ t. i ≡ t.type_index)
         → i ≡ last_index (take n ts)
     named_by ts zero latest i within last index = let none = last.none refl in rw none at index
     named_by ts (suc n) latest i within last index =
@@ -179,7 +198,8 @@ entry_change z e k c valid made some more (at, fits, not_least, before, after) =
     }
 
 -- a change before the last transition comes with an entry
-pub table_change : (z : Zone) (e : Entries) (d : Change) → IsValid z → AreEntries z e → IsChange (TypeAt z) d → segment_of z (d.at -ℤ pos 1) < length z.transitions
+pub table_change : (z : Zone) (e : Entries) (d : Change) → IsValid z → AreEntries z e → IsChange (TypeAt z) d
+    → segment_of z (d.at -ℤ pos 1) < length z.transitions
     → (k : ℕ) × (k < length e.items) × ((t : Transition) → (get_or e.items k t).unix_leap_time ≡ d.at)
 table_change z e d valid made is table =
     let u = d.at -ℤ pos 1 in
@@ -198,7 +218,8 @@ table_change z e d valid made is table =
         omega arith,
         λ t.
             let a = (come_by e m t d.at made.rising (omega arith)).0 b in
-            by_lt_z u (get_or e.items m t).unix_leap_time (λ q. omega (arith, ints)) (λ q. let r = (come_by e m t u made.rising (omega arith)).1 q in absurd (omega arith)),
+            by_lt_z u (get_or e.items m t).unix_leap_time (λ q. omega (arith, ints))
+            (λ q. let r = (come_by e m t u made.rising (omega arith)).1 q in absurd (omega arith)),
       )
       | inr b ↦
           let same : n ≡ m = elim (cases_lt n m) [
@@ -214,7 +235,8 @@ table_change z e d valid made is table =
     ]
 
 -- before an entry comes some transition has not
-in_table : (z : Zone) (e : Entries) (k : ℕ) (c : Change) → IsValid z → AreEntries z e → k < length e.items → IsChange (TypeAt z) c → ((d : Transition) → c.at ≡ (get_or e.items k d).unix_leap_time)
+in_table : (z : Zone) (e : Entries) (k : ℕ) (c : Change) → IsValid z → AreEntries z e → k < length e.items → IsChange (TypeAt z) c
+    → ((d : Transition) → c.at ≡ (get_or e.items k d).unix_leap_time)
     → segment_of z (c.at -ℤ pos 1) < length z.transitions
 in_table z e k c valid made some is at =
     let few = made.few in let more = made.more in
@@ -227,7 +249,8 @@ in_table z e k c valid made some is at =
     elim (cases_lt (segment_of z (c.at -ℤ pos 1)) (length z.transitions)) [ inl b ↦ b | inr m ↦ let q = last.0 (omega arith) in absurd (omega arith) ]
 
 -- ---- the next change of the table
-pub next_none : (z : Zone) (e : Entries) (after : ℤ) → IsValid z → AreEntries z e → count_at e after ≡ length e.items → HasNoChange (TypeAt z) (IsInTable z (λ u. after <ℤ u))
+pub next_none : (z : Zone) (e : Entries) (after : ℤ) → IsValid z → AreEntries z e → count_at e after ≡ length e.items
+    → HasNoChange (TypeAt z) (IsInTable z (λ u. after <ℤ u))
 next_none z e after valid made all d is inside =
     let (k, some, at) = table_change z e d valid made is inside.table in
     let t : Transition = record { unix_leap_time = pos 0; type_index = 0 } in
@@ -257,7 +280,8 @@ next_found z e after c valid made some is at =
           ];
     }
 
-pub next_by_entry : (z : Zone) (e : Entries) (after : ℤ) (r : Option Change) → IsValid z → AreEntries z e → count_at e after < length e.items → count_at e after + 1 < e.all → SFits w64 after
+pub next_by_entry : (z : Zone) (e : Entries) (after : ℤ) (r : Option Change) → IsValid z → AreEntries z e → count_at e after < length e.items
+    → count_at e after + 1 < e.all → SFits w64 after
     → IsEntryChange z.types e.items (count_at e after) r → IsFirst (TypeAt z) (IsInTable z (λ u. after <ℤ u)) r
 next_by_entry z e after None valid made some more fits least =
     let t : Transition = record { unix_leap_time = pos 0; type_index = 0 } in
@@ -266,9 +290,11 @@ next_by_entry z e after None valid made some more fits least =
 next_by_entry z e after (Some c) valid made some more fits h =
     let (at, _, _, _, _) = h in next_found z e after c valid made some (entry_change z e (count_at e after) c valid made some more h) at
 
-pub next_by_last : (z : Zone) (e : Entries) (after second : ℤ) (r : Option Change) → IsValid z → AreEntries z e → count_at e after < length e.items → e.all ≤ count_at e after + 1
+pub next_by_last : (z : Zone) (e : Entries) (after second : ℤ) (r : Option Change) → IsValid z → AreEntries z e → count_at e after < length e.items
+    → e.all ≤ count_at e after + 1
     → ((d : Transition) → second ≡ (get_or e.items (count_at e after) d).unix_leap_time)
-    → MatchOption r (HasNoChange (TypeAt z) (λ u. u ≡ second)) (λ c. IsChange (TypeAt z) c × (c.at ≡ second)) → IsFirst (TypeAt z) (IsInTable z (λ u. after <ℤ u)) r
+    → MatchOption r (HasNoChange (TypeAt z) (λ u. u ≡ second)) (λ c. IsChange (TypeAt z) c × (c.at ≡ second))
+    → IsFirst (TypeAt z) (IsInTable z (λ u. after <ℤ u)) r
 next_by_last z e after second None valid made some last at none = λ d is inside.
     let t : Transition = record { unix_leap_time = pos 0; type_index = 0 } in
     let (k, below, time) = table_change z e d valid made is inside.table in
@@ -284,9 +310,11 @@ next_by_last z e after second (Some c) valid made some last at h = next_found z 
 -- ---- the previous change of the table
 -- of the entries that have come, those after the first k make no change
 abbrev pub AreIdleBehind : Zone → Entries → ℤ → ℕ → Type 0
-AreIdleBehind z e last k = (j : ℕ) → k ≤ j → j < count_at e last → (d : Change) → IsChange (TypeAt z) d → ((t : Transition) → (get_or e.items j t).unix_leap_time ≡ d.at) → ⊥
+AreIdleBehind z e last k = (j : ℕ) → k ≤ j → j < count_at e last → (d : Change) → IsChange (TypeAt z) d
+    → ((t : Transition) → (get_or e.items j t).unix_leap_time ≡ d.at) → ⊥
 
-pub previous_none : (z : Zone) (e : Entries) (last : ℤ) → IsValid z → AreEntries z e → AreIdleBehind z e last 0 → HasNoChange (TypeAt z) (IsInTable z (λ u. u ≤ℤ last))
+pub previous_none : (z : Zone) (e : Entries) (last : ℤ) → IsValid z → AreEntries z e → AreIdleBehind z e last 0
+    → HasNoChange (TypeAt z) (IsInTable z (λ u. u ≤ℤ last))
 previous_none z e last valid made idle d is inside =
     let t : Transition = record { unix_leap_time = pos 0; type_index = 0 } in
     let (k, below, time) = table_change z e d valid made is inside.table in
@@ -294,7 +322,8 @@ previous_none z e last valid made idle d is inside =
     let up_to = inside.inside in
     idle k (omega arith) ((come_by e k t last made.rising below).1 (omega (arith, ints))) d is time
 
-previous_found : (z : Zone) (e : Entries) (last : ℤ) (k : ℕ) (c : Change) → IsValid z → AreEntries z e → k < count_at e last → AreIdleBehind z e last (k + 1) → IsChange (TypeAt z) c
+previous_found : (z : Zone) (e : Entries) (last : ℤ) (k : ℕ) (c : Change) → IsValid z → AreEntries z e → k < count_at e last
+    → AreIdleBehind z e last (k + 1) → IsChange (TypeAt z) c
     → ((d : Transition) → c.at ≡ (get_or e.items k d).unix_leap_time) → IsLastChange (TypeAt z) (IsInTable z (λ u. u ≤ℤ last)) c
 previous_found z e last k c valid made come idle is at =
     let t : Transition = record { unix_leap_time = pos 0; type_index = 0 } in
@@ -318,7 +347,8 @@ previous_found z e last k c valid made come idle is at =
     }
 
 -- an entry at the least second makes none, nor do those before it
-least_idle : (z : Zone) (e : Entries) (last : ℤ) (k : ℕ) → AreEntries z e → k < count_at e last → AreIdleBehind z e last (k + 1) → ((d : Transition) → (get_or e.items k d).unix_leap_time ≡ least_time)
+least_idle : (z : Zone) (e : Entries) (last : ℤ) (k : ℕ) → AreEntries z e → k < count_at e last → AreIdleBehind z e last (k + 1)
+    → ((d : Transition) → (get_or e.items k d).unix_leap_time ≡ least_time)
     → AreIdleBehind z e last 0
 least_idle z e last k made come idle least j _ below d is time =
     let t : Transition = record { unix_leap_time = pos 0; type_index = 0 } in
@@ -330,7 +360,8 @@ least_idle z e last k made come idle least j _ below d is time =
       | inr m ↦ let r = not_later e.items j k t made.rising m (omega arith) in absurd (omega (arith, ints))
     ]
 
-pub previous_by_entry : (z : Zone) (e : Entries) (last : ℤ) (k : ℕ) (r : Option Change) → IsValid z → AreEntries z e → k < count_at e last → k + 1 < e.all → AreIdleBehind z e last (k + 1)
+pub previous_by_entry : (z : Zone) (e : Entries) (last : ℤ) (k : ℕ) (r : Option Change) → IsValid z → AreEntries z e → k < count_at e last → k + 1 < e.all
+    → AreIdleBehind z e last (k + 1)
     → IsEntryChange z.types e.items k r → IsLast (TypeAt z) (IsInTable z (λ u. u ≤ℤ last)) r
 previous_by_entry z e last k None valid made come more idle least = previous_none z e last valid made (least_idle z e last k made come idle least)
 previous_by_entry z e last k (Some c) valid made come more idle h =
@@ -347,9 +378,11 @@ idle_more z e last second k all at none j low high d is time =
     let t : Transition = record { unix_leap_time = pos 0; type_index = 0 } in
     let same : j ≡ k = omega arith in none d is (sym (time t) ∙ ap (λ i. (get_or e.items i t).unix_leap_time) same ∙ sym (at t))
 
-pub previous_at : (z : Zone) (e : Entries) (last second : ℤ) (k : ℕ) (c : Change) → IsValid z → AreEntries z e → count_at e last ≡ k + 1 → ((d : Transition) → second ≡ (get_or e.items k d).unix_leap_time)
+pub previous_at : (z : Zone) (e : Entries) (last second : ℤ) (k : ℕ) (c : Change) → IsValid z → AreEntries z e → count_at e last ≡ k + 1
+    → ((d : Transition) → second ≡ (get_or e.items k d).unix_leap_time)
     → IsChange (TypeAt z) c → c.at ≡ second → IsLastChange (TypeAt z) (IsInTable z (λ u. u ≤ℤ last)) c
-previous_at z e last second k c valid made all at is there = previous_found z e last k c valid made (omega arith) (none_behind z e last (k + 1) all) is (λ d. there ∙ at d)
+previous_at z e last second k c valid made all at is there =
+    previous_found z e last k c valid made (omega arith) (none_behind z e last (k + 1) all) is (λ d. there ∙ at d)
 
 -- ---- between two entries
 index_below : (z : Zone) (e : Entries) (k : ℕ) → IsValid z → AreEntries z e → k ≤ length e.items → index_of e.items k < length z.types
@@ -378,7 +411,8 @@ count_amid e u v b rising h from until =
     ]
 
 -- and the type of the index is in force
-type_between : (z : Zone) (e : Entries) (u v : ℤ) (b : Between) (t : LocalType) → IsValid z → AreEntries z e → IsBetween e u b → SFits w64 v → b.from ≤ℤ v → v <ℤ b.until → HasType z b.index t → TypeAt z v t
+type_between : (z : Zone) (e : Entries) (u v : ℤ) (b : Between) (t : LocalType) → IsValid z → AreEntries z e → IsBetween e u b → SFits w64 v → b.from ≤ℤ v
+    → v <ℤ b.until → HasType z b.index t → TypeAt z v t
 type_between z e u v b t valid made h fits from until has =
     let d : Transition = record { unix_leap_time = pos 0; type_index = 0 } in
     let (x, l) = made.leap_time h.place d h.some in
@@ -387,7 +421,8 @@ type_between z e u v b t valid made h fits from until has =
     let more = made.more in let some = h.some in
     type_amid z e v y h.place t made fits m (count_amid e u v b made.rising h from until) (omega arith) (rw h.index at has)
 
-pub stretch_between : (z : Zone) (e : Entries) (u v : ℤ) (b : Between) (t : LocalType) → IsValid z → AreEntries z e → IsBetween e u b → SFits w64 b.from → SFits w64 b.until
+pub stretch_between : (z : Zone) (e : Entries) (u v : ℤ) (b : Between) (t : LocalType) → IsValid z → AreEntries z e → IsBetween e u b
+    → SFits w64 b.from → SFits w64 b.until
     → HasType z b.index t → b.from ≤ℤ v → v <ℤ b.until → TypeAt z v t
 stretch_between z e u v b t valid made h low high has from until = type_between z e u v b t valid made h (omega (arith, ints)) from until has
 
@@ -395,7 +430,8 @@ pub index_between : (z : Zone) (e : Entries) (u : ℤ) (b : Between) → IsValid
 index_between z e u b valid made h = let some = h.some in rw h.index (index_below z e h.place valid made (omega arith))
 
 -- the second of which they are asked is one of them
-since_place : (e : Entries) (u from : ℤ) (k : ℕ) → AreRising e.items → k ≤ length e.items → k ≡ count_at e u → from ≡ begin_of e.items k → SFits w64 u → from ≤ℤ u
+since_place : (e : Entries) (u from : ℤ) (k : ℕ) → AreRising e.items → k ≤ length e.items → k ≡ count_at e u
+    → from ≡ begin_of e.items k → SFits w64 u → from ≤ℤ u
 since_place e u from zero rising few come begin fits = omega (arith, ints)
 since_place e u from (suc j) rising few come begin fits =
     let d : Transition = record { unix_leap_time = pos 0; type_index = 0 } in
@@ -411,7 +447,8 @@ inside_between z e u b made h fits =
       by_lt_z u b.until (λ q. q) (λ q. let r = (come_by e h.place d u made.rising inside).1 (omega (arith, ints)) in absurd (omega arith)),
     )
 
-pub span_between : (z : Zone) (e : Entries) (u : ℤ) (b : Between) (t : LocalType) → IsValid z → AreEntries z e → IsBetween e u b → IsTrue b.is_span → SFits w64 u → SFits w64 b.from → SFits w64 b.until
+pub span_between : (z : Zone) (e : Entries) (u : ℤ) (b : Between) (t : LocalType) → IsValid z → AreEntries z e → IsBetween e u b → IsTrue b.is_span
+    → SFits w64 u → SFits w64 b.from → SFits w64 b.until
     → HasType z b.index t → IsSpanAt (TypeAt z) u (record { local_time_type = t; from = Some b.from; until = Some b.until })
 span_between z e u b t valid made h is fits low high has =
     let d : Transition = record { unix_leap_time = pos 0; type_index = 0 } in
@@ -420,10 +457,12 @@ span_between z e u b t valid made h is fits low high has =
     let same : (k - 1) + 1 ≡ k = omega arith in
     let few = made.few in
     let end = h.until d in
-    let begin : (f : Transition) → b.from ≡ (get_or e.items (k - 1) f).unix_leap_time = λ f. h.from ∙ ap (λ i. begin_of e.items i) (sym same) ∙ begin_next e.items (k - 1) f (omega arith) in
+    let begin : (f : Transition) → b.from ≡ (get_or e.items (k - 1) f).unix_leap_time =
+    λ f. h.from ∙ ap (λ i. begin_of e.items i) (sym same) ∙ begin_next e.items (k - 1) f (omega arith) in
     let come = h.come in let begin_d = begin d in
     let since : b.from ≤ℤ u = let r = (come_by e (k - 1) d u made.rising (omega arith)).0 (omega arith) in omega (arith, ints) in
-    let before : u <ℤ b.until = by_lt_z u b.until (λ q. q) (λ q. let r = (come_by e k d u made.rising inside).1 (omega (arith, ints)) in absurd (omega arith)) in
+    let before : u <ℤ b.until =
+    by_lt_z u b.until (λ q. q) (λ q. let r = (come_by e k d u made.rising inside).1 (omega (arith, ints)) in absurd (omega arith)) in
     let (r, has_r) = inside_listed z.types (index_of e.items (k - 1)) (index_below z e (k - 1) valid made (omega arith)) in
     let (s, has_s) = inside_listed z.types (index_of e.items (k + 1)) (index_below z e (k + 1) valid made (omega arith)) in
     let own : slice_get z.types (index_of e.items k) ≡ Some t = rw h.index at has in

@@ -3,8 +3,10 @@ use Rattle.std.proofs.Math.Seq.{take-suc}
 use Rattle.std.proofs.lemmas.List.{take-append-le}
 use Rattle.std.proofs.lemmas.List.Elements.{filter-append}
 use Rattle.tz_info.proofs.Words.{AreLeapSeconds, AreRising, Bool, IsFromLast, IsLeapTime, IsLeapTimeRefused, IsValid, LeapSecond, List, SFits, Transition, Zone}
-use Rattle.tz_info.proofs.Words.{all_pairs_push, append-nil, ap, arith, by_lt_z, cases_lt, false, get_or, get_or_append_left, get_or_default, get_or_push, index_of}
-use Rattle.tz_info.proofs.Words.{inl, inr, int_le, ints, last_else, le_false, le_true, length, length_push, map, nat_tests, pos, passed, refl, slice_get, slice_get-get_or, Option, Some, None, suc, sym}
+use Rattle.tz_info.proofs.Words.{all_pairs_push, append-nil, ap, arith, by_lt_z, cases_lt, false, get_or, get_or_append_left, get_or_default, get_or_push}
+use Rattle.tz_info.proofs.Words.{index_of}
+use Rattle.tz_info.proofs.Words.{inl, inr, int_le, ints, last_else, le_false, le_true, length, length_push, map, nat_tests, pos, passed, refl, slice_get}
+use Rattle.tz_info.proofs.Words.{slice_get-get_or, Option, Some, None, suc, sym}
 use Rattle.tz_info.proofs.Words.{take, take_all, true, w64, zero, ℕ, ℤ, [], ◌++◌, ◌+◌, ◌-◌, ◌==◌, ◌<ℤ◌, ◌<◌, ◌↔◌, ◌∙◌, ◌∷◌, ◌≡◌, ◌≢◌, ◌≤ℤ◌, ◌≤◌, ◌⊎◌}
 use Rattle.std.specs.Prelude.{option_to_list}
 use Rattle.std.proofs.lemmas.Option.{slice_get_within}
@@ -31,7 +33,8 @@ passed_none [] x h = refl
 passed_none (t ∷ ts) x h = rw (le_false t.unix_leap_time x (h 0 t (omega arith)), passed_none ts x (λ k d l. h (suc k) d (omega arith))) refl
 
 -- none after the first k has come
-pub passed_first : (ts : List Transition) (k : ℕ) (x : ℤ) → ((i : ℕ) (d : Transition) → k ≤ i → i < length ts → x <ℤ (get_or ts i d).unix_leap_time) → passed ts x ≡ passed (take k ts) x
+pub passed_first : (ts : List Transition) (k : ℕ) (x : ℤ) → ((i : ℕ) (d : Transition) → k ≤ i → i < length ts → x <ℤ (get_or ts i d).unix_leap_time)
+    → passed ts x ≡ passed (take k ts) x
 passed_first [] zero x h = refl
 passed_first [] (suc k) x h = refl
 passed_first (t ∷ ts) zero x h = passed_none (t ∷ ts) x (λ i d l. h i d (omega arith) l)
@@ -46,7 +49,8 @@ pub record AreMadeOf (z : Zone) (entries : List Transition) (k : ℕ) : Type 0 w
   pub rising : AreRising entries
   pub indexes : (j : ℕ) (d : Transition) → j < length entries → (get_or entries j d).type_index < length z.types
   pub few : length entries ≤ k
-  pub named : (u x : ℤ) → IsLeapTime z.leaps u x → slice_get z.types (last_index (passed (take k z.transitions) x)) ≡ slice_get z.types (last_index (passed entries u))
+  pub named : (u x : ℤ) → IsLeapTime z.leaps u x
+      → slice_get z.types (last_index (passed (take k z.transitions) x)) ≡ slice_get z.types (last_index (passed entries u))
   pub leap_time : (j : ℕ) (d : Transition) → j < length entries → (x : ℤ) × IsLeapTime z.leaps (get_or entries j d).unix_leap_time x
   -- they have come once the first k transitions have
   pub until : (u y : ℤ) → IsLeapTime z.leaps u y → ((i : ℕ) (d : Transition) → i < k → (get_or z.transitions i d).unix_leap_time ≤ℤ y)
@@ -86,7 +90,8 @@ kept_of z entries kept k s more made until (none_there e other) = rw e (record {
     | inl m ↦
         let last = until (length entries - 1) d (omega arith) in
         let r = made.rising j (length entries - 1) d (omega arith) (omega arith) in omega (arith, ints)
-    | inr m ↦ let a = until j d h in let b : ¬ ((get_or entries j d).unix_leap_time ≡ s) = λ e2. other (get_or entries j d, ap (λ n. slice_get entries n) (sub_one (omega arith)) ∙ slice_get-get_or entries j d h, e2) in omega (arith, ints)
+    | inr m ↦ let a = until j d h in let b : ¬ ((get_or entries j d).unix_leap_time ≡ s) =
+        λ e2. other (get_or entries j d, ap (λ n. slice_get entries n) (sub_one (omega arith)) ∙ slice_get-get_or entries j d h, e2) in omega (arith, ints)
   ];
   same = λ u h. refl;
   differ = λ j h. made.differ j h (inr more);
@@ -113,7 +118,8 @@ kept_of z entries kept k s more made until (one_there t e at) =
 -- one transition more
 pub one_more : (z : Zone) (old kept entries : List Transition) (k : ℕ) (s : ℤ) (t entry : Transition) (is_last : Bool) → IsValid z → k < length z.transitions
     → t ≡ get_or z.transitions k t → AreMadeOf z old k → IsStartIn z.leaps t.unix_leap_time s → AreBefore old s kept
-    → entry.unix_leap_time ≡ s → entry.type_index ≡ t.type_index → (is_last ≡ false → k + 1 < length z.transitions) → (is_last ≡ true → k + 1 ≡ length z.transitions)
+    → entry.unix_leap_time ≡ s → entry.type_index ≡ t.type_index → (is_last ≡ false → k + 1 < length z.transitions)
+    → (is_last ≡ true → k + 1 ≡ length z.transitions)
     → IsAdded z.types kept entry is_last entries → AreMadeOf z entries (k + 1)
 one_more z old kept entries k s t entry is_last valid more item made start before at index not_last is_one change =
     let until : (j : ℕ) (d : Transition) → j < length old → (get_or old j d).unix_leap_time ≤ℤ s = λ j d h.
@@ -125,11 +131,14 @@ one_more z old kept entries k s t entry is_last valid more item made start befor
     let k_of = kept_of z old kept k s more made until before in
     more_of z old kept entries k s t entry is_last valid more item made start k_of at index not_last is_one change
   where
-    one_taken : (z : Zone) (k : ℕ) (t : Transition) → k < length z.transitions → t ≡ get_or z.transitions k t → take (k + 1) z.transitions ≡ take k z.transitions ++ (t ∷ [])
-    one_taken z k t more item = let e : k + 1 ≡ suc k = omega arith in rw e (take-suc z.transitions k t more ∙ ap (λ (a : Transition). take k z.transitions ++ (a ∷ [])) (sym item))
+    one_taken : (z : Zone) (k : ℕ) (t : Transition) → k < length z.transitions → t ≡ get_or z.transitions k t
+        → take (k + 1) z.transitions ≡ take k z.transitions ++ (t ∷ [])
+    one_taken z k t more item = let e : k + 1 ≡ suc k = omega arith in
+        rw e (take-suc z.transitions k t more ∙ ap (λ (a : Transition). take k z.transitions ++ (a ∷ [])) (sym item))
 
     -- before the second nothing is new
-    named_before : (z : Zone) (old kept : List Transition) (k : ℕ) (s u x : ℤ) (t : Transition) → k < length z.transitions → t ≡ get_or z.transitions k t → AreMadeOf z old k
+    named_before : (z : Zone) (old kept : List Transition) (k : ℕ) (s u x : ℤ) (t : Transition) → k < length z.transitions
+        → t ≡ get_or z.transitions k t → AreMadeOf z old k
         → IsStartIn z.leaps t.unix_leap_time s → AreKept z old kept s → IsLeapTime z.leaps u x → u <ℤ s
         → slice_get z.types (last_index (passed (take (k + 1) z.transitions) x)) ≡ slice_get z.types (last_index (passed kept u))
     named_before z old kept k s u x t more item made start kp l early =
@@ -148,7 +157,8 @@ one_more z old kept entries k s t entry is_last valid more item made start befor
 
     more_of : (z : Zone) (old kept entries : List Transition) (k : ℕ) (s : ℤ) (t entry : Transition) (is_last : Bool) → IsValid z → k < length z.transitions
         → t ≡ get_or z.transitions k t → AreMadeOf z old k → IsStartIn z.leaps t.unix_leap_time s → AreKept z old kept s
-        → entry.unix_leap_time ≡ s → entry.type_index ≡ t.type_index → (is_last ≡ false → k + 1 < length z.transitions) → (is_last ≡ true → k + 1 ≡ length z.transitions)
+        → entry.unix_leap_time ≡ s → entry.type_index ≡ t.type_index → (is_last ≡ false → k + 1 < length z.transitions)
+        → (is_last ≡ true → k + 1 ≡ length z.transitions)
         → IsAdded z.types kept entry is_last entries → AreMadeOf z entries (k + 1)
     more_of z old kept entries k s t entry is_last valid more item made start kp at index not_last is_one (idle e not same) = rw e (record {
       rising = kp.rising;
@@ -168,7 +178,8 @@ one_more z old kept entries k s t entry is_last valid more item made start befor
     })
     more_of z old kept entries k s t entry is_last valid more item made start kp at index not_last is_one (added e why) =
         let n : length entries ≡ length kept + 1 = ap length e ∙ length_push kept entry in
-        let item_of : (j : ℕ) (d : Transition) → j < length kept → get_or entries j d ≡ get_or kept j d = λ j d h. rw e (get_or_append_left kept (entry ∷ []) d j h) in
+        let item_of : (j : ℕ) (d : Transition) → j < length kept → get_or entries j d ≡ get_or kept j d =
+        λ j d h. rw e (get_or_append_left kept (entry ∷ []) d j h) in
         let own : (d : Transition) → get_or entries (length kept) d ≡ entry = λ d. rw e (get_or_push kept entry d (length kept) refl) in
         record {
           rising = rw e (all_pairs_push (λ (a b : Transition). a.unix_leap_time <ℤ b.unix_leap_time) kept entry kp.rising (λ j d h. rw at (kp.earlier j d h)));
@@ -182,7 +193,13 @@ one_more z old kept entries k s t entry is_last valid more item made start befor
           few = let a = made.few in let b = kp.few in omega arith;
           named = λ u x l. by_lt_z u s
               (λ early. rw (e, passed_out kept entry u (rw at early)) (named_before z old kept k s u x t more item made start kp l early))
-              (λ late. rw (named_from z k s u x t more item start l late, e, passed_in kept entry u (rw at late), last_more (passed kept u) entry 0, index) refl);
+              (λ late. rw (
+                named_from z k s u x t more item start l late,
+                e,
+                passed_in kept entry u (rw at late),
+                last_more (passed kept u) entry 0,
+                index,
+              ) refl);
           leap_time = λ j d h. elim (cases_lt j (length kept)) [
             | inl b ↦ rw (item_of j d b) (kp.leap_time j d b)
             | inr m ↦ let z2 : j ≡ length kept = omega arith in rw (z2, own d, at) start.leap_time
@@ -196,22 +213,28 @@ one_more z old kept entries k s t entry is_last valid more item made start befor
           last = λ i d e2 all u y l come.
               let c = come (length kept) d (omega arith) in
               let i2 : i ≡ k = omega arith in
-              let g : (get_or z.transitions k d).unix_leap_time ≡ t.unix_leap_time = ap (λ (a : Transition). a.unix_leap_time) (get_or_default z.transitions k d t more ∙ sym item) in
+              let g : (get_or z.transitions k d).unix_leap_time ≡ t.unix_leap_time =
+              ap (λ (a : Transition). a.unix_leap_time) (get_or_default z.transitions k d t more ∙ sym item) in
               rw (i2, g) ((start.reached u y l).1 (rw (own d, at) at c));
           some = λ h all. omega arith;
           differ = λ j h m. elim (cases_lt j (length kept)) [
             | inl b ↦ rw (e, index_left kept (entry ∷ []) j (omega arith), index_left kept (entry ∷ []) (j + 1) (omega arith)) (kp.differ j b)
             | inr over ↦
                 let z2 : j ≡ length kept = omega arith in
-                let one = index_left kept (entry ∷ []) (length kept) (omega arith) ∙ ap (λ (a : List Transition). last_index a) (take_all (length kept) kept (omega arith)) in
-                let two : index_of (kept ++ (entry ∷ [])) (length kept + 1) ≡ entry.type_index = ap (λ (a : List Transition). last_index a) (take_all (length kept + 1) (kept ++ (entry ∷ [])) (let p = length_push kept entry in omega arith)) ∙ last_more kept entry 0 in
-                rw (e, z2, one, two) (elim why [ inl ends ↦ absurd (let a = is_one ends in elim m [ inl b ↦ omega arith | inr b ↦ omega arith ]) | inr other ↦ other ])
+                let one = index_left kept (entry ∷ []) (length kept) (omega arith)
+                ∙ ap (λ (a : List Transition). last_index a) (take_all (length kept) kept (omega arith)) in
+                let two : index_of (kept ++ (entry ∷ [])) (length kept + 1) ≡ entry.type_index =
+                ap (λ (a : List Transition). last_index a)
+                (take_all (length kept + 1) (kept ++ (entry ∷ [])) (let p = length_push kept entry in omega arith)) ∙ last_more kept entry 0 in
+                rw (e, z2, one, two)
+                (elim why [ inl ends ↦ absurd (let a = is_one ends in elim m [ inl b ↦ omega arith | inr b ↦ omega arith ]) | inr other ↦ other ])
           ];
         }
 
 -- ---- all transitions
 -- those that have come are all, if and only if each has
-all_passed : (ts : List Transition) (x : ℤ) → AreRising ts → length (passed ts x) ≡ length ts → (k : ℕ) (d : Transition) → k < length ts → (get_or ts k d).unix_leap_time ≤ℤ x
+all_passed : (ts : List Transition) (x : ℤ) → AreRising ts → length (passed ts x) ≡ length ts → (k : ℕ) (d : Transition) → k < length ts
+    → (get_or ts k d).unix_leap_time ≤ℤ x
 all_passed ts x rising e k d h = (come_by_time ts x k d rising h).0 (omega arith)
 
 from_last : (z : Zone) (entries : List Transition) (u x : ℤ) → IsValid z → AreMadeOf z entries (length z.transitions) → IsLeapTime z.leaps u x
@@ -223,7 +246,8 @@ from_last z entries u x valid made l = (
   λ come. elim (cases_lt 0 (length z.transitions)) [
     | inl some ↦
         let k = length z.transitions - 1 in
-        let last : (d : Transition) → (get_or z.transitions k d).unix_leap_time ≤ℤ x = λ d. made.last k d (omega arith) refl u x l (all_passed entries u made.rising come) in
+        let last : (d : Transition) → (get_or z.transitions k d).unix_leap_time ≤ℤ x =
+        λ d. made.last k d (omega arith) refl u x l (all_passed entries u made.rising come) in
         ap length (passed_all z.transitions x (λ i d h.
         let n = not_later z.transitions i k d valid.transitions.rising (omega arith) (omega arith) in let m = last d in omega (arith, ints)))
     | inr none ↦ let m = place_most z.transitions x valid.transitions.rising in omega arith
@@ -281,7 +305,8 @@ never_come z entries k all t valid more item never a made =
 abbrev pub AreChanges : Zone → ℕ → Type 0
 AreChanges z n = (k : ℕ) → k + 1 < n → slice_get z.types (index_of z.transitions (k + 1)) ≢ slice_get z.types (index_of z.transitions k)
 
-pub one_change : (z : Zone) (n : ℕ) → 0 < n → AreChanges z n → slice_get z.types (index_of z.transitions n) ≢ slice_get z.types (index_of z.transitions (n - 1)) → AreChanges z (n + 1)
+pub one_change : (z : Zone) (n : ℕ) → 0 < n → AreChanges z n
+    → slice_get z.types (index_of z.transitions n) ≢ slice_get z.types (index_of z.transitions (n - 1)) → AreChanges z (n + 1)
 one_change z n some h last k below = elim (cases_lt (k + 1) n) [
   | inl m ↦ h k m
   | inr m ↦ let e : k + 1 ≡ n = omega arith in let p : n - 1 ≡ k = omega arith in rw (e, ← p) last
@@ -308,33 +333,40 @@ own_entries z valid none differ = record {
     same (e ∷ es) u x none l = absurd (omega arith)
 
 -- ---- the second at which a transition comes
-pub never_then : (leaps : List LeapSecond) (x start : ℤ) → ((u y : ℤ) → IsLeapTime leaps u y → (x ≤ℤ y) ↔ (start ≤ℤ u)) → pos 9_223_372_036_854_775_807 <ℤ start → NeverComes leaps x
+pub never_then : (leaps : List LeapSecond) (x start : ℤ) → ((u y : ℤ) → IsLeapTime leaps u y → (x ≤ℤ y) ↔ (start ≤ℤ u))
+    → pos 9_223_372_036_854_775_807 <ℤ start → NeverComes leaps x
 never_then leaps x start reached late u y f l = by_lt_z y x (λ h. h) (λ h. let a = (reached u y l).0 h in absurd (omega (arith, ints)))
 
-pub never_refused : (leaps : List LeapSecond) (x start : ℤ) → AreLeapSeconds leaps → ((u y : ℤ) → IsLeapTime leaps u y → (x ≤ℤ y) ↔ (start ≤ℤ u)) → IsLeapTimeRefused leaps start
+pub never_refused : (leaps : List LeapSecond) (x start : ℤ) → AreLeapSeconds leaps → ((u y : ℤ) → IsLeapTime leaps u y → (x ≤ℤ y) ↔ (start ≤ℤ u))
+    → IsLeapTimeRefused leaps start
     → NeverComes leaps x
-never_refused leaps x start valid reached refused u y f l = by_lt_z y x (λ h. h) (λ h. absurd (refused_on leaps start u y valid ((reached u y l).0 h) refused l))
+never_refused leaps x start valid reached refused u y f l =
+    by_lt_z y x (λ h. h) (λ h. absurd (refused_on leaps start u y valid ((reached u y l).0 h) refused l))
 
 -- ---- one entry less
 pub popped : (entries kept : List Transition) (r : Option Transition) (second : ℤ) → EndsAt entries second → entries ≡ kept ++ option_to_list r
     → ((d : Transition) → 0 < length entries → r ≡ Some (get_or entries (length entries - 1) d)) → AreBefore entries second kept
-popped entries kept None second (t, is, at) e value = absurd (let some = slice_get_within entries (length entries - 1) t is in let v = value t (omega arith) in cc)
+popped entries kept None second (t, is, at) e value =
+    absurd (let some = slice_get_within entries (length entries - 1) t is in let v = value t (omega arith) in cc)
 popped entries kept (Some r) second (t, is, at) e value =
     let some = slice_get_within entries (length entries - 1) t is in
     let v = value t (omega arith) in
     let g = slice_get-get_or entries (length entries - 1) t some in
     one_there r e (grind arith)
 
-pub last_item : (entries : List Transition) (t : Transition) → 0 < length entries → t ≡ get_or entries (length entries - 1) t → t.type_index ≡ last_index entries
+pub last_item : (entries : List Transition) (t : Transition) → 0 < length entries → t ≡ get_or entries (length entries - 1) t
+    → t.type_index ≡ last_index entries
 last_item entries t some item =
     let n : suc (length entries - 1) ≡ length entries = omega arith in
     let e = last_taken (λ (a : Transition). a.type_index) 0 entries (length entries - 1) t (omega arith) in
     ap (λ (a : Transition). a.type_index) item ∙ sym e ∙ ap (λ (a : List Transition). last_index a) (take_all (suc (length entries - 1)) entries (omega arith))
 
-pub last_below : (entries : List Transition) (n : ℕ) → 0 < n → ((k : ℕ) (d : Transition) → k < length entries → (get_or entries k d).type_index < n) → last_index entries < n
+pub last_below : (entries : List Transition) (n : ℕ) → 0 < n
+    → ((k : ℕ) (d : Transition) → k < length entries → (get_or entries k d).type_index < n) → last_index entries < n
 last_below entries n some named = below entries 0 n some named
   where
-    below : (ts : List Transition) (i n : ℕ) → i < n → ((k : ℕ) (d : Transition) → k < length ts → (get_or ts k d).type_index < n) → last_else i (map (λ (t : Transition). t.type_index) ts) < n
+    below : (ts : List Transition) (i n : ℕ) → i < n → ((k : ℕ) (d : Transition) → k < length ts → (get_or ts k d).type_index < n)
+        → last_else i (map (λ (t : Transition). t.type_index) ts) < n
     below [] i n h all = h
     below (t ∷ ts) i n h all = below ts t.type_index n (all 0 t (omega arith)) (λ k d l. all (suc k) d (omega arith))
 
@@ -349,13 +381,16 @@ pub record IsTurn (z : Zone) (old kept entries : List Transition) (k : ℕ) (s :
   pub last : is_last ≡ (k + 1 == length z.transitions)
   pub change : IsAdded z.types kept entry is_last entries
 
-pub turned : (z : Zone) (old kept entries : List Transition) (k : ℕ) (s : ℤ) (t entry : Transition) (is_last : Bool) → IsValid z → IsTurn z old kept entries k s t entry is_last → AreMadeOf z entries (k + 1)
+pub turned : (z : Zone) (old kept entries : List Transition) (k : ℕ) (s : ℤ) (t entry : Transition) (is_last : Bool) → IsValid z
+    → IsTurn z old kept entries k s t entry is_last → AreMadeOf z entries (k + 1)
 turned z old kept entries k s t entry is_last valid h =
-    one_more z old kept entries k s t entry is_last valid h.more h.item h.made h.start h.before (ap (λ (a : Transition). a.unix_leap_time) h.at) (ap (λ (a : Transition). a.type_index) h.at)
+    one_more z old kept entries k s t entry is_last valid h.more h.item h.made h.start h.before (ap (λ (a : Transition). a.unix_leap_time) h.at)
+    (ap (λ (a : Transition). a.type_index) h.at)
     (λ e. let m = h.more in let l = h.last in grind (arith, nat_tests)) (λ e. let l = h.last in grind (arith, nat_tests)) h.change
 
 -- those that are kept name types
-pub kept_named : (entries kept : List Transition) (second : ℤ) (n : ℕ) → AreBefore entries second kept → ((k : ℕ) (d : Transition) → k < length entries → (get_or entries k d).type_index < n)
+pub kept_named : (entries kept : List Transition) (second : ℤ) (n : ℕ) → AreBefore entries second kept
+    → ((k : ℕ) (d : Transition) → k < length entries → (get_or entries k d).type_index < n)
     → (k : ℕ) (d : Transition) → k < length kept → (get_or kept k d).type_index < n
 kept_named entries kept second n (none_there e other) named k d h = rw e (named k d (rw e at h))
 kept_named entries kept second n (one_there t e at) named k d h =

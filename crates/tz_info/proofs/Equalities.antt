@@ -42,7 +42,8 @@ by_parts E to from back exact a b = (λ h. sym (back a) ∙ ap from ((exact (to 
 day_time_exact : IsExact day_time_eq.it
 day_time_exact a b = search rules
 
-pub alternate_exact : (a b : AlternateRule) → IsTrue (type_eq.it a.std b.std && (type_eq.it a.dst b.dst && (day_time_eq.it a.start b.start && day_time_eq.it a.end b.end))) ↔ (a ≡ b)
+pub alternate_exact : (a b : AlternateRule)
+    → IsTrue (type_eq.it a.std b.std && (type_eq.it a.dst b.dst && (day_time_eq.it a.start b.start && day_time_eq.it a.end b.end))) ↔ (a ≡ b)
 alternate_exact = grind (arith, type_exact, day_time_exact)
 
 pub rule_exact : (a b : TransitionRule) → IsTrue (rule_eq.it a b) ↔ (a ≡ b)
@@ -65,18 +66,24 @@ abbrev of_zone : List Transition × (List LocalType × (List LeapSecond × Optio
 of_zone p = record { transitions = p.0; types = p.1.0; leaps = p.1.1.0; rule = p.1.1.1 }
 
 pub zone_exact : (a b : Zone) → IsTrue (zone_eq transition_eq.it type_eq.it leap_eq.it rule_eq.it a b) ↔ (a ≡ b)
-zone_exact = by_parts (pair_eq (pointwise transition_eq.it) (pair_eq (pointwise type_eq.it) (pair_eq (pointwise leap_eq.it) (option_eq rule_eq.it)))) zone_parts of_zone (λ z. refl)
-    (pair_exact (pointwise transition_eq.it) (pair_eq (pointwise type_eq.it) (pair_eq (pointwise leap_eq.it) (option_eq rule_eq.it))) (list_exact transition_eq.it transition_exact)
+zone_exact = by_parts (pair_eq (pointwise transition_eq.it) (pair_eq (pointwise type_eq.it) (pair_eq (pointwise leap_eq.it) (option_eq rule_eq.it))))
+    zone_parts of_zone (λ z. refl)
+    (pair_exact (pointwise transition_eq.it) (pair_eq (pointwise type_eq.it) (pair_eq (pointwise leap_eq.it) (option_eq rule_eq.it)))
+    (list_exact transition_eq.it transition_exact)
     (pair_exact (pointwise type_eq.it) (pair_eq (pointwise leap_eq.it) (option_eq rule_eq.it)) (list_exact type_eq.it type_exact)
     (pair_exact (pointwise leap_eq.it) (option_eq rule_eq.it) (list_exact leap_eq.it leap_exact) (option_exact rule_eq.it rule_exact))))
 
 -- ---- seconds with types, and differences
 pub typed_second_exact : IsExact second_eq.it
-typed_second_exact = by_parts (pair_eq int_eq type_eq.it) (λ (s : TypedSecond). (s.at, s.local_time_type)) (λ p. record { at = p.0; local_time_type = p.1 }) (λ s. refl) (pair_exact int_eq type_eq.it second_exact type_exact)
+typed_second_exact = by_parts (pair_eq int_eq type_eq.it) (λ (s : TypedSecond). (s.at, s.local_time_type)) (λ p. record { at = p.0; local_time_type = p.1 })
+    (λ s. refl) (pair_exact int_eq type_eq.it second_exact type_exact)
 
 pub shown_seconds_exact : IsExact seconds_eq.it
-shown_seconds_exact = by_parts (pair_eq second_eq.it second_eq.it) (λ (s : ShownSeconds). (s.first, s.last)) (λ p. record { first = p.0; last = p.1 }) (λ s. refl) (pair_exact second_eq.it second_eq.it typed_second_exact typed_second_exact)
+shown_seconds_exact = by_parts (pair_eq second_eq.it second_eq.it) (λ (s : ShownSeconds). (s.first, s.last)) (λ p. record { first = p.0; last = p.1 })
+    (λ s. refl) (pair_exact second_eq.it second_eq.it typed_second_exact typed_second_exact)
 
 pub difference_exact : IsExact difference_eq.it
-difference_exact = by_parts (pair_eq int_eq (pair_eq int_eq (pair_eq type_eq.it type_eq.it))) (λ (d : Difference). (d.from, (d.until, (d.old, d.new)))) (λ p. record { from = p.0; until = p.1.0; old = p.1.1.0; new = p.1.1.1 }) (λ d. refl)
-    (pair_exact int_eq (pair_eq int_eq (pair_eq type_eq.it type_eq.it)) second_exact (pair_exact int_eq (pair_eq type_eq.it type_eq.it) second_exact (pair_exact type_eq.it type_eq.it type_exact type_exact)))
+difference_exact = by_parts (pair_eq int_eq (pair_eq int_eq (pair_eq type_eq.it type_eq.it))) (λ (d : Difference). (d.from, (d.until, (d.old, d.new))))
+    (λ p. record { from = p.0; until = p.1.0; old = p.1.1.0; new = p.1.1.1 }) (λ d. refl)
+    (pair_exact int_eq (pair_eq int_eq (pair_eq type_eq.it type_eq.it)) second_exact
+    (pair_exact int_eq (pair_eq type_eq.it type_eq.it) second_exact (pair_exact type_eq.it type_eq.it type_exact type_exact)))

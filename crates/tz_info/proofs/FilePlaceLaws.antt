@@ -1,19 +1,26 @@
 -- Where a file is at fault.
 use Rattle.std.specs.{Char.{is_ascii_whitespace}, List.{prefix_len}}
-use Rattle.tz_base.specs.{Fronts.{optional_tag_at}, Grammar.{At, Byte, Check, Ended, Grammar, Here, Marked, Nothing, Number, Refused, Rest, Run, Then, be_u32, from_fault, if_read}}
-use Rattle.tz_info.proofs.Words.{Bool, Decides-ltb, Err, Error, Exact, FilePieces, HasNoZero, HasPieces, IsBetweenNewlines, IsTrimAscii, IsTrimAsciiStart, IsTrimmed, IsTrue, IsUtf8}
-use Rattle.tz_info.proofs.Words.{List, LocalType, Ok, Option, Parts, Result, Some, Spells, TransitionRule, after_first_block, ap, append-nil, append_assoc, arith, below_more, block, drop, drop_front, exact_at}
-use Rattle.tz_info.proofs.Words.{false, false_unless, file, first_version, inl, inr, ints, is_between_newlines, later_version, length, length-append, nat_lt, nat_tests}
-use Rattle.tz_info.proofs.Words.{read, record_at, refl, slice_index, suc, sym, true, type_of_record, ℕ, ℤ, [], ◌*◌, ◌++◌, ◌+◌, ◌-◌, ◌<ℤ◌, ◌<◌, ◌>>=◌, ◌∙◌, ◌∷◌, ◌≡◌, ◌≤◌, ◌↔◌, ◌⊎◌}
+use Rattle.tz_base.specs.Fronts.{optional_tag_at}
+use Rattle.tz_base.specs.Grammar.{At, Byte, Check, Ended, Grammar, Here, Marked, Nothing, Number, Refused, Rest, Run, Then, be_u32, from_fault, if_read}
+use Rattle.tz_info.proofs.Words.{Bool, Decides-ltb, Err, Error, Exact, FilePieces, HasNoZero, HasPieces, IsBetweenNewlines, IsTrimAscii, IsTrimAsciiStart}
+use Rattle.tz_info.proofs.Words.{IsTrimmed, IsTrue, IsUtf8}
+use Rattle.tz_info.proofs.Words.{List, LocalType, Ok, Option, Parts, Result, Some, Spells, TransitionRule, after_first_block, ap, append-nil, append_assoc}
+use Rattle.tz_info.proofs.Words.{arith, below_more, block, drop, drop_front, exact_at}
+use Rattle.tz_info.proofs.Words.{false, false_unless, file, first_version, inl, inr, ints, is_between_newlines, later_version, length, length-append, nat_lt}
+use Rattle.tz_info.proofs.Words.{nat_tests}
+use Rattle.tz_info.proofs.Words.{read, record_at, refl, slice_index, suc, sym, true, type_of_record, ℕ, ℤ, [], ◌*◌, ◌++◌, ◌+◌, ◌-◌, ◌<ℤ◌, ◌<◌, ◌>>=◌, ◌∙◌, ◌∷◌}
+use Rattle.tz_info.proofs.Words.{◌≡◌, ◌≤◌, ◌↔◌, ◌⊎◌}
 use Rattle.tz_info.proofs.{FooterLaws.{between}, PosixLaws.{string_place_within}, TrimLaws.{fits_behind, front_counted, trims_both}, TypeLaws.{type_law}}
 use Rattle.tz_info.specs.FileHeaders.{header, six_counts, tzif, version, version_1}
 use Rattle.tz_info.specs.FilePieces.{after_header, later_pieces}
-use Rattle.tz_info.specs.FilePlaces.{ArePartPlaces, Colon, HoldsOfNone, In_string, In_text, IsFooterPlace, IsNotLater, IsTextPlace, IsTypeAt, IsTypePlace, No_first, No_last, Not_utf8, Zero, before_field, footer_bytes, in_order, time_at}
+use Rattle.tz_info.specs.FilePlaces.{ArePartPlaces, Colon, HoldsOfNone, In_string, In_text, IsFooterPlace, IsNotLater, IsTextPlace, IsTypeAt, IsTypePlace}
+use Rattle.tz_info.specs.FilePlaces.{No_first, No_last, Not_utf8, Zero, before_field, footer_bytes, in_order, time_at}
 use Rattle.tz_info.specs.{Steps.Places.{SaysSome}, TzFiles.{HasRule}}
 use Rattle.tz_info.specs.declared.file.place.PartPlaces.{PartPlaces}
-use Rattle.tz_info.specs.declared.file.header.{Counts.{Counts}, Header.{Header}, Place.{Place}, Place.TheVariants.{First, Second}, Version.{Version}, Version.TheVariants.{One, Three, Two}}
+use Rattle.tz_info.specs.declared.file.header.{Counts.{Counts}, Header.{Header}, Place.{Place}, Place.TheVariants.{First, Second}, Version.{Version}}
+use Rattle.tz_info.specs.declared.file.header.Version.TheVariants.{One, Three, Two}
 
--- ---- what is spelled stands in front of what follows
+-- ---- what is spelled comes first, and what follows after it
 pub front : {X : Type 0} (g : Grammar X) (bytes : List ℕ) (x : X) (rest : List ℕ) → Spells g bytes x rest → (before : List ℕ) × (bytes ≡ before ++ rest)
 front (Nothing v) bytes x rest h = ([], h.1)
 front (Then g f) bytes x rest (y, after, h, k) =
@@ -38,22 +45,32 @@ front (At place g) bytes x rest h = front g bytes x rest h
 block_whole : (w : ℕ) (c : Counts) (bytes : List ℕ) (b : Parts) (rest : List ℕ) → Spells (block w c) bytes b rest → bytes ≡ in_order b rest
 unfolding block
 block_whole w c bytes b rest (t, a1, h1, (i, a2, h2, (y, a3, h3, (d, a4, h4, (l, a5, h5, (s, a6, h6, (u, a7, h7, (value, same)))))))) =
-    rw value (h1.0 ∙ ap (λ x. t ++ x) (h2.0 ∙ ap (λ x. i ++ x) (h3.0 ∙ ap (λ x. y ++ x) (h4.0 ∙ ap (λ x. d ++ x) (h5.0 ∙ ap (λ x. l ++ x) (h6.0 ∙ ap (λ x. s ++ x) (h7.0 ∙ ap (λ x. u ++ x) same)))))))
+    rw value
+    (h1.0 ∙ ap (λ x. t ++ x)
+    (h2.0 ∙ ap (λ x. i ++ x)
+    (h3.0 ∙ ap (λ x. y ++ x) (h4.0 ∙ ap (λ x. d ++ x) (h5.0 ∙ ap (λ x. l ++ x) (h6.0 ∙ ap (λ x. s ++ x) (h7.0 ∙ ap (λ x. u ++ x) same)))))))
 
-later_whole : (c : Counts) (b : Parts) (start bytes after end : List ℕ) (second : Header) (parts : Parts) → Spells (block 4 c) start b bytes → Spells (header Second) bytes second after → Spells (block 8 second.counts) after parts end
+later_whole : (c : Counts) (b : Parts) (start bytes after end : List ℕ) (second : Header) (parts : Parts) → Spells (block 4 c) start b bytes
+    → Spells (header Second) bytes second after → Spells (block 8 second.counts) after parts end
     → (before : List ℕ) × (start ≡ before ++ in_order parts end)
 later_whole c b start bytes after end second parts h k m =
     let one = front (block 4 c) start b bytes h in
-    let two = front (header Second) bytes second after k in
-    (one.0 ++ two.0, one.1 ∙ ap (λ x. one.0 ++ x) (two.1 ∙ ap (λ x. two.0 ++ x) (block_whole 8 second.counts after parts end m)) ∙ sym (append_assoc one.0 two.0 (in_order parts end)))
+    let two = front (header Second) bytes second after k in (
+      one.0 ++ two.0,
+      one.1 ∙ ap (λ x. one.0 ++ x) (two.1 ∙ ap (λ x. two.0 ++ x) (block_whole 8 second.counts after parts end m))
+          ∙ sym (append_assoc one.0 two.0 (in_order parts end)),
+    )
 
-after_whole : (v : Version) (c : Counts) (b : Parts) (start bytes : List ℕ) (p : FilePieces) (rest : List ℕ) → Spells (block 4 c) start b bytes → Spells (after_first_block v c b) bytes p rest
+after_whole : (v : Version) (c : Counts) (b : Parts) (start bytes : List ℕ) (p : FilePieces) (rest : List ℕ) → Spells (block 4 c) start b bytes
+    → Spells (after_first_block v c b) bytes p rest
     → (before : List ℕ) × (start ≡ before ++ in_order p.parts (footer_bytes p.footer))
 unfolding after_first_block first_version later_version
 after_whole One c b start bytes p rest h (_, _, inl (none, _), (value, _)) = rw (value, ← none) ([], block_whole 4 c start b bytes h)
 after_whole One c b start bytes p rest h (_, _, inr (_, never), _) = absurd never
-after_whole Two c b start bytes p rest h (second, after, k, (parts, end, m, (footer, _, f, (value, _)))) = rw (value, f.0) (later_whole c b start bytes after end second parts h k m)
-after_whole Three c b start bytes p rest h (second, after, k, (parts, end, m, (footer, _, f, (value, _)))) = rw (value, f.0) (later_whole c b start bytes after end second parts h k m)
+after_whole Two c b start bytes p rest h (second, after, k, (parts, end, m, (footer, _, f, (value, _)))) =
+    rw (value, f.0) (later_whole c b start bytes after end second parts h k m)
+after_whole Three c b start bytes p rest h (second, after, k, (parts, end, m, (footer, _, f, (value, _)))) =
+    rw (value, f.0) (later_whole c b start bytes after end second parts h k m)
 
 -- the last block and the footer are the end of the file
 pub whole : (bytes : List ℕ) (p : FilePieces) → HasPieces bytes p → (before : List ℕ) × (bytes ≡ before ++ in_order p.parts (footer_bytes p.footer))
@@ -64,7 +81,9 @@ whole bytes p (one, after, first, (parts, end, h, k)) =
     (a.0 ++ b.0, a.1 ∙ ap (λ x. a.0 ++ x) b.1 ∙ sym (append_assoc a.0 b.0 (in_order p.parts (footer_bytes p.footer))))
 
 abbrev pub parts_length : Parts → ℕ
-parts_length b = length b.times + (length b.type_indexes + (length b.types + (length b.designations + (length b.leap_seconds + (length b.standard_wall + length b.ut_local)))))
+parts_length b =
+    length b.times
+    + (length b.type_indexes + (length b.types + (length b.designations + (length b.leap_seconds + (length b.standard_wall + length b.ut_local)))))
 
 order_length : (b : Parts) (rest : List ℕ) → length (in_order b rest) ≡ parts_length b + length rest
 order_length b rest = simp length-append (omega arith)
@@ -75,11 +94,13 @@ fit bytes p h =
     let w = whole bytes p h in
     omega (arith, ap length w.1 ∙ length-append w.0 (in_order p.parts (footer_bytes p.footer)), order_length p.parts (footer_bytes p.footer))
 
--- and stand where they are said to
-pub parts_stand : (bytes : List ℕ) (p : FilePieces) (q : PartPlaces) → HasPieces bytes p → ArePartPlaces p q → q.end ≡ length bytes → drop q.times bytes ≡ in_order p.parts (footer_bytes p.footer)
+-- and each begins at its position
+pub parts_stand : (bytes : List ℕ) (p : FilePieces) (q : PartPlaces) → HasPieces bytes p → ArePartPlaces p q → q.end ≡ length bytes
+    → drop q.times bytes ≡ in_order p.parts (footer_bytes p.footer)
 parts_stand bytes p q h are end =
     let w = whole bytes p h in
-    let at : length w.0 ≡ q.times = omega (arith, ap length w.1 ∙ length-append w.0 (in_order p.parts (footer_bytes p.footer)), order_length p.parts (footer_bytes p.footer)) in
+    let at : length w.0 ≡ q.times =
+    omega (arith, ap length w.1 ∙ length-append w.0 (in_order p.parts (footer_bytes p.footer)), order_length p.parts (footer_bytes p.footer)) in
     rw (w.1, ← at) (drop_front w.0 (in_order p.parts (footer_bytes p.footer)))
 
 -- ---- the end of a piece that is too short
@@ -93,7 +114,8 @@ nothing_short x = record { short = λ bytes e h. cc }
 exact_short : (n : ℕ) → EndsShort (Exact n)
 exact_short n = record { short = λ bytes e h. refl }
 
-then_left : {X Y : Type 0} (g : Grammar X) (f : X → Grammar Y) (bytes : List ℕ) (e : Error) (r : Result (X × List ℕ) Error) → EndsShort g → ((x : X) → EndsShort (f x)) → read g bytes ≡ r
+then_left : {X Y : Type 0} (g : Grammar X) (f : X → Grammar Y) (bytes : List ℕ) (e : Error) (r : Result (X × List ℕ) Error) → EndsShort g
+    → ((x : X) → EndsShort (f x)) → read g bytes ≡ r
     → (r >>= λ p. read (f p.0) p.1) ≡ Err e → if_read r (λ x after. from_fault (f x) after) (from_fault g bytes) ≡ []
 then_left g f bytes e (Ok p) first next is h = (next p.0).short p.1 e h
 then_left g f bytes e (Err d) first next is h = first.short bytes d is
@@ -119,13 +141,17 @@ counts_short = then_short number_short (λ _. then_short number_short (λ _. the
     then_short number_short (λ _. then_short number_short (λ _. nothing_short _))))))
 
 -- ---- what follows a header
-ends_at : {X Y : Type 0} (g : Grammar X) (f : X → Grammar Y) (bytes : List ℕ) (r : Result (X × List ℕ) Error) → read g bytes ≡ r → ((e : Error) → read g bytes ≡ Err e → from_fault g bytes ≡ [])
+ends_at : {X Y : Type 0} (g : Grammar X) (f : X → Grammar Y) (bytes : List ℕ) (r : Result (X × List ℕ) Error) → read g bytes ≡ r
+    → ((e : Error) → read g bytes ≡ Err e → from_fault g bytes ≡ [])
     → ((x : X) (rest : List ℕ) → from_fault (f x) rest ≡ []) → if_read r (λ x after. from_fault (f x) after) (from_fault g bytes) ≡ []
 ends_at g f bytes (Ok p) is short next = next p.0 p.1
 ends_at g f bytes (Err d) is short next = short d is
 
-later_block : (h : Header) (after : List ℕ) → if_read (read (block 8 h.counts) after) (λ parts rest. from_fault (Then Rest (λ footer. Nothing (later_pieces h parts footer))) rest) (from_fault (block 8 h.counts) after) ≡ []
-later_block h after = ends_at (block 8 h.counts) (λ parts. Then Rest (λ footer. Nothing (later_pieces h parts footer))) after (read (block 8 h.counts) after) refl (block_left 8 h.counts after) (λ x rest. refl)
+later_block : (h : Header) (after : List ℕ)
+    → if_read (read (block 8 h.counts) after) (λ parts rest. from_fault (Then Rest (λ footer. Nothing (later_pieces h parts footer))) rest)
+    (from_fault (block 8 h.counts) after) ≡ []
+later_block h after = ends_at (block 8 h.counts) (λ parts. Then Rest (λ footer. Nothing (later_pieces h parts footer))) after (read (block 8 h.counts) after)
+    refl (block_left 8 h.counts after) (λ x rest. refl)
 
 pub later_left : (bytes after : List ℕ) (h : Header) → read (header Second) bytes ≡ Ok (h, after) → from_fault later_version bytes ≡ []
 unfolding later_version
@@ -140,7 +166,8 @@ unfolding after_first_block first_version
 first_left c p [] = refl
 first_left c p (b ∷ bs) = refl
 
-pub later_again : (v : Version) (c : Counts) (p : Parts) (bytes : List ℕ) (n : ℕ) → (v ≡ Two) ⊎ (v ≡ Three) → n ≡ length (from_fault later_version bytes) → n ≡ length (from_fault (after_first_block v c p) bytes)
+pub later_again : (v : Version) (c : Counts) (p : Parts) (bytes : List ℕ) (n : ℕ) → (v ≡ Two) ⊎ (v ≡ Three) → n ≡ length (from_fault later_version bytes)
+    → n ≡ length (from_fault (after_first_block v c p) bytes)
 unfolding after_first_block
 later_again v c p bytes n (inl two) is = rw two is
 later_again v c p bytes n (inr three) is = rw three is
@@ -153,7 +180,8 @@ pub file_bad : (bytes : List ℕ) (e : Error) → read (header First) bytes ≡ 
 unfolding file
 file_bad bytes e is = rw is refl
 
-pub rest_left : (h : Header) (bytes after : List ℕ) (parts : Parts) → read (block 4 h.counts) bytes ≡ Ok (parts, after) → from_fault (after_header h) bytes ≡ from_fault (after_first_block h.version h.counts parts) after
+pub rest_left : (h : Header) (bytes after : List ℕ) (parts : Parts) → read (block 4 h.counts) bytes ≡ Ok (parts, after)
+    → from_fault (after_header h) bytes ≡ from_fault (after_first_block h.version h.counts parts) after
 rest_left h bytes after parts is = rw is refl
 
 pub rest_bad : (h : Header) (bytes : List ℕ) (e : Error) → read (block 4 h.counts) bytes ≡ Err e → from_fault (after_header h) bytes ≡ []
@@ -183,20 +211,31 @@ next_none P n before here = below_more (λ k. ¬ (P k)) n before here
 pub next_false : (P : ℕ → Type 0) (n : ℕ) (b : Bool) → HoldsOfNone P n → IsTrue b ↔ P n → b ≡ false → HoldsOfNone P (n + 1)
 next_false P n b none is other = next_none P n none (λ h. let t = is.1 h in cc)
 
-pub next_type : (p : FilePieces) (k : ℕ) (t : LocalType) → ((j : ℕ) → j < k → IsTypeAt p j) → type_of_record p.parts.designations (record_at 6 p.parts.types k) ≡ Ok t
+pub next_type : (p : FilePieces) (k : ℕ) (t : LocalType) → ((j : ℕ) → j < k → IsTypeAt p j)
+    → type_of_record p.parts.designations (record_at 6 p.parts.types k) ≡ Ok t
     → (j : ℕ) → j < k + 1 → IsTypeAt p j
 next_type p k t before here = below_more (IsTypeAt p) k before (t, (type_law p.parts.designations (record_at 6 p.parts.types k)).takes t here)
 
-pub type_place : (p : FilePieces) (k : ℕ) (e : Error) → k < p.counts.types → ((j : ℕ) → j < k → IsTypeAt p j) → type_of_record p.parts.designations (record_at 6 p.parts.types k) ≡ Err e
+pub type_place : (p : FilePieces) (k : ℕ) (e : Error) → k < p.counts.types → ((j : ℕ) → j < k → IsTypeAt p j)
+    → type_of_record p.parts.designations (record_at 6 p.parts.types k) ≡ Err e
     → IsTypePlace p (6 * k + before_field e)
 type_place p k e below before here =
-    record { index = k; below = below; before = before; error = e; fault = (type_law p.parts.designations (record_at 6 p.parts.types k)).fails e here; place = refl }
+    record {
+      index = k;
+      below = below;
+      before = before;
+      error = e;
+      fault = (type_law p.parts.designations (record_at 6 p.parts.types k)).fails
+          e here;
+      place = refl;
+    }
 
 pub no_zero : (text : List ℕ) → HoldsOfNone (λ i. slice_index text i ≡ 0) (length text) → HasNoZero text
 no_zero [] h = tt
 no_zero (b ∷ bs) h = (h 0 (omega arith), no_zero bs (λ k l. h (suc k) (omega arith)))
 
-pub next_later : (p : FilePieces) (k : ℕ) (here before : ℤ) → HoldsOfNone (IsNotLater p) k → here ≡ time_at p k → before ≡ time_at p (k - 1) → before <ℤ here → HoldsOfNone (IsNotLater p) (k + 1)
+pub next_later : (p : FilePieces) (k : ℕ) (here before : ℤ) → HoldsOfNone (IsNotLater p) k → here ≡ time_at p k → before ≡ time_at p (k - 1) → before <ℤ here
+    → HoldsOfNone (IsNotLater p) (k + 1)
 next_later p k here before none is was later = next_none (IsNotLater p) k none (λ h. let m = h.1 in absurd (omega (arith, ints, is, was, later, m)))
 
 -- ---- the footer
@@ -208,7 +247,8 @@ text_within extended text n (Colon c) = omega arith
 text_within extended text n (Zero k c first) = omega (arith, first.below)
 text_within extended text n (In_string e c z some fault) = string_place_within extended text
 
-pub in_text : (extended : Bool) (bytes text : List ℕ) (n : ℕ) → IsTrimmed bytes text → IsTextPlace extended text n → prefix_len is_ascii_whitespace bytes + n ≤ length bytes
+pub in_text : (extended : Bool) (bytes text : List ℕ) (n : ℕ) → IsTrimmed bytes text → IsTextPlace extended text n
+    → prefix_len is_ascii_whitespace bytes + n ≤ length bytes
 in_text extended bytes text n t place = omega (arith, fits_behind bytes text t, text_within extended text n place)
 
 pub footer_within : (extended : Bool) (bytes : List ℕ) (n : ℕ) → IsFooterPlace extended bytes n → n ≤ length bytes
@@ -223,14 +263,26 @@ not_between bytes is b = let t = (between bytes).1 b in cc
 pub is_between : (bytes : List ℕ) → is_between_newlines bytes ≡ true → IsBetweenNewlines bytes
 is_between bytes = (between bytes).0
 
-pub text_place : (extended : Bool) (bytes start text : List ℕ) (n : ℕ) → IsUtf8 bytes → IsBetweenNewlines bytes → IsTrimAsciiStart bytes start → IsTrimAscii bytes text → IsTextPlace extended text n
+pub text_place : (extended : Bool) (bytes start text : List ℕ) (n : ℕ) → IsUtf8 bytes → IsBetweenNewlines bytes → IsTrimAsciiStart bytes start
+    → IsTrimAscii bytes text → IsTextPlace extended text n
     → IsFooterPlace extended bytes ((length bytes - length start) + n)
 text_place extended bytes start text n utf8 newlines s t place =
     rw (space_is bytes start s) (In_text text n (record { utf8 = utf8; newlines = newlines; trimmed = trims_both bytes text t }) place)
 
-pub text_fits : (extended : Bool) (bytes start text : List ℕ) (n : ℕ) → IsTrimAsciiStart bytes start → IsTrimAscii bytes text → IsTextPlace extended text n → (length bytes - length start) + n ≤ length bytes
+pub text_fits : (extended : Bool) (bytes start text : List ℕ) (n : ℕ) → IsTrimAsciiStart bytes start → IsTrimAscii bytes text → IsTextPlace extended text n
+    → (length bytes - length start) + n ≤ length bytes
 text_fits extended bytes start text n s t place = rw (space_is bytes start s) (in_text extended bytes text n (trims_both bytes text t) place)
 
-pub text_says : (extended : Bool) (bytes text : List ℕ) → IsUtf8 bytes → IsBetweenNewlines bytes → IsTrimAscii bytes text → SaysSome extended text → (rule : Option TransitionRule) × HasRule extended (Some bytes) rule
-text_says extended bytes text utf8 newlines t s =
-    (s.rule, record { text = text; has_text = record { utf8 = utf8; newlines = newlines; trimmed = trims_both bytes text t }; no_colon = s.no_colon; no_zero = s.no_zero; says = s.says })
+pub text_says : (extended : Bool) (bytes text : List ℕ) → IsUtf8 bytes → IsBetweenNewlines bytes → IsTrimAscii bytes text → SaysSome extended text
+    → (rule : Option TransitionRule) × HasRule extended (Some bytes) rule
+text_says extended bytes text utf8 newlines t s = (
+  s.rule,
+  record {
+    text = text;
+    has_text = record { utf8 = utf8; newlines = newlines; trimmed = trims_both bytes text t };
+    no_colon =
+        s.no_colon;
+    no_zero = s.no_zero;
+    says = s.says;
+  },
+)

@@ -1,13 +1,18 @@
 -- A file is at fault at one place.
 use Rattle.std.proofs.lemmas.Str.{utf8_valid_len-IsValidUpTo}
 use Rattle.std.specs.{Char.{is_ascii_whitespace}, List.{prefix_len}}
-use Rattle.tz_info.proofs.Words.{Bool, Error, FilePieces, HasLengths, HasNoZero, IndicatorsAgree, IsBetweenNewlines, IsFooter, List, None, Option, Some, SaysRule, TransitionRule, TypeFault, ap, apart, arith, cases_lt}
-use Rattle.tz_info.proofs.Words.{fault_once, inl, inr, length, record_at, refl, slice_index, subst, suc, sym, value_once, zero, ℕ, [], ◌*◌, ◌+◌, ◌<◌, ◌∙◌, ◌∷◌, ◌≡◌, ◌≢◌, ◌≤◌, ◌⊎◌}
+use Rattle.tz_info.proofs.Words.{Bool, Error, FilePieces, HasLengths, HasNoZero, IndicatorsAgree, IsBetweenNewlines, IsFooter, List, None, Option, Some}
+use Rattle.tz_info.proofs.Words.{SaysRule, TransitionRule, TypeFault, ap, apart, arith, cases_lt}
+use Rattle.tz_info.proofs.Words.{fault_once, inl, inr, length, record_at, refl, slice_index, subst, suc, sym, value_once, zero, ℕ, [], ◌*◌, ◌+◌, ◌<◌, ◌∙◌, ◌∷◌}
+use Rattle.tz_info.proofs.Words.{◌≡◌, ◌≢◌, ◌≤◌, ◌⊎◌}
 use Rattle.std.proofs.lemmas.List.Sums.{prefix_len-le-length}
 use Rattle.tz_base.specs.declared.error.{Error.TheVariants.{InvalidTzFile, LocalTimeType}, Expected.TheVariants.{OffsetAboveI32Min, ZeroOrOneAsIsDst}}
-use Rattle.tz_info.proofs.{FilePieceLaws.{has_lengths, pieces_law}, FilePlaceLaws.{footer_within}, FooterLaws.{spelled_law}, TrimLaws.{trim_again}, TypeLaws.{type_law}}
-use Rattle.tz_info.specs.FilePlaces.{ArePartPlaces, AreTypes, At_index, At_leap, At_rule, At_time, Colon, In_contents, In_footer, In_indicators, In_lists, In_piece, In_string, In_text}
-use Rattle.tz_info.specs.FilePlaces.{In_type, IsContentPlace, IsFilePlace, IsFirstBelow, IsFooterPlace, IsListPlace, IsOtherPair, IsTextPlace, IsTypePlace, No_first, No_last, Not_utf8, Zero, before_field, footer_bytes}
+use Rattle.tz_info.proofs.{FilePieceLaws.{has_lengths, pieces_law}, FilePlaceLaws.{footer_within}, FooterLaws.{spelled_law}, TrimLaws.{trim_again}}
+use Rattle.tz_info.proofs.TypeLaws.{type_law}
+use Rattle.tz_info.specs.FilePlaces.{ArePartPlaces, AreTypes, At_index, At_leap, At_rule, At_time, Colon, In_contents, In_footer, In_indicators, In_lists}
+use Rattle.tz_info.specs.FilePlaces.{In_piece, In_string, In_text}
+use Rattle.tz_info.specs.FilePlaces.{In_type, IsContentPlace, IsFilePlace, IsFirstBelow, IsFooterPlace, IsListPlace, IsOtherPair, IsTextPlace, IsTypePlace}
+use Rattle.tz_info.specs.FilePlaces.{No_first, No_last, Not_utf8, Zero, before_field, footer_bytes}
 use Rattle.tz_info.specs.TzFiles.{HasRule}
 use Rattle.tz_info.specs.declared.file.place.PartPlaces.{PartPlaces}
 
@@ -22,9 +27,11 @@ first_once P n j k a b = elim (cases_lt j k) [
 type_index : (p : FilePieces) (m n : ℕ) (a : IsTypePlace p m) (b : IsTypePlace p n) → a.index < b.index → ⊥
 type_index p m n a b l = let t = b.before a.index l in apart (type_law p.parts.designations (record_at 6 p.parts.types a.index)) t.0 a.error t.1 a.fault
 
-type_error : (p : FilePieces) (j k : ℕ) (d e : Error) → j ≡ k → TypeFault p.parts.designations (record_at 6 p.parts.types j) d → TypeFault p.parts.designations (record_at 6 p.parts.types k) e → d ≡ e
+type_error : (p : FilePieces) (j k : ℕ) (d e : Error) → j ≡ k → TypeFault p.parts.designations (record_at 6 p.parts.types j) d
+    → TypeFault p.parts.designations (record_at 6 p.parts.types k) e → d ≡ e
 type_error p j k d e same f g =
-    fault_once (type_law p.parts.designations (record_at 6 p.parts.types j)) d e f (subst (λ i. TypeFault p.parts.designations (record_at 6 p.parts.types i) e) (sym same) g)
+    fault_once (type_law p.parts.designations (record_at 6 p.parts.types j)) d e f
+    (subst (λ i. TypeFault p.parts.designations (record_at 6 p.parts.types i) e) (sym same) g)
 
 type_once : (p : FilePieces) (m n : ℕ) → IsTypePlace p m → IsTypePlace p n → m ≡ n
 type_once p m n a b = elim (cases_lt a.index b.index) [
@@ -61,7 +68,8 @@ text_once extended text m n (In_string e c z s f) (Colon d) = absurd (c d)
 text_once extended text m n (In_string e c z s f) (Zero k d g) = absurd (no_zero_at text k z g.below g.here)
 text_once extended text m n (In_string e c z s f) (In_string d t y u g) = refl
 
-says_none : (extended : Bool) (text : List ℕ) (rule : Option TransitionRule) (n : ℕ) → slice_index text 0 ≢ 58 → HasNoZero text → SaysRule extended text rule → IsTextPlace extended text n → ⊥
+says_none : (extended : Bool) (text : List ℕ) (rule : Option TransitionRule) (n : ℕ) → slice_index text 0 ≢ 58 → HasNoZero text → SaysRule extended text rule
+    → IsTextPlace extended text n → ⊥
 says_none extended text rule n c z says (Colon d) = c d
 says_none extended text rule n c z says (Zero k d f) = no_zero_at text k z f.below f.here
 says_none extended text None n c z says (In_string e d y some f) = some says
@@ -71,7 +79,8 @@ begins : (bytes : List ℕ) → IsBetweenNewlines bytes → slice_index bytes 0 
 begins bytes b = ap (λ (s : List ℕ). slice_index s 0) b.starts
 
 footer_once : (extended : Bool) (bytes : List ℕ) (m n : ℕ) → IsFooterPlace extended bytes m → IsFooterPlace extended bytes n → m ≡ n
-footer_once extended bytes m n (Not_utf8 j bad up) (Not_utf8 k other down) = sym (utf8_valid_len-IsValidUpTo bytes j up) ∙ utf8_valid_len-IsValidUpTo bytes k down
+footer_once extended bytes m n (Not_utf8 j bad up) (Not_utf8 k other down) =
+    sym (utf8_valid_len-IsValidUpTo bytes j up) ∙ utf8_valid_len-IsValidUpTo bytes k down
 footer_once extended bytes m n (Not_utf8 j bad up) (No_first u s) = absurd (bad u)
 footer_once extended bytes m n (Not_utf8 j bad up) (No_last u s b) = absurd (bad u)
 footer_once extended bytes m n (Not_utf8 j bad up) (In_text text k has place) = absurd (bad has.utf8)
@@ -98,11 +107,13 @@ footer_says extended bytes rule n f (In_text text k has place) =
     let same = sym (trim_again bytes text has.trimmed) ∙ trim_again bytes f.text f.has_text.trimmed in
     says_none extended f.text rule k f.no_colon f.no_zero f.says (subst (λ s. IsTextPlace extended s k) same place)
 
-rule_says : (extended : Bool) (footer : Option (List ℕ)) (bytes : List ℕ) (rule : Option TransitionRule) (n : ℕ) → footer ≡ Some bytes → HasRule extended footer rule → IsFooterPlace extended bytes n → ⊥
+rule_says : (extended : Bool) (footer : Option (List ℕ)) (bytes : List ℕ) (rule : Option TransitionRule) (n : ℕ) → footer ≡ Some bytes
+    → HasRule extended footer rule → IsFooterPlace extended bytes n → ⊥
 rule_says extended footer bytes rule n is has place = footer_says extended bytes rule n (subst (λ f. HasRule extended f rule) is has) place
 
 -- ---- the lists
-lists_once : (p : FilePieces) (q r : PartPlaces) (m n : ℕ) → ArePartPlaces p q → ArePartPlaces p r → q.end ≡ r.end → IsListPlace p q m → IsListPlace p r n → m ≡ n
+lists_once : (p : FilePieces) (q r : PartPlaces) (m n : ℕ) → ArePartPlaces p q → ArePartPlaces p r → q.end ≡ r.end
+    → IsListPlace p q m → IsListPlace p r n → m ≡ n
 lists_once p q r m n a b e (At_index j f) (At_index k g) = omega (arith, first_once _ _ j k f g)
 lists_once p q r m n a b e (At_index j f) (At_time k none g) = absurd (none j f.below f.here)
 lists_once p q r m n a b e (At_index j f) (At_leap k none t g) = absurd (none j f.below f.here)
@@ -121,7 +132,8 @@ lists_once p q r m n a b e (At_rule none t l) (At_leap k other u g) = absurd (l 
 lists_once p q r m n a b e (At_rule none t l) (At_rule other u o) = omega arith
 
 -- ---- the whole
-content_once : (p : FilePieces) (q r : PartPlaces) (m n : ℕ) → ArePartPlaces p q → ArePartPlaces p r → q.end ≡ r.end → IsContentPlace p q m → IsContentPlace p r n → m ≡ n
+content_once : (p : FilePieces) (q r : PartPlaces) (m n : ℕ) → ArePartPlaces p q → ArePartPlaces p r → q.end ≡ r.end → IsContentPlace p q m
+    → IsContentPlace p r n → m ≡ n
 content_once p q r m n a b e (In_type j f) (In_type k g) = omega (arith, type_once p j k f g)
 content_once p q r m n a b e (In_type j f) (In_indicators k t g) = absurd (types_spelled p j t f)
 content_once p q r m n a b e (In_type j f) (In_footer bytes k t i s g) = absurd (types_spelled p j t f)
@@ -166,7 +178,8 @@ leap_within w n k l (inr e) is b = rw e (omega (arith, rw e at is, b))
 list_within : (p : FilePieces) (q : PartPlaces) (n : ℕ) → HasLengths p → ArePartPlaces p q → IsListPlace p q n → n ≤ q.end
 list_within p q n l a (At_index k f) = omega (arith, f.below)
 list_within p q n l a (At_time k none f) = omega (arith, step_within p.time_size p.counts.transitions k (length p.parts.times) l.time_size l.times f.below)
-list_within p q n l a (At_leap k none t f) = omega (arith, leap_within p.time_size p.counts.leap_seconds k (length p.parts.leap_seconds) l.time_size l.leap_seconds f.below)
+list_within p q n l a (At_leap k none t f) =
+    omega (arith, leap_within p.time_size p.counts.leap_seconds k (length p.parts.leap_seconds) l.time_size l.leap_seconds f.below)
 list_within p q n l a (At_rule none t s) = omega (arith, prefix_len-le-length is_ascii_whitespace (footer_bytes p.footer))
 
 content_within : (p : FilePieces) (q : PartPlaces) (n : ℕ) → HasLengths p → ArePartPlaces p q → IsContentPlace p q n → n ≤ q.end

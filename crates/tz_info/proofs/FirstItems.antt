@@ -14,9 +14,12 @@ pub filter_first : {X : Type 0} (p : X → Bool) (xs : List X) (n : ℕ) → n �
 filter_first p [] zero h passes fails = refl
 filter_first p [] (suc n) h passes fails = absurd (omega arith)
 filter_first p (x ∷ xs) zero h passes fails =
-    rw (fails 0 x (omega arith) (omega arith)) (filter_first p xs zero (omega arith) (λ k d l. absurd (omega arith)) (λ k d l u. fails (suc k) d (omega arith) (omega arith)))
+    rw (fails 0 x (omega arith) (omega arith))
+    (filter_first p xs zero (omega arith) (λ k d l. absurd (omega arith)) (λ k d l u. fails (suc k) d (omega arith) (omega arith)))
 filter_first p (x ∷ xs) (suc n) h passes fails =
-    rw (passes 0 x (omega arith)) (ap (λ ys. x ∷ ys) (filter_first p xs n (omega arith) (λ k d l. passes (suc k) d (omega arith)) (λ k d l u. fails (suc k) d (omega arith) (omega arith))))
+    rw (passes 0 x (omega arith))
+    (ap (λ ys. x ∷ ys) (filter_first p xs n (omega arith) (λ k d l. passes (suc k) d (omega arith))
+    (λ k d l u. fails (suc k) d (omega arith) (omega arith))))
 
 pub count_first : {X : Type 0} (p : X → Bool) (xs : List X) (n : ℕ) → n ≤ length xs → PassFirst p xs n → FailFrom p xs n → count_by p xs ≡ n
 count_first p [] n h passes fails = omega arith

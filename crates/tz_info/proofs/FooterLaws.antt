@@ -36,11 +36,13 @@ none_said : (extended : Bool) (rule : Option TransitionRule) → SaysRule extend
 none_said extended None h = refl
 none_said extended (Some rule) h = absurd (h.0 refl)
 
-some_said : (extended : Bool) (b : ℕ) (bs : List ℕ) (rule : Option TransitionRule) → SaysRule extended (b ∷ bs) rule → (r : TransitionRule) × IsTzText extended (b ∷ bs) r × (Some r ≡ rule)
+some_said : (extended : Bool) (b : ℕ) (bs : List ℕ) (rule : Option TransitionRule) → SaysRule extended (b ∷ bs) rule
+    → (r : TransitionRule) × IsTzText extended (b ∷ bs) r × (Some r ≡ rule)
 some_said extended b bs None h = cc
 some_said extended b bs (Some rule) h = (rule, h.1, refl)
 
-rule_law : (extended : Bool) (text : List ℕ) → Decided (Option TransitionRule) (rule_or_none extended text) (SaysRule extended text) (λ n. (text ≢ []) × IsTextFault extended text n)
+rule_law : (extended : Bool) (text : List ℕ)
+    → Decided (Option TransitionRule) (rule_or_none extended text) (SaysRule extended text) (λ n. (text ≢ []) × IsTextFault extended text n)
 rule_law extended [] = like (done None) (λ rule e. subst (SaysRule extended []) e refl) (none_said extended) (λ n h. absurd h) (λ n h. absurd (h.0 refl))
 rule_law extended (b ∷ bs) = like (made (λ r. Some r) (spelled_law extended (b ∷ bs)))
     (λ rule h. subst (SaysRule extended (b ∷ bs)) h.2 ((λ e. cc), h.1))
@@ -64,7 +66,9 @@ no_zero text h = no_zero_is text (false_unless (list_any is_zero text) (λ t. h 
 -- ---- the whole
 abbrev ReadFault : Bool → List ℕ → List ℕ → Error → Type 0
 ReadFault extended bytes text n =
-    (IsUtf8 bytes × ((IsBetweenNewlines bytes × ((IsNoText text × (n ≡ InvalidTzFile TzTextInFooter)) ⊎ (¬ (IsNoText text) × ((text ≢ []) × IsTextFault extended text n)))) ⊎ (¬ (IsBetweenNewlines bytes) × (n ≡ InvalidTzFile FooterBetweenNewlines))))
+    (IsUtf8 bytes
+    × ((IsBetweenNewlines bytes × ((IsNoText text × (n ≡ InvalidTzFile TzTextInFooter))
+    ⊎ (¬ (IsNoText text) × ((text ≢ []) × IsTextFault extended text n)))) ⊎ (¬ (IsBetweenNewlines bytes) × (n ≡ InvalidTzFile FooterBetweenNewlines))))
     ⊎ (¬ (IsUtf8 bytes) × (n ≡ Utf8 FooterInUtf8))
 
 fault_is : (extended : Bool) (bytes : List ℕ) (n : Error) → ReadFault extended bytes (trimmed bytes) n → FooterFault extended bytes n
@@ -74,12 +78,15 @@ fault_is extended bytes n (inl u) = elim u.1 [
   | inl b ↦
       let has : HasText bytes (trimmed bytes) = record { utf8 = u.0; newlines = b.0; trimmed = trim_is bytes } in
       elim b.1 [
-        | inl k ↦ subst (FooterFault extended bytes) (sym k.1) (elim k.0 [ inl colon ↦ Colon (trimmed bytes) has colon | inr zero ↦ Zero (trimmed bytes) has zero ])
+        | inl k ↦ subst (FooterFault extended bytes) (sym k.1)
+            (elim k.0 [ inl colon ↦ Colon (trimmed bytes) has colon | inr zero ↦ Zero (trimmed bytes) has zero ])
         | inr k ↦ In_text (trimmed bytes) n has (λ e. k.0 (inl e)) (no_zero (trimmed bytes) k.0) k.1.0 k.1.1
       ]
 ]
 
-in_text : (extended : Bool) (bytes text : List ℕ) (n : Error) → HasText bytes text → (IsNoText text × (n ≡ InvalidTzFile TzTextInFooter)) ⊎ (¬ (IsNoText text) × ((text ≢ []) × IsTextFault extended text n)) → ReadFault extended bytes (trimmed bytes) n
+in_text : (extended : Bool) (bytes text : List ℕ) (n : Error) → HasText bytes text
+    → (IsNoText text × (n ≡ InvalidTzFile TzTextInFooter)) ⊎ (¬ (IsNoText text) × ((text ≢ []) × IsTextFault extended text n))
+    → ReadFault extended bytes (trimmed bytes) n
 in_text extended bytes text n has fault = rw (trim_again bytes text has.trimmed) (inl (has.utf8, inl (has.newlines, fault)))
 
 is_text : (text : List ℕ) → slice_index text 0 ≢ 58 → HasNoZero text → ¬ (IsNoText text)
@@ -92,10 +99,13 @@ fault_again extended bytes n (Colon text has colon) = in_text extended bytes tex
 fault_again extended bytes n (Zero text has zero) = in_text extended bytes text (InvalidTzFile TzTextInFooter) has (inl (inr zero, refl))
 fault_again extended bytes n (In_text text m has colon zero some fault) = in_text extended bytes text m has (inr (is_text text colon zero, (some, fault)))
 
-pub footer_law : (extended : Bool) (bytes : List ℕ) → Decided (Option TransitionRule) (footer_at extended bytes) (IsFooter extended bytes) (FooterFault extended bytes)
+pub footer_law : (extended : Bool) (bytes : List ℕ)
+    → Decided (Option TransitionRule) (footer_at extended bytes) (IsFooter extended bytes) (FooterFault extended bytes)
 unfolding footer_at
 footer_law extended bytes = like
-    (choice (IsUtf8-from_is_utf8 bytes, is_utf8-from_IsUtf8 bytes) (choice (between bytes) (choice (no_text (trimmed bytes)) (refused (InvalidTzFile TzTextInFooter) (omega arith)) (rule_law extended (trimmed bytes))) (refused (InvalidTzFile FooterBetweenNewlines) (omega arith))) (refused (Utf8 FooterInUtf8) (omega arith)))
+    (choice (IsUtf8-from_is_utf8 bytes, is_utf8-from_IsUtf8 bytes)
+    (choice (between bytes) (choice (no_text (trimmed bytes)) (refused (InvalidTzFile TzTextInFooter) (omega arith)) (rule_law extended (trimmed bytes)))
+    (refused (InvalidTzFile FooterBetweenNewlines) (omega arith))) (refused (Utf8 FooterInUtf8) (omega arith)))
     (λ rule h. elim h [
       | inl u ↦ elim u.1 [
         | inl b ↦ elim b.1 [
@@ -112,6 +122,7 @@ footer_law extended bytes = like
       ]
       | inr u ↦ absurd u.1
     ])
-    (λ rule h. rw (trim_again bytes h.text h.has_text.trimmed) (inl (h.has_text.utf8, inl (h.has_text.newlines, inr (is_text h.text h.no_colon h.no_zero, h.says)))))
+    (λ rule h. rw (trim_again bytes h.text h.has_text.trimmed)
+    (inl (h.has_text.utf8, inl (h.has_text.newlines, inr (is_text h.text h.no_colon h.no_zero, h.says)))))
     (fault_is extended bytes)
     (fault_again extended bytes)

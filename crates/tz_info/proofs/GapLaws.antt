@@ -98,7 +98,8 @@ gap_at_first z l low high u t before never reach since most first earlier =
     let near : IsNear u = (omega (arith, ints), omega (arith, ints)) in
     let reached = first.shown.reached in
     gap_found z l low high u t before never reach near
-    (λ v near_v h s k. by_lt_z (v +ℤ s.offset) l (λ m. m) (λ m. let f = first.first v s (record { fits = omega (arith, ints, near_v); type = k; reached = m }) in absurd (omega (arith, ints))))
+    (λ v near_v h s k. by_lt_z (v +ℤ s.offset) l (λ m. m)
+    (λ m. let f = first.first v s (record { fits = omega (arith, ints, near_v); type = k; reached = m }) in absurd (omega (arith, ints))))
     first.shown.type
     (by_lt_z l (u +ℤ t.offset) (λ m. m) (λ m. absurd (never u t (record { fits = first.shown.fits; type = first.shown.type; shown = omega (arith, ints) }))))
     earlier

@@ -12,7 +12,8 @@ pub before_next : (n m : ℕ) → 0 < m → n < suc (n / m) * m
 before_next n m h = (div-lt_iff_lt-mul h).0 (lt-suc_self (n / m))
 
 -- the latest item is one of those of the hint
-pub near_hinted : (times : List ℤ) (v : ℤ) (hints : Hints) (ends : Ends) (seconds : ℕ) (near : Near) → AreOrdered times → length times < 2 ^ 64 → 0 < length times → AreEnds times ends → AreHints times hints
+pub near_hinted : (times : List ℤ) (v : ℤ) (hints : Hints) (ends : Ends) (seconds : ℕ) (near : Near) → AreOrdered times → length times < 2 ^ 64
+    → 0 < length times → AreEnds times ends → AreHints times hints
     → ends.first ≤ℤ v → pos seconds ≡ v -ℤ ends.first → 0 < 2 ^ hints.shift → IsHinted hints.places.items (seconds / 2 ^ hints.shift) near
     → IsNarrowedTo times v near
 near_hinted times v hints ends seconds near ordered fits some are h from is positive hinted = grind (arith, ints)
@@ -29,7 +30,8 @@ size_of_rise first time h = size_of (time -ℤ first) (omega (arith, ints))
 pub first_least : (times : List ℤ) (first : ℤ) (k : ℕ) → AreOrdered times → first ≡ item_time times 0 → k < length times → first ≤ℤ item_time times k
 first_least times first k ordered from l = let low = not_before times 0 k ordered (omega arith) l in omega (arith, ints)
 
-pub slots : (times : List ℤ) (first : ℤ) (span shift k : ℕ) → AreOrdered times → first ≡ item_time times 0 → pos span ≡ item_time times (length times - 1) -ℤ first → k < length times → stretch_of first (item_time times k) shift ≤ span / 2 ^ shift
+pub slots : (times : List ℤ) (first : ℤ) (span shift k : ℕ) → AreOrdered times → first ≡ item_time times 0
+    → pos span ≡ item_time times (length times - 1) -ℤ first → k < length times → stretch_of first (item_time times k) shift ≤ span / 2 ^ shift
 slots times first span shift k ordered from is l =
     let high = not_before times k (length times - 1) ordered (omega arith) (omega arith) in grind (arith, size_of_rise)
 
@@ -68,13 +70,16 @@ last_before times first shift marked raised b positive from room some m r h =
           ];
     } where
       early : (time first : ℤ) (m s j b : ℕ) → first ≤ℤ time → nat_abs (time -ℤ first) < suc s * m → suc s ≡ j → j ≤ b → time <ℤ (first +ℤ pos (b * m))
-      early time first m s j b h lt e le = let size = size_of_rise first time h in let most : suc s ≤ b = omega arith in let more = mul-le-mul_right m most in omega (arith, ints)
+      early time first m s j b h lt e le = let size = size_of_rise first time h in let most : suc s ≤ b = omega arith in
+          let more = mul-le-mul_right m most in omega (arith, ints)
 
-      late : (time first : ℤ) (m b : ℕ) → first ≤ℤ time → nat_abs (time -ℤ first) / m * m ≤ nat_abs (time -ℤ first) → b ≤ nat_abs (time -ℤ first) / m → (first +ℤ pos (b * m)) ≤ℤ time
+      late : (time first : ℤ) (m b : ℕ) → first ≤ℤ time → nat_abs (time -ℤ first) / m * m ≤ nat_abs (time -ℤ first) → b ≤ nat_abs (time -ℤ first) / m
+          → (first +ℤ pos (b * m)) ≤ℤ time
       late time first m b h le ge = let size = size_of_rise first time h in let more = mul-le-mul_right m ge in omega (arith, ints)
 
 -- one item more is noted
-pub marked_more : (times : List ℤ) (first : ℤ) (shift n stretch : ℕ) (places : List ℕ) → AreMarked times first shift n places → stretch ≡ stretch_of first (item_time times n) shift → stretch + 1 < length places → AreMarked times first shift (n + 1) (set places (stretch + 1) n)
+pub marked_more : (times : List ℤ) (first : ℤ) (shift n stretch : ℕ) (places : List ℕ) → AreMarked times first shift n places
+    → stretch ≡ stretch_of first (item_time times n) shift → stretch + 1 < length places → AreMarked times first shift (n + 1) (set places (stretch + 1) n)
 marked_more times first shift n stretch places m e h = grind (arith, ints, length-set, cases_eq, get_or-set_at, get_or-set_other)
 
 -- the first n numbers are raised, the greatest of them is known, and the others are as they were
@@ -103,7 +108,8 @@ raising_more before after greatest n here r h is_here =
           | inl same ↦ let a = at b same in elim (cases_lt (slice_index before n) greatest) [
             | inl k ↦ elim r.is [
               | inl z ↦ let zero_is = z.1 in absurd (omega arith)
-              | inr g ↦ let s = r.raised.some (n - 1) (let p = g.0 in omega arith) in let q = s.1 in let w = s.2 in let v = g.1 in (s.0, omega arith, omega arith)
+              | inr g ↦ let s = r.raised.some (n - 1) (let p = g.0 in omega arith) in let q = s.1 in let w = s.2 in let v = g.1 in
+                  (s.0, omega arith, omega arith)
             ]
             | inr k ↦ (n, omega arith, omega arith)
           ]
@@ -125,7 +131,8 @@ pub steps_more : (numbers : List ℕ) (most n most_after : ℕ) → AreStepsUnti
 steps_more numbers most n most_after steps some is b h = grind arith
 
 -- the hints at items, by the places that were filled in
-pub hints_made : (times : List ℤ) (hints : Hints) (first : ℤ) (span most : ℕ) (marked : List ℕ) → AreOrdered times → 4 ≤ length times → hints.shift < 64 → first ≡ item_time times 0 → pos span ≡ item_time times (length times - 1) -ℤ first
+pub hints_made : (times : List ℤ) (hints : Hints) (first : ℤ) (span most : ℕ) (marked : List ℕ) → AreOrdered times → 4 ≤ length times → hints.shift < 64
+    → first ≡ item_time times 0 → pos span ≡ item_time times (length times - 1) -ℤ first
     → length marked ≡ span / 2 ^ hints.shift + 2 → AreMarked times first hints.shift (length times) marked → AreRaised marked hints.places.items
     → AreStepsUntil hints.places.items most (length hints.places.items) → 2 * (most + 1) ≤ length times → AreHints times hints
 hints_made times hints first span most marked ordered many shift from is long m r steps narrow =

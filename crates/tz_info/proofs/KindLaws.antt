@@ -22,7 +22,8 @@ closed_day_by (Julian1 n) year = refl
 closed_day_by (Julian0 n) year = refl
 closed_day_by (MonthWeekday month week weekday) year = grind (arith, first_of_month, weekday_later, sum_on)
 
-rule_day_by : (form : DayForm) (year : ℤ) → IsRuleDay form → rule_day form year ≡ year_start year +ℤ pos (place_by form (is_leap year) (weekday_of (year_start year)))
+rule_day_by : (form : DayForm) (year : ℤ) → IsRuleDay form
+    → rule_day form year ≡ year_start year +ℤ pos (place_by form (is_leap year) (weekday_of (year_start year)))
 rule_day_by form year fits = rule_day_closed form year fits ∙ closed_day_by form year
 
 -- the second of each of the fourteen kinds
@@ -51,7 +52,8 @@ abbrev pub IsKept : ℤ → ℤ → ℤ → Type 0
 IsKept first second at =
     (pos 86_400 *ℤ first +ℤ second ≡ at) × (neg_ℤ (pos 691_198) ≤ℤ second) × (second ≤ℤ pos 32_227_198)
 
-pub moment_by_kind : (t : DayTime) (offset year first d : ℤ) (seconds : List ℤ) (kind : ℕ) → IsRuleDay t.day → IsNear (moment t offset) → seconds ≡ seconds_by_kind t offset → kind ≡ kind_place year → first ≡ year_start year → IsKept first (get_or seconds kind d) (moment t offset year)
+pub moment_by_kind : (t : DayTime) (offset year first d : ℤ) (seconds : List ℤ) (kind : ℕ) → IsRuleDay t.day → IsNear (moment t offset)
+    → seconds ≡ seconds_by_kind t offset → kind ≡ kind_place year → first ≡ year_start year → IsKept first (get_or seconds kind d) (moment t offset year)
 moment_by_kind t offset year first d seconds kind fits near e f g =
     let here : get_or seconds kind d ≡ second_in t offset year = rw (e, f) (kind_found t offset year d fits) in
     let low = near.low year in let high = near.high year in
@@ -80,24 +82,30 @@ calm_is : (start_first : Bool) (start end : ℤ) → is_calm start_first start e
 calm_is start_first start end h = grind arith
 
 -- if all kinds are calm, each year is
-calm_year : (a : Alternate) (starts ends : List ℤ) (year : ℤ) → IsAlternateRule a → starts ≡ seconds_by_kind a.start a.std.offset → ends ≡ seconds_by_kind a.end a.dst.offset → are_calm starts ends ≡ true
+calm_year : (a : Alternate) (starts ends : List ℤ) (year : ℤ) → IsAlternateRule a → starts ≡ seconds_by_kind a.start a.std.offset
+    → ends ≡ seconds_by_kind a.end a.dst.offset → are_calm starts ends ≡ true
     → IsCalm (int_le (get_or starts 0 (pos 0)) (get_or ends 0 (pos 0))) (second_in a.start a.std.offset year) (second_in a.end a.dst.offset year)
 unfolding are_calm
 calm_year a starts ends year rule e f all =
     let kind = kind_place year in
-    let calm = calm_is (int_le (get_or starts 0 (pos 0)) (get_or ends 0 (pos 0))) (get_or starts kind (pos 0)) (get_or ends kind (pos 0)) (one_true 14 (kind_place year) (is_calm_kind starts ends) (kind_parts (is_leap year) (weekday_of (year_start year)) (weekday_below (year_start year))).0 all) in
-    let start : get_or starts (kind_place year) (pos 0) ≡ second_in a.start a.std.offset year = rw e (kind_found a.start a.std.offset year (pos 0) rule.start_day) in
+    let calm = calm_is (int_le (get_or starts 0 (pos 0)) (get_or ends 0 (pos 0))) (get_or starts kind (pos 0)) (get_or ends kind (pos 0))
+    (one_true 14 (kind_place year) (is_calm_kind starts ends)
+    (kind_parts (is_leap year) (weekday_of (year_start year)) (weekday_below (year_start year))).0 all) in
+    let start : get_or starts (kind_place year) (pos 0) ≡ second_in a.start a.std.offset year =
+    rw e (kind_found a.start a.std.offset year (pos 0) rule.start_day) in
     let end : get_or ends (kind_place year) (pos 0) ≡ second_in a.end a.dst.offset year = rw f (kind_found a.end a.dst.offset year (pos 0) rule.end_day) in
     rw (start, end) at calm
 
 shifted : (x y base : ℤ) → int_le (x -ℤ base) (y -ℤ base) ≡ int_le x y
 shifted x y base = grind arith
 
-margin_by : (a : Alternate) (starts ends : List ℤ) (margin : ℤ) (calm : Bool) → IsAlternateRule a → starts ≡ seconds_by_kind a.start a.std.offset → ends ≡ seconds_by_kind a.end a.dst.offset → are_calm starts ends ≡ calm → margin ≡ cond calm (pos 172_800) (neg_ℤ (pos 691_200)) → IsMargin a margin
+margin_by : (a : Alternate) (starts ends : List ℤ) (margin : ℤ) (calm : Bool) → IsAlternateRule a → starts ≡ seconds_by_kind a.start a.std.offset
+    → ends ≡ seconds_by_kind a.end a.dst.offset → are_calm starts ends ≡ calm → margin ≡ cond calm (pos 172_800) (neg_ℤ (pos 691_200)) → IsMargin a margin
 margin_by a starts ends margin false rule e f all is = grind (arith, near_margin, starts_near, ends_near)
 margin_by a starts ends margin true rule e f all is =
     let first = int_le (get_or starts 0 (pos 0)) (get_or ends 0 (pos 0)) in
-    let ordered : (year : ℤ) → int_le (start_in a year) (end_in a year) ≡ first = λ year. sym (shifted (start_in a year) (end_in a year) (pos 86_400 *ℤ year_start year)) ∙ (calm_year a starts ends year rule e f all).order in
+    let ordered : (year : ℤ) → int_le (start_in a year) (end_in a year) ≡ first =
+    λ year. sym (shifted (start_in a year) (end_in a year) (pos 86_400 *ℤ year_start year)) ∙ (calm_year a starts ends year rule e f all).order in
     rw is (record {
       start = record {
         low = λ year. let b = (calm_year a starts ends year rule e f all).start_in.0 in omega (arith, floors);
@@ -111,7 +119,8 @@ margin_by a starts ends margin true rule e f all is =
       bound = (omega (arith, floors), omega (arith, floors));
     })
 
-pub margin_kept : (a : Alternate) (margin : ℤ) → IsAlternateRule a → margin ≡ margin_of (seconds_by_kind a.start a.std.offset) (seconds_by_kind a.end a.dst.offset) → IsMargin a margin
+pub margin_kept : (a : Alternate) (margin : ℤ) → IsAlternateRule a
+    → margin ≡ margin_of (seconds_by_kind a.start a.std.offset) (seconds_by_kind a.end a.dst.offset) → IsMargin a margin
 unfolding margin_of
 margin_kept a margin rule is =
     margin_by a (seconds_by_kind a.start a.std.offset) (seconds_by_kind a.end a.dst.offset) margin _ rule refl refl refl is

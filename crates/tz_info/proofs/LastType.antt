@@ -16,7 +16,9 @@ last_is ts last is =
     cc
 
 -- what the rule says at the transition's Unix time, or without a rule the transition's type
-said : (rule : Option TransitionRule) (types : List LocalType) (leaps : List LeapSecond) (ts : List Transition) (last : Transition) (u : ℤ) (t : LocalType) → IfSome rule (λ r. IfSome (last_transition ts) (Agrees types leaps r)) → last_transition ts ≡ Some last → IsUnixTime leaps last.unix_leap_time u → slice_get types last.type_index ≡ Some t → RuleOrElse rule u (slice_get types last.type_index ≡ Some t) t
+said : (rule : Option TransitionRule) (types : List LocalType) (leaps : List LeapSecond) (ts : List Transition) (last : Transition) (u : ℤ) (t : LocalType)
+    → IfSome rule (λ r. IfSome (last_transition ts) (Agrees types leaps r)) → last_transition ts ≡ Some last → IsUnixTime leaps last.unix_leap_time u
+    → slice_get types last.type_index ≡ Some t → RuleOrElse rule u (slice_get types last.type_index ≡ Some t) t
 said None types leaps ts last u t agrees is unix has = has
 said (Some r) types leaps ts last u t agrees is unix has =
     let a : Agrees types leaps r last = rw is at agrees in
@@ -24,7 +26,8 @@ said (Some r) types leaps ts last u t agrees is unix has =
     rw (same, some_once (slice_get types last.type_index) a.type t a.listed has) at a.of_rule
 
 -- if the last transition has come by its second, its type is in force there
-pub last_type : (z : Zone) (last : Transition) (u x : ℤ) (t : LocalType) → IsValid z → last_transition z.transitions ≡ Some last → IsUnixTime z.leaps last.unix_leap_time u → IsLeapTime z.leaps u x → last.unix_leap_time ≤ℤ x → HasType z last.type_index t → TypeAt z u t
+pub last_type : (z : Zone) (last : Transition) (u x : ℤ) (t : LocalType) → IsValid z → last_transition z.transitions ≡ Some last
+    → IsUnixTime z.leaps last.unix_leap_time u → IsLeapTime z.leaps u x → last.unix_leap_time ≤ℤ x → HasType z last.type_index t → TypeAt z u t
 last_type z last u x t valid is unix time come has =
     let ts : List Transition = z.transitions in
     let rising = valid.transitions.rising in
@@ -37,5 +40,6 @@ last_type z last u x t valid is unix time come has =
     let all : p.0 ≡ length ts = omega arith in
     let between : Between ts x (length ts) (length ts) = rw all at p.1 in
     let same : length ts ≡ (length ts - 1) + 1 = omega arith in
-    let index : index_of ts (length ts) ≡ last.type_index = ap (λ k. index_of ts k) same ∙ index_next ts (length ts - 1) last (omega arith) ∙ ap (λ (d : Transition). d.type_index) e in
+    let index : index_of ts (length ts) ≡ last.type_index =
+    ap (λ k. index_of ts k) same ∙ index_next ts (length ts - 1) last (omega arith) ∙ ap (λ (d : Transition). d.type_index) e in
     (type_in_from z u x t time between (rw index (said z.rule z.types z.leaps ts last u t valid.agrees is unix has))).type

@@ -22,13 +22,15 @@ pub threshold_count : (p : ℤ) (es : List LeapSecond) → length (thresholds p 
 threshold_count p [] = refl
 threshold_count p (e ∷ es) = ap suc (threshold_count e.correction es)
 
-pub threshold_at : (p : ℤ) (es : List LeapSecond) (k : ℕ) (d : LeapSecond) (z : ℤ) → k < length es → get_or (thresholds p es) k z ≡ (get_or es k d).unix_leap_time -ℤ last_else p (corrections (take k es))
+pub threshold_at : (p : ℤ) (es : List LeapSecond) (k : ℕ) (d : LeapSecond) (z : ℤ) → k < length es
+    → get_or (thresholds p es) k z ≡ (get_or es k d).unix_leap_time -ℤ last_else p (corrections (take k es))
 threshold_at p [] k d z h = absurd (omega arith)
 threshold_at p (e ∷ es) zero d z h = refl
 threshold_at p (e ∷ es) (suc k) d z h = threshold_at e.correction es k d z (omega arith)
 
 -- two thresholds are 28 days apart but for two seconds
-pub threshold_apart : (a b : LeapSecond) (p : ℤ) → IsNextLeap a b → IsOneStep p a.correction → ((a.unix_leap_time -ℤ p) +ℤ pos 2_419_198) ≤ℤ (b.unix_leap_time -ℤ a.correction)
+pub threshold_apart : (a b : LeapSecond) (p : ℤ) → IsNextLeap a b → IsOneStep p a.correction
+    → ((a.unix_leap_time -ℤ p) +ℤ pos 2_419_198) ≤ℤ (b.unix_leap_time -ℤ a.correction)
 threshold_apart a b p n s = let l = n.later in elim s [ inl e ↦ omega (arith, ints) | inr e ↦ omega (arith, ints) ]
 
 -- the threshold of the entry at place k
@@ -40,12 +42,14 @@ pub record Before (es : List LeapSecond) (x v : ℤ) (i : ℕ) : Type 0 where
   pub value : v ≡ last_else (pos 0) (corrections (take i es))
   pub before : (k : ℕ) (d : LeapSecond) → k < i → (get_or es k d).unix_leap_time <ℤ x
 
-pub before_found : (es : List LeapSecond) (i : ℕ) (d : LeapSecond) (x v : ℤ) → AreLeapSeconds es → i ≤ length es → Before es x v i → (i < length es → x ≤ℤ (get_or es i d).unix_leap_time) → v ≡ correction_before es x
+pub before_found : (es : List LeapSecond) (i : ℕ) (d : LeapSecond) (x v : ℤ) → AreLeapSeconds es → i ≤ length es → Before es x v i
+    → (i < length es → x ≤ℤ (get_or es i d).unix_leap_time) → v ≡ correction_before es x
 before_found es i d x v valid h p stops =
     let e = filter_first (λ (e : LeapSecond). int_lt e.unix_leap_time x) es i h
     (λ k f l. lt_true _ x (p.before k f l))
     (λ k f l m.
-    let r = rises (λ j. (get_or es j f).unix_leap_time) (length es) (λ j b. let t = ((follow es valid).next j f (omega arith)).later in omega (arith, ints)) i k l m in
+    let r = rises (λ j. (get_or es j f).unix_leap_time) (length es) (λ j b. let t = ((follow es valid).next j f (omega arith)).later in
+    omega (arith, ints)) i k l m in
     let g = ap (λ (e : LeapSecond). e.unix_leap_time) (get_or_default es i f d (omega arith)) in
     lt_false (get_or es k f).unix_leap_time x (omega (arith, ints))) in
     rw e p.value
@@ -53,15 +57,18 @@ before_found es i d x v valid h p stops =
 -- the correction before the first entry's own time, and before a later one's
 pub before_first : (es : List LeapSecond) (d : LeapSecond) → AreLeapSeconds es → 0 < length es → correction_before es (get_or es 0 d).unix_leap_time ≡ pos 0
 before_first es d valid h =
-    sym (before_found es 0 d (get_or es 0 d).unix_leap_time (pos 0) valid (omega arith) (record { value = refl; before = λ k f l. absurd (omega arith) }) (λ _. omega (arith, ints)))
+    sym (before_found es 0 d (get_or es 0 d).unix_leap_time (pos 0) valid (omega arith)
+    (record { value = refl; before = λ k f l. absurd (omega arith) }) (λ _. omega (arith, ints)))
 
-pub before_later : (es : List LeapSecond) (k : ℕ) (d : LeapSecond) → AreLeapSeconds es → k + 1 < length es → correction_before es (get_or es (k + 1) d).unix_leap_time ≡ (get_or es k d).correction
+pub before_later : (es : List LeapSecond) (k : ℕ) (d : LeapSecond) → AreLeapSeconds es → k + 1 < length es
+    → correction_before es (get_or es (k + 1) d).unix_leap_time ≡ (get_or es k d).correction
 before_later es k d valid h =
     let x : ℤ = (get_or es (k + 1) d).unix_leap_time in
     sym (before_found es (k + 1) d x (get_or es k d).correction valid (omega arith) (record {
       value = rw (add-one, last_taken (λ (e : LeapSecond). e.correction) (pos 0) es k d (omega arith)) refl;
       before = λ j f l.
-          let r = rises (λ i. (get_or es i d).unix_leap_time) (length es) (λ i b. let t = ((follow es valid).next i d (omega arith)).later in omega (arith, ints)) j k (omega arith) (omega arith) in
+          let r = rises (λ i. (get_or es i d).unix_leap_time) (length es) (λ i b. let t = ((follow es valid).next i d (omega arith)).later in
+          omega (arith, ints)) j k (omega arith) (omega arith) in
           let n = (valid.next k d (omega arith)).later in
           let g = ap (λ (e : LeapSecond). e.unix_leap_time) (get_or_default es j f d (omega arith)) in
           omega (arith, ints);

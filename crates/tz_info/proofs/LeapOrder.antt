@@ -11,17 +11,21 @@ abbrev pub counted_from : ℤ → List LeapSecond → ℤ → ℕ
 counted_from p es u = count_by (λ t. int_le t u) (thresholds p es)
 
 -- the next threshold comes later
-tail_later : (p : ℤ) (e : LeapSecond) (es : List LeapSecond) → Follow p (e ∷ es) → (d : LeapSecond) → 0 < length es → ((e.unix_leap_time -ℤ p) +ℤ pos 2_419_198) ≤ℤ ((get_or es 0 d).unix_leap_time -ℤ e.correction)
+tail_later : (p : ℤ) (e : LeapSecond) (es : List LeapSecond) → Follow p (e ∷ es) → (d : LeapSecond) → 0 < length es
+    → ((e.unix_leap_time -ℤ p) +ℤ pos 2_419_198) ≤ℤ ((get_or es 0 d).unix_leap_time -ℤ e.correction)
 tail_later p e es f d h = threshold_apart e (get_or es 0 d) p (f.next 0 d (omega arith)) (f.step e (omega arith))
 
 counted : (p u : ℤ) (e : LeapSecond) (es : List LeapSecond) → (e.unix_leap_time -ℤ p) ≤ℤ u → counted_from p (e ∷ es) u ≡ suc (counted_from e.correction es u)
-counted p u e es h = sum_by-cons (λ t. cond (int_le t u) 1 0) (e.unix_leap_time -ℤ p) (thresholds e.correction es) ∙ rw (le_true (e.unix_leap_time -ℤ p) u h) (omega arith)
+counted p u e es h = sum_by-cons (λ t. cond (int_le t u) 1 0) (e.unix_leap_time -ℤ p) (thresholds e.correction es)
+    ∙ rw (le_true (e.unix_leap_time -ℤ p) u h) (omega arith)
 
 not_counted : (p u : ℤ) (e : LeapSecond) (es : List LeapSecond) → u <ℤ (e.unix_leap_time -ℤ p) → counted_from p (e ∷ es) u ≡ counted_from e.correction es u
-not_counted p u e es h = sum_by-cons (λ t. cond (int_le t u) 1 0) (e.unix_leap_time -ℤ p) (thresholds e.correction es) ∙ rw (le_false (e.unix_leap_time -ℤ p) u h) (omega arith)
+not_counted p u e es h = sum_by-cons (λ t. cond (int_le t u) 1 0) (e.unix_leap_time -ℤ p) (thresholds e.correction es)
+    ∙ rw (le_false (e.unix_leap_time -ℤ p) u h) (omega arith)
 
 -- where u lies before the first threshold no entry is passed
-pub none_counted : (p u : ℤ) (es : List LeapSecond) → Follow p es → ((d : LeapSecond) → 0 < length es → u <ℤ ((get_or es 0 d).unix_leap_time -ℤ p)) → counted_from p es u ≡ 0
+pub none_counted : (p u : ℤ) (es : List LeapSecond) → Follow p es
+    → ((d : LeapSecond) → 0 < length es → u <ℤ ((get_or es 0 d).unix_leap_time -ℤ p)) → counted_from p es u ≡ 0
 none_counted p u [] f h = refl
 none_counted p u (e ∷ es) f h =
     let here = h e (omega arith) in
@@ -33,7 +37,8 @@ summed p es u = u +ℤ last_else p (corrections (take (counted_from p es u) es))
 summed_counted : (p u : ℤ) (e : LeapSecond) (es : List LeapSecond) → (e.unix_leap_time -ℤ p) ≤ℤ u → summed p (e ∷ es) u ≡ summed e.correction es u
 summed_counted p u e es h = rw (counted p u e es h) refl
 
-summed_none : (p u : ℤ) (es : List LeapSecond) → Follow p es → ((d : LeapSecond) → 0 < length es → u <ℤ ((get_or es 0 d).unix_leap_time -ℤ p)) → summed p es u ≡ u +ℤ p
+summed_none : (p u : ℤ) (es : List LeapSecond) → Follow p es
+    → ((d : LeapSecond) → 0 < length es → u <ℤ ((get_or es 0 d).unix_leap_time -ℤ p)) → summed p es u ≡ u +ℤ p
 summed_none p u es f h = rw (none_counted p u es f h) refl
 
 sums_rise : (p u v : ℤ) (es : List LeapSecond) → Follow p es → u ≤ℤ v → summed p es u ≤ℤ summed p es v
@@ -66,7 +71,8 @@ pub record Bounded (p a u : ℤ) (es : List LeapSecond) (k : ℕ) : Type 0 where
   pub most : get_or (corrections es) k (pos 0) ≤ℤ (p +ℤ pos (suc k))
   pub least : p ≤ℤ (get_or (corrections es) k (pos 0) +ℤ pos (suc k))
 
-pub bounded : (p a u : ℤ) (es : List LeapSecond) (k : ℕ) → Follow p es → ((d : LeapSecond) → 0 < length es → a ≤ℤ ((get_or es 0 d).unix_leap_time -ℤ p)) → k < counted_from p es u → Bounded p a u es k
+pub bounded : (p a u : ℤ) (es : List LeapSecond) (k : ℕ) → Follow p es → ((d : LeapSecond) → 0 < length es → a ≤ℤ ((get_or es 0 d).unix_leap_time -ℤ p))
+    → k < counted_from p es u → Bounded p a u es k
 bounded p a u [] k f h l = absurd (omega arith)
 bounded p a u (e ∷ es) zero f h l =
     let above = was_counted p u e es zero f l in let t = h e (omega arith) in let d = f.step e (omega arith) in grind (arith, ints)
@@ -82,7 +88,8 @@ bounded p a u (e ∷ es) (suc k) f h l =
       )) (omega arith),
     )
 
-pub leap_times_answer : (es : List LeapSecond) (u : ℤ) → AreLeapSeconds es → neg_ℤ (pos 10_000_000_000_000) ≤ℤ u → u ≤ℤ pos 10_000_000_000_000 → IsLeapTimeRefused es u → ⊥
+pub leap_times_answer : (es : List LeapSecond) (u : ℤ) → AreLeapSeconds es → neg_ℤ (pos 10_000_000_000_000) ≤ℤ u
+    → u ≤ℤ pos 10_000_000_000_000 → IsLeapTimeRefused es u → ⊥
 leap_times_answer es u valid low high r =
     let b = bounded (pos 0) (pos 0) u es r.place (follow es valid) (λ d l. let f = (valid.first d l).since_epoch in omega (arith, ints)) r.passed in
     let a = b.later in grind arith
@@ -111,7 +118,8 @@ counted_correction [] zero c h = refl
 counted_correction [] (suc k) c h = absurd (omega arith)
 counted_correction (e ∷ es) zero c h = refl
 counted_correction (e ∷ es) (suc k) c h =
-    last_taken (λ (e : LeapSecond). e.correction) (pos 0) (e ∷ es) k e (omega arith) ∙ sym (mapped_at (λ (e : LeapSecond). e.correction) (e ∷ es) k e (pos 0) (omega arith)) ∙ c k (omega arith) ∙ ap pos (add-one k)
+    last_taken (λ (e : LeapSecond). e.correction) (pos 0) (e ∷ es) k e (omega arith)
+    ∙ sym (mapped_at (λ (e : LeapSecond). e.correction) (e ∷ es) k e (pos 0) (omega arith)) ∙ c k (omega arith) ∙ ap pos (add-one k)
 
 pub leap_time_undone : (es : List LeapSecond) (u x v : ℤ) → AreLeapSeconds es → AreCounted es → IsLeapTime es u x → IsUnixTime es x v → v ≡ u
 leap_time_undone es u x v valid c a b =

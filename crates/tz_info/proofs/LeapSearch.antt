@@ -64,7 +64,8 @@ Refuses es k u = (threshold es k ≤ℤ u) × (pos 9_223_372_036_854_775_808 ≤
 
 -- that of the entry at place k, whose time and correction are these, after an entry of that correction
 pub refuses_by_entry : (es : List LeapSecond) (k : ℕ) (d : LeapSecond) (by before u : ℤ) → k < length es → before ≡ correction_behind es k
-    → (by ≤ℤ u) ↔ ((((get_or es k d).unix_leap_time -ℤ before) ≤ℤ u) × (pos 9_223_372_036_854_775_808 ≤ℤ (u +ℤ (get_or es k d).correction))) → (by ≤ℤ u) ↔ Refuses es k u
+    → (by ≤ℤ u) ↔ ((((get_or es k d).unix_leap_time -ℤ before) ≤ℤ u) × (pos 9_223_372_036_854_775_808 ≤ℤ (u +ℤ (get_or es k d).correction)))
+    → (by ≤ℤ u) ↔ Refuses es k u
 refuses_by_entry es k d by before u h e first =
     let t = threshold_at (pos 0) es k d (pos 0) h in
     rw (mapped_at (λ (e : LeapSecond). e.correction) es k d (pos 0) h, t, ← e) first
@@ -85,7 +86,8 @@ none_refused es = record {
 }
 
 -- with the entry at place k, which refuses from `by` on
-pub refused_more : (es : List LeapSecond) (k : ℕ) (old by new : ℤ) → AreRefusedFrom es k old → pos 4_611_686_018_427_387_904 ≤ℤ by → ((u : ℤ) → (by ≤ℤ u) ↔ Refuses es k u) → new ≡ int_min old by → AreRefusedFrom es (k + 1) new
+pub refused_more : (es : List LeapSecond) (k : ℕ) (old by new : ℤ) → AreRefusedFrom es k old → pos 4_611_686_018_427_387_904 ≤ℤ by
+    → ((u : ℤ) → (by ≤ℤ u) ↔ Refuses es k u) → new ≡ int_min old by → AreRefusedFrom es (k + 1) new
 refused_more es k old by new r late refuses e =
     let low = r.late in let high = r.most in
     record {
@@ -101,7 +103,8 @@ refused_more es k old by new r late refuses e =
     }
 
 -- and then the second before it is the last one with a leap time
-pub last_with_leap_time : (es : List LeapSecond) (refused last : ℤ) → AreLeapSeconds es → AreRefusedFrom es (length es) refused → last ≡ refused -ℤ pos 1 → IsLastWithLeapTime es last
+pub last_with_leap_time : (es : List LeapSecond) (refused last : ℤ) → AreLeapSeconds es → AreRefusedFrom es (length es) refused
+    → last ≡ refused -ℤ pos 1 → IsLastWithLeapTime es last
 last_with_leap_time es refused last valid r e = record {
   has = λ u least h. record {
     sum = refl;
@@ -132,9 +135,10 @@ pub lt_is_not : (a b : ℤ) → int_lt a b ≡ false → b ≤ℤ a
 lt_is_not a b h = by_lt_z a b (λ l. let t = lt_true a b l in cc) (λ m. m)
 
 pub parted_before : (es : List LeapSecond) (x : ℤ) → AreLeapSeconds es → IsPartitionedBy (λ e. int_lt e.unix_leap_time x) es
-parted_before es x valid i j d h l t = let r = times_rise es i j d valid h l in earlier (get_or es i d).unix_leap_time (get_or es j d).unix_leap_time x r t where
-  earlier : (a b x : ℤ) → a ≤ℤ b → int_lt b x ≡ true → int_lt a x ≡ true
-  earlier a b x h t = grind (arith, ints)
+parted_before es x valid i j d h l t = let r = times_rise es i j d valid h l in
+    earlier (get_or es i d).unix_leap_time (get_or es j d).unix_leap_time x r t where
+      earlier : (a b x : ℤ) → a ≤ℤ b → int_lt b x ≡ true → int_lt a x ≡ true
+      earlier a b x h t = grind (arith, ints)
 
 -- without leap seconds the leap time of a second is that second
 pub own_leap_time : (es : List LeapSecond) (u : ℤ) → length es ≡ 0 → IsLeapTime es u u

@@ -9,22 +9,27 @@ use Rattle.tz_info.proofs.{LeapEntries.{follow, threshold, threshold_at, thresho
 abbrev pub correction_behind : List LeapSecond → ℕ → ℤ
 correction_behind es k = last_else (pos 0) (corrections (take k es))
 
-one_step : (es : List LeapSecond) (k : ℕ) (d : LeapSecond) → AreLeapSeconds es → k < length es → IsOneStep (correction_behind es k) (correction_behind es (suc k))
+one_step : (es : List LeapSecond) (k : ℕ) (d : LeapSecond) → AreLeapSeconds es → k < length es
+    → IsOneStep (correction_behind es k) (correction_behind es (suc k))
 one_step es zero d valid h = rw (last_taken (λ (e : LeapSecond). e.correction) (pos 0) es zero d h) ((follow es valid).step d (omega arith))
-one_step es (suc k) d valid h = rw (last_taken (λ (e : LeapSecond). e.correction) (pos 0) es (suc k) d h, last_taken (λ (e : LeapSecond). e.correction) (pos 0) es k d (omega arith)) (((follow es valid).next k d h).step)
+one_step es (suc k) d valid h =
+    rw (last_taken (λ (e : LeapSecond). e.correction) (pos 0) es (suc k) d h, last_taken (λ (e : LeapSecond). e.correction) (pos 0) es k d (omega arith))
+    (((follow es valid).next k d h).step)
 
 pub passed_at_most : (es : List LeapSecond) (u : ℤ) → passed_count es u ≤ length es
 passed_at_most es u = omega (arith, count_by-le-length (λ t. int_le t u) (thresholds (pos 0) es), threshold_count (pos 0) es)
 
 -- fewer entries are passed at u than come by x
-below_law : (es : List LeapSecond) (x u y : ℤ) (n : ℕ) (d : LeapSecond) → AreLeapSeconds es → HaveCome es x n → IsLeapTime es u y → passed_count es u < n → y <ℤ x
+below_law : (es : List LeapSecond) (x u y : ℤ) (n : ℕ) (d : LeapSecond) → AreLeapSeconds es → HaveCome es x n → IsLeapTime es u y
+    → passed_count es u < n → y <ℤ x
 below_law es x u y n d valid h l less =
     let c = passed_count es u in
     let s = (split (pos 0) u es c (follow es valid) (omega arith)).not_passed (omega arith) in
     let t = threshold_at (pos 0) es c d (pos 0) (omega arith) in grind arith
 
 -- more entries are passed at u than come by x
-above_law : (es : List LeapSecond) (x u y : ℤ) (n c : ℕ) (d : LeapSecond) → AreLeapSeconds es → HaveCome es x n → IsLeapTime es u y → passed_count es u ≡ suc c → n ≤ c → x ≤ℤ y
+above_law : (es : List LeapSecond) (x u y : ℤ) (n c : ℕ) (d : LeapSecond) → AreLeapSeconds es → HaveCome es x n → IsLeapTime es u y
+    → passed_count es u ≡ suc c → n ≤ c → x ≤ℤ y
 above_law es x u y n c d valid h l is more =
     let m = passed_at_most es u in
     let s = (split (pos 0) u es c (follow es valid) (omega arith)).passed (omega arith) in
@@ -34,7 +39,8 @@ above_law es x u y n c d valid h l is more =
     elim (one_step es c d valid (omega arith)) [ inl k ↦ omega (arith, ints) | inr k ↦ omega (arith, ints) ]
 
 -- and then x less the correction in force at x comes before u
-above_start : (es : List LeapSecond) (x u : ℤ) (n : ℕ) (d : LeapSecond) → AreLeapSeconds es → HaveCome es x n → n < passed_count es u → (x -ℤ correction_behind es n) ≤ℤ u
+above_start : (es : List LeapSecond) (x u : ℤ) (n : ℕ) (d : LeapSecond) → AreLeapSeconds es → HaveCome es x n → n < passed_count es u
+    → (x -ℤ correction_behind es n) ≤ℤ u
 above_start es x u n d valid h more =
     let m = passed_at_most es u in
     let s = (split (pos 0) u es n (follow es valid) (omega arith)).passed more in
@@ -84,8 +90,10 @@ saturated v u near = let a = near.0 in let b = near.1 in ((λ k. grind (arith, i
 pub saturated_rise : (v w : ℤ) → v ≤ℤ w → saturate_signed w64 v ≤ℤ saturate_signed w64 w
 saturated_rise v w h = grind (arith, ints)
 
-pub times_rise : (es : List LeapSecond) (i j : ℕ) (d : LeapSecond) → AreLeapSeconds es → i ≤ j → j < length es → (get_or es i d).unix_leap_time ≤ℤ (get_or es j d).unix_leap_time
-times_rise es i j d valid h l = rises (λ k. (get_or es k d).unix_leap_time) (length es) (λ k b. let t = ((follow es valid).next k d b).later in omega (arith, ints)) i j h l
+pub times_rise : (es : List LeapSecond) (i j : ℕ) (d : LeapSecond) → AreLeapSeconds es → i ≤ j → j < length es
+    → (get_or es i d).unix_leap_time ≤ℤ (get_or es j d).unix_leap_time
+times_rise es i j d valid h l =
+    rises (λ k. (get_or es k d).unix_leap_time) (length es) (λ k b. let t = ((follow es valid).next k d b).later in omega (arith, ints)) i j h l
 
 pub parted : (es : List LeapSecond) (x : ℤ) → AreLeapSeconds es → IsPartitionedBy (λ e. int_le e.unix_leap_time x) es
 parted es x valid i j d h l t = let r = times_rise es i j d valid h l in grind arith

@@ -49,7 +49,8 @@ adjacent_known {R = R} each (x ∷ y ∷ ys) = like_known
     (λ h. next_front R x y ys h.0 h.1) (λ h. (h 0 x (omega arith), λ k d l. rw add-one (rw add-one at (h (suc k) d (omega (arith, l))))))
     (both_known (each x y) (adjacent_known each (y ∷ ys)))
   where
-    next_front : {X : Type 0} (R : X → X → Type 0) (x y : X) (ys : List X) → R x y → AllAdjacentBelow R (y ∷ ys) (length (y ∷ ys)) → AllAdjacentBelow R (x ∷ y ∷ ys) (length (x ∷ y ∷ ys))
+    next_front : {X : Type 0} (R : X → X → Type 0) (x y : X) (ys : List X) → R x y → AllAdjacentBelow R (y ∷ ys) (length (y ∷ ys))
+        → AllAdjacentBelow R (x ∷ y ∷ ys) (length (x ∷ y ∷ ys))
     next_front R x y ys first more zero d l = first
     next_front R x y ys first more (suc k) d l = rw add-one (rw add-one at (more k d (omega (arith, l))))
 
@@ -101,7 +102,8 @@ one_stage same (Later holds g) (Later _ h) = same g h
 
 abbrev Staged : Zone → Error → Type 0
 Staged z = Stage (0 < length z.types) (TimeZone AtLeastOneLocalTimeType) (Stage (NameTypes (length z.types) z.transitions) (TimeZone TypeIndexesWithinTypes)
-    (Stage (AreRising z.transitions) (TimeZone TransitionTimesThatRise) (Stage (AreLeapSeconds z.leaps) (TimeZone LeapSecondsInOrder) (λ e. e ≡ TimeZone RuleThatAgreesWithLastTransition))))
+    (Stage (AreRising z.transitions) (TimeZone TransitionTimesThatRise)
+    (Stage (AreLeapSeconds z.leaps) (TimeZone LeapSecondsInOrder) (λ e. e ≡ TimeZone RuleThatAgreesWithLastTransition))))
 
 staged : (z : Zone) (e : Error) → ListFault z e → Staged z e
 staged z e (No_type none) = Here none refl
@@ -124,7 +126,10 @@ has_list_fault z bad = elim (cases_lt 0 (length z.types)) [
           let transitions : AreTransitions (length z.types) z.transitions = record { indexes = indexes; rising = rising } in
           elim (leaps_known z.leaps) [
             | inr other ↦ (TimeZone LeapSecondsInOrder, Other_leaps some transitions other)
-            | inl leaps ↦ (TimeZone RuleThatAgreesWithLastTransition, Other_rule some transitions leaps (λ agrees. bad (record { some = some; transitions = transitions; leaps = leaps; agrees = agrees })))
+            | inl leaps ↦ (
+              TimeZone RuleThatAgreesWithLastTransition,
+              Other_rule some transitions leaps (λ agrees. bad (record { some = some; transitions = transitions; leaps = leaps; agrees = agrees })),
+            )
           ]
     ]
   ]

@@ -4,7 +4,8 @@ use Rattle.tz_info.proofs.Words.{Bool, Err, Error, List, Ok, Result, all_below, 
 use Rattle.tz_info.proofs.Words.{zero, ℕ, ◌<◌, ◌≡◌}
 
 -- the first error is that of all
-pub first_refusal : {X : Type 0} (n i : ℕ) (read : ℕ → Result X Error) (xs : List X) (e : Error) → i < n → values_below i read ≡ Ok xs → read i ≡ Err e → values_below n read ≡ Err e
+pub first_refusal : {X : Type 0} (n i : ℕ) (read : ℕ → Result X Error) (xs : List X) (e : Error) → i < n → values_below i read ≡ Ok xs
+    → read i ≡ Err e → values_below n read ≡ Err e
 first_refusal zero i read xs e l p q = absurd (omega arith)
 first_refusal {X = X} (suc n) i read xs e l p q = elim (cases_lt i n) as (λ _. values_below (suc n) read ≡ Err e) [
   | inl h ↦ rw (first_refusal n i read xs e h p q) refl

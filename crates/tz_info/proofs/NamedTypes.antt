@@ -7,7 +7,10 @@ use Rattle.tz_info.proofs.Words.{refl, true, ℕ, ℤ, ◌≡◌}
 above_least : (offset : ℤ) → IsUtOffset offset → int_le (neg_ℤ (pos 2_147_483_647)) offset ≡ true
 above_least offset u = let a = u.0 in grind (arith, ints)
 
-pub named_by : (name : List ℕ) (dst : Bool) (offset : ℤ) (r : Result LocalType Error) → MatchResult r (λ t. IsUtOffset offset × IsNameOrNone (Some name) × (t ≡ named_type name dst offset)) (λ e. (e ≡ LocalTimeType (expected_of_type offset (Some name))) × ¬ (IsUtOffset offset × IsNameOrNone (Some name))) → IsUtOffset offset
+pub named_by : (name : List ℕ) (dst : Bool) (offset : ℤ) (r : Result LocalType Error)
+    → MatchResult r (λ t. IsUtOffset offset × IsNameOrNone (Some name) × (t ≡ named_type name dst offset))
+    (λ e. (e ≡ LocalTimeType (expected_of_type offset (Some name))) × ¬ (IsUtOffset offset × IsNameOrNone (Some name))) → IsUtOffset offset
     → Gives (λ t. t) r (checked (is_name name) (BadType (expected_of_name name)) (named_type name dst offset))
 named_by name dst offset (Ok t) h u = let e = (name_test name).decides.1 h.1 in rw (e, h.2) refl
-named_by name dst offset (Err e) h u = let n = false_unless (is_name name) (λ t. h.1 (u, (name_test name).decides.0 t)) in rw (n, h.0, above_least offset u) refl
+named_by name dst offset (Err e) h u = let n = false_unless (is_name name) (λ t. h.1 (u, (name_test name).decides.0 t)) in
+    rw (n, h.0, above_least offset u) refl

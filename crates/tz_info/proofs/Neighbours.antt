@@ -72,7 +72,8 @@ between_is first last u h = grind (arith, ints)
 between : (first last u : ℤ) → Decides (is_between first last u) ((first ≤ℤ u) × (u <ℤ last))
 between first last u = (between_is first last u, λ h. between_true first last u h.0 h.1)
 
-by_three : (firsts lasts : ℤ → ℤ) (year u : ℤ) → IsNear firsts → IsNear lasts → IsYearOf u year → Decides (is_in_three firsts lasts year u) (IsInSomeYear firsts lasts u)
+by_three : (firsts lasts : ℤ → ℤ) (year u : ℤ) → IsNear firsts → IsNear lasts → IsYearOf u year
+    → Decides (is_in_three firsts lasts year u) (IsInSomeYear firsts lasts u)
 by_three firsts lasts year u near_first near_last of_second = Decides-like _
     (⊎_elim (⊎_elim (λ h. (year -ℤ pos 1, h.0, h.1)) (λ h. (year, h.0, h.1))) (λ h. (year +ℤ pos 1, h.0, h.1)))
     (λ some.
@@ -96,7 +97,8 @@ IsBeside margin year u =
     ((pos 86_400 *ℤ year_start year -ℤ margin) ≤ℤ u) × (u <ℤ (pos 86_400 *ℤ (year_start year +ℤ pos 365) +ℤ margin))
 
 -- there only the year's own moments can enclose it
-own_year : (firsts lasts : ℤ → ℤ) (margin year u other : ℤ) → KeepsMargin firsts margin → KeepsMargin lasts margin → IsBeside margin year u → firsts other ≤ℤ u → u <ℤ lasts other → other ≡ year
+own_year : (firsts lasts : ℤ → ℤ) (margin year u other : ℤ) → KeepsMargin firsts margin → KeepsMargin lasts margin → IsBeside margin year u → firsts other ≤ℤ u
+    → u <ℤ lasts other → other ≡ year
 own_year firsts lasts margin year u other first last beside from before =
     let here = beside.0 in let there = beside.1 in
     by_lt_z other year
@@ -106,22 +108,27 @@ own_year firsts lasts margin year u other first last beside from before =
     (λ not_more. omega (arith, floors)))
 
 -- a test that finds what some year has, with the start first or the end first
-pub by_start : (starts ends : ℤ → ℤ) (year u : ℤ) (dst : Bool) → starts year ≤ℤ ends year → (dst ≡ true → IsInSomeYear starts ends u) → (IsInSomeYear starts ends u → dst ≡ true) → IsDstAt starts ends year u dst
+pub by_start : (starts ends : ℤ → ℤ) (year u : ℤ) (dst : Bool) → starts year ≤ℤ ends year → (dst ≡ true → IsInSomeYear starts ends u)
+    → (IsInSomeYear starts ends u → dst ≡ true) → IsDstAt starts ends year u dst
 by_start starts ends year u dst order found all = grind arith
 
-pub by_end : (starts ends : ℤ → ℤ) (year u : ℤ) (dst std : Bool) → ends year <ℤ starts year → dst ≡ not std → (std ≡ true → IsInSomeYear ends starts u) → (IsInSomeYear ends starts u → std ≡ true) → IsDstAt starts ends year u dst
+pub by_end : (starts ends : ℤ → ℤ) (year u : ℤ) (dst std : Bool) → ends year <ℤ starts year → dst ≡ not std → (std ≡ true → IsInSomeYear ends starts u)
+    → (IsInSomeYear ends starts u → std ≡ true) → IsDstAt starts ends year u dst
 by_end starts ends year u dst std order is found all = grind arith
 
-by_own : (firsts lasts : ℤ → ℤ) (margin year u : ℤ) → KeepsMargin firsts margin → KeepsMargin lasts margin → IsBeside margin year u → Decides (is_between (firsts year) (lasts year) u) (IsInSomeYear firsts lasts u)
+by_own : (firsts lasts : ℤ → ℤ) (margin year u : ℤ) → KeepsMargin firsts margin → KeepsMargin lasts margin → IsBeside margin year u
+    → Decides (is_between (firsts year) (lasts year) u) (IsInSomeYear firsts lasts u)
 by_own firsts lasts margin year u first last beside = Decides-like _ (λ h. (year, h.0, h.1))
     (λ some. let (other, from, before) = some in rw (← own_year firsts lasts margin year u other first last beside from before) (from, before)) (between _ _ u)
 
 -- such tests decide, where moments come in their order in the second's own year
-dst_by : (starts ends : ℤ → ℤ) (year own u : ℤ) (dst first last : Bool) → int_le (starts own) (ends own) ≡ int_le (starts year) (ends year) → dst ≡ cond (int_le (starts year) (ends year)) first (not last)
+dst_by : (starts ends : ℤ → ℤ) (year own u : ℤ) (dst first last : Bool) → int_le (starts own) (ends own) ≡ int_le (starts year) (ends year)
+    → dst ≡ cond (int_le (starts year) (ends year)) first (not last)
     → Decides first (IsInSomeYear starts ends u) → Decides last (IsInSomeYear ends starts u) → IsDstAt starts ends own u dst
 dst_by starts ends year own u dst first last same is on off = grind arith
 
-pub dst_by_one : (starts ends : ℤ → ℤ) (margin year own u : ℤ) (dst : Bool) → KeepsMargin starts margin → KeepsMargin ends margin → IsBeside margin year u → int_le (starts own) (ends own) ≡ int_le (starts year) (ends year) → dst ≡ is_dst_by_one (starts year) (ends year) u → IsDstAt starts ends own u dst
+pub dst_by_one : (starts ends : ℤ → ℤ) (margin year own u : ℤ) (dst : Bool) → KeepsMargin starts margin → KeepsMargin ends margin → IsBeside margin year u
+    → int_le (starts own) (ends own) ≡ int_le (starts year) (ends year) → dst ≡ is_dst_by_one (starts year) (ends year) u → IsDstAt starts ends own u dst
 dst_by_one starts ends margin year own u dst start end beside same is =
     dst_by starts ends year own u dst _ _ same is (by_own starts ends margin year u start end beside) (by_own ends starts margin year u end start beside)
 

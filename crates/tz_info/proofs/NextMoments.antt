@@ -8,7 +8,8 @@ use Rattle.tz_info.proofs.Neighbours.{IsNear, ends_near, not_earlier, not_later,
 abbrev pub AreOutside : (ℤ → ℤ) → ℤ → ℤ → ℤ → Type 0
 AreOutside moments year u next = (y : ℤ) → (year -ℤ pos 1) ≤ℤ y → y ≤ℤ (year +ℤ pos 1) → (moments y ≤ℤ u) ⊎ (next ≤ℤ moments y)
 
-pub outside : (moments : ℤ → ℤ) (year u next : ℤ) → (moments (year -ℤ pos 1) ≤ℤ u) ⊎ (next ≤ℤ moments (year -ℤ pos 1)) → (moments year ≤ℤ u) ⊎ (next ≤ℤ moments year)
+pub outside : (moments : ℤ → ℤ) (year u next : ℤ) → (moments (year -ℤ pos 1) ≤ℤ u) ⊎ (next ≤ℤ moments (year -ℤ pos 1))
+    → (moments year ≤ℤ u) ⊎ (next ≤ℤ moments year)
     → (moments (year +ℤ pos 1) ≤ℤ u) ⊎ (next ≤ℤ moments (year +ℤ pos 1)) → AreOutside moments year u next
 outside moments year u next before here after y low high = grind (arith, place)
 
@@ -16,24 +17,31 @@ same_year : (u v next year : ℤ) → IsYearOf u year → u ≤ℤ v → v <ℤ 
 same_year u v next year of_u from before end = let low = second_low u year of_u in (omega (arith, floors), omega (arith, floors))
 
 -- what encloses the one second encloses the other
-on : (firsts lasts : ℤ → ℤ) (year u v next : ℤ) → IsNear firsts → IsNear lasts → IsYearOf u year → u ≤ℤ v → v <ℤ next → AreOutside lasts year u next → IsInSomeYear firsts lasts u → IsInSomeYear firsts lasts v
+on : (firsts lasts : ℤ → ℤ) (year u v next : ℤ) → IsNear firsts → IsNear lasts → IsYearOf u year → u ≤ℤ v → v <ℤ next → AreOutside lasts year u next
+    → IsInSomeYear firsts lasts u → IsInSomeYear firsts lasts v
 on firsts lasts year u v next near_first near_last of_u from before out (y, a, b) =
     let low = not_earlier lasts u year y near_last of_u b in
     let high = not_later firsts u year y near_first of_u a in
     (y, omega (arith, floors), ⊎_elim (λ h. absurd (omega (arith, floors))) (λ h. omega (arith, floors)) (out y low high))
 
-back : (firsts lasts : ℤ → ℤ) (year u v next : ℤ) → IsNear firsts → IsNear lasts → IsYearOf v year → u ≤ℤ v → v <ℤ next → AreOutside firsts year u next → IsInSomeYear firsts lasts v → IsInSomeYear firsts lasts u
+back : (firsts lasts : ℤ → ℤ) (year u v next : ℤ) → IsNear firsts → IsNear lasts → IsYearOf v year → u ≤ℤ v → v <ℤ next → AreOutside firsts year u next
+    → IsInSomeYear firsts lasts v → IsInSomeYear firsts lasts u
 back firsts lasts year u v next near_first near_last of_v from before out (y, a, b) =
     let low = not_earlier lasts v year y near_last of_v b in
     let high = not_later firsts v year y near_first of_v a in
     (y, ⊎_elim (λ h. h) (λ h. absurd (omega (arith, floors))) (out y low high), omega (arith, floors))
 
-dst_on : (starts ends : ℤ → ℤ) (year u v next : ℤ) (dst : Bool) → IsNear starts → IsNear ends → IsYearOf u year → IsYearOf v year → u ≤ℤ v → v <ℤ next → AreOutside starts year u next → AreOutside ends year u next → IsDstAt starts ends year u dst → IsDstAt starts ends year v dst
+dst_on : (starts ends : ℤ → ℤ) (year u v next : ℤ) (dst : Bool) → IsNear starts → IsNear ends → IsYearOf u year → IsYearOf v year → u ≤ℤ v → v <ℤ next
+    → AreOutside starts year u next → AreOutside ends year u next → IsDstAt starts ends year u dst → IsDstAt starts ends year v dst
 dst_on starts ends year u v next dst near_start near_end of_u of_v from before out_start out_end h = record {
-  start_first = λ order. let k = h.start_first order in
-      (λ t. on starts ends year u v next near_start near_end of_u from before out_end (k.0 t), λ s. k.1 (back starts ends year u v next near_start near_end of_v from before out_start s));
-  end_first = λ order. let k = h.end_first order in
-      (λ t. on ends starts year u v next near_end near_start of_u from before out_start (k.0 t), λ s. k.1 (back ends starts year u v next near_end near_start of_v from before out_end s));
+  start_first = λ order. let k = h.start_first order in (
+    λ t. on starts ends year u v next near_start near_end of_u from before out_end (k.0 t),
+    λ s. k.1 (back starts ends year u v next near_start near_end of_v from before out_start s),
+  );
+  end_first = λ order. let k = h.end_first order in (
+    λ t. on ends starts year u v next near_end near_start of_u from before out_start (k.0 t),
+    λ s. k.1 (back ends starts year u v next near_end near_start of_v from before out_end s),
+  );
 }
 
 -- from u on and before `next` the rule has one type
@@ -41,7 +49,8 @@ pub record IsSteadyUntil (a : Alternate) (u next : ℤ) : Type 0 where
   pub later : u <ℤ next
   pub same : (v : ℤ) → u ≤ℤ v → v <ℤ next → (t : LocalType) → AlternateAt a u t → AlternateAt a v t
 
-pub steady_until : (a : Alternate) (year u next : ℤ) → IsAlternateRule a → IsYearOf u year → u <ℤ next → next ≤ℤ (pos 86_400 *ℤ year_start (year +ℤ pos 1)) → AreOutside (start_in a) year u next → AreOutside (end_in a) year u next → IsSteadyUntil a u next
+pub steady_until : (a : Alternate) (year u next : ℤ) → IsAlternateRule a → IsYearOf u year → u <ℤ next → next ≤ℤ (pos 86_400 *ℤ year_start (year +ℤ pos 1))
+    → AreOutside (start_in a) year u next → AreOutside (end_in a) year u next → IsSteadyUntil a u next
 steady_until a year u next rule of_u later end out_start out_end = record {
   later = later;
   same = λ v from before t k.

@@ -1,5 +1,6 @@
 -- The zone of a TZ string.
-use Rattle.tz_info.proofs.Words.{IsTrimAsciiStart, None, Option, Some, ap, option_map, subst, ◌+◌, ◌-◌, Bool, Decided, Err, Error, IfErr, IfOk, IsPosixFault, IsPosixZone, IsTextFault, IsTrimAscii, IsTzText, List, MatchResult, Ok}
+use Rattle.tz_info.proofs.Words.{IsTrimAsciiStart, None, Option, Some, ap, option_map, subst, ◌+◌, ◌-◌, Bool, Decided, Err, Error, IfErr, IfOk, IsPosixFault}
+use Rattle.tz_info.proofs.Words.{IsPosixZone, IsTextFault, IsTrimAscii, IsTzText, List, MatchResult, Ok}
 use Rattle.tz_info.proofs.Words.{Result, TransitionRule, Zone, apart, arith, done, false, fault_low, fault_once, inl, inr, length, like, made, nil_from_length}
 use Rattle.tz_info.proofs.Words.{nat_tests, error_number, plain_zone, pos, posix_zone, refl, rule_in, sym, trimmed, true, value_once, ℕ, [], ◌==◌, ◌>>=◌, ◌∙◌}
 use Rattle.tz_info.proofs.Words.{◌∷◌, ◌≡◌, ◌≢◌, ◌≤◌}
@@ -42,45 +43,60 @@ posix_low text = fault_low (posix_law text)
 pub string_place_within : (extended : Bool) (bytes : List ℕ) → text_fault_position extended bytes ≤ length bytes
 string_place_within extended bytes = omega arith
 
-pub string_placed : (bytes : List ℕ) (e : ParseError) → IsTextFault true bytes e.error → e.position ≡ Some (text_fault_position true bytes) → IsPlaced (IsExtendedFaultPlace bytes) e
+pub string_placed : (bytes : List ℕ) (e : ParseError) → IsTextFault true bytes e.error → e.position ≡ Some (text_fault_position true bytes)
+    → IsPlaced (IsExtendedFaultPlace bytes) e
 string_placed bytes e fault place = let low = text_low true bytes e.error fault in rw place ((λ m. absurd (omega (arith, low, m))), refl)
 
 pub not_empty : (text : List ℕ) (b : Bool) → b ≡ (length text == 0) → b ≡ false → text ≢ []
 not_empty [] b h e k = cc
 not_empty (c ∷ cs) b h e k = cc
 
-pub zone_of_text : (text : List ℕ) (rule : TransitionRule) (b : Bool) → b ≡ (length text == 0) → b ≡ false → IsTrimmedRule text (Ok rule) → IsPosixZone text (posix_zone rule)
-zone_of_text text rule b e some (trimmed, trims, spells) = inr (record { some = not_empty text b e some; trimmed = trimmed; rule = rule; trims = trims; spells = spells; zone = refl })
+pub zone_of_text : (text : List ℕ) (rule : TransitionRule) (b : Bool) → b ≡ (length text == 0) → b ≡ false → IsTrimmedRule text (Ok rule)
+    → IsPosixZone text (posix_zone rule)
+zone_of_text text rule b e some (trimmed, trims, spells) =
+    inr (record { some = not_empty text b e some; trimmed = trimmed; rule = rule; trims = trims; spells = spells; zone = refl })
 
 pub fault_of_text : (text : List ℕ) (e : ParseError) (b : Bool) → b ≡ (length text == 0) → b ≡ false → IsTrimmedRule text (Err e) → IsPosixFault text e.error
 fault_of_text text e b is some (trimmed, trims, fault, place) = record { some = not_empty text b is some; trimmed = trimmed; trims = trims; fault = fault }
 
--- the rule of a text without the white space at its ends, or its fault behind that in front
-pub trimmed_rule : (text trimmed string : List ℕ) (rule : TransitionRule) → IsTrimAscii text trimmed → string ≡ trimmed → IsTzText false string rule → IsTrimmedRule text (Ok rule)
+-- the rule of a text without the white space at its ends, or its fault, counted after the white space in front
+pub trimmed_rule : (text trimmed string : List ℕ) (rule : TransitionRule) → IsTrimAscii text trimmed → string ≡ trimmed → IsTzText false string rule
+    → IsTrimmedRule text (Ok rule)
 trimmed_rule text trimmed string rule t same spells = (trimmed, trims_both text trimmed t, subst (λ b. IsTzText false b rule) same spells)
 
 counted : (all left front room p q : ℕ) → left + front ≡ all → front + room ≤ all → p ≤ room → p ≡ q → all - (left - p) ≡ front + q
 counted all left front room p q whole fits inside same = omega (arith, whole, fits, inside, same)
 
-pub trimmed_fault : (text start trimmed string : List ℕ) (error : Error) (position placed : Option ℕ) → IsTrimAsciiStart text start → IsTrimAscii text trimmed → string ≡ trimmed → IsTextFault false string error
-    → position ≡ Some (text_fault_position false string) → placed ≡ option_map (λ p. length text - (length start - p)) position → IsTrimmedRule text (Err (record { error = error; position = placed }))
+pub trimmed_fault : (text start trimmed string : List ℕ) (error : Error) (position placed : Option ℕ) → IsTrimAsciiStart text start → IsTrimAscii text trimmed
+    → string ≡ trimmed → IsTextFault false string error
+    → position ≡ Some (text_fault_position false string) → placed ≡ option_map (λ p. length text - (length start - p)) position
+    → IsTrimmedRule text (Err (record { error = error; position = placed }))
 trimmed_fault text start trimmed string error position placed s t same fault place is =
     let trims = trims_both text trimmed t in
     let there : text_fault_position false string ≡ text_fault_position false trimmed = ap (λ b. text_fault_position false b) same in
-    let inside : text_fault_position false string ≤ length trimmed = subst (λ b. text_fault_position false string ≤ length b) same (string_place_within false string) in
-    let counts = counted (length text) (length start) (prefix_len is_ascii_whitespace text) (length trimmed) (text_fault_position false string) (text_fault_position false trimmed) (front_counted text start s) (fits_behind text trimmed trims) inside there in
-    (trimmed, trims, subst (λ b. IsTextFault false b error) same fault, is ∙ ap (λ o. option_map (λ p. length text - (length start - p)) o) place ∙ ap (λ n. Some n) counts)
+    let inside : text_fault_position false string ≤ length trimmed =
+    subst (λ b. text_fault_position false string ≤ length b) same (string_place_within false string) in
+    let counts = counted (length text) (length start) (prefix_len is_ascii_whitespace text) (length trimmed) (text_fault_position false string)
+    (text_fault_position false trimmed) (front_counted text start s) (fits_behind text trimmed trims) inside there in (
+      trimmed,
+      trims,
+      subst (λ b. IsTextFault false b error) same fault,
+      is ∙ ap (λ o. option_map (λ p. length text - (length start - p)) o) place ∙ ap (λ n. Some n) counts,
+    )
 
 -- a zone that is the text's, the only one, unless memory ran out
-pub zone_found : (text : List ℕ) (z : Zone) (r : Result Zone ParseError) → IsPosixZone text z → MatchResult r (λ y. y ≡ z) (λ e. IsOutOfMemory e.error × (e.position ≡ None)) → IfOk r (λ y. IsPosixZone text y)
+pub zone_found : (text : List ℕ) (z : Zone) (r : Result Zone ParseError) → IsPosixZone text z
+    → MatchResult r (λ y. y ≡ z) (λ e. IsOutOfMemory e.error × (e.position ≡ None)) → IfOk r (λ y. IsPosixZone text y)
 zone_found text z (Ok y) is same = rw same is
 zone_found text z (Err x) is memory = tt
 
-pub only_found : (text : List ℕ) (z : Zone) (r : Result Zone ParseError) → IsPosixZone text z → MatchResult r (λ y. y ≡ z) (λ e. IsOutOfMemory e.error × (e.position ≡ None)) → (other : Zone) → IsPosixZone text other → MatchResult r (λ y. y ≡ other) (λ e. IsOutOfMemory e.error)
+pub only_found : (text : List ℕ) (z : Zone) (r : Result Zone ParseError) → IsPosixZone text z
+    → MatchResult r (λ y. y ≡ z) (λ e. IsOutOfMemory e.error × (e.position ≡ None)) → (other : Zone) → IsPosixZone text other
+    → MatchResult r (λ y. y ≡ other) (λ e. IsOutOfMemory e.error)
 only_found text z (Ok y) is same other p = same ∙ one_zone text z other is p
 only_found text z (Err x) is memory other p = memory.0
 
--- running out of memory is reported only where there is a zone
+-- running out of memory is reported only if there is a zone
 pub zone_memory : (P : Zone → Type 0) (z : Zone) (r : Result Zone ParseError) → P z → IfErr r (λ e. IsOutOfMemory e.error → (y : Zone) × P y)
 zone_memory P z (Ok y) is = tt
 zone_memory P z (Err x) is = λ m. (z, is)

@@ -12,5 +12,6 @@ has_type (rules.Alternate a) = omega arith
 pub posix_zone_valid : (text : List ℕ) (zone : Zone) → IsPosixZone text zone → IsValid zone × IsRuleOrNone zone.rule
 posix_zone_valid text zone h = elim h [
   | inl a ↦ subst (λ (y : Zone). IsValid y × IsRuleOrNone y.rule) (sym a.1) (zone_of_rule_valid _ None (omega arith), tt)
-  | inr a ↦ subst (λ (y : Zone). IsValid y × IsRuleOrNone y.rule) (sym a.zone) (zone_of_rule_valid (types_of a.rule) (Some a.rule) (has_type a.rule), text_rule_fits false a.trimmed a.rule a.spells)
+  | inr a ↦ subst (λ (y : Zone). IsValid y × IsRuleOrNone y.rule) (sym a.zone)
+      (zone_of_rule_valid (types_of a.rule) (Some a.rule) (has_type a.rule), text_rule_fits false a.trimmed a.rule a.spells)
 ]

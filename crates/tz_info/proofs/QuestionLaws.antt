@@ -19,18 +19,32 @@ by_rule_segment : (z : Zone) (u : ℤ) → IsByRule z u → segment_of z u ≡ l
 by_rule_segment z u a = sym (come_by_then z u a.leap_time a.of_second) ∙ a.from_last
 
 -- a zone asks its rule from `start` on
-seconds_by_rule : (z : Zone) (rule : TransitionRule) (start l : ℤ) → IsValid z → z.rule ≡ Some rule → IsStart z.transitions z.leaps (length z.transitions) start → IsWide l → AreUtOffsets rule → (u : ℤ) → IsSecondFrom rule start l u ↔ IsByRuleFor z l u
+seconds_by_rule : (z : Zone) (rule : TransitionRule) (start l : ℤ) → IsValid z → z.rule ≡ Some rule → IsStart z.transitions z.leaps (length z.transitions) start
+    → IsWide l → AreUtOffsets rule → (u : ℤ) → IsSecondFrom rule start l u ↔ IsByRuleFor z l u
 seconds_by_rule z rule start l valid is begun wide offsets u = (
   (λ k.
       let near : IsNear u = rw k.of_second (near_of l k.offset wide (offsets k.offset k.of_rule)) in
-      record { offset = k.offset; of_rule = rw is k.of_rule; of_second = k.of_second; by_rule = by_rule_there z u rule valid is near ((rule_begun z u start valid near begun).1 k.since) }),
+      record {
+        offset = k.offset;
+        of_rule = rw is k.of_rule;
+        of_second = k.of_second;
+        by_rule = by_rule_there z u rule valid is near
+            ((rule_begun z u start valid near begun).1 k.since);
+      }),
   (λ k.
       let of_rule = rw is at k.of_rule in
       let near : IsNear u = rw k.of_second (near_of l k.offset wide (offsets k.offset of_rule)) in
-      record { offset = k.offset; of_rule = of_rule; of_second = k.of_second; since = (rule_begun z u start valid near begun).0 (by_rule_segment z u k.by_rule) }),
+      record {
+        offset = k.offset;
+        of_rule = of_rule;
+        of_second = k.of_second;
+        since = (rule_begun z u start valid near begun).0
+            (by_rule_segment z u k.by_rule);
+      }),
 )
 
-pub asked_by_zone : (z : Zone) (rule : TransitionRule) (start l : ℤ) (p q : ℕ) → IsValid z → z.rule ≡ Some rule → IsStart z.transitions z.leaps (length z.transitions) start → IsWide l → AreUtOffsets rule → IsAskedFrom rule start l p q → IsAskedFor z l p q
+pub asked_by_zone : (z : Zone) (rule : TransitionRule) (start l : ℤ) (p q : ℕ) → IsValid z → z.rule ≡ Some rule
+    → IsStart z.transitions z.leaps (length z.transitions) start → IsWide l → AreUtOffsets rule → IsAskedFrom rule start l p q → IsAskedFor z l p q
 asked_by_zone z rule start l p q valid is begun wide offsets k = record {
   seconds = k.seconds;
   once = k.once;
@@ -71,33 +85,44 @@ one_second : (asks : ℤ → Type 0) (c : ℤ) (p q : ℕ) → ((u : ℤ) → as
 one_second asks c p q only k = asked_more asks c p q q k (nowhere (λ u. asks u × (u ≢ c)) q q (λ u h. h.1 (only u h.0)) refl)
 
 -- two, the one asked after the other
-two_seconds : (asks : ℤ → Type 0) (c d : ℤ) (p q r : ℕ) → c ≢ d → ((u : ℤ) → asks u → (u ≡ c) ⊎ (u ≡ d)) → IsAskedIf asks c p q → IsAskedIf asks d q r → IsAskedAtEach asks p r
+two_seconds : (asks : ℤ → Type 0) (c d : ℤ) (p q r : ℕ) → c ≢ d → ((u : ℤ) → asks u → (u ≡ c) ⊎ (u ≡ d)) → IsAskedIf asks c p q
+    → IsAskedIf asks d q r → IsAskedAtEach asks p r
 two_seconds asks c d p q r other both j k = asked_more asks c p q r j (one_second (λ u. asks u × (u ≢ c)) d q r
     (λ u h. ⊎_elim (λ e. absurd (h.1 e)) (λ e. e) (both u h.0))
     (⊎_elim (λ h. inl ((h.0, λ e. other (sym e)), h.1)) (λ h. inr (λ i. h.0 i.0, h.1)) k))
 
 -- ---- those of a rule
-asked_since : (rule : TransitionRule) (from l o : ℤ) (p q : ℕ) → Contains (rule_offsets (Some rule)) o → IsAskedSince from (l -ℤ o) p q → IsAskedIf (IsSecondFrom rule from l) (l -ℤ o) p q
+asked_since : (rule : TransitionRule) (from l o : ℤ) (p q : ℕ) → Contains (rule_offsets (Some rule)) o → IsAskedSince from (l -ℤ o) p q
+    → IsAskedIf (IsSecondFrom rule from l) (l -ℤ o) p q
 asked_since rule from l o p q of_rule (inl (since, e)) = inl (record { offset = o; of_rule = of_rule; of_second = refl; since = since }, e)
 asked_since rule from l o p q of_rule (inr (early, e)) = inr ((λ k. let since = k.since in absurd (omega (arith, ints))), e)
 
 pub asked_fixed : (f : LocalType) (from l : ℤ) (p q : ℕ) → IsAskedSince from (l -ℤ f.offset) p q → IsAskedFrom (Fixed f) from l p q
 asked_fixed f from l p q asked = one_second (IsSecondFrom (Fixed f) from l) (l -ℤ f.offset) p q
-    (λ u k. let e = in_one f.offset k.offset k.of_rule in k.of_second ∙ ap (λ o. l -ℤ o) e) (asked_since (Fixed f) from l f.offset p q (0, omega arith, refl) asked)
+    (λ u k. let e = in_one f.offset k.offset k.of_rule in
+    k.of_second ∙ ap (λ o. l -ℤ o) e) (asked_since (Fixed f) from l f.offset p q (0, omega arith, refl) asked)
 
 std_or_dst : (a : AlternateRule) (from l u : ℤ) → IsSecondFrom (Alternate a) from l u → (u ≡ l -ℤ a.std.offset) ⊎ (u ≡ l -ℤ a.dst.offset)
 std_or_dst a from l u k = grind arith
 
-pub asked_std_dst : (a : AlternateRule) (from l : ℤ) (p q r : ℕ) → a.std.offset ≢ a.dst.offset → IsAskedSince from (l -ℤ a.std.offset) p q → IsAskedSince from (l -ℤ a.dst.offset) q r → IsAskedFrom (Alternate a) from l p r
-asked_std_dst a from l p q r other std dst = two_seconds (IsSecondFrom (Alternate a) from l) (l -ℤ a.std.offset) (l -ℤ a.dst.offset) p q r (λ e. other (omega (arith, ints))) (std_or_dst a from l)
-    (asked_since (Alternate a) from l a.std.offset p q (0, omega arith, refl) std) (asked_since (Alternate a) from l a.dst.offset q r (1, omega arith, refl) dst)
+pub asked_std_dst : (a : AlternateRule) (from l : ℤ) (p q r : ℕ) → a.std.offset ≢ a.dst.offset → IsAskedSince from (l -ℤ a.std.offset) p q
+    → IsAskedSince from (l -ℤ a.dst.offset) q r → IsAskedFrom (Alternate a) from l p r
+asked_std_dst a from l p q r other std dst =
+    two_seconds (IsSecondFrom (Alternate a) from l) (l -ℤ a.std.offset) (l -ℤ a.dst.offset) p q r (λ e. other (omega (arith, ints))) (std_or_dst a from l)
+    (asked_since (Alternate a) from l a.std.offset p q (0, omega arith, refl) std)
+    (asked_since (Alternate a) from l a.dst.offset q r (1, omega arith, refl) dst)
 
-pub asked_dst_std : (a : AlternateRule) (from l : ℤ) (p q r : ℕ) → a.std.offset ≢ a.dst.offset → IsAskedSince from (l -ℤ a.dst.offset) p q → IsAskedSince from (l -ℤ a.std.offset) q r → IsAskedFrom (Alternate a) from l p r
-asked_dst_std a from l p q r other dst std = two_seconds (IsSecondFrom (Alternate a) from l) (l -ℤ a.dst.offset) (l -ℤ a.std.offset) p q r (λ e. other (omega (arith, ints))) (λ u k. elim (std_or_dst a from l u k) [ inl e ↦ inr e | inr e ↦ inl e ])
-    (asked_since (Alternate a) from l a.dst.offset p q (1, omega arith, refl) dst) (asked_since (Alternate a) from l a.std.offset q r (0, omega arith, refl) std)
+pub asked_dst_std : (a : AlternateRule) (from l : ℤ) (p q r : ℕ) → a.std.offset ≢ a.dst.offset → IsAskedSince from (l -ℤ a.dst.offset) p q
+    → IsAskedSince from (l -ℤ a.std.offset) q r → IsAskedFrom (Alternate a) from l p r
+asked_dst_std a from l p q r other dst std =
+    two_seconds (IsSecondFrom (Alternate a) from l) (l -ℤ a.dst.offset) (l -ℤ a.std.offset) p q r (λ e. other (omega (arith, ints)))
+    (λ u k. elim (std_or_dst a from l u k) [ inl e ↦ inr e | inr e ↦ inl e ])
+    (asked_since (Alternate a) from l a.dst.offset p q (1, omega arith, refl) dst)
+    (asked_since (Alternate a) from l a.std.offset q r (0, omega arith, refl) std)
 
 -- if both offsets are equal
-pub asked_once : (a : AlternateRule) (from l : ℤ) (p q : ℕ) → a.std.offset ≡ a.dst.offset → IsAskedSince from (l -ℤ a.std.offset) p q → IsAskedFrom (Alternate a) from l p q
+pub asked_once : (a : AlternateRule) (from l : ℤ) (p q : ℕ) → a.std.offset ≡ a.dst.offset → IsAskedSince from (l -ℤ a.std.offset) p q
+    → IsAskedFrom (Alternate a) from l p q
 asked_once a from l p q same std = one_second (IsSecondFrom (Alternate a) from l) (l -ℤ a.std.offset) p q (λ u k.
     grind arith) (asked_since (Alternate a) from l a.std.offset p q (0, omega arith, refl) std)
 
@@ -106,7 +131,8 @@ pub asked_none : (z : Zone) (l : ℤ) (p : ℕ) → z.rule ≡ None → IsAskedF
 asked_none z l p e = nowhere (IsByRuleFor z l) p p (λ u k. none-some k.by_rule.rule (sym e ∙ k.by_rule.of_zone)) refl
 
 -- ---- none, if a transition comes after all of the local time's window
-pub asked_for_window : (z : Zone) (l low high : ℤ) (n : ℕ) (d : Transition) (p q : ℕ) → IsValid z → IsWindow z l low high → n < length z.transitions → high <ℤ (get_or z.transitions n d).unix_leap_time → q ≡ p → IsAskedFor z l p q
+pub asked_for_window : (z : Zone) (l low high : ℤ) (n : ℕ) (d : Transition) (p q : ℕ) → IsValid z → IsWindow z l low high → n < length z.transitions
+    → high <ℤ (get_or z.transitions n d).unix_leap_time → q ≡ p → IsAskedFor z l p q
 asked_for_window z l low high n d p q valid w h later e = nowhere (IsByRuleFor z l) p q (λ u k.
     let among = Contains-append_right (offsets_of z.types) (rule_offsets z.rule) k.offset k.of_rule in
     let least = All-contains (λ x. w.least ≤ℤ x) (offsets z.types z.rule) k.offset w.is_least.fewest among in
@@ -116,13 +142,15 @@ asked_for_window z l low high n d p q valid w h later e = nowhere (IsByRuleFor z
 pub asked_at_time : (z : Zone) (u x : ℤ) (p q : ℕ) → (0 < length z.transitions → IsLeapTime z.leaps u x) → IsAskedAtLeapTime z x p q → IsAskedAt z u p q
 asked_at_time z u x p q time (inl (rule, is, from, e)) = inl (record { rule = rule; of_zone = is; leap_time = x; of_second = time; from_last = from }, e)
 asked_at_time z u x p q time (inr (inl (none, e))) = inr ((λ a. let s = a.of_zone in cc), e)
-asked_at_time z u x p q time (inr (inr (before, e))) = inr ((λ a. let from_last = a.from_last in let same = ap length (same_passed z u a.leap_time x a.of_second time) in absurd (omega arith)), e)
+asked_at_time z u x p q time (inr (inr (before, e))) =
+    inr ((λ a. let from_last = a.from_last in let same = ap length (same_passed z u a.leap_time x a.of_second time) in absurd (omega arith)), e)
 
 either : (o : Option TransitionRule) → ((rule : TransitionRule) × (o ≡ Some rule)) ⊎ (o ≡ None)
 either (Some rule) = inl (rule, refl)
 either None = inr refl
 
-pub asked_without : (z : Zone) (u : ℤ) (p q : ℕ) → length z.transitions ≡ 0 → ((rule : TransitionRule) → z.rule ≡ Some rule → q ≡ p + 1) → (z.rule ≡ None → q ≡ p) → IsAskedAt z u p q
+pub asked_without : (z : Zone) (u : ℤ) (p q : ℕ) → length z.transitions ≡ 0 → ((rule : TransitionRule) → z.rule ≡ Some rule → q ≡ p + 1)
+    → (z.rule ≡ None → q ≡ p) → IsAskedAt z u p q
 asked_without z u p q e asked unasked =
     let f = no_items z.transitions e in
     asked_at_time z u u p q (λ h. absurd (omega arith)) (elim (either z.rule) [

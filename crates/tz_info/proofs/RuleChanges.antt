@@ -50,7 +50,8 @@ some_before f g u k cf cg h =
     let e : (u +ℤ cycle *ℤ k) +ℤ cycle *ℤ (pos 0 -ℤ k) ≡ u = omega (arith, ints) in
     rw e at (some_again f g (u +ℤ cycle *ℤ k) (pos 0 -ℤ k) cf cg h)
 
-dst_again : (f g : ℤ → ℤ) (year u k : ℤ) (dst : Bool) → ComesAgain f → ComesAgain g → IsDstAt f g year u dst → IsDstAt f g (year +ℤ pos 400 *ℤ k) (u +ℤ cycle *ℤ k) dst
+dst_again : (f g : ℤ → ℤ) (year u k : ℤ) (dst : Bool) → ComesAgain f → ComesAgain g → IsDstAt f g year u dst
+    → IsDstAt f g (year +ℤ pos 400 *ℤ k) (u +ℤ cycle *ℤ k) dst
 dst_again f g year u k dst cf cg h =
     let e = cf year k in let m = cg year k in
     record {
@@ -67,7 +68,8 @@ year_again u year k h =
     (omega (arith, floors), omega (arith, floors))
 
 -- in those years the rule has the same type, if it answers then
-type_again : (a : Alternate) (u k : ℤ) (t : LocalType) → IsAlternateRule a → (h : AlternateAt a u t) → IsRuleYear (h.year +ℤ pos 400 *ℤ k) → AlternateAt a (u +ℤ cycle *ℤ k) t
+type_again : (a : Alternate) (u k : ℤ) (t : LocalType) → IsAlternateRule a → (h : AlternateAt a u t) → IsRuleYear (h.year +ℤ pos 400 *ℤ k)
+    → AlternateAt a (u +ℤ cycle *ℤ k) t
 type_again a u k t rule h inside = record {
   year = h.year +ℤ pos 400 *ℤ k;
   of_second = year_again u h.year k h.of_second;
@@ -95,18 +97,23 @@ pub same_or_not : (x u : ℤ) → (x ≡ u) ⊎ (x ≡ u → ⊥)
 same_or_not x u = decided (x ≡ u) (int_eq x u) (Decides-int_eq x u)
 
 -- a change comes at a moment near its year, or with the next year
-pub change_near : (a : Alternate) (year : ℤ) (d : Change) → IsAlternateRule a → IsChange (AlternateAt a) d → IsYearOf (d.at -ℤ pos 1) year → Contains (moments_near a year) d.at
+pub change_near : (a : Alternate) (year : ℤ) (d : Change) → IsAlternateRule a → IsChange (AlternateAt a) d → IsYearOf (d.at -ℤ pos 1) year
+    → Contains (moments_near a year) d.at
 unfolding moments_near
 change_near a year d rule is of_second =
     let amid = amid_year d.at year of_second in
-    elim (decided (Contains (moments_near a year) d.at) (is_member int_eq (moments_near a year) d.at) (is_member-Decides Decides-int_eq (moments_near a year) d.at)) [
+    elim (decided (Contains (moments_near a year) d.at) (is_member int_eq (moments_near a year) d.at)
+    (is_member-Decides Decides-int_eq (moments_near a year) d.at)) [
       | inl found ↦ found
       | inr none ↦
           let low = amid.0 in let high = amid.1 in
-          let end : (d.at +ℤ pos 1) ≤ℤ new_year (year +ℤ pos 1) = by_lt_z d.at (new_year (year +ℤ pos 1)) (λ l. omega (arith, ints)) (λ m. absurd (none (6, omega arith, omega (arith, ints)))) in
+          let end : (d.at +ℤ pos 1) ≤ℤ new_year (year +ℤ pos 1) =
+          by_lt_z d.at (new_year (year +ℤ pos 1)) (λ l. omega (arith, ints)) (λ m. absurd (none (6, omega arith, omega (arith, ints)))) in
           let steady = steady_until a year (d.at -ℤ pos 1) (d.at +ℤ pos 1) rule of_second (omega (arith, ints)) end
-          (outside (start_in a) year (d.at -ℤ pos 1) (d.at +ℤ pos 1) (beside _ d.at (λ e. none (0, omega arith, e))) (beside _ d.at (λ e. none (2, omega arith, e))) (beside _ d.at (λ e. none (4, omega arith, e))))
-          (outside (end_in a) year (d.at -ℤ pos 1) (d.at +ℤ pos 1) (beside _ d.at (λ e. none (1, omega arith, e))) (beside _ d.at (λ e. none (3, omega arith, e))) (beside _ d.at (λ e. none (5, omega arith, e)))) in
+          (outside (start_in a) year (d.at -ℤ pos 1) (d.at +ℤ pos 1) (beside _ d.at (λ e. none (0, omega arith, e)))
+          (beside _ d.at (λ e. none (2, omega arith, e))) (beside _ d.at (λ e. none (4, omega arith, e))))
+          (outside (end_in a) year (d.at -ℤ pos 1) (d.at +ℤ pos 1) (beside _ d.at (λ e. none (1, omega arith, e)))
+          (beside _ d.at (λ e. none (3, omega arith, e))) (beside _ d.at (λ e. none (5, omega arith, e)))) in
           absurd (is.differ (alternate_once a d.at d.before d.after (steady.same d.at (omega (arith, ints)) (omega (arith, ints)) d.before is.before) is.after))
     ]
 
@@ -137,7 +144,8 @@ abbrev pub change_then : Change → ℤ → Change
 change_then d k = record d { at = d.at +ℤ cycle *ℤ k }
 
 -- a change comes again, if the rule answers in that year and in the next one
-pub change_again : (a : Alternate) (d : Change) (k : ℤ) → IsAlternateRule a → (is : IsChange (AlternateAt a) d) → IsRuleYear (is.before.year +ℤ pos 400 *ℤ k) → IsRuleYear ((is.before.year +ℤ pos 400 *ℤ k) +ℤ pos 1)
+pub change_again : (a : Alternate) (d : Change) (k : ℤ) → IsAlternateRule a → (is : IsChange (AlternateAt a) d) → IsRuleYear (is.before.year +ℤ pos 400 *ℤ k)
+    → IsRuleYear ((is.before.year +ℤ pos 400 *ℤ k) +ℤ pos 1)
     → IsChange (AlternateAt a) (change_then d k) × IsYearOf ((d.at +ℤ cycle *ℤ k) -ℤ pos 1) (is.before.year +ℤ pos 400 *ℤ k)
 change_again a d k rule is here next =
     let b = is.before in let t = is.after in
@@ -149,8 +157,10 @@ change_again a d k rule is here next =
     let after = type_again a d.at k d.after rule t (omega (arith, ints), omega (arith, ints)) in
     let f = rule_second a ((d.at +ℤ cycle *ℤ k) -ℤ pos 1) d.before before in
     let g = rule_second a (d.at +ℤ cycle *ℤ k) d.after after in
-    let f0 = f.0 in let f1 = f.1 in let g0 = g.0 in let g1 = g.1 in
-    (record { fits = omega (arith, ints); fits_before = omega (arith, ints); before = before; after = after; differ = is.differ }, rw shift at (year_again (d.at -ℤ pos 1) b.year k b.of_second))
+    let f0 = f.0 in let f1 = f.1 in let g0 = g.0 in let g1 = g.1 in (
+      record { fits = omega (arith, ints); fits_before = omega (arith, ints); before = before; after = after; differ = is.differ },
+      rw shift at (year_again (d.at -ℤ pos 1) b.year k b.of_second),
+    )
 
 -- ---- changes year by year
 pub year_on : (w : Bool) (first y : ℤ) (n : ℕ) → (y ≡ year_at w first n → ⊥) → Precedes w (year_at w first n) y → Precedes w (year_at w first (n + 1)) y
@@ -170,16 +180,26 @@ pub cycles_to : (y first : ℤ) → (k : ℤ) × ((first +ℤ pos 1) ≤ℤ (y +
 cycles_to y first = (pos 0 -ℤ floor_div ((y -ℤ first) -ℤ pos 1) 400, omega (arith, floors), omega (arith, floors))
 
 -- the nearest change among the seconds near a year is the nearest one of that year
-pub nearest_of_year : (w : Bool) (a : Alternate) (year after last from until : ℤ) (found : Option Change) → IsAlternateRule a → IsLaterOf after (new_year year) from → IsEarlierOf last (new_year (year +ℤ pos 1)) until
-    → IsNearest w (AlternateAt a) (IsOneOf (moments_near a year) (length (moments_near a year)) from until) found → IsNearest w (AlternateAt a) (IsOfYear after last year) found
+pub nearest_of_year : (w : Bool) (a : Alternate) (year after last from until : ℤ) (found : Option Change) → IsAlternateRule a
+    → IsLaterOf after (new_year year) from → IsEarlierOf last (new_year (year +ℤ pos 1)) until
+    → IsNearest w (AlternateAt a) (IsOneOf (moments_near a year) (length (moments_near a year)) from until) found
+    → IsNearest w (AlternateAt a) (IsOfYear after last year) found
 nearest_of_year w a year after last from until found rule later earlier h =
     nearest_moved w (AlternateAt a) (AlternateAt a) (IsOneOf (moments_near a year) (length (moments_near a year)) from until) (IsOfYear after last year) found
     (λ d is k.
     let at = change_near a year d rule is k.of_year in
     let amid = amid_year d.at year k.of_year in
     let i0 = k.inside.0 in let a0 = amid.0 in
-    let l = (later (d.at -ℤ pos 1)).1 (omega (arith, ints), omega (arith, ints)) in
-    (is, record { place = at.0; below = at.1; is = get_or_default (moments_near a year) at.0 (pos 0) d.at at.1 ∙ at.2; inside = (omega (arith, ints), (earlier d.at).1 (k.inside.1, amid.1)) }))
+    let l = (later (d.at -ℤ pos 1)).1 (omega (arith, ints), omega (arith, ints)) in (
+      is,
+      record {
+        place = at.0;
+        below = at.1;
+        is = get_or_default (moments_near a year) at.0 (pos 0) d.at at.1
+            ∙ at.2;
+        inside = (omega (arith, ints), (earlier d.at).1 (k.inside.1, amid.1));
+      },
+    ))
     (λ d is one.
     let l = (later (d.at -ℤ pos 1)).0 (omega (arith, ints)) in let e = (earlier d.at).0 one.inside.1 in
     let l0 = l.0 in let l1 = l.1 in

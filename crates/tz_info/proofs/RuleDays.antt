@@ -11,7 +11,8 @@ pub behind_december : (year : ℤ) → day_number year 12 32 ≡ year_start year
 unfolding day_number
 behind_december year = omega (arith, floors, months_step (is_leap year) 12 (omega arith), months_all year)
 
-same_week : (first week a b weekday : ℕ) → (first + (a - 1)) % 7 ≡ weekday → (first + (b - 1)) % 7 ≡ weekday → first < 7 → 7 * (week - 1) + 1 ≤ a → a ≤ 7 * week → 7 * (week - 1) + 1 ≤ b → b ≤ 7 * week → a ≡ b
+same_week : (first week a b weekday : ℕ) → (first + (a - 1)) % 7 ≡ weekday → (first + (b - 1)) % 7 ≡ weekday → first < 7 → 7 * (week - 1) + 1 ≤ a → a ≤ 7 * week
+    → 7 * (week - 1) + 1 ≤ b → b ≤ 7 * week → a ≡ b
 same_week first week a b weekday h k low c d e f = omega arith
 
 one_weekday : (year : ℤ) (month week weekday a b : ℕ) → week ≤ 5 → IsWeekdayInWeek year month week weekday a → IsWeekdayInWeek year month week weekday b → a ≡ b
@@ -45,14 +46,16 @@ julian_below : (year : ℤ) (n : ℕ) → 1 ≤ n → n ≤ 365 → julian_place
 julian_below year n low high = grind (arith, nat_tests)
 
 -- the rule's day is a date of its year, if it is no plain day number
-weekday_lies : (year : ℤ) (month week weekday : ℕ) → IsRuleDay (MonthWeekday month week weekday) → LiesIn (closed_day (MonthWeekday month week weekday) year) year
+weekday_lies : (year : ℤ) (month week weekday : ℕ) → IsRuleDay (MonthWeekday month week weekday)
+    → LiesIn (closed_day (MonthWeekday month week weekday) year) year
 unfolding closed_day
 weekday_lies year month week weekday fits =
     let place = weekday_place (days_in_month (is_leap year) month) (weekday_of (day_number year month 1)) week weekday in
     rw (number_after year month place) at (date_lies year month (place + 1) (weekday_is year month week weekday fits.0 fits.1 fits.2 fits.3 fits.4).date)
 
 -- the rule's day lies in its year, or is the day after it
-closed_within : (form : DayForm) (year : ℤ) → IsRuleDay form → (year_start year ≤ℤ closed_day form year) × (closed_day form year ≤ℤ (year_start year +ℤ pos 365))
+closed_within : (form : DayForm) (year : ℤ) → IsRuleDay form
+    → (year_start year ≤ℤ closed_day form year) × (closed_day form year ≤ℤ (year_start year +ℤ pos 365))
 unfolding closed_day
 closed_within (Julian1 n) year fits = let most = julian_at_most (is_leap year) n fits.1 in (omega (arith, floors), omega (arith, floors))
 closed_within (Julian0 n) year fits = (omega (arith, floors), omega (arith, floors))

@@ -1,11 +1,14 @@
 -- A rule's gaps: if a season's moments decide at both seconds that could show a local time and neither does, one moment lies between them.
 use Rattle.std.specs.Prelude.{⊤}
 use Rattle.tz_info.proofs.Words.{Alternate as AlternateRule, AlternateAt, AreLess, Bool, Change, HasGap, IsAlternateRule, IsDecidedIn, IsNear}
-use Rattle.tz_info.proofs.Words.{IsNeverFrom, IsRuleGap, IsSeason, IsSeasonFor, IsSeasonIn, IsSeasonOf, IsStart, IsTableLess, IsValid, IsWide, IsWindowOf, LocalType, MatchOption}
-use Rattle.tz_info.proofs.Words.{None, Option, Season, Some, TransitionRule, TypeAt, Zone, arith, by_lt_z, cond, false, int_lt, ints, is_dst_by_one, length, not, pos}
+use Rattle.tz_info.proofs.Words.{IsNeverFrom, IsRuleGap, IsSeason, IsSeasonFor, IsSeasonIn, IsSeasonOf, IsStart, IsTableLess, IsValid, IsWide, IsWindowOf}
+use Rattle.tz_info.proofs.Words.{LocalType, MatchOption}
+use Rattle.tz_info.proofs.Words.{None, Option, Season, Some, TransitionRule, TypeAt, Zone, arith, by_lt_z, cond, false, int_lt, ints, is_dst_by_one, length}
+use Rattle.tz_info.proofs.Words.{not, pos}
 use Rattle.tz_info.proofs.Words.{refl, subst, sym, table_count, true, type_when, ℤ, ◌+ℤ◌, ◌-ℤ◌, ◌<ℤ◌, ◌≡◌, ◌≤ℤ◌}
 use Rattle.tz_info.specs.declared.rule.transition_rule.TransitionRule.TheVariants.{Alternate}
-use Rattle.tz_info.proofs.{GapLaws.{IsNever, gap_found}, RuleLaws.{alternate_once}, SeasonAnswers.{amid, greater}, WallSegments.{not_begun, rule_begun}, ZoneChanges.{from_rule, to_rule}}
+use Rattle.tz_info.proofs.{GapLaws.{IsNever, gap_found}, RuleLaws.{alternate_once}, SeasonAnswers.{amid, greater}, WallSegments.{not_begun, rule_begun}}
+use Rattle.tz_info.proofs.ZoneChanges.{from_rule, to_rule}
 
 -- ---- the moment between two seconds
 -- at v it is daylight saving time as `dst` says and at the earlier second u not, and so up to the moment
@@ -29,7 +32,8 @@ other false false h = absurd (h refl)
 
 at : (a : AlternateRule) (s : Season) (u : ℤ) (dst : Bool) → IsSeason a s → IsNear u → IsDecidedIn s u → is_dst_by_one s.turns.start s.turns.end u ≡ dst
     → AlternateAt a u (type_when a dst)
-at a s u dst season near decided e = subst (λ b. AlternateAt a u (type_when a b)) e (season.decided u (omega (arith, ints, near), omega (arith, ints, near)) decided)
+at a s u dst season near decided e =
+    subst (λ b. AlternateAt a u (type_when a b)) e (season.decided u (omega (arith, ints, near), omega (arith, ints, near)) decided)
 
 -- at the one that would show it by the one type the other one is in force
 other_at : (a : AlternateRule) (s : Season) (from l : ℤ) (dst : Bool) → IsSeasonFor a from l s → IsNear (l -ℤ (type_when a dst).offset) → IsNeverFrom a from l
@@ -96,7 +100,8 @@ season_in z rule from l (Some s) is start h = (from, start, rw is h)
 never_from : (z : Zone) (a : AlternateRule) (l from : ℤ) → IsValid z → z.rule ≡ Some (Alternate a)
     → IsStart z.transitions z.leaps (length z.transitions) from → IsNever z l → IsNeverFrom a from l
 never_from z a l from valid rule start never u t near since k shown =
-    never u t (record { fits = omega (arith, ints, near); type = from_rule z a u t valid rule ((rule_begun z u from valid near start).1 since) k; shown = shown })
+    never u t
+    (record { fits = omega (arith, ints, near); type = from_rule z a u t valid rule ((rule_begun z u from valid near start).1 since) k; shown = shown })
 
 -- the rule's gap is the zone's, if clocks show less before the rule begins
 gap_by_rule : (z : Zone) (a : AlternateRule) (l low high from : ℤ) (c : Change) → IsValid z → z.rule ≡ Some (Alternate a)
@@ -105,11 +110,13 @@ gap_by_rule : (z : Zone) (a : AlternateRule) (l low high from : ℤ) (c : Change
 gap_by_rule z a l low high from c valid rule start never reach all g =
     let since = g.since in
     let count : table_count z ≡ length z.transitions = rw rule refl in
-    let by : (u : ℤ) (t : LocalType) → IsNear u → from ≤ℤ u → AlternateAt a u t → TypeAt z u t = λ u t near h k. from_rule z a u t valid rule ((rule_begun z u from valid near start).1 h) k in
+    let by : (u : ℤ) (t : LocalType) → IsNear u → from ≤ℤ u → AlternateAt a u t → TypeAt z u t =
+    λ u t near h k. from_rule z a u t valid rule ((rule_begun z u from valid near start).1 h) k in
     let less : AreLess z l (c.at -ℤ pos 1) = λ u near before t k. by_lt_z u from
     (λ h. let m = (not_begun z (length z.transitions) from u valid start near).1 h in all u t near (omega arith) k)
     (λ h. g.less u t h (omega (arith, ints)) (to_rule z a u t valid rule ((rule_begun z u from valid near start).1 h) k)) in
-    gap_found z l low high c.at c.after c.before never reach g.near less (by c.at c.after g.near (omega (arith, ints)) g.after) g.more (by (c.at -ℤ pos 1) c.before g.near_before since g.before)
+    gap_found z l low high c.at c.after c.before never reach g.near less (by c.at c.after g.near (omega (arith, ints)) g.after) g.more
+    (by (c.at -ℤ pos 1) c.before g.near_before since g.before)
 
 -- so is that of a season of the zone
 pub gap_by_season : (z : Zone) (a : AlternateRule) (l low high : ℤ) (s : Season) (c : Change) → IsValid z → z.rule ≡ Some (Alternate a) → IsSeasonIn z l s

@@ -1,8 +1,10 @@
 -- A rule has one type at a second, or is refused there, and never both.
 use Rattle.std.proofs.lemmas.Bool.{cases_Bool}
 use Rattle.tz_info.proofs.Words.{Alternate as AlternateRule, AlternateAt, Bool, IsAlternateRefused, IsAlternateRule, IsDstAt, IsRule, IsRuleRefused, IsRuleTime}
-use Rattle.tz_info.proofs.Words.{IsRuleYear, IsYearOf, LiesIn, LocalType, MatchOption, None, Option, RuleAt, Some, TransitionRule, alternate_type, arith, by_lt_z, end_in, floor_div, floors, inl, inr}
-use Rattle.tz_info.proofs.Words.{ints, is_dst_by_three, is_rule_year, lies_in, neg_ℤ, one_year, pos, refl, rule_type, start_in, starts_rise, subst, sym, type_when, year_of, year_start, ℤ}
+use Rattle.tz_info.proofs.Words.{IsRuleYear, IsYearOf, LiesIn, LocalType, MatchOption, None, Option, RuleAt, Some, TransitionRule, alternate_type, arith}
+use Rattle.tz_info.proofs.Words.{by_lt_z, end_in, floor_div, floors, inl, inr}
+use Rattle.tz_info.proofs.Words.{ints, is_dst_by_three, is_rule_year, lies_in, neg_ℤ, one_year, pos, refl, rule_type, start_in, starts_rise, subst, sym}
+use Rattle.tz_info.proofs.Words.{type_when, year_of, year_start, ℤ}
 use Rattle.tz_info.proofs.Words.{◌+ℤ◌, ◌∙◌, ◌≡◌, ◌≤ℤ◌, ◌⊎◌}
 use Rattle.tz_info.specs.declared.rule.transition_rule.TransitionRule.TheVariants.{Alternate, Fixed}
 use Rattle.tz_info.proofs.Neighbours.{dst_by_three, ends_near, second_high, second_low, starts_near}
@@ -76,7 +78,8 @@ pub rule_year : (u year : ℤ) → IsYearOf u year → IsRuleTime u → IsRuleYe
 rule_year u year of_second within =
     let low = second_low u year of_second in let high = second_high u year of_second in
     let from : neg_ℤ (pos 2_147_483_646) ≤ℤ year = by_lt_z year (neg_ℤ (pos 2_147_483_646))
-    (λ less. let before = starts_rise (year +ℤ pos 1) (neg_ℤ (pos 2_147_483_646)) (omega (arith, floors)) in absurd (omega (arith, floors, first_start, within.0)))
+    (λ less. let before = starts_rise (year +ℤ pos 1) (neg_ℤ (pos 2_147_483_646)) (omega (arith, floors)) in
+    absurd (omega (arith, floors, first_start, within.0)))
     (λ h. h) in
     let to : year ≤ℤ pos 2_147_483_645 = by_lt_z (pos 2_147_483_645) year
     (λ more. let behind = starts_rise (pos 2_147_483_646) year (omega (arith, floors)) in absurd (omega (arith, floors, last_start, within.1)))
@@ -94,5 +97,6 @@ year_found u day year at_day at_year within =
     (lies, rule_year u year (rw at_day at lies) within)
 
 -- the type at a second whose day and year are known
-pub alternate_at : (a : AlternateRule) (u day year : ℤ) (dst : Bool) → day ≡ floor_div u 86_400 → LiesIn day year → IsRuleYear year → IsDstAt (start_in a) (end_in a) year u dst → AlternateAt a u (type_when a dst)
+pub alternate_at : (a : AlternateRule) (u day year : ℤ) (dst : Bool) → day ≡ floor_div u 86_400 → LiesIn day year → IsRuleYear year
+    → IsDstAt (start_in a) (end_in a) year u dst → AlternateAt a u (type_when a dst)
 alternate_at a u day year dst at_day lies inside when = grind arith

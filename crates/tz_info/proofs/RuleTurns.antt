@@ -1,6 +1,7 @@
 -- A rule's types and its moments: from which second on a type is in force, and which one a second before.
 use Rattle.tz_info.proofs.Words.{Alternate, AlternateAt, DayTime, IsAlternateRule, IsBetween, IsDayOf, IsDstAt, IsInSomeYear, IsRuleDay, IsRuleYear}
-use Rattle.tz_info.proofs.Words.{IsYearOf, ap, arith, by_lt_z, end_in, false, false≢true, floors, inl, inr, ints, moment, pos, refl, rule_day, start_in, true, ℤ}
+use Rattle.tz_info.proofs.Words.{IsYearOf, ap, arith, by_lt_z, end_in, false, false≢true, floors, inl, inr, ints, moment, pos, refl, rule_day, start_in, true}
+use Rattle.tz_info.proofs.Words.{ℤ}
 use Rattle.tz_info.proofs.Words.{◌*ℤ◌, ◌+ℤ◌, ◌-ℤ◌, ◌<ℤ◌, ◌≡◌, ◌≤ℤ◌}
 use Rattle.tz_info.proofs.{Neighbours.{by_end, by_start}, RuleDays.{day_rises, one_rule_day, rule_day_is}}
 
@@ -15,7 +16,8 @@ moments_rise t offset fits x y h =
     (λ l. let e : x ≡ y = omega (arith, ints) in let g = ap (rule_day t.day) e in omega (arith, floors))
 
 -- the second at which a clock shows the day's time is the year's moment
-moment_is : (t : DayTime) (offset year day u : ℤ) → IsRuleDay t.day → IsDayOf t.day year day → (u +ℤ offset) ≡ (pos 86_400 *ℤ day +ℤ t.time) → u ≡ moment t offset year
+moment_is : (t : DayTime) (offset year day u : ℤ) → IsRuleDay t.day → IsDayOf t.day year day
+    → (u +ℤ offset) ≡ (pos 86_400 *ℤ day +ℤ t.time) → u ≡ moment t offset year
 unfolding moment
 moment_is t offset year day u fits of_year shown =
     let e : day ≡ rule_day t.day year = one_rule_day t.day year day (rule_day t.day year) fits of_year (rule_day_is t.day year fits) in
@@ -55,14 +57,18 @@ is_over f g year u rf rg e (inr (before, after)) = (
   by_start f g year (u -ℤ pos 1) true (omega (arith, ints)) (λ _. (year, omega (arith, ints), omega (arith, ints))) (λ _. refl),
 )
 
-pub starts : (a : Alternate) (year day u : ℤ) → IsAlternateRule a → IsRuleYear year → IsDayOf a.start.day year day → (u +ℤ a.std.offset) ≡ (pos 86_400 *ℤ day +ℤ a.start.time) → IsBetween (end_in a) (start_in a) year → (IsYearOf u year → AlternateAt a u a.dst) × (IsYearOf (u -ℤ pos 1) year → AlternateAt a (u -ℤ pos 1) a.std)
+pub starts : (a : Alternate) (year day u : ℤ) → IsAlternateRule a → IsRuleYear year → IsDayOf a.start.day year day
+    → (u +ℤ a.std.offset) ≡ (pos 86_400 *ℤ day +ℤ a.start.time) → IsBetween (end_in a) (start_in a) year
+    → (IsYearOf u year → AlternateAt a u a.dst) × (IsYearOf (u -ℤ pos 1) year → AlternateAt a (u -ℤ pos 1) a.std)
 starts a year day u rule inside of_year clock between =
     let e : u ≡ start_in a year = moment_is a.start a.std.offset year day u rule.start_day of_year clock in
     let rs : Rise (start_in a) = moments_rise a.start a.std.offset rule.start_day in
     let re : Rise (end_in a) = moments_rise a.end a.dst.offset rule.end_day in
     let sides = begins (start_in a) (end_in a) year u rs re e between in grind arith
 
-pub ends : (a : Alternate) (year day u : ℤ) → IsAlternateRule a → IsRuleYear year → IsDayOf a.end.day year day → (u +ℤ a.dst.offset) ≡ (pos 86_400 *ℤ day +ℤ a.end.time) → IsBetween (start_in a) (end_in a) year → (IsYearOf u year → AlternateAt a u a.std) × (IsYearOf (u -ℤ pos 1) year → AlternateAt a (u -ℤ pos 1) a.dst)
+pub ends : (a : Alternate) (year day u : ℤ) → IsAlternateRule a → IsRuleYear year → IsDayOf a.end.day year day
+    → (u +ℤ a.dst.offset) ≡ (pos 86_400 *ℤ day +ℤ a.end.time) → IsBetween (start_in a) (end_in a) year
+    → (IsYearOf u year → AlternateAt a u a.std) × (IsYearOf (u -ℤ pos 1) year → AlternateAt a (u -ℤ pos 1) a.dst)
 ends a year day u rule inside of_year clock between =
     let e : u ≡ end_in a year = moment_is a.end a.dst.offset year day u rule.end_day of_year clock in
     let rs : Rise (start_in a) = moments_rise a.start a.std.offset rule.start_day in

@@ -20,7 +20,8 @@ one_type z s low high start end near near_high is starts ends u from until =
     is.each u (record { fits = omega (arith, ints, near, near_high); since = since; until = before })
 
 -- the part of a window that has its first second, or its last one
-pub next_run : (w : Bool) (s : Span) (low high start end : ℤ) → low <ℤ high → IsInSpan s (if w then low else high -ℤ pos 1) → StartsBy s.from low start → EndsBy s.until high end → IsNextRun w low high start end
+pub next_run : (w : Bool) (s : Span) (low high start end : ℤ) → low <ℤ high → IsInSpan s (if w then low else high -ℤ pos 1) → StartsBy s.from low start
+    → EndsBy s.until high end → IsNextRun w low high start end
 next_run true s low high start end some here starts ends =
     let first = (starts low).1 (omega (arith, ints), here.since) in let from = ((starts start).0 (omega (arith, ints))).0 in
     let last = ((ends (end -ℤ pos 1)).0 (omega (arith, ints))).0 in

@@ -6,7 +6,8 @@ use Rattle.tz_info.proofs.{DigitLaws.{digits-half, digits-less, digits-more}, Fi
 use Rattle.std.proofs.lemmas.List.{get_or-map as mapped_at}
 
 -- the time of an item that was read
-pub time_read : {A : Type 0} (time : A → ℤ) (items : List A) (place : ℕ) (x : A) → place < length items → x ≡ get_or items place x → time x ≡ item_time (map time items) place
+pub time_read : {A : Type 0} (time : A → ℤ) (items : List A) (place : ℕ) (x : A) → place < length items → x ≡ get_or items place x
+    → time x ≡ item_time (map time items) place
 time_read time items place x h e = ap time e ∙ sym (mapped_at time items place x (pos 0) h)
 
 -- the times of items in order come in order
@@ -30,7 +31,8 @@ pub not_before : (times : List ℤ) (i k : ℕ) → AreOrdered times → i ≤ k
 not_before times i k ordered h l = grind arith
 
 -- all have come once the last has
-pub all_passed : (times : List ℤ) (v : ℤ) (n : ℕ) (ends : Ends) → AreOrdered times → n ≡ length times → 0 < n → AreEnds times ends → ends.last ≤ℤ v → ArePassed times v n
+pub all_passed : (times : List ℤ) (v : ℤ) (n : ℕ) (ends : Ends) → AreOrdered times → n ≡ length times → 0 < n → AreEnds times ends
+    → ends.last ≤ℤ v → ArePassed times v n
 all_passed times v n ends ordered e some are le =
     record {
       within = omega arith;
@@ -48,7 +50,8 @@ none_passed times v ends ordered some are lt =
     }
 
 -- a look at one that has come
-pub left_later : (times : List ℤ) (v : ℤ) (first middle high : ℕ) → IsLeft times v first high → middle < high → item_time times middle ≤ℤ v → IsLeft times v (middle + 1) high
+pub left_later : (times : List ℤ) (v : ℤ) (first middle high : ℕ) → IsLeft times v first high → middle < high → item_time times middle ≤ℤ v
+    → IsLeft times v (middle + 1) high
 left_later times v first middle high left h le = let w = left.within in record {
   ordered = left.ordered;
   rising = omega arith;
@@ -59,7 +62,8 @@ left_later times v first middle high left h le = let w = left.within in record {
 }
 
 -- and at one that has not
-pub left_earlier : (times : List ℤ) (v : ℤ) (first middle high : ℕ) → IsLeft times v first high → first ≤ middle → middle < high → v <ℤ item_time times middle → IsLeft times v first middle
+pub left_earlier : (times : List ℤ) (v : ℤ) (first middle high : ℕ) → IsLeft times v first high → first ≤ middle → middle < high
+    → v <ℤ item_time times middle → IsLeft times v first middle
 left_earlier times v first middle high left h l lt = let w = left.within in record {
   ordered = left.ordered;
   rising = h;
@@ -70,10 +74,13 @@ left_earlier times v first middle high left h l lt = let w = left.within in reco
 }
 
 -- the same among neighbours, the first of which has come
-pub near_later : (times : List ℤ) (v : ℤ) (near after : Near) → IsNarrowedTo times v near → near.first ≤ after.first → after.first < near.first + near.count → after.first + after.count ≡ near.first + near.count → item_time times after.first ≤ℤ v → IsNarrowedTo times v after
+pub near_later : (times : List ℤ) (v : ℤ) (near after : Near) → IsNarrowedTo times v near → near.first ≤ after.first → after.first < near.first + near.count
+    → after.first + after.count ≡ near.first + near.count → item_time times after.first ≤ℤ v → IsNarrowedTo times v after
 near_later times v near after n h l e le = grind arith
 
-pub near_earlier : (times : List ℤ) (v : ℤ) (near after : Near) (middle : ℕ) → IsNarrowedTo times v near → after.first ≡ near.first → 0 < after.count → middle ≤ after.first + after.count → middle < near.first + near.count → after.first + after.count ≤ near.first + near.count → v <ℤ item_time times middle → IsNarrowedTo times v after
+pub near_earlier : (times : List ℤ) (v : ℤ) (near after : Near) (middle : ℕ) → IsNarrowedTo times v near → after.first ≡ near.first → 0 < after.count
+    → middle ≤ after.first + after.count → middle < near.first + near.count → after.first + after.count ≤ near.first + near.count
+    → v <ℤ item_time times middle → IsNarrowedTo times v after
 near_earlier times v near after middle n e some m l h lt = let w = n.within in record {
   ordered = n.ordered;
   some = some;
@@ -104,7 +111,8 @@ pub digits-three : (n : ℕ) → 4 ≤ n → 3 ≤ digits n
 digits-three n h = let m = digits-more 4 n h in omega (arith, digits-four)
 
 -- two steps among at most half of the items leave room for one look and the steps that are left
-pub two_steps : (count left n : ℕ) → 0 < count → 2 * count ≤ n → 4 ≤ n → left ≡ (count - count / 2) - (count - count / 2) / 2 → 2 + digits (left - 1) + 1 ≤ digits n
+pub two_steps : (count left n : ℕ) → 0 < count → 2 * count ≤ n → 4 ≤ n → left ≡ (count - count / 2) - (count - count / 2) / 2
+    → 2 + digits (left - 1) + 1 ≤ digits n
 two_steps count left n some narrow many e = grind (arith, digits-halved, digits-less)
 
 -- a step among more than one takes a look

@@ -18,7 +18,8 @@ one_order a margin year own u beside of_second (inl e) =
     ap (λ (y : ℤ). int_le (start_in a y) (end_in a y)) (one_year (floor_div u 86_400) own year of_second (amid_lies u year (rw e at beside)))
 one_order a margin year own u beside of_second (inr same) = same own year
 
-pub season_made : (a : Alternate) (margin year first : ℤ) (s : Season) → IsMargin a margin → first ≡ year_start year → s.from ≡ pos 86_400 *ℤ first -ℤ margin → s.until ≡ pos 86_400 *ℤ first +ℤ pos 31_536_000 +ℤ margin → s.turns.start ≡ start_in a year → s.turns.end ≡ end_in a year → IsSeason a s
+pub season_made : (a : Alternate) (margin year first : ℤ) (s : Season) → IsMargin a margin → first ≡ year_start year → s.from ≡ pos 86_400 *ℤ first -ℤ margin
+    → s.until ≡ pos 86_400 *ℤ first +ℤ pos 31_536_000 +ℤ margin → s.turns.start ≡ start_in a year → s.turns.end ≡ end_in a year → IsSeason a s
 season_made a margin year first s kept begins from until start end = record {
   decided = λ u within decided.
       let day = floor_div u 86_400 in
@@ -28,7 +29,8 @@ season_made a margin year first s kept begins from until start end = record {
       let beside : IsBeside margin year u = (omega (arith, floors), omega (arith, floors)) in
       let dst = is_dst_by_one s.turns.start s.turns.end u in
       alternate_at a u day own dst refl found.0 found.1
-      (dst_by_one (start_in a) (end_in a) margin year own u dst kept.start kept.end beside (one_order a margin year own u beside found.0 kept.order) (rw (start, end) refl));
+      (dst_by_one (start_in a) (end_in a) margin year own u dst kept.start kept.end beside
+      (one_order a margin year own u beside found.0 kept.order) (rw (start, end) refl));
 }
 
 -- the first day of a year lies in it

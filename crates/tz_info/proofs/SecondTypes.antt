@@ -86,7 +86,8 @@ abbrev pub IsListed : InForce → ℤ → List Change → Type 0
 IsListed f u listed = ((listed ≡ []) × HasNoChange f (λ v. v ≡ u)) ⊎ ((c : Change) × (listed ≡ c ∷ []) × IsChange f c × (c.at ≡ u))
 
 between_types : (f : InForce) (u : ℤ) (s t : Option LocalType) → IsOnce f → SFits w64 u → SFits w64 (u -ℤ pos 1)
-    → MatchOption s ((x : LocalType) → f (u -ℤ pos 1) x → ⊥) (f (u -ℤ pos 1)) → MatchOption t ((x : LocalType) → f u x → ⊥) (f u) → IsListed f u (change_between u s t)
+    → MatchOption s ((x : LocalType) → f (u -ℤ pos 1) x → ⊥) (f (u -ℤ pos 1)) → MatchOption t ((x : LocalType) → f u x → ⊥) (f u)
+    → IsListed f u (change_between u s t)
 between_types f u None t once fits fits_before h k = inl (refl, none_before f u h)
 between_types f u (Some s) None once fits fits_before h k = inl (refl, none_here f u k)
 between_types f u (Some s) (Some t) once fits fits_before h k = grind (arith, type_exact)

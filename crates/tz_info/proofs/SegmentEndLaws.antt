@@ -1,7 +1,10 @@
 -- The first second at which clocks show a local time or a later one: that of the first segment that ends later.
-use Rattle.tz_info.proofs.Words.{AreRising, Counts, IsFirstAtOrAfter, IsTrue, IsNear, IsRuleOrNone, IsTable, IsTableLess, IsUtOffset, IsValid, IsWide, IsWindowOf, List, LocalType, Option, RoseWithin, SFits, Some, None}
-use Rattle.tz_info.proofs.Words.{Transition, TransitionRule, TypeAt, Zone, AreWithin, IsBegunNear, ap, arith, begin_of, by_lt_z, cases_lt, get_or, get_or_append_left, get_or_push, index_of, inl, inr, int_lt, ints, lt_is, lt_true, least_time, length, length_push}
-use Rattle.tz_info.proofs.Words.{place_at, pos, refl, rises, saturate_signed, segment_of, slice_get, suc, table_count, top_of, w64, zero, ℕ, ℤ, ◌+ℤ◌, ◌++◌, ◌∷◌, []}
+use Rattle.tz_info.proofs.Words.{AreRising, Counts, IsFirstAtOrAfter, IsTrue, IsNear, IsRuleOrNone, IsTable, IsTableLess, IsUtOffset, IsValid, IsWide}
+use Rattle.tz_info.proofs.Words.{IsWindowOf, List, LocalType, Option, RoseWithin, SFits, Some, None}
+use Rattle.tz_info.proofs.Words.{Transition, TransitionRule, TypeAt, Zone, AreWithin, IsBegunNear, ap, arith, begin_of, by_lt_z, cases_lt, get_or}
+use Rattle.tz_info.proofs.Words.{get_or_append_left, get_or_push, index_of, inl, inr, int_lt, ints, lt_is, lt_true, least_time, length, length_push}
+use Rattle.tz_info.proofs.Words.{place_at, pos, refl, rises, saturate_signed, segment_of, slice_get, suc, table_count, top_of, w64, zero, ℕ, ℤ, ◌+ℤ◌, ◌++◌, ◌∷◌}
+use Rattle.tz_info.proofs.Words.{[]}
 use Rattle.tz_info.proofs.Words.{◌-ℤ◌, ◌-◌, ◌<ℤ◌, ◌<◌, ◌↔◌, ◌∙◌, ◌≡◌, ◌≤ℤ◌, ◌≤◌, ◌⊎◌}
 use Rattle.tz_info.proofs.Words.{All-contains, All-push, AreJoinedByRule, Contains, Extremes, IsTypeOf, RuleOrElse, rule_offsets, table_count_by}
 use Rattle.tz_info.specs.declared.rule.transition_rule.TransitionRule.TheVariants.{Alternate, Fixed}
@@ -16,24 +19,28 @@ use Rattle.tz_info.proofs.WallSegments.{near_of, type_there}
 near_wide : (l : ℤ) → IsWide l → IsNear l
 near_wide l wide = let a = wide.0 in let b = wide.1 in (omega (arith, ints), omega (arith, ints))
 
-end_at : (types : List LocalType) (ts : List Transition) (j : ℕ) (t : LocalType) → slice_get types (index_of ts j) ≡ Some t → end_of types ts (suc j) ≡ saturate_signed w64 (begin_of ts (suc j) +ℤ t.offset)
+end_at : (types : List LocalType) (ts : List Transition) (j : ℕ) (t : LocalType) → slice_get types (index_of ts j) ≡ Some t
+    → end_of types ts (suc j) ≡ saturate_signed w64 (begin_of ts (suc j) +ℤ t.offset)
 end_at types ts j t has = let e : suc j - 1 ≡ j = omega arith in rw (e, has) refl
 
-ends_rise : (types : List LocalType) (ts : List Transition) (j k : ℕ) → AreEndsRising types ts → 0 < j → j ≤ k → k ≤ length ts → end_of types ts j ≤ℤ end_of types ts k
+ends_rise : (types : List LocalType) (ts : List Transition) (j k : ℕ) → AreEndsRising types ts → 0 < j → j ≤ k → k ≤ length ts
+    → end_of types ts j ≤ℤ end_of types ts k
 ends_rise types ts zero k rising some order within = absurd (omega arith)
 ends_rise types ts (suc j) zero rising some order within = absurd (omega arith)
 ends_rise types ts (suc j) (suc k) rising some order within =
     rises (λ i. end_of types ts (suc i)) (length ts) (λ i h. let r = rising (suc i) (omega arith) h in omega (arith, ints)) j k (omega arith) (omega arith)
 
 -- if the ends rise the last one decides
-pub reached_plain : (types : List LocalType) (ts : List Transition) (k : ℕ) (l : ℤ) → AreEndsRising types ts → 0 < k → k ≤ length ts → (l <ℤ end_of types ts k) ↔ IsReached types ts k l
+pub reached_plain : (types : List LocalType) (ts : List Transition) (k : ℕ) (l : ℤ) → AreEndsRising types ts → 0 < k → k ≤ length ts
+    → (l <ℤ end_of types ts k) ↔ IsReached types ts k l
 reached_plain types ts k l rising some within = (
   λ h. record { by = k; some = some; within = omega arith; later = h },
   λ r. let later = r.later in let rise = ends_rise types ts r.by k rising r.some r.within within in omega (arith, ints),
 )
 
 -- else the latest one
-pub reached_latest : (types : List LocalType) (ts : List Transition) (maxima : List ℤ) (k : ℕ) (l : ℤ) → AreMaxima types ts maxima → 0 < k → k ≤ length ts → IsWide l → (l <ℤ get_or maxima (k - 1) (pos 0)) ↔ IsReached types ts k l
+pub reached_latest : (types : List LocalType) (ts : List Transition) (maxima : List ℤ) (k : ℕ) (l : ℤ) → AreMaxima types ts maxima → 0 < k → k ≤ length ts
+    → IsWide l → (l <ℤ get_or maxima (k - 1) (pos 0)) ↔ IsReached types ts k l
 reached_latest types ts maxima k l made some within wide =
     let e : suc (k - 1) ≡ k = omega arith in
     let n = made.count in
@@ -43,7 +50,8 @@ pub by_test : {P : Type 0} → (a b : ℤ) → (a <ℤ b) ↔ P → IsTrue (int_
 by_test a b is = ((λ h. is.0 (lt_is a b h)), (λ p. lt_true a b (is.1 p)))
 
 -- of one segment more
-pub reached_more : (types : List LocalType) (ts : List Transition) (k : ℕ) (l : ℤ) → IsReached types ts (suc k) l ↔ (IsReached types ts k l ⊎ (l <ℤ end_of types ts (suc k)))
+pub reached_more : (types : List LocalType) (ts : List Transition) (k : ℕ) (l : ℤ)
+    → IsReached types ts (suc k) l ↔ (IsReached types ts k l ⊎ (l <ℤ end_of types ts (suc k)))
 reached_more types ts k l = (
   λ r. elim (cases_lt k r.by) [
     | inl last ↦ let w = r.within in let e : r.by ≡ suc k = omega arith in inr (rw e at r.later)
@@ -59,12 +67,15 @@ pub never_reached : (types : List LocalType) (ts : List Transition) (l : ℤ) �
 never_reached types ts l r = let s = r.some in let w = r.within in omega arith
 
 -- the later of the segment's begin and the second that shows the local time by its type
-pub first_of_made : (types : List LocalType) (ts : List Transition) (k i : ℕ) (l at begin shown : ℤ) (t : LocalType) → i ≡ index_of ts k → slice_get types i ≡ Some t → IsUtOffset t.offset
+pub first_of_made : (types : List LocalType) (ts : List Transition) (k i : ℕ) (l at begin shown : ℤ) (t : LocalType) → i ≡ index_of ts k
+    → slice_get types i ≡ Some t → IsUtOffset t.offset
     → begin ≡ begin_of ts k → shown ≡ l -ℤ t.offset → ((u : ℤ) → (at ≤ℤ u) ↔ ((begin ≤ℤ u) × (shown ≤ℤ u))) → IsFirstOf types ts k l at t
-first_of_made types ts k i l at begin shown t is listed offset begins shows from = record { listed = rw is at listed; offset = offset; from = rw (begins, shows) at from }
+first_of_made types ts k i l at begin shown t is listed offset begins shows from =
+    record { listed = rw is at listed; offset = offset; from = rw (begins, shows) at from }
 
 -- the search has come to the first segment
-pub first_found : (types : List LocalType) (ts : List Transition) (l : ℤ) (k : ℕ) → k ≤ length ts → (IsReached types ts k l → ⊥) → (k < length ts → IsReached types ts (suc k) l) → IsFirstSegment types ts l k
+pub first_found : (types : List LocalType) (ts : List Transition) (l : ℤ) (k : ℕ) → k ≤ length ts → (IsReached types ts k l → ⊥)
+    → (k < length ts → IsReached types ts (suc k) l) → IsFirstSegment types ts l k
 first_found types ts l k within before here = record {
   within = within;
   before = before;
@@ -73,7 +84,8 @@ first_found types ts l k within before here = record {
 
 -- ---- seconds
 -- in the segments before that place clocks show less, if none of them ends later
-pub shows_less : (z : Zone) (ts : List Transition) (top k : ℕ) (l v : ℤ) (s : LocalType) → IsTable z ts top → k ≤ length ts → IsWide l → (IsReached z.types ts k l → ⊥) → SFits w64 v
+pub shows_less : (z : Zone) (ts : List Transition) (top k : ℕ) (l v : ℤ) (s : LocalType) → IsTable z ts top → k ≤ length ts → IsWide l
+    → (IsReached z.types ts k l → ⊥) → SFits w64 v
     → place_at ts v < k → place_at ts v < top → TypeAt z v s → (v +ℤ s.offset) <ℤ l
 shows_less z ts top k l v s table within wide none fits before own here =
     let j : ℕ = place_at ts v in
@@ -96,7 +108,8 @@ come_by ts zero v rising within begun = omega arith
 come_by ts (suc k) v rising within begun = (come_from ts (suc k) v rising (omega arith) within).1 begun
 
 -- a near second shows the local time or a later one, so that the segment has begun by then
-begun_near : (z : Zone) (ts : List Transition) (top k : ℕ) (l low high : ℤ) → IsValid z → IsRuleOrNone z.rule → IsTable z ts top → k < top → IsWide l → IsWindowOf z l l low high
+begun_near : (z : Zone) (ts : List Transition) (top k : ℕ) (l low high : ℤ) → IsValid z → IsRuleOrNone z.rule → IsTable z ts top → k < top
+    → IsWide l → IsWindowOf z l l low high
     → IsFirstSegment z.types ts l k → begin_of ts k ≤ℤ pos 10_000_000_000_000
 begun_near z ts top k l low high valid limits table own wide reach first =
     let near_high = reach.near_high in let a = near_high.0 in let b = near_high.1 in
@@ -104,12 +117,14 @@ begun_near z ts top k l low high valid limits table own wide reach first =
     let least = at_least_least z high (l -ℤ high) latest reach.least here in
     let fits : SFits w64 high = omega (arith, ints) in
     elim (cases_lt (place_at ts high) k) [
-      | inl before ↦ let less = shows_less z ts top k l high latest table first.within wide first.before fits before (omega arith) here in absurd (omega (arith, ints))
+      | inl before ↦ let less = shows_less z ts top k l high latest table first.within wide first.before fits before (omega arith) here in
+          absurd (omega (arith, ints))
       | inr come ↦ let begun = begun_by ts k high table.rising first.within come fits in omega (arith, ints)
     ]
 
 -- and the next one has not
-before_next : (z : Zone) (ts : List Transition) (top k : ℕ) (l at : ℤ) (t : LocalType) → IsTable z ts top → IsWide l → IsFirstSegment z.types ts l k → IsFirstOf z.types ts k l at t → k < length ts
+before_next : (z : Zone) (ts : List Transition) (top k : ℕ) (l at : ℤ) (t : LocalType) → IsTable z ts top → IsWide l → IsFirstSegment z.types ts l k
+    → IsFirstOf z.types ts k l at t → k < length ts
     → at <ℤ begin_of ts (suc k)
 before_next z ts top k l at t table wide first is inner =
     let next : ℤ = begin_of ts (suc k) in
@@ -125,7 +140,8 @@ before_next z ts top k l at t table wide first is inner =
     let before = (is.from (next -ℤ pos 1)).1 (omega (arith, ints), omega (arith, ints)) in omega (arith, ints)
 
 -- the first second of the first segment that ends later
-pub first_there : (z : Zone) (ts : List Transition) (top k : ℕ) (l low high at : ℤ) (t : LocalType) → IsValid z → IsRuleOrNone z.rule → IsTable z ts top → k < top → IsWide l → IsWindowOf z l l low high
+pub first_there : (z : Zone) (ts : List Transition) (top k : ℕ) (l low high at : ℤ) (t : LocalType) → IsValid z → IsRuleOrNone z.rule → IsTable z ts top
+    → k < top → IsWide l → IsWindowOf z l l low high
     → IsFirstSegment z.types ts l k → IsFirstOf z.types ts k l at t → IsFirstAtOrAfter (TypeAt z) l at t
 first_there z ts top k l low high at t valid limits table own wide reach first is =
     let near = near_of l t.offset wide is.offset in let a = near.0 in let b = near.1 in
@@ -149,7 +165,8 @@ first_there z ts top k l low high at t valid limits table own wide reach first i
           let rise = places_rise ts v at table.rising (omega (arith, ints)) in
           let r = h.reached in
           elim (cases_lt (place_at ts v) k) [
-            | inl before ↦ let less = shows_less z ts top k l v s table first.within wide first.before h.fits before (omega arith) h.type in absurd (omega (arith, ints))
+            | inl before ↦ let less = shows_less z ts top k l v s table first.within wide first.before h.fits before (omega arith) h.type in
+                absurd (omega (arith, ints))
             | inr same ↦
                 let one = ap (λ (x : LocalType). x.offset) (type_there z ts top k v s t table own h.fits is.listed (omega arith) h.type) in
                 let b = begun_by ts k v table.rising first.within same h.fits in
@@ -159,7 +176,8 @@ first_there z ts top k l low high at t valid limits table own wide reach first i
     }
 
 -- in all segments of the table clocks show less
-pub table_less : (z : Zone) (e : Entries) (l : ℤ) (k : ℕ) → IsValid z → AreEntries z e → IsTable z e.items (top_of z.rule e) → IsWide l → IsFirstSegment z.types e.items l k → top_of z.rule e ≤ k → IsTableLess z l
+pub table_less : (z : Zone) (e : Entries) (l : ℤ) (k : ℕ) → IsValid z → AreEntries z e → IsTable z e.items (top_of z.rule e) → IsWide l
+    → IsFirstSegment z.types e.items l k → top_of z.rule e ≤ k → IsTableLess z l
 table_less z e l k valid made table wide first all = λ u t near inside here.
     let a = near.0 in let b = near.1 in
     let fits : SFits w64 u = omega (arith, ints) in
@@ -170,13 +188,15 @@ all_behind : (rule : Option TransitionRule) (e : Entries) (q : ℕ) → q ≤ le
 all_behind (Some rule) e q few more h = omega arith
 all_behind None e q few more h = absurd (omega arith)
 
-by_rule_there : (rule : Option TransitionRule) (other : Type 0) (n p : ℕ) (u : ℤ) (t : LocalType) → p ≤ n → table_count_by rule n ≤ p → (p ≡ n → RuleOrElse rule u other t) → IsTypeOf rule u t
+by_rule_there : (rule : Option TransitionRule) (other : Type 0) (n p : ℕ) (u : ℤ) (t : LocalType) → p ≤ n → table_count_by rule n ≤ p
+    → (p ≡ n → RuleOrElse rule u other t) → IsTypeOf rule u t
 by_rule_there (Some rule) other n p u t most h there = there (omega arith)
 by_rule_there None other n p u t most h there = absurd (omega arith)
 
 -- and so what shows it lies from the second on from which the rule is asked, and from which its types may show it
 pub rule_within : (z : Zone) (e : Entries) (l until s shown from low high start end : ℤ) → IsValid z → AreEntries z e → IsBegunNear e s → IsTableLess z l
-    → ((o : ℤ) → Contains (rule_offsets z.rule) o → shown ≤ℤ (l -ℤ o)) → ((u : ℤ) → (from ≤ℤ u) ↔ ((s ≤ℤ u) × (shown ≤ℤ u))) → AreWithin z l until low high → ArePartFrom low high from start end
+    → ((o : ℤ) → Contains (rule_offsets z.rule) o → shown ≤ℤ (l -ℤ o)) → ((u : ℤ) → (from ≤ℤ u) ↔ ((s ≤ℤ u) × (shown ≤ℤ u))) → AreWithin z l until low high
+    → ArePartFrom low high from start end
     → AreWithin z l until start end
 rule_within z e l until s shown from low high start end valid made begun less by_offsets later all part =
     let is = part.until in
@@ -194,7 +214,8 @@ rule_within z e l until s shown from low high start end valid made begun less by
             | inl inside ↦ let k = less u t near inside h.type in absurd (omega (arith, ints))
             | inr beyond ↦
                 let most = place_most e.items u made.rising in
-                let top : top_of z.rule e ≤ place_at e.items u = elim (cases_lt (place_at e.items u) (top_of z.rule e)) [ inl own ↦ let c = same.1 own in absurd (omega arith) | inr m ↦ m ] in
+                let top : top_of z.rule e ≤ place_at e.items u =
+                elim (cases_lt (place_at e.items u) (top_of z.rule e)) [ inl own ↦ let c = same.1 own in absurd (omega arith) | inr m ↦ m ] in
                 let come = (begun u near).0 (all_behind z.rule e (place_at e.items u) most made.more top) in
                 let typed = by_rule_there z.rule _ (length z.transitions) (segment_of z u) u t (segment_most z u valid.transitions.rising) beyond
                 (λ here. type_from z u t valid.transitions.rising (record { type = h.type; segment = here })) in
@@ -204,12 +225,15 @@ rule_within z e l until s shown from low high start end valid made begun less by
     }
 
 -- the greatest offset of the rule's types
-pub greatest_by_rule : (rule : TransitionRule) (old new : Extremes) (o : ℤ) → AreJoinedByRule old rule new → Contains (rule_offsets (Some rule)) o → o ≤ℤ new.greatest
-greatest_by_rule (Fixed t) old new o j c = All-contains (λ x. x ≤ℤ new.greatest) (t.offset ∷ []) o (All-push (λ x. x ≤ℤ new.greatest) [] t.offset (λ k d l. absurd (omega arith)) j.most_here) c
+pub greatest_by_rule : (rule : TransitionRule) (old new : Extremes) (o : ℤ) → AreJoinedByRule old rule new
+    → Contains (rule_offsets (Some rule)) o → o ≤ℤ new.greatest
+greatest_by_rule (Fixed t) old new o j c =
+    All-contains (λ x. x ≤ℤ new.greatest) (t.offset ∷ []) o (All-push (λ x. x ≤ℤ new.greatest) [] t.offset (λ k d l. absurd (omega arith)) j.most_here) c
 greatest_by_rule (Alternate a) old new o (one, f, g) c =
     let std : a.std.offset ≤ℤ new.greatest = let h = f.most_here in let m = g.most in omega (arith, ints) in
     let first = All-push (λ x. x ≤ℤ new.greatest) [] a.std.offset (λ k d l. absurd (omega arith)) std in
-    All-contains (λ x. x ≤ℤ new.greatest) (a.std.offset ∷ a.dst.offset ∷ []) o (All-push (λ x. x ≤ℤ new.greatest) (a.std.offset ∷ []) a.dst.offset first g.most_here) c
+    All-contains (λ x. x ≤ℤ new.greatest) (a.std.offset ∷ a.dst.offset ∷ []) o
+    (All-push (λ x. x ≤ℤ new.greatest) (a.std.offset ∷ []) a.dst.offset first g.most_here) c
 
 -- ---- making the latest ends
 -- those of the first segments
@@ -249,7 +273,8 @@ maxima_more types ts k maxima out latest next made is e =
       all = more;
     })
 
-pub all_maxima : (types : List LocalType) (ts : List Transition) (k : ℕ) (maxima : List ℤ) (latest : ℤ) → k ≡ length ts → AreMaximaOf types ts k maxima latest → AreMaxima types ts maxima
+pub all_maxima : (types : List LocalType) (ts : List Transition) (k : ℕ) (maxima : List ℤ) (latest : ℤ) → k ≡ length ts
+    → AreMaximaOf types ts k maxima latest → AreMaxima types ts maxima
 all_maxima types ts k maxima latest e made = record {
   count = made.count ∙ e;
   reached = λ i d l h wide. let c = made.count in made.reached i d l (omega arith) wide;
@@ -257,4 +282,12 @@ all_maxima types ts k maxima latest e made = record {
 
 -- ---- the count of looks
 pub rose_more : (a b : Counts) (m n : ℕ) → m ≤ n → RoseWithin a b m 0 → RoseWithin a b n 0
-rose_more a b m n h r = let most = r.reads_most in record { reads_kept = r.reads_kept; reads_most = omega arith; questions_kept = r.questions_kept; questions_most = r.questions_most; pieces_same = r.pieces_same }
+rose_more a b m n h r = let most = r.reads_most in
+    record {
+      reads_kept = r.reads_kept;
+      reads_most = omega
+          arith;
+      questions_kept = r.questions_kept;
+      questions_most = r.questions_most;
+      pieces_same = r.pieces_same;
+    }

@@ -1,7 +1,8 @@
 -- Segments: which one a second lies in, and the type in force there.
 use Rattle.tz_info.proofs.Words.{AreLeapSeconds, AreRising, HasType, IsBeforeLast, IsFromLast, IsLeapTime, IsValid, List, LocalType, RuleOrType, Transition}
 use Rattle.tz_info.proofs.Words.{TypeIn, Zone, ap, arith, begin_of, by_lt_z, cases_lt, correction_at, get_or, index_of, inl, inr, ints, least_time}
-use Rattle.tz_info.proofs.Words.{length, length-take, passed, pos, refl, segment_of, suc, sym, take, zero, ℕ, ℤ, [], ◌+ℤ◌, ◌+◌, ◌-ℤ◌, ◌<ℤ◌, ◌<◌, ◌↔◌, ◌∙◌, ◌∷◌, ◌≡◌, ◌≤ℤ◌}
+use Rattle.tz_info.proofs.Words.{length, length-take, passed, pos, refl, segment_of, suc, sym, take, zero, ℕ, ℤ, [], ◌+ℤ◌, ◌+◌, ◌-ℤ◌, ◌<ℤ◌, ◌<◌, ◌↔◌, ◌∙◌, ◌∷◌}
+use Rattle.tz_info.proofs.Words.{◌≡◌, ◌≤ℤ◌}
 use Rattle.tz_info.proofs.Words.{◌≤◌}
 use Rattle.tz_info.proofs.{LeapOrder.{leap_sums_rise}, PassedTransitions.{no_items}, Prefixes.{last_taken}, TableSearch.{Between, search_found}}
 
@@ -13,11 +14,13 @@ not_later ts i k d r h l = elim (cases_lt i k) [
   | inr m ↦ let e : i ≡ k = omega arith in rw e (omega (arith, ints))
 ]
 
-first_come : (t : Transition) (ts : List Transition) (x : ℤ) (n : ℕ) → t.unix_leap_time ≤ℤ x → Between ts x n n → (k : ℕ) (d : Transition) → k < suc n → (get_or (t ∷ ts) k d).unix_leap_time ≤ℤ x
+first_come : (t : Transition) (ts : List Transition) (x : ℤ) (n : ℕ) → t.unix_leap_time ≤ℤ x → Between ts x n n → (k : ℕ) (d : Transition) → k < suc n
+    → (get_or (t ∷ ts) k d).unix_leap_time ≤ℤ x
 first_come t ts x n h b zero d l = h
 first_come t ts x n h b (suc k) d l = b.below k d (omega arith)
 
-others_later : (t : Transition) (ts : List Transition) (x : ℤ) (n : ℕ) → Between ts x n n → (k : ℕ) (d : Transition) → suc n ≤ k → k < length (t ∷ ts) → x <ℤ (get_or (t ∷ ts) k d).unix_leap_time
+others_later : (t : Transition) (ts : List Transition) (x : ℤ) (n : ℕ) → Between ts x n n → (k : ℕ) (d : Transition) → suc n ≤ k → k < length (t ∷ ts)
+    → x <ℤ (get_or (t ∷ ts) k d).unix_leap_time
 others_later t ts x n b zero d a l = absurd (omega arith)
 others_later t ts x n b (suc k) d a l = b.above k d (omega arith) (omega arith)
 
@@ -25,7 +28,16 @@ others_later t ts x n b (suc k) d a l = b.above k d (omega arith) (omega arith)
 pub split_at : (ts : List Transition) (x : ℤ) → AreRising ts → (n : ℕ) × Between ts x n n
 split_at [] x r = (0, record { ordered = omega arith; within = omega arith; below = λ k d h. absurd (omega arith); above = λ k d h l. absurd (omega arith) })
 split_at (t ∷ ts) x r = by_lt_z x t.unix_leap_time
-    (λ later. (0, record { ordered = omega arith; within = omega arith; below = λ k d h. absurd (omega arith); above = λ k d a l. let n = not_later (t ∷ ts) 0 k d r a l in omega (arith, ints) }))
+    (λ later. (
+      0,
+      record {
+        ordered = omega arith;
+        within = omega arith;
+        below = λ k d h. absurd (omega arith);
+        above = λ k d a l.
+            let n = not_later (t ∷ ts) 0 k d r a l in omega (arith, ints);
+      },
+    ))
     (λ come.
     let p = split_at ts x (λ i j d h l. r (suc i) (suc j) d (omega arith) (omega arith)) in
     let b = p.1 in let w = b.within in
@@ -70,7 +82,8 @@ splits_rise ts x y m n h a b = elim (cases_lt n m) [
 -- segments rise with seconds
 pub segments_rise : (z : Zone) (u v : ℤ) → AreRising z.transitions → AreLeapSeconds z.leaps → u ≤ℤ v → segment_of z u ≤ segment_of z v
 segments_rise z u v r leaps h =
-    splits_rise z.transitions (u +ℤ correction_at z.leaps u) (v +ℤ correction_at z.leaps v) (segment_of z u) (segment_of z v) (leap_sums_rise z.leaps u v leaps h) (segment_here z u r) (segment_here z v r)
+    splits_rise z.transitions (u +ℤ correction_at z.leaps u) (v +ℤ correction_at z.leaps v) (segment_of z u) (segment_of z v)
+    (leap_sums_rise z.leaps u v leaps h) (segment_here z u r) (segment_here z v r)
 
 -- a second of a later segment is later
 pub later_segment : (z : Zone) (u v : ℤ) → IsValid z → segment_of z u < segment_of z v → u <ℤ v
@@ -101,7 +114,8 @@ pub record IsWithin (ts : List Transition) (i : ℕ) (x : ℤ) : Type 0 where
 pub within_of : (ts : List Transition) (i : ℕ) (x : ℤ) → least_time ≤ℤ x → Between ts x i i → IsWithin ts i x
 within_of ts i x h b = record { since = begun_before ts x i h b; until = λ d l. b.above i d (omega arith) l }
 
-come_by : (ts : List Transition) (x : ℤ) (i : ℕ) → AreRising ts → i ≤ length ts → begin_of ts i ≤ℤ x → (k : ℕ) (d : Transition) → k < i → (get_or ts k d).unix_leap_time ≤ℤ x
+come_by : (ts : List Transition) (x : ℤ) (i : ℕ) → AreRising ts → i ≤ length ts → begin_of ts i ≤ℤ x → (k : ℕ) (d : Transition) → k < i
+    → (get_or ts k d).unix_leap_time ≤ℤ x
 come_by ts x zero r w h k d l = absurd (omega arith)
 come_by ts x (suc i) r w h k d l =
     let e = last_taken (λ (t : Transition). t.unix_leap_time) least_time ts i d (omega arith) in
@@ -109,11 +123,18 @@ come_by ts x (suc i) r w h k d l =
     omega (arith, ints)
 
 pub between_of : (ts : List Transition) (i : ℕ) (x : ℤ) → AreRising ts → i ≤ length ts → IsWithin ts i x → Between ts x i i
-between_of ts i x r w h = record { ordered = omega arith; within = w; below = come_by ts x i r w h.since; above = λ k d a l. let n = not_later ts i k d r a l in let u = h.until d (omega arith) in omega (arith, ints) }
+between_of ts i x r w h = record {
+  ordered = omega arith;
+  within = w;
+  below = come_by ts x i r w h.since;
+  above = λ k d a l. let n = not_later ts i k d r a l in
+      let u = h.until d (omega arith) in omega (arith, ints);
+}
 
 -- ---- the type in a segment
 -- a leap time of the second, which matters only if there are transitions
-pub passed_here : (z : Zone) (u x : ℤ) → (0 < length z.transitions → IsLeapTime z.leaps u x) → passed z.transitions x ≡ passed z.transitions (u +ℤ correction_at z.leaps u)
+pub passed_here : (z : Zone) (u x : ℤ) → (0 < length z.transitions → IsLeapTime z.leaps u x)
+    → passed z.transitions x ≡ passed z.transitions (u +ℤ correction_at z.leaps u)
 passed_here z u x time = grind (arith, no_items)
 
 -- how many transitions have come by it
@@ -125,31 +146,38 @@ pub come_at_time : (z : Zone) (u x : ℤ) → IsLeapTime z.leaps u x → length 
 come_at_time z u x time = come_by_then z u x (λ _. time)
 
 -- the transition at place k is among those that have come if and only if its time has
-pub come_by_time : (ts : List Transition) (x : ℤ) (k : ℕ) (d : Transition) → AreRising ts → k < length ts → (suc k ≤ length (passed ts x)) ↔ ((get_or ts k d).unix_leap_time ≤ℤ x)
+pub come_by_time : (ts : List Transition) (x : ℤ) (k : ℕ) (d : Transition) → AreRising ts → k < length ts
+    → (suc k ≤ length (passed ts x)) ↔ ((get_or ts k d).unix_leap_time ≤ℤ x)
 come_by_time ts x k d rising h =
     let p = split_at ts x rising in
-    let e = split_count ts x p.0 p.1 in
-    ((λ c. p.1.below k d (omega arith)), (λ c. elim (cases_lt k p.0) [ inl l ↦ omega arith | inr m ↦ let q = p.1.above k d m h in absurd (omega (arith, ints)) ]))
+    let e = split_count ts x p.0 p.1 in (
+      (λ c. p.1.below k d (omega arith)),
+      (λ c. elim (cases_lt k p.0) [ inl l ↦ omega arith | inr m ↦ let q = p.1.above k d m h in absurd (omega (arith, ints)) ]),
+    )
 
-taken_in : (z : Zone) (i : ℕ) (u : ℤ) (t : LocalType) → AreRising z.transitions → (k : TypeIn z i u t) → passed z.transitions k.type.leap_time ≡ take i z.transitions
+taken_in : (z : Zone) (i : ℕ) (u : ℤ) (t : LocalType) → AreRising z.transitions → (k : TypeIn z i u t)
+    → passed z.transitions k.type.leap_time ≡ take i z.transitions
 taken_in z i u t r k = passed_here z u k.type.leap_time k.type.of_second
     ∙ search_found z.transitions (u +ℤ correction_at z.leaps u) i i (omega arith) (segment_at z u i r k.segment)
 
 -- before the last transition the segment's type is in force
-pub type_before : (z : Zone) (i : ℕ) (u : ℤ) (t : LocalType) → AreRising z.transitions → TypeIn z i u t → i < length z.transitions → HasType z (index_of z.transitions i) t
+pub type_before : (z : Zone) (i : ℕ) (u : ℤ) (t : LocalType) → AreRising z.transitions → TypeIn z i u t → i < length z.transitions
+    → HasType z (index_of z.transitions i) t
 type_before z i u t r k h =
     let e = taken_in z i u t r k in
     let n : IsBeforeLast z k.type.leap_time = rw e (simp length-take (omega arith)) in
     rw e at (k.type.in_force.before_last n)
 
 -- from the last transition on the rule's, or without a rule the segment's
-pub type_from : (z : Zone) (u : ℤ) (t : LocalType) → AreRising z.transitions → TypeIn z (length z.transitions) u t → RuleOrType z u (index_of z.transitions (length z.transitions)) t
+pub type_from : (z : Zone) (u : ℤ) (t : LocalType) → AreRising z.transitions → TypeIn z (length z.transitions) u t
+    → RuleOrType z u (index_of z.transitions (length z.transitions)) t
 type_from z u t r k =
     let e = taken_in z (length z.transitions) u t r k in
     let n : IsFromLast z k.type.leap_time = rw e (simp length-take (omega arith)) in
     rw e at (k.type.in_force.from_last n)
 
-pub type_in_before : (z : Zone) (i : ℕ) (u x : ℤ) (t : LocalType) → IsLeapTime z.leaps u x → Between z.transitions x i i → i < length z.transitions → HasType z (index_of z.transitions i) t → TypeIn z i u t
+pub type_in_before : (z : Zone) (i : ℕ) (u x : ℤ) (t : LocalType) → IsLeapTime z.leaps u x → Between z.transitions x i i → i < length z.transitions
+    → HasType z (index_of z.transitions i) t → TypeIn z i u t
 type_in_before z i u x t l b h k =
     let e = search_found z.transitions x i i (omega arith) b in
     let c = split_count z.transitions x i b in
@@ -158,7 +186,8 @@ type_in_before z i u x t l b h k =
       segment = segment_is z u i (rw l.sum at b);
     }
 
-pub type_in_from : (z : Zone) (u x : ℤ) (t : LocalType) → IsLeapTime z.leaps u x → Between z.transitions x (length z.transitions) (length z.transitions) → RuleOrType z u (index_of z.transitions (length z.transitions)) t → TypeIn z (length z.transitions) u t
+pub type_in_from : (z : Zone) (u x : ℤ) (t : LocalType) → IsLeapTime z.leaps u x → Between z.transitions x (length z.transitions) (length z.transitions)
+    → RuleOrType z u (index_of z.transitions (length z.transitions)) t → TypeIn z (length z.transitions) u t
 type_in_from z u x t l b k =
     let e = search_found z.transitions x (length z.transitions) (length z.transitions) (omega arith) b in
     let c = split_count z.transitions x (length z.transitions) b in
@@ -182,7 +211,10 @@ pub begins_rise : (ts : List Transition) (k : ℕ) → AreRising ts → 0 < k �
 begins_rise ts zero rising some within = absurd (omega arith)
 begins_rise ts (suc k) rising some within =
     let d : Transition = record { unix_leap_time = least_time; type_index = 0 } in
-    rw (last_taken (λ (t : Transition). t.unix_leap_time) least_time ts k d (omega arith), last_taken (λ (t : Transition). t.unix_leap_time) least_time ts (suc k) d (omega arith))
+    rw (
+      last_taken (λ (t : Transition). t.unix_leap_time) least_time ts k d (omega arith),
+      last_taken (λ (t : Transition). t.unix_leap_time) least_time ts (suc k) d (omega arith),
+    )
     (rising k (suc k) d (omega arith) (omega arith))
 
 pub places_rise : (ts : List Transition) (u v : ℤ) → AreRising ts → u ≤ℤ v → length (passed ts u) ≤ length (passed ts v)
@@ -198,7 +230,8 @@ place_begin ts k rising some within =
     let most = place_most ts u rising in
     let from = (come_from ts k u rising some within).1 (omega (arith, ints)) in
     elim (cases_lt k (length (passed ts u))) [
-      | inl b ↦ let late = (come_from ts (suc k) u rising (omega arith) (omega arith)).0 b in let r = begins_rise ts k rising some (omega arith) in absurd (omega (arith, ints))
+      | inl b ↦ let late = (come_from ts (suc k) u rising (omega arith) (omega arith)).0 b in
+          let r = begins_rise ts k rising some (omega arith) in absurd (omega (arith, ints))
       | inr m ↦ omega arith
     ]
 

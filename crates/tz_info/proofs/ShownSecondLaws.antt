@@ -26,7 +26,8 @@ in_run : (z : Zone) (from until start end u : ℤ) (s t : LocalType) → HaveOne
 in_run z from until start end u s t type low high h =
     let k = subst (ShowsWithin (TypeAt z) from until u) (type_once z u s t h.type (type u low high)) h in grind (arith, ints)
 
-to_run : (z : Zone) (from until start end u : ℤ) (t : LocalType) → SFits w64 u → TypeAt z u t → IsWithinRun start end (from -ℤ t.offset) (until -ℤ t.offset) u → ShowsWithin (TypeAt z) from until u t
+to_run : (z : Zone) (from until start end u : ℤ) (t : LocalType) → SFits w64 u → TypeAt z u t → IsWithinRun start end (from -ℤ t.offset) (until -ℤ t.offset) u
+    → ShowsWithin (TypeAt z) from until u t
 to_run z from until start end u t fits here h = grind (arith, ints)
 
 -- what the next run leaves, if it has none
@@ -79,12 +80,14 @@ found_in_run false z from until low high start end u t fits all run type is grea
 one_end : (z : Zone) (u v : ℤ) (s t : LocalType) → TypeAt z u s → TypeAt z v t → u ≤ℤ v → v ≤ℤ u → (u ≡ v) × (s ≡ t)
 one_end z u v s t here there h k = let same : u ≡ v = omega (arith, ints) in (same, type_once z v s t (rw same at here) there)
 
-pub one_answer : (z : Zone) (from until : ℤ) (a b : Option ShownSeconds) → AreShownWithin (TypeAt z) from until a → AreShownWithin (TypeAt z) from until b → a ≡ b
+pub one_answer : (z : Zone) (from until : ℤ) (a b : Option ShownSeconds) → AreShownWithin (TypeAt z) from until a
+    → AreShownWithin (TypeAt z) from until b → a ≡ b
 one_answer z from until None None h k = refl
 one_answer z from until None (Some b) h k = absurd (h b.first.at b.first.local_time_type k.first.shown)
 one_answer z from until (Some a) None h k = absurd (k a.first.at a.first.local_time_type h.first.shown)
 one_answer z from until (Some a) (Some b) h k =
-    let (first, type) = one_end z a.first.at b.first.at a.first.local_time_type b.first.local_time_type h.first.shown.type k.first.shown.type (h.first.first _ _ k.first.shown) (k.first.first _ _ h.first.shown) in
+    let (first, type) = one_end z a.first.at b.first.at a.first.local_time_type b.first.local_time_type h.first.shown.type k.first.shown.type
+    (h.first.first _ _ k.first.shown) (k.first.first _ _ h.first.shown) in
     grind (arith, one_end)
 
 -- ---- if one type is in force near the stretch
@@ -99,26 +102,32 @@ by_type z from until greatest least u s t g l all h =
     let since = h.since in let before = h.before in
     subst (ShowsWithin (TypeAt z) from until u) (type_once z u s t h.type (all u (omega (arith, ints)) (omega (arith, ints)))) h
 
-pub ordinary : (z : Zone) (from until greatest least : ℤ) (t : LocalType) (s : ShownSeconds) → SFits w64 (from -ℤ t.offset) → SFits w64 ((until -ℤ t.offset) -ℤ pos 1) → IsGreatest (offsets z.types z.rule) greatest → IsLeast (offsets z.types z.rule) least
-    → IsAllOf z (from -ℤ greatest) (until -ℤ least) t → AreEndsWithin (TypeAt z) from until s → (s.first.at ≡ from -ℤ t.offset) × ((s.last.at +ℤ pos 1) ≡ until -ℤ t.offset)
+pub ordinary : (z : Zone) (from until greatest least : ℤ) (t : LocalType) (s : ShownSeconds) → SFits w64 (from -ℤ t.offset)
+    → SFits w64 ((until -ℤ t.offset) -ℤ pos 1) → IsGreatest (offsets z.types z.rule) greatest → IsLeast (offsets z.types z.rule) least
+    → IsAllOf z (from -ℤ greatest) (until -ℤ least) t → AreEndsWithin (TypeAt z) from until s
+    → (s.first.at ≡ from -ℤ t.offset) × ((s.last.at +ℤ pos 1) ≡ until -ℤ t.offset)
 ordinary z from until greatest least t s fits fits_last g l all h =
     let first = by_type z from until greatest least s.first.at s.first.local_time_type t g l all h.first.shown in
     let last = by_type z from until greatest least s.last.at s.last.local_time_type t g l all h.last.shown in
     let most = at_most_greatest z s.first.at greatest t g first.type in let fewest = at_least_least z s.first.at least t l first.type in
     let since = first.since in let first_before = first.before in let before = last.before in
-    let low = h.first.first (from -ℤ t.offset) t (record { fits = fits; type = all _ (omega (arith, ints)) (omega (arith, ints)); since = omega (arith, ints); before = omega (arith, ints) }) in
-    let high = h.last.last ((until -ℤ t.offset) -ℤ pos 1) t (record { fits = fits_last; type = all _ (omega (arith, ints)) (omega (arith, ints)); since = omega (arith, ints); before = omega (arith, ints) }) in
+    let low = h.first.first (from -ℤ t.offset) t
+    (record { fits = fits; type = all _ (omega (arith, ints)) (omega (arith, ints)); since = omega (arith, ints); before = omega (arith, ints) }) in
+    let high = h.last.last ((until -ℤ t.offset) -ℤ pos 1) t
+    (record { fits = fits_last; type = all _ (omega (arith, ints)) (omega (arith, ints)); since = omega (arith, ints); before = omega (arith, ints) }) in
     (omega (arith, ints), omega (arith, ints))
 
 -- ---- the first second at or after a local time: that of a stretch so long that clocks can't be set forward over all of it
 to_reached : (z : Zone) (from until u : ℤ) (t : LocalType) → ShowsWithin (TypeAt z) from until u t → ShowsAtOrAfter (TypeAt z) from u t
 to_reached z from until u t h = record { fits = h.fits; type = h.type; reached = h.since }
 
-to_within : (z : Zone) (from until u : ℤ) (t : LocalType) → ShowsAtOrAfter (TypeAt z) from u t → (u +ℤ t.offset) <ℤ until → ShowsWithin (TypeAt z) from until u t
+to_within : (z : Zone) (from until u : ℤ) (t : LocalType) → ShowsAtOrAfter (TypeAt z) from u t → (u +ℤ t.offset) <ℤ until
+    → ShowsWithin (TypeAt z) from until u t
 to_within z from until u t h before = record { fits = h.fits; type = h.type; since = h.reached; before = before }
 
 -- by the least offset the local time has been reached
-pub shown_at_latest : (z : Zone) (from until : ℤ) → IsValid z → IsRuleOrNone z.rule → (b : IsBeyondJumps z from until) → (t : LocalType) × ShowsWithin (TypeAt z) from until (from -ℤ b.least) t
+pub shown_at_latest : (z : Zone) (from until : ℤ) → IsValid z → IsRuleOrNone z.rule → (b : IsBeyondJumps z from until)
+    → (t : LocalType) × ShowsWithin (TypeAt z) from until (from -ℤ b.least) t
 shown_at_latest z from until valid limits b =
     let near = b.near in
     let there = near_type z (from -ℤ b.least) valid limits near in
@@ -128,7 +137,8 @@ shown_at_latest z from until valid limits b =
 pub never_before_until : (z : Zone) (from until : ℤ) → IsValid z → IsRuleOrNone z.rule → IsBeyondJumps z from until → IsNeverWithin (TypeAt z) from until → ⊥
 never_before_until z from until valid limits b never = let latest = shown_at_latest z from until valid limits b in never (from -ℤ b.least) latest.0 latest.1
 
-pub first_reached : (z : Zone) (from until u : ℤ) (t : LocalType) → IsValid z → IsRuleOrNone z.rule → IsBeyondJumps z from until → IsFirstWithin (TypeAt z) from until u t → IsFirstAtOrAfter (TypeAt z) from u t
+pub first_reached : (z : Zone) (from until u : ℤ) (t : LocalType) → IsValid z → IsRuleOrNone z.rule → IsBeyondJumps z from until
+    → IsFirstWithin (TypeAt z) from until u t → IsFirstAtOrAfter (TypeAt z) from u t
 first_reached z from until u t valid limits b h =
     let latest = shown_at_latest z from until valid limits b in
     let not_later = h.first (from -ℤ b.least) latest.0 latest.1 in
@@ -143,11 +153,15 @@ first_reached z from until u t valid limits b h =
 pub one_first : (z : Zone) (local u v : ℤ) (s t : LocalType) → IsFirstAtOrAfter (TypeAt z) local u s → IsFirstAtOrAfter (TypeAt z) local v t → (u ≡ v) × (s ≡ t)
 one_first z local u v s t h k = one_end z u v s t h.shown.type k.shown.type (h.first v t k.shown) (k.first u s h.shown)
 
-pub first_rises : (z : Zone) (local later u v : ℤ) (s t : LocalType) → local ≤ℤ later → IsFirstAtOrAfter (TypeAt z) local u s → IsFirstAtOrAfter (TypeAt z) later v t → u ≤ℤ v
-first_rises z local later u v s t rise h k = let reached = k.shown.reached in h.first v t (record { fits = k.shown.fits; type = k.shown.type; reached = omega (arith, ints) })
+pub first_rises : (z : Zone) (local later u v : ℤ) (s t : LocalType) → local ≤ℤ later → IsFirstAtOrAfter (TypeAt z) local u s
+    → IsFirstAtOrAfter (TypeAt z) later v t → u ≤ℤ v
+first_rises z local later u v s t rise h k = let reached = k.shown.reached in
+    h.first v t (record { fits = k.shown.fits; type = k.shown.type; reached = omega (arith, ints) })
 
-pub first_is_within : (z : Zone) (from until u : ℤ) (t : LocalType) → IsFirstAtOrAfter (TypeAt z) from u t → (u +ℤ t.offset) <ℤ until → IsFirstWithin (TypeAt z) from until u t
+pub first_is_within : (z : Zone) (from until u : ℤ) (t : LocalType) → IsFirstAtOrAfter (TypeAt z) from u t → (u +ℤ t.offset) <ℤ until
+    → IsFirstWithin (TypeAt z) from until u t
 first_is_within z from until u t h before = grind arith
 
-pub none_within : (z : Zone) (from until u v : ℤ) (s t : LocalType) → from ≤ℤ until → IsNeverWithin (TypeAt z) from until → IsFirstAtOrAfter (TypeAt z) from u s → IsFirstAtOrAfter (TypeAt z) until v t → u ≡ v
+pub none_within : (z : Zone) (from until u v : ℤ) (s t : LocalType) → from ≤ℤ until → IsNeverWithin (TypeAt z) from until → IsFirstAtOrAfter (TypeAt z) from u s
+    → IsFirstAtOrAfter (TypeAt z) until v t → u ≡ v
 none_within z from until u v s t ordered never h k = grind (arith, ints)

@@ -67,7 +67,8 @@ out_of_years u refused = by_lt_z u (neg_ℤ (pos 67_768_100_504_812_800))
     (λ low. inl low)
     (λ from. by_lt_z (pos 67_767_976_170_460_799) u
     (λ high. inr high)
-    (λ until. let lies = lies_in (floor_div u 86_400) in absurd (refused (year_of (floor_div u 86_400)) lies (rule_year u (year_of (floor_div u 86_400)) lies (from, until)))))
+    (λ until. let lies = lies_in (floor_div u 86_400) in
+    absurd (refused (year_of (floor_div u 86_400)) lies (rule_year u (year_of (floor_div u 86_400)) lies (from, until)))))
 
 -- all transitions have come by the leap time of the second
 pub all_come : (z : Zone) (v x : ℤ) → IsValid z → (0 < length z.transitions → IsLeapTime z.leaps v x) → IsFromLast z x → segment_of z v ≡ length z.transitions

@@ -1,5 +1,6 @@
 -- Steps from span to span end.
-use Rattle.tz_info.proofs.Words.{IsSpanAt, IsUntil, LocalType, None, Option, SFits, Some, Span, arith, ints, pos, unsigned_abs, unwrap_or, w64, ℤ, ◌-ℤ◌, ◌<ℤ◌, ◌<◌, ◌≤ℤ◌}
+use Rattle.tz_info.proofs.Words.{IsSpanAt, IsUntil, LocalType, None, Option, SFits, Some, Span, arith, ints, pos, unsigned_abs, unwrap_or, w64, ℤ, ◌-ℤ◌, ◌<ℤ◌}
+use Rattle.tz_info.proofs.Words.{◌<◌, ◌≤ℤ◌}
 use Rattle.tz_info.specs.SpanSteps.{end_of}
 
 end_later : (until : Option ℤ) (u : ℤ) → SFits w64 u → IsUntil until u → u <ℤ unwrap_or until (pos 9_223_372_036_854_775_808)

@@ -5,18 +5,22 @@ use Rattle.tz_info.specs.Counts.{RoseByPieces}
 use Rattle.tz_info.proofs.Words.{AreExtremes, ArePieces, Counts, Extremes, HasReach, IsWide, Piece, RoseWithin, nat_tests, offsets, w32, ◌*◌}
 use Rattle.tz_info.proofs.Words.{AreBelow, AreLess, AreListed, Change, HasGap, HasType, IsBegin, IsBegun, IsBegunNear, IsIndex, IsJump, IsLeapTime, IsNear}
 use Rattle.tz_info.proofs.Words.{IsRuleOrNone, IsShownAmong, IsStart, IsTable, IsTableAnswer, IsTableLess, IsValid, IsWallAnswer, IsWindowOf, Jumps, List}
-use Rattle.tz_info.proofs.Words.{LocalResult, LocalType, MatchOption, None, Option, SFits, Shown, ShownAmong, Some, Transition, TransitionRule, TypeAt, Zone, ap, arith}
-use Rattle.tz_info.proofs.Words.{begin_of, by_lt_z, cases_lt, index_of, inl, inr, ints, last_else, least_time, length, map, place_at, pos, refl, segment_of, shown_indexes}
+use Rattle.tz_info.proofs.Words.{LocalResult, LocalType, MatchOption, None, Option, SFits, Shown, ShownAmong, Some, Transition, TransitionRule, TypeAt, Zone}
+use Rattle.tz_info.proofs.Words.{ap, arith}
+use Rattle.tz_info.proofs.Words.{begin_of, by_lt_z, cases_lt, index_of, inl, inr, ints, last_else, least_time, length, map, place_at, pos, refl, segment_of}
+use Rattle.tz_info.proofs.Words.{shown_indexes}
 use Rattle.tz_info.proofs.Words.{slice_get, suc, sym, table_count, table_count_by, top_of, w64, zero, ℕ, ℤ, [], ◌+◌, ◌-ℤ◌, ◌-◌, ◌<ℤ◌, ◌<◌, ◌↔◌, ◌∙◌, ◌≡◌}
 use Rattle.tz_info.proofs.Words.{◌≤ℤ◌, ◌≤◌}
 use Rattle.tz_info.specs.declared.zone.made.shown.Shown.TheVariants.{Less, Once, Several, Skipped}
-use Rattle.tz_info.proofs.{EntryChanges.{index_there, looks_most}, ExtremeLaws.{window_made}, GapLaws.{IsNever, gap_found, not_less}, PassedTransitions.{no_items}, TableSearch.{search_found}, ZoneChanges.{time_of}}
+use Rattle.tz_info.proofs.{EntryChanges.{index_there, looks_most}, ExtremeLaws.{window_made}, GapLaws.{IsNever, gap_found, not_less}}
+use Rattle.tz_info.proofs.{PassedTransitions.{no_items}, TableSearch.{search_found}, ZoneChanges.{time_of}}
 use Rattle.tz_info.proofs.SegmentLaws.{come_at_time, come_from, place_before, place_begin, place_most, segment_here, segment_most}
 use Rattle.tz_info.proofs.WallSegments.{indexes_below, leap_time_of, shown_inside, type_in_table, type_of_table, typed_answer}
 use Rattle.tz_info.specs.Steps.{Entries.{AreEntries, Entries, most_looks}, SegmentEnds.{AreEnds}}
 
 -- ---- the table's seconds
-all_come : (rule : Option TransitionRule) (e : Entries) (n p q : ℕ) → p ≤ n → q ≤ length e.items → length e.items ≤ e.all → (p ≡ n) ↔ (q ≡ e.all) → (p < table_count_by rule n) ↔ (q < top_of rule e)
+all_come : (rule : Option TransitionRule) (e : Entries) (n p q : ℕ) → p ≤ n → q ≤ length e.items → length e.items ≤ e.all → (p ≡ n) ↔ (q ≡ e.all)
+    → (p < table_count_by rule n) ↔ (q < top_of rule e)
 all_come (Some rule) e n p q low high more both = (
   λ h. elim (cases_lt q e.all) [ inl b ↦ b | inr m ↦ let c = both.1 (omega arith) in absurd (omega arith) ],
   λ h. elim (cases_lt p n) [ inl b ↦ b | inr m ↦ let c = both.0 (omega arith) in absurd (omega arith) ],
@@ -77,21 +81,25 @@ table_of z e valid made = record {
   within = top_most z.rule e made.most;
   listed = λ u t fits below k.
       let inside = (same_table z e u valid made fits (time_then z u t k)).1 below in
-      sym (named_there z e u valid made fits (time_then z u t k)) ∙ type_in_table z (segment_of z u) u t valid.transitions.rising inside (record { type = k; segment = refl });
+      sym (named_there z e u valid made fits (time_then z u t k))
+      ∙ type_in_table z (segment_of z u) u t valid.transitions.rising inside (record { type = k; segment = refl });
   in_force = λ u t near below has.
       let (x, l) = leap_time_of z u valid near in
       let fits : SFits w64 u = let p = near.0 in let q = near.1 in omega (arith, ints) in
       let inside = (same_table z e u valid made fits (λ _. (x, l))).1 below in
-      (type_of_table z (segment_of z u) u x t inside l (rw (sym l.sum) at (segment_here z u valid.transitions.rising)) (named_there z e u valid made fits (λ _. (x, l)) ∙ has)).type;
+      (type_of_table z (segment_of z u) u x t inside l (rw (sym l.sum) at (segment_here z u valid.transitions.rising))
+      (named_there z e u valid made fits (λ _. (x, l)) ∙ has)).type;
 }
 
 -- ---- the answers of the table
 pub table_below : (z : Zone) (l : ℤ) (s : Shown) → IsTableAnswer z l s → AreBelow (length z.types) (shown_indexes s)
 table_below z l s (e, made, wall) = indexes_below z e.items 0 (top_of z.rule e) l (shown_indexes s) wall
 
-pub table_typed : (z : Zone) (l : ℤ) (s : Shown) (answer : LocalResult LocalType) → IsValid z → AreListed z.types (shown_indexes s) answer → IsTableAnswer z l s → IsWallAnswer (ShownAmong z 0 (table_count z) l) answer
+pub table_typed : (z : Zone) (l : ℤ) (s : Shown) (answer : LocalResult LocalType) → IsValid z → AreListed z.types (shown_indexes s) answer → IsTableAnswer z l s
+    → IsWallAnswer (ShownAmong z 0 (table_count z) l) answer
 table_typed z l s answer valid listed (e, made, wall) =
-    typed_answer z e.items (top_of z.rule e) l (shown_indexes s) answer (table_of z e valid made) (λ u t fits k. same_table z e u valid made fits (time_then z u t k)) listed wall
+    typed_answer z e.items (top_of z.rule e) l (shown_indexes s) answer (table_of z e valid made)
+    (λ u t fits k. same_table z e u valid made fits (time_then z u t k)) listed wall
 
 -- the rule is asked from the last transition on
 pub start_begun : (z : Zone) (e : Entries) (s : ℤ) → IsValid z → AreEntries z e → IsBegunNear e s → IsStart z.transitions z.leaps (length z.transitions) s
@@ -113,7 +121,8 @@ begin_by z e s valid made low begun = record {
 }
 
 -- ---- the gap at the begin of a segment
-jump_found : (z : Zone) (e : Entries) (l low high : ℤ) (k : ℕ) (c : Change) → IsValid z → IsRuleOrNone z.rule → AreEntries z e → IsNever z l → IsWindowOf z l l low high
+jump_found : (z : Zone) (e : Entries) (l low high : ℤ) (k : ℕ) (c : Change) → IsValid z → IsRuleOrNone z.rule → AreEntries z e
+    → IsNever z l → IsWindowOf z l l low high
     → Jumps z e.items 0 (top_of z.rule e) l k → IsJump z.types e.items (Skipped k) (Some c) → HasGap (TypeAt z) l c.before c.after c.at
 jump_found z e l low high zero c valid limits made never reach jump h = let some = jump.some in absurd (omega arith)
 jump_found z e l low high (suc k) c valid limits made never reach jump (at, has_before, has) =
@@ -127,37 +136,47 @@ jump_found z e l low high (suc k) c valid limits made never reach jump (at, has_
     let later = jump.later in
     let earlier : jump.seen <ℤ start = by_lt_z jump.seen start (λ m. m) (λ m. let b = (come jump.seen).1 m in absurd (omega arith)) in
     let less : AreLess z l (start -ℤ pos 1) = λ u near h f here.
-    jump.less u f near (omega arith) (elim (cases_lt (place_at ts u) (suc k)) [ inl b ↦ b | inr m ↦ let b = (come u).0 m in absurd (omega (arith, ints)) ]) here in
-    let most : start ≤ℤ high = by_lt_z high start (λ m. absurd (not_less z l low high (start -ℤ pos 1) valid limits reach less (omega (arith, ints)))) (λ m. m) in
+    jump.less u f near (omega arith) (elim (cases_lt (place_at ts u) (suc k)) [ inl b ↦ b | inr m ↦ let b = (come u).0 m in absurd (omega (arith, ints)) ])
+    here in
+    let most : start ≤ℤ high =
+    by_lt_z high start (λ m. absurd (not_less z l low high (start -ℤ pos 1) valid limits reach less (omega (arith, ints)))) (λ m. m) in
     let near_seen = jump.near in let near_high = reach.near_high in
     let near : IsNear start = (omega (arith, ints), omega (arith, ints)) in
     let near_before : IsNear (start -ℤ pos 1) = (omega (arith, ints), omega (arith, ints)) in
-    let here = table.in_force start c.after near (rw (place_begin ts (suc k) made.rising (omega arith) within) inside) (rw (place_begin ts (suc k) made.rising (omega arith) within) has) in
-    let before = table.in_force (start -ℤ pos 1) c.before near_before (rw (place_before ts k made.rising within) (omega arith)) (rw (place_before ts k made.rising within, ← one) has_before) in
+    let here = table.in_force start c.after near (rw (place_begin ts (suc k) made.rising (omega arith) within) inside)
+    (rw (place_begin ts (suc k) made.rising (omega arith) within) has) in
+    let before = table.in_force (start -ℤ pos 1) c.before near_before (rw (place_before ts k made.rising within) (omega arith))
+    (rw (place_before ts k made.rising within, ← one) has_before) in
     rw at (gap_found z l low high start c.after c.before never reach near less here (jump.more c.after has) before)
 
 -- the gap that the index knows, or clocks show less at all the table's seconds
-pub gap_by_index : (z : Zone) (e : Entries) (l low high : ℤ) (s : Shown) (c : Option Change) → IsValid z → IsRuleOrNone z.rule → AreEntries z e → IsNever z l → IsWindowOf z l l low high
-    → IsShownAmong z e.items 0 (top_of z.rule e) l s → IsJump z.types e.items s c → MatchOption c (IsTableLess z l) (λ d. HasGap (TypeAt z) l d.before d.after d.at)
+pub gap_by_index : (z : Zone) (e : Entries) (l low high : ℤ) (s : Shown) (c : Option Change) → IsValid z → IsRuleOrNone z.rule → AreEntries z e
+    → IsNever z l → IsWindowOf z l l low high
+    → IsShownAmong z e.items 0 (top_of z.rule e) l s → IsJump z.types e.items s c
+    → MatchOption c (IsTableLess z l) (λ d. HasGap (TypeAt z) l d.before d.after d.at)
 gap_by_index z e l low high Less None valid limits made never reach shown jump = λ u t near inside k.
     let fits : SFits w64 u = let p = near.0 in let q = near.1 in omega (arith, ints) in
     shown.side u t near (omega arith) ((same_table z e u valid made fits (time_then z u t k)).0 inside) k
 gap_by_index z e l low high Less (Some c) valid limits made never reach shown jump = absurd jump
 gap_by_index z e l low high (Skipped k) None valid limits made never reach shown jump = absurd jump
-gap_by_index z e l low high (Skipped k) (Some c) valid limits made never reach shown jump = jump_found z e l low high k c valid limits made never reach shown.side jump
+gap_by_index z e l low high (Skipped k) (Some c) valid limits made never reach shown jump =
+    jump_found z e l low high k c valid limits made never reach shown.side jump
 gap_by_index z e l low high (Once i) c valid limits made never reach shown jump = let h = shown.wall in absurd (never h.second h.shown.local_type h.shown.shows)
-gap_by_index z e l low high (Several i j) c valid limits made never reach shown jump = let h = shown.wall in absurd (never h.first h.at_first.local_type h.at_first.shows)
+gap_by_index z e l low high (Several i j) c valid limits made never reach shown jump = let h = shown.wall in
+    absurd (never h.first h.at_first.local_type h.at_first.shows)
 
 -- two seconds between which clocks may come to show the local time
 pub reach_of : (z : Zone) (l : ℤ) (x : Extremes) → IsWide l → SFits w32 x.greatest → SFits w32 x.least → AreExtremes (offsets z.types z.rule) x → HasReach z l
 reach_of z l x wide fg fl found = (
   l -ℤ x.greatest,
   l -ℤ x.least,
-  window_made z l l x.greatest x.least (omega (arith, ints, wide), omega (arith, ints, wide)) (omega (arith, ints, wide), omega (arith, ints, wide)) fg fl found.greatest found.least,
+  window_made z l l x.greatest x.least (omega (arith, ints, wide), omega (arith, ints, wide)) (omega (arith, ints, wide), omega (arith, ints, wide)) fg
+      fl found.greatest found.least,
 )
 
 -- piece probes, and then questions to the rule
-pub rose_by_wall : (z : Zone) (a b c : Counts) (n : ℕ) → n ≤ 2 * length z.transitions → RoseByPieces a b (most_looks n) 0 → (0 < length z.transitions → a.piece_reads < b.piece_reads) → RoseWithin b c 0 2 → RoseByWallClock z a c
+pub rose_by_wall : (z : Zone) (a b c : Counts) (n : ℕ) → n ≤ 2 * length z.transitions → RoseByPieces a b (most_looks n) 0
+    → (0 < length z.transitions → a.piece_reads < b.piece_reads) → RoseWithin b c 0 2 → RoseByWallClock z a c
 rose_by_wall z a b c n few pieces looked rule =
     let most = looks_most n (2 * length z.transitions + 1) (omega arith) (omega arith) in
     let p = pieces.pieces_most in let q = rule.pieces_same in let r = rule.reads_most in
@@ -173,7 +192,8 @@ rose_by_wall z a b c n few pieces looked rule =
     }
 
 -- ---- the index
-pub pieces_index : (z : Zone) (e : Entries) (b : Shown) (ps : List Piece) (ms : List ℤ) (s : ℤ) → AreEntries z e → ArePieces z e.items 0 (top_of z.rule e) b ps → AreEnds z.types e.items ms → IsBegunNear e s
+pub pieces_index : (z : Zone) (e : Entries) (b : Shown) (ps : List Piece) (ms : List ℤ) (s : ℤ) → AreEntries z e → ArePieces z e.items 0 (top_of z.rule e) b ps
+    → AreEnds z.types e.items ms → IsBegunNear e s
     → IsIndex z e (record { before = b; pieces = ps; maxima = ms; rule_from = s })
 pieces_index z e b ps ms s made pieces ends begun =
     let least = top_least z.rule e made.more in
@@ -192,7 +212,8 @@ pieces_index z e b ps ms s made pieces ends begun =
 no_ends : (types : List LocalType) (ts : List Transition) → length ts ≡ 0 → AreEnds types ts []
 no_ends types ts none = ((λ e k some within. absurd (omega arith)), (λ h. absurd (omega arith)))
 
-pub no_segments : (z : Zone) (e : Entries) (s : ℤ) → length e.items ≡ 0 → top_of z.rule e ≡ 0 → IsBegunNear e s → (0 < length z.transitions → s ≡ pos 9_223_372_036_854_775_807)
+pub no_segments : (z : Zone) (e : Entries) (s : ℤ) → length e.items ≡ 0 → top_of z.rule e ≡ 0 → IsBegunNear e s
+    → (0 < length z.transitions → s ≡ pos 9_223_372_036_854_775_807)
     → IsIndex z e (record { before = Less; pieces = []; maxima = []; rule_from = s })
 no_segments z e s none top begun never = record {
   most = omega arith;
@@ -203,7 +224,8 @@ no_segments z e s none top begun never = record {
   rule_from = begun;
 }
 
-pub one_segment : (z : Zone) (e : Entries) (s : ℤ) (i : ℕ) (t : LocalType) → IsValid z → AreEntries z e → length e.items ≡ 0 → 0 < top_of z.rule e → IsBegunNear e s → (0 < length z.transitions → s ≡ pos 9_223_372_036_854_775_807)
+pub one_segment : (z : Zone) (e : Entries) (s : ℤ) (i : ℕ) (t : LocalType) → IsValid z → AreEntries z e → length e.items ≡ 0 → 0 < top_of z.rule e
+    → IsBegunNear e s → (0 < length z.transitions → s ≡ pos 9_223_372_036_854_775_807)
     → i ≡ index_of e.items 0 → HasType z i t → IsUtOffset t.offset → IsIndex z e (record { before = Once i; pieces = []; maxima = []; rule_from = s })
 one_segment z e s i t valid made none some begun never is has offset =
     let table = table_of z e valid made in
@@ -213,7 +235,9 @@ one_segment z e s i t valid made none some begun never is has offset =
       most = omega arith;
       some = λ h. inr (never h);
       order = search arith;
-      answers = λ l wide. rw top (shown_inside z e.items (top_of z.rule e) 0 l i t table some is has offset wide (λ h. absurd (omega arith)) (λ h. absurd (omega arith)));
+      answers =
+          λ l wide. rw top (shown_inside z e.items (top_of z.rule e) 0 l i t table some is has offset wide
+          (λ h. absurd (omega arith)) (λ h. absurd (omega arith)));
       ends = no_ends z.types e.items none;
       rule_from = begun;
     }

@@ -22,7 +22,8 @@ offset_fits bytes z rest (is_minus, _, _, ((h, m, s), _, _, (is, value, _))) = s
 
 time_fits : (extended : Bool) (bytes : List ℕ) (z : ℤ) (rest : List ℕ) → Spells (optional_time extended) bytes z rest → IsWithinWeek z
 unfolding optional_time time duration
-time_fits extended bytes z rest (inl (_, _, (is_minus, _, _, ((h, m, s), _, _, (is, value, _))))) = subst IsWithinWeek (sym value) (within_week extended is_minus h m s is)
+time_fits extended bytes z rest (inl (_, _, (is_minus, _, _, ((h, m, s), _, _, (is, value, _))))) =
+    subst IsWithinWeek (sym value) (within_week extended is_minus h m s is)
 time_fits extended bytes z rest (inr (_, (value, _))) = subst IsWithinWeek (sym value) (omega (arith, ints), omega (arith, ints))
 
 next_hour_fits : (std : ℤ) → IsWithinDay std → (std +ℤ pos 3_600) ≤ℤ pos 86_399 → IsWithinDay (std +ℤ pos 3_600)
@@ -31,7 +32,8 @@ next_hour_fits std w l = let a = w.0 in (omega (arith, ints), omega (arith, ints
 dst_offset_fits : (std : ℤ) (bytes : List ℕ) (z : ℤ) (rest : List ℕ) → IsWithinDay std → Spells (dst_offset std) bytes z rest → IsWithinDay z
 unfolding dst_offset next_hour given_offset
 dst_offset_fits std bytes z rest w (inl (_, _, (is, value, _))) = subst IsWithinDay (sym value) (next_hour_fits std w is)
-dst_offset_fits std bytes z rest w (inr (_, (_, here, _, (east, after, o, (_, _, _, (_, _, _, (value, _))))))) = subst IsWithinDay (sym value) (offset_fits here east after o)
+dst_offset_fits std bytes z rest w (inr (_, (_, here, _, (east, after, o, (_, _, _, (_, _, _, (value, _))))))) =
+    subst IsWithinDay (sym value) (offset_fits here east after o)
 
 -- ---- days
 form_fits : (form : DayForm) (bytes : List ℕ) (x : DayForm) (rest : List ℕ) → Spells (checked_day form) bytes x rest → IsRuleDay x
@@ -49,10 +51,12 @@ Fits d = IsRuleDay d.day × IsWithinWeek d.time
 
 day_fits : (extended : Bool) (bytes : List ℕ) (d : DayTime) (rest : List ℕ) → Spells (day extended) bytes d rest → Fits d
 unfolding day
-day_fits extended bytes d rest (form, after, f, (z, end, t, (value, _))) = subst Fits (sym value) (date_fits bytes form after f, time_fits extended after z end t)
+day_fits extended bytes d rest (form, after, f, (z, end, t, (value, _))) =
+    subst Fits (sym value) (date_fits bytes form after f, time_fits extended after z end t)
 
 -- ---- the whole
-named_fits : (std dst : LocalType) (x y : ℤ) (m n : List ℕ) (d e : Bool) (start end : DayTime) → std ≡ named_type m d x → dst ≡ named_type n e y → IsWithinDay x → IsWithinDay y → Fits start → Fits end → IsAlternateRule (record { std = std; dst = dst; start = start; end = end })
+named_fits : (std dst : LocalType) (x y : ℤ) (m n : List ℕ) (d e : Bool) (start end : DayTime) → std ≡ named_type m d x → dst ≡ named_type n e y → IsWithinDay x
+    → IsWithinDay y → Fits start → Fits end → IsAlternateRule (record { std = std; dst = dst; start = start; end = end })
 named_fits std dst x y m n d e start end s t a b p q = record {
   within = record { std_offset = rw s a; dst_offset = rw t b; start_time = p.1; end_time = q.1 };
   start_day = p.0;
@@ -61,12 +65,18 @@ named_fits std dst x y m n d e start end s t a b p q = record {
 
 days_fit : (extended : Bool) (bytes : List ℕ) (d : DayTime × DayTime) (rest : List ℕ) → Spells (days extended) bytes d rest → Fits d.0 × Fits d.1
 unfolding days
-days_fit extended bytes d rest (start, _, p, (_, at_end, _, (end, at, q, (value, _)))) = subst (λ (y : DayTime × DayTime). Fits y.0 × Fits y.1) (sym value) (day_fits extended bytes start _ p, day_fits extended at_end end at q)
+days_fit extended bytes d rest (start, _, p, (_, at_end, _, (end, at, q, (value, _)))) =
+    subst (λ (y : DayTime × DayTime). Fits y.0 × Fits y.1) (sym value) (day_fits extended bytes start _ p, day_fits extended at_end end at q)
 
 pub text_rule_fits : (extended : Bool) (bytes : List ℕ) (r : TransitionRule) → IsTzText extended bytes r → IsRule r
 unfolding text rule fixed alternate named
 text_rule_fits extended bytes r (_, _, _, (_, _, _, inl (_, (_, _, _, (value, _))))) = subst IsRule (sym value) tt
-text_rule_fits extended bytes r (_, at_offset, _, (east, after, o, inr (_, (_, at_dst, _, (dst_east, at_days, d, (both, at, ds, (_, _, _, (_, _, s, (_, _, t, (value, _)))))))))) =
+text_rule_fits extended bytes r (
+  _,
+  at_offset,
+  _,
+  (east, after, o, inr (_, (_, at_dst, _, (dst_east, at_days, d, (both, at, ds, (_, _, _, (_, _, s, (_, _, t, (value, _))))))))),
+) =
     let std = offset_fits at_offset east after o in
     let dst = dst_offset_fits east at_dst dst_east at_days std d in
     let f = days_fit extended at_days both at ds in

@@ -1,7 +1,8 @@
 -- White space at both ends of bytes.
 use Rattle.tz_info.proofs.Words.{BeginsBare, EndsBare, IsAsciiWhitespaceBelow, IsAsciiWhitespaceFrom, IsSpace, IsTrimAscii, IsTrimmed, List, ap, arith}
 use Rattle.tz_info.proofs.Words.{cases_lt, cond, drop, false, inl, inr, is_ascii_whitespace, length, length-take, min, refl, slice_index, subst, suc, sym, take}
-use Rattle.tz_info.proofs.Words.{trimmed, trimmed_back, trimmed_front, true, true≢false, unless_space, zero, ℕ, [], ◌++◌, ◌+◌, ◌-◌, ◌<◌, ◌∙◌, ◌∷◌, ◌≡◌, ◌≤◌, IsTrimAsciiStart, length-append}
+use Rattle.tz_info.proofs.Words.{trimmed, trimmed_back, trimmed_front, true, true≢false, unless_space, zero, ℕ, [], ◌++◌, ◌+◌, ◌-◌, ◌<◌, ◌∙◌, ◌∷◌, ◌≡◌, ◌≤◌}
+use Rattle.tz_info.proofs.Words.{IsTrimAsciiStart, length-append}
 use Rattle.std.proofs.lemmas.List.Sums.{prefix_len-le-length, prefix_len_is}
 use Rattle.std.specs.List.{prefix_len}
 
@@ -30,21 +31,25 @@ front_again (x ∷ xs) after b e s = rw b (back_again (x ∷ xs) after e s)
 pub trim_again : (bytes text : List ℕ) → IsTrimmed bytes text → trimmed bytes ≡ text
 unfolding trimmed
 trim_again bytes text h =
-    ap (λ s. trimmed_back (trimmed_front s)) h.whole ∙ (ap trimmed_back (space_front h.before (text ++ h.after) h.space_before) ∙ front_again text h.after h.first h.last h.space_after)
+    ap (λ s. trimmed_back (trimmed_front s)) h.whole
+    ∙ (ap trimmed_back (space_front h.before (text ++ h.after) h.space_before) ∙ front_again text h.after h.first h.last h.space_after)
 
 front_takes : (bytes : List ℕ) → (before : List ℕ) × (bytes ≡ before ++ trimmed_front bytes) × IsSpace before × BeginsBare (trimmed_front bytes)
 front_takes [] = ([], refl, tt, tt)
-front_takes (b ∷ bs) = elim (is_ascii_whitespace b) as (λ t. is_ascii_whitespace b ≡ t → (before : List ℕ) × (b ∷ bs ≡ before ++ cond t (trimmed_front bs) (b ∷ bs)) × IsSpace before × BeginsBare (cond t (trimmed_front bs) (b ∷ bs))) [
-  | true ↦ λ e. let r = front_takes bs in (b ∷ r.0, ap (λ s. b ∷ s) r.1, (e, r.2), r.3)
-  | false ↦ λ e. ([], refl, tt, e)
-] refl
+front_takes (b ∷ bs) = elim (is_ascii_whitespace b) as (λ t. is_ascii_whitespace b ≡ t
+    → (before : List ℕ) × (b ∷ bs ≡ before ++ cond t (trimmed_front bs) (b ∷ bs)) × IsSpace before × BeginsBare (cond t (trimmed_front bs) (b ∷ bs))) [
+      | true ↦ λ e. let r = front_takes bs in (b ∷ r.0, ap (λ s. b ∷ s) r.1, (e, r.2), r.3)
+      | false ↦ λ e. ([], refl, tt, e)
+    ] refl
 
 back_step : (b : ℕ) (bs text after : List ℕ) → bs ≡ text ++ after → IsSpace after → EndsBare text
     → (behind : List ℕ) × (b ∷ bs ≡ unless_space b text ++ behind) × IsSpace behind × EndsBare (unless_space b text)
-back_step b bs [] after w s e = elim (is_ascii_whitespace b) as (λ t. is_ascii_whitespace b ≡ t → (behind : List ℕ) × (b ∷ bs ≡ cond t [] (b ∷ []) ++ behind) × IsSpace behind × EndsBare (cond t [] (b ∷ []))) [
-  | true ↦ λ k. (b ∷ bs, refl, (k, subst IsSpace (sym w) s), tt)
-  | false ↦ λ k. (after, ap (λ x. b ∷ x) w, s, k)
-] refl
+back_step b bs [] after w s e =
+    elim (is_ascii_whitespace b) as (λ t. is_ascii_whitespace b ≡ t
+    → (behind : List ℕ) × (b ∷ bs ≡ cond t [] (b ∷ []) ++ behind) × IsSpace behind × EndsBare (cond t [] (b ∷ []))) [
+      | true ↦ λ k. (b ∷ bs, refl, (k, subst IsSpace (sym w) s), tt)
+      | false ↦ λ k. (after, ap (λ x. b ∷ x) w, s, k)
+    ] refl
 back_step b bs (c ∷ cs) after w s e = (after, ap (λ x. b ∷ x) w, s, e)
 
 back_takes : (bytes : List ℕ) → (after : List ℕ) × (bytes ≡ trimmed_back bytes ++ after) × IsSpace after × EndsBare (trimmed_back bytes)
@@ -57,7 +62,8 @@ trim_is bytes =
     let f = front_takes bytes in let b = back_takes (trimmed_front bytes) in grind arith
 
 -- ---- what std's calls give
-front_drop : (n : ℕ) (s : List ℕ) → n ≤ length s → IsAsciiWhitespaceBelow s n → (n < length s → is_ascii_whitespace (slice_index s n) ≡ false) → drop n s ≡ trimmed_front s
+front_drop : (n : ℕ) (s : List ℕ) → n ≤ length s → IsAsciiWhitespaceBelow s n
+    → (n < length s → is_ascii_whitespace (slice_index s n) ≡ false) → drop n s ≡ trimmed_front s
 front_drop zero [] l w e = refl
 front_drop zero (b ∷ bs) l w e = rw (e (omega arith)) refl
 front_drop (suc n) [] l w e = absurd (omega arith)
@@ -67,7 +73,8 @@ all_space : (s : List ℕ) → IsAsciiWhitespaceFrom s 0 → trimmed_back s ≡ 
 all_space [] w = refl
 all_space (b ∷ bs) w = rw (all_space bs (λ i h k. w (suc i) (omega arith) (omega arith)), w 0 (omega arith) (omega arith)) refl
 
-back_take : (n : ℕ) (s : List ℕ) → n ≤ length s → IsAsciiWhitespaceFrom s n → ((m : ℕ) → n ≡ suc m → is_ascii_whitespace (slice_index s m) ≡ false) → take n s ≡ trimmed_back s
+back_take : (n : ℕ) (s : List ℕ) → n ≤ length s → IsAsciiWhitespaceFrom s n
+    → ((m : ℕ) → n ≡ suc m → is_ascii_whitespace (slice_index s m) ≡ false) → take n s ≡ trimmed_back s
 back_take zero s l w e = sym (all_space s w)
 back_take (suc n) [] l w e = absurd (omega arith)
 back_take (suc zero) (b ∷ bs) l w e = rw (all_space bs (λ i h k. w (suc i) (omega arith) (omega arith)), e 0 refl) refl
@@ -99,11 +106,12 @@ pub front_counted : (s r : List ℕ) → IsTrimAsciiStart s r → length r + pre
 front_counted s r t =
     let counted = prefix_len_is is_ascii_whitespace s t.0 0 (omega (arith, t.2)) t.3 t.4 in omega (arith, t.2, counted)
 
-bare_counted : (before : List ℕ) (b : ℕ) (rest : List ℕ) → IsSpace before → is_ascii_whitespace b ≡ false → prefix_len is_ascii_whitespace (before ++ (b ∷ rest)) ≡ length before
+bare_counted : (before : List ℕ) (b : ℕ) (rest : List ℕ) → IsSpace before → is_ascii_whitespace b ≡ false
+    → prefix_len is_ascii_whitespace (before ++ (b ∷ rest)) ≡ length before
 bare_counted [] b rest s bare = rw bare refl
 bare_counted (x ∷ xs) b rest s bare = rw s.0 (omega (arith, bare_counted xs b rest s.1 bare))
 
--- the text fits behind it
+-- the text fits after the white space in front
 pub fits_behind : (bytes text : List ℕ) → IsTrimmed bytes text → prefix_len is_ascii_whitespace bytes + length text ≤ length bytes
 fits_behind bytes [] t = omega (arith, prefix_len-le-length is_ascii_whitespace bytes)
 fits_behind bytes (b ∷ bs) t =

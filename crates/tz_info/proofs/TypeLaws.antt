@@ -12,22 +12,27 @@ use Rattle.tz_info.proofs.Words.{◌++◌, ◌+◌, ◌<ℤ◌, ◌<◌, ◌==�
 use Rattle.tz_info.proofs.{ListLaws.{first_refusal}, RecordLaws.{records}}
 
 -- ---- the next 0 byte
-zero_takes : (text : List ℕ) (i n : ℕ) → position_from is_zero i text ≡ Some n → (m : ℕ) × (n ≡ i + m) × (after : List ℕ) × (text ≡ take m text ++ (0 ∷ after)) × HasNoZero (take m text)
+zero_takes : (text : List ℕ) (i n : ℕ) → position_from is_zero i text ≡ Some n
+    → (m : ℕ) × (n ≡ i + m) × (after : List ℕ) × (text ≡ take m text ++ (0 ∷ after)) × HasNoZero (take m text)
 zero_takes [] i n h = cc
-zero_takes (b ∷ bs) i n h = elim (b == 0) as (λ t. (b == 0) ≡ t → cond t (Some i) (position_from is_zero (i + 1) bs) ≡ Some n → (m : ℕ) × (n ≡ i + m) × (after : List ℕ) × (b ∷ bs ≡ take m (b ∷ bs) ++ (0 ∷ after)) × HasNoZero (take m (b ∷ bs))) [
-  | true ↦ λ t k. let z : b ≡ 0 = grind (arith, nat_tests) in let e : i ≡ n = cc in (0, omega arith, bs, rw z refl, tt)
-  | false ↦ λ t k. let r = zero_takes bs (i + 1) n k in let e = r.1 in
-      (suc r.0, omega arith, r.2, ap (λ s. b ∷ s) r.3, ((λ z. grind (arith, nat_tests)), r.4))
-] refl h
+zero_takes (b ∷ bs) i n h = elim (b == 0) as (λ t. (b == 0) ≡ t → cond t (Some i) (position_from is_zero (i + 1) bs) ≡ Some n
+    → (m : ℕ) × (n ≡ i + m) × (after : List ℕ) × (b ∷ bs ≡ take m (b ∷ bs) ++ (0 ∷ after)) × HasNoZero (take m (b ∷ bs))) [
+      | true ↦ λ t k. let z : b ≡ 0 = grind (arith, nat_tests) in let e : i ≡ n = cc in (0, omega arith, bs, rw z refl, tt)
+      | false ↦ λ t k. let r = zero_takes bs (i + 1) n k in let e = r.1 in
+          (suc r.0, omega arith, r.2, ap (λ s. b ∷ s) r.3, ((λ z. grind (arith, nat_tests)), r.4))
+    ] refl h
 
 zero_again : (text after : List ℕ) (i : ℕ) → HasNoZero text → position_from is_zero i (text ++ (0 ∷ after)) ≡ Some (i + length text)
 zero_again [] after i h = ap (λ n. Some n) (omega arith)
 zero_again (b ∷ bs) after i h = grind (arith, zero_again bs after (i + 1) h.1)
 
 -- ---- the text at a place
-front_law : (text : List ℕ) (o : Option ℕ) → Decided (List ℕ) (front_of text o) (λ x. (n : ℕ) × (o ≡ Some n) × (take n text ≡ x)) (λ e. (o ≡ None) × (e ≡ InvalidTzFile ZeroByteAfterName))
-front_law text None = like (refused (InvalidTzFile ZeroByteAfterName) (omega arith)) (λ x h. absurd h) (λ x h. let e = h.1 in cc) (λ e h. (refl, h)) (λ e h. h.1)
-front_law text (Some n) = like (done (take n text)) (λ x h. (n, refl, h)) (λ x h. let same : n ≡ h.0 = let e = h.1 in cc in rw same h.2) (λ e h. absurd h) (λ e h. let f = h.0 in cc)
+front_law : (text : List ℕ) (o : Option ℕ)
+    → Decided (List ℕ) (front_of text o) (λ x. (n : ℕ) × (o ≡ Some n) × (take n text ≡ x)) (λ e. (o ≡ None) × (e ≡ InvalidTzFile ZeroByteAfterName))
+front_law text None = like (refused (InvalidTzFile ZeroByteAfterName) (omega arith)) (λ x h. absurd h) (λ x h. let e = h.1 in
+    cc) (λ e h. (refl, h)) (λ e h. h.1)
+front_law text (Some n) = like (done (take n text)) (λ x h. (n, refl, h)) (λ x h. let same : n ≡ h.0 = let e = h.1 in cc in
+    rw same h.2) (λ e h. absurd h) (λ e h. let f = h.0 in cc)
 
 abbrev Place : List ℕ → ℕ → Option ℕ
 Place names i = position_from is_zero 0 (drop i names)
@@ -45,12 +50,16 @@ text_takes names i n x inside e same =
       ends = subst HasNoZero same r.4;
     }
 
-text_again : (names : List ℕ) (i : ℕ) (x : List ℕ) → StandsAt names i x → (i < length names) × (Place names i ≡ Some (length x)) × (take (length x) (drop i names) ≡ x)
+text_again : (names : List ℕ) (i : ℕ) (x : List ℕ) → StandsAt names i x
+    → (i < length names) × (Place names i ≡ Some (length x)) × (take (length x) (drop i names) ≡ x)
 text_again names i x s =
     let after : drop i names ≡ x ++ (0 ∷ s.after) = rw (s.whole, ← s.at) (drop_front s.before (x ++ (0 ∷ s.after))) in
     let inside = ap length s.whole ∙ length-append s.before (x ++ (0 ∷ s.after)) in
-    let behind = length-append x (0 ∷ s.after) in
-    (omega (arith, s.at, inside, behind), rw after (zero_again x s.after 0 s.ends ∙ ap (λ n. Some n) (omega arith)), rw after (take-append_seam x (0 ∷ s.after)))
+    let behind = length-append x (0 ∷ s.after) in (
+      omega (arith, s.at, inside, behind),
+      rw after (zero_again x s.after 0 s.ends ∙ ap (λ n. Some n) (omega arith)),
+      rw after (take-append_seam x (0 ∷ s.after)),
+    )
 
 -- what is expected of the place, whether it lies within the names or not
 place_inside : (names : List ℕ) (i : ℕ) → i < length names → expected_of_place names i ≡ ZeroByteAfterName
@@ -59,9 +68,12 @@ place_inside names i inside = rw ((Decides-ltb i (length names)).1 inside) refl
 place_outside : (names : List ℕ) (i : ℕ) → ¬ (i < length names) → expected_of_place names i ≡ NameWithinDesignations
 place_outside names i outside = rw (false_unless (nat_lt i (length names)) (λ t. outside ((Decides-ltb i (length names)).0 t))) refl
 
-text_law : (names : List ℕ) (i : ℕ) → Decided (List ℕ) (designation_at names i) (StandsAt names i) (λ e. ((text : List ℕ) → ¬ (StandsAt names i text)) × (e ≡ InvalidTzFile (expected_of_place names i)))
+text_law : (names : List ℕ) (i : ℕ)
+    → Decided (List ℕ) (designation_at names i) (StandsAt names i)
+    (λ e. ((text : List ℕ) → ¬ (StandsAt names i text)) × (e ≡ InvalidTzFile (expected_of_place names i)))
 unfolding designation_at text_before_zero
-text_law names i = by_error (InvalidTzFile (expected_of_place names i)) (choice (Decides-ltb i (length names)) (front_law (drop i names) (Place names i)) (refused (InvalidTzFile NameWithinDesignations) (omega arith)))
+text_law names i = by_error (InvalidTzFile (expected_of_place names i))
+    (choice (Decides-ltb i (length names)) (front_law (drop i names) (Place names i)) (refused (InvalidTzFile NameWithinDesignations) (omega arith)))
     (λ x h. elim h [ inl k ↦ text_takes names i k.1.0 x k.0 k.1.1 k.1.2 | inr k ↦ absurd k.1 ])
     (λ x s. let t = text_again names i x s in inl (t.0, (length x, t.1, t.2)))
     (λ e h. elim h [ inl k ↦ k.1.1 ∙ ap InvalidTzFile (sym (place_inside names i k.0)) | inr k ↦ k.1 ∙ ap InvalidTzFile (sym (place_outside names i k.0)) ])
@@ -80,7 +92,8 @@ mark_again b true h = inr (λ z. absurd (omega arith), (h, refl))
 mark_again b false h = inl (h, refl)
 
 mark_law : (b : ℕ) → Decided Bool (mark_of b) (IsMark b) (λ e. ((d : Bool) → ¬ (IsMark b d)) × (e ≡ InvalidTzFile ZeroOrOneAsIsDst))
-mark_law b = by_error (InvalidTzFile ZeroOrOneAsIsDst) (choice (Decides-eqb b 0) (done false) (guard true (InvalidTzFile ZeroOrOneAsIsDst) (omega arith) (Decides-eqb b 1)))
+mark_law b = by_error (InvalidTzFile ZeroOrOneAsIsDst)
+    (choice (Decides-eqb b 0) (done false) (guard true (InvalidTzFile ZeroOrOneAsIsDst) (omega arith) (Decides-eqb b 1)))
     (λ d h. elim h [ inl k ↦ subst (IsMark b) k.1 k.0 | inr k ↦ subst (IsMark b) k.1.1 k.1.0 ])
     (mark_again b)
     (λ n h. elim h [ inl k ↦ absurd k.1 | inr k ↦ k.1.1 ])
@@ -91,7 +104,8 @@ ReadFault names bytes e =
     ⊎ ((dst : Bool) × IsMark (mark_in bytes) dst
     × ((((text : List ℕ) → ¬ (StandsAt names (place_in bytes) text)) × (e ≡ InvalidTzFile (expected_of_place names (place_in bytes))))
     ⊎ ((text : List ℕ) × StandsAt names (place_in bytes) text
-    × (¬ ((least_offset <ℤ offset_in bytes) × IsNameOrNone (designation_of text)) × (e ≡ LocalTimeType (expected_of_type (offset_in bytes) (designation_of text)))))))
+    × (¬ ((least_offset <ℤ offset_in bytes) × IsNameOrNone (designation_of text))
+    × (e ≡ LocalTimeType (expected_of_type (offset_in bytes) (designation_of text)))))))
 
 fault_is : (names bytes : List ℕ) (e : Error) → ReadFault names bytes e → TypeFault names bytes e
 fault_is names bytes e (inl m) = subst (λ k. TypeFault names bytes k) (sym m.1) (Other_mark m.0)
@@ -109,15 +123,18 @@ pub type_law : (names bytes : List ℕ) → Decided LocalType (type_of_record na
 unfolding type_of_record type_of
 type_law names bytes = like
     (bind (mark_law (mark_in bytes)) (λ dst _. bind (text_law names (place_in bytes)) (λ text _.
-    guard (record { offset = offset_in bytes; dst = dst; name = designation_of text }) (LocalTimeType (expected_of_type (offset_in bytes) (designation_of text))) (omega arith)
-    (Decides-and (int_lt least_offset (offset_in bytes)) (is_name_or_none (designation_of text)) (lt_is least_offset (offset_in bytes), lt_true least_offset (offset_in bytes)) (named_is (designation_of text), named_again (designation_of text))))))
+    guard (record { offset = offset_in bytes; dst = dst; name = designation_of text })
+    (LocalTimeType (expected_of_type (offset_in bytes) (designation_of text))) (omega arith)
+    (Decides-and (int_lt least_offset (offset_in bytes)) (is_name_or_none (designation_of text))
+    (lt_is least_offset (offset_in bytes), lt_true least_offset (offset_in bytes)) (named_is (designation_of text), named_again (designation_of text))))))
     (λ t h. grind arith)
     (λ t p. (t.dst, p.mark, (p.text, p.stands, ((rw p.offset p.above_least, rw p.name p.name_fits), rw (p.offset, p.name) refl))))
     (fault_is names bytes)
     (fault_again names bytes)
 
 -- ---- all types
-pub types_law : (n : ℕ) (names part : List ℕ) → length part ≡ n * 6 → Decided (List LocalType) (values_below n (type_in names part)) (SpellTypes names part) (HasTypeFault names part)
+pub types_law : (n : ℕ) (names part : List ℕ) → length part ≡ n * 6
+    → Decided (List LocalType) (values_below n (type_in names part)) (SpellTypes names part) (HasTypeFault names part)
 types_law n names part l = records n 6 part (omega arith) l (λ bytes _. type_law names bytes)
 
 -- an error at the next record is that of all
@@ -132,8 +149,10 @@ next_refused n k names part types e b h r = elim r [
 ]
 
 -- ---- what the constructor answers
-pub type_answers : (offset : ℤ) (dst : Bool) (text : List ℕ) (name : Option (List ℕ)) (r : Result LocalType Error) → least_offset ≤ℤ offset → offset ≤ℤ pos 2_147_483_647 → name ≡ designation_of text
-    → MatchResult r (λ t. IsUtOffset offset × IsNameOrNone name × (t ≡ record { offset = offset; dst = dst; name = name })) (λ e. (e ≡ LocalTimeType (expected_of_type offset name)) × ¬ (IsUtOffset offset × IsNameOrNone name))
+pub type_answers : (offset : ℤ) (dst : Bool) (text : List ℕ) (name : Option (List ℕ)) (r : Result LocalType Error) → least_offset ≤ℤ offset
+    → offset ≤ℤ pos 2_147_483_647 → name ≡ designation_of text
+    → MatchResult r (λ t. IsUtOffset offset × IsNameOrNone name × (t ≡ record { offset = offset; dst = dst; name = name }))
+    (λ e. (e ≡ LocalTimeType (expected_of_type offset name)) × ¬ (IsUtOffset offset × IsNameOrNone name))
     → Gives (λ t. t) r (type_of offset dst text)
 unfolding type_of
 type_answers offset dst text name (Ok t) low high same h = grind (arith, named_again)

@@ -14,14 +14,18 @@ use Rattle.tz_info.proofs.{FooterLaws.{footer_law as footer_bytes_law}, ListFaul
 abbrev RuleFault : Bool → Option (List ℕ) → Error → Type 0
 RuleFault extended footer e = (bytes : List ℕ) × (footer ≡ Some bytes) × FooterFault extended bytes e
 
-footer_law : (extended : Bool) (footer : Option (List ℕ)) → Decided (Option TransitionRule) (footer_of extended footer) (HasRule extended footer) (RuleFault extended footer)
+footer_law : (extended : Bool) (footer : Option (List ℕ))
+    → Decided (Option TransitionRule) (footer_of extended footer) (HasRule extended footer) (RuleFault extended footer)
 footer_law extended None = like (done None) (λ rule h. sym h) (λ rule h. sym h) (λ n f. absurd f) (λ n f. let e = f.1 in cc)
-footer_law extended (Some bytes) = like (footer_bytes_law extended bytes) (λ rule h. h) (λ rule h. h) (λ n f. (bytes, refl, f)) (λ n f. subst (λ b. FooterFault extended b n) (sym (same_Some bytes f.0 f.1)) f.2)
+footer_law extended (Some bytes) =
+    like (footer_bytes_law extended bytes) (λ rule h. h) (λ rule h. h) (λ n f. (bytes, refl, f))
+    (λ n f. subst (λ b. FooterFault extended b n) (sym (same_Some bytes f.0 f.1)) f.2)
 
 abbrev ReadFault : FilePieces → Error → Type 0
 ReadFault p n =
     HasTypeFault p.parts.designations p.parts.types n
-    ⊎ ((types : List LocalType) × SpellTypes p.parts.designations p.parts.types types × ((¬ (IndicatorsAgree p.parts.standard_wall p.parts.ut_local) × (n ≡ InvalidTzFile StandardTimeWhereTimeIsUt))
+    ⊎ ((types : List LocalType) × SpellTypes p.parts.designations p.parts.types types
+    × ((¬ (IndicatorsAgree p.parts.standard_wall p.parts.ut_local) × (n ≡ InvalidTzFile StandardTimeWhereTimeIsUt))
     ⊎ ((u : Unit {0}) × IndicatorsAgree p.parts.standard_wall p.parts.ut_local × (RuleFault p.extended p.footer n
     ⊎ ((rule : Option TransitionRule) × HasRule p.extended p.footer rule × (⊥
     ⊎ ((ts : List Transition) × SpellTransitions p.time_size p.parts.times p.parts.type_indexes ts × ⊥)))))))

@@ -7,7 +7,9 @@ unix_time_once : (leaps : List LeapSecond) (x u v : ℤ) → IsUnixTime leaps x 
 unix_time_once leaps x u v a b = a.difference ∙ sym b.difference
 
 -- whether the rule agrees is whether its type there and the listed one are the same
-pub agrees_if_same : (types : List LocalType) (leaps : List LeapSecond) (rule : TransitionRule) (last : Transition) (u : ℤ) (s t : LocalType) (same : Bool) → IsUnixTime leaps last.unix_leap_time u → RuleAt rule u s → slice_get types last.type_index ≡ Some t → IsTrue same ↔ (s ≡ t) → IsTrue same ↔ Agrees types leaps rule last
+pub agrees_if_same : (types : List LocalType) (leaps : List LeapSecond) (rule : TransitionRule) (last : Transition) (u : ℤ) (s t : LocalType) (same : Bool)
+    → IsUnixTime leaps last.unix_leap_time u → RuleAt rule u s → slice_get types last.type_index ≡ Some t → IsTrue same ↔ (s ≡ t)
+    → IsTrue same ↔ Agrees types leaps rule last
 agrees_if_same types leaps rule last u s t same of_last of_rule listed e = (
   λ h. record { unix_time = u; of_transition = of_last; type = s; of_rule = of_rule; listed = rw (e.0 h) listed },
   λ h. e.1 (
@@ -17,11 +19,13 @@ agrees_if_same types leaps rule last u s t same of_last of_rule listed e = (
       cc),
 )
 
-pub differs_without_time : (types : List LocalType) (leaps : List LeapSecond) (rule : TransitionRule) (last : Transition) → IsUnixTimeRefused leaps last.unix_leap_time → Agrees types leaps rule last → ⊥
+pub differs_without_time : (types : List LocalType) (leaps : List LeapSecond) (rule : TransitionRule) (last : Transition)
+    → IsUnixTimeRefused leaps last.unix_leap_time → Agrees types leaps rule last → ⊥
 differs_without_time types leaps rule last (inl least) h = h.of_transition.not_least least
 differs_without_time types leaps rule last (inr out) h = let e = h.of_transition.difference in out (rw e at h.of_transition.fits)
 
-pub differs_without_rule : (types : List LocalType) (leaps : List LeapSecond) (rule : TransitionRule) (last : Transition) (u : ℤ) → IsUnixTime leaps last.unix_leap_time u → IsRuleRefused rule u → Agrees types leaps rule last → ⊥
+pub differs_without_rule : (types : List LocalType) (leaps : List LeapSecond) (rule : TransitionRule) (last : Transition) (u : ℤ)
+    → IsUnixTime leaps last.unix_leap_time u → IsRuleRefused rule u → Agrees types leaps rule last → ⊥
 differs_without_rule types leaps rule last u of_last refused h =
     let e = unix_time_once leaps last.unix_leap_time u h.unix_time of_last h.of_transition in
     rule_not_refused rule u h.type (rw e h.of_rule) refused

@@ -14,20 +14,25 @@ use Rattle.tz_info.specs.Steps.Walk.{IsTimeWithin}
 -- ---- one segment more
 -- the next transition comes at `until`, or there is no next one
 abbrev pub IsNextAt : Zone → ℕ → Option ℤ → Type 0
-IsNextAt z i until = ((d : Transition) × (i < length z.transitions) × (until ≡ Some (get_or z.transitions i d).unix_leap_time)) ⊎ ((i ≡ length z.transitions) × (until ≡ None))
+IsNextAt z i until = ((d : Transition) × (i < length z.transitions) × (until ≡ Some (get_or z.transitions i d).unix_leap_time))
+    ⊎ ((i ≡ length z.transitions) × (until ≡ None))
 
 -- from the segment's begin on, and before the next transition, the leap times are those of its seconds
-tested : (z : Zone) (i : ℕ) (since x : ℤ) (until : Option ℤ) → AreRising z.transitions → i ≤ length z.transitions → since ≡ begin_of z.transitions i → IsNextAt z i until
+tested : (z : Zone) (i : ℕ) (since x : ℤ) (until : Option ℤ) → AreRising z.transitions → i ≤ length z.transitions
+    → since ≡ begin_of z.transitions i → IsNextAt z i until
     → (IsTimeWithin since until x → Between z.transitions x i i) × (least_time ≤ℤ x → Between z.transitions x i i → IsTimeWithin since until x)
 tested z i since x until r w b (inl (d, h, e)) = (
   λ t. between_of z.transitions i x r w (record { since = rw b at t.from; until = λ f l. rw (get_or_default z.transitions i f d l) (t.before _ e) }),
-  λ f t. let k = within_of z.transitions i x f t in record { from = rw b k.since; before = λ end is. let same : (get_or z.transitions i d).unix_leap_time ≡ end = cc in rw same at (k.until d h) },
+  λ f t. let k = within_of z.transitions i x f t in
+      record { from = rw b k.since; before = λ end is. let same : (get_or z.transitions i d).unix_leap_time ≡ end = cc in rw same at (k.until d h) },
 )
 tested z i since x until r w b (inr (h, e)) = grind (arith, between_of, within_of)
 
 -- one segment more of the table was tried, of whose seconds at most one shows the local time
-pub tried_segment : (z : Zone) (l : ℤ) (i : ℕ) (since : ℤ) (until : Option ℤ) (before after : LocalResult LocalType) → IsValid z → i ≤ length z.transitions → i < table_count z → since ≡ begin_of z.transitions i
-    → IsNextAt z i until → IsTried z l (index_of z.transitions i) since until before after → IsWallAnswer (IsShownIn z l i) before → IsWallAnswer (IsShownIn z l (i + 1)) after
+pub tried_segment : (z : Zone) (l : ℤ) (i : ℕ) (since : ℤ) (until : Option ℤ) (before after : LocalResult LocalType) → IsValid z → i ≤ length z.transitions
+    → i < table_count z → since ≡ begin_of z.transitions i
+    → IsNextAt z i until → IsTried z l (index_of z.transitions i) since until before after → IsWallAnswer (IsShownIn z l i) before
+    → IsWallAnswer (IsShownIn z l (i + 1)) after
 tried_segment z l i since until before after valid inside own begin next k s =
     let rising = valid.transitions.rising in
     let c : ℤ = l -ℤ k.type.offset in
@@ -52,7 +57,8 @@ tried_segment z l i since until before after valid inside own begin next k s =
 
 -- ---- the rule after the last transition
 -- from `start` on the zone's types are the rule's, and before it those of the segments before the last one
-pub with_rule : (z : Zone) (rule : TransitionRule) (start l : ℤ) → IsValid z → z.rule ≡ Some rule → IsStart z.transitions z.leaps (length z.transitions) start → IsWide l → AreUtOffsets rule
+pub with_rule : (z : Zone) (rule : TransitionRule) (start l : ℤ) → IsValid z → z.rule ≡ Some rule → IsStart z.transitions z.leaps (length z.transitions) start
+    → IsWide l → AreUtOffsets rule
     → Parts (IsShownIn z l (length z.transitions)) (Shows (TypeFrom rule start) l) (IsShownIn z l (length z.transitions + 1))
 with_rule z rule start l valid is begun wide offsets = record {
   first = λ u t k. record { shows = k.shows; from = omega arith; below = let b = k.below in omega arith };
@@ -60,7 +66,8 @@ with_rule z rule start l valid is begun wide offsets = record {
       let near = near u t k.type.type k.shown in
       let there = (rule_begun z u start valid near begun).1 k.type.since in
       let time = leap_time_of z u valid near in
-      let b : Between z.transitions time.0 (length z.transitions) (length z.transitions) = rw (sym time.1.sum) at (segment_at z u (length z.transitions) valid.transitions.rising there) in
+      let b : Between z.transitions time.0 (length z.transitions) (length z.transitions) =
+      rw (sym time.1.sum) at (segment_at z u (length z.transitions) valid.transitions.rising there) in
       let type = type_in_from z u time.0 t time.1 b (rw is k.type.type) in
       record { shows = record { fits = k.fits; type = type.type; shown = k.shown }; from = omega arith; below = omega arith };
   all = λ u t k. elim (cases_lt (segment_of z u) (length z.transitions)) [
@@ -68,7 +75,13 @@ with_rule z rule start l valid is begun wide offsets = record {
     | inr h ↦
         let there : segment_of z u ≡ length z.transitions = let b = k.below in omega arith in
         let type = rw is at (type_from z u t valid.transitions.rising (record { type = k.shows.type; segment = there })) in
-        inr (record { fits = k.shows.fits; type = record { type = type; since = (rule_begun z u start valid (near u t type k.shows.shown) begun).0 there }; shown = k.shows.shown })
+        inr
+        (record {
+          fits = k.shows.fits;
+          type = record { type = type; since = (rule_begun z u start valid (near u t type k.shows.shown) begun).0 there };
+          shown =
+              k.shows.shown;
+        })
   ];
   order = λ u v s t a b. later_segment z u v valid (
       let there = (rule_begun z v start valid (near v t b.type.type b.shown) begun).1 b.type.since in omega arith);
@@ -85,15 +98,24 @@ none_before z l low high n valid w b = λ u t k.
     let e = segment_is z (l -ℤ w.greatest) n (rw w.is_low.sum at b) in grind arith
 
 -- a second that shows the local time by the least offset or a greater one lies at or before a transition's segment that comes after the window
-pub window_most : (z : Zone) (l low high : ℤ) (n : ℕ) (d : Transition) (u o : ℤ) → IsValid z → (w : IsWindow z l low high) → n < length z.transitions → high <ℤ (get_or z.transitions n d).unix_leap_time → w.least ≤ℤ o → u +ℤ o ≡ l → segment_of z u ≤ n
+pub window_most : (z : Zone) (l low high : ℤ) (n : ℕ) (d : Transition) (u o : ℤ) → IsValid z → (w : IsWindow z l low high) → n < length z.transitions
+    → high <ℤ (get_or z.transitions n d).unix_leap_time → w.least ≤ℤ o → u +ℤ o ≡ l → segment_of z u ≤ n
 window_most z l low high n d u o valid w h later least e =
     let r = segments_rise z u (l -ℤ w.least) valid.transitions.rising valid.leaps (omega (arith, ints)) in grind (arith, segment_here)
 
-pub none_behind : (z : Zone) (l low high : ℤ) (n : ℕ) (d : Transition) (answer : LocalResult LocalType) → IsValid z → IsWindow z l low high → n < length z.transitions → high <ℤ (get_or z.transitions n d).unix_leap_time → IsWallAnswer (IsShownIn z l (n + 1)) answer → IsWallAnswer (Shows (TypeAt z) l) answer
+pub none_behind : (z : Zone) (l low high : ℤ) (n : ℕ) (d : Transition) (answer : LocalResult LocalType) → IsValid z → IsWindow z l low high
+    → n < length z.transitions → high <ℤ (get_or z.transitions n d).unix_leap_time → IsWallAnswer (IsShownIn z l (n + 1)) answer
+    → IsWallAnswer (Shows (TypeAt z) l) answer
 none_behind z l low high n d answer valid w h later s = same_answer (IsShownIn z l (n + 1)) (Shows (TypeAt z) l) answer (λ u t k. k.shows)
-    (λ u t k. record { shows = k; from = omega arith; below = let most = window_most z l low high n d u t.offset valid w h later (at_least_least z u w.least t w.is_least k.type) k.shown in omega arith }) s
+    (λ u t k. record {
+      shows = k;
+      from = omega arith;
+      below = let most = window_most z l low high n d u t.offset valid w h later
+          (at_least_least z u w.least t w.is_least k.type) k.shown in omega arith;
+    }) s
 
-window_least : {X : Type 0} (p : X → Bool) (xs : List X) (a b : ℕ) → b ≤ length xs → ((k : ℕ) (d : X) → a ≤ k → k < b → p (get_or xs k d) ≡ true) → b ≤ a + length (filter p xs)
+window_least : {X : Type 0} (p : X → Bool) (xs : List X) (a b : ℕ) → b ≤ length xs → ((k : ℕ) (d : X) → a ≤ k → k < b → p (get_or xs k d) ≡ true)
+    → b ≤ a + length (filter p xs)
 window_least p [] a b h all = omega arith
 window_least p (x ∷ xs) a zero h all = omega arith
 window_least p (x ∷ xs) zero (suc b) h all =
@@ -103,7 +125,8 @@ window_least p (x ∷ xs) (suc a) (suc b) h all =
     let r = window_least p xs a b (omega arith) (λ k d l m. all (suc k) d (omega arith) (omega arith)) in grind arith
 
 -- the transitions walked through lie in the window
-pub walked_most : (ts : List Transition) (low high : ℤ) (first place : ℕ) → Between ts low first first → place ≤ length ts → ((k : ℕ) (d : Transition) → first ≤ k → k < place → (get_or ts k d).unix_leap_time ≤ℤ high) → place ≤ first + length (come_between ts low high)
+pub walked_most : (ts : List Transition) (low high : ℤ) (first place : ℕ) → Between ts low first first → place ≤ length ts
+    → ((k : ℕ) (d : Transition) → first ≤ k → k < place → (get_or ts k d).unix_leap_time ≤ℤ high) → place ≤ first + length (come_between ts low high)
 walked_most ts low high first place b w inside = grind (arith, window_least)
 
 -- the walk has come to that place: the transitions from the first on lie in the window, and one search and a look at each of them were counted
@@ -115,7 +138,8 @@ pub record Walked (z : Zone) (high : ℤ) (first place : ℕ) (a b : Counts) : T
   pub pieces : b.piece_reads ≡ a.piece_reads
   pub looked : 0 < length z.transitions → a.reads < b.reads
 
-pub walked_more : (z : Zone) (high : ℤ) (first place : ℕ) (x : Transition) (a b c : Counts) → place < length z.transitions → Walked z high first place a b → x ≡ get_or z.transitions place x → x.unix_leap_time ≤ℤ high → c ≡ reads_more b 1 → Walked z high first (place + 1) a c
+pub walked_more : (z : Zone) (high : ℤ) (first place : ℕ) (x : Transition) (a b c : Counts) → place < length z.transitions → Walked z high first place a b
+    → x ≡ get_or z.transitions place x → x.unix_leap_time ≤ℤ high → c ≡ reads_more b 1 → Walked z high first (place + 1) a c
 walked_more z high first place x a b c within w item le cost = rw cost (record {
   inside = λ k d l m. elim (cases_lt k place) [
     | inl i ↦ w.inside k d l i
@@ -132,14 +156,24 @@ walked_more z high first place x a b c within w item le cost = rw cost (record {
 })
 
 pub one_look : (b c : Counts) → c ≡ reads_more b 1 → RoseWithin b c 1 2
-one_look b c cost = rw cost (record { reads_kept = omega arith; reads_most = omega arith; questions_kept = omega arith; questions_most = omega arith; pieces_same = refl })
+one_look b c cost =
+    rw cost (record { reads_kept = omega arith; reads_most = omega arith; questions_kept = omega arith; questions_most = omega arith; pieces_same = refl })
 
-pub rose_by_walk : (z : Zone) (l low high : ℤ) (first place n : ℕ) (a b c : Counts) → IsWindow z l low high → Between z.transitions low first first → place ≤ length z.transitions → Walked z high first place a b → n ≤ 1 → RoseWithin b c n 2 → RoseByWalk z l a c
+pub rose_by_walk : (z : Zone) (l low high : ℤ) (first place n : ℕ) (a b c : Counts) → IsWindow z l low high → Between z.transitions low first first
+    → place ≤ length z.transitions → Walked z high first place a b → n ≤ 1 → RoseWithin b c n 2 → RoseByWalk z l a c
 rose_by_walk z l low high first place n a b c window split within w one r =
     let walked = walked_most z.transitions low high first place split within w.inside in
     record {
       window = length (come_between z.transitions low high);
       counted = record { low = low; high = high; window = window; count = refl };
-      most = record { reads_kept = omega arith; reads_most = omega arith; questions_kept = omega arith; questions_most = omega arith; pieces_same = r.pieces_same ∙ w.pieces };
+      most =
+          record {
+            reads_kept = omega arith;
+            reads_most = omega arith;
+            questions_kept = omega arith;
+            questions_most = omega arith;
+            pieces_same = r.pieces_same
+                ∙ w.pieces;
+          };
       least = λ h. let k = w.looked h in omega arith;
     }

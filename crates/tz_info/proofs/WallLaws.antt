@@ -8,7 +8,8 @@ use Rattle.tz_info.proofs.ZoneLaws.{type_once}
 pub shown_once : (z : Zone) (local u : ℤ) (s t : LocalType) → Shows (TypeAt z) local u s → Shows (TypeAt z) local u t → s ≡ t
 shown_once z local u s t a b = type_once z u s t a.type b.type
 
-pub one_wall_clock : (z : Zone) (local : ℤ) (a b : LocalResult LocalType) → IsWallAnswer (Shows (TypeAt z) local) a → IsWallAnswer (Shows (TypeAt z) local) b → a ≡ b
+pub one_wall_clock : (z : Zone) (local : ℤ) (a b : LocalResult LocalType) → IsWallAnswer (Shows (TypeAt z) local) a
+    → IsWallAnswer (Shows (TypeAt z) local) b → a ≡ b
 one_wall_clock z local = one_wall_answer (Shows (TypeAt z) local) (shown_once z local)
 
 second_is : (z : Zone) (local u : ℤ) (t : LocalType) → Shows (TypeAt z) local u t → u ≡ local -ℤ t.offset
@@ -22,7 +23,8 @@ are_shown z local None h = tt
 are_shown z local (Single t) h = there z local h.second t h.shown
 are_shown z local (Ambiguous a b) h = (there z local h.first a h.at_first, there z local h.last b h.at_last)
 
-pub is_among_shown : (z : Zone) (local u : ℤ) (t : LocalType) (answer : LocalResult LocalType) → Shows (TypeAt z) local u t → IsWallAnswer (Shows (TypeAt z) local) answer → IsAmongShown local u answer
+pub is_among_shown : (z : Zone) (local u : ℤ) (t : LocalType) (answer : LocalResult LocalType) → Shows (TypeAt z) local u t
+    → IsWallAnswer (Shows (TypeAt z) local) answer → IsAmongShown local u answer
 is_among_shown z local u t None s h = h u t s
 is_among_shown z local u t (Single a) s h = let e = h.only u t s in let g = second_is z local h.second a h.shown in omega (arith, ints)
 is_among_shown z local u t (Ambiguous a b) s h =

@@ -62,7 +62,8 @@ pub record Merging (join : Answer → Answer → Answer) (bx : Answer) (xs : Lis
   pub answers : (l : ℤ) → answer_at (join bx by) out l ≡ join (answer_at bx (take i xs) l) (answer_at by (take j ys) l)
 
 -- so are those of ys and those of xs
-merging_turned : (join : Join) (bx : Answer) (xs : List Piece) (by : Answer) (ys out : List Piece) (i j : ℕ) → Merging join bx xs by ys out i j → Merging (turned join) by ys bx xs out j i
+merging_turned : (join : Join) (bx : Answer) (xs : List Piece) (by : Answer) (ys out : List Piece) (i j : ℕ) → Merging join bx xs by ys out i j
+    → Merging (turned join) by ys bx xs out j i
 merging_turned join bx xs by ys out i j m = record {
   in_x = m.in_y;
   in_y = m.in_x;
@@ -75,37 +76,49 @@ merging_turned join bx xs by ys out i j m = record {
 }
 
 -- the next piece is that of xs
-merging_x : (join : Join) (bx : Answer) (xs : List Piece) (by : Answer) (ys out : List Piece) (i j : ℕ) (p : Piece) → AreInOrder xs → Merging join bx xs by ys out i j → IsNext xs i ys j
-    → ((d : Piece) → p.start ≡ (get_or xs i d).start) → p.answer ≡ join (answer_before bx (take (i + 1) xs)) (answer_before by (take j ys)) → Merging join bx xs by ys (out ++ (p ∷ [])) (i + 1) j
+merging_x : (join : Join) (bx : Answer) (xs : List Piece) (by : Answer) (ys out : List Piece) (i j : ℕ) (p : Piece) → AreInOrder xs
+    → Merging join bx xs by ys out i j → IsNext xs i ys j
+    → ((d : Piece) → p.start ≡ (get_or xs i d).start) → p.answer ≡ join (answer_before bx (take (i + 1) xs)) (answer_before by (take j ys))
+    → Merging join bx xs by ys (out ++ (p ∷ [])) (i + 1) j
 merging_x join bx xs by ys out i j p order m next starts is =
     let x : Piece = get_or xs i p in
     let inside = next.inside in
     let here = starts p in
     let more : take (i + 1) xs ≡ take i xs ++ (x ∷ []) = take_more xs i p inside in
-    let answer : p.answer ≡ join x.answer (answer_before by (take j ys)) = is ∙ ap (λ a. join a (answer_before by (take j ys))) (ap (answer_before bx) more ∙ before_pushed bx (take i xs) x) in
+    let answer : p.answer ≡ join x.answer (answer_before by (take j ys)) =
+    is ∙ ap (λ a. join a (answer_before by (take j ys))) (ap (answer_before bx) more ∙ before_pushed bx (take i xs) x) in
     record {
       in_x = omega arith;
       in_y = m.in_y;
       ordered = all_pairs_push (λ (a b : Piece). a.start ≤ℤ b.start) out p m.ordered (λ k d l. let h = m.ahead_x p inside k d l in omega (arith, ints));
       count = let c = m.count in length_push out p ∙ omega arith;
-      ahead_x = λ d l. start_by_push out p (get_or xs (i + 1) d).start (λ k e n. let h = m.ahead_x d inside k e n in let o = order i (i + 1) d (omega arith) l in omega (arith, ints)) (let s = starts d in let o = order i (i + 1) d (omega arith) l in omega (arith, ints));
+      ahead_x = λ d l. start_by_push out p (get_or xs (i + 1) d).start (λ k e n. let h = m.ahead_x d inside k e n in
+          let o = order i (i + 1) d (omega arith) l in omega (arith, ints)) (let s = starts d in
+          let o = order i (i + 1) d (omega arith) l in omega (arith, ints));
       ahead_y = λ d l. start_by_push out p (get_or ys j d).start (m.ahead_y d l) (let s = starts d in let o = next.least d l in omega (arith, ints));
-      started = λ l h. let s = start_by_pushed out p l h in let t = m.started l s.0 in (rw more (start_by_push (take i xs) x l t.0 (let q = s.1 in omega (arith, ints))), t.1);
+      started = λ l h. let s = start_by_pushed out p l h in let t = m.started l s.0 in
+          (rw more (start_by_push (take i xs) x l t.0 (let q = s.1 in omega (arith, ints))), t.1);
       answers = λ l. by_lt_z l p.start
-          (λ before. at_earlier (join bx by) out p l before ∙ m.answers l ∙ ap (λ a. join a (answer_at by (take j ys) l)) (sym (rw more (at_earlier bx (take i xs) x l (omega (arith, ints))))))
+          (λ before. at_earlier (join bx by) out p l before ∙ m.answers l
+          ∙ ap (λ a. join a (answer_at by (take j ys) l)) (sym (rw more (at_earlier bx (take i xs) x l (omega (arith, ints))))))
           (λ from.
           let by_now : StartBy out l = λ k d n. let h = m.ahead_x p inside k d n in omega (arith, ints) in
-          at_later (join bx by) out p l from ∙ answer ∙ rw (more, at_later bx (take i xs) x l (omega (arith, ints)), at_all by (take j ys) l ((m.started l by_now).1)) refl);
+          at_later (join bx by) out p l from ∙ answer
+          ∙ rw (more, at_later bx (take i xs) x l (omega (arith, ints)), at_all by (take j ys) l ((m.started l by_now).1)) refl);
     }
 
 -- the piece that comes next is added
-pub merging_more : (bx : Answer) (xs : List Piece) (by : Answer) (ys out after : List Piece) (i j i_after j_after : ℕ) (start : ℤ) (a : Answer) → AreInOrder xs → AreInOrder ys → Merging together bx xs by ys out i j → IsStep xs i ys j start i_after j_after
-    → a ≡ together (answer_before bx (take i_after xs)) (answer_before by (take j_after ys)) → after ≡ out ++ (record { start = start; answer = a } ∷ []) → Merging together bx xs by ys after i_after j_after
+pub merging_more : (bx : Answer) (xs : List Piece) (by : Answer) (ys out after : List Piece) (i j i_after j_after : ℕ) (start : ℤ) (a : Answer) → AreInOrder xs
+    → AreInOrder ys → Merging together bx xs by ys out i j → IsStep xs i ys j start i_after j_after
+    → a ≡ together (answer_before bx (take i_after xs)) (answer_before by (take j_after ys)) → after ≡ out ++ (record { start = start; answer = a } ∷ [])
+    → Merging together bx xs by ys after i_after j_after
 merging_more bx xs by ys out after i j i_after j_after start a in_x in_y m (inl s) is e =
-    rw (e, s.passed, s.stays) (merging_x together bx xs by ys out i j (record { start = start; answer = a }) in_x m s.next s.starts (rw (s.passed, s.stays) at is))
+    rw (e, s.passed, s.stays)
+    (merging_x together bx xs by ys out i j (record { start = start; answer = a }) in_x m s.next s.starts (rw (s.passed, s.stays) at is))
 merging_more bx xs by ys out after i j i_after j_after start a in_x in_y m (inr s) is e =
     rw (e, s.passed, s.stays) (merging_turned (turned together) by ys bx xs (out ++ (record { start = start; answer = a } ∷ [])) (j + 1) i
-    (merging_x (turned together) by ys bx xs out j i (record { start = start; answer = a }) in_y (merging_turned together bx xs by ys out i j m) s.next s.starts (rw (s.stays, s.passed) at is)))
+    (merging_x (turned together) by ys bx xs out j i (record { start = start; answer = a }) in_y (merging_turned together bx xs by ys out i j m) s.next s.starts
+    (rw (s.stays, s.passed) at is)))
 
 pub step_count : (xs ys : List Piece) (i j i_after j_after : ℕ) (start : ℤ) → IsStep xs i ys j start i_after j_after → i_after + j_after ≡ i + j + 1
 step_count xs ys i j i_after j_after start (inl s) = let p = s.passed in let q = s.stays in omega arith
@@ -125,13 +138,15 @@ none_answers b ps l n passed latest = elim (cases_lt 0 n) [
   | inr g ↦ let e : n ≡ 0 = omega arith in sym (started b ps l n passed ∙ rw e refl)
 ]
 
-pub latest_answers : (b : Answer) (ps : List Piece) (l : ℤ) (n : ℕ) (p : Piece) → ArePassed (map (λ (p : Piece). p.start) ps) l n → IsLastOf ps n (some p) → p.answer ≡ answer_at b ps l
+pub latest_answers : (b : Answer) (ps : List Piece) (l : ℤ) (n : ℕ) (p : Piece) → ArePassed (map (λ (p : Piece). p.start) ps) l n
+    → IsLastOf ps n (some p) → p.answer ≡ answer_at b ps l
 latest_answers b ps l n p passed latest = elim (cases_lt 0 n) [
   | inl h ↦
       let s = latest.some h in
       let same = length-map ps (λ (p : Piece). p.start) in
       let is : p ≡ s.0 = ap (λ (o : Option Piece). unwrap_or o p) s.1 in
       let e : n ≡ suc (n - 1) = omega arith in
-      sym (started b ps l n passed ∙ ap (λ k. answer_before b (take k ps)) e ∙ last_taken (λ (q : Piece). q.answer) b ps (n - 1) s.0 (omega arith) ∙ ap (λ (q : Piece). q.answer) (sym s.2 ∙ sym is))
+      sym (started b ps l n passed ∙ ap (λ k. answer_before b (take k ps)) e ∙ last_taken (λ (q : Piece). q.answer) b ps (n - 1) s.0 (omega arith)
+      ∙ ap (λ (q : Piece). q.answer) (sym s.2 ∙ sym is))
   | inr g ↦ let e : n ≡ 0 = omega arith in absurd (none-some p (sym (latest.none e)))
 ]

@@ -1,9 +1,11 @@
 -- The segments between transitions and between entries: what one segment answers, and how neighbours' pieces make those of both.
 use Rattle.offset_core.specs.declared.local_result.LocalResult.TheVariants.{Ambiguous, None, Single}
 use Rattle.tz_info.proofs.Words.{AreBelow, AreInOrder, AreListed, ArePieces, AreRising, HasType, IsLeapTime, IsMerged, IsNear, IsShownAmong, IsShownIn, IsStart}
-use Rattle.tz_info.proofs.Words.{IsTable, IsUtOffset, IsValid, IsWallAnswer, IsWide, List, ListedAmong, LocalResult, LocalType, None as none, Option, Piece, SFits}
+use Rattle.tz_info.proofs.Words.{IsTable, IsUtOffset, IsValid, IsWallAnswer, IsWide, List, ListedAmong, LocalResult, LocalType, None as none, Option, Piece}
+use Rattle.tz_info.proofs.Words.{SFits}
 use Rattle.tz_info.proofs.Words.{Shown, ShownAmong, Shows, Some as some, Transition, TransitionRule, TypeAt, TypeIn, Zone, all_pairs_push, ap, arith, begin_of}
-use Rattle.tz_info.proofs.Words.{by_lt_z, cases_lt, cut_of, index_of, inl, inr, ints, le_false, le_true, length, nat_tests, place_at, refl, segment_of, shown_indexes}
+use Rattle.tz_info.proofs.Words.{by_lt_z, cases_lt, cut_of, index_of, inl, inr, ints, le_false, le_true, length, nat_tests, place_at, refl, segment_of}
+use Rattle.tz_info.proofs.Words.{shown_indexes}
 use Rattle.tz_info.proofs.Words.{subst, suc, table_count, table_count_by, together, w64, zero, ℕ, ℤ, [], ⊎_elim, ◌+ℤ◌, ◌+◌, ◌-ℤ◌, ◌<ℤ◌, ◌<◌, ◌↔◌, ◌∷◌, ◌≡◌}
 use Rattle.tz_info.proofs.Words.{◌≤ℤ◌, ◌≤◌, ◌⊎◌}
 use Rattle.tz_info.specs.declared.zone.made.shown.Shown.TheVariants.{Less, Once, Skipped}
@@ -24,23 +26,28 @@ pub listed_once : (z : Zone) (i : ℕ) (s t : LocalType) → HasType z i s → H
 listed_once z i s t h k = cc
 
 -- its type is the listed one
-pub type_in_table : (z : Zone) (k : ℕ) (u : ℤ) (t : LocalType) → AreRising z.transitions → k < table_count z → TypeIn z k u t → HasType z (index_of z.transitions k) t
+pub type_in_table : (z : Zone) (k : ℕ) (u : ℤ) (t : LocalType) → AreRising z.transitions → k < table_count z → TypeIn z k u t
+    → HasType z (index_of z.transitions k) t
 type_in_table z k u t rising own a = elim (own_segment z.rule k (length z.transitions) own) [
   | inl h ↦ type_before z k u t rising a h
   | inr (ruleless, e) ↦ rw e (rw ruleless at (type_from z u t rising (rw e at a)))
 ]
 
 -- and at each of its seconds that type is in force
-pub type_of_table : (z : Zone) (k : ℕ) (u x : ℤ) (t : LocalType) → k < table_count z → IsLeapTime z.leaps u x → Between z.transitions x k k → HasType z (index_of z.transitions k) t → TypeIn z k u t
+pub type_of_table : (z : Zone) (k : ℕ) (u x : ℤ) (t : LocalType) → k < table_count z → IsLeapTime z.leaps u x → Between z.transitions x k k
+    → HasType z (index_of z.transitions k) t → TypeIn z k u t
 type_of_table z k u x t own time b has = elim (own_segment z.rule k (length z.transitions) own) [
   | inl h ↦ type_in_before z k u x t time b h has
   | inr (ruleless, e) ↦ rw e (type_in_from z u x t time (rw e at b) (rw ruleless (rw e at has)))
 ]
 
-pub type_here : (z : Zone) (k : ℕ) (u : ℤ) (f t : LocalType) → IsValid z → k < table_count z → HasType z (index_of z.transitions k) t → segment_of z u ≡ k → TypeAt z u f → f ≡ t
-type_here z k u f t valid own has e h = listed_once z (index_of z.transitions k) f t (type_in_table z k u f valid.transitions.rising own (record { type = h; segment = e })) has
+pub type_here : (z : Zone) (k : ℕ) (u : ℤ) (f t : LocalType) → IsValid z → k < table_count z → HasType z (index_of z.transitions k) t
+    → segment_of z u ≡ k → TypeAt z u f → f ≡ t
+type_here z k u f t valid own has e h =
+    listed_once z (index_of z.transitions k) f t (type_in_table z k u f valid.transitions.rising own (record { type = h; segment = e })) has
 
-pub offset_here : (z : Zone) (k : ℕ) (u : ℤ) (f t : LocalType) → IsValid z → k < table_count z → HasType z (index_of z.transitions k) t → segment_of z u ≡ k → TypeAt z u f → f.offset ≡ t.offset
+pub offset_here : (z : Zone) (k : ℕ) (u : ℤ) (f t : LocalType) → IsValid z → k < table_count z → HasType z (index_of z.transitions k) t → segment_of z u ≡ k
+    → TypeAt z u f → f.offset ≡ t.offset
 offset_here z k u f t valid own has e h = ap (λ (x : LocalType). x.offset) (type_here z k u f t valid own has e h)
 
 pub leap_time_of : (z : Zone) (u : ℤ) → IsValid z → IsNear u → (x : ℤ) × IsLeapTime z.leaps u x
@@ -56,15 +63,18 @@ begun z k s u valid start near = let time = leap_time_of z u valid near in rw (c
 -- and those before it in an earlier one
 pub not_begun : (z : Zone) (k : ℕ) (s u : ℤ) → IsValid z → IsStart z.transitions z.leaps k s → IsNear u → (segment_of z u < k) ↔ (u <ℤ s)
 not_begun z k s u valid start near =
-    let b = begun z k s u valid start near in
-    ((λ h. by_lt_z u s (λ m. m) (λ m. let g = b.1 m in absurd (omega arith))), (λ h. ⊎_elim (λ m. m) (λ m. let g = b.0 m in absurd (omega (arith, ints))) (cases_lt (segment_of z u) k)))
+    let b = begun z k s u valid start near in (
+      (λ h. by_lt_z u s (λ m. m) (λ m. let g = b.1 m in absurd (omega arith))),
+      (λ h. ⊎_elim (λ m. m) (λ m. let g = b.0 m in absurd (omega (arith, ints))) (cases_lt (segment_of z u) k)),
+    )
 
 -- ---- two neighbouring sets of segments between entries
 
 later_place : (ts : List Transition) (u v : ℤ) → AreRising ts → place_at ts u < place_at ts v → u <ℤ v
 later_place ts u v rising h = by_lt_z u v (λ l. l) (λ m. let r = places_rise ts v u rising m in absurd (omega arith))
 
-parts_listed : (z : Zone) (ts : List Transition) (low middle high : ℕ) (l : ℤ) → AreRising ts → low ≤ middle → middle ≤ high → Parts (ListedAmong z ts low middle l) (ListedAmong z ts middle high l) (ListedAmong z ts low high l)
+parts_listed : (z : Zone) (ts : List Transition) (low middle high : ℕ) (l : ℤ) → AreRising ts → low ≤ middle → middle ≤ high
+    → Parts (ListedAmong z ts low middle l) (ListedAmong z ts middle high l) (ListedAmong z ts low high l)
 parts_listed z ts low middle high l rising h k = record {
   first = λ u i a. widened a.local_type a.listed a.shows a.from (let b = a.below in omega arith);
   last = λ u i a. widened a.local_type a.listed a.shows (let b = a.from in omega arith) a.below;
@@ -74,30 +84,38 @@ parts_listed z ts low middle high l rising h k = record {
       (cases_lt (place_at ts u) middle);
   order = λ u v i j a b. later_place ts u v rising (let less = a.below in let more = b.from in omega arith);
 } where
-  widened : {z : Zone} {ts : List Transition} {from below i : ℕ} {l u : ℤ} (t : LocalType) → HasType z i t → Shows (TypeAt z) l u t → from ≤ place_at ts u → place_at ts u < below → ListedAmong z ts from below l u i
+  widened : {z : Zone} {ts : List Transition} {from below i : ℕ} {l u : ℤ} (t : LocalType) → HasType z i t → Shows (TypeAt z) l u t → from ≤ place_at ts u
+      → place_at ts u < below → ListedAmong z ts from below l u i
   widened t has shows from below = record { local_type = t; shows = shows; from = from; below = below; listed = has }
 
-shown_joined : (z : Zone) (ts : List Transition) (low middle high : ℕ) (l : ℤ) (a b : Shown) → AreRising ts → low ≤ middle → middle ≤ high → IsShownAmong z ts low middle l a → IsShownAmong z ts middle high l b → IsShownAmong z ts low high l (together a b)
+shown_joined : (z : Zone) (ts : List Transition) (low middle high : ℕ) (l : ℤ) (a b : Shown) → AreRising ts → low ≤ middle → middle ≤ high
+    → IsShownAmong z ts low middle l a → IsShownAmong z ts middle high l b → IsShownAmong z ts low high l (together a b)
 shown_joined z ts low middle high l a b rising h k x y = record {
   wall = rw (wall_together a b) (joined_answer _ _ _ (shown_indexes a) (shown_indexes b) (parts_listed z ts low middle high l rising h k) x.wall y.wall);
   side = side_together z ts low middle high l a b k x.side y.side;
 }
 
-pub pieces_joined : (z : Zone) (ts : List Transition) (low middle high : ℕ) (bx by : Shown) (xs ys out : List Piece) → AreRising ts → low < middle → middle < high → ArePieces z ts low middle bx xs → ArePieces z ts middle high by ys → IsMerged bx xs by ys out → ArePieces z ts low high (together bx by) out
+pub pieces_joined : (z : Zone) (ts : List Transition) (low middle high : ℕ) (bx by : Shown) (xs ys out : List Piece) → AreRising ts → low < middle
+    → middle < high → ArePieces z ts low middle bx xs → ArePieces z ts middle high by ys → IsMerged bx xs by ys out
+    → ArePieces z ts low high (together bx by) out
 pieces_joined z ts low middle high bx by xs ys out rising h k a b m = grind (arith, shown_joined)
 
 -- ---- one segment between entries
 
-pub type_there : (z : Zone) (ts : List Transition) (top k : ℕ) (u : ℤ) (f t : LocalType) → IsTable z ts top → k < top → SFits w64 u → HasType z (index_of ts k) t → place_at ts u ≡ k → TypeAt z u f → f ≡ t
+pub type_there : (z : Zone) (ts : List Transition) (top k : ℕ) (u : ℤ) (f t : LocalType) → IsTable z ts top → k < top → SFits w64 u
+    → HasType z (index_of ts k) t → place_at ts u ≡ k → TypeAt z u f → f ≡ t
 type_there z ts top k u f t table own fits has e h = listed_once z (index_of ts k) f t (rw e at (table.listed u f fits (omega arith) h)) has
 
-second_of : (z : Zone) (ts : List Transition) (top k : ℕ) (l v : ℤ) (j : ℕ) (t : LocalType) → IsTable z ts top → k < top → HasType z (index_of ts k) t → ListedAmong z ts k (suc k) l v j → v ≡ l -ℤ t.offset
+second_of : (z : Zone) (ts : List Transition) (top k : ℕ) (l v : ℤ) (j : ℕ) (t : LocalType) → IsTable z ts top → k < top → HasType z (index_of ts k) t
+    → ListedAmong z ts k (suc k) l v j → v ≡ l -ℤ t.offset
 second_of z ts top k l v j t table own has a =
-    let e = ap (λ (x : LocalType). x.offset) (type_there z ts top k v a.local_type t table own a.shows.fits has (let f = a.from in let b = a.below in omega arith) a.shows.type) in
+    let e = ap (λ (x : LocalType). x.offset)
+    (type_there z ts top k v a.local_type t table own a.shows.fits has (let f = a.from in let b = a.below in omega arith) a.shows.type) in
     let s = a.shows.shown in omega (arith, ints)
 
 -- the one second that could show the local time by the type of that offset lies in or after the segment if and only if the cut has come
-cut_begun : (ts : List Transition) (k : ℕ) (l o : ℤ) → AreRising ts → 0 < k → k ≤ length ts → IsUtOffset o → IsWide l → (k ≤ place_at ts (l -ℤ o)) ↔ (cut_of ts k o ≤ℤ l)
+cut_begun : (ts : List Transition) (k : ℕ) (l o : ℤ) → AreRising ts → 0 < k → k ≤ length ts → IsUtOffset o → IsWide l
+    → (k ≤ place_at ts (l -ℤ o)) ↔ (cut_of ts k o ≤ℤ l)
 cut_begun ts k l o rising inner within offset wide =
     let near : IsNear l = let a = wide.0 in let b = wide.1 in (omega (arith, ints), omega (arith, ints)) in
     let s = saturated (begin_of ts k +ℤ o) l near in
@@ -108,16 +126,19 @@ near_fits : (u : ℤ) → IsNear u → SFits w64 u
 near_fits u near = let p = near.0 in let q = near.1 in omega (arith, ints)
 
 -- if the local time lies between the segment's cuts, it shows it once
-pub shown_inside : (z : Zone) (ts : List Transition) (top k : ℕ) (l : ℤ) (i : ℕ) (t : LocalType) → IsTable z ts top → k < top → i ≡ index_of ts k → HasType z i t → IsUtOffset t.offset → IsWide l
+pub shown_inside : (z : Zone) (ts : List Transition) (top k : ℕ) (l : ℤ) (i : ℕ) (t : LocalType) → IsTable z ts top → k < top → i ≡ index_of ts k
+    → HasType z i t → IsUtOffset t.offset → IsWide l
     → (0 < k → k ≤ length ts → cut_of ts k t.offset ≤ℤ l) → (k < length ts → l <ℤ cut_of ts (suc k) t.offset) → IsShownAmong z ts k (suc k) l (Once i)
 shown_inside z ts top k l i t table own is has offset wide from until =
     let u : ℤ = l -ℤ t.offset in
     let near = near_of l t.offset wide offset in
     let within = table.within in
     let most = place_most ts u table.rising in
-    let low : k ≤ place_at ts u = ⊎_elim (λ h. (cut_begun ts k l t.offset table.rising h (omega arith) offset wide).1 (from h (omega arith))) (λ h. omega arith) (cases_lt 0 k) in
+    let low : k ≤ place_at ts u =
+    ⊎_elim (λ h. (cut_begun ts k l t.offset table.rising h (omega arith) offset wide).1 (from h (omega arith))) (λ h. omega arith) (cases_lt 0 k) in
     let high : place_at ts u < suc k = ⊎_elim
-    (λ h. ⊎_elim (λ c. c) (λ c. let g = (cut_begun ts (suc k) l t.offset table.rising (omega arith) (omega arith) offset wide).0 c in let b = until h in absurd (omega (arith, ints))) (cases_lt (place_at ts u) (suc k)))
+    (λ h. ⊎_elim (λ c. c) (λ c. let g = (cut_begun ts (suc k) l t.offset table.rising (omega arith) (omega arith) offset wide).0 c in let b = until h in
+    absurd (omega (arith, ints))) (cases_lt (place_at ts u) (suc k)))
     (λ h. omega arith)
     (cases_lt k (length ts)) in
     let here : place_at ts u ≡ k = omega arith in
@@ -125,14 +146,23 @@ shown_inside z ts top k l i t table own is has offset wide from until =
     record {
       wall = record {
         second = u;
-        shown = record { local_type = t; shows = record { fits = near_fits u near; type = there; shown = omega (arith, ints) }; from = low; below = high; listed = has };
+        shown =
+            record {
+              local_type = t;
+              shows = record { fits = near_fits u near; type = there; shown = omega (arith, ints) };
+              from =
+                  low;
+              below = high;
+              listed = has;
+            };
         only = λ v j h. second_of z ts top k l v j t table own (rw is at has) h;
       };
       side = tt;
     }
 
 -- if it comes after the segment's end, its clocks show less
-shown_behind : (z : Zone) (ts : List Transition) (top k : ℕ) (l : ℤ) (t : LocalType) → IsTable z ts top → k < top → k < length ts → HasType z (index_of ts k) t → IsUtOffset t.offset → IsWide l → cut_of ts (suc k) t.offset ≤ℤ l → IsShownAmong z ts k (suc k) l Less
+shown_behind : (z : Zone) (ts : List Transition) (top k : ℕ) (l : ℤ) (t : LocalType) → IsTable z ts top → k < top → k < length ts → HasType z (index_of ts k) t
+    → IsUtOffset t.offset → IsWide l → cut_of ts (suc k) t.offset ≤ℤ l → IsShownAmong z ts k (suc k) l Less
 shown_behind z ts top k l t table own inner has offset wide h =
     let passed = (cut_begun ts (suc k) l t.offset table.rising (omega arith) (omega arith) offset wide).1 h in
     record {
@@ -143,11 +173,13 @@ shown_behind z ts top k l t table own inner has offset wide h =
     }
 
 -- if it comes before its beginning, clocks jump over it there
-shown_before : (z : Zone) (ts : List Transition) (top k : ℕ) (l : ℤ) (t : LocalType) → IsTable z ts top → k < top → 0 < k → HasType z (index_of ts k) t → IsUtOffset t.offset → IsWide l → l <ℤ cut_of ts k t.offset → IsShownAmong z ts k (suc k) l (Skipped k)
+shown_before : (z : Zone) (ts : List Transition) (top k : ℕ) (l : ℤ) (t : LocalType) → IsTable z ts top → k < top → 0 < k → HasType z (index_of ts k) t
+    → IsUtOffset t.offset → IsWide l → l <ℤ cut_of ts k t.offset → IsShownAmong z ts k (suc k) l (Skipped k)
 shown_before z ts top k l t table own inner has offset wide h =
     let within = table.within in
     let cut = cut_begun ts k l t.offset table.rising inner (omega arith) offset wide in
-    let later : place_at ts (l -ℤ t.offset) < k = ⊎_elim (λ m. m) (λ m. let g = cut.0 m in absurd (omega (arith, ints))) (cases_lt (place_at ts (l -ℤ t.offset)) k) in
+    let later : place_at ts (l -ℤ t.offset) < k =
+    ⊎_elim (λ m. m) (λ m. let g = cut.0 m in absurd (omega (arith, ints))) (cases_lt (place_at ts (l -ℤ t.offset)) k) in
     let near : IsNear l = let a = wide.0 in let b = wide.1 in (omega (arith, ints), omega (arith, ints)) in
     let s = saturated (begin_of ts k +ℤ t.offset) l near in
     record {
@@ -174,7 +206,8 @@ abbrev pub piece : ℤ → Shown → Piece
 piece start answer = record { start = start; answer = answer }
 
 -- the first segment, which has no start
-pub first_pieces : (z : Zone) (ts : List Transition) (top i : ℕ) (t : LocalType) → IsTable z ts top → 0 < top → 0 < length ts → i ≡ index_of ts 0 → HasType z i t → IsUtOffset t.offset → ArePieces z ts 0 1 (Once i) (piece (cut_of ts 1 t.offset) Less ∷ [])
+pub first_pieces : (z : Zone) (ts : List Transition) (top i : ℕ) (t : LocalType) → IsTable z ts top → 0 < top → 0 < length ts → i ≡ index_of ts 0
+    → HasType z i t → IsUtOffset t.offset → ArePieces z ts 0 1 (Once i) (piece (cut_of ts 1 t.offset) Less ∷ [])
 first_pieces z ts top i t table own n is has offset =
     let b : ℤ = cut_of ts 1 t.offset in
     record {
@@ -187,7 +220,8 @@ first_pieces z ts top i t table own n is has offset =
     }
 
 -- the last segment, which has no end
-pub last_pieces : (z : Zone) (ts : List Transition) (top k i : ℕ) (t : LocalType) → IsTable z ts top → k < top → 0 < k → k ≡ length ts → i ≡ index_of ts k → HasType z i t → IsUtOffset t.offset → ArePieces z ts k (suc k) (Skipped k) (piece (cut_of ts k t.offset) (Once i) ∷ [])
+pub last_pieces : (z : Zone) (ts : List Transition) (top k i : ℕ) (t : LocalType) → IsTable z ts top → k < top → 0 < k → k ≡ length ts → i ≡ index_of ts k
+    → HasType z i t → IsUtOffset t.offset → ArePieces z ts k (suc k) (Skipped k) (piece (cut_of ts k t.offset) (Once i) ∷ [])
 last_pieces z ts top zero i t table own later n is has offset = absurd (omega arith)
 last_pieces z ts top (suc k) i t table own later n is has offset =
     let a : ℤ = cut_of ts (suc k) t.offset in
@@ -201,7 +235,8 @@ last_pieces z ts top (suc k) i t table own later n is has offset =
     }
 
 -- a segment between two entries
-pub inner_pieces : (z : Zone) (ts : List Transition) (top k i : ℕ) (t : LocalType) → IsTable z ts top → k < top → 0 < k → k < length ts → i ≡ index_of ts k → HasType z i t → IsUtOffset t.offset
+pub inner_pieces : (z : Zone) (ts : List Transition) (top k i : ℕ) (t : LocalType) → IsTable z ts top → k < top → 0 < k → k < length ts → i ≡ index_of ts k
+    → HasType z i t → IsUtOffset t.offset
     → ArePieces z ts k (suc k) (Skipped k) (piece (cut_of ts k t.offset) (Once i) ∷ piece (cut_of ts (suc k) t.offset) Less ∷ [])
 inner_pieces z ts top zero i t table own later n is has offset = absurd (omega arith)
 inner_pieces z ts top (suc k) i t table own later n is has offset =
@@ -214,7 +249,8 @@ inner_pieces z ts top (suc k) i t table own later n is has offset =
       most = grind (arith, nat_tests);
       some = λ e. omega arith;
       answers = λ l wide. by_lt_z l a
-          (λ before. rw (le_false a l before, le_false b l (omega (arith, ints))) (shown_before z ts top (suc k) l t table own later (rw is at has) offset wide before))
+          (λ before. rw (le_false a l before, le_false b l (omega (arith, ints)))
+          (shown_before z ts top (suc k) l t table own later (rw is at has) offset wide before))
           (λ from. by_lt_z l b
           (λ until. rw (le_true a l from, le_false b l until) (shown_inside z ts top (suc k) l i t table own is has offset wide (λ h w. from) (λ h. until)))
           (λ behind. rw (le_true a l from, le_true b l behind) (shown_behind z ts top (suc k) l t table own n (rw is at has) offset wide behind)));
@@ -222,29 +258,42 @@ inner_pieces z ts top (suc k) i t table own later n is has offset =
 
 -- ---- the types of indexes
 
-pub indexes_below : (z : Zone) (ts : List Transition) (low high : ℕ) (l : ℤ) (a : LocalResult ℕ) → IsWallAnswer (ListedAmong z ts low high l) a → AreBelow (length z.types) a
+pub indexes_below : (z : Zone) (ts : List Transition) (low high : ℕ) (l : ℤ) (a : LocalResult ℕ)
+    → IsWallAnswer (ListedAmong z ts low high l) a → AreBelow (length z.types) a
 indexes_below z ts low high l None h = tt
 indexes_below z ts low high l (Single i) h = slice_get_within z.types i h.shown.local_type h.shown.listed
-indexes_below z ts low high l (Ambiguous i j) h = (slice_get_within z.types i h.at_first.local_type h.at_first.listed, slice_get_within z.types j h.at_last.local_type h.at_last.listed)
+indexes_below z ts low high l (Ambiguous i j) h =
+    (slice_get_within z.types i h.at_first.local_type h.at_first.listed, slice_get_within z.types j h.at_last.local_type h.at_last.listed)
 
 -- each second of the table has a listed type
 abbrev SameTable : Zone → List Transition → ℕ → Type 0
 SameTable z ts top = (u : ℤ) (t : LocalType) → SFits w64 u → TypeAt z u t → (segment_of z u < table_count z) ↔ (place_at ts u < top)
 
-listed_of : (z : Zone) (ts : List Transition) (top : ℕ) (l u : ℤ) (t : LocalType) → IsTable z ts top → SameTable z ts top → ShownAmong z 0 (table_count z) l u t → (i : ℕ) × ListedAmong z ts 0 top l u i
+listed_of : (z : Zone) (ts : List Transition) (top : ℕ) (l u : ℤ) (t : LocalType) → IsTable z ts top → SameTable z ts top → ShownAmong z 0 (table_count z) l u t
+    → (i : ℕ) × ListedAmong z ts 0 top l u i
 listed_of z ts top l u t table same a =
-    let below = (same u t a.shows.fits a.shows.type).0 a.below in
-    (index_of ts (place_at ts u), record { local_type = t; shows = a.shows; from = omega arith; below = below; listed = table.listed u t a.shows.fits below a.shows.type })
+    let below = (same u t a.shows.fits a.shows.type).0 a.below in (
+      index_of ts (place_at ts u),
+      record { local_type = t; shows = a.shows; from = omega arith; below = below; listed = table.listed u t a.shows.fits below a.shows.type },
+    )
 
-with_type : (z : Zone) (ts : List Transition) (top : ℕ) (l u : ℤ) (i : ℕ) (t : LocalType) → SameTable z ts top → ListedAmong z ts 0 top l u i → HasType z i t → ShownAmong z 0 (table_count z) l u t
+with_type : (z : Zone) (ts : List Transition) (top : ℕ) (l u : ℤ) (i : ℕ) (t : LocalType) → SameTable z ts top → ListedAmong z ts 0 top l u i → HasType z i t
+    → ShownAmong z 0 (table_count z) l u t
 with_type z ts top l u i t same a has =
     let e = listed_once z i a.local_type t a.listed has in
     let shows = subst (λ (y : LocalType). Shows (TypeAt z) l u y) e a.shows in
     record { shows = shows; from = omega arith; below = (same u t shows.fits shows.type).1 a.below }
 
-pub typed_answer : (z : Zone) (ts : List Transition) (top : ℕ) (l : ℤ) (a : LocalResult ℕ) (b : LocalResult LocalType) → IsTable z ts top → SameTable z ts top → AreListed z.types a b → IsWallAnswer (ListedAmong z ts 0 top l) a → IsWallAnswer (ShownAmong z 0 (table_count z) l) b
+pub typed_answer : (z : Zone) (ts : List Transition) (top : ℕ) (l : ℤ) (a : LocalResult ℕ) (b : LocalResult LocalType) → IsTable z ts top → SameTable z ts top
+    → AreListed z.types a b → IsWallAnswer (ListedAmong z ts 0 top l) a → IsWallAnswer (ShownAmong z 0 (table_count z) l) b
 typed_answer z ts top l None None table same e h = λ u t k. let i = listed_of z ts top l u t table same k in h u i.0 i.1
-typed_answer z ts top l (Single i) (Single t) table same e h = record { second = h.second; shown = with_type z ts top l h.second i t same h.shown e; only = λ u s k. let j = listed_of z ts top l u s table same k in h.only u j.0 j.1 }
+typed_answer z ts top l (Single i) (Single t) table same e h =
+    record {
+      second = h.second;
+      shown = with_type z ts top l h.second i t same h.shown e;
+      only = λ u s k. let j = listed_of z ts top l u s table same k in
+          h.only u j.0 j.1;
+    }
 typed_answer z ts top l (Ambiguous i j) (Ambiguous s t) table same e h = record {
   first = h.first;
   last = h.last;
@@ -259,19 +308,24 @@ typed_answer z ts top l _ _ table same e h = absurd e
 -- ---- the table, and what comes after it
 
 -- the first segments that are all of them
-pub all_segments : (z : Zone) (l : ℤ) (answer : LocalResult LocalType) → AreRising z.transitions → IsWallAnswer (IsShownIn z l (length z.transitions + 1)) answer → IsWallAnswer (Shows (TypeAt z) l) answer
-all_segments z l answer r = same_answer (IsShownIn z l (length z.transitions + 1)) (Shows (TypeAt z) l) answer (λ u t k. k.shows) (λ u t k. record { shows = k; from = omega arith; below = let m = segment_most z u r in omega arith })
+pub all_segments : (z : Zone) (l : ℤ) (answer : LocalResult LocalType) → AreRising z.transitions
+    → IsWallAnswer (IsShownIn z l (length z.transitions + 1)) answer → IsWallAnswer (Shows (TypeAt z) l) answer
+all_segments z l answer r = same_answer (IsShownIn z l (length z.transitions + 1)) (Shows (TypeAt z) l) answer (λ u t k. k.shows)
+    (λ u t k. record { shows = k; from = omega arith; below = let m = segment_most z u r in omega arith })
 
 -- without a rule the table has all seconds
-pub table_alone : (z : Zone) (l : ℤ) (a : LocalResult LocalType) → IsValid z → z.rule ≡ none → IsWallAnswer (ShownAmong z 0 (table_count z) l) a → IsWallAnswer (Shows (TypeAt z) l) a
+pub table_alone : (z : Zone) (l : ℤ) (a : LocalResult LocalType) → IsValid z → z.rule ≡ none → IsWallAnswer (ShownAmong z 0 (table_count z) l) a
+    → IsWallAnswer (Shows (TypeAt z) l) a
 table_alone z l a valid e h = let r : table_count z ≡ length z.transitions + 1 = rw e (omega arith) in all_segments z l a valid.transitions.rising (rw r at h)
 
 -- with one, those before the last transition
-pub table_first : (z : Zone) (rule : TransitionRule) (l : ℤ) (a : LocalResult LocalType) → z.rule ≡ some rule → IsWallAnswer (ShownAmong z 0 (table_count z) l) a → IsWallAnswer (IsShownIn z l (length z.transitions)) a
+pub table_first : (z : Zone) (rule : TransitionRule) (l : ℤ) (a : LocalResult LocalType) → z.rule ≡ some rule
+    → IsWallAnswer (ShownAmong z 0 (table_count z) l) a → IsWallAnswer (IsShownIn z l (length z.transitions)) a
 table_first z rule l a e h = let r : table_count z ≡ length z.transitions = rw e refl in rw r at h
 
 -- and the others come from the rule's beginning on
-pub rule_begun : (z : Zone) (u s : ℤ) → IsValid z → IsNear u → IsStart z.transitions z.leaps (length z.transitions) s → (segment_of z u ≡ length z.transitions) ↔ (s ≤ℤ u)
+pub rule_begun : (z : Zone) (u s : ℤ) → IsValid z → IsNear u → IsStart z.transitions z.leaps (length z.transitions) s
+    → (segment_of z u ≡ length z.transitions) ↔ (s ≤ℤ u)
 rule_begun z u s valid near start =
     let most = segment_most z u valid.transitions.rising in
     let b = begun z (length z.transitions) s u valid start near in

@@ -14,16 +14,21 @@ abbrev Before : (ℤ → LocalType → Type 0) → ℤ → ℤ → LocalType →
 Before p end u t = p u t × (u <ℤ end)
 
 -- where p takes no second before the start, those before each later end have an answer
-answer_before : (p : ℤ → LocalType → Type 0) → IsDecided p → (start : ℤ) → ((u : ℤ) (t : LocalType) → p u t → start ≤ℤ u) → (n : ℕ) → (answer : LocalResult LocalType) × IsWallAnswer (Before p (start +ℤ pos n)) answer
+answer_before : (p : ℤ → LocalType → Type 0) → IsDecided p → (start : ℤ) → ((u : ℤ) (t : LocalType) → p u t → start ≤ℤ u) → (n : ℕ)
+    → (answer : LocalResult LocalType) × IsWallAnswer (Before p (start +ℤ pos n)) answer
 answer_before p decided start none zero = (None, λ u t h. let l = none u t h.0 in let r = h.1 in absurd (omega (arith, ints, l, r)))
 answer_before p decided start none (suc n) =
     let earlier = answer_before p decided start none n in
     let last = start +ℤ pos n in
     let end = start +ℤ pos (suc n) in
     let old : (u : ℤ) (t : LocalType) → Before p last u t → Before p end u t = λ u t h. let r = h.1 in (h.0, omega (arith, ints, r)) in
-    let only : (u : ℤ) (t : LocalType) → Before p end u t → Before p last u t ⊎ (u ≡ last) = λ u t h. let r = h.1 in by_lt_z u last (λ less. inl (h.0, less)) (λ more. inr (omega (arith, ints, r, more))) in
+    let only : (u : ℤ) (t : LocalType) → Before p end u t → Before p last u t ⊎ (u ≡ last) = λ u t h. let r = h.1 in
+    by_lt_z u last (λ less. inl (h.0, less)) (λ more. inr (omega (arith, ints, r, more))) in
     elim (decided last) [
-      | inl found ↦ (joined earlier.0 (Single found.0), behind_answer (Before p last) (Before p end) last found.0 earlier.0 old only (found.1, omega (arith, ints)) (λ u f h. h.1) earlier.1)
+      | inl found ↦ (
+        joined earlier.0 (Single found.0),
+        behind_answer (Before p last) (Before p end) last found.0 earlier.0 old only (found.1, omega (arith, ints)) (λ u f h. h.1) earlier.1,
+      )
       | inr missing ↦ (
         earlier.0,
         same_answer (Before p last) (Before p end) earlier.0 old (λ u t h. elim (only u t h) [
@@ -38,7 +43,8 @@ shown_or_not : (z : Zone) (local : ℤ) → IsValid z → IsRuleOrNone z.rule �
 shown_or_not z local valid rule u = elim (type_decided z u valid rule) [
   | inl found ↦ elim (both_known (fits_or_not u) (equal_known (u +ℤ found.0.offset) local)) [
     | inl shown ↦ inl (found.0, record { fits = shown.0; type = found.1; shown = shown.1 })
-    | inr other ↦ inr (λ t h. let same = type_once z u t found.0 h.type found.1 in other (h.fits, subst (λ (f : LocalType). u +ℤ f.offset ≡ local) same h.shown))
+    | inr other ↦ inr (λ t h. let same = type_once z u t found.0 h.type found.1 in
+        other (h.fits, subst (λ (f : LocalType). u +ℤ f.offset ≡ local) same h.shown))
   ]
   | inr refused ↦ inr (λ t h. type_not_refused z u t h.type refused)
 ]

@@ -5,7 +5,8 @@ pub use Rattle.std.proofs.Math.ListN.{get_or-eq_default}
 pub use Rattle.std.proofs.Math.Seq.{take-append_seam, take-suc}
 pub use Rattle.std.proofs.lemmas.Bool.{and_parts, false≢true, not-false, true≢false}
 pub use Rattle.std.proofs.lemmas.Bool.Decides.{Decides-and, Decides-eqb, Decides-int_eq, Decides-ltb, Decides-or}
-pub use Rattle.std.proofs.lemmas.List.{append-nil, drop-drop, get_or-map, get_or_append_left, get_or_default, get_or_push, length-drop, length_push, nil_from_length, take-append-drop}
+pub use Rattle.std.proofs.lemmas.List.{append-nil, drop-drop, get_or-map, get_or_append_left, get_or_default, get_or_push, length-drop, length_push}
+pub use Rattle.std.proofs.lemmas.List.{nil_from_length, take-append-drop}
 pub use Rattle.std.proofs.lemmas.List.{take_all, take_more}
 pub use Rattle.std.proofs.lemmas.List.Elements.{All-append, All-contains, All-push, Contains-append_left, Contains-append_right, Contains-get_or, Contains-push}
 pub use Rattle.std.proofs.lemmas.List.Elements.{Contains-push_cases}
@@ -62,7 +63,8 @@ pub use Rattle.tz_info.proofs.SearchSteps.{first_come, times_ordered}
 pub use Rattle.tz_info.proofs.SearchWords.{AreOrdered, ArePassed, Bool, Counts, IsLastOf, List, SFits, add-suc, add-zero, ap, arith, cases_lt, cond, count_by}
 pub use Rattle.tz_info.proofs.SearchWords.{cases_eq, drop, false, filter, get_or, get_or-set_at, get_or-set_other, length-set, set, inl, inr, int_le}
 pub use Rattle.tz_info.proofs.SearchWords.{int_lt, ints, length, length-map, map, negsuc, option_map, pos, refl}
-pub use Rattle.tz_info.proofs.SearchWords.{rules, slice_index, suc, sum_by-cons, sym, take, to_z-of_z, true, w64, zero, ℕ, ℤ, [], ◌*◌, ◌+ℤ◌, ◌+◌, ◌-ℤ◌, ◌-◌, ◌/◌}
+pub use Rattle.tz_info.proofs.SearchWords.{rules, slice_index, suc, sum_by-cons, sym, take, to_z-of_z, true, w64, zero, ℕ, ℤ, [], ◌*◌, ◌+ℤ◌, ◌+◌, ◌-ℤ◌, ◌-◌}
+pub use Rattle.tz_info.proofs.SearchWords.{◌/◌}
 pub use Rattle.tz_info.proofs.SearchWords.{◌<ℤ◌, ◌<◌, ◌∙◌, ◌∷◌, ◌≡◌, ◌≢◌, ◌≤ℤ◌, ◌≤◌, ◌⊎◌}
 unfoldable pub use Rattle.tz_info.proofs.SearchWords.{digits}
 pub use Rattle.tz_info.specs.Counts.{RoseWithin, reads_more}
@@ -155,8 +157,10 @@ pub use Rattle.tz_info.specs.TzGrammar.{IsTextFault, IsTzText, is_letter, is_not
 unfoldable pub use Rattle.tz_info.specs.TzGrammar.{alternate, date, day, days, dst_offset, duration, end, fixed, given_offset, julian_date, month_date, named}
 unfoldable pub use Rattle.tz_info.specs.TzGrammar.{next_hour, offset, optional_time, rule, text, time}
 pub use Rattle.tz_info.specs.WallClocks.{AreShown, IsAmongShown, Shows}
-pub use Rattle.tz_info.specs.Steps.WallPieces.{AreInOrder, AreLessAmong, IsBegun, IsBegunNear, IsIndex, IsShownAmong, IsSideAmong, IsStart, IsTable, IsTableAnswer}
-pub use Rattle.tz_info.specs.Steps.WallPieces.{IsTableLess, Jumps, ListedAmong, ShownAmong, WallIndex, answer_at, answer_before, place_at, shown_indexes, top_of}
+pub use Rattle.tz_info.specs.Steps.WallPieces.{AreInOrder, AreLessAmong, IsBegun, IsBegunNear, IsIndex, IsShownAmong, IsSideAmong, IsStart, IsTable}
+pub use Rattle.tz_info.specs.Steps.WallPieces.{IsTableAnswer}
+pub use Rattle.tz_info.specs.Steps.WallPieces.{IsTableLess, Jumps, ListedAmong, ShownAmong, WallIndex, answer_at, answer_before, place_at, shown_indexes}
+pub use Rattle.tz_info.specs.Steps.WallPieces.{top_of}
 pub use Rattle.tz_info.specs.Windows.{IsGreatest, IsLeast, IsWindow, IsWindowCount, come_between, offsets, rule_offsets}
 pub use Rattle.tz_info.specs.ZoneEquality.{zone_eq}
 pub use Rattle.tz_info.specs.Zones.{Agrees, HasType, IsBeforeLast, IsFromLast, IsRefusedBy, IsRuleOrNone, IsTypeError, IsTypeOf, IsTypeRefused, IsValid}

@@ -39,7 +39,8 @@ pub time_of : (z : Zone) (u : ℤ) (t : LocalType) → 0 < length z.transitions 
 time_of z u t some h = h.of_second some
 
 -- a change comes from one segment to a later one, if one type is in force in the segment
-changes_segment : (z : Zone) (d : Change) → IsValid z → IsChange (TypeAt z) d → HasOneType z (segment_of z (d.at -ℤ pos 1)) → segment_of z (d.at -ℤ pos 1) < segment_of z d.at
+changes_segment : (z : Zone) (d : Change) → IsValid z → IsChange (TypeAt z) d → HasOneType z (segment_of z (d.at -ℤ pos 1))
+    → segment_of z (d.at -ℤ pos 1) < segment_of z d.at
 changes_segment z d valid is one = elim (cases_lt (segment_of z (d.at -ℤ pos 1)) (segment_of z d.at)) [
   | inl l ↦ l
   | inr m ↦
@@ -56,16 +57,19 @@ pub steady : (z : Zone) (within : ℤ → Type 0) → IsValid z → ((a : Altern
     → HasNoChange (TypeAt z) (IsChangeByRule z within)
 steady z within valid not d is inside = grind (arith, changes_segment, segment_most)
 
-pub to_rule : (z : Zone) (a : AlternateRule) (u : ℤ) (t : LocalType) → IsValid z → z.rule ≡ Some (Alternate a) → segment_of z u ≡ length z.transitions → TypeAt z u t → AlternateAt a u t
+pub to_rule : (z : Zone) (a : AlternateRule) (u : ℤ) (t : LocalType) → IsValid z → z.rule ≡ Some (Alternate a) → segment_of z u ≡ length z.transitions
+    → TypeAt z u t → AlternateAt a u t
 to_rule z a u t valid rule e k = rw rule at (type_from z u t valid.transitions.rising (record { type = k; segment = e }))
 
 of_rule_or : (z : Zone) (a : AlternateRule) (u : ℤ) (i : ℕ) (t : LocalType) → z.rule ≡ Some (Alternate a) → AlternateAt a u t → RuleOrType z u i t
 of_rule_or z a u i t rule k = rw rule k
 
-by_rule_alone : (z : Zone) (a : AlternateRule) (u : ℤ) (t : LocalType) → z.rule ≡ Some (Alternate a) → length z.transitions ≡ 0 → AlternateAt a u t → TypeAt z u t
+by_rule_alone : (z : Zone) (a : AlternateRule) (u : ℤ) (t : LocalType) → z.rule ≡ Some (Alternate a) → length z.transitions ≡ 0
+    → AlternateAt a u t → TypeAt z u t
 by_rule_alone z a u t rule none k = grind arith
 
-pub from_rule : (z : Zone) (a : AlternateRule) (u : ℤ) (t : LocalType) → IsValid z → z.rule ≡ Some (Alternate a) → segment_of z u ≡ length z.transitions → AlternateAt a u t → TypeAt z u t
+pub from_rule : (z : Zone) (a : AlternateRule) (u : ℤ) (t : LocalType) → IsValid z → z.rule ≡ Some (Alternate a) → segment_of z u ≡ length z.transitions
+    → AlternateAt a u t → TypeAt z u t
 from_rule z a u t valid rule e k = elim (cases_lt 0 (length z.transitions)) [
   | inl some ↦
       let x = rule_leap_time z.leaps u valid.leaps (rule_second a u t k) in
@@ -120,7 +124,8 @@ rule_found z a w s begin found valid rule h =
     (λ d is inside. let k = (by_rule z a begin d valid rule h).1 (is, inside.0) in (k.0, record { inside = inside.1; by_rule = k.1 }))
 
 -- if none of those seconds comes after `begin`, no change comes at one after the last transition
-pub none_begun : (z : Zone) (within : ℤ → Type 0) (begin : ℤ) → IsValid z → IsBegin z begin → ((u : ℤ) → SFits w64 u → within u → u ≤ℤ begin) → HasNoChange (TypeAt z) (IsChangeByRule z within)
+pub none_begun : (z : Zone) (within : ℤ → Type 0) (begin : ℤ) → IsValid z → IsBegin z begin → ((u : ℤ) → SFits w64 u → within u → u ≤ℤ begin)
+    → HasNoChange (TypeAt z) (IsChangeByRule z within)
 none_begun z within begin valid h most d is inside =
     let b = begun z begin (d.at -ℤ pos 1) d.before valid h is.fits_before is.before inside.by_rule in grind arith
 
@@ -134,14 +139,16 @@ table_sooner z within u v valid t r =
     let k = later_segment z (u -ℤ pos 1) (v -ℤ pos 1) valid (omega arith) in
     omega (arith, ints)
 
-pub table_first : (z : Zone) (within : ℤ → Type 0) (c : Change) → IsValid z → IsFirstChange (TypeAt z) (IsInTable z within) c → IsFirstChange (TypeAt z) within c
+pub table_first : (z : Zone) (within : ℤ → Type 0) (c : Change) → IsValid z → IsFirstChange (TypeAt z) (IsInTable z within) c
+    → IsFirstChange (TypeAt z) within c
 table_first z within c valid h = record {
   is = h.is;
   inside = h.inside.inside;
   nearest = λ d is inside. elim (in_either z within d.at valid inside) [ inl t ↦ h.nearest d is t | inr r ↦ table_sooner z within c.at d.at valid h.inside r ];
 }
 
-pub rule_first : (z : Zone) (within : ℤ → Type 0) (found : Option Change) → IsValid z → HasNoChange (TypeAt z) (IsInTable z within) → IsFirst (TypeAt z) (IsChangeByRule z within) found → IsFirst (TypeAt z) within found
+pub rule_first : (z : Zone) (within : ℤ → Type 0) (found : Option Change) → IsValid z → HasNoChange (TypeAt z) (IsInTable z within)
+    → IsFirst (TypeAt z) (IsChangeByRule z within) found → IsFirst (TypeAt z) within found
 rule_first z within found valid none =
     nearest_moved true (TypeAt z) (TypeAt z) (IsChangeByRule z within) within found
     (λ d is inside. elim (in_either z within d.at valid inside) [ inl t ↦ absurd (none d is t) | inr r ↦ (is, r) ])
@@ -156,14 +163,16 @@ rule_is_last z within c valid h = record {
   nearest = λ d is inside. elim (in_either z within d.at valid inside) [ inl t ↦ table_sooner z within d.at c.at valid t h.inside | inr r ↦ h.nearest d is r ];
 }
 
-pub table_is_last : (z : Zone) (within : ℤ → Type 0) (found : Option Change) → IsValid z → HasNoChange (TypeAt z) (IsChangeByRule z within) → IsLast (TypeAt z) (IsInTable z within) found → IsLast (TypeAt z) within found
+pub table_is_last : (z : Zone) (within : ℤ → Type 0) (found : Option Change) → IsValid z → HasNoChange (TypeAt z) (IsChangeByRule z within)
+    → IsLast (TypeAt z) (IsInTable z within) found → IsLast (TypeAt z) within found
 table_is_last z within found valid none =
     nearest_moved false (TypeAt z) (TypeAt z) (IsInTable z within) within found
     (λ d is inside. elim (in_either z within d.at valid inside) [ inl t ↦ (is, t) | inr r ↦ absurd (none d is r) ])
     (λ d is inside. (is, inside.inside))
 
 -- ---- the first second at which a leap time has come
-pub reached_exactly : (es : List LeapSecond) (x u y p q : ℤ) (n : ℕ) (d : LeapSecond) → AreLeapSeconds es → HaveCome es x n → 0 < n → p ≡ correction_behind es (n - 1) → q ≡ correction_behind es n
+pub reached_exactly : (es : List LeapSecond) (x u y p q : ℤ) (n : ℕ) (d : LeapSecond) → AreLeapSeconds es → HaveCome es x n → 0 < n
+    → p ≡ correction_behind es (n - 1) → q ≡ correction_behind es n
     → IsLeapTime es u y → (x ≤ℤ y) ↔ ((((get_or es (n - 1) d).unix_leap_time -ℤ p) ≤ℤ u) × ((x -ℤ q) ≤ℤ u))
 reached_exactly es x u y p q zero d valid h some e f l = absurd (omega arith)
 reached_exactly es x u y p q (suc m) d valid h some e f l =

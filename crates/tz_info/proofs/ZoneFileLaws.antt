@@ -23,6 +23,7 @@ made_fault bytes lists (Ok y) f m = tt
 made_fault bytes lists (Err e) f (inl m) = In_file e (Not_valid lists e f m.0)
 made_fault bytes lists (Err e) f (inr m) = rw m.0 (No_memory f.0 f.1)
 
-pub made_memory : (bytes : List ℕ) (lists : Zone) (r : Result TimeZone Error) → IsTzFile bytes lists → IfErr r (λ e. e ≡ OutOfMemory → (p : FilePieces) × HasPieces bytes p)
+pub made_memory : (bytes : List ℕ) (lists : Zone) (r : Result TimeZone Error) → IsTzFile bytes lists
+    → IfErr r (λ e. e ≡ OutOfMemory → (p : FilePieces) × HasPieces bytes p)
 made_memory bytes lists (Ok y) f = tt
 made_memory bytes lists (Err e) f = λ m. (f.0, f.1)

@@ -9,19 +9,27 @@ use Rattle.std.proofs.lemmas.Option.{slice_get_cases, slice_get_within}
 use Rattle.tz_info.proofs.{RuleLaws.{rule_decided, rule_once}, SegmentLaws.{passed_here}}
 
 passed_at_most : (z : Zone) (x : ℤ) → length (passed z.transitions x) ≤ length z.transitions
-passed_at_most z x = omega (arith, length-filter (λ (t : Transition). int_le t.unix_leap_time x) z.transitions, count_by-le-length (λ (t : Transition). int_le t.unix_leap_time x) z.transitions)
+passed_at_most z x =
+    omega (
+      arith,
+      length-filter (λ (t : Transition). int_le t.unix_leap_time x) z.transitions,
+      count_by-le-length (λ (t : Transition). int_le t.unix_leap_time x) z.transitions,
+    )
 
 pub before_or_from_last : (z : Zone) (x : ℤ) → IsBeforeLast z x ⊎ IsFromLast z x
-before_or_from_last z x = let l = passed_at_most z x in ⊎_elim (λ h. inl h) (λ h. inr (omega arith)) (cases_lt (length (passed z.transitions x)) (length z.transitions))
+before_or_from_last z x = let l = passed_at_most z x in
+    ⊎_elim (λ h. inl h) (λ h. inr (omega arith)) (cases_lt (length (passed z.transitions x)) (length z.transitions))
 
 -- two leap times of a second pass the same transitions
-pub same_passed : (z : Zone) (u x y : ℤ) → (0 < length z.transitions → IsLeapTime z.leaps u x) → (0 < length z.transitions → IsLeapTime z.leaps u y) → passed z.transitions x ≡ passed z.transitions y
+pub same_passed : (z : Zone) (u x y : ℤ) → (0 < length z.transitions → IsLeapTime z.leaps u x) → (0 < length z.transitions → IsLeapTime z.leaps u y)
+    → passed z.transitions x ≡ passed z.transitions y
 same_passed z u x y a b = passed_here z u x a ∙ sym (passed_here z u y b)
 
 pub some_once : (o : Option LocalType) (s t : LocalType) → o ≡ Some s → o ≡ Some t → s ≡ t
 some_once o s t h k = cc
 
-or_else_once : (rule : Option TransitionRule) (o : Option LocalType) (u : ℤ) (s t : LocalType) → RuleOrElse rule u (o ≡ Some s) s → RuleOrElse rule u (o ≡ Some t) t → s ≡ t
+or_else_once : (rule : Option TransitionRule) (o : Option LocalType) (u : ℤ) (s t : LocalType) → RuleOrElse rule u (o ≡ Some s) s
+    → RuleOrElse rule u (o ≡ Some t) t → s ≡ t
 or_else_once (Some rule) o u s t h k = rule_once rule u s t h k
 or_else_once None o u s t h k = some_once o s t h k
 
@@ -36,7 +44,8 @@ type_not_refused z u t a (by_rule x of_second last refused) = grind (arith, same
 pub inside_listed : {X : Type 0} (xs : List X) (i : ℕ) → i < length xs → (x : X) × (slice_get xs i ≡ Some x)
 inside_listed xs i h = ⊎_elim (λ found. (found.0, found.2)) (λ past. let beyond = past.0 in absurd (omega arith)) (slice_get_cases xs i).1
 
-or_else_listed : (rule : Option TransitionRule) (z : Zone) (u : ℤ) (i : ℕ) (t : LocalType) → RuleOrElse rule u (HasType z i t) t → ((k : ℕ) × (k < length z.types) × HasType z k t) ⊎ IsTypeOf rule u t
+or_else_listed : (rule : Option TransitionRule) (z : Zone) (u : ℤ) (i : ℕ) (t : LocalType) → RuleOrElse rule u (HasType z i t) t
+    → ((k : ℕ) × (k < length z.types) × HasType z k t) ⊎ IsTypeOf rule u t
 or_else_listed (Some rule) z u i t h = inr h
 or_else_listed None z u i t h = inl (i, slice_get_within z.types i t h, h)
 
@@ -68,17 +77,20 @@ leap_time_decided leaps u = elim (all_fit_or_not (λ k. u +ℤ get_or (correctio
 ]
 
 -- the last of the passed transitions names a type
-pub last_index_below : (ts : List Transition) (x : ℤ) (d n : ℕ) → d < n → ((k : ℕ) (e : Transition) → k < length ts → (get_or ts k e).type_index < n) → last_else d (map (λ t. t.type_index) (passed ts x)) < n
+pub last_index_below : (ts : List Transition) (x : ℤ) (d n : ℕ) → d < n → ((k : ℕ) (e : Transition) → k < length ts → (get_or ts k e).type_index < n)
+    → last_else d (map (λ t. t.type_index) (passed ts x)) < n
 last_index_below [] x d n h all = h
 last_index_below (t ∷ ts) x d n h all = by_lt_z x t.unix_leap_time
     (λ later. rw (le_false t.unix_leap_time x later) (last_index_below ts x d n h (λ k e l. all (suc k) e (omega arith))))
     (λ come. rw (le_true t.unix_leap_time x come) (last_index_below ts x t.type_index n (all 0 t (omega arith)) (λ k e l. all (suc k) e (omega arith))))
 
-or_else_decided : (rule : Option TransitionRule) (z : Zone) (u : ℤ) (i : ℕ) → i < length z.types → IsRuleOrNone rule → ((t : LocalType) × RuleOrElse rule u (HasType z i t) t) ⊎ IsRefusedBy rule u
+or_else_decided : (rule : Option TransitionRule) (z : Zone) (u : ℤ) (i : ℕ) → i < length z.types → IsRuleOrNone rule
+    → ((t : LocalType) × RuleOrElse rule u (HasType z i t) t) ⊎ IsRefusedBy rule u
 or_else_decided (Some rule) z u i h limits = rule_decided rule u limits
 or_else_decided None z u i h limits = inl (inside_listed z.types i h)
 
-decided_at : (z : Zone) (u x : ℤ) → IsValid z → IsRuleOrNone z.rule → (0 < length z.transitions → IsLeapTime z.leaps u x) → ((t : LocalType) × TypeAt z u t) ⊎ IsTypeRefused z u
+decided_at : (z : Zone) (u x : ℤ) → IsValid z → IsRuleOrNone z.rule → (0 < length z.transitions → IsLeapTime z.leaps u x)
+    → ((t : LocalType) × TypeAt z u t) ⊎ IsTypeRefused z u
 decided_at z u x valid limits of_second =
     let below = last_index_below z.transitions x 0 (length z.types) valid.some valid.transitions.indexes in
     elim (before_or_from_last z x) [
@@ -86,7 +98,8 @@ decided_at z u x valid limits of_second =
           let t = inside_listed z.types (index_at z x) below in
           inl (t.0, record { leap_time = x; of_second = of_second; in_force = record { before_last = λ _. t.1; from_last = λ l. absurd (omega arith) } })
       | inr last ↦ elim (or_else_decided z.rule z u (index_at z x) below limits) [
-        | inl t ↦ inl (t.0, record { leap_time = x; of_second = of_second; in_force = record { before_last = λ l. absurd (omega arith); from_last = λ _. t.1 } })
+        | inl t ↦ inl
+            (t.0, record { leap_time = x; of_second = of_second; in_force = record { before_last = λ l. absurd (omega arith); from_last = λ _. t.1 } })
         | inr refused ↦ inr (by_rule x of_second last refused)
       ]
     ]

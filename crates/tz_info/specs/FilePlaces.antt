@@ -32,7 +32,7 @@ abbrev pub HoldsOfNone : (ℕ → Type 0) → ℕ → Type 0
 HoldsOfNone P n = (k : ℕ) → k < n → ¬ (P k)
 
 -- ---- the parts of the last data block
--- the footer, which is no bytes if there is none
+-- the bytes of the footer: none without a footer
 abbrev pub footer_bytes : Option (List ℕ) → List ℕ
 footer_bytes (Some footer) = footer
 footer_bytes None = []
@@ -144,4 +144,5 @@ pub data IsContentPlace (p : FilePieces) (q : PartPlaces) : ℕ → Type 0 where
 -- of a file with a fault: the position of the piece that is missing or has a fault; else that in what the pieces say
 pub data IsFilePlace (bytes : List ℕ) : ℕ → Type 0 where
   In_piece : (e : Error) → PieceFault bytes e → IsFilePlace bytes (fault_position file bytes)
-  In_contents : (p : FilePieces) (q : PartPlaces) (n : ℕ) → HasPieces bytes p → ArePartPlaces p q → q.end ≡ length bytes → IsContentPlace p q n → IsFilePlace bytes n
+  In_contents : (p : FilePieces) (q : PartPlaces) (n : ℕ) → HasPieces bytes p → ArePartPlaces p q → q.end ≡ length bytes
+      → IsContentPlace p q n → IsFilePlace bytes n

@@ -46,7 +46,7 @@ pub record IsPosixFault (text : List ℕ) (e : Error) : Type 0 where
 abbrev pub IsExtendedZone : List ℕ → Zone → Type 0
 IsExtendedZone text z = (rule : TransitionRule) × IsTzText true text rule × (z ≡ posix_zone rule)
 
--- ---- where a fault is, as the number of bytes in front of it
+-- ---- the place of a fault, as the number of bytes in front of it
 -- the error is at such a place, or says that memory ran out and is at none
 abbrev pub IsPlaced : (ℕ → Type 0) → ParseError → Type 0
 IsPlaced IsPlace e = MatchOption e.position (IsOutOfMemory e.error) (λ place. ¬ (IsOutOfMemory e.error) × IsPlace place)

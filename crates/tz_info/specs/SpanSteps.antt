@@ -24,7 +24,7 @@ end_of s = unwrap_or s.until (pos 9_223_372_036_854_775_808)
 abbrev pub begin_of : Span → ℤ
 begin_of s = unwrap_or s.from least_time
 
--- a step over the span after the place, to its end; there is none if the second there lies in no span
+-- a step over the span after the place, to its end; no step if the second there lies in no span
 pub record IsNextSpan (before : SpanPlace) (found : Option Span) (after : SpanPlace) : Type 0 where
   pub zone : after.zone ≡ before.zone
   pub span : IsSpanIfAny (TypeAt before.zone) before.at found

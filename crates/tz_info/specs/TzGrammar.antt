@@ -8,7 +8,8 @@ use Rattle.std.proofs.lemmas.Int.{ints}
 use Rattle.tz_base.specs.Names.{IsName, name_test, expected_of_name}
 use Rattle.tz_base.specs.Tests.{Test}
 use Rattle.tz_base.specs.LocalTypes.{LocalType}
-use Rattle.tz_base.specs.Grammar.{Grammar, Nothing, Marked, Optional, Ended, End, Byte, Run, Number, Check, Here, At, ◌>>=◌, ◌>>◌, Spells, HasFault, fault_position}
+use Rattle.tz_base.specs.Grammar.{Grammar, Nothing, Marked, Optional, Ended, End, Byte, Run, Number, Check, Here, At, ◌>>=◌, ◌>>◌, Spells, HasFault}
+use Rattle.tz_base.specs.Grammar.{fault_position}
 use Rattle.tz_base.specs.Grammar as grammar
 use Rattle.tz_base.specs.Refusals as refused
 use Rattle.tz_base.specs.declared.error.Error.{Error}

@@ -12,7 +12,8 @@ use Rattle.tz_info.specs.declared.zone.lists.leap_second.LeapSecond.{LeapSecond}
 use Rattle.tz_info.specs.declared.zone.lists.transition.Transition.{Transition}
 
 -- whether two zones are equal, given tests of the items of their lists
-abbrev pub zone_eq : (Transition → Transition → Bool) → (LocalType → LocalType → Bool) → (LeapSecond → LeapSecond → Bool) → (TransitionRule → TransitionRule → Bool) → Zone → Zone → Bool
+abbrev pub zone_eq : (Transition → Transition → Bool) → (LocalType → LocalType → Bool) → (LeapSecond → LeapSecond → Bool)
+    → (TransitionRule → TransitionRule → Bool) → Zone → Zone → Bool
 zone_eq transitions types leaps rules =
     eq_of_both (on (λ z. z.transitions) (pointwise transitions))
     (eq_of_both (on (λ z. z.types) (pointwise types))

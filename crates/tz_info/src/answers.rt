@@ -2,9 +2,7 @@
 
 ghost use Rattle.std.specs.Prelude.{◌≡◌, ◌-ℤ◌};
 ghost use Rattle.offset_core.specs.LocalResult.{map_of};
-ghost use Rattle.tz_info.specs.Leaps.{IsNear};
-ghost use Rattle.tz_info.specs.Steps.Answers.{joined, shown_if};
-ghost use Rattle.tz_info.specs.Steps.Runs.{IsEnd};
+ghost use Rattle.tz_info.specs.{Leaps.{IsNear}, Steps.{Answers.{joined, shown_if}, Runs.{IsEnd}}};
 
 use offset_core::MappedLocalTime;
 use tz_base::LocalTimeType;

@@ -1,8 +1,7 @@
 //! Clock changes, spans between them, and seconds, each with the types in force.
 
-ghost use Rattle.std.specs.Prelude.{◌≡◌, ◌≢◌, IsTrue, ◌↔◌, IfSome, MatchOption, Some, option_map};
-ghost use Rattle.tz_info.specs.HeldChanges.{change_held, span_held};
-ghost use Rattle.tz_info.specs.Steps.Changes.{IsInStretch};
+ghost use Rattle.std.specs.Prelude.{◌≡◌, ◌≢◌, ◌↔◌, option_map, IfSome, IsTrue, MatchOption};
+ghost use Rattle.tz_info.specs.{HeldChanges.{change_held, span_held}, Steps.Changes.{IsInStretch}};
 
 use tz_base::{Change, LocalTimeType, Span};
 

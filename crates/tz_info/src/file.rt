@@ -1,17 +1,10 @@
 //! Time zone files (TZif, RFC 8536): the zone that the bytes of a file spell.
 
-ghost use Rattle.std.specs.Prelude.{◌≡◌, ◌⊎◌, IfOk, IfErr, MatchResult};
-ghost use Rattle.std.specs.Result.{IsErrAnd};
+ghost use Rattle.std.specs.{Prelude.{◌≡◌, ◌⊎◌, IfErr, IfOk, MatchResult}, Result.{IsErrAnd}};
 ghost use Rattle.tz_base.specs.Errors.{IsOutOfMemory};
-ghost use Rattle.tz_base.specs.declared.error.Error.{Error as Fault};
-ghost use Rattle.tz_base.specs.declared.error.Error.TheVariants.{InvalidTzFile, OutOfMemory};
-ghost use Rattle.tz_base.specs.declared.error.Expected.TheVariants.{TZifAtFrontOfHeader};
-ghost use Rattle.tz_info.specs.FileHeaders.{HasOtherMagic};
-ghost use Rattle.tz_info.specs.FilePieces.{FilePieces, HasPieces};
-ghost use Rattle.tz_info.specs.FilePlaces.{IsFilePlace};
-ghost use Rattle.tz_info.specs.PosixZones.{IsPlaced};
-ghost use Rattle.tz_info.specs.TzFiles.{IsTzFile, IsFileFault, IsZoneFault};
-ghost use Rattle.tz_info.specs.Zones.{Zone, IsValid};
+ghost use Rattle.tz_info.specs.{FileHeaders.{HasOtherMagic}, FilePlaces.{IsFilePlace}, PosixZones.{IsPlaced}};
+ghost use Rattle.tz_info.specs.{FilePieces.{FilePieces, HasPieces}, TzFiles.{IsFileFault, IsTzFile, IsZoneFault}};
+ghost use Rattle.tz_info.specs.Zones.{IsValid, Zone};
 
 mod block;
 mod contents;
@@ -26,7 +19,7 @@ use crate::zone::TimeZone;
 use place::place_of_fault;
 use reader::read_lists;
 use std::alloc::Global;
-use tz_base::{Error, ParseError};
+use tz_base::{Error, Expected, ParseError};
 
 impl TimeZone {
     /// The zone of a TZif file of version 1, 2 or 3 (RFC 8536 section 3). Of version 1 the one data
@@ -59,18 +52,18 @@ impl TimeZone {
         ensures found { IfOk result (λ z. IsTzFile bytes.now z × IsValid z) }
         // A file that has a valid zone gives it, unless memory runs out.
         ensures only { (z : Zone) → IsTzFile bytes.now z → IsValid z
-            → MatchResult result (λ y. y ≡ z) (λ e. e ≡ OutOfMemory) }
+            → MatchResult result (λ y. y ≡ z) (λ e. e ≡ Error.OutOfMemory) }
         // An error is the first fault of the file, or says that memory ran out.
         ensures fault { IfErr result (λ e. IsZoneFault bytes.now e) }
         // A file with a fault is rejected by its first one, unless memory runs out.
-        ensures first { (fault : Fault) → IsFileFault bytes.now fault
+        ensures first { (fault : Error) → IsFileFault bytes.now fault
             → IsErrAnd result (λ e. (e ≡ fault) ⊎ IsOutOfMemory e) }
         // Running out of memory is answered only where every piece of the file is there.
         ensures memory { IfErr result
-            (λ e. e ≡ OutOfMemory → (p : FilePieces) × HasPieces bytes.now p) }
+            (λ e. e ≡ Error.OutOfMemory → (p : FilePieces) × HasPieces bytes.now p) }
         // Of bytes that do not begin with `TZif` that is what was expected.
         ensures magic { HasOtherMagic bytes.now
-            → IsErrAnd result (λ e. e ≡ InvalidTzFile TZifAtFrontOfHeader) }
+            → IsErrAnd result (λ e. e ≡ Error.InvalidTzFile Expected.TZifAtFrontOfHeader) }
     {
         let lists = read_lists(alloc, bytes)?;
         lists.into_zone(alloc)
@@ -106,17 +99,17 @@ impl TimeZone {
         ensures found { IfOk result (λ z. IsTzFile bytes.now z × IsValid z) }
         // A file that has a valid zone gives it, unless memory runs out.
         ensures only { (z : Zone) → IsTzFile bytes.now z → IsValid z
-            → MatchResult result (λ y. y ≡ z) (λ e. e.error ≡ OutOfMemory) }
+            → MatchResult result (λ y. y ≡ z) (λ e. e.error ≡ Error.OutOfMemory) }
         // An error is the first fault of the file, or says that memory ran out.
         ensures fault { IfErr result (λ e. IsZoneFault bytes.now e.error) }
         // A fault has its place.
         ensures place { IfErr result (λ e. IsPlaced (IsFilePlace bytes.now) e) }
         // A file with a fault is rejected by its first one, unless memory runs out.
-        ensures first { (fault : Fault) → IsFileFault bytes.now fault
+        ensures first { (fault : Error) → IsFileFault bytes.now fault
             → IsErrAnd result (λ e. (e.error ≡ fault) ⊎ IsOutOfMemory e.error) }
         // Running out of memory is answered only where every piece of the file is there.
         ensures memory { IfErr result
-            (λ e. e.error ≡ OutOfMemory → (p : FilePieces) × HasPieces bytes.now p) }
+            (λ e. e.error ≡ Error.OutOfMemory → (p : FilePieces) × HasPieces bytes.now p) }
     {
         match TimeZone::from_tz_data(alloc, bytes) {
             Ok(zone) => Ok(zone),

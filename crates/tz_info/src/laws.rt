@@ -10,22 +10,18 @@ pub mod spans;
 pub mod texts;
 pub mod wall_clocks;
 
-ghost use Rattle.std.specs.Prelude.{◌≡◌, ℕ, ◌+◌, ◌<◌, length, slice_index_or, List, ℤ, pos, neg_ℤ, ◌+ℤ◌, ◌-ℤ◌, ◌*ℤ◌};
-ghost use Rattle.std.specs.Prelude.{◌≤ℤ◌, ◌<ℤ◌, ◌⊎◌, ◌↔◌, Some};
+ghost use Rattle.std.specs.Prelude.{◌≡◌, ◌↔◌, ◌⊎◌, ◌<◌, ◌+◌, ◌<ℤ◌, ◌≤ℤ◌, ◌+ℤ◌, ◌-ℤ◌, ◌*ℤ◌, length, neg_ℤ, pos};
+ghost use Rattle.std.specs.Prelude.{slice_index_or, List, ℕ, ℤ};
 ghost use Rattle.tz_base.specs.LocalTypes.{LocalType};
-ghost use Rattle.tz_info.specs.Leaps.{AreLeapSeconds, AreCounted, IsLeapTime, IsLeapTimeRefused, IsUnixTime};
-ghost use Rattle.tz_info.specs.RuleDays.{IsRuleDay, IsDayOf};
-ghost use Rattle.tz_info.specs.RuleDayOf.{rule_day};
-ghost use Rattle.tz_info.specs.Moments.{IsYearOf, IsRuleYear, IsRuleTime, IsBetween, start_in, end_in};
-ghost use Rattle.tz_info.specs.Rules.{Alternate as AlternateRule, IsAlternateRule};
-ghost use Rattle.tz_info.specs.RuleTypes.{RuleAt, IsRuleRefused, IsRule};
-ghost use Rattle.tz_info.specs.Zones.{Zone, IsValid, last_transition, HasType, TypeAt, IsTypeRefused, IsRuleOrNone};
-ghost use Rattle.tz_info.specs.Zones.{IsTypeOf};
-ghost use Rattle.tz_info.specs.declared.rule.day.DayForm.{DayForm};
-ghost use Rattle.tz_info.specs.declared.rule.transition_rule.TransitionRule.{TransitionRule};
-ghost use Rattle.tz_info.specs.declared.rule.transition_rule.TransitionRule.TheVariants.{Alternate};
-ghost use Rattle.tz_info.specs.declared.zone.lists.leap_second.LeapSecond.{LeapSecond};
-ghost use Rattle.tz_info.specs.declared.zone.lists.transition.Transition.{Transition};
+ghost use Rattle.tz_info.specs.Leaps.{AreCounted, AreLeapSeconds, IsLeapTime, IsLeapTimeRefused, IsUnixTime};
+ghost use Rattle.tz_info.specs.Moments.{end_in, start_in, IsBetween, IsRuleTime, IsRuleYear, IsYearOf};
+ghost use Rattle.tz_info.specs.{RuleDayOf.{rule_day}, RuleTypes.{IsRule, IsRuleRefused, RuleAt}, Zones.{Zone}};
+ghost use Rattle.tz_info.specs.{RuleDays.{IsDayOf, IsRuleDay}, Rules.{Alternate as AlternateRule, IsAlternateRule}};
+ghost use Rattle.tz_info.specs.Zones.{last_transition, HasType, IsRuleOrNone, IsTypeOf, IsTypeRefused, IsValid, TypeAt};
+
+use crate::DayForm;
+use crate::rule::TransitionRule;
+use crate::zone::{LeapSecond, Transition};
 
 /// A rule has one day in each year, and its moments at a fixed time of day come later in a later
 /// year.
@@ -59,14 +55,14 @@ pub fn rule_moments_law()
         → IsDayOf a.start.day year day
         → (u +ℤ a.std.offset) ≡ (pos 86_400 *ℤ day +ℤ a.start.time)
         → IsBetween (end_in a) (start_in a) year
-        → (IsYearOf u year → RuleAt (Alternate a) u a.dst)
-        × (IsYearOf (u -ℤ pos 1) year → RuleAt (Alternate a) (u -ℤ pos 1) a.std) }
+        → (IsYearOf u year → RuleAt (TransitionRule.Alternate a) u a.dst)
+        × (IsYearOf (u -ℤ pos 1) year → RuleAt (TransitionRule.Alternate a) (u -ℤ pos 1) a.std) }
     ensures ends { (a : AlternateRule) (year day u : ℤ) → IsAlternateRule a → IsRuleYear year
         → IsDayOf a.end.day year day
         → (u +ℤ a.dst.offset) ≡ (pos 86_400 *ℤ day +ℤ a.end.time)
         → IsBetween (start_in a) (end_in a) year
-        → (IsYearOf u year → RuleAt (Alternate a) u a.std)
-        × (IsYearOf (u -ℤ pos 1) year → RuleAt (Alternate a) (u -ℤ pos 1) a.dst) }
+        → (IsYearOf u year → RuleAt (TransitionRule.Alternate a) u a.std)
+        × (IsYearOf (u -ℤ pos 1) year → RuleAt (TransitionRule.Alternate a) (u -ℤ pos 1) a.dst) }
 {}
 
 /// Leap times rise weakly with Unix times, and within 10^13 seconds of 1970 each second has one.

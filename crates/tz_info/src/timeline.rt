@@ -6,11 +6,10 @@
 //! others. A search compares with these two first, and if one of them decides, that counts as a
 //! probe of its item. Hints are not counted.
 
-ghost use Rattle.std.specs.Prelude.{◌≡◌, ◌+◌, ◌-◌, ◌*◌, ◌/◌, ◌<◌, ◌≤◌, [], length, map, option_map, slice_index_or};
-ghost use Rattle.std.specs.Prelude.{MatchResult, ℕ, ⊤};
-ghost use Rattle.tz_info.specs.{Counts.{Counts, HasRoomFor}, Digits.{digits}};
-ghost use Rattle.tz_info.specs.Steps.Search.{AreOrdered, ArePassed, AreProbesCounted, IsLastOf};
-ghost use Rattle.tz_info.specs.Steps.Search.{AreEnds, IsLeft, IsNarrowedTo};
+ghost use Rattle.std.specs.Prelude.{◌≡◌, ◌<◌, ◌≤◌, ◌+◌, ◌-◌, ◌*◌, ◌/◌, [], length, map, option_map, slice_index_or, ⊤};
+ghost use Rattle.std.specs.Prelude.{MatchResult};
+ghost use Rattle.tz_info.specs.{Counts.{HasRoomFor}, Digits.{digits}, Steps.Search.{IsNarrowedTo}};
+ghost use Rattle.tz_info.specs.Steps.Search.{AreEnds, AreOrdered, ArePassed, AreProbesCounted, IsLastOf, IsLeft};
 
 mod hints;
 mod probes;

@@ -8,7 +8,7 @@ use Rattle.tz_saving.proofs.Reach.{back_adds, back_drops, has_none, has_one, on_
 flag_of : (s t : LocalType) → s ≡ t → t.dst ≡ true → s.dst ≡ true
 flag_of s t e h = ap (λ (x : LocalType). x.dst) e ∙ h
 
--- a standard second is none at which the types have the flag
+-- at a standard second not every type has the flag
 apart : (z : Zone) (v offset : ℤ) → IsStandard (TypeAt z) offset v → ((t : LocalType) → TypeAt z v t → t.dst ≡ true) → ⊥
 apart z v offset s each = false≢true (sym s.standard ∙ each s.type s.in_force_then)
 
@@ -55,7 +55,7 @@ some_unused z t left u r some h = subst (λ n. IsUnusedTo (TypeAt z) n t u r) (o
 
 module _ (z : Zone) (valid : IsValid z) (limits : IsRuleOrNone z.rule) (u r : ℤ) where
   -- ---- back
-  -- where no change comes up to the second reached, each type has the flag
+  -- if no change comes up to the second reached, each type has the flag
   idle_back : (n : ℕ) → IsBackTo (TypeAt z) n u r → (v : ℤ) (t : LocalType) → FitsSigned w64 v → v ≤ℤ u
       → HasNoChange (TypeAt z) (λ w. (v <ℤ w) × (w ≤ℤ r)) → TypeAt z v t → t.dst ≡ true
   idle_back n w v t fits to none k = let h = w.here in by_lt_z v r

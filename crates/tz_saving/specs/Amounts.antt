@@ -1,5 +1,5 @@
 -- The amount of daylight saving time in force. A zone says whether it is daylight saving time, not how much: the amount follows from
--- standard time before and after. Where that leaves two amounts, the next use of the same type decides, or else what is usual.
+-- standard time before and after. If that leaves two amounts, the next use of the same type decides, or else what is usual.
 use Rattle.std.specs.Prelude.{ℤ, pos, ◌≡◌, ◌≢◌, ◌≤ℤ◌, ◌<ℤ◌, ◌⊎◌, int_lt, ◌&&◌, if◌then◌else◌, true, false, Option, Some, None}
 use Rattle.std.specs.Ordering.{int_eq}
 use Rattle.tz_base.specs.LocalTypes.{LocalType}

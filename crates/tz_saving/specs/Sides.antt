@@ -48,6 +48,6 @@ pub data IsAfter (in_force : ℤ → LocalType → Type 0) (rule : Option Transi
   At_a_second : IsFirstAfter in_force u offset → IsAfter in_force rule u offset
   Of_rule : HasNoStandard in_force (IsSoonAfter in_force u) → IsRuleStandard rule offset → IsAfter in_force rule u offset
 
--- a number with that property, or nothing if there is none
+-- a number with that property, or nothing if no number has it
 abbrev pub IsFound : (ℤ → Type 0) → Option ℤ → Type 0
 IsFound is found = MatchOption found ((a : ℤ) → is a → ⊥) is

@@ -1,10 +1,9 @@
 //! Candidates: the amounts that standard time on each side of a second allows.
 
-ghost use Rattle.std.specs.Prelude.{◌≡◌, ◌≢◌, ◌↔◌, pos, true, IsTrue, Some};
+ghost use Rattle.std.specs.Prelude.{◌≡◌, ◌≢◌, ◌↔◌, pos, true, IsTrue};
 ghost use Rattle.offset_core.specs.Offset.{IsWithinDay};
 ghost use Rattle.tz_info.specs.Zones.{TypeAt};
-ghost use Rattle.tz_saving.specs.Candidates.{AreCandidates, IsOnly, IsCandidate};
-ghost use Rattle.tz_saving.specs.Sides.{IsFound};
+ghost use Rattle.tz_saving.specs.{Candidates.{AreCandidates, IsCandidate, IsOnly}, Sides.{IsFound}};
 
 use crate::sides::{standard_after, standard_before};
 use tz_info::{LocalTimeType, TimeZone};

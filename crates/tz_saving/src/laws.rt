@@ -1,10 +1,10 @@
 //! Theorems of amounts: each function is empty, its contract is proved; never called.
 
 ghost use Rattle.std.specs.Prelude.{◌≡◌, ℤ};
-ghost use Rattle.tz_info.specs.Zones.{Zone, TypeAt};
-ghost use Rattle.tz_saving.specs.Amounts.{IsAmount};
-ghost use Rattle.tz_saving.specs.Savings.{IsSavingAt};
-ghost use Rattle.tz_saving.specs.declared.saving.Saving.{Saving};
+ghost use Rattle.tz_info.specs.Zones.{TypeAt, Zone};
+ghost use Rattle.tz_saving.specs.{Amounts.{IsAmount}, Savings.{IsSavingAt}};
+
+use crate::Saving;
 
 /// A second has one amount, and one standard offset.
 pub fn one_amount_law()

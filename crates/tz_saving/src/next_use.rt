@@ -1,10 +1,9 @@
 //! The next use of a type.
 
-ghost use Rattle.std.specs.Prelude.{◌≡◌, ◌↔◌, IsTrue, true};
+ghost use Rattle.std.specs.Prelude.{◌≡◌, ◌↔◌, true, IsTrue};
 ghost use Rattle.tz_info.specs.Zones.{TypeAt};
-ghost use Rattle.tz_saving.specs.Amounts.{IsNextCandidate};
+ghost use Rattle.tz_saving.specs.{Amounts.{IsNextCandidate}, Steps.Walks.{IsOnlyCandidate, IsSecondOfNextUse}};
 ghost use Rattle.tz_saving.specs.Sides.{IsFound};
-ghost use Rattle.tz_saving.specs.Steps.Walks.{IsOnlyCandidate, IsSecondOfNextUse};
 
 use crate::candidates::{candidates_at, only_of};
 use crate::sides::REACH;

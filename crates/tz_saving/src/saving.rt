@@ -1,9 +1,8 @@
 //! The amount of daylight saving time at an instant.
 
-ghost use Rattle.std.specs.Prelude.{◌≡◌, ◌≢◌, ◌↔◌, IsTrue, MatchResult, Some, true};
-ghost use Rattle.tz_info.specs.Zones.{TypeAt, IsTypeError};
-ghost use Rattle.tz_saving.specs.Amounts.{IsFlaggedAmount, IsNextCandidate, IsOfTwo, usual};
-ghost use Rattle.tz_saving.specs.Amounts.{IsAmount};
+ghost use Rattle.std.specs.Prelude.{◌≡◌, ◌≢◌, ◌↔◌, true, IsTrue, MatchResult};
+ghost use Rattle.tz_info.specs.Zones.{IsTypeError, TypeAt};
+ghost use Rattle.tz_saving.specs.Amounts.{usual, IsAmount, IsFlaggedAmount, IsNextCandidate, IsOfTwo};
 ghost use Rattle.tz_saving.specs.Savings.{IsSavingAt};
 
 use crate::candidates::candidates_at;

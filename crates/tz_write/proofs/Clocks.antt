@@ -8,7 +8,8 @@ use Rattle.tz_write.proofs.Words.{◌≡◌, ◌≤◌}
 use Rattle.tz_write.proofs.Decimals.{Begins, number_begins, number_front, number_writes, pair_front, pair_writes, two_digits, without}
 use Rattle.tz_write.proofs.Shortest.{Front, front_cons, front_longer, front_optional, front_then}
 use Rattle.tz_write.proofs.TextBytes.{writes_here}
-use Rattle.tz_write.proofs.TextBytes.{Writes, first_optional, writes_colon, writes_first, writes_last, writes_mark, writes_nothing, writes_optional, writes_other, writes_then}
+use Rattle.tz_write.proofs.TextBytes.{Writes, first_optional, writes_colon, writes_first, writes_last, writes_mark, writes_nothing, writes_optional}
+use Rattle.tz_write.proofs.TextBytes.{writes_other, writes_then}
 use Rattle.tz_info.specs.TzGrammar as tz
 
 -- nothing that goes on with an offset, a day or a time
@@ -28,19 +29,22 @@ unfolding tz.optional_minutes tz.minutes_seconds
 minutes_writes m s rest a b stops =
     let stop = first_optional is_digit (s == 0) colon _ rest refl stops.0 in
     writes_optional ((m == 0) && (s == 0)) (grind (arith, nat_tests)) stops.1 (λ _. writes_colon (two_digits m (spelled_seconds s ++ rest) (omega arith) stop)
-    (writes_then (pair_writes clock_max m (spelled_seconds s ++ rest) (omega arith) (omega arith) stop) (writes_last (seconds_writes s rest b stops) (refl, refl))))
+    (writes_then (pair_writes clock_max m (spelled_seconds s ++ rest) (omega arith) (omega arith) stop)
+    (writes_last (seconds_writes s rest b stops) (refl, refl))))
 
 hours_writes : (h m s : ℕ) (rest : List ℕ) → h ≤ clock_max → m ≤ 59 → s ≤ 59 → Stops rest → Writes tz.hours_minutes_seconds (spelled_hands h m s) (h, m, s) rest
 unfolding tz.hours_minutes_seconds
 hours_writes h m s rest l a b stops =
-    writes_then (number_writes clock_max h (spelled_minutes m s ++ rest) (omega arith) l (first_optional is_digit ((m == 0) && (s == 0)) colon _ rest refl stops.0))
+    writes_then (number_writes clock_max h (spelled_minutes m s ++ rest) (omega arith) l
+    (first_optional is_digit ((m == 0) && (s == 0)) colon _ rest refl stops.0))
     (writes_last (minutes_writes m s rest a b stops) (refl, refl))
 
 seconds_front : (bytes : List ℕ) (s : ℕ) (rest : List ℕ) → Spells tz.seconds bytes s rest → Front (spelled_seconds s) bytes rest
 unfolding tz.seconds
 seconds_front bytes s rest h = front_optional colon 0 (Number clock_max) (s == 0) (λ after is p. pair_front is p) (λ z. rw z refl) h
 
-minutes_given : (bytes after : List ℕ) (m s : ℕ) (rest : List ℕ) → bytes ≡ colon ∷ after → Spells tz.minutes_seconds after (m, s) rest → Front (spelled_pair m ++ spelled_seconds s) bytes rest
+minutes_given : (bytes after : List ℕ) (m s : ℕ) (rest : List ℕ) → bytes ≡ colon ∷ after → Spells tz.minutes_seconds after (m, s) rest
+    → Front (spelled_pair m ++ spelled_seconds s) bytes rest
 unfolding tz.minutes_seconds
 minutes_given bytes after m s rest e (x, behind, minutes, (y, end, seconds, (value, same))) =
     let front = front_then (pair_front e minutes) (seconds_front behind y end seconds) in grind arith
@@ -70,7 +74,8 @@ duration_writes limit negative n z rest l k v stops =
 abs_signed : (negative : Bool) (n : ℕ) → unsigned_abs (signed negative n) ≡ n
 abs_signed negative n = grind (arith, ints)
 
-duration_front : (limit : ℕ) (negative : Bool) (bytes : List ℕ) (z : ℤ) (rest : List ℕ) → Spells (tz.duration limit negative) bytes z rest → Front (spelled_clock (unsigned_abs z)) bytes rest
+duration_front : (limit : ℕ) (negative : Bool) (bytes : List ℕ) (z : ℤ) (rest : List ℕ) → Spells (tz.duration limit negative) bytes z rest
+    → Front (spelled_clock (unsigned_abs z)) bytes rest
 unfolding spelled_clock tz.duration
 duration_front limit negative bytes z rest ((h, m, s), after, spelled, ((c, a, b), value, same)) =
     let n : unsigned_abs z ≡ 3600 * h + 60 * m + s = ap unsigned_abs value ∙ abs_signed negative _ in
@@ -82,19 +87,23 @@ clock_begins n rest l = rw (append_assoc (decimal (n / 3600)) (spelled_minutes (
 
 -- ---- signs
 -- a minus, if there is to be one, and a duration, whose sign follows from the minus
-signed_writes : (signs : Bool) (f : Bool → Bool) (limit : ℕ) (negative : Bool) (n : ℕ) (z : ℤ) (rest : List ℕ) → (signs ≡ false → negative ≡ false) → n / 3600 ≤ limit
-    → limit < 1000 → z ≡ signed (f negative) n → Stops rest → Writes (Then (tz.time_sign signs) (λ m. tz.duration limit (f m))) (spelled_signed negative n) z rest
+signed_writes : (signs : Bool) (f : Bool → Bool) (limit : ℕ) (negative : Bool) (n : ℕ) (z : ℤ) (rest : List ℕ)
+    → (signs ≡ false → negative ≡ false) → n / 3600 ≤ limit
+    → limit < 1000 → z ≡ signed (f negative) n → Stops rest
+    → Writes (Then (tz.time_sign signs) (λ m. tz.duration limit (f m))) (spelled_signed negative n) z rest
 unfolding tz.time_sign tz.sign
 signed_writes true f limit true n z rest may l k v stops =
     writes_then (writes_other (λ e. absurd (omega arith)) (writes_mark refl (writes_nothing refl))) (duration_writes limit (f true) n z rest l k v stops)
 signed_writes true f limit false n z rest may l k v stops =
     let first = clock_begins n rest (omega arith) in
-    writes_first false (inr (without plus first (inl (omega arith)), inr (without minus first (inl (omega arith)), (refl, refl)))) (duration_writes limit (f false) n z rest l k v stops)
+    writes_first false (inr (without plus first (inl (omega arith)), inr (without minus first (inl (omega arith)), (refl, refl))))
+    (duration_writes limit (f false) n z rest l k v stops)
 signed_writes false f limit true n z rest may l k v stops = let e = may refl in cc
 signed_writes false f limit false n z rest may l k v stops = writes_first false (refl, refl) (duration_writes limit (f false) n z rest l k v stops)
 
 -- there is a minus if one is needed, and otherwise nothing
-sign_front : (signs needed negative : Bool) (text bytes unsigned rest : List ℕ) → Spells (tz.time_sign signs) bytes negative unsigned → (needed ≡ true → negative ≡ true)
+sign_front : (signs needed negative : Bool) (text bytes unsigned rest : List ℕ) → Spells (tz.time_sign signs) bytes negative unsigned
+    → (needed ≡ true → negative ≡ true)
     → Front text unsigned rest → Front (cond needed (minus ∷ text) text) bytes rest
 unfolding tz.time_sign tz.sign
 sign_front signs needed negative text bytes unsigned rest h need f = grind (arith, both_ways, front_cons, front_longer)
@@ -109,7 +118,8 @@ offset_value east = grind (arith, ints)
 
 pub offset_writes : (east : ℤ) (rest : List ℕ) → IsWithinDay east → Stops rest → Writes tz.offset (spelled_offset east) east rest
 unfolding spelled_offset tz.offset tz.time_sign
-offset_writes east rest h stops = signed_writes true not 23 (is_positive east) (unsigned_abs east) east rest (λ e. cc) (omega (arith, hours_within 24 east h)) (omega arith)
+offset_writes east rest h stops =
+    signed_writes true not 23 (is_positive east) (unsigned_abs east) east rest (λ e. cc) (omega (arith, hours_within 24 east h)) (omega arith)
     (offset_value east) stops
 
 offset_sign : (negative : Bool) (n : ℕ) (east : ℤ) → east ≡ signed (not negative) n → is_positive east ≡ true → negative ≡ true
@@ -118,7 +128,8 @@ offset_sign negative n east v e = grind (arith, ints)
 pub offset_front : (bytes : List ℕ) (east : ℤ) (rest : List ℕ) → Spells tz.offset bytes east rest → Front (spelled_offset east) bytes rest
 unfolding spelled_offset tz.offset tz.time_sign tz.duration
 offset_front bytes east rest (negative, unsigned, sign, d) =
-    sign_front true (is_positive east) negative _ bytes unsigned rest sign (offset_sign negative _ east d.3.1) (duration_front 23 (not negative) unsigned east rest d)
+    sign_front true (is_positive east) negative _ bytes unsigned rest sign (offset_sign negative _ east d.3.1)
+    (duration_front 23 (not negative) unsigned east rest d)
 
 -- an offset begins with a digit or a minus
 pub offset_begins : (east : ℤ) (rest : List ℕ) → IsWithinDay east → Begins 45 57 (spelled_offset east ++ rest)
@@ -132,13 +143,15 @@ offset_begins east rest h = elim (is_positive east) as (λ t. Begins 45 57 (spel
 time_value : (time : ℤ) → time ≡ signed (is_negative time) (unsigned_abs time)
 time_value time = grind (arith, ints)
 
-time_within : (extended : Bool) (time : ℤ) → IsTextTime extended time → (unsigned_abs time / 3600 ≤ time_limit extended) × (extended ≡ false → is_negative time ≡ false)
+time_within : (extended : Bool) (time : ℤ) → IsTextTime extended time
+    → (unsigned_abs time / 3600 ≤ time_limit extended) × (extended ≡ false → is_negative time ≡ false)
 time_within extended time h = grind (arith, hours_within, le-ltb)
 
 pub time_writes : (extended : Bool) (time : ℤ) (rest : List ℕ) → IsTextTime extended time → Stops rest → Writes (tz.time extended) (spelled_time time) time rest
 unfolding spelled_time tz.time
 time_writes extended time rest h stops = let (l, may) = time_within extended time h in
-    signed_writes extended (λ m. m) (time_limit extended) (is_negative time) (unsigned_abs time) time rest may l (grind (arith, nat_tests)) (time_value time) stops
+    signed_writes extended (λ m. m) (time_limit extended) (is_negative time) (unsigned_abs time) time rest may l
+    (grind (arith, nat_tests)) (time_value time) stops
 
 -- a text without extensions has no other times
 pub time_plain : (bytes : List ℕ) (time : ℤ) (rest : List ℕ) → Spells (tz.time false) bytes time rest → IsPlainTime time
@@ -148,7 +161,9 @@ time_plain bytes time rest (negative, _, sign, ((h, m, s), _, _, ((a, b, c), val
 time_sign : (negative : Bool) (n : ℕ) (time : ℤ) → time ≡ signed negative n → is_negative time ≡ true → negative ≡ true
 time_sign negative n time v e = grind (arith, ints)
 
-pub time_front : (extended : Bool) (bytes : List ℕ) (time : ℤ) (rest : List ℕ) → Spells (tz.time extended) bytes time rest → Front (spelled_time time) bytes rest
+pub time_front : (extended : Bool) (bytes : List ℕ) (time : ℤ) (rest : List ℕ) → Spells (tz.time extended) bytes time rest
+    → Front (spelled_time time) bytes rest
 unfolding spelled_time tz.time tz.duration
 time_front extended bytes time rest (negative, unsigned, sign, d) =
-    sign_front extended (is_negative time) negative _ bytes unsigned rest sign (time_sign negative _ time d.3.1) (duration_front (time_limit extended) negative unsigned time rest d)
+    sign_front extended (is_negative time) negative _ bytes unsigned rest sign (time_sign negative _ time d.3.1)
+    (duration_front (time_limit extended) negative unsigned time rest d)

@@ -53,7 +53,8 @@ pub two_digits : (n : ℕ) (rest : List ℕ) → n < 100 → NoneFirst is_digit 
 two_digits n rest h none = (is_digit_of (n / 10) (omega arith), is_digit_of (n % 10) (omega arith), none)
 
 pub pair_writes : (max n : ℕ) (rest : List ℕ) → n < 100 → n ≤ max → NoneFirst is_digit rest → Writes (Number max) ((48 + n / 10) ∷ (48 + n % 10) ∷ []) n rest
-pair_writes max n rest h l none = digits_write max n ((48 + n / 10) ∷ (48 + n % 10) ∷ []) rest (let d = two_digits n [] h tt in (d.0, (d.1, tt))) (omega arith) (omega arith) l none
+pair_writes max n rest h l none =
+    digits_write max n ((48 + n / 10) ∷ (48 + n % 10) ∷ []) rest (let d = two_digits n [] h tt in (d.0, (d.1, tt))) (omega arith) (omega arith) l none
 
 -- ---- no fewer digits do
 -- zeros in front may go, and then the digits are those of the number
@@ -61,7 +62,8 @@ decimal_best : (n : ℕ) (ds : List ℕ) → n < 2 ^ 64 → AllDigits ds → 0 <
 decimal_best n [] h each some value = absurd (omega arith)
 decimal_best n (d ∷ []) h each some value = inl (sym (decimal-digits_value own (d ∷ []) each some (λ _. refl) (omega (arith, value))) ∙ ap decimal value)
 decimal_best n (d ∷ e ∷ ds) h each some value = elim (cases_eq d 48) [
-  | inl zero ↦ let b = decimal_best n (e ∷ ds) h each.1 (omega arith) (rw zero at value) in inr (elim b [ inl k ↦ omega (arith, ap length k) | inr l ↦ omega arith ])
+  | inl zero ↦ let b = decimal_best n (e ∷ ds) h each.1 (omega arith) (rw zero at value) in
+      inr (elim b [ inl k ↦ omega (arith, ap length k) | inr l ↦ omega arith ])
   | inr other ↦ inl (sym (decimal-digits_value own (d ∷ e ∷ ds) each some (λ z. absurd (other z)) (omega (arith, value))) ∙ ap decimal value)
 ]
 
@@ -69,7 +71,8 @@ pub number_front : {max n : ℕ} {bytes rest : List ℕ} → max < 2 ^ 64 → Is
 number_front h p = record { front = p.digits; whole = p.whole; best = λ _. decimal_best _ p.digits (omega (arith, p.limit)) p.each p.some p.value }
 
 -- two digits and no third are those of the number
-paired : (ds rest : List ℕ) (n : ℕ) → AllDigits ds → 0 < length ds → NoneFirst is_digit rest → value_from 0 ds ≡ n → TwoDigits (ds ++ rest) → ds ≡ (48 + n / 10) ∷ (48 + n % 10) ∷ []
+paired : (ds rest : List ℕ) (n : ℕ) → AllDigits ds → 0 < length ds → NoneFirst is_digit rest → value_from 0 ds ≡ n → TwoDigits (ds ++ rest)
+    → ds ≡ (48 + n / 10) ∷ (48 + n % 10) ∷ []
 paired [] rest n each some none value pair = absurd (omega arith)
 paired (d ∷ []) rest n each some none value pair = grind (arith, nat_tests, both_ways)
 paired (d ∷ e ∷ []) rest n each some none value pair = grind arith

@@ -12,7 +12,8 @@ use Rattle.tz_write.proofs.FileRoom.{put_in, put_is, put_stands, room_of}
 use Rattle.tz_write.proofs.FileRecords.{has_text, no_zero}
 
 -- ---- texts
-name_size : (name : Option (List ℕ)) → IsNameOrNone name → (length (name_or_none name) ≤ 7) × ((length (name_or_none name) ≡ 0) ⊎ (3 ≤ length (name_or_none name)))
+name_size : (name : Option (List ℕ)) → IsNameOrNone name
+    → (length (name_or_none name) ≤ 7) × ((length (name_or_none name) ≡ 0) ⊎ (3 ≤ length (name_or_none name)))
 name_size name h = grind (arith, nat_tests)
 
 whole_size : (bytes b x a : List ℕ) → bytes ≡ b ++ (x ++ (0 ∷ a)) → length bytes ≡ length b + length x + 1 + length a
@@ -21,7 +22,8 @@ whole_size bytes b x a e = grind (arith, length-append)
 -- the text at the place of a text
 front_is : (text rest : List ℕ) → HasNoZero text → before_zero (text ++ (0 ∷ rest)) ≡ text
 front_is [] rest none = refl
-front_is (b ∷ bs) rest none = let h = none.0 in let e : (b == 0) ≡ false = grind (arith, nat_tests) in rw e (ap (λ (s : List ℕ). b ∷ s) (front_is bs rest none.1))
+front_is (b ∷ bs) rest none = let h = none.0 in let e : (b == 0) ≡ false = grind (arith, nat_tests) in
+    rw e (ap (λ (s : List ℕ). b ∷ s) (front_is bs rest none.1))
 
 text_found : (designations text : List ℕ) → HasNoZero text → In designations text → text_at designations (place_of text designations) ≡ text
 text_found designations text none h = let s = has_text text designations none h in grind (arith, nat_tests, drop-append_seam, front_is)
@@ -33,8 +35,17 @@ greatest key t [] = (0, omega arith, λ d. All-cons (λ x. key x ≤ key t) t []
 greatest key t (u ∷ us) =
     let (place, inside, above) = greatest key u us in
     elim (cases_lt (key (get_or (u ∷ us) place u)) (key t)) [
-      | inl l ↦ (0, omega arith, λ d. All-cons (λ x. key x ≤ key t) t (u ∷ us) (omega arith) (All-weaker (λ x. key x ≤ key (get_or (u ∷ us) place u)) (λ x. key x ≤ key t) (λ x k. omega (arith, k, l)) (u ∷ us) (above u)))
-      | inr m ↦ (suc place, omega (arith, inside), λ d. All-cons (λ x. key x ≤ key (get_or (u ∷ us) place d)) t (u ∷ us) (omega (arith, m, above d place u inside)) (above d))
+      | inl l ↦ (
+        0,
+        omega arith,
+        λ d. All-cons (λ x. key x ≤ key t) t (u ∷ us) (omega arith)
+            (All-weaker (λ x. key x ≤ key (get_or (u ∷ us) place u)) (λ x. key x ≤ key t) (λ x k. omega (arith, k, l)) (u ∷ us) (above u)),
+      )
+      | inr m ↦ (
+        suc place,
+        omega (arith, inside),
+        λ d. All-cons (λ x. key x ≤ key (get_or (u ∷ us) place d)) t (u ∷ us) (omega (arith, m, above d place u inside)) (above d),
+      )
     ]
 
 -- ---- designations that have the names
@@ -57,7 +68,8 @@ pub record EndsWith (bytes : List ℕ) (m t : LocalType) : Type 0 where
   pub ends : Ends (name_of m) (name_of t)
   pub at : place_of (name_of t) bytes + length (name_of t) ≡ place_of (name_of m) bytes + length (name_of m)
 
-where_is : (bytes : List ℕ) (m t : LocalType) (sm : Served bytes m) → Served bytes t → key_in bytes t ≤ key_in bytes m → Stands sm.stands.before (name_of t) ⊎ EndsWith bytes m t
+where_is : (bytes : List ℕ) (m t : LocalType) (sm : Served bytes m) → Served bytes t → key_in bytes t ≤ key_in bytes m
+    → Stands sm.stands.before (name_of t) ⊎ EndsWith bytes m t
 unfolding key_in
 where_is bytes m t sm st top =
     let a = sm.stands in let b = st.stands in let short = (name_size m.name sm.named).0 in
@@ -78,12 +90,14 @@ kept_low designations other text h = by_text (λ d. place_of text d ≤ place_of
 in_place : (designations last : List ℕ) (t : LocalType) → length designations ≤ 256 → In designations (name_of t) → HasPlace (with_text designations last) t
 in_place designations last t short h = grind (arith, kept, kept_low)
 
-at_end : (designations last : List ℕ) (t : LocalType) → Ends last (name_of t) → length designations ≤ place_of last designations → length designations + length last < 263
+at_end : (designations last : List ℕ) (t : LocalType) → Ends last (name_of t) → length designations ≤ place_of last designations
+    → length designations + length last < 263
     → length designations + length last < 256 + length (name_of t) → HasPlace (with_text designations last) t
 at_end designations last t e out room low = grind (arith, put_is, put_in, place_of_put)
 
 at_the_end : (bytes designations : List ℕ) (m t : LocalType) (sm : Served bytes m) → Served bytes t → Room (name_of m) designations sm.stands.before 3
-    → (designations ≡ []) ⊎ In designations [] → length designations ≤ place_of (name_of m) designations → length designations ≤ place_of (name_of t) designations → Ends (name_of m) (name_of t)
+    → (designations ≡ []) ⊎ In designations [] → length designations ≤ place_of (name_of m) designations
+    → length designations ≤ place_of (name_of t) designations → Ends (name_of m) (name_of t)
     → Stands sm.stands.before (name_of t) ⊎ EndsWith bytes m t → HasPlace (with_text designations (name_of m)) t
 at_the_end bytes designations m t sm st r filled out away e (inr q) = grind (arith, nat_tests, at_end, name_size)
 at_the_end bytes designations m t sm st r filled out away e (inl s) =
@@ -98,8 +112,10 @@ decided b d = grind (arith, nat_tests)
 has_end : (last text : List ℕ) → ((Ends last text → ⊥) → ⊥) → Ends last text
 has_end last text h = elim (decided (ends last text) (ends_of last text, ends_again last text)) [ inl e ↦ e | inr none ↦ absurd (h none) ]
 
-laid_place : (bytes designations : List ℕ) (m t : LocalType) (sm : Served bytes m) → Served bytes t → Room (name_of m) designations sm.stands.before 3 → (designations ≡ []) ⊎ In designations []
-    → (3 ≤ length (name_of t) → length (name_of t) ≤ 7 → (Ends (name_of m) (name_of t) → ⊥) → In designations (name_of t)) → Stands sm.stands.before (name_of t) ⊎ EndsWith bytes m t
+laid_place : (bytes designations : List ℕ) (m t : LocalType) (sm : Served bytes m) → Served bytes t → Room (name_of m) designations sm.stands.before 3
+    → (designations ≡ []) ⊎ In designations []
+    → (3 ≤ length (name_of t) → length (name_of t) ≤ 7 → (Ends (name_of m) (name_of t) → ⊥) → In designations (name_of t))
+    → Stands sm.stands.before (name_of t) ⊎ EndsWith bytes m t
     → HasPlace (with_text designations (name_of m)) t
 laid_place bytes designations m t sm st r filled put_in_before where_t =
     elim (cases_lt (place_of (name_of t) designations) (length designations)) [
@@ -107,7 +123,8 @@ laid_place bytes designations m t sm st r filled put_in_before where_t =
       | inr away ↦
           let size = name_size t.name st.named in
           let e = has_end (name_of m) (name_of t) (λ free. elim size.1 [
-            | inl none ↦ free (record { front = name_of m; is = sym (ap (λ (s : List ℕ). name_of m ++ s) (nil_from_length (name_of t) none) ∙ append-nil (name_of m)) })
+            | inl none ↦ free
+                (record { front = name_of m; is = sym (ap (λ (s : List ℕ). name_of m ++ s) (nil_from_length (name_of t) none) ∙ append-nil (name_of m)) })
             | inr three ↦ absurd (omega (arith, away, put_in_before three size.0 free))
           ]) in
           let end = end_in designations (name_of m) (name_of t) sm.stands.ends e in
@@ -115,10 +132,12 @@ laid_place bytes designations m t sm st r filled put_in_before where_t =
     ]
 
 -- ---- all types
-given_before : (bytes : List ℕ) (m : LocalType) (sm : Served bytes m) (t : LocalType) → Served bytes t → key_in bytes t ≤ key_in bytes m → Given (name_of m) sm.stands.before t
+given_before : (bytes : List ℕ) (m : LocalType) (sm : Served bytes m) (t : LocalType) → Served bytes t → key_in bytes t ≤ key_in bytes m
+    → Given (name_of m) sm.stands.before t
 given_before bytes m sm t st top = grind (arith, where_is)
 
-places_with : (bytes : List ℕ) (types : List LocalType) (m : LocalType) (sm : Served bytes m) → All (Served bytes) types → All (λ t. key_in bytes t ≤ key_in bytes m) types → HavePlaces (laid (name_of m) types) types
+places_with : (bytes : List ℕ) (types : List LocalType) (m : LocalType) (sm : Served bytes m) → All (Served bytes) types
+    → All (λ t. key_in bytes t ≤ key_in bytes m) types → HavePlaces (laid (name_of m) types) types
 unfolding laid
 places_with bytes types m sm s top =
     let p = before_passed (name_of m) sm.stands.before types (λ i d l. given_before bytes m sm (get_or types i d) (s i d l) (top i d l)) in
@@ -127,7 +146,8 @@ places_with bytes types m sm s top =
     (where_is bytes m (get_or types i d) sm (s i d l) (top i d l))
 
 -- ---- the texts are in what is laid in order
-stands_with : (bytes : List ℕ) (m t : LocalType) (sm : Served bytes m) → Stands sm.stands.before (name_of t) ⊎ EndsWith bytes m t → Stands (sm.stands.before ++ (name_of m ++ 0 ∷ [])) (name_of t)
+stands_with : (bytes : List ℕ) (m t : LocalType) (sm : Served bytes m) → Stands sm.stands.before (name_of t) ⊎ EndsWith bytes m t
+    → Stands (sm.stands.before ++ (name_of m ++ 0 ∷ [])) (name_of t)
 stands_with bytes m t sm (inl s) = grind (arith, nat_tests, append_assoc)
 stands_with bytes m t sm (inr q) = end_stands (put_stands sm.stands.before (name_of m)) q.ends
 
@@ -137,23 +157,28 @@ no_text bytes t s = record { before = s.before ++ name_of t; after = s.after; wh
 not_of_none : (text : List ℕ) → 3 ≤ length text → Ends [] text → ⊥
 not_of_none text l e = omega (arith, l, ap length e.is, length-append e.front text)
 
-in_order_in : (bytes : List ℕ) (types : List LocalType) (m : LocalType) (sm : Served bytes m) → All (Served bytes) types → All (λ t. key_in bytes t ≤ key_in bytes m) types
+in_order_in : (bytes : List ℕ) (types : List LocalType) (m : LocalType) (sm : Served bytes m) → All (Served bytes) types
+    → All (λ t. key_in bytes t ≤ key_in bytes m) types
     → All (λ t. In (laid [] types) (name_of t)) types
 unfolding laid
 in_order_in bytes types m sm s top i d l =
     let last = name_of m ++ 0 ∷ [] in let others = sm.stands.before ++ last in
-    let stands : All (λ t. Stands others (name_of t)) types = λ i d l. stands_with bytes m (get_or types i d) sm (where_is bytes m (get_or types i d) sm (s i d l) (top i d l)) in
-    let short : length others ≤ 263 = omega (arith, length-append sm.stands.before last, length-append (name_of m) (0 ∷ []), sm.stands.at, sm.low, (name_size m.name sm.named).0) in
+    let stands : All (λ t. Stands others (name_of t)) types =
+    λ i d l. stands_with bytes m (get_or types i d) sm (where_is bytes m (get_or types i d) sm (s i d l) (top i d l)) in
+    let short : length others ≤ 263 =
+    omega (arith, length-append sm.stands.before last, length-append (name_of m) (0 ∷ []), sm.stands.at, sm.low, (name_size m.name sm.named).0) in
     let t = get_or types i d in
     let size = name_size t.name (s i d l).named in
     let p = before_passed [] others types (λ i d l. record { none = (s i d l).stands.ends; stands = λ free. stands i d l }) in
     elim size.1 [
-      | inl none ↦ let out = room_of [] (before_last [] types) others [] 3 p.room tt (inl (omega arith)) (no_text others t (stands i d l)) in grind (arith, nil_from_length, put)
+      | inl none ↦ let out = room_of [] (before_last [] types) others [] 3 p.room tt (inl (omega arith)) (no_text others t (stands i d l)) in
+          grind (arith, nil_from_length, put)
       | inr three ↦ kept (before_last [] types) [] (name_of t) (p.inside short i d l three size.0 (not_of_none (name_of t) three))
     ]
 
 -- ---- no shorter ones
-laid_short : (last others : List ℕ) (types : List LocalType) → HasNoZero last → Stands others last → All (Given last others) types → length (laid last types) ≤ length others
+laid_short : (last others : List ℕ) (types : List LocalType) → HasNoZero last → Stands others last → All (Given last others) types
+    → length (laid last types) ≤ length others
 unfolding laid with_text
 laid_short last others types none stands given =
     let r = (before_passed last others types given).room in
@@ -170,7 +195,8 @@ in_order_short (t ∷ ts) others some names =
     (All-weaker (IsNamedIn others) (Given [] others) (named_given others) (t ∷ ts) names)
 
 -- ---- what is laid
-placed_with : (bytes : List ℕ) (types : List LocalType) (m : LocalType) (sm : Served bytes m) → All (Served bytes) types → All (λ t. key_in bytes t ≤ key_in bytes m) types → In (laid [] types) (name_of m)
+placed_with : (bytes : List ℕ) (types : List LocalType) (m : LocalType) (sm : Served bytes m) → All (Served bytes) types
+    → All (λ t. key_in bytes t ≤ key_in bytes m) types → In (laid [] types) (name_of m)
     → ArePlaced (laid (name_of m) types) types
 placed_with bytes types m sm s top found =
     let inside = in_order_in bytes types m sm s top in record { places = places_with bytes types m sm s top; short = grind (arith, laid_short, in_stands) }
@@ -191,19 +217,23 @@ abbrev AreNames : List LocalType → Type 0
 AreNames types = All (λ t. IsNameOrNone t.name) types
 
 named_in : (designations : List ℕ) (t : LocalType) → IsNameOrNone t.name → HasPlace designations t → IsNamedIn designations t
-named_in designations t name h = record { place = place_of (name_of t) designations; stands = has_text (name_of t) designations (no_zero t.name name) h.stands; named = h.named }
+named_in designations t name h =
+    record { place = place_of (name_of t) designations; stands = has_text (name_of t) designations (no_zero t.name name) h.stands; named = h.named }
 
-shortest : (types : List LocalType) (designations : List ℕ) → 0 < length types → AreNames types → HavePlaces designations types → length designations ≤ length (laid [] types) → AreShortest designations types
+shortest : (types : List LocalType) (designations : List ℕ) → 0 < length types → AreNames types → HavePlaces designations types
+    → length designations ≤ length (laid [] types) → AreShortest designations types
 shortest types designations some names h short = grind (arith, named_in, in_order_short)
 
 -- the designations that are laid
 abbrev pub AreLaid : List LocalType → List ℕ → Type 0
 AreLaid types d = HavePlaces d types × IsLaid types d × AreShortest d types
 
-pub laid_in_order : (types : List LocalType) (designations : List ℕ) → 0 < length types → AreNames types → designations ≡ laid [] types → HavePlaces designations types → AreLaid types designations
+pub laid_in_order : (types : List LocalType) (designations : List ℕ) → 0 < length types → AreNames types → designations ≡ laid [] types
+    → HavePlaces designations types → AreLaid types designations
 laid_in_order types designations some names e h = (h, In_order h e, shortest types designations some names h (omega (arith, ap length e)))
 
-pub laid_with_last : (types : List LocalType) (designations : List ℕ) → 0 < length types → AreNames types → ¬ (HavePlaces (laid [] types) types) → IsFirstPlaced types designations → AreLaid types designations
+pub laid_with_last : (types : List LocalType) (designations : List ℕ) → 0 < length types → AreNames types → ¬ (HavePlaces (laid [] types) types)
+    → IsFirstPlaced types designations → AreLaid types designations
 laid_with_last types designations some names unplaced h = grind (arith, shortest)
 
 pub laid_if_any : (types : List LocalType) (r : Option (List ℕ)) → 0 < length types → AreNames types → ¬ (HavePlaces (laid [] types) types)
@@ -229,7 +259,10 @@ first_placed : (types : List LocalType) (place : ℕ) → AreNotPlacedBefore typ
 first_placed types zero = inl (λ k l. absurd (omega (arith, l)))
 first_placed types (suc n) = let here = placed_or_not types n in elim (first_placed types n) [
   | inr f ↦ inr f
-  | inl none ↦ elim here [ inl h ↦ inr (laid_from types n, record { place = n; placed = h; laid_is = refl; first = none }) | inr not ↦ inl (grind (arith, below_more)) ]
+  | inl none ↦ elim here [
+    | inl h ↦ inr (laid_from types n, record { place = n; placed = h; laid_is = refl; first = none })
+    | inr not ↦ inl (grind (arith, below_more))
+  ]
 ]
 
 pub laid_of : (types : List LocalType) (bytes : List ℕ) → 0 < length types → AreNames types → AreNamesIn bytes types → (d : List ℕ) × AreLaid types d

@@ -80,7 +80,8 @@ later_limits : (p : FilePieces) → Values later_version p → Limits p
 unfolding later_version
 later_limits p (h, head, (parts, in_block, (_, _, value))) = rw value (block_limits _ 8 h.counts parts _ (header_fits Second h head) in_block)
 
-after_limits : (v : Version) (c : Counts) (parts : Parts) (p : FilePieces) → Values (after_first_block v c parts) p → CountsFit c → Values (block 4 c) parts → Limits p
+after_limits : (v : Version) (c : Counts) (parts : Parts) (p : FilePieces) → Values (after_first_block v c parts) p → CountsFit c
+    → Values (block 4 c) parts → Limits p
 unfolding after_first_block first_version
 after_limits One c parts p (_, _, value) fit first = rw value (block_limits _ 4 c parts _ fit first)
 after_limits v c parts p h fit first = later_limits p h
@@ -107,17 +108,25 @@ types_named : (designations part : List ℕ) (types : List LocalType) → SpellT
 types_named designations part [] h b = All-nil (IsNamedIn designations)
 types_named designations part (t ∷ ts) h b =
     let whole = subst AreBytes h.2 b in
-    All-cons (IsNamedIn designations) t ts (type_named designations h.0 t h.3 (front h.0 h.1 whole) h.4) (types_named designations h.1 ts h.5 (behind h.0 h.1 whole))
+    All-cons (IsNamedIn designations) t ts (type_named designations h.0 t h.3 (front h.0 h.1 whole) h.4)
+    (types_named designations h.1 ts h.5 (behind h.0 h.1 whole))
 
 pub writable : (bytes : List ℕ) (z : Zone) → AreBytes bytes → IsTzFile bytes z → IsWritable z
 writable bytes z b (p, pieces, say) =
     let limits = pieces_limits bytes p pieces b in
-    let transitions : length p.parts.type_indexes ≡ length z.transitions = ap length say.transitions.indexes_are ∙ length-map z.transitions (λ t. t.type_index) in
+    let transitions : length p.parts.type_indexes ≡ length z.transitions =
+    ap length say.transitions.indexes_are ∙ length-map z.transitions (λ t. t.type_index) in
     let types = records_length 6 (SpellsType p.parts.designations) p.parts.types z.types say.types in
     let leaps = records_length (p.time_size + 4) (SpellsLeapSecond p.time_size) p.parts.leap_seconds z.leaps say.leaps in
     record {
       room = record {
-        counts = record { transitions = omega (arith, transitions, limits.transitions_fit); types = omega (arith, types, limits.types_fit); leaps = limits.leaps_fit (length z.leaps) leaps };
+        counts =
+            record {
+              transitions = omega (arith, transitions, limits.transitions_fit);
+              types = omega
+                  (arith, types, limits.types_fit);
+              leaps = limits.leaps_fit (length z.leaps) leaps;
+            };
         indexes = indexes_fit z.transitions p.parts.type_indexes say.transitions.indexes_are limits.indexes;
         designations = p.parts.designations;
         names = types_named p.parts.designations p.parts.types z.types say.types limits.types;

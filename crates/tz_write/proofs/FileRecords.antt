@@ -25,13 +25,15 @@ unfolding signed signed_bytes
 signed_64 z h = ap (cast_signed w64) (from_be_bytes-to_be_bytes_8 (cast_unsigned w64 z) (omega (arith, Fits-of_z {w = w64} h))) ∙ to_z-of_z w64 z h
 
 -- ---- records laid end to end
-pub records_are : {X : Type 0} (size : ℕ) (Spells : List ℕ → X → Type 0) (f : X → List ℕ) (xs : List X) → ((x : X) → length (f x) ≡ size) → All (λ x. Spells (f x) x) xs
+pub records_are : {X : Type 0} (size : ℕ) (Spells : List ℕ → X → Type 0) (f : X → List ℕ) (xs : List X) → ((x : X) → length (f x) ≡ size)
+    → All (λ x. Spells (f x) x) xs
     → AreRecords size Spells (flat_map f xs) xs
 records_are size Spells f [] sized h = refl
 records_are size Spells f (x ∷ xs) sized h =
     (f x, flat_map f xs, refl, sized x, All-head (λ x. Spells (f x) x) x xs h, records_are size Spells f xs sized (All-tail (λ x. Spells (f x) x) x xs h))
 
-pub records_length : {X : Type 0} (size : ℕ) (Spells : List ℕ → X → Type 0) (part : List ℕ) (xs : List X) → AreRecords size Spells part xs → length part ≡ length xs * size
+pub records_length : {X : Type 0} (size : ℕ) (Spells : List ℕ → X → Type 0) (part : List ℕ) (xs : List X) → AreRecords size Spells part xs
+    → length part ≡ length xs * size
 records_length size Spells part [] h = ap length h ∙ omega arith
 records_length size Spells part (x ∷ xs) h = grind (arith, length-append, records_length size Spells h.1 xs h.5)
 
@@ -55,12 +57,14 @@ begins_is text bytes h = grind (arith, and_parts, starts_with, nat_eq, nat_lt, s
 
 place_by : (t : Bool) (text : List ℕ) (b : ℕ) (bs : List ℕ) → HasNoZero text → begins text (b ∷ bs) ≡ t → cond t 0 (suc (place_of text bs)) < length (b ∷ bs)
     → (place_of text bs < length bs → StandsAt bs (place_of text bs) text) → StandsAt (b ∷ bs) (cond t 0 (suc (place_of text bs))) text
-place_by true text b bs none e h later = record { before = []; after = drop (length text + 1) (b ∷ bs); whole = begins_is text (b ∷ bs) e; at = refl; ends = none }
+place_by true text b bs none e h later =
+    record { before = []; after = drop (length text + 1) (b ∷ bs); whole = begins_is text (b ∷ bs) e; at = refl; ends = none }
 place_by false text b bs none e h later =
     let s = later (omega arith) in
     record { before = b ∷ s.before; after = s.after; whole = ap (λ (r : List ℕ). b ∷ r) s.whole; at = ap (λ n. suc n) s.at; ends = none }
 
-pub has_text : (text designations : List ℕ) → HasNoZero text → place_of text designations < length designations → StandsAt designations (place_of text designations) text
+pub has_text : (text designations : List ℕ) → HasNoZero text → place_of text designations < length designations
+    → StandsAt designations (place_of text designations) text
 has_text text [] none h = absurd (omega arith)
 has_text text (b ∷ bs) none h = place_by (begins text (b ∷ bs)) text b bs none refl h (has_text text bs none)
 
@@ -71,9 +75,11 @@ type_is : (designations : List ℕ) (t : LocalType) → HasPlace designations t 
 unfolding type_bytes signed_bytes
 type_is designations t p h = grind (arith, signed_32, has_text, no_zero)
 
-pub types_are : (designations : List ℕ) (types : List LocalType) → All (HasPlace designations) types → All IsType types → SpellTypes designations (flat_map (type_bytes designations) types) types
+pub types_are : (designations : List ℕ) (types : List LocalType) → All (HasPlace designations) types → All IsType types
+    → SpellTypes designations (flat_map (type_bytes designations) types) types
 unfolding type_bytes signed_bytes
-types_are designations types p h = records_are 6 (SpellsType designations) (type_bytes designations) types (λ t. refl) (λ k d l. type_is designations _ (p k d l) (h k d l))
+types_are designations types p h =
+    records_are 6 (SpellsType designations) (type_bytes designations) types (λ t. refl) (λ k d l. type_is designations _ (p k d l) (h k d l))
 
 -- ---- items appended one after another
 -- the pieces of one item more
@@ -85,6 +91,7 @@ flat_map_next {i = i} f old xs d l is e g = grind (arith, take_more, flat_map_mo
 abbrev pub ArePushed : {X : Type 0} → (X → List ℕ) → (X → Type 0) → List ℕ → List ℕ → List X → Type 0
 ArePushed f P old now xs = (now ≡ old ++ flat_map f xs) × All P xs
 
-pub pushed_next : {X : Type 0} {now later : List ℕ} {i : ℕ} {t : X} (f : X → List ℕ) (P : X → Type 0) (old : List ℕ) (xs : List X) (d : X) → i < length xs → t ≡ get_or xs i d
+pub pushed_next : {X : Type 0} {now later : List ℕ} {i : ℕ} {t : X} (f : X → List ℕ) (P : X → Type 0) (old : List ℕ) (xs : List X) (d : X)
+    → i < length xs → t ≡ get_or xs i d
     → ArePushed f P old now (take i xs) → later ≡ now ++ f t → P t → ArePushed f P old later (take (i + 1) xs)
 pushed_next {i = i} f P old xs d l is (e, all) g p = (flat_map_next f old xs d l is e g, All-more P xs i d l all (rw is at p))

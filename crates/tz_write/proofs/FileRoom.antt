@@ -108,7 +108,8 @@ end_stands {other = other} s h = record { before = s.before ++ h.front; after = 
 abbrev pub put_stands : (designations text : List ℕ) → Stands (designations ++ (text ++ 0 ∷ [])) text
 put_stands designations text = record { before = designations; after = []; whole = refl }
 
-pub place_of_put : (designations text other : List ℕ) → Ends text other → place_of other (designations ++ (text ++ 0 ∷ [])) + length other ≤ length designations + length text
+pub place_of_put : (designations text other : List ℕ) → Ends text other
+    → place_of other (designations ++ (text ++ 0 ∷ [])) + length other ≤ length designations + length text
 place_of_put designations text other h = let low = place_of_stands _ other (end_stands (put_stands designations text) h) in grind (arith, length-append)
 
 pub put_in : (designations text other : List ℕ) → Ends text other → In (designations ++ (text ++ 0 ∷ [])) other
@@ -126,13 +127,15 @@ end_in designations text other none h l = stands_in designations other (end_stan
 pub record Room (last designations others : List ℕ) (size : ℕ) : Type 0 where
   pub left : List ℕ
   pub fits : length designations + length left ≤ length others
-  pub rest : (text : List ℕ) → HasNoZero text → (length text ≤ size) ⊎ Ends last text → Stands others text → length designations ≤ place_of text designations → Stands left text
+  pub rest : (text : List ℕ) → HasNoZero text → (length text ≤ size) ⊎ Ends last text → Stands others text
+      → length designations ≤ place_of text designations → Stands left text
 
 smaller : (last designations others : List ℕ) (a b : ℕ) → b ≤ a → Room last designations others a → Room last designations others b
 smaller last designations others a b l r = grind arith
 
 -- a text that isn't there has room
-pub room_of : (last designations others text : List ℕ) (size : ℕ) → Room last designations others size → HasNoZero text → (length text ≤ size) ⊎ Ends last text → Stands others text
+pub room_of : (last designations others text : List ℕ) (size : ℕ) → Room last designations others size → HasNoZero text
+    → (length text ≤ size) ⊎ Ends last text → Stands others text
     → length designations ≤ place_of text designations → length designations + length text + 1 ≤ length others
 room_of last designations others text size r none small stands out = grind (arith, length-append)
 
@@ -141,7 +144,8 @@ pub no_front : (m text : List ℕ) → length (m ++ text) ≤ length text → m 
 no_front [] text l = refl
 no_front (x ∷ xs) text l = absurd (omega (arith, l, length-append xs text))
 
-still_out : (designations more text : List ℕ) → length (designations ++ more) ≤ place_of text (designations ++ more) → length designations ≤ place_of text designations
+still_out : (designations more text : List ℕ) → length (designations ++ more) ≤ place_of text (designations ++ more)
+    → length designations ≤ place_of text designations
 still_out designations more text h = grind (arith, in_longer)
 
 cut : (last text y left b a c d : List ℕ) (size : ℕ) → (Ends last text → ⊥) → length text ≡ size → (Ends text y → ⊥) → (length y ≤ size) ⊎ Ends last y
@@ -161,10 +165,20 @@ put_room last designations others text size none is_size free stands out r =
     let s = r.rest text none (inl (omega arith)) stands out in
     record {
       left = s.before ++ s.after;
-      fits = omega (arith, r.fits, ap length s.whole, length-append s.before (text ++ (0 ∷ s.after)), length-append text (0 ∷ s.after), length-append s.before s.after, length-append designations (text ++ 0 ∷ []), length-append text (0 ∷ []));
+      fits = omega (
+        arith,
+        r.fits,
+        ap length s.whole,
+        length-append s.before (text ++ (0 ∷ s.after)),
+        length-append text (0 ∷ s.after),
+        length-append s.before s.after,
+        length-append designations (text ++ 0 ∷ []),
+        length-append text (0 ∷ []),
+      );
       rest = λ y nothing small there still.
           let q = r.rest y nothing small there (still_out designations (text ++ 0 ∷ []) y still) in
-          cut last text y r.left s.before s.after q.before q.after size free is_size (λ e. absurd (omega (arith, put_in designations text y e, still))) small s.whole q.whole
+          cut last text y r.left s.before s.after q.before q.after size free is_size
+          (λ e. absurd (omega (arith, put_in designations text y e, still))) small s.whole q.whole
           (meet s.before text s.after q.before y q.after none nothing (sym s.whole ∙ q.whole));
     }
 
@@ -185,7 +199,8 @@ pub kept : (designations other text : List ℕ) → In designations text → In 
 kept designations other text h = by_text (λ d. In d text) designations other h (λ _ _. in_longer designations (other ++ 0 ∷ []) text h)
 
 -- a text for which there is room is put in
-pub put : (designations text : List ℕ) → (length designations ≤ place_of text designations → length designations + length text < 263) → In (with_text designations text) text
+pub put : (designations text : List ℕ) → (length designations ≤ place_of text designations → length designations + length text < 263)
+    → In (with_text designations text) text
 put designations text room = grind (arith, kept, put_is, put_in)
 
 -- ---- the texts of types
@@ -219,7 +234,8 @@ type_room : (last designations others : List ℕ) (size : ℕ) (t : LocalType) �
 type_room last designations others size t g r = by_turn (λ d. Room last d others size) last size designations t r (λ turn.
     by_text (λ d. Room last d others size) designations (name_of t) r (λ out room. grind (arith, put_room)))
 
-put_all : (last others : List ℕ) (size : ℕ) (types : List LocalType) (designations : List ℕ) → length others ≤ 263 → All (Given last others) types → Room last designations others size
+put_all : (last others : List ℕ) (size : ℕ) (types : List LocalType) (designations : List ℕ) → length others ≤ 263 → All (Given last others) types
+    → Room last designations others size
     → All (λ t. Turn last size t → In (fold (with_text_of last size) designations types) (name_of t)) types
 put_all last others size [] designations short g r i d l turn = absurd (omega (arith, l))
 put_all last others size (t ∷ ts) designations short g r (suc i) d l turn =
@@ -253,7 +269,8 @@ pub before_passed : (last others : List ℕ) (types : List LocalType) → All (G
 unfolding before_last with_texts
 before_passed last others types g = let step = pass last others types g in grind arith
 
-pub before_keeps : (P : List ℕ → Type 0) → ((d text : List ℕ) → P d → P (with_text d text)) → (last : List ℕ) (types : List LocalType) → P [] → P (before_last last types)
+pub before_keeps : (P : List ℕ → Type 0) → ((d text : List ℕ) → P d → P (with_text d text)) → (last : List ℕ) (types : List LocalType)
+    → P [] → P (before_last last types)
 unfolding before_last with_texts
 before_keeps P step last types h = let all = keeps_all P step last in grind arith
 

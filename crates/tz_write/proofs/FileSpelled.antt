@@ -17,8 +17,22 @@ CountsFit c = (c.ut_local < 2 ^ 32) × (c.standard_wall < 2 ^ 32) × (c.leap_sec
 
 counts_are : (c : Counts) (rest : List ℕ) → CountsFit c → Spells six_counts (counts_bytes c ++ rest) c rest
 unfolding counts_bytes number_bytes six_counts
-counts_are c rest (a, b, d, e, f, g) =
-    (_, _, number_is c.ut_local _ a, (_, _, number_is c.standard_wall _ b, (_, _, number_is c.leap_seconds _ d, (_, _, number_is c.transitions _ e, (_, _, number_is c.types _ f, (_, _, number_is c.designations _ g, (refl, refl)))))))
+counts_are c rest (a, b, d, e, f, g) = (
+  _,
+  _,
+  number_is c.ut_local _ a,
+  (
+    _,
+    _,
+    number_is c.standard_wall _ b,
+    (
+      _,
+      _,
+      number_is c.leap_seconds _ d,
+      (_, _, number_is c.transitions _ e, (_, _, number_is c.types _ f, (_, _, number_is c.designations _ g, (refl, refl)))),
+    ),
+  ),
+)
 
 abbrev pub version_of : Bool → Version
 version_of true = Three
@@ -31,8 +45,17 @@ version_is place extended rest = grind arith
 pub header_is : (place : Place) (extended : Bool) (c : Counts) (rest : List ℕ) → CountsFit c → CountsAgree c
     → Spells (header place) (header_bytes extended c ++ rest) (record { version = version_of extended; counts = c }) rest
 unfolding header_bytes header tzif
-header_is place extended c rest fit agree =
-    (tt, _, (magic, _, (refl, refl), (refl, refl, refl)), (version_of extended, _, version_is place extended (unused ++ (counts_bytes c ++ rest)), (unused, counts_bytes c ++ rest, (refl, refl), (c, rest, counts_are c rest fit, (agree, refl, refl)))))
+header_is place extended c rest fit agree = (
+  tt,
+  _,
+  (magic, _, (refl, refl), (refl, refl, refl)),
+  (
+    version_of extended,
+    _,
+    version_is place extended (unused ++ (counts_bytes c ++ rest)),
+    (unused, counts_bytes c ++ rest, (refl, refl), (c, rest, counts_are c rest fit, (agree, refl, refl))),
+  ),
+)
 
 -- ---- footers
 -- letters, digits and signs of ASCII, and no colon in front
@@ -44,13 +67,25 @@ ascii : (text : List ℕ) → AreTextBytes text → All (λ b. b < 128) (text ++
 ascii [] h = All-cons (λ b. b < 128) 10 [] (omega arith) (All-nil (λ b. b < 128))
 ascii (b ∷ bs) h = All-cons (λ b. b < 128) b (bs ++ 10 ∷ []) (limits b h.0).1 (ascii bs h.1)
 
-pub footer_is : (extended : Bool) (text : List ℕ) (rule : Option TransitionRule) → IsPlain text → SaysRule extended text rule → IsFooter extended (footer_bytes text) rule
+pub footer_is : (extended : Bool) (text : List ℕ) (rule : Option TransitionRule) → IsPlain text → SaysRule extended text rule
+    → IsFooter extended (footer_bytes text) rule
 footer_is extended text rule p says = record {
   text = text;
   has_text = record {
-    utf8 = IsUtf8-from_ascii (footer_bytes text) (IsAscii-from_all (footer_bytes text) (All-cons (λ b. b < 128) 10 (text ++ 10 ∷ []) (omega arith) (ascii text p.bytes)));
+    utf8 = IsUtf8-from_ascii (footer_bytes text)
+        (IsAscii-from_all (footer_bytes text) (All-cons (λ b. b < 128) 10 (text ++ 10 ∷ []) (omega arith) (ascii text p.bytes)));
     newlines = record { after_first = text ++ 10 ∷ []; before_last = 10 ∷ text; starts = refl; ends = refl };
-    trimmed = record { before = 10 ∷ []; after = 10 ∷ []; whole = refl; space_before = (refl, tt); space_after = (refl, tt); first = begins_bare text p.bytes; last = ends_bare text p.bytes };
+    trimmed =
+        record {
+          before = 10 ∷ [];
+          after = 10 ∷ [];
+          whole = refl;
+          space_before = (refl, tt);
+          space_after = (refl, tt);
+          first = begins_bare text
+              p.bytes;
+          last = ends_bare text p.bytes;
+        };
   };
   no_colon = p.no_colon;
   no_zero = no_zeros text p.bytes;
@@ -63,10 +98,13 @@ least_parts =
     record { times = []; type_indexes = []; types = 0 ∷ 0 ∷ 0 ∷ 0 ∷ 0 ∷ 0 ∷ []; designations = 0 ∷ []; leap_seconds = []; standard_wall = []; ut_local = [] }
 
 -- parts of the lengths that the counts announce, end to end, are a block
-block_is : (w : ℕ) (c : Counts) (p : Parts) (rest : List ℕ) → length p.times ≡ c.transitions * w → length p.type_indexes ≡ c.transitions → length p.types ≡ c.types * 6 → length p.designations ≡ c.designations
-    → length p.leap_seconds ≡ c.leap_seconds * (w + 4) → length p.standard_wall ≡ c.standard_wall → length p.ut_local ≡ c.ut_local → Spells (block w c) (block_bytes p rest) p rest
+block_is : (w : ℕ) (c : Counts) (p : Parts) (rest : List ℕ) → length p.times ≡ c.transitions * w → length p.type_indexes ≡ c.transitions
+    → length p.types ≡ c.types * 6 → length p.designations ≡ c.designations
+    → length p.leap_seconds ≡ c.leap_seconds * (w + 4) → length p.standard_wall ≡ c.standard_wall → length p.ut_local ≡ c.ut_local
+    → Spells (block w c) (block_bytes p rest) p rest
 unfolding block
-block_is w c p rest h i j k l m n = (_, _, (refl, h), (_, _, (refl, i), (_, _, (refl, j), (_, _, (refl, k), (_, _, (refl, l), (_, _, (refl, m), (_, _, (refl, n), (refl, refl))))))))
+block_is w c p rest h i j k l m n =
+    (_, _, (refl, h), (_, _, (refl, i), (_, _, (refl, j), (_, _, (refl, k), (_, _, (refl, l), (_, _, (refl, m), (_, _, (refl, n), (refl, refl))))))))
 
 first_block : (rest : List ℕ) → Spells (block 4 least_counts) (least_block ++ rest) least_parts rest
 unfolding least_parts
@@ -83,38 +121,49 @@ some_designations (t ∷ ts) d some places e = let p = (places 0 t some).stands 
 zone_agree : (d : List ℕ) (z : Zone) → 0 < length z.types → HavePlaces d z.types → CountsAgree (zone_counts d z)
 zone_agree d z some places = grind (arith, some_designations)
 
-second_block : (d : List ℕ) (z : Zone) (rest : List ℕ) → HavePlaces d z.types → IsSound z → Spells (block 8 (zone_counts d z)) (block_bytes (zone_parts d z) rest) (zone_parts d z) rest
+second_block : (d : List ℕ) (z : Zone) (rest : List ℕ) → HavePlaces d z.types → IsSound z
+    → Spells (block 8 (zone_counts d z)) (block_bytes (zone_parts d z) rest) (zone_parts d z) rest
 second_block d z rest places sound =
     let transitions = transitions_are z.transitions sound.times in
     block_is 8 (zone_counts d z) (zone_parts d z) rest (records_length 8 _ _ z.transitions transitions.times_are)
-    (ap length transitions.indexes_are ∙ length-map z.transitions (λ t. t.type_index)) (records_length 6 _ _ z.types (types_are d z.types places sound.types)) refl
+    (ap length transitions.indexes_are ∙ length-map z.transitions (λ t. t.type_index))
+    (records_length 6 _ _ z.types (types_are d z.types places sound.types)) refl
     (records_length 12 _ _ z.leaps (leaps_are z.leaps sound.leaps)) refl refl
 
 pieces_of : Bool → List ℕ → List ℕ → Zone → FilePieces
 pieces_of extended text d z = later_pieces (record { version = version_of extended; counts = zone_counts d z }) (zone_parts d z) (footer_bytes text)
 
-second_is : (extended : Bool) (text d : List ℕ) (z : Zone) → length d ≤ 263 → HasCounts z → 0 < length z.types → HavePlaces d z.types → IsSound z → Spells later_version (second_half extended text d z) (pieces_of extended text d z) []
+second_is : (extended : Bool) (text d : List ℕ) (z : Zone) → length d ≤ 263 → HasCounts z → 0 < length z.types → HavePlaces d z.types → IsSound z
+    → Spells later_version (second_half extended text d z) (pieces_of extended text d z) []
 unfolding second_half pieces_of later_version
 second_is extended text d z size counts some places sound =
-    let head = header_is Second extended (zone_counts d z) (block_bytes (zone_parts d z) (footer_bytes text)) (zone_fit d z size counts) (zone_agree d z some places) in
+    let head = header_is Second extended (zone_counts d z) (block_bytes (zone_parts d z) (footer_bytes text)) (zone_fit d z size counts)
+    (zone_agree d z some places) in
     (_, _, head, (_, _, second_block d z (footer_bytes text) places sound, (_, [], (refl, refl), (refl, refl))))
 
-after_is : (extended : Bool) (c : Counts) (p : Parts) (rest : List ℕ) (pieces : FilePieces) → Spells later_version rest pieces [] → Spells (after_first_block (version_of extended) c p) rest pieces []
+after_is : (extended : Bool) (c : Counts) (p : Parts) (rest : List ℕ) (pieces : FilePieces) → Spells later_version rest pieces []
+    → Spells (after_first_block (version_of extended) c p) rest pieces []
 unfolding after_first_block
 after_is extended c p rest pieces h = grind arith
 
 -- ---- the whole
-file_pieces : (extended : Bool) (text d : List ℕ) (z : Zone) → length d ≤ 263 → HasCounts z → 0 < length z.types → HavePlaces d z.types → IsSound z → HasPieces (file_bytes extended text d z) (pieces_of extended text d z)
+file_pieces : (extended : Bool) (text d : List ℕ) (z : Zone) → length d ≤ 263 → HasCounts z → 0 < length z.types → HavePlaces d z.types → IsSound z
+    → HasPieces (file_bytes extended text d z) (pieces_of extended text d z)
 unfolding file_bytes first_half header_bytes counts_bytes number_bytes file
 file_pieces extended text d z size counts some places sound =
     let second = second_is extended text d z size counts some places sound in
     let least = (counts_test least_counts).decides.0 refl in
     (_, _, header_is First extended least_counts _ (grind arith) least, (_, _, first_block _, after_is extended least_counts least_parts _ _ second))
 
-says_zone : (extended : Bool) (text d : List ℕ) (z : Zone) → HavePlaces d z.types → IsSound z → IsFooter extended (footer_bytes text) z.rule → SayZone (pieces_of extended text d z) z
+says_zone : (extended : Bool) (text d : List ℕ) (z : Zone) → HavePlaces d z.types → IsSound z → IsFooter extended (footer_bytes text) z.rule
+    → SayZone (pieces_of extended text d z) z
 unfolding pieces_of
 says_zone extended text d z places sound footer = grind (arith, transitions_are, types_are, leaps_are)
 
-pub file_is : (extended : Bool) (text d : List ℕ) (z : Zone) → length d ≤ 263 → HasCounts z → 0 < length z.types → HavePlaces d z.types → IsSound z → IsPlain text → SaysRule extended text z.rule → IsTzFile (file_bytes extended text d z) z
-file_is extended text d z size counts some places sound plain says =
-    (pieces_of extended text d z, file_pieces extended text d z size counts some places sound, says_zone extended text d z places sound (footer_is extended text z.rule plain says))
+pub file_is : (extended : Bool) (text d : List ℕ) (z : Zone) → length d ≤ 263 → HasCounts z → 0 < length z.types → HavePlaces d z.types → IsSound z
+    → IsPlain text → SaysRule extended text z.rule → IsTzFile (file_bytes extended text d z) z
+file_is extended text d z size counts some places sound plain says = (
+  pieces_of extended text d z,
+  file_pieces extended text d z size counts some places sound,
+  says_zone extended text d z places sound (footer_is extended text z.rule plain says),
+)

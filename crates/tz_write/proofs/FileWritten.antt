@@ -6,7 +6,8 @@ use Rattle.tz_write.proofs.Words.{refl, second_half, subst, sym, true, ℕ, [], 
 use Rattle.tz_write.proofs.{FileLayouts.{AreLaid, laid_of, laid_size}, FileLimits.{writable}, FileSpelled.{IsPlain, file_is}}
 use Rattle.tz_write.proofs.{RuleTexts.{extensions, rule_named, rule_text, text_are, text_begins, text_some}}
 
-text_is : (rule : Option TransitionRule) (text : List ℕ) (extended : Bool) → IsRuleOrNone rule → IsFooterText rule text extended → IsPlain text × SaysRule extended text rule
+text_is : (rule : Option TransitionRule) (text : List ℕ) (extended : Bool) → IsRuleOrNone rule → IsFooterText rule text extended
+    → IsPlain text × SaysRule extended text rule
 text_is (Some rule) text extended fits h =
     let named = rule_named extended text rule h.spells in let same = rule_text rule text extended fits h in
     let first = text_begins rule named in grind (arith, text_are)
@@ -16,7 +17,8 @@ has_version : (extended : Bool) (text d : List ℕ) (z : Zone) → HaveVersion e
 unfolding file_bytes first_half second_half header_bytes counts_bytes number_bytes
 has_version extended text d z = record { first = refl; second = refl }
 
-pub written_is : (z : Zone) (d text : List ℕ) (extended : Bool) (bytes : List ℕ) → HasCounts z → AreLaid z.types d → IsSound z → 0 < length z.types → IsRuleOrNone z.rule
+pub written_is : (z : Zone) (d text : List ℕ) (extended : Bool) (bytes : List ℕ) → HasCounts z → AreLaid z.types d → IsSound z
+    → 0 < length z.types → IsRuleOrNone z.rule
     → IsFooterText z.rule text extended → bytes ≡ file_bytes extended text d z → IsWrittenFile z bytes
 written_is z d text extended bytes counts laid sound some fits footer e =
     let p = text_is z.rule text extended fits footer in
@@ -36,7 +38,8 @@ pub one_file : (z : Zone) (a b : List ℕ) → IsWrittenFile z a → IsWrittenFi
 one_file z a b h k = grind arith
 
 -- ---- versions
-pub needs_extensions : (rule : Option TransitionRule) (text : List ℕ) (extended : Bool) → IsRuleOrNone rule → IsFooterText rule text extended → (extended ≡ true) ↔ NeedsExtensions rule
+pub needs_extensions : (rule : Option TransitionRule) (text : List ℕ) (extended : Bool) → IsRuleOrNone rule → IsFooterText rule text extended
+    → (extended ≡ true) ↔ NeedsExtensions rule
 needs_extensions rule text extended fits h = grind (arith, extensions, both_ways)
 
 -- ---- a zone without a file

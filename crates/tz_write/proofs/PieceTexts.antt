@@ -43,7 +43,8 @@ name_writes name rest h none = let all : AllOf is_name_byte name = all_of is_nam
     elim (list_all is_letter name) as (λ t. list_all is_letter name ≡ t → Writes tz.name (cond t name (less ∷ name ++ (greater ∷ []))) name rest) [
       | true ↦ λ e. let l = h.0 in let each = all_from is_letter name e in
           writes_other (without less (letters_begin name rest (omega arith) each) (inl (omega arith))) (run_writes is_letter name rest each all none)
-      | false ↦ λ e. writes_mark refl (writes_then (run_writes is_not_greater name (greater ∷ rest) (all_others is_name_byte is_not_greater not_greater name all) all refl)
+      | false ↦ λ e. writes_mark refl
+          (writes_then (run_writes is_not_greater name (greater ∷ rest) (all_others is_name_byte is_not_greater not_greater name all) all refl)
           (writes_byte refl (writes_nothing refl)))
     ] refl
 
@@ -53,21 +54,24 @@ quoted_best t name = grind (arith, length-append)
 pub name_front : (bytes name rest : List ℕ) → Spells tz.name bytes name rest → Front (spelled_name name) bytes rest
 unfolding tz.name tz.quoted
 name_front bytes name rest (inl (_, is, (text, _, run, (_, end, close, (value, same))))) =
-    rw (value, ← same) (record { front = less ∷ text ++ (greater ∷ []); whole = grind (arith, append_assoc); best = λ _. quoted_best (list_all is_letter text) text })
+    rw (value, ← same)
+    (record { front = less ∷ text ++ (greater ∷ []); whole = grind (arith, append_assoc); best = λ _. quoted_best (list_all is_letter text) text })
 name_front bytes name rest (inr (_, run)) = record { front = name; whole = run.whole; best = λ _. rw (all_to is_letter name run.each) (inl refl) }
 
 -- a name's text begins with a letter or `<`
 pub name_begins : (name rest : List ℕ) → IsName name → Begins 60 122 (spelled_name name ++ rest)
-name_begins name rest h = elim (list_all is_letter name) as (λ t. list_all is_letter name ≡ t → Begins 60 122 (cond t name (less ∷ name ++ (greater ∷ [])) ++ rest)) [
-  | true ↦ λ e. let l = h.0 in let f = letters_begin name rest (omega arith) (all_from is_letter name e) in grind arith
-  | false ↦ λ e. record { first = less; others = (name ++ (greater ∷ [])) ++ rest; is = refl; above = omega arith; below = omega arith }
-] refl
+name_begins name rest h =
+    elim (list_all is_letter name) as (λ t. list_all is_letter name ≡ t → Begins 60 122 (cond t name (less ∷ name ++ (greater ∷ [])) ++ rest)) [
+      | true ↦ λ e. let l = h.0 in let f = letters_begin name rest (omega arith) (all_from is_letter name e) in grind arith
+      | false ↦ λ e. record { first = less; others = (name ++ (greater ∷ [])) ++ rest; is = refl; above = omega arith; below = omega arith }
+    ] refl
 
 -- ---- dates
 date_writes : (form : DayForm) (rest : List ℕ) → IsRuleDay form → NoneFirst is_digit rest → Writes tz.date (spelled_date form) form rest
 unfolding tz.date tz.month_date tz.julian_date tz.numbered_day tz.checked_day
 date_writes (Julian1 n) rest h none = let l = h.1 in
-    writes_other (λ e. absurd (omega arith)) (writes_mark refl (writes_here (writes_last (number_writes day_max n rest (omega arith) (omega arith) none) (h, refl, refl))))
+    writes_other (λ e. absurd (omega arith))
+    (writes_mark refl (writes_here (writes_last (number_writes day_max n rest (omega arith) (omega arith) none) (h, refl, refl))))
 date_writes (Julian0 n) rest h none = let first = number_begins n rest (omega arith) in
     writes_other (without letter_M first (inr (omega arith))) (writes_other (without letter_J first (inr (omega arith)))
     (writes_here (writes_last (number_writes day_max n rest (omega arith) (omega arith) none) (h, refl, refl))))
@@ -86,12 +90,14 @@ date_front bytes form rest (inr (_, inl (_, is, (_, _, number, (_, value, same))
 date_front bytes form rest (inr (_, inr (_, (_, _, number, (_, value, same))))) = rw (value, ← same) (number_front (omega arith) number)
 
 -- ---- the time after a date
-after_writes : (extended : Bool) (time : ℤ) (rest : List ℕ) → IsTextTime extended time → Stops rest → Writes (tz.optional_time extended) (time_after time) time rest
+after_writes : (extended : Bool) (time : ℤ) (rest : List ℕ) → IsTextTime extended time → Stops rest
+    → Writes (tz.optional_time extended) (time_after time) time rest
 unfolding tz.optional_time
 after_writes extended time rest h stops = writes_optional (int_eq time (pos 7_200)) ((Decides-int_eq time (pos 7_200)).0) stops.2
     (λ _. writes_mark refl (time_writes extended time rest h stops))
 
-after_front : (extended : Bool) (bytes : List ℕ) (time : ℤ) (rest : List ℕ) → Spells (tz.optional_time extended) bytes time rest → Front (time_after time) bytes rest
+after_front : (extended : Bool) (bytes : List ℕ) (time : ℤ) (rest : List ℕ) → Spells (tz.optional_time extended) bytes time rest
+    → Front (time_after time) bytes rest
 unfolding tz.optional_time
 after_front extended bytes time rest h = front_optional slash (pos 7_200) (tz.time extended) (int_eq time (pos 7_200))
     (λ after is p. front_cons is (time_front extended after time rest p)) ((Decides-int_eq time (pos 7_200)).1) h
@@ -101,14 +107,17 @@ unfolding tz.optional_time
 after_plain bytes time rest h = grind (arith, time_plain)
 
 -- ---- days
-pub day_writes : (extended : Bool) (d : DayTime) (rest : List ℕ) → IsRuleDay d.day → IsTextTime extended d.time → Stops rest → Writes (tz.day extended) (spelled_day d) d rest
+pub day_writes : (extended : Bool) (d : DayTime) (rest : List ℕ) → IsRuleDay d.day → IsTextTime extended d.time → Stops rest
+    → Writes (tz.day extended) (spelled_day d) d rest
 unfolding tz.day
-day_writes extended d rest h t stops = writes_then (date_writes d.day (time_after d.time ++ rest) h (first_optional is_digit (int_eq d.time (pos 7_200)) slash _ rest refl stops.0))
+day_writes extended d rest h t stops =
+    writes_then (date_writes d.day (time_after d.time ++ rest) h (first_optional is_digit (int_eq d.time (pos 7_200)) slash _ rest refl stops.0))
     (writes_last (after_writes extended d.time rest t stops) (refl, refl))
 
 pub day_front : (extended : Bool) (bytes : List ℕ) (d : DayTime) (rest : List ℕ) → Spells (tz.day extended) bytes d rest → Front (spelled_day d) bytes rest
 unfolding tz.day
-day_front extended bytes d rest (form, after, date, (at, end, time, (value, same))) = rw (value, ← same) (front_then (date_front bytes form after date) (after_front extended after at end time))
+day_front extended bytes d rest (form, after, date, (at, end, time, (value, same))) =
+    rw (value, ← same) (front_then (date_front bytes form after date) (after_front extended after at end time))
 
 pub day_plain : (bytes : List ℕ) (d : DayTime) (rest : List ℕ) → Spells (tz.day false) bytes d rest → IsPlainTime d.time
 unfolding tz.day
@@ -118,17 +127,22 @@ day_plain bytes d rest (_, after, _, (at, end, time, (value, _))) = rw value (af
 -- the offset has its comma after it
 pub dst_offset_writes : (std dst : ℤ) (rest : List ℕ) → IsWithinDay dst → Writes (tz.dst_offset std) (spelled_dst_offset std dst ++ (comma ∷ [])) dst rest
 unfolding tz.dst_offset tz.next_hour tz.given_offset tz.more
-dst_offset_writes std dst rest h = elim (int_eq dst (std +ℤ pos 3_600)) as (λ t. int_eq dst (std +ℤ pos 3_600) ≡ t → Writes (tz.dst_offset std) (cond t [] (spelled_offset dst) ++ (comma ∷ [])) dst rest) [
-  | true ↦ λ e. let v = (Decides-int_eq dst _).0 e in writes_here (writes_mark refl (writes_at (rw v (writes_check (let l = h.1 in omega (arith, ints))))))
-  | false ↦ λ e. let first : Begins 45 57 ((spelled_offset dst ++ (comma ∷ [])) ++ rest) = rw (append_assoc (spelled_offset dst) (comma ∷ []) rest) (offset_begins dst (comma ∷ rest) h) in
-      writes_here (writes_other (without comma first (inl (omega arith))) (writes_first tt (inr (not_empty first, (refl, refl)))
-      (writes_then (offset_writes dst (comma ∷ rest) h (comma_stops rest)) (writes_first tt (inr ((λ e. cc), (refl, refl))) (writes_byte refl (writes_nothing refl))))))
-] refl
+dst_offset_writes std dst rest h =
+    elim (int_eq dst (std +ℤ pos 3_600)) as (λ t. int_eq dst (std +ℤ pos 3_600) ≡ t
+    → Writes (tz.dst_offset std) (cond t [] (spelled_offset dst) ++ (comma ∷ [])) dst rest) [
+      | true ↦ λ e. let v = (Decides-int_eq dst _).0 e in writes_here (writes_mark refl (writes_at (rw v (writes_check (let l = h.1 in omega (arith, ints))))))
+      | false ↦ λ e. let first : Begins 45 57 ((spelled_offset dst ++ (comma ∷ [])) ++ rest) =
+          rw (append_assoc (spelled_offset dst) (comma ∷ []) rest) (offset_begins dst (comma ∷ rest) h) in
+          writes_here (writes_other (without comma first (inl (omega arith))) (writes_first tt (inr (not_empty first, (refl, refl)))
+          (writes_then (offset_writes dst (comma ∷ rest) h (comma_stops rest))
+          (writes_first tt (inr ((λ e. cc), (refl, refl))) (writes_byte refl (writes_nothing refl))))))
+    ] refl
 
 given_front : (bytes : List ℕ) (dst : ℤ) (rest : List ℕ) → Spells tz.given_offset bytes dst rest → Front (spelled_offset dst) bytes (comma ∷ rest)
 unfolding tz.given_offset tz.more
 given_front bytes dst rest h = grind (arith, offset_front)
 
-pub dst_offset_front : (std : ℤ) (bytes : List ℕ) (dst : ℤ) (rest : List ℕ) → Spells (tz.dst_offset std) bytes dst rest → Front (spelled_dst_offset std dst) bytes (comma ∷ rest)
+pub dst_offset_front : (std : ℤ) (bytes : List ℕ) (dst : ℤ) (rest : List ℕ) → Spells (tz.dst_offset std) bytes dst rest
+    → Front (spelled_dst_offset std dst) bytes (comma ∷ rest)
 unfolding tz.dst_offset tz.next_hour
 dst_offset_front std bytes dst rest h = grind (arith, front_nothing, front_unless, int_eq, given_front)

@@ -29,7 +29,35 @@ rule_read extended bytes rule (name, after, n, (east, end, o, inl (none, (t, _, 
   plain = λ _. tt;
   best = front_whole (front_then (name_front bytes name after n) (subst (Front (spelled_offset east) after) none (offset_front after east end o)));
 })
-rule_read extended bytes rule (name, after, n, (east, end, o, inr (_, (dst_name, at_dst, d, (dst_east, at_days, f, ((x, y), last, (start, at_comma, p, (_, at_end, c, (stop, fin, q, (both, same)))), (_, _, e, (s, _, (s_fits, s_is, _), (t, _, (t_fits, t_is, _), (value, _)))))))))) =
+rule_read extended bytes rule (
+  name,
+  after,
+  n,
+  (
+    east,
+    end,
+    o,
+    inr (
+      _,
+      (
+        dst_name,
+        at_dst,
+        d,
+        (
+          dst_east,
+          at_days,
+          f,
+          (
+            (x, y),
+            last,
+            (start, at_comma, p, (_, at_end, c, (stop, fin, q, (both, same)))),
+            (_, _, e, (s, _, (s_fits, s_is, _), (t, _, (t_fits, t_is, _), (value, _)))),
+          ),
+        ),
+      ),
+    ),
+  ),
+) =
     let none : last ≡ [] = elim e [ inl k ↦ k.0 | inr k ↦ absurd k.1 ] in
     let first : x ≡ start = ap (λ (z : DayTime × DayTime). z.0) both in
     let second : y ≡ stop = ap (λ (z : DayTime × DayTime). z.1) both in
@@ -88,19 +116,29 @@ rule_writes extended (rules.Alternate a) fits ((m, s), (n, d)) (start, end) =
     let first : name_of a.std ≡ m = ap name_or_none s.named in let second : name_of a.dst ≡ n = ap name_or_none d.named in
     let std = a.std.offset in let dst = a.dst.offset in let tail = spelled_name n ++ from_offset a in
     rw (first, second, append_assoc (spelled_name m) (spelled_offset std) tail)
-    (writes_here (writes_then (name_writes m ((spelled_offset std ++ tail) ++ []) s.allowed (rw (append_assoc (spelled_offset std) tail []) (no_letter (offset_begins std (tail ++ []) fits.within.std_offset))))
-    (writes_then (offset_writes std (tail ++ []) fits.within.std_offset (rw (append_assoc (spelled_name n) (from_offset a) []) (name_stops n (from_offset a ++ []) d.allowed)))
+    (writes_here
+    (writes_then (name_writes m ((spelled_offset std ++ tail) ++ []) s.allowed
+    (rw (append_assoc (spelled_offset std) tail []) (no_letter (offset_begins std (tail ++ []) fits.within.std_offset))))
+    (writes_then (offset_writes std (tail ++ []) fits.within.std_offset
+    (rw (append_assoc (spelled_name n) (from_offset a) []) (name_stops n (from_offset a ++ []) d.allowed)))
     (writes_more (rw (append_assoc (spelled_name n) (from_offset a) []) (not_empty (name_begins n (from_offset a ++ []) d.allowed)))
-    (writes_here (writes_then (name_writes n (from_offset a ++ []) d.allowed (rw (append_assoc (spelled_dst_offset std dst) (comma ∷ days_of a) []) (dst_ends_name std dst (days_of a ++ []) fits.within.dst_offset)))
+    (writes_here
+    (writes_then (name_writes n (from_offset a ++ []) d.allowed
+    (rw (append_assoc (spelled_dst_offset std dst) (comma ∷ days_of a) []) (dst_ends_name std dst (days_of a ++ []) fits.within.dst_offset)))
     (rw (← append_assoc (spelled_dst_offset std dst) (comma ∷ []) (days_of a)) (writes_then (dst_offset_writes std dst (days_of a ++ []) fits.within.dst_offset)
-    (writes_last (days_write extended a fits start end)
-    (tt, [], inl (refl, (refl, refl)), (a.std, [], (s.allowed, type_is m false a.std s, refl), (a.dst, [], (d.allowed, type_is n true a.dst d, refl), (refl, refl)))))))))))))
+    (writes_last (days_write extended a fits start end) (
+      tt,
+      [],
+      inl (refl, (refl, refl)),
+      (a.std, [], (s.allowed, type_is m false a.std s, refl), (a.dst, [], (d.allowed, type_is n true a.dst d, refl), (refl, refl))),
+    ))))))))))
 
 -- ---- rules
 pub times_extended : (rule : TransitionRule) → IsRule rule → AreTimesOf true rule
 times_extended rule fits = grind (arith, ints, nat_tests)
 
-pub rule_spelled : (extended : Bool) (rule : TransitionRule) → IsRule rule → CanBeSpelled rule → AreTimesOf extended rule → IsTzText extended (spelled_rule rule) rule
+pub rule_spelled : (extended : Bool) (rule : TransitionRule) → IsRule rule → CanBeSpelled rule → AreTimesOf extended rule
+    → IsTzText extended (spelled_rule rule) rule
 rule_spelled extended rule fits h times = grind (arith, ints, nat_tests, append-nil, rule_writes)
 
 pub rule_pairs : (rule : TransitionRule) → IsRule rule → CanBeSpelled rule → AreInPairs (spelled_rule rule)
@@ -114,7 +152,8 @@ pub text_begins : (rule : TransitionRule) → CanBeSpelled rule → Begins 60 12
 text_begins rule named = grind (arith, name_begins, append_assoc)
 
 -- the text has extensions if one without doesn't have room for the times
-pub written : (rule : TransitionRule) (plain : Bool) → IsRule rule → CanBeSpelled rule → ((plain ≡ true) ↔ AreTimesOf false rule) → IsWrittenText rule (spelled_rule rule) (not plain)
+pub written : (rule : TransitionRule) (plain : Bool) → IsRule rule → CanBeSpelled rule → ((plain ≡ true) ↔ AreTimesOf false rule)
+    → IsWrittenText rule (spelled_rule rule) (not plain)
 written rule plain fits h is = grind (arith, rule_spelled, rule_pairs, rule_read)
 
 -- each of two is the shortest
@@ -144,7 +183,8 @@ pub rule_text : (rule : TransitionRule) (text : List ℕ) (extended : Bool) → 
 rule_text rule text extended fits h = grind (arith, ints, nat_tests, text_is, rule_named, text_once)
 
 -- a text has extensions if the rule's times need them
-pub extensions : (rule : TransitionRule) (text : List ℕ) (extended : Bool) → IsRule rule → IsWrittenText rule text extended → (extended ≡ true) ↔ (¬ (AreTimesOf false rule))
+pub extensions : (rule : TransitionRule) (text : List ℕ) (extended : Bool) → IsRule rule → IsWrittenText rule text extended
+    → (extended ≡ true) ↔ (¬ (AreTimesOf false rule))
 extensions rule text extended fits h = grind (arith, rule_spelled, rule_named, both_ways, rule_read)
 
 -- what a law says of the text of a rule

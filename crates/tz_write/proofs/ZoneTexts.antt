@@ -33,10 +33,12 @@ best_of_trimmed : (text bytes trimmed : List ℕ) → IsTrimmed bytes trimmed �
 best_of_trimmed text bytes trimmed t best = let whole = trimmed_or_longer t.before trimmed t.after in subst (Best text) (sym t.whole) (grind arith)
 
 -- a text that gives it spells the rule, but for white space at its ends
-spells_rule : (text : List ℕ) (types : List LocalType) (rule : TransitionRule) → IsPosixZone text (zone_of_rule types (Some rule)) → (trimmed : List ℕ) × IsTrimmed text trimmed × IsTzText false trimmed rule × (types ≡ types_of rule)
+spells_rule : (text : List ℕ) (types : List LocalType) (rule : TransitionRule) → IsPosixZone text (zone_of_rule types (Some rule))
+    → (trimmed : List ℕ) × IsTrimmed text trimmed × IsTzText false trimmed rule × (types ≡ types_of rule)
 spells_rule text types rule gives = grind arith
 
-pub written_zone : (types : List LocalType) (rule : TransitionRule) → IsRule rule → HasZoneText types (Some rule) → IsWrittenZone (zone_of_rule types (Some rule)) (spelled_rule rule)
+pub written_zone : (types : List LocalType) (rule : TransitionRule) → IsRule rule → HasZoneText types (Some rule)
+    → IsWrittenZone (zone_of_rule types (Some rule)) (spelled_rule rule)
 written_zone types rule fits h =
     let named = h.1.0 in
     let text = rule_spelled false rule fits named h.1.1 in
@@ -58,10 +60,12 @@ pub no_zone_text : (types : List LocalType) (rule : Option TransitionRule) → �
 no_zone_text types rule none = λ text gives. none ((given text (zone_of_rule types rule) gives).rule)
 
 -- ---- transitions and leap seconds
-pub zone_is : (z : Zone) (types : List LocalType) (rule : Option TransitionRule) → (z.transitions ≡ []) × (z.leaps ≡ []) → types ≡ z.types → rule ≡ z.rule → zone_of_rule types rule ≡ z
+pub zone_is : (z : Zone) (types : List LocalType) (rule : Option TransitionRule) → (z.transitions ≡ []) × (z.leaps ≡ []) → types ≡ z.types
+    → rule ≡ z.rule → zone_of_rule types rule ≡ z
 zone_is z types rule h t r = grind arith
 
-rule_some : (types : List LocalType) (rule : Option TransitionRule) → IsRuleOrNone rule → HasZoneText types rule → (text : List ℕ) × IsWrittenZone (zone_of_rule types rule) text
+rule_some : (types : List LocalType) (rule : Option TransitionRule) → IsRuleOrNone rule → HasZoneText types rule
+    → (text : List ℕ) × IsWrittenZone (zone_of_rule types rule) text
 rule_some types (Some rule) fits h = (spelled_rule rule, written_zone types rule fits h)
 rule_some types None fits h = grind arith
 

@@ -62,7 +62,7 @@ HasPlainText rule = CanBeSpelled rule × AreTimesOf false rule
 abbrev pub IsUnspelled : TransitionRule → Type 0
 IsUnspelled rule = (extended : Bool) (bytes : List ℕ) → ¬ (IsTzText extended bytes rule)
 
--- the text that is written of a rule, and whether it is one with extensions: it spells the rule; it has extensions only where
+-- the text that is written of a rule, and whether it is one with extensions: it spells the rule; it has extensions only if
 -- each text that spells the rule does; and each other one that spells it so is longer
 pub record IsWrittenText (rule : TransitionRule) (bytes : List ℕ) (extended : Bool) : Type 0 where
   pub spells : IsTzText extended bytes rule

@@ -1,13 +1,11 @@
 //! Theorems of what is written: the contract of each function is proved; none is called.
 
-ghost use Rattle.std.specs.Prelude.{◌≡◌, ◌↔◌, List, ℕ, Bool, true, false};
-ghost use Rattle.tz_info.specs.TzGrammar.{IsTzText};
-ghost use Rattle.tz_info.specs.PosixZones.{IsPosixZone};
+ghost use Rattle.std.specs.Prelude.{◌≡◌, ◌↔◌, false, true, Bool, List, ℕ};
+ghost use Rattle.tz_info.specs.{PosixZones.{IsPosixZone}, TzGrammar.{IsTzText}, Zones.{IsRuleOrNone, Zone}};
 ghost use Rattle.tz_info.specs.RuleTypes.{IsRule};
-ghost use Rattle.tz_info.specs.Zones.{Zone, IsRuleOrNone};
-ghost use Rattle.tz_info.specs.declared.rule.transition_rule.TransitionRule.{TransitionRule as Rule};
-ghost use Rattle.tz_write.specs.WrittenTexts.{CanBeSpelled, AreTimesOf, IsWrittenText, IsOfText};
-ghost use Rattle.tz_write.specs.WrittenTexts.{IsWrittenZone};
+ghost use Rattle.tz_write.specs.WrittenTexts.{AreTimesOf, CanBeSpelled, IsOfText, IsWrittenText, IsWrittenZone};
+
+use tz_info::TransitionRule;
 
 pub mod files;
 
@@ -16,13 +14,13 @@ pub mod files;
 /// need them.
 #[tactic(auto, using(crate::proofs::RuleTexts::rule_laws))]
 pub fn one_written_text()
-    ensures spelled { (extended : Bool) (bytes : List ℕ) (rule : Rule)
+    ensures spelled { (extended : Bool) (bytes : List ℕ) (rule : TransitionRule)
         → IsTzText extended bytes rule → CanBeSpelled rule }
-    ensures some { (rule : Rule) → IsRule rule → CanBeSpelled rule
+    ensures some { (rule : TransitionRule) → IsRule rule → CanBeSpelled rule
         → (text : List ℕ) × (needed : Bool) × IsWrittenText rule text needed }
-    ensures once { (rule : Rule) (s t : List ℕ) (d e : Bool) → IsWrittenText rule s d
+    ensures once { (rule : TransitionRule) (s t : List ℕ) (d e : Bool) → IsWrittenText rule s d
         → IsWrittenText rule t e → (s ≡ t) × (d ≡ e) }
-    ensures extensions { (rule : Rule) (text : List ℕ) (extended : Bool) → IsRule rule
+    ensures extensions { (rule : TransitionRule) (text : List ℕ) (extended : Bool) → IsRule rule
         → IsWrittenText rule text extended → (extended ≡ true) ↔ (¬ (AreTimesOf false rule)) }
 {}
 
@@ -37,7 +35,7 @@ pub fn one_zone_text()
 
 /// The text that is written of a rule spells no other.
 pub fn written_text_read()
-    ensures { (rule other : Rule) (text : List ℕ) (extended : Bool)
+    ensures { (rule other : TransitionRule) (text : List ℕ) (extended : Bool)
         → IsWrittenText rule text extended → IsTzText extended text other → other ≡ rule }
 {
     tz_info::laws::texts::one_rule()

@@ -1,20 +1,15 @@
 //! The TZ string of a rule.
 
-ghost use Rattle.std.specs.Prelude.{◌≡◌, ◌∷◌, ◌++◌, List, ℕ, true, false, OnOk, IsTrue, MatchBool};
-ghost use Rattle.std.specs.Prelude.{◌↔◌, MatchResult, MatchOption, IfOk, OnErr, Bool, Some, None};
-ghost use Rattle.std.specs.Prelude.{string_bytes};
-ghost use Rattle.tz_base.specs.Errors.{IsOutOfMemory};
-ghost use Rattle.tz_base.specs.Names.{IsName};
-ghost use Rattle.tz_info.specs.RuleTypes.{IsRule};
-ghost use Rattle.tz_info.specs.Rules.{IsAlternateRule};
-ghost use Rattle.tz_info.specs.declared.rule.transition_rule.TransitionRule.{TransitionRule as Rule};
-ghost use Rattle.tz_info.specs.TzGrammar.{IsTzText};
+ghost use Rattle.std.specs.Prelude.{◌≡◌, ◌↔◌, ◌++◌, false, string_bytes, true, Bool, IfOk, IsTrue, List, MatchBool};
+ghost use Rattle.std.specs.Prelude.{MatchOption, MatchResult, OnErr, OnOk, ℕ};
 ghost use Rattle.offset_core.specs.Offset.{IsWithinDay};
-ghost use Rattle.tz_write.specs.WrittenTexts.{IsWrittenText, IsUnspelled, IsNamedType, IsPlainTime};
-ghost use Rattle.tz_write.specs.WrittenTexts.{CanBeSpelled, AreTimesOf, HasPlainText};
+ghost use Rattle.tz_base.specs.{Errors.{IsOutOfMemory}, Names.{IsName}};
+ghost use Rattle.tz_info.specs.{Rules.{IsAlternateRule}, RuleTypes.{IsRule}, TzGrammar.{IsTzText}};
+ghost use Rattle.tz_info.specs.declared.rule.transition_rule.TransitionRule.{TransitionRule as Rule};
 ghost use Rattle.tz_write.specs.FileDesignations.{name_of};
-ghost use Rattle.tz_write.specs.Steps.TextPieces.{spelled_name, spelled_type, spelled_days};
-ghost use Rattle.tz_write.specs.Steps.TextPieces.{spelled_alternate, spelled_rule};
+ghost use Rattle.tz_write.specs.Steps.TextPieces.{spelled_alternate, spelled_days, spelled_name, spelled_rule};
+ghost use Rattle.tz_write.specs.{Steps.TextPieces.{spelled_type}, WrittenTexts.{IsUnspelled, IsWrittenText}};
+ghost use Rattle.tz_write.specs.WrittenTexts.{AreTimesOf, CanBeSpelled, HasPlainText, IsNamedType, IsPlainTime};
 
 use crate::pieces::day::push_day;
 use crate::pieces::name::push_name;

@@ -1,13 +1,10 @@
 //! The TZ string of a zone.
 
-ghost use Rattle.std.specs.Prelude.{◌≡◌, [], ◌∷◌, IsTrue, ◌↔◌, MatchOption, MatchResult, IfOk};
-ghost use Rattle.std.specs.Prelude.{OnErr, List, ℕ, Some, None, pos, true, false, string_bytes};
+ghost use Rattle.std.specs.Prelude.{◌≡◌, ◌↔◌, ◌∷◌, [], string_bytes, IfOk, IsTrue, List, MatchOption, MatchResult};
+ghost use Rattle.std.specs.Prelude.{OnErr, ℕ};
 ghost use Rattle.tz_base.specs.Errors.{IsOutOfMemory};
-ghost use Rattle.tz_base.specs.LocalTypes.{plain_type};
-ghost use Rattle.tz_info.specs.PosixZones.{types_of, IsPosixZone};
-ghost use Rattle.tz_info.specs.RuleTypes.{IsRule};
-ghost use Rattle.tz_info.specs.Zones.{Zone, zone_of_rule};
-ghost use Rattle.tz_write.specs.WrittenTexts.{IsOfText, IsWrittenZone, IsNoPosixZone, HasZoneText};
+ghost use Rattle.tz_info.specs.{PosixZones.{types_of, IsPosixZone}, RuleTypes.{IsRule}, Zones.{zone_of_rule, Zone}};
+ghost use Rattle.tz_write.specs.WrittenTexts.{HasZoneText, IsNoPosixZone, IsOfText, IsWrittenZone};
 
 use crate::rule_text::{has_plain_text, text_of};
 use std::alloc::Global;

@@ -58,7 +58,8 @@ all_of : {O : Type 0} {m : Meaning O} (law : Law m) (l : Reading) (offsets : Loc
     → IsWallAnswer (ShowsByOffset law.off l.s) (map_of m.seconds offsets) → AreInstantsOf m.seconds l offsets answer → AreAllSeconds law.off l.s answer
 all_of law l offsets answer wall h = grind (arith, one_of, two_of)
 
-pub all_seconds : {O : Type 0} {m : Meaning O} (law : Law m) (l : Reading) (answer : LocalResult (Zoned O)) → IsRelocal law l answer → AreAllSeconds law.off l.s answer
+pub all_seconds : {O : Type 0} {m : Meaning O} (law : Law m) (l : Reading) (answer : LocalResult (Zoned O)) → IsRelocal law l answer
+    → AreAllSeconds law.off l.s answer
 all_seconds law l answer h = all_of law l h.offsets answer h.wall.wall h.instants
 
 -- of values that show instants

@@ -1,33 +1,23 @@
 //! Theorems for a client's own contracts: that a question has one answer, that an instant made from
 //! one of a zone is one of that zone, and some in the shape of a client's clauses. Calling one makes
 //! its statement available in the caller's proof, and does nothing when it runs.
-ghost use Rattle.std.specs.Prelude.{◌≡◌, ◌≢◌, ◌⊎◌, ◌∷◌, [], ℕ, ℤ, pos, ◌+ℤ◌, ◌-ℤ◌, ◌≤ℤ◌, ◌<ℤ◌};
-ghost use Rattle.std.specs.Prelude.{List, MatchOption, Ok, Option, Some};
-ghost use Rattle.offset_core.specs.declared.local_result.LocalResult.TheVariants.{None as NoInstant};
-ghost use Rattle.offset_core.specs.LocalResult.{map_of};
+ghost use Rattle.std.specs.Prelude.{◌≡◌, ◌≢◌, ◌⊎◌, ◌<ℤ◌, ◌≤ℤ◌, ◌+ℤ◌, ◌-ℤ◌, ◌∷◌, [], pos, List, MatchOption, Option, ℕ};
+ghost use Rattle.std.specs.Prelude.{ℤ};
+ghost use Rattle.offset_core.specs.{LocalResult.{map_of}, WallAnswer.{IsNeverShown, IsWallAnswer}};
 ghost use Rattle.offset_core.specs.TimeDelta.{nanos_of};
-ghost use Rattle.offset_core.specs.WallAnswer.{IsWallAnswer, IsNeverShown};
-ghost use Rattle.naive_base.specs.NaiveDateTime.{reading};
-ghost use Rattle.naive_base.specs.Range.{IsInRange, last_second};
-ghost use Rattle.naive_base.specs.Reading.{Reading, total};
-ghost use Rattle.tz_base.specs.declared.change.Change.{Change};
-ghost use Rattle.tz_info.specs.Changes.{AreChanges, IsFirst};
-ghost use Rattle.tz_info.specs.Zones.{Zone, TypeAt};
-ghost use Rattle.zoned_time.specs.Choice.{IsResolved};
-ghost use Rattle.zoned_time.specs.DateTime.{zoned, wall_of, home_law_of, IsIn, IsDaysAdded};
-ghost use Rattle.zoned_time.specs.Relocal.{IsRelocal};
-ghost use Rattle.zoned_time.specs.Zone.{Each, ShowsByOffset};
-ghost use Rattle.zoned_time.specs.Zoned.{in_seconds, IsAt};
+ghost use Rattle.naive_base.specs.{NaiveDateTime.{reading}, Range.{last_second, IsInRange}, Reading.{total, Reading}};
+ghost use Rattle.tz_info.specs.{Changes.{AreChanges, IsFirst}, Zones.{TypeAt, Zone}};
+ghost use Rattle.zoned_time.specs.{Choice.{IsResolved}, Relocal.{IsRelocal}, Zone.{Each, ShowsByOffset}};
+ghost use Rattle.zoned_time.specs.{DateTime.{home_law_of, wall_of, zoned, IsDaysAdded, IsIn}, Zoned.{in_seconds, IsAt}};
+ghost use Rattle.zoned_round.specs.{Durations.{IsRoundedTo}, Laws.{IsMultiple}, Multiples.{multiple_below, IsItselfOr}};
 ghost use Rattle.zoned_ref.specs.ZoneChange.{IsAfter};
-ghost use Rattle.zoned_round.specs.Durations.{IsRoundedTo};
-ghost use Rattle.zoned_round.specs.Laws.{IsMultiple};
-ghost use Rattle.zoned_round.specs.Multiples.{multiple_below, IsItselfOr};
 ghost use Rattle.zoned.specs.Within.{IsFromFirstToLast};
 
 use crate::{
     Choice, DateTime, DurationRound, LocalResult, NaiveDateTime, Offset, TimeDelta, TimeZone,
 };
 pub use naive_base::laws::lengths_add;
+use tz_base::Change;
 pub use zoned_ref::laws::one_change;
 pub use zoned_round::laws::one_rounded_value;
 pub use zoned_series::laws::one_item;
@@ -106,10 +96,10 @@ pub fn shown_only<Tz: TimeZone>(
         (map_of (λ d. zoned d) instants.now) }
     // The second `u` shows it at the offset `l - s`, and is the instant's second `s`.
     ensures some { let off = (Tz.law zone.now).off in let l = (reading local.now).s in
-        instants.now ≢ NoInstant → IsWallAnswer (λ u s. ShowsByOffset off l u (l -ℤ s) × (s ≡ u))
+        instants.now ≢ LocalResult.None → IsWallAnswer (λ u s. ShowsByOffset off l u (l -ℤ s) × (s ≡ u))
         (map_of (λ d. (zoned d).utc.s) instants.now) }
     ensures none { let off = (Tz.law zone.now).off in let l = (reading local.now).s in
-        instants.now ≡ NoInstant → IsNeverShown (ShowsByOffset off l)
+        instants.now ≡ LocalResult.None → IsNeverShown (ShowsByOffset off l)
         ⊎ ((u : ℤ) × (k : ℤ) × ShowsByOffset off l u k × (IsInRange u → ⊥)) }
 {}
 

@@ -4,30 +4,18 @@
 //! If a function is empty, its contract is the theorem. [`statement`] makes the calls, so that nobody has to
 //! join their contracts by hand.
 
-ghost use Rattle.std.specs.Prelude.{◌≡◌, ◌↔◌, ℕ, ℤ, List, IfSome, IsSome, IsTrue};
-ghost use Rattle.offset_core.specs.LocalResult.{map_of};
-ghost use Rattle.offset_core.specs.Offset.{IsWithinDay};
-ghost use Rattle.offset_core.specs.WallAnswer.{IsWallAnswer};
-ghost use Rattle.offset_core.specs.declared.local_result.LocalResult.{LocalResult as Answer};
-ghost use Rattle.naive_base.specs.NaiveDateTime.{reading};
-ghost use Rattle.naive_base.specs.Range.{IsWide};
+ghost use Rattle.std.specs.Prelude.{◌≡◌, ◌↔◌, IfSome, IsSome, IsTrue, List, ℕ, ℤ};
+ghost use Rattle.offset_core.specs.{LocalResult.{map_of}, Offset.{IsWithinDay}, WallAnswer.{IsWallAnswer}};
+ghost use Rattle.naive_base.specs.{NaiveDateTime.{reading}, Range.{IsWide}};
 ghost use Rattle.tz_base.specs.LocalTypes.{LocalType};
-ghost use Rattle.tz_base.specs.declared.error.Error.{Error as Fault};
-ghost use Rattle.tz_info.specs.Counts.{HasRoom};
-ghost use Rattle.tz_info.specs.FilePieces.{FilePieces, HasPieces};
-ghost use Rattle.tz_info.specs.Looks.{RoseByWallClock};
-ghost use Rattle.tz_info.specs.PosixZones.{IsPosixZone, IsPosixFault};
-ghost use Rattle.tz_info.specs.TzFiles.{IsTzFile, IsFileFault};
-ghost use Rattle.tz_info.specs.TzGrammar.{IsTzText, IsTextFault};
-ghost use Rattle.tz_info.specs.WallClocks.{Shows};
-ghost use Rattle.tz_info.specs.Zones.{Zone, IsValid, TypeAt};
-ghost use Rattle.zoned_time.specs.Zone.{IsZoneSecond, SameOffsets};
-ghost use Rattle.zoned_ref.specs.Offsets.{IsNarrow, AreOffsetsOf};
-ghost use Rattle.zoned_ref.specs.TimeZoneRef.{zone_of, off_of};
-ghost use Rattle.zoned_time.specs.DateTime.{zoned};
+ghost use Rattle.tz_info.specs.{Counts.{HasRoom}, Looks.{RoseByWallClock}, Zones.{IsValid, TypeAt, Zone}};
+ghost use Rattle.tz_info.specs.{FilePieces.{FilePieces, HasPieces}, PosixZones.{IsPosixFault, IsPosixZone}};
+ghost use Rattle.tz_info.specs.{TzFiles.{IsFileFault, IsTzFile}, TzGrammar.{IsTextFault, IsTzText}, WallClocks.{Shows}};
 ghost use Rattle.zoned_time.specs.Zone as zones;
-ghost use Rattle.zoned.specs.Headline.{Headline, IsAnswerOf, IsAnsweredByRule, IsAnsweredInZone, IsValidFile};
-ghost use Rattle.zoned.specs.Headline.{AreCalls, IsLawful, IsLawOf};
+ghost use Rattle.zoned_time.specs.{DateTime.{zoned}, Zone.{IsZoneSecond, SameOffsets}};
+ghost use Rattle.zoned_ref.specs.{Offsets.{AreOffsetsOf, IsNarrow}, TimeZoneRef.{off_of, zone_of}};
+ghost use Rattle.zoned.specs.Headline.{AreCalls, Headline, IsAnswerOf, IsAnsweredByRule, IsAnsweredInZone, IsLawOf};
+ghost use Rattle.zoned.specs.Headline.{IsLawful, IsValidFile};
 
 mod answers;
 
@@ -40,15 +28,15 @@ use tz_info::{Error, LocalTimeType, Probes, TransitionRule};
 /// its faults is the first. A text with a fault spells no zone at all; a text's zone is valid.
 pub fn one_zone()
     ensures files { (bytes : List ℕ) (y z : Zone) → IsTzFile bytes y → IsTzFile bytes z → y ≡ z }
-    ensures file_or_fault { (bytes : List ℕ) (e : Fault) (z : Zone) → IsFileFault bytes e
+    ensures file_or_fault { (bytes : List ℕ) (e : Error) (z : Zone) → IsFileFault bytes e
         → IsTzFile bytes z → ¬ (IsValid z) }
     ensures file_has_fault { (bytes : List ℕ) → ((z : Zone) → IsTzFile bytes z → ¬ (IsValid z))
-        → (e : Fault) × IsFileFault bytes e }
-    ensures one_file_fault { (bytes : List ℕ) (d e : Fault) → IsFileFault bytes d → IsFileFault bytes e
+        → (e : Error) × IsFileFault bytes e }
+    ensures one_file_fault { (bytes : List ℕ) (d e : Error) → IsFileFault bytes d → IsFileFault bytes e
         → d ≡ e }
     ensures texts { (text : List ℕ) (y z : Zone) → IsPosixZone text y → IsPosixZone text z
         → y ≡ z }
-    ensures text_or_fault { (text : List ℕ) (e : Fault) (z : Zone) → IsPosixFault text e
+    ensures text_or_fault { (text : List ℕ) (e : Error) (z : Zone) → IsPosixFault text e
         → ¬ (IsPosixZone text z) }
     ensures text_is_valid { (text : List ℕ) (z : Zone) → IsPosixZone text z → IsValid z }
 {}
@@ -227,7 +215,7 @@ pub fn lawful()
     ensures within_day { (z : Zone) (off : ℤ → ℤ) → IsNarrow z → AreOffsetsOf z off
         → (u : ℤ) → IsZoneSecond u → IsWithinDay (off u) }
     ensures answers { (z : Zone) (off : ℤ → ℤ) (local : ℤ) → IsNarrow z → AreOffsetsOf z off
-        → IsWide local → (types : Answer LocalType)
+        → IsWide local → (types : LocalResult LocalType)
         → IsWallAnswer (Shows (TypeAt z) local) types
         → IsWallAnswer (zones.ShowsByOffset off local) (map_of (λ t. t.offset) types) }
 {}

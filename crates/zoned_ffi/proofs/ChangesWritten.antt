@@ -12,7 +12,9 @@ into_more (y ∷ new) x [] = refl
 into_more (y ∷ new) x (r ∷ room) = grind (arith, into_more new x room)
 
 -- and so is one more change
-pub more_written : (found : List Change) (d : Change) (room written : List WrittenChange) (count : ℕ) → count ≡ length found → written ≡ written_into (map written_change found) room → slice_set written count (written_change d) ≡ written_into (map written_change (found ++ (d ∷ []))) room
+pub more_written : (found : List Change) (d : Change) (room written : List WrittenChange) (count : ℕ) → count ≡ length found
+    → written ≡ written_into (map written_change found) room
+    → slice_set written count (written_change d) ≡ written_into (map written_change (found ++ (d ∷ []))) room
 more_written found d room written count counted was = grind (arith, length-map, map-append, into_more)
 
 module _ (z : Zone) (from until : ℤ) (changes : List Change) (are : AreChanges (TypeAt z) from until changes) where
@@ -28,7 +30,8 @@ module _ (z : Zone) (from until : ℤ) (changes : List Change) (are : AreChanges
       omega (arith, ints, here.1.1, risen k d place)
 
 pub first_written : (z : Zone) (from until : ℤ) (most : ℕ) (found rest : List Change) (room written : List WrittenChange) (count : ℕ)
-    → AreChanges (TypeAt z) from until (found ++ rest) → count ≡ length found → count ≤ most → (count ≡ most) ⊎ (rest ≡ []) → written ≡ written_into (map written_change found) room
+    → AreChanges (TypeAt z) from until (found ++ rest) → count ≡ length found → count ≤ most → (count ≡ most) ⊎ (rest ≡ [])
+    → written ≡ written_into (map written_change found) room
     → AreFirstWritten z from until most room written count
 first_written z from until most found rest room written count are counted within end was =
     let same : take most (found ++ rest) ≡ found = grind (arith, take-append_seam found rest, append-nil found, take_all most found) in grind arith

@@ -20,8 +20,10 @@ floor_high : (unit : Unit) (x u : ℤ) → x <ℤ (u *ℤ pos (per_second unit))
 floor_high unit x u h = grind (arith, ints, floors)
 
 -- what a lookup found
-pub looked_up : (z : Zone) (unit : Unit) (x counts : ℤ) (t : LocalType) (r : Option ℤ) → TypeAt z (floor_div x (per_second unit)) t → counts ≡ t.offset *ℤ pos (per_second unit)
-    → MatchOption r (¬ (IsCounted (x +ℤ counts))) (λ sum. (sum ≡ x +ℤ counts) × IsCounted sum) → MatchOption r (IsWithout z unit x) (λ local. IsLocal z unit x local)
+pub looked_up : (z : Zone) (unit : Unit) (x counts : ℤ) (t : LocalType) (r : Option ℤ) → TypeAt z (floor_div x (per_second unit)) t
+    → counts ≡ t.offset *ℤ pos (per_second unit)
+    → MatchOption r (¬ (IsCounted (x +ℤ counts))) (λ sum. (sum ≡ x +ℤ counts) × IsCounted sum)
+    → MatchOption r (IsWithout z unit x) (λ local. IsLocal z unit x local)
 looked_up z unit x counts t None in_force are none = uncounted t in_force (rw are at none)
 looked_up z unit x counts t (Some y) in_force are (is, counted) = record { type = t; in_force = in_force; sum = cc; counted = counted }
 
@@ -96,15 +98,19 @@ local_times_kept z unit choice s low high p q r t f e from until add k stretch f
     (counted, at.2, record { in_range = (first, omega (arith, ints, end)); taken = taken; counted = counted })
 
 -- the instant by what is taken
-taken_gives : (z : Zone) (unit : Unit) (choice : Choice) (local : ℤ) (taken : Taken) → IsTakenAs z (second_holding unit local) choice taken → IsInstantTaken z unit choice local (taken_instant unit local taken)
+taken_gives : (z : Zone) (unit : Unit) (choice : Choice) (local : ℤ) (taken : Taken) → IsTakenAs z (second_holding unit local) choice taken
+    → IsInstantTaken z unit choice local (taken_instant unit local taken)
 taken_gives z unit choice local (InForce offset) ((t, taken, is), there) = IsInstantTaken.by_offset t taken (rw is)
 taken_gives z unit choice local (Shifted offset) (t, taken, is) = IsInstantTaken.by_offset t taken (rw is)
 taken_gives z unit choice local (GapEnd at offset) (after, end, is) = IsInstantTaken.by_gap_end at after end refl
 
 -- it is the local time's, if it can be counted
-pub instant_told : (z : Zone) (unit : Unit) (choice : Choice) (local : ℤ) (taken : Taken) (r : Option ℤ) → IsInRange (second_holding unit local) → IsTakenAs z (second_holding unit local) choice taken
-    → MatchOption r (¬ (IsCounted (taken_instant unit local taken))) (λ i. (i ≡ taken_instant unit local taken) × IsCounted i) → MatchOption r (IsNoInstant z unit choice local 23) (IsInstantOf z unit choice local)
-instant_told z unit choice local taken None in_range is none = IsNoInstant.uncounted (taken_instant unit local taken) in_range (taken_gives z unit choice local taken is) none
+pub instant_told : (z : Zone) (unit : Unit) (choice : Choice) (local : ℤ) (taken : Taken) (r : Option ℤ) → IsInRange (second_holding unit local)
+    → IsTakenAs z (second_holding unit local) choice taken
+    → MatchOption r (¬ (IsCounted (taken_instant unit local taken))) (λ i. (i ≡ taken_instant unit local taken) × IsCounted i)
+    → MatchOption r (IsNoInstant z unit choice local 23) (IsInstantOf z unit choice local)
+instant_told z unit choice local taken None in_range is none =
+    IsNoInstant.uncounted (taken_instant unit local taken) in_range (taken_gives z unit choice local taken is) none
 instant_told z unit choice local taken (Some i) in_range is found =
     record { in_range = in_range; taken = rw found.0 (taken_gives z unit choice local taken is); counted = found.1 }
 

@@ -1,4 +1,4 @@
--- Where a TZ string is at fault.
+-- The position of the fault in a TZ string.
 use Rattle.std.specs.Option.{unwrap_or}
 use Rattle.std.specs.Prelude.{MatchOption, Option, Some, None, Result, Ok, Err, IfOk, IfErr, true, ℕ, ◌≡◌, ◌≢◌, ◌⊎◌, List}
 use Rattle.tz_base.specs.declared.{error.Error.{Error}, parse_error.ParseError.{ParseError}}
@@ -10,25 +10,31 @@ use Rattle.zoned_ffi.specs.declared.kind.Kind.TheVariants as kinds
 use Rattle.zoned_ffi.specs.FaultPlaces.IsFaultPosition.{In_string, In_text, No_string, Not_utf8, String_zone, Text_zone}
 
 -- ---- what was read has its fault there, or is a zone
-text_placed : (bytes : List ℕ) (error : Error) (o : Option ℕ) → IsUtf8 bytes → IsOutOfMemory error ⊎ IsPosixFault bytes error → MatchOption o (IsOutOfMemory error) (λ p. ¬ (IsOutOfMemory error) × IsPosixFaultPlace bytes p)
+text_placed : (bytes : List ℕ) (error : Error) (o : Option ℕ) → IsUtf8 bytes → IsOutOfMemory error ⊎ IsPosixFault bytes error
+    → MatchOption o (IsOutOfMemory error) (λ p. ¬ (IsOutOfMemory error) × IsPosixFaultPlace bytes p)
     → (IsOutOfMemory error → (z : Zone) × IsPosixZone bytes z) → IsFaultPosition 1 bytes (unwrap_or o no_position)
 text_placed bytes error None utf8 fault place memory = let zone = memory place in Text_zone zone.0 refl utf8 zone.1
 text_placed bytes error (Some p) utf8 (inl is) place memory = absurd (place.0 is)
 text_placed bytes error (Some p) utf8 (inr fault) place memory = In_text error p refl utf8 fault place.1
 
-pub text_place : (bytes : List ℕ) (r : Result Zone ParseError) → IsUtf8 bytes → IfOk r (λ z. IsPosixZone bytes z) → IfErr r (λ e. IsOutOfMemory e.error ⊎ IsPosixFault bytes e.error)
-    → IfErr r (λ e. IsPlaced (IsPosixFaultPlace bytes) e) → IfErr r (λ e. IsOutOfMemory e.error → (z : Zone) × IsPosixZone bytes z) → IsFaultPosition 1 bytes (position_of r)
+pub text_place : (bytes : List ℕ) (r : Result Zone ParseError) → IsUtf8 bytes → IfOk r (λ z. IsPosixZone bytes z)
+    → IfErr r (λ e. IsOutOfMemory e.error ⊎ IsPosixFault bytes e.error)
+    → IfErr r (λ e. IsPlaced (IsPosixFaultPlace bytes) e) → IfErr r (λ e. IsOutOfMemory e.error → (z : Zone) × IsPosixZone bytes z)
+    → IsFaultPosition 1 bytes (position_of r)
 text_place bytes (Ok z) utf8 found fault place memory = Text_zone z refl utf8 found
 text_place bytes (Err e) utf8 found fault place memory = text_placed bytes e.error e.position utf8 fault place memory
 
-string_placed : (bytes : List ℕ) (error : Error) (o : Option ℕ) → IsOutOfMemory error ⊎ IsTextFault true bytes error → MatchOption o (IsOutOfMemory error) (λ p. ¬ (IsOutOfMemory error) × IsExtendedFaultPlace bytes p)
+string_placed : (bytes : List ℕ) (error : Error) (o : Option ℕ) → IsOutOfMemory error ⊎ IsTextFault true bytes error
+    → MatchOption o (IsOutOfMemory error) (λ p. ¬ (IsOutOfMemory error) × IsExtendedFaultPlace bytes p)
     → (IsOutOfMemory error → (z : Zone) × IsExtendedZone bytes z) → IsFaultPosition 2 bytes (unwrap_or o no_position)
 string_placed bytes error None fault place memory = let zone = memory place in String_zone zone.0 refl zone.1
 string_placed bytes error (Some p) (inl is) place memory = absurd (place.0 is)
 string_placed bytes error (Some p) (inr fault) place memory = rw place.1 (In_string error refl fault)
 
-pub string_place : (bytes : List ℕ) (r : Result Zone ParseError) → IfOk r (λ z. IsExtendedZone bytes z) → IfErr r (λ e. IsOutOfMemory e.error ⊎ IsTextFault true bytes e.error)
-    → IfErr r (λ e. IsPlaced (IsExtendedFaultPlace bytes) e) → IfErr r (λ e. IsOutOfMemory e.error → (z : Zone) × IsExtendedZone bytes z) → IsFaultPosition 2 bytes (position_of r)
+pub string_place : (bytes : List ℕ) (r : Result Zone ParseError) → IfOk r (λ z. IsExtendedZone bytes z)
+    → IfErr r (λ e. IsOutOfMemory e.error ⊎ IsTextFault true bytes e.error)
+    → IfErr r (λ e. IsPlaced (IsExtendedFaultPlace bytes) e) → IfErr r (λ e. IsOutOfMemory e.error → (z : Zone) × IsExtendedZone bytes z)
+    → IsFaultPosition 2 bytes (position_of r)
 string_place bytes (Ok z) found fault place memory = String_zone z refl found
 string_place bytes (Err e) found fault place memory = string_placed bytes e.error e.position fault place memory
 

@@ -36,7 +36,7 @@ once_resolved z choice local offset w held stamp =
     let there = in_force z local held.once.second choice t offset held.once.shown taken same (subst IsUtOffset same held.is_offset) in
     resolved_by z choice local t t.offset w held.in_range taken (rw same at there.1) (rw same at stamp)
 
--- and it is told once
+-- and it is shown once
 pub once_told : (z : Zone) (local offset : ℤ) (w : WrittenLocalResult) → IsOnceBy z local offset
     → w ≡ record { shown = pos 1; first_offset = offset; last_offset = offset; first = local -ℤ offset; last = local -ℤ offset } → IsWallClockAt z local w
 once_told z local offset w held is =

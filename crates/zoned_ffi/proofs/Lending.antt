@@ -31,7 +31,8 @@ abbrev pub word : Ptr → Val
 word p = vstruct (vcons (ptr_val p) vnil)
 
 module _ {M : Type 1} {𝓤 : Ura M} {𝓛 : Logic 𝓤} {K : Type 0} {Γ : List (Item 𝓤)} {G : Goal 𝓤 𝓛.H} where
-  pub lent_out : K → (d : Le.Denot) (vs : List Val) → (vs ≡ word d.at ∷ [] → Seq K 𝓛 (‵ (lent R d.life d.at d.shared) ∷ Γ) G) → Seq K 𝓛 (‵ (Le.own_val d vs) ∷ Γ) G
+  pub lent_out : K → (d : Le.Denot) (vs : List Val) → (vs ≡ word d.at ∷ [] → Seq K 𝓛 (‵ (lent R d.life d.at d.shared) ∷ Γ) G)
+      → Seq K 𝓛 (‵ (Le.own_val d vs) ∷ Γ) G
   lent_out t d vs k =
       fsplit t $ fpick t (λ parts. fsplit t $ feq_l t (λ whole. fsplit t $ feq_l t (λ pointer. drop t $
       k (subst (λ (ps : List Val). vs ≡ vstruct (of_list (ps ++ [])) ∷ []) pointer whole))))
@@ -48,7 +49,8 @@ module _ {M : Type 1} {𝓤 : Ura M} (𝓛 : Logic 𝓤) where
   laws p x = lent_at_shr_laws R row_laws p x
 
   twice : (a : ℕ) (p : Ptr) (k : Option R.Denot) → ent 𝓤 (sem 𝓛 (lent R a p k)) (sep 𝓤 (sem 𝓛 (lent R a p k)) (sem 𝓛 (lent R a p k)))
-  twice a p None = qed 𝓛 (‵ (lent R a p None) ∷ []) ∵ fpick ! (λ e. drop ! $ nothing ! $ fpack ! (p ≡ null_ptr) (λ _. ftrue) e $ nothing ! $ fpack ! (p ≡ null_ptr) (λ _. ftrue) e $ done !)
+  twice a p None = qed 𝓛 (‵ (lent R a p None) ∷ []) ∵ fpick !
+      (λ e. drop ! $ nothing ! $ fpack ! (p ≡ null_ptr) (λ _. ftrue) e $ nothing ! $ fpack ! (p ≡ null_ptr) (λ _. ftrue) e $ done !)
   twice a p (Some x) = qed 𝓛 (‵ (lent R a p (Some x)) ∷ []) ∵ fpick ! (λ t. fpick ! (λ e. fsplit ! $
       use1 𝓛 (‵ (flft (a ∷ []) (half.left e)) ⊛ ‵ (flft (a ∷ []) (half.right e))) (𝓛.lfts.lft_split (a ∷ []) e) $ split ! $ move ! (2 ∷ []) $
       use1 𝓛 (‵ (lent_at R p x (a ∷ [])) ⊛ ‵ (lent_at R p x (a ∷ []))) (contraction 𝓛 (lent_at R p x) (laws p x) (a ∷ [])) $ split ! $
@@ -99,17 +101,21 @@ module _ {M : Type 1} {𝓤 : Ura M} (𝓛 : Logic 𝓤) where
     abbrev At : Lft → Fml
     At κ = fex (Testable p) (λ _. lent_at R p x κ)
 
-    again : (κ : Lft) (e s : Share) → Testable p → ent 𝓤 (sep 𝓤 (sem 𝓛 (cell_at s Le.mir (word p ∷ []) b o)) (sem 𝓛 (lent_at R p x (a ∷ [])))) (sem 𝓛 (Again κ e s))
+    again : (κ : Lft) (e s : Share) → Testable p
+        → ent 𝓤 (sep 𝓤 (sem 𝓛 (cell_at s Le.mir (word p ∷ []) b o)) (sem 𝓛 (lent_at R p x (a ∷ [])))) (sem 𝓛 (Again κ e s))
     unfolding fseps
-    again κ e s t = qed 𝓛 (‵ (cell_at s Le.mir (word p ∷ []) b o) ∷ ‵ (lent_at R p x (a ∷ [])) ∷ []) ∵ assume ! (‵ (fsep (fdead κ) (fsep (flft (a ∷ []) e) ftrue))) $
+    again κ e s t = qed 𝓛 (‵ (cell_at s Le.mir (word p ∷ []) b o) ∷ ‵ (lent_at R p x (a ∷ [])) ∷ []) ∵ assume !
+        (‵ (fsep (fdead κ) (fsep (flft (a ∷ []) e) ftrue))) $
         suffices ! (sem 𝓛 (Kept s)) (upd_i 𝓤 (sem 𝓛 (Kept s))) $ fsplit3 ! $ keep ! (1 ∷ 4 ∷ 3 ∷ []) $ fjoin ! $ fpack ! Share (loan R a p x) e $
         fpack ! (Testable p) (λ _. fex Share (loan R a p x)) t $ move ! (1 ∷ 0 ∷ []) $ fjoin ! $ by ! (into D b o s)
 
     pub lends : (κ : Lft) (q : Share) → ent 𝓤 (sep 𝓤 (sem 𝓛 (shared_of Le D b o κ)) (A.lft κ q)) (H.⇛ (sep 𝓤 (sem 𝓛 (At κ)) (A.lft κ q)))
     unfolding fseps
     lends κ q = qed 𝓛 (‵ (fshr_bor κ Kept) ∷ ‵ (flft κ q) ∷ []) ∵ updating ! $
-        use2 𝓛 (later (some (λ (s : Share). ‵ (fbor κ (Kept s))) ⊛ ‵ (flft κ q))) (𝓛.shr_bors.shr_bor_carve κ ((κ, q) ∷ []) Kept (halves D b o) (Incl-refl κ)) $ await ! tt $ split ! $ pick ! (λ s.
-        bor_open ! tt $ move ! (1 ∷ []) $ use1 𝓛 (‵ (parts D b o s)) (out D b o s) $ fsplit ! $ move ! (1 ∷ []) $ fpick ! (λ t. fpick ! (λ e. fsplit ! $ move ! (1 ∷ []) $
+        use2 𝓛 (later (some (λ (s : Share). ‵ (fbor κ (Kept s))) ⊛ ‵ (flft κ q))) (𝓛.shr_bors.shr_bor_carve κ ((κ, q) ∷ []) Kept (halves D b o) (Incl-refl κ)) $
+        await ! tt $ split ! $ pick ! (λ s.
+        bor_open ! tt $ move ! (1 ∷ []) $ use1 𝓛 (‵ (parts D b o s)) (out D b o s) $ fsplit ! $ move ! (1 ∷ []) $ fpick !
+        (λ t. fpick ! (λ e. fsplit ! $ move ! (1 ∷ []) $
         use1 𝓛 (‵ (lent_at R p x (a ∷ [])) ⊛ ‵ (lent_at R p x (a ∷ []))) (contraction 𝓛 (lent_at R p x) (laws p x) (a ∷ [])) $ split ! $
         -- [lent; lent; the token; the cell; the open borrow]
         move ! (3 ∷ 0 ∷ []) $ use2 𝓛 (‵ (Again κ e s)) (again κ e s t) $ move ! (2 ∷ []) $ nothing ! $ move ! (1 ∷ 0 ∷ []) $ fjoin ! $
@@ -129,7 +135,8 @@ module _ {M : Type 1} {𝓤 : Ura M} {𝓛 : Logic 𝓤} {K : Type 0} {Γ : List
   null_or_lent t z κ q b o p a None at_null at_block =
       let d : Le.Denot = record { at = p; life = a; shared = None } in
       looks t z Le (opened 𝓛) d b o (λ q' vs. move t (1 ∷ []) $ lent_out t d vs (λ e. fpick t (λ n. fpack t (p ≡ null_ptr) (λ _. ftrue) n $ lent_in t d $
-      rewrite t 1 (λ (us : List Val). ‵ (cell_at q' Le.mir us b o)) e refl $ move t (1 ∷ 0 ∷ 2 ∷ []) $ shuts t z Le q' d (word p ∷ []) b o $ move t (1 ∷ 0 ∷ []) $ at_null n refl)))
+      rewrite t 1 (λ (us : List Val). ‵ (cell_at q' Le.mir us b o)) e refl $ move t (1 ∷ 0 ∷ 2 ∷ []) $ shuts t z Le q' d (word p ∷ []) b o $ move t
+      (1 ∷ 0 ∷ []) $ at_null n refl)))
   null_or_lent t z κ q b o p a (Some x) at_null at_block =
       let d : Le.Denot = record { at = p; life = a; shared = Some x } in
       twice_dup t (shared_of Le d b o) (opened 𝓛 d b o).1 κ $ unhide t $ move t (0 ∷ 2 ∷ []) $
@@ -139,7 +146,9 @@ module _ {M : Type 1} {𝓤 : Ura M} {𝓛 : Logic 𝓤} {K : Type 0} {Γ : List
 
   -- the pointer in the handle is read
   pub reads : K → Soaks G → (κ : Lft) (q : Share) (b o : ℕ) (d : Le.Denot)
-      → ((s : Share) → Seq K 𝓛 (‵ (lent R d.life d.at d.shared) ∷ ‵ (cell_at s Le.mir (word d.at ∷ []) b o) ∷ Shut 𝓛 κ q (part_at Le s d b o) ∷ ‵ (hidden_shr Le κ d b o) ∷ Γ) G)
+      → ((s : Share)
+      → Seq K 𝓛 (‵ (lent R d.life d.at d.shared) ∷ ‵ (cell_at s Le.mir (word d.at ∷ []) b o) ∷ Shut 𝓛 κ q (part_at Le s d b o) ∷ ‵
+      (hidden_shr Le κ d b o) ∷ Γ) G)
       → Seq K 𝓛 (‵ (hidden_shr Le κ d b o) ∷ ‵ (flft κ q) ∷ Γ) G
   reads t z κ q b o d k = looks t z Le (opened 𝓛) d b o (λ s vs. move t (1 ∷ []) $ lent_out t d vs (λ e.
       rewrite t 1 (λ (us : List Val). ‵ (cell_at s Le.mir us b o)) e refl $ k s))

@@ -10,12 +10,14 @@ use Rattle.tz_base.specs.declared.error.Expected.TheVariants as expected
 use Rattle.zoned_ffi.specs.declared.kind.Kind.TheVariants as kinds
 
 -- the number of a text's error is that of its fault
-pub text_refused : (bytes : List ℕ) (e : Error) → IsUtf8 bytes → IsOutOfMemory e ⊎ IsPosixFault bytes e → (IsOutOfMemory e → (z : Zone) × IsPosixZone bytes z) → IsStringError bytes (error_number e)
+pub text_refused : (bytes : List ℕ) (e : Error) → IsUtf8 bytes → IsOutOfMemory e ⊎ IsPosixFault bytes e → (IsOutOfMemory e → (z : Zone) × IsPosixZone bytes z)
+    → IsStringError bytes (error_number e)
 text_refused bytes e utf8 (inl is) memory = let zone = memory is in rw is (IsStringError.No_memory zone.0 utf8 zone.1)
 text_refused bytes e utf8 (inr there) memory = IsStringError.In_text e utf8 there
 
 -- and so is that of a TZ string with extensions
-pub extended_refused : (bytes : List ℕ) (e : Error) → IsOutOfMemory e ⊎ IsTextFault true bytes e → (IsOutOfMemory e → (z : Zone) × IsExtendedZone bytes z) → IsExtendedFault bytes (error_number e)
+pub extended_refused : (bytes : List ℕ) (e : Error) → IsOutOfMemory e ⊎ IsTextFault true bytes e → (IsOutOfMemory e → (z : Zone) × IsExtendedZone bytes z)
+    → IsExtendedFault bytes (error_number e)
 extended_refused bytes e (inl is) memory = let zone = memory is in rw is (IsExtendedFault.No_memory zone.0 zone.1)
 extended_refused bytes e (inr there) memory = IsExtendedFault.In_string e there
 
@@ -39,7 +41,9 @@ pub no_memory_refused : (number : ℕ) (bytes : List ℕ) (z : Zone) → IsZoneO
 no_memory_refused number bytes z of_kind = grind (arith, IsErrorOfKind.Not_read, no_memory)
 
 -- bytes that are refused are why the call is
-pub not_read : (number : ℕ) (bytes : List ℕ) (kind : Kind) (read : Result Zone Refusal) → number ≡ kind_number kind → IfErr read (λ e. IsFault kind bytes (refusal_number e)) → IfErr read (λ e. IsReaderNumber (refusal_number e)) → IfErr read (λ e. IsErrorOfKind number bytes (refusal_number e))
+pub not_read : (number : ℕ) (bytes : List ℕ) (kind : Kind) (read : Result Zone Refusal) → number ≡ kind_number kind
+    → IfErr read (λ e. IsFault kind bytes (refusal_number e)) → IfErr read (λ e. IsReaderNumber (refusal_number e))
+    → IfErr read (λ e. IsErrorOfKind number bytes (refusal_number e))
 not_read number bytes kind read is fault reader = grind (arith, IsErrorOfKind.Not_read)
 
 -- why bytes are rejected

@@ -25,11 +25,13 @@ resolved_by z choice local t offset w in_range taken there (inl (inside, is)) = 
 resolved_by z choice local t offset w in_range taken there (inr (outside, is)) = IsResolvedAt.taken_outside t in_range taken outside is
 
 -- the gap's end
-pub ended_by : (z : Zone) (choice : Choice) (local at : ℤ) (after : LocalType) (w : Resolved) → IsInRange local → IsTakenGapEnd z local choice at after → IsResolvedStamp at after.offset w → IsResolvedAt z choice local w
+pub ended_by : (z : Zone) (choice : Choice) (local at : ℤ) (after : LocalType) (w : Resolved) → IsInRange local → IsTakenGapEnd z local choice at after
+    → IsResolvedStamp at after.offset w → IsResolvedAt z choice local w
 ended_by z choice local at after w in_range end (inl (inside, is)) = IsResolvedAt.ended at after in_range end inside is
 ended_by z choice local at after w in_range end (inr (outside, is)) = IsResolvedAt.ended_outside at after in_range end outside is
 
-pub reached_by : (z : Zone) (local u : ℤ) (t : LocalType) (w : Resolved) → IsInRange local → IsFirstAtOrAfter (TypeAt z) local u t → IsResolvedStamp u t.offset w → IsReachedAt z local w
+pub reached_by : (z : Zone) (local u : ℤ) (t : LocalType) (w : Resolved) → IsInRange local → IsFirstAtOrAfter (TypeAt z) local u t
+    → IsResolvedStamp u t.offset w → IsReachedAt z local w
 reached_by z local u t w in_range first (inl (inside, is)) = IsReachedAt.reached u t in_range first inside is
 reached_by z local u t w in_range first (inr (outside, is)) = IsReachedAt.reached_outside u t in_range first outside is
 
@@ -39,7 +41,8 @@ pub in_force : (z : Zone) (local u : ℤ) (choice : Choice) (t : LocalType) (off
 in_force z local u choice t offset shows taken same bound = grind (arith, +ℤ-neg_ℤ_cancel u t.offset)
 
 -- what is taken of the answer around the local time
-pub taken_as : (z : Zone) (local : ℤ) (choice : Choice) (a : Around LocalType Change) (p : any_choice.Choice) (r o : Result (Found LocalType Change) ResolveError)
+pub taken_as : (z : Zone) (local : ℤ) (choice : Choice) (a : Around LocalType Change) (p : any_choice.Choice)
+    (r o : Result (Found LocalType Change) ResolveError)
     → AreTypesAround (TypeAt z) local a → p ≡ policy_of choice → r ≡ taken_of p a → r ≡ o → TakesOf z local choice o
 taken_as z local choice a p r o right policy found is = grind arith
 

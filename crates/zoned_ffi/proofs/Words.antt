@@ -46,7 +46,8 @@ unfoldable pub use Rattle.tz_info.proofs.Words.{changes_left}
 pub use Rattle.zoned_ffi.specs.Columns.{AreAnswered, IsAnswered, IsAnsweredOrNone, IsInstantOf, IsInstantTaken, IsNoInstant, IsNotAnswered, IsRowNumber}
 pub use Rattle.zoned_ffi.specs.{Columns.{second_holding}, Handles.{IsLent}, Instants.{AreOffsetsAt, IsWrittenOffsetAt}, Kinds.{IsZoneOf, SpellsZone}}
 pub use Rattle.zoned_ffi.specs.{Owned.{boxed, held, lent, loan, shared_row}, Refusals.{IsErrorOfKind, IsExtendedFault, IsFault, IsFileError, IsReaderNumber}}
-pub use Rattle.zoned_ffi.specs.{Refusals.{IsStringError, refusal_number, detail_number}, Resolved.{AreReached, AreResolved, IsNoneTaken, IsReachedAt, IsResolvedAt}}
+pub use Rattle.zoned_ffi.specs.Refusals.{IsStringError, refusal_number, detail_number}
+pub use Rattle.zoned_ffi.specs.Resolved.{AreReached, AreResolved, IsNoneTaken, IsReachedAt, IsResolvedAt}
 pub use Rattle.zoned_ffi.specs.{Resolved.{IsTakenGapEnd, IsTakenType, TakesOf, policy_of}, Steps.KeptTimes.{AreKept, AreKeptTimes, AreWritten, IsAnsweredBy}}
 pub use Rattle.zoned_ffi.specs.Steps.{KeptTimes.{IsKept, IsKeptOf, IsNotAnsweredBy, IsNotWritten, IsWritten, LieWithin}, ResolvedInstants.{IsResolvedStamp}}
 pub use Rattle.zoned_ffi.specs.{Steps.{ResolvedInstants.{IsTakenAs, taken_instant}, Told.{told_of}}, Texts.{IsSaidOf, IsTextOf}, Units.{IsCounted, IsLocal}}

@@ -47,7 +47,7 @@ pub record IsWholeSecondOf (z : Zone) (unit : Unit) (sought : WholeSecond) (inst
   pub counts : time ≡ second *ℤ pos (per_second unit)
   pub counted : IsCounted time
 
--- why there is none, by its number
+-- the error number of an instant that has no such second
 pub data IsNoWholeSecondOf (z : Zone) (unit : Unit) (sought : WholeSecond) (instant : ℤ) : ℕ → Type 0 where
   not_found : (n : ℕ) → IsNotFound z sought (second_holding unit instant) (second_holding unit (instant -ℤ pos 1)) n
       → IsNoWholeSecondOf z unit sought instant n

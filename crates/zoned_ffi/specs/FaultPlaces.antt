@@ -1,4 +1,4 @@
--- Where a TZ string is at fault.
+-- The position of the fault in a TZ string.
 use Rattle.std.specs.Prelude.{ℕ, ◌≡◌, ◌≢◌, List, Option, Result, Ok, Err, true}
 use Rattle.std.specs.Option.{unwrap_or}
 use Rattle.std.specs.Str.{IsUtf8, IsValidUpTo}

@@ -3,24 +3,18 @@
 //! what clocks have reached.
 #![tactic(auto, using(crate::proofs::Casts::passed_on))]
 
-ghost use Rattle.std.specs.Prelude.{◌≡◌, ◌≢◌, ◌⊎◌, pos, length};
-ghost use Rattle.tz_info.specs.Zones.{Zone, TypeAt, IsTypeRefused};
-ghost use Rattle.zoned_ffi.specs.Handles.{IsLent, IsNoneLent, IsUnanswered};
-ghost use Rattle.zoned_ffi.specs.Instants.{AreOffsetsAt, IsWrittenOffsetAt};
-ghost use Rattle.zoned_ffi.specs.Columns.{AreAnswered, IsFirstWithout};
-ghost use Rattle.zoned_ffi.specs.Fields.{AreFieldsAt, AreNoFieldsAt};
-ghost use Rattle.zoned_ffi.specs.Units.{IsUnit, per_second};
-ghost use Rattle.zoned_ffi.specs.WallClocks.{AreWallClocks, IsWallClockAt};
-ghost use Rattle.zoned_ffi.specs.WrittenSpans.{IsWrittenSpanAt};
-ghost use Rattle.zoned_ffi.specs.declared.column.Way.TheVariants.{ToLocal};
-ghost use Rattle.zoned_ffi.specs.declared.unit.Unit.{Unit as AnyUnit};
-ghost use Rattle.zoned_ffi.specs.WrittenTypes.{AreWrittenTypesAt, IsWrittenTypeAt};
+ghost use Rattle.std.specs.Prelude.{◌≡◌, ◌≢◌, ◌⊎◌, length, pos};
+ghost use Rattle.tz_info.specs.Zones.{IsTypeRefused, Zone};
+ghost use Rattle.zoned_ffi.specs.{Columns.{AreAnswered, IsFirstWithout}, Handles.{IsLent, IsNoneLent, IsUnanswered}};
+ghost use Rattle.zoned_ffi.specs.{Fields.{AreFieldsAt, AreNoFieldsAt}, Instants.{AreOffsetsAt, IsWrittenOffsetAt}};
+ghost use Rattle.zoned_ffi.specs.{Units.{per_second, IsUnit}, WallClocks.{AreWallClocks, IsWallClockAt}};
+ghost use Rattle.zoned_ffi.specs.{WrittenSpans.{IsWrittenSpanAt}, WrittenTypes.{AreWrittenTypesAt, IsWrittenTypeAt}};
 
 pub mod around;
 pub mod locals;
 pub mod reached;
 
-use crate::column::answer_locals;
+use crate::column::{Way, answer_locals};
 use crate::fields::{Fields, answer_fields};
 use crate::instants::{offset_at, write_offsets};
 use crate::lent::Lent;
@@ -195,13 +189,13 @@ pub extern "C" fn zoned_column_locals(
     row: &mut usize,
 ) -> u32
     // 0: each answer is that of the zone.
-    ensures answered { result ≡ 0 → (unit : AnyUnit) × (count ≡ pos (per_second unit))
-        × ((z : Zone) × IsLent zone.now z × AreAnswered z unit ToLocal instants.now locals.new)
+    ensures answered { result ≡ 0 → (unit : Unit) × (count ≡ pos (per_second unit))
+        × ((z : Zone) × IsLent zone.now z × AreAnswered z unit Way.ToLocal instants.now locals.new)
         × (row.new ≡ row.old) }
     // 37: the instant in the row that is written has none. Those before it are answered.
-    ensures without { result ≡ 37 → (unit : AnyUnit) × (count ≡ pos (per_second unit))
+    ensures without { result ≡ 37 → (unit : Unit) × (count ≡ pos (per_second unit))
         × ((z : Zone) × IsLent zone.now z
-        × IsFirstWithout z unit ToLocal instants.now locals.old locals.new row.new 37) }
+        × IsFirstWithout z unit Way.ToLocal instants.now locals.old locals.new row.new 37) }
     // 36: no unit has that count in a second. Others as in the calls above. Nothing is written.
     ensures refused { result ≢ 0 → result ≢ 37 → (((result ≡ 36) × ¬ (IsUnit count))
         ⊎ (IsUnit count × IsUnanswered zone.now (length instants.now) (length locals.old) result))

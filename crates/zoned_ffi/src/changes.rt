@@ -1,12 +1,10 @@
 //! The changes of a zone's clocks, and the calls by which C asks for them.
 #![tactic(auto, using(crate::proofs::Casts::passed_on))]
 
-ghost use Rattle.std.specs.Prelude.{◌≡◌, ◌≢◌, ◌⊎◌, ◌≤ℤ◌, ◌<ℤ◌, slice_set};
-ghost use Rattle.tz_info.specs.Changes.{HasNoChange};
-ghost use Rattle.tz_info.specs.Zones.{Zone, TypeAt};
+ghost use Rattle.std.specs.Prelude.{◌≡◌, ◌≢◌, ◌⊎◌, ◌<ℤ◌, ◌≤ℤ◌, slice_set};
+ghost use Rattle.tz_info.specs.{Changes.{HasNoChange}, Zones.{TypeAt, Zone}};
 ghost use Rattle.zoned_ffi.specs.Handles.{IsLent, IsNoneLent};
-ghost use Rattle.zoned_ffi.specs.WrittenChanges.{AreFirstWritten, IsFirstWritten, IsLastWritten};
-ghost use Rattle.zoned_ffi.specs.WrittenChanges.{written_change};
+ghost use Rattle.zoned_ffi.specs.WrittenChanges.{written_change, AreFirstWritten, IsFirstWritten, IsLastWritten};
 
 use crate::lent::Lent;
 use crate::local_type::WrittenType;

@@ -3,7 +3,6 @@
 ghost use Rattle.std.specs.Prelude.{◌≡◌, ◌≢◌, length, MatchOption};
 ghost use Rattle.zoned_ffi.specs.Columns.{AreAnswered, IsFirstWithout, IsRowNumber, IsSoughtNumber};
 ghost use Rattle.zoned_ffi.specs.Steps.KeptTimes.{AreWritten, IsStop};
-ghost use Rattle.zoned_ffi.specs.declared.column.Way.TheVariants.{ToInstants, ToLocal, ToWholeSeconds};
 
 mod block;
 mod kept;
@@ -110,9 +109,9 @@ pub fn answer_locals(
     row: &mut usize,
 ) -> u32
     ensures answered { result ≡ 0
-        → AreAnswered zone.now unit ToLocal instants.now locals.new × (row.new ≡ row.old) }
+        → AreAnswered zone.now unit Way.ToLocal instants.now locals.new × (row.new ≡ row.old) }
     ensures without { result ≡ 37
-        → IsFirstWithout zone.now unit ToLocal instants.now locals.old locals.new row.new 37 }
+        → IsFirstWithout zone.now unit Way.ToLocal instants.now locals.old locals.new row.new 37 }
     ensures refused { result ≢ 0 → result ≢ 37
         → (result ≡ 32) × (length instants.now ≢ length locals.old)
         × (locals.new ≡ locals.old) × (row.new ≡ row.old) }
@@ -146,10 +145,10 @@ pub fn answer_times(
     row: &mut usize,
 ) -> u32
     ensures answered { result ≡ 0
-        → AreAnswered zone.now unit (ToInstants choice) locals.now instants.new
+        → AreAnswered zone.now unit (Way.ToInstants choice) locals.now instants.new
         × (row.new ≡ row.old) }
     ensures without { IsRowNumber result
-        → IsFirstWithout zone.now unit (ToInstants choice) locals.now
+        → IsFirstWithout zone.now unit (Way.ToInstants choice) locals.now
         instants.old instants.new row.new result }
     ensures refused { result ≢ 0 → ¬ (IsRowNumber result)
         → (result ≡ 32) × (length locals.now ≢ length instants.old)
@@ -185,10 +184,10 @@ pub fn answer_whole_seconds(
     row: &mut usize,
 ) -> u32
     ensures answered { result ≡ 0
-        → AreAnswered zone.now unit (ToWholeSeconds sought) instants.now found.new
+        → AreAnswered zone.now unit (Way.ToWholeSeconds sought) instants.now found.new
         × (row.new ≡ row.old) }
     ensures without { IsSoughtNumber result
-        → IsFirstWithout zone.now unit (ToWholeSeconds sought) instants.now
+        → IsFirstWithout zone.now unit (Way.ToWholeSeconds sought) instants.now
         found.old found.new row.new result }
     ensures refused { result ≢ 0 → ¬ (IsSoughtNumber result)
         → (result ≡ 32) × (length instants.now ≢ length found.old)

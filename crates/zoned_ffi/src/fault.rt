@@ -1,8 +1,7 @@
-//! Where a TZ string is at fault.
+//! The position of the fault in a TZ string.
 
 ghost use Rattle.std.specs.Prelude.{◌≡◌};
-ghost use Rattle.zoned_ffi.specs.FaultPlaces.{IsFaultPosition, position_of};
-ghost use Rattle.zoned_ffi.specs.Kinds.{kind_number};
+ghost use Rattle.zoned_ffi.specs.{FaultPlaces.{position_of, IsFaultPosition}, Kinds.{kind_number}};
 
 use crate::kind::Kind;
 use std::alloc::Global;

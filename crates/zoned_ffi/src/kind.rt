@@ -1,11 +1,10 @@
 //! How bytes are read: as a TZif file, or as a TZ string, with extensions or without.
 #![tactic(auto, using(crate::proofs::Reading::rejections))]
 
-ghost use Rattle.std.specs.Prelude.{◌≡◌, IfOk, IfErr, MatchOption, MatchResult};
+ghost use Rattle.std.specs.Prelude.{◌≡◌, IfErr, IfOk, MatchOption, MatchResult};
 ghost use Rattle.tz_info.specs.Zones.{Zone};
-ghost use Rattle.zoned_ffi.specs.Kinds.{IsKind, IsZoneOf, SpellsZone, kind_number};
-ghost use Rattle.zoned_ffi.specs.Refusals.{IsErrorOfKind, IsFault, IsReaderNumber, refusal_number};
-ghost use Rattle.zoned_ffi.specs.declared.kind.Kind.TheVariants.{ExtendedText, File, Text};
+ghost use Rattle.zoned_ffi.specs.Kinds.{kind_number, IsKind, IsZoneOf, SpellsZone};
+ghost use Rattle.zoned_ffi.specs.Refusals.{refusal_number, IsErrorOfKind, IsFault, IsReaderNumber};
 
 use crate::refusal::Refusal;
 use std::alloc::Global;
@@ -54,10 +53,10 @@ impl Kind {
 
 // The zone of a TZ string.
 fn read_text(alloc: Global, bytes: &[u8]) -> Result<TimeZone, Refusal>
-    ensures found { IfOk result (λ z. SpellsZone Text bytes.now z) }
-    ensures only { (z : Zone) → SpellsZone Text bytes.now z
+    ensures found { IfOk result (λ z. SpellsZone Kind.Text bytes.now z) }
+    ensures only { (z : Zone) → SpellsZone Kind.Text bytes.now z
         → MatchResult result (λ y. y ≡ z) (λ e. refusal_number e ≡ 17) }
-    ensures fault { IfErr result (λ e. IsFault Text bytes.now (refusal_number e)) }
+    ensures fault { IfErr result (λ e. IsFault Kind.Text bytes.now (refusal_number e)) }
     ensures number { IfErr result (λ e. IsReaderNumber (refusal_number e)) }
 {
     let Ok(text) = str::from_utf8(bytes) else {
@@ -72,10 +71,10 @@ fn read_text(alloc: Global, bytes: &[u8]) -> Result<TimeZone, Refusal>
 // The zone of a TZ string with extensions.
 #[tactic(auto, using(crate::proofs::Reading::extended_refused))]
 fn read_extended(alloc: Global, bytes: &[u8]) -> Result<TimeZone, Refusal>
-    ensures found { IfOk result (λ z. SpellsZone ExtendedText bytes.now z) }
-    ensures only { (z : Zone) → SpellsZone ExtendedText bytes.now z
+    ensures found { IfOk result (λ z. SpellsZone Kind.ExtendedText bytes.now z) }
+    ensures only { (z : Zone) → SpellsZone Kind.ExtendedText bytes.now z
         → MatchResult result (λ y. y ≡ z) (λ e. refusal_number e ≡ 17) }
-    ensures fault { IfErr result (λ e. IsFault ExtendedText bytes.now (refusal_number e)) }
+    ensures fault { IfErr result (λ e. IsFault Kind.ExtendedText bytes.now (refusal_number e)) }
     ensures number { IfErr result (λ e. IsReaderNumber (refusal_number e)) }
 {
     match TimeZone::from_extended_tz(alloc, bytes) {

@@ -1,10 +1,7 @@
 //! A zone that C keeps, as it is asked: the handle is only read, by any number of calls at once.
 
-ghost use Rattle.std.specs.Prelude.{◌≡◌, ℕ, None, Some};
-ghost use Rattle.std.specs.Option.{MatchOption};
-ghost use Rattle.std.specs.declared.alloc.Global.{Global as Heap};
-ghost use Rattle.std.specs.declared.option.Option.{Option};
-ghost use Rattle.std.specs.declared.sync.Arc.{Arc};
+ghost use Rattle.std.specs.{Option.{MatchOption}, Prelude.{◌≡◌, ℕ}};
+ghost use Rattle.std.specs.declared.{alloc.Global.{Global as Heap}, option.Option.{Option}, sync.Arc.{Arc}};
 ghost use Rattle.tz_info.specs.Zones.{Zone};
 ghost use Rattle.zoned_ffi.specs.Owned.{lent, shared_row};
 

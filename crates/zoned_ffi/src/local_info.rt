@@ -1,14 +1,10 @@
 //! Local times, each with the spans of the seconds that show it, or of those around its gap.
 #![tactic(auto, using(crate::proofs::Casts::passed_on))]
 
-ghost use Rattle.std.specs.Prelude.{◌≡◌, ◌+ℤ◌, ◌-ℤ◌, ◌<ℤ◌, pos};
-ghost use Rattle.naive_base.specs.NaiveDateTime.{reading};
-ghost use Rattle.naive_base.specs.Range.{IsInRange};
-ghost use Rattle.tz_base.specs.LocalTypes.{LocalType};
-ghost use Rattle.tz_info.specs.WallClocks.{Shows};
-ghost use Rattle.tz_info.specs.Zones.{TypeAt};
-ghost use Rattle.zoned_ffi.specs.LocalInfos.{IsLocalInfo};
-ghost use Rattle.zoned_ffi.specs.WrittenSpans.{IsWrittenSpanAt};
+ghost use Rattle.std.specs.Prelude.{◌≡◌, ◌<ℤ◌, ◌+ℤ◌, ◌-ℤ◌, pos};
+ghost use Rattle.naive_base.specs.{NaiveDateTime.{reading}, Range.{IsInRange}};
+ghost use Rattle.tz_info.specs.{WallClocks.{Shows}, Zones.{TypeAt}};
+ghost use Rattle.zoned_ffi.specs.{LocalInfos.{IsLocalInfo}, WrittenSpans.{IsWrittenSpanAt}};
 
 use crate::local_result::{NEVER, ONCE, SEVERAL_TIMES};
 use crate::resolved::instant_by;

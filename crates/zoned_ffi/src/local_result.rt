@@ -1,10 +1,9 @@
 //! When wall clocks show local times.
 
-ghost use Rattle.std.specs.Prelude.{◌≡◌, ◌-ℤ◌, pos, length};
-ghost use Rattle.naive_base.specs.Range.{IsInRange};
+ghost use Rattle.std.specs.Prelude.{◌≡◌, ◌-ℤ◌, length, pos};
 ghost use Rattle.offset_core.specs.LocalResult.{map_of};
-ghost use Rattle.zoned_ffi.specs.Steps.Told.{told_of};
-ghost use Rattle.zoned_ffi.specs.WallClocks.{AreWallClocks, IsWallClockAt, written};
+ghost use Rattle.naive_base.specs.Range.{IsInRange};
+ghost use Rattle.zoned_ffi.specs.{Steps.Told.{told_of}, WallClocks.{written, AreWallClocks, IsWallClockAt}};
 
 use crate::local_lookups::LocalLookups;
 use naive_base::NaiveDateTime;

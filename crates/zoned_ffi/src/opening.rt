@@ -1,12 +1,10 @@
 //! Zones that C keeps: opened, shared and closed.
 
-ghost use Rattle.std.specs.Prelude.{◌≡◌, ◌≢◌, ◌⊎◌, IfErr, IfOk, IfSome};
-ghost use Rattle.std.specs.Arc.{arc_value};
+ghost use Rattle.std.specs.{Arc.{arc_value}, Prelude.{◌≡◌, ◌≢◌, ◌⊎◌, IfErr, IfOk, IfSome}};
 ghost use Rattle.tz_base.specs.LocalTypes.{IsUtOffset};
-ghost use Rattle.tz_info.specs.Zones.{Zone, plain_zone};
-ghost use Rattle.zoned_ffi.specs.Handles.{IsClosed, IsLent, IsNoneLent, IsOpen};
-ghost use Rattle.zoned_ffi.specs.Kinds.{IsZoneOf};
-ghost use Rattle.zoned_ffi.specs.Refusals.{IsErrorOfKind, refusal_number};
+ghost use Rattle.tz_info.specs.Zones.{plain_zone, Zone};
+ghost use Rattle.zoned_ffi.specs.{Handles.{IsClosed, IsLent, IsNoneLent, IsOpen}, Kinds.{IsZoneOf}};
+ghost use Rattle.zoned_ffi.specs.Refusals.{refusal_number, IsErrorOfKind};
 
 use crate::handle::Handle;
 use crate::kind::read_zone;

@@ -1,72 +1,50 @@
 //! Facts about only the definitions, each proved with no code between: the numbers that the header
 //! gives to C. The functions are empty, and never called.
 
-ghost use Rattle.std.specs.Prelude.{◌≡◌, ◌∷◌, [], ◌⊎◌, ◌-ℤ◌, ℕ, ℤ, pos, neg_ℤ, true, false, Some, None, Ok, List, codes};
-ghost use Rattle.offset_core.specs.declared.around.Taken.TheVariants.{InGap};
-ghost use Rattle.tz_base.specs.LocalTypes.{LocalType};
-ghost use Rattle.tz_base.specs.declared.change.Change.{Change};
-ghost use Rattle.tz_info.specs.Folds.{HasFold, Repeats, SkipsOrRepeats};
-ghost use Rattle.zoned_ffi.specs.Steps.SetBack.{set_back, summer, winter};
-ghost use Rattle.tz_info.specs.Zones.{Zone};
-ghost use Rattle.tz_base.specs.declared.error.Error.TheVariants as errors;
-ghost use Rattle.tz_base.specs.declared.error.Expected.TheVariants as expected;
-ghost use Rattle.tz_info.specs.PosixZones.{IsExtendedZone};
-ghost use Rattle.tz_info.specs.Zones.{IsTypeRefused, TypeAt};
-ghost use Rattle.zoned_ffi.specs.Columns.{IsAnsweredOrNone, IsFirstWithout, IsInstantOf, IsNoInstant};
-ghost use Rattle.zoned_ffi.specs.Columns.{IsNoWholeSecondOf, IsRowNumber, IsSoughtNumber};
-ghost use Rattle.zoned_ffi.specs.Columns.{IsWholeSecondOf, second_holding};
-ghost use Rattle.zoned_ffi.specs.WholeSeconds.{IsDayAt, IsFound, IsNoDayAt, IsStep, step_number};
-ghost use Rattle.zoned_ffi.specs.declared.whole_second.WholeSecond.{WholeSecond};
-ghost use Rattle.naive_base.specs.Stamp.{of_secs};
-ghost use Rattle.naive_base.specs.declared.weekday.Weekday.TheVariants as weekdays;
-ghost use Rattle.naive_plans.specs.ClockSteps.{BeginsStep};
-ghost use Rattle.naive_plans.specs.declared.clock_step.ClockStep.TheVariants as clock_steps;
-ghost use Rattle.zoned_ref.specs.Offsets.{AreOffsetsOf};
-ghost use Rattle.zoned_time.specs.Days.{IsInDay};
-ghost use Rattle.zoned_time.specs.StepBounds.{AreStepBounds};
-ghost use Rattle.zoned_ffi.specs.FaultPlaces.{IsFaultPosition, no_position};
-ghost use Rattle.zoned_ffi.specs.Fields.{AreFieldsOf, IsNoLocalOf};
-ghost use Rattle.zoned_ffi.specs.Handles.{IsUnanswered};
-ghost use Rattle.zoned_ffi.specs.Instants.{IsWrittenOffsetAt, no_offset};
-ghost use Rattle.zoned_ffi.specs.Kinds.{IsKind, kind_number};
-ghost use Rattle.zoned_ffi.specs.Refusals.{IsErrorOfKind, IsReaderNumber, detail_number, refusal_number};
-ghost use Rattle.zoned_ffi.specs.Resolved.{IsChoice, IsChoiceOf, IsNoneTaken, IsReachedAt, IsResolvedAt};
-ghost use Rattle.zoned_ffi.specs.Resolved.{IsTakenGapEnd, IsTakenType, TakesOf, unresolved};
-ghost use Rattle.zoned_ffi.specs.Texts.{IsTextOf, written_over};
-ghost use Rattle.zoned_ffi.specs.Units.{IsCounted, IsLocal, IsUnit, local_by, no_time, per_second};
-ghost use Rattle.zoned_ffi.specs.WallClocks.{written, out_of_range};
-ghost use Rattle.zoned_ffi.specs.WrittenChanges.{written_change, written_into};
-ghost use Rattle.zoned_ffi.specs.WrittenSavings.{written_saving};
-ghost use Rattle.zoned_ffi.specs.WrittenSpans.{written_span};
-ghost use Rattle.zoned_ffi.specs.WrittenTypes.{mark, no_type, written_type, zero_ended, zeros};
-ghost use Rattle.zoned_ffi.specs.declared.choice.Choice.{Choice};
-ghost use Rattle.zoned_ffi.specs.declared.column.Way.{Way};
-ghost use Rattle.zoned_ffi.specs.declared.column.Way.TheVariants as ways;
-ghost use Rattle.zoned_ffi.specs.declared.lent.Lent.{Lent};
-ghost use Rattle.zoned_ffi.specs.declared.refusal.Refusal.TheVariants as refusals;
-ghost use Rattle.zoned_ffi.specs.declared.unit.Unit.{Unit};
-ghost use Rattle.zoned_ffi.specs.declared.unit.Unit.TheVariants as units;
-ghost use Rattle.offset_core.specs.declared.choice.FoldChoice.TheVariants as folds;
-ghost use Rattle.offset_core.specs.declared.local_result.LocalResult.TheVariants as results;
-ghost use Rattle.zoned_ffi.specs.declared.choice.ChoiceInGap.TheVariants as gaps;
-ghost use Rattle.zoned_ffi.specs.declared.kind.Kind.TheVariants as kinds;
+ghost use Rattle.std.specs.Prelude.{◌≡◌, ◌⊎◌, ◌-ℤ◌, ◌∷◌, [], codes, false, neg_ℤ, pos, true, List, ℕ, ℤ};
 ghost use Rattle.offset_core.specs.WallAnswer.{IsShownBetween, IsShownOnce};
-ghost use Rattle.tz_info.specs.Around.{Skips};
-ghost use Rattle.tz_info.specs.WallClocks.{Shows};
-ghost use Rattle.tz_info.specs.declared.rule.transition_rule.TransitionRule.{TransitionRule};
+ghost use Rattle.naive_base.specs.Stamp.{of_secs};
+ghost use Rattle.tz_base.specs.LocalTypes.{LocalType};
+ghost use Rattle.tz_info.specs.{Around.{Skips}, PosixZones.{IsExtendedZone}, WallClocks.{Shows}};
+ghost use Rattle.tz_info.specs.{Folds.{HasFold, Repeats, SkipsOrRepeats}, Zones.{IsTypeRefused, TypeAt, Zone}};
+ghost use Rattle.naive_plans.specs.ClockSteps.{BeginsStep};
+ghost use Rattle.zoned_time.specs.{Days.{IsInDay}, StepBounds.{AreStepBounds}};
+ghost use Rattle.zoned_ref.specs.Offsets.{AreOffsetsOf};
 ghost use Rattle.tz_write.specs.WrittenTexts.{IsWrittenText};
-ghost use Rattle.zoned_ffi.specs.LocalInfos.{IsLocalInfo};
-ghost use Rattle.zoned_ffi.specs.RuleStrings.{IsRuleString};
-ghost use Rattle.zoned_ffi.specs.WrittenChanges.{IsNoLocalChange};
-ghost use Rattle.zoned_ffi.specs.WrittenSpans.{IsWrittenSpanAt};
-ghost use Rattle.zoned_ffi.specs.declared.local_info.WrittenLocalInfo.{WrittenLocalInfo};
-ghost use Rattle.zoned_ffi.specs.declared.span.WrittenSpan.{WrittenSpan};
+ghost use Rattle.zoned_ffi.specs.Columns.{second_holding, IsAnsweredOrNone, IsFirstWithout, IsInstantOf, IsNoInstant};
+ghost use Rattle.zoned_ffi.specs.Columns.{IsNoWholeSecondOf, IsRowNumber, IsSoughtNumber, IsWholeSecondOf};
+ghost use Rattle.zoned_ffi.specs.{FaultPlaces.{no_position, IsFaultPosition}, Steps.SetBack.{set_back, summer, winter}};
+ghost use Rattle.zoned_ffi.specs.{Fields.{AreFieldsOf, IsNoLocalOf}, WrittenSpans.{written_span, IsWrittenSpanAt}};
+ghost use Rattle.zoned_ffi.specs.{Handles.{IsUnanswered}, Kinds.{kind_number, IsKind}, Texts.{written_over, IsTextOf}};
+ghost use Rattle.zoned_ffi.specs.{Instants.{no_offset, IsWrittenOffsetAt}, WrittenSavings.{written_saving}};
+ghost use Rattle.zoned_ffi.specs.{LocalInfos.{IsLocalInfo}, RuleStrings.{IsRuleString}};
+ghost use Rattle.zoned_ffi.specs.Refusals.{detail_number, refusal_number, IsErrorOfKind, IsReaderNumber};
+ghost use Rattle.zoned_ffi.specs.Resolved.{unresolved, IsChoice, IsChoiceOf, IsNoneTaken, IsReachedAt, IsResolvedAt};
+ghost use Rattle.zoned_ffi.specs.{Resolved.{IsTakenGapEnd, IsTakenType, TakesOf}, WallClocks.{out_of_range, written}};
+ghost use Rattle.zoned_ffi.specs.Units.{local_by, no_time, per_second, IsCounted, IsLocal, IsUnit};
+ghost use Rattle.zoned_ffi.specs.WholeSeconds.{step_number, IsDayAt, IsFound, IsNoDayAt, IsStep};
+ghost use Rattle.zoned_ffi.specs.WrittenChanges.{written_change, written_into, IsNoLocalChange};
+ghost use Rattle.zoned_ffi.specs.WrittenTypes.{mark, no_type, written_type, zero_ended, zeros};
+
+use crate::choice::{Choice, ChoiceInGap};
+use crate::column::Way;
+use crate::kind::Kind;
+use crate::lent::Lent;
+use crate::local_info::WrittenLocalInfo;
+use crate::refusal::Refusal;
+use crate::span::WrittenSpan;
+use crate::unit::Unit;
+use crate::whole_second::WholeSecond;
+use naive_base::Weekday;
+use naive_plans::ClockStep;
+use offset_core::{FoldChoice, LocalResult, Taken};
+use tz_info::{Change, Error, Expected, TransitionRule};
 
 /// A file is of kind 0, a TZ string of kind 1, and one with extensions of kind 2; there is no kind 3.
 pub fn kind_numbers()
-    ensures file { kind_number kinds.File ≡ 0 }
-    ensures text { kind_number kinds.Text ≡ 1 }
-    ensures extended { kind_number kinds.ExtendedText ≡ 2 }
+    ensures file { kind_number Kind.File ≡ 0 }
+    ensures text { kind_number Kind.Text ≡ 1 }
+    ensures extended { kind_number Kind.ExtendedText ≡ 2 }
     ensures three { ¬ (IsKind 3) }
 {}
 
@@ -83,11 +61,11 @@ pub fn fault_positions()
 /// For a gap 0 refuses, 1 shifts forward, 2 takes its end and 3 shifts backward; for a fold 0 refuses, 1
 /// takes the earliest and 2 the latest.
 pub fn choice_numbers()
-    ensures refused { IsChoiceOf 0 0 (record { gap = gaps.Refuse; fold = folds.Refuse }) }
-    ensures earliest { IsChoiceOf 1 1 (record { gap = gaps.ShiftForward; fold = folds.Earliest }) }
-    ensures latest { IsChoiceOf 1 2 (record { gap = gaps.ShiftForward; fold = folds.Latest }) }
-    ensures end { IsChoiceOf 2 0 (record { gap = gaps.End; fold = folds.Refuse }) }
-    ensures backward { IsChoiceOf 3 0 (record { gap = gaps.ShiftBackward; fold = folds.Refuse }) }
+    ensures refused { IsChoiceOf 0 0 (record { gap = ChoiceInGap.Refuse; fold = FoldChoice.Refuse }) }
+    ensures earliest { IsChoiceOf 1 1 (record { gap = ChoiceInGap.ShiftForward; fold = FoldChoice.Earliest }) }
+    ensures latest { IsChoiceOf 1 2 (record { gap = ChoiceInGap.ShiftForward; fold = FoldChoice.Latest }) }
+    ensures end { IsChoiceOf 2 0 (record { gap = ChoiceInGap.End; fold = FoldChoice.Refuse }) }
+    ensures backward { IsChoiceOf 3 0 (record { gap = ChoiceInGap.ShiftBackward; fold = FoldChoice.Refuse }) }
     ensures gap_4 { ¬ (IsChoice 4 0) }
     ensures fold_3 { ¬ (IsChoice 0 3) }
 {}
@@ -96,14 +74,14 @@ pub fn choice_numbers()
 /// after it. By that New York's 02:30:00 on 2021-03-14 is 06:30:00 UTC, at which clocks showed 01:30:00.
 pub fn shifted_gaps()
     ensures forward { (z : Zone) (local : ℤ) (change : Change)
-        → TakesOf z local (record { gap = gaps.ShiftForward; fold = folds.Refuse })
-        (Ok (InGap change))
-        → IsTakenType z local (record { gap = gaps.ShiftForward; fold = folds.Refuse })
+        → TakesOf z local (record { gap = ChoiceInGap.ShiftForward; fold = FoldChoice.Refuse })
+        (Ok (Taken.InGap change))
+        → IsTakenType z local (record { gap = ChoiceInGap.ShiftForward; fold = FoldChoice.Refuse })
         change.before }
     ensures backward { (z : Zone) (local : ℤ) (change : Change)
-        → TakesOf z local (record { gap = gaps.ShiftBackward; fold = folds.Refuse })
-        (Ok (InGap change))
-        → IsTakenType z local (record { gap = gaps.ShiftBackward; fold = folds.Refuse })
+        → TakesOf z local (record { gap = ChoiceInGap.ShiftBackward; fold = FoldChoice.Refuse })
+        (Ok (Taken.InGap change))
+        → IsTakenType z local (record { gap = ChoiceInGap.ShiftBackward; fold = FoldChoice.Refuse })
         change.after }
     ensures instant { (z : Zone) (choice : Choice) (t : LocalType)
         → IsTakenType z (pos 1_615_689_000) choice t → t.offset ≡ neg_ℤ (pos 14_400)
@@ -208,21 +186,21 @@ pub fn savings()
 /// A local time is shown never, once or more than once, by 0, 1 and 2; 3 is out of range. The
 /// earlier second comes first.
 pub fn wall_clocks()
-    ensures never { written results.None ≡ record {
+    ensures never { written LocalResult.None ≡ record {
       shown = pos 0;
       first_offset = pos 0;
       last_offset = pos 0;
       first = pos 0;
       last = pos 0;
     } }
-    ensures once { written (results.Single (pos 5, pos 60)) ≡ record {
+    ensures once { written (LocalResult.Single (pos 5, pos 60)) ≡ record {
       shown = pos 1;
       first_offset = pos 60;
       last_offset = pos 60;
       first = pos 5;
       last = pos 5;
     } }
-    ensures more { written (results.Ambiguous (pos 5, pos 60) (pos 35, pos 30)) ≡ record {
+    ensures more { written (LocalResult.Ambiguous (pos 5, pos 60) (pos 35, pos 30)) ≡ record {
       shown = pos 2;
       first_offset = pos 60;
       last_offset = pos 30;
@@ -244,9 +222,9 @@ pub fn refusal_numbers()
     ensures none_taken { (z : Zone) (local : ℤ) (choice : Choice) (n : ℕ)
         → IsNoneTaken z local choice n → (n ≡ 21) ⊎ (n ≡ 22) }
     ensures gap { (z : Zone) (local : ℤ) (n : ℕ)
-        → IsNoneTaken z local (record { gap = gaps.Refuse; fold = folds.Latest }) n → n ≡ 21 }
+        → IsNoneTaken z local (record { gap = ChoiceInGap.Refuse; fold = FoldChoice.Latest }) n → n ≡ 21 }
     ensures fold { (z : Zone) (local : ℤ) (n : ℕ)
-        → IsNoneTaken z local (record { gap = gaps.ShiftForward; fold = folds.Refuse }) n
+        → IsNoneTaken z local (record { gap = ChoiceInGap.ShiftForward; fold = FoldChoice.Refuse }) n
         → n ≡ 22 }
     ensures unanswered { (handle : Lent) (wanted n : ℕ)
         → IsUnanswered handle wanted wanted n → n ≡ 33 }
@@ -255,18 +233,18 @@ pub fn refusal_numbers()
 /// A second has 1, 1,000, 1,000,000 or 1,000,000,000 of a unit. INT64_MIN is no time, and a time
 /// before 1970 lies in the second before it.
 pub fn units()
-    ensures seconds { per_second units.Seconds ≡ 1 }
-    ensures milliseconds { per_second units.Milliseconds ≡ 1_000 }
-    ensures microseconds { per_second units.Microseconds ≡ 1_000_000 }
-    ensures nanoseconds { per_second units.Nanoseconds ≡ 1_000_000_000 }
+    ensures seconds { per_second Unit.Seconds ≡ 1 }
+    ensures milliseconds { per_second Unit.Milliseconds ≡ 1_000 }
+    ensures microseconds { per_second Unit.Microseconds ≡ 1_000_000 }
+    ensures nanoseconds { per_second Unit.Nanoseconds ≡ 1_000_000_000 }
     ensures unit { IsUnit (pos 1_000) }
     ensures no_unit { ¬ (IsUnit (pos 60)) }
     ensures none { no_time ≡ neg_ℤ (pos 9_223_372_036_854_775_808) }
     ensures counted { IsCounted (neg_ℤ (pos 9_223_372_036_854_775_807)) }
     ensures not_counted { ¬ (IsCounted no_time) }
-    ensures holding { second_holding units.Milliseconds (neg_ℤ (pos 1)) ≡ neg_ℤ (pos 1) }
+    ensures holding { second_holding Unit.Milliseconds (neg_ℤ (pos 1)) ≡ neg_ℤ (pos 1) }
     ensures local { (t : LocalType) → t.offset ≡ neg_ℤ (pos 18_000)
-        → local_by units.Milliseconds (pos 1_615_705_199_500) t ≡ pos 1_615_687_199_500 }
+        → local_by Unit.Milliseconds (pos 1_615_705_199_500) t ≡ pos 1_615_687_199_500 }
 {}
 
 /// New York's 02:30:00.500 on 2021-03-14, 1615689000500 ms, lies in the gap that ends at 1615705200: it is
@@ -275,25 +253,25 @@ pub fn units()
 pub fn columns()
     ensures gap_end { (z : Zone) (choice : Choice) (after : LocalType)
         → IsTakenGapEnd z (pos 1_615_689_000) choice (pos 1_615_705_200) after
-        → IsInstantOf z units.Milliseconds choice (pos 1_615_689_000_500) (pos 1_615_705_200_000) }
+        → IsInstantOf z Unit.Milliseconds choice (pos 1_615_689_000_500) (pos 1_615_705_200_000) }
     ensures shifted { (z : Zone) (choice : Choice) (t : LocalType)
         → IsTakenType z (pos 1_615_689_000) choice t → t.offset ≡ neg_ℤ (pos 18_000)
-        → IsInstantOf z units.Milliseconds choice (pos 1_615_689_000_500) (pos 1_615_707_000_500) }
+        → IsInstantOf z Unit.Milliseconds choice (pos 1_615_689_000_500) (pos 1_615_707_000_500) }
     ensures local { (z : Zone) (t : LocalType)
         → TypeAt z (pos 1_615_705_199) t → t.offset ≡ neg_ℤ (pos 18_000)
-        → IsLocal z units.Milliseconds (pos 1_615_705_199_500) (pos 1_615_687_199_500) }
+        → IsLocal z Unit.Milliseconds (pos 1_615_705_199_500) (pos 1_615_687_199_500) }
     ensures outside { (z : Zone) (choice : Choice)
-        → IsNoInstant z units.Seconds choice (pos 8_210_266_876_800) 23 }
+        → IsNoInstant z Unit.Seconds choice (pos 8_210_266_876_800) 23 }
     ensures none { (z : Zone) (unit : Unit) (way : Way) → IsAnsweredOrNone z unit way no_time no_time }
     ensures none_only { (z : Zone) (unit : Unit) (way : Way)
         → ¬ (IsAnsweredOrNone z unit way no_time (pos 0)) }
     ensures stops { (z : Zone) (y : ℤ) → IsTypeRefused z (pos 5)
-        → IsFirstWithout z units.Seconds ways.ToLocal (no_time ∷ pos 5 ∷ [])
+        → IsFirstWithout z Unit.Seconds Way.ToLocal (no_time ∷ pos 5 ∷ [])
         (y ∷ y ∷ []) (no_time ∷ y ∷ []) 1 37 }
     ensures rest { (z : Zone) (n : ℕ)
-        → ¬ (IsFirstWithout z units.Seconds ways.ToLocal (pos 5 ∷ []) (pos 7 ∷ []) (pos 0 ∷ []) 0 n) }
+        → ¬ (IsFirstWithout z Unit.Seconds Way.ToLocal (pos 5 ∷ []) (pos 7 ∷ []) (pos 0 ∷ []) 0 n) }
     ensures not_later { (z : Zone) (n : ℕ)
-        → ¬ (IsFirstWithout z units.Seconds ways.ToLocal (no_time ∷ []) (no_time ∷ [])
+        → ¬ (IsFirstWithout z Unit.Seconds Way.ToLocal (no_time ∷ []) (no_time ∷ [])
         (no_time ∷ []) 0 n) }
     ensures first_number { IsRowNumber 21 }
     ensures last_number { IsRowNumber 23 }
@@ -303,11 +281,11 @@ pub fn columns()
 /// A day is the step 86400, and a quarter of an hour 900. A week from Sunday is 100000 and one from Monday
 /// 100001, a month 200000 and a year 300000. No step has seven seconds.
 pub fn steps()
-    ensures day { step_number clock_steps.Day ≡ 86_400 }
-    ensures from_sunday { step_number (clock_steps.Week weekdays.Sun) ≡ 100_000 }
-    ensures from_monday { step_number (clock_steps.Week weekdays.Mon) ≡ 100_001 }
-    ensures month { step_number clock_steps.Month ≡ 200_000 }
-    ensures year { step_number clock_steps.Year ≡ 300_000 }
+    ensures day { step_number ClockStep.Day ≡ 86_400 }
+    ensures from_sunday { step_number (ClockStep.Week Weekday.Sun) ≡ 100_000 }
+    ensures from_monday { step_number (ClockStep.Week Weekday.Mon) ≡ 100_001 }
+    ensures month { step_number ClockStep.Month ≡ 200_000 }
+    ensures year { step_number ClockStep.Year ≡ 300_000 }
     ensures quarter_hour { IsStep 900 }
     ensures seven { ¬ (IsStep 7) }
 {}
@@ -316,11 +294,11 @@ pub fn steps()
 /// that is found is counted in milliseconds.
 pub fn whole_seconds()
     ensures after { (z : Zone) (sought : WholeSecond) → IsFound z sought (pos 5) (pos 5) (pos 7)
-        → IsWholeSecondOf z units.Milliseconds sought (pos 5_001) (pos 7_000) }
+        → IsWholeSecondOf z Unit.Milliseconds sought (pos 5_001) (pos 7_000) }
     ensures at { (z : Zone) (sought : WholeSecond) → IsFound z sought (pos 5) (pos 4) (pos 5)
-        → IsWholeSecondOf z units.Milliseconds sought (pos 5_000) (pos 5_000) }
+        → IsWholeSecondOf z Unit.Milliseconds sought (pos 5_000) (pos 5_000) }
     ensures outside { (z : Zone) (sought : WholeSecond)
-        → IsNoWholeSecondOf z units.Seconds sought (pos 8_210_266_876_800) 23 }
+        → IsNoWholeSecondOf z Unit.Seconds sought (pos 8_210_266_876_800) 23 }
     ensures out_of_range { IsSoughtNumber 23 }
     ensures wide { IsSoughtNumber 40 }
     ensures no_number { ¬ (IsSoughtNumber 37) }
@@ -331,7 +309,7 @@ pub fn whole_seconds()
 pub fn days()
     ensures date { (z : Zone) (off : ℤ → ℤ) → AreOffsetsOf z off
         → IsInDay off (pos 13_086) (of_secs (pos 1_130_641_320) 0)
-        → AreStepBounds off (BeginsStep clock_steps.Day) (pos 1_130_641_320) (pos 1_130_639_400)
+        → AreStepBounds off (BeginsStep ClockStep.Day) (pos 1_130_641_320) (pos 1_130_639_400)
         (pos 1_130_729_400)
         → IsDayAt z (pos 1_130_641_320) (record {
           date = pos 1_130_630_400;
@@ -344,14 +322,14 @@ pub fn days()
 /// The numbers of errors: a TZ string that is not UTF-8 is 16, an unknown kind 31. Lists that make no zone
 /// have the numbers 41 to 44; each other error keeps its own.
 pub fn numbers()
-    ensures not_utf8 { refusal_number refusals.TextNotUtf8 ≡ 16 }
-    ensures unknown_kind { refusal_number refusals.UnknownKind ≡ 31 }
+    ensures not_utf8 { refusal_number Refusal.TextNotUtf8 ≡ 16 }
+    ensures unknown_kind { refusal_number Refusal.UnknownKind ≡ 31 }
     ensures kind_3 { (bytes : List ℕ) → IsErrorOfKind 3 bytes 31 }
-    ensures index { detail_number (errors.TimeZone expected.TypeIndexesWithinTypes) ≡ 41 }
-    ensures times { detail_number (errors.TimeZone expected.TransitionTimesThatRise) ≡ 42 }
-    ensures leaps { detail_number (errors.TimeZone expected.LeapSecondsInOrder) ≡ 43 }
-    ensures rule { detail_number (errors.TimeZone expected.RuleThatAgreesWithLastTransition) ≡ 44 }
-    ensures memory { detail_number errors.OutOfMemory ≡ 17 }
+    ensures index { detail_number (Error.TimeZone Expected.TypeIndexesWithinTypes) ≡ 41 }
+    ensures times { detail_number (Error.TimeZone Expected.TransitionTimesThatRise) ≡ 42 }
+    ensures leaps { detail_number (Error.TimeZone Expected.LeapSecondsInOrder) ≡ 43 }
+    ensures rule { detail_number (Error.TimeZone Expected.RuleThatAgreesWithLastTransition) ≡ 44 }
+    ensures memory { detail_number Error.OutOfMemory ≡ 17 }
     ensures last_of_reader { IsReaderNumber 17 }
     ensures last_of_lists { IsReaderNumber 44 }
     ensures not_of_reader { ¬ (IsReaderNumber 21) }

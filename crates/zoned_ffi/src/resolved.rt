@@ -1,9 +1,8 @@
 //! The instants that a choice takes for local times.
 
-ghost use Rattle.std.specs.Prelude.{◌≡◌, ◌-ℤ◌, pos, length, MatchResult};
-ghost use Rattle.naive_base.specs.NaiveDateTime.{reading};
-ghost use Rattle.naive_base.specs.Range.{IsInRange};
-ghost use Rattle.zoned_ffi.specs.Resolved.{AreReached, AreResolved, IsNoneTaken, IsReachedAt, IsResolvedAt, unresolved};
+ghost use Rattle.std.specs.Prelude.{◌≡◌, ◌-ℤ◌, length, MatchResult};
+ghost use Rattle.naive_base.specs.{NaiveDateTime.{reading}, Range.{IsInRange}};
+ghost use Rattle.zoned_ffi.specs.Resolved.{unresolved, AreReached, AreResolved, IsNoneTaken, IsReachedAt, IsResolvedAt};
 ghost use Rattle.zoned_ffi.specs.Steps.ResolvedInstants.{IsResolvedStamp, IsTakenAs};
 
 use crate::choice::{Choice, ChoiceInGap};
@@ -11,8 +10,8 @@ use crate::instants::offset_at;
 use crate::local_lookups::LocalLookups;
 use crate::refusal::INSTANT_OUT_OF_RANGE;
 use naive_base::NaiveDateTime;
-use offset_core::{Around, Taken as Found};
-use tz_info::TimeZone;
+use offset_core::Taken as Found;
+use tz_info::{Probes, TimeZone};
 
 /// The instant that a choice takes for a local time.
 #[repr(C)]
@@ -117,24 +116,12 @@ pub enum Taken {
 }
 
 /// What the choice takes of the local time, or the number that says why it takes nothing.
-#[inline(always)]
 pub fn take(zone: &TimeZone, choice: Choice, local: NaiveDateTime) -> Result<Taken, u32>
     ensures { MatchResult result (λ taken. IsTakenAs zone.now (reading local).s choice taken)
         (λ n. IsNoneTaken zone.now (reading local).s choice n) }
 {
-    match zone.local_time_types_around(local) {
-        Around::Single(only) => Ok(Taken::InForce(only.offset())),
-        _ => take_around(zone, choice, local),
-    }
-}
-
-// The same of any local time. Only those in gaps and folds need it, and both sides of a change with it.
-#[inline(never)]
-fn take_around(zone: &TimeZone, choice: Choice, local: NaiveDateTime) -> Result<Taken, u32>
-    ensures { MatchResult result (λ taken. IsTakenAs zone.now (reading local).s choice taken)
-        (λ n. IsNoneTaken zone.now (reading local).s choice n) }
-{
-    let around = zone.find_local_time_type_around(local);
+    let mut probes = Probes::new();
+    let around = zone.find_local_time_type_around_counted(local, &mut probes);
     match around.take(choice.policy()) {
         Ok(Found::Shown(only)) => Ok(Taken::InForce(only.offset())),
         Ok(Found::InGap(change)) => match choice.gap {

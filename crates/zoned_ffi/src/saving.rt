@@ -2,9 +2,8 @@
 #![tactic(auto, using(crate::proofs::Casts::passed_on))]
 
 ghost use Rattle.std.specs.Prelude.{◌≡◌, ◌≢◌, ◌⊎◌};
-ghost use Rattle.tz_info.specs.Zones.{Zone, IsTypeRefused};
-ghost use Rattle.zoned_ffi.specs.Handles.{IsLent, IsNoneLent};
-ghost use Rattle.zoned_ffi.specs.WrittenSavings.{IsWrittenSavingAt, written_saving};
+ghost use Rattle.tz_info.specs.Zones.{IsTypeRefused, Zone};
+ghost use Rattle.zoned_ffi.specs.{Handles.{IsLent, IsNoneLent}, WrittenSavings.{written_saving, IsWrittenSavingAt}};
 
 use crate::lent::Lent;
 use crate::refusal::{NO_LOCAL_TIME, NOT_OPEN};

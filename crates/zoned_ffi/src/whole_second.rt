@@ -2,10 +2,9 @@
 
 ghost use Rattle.std.specs.Prelude.{◌≡◌, ◌<◌, MatchOption, MatchResult};
 ghost use Rattle.naive_base.specs.Stamp.{of_secs};
-ghost use Rattle.zoned_ffi.specs.WholeSeconds.{IsFound, IsFoundBy, IsNoneFoundBy, IsNotFound, IsStep, step_number};
+ghost use Rattle.zoned_time.specs.{DateTime.{zoned}, Fires.{second_before}};
 ghost use Rattle.zoned_ref.specs.TimeZoneRef.{off_of};
-ghost use Rattle.zoned_time.specs.DateTime.{zoned};
-ghost use Rattle.zoned_time.specs.Fires.{second_before};
+ghost use Rattle.zoned_ffi.specs.WholeSeconds.{step_number, IsFound, IsFoundBy, IsNoneFoundBy, IsNotFound, IsStep};
 
 use crate::refusal::{INSTANT_OUT_OF_RANGE, WIDE_ZONE};
 use naive_base::Weekday;
@@ -14,7 +13,7 @@ use tz_info::TimeZone;
 use zoned_ref::TimeZoneRef;
 use zoned_time::{DateTime, Utc, ZoneDays};
 
-/// What is sought for an instant.
+/// Which whole second to find for an instant.
 #[derive(Clone, Copy)]
 pub enum WholeSecond {
     /// The last local time that clocks have shown.

@@ -1,9 +1,7 @@
 //! Names of zones, and their paths.
 
-ghost use Rattle.std.specs.Prelude.{◌≡◌, ◌++◌, ◌∷◌, true, false, IfOk, MatchOption, string_bytes};
-ghost use Rattle.std.specs.List.{list_all};
-ghost use Rattle.zoned_files.specs.ZoneNames.{is_part_byte, is_part, is_zone_name, path_text};
-ghost use Rattle.zoned_files.specs.ZoneNames.{is_here, is_above};
+ghost use Rattle.std.specs.{List.{list_all}, Prelude.{◌≡◌, false, string_bytes, true, IfOk, MatchOption}};
+ghost use Rattle.zoned_files.specs.ZoneNames.{is_above, is_here, is_part, is_part_byte, is_zone_name, path_text};
 
 use std::alloc::{AllocError, Global};
 

@@ -47,7 +47,8 @@ stands false z off has s u t here there on none h =
     subst (λ v. TypeAt z u v) (type_once z s at.type t (stands_on z off has u s at.type there here on none at.in_force) h) at.in_force
 
 -- so the clocks do
-alike : (z : Zone) (off : ℤ → ℤ) → AreOffsetsOf z off → (s u : ℤ) → IsInRange s → IsInRange u → ((t : LocalType) → TypeAt z s t → TypeAt z u t) → StandAlike z off s u
+alike : (z : Zone) (off : ℤ → ℤ) → AreOffsetsOf z off → (s u : ℤ) → IsInRange s → IsInRange u
+    → ((t : LocalType) → TypeAt z s t → TypeAt z u t) → StandAlike z off s u
 alike z off has s u here there stand =
     let at_s = has s (omega (arith, ints, here), omega (arith, ints, here)) in
     let at_u = has u (omega (arith, ints, there), omega (arith, ints, there)) in
@@ -72,7 +73,8 @@ stand_within w change z off has s here found h = λ u there within.
     alike z off has s u here there (λ t. stands w z off has s u t here there within.0 (none_between w change (TypeAt z) s u found here there h within.1))
 
 -- ---- two instants of the zone show the change of its types at their seconds
-pub around_by : {O : Type 0} {m : Meaning O} (law : Law m) (u : ℤ) (d e : Zoned O) → IsAt law (of_secs (u -ℤ pos 1) 0) d → IsAt law (of_secs u 0) e → AreAround law d e
+pub around_by : {O : Type 0} {m : Meaning O} (law : Law m) (u : ℤ) (d e : Zoned O) → IsAt law (of_secs (u -ℤ pos 1) 0) d
+    → IsAt law (of_secs u 0) e → AreAround law d e
 around_by law u d e before at = grind (arith, ints)
 
 pub change_is : {O : Type 0} (type_of : O → LocalType) (c : Change) (d e : Zoned O) → e.utc.s ≡ c.at

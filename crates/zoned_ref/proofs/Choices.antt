@@ -7,5 +7,9 @@ pub choice_covered : (z : Zone) (l : ℤ) (choice : Choice) → IsValid z → Is
     → (off : ℤ → ℤ) × AreOffsetsOf z off × (((k : ℤ) × IsTaken off l choice k × IsInRange (l -ℤ k)) ⊎ ((e : ResolveError) × IsUnresolved off l choice e))
 choice_covered z l choice valid rule narrow wide =
     let has = zone_has_offsets z valid rule in let off = offset_at z ∣ has ∣₁ in
-    let of_zone = are_offsets z ∣ has ∣₁ has in let types = wall_decided z l valid rule in
-    (off, of_zone, choice_decided off l choice (offsets_within z ∣ has ∣₁ has narrow) wide (map_of (λ t. t.offset) types.0) (zone_wall z off l narrow of_zone wide types.0 types.1))
+    let of_zone = are_offsets z ∣ has ∣₁ has in let types = wall_decided z l valid rule in (
+      off,
+      of_zone,
+      choice_decided off l choice (offsets_within z ∣ has ∣₁ has narrow) wide (map_of (λ t. t.offset) types.0)
+          (zone_wall z off l narrow of_zone wide types.0 types.1),
+    )

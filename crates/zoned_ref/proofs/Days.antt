@@ -16,15 +16,18 @@ same_offset z off u t of_zone inside in_force =
 on_day_by_type : (z : Zone) (off : ℤ → ℤ) (day u : ℤ) → AreOffsetsOf z off → IsOnDay off day u → (t : LocalType) × OnDayByType z day u t
 on_day_by_type z off day u of_zone h = grind (arith, ints)
 
-on_day_by_offset : (z : Zone) (off : ℤ → ℤ) (day u : ℤ) (t : LocalType) → IsNarrow z → AreOffsetsOf z off → IsWideDay day → OnDayByType z day u t → IsOnDay off day u
+on_day_by_offset : (z : Zone) (off : ℤ → ℤ) (day u : ℤ) (t : LocalType) → IsNarrow z → AreOffsetsOf z off → IsWideDay day
+    → OnDayByType z day u t → IsOnDay off day u
 on_day_by_offset z off day u t narrow of_zone wide h =
     let within = type_within z u t narrow h.type in let inside : IsZoneSecond u = grind (arith, ints) in
     grind (arith, ints, same_offset z off u t of_zone inside h.type)
 
-pub never_on_day : (z : Zone) (off : ℤ → ℤ) (day : ℤ) → AreOffsetsOf z off → IsNeverWithin (TypeAt z) (pos 86_400 *ℤ day) (pos 86_400 *ℤ day +ℤ pos 86_400) → IsNeverOnDay off day
+pub never_on_day : (z : Zone) (off : ℤ → ℤ) (day : ℤ) → AreOffsetsOf z off
+    → IsNeverWithin (TypeAt z) (pos 86_400 *ℤ day) (pos 86_400 *ℤ day +ℤ pos 86_400) → IsNeverOnDay off day
 never_on_day z off day of_zone never u h = let t = on_day_by_type z off day u of_zone h in never u t.0 t.1
 
-pub ends_of_day : (z : Zone) (off : ℤ → ℤ) (day : ℤ) (s : ShownSeconds) → IsNarrow z → AreOffsetsOf z off → IsWideDay day → AreEndsWithin (TypeAt z) (pos 86_400 *ℤ day) (pos 86_400 *ℤ day +ℤ pos 86_400) s → AreEndsOfDay off day s.first.at s.last.at
+pub ends_of_day : (z : Zone) (off : ℤ → ℤ) (day : ℤ) (s : ShownSeconds) → IsNarrow z → AreOffsetsOf z off → IsWideDay day
+    → AreEndsWithin (TypeAt z) (pos 86_400 *ℤ day) (pos 86_400 *ℤ day +ℤ pos 86_400) s → AreEndsOfDay off day s.first.at s.last.at
 ends_of_day z off day s narrow of_zone wide h = record {
   shown_first = on_day_by_offset z off day s.first.at s.first.local_time_type narrow of_zone wide h.first.shown;
   shown_last = on_day_by_offset z off day s.last.at s.last.local_time_type narrow of_zone wide h.last.shown;
@@ -39,7 +42,8 @@ reached_a_day_on z off l narrow of_zone wide =
     let there = of_zone (l +ℤ pos 86_399) (grind (arith, ints)) in
     let within = type_within z (l +ℤ pos 86_399) there.type narrow there.in_force in grind (arith, ints)
 
-pub first_to_reach : (z : Zone) (off : ℤ → ℤ) (l u : ℤ) (t : LocalType) → IsNarrow z → AreOffsetsOf z off → IsWide l → IsFirstAtOrAfter (TypeAt z) l u t → IsFirstToReach off l u
+pub first_to_reach : (z : Zone) (off : ℤ → ℤ) (l u : ℤ) (t : LocalType) → IsNarrow z → AreOffsetsOf z off → IsWide l
+    → IsFirstAtOrAfter (TypeAt z) l u t → IsFirstToReach off l u
 first_to_reach z off l u t narrow of_zone wide h =
     let latest = reached_a_day_on z off l narrow of_zone wide in let there = of_zone (l +ℤ pos 86_399) latest.in_zone in
     let within = type_within z u t narrow h.shown.type in let not_later = h.first (l +ℤ pos 86_399) there.type (grind (arith, ints)) in

@@ -30,5 +30,6 @@ pub gap_given : (r : TimeZoneRef) (l : ℤ) (o : ZoneOffset) → AreOffsetsOf (z
     → types.IsTypeBeforeGap (TypeAt (zone_of r)) l (type_of o) → IsOffsetBeforeGap (law_of r) l (Some o)
 gap_given r l o of_zone wide home g = let gap = before_gap (zone_of r) (off_of r) l (type_of o) r.narrow of_zone wide g in (gap.0, gap.1, same_law r o home)
 
-pub no_gap : {O : Type 0} {m : Meaning O} (law : Law m) (z : Zone) (l : ℤ) → IsNarrow z → AreOffsetsOf z law.off → IsWide l → types.IsShown (TypeAt z) l → IsOffsetBeforeGap law l None
+pub no_gap : {O : Type 0} {m : Meaning O} (law : Law m) (z : Zone) (l : ℤ) → IsNarrow z → AreOffsetsOf z law.off → IsWide l → types.IsShown (TypeAt z) l
+    → IsOffsetBeforeGap law l None
 no_gap law z l narrow of_zone wide (u, t, s) = (u, t.offset, shown_by_type z law.off l narrow of_zone wide u t s)

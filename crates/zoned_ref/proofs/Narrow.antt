@@ -11,15 +11,19 @@ of_rule rule = grind arith
 
 -- the offsets of some types are within a day, and so are the types
 within : (types : List LocalType) → All IsWithinDay (of_types types) → All (λ t. IsWithinDay t.offset) types
-within types all = λ k d below. subst IsWithinDay (get_or-map (λ (t : LocalType). t.offset) types k d) (all k d.offset (subst (λ n. k < n) (sym (length-map types (λ t. t.offset))) below))
+within types all = λ k d below. subst IsWithinDay (get_or-map (λ (t : LocalType). t.offset) types k d)
+    (all k d.offset (subst (λ n. k < n) (sym (length-map types (λ t. t.offset))) below))
 
 pub narrow_by : (z : Zone) (least greatest : ℤ) → IsLeast (offsets z.types z.rule) least → IsGreatest (offsets z.types z.rule) greatest
     → IsWithinDay least → IsWithinDay greatest → IsNarrow z
 narrow_by z least greatest is_least is_greatest low high =
     let xs = of_types z.types in let ys = rule_offsets z.rule in
-    let all : All IsWithinDay (xs ++ ys) = λ k d below. let a = is_least.fewest k d below in let b = is_greatest.most k d below in let l = low.0 in let h = high.1 in (omega (arith, ints), omega (arith, ints)) in
-    let left : All IsWithinDay xs = λ k d below. All-contains IsWithinDay (xs ++ ys) (get_or xs k d) all (Contains-append_left xs ys (get_or xs k d) (All-contains_itself xs k d below)) in
-    let right : All IsWithinDay ys = λ k d below. All-contains IsWithinDay (xs ++ ys) (get_or ys k d) all (Contains-append_right xs ys (get_or ys k d) (All-contains_itself ys k d below)) in
+    let all : All IsWithinDay (xs ++ ys) = λ k d below. let a = is_least.fewest k d below in let b = is_greatest.most k d below in let l = low.0 in
+    let h = high.1 in (omega (arith, ints), omega (arith, ints)) in
+    let left : All IsWithinDay xs =
+    λ k d below. All-contains IsWithinDay (xs ++ ys) (get_or xs k d) all (Contains-append_left xs ys (get_or xs k d) (All-contains_itself xs k d below)) in
+    let right : All IsWithinDay ys =
+    λ k d below. All-contains IsWithinDay (xs ++ ys) (get_or ys k d) all (Contains-append_right xs ys (get_or ys k d) (All-contains_itself ys k d below)) in
     record { types = within z.types left; rule = within (rule_types z.rule) (subst (All IsWithinDay) (of_rule z.rule) right) }
 
 all_within : (z : Zone) → IsNarrow z → All IsWithinDay (offsets z.types z.rule)

@@ -8,18 +8,23 @@ use Rattle.zoned_ref.proofs.{Days.{same_offset}, Offsets.{type_within}}
 use Rattle.tz_info.specs.WallClocks as types
 use Rattle.zoned_time.specs.Zone as offsets
 
-pub shown_by_type : (z : Zone) (off : ℤ → ℤ) (l : ℤ) → IsNarrow z → AreOffsetsOf z off → IsWide l → (u : ℤ) (t : LocalType) → types.Shows (TypeAt z) l u t → offsets.ShowsByOffset off l u t.offset
+pub shown_by_type : (z : Zone) (off : ℤ → ℤ) (l : ℤ) → IsNarrow z → AreOffsetsOf z off → IsWide l → (u : ℤ) (t : LocalType) → types.Shows (TypeAt z) l u t
+    → offsets.ShowsByOffset off l u t.offset
 shown_by_type z off l narrow of_zone wide u t s = let day = type_within z u t narrow s.type in grind (arith, ints, same_offset z off u t of_zone)
 
-pub shown_by_offset : (z : Zone) (off : ℤ → ℤ) (l : ℤ) → AreOffsetsOf z off → (u k : ℤ) → offsets.ShowsByOffset off l u k → (t : LocalType) × types.Shows (TypeAt z) l u t
+pub shown_by_offset : (z : Zone) (off : ℤ → ℤ) (l : ℤ) → AreOffsetsOf z off → (u k : ℤ) → offsets.ShowsByOffset off l u k
+    → (t : LocalType) × types.Shows (TypeAt z) l u t
 shown_by_offset z off l of_zone u k s = grind (arith, ints)
 
-pub zone_wall : (z : Zone) (off : ℤ → ℤ) (l : ℤ) → IsNarrow z → AreOffsetsOf z off → IsWide l → (answer : LocalResult LocalType) → IsWallAnswer (types.Shows (TypeAt z) l) answer → IsWallAnswer (offsets.ShowsByOffset off l) (map_of (λ t. t.offset) answer)
+pub zone_wall : (z : Zone) (off : ℤ → ℤ) (l : ℤ) → IsNarrow z → AreOffsetsOf z off → IsWide l → (answer : LocalResult LocalType)
+    → IsWallAnswer (types.Shows (TypeAt z) l) answer → IsWallAnswer (offsets.ShowsByOffset off l) (map_of (λ t. t.offset) answer)
 zone_wall z off l narrow of_zone wide =
-    IsWallAnswer-map_of (types.Shows (TypeAt z) l) (offsets.ShowsByOffset off l) (λ t. t.offset) (shown_by_type z off l narrow of_zone wide) (shown_by_offset z off l of_zone)
+    IsWallAnswer-map_of (types.Shows (TypeAt z) l) (offsets.ShowsByOffset off l) (λ t. t.offset) (shown_by_type z off l narrow of_zone wide)
+    (shown_by_offset z off l of_zone)
 
 -- each type of the answer is within a day
-pub each_within : (z : Zone) (l : ℤ) → IsNarrow z → (answer : LocalResult LocalType) → IsWallAnswer (types.Shows (TypeAt z) l) answer → offsets.Each (λ t. IsWithinDay t.offset) answer
+pub each_within : (z : Zone) (l : ℤ) → IsNarrow z → (answer : LocalResult LocalType) → IsWallAnswer (types.Shows (TypeAt z) l) answer
+    → offsets.Each (λ t. IsWithinDay t.offset) answer
 each_within z l narrow answer wall = grind (arith, type_within)
 
 -- which is in force at the second that shows l by it

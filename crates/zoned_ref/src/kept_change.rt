@@ -1,10 +1,9 @@
 //! When the clocks of a kept zone change, as instants.
-ghost use Rattle.std.specs.Prelude.{◌≡◌, ◌≤ℤ◌, ◌<ℤ◌, IfSome, option_map};
-ghost use Rattle.tz_info.specs.Changes.{IsFirst, IsLast};
-ghost use Rattle.tz_info.specs.Zones.{TypeAt};
+ghost use Rattle.std.specs.Prelude.{◌≡◌, ◌<ℤ◌, ◌≤ℤ◌, option_map, IfSome};
+ghost use Rattle.tz_info.specs.{Changes.{IsFirst, IsLast}, Zones.{TypeAt}};
 ghost use Rattle.zoned_time.specs.DateTime.{zoned};
-ghost use Rattle.zoned_ref.specs.KeptZone.{IsOfZone, change_of, zone_of, off_of};
 ghost use Rattle.zoned_ref.specs.ZoneChange as borrowed;
+ghost use Rattle.zoned_ref.specs.KeptZone.{change_of, off_of, zone_of, IsOfZone};
 ghost use Rattle.zoned_ref.specs.ZoneChange.{IsAfter, IsUpTo, StandWithin};
 
 use crate::{KeptZone, TimeZoneRef, ZoneChange};

@@ -1,16 +1,12 @@
 //! A kept zone's lookups and its days: those of the borrowed one.
-ghost use Rattle.std.specs.Prelude.{MatchOption, refl};
-ghost use Rattle.offset_core.specs.LocalResult.{map_of};
-ghost use Rattle.offset_core.specs.WallAnswer.{IsWallAnswer};
+ghost use Rattle.std.specs.Prelude.{refl, MatchOption};
+ghost use Rattle.offset_core.specs.{LocalResult.{map_of}, WallAnswer.{IsWallAnswer}};
 ghost use Rattle.naive_base.specs.NaiveDateTime.{reading};
-ghost use Rattle.tz_info.specs.Around.{IsAroundOrBefore, map_both};
-ghost use Rattle.tz_info.specs.Gaps.{IsTypeBeforeGap, IsShown};
+ghost use Rattle.tz_info.specs.{Around.{map_both, IsAroundOrBefore}, Gaps.{IsShown, IsTypeBeforeGap}, Zones.{TypeAt}};
 ghost use Rattle.tz_info.specs.WallClocks.{Shows};
-ghost use Rattle.tz_info.specs.Zones.{TypeAt};
 ghost use Rattle.zoned_time.specs.Choice.{AreOffsetsAround, IsOffsetBeforeGap};
-ghost use Rattle.zoned_time.specs.Zone.{IsOffsetAt, AreOffsetsFor, midnight_of};
-ghost use Rattle.zoned_ref.specs.ZoneOffset.{meaning_of, type_of};
-ghost use Rattle.zoned_ref.specs.KeptZone.{law_of, zone_of};
+ghost use Rattle.zoned_time.specs.Zone.{midnight_of, AreOffsetsFor, IsOffsetAt};
+ghost use Rattle.zoned_ref.specs.{KeptZone.{law_of, zone_of}, ZoneOffset.{meaning_of, type_of}};
 
 use crate::{KeptZone, ZoneOffset};
 use naive_base::{NaiveDate, NaiveDateTime};

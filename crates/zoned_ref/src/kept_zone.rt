@@ -1,17 +1,13 @@
 //! Zones that stay until the program ends.
 ghost use Rattle.std.specs.Prelude.{◌≡◌, IfErr, IfOk, MatchResult};
-ghost use Rattle.tz_base.specs.declared.error.Error.TheVariants as faults;
-ghost use Rattle.tz_info.specs.TzFiles.{IsTzFile};
-ghost use Rattle.tz_info.specs.Zones.{Zone, IsValid};
-ghost use Rattle.zoned_ref.specs.KeepError.{IsRefused};
-ghost use Rattle.zoned_ref.specs.KeptZone.{zone_of, off_of};
-ghost use Rattle.zoned_ref.specs.Offsets.{IsNarrow, AreOffsetsOf};
-ghost use Rattle.zoned_ref.specs.OpenError.{IsNotOpened};
+ghost use Rattle.tz_info.specs.{TzFiles.{IsTzFile}, Zones.{IsValid, Zone}};
 ghost use Rattle.zoned_ref.specs.TimeZoneRef as borrowed;
-ghost use Rattle.zoned_ref.specs.declared.keep_error.OpenError.TheVariants as why;
+ghost use Rattle.zoned_ref.specs.{KeepError.{IsRefused}, KeptZone.{off_of, zone_of}, Offsets.{AreOffsetsOf, IsNarrow}};
+ghost use Rattle.zoned_ref.specs.OpenError.{IsNotOpened};
 
 use crate::{KeepError, OpenError, TimeZoneRef};
 use std::alloc::Global;
+use tz_info::Error;
 
 /// A parsed time zone that stays until the program ends, as a zone of
 /// [`DateTime`](zoned_time::DateTime)s: at each instant it has the offset of the type of local time
@@ -50,7 +46,7 @@ impl KeptZone {
         // The file of a valid and narrow zone is opened, unless memory runs out.
         ensures only { (z : Zone) → IsTzFile bytes.now z → IsValid z → IsNarrow z → MatchResult result
             (λ kept. zone_of kept ≡ z)
-            (λ e. e ≡ why.Zone faults.OutOfMemory) }
+            (λ e. e ≡ OpenError.Zone Error.OutOfMemory) }
         ensures fault { IfErr result (λ e. IsNotOpened bytes.now e) }
     {
         match tz_info::TimeZone::from_tz_data(alloc, bytes) {

@@ -1,20 +1,15 @@
 //! Theorems: a function here does only what its contract says; never called.
-ghost use Rattle.std.specs.Prelude.{◌≡◌, ◌↔◌, ℤ, IsTrue, Option};
 ghost use Rattle.std.specs.Hash as fed;
-ghost use Rattle.tz_base.specs.declared.change.Change.{Change};
-ghost use Rattle.tz_info.specs.Changes.{IsFirst, IsLast};
-ghost use Rattle.tz_info.specs.Zones.{Zone, TypeAt};
+ghost use Rattle.std.specs.Prelude.{◌≡◌, ◌↔◌, IsTrue, Option, ℤ};
+ghost use Rattle.tz_info.specs.{Changes.{IsFirst, IsLast}, Zones.{TypeAt, Zone}};
 ghost use Rattle.zoned_ref.specs.KeptZone as kept;
-ghost use Rattle.zoned_ref.specs.TimeZoneRef.{zone_of, writes_of};
+ghost use Rattle.zoned_ref.specs.{TimeZoneRef.{writes_of, zone_of}, ZoneOffset.{ahead_of, type_of}};
 ghost use Rattle.zoned_ref.specs.ZoneChange.{IsAfter, IsUpTo};
-ghost use Rattle.zoned_ref.specs.ZoneOffset.{ahead_of, type_of};
-ghost use Rattle.zoned_ref.specs.declared.kept_zone.KeptZone.{KeptZone as AnyKept};
-ghost use Rattle.zoned_ref.specs.declared.time_zone_ref.TimeZoneRef.{TimeZoneRef as AnyZone};
-ghost use Rattle.zoned_ref.specs.declared.zone_offset.ZoneOffset.{ZoneOffset as AnyOffset};
 
 use crate::{KeptChange, KeptZone, TimeZoneRef, WallClock, ZoneChange, ZoneOffset};
 use std::hash::Hash;
 use std::mem::size_of;
+use tz_base::Change;
 use zoned_time::DateTime;
 
 // An instant is a date-time of UTC, and references to the zone and to the type in force.
@@ -25,12 +20,12 @@ const _: () = prove!(size_of::<DateTime<KeptZone>>() == 32);
 /// Offsets are equal if and only if their types of local time are, a hash looks at the seconds, and
 /// a clone is the offset.
 pub fn zone_offsets<'a>()
-    ensures equal { (a b : AnyOffset) → IsTrue (⟦<ZoneOffset<'a> as PartialEq>⟧.eq a b)
+    ensures equal { (a b : ZoneOffset) → IsTrue (⟦<ZoneOffset<'a> as PartialEq>⟧.eq a b)
         ↔ (type_of a ≡ type_of b) }
-    ensures hashed { (a : AnyOffset) → ⟦<ZoneOffset<'a> as Hash>⟧.hash_input a
+    ensures hashed { (a : ZoneOffset) → ⟦<ZoneOffset<'a> as Hash>⟧.hash_input a
         ≡ fed.i32 (ahead_of a) }
-    ensures cloned { (a b : AnyOffset) → ⟦<ZoneOffset<'a> as Clone>⟧.is_clone a b ↔ (b ≡ a) }
-    ensures infallible { (a : AnyOffset) → ⟦<ZoneOffset<'a> as Clone>⟧.is_infallible a }
+    ensures cloned { (a b : ZoneOffset) → ⟦<ZoneOffset<'a> as Clone>⟧.is_clone a b ↔ (b ≡ a) }
+    ensures infallible { (a : ZoneOffset) → ⟦<ZoneOffset<'a> as Clone>⟧.is_infallible a }
 {
     tz_base::laws::local_time_types();
 }
@@ -39,12 +34,12 @@ pub fn zone_offsets<'a>()
 /// at the count of transitions and the offset of the first type. A clone is the zone, and making it
 /// never fails.
 pub fn time_zone_refs<'a>()
-    ensures equal { (a b : AnyZone) → IsTrue (⟦<TimeZoneRef<'a> as PartialEq>⟧.eq a b)
+    ensures equal { (a b : TimeZoneRef) → IsTrue (⟦<TimeZoneRef<'a> as PartialEq>⟧.eq a b)
         ↔ (zone_of a ≡ zone_of b) }
-    ensures hashed { (a : AnyZone) → ⟦<TimeZoneRef<'a> as Hash>⟧.hash_input a
+    ensures hashed { (a : TimeZoneRef) → ⟦<TimeZoneRef<'a> as Hash>⟧.hash_input a
         ≡ writes_of (zone_of a) }
-    ensures cloned { (a b : AnyZone) → ⟦<TimeZoneRef<'a> as Clone>⟧.is_clone a b ↔ (b ≡ a) }
-    ensures infallible { (a : AnyZone) → ⟦<TimeZoneRef<'a> as Clone>⟧.is_infallible a }
+    ensures cloned { (a b : TimeZoneRef) → ⟦<TimeZoneRef<'a> as Clone>⟧.is_clone a b ↔ (b ≡ a) }
+    ensures infallible { (a : TimeZoneRef) → ⟦<TimeZoneRef<'a> as Clone>⟧.is_infallible a }
 {
     tz_info::laws::equality::zones();
 }
@@ -58,12 +53,12 @@ pub fn zone_changes<'a>(a: &ZoneChange<'a>, b: &ZoneChange<'a>)
 /// Kept zones are equal and hashed as the borrowed zones that they are; a clone is the zone, and
 /// making it never fails.
 pub fn kept_zones()
-    ensures equal { (a b : AnyKept) → IsTrue (⟦<KeptZone as PartialEq>⟧.eq a b)
+    ensures equal { (a b : KeptZone) → IsTrue (⟦<KeptZone as PartialEq>⟧.eq a b)
         ↔ (kept.zone_of a ≡ kept.zone_of b) }
-    ensures hashed { (a : AnyKept) → ⟦<KeptZone as Hash>⟧.hash_input a
+    ensures hashed { (a : KeptZone) → ⟦<KeptZone as Hash>⟧.hash_input a
         ≡ writes_of (kept.zone_of a) }
-    ensures cloned { (a b : AnyKept) → ⟦<KeptZone as Clone>⟧.is_clone a b ↔ (b ≡ a) }
-    ensures infallible { (a : AnyKept) → ⟦<KeptZone as Clone>⟧.is_infallible a }
+    ensures cloned { (a b : KeptZone) → ⟦<KeptZone as Clone>⟧.is_clone a b ↔ (b ≡ a) }
+    ensures infallible { (a : KeptZone) → ⟦<KeptZone as Clone>⟧.is_infallible a }
 {
     tz_info::laws::equality::zones();
 }

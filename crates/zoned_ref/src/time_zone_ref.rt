@@ -1,10 +1,8 @@
 //! Parsed zones, borrowed.
-ghost use Rattle.std.specs.Prelude.{◌≡◌, ◌↔◌, IsTrue, IsSome, IfSome, ℤ, slice_get, option_map};
-ghost use Rattle.std.specs.Ordering.{on};
+ghost use Rattle.std.specs.{Ordering.{on}, Prelude.{◌≡◌, ◌↔◌, option_map, slice_get, IfSome, IsSome, IsTrue, ℤ}};
 ghost use Rattle.offset_core.specs.Offset.{IsWithinDay};
 ghost use Rattle.zoned_time.specs.Zone.{IsFixed, IsZoneSecond};
-ghost use Rattle.zoned_ref.specs.OffsetAt.{offset_at};
-ghost use Rattle.zoned_ref.specs.Offsets.{IsNarrow, HasOneOffset, HasOffsets, AreOffsetsOf};
+ghost use Rattle.zoned_ref.specs.{OffsetAt.{offset_at}, Offsets.{AreOffsetsOf, HasOffsets, HasOneOffset, IsNarrow}};
 
 use offset_core::FixedOffset;
 use std::fmt;
@@ -40,8 +38,7 @@ pub struct TimeZoneRef<'a> {
 }
 
 impl<'a> TimeZoneRef<'a> {
-    ghost use Rattle.zoned_ref.specs.TimeZoneRef.{zone_of, off_of};
-    ghost use Rattle.zoned_ref.specs.ZoneOffset.{law_of};
+    ghost use Rattle.zoned_ref.specs.{TimeZoneRef.{off_of, zone_of}, ZoneOffset.{law_of}};
 
     /// Returns that zone, or `None` if a type that it lists, or a type of its rule, is a day
     /// (86,400 seconds) or more away from UTC. A rule of one type may have one that the zone

@@ -1,23 +1,14 @@
 //! When the clocks of a zone show a local time: from the bytes of a file, or a TZ string, to the
 //! instants.
-ghost use Rattle.std.specs.Prelude.{◌≡◌, ◌⊎◌, IfOk, IfErr, MatchResult, SomeIff, option_map};
-ghost use Rattle.offset_core.specs.FixedOffset.{seconds_of};
-ghost use Rattle.offset_core.specs.LocalResult.{map_of};
+ghost use Rattle.std.specs.Prelude.{◌≡◌, ◌⊎◌, option_map, IfErr, IfOk, MatchResult, SomeIff};
+ghost use Rattle.offset_core.specs.{FixedOffset.{seconds_of}, LocalResult.{map_of}, Offset.{IsWithinDay}};
 ghost use Rattle.naive_base.specs.NaiveDateTime.{reading};
 ghost use Rattle.tz_base.specs.Errors.{error_number};
-ghost use Rattle.tz_base.specs.declared.error.Error.TheVariants.{OutOfMemory};
 ghost use Rattle.tz_info.specs.Counts.{HasRoom};
-ghost use Rattle.tz_info.specs.FilePieces.{FilePieces, HasPieces};
-ghost use Rattle.tz_info.specs.Looks.{RoseByWallClock};
-ghost use Rattle.tz_info.specs.PosixZones.{IsPosixZone, IsPosixFault};
-ghost use Rattle.tz_info.specs.TzFiles.{IsTzFile, IsZoneFault};
-ghost use Rattle.tz_info.specs.Zones.{Zone, IsValid};
-ghost use Rattle.zoned_time.specs.DateTime.{zoned};
-ghost use Rattle.zoned_time.specs.Zoned.{in_seconds};
-ghost use Rattle.zoned_ref.specs.Instants.{AreTypesFor, AreInstantsAt, AreInstantsFor};
-ghost use Rattle.zoned_time.specs.Relocal.{HasInstant, instant_of};
-ghost use Rattle.zoned_time.specs.Zone.{Each};
-ghost use Rattle.offset_core.specs.Offset.{IsWithinDay};
+ghost use Rattle.tz_info.specs.{FilePieces.{FilePieces, HasPieces}, PosixZones.{IsPosixFault, IsPosixZone}};
+ghost use Rattle.tz_info.specs.{Looks.{RoseByWallClock}, TzFiles.{IsTzFile, IsZoneFault}, Zones.{IsValid, Zone}};
+ghost use Rattle.zoned_time.specs.{DateTime.{zoned}, Relocal.{instant_of, HasInstant}, Zone.{Each}, Zoned.{in_seconds}};
+ghost use Rattle.zoned_ref.specs.Instants.{AreInstantsAt, AreInstantsFor, AreTypesFor};
 
 use crate::TimeZoneRef;
 use naive_base::NaiveDateTime;
@@ -64,11 +55,11 @@ impl WallClock {
             × IsWallClockOf z (reading local.now) told × RoseByWallClock z probes.old probes.new) }
         // A file that has a valid zone has an answer, unless memory runs out.
         ensures only { (z : Zone) → IsTzFile bytes.now z → IsValid z
-            → MatchResult result (λ told. IsWallClockOf z (reading local.now) told) (λ e. e ≡ OutOfMemory) }
+            → MatchResult result (λ told. IsWallClockOf z (reading local.now) told) (λ e. e ≡ Error.OutOfMemory) }
         // An error is the first fault of the file, or says that memory ran out.
         ensures fault { IfErr result (λ e. IsZoneFault bytes.now e) }
         // Memory runs out only where every piece of the file is there.
-        ensures memory { IfErr result (λ e. e ≡ OutOfMemory
+        ensures memory { IfErr result (λ e. e ≡ Error.OutOfMemory
             → (p : FilePieces) × HasPieces bytes.now p) }
         ensures kept { IfErr result (λ _. probes.new ≡ probes.old) }
     {

@@ -1,16 +1,10 @@
 //! When the clocks of a borrowed zone change, as instants.
-ghost use Rattle.std.specs.Prelude.{◌≡◌, pos, ◌-ℤ◌, ◌≤ℤ◌, ◌<ℤ◌, IfSome, MatchOption, option_map};
-ghost use Rattle.naive_base.specs.Range.{IsInRange};
-ghost use Rattle.naive_base.specs.Stamp.{of_secs};
-ghost use Rattle.tz_info.specs.Changes.{IsChange, IsFirst, IsLast};
-ghost use Rattle.tz_info.specs.HeldChanges.{change_held};
-ghost use Rattle.tz_info.specs.Zones.{TypeAt};
-ghost use Rattle.zoned_time.specs.DateTime.{zoned};
-ghost use Rattle.zoned_time.specs.Zoned.{IsAt};
-ghost use Rattle.zoned_ref.specs.Offsets.{AreOffsetsOf};
-ghost use Rattle.zoned_ref.specs.TimeZoneRef.{zone_of, off_of};
-ghost use Rattle.zoned_ref.specs.ZoneChange.{IsOfZone, IsAfter, IsUpTo, StandWithin, change_of};
-ghost use Rattle.zoned_ref.specs.ZoneOffset.{law_of, type_of};
+ghost use Rattle.std.specs.Prelude.{◌≡◌, ◌<ℤ◌, ◌≤ℤ◌, ◌-ℤ◌, option_map, pos, IfSome, MatchOption};
+ghost use Rattle.naive_base.specs.{Range.{IsInRange}, Stamp.{of_secs}};
+ghost use Rattle.tz_info.specs.{Changes.{IsChange, IsFirst, IsLast}, HeldChanges.{change_held}, Zones.{TypeAt}};
+ghost use Rattle.zoned_time.specs.{DateTime.{zoned}, Zoned.{IsAt}};
+ghost use Rattle.zoned_ref.specs.{Offsets.{AreOffsetsOf}, TimeZoneRef.{off_of, zone_of}, ZoneOffset.{law_of, type_of}};
+ghost use Rattle.zoned_ref.specs.ZoneChange.{change_of, IsAfter, IsOfZone, IsUpTo, StandWithin};
 
 use crate::TimeZoneRef;
 use naive_base::NaiveDateTime;

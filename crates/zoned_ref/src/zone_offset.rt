@@ -1,10 +1,8 @@
 //! The offsets of a borrowed zone.
-ghost use Rattle.std.specs.Prelude.{◌≡◌, Some, option_map};
-ghost use Rattle.std.specs.Cmp.Rules.{hashing};
 ghost use Rattle.std.specs.Hash as fed;
+ghost use Rattle.std.{proofs.Common.{rules}, specs.{Cmp.Rules.{hashing}, Prelude.{◌≡◌, option_map, Some}}};
 ghost use Rattle.std.specs.Ordering.{on};
-ghost use Rattle.std.proofs.Common.{rules};
-ghost use Rattle.offset_core.specs.Offset.{IsWithinDay, offset_text};
+ghost use Rattle.offset_core.specs.Offset.{offset_text, IsWithinDay};
 
 use crate::TimeZoneRef;
 use offset_core::FixedOffset;

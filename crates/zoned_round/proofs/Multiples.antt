@@ -34,6 +34,7 @@ way-up n span some = grind (arith, ints, floors)
 
 pub way-near : (n span : ℤ) → pos 0 <ℤ span
     → let way = nearest_multiple n (unsigned_abs span) -ℤ n in
-    ((nearest_multiple n (unsigned_abs span) ≡ multiple_below n (unsigned_abs span)) ⊎ (nearest_multiple n (unsigned_abs span) ≡ multiple_above n (unsigned_abs span)))
+    ((nearest_multiple n (unsigned_abs span) ≡ multiple_below n (unsigned_abs span))
+    ⊎ (nearest_multiple n (unsigned_abs span) ≡ multiple_above n (unsigned_abs span)))
     × ((way +ℤ way) ≤ℤ span) × (neg_ℤ span ≤ℤ (way +ℤ way))
 way-near n span some = grind (arith, ints)

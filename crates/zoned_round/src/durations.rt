@@ -1,15 +1,11 @@
 //! Rounding to multiples of a length of time.
-ghost use Rattle.std.specs.Prelude.{◌≡◌, ℤ, FitsSigned};
-ghost use Rattle.std.specs.Int.{w64};
+ghost use Rattle.std.specs.{Int.{w64}, Prelude.{◌≡◌, FitsSigned, ℤ}};
 ghost use Rattle.offset_core.specs.TimeDelta.{nanos_of};
-ghost use Rattle.naive_base.specs.NaiveDateTime.{reading};
-ghost use Rattle.naive_base.specs.Reading.{Reading, total, moved};
-ghost use Rattle.zoned_time.specs.DateTime.{zoned, wall_of, home_law_of};
-ghost use Rattle.zoned_time.specs.Zoned.{IsAt};
-ghost use Rattle.zoned_round.specs.declared.error.RoundingError.{RoundingError as Fault};
-ghost use Rattle.zoned_round.specs.Durations.{IsRoundedTo, IsGone, IsReadingMoved};
-ghost use Rattle.zoned_round.specs.Multiples.{multiple_below, multiple_above, nearest_multiple};
-ghost use Rattle.zoned_round.specs.Steps.Stamps.{IsNearRange};
+ghost use Rattle.naive_base.specs.{NaiveDateTime.{reading}, Reading.{moved, total, Reading}};
+ghost use Rattle.zoned_time.specs.{DateTime.{home_law_of, wall_of, zoned}, Zoned.{IsAt}};
+ghost use Rattle.zoned_round.specs.Durations.{IsGone, IsReadingMoved, IsRoundedTo};
+ghost use Rattle.zoned_round.specs.Multiples.{multiple_above, multiple_below, nearest_multiple};
+ghost use Rattle.zoned_round.specs.{Steps.Stamps.{IsNearRange}, declared.error.RoundingError.{RoundingError as Fault}};
 
 use crate::RoundingError;
 use crate::stamp::Stamp;

@@ -1,15 +1,10 @@
 //! Theorems: each function is empty, its contract is proved; never called.
-ghost use Rattle.std.specs.Prelude.{◌≡◌, ◌↔◌, ◌⊎◌, IsTrue, ℕ, ◌<◌, ◌≤◌, ℤ, ◌≤ℤ◌, Ok, Err, FitsSigned};
-ghost use Rattle.std.specs.Int.{w64};
-ghost use Rattle.naive_base.specs.NaiveDateTime.{reading};
-ghost use Rattle.naive_base.specs.Range.{IsInRange};
-ghost use Rattle.naive_base.specs.Reading.{Reading, total};
-ghost use Rattle.zoned_round.specs.declared.error.RoundingError.{RoundingError as Fault};
-ghost use Rattle.zoned_round.specs.Durations.{IsRoundedTo};
-ghost use Rattle.zoned_round.specs.Laws.{IsMultiple, IsGreatestWith, IsLeastWith, apart, IsShortOf, IsWithinHalf};
-ghost use Rattle.zoned_round.specs.Multiples.{multiple_below, multiple_above, nearest_multiple};
-ghost use Rattle.zoned_round.specs.Subseconds.{MayRound};
-ghost use Rattle.zoned_time.specs.DateTime.{zoned, wall_of};
+ghost use Rattle.std.specs.{Int.{w64}, Prelude.{◌≡◌, ◌↔◌, ◌⊎◌, ◌<◌, ◌≤◌, ◌≤ℤ◌, FitsSigned, IsTrue, ℕ, ℤ}};
+ghost use Rattle.naive_base.specs.{NaiveDateTime.{reading}, Range.{IsInRange}, Reading.{total, Reading}};
+ghost use Rattle.zoned_time.specs.DateTime.{wall_of, zoned};
+ghost use Rattle.zoned_round.specs.{Durations.{IsRoundedTo}, Subseconds.{MayRound}};
+ghost use Rattle.zoned_round.specs.Laws.{apart, IsGreatestWith, IsLeastWith, IsMultiple, IsShortOf, IsWithinHalf};
+ghost use Rattle.zoned_round.specs.Multiples.{multiple_above, multiple_below, nearest_multiple};
 
 use crate::{DurationRound, RoundingError, SubsecRound};
 use naive_base::{NaiveDateTime, NaiveTime};
@@ -60,9 +55,9 @@ pub fn multiples()
 
 /// Errors are equal if and only if they are the same, and a clone is the error.
 pub fn errors()
-    ensures equal { (a b : Fault) → IsTrue (⟦<RoundingError as PartialEq>⟧.eq a b) ↔ (a ≡ b) }
-    ensures cloned { (a b : Fault) → ⟦<RoundingError as Clone>⟧.is_clone a b ↔ (a ≡ b) }
-    ensures infallible { (a : Fault) → ⟦<RoundingError as Clone>⟧.is_infallible a }
+    ensures equal { (a b : RoundingError) → IsTrue (⟦<RoundingError as PartialEq>⟧.eq a b) ↔ (a ≡ b) }
+    ensures cloned { (a b : RoundingError) → ⟦<RoundingError as Clone>⟧.is_clone a b ↔ (a ≡ b) }
+    ensures infallible { (a : RoundingError) → ⟦<RoundingError as Clone>⟧.is_infallible a }
 {}
 
 /// A value and a length have one rounded local date-time or one error, never both.

@@ -1,15 +1,11 @@
 //! Rounding to digits of a second.
-ghost use Rattle.std.specs.Prelude.{◌≡◌, ◌-◌, ◌<◌, ◌≤◌, ◌%◌, pos, neg_ℤ, ◌-ℤ◌, ◌≤ℤ◌, ⊤};
+ghost use Rattle.std.specs.Prelude.{◌≡◌, ◌<◌, ◌≤◌, ◌-◌, ◌%◌, ◌≤ℤ◌, ◌-ℤ◌, neg_ℤ, pos, ⊤};
 ghost use Rattle.offset_core.specs.TimeDelta.{nanos_of};
-ghost use Rattle.naive_base.specs.Fields.{reading_on, time_at};
-ghost use Rattle.naive_base.specs.Reading.{Reading};
-ghost use Rattle.naive_base.specs.NaiveDateTime.{reading};
-ghost use Rattle.naive_base.specs.NaiveTime.{time_of};
-ghost use Rattle.naive_base.specs.Range.{IsInRange};
-ghost use Rattle.zoned_time.specs.DateTime.{zoned, home_law_of};
-ghost use Rattle.zoned_time.specs.Zoned.{IsAt};
+ghost use Rattle.naive_base.specs.{Fields.{reading_on, time_at}, NaiveDateTime.{reading}, NaiveTime.{time_of}};
+ghost use Rattle.naive_base.specs.{Range.{IsInRange}, Reading.{Reading}};
+ghost use Rattle.zoned_time.specs.{DateTime.{home_law_of, zoned}, Zoned.{IsAt}};
 ghost use Rattle.zoned_round.specs.Multiples.{nearest_multiple};
-ghost use Rattle.zoned_round.specs.Subseconds.{nanos_per_digit, MayRound, IsRounded, IsTruncated};
+ghost use Rattle.zoned_round.specs.Subseconds.{nanos_per_digit, IsRounded, IsTruncated, MayRound};
 
 use naive_base::{NaiveDateTime, NaiveTime, Timelike};
 use offset_core::TimeDelta;

@@ -1,10 +1,7 @@
 //! The days of a series, one after another.
-ghost use Rattle.std.specs.Prelude.{◌≡◌, ◌-◌, Some, IfSome};
-ghost use Rattle.std.specs.Iterator.{at_most, UpTo};
-ghost use Rattle.std.specs.Iterator.SizeHint.{IsWithinCount};
-ghost use Rattle.zoned_series.specs.DailySeries.{series_of, items_of};
-ghost use Rattle.zoned_series.specs.Series.{GivesNext, GivesBack};
+ghost use Rattle.std.specs.{Iterator.{at_most, UpTo}, Iterator.SizeHint.{IsWithinCount}, Prelude.{◌≡◌, ◌-◌, IfSome}};
 ghost use Rattle.zoned_time.specs.DateTime.{zoned};
+ghost use Rattle.zoned_series.specs.{DailySeries.{items_of, series_of}, Series.{GivesBack, GivesNext}};
 
 use crate::{DailySeries, SeriesError};
 use std::iter::{DoubleEndedIterator, ExactSizeIterator, FusedIterator};

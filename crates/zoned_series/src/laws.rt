@@ -1,19 +1,16 @@
 //! Theorems: each function is empty, its contract is proved; never called.
-ghost use Rattle.std.specs.Prelude.{◌≡◌, ◌↔◌, ◌-◌, ◌≤◌, IsTrue, ℕ, None};
-ghost use Rattle.std.specs.Iterator.{at_most};
-ghost use Rattle.zoned_series.specs.DailySeries.{series_of, items_of};
-ghost use Rattle.zoned_series.specs.Series.{Series, IsItem, IsMissing};
-ghost use Rattle.zoned_series.specs.declared.series_error.SeriesError.{SeriesError as Fault};
-ghost use Rattle.zoned_time.specs.Zoned.{Zoned, in_seconds};
+ghost use Rattle.std.specs.{Iterator.{at_most}, Prelude.{◌≡◌, ◌↔◌, ◌≤◌, ◌-◌, IsTrue, ℕ}};
+ghost use Rattle.zoned_time.specs.Zoned.{in_seconds, Zoned};
+ghost use Rattle.zoned_series.specs.{DailySeries.{items_of, series_of}, Series.{IsItem, IsMissing, Series}};
 
 use crate::{DailyItems, DailySeries, SeriesError};
 use zoned_time::{Offset, TimeZone};
 
 /// Errors of a series are equal if and only if they are the same, and a clone is the error.
 pub fn errors()
-    ensures equal { (a b : Fault) → IsTrue (⟦<SeriesError as PartialEq>⟧.eq a b) ↔ (a ≡ b) }
-    ensures cloned { (a b : Fault) → ⟦<SeriesError as Clone>⟧.is_clone a b ↔ (a ≡ b) }
-    ensures infallible { (a : Fault) → ⟦<SeriesError as Clone>⟧.is_infallible a }
+    ensures equal { (a b : SeriesError) → IsTrue (⟦<SeriesError as PartialEq>⟧.eq a b) ↔ (a ≡ b) }
+    ensures cloned { (a b : SeriesError) → ⟦<SeriesError as Clone>⟧.is_clone a b ↔ (a ≡ b) }
+    ensures infallible { (a : SeriesError) → ⟦<SeriesError as Clone>⟧.is_infallible a }
 {}
 
 /// Of each day there is one instant, at one offset in seconds, or one error, and never both.
@@ -21,9 +18,9 @@ pub fn one_item<Tz: TimeZone>()
     ensures item { (zone : Tz) (s : Series Tz) (n : ℕ) (d e : Zoned Tz.Offset)
         → IsItem (Tz.law zone) s n d → IsItem (Tz.law zone) s n e
         → in_seconds Tz.Offset.seconds d ≡ in_seconds Tz.Offset.seconds e }
-    ensures missing { (zone : Tz) (s : Series Tz) (n : ℕ) (e f : Fault)
+    ensures missing { (zone : Tz) (s : Series Tz) (n : ℕ) (e f : SeriesError)
         → IsMissing (Tz.law zone) s n e → IsMissing (Tz.law zone) s n f → e ≡ f }
-    ensures not_both { (zone : Tz) (s : Series Tz) (n : ℕ) (d : Zoned Tz.Offset) (e : Fault)
+    ensures not_both { (zone : Tz) (s : Series Tz) (n : ℕ) (d : Zoned Tz.Offset) (e : SeriesError)
         → IsItem (Tz.law zone) s n d → IsMissing (Tz.law zone) s n e → ⊥ }
 {}
 

@@ -1,10 +1,8 @@
 //! Series of instants, one a day.
-ghost use Rattle.std.specs.Prelude.{◌≡◌, pos, ◌+ℤ◌, MatchResult};
-ghost use Rattle.naive_base.specs.NaiveDate.{day_of, IsDateOfDay};
-ghost use Rattle.naive_base.specs.NaiveTime.{second_of, fraction_of};
-ghost use Rattle.zoned_series.specs.DailySeries.{series_of, items_of};
-ghost use Rattle.zoned_series.specs.Series.{IsItem, IsMissing};
+ghost use Rattle.std.specs.Prelude.{◌≡◌, ◌+ℤ◌, pos, MatchResult};
+ghost use Rattle.naive_base.specs.{NaiveDate.{day_of, IsDateOfDay}, NaiveTime.{fraction_of, second_of}};
 ghost use Rattle.zoned_time.specs.DateTime.{zoned};
+ghost use Rattle.zoned_series.specs.{DailySeries.{items_of, series_of}, Series.{IsItem, IsMissing}};
 
 use crate::SeriesError;
 use crate::items::DailyItems;

@@ -19,7 +19,8 @@ less_or_not : (a b : ℤ) → (a <ℤ b) ⊎ (a <ℤ b → ⊥)
 less_or_not a b = grind (arith, ints)
 
 -- a local time that no clock shows has an offset before it
-pub gap_has_offset : (off : ℤ → ℤ) (l : ℤ) → ((u : ℤ) → IsZoneSecond u → IsWithinDay (off u)) → IsWide l → IsNeverShown (ShowsByOffset off l) → (k : ℤ) × IsBeforeGap off l k
+pub gap_has_offset : (off : ℤ → ℤ) (l : ℤ) → ((u : ℤ) → IsZoneSecond u → IsWithinDay (off u)) → IsWide l → IsNeverShown (ShowsByOffset off l)
+    → (k : ℤ) × IsBeforeGap off l k
 gap_has_offset off l day wide never =
     let p = λ (u : ℤ). l <ℤ (u +ℤ off u) in let start : ℤ = l -ℤ pos 86_399 in let end : ℤ = l +ℤ pos 86_400 in
     let end_day = day end (omega (arith, ints, wide.0, wide.1), omega (arith, ints, wide.0, wide.1)) in
@@ -32,7 +33,8 @@ gap_has_offset off l day wide never =
         first = c;
         in_zone = ((omega (arith, ints, wide.0, from), omega (arith, ints, wide.1, to)), (omega (arith, ints, wide.0, from), omega (arith, ints, wide.1, to)));
         more = found.3;
-        least = λ u inside more. by_lt_z u start (λ early. let within = day u inside in absurd (omega (arith, ints, within.1, early, more))) (λ late. found.4 u late more);
+        least = λ u inside more. by_lt_z u start (λ early. let within = day u inside in
+            absurd (omega (arith, ints, within.1, early, more))) (λ late. found.4 u late more);
         before = refl;
       },
     )

@@ -16,7 +16,8 @@ starts_are off day start next r h k =
 none_after : (q : Reading) (next : ℤ) → q.s <ℤ next → q.f < 1_000_000_000 → ¬ (IsEarlier (of_secs (next -ℤ pos 1) 999_999_999) q)
 none_after q next before whole e = grind (arith, ints)
 
-pub end_of_day : (off : ℤ → ℤ) (day start next : ℤ) → AreStartsOfDays off day start next → start <ℤ next → IsEndOfDay off day (of_secs (next -ℤ pos 1) 999_999_999)
+pub end_of_day : (off : ℤ → ℤ) (day start next : ℤ) → AreStartsOfDays off day start next → start <ℤ next
+    → IsEndOfDay off day (of_secs (next -ℤ pos 1) 999_999_999)
 end_of_day off day start next h some = record {
   in_day = in_day off (of_secs (next -ℤ pos 1) 999_999_999) day start next h.starts h.ends (omega (arith, ints)) (omega (arith, ints));
   no_leap = omega arith;
@@ -24,11 +25,15 @@ end_of_day off day start next h some = record {
 }
 
 -- a day of one second or more has this end, and no other
-pub one_end : (off : ℤ → ℤ) (day start next : ℤ) (r : Reading) → AreStartsOfDays off day start next → IsEndOfDay off day r → (start <ℤ next) × (r.s ≡ next -ℤ pos 1)
+pub one_end : (off : ℤ → ℤ) (day start next : ℤ) (r : Reading) → AreStartsOfDays off day start next → IsEndOfDay off day r
+    → (start <ℤ next) × (r.s ≡ next -ℤ pos 1)
 one_end off day start next r h k =
     let within = starts_are off day start next r h k.in_day in let some : start <ℤ next = omega (arith, ints, within) in
-    let own = end_of_day off day start next h some in
-    (some, by_lt_z r.s (next -ℤ pos 1) (λ less. absurd (k.last (of_secs (next -ℤ pos 1) 999_999_999) own.in_day own.no_leap (inl less))) (λ more. omega (arith, ints, within)))
+    let own = end_of_day off day start next h some in (
+      some,
+      by_lt_z r.s (next -ℤ pos 1) (λ less. absurd (k.last (of_secs (next -ℤ pos 1) 999_999_999) own.in_day own.no_leap (inl less)))
+          (λ more. omega (arith, ints, within)),
+    )
 
 pub empty_day : (off : ℤ → ℤ) (day start next : ℤ) → AreStartsOfDays off day start next → start ≡ next → HasNoEnd off day
 empty_day off day start next h same r k inside = let some = (one_end off day start next r h k).0 in omega (arith, ints)
@@ -60,35 +65,42 @@ too_early off day within early =
 
 -- ---- from seconds to instants
 pub in_order : (off : ℤ → ℤ) (day start next : ℤ) → AreStartsOfDays off day start next → start ≤ℤ next
-in_order off day start next h = let reached = h.ends.reached.reached in h.starts.first next (record { in_zone = h.ends.reached.in_zone; reached = omega (arith, ints) })
+in_order off day start next h = let reached = h.ends.reached.reached in
+    h.starts.first next (record { in_zone = h.ends.reached.in_zone; reached = omega (arith, ints) })
 
-pub told_end : {O T : Type 0} {m : Meaning O} (law : Law m) (day start next : ℤ) (told : T → Zoned O) (found : Option T) → AreStartsOfDays law.off day start next → (start ≡ next → ⊥)
+pub told_end : {O T : Type 0} {m : Meaning O} (law : Law m) (day start next : ℤ) (told : T → Zoned O) (found : Option T)
+    → AreStartsOfDays law.off day start next → (start ≡ next → ⊥)
     → MatchOption found (IsInRange (next -ℤ pos 1) → ⊥) (λ d. IsInRange (next -ℤ pos 1) × IsAt law (of_secs (next -ℤ pos 1) 999_999_999) (told d))
     → MatchOption found (HasNoEnd law.off day) (λ d. IsZonedEnd law day (told d))
 told_end law day start next told found h some out =
     grind (arith, ints, end_out_of_range law.off day start next h, end_of_day law.off day start next h, in_order law.off day start next h)
 
 -- ---- the day n days before that of a date
-pub no_earlier_day : (off : ℤ → ℤ) (old : ℤ) (n : ℕ) → StayWithinDay off → IsWideDay old → IsDaysLater day_of IsDateOn old (neg_ℤ (pos n)) None → IsFirstOutOfRange off (midnight (old -ℤ pos n))
+pub no_earlier_day : (off : ℤ → ℤ) (old : ℤ) (n : ℕ) → StayWithinDay off → IsWideDay old → IsDaysLater day_of IsDateOn old (neg_ℤ (pos n)) None
+    → IsFirstOutOfRange off (midnight (old -ℤ pos n))
 no_earlier_day off old n within wide h = grind (arith, too_early)
 
 pub earlier_day : (old : ℤ) (n : ℕ) (date : NaiveDate) → IsDaysLater day_of IsDateOn old (neg_ℤ (pos n)) (Some date) → day_of date ≡ old -ℤ pos n
 earlier_day old n date h = grind (arith, ints)
 
 -- ---- gaps and folds
-first_second : (off : ℤ → ℤ) (l u : ℤ) → IsZoneSecond u → (u +ℤ off u) ≡ l → NonePassed off l u → ((v : ℤ) → ShowsByOffset off l v (off v) → u ≤ℤ v) → IsFirstToReach off l u
+first_second : (off : ℤ → ℤ) (l u : ℤ) → IsZoneSecond u → (u +ℤ off u) ≡ l → NonePassed off l u
+    → ((v : ℤ) → ShowsByOffset off l v (off v) → u ≤ℤ v) → IsFirstToReach off l u
 first_second off l u inside shown none least = grind (arith, ints)
 
-first_shown : (off : ℤ → ℤ) (l a : Reading) (u k : ℤ) → ShowsByOffset off l.s u k → NonePassed off l.s (l.s -ℤ k) → ((v : ℤ) → ShowsByOffset off l.s v (off v) → u ≤ℤ v) → IsFirstInstantFrom off l a → a ≡ behind l k
+first_shown : (off : ℤ → ℤ) (l a : Reading) (u k : ℤ) → ShowsByOffset off l.s u k → NonePassed off l.s (l.s -ℤ k)
+    → ((v : ℤ) → ShowsByOffset off l.s v (off v) → u ≤ℤ v) → IsFirstInstantFrom off l a → a ≡ behind l k
 first_shown off l a u k h none least first =
     let back : u ≡ l.s -ℤ k = omega (arith, ints, h.shown) in let there : (u +ℤ off u) ≡ l.s = omega (arith, ints, h.shown, h.offset) in
     let reaches = first_second off l.s u h.in_zone there (rw (← back) at none) least in
     one_first off l a (behind l k) first (first_instant off l (behind l k) (rw back at reaches) (inl (rw back at there, refl)))
 
-pub first_of_one : (off : ℤ → ℤ) (l a : Reading) (k : ℤ) → IsShownOnce (ShowsByOffset off l.s) k → NonePassed off l.s (l.s -ℤ k) → IsFirstInstantFrom off l a → a ≡ behind l k
+pub first_of_one : (off : ℤ → ℤ) (l a : Reading) (k : ℤ) → IsShownOnce (ShowsByOffset off l.s) k → NonePassed off l.s (l.s -ℤ k)
+    → IsFirstInstantFrom off l a → a ≡ behind l k
 first_of_one off l a k h none first = first_shown off l a h.second k h.shown none (λ v s. let same = h.only v (off v) s in omega (arith, ints)) first
 
-pub first_of_fold : (off : ℤ → ℤ) (l a : Reading) (k last : ℤ) → IsShownBetween (ShowsByOffset off l.s) k last → NonePassed off l.s (l.s -ℤ k) → IsFirstInstantFrom off l a → a ≡ behind l k
+pub first_of_fold : (off : ℤ → ℤ) (l a : Reading) (k last : ℤ) → IsShownBetween (ShowsByOffset off l.s) k last → NonePassed off l.s (l.s -ℤ k)
+    → IsFirstInstantFrom off l a → a ≡ behind l k
 first_of_fold off l a k last h none first = first_shown off l a h.first k h.at_first none (λ v s. h.not_before v (off v) s) first
 
 pub not_later : (off : ℤ → ℤ) (l a : Reading) (u k : ℤ) → ShowsByOffset off l.s u k → IsFirstInstantFrom off l a → ¬ (IsEarlier (behind l k) a)
@@ -97,7 +109,8 @@ not_later off l a u k h first = grind (arith, ints, first.first (behind l k))
 pub gap_end : (off : ℤ → ℤ) (l a : Reading) → IsNeverShown (ShowsByOffset off l.s) → IsFirstInstantFrom off l a → IsGapEnd off l.s a
 gap_end off l a never h =
     let reached = to_reached off l a h.shown in
-    let past : l.s <ℤ (a.s +ℤ off a.s) = by_lt_z l.s (a.s +ℤ off a.s) (λ less. less) (λ not. let there = reached.reached in absurd (never a.s (off a.s) (record { in_zone = h.shown.in_zone; offset = refl; shown = omega (arith, ints) }))) in
+    let past : l.s <ℤ (a.s +ℤ off a.s) = by_lt_z l.s (a.s +ℤ off a.s) (λ less. less) (λ not. let there = reached.reached in
+    absurd (never a.s (off a.s) (record { in_zone = h.shown.in_zone; offset = refl; shown = omega (arith, ints) }))) in
     record {
       whole = let first = h.first (of_secs a.s 0) (record { in_zone = h.shown.in_zone; not_before = λ e. grind (arith, ints) }) in grind (arith, ints);
       before = λ u inside less. by_lt_z (u +ℤ off u) l.s (λ c. c) (λ more. by_lt_z l.s (u +ℤ off u)

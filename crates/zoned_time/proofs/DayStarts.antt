@@ -20,7 +20,8 @@ not_earlier_day : (c d : ℤ) → c ≤ℤ d → ¬ (IsEarlier (midnight d) (mid
 not_earlier_day c d h e = grind (arith, ints)
 
 -- a later day starts no earlier
-pub days_rise : (off : ℤ → ℤ) (c d : ℤ) (a b : Reading) → c ≤ℤ d → IsFirstInstantFrom off (midnight c) a → IsFirstInstantFrom off (midnight d) b → ¬ (IsEarlier b a)
+pub days_rise : (off : ℤ → ℤ) (c d : ℤ) (a b : Reading) → c ≤ℤ d → IsFirstInstantFrom off (midnight c) a
+    → IsFirstInstantFrom off (midnight d) b → ¬ (IsEarlier b a)
 days_rise off c d a b less = rises off (midnight c) (midnight d) a b (not_earlier_day c d less)
 
 -- clocks that show the second of a midnight or a later one
@@ -33,10 +34,12 @@ not_in_both off c d r less h k =
     through r k.start h.next k.not_before (days_rise off (c +ℤ pos 1) d h.next k.start (omega (arith, ints)) h.ends k.starts) h.before
 
 pub one_day : (off : ℤ → ℤ) (r : Reading) (c d : ℤ) → IsInDay off c r → IsInDay off d r → c ≡ d
-one_day off r c d h k = by_lt_z c d (λ less. absurd (not_in_both off c d r less h k)) (λ more. by_lt_z d c (λ less. absurd (not_in_both off d c r less k h)) (λ most. omega (arith, ints)))
+one_day off r c d h k = by_lt_z c d (λ less. absurd (not_in_both off c d r less h k))
+    (λ more. by_lt_z d c (λ less. absurd (not_in_both off d c r less k h)) (λ most. omega (arith, ints)))
 
 -- a day that is never shown starts with the next one
-pub skipped : (off : ℤ → ℤ) (day : ℤ) (a b : Reading) → IsNeverOnDay off day → IsFirstInstantFrom off (midnight day) a → IsFirstInstantFrom off (midnight (day +ℤ pos 1)) b → a ≡ b
+pub skipped : (off : ℤ → ℤ) (day : ℤ) (a b : Reading) → IsNeverOnDay off day → IsFirstInstantFrom off (midnight day) a
+    → IsFirstInstantFrom off (midnight (day +ℤ pos 1)) b → a ≡ b
 skipped off day a b never h k =
     let reached = (to_reached off (midnight day) a h.shown).reached in
     let past : ((day +ℤ pos 1) *ℤ pos 86_400) ≤ℤ (a.s +ℤ off a.s) = grind (arith, ints, never a.s) in
@@ -48,7 +51,8 @@ pub no_later_date : (off : ℤ → ℤ) (day : ℤ) (r : Reading) → IsZoneSeco
 no_later_date off day r inside h = grind (arith, ints)
 
 -- if the date is shown when its day starts, that is the first second that shows it
-pub starts_with_first : (off : ℤ → ℤ) (day first last : ℤ) (r : Reading) → IsFirstInstantFrom off (midnight day) r → IsOnDay off day r.s → AreEndsOfDay off day first last → r.s ≡ first
+pub starts_with_first : (off : ℤ → ℤ) (day first last : ℤ) (r : Reading) → IsFirstInstantFrom off (midnight day) r → IsOnDay off day r.s
+    → AreEndsOfDay off day first last → r.s ≡ first
 starts_with_first off day first last r h on ends =
     let least = ends.not_before r.s on in let since = ends.shown_first.since in
     grind (arith, ints, h.first (of_secs first 0) (at_midnight off day (of_secs first 0) ends.shown_first.in_zone (omega (arith, ints))))
@@ -71,12 +75,14 @@ reaches off l within low high =
     let near = within (l +ℤ pos 86_399) inside in
     let found = first_until off l (l +ℤ pos 86_399) (record { in_zone = inside; reached = omega (arith, ints, near) }) in (found.0, found.1)
 
-pub in_day : (off : ℤ → ℤ) (r : Reading) (day start next : ℤ) → IsFirstToReach off (midnight day).s start → IsFirstToReach off (midnight (day +ℤ pos 1)).s next → start ≤ℤ r.s → r.s <ℤ next → IsInDay off day r
+pub in_day : (off : ℤ → ℤ) (r : Reading) (day start next : ℤ) → IsFirstToReach off (midnight day).s start → IsFirstToReach off (midnight (day +ℤ pos 1)).s next
+    → start ≤ℤ r.s → r.s <ℤ next → IsInDay off day r
 in_day off r day start next h k low high =
     grind (arith, ints, first_whole off (midnight day) start refl h, first_whole off (midnight (day +ℤ pos 1)) next refl k)
 
 -- from a day that has started on, at most n days ahead
-climb : (off : ℤ → ℤ) (r : Reading) (n : ℕ) (day start : ℤ) → StayWithinDay off → IsInRange r.s → neg_ℤ (pos 8_334_601_315_200) ≤ℤ (day *ℤ pos 86_400) → (r.s +ℤ pos 86_399) <ℤ ((day *ℤ pos 86_400) +ℤ (pos n *ℤ pos 86_400))
+climb : (off : ℤ → ℤ) (r : Reading) (n : ℕ) (day start : ℤ) → StayWithinDay off → IsInRange r.s → neg_ℤ (pos 8_334_601_315_200) ≤ℤ (day *ℤ pos 86_400)
+    → (r.s +ℤ pos 86_399) <ℤ ((day *ℤ pos 86_400) +ℤ (pos n *ℤ pos 86_400))
     → IsFirstToReach off (midnight day).s start → start ≤ℤ r.s → (d : ℤ) × IsInDay off d r
 climb off r zero day start within range low far h started = grind (arith, ints)
 climb off r (suc n) day start within range low far h started =

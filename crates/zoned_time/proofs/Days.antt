@@ -5,7 +5,8 @@ use Rattle.zoned_time.proofs.Words.{Option, Reading, Some, SomeIff, Zoned, ap, a
 use Rattle.zoned_time.proofs.Words.{◌+ℤ◌, ◌-ℤ◌, ◌<ℤ◌, ◌∙◌, ◌≡◌, ◌≤ℤ◌, ◌⊎◌}
 
 -- ---- days
-pub instants_of_day : {O : Type 0} {m : Meaning O} (law : Law m) (day u v : ℤ) (d e : Zoned O) → AreEndsOfDay law.off day u v → IsAt law (of_secs u 0) d → IsAt law (of_secs v 0) e → AreInstantsOfDay law day d e
+pub instants_of_day : {O : Type 0} {m : Meaning O} (law : Law m) (day u v : ℤ) (d e : Zoned O) → AreEndsOfDay law.off day u v → IsAt law (of_secs u 0) d
+    → IsAt law (of_secs v 0) e → AreInstantsOfDay law day d e
 instants_of_day law day u v d e h first last = grind arith
 
 pub no_day : (off : ℤ → ℤ) (day v : ℤ) → IsOnDay off day v → (IsInRange v → ⊥) → IsNoDay off day
@@ -55,16 +56,19 @@ pub told_later : {O : Type 0} {m : Meaning O} (law : Law m) (l : Reading) (u : �
 told_later law l u seconds whole by_seconds h at differs = grind (arith, ints)
 
 -- ---- a zone whose clocks are never set
-fixed_first : {O : Type 0} {m : Meaning O} (law : Law m) (l noon u : ℤ) → IsFixed law → IsZoneSecond noon → IsZoneSecond u → u +ℤ law.off noon ≡ l → IsFirstToReach law.off l u
+fixed_first : {O : Type 0} {m : Meaning O} (law : Law m) (l noon u : ℤ) → IsFixed law → IsZoneSecond noon → IsZoneSecond u
+    → u +ℤ law.off noon ≡ l → IsFirstToReach law.off l u
 fixed_first law l noon u fixed here inside shown = record {
   reached = record { in_zone = inside; reached = let same = fixed u noon inside here in omega (arith, ints) };
   first = λ v h. let same = fixed v noon h.in_zone here in omega (arith, ints);
 }
 
-pub fixed_shown : {O : Type 0} {m : Meaning O} (law : Law m) (l u : ℤ) → IsFixed law → IsZoneSecond l → IsZoneSecond u → u +ℤ law.off l ≡ l → ((u +ℤ law.off u) ≡ l) × IsFirstToReach law.off l u
+pub fixed_shown : {O : Type 0} {m : Meaning O} (law : Law m) (l u : ℤ) → IsFixed law → IsZoneSecond l → IsZoneSecond u → u +ℤ law.off l ≡ l
+    → ((u +ℤ law.off u) ≡ l) × IsFirstToReach law.off l u
 fixed_shown law l u fixed here inside shown = (ap (λ k. u +ℤ k) (fixed u l inside here) ∙ shown, fixed_first law l l u fixed here inside shown)
 
-pub fixed_ends : {O : Type 0} {m : Meaning O} (law : Law m) (day u : ℤ) → IsFixed law → IsZoneSecond u → IsZoneSecond (u +ℤ pos 86_399) → (u +ℤ law.off u) ≡ day *ℤ pos 86_400 +ℤ pos 0 → AreEndsOfDay law.off day u (u +ℤ pos 86_399)
+pub fixed_ends : {O : Type 0} {m : Meaning O} (law : Law m) (day u : ℤ) → IsFixed law → IsZoneSecond u → IsZoneSecond (u +ℤ pos 86_399)
+    → (u +ℤ law.off u) ≡ day *ℤ pos 86_400 +ℤ pos 0 → AreEndsOfDay law.off day u (u +ℤ pos 86_399)
 fixed_ends law day u fixed inside last shown = record {
   shown_first = record { in_zone = inside; since = omega (arith, ints); before = omega (arith, ints) };
   shown_last = let same = fixed (u +ℤ pos 86_399) u last inside in record { in_zone = last; since = omega (arith, ints); before = omega (arith, ints) };

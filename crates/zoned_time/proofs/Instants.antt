@@ -16,7 +16,8 @@ pub relocal_once : {O : Type 0} {m : Meaning O} (law : Law m) (l : Reading) (a b
 relocal_once law l a b h k = grind (arith, ints, one_wall_answer, offsets_once)
 
 -- and so for what is given another value to show
-pub given_some : {T V O : Type 0} {m : Meaning O} (law : Law m) (shows : T → V) (reads : V → Reading) (told : T → Zoned O) (p : Type 0) (v : V) (d : T) (b : Option T)
+pub given_some : {T V O : Type 0} {m : Meaning O} (law : Law m) (shows : T → V) (reads : V → Reading) (told : T
+    → Zoned O) (p : Type 0) (v : V) (d : T) (b : Option T)
     → IsGiven shows (λ value new. IsOnlyWhere law (option_map reads value) (option_map told new)) p v (Some d)
     → IsGiven shows (λ value new. IsOnlyWhere law (option_map reads value) (option_map told new)) p v b → IsSome b
 given_some law shows reads told p v d b h k = grind arith

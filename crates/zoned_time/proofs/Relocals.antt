@@ -69,7 +69,8 @@ pub shown_by : {O : Type 0} {m : Meaning O} {seconds : O → ℤ} → ((o : O) �
 shown_by told law l answer h = grind (arith, ints)
 
 -- the offsets that a zone gives, and what f gave for each
-pub relocal_of : {F O D : Type 0} {m : Meaning O} (law : Law m) (l : Reading) (show : D → Zoned O) (step : F → O → Option D → F → Type 0) (f : F) (K : F → Type 0)
+pub relocal_of : {F O D : Type 0} {m : Meaning O} (law : Law m) (l : Reading) (show : D → Zoned O) (step : F → O → Option D → F
+    → Type 0) (f : F) (K : F → Type 0)
     (offsets : LocalResult O) (result : LocalResult D)
     → K f → ((e g : F) (o : O) (d : Option D) → K e → step e o d g → K g × SomeIff (option_map show d) (HasInstant m.seconds l o) (instant_of m.seconds l o))
     → AreOffsetsFor law l.s offsets → IsAndThen step f offsets result → IsRelocal law l (map_of show result)

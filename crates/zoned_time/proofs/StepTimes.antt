@@ -3,7 +3,8 @@ use Rattle.naive_plans.specs.ClockSteps.{BeginsStep}
 use Rattle.naive_plans.specs.declared.clock_step.ClockStep.TheVariants.{Day}
 use Rattle.zoned_time.specs.{Fires.{second_before}, StepBounds.{AreStepBounds}}
 use Rattle.zoned_time.proofs.Words.{IsAt, IsFire, IsFirstInstantFrom, IsFirstToReach, IsInDay, IsInRange, IsLastFire}
-use Rattle.zoned_time.proofs.Words.{IsZonedNextFire, Law, MatchOption, Meaning, None, NoneFiresAfter, NoneFiresUntil, Option, Reading, Some, Zoned, arith, by_lt_z}
+use Rattle.zoned_time.proofs.Words.{IsZonedNextFire, Law, MatchOption, Meaning, None, NoneFiresAfter, NoneFiresUntil, Option, Reading, Some, Zoned, arith}
+use Rattle.zoned_time.proofs.Words.{by_lt_z}
 use Rattle.zoned_time.proofs.Words.{floors, inl, inr, ints, midnight, of_secs, pos, subst, ℤ, ◌*ℤ◌, ◌+ℤ◌, ◌-ℤ◌, ◌<ℤ◌, ◌≡◌, ◌≤ℤ◌}
 use Rattle.zoned_time.proofs.{Days.{first_whole, to_reached}, DayStarts.{one_first}, FireTimes.{before_whole, first_rises}}
 use Rattle.std.proofs.Common.{refl}
@@ -70,12 +71,14 @@ midnight_or_later off day v a b starts ends fire =
     let begin = first_whole_second off (midnight day) a starts refl in let end = first_whole_second off (midnight (day +ℤ pos 1)) b ends refl in
     let midnights = fire.planned.at in (
       λ before. by_lt_z (midnight day).s fire.local
-          (λ later. absurd (let most = first_rises off (midnight (day +ℤ pos 1)).s fire.local b.s v (omega (arith, ints, floors, midnights, later)) end fire.first in
+          (λ later. absurd (let most = first_rises off (midnight (day +ℤ pos 1)).s fire.local b.s v
+          (omega (arith, ints, floors, midnights, later)) end fire.first in
           omega (arith, ints, most, before)))
           (λ not. first_rises off fire.local (midnight day).s v a.s (omega (arith, ints, not)) fire.first begin),
       λ after. by_lt_z (midnight day).s fire.local
           (λ later. first_rises off (midnight (day +ℤ pos 1)).s fire.local b.s v (omega (arith, ints, floors, midnights, later)) end fire.first)
-          (λ not. absurd (let most = first_rises off fire.local (midnight day).s v a.s (omega (arith, ints, not)) fire.first begin in omega (arith, ints, most, after))),
+          (λ not. absurd (let most = first_rises off fire.local (midnight day).s v a.s (omega (arith, ints, not)) fire.first begin in
+          omega (arith, ints, most, after))),
     )
 
 pub day_is_step : (off : ℤ → ℤ) (day : ℤ) (r a b : Reading) → IsInDay off day r → IsFirstInstantFrom off (midnight day) a

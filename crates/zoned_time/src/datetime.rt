@@ -1,7 +1,6 @@
 //! Instants as a zone's clocks show them.
 ghost use Rattle.std.specs.Prelude.{◌≡◌, ⊤};
-ghost use Rattle.naive_base.specs.NaiveDateTime.{reading};
-ghost use Rattle.naive_base.specs.Range.{IsInRange};
+ghost use Rattle.naive_base.specs.{NaiveDateTime.{reading}, Range.{IsInRange}};
 
 mod arithmetic;
 mod calendar;

@@ -1,8 +1,6 @@
 //! The instants at which a plan fires, one after another.
-ghost use Rattle.std.specs.Prelude.{◌≡◌};
-ghost use Rattle.std.specs.Iterator.{at_most};
-ghost use Rattle.zoned_time.specs.DateTime.{zoned};
-ghost use Rattle.zoned_time.specs.Fires.{GivesFire, fires_between, left_of, seconds_left};
+ghost use Rattle.std.specs.{Iterator.{at_most}, Prelude.{◌≡◌}};
+ghost use Rattle.zoned_time.specs.{DateTime.{zoned}, Fires.{fires_between, left_of, seconds_left, GivesFire}};
 
 use crate::moves::fire_until;
 use crate::{DateTime, Utc, ZoneDays};

@@ -1,9 +1,7 @@
 //! The days of zones of one offset.
 ghost use Rattle.std.specs.Prelude.{◌≡◌, ◌+ℤ◌};
-ghost use Rattle.naive_base.specs.NaiveDate.{day_of};
-ghost use Rattle.naive_base.specs.NaiveDateTime.{reading};
-ghost use Rattle.zoned_time.specs.Days.{AreEndsOfDay, IsFirstToReach};
-ghost use Rattle.zoned_time.specs.Zone.{IsFixed};
+ghost use Rattle.naive_base.specs.{NaiveDate.{day_of}, NaiveDateTime.{reading}};
+ghost use Rattle.zoned_time.specs.{Days.{AreEndsOfDay, IsFirstToReach}, Zone.{IsFixed}};
 
 use crate::{Offset, ShownDay, TimeZone, Utc, ZoneDays};
 use naive_base::{NaiveDate, NaiveDateTime, NaiveTime};

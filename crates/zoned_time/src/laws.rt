@@ -4,42 +4,31 @@ pub mod days;
 pub mod fires;
 pub mod steps;
 
-ghost use Rattle.std.specs.Prelude.{◌≡◌, ◌↔◌, ◌++◌, ◌⊎◌, [], IsTrue, ℕ, ℤ, Option, Some, SomeIff, FitsSigned};
 ghost use Rattle.std.specs.Hash as fed;
-ghost use Rattle.std.specs.declared.cmp.Ordering.TheVariants.{Less, Equal};
-ghost use Rattle.std.specs.Int.{w64};
-ghost use Rattle.offset_core.specs.declared.choice.Choice.{Choice as AnyChoice};
-ghost use Rattle.offset_core.specs.declared.fixed_offset.FixedOffset.{FixedOffset as AnyFixed};
-ghost use Rattle.offset_core.specs.declared.local_result.LocalResult.{LocalResult};
-ghost use Rattle.offset_core.specs.FixedOffset.{seconds_of};
-ghost use Rattle.offset_core.specs.LocalResult.{map_of};
-ghost use Rattle.naive_base.specs.Fields.{TimeOfDay};
-ghost use Rattle.naive_base.specs.NaiveDateTime.{reading};
-ghost use Rattle.naive_base.specs.Range.{IsInRange};
-ghost use Rattle.naive_base.specs.Reading.{Reading, IsEarlier, total, of_total};
-ghost use Rattle.naive_base.specs.Stamp.{of_secs, IsStamp};
-ghost use Rattle.offset_core.specs.declared.resolve_error.ResolveError.{ResolveError as Fault};
-ghost use Rattle.zoned_time.specs.declared.utc.Utc.{Utc as TheUtc};
+ghost use Rattle.std.specs.{Int.{w64}, Prelude.{◌≡◌, ◌↔◌, ◌⊎◌, ◌++◌, [], FitsSigned, IsTrue, Option, SomeIff, ℕ, ℤ}};
+ghost use Rattle.offset_core.specs.{FixedOffset.{seconds_of}, LocalResult.{map_of}};
+ghost use Rattle.naive_base.specs.{Fields.{TimeOfDay}, NaiveDateTime.{reading}, Range.{IsInRange}};
+ghost use Rattle.naive_base.specs.{Reading.{of_total, total, IsEarlier, Reading}, Stamp.{of_secs, IsStamp}};
 ghost use Rattle.zoned_time.specs.Choice.{IsBeforeGap, IsResolved, IsUnresolved};
-ghost use Rattle.zoned_time.specs.Relocal.{IsRelocal, HasInstant, instant_of, SingleIff};
-ghost use Rattle.zoned_time.specs.Stamps.{millis_of, micros_of, of_millis, of_micros, in_utc};
-ghost use Rattle.zoned_time.specs.DateTime.{zoned, home_law_of, IsIn, IsOnlyOnDay, IsOnlyAtTime};
-ghost use Rattle.zoned_time.specs.Order.{compared};
-ghost use Rattle.zoned_time.specs.Zone.{Each, SameOffsets, SameLaw, seconds_alone};
-ghost use Rattle.zoned_time.specs.Zoned.{Zoned, local_of, in_seconds, IsAt, IsFixedFrom};
+ghost use Rattle.zoned_time.specs.{DateTime.{home_law_of, zoned, IsIn, IsOnlyAtTime, IsOnlyOnDay}, Order.{compared}};
+ghost use Rattle.zoned_time.specs.Relocal.{instant_of, HasInstant, IsRelocal, SingleIff};
+ghost use Rattle.zoned_time.specs.Stamps.{in_utc, micros_of, millis_of, of_micros, of_millis};
+ghost use Rattle.zoned_time.specs.Zone.{seconds_alone, Each, SameLaw, SameOffsets};
+ghost use Rattle.zoned_time.specs.Zoned.{in_seconds, local_of, IsAt, IsFixedFrom, Zoned};
 
 use crate::{DateTime, Offset, TimeZone, Utc};
 use naive_base::NaiveDateTime;
-use offset_core::{Choice, FixedOffset};
+use offset_core::{Choice, FixedOffset, LocalResult, ResolveError};
+use std::cmp::Ordering;
 use std::hash::Hash;
 
 /// A change of zone keeps the UTC date-time: `with_timezone`, `fixed_offset` and `to_utc`.
 pub fn zone_changes_keep_the_instant<Tz: TimeZone, Tz2: TimeZone>()
     ensures with_timezone { (zone : Tz2) (before : Zoned Tz.Offset) (after : Zoned Tz2.Offset)
         → IsAt (Tz2.law zone) before.utc after → after.utc ≡ before.utc }
-    ensures fixed_offset { (before : Zoned Tz.Offset) (after : Zoned AnyFixed)
+    ensures fixed_offset { (before : Zoned Tz.Offset) (after : Zoned FixedOffset)
         → IsFixedFrom Tz.Offset.seconds before after → after.utc ≡ before.utc }
-    ensures to_utc { (before : Zoned Tz.Offset) (after : Zoned TheUtc)
+    ensures to_utc { (before : Zoned Tz.Offset) (after : Zoned Utc)
         → after ≡ in_utc before.utc → after.utc ≡ before.utc }
 {}
 
@@ -60,8 +49,8 @@ pub fn instants_compare_by_utc<Tz: TimeZone>(a: &DateTime<Tz>, b: &DateTime<Tz>)
 
 /// That order is the one of local date-times: by the second, then by the nanoseconds.
 pub fn earlier_is_less()
-    ensures less { (a b : Reading) → (compared a b ≡ Less) ↔ IsEarlier a b }
-    ensures equal { (a b : Reading) → (compared a b ≡ Equal) ↔ (a ≡ b) }
+    ensures less { (a b : Reading) → (compared a b ≡ Ordering.Less) ↔ IsEarlier a b }
+    ensures equal { (a b : Reading) → (compared a b ≡ Ordering.Equal) ↔ (a ≡ b) }
 {}
 
 /// UTC is one zone, of which a hash writes nothing.
@@ -92,19 +81,19 @@ pub fn zones_of_the_same_offsets<Tz: TimeZone>()
 
 /// The instant of a timestamp has that timestamp.
 pub fn stamps_come_back()
-    ensures seconds { (secs : ℤ) (nanos : ℕ) (instant : Zoned TheUtc)
+    ensures seconds { (secs : ℤ) (nanos : ℕ) (instant : Zoned Utc)
         → SomeIff (Some instant) (IsStamp (of_secs secs nanos)) (in_utc (of_secs secs nanos))
         → (instant.utc.s ≡ secs) × (instant.utc.f ≡ nanos) }
-    ensures whole_seconds { (secs : ℤ) (instant : Zoned TheUtc)
+    ensures whole_seconds { (secs : ℤ) (instant : Zoned Utc)
         → SomeIff (Some instant) (IsInRange secs) (in_utc (of_secs secs 0))
         → (instant.utc.s ≡ secs) × (instant.utc.f ≡ 0) }
-    ensures millis { (millis : ℤ) (instant : Zoned TheUtc)
+    ensures millis { (millis : ℤ) (instant : Zoned Utc)
         → SomeIff (Some instant) (IsInRange (of_millis millis).s) (in_utc (of_millis millis))
         → millis_of instant.utc ≡ millis }
-    ensures micros { (micros : ℤ) (instant : Zoned TheUtc)
+    ensures micros { (micros : ℤ) (instant : Zoned Utc)
         → SomeIff (Some instant) (IsInRange (of_micros micros).s) (in_utc (of_micros micros))
         → micros_of instant.utc ≡ micros }
-    ensures nanos { (nanos : ℤ) (instant : Zoned TheUtc) (stamp : Option ℤ)
+    ensures nanos { (nanos : ℤ) (instant : Zoned Utc) (stamp : Option ℤ)
         → FitsSigned w64 nanos → instant ≡ in_utc (of_total nanos)
         → SomeIff stamp (FitsSigned w64 (total instant.utc)) (total instant.utc)
         → stamp ≡ Some nanos }
@@ -149,10 +138,10 @@ pub fn in_zone_at_time<Tz: TimeZone>(zone: &Tz, before: &DateTime<Tz>, after: &D
 /// The clocks of UTC and of a fixed offset show each local time once: `from_local_datetime` gives its
 /// only instant, or none if that is out of range.
 pub fn one_instant_where_the_offset_is_fixed()
-    ensures utc { (zone : TheUtc) (l : Reading) (answer : LocalResult (Zoned TheUtc))
+    ensures utc { (zone : Utc) (l : Reading) (answer : LocalResult (Zoned Utc))
         → IsRelocal (⟦<Utc as TimeZone>⟧.law zone) l answer
         → SingleIff answer (IsInRange l.s) (in_utc l) }
-    ensures fixed { (zone : AnyFixed) (l : Reading) (answer : LocalResult (Zoned AnyFixed))
+    ensures fixed { (zone : FixedOffset) (l : Reading) (answer : LocalResult (Zoned FixedOffset))
         → IsRelocal (⟦<FixedOffset as TimeZone>⟧.law zone) l answer
         → SingleIff answer (HasInstant seconds_of l zone) (instant_of seconds_of l zone) }
 {}
@@ -174,14 +163,14 @@ pub fn one_offset_before_gap<Tz: TimeZone>()
 /// For a local time and a policy there is one instant, at one offset in seconds, or one error, and
 /// never both.
 pub fn one_resolution<Tz: TimeZone>()
-    ensures resolved { (zone : Tz) (l : Reading) (choice : AnyChoice) (a b : Zoned Tz.Offset)
+    ensures resolved { (zone : Tz) (l : Reading) (choice : Choice) (a b : Zoned Tz.Offset)
         → IsResolved (Tz.law zone) l choice a → IsResolved (Tz.law zone) l choice b
         → in_seconds Tz.Offset.seconds a ≡ in_seconds Tz.Offset.seconds b }
-    ensures unresolved { (zone : Tz) (l : Reading) (choice : AnyChoice) (e f : Fault)
+    ensures unresolved { (zone : Tz) (l : Reading) (choice : Choice) (e f : ResolveError)
         → IsUnresolved (Tz.law zone).off l.s choice e
         → IsUnresolved (Tz.law zone).off l.s choice f → e ≡ f }
-    ensures not_both { (zone : Tz) (l : Reading) (choice : AnyChoice)
-        → (a : Zoned Tz.Offset) (e : Fault)
+    ensures not_both { (zone : Tz) (l : Reading) (choice : Choice)
+        → (a : Zoned Tz.Offset) (e : ResolveError)
         → IsResolved (Tz.law zone) l choice a → IsUnresolved (Tz.law zone).off l.s choice e → ⊥ }
 {}
 
@@ -189,7 +178,7 @@ pub fn one_resolution<Tz: TimeZone>()
 pub fn resolution_decided<Tz: TimeZone>(zone: &Tz, local: &NaiveDateTime, choice: Choice)
     ensures { let law = Tz.law zone.now in let l = reading local.now in
         ((d : Zoned Tz.Offset) × IsResolved law l choice d)
-        ⊎ ((e : Fault) × IsUnresolved law.off l.s choice e) }
+        ⊎ ((e : ResolveError) × IsUnresolved law.off l.s choice e) }
 {
     match zone.resolve(local, choice) {
         Ok(_) => {}

@@ -1,11 +1,8 @@
 //! The runs of a plan that move if a zone's rules change.
-ghost use Rattle.std.specs.Prelude.{◌≡◌, ◌↔◌, ◌<ℤ◌, ◌≤ℤ◌, IsTrue, MatchOption};
-ghost use Rattle.std.specs.Iterator.{at_most};
-ghost use Rattle.zoned_time.specs.DateTime.{zoned};
-ghost use Rattle.zoned_time.specs.Fires.{IsZonedNextFire, NoneFiresBetween};
-ghost use Rattle.zoned_time.specs.Moves.{GivesMove, IsNextMove, NoneMovesBetween, moves_between};
-ghost use Rattle.zoned_time.specs.Moves.{moves_of, seconds_left, utc_of_move};
-ghost use Rattle.zoned_time.specs.Stamps.{in_utc};
+ghost use Rattle.std.specs.{Iterator.{at_most}, Prelude.{◌≡◌, ◌↔◌, ◌<ℤ◌, ◌≤ℤ◌, IsTrue, MatchOption}};
+ghost use Rattle.zoned_time.specs.{DateTime.{zoned}, Stamps.{in_utc}};
+ghost use Rattle.zoned_time.specs.{Fires.{IsZonedNextFire, NoneFiresBetween}, Moves.{NoneMovesBetween}};
+ghost use Rattle.zoned_time.specs.Moves.{moves_between, moves_of, seconds_left, utc_of_move, GivesMove, IsNextMove};
 
 use crate::{DateTime, TimeZone, Utc, ZoneDays};
 use naive_plans::Plan;

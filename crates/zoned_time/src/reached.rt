@@ -1,11 +1,8 @@
 //! The last local time that the clocks of a zone have shown up to an instant.
-ghost use Rattle.std.specs.Prelude.{◌≡◌, ◌↔◌, ℤ, pos, ◌+ℤ◌, ◌-ℤ◌, ◌<ℤ◌, IsTrue};
+ghost use Rattle.std.specs.Prelude.{◌≡◌, ◌↔◌, ◌<ℤ◌, ◌+ℤ◌, ◌-ℤ◌, pos, IsTrue};
 ghost use Rattle.offset_core.specs.Offset.{IsWithinDay};
-ghost use Rattle.naive_base.specs.NaiveDateTime.{reading};
-ghost use Rattle.naive_base.specs.Range.{IsInRange};
-ghost use Rattle.naive_base.specs.Stamp.{of_secs};
-ghost use Rattle.zoned_time.specs.Reached.{IsReachedAt};
-ghost use Rattle.zoned_time.specs.Steps.Passed.{HasPassed};
+ghost use Rattle.naive_base.specs.{NaiveDateTime.{reading}, Range.{IsInRange}};
+ghost use Rattle.zoned_time.specs.{Reached.{IsReachedAt}, Steps.Passed.{HasPassed}};
 
 use crate::{Offset, ZoneDays};
 use naive_base::{NaiveDateTime, Timelike};

@@ -1,12 +1,7 @@
 //! The instants that a choice takes.
 ghost use Rattle.std.specs.Prelude.{◌≡◌, MatchResult};
-ghost use Rattle.offset_core.specs.declared.resolve_error.ResolveError.TheVariants.{OutOfRange};
-ghost use Rattle.naive_base.specs.NaiveDateTime.{reading};
-ghost use Rattle.naive_base.specs.Range.{IsInRange};
-ghost use Rattle.naive_base.specs.Reading.{behind};
-ghost use Rattle.zoned_time.specs.DateTime.{zoned};
-ghost use Rattle.zoned_time.specs.Relocal.{HasInstant, instant_of};
-ghost use Rattle.zoned_time.specs.Zoned.{IsAt};
+ghost use Rattle.naive_base.specs.{NaiveDateTime.{reading}, Range.{IsInRange}, Reading.{behind}};
+ghost use Rattle.zoned_time.specs.{DateTime.{zoned}, Relocal.{instant_of, HasInstant}, Zoned.{IsAt}};
 
 use crate::{DateTime, Offset, TimeZone};
 use naive_base::NaiveDateTime;
@@ -20,7 +15,7 @@ pub(crate) fn instant_by<Tz: TimeZone>(
     ensures { let seconds = Tz.Offset.seconds in let l = reading local.now in
         MatchResult result
         (λ d. HasInstant seconds l offset × (zoned d ≡ instant_of seconds l offset))
-        (λ e. (e ≡ OutOfRange) × ¬ (HasInstant seconds l offset)) }
+        (λ e. (e ≡ ResolveError.OutOfRange) × ¬ (HasInstant seconds l offset)) }
 {
     match DateTime::from_local_opt(local, offset) {
         Some(instant) => Ok(instant),
@@ -37,7 +32,7 @@ pub(crate) fn shifted<Tz: TimeZone>(
     ensures { let utc = behind (reading local.now) (Tz.Offset.seconds before) in
         MatchResult result
         (λ d. IsInRange utc.s × IsAt (Tz.law zone.now) utc (zoned d))
-        (λ e. (e ≡ OutOfRange) × ¬ (IsInRange utc.s)) }
+        (λ e. (e ≡ ResolveError.OutOfRange) × ¬ (IsInRange utc.s)) }
 {
     match local.checked_sub_offset(before.fix()) {
         Some(utc) => Ok(zone.from_utc_datetime(&utc)),

@@ -1,18 +1,12 @@
 //! Zones.
-ghost use Rattle.std.specs.Prelude.{◌≡◌, ℤ, pos, IsSome, MatchResult};
-ghost use Rattle.offset_core.specs.LocalResult.{single_of, map_of};
-ghost use Rattle.offset_core.specs.Offset.{IsWithinDay};
-ghost use Rattle.naive_base.specs.Clock.{IsClock, clock_second};
-ghost use Rattle.naive_base.specs.Date.{IsDate, day_number};
-ghost use Rattle.naive_base.specs.NaiveDateTime.{reading};
-ghost use Rattle.naive_base.specs.Range.{IsInRange, IsYearInRange, IsInnerYear};
-ghost use Rattle.naive_base.specs.Reading.{reading_at, behind, of_total};
-ghost use Rattle.naive_base.specs.Stamp.{of_secs, IsStamp};
-ghost use Rattle.zoned_time.specs.Choice.{AreOffsetsAround, IsOffsetBeforeGap, IsResolved, IsUnresolved};
-ghost use Rattle.zoned_time.specs.Relocal.{IsRelocal};
-ghost use Rattle.zoned_time.specs.Stamps.{IsAtWhere, of_millis, of_micros};
+ghost use Rattle.std.specs.Prelude.{◌≡◌, pos, IsSome, MatchResult, ℤ};
+ghost use Rattle.offset_core.specs.{LocalResult.{map_of, single_of}, Offset.{IsWithinDay}};
+ghost use Rattle.naive_base.specs.{Clock.{clock_second, IsClock}, Range.{IsInRange, IsInnerYear, IsYearInRange}};
+ghost use Rattle.naive_base.specs.{Date.{day_number, IsDate}, Reading.{behind, of_total, reading_at}};
+ghost use Rattle.naive_base.specs.{NaiveDateTime.{reading}, Stamp.{of_secs, IsStamp}};
 ghost use Rattle.zoned_time.specs.Zone as zones;
-ghost use Rattle.zoned_time.specs.Zoned.{shown, IsAt};
+ghost use Rattle.zoned_time.specs.Choice.{AreOffsetsAround, IsOffsetBeforeGap, IsResolved, IsUnresolved};
+ghost use Rattle.zoned_time.specs.{Relocal.{IsRelocal}, Stamps.{of_micros, of_millis, IsAtWhere}, Zoned.{shown, IsAt}};
 
 use crate::resolve::{instant_by, shifted};
 use crate::{DateTime, Offset, Utc};

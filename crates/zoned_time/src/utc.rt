@@ -1,7 +1,6 @@
 //! Coordinated universal time.
-ghost use Rattle.std.specs.Prelude.{◌≡◌, ℤ, pos, codes, Some, refl};
-ghost use Rattle.std.proofs.Common.{rules};
-ghost use Rattle.zoned_time.specs.Zone.{meaning_by_seconds, law_by_seconds};
+ghost use Rattle.std.{proofs.Common.{rules}, specs.Prelude.{codes, pos, refl, Some}};
+ghost use Rattle.zoned_time.specs.Zone.{law_by_seconds, meaning_by_seconds};
 
 use crate::{Offset, TimeZone};
 use naive_base::NaiveDateTime;

@@ -1,21 +1,14 @@
 //! The days of a zone, and when plans fire in it.
-ghost use Rattle.std.specs.Prelude.{◌≡◌, ◌↔◌, ◌<◌, ℤ, pos, ◌+ℤ◌, ◌-ℤ◌, ◌≤ℤ◌, IsTrue, MatchOption};
+ghost use Rattle.std.specs.Prelude.{◌≡◌, ◌↔◌, ◌<◌, ◌≤ℤ◌, ◌+ℤ◌, ◌-ℤ◌, pos, IsTrue, MatchOption, ℤ};
 ghost use Rattle.offset_core.specs.TimeDelta.{nanos_of};
-ghost use Rattle.naive_base.specs.NaiveDate.{day_of};
-ghost use Rattle.naive_base.specs.NaiveDateTime.{reading};
-ghost use Rattle.naive_base.specs.Range.{IsInRange, IsWideDay};
-ghost use Rattle.naive_base.specs.Stamp.{of_secs};
-ghost use Rattle.naive_base.specs.Weekday.{weekday_number};
-ghost use Rattle.naive_base.specs.Year.{floor_div};
+ghost use Rattle.naive_base.specs.{NaiveDate.{day_of}, Stamp.{of_secs}, Year.{floor_div}};
+ghost use Rattle.naive_base.specs.{NaiveDateTime.{reading}, Range.{IsInRange, IsWideDay}, Weekday.{weekday_number}};
 ghost use Rattle.naive_plans.specs.ClockSteps.{BeginsStep};
-ghost use Rattle.zoned_time.specs.DateTime.{zoned};
 ghost use Rattle.zoned_time.specs.Days as instants;
 ghost use Rattle.zoned_time.specs.DayEnds as ends;
 ghost use Rattle.zoned_time.specs.Fires as fire_times;
-ghost use Rattle.zoned_time.specs.Fires.{IsFire};
-ghost use Rattle.zoned_time.specs.Reached.{IsReachedAt};
 ghost use Rattle.zoned_time.specs.StepBounds as bounds;
-ghost use Rattle.zoned_time.specs.Zoned.{IsAt};
+ghost use Rattle.zoned_time.specs.{DateTime.{zoned}, Fires.{IsFire}, Reached.{IsReachedAt}, Zoned.{IsAt}};
 
 use crate::reached::reached_at;
 use crate::{DateTime, Fires, TimeZone, Utc};

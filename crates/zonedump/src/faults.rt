@@ -38,16 +38,16 @@ impl fmt::Display for Fault<'_> {
         match *self {
             Fault::NoBound(name, value) => write!(
                 f,
-                "--{name} takes a year from 1 to 9999 or a date, as in --{name} 2026 or --{name} 2026-03-01, and not '{}'",
+                "--{name} takes a year from 1 to 9999 or a date, as in --{name} 2026 or --{name} 2026-03-01; '{}' is neither",
                 OneLine(value)
             ),
             Fault::InReverse(first, last) => write!(
                 f,
-                "--from {first} comes after --to {last}; write the earlier one after --from (unless given, they are {FIRST_YEAR} and {LAST_YEAR})"
+                "--from {first} is after --to {last}; the defaults are --from {FIRST_YEAR} and --to {LAST_YEAR}"
             ),
             Fault::NoTime(value) => write!(
                 f,
-                "--at takes a time, as in --at 2026-11-01T09:00 or --at @1793523600, and not '{}'",
+                "--at takes a time, as in --at 2026-11-01T09:00 or --at @1793523600; '{}' is neither",
                 OneLine(value)
             ),
             Fault::NoZone => f.write_str(
@@ -66,7 +66,7 @@ impl fmt::Display for Fault<'_> {
             ),
             Fault::NoColors(value) => write!(
                 f,
-                "--colors takes light or dark, as in --colors dark, and not '{}'",
+                "--colors takes light or dark, as in --colors dark; '{}' is neither",
                 OneLine(value)
             ),
             Fault::ColorsWithoutPicture => {

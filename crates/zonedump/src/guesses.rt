@@ -111,7 +111,7 @@ impl fmt::Display for Advice<'_> {
                 WithRule(text)
             ),
             Advice::Time => f.write_str(
-                "no zone; a time is one word, as in --at 2026-11-01T09:00, and years or dates are --from 2026 --to 2027-03-31",
+                "not a zone; write a time as --at 2026-11-01T09:00, and years or dates as --from 2026 --to 2027-03-31",
             ),
             Advice::AnyName => {
                 f.write_str("no such file or zone; a zone has a name like Europe/Paris")

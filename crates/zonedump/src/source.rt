@@ -77,7 +77,7 @@ fn zone_of_text(
     }
 }
 
-// Prints a TZ string, and a caret below the first byte that can't be read, with where that is.
+// Prints a TZ string, and below its first byte that can't be read a caret with the offset of that byte.
 fn point_at_fault(rt: &HostRuntime, text: &str, position: usize) -> io::Result<()> {
     let line = printed(rt.alloc(), text)?;
     let front = printed(rt.alloc(), text_before(text, position))?;
@@ -116,13 +116,27 @@ pub fn zone_of_file(
     let Some(bytes) = bytes_of(rt, word, folders)? else {
         return Ok(None);
     };
-    match TimeZone::from_tz_data(rt.alloc(), bytes.as_slice()) {
+    match TimeZone::parse_tz_data(rt.alloc(), bytes.as_slice()) {
         Ok(zone) => Ok(Some(zone)),
         Err(fault) => {
-            reject(rt, word, "TZif file", &fault);
+            reject_file(rt, word, &fault);
             Ok(None)
         }
     }
+}
+
+// Says why a file is rejected, and at which byte.
+fn reject_file(rt: &HostRuntime, name: &str, fault: &ParseError) {
+    let Some(position) = fault.position else {
+        reject(rt, name, "TZif file", &fault.error);
+        return;
+    };
+    let number = fault.error.number();
+    let name = shown(name);
+    let words = fault.error;
+    let _ = eprintln!(rt;
+        "zonedump: {name}: not a TZif file: {words} ({number}) at offset {position}"
+    );
 }
 
 // The bytes of a file, or the error if it can't be read.

@@ -1,9 +1,13 @@
 -- Tokens that are written one after the other, and read back as a value, and how deep values nest.
 use Rattle.json.proofs.Printed.Trees.{value-json_tokens}
-use Rattle.zonedump_lib.proofs.CitedWords.{Bound, Change, Difference, Json, LeapSecond, List, LocalType, Ok, Option, Puts, Result, Some, Token, TransitionRule, Writes}
-use Rattle.zonedump_lib.proofs.CitedWords.{Written, Zone, append-nil, append_assoc, arith, bound_value, change_value, depth, difference_value, differences_value, document, []}
-use Rattle.zonedump_lib.proofs.CitedWords.{end_array, flat_map, flat_map_more, get_or, items_depth, items_of, items_tokens, json_tokens, leap_value, length, map}
-use Rattle.zonedump_lib.proofs.CitedWords.{max_depth, name_value, on_ok_weaker, print, refl, rule_value, take, take_more, tokens, type_value, zone_value, ℕ, ℤ, ◌++◌}
+use Rattle.zonedump_lib.proofs.CitedWords.{Bound, Change, Difference, Json, LeapSecond, List, LocalType, Ok, Option, Puts, Result, Some, Token, TransitionRule}
+use Rattle.zonedump_lib.proofs.CitedWords.{Writes}
+use Rattle.zonedump_lib.proofs.CitedWords.{Written, Zone, append-nil, append_assoc, arith, bound_value, change_value, depth, difference_value}
+use Rattle.zonedump_lib.proofs.CitedWords.{differences_value, document, []}
+use Rattle.zonedump_lib.proofs.CitedWords.{end_array, flat_map, flat_map_more, get_or, items_depth, items_of, items_tokens, json_tokens, leap_value, length}
+use Rattle.zonedump_lib.proofs.CitedWords.{map}
+use Rattle.zonedump_lib.proofs.CitedWords.{max_depth, name_value, on_ok_weaker, print, refl, rule_value, take, take_more, tokens, type_value, zone_value, ℕ, ℤ}
+use Rattle.zonedump_lib.proofs.CitedWords.{◌++◌}
 use Rattle.zonedump_lib.proofs.CitedWords.{◌+◌, ◌<◌, ◌∷◌, ◌≡◌, ◌≤◌}
 
 pub wrote : {E : Type 0} {r : Result (Unit {0}) E} {old new : Written} {t : Token} → Writes r old new t → Puts r old new (t ∷ [])
@@ -55,10 +59,19 @@ leap_shallow e = omega arith
 
 pub zone_shallow : (name : List ℕ) (first last : Bound) (zone : Zone) (changes : List Change) → depth (zone_value name first last zone changes) ≤ max_depth
 zone_shallow name first last zone changes =
-    omega (arith, bound_shallow first, bound_shallow last, rule_shallow zone.rule, items_shallow leap_value 2 leap_shallow zone.leaps, items_shallow change_value 2 change_shallow changes)
+    omega (
+      arith,
+      bound_shallow first,
+      bound_shallow last,
+      rule_shallow zone.rule,
+      items_shallow leap_value 2 leap_shallow zone.leaps,
+      items_shallow change_value 2 change_shallow changes,
+    )
 
 difference_shallow : (d : Difference) → depth (difference_value d) ≤ 2
 difference_shallow d = omega (arith, type_shallow d.old, type_shallow d.new)
 
-pub differences_shallow : (old_name new_name : List ℕ) (first last : Bound) (ds : List Difference) → depth (differences_value old_name new_name first last ds) ≤ max_depth
-differences_shallow old_name new_name first last ds = omega (arith, bound_shallow first, bound_shallow last, items_shallow difference_value 2 difference_shallow ds)
+pub differences_shallow : (old_name new_name : List ℕ) (first last : Bound) (ds : List Difference)
+    → depth (differences_value old_name new_name first last ds) ≤ max_depth
+differences_shallow old_name new_name first last ds =
+    omega (arith, bound_shallow first, bound_shallow last, items_shallow difference_value 2 difference_shallow ds)

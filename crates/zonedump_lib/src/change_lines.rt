@@ -1,13 +1,8 @@
 //! The line of a change.
 
-ghost use Rattle.std.specs.Prelude.{◌≡◌, ◌++◌, ◌∷◌, [], ◌-ℤ◌, OnOk, Some, codes, string_bytes};
-ghost use Rattle.std.specs.Fmt.{signed_decimal};
-ghost use Rattle.naive_base.specs.NaiveDateTime.{reading};
-ghost use Rattle.naive_base.specs.Reading.{ahead};
-ghost use Rattle.naive_base.specs.Stamp.{of_secs};
-ghost use Rattle.zonedump_lib.specs.Spans.{IsNearYears};
-ghost use Rattle.zonedump_lib.specs.ChangeLines.{change_text};
-ghost use Rattle.zonedump_lib.specs.Steps.Sides.{side_of, sides_of};
+ghost use Rattle.std.specs.{Fmt.{signed_decimal}, Prelude.{◌≡◌, ◌-ℤ◌, ◌++◌, ◌∷◌, [], codes, string_bytes, OnOk, Some}};
+ghost use Rattle.naive_base.specs.{NaiveDateTime.{reading}, Reading.{ahead}, Stamp.{of_secs}};
+ghost use Rattle.zonedump_lib.specs.{ChangeLines.{change_text}, Spans.{IsNearYears}, Steps.Sides.{side_of, sides_of}};
 ghost use Rattle.zonedump_lib.specs.Words.{step_words};
 
 use crate::words::{StepWords, TypeWords};

@@ -1,10 +1,8 @@
 //! The changes of a zone's clocks in a period.
 
 ghost use Rattle.std.specs.Prelude.{◌≡◌, ◌+ℤ◌, pos, IfOk};
-ghost use Rattle.tz_info.specs.Changes.{AreChanges};
-ghost use Rattle.tz_info.specs.Zones.{TypeAt};
-ghost use Rattle.zonedump_lib.specs.Periods.{first_second, second_after};
-ghost use Rattle.zonedump_lib.specs.Spans.{IsInYears};
+ghost use Rattle.tz_info.specs.{Changes.{AreChanges}, Zones.{TypeAt}};
+ghost use Rattle.zonedump_lib.specs.{Periods.{first_second, second_after}, Spans.{IsInYears}};
 
 use crate::period::Period;
 use std::alloc::{AllocError, Global};

@@ -1,9 +1,7 @@
 //! What clocks show at the second of a change.
 
-ghost use Rattle.std.specs.Prelude.{◌≡◌, MatchOption, Some, true, false};
-ghost use Rattle.naive_base.specs.NaiveDateTime.{printed_reading};
-ghost use Rattle.naive_base.specs.Stamp.{of_secs};
-ghost use Rattle.naive_base.specs.Text.{reading_text};
+ghost use Rattle.std.specs.Prelude.{◌≡◌, false, true, MatchOption, Some};
+ghost use Rattle.naive_base.specs.{NaiveDateTime.{printed_reading}, Stamp.{of_secs}, Text.{reading_text}};
 ghost use Rattle.zonedump_lib.specs.Clocks.{clock_words, is_shown};
 
 use naive_base::NaiveDateTime;

@@ -1,16 +1,11 @@
 //! The differences of two zones as JSON.
 #![tactic(auto, using(crate::proofs::JsonPutting::wrote, crate::proofs::JsonPutting::puts_then))]
 
-ghost use Rattle.std.specs.Prelude.{◌≡◌, [], ◌∷◌, ◌++◌, IfOk, codes, flat_map};
-ghost use Rattle.std.specs.Fmt.{signed_decimal};
-ghost use Rattle.json.specs.Token.{key, string, number};
-ghost use Rattle.json.specs.Tree.{json_tokens};
-ghost use Rattle.zonedump_lib.specs.ChangeValues.{list_value};
-ghost use Rattle.zonedump_lib.specs.Clocks.{clock_words};
-ghost use Rattle.zonedump_lib.specs.JsonSteps.{Puts};
-ghost use Rattle.zonedump_lib.specs.DifferenceForms.{IsDifferencesJson, IsLoneJson};
-ghost use Rattle.zonedump_lib.specs.DifferenceForms.{difference_value, differences_value};
-ghost use Rattle.zonedump_lib.specs.DifferenceForms.{lone_value, moved_by};
+ghost use Rattle.std.specs.{Fmt.{signed_decimal}, Prelude.{◌∷◌, [], codes, flat_map, IfOk}};
+ghost use Rattle.json.specs.{Token.{key, number, string}, Tree.{json_tokens}};
+ghost use Rattle.zonedump_lib.specs.{ChangeValues.{list_value}, DifferenceForms.{IsDifferencesJson, IsLoneJson}};
+ghost use Rattle.zonedump_lib.specs.{Clocks.{clock_words}, JsonSteps.{Puts}};
+ghost use Rattle.zonedump_lib.specs.DifferenceForms.{difference_value, differences_value, lone_value};
 
 use crate::change_json::{put_number, put_string, put_type};
 use crate::clocks::Clock;

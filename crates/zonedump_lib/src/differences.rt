@@ -1,9 +1,7 @@
 //! The differences of two zones in a period.
 
-ghost use Rattle.std.specs.Prelude.{◌≡◌, ◌++◌, ◌∷◌, [], ◌-ℤ◌, MatchResult, OnOk, string_bytes};
-ghost use Rattle.tz_base.specs.declared.error.Error.TheVariants.{OutOfMemory};
-ghost use Rattle.zonedump_lib.specs.DifferenceForms.{AreDifferencesIn, difference_text};
-ghost use Rattle.zonedump_lib.specs.DifferenceForms.{difference_lines, moved_by};
+ghost use Rattle.std.specs.Prelude.{◌≡◌, ◌-ℤ◌, ◌++◌, ◌∷◌, [], string_bytes, MatchResult, OnOk};
+ghost use Rattle.zonedump_lib.specs.DifferenceForms.{difference_lines, difference_text, AreDifferencesIn};
 
 use crate::clocks::Clock;
 use crate::period::Period;
@@ -25,7 +23,7 @@ pub fn differences_in(
 ) -> Result<Vec<Difference>, Error>
     ensures { MatchResult result
         (λ ds. AreDifferencesIn old_zone.now new_zone.now period.first period.last ds.items)
-        (λ e. e ≡ OutOfMemory) }
+        (λ e. e ≡ Error.OutOfMemory) }
 {
     old_zone.differences(alloc, new_zone, period.from(), period.until())
 }

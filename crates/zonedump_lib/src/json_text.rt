@@ -1,22 +1,12 @@
 //! A zone and the changes of its clocks as JSON.
 #![tactic(auto, using(crate::proofs::JsonPutting::wrote, crate::proofs::JsonPutting::puts_then))]
 
-ghost use Rattle.std.specs.Prelude.{◌≡◌, [], ◌∷◌, ◌++◌, IfOk, Some, codes, decimal, flat_map};
-ghost use Rattle.std.specs.Prelude.{length};
-ghost use Rattle.std.specs.Fmt.{signed_decimal};
+ghost use Rattle.std.specs.{Fmt.{signed_decimal}, Prelude.{◌≡◌, ◌∷◌, [], codes, decimal, flat_map, length, IfOk}};
 ghost use Rattle.json.specs.Json.{document};
-ghost use Rattle.json.specs.Print.{print};
-ghost use Rattle.json.specs.Token.{begin_object, end_object, key, string, number};
-ghost use Rattle.json.specs.Tree.{json_tokens};
-ghost use Rattle.tz_info.specs.declared.rule.day.DayForm.TheVariants.{MonthWeekday};
-ghost use Rattle.tz_info.specs.declared.rule.transition_rule.TransitionRule.TheVariants.{Fixed};
-ghost use Rattle.tz_info.specs.declared.rule.transition_rule.TransitionRule.TheVariants.{Alternate};
+ghost use Rattle.json.specs.{Print.{print}, Token.{begin_object, end_object, key, number, string}, Tree.{json_tokens}};
 ghost use Rattle.naive_base.specs.NaiveDate.{printed_date};
-ghost use Rattle.zonedump_lib.specs.JsonSteps.{Puts};
-ghost use Rattle.zonedump_lib.specs.ChangeValues.{list_value};
-ghost use Rattle.zonedump_lib.specs.JsonValues.{IsJson, day_value, leap_value, moment_value};
-ghost use Rattle.zonedump_lib.specs.JsonValues.{rule_value, zone_value};
-ghost use Rattle.zonedump_lib.specs.Periods.{bound_value};
+ghost use Rattle.zonedump_lib.specs.{ChangeValues.{list_value}, JsonSteps.{Puts}, Periods.{bound_value}};
+ghost use Rattle.zonedump_lib.specs.JsonValues.{day_value, leap_value, moment_value, rule_value, zone_value, IsJson};
 
 use crate::change_json::{put_changes, put_count, put_number, put_string, put_type};
 use crate::changes::changes_in;
@@ -139,7 +129,7 @@ fn put_rule(writer: &mut Writer, zone: &TimeZone) -> Result<(), AllocError>
 
 fn put_fixed(writer: &mut Writer, fixed: &LocalTimeType) -> Result<(), AllocError>
     ensures { Puts result writer.old writer.new
-        (json_tokens (rule_value (Some (Fixed fixed.now)))) }
+        (json_tokens (rule_value (Some (TransitionRule.Fixed fixed.now)))) }
 {
     writer.begin_object()?;
     put_type(writer, "always", fixed)?;
@@ -148,7 +138,7 @@ fn put_fixed(writer: &mut Writer, fixed: &LocalTimeType) -> Result<(), AllocErro
 
 fn put_turns(writer: &mut Writer, turns: &AlternateTime) -> Result<(), AllocError>
     ensures { Puts result writer.old writer.new
-        (json_tokens (rule_value (Some (Alternate turns.now)))) }
+        (json_tokens (rule_value (Some (TransitionRule.Alternate turns.now)))) }
 {
     writer.begin_object()?;
     put_type(writer, "std", turns.std())?;
@@ -193,7 +183,7 @@ fn put_place(writer: &mut Writer, form: &str, n: u16) -> Result<(), AllocError>
 
 fn put_weekday(writer: &mut Writer, month: u8, week: u8, weekday: u8) -> Result<(), AllocError>
     ensures { Puts result writer.old writer.new
-        (json_tokens (day_value (MonthWeekday month week weekday))) }
+        (json_tokens (day_value (DayForm.MonthWeekday month week weekday))) }
 {
     writer.begin_object()?;
     put_string(writer, "form", "M")?;

@@ -1,11 +1,10 @@
 //! Rules in words.
 
-ghost use Rattle.std.specs.Prelude.{◌≡◌, pos, int_le, int_lt, ◌&&◌, unsigned_abs, true, false};
-ghost use Rattle.std.specs.Prelude.{Some, MatchOption, option_map};
-ghost use Rattle.naive_base.specs.Text.{time_text};
-ghost use Rattle.naive_base.specs.NaiveTime.{printed_time};
-ghost use Rattle.zonedump_lib.specs.RuleWords.{week_words, weekday_words, month_words, day_words};
-ghost use Rattle.zonedump_lib.specs.RuleWords.{moment_words, turn_words, turns_words, rule_words};
+ghost use Rattle.std.specs.Prelude.{◌≡◌, ◌&&◌, false, int_le, int_lt, option_map, pos, true, unsigned_abs, MatchOption};
+ghost use Rattle.std.specs.Prelude.{Some};
+ghost use Rattle.naive_base.specs.{NaiveTime.{printed_time}, Text.{time_text}};
+ghost use Rattle.zonedump_lib.specs.RuleWords.{day_words, moment_words, month_words, rule_words, turn_words};
+ghost use Rattle.zonedump_lib.specs.RuleWords.{turns_words, week_words, weekday_words};
 
 use crate::words::TypeWords;
 use naive_base::NaiveTime;

@@ -1,16 +1,11 @@
 //! A zone as a table, whose lines are written as they are made.
 
-ghost use Rattle.std.specs.Prelude.{◌≡◌, ◌++◌, ◌∷◌, ◌-◌, [], All, IfOk, OnOk, Some, codes, length};
-ghost use Rattle.std.specs.Prelude.{string_bytes};
 ghost use Rattle.std.specs.Fmt.{signed_decimal};
-ghost use Rattle.zonedump_lib.specs.ChangeLines.{change_lines};
-ghost use Rattle.zonedump_lib.specs.Periods.{first_second, second_after};
+ghost use Rattle.std.specs.Prelude.{◌≡◌, ◌-◌, ◌++◌, ◌∷◌, [], codes, length, string_bytes, All, IfOk, OnOk, Some};
+ghost use Rattle.tz_info.specs.{Changes.{AreChanges}, ChangesLeft.{changes_left}, Zones.{TypeAt}};
+ghost use Rattle.zonedump_lib.specs.{ChangeLines.{change_lines}, Periods.{first_second, second_after}};
 ghost use Rattle.zonedump_lib.specs.Spans.{IsNearYears};
-ghost use Rattle.tz_info.specs.Changes.{AreChanges};
-ghost use Rattle.tz_info.specs.ChangesLeft.{changes_left};
-ghost use Rattle.tz_info.specs.Zones.{TypeAt};
-ghost use Rattle.zonedump_lib.specs.Tables.{BeginsTable, leap_text, leap_lines, counts_text, period_text};
-ghost use Rattle.zonedump_lib.specs.Tables.{head_text};
+ghost use Rattle.zonedump_lib.specs.Tables.{counts_text, head_text, leap_lines, leap_text, period_text, BeginsTable};
 
 use crate::change_lines::push_change;
 use crate::period::Period;

@@ -1,8 +1,7 @@
 //! Local time types and steps of the clocks in words.
 
-ghost use Rattle.std.specs.Prelude.{◌≡◌, Some};
-ghost use Rattle.offset_core.specs.FixedOffset.{printed_offset};
-ghost use Rattle.zonedump_lib.specs.Words.{offset_words, type_words, step_words};
+ghost use Rattle.std.specs.Prelude.{Some};
+ghost use Rattle.zonedump_lib.specs.Words.{offset_words, step_words, type_words};
 
 use offset_core::FixedOffset;
 use std::fmt;

@@ -1,18 +1,12 @@
 //! The lines that `zdump -v` prints of a zone.
 
-ghost use Rattle.std.specs.Prelude.{◌≡◌, ◌++◌, ◌∷◌, [], pos, ◌-ℤ◌, All, IfOk, OnOk, Some, codes};
-ghost use Rattle.std.specs.Prelude.{string_bytes};
 ghost use Rattle.std.specs.List.{flat_map};
-ghost use Rattle.naive_base.specs.NaiveDateTime.{reading};
-ghost use Rattle.naive_base.specs.Reading.{day_at};
-ghost use Rattle.zonedump_lib.specs.Spans.{IsInYears, IsNearYears};
-ghost use Rattle.zonedump_lib.specs.Steps.Seconds.{clocks_of};
-ghost use Rattle.zonedump_lib.specs.ChangeLines.{ended_line};
-ghost use Rattle.zonedump_lib.specs.ZdumpLines.{short_weekday, short_month, short_day};
-ghost use Rattle.zonedump_lib.specs.ZdumpLines.{zdump_day_text, asctime_text, type_fields};
-ghost use Rattle.zonedump_lib.specs.ZdumpLines.{second_text, pair_lines, null_line, first_lines};
-ghost use Rattle.zonedump_lib.specs.ZdumpLines.{last_lines, zdump_text};
-ghost use Rattle.zonedump_lib.specs.Zdump.{IsZdump};
+ghost use Rattle.std.specs.Prelude.{◌≡◌, ◌-ℤ◌, ◌++◌, [], codes, pos, string_bytes, All, IfOk, OnOk, Some};
+ghost use Rattle.naive_base.specs.{NaiveDateTime.{reading}, Reading.{day_at}};
+ghost use Rattle.zonedump_lib.specs.{ChangeLines.{ended_line}, Steps.Seconds.{clocks_of}, Zdump.{IsZdump}};
+ghost use Rattle.zonedump_lib.specs.{Spans.{IsInYears, IsNearYears}, ZdumpLines.{zdump_day_text, zdump_text}};
+ghost use Rattle.zonedump_lib.specs.ZdumpLines.{asctime_text, first_lines, last_lines, null_line, pair_lines};
+ghost use Rattle.zonedump_lib.specs.ZdumpLines.{second_text, short_day, short_month, short_weekday, type_fields};
 
 use crate::change_lines::{shown, utc_at};
 use crate::changes::changes_after;

@@ -11,5 +11,6 @@ pub consumes_join : (a b c : Option (List ℕ)) (xs ys : List ℕ) → Consumes 
 consumes_join a b c xs ys h k = grind (arith, append_assoc)
 
 -- a write of n more of the bytes
-pub appends_more : (a b c : Option (List ℕ)) (bytes : List ℕ) (i n : ℕ) → Appends a b (take i bytes) → Appends b c (take n (drop i bytes)) → Appends a c (take (i + n) bytes)
+pub appends_more : (a b c : Option (List ℕ)) (bytes : List ℕ) (i n : ℕ) → Appends a b (take i bytes) → Appends b c (take n (drop i bytes))
+    → Appends a c (take (i + n) bytes)
 appends_more a b c bytes i n h k = grind (arith, take-add i n bytes, appends_join)

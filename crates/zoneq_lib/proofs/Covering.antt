@@ -23,7 +23,8 @@ line_gives z line answer after given (inl (Resolve l choice, asks, told)) = subs
 line_gives z line answer after given (inl (Show seconds nanos, asks, told)) = subst IsGiven (sym told.1) given
 line_gives z line answer after given (inr bad) = subst IsGiven (sym bad.2) given
 
-pub lines_give : (z : Option Zone) (lines : List (List ℕ)) (output : List ℕ) (after : Option Zone) → IsGiven z → AnswersLines z lines output after → IsGiven after
+pub lines_give : (z : Option Zone) (lines : List (List ℕ)) (output : List ℕ) (after : Option Zone) → IsGiven z
+    → AnswersLines z lines output after → IsGiven after
 lines_give z [] output after given h = subst IsGiven (sym h.1) given
 lines_give z (line ∷ lines) output after given h = lines_give h.1 lines h.2 after (line_gives z line h.0 h.1 given h.3) h.4
 
@@ -42,7 +43,8 @@ query_covered (Some zone) line (At seconds) given asks = elim (type_decided zone
 query_covered (Some zone) line (Wall local) given asks =
     let types = wall_decided zone local given.0 given.1 in
     (shown_wall types.0, inl (Wall local, asks, ((types.0, types.1, refl), refl)))
-query_covered (Some zone) line (Resolve l choice) given asks = grind (arith, resolve_covered zone l choice given.0 given.1 (resolved_in_range line l choice asks))
+query_covered (Some zone) line (Resolve l choice) given asks =
+    grind (arith, resolve_covered zone l choice given.0 given.1 (resolved_in_range line l choice asks))
 query_covered (Some zone) line (Show seconds nanos) given asks = grind (arith, show_covered zone seconds nanos given.0 given.1)
 
 pub line_covered : (z : Option Zone) (line : List ℕ) → IsGiven z → (answer : List ℕ) × AnswersLine z line answer z
@@ -62,9 +64,11 @@ last_covered z [] given = ([], refl)
 last_covered z (c ∷ rest) given = let first = line_covered z (c ∷ rest) given in (first.0 ++ codes "\n", (first.0, z, first.1, refl))
 
 -- every input is cut into lines
-behind : (c : ℕ) (bytes : List ℕ) (pieces : List (List ℕ)) (rest : List ℕ) → c ≢ 10 → IsSplit bytes pieces rest → (pieces' : List (List ℕ)) × (rest' : List ℕ) × IsSplit (c ∷ bytes) pieces' rest'
+behind : (c : ℕ) (bytes : List ℕ) (pieces : List (List ℕ)) (rest : List ℕ) → c ≢ 10 → IsSplit bytes pieces rest
+    → (pieces' : List (List ℕ)) × (rest' : List ℕ) × IsSplit (c ∷ bytes) pieces' rest'
 behind c bytes [] rest h cut = grind arith
-behind c bytes (p ∷ pieces) rest h cut = ((c ∷ p) ∷ pieces, rest, grind (arith, All-head HasNoNewline p pieces cut.each, All-tail HasNoNewline p pieces cut.each))
+behind c bytes (p ∷ pieces) rest h cut =
+    ((c ∷ p) ∷ pieces, rest, grind (arith, All-head HasNoNewline p pieces cut.each, All-tail HasNoNewline p pieces cut.each))
 
 is_cut : (bytes : List ℕ) → (pieces : List (List ℕ)) × (rest : List ℕ) × IsSplit bytes pieces rest
 is_cut [] = grind arith
@@ -76,17 +80,22 @@ some_failed : (rest front left : List ℕ) → IsKeptFor rest front → 0 < leng
 some_failed rest front left h some = grind (arith, length-append)
 
 -- answers to a front of the input, of which a part is written, go on to answers to all of it
-pub begins_answers : (done left output more : List ℕ) (z : Option Zone) (rest : List ℕ) → Answered None [] done (output ++ more) z rest → BeginsAnswers (done ++ left) output
+pub begins_answers : (done left output more : List ℕ) (z : Option Zone) (rest : List ℕ) → Answered None [] done (output ++ more) z rest
+    → BeginsAnswers (done ++ left) output
 begins_answers done left output more z rest s =
     let given = lines_give None (ended_lines s.pieces) (output ++ more) z tt s.answered in
     let cut = is_cut (rest ++ left) in
     let next = lines_covered z (ended_lines cut.0) given in
     let last = last_covered z cut.1 given in
-    let behind_it : Answered z rest left next.0 z cut.1 = record { pieces = cut.0; front = cut.1; cut = cut.2; kept = inl refl; lone = cut.2.last; answered = next.1 } in (
+    let behind_it : Answered z rest left next.0 z cut.1 =
+    record { pieces = cut.0; front = cut.1; cut = cut.2; kept = inl refl; lone = cut.2.last; answered = next.1 } in (
       more ++ (next.0 ++ last.0),
-      simp append_assoc at (answers_all (done ++ left) ((output ++ more) ++ next.0) z cut.1 last.0 (answered_join None [] done (output ++ more) z rest left next.0 z cut.1 s behind_it) last.1),
+      simp append_assoc
+          at (answers_all (done ++ left) ((output ++ more) ++ next.0) z cut.1 last.0
+          (answered_join None [] done (output ++ more) z rest left next.0 z cut.1 s behind_it) last.1),
     )
 
 -- answers to the lines before one that could not be answered
-pub answers_before : (done left output : List ℕ) (z : Option Zone) (rest : List ℕ) → 0 < length (rest ++ left) → Answered None [] done output z rest → AnswersBefore (done ++ left) output
+pub answers_before : (done left output : List ℕ) (z : Option Zone) (rest : List ℕ) → 0 < length (rest ++ left) → Answered None [] done output z rest
+    → AnswersBefore (done ++ left) output
 answers_before done left output z rest some s = grind (arith, some_failed rest s.front left s.kept some, append_assoc, append-nil, All-nil)

@@ -95,7 +95,9 @@ exact_onward count bytes more =
 pub onward : {X : Type 0} (g : Grammar X) (bytes more : List ℕ) → IsPlain g → Onward more (scan g bytes) (scan g (bytes ++ more))
 unfolding after_byte
 onward g [] more p = grind (arith, stops g)
-onward (Then g f) (b ∷ bytes) more p = bind_onward more (scan g (b ∷ bytes)) (scan g (b ∷ (bytes ++ more))) (λ p. scan (f p.0) p.1) (onward g (b ∷ bytes) more p.0) (λ x. stops (f x)) (λ x rest. onward (f x) rest more (p.1 x))
+onward (Then g f) (b ∷ bytes) more p =
+    bind_onward more (scan g (b ∷ bytes)) (scan g (b ∷ (bytes ++ more))) (λ p. scan (f p.0) p.1) (onward g (b ∷ bytes) more p.0) (λ x. stops (f x))
+    (λ x rest. onward (f x) rest more (p.1 x))
 onward (Marked tag g h) (b ∷ bytes) more p = grind (arith, onward g bytes more p.0, onward h (b ∷ bytes) more p.1)
 onward (Ended g h) (b ∷ bytes) more p = onward h (b ∷ bytes) more p.1
 onward (Run test) (b ∷ bytes) more p = grind (arith, append_assoc, run_again, run_splits test (b ∷ bytes))
@@ -111,5 +113,6 @@ scanned g bytes x rest h = grind (arith, same g bytes, (lawful g bytes).takes (x
 pub not_scanned : {X : Type 0} (g : Grammar X) (bytes : List ℕ) (e : BadLine) → scan g bytes ≡ Err e → (x : X) (rest : List ℕ) → Spells g bytes x rest → ⊥
 not_scanned g bytes e h x rest spelled = grind (arith, same g bytes, (lawful g bytes).again (x, rest) spelled)
 
-pub never : {X : Type 0} (g : Grammar X) (bytes more : List ℕ) → IsPlain g → scan g bytes ≡ Err Hopeless → (x : X) (rest : List ℕ) → Spells g (bytes ++ more) x rest → ⊥
+pub never : {X : Type 0} (g : Grammar X) (bytes more : List ℕ) → IsPlain g → scan g bytes ≡ Err Hopeless → (x : X) (rest : List ℕ)
+    → Spells g (bytes ++ more) x rest → ⊥
 never g bytes more p h = grind (arith, onward g bytes more p, not_scanned g (bytes ++ more) Hopeless)

@@ -44,10 +44,12 @@ pub no_stamp : {O D : Type 0} {m : Meaning O} (law : Law m) (p : Type 0) (r : Re
 no_stamp law p r f given other h k = grind arith
 
 -- the instant by an offset that is taken
-taken_instant : (off : ℤ → ℤ) (l : Reading) (choice : Choice) (k : ℤ) → IsTaken off l.s choice k → IsInRange (l.s -ℤ k) → (d : Zoned ℤ) × IsResolved (law_by off) l choice d
+taken_instant : (off : ℤ → ℤ) (l : Reading) (choice : Choice) (k : ℤ) → IsTaken off l.s choice k → IsInRange (l.s -ℤ k)
+    → (d : Zoned ℤ) × IsResolved (law_by off) l choice d
 taken_instant off l choice k taken inside = (record { utc = behind l k; offset = off (l.s -ℤ k) }, grind arith)
 
-pub resolve_covered : (z : Zone) (l : Reading) (choice : Choice) → IsValid z → IsRuleOrNone z.rule → IsInRange l.s → (answer : List ℕ) × AnswersResolve (Some z) l choice answer
+pub resolve_covered : (z : Zone) (l : Reading) (choice : Choice) → IsValid z → IsRuleOrNone z.rule → IsInRange l.s
+    → (answer : List ℕ) × AnswersResolve (Some z) l choice answer
 resolve_covered z l choice valid rule inside = elim (narrow_or_not z) [
   | inl narrow ↦
       let wide : IsWide l.s = (omega (arith, ints, inside.0), omega (arith, ints, inside.1)) in

@@ -18,18 +18,25 @@ reply_is (Ok u) f a c z line bytes answer after h k ok stop = ((ok.0, (answer, h
 reply_is (Err e) f a c z line bytes answer after h k ok (is, failed, (n, part)) = grind (arith, take-append-drop n bytes)
 
 -- one more line of a block was answered
-pub line_taken : (z : Option Zone) (b block done output : List ℕ) (m : Option Zone) (k rest piece more answer : List ℕ) (next : Option Zone) (r : List ℕ) → block ≡ done ++ rest → Answered z b done output m k → HasNoNewline piece → rest ≡ piece ++ 10 ∷ more → AnswersLine m (without_return (k ++ piece)) answer next → r ≡ [] → (block ≡ (done ++ (piece ++ codes "\n")) ++ more) × Answered z b (done ++ (piece ++ codes "\n")) (output ++ (answer ++ codes "\n")) next r
+pub line_taken : (z : Option Zone) (b block done output : List ℕ) (m : Option Zone) (k rest piece more answer : List ℕ) (next : Option Zone) (r : List ℕ)
+    → block ≡ done ++ rest → Answered z b done output m k → HasNoNewline piece → rest ≡ piece ++ 10 ∷ more
+    → AnswersLine m (without_return (k ++ piece)) answer next → r ≡ []
+    → (block ≡ (done ++ (piece ++ codes "\n")) ++ more) × Answered z b (done ++ (piece ++ codes "\n")) (output ++ (answer ++ codes "\n")) next r
 line_taken z b block done output m k rest piece more answer next r e s h cut line none = grind (arith, append_assoc, answered_join, answered_line)
 
 -- a line of a block stopped the run
-pub line_stops : (f : Bool) (a b' c : Option (List ℕ)) (z : Option Zone) (b block done output : List ℕ) (m : Option Zone) (k rest piece more : List ℕ) (e : RunError) → block ≡ done ++ rest → Answered z b done output m k → HasNoNewline piece → rest ≡ piece ++ 10 ∷ more → Appends a b' output → StopsAt f b' c m (without_return (k ++ piece)) e → StopsIn f a c z b block e
+pub line_stops : (f : Bool) (a b' c : Option (List ℕ)) (z : Option Zone) (b block done output : List ℕ) (m : Option Zone)
+    (k rest piece more : List ℕ) (e : RunError) → block ≡ done ++ rest → Answered z b done output m k → HasNoNewline piece → rest ≡ piece ++ 10 ∷ more
+    → Appends a b' output → StopsAt f b' c m (without_return (k ++ piece)) e → StopsIn f a c z b block e
 line_stops f a b' c z b block done output m k rest piece more errors.Write e s h cut wrote stop =
     let taken = line_taken z b block done output m k rest piece more stop.3 stop.4 [] e s h cut stop.5 refl in
-    let written : Answered z b (done ++ (piece ++ codes "\n")) ((output ++ stop.1) ++ stop.2) stop.4 [] = grind (arith, append_assoc) in grind (arith, append_assoc)
+    let written : Answered z b (done ++ (piece ++ codes "\n")) ((output ++ stop.1) ++ stop.2) stop.4 [] = grind (arith, append_assoc) in
+    grind (arith, append_assoc)
 line_stops f a b' c z b block done output m k rest piece more e stopped s h cut wrote stop = grind (arith, length-append, append-nil)
 
 -- what is after the last newline of a block is kept, or counted
-pub rest_kept : (z : Option Zone) (b block done output : List ℕ) (m : Option Zone) (k rest : List ℕ) (m' : Option Zone) (k' : List ℕ) → block ≡ done ++ rest → Answered z b done output m k → HasNoNewline rest → m' ≡ m → IsKeptFor k' (k ++ rest) → HasNoNewline k' → Answered z b block output m' k'
+pub rest_kept : (z : Option Zone) (b block done output : List ℕ) (m : Option Zone) (k rest : List ℕ) (m' : Option Zone) (k' : List ℕ) → block ≡ done ++ rest
+    → Answered z b done output m k → HasNoNewline rest → m' ≡ m → IsKeptFor k' (k ++ rest) → HasNoNewline k' → Answered z b block output m' k'
 rest_kept z b block done output m k rest m' k' e s h same kept lone =
     rw (e, same) (rw append-nil at (answered_join z b done output m k rest [] m k' s (answered_more m k rest k' s.lone h kept lone)))
 

@@ -1,18 +1,14 @@
 //! The answer to a line.
 
-ghost use Rattle.std.specs.Prelude.{◌≡◌, ℕ, List, [], ◌∷◌, ◌++◌, ◌⊎◌, OnOk, IfOk, IfErr, IfSome};
-ghost use Rattle.std.specs.Prelude.{MatchResult, codes, string_bytes, Some};
-ghost use Rattle.naive_base.specs.NaiveDateTime.{reading};
-ghost use Rattle.naive_base.specs.Text.{reading_text};
-ghost use Rattle.zoned_time.specs.DateTime.{zoned};
-ghost use Rattle.zoned_time.specs.Zoned.{local_of};
-ghost use Rattle.tz_base.specs.Errors.{IsOutOfMemory, error_number};
-ghost use Rattle.tz_info.specs.TzFiles.{IsTzFile, IsFileFault};
-ghost use Rattle.tz_info.specs.Zones.{IsValid};
+ghost use Rattle.std.specs.Prelude.{◌≡◌, ◌⊎◌, ◌++◌, ◌∷◌, [], codes, string_bytes, IfErr, IfOk, IfSome, List};
+ghost use Rattle.std.specs.Prelude.{MatchResult, OnOk, Some, ℕ};
+ghost use Rattle.naive_base.specs.{NaiveDateTime.{reading}, Text.{reading_text}};
+ghost use Rattle.tz_base.specs.Errors.{error_number, IsOutOfMemory};
+ghost use Rattle.tz_info.specs.{TzFiles.{IsFileFault, IsTzFile}, Zones.{IsValid}};
+ghost use Rattle.zoned_time.specs.{DateTime.{zoned}, Zoned.{local_of}};
+ghost use Rattle.zoneq_lib.specs.Answers.{shown_refusal, shown_type, shown_wall, shown_zone, AnswersAt, AnswersData};
+ghost use Rattle.zoneq_lib.specs.Answers.{AnswersLine, AnswersResolve, AnswersShow, AnswersText, AnswersWall};
 ghost use Rattle.zoneq_lib.specs.Hex.{bytes_of};
-ghost use Rattle.zoneq_lib.specs.Answers.{AnswersLine, AnswersText, AnswersData, AnswersAt};
-ghost use Rattle.zoneq_lib.specs.Answers.{AnswersWall, AnswersResolve, AnswersShow, shown_type};
-ghost use Rattle.zoneq_lib.specs.Answers.{shown_wall, shown_zone, shown_rule, shown_refusal};
 
 use crate::question::Question;
 use naive_base::NaiveDateTime;

@@ -1,8 +1,6 @@
 //! How choices for gaps and folds are spelled.
 
-ghost use Rattle.std.specs.Prelude.{◌≡◌};
-ghost use Rattle.zoneq_lib.specs.Questions.{gap, fold, choice};
-ghost use Rattle.zoneq_lib.specs.Steps.LineReading.{ReadsAs, scan};
+ghost use Rattle.zoneq_lib.specs.{Questions.{choice, fold, gap}, Steps.LineReading.{scan, ReadsAs}};
 
 use crate::bad_line::{BadLine, stop};
 use crate::words::{expect_byte, strip_word};

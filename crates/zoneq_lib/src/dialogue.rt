@@ -1,11 +1,8 @@
 //! What a run keeps, and what it does with a block of its input.
 
-ghost use Rattle.std.specs.Prelude.{◌≡◌, ◌<◌, ◌++◌, [], false, length, OnOk, IfErr, OnErr};
-ghost use Rattle.zoneq_lib.specs.Lines.{HasNoNewline, without_return};
-ghost use Rattle.zoneq_lib.specs.Steps.Blocks.{AnswersIn, StopsIn};
-ghost use Rattle.zoneq_lib.specs.Steps.Hopeless.{IsKeptFor};
-ghost use Rattle.zoneq_lib.specs.Steps.LastLine.{AnswersAtEnd, StopsAtEnd};
-ghost use Rattle.zoneq_lib.specs.Steps.Replies.{Replies, StopsAt};
+ghost use Rattle.std.specs.Prelude.{◌≡◌, ◌<◌, ◌++◌, [], false, length, IfErr, OnErr, OnOk};
+ghost use Rattle.zoneq_lib.specs.{Lines.{without_return, HasNoNewline}, Steps.LastLine.{AnswersAtEnd, StopsAtEnd}};
+ghost use Rattle.zoneq_lib.specs.Steps.{Blocks.{AnswersIn, StopsIn}, Hopeless.{IsKeptFor}, Replies.{Replies, StopsAt}};
 
 use crate::answer::answer;
 use crate::hopeless::may_ask;

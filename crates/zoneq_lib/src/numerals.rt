@@ -1,12 +1,9 @@
 //! Numbers in decimal digits, with any leading zeros.
 
-ghost use Rattle.std.specs.Prelude.{◌≡◌, ◌+◌, ◌-◌, ◌*◌, ◌^◌, true, ◌<◌, ◌≤◌, ◌≤ℤ◌, pos, neg_ℤ};
-ghost use Rattle.std.specs.Prelude.{IfOk};
 ghost use Rattle.std.specs.Option.{SomeIff};
-ghost use Rattle.tz_base.specs.Fronts.{is_digit};
-ghost use Rattle.tz_base.specs.Grammar.{Number};
-ghost use Rattle.zoneq_lib.specs.Questions.{unix_seconds, integer, next};
-ghost use Rattle.zoneq_lib.specs.Steps.LineReading.{ReadsAs, scan};
+ghost use Rattle.std.specs.Prelude.{◌≡◌, ◌<◌, ◌≤◌, ◌+◌, ◌-◌, ◌*◌, ◌^◌, ◌≤ℤ◌, neg_ℤ, pos, true, IfOk};
+ghost use Rattle.tz_base.specs.{Fronts.{is_digit}, Grammar.{Number}};
+ghost use Rattle.zoneq_lib.specs.{Questions.{integer, next, unix_seconds}, Steps.LineReading.{scan, ReadsAs}};
 
 use crate::bad_line::BadLine;
 use crate::words::{expect_byte, strip_byte};

@@ -1,7 +1,6 @@
 //! Bytes written to a writer, and flushed.
 
-ghost use Rattle.std.specs.Prelude.{◌≡◌, ℕ, true, false, take, OnOk, IfErr};
-ghost use Rattle.std.specs.Io.KnownBytes.{Appends, Keeps};
+ghost use Rattle.std.specs.{Io.KnownBytes.{Appends, Keeps}, Prelude.{◌≡◌, false, take, true, IfErr, OnOk, ℕ}};
 ghost use Rattle.zoneq_lib.specs.Steps.Sending.{IsSentOf};
 
 use crate::run_error::RunError;

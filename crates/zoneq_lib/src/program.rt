@@ -1,8 +1,7 @@
 //! How a program ends after a run.
 
-ghost use Rattle.std.specs.Prelude.{◌≡◌, ◌++◌, false, codes};
-ghost use Rattle.zoneq_lib.specs.Endings.{WritesUnlessFailed, status_of, message_of};
-ghost use Rattle.zoneq_lib.specs.Faults.{fault_text};
+ghost use Rattle.std.specs.Prelude.{◌≡◌, ◌++◌, codes, false};
+ghost use Rattle.zoneq_lib.specs.{Endings.{message_of, status_of, WritesUnlessFailed}, Faults.{fault_text}};
 
 use crate::output::write_all;
 use crate::run_error::RunError;

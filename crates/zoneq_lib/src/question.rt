@@ -1,11 +1,9 @@
 //! A line as a question.
 
-ghost use Rattle.std.specs.Prelude.{◌≡◌, [], MatchOption};
-ghost use Rattle.naive_base.specs.NaiveDate.{day_of};
-ghost use Rattle.naive_base.specs.NaiveDateTime.{reading};
-ghost use Rattle.zoneq_lib.specs.Questions.{text_query, data_query, at_query, wall_query};
-ghost use Rattle.zoneq_lib.specs.Questions.{resolve_query, show_query, local_time, calendar_day};
-ghost use Rattle.zoneq_lib.specs.Steps.LineReading.{ReadsAs, scan};
+ghost use Rattle.std.specs.Prelude.{[], MatchOption};
+ghost use Rattle.naive_base.specs.{NaiveDate.{day_of}, NaiveDateTime.{reading}};
+ghost use Rattle.zoneq_lib.specs.Questions.{at_query, calendar_day, data_query, local_time, resolve_query, show_query};
+ghost use Rattle.zoneq_lib.specs.{Questions.{text_query, wall_query}, Steps.LineReading.{scan, ReadsAs}};
 ghost use Rattle.zoneq_lib.specs.Steps.QueryOf.{query_of};
 
 use crate::bad_line::{BadLine, stop};

@@ -1,9 +1,8 @@
 //! An end of a run that knows what became of it.
 
-ghost use Rattle.std.specs.Prelude.{◌≡◌, ◌+◌, ◌-◌, ◌^◌, ◌||◌, ◌&&◌, min, false, length};
-ghost use Rattle.std.specs.Io.KnownBytes.{ReadConsumes, WriteAppends, Keeps};
-ghost use Rattle.std.specs.Io.{ReadsAtMost, WritesAtMost};
-ghost use Rattle.zoneq_lib.specs.Ends.{has_failed, gave_nothing, gave_something};
+ghost use Rattle.std.specs.{Io.{ReadsAtMost, WritesAtMost}, Io.KnownBytes.{Keeps, ReadConsumes, WriteAppends}};
+ghost use Rattle.std.specs.Prelude.{◌≡◌, ◌+◌, ◌-◌, ◌^◌, ◌&&◌, ◌||◌, false, length, min};
+ghost use Rattle.zoneq_lib.specs.Ends.{gave_nothing, gave_something, has_failed};
 
 use std::io;
 use std::io::{Read, Write};

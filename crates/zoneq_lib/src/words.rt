@@ -1,9 +1,7 @@
 //! Words of a line.
 
-ghost use Rattle.std.specs.Prelude.{◌≡◌};
 ghost use Rattle.tz_base.specs.Grammar.{Byte};
-ghost use Rattle.zoneq_lib.specs.Questions.{Begins, Word};
-ghost use Rattle.zoneq_lib.specs.Steps.LineReading.{GivesSome, ReadsAs, after_byte, scan};
+ghost use Rattle.zoneq_lib.specs.{Questions.{Begins, Word}, Steps.LineReading.{after_byte, scan, GivesSome, ReadsAs}};
 
 use crate::bad_line::{BadLine, stop};
 

@@ -1,8 +1,6 @@
 //! Days of a zone.
-ghost use Rattle.std.specs.Prelude.{◌≡◌, ◌↔◌, IsTrue, IfSome};
-ghost use Rattle.zoned.specs.DateTime.{zoned};
-ghost use Rattle.zoned.specs.Days.{IsInDay};
-ghost use Rattle.zoned.specs.NaiveDate.{day_of};
+ghost use Rattle.std.specs.Prelude.{◌≡◌, ◌↔◌, IfSome, IsTrue};
+ghost use Rattle.zoned.specs.{DateTime.{zoned}, Days.{IsInDay}, NaiveDate.{day_of}};
 
 use zoned::{DateTime, KeptZone, NaiveDate, TimeDelta, TimeZone, ZoneDays, client_laws};
 

@@ -1,8 +1,6 @@
 //! The forms of standards.
-ghost use Rattle.std.specs.Prelude.{◌≡◌, ◌++◌, IfOk, string_bytes};
-ghost use Rattle.zoned.specs.DateTime.{zoned, wall_of};
-ghost use Rattle.zoned.specs.FixedOffset.{printed_offset};
-ghost use Rattle.zoned.specs.Text.{reading_text};
+ghost use Rattle.std.specs.Prelude.{◌≡◌, ◌++◌, string_bytes, IfOk};
+ghost use Rattle.zoned.specs.{DateTime.{wall_of, zoned}, FixedOffset.{printed_offset}, Text.{reading_text}};
 
 use std::alloc::{AllocError, Global};
 use std::fmt;

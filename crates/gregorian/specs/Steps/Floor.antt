@@ -28,4 +28,37 @@ pub back_between : (w : Width) (z : ℤ) → up z < down z + 2 ^ hbits w → dow
     → (up (to_z w (of_z w z)) ≡ up z) × (down (to_z w (of_z w z)) ≡ down z)
 back_between w z h k = back_is w z (omega arith)
 
-pub ruleset floors = (fits_out, same_out, Apart-out, lt_T, le_T, lt_not, le_not, lt-true, lt-false, le-true, le-false, true-lt, false-lt, true-le, false-le, not_negative_out, lt_out, le_out, same_in, lt_in, le_in, below_in, at_most_in, not_negative_in, sum_is_lem, neg_is, product_is, div_parts, rem_parts, fits_between, back_between, small_is)
+pub ruleset floors = (
+  fits_out,
+  same_out,
+  Apart-out,
+  lt_T,
+  le_T,
+  lt_not,
+  le_not,
+  lt-true,
+  lt-false,
+  le-true,
+  le-false,
+  true-lt,
+  false-lt,
+  true-le,
+  false-le,
+  not_negative_out,
+  lt_out,
+  le_out,
+  same_in,
+  lt_in,
+  le_in,
+  below_in,
+  at_most_in,
+  not_negative_in,
+  sum_is_lem,
+  neg_is,
+  product_is,
+  div_parts,
+  rem_parts,
+  fits_between,
+  back_between,
+  small_is,
+)

@@ -1,9 +1,7 @@
 //! Runs of days and of weeks that go back in time.
-ghost use Rattle.std.specs.Prelude.{◌≡◌, pos, ◌-ℤ◌, ◌<ℤ◌, ◌≤ℤ◌, MatchOption};
-ghost use Rattle.std.specs.Iterator.{at_most};
-ghost use Rattle.naive_base.specs.Range.{first_day};
-ghost use Rattle.naive_base.specs.NaiveDate.{day_of};
+ghost use Rattle.std.specs.{Iterator.{at_most}, Prelude.{◌≡◌, ◌<ℤ◌, ◌≤ℤ◌, ◌-ℤ◌, pos, MatchOption}};
 ghost use Rattle.naive_base.specs.Runs as runs;
+ghost use Rattle.naive_base.specs.{NaiveDate.{day_of}, Range.{first_day}};
 
 use crate::{NaiveDate, NaiveDateDaysIterator, NaiveDateWeeksIterator};
 use std::iter::FusedIterator;

@@ -1,15 +1,11 @@
 //! The days around a date, and runs of days and weeks.
-ghost use Rattle.std.specs.Prelude.{◌≡◌, pos, ◌+ℤ◌, ◌-ℤ◌, ◌*ℤ◌, ◌<ℤ◌, ◌≤ℤ◌, SomeIff, MatchOption, unsigned_abs};
 ghost use Rattle.std.specs.Iterator.{at_most};
-ghost use Rattle.gregorian.specs.Year.{is_leap};
-ghost use Rattle.gregorian.specs.DateOf.{year_of};
-ghost use Rattle.offset_core.specs.Nanoseconds.{nanos_per_day};
-ghost use Rattle.offset_core.specs.TimeDelta.{nanos_of};
+ghost use Rattle.std.specs.Prelude.{◌≡◌, ◌<ℤ◌, ◌≤ℤ◌, ◌+ℤ◌, ◌-ℤ◌, ◌*ℤ◌, pos, unsigned_abs, MatchOption, SomeIff};
+ghost use Rattle.offset_core.specs.{Nanoseconds.{nanos_per_day}, TimeDelta.{nanos_of}};
+ghost use Rattle.gregorian.specs.{DateOf.{year_of}, Year.{is_leap}};
+ghost use Rattle.naive_base.specs.{Months.{days_of}, Runs.{days_from, days_left, weeks_from, weeks_left}};
+ghost use Rattle.naive_base.specs.{NaiveDate.{day_of, IsDateOfDay}, Named.{is_earlier_in_year, whole_years}};
 ghost use Rattle.naive_base.specs.Range.{last_day};
-ghost use Rattle.naive_base.specs.Months.{days_of};
-ghost use Rattle.naive_base.specs.NaiveDate.{day_of, IsDateOfDay};
-ghost use Rattle.naive_base.specs.Named.{whole_years, is_earlier_in_year};
-ghost use Rattle.naive_base.specs.Runs.{days_from, weeks_from, days_left, weeks_left};
 
 use crate::{Datelike, Days, NaiveDate};
 use offset_core::TimeDelta;

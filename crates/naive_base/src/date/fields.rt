@@ -1,10 +1,8 @@
 //! A date's fields, and dates with a field changed.
-ghost use Rattle.std.specs.Prelude.{◌≡◌, ◌-◌, ◌≤◌, pos, ◌+ℤ◌, ◌↔◌, IsTrue, SomeIff, option_map};
-ghost use Rattle.naive_base.specs.Range.{IsYearInRange, IsInnerYear, IsDayInRange, IsInnerDay};
-ghost use Rattle.gregorian.specs.Date.{day_number};
-ghost use Rattle.gregorian.specs.Year.{year_start, days_in_year};
-ghost use Rattle.naive_base.specs.Fields.{MayShow, MayShowOrdinal};
-ghost use Rattle.naive_base.specs.NaiveDate.{day_of, IsDateOn};
+ghost use Rattle.std.specs.Prelude.{◌≡◌, ◌↔◌, ◌≤◌, ◌-◌, ◌+ℤ◌, option_map, pos, IsTrue, SomeIff};
+ghost use Rattle.gregorian.specs.{Date.{day_number}, Year.{days_in_year, year_start}};
+ghost use Rattle.naive_base.specs.{Fields.{MayShow, MayShowOrdinal}, NaiveDate.{day_of, IsDateOn}};
+ghost use Rattle.naive_base.specs.Range.{IsDayInRange, IsInnerDay, IsInnerYear, IsYearInRange};
 
 use crate::range::{FIRST_YEAR, LAST_YEAR};
 use crate::{Datelike, IsoWeek, NaiveDate, Weekday};

@@ -1,12 +1,10 @@
 //! Dates found by other names: a day of a year, of an ISO week or of a month's weekdays.
-ghost use Rattle.std.specs.Prelude.{◌≡◌, ◌+◌, ◌-◌, ◌*◌, ◌%◌, ◌<◌, ◌≤◌, ◌+ℤ◌, ◌-ℤ◌};
-ghost use Rattle.std.specs.Prelude.{ℤ, pos, SomeIff, IfSome, IsSome, MatchOption, option_map};
-ghost use Rattle.gregorian.specs.Year.{year_start, days_in_year};
-ghost use Rattle.naive_base.specs.NaiveDate.{day_of};
-ghost use Rattle.naive_base.specs.Named.{IsWeekdayOfMonth, IsDayOfIsoWeek, IsThursdayOfWeek};
-ghost use Rattle.naive_base.specs.Steps.Moves.{IsWithin};
-ghost use Rattle.naive_base.specs.Range.{IsYearInRange, IsInnerYear, IsDayInRange, IsInnerDay};
-ghost use Rattle.naive_base.specs.Weekday.{weekday_of, weekday_number, days_from_monday};
+ghost use Rattle.std.specs.Prelude.{◌≡◌, ◌<◌, ◌≤◌, ◌+◌, ◌-◌, ◌*◌, ◌%◌, ◌+ℤ◌, ◌-ℤ◌, option_map, pos, IfSome, IsSome};
+ghost use Rattle.std.specs.Prelude.{MatchOption, SomeIff, ℤ};
+ghost use Rattle.gregorian.specs.Year.{days_in_year, year_start};
+ghost use Rattle.naive_base.specs.{NaiveDate.{day_of}, Range.{IsDayInRange, IsInnerDay, IsInnerYear, IsYearInRange}};
+ghost use Rattle.naive_base.specs.{Named.{IsDayOfIsoWeek, IsThursdayOfWeek, IsWeekdayOfMonth}, Steps.Moves.{IsWithin}};
+ghost use Rattle.naive_base.specs.Weekday.{days_from_monday, weekday_number, weekday_of};
 
 use crate::range::{FIRST_YEAR, LAST_YEAR};
 use crate::{Datelike, NaiveDate, Weekday};

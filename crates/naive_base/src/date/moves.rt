@@ -1,12 +1,9 @@
 //! Dates moved by months and by days.
-ghost use Rattle.std.specs.Prelude.{◌≡◌, ◌≤◌, pos, neg_ℤ, SomeIff, option_map, min, int_div};
-ghost use Rattle.offset_core.specs.Nanoseconds.{nanos_per_day};
-ghost use Rattle.offset_core.specs.TimeDelta.{nanos_of};
-ghost use Rattle.naive_base.specs.Months.{month_number, year_of_number, month_of_number, months_of, days_of};
-ghost use Rattle.naive_base.specs.Range.{IsWideYear};
-ghost use Rattle.naive_base.specs.Fields.{MayShowDay, IsMonthsLater, IsDaysLater, month_after};
-ghost use Rattle.naive_base.specs.Steps.Moves.{IsWithin, IsInMonth};
-ghost use Rattle.naive_base.specs.NaiveDate.{day_of, IsDateOn};
+ghost use Rattle.std.specs.Prelude.{◌≡◌, ◌≤◌, int_div, neg_ℤ, option_map, pos, SomeIff};
+ghost use Rattle.offset_core.specs.{Nanoseconds.{nanos_per_day}, TimeDelta.{nanos_of}};
+ghost use Rattle.naive_base.specs.Fields.{month_after, IsDaysLater, IsMonthsLater, MayShowDay};
+ghost use Rattle.naive_base.specs.Months.{days_of, month_number, month_of_number, months_of, year_of_number};
+ghost use Rattle.naive_base.specs.{NaiveDate.{day_of, IsDateOn}, Range.{IsWideYear}, Steps.Moves.{IsInMonth, IsWithin}};
 
 use crate::range::{FIRST_DAY_IN_RANGE, LAST_DAY_IN_RANGE};
 use crate::{Days, Months, NaiveDate};

@@ -1,12 +1,9 @@
 //! The operators of dates. Each requires a result in range; the checked forms return `None` for any
 //! other.
-ghost use Rattle.std.specs.Prelude.{◌≡◌, pos, neg_ℤ, ◌+ℤ◌, ◌-ℤ◌, ◌*ℤ◌, int_div, Some};
-ghost use Rattle.offset_core.specs.Nanoseconds.{nanos_per_day};
-ghost use Rattle.offset_core.specs.TimeDelta.{nanos_of};
-ghost use Rattle.naive_base.specs.Fields.{MayShowDay, IsMonthsLater, month_after};
-ghost use Rattle.naive_base.specs.Months.{months_of, days_of, year_of_number};
-ghost use Rattle.naive_base.specs.NaiveDate.{day_of, IsDateOn};
-ghost use Rattle.naive_base.specs.Range.{IsYearInRange};
+ghost use Rattle.std.specs.Prelude.{◌≡◌, ◌+ℤ◌, ◌-ℤ◌, ◌*ℤ◌, int_div, neg_ℤ, pos, Some};
+ghost use Rattle.offset_core.specs.{Nanoseconds.{nanos_per_day}, TimeDelta.{nanos_of}};
+ghost use Rattle.naive_base.specs.{Fields.{month_after, IsMonthsLater, MayShowDay}, NaiveDate.{day_of, IsDateOn}};
+ghost use Rattle.naive_base.specs.{Months.{days_of, months_of, year_of_number}, Range.{IsYearInRange}};
 
 use crate::{Days, Months, NaiveDate};
 use offset_core::TimeDelta;

@@ -1,9 +1,8 @@
 //! The fields of a local date-time, and local date-times with a field changed or moved by months
 //! and days.
-ghost use Rattle.std.specs.Prelude.{pos, neg_ℤ};
-ghost use Rattle.naive_base.specs.Months.{months_of, days_of};
-ghost use Rattle.naive_base.specs.Fields.{IsMonthsLater, IsDaysLater, time_at};
-ghost use Rattle.naive_base.specs.NaiveDateTime.{reading, day_shown_by, IsReadingOnDay, IsReadingAtTime};
+ghost use Rattle.std.specs.Prelude.{neg_ℤ, pos};
+ghost use Rattle.naive_base.specs.{Fields.{time_at, IsDaysLater, IsMonthsLater}, Months.{days_of, months_of}};
+ghost use Rattle.naive_base.specs.NaiveDateTime.{day_shown_by, reading, IsReadingAtTime, IsReadingOnDay};
 
 use crate::{Datelike, Days, IsoWeek, Months, NaiveDateTime, Timelike, Weekday};
 

@@ -1,10 +1,8 @@
 //! Local date-times moved by a length of time, and the time between two.
-ghost use Rattle.std.specs.Prelude.{◌≡◌, ◌<◌, ◌≤ℤ◌, ◌<ℤ◌, pos, neg_ℤ, ◌+ℤ◌, ◌-ℤ◌, ◌*ℤ◌, int_div, int_rem};
-ghost use Rattle.offset_core.specs.Nanoseconds.{nanos_per_second};
-ghost use Rattle.offset_core.specs.TimeDelta.{nanos_of};
-ghost use Rattle.naive_base.specs.Reading.{total, of_total, moved, moved_leap, leap_between, difference};
-ghost use Rattle.naive_base.specs.Steps.Moves.{IsSmall, IsShort, IsWithin};
-ghost use Rattle.naive_base.specs.NaiveDateTime.{reading, IsReadingOf};
+ghost use Rattle.std.specs.Prelude.{◌≡◌, ◌<◌, ◌<ℤ◌, ◌≤ℤ◌, ◌+ℤ◌, ◌-ℤ◌, ◌*ℤ◌, int_div, int_rem, neg_ℤ, pos};
+ghost use Rattle.offset_core.specs.{Nanoseconds.{nanos_per_second}, TimeDelta.{nanos_of}};
+ghost use Rattle.naive_base.specs.{NaiveDateTime.{reading, IsReadingOf}, Steps.Moves.{IsShort, IsSmall, IsWithin}};
+ghost use Rattle.naive_base.specs.Reading.{difference, leap_between, moved, moved_leap, of_total, total};
 
 use crate::NaiveDateTime;
 use offset_core::TimeDelta;

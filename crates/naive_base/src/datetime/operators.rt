@@ -1,13 +1,11 @@
 //! The operators of local date-times. Each requires a result in range; the checked forms return `None` for
 //! any other.
-ghost use Rattle.std.specs.Prelude.{◌≡◌, pos, neg_ℤ, ◌+ℤ◌, Some};
-ghost use Rattle.offset_core.specs.FixedOffset.{seconds_of};
-ghost use Rattle.offset_core.specs.TimeDelta.{nanos_of};
-ghost use Rattle.naive_base.specs.Fields.{MayShowDay, IsMonthsLater, month_after};
-ghost use Rattle.naive_base.specs.Months.{months_of, days_of, year_of_number};
-ghost use Rattle.naive_base.specs.NaiveDateTime.{reading, day_shown_by, IsReadingOnDay};
-ghost use Rattle.naive_base.specs.Range.{IsInRange, IsYearInRange};
-ghost use Rattle.naive_base.specs.Reading.{reading_at, day_at, second_at, ahead, behind, moved, difference};
+ghost use Rattle.std.specs.Prelude.{◌≡◌, ◌+ℤ◌, neg_ℤ, pos, Some};
+ghost use Rattle.offset_core.specs.{FixedOffset.{seconds_of}, TimeDelta.{nanos_of}};
+ghost use Rattle.naive_base.specs.{Fields.{month_after, IsMonthsLater, MayShowDay}, Range.{IsInRange, IsYearInRange}};
+ghost use Rattle.naive_base.specs.Months.{days_of, months_of, year_of_number};
+ghost use Rattle.naive_base.specs.NaiveDateTime.{day_shown_by, reading, IsReadingOnDay};
+ghost use Rattle.naive_base.specs.Reading.{ahead, behind, day_at, difference, moved, reading_at, second_at};
 
 use crate::{Days, Months, NaiveDateTime};
 use offset_core::{FixedOffset, TimeDelta};

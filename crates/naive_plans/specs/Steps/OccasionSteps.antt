@@ -22,7 +22,7 @@ pub record IsEndOfLast (r : RecurrenceRule) (start second end : ℤ) : Type 0 wh
   pub not_here : IsCounted r start second → ⊥
   pub bound : ((start -ℤ pos 31_708_800) ≤ℤ end) × (end <ℤ pos 345_600_086_400)
 
--- the rule's periods are hours, minutes or seconds, of so many seconds
+-- the rule's periods are hours, minutes or seconds, and each has `n` seconds
 abbrev pub IsPartOfHours : RecurrenceRule → ℕ → Type 0
 IsPartOfHours r n = ((r.frequency ≡ Hourly) × (n ≡ 3600)) ⊎ ((r.frequency ≡ Minutely) × (n ≡ 60)) ⊎ ((r.frequency ≡ Secondly) × (n ≡ 1))
 

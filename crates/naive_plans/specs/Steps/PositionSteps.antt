@@ -5,7 +5,7 @@ use Rattle.naive_plans.specs.Steps.OccasionSteps.{IsPartOfHours}
 use Rattle.naive_plans.specs.declared.rule.Frequency.TheVariants.{Daily}
 use Rattle.naive_plans.specs.declared.rule.RecurrenceRule.{RecurrenceRule}
 
--- the rule's periods are days, hours, minutes or seconds, of so many seconds
+-- the rule's periods are days, hours, minutes or seconds, and each has `n` seconds
 abbrev pub IsLength : RecurrenceRule → ℕ → Type 0
 IsLength r n = ((r.frequency ≡ Daily) × (n ≡ 86_400)) ⊎ IsPartOfHours r n
 
@@ -15,7 +15,7 @@ pub record HasSecondAt (r : RecurrenceRule) (start length second : ℕ) : Type 0
   pub minute : 60 < length → HasMinute r start second
   pub at_second : 1 < length → HasSecond r start second
 
--- so many members of a set, and one more: the first and the last of them
+-- `n + 1` rising members of a set: `from` is the first of them, `to` the last
 abbrev pub IsChain : (ℤ → Type 0) → ℤ → ℕ → ℤ → Type 0
 IsChain set from zero to = set to × (from ≡ to)
 IsChain set from (suc n) to = (k : ℤ) × IsChain set from n k × set to × (k <ℤ to)

@@ -1,8 +1,7 @@
 //! Lengths of time added, multiplied and divided.
-ghost use Rattle.std.specs.Prelude.{◌≡◌, ◌≢◌, ◌↔◌, ◌+ℤ◌, ◌-ℤ◌, ◌*ℤ◌};
-ghost use Rattle.std.specs.Prelude.{IsTrue, pos, neg_ℤ, ◌<ℤ◌, ◌≤ℤ◌, int_div, unsigned_abs, SomeIff, option_map};
-ghost use Rattle.offset_core.specs.Nanoseconds.{nearest_length};
-ghost use Rattle.offset_core.specs.TimeDelta.{nanos_of, IsDeltaOf};
+ghost use Rattle.std.specs.Prelude.{◌≡◌, ◌≢◌, ◌↔◌, ◌<ℤ◌, ◌≤ℤ◌, ◌+ℤ◌, ◌-ℤ◌, ◌*ℤ◌, int_div, neg_ℤ, option_map, pos};
+ghost use Rattle.std.specs.Prelude.{unsigned_abs, IsTrue, SomeIff};
+ghost use Rattle.offset_core.specs.{Nanoseconds.{nearest_length}, TimeDelta.{nanos_of, IsDeltaOf}};
 
 use crate::TimeDelta;
 

@@ -1,8 +1,7 @@
 //! The operators of lengths of time. Each requires a result in range; the checked forms return
 //! `None` for any other.
-ghost use Rattle.std.specs.Prelude.{◌≡◌, ◌≢◌, pos, neg_ℤ, ◌+ℤ◌, ◌-ℤ◌, ◌*ℤ◌, int_div};
-ghost use Rattle.offset_core.specs.Nanoseconds.{FitsTimeDelta};
-ghost use Rattle.offset_core.specs.TimeDelta.{nanos_of};
+ghost use Rattle.std.specs.Prelude.{◌≡◌, ◌≢◌, ◌+ℤ◌, ◌-ℤ◌, ◌*ℤ◌, int_div, neg_ℤ, pos};
+ghost use Rattle.offset_core.specs.{Nanoseconds.{FitsTimeDelta}, TimeDelta.{nanos_of}};
 
 use crate::TimeDelta;
 use std::ops::{Add, AddAssign, Div, Mul, Neg, Sub, SubAssign};

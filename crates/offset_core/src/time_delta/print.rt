@@ -1,9 +1,7 @@
 //! How lengths of time print.
-ghost use Rattle.std.specs.Prelude.{◌≡◌, ◌+◌, ◌<◌, ◌≤◌, ◌++◌, length, Some};
-ghost use Rattle.offset_core.specs.Digits.{in_digits};
-ghost use Rattle.offset_core.specs.LengthText.{part_text, without_zeros, seconds_text, length_text, printed_length};
-ghost use Rattle.offset_core.specs.Nanoseconds.{FitsTimeDelta};
-ghost use Rattle.std.specs.Fmt.{decimal};
+ghost use Rattle.std.specs.{Fmt.{decimal}, Prelude.{◌≡◌, ◌<◌, ◌≤◌, ◌+◌, ◌++◌, length, Some}};
+ghost use Rattle.offset_core.specs.{Digits.{in_digits}, Nanoseconds.{FitsTimeDelta}};
+ghost use Rattle.offset_core.specs.LengthText.{length_text, part_text, printed_length, seconds_text, without_zeros};
 
 use crate::{ShortText, TimeDelta};
 use std::fmt;

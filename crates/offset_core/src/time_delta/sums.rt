@@ -1,9 +1,7 @@
 //! Sums of lengths of time.
-ghost use Rattle.std.specs.Prelude.{◌≡◌, List, [], ◌∷◌, ◌++◌};
-ghost use Rattle.std.specs.Iterator.{IsFinite, Drains, HoldsAlong};
-ghost use Rattle.offset_core.specs.declared.time_delta.TimeDelta.{TimeDelta as AnyDelta};
+ghost use Rattle.std.specs.{Iterator.{Drains, HoldsAlong, IsFinite}, Prelude.{◌≡◌, ◌++◌, ◌∷◌, [], List}};
 ghost use Rattle.offset_core.specs.Nanoseconds.{FitsTimeDelta};
-ghost use Rattle.offset_core.specs.TimeDelta.{nanos_of, sum_of, sum_behind, IsCheckedSum};
+ghost use Rattle.offset_core.specs.TimeDelta.{nanos_of, sum_behind, sum_of, IsCheckedSum};
 
 use crate::TimeDelta;
 use std::iter::Sum;
@@ -39,7 +37,7 @@ impl TimeDelta {
     pub fn checked_sum<I: Iterator<Item = TimeDelta>>(iter: I) -> Option<TimeDelta>
         requires can { I.can_next iter }
         requires finite { IsFinite (I.remaining iter) }
-        ensures { (deltas : List AnyDelta) × Drains I.next_gives iter deltas
+        ensures { (deltas : List TimeDelta) × Drains I.next_gives iter deltas
             × IsCheckedSum deltas result }
     {
         let mut total = Some(TimeDelta::zero());
@@ -53,7 +51,7 @@ impl TimeDelta {
 // The sum of a total and a length, if there is a total and the sum is in range.
 #[tactic(auto, using(crate::proofs::TimeDeltas::sums_join, crate::proofs::TimeDeltas::sums_split))]
 fn added(total: Option<TimeDelta>, delta: TimeDelta) -> Option<TimeDelta>
-    ensures { (deltas : List AnyDelta) → IsCheckedSum deltas total
+    ensures { (deltas : List TimeDelta) → IsCheckedSum deltas total
         → IsCheckedSum (deltas ++ (delta ∷ [])) result }
 {
     total?.checked_add(&delta)
@@ -78,7 +76,7 @@ fn sum_all<I: Iterator<Item = TimeDelta>>(iter: I) -> TimeDelta
     requires can { I.can_next iter }
     requires finite { IsFinite (I.remaining iter) }
     requires fits { HoldsAlong I.next_gives iter (λ deltas. FitsTimeDelta (sum_of deltas)) }
-    ensures { (deltas : List AnyDelta) × Drains I.next_gives iter deltas
+    ensures { (deltas : List TimeDelta) × Drains I.next_gives iter deltas
         × (nanos_of result ≡ sum_of deltas) }
 {
     let mut total = TimeDelta::zero();

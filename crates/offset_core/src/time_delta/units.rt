@@ -1,7 +1,6 @@
 //! A length of time in each of its units.
-ghost use Rattle.std.specs.Prelude.{◌≡◌, ◌<ℤ◌, pos, FitsSigned, SomeIff, MatchResult, int_div, int_rem};
-ghost use Rattle.std.specs.Int.{w64};
 ghost use Rattle.std.specs.Duration.{as_nanos};
+ghost use Rattle.std.specs.{Int.{w64}, Prelude.{◌≡◌, ◌<ℤ◌, int_div, int_rem, pos, FitsSigned, MatchResult, SomeIff}};
 ghost use Rattle.offset_core.specs.Nanoseconds as lengths;
 ghost use Rattle.offset_core.specs.TimeDelta.{nanos_of};
 

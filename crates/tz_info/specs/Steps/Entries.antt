@@ -1,5 +1,6 @@
 -- A zone's transitions as one list of clock changes by Unix time: its entries, each a Unix second and the index of a type.
-use Rattle.std.specs.Prelude.{ℕ, ℤ, ◌≡◌, ◌≢◌, ◌⊎◌, ◌+◌, ◌-◌, ◌<◌, ◌≤◌, Some, ◌≤ℤ◌, ◌<ℤ◌, ◌↔◌, ◌++◌, [], ◌∷◌, List, length, map, Bool, true, false, FitsSigned, slice_index_or, IsTrue, Option, None, zero, suc}
+use Rattle.std.specs.Prelude.{ℕ, ℤ, ◌≡◌, ◌≢◌, ◌⊎◌, ◌+◌, ◌-◌, ◌<◌, ◌≤◌, Some, ◌≤ℤ◌, ◌<ℤ◌, ◌↔◌, ◌++◌, [], ◌∷◌, List, length, map, Bool, true, false, FitsSigned}
+use Rattle.std.specs.Prelude.{slice_index_or, IsTrue, Option, None, zero, suc}
 use Rattle.std.specs.Int.{w64}
 use Rattle.std.specs.List.{slice_get}
 use Rattle.tz_base.specs.LocalTypes.{LocalType}
@@ -33,7 +34,8 @@ pub record IsEntryAt (entries : List Transition) (place : ℕ) (e : Entry) : Typ
   pub after : e.after ≡ index_of entries (place + 1)
   pub at : e.at ≡ begin_of entries (place + 1)
 
--- the entries are those of the zone: they rise, at each second with a leap time the last one that has come names the type of the last transition that has, `all` of them
+-- the entries are those of the zone: they rise, at each second with a leap time the last one that has come names the type of the last transition that has,
+-- `all` of them
 -- have come once all transitions have, and each comes at a second with a leap time and changes the type, except perhaps the last one with the last transition
 pub record AreEntries (z : Zone) (e : Entries) : Type 0 where
   pub listed : e.transitions ≡ z.transitions
@@ -68,7 +70,8 @@ pub data AreBefore (entries : List Transition) (second : ℤ) (kept : List Trans
 
 -- one entry more, if it is the last one or changes the type in force after the others
 pub data IsAdded (types : List LocalType) (kept : List Transition) (entry : Transition) (is_last : Bool) (entries : List Transition) : Type 0 where
-  added : entries ≡ kept ++ (entry ∷ []) → (is_last ≡ true) ⊎ (slice_get types entry.type_index ≢ slice_get types (last_index kept)) → IsAdded types kept entry is_last entries
+  added : entries ≡ kept ++ (entry ∷ []) → (is_last ≡ true) ⊎ (slice_get types entry.type_index ≢ slice_get types (last_index kept))
+      → IsAdded types kept entry is_last entries
   idle : entries ≡ kept → is_last ≡ false → slice_get types entry.type_index ≡ slice_get types (last_index kept) → IsAdded types kept entry is_last entries
 
 -- what has come at the second u: the index of the type in force after it, and whether all transitions have

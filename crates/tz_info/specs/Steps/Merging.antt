@@ -9,7 +9,8 @@ use Rattle.tz_info.specs.declared.zone.made.shown.Shown.{Shown}
 pub record IsMerged (before_first : Shown) (first : List Piece) (before_last : Shown) (last : List Piece) (pieces : List Piece) : Type 0 where
   pub ordered : AreInOrder pieces
   pub count : length pieces ≡ length first + length last
-  pub answers : (local : ℤ) → answer_at (together before_first before_last) pieces local ≡ together (answer_at before_first first local) (answer_at before_last last local)
+  pub answers : (local : ℤ) → answer_at (together before_first before_last) pieces local
+      ≡ together (answer_at before_first first local) (answer_at before_last last local)
 
 -- the piece at place i of xs comes before that at place j of ys, if there is one
 pub record IsNext (xs : List Piece) (i : ℕ) (ys : List Piece) (j : ℕ) : Type 0 where

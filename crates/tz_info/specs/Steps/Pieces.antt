@@ -1,5 +1,6 @@
 -- The pieces of some neighbouring segments, and the search in them.
-use Rattle.std.specs.Prelude.{ℕ, zero, suc, ℤ, ◌≡◌, ◌⊎◌, ◌+◌, ◌-◌, ◌*◌, ◌<◌, ◌≤◌, ◌+ℤ◌, ◌≤ℤ◌, if◌then◌else◌, nat_lt, List, length, Option, None as none, slice_get, Some as some}
+use Rattle.std.specs.Prelude.{ℕ, zero, suc, ℤ, ◌≡◌, ◌⊎◌, ◌+◌, ◌-◌, ◌*◌, ◌<◌, ◌≤◌, ◌+ℤ◌, ◌≤ℤ◌, if◌then◌else◌, nat_lt, List, length, Option, None as none}
+use Rattle.std.specs.Prelude.{slice_get, Some as some}
 use Rattle.std.specs.Int.{saturate_signed, w64}
 use Rattle.naive_base.specs.Range.{IsWide}
 use Rattle.offset_core.specs.declared.local_result.LocalResult.{LocalResult}
@@ -41,7 +42,8 @@ IsPlaced count _ = Unit {0}
 -- the change at which the segment at a jump's place begins, or none if the answer is no jump
 abbrev pub IsJump : List LocalType → List Transition → Shown → Option Change → Type 0
 IsJump types entries (Skipped place) (some c) =
-    (c.at ≡ begin_of entries place) × (slice_get types (index_of entries (place - 1)) ≡ some c.before) × (slice_get types (index_of entries place) ≡ some c.after)
+    (c.at ≡ begin_of entries place) × (slice_get types (index_of entries (place - 1)) ≡ some c.before)
+    × (slice_get types (index_of entries place) ≡ some c.after)
 IsJump types entries (Skipped place) none = ⊥
 IsJump types entries _ none = Unit {0}
 IsJump types entries _ (some c) = ⊥

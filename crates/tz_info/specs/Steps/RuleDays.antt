@@ -33,16 +33,23 @@ closed_day (MonthWeekday month week weekday) year =
     day_number year month 1 +ℤ pos (weekday_place (days_in_month (is_leap year) month) (weekday_of (day_number year month 1)) week weekday)
 
 -- the place that the closed form finds in a month, over numbers alone
-pub place_kept : (days first week weekday : ℕ) → 28 ≤ days → days ≤ 31 → first < 7 → 1 ≤ week → week ≤ 5 → weekday ≤ 6 → (weekday_place days first week weekday < days) × ((first + weekday_place days first week weekday) % 7 ≡ weekday) × (week < 5 → (7 * (week - 1) ≤ weekday_place days first week weekday) × (weekday_place days first week weekday < 7 * week)) × (week ≡ 5 → days ≤ weekday_place days first week weekday + 7)
+pub place_kept : (days first week weekday : ℕ) → 28 ≤ days → days ≤ 31 → first < 7 → 1 ≤ week → week ≤ 5 → weekday ≤ 6
+    → (weekday_place days first week weekday < days) × ((first + weekday_place days first week weekday) % 7 ≡ weekday)
+    × (week < 5 → (7 * (week - 1) ≤ weekday_place days first week weekday) × (weekday_place days first week weekday < 7 * week))
+    × (week ≡ 5 → days ≤ weekday_place days first week weekday + 7)
 place_kept days first week weekday a b c e f g =
     (grind (arith, nat_tests), grind (arith, nat_tests), λ h. (grind (arith, nat_tests), grind (arith, nat_tests)), λ h. grind (arith, nat_tests))
 
 -- the same in a month of a year
-pub place_in_month : (year : ℤ) (month week weekday : ℕ) → 1 ≤ week → week ≤ 5 → weekday ≤ 6 → let days = days_in_month (is_leap year) month in let first = weekday_of (day_number year month 1) in
-    (weekday_place days first week weekday < days) × ((first + weekday_place days first week weekday) % 7 ≡ weekday) × (week < 5 → (7 * (week - 1) ≤ weekday_place days first week weekday) × (weekday_place days first week weekday < 7 * week)) × (week ≡ 5 → days ≤ weekday_place days first week weekday + 7)
+pub place_in_month : (year : ℤ) (month week weekday : ℕ) → 1 ≤ week → week ≤ 5 → weekday ≤ 6 → let days = days_in_month (is_leap year) month in
+    let first = weekday_of (day_number year month 1) in
+    (weekday_place days first week weekday < days) × ((first + weekday_place days first week weekday) % 7 ≡ weekday)
+    × (week < 5 → (7 * (week - 1) ≤ weekday_place days first week weekday) × (weekday_place days first week weekday < 7 * week))
+    × (week ≡ 5 → days ≤ weekday_place days first week weekday + 7)
 place_in_month year month week weekday low high most =
     let bounds = month_bounds (is_leap year) month in
-    place_kept (days_in_month (is_leap year) month) (weekday_of (day_number year month 1)) week weekday bounds.0 bounds.1 (weekday_below (day_number year month 1)) low high most
+    place_kept (days_in_month (is_leap year) month) (weekday_of (day_number year month 1)) week weekday bounds.0 bounds.1
+    (weekday_below (day_number year month 1)) low high most
 
 -- the weekday of a day of the month, from that of the first
 pub weekday_at : (year : ℤ) (month day : ℕ) → 1 ≤ day → weekday_of (day_number year month day) ≡ (weekday_of (day_number year month 1) + (day - 1)) % 7
@@ -51,10 +58,12 @@ weekday_at year month day low = ap weekday_of (number_at year month day low) ∙
 pub number_after : (year : ℤ) (month place : ℕ) → day_number year month (place + 1) ≡ day_number year month 1 +ℤ pos place
 number_after year month place = let back : place + 1 - 1 ≡ place = omega arith in rw back at (number_at year month (place + 1) (omega arith))
 
-before_last : (first days place other weekday : ℕ) → first < 7 → (first + place) % 7 ≡ weekday → days ≤ place + 7 → 1 ≤ other → other ≤ days → (first + (other - 1)) % 7 ≡ weekday → other ≤ place + 1
+before_last : (first days place other weekday : ℕ) → first < 7 → (first + place) % 7 ≡ weekday → days ≤ place + 7 → 1 ≤ other → other ≤ days
+    → (first + (other - 1)) % 7 ≡ weekday → other ≤ place + 1
 before_last first days place other weekday a b c e f g = omega arith
 
-pub weekday_is : (year : ℤ) (month week weekday : ℕ) → 1 ≤ month → month ≤ 12 → 1 ≤ week → week ≤ 5 → weekday ≤ 6 → IsWeekdayInWeek year month week weekday (weekday_place (days_in_month (is_leap year) month) (weekday_of (day_number year month 1)) week weekday + 1)
+pub weekday_is : (year : ℤ) (month week weekday : ℕ) → 1 ≤ month → month ≤ 12 → 1 ≤ week → week ≤ 5 → weekday ≤ 6
+    → IsWeekdayInWeek year month week weekday (weekday_place (days_in_month (is_leap year) month) (weekday_of (day_number year month 1)) week weekday + 1)
 weekday_is year month week weekday first_month last_month first_week last_week last_day =
     let days = days_in_month (is_leap year) month in
     let first = weekday_of (day_number year month 1) in
@@ -87,10 +96,15 @@ common_place : (year : ℤ) (n month day : ℕ) → IsCommonDate n month day →
 common_place year n month day h =
     by_place (is_leap year) n (days_of_months (is_leap year) (month - 1) + (day - 1))
     (λ lt.
-    let early : month ≤ 2 = elim (cases_lt month 3) [ inl a ↦ omega arith | inr a ↦ absurd (omega (arith, common_months.1, months_rise false 2 (month - 1) (omega arith), h.4, h.2)) ] in
+    let early : month ≤ 2 = elim (cases_lt month 3) [
+      | inl a ↦ omega arith
+      | inr a ↦ absurd (omega (arith, common_months.1, months_rise false 2 (month - 1) (omega arith), h.4, h.2))
+    ] in
     omega (arith, before_march (is_leap year) month h.0 early, h.4, h.2))
     (λ ge.
-    let late : 3 ≤ month = elim (cases_lt month 3) [ inl a ↦ absurd (omega (arith, common_months.1, months_step false month h.0, months_rise false month 2 (omega arith), h.4, h.3)) | inr a ↦ a ] in
+    let late : 3 ≤ month =
+    elim (cases_lt month 3)
+    [ inl a ↦ absurd (omega (arith, common_months.1, months_step false month h.0, months_rise false month 2 (omega arith), h.4, h.3)) | inr a ↦ a ] in
     omega (arith, from_march (is_leap year) month late h.1, h.4, h.2))
 
 common_date : (n : ℕ) → 1 ≤ n → n ≤ 365 → (month : ℕ) × (day : ℕ) × IsCommonDate n month day
@@ -111,8 +125,11 @@ pub closed_day_is : (form : DayForm) (year : ℤ) → IsRuleDay form → IsDayOf
 unfolding closed_day
 closed_day_is (Julian1 n) year fits = let date = common_date n fits.0 fits.1 in (date.0, date.1, date.2, julian_is year n date.0 date.1 date.2)
 closed_day_is (Julian0 n) year fits = rw (first_of_year year) refl
-closed_day_is (MonthWeekday month week weekday) year fits =
-    (_, weekday_is year month week weekday fits.0 fits.1 fits.2 fits.3 fits.4, sym (number_after year month (weekday_place (days_in_month (is_leap year) month) (weekday_of (day_number year month 1)) week weekday)))
+closed_day_is (MonthWeekday month week weekday) year fits = (
+  _,
+  weekday_is year month week weekday fits.0 fits.1 fits.2 fits.3 fits.4,
+  sym (number_after year month (weekday_place (days_in_month (is_leap year) month) (weekday_of (day_number year month 1)) week weekday)),
+)
 
 pub some_day : (form : DayForm) (year : ℤ) → (number : ℤ) × (IsRuleDay form → IsDayOf form year number)
 some_day form year = (closed_day form year, closed_day_is form year)

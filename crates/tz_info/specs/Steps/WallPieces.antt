@@ -1,5 +1,6 @@
 -- The wall-clock axis of a zone in pieces: on each of them the segments between the zone's entries answer alike.
-use Rattle.std.specs.Prelude.{ℕ, ℤ, pos, ◌≡◌, ◌⊎◌, ◌+◌, ◌*◌, ◌<◌, ◌≤◌, ◌+ℤ◌, ◌≤ℤ◌, ◌<ℤ◌, ◌↔◌, int_le, List, length, map, filter, AllPairs, FitsSigned, suc, Option}
+use Rattle.std.specs.Prelude.{ℕ, ℤ, pos, ◌≡◌, ◌⊎◌, ◌+◌, ◌*◌, ◌<◌, ◌≤◌, ◌+ℤ◌, ◌≤ℤ◌, ◌<ℤ◌, ◌↔◌, int_le, List, length, map, filter, AllPairs, FitsSigned, suc}
+use Rattle.std.specs.Prelude.{Option}
 use Rattle.std.specs.Prelude.{None as none, Some as some}
 use Rattle.std.specs.Int.{w64}
 use Rattle.naive_base.specs.Range.{IsWide}
@@ -75,7 +76,8 @@ shown_indexes (Several i j) = Ambiguous i j
 
 -- at each near second of the segments from `low` on and before `high` clocks show less than the local time
 abbrev pub AreLessAmong : Zone → List Transition → ℕ → ℕ → ℤ → Type 0
-AreLessAmong z entries low high local = (u : ℤ) (t : LocalType) → IsNear u → low ≤ place_at entries u → place_at entries u < high → TypeAt z u t → (u +ℤ t.offset) <ℤ local
+AreLessAmong z entries low high local = (u : ℤ) (t : LocalType) → IsNear u → low ≤ place_at entries u → place_at entries u < high
+    → TypeAt z u t → (u +ℤ t.offset) <ℤ local
 
 -- clocks jump over the local time when the segment at that place begins: at the seconds of the segments from `low` on and before it they show less, and at
 -- its first second they show more

@@ -1,9 +1,8 @@
 //! The data blocks of a file (RFC 8536 section 3.2).
 
-ghost use Rattle.std.specs.Prelude.{◌≡◌, ◌≤◌};
-ghost use Rattle.tz_base.specs.Fronts.{Gives};
-ghost use Rattle.tz_base.specs.Grammar.{read};
-ghost use Rattle.tz_info.specs.FileBlocks.{parts_of, block};
+ghost use Rattle.std.specs.Prelude.{◌≤◌};
+ghost use Rattle.tz_base.specs.{Fronts.{Gives}, Grammar.{read}};
+ghost use Rattle.tz_info.specs.FileBlocks.{block, parts_of};
 
 use crate::file::header::Counts;
 use tz_base::{Cursor, Error};

@@ -1,10 +1,9 @@
 //! What the records of a data block say (RFC 8536 section 3.2).
 
-ghost use Rattle.std.specs.Prelude.{◌≡◌, ◌≤◌, ◌*◌, ◌+◌, ◌⊎◌, length, slice_index};
+ghost use Rattle.std.specs.Prelude.{◌≡◌, ◌⊎◌, ◌+◌, ◌*◌, length, slice_index};
 ghost use Rattle.tz_base.specs.Fronts.{Gives};
-ghost use Rattle.tz_info.specs.Steps.ContentReading.{GivesInMemory, values_below, transition_in, leap_second_in};
-ghost use Rattle.tz_info.specs.Steps.ContentReading.{leap_second_of, pair_agrees, indicators_of};
-ghost use Rattle.tz_info.specs.Steps.Below.{all_below};
+ghost use Rattle.tz_info.specs.Steps.{Below.{all_below}, ContentReading.{transition_in, values_below, GivesInMemory}};
+ghost use Rattle.tz_info.specs.Steps.ContentReading.{indicators_of, leap_second_in, leap_second_of, pair_agrees};
 
 use crate::file::numbers::{record_at, signed_32, time_of};
 use crate::zone::LeapSecond;

@@ -1,12 +1,9 @@
 //! The footer of a file (RFC 8536 section 3.3).
 
-ghost use Rattle.std.specs.Prelude.{◌≡◌};
-ghost use Rattle.std.specs.List.{list_any};
-ghost use Rattle.std.specs.Str.{is_utf8};
+ghost use Rattle.std.specs.{List.{list_any}, Prelude.{◌≡◌}, Str.{is_utf8}};
 ghost use Rattle.tz_base.specs.Fronts.{Gives};
-ghost use Rattle.tz_info.specs.Steps.ContentReading.{is_zero};
-ghost use Rattle.tz_info.specs.Steps.FooterReading.{trimmed, is_between_newlines, is_no_text, rule_in, rule_or_none};
-ghost use Rattle.tz_info.specs.Steps.FooterReading.{text_or_none, footer_at};
+ghost use Rattle.tz_info.specs.Steps.{ContentReading.{is_zero}, FooterReading.{text_or_none, trimmed}};
+ghost use Rattle.tz_info.specs.Steps.FooterReading.{footer_at, is_between_newlines, is_no_text, rule_in, rule_or_none};
 
 use crate::file::contents::byte_or_zero;
 use crate::rule::TransitionRule;

@@ -1,12 +1,8 @@
 //! The headers of a file (RFC 8536 section 3.1).
 
-ghost use Rattle.std.specs.Prelude.{◌≡◌};
-ghost use Rattle.std.specs.Result.{IsErrAnd};
-ghost use Rattle.tz_base.specs.Fronts.{Gives};
-ghost use Rattle.tz_base.specs.declared.error.Error.TheVariants.{InvalidTzFile};
-ghost use Rattle.tz_base.specs.declared.error.Expected.TheVariants.{TZifAtFrontOfHeader};
-ghost use Rattle.tz_base.specs.Grammar.{read};
-ghost use Rattle.tz_info.specs.FileHeaders.{HasOtherMagic, tzif, version_1, version, six_counts, counts_agree, header};
+ghost use Rattle.std.specs.{Prelude.{◌≡◌}, Result.{IsErrAnd}};
+ghost use Rattle.tz_base.specs.{Fronts.{Gives}, Grammar.{read}};
+ghost use Rattle.tz_info.specs.FileHeaders.{counts_agree, header, six_counts, tzif, version, version_1, HasOtherMagic};
 
 use tz_base::{Cursor, Error, Expected};
 
@@ -50,7 +46,7 @@ pub struct Header {
 pub fn read_header(cursor: &mut Cursor<'_>, place: Place) -> Result<Header, Error>
     ensures header { Gives (λ h. (h, cursor.new)) result (read (header place) cursor.old) }
     ensures magic { HasOtherMagic cursor.old
-        → IsErrAnd result (λ e. e ≡ InvalidTzFile TZifAtFrontOfHeader) }
+        → IsErrAnd result (λ e. e ≡ Error.InvalidTzFile Expected.TZifAtFrontOfHeader) }
 {
     read_magic(cursor)?;
     let version = read_version(cursor, place)?;
@@ -66,7 +62,7 @@ pub fn read_header(cursor: &mut Cursor<'_>, place: Place) -> Result<Header, Erro
 pub fn read_magic(cursor: &mut Cursor<'_>) -> Result<(), Error>
     ensures rest { Gives (λ unit. (unit, cursor.new)) result (read tzif cursor.old) }
     ensures magic { HasOtherMagic cursor.old
-        → IsErrAnd result (λ e. e ≡ InvalidTzFile TZifAtFrontOfHeader) }
+        → IsErrAnd result (λ e. e ≡ Error.InvalidTzFile Expected.TZifAtFrontOfHeader) }
 {
     let front = cursor.read_exact(4)?;
     if front != b"TZif".as_slice() {

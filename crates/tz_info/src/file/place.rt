@@ -1,9 +1,8 @@
 //! Where a file is at fault, as the number of bytes in front of the fault.
 
-ghost use Rattle.std.specs.Prelude.{◌≡◌, ◌+◌, length, option_map};
+ghost use Rattle.std.specs.Prelude.{◌≡◌, length, option_map};
 ghost use Rattle.tz_base.specs.Grammar.{fault_position};
-ghost use Rattle.tz_info.specs.FilePieces.{HasPieces, file};
-ghost use Rattle.tz_info.specs.FilePlaces.{ArePartPlaces, IsFilePlace, footer_bytes};
+ghost use Rattle.tz_info.specs.{FilePieces.{file, HasPieces}, FilePlaces.{footer_bytes, ArePartPlaces, IsFilePlace}};
 ghost use Rattle.tz_info.specs.Steps.FileLists.{pieces_of};
 
 mod contents;
@@ -45,7 +44,7 @@ fn place_in_pieces(bytes: &[u8]) -> usize
     bytes.len().saturating_sub(left_of_file(bytes))
 }
 
-// The parts stand one after the other, and the footer ends with the file.
+// The parts follow one another, and the footer ends the file.
 fn part_places(bytes: &[u8], pieces: &Pieces<'_>) -> PartPlaces
     requires { HasPieces bytes.now (pieces_of pieces.now) }
     ensures places { ArePartPlaces (pieces_of pieces.now) result }

@@ -1,20 +1,12 @@
 //! A file from its first byte to its last: its pieces, and the lists that they spell.
 
-ghost use Rattle.std.specs.Prelude.{[], ◌≡◌, ◌⊎◌, MatchResult, option_map};
-ghost use Rattle.std.specs.Result.{IsErrAnd};
-ghost use Rattle.tz_base.specs.Fronts.{Gives};
-ghost use Rattle.tz_base.specs.declared.error.Error.TheVariants.{InvalidTzFile, OutOfMemory};
-ghost use Rattle.tz_base.specs.declared.error.Expected.TheVariants.{TZifAtFrontOfHeader};
+ghost use Rattle.std.specs.{Prelude.{◌≡◌, ◌⊎◌, [], option_map, MatchResult}, Result.{IsErrAnd}};
+ghost use Rattle.tz_base.specs.{Fronts.{Gives}, Grammar.{read}};
+ghost use Rattle.tz_info.specs.{FileBlocks.{parts_of}, FileHeaders.{HasOtherMagic}, Steps.FooterReading.{footer_of}};
+ghost use Rattle.tz_info.specs.FilePieces.{after_first_block, first_version, is_extended, later_version};
+ghost use Rattle.tz_info.specs.Steps.{ContentReading.{GivesInMemory}, FileLists.{HasLengths, Reads}};
+ghost use Rattle.tz_info.specs.Steps.FileLists.{lists_in, pieces_at, pieces_of, with_rule, with_types, zone_of_lists};
 ghost use Rattle.tz_info.specs.Zones.{IsValid, ListFault};
-ghost use Rattle.tz_info.specs.FileBlocks.{parts_of};
-ghost use Rattle.tz_base.specs.Grammar.{read};
-ghost use Rattle.tz_info.specs.Steps.ContentReading.{GivesInMemory};
-ghost use Rattle.tz_info.specs.Steps.FooterReading.{footer_of};
-ghost use Rattle.tz_info.specs.Steps.FileLists.{pieces_of, pieces_at, zone_of_lists, lists_in, with_types, with_rule};
-ghost use Rattle.tz_info.specs.Steps.FileLists.{HasLengths, Reads};
-ghost use Rattle.tz_info.specs.FileHeaders.{HasOtherMagic};
-ghost use Rattle.tz_info.specs.FilePieces.{is_extended, first_version, later_version};
-ghost use Rattle.tz_info.specs.FilePieces.{after_first_block};
 
 use crate::file::block::{Block, read_block};
 use crate::file::contents::{check_indicators, read_leap_seconds, read_transitions};
@@ -43,7 +35,7 @@ impl Lists {
         ensures { MatchResult result
             (λ z. IsValid (zone_of_lists self) × (z ≡ zone_of_lists self))
             (λ e. (ListFault (zone_of_lists self) e × ¬ (IsValid (zone_of_lists self)))
-            ⊎ ((e ≡ OutOfMemory) × IsValid (zone_of_lists self))) }
+            ⊎ ((e ≡ Error.OutOfMemory) × IsValid (zone_of_lists self))) }
     {
         let Lists {
             transitions,
@@ -60,7 +52,7 @@ impl Lists {
 pub fn read_lists(alloc: Global, bytes: &[u8]) -> Result<Lists, Error>
     ensures lists { Reads result bytes.now }
     ensures magic { HasOtherMagic bytes.now
-        → IsErrAnd result (λ e. e ≡ InvalidTzFile TZifAtFrontOfHeader) }
+        → IsErrAnd result (λ e. e ≡ Error.InvalidTzFile Expected.TZifAtFrontOfHeader) }
 {
     let pieces = read_pieces(bytes)?;
     lists_of(alloc, &pieces)
@@ -81,7 +73,7 @@ pub struct Pieces<'a> {
 pub fn read_pieces(bytes: &[u8]) -> Result<Pieces<'_>, Error>
     ensures pieces { Gives pieces_of result (pieces_at bytes.now) }
     ensures magic { HasOtherMagic bytes.now
-        → IsErrAnd result (λ e. e ≡ InvalidTzFile TZifAtFrontOfHeader) }
+        → IsErrAnd result (λ e. e ≡ Error.InvalidTzFile Expected.TZifAtFrontOfHeader) }
 {
     let mut cursor = Cursor::new(bytes);
     let header = read_header(&mut cursor, Place::First)?;

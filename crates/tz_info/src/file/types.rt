@@ -1,12 +1,10 @@
 //! The local time types of a data block and their names (RFC 8536 section 3.2).
 
-ghost use Rattle.std.specs.Prelude.{◌≡◌, ◌≤◌, ◌<◌, ◌*◌, length, IfSome, option_map};
-ghost use Rattle.std.specs.List.{position_from};
+ghost use Rattle.std.specs.{List.{position_from}, Prelude.{◌≡◌, ◌<◌, ◌*◌, length, option_map, IfSome}};
 ghost use Rattle.tz_base.specs.Fronts.{Gives};
-ghost use Rattle.tz_info.specs.FileContents.{designation_of};
-ghost use Rattle.tz_info.specs.Steps.ContentReading.{GivesInMemory, values_below, type_in, type_of_record};
-ghost use Rattle.tz_info.specs.Steps.ContentReading.{with_next_type, mark_of, type_of, text_before_zero};
-ghost use Rattle.tz_info.specs.Steps.ContentReading.{designation_at, is_zero};
+ghost use Rattle.tz_info.specs.{FileContents.{designation_of}, Steps.ContentReading.{GivesInMemory}};
+ghost use Rattle.tz_info.specs.Steps.ContentReading.{designation_at, is_zero, mark_of, text_before_zero, type_in};
+ghost use Rattle.tz_info.specs.Steps.ContentReading.{type_of, type_of_record, values_below, with_next_type};
 
 use crate::file::numbers::{record_at, signed_32};
 use std::alloc::Global;

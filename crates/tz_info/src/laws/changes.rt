@@ -1,12 +1,12 @@
 //! Theorems of the changes of a zone's clocks: each function is empty, its contract is proved; never
 //! called.
 
-ghost use Rattle.std.specs.Prelude.{◌≡◌, ◌∷◌, ◌-ℤ◌, ◌≤ℤ◌, ◌<ℤ◌, pos, List, Option, Some, ℤ};
+ghost use Rattle.std.specs.Prelude.{◌≡◌, ◌<ℤ◌, ◌≤ℤ◌, ◌-ℤ◌, ◌∷◌, pos, List, Option, ℤ};
 ghost use Rattle.tz_base.specs.LocalTypes.{LocalType};
-ghost use Rattle.tz_base.specs.declared.change.Change.{Change};
-ghost use Rattle.tz_info.specs.Changes.{AreChanges, IsChange, IsFirst, IsLast};
-ghost use Rattle.tz_info.specs.Gaps.{IsTypeBeforeGap};
-ghost use Rattle.tz_info.specs.Zones.{Zone, TypeAt};
+ghost use Rattle.tz_info.specs.{Changes.{AreChanges, IsChange, IsFirst, IsLast}, Gaps.{IsTypeBeforeGap}};
+ghost use Rattle.tz_info.specs.Zones.{TypeAt, Zone};
+
+use tz_base::Change;
 
 /// At a second there is one change. So a second has one next change and one previous change, and a
 /// stretch of time has one list of changes, whose first one is the next change after the second

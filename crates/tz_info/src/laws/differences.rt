@@ -2,9 +2,9 @@
 //! called.
 
 ghost use Rattle.std.specs.Prelude.{◌≡◌, ℤ};
-ghost use Rattle.tz_info.specs.Differences.{IsDifference, IsInDifference};
-ghost use Rattle.tz_info.specs.Zones.{Zone, TypeAt};
-ghost use Rattle.tz_info.specs.declared.zone.ask.differences.Difference.{Difference};
+ghost use Rattle.tz_info.specs.{Differences.{IsDifference, IsInDifference}, Zones.{TypeAt, Zone}};
+
+use crate::zone::ask::differences::Difference;
 
 /// Two differences of two zones that share a second are the same.
 #[tactic(auto, using(crate::proofs::DifferenceLaws::one_difference))]

@@ -1,17 +1,9 @@
 //! Theorems of equality and clones: each function is empty, its contract is proved; never called.
 
 ghost use Rattle.std.specs.Prelude.{◌≡◌, ◌↔◌, IsTrue};
-ghost use Rattle.tz_info.specs.Rules.{Alternate as AlternateRule};
-ghost use Rattle.tz_info.specs.ChangesLeft.{changes_left};
-ghost use Rattle.tz_info.specs.Zones.{Zone};
-ghost use Rattle.tz_info.specs.declared.rule.day.DayForm.{DayForm};
-ghost use Rattle.tz_info.specs.declared.rule.transition_rule.TransitionRule.{TransitionRule as Rule};
-ghost use Rattle.tz_info.specs.declared.zone.ask.differences.Difference.{Difference as Differing};
-ghost use Rattle.tz_info.specs.declared.zone.lists.leap_second.LeapSecond.{LeapSecond as Leap};
-ghost use Rattle.tz_info.specs.declared.zone.ask.shown_seconds.ShownSeconds.{ShownSeconds as Seconds};
-ghost use Rattle.tz_info.specs.declared.change.TypedSecond.{TypedSecond as Second};
-ghost use Rattle.tz_info.specs.declared.zone.lists.transition.Transition.{Transition as ListedTransition};
+ghost use Rattle.tz_info.specs.{ChangesLeft.{changes_left}, Rules.{Alternate as AlternateRule}, Zones.{Zone}};
 
+use crate::DayForm;
 use crate::change::TypedSecond;
 use crate::rule::{AlternateTime, RuleDay, TransitionRule};
 use crate::zone::ask::all_changes::Changes;
@@ -22,19 +14,19 @@ use crate::zone::{LeapSecond, TimeZone, Transition};
 /// Transitions are equal if and only if their times and their indexes are. A clone is the value,
 /// and does not fail.
 pub fn transitions()
-    ensures equal { (a b : ListedTransition)
+    ensures equal { (a b : Transition)
         → IsTrue (⟦<Transition as PartialEq>⟧.eq a b) ↔ (a ≡ b) }
-    ensures clone { (a b : ListedTransition)
+    ensures clone { (a b : Transition)
         → ⟦<Transition as Clone>⟧.is_clone a b ↔ (b ≡ a) }
-    ensures infallible { (a : ListedTransition) → ⟦<Transition as Clone>⟧.is_infallible a }
+    ensures infallible { (a : Transition) → ⟦<Transition as Clone>⟧.is_infallible a }
 {}
 
 /// Leap seconds are equal if and only if their times and their corrections are. A clone is the
 /// value, and does not fail.
 pub fn leap_seconds()
-    ensures equal { (a b : Leap) → IsTrue (⟦<LeapSecond as PartialEq>⟧.eq a b) ↔ (a ≡ b) }
-    ensures clone { (a b : Leap) → ⟦<LeapSecond as Clone>⟧.is_clone a b ↔ (b ≡ a) }
-    ensures infallible { (a : Leap) → ⟦<LeapSecond as Clone>⟧.is_infallible a }
+    ensures equal { (a b : LeapSecond) → IsTrue (⟦<LeapSecond as PartialEq>⟧.eq a b) ↔ (a ≡ b) }
+    ensures clone { (a b : LeapSecond) → ⟦<LeapSecond as Clone>⟧.is_clone a b ↔ (b ≡ a) }
+    ensures infallible { (a : LeapSecond) → ⟦<LeapSecond as Clone>⟧.is_infallible a }
 {}
 
 /// Days are equal if and only if their forms and their numbers are. A clone is the value, and does
@@ -58,9 +50,9 @@ pub fn alternate_times()
 /// Rules are equal if and only if they are the same rule. A clone is the value, and does not fail.
 #[tactic(auto, using(crate::proofs::Equalities::rule_exact))]
 pub fn transition_rules()
-    ensures equal { (a b : Rule) → IsTrue (⟦<TransitionRule as PartialEq>⟧.eq a b) ↔ (a ≡ b) }
-    ensures clone { (a b : Rule) → ⟦<TransitionRule as Clone>⟧.is_clone a b ↔ (b ≡ a) }
-    ensures infallible { (a : Rule) → ⟦<TransitionRule as Clone>⟧.is_infallible a }
+    ensures equal { (a b : TransitionRule) → IsTrue (⟦<TransitionRule as PartialEq>⟧.eq a b) ↔ (a ≡ b) }
+    ensures clone { (a b : TransitionRule) → ⟦<TransitionRule as Clone>⟧.is_clone a b ↔ (b ≡ a) }
+    ensures infallible { (a : TransitionRule) → ⟦<TransitionRule as Clone>⟧.is_infallible a }
 {}
 
 /// Zones are equal if and only if their transitions, types, leap seconds and rules are.
@@ -80,25 +72,25 @@ pub fn lists_of_changes<'a>(a: &Changes<'a>, b: &Changes<'a>)
 /// value, and does not fail.
 #[tactic(auto, using(crate::proofs::Equalities::typed_second_exact))]
 pub fn typed_seconds()
-    ensures equal { (a b : Second) → IsTrue (⟦<TypedSecond as PartialEq>⟧.eq a b) ↔ (a ≡ b) }
-    ensures clone { (a b : Second) → ⟦<TypedSecond as Clone>⟧.is_clone a b ↔ (b ≡ a) }
-    ensures infallible { (a : Second) → ⟦<TypedSecond as Clone>⟧.is_infallible a }
+    ensures equal { (a b : TypedSecond) → IsTrue (⟦<TypedSecond as PartialEq>⟧.eq a b) ↔ (a ≡ b) }
+    ensures clone { (a b : TypedSecond) → ⟦<TypedSecond as Clone>⟧.is_clone a b ↔ (b ≡ a) }
+    ensures infallible { (a : TypedSecond) → ⟦<TypedSecond as Clone>⟧.is_infallible a }
 {}
 
 /// First and last seconds are equal if and only if both are. A clone is the value, and does not
 /// fail.
 #[tactic(auto, using(crate::proofs::Equalities::shown_seconds_exact))]
 pub fn shown_seconds()
-    ensures equal { (a b : Seconds) → IsTrue (⟦<ShownSeconds as PartialEq>⟧.eq a b) ↔ (a ≡ b) }
-    ensures clone { (a b : Seconds) → ⟦<ShownSeconds as Clone>⟧.is_clone a b ↔ (b ≡ a) }
-    ensures infallible { (a : Seconds) → ⟦<ShownSeconds as Clone>⟧.is_infallible a }
+    ensures equal { (a b : ShownSeconds) → IsTrue (⟦<ShownSeconds as PartialEq>⟧.eq a b) ↔ (a ≡ b) }
+    ensures clone { (a b : ShownSeconds) → ⟦<ShownSeconds as Clone>⟧.is_clone a b ↔ (b ≡ a) }
+    ensures infallible { (a : ShownSeconds) → ⟦<ShownSeconds as Clone>⟧.is_infallible a }
 {}
 
 /// Differences are equal if and only if their seconds and their types are. A clone is the value,
 /// and does not fail.
 #[tactic(auto, using(crate::proofs::Equalities::difference_exact))]
 pub fn differences()
-    ensures equal { (a b : Differing) → IsTrue (⟦<Difference as PartialEq>⟧.eq a b) ↔ (a ≡ b) }
-    ensures clone { (a b : Differing) → ⟦<Difference as Clone>⟧.is_clone a b ↔ (b ≡ a) }
-    ensures infallible { (a : Differing) → ⟦<Difference as Clone>⟧.is_infallible a }
+    ensures equal { (a b : Difference) → IsTrue (⟦<Difference as PartialEq>⟧.eq a b) ↔ (a ≡ b) }
+    ensures clone { (a b : Difference) → ⟦<Difference as Clone>⟧.is_clone a b ↔ (b ≡ a) }
+    ensures infallible { (a : Difference) → ⟦<Difference as Clone>⟧.is_infallible a }
 {}

@@ -1,13 +1,12 @@
 //! Theorems of time zone files: each function is empty, its contract is proved; never called.
 
-ghost use Rattle.std.specs.Prelude.{◌≡◌, ◌≤◌, List, ℕ, length, drop};
+ghost use Rattle.std.specs.Prelude.{◌≡◌, ◌≤◌, drop, length, List, ℕ};
 ghost use Rattle.tz_base.specs.Errors.{error_number};
-ghost use Rattle.tz_base.specs.declared.error.Error.{Error as Fault};
-ghost use Rattle.tz_info.specs.FilePieces.{FilePieces, HasPieces};
-ghost use Rattle.tz_info.specs.FilePlaces.{ArePartPlaces, IsFilePlace, footer_bytes, in_order};
-ghost use Rattle.tz_info.specs.declared.file.place.PartPlaces.{PartPlaces};
-ghost use Rattle.tz_info.specs.TzFiles.{IsTzFile, IsFileFault};
-ghost use Rattle.tz_info.specs.Zones.{Zone, IsValid, IsRuleOrNone};
+ghost use Rattle.tz_info.specs.{FilePieces.{FilePieces, HasPieces}, TzFiles.{IsFileFault, IsTzFile}};
+ghost use Rattle.tz_info.specs.FilePlaces.{footer_bytes, in_order, ArePartPlaces, IsFilePlace};
+ghost use Rattle.tz_info.specs.{Zones.{IsRuleOrNone, IsValid, Zone}, declared.file.place.PartPlaces.{PartPlaces}};
+
+use tz_base::Error;
 
 /// No bytes spell two zones.
 pub fn one_zone()
@@ -22,13 +21,13 @@ pub fn rule_is_in_limits()
 /// A file has a fault if and only if it spells no valid zone. It has one first fault, and that is
 /// not running out of memory.
 pub fn fault_or_zone()
-    ensures apart { (bytes : List ℕ) (e : Fault) (zone : Zone) → IsFileFault bytes e
+    ensures apart { (bytes : List ℕ) (e : Error) (zone : Zone) → IsFileFault bytes e
         → IsTzFile bytes zone → ¬ (IsValid zone) }
-    ensures once { (bytes : List ℕ) (d e : Fault) → IsFileFault bytes d → IsFileFault bytes e
+    ensures once { (bytes : List ℕ) (d e : Error) → IsFileFault bytes d → IsFileFault bytes e
         → d ≡ e }
     ensures some { (bytes : List ℕ) → ((zone : Zone) → IsTzFile bytes zone → ¬ (IsValid zone))
-        → (e : Fault) × IsFileFault bytes e }
-    ensures low { (bytes : List ℕ) (e : Fault) → IsFileFault bytes e → error_number e ≤ 16 }
+        → (e : Error) × IsFileFault bytes e }
+    ensures low { (bytes : List ℕ) (e : Error) → IsFileFault bytes e → error_number e ≤ 16 }
 {}
 
 /// The fault of a file has one position, in the file or at its end.

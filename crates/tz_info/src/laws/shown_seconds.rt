@@ -1,15 +1,13 @@
 //! Theorems of when clocks show certain local times, over all seconds: each function is empty, its
 //! contract is proved; never called.
 
-ghost use Rattle.std.specs.Prelude.{◌≡◌, ◌↔◌, ℤ, pos, ◌+ℤ◌, ◌-ℤ◌, ◌≤ℤ◌, ◌<ℤ◌, FitsSigned, Option, Some};
-ghost use Rattle.std.specs.Int.{w64};
+ghost use Rattle.std.specs.{Int.{w64}, Prelude.{◌≡◌, ◌↔◌, ◌<ℤ◌, ◌≤ℤ◌, ◌+ℤ◌, ◌-ℤ◌, pos, FitsSigned, Option, ℤ}};
 ghost use Rattle.tz_base.specs.LocalTypes.{LocalType};
-ghost use Rattle.tz_info.specs.ShownSeconds.{ShowsWithin, IsFirstWithin, IsNeverWithin, AreEndsWithin, AreShownWithin};
-ghost use Rattle.tz_info.specs.ShownSeconds.{IsFirstAtOrAfter};
-ghost use Rattle.tz_info.specs.WallClocks.{Shows};
-ghost use Rattle.tz_info.specs.Windows.{IsGreatest, IsLeast, offsets};
-ghost use Rattle.tz_info.specs.Zones.{Zone, TypeAt};
-ghost use Rattle.tz_info.specs.declared.zone.ask.shown_seconds.ShownSeconds.{ShownSeconds};
+ghost use Rattle.tz_info.specs.ShownSeconds.{AreEndsWithin, AreShownWithin, IsFirstAtOrAfter, IsFirstWithin};
+ghost use Rattle.tz_info.specs.{ShownSeconds.{IsNeverWithin, ShowsWithin}, Windows.{offsets, IsGreatest, IsLeast}};
+ghost use Rattle.tz_info.specs.{WallClocks.{Shows}, Zones.{TypeAt, Zone}};
+
+use crate::zone::ask::shown_seconds::ShownSeconds;
 
 /// A stretch of local time has one answer.
 #[tactic(auto, using(crate::proofs::ShownSecondLaws::one_answer))]

@@ -1,12 +1,10 @@
 //! Theorems of spans: each function is empty, its contract is proved; never called.
 
-ghost use Rattle.std.specs.Prelude.{◌≡◌, ◌-ℤ◌, ℤ, pos, Some};
+ghost use Rattle.std.specs.Prelude.{◌≡◌, ◌-ℤ◌, pos, ℤ};
 ghost use Rattle.tz_base.specs.LocalTypes.{LocalType};
-ghost use Rattle.tz_base.specs.declared.change.Change.{Change};
-ghost use Rattle.tz_base.specs.declared.span.Span.{Span};
-ghost use Rattle.tz_info.specs.Changes.{IsChange};
-ghost use Rattle.tz_info.specs.Spans.{IsInSpan, IsSpan, IsSpanAt};
-ghost use Rattle.tz_info.specs.Zones.{Zone, TypeAt};
+ghost use Rattle.tz_info.specs.{Changes.{IsChange}, Spans.{IsInSpan, IsSpan, IsSpanAt}, Zones.{TypeAt, Zone}};
+
+use tz_base::{Change, Span};
 
 /// A second lies in one span: two spans that share it are equal. No change comes within a span.
 #[tactic(auto, using(crate::proofs::SpanLaws::span_once, crate::proofs::SpanLaws::no_change_within))]

@@ -1,18 +1,19 @@
 //! Theorems of TZ strings and of the zones that they give: each function is empty, its contract is
 //! proved; never called.
 
-ghost use Rattle.std.specs.Prelude.{◌≡◌, ◌≤◌, List, ℕ, Bool, length};
+ghost use Rattle.std.specs.Prelude.{◌≡◌, ◌≤◌, length, Bool, List, ℕ};
 ghost use Rattle.tz_base.specs.Errors.{error_number};
-ghost use Rattle.tz_base.specs.declared.error.Error.{Error as Fault};
-ghost use Rattle.tz_info.specs.TzGrammar.{IsTzText, IsTextFault, text_fault_position};
-ghost use Rattle.tz_info.specs.PosixZones.{IsPosixZone, IsPosixFault, IsPosixFaultPlace};
-ghost use Rattle.tz_info.specs.Zones.{Zone, IsValid, IsRuleOrNone};
-ghost use Rattle.tz_info.specs.declared.rule.transition_rule.TransitionRule.{TransitionRule as Rule};
+ghost use Rattle.tz_info.specs.PosixZones.{IsPosixFault, IsPosixFaultPlace, IsPosixZone};
+ghost use Rattle.tz_info.specs.TzGrammar.{text_fault_position, IsTextFault, IsTzText};
+ghost use Rattle.tz_info.specs.Zones.{IsRuleOrNone, IsValid, Zone};
+
+use crate::rule::TransitionRule;
+use tz_base::Error;
 
 /// No bytes spell two rules.
 #[tactic(auto, using(crate::proofs::TextLaws::one_rule))]
 pub fn one_rule()
-    ensures { (extended : Bool) (bytes : List ℕ) (a b : Rule) → IsTzText extended bytes a
+    ensures { (extended : Bool) (bytes : List ℕ) (a b : TransitionRule) → IsTzText extended bytes a
         → IsTzText extended bytes b → a ≡ b }
 {}
 
@@ -30,21 +31,21 @@ pub fn zone_is_valid()
 /// A text with a fault spells no rule. It has one first fault, and that is not running out of
 /// memory.
 pub fn fault_or_rule()
-    ensures apart { (extended : Bool) (bytes : List ℕ) (e : Fault) (rule : Rule)
+    ensures apart { (extended : Bool) (bytes : List ℕ) (e : Error) (rule : TransitionRule)
         → IsTextFault extended bytes e → ¬ (IsTzText extended bytes rule) }
-    ensures once { (extended : Bool) (bytes : List ℕ) (d e : Fault) → IsTextFault extended bytes d
+    ensures once { (extended : Bool) (bytes : List ℕ) (d e : Error) → IsTextFault extended bytes d
         → IsTextFault extended bytes e → d ≡ e }
-    ensures low { (extended : Bool) (bytes : List ℕ) (e : Fault) → IsTextFault extended bytes e
+    ensures low { (extended : Bool) (bytes : List ℕ) (e : Error) → IsTextFault extended bytes e
         → error_number e ≤ 16 }
 {}
 
 /// A text with a fault gives no zone. It has one first fault, and that is not running out of memory.
 pub fn fault_or_zone()
-    ensures apart { (text : List ℕ) (e : Fault) (zone : Zone) → IsPosixFault text e
+    ensures apart { (text : List ℕ) (e : Error) (zone : Zone) → IsPosixFault text e
         → ¬ (IsPosixZone text zone) }
-    ensures once { (text : List ℕ) (d e : Fault) → IsPosixFault text d → IsPosixFault text e
+    ensures once { (text : List ℕ) (d e : Error) → IsPosixFault text d → IsPosixFault text e
         → d ≡ e }
-    ensures low { (text : List ℕ) (e : Fault) → IsPosixFault text e → error_number e ≤ 16 }
+    ensures low { (text : List ℕ) (e : Error) → IsPosixFault text e → error_number e ≤ 16 }
 {}
 
 /// The fault of a text has one place, in the text or at its end.

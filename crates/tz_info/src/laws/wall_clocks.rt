@@ -1,17 +1,14 @@
 //! Theorems of wall clocks over all seconds: each function is empty, its contract is proved; never
 //! called.
 
-ghost use Rattle.std.specs.Prelude.{◌≡◌, ℕ, ℤ, ◌+ℤ◌, FitsSigned};
-ghost use Rattle.std.specs.Int.{w64};
+ghost use Rattle.std.specs.{Int.{w64}, Prelude.{◌≡◌, ◌+ℤ◌, FitsSigned, ℕ, ℤ}};
 ghost use Rattle.offset_core.specs.WallAnswer.{IsWallAnswer};
-ghost use Rattle.offset_core.specs.declared.around.Around.{Around};
-ghost use Rattle.offset_core.specs.declared.local_result.LocalResult.{LocalResult};
 ghost use Rattle.tz_base.specs.LocalTypes.{LocalType};
-ghost use Rattle.tz_base.specs.declared.change.Change.{Change};
-ghost use Rattle.tz_info.specs.Around.{AreTypesAround};
-ghost use Rattle.tz_info.specs.WallClocks.{Shows, AreShown, IsAmongShown};
-ghost use Rattle.tz_info.specs.Windows.{IsWindowCount};
-ghost use Rattle.tz_info.specs.Zones.{Zone, IsValid, IsRuleOrNone, TypeAt};
+ghost use Rattle.tz_info.specs.{Around.{AreTypesAround}, Zones.{IsRuleOrNone, IsValid, TypeAt, Zone}};
+ghost use Rattle.tz_info.specs.{WallClocks.{AreShown, IsAmongShown, Shows}, Windows.{IsWindowCount}};
+
+use offset_core::{Around, LocalResult};
+use tz_base::Change;
 
 /// Each local time has an answer in each zone.
 #[tactic(auto, using(crate::proofs::WallTimes::wall_decided))]

@@ -1,9 +1,8 @@
 //! Two types that take turns each year.
 
-ghost use Rattle.std.specs.Prelude.{◌≡◌, MatchResult, IsTrue, ◌↔◌};
+ghost use Rattle.std.specs.Prelude.{◌≡◌, ◌↔◌, IsTrue, MatchResult};
 ghost use Rattle.offset_core.specs.Offset.{IsWithinDay};
-ghost use Rattle.tz_base.specs.declared.error.Error.TheVariants.{TransitionRule};
-ghost use Rattle.tz_info.specs.Rules.{Alternate, expected_of_alternate, IsAlternate, IsAlternateRule};
+ghost use Rattle.tz_info.specs.Rules.{expected_of_alternate, Alternate, IsAlternate, IsAlternateRule};
 
 use crate::change::is_same_type;
 use crate::rule::changing::{any_of, changing_keys, year_key};
@@ -33,12 +32,9 @@ pub struct AlternateTime {
 }
 
 impl Model for AlternateTime {
-    ghost use Rattle.std.specs.Prelude.{◌≡◌};
-    ghost use Rattle.std.proofs.Common.{sym};
+    ghost use Rattle.std.{proofs.Common.{sym}, specs.{List.{list_any}, Prelude.{◌≡◌}}};
     ghost use Rattle.tz_info.specs.Rules.{Alternate, IsAlternateRule};
-    ghost use Rattle.std.specs.List.{list_any};
-    ghost use Rattle.tz_info.specs.Steps.ChangingYears.{changing_keys};
-    ghost use Rattle.tz_info.specs.Steps.Kinds.{seconds_by_kind, margin_of};
+    ghost use Rattle.tz_info.specs.Steps.{ChangingYears.{changing_keys}, Kinds.{margin_of, seconds_by_kind}};
 
     ghost Value = { Alternate };
 
@@ -132,8 +128,7 @@ impl fmt::Debug for AlternateTime {
 }
 
 impl AlternateTime {
-    ghost use Rattle.tz_info.specs.Moments.{IsRuleYear, NeverChanges, type_when};
-    ghost use Rattle.tz_info.specs.Steps.AskedYears.{changes_in_year};
+    ghost use Rattle.tz_info.specs.{Moments.{type_when, IsRuleYear, NeverChanges}, Steps.AskedYears.{changes_in_year}};
 
     /// The rule by which daylight saving time starts on one day and ends on another, each a
     /// number of seconds after the day's midnight: the start on the clock of standard time, the end on that
@@ -158,7 +153,7 @@ impl AlternateTime {
           end = record { day = dst_end; time = dst_end_time };
         } in
             MatchResult result (λ a. IsAlternate shown × (a ≡ shown))
-            (λ e. (e ≡ TransitionRule (expected_of_alternate shown)) × ¬ (IsAlternate shown)) }
+            (λ e. (e ≡ Error.TransitionRule (expected_of_alternate shown)) × ¬ (IsAlternate shown)) }
     {
         if !is_within_day(&std) || !is_within_day(&dst) {
             return Err(Error::TransitionRule(Expected::OffsetsWithinDay));

@@ -2,13 +2,11 @@
 //!
 //! Only `ask_year` makes an `AskedYear`, without which a year's changes aren't found.
 
-ghost use Rattle.std.specs.Prelude.{◌≡◌, ◌≢◌, ◌+◌, MatchOption, true};
-ghost use Rattle.tz_info.specs.Counts.{HasRoomFor};
-ghost use Rattle.tz_info.specs.Changes.{IsChange};
-ghost use Rattle.tz_info.specs.Moments.{AlternateAt, IsRuleTime, IsRuleYear, IsYearOf, type_when};
-ghost use Rattle.tz_info.specs.Steps.Beside.{IsNearestMomentOf, change_found};
+ghost use Rattle.std.specs.Prelude.{◌≡◌, ◌≢◌, ◌+◌, true, MatchOption};
+ghost use Rattle.tz_info.specs.{Changes.{IsChange}, Moments.{type_when, AlternateAt, IsRuleTime, IsRuleYear, IsYearOf}};
+ghost use Rattle.tz_info.specs.{Counts.{HasRoomFor}, Steps.AskedYears.{turn_of, IsAskedYear, IsCalmRule}};
+ghost use Rattle.tz_info.specs.Steps.Beside.{change_found, IsNearestMomentOf};
 ghost use Rattle.tz_info.specs.Steps.Changes.{IsIdle, IsInStretch, IsOfYear};
-ghost use Rattle.tz_info.specs.Steps.AskedYears.{IsAskedYear, IsCalmRule, turn_of};
 
 use crate::change::is_same_type;
 use crate::rule::alternate::AlternateTime;

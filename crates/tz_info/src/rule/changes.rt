@@ -1,14 +1,11 @@
 //! When a rule's types give way to each other.
 
-ghost use Rattle.std.specs.Prelude.{◌≡◌, ◌≤◌, pos, ◌-ℤ◌, ◌<ℤ◌, ◌↔◌, IsTrue, MatchOption, not, option_map};
-ghost use Rattle.tz_info.specs.Changes.{HasNoChange, IsNearest};
+ghost use Rattle.std.specs.Prelude.{◌≡◌, ◌↔◌, ◌≤◌, ◌<ℤ◌, ◌-ℤ◌, not, option_map, pos, IsTrue, MatchOption};
+ghost use Rattle.tz_info.specs.{Changes.{HasNoChange, IsNearest}, Steps.Changes.{year_at, IsAhead, IsNearRuleTime}};
+ghost use Rattle.tz_info.specs.{Counts.{HasRoomFor, RoseWithin}, Steps.Beside.{change_found, IsNearestMomentOf}};
 ghost use Rattle.tz_info.specs.HeldChanges.{change_held};
-ghost use Rattle.tz_info.specs.Moments.{AlternateAt, IsRuleTime, IsRuleYear, IsYearOf, type_when};
-ghost use Rattle.tz_info.specs.Steps.AskedYears.{HasNoneBeyond, IsAskedYear, IsNextChanging};
-ghost use Rattle.tz_info.specs.Steps.AskedYears.{IsYearNear};
-ghost use Rattle.tz_info.specs.Steps.Beside.{IsNearestMomentOf, change_found};
-ghost use Rattle.tz_info.specs.Steps.Changes.{IsAhead, IsNearRuleTime, year_at};
-ghost use Rattle.tz_info.specs.Counts.{HasRoomFor, RoseWithin};
+ghost use Rattle.tz_info.specs.Moments.{type_when, AlternateAt, IsRuleTime, IsRuleYear, IsYearOf};
+ghost use Rattle.tz_info.specs.Steps.AskedYears.{HasNoneBeyond, IsAskedYear, IsNextChanging, IsYearNear};
 
 use crate::change::HeldChange;
 use crate::rule::alternate::AlternateTime;

@@ -4,12 +4,10 @@
 //! four years is a leap year, of the year before it to the second one after it. It is found once for
 //! each of the 35 keys, when the rule is made.
 
-ghost use Rattle.std.specs.Prelude.{◌≡◌, ◌<◌, ◌≤◌, ◌≤ℤ◌, pos, neg_ℤ, slice_index_or};
-ghost use Rattle.std.specs.List.{list_any};
-ghost use Rattle.tz_info.specs.Steps.ChangingYears.{AreWithinYears, changing_keys, dst_near, flips_at};
-ghost use Rattle.tz_info.specs.Steps.ChangingYears.{has_flip, is_changing, leap_place, key_years, moment_by};
-ghost use Rattle.tz_info.specs.Steps.ChangingYears.{turns_in, year_key, years_near};
-ghost use Rattle.tz_info.specs.Steps.Kinds.{are_calm};
+ghost use Rattle.std.specs.{List.{list_any}, Prelude.{◌≡◌, ◌<◌, ◌≤◌, ◌≤ℤ◌, neg_ℤ, pos}};
+ghost use Rattle.tz_info.specs.Steps.ChangingYears.{changing_keys, dst_near, flips_at, has_flip, is_changing};
+ghost use Rattle.tz_info.specs.Steps.ChangingYears.{key_years, leap_place, moment_by, turns_in, year_key, years_near};
+ghost use Rattle.tz_info.specs.Steps.ChangingYears.{AreWithinYears};
 
 use crate::rule::kinds::{are_calm, kind_of};
 use crate::rule::moments::{Turns, is_dst_by_three};

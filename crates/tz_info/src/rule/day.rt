@@ -1,10 +1,7 @@
 //! The days on which a rule changes the clock.
 
-ghost use Rattle.std.specs.Prelude.{◌≡◌, MatchResult, MatchOption, pos, neg_ℤ, ◌+ℤ◌, ◌*ℤ◌, ◌≤ℤ◌};
-ghost use Rattle.tz_base.specs.declared.error.Error.TheVariants.{TransitionRule};
-ghost use Rattle.tz_base.specs.declared.error.Expected.TheVariants.{DayFromJ1ToJ365, DayFrom0To365};
-ghost use Rattle.tz_info.specs.RuleDays.{IsWrittenDate, expected_of_day};
-ghost use Rattle.tz_info.specs.Rules.{IsWithinWeek};
+ghost use Rattle.std.specs.Prelude.{◌≡◌, ◌≤ℤ◌, ◌+ℤ◌, ◌*ℤ◌, neg_ℤ, pos, MatchOption, MatchResult};
+ghost use Rattle.tz_info.specs.{RuleDays.{expected_of_day}, Rules.{IsWithinWeek}};
 
 use crate::rule::day_places::{date_in_year, julian_place, place_in_month};
 use gregorian::{day_number, year_start};
@@ -51,10 +48,9 @@ impl Model for RuleDay {
 }
 
 impl RuleDay {
-    ghost use Rattle.tz_info.specs.RuleDays.{IsRuleDay, IsWrittenDate};
     ghost use Rattle.tz_info.specs.RuleDayOf.{rule_day};
-    ghost use Rattle.tz_info.specs.Steps.RuleDays.{closed_day};
-    ghost use Rattle.tz_info.specs.declared.rule.day.DayForm.TheVariants.{Julian1, Julian0, MonthWeekday};
+    ghost use Rattle.tz_info.specs.{RuleDays.{IsRuleDay, IsWrittenDate}, Steps.RuleDays.{closed_day}};
+    ghost use Rattle.tz_info.specs.declared.rule.day.DayForm.TheVariants.{Julian0, Julian1, MonthWeekday};
 
     /// `Jn`: the n-th of the 365 dates of a common year, so that `J60` is 1 March in every year.
     ///
@@ -68,7 +64,7 @@ impl RuleDay {
     /// ```
     pub fn julian_1(n: u16) -> Result<RuleDay, Error>
         ensures { MatchResult result (λ d. IsRuleDay (Julian1 n) × (d ≡ Julian1 n))
-            (λ e. (e ≡ TransitionRule DayFromJ1ToJ365) × ¬ (IsRuleDay (Julian1 n))) }
+            (λ e. (e ≡ Error.TransitionRule Expected.DayFromJ1ToJ365) × ¬ (IsRuleDay (Julian1 n))) }
     {
         if n < 1 || n > 365 {
             return Err(Error::TransitionRule(Expected::DayFromJ1ToJ365));
@@ -90,7 +86,7 @@ impl RuleDay {
     /// ```
     pub fn julian_0(n: u16) -> Result<RuleDay, Error>
         ensures { MatchResult result (λ d. IsRuleDay (Julian0 n) × (d ≡ Julian0 n))
-            (λ e. (e ≡ TransitionRule DayFrom0To365) × ¬ (IsRuleDay (Julian0 n))) }
+            (λ e. (e ≡ Error.TransitionRule Expected.DayFrom0To365) × ¬ (IsRuleDay (Julian0 n))) }
     {
         if n > 365 {
             return Err(Error::TransitionRule(Expected::DayFrom0To365));
@@ -109,7 +105,7 @@ impl RuleDay {
     pub fn month_weekday(month: u8, week: u8, weekday: u8) -> Result<RuleDay, Error>
         ensures { let form = MonthWeekday month week weekday in
             MatchResult result (λ d. IsRuleDay form × (d ≡ form))
-            (λ e. (e ≡ TransitionRule (expected_of_day form)) × ¬ (IsRuleDay form)) }
+            (λ e. (e ≡ Error.TransitionRule (expected_of_day form)) × ¬ (IsRuleDay form)) }
     {
         if month < 1 || month > 12 {
             return Err(Error::TransitionRule(Expected::MonthFrom1To12));

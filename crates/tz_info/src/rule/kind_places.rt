@@ -1,9 +1,7 @@
 //! How many days of a year come before a rule's day, in years of each kind.
 
-ghost use Rattle.std.specs.Prelude.{◌≡◌, [], ◌∷◌, ◌≤◌, ◌<◌};
-ghost use Rattle.std.specs.Int.{IsInRange};
-ghost use Rattle.tz_info.specs.Steps.KindPlaces.{weekday_place_from, places_by_kind};
-ghost use Rattle.tz_info.specs.declared.rule.day.DayForm.TheVariants.{MonthWeekday};
+ghost use Rattle.std.specs.{Int.{IsInRange}, Prelude.{◌≡◌, ◌<◌, ◌≤◌, ◌∷◌, []}};
+ghost use Rattle.tz_info.specs.Steps.KindPlaces.{places_by_kind, weekday_place_from};
 
 use crate::rule::day::{DayForm, RuleDay};
 use crate::rule::day_places::{julian_place, weekday_place};
@@ -47,7 +45,7 @@ fn weekday_places(month: u32, week: u32, weekday: u32) -> [u32; 14]
     requires month_in { IsInRange 1 12 month }
     requires week_in { IsInRange 1 5 week }
     requires weekday_in { weekday ≤ 6 }
-    ensures { result ≡ places_by_kind (MonthWeekday month week weekday) }
+    ensures { result ≡ places_by_kind (DayForm.MonthWeekday month week weekday) }
 {
     let common = days_before_month(2017, month);
     let common_days = days_in_month(2017, month);

@@ -1,10 +1,7 @@
 //! The reader of TZ strings.
 
-ghost use Rattle.std.specs.Prelude.{◌≡◌, IfOk, IfErr, Some};
-ghost use Rattle.std.specs.Result.{IsOkAnd};
-ghost use Rattle.tz_info.specs.Steps.Spelled.{IsParsed};
-ghost use Rattle.tz_info.specs.TzGrammar.{IsTzText, IsTextFault, text_fault_position};
-ghost use Rattle.tz_info.specs.declared.rule.transition_rule.TransitionRule.{TransitionRule as Rule};
+ghost use Rattle.std.specs.{Prelude.{◌≡◌, IfErr, IfOk}, Result.{IsOkAnd}};
+ghost use Rattle.tz_info.specs.{Steps.Spelled.{IsParsed}, TzGrammar.{text_fault_position, IsTextFault, IsTzText}};
 
 mod clock;
 mod date;
@@ -34,7 +31,7 @@ impl TransitionRule {
         // What is read is spelled so.
         ensures found { IfOk result (λ rule. IsTzText extended bytes.now rule) }
         // What is spelled so is read.
-        ensures only { (rule : Rule) → IsTzText extended bytes.now rule
+        ensures only { (rule : TransitionRule) → IsTzText extended bytes.now rule
             → IsOkAnd result (λ r. r ≡ rule) }
         // An error is the first fault of the text.
         ensures fault { IfErr result (λ e. IsTextFault extended bytes.now e) }
@@ -62,7 +59,7 @@ impl TransitionRule {
         // What is read is spelled so.
         ensures found { IfOk result (λ rule. IsTzText extended bytes.now rule) }
         // What is spelled so is read.
-        ensures only { (rule : Rule) → IsTzText extended bytes.now rule
+        ensures only { (rule : TransitionRule) → IsTzText extended bytes.now rule
             → IsOkAnd result (λ r. r ≡ rule) }
         // An error is the first fault of the text.
         ensures fault { IfErr result (λ e. IsTextFault extended bytes.now e.error) }

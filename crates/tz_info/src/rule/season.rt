@@ -1,15 +1,10 @@
 //! The moments of one year at which a rule's types give way to each other, and the seconds at which
 //! only these decide.
 
-ghost use Rattle.std.specs.Prelude.{◌≡◌, ◌<◌, pos, ◌+ℤ◌, IsTrue, ◌↔◌, MatchResult};
-ghost use Rattle.naive_base.specs.DateOf.{year_of, day_of_year};
-ghost use Rattle.naive_base.specs.Year.{floor_div, year_start, LiesIn, IsDay};
-ghost use Rattle.tz_base.specs.declared.error.Error.TheVariants.{OutOfRange};
-ghost use Rattle.tz_base.specs.declared.error.Expected.TheVariants.{YearThatRuleAnswersIn};
-ghost use Rattle.tz_info.specs.Rules.{IsAlternateRule};
+ghost use Rattle.std.specs.Prelude.{◌≡◌, ◌↔◌, ◌<◌, ◌+ℤ◌, pos, IsTrue, MatchResult};
+ghost use Rattle.naive_base.specs.{DateOf.{day_of_year, year_of}, Year.{floor_div, year_start, IsDay, LiesIn}};
 ghost use Rattle.tz_info.specs.Moments.{IsRuleTime};
-ghost use Rattle.tz_info.specs.Steps.Kinds.{kind_place};
-ghost use Rattle.tz_info.specs.Steps.Seasons.{IsDecidedIn};
+ghost use Rattle.tz_info.specs.{Rules.{IsAlternateRule}, Steps.{Kinds.{kind_place}, Seasons.{IsDecidedIn}}};
 
 use crate::rule::alternate::AlternateTime;
 use crate::rule::kinds::{kind_by, kind_of};
@@ -34,9 +29,8 @@ pub(crate) struct Season {
 }
 
 impl AlternateTime {
-    ghost use Rattle.tz_info.specs.Moments.{AlternateAt, IsAlternateRefused, IsDstAt, IsRuleYear};
-    ghost use Rattle.tz_info.specs.Moments.{end_in, start_in, type_when};
-    ghost use Rattle.tz_info.specs.Steps.Seasons.{IsSeason};
+    ghost use Rattle.tz_info.specs.Moments.{end_in, start_in, type_when, AlternateAt, IsAlternateRefused, IsDstAt};
+    ghost use Rattle.tz_info.specs.{Moments.{IsRuleYear}, Steps.Seasons.{IsSeason}};
 
     /// The type in force at the second of Unix time, as `TransitionRule::find_local_time_type` has
     /// it.
@@ -50,7 +44,7 @@ impl AlternateTime {
     pub fn find_local_time_type(&self, unix_time: i64) -> Result<&LocalTimeType, Error>
         ensures { MatchResult result
             (λ t. AlternateAt self.now unix_time t.now)
-            (λ e. (e ≡ OutOfRange YearThatRuleAnswersIn) × IsAlternateRefused unix_time) }
+            (λ e. (e ≡ Error.OutOfRange Expected.YearThatRuleAnswersIn) × IsAlternateRefused unix_time) }
     {
         if !is_rule_time(unix_time) {
             return Err(Error::OutOfRange(Expected::YearThatRuleAnswersIn));

@@ -1,11 +1,9 @@
 //! The rule of a TZ string.
 
 ghost use Rattle.std.specs.Prelude.{◌≡◌, MatchResult};
-ghost use Rattle.tz_base.specs.declared.error.Error.TheVariants.{OutOfRange};
-ghost use Rattle.tz_base.specs.declared.error.Expected.TheVariants.{YearThatRuleAnswersIn};
 
 use crate::rule::alternate::AlternateTime;
-use tz_base::{Error, LocalTimeType};
+use tz_base::{Error, Expected, LocalTimeType};
 
 /// What a TZ string says: one type forever, or two that take turns each year.
 #[derive(Clone, Copy, Debug, PartialEq, Eq)]
@@ -34,7 +32,7 @@ impl TransitionRule {
     #[inline(always)]
     pub fn find_local_time_type(&self, unix_time: i64) -> Result<&LocalTimeType, Error>
         ensures { MatchResult result (λ t. RuleAt self.now unix_time t.now)
-            (λ e. (e ≡ OutOfRange YearThatRuleAnswersIn)
+            (λ e. (e ≡ Error.OutOfRange Expected.YearThatRuleAnswersIn)
             × IsRuleRefused self.now unix_time) }
     {
         match self {

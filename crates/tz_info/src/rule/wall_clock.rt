@@ -1,22 +1,13 @@
 //! The wall clock of a rule.
 
-ghost use Rattle.std.specs.Prelude.{◌≡◌, ◌≢◌, ◌-ℤ◌, ℤ, MatchOption, Some, ⊤};
-ghost use Rattle.std.specs.Result.{IsOkAnd};
-ghost use Rattle.naive_base.specs.NaiveDateTime.{reading};
-ghost use Rattle.naive_base.specs.Range.{IsWide};
-ghost use Rattle.offset_core.specs.LocalResult.{map_of};
-ghost use Rattle.offset_core.specs.WallAnswer.{IsWallAnswer};
+ghost use Rattle.std.specs.{Prelude.{◌≢◌, ◌-ℤ◌, ⊤, MatchOption, ℤ}, Result.{IsOkAnd}};
+ghost use Rattle.offset_core.specs.{LocalResult.{map_of}, WallAnswer.{IsWallAnswer}};
+ghost use Rattle.naive_base.specs.{NaiveDateTime.{reading}, Range.{IsWide}};
 ghost use Rattle.tz_base.specs.LocalTypes.{IsUtOffset};
-ghost use Rattle.tz_info.specs.Counts.{RoseWithin, HasRoomFor};
-ghost use Rattle.tz_info.specs.RuleTypes.{RuleAt};
-ghost use Rattle.tz_info.specs.Rules.{IsAlternateRule};
-ghost use Rattle.tz_info.specs.Steps.Gaps.{IsNeverFrom, IsRuleGap};
-ghost use Rattle.tz_info.specs.HeldChanges.{change_held};
-ghost use Rattle.tz_info.specs.Steps.RuleSeconds.{TypeFrom, IsAskedSince, IsAskedFrom, AreUtOffsets};
-ghost use Rattle.tz_info.specs.Steps.Seasons.{IsSeasonFor, IsSeasonOf};
-ghost use Rattle.tz_info.specs.Steps.Walk.{IsAskedLast};
-ghost use Rattle.tz_info.specs.WallClocks.{Shows};
-ghost use Rattle.tz_info.specs.declared.rule.transition_rule.TransitionRule.TheVariants.{Fixed, Alternate};
+ghost use Rattle.tz_info.specs.{Counts.{HasRoomFor, RoseWithin}, HeldChanges.{change_held}, Steps.Walk.{IsAskedLast}};
+ghost use Rattle.tz_info.specs.{Rules.{IsAlternateRule}, RuleTypes.{RuleAt}, WallClocks.{Shows}};
+ghost use Rattle.tz_info.specs.Steps.{Gaps.{IsNeverFrom, IsRuleGap}, Seasons.{IsSeasonFor, IsSeasonOf}};
+ghost use Rattle.tz_info.specs.Steps.RuleSeconds.{AreUtOffsets, IsAskedFrom, IsAskedSince, TypeFrom};
 
 use crate::answers::{answer_of_two, copied, joined, second_showing};
 use crate::change::HeldChange;
@@ -84,10 +75,10 @@ fn answer_of_one<'a>(
 ) -> MappedLocalTime<&'a LocalTimeType>
     requires local { IsWide local }
     requires room { HasRoomFor 2 probes.old.rule_questions }
-    ensures found { IsWallAnswer (Shows (TypeFrom (Fixed only.now) from) local)
+    ensures found { IsWallAnswer (Shows (TypeFrom (TransitionRule.Fixed only.now) from) local)
         (map_of (λ r. r.now) result) }
     ensures cost { RoseWithin probes.old probes.new 0 2 }
-    ensures counted { IsAskedFrom (Fixed only.now) from local
+    ensures counted { IsAskedFrom (TransitionRule.Fixed only.now) from local
         probes.old.rule_questions probes.new.rule_questions }
     ensures offset { IsUtOffset only.now.offset }
 {
@@ -110,10 +101,10 @@ impl AlternateTime {
         requires local { IsWide local }
         requires room { HasRoomFor 2 probes.old.rule_questions }
         ensures season { MatchOption result.0 ⊤ (IsSeasonFor self.now from local) }
-        ensures found { IsWallAnswer (Shows (TypeFrom (Alternate self.now) from) local)
+        ensures found { IsWallAnswer (Shows (TypeFrom (TransitionRule.Alternate self.now) from) local)
             (map_of (λ r. r.now) result.1) }
         ensures cost { RoseWithin probes.old probes.new 0 2 }
-        ensures counted { IsAskedFrom (Alternate self.now) from local
+        ensures counted { IsAskedFrom (TransitionRule.Alternate self.now) from local
             probes.old.rule_questions probes.new.rule_questions }
         ensures rule { IsAlternateRule self.now }
     {
@@ -151,10 +142,10 @@ impl AlternateTime {
         requires season { IsSeasonFor self.now from local season }
         requires other { self.now.std.offset ≢ self.now.dst.offset }
         ensures season { MatchOption result.0 ⊤ (IsSeasonFor self.now from local) }
-        ensures found { IsWallAnswer (Shows (TypeFrom (Alternate self.now) from) local)
+        ensures found { IsWallAnswer (Shows (TypeFrom (TransitionRule.Alternate self.now) from) local)
             (map_of (λ r. r.now) result.1) }
         ensures cost { RoseWithin probes.old probes.new 0 2 }
-        ensures counted { IsAskedFrom (Alternate self.now) from local
+        ensures counted { IsAskedFrom (TransitionRule.Alternate self.now) from local
             probes.old.rule_questions probes.new.rule_questions }
     {
         // The greater offset has the earlier second.
@@ -201,7 +192,7 @@ impl AlternateTime {
     ) -> MappedLocalTime<&'a LocalTimeType>
         requires local { IsWide local }
         requires room { HasRoomFor 1 probes.old.rule_questions }
-        ensures asked { IsAskedLast (TypeFrom (Alternate self.now) from) local offset
+        ensures asked { IsAskedLast (TypeFrom (TransitionRule.Alternate self.now) from) local offset
             (map_of (λ r. r.now) answer.entry) (map_of (λ r. r.now) result) }
         ensures cost { RoseWithin probes.old probes.new 0 1 }
         ensures counted { IsAskedSince from (local -ℤ offset)

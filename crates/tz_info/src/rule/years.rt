@@ -3,13 +3,12 @@
 //! They do so at moments of the rule, and at a turn of the year if the one moment comes first in
 //! the old year, and the other one in the new. Every 400 years they do so alike.
 
-ghost use Rattle.std.specs.Prelude.{◌≡◌, ◌≢◌, length, ◌≤ℤ◌, IsTrue, ◌↔◌, IfSome, MatchOption, Some};
-ghost use Rattle.tz_info.specs.Changes.{IsChange};
-ghost use Rattle.tz_info.specs.Moments.{AlternateAt, IsRuleYear, IsRuleTime, IsYearOf, type_when};
+ghost use Rattle.std.specs.Prelude.{◌≡◌, ◌≢◌, ◌↔◌, ◌≤ℤ◌, length, IfSome, IsTrue, MatchOption};
+ghost use Rattle.tz_info.specs.{Changes.{IsChange}, Moments.{type_when, AlternateAt, IsRuleTime, IsRuleYear, IsYearOf}};
 ghost use Rattle.tz_info.specs.Rules.{Alternate, IsAlternateRule};
-ghost use Rattle.tz_info.specs.Steps.Beside.{IsMomentAt, IsNearestMomentOf, change_found};
-ghost use Rattle.tz_info.specs.Steps.Changes.{IsIdle, IsInStretch, IsEarlierOf, IsLaterOf};
-ghost use Rattle.tz_info.specs.Steps.Changes.{IsOfYear, IsOneOf, IsStretchAhead, moments_near, near_end, new_year};
+ghost use Rattle.tz_info.specs.Steps.Beside.{change_found, IsMomentAt, IsNearestMomentOf};
+ghost use Rattle.tz_info.specs.Steps.Changes.{moments_near, near_end, new_year, IsEarlierOf, IsIdle, IsInStretch};
+ghost use Rattle.tz_info.specs.Steps.Changes.{IsLaterOf, IsOfYear, IsOneOf, IsStretchAhead};
 
 use crate::change::is_same_type;
 use crate::rule::alternate::AlternateTime;

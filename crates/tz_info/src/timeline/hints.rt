@@ -5,11 +5,10 @@
 //! last one before it. The latest item at a second of a stretch is then the one of its hint, or one
 //! of the few up to that of the next hint.
 
-ghost use Rattle.std.specs.Prelude.{◌≡◌, ◌+◌, ◌*◌, ◌/◌, ◌^◌, ◌<◌, ◌≤◌, ◌≤ℤ◌, ◌-ℤ◌, pos, suc, length, map, List, ℤ, ℕ};
-ghost use Rattle.std.specs.Prelude.{slice_index, MatchOption, MatchResult, ⊤};
-ghost use Rattle.tz_info.specs.Steps.Hints.{AreHints, AreMarked, AreNonDecreasing, AreRaised, AreStepsUntil};
-ghost use Rattle.tz_info.specs.Steps.Hints.{IsHinted, stretch_of};
-ghost use Rattle.tz_info.specs.Steps.Search.{AreOrdered, item_time};
+ghost use Rattle.std.specs.Prelude.{◌≡◌, ◌<◌, ◌≤◌, ◌+◌, ◌/◌, ◌^◌, ◌≤ℤ◌, ◌-ℤ◌, length, map, pos, slice_index, suc, ⊤};
+ghost use Rattle.std.specs.Prelude.{List, MatchOption, MatchResult, ℕ, ℤ};
+ghost use Rattle.tz_info.specs.Steps.Hints.{stretch_of, AreHints, AreMarked, AreNonDecreasing, AreRaised};
+ghost use Rattle.tz_info.specs.Steps.{Hints.{AreStepsUntil, IsHinted}, Search.{item_time, AreOrdered}};
 
 use crate::timeline::timed::Timed;
 use std::alloc::{AllocError, Global};

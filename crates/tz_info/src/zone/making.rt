@@ -1,12 +1,9 @@
 //! How a zone is made: its lists are checked, and what lookups need is prepared from them.
 
-ghost use Rattle.std.specs.Prelude.{◌≡◌, [], pos, ◌<◌, length, IfSome, MatchResult, ◌⊎◌};
-ghost use Rattle.tz_base.specs.Errors.{IsOutOfMemory};
-ghost use Rattle.tz_base.specs.LocalTypes.{IsUtOffset};
-ghost use Rattle.tz_base.specs.declared.error.Error.TheVariants.{LocalTimeType as TypeError, OutOfMemory};
-ghost use Rattle.tz_base.specs.declared.error.Expected.TheVariants.{OffsetAboveI32Min};
+ghost use Rattle.std.specs.Prelude.{◌≡◌, ◌⊎◌, ◌<◌, [], length, pos, IfSome, MatchResult};
+ghost use Rattle.tz_base.specs.{Errors.{IsOutOfMemory}, LocalTypes.{IsUtOffset}};
 ghost use Rattle.tz_info.specs.Steps.LastSpans.{IsLastSpan};
-ghost use Rattle.tz_info.specs.Zones.{Zone, IsValid, ListFault, plain_zone, zone_of_rule, zone_of_type};
+ghost use Rattle.tz_info.specs.Zones.{plain_zone, zone_of_rule, zone_of_type, IsValid, ListFault, Zone};
 
 use crate::rule::TransitionRule;
 use crate::zone::ask::all_changes::second_before;
@@ -24,7 +21,7 @@ use crate::zone::made::last_span::LastSpan;
 use crate::zone::made::segments::Lists;
 use crate::zone::time_zone::TimeZone;
 use std::alloc::Global;
-use tz_base::{Error, LocalTimeType};
+use tz_base::{Error, Expected, LocalTimeType};
 
 impl TimeZone {
     /// The zone of those transitions, types, leap seconds and rule.
@@ -57,7 +54,7 @@ impl TimeZone {
         } in
             MatchResult result (λ z. IsValid lists × (z ≡ lists))
             (λ e. (ListFault lists e × ¬ (IsValid lists))
-            ⊎ ((e ≡ OutOfMemory) × IsValid lists × (0 < length lists.transitions))) }
+            ⊎ ((e ≡ Error.OutOfMemory) × IsValid lists × (0 < length lists.transitions))) }
     {
         check(&transitions, &types, &leaps, &rule)?;
         let kept = all_kept(alloc, &transitions)?;
@@ -83,7 +80,7 @@ impl TimeZone {
           types = types.items;
           leaps = leaps.items;
           rule = rule;
-        }) (λ e. (e ≡ OutOfMemory) × (0 < length transitions.items)) }
+        }) (λ e. (e ≡ Error.OutOfMemory) × (0 < length transitions.items)) }
     {
         let leaps = LeapSeconds::new(leaps);
         if transitions.is_empty() {
@@ -132,7 +129,7 @@ impl TimeZone {
     pub fn fixed(alloc: Global, ut_offset: i32) -> Result<TimeZone, Error>
         ensures { MatchResult result
             (λ z. IsUtOffset ut_offset × (z ≡ plain_zone ut_offset))
-            (λ e. ((e ≡ TypeError OffsetAboveI32Min) × ¬ (IsUtOffset ut_offset))
+            (λ e. ((e ≡ Error.LocalTimeType Expected.OffsetAboveI32Min) × ¬ (IsUtOffset ut_offset))
             ⊎ (IsOutOfMemory e × IsUtOffset ut_offset)) }
     {
         TimeZone::of_type(alloc, LocalTimeType::with_offset(ut_offset)?)

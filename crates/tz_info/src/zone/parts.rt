@@ -1,9 +1,7 @@
 //! What a zone lists, and how much of it there is.
 
-ghost use Rattle.std.specs.Prelude.{◌≡◌, ◌*◌, ◌<◌, ◌≤◌, length, option_map};
-ghost use Rattle.std.specs.List.{slice_get};
-ghost use Rattle.tz_info.specs.Windows.{IsGreatest, IsLeast, offsets};
-ghost use Rattle.tz_info.specs.Zones.{IsValid, IsRuleOrNone};
+ghost use Rattle.std.specs.{List.{slice_get}, Prelude.{◌≡◌, ◌<◌, ◌≤◌, ◌*◌, length, option_map}};
+ghost use Rattle.tz_info.specs.{Windows.{offsets, IsGreatest, IsLeast}, Zones.{IsRuleOrNone, IsValid}};
 
 use crate::rule::TransitionRule;
 use crate::timeline::Probes;

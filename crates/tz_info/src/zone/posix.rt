@@ -1,12 +1,10 @@
 //! Zones of TZ strings.
 
-ghost use Rattle.std.specs.Prelude.{◌≡◌, IfOk, IfErr, MatchResult, ◌⊎◌, ◌-◌, [], ◌∷◌, true, None, option_map, pos};
+ghost use Rattle.std.specs.Prelude.{◌≡◌, ◌⊎◌, ◌-◌, option_map, pos, true, IfErr, IfOk, MatchResult};
 ghost use Rattle.tz_base.specs.Errors.{IsOutOfMemory};
-ghost use Rattle.tz_info.specs.Zones.{Zone, plain_zone};
-ghost use Rattle.tz_info.specs.PosixZones.{IsPosixZone, IsPosixFault, IsExtendedZone, types_of, posix_zone};
-ghost use Rattle.tz_info.specs.PosixZones.{IsPlaced, IsPosixFaultPlace, IsExtendedFaultPlace};
-ghost use Rattle.tz_info.specs.Steps.Spelled.{IsTrimmedRule};
-ghost use Rattle.tz_info.specs.TzGrammar.{IsTextFault};
+ghost use Rattle.tz_info.specs.PosixZones.{posix_zone, types_of, IsExtendedFaultPlace, IsExtendedZone, IsPlaced};
+ghost use Rattle.tz_info.specs.{PosixZones.{IsPosixFault, IsPosixFaultPlace, IsPosixZone}, Zones.{plain_zone, Zone}};
+ghost use Rattle.tz_info.specs.{Steps.Spelled.{IsTrimmedRule}, TzGrammar.{IsTextFault}};
 
 use crate::rule::TransitionRule;
 use crate::zone::time_zone::TimeZone;
@@ -172,7 +170,7 @@ fn read_trimmed(text: &str) -> Result<TransitionRule, ParseError>
     }
 }
 
-// The place, if it is that many bytes behind the start of the bytes that are left.
+// A place in the last `left` of `len` bytes, counted from the first of all of them.
 fn place_in(len: usize, left: usize, place: Option<usize>) -> Option<usize>
     ensures { result ≡ option_map (λ p. len - (left - p)) place }
 {

@@ -40,8 +40,7 @@ pub struct TimeZone {
 }
 
 impl Model for TimeZone {
-    ghost use Rattle.tz_info.specs.Steps.Prepared.{IsPrepared};
-    ghost use Rattle.tz_info.specs.Zones.{Zone};
+    ghost use Rattle.tz_info.specs.{Steps.Prepared.{IsPrepared}, Zones.{Zone}};
 
     ghost Value = { Zone };
 

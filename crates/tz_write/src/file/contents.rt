@@ -1,10 +1,8 @@
 //! Transitions and leap seconds of a data block (RFC 8536 section 3.2).
 
-ghost use Rattle.std.specs.Prelude.{◌≡◌, ◌<◌, ◌↔◌, ◌++◌, length, slice_index_or, All, IsTrue, OnOk};
-ghost use Rattle.std.specs.List.{flat_map};
-ghost use Rattle.tz_write.specs.FileBytes.{time_bytes, index_bytes, leap_bytes};
+ghost use Rattle.std.specs.{List.{flat_map}, Prelude.{◌≡◌, ◌↔◌, ◌<◌, ◌++◌, length, slice_index_or, All, IsTrue, OnOk}};
+ghost use Rattle.tz_write.specs.FileBytes.{index_bytes, leap_bytes, time_bytes};
 ghost use Rattle.tz_write.specs.WrittenFiles.{HasIndex, HasTimeOf64Bits, IsEntry};
-ghost use Rattle.tz_info.specs.declared.zone.lists.transition.Transition.{Transition as AnyTransition};
 
 use crate::file::numbers::{push_signed_32, push_signed_64};
 use std::alloc::AllocError;
@@ -12,7 +10,7 @@ use tz_info::{LeapSecond, TimeZone, Transition};
 
 fn transition(zone: &TimeZone, place: usize) -> Transition
     requires { place < length zone.now.transitions }
-    ensures { (d : AnyTransition) → result ≡ slice_index_or zone.now.transitions place d }
+    ensures { (d : Transition) → result ≡ slice_index_or zone.now.transitions place d }
 {
     match zone.transition_at(place) {
         Some(transition) => transition,

@@ -1,7 +1,6 @@
 //! Numbers in a file, the highest byte first.
 
-ghost use Rattle.std.specs.Prelude.{◌≡◌, ◌++◌, OnOk, FitsSigned};
-ghost use Rattle.std.specs.Int.{w32, w64};
+ghost use Rattle.std.specs.{Int.{w32, w64}, Prelude.{◌≡◌, ◌++◌, FitsSigned, OnOk}};
 ghost use Rattle.tz_write.specs.FileBytes.{number_bytes, signed_bytes};
 
 use std::alloc::AllocError;

@@ -1,9 +1,7 @@
 //! The local time types of a data block (RFC 8536 section 3.2).
 
-ghost use Rattle.std.specs.Prelude.{◌≡◌, ◌++◌, All, OnOk};
-ghost use Rattle.std.specs.List.{flat_map};
-ghost use Rattle.tz_write.specs.FileBytes.{mark_byte, type_bytes};
-ghost use Rattle.tz_write.specs.FileLayouts.{HasPlace, HavePlaces};
+ghost use Rattle.std.specs.{List.{flat_map}, Prelude.{◌≡◌, ◌++◌, All, OnOk}};
+ghost use Rattle.tz_write.specs.{FileBytes.{mark_byte, type_bytes}, FileLayouts.{HasPlace, HavePlaces}};
 ghost use Rattle.tz_write.specs.WrittenFiles.{IsType};
 
 use crate::file::designations::{name_of, place_of};

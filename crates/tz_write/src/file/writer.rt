@@ -1,11 +1,10 @@
 //! A file from its first byte to its last.
 
-ghost use Rattle.std.specs.Prelude.{◌≡◌, ◌<◌, ◌≤◌, ◌++◌, [], All, OnOk, IfOk, MatchOption, length};
-ghost use Rattle.tz_info.specs.Zones.{IsValid, IsRuleOrNone};
-ghost use Rattle.tz_write.specs.FileBytes.{zone_counts, zone_parts, block_bytes, footer_bytes, second_half, file_bytes};
-ghost use Rattle.tz_write.specs.WrittenFiles.{IsCount, HasCounts, HasIndex, FitsBlock, IsSound};
-ghost use Rattle.tz_write.specs.FileLayouts.{HavePlaces};
-ghost use Rattle.tz_write.specs.Steps.FileParts.{counts_in, IsRoomOf};
+ghost use Rattle.std.specs.Prelude.{◌≡◌, ◌≤◌, ◌++◌, [], length, All, IfOk, MatchOption, OnOk};
+ghost use Rattle.tz_info.specs.Zones.{IsRuleOrNone, IsValid};
+ghost use Rattle.tz_write.specs.FileBytes.{block_bytes, file_bytes, footer_bytes, second_half, zone_counts, zone_parts};
+ghost use Rattle.tz_write.specs.{FileLayouts.{HavePlaces}, Steps.FileParts.{counts_in, IsRoomOf}};
+ghost use Rattle.tz_write.specs.WrittenFiles.{FitsBlock, HasCounts, HasIndex, IsCount, IsSound};
 
 use crate::file::contents::{have_indexes, push_indexes, push_leap_seconds, push_times};
 use crate::file::designations::{Designations, designations_of};

@@ -1,14 +1,12 @@
 //! Theorems of the files that are written.
 
-ghost use Rattle.std.specs.Prelude.{◌≡◌, ℕ, pos, neg_ℤ, false, true, List, [], ◌∷◌, slice_index};
-ghost use Rattle.std.specs.Prelude.{Some, IfOk, IfSome, MatchOption, MatchResult, codes};
+ghost use Rattle.std.specs.Prelude.{◌≡◌, ◌∷◌, [], codes, false, neg_ℤ, pos, slice_index, true, IfOk, IfSome, List};
+ghost use Rattle.std.specs.Prelude.{MatchOption, MatchResult, ℕ};
 ghost use Rattle.tz_base.specs.Errors.{IsOutOfMemory};
-ghost use Rattle.tz_info.specs.TzFiles.{IsTzFile};
-ghost use Rattle.tz_info.specs.Zones.{Zone, IsValid, IsRuleOrNone};
-ghost use Rattle.tz_write.specs.FileBytes.{counts_of, header_bytes};
+ghost use Rattle.tz_info.specs.{TzFiles.{IsTzFile}, Zones.{IsRuleOrNone, IsValid, Zone}};
+ghost use Rattle.tz_write.specs.{FileBytes.{counts_of, header_bytes}, WrittenFiles.{NeedsExtensions}};
 ghost use Rattle.tz_write.specs.FileLayouts.{laid};
-ghost use Rattle.tz_write.specs.WrittenFiles.{AreBytes, IsInNoFile, IsWritable, IsWrittenFile};
-ghost use Rattle.tz_write.specs.WrittenFiles.{NeedsExtensions, IsSound};
+ghost use Rattle.tz_write.specs.WrittenFiles.{AreBytes, IsInNoFile, IsSound, IsWritable, IsWrittenFile};
 
 use crate::ToTzData;
 use std::alloc::Global;

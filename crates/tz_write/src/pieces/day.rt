@@ -1,9 +1,7 @@
 //! Days, and the times of day after them.
 
-ghost use Rattle.std.specs.Prelude.{◌≡◌, ◌∷◌, ◌++◌, pos, OnOk, string_bytes};
-ghost use Rattle.std.specs.Fmt.{decimal};
+ghost use Rattle.std.specs.Prelude.{◌≡◌, ◌++◌, ◌∷◌, string_bytes, OnOk};
 ghost use Rattle.tz_info.specs.TzGrammar.{comma};
-ghost use Rattle.tz_info.specs.declared.rule.day.DayForm.TheVariants.{Julian1, MonthWeekday};
 ghost use Rattle.tz_write.specs.Steps.TextPieces.{spelled_date, time_after};
 
 use crate::pieces::clock::{push_byte, push_number};
@@ -26,7 +24,7 @@ fn push_date(text: &mut String, day: RuleDay) -> Result<(), AllocError>
 
 fn push_julian(text: &mut String, n: u16) -> Result<(), AllocError>
     ensures { OnOk result
-        (string_bytes text.new ≡ string_bytes text.old ++ spelled_date (Julian1 n)) }
+        (string_bytes text.new ≡ string_bytes text.old ++ spelled_date (DayForm.Julian1 n)) }
 {
     push_byte(text, b'J')?;
     push_number(text, n as u32)
@@ -35,7 +33,7 @@ fn push_julian(text: &mut String, n: u16) -> Result<(), AllocError>
 fn push_month_weekday(text: &mut String, month: u8, week: u8, weekday: u8) -> Result<(), AllocError>
     ensures { OnOk result
         (string_bytes text.new
-        ≡ string_bytes text.old ++ spelled_date (MonthWeekday month week weekday)) }
+        ≡ string_bytes text.old ++ spelled_date (DayForm.MonthWeekday month week weekday)) }
 {
     push_byte(text, b'M')?;
     push_number(text, month as u32)?;

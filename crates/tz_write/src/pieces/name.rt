@@ -1,8 +1,6 @@
 //! Names.
 
-ghost use Rattle.std.specs.Prelude.{◌≡◌, ◌++◌, OnOk, IsTrue, MatchOption, Some, None, string_bytes};
-ghost use Rattle.std.specs.List.{list_all};
-ghost use Rattle.tz_base.specs.Names.{IsName};
+ghost use Rattle.std.specs.{List.{list_all}, Prelude.{◌≡◌, ◌++◌, string_bytes, OnOk}};
 ghost use Rattle.tz_info.specs.TzGrammar.{is_letter};
 ghost use Rattle.tz_write.specs.Steps.TextPieces.{spelled_name};
 

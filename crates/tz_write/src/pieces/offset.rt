@@ -1,7 +1,7 @@
 //! Offsets and times of day.
 
-ghost use Rattle.std.specs.Prelude.{◌≡◌, ◌++◌, ◌+ℤ◌, pos, OnOk, string_bytes};
-ghost use Rattle.tz_write.specs.Steps.TextPieces.{spelled_offset, spelled_time, spelled_dst_offset};
+ghost use Rattle.std.specs.Prelude.{◌≡◌, ◌++◌, string_bytes, OnOk};
+ghost use Rattle.tz_write.specs.Steps.TextPieces.{spelled_dst_offset, spelled_offset, spelled_time};
 
 use crate::pieces::clock::push_signed;
 use std::alloc::AllocError;

@@ -4,9 +4,8 @@
 ghost use Rattle.std.specs.Prelude.{◌≡◌, ◌≢◌, ◌⊎◌};
 ghost use Rattle.naive_base.specs.Range.{IsInRange};
 ghost use Rattle.tz_info.specs.Zones.{Zone};
-ghost use Rattle.zoned_ffi.specs.Handles.{IsLent, IsNoneLent};
+ghost use Rattle.zoned_ffi.specs.{Handles.{IsLent, IsNoneLent}, WrittenChanges.{IsLocalChangeWritten, IsNoLocalChange}};
 ghost use Rattle.zoned_ffi.specs.LocalInfos.{IsLocalInfo};
-ghost use Rattle.zoned_ffi.specs.WrittenChanges.{IsLocalChangeWritten, IsNoLocalChange};
 
 use crate::changes::WrittenChange;
 use crate::lent::Lent;

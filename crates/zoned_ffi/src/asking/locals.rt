@@ -1,18 +1,14 @@
 //! The instants of local times.
 #![tactic(auto, using(crate::proofs::Casts::passed_on))]
 
-ghost use Rattle.std.specs.Prelude.{◌≡◌, ◌≢◌, ◌⊎◌, pos, length};
+ghost use Rattle.std.specs.Prelude.{◌≡◌, ◌≢◌, ◌⊎◌, length, pos};
 ghost use Rattle.tz_info.specs.Zones.{Zone};
-ghost use Rattle.zoned_ffi.specs.Columns.{AreAnswered, IsFirstWithout, IsRowNumber};
+ghost use Rattle.zoned_ffi.specs.{Columns.{AreAnswered, IsFirstWithout, IsRowNumber}, Units.{per_second, IsUnit}};
 ghost use Rattle.zoned_ffi.specs.Handles.{IsLent, IsNoneLent, IsUnanswered};
 ghost use Rattle.zoned_ffi.specs.Resolved.{AreReached, AreResolved, IsChoice, IsChoiceOf, IsReachedAt, IsResolvedAt};
-ghost use Rattle.zoned_ffi.specs.Units.{IsUnit, per_second};
-ghost use Rattle.zoned_ffi.specs.declared.choice.Choice.{Choice as AnyChoice};
-ghost use Rattle.zoned_ffi.specs.declared.column.Way.TheVariants.{ToInstants};
-ghost use Rattle.zoned_ffi.specs.declared.unit.Unit.{Unit as AnyUnit};
 
-use crate::choice::choice_of;
-use crate::column::answer_times;
+use crate::choice::{Choice, choice_of};
+use crate::column::{Way, answer_times};
 use crate::lent::Lent;
 use crate::refusal::{NOT_OPEN, OTHER_SIZE, UNKNOWN_CHOICE, UNKNOWN_UNIT};
 use crate::resolved::{Resolved, write_reached, write_resolved};
@@ -28,7 +24,7 @@ pub extern "C" fn zoned_zone_instant(
     resolved: &mut Resolved,
 ) -> u32
     // 0: the answer is the zone's, under the policy of those numbers.
-    ensures answered { result ≡ 0 → (choice : AnyChoice) × IsChoiceOf gap fold choice
+    ensures answered { result ≡ 0 → (choice : Choice) × IsChoiceOf gap fold choice
         × ((z : Zone) × IsLent zone.now z × IsResolvedAt z choice local resolved.new) }
     // 34: no choice has these numbers. 33: no zone is open. Nothing is written.
     ensures refused { result ≢ 0 → (((result ≡ 34) × ¬ (IsChoice gap fold))
@@ -54,7 +50,7 @@ pub extern "C" fn zoned_zone_instants(
     resolved: &mut [Resolved],
 ) -> u32
     // 0: each answer is the zone's, under the policy of those numbers.
-    ensures answered { result ≡ 0 → (choice : AnyChoice) × IsChoiceOf gap fold choice
+    ensures answered { result ≡ 0 → (choice : Choice) × IsChoiceOf gap fold choice
         × ((z : Zone) × IsLent zone.now z × AreResolved z choice locals.now resolved.new) }
     // 34: no choice has these numbers. Others as in the calls above. Nothing is written.
     ensures refused { result ≢ 0 → (((result ≡ 34) × ¬ (IsChoice gap fold))
@@ -131,16 +127,16 @@ pub extern "C" fn zoned_column_instants(
     row: &mut usize,
 ) -> u32
     // 0: each answer is that of the zone.
-    ensures answered { result ≡ 0 → (choice : AnyChoice) × IsChoiceOf gap fold choice
-        × ((unit : AnyUnit) × (count ≡ pos (per_second unit))
+    ensures answered { result ≡ 0 → (choice : Choice) × IsChoiceOf gap fold choice
+        × ((unit : Unit) × (count ≡ pos (per_second unit))
         × ((z : Zone) × IsLent zone.now z
-        × AreAnswered z unit (ToInstants choice) locals.now instants.new)
+        × AreAnswered z unit (Way.ToInstants choice) locals.now instants.new)
         × (row.new ≡ row.old)) }
     // 21 to 23: the local time in the row that is written has none. Those before it are answered.
-    ensures without { IsRowNumber result → (choice : AnyChoice) × IsChoiceOf gap fold choice
-        × ((unit : AnyUnit) × (count ≡ pos (per_second unit))
+    ensures without { IsRowNumber result → (choice : Choice) × IsChoiceOf gap fold choice
+        × ((unit : Unit) × (count ≡ pos (per_second unit))
         × ((z : Zone) × IsLent zone.now z
-        × IsFirstWithout z unit (ToInstants choice) locals.now instants.old instants.new row.new result)) }
+        × IsFirstWithout z unit (Way.ToInstants choice) locals.now instants.old instants.new row.new result)) }
     // 34: no choice has these numbers. 36: no unit has that count in a second. Others as in the calls
     // above. Nothing is written.
     ensures refused { result ≢ 0 → ¬ (IsRowNumber result)

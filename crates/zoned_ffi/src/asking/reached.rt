@@ -1,34 +1,30 @@
 //! What local clocks have reached at an instant: a local time, a day, and steps that begin.
 #![tactic(auto, using(crate::proofs::Casts::passed_on))]
 
-ghost use Rattle.std.specs.Prelude.{◌≡◌, ◌≢◌, ◌⊎◌, ◌-ℤ◌, pos, length};
-ghost use Rattle.naive_plans.specs.declared.clock_step.ClockStep.{ClockStep as AnyStep};
+ghost use Rattle.std.specs.Prelude.{◌≡◌, ◌≢◌, ◌⊎◌, ◌-ℤ◌, length, pos};
 ghost use Rattle.tz_info.specs.Zones.{Zone};
-ghost use Rattle.zoned_ffi.specs.Columns.{AreAnswered, IsFirstWithout, IsSoughtNumber};
+ghost use Rattle.zoned_ffi.specs.{Columns.{AreAnswered, IsFirstWithout, IsSoughtNumber}, Units.{per_second, IsUnit}};
 ghost use Rattle.zoned_ffi.specs.Handles.{IsLent, IsNoneLent, IsUnanswered};
-ghost use Rattle.zoned_ffi.specs.Units.{IsUnit, per_second};
-ghost use Rattle.zoned_ffi.specs.WholeSeconds.{IsDayAt, IsFound, IsNoDayAt, IsNotFound, IsStep, step_number};
-ghost use Rattle.zoned_ffi.specs.declared.column.Way.TheVariants.{ToWholeSeconds};
-ghost use Rattle.zoned_ffi.specs.declared.unit.Unit.{Unit as AnyUnit};
-ghost use Rattle.zoned_ffi.specs.declared.whole_second.WholeSecond.TheVariants.{Reached, Floor, Ceil};
+ghost use Rattle.zoned_ffi.specs.WholeSeconds.{step_number, IsDayAt, IsFound, IsNoDayAt, IsNotFound, IsStep};
 
-use crate::column::answer_whole_seconds;
+use crate::column::{Way, answer_whole_seconds};
 use crate::days::WrittenDay;
 use crate::lent::Lent;
 use crate::refusal::{NOT_OPEN, UNKNOWN_STEP, UNKNOWN_UNIT};
 use crate::unit::Unit;
 use crate::whole_second::{WholeSecond, step_of};
+use naive_plans::ClockStep;
 
 /// Writes the last local time that the zone's clocks have shown up to the instant.
 #[unsafe(no_mangle)]
 pub extern "C" fn zoned_zone_reached(zone: &Lent, instant: i64, local: &mut i64) -> u32
     // 0: it is written.
     ensures answered { result ≡ 0
-        → (z : Zone) × IsLent zone.now z × IsFound z Reached instant (instant -ℤ pos 1) local.new }
+        → (z : Zone) × IsLent zone.now z × IsFound z WholeSecond.Reached instant (instant -ℤ pos 1) local.new }
     // 33: no zone is open. 40: an offset is a day or more. 23: the instant is out of range. Nothing is
     // written.
     ensures refused { result ≢ 0 → (((result ≡ 33) × IsNoneLent zone.now)
-        ⊎ ((z : Zone) × IsLent zone.now z × IsNotFound z Reached instant (instant -ℤ pos 1) result))
+        ⊎ ((z : Zone) × IsLent zone.now z × IsNotFound z WholeSecond.Reached instant (instant -ℤ pos 1) result))
         × (local.new ≡ local.old) }
 {
     write_found(zone, WholeSecond::Reached, instant, local)
@@ -38,16 +34,16 @@ pub extern "C" fn zoned_zone_reached(zone: &Lent, instant: i64, local: &mut i64)
 #[unsafe(no_mangle)]
 pub extern "C" fn zoned_zone_floor(zone: &Lent, step: u32, instant: i64, floor: &mut i64) -> u32
     // 0: it is written.
-    ensures answered { result ≡ 0 → (clock_step : AnyStep) × (step ≡ step_number clock_step)
+    ensures answered { result ≡ 0 → (clock_step : ClockStep) × (step ≡ step_number clock_step)
         × ((z : Zone) × IsLent zone.now z
-        × IsFound z (Floor clock_step) instant (instant -ℤ pos 1) floor.new) }
+        × IsFound z (WholeSecond.Floor clock_step) instant (instant -ℤ pos 1) floor.new) }
     // 47: no step has that number. 33: no zone is open. 40: an offset is a day or more. 23: the instant is
     // out of range, or the step begins out of it. Nothing is written.
     ensures refused { result ≢ 0 → (((result ≡ 47) × ¬ (IsStep step))
         ⊎ ((result ≡ 33) × IsStep step × IsNoneLent zone.now)
-        ⊎ ((clock_step : AnyStep) × (step ≡ step_number clock_step)
+        ⊎ ((clock_step : ClockStep) × (step ≡ step_number clock_step)
         × ((z : Zone) × IsLent zone.now z
-        × IsNotFound z (Floor clock_step) instant (instant -ℤ pos 1) result)))
+        × IsNotFound z (WholeSecond.Floor clock_step) instant (instant -ℤ pos 1) result)))
         × (floor.new ≡ floor.old) }
 {
     let Some(clock_step) = step_of(step) else {
@@ -60,16 +56,16 @@ pub extern "C" fn zoned_zone_floor(zone: &Lent, step: u32, instant: i64, floor: 
 #[unsafe(no_mangle)]
 pub extern "C" fn zoned_zone_ceil(zone: &Lent, step: u32, instant: i64, ceil: &mut i64) -> u32
     // 0: it is written.
-    ensures answered { result ≡ 0 → (clock_step : AnyStep) × (step ≡ step_number clock_step)
+    ensures answered { result ≡ 0 → (clock_step : ClockStep) × (step ≡ step_number clock_step)
         × ((z : Zone) × IsLent zone.now z
-        × IsFound z (Ceil clock_step) instant (instant -ℤ pos 1) ceil.new) }
+        × IsFound z (WholeSecond.Ceil clock_step) instant (instant -ℤ pos 1) ceil.new) }
     // 47: no step has that number. 33: no zone is open. 40: an offset is a day or more. 23: the instant is
     // out of range, or no step begins from it on in that range. Nothing is written.
     ensures refused { result ≢ 0 → (((result ≡ 47) × ¬ (IsStep step))
         ⊎ ((result ≡ 33) × IsStep step × IsNoneLent zone.now)
-        ⊎ ((clock_step : AnyStep) × (step ≡ step_number clock_step)
+        ⊎ ((clock_step : ClockStep) × (step ≡ step_number clock_step)
         × ((z : Zone) × IsLent zone.now z
-        × IsNotFound z (Ceil clock_step) instant (instant -ℤ pos 1) result)))
+        × IsNotFound z (WholeSecond.Ceil clock_step) instant (instant -ℤ pos 1) result)))
         × (ceil.new ≡ ceil.old) }
 {
     let Some(clock_step) = step_of(step) else {
@@ -112,14 +108,14 @@ pub extern "C" fn zoned_column_reached(
     row: &mut usize,
 ) -> u32
     // 0: each answer is that of the zone.
-    ensures answered { result ≡ 0 → (unit : AnyUnit) × (count ≡ pos (per_second unit))
+    ensures answered { result ≡ 0 → (unit : Unit) × (count ≡ pos (per_second unit))
         × ((z : Zone) × IsLent zone.now z
-        × AreAnswered z unit (ToWholeSeconds Reached) instants.now locals.new)
+        × AreAnswered z unit (Way.ToWholeSeconds WholeSecond.Reached) instants.now locals.new)
         × (row.new ≡ row.old) }
     // 23 or 40: the instant in the row that is written has none. Those before it are answered.
-    ensures without { IsSoughtNumber result → (unit : AnyUnit) × (count ≡ pos (per_second unit))
+    ensures without { IsSoughtNumber result → (unit : Unit) × (count ≡ pos (per_second unit))
         × ((z : Zone) × IsLent zone.now z
-        × IsFirstWithout z unit (ToWholeSeconds Reached) instants.now locals.old locals.new row.new result) }
+        × IsFirstWithout z unit (Way.ToWholeSeconds WholeSecond.Reached) instants.now locals.old locals.new row.new result) }
     // 36: no unit has that count in a second. Others as in the calls above. Nothing is written.
     ensures refused { result ≢ 0 → ¬ (IsSoughtNumber result) → (((result ≡ 36) × ¬ (IsUnit count))
         ⊎ (IsUnit count × IsUnanswered zone.now (length instants.now) (length locals.old) result))
@@ -140,16 +136,16 @@ pub extern "C" fn zoned_column_floors(
     row: &mut usize,
 ) -> u32
     // 0: each answer is that of the zone.
-    ensures answered { result ≡ 0 → (clock_step : AnyStep) × (step ≡ step_number clock_step)
-        × ((unit : AnyUnit) × (count ≡ pos (per_second unit))
+    ensures answered { result ≡ 0 → (clock_step : ClockStep) × (step ≡ step_number clock_step)
+        × ((unit : Unit) × (count ≡ pos (per_second unit))
         × ((z : Zone) × IsLent zone.now z
-        × AreAnswered z unit (ToWholeSeconds (Floor clock_step)) instants.now floors.new)
+        × AreAnswered z unit (Way.ToWholeSeconds (WholeSecond.Floor clock_step)) instants.now floors.new)
         × (row.new ≡ row.old)) }
     // 23 or 40: the instant in the row that is written has none. Those before it are answered.
-    ensures without { IsSoughtNumber result → (clock_step : AnyStep) × (step ≡ step_number clock_step)
-        × ((unit : AnyUnit) × (count ≡ pos (per_second unit))
+    ensures without { IsSoughtNumber result → (clock_step : ClockStep) × (step ≡ step_number clock_step)
+        × ((unit : Unit) × (count ≡ pos (per_second unit))
         × ((z : Zone) × IsLent zone.now z
-        × IsFirstWithout z unit (ToWholeSeconds (Floor clock_step)) instants.now
+        × IsFirstWithout z unit (Way.ToWholeSeconds (WholeSecond.Floor clock_step)) instants.now
         floors.old floors.new row.new result)) }
     // 47: no step has that number. 36: no unit has that count in a second. Others as in the calls above.
     // Nothing is written.
@@ -183,16 +179,16 @@ pub extern "C" fn zoned_column_ceils(
     row: &mut usize,
 ) -> u32
     // 0: each answer is that of the zone.
-    ensures answered { result ≡ 0 → (clock_step : AnyStep) × (step ≡ step_number clock_step)
-        × ((unit : AnyUnit) × (count ≡ pos (per_second unit))
+    ensures answered { result ≡ 0 → (clock_step : ClockStep) × (step ≡ step_number clock_step)
+        × ((unit : Unit) × (count ≡ pos (per_second unit))
         × ((z : Zone) × IsLent zone.now z
-        × AreAnswered z unit (ToWholeSeconds (Ceil clock_step)) instants.now ceils.new)
+        × AreAnswered z unit (Way.ToWholeSeconds (WholeSecond.Ceil clock_step)) instants.now ceils.new)
         × (row.new ≡ row.old)) }
     // 23 or 40: the instant in the row that is written has none. Those before it are answered.
-    ensures without { IsSoughtNumber result → (clock_step : AnyStep) × (step ≡ step_number clock_step)
-        × ((unit : AnyUnit) × (count ≡ pos (per_second unit))
+    ensures without { IsSoughtNumber result → (clock_step : ClockStep) × (step ≡ step_number clock_step)
+        × ((unit : Unit) × (count ≡ pos (per_second unit))
         × ((z : Zone) × IsLent zone.now z
-        × IsFirstWithout z unit (ToWholeSeconds (Ceil clock_step)) instants.now
+        × IsFirstWithout z unit (Way.ToWholeSeconds (WholeSecond.Ceil clock_step)) instants.now
         ceils.old ceils.new row.new result)) }
     // 47: no step has that number. 36: no unit has that count in a second. Others as in the calls above.
     // Nothing is written.
@@ -243,13 +239,13 @@ fn write_column_found(
     found: &mut [i64],
     row: &mut usize,
 ) -> u32
-    ensures answered { result ≡ 0 → (unit : AnyUnit) × (count ≡ pos (per_second unit))
+    ensures answered { result ≡ 0 → (unit : Unit) × (count ≡ pos (per_second unit))
         × ((z : Zone) × IsLent zone.now z
-        × AreAnswered z unit (ToWholeSeconds sought) instants.now found.new)
+        × AreAnswered z unit (Way.ToWholeSeconds sought) instants.now found.new)
         × (row.new ≡ row.old) }
-    ensures without { IsSoughtNumber result → (unit : AnyUnit) × (count ≡ pos (per_second unit))
+    ensures without { IsSoughtNumber result → (unit : Unit) × (count ≡ pos (per_second unit))
         × ((z : Zone) × IsLent zone.now z
-        × IsFirstWithout z unit (ToWholeSeconds sought) instants.now found.old found.new row.new result) }
+        × IsFirstWithout z unit (Way.ToWholeSeconds sought) instants.now found.old found.new row.new result) }
     ensures refused { result ≢ 0 → ¬ (IsSoughtNumber result) → (((result ≡ 36) × ¬ (IsUnit count))
         ⊎ (IsUnit count × IsUnanswered zone.now (length instants.now) (length found.old) result))
         × (found.new ≡ found.old) × (row.new ≡ row.old) }

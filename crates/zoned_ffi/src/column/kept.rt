@@ -1,12 +1,9 @@
 //! What a column keeps of the stretches that its times lie in.
 
-ghost use Rattle.std.specs.Prelude.{◌≡◌, ◌⊎◌, ◌↔◌, ◌≤ℤ◌, ◌<ℤ◌, IsTrue, neg_ℤ, pos, MatchOption, ⊤};
-ghost use Rattle.zoned_ffi.specs.Steps.KeptTimes.{IsKept, IsKeptOf, IsWritten, LieWithin};
-ghost use Rattle.zoned_ffi.specs.Units.{IsOffsetStretch};
-ghost use Rattle.zoned_ffi.specs.declared.column.Way.TheVariants.{ToInstants, ToLocal};
+ghost use Rattle.std.specs.Prelude.{◌≡◌, ◌↔◌, ◌⊎◌, ◌<ℤ◌, ◌≤ℤ◌, neg_ℤ, pos, ⊤, IsTrue, MatchOption};
+ghost use Rattle.zoned_ffi.specs.{Steps.KeptTimes.{IsKept, IsKeptOf, IsWritten, LieWithin}, Units.{IsOffsetStretch}};
 
 use crate::choice::Choice;
-use crate::column::row::less;
 use crate::column::{Question, Way};
 use crate::fields::{END, FIRST};
 use crate::unit::{GREATEST, LEAST, Unit};
@@ -45,7 +42,7 @@ impl Kept {
         (self.low <= time) & (time < self.high)
     }
 
-    // These, or the other ones if there are none.
+    // These, or the other ones if these are no times.
     fn or(self, other: Kept) -> Kept
         ensures { (result ≡ self) ⊎ (result ≡ other) }
     {
@@ -166,7 +163,7 @@ fn none_in(question: Question, stretch: OffsetStretch) -> Kept
 // The instants of the stretch.
 fn instants_in(zone: &TimeZone, unit: Unit, stretch: OffsetStretch) -> Kept
     requires { IsOffsetStretch zone.now stretch }
-    ensures { IsKeptOf zone.now unit ToLocal result }
+    ensures { IsKeptOf zone.now unit Way.ToLocal result }
 {
     let _ = zone;
     let OffsetStretch {
@@ -185,7 +182,7 @@ fn instants_in(zone: &TimeZone, unit: Unit, stretch: OffsetStretch) -> Kept
 // shows them.
 fn local_times_in(zone: &TimeZone, unit: Unit, choice: Choice, stretch: OffsetStretch) -> Kept
     requires { IsOffsetStretch zone.now stretch }
-    ensures { IsKeptOf zone.now unit (ToInstants choice) result }
+    ensures { IsKeptOf zone.now unit (Way.ToInstants choice) result }
 {
     let _ = choice;
     let OffsetStretch {
@@ -202,6 +199,15 @@ fn local_times_in(zone: &TimeZone, unit: Unit, choice: Choice, stretch: OffsetSt
         lesser(end, unit.counts_at(END)),
         less(unit.counts_of(offset)),
     )
+}
+
+/// The count with the other sign.
+pub fn less(counts: i64) -> i64
+    requires { (neg_ℤ (pos 4_611_686_018_427_387_904) ≤ℤ counts)
+        × (counts ≤ℤ pos 4_611_686_018_427_387_904) }
+    ensures { result ≡ neg_ℤ counts }
+{
+    -counts
 }
 
 fn greater(a: i128, b: i128) -> i128

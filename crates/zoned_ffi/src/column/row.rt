@@ -1,6 +1,6 @@
 //! The answer to one time of a column, by a lookup.
 
-ghost use Rattle.std.specs.Prelude.{◌≡◌, ◌<◌, ◌+ℤ◌, ◌-ℤ◌, ◌≤ℤ◌, neg_ℤ, pos, MatchOption, MatchResult};
+ghost use Rattle.std.specs.Prelude.{◌≡◌, ◌<◌, ◌+ℤ◌, ◌-ℤ◌, pos, MatchOption, MatchResult};
 ghost use Rattle.gregorian.specs.Year.{floor_div};
 ghost use Rattle.naive_base.specs.Stamp.{of_secs};
 ghost use Rattle.zoned_time.specs.Fires.{second_before};
@@ -10,7 +10,7 @@ ghost use Rattle.zoned_ffi.specs.Steps.ResolvedInstants.{taken_instant};
 ghost use Rattle.zoned_ffi.specs.Units.{IsCounted, IsLocal, IsWithout, per_second};
 
 use crate::choice::Choice;
-use crate::column::kept::Kept;
+use crate::column::kept::{Kept, less};
 use crate::column::{NO_TIME, Question, Way};
 use crate::refusal::{INSTANT_OUT_OF_RANGE, NO_LOCAL_TIME};
 use crate::resolved::{Taken, take};
@@ -118,7 +118,7 @@ fn instant_taken(unit: Unit, local: i64, taken: Taken) -> Option<i64>
     }
 }
 
-// The whole second that is sought for the instant, or the number that says why there is none.
+// The whole second for an instant, or the error number if it has none.
 fn whole_second_of(
     zone: &TimeZone,
     unit: Unit,
@@ -151,15 +151,6 @@ fn nanos_after(unit: Unit, second: i64, instant: i64) -> u32
     } else {
         0
     }
-}
-
-/// The count with the other sign.
-pub fn less(counts: i64) -> i64
-    requires { (neg_ℤ (pos 4_611_686_018_427_387_904) ≤ℤ counts)
-        × (counts ≤ℤ pos 4_611_686_018_427_387_904) }
-    ensures { result ≡ neg_ℤ counts }
-{
-    -counts
 }
 
 // The count, if it is a time of 64 bits.

@@ -1,13 +1,8 @@
 //! Instants moved by a length of time, and the time between two.
 ghost use Rattle.std.specs.Prelude.{◌≡◌, neg_ℤ, option_map};
-ghost use Rattle.offset_core.specs.LocalResult.{map_of};
-ghost use Rattle.offset_core.specs.TimeDelta.{nanos_of};
-ghost use Rattle.naive_base.specs.NaiveDateTime.{reading};
-ghost use Rattle.naive_base.specs.Range.{IsInRange};
-ghost use Rattle.naive_base.specs.Reading.{Reading, moved, difference};
-ghost use Rattle.zoned_time.specs.DateTime.{zoned, home_law_of};
-ghost use Rattle.zoned_time.specs.Relocal.{IsRelocal};
-ghost use Rattle.zoned_time.specs.Zoned.{IsAt, IsAtInRange};
+ghost use Rattle.offset_core.specs.{LocalResult.{map_of}, TimeDelta.{nanos_of}};
+ghost use Rattle.naive_base.specs.{NaiveDateTime.{reading}, Range.{IsInRange}, Reading.{difference, moved, Reading}};
+ghost use Rattle.zoned_time.specs.{DateTime.{home_law_of, zoned}, Relocal.{IsRelocal}, Zoned.{IsAt, IsAtInRange}};
 
 use super::{DateTime, Instant};
 use crate::{Offset, TimeZone};

@@ -1,15 +1,11 @@
 //! Instants moved by months and days, or to another time of day, and the whole years between two.
-ghost use Rattle.std.specs.Prelude.{◌≡◌, ◌↔◌, IsTrue, SomeIff, pos, neg_ℤ, ◌-ℤ◌, ◌≤ℤ◌, unsigned_abs};
+ghost use Rattle.std.specs.Prelude.{◌≡◌, ◌↔◌, ◌≤ℤ◌, ◌-ℤ◌, neg_ℤ, pos, unsigned_abs, IsTrue, SomeIff};
 ghost use Rattle.offset_core.specs.LocalResult.{map_of};
-ghost use Rattle.naive_base.specs.Months.{months_of, days_of};
-ghost use Rattle.naive_base.specs.NaiveDateTime.{reading};
-ghost use Rattle.naive_base.specs.NaiveTime.{second_of, fraction_of};
-ghost use Rattle.naive_base.specs.Reading.{reading_at, day_at};
-ghost use Rattle.naive_base.specs.DateOf.{year_of};
-ghost use Rattle.zoned_time.specs.DateTime.{zoned, wall_of, home_law_of, IsOnlyMonthsLater, IsOnlyDaysLater};
-ghost use Rattle.zoned_time.specs.DateTime.{IsDaysAdded};
+ghost use Rattle.naive_base.specs.{DateOf.{year_of}, NaiveTime.{fraction_of, second_of}, Reading.{day_at, reading_at}};
+ghost use Rattle.naive_base.specs.{Months.{days_of, months_of}, NaiveDateTime.{reading}};
+ghost use Rattle.zoned_time.specs.DateTime.{home_law_of, wall_of, zoned, IsDaysAdded, IsOnlyDaysLater};
+ghost use Rattle.zoned_time.specs.{DateTime.{IsOnlyMonthsLater}, Years.{IsEarlierInYear, IsWholeYears, IsYearsSince}};
 ghost use Rattle.zoned_time.specs.Relocal.{IsRelocal};
-ghost use Rattle.zoned_time.specs.Years.{IsEarlierInYear, IsWholeYears, IsYearsSince};
 
 use super::DateTime;
 use crate::TimeZone;

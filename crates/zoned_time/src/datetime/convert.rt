@@ -1,8 +1,6 @@
 //! The same instant in another zone.
 ghost use Rattle.std.specs.Prelude.{◌≡◌, pos};
-ghost use Rattle.zoned_time.specs.DateTime.{zoned};
-ghost use Rattle.zoned_time.specs.Stamps.{in_utc};
-ghost use Rattle.zoned_time.specs.Zoned.{IsAt, IsFixedFrom};
+ghost use Rattle.zoned_time.specs.{DateTime.{zoned}, Stamps.{in_utc}, Zoned.{IsAt, IsFixedFrom}};
 
 use super::{DateTime, Instant};
 use crate::{Offset, TimeZone, Utc};

@@ -1,8 +1,7 @@
 //! The fields of what an instant's clock shows, and instants with a field changed.
-ghost use Rattle.std.specs.Prelude.{◌≡◌, IfSome, option_map};
-ghost use Rattle.naive_base.specs.Fields.{time_at};
-ghost use Rattle.naive_base.specs.NaiveDateTime.{reading};
-ghost use Rattle.zoned_time.specs.DateTime.{zoned, wall_of, home_law_of, day_shown_by, IsOnlyOnDay, IsOnlyAtTime};
+ghost use Rattle.std.specs.Prelude.{◌≡◌, option_map, IfSome};
+ghost use Rattle.naive_base.specs.{Fields.{time_at}, NaiveDateTime.{reading}};
+ghost use Rattle.zoned_time.specs.DateTime.{day_shown_by, home_law_of, wall_of, zoned, IsOnlyAtTime, IsOnlyOnDay};
 ghost use Rattle.zoned_time.specs.Fields.{IsOnly};
 
 use super::DateTime;

@@ -1,13 +1,8 @@
 //! The operators of instants, which ask that the result exists. If it may not, call the checked
 //! form.
-ghost use Rattle.std.specs.Prelude.{◌≡◌, pos, neg_ℤ, Some};
-ghost use Rattle.std.specs.Duration.{as_nanos};
-ghost use Rattle.offset_core.specs.FixedOffset.{seconds_of};
-ghost use Rattle.offset_core.specs.Nanoseconds.{FitsTimeDelta};
-ghost use Rattle.offset_core.specs.TimeDelta.{nanos_of};
-ghost use Rattle.naive_base.specs.Months.{months_of, days_of};
-ghost use Rattle.naive_base.specs.Range.{IsInRange};
-ghost use Rattle.naive_base.specs.Reading.{ahead, behind, difference};
+ghost use Rattle.std.specs.{Duration.{as_nanos}, Prelude.{◌≡◌, neg_ℤ, pos, Some}};
+ghost use Rattle.offset_core.specs.{FixedOffset.{seconds_of}, Nanoseconds.{FitsTimeDelta}, TimeDelta.{nanos_of}};
+ghost use Rattle.naive_base.specs.{Months.{days_of, months_of}, Range.{IsInRange}, Reading.{ahead, behind, difference}};
 ghost use Rattle.zoned_time.specs.DateTime as shown;
 
 use super::DateTime;

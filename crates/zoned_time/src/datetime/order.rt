@@ -1,12 +1,9 @@
 //! Equality, order and hash of instants: only by their UTC date-times.
-ghost use Rattle.std.specs.Prelude.{◌≡◌, ◌↔◌, IsTrue, ◌==◌, ◌++◌};
-ghost use Rattle.std.specs.Cmp.{partial_order_from_own_ties};
-ghost use Rattle.std.specs.Cmp.Rules.{comparing, hashing};
 ghost use Rattle.std.specs.Hash as fed;
-ghost use Rattle.std.specs.Ordering.{on, int_eq, int_cmp, nat_cmp, then_cmp, eq_of_both, as_partial_cmp};
-ghost use Rattle.std.proofs.Common.{rules};
-ghost use Rattle.zoned_time.specs.DateTime.{zoned};
-ghost use Rattle.zoned_time.specs.Order.{compared};
+ghost use Rattle.std.{proofs.Common.{rules}, specs.Cmp.Rules.{comparing, hashing}};
+ghost use Rattle.std.specs.{Cmp.{partial_order_from_own_ties}, Prelude.{◌≡◌, ◌↔◌, ◌++◌, ◌==◌, IsTrue}};
+ghost use Rattle.std.specs.Ordering.{as_partial_cmp, eq_of_both, int_cmp, int_eq, nat_cmp, on, then_cmp};
+ghost use Rattle.zoned_time.specs.{DateTime.{zoned}, Order.{compared}};
 
 use super::{DateTime, Instant};
 use crate::{Offset, TimeZone};

@@ -1,14 +1,9 @@
 //! Instants made of a date-time and an offset, and their parts.
-ghost use Rattle.std.specs.Prelude.{◌≡◌, SomeIff, option_map};
-ghost use Rattle.naive_base.specs.NaiveDate.{day_of};
-ghost use Rattle.naive_base.specs.NaiveDateTime.{reading};
-ghost use Rattle.naive_base.specs.NaiveTime.{second_of, fraction_of};
-ghost use Rattle.naive_base.specs.Range.{IsInRange};
-ghost use Rattle.naive_base.specs.Reading.{day_at, second_at};
-ghost use Rattle.zoned_time.specs.DateTime.{zoned, wall_of, home_law_of};
-ghost use Rattle.zoned_time.specs.Relocal.{HasInstant, instant_of};
-ghost use Rattle.zoned_time.specs.Zone.{SameLaw};
-ghost use Rattle.zoned_time.specs.Zoned.{shown};
+ghost use Rattle.std.specs.Prelude.{◌≡◌, option_map, SomeIff};
+ghost use Rattle.naive_base.specs.{NaiveDate.{day_of}, NaiveTime.{fraction_of, second_of}, Reading.{day_at, second_at}};
+ghost use Rattle.naive_base.specs.{NaiveDateTime.{reading}, Range.{IsInRange}};
+ghost use Rattle.zoned_time.specs.{DateTime.{home_law_of, wall_of, zoned}, Relocal.{instant_of, HasInstant}};
+ghost use Rattle.zoned_time.specs.{Zone.{SameLaw}, Zoned.{shown}};
 
 use super::{DateTime, Instant};
 use crate::{Offset, TimeZone};

@@ -1,11 +1,7 @@
 //! Timestamps of instants, and instants of timestamps.
-ghost use Rattle.std.specs.Prelude.{◌≡◌, ◌/◌, SomeIff, FitsSigned, option_map};
-ghost use Rattle.std.specs.Int.{w64};
-ghost use Rattle.naive_base.specs.Range.{IsInRange};
-ghost use Rattle.naive_base.specs.Reading.{total, of_total};
-ghost use Rattle.naive_base.specs.Stamp.{of_secs, IsStamp};
-ghost use Rattle.zoned_time.specs.DateTime.{zoned};
-ghost use Rattle.zoned_time.specs.Stamps.{millis_of, micros_of, of_millis, of_micros, in_utc};
+ghost use Rattle.std.specs.{Int.{w64}, Prelude.{◌≡◌, ◌/◌, option_map, FitsSigned, SomeIff}};
+ghost use Rattle.naive_base.specs.{Range.{IsInRange}, Reading.{of_total, total}, Stamp.{of_secs, IsStamp}};
+ghost use Rattle.zoned_time.specs.{DateTime.{zoned}, Stamps.{in_utc, micros_of, millis_of, of_micros, of_millis}};
 
 use super::{DateTime, Instant};
 use crate::{Offset, Utc};

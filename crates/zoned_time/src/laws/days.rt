@@ -1,16 +1,11 @@
 //! Theorems of days and of the first instants at or after local times: each function is empty, its
 //! contract is proved; never called.
-ghost use Rattle.std.specs.Prelude.{◌≡◌, ◌↔◌, ℤ, pos, ◌+ℤ◌, ◌-ℤ◌, ◌≤ℤ◌};
-ghost use Rattle.offset_core.specs.WallAnswer.{IsNeverShown, IsShownOnce, IsShownBetween};
-ghost use Rattle.naive_base.specs.Range.{IsInRange};
-ghost use Rattle.naive_base.specs.Reading.{Reading, behind, IsEarlier};
-ghost use Rattle.naive_base.specs.Year.{floor_div};
-ghost use Rattle.zoned_time.specs.Days.{IsOnDay, AreEndsOfDay, IsNeverOnDay, IsFirstInstantFrom};
-ghost use Rattle.zoned_time.specs.Days.{IsFirstToReach, IsInDay, midnight};
-ghost use Rattle.zoned_time.specs.DayEnds.{IsGapEnd, NonePassed};
-ghost use Rattle.zoned_time.specs.Reached.{IsReachedAt};
-ghost use Rattle.zoned_time.specs.Zone.{IsZoneSecond, ShowsByOffset};
-ghost use Rattle.zoned_time.specs.declared.zone_days.ShownDay.{ShownDay as AnyDay};
+ghost use Rattle.std.specs.Prelude.{◌≡◌, ◌↔◌, ◌≤ℤ◌, ◌+ℤ◌, ◌-ℤ◌, pos, ℤ};
+ghost use Rattle.offset_core.specs.WallAnswer.{IsNeverShown, IsShownBetween, IsShownOnce};
+ghost use Rattle.naive_base.specs.{Range.{IsInRange}, Reading.{behind, IsEarlier, Reading}, Year.{floor_div}};
+ghost use Rattle.zoned_time.specs.{DayEnds.{IsGapEnd, NonePassed}, Zone.{IsZoneSecond, ShowsByOffset}};
+ghost use Rattle.zoned_time.specs.Days.{midnight, AreEndsOfDay, IsFirstInstantFrom, IsFirstToReach, IsInDay};
+ghost use Rattle.zoned_time.specs.{Days.{IsNeverOnDay, IsOnDay}, Reached.{IsReachedAt}};
 
 use crate::{ShownDay, TimeZone};
 
@@ -83,8 +78,8 @@ pub fn dates_in_days()
 
 /// A clone of a day has clones of its ends, and fails only if one of these does.
 pub fn shown_days<T: Clone>()
-    ensures cloned { (x y : AnyDay T) → ⟦<ShownDay<T> as Clone>⟧.is_clone x y
+    ensures cloned { (x y : ShownDay T) → ⟦<ShownDay<T> as Clone>⟧.is_clone x y
         ↔ (T.Clone.is_clone x.first y.first × T.Clone.is_clone x.last y.last) }
-    ensures infallible { (x : AnyDay T) → T.Clone.is_infallible x.first
+    ensures infallible { (x : ShownDay T) → T.Clone.is_infallible x.first
         → T.Clone.is_infallible x.last → ⟦<ShownDay<T> as Clone>⟧.is_infallible x }
 {}

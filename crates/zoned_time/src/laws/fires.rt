@@ -1,7 +1,6 @@
 //! Theorems of plans and their fires: each function is empty, its contract is proved; never called.
-ghost use Rattle.std.specs.Prelude.{ℤ, ◌≤ℤ◌, ◌<ℤ◌, List, [], ◌∷◌, Some, None, All, Contains};
-ghost use Rattle.zoned_time.specs.DateTime.{zoned};
-ghost use Rattle.zoned_time.specs.Fires.{AreFires, AreLeft, IsFire, RiseFrom, left_of};
+ghost use Rattle.std.specs.Prelude.{◌<ℤ◌, ◌≤ℤ◌, ◌∷◌, [], All, Contains, List, ℤ};
+ghost use Rattle.zoned_time.specs.{DateTime.{zoned}, Fires.{left_of, AreFires, AreLeft, IsFire, RiseFrom}};
 
 use crate::{Fires, TimeZone, ZoneDays};
 use naive_plans::Plan;

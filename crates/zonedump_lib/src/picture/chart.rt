@@ -54,7 +54,7 @@ fn put_offset(out: &mut String, scale: Scale, offset: i64) -> Result<(), AllocEr
     )
 }
 
-// The months of one year that begin in the chart, each with a line down the chart where it begins.
+// Draws the months of one year that begin in the chart, each with a line down the chart at its start.
 fn put_months(out: &mut String, year: i32, scale: Scale) -> Result<(), AllocError> {
     for month in 1..=12 {
         let start = day_number(year, month, 1).saturating_mul(SECONDS_PER_DAY);
@@ -70,8 +70,8 @@ fn put_month(out: &mut String, x: u64, month: u32) -> Result<(), AllocError> {
     write!(out, "{}</text>\n", month_name(month))
 }
 
-// Those of the years that a gap divides and that begin in the chart, each with a line down the chart
-// where it begins.
+// Draws the years that are multiples of the gap and begin in the chart, each with a line down the chart
+// at its start.
 fn put_years(out: &mut String, first: i32, last: i32, scale: Scale) -> Result<(), AllocError> {
     let gap = year_gap(last.abs_diff(first));
     for year in first..=last {

@@ -4,4 +4,5 @@ use Rattle.gregorian.proofs.years.day_of_year.Goals as goal
 
 pub returns-clause-value : goal.returns-clause-value
 returns-clause-value c =
-    place_found c.args.day c.split_years-passed.result.0 c.split_years-passed.result.1 c.days_since_january.result (omega (arith, floors)) c.split_years-passed.ensures.value c.split_years-passed.ensures.within
+    place_found c.args.day c.split_years-passed.result.0 c.split_years-passed.result.1 c.days_since_january.result (omega (arith, floors))
+    c.split_years-passed.ensures.value c.split_years-passed.ensures.within

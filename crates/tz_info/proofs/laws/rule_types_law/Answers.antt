@@ -2,4 +2,11 @@ use Rattle.tz_info.proofs.RuleLaws.{rule_decided, rule_not_refused, rule_once, r
 use Rattle.tz_info.proofs.laws.rule_types_law.Goals as goal
 
 pub returns : goal.returns
-returns c = record { once = rule_once; apart = rule_not_refused; decided = rule_decided; times = λ u year of_second. (rule_time u year of_second, rule_year u year of_second) }
+returns c =
+    record {
+      once = rule_once;
+      apart = rule_not_refused;
+      decided = rule_decided;
+      times = λ u year of_second.
+          (rule_time u year of_second, rule_year u year of_second);
+    }

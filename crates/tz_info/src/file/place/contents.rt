@@ -1,10 +1,9 @@
 //! Where what the pieces of a file say is at fault.
 
-ghost use Rattle.std.specs.Prelude.{◌≡◌, ◌+◌, ◌*◌, ◌≤◌, length, option_map, MatchOption};
+ghost use Rattle.std.specs.Prelude.{◌≡◌, length, MatchOption};
 ghost use Rattle.tz_info.specs.FileContents.{IndicatorsAgree};
-ghost use Rattle.tz_info.specs.FilePlaces.{ArePartPlaces, AreTypes, IsContentPlace, IsFirstBelow};
-ghost use Rattle.tz_info.specs.FilePlaces.{IsOtherPair, IsTypePlace, before_field};
-ghost use Rattle.tz_info.specs.Steps.FileLists.{HasLengths, pieces_of};
+ghost use Rattle.tz_info.specs.FilePlaces.{before_field, ArePartPlaces, AreTypes, IsContentPlace, IsFirstBelow};
+ghost use Rattle.tz_info.specs.{FilePlaces.{IsOtherPair, IsTypePlace}, Steps.FileLists.{pieces_of, HasLengths}};
 
 use crate::file::contents::byte_or_zero;
 use crate::file::numbers::record_at;

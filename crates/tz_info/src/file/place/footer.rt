@@ -1,10 +1,8 @@
 //! Where a footer is at fault.
 
-ghost use Rattle.std.specs.Prelude.{◌≡◌, Some, MatchOption, length, option_map, slice_index};
-ghost use Rattle.std.specs.Str.{IsUtf8};
-ghost use Rattle.tz_info.specs.FilePlaces.{HoldsOfNone, IsFirstBelow};
+ghost use Rattle.std.specs.{Prelude.{◌≡◌, length, slice_index, MatchOption}, Str.{IsUtf8}};
+ghost use Rattle.tz_info.specs.{FilePlaces.{HoldsOfNone, IsFirstBelow}, Steps.Places.{FaultInFooter, FaultInText}};
 ghost use Rattle.tz_info.specs.Steps.FileLists.{pieces_of};
-ghost use Rattle.tz_info.specs.Steps.Places.{FaultInFooter, FaultInText};
 
 use crate::file::contents::byte_or_zero;
 use crate::file::footer::is_between_newlines;

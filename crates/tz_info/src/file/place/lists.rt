@@ -1,9 +1,9 @@
 //! Where lists that make no zone are at fault.
 
-ghost use Rattle.std.specs.Prelude.{◌≡◌, ◌+◌, ◌*◌, ◌≤◌, ◌<◌, length, MatchOption, IsTrue, ◌↔◌};
-ghost use Rattle.tz_info.specs.FilePlaces.{ArePartPlaces, HoldsOfNone, IsFirstBelow, IsListPlace};
-ghost use Rattle.tz_info.specs.FilePlaces.{IsNotLater, IsOtherIndex, IsOtherLeap, leap_at, time_at};
-ghost use Rattle.tz_info.specs.Steps.FileLists.{HasLengths, pieces_of};
+ghost use Rattle.std.specs.Prelude.{◌≡◌, ◌↔◌, ◌<◌, IsTrue, MatchOption};
+ghost use Rattle.tz_info.specs.FilePlaces.{leap_at, time_at, ArePartPlaces, HoldsOfNone, IsFirstBelow, IsListPlace};
+ghost use Rattle.tz_info.specs.FilePlaces.{IsNotLater, IsOtherIndex, IsOtherLeap};
+ghost use Rattle.tz_info.specs.Steps.FileLists.{pieces_of, HasLengths};
 
 use crate::file::contents::leap_second_of;
 use crate::file::numbers::{record_at, time_of};

@@ -1,11 +1,9 @@
 //! Where the pieces of a file are at fault: how many bytes it has from the fault on.
 
-ghost use Rattle.std.specs.Prelude.{◌≡◌, ◌≤◌, ◌*◌, length};
+ghost use Rattle.std.specs.Prelude.{◌≡◌, length};
 ghost use Rattle.tz_base.specs.Grammar.{from_fault};
+ghost use Rattle.tz_info.specs.{FileBlocks.{Parts}, FilePieces.{after_first_block, after_header, file, later_version}};
 ghost use Rattle.tz_info.specs.FileHeaders.{after_version, before_count, counts_of, from_version, header, tzif};
-ghost use Rattle.tz_info.specs.FileBlocks.{Parts};
-ghost use Rattle.tz_info.specs.FilePieces.{after_first_block, after_header, file, later_version};
-ghost use Rattle.tz_info.specs.declared.file.header.Counts.{Counts as Six};
 
 use crate::file::block::read_block;
 use crate::file::header::{
@@ -36,7 +34,7 @@ fn left_of_block(bytes: &[u8], header: &Header) -> usize
 
 // After the first block: nothing in version 1, or else a second header with its block.
 fn left_after_block(bytes: &[u8], version: Version) -> usize
-    ensures { (c : Six) (p : Parts)
+    ensures { (c : Counts) (p : Parts)
         → result ≡ length (from_fault (after_first_block version c p) bytes.now) }
 {
     match version {

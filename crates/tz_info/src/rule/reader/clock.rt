@@ -1,14 +1,10 @@
 //! The offsets and the times of day of a TZ string: `hh[:mm[:ss]]` with a sign or without.
 
-ghost use Rattle.std.specs.Prelude.{◌≡◌, ◌≤◌, not, Ok, IfOk};
+ghost use Rattle.std.specs.Prelude.{◌≡◌, ◌≤◌, IfOk};
 ghost use Rattle.offset_core.specs.Offset.{IsWithinDay};
-ghost use Rattle.tz_base.specs.Fronts.{Gives};
-ghost use Rattle.tz_base.specs.Grammar.{IsRead, read, checked};
-ghost use Rattle.tz_base.specs.Refusals.{InvalidTzString};
-ghost use Rattle.tz_base.specs.declared.error.Expected.TheVariants.{HoursMinutesAndSecondsWithinTheirLimits};
-ghost use Rattle.tz_info.specs.Rules.{IsWithinWeek};
-ghost use Rattle.tz_info.specs.TzGrammar.{sign, seconds, optional_minutes, are_within, signed_seconds, duration};
-ghost use Rattle.tz_info.specs.TzGrammar.{offset, time_sign, optional_time};
+ghost use Rattle.tz_base.specs.{Fronts.{Gives}, Grammar.{checked, read, IsRead}, Refusals.{InvalidTzString}};
+ghost use Rattle.tz_info.specs.{Rules.{IsWithinWeek}, TzGrammar.{signed_seconds, time_sign}};
+ghost use Rattle.tz_info.specs.TzGrammar.{are_within, duration, offset, optional_minutes, optional_time, seconds, sign};
 
 use crate::rule::reader::place::checked_at;
 use tz_base::{Cursor, Error, Expected};
@@ -99,7 +95,7 @@ fn read_seconds(cursor: &mut Cursor<'_>) -> Result<u32, Error>
 fn seconds_of(limit: u32, negative: bool, h: u32, m: u32, s: u32) -> Result<i32, Error>
     requires { limit ≤ 167 }
     ensures value { Gives (λ z. z) result
-        (checked (are_within limit h m s) (InvalidTzString HoursMinutesAndSecondsWithinTheirLimits)
+        (checked (are_within limit h m s) (InvalidTzString Expected.HoursMinutesAndSecondsWithinTheirLimits)
         (signed_seconds negative h m s)) }
     ensures day { limit ≤ 23 → IfOk result (λ z. IsWithinDay z) }
     ensures week { IfOk result (λ z. IsWithinWeek z) }

@@ -1,8 +1,7 @@
 //! The names of a TZ string: letters, or any bytes between `<` and `>`.
 
 ghost use Rattle.std.specs.Prelude.{◌≡◌, ◌==◌};
-ghost use Rattle.tz_base.specs.Fronts.{run_of, after_run};
-ghost use Rattle.tz_base.specs.Grammar.{IsRead};
+ghost use Rattle.tz_base.specs.{Fronts.{after_run, run_of}, Grammar.{IsRead}};
 ghost use Rattle.tz_info.specs.TzGrammar.{greater, is_letter, is_not_greater, name};
 
 use tz_base::{Cursor, Error};

@@ -1,16 +1,12 @@
 //! The whole of a TZ string.
 
-ghost use Rattle.std.specs.Prelude.{◌≡◌, IfOk, int_le, pos, ◌+ℤ◌};
+ghost use Rattle.std.specs.Prelude.{◌≡◌, ◌+ℤ◌, int_le, pos, IfOk};
 ghost use Rattle.offset_core.specs.Offset.{IsWithinDay};
-ghost use Rattle.tz_base.specs.Fronts.{Gives};
-ghost use Rattle.tz_base.specs.Grammar.{IsRead, checked, is_end};
-ghost use Rattle.tz_base.specs.Names.{expected_of_name, is_name};
+ghost use Rattle.tz_base.specs.{Fronts.{Gives}, Grammar.{checked, is_end, IsRead}, Names.{expected_of_name, is_name}};
 ghost use Rattle.tz_base.specs.Refusals.{InvalidTzString, LocalTimeType as BadType};
-ghost use Rattle.tz_base.specs.declared.error.Expected.TheVariants.{OffsetOfDaylightSavingTimeWithinDay};
 ghost use Rattle.tz_info.specs.Rules.{IsWithinWeek};
-ghost use Rattle.tz_info.specs.TzGrammar.{more, end, given_offset, dst_offset, named_type, named, fixed, alternate};
-ghost use Rattle.tz_info.specs.TzGrammar.{text, days};
-ghost use Rattle.tz_info.specs.Steps.Spelled.{day_time_of, rule_of, IsSpelled};
+ghost use Rattle.tz_info.specs.{Steps.Spelled.{day_time_of, rule_of, IsSpelled}, TzGrammar.{named_type, text}};
+ghost use Rattle.tz_info.specs.TzGrammar.{alternate, days, dst_offset, end, fixed, given_offset, more, named};
 
 use crate::rule::reader::clock::read_offset;
 use crate::rule::reader::date::read_day;
@@ -145,7 +141,7 @@ fn read_given_offset(cursor: &mut Cursor<'_>) -> Result<i32, Error>
 fn next_hour(std: i32) -> Result<i32, Error>
     requires { IsWithinDay std }
     ensures value { Gives (λ z. z) result (checked (int_le (std +ℤ pos 3_600) (pos 86_399))
-        (InvalidTzString OffsetOfDaylightSavingTimeWithinDay) (std +ℤ pos 3_600)) }
+        (InvalidTzString Expected.OffsetOfDaylightSavingTimeWithinDay) (std +ℤ pos 3_600)) }
     ensures bound { IfOk result (λ z. IsWithinDay z) }
 {
     let offset = std + 3_600;

@@ -1,12 +1,8 @@
 //! All changes of a stretch of time, from both ends.
 
-ghost use Rattle.std.specs.Prelude.{ℤ, ◌≤ℤ◌, ◌<ℤ◌, ◌↔◌};
-ghost use Rattle.std.specs.Iterator.{YieldsFirst, YieldsLast, item_count};
-ghost use Rattle.tz_info.specs.Changes.{AreChanges, IsNearest};
-ghost use Rattle.tz_info.specs.ChangesLeft.{changes_left};
-ghost use Rattle.tz_info.specs.Leaps.{least_time};
-ghost use Rattle.tz_info.specs.Steps.Changes.{IsInStretch};
-ghost use Rattle.tz_info.specs.Zones.{IsRuleOrNone, IsValid, TypeAt};
+ghost use Rattle.std.specs.{Iterator.{item_count, YieldsFirst, YieldsLast}, Prelude.{◌↔◌, ◌<ℤ◌, ◌≤ℤ◌, ℤ}};
+ghost use Rattle.tz_info.specs.{Changes.{AreChanges, IsNearest}, Zones.{IsRuleOrNone, IsValid, TypeAt}};
+ghost use Rattle.tz_info.specs.{ChangesLeft.{changes_left}, Leaps.{least_time}, Steps.Changes.{IsInStretch}};
 
 use crate::change::if_within;
 use crate::zone::time_zone::TimeZone;

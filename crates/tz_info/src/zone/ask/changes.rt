@@ -3,15 +3,10 @@
 //! Before the last transition only an entry of the change table can change the type, and each does.
 //! After it only the rule can. What the last transition itself changes is asked.
 
-ghost use Rattle.std.specs.Prelude.{◌≡◌, ◌≢◌, ◌<◌, length, pos, neg_ℤ, ◌<ℤ◌, ◌≤ℤ◌, MatchOption, Some};
-ghost use Rattle.std.specs.Prelude.{option_map};
-ghost use Rattle.tz_info.specs.Changes.{IsChange, HasNoChange, IsFirst, IsLast, IsNearest};
+ghost use Rattle.std.specs.Prelude.{◌≡◌, ◌≢◌, ◌<◌, ◌<ℤ◌, ◌≤ℤ◌, length, neg_ℤ, option_map, pos, MatchOption};
+ghost use Rattle.tz_info.specs.{Changes.{HasNoChange, IsChange, IsFirst, IsLast, IsNearest}, HeldChanges.{change_held}};
 ghost use Rattle.tz_info.specs.Rules.{Alternate as AlternateRule};
-ghost use Rattle.tz_info.specs.Steps.Changes.{IsAhead, IsBegin, IsChangeByRule};
-ghost use Rattle.tz_info.specs.Steps.Changes.{IsInTable};
-ghost use Rattle.tz_info.specs.HeldChanges.{change_held};
-ghost use Rattle.tz_info.specs.Zones.{HasType, TypeAt};
-ghost use Rattle.tz_info.specs.declared.rule.transition_rule.TransitionRule.TheVariants.{Alternate};
+ghost use Rattle.tz_info.specs.{Steps.Changes.{IsAhead, IsBegin, IsChangeByRule, IsInTable}, Zones.{HasType, TypeAt}};
 
 use crate::change::{HeldChange, change_between, copied, held};
 use crate::rule::{AlternateTime, TransitionRule};
@@ -163,8 +158,8 @@ impl TimeZone {
 
     // The rule, if it has two types.
     pub(in crate::zone) fn turns(&self) -> Option<&AlternateTime>
-        ensures { MatchOption result ((a : AlternateRule) → self.now.rule ≢ Some (Alternate a))
-            (λ a. self.now.rule ≡ Some (Alternate a.now)) }
+        ensures { MatchOption result ((a : AlternateRule) → self.now.rule ≢ Some (TransitionRule.Alternate a))
+            (λ a. self.now.rule ≡ Some (TransitionRule.Alternate a.now)) }
     {
         match &self.last_rule {
             Some(TransitionRule::Alternate(turns)) => Some(turns),

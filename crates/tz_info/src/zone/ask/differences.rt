@@ -2,11 +2,8 @@
 //! types.
 
 ghost use Rattle.std.specs.Prelude.{◌≡◌, ◌<ℤ◌, MatchResult};
-ghost use Rattle.tz_base.specs.declared.error.Error.TheVariants.{OutOfMemory};
-ghost use Rattle.tz_info.specs.Differences.{AreDifferences};
-ghost use Rattle.tz_info.specs.Leaps.{IsNear};
-ghost use Rattle.tz_info.specs.Steps.Differences.{IsListedIf, IsPairUntil};
-ghost use Rattle.tz_info.specs.Zones.{TypeAt};
+ghost use Rattle.tz_info.specs.{Differences.{AreDifferences}, Steps.Differences.{IsListedIf, IsPairUntil}};
+ghost use Rattle.tz_info.specs.{Leaps.{IsNear}, Zones.{TypeAt}};
 
 use crate::change::is_same_type;
 use crate::zone::ask::runs::end_by;
@@ -58,7 +55,7 @@ impl TimeZone {
         requires until { IsNear until }
         ensures { MatchResult result
             (λ ds. AreDifferences (TypeAt self.now) (TypeAt other.now) from until ds.items)
-            (λ e. e ≡ OutOfMemory) }
+            (λ e. e ≡ Error.OutOfMemory) }
     {
         let mut found = Vec::new(alloc);
         let mut at = from;
@@ -97,7 +94,7 @@ impl TimeZone {
 fn list_if_differing(found: &mut Vec<Difference>, one: Difference) -> Result<(), Error>
     ensures { MatchResult result
         (λ _. IsListedIf found.old.items one found.new.items)
-        (λ e. e ≡ OutOfMemory) }
+        (λ e. e ≡ Error.OutOfMemory) }
 {
     if is_same_type(&one.old, &one.new) {
         return Ok(());

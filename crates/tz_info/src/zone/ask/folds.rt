@@ -1,15 +1,11 @@
 //! The clock change of a local time: the one that skips it, or the one that sets clocks back over it.
 
-ghost use Rattle.std.specs.Prelude.{◌≡◌, ◌+ℤ◌, ◌≤ℤ◌, ◌↔◌, IsTrue, MatchOption};
-ghost use Rattle.naive_base.specs.NaiveDateTime.{reading};
+ghost use Rattle.std.specs.Prelude.{◌↔◌, ◌≤ℤ◌, ◌+ℤ◌, IsTrue, MatchOption};
 ghost use Rattle.offset_core.specs.WallAnswer.{IsShownOnce};
+ghost use Rattle.naive_base.specs.NaiveDateTime.{reading};
 ghost use Rattle.tz_base.specs.LocalTypes.{LocalType};
-ghost use Rattle.tz_info.specs.Folds.{HasFold, SkipsOrRepeats};
-ghost use Rattle.tz_info.specs.Leaps.{IsNear};
-ghost use Rattle.tz_info.specs.Steps.Folds.{AreEndsOfFold};
-ghost use Rattle.tz_info.specs.Steps.Runs.{IsEnd};
-ghost use Rattle.tz_info.specs.WallClocks.{Shows};
-ghost use Rattle.tz_info.specs.Zones.{TypeAt};
+ghost use Rattle.tz_info.specs.{Folds.{HasFold, SkipsOrRepeats}, Steps.{Folds.{AreEndsOfFold}, Runs.{IsEnd}}};
+ghost use Rattle.tz_info.specs.{Leaps.{IsNear}, WallClocks.{Shows}, Zones.{TypeAt}};
 
 use crate::answers::second_showing;
 use crate::change::HeldChange;

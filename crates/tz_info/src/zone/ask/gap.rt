@@ -1,20 +1,12 @@
 //! Gaps: what is in force around a local time that no clock shows.
 
-ghost use Rattle.std.specs.Prelude.{MatchOption, option_map, ⊤};
-ghost use Rattle.naive_base.specs.NaiveDateTime.{reading};
-ghost use Rattle.naive_base.specs.Range.{IsWide};
+ghost use Rattle.std.specs.Prelude.{option_map, ⊤, MatchOption};
 ghost use Rattle.offset_core.specs.WallAnswer.{IsNeverShown};
-ghost use Rattle.tz_info.specs.Counts.{HasRoom};
-ghost use Rattle.tz_info.specs.Around.{AreTypesAround, IsAroundOrBefore, map_both};
-ghost use Rattle.tz_info.specs.HeldChanges.{change_held};
-ghost use Rattle.tz_info.specs.Gaps.{IsTypeBeforeGap, HasGap, IsShown};
-ghost use Rattle.tz_info.specs.Looks.{RoseAround};
-ghost use Rattle.tz_info.specs.Questions.{IsAskedFor};
-ghost use Rattle.tz_info.specs.Steps.Gaps.{HasReach};
-ghost use Rattle.tz_info.specs.Steps.Seasons.{IsSeasonIn};
-ghost use Rattle.tz_info.specs.WallClocks.{Shows};
-ghost use Rattle.tz_info.specs.Steps.WallPieces.{IsTableLess};
-ghost use Rattle.tz_info.specs.Zones.{TypeAt};
+ghost use Rattle.naive_base.specs.{NaiveDateTime.{reading}, Range.{IsWide}};
+ghost use Rattle.tz_info.specs.{Around.{map_both, AreTypesAround, IsAroundOrBefore}, Steps.WallPieces.{IsTableLess}};
+ghost use Rattle.tz_info.specs.{Counts.{HasRoom}, WallClocks.{Shows}};
+ghost use Rattle.tz_info.specs.{Gaps.{HasGap, IsShown, IsTypeBeforeGap}, Steps.{Gaps.{HasReach}, Seasons.{IsSeasonIn}}};
+ghost use Rattle.tz_info.specs.{HeldChanges.{change_held}, Looks.{RoseAround}, Questions.{IsAskedFor}, Zones.{TypeAt}};
 
 use crate::change::HeldChange;
 use crate::rule::Season;

@@ -1,14 +1,12 @@
 //! Leap times of Unix times, and Unix times of leap times.
 
 ghost use Rattle.std.specs.Prelude.{◌≡◌, MatchResult};
-ghost use Rattle.tz_base.specs.declared.error.Error.TheVariants.{OutOfRange};
-ghost use Rattle.tz_base.specs.declared.error.Expected.TheVariants.{LeapTimeOf64Bits};
-ghost use Rattle.tz_info.specs.Leaps.{IsLeapTime, IsLeapTimeRefused, IsUnixTime, IsUnixTimeRefused};
-ghost use Rattle.tz_info.specs.Leaps.{expected_of_leap_time};
+ghost use Rattle.tz_info.specs.Leaps.{expected_of_leap_time, IsLeapTime, IsLeapTimeRefused, IsUnixTime};
+ghost use Rattle.tz_info.specs.Leaps.{IsUnixTimeRefused};
 
 use crate::zone::lists::leap_time::unix_time;
 use crate::zone::time_zone::TimeZone;
-use tz_base::Error;
+use tz_base::{Error, Expected};
 
 impl TimeZone {
     /// The leap time of a Unix time: the second counted from 1970 with the zone's leap seconds.
@@ -20,7 +18,7 @@ impl TimeZone {
     pub fn unix_time_to_unix_leap_time(&self, unix_time: i64) -> Result<i64, Error>
         ensures { MatchResult result
             (λ x. IsLeapTime self.now.leaps unix_time x)
-            (λ e. (e ≡ OutOfRange LeapTimeOf64Bits)
+            (λ e. (e ≡ Error.OutOfRange Expected.LeapTimeOf64Bits)
             × IsLeapTimeRefused self.now.leaps unix_time) }
     {
         self.leap_seconds.leap_time(unix_time)
@@ -36,7 +34,7 @@ impl TimeZone {
     pub fn unix_leap_time_to_unix_time(&self, unix_leap_time: i64) -> Result<i64, Error>
         ensures { MatchResult result
             (λ u. IsUnixTime self.now.leaps unix_leap_time u)
-            (λ e. (e ≡ OutOfRange (expected_of_leap_time unix_leap_time))
+            (λ e. (e ≡ Error.OutOfRange (expected_of_leap_time unix_leap_time))
             × IsUnixTimeRefused self.now.leaps unix_leap_time) }
     {
         unix_time(self.leap_seconds.entries(), unix_leap_time)

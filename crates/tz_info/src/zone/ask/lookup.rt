@@ -1,28 +1,17 @@
 //! The type in force at an instant, and the reads that several lookups share.
 
-ghost use Rattle.std.specs.Prelude.{◌≡◌, ◌+◌, ◌<◌, ◌≤◌, ◌^◌, length, take, slice_index_or};
-ghost use Rattle.std.specs.Prelude.{IfOk, IfSome, IsTrue, ◌↔◌};
-ghost use Rattle.std.specs.Prelude.{MatchOption, MatchResult, Some, None};
-ghost use Rattle.naive_base.specs.Range.{IsWide};
+ghost use Rattle.std.specs.Prelude.{◌≡◌, ◌↔◌, ◌<◌, ◌≤◌, ◌+◌, ◌^◌, length, slice_index_or, take, IfOk, IfSome, IsTrue};
+ghost use Rattle.std.specs.Prelude.{MatchOption, MatchResult};
 ghost use Rattle.offset_core.specs.WallAnswer.{IsShownOnce};
-ghost use Rattle.tz_base.specs.declared.error.Error.TheVariants.{FindLocalTimeType};
-ghost use Rattle.tz_base.specs.declared.error.Expected.TheVariants.{YearThatRuleAnswersIn};
-ghost use Rattle.tz_info.specs.Counts.{HasRoom, RoseWithin, HasRoomFor};
-ghost use Rattle.tz_info.specs.Digits.{digits};
-ghost use Rattle.tz_info.specs.HeldChanges.{span_held};
-ghost use Rattle.tz_info.specs.Leaps.{IsLeapTime, IsLeapTimeRefused, IsNear};
-ghost use Rattle.tz_info.specs.Looks.{RoseByInstant};
-ghost use Rattle.tz_info.specs.Questions.{IsAskedAt};
-ghost use Rattle.tz_info.specs.Spans.{IsSpanAt};
-ghost use Rattle.tz_info.specs.Steps.Asked.{IsAskedAtLeapTime};
-ghost use Rattle.tz_info.specs.Steps.Entries.{HaveComeAt};
-ghost use Rattle.tz_info.specs.Steps.Starts.{leap_time_at};
-ghost use Rattle.tz_info.specs.Transitions.{passed};
-ghost use Rattle.tz_info.specs.WallClocks.{Shows};
-ghost use Rattle.tz_info.specs.Zones.{RuleOrType, IsRefusedBy, IsFromLast, TypeAtLeapTime, TypeAt, IsTypeError};
-ghost use Rattle.tz_info.specs.declared.rule.transition_rule.TransitionRule.{TransitionRule};
+ghost use Rattle.naive_base.specs.Range.{IsWide};
+ghost use Rattle.tz_info.specs.{Counts.{HasRoom, HasRoomFor, RoseWithin}, Digits.{digits}, Steps.Starts.{leap_time_at}};
+ghost use Rattle.tz_info.specs.{HeldChanges.{span_held}, Looks.{RoseByInstant}, Steps.Entries.{HaveComeAt}};
+ghost use Rattle.tz_info.specs.{Leaps.{IsLeapTime, IsLeapTimeRefused, IsNear}, Steps.Asked.{IsAskedAtLeapTime}};
+ghost use Rattle.tz_info.specs.{Questions.{IsAskedAt}, Spans.{IsSpanAt}, Transitions.{passed}, WallClocks.{Shows}};
+ghost use Rattle.tz_info.specs.Zones.{IsFromLast, IsRefusedBy, IsTypeError, RuleOrType, TypeAt, TypeAtLeapTime};
 
 use crate::change::HeldSpan;
+use crate::rule::TransitionRule;
 use crate::timeline::Probes;
 use crate::zone::made::change_table::Come;
 use crate::zone::{TimeZone, Transition};
@@ -174,7 +163,7 @@ impl TimeZone {
         requires come { HaveComeAt self.now unix_time come }
         ensures found { MatchResult result
             (λ t. TypeAtLeapTime self.now unix_time (leap_time_at self.now unix_time) t.now)
-            (λ e. (e ≡ FindLocalTimeType YearThatRuleAnswersIn)
+            (λ e. (e ≡ Error.FindLocalTimeType Expected.YearThatRuleAnswersIn)
             × IsFromLast self.now (leap_time_at self.now unix_time)
             × IsRefusedBy self.now.rule unix_time) }
         ensures cost { RoseWithin probes.old probes.new 0 1 }
@@ -200,7 +189,7 @@ impl TimeZone {
         requires room { HasRoomFor 1 probes.old.rule_questions }
         ensures found { MatchResult result
             (λ t. RuleOrType self.now unix_time index t.now)
-            (λ e. (e ≡ FindLocalTimeType YearThatRuleAnswersIn)
+            (λ e. (e ≡ Error.FindLocalTimeType Expected.YearThatRuleAnswersIn)
             × IsRefusedBy self.now.rule unix_time) }
         ensures cost { RoseWithin probes.old probes.new 0 1 }
         // A question to the rule is counted as one.

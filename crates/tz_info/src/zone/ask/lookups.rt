@@ -1,8 +1,7 @@
 //! Lookups at one instant after another, which keep the span of the last ones.
 
-ghost use Rattle.std.specs.Prelude.{◌≡◌, ◌≤ℤ◌, ◌<ℤ◌, ◌↔◌, IfSome, IsTrue, MatchResult};
-ghost use Rattle.tz_info.specs.Steps.Held.{IsHeld};
-ghost use Rattle.tz_info.specs.Zones.{TypeAt, IsTypeError};
+ghost use Rattle.std.specs.Prelude.{◌≡◌, ◌↔◌, ◌<ℤ◌, ◌≤ℤ◌, IfSome, IsTrue, MatchResult};
+ghost use Rattle.tz_info.specs.{Steps.Held.{IsHeld}, Zones.{IsTypeError, TypeAt}};
 
 use crate::zone::ask::runs::{end_by, start_by};
 use crate::zone::time_zone::TimeZone;
@@ -46,8 +45,7 @@ pub(in crate::zone) struct Held {
 }
 
 impl<'a> Model for Lookups<'a> {
-    ghost use Rattle.tz_info.specs.Steps.Held.{IsHeld};
-    ghost use Rattle.tz_info.specs.Zones.{Zone};
+    ghost use Rattle.tz_info.specs.{Steps.Held.{IsHeld}, Zones.{Zone}};
 
     ghost Value = { Zone };
 

@@ -1,11 +1,8 @@
 //! Runs: of a stretch of time, the seconds of one span of the zone.
 
-ghost use Rattle.std.specs.Prelude.{◌<ℤ◌, ◌≤ℤ◌, ◌↔◌, ℤ};
-ghost use Rattle.tz_info.specs.HeldChanges.{span_held};
-ghost use Rattle.tz_info.specs.Leaps.{IsNear};
-ghost use Rattle.tz_info.specs.Spans.{IsSince, IsSpanAt, IsUntil};
-ghost use Rattle.tz_info.specs.Steps.Runs.{IsFirstOfRun, IsLastOfRun};
-ghost use Rattle.tz_info.specs.Zones.{TypeAt};
+ghost use Rattle.std.specs.Prelude.{◌↔◌, ◌<ℤ◌, ◌≤ℤ◌, ℤ};
+ghost use Rattle.tz_info.specs.{HeldChanges.{span_held}, Leaps.{IsNear}, Zones.{TypeAt}};
+ghost use Rattle.tz_info.specs.{Spans.{IsSince, IsSpanAt, IsUntil}, Steps.Runs.{IsFirstOfRun, IsLastOfRun}};
 
 use crate::change::HeldSpan;
 use crate::zone::time_zone::TimeZone;

@@ -1,12 +1,10 @@
 //! The search for the first segment in which clocks show a local time or a later one.
 
-ghost use Rattle.std.specs.Prelude.{◌≡◌, ◌+◌, ◌<◌, ◌≤◌, ◌↔◌, length, IsTrue};
+ghost use Rattle.std.specs.Prelude.{◌≡◌, ◌↔◌, ◌<◌, ◌≤◌, length, IsTrue};
 ghost use Rattle.naive_base.specs.Range.{IsWide};
-ghost use Rattle.tz_info.specs.Counts.{HasRoom, HasRoomFor, RoseWithin};
-ghost use Rattle.tz_info.specs.Digits.{digits};
-ghost use Rattle.tz_info.specs.Steps.SegmentEnds.{AreEnds, IsFirstOf, IsFirstSegment, IsReached, end_of};
-ghost use Rattle.tz_info.specs.Steps.Segments.{begin_of, index_of};
-ghost use Rattle.tz_info.specs.Transitions.{NameTypes};
+ghost use Rattle.tz_info.specs.{Counts.{HasRoom, HasRoomFor, RoseWithin}, Steps.Segments.{begin_of, index_of}};
+ghost use Rattle.tz_info.specs.{Digits.{digits}, Transitions.{NameTypes}};
+ghost use Rattle.tz_info.specs.Steps.SegmentEnds.{end_of, AreEnds, IsFirstOf, IsFirstSegment, IsReached};
 
 use crate::answers::second_showing;
 use crate::change::TypedSecond;

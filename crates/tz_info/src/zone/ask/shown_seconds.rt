@@ -1,20 +1,13 @@
 //! When clocks show certain local times: the first and the last second of a day or of any other
 //! stretch of local time, and the first second at or after a local time.
 
-ghost use Rattle.std.specs.Prelude.{◌≡◌, pos, ◌+ℤ◌, ◌*ℤ◌, ◌-ℤ◌, ◌≤ℤ◌, ◌<ℤ◌, ℤ, Contains};
-ghost use Rattle.std.specs.Prelude.{MatchOption, if◌then◌else◌, ◌*◌, length};
-ghost use Rattle.naive_base.specs.NaiveDate.{day_of};
-ghost use Rattle.naive_base.specs.NaiveDateTime.{reading};
-ghost use Rattle.naive_base.specs.Range.{IsWide};
-ghost use Rattle.tz_info.specs.Leaps.{IsNear};
-ghost use Rattle.tz_info.specs.ShownSeconds.{IsNeverWithin, AreShownWithin, IsFirstAtOrAfter};
-ghost use Rattle.tz_info.specs.Steps.Runs.{ArePartFrom, AreWithin, HaveOneTypeFrom, IsEnd, IsBeyondJumps, IsEndOfRun};
-ghost use Rattle.tz_info.specs.Steps.Runs.{IsEndWithin, IsNextRun};
-ghost use Rattle.tz_info.specs.Steps.WallPieces.{IsTableLess};
-ghost use Rattle.tz_info.specs.Windows.{rule_offsets};
-ghost use Rattle.tz_info.specs.Zones.{TypeAt};
-ghost use Rattle.tz_info.specs.Counts.{HasRoom, RoseWithin};
-ghost use Rattle.tz_info.specs.Digits.{digits};
+ghost use Rattle.std.specs.Prelude.{◌≡◌, ◌*◌, ◌<ℤ◌, ◌≤ℤ◌, ◌+ℤ◌, ◌-ℤ◌, ◌*ℤ◌, if◌then◌else◌, length, pos, Contains};
+ghost use Rattle.std.specs.Prelude.{MatchOption, ℤ};
+ghost use Rattle.naive_base.specs.{NaiveDate.{day_of}, NaiveDateTime.{reading}, Range.{IsWide}};
+ghost use Rattle.tz_info.specs.{Counts.{HasRoom, RoseWithin}, Leaps.{IsNear}, Zones.{TypeAt}};
+ghost use Rattle.tz_info.specs.{Digits.{digits}, Steps.{Runs.{IsEndWithin, IsNextRun}, WallPieces.{IsTableLess}}};
+ghost use Rattle.tz_info.specs.{ShownSeconds.{AreShownWithin, IsFirstAtOrAfter, IsNeverWithin}, Windows.{rule_offsets}};
+ghost use Rattle.tz_info.specs.Steps.Runs.{ArePartFrom, AreWithin, HaveOneTypeFrom, IsBeyondJumps, IsEnd, IsEndOfRun};
 
 use crate::answers::second_showing;
 use crate::change::TypedSecond;

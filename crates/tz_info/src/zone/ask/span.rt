@@ -4,10 +4,8 @@
 //! change on both sides of that place, these changes are the span's ends. The first span begins with the
 //! first second that has a type, and the last one ends after the last such second.
 
-ghost use Rattle.std.specs.Prelude.{◌≡◌, ◌<◌, ◌≤ℤ◌, ◌<ℤ◌, length, IfSome, MatchOption, MatchResult, Some};
-ghost use Rattle.tz_info.specs.HeldChanges.{span_held};
-ghost use Rattle.tz_info.specs.Spans.{IsSpanAt};
-ghost use Rattle.tz_info.specs.Zones.{TypeAt, IsTypeError};
+ghost use Rattle.std.specs.Prelude.{◌≡◌, ◌<◌, ◌<ℤ◌, ◌≤ℤ◌, IfSome, MatchOption, MatchResult};
+ghost use Rattle.tz_info.specs.{HeldChanges.{span_held}, Spans.{IsSpanAt}, Zones.{IsTypeError, TypeAt}};
 
 use crate::change::HeldSpan;
 use crate::timeline::Probes;

@@ -1,10 +1,8 @@
 //! The spans of a zone, one after another.
 
 ghost use Rattle.std.specs.Prelude.{◌≡◌, option_map};
-ghost use Rattle.tz_info.specs.HeldChanges.{span_held};
-ghost use Rattle.tz_info.specs.SpanSteps.{IsNextSpan, IsPlace, IsPreviousSpan, IsSpanIfAny};
-ghost use Rattle.tz_info.specs.SpanSteps.{begin_of, end_of, spans_most};
-ghost use Rattle.tz_info.specs.Zones.{TypeAt};
+ghost use Rattle.tz_info.specs.{HeldChanges.{span_held}, SpanSteps.{IsSpanIfAny}, Zones.{TypeAt}};
+ghost use Rattle.tz_info.specs.SpanSteps.{begin_of, end_of, spans_most, IsNextSpan, IsPlace, IsPreviousSpan};
 
 use crate::change::HeldSpan;
 use crate::zone::time_zone::TimeZone;

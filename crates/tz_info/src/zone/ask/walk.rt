@@ -1,19 +1,12 @@
 //! The walk: a wall clock by one search in the transitions, and from there on from segment to
 //! segment.
 
-ghost use Rattle.std.specs.Prelude.{◌≡◌, ◌+◌, ◌<◌, ◌≤◌, ◌↔◌, IsTrue, length};
-ghost use Rattle.std.specs.Result.{IsOkAnd};
-ghost use Rattle.naive_base.specs.NaiveDateTime.{reading};
-ghost use Rattle.naive_base.specs.Range.{IsWide};
-ghost use Rattle.offset_core.specs.LocalResult.{map_of};
-ghost use Rattle.offset_core.specs.WallAnswer.{IsWallAnswer};
-ghost use Rattle.tz_info.specs.Counts.{HasRoom, RoseWithin, HasRoomFor};
-ghost use Rattle.tz_info.specs.Looks.{RoseByWalk};
-ghost use Rattle.tz_info.specs.Questions.{IsAskedFor};
-ghost use Rattle.tz_info.specs.Steps.Segments.{begin_of, index_of};
-ghost use Rattle.tz_info.specs.Steps.Walk.{IsCandidate, IsShownIn, IsTimeWithin, IsTried};
-ghost use Rattle.tz_info.specs.WallClocks.{Shows};
-ghost use Rattle.tz_info.specs.Zones.{TypeAt};
+ghost use Rattle.std.specs.{Prelude.{◌≡◌, ◌↔◌, ◌<◌, ◌≤◌, ◌+◌, length, IsTrue}, Result.{IsOkAnd}};
+ghost use Rattle.offset_core.specs.{LocalResult.{map_of}, WallAnswer.{IsWallAnswer}};
+ghost use Rattle.naive_base.specs.{NaiveDateTime.{reading}, Range.{IsWide}};
+ghost use Rattle.tz_info.specs.{Counts.{HasRoom, HasRoomFor, RoseWithin}, Steps.Segments.{begin_of, index_of}};
+ghost use Rattle.tz_info.specs.{Looks.{RoseByWalk}, WallClocks.{Shows}, Zones.{TypeAt}};
+ghost use Rattle.tz_info.specs.{Questions.{IsAskedFor}, Steps.Walk.{IsCandidate, IsShownIn, IsTimeWithin, IsTried}};
 
 use crate::answers::{copied, joined, second_showing};
 use crate::timeline::Probes;

@@ -1,21 +1,12 @@
 //! The wall clock of a zone.
 
-ghost use Rattle.std.specs.Prelude.{◌≡◌, ◌<◌, ◌+◌, ◌*◌, length, MatchOption, Some, ⊤};
-ghost use Rattle.std.specs.Result.{IsOkAnd};
-ghost use Rattle.naive_base.specs.NaiveDateTime.{reading};
-ghost use Rattle.naive_base.specs.Range.{IsWide};
-ghost use Rattle.offset_core.specs.LocalResult.{map_of};
-ghost use Rattle.offset_core.specs.WallAnswer.{IsWallAnswer};
-ghost use Rattle.tz_info.specs.Counts.{HasRoom, RoseByPieces, RoseWithin, HasRoomFor};
-ghost use Rattle.tz_info.specs.Digits.{digits};
-ghost use Rattle.tz_info.specs.Looks.{RoseByWallClock};
-ghost use Rattle.tz_info.specs.Questions.{IsAskedFor};
-ghost use Rattle.tz_info.specs.WallClocks.{Shows};
-ghost use Rattle.tz_info.specs.Steps.WallPieces.{IsTableAnswer, shown_indexes};
-ghost use Rattle.tz_info.specs.Steps.Pieces.{AreBelow, AreListed};
-ghost use Rattle.tz_info.specs.Steps.Seasons.{IsSeasonIn};
-ghost use Rattle.tz_info.specs.Steps.Walk.{IsShownIn};
-ghost use Rattle.tz_info.specs.Zones.{TypeAt};
+ghost use Rattle.std.specs.{Prelude.{◌≡◌, ◌<◌, ◌+◌, ◌*◌, length, ⊤, MatchOption}, Result.{IsOkAnd}};
+ghost use Rattle.offset_core.specs.{LocalResult.{map_of}, WallAnswer.{IsWallAnswer}};
+ghost use Rattle.naive_base.specs.{NaiveDateTime.{reading}, Range.{IsWide}};
+ghost use Rattle.tz_info.specs.{Counts.{HasRoom, HasRoomFor, RoseByPieces, RoseWithin}, Steps.Seasons.{IsSeasonIn}};
+ghost use Rattle.tz_info.specs.{Digits.{digits}, WallClocks.{Shows}, Zones.{TypeAt}};
+ghost use Rattle.tz_info.specs.{Looks.{RoseByWallClock}, Questions.{IsAskedFor}, Steps.Walk.{IsShownIn}};
+ghost use Rattle.tz_info.specs.Steps.{Pieces.{AreBelow, AreListed}, WallPieces.{shown_indexes, IsTableAnswer}};
 
 use crate::answers::{copied, joined};
 use crate::rule::{Season, TransitionRule};

@@ -18,8 +18,7 @@ pub(crate) struct Kept {
 }
 
 impl Model for Kept {
-    ghost use Rattle.std.specs.Prelude.{◌+◌, ◌*◌};
-    ghost use Rattle.std.specs.Int.{cast_signed, w64};
+    ghost use Rattle.std.specs.{Int.{cast_signed, w64}, Prelude.{◌+◌, ◌*◌}};
     ghost use Rattle.tz_info.specs.declared.zone.lists.transition.Transition.{Transition};
 
     ghost Value = { Transition };

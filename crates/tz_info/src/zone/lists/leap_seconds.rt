@@ -1,10 +1,7 @@
 //! The leap seconds of a zone, and which seconds have a leap time.
 
-ghost use Rattle.std.specs.Prelude.{◌≡◌, [], length, pos, ℤ, IsTrue, IsFalse, MatchResult, ◌↔◌};
-ghost use Rattle.std.specs.Prelude.{◌+ℤ◌, ◌-ℤ◌, ◌≤ℤ◌};
-ghost use Rattle.tz_base.specs.declared.error.Error.TheVariants.{OutOfRange};
-ghost use Rattle.tz_base.specs.declared.error.Expected.TheVariants.{LeapTimeOf64Bits};
-ghost use Rattle.tz_info.specs.Leaps.{AreLeapSeconds, IsLeapTime, IsLeapTimeRefused, correction_at};
+ghost use Rattle.std.specs.Prelude.{◌≡◌, ◌↔◌, ◌≤ℤ◌, ◌+ℤ◌, ◌-ℤ◌, [], pos, IsFalse, IsTrue, MatchResult, ℤ};
+ghost use Rattle.tz_info.specs.Leaps.{correction_at, AreLeapSeconds, IsLeapTime, IsLeapTimeRefused};
 ghost use Rattle.tz_info.specs.Steps.Starts.{IsLastWithLeapTime};
 
 use crate::zone::lists::leap_second::LeapSecond;
@@ -22,9 +19,8 @@ pub(in crate::zone) struct LeapSeconds {
 
 impl Model for LeapSeconds {
     ghost use Rattle.std.specs.Prelude.{List};
-    ghost use Rattle.tz_info.specs.Leaps.{AreLeapSeconds};
+    ghost use Rattle.tz_info.specs.{Leaps.{AreLeapSeconds}, declared.zone.lists.leap_second.LeapSecond.{LeapSecond}};
     ghost use Rattle.tz_info.specs.Steps.Starts.{IsLastWithLeapTime};
-    ghost use Rattle.tz_info.specs.declared.zone.lists.leap_second.LeapSecond.{LeapSecond};
 
     ghost Value = { List LeapSecond };
 
@@ -72,7 +68,7 @@ impl LeapSeconds {
     pub(in crate::zone) fn leap_time(&self, unix_time: i64) -> Result<i64, Error>
         ensures { MatchResult result
             (λ x. IsLeapTime self.now unix_time x)
-            (λ e. (e ≡ OutOfRange LeapTimeOf64Bits)
+            (λ e. (e ≡ Error.OutOfRange Expected.LeapTimeOf64Bits)
             × IsLeapTimeRefused self.now unix_time) }
     {
         if !self.has_leap_time(unix_time) {

@@ -1,11 +1,9 @@
 //! How many leap seconds are passed, and Unix times of leap times.
 
-ghost use Rattle.std.specs.Prelude.{◌≡◌, pos, ◌≤ℤ◌, ◌≤◌, ◌<◌, ◌↔◌, length, take, IsTrue, MatchResult};
-ghost use Rattle.tz_base.specs.declared.error.Error.TheVariants.{OutOfRange};
-ghost use Rattle.tz_info.specs.Leaps.{AreLeapSeconds, IsUnixTime, IsUnixTimeRefused};
-ghost use Rattle.tz_info.specs.Leaps.{expected_of_leap_time, correction_before, corrections, passed_count};
+ghost use Rattle.std.specs.Prelude.{◌≡◌, ◌↔◌, ◌<◌, ◌≤◌, length, pos, take, IsTrue, MatchResult};
+ghost use Rattle.tz_info.specs.Leaps.{correction_before, corrections, expected_of_leap_time, passed_count};
+ghost use Rattle.tz_info.specs.{Leaps.{AreLeapSeconds, IsUnixTime, IsUnixTimeRefused}, Steps.Starts.{AreBefore}};
 ghost use Rattle.tz_info.specs.Lists.{last_else};
-ghost use Rattle.tz_info.specs.Steps.Starts.{AreBefore};
 
 use crate::zone::lists::leap_second::LeapSecond;
 use tz_base::{Error, Expected};
@@ -55,7 +53,7 @@ pub(in crate::zone) fn unix_time(entries: &[LeapSecond], leap_time: i64) -> Resu
     requires { AreLeapSeconds entries.now }
     ensures { MatchResult result
         (λ u. IsUnixTime entries.now leap_time u)
-        (λ e. (e ≡ OutOfRange (expected_of_leap_time leap_time))
+        (λ e. (e ≡ Error.OutOfRange (expected_of_leap_time leap_time))
         × IsUnixTimeRefused entries.now leap_time) }
 {
     if leap_time == i64::MIN {

@@ -1,12 +1,8 @@
 //! The transitions of a zone. Each call that reads one of them counts a probe.
 
-ghost use Rattle.std.specs.Prelude.{◌≡◌, ◌+◌, ◌<◌, ◌≤◌, [], length, option_map, take, slice_index_or, MatchResult};
-ghost use Rattle.tz_base.specs.declared.error.Error.TheVariants.{OutOfMemory};
-ghost use Rattle.tz_info.specs.Counts.{RoseWithin, HasRoomFor};
-ghost use Rattle.tz_info.specs.Steps.Entries.{IsEntryAt};
-ghost use Rattle.tz_info.specs.Steps.Search.{IsLastOf};
-ghost use Rattle.tz_info.specs.Digits.{digits};
-ghost use Rattle.tz_info.specs.Transitions.{AreRising, passed};
+ghost use Rattle.std.specs.Prelude.{◌≡◌, ◌<◌, ◌≤◌, ◌+◌, [], length, option_map, slice_index_or, take, MatchResult};
+ghost use Rattle.tz_info.specs.{Counts.{HasRoomFor, RoseWithin}, Digits.{digits}, Transitions.{passed, AreRising}};
+ghost use Rattle.tz_info.specs.Steps.{Entries.{IsEntryAt}, Search.{IsLastOf}};
 
 use crate::timeline::{Passed, Probes, Timed, Timeline};
 use crate::zone::lists::kept::Kept;
@@ -32,8 +28,7 @@ pub(in crate::zone) struct Table {
 
 impl Model for Table {
     ghost use Rattle.std.specs.Prelude.{List};
-    ghost use Rattle.tz_info.specs.declared.zone.lists.transition.Transition.{Transition};
-    ghost use Rattle.tz_info.specs.Transitions.{AreRising};
+    ghost use Rattle.tz_info.specs.{Transitions.{AreRising}, declared.zone.lists.transition.Transition.{Transition}};
 
     ghost Value = { List Transition };
 
@@ -52,9 +47,8 @@ impl fmt::Debug for Table {
 }
 
 impl PartialEq for Table {
-    ghost use Rattle.std.specs.Cmp.{partial_equiv_from_equiv};
-    ghost use Rattle.std.specs.Cmp.Lexicographic.{pointwise};
     ghost use Rattle.std.proofs.lemmas.Cmp.{lists_equiv};
+    ghost use Rattle.std.specs.{Cmp.{partial_equiv_from_equiv}, Cmp.Lexicographic.{pointwise}};
     ghost use Rattle.tz_info.specs.contracts.zone.lists.transition.TransitionEq.TheImpl.Laws.{laws-law};
 
     ghost eq = { pointwise ⟦<Transition as PartialEq>⟧.eq };
@@ -71,7 +65,7 @@ impl Table {
     #[tactic(auto, using(crate::proofs::TableSearch::in_order))]
     pub(in crate::zone) fn new(alloc: Global, entries: Vec<Kept>) -> Result<Table, Error>
         requires { AreRising entries.items }
-        ensures { MatchResult result (λ t. t ≡ entries.items) (λ e. e ≡ OutOfMemory) }
+        ensures { MatchResult result (λ t. t ≡ entries.items) (λ e. e ≡ Error.OutOfMemory) }
     {
         let entries = Timeline::new(alloc, entries)?;
         Ok(Table { entries })

@@ -1,10 +1,9 @@
 //! Whether lists make a zone.
 
-ghost use Rattle.std.specs.Prelude.{◌≡◌, ◌+ℤ◌, ◌<◌, ◌≤ℤ◌, pos, length, map, All, IsTrue, IfSome, MatchResult, ◌↔◌};
-ghost use Rattle.tz_info.specs.Leaps.{IsOneStep, IsFirstLeap, IsNextLeap, AreLeapSeconds};
+ghost use Rattle.std.specs.Prelude.{◌↔◌, ◌<◌, ◌≤ℤ◌, ◌+ℤ◌, length, map, pos, All, IfSome, IsTrue, MatchResult};
+ghost use Rattle.tz_info.specs.{Leaps.{AreLeapSeconds, IsFirstLeap, IsNextLeap, IsOneStep}, Steps.Validity.{Stands}};
 ghost use Rattle.tz_info.specs.Transitions.{AreTransitions};
-ghost use Rattle.tz_info.specs.Steps.Validity.{Stands};
-ghost use Rattle.tz_info.specs.Zones.{Zone, IsValid, ListFault, Agrees, last_transition};
+ghost use Rattle.tz_info.specs.Zones.{last_transition, Agrees, IsValid, ListFault, Zone};
 
 use crate::change::is_same_type;
 use crate::rule::TransitionRule;

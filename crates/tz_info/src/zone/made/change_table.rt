@@ -1,24 +1,14 @@
 //! A zone's transitions as one list of clock changes by Unix time. It is made as a [`ChangeList`]. Lookups
 //! have it as a [`ChangeTable`], which counts each probe.
 
-ghost use Rattle.std.specs.Prelude.{◌≡◌, [], ◌+◌, ◌<◌, ◌≤◌, ◌-◌, ◌*◌, ◌^◌, length, IsTrue, ◌↔◌, map};
-ghost use Rattle.std.specs.Prelude.{IsFalse, ℤ, ◌+ℤ◌};
-ghost use Rattle.std.specs.Prelude.{option_map, slice_index_or, pos, neg_ℤ, ◌<ℤ◌, ◌≤ℤ◌, IfSome, MatchOption, MatchResult, ⊤};
 ghost use Rattle.std.specs.List.{slice_get};
-ghost use Rattle.std.specs.Prelude.{vec_capacity, vec_len};
-ghost use Rattle.tz_base.specs.declared.error.Error.TheVariants.{OutOfMemory};
-ghost use Rattle.tz_info.specs.Leaps.{AreLeapSeconds, IsLeapTime, IsLeapTimeRefused, correction_at};
-ghost use Rattle.tz_info.specs.Steps.Entries.{AreBefore, AreEntries, EndsAt, Entries, IsAdded};
-ghost use Rattle.tz_info.specs.Steps.Entries.{IsBetween, IsCome, IsEntryAt, IsEntryChange, IsStartIn};
-ghost use Rattle.tz_info.specs.Steps.Entries.{NeverComes, last_index, most_looks};
-ghost use Rattle.tz_info.specs.Steps.Segments.{index_of};
-ghost use Rattle.tz_info.specs.Steps.Pieces.{zone_in, IsJump, IsPlaced};
-ghost use Rattle.tz_info.specs.Steps.WallPieces.{IsBegun, IsBegunNear, top_of};
-ghost use Rattle.tz_info.specs.HeldChanges.{change_held};
-ghost use Rattle.tz_info.specs.Transitions.{AreRising, NameTypes, passed};
-ghost use Rattle.tz_info.specs.Zones.{IsValid};
-ghost use Rattle.tz_info.specs.declared.zone.lists.transition.Transition.{Transition};
-ghost use Rattle.tz_info.specs.Counts.{HasRoomFor, RoseWithin};
+ghost use Rattle.std.specs.Prelude.{◌≡◌, ◌↔◌, ◌<◌, ◌≤◌, ◌+◌, ◌-◌, ◌^◌, ◌<ℤ◌, ◌≤ℤ◌, [], length, neg_ℤ, option_map, pos};
+ghost use Rattle.std.specs.Prelude.{slice_index_or, vec_capacity, vec_len, ⊤, IfSome, IsTrue, MatchOption, MatchResult};
+ghost use Rattle.tz_info.specs.{Counts.{HasRoomFor, RoseWithin}, Transitions.{passed, AreRising, NameTypes}};
+ghost use Rattle.tz_info.specs.{HeldChanges.{change_held}, Steps.Segments.{index_of}, Zones.{IsValid}};
+ghost use Rattle.tz_info.specs.Steps.Entries.{last_index, most_looks, AreBefore, AreEntries, EndsAt, IsAdded};
+ghost use Rattle.tz_info.specs.Steps.Entries.{IsBetween, IsCome, IsEntryAt, IsEntryChange, IsStartIn, NeverComes};
+ghost use Rattle.tz_info.specs.Steps.{Pieces.{zone_in, IsJump, IsPlaced}, WallPieces.{top_of, IsBegun, IsBegunNear}};
 
 use crate::change::{HeldChange, is_same_type};
 use crate::rule::TransitionRule;
@@ -27,6 +17,7 @@ use crate::zone::lists::kept::Kept;
 use crate::zone::lists::leap_seconds::LeapSeconds;
 use crate::zone::lists::starts::first_second;
 use crate::zone::lists::table::{Entry, Table};
+use crate::zone::lists::transition::Transition;
 use crate::zone::made::segments::Lists;
 use crate::zone::made::shown::Shown;
 use std::alloc::{AllocError, Global};
@@ -117,7 +108,7 @@ impl ChangeList {
           types = types.now;
           leaps = leaps.now;
           rule = rule.now;
-        }) t) (λ e. e ≡ OutOfMemory) }
+        }) t) (λ e. e ≡ Error.OutOfMemory) }
     {
         let lists = Lists {
             transitions: &transitions,
@@ -203,7 +194,7 @@ impl ChangeTable {
     pub(in crate::zone) fn new(alloc: Global, list: ChangeList) -> Result<ChangeTable, Error>
         requires rising { AreRising list.items }
         requires listed { AreRising list.transitions }
-        ensures { MatchResult result (λ t. t ≡ list) (λ e. e ≡ OutOfMemory) }
+        ensures { MatchResult result (λ t. t ≡ list) (λ e. e ≡ Error.OutOfMemory) }
     {
         let ChangeList { items, all, listed } = list;
         let entries = Table::new(alloc, items)?;

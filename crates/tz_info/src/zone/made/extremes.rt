@@ -1,10 +1,8 @@
 //! The least and the greatest offset of a zone.
 
 ghost use Rattle.std.specs.Prelude.{◌<◌, length};
-ghost use Rattle.tz_info.specs.Steps.Extremes.{AreExtremes, AreJoined, AreJoinedByRule, offsets_of};
-ghost use Rattle.tz_info.specs.RuleTypes.{IsRule};
-ghost use Rattle.tz_info.specs.Windows.{offsets};
-ghost use Rattle.tz_info.specs.Zones.{IsRuleOrNone};
+ghost use Rattle.tz_info.specs.{RuleTypes.{IsRule}, Windows.{offsets}, Zones.{IsRuleOrNone}};
+ghost use Rattle.tz_info.specs.Steps.Extremes.{offsets_of, AreExtremes, AreJoined, AreJoinedByRule};
 
 use crate::rule::TransitionRule;
 use tz_base::LocalTimeType;

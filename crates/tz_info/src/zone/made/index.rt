@@ -1,13 +1,9 @@
 //! A zone's index of the wall-clock axis.
 
-ghost use Rattle.std.specs.Prelude.{◌≡◌, ◌-◌, ◌<◌, ◌≤◌, ◌^◌, length, slice_index_or, MatchOption, MatchResult};
-ghost use Rattle.tz_base.specs.declared.error.Error.TheVariants.{OutOfMemory};
-ghost use Rattle.tz_info.specs.Counts.{RoseByPieces, RoseWithin, HasRoomFor};
-ghost use Rattle.tz_info.specs.Steps.Entries.{AreEntries, most_looks};
-ghost use Rattle.tz_info.specs.Steps.Pieces.{zone_in, ArePieces};
-ghost use Rattle.tz_info.specs.Steps.SegmentEnds.{AreEnds};
-ghost use Rattle.tz_info.specs.Steps.WallPieces.{answer_at, IsCounted, IsIndex, top_of};
-ghost use Rattle.tz_info.specs.Zones.{IsValid};
+ghost use Rattle.std.specs.Prelude.{◌≡◌, ◌<◌, ◌≤◌, ◌-◌, ◌^◌, length, slice_index_or, MatchOption, MatchResult};
+ghost use Rattle.tz_info.specs.{Counts.{HasRoomFor, RoseByPieces, RoseWithin}, Steps.Entries.{most_looks, AreEntries}};
+ghost use Rattle.tz_info.specs.Steps.{Pieces.{zone_in, ArePieces}, WallPieces.{answer_at, top_of, IsCounted, IsIndex}};
+ghost use Rattle.tz_info.specs.{Steps.SegmentEnds.{AreEnds}, Zones.{IsValid}};
 
 use crate::timeline::{Probes, Timed, Timeline};
 use crate::zone::made::change_table::ChangeList;
@@ -81,7 +77,7 @@ impl Index {
         requires valid { IsValid (zone_in lists) }
         requires list { AreEntries (zone_in lists) changes.now }
         ensures { MatchResult result (λ i. IsIndex (zone_in lists.entry) changes.now i)
-            (λ e. e ≡ OutOfMemory) }
+            (λ e. e ≡ Error.OutOfMemory) }
     {
         let entries = changes.items();
         if entries.is_empty() {
@@ -110,7 +106,7 @@ impl Index {
             (top_of lists.rule.now changes.now) all.before all.pieces.items }
         requires ends { AreEnds lists.types.now changes.now.items maxima.items }
         ensures { MatchResult result (λ i. IsIndex (zone_in lists.entry) changes.now i)
-            (λ e. e ≡ OutOfMemory) }
+            (λ e. e ≡ Error.OutOfMemory) }
     {
         let pieces = Timeline::new(alloc, all.pieces)?;
         Ok(Index {

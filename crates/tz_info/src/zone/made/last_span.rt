@@ -1,9 +1,8 @@
 //! The span that goes on after a zone's last clock change. It is kept, so that a second in it needs
 //! no search.
 
-ghost use Rattle.std.specs.Prelude.{◌≤ℤ◌, ◌<ℤ◌, ◌↔◌, IsTrue};
-ghost use Rattle.tz_info.specs.Steps.LastSpans.{IsLastSpan};
-ghost use Rattle.tz_info.specs.Zones.{Zone};
+ghost use Rattle.std.specs.Prelude.{◌↔◌, ◌<ℤ◌, ◌≤ℤ◌, IsTrue};
+ghost use Rattle.tz_info.specs.{Steps.LastSpans.{IsLastSpan}, Zones.{Zone}};
 
 use tz_base::{Change, LocalTimeType, Span};
 

@@ -1,11 +1,9 @@
 //! The pieces of a zone's table in one pass over its entries, where their cuts come in order.
 
-ghost use Rattle.std.specs.Prelude.{◌≡◌, ◌≤ℤ◌, ◌<ℤ◌, ◌-◌, ◌<◌, ◌≤◌, length, IsTrue, IsFalse, MatchOption};
-ghost use Rattle.std.specs.Prelude.{MatchResult, ⊤};
-ghost use Rattle.tz_base.specs.declared.error.Error.TheVariants.{OutOfMemory};
-ghost use Rattle.tz_info.specs.Steps.Pieces.{zone_in, ArePieces, ArePiecesAt, AreCutsCrossed, IsSegment};
-ghost use Rattle.tz_info.specs.Steps.SegmentEnds.{AreEndsRising};
-ghost use Rattle.tz_info.specs.Steps.WallPieces.{IsTable};
+ghost use Rattle.std.specs.Prelude.{◌≡◌, ◌<◌, ◌≤◌, ◌-◌, ◌<ℤ◌, ◌≤ℤ◌, length, ⊤, IsFalse, IsTrue, MatchOption};
+ghost use Rattle.std.specs.Prelude.{MatchResult};
+ghost use Rattle.tz_info.specs.Steps.Pieces.{zone_in, AreCutsCrossed, ArePieces, ArePiecesAt, IsSegment};
+ghost use Rattle.tz_info.specs.Steps.{SegmentEnds.{AreEndsRising}, WallPieces.{IsTable}};
 
 use crate::zone::lists::kept::Kept;
 use crate::zone::made::pieces::Piece;
@@ -30,7 +28,7 @@ pub(super) fn pieces_in_one_pass(
         (λ made. MatchOption made (AreCutsCrossed lists.entry.types.now entries.now)
         (λ s. ArePieces (zone_in lists.entry) entries.now 0 count s.before s.pieces.items
         × AreEndsRising lists.entry.types.now entries.now))
-        (λ e. e ≡ OutOfMemory) }
+        (λ e. e ≡ Error.OutOfMemory) }
 {
     let mut pieces = Vec::with_capacity(alloc, entries.len() + count - 1)?;
     let mut latest = i64::MIN;

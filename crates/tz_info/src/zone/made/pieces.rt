@@ -1,10 +1,8 @@
 //! Pieces of the wall-clock axis: on each of them local times have one answer.
 
-ghost use Rattle.std.specs.Prelude.{◌≡◌, ◌+◌, ◌<◌, ◌≤◌, length, take, IsTrue, IsFalse, MatchResult};
-ghost use Rattle.tz_base.specs.declared.error.Error.TheVariants.{OutOfMemory};
-ghost use Rattle.tz_info.specs.Steps.Merging.{IsMerged, IsNext, IsStep};
+ghost use Rattle.std.specs.Prelude.{◌≡◌, ◌<◌, ◌≤◌, ◌+◌, length, take, IsFalse, IsTrue, MatchResult};
+ghost use Rattle.tz_info.specs.Steps.{Merging.{IsMerged, IsNext, IsStep}, WallPieces.{answer_before, AreInOrder}};
 ghost use Rattle.tz_info.specs.Steps.Shown.{HasGreatNumber};
-ghost use Rattle.tz_info.specs.Steps.WallPieces.{answer_before, AreInOrder};
 
 use crate::zone::made::shown::{Packed, Shown, together};
 use std::alloc::{AllocError, Global};
@@ -42,7 +40,7 @@ pub(super) fn merged(
     requires last { AreInOrder last.now }
     ensures { MatchResult result
         (λ v. IsMerged before_first.now first.now before_last.now last.now v.items)
-        (λ e. e ≡ OutOfMemory) }
+        (λ e. e ≡ Error.OutOfMemory) }
 {
     let total = first.len() + last.len();
     let mut pieces = Vec::with_capacity(alloc, total)?;

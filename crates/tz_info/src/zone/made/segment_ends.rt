@@ -1,8 +1,7 @@
 //! The local times at which segments end.
 
-ghost use Rattle.std.specs.Prelude.{◌≡◌, ◌<◌, ◌≤◌, ◌≤ℤ◌, ◌↔◌, ℤ, length, MatchResult, ⊤};
-ghost use Rattle.tz_info.specs.Steps.SegmentEnds.{AreMaxima, end_of};
-ghost use Rattle.tz_info.specs.Transitions.{NameTypes};
+ghost use Rattle.std.specs.Prelude.{◌≡◌, ◌↔◌, ◌<◌, ◌≤◌, ◌≤ℤ◌, length, ⊤, MatchResult, ℤ};
+ghost use Rattle.tz_info.specs.{Steps.SegmentEnds.{end_of, AreMaxima}, Transitions.{NameTypes}};
 
 use crate::zone::lists::kept::Kept;
 use crate::zone::made::segments::{cut_of, segment_at};

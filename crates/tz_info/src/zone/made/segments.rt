@@ -1,11 +1,8 @@
 //! The segments between entries, and the pieces of the wall-clock axis that they make.
 
-ghost use Rattle.std.specs.Prelude.{◌≡◌, ◌+◌, ◌<◌, ◌≤◌, length, MatchResult};
-ghost use Rattle.tz_base.specs.declared.error.Error.TheVariants.{OutOfMemory};
-ghost use Rattle.tz_info.specs.Steps.Pieces.{zone_in, ArePieces, IsSegment, cut_of};
-ghost use Rattle.tz_info.specs.Steps.Segments.{index_of};
-ghost use Rattle.tz_info.specs.Steps.WallPieces.{IsTable};
-ghost use Rattle.tz_info.specs.Transitions.{NameTypes};
+ghost use Rattle.std.specs.Prelude.{◌≡◌, ◌<◌, ◌≤◌, ◌+◌, length, MatchResult};
+ghost use Rattle.tz_info.specs.Steps.{Pieces.{cut_of, zone_in, ArePieces, IsSegment}, WallPieces.{IsTable}};
+ghost use Rattle.tz_info.specs.{Steps.Segments.{index_of}, Transitions.{NameTypes}};
 
 use crate::rule::TransitionRule;
 use crate::timeline::Timed;
@@ -91,7 +88,7 @@ fn pieces_of_one(
     requires some { 0 < length entries.now }
     ensures { MatchResult result
         (λ s. ArePieces (zone_in lists.entry) entries.now place (place + 1) s.before s.pieces.items)
-        (λ e. e ≡ OutOfMemory) }
+        (λ e. e ≡ Error.OutOfMemory) }
 {
     let segment = segment_at(lists.types, entries, place);
     if place == 0 {
@@ -129,7 +126,7 @@ pub(super) fn pieces_of(
     requires order { low < high }
     ensures { MatchResult result
         (λ s. ArePieces (zone_in lists.entry) entries.now low high s.before s.pieces.items)
-        (λ e. e ≡ OutOfMemory) }
+        (λ e. e ≡ Error.OutOfMemory) }
 {
     if high - low == 1 {
         return pieces_of_one(alloc, lists, entries, low);

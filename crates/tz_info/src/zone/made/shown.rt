@@ -31,8 +31,7 @@ pub(in crate::zone) struct Packed {
 
 impl Model for Packed {
     ghost use Rattle.std.specs.Prelude.{◌/◌, ◌%◌};
-    ghost use Rattle.tz_info.specs.declared.zone.made.shown.Shown.{Shown};
-    ghost use Rattle.tz_info.specs.Steps.Shown.{unpacked};
+    ghost use Rattle.tz_info.specs.{Steps.Shown.{unpacked}, declared.zone.made.shown.Shown.{Shown}};
 
     ghost Value = { Shown };
 

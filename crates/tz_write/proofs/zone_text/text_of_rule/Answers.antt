@@ -5,7 +5,12 @@ pub returns : goal.returns
 returns c =
     let types = c.args.types.now in let rule = c.args.rule.now in
     let has : HasZoneText types (Some rule) = c.has_zone_text.ensures.0 (search rules) in
-    record { written = rw c.in_ok-text_of.ensures (written_zone types rule c.requires has); reason = record { transitions = refl; leaps = refl; rule = has }; memory = tt }
+    record {
+      written = rw c.in_ok-text_of.ensures (written_zone types rule c.requires has);
+      reason =
+          record { transitions = refl; leaps = refl; rule = has };
+      memory = tt;
+    }
 
 pub returns-then-not-has_zone_text : goal.returns-then-not-has_zone_text
 returns-then-not-has_zone_text c =

@@ -8,4 +8,5 @@ returns-in-Err c = rw c.valid_up_to.ensures (Not_utf8 _ refl c.in-Err.ensures.ca
 pub returns-in-Ok : goal.returns-in-Ok
 returns-in-Ok c =
     let e = c.parse_posix_tz.ensures in
-    rw c.position.ensures (text_place c.args.bytes.now c.parse_posix_tz.result c.in-Ok.ensures.cases.1 (rw c.in-Ok.ensures.cases.0 at e.found) (rw c.in-Ok.ensures.cases.0 at e.fault) (rw c.in-Ok.ensures.cases.0 at e.place) (rw c.in-Ok.ensures.cases.0 at e.memory))
+    rw c.position.ensures (text_place c.args.bytes.now c.parse_posix_tz.result c.in-Ok.ensures.cases.1 (rw c.in-Ok.ensures.cases.0 at e.found)
+    (rw c.in-Ok.ensures.cases.0 at e.fault) (rw c.in-Ok.ensures.cases.0 at e.place) (rw c.in-Ok.ensures.cases.0 at e.memory))

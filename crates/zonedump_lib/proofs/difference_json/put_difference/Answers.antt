@@ -9,4 +9,6 @@ returns c =
     puts_then (wrote c.in_ok-begin_object.ensures)
     (puts_then (simp to_z-of_z at c.in_ok-put_second.ensures)
     (puts_then (simp to_z-of_z at c.in_ok-put_second-2.ensures)
-    (puts_then c.in_ok-put_type.ensures (puts_then c.in_ok-put_type-2.ensures (puts_then (rw (to_z-of_z fits, c.seconds_ahead.ensures) at c.in_ok-put_number.ensures) (wrote c.end_object.ensures))))))
+    (puts_then c.in_ok-put_type.ensures
+    (puts_then c.in_ok-put_type-2.ensures
+    (puts_then (rw (to_z-of_z fits, c.seconds_ahead.ensures) at c.in_ok-put_number.ensures) (wrote c.end_object.ensures))))))

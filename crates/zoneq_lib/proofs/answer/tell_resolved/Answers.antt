@@ -8,7 +8,9 @@ returns-in_default c = on_ok_weaker c.writeln.result (λ bytes. (codes "no zone"
 
 pub returns-in_default-new : goal.returns-in_default-new
 returns-in_default-new c =
-    on_ok_weaker c.writeln-in_default-new.result (λ bytes. (codes "wide zone", bytes, rw c.in-Some.is (inl ((λ narrow. cc (c.in_default-new.ensures.some.1 narrow)), refl)))) c.writeln-in_default-new.ensures.bytes
+    on_ok_weaker c.writeln-in_default-new.result
+    (λ bytes. (codes "wide zone", bytes, rw c.in-Some.is (inl ((λ narrow. cc (c.in_default-new.ensures.some.1 narrow)), refl))))
+    c.writeln-in_default-new.ensures.bytes
 
 pub returns-in-Ok : goal.returns-in-Ok
 returns-in-Ok c =

@@ -18,11 +18,13 @@ returns-in-Fixed c = let local = c.args.local.now in let offset = c.in-Fixed.off
 pub returns-in-Single : goal.returns-in-Single
 returns-in-Single c = let zone = c.in-Named.zone in
     rw c.in-Named.is
-    (wrapped_wall offsets.Named (kept.law_of zone) (law_of (zones.Named zone)) (named_is_wrapped zone) c.args.local.now.secs (LocalResult.Single c.in-Single.only)
+    (wrapped_wall offsets.Named (kept.law_of zone) (law_of (zones.Named zone)) (named_is_wrapped zone) c.args.local.now.secs
+    (LocalResult.Single c.in-Single.only)
     c.in-Single.ensures.offsets)
 
 pub returns-in-Ambiguous : goal.returns-in-Ambiguous
 returns-in-Ambiguous c = let zone = c.in-Named.zone in let both = c.in-Ambiguous in
     rw c.in-Named.is
-    (wrapped_wall offsets.Named (kept.law_of zone) (law_of (zones.Named zone)) (named_is_wrapped zone) c.args.local.now.secs (LocalResult.Ambiguous both.first both.last)
+    (wrapped_wall offsets.Named (kept.law_of zone) (law_of (zones.Named zone)) (named_is_wrapped zone) c.args.local.now.secs
+    (LocalResult.Ambiguous both.first both.last)
     both.ensures.offsets)

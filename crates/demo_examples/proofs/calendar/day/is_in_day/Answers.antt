@@ -16,5 +16,6 @@ returns-then-is_ge g c =
       λ before. lies off day r start end c.in_ok-start.ensures.first ends
           (λ early. let no : true ≡ false = sym c.if-is_ge.true ∙ c.is_ge.ensures ∙ ap is_ge (c.cmp_instant.ensures ∙ (less r start).1 early) in cc)
           ((less r end).0 (sym c.cmp_instant-then-is_ge.ensures ∙ less_of _ (sym c.is_lt.ensures ∙ before))),
-      λ lies. c.is_lt.ensures ∙ ap is_lt (c.cmp_instant-then-is_ge.ensures ∙ (less r end).1 (not_over off day r end (c.first_instants.ensures.once off) ends lies)),
+      λ lies. c.is_lt.ensures ∙ ap is_lt (c.cmp_instant-then-is_ge.ensures
+          ∙ (less r end).1 (not_over off day r end (c.first_instants.ensures.once off) ends lies)),
     )

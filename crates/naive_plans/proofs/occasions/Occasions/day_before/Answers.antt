@@ -6,7 +6,8 @@ use Rattle.naive_plans.proofs.occasions.Occasions.day_before.Goals as goal
 pub returns-in-None-clause-none : goal.returns-in-None-clause-none
 returns-in-None-clause-none c =
     let fits = c.ranges.day in λ d second on short less.
-    rw (to_z-of_z {w = w64} (record { sfits = c.previous_day-last.type_inv })) ((rw (to_z-of_z {w = w64} fits) at c.previous_day-last.ensures.none) d on.date less)
+    rw (to_z-of_z {w = w64} (record { sfits = c.previous_day-last.type_inv }))
+    ((rw (to_z-of_z {w = w64} fits) at c.previous_day-last.ensures.none) d on.date less)
 
 pub returns-in-Some-clause-bound : goal.returns-in-Some-clause-bound
 returns-in-Some-clause-bound c =

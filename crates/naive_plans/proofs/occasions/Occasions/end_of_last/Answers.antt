@@ -8,19 +8,24 @@ last_period-last-requires-clause-later c = c.if-not-is_from.ensures.0 refl
 
 pub later_period-requires : goal.later_period-requires
 later_period-requires c =
-    let own = rw (to_z-of_z {w = w64} (record { sfits = c.first_period-first.type_inv }), to_z-of_z {w = w64} (record { sfits = c.period_at-period.type_inv })) at c.last_period-last.ensures in
-    rw (to_z-of_z {w = w64} (record { sfits = c.last_period-last.type_inv })) (last_bounds _ _ _ _ own c.first_period-first.ensures.bound c.period_at-period.ensures.bound)
+    let own = rw (to_z-of_z {w = w64} (record { sfits = c.first_period-first.type_inv }), to_z-of_z {w = w64} (record { sfits = c.period_at-period.type_inv }))
+    at c.last_period-last.ensures in
+    rw (to_z-of_z {w = w64} (record { sfits = c.last_period-last.type_inv }))
+    (last_bounds _ _ _ _ own c.first_period-first.ensures.bound c.period_at-period.ensures.bound)
 
 pub start_of-requires : goal.start_of-requires
 start_of-requires c =
-    let own = rw (to_z-of_z {w = w64} (record { sfits = c.first_period-first.type_inv }), to_z-of_z {w = w64} (record { sfits = c.period_at-period.type_inv })) at c.last_period-last.ensures in
+    let own = rw (to_z-of_z {w = w64} (record { sfits = c.first_period-first.type_inv }), to_z-of_z {w = w64} (record { sfits = c.period_at-period.type_inv }))
+    at c.last_period-last.ensures in
     rw (to_z-of_z {w = w64} (record { sfits = c.later_period.type_inv })) (later_bounds c.args.self.now.rule.interval 1 _ _ _ _ c.later_period.result own
-    c.first_period-first.ensures.least c.period_at-period.ensures.bound (rw (to_z-of_z {w = w64} (record { sfits = c.last_period-last.type_inv })) at c.later_period.ensures) (omega arith))
+    c.first_period-first.ensures.least c.period_at-period.ensures.bound
+    (rw (to_z-of_z {w = w64} (record { sfits = c.last_period-last.type_inv })) at c.later_period.ensures) (omega arith))
 
 pub returns-then-not-is_from : goal.returns-then-not-is_from
 returns-then-not-is_from c =
     let fits = c.ranges.second in
-    let from = rw (to_z-of_z {w = w64} (record { sfits = c.first_period-first.type_inv }), to_z-of_z {w = w64} (record { sfits = c.period_at-period.type_inv })) at c.is_from.ensures in
+    let from = rw (to_z-of_z {w = w64} (record { sfits = c.first_period-first.type_inv }), to_z-of_z {w = w64} (record { sfits = c.period_at-period.type_inv }))
+    at c.is_from.ensures in
     rw (to_z-of_z {w = w64} (record { sfits = c.second_before_all.type_inv }))
     (none_counted c.args.self.now.rule c.args.self.now.start c.args.second _ _ _ c.first_period-first.ensures.value
     (simp to_z-of_z at c.period_at-period.ensures.value) (λ late. let yes = from.1 late in grind (arith, yes, c.if-not-is_from.true))
@@ -29,9 +34,12 @@ returns-then-not-is_from c =
 pub returns-then-last-period : goal.returns-then-last-period
 returns-then-last-period c =
     let fits = c.ranges.second in
-    counts_here c.args.self.now.rule c.args.self.now.start c.args.second _ _ _ c.first_period-first.ensures.value (simp to_z-of_z at c.period_at-period.ensures.value)
-    (rw (to_z-of_z {w = w64} (record { sfits = c.first_period-first.type_inv }), to_z-of_z {w = w64} (record { sfits = c.period_at-period.type_inv })) at c.last_period-last.ensures)
-    (rw (to_z-of_z {w = w64} (record { sfits = c.last_period-last.type_inv }), to_z-of_z {w = w64} (record { sfits = c.period_at-period.type_inv })) at (ap (to_z w64) c.if-last-period.true))
+    counts_here c.args.self.now.rule c.args.self.now.start c.args.second _ _ _ c.first_period-first.ensures.value
+    (simp to_z-of_z at c.period_at-period.ensures.value)
+    (rw (to_z-of_z {w = w64} (record { sfits = c.first_period-first.type_inv }), to_z-of_z {w = w64} (record { sfits = c.period_at-period.type_inv }))
+    at c.last_period-last.ensures)
+    (rw (to_z-of_z {w = w64} (record { sfits = c.last_period-last.type_inv }), to_z-of_z {w = w64} (record { sfits = c.period_at-period.type_inv }))
+    at (ap (to_z w64) c.if-last-period.true))
 
 pub returns : goal.returns
 returns c =
@@ -39,8 +47,10 @@ returns c =
     rw (to_z-of_z {w = w64} (record { sfits = c.start_of.type_inv }))
     (ends_earlier c.args.self.now.rule c.args.self.now.start c.args.second c.first_period-first.result c.period_at-period.result c.last_period-last.result
     c.later_period.result c.start_of.result c.first_period-first.ensures.value (simp to_z-of_z at c.period_at-period.ensures.value)
-    (rw (to_z-of_z {w = w64} (record { sfits = c.first_period-first.type_inv }), to_z-of_z {w = w64} (record { sfits = c.period_at-period.type_inv })) at c.last_period-last.ensures)
+    (rw (to_z-of_z {w = w64} (record { sfits = c.first_period-first.type_inv }), to_z-of_z {w = w64} (record { sfits = c.period_at-period.type_inv }))
+    at c.last_period-last.ensures)
     (λ same. c.if-last-period.false (ap (of_z w64) same))
     (rw (to_z-of_z {w = w64} (record { sfits = c.last_period-last.type_inv })) at c.later_period.ensures) c.requires.1
-    (rw (to_z-of_z {w = w64} (record { sfits = c.later_period.type_inv })) at c.start_of.ensures.earlier) (rw (to_z-of_z {w = w64} (record { sfits = c.later_period.type_inv })) at c.start_of.ensures.later)
+    (rw (to_z-of_z {w = w64} (record { sfits = c.later_period.type_inv })) at c.start_of.ensures.earlier)
+    (rw (to_z-of_z {w = w64} (record { sfits = c.later_period.type_inv })) at c.start_of.ensures.later)
     c.args.self.now.started.3)

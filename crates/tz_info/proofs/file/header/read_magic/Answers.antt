@@ -10,4 +10,5 @@ returns-in_err-front-clause-magic c = λ h. absurd (omega (arith, h.0, ((lawful 
 
 pub returns-clause-magic : goal.returns-clause-magic
 returns-clause-magic c =
-    λ h. not_magic c.args.cursor.now _ h c.in_ok-front.ensures.value (not-false (is_magic c.in_ok-front.front.now) (sym (rw c.as_slice.ensures at c.ne.ensures) ∙ c.if-ne.false))
+    λ h. not_magic c.args.cursor.now _ h c.in_ok-front.ensures.value
+    (not-false (is_magic c.in_ok-front.front.now) (sym (rw c.as_slice.ensures at c.ne.ensures) ∙ c.if-ne.false))

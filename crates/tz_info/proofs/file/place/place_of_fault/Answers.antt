@@ -11,7 +11,8 @@ place_in_contents-requires-clause-lengths c = has_lengths c.args.bytes.now _ ((p
 
 pub returns-in-Ok : goal.returns-in-Ok
 returns-in-Ok c =
-    In_contents (pieces_of c.in-Ok.pieces) c.part_places.result _ ((pieces_law c.args.bytes.now).takes _ c.in-Ok.ensures.pieces) c.part_places.ensures.places c.part_places.ensures.end c.place_in_contents.ensures
+    In_contents (pieces_of c.in-Ok.pieces) c.part_places.result _ ((pieces_law c.args.bytes.now).takes _ c.in-Ok.ensures.pieces) c.part_places.ensures.places
+    c.part_places.ensures.end c.place_in_contents.ensures
 
 pub returns-in-Err : goal.returns-in-Err
 returns-in-Err c = rw c.place_in_pieces.ensures (In_piece _ ((pieces_law c.args.bytes.now).fails _ c.in-Err.ensures.pieces))

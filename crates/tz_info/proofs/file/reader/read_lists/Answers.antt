@@ -8,4 +8,5 @@ pub returns-clause-lists : goal.returns-clause-lists
 returns-clause-lists c = reads c.args.bytes.now (pieces_of c.in_ok-pieces.pieces) c.lists_of.result c.in_ok-pieces.ensures.pieces c.lists_of.ensures
 
 pub returns-in_err-pieces-clause-lists : goal.returns-in_err-pieces-clause-lists
-returns-in_err-pieces-clause-lists c = let p = err_from_is_err_and c.from_residual.result c.from_residual.ensures.1 in rw (p.1, p.2) (no_pieces c.args.bytes.now _ c.in_err-pieces.ensures.pieces)
+returns-in_err-pieces-clause-lists c = let p = err_from_is_err_and c.from_residual.result c.from_residual.ensures.1 in
+    rw (p.1, p.2) (no_pieces c.args.bytes.now _ c.in_err-pieces.ensures.pieces)

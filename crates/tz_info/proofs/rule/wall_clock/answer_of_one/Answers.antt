@@ -3,7 +3,8 @@ use Rattle.tz_info.proofs.{Candidates.{asked_found, asked_one, one_fixed}, rule.
 use Rattle.tz_info.proofs.rule.wall_clock.answer_of_one.Goals as goal
 
 -- the second that is asked fits, and is the one of the type's offset
-second : (c : After-second_showing) → SFits w64 c.args.local × SFits w64 c.args.from × SFits w64 (c.args.local -ℤ c.args.only.now.offset) × (c.second_showing.result ≡ c.args.local -ℤ c.args.only.now.offset)
+second : (c : After-second_showing) → SFits w64 c.args.local × SFits w64 c.args.from × SFits w64 (c.args.local -ℤ c.args.only.now.offset)
+    × (c.second_showing.result ≡ c.args.local -ℤ c.args.only.now.offset)
 second c = grind (arith, ints)
 
 pub returns-then-second_showing-from-clause-counted : goal.returns-then-second_showing-from-clause-counted

@@ -20,4 +20,5 @@ returns-else-second-clause-left g c =
     let some = c.requires.some in
     let long = length-map c.args.self.now g.T.Timed.time in
     let time = time_read g.T.Timed.time c.args.self.now (left.first + left.count / 2) c.read-item.result.now (omega arith) c.read-item.ensures.item in
-    left_earlier _ c.args.second left.first (left.first + left.count / 2) (left.first + left.count) c.requires.left (omega arith) (omega arith) (omega (arith, ints))
+    left_earlier _ c.args.second left.first (left.first + left.count / 2) (left.first + left.count) c.requires.left (omega arith)
+    (omega arith) (omega (arith, ints))

@@ -11,6 +11,8 @@ returns-clause-near g c =
     let long = length-map c.args.self.now g.T.Timed.time in
     let time = time_read g.T.Timed.time c.args.self.now (near.first + near.count / 2) c.read.result.now (omega arith) c.read.ensures.item in
     elim c.if-second.branch [
-      | then-second w ↦ rw w.first-is (near_later _ c.args.second near (record { first = near.first + near.count / 2; count = near.count - near.count / 2 }) c.requires.near (omega arith) (omega arith) (omega arith) (omega (arith, ints)))
-      | else-second w ↦ rw w.first-is (near_earlier _ c.args.second near (record { first = near.first; count = near.count - near.count / 2 }) (near.first + near.count / 2) c.requires.near refl (omega arith) (omega arith) (omega arith) (omega arith) (omega (arith, ints)))
+      | then-second w ↦ rw w.first-is (near_later _ c.args.second near (record { first = near.first + near.count / 2; count = near.count - near.count / 2 })
+          c.requires.near (omega arith) (omega arith) (omega arith) (omega (arith, ints)))
+      | else-second w ↦ rw w.first-is (near_earlier _ c.args.second near (record { first = near.first; count = near.count - near.count / 2 })
+          (near.first + near.count / 2) c.requires.near refl (omega arith) (omega arith) (omega arith) (omega arith) (omega (arith, ints)))
     ]

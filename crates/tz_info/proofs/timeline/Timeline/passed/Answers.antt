@@ -45,7 +45,8 @@ passed_near-requires-clause-near g c =
     let last : SFits w64 c.self.inside.ends.last = search rules in
     let n = c.len-count.ensures.count in
     let between = simp to_z-of_z at c.seconds_between.ensures in
-    simp to_z-of_z (near_hinted _ c.args.second c.self.inside.hints c.self.inside.ends c.seconds_between.result c.in-Some.near c.len-count.ensures.ordered (omega arith) (omega arith) ends hints (omega (arith, ints)) between (pow_pos c.self.inside.hints.shift) c.in-Some.ensures)
+    simp to_z-of_z (near_hinted _ c.args.second c.self.inside.hints c.self.inside.ends c.seconds_between.result c.in-Some.near c.len-count.ensures.ordered
+    (omega arith) (omega arith) ends hints (omega (arith, ints)) between (pow_pos c.self.inside.hints.shift) c.in-Some.ensures)
 
 pub passed_by_halves-requires-clause-left : goal.passed_by_halves-requires-clause-left
 passed_by_halves-requires-clause-left g c = grind (arith, ints, kept, to_z-of_z)

@@ -15,7 +15,8 @@ returns-in_default-2 c =
 pub returns-in_err-file_of-clause-memory : goal.returns-in_err-file_of-clause-memory
 returns-in_err-file_of-clause-memory c =
     let footer = rw c.in-Some-2.is at c.in_ok-footer.ensures.written in
-    on_err c.from_residual-in_err-file_of.result _ (can_be_written c.args.self.now c.in-Some.room c.in-Some.ensures (subst IsSpellableOrNone c.rule.ensures (footer_spelled _ _ _ footer)))
+    on_err c.from_residual-in_err-file_of.result _
+    (can_be_written c.args.self.now c.in-Some.room c.in-Some.ensures (subst IsSpellableOrNone c.rule.ensures (footer_spelled _ _ _ footer)))
 
 pub returns-clause-reason : goal.returns-clause-reason
 returns-clause-reason c =

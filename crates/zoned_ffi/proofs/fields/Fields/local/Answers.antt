@@ -28,7 +28,8 @@ returns-else-is_in_range c =
     let from_is : c.from.result ≡ pos (clock_second f.hour f.minute f.second) = search rules in
     let bound = c.day_number.ensures.bound in
     let days : FitsSigned w64 (c.day_number.result *ℤ pos 86_400) = omega (arith, ints, bound.0, bound.1) in
-    let sum : FitsSigned w64 ((c.day_number.result *ℤ pos 86_400) +ℤ c.from.result) = omega (arith, ints, bound.0, bound.1, from_is, hands.0, hands.1, hands.2) in
+    let sum : FitsSigned w64 ((c.day_number.result *ℤ pos 86_400) +ℤ c.from.result) =
+    omega (arith, ints, bound.0, bound.1, from_is, hands.0, hands.1, hands.2) in
     let named : (c.day_number.result *ℤ pos 86_400) +ℤ c.from.result ≡ local_of_fields f =
     local_is f c.day_number.result c.from.result _ (simp to_z-of_z at c.day_number.ensures.value) from_is refl in
     let tested = simp to_z-of_z at c.is_in_range.ensures in

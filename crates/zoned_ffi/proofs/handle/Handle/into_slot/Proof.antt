@@ -16,10 +16,12 @@ into_slot_spec 𝓤 𝓛 𝓜 𝓡 wired =
     let H = 𝓛.H in let 𝓣 = tables 𝓤 H 𝓜 𝓡 𝓡.env in let c = f.clauses 𝓛 𝓜.mem 𝓡.returns in let fn = code.function in
     let Sl : RattleType = Slot R Z LZ ghosts in let stays : Stays f.ended.signature.params f.ended.kept = (stay_dropped (plain (λ _. Hd)) yes, tt) in
     proved_at 𝓛 f.ended stays c 𝓜 𝓡 (Goes-dropped 𝓛 0 (plain (λ _. Hd)) yes (λ κs x l. refl), tt) f.Key.name fn (code.unfolded 𝓤 H 𝓜 𝓡 wired) (λ z are.
-    let v = z.0.3.0 in let a = v.alloc in let Post : Val → SProp 𝓤 = (walk_of 𝓛 f.ended stays c).post z in let Run : List Val → SProp 𝓤 = λ ws. WpFn 𝓤 H 𝓣.C 𝓣.Λ fn ws Post in let Out : RattleType = type_at f.ended.signature.result z.0.0 in
+    let v = z.0.3.0 in let a = v.alloc in let Post : Val → SProp 𝓤 = (walk_of 𝓛 f.ended stays c).post z in
+    let Run : List Val → SProp 𝓤 = λ ws. WpFn 𝓤 H 𝓣.C 𝓣.Λ fn ws Post in let Out : RattleType = type_at f.ended.signature.result z.0.0 in
     qed 𝓛 ((‵ ftrue ⊛ ‵ (fsep (Hd.own_val v z.0.4.0) ftrue)) ∷ ‵ ftrue ∷ []) ∵ split ! $ move ! (1 ∷ []) $ fsplit ! $
     handle_out ! v z.0.4.0 (λ h ws fits. null_or_block ! a v.at v.shared
-    (λ e none. let w : Val = two (ptr_val null_ptr) h in let typed = null_fits h fits in let is : z.0.4.0 ≡ w ∷ [] = ws ∙ ap (λ (p : Ptr). two (ptr_val p) h ∷ []) e in
+    (λ e none. let w : Val = two (ptr_val null_ptr) h in let typed = null_fits h fits in
+    let is : z.0.4.0 ≡ w ∷ [] = ws ∙ ap (λ (p : Ptr). two (ptr_val p) h ∷ []) e in
     suffices ! (Run (w ∷ [])) (subst (λ (us : List Val). ent 𝓤 (Run (w ∷ [])) (Run us)) (sym (λ i. is i ++ [])) (id⊢ 𝓤 (Run (w ∷ [])))) $
     enter ! 𝓣.C 𝓣.Λ fn (w ∷ []) Post $ alloc_all ! (λ l. pass_all ! refl (typed, tt) $ let Ev = env fn.locals l in
     sets ! (of_opd ! (get_in ! (fld ! refl (stop !)) (sub ! 0 refl (whole !)))) refl (tt, null_fits_word) $
@@ -32,7 +34,8 @@ into_slot_spec 𝓤 𝓛 𝓜 𝓡 wired =
     use0 𝓛 (raw (fact 𝓤 (v.shared ≡ None))) (fact_i 𝓤 (v.shared ≡ None) (emp 𝓤) none) $ nothing ! $ nothing ! $ nothing ! $ fjoin ! $
     returns ! (look_at ! 0 refl) $ free_all ! refl $ keep ! (1 ∷ 0 ∷ 3 ∷ 2 ∷ []) $ by ! (leaves 𝓛 f.ended stays c z (live 0 vnil) None (tt, tt) (tt, tt)))
     (λ wrong. absurd wrong)))
-    (λ b o x e some t. let w : Val = two (vptr b o) h in let typed = slot_fits R Z LZ ghosts b o h fits in let is : z.0.4.0 ≡ w ∷ [] = ws ∙ ap (λ (p : Ptr). two (ptr_val p) h ∷ []) e in
+    (λ b o x e some t. let w : Val = two (vptr b o) h in let typed = slot_fits R Z LZ ghosts b o h fits in
+    let is : z.0.4.0 ≡ w ∷ [] = ws ∙ ap (λ (p : Ptr). two (ptr_val p) h ∷ []) e in
     let u : Val = live 1 (vcons w vnil) in let d : Sl.Denot = record { at = block_ptr b o; alloc = a; value = x } in
     let good : Good (layout Out) u = (and_tt _ typed.0, (record { fits = lit< tt }, (typed.1, tt))) in
     move ! (0 ∷ 1 ∷ []) $ slot_in R Z LZ ghosts ! b o h a x $ use1 𝓛 (‵ (Out.own_val (Some d) (u ∷ []))) (Some-of 𝓛 Sl d w) $

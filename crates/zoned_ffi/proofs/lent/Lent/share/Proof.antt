@@ -16,11 +16,13 @@ pub share_spec : {M : Type 1} → statement M
 share_spec 𝓤 𝓛 𝓜 𝓡 wired =
     let H = 𝓛.H in let 𝓣 = tables 𝓤 H 𝓜 𝓡 𝓡.env in let c = f.clauses 𝓛 𝓜.mem 𝓡.returns in let fn = code.function in
     let stays : Stays f.ended.signature.params f.ended.kept = (stay_dropped (RefOf (0 ∷ []) tt (plain (λ _. Le)) (λ _. tt)) yes, tt) in
-    proved 𝓛 f.ended stays c 𝓜 𝓡 (Goes-dropped 𝓛 1 (RefOf (0 ∷ []) tt (plain (λ _. Le)) (λ _. tt)) yes (λ κs x l. refl), tt) f.Key.name fn (code.unfolded 𝓤 H 𝓜 𝓡 wired)
+    proved 𝓛 f.ended stays c 𝓜 𝓡 (Goes-dropped 𝓛 1 (RefOf (0 ∷ []) tt (plain (λ _. Le)) (λ _. tt)) yes (λ κs x l. refl), tt) f.Key.name
+    fn (code.unfolded 𝓤 H 𝓜 𝓡 wired)
     (λ κs. (shr_vals, tt)) (λ κs. (shr_Tells (named 0) κs.0 Le, tt)) (λ κs qs bounds a gh are.
     let κ : Lft = κs.0 in let q : Share = qs.0 in let Lent : RattleType = ShrRef (named 0) κ R in
     let b : ℕ = a.0.ref_ptr.0 in let o : ℕ = a.0.ref_ptr.1 in let d : Le.Denot = a.0.now in
-    let y : (walk_of 𝓛 f.ended stays c).Ghost = ((κs, qs, bounds, a, (vptr b o ∷ [], tt)), gh) in let Post : Val → SProp 𝓤 = (walk_of 𝓛 f.ended stays c).post y in
+    let y : (walk_of 𝓛 f.ended stays c).Ghost = ((κs, qs, bounds, a, (vptr b o ∷ [], tt)), gh) in
+    let Post : Val → SProp 𝓤 = (walk_of 𝓛 f.ended stays c).post y in
     qed 𝓛 (((‵ (flft κ q) ⊛ ‵ ftrue) ⊛ ‵ (owns (types_at f.ended.signature.params κs) a y.0.4)) ∷ ‵ ftrue ∷ []) ∵
     split ! $ split ! $ move ! (2 ∷ []) $ fsplit ! $ fsplit ! $ keep ! (1 ∷ 3 ∷ []) $
     enter ! 𝓣.C 𝓣.Λ fn (vptr b o ∷ []) Post $ alloc_all ! (λ l. pass_all ! refl ((tt, tt), tt) $ let Ev = env fn.locals l in
@@ -50,4 +52,5 @@ share_spec 𝓤 𝓛 𝓜 𝓡 wired =
     use1 𝓛 (‵ ((OP.the_row Lent).own_val (Some r) (live 1 (vcons v vnil) ∷ []))) (Some-of 𝓛 Lent r v) $
     use0 𝓛 (raw (fact 𝓤 (d.shared ≡ Some x))) (fact_i 𝓤 (d.shared ≡ Some x) (emp 𝓤) is) $ nothing ! $ nothing ! $ fjoin ! $
     nothing ! $ move ! (4 ∷ 0 ∷ []) $ join ! $
-    returns ! (look_at ! 0 refl) $ free_all ! refl $ keep ! (0 ∷ 1 ∷ 3 ∷ 2 ∷ []) $ by ! (leaves 𝓛 f.ended stays c y (live 1 (vcons v vnil)) (Some r) (tt, tt) (tt, tt)))))))
+    returns ! (look_at ! 0 refl) $ free_all ! refl $ keep ! (0 ∷ 1 ∷ 3 ∷ 2 ∷ []) $ by !
+    (leaves 𝓛 f.ended stays c y (live 1 (vcons v vnil)) (Some r) (tt, tt) (tt, tt)))))))

@@ -5,7 +5,8 @@ pub returns-in-Some : goal.returns-in-Some
 returns-in-Some c =
     let ff : SFits w64 c.in-Some.found.first.at = search rules in
     let fl : SFits w64 c.in-Some.found.last.at = search rules in
-    simp to_z-of_z (ends_of_day c.zone-zone.result.now (off_of c.args.self.now) (day_of c.args.date) c.in-Some.found c.zone-zone.ensures.narrow c.zone-zone.ensures.offsets c.args.date.in_range c.in-Some.ensures)
+    simp to_z-of_z (ends_of_day c.zone-zone.result.now (off_of c.args.self.now) (day_of c.args.date) c.in-Some.found c.zone-zone.ensures.narrow
+    c.zone-zone.ensures.offsets c.args.date.in_range c.in-Some.ensures)
 
 pub returns-in-None : goal.returns-in-None
 returns-in-None c = never_on_day c.zone-zone.result.now (off_of c.args.self.now) (day_of c.args.date) c.zone-zone.ensures.offsets c.in-None.ensures

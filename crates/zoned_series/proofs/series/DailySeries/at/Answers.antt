@@ -7,7 +7,8 @@ use Rattle.zoned_series.proofs.series.DailySeries.at.Goals as goal
 pub returns-in-Err : goal.returns-in-Err
 returns-in-Err g c =
     let s = series_of c.args.self.now in
-    let same : reading c.and_time.result ≡ reading_of s c.args.n = c.and_time.ensures.value ∙ ap (λ day. reading_at day s.second s.fraction) c.in-Some.ensures.1 in
+    let same : reading c.and_time.result ≡ reading_of s c.args.n =
+    c.and_time.ensures.value ∙ ap (λ day. reading_at day s.second s.fraction) c.in-Some.ensures.1 in
     unresolved c.in-Err.cause c.in-Some.ensures.0
     (subst (λ r. IsUnresolved (g.Tz.TimeZone.law c.args.self.now.zone).off r.s s.choice c.in-Err.cause) same c.in-Err.ensures) refl
 

@@ -5,8 +5,10 @@ use Rattle.zoned_time.proofs.zone_days.ZoneDays.end_of_day.Goals as goal
 pub returns-in_err-start : goal.returns-in_err-start
 returns-in_err-start g c =
     let wide = c.args.date.in_range in
-    let late : last_day <ℤ day_of c.args.date = by_lt_z last_day (day_of c.args.date) (λ less. less) (λ not. absurd (c.in_err-start.ensures (omega (arith, ints, wide), omega (arith, ints, wide)))) in
-    rw c.from_residual.ensures (end_of_last_day (g.Self.TimeZone.law c.args.self.now).off (day_of c.args.date) (g.met.Self.TimeZone.within_day c.args.self.now) late)
+    let late : last_day <ℤ day_of c.args.date =
+    by_lt_z last_day (day_of c.args.date) (λ less. less) (λ not. absurd (c.in_err-start.ensures (omega (arith, ints, wide), omega (arith, ints, wide)))) in
+    rw c.from_residual.ensures
+    (end_of_last_day (g.Self.TimeZone.law c.args.self.now).off (day_of c.args.date) (g.met.Self.TimeZone.within_day c.args.self.now) late)
 
 pub returns-then-start-next : goal.returns-then-start-next
 returns-then-start-next g c =
@@ -20,4 +22,5 @@ returns g c =
     let ends = c.in_ok-start.ensures.ends.reached.in_zone in
     let fe : SFits w64 (c.in_ok-start.next -ℤ pos 1) = omega (arith, ints, ends) in
     let told = simp to_z-of_z at c.instant_at.ensures in
-    told_end (g.Self.TimeZone.law c.args.self.now) (day_of c.args.date) c.in_ok-start.start c.in_ok-start.next (λ d. zoned d) c.instant_at.result c.in_ok-start.ensures (λ same. c.if-start-next.false (ap (of_z w64) same)) told
+    told_end (g.Self.TimeZone.law c.args.self.now) (day_of c.args.date) c.in_ok-start.start c.in_ok-start.next (λ d. zoned d) c.instant_at.result
+    c.in_ok-start.ensures (λ same. c.if-start-next.false (ap (of_z w64) same)) told

@@ -6,7 +6,8 @@ pub returns-in_err-whole : goal.returns-in_err-whole
 returns-in_err-whole g c =
     let fs : SFits w64 c.first_second_at_or_after-second.result = search rules in
     let first = c.first_second_at_or_after-second.ensures in let out = simp to_z-of_z at c.in_err-whole.ensures in
-    rw c.from_residual.ensures (out_of_range (g.Self.TimeZone.law c.args.self.now).off (reading c.args.local.now) c.first_second_at_or_after-second.result first out)
+    rw c.from_residual.ensures
+    (out_of_range (g.Self.TimeZone.law c.args.self.now).off (reading c.args.local.now) c.first_second_at_or_after-second.result first out)
 
 pub returns-then-secs_since_epoch : goal.returns-then-secs_since_epoch
 returns-then-secs_since_epoch g c =

@@ -18,5 +18,7 @@ returns-in-Ok c = record {
 }
 
 pub returns-in-Err : goal.returns-in-Err
-returns-in-Err c = rw c.in-Err.ensures.1 (In_string c.in-Err.error.error (λ e. c.if-byte_or_zero-eq58.false (c.byte_or_zero.ensures ∙ e)) (no_zero c.args.text.now c.in_default.ensures)
+returns-in-Err c =
+    rw c.in-Err.ensures.1 (In_string c.in-Err.error.error (λ e. c.if-byte_or_zero-eq58.false (c.byte_or_zero.ensures ∙ e))
+    (no_zero c.args.text.now c.in_default.ensures)
     (not_empty c.args.text.now _ c.is_empty.ensures c.if-is_empty.false) (fault_by c.args.extended c.args.text.now (Err c.in-Err.error) c.in-Err.ensures))

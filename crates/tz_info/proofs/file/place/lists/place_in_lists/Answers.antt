@@ -9,7 +9,9 @@ pub returns-in-Some-first_not_later : goal.returns-in-Some-first_not_later
 returns-in-Some-first_not_later c = At_time c.in-Some-first_not_later.k c.in_default.ensures c.in-Some-first_not_later.ensures
 
 pub returns-in-Some-first_other_leap : goal.returns-in-Some-first_other_leap
-returns-in-Some-first_other_leap c = At_leap c.in-Some-first_other_leap.k c.in_default.ensures c.in_default-first_not_later.ensures c.in-Some-first_other_leap.ensures
+returns-in-Some-first_other_leap c =
+    At_leap c.in-Some-first_other_leap.k c.in_default.ensures c.in_default-first_not_later.ensures c.in-Some-first_other_leap.ensures
 
 pub returns : goal.returns
-returns c = rw (space_is _ _ c.trim_ascii_start.ensures.value, c.footer_bytes-footer.ensures) (At_rule c.in_default.ensures c.in_default-first_not_later.ensures c.in_default-first_other_leap.ensures)
+returns c = rw (space_is _ _ c.trim_ascii_start.ensures.value, c.footer_bytes-footer.ensures)
+    (At_rule c.in_default.ensures c.in_default-first_not_later.ensures c.in_default-first_other_leap.ensures)

@@ -5,7 +5,8 @@ use Rattle.tz_info.proofs.rule.alternate.AlternateTime.ask.Goals as goal
 
 -- what was given fits, and so do the second and the offset of the type there
 known : (c : After-offset)
-    → SFits w64 c.args.local × SFits w32 c.args.offset × SFits w64 c.args.from × SFits w64 (c.args.local -ℤ c.args.offset) × SFits w64 c.second_showing-second.result × SFits w32 c.offset.result
+    → SFits w64 c.args.local × SFits w32 c.args.offset × SFits w64 c.args.from × SFits w64 (c.args.local -ℤ c.args.offset)
+    × SFits w64 c.second_showing-second.result × SFits w32 c.offset.result
     × (c.second_showing-second.result ≡ c.args.local -ℤ c.args.offset)
 known c =
     let fl = c.ranges.local in let fo = c.ranges.offset in

@@ -16,10 +16,12 @@ in_year c =
     (at_second, at_day, omega (arith, floors, inside), day, lies, inside)
 
 pub is_dst-requires-clause-lies : goal.is_dst-requires-clause-lies
-is_dst-requires-clause-lies c = let (at_second, at_day, at_year, day, lies, inside) = in_year (goal.at.is_dst-requires-clause-lies c).After-year_of in simp to_z-of_z lies
+is_dst-requires-clause-lies c = let (at_second, at_day, at_year, day, lies, inside) =
+    in_year (goal.at.is_dst-requires-clause-lies c).After-year_of in simp to_z-of_z lies
 
 pub is_dst-requires-clause-inside : goal.is_dst-requires-clause-inside
-is_dst-requires-clause-inside c = let (at_second, at_day, at_year, day, lies, inside) = in_year (goal.at.is_dst-requires-clause-inside c).After-year_of in simp to_z-of_z inside
+is_dst-requires-clause-inside c = let (at_second, at_day, at_year, day, lies, inside) =
+    in_year (goal.at.is_dst-requires-clause-inside c).After-year_of in simp to_z-of_z inside
 
 pub returns : goal.returns
 returns c =

@@ -16,4 +16,5 @@ returns c =
     let ends = simp to_z-of_z at c.first_second-2.ensures in
     nearest_of_year c.args.forward c.args.self.now c.args.year c.args.stretch.after c.args.stretch.last c.later_of-after.result c.earlier_of-last.result
     (change_found c.args.self.now c.nearest_of.result) c.moments_near-moments.ensures.rule
-    (rw begins at (simp to_z-of_z at c.later_of-after.ensures)) (rw ends at (simp to_z-of_z at c.earlier_of-last.ensures)) (rw (simp to_z-of_z at c.moments_near-moments.ensures.moments) at (simp to_z-of_z at c.nearest_of.ensures))
+    (rw begins at (simp to_z-of_z at c.later_of-after.ensures)) (rw ends at (simp to_z-of_z at c.earlier_of-last.ensures))
+    (rw (simp to_z-of_z at c.moments_near-moments.ensures.moments) at (simp to_z-of_z at c.nearest_of.ensures))

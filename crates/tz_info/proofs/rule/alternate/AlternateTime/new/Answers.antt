@@ -53,7 +53,8 @@ between : (limit n : ℤ) → neg_ℤ limit <ℤ n → n <ℤ limit → is_stric
 between limit n low high = rw (lt_true (neg_ℤ limit) n low, lt_true n limit high) refl
 
 end_expected : (a : Alternate) → IsWithinDay a.std.offset → IsWithinDay a.dst.offset → IsWithinWeek a.start.time → EndWithinWeek ≡ expected_of_alternate a
-end_expected a std dst start = rw (between (pos 86_400) a.std.offset std.0 std.1, between (pos 86_400) a.dst.offset dst.0 dst.1, between (pos 604_800) a.start.time start.0 start.1) refl
+end_expected a std dst start =
+    rw (between (pos 86_400) a.std.offset std.0 std.1, between (pos 86_400) a.dst.offset dst.0 dst.1, between (pos 604_800) a.start.time start.0 start.1) refl
 
 pub returns-in_default-at : goal.returns-in_default-at
 unfolding shown

@@ -28,10 +28,12 @@ turns_from-requires-clause-kind c =
     simp to_z-of_z (rw own (rw (leap, weekday) at c.kind_by.ensures.value))
 
 pub overflow_sub-result : goal.overflow_sub-result
-overflow_sub-result c = let bound = (kept (goal.at.overflow_sub-result c).After-self).bound in omega (arith, floors, bound.0, bound.1, c.first_of_year-first.ensures.bound)
+overflow_sub-result c = let bound = (kept (goal.at.overflow_sub-result c).After-self).bound in
+    omega (arith, floors, bound.0, bound.1, c.first_of_year-first.ensures.bound)
 
 pub overflow_add-result-2 : goal.overflow_add-result-2
-overflow_add-result-2 c = let bound = (kept (goal.at.overflow_add-result-2 c).After-self).bound in omega (arith, floors, bound.0, bound.1, c.first_of_year-first.ensures.bound)
+overflow_add-result-2 c = let bound = (kept (goal.at.overflow_add-result-2 c).After-self).bound in
+    omega (arith, floors, bound.0, bound.1, c.first_of_year-first.ensures.bound)
 
 pub returns : goal.returns
 returns c =
@@ -51,4 +53,5 @@ returns c =
       until = pos 86_400 *ℤ c.first_of_year-first.result +ℤ pos 31_536_000 +ℤ margin;
       turns = c.turns_from.result;
     } in
-    simp to_z-of_z (season_made c.args.self.now margin (year_of c.first_of_year-first.result) c.first_of_year-first.result season k (begins ∙ ap year_start (sym own)) refl refl (simp to_z-of_z at c.turns_from.ensures.start) (simp to_z-of_z at c.turns_from.ensures.end))
+    simp to_z-of_z (season_made c.args.self.now margin (year_of c.first_of_year-first.result) c.first_of_year-first.result season k
+    (begins ∙ ap year_start (sym own)) refl refl (simp to_z-of_z at c.turns_from.ensures.start) (simp to_z-of_z at c.turns_from.ensures.end))

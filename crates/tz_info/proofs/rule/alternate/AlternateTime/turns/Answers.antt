@@ -3,7 +3,8 @@ use Rattle.tz_info.proofs.rule.alternate.AlternateTime.turns.Goals.{After-year_s
 use Rattle.tz_info.proofs.rule.alternate.AlternateTime.turns.Goals as goal
 
 -- the year's first day lies in it
-first_day : (c : goal.After-year_start-first) → SFits w64 c.year_start-first.result × (c.year_start-first.result ≡ year_start c.args.year) × (year_of c.year_start-first.result ≡ c.args.year)
+first_day : (c : goal.After-year_start-first) → SFits w64 c.year_start-first.result × (c.year_start-first.result ≡ year_start c.args.year)
+    × (year_of c.year_start-first.result ≡ c.args.year)
 first_day c = grind (arith, ints, floors, own_start, c.ranges.year, c.year_start-first.ensures.value, c.year_start-first.ensures.bound)
 
 pub turns_from-requires-clause-first : goal.turns_from-requires-clause-first

@@ -8,12 +8,15 @@ use Rattle.tz_info.proofs.timeline.hints.Hints.new.Goals as goal
 first_is : (g : Over) (c : After-deref_mut g) → c.second-first.result ≡ item_time (map g.T.Timed.time c.args.items.now) 0
 first_is g c = c.second-first.ensures ∙ time_read g.T.Timed.time c.args.items.now 0 c.index-items-0.result (omega arith) c.index-items-0.is
 
-span_is : (g : Over) (c : After-deref_mut g) → pos c.seconds_between-span.result ≡ item_time (map g.T.Timed.time c.args.items.now) (length (map g.T.Timed.time c.args.items.now) - 1) -ℤ c.second-first.result
+span_is : (g : Over) (c : After-deref_mut g)
+    → pos c.seconds_between-span.result ≡ item_time (map g.T.Timed.time c.args.items.now) (length (map g.T.Timed.time c.args.items.now) - 1)
+    -ℤ c.second-first.result
 span_is g c =
     let fs : SFits w64 c.second.result = search rules in
     let ff : SFits w64 c.second-first.result = search rules in
     let long = length-map c.args.items.now g.T.Timed.time in
-    let last = c.second.ensures ∙ time_read g.T.Timed.time c.args.items.now (length c.args.items.now - 1) c.index-items-count.result (omega arith) c.index-items-count.is in
+    let last = c.second.ensures ∙ time_read g.T.Timed.time c.args.items.now (length c.args.items.now - 1) c.index-items-count.result
+    (omega arith) c.index-items-count.is in
     let between = simp to_z-of_z at c.seconds_between-span.ensures in grind arith
 
 zeros_count : (g : Over) (c : After-deref_mut g) → length c.deref_mut.result.now ≡ c.seconds_between-span.result / 2 ^ c.shift_for-shift.result + 2
@@ -29,7 +32,8 @@ pub mark-requires-clause-room : goal.mark-requires-clause-room
 mark-requires-clause-room g c = λ k h.
     let ff : SFits w64 c.second-first.result = search rules in
     let long = length-map c.args.items.now g.T.Timed.time in
-    let slot = slots (map g.T.Timed.time c.args.items.now) c.second-first.result c.seconds_between-span.result c.shift_for-shift.result k c.requires (first_is g c) (span_is g c) (omega arith) in
+    let slot = slots (map g.T.Timed.time c.args.items.now) c.second-first.result c.seconds_between-span.result c.shift_for-shift.result k c.requires
+    (first_is g c) (span_is g c) (omega arith) in
     let count = zeros_count g c in grind (arith, to_z-of_z)
 
 -- what a slice of all numbers was written to

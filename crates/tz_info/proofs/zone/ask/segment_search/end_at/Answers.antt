@@ -11,6 +11,7 @@ returns-clause-end c =
     let e = c.entry-entry.ensures in
     let some = c.requires.first in
     let same : (c.args.place - 1) + 1 ≡ c.args.place = omega arith in
-    let has = slice_get_read c.args.types.now (length c.args.types.now) c.entry-entry.result.before c.index-types-entry.result refl e.before c.index-types-entry.is in
+    let has = slice_get_read c.args.types.now (length c.args.types.now) c.entry-entry.result.before c.index-types-entry.result refl
+    e.before c.index-types-entry.is in
     let end = rw (rw same at e.entry.at, c.offset.ensures.value) at (simp to_z-of_z at c.cut_at.ensures) in
     simp to_z-of_z (end ∙ sym (end_before _ _ c.args.place c.index-types-entry.result some (rw e.entry.before at has)))

@@ -12,6 +12,7 @@ returns-clause-first c =
     let b = c.begin_of-index.ensures in
     let shown : c.second_showing-shown.result ≡ c.args.local -ℤ c.index-types-index.result.offset =
     rw c.offset.ensures.value at (simp to_z-of_z at c.second_showing-shown.ensures.value) in
-    let has = slice_get_read c.args.types.now (length c.args.types.now) c.begin_of-index.result.0 c.index-types-index.result refl b.below c.index-types-index.is in
+    let has = slice_get_read c.args.types.now (length c.args.types.now) c.begin_of-index.result.0 c.index-types-index.result refl
+    b.below c.index-types-index.is in
     simp to_z-of_z (first_of_made _ _ _ _ c.args.local c.later.result _ _ c.index-types-index.result b.index has c.offset.ensures.bound
     b.begin shown (simp to_z-of_z at c.later.ensures))

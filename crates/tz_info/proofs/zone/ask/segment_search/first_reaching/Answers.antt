@@ -75,6 +75,7 @@ returns c =
     let here = simp to_z-of_z at inv.here in
     record {
       first = first_found _ _ _ l.first (omega arith) (simp to_z-of_z at inv.before) (λ h. rw sum at (here (omega arith)));
-      room = let fits = c.len-count.type_inv in let n = c.len-count.ensures in let le = digits-le (length c.args.changes.now.items) in let r = c.requires.room.reads in omega arith;
+      room = let fits = c.len-count.type_inv in let n = c.len-count.ensures in let le = digits-le (length c.args.changes.now.items) in
+          let r = c.requires.room.reads in omega arith;
       cost = record { reads_kept = kept; reads_most = omega arith; questions_kept = omega arith; questions_most = omega arith; pieces_same = same_pieces };
     }

@@ -19,7 +19,9 @@ pub returns-in-None-clause-reached : goal.returns-in-None-clause-reached
 returns-in-None-clause-reached c =
     let fl = c.ranges.local in
     let fe : SFits w64 c.end_at.result = search rules in
-    simp to_z-of_z (rw c.end_at.ensures.end (by_test _ _ (reached_plain _ _ _ _ (c.requires.ends.0 (rw c.in-None.is at c.latest_end.ensures.end)) c.requires.first c.requires.place)))
+    simp to_z-of_z
+    (rw c.end_at.ensures.end
+    (by_test _ _ (reached_plain _ _ _ _ (c.requires.ends.0 (rw c.in-None.is at c.latest_end.ensures.end)) c.requires.first c.requires.place)))
 
 pub end_at-requires-clause-room : goal.end_at-requires-clause-room
 end_at-requires-clause-room c = rw (c.latest_end.ensures.free (rw c.in-None.is at c.latest_end.ensures.end)) c.requires.room

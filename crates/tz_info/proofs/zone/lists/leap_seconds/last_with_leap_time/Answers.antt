@@ -16,7 +16,8 @@ loop-entry-preserved c =
     let fm : SFits w128 c.min-refused.result = search rules in
     let old = c.loop-entry.invariant.refused in
     let more = refused_more c.args.entries.now c.loop-entry.entry-index _ c.refused_by.result c.min-refused.result old c.refused_by.ensures.late
-    (λ u. refuses_by_entry c.args.entries.now c.loop-entry.entry-index none c.refused_by.result _ u c.loop-entry-test.true c.loop-entry.invariant.before (c.refused_by.ensures.first u)) (simp to_z-of_z at c.min-refused.ensures.value) in
+    (λ u. refuses_by_entry c.args.entries.now c.loop-entry.entry-index none c.refused_by.result _ u c.loop-entry-test.true c.loop-entry.invariant.before
+    (c.refused_by.ensures.first u)) (simp to_z-of_z at c.min-refused.ensures.value) in
     simp to_z-of_z (record {
       refused = more;
       before = sym (rw add-one (last_taken (λ (e : LeapSecond). e.correction) (pos 0) c.args.entries.now c.loop-entry.entry-index none c.loop-entry-test.true));

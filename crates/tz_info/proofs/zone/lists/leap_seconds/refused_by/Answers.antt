@@ -7,4 +7,7 @@ returns-clause-first c =
     let fb = c.ranges.before in
     let fm : SFits w128 c.max.result = search rules in
     let value = c.max.ensures.value in
-    simp to_z-of_z (λ u. ((λ h. (omega (arith, ints, clamps), omega (arith, ints, clamps))), (λ both. let a = both.0 in let b = both.1 in omega (arith, ints, clamps))))
+    simp to_z-of_z (λ u. (
+      (λ h. (omega (arith, ints, clamps), omega (arith, ints, clamps))),
+      (λ both. let a = both.0 in let b = both.1 in omega (arith, ints, clamps)),
+    ))

@@ -11,5 +11,7 @@ returns c =
     let fd : SFits w64 c.correction_after-correction.result = omega (arith, ints) in
     let fs : SFits w64 c.saturating_add.result = search rules in
     let ft : SFits w64 (get_or c.args.entries.now c.args.place none).unix_leap_time = search rules in
-    let here = passed_here c.args.entries.now c.args.unix_time c.correction_after-correction.result c.args.place none c.requires.leaps c.requires.place c.correction_after-correction.ensures in
-    simp to_z-of_z (by_saturated (get_or c.args.entries.now c.args.place none).unix_leap_time _ c.saturating_add.result ft (since_epoch c.args.entries.now c.args.place none c.requires.leaps c.requires.place) (simp to_z-of_z at c.saturating_add.ensures) here)
+    let here = passed_here c.args.entries.now c.args.unix_time c.correction_after-correction.result c.args.place none c.requires.leaps c.requires.place
+    c.correction_after-correction.ensures in
+    simp to_z-of_z (by_saturated (get_or c.args.entries.now c.args.place none).unix_leap_time _ c.saturating_add.result ft
+    (since_epoch c.args.entries.now c.args.place none c.requires.leaps c.requires.place) (simp to_z-of_z at c.saturating_add.ensures) here)

@@ -14,7 +14,9 @@ returns-then-come-eq0-clause-reached c = λ u y l.
 
 -- the later one of the entry's own second and of the leap time led back
 latest : (c : goal.After-later) → SFits w128 c.later.result × HaveCome c.args.leaps.now c.args.leap_time c.entries_come-come.result
-    × ((u : ℤ) → (c.later.result ≤ℤ u) ↔ ((((get_or c.args.leaps.now (c.entries_come-come.result - 1) none).unix_leap_time -ℤ c.correction_after.result) ≤ℤ u) × ((c.args.leap_time -ℤ c.correction_after-2.result) ≤ℤ u)))
+    × ((u : ℤ) → (c.later.result ≤ℤ u)
+    ↔ ((((get_or c.args.leaps.now (c.entries_come-come.result - 1) none).unix_leap_time -ℤ c.correction_after.result) ≤ℤ u)
+    × ((c.args.leap_time -ℤ c.correction_after-2.result) ≤ℤ u)))
 latest c =
     let fx = c.ranges.leap_time in
     let fw : SFits w128 c.args.leap_time = omega (arith, ints) in

@@ -1,4 +1,5 @@
-use Rattle.tz_info.proofs.Words.{All, Bool, List, LocalType, No_type, Not_rising, Other_index, Other_leaps, Other_rule, arith, false, length, nat_tests, true, ◌<◌}
+use Rattle.tz_info.proofs.Words.{All, Bool, List, LocalType, No_type, Not_rising, Other_index, Other_leaps, Other_rule, arith, false, length, nat_tests, true}
+use Rattle.tz_info.proofs.Words.{◌<◌}
 use Rattle.tz_info.proofs.Words.{Transition, get_or-map, length-map, map, ◌==◌, ◌≡◌}
 use Rattle.std.proofs.lemmas.List.Elements.{All-map}
 use Rattle.tz_info.proofs.ListFaults.{with_fault}
@@ -18,20 +19,26 @@ returns-then-is_empty g c = with_fault (No_type (none c.args.types.now c.is_empt
 
 pub returns-then-not-name_types : goal.returns-then-not-name_types
 returns-then-not-name_types g c =
-    with_fault (Other_index (some c.args.types.now c.is_empty.result c.is_empty.ensures c.if-is_empty.false) (λ h. let t = c.name_types.ensures.1 (all_of_map (λ (t : Transition). t.type_index < length c.args.types.now) g.T.AsTransition.transition c.args.transitions.now h) in let f = c.if-not-name_types.true in cc))
+    with_fault (Other_index (some c.args.types.now c.is_empty.result c.is_empty.ensures c.if-is_empty.false)
+    (λ h. let t = c.name_types.ensures.1
+    (all_of_map (λ (t : Transition). t.type_index < length c.args.types.now) g.T.AsTransition.transition c.args.transitions.now h) in
+    let f = c.if-not-name_types.true in cc))
 
 pub returns-then-not-are_transitions : goal.returns-then-not-are_transitions
 returns-then-not-are_transitions g c =
-    let indexes = All-map (λ (t : Transition). t.type_index < length c.args.types.now) g.T.AsTransition.transition c.args.transitions.now (c.name_types.ensures.0 c.if-not-name_types.false) in
+    let indexes = All-map (λ (t : Transition). t.type_index < length c.args.types.now) g.T.AsTransition.transition c.args.transitions.now
+    (c.name_types.ensures.0 c.if-not-name_types.false) in
     with_fault (Not_rising (some c.args.types.now c.is_empty.result c.is_empty.ensures c.if-is_empty.false) indexes
     (λ h. let t = c.are_transitions.ensures.1 (record { indexes = indexes; rising = h }) in let f = c.if-not-are_transitions.true in cc))
 
 pub returns-then-not-are_leap_seconds : goal.returns-then-not-are_leap_seconds
 returns-then-not-are_leap_seconds g c =
-    with_fault (Other_leaps (some c.args.types.now c.is_empty.result c.is_empty.ensures c.if-is_empty.false) (c.are_transitions.ensures.0 c.if-not-are_transitions.false)
+    with_fault (Other_leaps (some c.args.types.now c.is_empty.result c.is_empty.ensures c.if-is_empty.false)
+    (c.are_transitions.ensures.0 c.if-not-are_transitions.false)
     (λ h. let t = c.are_leap_seconds.ensures.1 h in let f = c.if-not-are_leap_seconds.true in cc))
 
 pub returns-then-not-rule_agrees : goal.returns-then-not-rule_agrees
 returns-then-not-rule_agrees g c =
-    with_fault (Other_rule (some c.args.types.now c.is_empty.result c.is_empty.ensures c.if-is_empty.false) (c.are_transitions.ensures.0 c.if-not-are_transitions.false) (c.are_leap_seconds.ensures.0 c.if-not-are_leap_seconds.false)
+    with_fault (Other_rule (some c.args.types.now c.is_empty.result c.is_empty.ensures c.if-is_empty.false)
+    (c.are_transitions.ensures.0 c.if-not-are_transitions.false) (c.are_leap_seconds.ensures.0 c.if-not-are_leap_seconds.false)
     (λ h. let t = c.rule_agrees.ensures.1 h in let f = c.if-not-rule_agrees.true in cc))

@@ -6,7 +6,8 @@ pub returns-then-ends_at-clause-before : goal.returns-then-ends_at-clause-before
 returns-then-ends_at-clause-before c =
     let fs = c.ranges.second in
     let ends = rw c.deref.ensures.value at (simp to_z-of_z at (c.ends_at.ensures.0 c.if-ends_at.true)) in
-    popped c.args.entries.now.items c.pop.new.self.items c.pop.result c.args.second ends c.pop.ensures.items (λ d some. let n : vec_len c.args.entries.now ≡ length c.args.entries.now.items = search rules in rw n at (c.pop.ensures.value d (omega arith)))
+    popped c.args.entries.now.items c.pop.new.self.items c.pop.result c.args.second ends c.pop.ensures.items
+    (λ d some. let n : vec_len c.args.entries.now ≡ length c.args.entries.now.items = search rules in rw n at (c.pop.ensures.value d (omega arith)))
 
 pub returns-else-ends_at-clause-before : goal.returns-else-ends_at-clause-before
 returns-else-ends_at-clause-before c =

@@ -6,7 +6,9 @@ use Rattle.tz_info.proofs.zone.made.one_pass.pieces_in_one_pass.Goals as goal
 
 pub loop-place-init : goal.loop-place-init
 loop-place-init c = record {
-  pieces = rw c.in_ok-pieces.ensures.items (open_first (zone_in c.args.lists) c.args.entries.now c.args.count _ c.requires.table (let n = c.requires.count in let s = c.requires.some in omega arith) c.requires.some);
+  pieces = rw c.in_ok-pieces.ensures.items
+      (open_first (zone_in c.args.lists) c.args.entries.now c.args.count _ c.requires.table (let n = c.requires.count in let s = c.requires.some in
+      omega arith) c.requires.some);
   before = c.segment_at-before.ensures;
   count = omega (arith, c.in_ok-pieces.ensures.len);
   room = omega (arith, c.in_ok-pieces.ensures.exact);
@@ -19,7 +21,9 @@ loop-place-preserved c =
     let strict = simp to_z-of_z at (c.is_crossed.ensures.behind c.if-is_crossed.false) in
     let out = c.push_reserved-in-loop-place.ensures.items ∙ ap (λ (ps : List Piece). ps ++ (c.in_ok-first.last ∷ [])) c.push_reserved.ensures.items in
     rw add-one (record {
-      pieces = simp to_z-of_z (open_more (zone_in c.args.lists) c.args.entries.now c.args.count c.loop-place.place _ c.loop-place.pieces.items _ _ c.in_ok-first.first c.in_ok-first.last
+      pieces =
+          simp to_z-of_z (open_more (zone_in c.args.lists) c.args.entries.now c.args.count c.loop-place.place _ c.loop-place.pieces.items _ _
+          c.in_ok-first.first c.in_ok-first.last
           c.requires.table (omega arith) (omega arith) c.loop-place.invariant.pieces c.in_ok-first.ensures strict out);
       before = let one : suc c.loop-place.place - 1 ≡ c.loop-place.place = omega arith in rw one c.segment_at-behind.ensures;
       count = omega (arith, c.push_reserved.ensures.len, c.push_reserved-in-loop-place.ensures.len);
@@ -31,7 +35,8 @@ returns-then-is_crossed c =
     let ff : SFits w64 c.in_ok-first.first.start = search rules in
     let within = c.requires.table.within in
     let crossed = simp to_z-of_z at (c.is_crossed.ensures.crossed c.if-is_crossed.true) in
-    crossed_by (zone_in c.args.lists) c.args.entries.now c.loop-place.place _ _ _ c.in_ok-first.first.start (omega arith) crossed.0 c.loop-place.invariant.pieces
+    crossed_by (zone_in c.args.lists) c.args.entries.now c.loop-place.place _ _ _ c.in_ok-first.first.start (omega arith)
+    crossed.0 c.loop-place.invariant.pieces
     (cuts_of c.args.lists.types.now c.args.entries.now c.loop-place.place c.in_ok-first.first c.in_ok-first.last c.in_ok-first.ensures).0 crossed.1
 
 pub returns-then-is_crossed-2 : goal.returns-then-is_crossed-2
@@ -64,7 +69,8 @@ returns c =
           let strict = rw (here, cut) at (simp to_z-of_z at (w.is_crossed-then-count-entries.ensures.behind w.if-is_crossed-2.false)) in (
             rw (w.pieces-is, w.push_reserved-then-count-entries.ensures.items, simp to_z-of_z at w.in_ok-piece.ensures, cut, here, c.segment_at.ensures.index)
                 (c.loop-place.invariant.pieces.closed (omega arith) seg.type (rw seg.index at seg.listed) seg.is_offset strict),
-            ends_closed (zone_in c.args.lists) c.args.entries.now c.loop-place.place _ _ _ c.loop-place.invariant.pieces (omega arith) (rw (← end_before _ _ c.loop-place.place seg.type (omega arith) (rw seg.index at seg.listed)) at strict),
+            ends_closed (zone_in c.args.lists) c.args.entries.now c.loop-place.place _ _ _ c.loop-place.invariant.pieces (omega arith)
+                (rw (← end_before _ _ c.loop-place.place seg.type (omega arith) (rw seg.index at seg.listed)) at strict),
           )
       | else-count-entries w ↦
           let all : length c.args.entries.now < c.loop-place.place = let more = w.if-count-entries.false in omega arith in (

@@ -5,10 +5,12 @@ pub loop-step-preserved : goal.loop-step-preserved
 loop-step-preserved c =
     let fits : SFits w64 c.next_start-start.result.0 = search rules in
     record {
-      merging = merging_more _ _ _ _ c.loop-step.pieces.items _ c.loop-step.i c.loop-step.j _ _ c.next_start-start.result.0 c.together-answer.result c.requires.first c.requires.last c.loop-step.invariant.merging c.next_start-start.ensures
+      merging = merging_more _ _ _ _ c.loop-step.pieces.items _ c.loop-step.i c.loop-step.j _ _ c.next_start-start.result.0 c.together-answer.result
+          c.requires.first c.requires.last c.loop-step.invariant.merging c.next_start-start.ensures
           (c.together-answer.ensures ∙ rw (c.answer_before.ensures, c.answer_before-in-loop-step.ensures) refl)
           (rw (simp to_z-of_z at c.in_ok-piece.ensures) at c.in_ok-push.ensures.items);
-      step = step_count _ _ c.loop-step.i c.loop-step.j _ _ c.next_start-start.result.0 c.next_start-start.ensures ∙ ap (λ (n : ℕ). n + 1) c.loop-step.invariant.step;
+      step = step_count _ _ c.loop-step.i c.loop-step.j _ _ c.next_start-start.result.0 c.next_start-start.ensures
+          ∙ ap (λ (n : ℕ). n + 1) c.loop-step.invariant.step;
     }
 
 pub next_start-start-requires-clause-some : goal.next_start-start-requires-clause-some

@@ -16,7 +16,10 @@ loop-place-preserved c =
     let one : c.loop-place.place + 1 ≡ suc c.loop-place.place = omega arith in
     let count = c.loop-place.invariant.count in let room = c.loop-place.invariant.room in
     record {
-      maxima = rw one (simp to_z-of_z (maxima_more c.args.types.now c.args.entries.now c.loop-place.place c.loop-place.maxima.items _ _ c.later-latest.result c.loop-place.invariant.maxima
+      maxima =
+          rw one
+          (simp to_z-of_z (maxima_more c.args.types.now c.args.entries.now c.loop-place.place c.loop-place.maxima.items _ _
+          c.later-latest.result c.loop-place.invariant.maxima
           (rw one at (rw c.end_of.ensures at (simp to_z-of_z at c.later-latest.ensures))) (simp to_z-of_z at c.push_reserved.ensures.items)));
       count = omega (arith, c.push_reserved.ensures.len);
       room = omega (arith, c.push_reserved.ensures.capacity);

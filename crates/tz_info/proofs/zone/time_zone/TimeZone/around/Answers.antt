@@ -5,7 +5,8 @@ use Rattle.tz_info.proofs.zone.time_zone.TimeZone.around.Goals.{After-answer-sho
 use Rattle.tz_info.proofs.zone.time_zone.TimeZone.around.Goals as goal
 
 -- what the index says, and the zone's entries
-said : (c : After-answer-shown) → IsShownAmong c.args.self.now c.self.inside.changes.items 0 (top_of c.args.self.now.rule c.self.inside.changes) c.args.local c.answer-shown.result
+said : (c : After-answer-shown)
+    → IsShownAmong c.args.self.now c.self.inside.changes.items 0 (top_of c.args.self.now.rule c.self.inside.changes) c.args.local c.answer-shown.result
 said c =
     let fl = c.ranges.local in
     rw (simp to_z-of_z at c.answer-shown.ensures.answer, ← c.self.view_is) (c.self.invariant.index.answers c.args.local c.requires.local)
@@ -32,19 +33,22 @@ gap_at-requires-clause-jump c =
     let d = (goal.at.gap_at-requires-clause-jump c).After-answer-shown in
     let fg : SFits w32 c.self.inside.extremes.greatest = search rules in
     let fh : SFits w32 c.self.inside.extremes.least = search rules in
-    let reach : HasReach c.args.self.now c.args.local = reach_of _ _ c.self.inside.extremes c.requires.local fg fh (rw (← c.self.view_is) c.self.invariant.extremes) in
+    let reach : HasReach c.args.self.now c.args.local =
+    reach_of _ _ c.self.inside.extremes c.requires.local fg fh (rw (← c.self.view_is) c.self.invariant.extremes) in
     let valid : IsValid c.args.self.now = rw (← c.self.view_is) c.self.invariant.valid in
     let limits : IsRuleOrNone c.args.self.now.rule = rw (← c.self.view_is) c.self.invariant.limits in
     let never = rw c.in-None.is at (simp to_z-of_z at c.answer_behind-season.ensures.found) in
     let jump = rw (c.deref.ensures.value, ap (λ (z : Zone). z.types) c.self.view_is) at c.jump-jump.ensures.jump in
-    simp to_z-of_z (gap_by_index c.args.self.now c.self.inside.changes c.args.local reach.0 reach.1 c.answer-shown.result _ valid limits (entries d) never reach.2 (said d) jump)
+    simp to_z-of_z (gap_by_index c.args.self.now c.self.inside.changes c.args.local reach.0 reach.1 c.answer-shown.result _ valid limits
+    (entries d) never reach.2 (said d) jump)
 
 -- one search, and questions to the rule
 cost : (c : After-answer_behind-season) → RoseByWallClock c.args.self.now c.args.probes.now c.answer_behind-season.new.probes
 cost c =
     let n = ap (λ (z : Zone). length z.transitions) c.self.view_is in
     let most = c.self.invariant.index.most in let few = c.self.invariant.list.few in
-    rose_by_wall c.args.self.now _ _ _ _ (omega arith) c.answer-shown.ensures.cost (λ some. c.answer-shown.ensures.looked (c.self.invariant.index.some (omega arith))) c.answer_behind-season.ensures.cost
+    rose_by_wall c.args.self.now _ _ _ _ (omega arith) c.answer-shown.ensures.cost
+    (λ some. c.answer-shown.ensures.looked (c.self.invariant.index.some (omega arith))) c.answer_behind-season.ensures.cost
 
 pub returns-in-None-clause-cost : goal.returns-in-None-clause-cost
 returns-in-None-clause-cost c = (_, cost (goal.at.returns-in-None-clause-cost c).After-answer_behind-season, c.jump-jump.ensures.cost)

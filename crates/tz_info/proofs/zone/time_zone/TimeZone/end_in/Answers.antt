@@ -6,7 +6,8 @@ use Rattle.tz_info.proofs.zone.time_zone.TimeZone.end_in.Goals as goal
 -- the seconds between which a clock of the run's type shows a local time of the stretch
 between : (c : After-second_showing-before)
     → SFits w64 c.args.from × SFits w64 c.args.until × SFits w64 c.second_showing-since.result × SFits w64 c.second_showing-before.result
-    × (c.second_showing-since.result ≡ c.args.from -ℤ c.next_run.result.1.now.offset) × (c.second_showing-before.result ≡ c.args.until -ℤ c.next_run.result.1.now.offset)
+    × (c.second_showing-since.result ≡ c.args.from -ℤ c.next_run.result.1.now.offset)
+    × (c.second_showing-before.result ≡ c.args.until -ℤ c.next_run.result.1.now.offset)
 between c =
     let ff = c.ranges.from in let fu = c.ranges.until in
     let fs : SFits w64 c.second_showing-since.result = search rules in

@@ -3,7 +3,8 @@ use Rattle.tz_info.proofs.zone.time_zone.TimeZone.find_seconds_of_day.Goals as g
 
 pub returns : goal.returns
 returns c =
-    let is : c.secs_since_epoch-midnight.result ≡ day_of c.args.date *ℤ pos 86_400 +ℤ pos 0 = c.secs_since_epoch-midnight.ensures ∙ ap (λ r. r.s) c.and_time.ensures.value in
+    let is : c.secs_since_epoch-midnight.result ≡ day_of c.args.date *ℤ pos 86_400 +ℤ pos 0 =
+    c.secs_since_epoch-midnight.ensures ∙ ap (λ r. r.s) c.and_time.ensures.value in
     let range = c.args.date.in_range in
     let fm : SFits w64 c.secs_since_epoch-midnight.result = omega (arith, ints) in
     let fn : SFits w64 (c.secs_since_epoch-midnight.result +ℤ pos 86_400) = omega (arith, ints) in

@@ -35,7 +35,8 @@ returns-then-has_segment-clause-found c =
     let reach : HasReach z c.args.local = reach_of _ _ c.self.inside.extremes c.requires.local fg fh (rw (← c.self.view_is) c.self.invariant.extremes) in
     let own = rw (ap (λ (z : Zone). z.rule) c.self.view_is) at (c.has_segment.ensures.0 c.if-has_segment.true) in
     let is = rw (c.deref-then-has_segment.ensures.value, ap (λ (z : Zone). z.types) c.self.view_is) at (simp to_z-of_z at c.first_of.ensures.first) in
-    first_there z c.self.inside.changes.items (top_of z.rule c.self.inside.changes) c.first_reaching-place.result c.args.local reach.0 reach.1 c.first_of.result.at c.first_of.result.local_time_type
+    first_there z c.self.inside.changes.items (top_of z.rule c.self.inside.changes) c.first_reaching-place.result c.args.local reach.0 reach.1
+    c.first_of.result.at c.first_of.result.local_time_type
     (valid d) limits (table_of z c.self.inside.changes (valid d) (entries d)) own c.requires.local reach.2 (first d) is
 
 pub returns-then-has_segment-clause-cost : goal.returns-then-has_segment-clause-cost
@@ -70,7 +71,8 @@ first_by_rule-requires-clause-less c =
       | inl below ↦ absurd (false≢true (sym c.if-has_segment.false ∙ yes below))
       | inr above ↦ omega arith
     ] in
-    simp to_z-of_z (table_less z c.self.inside.changes c.args.local c.first_reaching-place.result (valid d) (entries d) (table_of z c.self.inside.changes (valid d) (entries d)) c.requires.local (first d) all)
+    simp to_z-of_z (table_less z c.self.inside.changes c.args.local c.first_reaching-place.result (valid d) (entries d)
+    (table_of z c.self.inside.changes (valid d) (entries d)) c.requires.local (first d) all)
 
 pub returns-clause-cost : goal.returns-clause-cost
 returns-clause-cost c = cost (goal.at.returns-clause-cost c).After-first_reaching-place

@@ -3,12 +3,15 @@ use Rattle.tz_info.proofs.zone.time_zone.TimeZone.gap_by_search.Goals.{After-fir
 use Rattle.tz_info.proofs.zone.time_zone.TimeZone.gap_by_search.Goals as goal
 
 near : (c : After-first_at_or_after-first)
-    → SFits w64 c.first_at_or_after-first.result.at × (c.requires.reach.0 ≤ℤ c.first_at_or_after-first.result.at) × (c.first_at_or_after-first.result.at ≤ℤ c.requires.reach.1)
+    → SFits w64 c.first_at_or_after-first.result.at × (c.requires.reach.0 ≤ℤ c.first_at_or_after-first.result.at)
+    × (c.first_at_or_after-first.result.at ≤ℤ c.requires.reach.1)
 near c =
     let ff : SFits w64 c.first_at_or_after-first.result.at = search rules in
     let first = c.first_at_or_after-first.result in
     let fl = c.ranges.local in
-    let near = first_near c.args.self.now c.args.local c.requires.reach.0 c.requires.reach.1 first.at first.local_time_type (rw (← c.self.view_is) c.self.invariant.valid) (rw (← c.self.view_is) c.self.invariant.limits) c.requires.reach.2 (simp to_z-of_z at c.first_at_or_after-first.ensures.found) in
+    let near = first_near c.args.self.now c.args.local c.requires.reach.0 c.requires.reach.1 first.at first.local_time_type
+    (rw (← c.self.view_is) c.self.invariant.valid) (rw (← c.self.view_is) c.self.invariant.limits) c.requires.reach.2
+    (simp to_z-of_z at c.first_at_or_after-first.ensures.found) in
     (ff, near.0, near.1)
 
 pub overflow_sub-first : goal.overflow_sub-first

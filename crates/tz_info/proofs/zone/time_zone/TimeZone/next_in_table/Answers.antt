@@ -1,11 +1,14 @@
-use Rattle.tz_info.proofs.{Words.{IsValid, Zone, ap, SFits, arith, change_held, length, option_map, passed, rules, sym, to_z-of_z, w64, ◌+◌, ◌<◌, ◌∙◌, ◌≡◌, ◌≤◌}, EntryChanges.{next_by_entry, next_by_last, next_none}}
+use Rattle.tz_info.proofs.Words.{IsValid, Zone, ap, SFits, arith, change_held, length, option_map, passed, rules, sym, to_z-of_z, w64, ◌+◌, ◌<◌, ◌∙◌, ◌≡◌, ◌≤◌}
+use Rattle.tz_info.proofs.EntryChanges.{next_by_entry, next_by_last, next_none}
 use Rattle.tz_info.specs.Steps.Entries.{AreEntries}
 use Rattle.tz_info.proofs.zone.time_zone.TimeZone.next_in_table.Goals.{After-count_near-place}
 use Rattle.tz_info.proofs.zone.time_zone.TimeZone.next_in_table.Goals as goal
 
 -- the zone is valid, these are its entries, and the count is of those that have come
-given : (c : After-count_near-place) → IsValid c.args.self.now × AreEntries c.args.self.now c.self.inside.changes × (c.count_near-place.result ≡ length (passed c.self.inside.changes.items c.args.after))
-given c = let fa = c.ranges.after in (rw (← c.self.view_is) c.self.invariant.valid, rw (← c.self.view_is) c.self.invariant.list, simp to_z-of_z at c.count_near-place.ensures.count)
+given : (c : After-count_near-place) → IsValid c.args.self.now × AreEntries c.args.self.now c.self.inside.changes
+    × (c.count_near-place.result ≡ length (passed c.self.inside.changes.items c.args.after))
+given c = let fa = c.ranges.after in
+    (rw (← c.self.view_is) c.self.invariant.valid, rw (← c.self.view_is) c.self.invariant.list, simp to_z-of_z at c.count_near-place.ensures.count)
 
 pub returns-then-place-len : goal.returns-then-place-len
 returns-then-place-len c =
@@ -23,7 +26,8 @@ returns-then-is_last c =
     let w = c.count_near-place.ensures.within in
     let some : c.count_near-place.result < length e.items = grind (arith, c.len.ensures, c.if-place-len.false) in
     let last : e.all ≤ c.count_near-place.result + 1 = grind (arith, c.is_last.ensures, c.if-is_last.true) in
-    next_by_last z e c.args.after c.second.result (option_map change_held c.change_at.result) valid list (rw n at some) (rw n at last) (rw n at c.second.ensures) (simp to_z-of_z at c.change_at.ensures)
+    next_by_last z e c.args.after c.second.result (option_map change_held c.change_at.result) valid list (rw n at some) (rw n at last)
+    (rw n at c.second.ensures) (simp to_z-of_z at c.change_at.ensures)
 
 pub returns : goal.returns
 returns c =

@@ -4,7 +4,8 @@ use Rattle.tz_info.proofs.zone.time_zone.TimeZone.next_run.Goals as goal
 pub returns : goal.returns
 returns c =
     let fl : SFits w64 c.args.left.low = search rules in let fh : SFits w64 c.args.left.high = search rules in
-    let fs : SFits w64 c.start_by.result = search rules in let fe : SFits w64 c.end_by.result = search rules in let fu : SFits w64 c.end.result = search rules in
+    let fs : SFits w64 c.start_by.result = search rules in let fe : SFits w64 c.end_by.result = search rules in
+    let fu : SFits w64 c.end.result = search rules in
     let starts = simp to_z-of_z at c.start_by.ensures in let ends = simp to_z-of_z at c.end_by.ensures in
     let here = rw c.end.ensures at (simp to_z-of_z at c.near_span_at-span.ensures.inside) in
     record {

@@ -12,6 +12,8 @@ invariant_of-zone c =
       extremes = rw c.deref-3.ensures.value at c.extremes_of-extremes.ensures.extremes;
       index = rw (c.transitions.ensures, c.deref-2.ensures.value, ← c.in_ok-changes.ensures) at c.in_ok-index.ensures;
       last = c.none.ensures _;
-      list = subst (λ (ts : List Transition). AreEntries (record { transitions = ts; types = c.args.types.items; leaps = c.new-leaps.result; rule = c.args.rule }) c.in_ok-changes.changes)
+      list =
+          subst (λ (ts : List Transition). AreEntries (record { transitions = ts; types = c.args.types.items; leaps = c.new-leaps.result; rule = c.args.rule })
+          c.in_ok-changes.changes)
           (sym list.listed) list;
     }

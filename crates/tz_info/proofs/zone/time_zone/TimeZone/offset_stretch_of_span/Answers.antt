@@ -16,8 +16,11 @@ returns-in-Ok-clause-each c =
     let at = simp to_z-of_z at c.in-Ok.ensures in
     simp to_z-of_z (λ u low high.
     let since = (c.start_by.ensures u).0 low in
-    let before = (c.end_by.ensures u).0 high in
-    (c.in-Ok.span.local_time_type, at.span.each u (record { fits = omega (arith, ints, since.0, before.0); since = since.1; until = before.1 }), c.offset.ensures.value))
+    let before = (c.end_by.ensures u).0 high in (
+      c.in-Ok.span.local_time_type,
+      at.span.each u (record { fits = omega (arith, ints, since.0, before.0); since = since.1; until = before.1 }),
+      c.offset.ensures.value,
+    ))
 
 pub returns-in-Ok-clause-at : goal.returns-in-Ok-clause-at
 returns-in-Ok-clause-at c =

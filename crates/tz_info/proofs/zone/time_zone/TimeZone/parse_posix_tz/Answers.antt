@@ -3,13 +3,16 @@ use Rattle.tz_info.proofs.PosixLaws.{fault_of_text, fault_or_zone, fault_placed,
 use Rattle.tz_info.proofs.zone.time_zone.TimeZone.parse_posix_tz.Goals as goal
 
 pub returns-clause-found : goal.returns-clause-found
-returns-clause-found c = zone_found c.args.text.now _ c.of_rule.result (zone_of_text c.args.text.now c.in_ok-rule.rule _ c.is_empty.ensures c.if-is_empty.false c.in_ok-rule.ensures) c.of_rule.ensures
+returns-clause-found c = zone_found c.args.text.now _ c.of_rule.result
+    (zone_of_text c.args.text.now c.in_ok-rule.rule _ c.is_empty.ensures c.if-is_empty.false c.in_ok-rule.ensures) c.of_rule.ensures
 
 pub returns-clause-only : goal.returns-clause-only
-returns-clause-only c = only_found c.args.text.now _ c.of_rule.result (zone_of_text c.args.text.now c.in_ok-rule.rule _ c.is_empty.ensures c.if-is_empty.false c.in_ok-rule.ensures) c.of_rule.ensures
+returns-clause-only c = only_found c.args.text.now _ c.of_rule.result
+    (zone_of_text c.args.text.now c.in_ok-rule.rule _ c.is_empty.ensures c.if-is_empty.false c.in_ok-rule.ensures) c.of_rule.ensures
 
 pub returns-clause-memory : goal.returns-clause-memory
-returns-clause-memory c = zone_memory (IsPosixZone c.args.text.now) _ c.of_rule.result (zone_of_text c.args.text.now c.in_ok-rule.rule _ c.is_empty.ensures c.if-is_empty.false c.in_ok-rule.ensures)
+returns-clause-memory c = zone_memory (IsPosixZone c.args.text.now) _ c.of_rule.result
+    (zone_of_text c.args.text.now c.in_ok-rule.rule _ c.is_empty.ensures c.if-is_empty.false c.in_ok-rule.ensures)
 
 pub returns-in_err-rule-clause-only : goal.returns-in_err-rule-clause-only
 returns-in_err-rule-clause-only c z p =
@@ -32,10 +35,15 @@ returns-in_err-rule-clause-memory c =
     rw (p.1, p.2) (refused_memory c.args.text.now _ (fault_of_text c.args.text.now _ _ c.is_empty.ensures c.if-is_empty.false c.in_err-rule.ensures))
 
 pub returns-then-is_empty-clause-found : goal.returns-then-is_empty-clause-found
-returns-then-is_empty-clause-found c = zone_found c.args.text.now _ c.utc_zone.result (inl (is_empty c.args.text.now c.is_empty.result c.is_empty.ensures c.if-is_empty.true, refl)) c.utc_zone.ensures
+returns-then-is_empty-clause-found c =
+    zone_found c.args.text.now _ c.utc_zone.result (inl (is_empty c.args.text.now c.is_empty.result c.is_empty.ensures c.if-is_empty.true, refl))
+    c.utc_zone.ensures
 
 pub returns-then-is_empty-clause-only : goal.returns-then-is_empty-clause-only
-returns-then-is_empty-clause-only c = only_found c.args.text.now _ c.utc_zone.result (inl (is_empty c.args.text.now c.is_empty.result c.is_empty.ensures c.if-is_empty.true, refl)) c.utc_zone.ensures
+returns-then-is_empty-clause-only c =
+    only_found c.args.text.now _ c.utc_zone.result (inl (is_empty c.args.text.now c.is_empty.result c.is_empty.ensures c.if-is_empty.true, refl))
+    c.utc_zone.ensures
 
 pub returns-then-is_empty-clause-memory : goal.returns-then-is_empty-clause-memory
-returns-then-is_empty-clause-memory c = zone_memory (IsPosixZone c.args.text.now) _ c.utc_zone.result (inl (is_empty c.args.text.now c.is_empty.result c.is_empty.ensures c.if-is_empty.true, refl))
+returns-then-is_empty-clause-memory c =
+    zone_memory (IsPosixZone c.args.text.now) _ c.utc_zone.result (inl (is_empty c.args.text.now c.is_empty.result c.is_empty.ensures c.if-is_empty.true, refl))

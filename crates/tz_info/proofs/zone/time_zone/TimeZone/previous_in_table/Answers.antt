@@ -1,11 +1,14 @@
-use Rattle.tz_info.proofs.{Words.{IsValid, Zone, ap, SFits, arith, change_held, length, option_map, passed, rules, sym, to_z-of_z, w64, ◌+◌, ◌-◌, ◌<◌, ◌∙◌, ◌≡◌}, EntryChanges.{idle_more, none_behind, previous_at, previous_by_entry, previous_none}}
+use Rattle.tz_info.proofs.Words.{IsValid, Zone, ap, SFits, arith, change_held, length, option_map, passed, rules, sym, to_z-of_z, w64, ◌+◌, ◌-◌, ◌<◌, ◌∙◌, ◌≡◌}
+use Rattle.tz_info.proofs.EntryChanges.{idle_more, none_behind, previous_at, previous_by_entry, previous_none}
 use Rattle.tz_info.specs.Steps.Entries.{AreEntries}
 use Rattle.tz_info.proofs.zone.time_zone.TimeZone.previous_in_table.Goals.{After-count_near-count}
 use Rattle.tz_info.proofs.zone.time_zone.TimeZone.previous_in_table.Goals as goal
 
 -- the zone is valid, these are its entries, and the count is of those that have come
-given : (c : After-count_near-count) → IsValid c.args.self.now × AreEntries c.args.self.now c.self.inside.changes × (c.count_near-count.result ≡ length (passed c.self.inside.changes.items c.args.last))
-given c = let fa = c.ranges.last in (rw (← c.self.view_is) c.self.invariant.valid, rw (← c.self.view_is) c.self.invariant.list, simp to_z-of_z at c.count_near-count.ensures.count)
+given : (c : After-count_near-count) → IsValid c.args.self.now × AreEntries c.args.self.now c.self.inside.changes
+    × (c.count_near-count.result ≡ length (passed c.self.inside.changes.items c.args.last))
+given c = let fa = c.ranges.last in
+    (rw (← c.self.view_is) c.self.invariant.valid, rw (← c.self.view_is) c.self.invariant.list, simp to_z-of_z at c.count_near-count.ensures.count)
 
 pub returns-then-count-eq0 : goal.returns-then-count-eq0
 returns-then-count-eq0 c =
@@ -22,7 +25,8 @@ returns-then-not-is_last c =
     let k = c.count_near-count.result - 1 in
     let some : k + 1 ≡ c.count_near-count.result = grind (arith, c.if-count-eq0.false) in
     let more : k + 1 < e.all = grind (arith, c.is_last.ensures, c.if-not-is_last.true) in
-    previous_by_entry z e c.args.last k (option_map change_held c.change_at.result) valid list (omega arith) more (none_behind z e c.args.last (k + 1) (omega arith))
+    previous_by_entry z e c.args.last k (option_map change_held c.change_at.result) valid list (omega arith) more
+    (none_behind z e c.args.last (k + 1) (omega arith))
     (let types = ap (λ (y : Zone). y.types) c.self.view_is in rw (c.deref.ensures.value ∙ types) at c.change_at.ensures)
 
 pub returns-in-Some : goal.returns-in-Some
@@ -43,7 +47,8 @@ returns-then-count-eq1 c =
     let (valid, list, n) = given (goal.at.returns-then-count-eq1 c).After-count_near-count in
     let fs : SFits w64 c.second.result = search rules in
     let one : c.count_near-count.result - 1 ≡ 0 = let o = c.if-count-eq1.true in omega arith in
-    previous_none z e c.args.last valid list (idle_more z e c.args.last c.second.result 0 (sym n ∙ c.if-count-eq1.true) (rw one at c.second.ensures) (simp to_z-of_z at c.in_default.ensures))
+    previous_none z e c.args.last valid list
+    (idle_more z e c.args.last c.second.result 0 (sym n ∙ c.if-count-eq1.true) (rw one at c.second.ensures) (simp to_z-of_z at c.in_default.ensures))
 
 pub returns : goal.returns
 returns c =

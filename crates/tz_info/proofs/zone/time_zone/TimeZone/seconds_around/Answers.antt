@@ -11,6 +11,7 @@ returns c =
     let high : c.second_showing-2.result ≡ c.args.until -ℤ c.self.inside.extremes.least = simp to_z-of_z at c.second_showing-2.ensures.value in
     let ug : SFits w64 c.second_showing.result = omega (arith, ints) in
     let uh : SFits w64 c.second_showing-2.result = omega (arith, ints) in
-    simp to_z-of_z (all_within c.args.self.now c.args.from c.args.until c.second_showing.result c.second_showing-2.result (rw (low, high) (window_made c.args.self.now
+    simp to_z-of_z (all_within c.args.self.now c.args.from c.args.until c.second_showing.result c.second_showing-2.result
+    (rw (low, high) (window_made c.args.self.now
     c.args.from c.args.until c.self.inside.extremes.greatest c.self.inside.extremes.least c.requires.from c.requires.until fg fh
     (rw (← c.self.view_is) c.self.invariant.extremes.greatest) (rw (← c.self.view_is) c.self.invariant.extremes.least))))

@@ -1,4 +1,5 @@
-use Rattle.tz_info.proofs.{Words.{IsValid, SFits, arith, length, slice_get, Some, vec_len, rules, slice_get_read, to_z-of_z, w64, ◌≡◌}, EntryChanges.{index_between, span_between}}
+use Rattle.tz_info.proofs.Words.{IsValid, SFits, arith, length, slice_get, Some, vec_len, rules, slice_get_read, to_z-of_z, w64, ◌≡◌}
+use Rattle.tz_info.proofs.EntryChanges.{index_between, span_between}
 use Rattle.tz_info.specs.Steps.Entries.{AreEntries}
 use Rattle.tz_info.proofs.zone.time_zone.TimeZone.span_by_place.Goals as goal
 
@@ -6,7 +7,8 @@ pub index-requires : goal.index-requires
 index-requires c =
     let fu = c.ranges.unix_time in
     let n : vec_len c.self.inside.local_types ≡ length c.self.inside.local_types.items = search rules in
-    rw n (index_between _ c.self.inside.changes c.args.unix_time c.in-Some.between c.self.invariant.valid c.self.invariant.list (simp to_z-of_z at c.in-Some.ensures))
+    rw n (index_between _ c.self.inside.changes c.args.unix_time c.in-Some.between c.self.invariant.valid c.self.invariant.list
+    (simp to_z-of_z at c.in-Some.ensures))
 
 pub returns : goal.returns
 returns c =
@@ -18,5 +20,6 @@ returns c =
     let low : SFits w64 c.in-Some.between.from = search rules in
     let high : SFits w64 c.in-Some.between.until = search rules in
     let h = simp to_z-of_z at c.in-Some.ensures in
-    let has : slice_get z.types c.in-Some.between.index ≡ Some c.index.result.now = let below = index_between z e c.args.unix_time c.in-Some.between valid list h in grind (arith, slice_get_read, c.self.view_is, c.index.ensures) in
+    let has : slice_get z.types c.in-Some.between.index ≡ Some c.index.result.now = let below =
+    index_between z e c.args.unix_time c.in-Some.between valid list h in grind (arith, slice_get_read, c.self.view_is, c.index.ensures) in
     simp to_z-of_z (span_between z e c.args.unix_time c.in-Some.between c.index.result.now valid list h (grind (arith, c.if-not-between.false)) fu low high has)

@@ -4,10 +4,12 @@ use Rattle.tz_info.proofs.zone.time_zone.TimeZone.table_answer.Goals as goal
 pub returns-clause-shown : goal.returns-clause-shown
 returns-clause-shown c =
     let fl = c.ranges.local in
-    rw (simp to_z-of_z at c.answer.ensures.answer, ← c.self.view_is) (_, c.self.invariant.list, (c.self.invariant.index.answers c.args.local c.requires.local).wall)
+    rw (simp to_z-of_z at c.answer.ensures.answer, ← c.self.view_is)
+    (_, c.self.invariant.list, (c.self.invariant.index.answers c.args.local c.requires.local).wall)
 
 pub returns-clause-cost : goal.returns-clause-cost
 returns-clause-cost c = grind (arith, ints, looks_most, c.self.view_is, c.self.invariant.index.most, c.self.invariant.list.few, c.answer.ensures.cost)
 
 pub returns-clause-looked : goal.returns-clause-looked
-returns-clause-looked c = λ some. let n = ap (λ (z : Zone). length z.transitions) c.self.view_is in c.answer.ensures.looked (c.self.invariant.index.some (omega arith))
+returns-clause-looked c = λ some. let n = ap (λ (z : Zone). length z.transitions) c.self.view_is in
+    c.answer.ensures.looked (c.self.invariant.index.some (omega arith))

@@ -15,4 +15,10 @@ returns-else-is_within c =
     let fx : SFits w64 c.candidate-time.result.1 = search rules in
     let fs : SFits w64 c.args.current.unix_leap_time = search rules in
     let within = simp to_z-of_z at c.is_within.ensures in
-    record { type = _; leap_time = _; candidate = simp to_z-of_z at c.candidate-time.ensures; tried = inr (λ i. let t = within.1 i in let f = c.if-is_within.false in cc, refl) }
+    record {
+      type = _;
+      leap_time = _;
+      candidate = simp to_z-of_z
+          at c.candidate-time.ensures;
+      tried = inr (λ i. let t = within.1 i in let f = c.if-is_within.false in cc, refl);
+    }

@@ -1,4 +1,5 @@
-use Rattle.tz_info.proofs.Words.{Counts, IsShownIn, IsValid, IsWallAnswer, IsWindow, SFits, Some, Transition, ap, arith, digits-le, inl, ints, length, map_of, rules}
+use Rattle.tz_info.proofs.Words.{Counts, IsShownIn, IsValid, IsWallAnswer, IsWindow, SFits, Some, Transition, ap, arith, digits-le, inl, ints, length, map_of}
+use Rattle.tz_info.proofs.Words.{rules}
 use Rattle.tz_info.proofs.Words.{Zone, sym, table_count, to_z-of_z, w32, w64, ◌+◌, ◌∙◌, ◌≡◌, ◌≤◌}
 use Rattle.tz_info.proofs.{QuestionLaws.{asked_for_window}, SegmentLaws.{begin_next, between_passed, index_next}, TableSearch.{Between}}
 use Rattle.tz_info.proofs.WallSegments.{all_segments}
@@ -37,7 +38,8 @@ begun c =
     )
 
 -- one segment more was tried, up to the next transition
-tried : (c : goal.After-try_until-answer) → IsWallAnswer (IsShownIn c.args.self.now c.args.local (c.loop-place.place + 1)) (map_of (λ r. r.now) c.try_until-answer.result)
+tried : (c : goal.After-try_until-answer)
+    → IsWallAnswer (IsShownIn c.args.self.now c.args.local (c.loop-place.place + 1)) (map_of (λ r. r.now) c.try_until-answer.result)
 tried c =
     let fl = c.ranges.local in
     let fn : SFits w64 c.transition-next.result.unix_leap_time = search rules in
@@ -45,10 +47,12 @@ tried c =
     let next = c.transition-next.ensures.item in
     tried_segment z c.args.local c.loop-place.place c.loop-place.current.unix_leap_time _ _ _ (rw (← c.self.view_is) c.self.invariant.valid) (omega arith)
     (omega arith) i.begin
-    (inl (c.transition-next.result, omega arith, ap (λ (t : Transition). Some t.unix_leap_time) next)) (rw i.index at (simp to_z-of_z at c.try_until-answer.ensures)) (simp to_z-of_z at i.found)
+    (inl (c.transition-next.result, omega arith, ap (λ (t : Transition). Some t.unix_leap_time) next))
+    (rw i.index at (simp to_z-of_z at c.try_until-answer.ensures)) (simp to_z-of_z at i.found)
 
 pub latest-current-requires-clause-room : goal.latest-current-requires-clause-room
-latest-current-requires-clause-room c = let k = c.passed_count-first.ensures.cost in let n = c.transition_count-count.ensures in omega (arith, digits-le (length c.args.self.now.transitions))
+latest-current-requires-clause-room c = let k = c.passed_count-first.ensures.cost in let n = c.transition_count-count.ensures in
+    omega (arith, digits-le (length c.args.self.now.transitions))
 
 pub loop-place-init : goal.loop-place-init
 loop-place-init c =
@@ -56,7 +60,9 @@ loop-place-init c =
     let (window, split) = begun (goal.at.loop-place-init c).After-passed_count-first in
     let p = c.passed_count-first.ensures.cost in let q = c.latest-current.ensures.cost in
     record {
-      found = simp to_z-of_z (none_before c.args.self.now c.args.local c.leap_time_near-low.result c.leap_time_near-high.result c.passed_count-first.result (rw (← c.self.view_is) c.self.invariant.valid) window split);
+      found =
+          simp to_z-of_z (none_before c.args.self.now c.args.local c.leap_time_near-low.result c.leap_time_near-high.result c.passed_count-first.result
+          (rw (← c.self.view_is) c.self.invariant.valid) window split);
       begin = c.latest-current.ensures.begin;
       index = c.latest-current.ensures.index;
       listed = c.latest-current.ensures.listed;
@@ -71,7 +77,8 @@ loop-place-init c =
     }
 
 pub transition-next-requires-clause-room : goal.transition-next-requires-clause-room
-transition-next-requires-clause-room c = let k = c.loop-place.invariant.walked.most in let n = c.transition_count-count.ensures in let r = c.requires.room.reads in omega (arith, digits-le (length c.args.self.now.transitions))
+transition-next-requires-clause-room c = let k = c.loop-place.invariant.walked.most in let n = c.transition_count-count.ensures in
+    let r = c.requires.room.reads in omega (arith, digits-le (length c.args.self.now.transitions))
 
 pub returns-then-high-next : goal.returns-then-high-next
 returns-then-high-next c =
@@ -97,13 +104,16 @@ loop-place-preserved c =
     let fl = c.ranges.local in
     let fh : SFits w64 c.leap_time_near-high.result = search rules in
     let fn : SFits w64 c.transition-next.result.unix_leap_time = search rules in
-    let ts = c.args.self.now.transitions in let place = c.loop-place.place in let next = c.transition-next.result in let item = c.transition-next.ensures.item in
+    let ts = c.args.self.now.transitions in let place = c.loop-place.place in let next = c.transition-next.result in
+    let item = c.transition-next.ensures.item in
     record {
       found = simp to_z-of_z (tried (goal.at.loop-place-preserved c).After-try_until-answer);
       begin = ap (λ (t : Transition). t.unix_leap_time) item ∙ sym (begin_next ts place next (omega arith));
       index = ap (λ (t : Transition). t.type_index) item ∙ sym (index_next ts place next (omega arith));
       listed = c.transition-next.ensures.index;
-      walked = simp to_z-of_z (walked_more c.args.self.now c.leap_time_near-high.result c.passed_count-first.result place next _ _ _ (omega arith) (simp to_z-of_z at c.loop-place.invariant.walked) item (omega (arith, ints)) c.transition-next.ensures.cost);
+      walked =
+          simp to_z-of_z (walked_more c.args.self.now c.leap_time_near-high.result c.passed_count-first.result place next _ _ _ (omega arith)
+          (simp to_z-of_z at c.loop-place.invariant.walked) item (omega (arith, ints)) c.transition-next.ensures.cost);
     }
 
 pub try_last-requires-clause-seen : goal.try_last-requires-clause-seen

@@ -8,5 +8,6 @@ returns-in-Ok g c =
     let text = joined local (reading_text 84 (wall_of c.args.self.now)) offset (ap (reading_text 84) c.local-local.ensures) in
     record {
       writes = subst (λ (o : Option (List ℕ)). DisplaysOnOk took c.args.f.now c.write_str.result o c.write_str.new.self) text
-          (at_once took c.args.f.now c.write_str.new.self c.write_str.result (Some local ++? offset) c.new-text.result c.write.new.self c.as_str.result.now c.new-text.ensures c.as_str.ensures c.in-Ok.ensures.writes c.write_str.ensures.writes);
+          (at_once took c.args.f.now c.write_str.new.self c.write_str.result (Some local ++? offset) c.new-text.result c.write.new.self c.as_str.result.now
+          c.new-text.ensures c.as_str.ensures c.in-Ok.ensures.writes c.write_str.ensures.writes);
     }

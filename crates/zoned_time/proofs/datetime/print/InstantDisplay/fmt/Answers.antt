@@ -7,4 +7,5 @@ returns-in-Ok-clause-writes g c =
     let offset = g.O.Display.output c.args.self.now.offset in let took = g.W.Write.write_str_gives in
     let text = spaced local (reading_text 32 (wall_of c.args.self.now)) offset (ap (reading_text 32) c.local-local.ensures) in
     subst (λ (o : Option (List ℕ)). DisplaysOnOk took c.args.f.now c.write_str.result o c.write_str.new.self) text
-    (at_once took c.args.f.now c.write_str.new.self c.write_str.result (Some local ++? (Some (32 ∷ []) ++? offset)) c.new-text.result c.write.new.self c.as_str.result.now c.new-text.ensures c.as_str.ensures c.in-Ok.ensures.writes c.write_str.ensures.writes)
+    (at_once took c.args.f.now c.write_str.new.self c.write_str.result (Some local ++? (Some (32 ∷ []) ++? offset)) c.new-text.result c.write.new.self
+    c.as_str.result.now c.new-text.ensures c.as_str.ensures c.in-Ok.ensures.writes c.write_str.ensures.writes)

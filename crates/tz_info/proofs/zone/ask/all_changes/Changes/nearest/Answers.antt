@@ -7,4 +7,5 @@ returns-then-forward-clause-found c =
     grind (arith, ints, nearest_within, c.if-forward.true, c.next_change_near-found.ensures, c.if_within.ensures)
 
 pub returns-else-forward-clause-found : goal.returns-else-forward-clause-found
-returns-else-forward-clause-found c = grind (arith, ints, nearest_within, c.if-forward.false, c.previous_change_near-found.ensures, c.if_within-else-forward.ensures)
+returns-else-forward-clause-found c =
+    grind (arith, ints, nearest_within, c.if-forward.false, c.previous_change_near-found.ensures, c.if_within-else-forward.ensures)

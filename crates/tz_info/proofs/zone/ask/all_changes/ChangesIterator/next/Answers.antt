@@ -3,7 +3,8 @@ use Rattle.tz_info.proofs.zone.ask.all_changes.ChangesIterator.next.Goals as goa
 
 pub returns-clause-steps : goal.returns-clause-steps
 returns-clause-steps c =
-    let s = c.args.self.now in grind (arith, ints, steps_first, c.in_ok-change.ensures.found, c.in_ok-change.change, c.nearest.ensures.valid, c.nearest.ensures.rule)
+    let s = c.args.self.now in
+    grind (arith, ints, steps_first, c.in_ok-change.ensures.found, c.in_ok-change.change, c.nearest.ensures.valid, c.nearest.ensures.rule)
 
 pub returns-clause-goes : goal.returns-clause-goes
 returns-clause-goes c =

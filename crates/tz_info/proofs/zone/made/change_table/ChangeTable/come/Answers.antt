@@ -8,4 +8,5 @@ pub returns-clause-come : goal.returns-clause-come
 returns-clause-come c =
     let fs = c.ranges.second in
     let f = c.passed-passed.ensures in
-    rw (← c.self.view_is) (is_come _ c.args.second c.passed-passed.result.count _ _ f.within (simp to_z-of_z at f.passed) f.latest c.index_of_latest.ensures refl)
+    rw (← c.self.view_is) (is_come _ c.args.second c.passed-passed.result.count _ _ f.within (simp to_z-of_z at f.passed) f.latest
+    c.index_of_latest.ensures refl)

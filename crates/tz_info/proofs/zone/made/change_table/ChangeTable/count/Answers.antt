@@ -6,7 +6,8 @@ pub passed-requires : goal.passed-requires
 passed-requires c = let n = c.len.ensures.count in let p = c.new.ensures in grind (arith, digits-le)
 
 pub returns-then-len-eq0-clause-count : goal.returns-then-len-eq0-clause-count
-returns-then-len-eq0-clause-count c = let fs = c.ranges.second in rw (← c.self.view_is) (none_passed c.self.inside.entries c.args.second (sym c.len.ensures.count ∙ c.if-len-eq0.true))
+returns-then-len-eq0-clause-count c = let fs = c.ranges.second in
+    rw (← c.self.view_is) (none_passed c.self.inside.entries c.args.second (sym c.len.ensures.count ∙ c.if-len-eq0.true))
 
 pub returns-clause-count : goal.returns-clause-count
 returns-clause-count c =

@@ -13,9 +13,11 @@ below types ts (suc k) some named within =
 pub returns-clause-before : goal.returns-clause-before
 returns-clause-before c =
     let place = c.requires.place in
-    rw (← c.entry.ensures.entry.before) at (rw (← c.self.view_is) at (below (length c.args.types.now) c.args.self.now.items c.args.place c.requires.some c.requires.named (omega arith)))
+    rw (← c.entry.ensures.entry.before)
+    at (rw (← c.self.view_is) at (below (length c.args.types.now) c.args.self.now.items c.args.place c.requires.some c.requires.named (omega arith)))
 
 pub returns-clause-after : goal.returns-clause-after
 returns-clause-after c =
     let place = c.requires.place in
-    rw (← c.entry.ensures.entry.after) at (rw (← c.self.view_is) at (below (length c.args.types.now) c.args.self.now.items (c.args.place + 1) c.requires.some c.requires.named (omega arith)))
+    rw (← c.entry.ensures.entry.after)
+    at (rw (← c.self.view_is) at (below (length c.args.types.now) c.args.self.now.items (c.args.place + 1) c.requires.some c.requires.named (omega arith)))

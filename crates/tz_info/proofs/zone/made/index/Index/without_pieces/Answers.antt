@@ -12,6 +12,7 @@ returns c =
       | then-segment_count-eq0 w ↦ let none = w.if-segment_count-eq0.true in rw (w.before-is, c.none.ensures, c.new.ensures.items) (simp to_z-of_z
           (no_segments _ _ _ c.requires.none (sym many ∙ none) from.begun (λ h. from.never (c.requires.list.some.0 h) c.requires.none)))
       | else-segment_count-eq0 w ↦ let some = w.if-segment_count-eq0.false in rw (w.before-is, c.none.ensures, c.new.ensures.items) (simp to_z-of_z
-          (one_segment _ _ _ _ s.type c.requires.valid c.requires.list c.requires.none (omega arith) from.begun (λ h. from.never (c.requires.list.some.0 h) c.requires.none)
+          (one_segment _ _ _ _ s.type c.requires.valid c.requires.list c.requires.none (omega arith) from.begun
+          (λ h. from.never (c.requires.list.some.0 h) c.requires.none)
           s.index s.listed s.is_offset))
     ]
