@@ -5,10 +5,11 @@ use Rattle.tests_pins.proofs.Words.{AreChanges, Change, Contains, IsChange, IsFr
 use Rattle.tests_pins.proofs.Words.{edt, est, false, fits_signed_from_abs, get_or, inl, inr, ints, new_york_zone, pos, refl, spring, subst, sym, w64, winter, ℕ}
 use Rattle.tests_pins.proofs.Words.{ℤ, ◌+ℤ◌, ◌-ℤ◌, ◌<ℤ◌, ◌<◌, ◌∙◌, ◌∷◌, ◌≡◌, ◌≤ℤ◌, ◌⊎◌}
 use Rattle.tests_pins.proofs.NewYork.{by_dst, edt_until_2020, is_summer, never, once, one_type, second_of, type_at, type_of_rule, wall}
-use Rattle.tz_info.specs.{Moments.{type_when}, Spans.{IsInSpan}}
+use Rattle.tz_info.specs.{Moments.{type_when}, SpanSteps.{IsNextSpan, IsPreviousSpan, SpanPlace, begin_of, end_of}, Spans.{IsInSpan}}
 use Rattle.tz_info.proofs.{SpanLaws.{span_once}, ZoneLaws.{type_once}}
 use Rattle.tz_base.specs.declared.span.Span.{Span}
-use Rattle.tests_pins.specs.NewYork.{new_york}
+use Rattle.tests_pins.specs.{NewYork.{new_york}, Spans.{place_before}}
+use Rattle.std.specs.Prelude.{None, Option, Some}
 
 pub apart : est ≡ edt → ⊥
 apart e = grind arith
@@ -148,3 +149,20 @@ winter_is = record {
 
 pub only_winter : (s : Span) → IsSpanAt (TypeAt new_york_zone) (pos 1_615_705_199) s → s ≡ winter
 only_winter s h = span_once new_york_zone s winter (pos 1_615_705_199) h.span winter_is.span h.inside winter_is.inside
+
+-- ---- steps over that span
+pub next_is_winter : IsNextSpan (place_before (pos 1_615_705_199)) (Some winter) (place_before (pos 1_615_705_200))
+next_is_winter = record { zone = refl; span = winter_is; at = refl }
+
+pub previous_is_winter : IsPreviousSpan (place_before (pos 1_615_705_200)) (Some winter) (place_before (pos 1_604_210_400))
+previous_is_winter = record { zone = refl; span = winter_is; at = refl }
+
+pub only_next : (found : Option Span) (after : SpanPlace) → IsNextSpan (place_before (pos 1_615_705_199)) found after
+    → (found ≡ Some winter) × (after.at ≡ pos 1_615_705_200)
+only_next None after h = absurd (h.span winter winter_is)
+only_next (Some s) after h = let is = only_winter s h.span in (ap Some is, h.at ∙ ap end_of is)
+
+pub only_previous : (found : Option Span) (after : SpanPlace) → IsPreviousSpan (place_before (pos 1_615_705_200)) found after
+    → (found ≡ Some winter) × (after.at ≡ pos 1_604_210_400)
+only_previous None after h = absurd (h.span winter winter_is)
+only_previous (Some s) after h = let is = only_winter s h.span in (ap Some is, h.at ∙ ap begin_of is)

@@ -2,9 +2,10 @@
 use Rattle.std.specs.Prelude.{ℤ, pos, neg_ℤ, Option, Some}
 use Rattle.tz_base.specs.LocalTypes.{LocalType}
 use Rattle.tz_base.specs.declared.span.Span.{Span}
-use Rattle.tests_pins.specs.NewYork.{est, new_york}
+use Rattle.tests_pins.specs.NewYork.{est, new_york, new_york_zone}
 use Rattle.tz_info.specs.PosixZones.{posix_zone}
 use Rattle.tz_info.specs.Rules.{Alternate}
+use Rattle.tz_info.specs.SpanSteps.{SpanPlace}
 use Rattle.tz_info.specs.Zones.{Zone}
 use Rattle.tz_info.specs.declared.rule.transition_rule.TransitionRule.TheVariants as rules
 
@@ -15,6 +16,10 @@ span_of t from until = record { local_time_type = t; from = from; until = until 
 -- from 2020-11-01 06:00:00 UTC until 2021-03-14 07:00:00 UTC
 abbrev pub winter : Span
 winter = span_of est (Some (pos 1_604_210_400)) (Some (pos 1_615_705_200))
+
+-- the place in New York's time just before that second
+abbrev pub place_before : ℤ → SpanPlace
+place_before at = record { zone = new_york_zone; at = at }
 
 -- New York's rule with standard time all year
 abbrev pub steady : Alternate

@@ -1,9 +1,11 @@
-//! Spans: New York's standard time from November 2020 to March 2021, and the years of a rule that never
-//! changes the clocks.
+//! Spans: New York's standard time from November 2020 to March 2021, the steps over it in both directions,
+//! and the years of a rule that never changes the clocks.
 
-ghost use Rattle.std.specs.Prelude.{◌≡◌, pos};
+ghost use Rattle.std.specs.Prelude.{◌≡◌, pos, Option, Some};
 ghost use Rattle.tz_info.specs.{Spans.{IsInSpan, IsSpan, IsSpanAt}, Zones.{TypeAt}};
-ghost use Rattle.tests_pins.specs.{NewYork.{est, new_york_zone}, Spans.{rule_years, span_of, steady_zone, winter}};
+ghost use Rattle.tz_info.specs.SpanSteps.{IsNextSpan, IsPreviousSpan, SpanPlace};
+ghost use Rattle.tests_pins.specs.NewYork.{est, new_york_zone};
+ghost use Rattle.tests_pins.specs.Spans.{place_before, rule_years, span_of, steady_zone, winter};
 
 use tz_base::Span;
 
@@ -16,6 +18,22 @@ pub fn new_york()
     ensures first { IsInSpan winter (pos 1_604_210_400) }
     ensures before { ¬ (IsInSpan winter (pos 1_604_210_399)) }
     ensures end { ¬ (IsInSpan winter (pos 1_615_705_200)) }
+{}
+
+/// From its last second on, the next span is EST as a whole, and the place after it is its end. Back from
+/// there it is the span before, and the place is its begin.
+#[tactic(auto, using(crate::proofs::NewYorkChanges::next_is_winter, crate::proofs::NewYorkChanges::only_next, crate::proofs::NewYorkChanges::previous_is_winter, crate::proofs::NewYorkChanges::only_previous,))]
+pub fn steps()
+    ensures next { IsNextSpan (place_before (pos 1_615_705_199)) (Some winter)
+        (place_before (pos 1_615_705_200)) }
+    ensures next_only { (found : Option Span) (after : SpanPlace)
+        → IsNextSpan (place_before (pos 1_615_705_199)) found after
+        → (found ≡ Some winter) × (after.at ≡ pos 1_615_705_200) }
+    ensures previous { IsPreviousSpan (place_before (pos 1_615_705_200)) (Some winter)
+        (place_before (pos 1_604_210_400)) }
+    ensures previous_only { (found : Option Span) (after : SpanPlace)
+        → IsPreviousSpan (place_before (pos 1_615_705_200)) found after
+        → (found ≡ Some winter) × (after.at ≡ pos 1_604_210_400) }
 {}
 
 /// A rule whose two types are one has a single span: the years in which rules answer, from -2147483646
