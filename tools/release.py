@@ -103,7 +103,7 @@ def record(log):
     found, last, count = {}, None, None
     for line in text.splitlines():
         proved = re.match(r"logic=proved functions=(\d+) ", line)
-        named = re.match(r"rt: (\w+) (proved|is kept: .*)$", line)
+        named = re.match(r"rt: (\w+) proved$", line)
         after = re.match(r"\(after (\d+) minutes\)$", line)
         if proved:
             count = int(proved[1])
