@@ -57,8 +57,8 @@ impl FixedOffset {
         FixedOffset::east_opt(secs.checked_neg()?)
     }
 
-    /// Returns the offset of that many seconds ahead of UTC. Requires: less than a day either way,
-    /// so that [`FixedOffset::east_opt`] returns one.
+    /// Returns the offset of that many seconds ahead of UTC. Requires: less than a day in either
+    /// direction, so that [`FixedOffset::east_opt`] returns `Some`.
     pub fn east(secs: i32) -> FixedOffset
         requires { IsWithinDay secs }
         ensures { seconds_of result ≡ secs }
@@ -68,8 +68,8 @@ impl FixedOffset {
         }
     }
 
-    /// Returns the offset of that many seconds behind UTC. Requires: less than a day either way, so
-    /// that [`FixedOffset::west_opt`] returns one.
+    /// Returns the offset of that many seconds behind UTC. Requires: less than a day in either
+    /// direction, so that [`FixedOffset::west_opt`] returns `Some`.
     pub fn west(secs: i32) -> FixedOffset
         requires { IsWithinDay secs }
         ensures { seconds_of result ≡ neg_ℤ secs }

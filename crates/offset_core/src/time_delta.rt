@@ -172,7 +172,7 @@ impl TimeDelta {
     }
 
     /// Returns the length of that many milliseconds. Requires: [`TimeDelta::try_milliseconds`]
-    /// returns one.
+    /// returns `Some`.
     pub fn milliseconds(millis: i64) -> TimeDelta
         requires { lengths.FitsTimeDelta (millis *ℤ lengths.nanos_per_millisecond) }
         ensures { nanos_of result ≡ millis *ℤ lengths.nanos_per_millisecond }
@@ -187,7 +187,7 @@ impl TimeDelta {
         TimeDelta::of_parts(secs, 0)
     }
 
-    /// Returns the length of that many seconds. Requires: [`TimeDelta::try_seconds`] returns one.
+    /// Returns the length of that many seconds. Requires: [`TimeDelta::try_seconds`] returns `Some`.
     pub fn seconds(secs: i64) -> TimeDelta
         requires { lengths.FitsTimeDelta (secs *ℤ lengths.nanos_per_second) }
         ensures { nanos_of result ≡ secs *ℤ lengths.nanos_per_second }
@@ -202,7 +202,7 @@ impl TimeDelta {
         TimeDelta::of_seconds(minutes as i128 * SECONDS_PER_MINUTE as i128)
     }
 
-    /// Returns the length of that many minutes. Requires: [`TimeDelta::try_minutes`] returns one.
+    /// Returns the length of that many minutes. Requires: [`TimeDelta::try_minutes`] returns `Some`.
     pub fn minutes(minutes: i64) -> TimeDelta
         requires { lengths.FitsTimeDelta (minutes *ℤ lengths.nanos_per_minute) }
         ensures { nanos_of result ≡ minutes *ℤ lengths.nanos_per_minute }
@@ -217,7 +217,7 @@ impl TimeDelta {
         TimeDelta::of_seconds(hours as i128 * SECONDS_PER_HOUR as i128)
     }
 
-    /// Returns the length of that many hours. Requires: [`TimeDelta::try_hours`] returns one.
+    /// Returns the length of that many hours. Requires: [`TimeDelta::try_hours`] returns `Some`.
     pub fn hours(hours: i64) -> TimeDelta
         requires { lengths.FitsTimeDelta (hours *ℤ lengths.nanos_per_hour) }
         ensures { nanos_of result ≡ hours *ℤ lengths.nanos_per_hour }
@@ -232,7 +232,7 @@ impl TimeDelta {
         TimeDelta::of_seconds(days as i128 * SECONDS_PER_DAY as i128)
     }
 
-    /// Returns the length of that many days. Requires: [`TimeDelta::try_days`] returns one.
+    /// Returns the length of that many days. Requires: [`TimeDelta::try_days`] returns `Some`.
     pub fn days(days: i64) -> TimeDelta
         requires { lengths.FitsTimeDelta (days *ℤ lengths.nanos_per_day) }
         ensures { nanos_of result ≡ days *ℤ lengths.nanos_per_day }
@@ -247,7 +247,7 @@ impl TimeDelta {
         TimeDelta::of_seconds(weeks as i128 * SECONDS_PER_WEEK as i128)
     }
 
-    /// Returns the length of that many weeks. Requires: [`TimeDelta::try_weeks`] returns one.
+    /// Returns the length of that many weeks. Requires: [`TimeDelta::try_weeks`] returns `Some`.
     pub fn weeks(weeks: i64) -> TimeDelta
         requires { lengths.FitsTimeDelta (weeks *ℤ lengths.nanos_per_week) }
         ensures { nanos_of result ≡ weeks *ℤ lengths.nanos_per_week }

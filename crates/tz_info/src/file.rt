@@ -22,12 +22,12 @@ use std::alloc::Global;
 use tz_base::{Error, Expected, ParseError};
 
 impl TimeZone {
-    /// The zone of a TZif file of version 1, 2 or 3 (RFC 8536 section 3). Of version 1 the one data
-    /// block says all; from version 2 on the second block does, with the TZ string of the footer, and
-    /// of the first one only the header and the length count. In version 3 that text may have the
-    /// extensions of RFC 8536 section 3.3.1.
+    /// Returns the zone of a TZif file of version 1, 2 or 3 (RFC 8536 section 3). In version 1 the only
+    /// data block defines the zone. From version 2 on, the second block and the TZ string of the footer
+    /// do; of the first block only the header and the length matter. In version 3 the TZ string may have
+    /// the extensions of RFC 8536 section 3.3.1.
     ///
-    /// Running out of memory is answered only where every block is there.
+    /// [`Error::OutOfMemory`] is returned only if every block is there.
     ///
     /// ```
     /// let zone = TimeZone::from_tz_data(alloc, &bytes)?;    // of /usr/share/zoneinfo/Europe/Paris
@@ -37,7 +37,7 @@ impl TimeZone {
     ///
     /// # Errors
     ///
-    /// Of several faults the first of these, from the front on.
+    /// If the file has several faults, the first one in this order:
     /// [`Error::UnexpectedEnd`] where bytes are missing; [`Error::UnsupportedTzFile`] for another
     /// version; [`Error::InvalidTzFile`] for any other fault of the file's form, such as bytes
     /// after a file of version 1. Then, once both blocks are there: [`Error::InvalidTzFile`] and
@@ -45,7 +45,7 @@ impl TimeZone {
     /// standard/wall indicator of 0 with a UT/local indicator of 1, and for no other pair;
     /// [`Error::Utf8`] and [`Error::InvalidTzFile`] for a footer, and the errors of
     /// [`TransitionRule::from_tz_string`](crate::TransitionRule::from_tz_string) for its text; last
-    /// [`Error::TimeZone`] for lists that [`TimeZone::new`] does not take. [`Error::OutOfMemory`]
+    /// [`Error::TimeZone`] for lists that [`TimeZone::new`] rejects. [`Error::OutOfMemory`]
     /// if there is no memory for the lists.
     pub fn from_tz_data(alloc: Global, bytes: &[u8]) -> Result<TimeZone, Error>
         // The zone is the file's, and valid.

@@ -178,7 +178,7 @@ fn clock_of<Tz: TimeZone>(here: &DateTime<Tz>) -> NaiveDateTime
     here.naive_utc().overflowing_add_offset(here.offset().fix())
 }
 
-// The instant so much later.
+// The instant moved by that length.
 fn instant_after<Tz: TimeZone>(instant: DateTime<Tz>, way: TimeDelta) -> DateTime<Tz>
     requires near { IsNearRange (zoned instant).utc }
     requires short { FitsSigned w64 (nanos_of way) }

@@ -73,7 +73,7 @@ impl NaiveDateTime {
     /// Returns the local date-time that much later, or earlier for a negative length. `None` if
     /// that isn't in range.
     ///
-    /// If the local date-time lies in a leap second, that one is counted; no other is. From 23:59:59 with
+    /// A leap second counts only if the local date-time itself lies in it. From 23:59:59 with
     /// 1,750,500,000 nanoseconds on 2016-12-31, a move by 249,500,000 nanoseconds gives midnight,
     /// and one by -750,500,000 the leap second's start.
     ///

@@ -28,7 +28,7 @@ impl TransitionRule {
     ///
     /// # Errors
     ///
-    /// None; the answer is always `Ok`.
+    /// None: the `Result` is that of chrono's signature, and is always `Ok`.
     pub fn find_local_time_type_from_local(
         &self,
         local: NaiveDateTime,

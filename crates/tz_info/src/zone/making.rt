@@ -24,13 +24,13 @@ use std::alloc::Global;
 use tz_base::{Error, Expected, LocalTimeType};
 
 impl TimeZone {
-    /// The zone of those transitions, types, leap seconds and rule.
+    /// Returns the zone of those transitions, types, leap seconds and rule.
     ///
-    /// There is a type; each transition names one, and their times rise. The first leap second
-    /// comes in 1970 or later and has the correction 1 or -1; each other one comes at least 28
-    /// days, less a second, after the one before, and its correction is one more or one less. Where
-    /// there are a rule and a transition, the rule's type at the last transition's Unix time is
-    /// that transition's type.
+    /// It needs at least one type. Each transition must refer to a listed type, and their times must
+    /// rise. The first leap second must come in 1970 or later with the correction 1 or -1, each other one
+    /// at least 28 days, less a second, after the one before, with a correction that is one more or one
+    /// less. If there are a rule and a transition, the rule's type at the last transition's Unix time
+    /// must be that transition's type.
     ///
     /// # Errors
     ///

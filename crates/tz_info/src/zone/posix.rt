@@ -12,10 +12,10 @@ use std::alloc::Global;
 use tz_base::{Error, LocalTimeType, ParseError};
 
 impl TimeZone {
-    /// The zone of a TZ string, such as `EST5EDT,M3.2.0,M11.1.0` (POSIX.1 section 8.3): its rule, and
-    /// the one type or the two types of the rule, that of standard time first. An empty text gives
-    /// the zone of [`TimeZone::utc`]. Otherwise spaces, tabs, line feeds, form feeds and carriage
-    /// returns at both ends do not count, and the text is read without extensions.
+    /// Returns the zone of a POSIX TZ string (POSIX.1 section 8.3), such as `EST5EDT,M3.2.0,M11.1.0`. It
+    /// has the string's rule and the rule's one or two types, standard time first. An empty string gives
+    /// the zone of [`TimeZone::utc`]. Spaces, tabs, line feeds, form feeds and carriage returns at both
+    /// ends are ignored; extensions are rejected.
     ///
     /// ```
     /// let zone = TimeZone::from_posix_tz(alloc, "EST5EDT,M3.2.0,M11.1.0")?;

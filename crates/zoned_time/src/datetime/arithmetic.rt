@@ -27,10 +27,10 @@ impl<Tz: TimeZone> DateTime<Tz> {
         self.timezone().from_local_datetime(local)
     }
 
-    /// The instant so much later, or earlier for a negative length, with the offset that its zone
-    /// has then. `None` if that is out of range.
+    /// Returns the instant moved by that length, backward if it is negative, with the offset that its
+    /// zone has then. `None` if that is out of range.
     ///
-    /// If the instant lies in a leap second, that one is counted; no other is.
+    /// A leap second counts only if the instant itself lies in it.
     ///
     /// ```
     /// // In New York clocks were set back at 06:00:00 UTC on 2021-11-07.

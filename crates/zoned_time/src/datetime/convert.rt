@@ -19,14 +19,14 @@ impl<Tz, O: Offset> Instant<Tz, O> {
         tz.from_utc_datetime(&self.datetime)
     }
 
-    /// The same instant, with the offset as nothing but its seconds.
+    /// Returns the same instant with its offset as a plain `FixedOffset`.
     pub fn fixed_offset(&self) -> DateTime<FixedOffset>
         ensures { IsFixedFrom O.seconds (zoned self.now) (zoned result) }
     {
         DateTime::from_naive_utc_and_offset(self.datetime, self.offset.fix())
     }
 
-    /// The same instant in UTC.
+    /// Returns the same instant in UTC.
     pub fn to_utc(&self) -> DateTime<Utc>
         ensures { zoned result ≡ in_utc (zoned self.now).utc }
     {

@@ -65,8 +65,8 @@ impl<Tz: TimeZone> SubAssign<TimeDelta> for DateTime<Tz> {
     }
 }
 
-/// The instant so much later, where [`TimeDelta::from_std`] and [`DateTime::checked_add_signed`]
-/// answer.
+/// Adds a `Duration` of std. Requires: [`TimeDelta::from_std`] and [`DateTime::checked_add_signed`]
+/// succeed.
 impl<Tz: TimeZone> Add<Duration> for DateTime<Tz> {
     type Output = DateTime<Tz>;
 
@@ -79,8 +79,8 @@ impl<Tz: TimeZone> Add<Duration> for DateTime<Tz> {
     }
 }
 
-/// The instant so much earlier, where [`TimeDelta::from_std`] and [`DateTime::checked_sub_signed`]
-/// answer.
+/// Subtracts a `Duration` of std. Requires: [`TimeDelta::from_std`] and
+/// [`DateTime::checked_sub_signed`] succeed.
 impl<Tz: TimeZone> Sub<Duration> for DateTime<Tz> {
     type Output = DateTime<Tz>;
 

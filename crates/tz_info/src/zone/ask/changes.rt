@@ -15,12 +15,11 @@ use crate::zone::TimeZone;
 use tz_base::{Change, LocalTimeType};
 
 impl TimeZone {
-    /// The first change of the clocks after that second, or `None` if none comes at a later second
+    /// Returns the first clock change after that second, or `None` if none comes at a later second
     /// of 64 bits.
     ///
-    /// A transition that changes nothing is no change, and what a rule does after the last
-    /// transition is. It takes no memory. A run of transitions that change nothing is stepped over
-    /// at once.
+    /// Transitions that change nothing don't count; changes made by the rule after the last transition
+    /// do. It takes no memory, and steps over a run of transitions that change nothing at once.
     ///
     /// ```
     /// let zone = TimeZone::from_posix_tz(alloc, "EST5EDT,M3.2.0,M11.1.0")?;

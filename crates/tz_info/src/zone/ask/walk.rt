@@ -26,7 +26,7 @@ impl TimeZone {
     ///
     /// # Errors
     ///
-    /// None; the answer is always `Ok`.
+    /// None: the `Result` is that of chrono's signature, and is always `Ok`.
     pub fn find_local_time_type_from_local_by_walk(
         &self,
         local: NaiveDateTime,

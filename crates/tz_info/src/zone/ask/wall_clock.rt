@@ -29,7 +29,7 @@ impl TimeZone {
     ///
     /// # Errors
     ///
-    /// None; the answer is always `Ok`.
+    /// None: the `Result` is that of chrono's signature, and is always `Ok`.
     pub fn find_local_time_type_from_local(
         &self,
         local: NaiveDateTime,
@@ -68,7 +68,7 @@ impl TimeZone {
     ///
     /// # Errors
     ///
-    /// None; the answer is always `Ok`.
+    /// None: the `Result` is that of chrono's signature, and is always `Ok`.
     #[inline(always)]
     pub fn find_local_time_type_from_local_counted(
         &self,
