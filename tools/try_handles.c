@@ -1190,7 +1190,7 @@ static void try_refusals(void) {
 }
 
 /* The stack that zoned(3) asks for, and what a question about one time may use of it. */
-enum { STACK_KB = 64, OPENING_KB = 24, OF_ONE_KB = 2, AREA = 1 << 18, PAINT = 0xA5, TRANSITIONS = 1000000 };
+enum { STACK_KB = 24, OF_ONE_KB = 2, AREA = 1 << 18, PAINT = 0xA5, TRANSITIONS = 1000000 };
 
 static uint8_t *area;
 static uintptr_t caller;
@@ -1285,14 +1285,14 @@ static void *on_painted_stack(void *given) {
     struct bytes file = overlapping_changes();
     struct zoned_zone rule = {0}, table = {0}, share = {0};
     char text[200];
-    WITHIN(OPENING_KB, zoned_open(ZONED_TEXT, TEXTS[1], strlen(TEXTS[1]), &rule));
-    WITHIN(OPENING_KB, zoned_open(ZONED_FILE, file.at, file.len, &table));
-    WITHIN(OPENING_KB, zoned_share(&table, &share));
-    WITHIN(OPENING_KB, zoned_fault_position(ZONED_TEXT, "EST5EDT,M3.2.0,M13.1.0", 22) != 16);
-    WITHIN(OPENING_KB, zoned_error_text(ZONED_TIME_ZONE, text, sizeof text) == 0);
+    WITHIN(STACK_KB, zoned_open(ZONED_TEXT, TEXTS[1], strlen(TEXTS[1]), &rule));
+    WITHIN(STACK_KB, zoned_open(ZONED_FILE, file.at, file.len, &table));
+    WITHIN(STACK_KB, zoned_share(&table, &share));
+    WITHIN(STACK_KB, zoned_fault_position(ZONED_TEXT, "EST5EDT,M3.2.0,M13.1.0", 22) != 16);
+    WITHIN(STACK_KB, zoned_error_text(ZONED_TIME_ZONE, text, sizeof text) == 0);
     ask_on_painted_stack(&rule);
     ask_on_painted_stack(&table);
-    WITHIN(OPENING_KB, (zoned_close(&share), zoned_close(&table), ZONED_OK));
+    WITHIN(STACK_KB, (zoned_close(&share), zoned_close(&table), ZONED_OK));
     zoned_close(&rule);
     free(file.at);
     return given;

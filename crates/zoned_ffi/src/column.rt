@@ -15,8 +15,9 @@ use crate::refusal::{NO_LOCAL_TIME, OTHER_SIZE};
 use crate::unit::Unit;
 use crate::whole_second::WholeSecond;
 use block::write_block;
+use kept::Kept;
 use short::write_short;
-use table::{Search, Table};
+use table::{STRETCHES, Table};
 use tz_info::TimeZone;
 
 /// No time: the value of a missing time in a column.
@@ -80,13 +81,21 @@ fn write_long(question: Question, times: &[i64], answers: &mut [i64]) -> Option<
     ensures { MatchOption result (AreWritten question.entry times.now answers.new)
         (λ s. IsStop question.entry times.now answers.old answers.new s) }
 {
-    let mut table = Table::none(question);
-    let mut search = Search::none();
+    let mut stretches = [Kept::none(question); STRETCHES];
+    let mut table = Table::none();
     let blocks = times.len() / BLOCK;
     for block in 0..blocks {
         let from = block * BLOCK;
         let to = from + BLOCK;
-        match write_block(question, times, answers, &mut table, &mut search, from, to) {
+        match write_block(
+            question,
+            times,
+            answers,
+            &mut stretches,
+            &mut table,
+            from,
+            to,
+        ) {
             Some(stop) => return Some(stop),
             None => {}
         }
@@ -96,7 +105,15 @@ fn write_long(question: Question, times: &[i64], answers: &mut [i64]) -> Option<
     if from == to {
         return None;
     }
-    write_block(question, times, answers, &mut table, &mut search, from, to)
+    write_block(
+        question,
+        times,
+        answers,
+        &mut stretches,
+        &mut table,
+        from,
+        to,
+    )
 }
 
 /// Writes the local time of each instant if there is room for as many: 0, or why not. If an instant

@@ -4,7 +4,7 @@ ghost use Rattle.std.specs.Prelude.{◌≡◌, ◌≤◌, ◌<◌, drop, length,
 ghost use Rattle.zoned_ffi.specs.Steps.KeptTimes.{AreKept, AreKeptTimes, AreWritten, IsKept, IsStop};
 
 use crate::column::kept::Kept;
-use crate::column::table::{Search, Table};
+use crate::column::table::{Stretches, Table};
 use crate::column::{Question, Stop};
 
 /// Writes the answers of the rows from `from` on and before `to`, up to the first without.
@@ -13,34 +13,34 @@ pub fn write_block(
     question: Question,
     times: &[i64],
     answers: &mut [i64],
+    stretches: &mut Stretches,
     table: &mut Table,
-    search: &mut Search,
     from: usize,
     to: usize,
 ) -> Option<Stop>
     requires size { length answers.old ≡ length times.now }
     requires rows { (from < to) × (to ≤ length times.now) }
-    requires kept { AreKept question table.old.places }
+    requires kept { AreKept question stretches.old }
     requires before { AreWritten question (take from times.now) (take from answers.old) }
     ensures size { length answers.new ≡ length times.now }
-    ensures kept { AreKept question.entry table.new.places }
+    ensures kept { AreKept question.entry stretches.new }
     ensures answered { MatchOption result
         (AreWritten question.entry (take to times.now) (take to answers.new)
         × (drop to answers.new ≡ drop to answers.old))
         (λ s. (from ≤ s.row) × IsStop question.entry times.now answers.old answers.new s) }
 {
-    if search.tries_block() {
-        let kept = table.kept_for(question, times[from]);
+    if table.tries_block() {
+        let kept = table.kept_for(question, stretches, times[from]);
         if are_in(kept, times, from, to) {
-            search.found_block();
+            table.found_block();
             write_sums(question, kept, times, answers, from, to);
             return None;
         }
-        search.missed_block();
+        table.missed_block();
     }
-    let left = write_pairs(question, times, answers, table, from, to);
+    let left = write_pairs(question, times, answers, stretches, table, from, to);
     for row in left..to {
-        match table.answer(question, search, row, times[row]) {
+        match table.answer(question, stretches, row, times[row]) {
             Ok(found) => answers[row] = found,
             Err(number) => return Some(Stop { row, number }),
         }
@@ -91,20 +91,21 @@ fn write_sums(
     }
 }
 
-// Writes the answers of these rows by the table, two at once, as long as it has both. Returns the first
-// row that is not written.
+// Writes the answers of these rows by the stretches, two at once, as long as both are kept. Returns the
+// first row that is not written.
 #[inline(always)]
 fn write_pairs(
     question: Question,
     times: &[i64],
     answers: &mut [i64],
+    stretches: &Stretches,
     table: &Table,
     from: usize,
     to: usize,
 ) -> usize
     requires size { length answers.old ≡ length times.now }
     requires rows { (from < to) × (to ≤ length times.now) }
-    requires kept { AreKept question table.now.places }
+    requires kept { AreKept question stretches.now }
     requires before { AreWritten question (take from times.now) (take from answers.old) }
     ensures size { length answers.new ≡ length times.now }
     ensures row { (from ≤ result) × (result ≤ to) }
@@ -113,8 +114,8 @@ fn write_pairs(
 {
     let mut row = from;
     while row + 1 < to {
-        let one = table.kept_for(question, times[row]);
-        let other = table.kept_for(question, times[row + 1]);
+        let one = table.kept_for(question, stretches, times[row]);
+        let other = table.kept_for(question, stretches, times[row + 1]);
         let both = one.has(times[row]) & other.has(times[row + 1]);
         if !both {
             return row;

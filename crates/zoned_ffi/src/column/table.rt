@@ -1,5 +1,5 @@
-//! The table of a long column's stretches: pairs of neighbours, and for each part of the axis the pair
-//! that has its times.
+//! What a long column keeps: stretches in pairs of neighbours, and a table that says for each part of the
+//! axis which pair has its times.
 
 ghost use Rattle.std.specs.Prelude.{◌<◌, MatchResult};
 ghost use Rattle.zoned_ffi.specs.Steps.KeptTimes.{AreKept, IsKept, IsNotWritten, IsWritten};
@@ -8,10 +8,14 @@ use crate::column::kept::{Kept, kept_after, kept_around, kept_before};
 use crate::column::row::{answer_by, answer_by_zone};
 use crate::column::{NO_TIME, Question};
 
-// The stretches in the table, two for each number of a pair.
-const PLACES: usize = 512;
+/// The stretches that are kept, two for each number of a pair. They stand outside the table, since a
+/// struct that holds them would be moved when it is made.
+pub type Stretches = [Kept; STRETCHES];
 
-// The parts of the axis, 136 years or more, for which it notes the pair.
+/// How many they are.
+pub const STRETCHES: usize = 512;
+
+// The parts of the axis, 136 years or more, for which the table notes the pair.
 const PARTS: usize = 2_048;
 
 // The most parts on each side of a time for which a pair that has all of a part is noted: some four years.
@@ -24,30 +28,27 @@ const PACE: usize = 16;
 // The blocks in a row that may be left out.
 const MOST_LEFT: u8 = 16;
 
-/// The stretches that are kept, and which of them a part of the axis has.
+/// Which pair a part of the axis has, what has been searched, and which blocks lie in one stretch.
 #[derive(Clone, Copy)]
 pub struct Table {
-    places: [Kept; PLACES],
     // The number of a pair for each part.
     parts: [u8; PARTS],
-}
-
-/// What has been searched, and which blocks lie in one stretch.
-#[derive(Clone, Copy)]
-pub struct Search {
     // The pair that the next search replaces.
     next: u8,
+    // The searches so far.
     count: usize,
     // The last tries of a block that failed, and the blocks that are left out before the next try.
     misses: u8,
     left: u8,
 }
 
-impl Search {
-    /// None yet. Where searches don't help, as after the last transition of a zone whose rule goes on, their
-    /// number grows with the root of the rows.
-    pub fn none() -> Search {
-        Search {
+impl Table {
+    /// The table before the first search. Where searches don't help, as after the last transition of a zone
+    /// whose rule goes on, their number grows with the root of the rows.
+    #[inline(always)]
+    pub fn none() -> Table {
+        Table {
+            parts: [0; PARTS],
             next: 0,
             count: 0,
             misses: 0,
@@ -83,30 +84,17 @@ impl Search {
         self.count = self.count.wrapping_add(1);
         true
     }
-}
 
-impl Table {
-    /// The table without times.
+    /// The stretch that is kept for the time, if one is: the later one of its part's pair, unless the time
+    /// comes before that.
     #[inline(always)]
-    pub fn none(question: Question) -> Table
-        ensures { AreKept question.entry result.places }
-    {
-        Table {
-            places: [Kept::none(question); PLACES],
-            parts: [0; PARTS],
-        }
-    }
-
-    /// The stretch that the table has for the time, if it has one: the later one of its part's pair, unless
-    /// the time comes before that.
-    #[inline(always)]
-    pub fn kept_for(&self, question: Question, time: i64) -> Kept
-        requires { AreKept question self.now.places }
+    pub fn kept_for(&self, question: Question, stretches: &Stretches, time: i64) -> Kept
+        requires { AreKept question stretches.now }
         ensures { IsKept question.entry result }
     {
         let part = question.unit.part_of(time);
         let first = self.parts[index_of(part)] as usize * 2;
-        self.places[first + (self.places[first + 1].low <= time) as usize]
+        stretches[first + (stretches[first + 1].low <= time) as usize]
     }
 
     /// What is written of the time in that row, or the number that says why nothing is.
@@ -114,52 +102,55 @@ impl Table {
     pub fn answer(
         &mut self,
         question: Question,
-        search: &mut Search,
+        stretches: &mut Stretches,
         row: usize,
         time: i64,
     ) -> Result<i64, u32>
-        requires { AreKept question self.old.places }
-        ensures kept { AreKept question.entry self.new.places }
+        requires { AreKept question stretches.old }
+        ensures kept { AreKept question.entry stretches.new }
         ensures answer { MatchResult result (IsWritten question.entry time)
             (λ n. IsNotWritten question.entry time n) }
     {
-        match self.kept_for(question, time).answer_to(question, time) {
+        match self
+            .kept_for(question, stretches, time)
+            .answer_to(question, time)
+        {
             Some(found) => Ok(found),
-            None => self.search_and_answer(&question, search, row, time),
+            None => self.search_and_answer(&question, stretches, row, time),
         }
     }
 
-    // The same for a time that the table doesn't have.
+    // The same for a time of which no stretch is kept.
     #[tactic(auto, using(crate::proofs::Casts::passed_on))]
     #[inline(never)]
     fn search_and_answer(
         &mut self,
         question: &Question,
-        search: &mut Search,
+        stretches: &mut Stretches,
         row: usize,
         time: i64,
     ) -> Result<i64, u32>
-        requires { AreKept question.now self.old.places }
-        ensures kept { AreKept question.now self.new.places }
+        requires { AreKept question.now stretches.old }
+        ensures kept { AreKept question.now stretches.new }
         ensures answer { MatchResult result (IsWritten question.now time)
             (λ n. IsNotWritten question.now time n) }
     {
         if time == NO_TIME {
             return Ok(NO_TIME);
         }
-        if !search.is_due(row) {
+        if !self.is_due(row) {
             return answer_by_zone(question, time);
         }
-        let kept = self.search(*question, search, time);
+        let kept = self.search(*question, stretches, time);
         answer_by(*question, kept, time)
     }
 
-    // Puts the stretch of the time into the table: with the next one or, if it begins in the part of the
-    // time, with the one before.
+    // Keeps the stretch of the time: with the next one or, if it begins in the part of the time, with the
+    // one before.
     #[inline(never)]
-    fn search(&mut self, question: Question, search: &mut Search, time: i64) -> Kept
-        requires { AreKept question self.old.places }
-        ensures kept { AreKept question.entry self.new.places }
+    fn search(&mut self, question: Question, stretches: &mut Stretches, time: i64) -> Kept
+        requires { AreKept question stretches.old }
+        ensures kept { AreKept question.entry stretches.new }
         ensures stretch { IsKept question.entry result }
     {
         let kept = kept_around(question, time);
@@ -169,49 +160,42 @@ impl Table {
         let part = question.unit.part_of(time);
         if question.unit.part_of(kept.low) == part {
             let early = kept_before(question, kept);
-            self.put(question, search, part, early, kept);
+            self.put(question, stretches, part, early, kept);
         } else {
             let late = kept_after(question, kept);
-            self.put(question, search, part, kept, late);
+            self.put(question, stretches, part, kept, late);
         }
         kept
     }
 
-    // Puts the pair into the table, and notes it for the part, and for those near it that it has all of.
-    fn put(&mut self, question: Question, search: &mut Search, part: i64, early: Kept, late: Kept)
-        requires kept { AreKept question self.old.places }
+    // Keeps the pair, and notes it for the part, and for those near it that it has all of.
+    fn put(
+        &mut self,
+        question: Question,
+        stretches: &mut Stretches,
+        part: i64,
+        early: Kept,
+        late: Kept,
+    )
+        requires kept { AreKept question stretches.old }
         requires early { IsKept question early }
         requires late { IsKept question late }
-        ensures { AreKept question.entry self.new.places }
+        ensures { AreKept question.entry stretches.new }
     {
         let unit = question.unit;
         let low = unit.part_of(early.low.min(late.low));
         let high = unit.part_of(early.high.max(late.high));
-        let pair = search.next;
-        search.next = pair.wrapping_add(1);
+        let pair = self.next;
+        self.next = pair.wrapping_add(1);
         let first = pair as usize * 2;
-        self.places[first] = early;
-        self.places[first + 1] = late;
-        note(&mut self.parts, part, pair);
-        note_between(
-            &mut self.parts,
-            low.max(part.wrapping_sub(REACH)),
-            high.min(part.wrapping_add(REACH)),
-            pair,
-        );
+        stretches[first] = early;
+        stretches[first + 1] = late;
+        self.parts[index_of(part)] = pair;
+        let from = low.max(part.wrapping_sub(REACH)).wrapping_add(1);
+        for near in from..high.min(part.wrapping_add(REACH)) {
+            self.parts[index_of(near)] = pair;
+        }
     }
-}
-
-// Notes the pair for the parts between two.
-fn note_between(parts: &mut [u8; PARTS], low: i64, high: i64, pair: u8) {
-    for part in low.wrapping_add(1)..high {
-        note(parts, part, pair);
-    }
-}
-
-#[inline(always)]
-fn note(parts: &mut [u8; PARTS], part: i64, pair: u8) {
-    parts[index_of(part)] = pair;
 }
 
 // The place at which the pair of the part is noted.

@@ -1,4 +1,4 @@
-use Rattle.zoned_ffi.proofs.Words.{AreWritten, arith, drop, subst, take, ◌*◌, ◌+◌, ◌∙◌, ◌≡◌}
+use Rattle.zoned_ffi.proofs.Words.{All-replicate, AreWritten, IsKept, arith, drop, refl, rules, subst, sym, take, ◌*◌, ◌+◌, ◌∙◌, ◌≡◌}
 use Rattle.zoned_ffi.proofs.{Columns.{last_block, stop_behind}, Slices.{same_behind}}
 use Rattle.zoned_ffi.proofs.column.write_long.Goals as goal
 
@@ -7,6 +7,9 @@ returns-in-Some c =
     let h = c.in-Some.ensures.answered in
     stop_behind c.args.question c.args.times.now c.args.answers.now c.loop-block.answers c.write_block.new.answers c.in-Some.stop (c.loop-block.block * 32)
     h.1 h.0 c.loop-block.invariant.3
+
+pub loop-block-init : goal.loop-block-init
+loop-block-init c = (sym c.requires, All-replicate (IsKept c.args.question) 512 c.none-stretches.result c.none-stretches.ensures, search rules, refl)
 
 pub loop-block-preserved : goal.loop-block-preserved
 loop-block-preserved c =

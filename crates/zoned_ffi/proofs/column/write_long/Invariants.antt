@@ -3,6 +3,6 @@ use Rattle.zoned_ffi.proofs.column.write_long.Given as goal
 
 -- the answers so far, and the stretches that are kept
 abbrev pub invariant-loop-block : goal.invariant-loop-block
-invariant-loop-block l = (length l.answers ≡ length l.times) × AreKept l.fn.question l.table.places
+invariant-loop-block l = (length l.answers ≡ length l.times) × AreKept l.fn.question l.stretches
     × AreWritten l.fn.question (take (l.block * 32) l.times) (take (l.block * 32) l.answers)
     × (drop (l.block * 32) l.answers ≡ drop (l.block * 32) l.fn.answers)
