@@ -1,19 +1,19 @@
 -- What a choice takes, in terms of instants.
 use Rattle.offset_core.specs.{declared.around.Around.{Around}, declared.around.Taken.{Taken as Found}}
-use Rattle.offset_core.specs.{declared.around.Around.TheVariants.{Single}, declared.resolve_error.ResolveError.{ResolveError}}
+use Rattle.offset_core.specs.{declared.around.Around.TheVariants.{Ambiguous, Gap, Single}, declared.resolve_error.ResolveError.{ResolveError}}
 use Rattle.tz_base.specs.declared.change.Change.{Change}
-use Rattle.tz_info.specs.Around.{AreTypesAround}
+use Rattle.tz_info.specs.Around.{AreTypesAround, map_both}
 use Rattle.zoned_ffi.proofs.Words.{Choice, IsFirstAtOrAfter, IsTakenGapEnd, IsNoneTaken, IsInRange, IsWrittenOffsetAt, IsReachedAt, IsResolvedAt, IsShownOnce}
 use Rattle.zoned_ffi.proofs.Words.{arith, IsResolvedStamp, IsTakenType, IsTakenAs, IsUtOffset, LocalType, Resolved, Shows, TypeAt, Zone, inl, inr}
 use Rattle.zoned_ffi.proofs.Words.{ℤ}
-use Rattle.zoned_ffi.proofs.Words.{+ℤ-neg_ℤ_cancel, ◌-ℤ◌, Err, Ok, Result, TakesOf, policy_of, refl, taken_in_range, taken_of, ℕ, ◌≡◌, ◌≢◌, ◌⊎◌}
+use Rattle.zoned_ffi.proofs.Words.{+ℤ-neg_ℤ_cancel, ap, sym, ◌∙◌, ◌-ℤ◌, Err, Ok, Result, TakesOf, policy_of, refl, taken_in_range, taken_of, ℕ, ◌≡◌, ◌≢◌, ◌⊎◌}
 use Rattle.zoned_ffi.specs.declared.resolved.Taken.TheVariants.{InForce}
 use Rattle.zoned_ffi.specs.Resolved.{gap_policy}
 use Rattle.zoned_ffi.specs.declared.choice.ChoiceInGap.{ChoiceInGap}
 use Rattle.zoned_ffi.specs.declared.choice.ChoiceInGap.TheVariants as in_gap
-use Rattle.offset_core.specs.declared.around.Taken.TheVariants.{InGap}
+use Rattle.offset_core.specs.declared.around.Taken.TheVariants.{InGap, Shown}
 use Rattle.offset_core.specs.declared.choice.Choice as any_choice
-use Rattle.offset_core.specs.declared.choice.FoldChoice.{FoldChoice}
+use Rattle.offset_core.specs.declared.choice.{FoldChoice.{FoldChoice}, GapChoice.{GapChoice}}
 use Rattle.offset_core.specs.declared.choice.FoldChoice.TheVariants as folds
 use Rattle.offset_core.specs.declared.choice.GapChoice.TheVariants as gaps
 use Rattle.offset_core.specs.declared.resolve_error.ResolveError.TheVariants as reasons
@@ -40,11 +40,28 @@ pub in_force : (z : Zone) (local u : ℤ) (choice : Choice) (t : LocalType) (off
     → offset ≡ t.offset → IsUtOffset t.offset → IsTakenAs z local choice (InForce offset)
 in_force z local u choice t offset shows taken same bound = grind (arith, +ℤ-neg_ℤ_cancel u t.offset)
 
+-- what is taken, with the value or the gap replaced by its image
+abbrev pub images : {T U G H : Type 0} → (T → U) → (G → H) → Result (Found T G) ResolveError → Result (Found U H) ResolveError
+images f g (Ok (Shown one)) = Ok (Shown (f one))
+images f g (Ok (InGap gap)) = Ok (InGap (g gap))
+images f g (Err e) = Err e
+
+-- of the images the image is taken
+taken_images : {T U G H : Type 0} (f : T → U) (g : G → H) (gap : GapChoice) (fold : FoldChoice) (a : Around T G)
+    → taken_of (record { gap = gap; fold = fold }) (map_both f g a) ≡ images f g (taken_of (record { gap = gap; fold = fold }) a)
+taken_images f g gap fold (Single one) = refl
+taken_images f g gap folds.Refuse (Ambiguous first last) = refl
+taken_images f g gap folds.Earliest (Ambiguous first last) = refl
+taken_images f g gap folds.Latest (Ambiguous first last) = refl
+taken_images f g gaps.Refuse fold (Gap skipped) = refl
+taken_images f g gaps.ShiftForward fold (Gap skipped) = refl
+
 -- what is taken of the answer around the local time
-pub taken_as : (z : Zone) (local : ℤ) (choice : Choice) (a : Around LocalType Change) (p : any_choice.Choice)
-    (r o : Result (Found LocalType Change) ResolveError)
-    → AreTypesAround (TypeAt z) local a → p ≡ policy_of choice → r ≡ taken_of p a → r ≡ o → TakesOf z local choice o
-taken_as z local choice a p r o right policy found is = grind arith
+pub taken_as : {T G : Type 0} (z : Zone) (local : ℤ) (choice : Choice) (f : T → LocalType) (g : G → Change) (a : Around T G) (p : any_choice.Choice)
+    (r o : Result (Found T G) ResolveError)
+    → AreTypesAround (TypeAt z) local (map_both f g a) → p ≡ policy_of choice → r ≡ taken_of p a → r ≡ o → TakesOf z local choice (images f g o)
+taken_as z local choice f g a p r o right policy found is =
+    record { around = map_both f g a; right = right; taken = ap (λ q. taken_of q (map_both f g a)) (sym policy) ∙ taken_images f g p.gap p.fold a ∙ ap (images f g) (sym found ∙ is) }
 
 -- a choice that takes a gap, and neither its end nor the offset after it, shifts forward
 none_by_refusal : (f : FoldChoice) (a : Around LocalType Change) (change : Change) → taken_of (record { gap = gaps.Refuse; fold = f }) a ≡ Ok (InGap change) → ⊥

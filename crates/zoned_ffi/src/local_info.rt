@@ -10,7 +10,7 @@ use crate::local_result::{NEVER, ONCE, SEVERAL_TIMES};
 use crate::resolved::instant_by;
 use crate::span::WrittenSpan;
 use naive_base::NaiveDateTime;
-use tz_info::{Around, Change, LocalTimeType, TimeZone};
+use tz_info::{Around, HeldChange, LocalTimeType, TimeZone};
 
 /// How often the clocks of a zone show a local time, and the spans around.
 #[repr(C)]
@@ -30,11 +30,11 @@ impl WrittenLocalInfo {
         requires { IsInRange (reading local).s }
         ensures { IsLocalInfo zone.now (reading local).s result }
     {
-        let around = zone.find_local_time_type_around(local);
+        let around = zone.held_types_around(local);
         let local = local.secs_since_epoch();
         match around {
             Around::Single(only) => {
-                let span = shown_span(zone, local, &only);
+                let span = shown_span(zone, local, only);
                 WrittenLocalInfo {
                     shown: ONCE,
                     first: span,
@@ -43,23 +43,23 @@ impl WrittenLocalInfo {
             }
             Around::Ambiguous(first, last) => WrittenLocalInfo {
                 shown: SEVERAL_TIMES,
-                first: shown_span(zone, local, &first),
-                last: shown_span(zone, local, &last),
+                first: shown_span(zone, local, first),
+                last: shown_span(zone, local, last),
             },
             Around::Gap(change) => WrittenLocalInfo {
                 shown: NEVER,
-                first: typed_span(zone, second_before(local, &change), &change.before),
-                last: typed_span(zone, change.at, &change.after),
+                first: typed_span(zone, second_before(local, change), change.before),
+                last: typed_span(zone, change.at, change.after),
             },
         }
     }
 }
 
 // The second before the change, from which on clocks show more than the local time.
-fn second_before(local: i64, change: &Change) -> i64
+fn second_before(local: i64, change: HeldChange<'_>) -> i64
     requires local { IsInRange local }
-    requires more { local <ℤ (change.now.at +ℤ change.now.after.offset) }
-    ensures { result ≡ change.now.at -ℤ pos 1 }
+    requires more { local <ℤ (change.at +ℤ change.after.now.offset) }
+    ensures { result ≡ change.at -ℤ pos 1 }
 {
     let _ = change.after.offset();
     change.at - 1

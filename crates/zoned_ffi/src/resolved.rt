@@ -11,7 +11,7 @@ use crate::local_lookups::LocalLookups;
 use crate::refusal::INSTANT_OUT_OF_RANGE;
 use naive_base::NaiveDateTime;
 use offset_core::Taken as Found;
-use tz_info::{Probes, TimeZone};
+use tz_info::TimeZone;
 
 /// The instant that a choice takes for a local time.
 #[repr(C)]
@@ -120,9 +120,7 @@ pub fn take(zone: &TimeZone, choice: Choice, local: NaiveDateTime) -> Result<Tak
     ensures { MatchResult result (λ taken. IsTakenAs zone.now (reading local).s choice taken)
         (λ n. IsNoneTaken zone.now (reading local).s choice n) }
 {
-    let mut probes = Probes::new();
-    let around = zone.find_local_time_type_around_counted(local, &mut probes);
-    match around.take(choice.policy()) {
+    match zone.held_types_around(local).take(choice.policy()) {
         Ok(Found::Shown(only)) => Ok(Taken::InForce(only.offset())),
         Ok(Found::InGap(change)) => match choice.gap {
             ChoiceInGap::End => Ok(Taken::GapEnd(change.at, change.after.offset())),

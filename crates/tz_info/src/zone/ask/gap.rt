@@ -60,8 +60,20 @@ impl TimeZone {
         }
     }
 
-    /// As [`TimeZone::find_local_time_type_around`], with references to the zone's types; of a gap it
-    /// returns the type before it.
+    /// As [`TimeZone::find_local_time_type_around`], with references to the zone's types.
+    #[inline(always)]
+    pub fn held_types_around(&self, local: NaiveDateTime) -> Around<&LocalTimeType, HeldChange<'_>>
+        ensures { AreTypesAround (TypeAt self.now) (reading local).s
+            (map_both (λ r. r.now) change_held result) }
+    {
+        let local = local.secs_since_epoch();
+        match self.last_type_at(local) {
+            Some(only) => Around::Single(only),
+            None => self.around(local, &mut Probes::new()),
+        }
+    }
+
+    /// As [`TimeZone::held_types_around`]; of a gap it returns the type before it.
     #[inline(always)]
     pub fn local_time_types_around(
         &self,
@@ -70,21 +82,7 @@ impl TimeZone {
         ensures { IsAroundOrBefore (TypeAt self.now) (reading local).s
             (map_both (λ r. r.now) (λ r. r.now) result) }
     {
-        let local = local.secs_since_epoch();
-        match self.last_type_at(local) {
-            Some(only) => Around::Single(only),
-            None => self.types_around(local),
-        }
-    }
-
-    // The same, by a search.
-    #[inline(always)]
-    fn types_around(&self, local: i64) -> Around<&LocalTimeType, &LocalTimeType>
-        requires { IsWide local }
-        ensures { IsAroundOrBefore (TypeAt self.now) local
-            (map_both (λ r. r.now) (λ r. r.now) result) }
-    {
-        match self.around(local, &mut Probes::new()) {
+        match self.held_types_around(local) {
             Around::Single(only) => Around::Single(only),
             Around::Ambiguous(first, last) => Around::Ambiguous(first, last),
             Around::Gap(gap) => Around::Gap(gap.before),

@@ -1,4 +1,5 @@
 use Rattle.zoned_ffi.proofs.{LocalInfoLaws.{once_by, several_by, shows_there}, Words.{FitsSigned, refl, rules, to_z-of_z, w64}}
+use Rattle.tz_info.specs.HeldChanges.{change_held}
 use Rattle.zoned_ffi.specs.LocalInfos.{IsLocalInfo}
 use Rattle.zoned_ffi.proofs.local_info.WrittenLocalInfo.at.Goals as goal
 
@@ -40,13 +41,13 @@ second_before-requires-clause-local c =
 pub returns-in-Single : goal.returns-in-Single
 returns-in-Single c =
     let fits : FitsSigned w64 c.secs_since_epoch-local.result = search rules in
-    once_by c.args.zone.now c.args.local.secs c.in-Single.only _ c.in-Single.ensures refl
+    once_by c.args.zone.now c.args.local.secs c.in-Single.only.now _ c.in-Single.ensures refl
     (rw c.secs_since_epoch-local.ensures at (simp to_z-of_z at c.shown_span-span.ensures)) refl
 
 pub returns-in-Ambiguous : goal.returns-in-Ambiguous
 returns-in-Ambiguous c =
     let fits : FitsSigned w64 c.secs_since_epoch-local.result = search rules in
-    several_by c.args.zone.now c.args.local.secs c.in-Ambiguous.first c.in-Ambiguous.last _ c.in-Ambiguous.ensures refl
+    several_by c.args.zone.now c.args.local.secs c.in-Ambiguous.first.now c.in-Ambiguous.last.now _ c.in-Ambiguous.ensures refl
     (rw c.secs_since_epoch-local.ensures at (simp to_z-of_z at c.shown_span.ensures))
     (rw c.secs_since_epoch-local.ensures at (simp to_z-of_z at c.shown_span-in-Ambiguous.ensures))
 
@@ -55,6 +56,6 @@ returns-in-Gap c =
     let fits : FitsSigned w64 c.secs_since_epoch-local.result = search rules in
     let at : FitsSigned w64 c.in-Gap.change.at = search rules in
     let before : FitsSigned w64 c.second_before.result = search rules in
-    IsLocalInfo.never c.in-Gap.change c.in-Gap.ensures refl
+    IsLocalInfo.never (change_held c.in-Gap.change) c.in-Gap.ensures refl
     (rw c.second_before.ensures at (simp to_z-of_z at c.typed_span.ensures))
     (simp to_z-of_z at c.typed_span-in-Gap.ensures)
