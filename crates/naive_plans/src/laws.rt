@@ -21,7 +21,8 @@ pub fn nth_weekdays()
 
 /// Errors are equal if and only if they are the same. A clone is the error, and does not fail.
 pub fn errors()
-    ensures equal { (a b : RecurrenceError) → IsTrue (⟦<RecurrenceError as PartialEq>⟧.eq a b) ↔ (a ≡ b) }
+    ensures equal { (a b : RecurrenceError)
+        → IsTrue (⟦<RecurrenceError as PartialEq>⟧.eq a b) ↔ (a ≡ b) }
     ensures clone { (a b : RecurrenceError) → ⟦<RecurrenceError as Clone>⟧.is_clone a b ↔ (b ≡ a) }
     ensures infallible { (a : RecurrenceError) → ⟦<RecurrenceError as Clone>⟧.is_infallible a }
 {}

@@ -6,8 +6,8 @@ ghost use Rattle.std.specs.Prelude.{◌++◌, ◌∷◌, [], take};
 ghost use Rattle.tests_pins.specs.FaultyFiles.{count, header_of, of_first_leap, of_indicators};
 ghost use Rattle.tests_pins.specs.FaultyFiles.{of_record, of_second_leap, of_second_record};
 ghost use Rattle.tests_pins.specs.FaultyFiles.{of_transitions, one_and_two, plain_header, under};
-ghost use Rattle.tests_pins.specs.FaultyFiles.{utc_record, with_footer, with_other_rule, with_second};
-ghost use Rattle.tests_pins.specs.FaultyFiles.{IsOnlyPlace};
+ghost use Rattle.tests_pins.specs.FaultyFiles.{utc_record, with_footer, with_other_rule};
+ghost use Rattle.tests_pins.specs.FaultyFiles.{with_second, IsOnlyPlace};
 
 /// A magic is rejected at its first byte, a version at its byte, and in the second header too.
 pub fn versions()

@@ -1,5 +1,5 @@
-//! Theorems of the numbers and the structs that calls return: each function is empty, its contract is proved; never
-//! called.
+//! Theorems of the numbers and the structs that calls return: each function is empty, its contract is
+//! proved; never called.
 
 ghost use Rattle.std.specs.Prelude.{◌≡◌, ◌↔◌, ◌⊎◌, List, ℕ};
 ghost use Rattle.zoned_ffi.specs.Refusals.{IsErrorOfKind};
@@ -30,10 +30,14 @@ pub fn structs()
     ensures changes_infallible { (a : WrittenChange) → ⟦<WrittenChange as Clone>⟧.is_infallible a }
     ensures spans { (a b : WrittenSpan) → ⟦<WrittenSpan as Clone>⟧.is_clone a b ↔ (b ≡ a) }
     ensures spans_infallible { (a : WrittenSpan) → ⟦<WrittenSpan as Clone>⟧.is_infallible a }
-    ensures local_infos { (a b : WrittenLocalInfo) → ⟦<WrittenLocalInfo as Clone>⟧.is_clone a b ↔ (b ≡ a) }
-    ensures local_infos_infallible { (a : WrittenLocalInfo) → ⟦<WrittenLocalInfo as Clone>⟧.is_infallible a }
-    ensures local_results { (a b : WrittenLocalResult) → ⟦<WrittenLocalResult as Clone>⟧.is_clone a b ↔ (b ≡ a) }
-    ensures local_results_infallible { (a : WrittenLocalResult) → ⟦<WrittenLocalResult as Clone>⟧.is_infallible a }
+    ensures local_infos { (a b : WrittenLocalInfo)
+        → ⟦<WrittenLocalInfo as Clone>⟧.is_clone a b ↔ (b ≡ a) }
+    ensures local_infos_infallible { (a : WrittenLocalInfo)
+        → ⟦<WrittenLocalInfo as Clone>⟧.is_infallible a }
+    ensures local_results { (a b : WrittenLocalResult)
+        → ⟦<WrittenLocalResult as Clone>⟧.is_clone a b ↔ (b ≡ a) }
+    ensures local_results_infallible { (a : WrittenLocalResult)
+        → ⟦<WrittenLocalResult as Clone>⟧.is_infallible a }
     ensures resolved { (a b : Resolved) → ⟦<Resolved as Clone>⟧.is_clone a b ↔ (b ≡ a) }
     ensures resolved_infallible { (a : Resolved) → ⟦<Resolved as Clone>⟧.is_infallible a }
     ensures days { (a b : WrittenDay) → ⟦<WrittenDay as Clone>⟧.is_clone a b ↔ (b ≡ a) }

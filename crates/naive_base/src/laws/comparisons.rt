@@ -188,12 +188,14 @@ pub fn runs_back()
         → IsTrue (⟦<NaiveDateDaysBack as PartialEq>⟧.eq a b) ↔ (days_back_from a ≡ days_back_from b) }
     ensures days_cloned { (a b : NaiveDateDaysBack)
         → ⟦<NaiveDateDaysBack as Clone>⟧.is_clone a b ↔ (a ≡ b) }
-    ensures days_infallible { (a : NaiveDateDaysBack) → ⟦<NaiveDateDaysBack as Clone>⟧.is_infallible a }
+    ensures days_infallible { (a : NaiveDateDaysBack)
+        → ⟦<NaiveDateDaysBack as Clone>⟧.is_infallible a }
     ensures weeks_equal { (a b : NaiveDateWeeksBack)
         → IsTrue (⟦<NaiveDateWeeksBack as PartialEq>⟧.eq a b) ↔ (weeks_back_from a ≡ weeks_back_from b) }
     ensures weeks_cloned { (a b : NaiveDateWeeksBack)
         → ⟦<NaiveDateWeeksBack as Clone>⟧.is_clone a b ↔ (a ≡ b) }
-    ensures weeks_infallible { (a : NaiveDateWeeksBack) → ⟦<NaiveDateWeeksBack as Clone>⟧.is_infallible a }
+    ensures weeks_infallible { (a : NaiveDateWeeksBack)
+        → ⟦<NaiveDateWeeksBack as Clone>⟧.is_infallible a }
 {}
 
 /// Errors of numbers that no weekday and no month has are equal, and a clone is the error.
