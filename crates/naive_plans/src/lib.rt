@@ -8,6 +8,7 @@
 mod clock_step;
 mod cron;
 mod day_plan;
+pub mod laws;
 mod occasions;
 mod part_of_day;
 mod plan;

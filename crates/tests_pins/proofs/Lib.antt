@@ -7,6 +7,7 @@ pub mod NewYorkChanges
 pub mod RuleYears
 pub mod AskedRules
 pub mod SpelledTexts
+pub mod FaultPlaces
 pub mod FileParts
 pub mod HonoluluFile
 pub mod GivenDays

@@ -107,6 +107,14 @@ module _ (from until before during after : ℤ) (order : from <ℤ until) (low :
   pub none_later : (u a : ℤ) → until ≤ℤ u → IsAmount clocks None u a → a ≡ pos 0
   none_later u a l h = h.standard (flag h.type (type_of after false) (one u h.type (type_of after false) h.in_force_then (inr (inr (l, refl)))))
 
+  pub zero_later : (u : ℤ) → until ≤ℤ u → IsAmount clocks None u (pos 0)
+  zero_later u l = record {
+    type = type_of after false;
+    in_force_then = inr (inr (l, refl));
+    standard = λ e. refl;
+    flagged = λ e. absurd (false≢true e);
+  }
+
 -- ---- clocks that change each second
 restless_one : (v : ℤ) (s t : LocalType) → restless v s → restless v t → s ≡ t
 restless_one v s t (inl (h, e)) (inl (k, d)) = e ∙ sym d

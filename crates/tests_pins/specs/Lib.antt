@@ -2,6 +2,7 @@ pub mod Changes
 pub mod Choices
 pub mod Days
 pub mod Differences
+pub mod FaultyFiles
 pub mod Fields
 pub mod Files
 pub mod Honolulu

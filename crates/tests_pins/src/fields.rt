@@ -33,6 +33,8 @@ pub fn months_later()
         → answer ≡ Some (day_number (pos 2021) 8 20) }
     ensures is_later { IsMonthsLater itself given (day_number (pos 2022) 7 31) (pos 2)
         (Some (day_number (pos 2022) 9 30)) }
+    ensures is_earlier { IsMonthsLater itself given (day_number (pos 2022) 2 20) (neg_ℤ (pos 6))
+        (Some (day_number (pos 2021) 8 20)) }
 {}
 
 /// Nine days after 20 February 2022 it is 1 March.
@@ -45,6 +47,8 @@ pub fn days_later()
         → answer ≡ Some (day_number (pos 2022) 2 14) }
     ensures is_later { IsDaysLater itself given (day_number (pos 2022) 2 20) (pos 9)
         (Some (day_number (pos 2022) 3 1)) }
+    ensures is_earlier { IsDaysLater itself given (day_number (pos 2022) 2 20) (neg_ℤ (pos 6))
+        (Some (day_number (pos 2022) 2 14)) }
 {}
 
 /// From 8 September 2015 on: there is a 30 September, and no 31. Day 60 of the year is 1 March, and
@@ -72,6 +76,8 @@ pub fn dates()
         (Some (day_number (pos 2015) 3 1)) }
     ensures is_ordinal_366 { IsOrdinalGiven itself given (day_number (pos 2015) 9 8) (pos 2015) 366
         None }
+    ensures is_ordinal_366_of_2016 { IsOrdinalGiven itself given (day_number (pos 2015) 9 8) (pos 2016)
+        366 (Some (day_number (pos 2016) 12 31)) }
 {}
 
 /// 23:56:04.012345678 with another hour, minute, second and fraction.

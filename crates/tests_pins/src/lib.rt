@@ -12,6 +12,7 @@ pub mod choices;
 pub mod clock_changes;
 pub mod days;
 pub mod differences;
+pub mod fault_places;
 pub mod fields;
 pub mod files;
 pub mod fires;

@@ -12,6 +12,8 @@ pub fn new_york()
     ensures only { (a : ℤ) → IsAmount (summer (pos 1_615_705_200) (pos 1_636_264_800)
         (neg_ℤ (pos 18_000)) (neg_ℤ (pos 14_400)) (neg_ℤ (pos 18_000))) None (pos 1_625_097_600) a
         → a ≡ pos 3_600 }
+    ensures is_winter { IsAmount (summer (pos 1_615_705_200) (pos 1_636_264_800)
+        (neg_ℤ (pos 18_000)) (neg_ℤ (pos 14_400)) (neg_ℤ (pos 18_000))) None (pos 1_636_264_800) (pos 0) }
     ensures winter { (a : ℤ) → IsAmount (summer (pos 1_615_705_200) (pos 1_636_264_800)
         (neg_ℤ (pos 18_000)) (neg_ℤ (pos 14_400)) (neg_ℤ (pos 18_000))) None (pos 1_636_264_800) a
         → a ≡ pos 0 }
@@ -96,8 +98,11 @@ pub fn usual_amounts()
 pub fn two_amounts()
     ensures next_is { IsOfTwo (λ n. n ≡ pos 1_800) (pos 3_600) (pos 1_800) (pos 1_800) }
     ensures next { (a : ℤ) → IsOfTwo (λ n. n ≡ pos 1_800) (pos 3_600) (pos 1_800) a → a ≡ pos 1_800 }
+    ensures other_next_is { IsOfTwo (λ n. n ≡ pos 5_400) (pos 3_600) (pos 1_800) (pos 3_600) }
     ensures other_next { (a : ℤ) → IsOfTwo (λ n. n ≡ pos 5_400) (pos 3_600) (pos 1_800) a → a ≡ pos 3_600 }
+    ensures both_is { IsOfTwo (λ n. n ≡ pos 5_400) (pos 1_800) (pos 1_800) (pos 1_800) }
     ensures both { (a : ℤ) → IsOfTwo (λ n. n ≡ pos 5_400) (pos 1_800) (pos 1_800) a → a ≡ pos 1_800 }
+    ensures only_one_is { IsOnly (Some (pos 1_800)) None (pos 1_800) }
     ensures only_one { (a : ℤ) → IsOnly (Some (pos 1_800)) None a → a ≡ pos 1_800 }
     ensures two { (a : ℤ) → ¬ (IsOnly (Some (pos 3_600)) (Some (pos 1_800)) a) }
     ensures none { (a : ℤ) → ¬ (IsOnly None None a) }

@@ -3,13 +3,15 @@ ghost use Rattle.std.specs.Hash as fed;
 ghost use Rattle.std.specs.Ordering.{int_cmp, nat_cmp, ordering_then, MatchOrdering};
 ghost use Rattle.std.specs.Prelude.{◌≡◌, ◌↔◌, ◌-◌, ◌++◌, pos, IsTrue};
 ghost use Rattle.naive_base.specs.{IsoWeek.{iso_number, iso_year}, Reading.{IsEarlier, IsEarlierTime}, Week.{first_of}};
-ghost use Rattle.naive_base.specs.{MonthNames.{number_of_month}, NaiveDateTime.{reading}, Runs.{days_from, weeks_from}};
+ghost use Rattle.naive_base.specs.{MonthNames.{number_of_month}, NaiveDateTime.{reading}};
+ghost use Rattle.naive_base.specs.Runs.{days_back_from, days_from, weeks_back_from, weeks_from};
 ghost use Rattle.naive_base.specs.{Months.{days_of, months_of}, NaiveDate.{day_of}};
 ghost use Rattle.naive_base.specs.{NaiveTime.{fraction_of, second_of}, Weekday.{days_from_monday, weekday_number}};
 
 use crate::{
-    Days, IsoWeek, Month, Months, NaiveDate, NaiveDateDaysIterator, NaiveDateTime,
-    NaiveDateWeeksIterator, NaiveTime, NaiveWeek, OutOfRange, Weekday,
+    Days, IsoWeek, Month, Months, NaiveDate, NaiveDateDaysBack, NaiveDateDaysIterator,
+    NaiveDateTime, NaiveDateWeeksBack, NaiveDateWeeksIterator, NaiveTime, NaiveWeek, OutOfRange,
+    Weekday,
 };
 use std::hash::Hash;
 
@@ -21,6 +23,8 @@ pub fn dates()
         ↔ (day_of a ≡ day_of b) }
     ensures same { (a b : NaiveDate) → day_of a ≡ day_of b → a ≡ b }
     ensures order { (a b : NaiveDate) → ⟦<NaiveDate as Ord>⟧.cmp a b ≡ int_cmp (day_of a) (day_of b) }
+    ensures part_ordered { (a b : NaiveDate) → ⟦<NaiveDate as PartialOrd>⟧.partial_cmp a b
+        ≡ Some (⟦<NaiveDate as Ord>⟧.cmp a b) }
     ensures hashed { (a : NaiveDate) → ⟦<NaiveDate as Hash>⟧.hash_input a ≡ fed.i32 (day_of a) }
     ensures cloned { (a b : NaiveDate) → ⟦<NaiveDate as Clone>⟧.is_clone a b ↔ (a ≡ b) }
     ensures infallible { (a : NaiveDate) → ⟦<NaiveDate as Clone>⟧.is_infallible a }
@@ -38,6 +42,8 @@ pub fn times()
         (IsEarlierTime (second_of a) (fraction_of a) (second_of b) (fraction_of b))
         ((second_of a ≡ second_of b) × (fraction_of a ≡ fraction_of b))
         (IsEarlierTime (second_of b) (fraction_of b) (second_of a) (fraction_of a)) }
+    ensures part_ordered { (a b : NaiveTime) → ⟦<NaiveTime as PartialOrd>⟧.partial_cmp a b
+        ≡ Some (⟦<NaiveTime as Ord>⟧.cmp a b) }
     ensures hashed { (a : NaiveTime) → ⟦<NaiveTime as Hash>⟧.hash_input a
         ≡ fed.u32 (second_of a) ++ fed.u32 (fraction_of a) }
     ensures cloned { (a b : NaiveTime) → ⟦<NaiveTime as Clone>⟧.is_clone a b ↔ (a ≡ b) }
@@ -56,6 +62,8 @@ pub fn readings()
         (IsEarlier (reading a) (reading b))
         (((reading a).s ≡ (reading b).s) × ((reading a).f ≡ (reading b).f))
         (IsEarlier (reading b) (reading a)) }
+    ensures part_ordered { (a b : NaiveDateTime) → ⟦<NaiveDateTime as PartialOrd>⟧.partial_cmp a b
+        ≡ Some (⟦<NaiveDateTime as Ord>⟧.cmp a b) }
     ensures hashed { (a : NaiveDateTime) → ⟦<NaiveDateTime as Hash>⟧.hash_input a
         ≡ fed.i64 (reading a).s ++ fed.u32 (reading a).f }
     ensures cloned { (a b : NaiveDateTime) → ⟦<NaiveDateTime as Clone>⟧.is_clone a b ↔ (a ≡ b) }
@@ -69,6 +77,8 @@ pub fn months()
         ↔ (months_of a ≡ months_of b) }
     ensures order { (a b : Months) → ⟦<Months as Ord>⟧.cmp a b
         ≡ nat_cmp (months_of a) (months_of b) }
+    ensures part_ordered { (a b : Months) → ⟦<Months as PartialOrd>⟧.partial_cmp a b
+        ≡ Some (⟦<Months as Ord>⟧.cmp a b) }
     ensures hashed { (a : Months) → ⟦<Months as Hash>⟧.hash_input a ≡ fed.u32 (months_of a) }
     ensures cloned { (a b : Months) → ⟦<Months as Clone>⟧.is_clone a b ↔ (a ≡ b) }
     ensures infallible { (a : Months) → ⟦<Months as Clone>⟧.is_infallible a }
@@ -80,6 +90,8 @@ pub fn days()
     ensures equal { (a b : Days) → IsTrue (⟦<Days as PartialEq>⟧.eq a b)
         ↔ (days_of a ≡ days_of b) }
     ensures order { (a b : Days) → ⟦<Days as Ord>⟧.cmp a b ≡ nat_cmp (days_of a) (days_of b) }
+    ensures part_ordered { (a b : Days) → ⟦<Days as PartialOrd>⟧.partial_cmp a b
+        ≡ Some (⟦<Days as Ord>⟧.cmp a b) }
     ensures hashed { (a : Days) → ⟦<Days as Hash>⟧.hash_input a ≡ fed.u64 (days_of a) }
     ensures cloned { (a b : Days) → ⟦<Days as Clone>⟧.is_clone a b ↔ (a ≡ b) }
     ensures infallible { (a : Days) → ⟦<Days as Clone>⟧.is_infallible a }
@@ -107,6 +119,8 @@ pub fn iso_weeks()
     ensures order { (a b : IsoWeek) → ⟦<IsoWeek as Ord>⟧.cmp a b
         ≡ ordering_then (int_cmp (iso_year a) (iso_year b)) (nat_cmp (iso_number a)
         (iso_number b)) }
+    ensures part_ordered { (a b : IsoWeek) → ⟦<IsoWeek as PartialOrd>⟧.partial_cmp a b
+        ≡ Some (⟦<IsoWeek as Ord>⟧.cmp a b) }
     ensures hashed { (a : IsoWeek) → ⟦<IsoWeek as Hash>⟧.hash_input a
         ≡ fed.i32 (iso_year a) ++ fed.u32 (iso_number a) }
     ensures cloned { (a b : IsoWeek) → ⟦<IsoWeek as Clone>⟧.is_clone a b ↔ (a ≡ b) }
@@ -120,6 +134,8 @@ pub fn months_by_name()
     ensures numbered { (a b : Month) → number_of_month a ≡ number_of_month b → a ≡ b }
     ensures order { (a b : Month) → ⟦<Month as Ord>⟧.cmp a b
         ≡ nat_cmp (number_of_month a) (number_of_month b) }
+    ensures part_ordered { (a b : Month) → ⟦<Month as PartialOrd>⟧.partial_cmp a b
+        ≡ Some (⟦<Month as Ord>⟧.cmp a b) }
     ensures hashed { (a : Month) → ⟦<Month as Hash>⟧.hash_input a
         ≡ fed.isize (pos (number_of_month a - 1)) }
     ensures cloned { (a b : Month) → ⟦<Month as Clone>⟧.is_clone a b ↔ (a ≡ b) }
@@ -144,18 +160,42 @@ pub fn runs()
         → IsTrue (⟦<NaiveDateDaysIterator as PartialEq>⟧.eq a b) ↔ (days_from a ≡ days_from b) }
     ensures days_order { (a b : NaiveDateDaysIterator) → ⟦<NaiveDateDaysIterator as Ord>⟧.cmp a b
         ≡ int_cmp (days_from a) (days_from b) }
+    ensures days_part_ordered { (a b : NaiveDateDaysIterator)
+        → ⟦<NaiveDateDaysIterator as PartialOrd>⟧.partial_cmp a b ≡ Some (⟦<NaiveDateDaysIterator as Ord>⟧.cmp a b) }
     ensures days_hashed { (a : NaiveDateDaysIterator) → ⟦<NaiveDateDaysIterator as Hash>⟧.hash_input a
         ≡ fed.i32 (days_from a) }
     ensures days_cloned { (a b : NaiveDateDaysIterator)
         → ⟦<NaiveDateDaysIterator as Clone>⟧.is_clone a b ↔ (a ≡ b) }
+    ensures days_infallible { (a : NaiveDateDaysIterator)
+        → ⟦<NaiveDateDaysIterator as Clone>⟧.is_infallible a }
     ensures weeks_equal { (a b : NaiveDateWeeksIterator)
         → IsTrue (⟦<NaiveDateWeeksIterator as PartialEq>⟧.eq a b) ↔ (weeks_from a ≡ weeks_from b) }
     ensures weeks_order { (a b : NaiveDateWeeksIterator) → ⟦<NaiveDateWeeksIterator as Ord>⟧.cmp a b
         ≡ int_cmp (weeks_from a) (weeks_from b) }
+    ensures weeks_part_ordered { (a b : NaiveDateWeeksIterator)
+        → ⟦<NaiveDateWeeksIterator as PartialOrd>⟧.partial_cmp a b ≡ Some (⟦<NaiveDateWeeksIterator as Ord>⟧.cmp a b) }
     ensures weeks_hashed { (a : NaiveDateWeeksIterator) → ⟦<NaiveDateWeeksIterator as Hash>⟧.hash_input a
         ≡ fed.i32 (weeks_from a) }
     ensures weeks_cloned { (a b : NaiveDateWeeksIterator)
         → ⟦<NaiveDateWeeksIterator as Clone>⟧.is_clone a b ↔ (a ≡ b) }
+    ensures weeks_infallible { (a : NaiveDateWeeksIterator)
+        → ⟦<NaiveDateWeeksIterator as Clone>⟧.is_infallible a }
+{}
+
+/// Runs that go back in time are equal if and only if their next dates are; a clone is the run.
+pub fn runs_back()
+    ensures days_equal { (a b : NaiveDateDaysBack)
+        → IsTrue (⟦<NaiveDateDaysBack as PartialEq>⟧.eq a b) ↔ (days_back_from a ≡ days_back_from b) }
+    ensures days_cloned { (a b : NaiveDateDaysBack)
+        → ⟦<NaiveDateDaysBack as Clone>⟧.is_clone a b ↔ (a ≡ b) }
+    ensures days_infallible { (a : NaiveDateDaysBack)
+        → ⟦<NaiveDateDaysBack as Clone>⟧.is_infallible a }
+    ensures weeks_equal { (a b : NaiveDateWeeksBack)
+        → IsTrue (⟦<NaiveDateWeeksBack as PartialEq>⟧.eq a b) ↔ (weeks_back_from a ≡ weeks_back_from b) }
+    ensures weeks_cloned { (a b : NaiveDateWeeksBack)
+        → ⟦<NaiveDateWeeksBack as Clone>⟧.is_clone a b ↔ (a ≡ b) }
+    ensures weeks_infallible { (a : NaiveDateWeeksBack)
+        → ⟦<NaiveDateWeeksBack as Clone>⟧.is_infallible a }
 {}
 
 /// Errors of numbers that no weekday and no month has are equal, and a clone is the error.

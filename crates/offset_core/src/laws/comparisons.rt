@@ -35,6 +35,8 @@ pub fn time_deltas()
     ensures same { (a b : TimeDelta) → nanos_of a ≡ nanos_of b → a ≡ b }
     ensures order { (a b : TimeDelta) → ⟦<TimeDelta as Ord>⟧.cmp a b
         ≡ int_cmp (nanos_of a) (nanos_of b) }
+    ensures part_ordered { (a b : TimeDelta) → ⟦<TimeDelta as PartialOrd>⟧.partial_cmp a b
+        ≡ Some (⟦<TimeDelta as Ord>⟧.cmp a b) }
     ensures hashed { (a : TimeDelta) → ⟦<TimeDelta as Hash>⟧.hash_input a
         ≡ fed.i64 (int_div_euclid (nanos_of a) nanos_per_second)
         ++ fed.u32 (unsigned_abs (int_rem_euclid (nanos_of a) nanos_per_second)) }

@@ -1,10 +1,11 @@
 //! Theorems of equality and clones: each function is empty, its contract is proved; never called.
 
 ghost use Rattle.std.specs.Prelude.{◌≡◌, ◌↔◌, IsTrue};
+ghost use Rattle.tz_info.specs.HeldChanges.{change_held, span_held};
 ghost use Rattle.tz_info.specs.{ChangesLeft.{changes_left}, Rules.{Alternate as AlternateRule}, Zones.{Zone}};
 
 use crate::DayForm;
-use crate::change::TypedSecond;
+use crate::change::{HeldChange, HeldSpan, TypedSecond};
 use crate::rule::{AlternateTime, RuleDay, TransitionRule};
 use crate::zone::ask::all_changes::Changes;
 use crate::zone::ask::differences::Difference;
@@ -66,6 +67,17 @@ pub fn lists_of_changes<'a>(a: &Changes<'a>, b: &Changes<'a>)
     ensures cloned { ⟦<Changes<'a> as Clone>⟧.is_clone a.now b.now
         → changes_left b.now ≡ changes_left a.now }
     ensures infallible { ⟦<Changes<'a> as Clone>⟧.is_infallible a.now }
+{}
+
+/// A clone of a change, or of a span, that refers to the zone's types is the same change or span, and
+/// does not fail.
+pub fn held_changes<'a>(a: &HeldChange<'a>, b: &HeldChange<'a>, c: &HeldSpan<'a>, d: &HeldSpan<'a>)
+    ensures cloned { ⟦<HeldChange<'a> as Clone>⟧.is_clone a.now b.now
+        → change_held b.now ≡ change_held a.now }
+    ensures infallible { ⟦<HeldChange<'a> as Clone>⟧.is_infallible a.now }
+    ensures span_cloned { ⟦<HeldSpan<'a> as Clone>⟧.is_clone c.now d.now
+        → span_held d.now ≡ span_held c.now }
+    ensures span_infallible { ⟦<HeldSpan<'a> as Clone>⟧.is_infallible c.now }
 {}
 
 /// Seconds with their types are equal if and only if the seconds and the types are. A clone is the

@@ -23,11 +23,20 @@ returns-clause-next_is c = Of_next (λ e. omega (arith, ints)) (inr refl) refl
 pub returns-clause-next : goal.returns-clause-next
 returns-clause-next c = next_of
 
+pub returns-clause-other_next_is : goal.returns-clause-other_next_is
+returns-clause-other_next_is c = Usual (λ e. omega (arith, ints)) (λ e. omega (arith, ints)) (λ e. omega (arith, ints)) refl
+
 pub returns-clause-other_next : goal.returns-clause-other_next
 returns-clause-other_next c = usual_of
 
+pub returns-clause-both_is : goal.returns-clause-both_is
+returns-clause-both_is c = Both refl refl
+
 pub returns-clause-both : goal.returns-clause-both
 returns-clause-both c = both_of
+
+pub returns-clause-only_one_is : goal.returns-clause-only_one_is
+returns-clause-only_one_is c = refl
 
 pub returns-clause-only_one : goal.returns-clause-only_one
 returns-clause-only_one c = λ a h. h
