@@ -20,18 +20,22 @@ pub fn new_york()
     ensures end { ¬ (IsInSpan winter (pos 1_615_705_200)) }
 {}
 
-/// From its last second on, the next span is EST as a whole, and the place after it is its end. Back from
-/// there it is the span before, and the place is its begin.
-#[tactic(auto, using(crate::proofs::NewYorkChanges::next_is_winter, crate::proofs::NewYorkChanges::only_next, crate::proofs::NewYorkChanges::previous_is_winter, crate::proofs::NewYorkChanges::only_previous,))]
-pub fn steps()
+/// From its last second on, the next span is EST as a whole, and the place after it is its end.
+#[tactic(auto, using(crate::proofs::NewYorkChanges::next_is_winter, crate::proofs::NewYorkChanges::only_next))]
+pub fn next_step()
     ensures next { IsNextSpan (place_before (pos 1_615_705_199)) (Some winter)
         (place_before (pos 1_615_705_200)) }
-    ensures next_only { (found : Option Span) (after : SpanPlace)
+    ensures only { (found : Option Span) (after : SpanPlace)
         → IsNextSpan (place_before (pos 1_615_705_199)) found after
         → (found ≡ Some winter) × (after.at ≡ pos 1_615_705_200) }
+{}
+
+/// Back from there it is the span before, and the place is its begin.
+#[tactic(auto, using(crate::proofs::NewYorkChanges::previous_is_winter, crate::proofs::NewYorkChanges::only_previous))]
+pub fn previous_step()
     ensures previous { IsPreviousSpan (place_before (pos 1_615_705_200)) (Some winter)
         (place_before (pos 1_604_210_400)) }
-    ensures previous_only { (found : Option Span) (after : SpanPlace)
+    ensures only { (found : Option Span) (after : SpanPlace)
         → IsPreviousSpan (place_before (pos 1_615_705_200)) found after
         → (found ≡ Some winter) × (after.at ≡ pos 1_604_210_400) }
 {}

@@ -61,7 +61,8 @@ pub taken_as : {T G : Type 0} (z : Zone) (local : ℤ) (choice : Choice) (f : T 
     (r o : Result (Found T G) ResolveError)
     → AreTypesAround (TypeAt z) local (map_both f g a) → p ≡ policy_of choice → r ≡ taken_of p a → r ≡ o → TakesOf z local choice (images f g o)
 taken_as z local choice f g a p r o right policy found is =
-    record { around = map_both f g a; right = right; taken = ap (λ q. taken_of q (map_both f g a)) (sym policy) ∙ taken_images f g p.gap p.fold a ∙ ap (images f g) (sym found ∙ is) }
+    let of_policy = ap (λ q. taken_of q (map_both f g a)) (sym policy) in
+    record { around = map_both f g a; right = right; taken = of_policy ∙ taken_images f g p.gap p.fold a ∙ ap (images f g) (sym found ∙ is) }
 
 -- a choice that takes a gap, and neither its end nor the offset after it, shifts forward
 none_by_refusal : (f : FoldChoice) (a : Around LocalType Change) (change : Change) → taken_of (record { gap = gaps.Refuse; fold = f }) a ≡ Ok (InGap change) → ⊥
