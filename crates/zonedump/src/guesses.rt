@@ -90,9 +90,9 @@ fn advice_for<'a>(alloc: Global, word: &'a str, folder: &'a str) -> Advice<'a> {
 /// Whether a word begins with a digit, and has only digits, colons and hyphens.
 pub fn is_time(word: &str) -> bool {
     match word.as_bytes().first() {
-        Some(first) if first.is_ascii_digit() => word
-            .bytes()
-            .all(|byte| byte.is_ascii_digit() || byte == b':' || byte == b'-'),
+        Some(first) if first.is_ascii_digit() => word.bytes().all(|byte| byte.is_ascii_digit()
+            || byte == b':'
+            || byte == b'-'),
         _ => false,
     }
 }
