@@ -837,7 +837,7 @@ def try_faults(program, folder):
     for words, status in ((diff, 2), ([*diff, "--summary"], 2), ([*diff, "--json"], 2), ([*diff, "--times", "times"], 2),
                           (["--diff", "good", "new"], 2), (["good"], 1), (["--json", "good", "new"], 1), (["--zdump", "good", "new"], 1),
                           (["--at", "@0", "--tzdir", ".", "before/moved"], 1), (["--at", "2021-07-01", "--local", "good", "new"], 1),
-                          (["--svg", "-", "good"], 1), (["Europe/Paris"], 1), (["Europe/Pariss"], 1)):
+                          (["--svg", "-", "good"], 1), (["Europe/Paris"], 1)):
         due, calls, wrong = run(program, *words, folder=folder), 0, []
         for calls, (name, *answer) in enumerate(runs_with_faults(program, words, folder), 1):
             lines = set(answer[1].splitlines())
