@@ -458,6 +458,7 @@ def counted():
     book = sum(len(text_of(path).splitlines()) for path, _ in pages_of_headline())
     refused = in_words(len(list((TOP / "tools/refused").glob("*.txt"))))
     large = "crates/tests_large_zone/src/main.rt"
+    many, few = (constant("crates/zonedump/src/output.rt", name) for name in ("MANY", "FEW"))
     threads = in_words(constant("tools/try_handles.c", "THREADS"))
     stack, of_one = (constant("tools/try_handles.c", name) for name in ("STACK_KB", "OF_ONE_KB"))
     return [
@@ -482,7 +483,8 @@ def counted():
         (PROGRAMS, f"A file is read up to {constant('crates/zoned_files/src/files.rt', 'LIMIT') >> 20} MiB."),
         (PROGRAMS, f"blocks of {constant('crates/zoneq_lib/src/runs.rt', 'BLOCK') >> 10} KiB"),
         (PROGRAMS, f"a buffer of {constant('crates/zoneq/src/main.rt', 'OUTPUT') >> 10} KiB"),
-        (PROGRAMS, f"if there are more than {in_words(constant('crates/zonedump_lib/src/picture.rt', 'FEW'))}"),
+        (PROGRAMS, f"more than {many} changes (more than {in_words(few)}, if no year is asked for)"),
+        (PROGRAMS, f"at most the last {many}, or {in_words(few)}"),
         (TOP / "docs/DECISIONS.md", f"A column of {constant('crates/zoned_ffi/src/column.rt', 'LONG'):,} rows or more"),
         (PROVED, f"one book of some {round(book, -2):,} lines"),
     ]

@@ -15,11 +15,12 @@ changes of the table as steps of its line at their places, and the wall clocks o
 name, and a wrong name never leads out of the database's folder. What is listed from a year or a date to another, and what --at
 prints, must be what zoneinfo has, a summary and the times that move those of two folders, and each line of JSON must fit the
 schema in docs/. Each of the wrong uses of WRONG_USES must be answered by what to type, and each failing system call by a fault or
-the whole answer. The table of a large file must need no more memory than one question about it. Prints a line for each run, and
-ends with status 1 if an answer differs. It takes half a minute, and needs the C compiler cc for the two lines that choose a random
-number.
+the whole answer. A fault has its place in each kind of output, and the examples of --help do what they say. A table and a picture
+of a large file must need little more memory than one question about it. Prints a line for each run, and ends with status 1 if an
+answer differs. It takes half a minute, and needs the C compiler cc for the calls that are made to fail.
 """
 
+import gzip
 import json
 import os
 import re
@@ -93,6 +94,7 @@ def make_files(folder):
     (folder / "empty").write_bytes(b"")
     (folder / "text").write_text("It is always noon in Greenwich.\n" * 4)
     (folder / "folder").mkdir()
+    (folder / "good.gz").write_bytes(gzip.compress(good))
     with zipfile.ZipFile(folder / "zip", "w") as archive:
         archive.writestr("New_York", good)
     with open(folder / "large", "wb") as large:
@@ -124,6 +126,30 @@ def clocks(path):
         zone = ZoneInfo.from_file(data)
     times = (datetime.fromtimestamp(second, timezone.utc).astimezone(zone) for second in range(-2208988800, 4102444800, 950400))
     return [(time.utcoffset(), time.dst(), time.tzname()) for time in times]
+
+
+def try_fault_places(program, folder):
+    """A fault has its place in every output, and of several zones each faulty one is named and the rest are answered."""
+    outputs = ([], ["--json"], ["--zdump"], ["--at", "@0"], ["--at", "1970-01-01", "--local"], ["--svg", "-"], ["--write", "-"])
+    for output in outputs:
+        for file, why in WRONG.items():
+            check(f"{' '.join(output)} {file}", refused(file, why), run(program, *output, file, folder=folder))
+        for text, shown, words, place, column, hint in POINTED:
+            for extended in ([], ["--extended"]):
+                due = f"zonedump: {shown}: not a TZ string: {words}\n  {shown}\n  {' ' * column}^ at offset {place}\n{hint}"
+                check(f"the caret of {' '.join([*output, *extended])} under {text!r}", (1, "", due), run(program, *output, *extended, "--text", text))
+    for output in outputs[:5]:
+        alone = run(program, *output, "good", folder=folder)[1]
+        due = "".join(refused(file, WRONG[file])[2] for file in ("footer", "missing", "zip"))
+        words = [*output, "footer", "good", "missing", "good", "zip"]
+        check(" ".join(words), (1, alone + alone, due), run(program, *words, folder=folder))
+    (folder / "times").write_text("2021-07-01T12:00\n")
+    for output, printed in ([], ""), (["--json"], ""), (["--summary"], "zones that differ: 0 of 0; only in {}: 0; only in {}: 0\n"), (
+            ["--times", "times"], "times that move: 0 of 1\n"):
+        for file in ("footer", "short", "zip"):
+            for names in ((file, "good"), ("good", file)):
+                words = [*output, "--diff", *names]
+                check(" ".join(words), (2, printed.format(*names), refused(file, WRONG[file])[2]), run(program, *words, folder=folder))
 
 
 def try_write(program, folder):
@@ -236,7 +262,7 @@ def try_names(program, folder):
 def try_controls(program, folder):
     """Names with characters that control a terminal, end a line or turn text around."""
     name, shown = "a\x1b[31m\nb\x7f\x85\u202eé'\\", "a\\u{1b}[31m\\nb\\u{7f}\\u{85}\\u{202e}é'\\"
-    check("a name with controls", (1, "", f"zonedump: {shown}: {UNKNOWN}\n"),
+    check("a name with controls", (1, "", f"zonedump: {shown}: {NO_NAME}\n"),
           run(program, name, folder=folder))
     (folder / name).write_bytes(b"TZig" + bytes(60))
     check("  of a wrong file", refused(shown, MAGIC), run(program, name, folder=folder))
@@ -417,6 +443,10 @@ def try_diff(program, folder):
     check("seconds moved", [-3600], [d["moved"] for d in told["differences"]])
     status, output, errors = run(program, *years, "--json", "--diff", "good", "good", folder=folder)
     check("--json --diff of one file", (0, "", []), (status, errors, json.loads(output)["differences"]))
+    for words in (["-", "new"], ["good", "-"]):
+        with open(folder / ("good" if words[0] == "-" else "new"), "rb") as given:
+            told = subprocess.run([str(program), *years, "--diff", *words], cwd=folder, stdin=given, capture_output=True, text=True)
+        check(f"--diff {' '.join(words)}", (1, line, ""), (told.returncode, told.stdout, told.stderr))
     check("--diff with one file", (2, "", f"{TWO}\n"),
           run(program, "--diff", "good", folder=folder))
     try_folders(program, folder, line)
@@ -433,6 +463,20 @@ def try_record(program, folder, line):
     check("  with the record of the proof", (0, line + '{"kit": "rattle"}\n', ""), run(copied, "--version"))
 
 
+def try_help_examples(program, folder, text):
+    """Each example of --help and of the man page does what it says."""
+    examples = re.findall(r"(?m)^  (zonedump .*?)(?:  +.*)?$", text.split("Examples:\n")[1])
+    page = (HERE / "crates/zoned_ffi/install/zonedump.1").read_text().split(".SH EXAMPLES\n.nf\n")[1].split("\n.fi")[0]
+    check("  the examples of the man page", examples, page.replace("\\-", "-").splitlines())
+    for side, offset in (("OLD", 5), ("NEW", 6)):
+        (folder / side).mkdir()
+        run(program, "--write", f"{side}/Zone", "--text", f"AAA{offset}", folder=folder)
+    for example in examples:
+        status, output, errors = run(program, *shlex.split(example)[1:], folder=folder)
+        made = (folder / "paris.svg").exists() if "--svg" in example else output != ""
+        check(f"  {example}", (int("--diff" in example), True, ""), (status, made, errors))
+
+
 def try_help(program, folder):
     """What --help and --version say."""
     status, output, errors = run(program, "--help")
@@ -442,7 +486,9 @@ def try_help(program, folder):
     line = f"zonedump {version} (proved with {kit}, {logic})\n"
     check("--version", (0, line, ""), run(program, "--version"))
     try_record(program, folder, line)
+    check("-h and -V", [(0, output, ""), (0, line, "")], [run(program, "-h"), run(program, "-V")])
     check("no arguments name --text", True, "--text TZ" in run(program)[2])
+    try_help_examples(program, folder, output)
     options = set(re.findall(r"--[a-z]+", re.search(r"(?s)Options:\n(.*?)\n\n", output).group(1)))
     forms = {"zonedump.1": r"\\-\\-([a-z]+)", "zonedump.bash": r"--([a-z]+)", "zonedump.zsh": r"--([a-z]+)", "zonedump.fish": r" -l ([a-z]+)"}
     for name, form in forms.items():
@@ -470,8 +516,9 @@ def wrong_steps(picture, zone, seconds, start, until):
     zoneinfo's offsets, the ticks of the picture and the sides of its chart."""
     ticks = sorted((seconds_of_tick(tick.text), float(tick.get("y")) - 4) for tick in shapes(picture, "end"))
     (low, bottom), (high, top) = ticks[0], ticks[-1]
-    offsets = [int(datetime.fromtimestamp(second, timezone.utc).astimezone(zone).utcoffset().total_seconds())
-               for second in [start, *seconds]]
+    # A local time that is shown more than once has the offset of one of its instants, so the offset is the difference to UTC.
+    shown = lambda second: datetime.fromtimestamp(second, zone).replace(tzinfo=None) - datetime(1970, 1, 1)
+    offsets = [int(shown(second).total_seconds()) - second for second in [start, *seconds]]
     across = [90 + 780 * (second - start) / (until - start) for second in seconds]
     down = [top + (high - offset) * (bottom - top) / (high - low or 1) for offset in offsets]
     due = [(x, before, after) for x, before, after in zip(across, down, down[1:]) if before != after]
@@ -525,6 +572,10 @@ def try_svg(program, folder):
         run(program, *span, "--svg", "line", "good", folder=folder)
         seconds = seconds_of_table(run(program, *span, "good", folder=folder)[1])
         check(f"  its line from {first} to {last}", [], wrong_steps((folder / "line").read_bytes(), zone, seconds, second_of(first), second_of(last + 1)))
+    for words, heading, panels in ((["--from", "2019", "--to", "2030"], "2019 to 2030", 24), (["--from", "2018", "--to", "2030"], "2030", 2), ([], "2030", 2)):
+        many = run(program, "--svg", "-", *words, "America/New_York")[1].encode()
+        check(f"  its panels with {' '.join(words) or 'no years'}", (True, panels),
+              ([text.text for text in shapes(many, "head")][0].startswith(f"{heading}: "), len(shapes(many, "what"))))
     text = "<-03>3<-02>,M3.5.0/22,M10.5.0/23:30"
     check("--svg of a text", (0, "", ""), run(program, *year, "--svg", "by_text", "--text", text, folder=folder))
     check("  its title", [text], [title.text for title in shapes((folder / "by_text").read_bytes(), "title")])
@@ -549,11 +600,11 @@ def try_zone_names(program, folder):
     check("--tzdir", (0, f"Here/Now\n{good}", ""), run(program, "--tzdir", str(place), "Here/Now"))
     os.environ["TZDIR"] = str(place)
     check("TZDIR", (0, f"Here/Now\n{good}", ""), run(program, "Here/Now"))
-    check("  has not the others", refused("Asia/Tokyo", UNKNOWN), run(program, "Asia/Tokyo"))
+    check("  has not the others", refused("Asia/Tokyo", NO_ZONE.format(place)), run(program, "Asia/Tokyo"))
     del os.environ["TZDIR"]
     for name in ("../good", "Here/../../good", "./Here/Now", "Here//Now", "Here/", "Here"):
         status, output, errors = run(program, "--tzdir", str(place), name, folder=place.parent.parent)
-        check(f"  {name} is no name", (1, "", True), (status, output, "no such file or zone" in errors))
+        check(f"  {name} is no name", (1, "", True), (status, output, "no such file" in errors))
     given = subprocess.run([str(program), "-"], stdin=open(folder / "good", "rb"), capture_output=True, text=True)
     check("standard input", (0, f"-\n{good}", ""), (given.returncode, given.stdout, given.stderr))
     copied = subprocess.run([str(program), "--write", "-", "good"], cwd=folder, capture_output=True)
@@ -621,6 +672,8 @@ def try_at(program):
           run(program, "--at", "2026-11-01T09:00", "Asia/Tokyo"))
     check("  with seconds and Z", (0, "Europe/Paris  2026-11-01 10:00:30 +01:00 std CET, until 2027-03-28 01:00:00 UTC\n", ""),
           run(program, "--at", "2026-11-01T09:00:30Z", "Europe/Paris"))
+    for time in ("2026-11-01T09:00Z", "2026-11-01 09:00", "2026-11-01T10:00+01:00", "2026-11-01T03:30-05:30", "2026-10-31T23:00:00-10:00"):
+        check(f"  of {time}", (0, "Asia/Tokyo  2026-11-01 18:00:00 +09:00 std JST, with no later change\n", ""), run(program, "--at", time, "Asia/Tokyo"))
     for time, name, words in LOCAL_TIMES:
         check(f"--local {time} {name}", (0, f"{name}  {words}\n", ""), run(program, "--at", time, "--local", name))
 
@@ -642,11 +695,16 @@ def try_summary(program, folder):
           run(program, *years, "--diff", "before", "before", "--summary", folder=folder))
     check("  of two files", (1, "zones that differ: 1 of 1; only in good: 0; only in new: 0\n"),
           (lambda s, o, e: (s, o.splitlines(True)[-1]))(*run(program, *years, "--diff", "good", "new", "--summary", folder=folder)))
-    times = "2021-07-01T12:00,moved\n2021-12-01T12:00 moved\n\n2021-07-01T12:00Z moved\n2021-07-01 12:00:00,a/same\n"
+    due = "moved\n" + due.splitlines(True)[1] + "zones that differ: 1 of 1; only in before/right: 0; only in after/right: 0\n"
+    check("  of right/ by name", (1, due, ""), run(program, *years, "--diff", "before/right", "after/right", "--summary", folder=folder))
+    names = [line for line in run(program, *years, "--diff", "before", "after", folder=folder)[1].splitlines() if not line.startswith("2")]
+    check("  and without --summary", ["again", "b/added: only in after", "gone: only in before", "moved", "right/moved"], names)
+    times = "2021-07-01T12:00,moved\n2021-12-01T12:00 moved\n\n2021-07-01T12:00Z moved\n2021-07-01 12:00:00,a/same\n2021-07-01T14:00+02:00,moved\n"
     (folder / "times").write_text(times)
     due = ("2021-07-01T12:00,moved: 2021-07-01 16:00:00 UTC becomes 2021-07-01 17:00:00 UTC\n"
            "2021-07-01T12:00Z moved: 2021-07-01 08:00:00 becomes 2021-07-01 07:00:00\n"
-           "times that move: 2 of 4\n")
+           "2021-07-01T14:00+02:00,moved: 2021-07-01 08:00:00 becomes 2021-07-01 07:00:00\n"
+           "times that move: 3 of 5\n")
     check("--times", (1, due, ""), run(program, "--diff", "before", "after", "--times", "times", folder=folder))
     given = subprocess.run([str(program), "--diff", "before", "after", "--times", "-"], cwd=folder, input=times, capture_output=True, text=True)
     check("  of standard input", (1, due, ""), (given.returncode, given.stdout, given.stderr))
@@ -656,8 +714,11 @@ def try_summary(program, folder):
            "times that move: 2 of 3\n")
     check("  of two files", (1, due, ""), run(program, "--diff", "good", "new", "--times", "times", folder=folder))
     (folder / "times").write_text("soon,moved\n2021-07-01T12:00,../good\n2021-07-01T12:00,none\n2021-12-01T12:00,moved\n")
-    status, output, errors = run(program, "--diff", "before", "after", "--times", "times", folder=folder)
-    check("  with lines that aren't times", (2, "times that move: 0 of 4\n", 3), (status, output, errors.count("\n")))
+    none = "name one after the time, as in 2026-11-01T09:00,Europe/Paris"
+    due = ("zonedump: line 1: not a time like 2026-11-01T09:00 or 2026-11-01T09:00Z: soon,moved\n"
+           f"zonedump: line 2: before has no zone ../good; {none}\nzonedump: line 3: before has no zone none; {none}\n")
+    check("  with lines that aren't times", (2, "times that move: 0 of 4\n", due),
+          run(program, "--diff", "before", "after", "--times", "times", folder=folder))
 
 
 def fits(value, form, forms):
@@ -706,6 +767,7 @@ def try_wrong_uses(program, folder):
 
 FAULTS = r"""
 #define _GNU_SOURCE
+#include <dlfcn.h>
 #include <errno.h>
 #include <fcntl.h>
 #include <stdarg.h>
@@ -744,6 +806,10 @@ CALL(int, unlink, (const char *path), path)
 CALL(int, unlinkat, (int folder, const char *path, int flags), folder, path, flags)
 CALL(ssize_t, readlink, (const char *restrict path, char *restrict to, size_t room), path, to, room)
 CALL(ssize_t, readlinkat, (int folder, const char *restrict path, char *restrict to, size_t room), folder, path, to, room)
+char *realpath(const char *restrict path, char *restrict to) {
+    if (fails("realpath")) return NULL;
+    return ((char *(*)(const char *, char *))dlsym(RTLD_NEXT, "realpath"))(path, to);
+}
 int getentropy(void *to, size_t size) { return fails("getentropy") ? -1 : (syscall(SYS_getrandom, to, size, 0) == (long)size ? 0 : -1); }
 """
 
@@ -768,8 +834,10 @@ def try_faults(program, folder):
     (folder / "faults.c").write_text(FAULTS)
     subprocess.run(["cc", "-shared", "-fPIC", "-o", "faults.so", "faults.c"], cwd=folder, check=True)
     diff = ["--from", "2021", "--to", "2021", "--diff", "before", "after"]
-    for words, status in ((diff, 2), ([*diff, "--summary"], 2), ([*diff, "--json"], 2), ([*diff, "--times", "times"], 2), (["good"], 1),
-                          (["--json", "good", "new"], 1), (["--at", "@0", "--tzdir", ".", "before/moved"], 1)):
+    for words, status in ((diff, 2), ([*diff, "--summary"], 2), ([*diff, "--json"], 2), ([*diff, "--times", "times"], 2),
+                          (["--diff", "good", "new"], 2), (["good"], 1), (["--json", "good", "new"], 1), (["--zdump", "good", "new"], 1),
+                          (["--at", "@0", "--tzdir", ".", "before/moved"], 1), (["--at", "2021-07-01", "--local", "good", "new"], 1),
+                          (["--svg", "-", "good"], 1), (["Europe/Paris"], 1)):
         due, calls, wrong = run(program, *words, folder=folder), 0, []
         for calls, (name, *answer) in enumerate(runs_with_faults(program, words, folder), 1):
             lines = set(answer[1].splitlines())
@@ -807,17 +875,42 @@ def try_failing_writes(program, folder):
 
 
 def try_memory(program, folder):
-    """The table of a zone needs memory for the zone, and not for its lines."""
+    """A table and a picture of a zone need memory for the zone, and not for what is printed."""
     count = 1_000_000
     block = lambda size, form: b"TZif2" + bytes(15) + struct.pack(">6l", 0, 0, 0, count if size else 0, 2 if size else 1, 8 if size else 4)
     times = struct.pack(f">{count}q", *range(-2_000_000_000, -2_000_000_000 + 3000 * count, 3000))
     (folder / "many").write_bytes(block(0, 0) + struct.pack(">lBB", 0, 0, 0) + b"UTC\0" + block(8, 0) + times + bytes([1, 0]) * (count // 2)
                                   + struct.pack(">lBB", 0, 0, 0) + struct.pack(">lBB", 3600, 1, 4) + b"AAA\0BBB\0" + b"\n\n")
-    most = []
-    for words in (["--at", "@0"], ["--from", "1", "--to", "9999"]):
-        child = subprocess.Popen([str(program), *words, "many"], cwd=folder, stdout=subprocess.DEVNULL)
-        most.append(os.wait4(child.pid, 0)[2].ru_maxrss)
-    check("memory of a table of a million lines", True, most[1] < most[0] + 2048)
+    least = most_memory(program, folder, ["--at", "@0", "many"])
+    # A picture has four changes at each of 7,801 places, and its text.
+    for words, more in (["--from", "1", "--to", "9999"], 2048), (["--svg", "-", "--from", "1", "--to", "9999"], 2048), (
+            ["--svg", "-", "--from", "1900", "--to", "2037"], 8192), (["--svg", "picture"], 8192):
+        check(f"memory of {' '.join(words)} of a million changes", True, most_memory(program, folder, [*words, "many"]) < least + more)
+    try_crowd(program, folder)
+
+
+def most_memory(program, folder, words):
+    """The most memory that the program takes, in KiB."""
+    child = subprocess.Popen([str(program), *words], cwd=folder, stdout=subprocess.DEVNULL)
+    return os.wait4(child.pid, 0)[2].ru_maxrss
+
+
+def try_crowd(program, folder):
+    """A picture of changes of which a hundred lie at one place of the chart: each is in a band or a step of its line."""
+    offsets = (0, 3600, -18000, 20700, 45900, -34200)
+    times = [946_684_800 + 2_500_000 * crowd + 30 * place for crowd in range(40) for place in range(100)]
+    kinds = [(7 * place * place + place // 3) % 5 for place in range(len(times))]
+    kinds = [(kind + 1) % 6 if kind == before else kind for before, kind in zip([5, *kinds], kinds)]
+    head = lambda count, types: b"TZif2" + bytes(15) + struct.pack(">6l", 0, 0, 0, count, types, 4)
+    types = b"".join(struct.pack(">lBB", offset, 0, 0) for offset in offsets)
+    (folder / "crowd").write_bytes(head(0, 1) + struct.pack(">lBB", 0, 0, 0) + b"AAA\0" + head(len(times), 6)
+                                   + struct.pack(f">{len(times)}q", *times) + bytes(kinds) + types + b"AAA\0" + b"\n\n")
+    with open(folder / "crowd", "rb") as file:
+        zone = ZoneInfo.from_file(file)
+    words = ["--from", "2000", "--to", "2003"]
+    due = seconds_of_table(run(program, *words, "crowd", folder=folder)[1])
+    picture = run(program, "--svg", "-", *words, "crowd", folder=folder)[1].encode()
+    check("a picture of crowds", (True, [], 24), (len(due) > 3000, wrong_steps(picture, zone, due, second_of(2000), second_of(2004)), len(shapes(picture, "what"))))
 
 
 def main():
@@ -828,15 +921,12 @@ def main():
         make_files(folder)
         told = run(program, "good", folder=folder)
         check("a good file", (0, ""), (told[0], told[2]))
-        for file, why in WRONG.items():
-            check(f"{file}", refused(file, why), run(program, file, folder=folder))
         among = run(program, "empty", "good", "folder", folder=folder)
         check("a good file among wrong ones", (1, told[1]), among[:2])
-        check("the lines of the wrong ones", 2, among[2].count("\n"))
+        check("the lines of the wrong ones", 3, among[2].count("\n"))
         for words in (["good"], ["--from", "2021", "--to", "2022", "--text", "EST5EDT,M3.2.0,M11.1.0"]):
             try_json(program, words, folder)
-        for file, why in WRONG.items():
-            check(f"--json {file}", refused(file, why), run(program, "--json", file, folder=folder))
+        try_fault_places(program, folder)
         try_write(program, folder)
         try_failed_writes(program, folder)
         try_names(program, folder)
@@ -864,29 +954,32 @@ def main():
     for text in WRONG_TEXTS:
         status, output, errors = run(program, "--text", text)
         check(f"--text {text!r}", (1, "", True), (status, output, f"{text}: not a TZ string: " in errors))
-    for text, shown, words, place, column, hint in POINTED:
-        due = f"zonedump: {shown}: not a TZ string: {words}\n  {shown}\n  {' ' * column}^ at offset {place}\n{hint}"
-        check(f"the caret under {text!r}", (1, "", due), run(program, "--text", text))
-        check(f"the caret under {text!r} with --extended", (1, "", due), run(program, "--extended", "--text", text))
     return exit_status()
 
 
 ONE_ZONE = "zonedump: --{} takes one zone; call zonedump once for each zone\n"
 TWO = "zonedump: --diff takes two files or two folders, as in zonedump --diff OLD NEW"
 FOLDER = "a folder; name a file in it, or compare two with zonedump --diff OLD NEW"
-BOUND = "--{0} takes a year from 1 to 9999 or a date, as in --{0} 2026 or --{0} 2026-03-01; '{1}' is neither"
+BOUND = "--{0} takes a year from 1 to 9999 or a date, as in --{0} 2026 or --{0} 2026-03-01; '{1}' is no such year or date"
 EARLIER = "the defaults are --from 1900 and --to 2037"
-TIME = "--at takes a time, as in --at 2026-11-01T09:00 or --at @1793523600; '{}' is neither"
+TIME = "--at takes a time, as in --at 2026-11-01T09:00 or --at @1793523600; '{}' is no such time"
+LOCAL = "--local takes a local time, as in --at 2026-11-01T09:00 --local; '{}' is an instant"
+LINES = "zonedump: --times takes a file with a time on each line, as 2026-11-01T09:00,Europe/Paris"
 TIMES = "not a zone; write a time as --at 2026-11-01T09:00, and years or dates as --from 2026 --to 2027-03-31"
 LEAVE_OUT = "Leave out one of them; --help has examples."
 AS_ZDUMP = "  tip: --zdump prints what zdump -v prints; --from and --to take years or dates\n--help has examples."
-UNKNOWN = "no such file or zone; a zone has a name like Europe/Paris"
+NO_VALUE = "Leave out = and what follows it; --help has examples."
+NO_NAME = "no such file or zone; a zone has a name like Europe/Paris"
+NO_ZONE = "no such file, and {} has no such zone; zones have names like Europe/Paris, and --tzdir FOLDER names another tz database"
+UNKNOWN = NO_ZONE.format(DATABASE)
 
-MAGIC = "not a TZif file: invalid TZif file: expected TZif at the front of a header (5) at offset 0"
+NO_TZIF = "\nzonedump: name a TZif file, which zic makes, or a zone, as in zonedump Europe/Paris"
+NO_MAGIC = "not a TZif file: invalid TZif file: expected TZif at the front of a header (5) at offset 0"
+MAGIC = NO_MAGIC + NO_TZIF
 SHORT = "not a TZif file: unexpected end: expected more bytes (7) at offset {}"
 
 WRONG = {
-    "zip": MAGIC, "text": MAGIC, "limit": MAGIC, "empty": SHORT.format(0), "head": SHORT.format(30), "short": SHORT.format(200),
+    "zip": MAGIC, "text": MAGIC, "limit": MAGIC, "empty": SHORT.format(0) + NO_TZIF, "head": SHORT.format(30), "short": SHORT.format(200),
     "footer": "not a TZif file: invalid TZif file: expected a footer between newlines (5) at offset 1724",
     "large": "larger than 64 MiB", "folder": FOLDER,
     "missing": UNKNOWN,
@@ -940,15 +1033,30 @@ WRONG_USES = (
     ("zonedump America/New", 1, "zonedump: America/New: no such file or zone; did you mean America/New_York?"),
     ("zonedump Foo/Bar", 1, f"zonedump: Foo/Bar: {UNKNOWN}"),
     ("zonedump PST", 1, f"zonedump: PST: {UNKNOWN}"),
+    ("zonedump help", 1, f"zonedump: help: {UNKNOWN}"),
+    ("zonedump utc", 1, "zonedump: utc: no such file or zone; did you mean UTC?"),
+    ("zonedump America/new york", 1,
+     f"zonedump: America/new: no such file or zone; did you mean America/New_York?\nzonedump: york: {UNKNOWN}"),
+    ("zonedump ./paris", 1, f"zonedump: ./paris: {NO_NAME}"),
+    (f"zonedump {DATABASE}/Europe/Pariss", 1, f"zonedump: {DATABASE}/Europe/Pariss: no such file or zone; did you mean Europe/Paris?"),
+    (f"zonedump {DATABASE}", 1, f"zonedump: {DATABASE}: {FOLDER}"),
+    ("zonedump ''", 1, "zonedump: '': no such file or zone; a TZ string is given by --text ''"),
+    ("zonedump text", 1, f"zonedump: text: {MAGIC}"),
+    ("zonedump empty", 1, f"zonedump: empty: {WRONG['empty']}"),
+    ("zonedump good.gz", 1, f"zonedump: good.gz: {NO_MAGIC}\nzonedump: good.gz is compressed: unpack it, as in gunzip -c good.gz | zonedump -"),
     ("zonedump EST5EDT,M3.2.0,M11.1.0", 1,
      "zonedump: EST5EDT,M3.2.0,M11.1.0: no such file or zone; a TZ string is given by --text 'EST5EDT,M3.2.0,M11.1.0'"),
     ("zonedump UTC+1", 1, "zonedump: UTC+1: no such file or zone; a TZ string is given by --text 'UTC+1', with + for west of UTC"),
     ("zonedump CET-1CEST", 1,
      "zonedump: CET-1CEST: no such file or zone; a TZ string needs a rule, as in --text 'CET-1CEST,M3.5.0,M10.5.0/3'"),
-    ("zonedump 2026", 1, f"zonedump: 2026: {TIMES}"),
+    ("zonedump 2026", 2, f"zonedump: 2026: {TIMES}"),
+    ("zonedump Europe/Paris 2026-11-01", 2, f"zonedump: 2026-11-01: {TIMES}"),
     ("zonedump folder", 1, f"zonedump: folder: {FOLDER}"),
     ("zonedump --tzdir nowhere Europe/Paris", 1,
      "zonedump: Europe/Paris: no such file, and no tz database is here; name its folder with --tzdir FOLDER"),
+    ("zonedump --tzdir good Europe/Paris", 1,
+     "zonedump: Europe/Paris: no such file, and no tz database is here; name its folder with --tzdir FOLDER"),
+    ("zonedump --tzdir folder Europe/Paris", 1, f"zonedump: Europe/Paris: {NO_ZONE.format('folder')}"),
     ("zonedump --text America/New_York", 1,
      "zonedump: America/New_York: not a TZ string: invalid number: expected a digit (10)\n"
      "  America/New_York\n         ^ at offset 7\n"
@@ -971,6 +1079,9 @@ WRONG_USES = (
     ("zonedump --to soon Europe/Paris", 2, f"zonedump: {BOUND.format('to', 'soon')}"),
     ("zonedump --to 2026-02-29 Europe/Paris", 2, f"zonedump: {BOUND.format('to', '2026-02-29')}"),
     ("zonedump --from 2026-3-1 Europe/Paris", 2, f"zonedump: {BOUND.format('from', '2026-3-1')}"),
+    ("zonedump --from 2026-13-01 Europe/Paris", 2, f"zonedump: {BOUND.format('from', '2026-13-01')}"),
+    ("zonedump --from 2026 --to Europe/Paris", 2,
+     "zonedump: name a zone, as in zonedump Europe/Paris, or write --text TZ; zonedump --help has examples"),
     ("zonedump --from 0000-01-01 Europe/Paris", 2, f"zonedump: {BOUND.format('from', '0000-01-01')}"),
     ("zonedump --from 2026-03-01T09:00 Europe/Paris", 2, f"zonedump: {BOUND.format('from', '2026-03-01T09:00')}"),
     ("zonedump --from 2040 --to 1990 Europe/Paris", 2, f"zonedump: --from 2040 is after --to 1990; {EARLIER}"),
@@ -981,17 +1092,32 @@ WRONG_USES = (
     ("zonedump --at now Europe/Paris", 2, f"zonedump: {TIME.format('now')}"),
     ("zonedump --at 1793523600 Europe/Paris", 2, f"zonedump: {TIME.format('1793523600')}"),
     ("zonedump --at 2026-02-29T09:00 Europe/Paris", 2, f"zonedump: {TIME.format('2026-02-29T09:00')}"),
-    ("zonedump --at 2026-11-01T09:00+01:00 Europe/Paris", 2, f"zonedump: {TIME.format('2026-11-01T09:00+01:00')}"),
-    ("zonedump --at 2026-11-01T09:00Z --local Europe/Paris", 2, f"zonedump: {TIME.format('2026-11-01T09:00Z')}"),
+    ("zonedump --at 2026-11-01T24:00 Europe/Paris", 2, f"zonedump: {TIME.format('2026-11-01T24:00')}"),
+    ("zonedump --at 2026-11-01T09:00+1 Europe/Paris", 2, f"zonedump: {TIME.format('2026-11-01T09:00+1')}"),
+    ("zonedump --at Europe/Paris 2026-11-01", 2, f"zonedump: {TIME.format('Europe/Paris')}"),
+    ("zonedump --at 2026-11-01 09:00 Europe/Paris", 2, f"zonedump: 09:00: {TIMES}"),
+    ("zonedump Europe/Paris --at", 2, "error: a value is required for '--at <TIME>' but none was supplied\n--help has examples."),
+    ("zonedump --at 2026-11-01T09:00Z --local Europe/Paris", 2, f"zonedump: {LOCAL.format('2026-11-01T09:00Z')}"),
+    ("zonedump --at @0 --local Europe/Paris", 2, f"zonedump: {LOCAL.format('@0')}"),
     ("zonedump --at 2026-11-01T09:00", 2,
      "zonedump: name a zone, as in zonedump Europe/Paris, or write --text TZ; zonedump --help has examples"),
     ("zonedump --at 2026-11-01 --json Europe/Paris", 2, f"error: the argument '--at <TIME>' cannot be used with '--json'\n{LEAVE_OUT}"),
     ("zonedump --local Europe/Paris", 2, "zonedump: --local goes with --at, as in --at 2026-11-01T09:00 --local"),
+    ("zonedump --extended Europe/Paris", 2, f"error: the argument '--extended' cannot be used with '[ZONE]...'\n{LEAVE_OUT}"),
+    ("zonedump --diff", 2, TWO),
     ("zonedump --diff good", 2, TWO),
+    ("zonedump --diff good new good", 2, TWO),
+    ("zonedump --diff - -", 2, "zonedump: --diff reads standard input once; name a file for OLD or NEW"),
+    ("zonedump --diff=before after", 2, f"error: unexpected value 'before' for '--diff' found; no more were expected\n{NO_VALUE}"),
+    ("zonedump --diff 2025b 2026f", 2, f"zonedump: 2025b: {UNKNOWN}\nzonedump: 2026f: {UNKNOWN}"),
+    ("zonedump --diff before after --times", 2, "error: a value is required for '--times <FILE>' but none was supplied\n--help has examples."),
+    ("zonedump --diff before after --times nowhere", 2, f"zonedump: nowhere: No such file or directory (os error 2)\n{LINES}"),
+    ("zonedump --diff before after --times folder", 2, f"zonedump: folder: Is a directory (os error 21)\n{LINES}"),
+    ("zonedump --json=yes Europe/Paris", 2, f"error: unexpected value 'yes' for '--json' found; no more were expected\n{NO_VALUE}"),
     ("zonedump --diff good folder", 2, f"{TWO} (folder is a folder, good is not)"),
     ("zonedump --diff good Europe/Pariss", 2, "zonedump: Europe/Pariss: no such file or zone; did you mean Europe/Paris?"),
     ("zonedump --summary good", 2, "zonedump: --summary goes with --diff, as in zonedump --diff OLD NEW --summary"),
-    ("zonedump --times times good", 2, "zonedump: --times goes with --diff, as in zonedump --diff OLD NEW --times"),
+    ("zonedump --times times good", 2, "zonedump: --times FILE goes with --diff, as in zonedump --diff OLD NEW --times FILE"),
     ("zonedump --write Europe/Paris", 2, "zonedump: --write takes a new file and then a zone, as in zonedump --write NEW Europe/Paris"),
     ("zonedump --write x Europe/Paris Asia/Tokyo", 2, "zonedump: --write takes one zone; call zonedump once for each zone"),
     ("zonedump --svg Europe/Paris", 2, "zonedump: --svg takes a new file and then a zone, as in zonedump --svg NEW Europe/Paris"),

@@ -14,7 +14,8 @@ const USAGE: &str = "zonedump [OPTIONS] ZONE..
 
 const NOTES: &str = "ZONE is a name such as Europe/Paris, a TZif file, or - for standard input.
 WHEN is a year from 1 to 9999 or a date such as 2026-03-01, in UTC; the whole of it is included.
-TIME is 2026-11-01T09:00, 2026-11-01 or @1793523600 (Unix time), in UTC unless --local is given.
+TIME is 2026-11-01T09:00 or 2026-11-01 (in UTC unless --local is given), 2026-11-01T10:00+01:00, or
+@1793523600 (Unix time).
 --write and --svg take one zone, and write to standard output if NEW is -.
 --diff takes two files or two folders.
 

@@ -1,7 +1,7 @@
 //! Two files compared, or the files of two folders.
 
 use crate::output::print;
-use crate::source::{path_of, zone_of_file};
+use crate::source::{STANDARD, path_of, zone_of_file};
 use crate::summary::Summary;
 use crate::words::{NOT_UTF8, is_utf8, report, say, shown};
 use crate::{files, folders, guesses, times};
@@ -54,6 +54,13 @@ pub fn compare(rt: &HostRuntime, words: [&str; 2], asked: Compared<'_>) -> u8 {
 // Compares what the two words lead to.
 fn compare_words(rt: &HostRuntime, words: [&str; 2], asked: Compared<'_>) -> io::Result<u8> {
     let [old, new] = words;
+    if old == STANDARD && new == STANDARD {
+        say(
+            rt,
+            "--diff reads standard input once; name a file for OLD or NEW",
+        );
+        return Ok(ERROR);
+    }
     let old = path_or_report(rt, old, asked.folders)?;
     let new = path_or_report(rt, new, asked.folders)?;
     match (old, new) {
@@ -63,6 +70,9 @@ fn compare_words(rt: &HostRuntime, words: [&str; 2], asked: Compared<'_>) -> io:
 }
 
 fn path_or_report(rt: &HostRuntime, word: &str, folders: &[String]) -> io::Result<Option<String>> {
+    if word == STANDARD {
+        return Ok(Some(String::from_str(rt.alloc(), word)?));
+    }
     let found = path_of(rt, word, folders)?;
     if found.is_none() {
         guesses::report_unknown(rt, word, folders)?;
@@ -104,6 +114,9 @@ enum PathKind {
 }
 
 fn path_kind(rt: &HostRuntime, path: &str) -> PathKind {
+    if path == STANDARD {
+        return PathKind::File;
+    }
     if !is_utf8(path) {
         report(rt, path, NOT_UTF8);
         return PathKind::Unread;

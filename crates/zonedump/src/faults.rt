@@ -18,6 +18,8 @@ pub enum Fault<'a> {
     /// What is to come first comes last.
     InReverse(Bound, Bound),
     NoTime(&'a str),
+    /// The time of `--at .. --local` is an instant.
+    NotLocal(&'a str),
     NoZone,
     /// No zone for the file of this option.
     NoZoneFor(&'a str),
@@ -38,7 +40,7 @@ impl fmt::Display for Fault<'_> {
         match *self {
             Fault::NoBound(name, value) => write!(
                 f,
-                "--{name} takes a year from 1 to 9999 or a date, as in --{name} 2026 or --{name} 2026-03-01; '{}' is neither",
+                "--{name} takes a year from 1 to 9999 or a date, as in --{name} 2026 or --{name} 2026-03-01; '{}' is no such year or date",
                 OneLine(value)
             ),
             Fault::InReverse(first, last) => write!(
@@ -47,7 +49,12 @@ impl fmt::Display for Fault<'_> {
             ),
             Fault::NoTime(value) => write!(
                 f,
-                "--at takes a time, as in --at 2026-11-01T09:00 or --at @1793523600; '{}' is neither",
+                "--at takes a time, as in --at 2026-11-01T09:00 or --at @1793523600; '{}' is no such time",
+                OneLine(value)
+            ),
+            Fault::NotLocal(value) => write!(
+                f,
+                "--local takes a local time, as in --at 2026-11-01T09:00 --local; '{}' is an instant",
                 OneLine(value)
             ),
             Fault::NoZone => f.write_str(

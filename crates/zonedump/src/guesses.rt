@@ -1,7 +1,7 @@
 //! What to type in place of a word that is no file and no zone, or of a TZ string that is rejected.
 
 use crate::folders;
-use crate::words::{Quoted, is_utf8, report, say};
+use crate::words::{OneLine, Quoted, is_utf8, report, say};
 use std::alloc::Global;
 use std::{fmt, io};
 use strsim::levenshtein;
@@ -15,28 +15,49 @@ const LETTERS: usize = 4;
 // A longer word is no slip of a name.
 const LONGEST: usize = 60;
 
+// What a TZif file begins with, and what gzip writes begins with.
+const MAGIC: [u8; 4] = *b"TZif";
+
+const GZIP: [u8; 2] = [0x1f, 0x8b];
+
 /// Says that a word is no file and no zone, and what to type.
 ///
 /// # Errors
 ///
 /// There is no memory for the names of zones.
 pub fn report_unknown(rt: &HostRuntime, word: &str, folders: &[String]) -> io::Result<()> {
-    if !folders
-        .iter()
-        .any(|folder| folders::is_folder(rt, folder.as_str()))
-    {
+    let Some(folder) = database_in(rt, folders) else {
         report(rt, word, Advice::Folder);
         return Ok(());
-    }
-    let advice = advice_for(rt.alloc(), word);
+    };
+    let advice = advice_for(rt.alloc(), word, folder);
     match advice {
         Advice::Text(_) | Advice::Time => report(rt, word, advice),
-        _ => match nearest(rt, word, folders)? {
+        _ => match nearest(rt, word, folder)? {
             Some(name) => report(rt, word, Advice::Name(name.as_str())),
             None => report(rt, word, advice),
         },
     }
     Ok(())
+}
+
+// The first of the folders that exists.
+fn database_in<'a>(rt: &HostRuntime, folders: &'a [String]) -> Option<&'a str> {
+    for folder in folders.iter() {
+        if folders::is_folder(rt, folder.as_str()) {
+            return Some(folder.as_str());
+        }
+    }
+    None
+}
+
+/// Says what to type in place of a file that is rejected, if it doesn't begin as a TZif file.
+pub fn hint_for_file(rt: &HostRuntime, word: &str, bytes: &[u8]) {
+    if bytes.starts_with(&GZIP) {
+        say(rt, Hint::Compressed(word));
+    } else if !bytes.starts_with(&MAGIC) {
+        say(rt, Hint::File);
+    }
 }
 
 /// Says what to type in place of a TZ string that is rejected with that fault, if it is the name of
@@ -56,18 +77,24 @@ pub fn hint_for(rt: &HostRuntime, text: &str, fault: &Error) -> io::Result<()> {
 }
 
 // What to type for a word if no name is near to it.
-fn advice_for(alloc: Global, word: &str) -> Advice<'_> {
+fn advice_for<'a>(alloc: Global, word: &'a str, folder: &'a str) -> Advice<'a> {
     match TimeZone::from_posix_tz(alloc, word) {
         Ok(_) => Advice::Text(word),
         Err(Error::UnsupportedTzString(_)) => Advice::Rule(word),
         Err(_) if is_time(word) => Advice::Time,
+        Err(_) if zoned_files::is_zone_name(word) => Advice::NoZone(folder),
         Err(_) => Advice::AnyName,
     }
 }
 
-// Whether a word has digits, colons and hyphens only.
-fn is_time(word: &str) -> bool {
-    word.bytes().all(|byte| byte.is_ascii_digit() || byte == b':' || byte == b'-')
+/// Whether a word begins with a digit, and has only digits, colons and hyphens.
+pub fn is_time(word: &str) -> bool {
+    match word.as_bytes().first() {
+        Some(first) if first.is_ascii_digit() => word.bytes().all(|byte| byte.is_ascii_digit()
+            || byte == b':'
+            || byte == b'-'),
+        _ => false,
+    }
 }
 
 // What to type in place of a word that is no file and no zone.
@@ -83,6 +110,8 @@ enum Advice<'a> {
     Rule(&'a str),
     // The word is a date, a time of day or a year.
     Time,
+    // The word may be the name of a zone, which this folder has not.
+    NoZone(&'a str),
     AnyName,
 }
 
@@ -113,6 +142,11 @@ impl fmt::Display for Advice<'_> {
             Advice::Time => f.write_str(
                 "not a zone; write a time as --at 2026-11-01T09:00, and years or dates as --from 2026 --to 2027-03-31",
             ),
+            Advice::NoZone(folder) => write!(
+                f,
+                "no such file, and {} has no such zone; zones have names like Europe/Paris, and --tzdir FOLDER names another tz database",
+                OneLine(folder)
+            ),
             Advice::AnyName => {
                 f.write_str("no such file or zone; a zone has a name like Europe/Paris")
             }
@@ -120,13 +154,17 @@ impl fmt::Display for Advice<'_> {
     }
 }
 
-// What to type in place of a TZ string that is rejected.
+// What to type in place of a TZ string or a file that is rejected.
 #[derive(Clone, Copy)]
 enum Hint<'a> {
-    // It is the name of a zone.
+    // The TZ string is the name of a zone.
     Name(&'a str),
-    // It has no rule.
+    // The TZ string has no rule.
     Rule(&'a str),
+    // The file of that name is compressed.
+    Compressed(&'a str),
+    // The file is none that zic makes.
+    File,
 }
 
 impl fmt::Display for Hint<'_> {
@@ -144,6 +182,16 @@ impl fmt::Display for Hint<'_> {
                 "a rule says when daylight saving time starts and ends, as in {}",
                 WithRule(text)
             ),
+            Hint::Compressed(name) => {
+                let name = Quoted(name);
+                write!(
+                    f,
+                    "{name} is compressed: unpack it, as in gunzip -c {name} | zonedump -"
+                )
+            }
+            Hint::File => f.write_str(
+                "name a TZif file, which zic makes, or a zone, as in zonedump Europe/Paris",
+            ),
         }
     }
 }
@@ -160,20 +208,12 @@ impl fmt::Display for WithRule<'_> {
 
 // The name of a zone that is nearest to the word, if few letters are wrong. The name's last part
 // serves as well, as `Paris`.
-fn nearest(rt: &HostRuntime, word: &str, folders: &[String]) -> io::Result<Option<String>> {
-    if word.len() > LONGEST || !is_utf8(word) {
+fn nearest(rt: &HostRuntime, word: &str, folder: &str) -> io::Result<Option<String>> {
+    let name = zone_of_path(word);
+    if name.len() > LONGEST || !is_utf8(word) {
         return Ok(None);
     }
-    for folder in folders.iter() {
-        if folders::is_folder(rt, folder.as_str()) {
-            return nearest_in(rt, word, folder.as_str());
-        }
-    }
-    Ok(None)
-}
-
-fn nearest_in(rt: &HostRuntime, word: &str, folder: &str) -> io::Result<Option<String>> {
-    let wanted = plain(rt.alloc(), word)?;
+    let wanted = plain(rt.alloc(), name)?;
     let names = folders::contents_of(rt, folder)?.files;
     let mut least = SLIPS.min(wanted.len() / LETTERS) + 1;
     let mut found = None;
@@ -189,6 +229,14 @@ fn nearest_in(rt: &HostRuntime, word: &str, folder: &str) -> io::Result<Option<S
         }
     }
     Ok(found)
+}
+
+/// Returns the name of the zone that a path into a tz database leads to, or else the path.
+pub fn zone_of_path(path: &str) -> &str {
+    match path.split_once("/zoneinfo/") {
+        Some((_, name)) => name,
+        None => path,
+    }
 }
 
 // How many letters of the word are wrong for that name, or for its last part. One that lacks the end

@@ -85,6 +85,7 @@ fn mended(line: &str, kind: Rejection) -> &str {
     }
     match kind {
         Rejection::ArgumentConflict => "Leave out one of them; --help has examples.",
+        Rejection::TooManyValues => "Leave out = and what follows it; --help has examples.",
         _ => "--help has examples.",
     }
 }
@@ -139,6 +140,10 @@ fn write_zones(
         return Ok(if is_done { DONE } else { FAILED });
     }
     let folders = folders_of(rt, matches)?;
+    if let Some(time) = time_among(rt, words, folders.as_slice())? {
+        guesses::report_unknown(rt, time, folders.as_slice())?;
+        return Ok(WRONG);
+    }
     if draws_over(rt, asked.what, words, folders.as_slice())? {
         return Ok(refuse(rt, Fault::DrawsOver));
     }
@@ -153,6 +158,20 @@ fn folders_of(rt: &HostRuntime, matches: &ArgMatches<'_>) -> io::Result<Vec<Stri
     let mut folders = Vec::new(rt.alloc());
     folders.push(String::from_str(rt.alloc(), folder)?)?;
     Ok(folders)
+}
+
+// A word that is a time or a date, and no file, as the time of day after `--at 2026-11-01`.
+fn time_among<'a>(
+    rt: &HostRuntime,
+    words: &[&'a str],
+    folders: &[String],
+) -> io::Result<Option<&'a str>> {
+    for word in words {
+        if guesses::is_time(word) && source::path_of(rt, word, folders)?.is_none() {
+            return Ok(Some(word));
+        }
+    }
+    Ok(None)
 }
 
 // Whether the picture is to replace a file that is read.

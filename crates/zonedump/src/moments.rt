@@ -1,14 +1,18 @@
-//! Times as they are typed: `2026`, `2026-11-01`, `2026-11-01T09:00`, `2026-11-01T09:00:30Z`, `@1793523600`.
+//! Times as they are typed: `2026`, `2026-11-01`, `2026-11-01T09:00`, `2026-11-01T09:00:30Z`,
+//! `2026-11-01T09:00+01:00`, `@1793523600`.
 
 use naive_base::{Datelike, NaiveDate, NaiveDateTime, NaiveTime};
 use zonedump_lib::Bound;
+
+// How many bytes an offset has, as `+01:00`.
+const OFFSET: usize = 6;
 
 /// A time as it is typed.
 #[derive(Clone, Copy)]
 pub enum Typed {
     /// A date and a time of day, with no zone.
     Plain(NaiveDateTime),
-    /// A Unix time: the text ends in `Z`, or has the seconds after `@`.
+    /// A Unix time: the text ends in `Z` or in an offset, or has the seconds after `@`.
     Instant(i64),
 }
 
@@ -21,7 +25,25 @@ pub fn read_time(text: &str) -> Option<Typed> {
     if let Some(utc) = text.strip_suffix('Z') {
         return Some(Typed::Instant(date_time_of(utc)?.secs_since_epoch()));
     }
+    if let Some(second) = second_of(text) {
+        return Some(Typed::Instant(second));
+    }
     Some(Typed::Plain(date_time_of(text)?))
+}
+
+// The second of a time with its offset from UTC, as `2026-11-01T09:00+01:00`.
+fn second_of(text: &str) -> Option<i64> {
+    let (local, offset) = text.split_at_checked(text.len().checked_sub(OFFSET)?)?;
+    let second = date_time_of(local)?.secs_since_epoch();
+    if let Some(clock) = offset.strip_prefix('+') {
+        return Some(second.saturating_sub(seconds_of(clock)?));
+    }
+    Some(second.saturating_add(seconds_of(offset.strip_prefix('-')?)?))
+}
+
+// The seconds of an offset, `01:00`.
+fn seconds_of(clock: &str) -> Option<i64> {
+    Some(time_of(clock)?.num_seconds_from_midnight() as i64)
 }
 
 /// Returns the year or the date that a text means. `None` if it is neither, or not in the years 1 to

@@ -2,6 +2,7 @@
 
 use crate::answers::{When, push_answer};
 use crate::files;
+use crate::guesses::zone_of_path;
 use crate::source::{STANDARD, Source};
 use crate::words::{NOT_UTF8, is_utf8, report, shown};
 use naive_base::{Datelike, NaiveDateTime};
@@ -39,8 +40,15 @@ pub struct Asked<'a> {
 #[derive(Clone, Copy)]
 struct Picture {
     period: Period,
+    // How many changes may each have a panel.
+    most: usize,
     colors: Colors,
 }
+
+// How many changes of a period that is given may each have a panel, and how many of another one.
+const MANY: usize = 24;
+
+const FEW: usize = 8;
 
 /// Prints or writes a zone, and returns whether that was done. Why not is reported.
 ///
@@ -61,6 +69,7 @@ pub fn write_out(rt: &HostRuntime, source: Source<'_>, asked: Asked<'_>) -> io::
         What::Draw(path, colors) => {
             let picture = Picture {
                 period: period_to_draw(&zone, asked),
+                most: if asked.has_period { MANY } else { FEW },
                 colors,
             };
             draw(rt, name, &zone, picture, path)
@@ -132,8 +141,12 @@ fn draw(
     picture: Picture,
     path: &str,
 ) -> io::Result<bool> {
-    let Picture { period, colors } = picture;
-    match zonedump_lib::draw(rt.alloc(), title_of(name), zone, period, colors) {
+    let Picture {
+        period,
+        most,
+        colors,
+    } = picture;
+    match zonedump_lib::draw(rt.alloc(), zone_of_path(name), zone, period, most, colors) {
         Ok(picture) => write_file(rt, path, picture.as_bytes()),
         Err(_) => Ok(skip(rt, name)),
     }
@@ -165,14 +178,6 @@ fn whole_year(second: i64) -> Option<Period> {
     let date = NaiveDateTime::from_timestamp_opt(second, 0)?.date();
     let year = u16::try_from(date.year()).ok()?;
     Period::new(Bound::Year(year), Bound::Year(year))
-}
-
-// The title of a picture: of a path into a tz database the zone's name.
-fn title_of(name: &str) -> &str {
-    match name.split_once("/zoneinfo/") {
-        Some((_, title)) => title,
-        None => name,
-    }
 }
 
 // Says that memory ran out for a zone.

@@ -33,7 +33,7 @@ fn check_zones<'a>(matches: &ArgMatches<'a>, zones: usize) -> Result<(), Fault<'
         return Err(Fault::WithoutDiff("summary"));
     }
     if matches.get_str("times").is_some() {
-        return Err(Fault::WithoutDiff("times"));
+        return Err(Fault::WithoutDiff("times FILE"));
     }
     if matches.get_str("colors").is_some() && matches.get_str("svg").is_none() {
         return Err(Fault::ColorsWithoutPicture);
@@ -75,8 +75,7 @@ fn bound_of<'a>(
 // What is done with the zones.
 fn what_of<'a>(matches: &ArgMatches<'a>) -> Result<What<'a>, Fault<'a>> {
     if let Some(time) = matches.get_str("at") {
-        let when = when_of(time, matches.get_flag("local")).ok_or(Fault::NoTime(time))?;
-        return Ok(What::Answer(when));
+        return Ok(What::Answer(when_of(time, matches.get_flag("local"))?));
     }
     if matches.get_flag("local") {
         return Err(Fault::LocalWithoutTime);
@@ -104,13 +103,13 @@ fn colors_of<'a>(matches: &ArgMatches<'a>) -> Result<Colors, Fault<'a>> {
     }
 }
 
-// The time of `--at`. A local time has no `Z`.
-fn when_of(time: &str, is_local: bool) -> Option<When> {
-    match read_time(time)? {
-        Typed::Plain(local) if is_local => Some(When::Local(local)),
-        Typed::Plain(utc) => Some(When::Instant(utc.secs_since_epoch())),
-        Typed::Instant(_) if is_local => None,
-        Typed::Instant(second) => Some(When::Instant(second)),
+// The time of `--at`. A local time is no instant.
+fn when_of<'a>(time: &'a str, is_local: bool) -> Result<When, Fault<'a>> {
+    match read_time(time).ok_or(Fault::NoTime(time))? {
+        Typed::Plain(local) if is_local => Ok(When::Local(local)),
+        Typed::Plain(utc) => Ok(When::Instant(utc.secs_since_epoch())),
+        Typed::Instant(_) if is_local => Err(Fault::NotLocal(time)),
+        Typed::Instant(second) => Ok(When::Instant(second)),
     }
 }
 

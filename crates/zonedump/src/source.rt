@@ -120,6 +120,7 @@ pub fn zone_of_file(
         Ok(zone) => Ok(Some(zone)),
         Err(fault) => {
             reject_file(rt, word, &fault);
+            guesses::hint_for_file(rt, word, bytes.as_slice());
             Ok(None)
         }
     }
@@ -175,14 +176,14 @@ fn bytes_or_report(
     }
 }
 
-/// Returns the path that a word leads to: the word itself, or if it is relative and no such file
-/// exists, that of the zone of that name in the folders. `None` if there is neither.
+/// Returns the path that a word leads to: the word itself, or if no such file exists, that of the zone
+/// of that name in the folders. `None` if there is neither.
 ///
 /// # Errors
 ///
 /// There is no memory for the path.
 pub fn path_of(rt: &HostRuntime, word: &str, folders: &[String]) -> io::Result<Option<String>> {
-    if word.starts_with('/') || !is_missing(rt, word) {
+    if !is_missing(rt, word) {
         return Ok(Some(String::from_str(rt.alloc(), word)?));
     }
     zoned_files::path_of(rt, word, folders)

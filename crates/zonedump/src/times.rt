@@ -10,8 +10,11 @@ use offset_core::Around;
 use std::fmt::Write;
 use std::{fmt, io};
 use tz_info::TimeZone;
-use zoned_files::path_in;
 use zonedump_lib::Clock;
+
+// What the file of the times has.
+const LINES: &str =
+    "--times takes a file with a time on each line, as 2026-11-01T09:00,Europe/Paris";
 
 // A zone of both versions, under its name.
 #[derive(Drop)]
@@ -53,11 +56,13 @@ pub fn print_moves(
         Ok(bytes) => bytes,
         Err(error) => {
             report(rt, file, error);
+            say(rt, LINES);
             return Ok(ERROR);
         }
     };
     let Ok(text) = str::from_utf8(bytes.as_slice()) else {
         report(rt, file, "not UTF-8");
+        say(rt, LINES);
         return Ok(ERROR);
     };
     let mut versions = Versions {
@@ -105,7 +110,7 @@ fn print_line(
         );
         return Ok(ERROR);
     };
-    let Some(pair) = pair_of(rt, name, versions)? else {
+    let Some(pair) = pair_of(rt, place, name, versions)? else {
         return Ok(ERROR);
     };
     let old = Found::of(&pair.old, time);
@@ -136,6 +141,7 @@ fn parts_of(line: &str, has_name: bool) -> (&str, &str) {
 // The zone of that name in both versions, read once.
 fn pair_of<'v>(
     rt: &HostRuntime,
+    place: usize,
     name: &str,
     versions: &'v mut Versions<'_>,
 ) -> io::Result<Option<&'v Pair>> {
@@ -143,13 +149,13 @@ fn pair_of<'v>(
         .pairs
         .iter()
         .position(|pair| pair.name.as_str() == name);
-    if let Some(place) = known {
-        return Ok(versions.pairs.get(place));
+    if let Some(known) = known {
+        return Ok(versions.pairs.get(known));
     }
-    let Some(old) = zone_in(rt, versions.old, name, versions.are_folders)? else {
+    let Some(old) = zone_in(rt, versions.old, place, name, versions.are_folders)? else {
         return Ok(None);
     };
-    let Some(new) = zone_in(rt, versions.new, name, versions.are_folders)? else {
+    let Some(new) = zone_in(rt, versions.new, place, name, versions.are_folders)? else {
         return Ok(None);
     };
     let name = String::from_str(rt.alloc(), name)?;
@@ -157,23 +163,27 @@ fn pair_of<'v>(
     Ok(versions.pairs.last())
 }
 
+// The zone of that name in one version. The line at that place asks for it.
 fn zone_in(
     rt: &HostRuntime,
-    place: &str,
+    version: &str,
+    place: usize,
     name: &str,
     is_folder: bool,
 ) -> io::Result<Option<TimeZone>> {
     if !is_folder {
-        return zone_of_file(rt, place, &[]);
+        return zone_of_file(rt, version, &[]);
     }
-    match path_in(rt.alloc(), place, name)? {
+    let mut folders = Vec::new(rt.alloc());
+    folders.push(String::from_str(rt.alloc(), version)?)?;
+    match zoned_files::path_of(rt, name, folders.as_slice())? {
         Some(path) => zone_of_file(rt, path.as_str(), &[]),
         None => {
-            let name = shown(name);
-            let why = format!(in rt.alloc();
-                "{name}: not the name of a zone; write one after the time, as in 2026-11-01T09:00,Europe/Paris"
-            )?;
-            say(rt, why);
+            let (version, name) = (shown(version), shown(name));
+            let number = place as u64 as u128 + 1;
+            let _ = eprintln!(rt;
+                "zonedump: line {number}: {version} has no zone {name}; name one after the time, as in 2026-11-01T09:00,Europe/Paris"
+            );
             Ok(None)
         }
     }

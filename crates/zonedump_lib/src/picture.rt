@@ -5,9 +5,9 @@ mod frame;
 mod line;
 mod panels;
 mod scale;
+mod thinned;
 mod words;
 
-use crate::changes::changes_in;
 use crate::period::{Bound, Period, SECONDS_PER_DAY};
 use chart::put_chart;
 pub use frame::Colors;
@@ -15,16 +15,15 @@ use frame::{put_heading, put_opening, put_title};
 use gregorian::{is_day, year_of, year_start};
 use panels::put_panels;
 use std::alloc::{AllocError, Global};
+use thinned::thinned;
 use tz_info::{Change, LocalTimeType, TimeZone};
 
-// The most changes that each have a panel.
-const FEW: usize = 8;
-
 /// Returns a picture of the zone's clocks in the period, as SVG: a chart of the offset from UTC, with
-/// a step at each change, and a panel for each change, or if there are more than eight, for each of
-/// the last year that has one, with what wall clocks skip or repeat.
+/// a step at each change, and a panel for each change, or if there are more than `most`, for the last
+/// ones of the last year that has one, with what wall clocks skip or repeat.
 ///
-/// Each part of the chart's line that is wide enough has its abbreviation.
+/// Each part of the chart's line that is wide enough has its abbreviation. However many changes there
+/// are, the picture has at most some megabytes, and drawing it takes about as much memory.
 ///
 /// # Errors
 ///
@@ -34,18 +33,19 @@ pub fn draw(
     title: &str,
     zone: &TimeZone,
     period: Period,
+    most: usize,
     colors: Colors,
 ) -> Result<String, AllocError> {
-    let changes = changes_in(alloc, zone, period)?;
+    let changes = thinned(alloc, zone, period)?;
+    let panels = with_panels(alloc, zone, period, most)?;
     let start = type_at(zone, period.from());
     let mut out = String::new(alloc);
-    put_picture(&mut out, title, period, start, &changes, colors)?;
+    put_picture(&mut out, title, period, start, &changes, &panels, colors)?;
     Ok(out)
 }
 
-/// Appends a picture of those changes in the period, under that title: a chart, whose line begins at
-/// the offset of `start`, and a panel for each change, or if there are more than eight, for each of
-/// the last year that has one. Changes are in order of time.
+/// Appends a picture of the period under that title: a chart, whose line begins at the offset of
+/// `start` and has those changes, and the panels. Both lists are in order of time.
 ///
 /// # Errors
 ///
@@ -56,9 +56,9 @@ pub fn put_picture(
     period: Period,
     start: LocalTimeType,
     changes: &[Change],
+    panels: &[Change],
     colors: Colors,
 ) -> Result<(), AllocError> {
-    let panels = with_panels(changes);
     put_opening(out, title, period, panels, colors)?;
     put_title(out, title, period)?;
     put_chart(out, period, &start, changes)?;
@@ -75,12 +75,43 @@ fn type_at(zone: &TimeZone, second: i64) -> LocalTimeType {
     }
 }
 
-// The changes that have a panel.
-fn with_panels(changes: &[Change]) -> &[Change] {
-    match changes.last() {
-        Some(last) if changes.len() > FEW => since(changes, year_at(last.at)),
-        _ => changes,
+// The changes that have a panel, in order: all, or if there are more than `most`, the last ones of the
+// last year that has one.
+fn with_panels(
+    alloc: Global,
+    zone: &TimeZone,
+    period: Period,
+    most: usize,
+) -> Result<Vec<Change>, AllocError> {
+    let (from, until) = (period.from(), period.until());
+    let all = last_changes(alloc, zone, from, until, most.saturating_add(1))?;
+    match all.last() {
+        Some(last) if all.len() > most => {
+            let first = year_start(year_at(last.at)).saturating_mul(SECONDS_PER_DAY);
+            last_changes(alloc, zone, first.max(from), until, most)
+        }
+        _ => Ok(all),
     }
+}
+
+// The last changes from one second until another, at most so many, in order.
+fn last_changes(
+    alloc: Global,
+    zone: &TimeZone,
+    from: i64,
+    until: i64,
+    most: usize,
+) -> Result<Vec<Change>, AllocError> {
+    let mut left = zone.changes(from, until);
+    let mut found = Vec::new(alloc);
+    for _ in 0..most {
+        match left.next_back() {
+            Some(change) => found.push(change)?,
+            None => break,
+        }
+    }
+    found.reverse();
+    Ok(found)
 }
 
 // The years that changes come in.
@@ -94,11 +125,4 @@ fn years_of(changes: &[Change]) -> Option<Period> {
 fn year_at(at: i64) -> i32 {
     let day = at.div_euclid(SECONDS_PER_DAY);
     if is_day(day) { year_of(day) } else { 0 }
-}
-
-// The changes from the first second of a year on.
-fn since(changes: &[Change], year: i32) -> &[Change] {
-    let first = year_start(year).saturating_mul(SECONDS_PER_DAY);
-    let earlier = changes.iter().filter(|change| change.at < first).count();
-    changes.get(earlier..).unwrap_or(&[])
 }

@@ -53,7 +53,7 @@ fn put_stretches(
             put_step(
                 out,
                 right,
-                scale.down_to(&shown),
+                scale.down_to(&change.before),
                 scale.down_to(&change.after),
             )?;
         }

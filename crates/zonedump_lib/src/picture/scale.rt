@@ -75,12 +75,7 @@ impl Scale {
 
     /// Returns how far to the right a second lies.
     pub(super) fn across(self, at: i64) -> u64 {
-        let passed = part(
-            at.abs_diff(self.from),
-            self.until.abs_diff(self.from),
-            RIGHT - LEFT,
-        );
-        passed.saturating_add(LEFT)
+        across_between(self.from, self.until, at)
     }
 
     /// Returns how far down an offset lies. The only offset lies in the middle.
@@ -100,6 +95,16 @@ impl Scale {
     pub(super) fn down_to(self, shown: &LocalTimeType) -> u64 {
         self.down(shown.offset() as i64)
     }
+}
+
+/// Returns how far to the right a second lies in a chart of that period.
+pub(super) fn across(period: Period, at: i64) -> u64 {
+    across_between(period.from(), period.until(), at)
+}
+
+fn across_between(from: i64, until: i64, at: i64) -> u64 {
+    let passed = part(at.abs_diff(from), until.abs_diff(from), RIGHT - LEFT);
+    passed.saturating_add(LEFT)
 }
 
 // The part `some` of `all`, of a length; at most the length.
