@@ -59,7 +59,7 @@ impl WrittenLocalInfo {
 fn second_before(local: i64, change: HeldChange<'_>) -> i64
     requires local { IsInRange local }
     requires more { local <ℤ (change.at +ℤ change.after.now.offset) }
-    ensures { result ≡ change.at -ℤ pos 1 }
+    ensures { result ≡ change.entry.at -ℤ pos 1 }
 {
     let _ = change.after.offset();
     change.at - 1
