@@ -295,6 +295,21 @@ int main(void) {
     IS(next.at, 67767976165557600);
     IS(zoned_zone_next_change(&zone, next.at, &next), ZONED_NO_CHANGE);
     IS(next.at, 67767976165557600);
+    /* Its changes change the offset, too. Those of AAA0BBB0,J60,J300 never do, whichever of them is asked for. */
+    IS(zoned_zone_next_offset_change(&zone, 1615705199, &next), ZONED_OK);
+    IS(next.at, 1615705200);
+    IS(next.before.offset, -18000);
+    IS(next.after.offset, -14400);
+    IS(zoned_zone_previous_offset_change(&zone, 1615705199, &next), ZONED_OK);
+    IS(next.at, 1604210400);
+    IS(zoned_zone_next_offset_change(&zone, 67767976165557600, &next), ZONED_NO_CHANGE);
+    IS(next.at, 1604210400);
+    struct zoned_zone flags = {0};
+    IS(zoned_open(ZONED_TEXT, "AAA0BBB0,J60,J300", 17, &flags), ZONED_OK);
+    IS(zoned_zone_next_change(&flags, 0, &next), ZONED_OK);
+    IS(zoned_zone_next_offset_change(&flags, 0, &next), ZONED_NO_CHANGE);
+    IS(zoned_zone_previous_offset_change(&flags, INT64_MAX, &next), ZONED_NO_CHANGE);
+    zoned_close(&flags);
     /* The spans around 2021-03-14 07:00:00 UTC; the last one of the rule; a second without a type. */
     zoned_span span;
     IS(zoned_zone_span(&zone, 1615705199, &span), ZONED_OK);

@@ -220,6 +220,16 @@ typedef struct zoned_change {
 uint32_t zoned_zone_next_change(const struct zoned_zone *zone, int64_t after, zoned_change *change);
 uint32_t zoned_zone_previous_change(const struct zoned_zone *zone, int64_t before_or_at, zoned_change *change);
 
+/* As these two, of the changes at which the offset changes: others change only the DST flag or the abbreviation, and are passed over.
+   They are the transitions of java.time and Joda-Time. In London clocks were set forward on 1968-02-18, British summer time became
+   standard time on 1968-10-27 (-37242000) at the same offset, and clocks were set back on 1971-10-31 (57722400): after 1968-02-18 that
+   is the next change of the offset.
+
+   The calls go from change to change, and past at most one more than the file has transitions. They end where a rule begins whose two
+   types have one offset. */
+uint32_t zoned_zone_next_offset_change(const struct zoned_zone *zone, int64_t after, zoned_change *change);
+uint32_t zoned_zone_previous_offset_change(const struct zoned_zone *zone, int64_t before_or_at, zoned_change *change);
+
 /* Writes the TZ string of the rule that governs from the zone's last transition on, as much as fits into `text` with a zero byte after it
    (nothing if text_len is 0). *length is the length of the whole string, as with snprintf: 0 if the zone has no rule.
 
@@ -474,6 +484,8 @@ ZONED_CHECKED(zoned_zone_span, (1, 3));
 ZONED_CHECKED(zoned_zone_standard_offset, (1, 3));
 ZONED_CHECKED(zoned_zone_next_change, (1, 3));
 ZONED_CHECKED(zoned_zone_previous_change, (1, 3));
+ZONED_CHECKED(zoned_zone_next_offset_change, (1, 3));
+ZONED_CHECKED(zoned_zone_previous_offset_change, (1, 3));
 ZONED_CHECKED(zoned_zone_rule_text, (1, 4));
 ZONED_CHECKED(zoned_zone_changes, (1, 7));
 ZONED_CHECKED(zoned_zone_wall_clock, (1, 3));
