@@ -165,9 +165,13 @@ static void try_open(struct tried *to) {
     uint32_t number = zoned_open(bytes.kind, bytes.at, bytes.len, &to->zone);
     EXPECT(number == fresh_offsets(bytes, NULL, 0, NULL));
     EXPECT(number < 18 || (number >= ZONED_OTHER_TYPE_INDEX && number <= ZONED_OTHER_RULE) || number == ZONED_UNKNOWN_KIND);
-    int is_string = bytes.kind == ZONED_TEXT || bytes.kind == ZONED_EXTENDED_STRING;
+    int is_fault = number && number != ZONED_OUT_OF_MEMORY && number != ZONED_UNKNOWN_KIND;
     size_t position = zoned_fault_position(bytes.kind, bytes.at, bytes.len);
-    EXPECT(is_string && number ? position <= bytes.len : position == SIZE_MAX);
+    EXPECT(is_fault ? position <= bytes.len : position == SIZE_MAX);
+    struct zoned_zone limited = {0};
+    uint32_t within = zoned_open_limited(bytes.kind, bytes.at, bytes.len, SIZE_MAX, SIZE_MAX, &limited);
+    EXPECT(within == number);
+    zoned_close(&limited);
     if (number) {
         EXPECT(to->zone.zone == before);
         free(bytes.at);
@@ -974,7 +978,7 @@ static void try_calls(uint64_t count) {
             try_saving(one);
             try_reached(one);
             try_rule_text(one);
-            calls += 6;
+            calls += 8;
             break;
         case 10:
             try_list(one);

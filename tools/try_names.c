@@ -96,7 +96,7 @@ static void try_words(void) {
         IS(strcmp(words, text), 0);
     }
     IS(strcmp(zoned_error_words(UINT32_MAX), "no number of this library"), 0);
-    IS(strcmp(zoned_error_words(ZONED_NO_SUCH_ZONE), zoned_error_words(48)) != 0, 1);
+    IS(strcmp(zoned_error_words(ZONED_ABOVE_LIMITS), zoned_error_words(49)) != 0, 1);
 }
 
 /* London, where British summer time became standard time on 1968-10-27, at the same offset, until 1971-10-31 (zdump -v). */

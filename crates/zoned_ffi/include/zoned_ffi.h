@@ -79,7 +79,8 @@ enum zoned_number {
     ZONED_OTHER_RULE = 44,             /* the footer of a TZif file disagrees with the last transition */
     ZONED_NO_SUCH_ZONE = 45,           /* there is no time zone of that name */
     ZONED_UNREADABLE_FILE = 46,        /* the file of a time zone can't be read */
-    ZONED_UNKNOWN_STEP = 47            /* no step of the local clock has that number */
+    ZONED_UNKNOWN_STEP = 47,           /* no step of the local clock has that number */
+    ZONED_ABOVE_LIMITS = 48            /* a TZif file has more transitions or leap seconds than allowed */
 };
 
 /* How often the clocks of a zone show a local time: `shown`. */
@@ -99,9 +100,21 @@ typedef struct zoned_zone {
    closed. */
 uint32_t zoned_open(uint32_t kind, const void *zone, size_t zone_len, struct zoned_zone *out);
 
-/* Returns how many bytes are in front of the fault for which zoned_open rejects a TZ string: where the first byte is with which no
-   string goes on; the number, the time or the name that is out of its limits; the end if bytes are missing; or the first byte that is
-   not UTF-8. SIZE_MAX: the string spells a zone, or `kind` is neither ZONED_TEXT nor ZONED_EXTENDED_STRING. */
+/* As zoned_open, but a file of more transitions or leap seconds than that is rejected: ZONED_ABOVE_LIMITS. It is found in the file's
+   headers, before memory is taken. The counts are those of the data block that the zone is read from: the only one of version 1, the
+   second one of versions 2 and 3. A fault of the headers, or of a file that is too short for its counts, comes first. A TZ string has no
+   transitions.
+
+   No file of Debian's tzdata 2025b has more than 310 transitions or 27 leap seconds. */
+uint32_t zoned_open_limited(uint32_t kind, const void *zone, size_t zone_len,
+                            size_t most_transitions, size_t most_leap_seconds, struct zoned_zone *out);
+
+/* Returns how many bytes are in front of the fault for which zoned_open rejects the bytes. In a TZ string: where the first byte is with
+   which no string goes on; the number, the time or the name that is out of its limits; the end if bytes are missing; or the first byte
+   that is not UTF-8. In a file: the end if it is too short, and else the first byte of the field whose value is rejected, such as a
+   version, a count, a type's DST flag, a transition's time or the TZ string of the footer.
+
+   SIZE_MAX: the bytes make a zone, no kind has that number, or there is no memory for a file's lists. */
 size_t zoned_fault_position(uint32_t kind, const void *zone, size_t zone_len);
 
 /* Opens the zone whose clocks are always `offset` seconds ahead of UTC. Its type has no abbreviation. ZONED_LOCAL_TIME_TYPE: no zone
@@ -473,6 +486,7 @@ size_t zoned_error_text(uint32_t number, char *text, size_t text_len);
 #pragma GCC diagnostic ignored "-Wredundant-decls"
 #define ZONED_CHECKED(call, pointers) extern __typeof__(call) call __attribute__((warn_unused_result, nonnull pointers))
 ZONED_CHECKED(zoned_open, (4));
+ZONED_CHECKED(zoned_open_limited, (6));
 ZONED_CHECKED(zoned_open_fixed, (2));
 ZONED_CHECKED(zoned_share, (1, 2));
 ZONED_CHECKED(zoned_zone_offset, (1, 3));
