@@ -1,5 +1,5 @@
 -- Walks from change to change, on and back, up to one at which the offset changes.
-use Rattle.tz_info.proofs.Words.{Alternate as AlternateRule, AlternateAt, Bool, Change, HasNoChange, IsBegin, IsChange, IsFirstChange, IsLastChange}
+use Rattle.tz_info.proofs.Words.{Alternate as AlternateRule, AlternateAt, Bool, Change, IsBegin, IsChange, IsFirstChange, IsLastChange}
 use Rattle.tz_info.proofs.Words.{IsNearestOffsetChange, IsOffsetChange, IsValid, KeepsOffset, LocalType, SFits, Some, TypeAt, Zone, ap, arith, by_lt_z}
 use Rattle.tz_info.proofs.Words.{cases_lt, false, inl, inr, ints, length, pos, refl, segment_of, sym, true, type_when, w64, ℤ, ◌-ℤ◌, ◌<ℤ◌, ◌∙◌, ◌≡◌, ◌≤ℤ◌}
 use Rattle.tz_info.specs.declared.rule.transition_rule.TransitionRule.TheVariants.{Alternate}
@@ -10,52 +10,6 @@ kept_one : (z : Zone) (c d : Change) → IsOffsetChange (TypeAt z) d → IsChang
 kept_one z c d h is same kept =
     let one = one_change z d c h.is is same in
     h.other (ap (λ (x : Change). x.before.offset) one ∙ kept ∙ sym (ap (λ (x : Change). x.after.offset) one))
-
-module _ (z : Zone) (after reached : ℤ) (order : after ≤ℤ reached) (kept : KeepsOffset (TypeAt z) (λ u. (after <ℤ u) × (u ≤ℤ reached))) where
-  -- ---- on from the second `after`
-  pub found_on : (c : Change) → IsFirstChange (TypeAt z) (λ u. reached <ℤ u) c → (c.before.offset ≡ c.after.offset → ⊥)
-      → IsNearestOffsetChange true (TypeAt z) (λ u. after <ℤ u) c
-  found_on c next other = let inside = next.inside in record {
-    is = record { is = next.is; other = other };
-    inside = omega (arith, ints);
-    nearest = λ d is later. by_lt_z reached d.at (λ l. next.nearest d is.is l) (λ m. absurd (kept d is (later, m)));
-  }
-
-  pub goes_on : (c : Change) → IsFirstChange (TypeAt z) (λ u. reached <ℤ u) c → c.before.offset ≡ c.after.offset
-      → KeepsOffset (TypeAt z) (λ u. (after <ℤ u) × (u ≤ℤ c.at))
-  goes_on c next same d is inside = by_lt_z reached d.at
-      (λ l. let least = next.nearest d is.is l in let most = inside.1 in kept_one z c d is next.is (omega (arith, ints)) same)
-      (λ m. kept d is (inside.0, m))
-
-  pub none_on : KeepsOffset (TypeAt z) (λ u. reached <ℤ u) → KeepsOffset (TypeAt z) (λ u. after <ℤ u)
-  none_on none d is later = by_lt_z reached d.at (λ l. none d is l) (λ m. kept d is (later, m))
-
-module _ (z : Zone) (last reached : ℤ) (order : reached ≤ℤ last) (kept : KeepsOffset (TypeAt z) (λ u. (reached <ℤ u) × (u ≤ℤ last))) where
-  -- ---- back from the second `last`
-  pub found_back : (c : Change) → IsLastChange (TypeAt z) (λ u. u ≤ℤ reached) c → (c.before.offset ≡ c.after.offset → ⊥)
-      → IsNearestOffsetChange false (TypeAt z) (λ u. u ≤ℤ last) c
-  found_back c next other = let inside = next.inside in record {
-    is = record { is = next.is; other = other };
-    inside = omega (arith, ints);
-    nearest = λ d is earlier. by_lt_z reached d.at (λ l. absurd (kept d is (l, earlier))) (λ m. next.nearest d is.is m);
-  }
-
-  pub goes_back : (c : Change) → IsLastChange (TypeAt z) (λ u. u ≤ℤ reached) c → c.before.offset ≡ c.after.offset
-      → KeepsOffset (TypeAt z) (λ u. ((c.at -ℤ pos 1) <ℤ u) × (u ≤ℤ last))
-  goes_back c next same d is inside = by_lt_z reached d.at
-      (λ l. kept d is (l, inside.1))
-      (λ m. let most = next.nearest d is.is m in let least = inside.0 in kept_one z c d is next.is (omega (arith, ints)) same)
-
-  pub none_back : KeepsOffset (TypeAt z) (λ u. u ≤ℤ reached) → KeepsOffset (TypeAt z) (λ u. u ≤ℤ last)
-  none_back none d is earlier = by_lt_z reached d.at (λ l. kept d is (l, earlier)) (λ m. none d is m)
-
--- where no change comes, the offset stays
-pub no_offset : (z : Zone) (within : ℤ → Type 0) → HasNoChange (TypeAt z) within → KeepsOffset (TypeAt z) within
-no_offset z within none d is inside = none d is.is inside
-
--- no second of 64 bits comes after the last one, and no change at the first one
-pub none_beyond : (z : Zone) (last : ℤ) → pos 9_223_372_036_854_775_807 ≤ℤ last → KeepsOffset (TypeAt z) (λ u. last <ℤ u)
-none_beyond z last beyond d is later = let fits = is.is.fits in omega (arith, ints)
 
 -- ---- a rule whose two types have one offset
 -- all transitions have come at a second with a type from `begin` on
@@ -81,3 +35,36 @@ rule_keeps z a begin valid rule h same d is later =
     let before = to_rule z a (d.at -ℤ pos 1) d.before valid rule all change.before in
     let after = to_rule z a d.at d.after valid rule (last_too z d.at valid all) change.after in
     is.other (offset_by_rule a (d.at -ℤ pos 1) d.before same before ∙ sym (offset_by_rule a d.at d.after same after))
+
+-- ---- walks
+module _ (z : Zone) (after reached : ℤ) (order : after ≤ℤ reached) (kept : KeepsOffset (TypeAt z) (λ u. (after <ℤ u) × (u ≤ℤ reached))) where
+  -- ---- on from the second `after`
+  pub found_on : (c : Change) → IsFirstChange (TypeAt z) (λ u. reached <ℤ u) c → (c.before.offset ≡ c.after.offset → ⊥)
+      → IsNearestOffsetChange true (TypeAt z) (λ u. after <ℤ u) c
+  found_on c next other = let inside = next.inside in record {
+    is = record { is = next.is; other = other };
+    inside = omega (arith, ints);
+    nearest = λ d is later. by_lt_z reached d.at (λ l. next.nearest d is.is l) (λ m. absurd (kept d is (later, m)));
+  }
+
+  pub goes_on : (c : Change) → IsFirstChange (TypeAt z) (λ u. reached <ℤ u) c → c.before.offset ≡ c.after.offset
+      → KeepsOffset (TypeAt z) (λ u. (after <ℤ u) × (u ≤ℤ c.at))
+  goes_on c next same d is inside = by_lt_z reached d.at
+      (λ l. let least = next.nearest d is.is l in let most = inside.1 in kept_one z c d is next.is (omega (arith, ints)) same)
+      (λ m. kept d is (inside.0, m))
+
+module _ (z : Zone) (last reached : ℤ) (order : reached ≤ℤ last) (kept : KeepsOffset (TypeAt z) (λ u. (reached <ℤ u) × (u ≤ℤ last))) where
+  -- ---- back from the second `last`
+  pub found_back : (c : Change) → IsLastChange (TypeAt z) (λ u. u ≤ℤ reached) c → (c.before.offset ≡ c.after.offset → ⊥)
+      → IsNearestOffsetChange false (TypeAt z) (λ u. u ≤ℤ last) c
+  found_back c next other = let inside = next.inside in record {
+    is = record { is = next.is; other = other };
+    inside = omega (arith, ints);
+    nearest = λ d is earlier. by_lt_z reached d.at (λ l. absurd (kept d is (l, earlier))) (λ m. next.nearest d is.is m);
+  }
+
+  pub goes_back : (c : Change) → IsLastChange (TypeAt z) (λ u. u ≤ℤ reached) c → c.before.offset ≡ c.after.offset
+      → KeepsOffset (TypeAt z) (λ u. ((c.at -ℤ pos 1) <ℤ u) × (u ≤ℤ last))
+  goes_back c next same d is inside = by_lt_z reached d.at
+      (λ l. kept d is (l, inside.1))
+      (λ m. let most = next.nearest d is.is m in let least = inside.0 in kept_one z c d is next.is (omega (arith, ints)) same)
