@@ -45,7 +45,7 @@ _Static_assert(offsetof(zoned_saving, standard_offset) == 0 && offsetof(zoned_sa
 _Static_assert(ZONED_UNKNOWN_UNIT == 36 && ZONED_NO_LOCAL_TIME == 37, "other numbers of a call");
 _Static_assert(ZONED_NO_DATE_TIME == 39 && ZONED_WIDE_ZONE == 40, "numbers of dates and offsets");
 _Static_assert(ZONED_NO_SUCH_ZONE == 45 && ZONED_UNREADABLE_FILE == 46, "numbers of names");
-_Static_assert(ZONED_UNKNOWN_STEP == 47, "the number of no step");
+_Static_assert(ZONED_UNKNOWN_STEP == 47 && ZONED_ABOVE_LIMITS == 48, "the numbers of no step and of a file above the limits");
 _Static_assert(ZONED_STEP_MINUTE == 60 && ZONED_STEP_HOUR == 3600 && ZONED_STEP_DAY == 86400, "steps of seconds");
 _Static_assert(ZONED_STEP_WEEK == 100000 && ZONED_STEP_MONTH == 200000 && ZONED_STEP_YEAR == 300000, "other steps");
 _Static_assert(sizeof(zoned_day) == 24 && _Alignof(zoned_day) == 8, "the size of a day");
@@ -135,6 +135,65 @@ static uint32_t fault_of(int32_t first, uint8_t first_index, int32_t second, uin
     return opened(ZONED_FILE, file, sizeof file);
 }
 
+/* What opening it with those limits returns. */
+static uint32_t limited(uint32_t kind, const void *bytes, size_t len, size_t most_transitions, size_t most_leap_seconds) {
+    struct zoned_zone zone = {0};
+    const uint32_t number = zoned_open_limited(kind, bytes, len, most_transitions, most_leap_seconds, &zone);
+    IS(zone.zone != NULL, number == ZONED_OK);
+    zoned_close(&zone);
+    return number;
+}
+
+/* A file of two transitions and a leap second, that of 1972-06-30: of version 1, and of version 2 before another block, which has none. */
+static void try_limits(void) {
+    uint8_t file[72 + 44 + 10 + 2] = {'T', 'Z', 'i', 'f'};
+    uint8_t *const times = file + 44, *const next = file + 72;
+    file[31] = 1, file[35] = 2, file[39] = 1, file[43] = 4;
+    times[3] = 1, times[7] = 2;
+    memcpy(file + 60, "UTC\0\x04\xb2\x58\0\0\0\0\x01", 12);
+    memcpy(next, "TZif2", 5);
+    next[39] = 1, next[43] = 4;
+    memcpy(next + 50, "UTC\0\n\n", 6);
+    IS(limited(ZONED_FILE, file, 72, 2, 1), ZONED_OK);
+    IS(limited(ZONED_FILE, file, 72, SIZE_MAX, SIZE_MAX), ZONED_OK);
+#ifdef OWN_HEAP
+    const long before = requests;
+#endif
+    IS(limited(ZONED_FILE, file, 72, 1, 1), ZONED_ABOVE_LIMITS);
+    IS(limited(ZONED_FILE, file, 72, 2, 0), ZONED_ABOVE_LIMITS);
+    IS(limited(ZONED_FILE, file, 71, 0, 0), ZONED_UNEXPECTED_END);
+    times[7] = 1; /* not later than the one before */
+    IS(limited(ZONED_FILE, file, 72, 1, 1), ZONED_ABOVE_LIMITS);
+#ifdef OWN_HEAP
+    IS(requests, before);
+#endif
+    IS(limited(ZONED_FILE, file, 72, 2, 1), ZONED_OTHER_TRANSITION_TIMES);
+    file[4] = '2';
+    IS(limited(ZONED_FILE, file, sizeof file, 0, 0), ZONED_OK);
+    IS(limited(ZONED_TEXT, NEW_YORK, LEN, 0, 0), ZONED_OK);
+    IS(limited(3, file, 72, 0, 0), ZONED_UNKNOWN_KIND);
+}
+
+/* The position of a file's fault. Counted by RFC 8536, section 3: a header has 44 bytes, with the version after 4 of them; in this file
+   two times of 4 bytes follow, two type indexes, a type of 6 bytes, four bytes of its designation, and a leap second. */
+static void try_positions(void) {
+    uint8_t file[73] = {'T', 'Z', 'i', 'f'};
+    file[31] = 1, file[35] = 2, file[39] = 1, file[43] = 4, file[47] = 1, file[51] = 2;
+    memcpy(file + 60, "UTC\0\x04\xb2\x58\0\0\0\0\x01", 12);
+    IS(zoned_fault_position(ZONED_FILE, file, 72), SIZE_MAX);
+    IS(zoned_fault_position(ZONED_FILE, file, 71), 71);
+    IS(zoned_fault_position(ZONED_FILE, file, 73), 72);
+    IS(zoned_fault_position(ZONED_FILE, file, 3), 3);
+    IS(zoned_fault_position(3, file, 71), SIZE_MAX);
+    const struct { uint8_t place, value, position; } FAULTS[] = {{0, 'X', 0}, {4, '4', 4}, {51, 1, 48}, {52, 1, 52}, {53, 1, 53}, {58, 2, 58}, {71, 2, 64}};
+    for (size_t i = 0; i < sizeof FAULTS / sizeof *FAULTS; i++) {
+        const uint8_t before = file[FAULTS[i].place];
+        file[FAULTS[i].place] = FAULTS[i].value;
+        IS(zoned_fault_position(ZONED_FILE, file, 72), FAULTS[i].position);
+        file[FAULTS[i].place] = before;
+    }
+}
+
 static uint32_t parsed(const char *text) { return opened(ZONED_TEXT, text, strlen(text)); }
 
 int main(void) {
@@ -165,6 +224,9 @@ int main(void) {
     IS(clocks[2].last, 1636304400);
 
     zoned_close(&zone);
+
+    try_limits();
+    try_positions();
 
     /* Numbers of faults. */
     IS(opened(ZONED_TEXT, NEW_YORK, LEN), ZONED_OK);
@@ -295,6 +357,21 @@ int main(void) {
     IS(next.at, 67767976165557600);
     IS(zoned_zone_next_change(&zone, next.at, &next), ZONED_NO_CHANGE);
     IS(next.at, 67767976165557600);
+    /* Its changes change the offset, too. Those of AAA0BBB0,J60,J300 never do, whichever of them is asked for. */
+    IS(zoned_zone_next_offset_change(&zone, 1615705199, &next), ZONED_OK);
+    IS(next.at, 1615705200);
+    IS(next.before.offset, -18000);
+    IS(next.after.offset, -14400);
+    IS(zoned_zone_previous_offset_change(&zone, 1615705199, &next), ZONED_OK);
+    IS(next.at, 1604210400);
+    IS(zoned_zone_next_offset_change(&zone, 67767976165557600, &next), ZONED_NO_CHANGE);
+    IS(next.at, 1604210400);
+    struct zoned_zone flags = {0};
+    IS(zoned_open(ZONED_TEXT, "AAA0BBB0,J60,J300", 17, &flags), ZONED_OK);
+    IS(zoned_zone_next_change(&flags, 0, &next), ZONED_OK);
+    IS(zoned_zone_next_offset_change(&flags, 0, &next), ZONED_NO_CHANGE);
+    IS(zoned_zone_previous_offset_change(&flags, INT64_MAX, &next), ZONED_NO_CHANGE);
+    zoned_close(&flags);
     /* The spans around 2021-03-14 07:00:00 UTC; the last one of the rule; a second without a type. */
     zoned_span span;
     IS(zoned_zone_span(&zone, 1615705199, &span), ZONED_OK);

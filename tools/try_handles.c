@@ -165,9 +165,13 @@ static void try_open(struct tried *to) {
     uint32_t number = zoned_open(bytes.kind, bytes.at, bytes.len, &to->zone);
     EXPECT(number == fresh_offsets(bytes, NULL, 0, NULL));
     EXPECT(number < 18 || (number >= ZONED_OTHER_TYPE_INDEX && number <= ZONED_OTHER_RULE) || number == ZONED_UNKNOWN_KIND);
-    int is_string = bytes.kind == ZONED_TEXT || bytes.kind == ZONED_EXTENDED_STRING;
+    int is_fault = number && number != ZONED_OUT_OF_MEMORY && number != ZONED_UNKNOWN_KIND;
     size_t position = zoned_fault_position(bytes.kind, bytes.at, bytes.len);
-    EXPECT(is_string && number ? position <= bytes.len : position == SIZE_MAX);
+    EXPECT(is_fault ? position <= bytes.len : position == SIZE_MAX);
+    struct zoned_zone limited = {0};
+    uint32_t within = zoned_open_limited(bytes.kind, bytes.at, bytes.len, SIZE_MAX, SIZE_MAX, &limited);
+    EXPECT(within == number);
+    zoned_close(&limited);
     if (number) {
         EXPECT(to->zone.zone == before);
         free(bytes.at);
@@ -278,6 +282,34 @@ static void try_changes(struct tried *of) {
     EXPECT(zoned_zone_type(&of->zone, from, &type) == ZONED_OK && is_same_type(&type, &next.before) && is_same_type(&type, &previous.after));
     int64_t between = begin + (int64_t)below((uint64_t)(end - begin) + 1);
     EXPECT(zoned_zone_type(&of->zone, between, &there) == ZONED_OK && is_same_type(&there, &type));
+}
+
+/* The next and the previous change of the offset: the first of the changes in between that has two offsets. */
+static void try_offset_changes(struct tried *of) {
+    int64_t from = second();
+    zoned_change found, step;
+    memset(&found, 0x55, sizeof found);
+    uint32_t after = zoned_zone_next_offset_change(&of->zone, from, &found);
+    EXPECT(of->of.at ? after == ZONED_OK || after == ZONED_NO_CHANGE : after == ZONED_NOT_OPEN);
+    if (after) EXPECT(is_untouched(&found, sizeof found));
+    if (!of->of.at) return;
+    step.at = from;
+    int steps = 0;
+    uint32_t number;
+    while ((number = zoned_zone_next_change(&of->zone, step.at, &step)) == ZONED_OK && step.before.offset == step.after.offset)
+        if (++steps == 1000) break;
+    if (steps < 1000) EXPECT(number == after && (number || memcmp(&step, &found, sizeof step) == 0));
+    memset(&found, 0x55, sizeof found);
+    uint32_t before = zoned_zone_previous_offset_change(&of->zone, from, &found);
+    EXPECT(before == ZONED_OK || before == ZONED_NO_CHANGE);
+    if (before) EXPECT(is_untouched(&found, sizeof found));
+    step.at = from;
+    steps = 0;
+    while ((number = zoned_zone_previous_change(&of->zone, step.at, &step)) == ZONED_OK && step.before.offset == step.after.offset) {
+        if (++steps == 1000) break;
+        step.at--;
+    }
+    if (steps < 1000) EXPECT(number == before && (number || memcmp(&step, &found, sizeof step) == 0));
 }
 
 /* Whether the zone has no type at the second. */
@@ -941,11 +973,12 @@ static void try_calls(uint64_t count) {
             break;
         case 9:
             try_changes(one);
+            try_offset_changes(one);
             try_span(one);
             try_saving(one);
             try_reached(one);
             try_rule_text(one);
-            calls += 6;
+            calls += 8;
             break;
         case 10:
             try_list(one);
@@ -990,7 +1023,7 @@ static uint64_t mix_clock(uint64_t sum, const zoned_wall_clock *clock) {
 static uint64_t ask_one(const struct zoned_zone *zone, int64_t at, uint64_t sum) {
     int32_t offset;
     zoned_local_type type;
-    zoned_change next = {0}, previous = {0}, of_local = {0};
+    zoned_change next = {0}, previous = {0}, next_offset = {0}, previous_offset = {0}, of_local = {0};
     zoned_local_info info = {0};
     zoned_wall_clock clock;
     zoned_resolved resolved, reached;
@@ -1010,10 +1043,13 @@ static uint64_t ask_one(const struct zoned_zone *zone, int64_t at, uint64_t sum)
                           zoned_zone_local_info(zone, at, &info),
                           zoned_zone_next_change(zone, at, &next),
                           zoned_zone_previous_change(zone, at, &previous),
+                          zoned_zone_next_offset_change(zone, at, &next_offset),
+                          zoned_zone_previous_offset_change(zone, at, &previous_offset),
                           zoned_zone_wall_clock(zone, at, &clock),
                           zoned_zone_instant(zone, ZONED_GAP_SHIFT_FORWARD, ZONED_FOLD_LATEST, at, &resolved)};
     sum = mix(mix(mix(sum, numbers, sizeof numbers), &offset, sizeof offset), &type, sizeof type);
     sum = mix(mix(sum, &next, sizeof next), &previous, sizeof previous);
+    sum = mix(mix(sum, &next_offset, sizeof next_offset), &previous_offset, sizeof previous_offset);
     sum = mix(mix(mix(sum, &span, sizeof span), &reached, sizeof reached), &of_local, sizeof of_local);
     sum = mix(mix(sum, &info.first, sizeof info.first), &info.last, sizeof info.last);
     sum = mix(mix(mix(sum, &clock_at, sizeof clock_at), &day, sizeof day), &floor, sizeof floor);
@@ -1264,6 +1300,8 @@ static void ask_on_painted_stack(const struct zoned_zone *zone) {
     WITHIN(OF_ONE_KB, zoned_zone_span(zone, at, &span));
     WITHIN(OF_ONE_KB, zoned_zone_next_change(zone, at, &change));
     WITHIN(OF_ONE_KB, zoned_zone_previous_change(zone, at, &change));
+    WITHIN(OF_ONE_KB, zoned_zone_next_offset_change(zone, at, &change));
+    WITHIN(OF_ONE_KB, zoned_zone_previous_offset_change(zone, at, &change));
     WITHIN(OF_ONE_KB, zoned_zone_changes(zone, at, at + 100000000, MOST, changes, MOST, &count));
     WITHIN(OF_ONE_KB, zoned_zone_wall_clock(zone, at, &clock));
     WITHIN(OF_ONE_KB, zoned_zone_instant(zone, ZONED_GAP_SHIFT_FORWARD, ZONED_FOLD_LATEST, at, &resolved));

@@ -96,7 +96,7 @@ static void try_words(void) {
         IS(strcmp(words, text), 0);
     }
     IS(strcmp(zoned_error_words(UINT32_MAX), "no number of this library"), 0);
-    IS(strcmp(zoned_error_words(ZONED_NO_SUCH_ZONE), zoned_error_words(48)) != 0, 1);
+    IS(strcmp(zoned_error_words(ZONED_ABOVE_LIMITS), zoned_error_words(49)) != 0, 1);
 }
 
 /* London, where British summer time became standard time on 1968-10-27, at the same offset, until 1971-10-31 (zdump -v). */
@@ -118,6 +118,15 @@ static void try_london(void) {
     IS(info.shown, ZONED_NEVER);
     IS(info.first.until, -59004000);
     IS(info.last.until, -37242000);
+    /* The offset is the same from one of these to the other. */
+    IS(zoned_zone_next_change(&zone, -59004000, &change), ZONED_OK);
+    IS(change.at, -37242000);
+    IS(zoned_zone_next_offset_change(&zone, -59004000, &change), ZONED_OK);
+    IS(change.at, 57722400);
+    IS(change.before.offset, 3600);
+    IS(change.after.offset, 0);
+    IS(zoned_zone_previous_offset_change(&zone, 57722399, &change), ZONED_OK);
+    IS(change.at, -59004000);
     IS(zoned_zone_rule_text(&zone, rule, sizeof rule, &length), ZONED_OK);
     IS(strcmp(rule, "GMT0BST,M3.5.0/1,M10.5.0"), 0);
     IS(length, strlen(rule));

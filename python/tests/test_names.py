@@ -268,10 +268,16 @@ def test_a_fault_of_a_text_has_a_position(text, position):
     assert pickle.loads(pickle.dumps(raised.value)).position == position
 
 
-def test_a_fault_of_a_file_has_no_position():
-    with pytest.raises(sahvumbi.ZoneRefusedError) as raised:
-        Zone.from_bytes(b"TZif")
-    assert raised.value.position is None
+# Counted by RFC 8536, section 3.1: four bytes, the version, and six counts of four bytes from the byte 20 on, the fifth of them
+# that of the types.
+@pytest.mark.parametrize(
+    "data, position",
+    [(b"TZif", 4), (b"TZiX", 0), (b"TZif4", 4), (b"TZif" + bytes(40), 36)],
+)
+def test_a_fault_of_a_file_has_a_position(data, position):
+    with pytest.raises(sahvumbi.ZoneRefusedError, match=f"at offset {position}$") as raised:
+        Zone.from_bytes(data)
+    assert raised.value.position == position
 
 
 @pytest.mark.parametrize("data", [5, "TZif", None, [84, 90]])

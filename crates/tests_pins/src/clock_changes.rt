@@ -3,6 +3,7 @@
 ghost use Rattle.std.specs.Prelude.{◌∷◌, [], neg_ℤ, pos, ⊤};
 ghost use Rattle.tz_base.specs.LocalTypes.{LocalType};
 ghost use Rattle.tz_info.specs.{Changes.{AreChanges, IsChange, IsFirst, IsFromUntil, IsLast}, Zones.{TypeAt}};
+ghost use Rattle.tz_info.specs.OffsetChanges.{IsFirstOfOffset, IsLastOfOffset, IsOffsetChange, KeepsOffset};
 ghost use Rattle.tests_pins.specs.Changes.{at_epoch, autumn, cet, change_at, dst_cet, renamed, spring};
 ghost use Rattle.tests_pins.specs.NewYork.{new_york_zone};
 
@@ -53,6 +54,21 @@ pub fn differences()
     ensures flag { IsChange (at_epoch cet dst_cet) (change_at (pos 0) cet dst_cet) }
     ensures none { ¬ (IsChange (at_epoch cet cet) (change_at (pos 0) cet cet)) }
     ensures other_second { ¬ (IsChange (at_epoch cet renamed) (change_at (pos 1) cet renamed)) }
+{}
+
+/// A change of only the DST flag or of only the name keeps the offset, so it is no change of the offset. New York's
+/// in spring is one, and the first one of 2021.
+pub fn offset_changes()
+    ensures flag { ¬ (IsOffsetChange (at_epoch cet dst_cet) (change_at (pos 0) cet dst_cet)) }
+    ensures name { ¬ (IsOffsetChange (at_epoch cet renamed) (change_at (pos 0) cet renamed)) }
+    ensures kept { KeepsOffset (at_epoch cet dst_cet) (λ u. ⊤) }
+    ensures spring { IsOffsetChange (TypeAt new_york_zone) spring }
+    ensures first { IsFirstOfOffset (TypeAt new_york_zone)
+        (IsFromUntil (pos 1_609_459_200) (pos 1_640_995_200)) (Some spring) }
+    ensures last { IsLastOfOffset (TypeAt new_york_zone)
+        (IsFromUntil (pos 1_609_459_200) (pos 1_640_995_200)) (Some autumn) }
+    ensures not_kept { ¬ (KeepsOffset (TypeAt new_york_zone)
+        (IsFromUntil (pos 1_609_459_200) (pos 1_640_995_200))) }
 {}
 
 /// The first second of 64 bits has no change, since no second of 64 bits comes before it; the

@@ -1,6 +1,8 @@
 -- The law of the pieces of a file.
-use Rattle.tz_info.proofs.Words.{Bool, Decided, FilePieces, HasLengths, HasPieces, List, Option, Parts, PieceFault, Spells, Version, after_first_block, block}
-use Rattle.tz_info.proofs.Words.{file, first_version, inl, inr, later_version, lawful, made, pieces_at, refl, said, subst, sym, ℕ, [], ◌∙◌, ◌≡◌, ◌⊎◌}
+use Rattle.std.proofs.lemmas.Option.{same_Some}
+use Rattle.tz_info.proofs.Words.{Bool, Decided, Err, Error, FileCounts, FilePieces, HasCounts, HasLengths, HasPieces, List, Ok, Option, Parts, PieceFault}
+use Rattle.tz_info.proofs.Words.{Some, Spells, Version, after_first_block, ap, block, value_once}
+use Rattle.tz_info.proofs.Words.{file, first_version, inl, inr, later_version, lawful, made, pieces_at, refl, said, subst, sym, ℕ, [], ◌∙◌, ◌↔◌, ◌≡◌, ◌⊎◌}
 use Rattle.tz_info.specs.{declared.file.header.Counts.{Counts}, declared.file.header.Version.TheVariants.{One, Three, Two}}
 
 -- no byte follows a file
@@ -21,6 +23,26 @@ unfolding pieces_at
 pieces_law bytes = said (made (λ p. p.0) (lawful file bytes))
     (λ p h. subst (HasPieces bytes) h.2 (subst (Spells file bytes h.0.0) (file_ends bytes h.0.0 h.0.1 h.1) h.1))
     (λ p h. ((p, []), h, refl))
+
+-- ---- counts
+same_counts : (c d : FileCounts) → d.transitions ≡ c.transitions → d.leap_seconds ≡ c.leap_seconds → d ≡ c
+same_counts c d p q = λ i. record { transitions = p i; leap_seconds = q i }
+
+-- whole pieces have one pair of counts
+pub counted : (bytes : List ℕ) (p : FilePieces) (d c : FileCounts) → pieces_at bytes ≡ Ok p → d.transitions ≡ p.counts.transitions
+    → d.leap_seconds ≡ p.counts.leap_seconds → (Some d ≡ Some c) ↔ HasCounts bytes c
+counted bytes p d c read m n = (
+  λ e. subst (HasCounts bytes) (same_Some d c e) (record { pieces = p; has = (pieces_law bytes).takes p read; transitions_are = m; leap_seconds_are = n }),
+  λ k.
+      let one = value_once (pieces_law bytes) p k.pieces ((pieces_law bytes).takes p read) k.has in
+      ap Some (same_counts c d
+      (m ∙ ap (λ (x : FilePieces). x.counts.transitions) one ∙ sym k.transitions_are)
+      (n ∙ ap (λ (x : FilePieces). x.counts.leap_seconds) one ∙ sym k.leap_seconds_are)),
+)
+
+-- bytes of which a piece is missing or has a fault have none
+pub uncounted : (bytes : List ℕ) (e : Error) (c : FileCounts) → pieces_at bytes ≡ Err e → HasCounts bytes c → ⊥
+uncounted bytes e c read k = let whole = (pieces_law bytes).again k.pieces k.has in cc
 
 -- ---- lengths
 of_block : (w : ℕ) (x : Bool) (c : Counts) (bytes : List ℕ) (b : Parts) (rest : List ℕ) (o : Option (List ℕ)) → (w ≡ 4) ⊎ (w ≡ 8)

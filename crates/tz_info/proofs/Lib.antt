@@ -50,6 +50,7 @@ pub mod WindowLaws
 pub mod GapLaws
 pub mod AroundLaws
 pub mod ZoneChanges
+pub mod OffsetChanges
 pub mod SpanLaws
 pub mod TypedLaws
 pub mod LastSpanLaws

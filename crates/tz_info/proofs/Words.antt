@@ -79,7 +79,8 @@ pub use Rattle.tz_info.specs.FileContents.{AreRecords, HasNoZero, HasRecordFault
 pub use Rattle.tz_info.specs.FileContents.{SpellLeapSeconds, SpellTransitions, SpellTypes, SpellsLeapSecond, SpellsType, StandsAt, TypeFault, designation_of}
 pub use Rattle.tz_info.specs.FileContents.{expected_of_place, file_time, least_offset, mark_in, offset_in, place_in}
 pub use Rattle.tz_info.specs.FileHeaders.{HasOtherMagic, is_magic, magic, magic_test}
-pub use Rattle.tz_info.specs.FilePieces.{FilePieces, HasPieces, PieceFault}
+pub use Rattle.tz_info.specs.FilePieces.{FilePieces, HasCounts, HasPieces, PieceFault}
+pub use Rattle.tz_info.specs.declared.file.counts.FileCounts.{FileCounts}
 unfoldable pub use Rattle.tz_info.specs.FilePieces.{after_first_block, file, first_version, later_version}
 pub use Rattle.tz_info.specs.Footers.{Colon, FooterFault, HasText, In_text, IsBetweenNewlines, IsFooter, No_newlines, Not_utf8, SaysRule, Zero}
 pub use Rattle.tz_info.specs.Folds.{HasFold}
@@ -90,6 +91,7 @@ pub use Rattle.tz_info.specs.Leaps.{IsUnixTimeRefused, correction_at, correction
 pub use Rattle.tz_info.specs.Leaps.{thresholds}
 pub use Rattle.tz_info.specs.Lists.{last_else}
 pub use Rattle.tz_info.specs.Looks.{RoseByWalk}
+pub use Rattle.tz_info.specs.OffsetChanges.{IsFirstOfOffset, IsLastOfOffset, IsNearestOffsetChange, IsOffsetChange, KeepsOffset}
 pub use Rattle.tz_info.specs.Moments.{AlternateAt, IsAlternateRefused, IsBetween, IsDstAt, IsInSomeYear, IsRuleTime, IsRuleYear, IsYearOf, end_in, start_in}
 pub use Rattle.tz_info.specs.Moments.{NeverChanges, type_when}
 unfoldable pub use Rattle.tz_info.specs.Moments.{moment}

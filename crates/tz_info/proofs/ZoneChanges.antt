@@ -49,7 +49,7 @@ changes_segment z d valid is one = elim (cases_lt (segment_of z (d.at -ℤ pos 1
 ]
 
 -- ---- after the last transition
-last_too : (z : Zone) (u : ℤ) → IsValid z → segment_of z (u -ℤ pos 1) ≡ length z.transitions → segment_of z u ≡ length z.transitions
+pub last_too : (z : Zone) (u : ℤ) → IsValid z → segment_of z (u -ℤ pos 1) ≡ length z.transitions → segment_of z u ≡ length z.transitions
 last_too z u valid e = grind (arith, segments_rise, segment_most)
 
 -- without a rule of two types nothing changes there

@@ -1,11 +1,12 @@
 -- The pieces of a TZif file (RFC 8536 section 3).
-use Rattle.std.specs.Prelude.{ℕ, Bool, true, false, List, [], Option, Some, None}
+use Rattle.std.specs.Prelude.{ℕ, ◌≡◌, Bool, true, false, List, [], Option, Some, None}
 use Rattle.tz_base.specs.Grammar.{Grammar, Nothing, End, Rest, Spells, HasFault, ◌>>=◌, ◌>>◌}
 use Rattle.tz_base.specs.Refusals as refused
 use Rattle.tz_base.specs.declared.error.Error.{Error}
 use Rattle.tz_base.specs.declared.error.Expected.TheVariants as expected
 use Rattle.tz_info.specs.FileHeaders.{header}
 use Rattle.tz_info.specs.FileBlocks.{Parts, block}
+use Rattle.tz_info.specs.declared.file.counts.FileCounts.{FileCounts}
 use Rattle.tz_info.specs.declared.file.header.Place.TheVariants.{First, Second}
 use Rattle.tz_info.specs.declared.file.header.Version.{Version}
 use Rattle.tz_info.specs.declared.file.header.Version.TheVariants.{One, Two, Three}
@@ -67,3 +68,10 @@ HasPieces bytes pieces = Spells file bytes pieces []
 -- the first piece that is missing or has a fault
 abbrev pub PieceFault : List ℕ → Error → Type 0
 PieceFault bytes e = HasFault file bytes e
+
+-- the block that says what the zone is has that many transitions and leap seconds
+pub record HasCounts (bytes : List ℕ) (c : FileCounts) : Type 0 where
+  pub pieces : FilePieces
+  pub has : HasPieces bytes pieces
+  pub transitions_are : c.transitions ≡ pieces.counts.transitions
+  pub leap_seconds_are : c.leap_seconds ≡ pieces.counts.leap_seconds

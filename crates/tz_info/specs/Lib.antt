@@ -15,6 +15,7 @@ pub mod Gaps
 pub mod Around
 pub mod Folds
 pub mod Changes
+pub mod OffsetChanges
 pub mod HeldChanges
 pub mod ChangesLeft
 pub mod Spans

@@ -8,6 +8,7 @@ ghost use Rattle.tz_info.specs.Zones.{IsValid, Zone};
 
 mod block;
 mod contents;
+pub(crate) mod counts;
 mod footer;
 mod header;
 mod numbers;

@@ -10,6 +10,7 @@ mod timeline;
 mod zone;
 
 pub use change::{HeldChange, HeldSpan, TypedSecond};
+pub use file::counts::FileCounts;
 pub use offset_core::Around;
 pub use rule::{AlternateTime, DayForm, RuleDay, TransitionRule};
 pub use timeline::Probes;

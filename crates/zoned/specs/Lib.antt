@@ -61,6 +61,7 @@ pub use Rattle.tz_info.specs.Gaps
 pub use Rattle.tz_info.specs.Folds
 pub use Rattle.tz_info.specs.Around
 pub use Rattle.tz_info.specs.Changes
+pub use Rattle.tz_info.specs.OffsetChanges
 pub use Rattle.tz_info.specs.HeldChanges
 pub use Rattle.tz_info.specs.ChangesLeft
 pub use Rattle.tz_info.specs.Spans

@@ -79,7 +79,8 @@ enum zoned_number {
     ZONED_OTHER_RULE = 44,             /* the footer of a TZif file disagrees with the last transition */
     ZONED_NO_SUCH_ZONE = 45,           /* there is no time zone of that name */
     ZONED_UNREADABLE_FILE = 46,        /* the file of a time zone can't be read */
-    ZONED_UNKNOWN_STEP = 47            /* no step of the local clock has that number */
+    ZONED_UNKNOWN_STEP = 47,           /* no step of the local clock has that number */
+    ZONED_ABOVE_LIMITS = 48            /* a TZif file has more transitions or leap seconds than allowed */
 };
 
 /* How often the clocks of a zone show a local time: `shown`. */
@@ -99,9 +100,21 @@ typedef struct zoned_zone {
    closed. */
 uint32_t zoned_open(uint32_t kind, const void *zone, size_t zone_len, struct zoned_zone *out);
 
-/* Returns how many bytes are in front of the fault for which zoned_open rejects a TZ string: where the first byte is with which no
-   string goes on; the number, the time or the name that is out of its limits; the end if bytes are missing; or the first byte that is
-   not UTF-8. SIZE_MAX: the string spells a zone, or `kind` is neither ZONED_TEXT nor ZONED_EXTENDED_STRING. */
+/* As zoned_open, but a file of more transitions or leap seconds than that is rejected: ZONED_ABOVE_LIMITS. It is found in the file's
+   headers, before memory is taken. The counts are those of the data block that the zone is read from: the only one of version 1, the
+   second one of versions 2 and 3. A fault of the headers, or of a file that is too short for its counts, comes first. A TZ string has no
+   transitions.
+
+   No file of Debian's tzdata 2025b has more than 310 transitions or 27 leap seconds. */
+uint32_t zoned_open_limited(uint32_t kind, const void *zone, size_t zone_len,
+                            size_t most_transitions, size_t most_leap_seconds, struct zoned_zone *out);
+
+/* Returns how many bytes are in front of the fault for which zoned_open rejects the bytes. In a TZ string: where the first byte is with
+   which no string goes on; the number, the time or the name that is out of its limits; the end if bytes are missing; or the first byte
+   that is not UTF-8. In a file: the end if it is too short, and else the first byte of the field whose value is rejected, such as a
+   version, a count, a type's DST flag, a transition's time or the TZ string of the footer.
+
+   SIZE_MAX: the bytes make a zone, no kind has that number, or there is no memory for a file's lists. */
 size_t zoned_fault_position(uint32_t kind, const void *zone, size_t zone_len);
 
 /* Opens the zone whose clocks are always `offset` seconds ahead of UTC. Its type has no abbreviation. ZONED_LOCAL_TIME_TYPE: no zone
@@ -219,6 +232,16 @@ typedef struct zoned_change {
    so it takes some 8.6 billion calls until there is no next change. */
 uint32_t zoned_zone_next_change(const struct zoned_zone *zone, int64_t after, zoned_change *change);
 uint32_t zoned_zone_previous_change(const struct zoned_zone *zone, int64_t before_or_at, zoned_change *change);
+
+/* As these two, of the changes at which the offset changes: others change only the DST flag or the abbreviation, and are passed over.
+   They are the transitions of java.time and Joda-Time. In London clocks were set forward on 1968-02-18, British summer time became
+   standard time on 1968-10-27 (-37242000) at the same offset, and clocks were set back on 1971-10-31 (57722400): after 1968-02-18 that
+   is the next change of the offset.
+
+   The calls go from change to change, and past at most one more than the file has transitions. They end where a rule begins whose two
+   types have one offset. */
+uint32_t zoned_zone_next_offset_change(const struct zoned_zone *zone, int64_t after, zoned_change *change);
+uint32_t zoned_zone_previous_offset_change(const struct zoned_zone *zone, int64_t before_or_at, zoned_change *change);
 
 /* Writes the TZ string of the rule that governs from the zone's last transition on, as much as fits into `text` with a zero byte after it
    (nothing if text_len is 0). *length is the length of the whole string, as with snprintf: 0 if the zone has no rule.
@@ -463,6 +486,7 @@ size_t zoned_error_text(uint32_t number, char *text, size_t text_len);
 #pragma GCC diagnostic ignored "-Wredundant-decls"
 #define ZONED_CHECKED(call, pointers) extern __typeof__(call) call __attribute__((warn_unused_result, nonnull pointers))
 ZONED_CHECKED(zoned_open, (4));
+ZONED_CHECKED(zoned_open_limited, (6));
 ZONED_CHECKED(zoned_open_fixed, (2));
 ZONED_CHECKED(zoned_share, (1, 2));
 ZONED_CHECKED(zoned_zone_offset, (1, 3));
@@ -474,6 +498,8 @@ ZONED_CHECKED(zoned_zone_span, (1, 3));
 ZONED_CHECKED(zoned_zone_standard_offset, (1, 3));
 ZONED_CHECKED(zoned_zone_next_change, (1, 3));
 ZONED_CHECKED(zoned_zone_previous_change, (1, 3));
+ZONED_CHECKED(zoned_zone_next_offset_change, (1, 3));
+ZONED_CHECKED(zoned_zone_previous_offset_change, (1, 3));
 ZONED_CHECKED(zoned_zone_rule_text, (1, 4));
 ZONED_CHECKED(zoned_zone_changes, (1, 7));
 ZONED_CHECKED(zoned_zone_wall_clock, (1, 3));

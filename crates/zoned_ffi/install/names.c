@@ -180,6 +180,7 @@ const char *zoned_error_words(uint32_t number) {
         [ZONED_NO_SUCH_ZONE] = "no time zone of that name",
         [ZONED_UNREADABLE_FILE] = "the file of a time zone can't be read",
         [ZONED_UNKNOWN_STEP] = "no such step of the local clock",
+        [ZONED_ABOVE_LIMITS] = "a TZif file has more transitions or leap seconds than allowed",
     };
     const char *const words = number < sizeof WORDS / sizeof *WORDS ? WORDS[number] : NULL;
     return words ? words : "no number of this library";

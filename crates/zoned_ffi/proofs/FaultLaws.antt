@@ -1,13 +1,14 @@
--- The position of the fault in a TZ string.
+-- The position of the fault of a TZ string or a file.
 use Rattle.std.specs.Option.{unwrap_or}
 use Rattle.std.specs.Prelude.{MatchOption, Option, Some, None, Result, Ok, Err, IfOk, IfErr, true, ℕ, ◌≡◌, ◌≢◌, ◌⊎◌, List}
 use Rattle.tz_base.specs.declared.{error.Error.{Error}, parse_error.ParseError.{ParseError}}
-use Rattle.tz_info.proofs.ForCallers.{string_fault_or_rule}
-use Rattle.tz_info.specs.{PosixZones.{IsExtendedFaultPlace, IsExtendedZone, IsPlaced, IsPosixFaultPlace}, TzGrammar.{IsTextFault}}
-use Rattle.zoned_ffi.proofs.Words.{IsOutOfMemory, IsPosixFault, IsPosixZone, IsUtf8, Zone, arith, inl, inr, refl}
+use Rattle.tz_info.proofs.{ForCallers.{file_fault_or_zone, string_fault_or_rule}, TzFileLaws.{fault_low}}
+use Rattle.tz_info.specs.{FilePlaces.{IsFilePlace}, PosixZones.{IsExtendedFaultPlace, IsExtendedZone, IsPlaced, IsPosixFaultPlace}, TzGrammar.{IsTextFault}}
+use Rattle.tz_info.specs.{TzFiles.{IsTzFile}, Zones.{IsValid}}
+use Rattle.tz_info.specs.TzFiles.IsZoneFault.{In_file as Of_file, No_memory as Of_memory}
+use Rattle.zoned_ffi.proofs.Words.{IsOutOfMemory, IsPosixFault, IsPosixZone, IsUtf8, IsZoneFault, Zone, arith, inl, inr, refl}
 use Rattle.zoned_ffi.specs.{FaultPlaces.{IsFaultPosition, no_position, position_of}, Kinds.{IsKind}}
-use Rattle.zoned_ffi.specs.declared.kind.Kind.TheVariants as kinds
-use Rattle.zoned_ffi.specs.FaultPlaces.IsFaultPosition.{In_string, In_text, No_string, Not_utf8, String_zone, Text_zone}
+use Rattle.zoned_ffi.specs.FaultPlaces.IsFaultPosition.{File_zone, In_file, In_string, In_text, No_kind, No_memory, Not_utf8, String_zone, Text_zone}
 
 -- ---- what was read has its fault there, or is a zone
 text_placed : (bytes : List ℕ) (error : Error) (o : Option ℕ) → IsUtf8 bytes → IsOutOfMemory error ⊎ IsPosixFault bytes error
@@ -38,26 +39,41 @@ pub string_place : (bytes : List ℕ) (r : Result Zone ParseError) → IfOk r (�
 string_place bytes (Ok z) found fault place memory = String_zone z refl found
 string_place bytes (Err e) found fault place memory = string_placed bytes e.error e.position fault place memory
 
+file_placed : (bytes : List ℕ) (error : Error) (o : Option ℕ) → IsZoneFault bytes error
+    → MatchOption o (IsOutOfMemory error) (λ p. ¬ (IsOutOfMemory error) × IsFilePlace bytes p) → IsFaultPosition 0 bytes (unwrap_or o no_position)
+file_placed bytes error None (Of_file e fault) place = let low = fault_low bytes e fault in absurd (omega (arith, place))
+file_placed bytes error None (Of_memory p whole) place = No_memory p refl whole
+file_placed bytes error (Some p) (Of_file e fault) place = In_file e p refl fault place.1
+file_placed bytes error (Some p) (Of_memory q whole) place = absurd (place.0 refl)
+
+pub file_place : (bytes : List ℕ) (r : Result Zone ParseError) → IfOk r (λ z. IsTzFile bytes z × IsValid z) → IfErr r (λ e. IsZoneFault bytes e.error)
+    → IfErr r (λ e. IsPlaced (IsFilePlace bytes) e) → IsFaultPosition 0 bytes (position_of r)
+file_place bytes (Ok z) found fault place = File_zone z refl found.0 found.1
+file_place bytes (Err e) found fault place = file_placed bytes e.error e.position fault place
+
 -- ---- the definition
-pub only_file : (bytes : List ℕ) (n : ℕ) → IsFaultPosition 0 bytes n → n ≡ no_position
-only_file bytes n (Not_utf8 m is bad place) = absurd (omega (arith, is))
-only_file bytes n (In_text e m is utf8 fault place) = absurd (omega (arith, is))
-only_file bytes n (In_string e is fault) = absurd (omega (arith, is))
-only_file bytes n (Text_zone z is utf8 zone) = refl
-only_file bytes n (String_zone z is zone) = refl
-only_file bytes n (No_string one two) = refl
+pub only_valid : (bytes : List ℕ) (n : ℕ) (z : Zone) → IsTzFile bytes z → IsValid z → IsFaultPosition 0 bytes n → n ≡ no_position
+only_valid bytes n z file valid (Not_utf8 m is bad place) = absurd (omega (arith, is))
+only_valid bytes n z file valid (In_text e m is utf8 fault place) = absurd (omega (arith, is))
+only_valid bytes n z file valid (In_string e is fault) = absurd (omega (arith, is))
+only_valid bytes n z file valid (In_file e m is fault place) = absurd (file_fault_or_zone bytes e z fault file valid)
+only_valid bytes n z file valid (Text_zone y is utf8 zone) = refl
+only_valid bytes n z file valid (String_zone y is zone) = refl
+only_valid bytes n z file valid (File_zone y is zone right) = refl
+only_valid bytes n z file valid (No_memory p is whole) = refl
+only_valid bytes n z file valid (No_kind none) = refl
 
 pub only_zone : (bytes : List ℕ) (n : ℕ) (z : Zone) → IsExtendedZone bytes z → IsFaultPosition 2 bytes n → n ≡ no_position
 only_zone bytes n z spelled (Not_utf8 m is bad place) = absurd (omega (arith, is))
 only_zone bytes n z spelled (In_text e m is utf8 fault place) = absurd (omega (arith, is))
 only_zone bytes n z spelled (In_string e is fault) = absurd (string_fault_or_rule true bytes e spelled.0 fault spelled.1)
+only_zone bytes n z spelled (In_file e m is fault place) = absurd (omega (arith, is))
 only_zone bytes n z spelled (Text_zone y is utf8 zone) = refl
 only_zone bytes n z spelled (String_zone y is zone) = refl
-only_zone bytes n z spelled (No_string one two) = refl
+only_zone bytes n z spelled (File_zone y is zone right) = refl
+only_zone bytes n z spelled (No_memory p is whole) = refl
+only_zone bytes n z spelled (No_kind none) = refl
 
 -- ---- other kinds of bytes
-pub no_file : (bytes : List ℕ) → IsFaultPosition 0 bytes no_position
-no_file bytes = No_string (λ e. omega (arith, e)) (λ e. omega (arith, e))
-
 pub no_kind : (kind : ℕ) (bytes : List ℕ) → ¬ (IsKind kind) → IsFaultPosition kind bytes no_position
-no_kind kind bytes none = No_string (λ e. none (kinds.Text, e)) (λ e. none (kinds.ExtendedText, e))
+no_kind kind bytes none = No_kind none

@@ -10,6 +10,7 @@ pub mod Reading
 pub mod Resolving
 pub mod Telling
 pub mod HeldTimes
+pub mod LimitLaws
 pub mod LocalInfoLaws
 pub mod RuleStringLaws
 pub mod Sayings

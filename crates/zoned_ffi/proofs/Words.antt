@@ -41,10 +41,11 @@ pub use Rattle.tz_info.proofs.Words.{arith, cases_lt, floor_div, floors, get_or,
 pub use Rattle.tz_info.proofs.Words.{of_z, pos, posix_zone, refl, rules, subst, suc, sym, take, take-append_seam, to_z, to_z-of_z, true, w128, w32, w64, zero}
 pub use Rattle.tz_info.proofs.Words.{ℕ, ℤ, [], ◌&&◌, ◌*ℤ◌, ◌*◌, ◌++◌, ◌+ℤ◌, ◌+◌, ◌-ℤ◌, ◌<ℤ◌, ◌<◌, ◌↔◌, ◌∙◌, ◌∷◌, ◌≡◌, ◌≢◌, ◌≤ℤ◌, ◌≤◌, ◌⊎◌}
 pub use Rattle.tz_info.specs.{Windows.{IsGreatest, IsLeast, offsets}, declared.rule.transition_rule.TransitionRule.{TransitionRule}}
-pub use Rattle.tz_info.specs.declared.zone.ask.offset_stretch.OffsetStretch.{OffsetStretch}
+pub use Rattle.tz_info.specs.{FilePieces.{HasCounts}, declared.{file.counts.FileCounts.{FileCounts}, zone.ask.offset_stretch.OffsetStretch.{OffsetStretch}}}
 unfoldable pub use Rattle.tz_info.proofs.Words.{changes_left}
 pub use Rattle.zoned_ffi.specs.Columns.{AreAnswered, IsAnswered, IsAnsweredOrNone, IsInstantOf, IsInstantTaken, IsNoInstant, IsNotAnswered, IsRowNumber}
 pub use Rattle.zoned_ffi.specs.{Columns.{second_holding}, Handles.{IsLent}, Instants.{AreOffsetsAt, IsWrittenOffsetAt}, Kinds.{IsZoneOf, SpellsZone}}
+pub use Rattle.zoned_ffi.specs.Limits.{IsAboveLimits}
 pub use Rattle.zoned_ffi.specs.{Owned.{boxed, held, lent, loan, shared_row}, Refusals.{IsErrorOfKind, IsExtendedFault, IsFault, IsFileError, IsReaderNumber}}
 pub use Rattle.zoned_ffi.specs.Refusals.{IsStringError, refusal_number, detail_number}
 pub use Rattle.zoned_ffi.specs.Resolved.{AreReached, AreResolved, IsNoneTaken, IsReachedAt, IsResolvedAt}

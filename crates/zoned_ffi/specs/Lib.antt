@@ -1,4 +1,5 @@
 pub mod Kinds
+pub mod Limits
 pub mod Refusals
 pub mod FaultPlaces
 pub mod Instants

@@ -35,6 +35,7 @@ pub data IsSaidOf : ℕ → List ℕ → Type 0 where
   No_such_zone : IsSaidOf 45 (codes "no time zone of that name")
   Unreadable_file : IsSaidOf 46 (codes "the file of a time zone can't be read")
   Unknown_step : IsSaidOf 47 (codes "no such step of the local clock")
+  Above_limits : IsSaidOf 48 (codes "a TZif file has more transitions or leap seconds than allowed")
 
 -- the text of an error number, or the text for a number that is not an error's
 abbrev pub IsTextOf : ℕ → List ℕ → Type 0

@@ -1,10 +1,11 @@
 -- What is written of changes of the clocks.
-use Rattle.std.specs.Prelude.{ℕ, ℤ, ◌≡◌, ◌⊎◌, ◌++◌, List, drop, length, map, take}
+use Rattle.std.specs.Prelude.{ℕ, ℤ, ◌≡◌, ◌⊎◌, ◌++◌, false, true, List, drop, length, map, take}
 use Rattle.naive_base.specs.Range.{IsInRange}
 use Rattle.tz_info.specs.Changes.{AreChanges, IsFirstChange, IsLastChange}
 use Rattle.offset_core.specs.WallAnswer.{IsShownOnce}
 use Rattle.tz_base.specs.LocalTypes.{LocalType}
 use Rattle.tz_info.specs.Folds.{SkipsOrRepeats}
+use Rattle.tz_info.specs.OffsetChanges.{IsNearestOffsetChange}
 use Rattle.tz_info.specs.WallClocks.{Shows}
 use Rattle.tz_info.specs.Zones.{Zone, TypeAt}
 use Rattle.tz_base.specs.declared.change.Change.{Change}
@@ -22,6 +23,13 @@ IsFirstWritten z within w = (c : Change) × IsFirstChange (TypeAt z) within c ×
 -- the last one is
 abbrev pub IsLastWritten : Zone → (ℤ → Type 0) → WrittenChange → Type 0
 IsLastWritten z within w = (c : Change) × IsLastChange (TypeAt z) within c × (w ≡ written_change c)
+
+-- the first of those at which the offset changes is written, or the last one
+abbrev pub IsFirstOffsetWritten : Zone → (ℤ → Type 0) → WrittenChange → Type 0
+IsFirstOffsetWritten z within w = (c : Change) × IsNearestOffsetChange true (TypeAt z) within c × (w ≡ written_change c)
+
+abbrev pub IsLastOffsetWritten : Zone → (ℤ → Type 0) → WrittenChange → Type 0
+IsLastOffsetWritten z within w = (c : Change) × IsNearestOffsetChange false (TypeAt z) within c × (w ≡ written_change c)
 
 -- the change that skips the local time, or that sets clocks back so that they show it again, is written
 abbrev pub IsLocalChangeWritten : Zone → ℤ → WrittenChange → Type 0

@@ -2,9 +2,10 @@
 #![tactic(auto, using(crate::proofs::Casts::passed_on))]
 
 ghost use Rattle.std.specs.Prelude.{◌≡◌, ◌≢◌, ◌⊎◌, ◌<ℤ◌, ◌≤ℤ◌, slice_set};
-ghost use Rattle.tz_info.specs.{Changes.{HasNoChange}, Zones.{TypeAt, Zone}};
+ghost use Rattle.tz_info.specs.{Changes.{HasNoChange}, OffsetChanges.{KeepsOffset}, Zones.{TypeAt, Zone}};
 ghost use Rattle.zoned_ffi.specs.Handles.{IsLent, IsNoneLent};
-ghost use Rattle.zoned_ffi.specs.WrittenChanges.{written_change, AreFirstWritten, IsFirstWritten, IsLastWritten};
+ghost use Rattle.zoned_ffi.specs.WrittenChanges.{written_change, AreFirstWritten, IsFirstOffsetWritten, IsFirstWritten};
+ghost use Rattle.zoned_ffi.specs.WrittenChanges.{IsLastOffsetWritten, IsLastWritten};
 
 use crate::lent::Lent;
 use crate::local_type::WrittenType;
@@ -79,6 +80,61 @@ pub extern "C" fn zoned_zone_previous_change(
         return NOT_OPEN;
     };
     match share.previous_change(before_or_at) {
+        Some(found) => {
+            *change = WrittenChange::of(&found);
+            0
+        }
+        None => NO_CHANGE,
+    }
+}
+
+/// Writes the first change of the zone's clocks after that second at which the offset changes.
+#[unsafe(no_mangle)]
+pub extern "C" fn zoned_zone_next_offset_change(
+    zone: &Lent,
+    after: i64,
+    change: &mut WrittenChange,
+) -> u32
+    // 0: it is written.
+    ensures answered { result ≡ 0
+        → (z : Zone) × IsLent zone.now z × IsFirstOffsetWritten z (λ u. after <ℤ u) change.new }
+    // 33: no zone is open. 35: there is no such change. Nothing is written.
+    ensures refused { result ≢ 0 → (((result ≡ 33) × IsNoneLent zone.now)
+        ⊎ ((result ≡ 35) × ((z : Zone) × IsLent zone.now z × KeepsOffset (TypeAt z) (λ u. after <ℤ u))))
+        × (change.new ≡ change.old) }
+{
+    let Some(share) = zone.share() else {
+        return NOT_OPEN;
+    };
+    match share.next_offset_change(after) {
+        Some(found) => {
+            *change = WrittenChange::of(&found);
+            0
+        }
+        None => NO_CHANGE,
+    }
+}
+
+/// Writes the last change of the zone's clocks at that second or before it at which the offset changes.
+#[unsafe(no_mangle)]
+pub extern "C" fn zoned_zone_previous_offset_change(
+    zone: &Lent,
+    before_or_at: i64,
+    change: &mut WrittenChange,
+) -> u32
+    // 0: it is written.
+    ensures answered { result ≡ 0
+        → (z : Zone) × IsLent zone.now z × IsLastOffsetWritten z (λ u. u ≤ℤ before_or_at) change.new }
+    // 33: no zone is open. 35: there is no such change. Nothing is written.
+    ensures refused { result ≢ 0 → (((result ≡ 33) × IsNoneLent zone.now)
+        ⊎ ((result ≡ 35)
+        × ((z : Zone) × IsLent zone.now z × KeepsOffset (TypeAt z) (λ u. u ≤ℤ before_or_at))))
+        × (change.new ≡ change.old) }
+{
+    let Some(share) = zone.share() else {
+        return NOT_OPEN;
+    };
+    match share.previous_offset_change(before_or_at) {
         Some(found) => {
             *change = WrittenChange::of(&found);
             0

@@ -1,4 +1,4 @@
-//! The position of the fault in a TZ string.
+//! The position of the fault of a TZ string or a file.
 
 ghost use Rattle.std.specs.Prelude.{◌≡◌};
 ghost use Rattle.zoned_ffi.specs.{FaultPlaces.{position_of, IsFaultPosition}, Kinds.{kind_number}};
@@ -8,11 +8,12 @@ use std::alloc::Global;
 use std::str;
 use tz_info::{ParseError, TimeZone};
 
-// The position of bytes that are no TZ string with a fault.
+// The position of bytes without a fault.
 const NO_POSITION: usize = usize::MAX;
 
-/// Returns how many bytes are in front of the fault for which `zoned_open` rejects a TZ string.
-/// `usize::MAX` for a string that spells a zone, and for another kind of bytes.
+/// Returns how many bytes are in front of the fault for which `zoned_open` rejects a TZ string or a file.
+/// `usize::MAX` for bytes that spell a zone, for another kind of bytes, and if memory runs out for a
+/// file's lists.
 #[unsafe(no_mangle)]
 #[tactic(auto, using(crate::proofs::FaultLaws::no_kind))]
 pub extern "C" fn zoned_fault_position(alloc: Global, kind: u32, zone: &[u8]) -> usize
@@ -25,12 +26,12 @@ pub extern "C" fn zoned_fault_position(alloc: Global, kind: u32, zone: &[u8]) ->
 }
 
 impl Kind {
-    #[tactic(auto, using(crate::proofs::FaultLaws::no_file, crate::proofs::FaultLaws::string_place))]
+    #[tactic(auto, using(crate::proofs::FaultLaws::file_place, crate::proofs::FaultLaws::string_place))]
     fn fault_position(self, alloc: Global, bytes: &[u8]) -> usize
         ensures { IsFaultPosition (kind_number self) bytes.now result }
     {
         match self {
-            Kind::File => NO_POSITION,
+            Kind::File => position(&TimeZone::parse_tz_data(alloc, bytes)),
             Kind::Text => text_position(alloc, bytes),
             Kind::ExtendedText => position(&TimeZone::parse_extended_tz(alloc, bytes)),
         }

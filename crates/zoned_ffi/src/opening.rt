@@ -1,15 +1,15 @@
 //! Zones that C keeps: opened, shared and closed.
 
-ghost use Rattle.std.specs.{Arc.{arc_value}, Prelude.{◌≡◌, ◌≢◌, ◌⊎◌, IfErr, IfOk, IfSome}};
+ghost use Rattle.std.specs.{Arc.{arc_value}, Prelude.{◌≡◌, ◌≢◌, ◌⊎◌, ◌↔◌, IfErr, IfOk, IfSome, IsTrue}};
 ghost use Rattle.tz_base.specs.LocalTypes.{IsUtOffset};
 ghost use Rattle.tz_info.specs.Zones.{plain_zone, Zone};
 ghost use Rattle.zoned_ffi.specs.{Handles.{IsClosed, IsLent, IsNoneLent, IsOpen}, Kinds.{IsZoneOf}};
-ghost use Rattle.zoned_ffi.specs.Refusals.{refusal_number, IsErrorOfKind};
+ghost use Rattle.zoned_ffi.specs.{Limits.{IsAboveLimits}, Refusals.{refusal_number, IsErrorOfKind}};
 
 use crate::handle::Handle;
-use crate::kind::read_zone;
+use crate::kind::{Kind, read_zone};
 use crate::lent::Lent;
-use crate::refusal::{LOCAL_TIME_TYPE, NOT_OPEN, OUT_OF_MEMORY, Refusal};
+use crate::refusal::{ABOVE_LIMITS, LOCAL_TIME_TYPE, NOT_OPEN, OUT_OF_MEMORY, Refusal};
 use std::alloc::Global;
 use std::sync::Arc;
 use tz_info::{Error, TimeZone};
@@ -30,6 +30,55 @@ pub extern "C" fn zoned_open(alloc: Global, kind: u32, zone: &[u8], out: &mut Ha
             0
         }
         Err(refusal) => refusal.number(),
+    }
+}
+
+/// Opens the zone as [`zoned_open`] does, unless the bytes are a file with more transitions or leap seconds
+/// than those numbers. That is found before memory is taken.
+#[unsafe(no_mangle)]
+pub extern "C" fn zoned_open_limited(
+    alloc: Global,
+    kind: u32,
+    zone: &[u8],
+    most_transitions: usize,
+    most_leap_seconds: usize,
+    out: &mut Handle,
+) -> u32
+    // 48: the file is above the limits.
+    ensures limited { (result ≡ 48) ↔ IsAboveLimits kind zone.now most_transitions most_leap_seconds }
+    // 0: the zone that the bytes spell is open.
+    ensures opened { result ≡ 0 → (z : Zone) × IsZoneOf kind zone.now z × IsOpen out.new z }
+    // Another number says what is wrong, and `out` is as it was.
+    ensures refused { result ≢ 0
+        → ((result ≡ 48) ⊎ IsErrorOfKind kind zone.now result) × (out.new ≡ out.old) }
+    // The zone that is spelled is opened, unless it is above the limits or memory runs out.
+    ensures only { (z : Zone) → IsZoneOf kind zone.now z
+        → ((result ≡ 0) ⊎ (result ≡ 17)) ⊎ (result ≡ 48) }
+{
+    if is_above_limits(kind, zone, most_transitions, most_leap_seconds) {
+        return ABOVE_LIMITS;
+    }
+    zoned_open(alloc, kind, zone, out)
+}
+
+// Whether the bytes are a file above the limits.
+fn is_above_limits(
+    kind: u32,
+    bytes: &[u8],
+    most_transitions: usize,
+    most_leap_seconds: usize,
+) -> bool
+    ensures { IsTrue result ↔ IsAboveLimits kind bytes.now most_transitions most_leap_seconds }
+{
+    let Some(Kind::File) = Kind::from_number(kind) else {
+        return false;
+    };
+    match TimeZone::file_counts(bytes) {
+        Some(counts) => {
+            most_transitions < counts.transitions as usize
+                || most_leap_seconds < counts.leap_seconds as usize
+        }
+        None => false,
     }
 }
 

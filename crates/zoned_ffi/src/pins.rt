@@ -6,7 +6,8 @@ ghost use Rattle.offset_core.specs.WallAnswer.{IsShownBetween, IsShownOnce};
 ghost use Rattle.naive_base.specs.Stamp.{of_secs};
 ghost use Rattle.tz_base.specs.LocalTypes.{LocalType};
 ghost use Rattle.tz_info.specs.{Around.{Skips}, PosixZones.{IsExtendedZone}, WallClocks.{Shows}};
-ghost use Rattle.tz_info.specs.{Folds.{HasFold, Repeats, SkipsOrRepeats}, Zones.{IsTypeRefused, TypeAt, Zone}};
+ghost use Rattle.tz_info.specs.FilePieces.{HasCounts};
+ghost use Rattle.tz_info.specs.{Folds.{HasFold, Repeats, SkipsOrRepeats}, TzFiles.{IsTzFile}, Zones.{IsTypeRefused, IsValid, TypeAt, Zone}};
 ghost use Rattle.naive_plans.specs.ClockSteps.{BeginsStep};
 ghost use Rattle.zoned_time.specs.{Days.{IsInDay}, StepBounds.{AreStepBounds}};
 ghost use Rattle.zoned_ref.specs.Offsets.{AreOffsetsOf};
@@ -17,7 +18,7 @@ ghost use Rattle.zoned_ffi.specs.{FaultPlaces.{no_position, IsFaultPosition}, St
 ghost use Rattle.zoned_ffi.specs.{Fields.{AreFieldsOf, IsNoLocalOf}, WrittenSpans.{written_span, IsWrittenSpanAt}};
 ghost use Rattle.zoned_ffi.specs.{Handles.{IsUnanswered}, Kinds.{kind_number, IsKind}, Texts.{written_over, IsTextOf}};
 ghost use Rattle.zoned_ffi.specs.{Instants.{no_offset, IsWrittenOffsetAt}, WrittenSavings.{written_saving}};
-ghost use Rattle.zoned_ffi.specs.{LocalInfos.{IsLocalInfo}, RuleStrings.{IsRuleString}};
+ghost use Rattle.zoned_ffi.specs.{Limits.{IsAboveLimits}, LocalInfos.{IsLocalInfo}, RuleStrings.{IsRuleString}};
 ghost use Rattle.zoned_ffi.specs.Refusals.{detail_number, refusal_number, IsErrorOfKind, IsReaderNumber};
 ghost use Rattle.zoned_ffi.specs.Resolved.{unresolved, IsChoice, IsChoiceOf, IsNoneTaken, IsReachedAt, IsResolvedAt};
 ghost use Rattle.zoned_ffi.specs.{Resolved.{IsTakenGapEnd, IsTakenType, TakesOf}, WallClocks.{out_of_range, written}};
@@ -38,7 +39,7 @@ use crate::whole_second::WholeSecond;
 use naive_base::Weekday;
 use naive_plans::ClockStep;
 use offset_core::{FoldChoice, LocalResult, Taken};
-use tz_info::{Change, Error, Expected, TransitionRule};
+use tz_info::{Change, Error, Expected, FileCounts, TransitionRule};
 
 /// A file is of kind 0, a TZ string of kind 1, and one with extensions of kind 2; there is no kind 3.
 pub fn kind_numbers()
@@ -48,14 +49,28 @@ pub fn kind_numbers()
     ensures three { ¬ (IsKind 3) }
 {}
 
-/// A file has no position of a fault, nor has a string that spells a zone.
+/// A file of a valid zone has no position of a fault, nor has a string that spells a zone.
 pub fn fault_positions()
-    ensures file { (bytes : List ℕ) → IsFaultPosition 0 bytes no_position }
-    ensures only_file { (bytes : List ℕ) (n : ℕ) → IsFaultPosition 0 bytes n → n ≡ no_position }
+    ensures file { (bytes : List ℕ) (z : Zone) → IsTzFile bytes z → IsValid z
+        → IsFaultPosition 0 bytes no_position }
+    ensures only_file { (bytes : List ℕ) (n : ℕ) (z : Zone) → IsTzFile bytes z → IsValid z
+        → IsFaultPosition 0 bytes n → n ≡ no_position }
     ensures zone { (bytes : List ℕ) (z : Zone) → IsExtendedZone bytes z
         → IsFaultPosition 2 bytes no_position }
     ensures only_zone { (bytes : List ℕ) (n : ℕ) (z : Zone) → IsExtendedZone bytes z
         → IsFaultPosition 2 bytes n → n ≡ no_position }
+{}
+
+/// A TZ string is above no limits, and a file is above them if and only if it has one entry more than they
+/// allow.
+pub fn limits()
+    ensures text { (bytes : List ℕ) → ¬ (IsAboveLimits 1 bytes 0 0) }
+    ensures as_many { (bytes : List ℕ) (c : FileCounts) → HasCounts bytes c
+        → ¬ (IsAboveLimits 0 bytes c.transitions c.leap_seconds) }
+    ensures transition { (bytes : List ℕ) (c : FileCounts) → HasCounts bytes c
+        → c.transitions ≡ 1 → IsAboveLimits 0 bytes 0 c.leap_seconds }
+    ensures leap_second { (bytes : List ℕ) (c : FileCounts) → HasCounts bytes c
+        → c.leap_seconds ≡ 1 → IsAboveLimits 0 bytes c.transitions 0 }
 {}
 
 /// For a gap 0 refuses, 1 shifts forward, 2 takes its end and 3 shifts backward; for a fold 0 refuses, 1

@@ -33,6 +33,9 @@ pub const WIDE_ZONE: u32 = 40;
 /// What it returns if no step of the local clock has that number.
 pub const UNKNOWN_STEP: u32 = 47;
 
+/// What it returns if a file has more transitions or leap seconds than its caller allows.
+pub const ABOVE_LIMITS: u32 = 48;
+
 /// The number of a local time that is outside the calendar's range, or whose instant is.
 pub const INSTANT_OUT_OF_RANGE: u32 = 23;
 

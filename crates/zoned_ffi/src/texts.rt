@@ -75,6 +75,7 @@ fn text_of(number: u32) -> &'static str
         45 => "no time zone of that name",
         46 => "the file of a time zone can't be read",
         47 => "no such step of the local clock",
+        48 => "a TZif file has more transitions or leap seconds than allowed",
         _ => "no number of this library",
     }
 }

@@ -198,7 +198,7 @@ LIBRARY, BRIEF = _loaded()
 
 
 def position_of(kind: int, data: bytes) -> Optional[int]:
-    """Returns how many bytes are in front of the fault of a TZ string; None if it has none."""
+    """Returns how many bytes are in front of the fault of a TZ string or a file; None if it has none."""
     position: int = LIBRARY.zoned_fault_position(kind, data, len(data))
     return None if position == c_size_t(-1).value else position
 

@@ -60,9 +60,10 @@ class ZoneError(ValueError):
 class ZoneRefusedError(ZoneError):
     """The bytes make no zone.
 
-    `position` is the number of bytes in front of the fault of a TZ string: where the first byte is
-    with which no string goes on, or the number, the time or the name that is out of its limits, or
-    the end if bytes are missing. None for a file.
+    `position` is the number of bytes in front of the fault. In a TZ string that is where the first
+    byte is with which no string goes on, or the number, the time or the name that is out of its
+    limits, or the end if bytes are missing; in a file its end if it is too short, or else the first
+    byte of the field whose value is rejected. None if memory ran out.
     """
 
     def __init__(self, number: int, what: str = "the zone", position: Optional[int] = None):

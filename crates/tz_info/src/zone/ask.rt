@@ -8,6 +8,7 @@ mod gap;
 mod leap_times;
 mod lookup;
 pub(crate) mod lookups;
+mod offset_changes;
 pub(crate) mod offset_stretch;
 pub(super) mod runs;
 mod segment_search;

@@ -1,11 +1,11 @@
-use Rattle.zoned_ffi.proofs.{Words.{arith, refl}, FaultLaws.{only_file, only_zone}}
-use Rattle.zoned_ffi.specs.FaultPlaces.IsFaultPosition.{No_string, String_zone}
+use Rattle.zoned_ffi.proofs.{Words.{refl}, FaultLaws.{only_valid, only_zone}}
+use Rattle.zoned_ffi.specs.FaultPlaces.IsFaultPosition.{File_zone, String_zone}
 use Rattle.zoned_ffi.proofs.pins.fault_positions.Goals as goal
 
 pub returns : goal.returns
 returns c = record {
-  file = λ bytes. No_string (λ e. omega (arith, e)) (λ e. omega (arith, e));
-  only_file = only_file;
+  file = λ bytes z h valid. File_zone z refl h valid;
+  only_file = only_valid;
   zone = λ bytes z h. String_zone z refl h;
   only_zone = only_zone;
 }

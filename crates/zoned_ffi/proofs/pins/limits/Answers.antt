@@ -1,0 +1,10 @@
+use Rattle.zoned_ffi.proofs.{LimitLaws.{as_many, more_leap_seconds, more_transitions}, Words.{arith}}
+use Rattle.zoned_ffi.proofs.pins.limits.Goals as goal
+
+pub returns : goal.returns
+returns c = record {
+  text = λ bytes h. let is = h.of_file in absurd (omega (arith, is));
+  as_many = as_many;
+  transition = more_transitions;
+  leap_second = more_leap_seconds;
+}
