@@ -12,10 +12,6 @@ planned_next plan b n l is wide next = (
   λ has. next.least l wide has (omega (arith, ints, is)),
 )
 
-pub beyond_fires : (off : ℤ → ℤ) (plan : ℤ → Type 0) (t from : ℤ) → IsPast (IsFirstShown off plan) t from → NoneFiresAfter off plan from
-    → NoneAfter (IsFirstShown off plan) t
-beyond_fires off plan t from past none v inside it later = none v inside it.0 (past.none v inside it later)
-
 pub first_shown : {O : Type 0} {m : Meaning O} (law : Law m) (plan : ℤ → Type 0) (t from : ℤ) (d : Zoned O) → IsPast (IsFirstShown law.off plan) t from
     → IsInRange t → IsInRange d.utc.s → IsZonedNextFire law plan from d → plan (d.utc.s +ℤ law.off d.utc.s)
     → IsZonedNextOf law (IsFirstShown law.off plan) t d

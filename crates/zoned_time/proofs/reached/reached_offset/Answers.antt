@@ -1,4 +1,4 @@
-use Rattle.zoned_time.proofs.Words.{IsWithinDay, IsZoneSecond, SFits, arith, ints, refl, rules, subst, sym, to_z-of_z, w32, w64, ◌≡◌}
+use Rattle.zoned_time.proofs.Words.{IsWithinDay, IsZoneSecond, SFits, arith, ints, refl, rules, subst, sym, to_z-of_z, w32, w64}
 use Rattle.zoned_time.proofs.ReachedTimes.{settled}
 use Rattle.zoned_time.proofs.reached.reached_offset.Goals as goal
 
