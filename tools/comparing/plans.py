@@ -38,6 +38,7 @@ from bisect import bisect_left
 from collections import Counter
 from concurrent.futures import ThreadPoolExecutor
 from datetime import datetime, timedelta, timezone
+from importlib.util import find_spec
 from pathlib import Path
 from zoneinfo import ZoneInfo
 
@@ -280,6 +281,9 @@ def options(given):
 
 def main(*given):
     needs("rt")
+    for name in ("croniter", "dateutil"):
+        if not find_spec(name):
+            sys.exit(f"tools/compare.py plans needs {name}: apt-get install python3-{name}, and run it by /usr/bin/python3")
     random_plans, zones_used, between = options(given)
     plans, tally, begun = asked_plans(list(range(zones_used)), random_plans), Counter(), time.monotonic()
     numbers = []

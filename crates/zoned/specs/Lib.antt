@@ -103,9 +103,11 @@ pub use Rattle.zoned_time.specs.Fields as InstantFields
 pub use Rattle.zoned_time.specs.Fires
 pub use Rattle.zoned_time.specs.Moves
 pub use Rattle.zoned_time.specs.Order
+pub use Rattle.zoned_time.specs.Policies
 pub use Rattle.zoned_time.specs.Reached
 pub use Rattle.zoned_time.specs.Relocal
 pub use Rattle.zoned_time.specs.Stamps
+pub use Rattle.zoned_time.specs.Stretches
 pub use Rattle.zoned_time.specs.StepBounds
 pub use Rattle.zoned_time.specs.Years
 pub use Rattle.zoned_time.specs.Zone

@@ -167,6 +167,7 @@
 //! | local times, or several plans | a plan of them | [`LocalTimes`], [`Union`], [`Intersection`], [`Except`] |
 //! | a plan, such as a line of a crontab ([`Cron`]) | when it fires next, or fired last | [`ZoneDays::next_fire`], [`ZoneDays::first_fire`]; [`ZoneDays::last_fire`], [`ZoneDays::previous_fire`] |
 //! | a plan | each time that it fires between two instants | [`ZoneDays::fires`] |
+//! | a plan, and a [`FirePolicy`] for its local times in gaps and folds | when it fires next | [`ZoneDays::next_fire_by`] |
 //! | two versions of a zone, and a plan | the runs that only one of them has | [`moved`] |
 //! | a date | the first and the last second at which clocks show it | [`ZoneDays::day`] |
 //! | a wall clock | the first instant at which clocks have reached it | [`ZoneDays::first_at_or_after`] |
@@ -274,6 +275,7 @@ pub use zoned_ref::{
 pub use zoned_round::{DurationRound, RoundingError, SubsecRound};
 pub use zoned_series::{DailyItems, DailySeries, SeriesError};
 pub use zoned_time::{
-    AsInstant, DateTime, Fires, Instant, MAX_DATETIME, MIN_DATETIME, Move, Moves, NaiveZoned,
-    Offset, ShownDay, StepBounds, TimeZone, Utc, ZoneDays, moved,
+    AsInstant, DateTime, FirePolicy, Fires, FoldFires, GapFires, Instant, MAX_DATETIME,
+    MIN_DATETIME, Move, Moves, NaiveZoned, Offset, OffsetStretch, ShownDay, StepBounds, TimeZone,
+    Utc, ZoneDays, moved,
 };

@@ -1,7 +1,8 @@
 -- When clocks show certain local times: by the types in force as by their offsets.
 use Rattle.zoned_ref.proofs.Words.{AreEndsOfDay, AreEndsWithin, AreOffsetsOf, HasReached, IsFirstAtOrAfter, IsFirstToReach, IsNarrow, IsNeverOnDay}
-use Rattle.zoned_ref.proofs.Words.{IsNeverWithin, IsOnDay, IsWide, IsWideDay, IsZoneSecond, LocalType, ShownSeconds, ShowsWithin, TypeAt, Zone, ap, arith, ints}
-use Rattle.zoned_ref.proofs.Words.{pos, type_once, ℤ, ◌*ℤ◌, ◌+ℤ◌, ◌∙◌, ◌≡◌}
+use Rattle.zoned_ref.proofs.Words.{IsNeverWithin, IsOffsetStretch, IsOnDay}
+use Rattle.zoned_ref.proofs.Words.{IsWide, IsWideDay, IsZoneSecond, LocalType, ShownSeconds, ShowsWithin, TypeAt, Zone, ap, arith, ints}
+use Rattle.zoned_ref.proofs.Words.{pos, sym, type_once, ℤ, ◌*ℤ◌, ◌+ℤ◌, ◌<ℤ◌, ◌∙◌, ◌≡◌, ◌≤ℤ◌}
 use Rattle.zoned_ref.proofs.Offsets.{type_within}
 
 abbrev OnDayByType : Zone → ℤ → ℤ → LocalType → Type 0
@@ -48,3 +49,12 @@ first_to_reach z off l u t narrow of_zone wide h =
     let latest = reached_a_day_on z off l narrow of_zone wide in let there = of_zone (l +ℤ pos 86_399) latest.in_zone in
     let within = type_within z u t narrow h.shown.type in let not_later = h.first (l +ℤ pos 86_399) there.type (grind (arith, ints)) in
     let inside : IsZoneSecond u = grind (arith, ints) in grind (arith, ints, same_offset z off u t of_zone inside h.shown.type)
+
+-- ---- stretches of one offset
+pub stretch_by_type : (z : Zone) (off : ℤ → ℤ) (s from until k : ℤ) → AreOffsetsOf z off → from ≤ℤ s → s <ℤ until
+    → ((u : ℤ) → from ≤ℤ u → u <ℤ until → (t : LocalType) × TypeAt z u t × (k ≡ t.offset)) → IsOffsetStretch off s from until k
+stretch_by_type z off s from until k of_zone low high each = record {
+  not_before = low;
+  before = high;
+  same = λ u inside since before. let at = each u since before in same_offset z off u at.0 of_zone inside at.1 ∙ sym at.2;
+}

@@ -14,7 +14,7 @@ rule_not_refused (Some (Alternate a)) u inside h =
     let lies = lies_in (floor_div u 86_400) in grind (arith, ints, rule_year)
 rule_not_refused None u inside h = h
 
-not_refused : (z : Zone) (u : ℤ) → IsValid z → IsZoneSecond u → IsTypeRefused z u → ⊥
+pub not_refused : (z : Zone) (u : ℤ) → IsValid z → IsZoneSecond u → IsTypeRefused z u → ⊥
 not_refused z u valid inside (by_leap_time some refused) =
     leap_times_answer z.leaps u valid.leaps (omega (arith, ints, inside)) (omega (arith, ints, inside)) refused
 not_refused z u valid inside (by_rule x of_second last refused) = rule_not_refused z.rule u inside refused

@@ -18,10 +18,11 @@ pub use Rattle.tz_info.specs.declared.rule.transition_rule.TransitionRule.{Trans
 pub use Rattle.tz_info.specs.declared.zone.ask.shown_seconds.ShownSeconds.{ShownSeconds}
 pub use Rattle.zoned_time.proofs.ForCallers.{choice_decided, same_itself}
 pub use Rattle.zoned_time.proofs.Words.{AreEndsOfDay, HasInstant, HasReached, IsAt, IsBeforeGap, IsFirstToReach, IsInRange, IsNeverOnDay, IsOffsetBeforeGap}
-pub use Rattle.zoned_time.proofs.Words.{IsOnDay, IsTaken, IsUnresolved, IsWallAnswer, IsWide, IsWideDay, IsWithinDay, IsZoneSecond, Law, List, MatchOption}
+pub use Rattle.zoned_time.proofs.Words.{IsOffsetStretch, IsOnDay, IsTaken, IsUnresolved, IsWallAnswer, IsWide, IsWideDay, IsWithinDay, IsZoneSecond, Law, List}
+pub use Rattle.zoned_time.proofs.Words.{MatchOption}
 pub use Rattle.zoned_time.proofs.Words.{Meaning, Reading, SFits, SameLaw, SomeIff, Zoned, all_or_none, ap, arith, day_of, floor_div, home_law, in_seconds, inl}
 pub use Rattle.zoned_time.proofs.Words.{inr, instant_of, ints, map_of, of_secs, one_wall_answer, option_map, pos, reading, refl, rules, seconds_of, subst, suc}
-pub use Rattle.zoned_time.proofs.Words.{sym, to_z-of_z, w32, w64, zero, zoned, ℕ, ℤ, [], ◌*ℤ◌, ◌++◌, ◌+ℤ◌, ◌-ℤ◌, ◌∙◌, ◌∷◌, ◌≡◌, ◌≤ℤ◌, ◌⊎◌}
+pub use Rattle.zoned_time.proofs.Words.{sym, to_z-of_z, w32, w64, zero, zoned, ℕ, ℤ, [], ◌*ℤ◌, ◌++◌, ◌+ℤ◌, ◌-ℤ◌, ◌∙◌, ◌<ℤ◌, ◌∷◌, ◌≡◌, ◌≤ℤ◌, ◌⊎◌}
 unfoldable pub use Rattle.zoned_time.proofs.Words.{year_of}
 pub use Rattle.offset_core.specs.declared.resolve_error.ResolveError.{ResolveError}
 pub use Rattle.zoned_ref.specs.Instants.{AreInstantsAt, AreTypesFor}

@@ -11,7 +11,7 @@ ghost use Rattle.zoned_ref.specs.{KeptZone.{law_of, zone_of}, ZoneOffset.{meanin
 use crate::{KeptZone, ZoneOffset};
 use naive_base::{NaiveDate, NaiveDateTime};
 use offset_core::{Around, LocalResult};
-use zoned_time::{ShownDay, TimeZone, ZoneDays};
+use zoned_time::{OffsetStretch, ShownDay, TimeZone, ZoneDays};
 
 impl TimeZone for KeptZone {
     type Offset = ZoneOffset<'static>;
@@ -92,5 +92,9 @@ impl ZoneDays for KeptZone {
 
     fn first_second_at_or_after(&self, local: &NaiveDateTime) -> i64 {
         self.borrowed.first_second_at_or_after(local)
+    }
+
+    fn offset_stretch_at(&self, utc: &NaiveDateTime) -> OffsetStretch {
+        self.borrowed.offset_stretch_at(utc)
     }
 }

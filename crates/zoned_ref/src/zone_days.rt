@@ -2,7 +2,7 @@
 
 use crate::TimeZoneRef;
 use naive_base::{NaiveDate, NaiveDateTime};
-use zoned_time::{ShownDay, ZoneDays};
+use zoned_time::{OffsetStretch, ShownDay, ZoneDays};
 
 impl<'a> ZoneDays for TimeZoneRef<'a> {
     fn seconds_of_day(&self, date: NaiveDate) -> Option<ShownDay<i64>> {
@@ -19,5 +19,24 @@ impl<'a> ZoneDays for TimeZoneRef<'a> {
     fn first_second_at_or_after(&self, local: &NaiveDateTime) -> i64 {
         let zone = self.zone();
         zone.find_first_at_or_after(*local).at
+    }
+
+    fn offset_stretch_at(&self, utc: &NaiveDateTime) -> OffsetStretch {
+        let zone = self.zone();
+        zone.valid_law();
+        match zone.offset_stretch_at(utc.secs_since_epoch()) {
+            Some(
+                tz_info::OffsetStretch {
+                    from,
+                    until,
+                    offset,
+                },
+            ) => OffsetStretch {
+                from,
+                until,
+                offset,
+            },
+            None => unreachable!(),
+        }
     }
 }

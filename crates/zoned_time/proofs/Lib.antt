@@ -6,6 +6,7 @@ pub mod DayEnds
 pub mod ReachedTimes
 pub mod FireTimes
 pub mod RunMoves
+pub mod ShownFires
 pub mod StepTimes
 pub mod ForCallers
 pub mod Homes

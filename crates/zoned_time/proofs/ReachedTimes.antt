@@ -1,6 +1,6 @@
 -- The last local time that clocks have shown: the adjoint of the first second at or after a local time.
 use Rattle.std.specs.Int.Signed.{le_z}
-use Rattle.zoned_time.proofs.Words.{IsTrue, HasPassed, IsFirstToReach, IsInDay, IsInRange, IsReachedAt, IsZoneSecond, Reading, arith}
+use Rattle.zoned_time.proofs.Words.{IsTrue, HasPassed, IsFirstToReach, IsInDay, IsInRange, IsOffsetStretch, IsReachedAt, IsZoneSecond, Reading, arith}
 use Rattle.zoned_time.proofs.Words.{by_lt_z, floor_div, floors, ints, midnight, pos, ℤ, ◌+ℤ◌, ◌-ℤ◌, ◌<ℤ◌, ◌↔◌, ◌≡◌, ◌≤ℤ◌}
 use Rattle.zoned_time.proofs.DayStarts.{StayWithinDay, in_day, reaches}
 
@@ -75,6 +75,21 @@ reached_near off t l within range h =
     let inside : IsZoneSecond t = (omega (arith, ints, range), omega (arith, ints, range)) in
     let now = within t inside in let then = within h.at h.in_zone in let until = h.not_after in let there = h.shown in
     let most = h.last t inside (omega (arith, ints)) in (omega (arith, ints), omega (arith, ints))
+
+-- two days after the begin of a stretch of one offset clocks have caught up
+pub settled : (off : ℤ → ℤ) (t from until k : ℤ) → StayWithinDay off → IsInRange t → IsOffsetStretch off t from until k → from ≤ℤ (t -ℤ pos 172_800)
+    → IsReachedAt off t (t +ℤ k)
+settled off t from until k within range stretch long =
+    let inside : IsZoneSecond t = (omega (arith, ints, range), omega (arith, ints, range)) in
+    let now = stretch.same t inside stretch.not_before stretch.before in let near = within t inside in record {
+      at = t;
+      in_zone = inside;
+      not_after = omega (arith, ints);
+      shown = omega (arith, ints, now);
+      last = λ u in_zone until. let there = within u in_zone in by_lt_z u from
+          (λ less. omega (arith, ints, less, there, near, now, long))
+          (λ not. let high = stretch.before in let same = stretch.same u in_zone not (omega (arith, ints, until, high)) in omega (arith, ints, same, until));
+    }
 
 -- an instant lies in the day of the last local time that clocks have shown
 pub day_reached : (off : ℤ → ℤ) (r : Reading) (l : ℤ) → StayWithinDay off → IsInRange r.s → IsReachedAt off r.s l → IsInDay off (floor_div l 86_400) r

@@ -6,11 +6,13 @@ pub mod Fields
 pub mod Fires
 pub mod Moves
 pub mod Order
+pub mod Policies
 pub mod Reached
 pub mod Relocal
 pub mod Stamps
 pub mod StepBounds
 pub mod Steps
+pub mod Stretches
 pub mod Years
 pub mod Zone
 pub mod Zoned

@@ -1,9 +1,9 @@
 //! The days of zones of one offset.
 ghost use Rattle.std.specs.Prelude.{◌≡◌, ◌+ℤ◌};
 ghost use Rattle.naive_base.specs.{NaiveDate.{day_of}, NaiveDateTime.{reading}};
-ghost use Rattle.zoned_time.specs.{Days.{AreEndsOfDay, IsFirstToReach}, Zone.{IsFixed}};
+ghost use Rattle.zoned_time.specs.{Days.{AreEndsOfDay, IsFirstToReach}, Stretches.{IsOffsetStretch}, Zone.{IsFixed}};
 
-use crate::{Offset, ShownDay, TimeZone, Utc, ZoneDays};
+use crate::{Offset, OffsetStretch, ShownDay, TimeZone, Utc, ZoneDays};
 use naive_base::{NaiveDate, NaiveDateTime, NaiveTime};
 use offset_core::FixedOffset;
 
@@ -15,6 +15,10 @@ impl ZoneDays for Utc {
     fn first_second_at_or_after(&self, local: &NaiveDateTime) -> i64 {
         fixed_second(self, local)
     }
+
+    fn offset_stretch_at(&self, utc: &NaiveDateTime) -> OffsetStretch {
+        fixed_stretch(self, utc)
+    }
 }
 
 impl ZoneDays for FixedOffset {
@@ -24,6 +28,10 @@ impl ZoneDays for FixedOffset {
 
     fn first_second_at_or_after(&self, local: &NaiveDateTime) -> i64 {
         fixed_second(self, local)
+    }
+
+    fn offset_stretch_at(&self, utc: &NaiveDateTime) -> OffsetStretch {
+        fixed_stretch(self, utc)
     }
 }
 
@@ -47,4 +55,17 @@ fn fixed_second<Tz: TimeZone>(zone: &Tz, local: &NaiveDateTime) -> i64
 {
     let offset = zone.offset_from_utc_datetime(local).fix();
     local.secs_since_epoch() - offset.local_minus_utc() as i64
+}
+
+// The stretch of a zone whose clocks are never set.
+fn fixed_stretch<Tz: TimeZone>(zone: &Tz, utc: &NaiveDateTime) -> OffsetStretch
+    requires { IsFixed (Tz.law zone.now) }
+    ensures { IsOffsetStretch (Tz.law zone.now).off (reading utc.now).s
+        result.from result.until result.offset }
+{
+    OffsetStretch {
+        from: i64::MIN,
+        until: i64::MAX,
+        offset: zone.offset_from_utc_datetime(utc).fix().local_minus_utc(),
+    }
 }

@@ -1,10 +1,10 @@
 //! The last local time that the clocks of a zone have shown up to an instant.
-ghost use Rattle.std.specs.Prelude.{◌≡◌, ◌↔◌, ◌<ℤ◌, ◌+ℤ◌, ◌-ℤ◌, pos, IsTrue};
+ghost use Rattle.std.specs.Prelude.{◌≡◌, ◌↔◌, ◌<ℤ◌, ◌≤ℤ◌, ◌+ℤ◌, ◌-ℤ◌, pos, IsTrue};
 ghost use Rattle.offset_core.specs.Offset.{IsWithinDay};
 ghost use Rattle.naive_base.specs.{NaiveDateTime.{reading}, Range.{IsInRange}};
 ghost use Rattle.zoned_time.specs.{Reached.{IsReachedAt}, Steps.Passed.{HasPassed}};
 
-use crate::{Offset, ZoneDays};
+use crate::ZoneDays;
 use naive_base::{NaiveDateTime, Timelike};
 use offset_core::FixedOffset;
 
@@ -30,15 +30,38 @@ pub(crate) fn reached_at<Tz: ZoneDays>(zone: &Tz, utc: NaiveDateTime) -> NaiveDa
     }
 }
 
-// How many seconds that local time is ahead of UTC: the offset in force, unless clocks have been set
-// back and haven't caught up yet.
+// How many seconds that local time is ahead of UTC. If clocks haven't been set for two days, it is the
+// offset in force: they are less than a day away from UTC.
 fn reached_offset<Tz: ZoneDays>(zone: &Tz, utc: NaiveDateTime) -> i32
     requires { IsInRange (reading utc).s }
     ensures within { IsWithinDay result }
     ensures reached { let s = (reading utc).s in
         IsReachedAt (Tz.law zone.now).off s (s +ℤ result) }
 {
-    let now = zone.offset_from_utc_datetime(&utc).fix().local_minus_utc();
+    let stretch = zone.offset_stretch_at(&utc);
+    if is_two_days_before(stretch.from, utc.secs_since_epoch()) {
+        return stretch.offset;
+    }
+    reached_after_change(zone, utc, stretch.offset)
+}
+
+// Whether the first of two seconds comes two days before the other one, or earlier.
+fn is_two_days_before(first: i64, second: i64) -> bool
+    requires { IsInRange second }
+    ensures { IsTrue result ↔ first ≤ℤ (second -ℤ pos 172_800) }
+{
+    first <= second - 172_800
+}
+
+// The same: the offset in force, unless clocks have been set back and haven't caught up yet.
+fn reached_after_change<Tz: ZoneDays>(zone: &Tz, utc: NaiveDateTime, now: i32) -> i32
+    requires range { IsInRange (reading utc).s }
+    requires within { IsWithinDay now }
+    requires offset { now ≡ (Tz.law zone.now).off (reading utc).s }
+    ensures within { IsWithinDay result }
+    ensures reached { let s = (reading utc).s in
+        IsReachedAt (Tz.law zone.now).off s (s +ℤ result) }
+{
     if now == 86_399 {
         return now;
     }

@@ -8,10 +8,12 @@ ghost use Rattle.zoned_time.specs.Days as instants;
 ghost use Rattle.zoned_time.specs.DayEnds as ends;
 ghost use Rattle.zoned_time.specs.Fires as fire_times;
 ghost use Rattle.zoned_time.specs.StepBounds as bounds;
-ghost use Rattle.zoned_time.specs.{DateTime.{zoned}, Fires.{IsFire}, Reached.{IsReachedAt}, Zoned.{IsAt}};
+ghost use Rattle.zoned_time.specs.{DateTime.{zoned}, Fires.{IsFire}, Policies.{IsFireBy, IsZonedNextOf, NoneAfter}};
+ghost use Rattle.zoned_time.specs.{Reached.{IsReachedAt}, Stretches.{IsOffsetStretch}, Zoned.{IsAt}};
 
+use crate::policies::next_by_policy;
 use crate::reached::reached_at;
-use crate::{DateTime, Fires, TimeZone, Utc};
+use crate::{DateTime, FirePolicy, Fires, Offset, TimeZone, Utc};
 use naive_base::{Datelike, Days, NaiveDate, NaiveDateTime, NaiveTime, Weekday};
 use naive_plans::{ClockStep, Plan, ReversiblePlan};
 use offset_core::{FixedOffset, TimeDelta};
@@ -32,6 +34,17 @@ pub struct StepBounds<T> {
     pub begin: T,
     /// The first instant after it.
     pub end: T,
+}
+
+/// A stretch of seconds of Unix time at all of which a zone has one offset.
+#[derive(Clone, Copy, Debug)]
+pub struct OffsetStretch {
+    /// Its first second.
+    pub from: i64,
+    /// The second after its last one.
+    pub until: i64,
+    /// The offset, in seconds east of UTC.
+    pub offset: i32,
 }
 
 /// A zone whose days can be found.
@@ -58,6 +71,23 @@ pub trait ZoneDays: TimeZone {
     /// or a later one.
     fn first_second_at_or_after(&self, local: &NaiveDateTime) -> i64
         ensures { instants.IsFirstToReach (Self.law self.now).off (reading local.now).s result };
+
+    /// Returns the offset at an instant, given by its UTC date-time, and a stretch of seconds around it at
+    /// which the zone has that offset. The stretch may be a part of a longer one: here it is one second.
+    ///
+    /// A zone whose clocks are seldom set should return long stretches: a plan that fires on each pass of a
+    /// fold is searched stretch by stretch.
+    fn offset_stretch_at(&self, utc: &NaiveDateTime) -> OffsetStretch
+        ensures { IsOffsetStretch (Self.law self.now).off (reading utc.now).s
+            result.from result.until result.offset }
+    {
+        let second = utc.secs_since_epoch();
+        OffsetStretch {
+            from: second,
+            until: second + 1,
+            offset: self.offset_from_utc_datetime(utc).fix().local_minus_utc(),
+        }
+    }
 
     /// Returns the first and the last second at which clocks show that date; `None` if no second
     /// shows it, or if one of the two is out of the range of [`DateTime`].
@@ -276,6 +306,30 @@ pub trait ZoneDays: TimeZone {
         instant_at(self, self.first_second_at_or_after(&local), 0)
     }
 
+    /// Returns the first instant after the given one, of any zone, at which a plan fires under a policy for
+    /// its local times in gaps and folds; `None` if no such instant is in the range of [`DateTime`].
+    ///
+    /// [`ZoneDays::next_fire`] has the policy of [`GapFires::AtEnd`] and [`FoldFires::FirstPass`]. If clocks
+    /// show a local time of the plan at the end of a gap, the plan fires then, whatever else is in the gap.
+    ///
+    /// ```
+    /// let policy = FirePolicy { gap: GapFires::Never, fold: FoldFires::EachPass };
+    /// let next = new_york.next_fire_by(&daily, policy, &noon)?; // of 02:30 each day: 2021-03-15 02:30:00 -04:00
+    /// ```
+    final fn next_fire_by<P: Plan, Tz: TimeZone>(
+        &self,
+        plan: &P,
+        policy: FirePolicy,
+        after: &DateTime<Tz>,
+    ) -> Option<DateTime<Self>>
+        ensures { let law = Self.law self.now in
+            let fire = IsFireBy policy law.off (P.planned plan.now) in
+            let s = (zoned after.now).utc.s in
+            MatchOption result (NoneAfter fire s) (λ d. IsZonedNextOf law fire s (zoned d)) }
+    {
+        next_by_policy(self, plan, policy, &after.to_utc())
+    }
+
     /// Returns an iterator over the instants at which a plan fires, after one instant and at or before
     /// another one, of any zones. It skips none and returns none twice.
     ///
@@ -467,7 +521,7 @@ fn start_of_earlier_day<Tz: ZoneDays>(zone: &Tz, date: NaiveDate, days: u32) -> 
 }
 
 // The instant of a second and its nanoseconds, if it is in range.
-fn instant_at<Tz: TimeZone>(zone: &Tz, second: i64, nanos: u32) -> Option<DateTime<Tz>>
+pub(crate) fn instant_at<Tz: TimeZone>(zone: &Tz, second: i64, nanos: u32) -> Option<DateTime<Tz>>
     requires { nanos < 1_000_000_000 }
     ensures { MatchOption result (IsInRange second → ⊥)
         (λ d. IsInRange second × IsAt (Tz.law zone.now) (of_secs second nanos) (zoned d)) }
