@@ -24,7 +24,7 @@ skip() {
 
 case $suite in
   trixie) PACKAGES+=,python3-dask,mypy ;;
-  sid) PACKAGES+=,python3-pyarrow ;;
+  sid) PACKAGES+=,python3-pyarrow,mypy ;;
   *) sed -n 's/^# usage: /usage: /p' "$0" >&2; exit 2 ;;
 esac
 [ -f "$LIBRARY" ] || { echo "$LIBRARY is missing: tools/python_tests.sh builds it" >&2; exit 1; }

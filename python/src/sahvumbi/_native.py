@@ -62,6 +62,13 @@ class InForce(NamedTuple):
     dst: timedelta
 
 
+class Stop(NamedTuple):
+    """The first row of a column that has no answer, and the number that says why."""
+
+    row: int
+    number: int
+
+
 @lru_cache(1 << 10)
 def _type_of(offset: int, is_dst: int, abbreviation: bytes) -> TypeOf:
     name = abbreviation.decode()
@@ -128,15 +135,16 @@ class NativeZone:
         up to the first row that has none, and returns that row.
 
         Units are those of `COLUMN_UNITS`. The least int64 is no time, and stays."""
-        return self._rows(LIBRARY.zoned_column_locals, (per_second,), instants, answers)(0)
+        stop = self._rows(LIBRARY.zoned_column_locals, (per_second,), instants, answers)(0)
+        return stop and stop.row
 
     # Local times, counted in seconds but for those of `instants`.
 
     def instants(
         self, gap: int, fold: int, per_second: int, local_times: Array, answers: Array
-    ) -> Callable[[int], Optional[int]]:
+    ) -> Callable[[int], Optional[Stop]]:
         """Returns a call that writes the instant that the choice takes for each local time, from a
-        row on and up to the next one that has none, and returns that row."""
+        row on and up to the next one that has none, and returns that row, and why."""
         words = gap, fold, per_second
         return self._rows(LIBRARY.zoned_column_instants, words, local_times, answers)
 
@@ -302,17 +310,17 @@ class NativeZone:
 
     def _rows(
         self, call: Any, words: tuple[int, ...], asked: Array, answers: Array
-    ) -> Callable[[int], Optional[int]]:
+    ) -> Callable[[int], Optional[Stop]]:
         """Returns what asks about the rows of two arrays of int64, from one of them on."""
         (first, size), (out, _), row = _array(asked), _array(answers), c_size_t()
 
-        def ask(begin: int) -> Optional[int]:
+        def ask(begin: int) -> Optional[Stop]:
             while begin < size:
                 rows = min(size - begin, ROWS)
                 arrays = first + 8 * begin, rows, out + 8 * begin, rows
                 number = call(self._zone, *words, *arrays, byref(row))
                 if number in ROW_REFUSED:
-                    return begin + row.value
+                    return Stop(begin + row.value, number)
                 self._must_be_answered(number)
                 begin += rows
             return None
