@@ -61,7 +61,8 @@ class OfDatetime64(Counted):
 
     def __init__(self, unit: str):
         self.factor = SECONDS.get(unit, 1)
-        self.unit = "s" if unit in SECONDS else unit
+        # numpy's types have the units one by one.
+        self.unit: Any = "s" if unit in SECONDS else unit
         self.per_second = PER_SECOND[self.unit]
 
     def local_time(self, count: int) -> Any:
