@@ -24,7 +24,7 @@ skip() {
 
 case $suite in
   trixie) PACKAGES+=,python3-dask,mypy ;;
-  sid) PACKAGES+=,python3-pyarrow ;;
+  sid) PACKAGES+=,python3-pyarrow,mypy ;;
   *) sed -n 's/^# usage: /usage: /p' "$0" >&2; exit 2 ;;
 esac
 [ -f "$LIBRARY" ] || { echo "$LIBRARY is missing: tools/python_tests.sh builds it" >&2; exit 1; }
@@ -32,7 +32,8 @@ esac
 if [ ! -d "$root" ]; then
   command -v mmdebstrap >/dev/null || skip 'it needs mmdebstrap: apt-get install mmdebstrap'
   rm -rf "$root.part"
-  mmdebstrap --quiet --variant=apt --include="$PACKAGES" "$suite" "$root.part" "$MIRROR" </dev/null ||
+  # A mirror may be a copy of an earlier day.
+  mmdebstrap --quiet --variant=apt --aptopt='Acquire::Check-Valid-Until "false"' --include="$PACKAGES" "$suite" "$root.part" "$MIRROR" </dev/null ||
     skip "mmdebstrap could not unpack $suite from $MIRROR"
   mv "$root.part" "$root"
 fi

@@ -4,7 +4,7 @@
 usage: python/bench/side_by_side.py [--rows N] [--write] [--part NAME ..]
 
 Prints the tables of docs/PYTHON.md, or with --write puts them there. It takes three minutes. --part prints
-some of them: ratios, sizes, calls, memory, kinds; and arrow, which needs pyarrow.
+some of them: ratios, sizes, values, calls, memory, kinds; and arrow, which needs pyarrow.
 
 2,000,000 instants of the years 1970 to 2036, drawn evenly with a fixed seed, are asked for their
 local time: in no order, sorted, all of one day (2021-07-01), and all equal. The local times, moved
@@ -13,7 +13,7 @@ instants: gaps and folds become NaT. pandas and this package get the same Series
 by turns. The processor time of the process counts, the least of 5 turns (2 to instants), so other
 work on the machine has little effect.
 
-A call on one row is the mean of 1,000 calls, the least of 9 turns. Memory is what tracemalloc finds
+A call about one value or one row is the mean of 500 calls, the least of 40 or 20 turns. Memory is what tracemalloc finds
 at the peak of a call, less the answer, for each row. Answers are compared with pandas', whose zones
 of a name are those of pytz, and with `zoneinfo`'s, one row after another. The last table has pandas
 with the zones of zoneinfo and of dateutil too.
@@ -44,6 +44,7 @@ ZONES = [
     "Asia/Kolkata",
     "Pacific/Apia",
 ]
+CALLS = "to_local", "offsets", "types", "localize", "start_of_day"
 DAY = int(np.datetime64("2021-07-01", "s").astype(int))
 PACKAGES = "python3-tz", "python3-dateutil", "tzdata"
 
@@ -202,6 +203,50 @@ def arrow(rows):
     yield from table(["question", "order", "here", "pandas", "pyarrow"], 3, lines)
 
 
+def values():
+    """Calls about one value."""
+    zone, name, there, utc = Zone(ZONES[0]), ZONES[0], ZoneInfo(ZONES[0]), timezone.utc
+
+    def of(moment, to, into):
+        """A call of each kind by `to` and `into`, which give a moment the zone and a clock its instant."""
+        clock = moment.replace(tzinfo=None)
+        midnight = clock.replace(hour=0, minute=0, second=0)
+
+        def type_of():
+            shown = to(moment)
+            return shown.utcoffset(), shown.dst(), shown.tzname()
+
+        return clock, {
+            "to_local": lambda: to(moment).replace(tzinfo=None),
+            "offsets": lambda: to(moment).utcoffset(),
+            "types": type_of,
+            "localize": lambda: into(clock),
+            "start_of_day": lambda: into(midnight),
+        }
+
+    def ours(moment, clock):
+        asked = {call: clock if call in ("localize", "start_of_day") else moment for call in CALLS}
+        return {call: lambda call=getattr(zone, call), value=value: call(value) for call, value in asked.items()}
+
+    far, near = datetime(2021, 7, 1, 12, 30, tzinfo=utc), datetime(2021, 11, 8, 12, 30, tzinfo=utc)
+    pairs = []
+    for moment in (far, near):
+        clock, theirs = of(moment, lambda each: each.astimezone(there), lambda each: each.replace(tzinfo=there).astimezone(utc))
+        pairs.append((ours(moment, clock), theirs))
+    clock, theirs = of(pd.Timestamp(far), lambda each: each.tz_convert(name), lambda each: each.tz_localize(name).tz_convert("UTC"))
+    theirs["to_local"] = lambda moment=pd.Timestamp(far): moment.tz_convert(name).tz_localize(None)
+    pairs.append((ours(pd.Timestamp(far), clock), theirs))
+    _, times = timed([ask[call] for call in CALLS for pair in pairs for ask in pair], 40, calls=500)
+    lines = []
+    for place, call in enumerate(CALLS):
+        found = times[6 * place : 6 * place + 6]
+        cells = [f"{1e6 * own:.1f} us of {1e6 * other:.1f}: {own / other:.2f}" for own, other in zip(found[::2], found[1::2])]
+        lines.append(row(f"`{call}`", *cells))
+    yield "### One value: our time through zoneinfo's, or pandas'\n"
+    yield "The moments are 2021-07-01 12:30 UTC, and 2021-11-08, the day after a clock change.\n"
+    yield from table(["call", "a datetime", "a datetime near a change", "a Timestamp, by pandas"], 3, lines)
+
+
 def calls():
     """Calls on one row."""
     zone, name = Zone(ZONES[0]), ZONES[0]
@@ -210,32 +255,31 @@ def calls():
         "a DatetimeIndex": pd.Index,
         "a Series": pd.Series,
         "an array": lambda each: each.to_numpy("M8[ns]"),
-        "a Timestamp": lambda each: each[0],
     }
-    theirs = [
-        lambda: instants.tz_convert(name).tz_localize(None),
-        lambda: local.tz_localize(name, ambiguous="NaT", nonexistent="NaT").tz_convert("UTC"),
-    ]
-    moment, clock, there = datetime(2021, 7, 1, tzinfo=timezone.utc), datetime(2021, 7, 1), ZoneInfo(name)
-    asks = [
-        ("a DatetimeIndex, by pandas", *theirs),
-        (
-            "a datetime, by zoneinfo",
-            lambda: moment.astimezone(there).replace(tzinfo=None),
-            lambda: clock.replace(tzinfo=there).astimezone(timezone.utc),
-        ),
-        ("a datetime", lambda: zone.to_local(moment), lambda: zone.localize(clock)),
-    ]
+    asks = []
     for form, made in shown.items():
         a, b = made(instants), made(local)
         asks.append((form, lambda a=a: zone.to_local(a), lambda b=b: zone.localize(b, "nat", "nat")))
-    _, times = timed([ask for _, *both in asks for ask in both], 9, calls=1_000)
+        if form == "an array":
+            continue
+        a, b = (getattr(each, "dt", each) for each in (a, b))
+        asks.append((
+            f"{form}, by pandas",
+            lambda a=a: a.tz_convert(name).tz_localize(None) if isinstance(a, pd.Index) else a.tz_convert(name).dt.tz_localize(None),
+            lambda b=b: pandas_one(b, name),
+        ))
+    _, times = timed([ask for _, *both in asks for ask in both], 20, calls=500)
     lines = [
         row(form, *(f"{1e6 * each:.1f} us" for each in times[2 * place : 2 * place + 2]))
         for place, (form, *_) in enumerate(asks)
     ]
     yield "### Calls on one row\n"
     yield from table(["of", "to local times", "to instants"], 2, lines)
+
+
+def pandas_one(local, name):
+    found = local.tz_localize(name, ambiguous="NaT", nonexistent="NaT")
+    return getattr(found, "dt", found).tz_convert("UTC")
 
 
 def peak(ask, answer_bytes, rows):
@@ -319,13 +363,14 @@ def main():
     parser = argparse.ArgumentParser(description=__doc__.split("\n")[0])
     parser.add_argument("--rows", type=int, default=2_000_000)
     parser.add_argument("--write", action="store_true", help="put the tables into docs/PYTHON.md")
-    parser.add_argument("--part", nargs="+", default=["ratios", "sizes", "calls", "memory", "kinds"])
+    parser.add_argument("--part", nargs="+", default=["ratios", "sizes", "values", "calls", "memory", "kinds"])
     given = parser.parse_args()
     lines = [machine(given.rows)]
     print(lines[0])
     parts = {
         "ratios": lambda: ratios(given.rows),
         "sizes": sizes,
+        "values": values,
         "calls": calls,
         "memory": lambda: memory(given.rows),
         "kinds": lambda: kinds(min(given.rows, 200_000)),

@@ -1,5 +1,7 @@
-"""Days, and steps of clocks: against the definitions, zoneinfo and pandas."""
+"""Days, and steps of clocks: against the definitions, the library's own steps, zoneinfo and pandas."""
 
+import ctypes
+from ctypes import byref, c_int64, c_size_t, c_uint32, c_void_p
 from datetime import date, datetime, timedelta, timezone
 from zoneinfo import ZoneInfo
 
@@ -11,7 +13,7 @@ from hypothesis import given, settings
 from hypothesis import strategies as st
 
 import sahvumbi
-from sahvumbi import Zone
+from sahvumbi import Zone, _library
 
 NEW_YORK = Zone("America/New_York")
 # Zones that change by quarters of an hour, so that a look at each of those is enough.
@@ -205,6 +207,29 @@ def test_floor_and_ceil_beside_pandas(step):
     # By the DST flag of the question pandas takes the wrong one of two hours at the end of a fold.
     is_other = NEW_YORK.types(ours)["is_dst"].to_numpy() != is_dst
     pd.testing.assert_series_equal(ours[~is_other], theirs[~is_other])
+
+
+def by_library(call, zone, seconds, *step):
+    """The answers of a proved call about columns of seconds, which the package itself doesn't use."""
+    ask, answers = getattr(ctypes.CDLL(str(_library.PATH)), call), np.empty_like(seconds)
+    arrays = [part for each in (seconds, answers) for part in (c_void_p(each.ctypes.data), c_size_t(each.size))]
+    number = ask(zone._native._zone, *map(c_uint32, step), c_int64(1), *arrays, byref(c_size_t()))
+    assert number == 0
+    return answers.tolist()
+
+
+@pytest.mark.parametrize("name", ["America/New_York", "America/St_Johns", "America/Toronto", "Pacific/Apia", "Africa/Casablanca", "UTC"])
+def test_days_are_those_of_the_library(name):
+    zone = Zone(name)
+    changes = zone.changes(int(np.datetime64("1900", "s").astype(int)), int(np.datetime64("2100", "s").astype(int))).at
+    anywhere = np.random.default_rng(1).integers(-2_200_000_000, 4_100_000_000, 3_000)
+    seconds = np.concatenate([anywhere, *(changes + 1_800 * half_hours for half_hours in range(-50, 51, 5))])
+    # The numbers are those of the header: `zoned_step`.
+    for step, number in {"D": 86_400, "W": 100_001, "MS": 200_000, "YS": 300_000}.items():
+        assert zone.floor(seconds, step).tolist() == by_library("zoned_column_floors", zone, seconds, number)
+        assert zone.ceil(seconds, step).tolist() == by_library("zoned_column_ceils", zone, seconds, number)
+    reached = np.array(by_library("zoned_column_reached", zone, seconds))
+    assert (zone.day(seconds).date == reached // DAY * DAY).all()
 
 
 def test_forms():

@@ -16,6 +16,8 @@ SECONDS = np.random.default_rng(0).integers(-(2**31), 2**32, 2_000)
 
 
 def test_each_zone_is_closed_once(monkeypatch):
+    # What earlier tests left is closed before.
+    gc.collect()
     opened, closed = [], []
 
     class Library:

@@ -3,10 +3,12 @@
 from datetime import date, datetime, timedelta, timezone
 
 import numpy as np
+import pandas as pd
 import pytest
 
 from definitions import tzif
 from sahvumbi import Zone
+from sahvumbi import _columns as columns
 
 # An offset of five days, for a while; changes a minute apart; and changes at the ends of the days that a zone keeps together.
 WIDE = Zone.from_bytes(tzif([(0, 1), (86_400 * 30, 0)], [(0, 0, "UTC"), (432_000, 0, "FAR")]))
@@ -70,6 +72,65 @@ def test_the_tzinfo_is_of_the_same_types(zone):
             assert there.tzname() == types.abbreviation and (there.dst() != timedelta(0)) == bool(types.is_dst), moment
             if abs(types.offset) < timedelta(days=1):
                 assert there.utcoffset() == types.offset, moment
+
+
+#: What makes each form of one value, and of a column of one row, of the seconds since 1970-01-01.
+FORMS = {
+    "int": (int, lambda seconds: np.array([seconds])),
+    "np.int64": (np.int64, lambda seconds: np.array([seconds])),
+    "Timestamp": (lambda seconds: pd.Timestamp(seconds, unit="s"), lambda seconds: pd.Series([seconds * 10**9]).astype("M8[ns]")),
+}
+for unit in ("s", "ms", "us", "ns", "ps"):
+    FORMS[f"M8[{unit}]"] = (
+        lambda seconds, unit=unit: np.datetime64(seconds, "s").astype(f"M8[{unit}]"),
+        lambda seconds, unit=unit: np.array([seconds], "M8[s]").astype(f"M8[{unit}]"),
+    )
+
+
+def parts(answer):
+    """An answer with its type; a Timestamp without its zone."""
+    if isinstance(answer, pd.Timestamp):
+        return pd.Timestamp, answer.to_datetime64()
+    return answer if isinstance(answer, type) else (getattr(answer, "dtype", type(answer)), answer)
+
+
+@pytest.mark.parametrize("form", FORMS)
+def test_each_form_of_one_value_is_a_row(form):
+    of_value, of_row = FORMS[form]
+    most = {"M8[ps]": 2**63 // 10**12, "M8[ns]": 2**63 // 10**9, "Timestamp": 2**63 // 10**9}.get(form, 2**63)
+    moments = [int(np.datetime64(moment, "s").astype(int)) for moment in MOMENTS[::31]]
+    # Both ends of nanoseconds and of the calendar, and one near the end of 64 bits.
+    moments += [-1, 2**63 // 10**9, -(2**63) // 10**9 + 1, 8_210_266_876_799, -8_334_601_228_800, 2**62]
+    for zone in ZONES[:5]:
+        for seconds in [each for each in moments if abs(each) < most]:
+            value, row = of_value(seconds), of_row(seconds)
+            for call in (zone.to_local, zone.offsets, zone.start_of_day):
+                found, due = answer(call, value), answer(call, row)
+                assert parts(found) == parts(due if isinstance(due, type) else due[0]), (call, value)
+            for fold in ("earliest", "latest"):
+                found = answer(zone.localize, value, gap="shift", fold=fold)
+                due = answer(zone.localize, row, gap="shift", fold=fold)
+                assert parts(found) == parts(due if isinstance(due, type) else due[0]), (fold, value)
+            found, due = answer(zone.types, value), answer(zone.types, row)
+            if isinstance(found, type) or isinstance(due, type):
+                assert found is due, value
+            else:
+                first = [column[0] for column in due] if isinstance(due, tuple) else due.iloc[0].tolist()
+                assert (found.offset, found.is_dst, found.abbreviation) == tuple(first), value
+
+
+def test_one_value_is_no_array(monkeypatch):
+    """The answer comes without a column, whatever the value counts."""
+    monkeypatch.setattr(columns.Column, "__init__", None)
+    zone, clock = Zone("America/New_York"), datetime(2021, 11, 7, 1, 30)
+    utc = clock.replace(tzinfo=timezone.utc)
+    values = [clock, 1_636_248_600, np.int64(1_636_248_600), np.datetime64(clock), np.datetime64("2021-07-01"), pd.Timestamp(clock)]
+    for value in [*values, utc, pd.Timestamp(utc)]:
+        for call in (zone.to_local, zone.offsets, zone.types):
+            assert call(value) is not None
+    for value in [*values, clock + timedelta(days=30)]:
+        assert zone.localize(value, fold="latest") is not None and zone.start_of_day(value) is not None
+    assert zone.start_of_day(clock.date()) == datetime(2021, 11, 7, 4, tzinfo=timezone.utc)
 
 
 def test_a_zone_keeps_a_limited_number_of_days():

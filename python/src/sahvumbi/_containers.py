@@ -121,8 +121,7 @@ class IndexContainer(SeriesContainer):
 
         if unit is None:
             return self.numbers(values)
-        # Of an array of its own kind an Index is made without a look at its values.
-        return pandas.DatetimeIndex(_times_of_pandas(values, unit, zone), name=self.of.name)
+        return pandas.DatetimeIndex._simple_new(_times_of_pandas(values, unit, zone), name=self.of.name)
 
     def plain(self, values: Any) -> Any:
         import pandas
@@ -269,15 +268,13 @@ class Failures(NamedTuple):
 
 
 def _times_of_pandas(values: Array, unit: str, zone: Any) -> Any:
-    """Returns the array in which pandas has times, over these numbers: it copies none of them."""
+    """Returns the array in which pandas has times, over these numbers: it copies none of them, and looks at none."""
     import pandas
 
-    made: Any = pandas.arrays.DatetimeArray if pandas.__version__ < "2" else pandas.array
-    if zone is None:
-        values = values.view(f"M8[{unit}]")
-        return made(values, values.dtype, copy=False)
-    # Numbers are instants, and times would be taken for local times.
-    return made(values, pandas.DatetimeTZDtype(unit, zone), copy=False)
+    times = values.view(f"M8[{unit}]")
+    dtype = times.dtype if zone is None else pandas.DatetimeTZDtype(unit, zone)
+    # The public ways to make one take twenty times as long.
+    return pandas.arrays.DatetimeArray._simple_new(times, dtype=dtype)
 
 
 def _nullable(values: Array) -> Any:

@@ -130,7 +130,7 @@ CALLS: dict[str, list[Any]] = {
     "zoned_column_locals": [*_ZONE, *_COLUMN],
     "zoned_column_instants": [*_ZONE, c_uint32, c_uint32, *_COLUMN],
 }
-#: Calls about one value, with the types of what they take.
+#: Calls about one value, with the types of what they take. Callers pass these types themselves.
 BRIEF_CALLS: dict[str, list[Any]] = {
     "zoned_zone_day": [*_ZONE, c_int64, c_void_p],
     "zoned_zone_first_at_or_after": [*_ZONE, c_int64, c_void_p],
@@ -175,17 +175,19 @@ def _loaded() -> tuple[ctypes.CDLL, ctypes.PyDLL]:
     """Returns the calls on arrays, and the brief ones, which keep Python's lock.
 
     Many brief ones come one after another, and if they gave the lock away, another thread would
-    take it for thousands of times as long."""
+    take it for thousands of times as long. ctypes isn't told what they take: to convert two addresses
+    to `c_void_p` takes as long as a call."""
     must_run_here(platform.machine(), _cpu())
     try:
         library = ctypes.CDLL(str(PATH))
     except OSError as error:
         raise ImportError(f"{PATH} can't be loaded, see python/README.md: {error}") from error
     brief = ctypes.PyDLL(str(PATH))
-    for loaded, calls in ((library, CALLS), (brief, BRIEF_CALLS)):
-        for name, arguments in calls.items():
-            call = getattr(loaded, name)
-            call.argtypes, call.restype = arguments, c_uint32
+    for name, arguments in CALLS.items():
+        call = getattr(library, name)
+        call.argtypes, call.restype = arguments, c_uint32
+    for name in BRIEF_CALLS:
+        getattr(brief, name).restype = c_uint32
     library.zoned_close.argtypes, library.zoned_close.restype = [c_void_p], None
     library.zoned_fault_position.argtypes = [c_uint32, c_char_p, c_size_t]
     library.zoned_fault_position.restype = c_size_t

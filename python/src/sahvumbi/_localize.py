@@ -18,6 +18,8 @@ from ._library import (
     GAP_REFUSE,
     GAP_SHIFT_BACKWARD,
     GAP_SHIFT_FORWARD,
+    IN_FOLD,
+    IN_GAP,
     NEVER,
     ONCE,
     OUT_OF_RANGE,
@@ -57,7 +59,7 @@ def localized(native: NativeZone, column: Column, choice: Choice) -> Array:
 
 
 def _left(native: NativeZone, column: Column, choice: Choice, answers: Array) -> Iterator[Array]:
-    """Writes the instants that the zone gives by itself.
+    """Writes the instants that the zone gives by itself, and NaT for a row that becomes it, unless many do.
 
     Yields the places of the other rows, in order, `BLOCK` at most at a time."""
     left, count, row, step, size = [], 0, 0, 1, len(column)
@@ -65,10 +67,15 @@ def _left(native: NativeZone, column: Column, choice: Choice, answers: Array) ->
     asked = native.instants(gap, fold, column.per_second, column.values, answers)
     # The call gives instants outside the calendar too.
     asks = column.fits_calls() and column.lies_in(FIRST_SECOND + FAR, LAST_SECOND - FAR)
+    lost = [number for number, word in ((IN_GAP, choice.gap), (IN_FOLD, choice.fold)) if word == "nat"]
     while row < size:
-        found = asked(row) if asks else row
-        if found is None:
+        found, number = asked(row) or (size, 0) if asks else (row, 0)
+        if found == size:
             break
+        if number in lost and found - row >= CLOSE:
+            answers[found] = NAT
+            row = found + 1
+            continue
         step = min(2 * step, BLOCK) if found - row < CLOSE else 1
         row = min(found + step, found + BLOCK - count, size)
         left.append(np.arange(found, row))

@@ -1,13 +1,15 @@
 """An open zone, asked about numpy arrays and about single numbers.
 
-No other module hands a zone to the library. The calls that ask an open zone write nothing to its
+No other module hands a zone to the library. The brief calls take numbers as `c_int64`: they have no types of
+arguments, whose conversion takes as long as a call. The calls that ask an open zone write nothing to its
 handle, so threads may ask one zone at once.
 """
 
 from __future__ import annotations
 
-from ctypes import byref, c_int32, c_int64, c_size_t
+from ctypes import byref, c_int32, c_int64, c_size_t, c_void_p
 from datetime import timedelta
+from functools import lru_cache
 from typing import TYPE_CHECKING, Any, Callable, NamedTuple, Optional
 
 import numpy as np
@@ -38,13 +40,39 @@ if TYPE_CHECKING:
 COLUMN_UNITS = 1, 10**3, 10**6, 10**9
 
 
-class InForce(NamedTuple):
-    """A type of local time that is in force through some days."""
+class TypeOf(NamedTuple):
+    """A type of local time, with its parts in the forms that answers have."""
 
+    seconds: int
+    """The offset."""
     offset: timedelta
-    dst: timedelta
-    is_dst: bool
+    is_dst: np.bool_
+    name: np.str_
+    """The abbreviation."""
     abbreviation: str
+
+
+class InForce(NamedTuple):
+    """What is in force through some days."""
+
+    seconds: int
+    """The offset, which `offset` is too."""
+    offset: timedelta
+    local_type: TypeOf
+    dst: timedelta
+
+
+class Stop(NamedTuple):
+    """The first row of a column that has no answer, and the number that says why."""
+
+    row: int
+    number: int
+
+
+@lru_cache(1 << 10)
+def _type_of(offset: int, is_dst: int, abbreviation: bytes) -> TypeOf:
+    name = abbreviation.decode()
+    return TypeOf(offset, timedelta(0, offset), np.bool_(is_dst), np.str_(name), name)
 
 
 # Why a row of a column has no local time, or no instant.
@@ -66,6 +94,8 @@ DAYS_OF_STRETCH = 3
 AROUND = 2 * 86_400
 # How many stretches a zone keeps.
 KEPT = 1 << 12
+# Seconds between which a stretch is kept: the calendar lies among them, and 64 bits reach far beyond.
+FAR = 1 << 50
 
 
 class _Handle(library.Handle):
@@ -105,15 +135,16 @@ class NativeZone:
         up to the first row that has none, and returns that row.
 
         Units are those of `COLUMN_UNITS`. The least int64 is no time, and stays."""
-        return self._rows(LIBRARY.zoned_column_locals, (per_second,), instants, answers)(0)
+        stop = self._rows(LIBRARY.zoned_column_locals, (per_second,), instants, answers)(0)
+        return stop and stop.row
 
     # Local times, counted in seconds but for those of `instants`.
 
     def instants(
         self, gap: int, fold: int, per_second: int, local_times: Array, answers: Array
-    ) -> Callable[[int], Optional[int]]:
+    ) -> Callable[[int], Optional[Stop]]:
         """Returns a call that writes the instant that the choice takes for each local time, from a
-        row on and up to the next one that has none, and returns that row."""
+        row on and up to the next one that has none, and returns that row, and why."""
         words = gap, fold, per_second
         return self._rows(LIBRARY.zoned_column_instants, words, local_times, answers)
 
@@ -145,8 +176,10 @@ class NativeZone:
 
     def _in_force_through(self, stretch: int) -> Optional[InForce]:
         begin, end = ((at << DAYS_OF_STRETCH) * 86_400 for at in (stretch, stretch + 1))
+        if not self.is_narrow() or not -FAR < begin < FAR:
+            return None
         span = library.Span()
-        if not self.is_narrow() or BRIEF.zoned_zone_span(self._zone, begin, byref(span)):
+        if BRIEF.zoned_zone_span(self._zone, c_int64(begin), byref(span)):
             return None
         if span.from_ > begin - AROUND or span.until < end + AROUND:
             return None
@@ -155,54 +188,59 @@ class NativeZone:
     def is_narrow(self) -> bool:
         """Whether all offsets of the zone are less than a day."""
         if self._is_narrow is None:
-            number = BRIEF.zoned_zone_reached(self._zone, 0, byref(c_int64()))
+            number = BRIEF.zoned_zone_reached(self._zone, c_int64(0), byref(c_int64()))
             self._is_narrow = number != WIDE_ZONE
         return self._is_narrow
 
     def only_type(self) -> Optional[InForce]:
         """What is in force at all seconds, if clocks never change; else None."""
         span = library.Span()
-        if BRIEF.zoned_zone_span(self._zone, 0, byref(span)):
+        if BRIEF.zoned_zone_span(self._zone, c_int64(0), byref(span)):
             return None
         is_whole = span.from_ == LEAST and span.until == GREATEST
         return self._in_force_at(0, span.local_type) if is_whole else None
 
-    def _in_force_at(self, instant: int, local_type: library.LocalType) -> InForce:
-        offset, dst = timedelta(0, local_type.offset), timedelta(0, self.amount_at(instant))
-        return InForce(offset, dst, bool(local_type.is_dst), local_type.abbreviation.decode())
+    def _in_force_at(self, instant: int, found: library.LocalType) -> InForce:
+        local_type = _type_of(found.offset, found.is_dst, found.abbreviation)
+        dst = timedelta(0, self.amount_at(instant))
+        return InForce(local_type.seconds, local_type.offset, local_type, dst)
 
     def first_instant_of(self, local_time: int) -> Optional[int]:
         """The first second at which clocks show a local time or a later one, or None if it lies
         outside the range of years."""
         found = library.Resolved()
-        self._must_be_answered(
-            BRIEF.zoned_zone_first_at_or_after(self._zone, local_time, byref(found))
-        )
+        number = BRIEF.zoned_zone_first_at_or_after(self._zone, c_int64(local_time), byref(found))
+        self._must_be_answered(number)
         return None if found.number else found.instant
 
     def offset_at(self, instant: int) -> Optional[int]:
         """The offset at a Unix second, or None."""
         found = c_int32()
-        self._must_be_answered(BRIEF.zoned_zone_offset(self._zone, instant, byref(found)))
-        return None if found.value == NO_OFFSET else found.value
+        if number := BRIEF.zoned_zone_offset(self._zone, c_int64(instant), byref(found)):
+            self._must_be_answered(number)
+        offset = found.value
+        return None if offset == NO_OFFSET else offset
 
-    def type_at(self, instant: int) -> Optional[library.LocalType]:
+    def type_at(self, instant: int) -> Optional[TypeOf]:
         """The local time type at a Unix second, or None."""
         found = library.LocalType()
-        self._must_be_answered(BRIEF.zoned_zone_type(self._zone, instant, byref(found)))
-        return None if found.offset == NO_OFFSET else found
+        if number := BRIEF.zoned_zone_type(self._zone, c_int64(instant), byref(found)):
+            self._must_be_answered(number)
+        offset = found.offset
+        return None if offset == NO_OFFSET else _type_of(offset, found.is_dst, found.abbreviation)
 
     def amount_at(self, instant: int) -> int:
         """The amount of daylight saving time at a Unix second at which the zone has a type."""
         found = library.Saving()
-        self._must_be_answered(BRIEF.zoned_zone_standard_offset(self._zone, instant, byref(found)))
+        number = BRIEF.zoned_zone_standard_offset(self._zone, c_int64(instant), byref(found))
+        self._must_be_answered(number)
         return int(found.amount)
 
     def day(self, instant: int) -> Optional[library.Day]:
         """The day that a Unix second lies in, or None if a day begins outside the calendar, or the zone has an
         offset of a day or more."""
         found = library.Day()
-        number = BRIEF.zoned_zone_day(self._zone, instant, byref(found))
+        number = BRIEF.zoned_zone_day(self._zone, c_int64(instant), byref(found))
         if number in (INSTANT_OUT_OF_RANGE, WIDE_ZONE):
             return None
         self._must_be_answered(number)
@@ -211,13 +249,15 @@ class NativeZone:
     def wall_clock(self, local_time: int) -> library.WallClock:
         """When clocks show a local time, counted in seconds."""
         found = library.WallClock()
-        self._must_be_answered(BRIEF.zoned_zone_wall_clock(self._zone, local_time, byref(found)))
+        if number := BRIEF.zoned_zone_wall_clock(self._zone, c_int64(local_time), byref(found)):
+            self._must_be_answered(number)
         return found
 
     def local_change(self, local_time: int) -> library.Change:
         """The clock change of a local time that clocks skip, or show several times."""
         found = library.Change()
-        self._must_be_answered(BRIEF.zoned_zone_local_change(self._zone, local_time, byref(found)))
+        number = BRIEF.zoned_zone_local_change(self._zone, c_int64(local_time), byref(found))
+        self._must_be_answered(number)
         return found
 
     # Spans and changes
@@ -225,7 +265,8 @@ class NativeZone:
     def span(self, instant: int) -> Array:
         """The span of a Unix second at which the zone has a type, as an array of one `SPAN`."""
         span = np.empty(1, SPAN)
-        self._must_be_answered(BRIEF.zoned_zone_span(self._zone, instant, span.ctypes.data))
+        place = c_void_p(span.ctypes.data)
+        self._must_be_answered(BRIEF.zoned_zone_span(self._zone, c_int64(instant), place))
         return span
 
     def changes(self, begin: int, end: int) -> Array:
@@ -269,17 +310,17 @@ class NativeZone:
 
     def _rows(
         self, call: Any, words: tuple[int, ...], asked: Array, answers: Array
-    ) -> Callable[[int], Optional[int]]:
+    ) -> Callable[[int], Optional[Stop]]:
         """Returns what asks about the rows of two arrays of int64, from one of them on."""
         (first, size), (out, _), row = _array(asked), _array(answers), c_size_t()
 
-        def ask(begin: int) -> Optional[int]:
+        def ask(begin: int) -> Optional[Stop]:
             while begin < size:
                 rows = min(size - begin, ROWS)
                 arrays = first + 8 * begin, rows, out + 8 * begin, rows
                 number = call(self._zone, *words, *arrays, byref(row))
                 if number in ROW_REFUSED:
-                    return begin + row.value
+                    return Stop(begin + row.value, number)
                 self._must_be_answered(number)
                 begin += rows
             return None

@@ -1,4 +1,4 @@
-"""Answers for one value, without an array: a datetime or a date without a zone, or an int.
+"""Answers for one value, without an array: a datetime, a date, a number, a datetime64 or a Timestamp.
 
 Each call returns None for what it leaves to the calls about columns: another type of value, and each value
 without an answer, so that those alone raise errors.
@@ -6,23 +6,28 @@ without an answer, so that those alone raise errors.
 
 from __future__ import annotations
 
+import sys
 from datetime import date, datetime, timedelta, timezone
+from functools import lru_cache
 from typing import Any, Optional
 
 import numpy as np
 
 from ._choice import FOLDS, GAPS
-from ._columns import GREATEST
+from ._columns import FIRST_SECOND, GREATEST, LAST_SECOND, PER_SECOND
 from ._containers import EPOCH, NAT
 from ._days import Days
+from ._inputs import SECONDS
 from ._library import ONCE, SEVERAL_TIMES, Day
-from ._native import NativeZone
+from ._native import NativeZone, TypeOf
 from ._types import LocalTypes
 
 EPOCH_OF_UTC = EPOCH.replace(tzinfo=timezone.utc)
 DAY = 86_400
 #: The number of 1970-01-01 among the days of a `date`.
 FIRST_DAY = 719_163
+# Local times this far from the ends of the calendar have an instant in it: no offset is as great.
+FAR = 2**31
 
 
 def seconds_of(since: timedelta) -> int:
@@ -30,14 +35,119 @@ def seconds_of(since: timedelta) -> int:
     return since.days * DAY + since.seconds
 
 
+class Counted:
+    """What counts units since 1970-01-01 00:00:00: the type of a value, and of its answers."""
+
+    #: How many units make a second, how many one of the value's own, and the least number that is a time.
+    per_second, factor, least = 1, 1, NAT
+
+    def local_time(self, count: int) -> Any:
+        """A local time."""
+        return np.int64(count)
+
+    def instant(self, count: int) -> Any:
+        """An instant."""
+        return np.int64(count)
+
+    def length(self, seconds: int) -> Any:
+        """An offset."""
+        return np.int32(seconds)
+
+
+class OfDatetime64(Counted):
+    """datetime64 of a unit."""
+
+    least = NAT + 1
+
+    def __init__(self, unit: str):
+        self.factor = SECONDS.get(unit, 1)
+        # numpy's types have the units one by one.
+        self.unit: Any = "s" if unit in SECONDS else unit
+        self.per_second = PER_SECOND[self.unit]
+
+    def local_time(self, count: int) -> Any:
+        return np.datetime64(count, self.unit)
+
+    instant = local_time
+
+    def length(self, seconds: int) -> Any:
+        return np.timedelta64(seconds, "s")
+
+
+class OfTimestamp(Counted):
+    """A Timestamp of pandas, which is counted in nanoseconds."""
+
+    per_second, least = PER_SECOND["ns"], NAT + 1
+
+    def __init__(self) -> None:
+        self.made = sys.modules["pandas"].Timestamp
+
+    def local_time(self, count: int) -> Any:
+        return self.made(count, unit="ns")
+
+    def instant(self, count: int) -> Any:
+        return self.made(count, unit="ns", tz="UTC")
+
+    def length(self, seconds: int) -> Any:
+        return _timedelta_of_pandas(seconds)
+
+
+# A zone has few offsets, and to look one up takes less time than to make it.
+@lru_cache(1 << 10)
+def _timedelta_of_pandas(seconds: int) -> Any:
+    return sys.modules["pandas"].Timedelta(np.timedelta64(seconds, "s"))
+
+
+@lru_cache(1 << 10)
+def _timedelta(seconds: int) -> timedelta:
+    return timedelta(0, seconds)
+
+
+OF_NUMBER = Counted()
+OF_UNIT = {(unit, 1): OfDatetime64(unit) for unit in (*PER_SECOND, *SECONDS)}
+OF_PANDAS: dict[type, OfTimestamp] = {}
+
+
+def _counted(value: Any) -> Optional[tuple[Counted, int]]:
+    """What a value counts and how much, if it lies in the range of its type."""
+    kind = type(value)
+    if kind is int:
+        return (OF_NUMBER, value) if NAT <= value <= GREATEST else None
+    if kind is np.datetime64:
+        of_unit = OF_UNIT.get(np.datetime_data(value.dtype))
+        if of_unit is None:
+            return None
+        count = int.from_bytes(value, sys.byteorder, signed=True)
+        if count == NAT:
+            return None
+        count *= of_unit.factor
+        return (of_unit, count) if NAT < count <= GREATEST else None
+    if kind is np.int64:
+        return OF_NUMBER, int(value)
+    return _counted_by_pandas(value) if kind.__name__ == "Timestamp" else None
+
+
+def _counted_by_pandas(value: Any) -> Optional[tuple[Counted, int]]:
+    """The same of a Timestamp in the years that nanoseconds can count."""
+    kind = type(value)
+    if kind not in OF_PANDAS:
+        pandas = sys.modules.get("pandas")
+        if pandas is None or kind is not pandas.Timestamp:
+            return None
+        OF_PANDAS[kind] = OfTimestamp()
+    return (OF_PANDAS[kind], value.value) if 1678 <= value.year <= 2261 else None
+
+
 def offset(native: NativeZone, instant: Any) -> Any:
-    """The offset at an instant, as a timedelta of a datetime and as an int32 of an int."""
+    """The offset at an instant, as a timedelta of a datetime and as an int32 of a number."""
     if type(instant) is datetime:
         return _offset_at(native, _since(instant))
-    if type(instant) is int and NAT <= instant <= GREATEST:
-        found = native.offset_at(instant)
-        return None if found is None else np.int32(found)
-    return None
+    counted = _counted(instant)
+    if counted is None:
+        return None
+    form, count = counted
+    found = _seconds_at(native, count // form.per_second)
+    return None if found is None else form.length(found)
 
 
 def local_time(native: NativeZone, instant: Any) -> Any:
@@ -49,11 +159,15 @@ def local_time(native: NativeZone, instant: Any) -> Any:
             return None if found is None else EPOCH + (since + found)
         except OverflowError:
             return None
-    if type(instant) is int and NAT <= instant <= GREATEST:
-        offset = native.offset_at(instant)
-        shown = None if offset is None else instant + offset
-        return None if shown is None or not NAT <= shown <= GREATEST else np.int64(shown)
-    return None
+    counted = _counted(instant)
+    if counted is None:
+        return None
+    form, count = counted
+    seconds = _seconds_at(native, count // form.per_second)
+    if seconds is None:
+        return None
+    shown = count + seconds * form.per_second
+    return form.local_time(shown) if form.least <= shown <= GREATEST else None
 
 
 def types(native: NativeZone, instant: Any) -> Optional[LocalTypes]:
@@ -61,45 +175,76 @@ def types(native: NativeZone, instant: Any) -> Optional[LocalTypes]:
     if type(instant) is datetime:
         since = _since(instant)
         kept = native.in_force(since.days)
-        if kept is not None:
-            return LocalTypes(kept.offset, np.bool_(kept.is_dst), np.str_(kept.abbreviation))  # type: ignore[arg-type]
-        found = native.type_at(seconds_of(since))
-        offset: Any = None if found is None else timedelta(0, found.offset)
-    elif type(instant) is int and NAT <= instant <= GREATEST:
-        found = native.type_at(instant)
-        offset = None if found is None else np.int32(found.offset)
-    else:
+        found = native.type_at(seconds_of(since)) if kept is None else kept.local_type
+        return None if found is None else _types(found, found.offset)
+    counted = _counted(instant)
+    if counted is None:
         return None
-    if found is None:
-        return None
-    return LocalTypes(offset, np.bool_(found.is_dst), np.str_(found.abbreviation.decode()))  # type: ignore[arg-type]
+    form, count = counted
+    second = count // form.per_second
+    kept = native.in_force(second // DAY)
+    found = native.type_at(second) if kept is None else kept.local_type
+    return None if found is None else _types(found, form.length(found.seconds))
+
+
+def _types(found: TypeOf, offset: Any) -> LocalTypes:
+    return LocalTypes(offset, found.is_dst, found.name)  # type: ignore[arg-type]
 
 
 def instant(native: NativeZone, local: Any, gap: Any, fold: Any) -> Any:
     """The instant of a local time, if clocks show it once, or if a word decides its fold."""
-    if type(local) is not datetime or local.tzinfo is not None:
-        return None
     if type(gap) is not str or type(fold) is not str or gap not in GAPS or fold not in FOLDS:
         return None
-    since = local - EPOCH
-    kept = native.in_force(since.days)
-    chosen = _chosen(native, seconds_of(since), fold) if kept is None else kept.offset
-    return None if chosen is None else _utc(since - chosen)
+    if type(local) is datetime:
+        if local.tzinfo is not None:
+            return None
+        since = local - EPOCH
+        kept = native.in_force(since.days)
+        if kept is not None:
+            return _utc(since - kept.offset)
+        chosen = _chosen(native, seconds_of(since), fold)
+        return None if chosen is None else _utc(since - _timedelta(chosen))
+    counted = _of_local_time(local)
+    if counted is None:
+        return None
+    form, count = counted
+    second = count // form.per_second
+    kept = native.in_force(second // DAY)
+    seconds = _chosen(native, second, fold) if kept is None else kept.seconds
+    return None if seconds is None else _instant(form, count - seconds * form.per_second)
 
 
 def start_of_day(native: NativeZone, local: Any) -> Any:
     """The first instant of the day of a date, or of a local time."""
-    if type(local) is datetime:
-        if local.tzinfo is not None:
-            return None
-    elif type(local) is not date:
+    kind = type(local)
+    if kind is date or (kind is datetime and local.tzinfo is None):
+        day = local.toordinal() - FIRST_DAY
+        kept = native.in_force(day)
+        if kept is not None:
+            return _utc(timedelta(day) - kept.offset)
+        first = native.first_instant_of(day * DAY)
+        return None if first is None else _utc(timedelta(0, first))
+    counted = _of_local_time(local)
+    if counted is None:
         return None
-    day = local.toordinal() - FIRST_DAY
+    form, count = counted
+    day = count // form.per_second // DAY
     kept = native.in_force(day)
-    if kept is not None:
-        return _utc(timedelta(day) - kept.offset)
-    first = native.first_instant_of(day * DAY)
-    return None if first is None else _utc(timedelta(0, first))
+    first = native.first_instant_of(day * DAY) if kept is None else day * DAY - kept.seconds
+    return None if first is None else _instant(form, first * form.per_second)
+
+
+def _of_local_time(local: Any) -> Optional[tuple[Counted, int]]:
+    """What a local time counts and how much, if it has no zone and lies in the calendar, far from its ends."""
+    counted = _counted(local)
+    if counted is None or getattr(local, "tzinfo", None) is not None:
+        return None
+    form, count = counted
+    return counted if FIRST_SECOND + FAR <= count // form.per_second <= LAST_SECOND - FAR else None
+
+
+def _instant(form: Counted, count: int) -> Any:
+    return form.instant(count) if form.least <= count <= GREATEST else None
 
 
 def day(native: NativeZone, instant: Any) -> Optional[Days]:
@@ -121,14 +266,21 @@ def _datetimes(found: Day) -> tuple[Any, Any, Any]:
     return EPOCH + date, EPOCH_OF_UTC + begin, EPOCH_OF_UTC + end
 
 
-def _chosen(native: NativeZone, local: int, fold: str) -> Optional[timedelta]:
+def _chosen(native: NativeZone, local: int, fold: str) -> Optional[int]:
     """The offset at which clocks show a local time, if it is one, or if a word decides."""
     clock = native.wall_clock(local)
-    if clock.shown == ONCE or (clock.shown == SEVERAL_TIMES and fold == "earliest"):
-        return timedelta(0, clock.first_offset)
-    if clock.shown == SEVERAL_TIMES and fold == "latest":
-        return timedelta(0, clock.last_offset)
+    shown = clock.shown
+    if shown == ONCE or (shown == SEVERAL_TIMES and fold == "earliest"):
+        return int(clock.first_offset)
+    if shown == SEVERAL_TIMES and fold == "latest":
+        return int(clock.last_offset)
     return None
+
+
+def _seconds_at(native: NativeZone, second: int) -> Optional[int]:
+    """The offset at a Unix second, in seconds."""
+    kept = native.in_force(second // DAY)
+    return native.offset_at(second) if kept is None else kept.seconds
 
 
 def _offset_at(native: NativeZone, since: timedelta) -> Optional[timedelta]:
@@ -137,7 +289,7 @@ def _offset_at(native: NativeZone, since: timedelta) -> Optional[timedelta]:
     if kept is not None:
         return kept.offset
     found = native.offset_at(seconds_of(since))
-    return None if found is None else timedelta(0, found)
+    return None if found is None else _timedelta(found)
 
 
 def _utc(since: timedelta) -> Optional[datetime]:

@@ -7,7 +7,7 @@ from typing import Any, Optional
 
 from ._containers import EPOCH
 from ._library import NEVER, ONCE, OUT_OF_RANGE, SEVERAL_TIMES
-from ._native import NativeZone
+from ._native import InForce, NativeZone, TypeOf
 from ._opening import Zone
 from ._single import FIRST_DAY, seconds_of
 from .errors import NO_OFFSET, NoOffsetError
@@ -22,13 +22,15 @@ class ZoneTime(tzinfo):
     only a flag for that: the amount is inferred from standard time before and after.
     """
 
-    __slots__ = ("zone", "_in_force", "_only")
+    __slots__ = ("zone", "_in_force")
 
     def __init__(self, zone: Zone):
         self.zone = zone
         self._in_force = zone._native.in_force
-        # What is in force at a time of day without a date: known if clocks never change.
-        self._only = zone._native.only_type()
+
+    def _only(self) -> Optional[InForce]:
+        """What is in force at a time of day without a date: known if clocks never change."""
+        return self.zone._native.only_type()
 
     @property
     def key(self) -> Optional[str]:
@@ -38,27 +40,30 @@ class ZoneTime(tzinfo):
     def utcoffset(self, when: Optional[datetime]) -> Optional[timedelta]:
         """Returns the offset of a local time of the zone; for None, that of all times, or None."""
         if when is None:
-            return None if self._only is None else self._only.offset
+            only = self._only()
+            return None if only is None else only.offset
         kept = self._in_force(when.toordinal() - FIRST_DAY)
         if kept is not None:
             return kept.offset
         clock = self.zone._native.wall_clock(_seconds(when))
         if clock.shown == ONCE or clock.shown == SEVERAL_TIMES:
             return timedelta(0, clock.last_offset if when.fold else clock.first_offset)
-        return timedelta(0, self._type(when).offset)
+        return self._type(when).offset
 
     def tzname(self, when: Optional[datetime]) -> Optional[str]:
         """Returns the abbreviation at a local time of the zone; for None, that of all times, or None."""
         if when is None:
-            return None if self._only is None else self._only.abbreviation
+            only = self._only()
+            return None if only is None else only.local_type.abbreviation
         kept = self._in_force(when.toordinal() - FIRST_DAY)
-        return self._type(when).abbreviation.decode() if kept is None else kept.abbreviation
+        return self._type(when).abbreviation if kept is None else kept.local_type.abbreviation
 
     def dst(self, when: Optional[datetime]) -> Optional[timedelta]:
         """Returns what daylight saving time adds to the standard offset at a local time of the zone; for None
         as `utcoffset` does."""
         if when is None:
-            return None if self._only is None else self._only.dst
+            only = self._only()
+            return None if only is None else only.dst
         kept = self._in_force(when.toordinal() - FIRST_DAY)
         if kept is not None:
             return kept.dst
@@ -75,11 +80,12 @@ class ZoneTime(tzinfo):
         if kept is not None:
             return when + kept.offset
         instant = _seconds(when)
-        offset = _at(native, instant).offset
-        shown = when + timedelta(0, offset)
-        return shown.replace(fold=1) if native.wall_clock(instant + offset).first != instant else shown
+        found = _at(native, instant)
+        shown = when + found.offset
+        is_first = native.wall_clock(instant + found.seconds).first == instant
+        return shown if is_first else shown.replace(fold=1)
 
-    def _type(self, when: datetime) -> Any:
+    def _type(self, when: datetime) -> TypeOf:
         """The type of a local time, by its fold."""
         return _at(self.zone._native, self._instant(when))
 
@@ -122,7 +128,7 @@ def _seconds(when: datetime) -> int:
     return seconds_of(when.replace(tzinfo=None) - EPOCH)
 
 
-def _at(native: NativeZone, instant: int) -> Any:
+def _at(native: NativeZone, instant: int) -> TypeOf:
     """The type at an instant."""
     found = native.type_at(instant)
     if found is None:
