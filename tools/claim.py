@@ -9,7 +9,7 @@ given, as docs/PROVED.md cites them. For each clause it prints:
 - the clause, with its place;
 - the definitions that the clause cites, each with its place and its meaning, the worked examples (pins) that speak of it, and the
   wrong definitions that these reject;
-- how many definitions those use in turn;
+- the definitions that those use in turn, by their pages;
 - the command that proves the function, or each function of that name.
 
 A pin is printed with a definition if its clauses cite it; pins of words below it bear on it too (tools/claim.py doesn't follow them).
@@ -17,6 +17,7 @@ A pin is printed with a definition if its clauses cite it; pins of words below i
 
 import os
 import sys
+from collections import defaultdict
 
 from check_headline import CITATION
 from definitions import below, clauses, pins_of, used_in
@@ -65,7 +66,12 @@ def explain(path, names):
         for edit in wrong:
             print(f"    rejected: {edit.name} ({edit.says})")
     further = below(cited)
+    pages = defaultdict(list)
+    for page, word in sorted(set(further) - set(cited)):
+        pages[page].append(word)
     print(f"\n  More definitions that these use: {len(further) - len(cited)}. Pages in all: {len({page for page, _ in further})}.")
+    for page, more in pages.items():
+        print(f"    {shown(page)}: {', '.join(more)}")
     crate, name = path.split("::")[0], path.split("::")[-1]
     if re.fullmatch(r"\w+", name):
         print(f"  To prove it again: (cd crates/{crate} && rt check --only {name})")
@@ -78,7 +84,8 @@ def main():
         sys.exit(__doc__)
     for path, names in citations(sys.argv[1:]):
         explain(path, names)
-    print("\nA function that is proved ends with `only=N proved=N`. The first check in a checkout also proves the libraries below its crate.")
+    print("\nA function that is proved ends with `only=N proved=N`. The first check in a checkout also proves the libraries below its crate, which")
+    print("takes minutes: CONTRIBUTING.md says how many. A † marks a wrong definition that asks for less: the pin's proof no longer fits.")
 
 
 if __name__ == "__main__":

@@ -199,8 +199,11 @@ def documented_calls(module):
         says = isinstance(node, ast.FunctionDef) and not node.name.startswith("_") and ast.get_docstring(node)
         if says and (module in OF_ZONES or f'"{node.name}"' in text_of(PYTHON / "__init__.py")):
             parameters = [each.arg for each in node.args.args if each.arg != "self"]
+            taken = f"({', '.join(parameters)})"
+            is_property = any(getattr(each, "id", "") == "property" for each in node.decorator_list)
             sentence = " ".join(says.partition("\n\n")[0].split()).removeprefix("Returns ").removesuffix(".")
-            yield f"{'zone.' * (module in OF_ZONES)}{node.name}({', '.join(parameters)})", sentence
+            sentence = sentence[0].lower() + sentence[1:]
+            yield f"{'zone.' * (module in OF_ZONES)}{node.name}{'' if is_property else taken}", sentence
 
 
 def with_calls(text):

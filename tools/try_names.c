@@ -1,4 +1,5 @@
-/* Tries the calls of zoned.h that no proof covers: zones by name, the version of the database, and numbers in words.
+/* Tries the calls of zoned.h that no proof covers: zones by name, the version of the database, and numbers in words. And some that are
+   proved, over the installed library: what is around a local time, changes of the offset, limits, and where a file is at fault.
 
      try_names FOLDER      a folder that it makes, of folders of zones
 
@@ -130,7 +131,32 @@ static void try_london(void) {
     IS(zoned_zone_rule_text(&zone, rule, sizeof rule, &length), ZONED_OK);
     IS(strcmp(rule, "GMT0BST,M3.5.0/1,M10.5.0"), 0);
     IS(length, strlen(rule));
+    /* 02:30 on 1968-02-18 at the offset after the gap. */
+    zoned_resolved resolved;
+    IS(zoned_zone_instant(&zone, ZONED_GAP_SHIFT_BACKWARD, ZONED_FOLD_REFUSE, -59002200, &resolved), ZONED_OK);
+    IS(resolved.number, ZONED_OK);
+    IS(resolved.instant, -59005800);
+    /* 1972-07-01 00:00:00 UTC lies in British summer time, an hour ahead of standard time. */
+    zoned_saving saving;
+    IS(zoned_zone_standard_offset(&zone, 78796800, &saving), ZONED_OK);
+    IS(saving.standard_offset, 0);
+    IS(saving.amount, 3600);
     zoned_close(&zone);
+}
+
+/* A file of five transitions within limits and above them, and where a file is at fault: its fifth byte is the version. */
+static void try_limits(void) {
+    unsigned char file[200];
+    const size_t len = file_of(file, 3600, 5);
+    struct zoned_zone zone = {0};
+    IS(zoned_open_limited(ZONED_FILE, file, len, 4, 0, &zone), ZONED_ABOVE_LIMITS);
+    IS(zone.zone == NULL, 1);
+    IS(zoned_open_limited(ZONED_FILE, file, len, 5, 0, &zone), ZONED_OK);
+    zoned_close(&zone);
+    IS(zoned_fault_position(ZONED_FILE, file, len) == SIZE_MAX, 1);
+    IS(zoned_fault_position(ZONED_FILE, file, len - 1), len - 1);
+    file[4] = '4';
+    IS(zoned_fault_position(ZONED_FILE, file, len), 4);
 }
 
 int main(int count, char **words) {
@@ -218,5 +244,6 @@ int main(int count, char **words) {
     try_versions();
     try_words();
     if (access("/usr/share/zoneinfo/Europe/London", R_OK) == 0) try_london();
+    try_limits();
     return differences != 0;
 }

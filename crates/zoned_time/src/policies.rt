@@ -6,7 +6,7 @@ ghost use Rattle.zoned_time.specs.DateTime.{zoned};
 ghost use Rattle.zoned_time.specs.Policies.{IsFireBy, IsShownFire, IsZonedNextOf, NoneAfter};
 ghost use Rattle.zoned_time.specs.Steps.Shown.{AreAllQuiet, AreQuiet, IsEither, IsFirstPlannedIn, IsFirstShown, NonePlannedIn};
 
-use crate::zone_days::instant_at;
+use crate::resolve::instant_at;
 use crate::{DateTime, Offset, TimeZone, Utc, ZoneDays};
 use naive_plans::Plan;
 use offset_core::FixedOffset;

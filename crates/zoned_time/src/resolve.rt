@@ -1,11 +1,20 @@
-//! The instants that a choice takes.
-ghost use Rattle.std.specs.Prelude.{◌≡◌, MatchResult};
-ghost use Rattle.naive_base.specs.{NaiveDateTime.{reading}, Range.{IsInRange}, Reading.{behind}};
+//! Instants of a second, and those that a choice takes.
+ghost use Rattle.std.specs.Prelude.{◌≡◌, ◌<◌, MatchOption, MatchResult};
+ghost use Rattle.naive_base.specs.{NaiveDateTime.{reading}, Range.{IsInRange}, Reading.{behind}, Stamp.{of_secs}};
 ghost use Rattle.zoned_time.specs.{DateTime.{zoned}, Relocal.{instant_of, HasInstant}, Zoned.{IsAt}};
 
 use crate::{DateTime, Offset, TimeZone};
 use naive_base::NaiveDateTime;
 use offset_core::ResolveError;
+
+// The instant of a second and its nanoseconds, if it is in range.
+pub(crate) fn instant_at<Tz: TimeZone>(zone: &Tz, second: i64, nanos: u32) -> Option<DateTime<Tz>>
+    requires { nanos < 1_000_000_000 }
+    ensures { MatchOption result (IsInRange second → ⊥)
+        (λ d. IsInRange second × IsAt (Tz.law zone.now) (of_secs second nanos) (zoned d)) }
+{
+    zone.timestamp_opt(second, nanos).single()
+}
 
 // The instant when a clock with that offset shows the local date-time, if it is in range.
 pub(crate) fn instant_by<Tz: TimeZone>(

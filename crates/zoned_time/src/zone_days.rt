@@ -1,8 +1,8 @@
 //! The days of a zone, and when plans fire in it.
-ghost use Rattle.std.specs.Prelude.{◌≡◌, ◌↔◌, ◌<◌, ◌≤ℤ◌, ◌+ℤ◌, ◌-ℤ◌, pos, IsTrue, MatchOption, ℤ};
+ghost use Rattle.std.specs.Prelude.{◌≡◌, ◌↔◌, ◌≤ℤ◌, ◌+ℤ◌, ◌-ℤ◌, pos, IsTrue, MatchOption, ℤ};
 ghost use Rattle.offset_core.specs.TimeDelta.{nanos_of};
 ghost use Rattle.naive_base.specs.{NaiveDate.{day_of}, Stamp.{of_secs}, Year.{floor_div}};
-ghost use Rattle.naive_base.specs.{NaiveDateTime.{reading}, Range.{IsInRange, IsWideDay}, Weekday.{weekday_number}};
+ghost use Rattle.naive_base.specs.{NaiveDateTime.{reading}, Range.{IsWideDay}, Weekday.{weekday_number}};
 ghost use Rattle.naive_plans.specs.ClockSteps.{BeginsStep};
 ghost use Rattle.zoned_time.specs.Days as instants;
 ghost use Rattle.zoned_time.specs.DayEnds as ends;
@@ -13,6 +13,7 @@ ghost use Rattle.zoned_time.specs.{Reached.{IsReachedAt}, Stretches.{IsOffsetStr
 
 use crate::policies::next_by_policy;
 use crate::reached::reached_at;
+use crate::resolve::instant_at;
 use crate::{DateTime, FirePolicy, Fires, Offset, TimeZone, Utc};
 use naive_base::{Datelike, Days, NaiveDate, NaiveDateTime, NaiveTime, Weekday};
 use naive_plans::{ClockStep, Plan, ReversiblePlan};
@@ -518,15 +519,6 @@ fn start_of_earlier_day<Tz: ZoneDays>(zone: &Tz, date: NaiveDate, days: u32) -> 
         (λ d. instants.IsZonedAtOrAfter law (instants.midnight first) (zoned d)) }
 {
     zone.start_of_day(date.checked_sub_days(Days::new(days as u64))?)
-}
-
-// The instant of a second and its nanoseconds, if it is in range.
-pub(crate) fn instant_at<Tz: TimeZone>(zone: &Tz, second: i64, nanos: u32) -> Option<DateTime<Tz>>
-    requires { nanos < 1_000_000_000 }
-    ensures { MatchOption result (IsInRange second → ⊥)
-        (λ d. IsInRange second × IsAt (Tz.law zone.now) (of_secs second nanos) (zoned d)) }
-{
-    zone.timestamp_opt(second, nanos).single()
 }
 
 // The instant itself, if a plan fires at it.

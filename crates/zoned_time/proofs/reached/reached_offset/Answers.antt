@@ -7,7 +7,8 @@ returns-then-is_two_days_before-clause-within g c =
     let fits : SFits w32 c.offset_stretch_at-stretch.result.offset = search rules in
     let s = c.offset_stretch_at-stretch.ensures in let range = c.requires in
     let inside : IsZoneSecond c.args.utc.secs = (omega (arith, ints, range), omega (arith, ints, range)) in
-    simp to_z-of_z (subst IsWithinDay (s.same c.args.utc.secs inside s.not_before s.before) (g.met.Tz.TimeZone.within_day c.args.zone.now c.args.utc.secs inside))
+    let same = s.same c.args.utc.secs inside s.not_before s.before in
+    simp to_z-of_z (subst IsWithinDay same (g.met.Tz.TimeZone.within_day c.args.zone.now c.args.utc.secs inside))
 
 pub returns-then-is_two_days_before-clause-reached : goal.returns-then-is_two_days_before-clause-reached
 returns-then-is_two_days_before-clause-reached g c =
@@ -23,7 +24,8 @@ reached_after_change-requires-clause-within g c =
     let fits : SFits w32 c.offset_stretch_at-stretch.result.offset = search rules in
     let s = c.offset_stretch_at-stretch.ensures in let range = c.requires in
     let inside : IsZoneSecond c.args.utc.secs = (omega (arith, ints, range), omega (arith, ints, range)) in
-    simp to_z-of_z (subst IsWithinDay (s.same c.args.utc.secs inside s.not_before s.before) (g.met.Tz.TimeZone.within_day c.args.zone.now c.args.utc.secs inside))
+    let same = s.same c.args.utc.secs inside s.not_before s.before in
+    simp to_z-of_z (subst IsWithinDay same (g.met.Tz.TimeZone.within_day c.args.zone.now c.args.utc.secs inside))
 
 pub reached_after_change-requires-clause-offset : goal.reached_after_change-requires-clause-offset
 reached_after_change-requires-clause-offset g c =
