@@ -163,7 +163,7 @@ enum Hint<'a> {
     Rule(&'a str),
     // The file of that name is compressed.
     Compressed(&'a str),
-    // The file is none that zic makes.
+    // zic makes no such file.
     File,
 }
 

@@ -8,8 +8,8 @@ use crate::column::kept::{Kept, kept_after, kept_around, kept_before};
 use crate::column::row::{answer_by, answer_by_zone};
 use crate::column::{NO_TIME, Question};
 
-/// The stretches that are kept, two for each number of a pair. They stand outside the table, since a
-/// struct that holds them would be moved when it is made.
+/// The stretches that are kept, two for each number of a pair. They aren't part of the table, since
+/// a struct of both would be moved when it is made.
 pub type Stretches = [Kept; STRETCHES];
 
 /// How many they are.
