@@ -224,7 +224,7 @@ class Clock:
     def shifts(self, fires):
         """The instants that croniter may have in place of a fire: each with the fire."""
         found, place = {}, 0
-        for before, at in zip([self.first, self.first, *fires], fires):
+        for before, at in zip([*[self.first] * 3, *fires], fires):
             while place + 1 < len(self.found) and self.found[place + 1][0] <= at:
                 place += 1
             there = place
