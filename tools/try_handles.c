@@ -1226,7 +1226,7 @@ static void try_refusals(void) {
 }
 
 /* The stack that zoned(3) asks for, and what a question about one time may use of it. */
-enum { STACK_KB = 24, OF_ONE_KB = 2, AREA = 1 << 18, PAINT = 0xA5, TRANSITIONS = 1000000 };
+enum { STACK_KB = 28, OF_ONE_KB = 2, AREA = 1 << 18, PAINT = 0xA5, TRANSITIONS = 1000000 };
 
 static uint8_t *area;
 static uintptr_t caller;
