@@ -445,8 +445,8 @@ def try_diff(program, folder):
     check("--json --diff of one file", (0, "", []), (status, errors, json.loads(output)["differences"]))
     for words in (["-", "new"], ["good", "-"]):
         with open(folder / ("good" if words[0] == "-" else "new"), "rb") as given:
-            told = subprocess.run([str(program), *years, "--diff", *words], cwd=folder, stdin=given, capture_output=True, text=True)
-        check(f"--diff {' '.join(words)}", (1, line, ""), (told.returncode, told.stdout, told.stderr))
+            ended = subprocess.run([str(program), *years, "--diff", *words], cwd=folder, stdin=given, capture_output=True, text=True)
+        check(f"--diff {' '.join(words)}", (1, line, ""), (ended.returncode, ended.stdout, ended.stderr))
     check("--diff with one file", (2, "", f"{TWO}\n"),
           run(program, "--diff", "good", folder=folder))
     try_folders(program, folder, line)

@@ -94,7 +94,7 @@ fn with_panels(
     }
 }
 
-// The last changes from one second until another, at most so many, in order.
+// The last changes from one second until another, in order: no more than `most`.
 fn last_changes(
     alloc: Global,
     zone: &TimeZone,

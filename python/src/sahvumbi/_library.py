@@ -175,8 +175,8 @@ def _loaded() -> tuple[ctypes.CDLL, ctypes.PyDLL]:
     """Returns the calls on arrays, and the brief ones, which keep Python's lock.
 
     Many brief ones come one after another, and if they gave the lock away, another thread would
-    take it for thousands of times as long. ctypes isn't told what they take: to convert two addresses
-    to `c_void_p` takes as long as a call."""
+    take it for thousands of times as long. They have no `argtypes`: converting two addresses to
+    `c_void_p` takes as long as a call."""
     must_run_here(platform.machine(), _cpu())
     try:
         library = ctypes.CDLL(str(PATH))

@@ -161,7 +161,8 @@ pub fn runs()
     ensures days_order { (a b : NaiveDateDaysIterator) → ⟦<NaiveDateDaysIterator as Ord>⟧.cmp a b
         ≡ int_cmp (days_from a) (days_from b) }
     ensures days_part_ordered { (a b : NaiveDateDaysIterator)
-        → ⟦<NaiveDateDaysIterator as PartialOrd>⟧.partial_cmp a b ≡ Some (⟦<NaiveDateDaysIterator as Ord>⟧.cmp a b) }
+        → ⟦<NaiveDateDaysIterator as PartialOrd>⟧.partial_cmp a b
+        ≡ Some (⟦<NaiveDateDaysIterator as Ord>⟧.cmp a b) }
     ensures days_hashed { (a : NaiveDateDaysIterator) → ⟦<NaiveDateDaysIterator as Hash>⟧.hash_input a
         ≡ fed.i32 (days_from a) }
     ensures days_cloned { (a b : NaiveDateDaysIterator)
@@ -173,7 +174,8 @@ pub fn runs()
     ensures weeks_order { (a b : NaiveDateWeeksIterator) → ⟦<NaiveDateWeeksIterator as Ord>⟧.cmp a b
         ≡ int_cmp (weeks_from a) (weeks_from b) }
     ensures weeks_part_ordered { (a b : NaiveDateWeeksIterator)
-        → ⟦<NaiveDateWeeksIterator as PartialOrd>⟧.partial_cmp a b ≡ Some (⟦<NaiveDateWeeksIterator as Ord>⟧.cmp a b) }
+        → ⟦<NaiveDateWeeksIterator as PartialOrd>⟧.partial_cmp a b
+        ≡ Some (⟦<NaiveDateWeeksIterator as Ord>⟧.cmp a b) }
     ensures weeks_hashed { (a : NaiveDateWeeksIterator) → ⟦<NaiveDateWeeksIterator as Hash>⟧.hash_input a
         ≡ fed.i32 (weeks_from a) }
     ensures weeks_cloned { (a b : NaiveDateWeeksIterator)
