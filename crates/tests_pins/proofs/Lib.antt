@@ -20,3 +20,5 @@ pub mod SetFires
 pub mod SetSteps
 pub mod SetTypes
 pub mod SetSavings
+pub mod RuleDates
+pub mod CountedTimes

@@ -5,6 +5,7 @@ unfoldable pub use Rattle.json.specs.Print.{escape_byte, print_from}
 unfoldable pub use Rattle.std.specs.Fmt.{digits}
 pub use Rattle.offset_core.specs.declared.{choice.{FoldChoice.{FoldChoice}, GapChoice.{GapChoice}}, resolve_error.ResolveError.{ResolveError}}
 pub use Rattle.naive_base.{proofs.Words.{IsDate, IsThursdayOf, IsWeekOf, date_only, iso_number, iso_year}, specs.Range.{first_second, last_second}}
+pub use Rattle.naive_base.proofs.Words.{date_is, is_leap, ◌-◌}
 pub use Rattle.naive_base.specs.declared.iso_week.IsoWeek.{IsoWeek}
 unfoldable pub use Rattle.naive_base.proofs.Words.{day_of_year, in_digits, year_text}
 pub use Rattle.tz_base.specs.{LocalTypes.{plain_type}, declared.{change.Change.{Change}, error.Error.{Error}}}

@@ -12,6 +12,7 @@ pub mod Looks
 pub mod NewYork
 pub mod Plans
 pub mod Readings
+pub mod Recurrences
 pub mod Spans
 pub mod Texts
 pub mod WrittenZones

@@ -6,6 +6,7 @@
 //! code between.
 #![tactic(auto)]
 
+pub mod allowed_rules;
 pub mod asked_lines;
 pub mod calendar;
 pub mod choices;
@@ -28,8 +29,11 @@ pub mod printed;
 pub mod printed_changes;
 pub mod questions;
 pub mod readings;
+pub mod recurrence_rules;
+pub mod recurrence_sets;
 pub mod roundings;
 pub mod rules;
+pub mod runs;
 pub mod savings;
 pub mod shown_seconds;
 pub mod spans;

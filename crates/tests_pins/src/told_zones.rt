@@ -3,9 +3,10 @@
 
 ghost use Rattle.std.specs.Prelude.{◌≡◌, ◌++◌, ◌∷◌, [], codes, neg_ℤ, pos};
 ghost use Rattle.json.specs.{Print.{print}, Tree.{json_tokens}};
+ghost use Rattle.zonedump_lib.specs.ChangeLines.{change_lines};
 ghost use Rattle.zonedump_lib.specs.{JsonValues.{day_value, leap_value, rule_value, zone_value}, Zdump.{IsZdump}};
 ghost use Rattle.zonedump_lib.specs.RuleWords.{day_words, moment_words, month_words, rule_words, week_words};
-ghost use Rattle.zonedump_lib.specs.{RuleWords.{weekday_words}, Tables.{head_text, leap_text, table_text, IsTable}};
+ghost use Rattle.zonedump_lib.specs.{RuleWords.{weekday_words}, Tables.{head_text, leap_text, table_text, BeginsTable, IsTable}};
 ghost use Rattle.zonedump_lib.specs.ZdumpLines.{zdump_text};
 ghost use Rattle.tests_pins.specs.{Changes.{autumn, spring}, NewYork.{new_york_rule, new_york_zone}, Texts.{utc_rule}};
 ghost use Rattle.tests_pins.specs.{LeapSeconds.{entry}, Zones.{utc_zone}};
@@ -66,10 +67,14 @@ pub fn table_heads()
         ≡ codes "leap second: correction 1 from leap time 78796800" }
 {}
 
-/// New York in 2021 has two changes, in the table and in the lines of zdump.
+/// New York in 2021 has two changes, in the table and in the lines of zdump. After its head and the
+/// first one the line of the second one is left of the table.
 pub fn year_2021()
     ensures table { IsTable new_york_zone (Bound.Year 2021) (Bound.Year 2021) (table_text
         new_york_zone (Bound.Year 2021) (Bound.Year 2021) (spring ∷ autumn ∷ [])) }
+    ensures begun { BeginsTable new_york_zone (Bound.Year 2021) (Bound.Year 2021)
+        (head_text new_york_zone (Bound.Year 2021) (Bound.Year 2021) 2
+        ++ change_lines (spring ∷ [])) (autumn ∷ []) }
     ensures zdump { IsZdump (codes "NY") new_york_zone (Bound.Year 2021) (Bound.Year 2021)
         (zdump_text (codes "NY") (spring ∷ autumn ∷ [])) }
 {}
