@@ -29,7 +29,8 @@ pub fn counts()
 
 /// `FREQ=DAILY;UNTIL=20000131T140000Z;BYMONTH=1` in New York, where that is 09:00, from 1998-01-01
 /// on: 2000-01-31 at 09:00 is in it, and 2001-01-01 isn't. Without an end it goes on up to the year
-/// 9999, and has no time before its start.
+/// 9999. `FREQ=WEEKLY;INTERVAL=2;BYDAY=TU,SU;WKST=SU` from Tuesday 1997-08-05 on doesn't have the
+/// Sunday before it, which is of the same week.
 pub fn ends()
     ensures last { (last : NaiveDateTime) → (reading last).s ≡ at_nine (pos 2000) 1 31
         → IsRecurrenceTime rfc.days_of_january (at_nine (pos 1998) 1 1)
@@ -41,8 +42,8 @@ pub fn ends()
         RecurrenceEnd.Never (at_nine (pos 9999) 1 31) }
     ensures year_10000 { ¬ (IsRuleTime rfc.days_of_january (at_nine (pos 1998) 1 1)
         (at_nine (pos 10_000) 1 1)) }
-    ensures before_start { ¬ (IsRuleTime rfc.days_of_january (at_nine (pos 1998) 1 2)
-        (at_nine (pos 1998) 1 1)) }
+    ensures before_start { ¬ (IsRuleTime rfc.from_sunday (at_nine (pos 1997) 8 5)
+        (at_nine (pos 1997) 8 3)) }
 {}
 
 /// `FREQ=MONTHLY;BYDAY=TU,WE,TH;BYSETPOS=3` from 1997-09-04 on has that Thursday, which comes third

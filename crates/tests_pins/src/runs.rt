@@ -6,8 +6,9 @@ ghost use Rattle.naive_base.specs.{Date.{day_number}, Range.{first_day, last_day
 ghost use Rattle.naive_base.specs.Runs.{days_after_first, days_back_from, days_back_left, days_before_last};
 ghost use Rattle.naive_base.specs.Runs.{days_from, days_left, weeks_back_from, weeks_back_left, weeks_from, weeks_left};
 
-use naive_base::{NaiveDateDaysBack, NaiveDateDaysIterator};
-use naive_base::{NaiveDateWeeksBack, NaiveDateWeeksIterator};
+use naive_base::{
+    NaiveDateDaysBack, NaiveDateDaysIterator, NaiveDateWeeksBack, NaiveDateWeeksIterator,
+};
 
 /// The last date is 262142-12-31, and isn't in a run. From 29 December on two days are left, and
 /// from 12 December on two weeks; from the day after the last date on none.

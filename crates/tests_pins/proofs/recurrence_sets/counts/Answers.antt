@@ -17,7 +17,7 @@ has n h =
     let day : floor_div (at n) 86_400 ≡ pos (10_106 + 10 * n) = omega (arith, ints, floors) in
     let second : floor_mod (at n) 86_400 ≡ 32_400 = omega (arith, ints, floors) in
     let k : Counts 10 (pos 10_106) (floor_div (floor_div (at n) 86_400 *ℤ pos 86_400 +ℤ pos (floor_mod (at n) 86_400)) 86_400) =
-        record { times = n; is = omega (arith, ints, floors) } in
+    record { times = n; is = omega (arith, ints, floors) } in
     record { occasion = grind (arith, k, day, second); position = inl refl; from_start = omega (arith, ints); in_years = omega (arith, ints) }
 
 only : (m : ℤ) → Has m → (n : ℕ) × (m ≡ at n)
@@ -49,8 +49,8 @@ returns c = record {
   sixth = λ h. let most = within h.within.0 (at 5) h.within.1 h.within.2 in omega (arith, ints, most);
   up_to_fifth = λ l. (
     λ h.
-      let (n, e) = only l h.0 in let few : n ≤ 4 = omega (arith, ints, e, h.1) in
-      record { time = h.0; within = (n, omega arith, before l n (omega arith) e) },
+        let (n, e) = only l h.0 in let few : n ≤ 4 = omega (arith, ints, e, h.1) in
+        record { time = h.0; within = (n, omega arith, before l n (omega arith) e) },
     λ h. (h.time, within h.within.0 l h.within.1 h.within.2),
   );
   not_up_to_sixth = λ h.

@@ -1,7 +1,7 @@
 use Rattle.std.proofs.Common.{rules}
 use Rattle.naive_base.specs.{Year.{floor_div, floor_mod}, Weekday.{weekday_of}}
 use Rattle.naive_base.specs.declared.weekday.Weekday.TheVariants.{Fri, Mon, Thu, Tue, Wed}
-use Rattle.naive_plans.specs.{RecurrenceRules.{month_number}, RecurrenceSets.{IsInPeriod}}
+use Rattle.naive_plans.specs.{RecurrenceRules.{month_number}, RecurrenceSets.{HasAfter, IsInPeriod}}
 use Rattle.naive_plans.specs.declared.rule.NthWeekday.{NthWeekday}
 use Rattle.tests_pins.proofs.{Computed.{calendar}, CountedTimes.{at_most, counted}, RuleDates.{counts, dated, entry_at}}
 use Rattle.tests_pins.proofs.Words.{List, arith, date_is, day_number, floors, inl, inr, ints, month_of, neg_ℤ, pos, refl, suc, year_of, zero, ℕ, ℤ, [], ◌%◌, ◌*◌}
@@ -94,6 +94,9 @@ last_two p is m h =
     let until = (september (floor_div m 86_400) p is h.same).1 in let e = at_nine_of _ _ _ m p refl h in
     (omega (arith, ints, floors, until, e), λ before. omega (arith, ints, floors, e, before))
 
+two_left : (p : ℤ) → p ≡ pos 23_972 → HasAfter (work p) 1 (pos 875_523_600)
+two_left p is = (pos 875_610_000, (tuesday p is, λ m h. (last_two p is m h).0), monday p is, omega (arith, ints), λ m h. (last_two p is m h).1)
+
 -- the days of September 1997 are in one period
 month : (d : ℕ) → 1 ≤ d → d ≤ 30 → month_number (day_number (pos 1997) 9 d) ≡ pos 23_972
 unfolding calendar
@@ -110,26 +113,25 @@ returns c = record {
   fourth = λ h. elim h [
     | inl none ↦ absurd (omega (arith, none))
     | inr listed ↦ let n : listed.position ≡ pos 3 = grind (arith, listed.listed) in elim listed.nth [
-        | inl (before, e, nth) ↦
-            let few : before ≤ 2 = omega (arith, ints, n, e) in let is = month 9 (omega arith) (omega arith) in
-            let most = at_most (three _) at before (pos 873_795_600) (λ k less. all_three _ is k (omega (arith, few, less))) rise nth in
-            omega (arith, ints, few, most)
-        | inr (after, e, nth) ↦ omega (arith, ints, n, e)
-      ]
+      | inl (before, e, nth) ↦
+          let few : before ≤ 2 = omega (arith, ints, n, e) in let is = month 9 (omega arith) (omega arith) in
+          let most = at_most (three _) at before (pos 873_795_600) (λ k less. all_three _ is k (omega (arith, few, less))) rise nth in
+          omega (arith, ints, few, most)
+      | inr (after, e, nth) ↦ omega (arith, ints, n, e)
+    ]
   ];
   last_but_one = let is = month 29 (omega arith) (omega arith) in inr (record {
     position = neg_ℤ (pos 2);
     listed = (0, omega arith, refl);
-    nth = inr (1, refl, (pos 875_610_000, (tuesday _ is, λ m h. (last_two _ is m h).0), monday _ is, omega (arith, ints),
-        λ m h before. (last_two _ is m h).1 before));
+    nth = inr (1, refl, two_left _ is);
   });
   last = λ h. elim h [
     | inl none ↦ absurd (omega (arith, none))
     | inr listed ↦ let n : listed.position ≡ neg_ℤ (pos 2) = grind (arith, listed.listed) in elim listed.nth [
-        | inl (before, e, nth) ↦ omega (arith, ints, n, e)
-        | inr (after, e, nth) ↦
-            let one : after ≡ 1 = omega (arith, ints, n, e) in let is_last = rw one at nth in let is = month 30 (omega arith) (omega arith) in
-            let until = (last_two _ is is_last.0 is_last.1.0).0 in let later = is_last.3 in omega (arith, ints, until, later)
-      ]
+      | inl (before, e, nth) ↦ omega (arith, ints, n, e)
+      | inr (after, e, nth) ↦
+          let one : after ≡ 1 = omega (arith, ints, n, e) in let is_last = rw one at nth in let is = month 30 (omega arith) (omega arith) in
+          let until = (last_two _ is is_last.0 is_last.1.0).0 in let later = is_last.3 in omega (arith, ints, until, later)
+    ]
   ];
 }
