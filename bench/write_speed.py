@@ -69,10 +69,17 @@ def differences(found):
 
 
 def lookup_of_new_york(found):
-    """README's two rows."""
-    rows = [{"": words} | next(row for row in found[titles[0]] if row["zone"] == "New_York") for words, titles in LOOKUPS.items()]
-    heads = [head for head in dict.fromkeys(head for row in rows for head in row) if head not in ("zone", "ratio")]
-    return table([{head: row.get(head, "-") for head in heads} for row in rows])
+    """README's sentences: this library's times in New York, and those of the fastest other one with the same answers."""
+    ours, theirs = [], []
+    for words, titles in LOOKUPS.items():
+        row = next(row for row in found[titles[0]] if row["zone"] == "New_York")
+        fastest = re.search(r"\((.*)\)", row["ratio"])[1]
+        ours.append(f"{row['Sahvumbi']} {words}")
+        theirs.append(f"{next(time for library, time in row.items() if library.startswith(fastest + ' '))} ({fastest})")
+    return (
+        f"One lookup in New York's zone, at random in 1900 to 2099, takes {' and '.join(ours)}. "
+        f"The fastest other library with the same answers takes {' and '.join(theirs)}."
+    )
 
 
 # Where the figures of that day come from.
@@ -114,7 +121,7 @@ def parts(results):
         "listed": lambda: listed(found),
         "differ": lambda: differences(found),
         "measured": lambda: conditions(text, results),
-        "New York": lambda: f"{lookup_of_new_york(found)}\n\n({measured(text)}{BUSY if ONE_CALL in text else ''}.{at_once(text)})",
+        "New York": lambda: f"{lookup_of_new_york(found)} ({measured(text)}{BUSY if ONE_CALL in text else ''}.{at_once(text)})",
     }
     for name, part in made.items():
         try:

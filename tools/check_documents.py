@@ -66,6 +66,8 @@ GATE = TOP / ".ci/run"
 PROVED = TOP / "docs/PROVED.md"
 FROM_CHRONO = TOP / "docs/FROM_CHRONO.md"
 SPEED = TOP / "docs/SPEED.md"
+DECISIONS, OWN_ZONE = TOP / "docs/DECISIONS.md", TOP / "docs/OWN_ZONE.md"
+PICTURE = TOP / "crates/zonedump_lib/src/picture"
 TEXTS = TOP / "crates/zoned_ffi/specs/Texts.antt"
 HEADER = TOP / "crates/zoned_ffi/include/zoned_ffi.h"
 MAN_PAGE = TOP / "crates/zoned_ffi/install/zoned.3"
@@ -461,6 +463,10 @@ def counted():
     many, few = (constant("crates/zonedump/src/output.rt", name) for name in ("MANY", "FEW"))
     threads = in_words(constant("tools/try_handles.c", "THREADS"))
     stack, of_one = (constant("tools/try_handles.c", name) for name in ("STACK_KB", "OF_ONE_KB"))
+    places = constant(PICTURE / "scale.rt", "RIGHT") - constant(PICTURE / "scale.rt", "LEFT") + 1
+    zone = set(re.findall(r"(?m)^ *fn (\w+)", text_of(TOP / "crates/demo_examples/src/own_zone.rt")))
+    by_hand = {path.name for path in (TOP / "crates/demo_examples/proofs/own_zone/NepalTimeZone").iterdir()}
+    ways = re.findall(r"(?m)^- ", text_of(MAP).partition(" ways through\n")[2].partition("\n## ")[0])
     return [
         (README, f"`core` and `std_alloc`, and {', '.join(libraries)} and {last}"),
         (FROM_CHRONO, f"`crates/tests_idioms` has {idioms} functions "),
@@ -485,7 +491,12 @@ def counted():
         (PROGRAMS, f"a buffer of {constant('crates/zoneq/src/main.rt', 'OUTPUT') >> 10} KiB"),
         (PROGRAMS, f"more than {many} changes (more than {in_words(few)}, if no year is asked for)"),
         (PROGRAMS, f"at most the last {many}, or {in_words(few)}"),
-        (TOP / "docs/DECISIONS.md", f"A column of {constant('crates/zoned_ffi/src/column.rt', 'LONG'):,} rows or more"),
+        (PROGRAMS, f"at most {in_words(constant(PICTURE / 'thinned.rt', 'CROWD') - 1)} changes at each of its {places:,} places"),
+        (DECISIONS, f"A column of {constant('crates/zoned_ffi/src/column.rt', 'LONG'):,} rows or more"),
+        (DECISIONS, f"over {constant('crates/tz_saving/src/sides.rt', 'REACH')} clock changes at most"),
+        (TOP / "docs/FAQ.md", f"in every year up to {constant('crates/tz_info/src/rule/changes.rt', 'LAST_RULE_YEAR')}"),
+        (OWN_ZONE, f"proves {in_words(len(zone - by_hand))} of the {in_words(len(zone))} functions of the zone by itself"),
+        (MAP, f"## {in_words(len(ways)).capitalize()} ways through"),
         (PROVED, f"one book of some {round(book, -2):,} lines"),
     ]
 

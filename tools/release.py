@@ -3,7 +3,7 @@
 
 usage: tools/release.py [--proof FILE] [--root ROOT] LOG FOLDER
 
-LOG is the output of a whole `.ci/run` or `rt ci` in this checkout. In FOLDER it makes
+LOG is the output of a whole `.ci/run --anew` or `rt ci --anew` in this checkout, which kept no proof of an earlier run. In FOLDER it makes
 
 - libzoned-VERSION-linux-x86_64.tar.xz: the C library, both programs, man pages and examples; and one for 64-bit ARM, without the
   programs, if Debian's gcc-aarch64-linux-gnu is installed;
@@ -114,7 +114,7 @@ def record(log):
             last["minutes"] = int(after[1])
     missing = [crate for crate in crates() if crate not in found]
     if missing:
-        sys.exit(f"{log} has no verdict on {', '.join(missing)}")
+        sys.exit(f"{log} has no proof of {', '.join(missing)}: an earlier run's may have been kept, which --anew proves again")
     kit, logic = re.fullmatch(r"(\S+) logic (\S+)", run("rt", "version").strip()).groups()
     return {
         "version": version(),

@@ -145,7 +145,7 @@ def imported(page, each):
 
 
 def parts(inside):
-    """What stands between the commas outside of braces."""
+    """The parts between the commas outside of braces."""
     depth, start = 0, 0
     for place, mark in enumerate(inside + ","):
         depth += {"{": 1, "}": -1}.get(mark, 0)

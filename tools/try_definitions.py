@@ -69,7 +69,7 @@ class Edit:
         return self.file.removeprefix("crates/")
 
     def applied(self, text):
-        """The page with its texts exchanged, or None if one doesn't stand there once."""
+        """The page with its texts exchanged, or None if one isn't there exactly once."""
         for old, new in self.pairs:
             if text.count(old) != 1:
                 return None
@@ -352,7 +352,7 @@ def rounds(chosen):
 
 
 def made(chosen):
-    """The pages that the edits change, or None if a text doesn't stand once in its page."""
+    """The pages that the edits change, or None if a text isn't in its page exactly once."""
     pages = {}
     for edit in chosen:
         text = edit.applied(pages.get(edit.page) or text_of(TOP / edit.file))
@@ -461,7 +461,7 @@ def main():
         sys.exit(f"no file of crates/tests_pins/wrong: {', '.join(sorted(missing))}")
     for edit in edits():
         if not edit.pairs or edit.applied(text_of(TOP / edit.file)) is None:
-            sys.exit(f"{edit.name}: an old text doesn't stand once in {edit.file}")
+            sys.exit(f"{edit.name}: an old text isn't exactly once in {edit.file}")
     is_chosen = tenth() if given.tenth else lambda name: not given.names or name in given.names
     chosen = [edit for edit in edits() if is_chosen(edit.name)]
     count = rejected = 0

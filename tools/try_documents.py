@@ -8,10 +8,10 @@ Without words all four are tried:
 - rattle: each line of a `rust` block of README.md, docs/FROM_CHRONO.md and docs/OWN_ZONE.md is code of crates/*/src, which `rt ci`
   proves, or of crates/*/tests, which tools/try_tests.py runs; and so is each span of the column *here* of FROM_CHRONO's tables.
   So is each line of a block in doc comments, unless it is marked `text`. Comments, white space and commas before a closing bracket
-  don't count. The lines of FROM_CHRONO's block for crates.txt are lines of crates.txt. (tools/check_documents.py tries this too.)
+  don't count. (tools/check_documents.py tries this too.)
 - programs: each command of a `console` block (a line that begins with `$ `) prints what follows it there. It needs the built
   zoneq and zonedump. A command with `rt try` runs in a copy of the crates, so that it may run while `rt ci` does. Those that run
-  the tests aren't run here: the gate runs them by themselves.
+  the tests aren't run here: the gate runs them by themselves. FROM_CHRONO's first program prints what it says, too.
 - c: each `c` block, under the name that the line before it gives, and the `console` block that compiles it and runs it. It needs
   the static library, gcc and rt.
 - python: the `pycon` blocks of each page, one after another, by doctest. It needs python/src/sahvumbi/libzoned_ffi.so, which tools/python_tests.sh builds, and
@@ -94,11 +94,6 @@ def rattle():
     for place, span in ours(text_of(FROM_CHRONO)):
         if bare(span) not in known:
             yield f"{shown(FROM_CHRONO, place)}: no code has: {span}"
-    listed = text_of(TOP / "crates.txt").splitlines()
-    for place, _, text in blocks(FROM_CHRONO, "text"):
-        for line in text.splitlines():
-            if line not in listed and not line.startswith("my_app:"):
-                yield f"{shown(FROM_CHRONO, place)}: crates.txt has no line: {line}"
 
 
 # Programs, C and Python
@@ -119,12 +114,29 @@ def printed(path, place, text, folder):
 
 def programs():
     needs("rt", TOP / "crates/zoneq/out/zoneq", TOP / "crates/zonedump/out/zonedump")
-    with tempfile.TemporaryDirectory() as copy:
-        repository(Path(copy), [])
+    with tempfile.TemporaryDirectory() as folder:
+        copy = Path(folder, "copy")
+        copy.mkdir()
+        repository(copy, [])
         for path in PAGES:
             for place, _, text in blocks(path, "console"):
                 if "gcc" not in text and f"$ {TESTS}" not in text:
                     yield from printed(path, place, text, copy if "rt try" in text else TOP)
+        yield from first_program(copy)
+
+
+def first_program(copy):
+    """What the first program of FROM_CHRONO prints that isn't in the comment at its output, in the repository that the commands make."""
+    (place, _, made), = blocks(FROM_CHRONO, "sh")
+    main = next(text for _, _, text in blocks(FROM_CHRONO, "rust") if "fn main(" in text)
+    (copy / "tools").symlink_to(TOP / "tools")
+    subprocess.run(["bash", "-ec", made], cwd=copy, check=True, capture_output=True)
+    crate = copy.parent / "mine/crates/my_app"
+    (crate / "src/main.rt").write_text(main)
+    ran = subprocess.run(["rt", "try"], cwd=crate, stdin=subprocess.DEVNULL, capture_output=True, text=True)
+    due = re.search(r"println!.* // (.*)", main)[1]
+    if ran.stdout.strip() != due:
+        yield f"{shown(FROM_CHRONO, place)}: the program prints:\n{ran.stdout}{ran.stderr}"
 
 
 def c():

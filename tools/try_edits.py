@@ -61,7 +61,7 @@ from sources import TOP, crates, files, libraries_below
 
 REFUTED, OPEN_GOAL, NO_LONGER_FITS, LISTED = "refuted", "open", "no longer fits", "listed"
 NOT_REJECTED, NOT_TRIED = "NOT REJECTED", "NOT TRIED"
-# Its proof takes as long as those of all crates that can be proved beside it.
+# Its proof takes as long as those of all crates that can be proved at the same time.
 EARLY = "tz_info"
 FUNCTION = re.compile(r'(?m)^( *)(?:pub(?:\([a-z: ]+\))? )?(?:(?:final|const|unsafe|extern "C") )*fn (\w+)')
 LOST = "its text is not in the files that are checked"

@@ -10,7 +10,7 @@ that aren't UTF-8 or don't print, and with a standard output that is full or clo
 and the line on standard error that are due. Folders are compared of which some parts can't be read, and large files are no zones.
 The JSON of a file and of a TZ string must have the changes of the table. A file that is written must print as the one that was
 read, and show the same times in Python's zoneinfo. A file that can't be written whole must be left as it was, without a temporary
-file beside it, and one that is written again and again must never be seen in part. A picture must be the one in docs/, have the
+file next to it, and one that is written again and again must never be seen in part. A picture must be the one in docs/, have the
 changes of the table as steps of its line at their places, and the wall clocks of the table in its panels. Zones are asked for by
 name, and a wrong name never leads out of the database's folder. What is listed from a year or a date to another, and what --at
 prints, must be what zoneinfo has, a summary and the times that move those of two folders, and each line of JSON must fit the

@@ -101,7 +101,7 @@ def new_year(year):
 
 
 def stretches(changes, first, end):
-    """The seconds between one change and the next, with the type that the changes tell for them."""
+    """The seconds between one change and the next, with the type that the changes have for them."""
     starts = [first, *(change.at for change in changes)]
     ends = [*(change.at for change in changes), end]
     types = [changes[0].before if changes else None, *(change.after for change in changes)]

@@ -30,7 +30,7 @@ HOUR = 3_600
 DAY = 24 * HOUR
 WEEK = 7 * DAY
 INSTANTS = 100
-# Nanoseconds past the second, and the digits of a second that Python is told to print.
+# Nanoseconds past the second, and the digits of a second that Python must print.
 FRACTIONS = [(0, "seconds"), (250_000_000, "milliseconds"), (1_000, "microseconds"), (999_999_000, "microseconds")]
 
 # A line for zoneq, the answer by zoneinfo, and the instant that it is about (None for a `data` line).
@@ -136,7 +136,7 @@ def reason(question, answer):
         return "before the first transition zoneinfo takes the first type that isn't DST"
     near = [second for second in source.transitions if abs(second - instant) <= DAY]
     if len(near) > 1:
-        return "zoneinfo tells offsets by wall clock and fold, and changes are so close that three instants show one clock"
+        return "zoneinfo finds offsets by wall clock and fold, and changes are so close that three instants show one clock"
     if source.file.footer and len({(EPOCH + timedelta(seconds=instant + shift)).year for shift in (-DAY, DAY)}) > 1:
         return "zoneinfo takes a rule's year from the wall clock, and the order of the rule's changes turns at the new year"
     return "not explained"

@@ -133,8 +133,8 @@ def main(folder=FOLDER, slim=None):
     both = [(written[name], slim[name]) for name in names if name in slim]
     if both:
         print(
-            f"beside {len(both)} files of zic -b slim: {sum(a == b for a, b in both)} the same,"
+            f"compared with {len(both)} files of zic -b slim: {sum(a == b for a, b in both)} the same,"
             f" {sum(len(a) < len(b) for a, b in both)} shorter, {sum(len(a) > len(b) for a, b in both)} longer,"
-            f" {sum(len(a) for a, b in both)} bytes beside {sum(len(b) for a, b in both)}"
+            f" {sum(len(a) for a, b in both)} bytes, and {sum(len(b) for a, b in both)}"
         )
     return 1 if wrong or not names else 0

@@ -69,5 +69,5 @@ def main(folder=FOLDER):
     same = len(re.findall(r"(?m)^test \S+::text_\d+ \.\.\. ok$", report))
     if same != len(texts):
         print(report)
-    print(f"{same} of {len(texts)} texts are written as they stand in the footers, status {status}")
+    print(f"{same} of {len(texts)} texts are written as they are in the footers, status {status}")
     return 0 if status == 0 and same == len(texts) else 1
