@@ -12,20 +12,11 @@ from typing import Any, Iterator, Optional
 
 import numpy as np
 
-from ._containers import EPOCH, NAT, Array, ArrayContainer
+from ._containers import EPOCH, LENGTHS, NAT, PER_SECOND, TIMES, Array, ArrayContainer
 from ._native import COLUMN_UNITS
 from .errors import OUT_OF_RANGE, OutOfRangeError, RowError
 
 GREATEST = int(np.iinfo(np.int64).max)
-PER_SECOND = {
-    "s": 1,
-    "ms": 10**3,
-    "us": 10**6,
-    "ns": 10**9,
-    "ps": 10**12,
-    "fs": 10**15,
-    "as": 10**18,
-}
 # The first and the last second of the calendar, which has the years -262143 to 262142.
 FIRST_SECOND, LAST_SECOND = -8_334_601_228_800, 8_210_266_876_799
 # Rows that one call is asked: what a block needs stays in the processor's cache.
@@ -132,7 +123,7 @@ class Column:
 
     def times_of(self, values: Array) -> Array:
         """Some values as numbers or as times, in one dimension."""
-        return values.view(f"M8[{self.unit}]") if self.is_time else values
+        return values.view(TIMES[self.unit]) if self.unit else values
 
     def local_times(self, values: Array) -> Any:
         """The answer of local times, counted as the question is."""

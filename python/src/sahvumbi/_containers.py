@@ -4,6 +4,7 @@ from __future__ import annotations
 
 import sys
 from datetime import datetime, timedelta, timezone
+from functools import lru_cache
 from typing import TYPE_CHECKING, Any, NamedTuple, Optional, Union
 
 import numpy as np
@@ -20,6 +21,19 @@ else:
 
 NAT = int(np.iinfo(np.int64).min)
 EPOCH = datetime(1970, 1, 1)
+#: How many of each unit make a second.
+PER_SECOND = {
+    "s": 1,
+    "ms": 10**3,
+    "us": 10**6,
+    "ns": 10**9,
+    "ps": 10**12,
+    "fs": 10**15,
+    "as": 10**18,
+}
+#: numpy's types of times and of lengths of time.
+TIMES = {unit: np.dtype(f"M8[{unit}]") for unit in PER_SECOND}
+LENGTHS = {unit: np.dtype(f"m8[{unit}]") for unit in PER_SECOND}
 
 
 class ArrayContainer:
@@ -49,7 +63,7 @@ class ArrayContainer:
 
     def times(self, values: Array, unit: Optional[str], zone: Any) -> Any:
         """Returns a column of times: local times if `zone` is None, and else instants."""
-        return self.plain(values if unit is None else values.view(f"M8[{unit}]"))
+        return self.plain(values if unit is None else values.view(TIMES[unit]))
 
     def numbers(self, values: Array) -> Any:
         """Returns a column of numbers."""
@@ -61,6 +75,8 @@ class ArrayContainer:
 
     def plain(self, values: Array) -> Any:
         """Returns a column of anything else."""
+        if len(self.shape) == 1:
+            return values
         return values.reshape(self.shape) if self.shape else values[0]
 
     def table(self, columns: Any) -> Any:
@@ -74,11 +90,13 @@ class SeriesContainer(ArrayContainer):
     text = object
 
     def __init__(self, of: Any, has_nat: Optional[bool] = None):
-        super().__init__((len(of),))
+        super().__init__(of.shape)
         self.of, self.has_nat = of, has_nat
-        if sys.modules["pandas"].__version__ < "2":
-            # It has no other unit, and takes several copies to change one.
-            self.length_unit = "ns"
+
+    @property
+    def length_unit(self) -> str:  # type: ignore[override]
+        # pandas 1 has no other unit, and takes several copies to change one.
+        return "ns" if sys.modules["pandas"].__version__ < "2" else "s"
 
     @property
     def index(self) -> Any:
@@ -98,9 +116,11 @@ class SeriesContainer(ArrayContainer):
     def numbers(self, values: Array) -> Any:
         return self.plain(_nullable(values) if self.has_nat else values)
 
+    def lengths(self, values: Array) -> Any:
+        return self.plain(_lengths_of_pandas(values))
+
     def plain(self, values: Any) -> Any:
-        made = self.of._constructor(values, index=self.index, name=self.of.name, copy=False)
-        return made.__finalize__(self.of)
+        return _series_over(values, self.of).__finalize__(self.of)
 
     def table(self, columns: Any) -> Any:
         import pandas
@@ -117,11 +137,10 @@ class IndexContainer(SeriesContainer):
         return self.of
 
     def times(self, values: Array, unit: Optional[str], zone: Any) -> Any:
-        import pandas
-
         if unit is None:
             return self.numbers(values)
-        return pandas.DatetimeIndex._simple_new(_times_of_pandas(values, unit, zone), name=self.of.name)
+        made = sys.modules["pandas"].DatetimeIndex._simple_new
+        return made(_times_of_pandas(values, unit, zone), name=self.of.name)
 
     def plain(self, values: Any) -> Any:
         import pandas
@@ -137,9 +156,10 @@ class IndexContainer(SeriesContainer):
 class InArrow(SeriesContainer):
     """A Series or an Index of pandas that has its values in Arrow. So have its answers."""
 
+    length_unit = "s"
+
     def __init__(self, of: Any):
         super().__init__(of, has_nat=True)
-        self.length_unit = "s"
 
     def times(self, values: Array, unit: Optional[str], zone: Any) -> Any:
         return self.plain(_arrow.to_pandas(_arrow.of_times(values, unit, zone)))
@@ -269,12 +289,36 @@ class Failures(NamedTuple):
 
 def _times_of_pandas(values: Array, unit: str, zone: Any) -> Any:
     """Returns the array in which pandas has times, over these numbers: it copies none of them, and looks at none."""
-    import pandas
-
-    times = values.view(f"M8[{unit}]")
-    dtype = times.dtype if zone is None else pandas.DatetimeTZDtype(unit, zone)
+    pandas = sys.modules["pandas"]
+    dtype: Any = TIMES[unit]
     # The public ways to make one take twenty times as long.
-    return pandas.arrays.DatetimeArray._simple_new(times, dtype=dtype)
+    made = pandas.arrays.DatetimeArray._simple_new
+    if zone is not None:
+        dtype = _type_in_utc(unit) if zone == "UTC" else pandas.DatetimeTZDtype(unit, zone)
+    return made(values.view(TIMES[unit]), dtype=dtype)
+
+
+@lru_cache(None)
+def _type_in_utc(unit: str) -> Any:
+    """Returns the type that pandas has for times of UTC."""
+    return sys.modules["pandas"].DatetimeTZDtype(unit, "UTC")
+
+
+def _lengths_of_pandas(values: Array) -> Any:
+    """Returns the array in which pandas has lengths of time, over timedelta64."""
+    return sys.modules["pandas"].arrays.TimedeltaArray._simple_new(values, dtype=values.dtype)
+
+
+def _series_over(values: Any, of: Any) -> Any:
+    """Returns a Series over values, with the labels of another one.
+
+    The public constructor takes five times as long: it first looks for what these values can't have."""
+    if type(of) is not sys.modules["pandas"].Series:
+        return of._constructor(values, index=of.index, name=of.name, copy=False)
+    manager = of._mgr.from_array(values, of.index)
+    if hasattr(of, "_constructor_from_mgr"):
+        return of._constructor_from_mgr(manager, manager.axes)
+    return of._constructor(manager, fastpath=True)
 
 
 def _nullable(values: Array) -> Any:

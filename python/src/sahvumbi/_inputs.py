@@ -13,6 +13,7 @@ from ._columns import GREATEST, Column
 from ._containers import (
     EPOCH,
     NAT,
+    TIMES,
     Array,
     ArrayContainer,
     ArrowContainer,
@@ -28,6 +29,9 @@ from .errors import OUT_OF_RANGE, OutOfRangeError, RowError
 SECONDS = {"m": 60, "h": 3_600, "D": 86_400, "W": 604_800}
 # Numbers of months and years that numpy turns into seconds without leaving 64 bits.
 MOST = {"M": 12 * 292_277_000_000, "Y": 292_277_000_000}
+
+#: The types of numpy that columns have as they are, and their units.
+UNITS = {np.dtype(np.int64): None, **{dtype: unit for unit, dtype in TIMES.items()}}
 
 COLUMNS = "an array or a list of int64 or datetime64, a Series, an Index and a datetime are"
 
@@ -57,8 +61,7 @@ def _column_of(values: Any, line: str, may_be_aware: bool) -> Column:
         return _of_list(values)
     pandas = sys.modules.get("pandas")
     if pandas is not None and isinstance(values, (pandas.Series, pandas.Index)):
-        _must_have_times(pandas, values, line)
-        return _of_pandas(pandas, values, may_be_aware)
+        return _of_pandas(pandas, values, line, may_be_aware)
     if isinstance(values, datetime):
         return _of_datetime(pandas, values, may_be_aware)
     if is_arrow(values) and type(values).__module__.partition(".")[0] != "pandas":
@@ -138,22 +141,21 @@ def _of_datetime(pandas: Any, value: datetime, may_be_aware: bool) -> Column:
 
 def _must_have_times(pandas: Any, values: Any, line: str) -> None:
     """Raises TypeError for a Series of numbers whose index has the times."""
-    index = getattr(values, "index", None)
-    if index is None or values.dtype.kind not in "biuf":
-        return
+    index = values.index
     kinds = pandas.DatetimeIndex, pandas.PeriodIndex
     if any(isinstance(each, kinds) for each in getattr(index, "levels", [index])):
         advice = f"{line} asks about those, and s.to_numpy() has the numbers only"
         raise TypeError(f"a Series s of {values.dtype} with times in its index: {advice}")
 
 
-def _of_pandas(pandas: Any, values: Any, may_be_aware: bool) -> Column:
-    is_index = isinstance(values, pandas.Index)
-    kind = "an Index" if is_index else "a Series"
+def _of_pandas(pandas: Any, values: Any, line: str, may_be_aware: bool) -> Column:
+    is_index, dtype = isinstance(values, pandas.Index), values.dtype
     container = IndexContainer if is_index else SeriesContainer
-    dtype = values.dtype
-    if isinstance(dtype, np.dtype) and dtype != object:
+    if dtype.kind in "biuf" and not is_index:
+        _must_have_times(pandas, values, line)
+    if isinstance(dtype, np.dtype) and dtype.kind != "O":
         return _of_array(values.values, container(values))
+    kind = "an Index" if is_index else "a Series"
     if isinstance(dtype, pandas.DatetimeTZDtype):
         if not may_be_aware:
             drop = "tz_localize(None)" if is_index else "dt.tz_localize(None)"
@@ -209,6 +211,8 @@ def _of_arrow(array: Any, container: Optional[ArrayContainer], may_be_aware: boo
 def _of_array(array: Array, container: Optional[ArrayContainer] = None) -> Column:
     """An array of int64 or datetime64 that the calls take as it is, is not copied."""
     container = container or ArrayContainer(array.shape)
+    if array.dtype in UNITS:
+        return Column(_laid_out(array, array.dtype).view(np.int64), UNITS[array.dtype], container)
     kind = array.dtype.kind
     if kind == "M":
         return _of_datetime64(array, container)
@@ -232,9 +236,10 @@ def _of_type(kind: str) -> str:
 
 def _laid_out(array: Array, dtype: Any) -> Array:
     """As the calls take it, in one dimension; the array itself where it is so."""
-    if array.dtype != dtype or not (array.flags.c_contiguous and array.flags.aligned):
+    flags = array.flags
+    if array.dtype != dtype or not (flags.c_contiguous and flags.aligned):
         array = np.require(array, dtype, ["C", "A"])
-    return array.reshape(-1)
+    return array if array.ndim == 1 else array.reshape(-1)
 
 
 def _of_datetime64(array: Array, container: ArrayContainer) -> Column:
