@@ -13,7 +13,7 @@ import pytest
 
 import sahvumbi.pandas  # noqa: F401
 from sahvumbi import Comparison, FoldError, GapError, Zone, ZoneRefusedError, localize_many, moved
-from sahvumbi._types import FoldWord, Gap
+from sahvumbi._containers import FoldWord, Gap
 
 NEW_YORK = Zone("America/New_York")
 # On 2021-03-14 New York's clocks went from 02:00 to 03:00, on 2021-11-07 from 02:00 to 01:00 (zdump -v).

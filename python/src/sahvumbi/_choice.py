@@ -9,12 +9,9 @@ from zoneinfo import ZoneInfo
 
 import numpy as np
 
-from ._columns import Column
-from ._containers import NAT, Array, Failures, IndexContainer, SeriesContainer
-from ._inputs import type_name
-from ._names import bytes_of_key, zoneinfo_of
-from ._opening import Zone
-from ._types import FoldWord, Gap
+from ._columns import Column, type_name
+from ._containers import NAT, Array, Failures, FoldWord, Gap, IndexContainer, SeriesContainer
+from ._names import zoneinfo_of
 from .errors import FOLD, GAP, OUT_OF_RANGE, FoldError, GapError, OutOfRangeError, printable
 
 GAPS: tuple[str, ...] = get_args(Gap)
@@ -129,13 +126,6 @@ def chosen(
 def _zone_of_answer(tz: Any) -> Any:
     if tz is None:
         raise ValueError("tz= is the zone of the instants, and None is none: leave it out for UTC")
-    if isinstance(tz, Zone):
-        if tz.key is None:
-            raise ValueError(f"tz= is a zone with a name, and {tz!r} has none")
-        if bytes_of_key(tz.key) != tz._spelled()[1]:
-            here = f"this machine's tz database has another zone of that name: tz={tz.key!r} takes it"
-            raise TypeError(f"tz={tz!r} can't be shown, since {here}")
-        tz = tz.key
     if isinstance(tz, str):
         # pandas makes a zone of pytz from a name, and that has no rule for the years after 2037.
         return tz if tz == "UTC" else zoneinfo_of(tz)

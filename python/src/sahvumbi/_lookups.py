@@ -10,7 +10,7 @@ from ._columns import GREATEST, Block, Column, extremes
 from ._containers import NAT, Array
 from ._library import FOLD_REFUSE, GAP_END, GAP_SHIFT_FORWARD, NEVER, NO_OFFSET, ONCE, OUT_OF_RANGE, SEVERAL_TIMES
 from ._native import END_OF_RULE, FIRST_OF_RULE, LEAST, NativeZone
-from ._types import LocalTypes, Spans, WallClocks
+from ._containers import LocalTypes, Spans, WallClocks
 from .errors import NO_OFFSET as HAS_NO_OFFSET
 from .errors import NoOffsetError
 

@@ -20,7 +20,7 @@ from pandas import Series
 from pandas.api.extensions import register_index_accessor, register_series_accessor
 
 from ._names import zoneinfo_of
-from ._steps import Step
+from ._days import Step
 from .errors import FoldError, GapError
 from .zone import Zone
 
