@@ -150,11 +150,11 @@ def must_have_no_others(call: str, others: dict[str, Any]) -> None:
         ours = KEYWORDS_OF_PANDAS.get(name)
         if ours is None:
             hint = ""
-        elif call in STEPS:
+        elif call.rpartition(".")[2] in STEPS:
             hint = ": a step begins at one instant, also in a gap and in a fold"
         else:
             hint = f": pandas' {name}= is {ours}= here"
-        raise TypeError(f"Zone.{call}() takes no keyword argument {name!r}{hint}")
+        raise TypeError(f"{call}() takes no keyword argument {name!r}{hint}")
 
 
 def _given(column: Column, fold: Any, is_dst: Any, offset: Any) -> Optional[Given]:
@@ -223,7 +223,6 @@ def factorized(name: str, keys: Any, column: Column) -> tuple[Array, list[Any]]:
         found, numbers = np.unique(row_by_row(name, keys, column), return_inverse=True)
     else:
         numbers, found = pandas.factorize(row_by_row(name, keys, column))
-    missing = np.flatnonzero(numbers < 0)
-    if missing.size:
-        raise ValueError(f"{name}= has no key in row {missing[0]}")
-    return numbers.astype(np.intp), list(found)
+    if numbers.size and int(numbers.min()) < 0:
+        raise ValueError(f"{name}= has no key in row {int((numbers < 0).argmax())}")
+    return numbers, list(found)

@@ -10,6 +10,7 @@ from __future__ import annotations
 
 import sys
 from datetime import date, datetime, time, timedelta, timezone
+from functools import cached_property
 from typing import Any, Iterator, Optional
 
 import numpy as np
@@ -39,6 +40,7 @@ GREATEST = int(np.iinfo(np.int64).max)
 FIRST_SECOND, LAST_SECOND = -8_334_601_228_800, 8_210_266_876_799
 # Rows that one call is asked: what a block needs stays in the processor's cache.
 BLOCK = 1 << 16
+DAY = 86_400
 NO_ROWS = np.empty(0, np.intp)
 # So few numbers Python compares before numpy has begun.
 FEW = 32
@@ -106,9 +108,13 @@ class Column:
         least, greatest = extremes(values)
         return least // self.per_second, greatest // self.per_second
 
+    def counts_within(self, first: int, last: int) -> bool:
+        """Returns whether its unit counts no second before `first` and none after `last`."""
+        return first <= NAT // self.per_second and GREATEST // self.per_second <= last
+
     def lies_in(self, first: int, last: int) -> bool:
         """Returns whether all rows lie in the seconds from `first` to `last`, which have 0."""
-        if first <= NAT // self.per_second and GREATEST // self.per_second <= last:
+        if self.counts_within(first, last):
             return True
         least, greatest = self.ends()
         return first <= least and greatest <= last
@@ -181,16 +187,27 @@ class Column:
             words = "the answer does not fit datetime"
             raise self.error(OutOfRangeError, 0, OUT_OF_RANGE, words) from None
 
-    def offsets(self, seconds: Array, is_nat: Array) -> Any:
-        """The answer of offsets in seconds: lengths of time where the question is datetime64."""
-        if not self.is_time:
-            if self.has_nat:
-                seconds[is_nat] = np.iinfo(seconds.dtype).min
-            return self.container.numbers(seconds)
+    @property
+    def lengths_per_second(self) -> int:
+        """How many units of a length of time, as answers have it, make a second."""
+        return PER_SECOND[self.container.length_unit] if self.is_time else 1
+
+    def lengths(self, lengths: Array, is_nat: Optional[Array]) -> Any:
+        """The answer of offsets, in int64 of these units: lengths of time where the question is datetime64."""
+        if self.is_time:
+            if is_nat is not None:
+                lengths[is_nat] = NAT
+            return self.container.lengths(lengths.view(LENGTHS[self.container.length_unit]))
+        seconds = lengths.astype(np.int32)
+        if self.has_nat and is_nat is not None:
+            seconds[is_nat] = np.iinfo(np.int32).min
+        return self.container.numbers(seconds)
+
+    def offsets(self, seconds: Array, is_nat: Optional[Array]) -> Any:
+        """The answer of offsets in seconds."""
         lengths = seconds.astype(np.int64)
-        lengths *= PER_SECOND[self.container.length_unit]
-        lengths[is_nat] = NAT
-        return self.container.lengths(lengths.view(f"m8[{self.container.length_unit}]"))
+        lengths *= self.lengths_per_second
+        return self.lengths(lengths, is_nat)
 
     def plain(self, values: Array) -> Any:
         return self.container.plain(values)
@@ -206,30 +223,51 @@ def _shown_at(second: int, zone: Any) -> int:
 
 
 class Block:
-    """Rows of a column that follow one another: `seconds` are theirs, floored, with 0 for NaT."""
+    """Rows of a column that follow one another."""
 
     def __init__(self, column: Column, start: int):
         self.column, self.start = column, start
         self.rows = slice(start, start + BLOCK)
         self.values = column.values[self.rows]
-        self.least, self.greatest = extremes(self.values)
-        self.is_nat: Optional[Array] = None
-        counted = self.values
-        if column.has_nat and self.least == NAT:
-            self.is_nat = self.values == NAT
-            counted = np.where(self.is_nat, 0, self.values)
-            self.least, self.greatest = extremes(counted)
-        self.counted = counted
-        self.seconds = counted if column.per_second == 1 else counted // column.per_second
+
+    @cached_property
+    def is_nat(self) -> Optional[Array]:
+        """Which rows are NaT, or None if none is."""
+        is_nat = self.values == NAT if self.column.has_nat else None
+        return None if is_nat is None or not is_nat.any() else is_nat
+
+    @cached_property
+    def counted(self) -> Array:
+        """The rows, with 0 for NaT."""
+        return self.values if self.is_nat is None else np.where(self.is_nat, 0, self.values)
+
+    @cached_property
+    def seconds(self) -> Array:
+        """Their seconds, floored."""
+        per_second = self.column.per_second
+        return self.counted if per_second == 1 else self.counted // per_second
+
+    @property
+    def days(self) -> Array:
+        """Their days, if they are local times."""
+        length = DAY * self.column.per_second
+        return self.counted // length if length <= GREATEST else self.seconds // DAY
+
+    @cached_property
+    def ends(self) -> tuple[int, int]:
+        """The least and the greatest of them."""
+        return extremes(self.counted)
 
     def fits_calls(self) -> bool:
         """Returns whether the calls for C that count in units take the rows as they are."""
-        return self.column.per_second in COLUMN_UNITS and (self.column.has_nat or self.least != NAT)
+        return self.column.per_second in COLUMN_UNITS and (self.column.has_nat or self.ends[0] != NAT)
 
     def outside(self, first: int, last: int) -> Array:
         """Returns the places of the rows before the second `first` or after `last`."""
         per_second = self.column.per_second
-        if first <= self.least // per_second and self.greatest // per_second <= last:
+        if self.column.counts_within(first, last):
+            return NO_ROWS
+        if first <= self.ends[0] // per_second and self.ends[1] // per_second <= last:
             return NO_ROWS
         found = (self.seconds < first) | (self.seconds > last)
         return np.flatnonzero(found if self.is_nat is None else found & ~self.is_nat)
@@ -245,12 +283,14 @@ class Block:
         Returns the places in the block of those that don't fit."""
         per_second, has_nat = self.column.per_second, self.column.has_nat
         first, last = -((-NAT - has_nat) // per_second), GREATEST // per_second
-        found = (seconds < first) | (seconds > last)
         np.multiply(seconds, per_second, out=out)
         if self.is_nat is not None:
-            found &= ~self.is_nat
             out[self.is_nat] = NAT
-        return np.flatnonzero(found)
+        least, greatest = extremes(seconds)
+        if first <= least and greatest <= last:
+            return NO_ROWS
+        found = (seconds < first) | (seconds > last)
+        return np.flatnonzero(found if self.is_nat is None else found & ~self.is_nat)
 
     def moved(self, sign: int, offsets: Array, out: Array) -> Array:
         """Writes the rows to `out`, each moved by its offset; NaT stays.
@@ -260,7 +300,7 @@ class Block:
         misfits: Array = NO_ROWS
         least, greatest = extremes(offsets)
         far = max(-least, greatest) * column.per_second
-        if far > GREATEST or self.least - far <= NAT or self.greatest + far > GREATEST:
+        if far > GREATEST or self.ends[0] - far <= NAT or self.ends[1] + far > GREATEST:
             misfits = self._misfits(sign, offsets)
             offsets = offsets.copy()
             offsets[misfits] = 0

@@ -281,10 +281,10 @@ def frame_of(table: Any, *in_utc: str) -> Any:
 
 
 def as_html(table: Any) -> Optional[str]:
-    """Returns the table that a notebook shows for an answer that has `to_frame`, or None without pandas."""
-    if "pandas" not in sys.modules:
+    """Returns the table that a notebook shows for columns, or None: without pandas, and for one value, it shows their text."""
+    if "pandas" not in sys.modules or np.ndim(table[0]) != 1:
         return None
-    shown: str = table.to_frame()._repr_html_()
+    shown: str = (table.to_frame() if hasattr(table, "to_frame") else frame_of(table))._repr_html_()
     return shown
 
 
@@ -303,6 +303,9 @@ class WallClocks(NamedTuple):
     last_offset: npt.NDArray[Any]
     """The offset at the last one; in a gap the one after it."""
 
+    def _repr_html_(self) -> Optional[str]:
+        return as_html(self)
+
 
 class LocalTypes(NamedTuple):
     """The local time types in force at the instants of a column. Each field has its shape."""
@@ -313,6 +316,9 @@ class LocalTypes(NamedTuple):
     """The DST flag: whether it is daylight saving time. False for NaT."""
     abbreviation: npt.NDArray[np.str_]
     """The abbreviation, such as EST; empty for NaT, and if the zone has none."""
+
+    def _repr_html_(self) -> Optional[str]:
+        return as_html(self)
 
 
 class Spans(NamedTuple):
@@ -331,6 +337,9 @@ class Spans(NamedTuple):
     until: npt.NDArray[Any]
     """The first second after the span: clocks change then, or the zone has no type. If the type is in
     force at all seconds after that the column can count, NaT, or the greatest int64."""
+
+    def _repr_html_(self) -> Optional[str]:
+        return as_html(self)
 
 
 class Failures(NamedTuple):
@@ -385,12 +394,13 @@ def _series_over(values: Any, of: Any) -> Any:
     """Returns a Series over values, with the labels of another one.
 
     The public constructor takes five times as long: it first looks for what these values can't have."""
-    if type(of) is not sys.modules["pandas"].Series:
+    kind = sys.modules["pandas"].Series
+    if type(of) is not kind:
         return of._constructor(values, index=of.index, name=of.name, copy=False)
     manager = of._mgr.from_array(values, of.index)
-    if hasattr(of, "_constructor_from_mgr"):
-        return of._constructor_from_mgr(manager, manager.axes)
-    return of._constructor(manager, fastpath=True)
+    if hasattr(kind, "_from_mgr"):
+        return kind._from_mgr(manager, manager.axes)
+    return kind(manager, fastpath=True)
 
 
 def _nullable(values: Array) -> Any:

@@ -193,8 +193,8 @@ class Clocks:
         block = self.block
         per_second = block.column.per_second
         if (
-            block.least // per_second < FIRST_SECOND + FAR
-            or block.greatest // per_second > LAST_SECOND - FAR
+            block.ends[0] // per_second < FIRST_SECOND + FAR
+            or block.ends[1] // per_second > LAST_SECOND - FAR
         ):
             self._must_be_in_range(offsets)
         return block.moved(-1, offsets, out)

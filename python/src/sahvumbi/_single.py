@@ -15,7 +15,7 @@ from typing import TYPE_CHECKING, Any, Optional
 import numpy as np
 
 from ._choice import FOLDS, GAPS
-from ._columns import FIRST_SECOND, GREATEST, LAST_SECOND, SECONDS
+from ._columns import DAY, FIRST_SECOND, GREATEST, LAST_SECOND, SECONDS
 from ._containers import EPOCH, NAT, PER_SECOND, LocalTypes
 from ._days import Days
 from ._library import NEVER, ONCE, OUT_OF_RANGE, SEVERAL_TIMES, Day
@@ -26,7 +26,6 @@ if TYPE_CHECKING:
     from .zone import Zone
 
 EPOCH_OF_UTC = EPOCH.replace(tzinfo=timezone.utc)
-DAY = 86_400
 #: The number of 1970-01-01 among the days of a `date`.
 FIRST_DAY = 719_163
 # Local times this far from the ends of the calendar have an instant in it: no offset is as great.

@@ -10,7 +10,7 @@ from typing import TYPE_CHECKING, Any, Callable, Iterator, Literal, Mapping, Nam
 import numpy as np
 
 from ._changes import Differences, Time, ends_of_stretch, of_zones
-from ._choice import Choice, chosen, factorized, row_by_row
+from ._choice import Choice, chosen, factorized, must_have_no_others, row_by_row
 from ._columns import Column, taken
 from ._containers import Array, Labels, Rows, as_html, frame_of
 from ._localize import localized
@@ -46,6 +46,7 @@ def localize_many(
     by: Any = None,
     errors: Literal["raise", "collect"] = "raise",
     tz: Any = "UTC",
+    **others: Any,
 ) -> Any:
     """Returns the instant at which the clocks of each row's zone show its local time.
 
@@ -59,6 +60,7 @@ def localize_many(
     array(['2021-07-01T06:30:00', '2021-07-01T16:00:00'],
           dtype='datetime64[s]')
     """
+    must_have_no_others("localize_many", others)
     column = taken(local_times, "localize_many(zones, codes, s.index)", may_be_aware=False)
     choice = chosen(column, gap, fold, is_dst, offset, by, errors, shown_in(tz))
     return choice.answer(column, instants(zones, codes, column, choice))
@@ -106,14 +108,13 @@ def _answered(
 def _parts(zones: Zones, codes: Any, column: Column) -> Iterator[tuple[Zone, Array]]:
     """Each zone that rows have, and the places of its rows, in order."""
     listed, numbers = _numbered(zones, codes, column)
-    # numpy sorts numbers of 16 bits in one pass.
-    order = np.argsort(numbers.astype(np.min_scalar_type(len(listed))), kind="stable")
-    ends = np.cumsum(np.bincount(numbers, minlength=len(listed)))
-    for zone, places in zip(listed, np.split(order, ends)):
+    for zone in listed:
         if not isinstance(zone, Zone):
             raise TypeError(f"zones has a {type(zone).__name__} that is no Zone")
-        if places.size:
-            yield zone, places
+    # To compare numbers of 8 bits with each zone's takes less time than to sort them.
+    numbers = numbers.astype(np.min_scalar_type(len(listed)), copy=False)
+    for place in np.flatnonzero(np.bincount(numbers)):
+        yield listed[place], np.flatnonzero(numbers == place)
 
 
 def _numbered(zones: Zones, codes: Any, column: Column) -> tuple[list[Zone], Array]:
@@ -121,14 +122,15 @@ def _numbered(zones: Zones, codes: Any, column: Column) -> tuple[list[Zone], Arr
     if isinstance(zones, Mapping):
         places = {key: place for place, key in enumerate(zones)}
         numbers, found = factorized("codes", codes, column)
-        codes = np.array([places.get(key, -1) for key in found], np.intp)[numbers]
+        kept = np.min_scalar_type(-len(places) - 1)
+        codes = np.array([places.get(key, -1) for key in found], kept)[numbers]
     else:
         codes = row_by_row("codes", codes, column)
         if codes.dtype.kind not in "iu":
             raise TypeError(f"codes= has places in zones, and not {codes.dtype}")
-    outside = np.flatnonzero((codes < 0) | (codes >= len(zones)))
-    if outside.size:
-        raise ValueError(f"codes= has no zone's code in row {outside[0]}")
+    if codes.size and not 0 <= int(codes.min()) <= int(codes.max()) < len(zones):
+        row = int(((codes < 0) | (codes >= len(zones))).argmax())
+        raise ValueError(f"codes= has no zone's code in row {row}")
     return list(zones.values() if isinstance(zones, Mapping) else zones), codes
 
 
@@ -171,6 +173,7 @@ def moved(
     is_dst: Any = None,
     offset: Any = None,
     by: Any = None,
+    **others: Any,
 ) -> Moved:
     """Returns the rows whose local time has another instant in `new` than in `old`.
 
@@ -185,6 +188,7 @@ def moved(
     >>> found.row, found.new - found.old
     (array([1]), array([-3600], dtype='timedelta64[s]'))
     """
+    must_have_no_others("moved", others)
     column = taken(local_times, "moved(old, new, s.index)", may_be_aware=False)
     choice = chosen(column, gap, fold, is_dst, offset, by)
     before, after = (localized(native_of(zone), column, choice) for zone in (old, new))
@@ -289,6 +293,7 @@ class Comparison:
         is_dst: Any = None,
         offset: Any = None,
         by: Any = None,
+        **others: Any,
     ) -> Moved:
         """Returns the rows whose local time has another instant in the new database.
 
@@ -296,6 +301,7 @@ class Comparison:
         are those of `Zone.localize`, for both databases. Raises `ZoneNotFoundError` if one of them
         has no zone of a name.
         """
+        must_have_no_others("Comparison.moved", others)
         column = taken(local_times, "comparison.moved(s.index, zones)", may_be_aware=False)
         choice = chosen(column, gap, fold, is_dst, offset, by)
         codes, names = factorized("zones", zones, column)

@@ -370,7 +370,7 @@ class Zone:
         array(['2021-11-07T05:10:00', '2021-11-07T05:50:00',
                '2021-11-07T06:20:00'], dtype='datetime64[s]')
         """
-        must_have_no_others("localize", others)
+        must_have_no_others("Zone.localize", others)
         if is_dst is None and offset is None and by is None and errors == "raise" and tz == "UTC":
             instant = single.instant(self._native, local_times, gap, fold)
             if instant is not None:
@@ -491,7 +491,12 @@ class Zone:
     @overload
     def floor(self, instants: Single, step: Step) -> Any: ...
 
-    def floor(self, instants: Any, step: Step, **others: Any) -> Any:
+    def floor(
+        self,
+        instants: Any,
+        step: Union[Literal["D", "2D", "W", "MS", "QS", "YS", "h", "15min", "30s", "500ms"], str, timedelta],
+        **others: Any,
+    ) -> Any:
         """Returns the first instant of the local day, hour or other step that each instant lies in.
 
         `step` is 'D', the day as `day` has it, '2D', a number of days that are counted from 1970-01-01,
@@ -506,7 +511,7 @@ class Zone:
         array(['2021-11-07T05:00:00', '2021-11-07T06:00:00'],
               dtype='datetime64[s]')
         """
-        must_have_no_others("floor", others)
+        must_have_no_others("Zone.floor", others)
         column = taken(instants, "zone.floor(s.index, step)", may_be_aware=True)
         return column.instants(days.floored(self._native, column, step))
 
@@ -519,7 +524,12 @@ class Zone:
     @overload
     def ceil(self, instants: Single, step: Step) -> Any: ...
 
-    def ceil(self, instants: Any, step: Step, **others: Any) -> Any:
+    def ceil(
+        self,
+        instants: Any,
+        step: Union[Literal["D", "2D", "W", "MS", "QS", "YS", "h", "15min", "30s", "500ms"], str, timedelta],
+        **others: Any,
+    ) -> Any:
         """Returns the first instant, from each on, at which a local day, hour or other step begins.
 
         Steps and errors are those of `floor`.
@@ -530,7 +540,7 @@ class Zone:
         array(['2021-11-07T06:00:00', '2021-11-07T06:00:00'],
               dtype='datetime64[s]')
         """
-        must_have_no_others("ceil", others)
+        must_have_no_others("Zone.ceil", others)
         column = taken(instants, "zone.ceil(s.index, step)", may_be_aware=True)
         return column.instants(days.ceiled(self._native, column, step))
 
@@ -543,7 +553,12 @@ class Zone:
     @overload
     def round(self, instants: Single, step: Step) -> Any: ...
 
-    def round(self, instants: Any, step: Step, **others: Any) -> Any:
+    def round(
+        self,
+        instants: Any,
+        step: Union[Literal["D", "2D", "W", "MS", "QS", "YS", "h", "15min", "30s", "500ms"], str, timedelta],
+        **others: Any,
+    ) -> Any:
         """Returns the nearest instant at which a local day, hour or other step begins.
 
         Of two that are equally near it is the later one. Steps and errors are those of `floor`.
@@ -554,7 +569,7 @@ class Zone:
         array(['2021-03-15T04:00:00', '2021-03-14T05:00:00'],
               dtype='datetime64[s]')
         """
-        must_have_no_others("round", others)
+        must_have_no_others("Zone.round", others)
         column = taken(instants, "zone.round(s.index, step)", may_be_aware=True)
         return column.instants(days.rounded(self._native, column, step))
 
