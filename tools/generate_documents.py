@@ -38,7 +38,7 @@ ERROR = TOP / "crates/tz_base/src/error.rt"
 NUMBERS = TOP / "crates/tz_base/specs/Errors.antt"
 PYTHON = TOP / "python/src/sahvumbi"
 # The modules whose calls PYTHON.md lists: those of a zone, and functions of the package.
-OF_ZONES, OF_PACKAGE = ["zone", "_stretches"], ["_differences", "_compare", "_mixed_zones"]
+OF_ZONES, OF_PACKAGE = ["zone"], ["_zones"]
 PLANTED = "## Planted bugs and wrong definitions by crate\n"
 LAST_OF_TESTS = re.compile(r"(?m)^\d+ of \d+ tests passed, status 0$")
 
@@ -197,8 +197,9 @@ def documented_calls(module):
     tree = ast.parse(text_of(PYTHON / f"{module}.py"))
     for node in ast.walk(tree) if module in OF_ZONES else tree.body:
         says = isinstance(node, ast.FunctionDef) and not node.name.startswith("_") and ast.get_docstring(node)
-        if says and (module in OF_ZONES or f'"{node.name}"' in text_of(PYTHON / "__init__.py")):
-            parameters = [each.arg for each in node.args.args if each.arg != "self"]
+        names = [each.arg for each in node.args.args] if says else []
+        if says and ("self" in names if module in OF_ZONES else f'"{node.name}"' in text_of(PYTHON / "__init__.py")):
+            parameters = [name for name in names if name != "self"]
             taken = f"({', '.join(parameters)})"
             is_property = any(getattr(each, "id", "") == "property" for each in node.decorator_list)
             sentence = " ".join(says.partition("\n\n")[0].split()).removeprefix("Returns ").removesuffix(".")

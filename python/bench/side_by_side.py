@@ -3,8 +3,11 @@
 
 usage: python/bench/side_by_side.py [--rows N] [--write] [--part NAME ..]
 
-Prints the tables of docs/PYTHON.md, or with --write puts them there. It takes three minutes. --part prints
-some of them: ratios, sizes, values, calls, memory, kinds; and arrow, which needs pyarrow.
+Prints the tables of docs/PYTHON.md, or with --write puts them there, all of them and only on an idle machine. It takes
+three minutes. --part prints some of them: ratios, sizes, values, calls, memory, kinds; and arrow, which needs pyarrow.
+After tools/python_tests.sh this measures and writes them:
+
+    PYTHONPATH=python/src /usr/bin/python3 python/bench/side_by_side.py --write
 
 2,000,000 instants of the years 1970 to 2036, drawn evenly with a fixed seed, are asked for their
 local time: in no order, sorted, all of one day (2021-07-01), and all equal. The local times, moved
@@ -20,6 +23,7 @@ with the zones of zoneinfo and of dateutil too.
 """
 
 import argparse
+import os
 import platform
 import re
 import subprocess
@@ -45,6 +49,7 @@ ZONES = [
     "Pacific/Apia",
 ]
 CALLS = "to_local", "offsets", "types", "localize", "start_of_day"
+PARTS = ["ratios", "sizes", "values", "calls", "memory", "kinds"]
 DAY = int(np.datetime64("2021-07-01", "s").astype(int))
 PACKAGES = "python3-tz", "python3-dateutil", "tzdata"
 
@@ -363,8 +368,10 @@ def main():
     parser = argparse.ArgumentParser(description=__doc__.split("\n")[0])
     parser.add_argument("--rows", type=int, default=2_000_000)
     parser.add_argument("--write", action="store_true", help="put the tables into docs/PYTHON.md")
-    parser.add_argument("--part", nargs="+", default=["ratios", "sizes", "values", "calls", "memory", "kinds"])
+    parser.add_argument("--part", nargs="+", default=PARTS)
     given = parser.parse_args()
+    if given.write and (os.getloadavg()[0] >= 1 or given.part != PARTS):
+        parser.error(f"--write takes all parts and a load below 1, and not {os.getloadavg()[0]}")
     lines = [machine(given.rows)]
     print(lines[0])
     parts = {

@@ -53,7 +53,7 @@ def test_parts_and_chunks():
 def test_a_column_without_missing_values_is_not_copied():
     seconds = np.arange(1_000)
     column = pa.array(seconds)
-    from sahvumbi._inputs import taken
+    from sahvumbi._columns import taken
 
     taken_ = taken(column, "zone.offsets(s.index)", True)
     assert taken_.values.ctypes.data == column.buffers()[1].address

@@ -12,8 +12,7 @@ from definitions import Lists, tzif
 
 import sahvumbi
 from sahvumbi import Zone
-from sahvumbi._columns import BLOCK
-from sahvumbi._inputs import taken
+from sahvumbi._columns import BLOCK, taken
 
 NEW_YORK = Zone.from_text("EST5EDT,M3.2.0,M11.1.0")
 SUMMER, WINTER, GAP, FOLD = (

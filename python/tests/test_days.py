@@ -162,6 +162,26 @@ def year_of(name, year):
 
 
 @pytest.mark.parametrize("name, year", YEARS)
+def test_long_columns_beside_zoneinfo(name, year):
+    """In order, in no order, and among rows of other centuries: each row has the same day and the same hour."""
+    zone, found, days = year_of(name, year)
+    changes = [until for _, until, _ in found[:-1] if days[0] + 2 * DAY < until < days[-1]]
+    near = (change + 900 * place + part for change in changes for place in range(-110, 111) for part in (-1, 0))
+    seconds = np.unique([*near, *range(int(days[0]) + 2 * DAY, int(days[-1]), 7_201)])
+    starts = np.array([first_in(found, day) for day in [*days.tolist(), int(days[-1]) + DAY]])
+    dates = starts[np.searchsorted(starts, seconds, "right") - 1]
+    hours = np.array([floor_in(found, second, 3_600) for second in seconds.tolist()])
+    order = np.random.default_rng(3).permutation(seconds.size)
+    far = np.array([-(10**10), 10**10])
+    for column, places in ((seconds, slice(None)), (seconds[order], order), (np.append(seconds, far), slice(None))):
+        count = seconds.size
+        assert zone.floor(column, "D")[:count].tolist() == dates[places].tolist()
+        assert zone.floor(column, "h")[:count].tolist() == hours[places].tolist()
+        assert zone.day(column).start[:count].tolist() == dates[places].tolist()
+        assert zone.start_of_day(zone.day(column).date)[:count].tolist() == dates[places].tolist()
+
+
+@pytest.mark.parametrize("name, year", YEARS)
 def test_days_beside_zoneinfo(name, year):
     zone, found, days = year_of(name, year)
     starts = [first_in(found, day) for day in days.tolist()]

@@ -12,8 +12,8 @@ import pandas as pd
 import pytest
 
 import sahvumbi.pandas  # noqa: F401
-from sahvumbi import Comparison, FoldError, GapError, Zone, ZoneRefusedError, localize_many, moved
-from sahvumbi._types import FoldWord, Gap
+from sahvumbi import Comparison, FoldError, GapError, Zone, ZoneRefusedError, compare, localize_many, moved
+from sahvumbi._containers import FoldWord, Gap
 
 NEW_YORK = Zone("America/New_York")
 # On 2021-03-14 New York's clocks went from 02:00 to 03:00, on 2021-11-07 from 02:00 to 01:00 (zdump -v).
@@ -126,7 +126,7 @@ def test_flags_are_pandas_own():
             local.sahvumbi.tz_localize("Europe/Dublin", ambiguous=wrong)
 
 
-def test_errors_name_the_argument_to_change():
+def test_errors_name_the_argument_to_change(tmp_path):
     column = pd.Series(pd.to_datetime(["2021-07-01 12:00", "2021-03-14 02:30"]), index=["a", "b"])
     with pytest.raises(GapError, match=r"^zone.localize: row 1 \(label 'b'\): 2021-03-14T02:30.*; gap= says what to return$"):
         NEW_YORK.localize(column)
@@ -142,6 +142,17 @@ def test_errors_name_the_argument_to_change():
     assert str(pickle.loads(pickle.dumps(error))) == str(error)
     with pytest.raises(TypeError, match=r"Zone.floor\(\) takes no keyword argument 'ambiguous': a step begins at one instant"):
         column.sahvumbi.floor("America/New_York", "h", ambiguous="NaT")
+    empty = str(tmp_path)
+    for call, ask in {
+        "Zone.localize": lambda **words: column.sahvumbi.localize("America/New_York", **words),
+        "localize_many": lambda **words: localize_many([NEW_YORK], [0, 0], column, **words),
+        "moved": lambda **words: moved(NEW_YORK, NEW_YORK, column, **words),
+        "Comparison.moved": lambda **words: compare(empty, empty).moved(column, "Eastern", **words),
+    }.items():
+        with pytest.raises(TypeError, match=rf"^{call}\(\) takes no keyword argument 'nonexistent': pandas' nonexistent= is gap= here$"):
+            ask(nonexistent="NaT")
+        with pytest.raises(TypeError, match=rf"^{call}\(\) takes no keyword argument 'bye'$"):
+            ask(bye=1)
 
 
 def test_texts_and_periods_say_what_to_write():
@@ -163,6 +174,8 @@ def test_help_has_the_words():
         assert all(repr(word) in said.replace('"', "'") for word in (*get_args(Gap), *get_args(FoldWord))), call
         gaps = re.search(r"gap: .*?Literal\[(.*?)\]", said)[1]
         assert tuple(ast.literal_eval(f"({gaps})")) == get_args(Gap)
+    for call in (Zone.floor, Zone.ceil, Zone.round):
+        assert all(f"'{step}'" in str(inspect.signature(call)).replace('"', "'") for step in ("D", "W", "MS", "QS", "YS", "h", "500ms"))
 
 
 def test_tables_in_a_notebook():
@@ -173,6 +186,10 @@ def test_tables_in_a_notebook():
     differences = Zone.from_text("EST5").differences(NEW_YORK, 1_609_459_200, 1_640_995_200)
     for table in (failures, changes, found, differences):
         assert table._repr_html_() == table.to_frame()._repr_html_() and "<table" in table._repr_html_()
+    for call in (NEW_YORK.types, NEW_YORK.explain, NEW_YORK.spans, NEW_YORK.day):
+        answer = call(np.array(["2021-07-01T12:00"], "M8[s]"))
+        assert all(f"<th>{name}</th>" in answer._repr_html_() for name in answer._fields)
+        assert call(np.datetime64("2021-07-01T12:00"))._repr_html_() is None
 
 
 def test_tz_convert_normalize_and_round():

@@ -12,15 +12,12 @@ array(['2021-11-07T06:30:00.000'], dtype='datetime64[ms]')
 `import sahvumbi.pandas` gives Series and Indexes the accessor `.sahvumbi`.
 """
 
-from ._changes import Changes, Time
-from ._compare import Comparison, ZoneGroup, compare
-from ._containers import Failures
+from ._changes import Changes, Differences, Time
+from ._containers import Failures, LocalTypes, Spans, Times, WallClocks
 from ._days import Days
-from ._differences import Differences, Moved, moved
-from ._mixed_zones import localize_many, to_local_many
 from ._names import zones
-from ._types import LocalTypes, Spans, Times, WallClocks
 from ._version import __version__
+from ._zones import Comparison, Moved, ZoneGroup, compare, localize_many, moved, to_local_many
 from .errors import (
     FoldError,
     GapError,

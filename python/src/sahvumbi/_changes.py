@@ -1,4 +1,4 @@
-"""The changes of a zone's clocks in a stretch of time."""
+"""The changes of a zone's clocks in a stretch of time, and what is otherwise in another zone."""
 
 from __future__ import annotations
 
@@ -7,11 +7,12 @@ from typing import TYPE_CHECKING, Any, NamedTuple, Optional, Union
 
 import numpy as np
 
-from ._columns import GREATEST, Column
+from ._columns import GREATEST, Column, taken
 from ._containers import NAT, Array, SeriesContainer, as_html, frame_of
-from ._inputs import taken
+from ._library import NO_OFFSET
 from ._native import NativeZone
-from .errors import OUT_OF_RANGE, OutOfRangeError
+from .errors import NO_OFFSET as HAS_NO_OFFSET
+from .errors import OUT_OF_RANGE, NoOffsetError, OutOfRangeError
 
 if TYPE_CHECKING:
     import numpy.typing as npt
@@ -52,6 +53,38 @@ class Changes(NamedTuple):
         1 2021-10-31 01:00:00+00:00 0 days 01:00:00        CET
         """
         return frame_of(self, "at")
+
+    def _repr_html_(self) -> Optional[str]:
+        return as_html(self)
+
+
+class Differences(NamedTuple):
+    """Stretches of time in which two zones differ, in order: each field has a value for each."""
+
+    from_: npt.NDArray[Any]
+    """The first second: int64 if the ends are numbers, else datetime64[s]."""
+    until: npt.NDArray[Any]
+    """The first second after the stretch."""
+    offset_old: npt.NDArray[Any]
+    """The offset of the old zone, as `Zone.offsets` has it: seconds, or timedelta64[s]."""
+    offset_new: npt.NDArray[Any]
+    """That of the new zone."""
+    is_dst_old: npt.NDArray[np.bool_]
+    """Whether it is daylight saving time in the old zone."""
+    is_dst_new: npt.NDArray[np.bool_]
+    """Whether it is in the new zone."""
+    name_old: npt.NDArray[np.str_]
+    """The abbreviation of the old zone, such as EST; empty if the zone names none."""
+    name_new: npt.NDArray[np.str_]
+    """That of the new zone."""
+
+    def __bool__(self) -> bool:
+        """Returns whether there are any."""
+        return self.from_.size > 0
+
+    def to_frame(self) -> pandas.DataFrame:
+        """Returns a DataFrame with a row for each stretch; ends are in UTC if they are times."""
+        return frame_of(self, "from_", "until")
 
     def _repr_html_(self) -> Optional[str]:
         return as_html(self)
@@ -116,3 +149,42 @@ def _second(name: str, end: Column) -> int:
     if end.is_time and value == NAT:
         raise ValueError(f"{name} is NaT")
     return -(-value // end.per_second)
+
+
+def of_zones(old: NativeZone, new: NativeZone, from_: Time, to: Time) -> Differences:
+    """The stretches from `from_` on and before `to` in which the types of two zones differ."""
+    begin, end, is_time = ends_of_stretch(from_, to)
+    first = np.array([begin] if begin < end else [], np.int64)
+    for native in (old, new):
+        _must_have_types(native, {"from_": first, "to": first + (end - 1 - begin)})
+    changes = [native.changes(min(begin + 1, end), end) for native in (old, new)]
+    cuts = np.unique(np.concatenate([first, *(found["at"] for found in changes)]))
+    before, after = (
+        _types_at(native, first, found, cuts) for native, found in zip((old, new), changes)
+    )
+    differ = before != after
+    offset_old, is_dst_old, name_old = columns_of(before[differ], is_time)
+    offset_new, is_dst_new, name_new = columns_of(after[differ], is_time)
+    return Differences(
+        seconds_of(cuts[differ], is_time),
+        seconds_of(np.append(cuts[1:], end)[differ], is_time),
+        offset_old,
+        offset_new,
+        is_dst_old,
+        is_dst_new,
+        name_old,
+        name_new,
+    )
+
+
+def _types_at(native: NativeZone, first: Array, changes: Array, seconds: Array) -> Array:
+    """The types at seconds, by the one at the first of them and the changes after it."""
+    types = np.concatenate([native.types(first), changes["after"]])
+    found: Array = types[np.searchsorted(changes["at"], seconds, "right")]
+    return found
+
+
+def _must_have_types(native: NativeZone, ends: dict[str, Array]) -> None:
+    for name, second in ends.items():
+        if (native.offsets(second) == NO_OFFSET).any():
+            raise NoOffsetError(None, int(second[0]), HAS_NO_OFFSET, label=name)

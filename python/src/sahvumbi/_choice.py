@@ -9,12 +9,9 @@ from zoneinfo import ZoneInfo
 
 import numpy as np
 
-from ._columns import Column
-from ._containers import NAT, Array, Failures, IndexContainer, SeriesContainer
-from ._inputs import type_name
-from ._names import bytes_of_key, zoneinfo_of
-from ._opening import Zone
-from ._types import FoldWord, Gap
+from ._columns import Column, type_name
+from ._containers import NAT, Array, Failures, FoldWord, Gap, IndexContainer, SeriesContainer
+from ._names import zoneinfo_of
 from .errors import FOLD, GAP, OUT_OF_RANGE, FoldError, GapError, OutOfRangeError, printable
 
 GAPS: tuple[str, ...] = get_args(Gap)
@@ -129,13 +126,6 @@ def chosen(
 def _zone_of_answer(tz: Any) -> Any:
     if tz is None:
         raise ValueError("tz= is the zone of the instants, and None is none: leave it out for UTC")
-    if isinstance(tz, Zone):
-        if tz.key is None:
-            raise ValueError(f"tz= is a zone with a name, and {tz!r} has none")
-        if bytes_of_key(tz.key) != tz._spelled()[1]:
-            here = f"this machine's tz database has another zone of that name: tz={tz.key!r} takes it"
-            raise TypeError(f"tz={tz!r} can't be shown, since {here}")
-        tz = tz.key
     if isinstance(tz, str):
         # pandas makes a zone of pytz from a name, and that has no rule for the years after 2037.
         return tz if tz == "UTC" else zoneinfo_of(tz)
@@ -160,11 +150,11 @@ def must_have_no_others(call: str, others: dict[str, Any]) -> None:
         ours = KEYWORDS_OF_PANDAS.get(name)
         if ours is None:
             hint = ""
-        elif call in STEPS:
+        elif call.rpartition(".")[2] in STEPS:
             hint = ": a step begins at one instant, also in a gap and in a fold"
         else:
             hint = f": pandas' {name}= is {ours}= here"
-        raise TypeError(f"Zone.{call}() takes no keyword argument {name!r}{hint}")
+        raise TypeError(f"{call}() takes no keyword argument {name!r}{hint}")
 
 
 def _given(column: Column, fold: Any, is_dst: Any, offset: Any) -> Optional[Given]:
@@ -233,7 +223,6 @@ def factorized(name: str, keys: Any, column: Column) -> tuple[Array, list[Any]]:
         found, numbers = np.unique(row_by_row(name, keys, column), return_inverse=True)
     else:
         numbers, found = pandas.factorize(row_by_row(name, keys, column))
-    missing = np.flatnonzero(numbers < 0)
-    if missing.size:
-        raise ValueError(f"{name}= has no key in row {missing[0]}")
-    return numbers.astype(np.intp), list(found)
+    if numbers.size and int(numbers.min()) < 0:
+        raise ValueError(f"{name}= has no key in row {int((numbers < 0).argmax())}")
+    return numbers, list(found)

@@ -1,4 +1,5 @@
-"""Columns of time: what users hand over as int64 in one dimension, and answers as they gave it.
+"""Columns of time: what users hand over as int64 in one dimension, and answers as they gave it. Each other type is a
+TypeError that says what to do.
 
 A column counts units since 1970-01-01 00:00:00: seconds in an array of integers, and the unit of
 the type in one of datetime64. Units longer than a second become seconds, since offsets are counted
@@ -7,32 +8,52 @@ in seconds.
 
 from __future__ import annotations
 
-from datetime import timedelta, timezone
+import sys
+from datetime import date, datetime, time, timedelta, timezone
+from functools import cached_property
 from typing import Any, Iterator, Optional
 
 import numpy as np
 
-from ._containers import EPOCH, NAT, Array, ArrayContainer
+from ._arrow import array_of, is_arrow, values_of
+from ._containers import (
+    EPOCH,
+    LENGTHS,
+    NAT,
+    PER_SECOND,
+    TIMES,
+    Array,
+    ArrayContainer,
+    ArrowContainer,
+    ArrowIndexContainer,
+    ArrowSeriesContainer,
+    DatetimeContainer,
+    IndexContainer,
+    SeriesContainer,
+    TimestampContainer,
+)
 from ._native import COLUMN_UNITS
 from .errors import OUT_OF_RANGE, OutOfRangeError, RowError
 
 GREATEST = int(np.iinfo(np.int64).max)
-PER_SECOND = {
-    "s": 1,
-    "ms": 10**3,
-    "us": 10**6,
-    "ns": 10**9,
-    "ps": 10**12,
-    "fs": 10**15,
-    "as": 10**18,
-}
 # The first and the last second of the calendar, which has the years -262143 to 262142.
 FIRST_SECOND, LAST_SECOND = -8_334_601_228_800, 8_210_266_876_799
 # Rows that one call is asked: what a block needs stays in the processor's cache.
 BLOCK = 1 << 16
+DAY = 86_400
 NO_ROWS = np.empty(0, np.intp)
 # So few numbers Python compares before numpy has begun.
 FEW = 32
+
+SECONDS = {"m": 60, "h": 3_600, "D": 86_400, "W": 604_800}
+# Numbers of months and years that numpy turns into seconds without leaving 64 bits.
+MOST = {"M": 12 * 292_277_000_000, "Y": 292_277_000_000}
+
+#: The types of numpy that columns have as they are, and their units.
+UNITS: dict[Any, Optional[str]] = {dtype: unit for unit, dtype in TIMES.items()}
+UNITS[np.dtype(np.int64)] = None
+
+COLUMNS = "an array or a list of int64 or datetime64, a Series, an Index and a datetime are"
 
 
 def extremes(values: Array) -> tuple[int, int]:
@@ -87,9 +108,13 @@ class Column:
         least, greatest = extremes(values)
         return least // self.per_second, greatest // self.per_second
 
+    def counts_within(self, first: int, last: int) -> bool:
+        """Returns whether its unit counts no second before `first` and none after `last`."""
+        return first <= NAT // self.per_second and GREATEST // self.per_second <= last
+
     def lies_in(self, first: int, last: int) -> bool:
         """Returns whether all rows lie in the seconds from `first` to `last`, which have 0."""
-        if first <= NAT // self.per_second and GREATEST // self.per_second <= last:
+        if self.counts_within(first, last):
             return True
         least, greatest = self.ends()
         return first <= least and greatest <= last
@@ -132,7 +157,7 @@ class Column:
 
     def times_of(self, values: Array) -> Array:
         """Some values as numbers or as times, in one dimension."""
-        return values.view(f"M8[{self.unit}]") if self.is_time else values
+        return values.view(TIMES[self.unit]) if self.unit else values
 
     def local_times(self, values: Array) -> Any:
         """The answer of local times, counted as the question is."""
@@ -162,16 +187,27 @@ class Column:
             words = "the answer does not fit datetime"
             raise self.error(OutOfRangeError, 0, OUT_OF_RANGE, words) from None
 
-    def offsets(self, seconds: Array, is_nat: Array) -> Any:
-        """The answer of offsets in seconds: lengths of time where the question is datetime64."""
-        if not self.is_time:
-            if self.has_nat:
-                seconds[is_nat] = np.iinfo(seconds.dtype).min
-            return self.container.numbers(seconds)
+    @property
+    def lengths_per_second(self) -> int:
+        """How many units of a length of time, as answers have it, make a second."""
+        return PER_SECOND[self.container.length_unit] if self.is_time else 1
+
+    def lengths(self, lengths: Array, is_nat: Optional[Array]) -> Any:
+        """The answer of offsets, in int64 of these units: lengths of time where the question is datetime64."""
+        if self.is_time:
+            if is_nat is not None:
+                lengths[is_nat] = NAT
+            return self.container.lengths(lengths.view(LENGTHS[self.container.length_unit]))
+        seconds = lengths.astype(np.int32)
+        if self.has_nat and is_nat is not None:
+            seconds[is_nat] = np.iinfo(np.int32).min
+        return self.container.numbers(seconds)
+
+    def offsets(self, seconds: Array, is_nat: Optional[Array]) -> Any:
+        """The answer of offsets in seconds."""
         lengths = seconds.astype(np.int64)
-        lengths *= PER_SECOND[self.container.length_unit]
-        lengths[is_nat] = NAT
-        return self.container.lengths(lengths.view(f"m8[{self.container.length_unit}]"))
+        lengths *= self.lengths_per_second
+        return self.lengths(lengths, is_nat)
 
     def plain(self, values: Array) -> Any:
         return self.container.plain(values)
@@ -187,30 +223,51 @@ def _shown_at(second: int, zone: Any) -> int:
 
 
 class Block:
-    """Rows of a column that follow one another: `seconds` are theirs, floored, with 0 for NaT."""
+    """Rows of a column that follow one another."""
 
     def __init__(self, column: Column, start: int):
         self.column, self.start = column, start
         self.rows = slice(start, start + BLOCK)
         self.values = column.values[self.rows]
-        self.least, self.greatest = extremes(self.values)
-        self.is_nat: Optional[Array] = None
-        counted = self.values
-        if column.has_nat and self.least == NAT:
-            self.is_nat = self.values == NAT
-            counted = np.where(self.is_nat, 0, self.values)
-            self.least, self.greatest = extremes(counted)
-        self.counted = counted
-        self.seconds = counted if column.per_second == 1 else counted // column.per_second
+
+    @cached_property
+    def is_nat(self) -> Optional[Array]:
+        """Which rows are NaT, or None if none is."""
+        is_nat = self.values == NAT if self.column.has_nat else None
+        return None if is_nat is None or not is_nat.any() else is_nat
+
+    @cached_property
+    def counted(self) -> Array:
+        """The rows, with 0 for NaT."""
+        return self.values if self.is_nat is None else np.where(self.is_nat, 0, self.values)
+
+    @cached_property
+    def seconds(self) -> Array:
+        """Their seconds, floored."""
+        per_second = self.column.per_second
+        return self.counted if per_second == 1 else self.counted // per_second
+
+    @property
+    def days(self) -> Array:
+        """Their days, if they are local times."""
+        length = DAY * self.column.per_second
+        return self.counted // length if length <= GREATEST else self.seconds // DAY
+
+    @cached_property
+    def ends(self) -> tuple[int, int]:
+        """The least and the greatest of them."""
+        return extremes(self.counted)
 
     def fits_calls(self) -> bool:
         """Returns whether the calls for C that count in units take the rows as they are."""
-        return self.column.per_second in COLUMN_UNITS and (self.column.has_nat or self.least != NAT)
+        return self.column.per_second in COLUMN_UNITS and (self.column.has_nat or self.ends[0] != NAT)
 
     def outside(self, first: int, last: int) -> Array:
         """Returns the places of the rows before the second `first` or after `last`."""
         per_second = self.column.per_second
-        if first <= self.least // per_second and self.greatest // per_second <= last:
+        if self.column.counts_within(first, last):
+            return NO_ROWS
+        if first <= self.ends[0] // per_second and self.ends[1] // per_second <= last:
             return NO_ROWS
         found = (self.seconds < first) | (self.seconds > last)
         return np.flatnonzero(found if self.is_nat is None else found & ~self.is_nat)
@@ -226,12 +283,14 @@ class Block:
         Returns the places in the block of those that don't fit."""
         per_second, has_nat = self.column.per_second, self.column.has_nat
         first, last = -((-NAT - has_nat) // per_second), GREATEST // per_second
-        found = (seconds < first) | (seconds > last)
         np.multiply(seconds, per_second, out=out)
         if self.is_nat is not None:
-            found &= ~self.is_nat
             out[self.is_nat] = NAT
-        return np.flatnonzero(found)
+        least, greatest = extremes(seconds)
+        if first <= least and greatest <= last:
+            return NO_ROWS
+        found = (seconds < first) | (seconds > last)
+        return np.flatnonzero(found if self.is_nat is None else found & ~self.is_nat)
 
     def moved(self, sign: int, offsets: Array, out: Array) -> Array:
         """Writes the rows to `out`, each moved by its offset; NaT stays.
@@ -241,7 +300,7 @@ class Block:
         misfits: Array = NO_ROWS
         least, greatest = extremes(offsets)
         far = max(-least, greatest) * column.per_second
-        if far > GREATEST or self.least - far <= NAT or self.greatest + far > GREATEST:
+        if far > GREATEST or self.ends[0] - far <= NAT or self.ends[1] + far > GREATEST:
             misfits = self._misfits(sign, offsets)
             offsets = offsets.copy()
             offsets[misfits] = 0
@@ -260,3 +319,245 @@ class Block:
         if self.is_nat is not None:
             misfits &= ~self.is_nat
         return np.flatnonzero(misfits.astype(bool))
+
+
+# What users hand over
+
+
+def taken(values: Any, line: str, may_be_aware: bool) -> Column:
+    """The column that a user hands over. Raises TypeError if it isn't one.
+
+    `line` is the call as it is written for the times in the index of a Series."""
+    call = line.partition("(")[0]
+    try:
+        column = _column_of(values, line, may_be_aware)
+    except RowError as error:
+        error.call = call
+        raise
+    column.call = call
+    return column
+
+
+def _column_of(values: Any, line: str, may_be_aware: bool) -> Column:
+    if isinstance(values, (np.ndarray, np.generic)):
+        if isinstance(values, np.ma.MaskedArray):
+            raise TypeError(
+                "a masked array is no column of time: pass datetime64 with NaT for what is masked"
+            )
+        return _of_array(np.asarray(values))
+    if isinstance(values, (int, list, tuple, range)):
+        return _of_list(values)
+    pandas = sys.modules.get("pandas")
+    if pandas is not None and isinstance(values, (pandas.Series, pandas.Index)):
+        return _of_pandas(pandas, values, line, may_be_aware)
+    if isinstance(values, datetime):
+        return _of_datetime(pandas, values, may_be_aware)
+    if is_arrow(values) and type(values).__module__.partition(".")[0] != "pandas":
+        return _of_arrow(array_of(values), None, may_be_aware)
+    raise TypeError(f"a {type_name(values)} is no column of time: {_advice(values)}")
+
+
+def taken_days(values: Any, line: str) -> Column:
+    """The column of local times that a user hands over, or one date: its midnight."""
+    if isinstance(values, date) and not isinstance(values, datetime):
+        values = datetime.combine(values, time())
+    return taken(values, line, may_be_aware=False)
+
+
+def type_name(value: Any) -> str:
+    """Returns the name of a value's type, and the package that it is of."""
+    kind = type(value)
+    place = kind.__module__.partition(".")[0]
+    return kind.__name__ if place in ("builtins", "datetime") else f"{place} {kind.__name__}"
+
+
+def _advice(values: Any) -> str:
+    """What to do with a value of another type."""
+    place = type(values).__module__.partition(".")[0]
+    if hasattr(values, "__dask_graph__"):
+        return "map_partitions, or map_blocks of a dask array, asks about each part of it"
+    if isinstance(values, str):
+        return "numpy.datetime64 and pandas.to_datetime read a text"
+    if isinstance(values, date):
+        return "datetime.datetime.combine gives it a time of day"
+    if place == "pandas" and hasattr(values, "columns"):
+        return "pass one of its columns, or apply the call to each"
+    if place == "pandas" and hasattr(values, "to_timestamp"):
+        return "to_timestamp() gives the local time of its start"
+    if place == "pandas" and hasattr(values, "dtype"):
+        return "pass a Series or an Index of it"
+    if hasattr(values, "__array__") or hasattr(values, "__array_interface__"):
+        return "pass its instants in UTC, or its local times, as a numpy array of datetime64"
+    return COLUMNS
+
+
+# Numbers and lists, moments
+
+
+def _of_list(values: Any) -> Column:
+    array = np.asarray(values)
+    if array.size == 0:
+        array = array.astype(np.int64)
+    if array.dtype.kind in "fO":
+        numbers = np.asarray(values, object)
+        if all(isinstance(each, (int, np.integer)) for each in numbers.flat):
+            # No type of numpy has them all.
+            misfits = (numbers < NAT) | (numbers > GREATEST)
+            _must_fit(numbers, misfits.reshape(-1), "int64", ArrayContainer(array.shape))
+    return _of_array(array)
+
+
+def _of_datetime(pandas: Any, value: datetime, may_be_aware: bool) -> Column:
+    if value.tzinfo is not None and not may_be_aware:
+        raise TypeError("a local time has no zone, and this one has: replace(tzinfo=None) drops it")
+    if pandas is not None and (value is pandas.NaT or isinstance(value, pandas.Timestamp)):
+        stamp: Any = value
+        moment = stamp.to_datetime64()
+        if 1678 <= value.year <= 2261:
+            # One of pandas 2 may count seconds. Its day ends with a nanosecond, as in pandas 1.
+            moment = moment.astype("M8[ns]")
+        column = _of_array(np.asarray(moment))
+        column.container = TimestampContainer()
+        return column
+    since = value.replace(tzinfo=None) - EPOCH - (value.utcoffset() or timedelta(0))
+    count = since // timedelta(microseconds=1)
+    return Column(np.array([count], np.int64), "us", DatetimeContainer())
+
+
+# Series and Indexes
+
+
+def _must_have_times(pandas: Any, values: Any, line: str) -> None:
+    """Raises TypeError for a Series of numbers whose index has the times."""
+    index = values.index
+    kinds = pandas.DatetimeIndex, pandas.PeriodIndex
+    if any(isinstance(each, kinds) for each in getattr(index, "levels", [index])):
+        advice = f"{line} asks about those, and s.to_numpy() has the numbers only"
+        raise TypeError(f"a Series s of {values.dtype} with times in its index: {advice}")
+
+
+def _of_pandas(pandas: Any, values: Any, line: str, may_be_aware: bool) -> Column:
+    is_index, dtype = isinstance(values, pandas.Index), values.dtype
+    container = IndexContainer if is_index else SeriesContainer
+    if dtype.kind in "biuf" and not is_index:
+        _must_have_times(pandas, values, line)
+    if isinstance(dtype, np.dtype) and dtype.kind != "O":
+        return _of_array(values.values, container(values))
+    kind = "an Index" if is_index else "a Series"
+    if isinstance(dtype, pandas.DatetimeTZDtype):
+        if not may_be_aware:
+            drop = "tz_localize(None)" if is_index else "dt.tz_localize(None)"
+            raise TypeError(f"local times have no zone, and these are {dtype}: {drop} removes it")
+        return _of_array(values.values, container(values))
+    if isinstance(dtype, pandas.PeriodDtype):
+        gives = "to_timestamp()" if is_index else "dt.to_timestamp()"
+        raise TypeError(f"{kind} of {dtype} is no column of time: {gives} gives the local time of each start")
+    if isinstance(dtype, pandas.StringDtype):
+        raise TypeError(f"{kind} of texts is no column of time: pandas.to_datetime reads them")
+    if isinstance(dtype, getattr(pandas, "ArrowDtype", ())):
+        of_arrow = ArrowIndexContainer if is_index else ArrowSeriesContainer
+        return _of_arrow(array_of(values.array.__arrow_array__()), of_arrow(values), may_be_aware)
+    if pandas.api.types.is_extension_array_dtype(dtype):
+        if pandas.api.types.is_integer_dtype(dtype) and hasattr(dtype, "numpy_dtype"):
+            return _of_nullable(values, container(values, has_nat=True))
+        raise TypeError(
+            f"{kind} of {dtype} is no column of time: astype gives datetime64, int64 or Int64"
+        )
+    if isinstance(values, pandas.MultiIndex):
+        raise TypeError("a MultiIndex is no column of time: get_level_values gives one of them")
+    raise TypeError(
+        f"{kind} of object is no column of time: pandas.to_datetime makes datetime64 of it"
+    )
+
+
+def _of_nullable(values: Any, container: ArrayContainer) -> Column:
+    """A column of nullable integers, with the least int64 for NA."""
+    is_missing = np.asarray(values.isna())
+    numbers = values.to_numpy(dtype=values.dtype.numpy_dtype, na_value=0)
+    column = _of_array(numbers, container)
+    _must_fit(numbers, column.values == NAT, "Int64 beside NA", container)
+    column.values = np.where(is_missing, NAT, column.values)
+    return column
+
+
+def _of_arrow(array: Any, container: Optional[ArrayContainer], may_be_aware: bool) -> Column:
+    """A column of Arrow, with the least int64 for what is missing."""
+    values, unit, missing = values_of(array, may_be_aware)
+    container = container or ArrowContainer((values.size,))
+    is_nat = values == NAT
+    is_nat[missing] = False
+    _must_fit(values, is_nat, "a column with missing values", container)
+    if missing.size:
+        values = values.copy()
+        values[missing] = NAT
+    return Column(values, unit, container)
+
+
+# Arrays
+
+
+def _of_array(array: Array, container: Optional[ArrayContainer] = None) -> Column:
+    """An array of int64 or datetime64 that the calls take as it is, is not copied."""
+    container = container or ArrayContainer(array.shape)
+    if array.dtype in UNITS:
+        return Column(_laid_out(array, array.dtype).view(np.int64), UNITS[array.dtype], container)
+    kind = array.dtype.kind
+    if kind == "M":
+        return _of_datetime64(array, container)
+    if kind not in "iu":
+        raise TypeError(f"an array of {array.dtype} is no column of time: {_of_type(kind)}")
+    if array.dtype.newbyteorder("=") == np.uint64:
+        values = _laid_out(array, "=u8")
+        _must_fit(array, values > np.uint64(GREATEST), "int64", container)
+        return Column(values.view(np.int64), None, container)
+    return Column(_laid_out(array, "=i8"), None, container)
+
+
+def _of_type(kind: str) -> str:
+    """What to do with an array of another type."""
+    if kind == "f":
+        return "astype makes int64 of whole seconds"
+    if kind in "OSU":
+        return "pandas.to_datetime, or astype, makes datetime64 of it"
+    return "datetime64 and int64 are"
+
+
+def _laid_out(array: Array, dtype: Any) -> Array:
+    """As the calls take it, in one dimension; the array itself where it is so."""
+    flags = array.flags
+    if array.dtype != dtype or not (flags.c_contiguous and flags.aligned):
+        array = np.require(array, dtype, ["C", "A"])
+    return array if array.ndim == 1 else array.reshape(-1)
+
+
+def _of_datetime64(array: Array, container: ArrayContainer) -> Column:
+    unit, count = np.datetime_data(array.dtype)
+    if unit == "generic":
+        raise TypeError("datetime64 without a unit: datetime64[s] has one")
+    values = _laid_out(array, array.dtype.newbyteorder("=")).view(np.int64)
+    if unit in MOST:
+        most, base = MOST[unit] // count, "s"
+    else:
+        factor, base = count * SECONDS.get(unit, 1), "s" if unit in SECONDS else unit
+        if factor == 1:
+            return Column(values, base, container)
+        most = GREATEST // factor
+    is_nat = values == NAT
+    misfits = ((values > most) | (values < -most)) & ~is_nat
+    _must_fit(array, misfits, f"datetime64[{base}]", container)
+    counted = np.where(is_nat, 0, values)
+    if unit in MOST:
+        counted = (counted * count).view(f"M8[{unit}]").astype("M8[s]").view(np.int64)
+    else:
+        counted *= factor
+    counted[is_nat] = NAT
+    return Column(counted, base, container)
+
+
+def _must_fit(array: Array, misfits: Array, what: str, container: ArrayContainer) -> None:
+    if misfits.any():
+        row = int(misfits.argmax())
+        value = array.reshape(-1)[row]
+        shown = value if array.dtype.kind == "M" else int(value)
+        words = f"it does not fit {what}"
+        raise OutOfRangeError(container.row(row), shown, OUT_OF_RANGE, words, container.label(row))

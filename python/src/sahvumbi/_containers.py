@@ -1,10 +1,12 @@
-"""What an answer comes in, as its question did: an array, a Series, an Index or one moment."""
+"""The types of questions and answers, and what an answer comes in, as its question did: an array, a Series, an Index
+or one moment."""
 
 from __future__ import annotations
 
 import sys
 from datetime import datetime, timedelta, timezone
-from typing import TYPE_CHECKING, Any, NamedTuple, Optional, Union
+from functools import lru_cache
+from typing import TYPE_CHECKING, Any, Literal, NamedTuple, Optional, Protocol, Sequence, TypeVar, Union
 
 import numpy as np
 
@@ -20,6 +22,45 @@ else:
 
 NAT = int(np.iinfo(np.int64).min)
 EPOCH = datetime(1970, 1, 1)
+#: How many of each unit make a second.
+PER_SECOND = {
+    "s": 1,
+    "ms": 10**3,
+    "us": 10**6,
+    "ns": 10**9,
+    "ps": 10**12,
+    "fs": 10**15,
+    "as": 10**18,
+}
+#: numpy's types of times and of lengths of time.
+TIMES = {unit: np.dtype(f"M8[{unit}]") for unit in PER_SECOND}
+LENGTHS = {unit: np.dtype(f"m8[{unit}]") for unit in PER_SECOND}
+
+
+class Labels(Protocol):
+    """What a Series and an Index of pandas have, and an array has not."""
+
+    @property
+    def array(self) -> Any: ...
+
+    def to_numpy(self, *words: Any, **choices: Any) -> Any: ...
+
+
+#: Numbers and times that are answered by an array.
+Rows = Union[Array, Sequence[int], Sequence[np.datetime64]]
+#: A second or a time.
+Single = Union[int, "np.integer[Any]", np.datetime64]
+#: All that the calls take as a column.
+Times = Union[Rows, Single, datetime, Labels]
+#: A Series or an Index, which is answered by one.
+Labelled = TypeVar("Labelled", bound=Labels)
+#: A datetime or a Timestamp, which is answered by one.
+Moment = TypeVar("Moment", bound=datetime)
+
+Gap = Literal["raise", "shift", "after", "shift_back", "before", "nat"]
+FoldWord = Literal["raise", "earliest", "latest", "nat", "infer"]
+#: A word, or 0 and 1 for each row.
+Fold = Union[FoldWord, Rows, Labels, int]
 
 
 class ArrayContainer:
@@ -49,7 +90,7 @@ class ArrayContainer:
 
     def times(self, values: Array, unit: Optional[str], zone: Any) -> Any:
         """Returns a column of times: local times if `zone` is None, and else instants."""
-        return self.plain(values if unit is None else values.view(f"M8[{unit}]"))
+        return self.plain(values if unit is None else values.view(TIMES[unit]))
 
     def numbers(self, values: Array) -> Any:
         """Returns a column of numbers."""
@@ -61,6 +102,8 @@ class ArrayContainer:
 
     def plain(self, values: Array) -> Any:
         """Returns a column of anything else."""
+        if len(self.shape) == 1:
+            return values
         return values.reshape(self.shape) if self.shape else values[0]
 
     def table(self, columns: Any) -> Any:
@@ -74,11 +117,13 @@ class SeriesContainer(ArrayContainer):
     text = object
 
     def __init__(self, of: Any, has_nat: Optional[bool] = None):
-        super().__init__((len(of),))
+        super().__init__(of.shape)
         self.of, self.has_nat = of, has_nat
-        if sys.modules["pandas"].__version__ < "2":
-            # It has no other unit, and takes several copies to change one.
-            self.length_unit = "ns"
+
+    @property
+    def length_unit(self) -> str:  # type: ignore[override]
+        # pandas 1 has no other unit, and takes several copies to change one.
+        return "ns" if sys.modules["pandas"].__version__ < "2" else "s"
 
     @property
     def index(self) -> Any:
@@ -98,9 +143,11 @@ class SeriesContainer(ArrayContainer):
     def numbers(self, values: Array) -> Any:
         return self.plain(_nullable(values) if self.has_nat else values)
 
+    def lengths(self, values: Array) -> Any:
+        return self.plain(_lengths_of_pandas(values))
+
     def plain(self, values: Any) -> Any:
-        made = self.of._constructor(values, index=self.index, name=self.of.name, copy=False)
-        return made.__finalize__(self.of)
+        return _series_over(values, self.of).__finalize__(self.of)
 
     def table(self, columns: Any) -> Any:
         import pandas
@@ -117,11 +164,10 @@ class IndexContainer(SeriesContainer):
         return self.of
 
     def times(self, values: Array, unit: Optional[str], zone: Any) -> Any:
-        import pandas
-
         if unit is None:
             return self.numbers(values)
-        return pandas.DatetimeIndex._simple_new(_times_of_pandas(values, unit, zone), name=self.of.name)
+        made = sys.modules["pandas"].DatetimeIndex._simple_new
+        return made(_times_of_pandas(values, unit, zone), name=self.of.name)
 
     def plain(self, values: Any) -> Any:
         import pandas
@@ -137,9 +183,10 @@ class IndexContainer(SeriesContainer):
 class InArrow(SeriesContainer):
     """A Series or an Index of pandas that has its values in Arrow. So have its answers."""
 
+    length_unit = "s"
+
     def __init__(self, of: Any):
         super().__init__(of, has_nat=True)
-        self.length_unit = "s"
 
     def times(self, values: Array, unit: Optional[str], zone: Any) -> Any:
         return self.plain(_arrow.to_pandas(_arrow.of_times(values, unit, zone)))
@@ -234,11 +281,65 @@ def frame_of(table: Any, *in_utc: str) -> Any:
 
 
 def as_html(table: Any) -> Optional[str]:
-    """Returns the table that a notebook shows for an answer that has `to_frame`, or None without pandas."""
-    if "pandas" not in sys.modules:
+    """Returns the table that a notebook shows for columns, or None: without pandas, and for one value, it shows their text."""
+    if "pandas" not in sys.modules or np.ndim(table[0]) != 1:
         return None
-    shown: str = table.to_frame()._repr_html_()
+    shown: str = (table.to_frame() if hasattr(table, "to_frame") else frame_of(table))._repr_html_()
     return shown
+
+
+class WallClocks(NamedTuple):
+    """When a zone's clocks show the local times of a column. Each field has the column's shape."""
+
+    shown: npt.NDArray[np.int8]
+    """How often: 0 never, 1 once, 2 several times; 3 out of range, -1 NaT."""
+    first: npt.NDArray[Any]
+    """The first instant that shows it, counted as the column is; in a gap that of the change that
+    skips it; NaT, None or 0 for NaT and out of range."""
+    last: npt.NDArray[Any]
+    """The last one; in a gap the same change."""
+    first_offset: npt.NDArray[Any]
+    """The offset at the first instant, as `Zone.offsets` returns it; in a gap the one before it."""
+    last_offset: npt.NDArray[Any]
+    """The offset at the last one; in a gap the one after it."""
+
+    def _repr_html_(self) -> Optional[str]:
+        return as_html(self)
+
+
+class LocalTypes(NamedTuple):
+    """The local time types in force at the instants of a column. Each field has its shape."""
+
+    offset: npt.NDArray[Any]
+    """The offset, as `Zone.offsets` returns it; NaT for NaT."""
+    is_dst: npt.NDArray[np.bool_]
+    """The DST flag: whether it is daylight saving time. False for NaT."""
+    abbreviation: npt.NDArray[np.str_]
+    """The abbreviation, such as EST; empty for NaT, and if the zone has none."""
+
+    def _repr_html_(self) -> Optional[str]:
+        return as_html(self)
+
+
+class Spans(NamedTuple):
+    """The spans that the instants of a column lie in: in each one local time type is in force, from
+    its first second on to the first one at which the type is no longer in force. Each field has the
+    column's shape."""
+
+    offset: npt.NDArray[Any]
+    """The offset, the DST flag and the abbreviation, as in `LocalTypes`."""
+    is_dst: npt.NDArray[np.bool_]
+    abbreviation: npt.NDArray[np.str_]
+    from_: npt.NDArray[Any]
+    """The first second of the span, counted as the column is: clocks change then, or the zone has no
+    type before. If the type is in force at all seconds before that the column can count, NaT, or the
+    least int64."""
+    until: npt.NDArray[Any]
+    """The first second after the span: clocks change then, or the zone has no type. If the type is in
+    force at all seconds after that the column can count, NaT, or the greatest int64."""
+
+    def _repr_html_(self) -> Optional[str]:
+        return as_html(self)
 
 
 class Failures(NamedTuple):
@@ -269,12 +370,37 @@ class Failures(NamedTuple):
 
 def _times_of_pandas(values: Array, unit: str, zone: Any) -> Any:
     """Returns the array in which pandas has times, over these numbers: it copies none of them, and looks at none."""
-    import pandas
-
-    times = values.view(f"M8[{unit}]")
-    dtype = times.dtype if zone is None else pandas.DatetimeTZDtype(unit, zone)
+    pandas = sys.modules["pandas"]
+    dtype: Any = TIMES[unit]
     # The public ways to make one take twenty times as long.
-    return pandas.arrays.DatetimeArray._simple_new(times, dtype=dtype)
+    made = pandas.arrays.DatetimeArray._simple_new
+    if zone is not None:
+        dtype = _type_in_utc(unit) if zone == "UTC" else pandas.DatetimeTZDtype(unit, zone)
+    return made(values.view(TIMES[unit]), dtype=dtype)
+
+
+@lru_cache(None)
+def _type_in_utc(unit: str) -> Any:
+    """Returns the type that pandas has for times of UTC."""
+    return sys.modules["pandas"].DatetimeTZDtype(unit, "UTC")
+
+
+def _lengths_of_pandas(values: Array) -> Any:
+    """Returns the array in which pandas has lengths of time, over timedelta64."""
+    return sys.modules["pandas"].arrays.TimedeltaArray._simple_new(values, dtype=values.dtype)
+
+
+def _series_over(values: Any, of: Any) -> Any:
+    """Returns a Series over values, with the labels of another one.
+
+    The public constructor takes five times as long: it first looks for what these values can't have."""
+    kind = sys.modules["pandas"].Series
+    if type(of) is not kind:
+        return of._constructor(values, index=of.index, name=of.name, copy=False)
+    manager = of._mgr.from_array(values, of.index)
+    if hasattr(kind, "_from_mgr"):
+        return kind._from_mgr(manager, manager.axes)
+    return kind(manager, fastpath=True)
 
 
 def _nullable(values: Array) -> Any:

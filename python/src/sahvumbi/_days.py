@@ -1,4 +1,5 @@
-"""Days of a zone and steps of its clocks: when they begin.
+"""Days of a zone and steps of its clocks: when they begin. Steps are parts of a second and of a day, days, and months of
+the calendar.
 
 A day begins at the first second at which a clock shows its midnight or a later local time, and the
 next day ends it. So each instant lies in one day, and a day that clocks skipped has none.
@@ -6,25 +7,52 @@ next day ends it. So each instant lies in one day, and a day that clocks skipped
 
 from __future__ import annotations
 
-from typing import TYPE_CHECKING, Any, Iterator, NamedTuple, Union
+import re
+from datetime import timedelta
+from functools import cached_property
+from typing import TYPE_CHECKING, Any, Callable, Iterator, NamedTuple, Optional, Union
 
 import numpy as np
 
-from ._columns import FIRST_SECOND, GREATEST, LAST_SECOND, Block, Column
-from ._containers import NAT, Array
+from ._columns import DAY, FIRST_SECOND, GREATEST, LAST_SECOND, Block, Column
+from ._containers import NAT, Array, as_html
 from ._lookups import write_seconds
 from ._native import LEAST, NativeZone
-from ._steps import DAY, DayCount, MonthCount, PartOfDay, PartOfSecond, SECOND, Step, step_of
-from .errors import GAP, OUT_OF_RANGE, GapError, OutOfRangeError
+from .errors import GAP, OUT_OF_RANGE, GapError, OutOfRangeError, printable
 
 if TYPE_CHECKING:
     import numpy.typing as npt
 
+SECOND = 10**9
+#: The length of each unit, in nanoseconds.
+UNITS = {
+    "D": DAY * SECOND,
+    "h": 3_600 * SECOND,
+    "min": 60 * SECOND,
+    "s": SECOND,
+    "ms": 10**6,
+    "us": 10**3,
+    "ns": 1,
+}
+#: The months of each step that begins with a month.
+MONTHS = {"MS": 1, "QS": 3, "YS": 12}
+#: What pandas 1 says for some of these.
+OF_PANDAS = {
+    **{"H": "h", "T": "min", "S": "s", "L": "ms", "U": "us", "N": "ns"},
+    **{"M": "MS", "Q": "QS", "A": "YS", "Y": "YS"},
+}
+#: The day of a Monday, counted from 1970-01-01, a Thursday.
+MONDAY = 4
+
+#: A step, as callers write it: 'D', '2D', 'W', 'MS', 'h', '15min', '500ms', or a timedelta.
+Step = Union[str, timedelta]
+
 # No second of a day: it is outside the calendar.
 NONE = GREATEST
-# Days that are listed for a column of few rows, and for each row: to look days up takes less time than to find
-# the different ones among rows. A day that no calendar reaches.
-FEW, MORE, NO_DAY = 64, 4, 10**9
+# The parts of a column's range, as a power of two.
+PARTS = 14
+# A day that no calendar reaches.
+NO_DAY = 10**9
 EMPTY = "no clock of the zone shows a time of that day"
 OUTSIDE = "the day is outside the years -262143 to 262142"
 
@@ -39,12 +67,15 @@ class Days(NamedTuple):
     until: npt.NDArray[Any]
     """The first instant of the next day."""
 
+    def _repr_html_(self) -> Optional[str]:
+        return as_html(self)
+
 
 def starts(native: NativeZone, column: Column) -> Array:
     """Returns the first instant of the day of each local time."""
     answers, beginnings = np.empty(len(column), np.int64), Beginnings(native, column)
     for block in column.blocks():
-        _write(block, beginnings.of(block.seconds // DAY), answers)
+        _write(block, beginnings.of(block.days), answers)
     return answers
 
 
@@ -52,7 +83,7 @@ def ends(native: NativeZone, column: Column) -> Array:
     """Returns the last instant of the day of each local time, in the unit of the column."""
     answers, beginnings = np.empty(len(column), np.int64), Beginnings(native, column)
     for block in column.blocks():
-        numbers = block.seconds // DAY
+        numbers = block.days
         until = beginnings.of(numbers + 1)
         _write(block, until, answers)
         mine = answers[block.rows]
@@ -117,7 +148,7 @@ def stretches_of(
     """Returns the days of the zone, or the shorter steps of its clocks."""
     if isinstance(step, PartOfDay):
         return Parts(native, column, step.seconds)
-    return Periods(Beginnings(native, column), step)
+    return Periods(native, column, step)
 
 
 def _floored_in_second(column: Column, step: PartOfSecond) -> Array:
@@ -154,28 +185,38 @@ def _units_of(column: Column, step: PartOfSecond) -> int:
     return max(units, 1)
 
 
+class Asked:
+    """What is asked of days. If a block has more rows than the column spans days, all these days are asked once."""
+
+    def __init__(self, column: Column, ask: Callable[[Array], Array]):
+        self.ask = ask
+        least, greatest = column.ends()
+        # Offsets are less than two days, but for zones that no one keeps.
+        self.first, self.count = least // DAY - 2, (greatest - least) // DAY + 6
+
+    def of(self, days: Array) -> Array:
+        """Returns the answer for each day."""
+        if days.size < self.count:
+            return self.ask(days)
+        places = days - self.first
+        if int(places.min()) < 0 or int(places.max()) >= self.count:
+            return self.ask(days)
+        return self.listed.take(places)
+
+    @cached_property
+    def listed(self) -> Array:
+        return self.ask(np.arange(self.first, self.first + self.count))
+
+
 class Beginnings:
-    """The first second of each day. All days of a column are listed at first, if there are no more than `FEW` or
-    `MORE` for each row."""
+    """The first second of each day."""
 
     def __init__(self, native: NativeZone, column: Column):
         self.native = native
-        least, greatest = column.ends()
-        # Offsets are less than two days, but for zones that no one keeps.
-        self.first, count = least // DAY - 2, (greatest - least) // DAY + 6
-        days = np.arange(self.first, self.first + (count if count <= max(FEW, MORE * len(column)) else 0))
-        self.listed = self._looked_up(days)
+        self.of = Asked(column, self.looked_up).of
 
-    def of(self, days: Array) -> Array:
+    def looked_up(self, days: Array) -> Array:
         """Returns the first second of each day, or `NONE` if that is outside the calendar."""
-        places, seconds = days - self.first, self.listed
-        if int(places.min()) < 0 or int(places.max()) >= seconds.size:
-            found, places = np.unique(days, return_inverse=True)
-            seconds = self._looked_up(found)
-        chosen: Array = seconds[places]
-        return chosen
-
-    def _looked_up(self, days: Array) -> Array:
         midnights = np.clip(days, -NO_DAY, NO_DAY) * DAY
         reached = self.native.first_at_or_after(midnights)
         return np.where(reached["number"] == 0, reached["instant"], NONE)
@@ -204,17 +245,21 @@ class Beginnings:
 class Periods:
     """Steps of whole days: a number of days, or of months."""
 
-    def __init__(self, beginnings: Beginnings, step: Union[DayCount, MonthCount]):
-        self.beginnings, self.step = beginnings, step
+    def __init__(self, native: NativeZone, column: Column, step: Union[DayCount, MonthCount]):
+        self.beginnings, self.is_day = Beginnings(native, column), step == DayCount(1)
+        looked_up = self.beginnings.looked_up
+        self.first = Asked(column, lambda days: looked_up(step.first_day(days)))
+        self.following = Asked(column, lambda days: looked_up(step.next_first(step.first_day(days))))
 
     def begun(self, seconds: Array) -> Array:
         """Returns the first second of the step that each second lies in."""
-        return self.beginnings.of(self.step.first_day(self.beginnings.days_at(seconds)))
+        days = self.beginnings.days_at(seconds)
+        return self.beginnings.of(days) if self.is_day else self.first.of(days)
 
     def ended(self, seconds: Array) -> Array:
         """Returns the first second of the step after that."""
-        first = self.step.first_day(self.beginnings.days_at(seconds))
-        return self.beginnings.of(self.step.next_first(first))
+        days = self.beginnings.days_at(seconds)
+        return self.beginnings.of(days + 1) if self.is_day else self.following.of(days)
 
 
 class Parts:
@@ -228,22 +273,46 @@ class Parts:
         self.native, self.step = native, step
         least, greatest = column.ends()
         self.changes = self._listed(least, greatest, step + 1)
+        # Parts of the column's range: most have no second within a step of a change.
+        self.first, self.shift = least - 1, max(0, (greatest - least).bit_length() - PARTS)
+        self.is_near = self._parts_near((greatest - self.first >> self.shift) + 1)
 
     def begun(self, seconds: Array) -> Array:
         """Returns the first second of the stretch that each second lies in."""
-        begun: Array = seconds - _local_seconds(self.native, seconds) % self.step
-        last = np.searchsorted(self.changes.at, seconds, "right") - 1
-        late = np.flatnonzero(begun < self.changes.at[last])
-        begun[late] = self.changes.begun[last[late]]
+        begun, near = self._multiple(seconds), self._near(seconds)
+        if near.size:
+            last = np.searchsorted(self.changes.at, seconds[near], "right") - 1
+            is_late = begun[near] < self.changes.at[last]
+            begun[near[is_late]] = self.changes.begun[last[is_late]]
         return begun
 
     def ended(self, seconds: Array) -> Array:
         """Returns the first second of the stretch after that."""
-        ended: Array = seconds - _local_seconds(self.native, seconds) % self.step + self.step
-        following = np.searchsorted(self.changes.at, seconds, "right")
-        early = np.flatnonzero(ended >= self.changes.at[following])
-        ended[early] = self.changes.following[following[early]]
+        ended, near = self._multiple(seconds) + self.step, self._near(seconds)
+        if near.size:
+            following = np.searchsorted(self.changes.at, seconds[near], "right")
+            is_early = ended[near] >= self.changes.at[following]
+            ended[near[is_early]] = self.changes.following[following[is_early]]
         return ended
+
+    def _multiple(self, seconds: Array) -> Array:
+        """When clocks showed a multiple of the step, if they weren't changed since."""
+        local = _local_seconds(self.native, seconds)
+        # A remainder takes numpy four times as long.
+        begun: Array = seconds - local + local // self.step * self.step
+        return begun
+
+    def _near(self, seconds: Array) -> Array:
+        """The places of the seconds in parts that are near a change."""
+        return np.flatnonzero(self.is_near.take(seconds - self.first >> self.shift, mode="clip"))
+
+    def _parts_near(self, count: int) -> Array:
+        """Which parts have a second within a step of a change."""
+        marks, at = np.zeros(count + 1, np.intp), self.changes.at[1:-1] - self.first
+        np.add.at(marks, np.clip(at - self.step >> self.shift, 0, count), 1)
+        np.add.at(marks, np.clip((at + self.step >> self.shift) + 1, 0, count), -1)
+        is_near: Array = np.cumsum(marks)[:count] > 0
+        return is_near
 
     def _listed(self, least: int, greatest: int, around: int) -> StepChanges:
         """The changes of offset among these seconds and around them, as far as their steps reach."""
@@ -308,7 +377,106 @@ def _raise_outside(block: Block, places: Array) -> None:
 
 def _write(block: Block, seconds: Array, answers: Array) -> None:
     """Writes the rows of a block. Raises at the first row that has no second, or doesn't fit."""
-    outside = np.flatnonzero(seconds == NONE)
-    if outside.size:
-        _raise_outside(block, outside)
+    if int(seconds.max()) == NONE:
+        _raise_outside(block, np.flatnonzero(seconds == NONE))
     write_seconds(block, seconds, answers)
+
+
+# Steps
+
+
+class PartOfSecond(NamedTuple):
+    """A step of which a second has a whole number."""
+
+    nanoseconds: int
+
+
+class PartOfDay(NamedTuple):
+    """A step of whole seconds, of which a day has a whole number, and more than one."""
+
+    seconds: int
+
+
+class DayCount(NamedTuple):
+    """A number of days. A step begins on the day `origin`, counted from 1970-01-01."""
+
+    length: int
+    origin: int = 0
+
+    def first_day(self, days: Array) -> Array:
+        """Returns the first day of the step that each day lies in."""
+        first: Array = days if self.length == 1 else days - (days - self.origin) % self.length
+        return first
+
+    def next_first(self, first: Array) -> Array:
+        """Returns the first day of the step after the one that begins on each day."""
+        return first + self.length
+
+
+class MonthCount(NamedTuple):
+    """A month, a quarter or a year: a number of months, of which a year has a whole number."""
+
+    length: int
+
+    def first_day(self, days: Array) -> Array:
+        """Returns the first day of the step that each day lies in."""
+        months = days.view("M8[D]").astype("M8[M]").view("i8")
+        return _first_of_month(months - months % self.length)
+
+    def next_first(self, first: Array) -> Array:
+        """Returns the first day of the step after the one that begins on each day."""
+        return _first_of_month(first.view("M8[D]").astype("M8[M]").view("i8") + self.length)
+
+
+Parsed = Union[PartOfSecond, PartOfDay, DayCount, MonthCount]
+
+
+def step_of(step: Any) -> Parsed:
+    """Returns the step that a caller means. Raises ValueError if clocks have no such step."""
+    if isinstance(step, timedelta):
+        parsed = _of_length(_nanoseconds(step))
+    elif isinstance(step, str):
+        parsed = _of_word(step)
+    else:
+        raise TypeError(f"step is 'D', 'h', '15min' or a timedelta, and not {type(step).__name__}")
+    if parsed is None:
+        shown = printable(repr(step))
+        ours = OF_PANDAS.get(step.lstrip("0123456789")) if isinstance(step, str) else None
+        hint = f": pandas' {shown} is {step[: -1] + ours!r} here" if ours else ""
+        raise ValueError(
+            "step is a number of days ('D', '2D', 'W'), a month, quarter or year ('MS', 'QS', 'YS'), "
+            f"or a whole part of a day ('h', '15min', '30s') or of a second ('500ms'), and not {shown}{hint}"
+        )
+    return parsed
+
+
+def _of_word(step: str) -> Parsed | None:
+    if step == "W":
+        return DayCount(7, MONDAY)
+    if step in MONTHS:
+        return MonthCount(MONTHS[step])
+    found = re.fullmatch(f"([0-9]{{0,9}})({'|'.join(UNITS)})", step)
+    return _of_length(int(found[1] or 1) * UNITS[found[2]]) if found else None
+
+
+def _of_length(nanoseconds: int) -> Parsed | None:
+    day = DAY * SECOND
+    if nanoseconds <= 0:
+        return None
+    if nanoseconds % day == 0:
+        return DayCount(nanoseconds // day)
+    if nanoseconds % SECOND == 0 and day % nanoseconds == 0:
+        return PartOfDay(nanoseconds // SECOND)
+    return PartOfSecond(nanoseconds) if SECOND % nanoseconds == 0 else None
+
+
+def _nanoseconds(step: timedelta) -> int:
+    """The length of a timedelta; one of pandas has nanoseconds of its own."""
+    seconds = step.days * DAY + step.seconds
+    return seconds * SECOND + step.microseconds * 1_000 + getattr(step, "nanoseconds", 0)
+
+
+def _first_of_month(months: Array) -> Array:
+    """The first day of each month, both counted from 1970-01."""
+    days: Array = months.view("M8[M]").astype("M8[D]").view("i8")
+    return days

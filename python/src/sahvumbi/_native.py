@@ -312,7 +312,7 @@ class NativeZone:
         self, call: Any, words: tuple[int, ...], asked: Array, answers: Array
     ) -> Callable[[int], Optional[Stop]]:
         """Returns what asks about the rows of two arrays of int64, from one of them on."""
-        (first, size), (out, _), row = _array(asked), _array(answers), c_size_t()
+        first, out, size, row = asked.ctypes.data, answers.ctypes.data, asked.size, c_size_t()
 
         def ask(begin: int) -> Optional[Stop]:
             while begin < size:

@@ -20,7 +20,7 @@ from pandas import Series
 from pandas.api.extensions import register_index_accessor, register_series_accessor
 
 from ._names import zoneinfo_of
-from ._steps import Step
+from ._days import Step
 from .errors import FoldError, GapError
 from .zone import Zone
 
@@ -83,9 +83,15 @@ class Accessor:
         """Returns the last instant of the day of each date, as `Zone.end_of_day` does."""
         return zone_of(zone).end_of_day(self._column)
 
-    def localize(self, zone: ZoneLike, *words: Any, **choices: Any) -> Any:
-        """Returns the instant of each local time, as `Zone.localize` does with the same choices."""
-        return zone_of(zone).localize(self._column, *words, **choices)
+    def localize(
+        self,
+        zone: ZoneLike,
+        gap: Literal["raise", "shift", "after", "shift_back", "before", "nat"] = "raise",
+        fold: Union[Literal["raise", "earliest", "latest", "nat", "infer"], Any] = "raise",
+        **choices: Any,
+    ) -> Any:
+        """Returns the instant of each local time, as `Zone.localize` does, which has the other choices."""
+        return zone_of(zone).localize(self._column, gap, fold, **choices)
 
     def explain(self, zone: ZoneLike) -> Any:
         """Returns how often, and when, each local time is shown, as `Zone.explain` does."""

@@ -1,30 +1,210 @@
-"""What a new tz database changes: the zones of two folders, and the stored times that move."""
+"""Calls about several zones: columns of mixed zones, local times that move from one zone to another, and what a new tz
+database changes."""
 
 from __future__ import annotations
 
 import os
 from html import escape
-from typing import TYPE_CHECKING, Any, Literal, NamedTuple, Union
+from typing import TYPE_CHECKING, Any, Callable, Iterator, Literal, Mapping, NamedTuple, Optional, Sequence, Union
 
 import numpy as np
 
-from ._changes import Time, ends_of_stretch
-from ._choice import chosen, factorized
-from ._differences import Differences, Moved, moved_rows, of_zones
-from ._inputs import taken
-from ._mixed_zones import instants
-from ._types import Labels, Rows
-from .errors import ZoneError, ZoneNotFoundError, printable
-from .zone import Zone
+from ._changes import Differences, Time, ends_of_stretch, of_zones
+from ._choice import Choice, chosen, factorized, must_have_no_others, row_by_row
+from ._columns import Column, taken
+from ._containers import Array, Labels, Rows, as_html, frame_of
+from ._localize import localized
+from ._lookups import local_times
+from .errors import RowError, ZoneError, ZoneNotFoundError, printable
+from .zone import Zone, native_of, shown_in
 
 if TYPE_CHECKING:
+    import numpy.typing as npt
     import pandas
 
+#: Zones by their place, or by their key.
+Zones = Union[Sequence[Zone], Mapping[Any, Zone]]
 #: Folders of a tz database that repeat its zones, with and without leap seconds.
 LEFT_OUT = {"right", "posix"}
 FIRST, LAST = np.datetime64("1900", "s"), np.datetime64("2038", "s")
 
 Folder = Union[str, "os.PathLike[str]"]
+
+
+# Columns of mixed zones
+
+
+def localize_many(
+    zones: Zones,
+    codes: Any,
+    local_times: Any,
+    gap: Literal["raise", "shift", "after", "shift_back", "before", "nat"] = "raise",
+    fold: Union[Literal["raise", "earliest", "latest", "nat", "infer"], Rows, Labels, int] = "raise",
+    *,
+    is_dst: Any = None,
+    offset: Any = None,
+    by: Any = None,
+    errors: Literal["raise", "collect"] = "raise",
+    tz: Any = "UTC",
+    **others: Any,
+) -> Any:
+    """Returns the instant at which the clocks of each row's zone show its local time.
+
+    `codes` has the place of each row's zone in `zones`, or its key if `zones` is a dict. All else
+    is as in `Zone.localize`; `fold='infer'` takes the order of the rows of each zone.
+
+    >>> import numpy as np
+    >>> zones = {name: Zone(name) for name in ("America/New_York", "Asia/Kolkata")}
+    >>> noon = np.array(["2021-07-01T12:00", "2021-07-01T12:00"], "M8[s]")
+    >>> localize_many(zones, ["Asia/Kolkata", "America/New_York"], noon)
+    array(['2021-07-01T06:30:00', '2021-07-01T16:00:00'],
+          dtype='datetime64[s]')
+    """
+    must_have_no_others("localize_many", others)
+    column = taken(local_times, "localize_many(zones, codes, s.index)", may_be_aware=False)
+    choice = chosen(column, gap, fold, is_dst, offset, by, errors, shown_in(tz))
+    return choice.answer(column, instants(zones, codes, column, choice))
+
+
+def to_local_many(zones: Zones, codes: Any, instants: Any) -> Any:
+    """Returns what the clocks of each row's zone show at its instant, as `Zone.to_local` does.
+
+    >>> to_local_many([Zone("America/New_York"), Zone("Asia/Kolkata")], [1, 0], [0, 0])
+    array([ 19800, -18000])
+    """
+    column = taken(instants, "to_local_many(zones, codes, s.index)", may_be_aware=True)
+
+    def ask(zone: Zone, places: Array) -> Array:
+        return local_times(zone._native, column.part(places))
+
+    return column.local_times(_answered(zones, codes, column, ask))
+
+
+def instants(zones: Zones, codes: Any, column: Column, choice: Choice) -> Array:
+    """Returns the instant of each row, by the clocks of its zone."""
+
+    def ask(zone: Zone, places: Array) -> Array:
+        return localized(zone._native, column.part(places), choice.part(places))
+
+    return _answered(zones, codes, column, ask)
+
+
+def _answered(
+    zones: Zones, codes: Any, column: Column, ask: Callable[[Zone, Array], Array]
+) -> Array:
+    """Returns the answers of all rows. Of several zones' errors the one of the first row is raised."""
+    answers = np.empty(len(column), np.int64)
+    errors: list[RowError] = []
+    for zone, places in _parts(zones, codes, column):
+        try:
+            answers[places] = ask(zone, places)
+        except RowError as error:
+            errors.append(error)
+    if errors:
+        raise min(errors, key=lambda error: error.row or 0)
+    return answers
+
+
+def _parts(zones: Zones, codes: Any, column: Column) -> Iterator[tuple[Zone, Array]]:
+    """Each zone that rows have, and the places of its rows, in order."""
+    listed, numbers = _numbered(zones, codes, column)
+    for zone in listed:
+        if not isinstance(zone, Zone):
+            raise TypeError(f"zones has a {type(zone).__name__} that is no Zone")
+    # To compare numbers of 8 bits with each zone's takes less time than to sort them.
+    numbers = numbers.astype(np.min_scalar_type(len(listed)), copy=False)
+    for place in np.flatnonzero(np.bincount(numbers)):
+        yield listed[place], np.flatnonzero(numbers == place)
+
+
+def _numbered(zones: Zones, codes: Any, column: Column) -> tuple[list[Zone], Array]:
+    """The zones as a list, and the place in it for each row."""
+    if isinstance(zones, Mapping):
+        places = {key: place for place, key in enumerate(zones)}
+        numbers, found = factorized("codes", codes, column)
+        kept = np.min_scalar_type(-len(places) - 1)
+        codes = np.array([places.get(key, -1) for key in found], kept)[numbers]
+    else:
+        codes = row_by_row("codes", codes, column)
+        if codes.dtype.kind not in "iu":
+            raise TypeError(f"codes= has places in zones, and not {codes.dtype}")
+    if codes.size and not 0 <= int(codes.min()) <= int(codes.max()) < len(zones):
+        row = int(((codes < 0) | (codes >= len(zones))).argmax())
+        raise ValueError(f"codes= has no zone's code in row {row}")
+    return list(zones.values() if isinstance(zones, Mapping) else zones), codes
+
+
+# Local times that move
+
+
+class Moved(NamedTuple):
+    """Local times whose instant changes, in the order of rows: each field has a value for each."""
+
+    row: npt.NDArray[np.intp]
+    """Its place in the column, from 0 on, in C order."""
+    value: npt.NDArray[Any]
+    """The local time."""
+    old: npt.NDArray[Any]
+    """Its instant in the old zone."""
+    new: npt.NDArray[Any]
+    """Its instant in the new zone."""
+    label: Any
+    """The labels in the index of a Series, or the values of an Index; else None."""
+
+    def __bool__(self) -> bool:
+        """Returns whether there are any."""
+        return self.row.size > 0
+
+    def to_frame(self) -> pandas.DataFrame:
+        """Returns a DataFrame with a row for each of them, labelled as in the column."""
+        return frame_of(self, "old", "new")
+
+    def _repr_html_(self) -> Optional[str]:
+        return as_html(self)
+
+
+def moved(
+    old: Zone,
+    new: Zone,
+    local_times: Any,
+    gap: Literal["raise", "shift", "after", "shift_back", "before", "nat"] = "raise",
+    fold: Union[Literal["raise", "earliest", "latest", "nat", "infer"], Rows, Labels, int] = "raise",
+    *,
+    is_dst: Any = None,
+    offset: Any = None,
+    by: Any = None,
+    **others: Any,
+) -> Moved:
+    """Returns the rows whose local time has another instant in `new` than in `old`.
+
+    These are the stored local times, as those of a calendar, that an update of the tz database
+    moves. Local times, choices and errors are as in `Zone.localize`, for both zones; NaT in one of
+    them is another instant.
+
+    >>> import numpy as np
+    >>> from sahvumbi import Zone
+    >>> old, new = Zone.from_text("EST5"), Zone("America/New_York")
+    >>> found = moved(old, new, np.array(["2021-01-01T12:00", "2021-07-01T12:00"], "M8[s]"))
+    >>> found.row, found.new - found.old
+    (array([1]), array([-3600], dtype='timedelta64[s]'))
+    """
+    must_have_no_others("moved", others)
+    column = taken(local_times, "moved(old, new, s.index)", may_be_aware=False)
+    choice = chosen(column, gap, fold, is_dst, offset, by)
+    before, after = (localized(native_of(zone), column, choice) for zone in (old, new))
+    return moved_rows(column, before, after)
+
+
+def moved_rows(column: Column, before: Array, after: Array) -> Moved:
+    """Returns the rows whose instants differ."""
+    rows = np.flatnonzero(before != after)
+    value, before, after = (
+        column.times_of(values[rows]) for values in (column.values, before, after)
+    )
+    return Moved(rows, value, before, after, column.container.labels(rows))
+
+
+# Two tz databases
 
 
 class ZoneGroup(NamedTuple):
@@ -113,6 +293,7 @@ class Comparison:
         is_dst: Any = None,
         offset: Any = None,
         by: Any = None,
+        **others: Any,
     ) -> Moved:
         """Returns the rows whose local time has another instant in the new database.
 
@@ -120,6 +301,7 @@ class Comparison:
         are those of `Zone.localize`, for both databases. Raises `ZoneNotFoundError` if one of them
         has no zone of a name.
         """
+        must_have_no_others("Comparison.moved", others)
         column = taken(local_times, "comparison.moved(s.index, zones)", may_be_aware=False)
         choice = chosen(column, gap, fold, is_dst, offset, by)
         codes, names = factorized("zones", zones, column)
