@@ -188,7 +188,8 @@ fn whole_intervals(passed: u64, interval: u64) -> u64
     passed - passed % interval
 }
 
-fn period_after(first: i64, passed: u64) -> i64
+// The period that is `passed` periods after another one.
+pub(crate) fn period_after(first: i64, passed: u64) -> i64
     requires first { IsPeriod first }
     requires passed { passed ≤ 700_000_000_000 }
     ensures { result ≡ first +ℤ pos passed }
