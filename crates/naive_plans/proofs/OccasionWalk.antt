@@ -88,28 +88,22 @@ period_skipped r start day l s second next is own later from = record {
 }
 
 -- ---- days
+pub time_of : (r : RecurrenceRule) (start day : ℤ) (second : ℕ) → IsOccasionOn r start day second → IsTimeOn r start day second
+time_of r start day second on = record { counts = on.counts; hour = on.hour; minute = on.minute; at_second = on.at_second }
+
+pub on_date : (r : RecurrenceRule) (start day : ℤ) (second : ℕ) → IsOnDate r (floor_div start 86_400) day → IsTimeOn r start day second
+    → IsOccasionOn r start day second
+on_date r start day second date on = record { counts = on.counts; date = date; hour = on.hour; minute = on.minute; at_second = on.at_second }
+
 pub with_date : (r : RecurrenceRule) (start day : ℤ) (from : ℕ) (found : Option ℕ) → IsOnDate r (floor_div start 86_400) day
     → MatchOption found (HasNoSecondFrom (IsTimeOn r start day) from) (λ s. IsFirstSecondFrom (IsTimeOn r start day) from s)
     → MatchOption found (HasNoSecondFrom (IsOccasionOn r start day) from) (λ s. IsFirstSecondFrom (IsOccasionOn r start day) from s)
-with_date r start day from None date none = λ k in_day on le. none k in_day (record {
-  counts = on.counts;
-  hour = on.hour;
-  minute = on.minute;
-  at_second =
-      on.at_second;
-}) le
+with_date r start day from None date none = λ k in_day on. none k in_day (time_of r start day k on)
 with_date r start day from (Some s) date first = record {
-  planned = record {
-    counts = first.planned.counts;
-    date = date;
-    hour = first.planned.hour;
-    minute = first.planned.minute;
-    at_second =
-        first.planned.at_second;
-  };
+  planned = on_date r start day s date first.planned;
   not_before = first.not_before;
   in_day = first.in_day;
-  least = λ k on le. first.least k (record { counts = on.counts; hour = on.hour; minute = on.minute; at_second = on.at_second }) le;
+  least = λ k on. first.least k (time_of r start day k on);
 }
 
 pub month_passed : (r : RecurrenceRule) (start day d : ℤ) → (HasMonth r (month_of start) (month_of day) → ⊥) → IsOnDate r start d → day <ℤ d

@@ -8,7 +8,7 @@ use Rattle.naive_plans.proofs.DayWalk.{IsLeftBefore}
 use Rattle.naive_plans.specs.DayPlans.{HasNoSecondUntil, IsLastSecondUntil, IsPlannedOnItsDay}
 use Rattle.naive_plans.specs.Plans.{HasNoneUntil}
 use Rattle.naive_base.proofs.Words.{weekday_number}
-use Rattle.naive_plans.proofs.OccasionWalk.{not_counted}
+use Rattle.naive_plans.proofs.OccasionWalk.{not_counted, on_date, time_of}
 use Rattle.naive_plans.proofs.Periods.{long_before, period_rises}
 use Rattle.naive_plans.specs.Steps.OccasionSteps.{IsCounted, IsEndOfLast, IsSkippedBack, IsTimeOn}
 use Rattle.naive_plans.specs.Steps.RuleSteps.{IsLastPeriod, own_period}
@@ -59,18 +59,12 @@ found_back on until left short h some one = record {
 pub with_date_back : (r : RecurrenceRule) (start day : ℤ) (until : ℕ) (found : Option ℕ) → IsOnDate r (floor_div start 86_400) day
     → MatchOption found (HasNoSecondUntil (IsTimeOn r start day) until) (λ s. IsLastSecondUntil (IsTimeOn r start day) until s)
     → MatchOption found (HasNoSecondUntil (IsOccasionOn r start day) until) (λ s. IsLastSecondUntil (IsOccasionOn r start day) until s)
-with_date_back r start day until None date none = λ k in_day on le. none k in_day (record {
-  counts = on.counts;
-  hour = on.hour;
-  minute = on.minute;
-  at_second
-      = on.at_second;
-}) le
+with_date_back r start day until None date none = λ k in_day on. none k in_day (time_of r start day k on)
 with_date_back r start day until (Some s) date last = record {
-  planned = let one = last.planned in record { counts = one.counts; date = date; hour = one.hour; minute = one.minute; at_second = one.at_second };
+  planned = on_date r start day s date last.planned;
   not_after = last.not_after;
   in_day = last.in_day;
-  greatest = λ k in_day on le. last.greatest k in_day (record { counts = on.counts; hour = on.hour; minute = on.minute; at_second = on.at_second }) le;
+  greatest = λ k in_day on. last.greatest k in_day (time_of r start day k on);
 }
 
 earlier_number : (y : ℤ) (m d k : ℕ) (day : ℤ) → 1 ≤ d → day_number y m (d + k) ≡ day → day_number y m d ≡ day -ℤ pos k

@@ -19,13 +19,6 @@ use Rattle.naive_plans.specs.declared.rule.Frequency.TheVariants.{Daily, Hourly,
 pub least_days : (b : Bool) (m : ℕ) → 1 ≤ days_in_month b m
 least_days b m = grind (arith, nat_tests)
 
-pub year_from : (y l : ℤ) → y ≤ℤ year_of (floor_div l 86_400) → (year_start y *ℤ pos 86_400) ≤ℤ l
-year_from y l h =
-    let rise = starts_rise y (year_of (floor_div l 86_400)) h in let lies = (lies_in (floor_div l 86_400)).0 in omega (arith, ints, floors, rise, lies)
-
-pub year_later : (y least l r : ℤ) → r ≡ year_start least *ℤ pos 86_400 → least ≤ℤ y → y ≤ℤ year_of (floor_div l 86_400) → r ≤ℤ l
-year_later y least l r is below h = let from = year_from least l (omega (arith, ints, below, h)) in omega (arith, ints, is, from)
-
 same_year : (y : ℤ) (m k d : ℕ) → m ≤ k → 1 ≤ d → day_number y m 1 ≤ℤ day_number y k d
 unfolding day_number
 same_year y m k d least low = let rise = months_rise (is_leap y) (m - 1) (k - 1) (omega (arith, least)) in omega (arith, ints, rise, low)
@@ -48,22 +41,15 @@ month_later l r least number is below h =
     (arith, ints, floors, below, h)) in omega (arith, ints, floors, is, from)
 
 -- ---- and the seconds before them
-year_before : (y l : ℤ) → year_of (floor_div l 86_400) <ℤ y → l <ℤ (year_start y *ℤ pos 86_400)
-year_before y l h =
-    let rise = starts_rise (year_of (floor_div l 86_400) +ℤ pos 1) y (omega (arith, ints, h)) in let lies = (lies_in (floor_div l 86_400)).1 in
-    omega (arith, ints, floors, rise, lies)
-
 year_high : (day : ℤ) → day ≤ℤ pos 4_000_000 → year_of day <ℤ pos 13_000
 unfolding year_start
 year_high day le = by_lt_z (year_of day) (pos 13_000) (λ less. less)
     (λ not. let rise = starts_rise (pos 13_000) (year_of day) not in let early = (lies_in day).0 in
     let start : year_start (pos 13_000) ≡ pos 4_028_625 = refl in absurd (omega (arith, ints, le, rise, early, start)))
 
-pub year_earlier : (y most l r : ℤ) → r ≡ year_start most *ℤ pos 86_400 → ((k : ℤ) → k <ℤ y → k <ℤ pos 20_000 → k <ℤ most) → l <ℤ pos 345_600_086_400
-    → year_of (floor_div l 86_400) <ℤ y → l <ℤ r
-year_earlier y most l r is above in_years h =
-    let high = year_high (floor_div l 86_400) (omega (arith, ints, floors, in_years)) in
-    let before = year_before most l (above (year_of (floor_div l 86_400)) h (omega (arith, ints, high))) in omega (arith, ints, is, before)
+-- a year begins with its first month
+pub year_by_month : (y day : ℤ) → (y ≤ℤ year_of day → (y *ℤ pos 12) ≤ℤ month_number day) × (year_of day <ℤ y → month_number day <ℤ (y *ℤ pos 12))
+year_by_month y day = let (low, high, _, _) = (date_is day).0 in (λ from. omega (arith, ints, low, from), λ before. omega (arith, ints, high, before))
 
 -- ---- later seconds have later periods
 year_rises : (a b : ℤ) → a ≤ℤ b → year_of a ≤ℤ year_of b

@@ -8,6 +8,8 @@
 mod clock_step;
 mod cron;
 mod day_plan;
+mod earlier_occasions;
+mod empty_rules;
 pub mod laws;
 mod occasions;
 mod part_of_day;

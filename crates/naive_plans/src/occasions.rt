@@ -1,23 +1,20 @@
-//! The times that a rule's parts let through, in whole seconds.
-ghost use Rattle.std.specs.Prelude.{◌≡◌, ◌↔◌, ◌<◌, ◌≤◌, ◌*◌, ◌%◌, ◌<ℤ◌, ◌≤ℤ◌, ◌+ℤ◌, ◌-ℤ◌, ◌*ℤ◌, neg_ℤ, pos, IsTrue};
-ghost use Rattle.std.specs.Prelude.{MatchOption, ℕ, ℤ};
+//! The times that a rule's parts let through, in whole seconds, and the next of them.
+ghost use Rattle.std.specs.Prelude.{◌≡◌, ◌↔◌, ◌<◌, ◌≤◌, ◌*◌, ◌<ℤ◌, ◌≤ℤ◌, ◌+ℤ◌, ◌*ℤ◌, neg_ℤ, pos, IsTrue, MatchOption};
+ghost use Rattle.std.specs.Prelude.{ℕ, ℤ};
 ghost use Rattle.gregorian.specs.Year.{floor_div, floor_mod};
 ghost use Rattle.naive_base.specs.{NaiveDateTime.{reading}, Range.{IsInRange}};
-ghost use Rattle.naive_plans.specs.DayPlans.{HasNoSecondFrom, HasNoSecondUntil, IsFirstSecondFrom, IsLastSecondUntil};
-ghost use Rattle.naive_plans.specs.{Plans.{HasNoneUntil, IsLastUntil}, Steps.OccasionSteps.{IsStartOfNext, IsTimeOn}};
-ghost use Rattle.naive_plans.specs.RecurrenceRules.{HasHour, HasMinute, HasSecond, IsOccasion, IsOccasionOn, IsOnDate};
-ghost use Rattle.naive_plans.specs.Steps.OccasionSteps.{HasNoneBetween, HasPeriodOfDay, IsCounted, IsEndOfLast};
-ghost use Rattle.naive_plans.specs.Steps.OccasionSteps.{IsFirstBetween, IsPartOfHours, IsSkipped, IsSkippedBack};
-ghost use Rattle.naive_plans.specs.Steps.RuleSteps.{least_period, own_period, IsPeriod, IsRuleDay, IsRuleSecond};
-ghost use Rattle.naive_plans.specs.Steps.RuleSteps.{IsStarted};
+ghost use Rattle.naive_plans.specs.{DayPlans.{HasNoSecondFrom, IsFirstSecondFrom}, RecurrenceRules.{HasHour}};
+ghost use Rattle.naive_plans.specs.RecurrenceRules.{HasMinute, HasSecond, IsOccasion, IsOccasionOn, IsOnDate};
+ghost use Rattle.naive_plans.specs.Steps.OccasionSteps.{IsStartOfNext, IsTimeOn, HasNoneBetween, IsCounted};
+ghost use Rattle.naive_plans.specs.{Steps.OccasionSteps.{IsFirstBetween, IsSkipped}, Steps.RuleSteps.{least_period}};
+ghost use Rattle.naive_plans.specs.Steps.RuleSteps.{own_period, IsPeriod, IsRuleDay, IsRuleSecond, IsStarted};
 
+use crate::RecurrenceRule;
 use crate::rule::month_length;
-use crate::rule_periods::last_period;
+use crate::rule_periods::{last_period, period_after};
 use crate::seconds::{
-    SECONDS_PER_DAY, before_end, day_of, ends_after, is_from, second_at, second_before, second_of,
-    seconds_of, starts_before,
+    SECONDS_PER_DAY, before_end, day_of, second_at, second_of, seconds_of, starts_before,
 };
-use crate::{Frequency, RecurrenceRule};
 use naive_base::NaiveDateTime;
 
 // The second before 10000-01-01.
@@ -43,15 +40,6 @@ fn days_later(day: i64, days: u32) -> i64
     day + days as i64 + 1
 }
 
-// The day that is `days` days earlier.
-fn days_earlier(day: i64, days: u32) -> i64
-    requires day { IsRuleDay day }
-    requires days { days ≤ 31 }
-    ensures { result ≡ day -ℤ pos days }
-{
-    day - days as i64
-}
-
 // The later one of two days, of the second one no more than the last day.
 fn later_day(next: i64, start: i64) -> i64
     requires { next ≤ℤ pos 4_000_000 }
@@ -68,21 +56,9 @@ fn later_day(next: i64, start: i64) -> i64
     start
 }
 
-// The greatest number that divides two numbers.
-fn common_step(number: u32, other: u32) -> u32
-    requires { (1 ≤ number) × (1 ≤ other) }
-    ensures { (1 ≤ result) × (number % result ≡ 0) × (other % result ≡ 0) }
-{
-    let mut step = number.min(other);
-    'steps: while number % step != 0 || other % step != 0 {
-        step -= 1;
-    }
-    step
-}
-
 impl<'a> Occasions<'a> {
     // The period that its start lies in.
-    fn first_period(&self) -> i64
+    pub(crate) fn first_period(&self) -> i64
         ensures value { result ≡ own_period self.now.rule self.now.start }
         ensures bound { IsPeriod result }
         ensures least { least_period self.now.rule.frequency ≤ℤ result }
@@ -102,25 +78,10 @@ impl<'a> Occasions<'a> {
         if last == period {
             return None;
         }
-        Some(self.rule.start_of(later_period(last, self.rule.interval)))
-    }
-
-    // A second from which on, up to that one, no period counts; `None` if its own one does.
-    fn end_of_last(&self, second: i64) -> Option<i64>
-        requires { IsRuleSecond second }
-        ensures { MatchOption result (IsCounted self.now.rule self.now.start second)
-            (λ end. IsEndOfLast self.now.rule self.now.start second end) }
-    {
-        let first = self.first_period();
-        let period = self.rule.period_at(second);
-        if !is_from(period, first) {
-            return Some(self.second_before_all());
-        }
-        let last = last_period(self.rule.interval, first, period);
-        if last == period {
-            return None;
-        }
-        Some(self.rule.start_of(later_period(last, 1)))
+        Some(
+            self.rule
+                .start_of(period_after(last, self.rule.interval as u64)),
+        )
     }
 
     // The day after it, or, if it does not have the month, the first one of the next month.
@@ -155,38 +116,7 @@ impl<'a> Occasions<'a> {
         }
     }
 
-    // The day before it, or, if it does not have the month, the last one of the month before.
-    fn previous_day(&self, day: i64) -> i64
-        requires { IsRuleDay day }
-        ensures earlier { result <ℤ day }
-        ensures near { (day -ℤ pos 31) ≤ℤ result }
-        ensures none { (d : ℤ) → IsOnDate self.now.rule (floor_div self.now.start 86_400) d
-            → d <ℤ day → d ≤ℤ result }
-    {
-        let date = gregorian::date_of(day);
-        let first = gregorian::date_of(day_of(self.start));
-        if self.rule.has_month(date.month, first.month) {
-            return day - 1;
-        }
-        days_earlier(day, date.day)
-    }
-
-    // The last day before it that may have a time: none has one between them.
-    fn day_before(&self, day: i64) -> i64
-        requires { (neg_ℤ (pos 799_900) ≤ℤ day) × (day ≤ℤ pos 4_000_000) }
-        ensures earlier { result <ℤ day }
-        ensures bound { neg_ℤ (pos 800_000) ≤ℤ result }
-        ensures none { (d : ℤ) (second : ℕ) → IsOccasionOn self.now.rule self.now.start d second
-            → second < 86_400 → d <ℤ day → d ≤ℤ result }
-    {
-        let last = self.previous_day(day);
-        match self.end_of_last(second_at(last, 86_399)) {
-            None => last,
-            Some(end) => last.min(day_of(second_before(end))),
-        }
-    }
-
-    fn has_date(&self, day: i64) -> bool
+    pub(crate) fn has_date(&self, day: i64) -> bool
         requires { IsRuleDay day }
         ensures { IsTrue result ↔ IsOnDate self.now.rule (floor_div self.now.start 86_400) day }
     {
@@ -254,69 +184,6 @@ impl<'a> Occasions<'a> {
         None
     }
 
-    // Whether hours, minutes, seconds and periods leave it no time on any date.
-    pub(crate) fn has_no_time(&self) -> bool
-        ensures { IsTrue result → (day : ℤ) (second : ℕ) → second < 86_400
-            → IsTimeOn self.now.rule self.now.start day second → ⊥ }
-    {
-        if self.has_no_second() {
-            return true;
-        }
-        match self.rule.frequency {
-            Frequency::Hourly => self.has_no_period(3600),
-            Frequency::Minutely => self.has_no_period(60),
-            Frequency::Secondly => self.has_no_period(1),
-            _ => false,
-        }
-    }
-
-    // Whether it has no second of a minute: `BYSECOND` may list only the second 60.
-    fn has_no_second(&self) -> bool
-        ensures { IsTrue result → (second : ℕ)
-            → HasSecond self.now.rule (floor_mod self.now.start 86_400) second → ⊥ }
-    {
-        for second in 0..60 {
-            if self.has_second(second) {
-                return false;
-            }
-        }
-        true
-    }
-
-    // Whether the rule has no time in a period that counts, if its periods are `length` seconds long. On
-    // each day the periods that count have the same remainder modulo a number that divides both the
-    // periods of a day and the interval.
-    fn has_no_period(&self, length: u32) -> bool
-        requires { IsPartOfHours self.now.rule length }
-        ensures { IsTrue result → (day : ℤ) (second : ℕ) → second < 86_400
-            → IsTimeOn self.now.rule self.now.start day second → ⊥ }
-    {
-        let periods = 86_400 / length;
-        let step = common_step(periods, self.rule.interval);
-        let first = second_of(self.start) / length % step;
-        for period in 0..periods {
-            if period % step == first && self.has_period_of_day(period * length, length) {
-                return false;
-            }
-        }
-        true
-    }
-
-    // Whether the parts for hours, minutes and seconds let a period through that begins at a second of
-    // the day.
-    fn has_period_of_day(&self, second: u32, length: u32) -> bool
-        requires { IsPartOfHours self.now.rule length }
-        ensures { IsTrue result ↔ HasPeriodOfDay self.now.rule (floor_mod self.now.start 86_400) length second }
-    {
-        if !self.has_hour(second) {
-            return false;
-        }
-        if length <= 60 && !self.has_minute(second) {
-            return false;
-        }
-        length > 1 || self.has_second(second)
-    }
-
     // The first second of the day from that one on that it has.
     fn first_on(&self, day: i64, from: u32) -> Option<u32>
         requires day { IsRuleDay day }
@@ -351,88 +218,6 @@ impl<'a> Occasions<'a> {
         }
         None
     }
-
-    // An earlier second of the day: from that one on it has none up to the given one. `None` if it has
-    // the given one.
-    fn skipped_back(&self, day: i64, second: u32) -> Option<u32>
-        requires day { IsRuleDay day }
-        requires second { second < 86_400 }
-        ensures { MatchOption result (IsTimeOn self.now.rule self.now.start day second)
-            (λ end. IsSkippedBack (IsTimeOn self.now.rule self.now.start day) second end) }
-    {
-        if !self.has_hour(second) {
-            return Some(second / 3600 * 3600);
-        }
-        if let Some(end) = self.end_of_last(second_at(day, second)) {
-            return Some(earlier_in_day(second, end, seconds_of(day)));
-        }
-        if !self.has_minute(second) {
-            return Some(second / 60 * 60);
-        }
-        if !self.has_second(second) {
-            return Some(second);
-        }
-        None
-    }
-
-    // The last second of the day up to that one that it has as far as hours, minutes, seconds and
-    // periods matter.
-    fn last_time(&self, day: i64, until: u32) -> Option<u32>
-        requires day { IsRuleDay day }
-        requires until { until < 86_400 }
-        ensures { MatchOption result
-            (HasNoSecondUntil (IsTimeOn self.now.rule self.now.start day) until)
-            (λ s. IsLastSecondUntil (IsTimeOn self.now.rule self.now.start day) until s) }
-    {
-        let mut left = until + 1;
-        'seconds: while left > 0 {
-            let Some(end) = self.skipped_back(day, left - 1) else {
-                return Some(left - 1);
-            };
-            left = end;
-        }
-        None
-    }
-
-    // The last second of the day up to that one that it has.
-    fn last_on(&self, day: i64, until: u32) -> Option<u32>
-        requires day { IsRuleDay day }
-        requires until { until < 86_400 }
-        ensures { MatchOption result
-            (HasNoSecondUntil (IsOccasionOn self.now.rule self.now.start day) until)
-            (λ s. IsLastSecondUntil (IsOccasionOn self.now.rule self.now.start day) until s) }
-    {
-        if !self.has_date(day) {
-            return None;
-        }
-        self.last_time(day, until)
-    }
-
-    // A second before all times.
-    fn second_before_all(&self) -> i64
-        ensures { result ≡ self.now.start -ℤ pos 31_708_800 }
-    {
-        self.start - 367 * SECONDS_PER_DAY
-    }
-
-    // The last time up to a second, which may be one before the start, in its period.
-    pub(crate) fn last_until(&self, until: i64) -> Option<i64>
-        requires { IsRuleSecond until }
-        ensures { let set = IsOccasion self.now.rule self.now.start in
-            MatchOption result (HasNoneUntil set until) (λ l. IsLastUntil set until l) }
-    {
-        let earliest = self.second_before_all();
-        let mut day = day_of(until);
-        let mut second = second_of(until);
-        'days: while ends_after(day, earliest) {
-            if let Some(found) = self.last_on(day, second) {
-                return Some(second_at(day, found));
-            }
-            second = 86_399;
-            day = self.day_before(day);
-        }
-        None
-    }
 }
 
 // The local time at a second.
@@ -464,32 +249,4 @@ fn later_in_day(second: u32, start: i64, midnight: i64) -> u32
         return 86_400;
     }
     at as u32
-}
-
-// The second of the day at an end, but no later than a second.
-fn earlier_in_day(second: u32, end: i64, midnight: i64) -> u32
-    requires second { second < 86_400 }
-    requires end { (neg_ℤ (pos 1_000_000_000_000_000_000) ≤ℤ end)
-        × (end ≤ℤ pos 1_000_000_000_000_000_000) }
-    requires midnight { (neg_ℤ (pos 1_000_000_000_000) ≤ℤ midnight)
-        × (midnight ≤ℤ pos 1_000_000_000_000) }
-    ensures earlier { result ≤ second }
-    ensures end { (k : ℕ) → k < second → (midnight +ℤ pos k) <ℤ end → k < result }
-{
-    let at = end - midnight;
-    if at >= second as i64 {
-        return second;
-    }
-    if at < 0 {
-        return 0;
-    }
-    at as u32
-}
-
-// The period that is `by` periods after another one.
-fn later_period(period: i64, by: u32) -> i64
-    requires { IsPeriod period }
-    ensures { result ≡ period +ℤ pos by }
-{
-    period + by as i64
 }

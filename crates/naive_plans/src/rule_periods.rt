@@ -41,7 +41,7 @@ impl<'a> RecurrenceRule<'a> {
             × (result ≤ℤ pos 1_000_000_000_000_000_000) }
     {
         match self.frequency {
-            Frequency::Yearly => start_of_year(period),
+            Frequency::Yearly => start_of_month(period * 12),
             Frequency::Monthly => start_of_month(period),
             Frequency::Weekly => start_of_week(period, self.week_start),
             Frequency::Daily => period * SECONDS_PER_DAY,
@@ -96,28 +96,8 @@ fn week_of(day: i64, first: u32) -> i64
     (((day + 800_006) as u64 - first as u64) / 7) as i64 - 114_286
 }
 
-fn start_of_year(year: i64) -> i64
-    requires { (neg_ℤ (pos 2_000_000_000) ≤ℤ year) × (year ≤ℤ pos 400_000_000_000) }
-    ensures later { (l : ℤ) → year ≤ℤ year_of (floor_div l 86_400) → result ≤ℤ l }
-    ensures earlier { (l : ℤ) → l <ℤ pos 345_600_086_400 → year_of (floor_div l 86_400) <ℤ year
-        → l <ℤ result }
-    ensures bound { (neg_ℤ (pos 1_000_000_000_000_000_000) ≤ℤ result)
-        × (result ≤ℤ pos 1_000_000_000_000_000_000) }
-{
-    start_of_year_up(year.min(END_YEAR))
-}
-
-fn start_of_year_up(year: i64) -> i64
-    requires { (neg_ℤ (pos 2_000_000_000) ≤ℤ year) × (year ≤ℤ pos 20_000) }
-    ensures value { result ≡ year_start year *ℤ pos 86_400 }
-    ensures bound { (neg_ℤ (pos 1_000_000_000_000_000_000) ≤ℤ result)
-        × (result ≤ℤ pos 1_000_000_000_000_000_000) }
-{
-    seconds_of(gregorian::year_start(year as i32))
-}
-
 fn start_of_month(number: i64) -> i64
-    requires { (neg_ℤ (pos 2_000_000_000) ≤ℤ number) × (number ≤ℤ pos 400_000_000_000) }
+    requires { (neg_ℤ (pos 13_200_000_000) ≤ℤ number) × (number ≤ℤ pos 4_800_000_000_000) }
     ensures later { (l : ℤ) → number ≤ℤ month_number (floor_div l 86_400) → result ≤ℤ l }
     ensures earlier { (l : ℤ) → l <ℤ pos 345_600_086_400 → month_number (floor_div l 86_400) <ℤ number
         → l <ℤ result }
@@ -128,7 +108,7 @@ fn start_of_month(number: i64) -> i64
 }
 
 fn start_of_month_up(number: i64) -> i64
-    requires { (neg_ℤ (pos 2_000_000_000) ≤ℤ number) × (number ≤ℤ pos 240_000) }
+    requires { (neg_ℤ (pos 13_200_000_000) ≤ℤ number) × (number ≤ℤ pos 240_000) }
     ensures value { result ≡ day_number (floor_div number 12) (floor_mod number 12 + 1) 1
         *ℤ pos 86_400 }
     ensures bound { (neg_ℤ (pos 1_000_000_000_000_000_000) ≤ℤ result)
@@ -137,22 +117,22 @@ fn start_of_month_up(number: i64) -> i64
     seconds_of(gregorian::day_number(year_of_number(number), month_in_year(number), 1))
 }
 
-// The year of a month's number. So that all sums are of unsigned numbers: 2,000,000,004 months are
-// 166,666,667 years.
+// The year of a month's number. So that all sums are of unsigned numbers: 13,200,000,000 months are
+// 1,100,000,000 years.
 fn year_of_number(number: i64) -> i32
-    requires { (neg_ℤ (pos 2_000_000_000) ≤ℤ number) × (number ≤ℤ pos 240_000) }
+    requires { (neg_ℤ (pos 13_200_000_000) ≤ℤ number) × (number ≤ℤ pos 240_000) }
     ensures value { result ≡ floor_div number 12 }
 {
-    ((number + 2_000_000_004) as u64 / 12) as i32 - 166_666_667
+    ((number + 13_200_000_000) as u64 / 12) as i32 - 1_100_000_000
 }
 
 // Its month.
 fn month_in_year(number: i64) -> u32
-    requires { (neg_ℤ (pos 2_000_000_000) ≤ℤ number) × (number ≤ℤ pos 240_000) }
+    requires { (neg_ℤ (pos 13_200_000_000) ≤ℤ number) × (number ≤ℤ pos 240_000) }
     ensures value { result ≡ floor_mod number 12 + 1 }
     ensures bound { (1 ≤ result) × (result ≤ 12) }
 {
-    ((number + 2_000_000_004) as u64 % 12) as u32 + 1
+    ((number + 13_200_000_000) as u64 % 12) as u32 + 1
 }
 
 fn start_of_week(number: i64, week_start: Weekday) -> i64
@@ -208,7 +188,8 @@ fn whole_intervals(passed: u64, interval: u64) -> u64
     passed - passed % interval
 }
 
-fn period_after(first: i64, passed: u64) -> i64
+// The period that is `passed` periods after another one.
+pub(crate) fn period_after(first: i64, passed: u64) -> i64
     requires first { IsPeriod first }
     requires passed { passed ≤ 700_000_000_000 }
     ensures { result ≡ first +ℤ pos passed }

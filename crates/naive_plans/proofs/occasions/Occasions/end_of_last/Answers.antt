@@ -6,8 +6,8 @@ use Rattle.naive_plans.proofs.occasions.Occasions.end_of_last.Goals as goal
 pub last_period-last-requires-clause-later : goal.last_period-last-requires-clause-later
 last_period-last-requires-clause-later c = c.if-not-is_from.ensures.0 refl
 
-pub later_period-requires : goal.later_period-requires
-later_period-requires c =
+pub period_after-requires-clause-first : goal.period_after-requires-clause-first
+period_after-requires-clause-first c =
     let own = rw (to_z-of_z {w = w64} (record { sfits = c.first_period-first.type_inv }), to_z-of_z {w = w64} (record { sfits = c.period_at-period.type_inv }))
     at c.last_period-last.ensures in
     rw (to_z-of_z {w = w64} (record { sfits = c.last_period-last.type_inv }))
@@ -17,9 +17,9 @@ pub start_of-requires : goal.start_of-requires
 start_of-requires c =
     let own = rw (to_z-of_z {w = w64} (record { sfits = c.first_period-first.type_inv }), to_z-of_z {w = w64} (record { sfits = c.period_at-period.type_inv }))
     at c.last_period-last.ensures in
-    rw (to_z-of_z {w = w64} (record { sfits = c.later_period.type_inv })) (later_bounds c.args.self.now.rule.interval 1 _ _ _ _ c.later_period.result own
+    rw (to_z-of_z {w = w64} (record { sfits = c.period_after.type_inv })) (later_bounds c.args.self.now.rule.interval 1 _ _ _ _ c.period_after.result own
     c.first_period-first.ensures.least c.period_at-period.ensures.bound
-    (rw (to_z-of_z {w = w64} (record { sfits = c.last_period-last.type_inv })) at c.later_period.ensures) (omega arith))
+    (rw (to_z-of_z {w = w64} (record { sfits = c.last_period-last.type_inv })) at c.period_after.ensures) (omega arith))
 
 pub returns-then-not-is_from : goal.returns-then-not-is_from
 returns-then-not-is_from c =
@@ -46,11 +46,11 @@ returns c =
     let fits = c.ranges.second in
     rw (to_z-of_z {w = w64} (record { sfits = c.start_of.type_inv }))
     (ends_earlier c.args.self.now.rule c.args.self.now.start c.args.second c.first_period-first.result c.period_at-period.result c.last_period-last.result
-    c.later_period.result c.start_of.result c.first_period-first.ensures.value (simp to_z-of_z at c.period_at-period.ensures.value)
+    c.period_after.result c.start_of.result c.first_period-first.ensures.value (simp to_z-of_z at c.period_at-period.ensures.value)
     (rw (to_z-of_z {w = w64} (record { sfits = c.first_period-first.type_inv }), to_z-of_z {w = w64} (record { sfits = c.period_at-period.type_inv }))
     at c.last_period-last.ensures)
     (λ same. c.if-last-period.false (ap (of_z w64) same))
-    (rw (to_z-of_z {w = w64} (record { sfits = c.last_period-last.type_inv })) at c.later_period.ensures) c.requires.1
-    (rw (to_z-of_z {w = w64} (record { sfits = c.later_period.type_inv })) at c.start_of.ensures.earlier)
-    (rw (to_z-of_z {w = w64} (record { sfits = c.later_period.type_inv })) at c.start_of.ensures.later)
+    (rw (to_z-of_z {w = w64} (record { sfits = c.last_period-last.type_inv })) at c.period_after.ensures) c.requires.1
+    (rw (to_z-of_z {w = w64} (record { sfits = c.period_after.type_inv })) at c.start_of.ensures.earlier)
+    (rw (to_z-of_z {w = w64} (record { sfits = c.period_after.type_inv })) at c.start_of.ensures.later)
     c.args.self.now.started.3)

@@ -9,8 +9,8 @@ last_period-last-requires-clause-later c =
     (first_not_later c.args.self.now.rule c.args.self.now.start c.args.second _ _ c.first_period.ensures.value
     (simp to_z-of_z at c.period_at-period.ensures.value) c.requires.from_start)
 
-pub later_period-requires : goal.later_period-requires
-later_period-requires c =
+pub period_after-requires-clause-first : goal.period_after-requires-clause-first
+period_after-requires-clause-first c =
     let own = rw (to_z-of_z {w = w64} (record { sfits = c.first_period.type_inv }), to_z-of_z {w = w64} (record { sfits = c.period_at-period.type_inv }))
     at c.last_period-last.ensures in
     rw (to_z-of_z {w = w64} (record { sfits = c.last_period-last.type_inv }))
@@ -20,10 +20,10 @@ pub start_of-requires : goal.start_of-requires
 start_of-requires c =
     let own = rw (to_z-of_z {w = w64} (record { sfits = c.first_period.type_inv }), to_z-of_z {w = w64} (record { sfits = c.period_at-period.type_inv }))
     at c.last_period-last.ensures in
-    rw (to_z-of_z {w = w64} (record { sfits = c.later_period.type_inv }))
-    (later_bounds c.args.self.now.rule.interval c.args.self.now.rule.interval _ _ _ _ c.later_period.result own
+    rw (to_z-of_z {w = w64} (record { sfits = c.period_after.type_inv }))
+    (later_bounds c.args.self.now.rule.interval c.args.self.now.rule.interval _ _ _ _ c.period_after.result own
     c.first_period.ensures.least c.period_at-period.ensures.bound
-    (rw (to_z-of_z {w = w64} (record { sfits = c.last_period-last.type_inv })) at c.later_period.ensures) c.args.self.now.started.1)
+    (rw (to_z-of_z {w = w64} (record { sfits = c.last_period-last.type_inv })) at c.period_after.ensures) c.args.self.now.started.1)
 
 pub returns-then-last-period : goal.returns-then-last-period
 returns-then-last-period c =
@@ -39,9 +39,9 @@ returns c =
     let fits = c.ranges.second in
     rw (to_z-of_z {w = w64} (record { sfits = c.start_of.type_inv }))
     (starts_later c.args.self.now.rule c.args.self.now.start c.args.second c.first_period.result c.period_at-period.result c.last_period-last.result
-    c.later_period.result c.start_of.result c.first_period.ensures.value (simp to_z-of_z at c.period_at-period.ensures.value)
+    c.period_after.result c.start_of.result c.first_period.ensures.value (simp to_z-of_z at c.period_at-period.ensures.value)
     (rw (to_z-of_z {w = w64} (record { sfits = c.first_period.type_inv }), to_z-of_z {w = w64} (record { sfits = c.period_at-period.type_inv }))
     at c.last_period-last.ensures)
     (λ same. c.if-last-period.false (ap (of_z w64) same))
-    (rw (to_z-of_z {w = w64} (record { sfits = c.last_period-last.type_inv })) at c.later_period.ensures)
-    (rw (to_z-of_z {w = w64} (record { sfits = c.later_period.type_inv })) at c.start_of.ensures.later) c.start_of.ensures.bound)
+    (rw (to_z-of_z {w = w64} (record { sfits = c.last_period-last.type_inv })) at c.period_after.ensures)
+    (rw (to_z-of_z {w = w64} (record { sfits = c.period_after.type_inv })) at c.start_of.ensures.later) c.start_of.ensures.bound)

@@ -1,5 +1,5 @@
 use Rattle.std.proofs.Common.{◌≤◌}
-use Rattle.naive_plans.proofs.occasions.common_step.Given as goal
+use Rattle.naive_plans.proofs.empty_rules.common_step.Given as goal
 
 abbrev pub invariant-steps : goal.invariant-steps
 invariant-steps l = 1 ≤ l.step
