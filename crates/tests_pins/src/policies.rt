@@ -3,8 +3,7 @@
 #![tactic(auto)]
 
 ghost use Rattle.std.specs.Prelude.{◌≡◌, neg_ℤ, pos, ℤ};
-ghost use Rattle.zoned_time.specs.Policies.{IsFireBy, IsNextOf, IsShownFire};
-ghost use Rattle.zoned_time.specs.Stretches.{IsOffsetStretch};
+ghost use Rattle.zoned_time.specs.{Nearest.{IsNextOf}, Policies.{IsFireBy, IsShownFire}, Stretches.{IsOffsetStretch}};
 ghost use Rattle.tests_pins.specs.{Days.{AreSetAt}, Plans.{daily}};
 
 use zoned_time::{FirePolicy, FoldFires, GapFires};

@@ -8,7 +8,7 @@ ghost use Rattle.zoned_time.specs.Days as instants;
 ghost use Rattle.zoned_time.specs.DayEnds as ends;
 ghost use Rattle.zoned_time.specs.Fires as fire_times;
 ghost use Rattle.zoned_time.specs.StepBounds as bounds;
-ghost use Rattle.zoned_time.specs.{DateTime.{zoned}, Fires.{IsFire}, Policies.{IsFireBy, IsZonedNextOf, NoneAfter}};
+ghost use Rattle.zoned_time.specs.{DateTime.{zoned}, Fires.{IsFire}, Nearest.{IsZonedNextOf, NoneAfter}, Policies.{IsFireBy}};
 ghost use Rattle.zoned_time.specs.{Reached.{IsReachedAt}, Stretches.{IsOffsetStretch}, Zoned.{IsAt}};
 
 use crate::policies::next_by_policy;
@@ -483,6 +483,27 @@ pub trait ZoneDays: TimeZone {
         let begin = self.last_fire(&step, instant)?;
         let end = self.next_fire(&step, instant)?;
         Some(StepBounds { begin, end })
+    }
+
+    /// Returns an iterator over the instants at which a plan fires under a policy for its local times in
+    /// gaps and folds, after one instant and at or before another one, of any zones. It skips none and
+    /// returns none twice.
+    ///
+    /// ```
+    /// let policy = FirePolicy { gap: GapFires::Never, fold: FoldFires::EachPass };
+    /// let missed = new_york.fires_by(daily, policy, &last_run, &now).count();
+    /// ```
+    final fn fires_by<P: Plan + Drop, Tz: TimeZone, Tz2: TimeZone>(
+        &self,
+        plan: P,
+        policy: FirePolicy,
+        after: &DateTime<Tz>,
+        until: &DateTime<Tz2>,
+    ) -> Fires<Self, P>
+        ensures { let t = (zoned after.now).utc.s in let end = (zoned until.now).utc.s in
+            fire_times.left_of result ≡ fire_times.fires_by_between self.now plan policy t end }
+    {
+        Fires::by_policy(*self, plan, policy, after.to_utc(), until.to_utc())
     }
 }
 

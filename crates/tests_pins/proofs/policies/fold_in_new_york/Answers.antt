@@ -1,4 +1,4 @@
-use Rattle.zoned_time.specs.Policies.{IsFireBy, IsNextOf, IsShownFire}
+use Rattle.zoned_time.specs.{Nearest.{IsNextOf}, Policies.{IsFireBy, IsShownFire}}
 use Rattle.zoned_time.specs.declared.policies.{FirePolicy.{FirePolicy}, FoldFires.{FoldFires}}
 use Rattle.tests_pins.specs.Plans.{daily}
 use Rattle.tests_pins.proofs.SetFires.{before_set, from_set, shown_after, shown_before}

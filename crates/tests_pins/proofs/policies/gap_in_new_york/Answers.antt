@@ -1,4 +1,4 @@
-use Rattle.zoned_time.specs.Policies.{IsFireBy, IsNextOf, IsShownFire}
+use Rattle.zoned_time.specs.{Nearest.{IsNextOf}, Policies.{IsFireBy, IsShownFire}}
 use Rattle.zoned_time.specs.declared.policies.{FirePolicy.{FirePolicy}, GapFires.{GapFires}}
 use Rattle.tests_pins.specs.Plans.{daily}
 use Rattle.tests_pins.proofs.SetFires.{InSpring, from_set}
