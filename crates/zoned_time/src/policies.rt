@@ -220,7 +220,7 @@ fn first_planned_in<P: Plan>(
 }
 
 // The instant of a second, if it is in range.
-fn utc_at(second: i64) -> Option<DateTime<Utc>>
+pub(crate) fn utc_at(second: i64) -> Option<DateTime<Utc>>
     ensures { MatchOption result (IsInRange second → ⊥)
         (λ d. IsInRange second × ((zoned d).utc.s ≡ second)) }
 {
