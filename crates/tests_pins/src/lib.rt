@@ -25,6 +25,7 @@ pub mod leap_seconds;
 pub mod looks;
 pub mod odd;
 pub mod plans;
+pub mod policies;
 pub mod printed;
 pub mod printed_changes;
 pub mod questions;

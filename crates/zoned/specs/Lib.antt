@@ -102,6 +102,7 @@ pub use Rattle.zoned_time.specs.DateTime
 pub use Rattle.zoned_time.specs.Fields as InstantFields
 pub use Rattle.zoned_time.specs.Fires
 pub use Rattle.zoned_time.specs.Moves
+pub use Rattle.zoned_time.specs.Nearest
 pub use Rattle.zoned_time.specs.Order
 pub use Rattle.zoned_time.specs.Policies
 pub use Rattle.zoned_time.specs.Reached

@@ -1,9 +1,10 @@
 -- When plans fire: the fires up to a second are those of the plan's local times up to the last one that clocks have shown.
 use Rattle.std.proofs.Common.{Contains, length, slice_index_or}
 use Rattle.std.proofs.lemmas.Bool.Decides.{nat_tests}
-use Rattle.zoned_time.specs.Fires.{second_before}
+use Rattle.zoned_time.specs.Fires.{second_before, usual_policy}
 use Rattle.zoned_time.proofs.Words.{Reading, ◌≡◌}
-use Rattle.zoned_time.proofs.Words.{AreFires, RiseFrom, List, [], suc, zero, ℕ, ◌<◌, ◌∷◌, HasNoneAfter, HasNoneUntil, IsAt, IsFire}
+use Rattle.zoned_time.proofs.Words.{AreAllOf, IsFireBy, IsNextOf, IsZonedNextOf, NoneAfter, NoneBetween, inl, refl}
+use Rattle.zoned_time.proofs.Words.{RiseFrom, List, [], suc, zero, ℕ, ◌<◌, ◌∷◌, HasNoneAfter, HasNoneUntil, IsAt, IsFire}
 use Rattle.zoned_time.proofs.Words.{IsFirstToReach, IsInRange, IsLastFire, IsLastUntil, IsNextAfter}
 use Rattle.zoned_time.proofs.Words.{IsNextFire, IsReachedAt, IsWide, IsZonedLastFire, IsZonedNextFire, IsZoneSecond, Law, MatchOption, Meaning, NoneFiresAfter}
 use Rattle.zoned_time.proofs.Words.{NoneFiresUntil, None, Option, Some, Zoned, arith, by_lt_z, ints, neg_ℤ, of_secs, pos, ℤ, ◌+ℤ◌, ◌-ℤ◌, ◌<ℤ◌, ◌≤ℤ◌}
@@ -92,24 +93,55 @@ last_found law plan t local l u told (Some d) within range reached last wide fir
     let found = last_fire law.off plan t local l u within range reached last wide first in let at = h.1.utc in grind (arith, ints)
 
 -- ---- all fires between two seconds
-pub each_fires : (off : ℤ → ℤ) (plan : ℤ → Type 0) (t until : ℤ) (us : List ℤ) → AreFires off plan t until us
-    → (k : ℕ) (d : ℤ) → k < length us → IsFire off plan (slice_index_or us k d) × (t <ℤ slice_index_or us k d) × (slice_index_or us k d ≤ℤ until)
-each_fires off plan t until [] h k d below = absurd (omega arith)
-each_fires off plan t until (u ∷ us) h zero d below = (h.0.fires, h.0.after, h.1)
-each_fires off plan t until (u ∷ us) h (suc k) d below =
-    let after = h.0.after in let rest = each_fires off plan u until us h.2 k d (omega arith) in (rest.0, omega (arith, ints, after, rest.1), rest.2)
+pub each_fires : (fire : ℤ → Type 0) (t until : ℤ) (us : List ℤ) → AreAllOf fire t until us
+    → (k : ℕ) (d : ℤ) → k < length us → fire (slice_index_or us k d) × (t <ℤ slice_index_or us k d) × (slice_index_or us k d ≤ℤ until)
+each_fires fire t until [] h k d below = absurd (omega arith)
+each_fires fire t until (u ∷ us) h zero d below = (h.0.fires, h.0.after, h.1)
+each_fires fire t until (u ∷ us) h (suc k) d below =
+    let after = h.0.after in let rest = each_fires fire u until us h.2 k d (omega arith) in (rest.0, omega (arith, ints, after, rest.1), rest.2)
 
-pub none_skipped : (off : ℤ → ℤ) (plan : ℤ → Type 0) (t until : ℤ) (us : List ℤ) → AreFires off plan t until us
-    → (v : ℤ) → IsFire off plan v → t <ℤ v → v ≤ℤ until → Contains us v
-none_skipped off plan t until [] h v fire after not_after = absurd (h v fire after not_after)
-none_skipped off plan t until (u ∷ us) h v fire after not_after =
-    let least = h.0.none_skipped v fire after in
-    by_lt_z u v (λ later. let rest = none_skipped off plan u until us h.2 v fire later not_after in (suc rest.0, omega arith, rest.2))
+pub none_skipped : (fire : ℤ → Type 0) (t until : ℤ) (us : List ℤ) → AreAllOf fire t until us
+    → (v : ℤ) → fire v → t <ℤ v → v ≤ℤ until → Contains us v
+none_skipped fire t until [] h v it after not_after = absurd (h v it after not_after)
+none_skipped fire t until (u ∷ us) h v it after not_after =
+    let least = h.0.none_skipped v it after in
+    by_lt_z u v (λ later. let rest = none_skipped fire u until us h.2 v it later not_after in (suc rest.0, omega arith, rest.2))
     (λ not. (0, omega arith, omega (arith, ints)))
 
-pub none_doubled : (off : ℤ → ℤ) (plan : ℤ → Type 0) (t until : ℤ) (us : List ℤ) → AreFires off plan t until us → RiseFrom t us
-none_doubled off plan t until [] h = tt
-none_doubled off plan t until (u ∷ us) h = (h.0.after, none_doubled off plan u until us h.2)
+pub none_doubled : (fire : ℤ → Type 0) (t until : ℤ) (us : List ℤ) → AreAllOf fire t until us → RiseFrom t us
+none_doubled fire t until [] h = tt
+none_doubled fire t until (u ∷ us) h = (h.0.after, none_doubled fire u until us h.2)
+
+pub none_between : (fire : ℤ → Type 0) (t until : ℤ) → IsInRange t → IsInRange until → NoneAfter fire t → NoneBetween fire t until
+none_between fire t until low high none v it after not_after = none v (omega (arith, ints, low, after), omega (arith, ints, high, not_after)) it after
+
+-- ---- two names of the same seconds
+pub same_next : (a b : ℤ → Type 0) (t u : ℤ) → ((v : ℤ) → a v → b v) → ((v : ℤ) → b v → a v) → IsNextOf a t u → IsNextOf b t u
+same_next a b t u there back h = record { fires = there u h.fires; after = h.after; none_skipped = λ v it later. h.none_skipped v (back v it) later }
+
+pub same_all : (a b : ℤ → Type 0) (t until : ℤ) (us : List ℤ) → ((v : ℤ) → a v → b v) → ((v : ℤ) → b v → a v) → AreAllOf a t until us → AreAllOf b t until us
+same_all a b t until [] there back h = λ v it after not_after. h v (back v it) after not_after
+same_all a b t until (u ∷ us) there back h = (same_next a b t u there back h.0, h.1, same_all a b u until us there back h.2)
+
+-- the usual policy
+pub fires_usual : (off : ℤ → ℤ) (plan : ℤ → Type 0) (v : ℤ) → IsFireBy usual_policy off plan v → IsFire off plan v
+fires_usual off plan v h = h.first refl
+
+pub usual_fires : (off : ℤ → ℤ) (plan : ℤ → Type 0) (v : ℤ) → IsFire off plan v → IsFireBy usual_policy off plan v
+usual_fires off plan v h = record { fires = inl h; first = λ _. h; shown = λ never. grind (arith, never) }
+
+pub usual_between : {O T : Type 0} {m : Meaning O} (law : Law m) (plan : ℤ → Type 0) (t until : ℤ) (told : T → Zoned O) (found : Option T)
+    → MatchOption found (NoneBetween (IsFireBy usual_policy law.off plan) t until)
+    (λ d. IsZonedNextOf law (IsFireBy usual_policy law.off plan) t (told d) × ((told d).utc.s ≤ℤ until))
+    → MatchOption found (NoneBetween (IsFire law.off plan) t until) (λ d. IsZonedNextOf law (IsFire law.off plan) t (told d) × ((told d).utc.s ≤ℤ until))
+usual_between law plan t until told None h = λ v it after not_after. h v (usual_fires law.off plan v it) after not_after
+usual_between law plan t until told (Some d) h = (
+  record {
+    next = same_next (IsFireBy usual_policy law.off plan) (IsFire law.off plan) t (told d).utc.s (fires_usual law.off plan) (usual_fires law.off plan) h.0.next;
+    at = h.0.at;
+  },
+  h.1,
+)
 
 -- ---- the last fire before an instant
 pub none_before_first : (off : ℤ → ℤ) (plan : ℤ → Type 0) (s : ℤ) → IsInRange s → (IsInRange (s -ℤ pos 1) → ⊥) → NoneFiresUntil off plan (s -ℤ pos 1)

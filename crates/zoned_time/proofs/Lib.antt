@@ -7,6 +7,7 @@ pub mod ReachedTimes
 pub mod FireTimes
 pub mod RunMoves
 pub mod ShownFires
+pub mod LastShown
 pub mod StepTimes
 pub mod ForCallers
 pub mod Homes

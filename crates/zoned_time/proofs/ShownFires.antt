@@ -117,7 +117,7 @@ none_in plan t until k l n is next beyond v wide planned later before =
     let least = next.least (v +ℤ k) wide planned (omega (arith, ints, is, later)) in omega (arith, ints, beyond, least, before)
 
 -- ---- the search from stretch to stretch
-shows_wide : (off : ℤ → ℤ) (v : ℤ) → StayWithinDay off → IsInRange v → IsZoneSecond v → IsWide (v +ℤ off v)
+pub shows_wide : (off : ℤ → ℤ) (v : ℤ) → StayWithinDay off → IsInRange v → IsZoneSecond v → IsWide (v +ℤ off v)
 shows_wide off v within range inside = let near = within v inside in (omega (arith, ints, near, range), omega (arith, ints, near, range))
 
 pub all_quiet_after : (off : ℤ → ℤ) (plan : ℤ → Type 0) (t from : ℤ) → StayWithinDay off → IsPast (IsShownFire off plan) t from → AreAllQuiet plan from

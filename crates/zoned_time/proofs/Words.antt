@@ -38,8 +38,10 @@ pub use Rattle.naive_plans.specs.Plans.{HasNoneAfter, HasNoneUntil, IsLastUntil,
 pub use Rattle.zoned_time.specs.Fires.{AreFires, IsFire, IsLastFire, IsNextFire, IsZonedLastFire, IsZonedNextFire, NoneFiresAfter, NoneFiresUntil, RiseFrom}
 pub use Rattle.zoned_time.specs.Reached.{IsReachedAt}
 pub use Rattle.zoned_time.specs.Steps.Passed.{HasPassed}
-pub use Rattle.zoned_time.specs.Policies.{IsFireBy, IsNextOf, IsShownFire, IsZonedNextOf, NoneAfter}
-pub use Rattle.zoned_time.specs.Steps.Shown.{AreAllQuiet, AreQuiet, IsEither, IsFirstPlannedIn, IsFirstShown, IsPast, NonePlannedIn}
+pub use Rattle.zoned_time.specs.Nearest.{AreAllOf, IsLastOf, IsNextOf, IsZonedLastOf, IsZonedNextOf, NoneAfter, NoneBetween, NoneUntil}
+pub use Rattle.zoned_time.specs.Policies.{AreFiresBy, IsFireBy, IsShownFire}
+pub use Rattle.zoned_time.specs.Steps.Shown.{AreAllQuiet, AreAllQuietUntil, AreQuiet, AreQuietUntil, IsEither, IsFirstPlannedIn, IsFirstShown}
+pub use Rattle.zoned_time.specs.Steps.Shown.{IsLastPlannedIn, IsPast, IsPastUntil, NonePlannedIn, NoneUntilPlannedIn}
 pub use Rattle.zoned_time.specs.Stretches.{IsOffsetStretch}
 pub use Rattle.zoned_time.specs.Relocal.{AreInstantsOf, HasInstant, IsRelocal, SingleIff, instant_of}
 pub use Rattle.zoned_time.specs.Stamps.{in_utc}

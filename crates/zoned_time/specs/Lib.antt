@@ -5,6 +5,7 @@ pub mod DayEnds
 pub mod Fields
 pub mod Fires
 pub mod Moves
+pub mod Nearest
 pub mod Order
 pub mod Policies
 pub mod Reached

@@ -4,6 +4,7 @@ use Rattle.naive_base.specs.Reading.{Reading}
 use Rattle.naive_base.specs.Stamp.{of_secs}
 use Rattle.zoned_time.specs.DateTime.{zoned}
 use Rattle.zoned_time.specs.Fires.{IsFire}
+use Rattle.zoned_time.specs.Nearest.{NoneBetween}
 use Rattle.zoned_time.specs.Zone.{Meaning, Law}
 use Rattle.zoned_time.specs.Zoned.{Zoned, IsAt}
 use Rattle.zoned_time.specs.declared.moves.Move.{Move}
@@ -20,7 +21,7 @@ IsMove old new plan u = FiresInFirstOnly old new plan u ⊎ FiresInFirstOnly new
 
 -- it has no such second after t and at or before `until`
 abbrev pub NoneMovesBetween : (ℤ → ℤ) → (ℤ → ℤ) → (ℤ → Type 0) → ℤ → ℤ → Type 0
-NoneMovesBetween old new plan t until = (v : ℤ) → IsMove old new plan v → t <ℤ v → v ≤ℤ until → ⊥
+NoneMovesBetween old new plan t until = NoneBetween (IsMove old new plan) t until
 
 -- it has no such second after t and before u
 abbrev pub NoneMovesBefore : (ℤ → ℤ) → (ℤ → ℤ) → (ℤ → Type 0) → ℤ → ℤ → Type 0

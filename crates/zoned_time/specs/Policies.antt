@@ -1,10 +1,8 @@
 -- When a plan fires under a policy for local times in gaps and in folds.
-use Rattle.std.specs.Prelude.{◌≡◌, ◌⊎◌, ℤ, ◌≤ℤ◌, ◌<ℤ◌, ◌+ℤ◌}
-use Rattle.naive_base.specs.Range.{IsInRange}
-use Rattle.naive_base.specs.Stamp.{of_secs}
-use Rattle.zoned_time.specs.Fires.{IsFire}
+use Rattle.std.specs.Prelude.{◌≡◌, ◌⊎◌, ℤ, ◌+ℤ◌, List}
+use Rattle.zoned_time.specs.Fires.{FiresLeft, IsFire}
+use Rattle.zoned_time.specs.Nearest.{AreAllOf}
 use Rattle.zoned_time.specs.Zone.{IsZoneSecond, Law, Meaning}
-use Rattle.zoned_time.specs.Zoned.{IsAt, Zoned}
 use Rattle.zoned_time.specs.declared.policies.FirePolicy.{FirePolicy}
 use Rattle.zoned_time.specs.declared.policies.FoldFires.{FoldFires}
 use Rattle.zoned_time.specs.declared.policies.GapFires.{GapFires}
@@ -21,17 +19,10 @@ pub record IsFireBy (policy : FirePolicy) (off : ℤ → ℤ) (plan : ℤ → Ty
   pub first : policy.fold ≡ FoldFires.FirstPass → IsFire off plan u
   pub shown : policy.gap ≡ GapFires.Never → IsShownFire off plan u
 
--- u is the first of those seconds after t
-pub record IsNextOf (fire : ℤ → Type 0) (t u : ℤ) : Type 0 where
-  pub fires : fire u
-  pub after : t <ℤ u
-  pub none_skipped : (v : ℤ) → fire v → t <ℤ v → u ≤ℤ v
+-- these are the plan's fires under a policy after the second t and at or before `until`, in order
+abbrev pub AreFiresBy : FirePolicy → (ℤ → ℤ) → (ℤ → Type 0) → ℤ → ℤ → List ℤ → Type 0
+AreFiresBy policy off plan t until us = AreAllOf (IsFireBy policy off plan) t until us
 
--- none of those seconds is in range and after t
-abbrev pub NoneAfter : (ℤ → Type 0) → ℤ → Type 0
-NoneAfter fire t = (v : ℤ) → IsInRange v → fire v → t <ℤ v → ⊥
-
--- the first of those seconds after t, as an instant of the zone
-pub record IsZonedNextOf {O : Type 0} {m : Meaning O} (law : Law m) (fire : ℤ → Type 0) (t : ℤ) (d : Zoned O) : Type 0 where
-  pub next : IsNextOf fire t d.utc.s
-  pub at : IsAt law (of_secs d.utc.s 0) d
+-- the fires that a `Fires` has left, in order
+abbrev pub AreLeft : {Z P O : Type 0} {m : Meaning O} → (Z → Law m) → (P → ℤ → Type 0) → FiresLeft Z P → List ℤ → Type 0
+AreLeft law planned l us = AreFiresBy l.policy (law l.zone).off (planned l.plan) l.after l.until us

@@ -5,6 +5,7 @@ mod datetime;
 mod fires;
 mod fixed;
 mod fixed_days;
+mod last_fires;
 pub mod laws;
 mod moves;
 mod naive_zoned;

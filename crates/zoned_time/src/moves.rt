@@ -4,6 +4,7 @@ ghost use Rattle.zoned_time.specs.{DateTime.{zoned}, Stamps.{in_utc}};
 ghost use Rattle.zoned_time.specs.{Fires.{IsZonedNextFire, NoneFiresBetween}, Moves.{NoneMovesBetween}};
 ghost use Rattle.zoned_time.specs.Moves.{moves_between, moves_of, seconds_left, utc_of_move, GivesMove, IsNextMove};
 
+use crate::policies::{USUAL_POLICY, fire_between};
 use crate::{DateTime, TimeZone, Utc, ZoneDays};
 use naive_plans::Plan;
 use std::iter::FusedIterator;
@@ -125,7 +126,7 @@ fn is_before<Tz: TimeZone, Tz2: TimeZone>(a: &DateTime<Tz>, b: &DateTime<Tz2>) -
 }
 
 // The first instant after one and at or before another one at which a plan fires.
-pub(crate) fn fire_until<Tz: ZoneDays, P: Plan>(
+fn fire_until<Tz: ZoneDays, P: Plan>(
     zone: &Tz,
     plan: &P,
     after: &DateTime<Utc>,
@@ -136,9 +137,5 @@ pub(crate) fn fire_until<Tz: ZoneDays, P: Plan>(
         MatchOption result (NoneFiresBetween law.off planned t end)
         (λ d. IsZonedNextFire law planned t (zoned d) × ((zoned d).utc.s ≤ℤ end)) }
 {
-    let next = zone.next_fire(plan, after)?;
-    if next.timestamp() > until.timestamp() {
-        return None;
-    }
-    Some(next)
+    fire_between(zone, plan, USUAL_POLICY, after, until)
 }

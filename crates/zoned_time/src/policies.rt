@@ -1,9 +1,10 @@
 //! When plans fire under a policy for local times in gaps and in folds.
-ghost use Rattle.std.specs.Prelude.{◌≡◌, ◌↔◌, ◌+ℤ◌, ◌-ℤ◌, pos, IsTrue, MatchOption};
+ghost use Rattle.std.specs.Prelude.{◌≡◌, ◌↔◌, ◌≤ℤ◌, ◌+ℤ◌, ◌-ℤ◌, pos, IsTrue, MatchOption};
 ghost use Rattle.offset_core.specs.Offset.{IsWithinDay};
 ghost use Rattle.naive_base.specs.Range.{IsInRange};
 ghost use Rattle.zoned_time.specs.DateTime.{zoned};
-ghost use Rattle.zoned_time.specs.Policies.{IsFireBy, IsShownFire, IsZonedNextOf, NoneAfter};
+ghost use Rattle.zoned_time.specs.Nearest.{IsZonedNextOf, NoneAfter, NoneBetween};
+ghost use Rattle.zoned_time.specs.Policies.{IsFireBy, IsShownFire};
 ghost use Rattle.zoned_time.specs.Steps.Shown.{AreAllQuiet, AreQuiet, IsEither, IsFirstPlannedIn, IsFirstShown, NonePlannedIn};
 
 use crate::resolve::instant_at;
@@ -36,6 +37,12 @@ pub struct FirePolicy {
     pub fold: FoldFires,
 }
 
+// The policy of `ZoneDays::next_fire`.
+pub(crate) const USUAL_POLICY: FirePolicy = FirePolicy {
+    gap: GapFires::AtEnd,
+    fold: FoldFires::FirstPass,
+};
+
 // The first instant after another one at which a plan fires under a policy.
 pub(crate) fn next_by_policy<Tz: ZoneDays, P: Plan>(
     zone: &Tz,
@@ -58,6 +65,27 @@ pub(crate) fn next_by_policy<Tz: ZoneDays, P: Plan>(
             GapFires::Never => next_shown(zone, plan, after),
         },
     }
+}
+
+// The first instant after one and at or before another one at which a plan fires under a policy.
+pub(crate) fn fire_between<Tz: ZoneDays, P: Plan>(
+    zone: &Tz,
+    plan: &P,
+    policy: FirePolicy,
+    after: &DateTime<Utc>,
+    until: &DateTime<Utc>,
+) -> Option<DateTime<Tz>>
+    ensures { let law = Tz.law zone.now in
+        let fire = IsFireBy policy law.off (P.planned plan.now) in
+        let t = (zoned after.now).utc.s in let end = (zoned until.now).utc.s in
+        MatchOption result (NoneBetween fire t end)
+        (λ d. IsZonedNextOf law fire t (zoned d) × ((zoned d).utc.s ≤ℤ end)) }
+{
+    let next = next_by_policy(zone, plan, policy, after)?;
+    if next.timestamp() > until.timestamp() {
+        return None;
+    }
+    Some(next)
 }
 
 // The first fire after an instant at which clocks show a local time of the plan.
@@ -192,7 +220,7 @@ fn first_planned_in<P: Plan>(
 }
 
 // The instant of a second, if it is in range.
-fn utc_at(second: i64) -> Option<DateTime<Utc>>
+pub(crate) fn utc_at(second: i64) -> Option<DateTime<Utc>>
     ensures { MatchOption result (IsInRange second → ⊥)
         (λ d. IsInRange second × ((zoned d).utc.s ≡ second)) }
 {

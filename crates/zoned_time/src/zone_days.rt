@@ -8,9 +8,11 @@ ghost use Rattle.zoned_time.specs.Days as instants;
 ghost use Rattle.zoned_time.specs.DayEnds as ends;
 ghost use Rattle.zoned_time.specs.Fires as fire_times;
 ghost use Rattle.zoned_time.specs.StepBounds as bounds;
-ghost use Rattle.zoned_time.specs.{DateTime.{zoned}, Fires.{IsFire}, Policies.{IsFireBy, IsZonedNextOf, NoneAfter}};
+ghost use Rattle.zoned_time.specs.{DateTime.{zoned}, Fires.{IsFire}, Policies.{IsFireBy}};
+ghost use Rattle.zoned_time.specs.Nearest.{IsZonedLastOf, IsZonedNextOf, NoneAfter, NoneUntil};
 ghost use Rattle.zoned_time.specs.{Reached.{IsReachedAt}, Stretches.{IsOffsetStretch}, Zoned.{IsAt}};
 
+use crate::last_fires::{last_by_policy, previous_by_policy};
 use crate::policies::next_by_policy;
 use crate::reached::reached_at;
 use crate::resolve::instant_at;
@@ -483,6 +485,70 @@ pub trait ZoneDays: TimeZone {
         let begin = self.last_fire(&step, instant)?;
         let end = self.next_fire(&step, instant)?;
         Some(StepBounds { begin, end })
+    }
+
+    /// Returns an iterator over the instants at which a plan fires under a policy for its local times in
+    /// gaps and folds, after one instant and at or before another one, of any zones. It skips none and
+    /// returns none twice.
+    ///
+    /// ```
+    /// let policy = FirePolicy { gap: GapFires::Never, fold: FoldFires::EachPass };
+    /// let missed = new_york.fires_by(daily, policy, &last_run, &now).count();
+    /// ```
+    final fn fires_by<P: Plan + Drop, Tz: TimeZone, Tz2: TimeZone>(
+        &self,
+        plan: P,
+        policy: FirePolicy,
+        after: &DateTime<Tz>,
+        until: &DateTime<Tz2>,
+    ) -> Fires<Self, P>
+        ensures { let t = (zoned after.now).utc.s in let end = (zoned until.now).utc.s in
+            fire_times.left_of result ≡ fire_times.fires_by_between self.now plan policy t end }
+    {
+        Fires::by_policy(*self, plan, policy, after.to_utc(), until.to_utc())
+    }
+
+    /// Returns the last instant at which a plan fires under a policy for its local times in gaps and folds,
+    /// and that isn't after the given one, of any zone; `None` if no such instant is in the range of
+    /// [`DateTime`].
+    ///
+    /// ```
+    /// let policy = FirePolicy { gap: GapFires::Never, fold: FoldFires::EachPass };
+    /// let last = new_york.last_fire_by(&daily, policy, &noon)?; // of 02:30 each day: 2021-03-13 02:30:00 -05:00
+    /// ```
+    final fn last_fire_by<P: ReversiblePlan, Tz: TimeZone>(
+        &self,
+        plan: &P,
+        policy: FirePolicy,
+        until: &DateTime<Tz>,
+    ) -> Option<DateTime<Self>>
+        ensures { let law = Self.law self.now in
+            let fire = IsFireBy policy law.off (P.planned plan.now) in
+            let s = (zoned until.now).utc.s in
+            MatchOption result (NoneUntil fire s) (λ d. IsZonedLastOf law fire s (zoned d)) }
+    {
+        last_by_policy(self, plan, policy, &until.to_utc())
+    }
+
+    /// Returns the last instant before the given one, of any zone, at which a plan fires under a policy for
+    /// its local times in gaps and folds; `None` if no such instant is in the range of [`DateTime`].
+    ///
+    /// ```
+    /// let policy = FirePolicy { gap: GapFires::Never, fold: FoldFires::EachPass };
+    /// let previous = new_york.previous_fire_by(&daily, policy, &last)?; // 2021-03-12 02:30:00 -05:00
+    /// ```
+    final fn previous_fire_by<P: ReversiblePlan, Tz: TimeZone>(
+        &self,
+        plan: &P,
+        policy: FirePolicy,
+        before: &DateTime<Tz>,
+    ) -> Option<DateTime<Self>>
+        ensures { let law = Self.law self.now in
+            let fire = IsFireBy policy law.off (P.planned plan.now) in
+            let s = fire_times.second_before (zoned before.now).utc in
+            MatchOption result (NoneUntil fire s) (λ d. IsZonedLastOf law fire s (zoned d)) }
+    {
+        previous_by_policy(self, plan, policy, before)
     }
 }
 

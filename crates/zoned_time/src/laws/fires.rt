@@ -1,8 +1,9 @@
 //! Theorems of plans and their fires: each function is empty, its contract is proved; never called.
-ghost use Rattle.std.specs.Prelude.{◌<ℤ◌, ◌≤ℤ◌, ◌∷◌, [], All, Contains, List, ℤ};
-ghost use Rattle.zoned_time.specs.{DateTime.{zoned}, Fires.{left_of, AreFires, AreLeft, IsFire, RiseFrom}};
+ghost use Rattle.std.specs.Prelude.{◌↔◌, ◌<ℤ◌, ◌≤ℤ◌, ◌∷◌, [], All, Contains, List, ℤ};
+ghost use Rattle.zoned_time.specs.{DateTime.{zoned}, Policies.{AreFiresBy, AreLeft, IsFireBy}};
+ghost use Rattle.zoned_time.specs.Fires.{left_of, usual_policy, AreFires, IsFire, RiseFrom};
 
-use crate::{Fires, TimeZone, ZoneDays};
+use crate::{FirePolicy, Fires, TimeZone, ZoneDays};
 use naive_plans::Plan;
 
 /// The fires of a plan after a second and at or before another one, as [`Fires`](crate::Fires) returns
@@ -18,6 +19,19 @@ pub fn all_fires<P: Plan, Tz: TimeZone>()
         → Contains us v }
     ensures none_doubled { (zone : Tz) (plan : P) (t until : ℤ) (us : List ℤ)
         → AreFires (Tz.law zone).off (P.planned plan) t until us → RiseFrom t us }
+{}
+
+/// The same under a policy. Those under the policy of the gap's end and the first pass are the plan's
+/// fires.
+pub fn all_fires_by<P: Plan, Tz: TimeZone>()
+    ensures fires { (zone : Tz) (plan : P) (policy : FirePolicy) (t until : ℤ) (us : List ℤ)
+        → let fire = IsFireBy policy (Tz.law zone).off (P.planned plan) in
+        AreFiresBy policy (Tz.law zone).off (P.planned plan) t until us
+        → All (λ u. fire u × (t <ℤ u) × (u ≤ℤ until)) us
+        × ((v : ℤ) → fire v → t <ℤ v → v ≤ℤ until → Contains us v) × RiseFrom t us }
+    ensures usual { (zone : Tz) (plan : P) (t until : ℤ) (us : List ℤ)
+        → AreFiresBy usual_policy (Tz.law zone).off (P.planned plan) t until us
+        ↔ AreFires (Tz.law zone).off (P.planned plan) t until us }
 {}
 
 /// What the steps of [`Fires`] return is all that it has left: nothing at its end; else the fire of the

@@ -1,8 +1,7 @@
-use Rattle.zoned_time.proofs.Words.{SFits, arith, ints, rules, to_z-of_z, w64}
+use Rattle.zoned_time.proofs.{FireTimes.{usual_between}, Words.{zoned}}
 use Rattle.zoned_time.proofs.moves.fire_until.Goals as goal
 
-pub returns-then-timestamp : goal.returns-then-timestamp
-returns-then-timestamp g c =
-    let fa : SFits w64 c.timestamp.result = search rules in let fb : SFits w64 c.timestamp-2.result = search rules in
-    let later = simp to_z-of_z at c.if-timestamp.true in let a = c.timestamp.ensures in let b = c.timestamp-2.ensures in
-    λ v fire after until. let least = c.in_ok-next.ensures.next.none_skipped v fire after in omega (arith, ints, later, a, b)
+pub returns : goal.returns
+returns g c =
+    usual_between (g.Tz.TimeZone.law c.args.zone.now) (g.P.Plan.planned c.args.plan.now) (zoned c.args.after.now).utc.s (zoned c.args.until.now).utc.s
+    (λ d. zoned d) c.fire_between.result c.fire_between.ensures

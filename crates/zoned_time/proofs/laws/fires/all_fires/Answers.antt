@@ -1,9 +1,10 @@
+use Rattle.zoned_time.proofs.Words.{IsFire}
 use Rattle.zoned_time.proofs.FireTimes.{each_fires, none_doubled, none_skipped}
 use Rattle.zoned_time.proofs.laws.fires.all_fires.Goals as goal
 
 pub returns : goal.returns
 returns g c = record {
-  fires = λ zone plan t until us h. each_fires (g.Tz.TimeZone.law zone).off (g.P.Plan.planned plan) t until us h;
-  none_skipped = λ zone plan t until us h. none_skipped (g.Tz.TimeZone.law zone).off (g.P.Plan.planned plan) t until us h;
-  none_doubled = λ zone plan t until us h. none_doubled (g.Tz.TimeZone.law zone).off (g.P.Plan.planned plan) t until us h;
+  fires = λ zone plan t until us h. each_fires (IsFire (g.Tz.TimeZone.law zone).off (g.P.Plan.planned plan)) t until us h;
+  none_skipped = λ zone plan t until us h. none_skipped (IsFire (g.Tz.TimeZone.law zone).off (g.P.Plan.planned plan)) t until us h;
+  none_doubled = λ zone plan t until us h. none_doubled (IsFire (g.Tz.TimeZone.law zone).off (g.P.Plan.planned plan)) t until us h;
 }
