@@ -3,7 +3,8 @@
 
 usage: tools/release.py [--proof FILE] [--root ROOT] LOG FOLDER
 
-LOG is the output of a whole `.ci/run --anew` or `rt ci --anew` in this checkout, which kept no proof of an earlier run. In FOLDER it makes
+LOG is the output of a whole `.ci/run --anew` or `rt ci --anew` in this checkout, which kept no proof of an earlier run. All planted bugs
+and wrong definitions must have a record (`tools/records.py`). In FOLDER it makes
 
 - libzoned-VERSION-linux-x86_64.tar.xz: the C library, both programs, man pages and examples; and one for 64-bit ARM, without the
   programs, if Debian's gcc-aarch64-linux-gnu is installed;
@@ -37,6 +38,7 @@ from contextlib import contextmanager
 from dataclasses import dataclass
 from pathlib import Path
 
+from records import unrecorded
 from sources import TOP, crates, needs
 
 HEADER = TOP / "crates/zoned_ffi/include/zoned_ffi.h"
@@ -367,6 +369,9 @@ def main():
         return
     if not asked.folder:
         parser.error("FOLDER is missing")
+    missing = list(unrecorded())
+    if missing:
+        sys.exit(f"no record of a full run, tools/try_edits.py --record and tools/try_definitions.py: {'; '.join(missing)}")
     programs = [TOP / f"crates/{program}/out/{program}" for program in ("zonedump", "zoneq")]
     needs("rt", "gcc", "dpkg-deb", "xz", "/usr/bin/python3", ARCHIVES / "libzoned_ffi.a", *programs)
     folder = asked.folder.absolute()

@@ -23,8 +23,8 @@ keeps its functions and its lemmas.
 Edits are tried together if none of them changes a definition that a pin of another one speaks of, also through other definitions
 and through lemmas of crates/tests_pins. An edit doesn't count if a page can't be read any more, or if a proof misses a name.
 
-With no names all are tried, N at a time (2), which takes half an hour of a processor and more; with --tenth only a tenth of them,
-chosen by the commit. Ends with status 1 unless each edit is rejected.
+With no names all are tried, N at a time (2), which takes half an hour of a processor and more, and their number and the date are
+written to docs/TESTING.md; with --tenth only a tenth of them, chosen by the commit. Ends with status 1 unless each edit is rejected.
 """
 
 import argparse
@@ -41,6 +41,7 @@ from queue import Queue
 
 from edits import WRONG_DEFINITIONS, all_blocks, tenth
 from kit import PROVED_WITHOUT_LEMMAS, UNREAD, VERDICT, words_over_pages
+from records import ALL, DEFINITIONS as DEFINITIONS_TRIED, record
 from sources import TOP, imports_of, libraries_below, text_of, uses
 
 DEFINITIONS = TOP / "docs/DEFINITIONS.md"
@@ -472,6 +473,8 @@ def main():
             print(row, flush=True)
             count, rejected = count + 1, rejected + is_rejected
     print(f"{count} tried, {count - rejected} not rejected")
+    if count == len(edits()):
+        record(DEFINITIONS_TRIED, {ALL: [count, rejected]})
     return 0 if count == rejected == len(chosen) else 1
 
 

@@ -1,11 +1,12 @@
 #!/usr/bin/env python3
 """Tries planted bugs: edits of function bodies that the prover must reject.
 
-usage: tools/try_edits.py [--lanes N] [--beside FILE] [--tenth] [NAME | NAME/EDIT ..]
+usage: tools/try_edits.py [--lanes N] [--beside FILE] [--tenth] [--record] [NAME | NAME/EDIT ..]
        tools/try_edits.py --self-test [--beside FILE]
 
 Each crate has a table of them, planted_bugs.txt. Without names it tries those with the line `in: the gate`, and with --tenth also a
-tenth of the others, chosen by the commit. For a named crate it tries all.
+tenth of the others, chosen by the commit. For a named crate it tries all. With --record it tries all of the named crates, or of all
+crates, and writes each crate's verdicts and the date to docs/TESTING.md; tools/release.py asks for a record of all.
 
 A planted bug is rejected by the contract of the function that has it, whatever is above and below that function. So only the
 functions that edits change are checked, in a copy of their crate, and one check tries all edits of a crate that change different
@@ -57,6 +58,7 @@ from edits import HARMLESS, PLANTED_BUGS, blocks, tenth
 from kit import (
     ANSWER_FALSE, ANSWER_OPEN, FALSE, GOAL, OPEN, PROVED_WITHOUT_PROOFS, SAME_HOLES, TOLD, UNDECIDED, UNREAD, VERDICT, messages, wait_for, words,
 )
+from records import BUGS, record
 from sources import TOP, crates, files, libraries_below
 
 REFUTED, OPEN_GOAL, NO_LONGER_FITS, LISTED = "refuted", "open", "no longer fits", "listed"
@@ -454,9 +456,12 @@ def main():
     given.add_argument("--lanes", type=int, default=3)
     given.add_argument("--beside", type=Path)
     given.add_argument("--tenth", action="store_true")
+    given.add_argument("--record", action="store_true")
     given.add_argument("--self-test", action="store_true")
     given.add_argument("names", nargs="*")
     given = given.parse_args()
+    if given.record:
+        given.names = [crate for crate in given.names or crates() if blocks(PLANTED_BUGS, crate)]
     if given.self_test:
         self_test()
         wrong = harmless(given.beside)
@@ -465,13 +470,17 @@ def main():
     edits, free = wanted(given.names, tenth() if given.tenth else lambda name: False), threading.Semaphore(given.lanes)
     faults = {NOT_REJECTED, NOT_TRIED} if given.beside else {NO_LONGER_FITS, NOT_REJECTED, NOT_TRIED}
     count, failures = Counter(), 0
+    by_crate = {crate: Counter() for crate in edits}
     with ThreadPoolExecutor(len(edits)) as pool:
         for rows in pool.map(lambda crate: tried(crate, edits[crate], free, given.beside), edits):
             for edit, verdict, why in rows:
                 is_due = verdict not in faults or given.tenth and verdict == NOT_TRIED and not edit.is_in_gate
                 print(f"{edit}: {verdict}: {why[:300 if is_due else 900]}", flush=True)
                 count[verdict] += 1
+                by_crate[edit.crate][verdict] += 1
                 failures += not is_due
+    if given.record:
+        record(BUGS, {f"`{crate}`": [sum(those.values()), *(those[verdict] for verdict in (REFUTED, OPEN_GOAL, LISTED))] for crate, those in by_crate.items()})
     kinds = ", ".join(f"{count[verdict]} {verdict}" for verdict in (REFUTED, OPEN_GOAL, NO_LONGER_FITS, LISTED, NOT_REJECTED, NOT_TRIED) if count[verdict])
     print(f"{sum(count.values())} tried: {kinds}; {failures} failures")
     return 0 if count and not failures else 1
