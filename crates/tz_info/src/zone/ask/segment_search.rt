@@ -7,7 +7,7 @@ ghost use Rattle.tz_info.specs.{Digits.{digits}, Transitions.{NameTypes}};
 ghost use Rattle.tz_info.specs.Steps.SegmentEnds.{end_of, AreEnds, IsFirstOf, IsFirstSegment, IsReached};
 
 use crate::answers::second_showing;
-use crate::change::TypedSecond;
+use crate::change::HeldSecond;
 use crate::timeline::Probes;
 use crate::zone::lists::starts::cut_at;
 use crate::zone::made::change_table::ChangeTable;
@@ -92,27 +92,27 @@ fn is_reached(
 }
 
 // The first second of the segment at that place at which clocks show the local time or a later one.
-pub(super) fn first_of(
-    types: &[LocalTimeType],
+pub(super) fn first_of<'a>(
+    types: &'a [LocalTimeType],
     changes: &ChangeTable,
     place: usize,
     local: i64,
     probes: &mut Probes,
-) -> TypedSecond
+) -> HeldSecond<'a>
     requires some { 0 < length types.now }
     requires named { NameTypes (length types.now) changes.now.items }
     requires place { place ≤ length changes.now.items }
     requires local { IsWide local }
     requires room { HasRoomFor 1 probes.old.reads }
     ensures first { IsFirstOf types.now changes.now.items place local
-        result.at result.local_time_type }
+        result.at result.local_time_type.now }
     ensures cost { RoseWithin probes.old probes.new 1 0 }
     ensures free { place ≡ 0 → probes.new ≡ probes.old }
 {
     let (index, begin) = begin_of(types, changes, place, probes);
-    let local_time_type = types[index];
+    let local_time_type = &types[index];
     let shown = second_showing(local, local_time_type.offset());
-    TypedSecond {
+    HeldSecond {
         at: later(begin, shown),
         local_time_type,
     }
