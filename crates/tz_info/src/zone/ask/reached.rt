@@ -1,12 +1,14 @@
 //! The last local time that clocks have shown up to a second.
 
-ghost use Rattle.std.specs.Prelude.{◌≡◌, ◌+ℤ◌};
+ghost use Rattle.std.specs.Prelude.{◌≡◌, ◌≤ℤ◌, ◌+ℤ◌};
 ghost use Rattle.naive_base.specs.{NaiveDateTime.{reading}, Range.{IsWide}};
 ghost use Rattle.tz_base.specs.LocalTypes.{IsUtOffset};
-ghost use Rattle.tz_info.specs.{Leaps.{IsNear}, Reached.{IsReachedAt}, Zones.{TypeAt}};
+ghost use Rattle.tz_info.specs.{Leaps.{IsNear}, Reached.{IsReachedAt}, Steps.SegmentEnds.{IsReachedSince}, Zones.{TypeAt}};
 
 use crate::answers::second_showing;
+use crate::timeline::Probes;
 use crate::zone::ask::runs::start_by;
+use crate::zone::ask::segment_search::{begin_of, latest_end};
 use crate::zone::made::segment_ends::later;
 use crate::zone::time_zone::TimeZone;
 use naive_base::NaiveDateTime;
@@ -30,21 +32,46 @@ impl TimeZone {
         self.reached_at(utc.secs_since_epoch())
     }
 
-    // The same of a second. It goes back by spans, to the seconds at which no clock shows a later local
-    // time: mostly by none, and just after clocks were set back by one.
+    // The same of a second: the last one of the segment that it lies in, or of the segments before that.
     fn reached_at(&self, second: i64) -> i64
         requires { IsWide second }
         ensures { IsReachedAt (TypeAt self.now) second result }
     {
         let _ = (self.extremes.least, self.extremes.greatest);
+        let mut probes = Probes::new();
+        let place = self.changes.count(second);
+        let (_, begin) = begin_of(&self.local_types, &self.changes, place, &mut probes);
+        let reached = self.reached_since(begin, second);
+        if place == 0 {
+            return reached;
+        }
+        let end = latest_end(
+            &self.local_types,
+            &self.changes,
+            &self.index,
+            place,
+            &mut probes,
+        );
+        if reached < end { end - 1 } else { reached }
+    }
+
+    // The last local time that a clock has shown from one second to another one. It goes back by spans, to
+    // the seconds at which no clock shows a later local time. So between changes of the table it takes one
+    // lookup, and else one more for each change that the rule makes within the zone's offsets.
+    fn reached_since(&self, begin: i64, second: i64) -> i64
+        requires wide { IsWide second }
+        requires order { begin ≤ℤ second }
+        ensures { IsReachedSince (TypeAt self.now) begin second result }
+    {
+        let _ = (self.extremes.least, self.extremes.greatest);
         let now = self.near_span_at(second);
         let mut reached = shown_at(second, now.local_time_type);
-        let low = second_showing(reached, self.extremes.greatest) + 1;
-        let mut begin = start_by(now.from, low);
-        while low < begin {
-            let span = self.near_span_at(begin - 1);
-            reached = later(reached, shown_at(begin - 1, span.local_time_type));
-            begin = start_by(span.from, low);
+        let low = later(second_showing(reached, self.extremes.greatest) + 1, begin);
+        let mut since = start_by(now.from, low);
+        while low < since {
+            let span = self.near_span_at(since - 1);
+            reached = later(reached, shown_at(since - 1, span.local_time_type));
+            since = start_by(span.from, low);
         }
         reached
     }

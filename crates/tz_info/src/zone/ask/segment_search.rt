@@ -4,7 +4,7 @@ ghost use Rattle.std.specs.Prelude.{◌≡◌, ◌↔◌, ◌<◌, ◌≤◌, le
 ghost use Rattle.naive_base.specs.Range.{IsWide};
 ghost use Rattle.tz_info.specs.{Counts.{HasRoom, HasRoomFor, RoseWithin}, Steps.Segments.{begin_of, index_of}};
 ghost use Rattle.tz_info.specs.{Digits.{digits}, Transitions.{NameTypes}};
-ghost use Rattle.tz_info.specs.Steps.SegmentEnds.{end_of, AreEnds, IsFirstOf, IsFirstSegment, IsReached};
+ghost use Rattle.tz_info.specs.Steps.SegmentEnds.{end_of, AreEnds, IsFirstOf, IsFirstSegment, IsLatestEnd, IsReached};
 
 use crate::answers::second_showing;
 use crate::change::HeldSecond;
@@ -80,14 +80,35 @@ fn is_reached(
     requires ends { AreEnds types.now changes.now.items index.now.maxima }
     requires first { 0 < place }
     requires place { place ≤ length changes.now.items }
-    requires local { IsWide local }
     requires room { HasRoomFor 1 probes.old.reads }
     ensures reached { IsTrue result ↔ IsReached types.now changes.now.items place local }
     ensures cost { RoseWithin probes.old probes.new 1 0 }
 {
+    local < latest_end(types, changes, index, place, probes)
+}
+
+// The latest end of the segments before that place: clocks show just the earlier local times, or later ones,
+// in one of them. One probe is counted.
+#[inline(always)]
+pub(super) fn latest_end(
+    types: &[LocalTimeType],
+    changes: &ChangeTable,
+    index: &Index,
+    place: usize,
+    probes: &mut Probes,
+) -> i64
+    requires some { 0 < length types.now }
+    requires named { NameTypes (length types.now) changes.now.items }
+    requires ends { AreEnds types.now changes.now.items index.now.maxima }
+    requires first { 0 < place }
+    requires place { place ≤ length changes.now.items }
+    requires room { HasRoomFor 1 probes.old.reads }
+    ensures end { IsLatestEnd types.now changes.now.items place result }
+    ensures cost { RoseWithin probes.old probes.new 1 0 }
+{
     match index.latest_end(place, probes) {
-        Some(end) => local < end,
-        None => local < end_at(types, changes, place, probes),
+        Some(end) => end,
+        None => end_at(types, changes, place, probes),
     }
 }
 
@@ -121,7 +142,7 @@ pub(super) fn first_of<'a>(
 // The index of the type in force in the segment at that place, and the second at which it begins: one probe,
 // or none at the first segment.
 #[inline(always)]
-fn begin_of(
+pub(super) fn begin_of(
     types: &[LocalTimeType],
     changes: &ChangeTable,
     place: usize,
