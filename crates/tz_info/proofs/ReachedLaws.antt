@@ -1,6 +1,6 @@
 -- The last local time that clocks have shown up to a second: from span to span, back to the seconds at which no clock shows a later one.
-use Rattle.tz_info.proofs.Words.{IsGreatest, IsNear, IsSpanAt, IsUtOffset, IsWide, LocalType, SFits, Shows, Span, TypeAt, Zone, ap, arith, by_lt_z, ints}
-use Rattle.tz_info.proofs.Words.{offsets, pos, sym, unsigned_abs, w32, ℤ, ◌+ℤ◌, ◌-ℤ◌, ◌<ℤ◌, ◌<◌, ◌↔◌, ◌≡◌, ◌≤ℤ◌}
+use Rattle.tz_info.proofs.Words.{IsFirstAtOrAfter, IsGreatest, IsNear, IsSpanAt, IsUtOffset, IsWide, LocalType, SFits, Shows, Span, TypeAt, Zone, ap, arith, by_lt_z, ints}
+use Rattle.tz_info.proofs.Words.{offsets, pos, refl, sym, unsigned_abs, w32, ℤ, ◌+ℤ◌, ◌-ℤ◌, ◌<ℤ◌, ◌<◌, ◌↔◌, ◌≡◌, ◌≤ℤ◌}
 use Rattle.tz_info.specs.Reached.{IsReachedAt}
 use Rattle.tz_info.proofs.{ExtremeLaws.{at_most_greatest}, RunLaws.{StartsBy}, SpanLaws.{since_more, until_less}, ZoneLaws.{type_once}}
 
@@ -33,9 +33,11 @@ at_second z t low begin reached g s wide fits offset greatest h shown is starts 
   not_after = omega (arith, ints);
   shown = record { fits = h.inside.fits; type = h.in_force_then; shown = sym shown };
   last = λ m u r come shows later.
-      let most = at_most_greatest z u g r greatest shows.type in let there = shows.shown in
-      (omega (arith, ints, most, there, later, is), by_lt_z u begin (λ less. less)
-      (λ not. let within = in_span z low begin t m u s r h starts come not shows in absurd (omega (arith, ints, within, later, shown))));
+      let most = at_most_greatest z u g r greatest shows.type in let there = shows.shown in (
+        omega (arith, ints, most, there, later, is),
+        by_lt_z u begin (λ less. less)
+            (λ not. let within = in_span z low begin t m u s r h starts come not shows in absurd (omega (arith, ints, within, later, shown))),
+      );
   until = λ some. by_lt_z t begin
       (λ beyond. by_lt_z t low
       (λ less. let k = (starts low).1 (omega (arith, ints), since_more s.from t low h.inside.since (omega (arith, ints, less))) in
@@ -58,10 +60,12 @@ span_before z t low begin reached shown next new s h some here is starts later =
     let least = (later new).0 (omega (arith, ints)) in
     let last : (m u : ℤ) (r : LocalType) → u ≤ℤ t → Shows (TypeAt z) m u r → new <ℤ m → (low ≤ℤ u) × (u <ℤ next) =
     λ m u r come shows more.
-    let old = h.last m u r come shows (omega (arith, ints, least, more)) in
-    (old.0, by_lt_z u next (λ less. less)
-    (λ not. let within = in_span z low next (begin -ℤ pos 1) m u s r here starts (omega (arith, ints, old)) not shows in
-    absurd (omega (arith, ints, within, least, more, is)))) in
+    let old = h.last m u r come shows (omega (arith, ints, least, more)) in (
+      old.0,
+      by_lt_z u next (λ less. less)
+          (λ not. let within = in_span z low next (begin -ℤ pos 1) m u s r here starts (omega (arith, ints, old)) not shows in
+          absurd (omega (arith, ints, within, least, more, is))),
+    ) in
     let first = (starts (begin -ℤ pos 1)).1 (omega (arith, ints, some), here.inside.since) in let until = h.until some in
     by_lt_z reached shown
     (λ rise. let e : shown ≡ new = let most = (later shown).1 (omega (arith, ints, rise), omega (arith, ints)) in omega (arith, ints, most, least) in record {
@@ -99,3 +103,22 @@ all_back z t low begin reached h none = record {
   shown = h.shown;
   last = λ m u s come shows. by_lt_z reached m (λ more. let left = h.last m u s come shows more in absurd (omega (arith, ints, left, none))) (λ not. not);
 }
+
+-- ---- laws of the last local time
+pub reached_rises : (z : Zone) (t later l m : ℤ) → t ≤ℤ later → IsReachedAt (TypeAt z) t l → IsReachedAt (TypeAt z) later m → l ≤ℤ m
+reached_rises z t later l m rise h k = let come = h.not_after in k.last l h.at h.local_type (omega (arith, ints, rise, come)) h.shown
+
+pub one_reached : (z : Zone) (t l m : ℤ) → IsReachedAt (TypeAt z) t l → IsReachedAt (TypeAt z) t m → l ≡ m
+one_reached z t l m h k =
+    let up = reached_rises z t t l m (omega (arith, ints)) h k in let down = reached_rises z t t m l (omega (arith, ints)) k h in omega (arith, ints, up, down)
+
+pub adjoint : (z : Zone) (local u t m : ℤ) (s : LocalType) → IsFirstAtOrAfter (TypeAt z) local u s → IsReachedAt (TypeAt z) t m → (u ≤ℤ t) ↔ (local ≤ℤ m)
+adjoint z local u t m s first h = (
+  λ come.
+      let most = h.last (u +ℤ s.offset) u s come (record { fits = first.shown.fits; type = first.shown.type; shown = refl }) in
+      let reached = first.shown.reached in omega (arith, ints, most, reached),
+  λ less.
+      let there = h.shown.shown in let come = h.not_after in
+      let least = first.first h.at h.local_type (record { fits = h.shown.fits; type = h.shown.type; reached = omega (arith, ints, there, less) }) in
+      omega (arith, ints, least, come),
+)
