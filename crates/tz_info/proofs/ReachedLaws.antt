@@ -1,7 +1,7 @@
 -- The last local time that clocks have shown up to a second: from span to span, back to the seconds at which no clock shows a later one.
 use Rattle.tz_info.proofs.Words.{IsFirstAtOrAfter, IsGreatest, IsNear, IsSpanAt, IsUtOffset, IsWide, LocalType, SFits, Shows, Span, TypeAt, Zone, ap, arith, by_lt_z, ints}
 use Rattle.tz_info.proofs.Words.{offsets, pos, refl, sym, unsigned_abs, w32, ℤ, ◌+ℤ◌, ◌-ℤ◌, ◌<ℤ◌, ◌<◌, ◌↔◌, ◌≡◌, ◌≤ℤ◌}
-use Rattle.tz_info.specs.Reached.{IsReachedAt}
+use Rattle.tz_info.specs.Reached.{IsLastReached}
 use Rattle.tz_info.proofs.{ExtremeLaws.{at_most_greatest}, RunLaws.{StartsBy}, SpanLaws.{since_more, until_less}, ZoneLaws.{type_once}}
 
 -- up to the second t clocks show the local time `reached`, and later ones at most from `low` to before `begin`
@@ -95,7 +95,7 @@ leaves_less low begin next s f some here starts =
     omega (arith, ints, first, least, some)
 
 -- and none is left
-pub all_back : (z : Zone) (t low begin reached : ℤ) → IsReachedFrom z t low begin reached → begin ≤ℤ low → IsReachedAt (TypeAt z) t reached
+pub all_back : (z : Zone) (t low begin reached : ℤ) → IsReachedFrom z t low begin reached → begin ≤ℤ low → IsLastReached (TypeAt z) t reached
 all_back z t low begin reached h none = record {
   at = h.at;
   local_type = h.local_type;
@@ -105,14 +105,14 @@ all_back z t low begin reached h none = record {
 }
 
 -- ---- laws of the last local time
-pub reached_rises : (z : Zone) (t later l m : ℤ) → t ≤ℤ later → IsReachedAt (TypeAt z) t l → IsReachedAt (TypeAt z) later m → l ≤ℤ m
+pub reached_rises : (z : Zone) (t later l m : ℤ) → t ≤ℤ later → IsLastReached (TypeAt z) t l → IsLastReached (TypeAt z) later m → l ≤ℤ m
 reached_rises z t later l m rise h k = let come = h.not_after in k.last l h.at h.local_type (omega (arith, ints, rise, come)) h.shown
 
-pub one_reached : (z : Zone) (t l m : ℤ) → IsReachedAt (TypeAt z) t l → IsReachedAt (TypeAt z) t m → l ≡ m
+pub one_reached : (z : Zone) (t l m : ℤ) → IsLastReached (TypeAt z) t l → IsLastReached (TypeAt z) t m → l ≡ m
 one_reached z t l m h k =
     let up = reached_rises z t t l m (omega (arith, ints)) h k in let down = reached_rises z t t m l (omega (arith, ints)) k h in omega (arith, ints, up, down)
 
-pub adjoint : (z : Zone) (local u t m : ℤ) (s : LocalType) → IsFirstAtOrAfter (TypeAt z) local u s → IsReachedAt (TypeAt z) t m → (u ≤ℤ t) ↔ (local ≤ℤ m)
+pub adjoint : (z : Zone) (local u t m : ℤ) (s : LocalType) → IsFirstAtOrAfter (TypeAt z) local u s → IsLastReached (TypeAt z) t m → (u ≤ℤ t) ↔ (local ≤ℤ m)
 adjoint z local u t m s first h = (
   λ come.
       let most = h.last (u +ℤ s.offset) u s come (record { fits = first.shown.fits; type = first.shown.type; shown = refl }) in

@@ -5,7 +5,7 @@ ghost use Rattle.std.specs.{Int.{w64}, Prelude.{◌≡◌, ◌↔◌, ◌<ℤ◌
 ghost use Rattle.tz_base.specs.LocalTypes.{LocalType};
 ghost use Rattle.tz_info.specs.ShownSeconds.{AreEndsWithin, AreShownWithin, IsFirstAtOrAfter, IsFirstWithin};
 ghost use Rattle.tz_info.specs.{ShownSeconds.{IsNeverWithin, ShowsWithin}, Windows.{offsets, IsGreatest, IsLeast}};
-ghost use Rattle.tz_info.specs.{Reached.{IsReachedAt}, WallClocks.{Shows}, Zones.{TypeAt, Zone}};
+ghost use Rattle.tz_info.specs.{Reached.{IsLastReached}, WallClocks.{Shows}, Zones.{TypeAt, Zone}};
 
 use crate::zone::ask::shown_seconds::ShownSeconds;
 
@@ -67,10 +67,10 @@ pub fn first_of_stretch_law()
 /// second at or after a local time has come if and only if the local time isn't after it.
 pub fn reached_law()
     ensures once { (z : Zone) (t l m : ℤ)
-        → IsReachedAt (TypeAt z) t l → IsReachedAt (TypeAt z) t m → l ≡ m }
+        → IsLastReached (TypeAt z) t l → IsLastReached (TypeAt z) t m → l ≡ m }
     ensures rises { (z : Zone) (t later l m : ℤ) → t ≤ℤ later
-        → IsReachedAt (TypeAt z) t l → IsReachedAt (TypeAt z) later m → l ≤ℤ m }
+        → IsLastReached (TypeAt z) t l → IsLastReached (TypeAt z) later m → l ≤ℤ m }
     ensures adjoint { (z : Zone) (local u t m : ℤ) (s : LocalType)
-        → IsFirstAtOrAfter (TypeAt z) local u s → IsReachedAt (TypeAt z) t m
+        → IsFirstAtOrAfter (TypeAt z) local u s → IsLastReached (TypeAt z) t m
         → (u ≤ℤ t) ↔ (local ≤ℤ m) }
 {}
