@@ -63,9 +63,10 @@ zoned_first law l u p told (Some d) first h =
     }
 
 -- ---- the last local time that clocks have shown
-pub reached_by_type : (z : Zone) (off : ℤ → ℤ) (t l : ℤ) → IsNarrow z → AreOffsetsOf z off → IsInRange t → IsLastReached (TypeAt z) t l
-    → IsReachedAt off t l × IsWithinDay (l -ℤ t)
-reached_by_type z off t l narrow of_zone range h =
+-- it is less than a day ahead of the second, and the same by offsets
+pub reached_ahead : (z : Zone) (off : ℤ → ℤ) (t l k : ℤ) → IsNarrow z → AreOffsetsOf z off → IsInRange t → IsLastReached (TypeAt z) t l → k ≡ t
+    → IsWithinDay (l -ℤ k) × IsReachedAt off t (t +ℤ (l -ℤ k))
+reached_ahead z off t l k narrow of_zone range h second =
     let inside : IsZoneSecond t = (omega (arith, ints, range), omega (arith, ints, range)) in
     let here = of_zone t inside in let now = type_within z t here.type narrow here.in_force in
     let least = h.last (t +ℤ here.type.offset) t here.type (omega (arith, ints))
@@ -73,16 +74,16 @@ reached_by_type z off t l narrow of_zone range h =
     let then = type_within z h.at h.local_type narrow h.shown.type in let there = h.shown.shown in let come = h.not_after in
     let inside_then : IsZoneSecond h.at = (omega (arith, ints, range, least, now, then, there), omega (arith, ints, range, come)) in
     let same = same_offset z off h.at h.local_type of_zone inside_then h.shown.type in (
+      (omega (arith, ints, least, now, second), omega (arith, ints, there, come, then, second)),
       record {
         at = h.at;
         in_zone = inside_then;
         not_after = come;
-        shown = omega (arith, ints, there, same);
+        shown = omega (arith, ints, there, same, second);
         last = λ u in_zone until. let k = of_zone u in_zone in
             let most = h.last (u +ℤ k.type.offset) u k.type until (record { fits = omega (arith, ints, in_zone); type = k.in_force; shown = refl }) in
-            let is = k.offset in omega (arith, ints, most, is);
+            let is = k.offset in omega (arith, ints, most, is, second);
       },
-      (omega (arith, ints, least, now), omega (arith, ints, there, come, then)),
     )
 
 -- ---- stretches of one offset

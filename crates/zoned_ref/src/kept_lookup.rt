@@ -99,7 +99,7 @@ impl ZoneDays for KeptZone {
         Some(DateTime::of_parts(&found.naive_utc(), found.offset()))
     }
 
-    fn reached_offset(&self, utc: &NaiveDateTime) -> i32 {
+    fn reached_offset(&self, utc: &NaiveDateTime) -> Option<i32> {
         self.borrowed.reached_offset(utc)
     }
 

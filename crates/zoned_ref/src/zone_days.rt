@@ -27,10 +27,10 @@ impl<'a> ZoneDays for TimeZoneRef<'a> {
         self.instant_of(found.at, found.local_time_type)
     }
 
-    fn reached_offset(&self, utc: &NaiveDateTime) -> i32 {
+    fn reached_offset(&self, utc: &NaiveDateTime) -> Option<i32> {
         let zone = self.zone();
         let reached = zone.find_reached(*utc);
-        (reached - utc.secs_since_epoch()) as i32
+        Some((reached - utc.secs_since_epoch()) as i32)
     }
 
     fn offset_stretch_at(&self, utc: &NaiveDateTime) -> OffsetStretch {

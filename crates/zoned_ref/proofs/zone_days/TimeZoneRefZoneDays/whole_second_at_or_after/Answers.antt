@@ -1,4 +1,4 @@
-use Rattle.zoned_ref.proofs.Words.{AreOffsetsOf, SFits, law_of, off_of, reading, rules, to_z-of_z, type_of, w64, zone_of, zoned, ◌≡◌}
+use Rattle.zoned_ref.proofs.Words.{AreOffsetsOf, SFits, Zone, law_of, off_of, reading, rules, subst, to_z-of_z, type_of, w64, zoned, ◌≡◌}
 use Rattle.zoned_ref.proofs.Days.{first_to_reach, zoned_first}
 use Rattle.zoned_ref.proofs.zone_days.TimeZoneRefZoneDays.whole_second_at_or_after.Goals as goal
 
@@ -8,7 +8,7 @@ instant_of-requires-clause-in_force c =
     simp to_z-of_z (rw (← c.zone-zone.ensures.zone) c.held_first_at_or_after-found.ensures.shown.type)
 
 pub instant_of-requires-clause-offsets : goal.instant_of-requires-clause-offsets
-instant_of-requires-clause-offsets c = rw (← c.zone-zone.ensures.zone) c.zone-zone.ensures.offsets
+instant_of-requires-clause-offsets c = subst (λ (z : Zone). AreOffsetsOf z (off_of c.args.self.now)) c.zone-zone.ensures.zone c.zone-zone.ensures.offsets
 
 pub returns : goal.returns
 returns c =
