@@ -1,8 +1,8 @@
 -- The last local time that clocks have shown up to a second: from span to span, back to the seconds at which no clock shows a later one.
-use Rattle.tz_info.proofs.Words.{IsGreatest, IsNear, IsSpanAt, IsUtOffset, IsValid, IsWide, List, LocalType, SFits, Shows, Span, Transition, TypeAt, Zone, ap, arith}
+use Rattle.tz_info.proofs.Words.{IsFirstAtOrAfter, IsGreatest, IsNear, IsSpanAt, IsUtOffset, IsValid, IsWide, List, LocalType, SFits, Shows, Span, Transition, TypeAt, Zone, ap, arith}
 use Rattle.tz_info.proofs.Words.{begin_of, by_lt_z, cases_lt, index_of, inl, inr, ints, least_time, length, place_at, saturate_signed, suc, top_of, ◌-◌, ◌≤◌}
 use Rattle.tz_info.proofs.Words.{offsets, pos, refl, sym, unsigned_abs, w32, w64, ℤ, ℕ, ◌+ℤ◌, ◌-ℤ◌, ◌<ℤ◌, ◌<◌, ◌↔◌, ◌≡◌, ◌≤ℤ◌}
-use Rattle.tz_info.specs.{Reached.{IsReachedAt}, Steps.{Entries.{AreEntries, Entries}, SegmentEnds.{IsLatestEnd, IsReached, IsReachedSince, end_of}}, Transitions.{AreRising}}
+use Rattle.tz_info.specs.{Reached.{IsLastReached}, Steps.{Entries.{AreEntries, Entries}, SegmentEnds.{IsLatestEnd, IsReached, IsReachedSince, end_of}}, Transitions.{AreRising}}
 use Rattle.tz_info.specs.Steps.WallPieces.{IsTable}
 use Rattle.tz_info.proofs.{EntryChanges.{index_below}, LeapStarts.{saturated}, SegmentEndLaws.{begun_by, end_at, shows_less}, TableLaws.{table_of, top_least}}
 use Rattle.tz_info.proofs.SegmentLaws.{come_from, place_before, place_begin}
@@ -123,7 +123,7 @@ all_since z first t low begin reached h none = record {
 
 -- ---- the segments before
 -- no segment has passed, so that `first` is the least second
-pub from_least : (z : Zone) (t reached : ℤ) → IsReachedSince (TypeAt z) least_time t reached → IsReachedAt (TypeAt z) t reached
+pub from_least : (z : Zone) (t reached : ℤ) → IsReachedSince (TypeAt z) least_time t reached → IsLastReached (TypeAt z) t reached
 from_least z t reached h = record {
   at = h.at;
   local_type = h.local_type;
@@ -242,7 +242,7 @@ none_later z e k t reached end g l m u s valid made fit greatest within wide sin
 -- if the latest end is later than the segment's last local time, it is the one before that end
 pub at_end : (z : Zone) (e : Entries) (k : ℕ) (t reached end g : ℤ) → IsValid z → AreEntries z e → SFits w32 g → IsGreatest (offsets z.types z.rule) g
     → k ≤ length e.items → IsWide t → begin_of e.items k ≤ℤ t → SFits w64 end → IsReachedSince (TypeAt z) (begin_of e.items k) t reached
-    → IsLatestEnd z.types e.items k end → reached <ℤ end → IsReachedAt (TypeAt z) t (end -ℤ pos 1)
+    → IsLatestEnd z.types e.items k end → reached <ℤ end → IsLastReached (TypeAt z) t (end -ℤ pos 1)
 at_end z e k t reached end g valid made fit greatest within wide begun fits since latest less =
     let last : (m u : ℤ) (s : LocalType) → u ≤ℤ t → Shows (TypeAt z) m u s → m ≤ℤ (end -ℤ pos 1) =
     λ m u s. none_later z e k t reached end g (end -ℤ pos 1) m u s valid made fit greatest within wide since latest (before_end reached end less)
@@ -265,7 +265,7 @@ at_end z e k t reached end g valid made fit greatest within wide begun fits sinc
 -- else it is that of the segment
 pub at_segment : (z : Zone) (e : Entries) (k : ℕ) (t reached end g : ℤ) → IsValid z → AreEntries z e → SFits w32 g → IsGreatest (offsets z.types z.rule) g
     → k ≤ length e.items → IsWide t → IsReachedSince (TypeAt z) (begin_of e.items k) t reached → IsLatestEnd z.types e.items k end → end ≤ℤ reached
-    → IsReachedAt (TypeAt z) t reached
+    → IsLastReached (TypeAt z) t reached
 at_segment z e k t reached end g valid made fit greatest within wide since latest not = record {
   at = since.at;
   local_type = since.local_type;
@@ -274,3 +274,22 @@ at_segment z e k t reached end g valid made fit greatest within wide since lates
   last = λ m u s. none_later z e k t reached end g reached m u s valid made fit greatest within wide since latest (omega (arith, ints))
       (omega (arith, ints, not));
 }
+
+-- ---- laws of the last local time
+pub reached_rises : (z : Zone) (t later l m : ℤ) → t ≤ℤ later → IsLastReached (TypeAt z) t l → IsLastReached (TypeAt z) later m → l ≤ℤ m
+reached_rises z t later l m rise h k = let come = h.not_after in k.last l h.at h.local_type (omega (arith, ints, rise, come)) h.shown
+
+pub one_reached : (z : Zone) (t l m : ℤ) → IsLastReached (TypeAt z) t l → IsLastReached (TypeAt z) t m → l ≡ m
+one_reached z t l m h k =
+    let up = reached_rises z t t l m (omega (arith, ints)) h k in let down = reached_rises z t t m l (omega (arith, ints)) k h in omega (arith, ints, up, down)
+
+pub adjoint : (z : Zone) (local u t m : ℤ) (s : LocalType) → IsFirstAtOrAfter (TypeAt z) local u s → IsLastReached (TypeAt z) t m → (u ≤ℤ t) ↔ (local ≤ℤ m)
+adjoint z local u t m s first h = (
+  λ come.
+      let most = h.last (u +ℤ s.offset) u s come (record { fits = first.shown.fits; type = first.shown.type; shown = refl }) in
+      let reached = first.shown.reached in omega (arith, ints, most, reached),
+  λ less.
+      let there = h.shown.shown in let come = h.not_after in
+      let least = first.first h.at h.local_type (record { fits = h.shown.fits; type = h.shown.type; reached = omega (arith, ints, there, less) }) in
+      omega (arith, ints, least, come),
+)

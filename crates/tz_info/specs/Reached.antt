@@ -4,7 +4,7 @@ use Rattle.tz_base.specs.LocalTypes.{LocalType}
 use Rattle.tz_info.specs.WallClocks.{Shows}
 
 -- at a Unix time of 64 bits at or before t a clock of the type in force shows the local time l, and at none of them a later one
-pub record IsReachedAt (in_force : ℤ → LocalType → Type 0) (t l : ℤ) : Type 0 where
+pub record IsLastReached (in_force : ℤ → LocalType → Type 0) (t l : ℤ) : Type 0 where
   pub at : ℤ
   pub local_type : LocalType
   pub not_after : at ≤ℤ t

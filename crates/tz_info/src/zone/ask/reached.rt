@@ -3,7 +3,7 @@
 ghost use Rattle.std.specs.Prelude.{◌≡◌, ◌≤ℤ◌, ◌+ℤ◌};
 ghost use Rattle.naive_base.specs.{NaiveDateTime.{reading}, Range.{IsWide}};
 ghost use Rattle.tz_base.specs.LocalTypes.{IsUtOffset};
-ghost use Rattle.tz_info.specs.{Leaps.{IsNear}, Reached.{IsReachedAt}, Steps.SegmentEnds.{IsReachedSince}, Zones.{TypeAt}};
+ghost use Rattle.tz_info.specs.{Leaps.{IsNear}, Reached.{IsLastReached}, Steps.SegmentEnds.{IsReachedSince}, Zones.{TypeAt}};
 
 use crate::answers::second_showing;
 use crate::timeline::Probes;
@@ -27,7 +27,7 @@ impl TimeZone {
     /// let reached = new_york.find_reached(second_pass); // 1636250399: 2021-11-07 01:59:59
     /// ```
     pub fn find_reached(&self, utc: NaiveDateTime) -> i64
-        ensures { IsReachedAt (TypeAt self.now) (reading utc).s result }
+        ensures { IsLastReached (TypeAt self.now) (reading utc).s result }
     {
         self.reached_at(utc.secs_since_epoch())
     }
@@ -35,7 +35,7 @@ impl TimeZone {
     // The same of a second: the last one of the segment that it lies in, or of the segments before that.
     fn reached_at(&self, second: i64) -> i64
         requires { IsWide second }
-        ensures { IsReachedAt (TypeAt self.now) second result }
+        ensures { IsLastReached (TypeAt self.now) second result }
     {
         let _ = (self.extremes.least, self.extremes.greatest);
         let mut probes = Probes::new();
