@@ -385,7 +385,7 @@ previous_at z e last second k c valid made all at is there =
     previous_found z e last k c valid made (omega arith) (none_behind z e last (k + 1) all) is (λ d. there ∙ at d)
 
 -- ---- between two entries
-index_below : (z : Zone) (e : Entries) (k : ℕ) → IsValid z → AreEntries z e → k ≤ length e.items → index_of e.items k < length z.types
+pub index_below : (z : Zone) (e : Entries) (k : ℕ) → IsValid z → AreEntries z e → k ≤ length e.items → index_of e.items k < length z.types
 index_below z e zero valid made h = valid.some
 index_below z e (suc k) valid made h =
     let t : Transition = record { unix_leap_time = pos 0; type_index = 0 } in

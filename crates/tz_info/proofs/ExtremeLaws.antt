@@ -74,6 +74,11 @@ in_force_among z u t a = elim (type_listed z u t a) [
 pub at_most_greatest : (z : Zone) (u g : ℤ) (t : LocalType) → IsGreatest (offsets z.types z.rule) g → TypeAt z u t → t.offset ≤ℤ g
 at_most_greatest z u g t h a = All-contains (λ x. x ≤ℤ g) (offsets z.types z.rule) t.offset h.most (in_force_among z u t a)
 
+pub listed_at_most : (z : Zone) (i : ℕ) (g : ℤ) (t : LocalType) → IsGreatest (offsets z.types z.rule) g → i < length z.types → slice_get z.types i ≡ Some t
+    → t.offset ≤ℤ g
+listed_at_most z i g t h below has = All-contains (λ x. x ≤ℤ g) (offsets z.types z.rule) t.offset h.most
+    (Contains-append_left (offsets_of z.types) (rule_offsets z.rule) t.offset (listed_among z.types i t below has))
+
 pub at_least_least : (z : Zone) (u g : ℤ) (t : LocalType) → IsLeast (offsets z.types z.rule) g → TypeAt z u t → g ≤ℤ t.offset
 at_least_least z u g t h a = All-contains (λ x. g ≤ℤ x) (offsets z.types z.rule) t.offset h.fewest (in_force_among z u t a)
 

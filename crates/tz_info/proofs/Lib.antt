@@ -59,6 +59,7 @@ pub mod SpanSearch
 pub mod SpanStepLaws
 pub mod RunLaws
 pub mod ShownSecondLaws
+pub mod ReachedLaws
 pub mod DifferenceLaws
 pub mod PosixZoneLaws
 pub mod FilePieceLaws

@@ -19,7 +19,7 @@ use Rattle.tz_info.proofs.WallSegments.{near_of, type_there}
 near_wide : (l : ℤ) → IsWide l → IsNear l
 near_wide l wide = let a = wide.0 in let b = wide.1 in (omega (arith, ints), omega (arith, ints))
 
-end_at : (types : List LocalType) (ts : List Transition) (j : ℕ) (t : LocalType) → slice_get types (index_of ts j) ≡ Some t
+pub end_at : (types : List LocalType) (ts : List Transition) (j : ℕ) (t : LocalType) → slice_get types (index_of ts j) ≡ Some t
     → end_of types ts (suc j) ≡ saturate_signed w64 (begin_of ts (suc j) +ℤ t.offset)
 end_at types ts j t has = let e : suc j - 1 ≡ j = omega arith in rw (e, has) refl
 
@@ -40,11 +40,11 @@ reached_plain types ts k l rising some within = (
 
 -- else the latest one
 pub reached_latest : (types : List LocalType) (ts : List Transition) (maxima : List ℤ) (k : ℕ) (l : ℤ) → AreMaxima types ts maxima → 0 < k → k ≤ length ts
-    → IsWide l → (l <ℤ get_or maxima (k - 1) (pos 0)) ↔ IsReached types ts k l
-reached_latest types ts maxima k l made some within wide =
+    → SFits w64 l → (l <ℤ get_or maxima (k - 1) (pos 0)) ↔ IsReached types ts k l
+reached_latest types ts maxima k l made some within fits =
     let e : suc (k - 1) ≡ k = omega arith in
     let n = made.count in
-    rw e at (made.reached (k - 1) (pos 0) l (omega arith) wide)
+    rw e at (made.reached (k - 1) (pos 0) l (omega arith) fits)
 
 pub by_test : {P : Type 0} → (a b : ℤ) → (a <ℤ b) ↔ P → IsTrue (int_lt a b) ↔ P
 by_test a b is = ((λ h. is.0 (lt_is a b h)), (λ p. lt_true a b (is.1 p)))
@@ -84,13 +84,13 @@ first_found types ts l k within before here = record {
 
 -- ---- seconds
 -- in the segments before that place clocks show less, if none of them ends later
-pub shows_less : (z : Zone) (ts : List Transition) (top k : ℕ) (l v : ℤ) (s : LocalType) → IsTable z ts top → k ≤ length ts → IsWide l
+pub shows_less : (z : Zone) (ts : List Transition) (top k : ℕ) (l v : ℤ) (s : LocalType) → IsTable z ts top → k ≤ length ts → IsNear l
     → (IsReached z.types ts k l → ⊥) → SFits w64 v
     → place_at ts v < k → place_at ts v < top → TypeAt z v s → (v +ℤ s.offset) <ℤ l
-shows_less z ts top k l v s table within wide none fits before own here =
+shows_less z ts top k l v s table within near none fits before own here =
     let j : ℕ = place_at ts v in
     let has = table.listed v s fits own here in
-    let sat = saturated (begin_of ts (suc j) +ℤ s.offset) l (near_wide l wide) in
+    let sat = saturated (begin_of ts (suc j) +ℤ s.offset) l near in
     let come = come_from ts (suc j) v table.rising (omega arith) (omega arith) in
     let end = end_at z.types ts j s has in
     by_lt_z l (saturate_signed w64 (begin_of ts (suc j) +ℤ s.offset))
@@ -99,7 +99,7 @@ shows_less z ts top k l v s table within wide none fits before own here =
     let b = sat.0 less in
     by_lt_z v (begin_of ts (suc j)) (λ m. omega (arith, ints)) (λ m. let c = come.1 m in absurd (omega arith)))
 
-begun_by : (ts : List Transition) (k : ℕ) (v : ℤ) → AreRising ts → k ≤ length ts → k ≤ place_at ts v → SFits w64 v → begin_of ts k ≤ℤ v
+pub begun_by : (ts : List Transition) (k : ℕ) (v : ℤ) → AreRising ts → k ≤ length ts → k ≤ place_at ts v → SFits w64 v → begin_of ts k ≤ℤ v
 begun_by ts zero v rising within come fits = rw (begin_first ts) (omega (arith, ints))
 begun_by ts (suc k) v rising within come fits = (come_from ts (suc k) v rising (omega arith) within).0 come
 
@@ -117,7 +117,7 @@ begun_near z ts top k l low high valid limits table own wide reach first =
     let least = at_least_least z high (l -ℤ high) latest reach.least here in
     let fits : SFits w64 high = omega (arith, ints) in
     elim (cases_lt (place_at ts high) k) [
-      | inl before ↦ let less = shows_less z ts top k l high latest table first.within wide first.before fits before (omega arith) here in
+      | inl before ↦ let less = shows_less z ts top k l high latest table first.within (near_wide l wide) first.before fits before (omega arith) here in
           absurd (omega (arith, ints))
       | inr come ↦ let begun = begun_by ts k high table.rising first.within come fits in omega (arith, ints)
     ]
@@ -165,7 +165,7 @@ first_there z ts top k l low high at t valid limits table own wide reach first i
           let rise = places_rise ts v at table.rising (omega (arith, ints)) in
           let r = h.reached in
           elim (cases_lt (place_at ts v) k) [
-            | inl before ↦ let less = shows_less z ts top k l v s table first.within wide first.before h.fits before (omega arith) h.type in
+            | inl before ↦ let less = shows_less z ts top k l v s table first.within (near_wide l wide) first.before h.fits before (omega arith) h.type in
                 absurd (omega (arith, ints))
             | inr same ↦
                 let one = ap (λ (x : LocalType). x.offset) (type_there z ts top k v s t table own h.fits is.listed (omega arith) h.type) in
@@ -182,7 +182,7 @@ table_less z e l k valid made table wide first all = λ u t near inside here.
     let a = near.0 in let b = near.1 in
     let fits : SFits w64 u = omega (arith, ints) in
     let own = (same_table z e u valid made fits (time_then z u t here)).0 inside in
-    shows_less z e.items (top_of z.rule e) k l u t table first.within wide first.before fits (omega arith) own here
+    shows_less z e.items (top_of z.rule e) k l u t table first.within (near_wide l wide) first.before fits (omega arith) own here
 
 all_behind : (rule : Option TransitionRule) (e : Entries) (q : ℕ) → q ≤ length e.items → length e.items ≤ e.all → top_of rule e ≤ q → q ≡ e.all
 all_behind (Some rule) e q few more h = omega arith
@@ -239,14 +239,14 @@ greatest_by_rule (Alternate a) old new o (one, f, g) c =
 -- those of the first segments
 pub record AreMaximaOf (types : List LocalType) (ts : List Transition) (k : ℕ) (maxima : List ℤ) (latest : ℤ) : Type 0 where
   pub count : length maxima ≡ k
-  pub reached : (i : ℕ) (d l : ℤ) → i < k → IsWide l → (l <ℤ get_or maxima i d) ↔ IsReached types ts (suc i) l
-  pub all : (l : ℤ) → IsWide l → (l <ℤ latest) ↔ IsReached types ts k l
+  pub reached : (i : ℕ) (d l : ℤ) → i < k → SFits w64 l → (l <ℤ get_or maxima i d) ↔ IsReached types ts (suc i) l
+  pub all : (l : ℤ) → SFits w64 l → (l <ℤ latest) ↔ IsReached types ts k l
 
 pub no_maxima : (types : List LocalType) (ts : List Transition) (latest : ℤ) → latest ≡ least_time → AreMaximaOf types ts 0 [] latest
 no_maxima types ts latest e = record {
   count = refl;
-  reached = λ i d l h wide. absurd (omega arith);
-  all = λ l wide. ((λ h. let a = wide.0 in absurd (omega (arith, ints))), (λ r. absurd (never_reached types ts l r)));
+  reached = λ i d l h fits. absurd (omega arith);
+  all = λ l fits. ((λ h. absurd (omega (arith, ints))), (λ r. absurd (never_reached types ts l r)));
 }
 
 later_than : (l a b m : ℤ) → (m ≤ℤ l) ↔ ((a ≤ℤ l) × (b ≤ℤ l)) → (l <ℤ m) ↔ ((l <ℤ a) ⊎ (l <ℤ b))
@@ -260,15 +260,15 @@ pub maxima_more : (types : List LocalType) (ts : List Transition) (k : ℕ) (max
 maxima_more types ts k maxima out latest next made is e =
     let count = made.count in
     let latest_is : (l : ℤ) → (l <ℤ next) ↔ ((l <ℤ latest) ⊎ (l <ℤ end_of types ts (suc k))) = λ l. later_than l latest (end_of types ts (suc k)) next (is l) in
-    let more : (l : ℤ) → IsWide l → (l <ℤ next) ↔ IsReached types ts (suc k) l = λ l wide. (
-      (λ h. (reached_more types ts k l).1 (elim ((latest_is l).0 h) [ inl a ↦ inl ((made.all l wide).0 a) | inr b ↦ inr b ])),
-      (λ r. (latest_is l).1 (elim ((reached_more types ts k l).0 r) [ inl a ↦ inl ((made.all l wide).1 a) | inr b ↦ inr b ])),
+    let more : (l : ℤ) → SFits w64 l → (l <ℤ next) ↔ IsReached types ts (suc k) l = λ l fits. (
+      (λ h. (reached_more types ts k l).1 (elim ((latest_is l).0 h) [ inl a ↦ inl ((made.all l fits).0 a) | inr b ↦ inr b ])),
+      (λ r. (latest_is l).1 (elim ((reached_more types ts k l).0 r) [ inl a ↦ inl ((made.all l fits).1 a) | inr b ↦ inr b ])),
     ) in
     rw e (record {
       count = length_push maxima next ∙ (omega arith);
-      reached = λ i d l h wide. elim (cases_lt i k) [
-        | inl before ↦ rw (get_or_append_left maxima (next ∷ []) d i (omega arith)) (made.reached i d l before wide)
-        | inr last ↦ let s : i ≡ k = omega arith in rw (get_or_push maxima next d i (omega arith)) (rw s (more l wide))
+      reached = λ i d l h fits. elim (cases_lt i k) [
+        | inl before ↦ rw (get_or_append_left maxima (next ∷ []) d i (omega arith)) (made.reached i d l before fits)
+        | inr last ↦ let s : i ≡ k = omega arith in rw (get_or_push maxima next d i (omega arith)) (rw s (more l fits))
       ];
       all = more;
     })
@@ -277,7 +277,7 @@ pub all_maxima : (types : List LocalType) (ts : List Transition) (k : ℕ) (maxi
     → AreMaximaOf types ts k maxima latest → AreMaxima types ts maxima
 all_maxima types ts k maxima latest e made = record {
   count = made.count ∙ e;
-  reached = λ i d l h wide. let c = made.count in made.reached i d l (omega arith) wide;
+  reached = λ i d l h fits. let c = made.count in made.reached i d l (omega arith) fits;
 }
 
 -- ---- the count of looks

@@ -21,6 +21,7 @@ pub mod ChangesLeft
 pub mod Spans
 pub mod SpanSteps
 pub mod ShownSeconds
+pub mod Reached
 pub mod Differences
 pub mod Windows
 pub mod Looks

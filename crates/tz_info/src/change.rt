@@ -1,7 +1,7 @@
 //! Clock changes, spans between them, and seconds, each with the types in force.
 
 ghost use Rattle.std.specs.Prelude.{◌≡◌, ◌≢◌, ◌↔◌, option_map, IfSome, IsTrue, MatchOption};
-ghost use Rattle.tz_info.specs.{HeldChanges.{change_held, span_held}, Steps.Changes.{IsInStretch}};
+ghost use Rattle.tz_info.specs.{HeldChanges.{change_held, second_held, span_held}, Steps.Changes.{IsInStretch}};
 
 use tz_base::{Change, LocalTimeType, Span};
 
@@ -75,6 +75,28 @@ pub struct TypedSecond {
     pub at: i64,
     /// The type in force.
     pub local_time_type: LocalTimeType,
+}
+
+/// A second with a reference to the type that the zone holds: a [`TypedSecond`] without a copy of it.
+#[derive(Clone, Copy)]
+pub struct HeldSecond<'a> {
+    /// The second, as a Unix time.
+    pub at: i64,
+    /// The type in force.
+    pub local_time_type: &'a LocalTimeType,
+}
+
+impl HeldSecond<'_> {
+    /// The second with the type itself.
+    #[inline(always)]
+    pub fn copied(self) -> TypedSecond
+        ensures { result ≡ second_held self.entry }
+    {
+        TypedSecond {
+            at: self.at,
+            local_time_type: *self.local_time_type,
+        }
+    }
 }
 
 // The change at that second, if the types differ.

@@ -9,7 +9,7 @@ mod rule;
 mod timeline;
 mod zone;
 
-pub use change::{HeldChange, HeldSpan, TypedSecond};
+pub use change::{HeldChange, HeldSecond, HeldSpan, TypedSecond};
 pub use file::counts::FileCounts;
 pub use offset_core::Around;
 pub use rule::{AlternateTime, DayForm, RuleDay, TransitionRule};

@@ -18,6 +18,7 @@ pub use Rattle.tz_info.specs.declared.rule.transition_rule.TransitionRule.{Trans
 pub use Rattle.tz_info.specs.declared.zone.ask.shown_seconds.ShownSeconds.{ShownSeconds}
 pub use Rattle.zoned_time.proofs.ForCallers.{choice_decided, same_itself}
 pub use Rattle.zoned_time.proofs.Words.{AreEndsOfDay, HasInstant, HasReached, IsAt, IsBeforeGap, IsFirstToReach, IsInRange, IsNeverOnDay, IsOffsetBeforeGap}
+pub use Rattle.zoned_time.proofs.Words.{IsFirstSecondOutOfRange, IsReachedAt, IsZonedFirst}
 pub use Rattle.zoned_time.proofs.Words.{IsOffsetStretch, IsOnDay, IsTaken, IsUnresolved, IsWallAnswer, IsWide, IsWideDay, IsWithinDay, IsZoneSecond, Law, List}
 pub use Rattle.zoned_time.proofs.Words.{MatchOption}
 pub use Rattle.zoned_time.proofs.Words.{Meaning, Reading, SFits, SameLaw, SomeIff, Zoned, all_or_none, ap, arith, day_of, floor_div, home_law, in_seconds, inl}

@@ -11,7 +11,7 @@ ghost use Rattle.zoned_ref.specs.{KeptZone.{law_of, zone_of}, ZoneOffset.{meanin
 use crate::{KeptZone, ZoneOffset};
 use naive_base::{NaiveDate, NaiveDateTime};
 use offset_core::{Around, LocalResult};
-use zoned_time::{OffsetStretch, ShownDay, TimeZone, ZoneDays};
+use zoned_time::{DateTime, OffsetStretch, ShownDay, TimeZone, ZoneDays};
 
 impl TimeZone for KeptZone {
     type Offset = ZoneOffset<'static>;
@@ -92,6 +92,15 @@ impl ZoneDays for KeptZone {
 
     fn first_second_at_or_after(&self, local: &NaiveDateTime) -> i64 {
         self.borrowed.first_second_at_or_after(local)
+    }
+
+    fn whole_second_at_or_after(&self, local: &NaiveDateTime) -> Option<DateTime<KeptZone>> {
+        let found = self.borrowed.whole_second_at_or_after(local)?;
+        Some(DateTime::of_parts(&found.naive_utc(), found.offset()))
+    }
+
+    fn reached_offset(&self, utc: &NaiveDateTime) -> Option<i32> {
+        self.borrowed.reached_offset(utc)
     }
 
     fn offset_stretch_at(&self, utc: &NaiveDateTime) -> OffsetStretch {

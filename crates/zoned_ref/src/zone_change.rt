@@ -108,7 +108,7 @@ impl<'a> TimeZoneRef<'a> {
     }
 
     // The instant of a second, if it is in range; that type is in force then.
-    fn instant_of(
+    pub(crate) fn instant_of(
         &self,
         second: i64,
         local_type: &'a LocalTimeType,

@@ -1,7 +1,7 @@
 -- Days of zones: from seconds to instants.
-use Rattle.zoned_time.proofs.Words.{AreEndsOfDay, AreInstantsOfDay, HasInstant, HasReached, IsAt, IsFirstInstantFrom, IsFirstOutOfRange, IsFirstToReach}
-use Rattle.zoned_time.proofs.Words.{IsFixed, IsInRange, IsInstantFrom, IsNoDay, IsOnDay, IsZoneSecond, IsZonedAtOrAfter, Law, MatchOption, Meaning, None}
-use Rattle.zoned_time.proofs.Words.{Option, Reading, Some, SomeIff, Zoned, ap, arith, floor_div, floors, instant_of, ints, of_secs, option_map, pos, ℤ, ◌*ℤ◌}
+use Rattle.zoned_time.proofs.Words.{AreEndsOfDay, AreInstantsOfDay, HasInstant, HasReached, IsAt, IsFirstInstantFrom, IsFirstOutOfRange, IsFirstSecondOutOfRange}
+use Rattle.zoned_time.proofs.Words.{IsFirstToReach, IsFixed, IsInRange, IsInstantFrom, IsNoDay, IsOnDay, IsZoneSecond, IsZonedAtOrAfter, IsZonedFirst, Law, MatchOption, Meaning, None}
+use Rattle.zoned_time.proofs.Words.{Option, Reading, Some, SomeIff, Zoned, ap, arith, floor_div, floors, instant_of, ints, of_secs, option_map, pos, subst, sym, ℤ, ◌*ℤ◌}
 use Rattle.zoned_time.proofs.Words.{◌+ℤ◌, ◌-ℤ◌, ◌<ℤ◌, ◌∙◌, ◌≡◌, ◌≤ℤ◌, ◌⊎◌}
 
 -- ---- days
@@ -54,6 +54,17 @@ told_exact law l u seconds whole told found by_seconds h inside at shown is =
 pub told_later : {O : Type 0} {m : Meaning O} (law : Law m) (l : Reading) (u : ℤ) (seconds : O → ℤ) (whole : Zoned O) → ((o : O) → m.seconds o ≡ seconds o)
     → IsFirstToReach law.off l.s u → IsAt law (of_secs u 0) whole → ((whole.utc.s +ℤ seconds whole.offset) ≡ l.s → ⊥) → IsZonedAtOrAfter law l whole
 told_later law l u seconds whole by_seconds h at differs = grind (arith, ints)
+
+-- the first second as an instant of the zone
+pub zoned_first : {O T : Type 0} {m : Meaning O} (law : Law m) (l u : ℤ) (told : T → Zoned O) (found : Option T) → IsFirstToReach law.off l u
+    → MatchOption found (IsInRange u → ⊥) (λ d. IsInRange u × IsAt law (of_secs u 0) (told d))
+    → MatchOption found (IsFirstSecondOutOfRange law.off l) (λ d. IsZonedFirst law l (told d))
+zoned_first law l u told None first h = (u, first, h)
+zoned_first law l u told (Some d) first h =
+    let same : (told d).utc.s ≡ u = ap (λ (r : Reading). r.s) h.1.utc in record {
+      first = rw same first;
+      at = subst (λ (v : ℤ). IsAt law (of_secs v 0) (told d)) (sym same) h.1;
+    }
 
 -- ---- a zone whose clocks are never set
 fixed_first : {O : Type 0} {m : Meaning O} (law : Law m) (l noon u : ℤ) → IsFixed law → IsZoneSecond noon → IsZoneSecond u

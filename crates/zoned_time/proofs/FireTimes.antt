@@ -3,11 +3,11 @@ use Rattle.std.proofs.Common.{Contains, length, slice_index_or}
 use Rattle.std.proofs.lemmas.Bool.Decides.{nat_tests}
 use Rattle.zoned_time.specs.Fires.{second_before, usual_policy}
 use Rattle.zoned_time.proofs.Words.{Reading, ◌≡◌}
-use Rattle.zoned_time.proofs.Words.{AreAllOf, IsFireBy, IsNextOf, IsZonedNextOf, NoneAfter, NoneBetween, inl, refl}
-use Rattle.zoned_time.proofs.Words.{RiseFrom, List, [], suc, zero, ℕ, ◌<◌, ◌∷◌, HasNoneAfter, HasNoneUntil, IsAt, IsFire}
+use Rattle.zoned_time.proofs.Words.{AreAllOf, IsFireBy, IsNextOf, IsZonedNextOf, NoneAfter, NoneBetween, IsZonedFirst, inl, refl}
+use Rattle.zoned_time.proofs.Words.{RiseFrom, List, [], suc, zero, ℕ, ◌<◌, ◌∷◌, HasNoneAfter, HasNoneUntil, IsFire, IsFirstSecondOutOfRange}
 use Rattle.zoned_time.proofs.Words.{IsFirstToReach, IsInRange, IsLastFire, IsLastUntil, IsNextAfter}
 use Rattle.zoned_time.proofs.Words.{IsNextFire, IsReachedAt, IsWide, IsZonedLastFire, IsZonedNextFire, IsZoneSecond, Law, MatchOption, Meaning, NoneFiresAfter}
-use Rattle.zoned_time.proofs.Words.{NoneFiresUntil, None, Option, Some, Zoned, arith, by_lt_z, ints, neg_ℤ, of_secs, pos, ℤ, ◌+ℤ◌, ◌-ℤ◌, ◌<ℤ◌, ◌≤ℤ◌}
+use Rattle.zoned_time.proofs.Words.{NoneFiresUntil, None, Option, Some, Zoned, arith, by_lt_z, ints, neg_ℤ, pos, ℤ, ◌+ℤ◌, ◌-ℤ◌, ◌<ℤ◌, ◌≤ℤ◌}
 use Rattle.zoned_time.proofs.{DayStarts.{StayWithinDay}, ReachedTimes.{adjoint, reached_near, still_to_come}}
 
 -- a later local time is not reached earlier
@@ -51,14 +51,16 @@ pub fires_beyond : (off : ℤ → ℤ) (plan : ℤ → Type 0) (t u : ℤ) → I
 fires_beyond off plan t u range next out v inside fire later =
     let least = next.none_skipped v fire later in let after = next.after in out (omega (arith, ints, range, inside), omega (arith, ints, range, inside))
 
-pub next_found : {O T : Type 0} {m : Meaning O} (law : Law m) (plan : ℤ → Type 0) (t local l u : ℤ) (told : T → Zoned O) (found : Option T)
-    → StayWithinDay law.off → IsInRange t → IsReachedAt law.off t local → IsNextAfter plan local l → IsWide l → IsFirstToReach law.off l u
-    → MatchOption found (IsInRange u → ⊥) (λ d. IsInRange u × IsAt law (of_secs u 0) (told d))
+pub next_found : {O T : Type 0} {m : Meaning O} (law : Law m) (plan : ℤ → Type 0) (t local l : ℤ) (told : T → Zoned O) (found : Option T)
+    → StayWithinDay law.off → IsInRange t → IsReachedAt law.off t local → IsNextAfter plan local l → IsWide l
+    → MatchOption found (IsFirstSecondOutOfRange law.off l) (λ d. IsZonedFirst law l (told d))
     → MatchOption found (NoneFiresAfter law.off plan t) (λ d. IsZonedNextFire law plan t (told d))
-next_found law plan t local l u told None within range reached next wide first h =
-    fires_beyond law.off plan t u range (next_fire law.off plan t local l u within range reached next wide first) h
-next_found law plan t local l u told (Some d) within range reached next wide first h =
-    let found = next_fire law.off plan t local l u within range reached next wide first in let at = h.1.utc in grind (arith, ints)
+next_found law plan t local l told None within range reached next wide h =
+    fires_beyond law.off plan t h.0 range (next_fire law.off plan t local l h.0 within range reached next wide h.1) h.2
+next_found law plan t local l told (Some d) within range reached next wide h = record {
+  next = next_fire law.off plan t local l (told d).utc.s within range reached next wide h.first;
+  at = h.at;
+}
 
 -- ---- the last fire
 pub last_fire : (off : ℤ → ℤ) (plan : ℤ → Type 0) (t local l u : ℤ) → StayWithinDay off → IsInRange t → IsReachedAt off t local
@@ -83,14 +85,16 @@ pub fires_before : (off : ℤ → ℤ) (plan : ℤ → Type 0) (t u : ℤ) → I
 fires_before off plan t u range last out v inside fire come =
     let most = last.none_skipped v fire come in let until = last.not_after in out (omega (arith, ints, range, inside), omega (arith, ints, range, inside))
 
-pub last_found : {O T : Type 0} {m : Meaning O} (law : Law m) (plan : ℤ → Type 0) (t local l u : ℤ) (told : T → Zoned O) (found : Option T)
-    → StayWithinDay law.off → IsInRange t → IsReachedAt law.off t local → IsLastUntil plan local l → IsWide l → IsFirstToReach law.off l u
-    → MatchOption found (IsInRange u → ⊥) (λ d. IsInRange u × IsAt law (of_secs u 0) (told d))
+pub last_found : {O T : Type 0} {m : Meaning O} (law : Law m) (plan : ℤ → Type 0) (t local l : ℤ) (told : T → Zoned O) (found : Option T)
+    → StayWithinDay law.off → IsInRange t → IsReachedAt law.off t local → IsLastUntil plan local l → IsWide l
+    → MatchOption found (IsFirstSecondOutOfRange law.off l) (λ d. IsZonedFirst law l (told d))
     → MatchOption found (NoneFiresUntil law.off plan t) (λ d. IsZonedLastFire law plan t (told d))
-last_found law plan t local l u told None within range reached last wide first h =
-    fires_before law.off plan t u range (last_fire law.off plan t local l u within range reached last wide first) h
-last_found law plan t local l u told (Some d) within range reached last wide first h =
-    let found = last_fire law.off plan t local l u within range reached last wide first in let at = h.1.utc in grind (arith, ints)
+last_found law plan t local l told None within range reached last wide h =
+    fires_before law.off plan t h.0 range (last_fire law.off plan t local l h.0 within range reached last wide h.1) h.2
+last_found law plan t local l told (Some d) within range reached last wide h = record {
+  last = last_fire law.off plan t local l (told d).utc.s within range reached last wide h.first;
+  at = h.at;
+}
 
 -- ---- all fires between two seconds
 pub each_fires : (fire : ℤ → Type 0) (t until : ℤ) (us : List ℤ) → AreAllOf fire t until us

@@ -32,7 +32,7 @@ pub use Rattle.zoned_time.specs.Choice.{refused}
 pub use Rattle.zoned_time.specs.DateTime.{home_law_of, wall_of, zoned}
 pub use Rattle.zoned_time.specs.DayEnds.{AreStartsOfDays, HasNoEnd, IsEndOfDay, IsGapEnd, IsZonedEnd, NonePassed, first_day_of_year, first_of_month}
 pub use Rattle.zoned_time.specs.Days.{AreEndsOfDay, AreInstantsOfDay, HasReached, IsFirstInstantFrom, IsFirstOutOfRange, IsFirstToReach, IsInDay, IsInstantFrom}
-pub use Rattle.zoned_time.specs.Days.{IsNeverOnDay, IsNoDay, IsOnDay, IsZonedAtOrAfter, midnight}
+pub use Rattle.zoned_time.specs.Days.{IsFirstSecondOutOfRange, IsNeverOnDay, IsNoDay, IsOnDay, IsZonedAtOrAfter, IsZonedFirst, midnight}
 pub use Rattle.zoned_time.specs.Fields.{IsOnly, IsOnlyWhere}
 pub use Rattle.naive_plans.specs.Plans.{HasNoneAfter, HasNoneUntil, IsLastUntil, IsNextAfter}
 pub use Rattle.zoned_time.specs.Fires.{AreFires, IsFire, IsLastFire, IsNextFire, IsZonedLastFire, IsZonedNextFire, NoneFiresAfter, NoneFiresUntil, RiseFrom}

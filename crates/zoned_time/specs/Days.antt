@@ -43,6 +43,15 @@ pub record IsFirstToReach (off : ℤ → ℤ) (l u : ℤ) : Type 0 where
   pub reached : HasReached off l u
   pub first : (v : ℤ) → HasReached off l v → u ≤ℤ v
 
+-- the first second at which the clocks show the second l or a later one is out of range
+abbrev pub IsFirstSecondOutOfRange : (ℤ → ℤ) → ℤ → Type 0
+IsFirstSecondOutOfRange off l = (u : ℤ) × IsFirstToReach off l u × (IsInRange u → ⊥)
+
+-- the first second at which the clocks of a zone show the second l or a later one, as an instant of the zone
+pub record IsZonedFirst {O : Type 0} {m : Meaning O} (law : Law m) (l : ℤ) (d : Zoned O) : Type 0 where
+  pub first : IsFirstToReach law.off l d.utc.s
+  pub at : IsAt law (of_secs d.utc.s 0) d
+
 -- at the instant r, at a second at which zones have offsets, the clocks show the local time l or a later one
 pub record IsInstantFrom (off : ℤ → ℤ) (l r : Reading) : Type 0 where
   pub in_zone : IsZoneSecond r.s

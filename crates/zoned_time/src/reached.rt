@@ -30,9 +30,22 @@ pub(crate) fn reached_at<Tz: ZoneDays>(zone: &Tz, utc: NaiveDateTime) -> NaiveDa
     }
 }
 
-// How many seconds that local time is ahead of UTC. If clocks haven't been set for two days, it is the
-// offset in force: they are less than a day away from UTC.
+// How many seconds that local time is ahead of UTC: by the zone's own search, if it has one.
 fn reached_offset<Tz: ZoneDays>(zone: &Tz, utc: NaiveDateTime) -> i32
+    requires { IsInRange (reading utc).s }
+    ensures within { IsWithinDay result }
+    ensures reached { let s = (reading utc).s in
+        IsReachedAt (Tz.law zone.now).off s (s +ℤ result) }
+{
+    match zone.reached_offset(&utc) {
+        Some(offset) => offset,
+        None => offset_by_search(zone, utc),
+    }
+}
+
+// The same by the other calls of the zone. If clocks haven't been set for two days, it is the
+// offset in force: they are less than a day away from UTC.
+fn offset_by_search<Tz: ZoneDays>(zone: &Tz, utc: NaiveDateTime) -> i32
     requires { IsInRange (reading utc).s }
     ensures within { IsWithinDay result }
     ensures reached { let s = (reading utc).s in

@@ -1,8 +1,8 @@
 //! The days of a zone, and when plans fire in it.
-ghost use Rattle.std.specs.Prelude.{◌≡◌, ◌↔◌, ◌≤ℤ◌, ◌+ℤ◌, ◌-ℤ◌, pos, IsTrue, MatchOption, ℤ};
-ghost use Rattle.offset_core.specs.TimeDelta.{nanos_of};
+ghost use Rattle.std.specs.Prelude.{◌≡◌, ◌↔◌, ◌≤ℤ◌, ◌+ℤ◌, ◌-ℤ◌, pos, IfSome, IsTrue, MatchOption, ℤ};
+ghost use Rattle.offset_core.specs.{Offset.{IsWithinDay}, TimeDelta.{nanos_of}};
 ghost use Rattle.naive_base.specs.{NaiveDate.{day_of}, Stamp.{of_secs}, Year.{floor_div}};
-ghost use Rattle.naive_base.specs.{NaiveDateTime.{reading}, Range.{IsWideDay}, Weekday.{weekday_number}};
+ghost use Rattle.naive_base.specs.{NaiveDateTime.{reading}, Range.{IsInRange, IsWideDay}, Weekday.{weekday_number}};
 ghost use Rattle.naive_plans.specs.ClockSteps.{BeginsStep};
 ghost use Rattle.zoned_time.specs.Days as instants;
 ghost use Rattle.zoned_time.specs.DayEnds as ends;
@@ -53,7 +53,9 @@ pub struct OffsetStretch {
 /// A zone whose days can be found.
 ///
 /// An implementation writes [`ZoneDays::seconds_of_day`] and
-/// [`ZoneDays::first_second_at_or_after`]; the other calls mean the same in every zone.
+/// [`ZoneDays::first_second_at_or_after`]. It may replace [`ZoneDays::whole_second_at_or_after`],
+/// [`ZoneDays::reached_offset`] and [`ZoneDays::offset_stretch_at`] if the zone has a shorter way to
+/// them. It can't replace the other calls, which mean the same in every zone.
 ///
 /// A day has two meanings. [`ZoneDays::day`] answers when clocks show a date. If clocks are set
 /// back over midnight, as in St. John's on 2005-10-30 at 00:01, they show the date before again,
@@ -74,6 +76,36 @@ pub trait ZoneDays: TimeZone {
     /// or a later one.
     fn first_second_at_or_after(&self, local: &NaiveDateTime) -> i64
         ensures { instants.IsFirstToReach (Self.law self.now).off (reading local.now).s result };
+
+    /// Returns the first second at which clocks show that local time, in whole seconds, or a later one, as
+    /// an instant; `None` if it is out of the range of [`DateTime`]. Here it is found by two lookups.
+    ///
+    /// [`ZoneDays::first_at_or_after`] keeps the fraction of a second.
+    fn whole_second_at_or_after(&self, local: &NaiveDateTime) -> Option<DateTime<Self>>
+        ensures { let law = Self.law self.now in let l = (reading local.now).s in
+            MatchOption result (instants.IsFirstSecondOutOfRange law.off l)
+            (λ d. instants.IsZonedFirst law l (zoned d)) }
+    {
+        instant_at(self, self.first_second_at_or_after(local), 0)
+    }
+
+    /// Returns by how many seconds the last local time that clocks have shown up to an instant, given by
+    /// its UTC date-time, is ahead of that date-time, if the zone has a search of its own for that: here
+    /// `None`. It is the offset then, unless clocks have been set back and haven't caught up yet.
+    ///
+    /// [`ZoneDays::reached`] is the local time itself. Of a zone that returns `None` it takes one lookup if
+    /// [`ZoneDays::offset_stretch_at`] begins two days before the instant or earlier, and up to 19 more
+    /// otherwise.
+    ///
+    /// Requires: the date-time is in range.
+    fn reached_offset(&self, utc: &NaiveDateTime) -> Option<i32>
+        requires { IsInRange (reading utc.now).s }
+        ensures { let s = (reading utc.now).s in
+            IfSome result (λ o. IsWithinDay o × IsReachedAt (Self.law self.now).off s (s +ℤ o)) }
+    {
+        let _ = utc;
+        None
+    }
 
     /// Returns the offset at an instant, given by its UTC date-time, and a stretch of seconds around it at
     /// which the zone has that offset. The stretch may be a part of a longer one: here it is one second.
@@ -138,8 +170,7 @@ pub trait ZoneDays: TimeZone {
             MatchOption result (instants.IsFirstOutOfRange law.off (reading local.now))
             (λ d. instants.IsZonedAtOrAfter law (reading local.now) (zoned d)) }
     {
-        let second = self.first_second_at_or_after(local);
-        let whole = instant_at(self, second, 0)?;
+        let whole = self.whole_second_at_or_after(local)?;
         if whole.naive_local().secs_since_epoch() == local.secs_since_epoch() {
             DateTime::<Self>::from_local_opt(local, *whole.offset())
         } else {
@@ -306,7 +337,7 @@ pub trait ZoneDays: TimeZone {
             (λ d. fire_times.IsZonedNextFire law (P.planned plan.now) s (zoned d)) }
     {
         let local = plan.next_after(&self.reached(after))?;
-        instant_at(self, self.first_second_at_or_after(&local), 0)
+        self.whole_second_at_or_after(&local)
     }
 
     /// Returns the first instant after the given one, of any zone, at which a plan fires under a policy for
@@ -370,7 +401,7 @@ pub trait ZoneDays: TimeZone {
             (λ d. fire_times.IsZonedLastFire law (P.planned plan.now) s (zoned d)) }
     {
         let local = plan.last_until(&self.reached(until))?;
-        instant_at(self, self.first_second_at_or_after(&local), 0)
+        self.whole_second_at_or_after(&local)
     }
 
     /// Returns the first instant at which a plan fires that isn't before the given one, of any zone; `None`

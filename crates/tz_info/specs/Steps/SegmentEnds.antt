@@ -1,9 +1,9 @@
 -- Where segments end on the wall-clock axis, and the first one in which clocks show a local time or a later one.
-use Rattle.std.specs.Prelude.{ℕ, suc, ℤ, pos, ◌≡◌, ◌-◌, ◌<◌, ◌≤◌, ◌-ℤ◌, ◌+ℤ◌, ◌≤ℤ◌, ◌<ℤ◌, ◌↔◌, List, length, Option, None, Some, slice_get, slice_index_or}
+use Rattle.std.specs.Prelude.{ℕ, suc, ℤ, pos, ◌≡◌, ◌-◌, ◌<◌, ◌≤◌, ◌-ℤ◌, ◌+ℤ◌, ◌≤ℤ◌, ◌<ℤ◌, ◌↔◌, List, length, Option, None, Some, slice_get, slice_index_or, FitsSigned}
 use Rattle.std.specs.Int.{saturate_signed, w64}
-use Rattle.naive_base.specs.Range.{IsWide}
 use Rattle.tz_base.specs.LocalTypes.{IsUtOffset, LocalType}
 use Rattle.tz_info.specs.Steps.Segments.{begin_of, index_of}
+use Rattle.tz_info.specs.WallClocks.{Shows}
 use Rattle.tz_info.specs.declared.zone.lists.transition.Transition.{Transition}
 
 abbrev pub offset_of : Option LocalType → ℤ
@@ -21,6 +21,10 @@ pub record IsReached (types : List LocalType) (entries : List Transition) (place
   pub within : by ≤ place
   pub later : local <ℤ end_of types entries by
 
+-- the latest end of the segments before that place
+abbrev pub IsLatestEnd : List LocalType → List Transition → ℕ → ℤ → Type 0
+IsLatestEnd types entries place end = (local : ℤ) → FitsSigned w64 local → (local <ℤ end) ↔ IsReached types entries place local
+
 -- each segment ends later than the one before
 abbrev pub AreEndsRising : List LocalType → List Transition → Type 0
 AreEndsRising types entries = (k : ℕ) → 0 < k → k < length entries → end_of types entries k <ℤ end_of types entries (suc k)
@@ -28,7 +32,7 @@ AreEndsRising types entries = (k : ℕ) → 0 < k → k < length entries → end
 -- the latest end of the first segments, for each number of them
 pub record AreMaxima (types : List LocalType) (entries : List Transition) (maxima : List ℤ) : Type 0 where
   pub count : length maxima ≡ length entries
-  pub reached : (k : ℕ) (d local : ℤ) → k < length maxima → IsWide local → (local <ℤ slice_index_or maxima k d) ↔ IsReached types entries (suc k) local
+  pub reached : (k : ℕ) (d local : ℤ) → k < length maxima → FitsSigned w64 local → (local <ℤ slice_index_or maxima k d) ↔ IsReached types entries (suc k) local
 
 -- the segments' ends rise, or these are the latest ones
 abbrev pub AreEnds : List LocalType → List Transition → List ℤ → Type 0
@@ -45,3 +49,12 @@ pub record IsFirstOf (types : List LocalType) (entries : List Transition) (place
   pub listed : slice_get types (index_of entries place) ≡ Some t
   pub offset : IsUtOffset t.offset
   pub from : (u : ℤ) → (at ≤ℤ u) ↔ ((begin_of entries place ≤ℤ u) × ((local -ℤ t.offset) ≤ℤ u))
+
+-- l is the last local time that clocks show from the second `begin` to t, or a later one that they have shown before
+pub record IsReachedSince (in_force : ℤ → LocalType → Type 0) (begin t l : ℤ) : Type 0 where
+  pub at : ℤ
+  pub local_type : LocalType
+  pub not_after : at ≤ℤ t
+  pub shown : Shows in_force l at local_type
+  pub last : (m u : ℤ) (s : LocalType) → begin ≤ℤ u → u ≤ℤ t → Shows in_force m u s → m ≤ℤ l
+  pub least : (t -ℤ pos 2_147_483_648) ≤ℤ l

@@ -1,11 +1,11 @@
 //! Theorems of equality and clones: each function is empty, its contract is proved; never called.
 
 ghost use Rattle.std.specs.Prelude.{◌≡◌, ◌↔◌, IsTrue};
-ghost use Rattle.tz_info.specs.HeldChanges.{change_held, span_held};
+ghost use Rattle.tz_info.specs.HeldChanges.{change_held, second_held, span_held};
 ghost use Rattle.tz_info.specs.{ChangesLeft.{changes_left}, Rules.{Alternate as AlternateRule}, Zones.{Zone}};
 
 use crate::DayForm;
-use crate::change::{HeldChange, HeldSpan, TypedSecond};
+use crate::change::{HeldChange, HeldSecond, HeldSpan, TypedSecond};
 use crate::rule::{AlternateTime, RuleDay, TransitionRule};
 use crate::zone::ask::all_changes::Changes;
 use crate::zone::ask::differences::Difference;
@@ -78,6 +78,13 @@ pub fn held_changes<'a>(a: &HeldChange<'a>, b: &HeldChange<'a>, c: &HeldSpan<'a>
     ensures span_cloned { ⟦<HeldSpan<'a> as Clone>⟧.is_clone c.now d.now
         → span_held d.now ≡ span_held c.now }
     ensures span_infallible { ⟦<HeldSpan<'a> as Clone>⟧.is_infallible c.now }
+{}
+
+/// A clone of a second that refers to the zone's type is the same second, and does not fail.
+pub fn held_seconds<'a>(a: &HeldSecond<'a>, b: &HeldSecond<'a>)
+    ensures cloned { ⟦<HeldSecond<'a> as Clone>⟧.is_clone a.now b.now
+        → second_held b.now ≡ second_held a.now }
+    ensures infallible { ⟦<HeldSecond<'a> as Clone>⟧.is_infallible a.now }
 {}
 
 /// Seconds with their types are equal if and only if the seconds and the types are. A clone is the

@@ -5,7 +5,7 @@ ghost use Rattle.std.specs.{Int.{w64}, Prelude.{◌≡◌, ◌↔◌, ◌<ℤ◌
 ghost use Rattle.tz_base.specs.LocalTypes.{LocalType};
 ghost use Rattle.tz_info.specs.ShownSeconds.{AreEndsWithin, AreShownWithin, IsFirstAtOrAfter, IsFirstWithin};
 ghost use Rattle.tz_info.specs.{ShownSeconds.{IsNeverWithin, ShowsWithin}, Windows.{offsets, IsGreatest, IsLeast}};
-ghost use Rattle.tz_info.specs.{WallClocks.{Shows}, Zones.{TypeAt, Zone}};
+ghost use Rattle.tz_info.specs.{Reached.{IsLastReached}, WallClocks.{Shows}, Zones.{TypeAt, Zone}};
 
 use crate::zone::ask::shown_seconds::ShownSeconds;
 
@@ -61,4 +61,16 @@ pub fn first_of_stretch_law()
     ensures skipped { (z : Zone) (from until u v : ℤ) (s t : LocalType) → from ≤ℤ until
         → IsNeverWithin (TypeAt z) from until → IsFirstAtOrAfter (TypeAt z) from u s
         → IsFirstAtOrAfter (TypeAt z) until v t → u ≡ v }
+{}
+
+/// Clocks have one last local time up to a second, and none that is earlier up to a later second. The first
+/// second at or after a local time has come if and only if the local time isn't after it.
+pub fn reached_law()
+    ensures once { (z : Zone) (t l m : ℤ)
+        → IsLastReached (TypeAt z) t l → IsLastReached (TypeAt z) t m → l ≡ m }
+    ensures rises { (z : Zone) (t later l m : ℤ) → t ≤ℤ later
+        → IsLastReached (TypeAt z) t l → IsLastReached (TypeAt z) later m → l ≤ℤ m }
+    ensures adjoint { (z : Zone) (local u t m : ℤ) (s : LocalType)
+        → IsFirstAtOrAfter (TypeAt z) local u s → IsLastReached (TypeAt z) t m
+        → (u ≤ℤ t) ↔ (local ≤ℤ m) }
 {}

@@ -10,6 +10,7 @@ mod lookup;
 pub(crate) mod lookups;
 mod offset_changes;
 pub(crate) mod offset_stretch;
+mod reached;
 pub(super) mod runs;
 mod segment_search;
 pub(crate) mod shown_seconds;

@@ -184,11 +184,11 @@ impl TimeZone {
         ensures { HasGap (TypeAt self.now) local
             result.before.now result.after.now result.at }
     {
-        let _ = &self.changes;
+        let _ = (self.extremes.least, self.extremes.greatest);
         let first = self.first_at_or_after(local, &mut Probes::new());
         HeldChange {
             before: self.type_at(first.at - 1),
-            after: self.type_at(first.at),
+            after: first.local_time_type,
             at: first.at,
         }
     }

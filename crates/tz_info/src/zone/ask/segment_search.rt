@@ -4,10 +4,10 @@ ghost use Rattle.std.specs.Prelude.{◌≡◌, ◌↔◌, ◌<◌, ◌≤◌, le
 ghost use Rattle.naive_base.specs.Range.{IsWide};
 ghost use Rattle.tz_info.specs.{Counts.{HasRoom, HasRoomFor, RoseWithin}, Steps.Segments.{begin_of, index_of}};
 ghost use Rattle.tz_info.specs.{Digits.{digits}, Transitions.{NameTypes}};
-ghost use Rattle.tz_info.specs.Steps.SegmentEnds.{end_of, AreEnds, IsFirstOf, IsFirstSegment, IsReached};
+ghost use Rattle.tz_info.specs.Steps.SegmentEnds.{end_of, AreEnds, IsFirstOf, IsFirstSegment, IsLatestEnd, IsReached};
 
 use crate::answers::second_showing;
-use crate::change::TypedSecond;
+use crate::change::HeldSecond;
 use crate::timeline::Probes;
 use crate::zone::lists::starts::cut_at;
 use crate::zone::made::change_table::ChangeTable;
@@ -80,39 +80,60 @@ fn is_reached(
     requires ends { AreEnds types.now changes.now.items index.now.maxima }
     requires first { 0 < place }
     requires place { place ≤ length changes.now.items }
-    requires local { IsWide local }
     requires room { HasRoomFor 1 probes.old.reads }
     ensures reached { IsTrue result ↔ IsReached types.now changes.now.items place local }
     ensures cost { RoseWithin probes.old probes.new 1 0 }
 {
+    local < latest_end(types, changes, index, place, probes)
+}
+
+// The latest end of the segments before that place: clocks show just the earlier local times, or later ones,
+// in one of them. One probe is counted.
+#[inline(always)]
+pub(super) fn latest_end(
+    types: &[LocalTimeType],
+    changes: &ChangeTable,
+    index: &Index,
+    place: usize,
+    probes: &mut Probes,
+) -> i64
+    requires some { 0 < length types.now }
+    requires named { NameTypes (length types.now) changes.now.items }
+    requires ends { AreEnds types.now changes.now.items index.now.maxima }
+    requires first { 0 < place }
+    requires place { place ≤ length changes.now.items }
+    requires room { HasRoomFor 1 probes.old.reads }
+    ensures end { IsLatestEnd types.now changes.now.items place result }
+    ensures cost { RoseWithin probes.old probes.new 1 0 }
+{
     match index.latest_end(place, probes) {
-        Some(end) => local < end,
-        None => local < end_at(types, changes, place, probes),
+        Some(end) => end,
+        None => end_at(types, changes, place, probes),
     }
 }
 
 // The first second of the segment at that place at which clocks show the local time or a later one.
-pub(super) fn first_of(
-    types: &[LocalTimeType],
+pub(super) fn first_of<'a>(
+    types: &'a [LocalTimeType],
     changes: &ChangeTable,
     place: usize,
     local: i64,
     probes: &mut Probes,
-) -> TypedSecond
+) -> HeldSecond<'a>
     requires some { 0 < length types.now }
     requires named { NameTypes (length types.now) changes.now.items }
     requires place { place ≤ length changes.now.items }
     requires local { IsWide local }
     requires room { HasRoomFor 1 probes.old.reads }
     ensures first { IsFirstOf types.now changes.now.items place local
-        result.at result.local_time_type }
+        result.at result.local_time_type.now }
     ensures cost { RoseWithin probes.old probes.new 1 0 }
     ensures free { place ≡ 0 → probes.new ≡ probes.old }
 {
     let (index, begin) = begin_of(types, changes, place, probes);
-    let local_time_type = types[index];
+    let local_time_type = &types[index];
     let shown = second_showing(local, local_time_type.offset());
-    TypedSecond {
+    HeldSecond {
         at: later(begin, shown),
         local_time_type,
     }
@@ -121,7 +142,7 @@ pub(super) fn first_of(
 // The index of the type in force in the segment at that place, and the second at which it begins: one probe,
 // or none at the first segment.
 #[inline(always)]
-fn begin_of(
+pub(super) fn begin_of(
     types: &[LocalTimeType],
     changes: &ChangeTable,
     place: usize,

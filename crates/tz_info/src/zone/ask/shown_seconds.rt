@@ -10,7 +10,7 @@ ghost use Rattle.tz_info.specs.{ShownSeconds.{AreShownWithin, IsFirstAtOrAfter, 
 ghost use Rattle.tz_info.specs.Steps.Runs.{ArePartFrom, AreWithin, HaveOneTypeFrom, IsBeyondJumps, IsEnd, IsEndOfRun};
 
 use crate::answers::second_showing;
-use crate::change::TypedSecond;
+use crate::change::{HeldSecond, TypedSecond};
 use crate::rule::TransitionRule;
 use crate::timeline::Probes;
 use crate::zone::ask::runs::{end_by, first_of_run, last_of_run, start_by};
@@ -89,7 +89,15 @@ impl TimeZone {
         ensures { IsFirstAtOrAfter (TypeAt self.now) (reading local).s
             result.at result.local_time_type }
     {
-        self.find_first_at_or_after_counted(local, &mut Probes::new())
+        self.held_first_at_or_after(local).copied()
+    }
+
+    /// As [`TimeZone::find_first_at_or_after`], with a reference to the zone's type.
+    pub fn held_first_at_or_after(&self, local: NaiveDateTime) -> HeldSecond<'_>
+        ensures { IsFirstAtOrAfter (TypeAt self.now) (reading local).s
+            result.at result.local_time_type.now }
+    {
+        self.first_at_or_after(local.secs_since_epoch(), &mut Probes::new())
     }
 
     /// As [`TimeZone::find_first_at_or_after`], and counts the probes of the zone's transitions: at
@@ -109,14 +117,15 @@ impl TimeZone {
             (2 * digits (length self.now.transitions)) 0 }
     {
         self.first_at_or_after(local.secs_since_epoch(), probes)
+            .copied()
     }
 
     // The first second at which a clock shows that local time or a later one.
-    pub(super) fn first_at_or_after(&self, local: i64, probes: &mut Probes) -> TypedSecond
+    pub(super) fn first_at_or_after(&self, local: i64, probes: &mut Probes) -> HeldSecond<'_>
         requires local { IsWide local }
         requires room { HasRoom probes.old }
         ensures found { IsFirstAtOrAfter (TypeAt self.now) local
-            result.at result.local_time_type }
+            result.at result.local_time_type.now }
         ensures cost { RoseWithin probes.old probes.new
             (2 * digits (length self.now.transitions)) 0 }
     {
@@ -129,10 +138,11 @@ impl TimeZone {
     }
 
     // The same if clocks show less at all seconds before the last transition.
-    fn first_by_rule(&self, local: i64) -> TypedSecond
+    fn first_by_rule(&self, local: i64) -> HeldSecond<'_>
         requires local { IsWide local }
         requires less { IsTableLess self.now local }
-        ensures { IsFirstAtOrAfter (TypeAt self.now) local result.at result.local_time_type }
+        ensures { IsFirstAtOrAfter (TypeAt self.now) local
+            result.at result.local_time_type.now }
     {
         let _ = &self.changes;
         let until = self.beyond_jumps(local);
@@ -161,16 +171,19 @@ impl TimeZone {
     {
         let first = self.end_within(from, until, true)?;
         let last = self.end_within(from, until, false)?;
-        Some(ShownSeconds { first, last })
+        Some(ShownSeconds {
+            first: first.copied(),
+            last: last.copied(),
+        })
     }
 
     // The first second that shows a local time of the stretch, or the last one: goes from run to run
     // in that direction, until one has such a second.
-    fn end_within(&self, from: i64, until: i64, forward: bool) -> Option<TypedSecond>
+    fn end_within(&self, from: i64, until: i64, forward: bool) -> Option<HeldSecond<'_>>
         requires from { IsEnd from }
         requires until { IsEnd until }
         ensures { MatchOption result (IsNeverWithin (TypeAt self.now) from until)
-            (λ s. IsEndWithin forward (TypeAt self.now) from until s.at s.local_time_type) }
+            (λ s. IsEndWithin forward (TypeAt self.now) from until s.at s.local_time_type.now) }
     {
         self.end_in(self.seconds_around(from, until), from, until, forward)
     }
@@ -188,12 +201,12 @@ impl TimeZone {
     }
 
     // The same of those seconds, which have all that show such a local time.
-    fn end_in(&self, all: Interval, from: i64, until: i64, forward: bool) -> Option<TypedSecond>
+    fn end_in(&self, all: Interval, from: i64, until: i64, forward: bool) -> Option<HeldSecond<'_>>
         requires from { IsEnd from }
         requires until { IsEnd until }
         requires all { AreWithin self.now from until all.low all.high }
         ensures { MatchOption result (IsNeverWithin (TypeAt self.now) from until)
-            (λ s. IsEndWithin forward (TypeAt self.now) from until s.at s.local_time_type) }
+            (λ s. IsEndWithin forward (TypeAt self.now) from until s.at s.local_time_type.now) }
     {
         let mut left = all;
         while left.low < left.high {
@@ -201,9 +214,9 @@ impl TimeZone {
             let since = second_showing(from, local_type.offset());
             let before = second_showing(until, local_type.offset());
             if let Some(at) = run.end_between(since, before, forward) {
-                return Some(TypedSecond {
+                return Some(HeldSecond {
                     at,
-                    local_time_type: *local_type,
+                    local_time_type: local_type,
                 });
             }
             left = left.without(run, forward);

@@ -1,4 +1,4 @@
-use Rattle.zoned_time.proofs.Words.{SFits, rules, to_z-of_z, w64, zoned}
+use Rattle.zoned_time.proofs.Words.{zoned}
 use Rattle.zoned_time.proofs.FireTimes.{none_fires_until, last_found}
 use Rattle.zoned_time.proofs.zone_days.ZoneDays.last_fire.Goals as goal
 
@@ -10,8 +10,7 @@ returns-in_err-local g c =
 
 pub returns : goal.returns
 returns g c =
-    let fits : SFits w64 c.first_second_at_or_after.result = search rules in
     last_found (g.Self.TimeZone.law c.args.self.now) (g.P.Plan.planned c.args.plan.now)
-    (zoned c.args.until.now).utc.s c.reached.result.secs c.in_ok-local.local.secs
-    c.first_second_at_or_after.result (λ d. zoned d) c.instant_at.result (g.met.Self.TimeZone.within_day c.args.self.now) c.args.until.now.in_range
-    c.reached.ensures.reached c.in_ok-local.ensures c.in_ok-local.local.in_range.0 c.first_second_at_or_after.ensures (simp to_z-of_z at c.instant_at.ensures)
+    (zoned c.args.until.now).utc.s c.reached.result.secs c.in_ok-local.local.secs (λ d. zoned d) c.whole_second_at_or_after.result
+    (g.met.Self.TimeZone.within_day c.args.self.now) c.args.until.now.in_range
+    c.reached.ensures.reached c.in_ok-local.ensures c.in_ok-local.local.in_range.0 c.whole_second_at_or_after.ensures

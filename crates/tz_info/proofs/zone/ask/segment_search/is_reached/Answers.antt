@@ -1,30 +1,9 @@
-use Rattle.tz_info.proofs.Words.{SFits, arith, get_or, get_or_default, pos, rules, to_z-of_z, w64, ◌-◌, ◌∙◌, ◌≡◌}
-use Rattle.tz_info.proofs.SegmentEndLaws.{by_test, reached_latest, reached_plain}
+use Rattle.tz_info.proofs.Words.{SFits, rules, to_z-of_z, w64}
+use Rattle.tz_info.proofs.SegmentEndLaws.{by_test}
 use Rattle.tz_info.proofs.zone.ask.segment_search.is_reached.Goals as goal
 
-pub latest_end-requires-clause-place : goal.latest_end-requires-clause-place
-latest_end-requires-clause-place c = λ some. let n = (c.requires.ends.1 some).count in let w = c.requires.place in omega arith
-
-pub returns-in-Some-clause-reached : goal.returns-in-Some-clause-reached
-returns-in-Some-clause-reached c =
+pub returns-clause-reached : goal.returns-clause-reached
+returns-clause-reached c =
     let fl = c.ranges.local in
-    let fe : SFits w64 c.in-Some.end = search rules in
-    let end = rw c.in-Some.is at c.latest_end.ensures.end in
-    let n = (c.requires.ends.1 end.0).count in let some = c.requires.first in let within = c.requires.place in
-    let read : get_or c.args.index.now.maxima (c.args.place - 1) c.in-Some.end ≡ get_or c.args.index.now.maxima (c.args.place - 1) (pos 0) =
-    get_or_default c.args.index.now.maxima (c.args.place - 1) c.in-Some.end (pos 0) (omega arith) in
-    simp to_z-of_z (rw (end.1 ∙ read) (by_test _ _ (reached_latest _ _ _ _ _ (c.requires.ends.1 end.0) c.requires.first c.requires.place c.requires.local)))
-
-pub returns-in-None-clause-reached : goal.returns-in-None-clause-reached
-returns-in-None-clause-reached c =
-    let fl = c.ranges.local in
-    let fe : SFits w64 c.end_at.result = search rules in
-    simp to_z-of_z
-    (rw c.end_at.ensures.end
-    (by_test _ _ (reached_plain _ _ _ _ (c.requires.ends.0 (rw c.in-None.is at c.latest_end.ensures.end)) c.requires.first c.requires.place)))
-
-pub end_at-requires-clause-room : goal.end_at-requires-clause-room
-end_at-requires-clause-room c = rw (c.latest_end.ensures.free (rw c.in-None.is at c.latest_end.ensures.end)) c.requires.room
-
-pub returns-in-None-clause-cost : goal.returns-in-None-clause-cost
-returns-in-None-clause-cost c = rw (c.latest_end.ensures.free (rw c.in-None.is at c.latest_end.ensures.end)) at c.end_at.ensures.cost
+    let fe : SFits w64 c.latest_end.result = search rules in
+    simp to_z-of_z (by_test c.args.local c.latest_end.result (c.latest_end.ensures.end c.args.local fl))

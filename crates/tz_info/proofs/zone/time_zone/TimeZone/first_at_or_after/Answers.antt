@@ -36,7 +36,7 @@ returns-then-has_segment-clause-found c =
     let own = rw (ap (λ (z : Zone). z.rule) c.self.view_is) at (c.has_segment.ensures.0 c.if-has_segment.true) in
     let is = rw (c.deref-then-has_segment.ensures.value, ap (λ (z : Zone). z.types) c.self.view_is) at (simp to_z-of_z at c.first_of.ensures.first) in
     first_there z c.self.inside.changes.items (top_of z.rule c.self.inside.changes) c.first_reaching-place.result c.args.local reach.0 reach.1
-    c.first_of.result.at c.first_of.result.local_time_type
+    c.first_of.result.at c.first_of.result.local_time_type.now
     (valid d) limits (table_of z c.self.inside.changes (valid d) (entries d)) own c.requires.local reach.2 (first d) is
 
 pub returns-then-has_segment-clause-cost : goal.returns-then-has_segment-clause-cost

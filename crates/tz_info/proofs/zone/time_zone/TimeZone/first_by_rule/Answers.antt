@@ -18,7 +18,7 @@ returns c =
     let fu : SFits w64 c.beyond_jumps-until.result = search rules in
     let beyond = simp to_z-of_z at c.beyond_jumps-until.ensures.beyond in
     let first = simp to_z-of_z at c.in-Some.ensures in
-    first_reached c.args.self.now c.args.local c.beyond_jumps-until.result c.in-Some.first.at c.in-Some.first.local_time_type
+    first_reached c.args.self.now c.args.local c.beyond_jumps-until.result c.in-Some.first.at c.in-Some.first.local_time_type.now
     (rw (← c.self.view_is) c.self.invariant.valid) (rw (← c.self.view_is) c.self.invariant.limits) beyond first
 
 pub end_in-requires-clause-all : goal.end_in-requires-clause-all

@@ -5,4 +5,5 @@ pub returns : goal.returns
 returns c =
     let ff = c.ranges.from in
     let fu = c.ranges.until in
-    record { first = simp to_z-of_z at c.in_ok-first.ensures; last = simp to_z-of_z at c.in_ok-last.ensures }
+    rw (c.copied.ensures, c.copied-2.ensures)
+    (record { first = simp to_z-of_z at c.in_ok-first.ensures; last = simp to_z-of_z at c.in_ok-last.ensures })

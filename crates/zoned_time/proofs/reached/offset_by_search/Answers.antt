@@ -1,6 +1,6 @@
 use Rattle.zoned_time.proofs.Words.{IsWithinDay, IsZoneSecond, SFits, arith, ints, refl, rules, subst, sym, to_z-of_z, w32, w64}
 use Rattle.zoned_time.proofs.ReachedTimes.{settled}
-use Rattle.zoned_time.proofs.reached.reached_offset.Goals as goal
+use Rattle.zoned_time.proofs.reached.offset_by_search.Goals as goal
 
 pub returns-then-is_two_days_before-clause-within : goal.returns-then-is_two_days_before-clause-within
 returns-then-is_two_days_before-clause-within g c =

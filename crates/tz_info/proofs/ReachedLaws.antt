@@ -1,0 +1,295 @@
+-- The last local time that clocks have shown up to a second: from span to span, back to the seconds at which no clock shows a later one.
+use Rattle.tz_info.proofs.Words.{IsFirstAtOrAfter, IsGreatest, IsNear, IsSpanAt, IsUtOffset, IsValid, IsWide, List, LocalType, SFits, Shows, Span, Transition, TypeAt, Zone, ap, arith}
+use Rattle.tz_info.proofs.Words.{begin_of, by_lt_z, cases_lt, index_of, inl, inr, ints, least_time, length, place_at, saturate_signed, suc, top_of, ◌-◌, ◌≤◌}
+use Rattle.tz_info.proofs.Words.{offsets, pos, refl, sym, unsigned_abs, w32, w64, ℤ, ℕ, ◌+ℤ◌, ◌-ℤ◌, ◌<ℤ◌, ◌<◌, ◌↔◌, ◌≡◌, ◌≤ℤ◌}
+use Rattle.tz_info.specs.{Reached.{IsLastReached}, Steps.{Entries.{AreEntries, Entries}, SegmentEnds.{IsLatestEnd, IsReached, IsReachedSince, end_of}}, Transitions.{AreRising}}
+use Rattle.tz_info.specs.Steps.WallPieces.{IsTable}
+use Rattle.tz_info.proofs.{EntryChanges.{index_below}, LeapStarts.{saturated}, SegmentEndLaws.{begun_by, end_at, shows_less}, TableLaws.{table_of, top_least}}
+use Rattle.tz_info.proofs.SegmentLaws.{come_from, place_before, place_begin}
+use Rattle.tz_info.proofs.{ExtremeLaws.{at_most_greatest, listed_at_most}, RunLaws.{StartsBy}, SpanLaws.{since_more, until_less}, ZoneLaws.{inside_listed, type_once}}
+
+-- up to the second t clocks show the local time `reached`, and from the second `first` on later ones at most from `low` to before `begin`
+pub record IsReachedFrom (z : Zone) (first t low begin reached : ℤ) : Type 0 where
+  pub at : ℤ
+  pub local_type : LocalType
+  pub not_after : at ≤ℤ t
+  pub shown : Shows (TypeAt z) reached at local_type
+  pub last : (m u : ℤ) (s : LocalType) → first ≤ℤ u → u ≤ℤ t → Shows (TypeAt z) m u s → reached <ℤ m → (low ≤ℤ u) × (u <ℤ begin)
+  pub until : low <ℤ begin → begin ≤ℤ t
+  pub near : IsNear low
+  pub least : (t -ℤ pos 2_147_483_648) ≤ℤ reached
+
+-- in a span clocks show no later local time than at its last second
+in_span : (z : Zone) (low begin end m u : ℤ) (s : Span) (r : LocalType) → IsSpanAt (TypeAt z) end s → StartsBy s.from low begin → u ≤ℤ end → begin ≤ℤ u
+    → Shows (TypeAt z) m u r → m ≤ℤ (end +ℤ s.local_time_type.offset)
+in_span z low begin end m u s r h starts come not shows =
+    let since = (starts u).0 not in
+    let here = h.span.each u (record { fits = shows.fits; since = since.1; until = until_less s.until u end h.inside.until come }) in
+    let same = ap (λ (t : LocalType). t.offset) (type_once z u r s.local_time_type shows.type here) in
+    let there = shows.shown in omega (arith, ints, same, there, come)
+
+-- the span of the second itself
+pub at_second : (z : Zone) (first t shows low begin reached g : ℤ) (s : Span) → IsWide t → first ≤ℤ t → SFits w32 g → IsUtOffset s.local_time_type.offset
+    → IsGreatest (offsets z.types z.rule) g → IsSpanAt (TypeAt z) t s → reached ≡ t +ℤ s.local_time_type.offset → shows ≡ (reached -ℤ g) +ℤ pos 1
+    → ((u : ℤ) → (low ≤ℤ u) ↔ ((shows ≤ℤ u) × (first ≤ℤ u))) → StartsBy s.from low begin → IsReachedFrom z first t low begin reached
+at_second z first t shows low begin reached g s wide order fits offset greatest h shown is floor starts = record {
+  at = t;
+  local_type = s.local_time_type;
+  not_after = omega (arith, ints);
+  shown = record { fits = h.inside.fits; type = h.in_force_then; shown = sym shown };
+  last = λ m u r from come here later.
+      let most = at_most_greatest z u g r greatest here.type in let there = here.shown in (
+        (floor u).1 (omega (arith, ints, most, there, later, is), from),
+        by_lt_z u begin (λ less. less)
+            (λ not. let within = in_span z low begin t m u s r h starts come not here in absurd (omega (arith, ints, within, later, shown))),
+      );
+  until = λ some. by_lt_z t begin
+      (λ beyond. by_lt_z t low
+      (λ less. let k = (starts low).1 (omega (arith, ints), since_more s.from t low h.inside.since (omega (arith, ints, less))) in
+      absurd (omega (arith, ints, k, some)))
+      (λ not. let k = (starts t).1 (not, h.inside.since) in absurd (omega (arith, ints, k, beyond))))
+      (λ not. not);
+  near =
+      let above = ((floor low).0 (omega (arith, ints))).0 in
+      let near_shows : IsNear shows = (omega (arith, ints, wide, fits, offset, shown, is), omega (arith, ints, wide, fits, offset, shown, is)) in (
+        omega (arith, ints, above, near_shows),
+        by_lt_z shows t
+            (λ less. let below = (floor t).1 (omega (arith, ints), order) in omega (arith, ints, below, wide))
+            (λ more. let below = (floor shows).1 (omega (arith, ints), omega (arith, ints, more, order)) in omega (arith, ints, below, near_shows)),
+      );
+  least = omega (arith, ints, shown, offset);
+}
+
+-- the second before a span that begins after `low` is near
+pub near_before : (z : Zone) (first t low begin reached : ℤ) → IsWide t → IsReachedFrom z first t low begin reached → low <ℤ begin → IsNear (begin -ℤ pos 1)
+near_before z first t low begin reached wide h some =
+    let near = h.near in let until = h.until some in (omega (arith, ints, near, some), omega (arith, ints, wide, until))
+
+-- the span before
+pub span_before : (z : Zone) (first t low begin reached shown next new : ℤ) (s : Span) → IsReachedFrom z first t low begin reached → low <ℤ begin
+    → IsSpanAt (TypeAt z) (begin -ℤ pos 1) s → shown ≡ (begin -ℤ pos 1) +ℤ s.local_time_type.offset → StartsBy s.from low next
+    → ((u : ℤ) → (new ≤ℤ u) ↔ ((reached ≤ℤ u) × (shown ≤ℤ u))) → IsReachedFrom z first t low next new
+span_before z first t low begin reached shown next new s h some here is starts later =
+    let least = (later new).0 (omega (arith, ints)) in
+    let last : (m u : ℤ) (r : LocalType) → first ≤ℤ u → u ≤ℤ t → Shows (TypeAt z) m u r → new <ℤ m → (low ≤ℤ u) × (u <ℤ next) =
+    λ m u r from come shows more.
+    let old = h.last m u r from come shows (omega (arith, ints, least, more)) in (
+      old.0,
+      by_lt_z u next (λ less. less)
+          (λ not. let within = in_span z low next (begin -ℤ pos 1) m u s r here starts (omega (arith, ints, old)) not shows in
+          absurd (omega (arith, ints, within, least, more, is))),
+    ) in
+    let begun = (starts (begin -ℤ pos 1)).1 (omega (arith, ints, some), here.inside.since) in let until = h.until some in let old_least = h.least in
+    by_lt_z reached shown
+    (λ rise. let e : shown ≡ new = let most = (later shown).1 (omega (arith, ints, rise), omega (arith, ints)) in omega (arith, ints, most, least) in record {
+      at = begin -ℤ pos 1;
+      local_type = s.local_time_type;
+      not_after = omega (arith, ints, until);
+      shown = record { fits = here.inside.fits; type = here.in_force_then; shown = omega (arith, ints, e, is) };
+      last = last;
+      until = λ more. omega (arith, ints, begun, until);
+      near = h.near;
+      least = omega (arith, ints, old_least, least);
+    })
+    (λ not. let e : reached ≡ new = let most = (later reached).1 (omega (arith, ints), not) in omega (arith, ints, most, least) in record {
+      at = h.at;
+      local_type = h.local_type;
+      not_after = h.not_after;
+      shown = rw (← e) h.shown;
+      last = last;
+      until = λ more. omega (arith, ints, begun, until);
+      near = h.near;
+      least = omega (arith, ints, old_least, least);
+    })
+
+-- it leaves less
+pub leaves_less : (low begin next : ℤ) (s : Span) (f : ℤ → LocalType → Type 0) → low <ℤ begin → IsSpanAt f (begin -ℤ pos 1) s → StartsBy s.from low next
+    → unsigned_abs (next -ℤ low) < unsigned_abs (begin -ℤ low)
+leaves_less low begin next s f some here starts =
+    let first = (starts (begin -ℤ pos 1)).1 (omega (arith, ints, some), here.inside.since) in let least = ((starts next).0 (omega (arith, ints))).0 in
+    omega (arith, ints, first, least, some)
+
+-- and none is left
+pub all_since : (z : Zone) (first t low begin reached : ℤ) → IsReachedFrom z first t low begin reached → begin ≤ℤ low
+    → IsReachedSince (TypeAt z) first t reached
+all_since z first t low begin reached h none = record {
+  at = h.at;
+  local_type = h.local_type;
+  not_after = h.not_after;
+  shown = h.shown;
+  last = λ m u s from come shows. by_lt_z reached m (λ more. let left = h.last m u s from come shows more in absurd (omega (arith, ints, left, none))) (λ not. not);
+  least = h.least;
+}
+
+-- ---- the segments before
+-- no segment has passed, so that `first` is the least second
+pub from_least : (z : Zone) (t reached : ℤ) → IsReachedSince (TypeAt z) least_time t reached → IsLastReached (TypeAt z) t reached
+from_least z t reached h = record {
+  at = h.at;
+  local_type = h.local_type;
+  not_after = h.not_after;
+  shown = h.shown;
+  last = λ m u s come shows. let fits = shows.fits in h.last m u s (omega (arith, ints, fits)) come shows;
+}
+
+-- in those of the table no clock shows their latest end, or a later local time
+shows_before : (z : Zone) (ts : List Transition) (top k : ℕ) (t reached end g m u : ℤ) (s : LocalType) → IsTable z ts top → k ≤ length ts → k ≤ top → IsWide t
+    → SFits w32 g → IsGreatest (offsets z.types z.rule) g → IsLatestEnd z.types ts k end → (t -ℤ pos 2_147_483_648) ≤ℤ reached → u ≤ℤ t
+    → place_at ts u < k → Shows (TypeAt z) m u s → reached <ℤ m → end ≤ℤ m → ⊥
+shows_before z ts top k t reached end g m u s table within own wide fit greatest latest least come before shows more beyond =
+    let shown = shows.shown in let most = at_most_greatest z u g s greatest shows.type in
+    let near : IsNear m = (omega (arith, ints, wide, least, more), omega (arith, ints, wide, come, shown, most, fit)) in
+    let fits : SFits w64 m = omega (arith, ints, near) in
+    let none : IsReached z.types ts k m → ⊥ = λ r. let less = (latest m fits).1 r in omega (arith, ints, less, beyond) in
+    let less = shows_less z ts top k m u s table within near none shows.fits before (omega (arith, before, own)) shows.type in
+    omega (arith, ints, less, shown)
+
+-- a clock that shows no less than the last local time before their latest end
+record IsShownBy (z : Zone) (t end : ℤ) : Type 0 where
+  pub at : ℤ
+  pub local_type : LocalType
+  pub not_after : at ≤ℤ t
+  pub shows : Shows (TypeAt z) (at +ℤ local_type.offset) at local_type
+  pub least : end ≤ℤ ((at +ℤ local_type.offset) +ℤ pos 1)
+
+begins_within : (ts : List Transition) (j k : ℕ) → AreRising ts → 0 < j → j ≤ k → k ≤ length ts → begin_of ts j ≤ℤ begin_of ts k
+begins_within ts j k rising some order within = elim (cases_lt j k) [
+  | inl less ↦
+      let come = (come_from ts j (begin_of ts k) rising some (omega arith)).0 in
+      let all = place_begin ts k rising (omega arith) within in come (omega (arith, all, order))
+  | inr not ↦ let e : j ≡ k = omega arith in rw e (omega (arith, ints))
+]
+
+shown_by : (z : Zone) (e : Entries) (j k : ℕ) (t end g : ℤ) → IsValid z → AreEntries z e → SFits w32 g → IsGreatest (offsets z.types z.rule) g
+    → suc j ≤ k → k ≤ length e.items → IsWide t → begin_of e.items k ≤ℤ t
+    → (t -ℤ pos 2_147_483_648) ≤ℤ (end -ℤ pos 1) → (end -ℤ pos 1) <ℤ end_of z.types e.items (suc j) → IsShownBy z t end
+shown_by z e j k t end g valid made fit greatest inside within wide begun low later =
+    let below = index_below z e j valid made (omega (arith, inside, within)) in
+    let (s, has) = inside_listed z.types (index_of e.items j) below in
+    let most = listed_at_most z (index_of e.items j) g s greatest below has in
+    let order = begins_within e.items (suc j) k made.rising (omega arith) inside within in
+    let next : ℤ = begin_of e.items (suc j) in
+    let limit : IsNear (t +ℤ pos 2_147_483_648) = (omega (arith, ints, wide), omega (arith, ints, wide)) in
+    let ahead = (saturated (next +ℤ s.offset) (t +ℤ pos 2_147_483_648) limit).1 (omega (arith, ints, order, begun, most, fit)) in
+    let ends : (end -ℤ pos 1) <ℤ saturate_signed w64 (next +ℤ s.offset) = rw (end_at z.types e.items j s has) at later in
+    let near : IsNear (end -ℤ pos 1) = (omega (arith, ints, low, wide), omega (arith, ints, ends, ahead, limit)) in
+    let sat = saturated (next +ℤ s.offset) (end -ℤ pos 1) near in
+    let past : (end -ℤ pos 1) <ℤ (next +ℤ s.offset) = by_lt_z (end -ℤ pos 1) (next +ℤ s.offset) (λ m. m)
+    (λ m. let less = sat.1 m in absurd (omega (arith, ints, less, ends))) in
+    let near_at : IsNear (next -ℤ pos 1) = (omega (arith, ints, past, near, most, fit), omega (arith, ints, order, begun, wide)) in
+    let fits : SFits w64 (next -ℤ pos 1) = omega (arith, ints, near_at) in
+    let place = place_before e.items j made.rising (omega (arith, inside, within)) in
+    let table = table_of z e valid made in
+    let top = top_least z.rule e made.more in
+    record {
+      at = next -ℤ pos 1;
+      local_type = s;
+      not_after = omega (arith, ints, order, begun);
+      shows = record { fits = fits; type = table.in_force (next -ℤ pos 1) s near_at (omega (arith, place, top, inside, within)) (rw place has); shown = refl };
+      least = omega (arith, ints, past);
+    }
+
+-- ---- numbers
+less_still : (a l m : ℤ) → a ≤ℤ l → l <ℤ m → a <ℤ m
+less_still a l m h k = omega (arith, ints)
+
+not_less_still : (end l m : ℤ) → end ≤ℤ (l +ℤ pos 1) → l <ℤ m → end ≤ℤ m
+not_less_still end l m h k = omega (arith, ints)
+
+not_both : (a l m : ℤ) → a ≤ℤ l → l <ℤ m → m ≤ℤ a → ⊥
+not_both a l m h k n = omega (arith, ints)
+
+before_end : (a end : ℤ) → a <ℤ end → a ≤ℤ (end -ℤ pos 1)
+before_end a end h = omega (arith, ints)
+
+after_before : (end : ℤ) → end ≤ℤ ((end -ℤ pos 1) +ℤ pos 1)
+after_before end = omega (arith, ints)
+
+is_before : (end : ℤ) → (end -ℤ pos 1) <ℤ end
+is_before end = omega (arith, ints)
+
+fits_before : (t a end : ℤ) → IsWide t → (t -ℤ pos 2_147_483_648) ≤ℤ a → SFits w64 end → a <ℤ end → SFits w64 (end -ℤ pos 1)
+fits_before t a end wide least fits h = omega (arith, ints, wide)
+
+least_before : (t a end : ℤ) → (t -ℤ pos 2_147_483_648) ≤ℤ a → a <ℤ end → (t -ℤ pos 2_147_483_648) ≤ℤ (end -ℤ pos 1)
+least_before t a end least h = omega (arith, ints)
+
+both_bounds : (a end : ℤ) → a ≤ℤ (end -ℤ pos 1) → end ≤ℤ (a +ℤ pos 1) → a ≡ end -ℤ pos 1
+both_bounds a end h k = omega (arith, ints)
+
+within_by : (by k : ℕ) → 0 < by → by ≤ k → suc (by - 1) ≤ k
+within_by by k some h = omega arith
+
+next_by : (by : ℕ) → 0 < by → suc (by - 1) ≡ by
+next_by by some = omega arith
+
+-- no clock shows a later local time than one that is not before that of the segment, nor before the last one of those before it
+none_later : (z : Zone) (e : Entries) (k : ℕ) (t reached end g l m u : ℤ) (s : LocalType) → IsValid z → AreEntries z e → SFits w32 g
+    → IsGreatest (offsets z.types z.rule) g → k ≤ length e.items → IsWide t → IsReachedSince (TypeAt z) (begin_of e.items k) t reached
+    → IsLatestEnd z.types e.items k end → reached ≤ℤ l → end ≤ℤ (l +ℤ pos 1) → u ≤ℤ t → Shows (TypeAt z) m u s → m ≤ℤ l
+none_later z e k t reached end g l m u s valid made fit greatest within wide since latest low high come shows = by_lt_z l m
+    (λ more. elim (cases_lt (place_at e.items u) k) [
+      | inl before ↦
+          let top = top_least z.rule e made.more in
+          absurd (shows_before z e.items (top_of z.rule e) k t reached end g m u s (table_of z e valid made) within (omega (arith, within, top)) wide fit
+          greatest latest since.least come before shows (less_still reached l m low more) (not_less_still end l m high more))
+      | inr not ↦
+          let most = since.last m u s (begun_by e.items k u made.rising within (omega (arith, not)) shows.fits) come shows in
+          absurd (not_both reached l m low more most)
+    ])
+    (λ not. not)
+
+-- if the latest end is later than the segment's last local time, it is the one before that end
+pub at_end : (z : Zone) (e : Entries) (k : ℕ) (t reached end g : ℤ) → IsValid z → AreEntries z e → SFits w32 g → IsGreatest (offsets z.types z.rule) g
+    → k ≤ length e.items → IsWide t → begin_of e.items k ≤ℤ t → SFits w64 end → IsReachedSince (TypeAt z) (begin_of e.items k) t reached
+    → IsLatestEnd z.types e.items k end → reached <ℤ end → IsLastReached (TypeAt z) t (end -ℤ pos 1)
+at_end z e k t reached end g valid made fit greatest within wide begun fits since latest less =
+    let last : (m u : ℤ) (s : LocalType) → u ≤ℤ t → Shows (TypeAt z) m u s → m ≤ℤ (end -ℤ pos 1) =
+    λ m u s. none_later z e k t reached end g (end -ℤ pos 1) m u s valid made fit greatest within wide since latest (before_end reached end less)
+    (after_before end) in
+    let by = (latest (end -ℤ pos 1) (fits_before t reached end wide since.least fits less)).0 (is_before end) in
+    let shown = shown_by z e (by.by - 1) k t end g valid made fit greatest (within_by by.by k by.some by.within) within wide begun
+    (least_before t reached end since.least less) (rw (next_by by.by by.some) by.later) in
+    record {
+      at = shown.at;
+      local_type = shown.local_type;
+      not_after = shown.not_after;
+      shown = record {
+        fits = shown.shows.fits;
+        type = shown.shows.type;
+        shown = both_bounds _ end (last _ shown.at shown.local_type shown.not_after shown.shows) shown.least;
+      };
+      last = last;
+    }
+
+-- else it is that of the segment
+pub at_segment : (z : Zone) (e : Entries) (k : ℕ) (t reached end g : ℤ) → IsValid z → AreEntries z e → SFits w32 g → IsGreatest (offsets z.types z.rule) g
+    → k ≤ length e.items → IsWide t → IsReachedSince (TypeAt z) (begin_of e.items k) t reached → IsLatestEnd z.types e.items k end → end ≤ℤ reached
+    → IsLastReached (TypeAt z) t reached
+at_segment z e k t reached end g valid made fit greatest within wide since latest not = record {
+  at = since.at;
+  local_type = since.local_type;
+  not_after = since.not_after;
+  shown = since.shown;
+  last = λ m u s. none_later z e k t reached end g reached m u s valid made fit greatest within wide since latest (omega (arith, ints))
+      (omega (arith, ints, not));
+}
+
+-- ---- laws of the last local time
+pub reached_rises : (z : Zone) (t later l m : ℤ) → t ≤ℤ later → IsLastReached (TypeAt z) t l → IsLastReached (TypeAt z) later m → l ≤ℤ m
+reached_rises z t later l m rise h k = let come = h.not_after in k.last l h.at h.local_type (omega (arith, ints, rise, come)) h.shown
+
+pub one_reached : (z : Zone) (t l m : ℤ) → IsLastReached (TypeAt z) t l → IsLastReached (TypeAt z) t m → l ≡ m
+one_reached z t l m h k =
+    let up = reached_rises z t t l m (omega (arith, ints)) h k in let down = reached_rises z t t m l (omega (arith, ints)) k h in omega (arith, ints, up, down)
+
+pub adjoint : (z : Zone) (local u t m : ℤ) (s : LocalType) → IsFirstAtOrAfter (TypeAt z) local u s → IsLastReached (TypeAt z) t m → (u ≤ℤ t) ↔ (local ≤ℤ m)
+adjoint z local u t m s first h = (
+  λ come.
+      let most = h.last (u +ℤ s.offset) u s come (record { fits = first.shown.fits; type = first.shown.type; shown = refl }) in
+      let reached = first.shown.reached in omega (arith, ints, most, reached),
+  λ less.
+      let there = h.shown.shown in let come = h.not_after in
+      let least = first.first h.at h.local_type (record { fits = h.shown.fits; type = h.shown.type; reached = omega (arith, ints, there, less) }) in
+      omega (arith, ints, least, come),
+)
