@@ -4,7 +4,7 @@
 
 ghost use Rattle.std.specs.Prelude.{neg_ℤ, pos};
 ghost use Rattle.tz_info.specs.ShownSeconds.{AreShownWithin, IsFirstAtOrAfter, IsFirstWithin, IsLastWithin};
-ghost use Rattle.tz_info.specs.ShownSeconds.{ShowsWithin};
+ghost use Rattle.tz_info.specs.{Reached.{IsLastReached}, ShownSeconds.{ShowsWithin}};
 ghost use Rattle.tests_pins.specs.Changes.{at_epoch, cet, ends, utc};
 
 /// Set back, they show the hour from 00:00 on twice: first from -3600 on by `CET`, last at 3599 by `UTC`.
@@ -23,4 +23,11 @@ pub fn set_forward()
     ensures never { AreShownWithin (at_epoch utc cet) (pos 0) (pos 3_600) None }
     ensures reached { IsFirstAtOrAfter (at_epoch utc cet) (pos 1_800) (pos 0) cet }
     ensures later { ¬ (IsFirstAtOrAfter (at_epoch utc cet) (pos 1_800) (pos 1) cet) }
+{}
+
+/// Set back, they have shown 00:59:59 up to 100 seconds later, when they show 00:01:40 again.
+pub fn reached_after_set_back()
+    ensures reached { IsLastReached (at_epoch cet utc) (pos 100) (pos 3_599) }
+    ensures not_shown { ¬ (IsLastReached (at_epoch cet utc) (pos 100) (pos 100)) }
+    ensures not_later { ¬ (IsLastReached (at_epoch cet utc) (pos 100) (pos 3_600)) }
 {}

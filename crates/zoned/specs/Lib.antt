@@ -67,6 +67,7 @@ pub use Rattle.tz_info.specs.ChangesLeft
 pub use Rattle.tz_info.specs.Spans
 pub use Rattle.tz_info.specs.SpanSteps
 pub use Rattle.tz_info.specs.ShownSeconds
+pub use Rattle.tz_info.specs.Reached as ZoneReached
 pub use Rattle.tz_info.specs.Differences
 pub use Rattle.tz_info.specs.Windows
 pub use Rattle.tz_info.specs.Looks
