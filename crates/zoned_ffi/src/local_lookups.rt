@@ -125,8 +125,8 @@ impl Held {
         let first = from.saturating_add(i64::from(zone.greatest_offset()));
         let end = until.saturating_add(i64::from(zone.least_offset()));
         Held {
-            first: greater(first, FIRST),
-            end: lesser(end, END),
+            first: first.max(FIRST),
+            end: end.min(END),
             offset,
         }
     }
@@ -137,16 +137,4 @@ fn is_offset(offset: i32) -> bool
     ensures { IsTrue result ↔ IsUtOffset offset }
 {
     offset != NO_OFFSET
-}
-
-fn greater(a: i64, b: i64) -> i64
-    ensures { (a ≤ℤ result) × (b ≤ℤ result) }
-{
-    if a < b { b } else { a }
-}
-
-fn lesser(a: i64, b: i64) -> i64
-    ensures { (result ≤ℤ a) × (result ≤ℤ b) }
-{
-    if a < b { a } else { b }
 }

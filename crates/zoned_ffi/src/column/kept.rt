@@ -71,10 +71,10 @@ impl Kept {
             × (add ≤ℤ pos 4_611_686_018_427_387_904) }
         ensures { LieWithin from until add result }
     {
-        let first = greater(LEAST, LEAST - add as i128);
-        let last = lesser(GREATEST, GREATEST - add as i128);
-        let low = greater(from, first);
-        let high = lesser(until, last);
+        let first = LEAST.max(LEAST - add as i128);
+        let last = GREATEST.min(GREATEST - add as i128);
+        let low = from.max(first);
+        let high = until.min(last);
         if high <= low {
             return Kept {
                 low: 0,
@@ -195,8 +195,8 @@ fn local_times_in(zone: &TimeZone, unit: Unit, choice: Choice, stretch: OffsetSt
     let first = unit.counts_at(from) + greatest;
     let end = unit.counts_at(until) + least;
     Kept::between(
-        greater(first, unit.counts_at(FIRST)),
-        lesser(end, unit.counts_at(END)),
+        first.max(unit.counts_at(FIRST)),
+        end.min(unit.counts_at(END)),
         less(unit.counts_of(offset)),
     )
 }
@@ -208,16 +208,4 @@ pub fn less(counts: i64) -> i64
     ensures { result ≡ neg_ℤ counts }
 {
     -counts
-}
-
-fn greater(a: i128, b: i128) -> i128
-    ensures { (a ≤ℤ result) × (b ≤ℤ result) × ((result ≡ a) ⊎ (result ≡ b)) }
-{
-    if a < b { b } else { a }
-}
-
-fn lesser(a: i128, b: i128) -> i128
-    ensures { (result ≤ℤ a) × (result ≤ℤ b) × ((result ≡ a) ⊎ (result ≡ b)) }
-{
-    if a < b { a } else { b }
 }

@@ -11,12 +11,12 @@ returns c =
     let until : FitsSigned w64 s.until = search rules in let low : FitsSigned w32 c.least_offset.result = search rules in
     let high : FitsSigned w32 c.greatest_offset.result = search rules in let p : FitsSigned w64 c.from.result = search rules in
     let q : FitsSigned w64 c.from-2.result = search rules in let a : FitsSigned w64 c.saturating_add-first.result = search rules in
-    let b : FitsSigned w64 c.saturating_add-end.result = search rules in let g : FitsSigned w64 c.greater.result = search rules in
-    let l : FitsSigned w64 c.lesser.result = search rules in
+    let b : FitsSigned w64 c.saturating_add-end.result = search rules in let g : FitsSigned w64 c.max.result = search rules in
+    let l : FitsSigned w64 c.min.result = search rules in
     let more = simp to_z-of_z at c.from.ensures in let less = simp to_z-of_z at c.from-2.ensures in
     let first = simp to_z-of_z at c.saturating_add-first.ensures in let end = simp to_z-of_z at c.saturating_add-end.ensures in
-    let since = simp to_z-of_z at c.greater.ensures in let before = simp to_z-of_z at c.lesser.ensures in
     let told = simp to_z-of_z at c.is_offset.ensures in let bound : IsUtOffset s.offset = grind (arith, told) in
     simp to_z-of_z (held_of c.args.zone.now s c.least_offset.result c.greatest_offset.result c.saturating_add-first.result c.saturating_add-end.result
-    (record { first = c.greater.result; end = c.lesser.result; offset = s.offset }) c.requires from until c.least_offset.ensures c.greatest_offset.ensures
-    bound (rw more at first) (rw less at end) since.0 since.1 before.0 before.1 refl)
+    (record { first = c.max.result; end = c.min.result; offset = s.offset }) c.requires from until c.least_offset.ensures c.greatest_offset.ensures
+    bound (rw more at first) (rw less at end) (simp to_z-of_z at c.max.ensures.self_bound) c.max.ensures.other_bound
+    (simp to_z-of_z at c.min.ensures.self_bound) c.min.ensures.other_bound refl)
