@@ -94,20 +94,17 @@ def of_stretch(native: NativeZone, begin: Time, end: Time) -> Changes:
     """The changes from `begin` on and before `end`."""
     first, last, is_time = ends_of_stretch(begin, end)
     found = native.changes(first, last)
-    offset_before, is_dst_before, name_before = columns_of(found["before"], is_time)
-    offset_after, is_dst_after, name_after = columns_of(found["after"], is_time)
-    return Changes(
-        seconds_of(found["at"], is_time),
-        offset_before,
-        offset_after,
-        is_dst_before,
-        is_dst_after,
-        name_before,
-        name_after,
-    )
+    return Changes(seconds_of(found["at"], is_time), *_by_turns(found["before"], found["after"], is_time))
 
 
-def columns_of(types: Array, is_time: bool) -> tuple[Array, Array, Array]:
+def _by_turns(before: Array, after: Array, is_time: bool) -> list[Array]:
+    """The offsets before and after, the DST flags before and after, and the abbreviations."""
+    pairs = zip(_columns_of(before, is_time), _columns_of(after, is_time))
+    return [each for pair in pairs for each in pair]
+
+
+
+def _columns_of(types: Array, is_time: bool) -> tuple[Array, Array, Array]:
     """The offsets, DST flags and abbreviations of types; offsets are lengths of time or numbers."""
     offsets = types["offset"].astype("m8[s]" if is_time else np.int32)
     return offsets, types["is_dst"] != 0, types["abbreviation"].astype("U7")
@@ -163,18 +160,9 @@ def of_zones(old: NativeZone, new: NativeZone, from_: Time, to: Time) -> Differe
         _types_at(native, first, found, cuts) for native, found in zip((old, new), changes)
     )
     differ = before != after
-    offset_old, is_dst_old, name_old = columns_of(before[differ], is_time)
-    offset_new, is_dst_new, name_new = columns_of(after[differ], is_time)
-    return Differences(
-        seconds_of(cuts[differ], is_time),
-        seconds_of(np.append(cuts[1:], end)[differ], is_time),
-        offset_old,
-        offset_new,
-        is_dst_old,
-        is_dst_new,
-        name_old,
-        name_new,
-    )
+    until = np.append(cuts[1:], end)[differ]
+    types = _by_turns(before[differ], after[differ], is_time)
+    return Differences(seconds_of(cuts[differ], is_time), seconds_of(until, is_time), *types)
 
 
 def _types_at(native: NativeZone, first: Array, changes: Array, seconds: Array) -> Array:

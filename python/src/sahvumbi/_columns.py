@@ -17,20 +17,8 @@ import numpy as np
 
 from ._arrow import array_of, is_arrow, values_of
 from ._containers import (
-    EPOCH,
-    LENGTHS,
-    NAT,
-    PER_SECOND,
-    TIMES,
-    Array,
-    ArrayContainer,
-    ArrowContainer,
-    ArrowIndexContainer,
-    ArrowSeriesContainer,
-    DatetimeContainer,
-    IndexContainer,
-    SeriesContainer,
-    TimestampContainer,
+    EPOCH, LENGTHS, NAT, PER_SECOND, TIMES, Array, ArrayContainer, ArrowContainer, ArrowIndexContainer,
+    ArrowSeriesContainer, DatetimeContainer, IndexContainer, SeriesContainer, TimestampContainer,
 )
 from ._native import COLUMN_UNITS
 from .errors import OUT_OF_RANGE, OutOfRangeError, RowError

@@ -180,7 +180,7 @@ class IndexContainer(SeriesContainer):
         return pandas.DataFrame(columns._asdict(), index=self.of, copy=False)
 
 
-class InArrow(SeriesContainer):
+class ArrowSeriesContainer(SeriesContainer):
     """A Series or an Index of pandas that has its values in Arrow. So have its answers."""
 
     length_unit = "s"
@@ -198,11 +198,7 @@ class InArrow(SeriesContainer):
         return self.plain(_arrow.to_pandas(_arrow.of_lengths(values)))
 
 
-class ArrowSeriesContainer(InArrow):
-    """A Series of an ArrowDtype."""
-
-
-class ArrowIndexContainer(InArrow, IndexContainer):
+class ArrowIndexContainer(ArrowSeriesContainer, IndexContainer):
     """An Index of an ArrowDtype."""
 
 

@@ -185,8 +185,8 @@ def _units_of(column: Column, step: PartOfSecond) -> int:
     return max(units, 1)
 
 
-class Asked:
-    """What is asked of days. If a block has more rows than the column spans days, all these days are asked once."""
+class DayTable:
+    """The answers to a question about days. It is asked once about each day that the column spans if a block has more rows."""
 
     def __init__(self, column: Column, ask: Callable[[Array], Array]):
         self.ask = ask
@@ -201,10 +201,10 @@ class Asked:
         places = days - self.first
         if int(places.min()) < 0 or int(places.max()) >= self.count:
             return self.ask(days)
-        return self.listed.take(places)
+        return self.answers.take(places)
 
     @cached_property
-    def listed(self) -> Array:
+    def answers(self) -> Array:
         return self.ask(np.arange(self.first, self.first + self.count))
 
 
@@ -213,7 +213,7 @@ class Beginnings:
 
     def __init__(self, native: NativeZone, column: Column):
         self.native = native
-        self.of = Asked(column, self.looked_up).of
+        self.of = DayTable(column, self.looked_up).of
 
     def looked_up(self, days: Array) -> Array:
         """Returns the first second of each day, or `NONE` if that is outside the calendar."""
@@ -248,8 +248,8 @@ class Periods:
     def __init__(self, native: NativeZone, column: Column, step: Union[DayCount, MonthCount]):
         self.beginnings, self.is_day = Beginnings(native, column), step == DayCount(1)
         looked_up = self.beginnings.looked_up
-        self.first = Asked(column, lambda days: looked_up(step.first_day(days)))
-        self.following = Asked(column, lambda days: looked_up(step.next_first(step.first_day(days))))
+        self.first = DayTable(column, lambda days: looked_up(step.first_day(days)))
+        self.following = DayTable(column, lambda days: looked_up(step.next_first(step.first_day(days))))
 
     def begun(self, seconds: Array) -> Array:
         """Returns the first second of the step that each second lies in."""

@@ -132,15 +132,8 @@ CALLS: dict[str, list[Any]] = {
 }
 #: Calls about one value, with the types of what they take. Callers pass these types themselves.
 BRIEF_CALLS: dict[str, list[Any]] = {
-    "zoned_zone_day": [*_ZONE, c_int64, c_void_p],
-    "zoned_zone_first_at_or_after": [*_ZONE, c_int64, c_void_p],
-    "zoned_zone_local_change": [*_ZONE, c_int64, c_void_p],
-    "zoned_zone_offset": [*_ZONE, c_int64, c_void_p],
-    "zoned_zone_reached": [*_ZONE, c_int64, c_void_p],
-    "zoned_zone_span": [*_ZONE, c_int64, c_void_p],
-    "zoned_zone_standard_offset": [*_ZONE, c_int64, c_void_p],
-    "zoned_zone_type": [*_ZONE, c_int64, c_void_p],
-    "zoned_zone_wall_clock": [*_ZONE, c_int64, c_void_p],
+    f"zoned_zone_{name}": [*_ZONE, c_int64, c_void_p]
+    for name in "day first_at_or_after local_change offset reached span standard_offset type wall_clock".split()
 }
 
 PATH = Path(__file__).with_name("libzoned_ffi.so")

@@ -10,19 +10,8 @@ from ._choice import Choice, Fault
 from ._columns import BLOCK, FIRST_SECOND, LAST_SECOND, NO_ROWS, Block, Column
 from ._containers import NAT, Array
 from ._library import (
-    FOLD_EARLIEST,
-    FOLD_LATEST,
-    FOLD_REFUSE,
-    GAP_END,
-    GAP_REFUSE,
-    GAP_SHIFT_BACKWARD,
-    GAP_SHIFT_FORWARD,
-    IN_FOLD,
-    IN_GAP,
-    NEVER,
-    ONCE,
-    OUT_OF_RANGE,
-    SEVERAL_TIMES,
+    FOLD_EARLIEST, FOLD_LATEST, FOLD_REFUSE, GAP_END, GAP_REFUSE, GAP_SHIFT_BACKWARD, GAP_SHIFT_FORWARD, IN_FOLD,
+    IN_GAP, NEVER, ONCE, OUT_OF_RANGE, SEVERAL_TIMES,
 )
 from ._native import NativeZone
 from .errors import FOLD, GAP, WORDS, FoldError

@@ -16,20 +16,8 @@ import numpy as np
 
 from . import _library as library
 from ._library import (
-    BRIEF,
-    CHANGE,
-    IN_FOLD,
-    IN_GAP,
-    INSTANT_OUT_OF_RANGE,
-    LIBRARY,
-    LOCAL_TYPE,
-    NO_CHANGE,
-    NO_LOCAL_TIME,
-    NO_OFFSET,
-    RESOLVED,
-    SPAN,
-    WALL_CLOCK,
-    WIDE_ZONE,
+    BRIEF, CHANGE, IN_FOLD, IN_GAP, INSTANT_OUT_OF_RANGE, LIBRARY, LOCAL_TYPE, NO_CHANGE, NO_LOCAL_TIME, NO_OFFSET,
+    RESOLVED, SPAN, WALL_CLOCK, WIDE_ZONE,
 )
 from .errors import ZoneRefusedError
 

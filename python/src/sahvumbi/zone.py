@@ -15,19 +15,7 @@ from ._changes import Changes, Differences, Time, of_stretch, of_zones
 from ._choice import chosen, must_have_no_others
 from ._columns import taken, taken_days
 from ._containers import (
-    Array,
-    Failures,
-    Fold,
-    Gap,
-    Labelled,
-    Labels,
-    LocalTypes,
-    Moment,
-    Rows,
-    Single,
-    Spans,
-    Times,
-    WallClocks,
+    Array, Failures, Fold, Gap, Labelled, Labels, LocalTypes, Moment, Rows, Single, Spans, Times, WallClocks,
 )
 from ._days import Days, Step
 from ._library import EXTENDED_STRING, FILE, TEXT
