@@ -180,6 +180,7 @@ shown_found_last {T = T} law plan t q from until k u told found within range pas
         (λ v _ early. let low = last.not_before in omega (arith, ints, early, low))
         (λ v come late. let before = stretch.before in absurd (omega (arith, ints, come, late, before)))
         (λ v wide planned come _. last.greatest v wide planned come)
+
     given : (found : Option T) → MatchOption found (IsInRange u → ⊥) (λ d. IsInRange u × IsAt law (of_secs u 0) (told d))
         → MatchOption found (NoneUntil (IsShownFire law.off plan) t) (λ d. IsZonedLastOf law (IsShownFire law.off plan) t (told d))
     given None out = λ v inside it come.
