@@ -3,6 +3,7 @@
 
 mod items;
 pub mod laws;
+mod plan;
 mod series;
 mod series_error;
 

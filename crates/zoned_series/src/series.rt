@@ -18,11 +18,12 @@ use zoned_time::{DateTime, TimeZone};
 ///
 /// Two days can have the same instant. Clocks in Apia skipped 2011-12-30: with
 /// `GapChoice::ShiftForward`, 12:00 on that day is 2011-12-31 12:00:00 +14:00, as it is on the next one.
+/// The series is a [`Plan`](naive_plans::Plan) too, and as a plan it fires at no instant twice.
 #[derive(Clone, Copy)]
 pub struct DailySeries<Tz> {
     zone: Tz,
-    first: NaiveDate,
-    time: NaiveTime,
+    pub(crate) first: NaiveDate,
+    pub(crate) time: NaiveTime,
     choice: Choice,
 }
 

@@ -1,0 +1,7 @@
+use Rattle.std.proofs.Common.{arith, unsigned_abs, ◌-ℤ◌}
+use Rattle.std.proofs.lemmas.Int.{ints}
+use Rattle.zoned_series.proofs.laws.plans.Goals as goal
+
+pub returns-clause-no_others : goal.returns-clause-no_others
+returns-clause-no_others g c = λ s day second planned.
+    let from = planned.from in (unsigned_abs (day -ℤ s.first), omega (arith, ints, from), planned.at)
