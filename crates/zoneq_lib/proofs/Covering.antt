@@ -5,7 +5,10 @@ use Rattle.zoneq_lib.proofs.CitedWords.{Wall, Zone, append-nil, append_assoc, ar
 use Rattle.zoneq_lib.proofs.CitedWords.{length-append, posix_zone_valid, refl, shown_refusal, shown_type, shown_wall, subst, sym, type_decided, wall_decided, ℕ}
 use Rattle.zoneq_lib.proofs.{CitedWords.{◌++◌, ◌<◌, ◌∷◌, ◌≢◌, []}, Joining.{answered_join, answers_all}, LineLaws.{asks_or_bad, resolved_in_range}}
 use Rattle.zoneq_lib.proofs.Showing.{resolve_covered, show_covered}
+use Rattle.zoneq_lib.proofs.CitedWords.{error_number, text_fault_or_zone}
+use Rattle.tz_base.proofs.Decided.{either}
 use Rattle.tz_base.specs.declared.error.Error.TheVariants as errors
+use Rattle.tz_info.proofs.PosixLaws.{posix_law}
 
 -- the zone, if there is one, is valid, and the numbers of its rule are in their limits
 abbrev pub IsGiven : Option Zone → Type 0
@@ -15,8 +18,9 @@ IsGiven (Some zone) = IsValid zone × IsRuleOrNone zone.rule
 pub line_gives : (z : Option Zone) (line answer : List ℕ) (after : Option Zone) → IsGiven z → AnswersLine z line answer after → IsGiven after
 line_gives z line answer after given (inl (Text text, asks, inl found)) = subst IsGiven (sym found.3) (posix_zone_valid text found.0 found.1)
 line_gives z line answer after given (inl (Text text, asks, inr refused)) = subst IsGiven (sym refused.3) given
-line_gives z line answer after given (inl (Data bytes, asks, inl found)) = subst IsGiven (sym found.3) (found.1.1, file_rule_fits bytes found.0 found.1.0)
-line_gives z line answer after given (inl (Data bytes, asks, inr refused)) = subst IsGiven (sym refused.3) given
+line_gives z line answer after given (inl (Data bytes, asks, inl (inl found))) = subst IsGiven (sym found.3) (found.1.1, file_rule_fits bytes found.0 found.1.0)
+line_gives z line answer after given (inl (Data bytes, asks, inl (inr refused))) = subst IsGiven (sym refused.3) given
+line_gives z line answer after given (inl (Data bytes, asks, inr without)) = subst IsGiven (sym without.1) given
 line_gives z line answer after given (inl (At seconds, asks, told)) = subst IsGiven (sym told.1) given
 line_gives z line answer after given (inl (Wall local, asks, told)) = subst IsGiven (sym told.1) given
 line_gives z line answer after given (inl (Resolve l choice, asks, told)) = subst IsGiven (sym told.1) given
@@ -30,8 +34,14 @@ lines_give z (line ∷ lines) output after given h = lines_give h.1 lines h.2 af
 
 -- each line has an answer that leaves the zone
 query_covered : (z : Option Zone) (line : List ℕ) (query : Query) → IsGiven z → Asks line query → (answer : List ℕ) × AnswersLine z line answer z
-query_covered z line (Text text) given asks = (shown_refusal 17, inl (Text text, asks, inr (errors.OutOfMemory, inl refl, refl, refl)))
-query_covered z line (Data bytes) given asks = (shown_refusal 17, inl (Data bytes, asks, inr (errors.OutOfMemory, inl refl, refl, refl)))
+query_covered z line (Text text) given asks = elim (either (posix_law text)) [
+  | inl found ↦ (shown_refusal 17, inl (Text text, asks, inr (errors.OutOfMemory, inl (refl, found), refl, refl)))
+  | inr refused ↦ (
+    shown_refusal (error_number refused.0),
+    inl (Text text, asks, inr (refused.0, inr (refused.1, λ found. text_fault_or_zone text refused.0 found refused.1), refl, refl)),
+  )
+]
+query_covered z line (Data bytes) given asks = (shown_refusal 17, inl (Data bytes, asks, inr (refl, refl)))
 query_covered None line (At seconds) given asks = (codes "no zone", inl (At seconds, asks, (refl, refl)))
 query_covered None line (Wall local) given asks = (codes "no zone", inl (Wall local, asks, (refl, refl)))
 query_covered None line (Resolve l choice) given asks = (codes "no zone", inl (Resolve l choice, asks, (refl, refl)))

@@ -11,6 +11,7 @@ use Rattle.naive_base.specs.Text.{reading_text}
 use Rattle.tz_base.specs.Errors.{error_number, IsOutOfMemory}
 use Rattle.tz_base.specs.LocalTypes.{LocalType}
 use Rattle.tz_base.specs.declared.error.Error.{Error}
+use Rattle.tz_info.specs.FilePieces.{FilePieces, HasPieces}
 use Rattle.tz_info.specs.PosixZones.{IsPosixZone, IsPosixFault}
 use Rattle.tz_info.specs.TzFiles.{IsTzFile, IsFileFault}
 use Rattle.tz_info.specs.WallClocks.{Shows}
@@ -62,21 +63,26 @@ shown_zone zone =
 abbrev pub shown_refusal : ℕ → List ℕ
 shown_refusal number = codes "refused " ++ decimal number
 
--- a zone is read, which is the zone from here on; or an error is returned by its number, and the earlier zone stays: memory ran
--- out, or the error is the first fault of what was to be read, and then no zone is spelled there
-abbrev pub AnswersRead : (Zone → Type 0) → (Error → Type 0) → Option Zone → List ℕ → Option Zone → Type 0
-AnswersRead is_zone is_fault zone answer after =
+-- a zone is read, which is the zone from here on; or an error is returned by its number, and the earlier zone stays: the first fault of
+-- what was to be read, and then no zone is spelled there; or memory ran out, which can only be if all that the zone is made of is there
+abbrev pub AnswersRead : (Zone → Type 0) → (Error → Type 0) → Type 0 → Option Zone → List ℕ → Option Zone → Type 0
+AnswersRead is_zone is_fault is_there zone answer after =
     ((found : Zone) × is_zone found × (answer ≡ shown_zone found) × (after ≡ Some found))
-    ⊎ ((e : Error) × (IsOutOfMemory e ⊎ (is_fault e × ((found : Zone) → ¬ (is_zone found)))) × (answer ≡ shown_refusal (error_number e))
+    ⊎ ((e : Error) × ((IsOutOfMemory e × is_there) ⊎ (is_fault e × ((found : Zone) → ¬ (is_zone found)))) × (answer ≡ shown_refusal (error_number e))
     × (after ≡ zone))
 
 -- a TZ string is read
 abbrev pub AnswersText : Option Zone → List ℕ → List ℕ → Option Zone → Type 0
-AnswersText zone text answer after = AnswersRead (IsPosixZone text) (IsPosixFault text) zone answer after
+AnswersText zone text answer after = AnswersRead (IsPosixZone text) (IsPosixFault text) ((z : Zone) × IsPosixZone text z) zone answer after
 
--- the bytes of a file are read
+-- a file is read
+abbrev pub AnswersFile : Option Zone → List ℕ → List ℕ → Option Zone → Type 0
+AnswersFile zone bytes answer after =
+    AnswersRead (λ found. IsTzFile bytes found × IsValid found) (IsFileFault bytes) ((p : FilePieces) × HasPieces bytes p) zone answer after
+
+-- the file is read whose bytes the line spells, or there was no memory for these bytes
 abbrev pub AnswersData : Option Zone → List ℕ → List ℕ → Option Zone → Type 0
-AnswersData zone bytes answer after = AnswersRead (λ found. IsTzFile bytes found × IsValid found) (IsFileFault bytes) zone answer after
+AnswersData zone bytes answer after = AnswersFile zone bytes answer after ⊎ ((answer ≡ shown_refusal 17) × (after ≡ zone))
 
 -- the type in force at that second, or the refusal of the second
 abbrev pub AnswersAt : Option Zone → ℤ → List ℕ → Type 0

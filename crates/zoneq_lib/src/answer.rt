@@ -1,13 +1,12 @@
 //! The answer to a line.
 
-ghost use Rattle.std.specs.Prelude.{◌≡◌, ◌⊎◌, ◌++◌, ◌∷◌, [], codes, string_bytes, IfErr, IfOk, IfSome, List};
+ghost use Rattle.std.specs.Prelude.{◌≡◌, ◌++◌, ◌∷◌, [], codes, string_bytes, IfSome, List};
 ghost use Rattle.std.specs.Prelude.{MatchResult, OnOk, Some, ℕ};
 ghost use Rattle.naive_base.specs.{NaiveDateTime.{reading}, Text.{reading_text}};
-ghost use Rattle.tz_base.specs.Errors.{error_number, IsOutOfMemory};
-ghost use Rattle.tz_info.specs.{TzFiles.{IsFileFault, IsTzFile}, Zones.{IsValid}};
+ghost use Rattle.tz_base.specs.Errors.{error_number};
 ghost use Rattle.zoned_time.specs.{DateTime.{zoned}, Zoned.{local_of}};
 ghost use Rattle.zoneq_lib.specs.Answers.{shown_refusal, shown_type, shown_wall, shown_zone, AnswersAt, AnswersData};
-ghost use Rattle.zoneq_lib.specs.Answers.{AnswersLine, AnswersResolve, AnswersShow, AnswersText, AnswersWall};
+ghost use Rattle.zoneq_lib.specs.Answers.{AnswersFile, AnswersLine, AnswersResolve, AnswersShow, AnswersText, AnswersWall};
 ghost use Rattle.zoneq_lib.specs.Hex.{bytes_of};
 
 use crate::question::Question;
@@ -34,7 +33,7 @@ pub fn answer(
     out.clear();
     match Question::parse(line) {
         Some(Question::Text(text)) => take_text(alloc, zone, text, out),
-        Some(Question::Data(digits)) => take_file(alloc, zone, digits, out),
+        Some(Question::Data(digits)) => take_data(alloc, zone, digits, out),
         Some(Question::At(seconds)) => tell_type(zone, seconds, out),
         Some(Question::Wall(local)) => tell_types(zone, local, out),
         Some(Question::Resolve(local, choice)) => tell_resolved(zone, local, choice, out),
@@ -63,7 +62,7 @@ fn take_text(
 
 // Reads the file whose bytes hex digits spell.
 #[inline(never)]
-fn take_file(
+fn take_data(
     alloc: Global,
     zone: &mut Option<TimeZone>,
     digits: &[u8],
@@ -73,19 +72,25 @@ fn take_file(
         × (string_bytes out.new ≡ string_bytes out.old ++ (answer ++ 10 ∷ []))
         × AnswersData zone.old (bytes_of digits.now) answer zone.new) }
 {
-    set_zone(zone, read_file(alloc, digits), out)
+    match hex::decode(alloc, digits) {
+        Ok(bytes) => take_file(alloc, zone, bytes.as_slice(), out),
+        // A line whose digits spell no bytes asks nothing, so memory ran out.
+        Err(_) => set_zone(zone, Err(Error::OutOfMemory), out),
+    }
 }
 
-// The zone of the file whose bytes hex digits spell.
-fn read_file(alloc: Global, digits: &[u8]) -> Result<TimeZone, Error>
-    ensures found { IfOk result (λ z. IsTzFile (bytes_of digits.now) z × IsValid z) }
-    ensures fault { IfErr result (λ e. IsOutOfMemory e ⊎ IsFileFault (bytes_of digits.now) e) }
+// Reads a file.
+fn take_file(
+    alloc: Global,
+    zone: &mut Option<TimeZone>,
+    bytes: &[u8],
+    out: &mut String,
+) -> Result<(), AllocError>
+    ensures { OnOk result ((answer : List ℕ)
+        × (string_bytes out.new ≡ string_bytes out.old ++ (answer ++ 10 ∷ []))
+        × AnswersFile zone.old bytes.now answer zone.new) }
 {
-    match hex::decode(alloc, digits) {
-        Ok(bytes) => TimeZone::from_tz_data(alloc, bytes.as_slice()),
-        // A line whose digits spell no bytes asks nothing, so memory ran out.
-        Err(_) => Err(Error::OutOfMemory),
-    }
+    set_zone(zone, TimeZone::from_tz_data(alloc, bytes), out)
 }
 
 // Takes the zone that was read, if there is one.

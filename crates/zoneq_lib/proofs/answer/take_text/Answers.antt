@@ -8,5 +8,5 @@ returns c =
       set.0,
       set.1,
       text_answered c.args.zone.now c.args.text.now c.from_posix_tz.result set.0 c.set_zone.new.zone c.from_posix_tz.ensures.found
-          c.from_posix_tz.ensures.fault set.2,
+          c.from_posix_tz.ensures.fault c.from_posix_tz.ensures.memory set.2,
     )) c.set_zone.ensures
