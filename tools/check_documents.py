@@ -219,10 +219,11 @@ def planted_bugs():
 
 
 def definitions(text):
-    """The blocks of a page of proofs: each name with its text, from its signature to the next one."""
+    """The blocks of a page of proofs: each name with its text, from its signature to the next one; a module without a name has "_"."""
     starts = [*re.finditer(rf"(?m)^(?:(?:pub|abbrev|unfoldable|opaque|data|record) )*({NAME}) : ", text)]
     starts += [*re.finditer(rf"(?m)^(?:(?:pub|unfoldable|opaque) )*(?:data|record) ({NAME})", text)]
     starts += [*re.finditer(rf"(?m)^(?:pub )?ruleset ({NAME}) =\s", text)]
+    starts += [*re.finditer(r"(?m)^module (_) ", text)]
     starts = sorted({start.start(): start for start in starts}.values(), key=lambda start: start.start())
     for start, after in zip(starts, [*starts[1:], None]):
         yield start[1], start.start(), text[start.start() : after.start() if after else len(text)]
@@ -253,7 +254,7 @@ def unused_lemmas():
         text = without_comments(text_of(path), "--")
         blocks = list(definitions(text))
         for name, place, block in blocks:
-            if (module, name) in taken or any(is_named_in(name, other) for at, _, other in with_places(blocks) if at != place):
+            if name == "_" or (module, name) in taken or any(is_named_in(name, other) for at, _, other in with_places(blocks) if at != place):
                 continue
             if any(is_named_in(f"{here}.{name}", other) for here, other in whole.get(module, [])):
                 continue

@@ -1,10 +1,11 @@
 #!/usr/bin/env python3
 """Makes the files of a release from what the gate has proved and built, and tries each of them in a folder of its own.
 
-usage: tools/release.py [--proof FILE] [--root ROOT] LOG FOLDER
+usage: tools/release.py [--proof FILE] [--root ROOT] [--earlier LOG] .. LOG FOLDER
 
-LOG is the output of a whole `.ci/run --anew` or `rt ci --anew` in this checkout, which kept no proof of an earlier run. All planted bugs
-and wrong definitions must have a record (`tools/records.py`). In FOLDER it makes
+LOG is the output of a whole `.ci/run` or `rt ci` of this commit, in which all passed. A crate that it took from an earlier run on this
+machine, which proved the same files over the same libraries, needs that run's output too: `--earlier`, which may be given several
+times. All planted bugs and wrong definitions must have a record (`tools/records.py`). In FOLDER it makes
 
 - libzoned-VERSION-linux-x86_64.tar.xz: the C library, both programs, man pages and examples; and one for 64-bit ARM, without the
   programs, if Debian's gcc-aarch64-linux-gnu is installed;
@@ -96,14 +97,10 @@ def checksum(crate):
     return digest.hexdigest()
 
 
-def record(log):
-    """What the run of the gate proved. Ends the script if it didn't prove everything."""
-    text = log.read_text(errors="replace")
-    passed = re.findall(r"(?m)^(\d+) passed, (\d+) failed$", text)
-    if not passed or passed[-1][1] != "0":
-        sys.exit(f"{log} isn't the output of a run in which all passed")
+def proofs_in(log):
+    """What that run proved: for each crate the verdict, the number of functions, and after how many minutes."""
     found, last, count = {}, None, None
-    for line in text.splitlines():
+    for line in log.read_text(errors="replace").splitlines():
         proved = re.match(r"logic=proved functions=(\d+) ", line)
         named = re.match(r"rt: (\w+) proved$", line)
         after = re.match(r"\(after (\d+) minutes\)$", line)
@@ -114,9 +111,21 @@ def record(log):
             found[named[1]] = last
         elif after and last:
             last["minutes"] = int(after[1])
+    return found
+
+
+def record(log, earlier):
+    """What the run proved, or kept of the earlier ones. Ends the script if that isn't everything."""
+    text = log.read_text(errors="replace")
+    passed = re.findall(r"(?m)^(\d+) passed, (\d+) failed$", text)
+    if not passed or passed[-1][1] != "0":
+        sys.exit(f"{log} isn't the output of a run in which all passed")
+    before = {crate: proof for other in earlier for crate, proof in proofs_in(other).items()}
+    kept = {crate: before[crate] for crate in re.findall(r"(?m)^rt: (\w+) is kept: .* proved the same files", text) if crate in before}
+    found = kept | proofs_in(log)
     missing = [crate for crate in crates() if crate not in found]
     if missing:
-        sys.exit(f"{log} has no proof of {', '.join(missing)}: an earlier run's may have been kept, which --anew proves again")
+        sys.exit(f"{log} has no proof of {', '.join(missing)}: pass the output of the run that proved it with --earlier, or run the gate with --anew")
     kit, logic = re.fullmatch(r"(\S+) logic (\S+)", run("rt", "version").strip()).groups()
     return {
         "version": version(),
@@ -360,10 +369,11 @@ def main():
     parser = argparse.ArgumentParser(description=__doc__, formatter_class=argparse.RawDescriptionHelpFormatter)
     parser.add_argument("--proof", type=Path, metavar="FILE")
     parser.add_argument("--root", type=Path)
+    parser.add_argument("--earlier", type=Path, metavar="LOG", action="append", default=[])
     parser.add_argument("log", type=Path)
     parser.add_argument("folder", type=Path, nargs="?")
     asked = parser.parse_args()
-    proof = written(record(asked.log))
+    proof = written(record(asked.log, asked.earlier))
     if asked.proof:
         asked.proof.write_text(proof)
         return

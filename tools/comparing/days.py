@@ -3,8 +3,9 @@ seconds, once for all files with the same bytes.
 
 `zoned_zone_first_at_or_after` of the static library returns the first second at which clocks show midnight or a later local time. It
 must be the one that zoneinfo's offsets give: in order, the first stretch of one offset that has a second at which the local time is
-midnight or later. It also counts the days that don't start at midnight, are empty, or don't have 24 hours. It needs gcc, and takes
-some minutes.
+midnight or later. It also counts the days that don't start at midnight, are empty, or don't have 24 hours. `zoned_zone_reached` must be
+the greatest local time of the seconds so far, by the same stretches: at seconds around each change of the offset and in the day after
+it. It needs gcc, and takes some minutes.
 """
 
 import ctypes
@@ -74,10 +75,21 @@ def starts(found, midnights, last):
         yield second, second + offset
 
 
+def last_shown(found, last):
+    """The last local time shown so far, at the first and the last seconds of each stretch and at some after clocks are set."""
+    latest = -(1 << 63)
+    for (begin, offset), (end, _) in zip(found, [*found[1:], (last, None)]):
+        for second in sorted({begin, begin + 1, begin + 1_799, begin + 3_600, begin + 7_200, begin + DAY, end - 1}):
+            if begin <= second < end:
+                yield second, max(latest, second + offset)
+        latest = max(latest, end - 1 + offset)
+
+
 def main(folder=FOLDER, archive=ARCHIVE):
     counts, seen = Counter(), set()
     with tempfile.TemporaryDirectory() as made:
-        library = loaded(archive, made, {"zoned_zone_first_at_or_after": [c_int64, POINTER(Resolved)]})
+        asked = {"zoned_zone_first_at_or_after": [c_int64, POINTER(Resolved)], "zoned_zone_reached": [c_int64, POINTER(c_int64)]}
+        library = loaded(archive, made, asked)
         # A week wider, so that no midnight lies outside.
         midnights = range(FIRST, LAST + 1, DAY)
         for name, content in tzif_files(folder):
@@ -101,6 +113,13 @@ def main(folder=FOLDER, archive=ARCHIVE):
                     counts["of no second"] += second == before
                     counts["not of 24 hours"] += second - before != DAY
                 before = second
+            shown = c_int64()
+            for second, local in last_shown(found, LAST + 7 * DAY):
+                number = library.zoned_zone_reached(handle_at, second, byref(shown))
+                if second >= FIRST and (number, shown.value) != (OK, local):
+                    counts["wrong"] += 1
+                    print(f"{name}: {second}: {number} {shown.value}, zoneinfo {local}")
+                counts["last local times"] += second >= FIRST
             counts["days"] += len(midnights) - 1
             counts["zones"] += 1
             library.zoned_close(handle_at)

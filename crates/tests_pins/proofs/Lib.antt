@@ -17,6 +17,7 @@ pub mod ChangeDays
 pub mod WrittenPins
 pub mod SetDays
 pub mod SetFires
+pub mod SetMoves
 pub mod SetPolicies
 pub mod SetSteps
 pub mod SetTypes

@@ -2,8 +2,8 @@
 use Rattle.std.specs.Prelude.{slice_index_or}
 use Rattle.naive_plans.specs.declared.rule.NthWeekday.{NthWeekday}
 use Rattle.naive_plans.specs.RecurrenceRules.{Counts, IsEntry, ListsWeekday}
-use Rattle.tests_pins.proofs.Words.{IsDate, List, arith, date_only, day_number, day_of_month, day_of_year, day_of_year_is, days_of_months, ints, is_leap, length}
-use Rattle.tests_pins.proofs.Words.{month_of, pos, refl, year_of, ℕ, ℤ, ◌*◌, ◌+ℤ◌, ◌+◌, ◌-◌, ◌<◌, ◌≡◌}
+use Rattle.tests_pins.proofs.Words.{IsDate, List, arith, date_only, day_number, day_of_month, day_of_year, day_of_year_is, days_of_months, ints, is_leap}
+use Rattle.tests_pins.proofs.Words.{length, month_of, pos, refl, year_of, ℕ, ℤ, ◌*◌, ◌+ℤ◌, ◌+◌, ◌-◌, ◌<◌, ◌≡◌}
 
 -- the date of a day, and how many days of its year come before it
 pub record IsDated (day y : ℤ) (m d place : ℕ) : Type 0 where

@@ -23,6 +23,7 @@ pub mod instants;
 pub mod kept_zones;
 pub mod leap_seconds;
 pub mod looks;
+pub mod moves;
 pub mod odd;
 pub mod plans;
 pub mod policies;

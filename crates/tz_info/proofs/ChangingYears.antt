@@ -248,27 +248,31 @@ by_key a year =
     ∙ sym (changing_alike (starts_of a) (ends_of a) (are_calm (starts_of a) (ends_of a)) (get_or key_years (year_key year) (pos 0)) year
     (own_key (year_key year) below))
 
--- ---- rules that never change the clocks
--- at each second between two of the rule's years some type is in force
-typed_between : (a : Alternate) (u v w : ℤ) (s t : LocalType) → IsAlternateRule a → AlternateAt a u s → AlternateAt a v t → u ≤ℤ w → w ≤ℤ v
-    → (r : LocalType) × AlternateAt a w r
-typed_between a u v w s t rule h k low high =
-    let first = rule_second a u s h in let last = rule_second a v t k in
-    let year = year_of (floor_div w 86_400) in
-    let of_second = lies_in (floor_div w 86_400) in
-    let inside = rule_year w year of_second (omega (arith, ints), omega (arith, ints)) in
-    (_, own_type a year w rule of_second inside)
+-- ---- from one second to another, if clocks don't change between them
+-- at each second of the rule's years some type is in force
+typed : (a : Alternate) (u : ℤ) → IsAlternateRule a → IsRuleTime u → (t : LocalType) × AlternateAt a u t
+typed a u rule time =
+    let year = year_of (floor_div u 86_400) in
+    let of_second = lies_in (floor_div u 86_400) in
+    (_, own_type a year u rule of_second (rule_year u year of_second time))
 
-up_to : (a : Alternate) (u v : ℤ) (s t : LocalType) → IsAlternateRule a → HasNoChange (AlternateAt a) (λ w. Unit {0}) → AlternateAt a u s → AlternateAt a v t
-    → u ≤ℤ v → s ≡ t
-up_to a u v s t rule none h k le =
-    let first = rule_second a u s h in let last = rule_second a v t k in
-    alternate_once a v s t (stays (AlternateAt a) u v s (omega (arith, ints, first)) (omega (arith, ints, last)) le (λ d is i. none d is tt)
-    (λ w low high. typed_between a u v w s t rule h k low high) h) k
+-- the type stays
+pub still : (a : Alternate) (u v : ℤ) (t : LocalType) → IsAlternateRule a → HasNoChange (AlternateAt a) (λ w. (u <ℤ w) × (w ≤ℤ v)) → AlternateAt a u t
+    → IsRuleTime v → u ≤ℤ v → AlternateAt a v t
+still a u v t rule none h last le =
+    let first = rule_second a u t h in
+    stays (AlternateAt a) u v t (omega (arith, ints, first)) (omega (arith, ints, last)) le none
+    (λ w low high. typed a w rule (omega (arith, ints, first, low), omega (arith, ints, last, high))) h
 
+pub unchanged : (a : Alternate) (u v : ℤ) (s t : LocalType) → IsAlternateRule a → HasNoChange (AlternateAt a) (λ w. (u <ℤ w) × (w ≤ℤ v)) → AlternateAt a u s
+    → AlternateAt a v t → u ≤ℤ v → s ≡ t
+unchanged a u v s t rule none h k le = alternate_once a v s t (still a u v s rule none h (rule_second a v t k) le) k
+
+-- a rule that never changes the clocks has one type
 steady : (a : Alternate) → IsAlternateRule a → HasNoChange (AlternateAt a) (λ w. Unit {0}) → NeverChanges a
 steady a rule none u v s t h k =
-    by_lt_z v u (λ l. sym (up_to a v u t s rule none k h (omega (arith, ints)))) (λ m. up_to a u v s t rule none h k m)
+    by_lt_z v u (λ l. sym (unchanged a v u t s rule (λ d is i. none d is tt) k h (omega (arith, ints))))
+    (λ m. unchanged a u v s t rule (λ d is i. none d is tt) h k m)
 
 none_of_all : (keys : List Bool) (k : ℕ) → list_any (λ b. b) keys ≡ false → get_or keys k false ≡ false
 none_of_all keys k none = elim (cases_Bool (get_or keys k false)) [

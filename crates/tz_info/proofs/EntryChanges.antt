@@ -155,14 +155,26 @@ digits_one : digits 1 ≡ 1
 unfolding digits
 digits_one = refl
 
-pub rose_less : (a b : Counts) (m n k : ℕ) → RoseWithin a b m k → m ≤ n → RoseWithin a b n k
-rose_less a b m n k rose less = let most = rose.reads_most in record {
+pub rose_less : (a b : Counts) (m n p q : ℕ) → RoseWithin a b m p → m ≤ n → p ≤ q → RoseWithin a b n q
+rose_less a b m n p q rose less fewer = let most = rose.reads_most in let asked = rose.questions_most in record {
   reads_kept = rose.reads_kept;
   reads_most = omega arith;
   questions_kept = rose.questions_kept;
-  questions_most = rose.questions_most;
+  questions_most = omega arith;
   pieces_same = rose.pieces_same;
 }
+
+pub rose_then : (a b c : Counts) (m n p q : ℕ) → RoseWithin a b m p → RoseWithin b c n q → RoseWithin a c (m + n) (p + q)
+rose_then a b c m n p q one two =
+    let k1 = one.reads_kept in let k2 = two.reads_kept in let m1 = one.reads_most in let m2 = two.reads_most in
+    let l1 = one.questions_kept in let l2 = two.questions_kept in let q1 = one.questions_most in let q2 = two.questions_most in
+    record {
+      reads_kept = omega arith;
+      reads_most = omega arith;
+      questions_kept = omega arith;
+      questions_most = omega arith;
+      pieces_same = two.pieces_same ∙ one.pieces_same;
+    }
 
 pub looks_most : (m n : ℕ) → 0 < n → m ≤ n → most_looks m ≤ digits n
 looks_most zero n some h = let k = digits-more 1 n some in let e = digits_one in omega arith

@@ -59,6 +59,8 @@ pub mod SpanSearch
 pub mod SpanStepLaws
 pub mod RunLaws
 pub mod ShownSecondLaws
+pub mod RuleReached
+pub mod RuleSegments
 pub mod ReachedLaws
 pub mod DifferenceLaws
 pub mod PosixZoneLaws

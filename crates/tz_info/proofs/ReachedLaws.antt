@@ -1,125 +1,39 @@
--- The last local time that clocks have shown up to a second: from span to span, back to the seconds at which no clock shows a later one.
-use Rattle.tz_info.proofs.Words.{IsFirstAtOrAfter, IsGreatest, IsNear, IsSpanAt, IsUtOffset, IsValid, IsWide, List, LocalType, SFits, Shows, Span, Transition, TypeAt, Zone, ap, arith}
-use Rattle.tz_info.proofs.Words.{begin_of, by_lt_z, cases_lt, index_of, inl, inr, ints, least_time, length, place_at, saturate_signed, suc, top_of, ◌-◌, ◌≤◌}
-use Rattle.tz_info.proofs.Words.{offsets, pos, refl, sym, unsigned_abs, w32, w64, ℤ, ℕ, ◌+ℤ◌, ◌-ℤ◌, ◌<ℤ◌, ◌<◌, ◌↔◌, ◌≡◌, ◌≤ℤ◌}
-use Rattle.tz_info.specs.{Reached.{IsLastReached}, Steps.{Entries.{AreEntries, Entries}, SegmentEnds.{IsLatestEnd, IsReached, IsReachedSince, end_of}}, Transitions.{AreRising}}
-use Rattle.tz_info.specs.Steps.WallPieces.{IsTable}
-use Rattle.tz_info.proofs.{EntryChanges.{index_below}, LeapStarts.{saturated}, SegmentEndLaws.{begun_by, end_at, shows_less}, TableLaws.{table_of, top_least}}
-use Rattle.tz_info.proofs.SegmentLaws.{come_from, place_before, place_begin}
-use Rattle.tz_info.proofs.{ExtremeLaws.{at_most_greatest, listed_at_most}, RunLaws.{StartsBy}, SpanLaws.{since_more, until_less}, ZoneLaws.{inside_listed, type_once}}
+-- The last local time that clocks have shown up to a second: that of the segment that it lies in, or of the segments before.
+use Rattle.tz_info.proofs.Words.{HasType, IsFirstAtOrAfter, IsGreatest, IsNear, IsUtOffset, IsValid, IsWide, List, LocalType, SFits, Shows, Transition}
+use Rattle.tz_info.proofs.Words.{TypeAt, Zone, ap, arith, begin_of, by_lt_z, cases_lt, index_of, inl, inr, ints, least_time, length, place_at}
+use Rattle.tz_info.proofs.Words.{saturate_signed, suc, top_of, ◌-◌, ◌≤◌, offsets, pos, refl, sym, w32}
+use Rattle.tz_info.proofs.Words.{w64, ℤ, ℕ, ◌+ℤ◌, ◌-ℤ◌, ◌<ℤ◌, ◌<◌, ◌↔◌, ◌≡◌, ◌≤ℤ◌}
+use Rattle.tz_info.specs.{Reached.{IsLastReached}, Transitions.{AreRising}}
+use Rattle.tz_info.specs.Steps.{Entries.{AreEntries, Entries}, SegmentEnds.{IsLatestEnd, IsReached, end_of}, Since.{IsReachedSince}, WallPieces.{IsTable}}
+use Rattle.tz_info.proofs.{EntryChanges.{index_below}, LeapStarts.{saturated}, TableLaws.{table_of, top_least}}
+use Rattle.tz_info.proofs.SegmentEndLaws.{begun_by, come_by, end_at, shows_less}
+use Rattle.tz_info.proofs.SegmentLaws.{come_from, place_before, place_begin, place_most, places_rise}
+use Rattle.tz_info.proofs.WallSegments.{type_there}
+use Rattle.tz_info.proofs.{ExtremeLaws.{at_most_greatest, listed_at_most}, ZoneLaws.{inside_listed}}
 
--- up to the second t clocks show the local time `reached`, and from the second `first` on later ones at most from `low` to before `begin`
-pub record IsReachedFrom (z : Zone) (first t low begin reached : ℤ) : Type 0 where
-  pub at : ℤ
-  pub local_type : LocalType
-  pub not_after : at ≤ℤ t
-  pub shown : Shows (TypeAt z) reached at local_type
-  pub last : (m u : ℤ) (s : LocalType) → first ≤ℤ u → u ≤ℤ t → Shows (TypeAt z) m u s → reached <ℤ m → (low ≤ℤ u) × (u <ℤ begin)
-  pub until : low <ℤ begin → begin ≤ℤ t
-  pub near : IsNear low
-  pub least : (t -ℤ pos 2_147_483_648) ≤ℤ reached
-
--- in a span clocks show no later local time than at its last second
-in_span : (z : Zone) (low begin end m u : ℤ) (s : Span) (r : LocalType) → IsSpanAt (TypeAt z) end s → StartsBy s.from low begin → u ≤ℤ end → begin ≤ℤ u
-    → Shows (TypeAt z) m u r → m ≤ℤ (end +ℤ s.local_time_type.offset)
-in_span z low begin end m u s r h starts come not shows =
-    let since = (starts u).0 not in
-    let here = h.span.each u (record { fits = shows.fits; since = since.1; until = until_less s.until u end h.inside.until come }) in
-    let same = ap (λ (t : LocalType). t.offset) (type_once z u r s.local_time_type shows.type here) in
-    let there = shows.shown in omega (arith, ints, same, there, come)
-
--- the span of the second itself
-pub at_second : (z : Zone) (first t shows low begin reached g : ℤ) (s : Span) → IsWide t → first ≤ℤ t → SFits w32 g → IsUtOffset s.local_time_type.offset
-    → IsGreatest (offsets z.types z.rule) g → IsSpanAt (TypeAt z) t s → reached ≡ t +ℤ s.local_time_type.offset → shows ≡ (reached -ℤ g) +ℤ pos 1
-    → ((u : ℤ) → (low ≤ℤ u) ↔ ((shows ≤ℤ u) × (first ≤ℤ u))) → StartsBy s.from low begin → IsReachedFrom z first t low begin reached
-at_second z first t shows low begin reached g s wide order fits offset greatest h shown is floor starts = record {
-  at = t;
-  local_type = s.local_time_type;
-  not_after = omega (arith, ints);
-  shown = record { fits = h.inside.fits; type = h.in_force_then; shown = sym shown };
-  last = λ m u r from come here later.
-      let most = at_most_greatest z u g r greatest here.type in let there = here.shown in (
-        (floor u).1 (omega (arith, ints, most, there, later, is), from),
-        by_lt_z u begin (λ less. less)
-            (λ not. let within = in_span z low begin t m u s r h starts come not here in absurd (omega (arith, ints, within, later, shown))),
-      );
-  until = λ some. by_lt_z t begin
-      (λ beyond. by_lt_z t low
-      (λ less. let k = (starts low).1 (omega (arith, ints), since_more s.from t low h.inside.since (omega (arith, ints, less))) in
-      absurd (omega (arith, ints, k, some)))
-      (λ not. let k = (starts t).1 (not, h.inside.since) in absurd (omega (arith, ints, k, beyond))))
-      (λ not. not);
-  near =
-      let above = ((floor low).0 (omega (arith, ints))).0 in
-      let near_shows : IsNear shows = (omega (arith, ints, wide, fits, offset, shown, is), omega (arith, ints, wide, fits, offset, shown, is)) in (
-        omega (arith, ints, above, near_shows),
-        by_lt_z shows t
-            (λ less. let below = (floor t).1 (omega (arith, ints), order) in omega (arith, ints, below, wide))
-            (λ more. let below = (floor shows).1 (omega (arith, ints), omega (arith, ints, more, order)) in omega (arith, ints, below, near_shows)),
-      );
-  least = omega (arith, ints, shown, offset);
-}
-
--- the second before a span that begins after `low` is near
-pub near_before : (z : Zone) (first t low begin reached : ℤ) → IsWide t → IsReachedFrom z first t low begin reached → low <ℤ begin → IsNear (begin -ℤ pos 1)
-near_before z first t low begin reached wide h some =
-    let near = h.near in let until = h.until some in (omega (arith, ints, near, some), omega (arith, ints, wide, until))
-
--- the span before
-pub span_before : (z : Zone) (first t low begin reached shown next new : ℤ) (s : Span) → IsReachedFrom z first t low begin reached → low <ℤ begin
-    → IsSpanAt (TypeAt z) (begin -ℤ pos 1) s → shown ≡ (begin -ℤ pos 1) +ℤ s.local_time_type.offset → StartsBy s.from low next
-    → ((u : ℤ) → (new ≤ℤ u) ↔ ((reached ≤ℤ u) × (shown ≤ℤ u))) → IsReachedFrom z first t low next new
-span_before z first t low begin reached shown next new s h some here is starts later =
-    let least = (later new).0 (omega (arith, ints)) in
-    let last : (m u : ℤ) (r : LocalType) → first ≤ℤ u → u ≤ℤ t → Shows (TypeAt z) m u r → new <ℤ m → (low ≤ℤ u) × (u <ℤ next) =
-    λ m u r from come shows more.
-    let old = h.last m u r from come shows (omega (arith, ints, least, more)) in (
-      old.0,
-      by_lt_z u next (λ less. less)
-          (λ not. let within = in_span z low next (begin -ℤ pos 1) m u s r here starts (omega (arith, ints, old)) not shows in
-          absurd (omega (arith, ints, within, least, more, is))),
-    ) in
-    let begun = (starts (begin -ℤ pos 1)).1 (omega (arith, ints, some), here.inside.since) in let until = h.until some in let old_least = h.least in
-    by_lt_z reached shown
-    (λ rise. let e : shown ≡ new = let most = (later shown).1 (omega (arith, ints, rise), omega (arith, ints)) in omega (arith, ints, most, least) in record {
-      at = begin -ℤ pos 1;
-      local_type = s.local_time_type;
-      not_after = omega (arith, ints, until);
-      shown = record { fits = here.inside.fits; type = here.in_force_then; shown = omega (arith, ints, e, is) };
-      last = last;
-      until = λ more. omega (arith, ints, begun, until);
-      near = h.near;
-      least = omega (arith, ints, old_least, least);
-    })
-    (λ not. let e : reached ≡ new = let most = (later reached).1 (omega (arith, ints), not) in omega (arith, ints, most, least) in record {
-      at = h.at;
-      local_type = h.local_type;
-      not_after = h.not_after;
-      shown = rw (← e) h.shown;
-      last = last;
-      until = λ more. omega (arith, ints, begun, until);
-      near = h.near;
-      least = omega (arith, ints, old_least, least);
-    })
-
--- it leaves less
-pub leaves_less : (low begin next : ℤ) (s : Span) (f : ℤ → LocalType → Type 0) → low <ℤ begin → IsSpanAt f (begin -ℤ pos 1) s → StartsBy s.from low next
-    → unsigned_abs (next -ℤ low) < unsigned_abs (begin -ℤ low)
-leaves_less low begin next s f some here starts =
-    let first = (starts (begin -ℤ pos 1)).1 (omega (arith, ints, some), here.inside.since) in let least = ((starts next).0 (omega (arith, ints))).0 in
-    omega (arith, ints, first, least, some)
-
--- and none is left
-pub all_since : (z : Zone) (first t low begin reached : ℤ) → IsReachedFrom z first t low begin reached → begin ≤ℤ low
-    → IsReachedSince (TypeAt z) first t reached
-all_since z first t low begin reached h none = record {
-  at = h.at;
-  local_type = h.local_type;
-  not_after = h.not_after;
-  shown = h.shown;
-  last = λ m u s from come shows. by_lt_z reached m (λ more. let left = h.last m u s from come shows more in absurd (omega (arith, ints, left, none))) (λ not. not);
-  least = h.least;
-}
+-- ---- the segment of the table in which the second lies
+pub reached_in : (z : Zone) (e : Entries) (k : ℕ) (t l : ℤ) (s : LocalType) → IsValid z → AreEntries z e → place_at e.items t ≡ k → k < top_of z.rule e
+    → HasType z (index_of e.items k) s → IsWide t → IsUtOffset s.offset → l ≡ t +ℤ s.offset → IsReachedSince (TypeAt z) (begin_of e.items k) t l
+reached_in z e k t l s valid made place own has wide offset is =
+    let table = table_of z e valid made in
+    let most = place_most e.items t made.rising in
+    let within : k ≤ length e.items = omega (arith, place, most) in
+    let fits : SFits w64 t = omega (arith, ints, wide) in
+    let near : IsNear t = (omega (arith, ints, wide), omega (arith, ints, wide)) in
+    record {
+      at = t;
+      local_type = s;
+      near = near;
+      from = begun_by e.items k t made.rising within (omega (arith, place)) fits;
+      not_after = omega (arith, ints);
+      shown = record { fits = fits; type = table.in_force t s near (omega (arith, place, own)) (rw place has); shown = sym is };
+      last = λ m u r from come shows.
+          let low = come_by e.items k u made.rising within from in
+          let high = places_rise e.items u t made.rising come in
+          let same = type_there z e.items (top_of z.rule e) k u r s table own shows.fits has (omega (arith, low, high, place)) shows.type in
+          let o = ap (λ (x : LocalType). x.offset) same in let shown = shows.shown in omega (arith, ints, o, shown, come, is);
+      least = omega (arith, ints, is, offset);
+    }
 
 -- ---- the segments before
 -- no segment has passed, so that `first` is the least second

@@ -1,22 +1,18 @@
 -- The first second at which clocks show a local time or a later one: that of the first segment that ends later.
-use Rattle.tz_info.proofs.Words.{AreRising, Counts, IsFirstAtOrAfter, IsTrue, IsNear, IsRuleOrNone, IsTable, IsTableLess, IsUtOffset, IsValid, IsWide}
-use Rattle.tz_info.proofs.Words.{IsWindowOf, List, LocalType, Option, RoseWithin, SFits, Some, None}
-use Rattle.tz_info.proofs.Words.{Transition, TransitionRule, TypeAt, Zone, AreWithin, IsBegunNear, ap, arith, begin_of, by_lt_z, cases_lt, get_or}
+use Rattle.tz_info.proofs.Words.{AreRising, IsFirstAtOrAfter, IsTrue, IsNear, IsRuleOrNone, IsTable, IsUtOffset, IsValid, IsWide}
+use Rattle.tz_info.proofs.Words.{IsWindowOf, List, LocalType, SFits, Some}
+use Rattle.tz_info.proofs.Words.{Transition, TypeAt, Zone, ap, arith, begin_of, by_lt_z, cases_lt, get_or}
 use Rattle.tz_info.proofs.Words.{get_or_append_left, get_or_push, index_of, inl, inr, int_lt, ints, lt_is, lt_true, least_time, length, length_push}
-use Rattle.tz_info.proofs.Words.{place_at, pos, refl, rises, saturate_signed, segment_of, slice_get, suc, table_count, top_of, w64, zero, ℕ, ℤ, ◌+ℤ◌, ◌++◌, ◌∷◌}
+use Rattle.tz_info.proofs.Words.{place_at, pos, refl, rises, saturate_signed, slice_get, suc, w64, zero, ℕ, ℤ, ◌+ℤ◌, ◌++◌, ◌∷◌}
 use Rattle.tz_info.proofs.Words.{[]}
 use Rattle.tz_info.proofs.Words.{◌-ℤ◌, ◌-◌, ◌<ℤ◌, ◌<◌, ◌↔◌, ◌∙◌, ◌≡◌, ◌≤ℤ◌, ◌≤◌, ◌⊎◌}
-use Rattle.tz_info.proofs.Words.{All-contains, All-push, AreJoinedByRule, Contains, Extremes, IsTypeOf, RuleOrElse, rule_offsets, table_count_by}
-use Rattle.tz_info.specs.declared.rule.transition_rule.TransitionRule.TheVariants.{Alternate, Fixed}
-use Rattle.tz_info.specs.Steps.Entries.{AreEntries, Entries}
-use Rattle.tz_info.specs.Steps.Runs.{ArePartFrom}
 use Rattle.tz_info.specs.Steps.SegmentEnds.{AreEndsRising, AreMaxima, IsFirstOf, IsFirstSegment, IsReached, end_of}
-use Rattle.tz_info.proofs.{ExtremeLaws.{at_least_least, rule_among}, GapLaws.{near_type}, LeapStarts.{saturated}, TableLaws.{same_table, time_then}}
-use Rattle.tz_info.proofs.SegmentLaws.{begin_first, begins_rise, come_from, place_most, places_rise, segment_most, type_from}
+use Rattle.tz_info.proofs.{ExtremeLaws.{at_least_least}, GapLaws.{near_type}, LeapStarts.{saturated}}
+use Rattle.tz_info.proofs.SegmentLaws.{begin_first, begins_rise, come_from, place_most, places_rise}
 use Rattle.tz_info.proofs.WallSegments.{near_of, type_there}
 
 -- ---- ends
-near_wide : (l : ℤ) → IsWide l → IsNear l
+pub near_wide : (l : ℤ) → IsWide l → IsNear l
 near_wide l wide = let a = wide.0 in let b = wide.1 in (omega (arith, ints), omega (arith, ints))
 
 pub end_at : (types : List LocalType) (ts : List Transition) (j : ℕ) (t : LocalType) → slice_get types (index_of ts j) ≡ Some t
@@ -103,12 +99,12 @@ pub begun_by : (ts : List Transition) (k : ℕ) (v : ℤ) → AreRising ts → k
 begun_by ts zero v rising within come fits = rw (begin_first ts) (omega (arith, ints))
 begun_by ts (suc k) v rising within come fits = (come_from ts (suc k) v rising (omega arith) within).0 come
 
-come_by : (ts : List Transition) (k : ℕ) (v : ℤ) → AreRising ts → k ≤ length ts → begin_of ts k ≤ℤ v → k ≤ place_at ts v
+pub come_by : (ts : List Transition) (k : ℕ) (v : ℤ) → AreRising ts → k ≤ length ts → begin_of ts k ≤ℤ v → k ≤ place_at ts v
 come_by ts zero v rising within begun = omega arith
 come_by ts (suc k) v rising within begun = (come_from ts (suc k) v rising (omega arith) within).1 begun
 
 -- a near second shows the local time or a later one, so that the segment has begun by then
-begun_near : (z : Zone) (ts : List Transition) (top k : ℕ) (l low high : ℤ) → IsValid z → IsRuleOrNone z.rule → IsTable z ts top → k < top
+pub begun_near : (z : Zone) (ts : List Transition) (top k : ℕ) (l low high : ℤ) → IsValid z → IsRuleOrNone z.rule → IsTable z ts top → k ≤ top
     → IsWide l → IsWindowOf z l l low high
     → IsFirstSegment z.types ts l k → begin_of ts k ≤ℤ pos 10_000_000_000_000
 begun_near z ts top k l low high valid limits table own wide reach first =
@@ -146,7 +142,7 @@ pub first_there : (z : Zone) (ts : List Transition) (top k : ℕ) (l low high at
 first_there z ts top k l low high at t valid limits table own wide reach first is =
     let near = near_of l t.offset wide is.offset in let a = near.0 in let b = near.1 in
     let (since, from) = (is.from at).0 (omega (arith, ints)) in
-    let begun = begun_near z ts top k l low high valid limits table own wide reach first in
+    let begun = begun_near z ts top k l low high valid limits table (omega (arith, own)) wide reach first in
     let most : at ≤ℤ pos 10_000_000_000_000 = (is.from (pos 10_000_000_000_000)).1 (begun, omega (arith, ints)) in
     let near_at : IsNear at = (omega (arith, ints), omega (arith, ints)) in
     let fits : SFits w64 at = omega (arith, ints) in
@@ -174,66 +170,6 @@ first_there z ts top k l low high at t valid limits table own wide reach first i
           ])
           (λ m. m);
     }
-
--- in all segments of the table clocks show less
-pub table_less : (z : Zone) (e : Entries) (l : ℤ) (k : ℕ) → IsValid z → AreEntries z e → IsTable z e.items (top_of z.rule e) → IsWide l
-    → IsFirstSegment z.types e.items l k → top_of z.rule e ≤ k → IsTableLess z l
-table_less z e l k valid made table wide first all = λ u t near inside here.
-    let a = near.0 in let b = near.1 in
-    let fits : SFits w64 u = omega (arith, ints) in
-    let own = (same_table z e u valid made fits (time_then z u t here)).0 inside in
-    shows_less z e.items (top_of z.rule e) k l u t table first.within (near_wide l wide) first.before fits (omega arith) own here
-
-all_behind : (rule : Option TransitionRule) (e : Entries) (q : ℕ) → q ≤ length e.items → length e.items ≤ e.all → top_of rule e ≤ q → q ≡ e.all
-all_behind (Some rule) e q few more h = omega arith
-all_behind None e q few more h = absurd (omega arith)
-
-by_rule_there : (rule : Option TransitionRule) (other : Type 0) (n p : ℕ) (u : ℤ) (t : LocalType) → p ≤ n → table_count_by rule n ≤ p
-    → (p ≡ n → RuleOrElse rule u other t) → IsTypeOf rule u t
-by_rule_there (Some rule) other n p u t most h there = there (omega arith)
-by_rule_there None other n p u t most h there = absurd (omega arith)
-
--- and so what shows it lies from the second on from which the rule is asked, and from which its types may show it
-pub rule_within : (z : Zone) (e : Entries) (l until s shown from low high start end : ℤ) → IsValid z → AreEntries z e → IsBegunNear e s → IsTableLess z l
-    → ((o : ℤ) → Contains (rule_offsets z.rule) o → shown ≤ℤ (l -ℤ o)) → ((u : ℤ) → (from ≤ℤ u) ↔ ((s ≤ℤ u) × (shown ≤ℤ u))) → AreWithin z l until low high
-    → ArePartFrom low high from start end
-    → AreWithin z l until start end
-rule_within z e l until s shown from low high start end valid made begun less by_offsets later all part =
-    let is = part.until in
-    record {
-      near_low = part.near all.near_low all.near_high;
-      near_high = rw is all.near_high;
-      within = λ u t h.
-          let (since, before) = all.within u t h in
-          let near_low = all.near_low in let near_high = all.near_high in
-          let a = near_low.0 in let b = near_high.1 in
-          let near : IsNear u = (omega (arith, ints), omega (arith, ints)) in
-          let reached = h.since in
-          let same = same_table z e u valid made h.fits (time_then z u t h.type) in
-          elim (cases_lt (segment_of z u) (table_count z)) [
-            | inl inside ↦ let k = less u t near inside h.type in absurd (omega (arith, ints))
-            | inr beyond ↦
-                let most = place_most e.items u made.rising in
-                let top : top_of z.rule e ≤ place_at e.items u =
-                elim (cases_lt (place_at e.items u) (top_of z.rule e)) [ inl own ↦ let c = same.1 own in absurd (omega arith) | inr m ↦ m ] in
-                let come = (begun u near).0 (all_behind z.rule e (place_at e.items u) most made.more top) in
-                let typed = by_rule_there z.rule _ (length z.transitions) (segment_of z u) u t (segment_most z u valid.transitions.rising) beyond
-                (λ here. type_from z u t valid.transitions.rising (record { type = h.type; segment = here })) in
-                let shows = by_offsets t.offset (rule_among z.rule u t typed) in
-                (part.from u since before ((later u).1 (come, omega (arith, ints))), rw is before)
-          ];
-    }
-
--- the greatest offset of the rule's types
-pub greatest_by_rule : (rule : TransitionRule) (old new : Extremes) (o : ℤ) → AreJoinedByRule old rule new
-    → Contains (rule_offsets (Some rule)) o → o ≤ℤ new.greatest
-greatest_by_rule (Fixed t) old new o j c =
-    All-contains (λ x. x ≤ℤ new.greatest) (t.offset ∷ []) o (All-push (λ x. x ≤ℤ new.greatest) [] t.offset (λ k d l. absurd (omega arith)) j.most_here) c
-greatest_by_rule (Alternate a) old new o (one, f, g) c =
-    let std : a.std.offset ≤ℤ new.greatest = let h = f.most_here in let m = g.most in omega (arith, ints) in
-    let first = All-push (λ x. x ≤ℤ new.greatest) [] a.std.offset (λ k d l. absurd (omega arith)) std in
-    All-contains (λ x. x ≤ℤ new.greatest) (a.std.offset ∷ a.dst.offset ∷ []) o
-    (All-push (λ x. x ≤ℤ new.greatest) (a.std.offset ∷ []) a.dst.offset first g.most_here) c
 
 -- ---- making the latest ends
 -- those of the first segments
@@ -281,13 +217,3 @@ all_maxima types ts k maxima latest e made = record {
 }
 
 -- ---- the count of looks
-pub rose_more : (a b : Counts) (m n : ℕ) → m ≤ n → RoseWithin a b m 0 → RoseWithin a b n 0
-rose_more a b m n h r = let most = r.reads_most in
-    record {
-      reads_kept = r.reads_kept;
-      reads_most = omega
-          arith;
-      questions_kept = r.questions_kept;
-      questions_most = r.questions_most;
-      pieces_same = r.pieces_same;
-    }

@@ -1,10 +1,10 @@
 -- When clocks show the local times of a stretch: its first and its last second, from run to run, and the first second at or after a local time.
-use Rattle.tz_info.proofs.Words.{AreEndsWithin, AreShownWithin, AreWithin, Bool, HaveOneTypeFrom, IsBeyondJumps, IsEndWithin, IsFirstAtOrAfter, Precedes}
-use Rattle.tz_info.proofs.Words.{IsFirstWithin, IsGreatest, IsLeast, IsNeverWithin, IsNextRun, IsRuleOrNone, IsValid, IsWindowOf, IsWithinRun, LocalType, None}
-use Rattle.tz_info.proofs.Words.{Option, SFits, ShownSeconds, ShowsAtOrAfter, ShowsWithin, Some, TypeAt, Zone, arith, by_lt_z, false, ints, offsets, pos}
+use Rattle.tz_info.proofs.Words.{AreEndsWithin, AreShownWithin, AreWithin, Bool, HaveOneTypeFrom, IsEndWithin, IsFirstAtOrAfter, IsFirstWithin, Precedes}
+use Rattle.tz_info.proofs.Words.{IsGreatest, IsLeast, IsNeverWithin, IsNextRun, IsWindowOf, IsWithinRun, LocalType, None}
+use Rattle.tz_info.proofs.Words.{Option, SFits, ShownSeconds, ShowsWithin, Some, TypeAt, Zone, arith, by_lt_z, false, ints, offsets, pos}
 use Rattle.tz_info.proofs.Words.{refl, subst, true, unsigned_abs, w64, ℤ, ◌<◌, ◌+ℤ◌, ◌-ℤ◌, ◌<ℤ◌, ◌≡◌, ◌≤ℤ◌}
 use Rattle.std.specs.Prelude.{if◌then◌else◌}
-use Rattle.tz_info.proofs.{ExtremeLaws.{at_least_least, at_most_greatest}, GapLaws.{near_type}, ZoneLaws.{type_once}}
+use Rattle.tz_info.proofs.{ExtremeLaws.{at_least_least, at_most_greatest}, ZoneLaws.{type_once}}
 
 -- ---- from run to run, until one shows such a local time
 -- what shows a local time of the stretch lies in the window
@@ -116,38 +116,6 @@ ordinary z from until greatest least t s fits fits_last g l all h =
     let high = h.last.last ((until -ℤ t.offset) -ℤ pos 1) t
     (record { fits = fits_last; type = all _ (omega (arith, ints)) (omega (arith, ints)); since = omega (arith, ints); before = omega (arith, ints) }) in
     (omega (arith, ints), omega (arith, ints))
-
--- ---- the first second at or after a local time: that of a stretch so long that clocks can't be set forward over all of it
-to_reached : (z : Zone) (from until u : ℤ) (t : LocalType) → ShowsWithin (TypeAt z) from until u t → ShowsAtOrAfter (TypeAt z) from u t
-to_reached z from until u t h = record { fits = h.fits; type = h.type; reached = h.since }
-
-to_within : (z : Zone) (from until u : ℤ) (t : LocalType) → ShowsAtOrAfter (TypeAt z) from u t → (u +ℤ t.offset) <ℤ until
-    → ShowsWithin (TypeAt z) from until u t
-to_within z from until u t h before = record { fits = h.fits; type = h.type; since = h.reached; before = before }
-
--- by the least offset the local time has been reached
-pub shown_at_latest : (z : Zone) (from until : ℤ) → IsValid z → IsRuleOrNone z.rule → (b : IsBeyondJumps z from until)
-    → (t : LocalType) × ShowsWithin (TypeAt z) from until (from -ℤ b.least) t
-shown_at_latest z from until valid limits b =
-    let near = b.near in
-    let there = near_type z (from -ℤ b.least) valid limits near in
-    let most = at_most_greatest z (from -ℤ b.least) b.greatest there.0 b.is_greatest there.1 in
-    let fewest = at_least_least z (from -ℤ b.least) b.least there.0 b.is_least there.1 in grind (arith, ints)
-
-pub never_before_until : (z : Zone) (from until : ℤ) → IsValid z → IsRuleOrNone z.rule → IsBeyondJumps z from until → IsNeverWithin (TypeAt z) from until → ⊥
-never_before_until z from until valid limits b never = let latest = shown_at_latest z from until valid limits b in never (from -ℤ b.least) latest.0 latest.1
-
-pub first_reached : (z : Zone) (from until u : ℤ) (t : LocalType) → IsValid z → IsRuleOrNone z.rule → IsBeyondJumps z from until
-    → IsFirstWithin (TypeAt z) from until u t → IsFirstAtOrAfter (TypeAt z) from u t
-first_reached z from until u t valid limits b h =
-    let latest = shown_at_latest z from until valid limits b in
-    let not_later = h.first (from -ℤ b.least) latest.0 latest.1 in
-    record {
-      shown = to_reached z from until u t h.shown;
-      first = λ v s k. by_lt_z (v +ℤ s.offset) until
-          (λ before. h.first v s (to_within z from until v s k before))
-          (λ past. let most = at_most_greatest z v b.greatest s b.is_greatest k.type in omega (arith, ints));
-    }
 
 -- ---- laws of the first second at or after a local time
 pub one_first : (z : Zone) (local u v : ℤ) (s t : LocalType) → IsFirstAtOrAfter (TypeAt z) local u s → IsFirstAtOrAfter (TypeAt z) local v t → (u ≡ v) × (s ≡ t)

@@ -142,7 +142,7 @@ pub use Rattle.tz_info.specs.Steps.Pieces.{cut_of, zone_in}
 pub use Rattle.tz_info.specs.Steps.RuleDays.{closed_day_is, julian_is, julian_place, number_after, weekday_at, weekday_is, weekday_place}
 unfoldable pub use Rattle.tz_info.specs.Steps.RuleDays.{closed_day}
 pub use Rattle.tz_info.specs.Steps.RuleSeconds.{AreUtOffsets, IsAskedFrom, IsAskedSince, IsSecondFrom, TypeFrom}
-pub use Rattle.tz_info.specs.Steps.Runs.{AreWithin, HaveOneTypeFrom, IsBeyondJumps, IsEnd, IsEndWithin, IsNextRun, IsRunUntil, IsWindowOf}
+pub use Rattle.tz_info.specs.Steps.Runs.{AreWithin, HaveOneTypeFrom, IsEnd, IsEndWithin, IsNextRun, IsRunUntil, IsWindowOf}
 pub use Rattle.tz_info.specs.Steps.Runs.{IsWithinRun}
 pub use Rattle.tz_info.specs.Steps.Seasons.{IsAmidFrom, IsDecidedIn, IsSeason, IsSeasonFor, IsSeasonIn, IsSeasonOf}
 pub use Rattle.tz_info.specs.Steps.Segments.{begin_of, index_of}

@@ -1,5 +1,6 @@
 -- What the parts of a data block say (RFC 8536 section 3.2).
-use Rattle.std.specs.Prelude.{ℕ, ℤ, pos, neg_ℤ, ◌<ℤ◌, ◌≡◌, ◌≢◌, ◌==◌, ◌+◌, nat_lt, Bool, true, false, if◌then◌else◌, List, [], ◌∷◌, ◌++◌, length, take, slice_index, map, Option, Some, None}
+use Rattle.std.specs.Prelude.{ℕ, ℤ, pos, neg_ℤ, ◌<ℤ◌, ◌≡◌, ◌≢◌, ◌==◌, ◌+◌, nat_lt, Bool, true, false, if◌then◌else◌, List, [], ◌∷◌, ◌++◌, length, take}
+use Rattle.std.specs.Prelude.{slice_index, map, Option, Some, None}
 use Rattle.std.specs.Int.{Width, w32, w64, from_be_bytes, cast_signed}
 use Rattle.tz_base.specs.LocalTypes.{LocalType, expected_of_type}
 use Rattle.tz_base.specs.declared.error.Error.{Error}

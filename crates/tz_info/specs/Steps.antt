@@ -16,6 +16,7 @@ pub mod Merging
 pub mod Starts
 pub mod Pieces
 pub mod SegmentEnds
+pub mod Since
 pub mod Prepared
 pub mod Spelled
 pub mod RuleSeconds

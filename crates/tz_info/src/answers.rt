@@ -1,8 +1,9 @@
-//! The second at which a wall clock shows a local time, and answers of wall clocks, joined.
+//! The second at which a wall clock shows a local time, the local time that it shows at a second, and answers of wall clocks, joined.
 
-ghost use Rattle.std.specs.Prelude.{◌≡◌, ◌-ℤ◌};
+ghost use Rattle.std.specs.Prelude.{◌≡◌, ◌+ℤ◌, ◌-ℤ◌};
 ghost use Rattle.offset_core.specs.LocalResult.{map_of};
-ghost use Rattle.tz_info.specs.{Leaps.{IsNear}, Steps.{Answers.{joined, shown_if}, Runs.{IsEnd}}};
+ghost use Rattle.tz_base.specs.LocalTypes.{IsUtOffset};
+ghost use Rattle.tz_info.specs.{Leaps.{IsNear}, Moments.{IsRuleTime}, Steps.{Answers.{joined, shown_if}, Runs.{IsEnd}}};
 
 use offset_core::MappedLocalTime;
 use tz_base::LocalTimeType;
@@ -67,4 +68,14 @@ pub(crate) fn second_showing(local: i64, offset: i32) -> i64
     ensures near { IsNear (local -ℤ offset) }
 {
     local - offset as i64
+}
+
+// The local time that a clock of that type shows at the second.
+#[inline(always)]
+pub(crate) fn shown_at(second: i64, local_type: &LocalTimeType) -> i64
+    requires { IsRuleTime second }
+    ensures shown { result ≡ second +ℤ local_type.now.offset }
+    ensures offset { IsUtOffset local_type.now.offset }
+{
+    second + local_type.offset() as i64
 }

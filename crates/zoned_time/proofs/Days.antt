@@ -1,8 +1,8 @@
 -- Days of zones: from seconds to instants.
-use Rattle.zoned_time.proofs.Words.{AreEndsOfDay, AreInstantsOfDay, HasInstant, HasReached, IsAt, IsFirstInstantFrom, IsFirstOutOfRange, IsFirstSecondOutOfRange}
-use Rattle.zoned_time.proofs.Words.{IsFirstToReach, IsFixed, IsInRange, IsInstantFrom, IsNoDay, IsOnDay, IsZoneSecond, IsZonedAtOrAfter, IsZonedFirst, Law, MatchOption, Meaning, None}
-use Rattle.zoned_time.proofs.Words.{Option, Reading, Some, SomeIff, Zoned, ap, arith, floor_div, floors, instant_of, ints, of_secs, option_map, pos, subst, sym, ℤ, ◌*ℤ◌}
-use Rattle.zoned_time.proofs.Words.{◌+ℤ◌, ◌-ℤ◌, ◌<ℤ◌, ◌∙◌, ◌≡◌, ◌≤ℤ◌, ◌⊎◌}
+use Rattle.zoned_time.proofs.Words.{AreEndsOfDay, AreInstantsOfDay, HasInstant, HasReached, IsAt, IsFirstInstantFrom, IsFirstOutOfRange}
+use Rattle.zoned_time.proofs.Words.{IsFirstSecondOutOfRange, IsFirstToReach, IsFixed, IsInRange, IsInstantFrom, IsNoDay, IsOnDay, IsZoneSecond}
+use Rattle.zoned_time.proofs.Words.{IsZonedAtOrAfter, IsZonedFirst, Law, MatchOption, Meaning, None, Option, Reading, Some, SomeIff, Zoned, ap, arith}
+use Rattle.zoned_time.proofs.Words.{floor_div, floors, instant_of, ints, of_secs, option_map, pos, subst, sym, ℤ, ◌*ℤ◌, ◌+ℤ◌, ◌-ℤ◌, ◌<ℤ◌, ◌∙◌, ◌≡◌, ◌≤ℤ◌, ◌⊎◌}
 
 -- ---- days
 pub instants_of_day : {O : Type 0} {m : Meaning O} (law : Law m) (day u v : ℤ) (d e : Zoned O) → AreEndsOfDay law.off day u v → IsAt law (of_secs u 0) d

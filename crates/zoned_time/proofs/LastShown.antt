@@ -1,10 +1,10 @@
 -- The search backward for seconds at which clocks show a plan's local times.
 use Rattle.std.proofs.lemmas.Bool.Decides.{nat_tests}
 use Rattle.zoned_time.specs.Fires.{second_before}
-use Rattle.zoned_time.proofs.Words.{Reading, AreAllQuietUntil, AreQuietUntil, HasNoneUntil, IsAt, IsEither, IsFire, IsFirstShown, IsInRange, IsLastFire, IsLastOf}
-use Rattle.zoned_time.proofs.Words.{IsLastPlannedIn, IsLastUntil, IsOffsetStretch, IsPastUntil, IsShownFire, IsWide, IsZoneSecond, IsZonedLastFire, IsZonedLastOf}
-use Rattle.zoned_time.proofs.Words.{Law, MatchOption, Meaning, None, NoneUntil, NoneUntilPlannedIn, Option, Some, Zoned, arith, by_lt_z, inl, inr, ints}
-use Rattle.zoned_time.proofs.Words.{of_secs, pos, subst, sym, ℤ, ◌+ℤ◌, ◌-ℤ◌, ◌<ℤ◌, ◌↔◌, ◌≡◌, ◌≤ℤ◌, ◌⊎◌}
+use Rattle.zoned_time.proofs.Words.{Reading, AreAllQuietUntil, AreQuietUntil, HasNoneUntil, IsAt, IsEither, IsFire, IsFirstShown, IsInRange, IsLastFire}
+use Rattle.zoned_time.proofs.Words.{IsLastOf, IsLastPlannedIn, IsLastUntil, IsOffsetStretch, IsPastUntil, IsShownFire, IsWide, IsZoneSecond, IsZonedLastFire}
+use Rattle.zoned_time.proofs.Words.{IsZonedLastOf, Law, MatchOption, Meaning, None, NoneUntil, NoneUntilPlannedIn, Option, Some, Zoned, arith, by_lt_z, inl}
+use Rattle.zoned_time.proofs.Words.{inr, ints, of_secs, pos, subst, sym, ℤ, ◌+ℤ◌, ◌-ℤ◌, ◌<ℤ◌, ◌↔◌, ◌≡◌, ◌≤ℤ◌, ◌⊎◌}
 use Rattle.zoned_time.proofs.{DayStarts.{StayWithinDay}, ShownFires.{shows_wide}}
 
 -- ---- in general: what is left of a region of seconds

@@ -23,7 +23,8 @@ pub use Rattle.zoned_ref.proofs.Words.{IsRuleOrNone, IsTaken, IsUnresolved, IsVa
 pub use Rattle.zoned_ref.proofs.Words.{Zone, Zoned, ap, arith, false, get_or, in_seconds, inl, inr, ints, law_of, length, map_of, of_secs, off_of, pos, reading}
 pub use Rattle.zoned_ref.proofs.Words.{refl, rule_types, subst, suc, sym, to_z-of_z, true, type_decided, w32, w64, wall_decided, zero, zoned, ℕ, ℤ, ◌++◌, ◌-ℤ◌}
 pub use Rattle.zoned_ref.{proofs.Words.{◌<◌, ◌∙◌, ◌∷◌, ◌≡◌, ◌≢◌, ◌⊎◌, []}, specs.ZoneOffset.{ahead_of}}
-pub use Rattle.zoneq_lib.specs.Answers.{AnswersData, AnswersFile, AnswersLine, AnswersLines, AnswersRead, AnswersResolve, AnswersShow, AnswersText, law_by, shown_date_time}
+pub use Rattle.zoneq_lib.specs.Answers.{AnswersData, AnswersFile, AnswersLine, AnswersLines, AnswersRead}
+pub use Rattle.zoneq_lib.specs.Answers.{AnswersResolve, AnswersShow, AnswersText, law_by, shown_date_time}
 pub use Rattle.zoneq_lib.specs.{Answers.{shown_refusal, shown_type, shown_wall, shown_zone}, Endings.{WritesUnlessFailed}, Faults.{fault_text}, Hex.{bytes_of}}
 pub use Rattle.zoneq_lib.specs.{Hex.{bytes_test}, Lines.{HasNoNewline, IsSplit, ended_lines, without_return}, Questions.{Asks, At, Data, IsBadLine, Query}}
 pub use Rattle.zoneq_lib.specs.{Questions.{Resolve, Show, Text, Wall, utf8_test}, Runs.{Answers, AnswersBefore, BeginsAnswers, StopsWith}}

@@ -1,5 +1,5 @@
 -- Runs of seconds at which one type is in force.
-use Rattle.std.specs.Prelude.{◌≡◌, Bool, true, false, ℤ, pos, neg_ℤ, ◌+ℤ◌, ◌-ℤ◌, ◌≤ℤ◌, ◌<ℤ◌, Option, MatchOption}
+use Rattle.std.specs.Prelude.{◌≡◌, Bool, true, false, ℤ, pos, neg_ℤ, ◌-ℤ◌, ◌≤ℤ◌, ◌<ℤ◌, Option, MatchOption}
 use Rattle.tz_base.specs.LocalTypes.{LocalType}
 use Rattle.tz_info.specs.Changes.{Precedes}
 use Rattle.tz_info.specs.Leaps.{IsNear}
@@ -45,12 +45,6 @@ pub record AreWithin (z : Zone) (from until low high : ℤ) : Type 0 where
   pub near_high : IsNear high
   pub within : (u : ℤ) (t : LocalType) → ShowsWithin (TypeAt z) from until u t → (low ≤ℤ u) × (u <ℤ high)
 
--- the seconds from `low` to before `high` that come at `second` or later
-pub record ArePartFrom (low high second start end : ℤ) : Type 0 where
-  pub near : IsNear low → IsNear high → IsNear start
-  pub until : end ≡ high
-  pub from : (u : ℤ) → low ≤ℤ u → u <ℤ high → second ≤ℤ u → start ≤ℤ u
-
 -- of the seconds from `low` to before `high` the run has the first ones, or the last ones, and at least one
 abbrev pub IsNextRun : Bool → ℤ → ℤ → ℤ → ℤ → Type 0
 IsNextRun true low high start end = (start ≡ low) × (low <ℤ end) × (end ≤ℤ high)
@@ -65,15 +59,6 @@ abbrev pub IsEndWithin : Bool → (ℤ → LocalType → Type 0) → ℤ → ℤ
 IsEndWithin true in_force from until u t = IsFirstWithin in_force from until u t
 IsEndWithin false in_force from until u t = IsLastWithin in_force from until u t
 
--- seconds from which a type's offset leads to a second that is near: each local time, and what `IsBeyondJumps` asks for
+-- seconds from which a type's offset leads to a second that is near, as each local time
 abbrev pub IsEnd : ℤ → Type 0
 IsEnd s = (neg_ℤ (pos 9_000_000_000_000) ≤ℤ s) × (s ≤ℤ pos 9_000_000_000_000)
-
--- `until` is later than `from` by more than the greatest offset of the zone exceeds the least: so far clocks can't be set forward at once
-pub record IsBeyondJumps (z : Zone) (from until : ℤ) : Type 0 where
-  pub greatest : ℤ
-  pub least : ℤ
-  pub is_greatest : IsGreatest (offsets z.types z.rule) greatest
-  pub is_least : IsLeast (offsets z.types z.rule) least
-  pub near : IsNear (from -ℤ least)
-  pub beyond : until ≡ ((from +ℤ greatest) -ℤ least) +ℤ pos 1

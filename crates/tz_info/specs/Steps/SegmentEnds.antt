@@ -1,9 +1,9 @@
 -- Where segments end on the wall-clock axis, and the first one in which clocks show a local time or a later one.
-use Rattle.std.specs.Prelude.{ℕ, suc, ℤ, pos, ◌≡◌, ◌-◌, ◌<◌, ◌≤◌, ◌-ℤ◌, ◌+ℤ◌, ◌≤ℤ◌, ◌<ℤ◌, ◌↔◌, List, length, Option, None, Some, slice_get, slice_index_or, FitsSigned}
+use Rattle.std.specs.Prelude.{ℕ, suc, ℤ, pos, ◌≡◌, ◌-◌, ◌<◌, ◌≤◌, ◌-ℤ◌, ◌+ℤ◌, ◌≤ℤ◌}
+use Rattle.std.specs.Prelude.{◌<ℤ◌, ◌↔◌, List, length, Option, None, Some, slice_get, slice_index_or, FitsSigned}
 use Rattle.std.specs.Int.{saturate_signed, w64}
 use Rattle.tz_base.specs.LocalTypes.{IsUtOffset, LocalType}
 use Rattle.tz_info.specs.Steps.Segments.{begin_of, index_of}
-use Rattle.tz_info.specs.WallClocks.{Shows}
 use Rattle.tz_info.specs.declared.zone.lists.transition.Transition.{Transition}
 
 abbrev pub offset_of : Option LocalType → ℤ
@@ -49,12 +49,3 @@ pub record IsFirstOf (types : List LocalType) (entries : List Transition) (place
   pub listed : slice_get types (index_of entries place) ≡ Some t
   pub offset : IsUtOffset t.offset
   pub from : (u : ℤ) → (at ≤ℤ u) ↔ ((begin_of entries place ≤ℤ u) × ((local -ℤ t.offset) ≤ℤ u))
-
--- l is the last local time that clocks show from the second `begin` to t, or a later one that they have shown before
-pub record IsReachedSince (in_force : ℤ → LocalType → Type 0) (begin t l : ℤ) : Type 0 where
-  pub at : ℤ
-  pub local_type : LocalType
-  pub not_after : at ≤ℤ t
-  pub shown : Shows in_force l at local_type
-  pub last : (m u : ℤ) (s : LocalType) → begin ≤ℤ u → u ≤ℤ t → Shows in_force m u s → m ≤ℤ l
-  pub least : (t -ℤ pos 2_147_483_648) ≤ℤ l

@@ -126,7 +126,7 @@ impl AlternateTime {
     }
 
     #[inline(always)]
-    fn change_if(&self, found: Option<Moment>) -> Option<HeldChange<'_>>
+    pub(super) fn change_if(&self, found: Option<Moment>) -> Option<HeldChange<'_>>
         ensures { option_map change_held result ≡ change_found self.now found }
     {
         Some(self.change_of(found?))

@@ -128,7 +128,10 @@ impl AlternateTime {
     fn moment_at(&self, second: i64) -> Option<Moment>
         ensures { IsMomentAt self.now second result }
     {
-        if second <= FIRST_RULE_TIME || second > LAST_RULE_TIME {
+        if second <= FIRST_RULE_TIME {
+            return None;
+        }
+        if second > LAST_RULE_TIME {
             return None;
         }
         let before = self.is_dst_at(second - 1);

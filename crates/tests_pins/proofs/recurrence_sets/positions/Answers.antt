@@ -4,8 +4,8 @@ use Rattle.naive_base.specs.declared.weekday.Weekday.TheVariants.{Fri, Mon, Thu,
 use Rattle.naive_plans.specs.{RecurrenceRules.{month_number}, RecurrenceSets.{HasAfter, IsInPeriod}}
 use Rattle.naive_plans.specs.declared.rule.NthWeekday.{NthWeekday}
 use Rattle.tests_pins.proofs.{Computed.{calendar}, CountedTimes.{at_most, counted}, RuleDates.{counts, dated, entry_at}}
-use Rattle.tests_pins.proofs.Words.{List, arith, date_is, day_number, floors, inl, inr, ints, month_of, neg_ℤ, pos, refl, suc, year_of, zero, ℕ, ℤ, [], ◌%◌, ◌*◌}
-use Rattle.tests_pins.proofs.Words.{◌*ℤ◌, ◌+ℤ◌, ◌/◌, ◌<ℤ◌, ◌<◌, ◌∷◌, ◌≡◌, ◌≤ℤ◌, ◌≤◌}
+use Rattle.tests_pins.proofs.Words.{List, arith, date_is, day_number, floors, inl, inr, ints, month_of, neg_ℤ, pos, refl, suc, year_of, zero, ℕ, ℤ, [], ◌%◌}
+use Rattle.tests_pins.proofs.Words.{◌*◌, ◌*ℤ◌, ◌+ℤ◌, ◌/◌, ◌<ℤ◌, ◌<◌, ◌∷◌, ◌≡◌, ◌≤ℤ◌, ◌≤◌}
 use Rattle.tests_pins.specs.Recurrences.{at_position, every, last_work_day_but_one, third_of_three}
 use Rattle.tests_pins.proofs.recurrence_sets.positions.Goals as goal
 

@@ -1,22 +1,17 @@
 //! When clocks show certain local times: the first and the last second of a day or of any other
 //! stretch of local time, and the first second at or after a local time.
 
-ghost use Rattle.std.specs.Prelude.{◌≡◌, ◌*◌, ◌<ℤ◌, ◌≤ℤ◌, ◌+ℤ◌, ◌-ℤ◌, ◌*ℤ◌, if◌then◌else◌, length, pos, Contains};
-ghost use Rattle.std.specs.Prelude.{MatchOption, ℤ};
+ghost use Rattle.std.specs.Prelude.{◌≡◌, ◌*◌, ◌<ℤ◌, ◌+ℤ◌, ◌-ℤ◌, ◌*ℤ◌, if◌then◌else◌, length, pos, MatchOption};
 ghost use Rattle.naive_base.specs.{NaiveDate.{day_of}, NaiveDateTime.{reading}, Range.{IsWide}};
 ghost use Rattle.tz_info.specs.{Counts.{HasRoom, RoseWithin}, Leaps.{IsNear}, Zones.{TypeAt}};
-ghost use Rattle.tz_info.specs.{Digits.{digits}, Steps.{Runs.{IsEndWithin, IsNextRun}, WallPieces.{IsTableLess}}};
-ghost use Rattle.tz_info.specs.{ShownSeconds.{AreShownWithin, IsFirstAtOrAfter, IsNeverWithin}, Windows.{rule_offsets}};
-ghost use Rattle.tz_info.specs.Steps.Runs.{ArePartFrom, AreWithin, HaveOneTypeFrom, IsBeyondJumps, IsEnd, IsEndOfRun};
+ghost use Rattle.tz_info.specs.{Digits.{digits}, ShownSeconds.{AreShownWithin, IsFirstAtOrAfter, IsNeverWithin}};
+ghost use Rattle.tz_info.specs.Steps.Runs.{AreWithin, HaveOneTypeFrom, IsEnd, IsEndOfRun, IsEndWithin, IsNextRun};
 
 use crate::answers::second_showing;
 use crate::change::{HeldSecond, TypedSecond};
-use crate::rule::TransitionRule;
 use crate::timeline::Probes;
 use crate::zone::ask::runs::{end_by, first_of_run, last_of_run, start_by};
-use crate::zone::ask::segment_search::{first_of, first_reaching};
-use crate::zone::made::extremes::Extremes;
-use crate::zone::made::segment_ends::later;
+use crate::zone::ask::segment_search::{begin_of, first_of, first_reaching};
 use crate::zone::time_zone::TimeZone;
 use naive_base::{NaiveDate, NaiveDateTime, NaiveTime};
 use tz_base::LocalTimeType;
@@ -100,9 +95,9 @@ impl TimeZone {
         self.first_at_or_after(local.secs_since_epoch(), &mut Probes::new())
     }
 
-    /// As [`TimeZone::find_first_at_or_after`], and counts the probes of the zone's transitions: at
-    /// most twice as many as the number of transitions has binary digits. From the last transition
-    /// on, the search goes over the rule's changes near the local time, which are not counted.
+    /// As [`TimeZone::find_first_at_or_after`], and counts the probes of the zone's transitions and the
+    /// questions to the rule: at most twice as many probes as the number of transitions has binary digits,
+    /// and two questions.
     ///
     /// Requires: [`Probes::has_room`].
     pub fn find_first_at_or_after_counted(
@@ -114,7 +109,7 @@ impl TimeZone {
         ensures found { IsFirstAtOrAfter (TypeAt self.now) (reading local).s
             result.at result.local_time_type }
         ensures cost { RoseWithin probes.old probes.new
-            (2 * digits (length self.now.transitions)) 0 }
+            (2 * digits (length self.now.transitions)) 2 }
     {
         self.first_at_or_after(local.secs_since_epoch(), probes)
             .copied()
@@ -127,41 +122,15 @@ impl TimeZone {
         ensures found { IsFirstAtOrAfter (TypeAt self.now) local
             result.at result.local_time_type.now }
         ensures cost { RoseWithin probes.old probes.new
-            (2 * digits (length self.now.transitions)) 0 }
+            (2 * digits (length self.now.transitions)) 2 }
     {
         let _ = (self.extremes.least, self.extremes.greatest);
         let place = first_reaching(&self.local_types, &self.changes, &self.index, local, probes);
-        if self.changes.has_segment(place, &self.last_rule) {
+        let Some(rule) = self.changes.rule_at(place, &self.last_rule) else {
             return first_of(&self.local_types, &self.changes, place, local, probes);
-        }
-        self.first_by_rule(local)
-    }
-
-    // The same if clocks show less at all seconds before the last transition.
-    fn first_by_rule(&self, local: i64) -> HeldSecond<'_>
-        requires local { IsWide local }
-        requires less { IsTableLess self.now local }
-        ensures { IsFirstAtOrAfter (TypeAt self.now) local
-            result.at result.local_time_type.now }
-    {
-        let _ = &self.changes;
-        let until = self.beyond_jumps(local);
-        let all = self.seconds_around(local, until);
-        let shown = first_by_offsets(&self.last_rule, local);
-        let left = all.from(later(self.index.rule_from(), shown));
-        match self.end_in(left, local, until, true) {
-            Some(first) => first,
-            None => unreachable!(),
-        }
-    }
-
-    // A local time so much later that clocks cannot be set forward over all those between.
-    fn beyond_jumps(&self, from: i64) -> i64
-        requires { IsWide from }
-        ensures beyond { IsBeyondJumps self.now from result }
-        ensures end { IsEnd result }
-    {
-        from + self.extremes.greatest as i64 - self.extremes.least as i64 + 1
+        };
+        let (_, begin) = begin_of(&self.local_types, &self.changes, place, probes);
+        rule.first_since(begin, local, probes)
     }
 
     fn seconds_between(&self, from: i64, until: i64) -> Option<ShownSeconds>
@@ -185,30 +154,7 @@ impl TimeZone {
         ensures { MatchOption result (IsNeverWithin (TypeAt self.now) from until)
             (λ s. IsEndWithin forward (TypeAt self.now) from until s.at s.local_time_type.now) }
     {
-        self.end_in(self.seconds_around(from, until), from, until, forward)
-    }
-
-    // The seconds at which clocks may show a local time of the stretch.
-    fn seconds_around(&self, from: i64, until: i64) -> Interval
-        requires from { IsEnd from }
-        requires until { IsEnd until }
-        ensures { AreWithin self.now from until result.low result.high }
-    {
-        Interval {
-            low: second_showing(from, self.extremes.greatest),
-            high: second_showing(until, self.extremes.least),
-        }
-    }
-
-    // The same of those seconds, which have all that show such a local time.
-    fn end_in(&self, all: Interval, from: i64, until: i64, forward: bool) -> Option<HeldSecond<'_>>
-        requires from { IsEnd from }
-        requires until { IsEnd until }
-        requires all { AreWithin self.now from until all.low all.high }
-        ensures { MatchOption result (IsNeverWithin (TypeAt self.now) from until)
-            (λ s. IsEndWithin forward (TypeAt self.now) from until s.at s.local_time_type.now) }
-    {
-        let mut left = all;
+        let mut left = self.seconds_around(from, until);
         while left.low < left.high {
             let (run, local_type) = self.next_run(left, forward);
             let since = second_showing(from, local_type.offset());
@@ -222,6 +168,18 @@ impl TimeZone {
             left = left.without(run, forward);
         }
         None
+    }
+
+    // The seconds at which clocks may show a local time of the stretch.
+    fn seconds_around(&self, from: i64, until: i64) -> Interval
+        requires from { IsEnd from }
+        requires until { IsEnd until }
+        ensures { AreWithin self.now from until result.low result.high }
+    {
+        Interval {
+            low: second_showing(from, self.extremes.greatest),
+            high: second_showing(until, self.extremes.least),
+        }
     }
 
     // The first run of the interval, or the last one, and its type: the part that the interval has
@@ -244,41 +202,7 @@ impl TimeZone {
     }
 }
 
-// The first second at which a clock at an offset of the rule's types shows the local time.
-fn first_by_offsets(rule: &Option<TransitionRule>, local: i64) -> i64
-    requires { IsWide local }
-    ensures { (o : ℤ) → Contains (rule_offsets rule.now) o → result ≤ℤ (local -ℤ o) }
-{
-    match rule {
-        None => local,
-        Some(rule) => {
-            let none = Extremes {
-                least: i32::MAX,
-                greatest: i32::MIN,
-            };
-            second_showing(local, none.with_rule(rule).greatest)
-        }
-    }
-}
-
 impl Interval {
-    // Its seconds from that one on.
-    fn from(self, second: i64) -> Interval
-        ensures { ArePartFrom self.low self.high second result.low result.high }
-    {
-        let low = if second < self.low {
-            self.low
-        } else if second < self.high {
-            second
-        } else {
-            self.high
-        };
-        Interval {
-            low,
-            high: self.high,
-        }
-    }
-
     // Its first second, or its last one.
     fn end(self, forward: bool) -> i64
         requires { IsNear self.high }

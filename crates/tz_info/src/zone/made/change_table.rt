@@ -4,7 +4,7 @@
 ghost use Rattle.std.specs.List.{slice_get};
 ghost use Rattle.std.specs.Prelude.{◌≡◌, ◌↔◌, ◌<◌, ◌≤◌, ◌+◌, ◌-◌, ◌^◌, ◌<ℤ◌, ◌≤ℤ◌, [], length, neg_ℤ, option_map, pos};
 ghost use Rattle.std.specs.Prelude.{slice_index_or, vec_capacity, vec_len, ⊤, IfSome, IsTrue, MatchOption, MatchResult};
-ghost use Rattle.tz_info.specs.{Counts.{HasRoomFor, RoseWithin}, Transitions.{passed, AreRising, NameTypes}};
+ghost use Rattle.tz_info.specs.{Counts.{HasRoom, HasRoomFor, RoseWithin}, Digits.{digits}, Transitions.{passed, AreRising, NameTypes}};
 ghost use Rattle.tz_info.specs.{HeldChanges.{change_held}, Steps.Segments.{index_of}, Zones.{IsValid}};
 ghost use Rattle.tz_info.specs.Steps.Entries.{last_index, most_looks, AreBefore, AreEntries, EndsAt, IsAdded};
 ghost use Rattle.tz_info.specs.Steps.Entries.{IsBetween, IsCome, IsEntryAt, IsEntryChange, IsStartIn, NeverComes};
@@ -256,14 +256,17 @@ impl ChangeTable {
 
     // How many entries have come at the second.
     #[inline(always)]
-    pub(in crate::zone) fn count(&self, second: i64) -> usize
+    pub(in crate::zone) fn count(&self, second: i64, probes: &mut Probes) -> usize
+        requires { HasRoom probes.old }
         ensures count { result ≡ length (passed self.now.items second) }
         ensures within { result ≤ length self.now.items }
+        ensures cost { RoseWithin probes.old probes.new (digits (length self.now.items)) 0 }
+        ensures room { HasRoomFor 2 probes.new.reads }
     {
         if self.entries.len() == 0 {
             return 0;
         }
-        self.entries.passed(second, &mut Probes::new()).count
+        self.entries.passed(second, probes).count
     }
 
     // The same, without a search if `near` of them have. Then `near` is the answer.
@@ -273,7 +276,7 @@ impl ChangeTable {
         ensures within { result ≤ length self.now.items }
     {
         if !self.have_come(*near, second) {
-            *near = self.count(second);
+            *near = self.count(second, &mut Probes::new());
         }
         *near
     }
@@ -318,14 +321,19 @@ impl ChangeTable {
         self.entries.len()
     }
 
-    // Whether the segment at that place is the table's, and not the rule's.
-    pub(in crate::zone) fn has_segment(&self, place: usize, rule: &Option<TransitionRule>) -> bool
+    // The rule, if it gives the types of the segment at that place: else the table does.
+    pub(in crate::zone) fn rule_at<'a>(
+        &self,
+        place: usize,
+        rule: &'a Option<TransitionRule>,
+    ) -> Option<&'a TransitionRule>
         requires { place ≤ length self.now.items }
-        ensures { IsTrue result ↔ (place < top_of rule.now self.now) }
+        ensures { MatchOption result (place < top_of rule.now self.now)
+            (λ r. (rule.now ≡ Some r.now) × (top_of rule.now self.now ≤ place)) }
     {
         match rule {
-            Some(_) => place < self.all,
-            None => true,
+            Some(rule) if place >= self.all => Some(rule),
+            _ => None,
         }
     }
 

@@ -18,7 +18,8 @@ returns-in_err-from g c =
     c.in_ok-fire.fire.datetime.secs c.fires.invariant c.in_ok-fire.ensures.last (λ has. let yes = c.if-is_at_planned.ensures.1
     (subst (λ (k : ℤ). plan (c.in_ok-fire.fire.datetime.secs +ℤ k)) (sym own) has) in grind (arith, yes, c.if-is_at_planned.false)) in
     let is = c.timestamp.ensures in
-    rw c.from_residual-in_err-from.ensures (below_range _ c.args.until.now.datetime.secs (c.in_ok-fire.fire.datetime.secs -ℤ pos 1) c.args.until.now.in_range past
+    rw c.from_residual-in_err-from.ensures
+    (below_range _ c.args.until.now.datetime.secs (c.in_ok-fire.fire.datetime.secs -ℤ pos 1) c.args.until.now.in_range past
     (rw is at (simp to_z-of_z at c.in_err-from.ensures)))
 
 pub fires-preserved : goal.fires-preserved

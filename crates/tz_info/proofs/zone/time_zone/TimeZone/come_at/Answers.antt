@@ -1,4 +1,4 @@
-use Rattle.tz_info.proofs.{Words.{to_z-of_z}, EntryChanges.{have_come, looks_most, rose_less}}
+use Rattle.tz_info.proofs.{Words.{arith, to_z-of_z}, EntryChanges.{have_come, looks_most, rose_less}}
 use Rattle.tz_info.proofs.zone.time_zone.TimeZone.come_at.Goals as goal
 
 pub returns-then-has_leap_time-clause-come : goal.returns-then-has_leap_time-clause-come
@@ -11,4 +11,4 @@ returns-then-has_leap_time-clause-come c =
 pub returns-then-has_leap_time-clause-cost : goal.returns-then-has_leap_time-clause-cost
 returns-then-has_leap_time-clause-cost c =
     let some = rw (← c.self.view_is) at c.requires.some in
-    rw (← c.self.view_is) (rose_less _ _ _ _ 0 c.come.ensures.cost (looks_most _ _ some c.self.invariant.list.few))
+    rw (← c.self.view_is) (rose_less _ _ _ _ 0 0 c.come.ensures.cost (looks_most _ _ some c.self.invariant.list.few) (omega arith))

@@ -1,7 +1,8 @@
 use Rattle.tz_info.specs.Steps.{Entries.{AreEntries}, SegmentEnds.{IsFirstSegment}}
-use Rattle.tz_info.proofs.Words.{HasReach, IsRuleOrNone, IsValid, RoseWithin, SFits, Zone, ap, arith, cases_eq, cases_lt, digits, digits-more}
-use Rattle.tz_info.proofs.{Words.{false≢true, inl, inr, length, rules, sym, to_z-of_z, top_of, w32, w64, ◌*◌, ◌∙◌, ◌≤◌}, DigitLaws.{digits-less}}
-use Rattle.tz_info.proofs.{SegmentEndLaws.{first_there, rose_more, table_less}, TableLaws.{reach_of, table_of}}
+use Rattle.tz_info.proofs.Words.{HasReach, IsRuleOrNone, IsValid, SFits, Zone, ap, arith, begin_of, cases_eq, digits, digits-more}
+use Rattle.tz_info.proofs.Words.{inl, inr, length, rules, to_z-of_z, top_of, w32, w64, ℕ, ◌*◌, ◌+◌, ◌<◌, ◌≤◌}
+use Rattle.tz_info.proofs.{DigitLaws.{digits-less}, EntryChanges.{rose_less, rose_then}, RuleSegments.{first_by_rule}}
+use Rattle.tz_info.proofs.{SegmentEndLaws.{begun_near, first_there}, TableLaws.{reach_of, table_of, top_least}}
 use Rattle.tz_info.proofs.zone.time_zone.TimeZone.first_at_or_after.Goals.{After-first_reaching-place}
 use Rattle.tz_info.proofs.zone.time_zone.TimeZone.first_at_or_after.Goals as goal
 
@@ -12,67 +13,77 @@ entries c = rw (← c.self.view_is) c.self.invariant.list
 valid : (c : After-first_reaching-place) → IsValid c.args.self.now
 valid c = rw (← c.self.view_is) c.self.invariant.valid
 
+reach : (c : After-first_reaching-place) → HasReach c.args.self.now c.args.local
+reach c =
+    let fl = c.ranges.local in
+    let fg : SFits w32 c.self.inside.extremes.greatest = search rules in
+    let fh : SFits w32 c.self.inside.extremes.least = search rules in
+    reach_of _ _ c.self.inside.extremes c.requires.local fg fh (rw (← c.self.view_is) c.self.invariant.extremes)
+
 first : (c : After-first_reaching-place) → IsFirstSegment c.args.self.now.types c.self.inside.changes.items c.args.local c.first_reaching-place.result
 first c =
     let fl = c.ranges.local in
     rw (c.deref.ensures.value, ap (λ (z : Zone). z.types) c.self.view_is) at (simp to_z-of_z at c.first_reaching-place.ensures.first)
 
-cost : (c : After-first_reaching-place) → RoseWithin c.args.probes.now c.first_reaching-place.new.probes (2 * digits (length c.args.self.now.transitions)) 0
-cost c =
-    let few = (entries c).few in
-    let more = digits-more (length c.self.inside.changes.items) (length c.args.self.now.transitions) few in
-    rose_more _ _ _ _ (omega arith) c.first_reaching-place.ensures.cost
+-- the probes of the search are fewer than the bound, if there is an entry
+fewer : (n m : ℕ) → n ≤ m → digits n ≤ 2 * digits m × (0 < n → digits n + 1 ≤ 2 * digits m)
+fewer n m few =
+    let more = digits-more n m few in (omega (arith, more), λ some. let less = digits-less 0 n some (omega arith) in omega (arith, more, less))
 
-pub returns-then-has_segment-clause-found : goal.returns-then-has_segment-clause-found
-returns-then-has_segment-clause-found c =
-    let d = (goal.at.returns-then-has_segment-clause-found c).After-first_reaching-place in
+pub returns-in_default-clause-found : goal.returns-in_default-clause-found
+returns-in_default-clause-found c =
+    let d = (goal.at.returns-in_default-clause-found c).After-first_reaching-place in
     let fl = c.ranges.local in
     let fa : SFits w64 c.first_of.result.at = search rules in
-    let fg : SFits w32 c.self.inside.extremes.greatest = search rules in
-    let fh : SFits w32 c.self.inside.extremes.least = search rules in
     let z = c.args.self.now in
     let limits : IsRuleOrNone z.rule = rw (← c.self.view_is) c.self.invariant.limits in
-    let reach : HasReach z c.args.local = reach_of _ _ c.self.inside.extremes c.requires.local fg fh (rw (← c.self.view_is) c.self.invariant.extremes) in
-    let own = rw (ap (λ (z : Zone). z.rule) c.self.view_is) at (c.has_segment.ensures.0 c.if-has_segment.true) in
-    let is = rw (c.deref-then-has_segment.ensures.value, ap (λ (z : Zone). z.types) c.self.view_is) at (simp to_z-of_z at c.first_of.ensures.first) in
-    first_there z c.self.inside.changes.items (top_of z.rule c.self.inside.changes) c.first_reaching-place.result c.args.local reach.0 reach.1
+    let own = rw (ap (λ (z : Zone). z.rule) c.self.view_is) at c.in_default.ensures in
+    let is = rw (c.deref-in_default.ensures.value, ap (λ (z : Zone). z.types) c.self.view_is) at (simp to_z-of_z at c.first_of.ensures.first) in
+    first_there z c.self.inside.changes.items (top_of z.rule c.self.inside.changes) c.first_reaching-place.result c.args.local (reach d).0 (reach d).1
     c.first_of.result.at c.first_of.result.local_time_type.now
-    (valid d) limits (table_of z c.self.inside.changes (valid d) (entries d)) own c.requires.local reach.2 (first d) is
+    (valid d) limits (table_of z c.self.inside.changes (valid d) (entries d)) own c.requires.local (reach d).2 (first d) is
 
-pub returns-then-has_segment-clause-cost : goal.returns-then-has_segment-clause-cost
-returns-then-has_segment-clause-cost c =
-    let d = (goal.at.returns-then-has_segment-clause-cost c).After-first_reaching-place in
-    let more = digits-more (length c.self.inside.changes.items) (length c.args.self.now.transitions) (entries d).few in
+pub first_since-requires-clause-near : goal.first_since-requires-clause-near
+first_since-requires-clause-near c =
+    let d = (goal.at.first_since-requires-clause-near c).After-first_reaching-place in
+    let fb : SFits w64 c.begin_of-begin.result.1 = search rules in
+    let z = c.args.self.now in
+    let limits : IsRuleOrNone z.rule = rw (← c.self.view_is) c.self.invariant.limits in
     let within = (first d).within in
-    let a = c.first_reaching-place.ensures.cost in let b = c.first_of.ensures.cost in
+    simp to_z-of_z (rw c.begin_of-begin.ensures.begin (begun_near z c.self.inside.changes.items (top_of z.rule c.self.inside.changes)
+    c.first_reaching-place.result c.args.local (reach d).0 (reach d).1 (valid d) limits (table_of z c.self.inside.changes (valid d) (entries d))
+    (let top = top_least z.rule c.self.inside.changes (entries d).more in omega (arith, top, within)) c.requires.local (reach d).2 (first d)))
+
+pub returns-clause-found : goal.returns-clause-found
+returns-clause-found c =
+    let d = (goal.at.returns-clause-found c).After-first_reaching-place in
+    let fl = c.ranges.local in
+    let fb : SFits w64 c.begin_of-begin.result.1 = search rules in
+    let z = c.args.self.now in
+    let is = rw (ap (λ (z : Zone). z.rule) c.self.view_is) at c.in-Some.ensures in
+    first_by_rule z c.self.inside.changes c.in-Some.rule.now c.first_reaching-place.result (valid d) (entries d) is.0 (first d).within is.1
+    c.args.local c.first_since.result.at c.first_since.result.local_time_type.now c.requires.local (first d)
+    (rw c.begin_of-begin.ensures.begin at (simp to_z-of_z at c.first_since.ensures.first))
+
+pub returns-in_default-clause-cost : goal.returns-in_default-clause-cost
+returns-in_default-clause-cost c =
+    let d = (goal.at.returns-in_default-clause-cost c).After-first_reaching-place in
+    let bound = fewer (length c.self.inside.changes.items) (length c.args.self.now.transitions) (entries d).few in
+    let within = (first d).within in
     elim (cases_eq c.first_reaching-place.result 0) [
-      | inl none ↦ rw (c.first_of.ensures.free none) (cost d)
-      | inr some ↦
-          let less = digits-less 0 (length c.self.inside.changes.items) (omega arith) (omega arith) in
-          let ak = a.reads_kept in let am = a.reads_most in let bk = b.reads_kept in let bm = b.reads_most in
-          let aq = a.questions_kept in let an = a.questions_most in let bq = b.questions_kept in let bn = b.questions_most in
-          record {
-            reads_kept = omega arith;
-            reads_most = omega arith;
-            questions_kept = omega arith;
-            questions_most = omega arith;
-            pieces_same = b.pieces_same ∙ a.pieces_same;
-          }
+      | inl none ↦ rw (c.first_of.ensures.free none) (rose_less _ _ _ _ _ _ c.first_reaching-place.ensures.cost bound.0 (omega arith))
+      | inr some ↦ rose_less _ _ _ _ _ _ (rose_then _ _ _ _ _ _ _ c.first_reaching-place.ensures.cost c.first_of.ensures.cost)
+          (bound.1 (omega (arith, some, within))) (omega arith)
     ]
 
-pub first_by_rule-requires-clause-less : goal.first_by_rule-requires-clause-less
-first_by_rule-requires-clause-less c =
-    let d = (goal.at.first_by_rule-requires-clause-less c).After-first_reaching-place in
-    let fl = c.ranges.local in
-    let z = c.args.self.now in
-    let top = top_of z.rule c.self.inside.changes in
-    let yes = rw (ap (λ (z : Zone). z.rule) c.self.view_is) at c.has_segment.ensures.1 in
-    let all : top ≤ c.first_reaching-place.result = elim (cases_lt c.first_reaching-place.result top) [
-      | inl below ↦ absurd (false≢true (sym c.if-has_segment.false ∙ yes below))
-      | inr above ↦ omega arith
-    ] in
-    simp to_z-of_z (table_less z c.self.inside.changes c.args.local c.first_reaching-place.result (valid d) (entries d)
-    (table_of z c.self.inside.changes (valid d) (entries d)) c.requires.local (first d) all)
-
 pub returns-clause-cost : goal.returns-clause-cost
-returns-clause-cost c = cost (goal.at.returns-clause-cost c).After-first_reaching-place
+returns-clause-cost c =
+    let d = (goal.at.returns-clause-cost c).After-first_reaching-place in
+    let bound = fewer (length c.self.inside.changes.items) (length c.args.self.now.transitions) (entries d).few in
+    let within = (first d).within in
+    elim (cases_eq c.first_reaching-place.result 0) [
+      | inl none ↦ rose_less _ _ _ _ _ _ (rose_then _ _ _ _ _ _ _ c.first_reaching-place.ensures.cost
+          (rw (c.begin_of-begin.ensures.free none) at c.first_since.ensures.cost)) (omega (arith, bound)) (omega arith)
+      | inr some ↦ rose_less _ _ _ _ _ _ (rose_then _ _ _ _ _ _ _ (rose_then _ _ _ _ _ _ _ c.first_reaching-place.ensures.cost c.begin_of-begin.ensures.cost)
+          c.first_since.ensures.cost) (let more = bound.1 (omega (arith, some, within)) in omega (arith, more)) (omega arith)
+    ]

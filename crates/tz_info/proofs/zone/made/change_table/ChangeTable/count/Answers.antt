@@ -3,7 +3,7 @@ use Rattle.tz_info.proofs.{EntryChanges.{none_passed}}
 use Rattle.tz_info.proofs.zone.made.change_table.ChangeTable.count.Goals as goal
 
 pub passed-requires : goal.passed-requires
-passed-requires c = let n = c.len.ensures.count in let p = c.new.ensures in grind (arith, digits-le)
+passed-requires c = let n = c.len.ensures.count in let room = c.requires.reads in omega (arith, digits-le (length c.self.inside.entries), n, room)
 
 pub returns-then-len-eq0-clause-count : goal.returns-then-len-eq0-clause-count
 returns-then-len-eq0-clause-count c = let fs = c.ranges.second in
@@ -15,3 +15,8 @@ returns-clause-count c =
     let f = c.passed.ensures in
     let within = f.within in
     rw (← c.self.view_is) (sym (ap length (simp to_z-of_z at f.passed) ∙ (simp length-take (omega arith))))
+
+pub returns-clause-room : goal.returns-clause-room
+returns-clause-room c =
+    let n = c.len.ensures.count in let room = c.requires.reads in let most = c.passed.ensures.cost.reads_most in
+    omega (arith, digits-le (length c.self.inside.entries), n, room, most)

@@ -1,7 +1,7 @@
 use Rattle.tz_info.proofs.Words.{SFits, arith, ints, rules, to_z-of_z, w32, w64, ◌-ℤ◌, ◌≡◌}
-use Rattle.tz_info.proofs.zone.time_zone.TimeZone.end_in.Goals.{After-second_showing-before}
+use Rattle.tz_info.proofs.zone.time_zone.TimeZone.end_within.Goals.{After-second_showing-before}
 use Rattle.tz_info.proofs.ShownSecondLaws.{found_in_run, goes_on, leaves_less, none_left}
-use Rattle.tz_info.proofs.zone.time_zone.TimeZone.end_in.Goals as goal
+use Rattle.tz_info.proofs.zone.time_zone.TimeZone.end_within.Goals as goal
 
 -- the seconds between which a clock of the run's type shows a local time of the stretch
 between : (c : After-second_showing-before)
@@ -18,7 +18,7 @@ between c =
     (ff, fu, fs, fb, since, rw c.offset-in-loop-left.ensures.value at (simp to_z-of_z at c.second_showing-before.ensures.value))
 
 pub loop-left-init : goal.loop-left-init
-loop-left-init c = let ff = c.ranges.from in let fu = c.ranges.until in simp to_z-of_z c.requires.all
+loop-left-init c = let ff = c.ranges.from in let fu = c.ranges.until in simp to_z-of_z (simp to_z-of_z at c.seconds_around-left.ensures)
 
 pub loop-left-smaller : goal.loop-left-smaller
 loop-left-smaller c =

@@ -1,0 +1,72 @@
+-- The segment whose types the rule gives: from the last transition on.
+use Rattle.tz_info.proofs.Words.{IsFirstAtOrAfter, IsLeapTime, IsNear, IsValid, IsWide, LocalType, RuleAt, RuleOrType}
+use Rattle.tz_info.proofs.Words.{SFits, Some, TransitionRule, TypeAt, Zone, arith, begin_of, cases_lt, inl, inr, ints, length, place_at, refl}
+use Rattle.tz_info.proofs.Words.{segment_of, table_count, top_of, w64, ℕ, ℤ, ◌<◌, ◌≡◌, ◌≤ℤ◌, ◌≤◌}
+use Rattle.tz_info.specs.Steps.{Entries.{AreEntries, Entries}, SegmentEnds.{IsFirstSegment}, Since.{IsFirstSince, IsReachedSince}}
+use Rattle.tz_info.proofs.SegmentEndLaws.{begun_by, come_by, near_wide, shows_less}
+use Rattle.tz_info.proofs.SegmentLaws.{segment_at, segment_most, type_from, type_in_from}
+use Rattle.tz_info.proofs.TableLaws.{same_table, table_of, time_then, top_least}
+use Rattle.tz_info.proofs.WallSegments.{leap_time_of}
+
+all_of_table : (z : Zone) (rule : TransitionRule) → z.rule ≡ Some rule → table_count z ≡ length z.transitions
+all_of_table z rule is = rw is refl
+
+of_rule_or : (z : Zone) (rule : TransitionRule) (u : ℤ) (i : ℕ) (t : LocalType) → z.rule ≡ Some rule → RuleAt rule u t → RuleOrType z u i t
+of_rule_or z rule u i t is k = rw is k
+
+module _ (z : Zone) (e : Entries) (rule : TransitionRule) (k : ℕ) (valid : IsValid z) (made : AreEntries z e) (is : z.rule ≡ Some rule)
+    (within : k ≤ length e.items) (beyond : top_of z.rule e ≤ k) where
+  -- at its seconds all transitions have come
+  all_come : (u : ℤ) → begin_of e.items k ≤ℤ u → SFits w64 u → (0 < length z.transitions → (x : ℤ) × IsLeapTime z.leaps u x)
+      → segment_of z u ≡ length z.transitions
+  all_come u from fits time =
+      let come = come_by e.items k u made.rising within from in
+      let most = segment_most z u valid.transitions.rising in
+      let same = same_table z e u valid made fits time in
+      let all = all_of_table z rule is in
+      elim (cases_lt (segment_of z u) (table_count z)) [
+        | inl inside ↦ let c = same.0 inside in absurd (omega (arith, come, beyond))
+        | inr not ↦ omega (arith, all)
+      ]
+
+  to_rule : (u : ℤ) (t : LocalType) → begin_of e.items k ≤ℤ u → SFits w64 u → TypeAt z u t → RuleAt rule u t
+  to_rule u t from fits here =
+      rw is at (type_from z u t valid.transitions.rising (record { type = here; segment = all_come u from fits (time_then z u t here) }))
+
+  from_rule : (u : ℤ) (t : LocalType) → begin_of e.items k ≤ℤ u → IsNear u → RuleAt rule u t → TypeAt z u t
+  from_rule u t from near here =
+      let (x, l) = leap_time_of z u valid near in
+      let fits : SFits w64 u = omega (arith, ints, near) in
+      let b = segment_at z u (length z.transitions) valid.transitions.rising (all_come u from fits (λ _. (x, l))) in
+      (type_in_from z u x t l (rw (← l.sum) at b) (of_rule_or z rule u _ t is here)).type
+
+  -- what the rule's clocks show there the zone's clocks do
+  pub reached_by_rule : (t l : ℤ) → IsReachedSince (RuleAt rule) (begin_of e.items k) t l → IsReachedSince (TypeAt z) (begin_of e.items k) t l
+  reached_by_rule t l h = record {
+    at = h.at;
+    local_type = h.local_type;
+    near = h.near;
+    from = h.from;
+    not_after = h.not_after;
+    shown = record { fits = h.shown.fits; type = from_rule h.at h.local_type h.from h.near h.shown.type; shown = h.shown.shown };
+    last = λ m u s from come shows.
+        h.last m u s from come (record { fits = shows.fits; type = to_rule u s from shows.fits shows.type; shown = shows.shown });
+    least = h.least;
+  }
+
+  pub first_by_rule : (l u : ℤ) (t : LocalType) → IsWide l → IsFirstSegment z.types e.items l k → IsFirstSince (RuleAt rule) (begin_of e.items k) l u t
+      → IsFirstAtOrAfter (TypeAt z) l u t
+  first_by_rule l u t wide first h =
+      let top = top_least z.rule e made.more in
+      record {
+        shown = record { fits = h.shown.fits; type = from_rule u t h.from h.near h.shown.type; reached = h.shown.reached };
+        first = λ v s shows. elim (cases_lt (place_at e.items v) k) [
+          | inl before ↦
+              let less = shows_less z e.items (top_of z.rule e) k l v s (table_of z e valid made) within (near_wide l wide) first.before shows.fits before
+              (omega (arith, before, within, top)) shows.type in
+              let reached = shows.reached in absurd (omega (arith, ints, less, reached))
+          | inr not ↦
+              let from = begun_by e.items k v made.rising within (omega (arith, not)) shows.fits in
+              h.first v s from (record { fits = shows.fits; type = to_rule v s from shows.fits shows.type; reached = shows.reached })
+        ];
+      }
