@@ -178,5 +178,6 @@ never_beyond a false first rule inside from d is y of_year beyond =
     let (again, then) = change_again a d k rule is (omega (arith, ints), omega (arith, ints)) (omega (arith, ints), omega (arith, ints)) in
     let r = from (change_then d k) again (is.before.year +ℤ pos 400 *ℤ k) then (omega (arith, ints)) in omega (arith, ints)
 
-pub never_at_all : (a : Alternate) (w : Bool) (first : ℤ) → NeverChanges a → HasNoneBeyond a w first
-never_at_all a w first never d is y of_year beyond = is.differ (never (d.at -ℤ pos 1) d.at d.before d.after is.before is.after)
+-- a rule that never changes the clocks has no change at all
+pub never_at_all : (a : Alternate) (d : Change) → NeverChanges a → IsChange (AlternateAt a) d → ⊥
+never_at_all a d never is = is.differ (never (d.at -ℤ pos 1) d.at d.before d.after is.before is.after)

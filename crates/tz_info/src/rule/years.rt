@@ -71,6 +71,9 @@ impl AlternateTime {
         ensures { IsNearestMomentOf forward self.now (IsOfYear stretch.after stretch.last year)
             result }
     {
+        if self.never_changes() {
+            return None;
+        }
         let after = later_of(stretch.after, first_second(year));
         let last = earlier_of(stretch.last, first_second(year + 1));
         let moments = self.moments_near(year);

@@ -16,7 +16,7 @@ inside c =
     (fy, omega (arith, ints), simp to_z-of_z at c.year_at-year.ensures, i)
 
 pub returns-then-never_changes : goal.returns-then-never_changes
-returns-then-never_changes c = never_at_all c.args.self.now c.args.forward c.args.first (c.never_changes.ensures.0 c.if-never_changes.true)
+returns-then-never_changes c = λ d is y of_year beyond. never_at_all c.args.self.now d (c.never_changes.ensures.0 c.if-never_changes.true) is
 
 pub loop-step-init : goal.loop-step-init
 loop-step-init c =

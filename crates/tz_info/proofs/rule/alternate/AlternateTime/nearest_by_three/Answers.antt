@@ -1,5 +1,8 @@
-use Rattle.tz_info.proofs.{Words.{SFits, arith, change_found, ints, pos, rules, to_z-of_z, w32, w64, ◌+ℤ◌}, RuleChanges.{nearest_of_year}}
+use Rattle.tz_info.proofs.{Words.{SFits, arith, change_found, ints, pos, rules, to_z-of_z, w32, w64, ◌+ℤ◌}, AskedYears.{never_at_all}, RuleChanges.{nearest_of_year}}
 use Rattle.tz_info.proofs.rule.alternate.AlternateTime.nearest_by_three.Goals as goal
+
+pub returns-then-never_changes : goal.returns-then-never_changes
+returns-then-never_changes c = λ d is inside. never_at_all c.args.self.now d (c.never_changes.ensures.0 c.if-never_changes.true) is
 
 pub returns : goal.returns
 returns c =
