@@ -49,13 +49,17 @@ def in_order(wanted):
     return done
 
 
+def book_of(of_headline):
+    """The pages of the headline, or of all public contracts, in that order."""
+    return in_order({page for page, _ in below(cited_words(of_headline)) if "Steps" not in page.parts})
+
+
 def main():
     parser = argparse.ArgumentParser(description=__doc__, formatter_class=argparse.RawDescriptionHelpFormatter)
     parser.add_argument("--headline", action="store_true")
     parser.add_argument("--pages", action="store_true")
     asked = parser.parse_args()
-    wanted = {page for page, _ in below(cited_words(asked.headline)) if "Steps" not in page.parts}
-    book = in_order(wanted)
+    book = book_of(asked.headline)
     for path in book:
         if asked.pages:
             print(f"{len(text_of(path).splitlines()):5} {shown(path)}")

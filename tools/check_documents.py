@@ -498,7 +498,7 @@ def counted():
         (TOP / "docs/FAQ.md", f"in every year up to {constant('crates/tz_info/src/rule/changes.rt', 'LAST_RULE_YEAR')}"),
         (OWN_ZONE, f"proves {in_words(len(zone - by_hand))} of the {in_words(len(zone))} functions of the zone by itself"),
         (MAP, f"## {in_words(len(ways)).capitalize()} ways through"),
-        (PROVED, f"one book of some {round(book, -2):,} lines"),
+        (PROVED, f"some {round(book, -2):,} lines, as one book"),
     ]
 
 

@@ -2,7 +2,7 @@
 
 import re
 
-from believed import cited_words, in_order
+from believed import book_of, cited_words, in_order
 from check_headline import names_of
 from definitions import below
 from sources import TOP, block_end, crates, files, is_private_trait, is_public, shown, text_of, without_comments
@@ -109,7 +109,6 @@ def page():
     book = pages_of_headline()
     lines = sum(len(text_of(path).splitlines()) for path, _ in book)
     headline, every = ghosts_of_headline(), list(ghosts())
-    public = sum(1 for _ in files("specs", ".antt", for_users()))
     return "\n".join([
         "# What you must trust",
         "",
@@ -121,7 +120,7 @@ def page():
         "",
         "## For the headline",
         "",
-        f"The theorems of [PROVED](PROVED.md) reach {len(book)} pages of definitions with {sum(len(names) for _, names in book)} words, {lines:,} lines in all. "
+        f"The theorems of `zoned::headline` reach {len(book)} pages of definitions with {sum(len(names) for _, names in book)} words, {lines:,} lines in all. "
         "`tools/believed.py --headline` prints them as one book, in this order, so each page comes after those that it uses. "
         "[DEFINITIONS](DEFINITIONS.md) explains them, with their worked examples.",
         "",
@@ -137,8 +136,8 @@ def page():
         "",
         "## For every public call",
         "",
-        f"The {public} pages of `specs/` whose words are in [INDEX](INDEX.md), which `tools/believed.py` prints as one book, and "
-        f"the ghost members of {len(every)} public traits and impls. For one call you need only what `tools/claim.py 'CRATE::MODULE::FUNCTION'` prints.",
+        f"The {len(book_of(False))} pages of `specs/` that `tools/believed.py` prints as one book, and the ghost members of {len(every)} public traits and "
+        f"impls. [INDEX](INDEX.md) has the words that clauses cite. For one call you need only what `tools/claim.py 'CRATE::MODULE::FUNCTION'` prints.",
         "",
         *(part for crate in for_users() if any(each.crate == crate for each in every) for part in (
             f"### `{crate}`", "", "| trait or impl | ghost members | in |", "|---|---|---|", *rows_of(each for each in every if each.crate == crate), ""

@@ -1,7 +1,7 @@
 #!/usr/bin/env python3
 """Tries wrong definitions: edits of pages of specs/ that a pin or a law must reject.
 
-usage: tools/try_definitions.py [--lanes N] [--tenth] [NAME ..]
+usage: tools/try_definitions.py [--lanes N] [--tenth] [EDIT ..]
 
 A wrong definition is a block of its crate's wrong_definitions.txt: the page and the texts that it exchanges there, each of which is
 once in the page, what the definition says then, and the pins that are no longer proved:
@@ -47,7 +47,7 @@ from sources import TOP, imports_of, libraries_below, text_of, uses
 DEFINITIONS = TOP / "docs/DEFINITIONS.md"
 # A line below a definition: pins, what they say, and the wrong definitions that they reject.
 PINNED = re.compile(r"(?m)^  - ((?:`\w+::\w+`(?:, )?)+): (.*?)(?: Rejects (?:.*))?$")
-BY_LAW = re.compile(r"(?m)(are rejected by a law, which is checked in a copy of its crate: ).*$")
+BY_LAW = re.compile(r"(?m)(are rejected in a copy of their crate, by a law or by a pin of `zoned_ffi`: ).*$")
 WORD = re.compile(r"[^\s(){}\[\],;:.λ→×≡∙|\"`?]+")
 FUNCTION = re.compile(r'( *)(?:pub(?:\([a-z: ]+\))? )?(?:(?:final|const|unsafe|extern "C") )*fn (\w+)')
 BLOCK = re.compile(r"(?:pub(?:\([a-z: ]+\))? )?(?:unsafe )?(impl|trait)\b")
@@ -459,7 +459,7 @@ def main():
     given = given.parse_args()
     missing = set(given.names) - {edit.name for edit in edits()}
     if missing:
-        sys.exit(f"no file of crates/tests_pins/wrong: {', '.join(sorted(missing))}")
+        sys.exit(f"no wrong definition of this name: {', '.join(sorted(missing))}")
     for edit in edits():
         if not edit.pairs or edit.applied(text_of(TOP / edit.file)) is None:
             sys.exit(f"{edit.name}: an old text isn't exactly once in {edit.file}")
