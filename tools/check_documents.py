@@ -321,9 +321,10 @@ def number_faults():
 
 # Names of other projects and of the kit, and parts of names.
 OTHERS = set(
-    """AsRef In NonExistentTimeError SECONDLY SystemTime Unix ZoneBounds _counted _opt as_seconds_f32 as_seconds_f64 checked_ deprecated
-    from_epoch_days from_ymd getStandardOffset hour12 losAngeles max_value min_value must_use num_days_in_month overflow_ parse_from_rfc3339
-    parse_from_str plant repartition set_axis start_io time_zone_format_test to_epoch_days track_caller try_ unusable year_ce""".split()
+    """AsRef CMAKE_PREFIX_PATH In NonExistentTimeError SECONDLY SystemTime Unix ZoneBounds _counted _opt as_seconds_f32 as_seconds_f64
+    checked_ deprecated from_epoch_days from_ymd getStandardOffset hour12 losAngeles max_value min_value must_use num_days_in_month
+    overflow_ parse_from_rfc3339 parse_from_str plant repartition set_axis start_io time_zone_format_test to_epoch_days track_caller try_
+    unusable year_ce""".split()
 )
 FOLDERS = ("crates", "tools", "docs", "python", "examples", "bench")
 IN_CRATES = ("src", "specs", "proofs", "tests", "include", "install")

@@ -7,7 +7,7 @@
      zoned_close(&paris);
 
    The calls below are C code, in crates/zoned_ffi/install/names.c, that no proof covers. They read files, and take memory by malloc
-   and realloc, from any heap. Any number of threads may call them at once. */
+   and realloc, whatever HEAP the library was installed with. Any number of threads may call them at once. */
 #ifndef ZONED_H
 #define ZONED_H
 
@@ -25,8 +25,9 @@ extern "C" {
    empty, or if the program runs with other rights than its user's, /usr/share/zoneinfo:/usr/lib/zoneinfo:/usr/share/lib/zoneinfo:/etc/zoneinfo.
 
    ZONED_NO_SUCH_ZONE: no folder has a regular file of that name, or the name has an empty part, "." or "..", such as
-   ../../etc/passwd. So no name leads out of a folder, but links in a folder are followed. ZONED_UNREADABLE_FILE: a file can't be
-   opened or read, and errno says why. Others as of zoned_open with ZONED_FILE. In each case `out` is as it was. */
+   ../../etc/passwd. So no name leads out of a folder, but links in a folder are followed: "localtime" in "/etc" is the machine's
+   zone, where that file exists. ZONED_UNREADABLE_FILE: a file can't be opened or read, and errno says why. Others as of zoned_open
+   with ZONED_FILE. In each case `out` is as it was. */
 uint32_t zoned_open_name(const char *name, const char *folders, struct zoned_zone *out);
 
 /* Writes the version of the tz database in the first of the folders that states it, such as 2026a, as much as fits into `text`

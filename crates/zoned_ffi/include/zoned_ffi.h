@@ -45,8 +45,9 @@ enum zoned_kind {
                        empty string are faults. Bytes that are not ASCII are wrong bytes (3, 7, 8 or 10), never 16 */
 };
 
-/* The number that a call returns. 3 to 16 and 41 to 44 say why bytes make no zone; docs/PROGRAMS.md says more of each. An abbreviation
-   has three to seven letters, digits, + or - (else 3), and an offset of a TZ string or a footer is less than 24 hours (else 6). */
+/* The number that a call returns. 3 to 16 and 41 to 44 say why bytes make no zone; docs/PROGRAMS.md says more of 3 to 16, and has 12
+   for what is 41 to 44 here. An abbreviation has three to seven letters, digits, + or - (else 3), and an offset of a TZ string or a
+   footer is less than 24 hours (else 6). */
 enum zoned_number {
     ZONED_OK = 0,                      /* every answer is written */
     ZONED_LOCAL_TIME_TYPE = 3,         /* an offset or abbreviation that no local time type can have */
@@ -255,7 +256,7 @@ uint32_t zoned_zone_rule_text(const struct zoned_zone *zone, char *text, size_t 
 /* *count is how many changes there are from the second `from` on and before the second `until`, or `most` if there are more: 0 if
    `until` is `from` or comes before it. The first of them, as many as changes_len, are written to `changes`, in the order of time;
    the elements after them are as they were. So *count > changes_len says that the list is cut short, as with snprintf, and
-   changes_len may be 0. New York has 2 changes in 2021: with 1 as `most` the count is 1.
+   changes_len may be 0. New York has 2 changes in 2021 (from 1609459200 to 1640995200): with 1 as `most` the count is 1.
 
    The call takes as long as stepping through what it counts. A rule of two types has two changes in each of the 4,294,967,292 years
    that it answers in, some 8.6 billion in all: give it the stretch that you mean to list, or `most`. changes_len + 1 as `most` still
@@ -308,7 +309,11 @@ typedef struct zoned_resolved {
     int64_t instant; /* a Unix second */
 } zoned_resolved;
 
-/* *resolved is the instant of the local time under the policies, and resolved[i] that of locals[i].
+/* *resolved is the instant of the local time under the policies, and resolved[i] that of locals[i]. The call returns ZONED_OK also if
+   a local time has no instant: `number` says why.
+
+   zoned_local_of makes a local time of a date and a time of day; so the two calls do what mktime does. In New York tm_isdst = 0 is
+   ZONED_GAP_SHIFT_FORWARD and ZONED_FOLD_LATEST, and 1 is ZONED_GAP_SHIFT_BACKWARD and ZONED_FOLD_EARLIEST.
 
    resolved_len is locals_len. */
 uint32_t zoned_zone_instant(const struct zoned_zone *zone, uint32_t gap, uint32_t fold, int64_t local, zoned_resolved *resolved);
