@@ -36,8 +36,10 @@ def test_an_index():
     pd.testing.assert_index_equal(NEW_YORK.to_local(INSTANTS.tz_convert("Asia/Tokyo")), LOCAL)
     offsets = pd.Index(np.array([-14_400, "NaT", -18_000], "m8[s]"), name="when")
     pd.testing.assert_index_equal(NEW_YORK.offsets(INSTANTS), offsets)
-    with pytest.raises(TypeError, match=r"these are .*: tz_localize\(None\) removes it"):
+    with pytest.raises(TypeError, match=r"these are .*: to_local and floor take instants; .* tz_localize\(None\) removes their zone"):
         NEW_YORK.localize(INSTANTS)
+    with pytest.raises(TypeError, match="with utc=True"):
+        NEW_YORK.to_local(pd.Series(["2021-07-01 12:00-04:00", "2021-12-01 12:00-05:00"]))
 
 
 def test_an_index_of_numbers():

@@ -94,7 +94,7 @@ def test_errors_name_our_words():
         NEW_YORK.localize(GAP, gap="shift_forward")
     with pytest.raises(TypeError, match="nonexistent= is gap= here"):
         NEW_YORK.localize(GAP, nonexistent="shift_forward")
-    with pytest.raises(TypeError, match="ambiguous= is fold= here"):
+    with pytest.raises(TypeError, match="ambiguous= is fold= here, and fold=~flags"):
         NEW_YORK.localize(GAP, ambiguous="NaT")
     with pytest.raises(TypeError, match="'other'"):
         NEW_YORK.localize(GAP, other=1)

@@ -42,7 +42,7 @@ def values_of(array: Any, may_be_aware: bool) -> tuple[Array, Optional[str], Arr
         advice = "cast gives a timestamp or int64"
         raise TypeError(f"a column of Arrow of {kind} is no column of time: {advice}")
     if is_time and kind.tz is not None and not may_be_aware:
-        advice = f"cast(pyarrow.timestamp({kind.unit!r})) of its local times has none"
+        advice = f"to_local and floor take instants; cast(pyarrow.timestamp({kind.unit!r})) of local times has none"
         raise TypeError(f"local times have no zone, and these are {kind}: {advice}")
     size, data = len(array), array.buffers()[1]
     values = np.frombuffer(data, np.int64, size, 8 * array.offset) if size else np.empty(0, np.int64)

@@ -154,6 +154,8 @@ def must_have_no_others(call: str, others: dict[str, Any]) -> None:
             hint = ": a step begins at one instant, also in a gap and in a fold"
         else:
             hint = f": pandas' {name}= is {ours}= here"
+            if name == "ambiguous":
+                hint += ", and fold=~flags for an array of flags"
         raise TypeError(f"{call}() takes no keyword argument {name!r}{hint}")
 
 

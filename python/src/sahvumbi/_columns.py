@@ -397,7 +397,8 @@ def _of_list(values: Any) -> Column:
 
 def _of_datetime(pandas: Any, value: datetime, may_be_aware: bool) -> Column:
     if value.tzinfo is not None and not may_be_aware:
-        raise TypeError("a local time has no zone, and this one has: replace(tzinfo=None) drops it")
+        advice = "to_local and floor take instants; if this is a local time, replace(tzinfo=None) removes its zone"
+        raise TypeError(f"a local time has no zone, and this one has: {advice}")
     if pandas is not None and (value is pandas.NaT or isinstance(value, pandas.Timestamp)):
         stamp: Any = value
         moment = stamp.to_datetime64()
@@ -435,7 +436,8 @@ def _of_pandas(pandas: Any, values: Any, line: str, may_be_aware: bool) -> Colum
     if isinstance(dtype, pandas.DatetimeTZDtype):
         if not may_be_aware:
             drop = "tz_localize(None)" if is_index else "dt.tz_localize(None)"
-            raise TypeError(f"local times have no zone, and these are {dtype}: {drop} removes it")
+            advice = f"to_local and floor take instants; if these are local times, {drop} removes their zone"
+            raise TypeError(f"local times have no zone, and these are {dtype}: {advice}")
         return _of_array(values.values, container(values))
     if isinstance(dtype, pandas.PeriodDtype):
         gives = "to_timestamp()" if is_index else "dt.to_timestamp()"
@@ -454,7 +456,8 @@ def _of_pandas(pandas: Any, values: Any, line: str, may_be_aware: bool) -> Colum
     if isinstance(values, pandas.MultiIndex):
         raise TypeError("a MultiIndex is no column of time: get_level_values gives one of them")
     raise TypeError(
-        f"{kind} of object is no column of time: pandas.to_datetime makes datetime64 of it"
+        f"{kind} of object is no column of time: pandas.to_datetime makes datetime64 of it, "
+        "with utc=True if its values have offsets"
     )
 
 

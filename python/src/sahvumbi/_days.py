@@ -438,7 +438,7 @@ def step_of(step: Any) -> Parsed:
     elif isinstance(step, str):
         parsed = _of_word(step)
     else:
-        raise TypeError(f"step is 'D', 'h', '15min' or a timedelta, and not {type(step).__name__}")
+        raise TypeError(f"step is 'D', 'h', '15min' or a datetime.timedelta, and not {type(step).__name__}")
     if parsed is None:
         shown = printable(repr(step))
         ours = OF_PANDAS.get(step.lstrip("0123456789")) if isinstance(step, str) else None
