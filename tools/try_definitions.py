@@ -408,17 +408,22 @@ def tried(chosen, room):
     return [told(edit, said, room, "tests_pins") for edit in chosen]
 
 
-def tried_by_law(edit):
-    """Tries an edit by a law in a copy of its crate."""
-    crate, function = edit.law
+def tried_by_law(law, chosen):
+    """Tries edits by a law in a copy of its crate, one after the other, and says of each what came of it."""
+    crate, function = law
     with tempfile.TemporaryDirectory() as folder:
         room = Path(folder)
         lay(room, crate, with_code=True)
         before = verdicts(check(room, crate, [function]), crate)
-        if not before or not all(map(is_accepted, before.values())):
-            return f"{edit.name}: {function} isn't proved of the page as it is", False
-        (room / edit.page).write_text(edit.applied(text_of(TOP / edit.file)))
-        return told(edit, check(room, crate, [function]), room, crate)
+        is_proved = before and all(map(is_accepted, before.values()))
+        for edit in chosen:
+            if not is_proved:
+                yield f"{edit.name}: {function} isn't proved of the page as it is", False
+                continue
+            text = text_of(TOP / edit.file)
+            (room / edit.page).write_text(edit.applied(text))
+            yield told(edit, check(room, crate, [function]), room, crate)
+            (room / edit.page).write_text(text)
 
 
 def tried_by_pins(chosen, lanes):
@@ -466,7 +471,8 @@ def main():
     is_chosen = tenth() if given.tenth else lambda name: not given.names or name in given.names
     chosen = [edit for edit in edits() if is_chosen(edit.name)]
     count = rejected = 0
-    by_law = (tried_by_law(edit) for edit in chosen if edit.law)
+    laws = dict.fromkeys(edit.law for edit in chosen if edit.law)
+    by_law = (row for law in laws for row in tried_by_law(law, [edit for edit in chosen if edit.law == law]))
     by_pins = [edit for edit in chosen if edit.pins]
     for rows in (tried_by_pins(by_pins, given.lanes) if by_pins else [], by_law):
         for row, is_rejected in rows:
