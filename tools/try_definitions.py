@@ -382,7 +382,7 @@ def unread(edit, said, room):
     return [f"{path}: {text}" for path, text in errors if path == page or not path.startswith(str(room)) and re.search(UNREAD, text)]
 
 
-def told(edit, said, room, crate):
+def outcome(edit, said, room, crate):
     """What is said of an edit, and whether it is rejected."""
     functions = [edit.law[1]] if edit.law else edit.pins
     found = [next((it for path, it in verdicts(said, crate).items() if f"::{path}".endswith(f"::{name}")), "") for name in functions]
@@ -405,7 +405,7 @@ def tried(chosen, room):
     if faulty and len(chosen) > 1:
         apart = [[edit for edit in chosen if edit not in faulty], *([edit] for edit in faulty)]
         return [row for those in apart if those for row in tried(those, room)]
-    return [told(edit, said, room, "tests_pins") for edit in chosen]
+    return [outcome(edit, said, room, "tests_pins") for edit in chosen]
 
 
 def tried_by_law(law, chosen):
@@ -422,7 +422,7 @@ def tried_by_law(law, chosen):
                 continue
             text = text_of(TOP / edit.file)
             (room / edit.page).write_text(edit.applied(text))
-            yield told(edit, check(room, crate, [function]), room, crate)
+            yield outcome(edit, check(room, crate, [function]), room, crate)
             (room / edit.page).write_text(text)
 
 
