@@ -1,4 +1,5 @@
-use Rattle.tz_info.proofs.{Words.{SFits, arith, change_found, ints, pos, rules, to_z-of_z, w32, w64, ◌+ℤ◌}, AskedYears.{never_at_all}, RuleChanges.{nearest_of_year}}
+use Rattle.tz_info.proofs.{AskedYears.{never_at_all}, RuleChanges.{nearest_of_year}}
+use Rattle.tz_info.proofs.Words.{SFits, arith, change_found, ints, pos, rules, to_z-of_z, w32, w64, ◌+ℤ◌}
 use Rattle.tz_info.proofs.rule.alternate.AlternateTime.nearest_by_three.Goals as goal
 
 pub returns-then-never_changes : goal.returns-then-never_changes
