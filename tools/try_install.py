@@ -173,9 +173,11 @@ def complaints_of_compilers(start, top, place):
     """What the program of that folder finds with each compiler below `top`."""
     found = [["g++", "-fsanitize=undefined", "-fno-sanitize-recover=all"]] if (top / "usr/bin/g++").exists() else []
     for path in sorted((top / "usr/bin").glob("clang++-*")):
-        if any(top.glob("usr/lib/llvm-*/include/c++/v1/chrono")):
+        version = path.name.partition("-")[2]
+        # An older clang can't read a later libc++.
+        if (top / f"usr/lib/llvm-{version}/include/c++/v1/chrono").exists():
             found.append([path.name, "-stdlib=libc++"])
-            if re.search(r"-(19|2\d)$", path.name):
+            if int(version) >= 19:
                 found.append([*found[-1], "-fexperimental-library"])
     for compiler in found:
         for standard in STANDARDS:
