@@ -6,8 +6,8 @@
      if (number == ZONED_OK) number = zoned_zone_offset(&paris, 1615705200, &offset);
      zoned_close(&paris);
 
-   The calls below are C code, in crates/zoned_ffi/install/names.c, that no proof covers. They read files, and take memory by malloc
-   and realloc, whatever HEAP the library was installed with. Any number of threads may call them at once. */
+   The calls below are C code, crates/zoned_ffi/install/names.c of the sources, that no proof covers. They read files, and take
+   memory by malloc and realloc, whatever HEAP the library was installed with. Any number of threads may call them at once. */
 #ifndef ZONED_H
 #define ZONED_H
 
@@ -26,8 +26,9 @@ extern "C" {
 
    ZONED_NO_SUCH_ZONE: no folder has a regular file of that name, or the name has an empty part, "." or "..", such as
    ../../etc/passwd. So no name leads out of a folder, but links in a folder are followed: "localtime" in "/etc" is the machine's
-   zone, where that file exists. ZONED_UNREADABLE_FILE: a file can't be opened or read, and errno says why. Others as of zoned_open
-   with ZONED_FILE. In each case `out` is as it was. */
+   zone, where that file exists. A file that can't be opened, such as a link to itself, is passed over. ZONED_UNREADABLE_FILE: one was,
+   and no later folder has the name; or reading fails. errno says why. Others as of zoned_open with ZONED_FILE. In each case `out` is
+   as it was. */
 uint32_t zoned_open_name(const char *name, const char *folders, struct zoned_zone *out);
 
 /* Writes the version of the tz database in the first of the folders that states it, such as 2026a, as much as fits into `text`

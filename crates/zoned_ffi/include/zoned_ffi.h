@@ -8,8 +8,8 @@
      if (number == ZONED_OK) number = zoned_zone_offset(&paris, 1615705200, &offset);
      zoned_close(&paris);
 
-   The man page zoned(3), crates/zoned_ffi/install/zoned.3, says what holds for all calls: handles, arrays, threads, memory, linking and
-   the order of errors. */
+   The man page zoned(3), crates/zoned_ffi/install/zoned.3 of the sources, says what holds for all calls: handles, arrays, threads,
+   memory, linking and the order of errors. */
 #ifndef ZONED_FFI_H
 #define ZONED_FFI_H
 
@@ -45,11 +45,12 @@ enum zoned_kind {
                        empty string are faults. Bytes that are not ASCII are wrong bytes (3, 7, 8 or 10), never 16 */
 };
 
-/* The number that a call returns. 3 to 16 and 41 to 44 say why bytes make no zone; docs/PROGRAMS.md says more of 3 to 16, and has 12
-   for what is 41 to 44 here. An abbreviation has three to seven letters, digits, + or - (else 3), and an offset of a TZ string or a
-   footer is less than 24 hours (else 6). */
+/* The number that a call returns. 3 to 16 and 41 to 44 say why bytes make no zone. A file gives 3, 5 to 8, 10, 13 to 16 or 41 to 44,
+   and never 12; a TZ string gives 3, 6 to 8, 10, 13, 15 or 16. docs/PROGRAMS.md of the sources says more of 3 to 16, and has 12 for
+   what is 41 to 44 here. An abbreviation has three to seven letters, digits, + or - (else 3), and an offset of a TZ string or a footer
+   is less than 24 hours (else 6). */
 enum zoned_number {
-    ZONED_OK = 0,                      /* every answer is written */
+    ZONED_OK = 0,                      /* every answer is written; a zoned_resolved has a number of its own: test it too */
     ZONED_LOCAL_TIME_TYPE = 3,         /* an offset or abbreviation that no local time type can have */
     ZONED_INVALID_TZ_FILE = 5,         /* a fault in the form of a TZif file */
     ZONED_INVALID_TZ_STRING = 6,       /* a time or offset of a TZ string is out of its limits, or extra bytes follow the string */
@@ -64,7 +65,8 @@ enum zoned_number {
     ZONED_OUT_OF_MEMORY = 17,          /* out of memory */
     ZONED_IN_GAP = 21,                 /* the local time lies in a gap, and `gap` is ZONED_GAP_REFUSE */
     ZONED_IN_FOLD = 22,                /* the local time lies in a fold, and `fold` is ZONED_FOLD_REFUSE */
-    ZONED_INSTANT_OUT_OF_RANGE = 23,   /* the local time or the instant lies outside the years -262143 to 262142 */
+    ZONED_INSTANT_OUT_OF_RANGE = 23,   /* the local time or the instant lies outside the years -262143 to 262142, or the answer
+                                          of a column doesn't fit 64 bits of its unit */
     ZONED_UNKNOWN_KIND = 31,           /* no kind of bytes has that number */
     ZONED_OTHER_SIZE = 32,             /* there is room for another count of answers */
     ZONED_NOT_OPEN = 33,               /* the handle has no zone open */
@@ -113,7 +115,10 @@ uint32_t zoned_open_limited(uint32_t kind, const void *zone, size_t zone_len,
 /* Returns how many bytes are in front of the fault for which zoned_open rejects the bytes. In a TZ string: where the first byte is with
    which no string goes on; the number, the time or the name that is out of its limits; the end if bytes are missing; or the first byte
    that is not UTF-8. In a file: the end if it is too short, and else the first byte of the field whose value is rejected, such as a
-   version, a count, a type's DST flag, a transition's time or the TZ string of the footer.
+   version, a count, a type's DST flag or a transition's time. In the TZ string of a file's footer: as in a TZ string, or its first
+   byte if the rule disagrees with the last transition (44).
+
+   zoned_open_name keeps no bytes: read the file yourself to find its fault.
 
    SIZE_MAX: the bytes make a zone, no kind has that number, or there is no memory for a file's lists. */
 size_t zoned_fault_position(uint32_t kind, const void *zone, size_t zone_len);
@@ -149,6 +154,9 @@ uint32_t zoned_zone_offsets(const struct zoned_zone *zone,
    ZONED_UNKNOWN_UNIT: there is no such unit, and nothing is written. ZONED_NO_LOCAL_TIME: instants[*row] is the first that has
    no local time, since the zone has no offset there or the sum doesn't fit 64 bits; the rows before it are written. In all other
    cases *row is as it was.
+
+   That row and those after it are as they were. To go on, write ZONED_NO_TIME there and call again from *row + 1. Don't convert in
+   place: answers must not overlap the times that are asked about. This holds for every zoned_column_ call.
 
    locals_len is instants_len. */
 uint32_t zoned_column_locals(const struct zoned_zone *zone, int64_t per_second,
@@ -312,8 +320,10 @@ typedef struct zoned_resolved {
 /* *resolved is the instant of the local time under the policies, and resolved[i] that of locals[i]. The call returns ZONED_OK also if
    a local time has no instant: `number` says why.
 
-   zoned_local_of makes a local time of a date and a time of day; so the two calls do what mktime does. In New York tm_isdst = 0 is
-   ZONED_GAP_SHIFT_FORWARD and ZONED_FOLD_LATEST, and 1 is ZONED_GAP_SHIFT_BACKWARD and ZONED_FOLD_EARLIEST.
+   zoned_local_of makes a local time of a date and a time of day. For valid fields the two calls do what mktime does with tm_isdst -1,
+   with your policies in gaps and folds. (In a fold glibc's answer may depend on the call before it: 1636263000 or 1636266600 for 01:30 on
+   2021-11-07 in New York.) In New York's gaps and folds tm_isdst 0 is ZONED_GAP_SHIFT_FORWARD and ZONED_FOLD_LATEST, and 1 is
+   ZONED_GAP_SHIFT_BACKWARD and ZONED_FOLD_EARLIEST. mktime normalises other fields; zoned_local_of returns ZONED_NO_DATE_TIME.
 
    resolved_len is locals_len. */
 uint32_t zoned_zone_instant(const struct zoned_zone *zone, uint32_t gap, uint32_t fold, int64_t local, zoned_resolved *resolved);
@@ -448,7 +458,8 @@ uint32_t zoned_column_ceils(const struct zoned_zone *zone, uint32_t step, int64_
                             const int64_t *instants, size_t instants_len,
                             int64_t *ceils, size_t ceils_len, size_t *row);
 
-/* A date and a time of day on a clock, and what the calendar says of the date. */
+/* A date and a time of day on a clock, and what the calendar says of the date. C's struct tm counts otherwise: tm_year from 1900, tm_mon
+   from 0 and tm_yday from 0. */
 typedef struct zoned_fields {
     int32_t year;         /* -262143 to 262142; the year 0 is 1 BC */
     uint32_t month;       /* 1 to 12 */
@@ -471,9 +482,9 @@ uint32_t zoned_zone_fields(const struct zoned_zone *zone, int64_t instant, zoned
    ZONED_INSTANT_OUT_OF_RANGE: it lies outside the years -262143 to 262142, and nothing is written. */
 uint32_t zoned_fields_of(int64_t local, zoned_fields *fields);
 
-/* *local is the local time of the date and the time of day. `weekday` and `day_of_year` are not read. ZONED_NO_DATE_TIME: the
-   calendar doesn't have the date, such as 2021-02-29, or a clock the time, such as 24:00:00. ZONED_INSTANT_OUT_OF_RANGE: they
-   lie outside the years -262143 to 262142. Nothing is written then. */
+/* *local is the local time of the date and the time of day: for valid fields what timegm returns. `weekday` and `day_of_year` are not
+   read. ZONED_NO_DATE_TIME: the calendar doesn't have the date, such as 2021-02-29, or a clock the time, such as 24:00:00.
+   ZONED_INSTANT_OUT_OF_RANGE: they lie outside the years -262143 to 262142. Nothing is written then. */
 uint32_t zoned_local_of(const zoned_fields *fields, int64_t *local);
 
 /* Returns the version of the library: ZONED_VERSION_NUMBER of the header that it was built with. */
