@@ -2,9 +2,11 @@
 """Leads from a sentence to its proof: the clauses that it cites, the definitions that they use, and what pins those.
 
 usage: tools/claim.py PAGE:LINE | 'CRATE::MODULE::FUNCTION' [CLAUSE ..]
+       python3 -m doctest tools/claim.py
 
 PAGE is a document, such as PROVED or docs/PROVED.md; each clause that its line cites is shown. Or a function's path and clauses are
-given, as docs/PROVED.md cites them. For each clause it prints:
+given, as docs/PROVED.md cites them. CRATE::FUNCTION is enough if one module of the crate has a function of that name; else the paths of
+those that have one are listed. The second command checks this. For each clause it prints:
 
 - the clause, with its place;
 - the definitions that the clause cites, each with its place and its meaning, the worked examples (pins) that speak of it, and the
@@ -21,7 +23,7 @@ from collections import defaultdict
 
 from check_headline import CITATION
 from definitions import below, clauses, pins_of, used_in
-from sources import TOP, shown, text_of
+from sources import TOP, crates, files, shown, text_of, without_comments
 from try_definitions import edits
 
 import re
@@ -49,7 +51,37 @@ def citations(arguments):
     return found
 
 
+def paths_of(crate, name):
+    """The paths of the functions of that name in the modules of a crate.
+
+    >>> paths_of("zoned_ffi", "zoned_zone_instant")
+    ['zoned_ffi::asking::locals::zoned_zone_instant']
+    >>> paths_of("zoned_ffi", "no_function"), paths_of("no_crate", "zoned_zone_instant")
+    ([], [])
+    >>> whole_path("zoned_ffi::zoned_zone_instant")
+    'zoned_ffi::asking::locals::zoned_zone_instant'
+    >>> whole_path("zoned_ffi::pins::no_function")
+    'zoned_ffi::pins::no_function'
+    >>> len(paths_of("tz_info", "new")) > 1
+    True
+    """
+    head, source = re.compile(rf"\bfn {re.escape(name)}\b"), TOP / "crates" / crate / "src"
+    found = [path for path in files("src", ".rt", [crate]) if head.search(without_comments(text_of(path), "//"))]
+    modules = [path.relative_to(source).with_suffix("").parts for path in found]
+    return ["::".join([crate, *(part for part in module if part != "lib"), name]) for module in modules]
+
+
+def whole_path(path):
+    """The path with its modules, if only CRATE::FUNCTION is given."""
+    crate, _, name = path.partition("::")
+    paths = paths_of(crate, name) if crate in crates() and re.fullmatch(r"\w+", name) else []
+    if len(paths) > 1 and path not in paths:
+        sys.exit("\n".join(["several modules have a function of that name:", *paths]))
+    return paths[0] if len(paths) == 1 else path
+
+
 def explain(path, names):
+    path = whole_path(path)
     print(f"\n== {path}")
     found = clauses(path, names)
     if not found:
