@@ -4,7 +4,8 @@
      g++ -std=c++17 -O2 -Icrates/zoned_ffi/include -o ./zones_cc examples/zones.cc crates/zoned_ffi/out/libzoned_ffi.a "$(dirname "$(rt doc)")/c/liblibc_c.a"
      ./zones_cc /usr/share/zoneinfo/America/New_York 1615705200 1615689000 1636248600
 
-   It prints what zones.c prints. */
+   It prints what zones.c prints. With the installed library zoned::time_zone::locate opens a zone by its name: the archive of
+   `rt lib`, which is linked here, has no zoned_open_name. */
 #include <zoned.hpp>
 
 #include <cstdlib>

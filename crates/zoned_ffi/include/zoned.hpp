@@ -7,6 +7,10 @@
 // A zone may be asked by any number of threads at once, by its const members. A copy shares what was read.
 // Errors are thrown: zoned::error has the number of zoned.h, and std::bad_alloc is thrown if memory runs out.
 //
+// One kind of error changes with the compiler. If std::chrono has time zones (see below), to_sys throws its nonexistent_local_time
+// for a gap and its ambiguous_local_time for a fold, and no zoned::error. So a `catch` of zoned::error may stop matching with a newer
+// compiler or standard: catch std::runtime_error, which all three are, or give to_sys a policy for gaps and folds.
+//
 // From C++20 on local times are those of std::chrono, so its calendar takes them. If std::chrono has time zones too (libstdc++
 // 14, or libc++ 19 with -fexperimental-library), a pointer to a zone is the zone of a std::chrono::zoned_time, which std::format
 // prints, and sys_info and local_info become std's:
@@ -98,7 +102,7 @@ struct day_info {
     sys_seconds begin, end;
 };
 
-// An error of the library, with its number. `row` is the first row of a column that has it, else 0.
+// An error of the library, with its number. `row` is the first row of a column that has it. It is 0 also if no row has it.
 class error : public std::runtime_error {
 public:
     const uint32_t number;
@@ -161,7 +165,8 @@ public:
     static time_zone from_extended_string(std::string_view text) { return of_text(ZONED_EXTENDED_STRING, text); }
 
     // The zone of that name, such as Europe/Paris, in the first of the folders that has it: paths with : between them, or those of
-    // zoned_open_name. Throws error with ZONED_NO_SUCH_ZONE if no folder has it.
+    // zoned_open_name. Throws error with ZONED_NO_SUCH_ZONE if no folder has it. It needs the installed library: the archive of
+    // `rt lib` has no zoned_open_name.
     static time_zone locate(std::string_view name, const std::string &folders = {}) {
         const std::string path(name);
         time_zone opened({path, folders + ':' + path});
