@@ -65,8 +65,8 @@ enum zoned_number {
     ZONED_OUT_OF_MEMORY = 17,          /* out of memory */
     ZONED_IN_GAP = 21,                 /* the local time lies in a gap, and `gap` is ZONED_GAP_REFUSE */
     ZONED_IN_FOLD = 22,                /* the local time lies in a fold, and `fold` is ZONED_FOLD_REFUSE */
-    ZONED_INSTANT_OUT_OF_RANGE = 23,   /* the local time or the instant lies outside the years -262143 to 262142, or the answer
-                                          of a column doesn't fit 64 bits of its unit */
+    ZONED_INSTANT_OUT_OF_RANGE = 23,   /* the local time or the instant lies outside the years -262143 to 262142, or an answer
+                                          of a column doesn't fit 64 bits of its unit (of zoned_column_locals: 37) */
     ZONED_UNKNOWN_KIND = 31,           /* no kind of bytes has that number */
     ZONED_OTHER_SIZE = 32,             /* there is room for another count of answers */
     ZONED_NOT_OPEN = 33,               /* the handle has no zone open */
@@ -321,8 +321,8 @@ typedef struct zoned_resolved {
    a local time has no instant: `number` says why.
 
    zoned_local_of makes a local time of a date and a time of day. For valid fields the two calls do what mktime does with tm_isdst -1,
-   with your policies in gaps and folds. (In a fold glibc's answer may depend on the call before it: 1636263000 or 1636266600 for 01:30 on
-   2021-11-07 in New York.) In New York's gaps and folds tm_isdst 0 is ZONED_GAP_SHIFT_FORWARD and ZONED_FOLD_LATEST, and 1 is
+   with your policies in gaps and folds. (In a fold glibc's answer may depend on the call before it: 1636263000 or 1636266600 for 01:30
+   on 2021-11-07 in New York.) In New York's gaps and folds tm_isdst 0 is ZONED_GAP_SHIFT_FORWARD and ZONED_FOLD_LATEST, and 1 is
    ZONED_GAP_SHIFT_BACKWARD and ZONED_FOLD_EARLIEST. mktime normalises other fields; zoned_local_of returns ZONED_NO_DATE_TIME.
 
    resolved_len is locals_len. */
@@ -458,8 +458,8 @@ uint32_t zoned_column_ceils(const struct zoned_zone *zone, uint32_t step, int64_
                             const int64_t *instants, size_t instants_len,
                             int64_t *ceils, size_t ceils_len, size_t *row);
 
-/* A date and a time of day on a clock, and what the calendar says of the date. C's struct tm counts otherwise: tm_year from 1900, tm_mon
-   from 0 and tm_yday from 0. */
+/* A date and a time of day on a clock, and what the calendar says of the date. C's struct tm counts otherwise: tm_year from 1900,
+   tm_mon from 0 and tm_yday from 0. */
 typedef struct zoned_fields {
     int32_t year;         /* -262143 to 262142; the year 0 is 1 BC */
     uint32_t month;       /* 1 to 12 */
