@@ -1,5 +1,5 @@
 /* The three functions by which the library takes memory, over malloc: for processors for which the kit has no heap, and to start
-   one of your own from. zoned_ffi.h says under "Memory" what each promises. */
+   one of your own from. zoned(3) says under "Memory" what each promises. */
 #include <stdbool.h>
 #include <stddef.h>
 #include <stdlib.h>
