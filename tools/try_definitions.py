@@ -1,7 +1,7 @@
 #!/usr/bin/env python3
 """Tries wrong definitions: edits of pages of specs/ that a pin or a law must reject.
 
-usage: tools/try_definitions.py [--lanes N] [--tenth] [EDIT ..]
+usage: tools/try_definitions.py [--lanes N] [--beside FILE] [--tenth] [EDIT ..]
 
 A wrong definition is a block of its crate's wrong_definitions.txt: the page and the texts that it exchanges there, each of which is
 once in the page, what the definition says then, and the pins that are no longer proved:
@@ -18,7 +18,8 @@ A line `law: CRATE FUNCTION` in place of `pins:` names a law that must reject it
 The pins are checked over the pages alone, in a copy of the repository: the libraries keep their types and their pages, and lose
 their functions; each of their lemmas is taken as given, with a hole for its proof. So it is the words that reject an edit, and no
 library needs to be built. First the pins are checked over the pages as they are: each must be proved there. Of a law its crate
-keeps its functions and its lemmas.
+keeps its functions and its lemmas. The laws of `zoned` are functions that call the libraries below it. They are checked over these
+libraries as `rt ci` or `rt check` has built them: beside an `rt ci` that is still running, with its output in FILE, as soon as they are.
 
 Edits are tried together if none of them changes a definition that a pin of another one speaks of, also through other definitions
 and through lemmas of crates/tests_pins. An edit doesn't count if a page can't be read any more, or if a proof misses a name.
@@ -40,11 +41,13 @@ from pathlib import Path
 from queue import Queue
 
 from edits import WRONG_DEFINITIONS, all_blocks, tenth
-from kit import PROVED_WITHOUT_LEMMAS, UNREAD, VERDICT, words_over_pages
+from kit import PROVED_WITHOUT_LEMMAS, UNREAD, VERDICT, wait_for, words, words_over_pages
 from records import ALL, DEFINITIONS as DEFINITIONS_TRIED, record
 from sources import TOP, imports_of, libraries_below, text_of, uses
 
 DEFINITIONS = TOP / "docs/DEFINITIONS.md"
+# Its laws are checked over the libraries below it as they were built.
+OVER_BUILT = "zoned"
 # A line below a definition: pins, what they say, and the wrong definitions that they reject.
 PINNED = re.compile(r"(?m)^  - ((?:`\w+::\w+`(?:, )?)+): (.*?)(?: Rejects (?:.*))?$")
 BY_LAW = re.compile(r"(?m)(are rejected in a copy of their crate, by a law or by a pin of `zoned_ffi`: ).*$")
@@ -222,7 +225,8 @@ def lay(room, crate, with_code=False):
     """Lays a copy of the crate and of the libraries below it: of these only types and pages, and their lemmas are taken as given.
     A crate that calls what lies below needs the code too."""
     removed = set()
-    for name in [*sorted(libraries_below(crate)), crate]:
+    below = [] if crate == OVER_BUILT else sorted(libraries_below(crate))
+    for name in [*below, crate]:
         for part in ("src", "specs", "proofs"):
             if (TOP / "crates" / name / part).is_dir():
                 shutil.copytree(TOP / "crates" / name / part, room / name / part)
@@ -235,7 +239,7 @@ def lay(room, crate, with_code=False):
                 path.write_text(without_proofs(path.read_text()))
         for path in (room / name / "src").rglob("*.rt") if not with_code else []:
             path.write_text(without_functions(path.read_text(), removed))
-    for name in libraries_below(crate):
+    for name in below:
         for path in (room / name / "src").rglob("*.rt"):
             path.write_text(without_names(path.read_text(), removed))
     for path in sorted(room.rglob("*"), reverse=True):
@@ -247,7 +251,8 @@ def check(room, crate, functions):
     """Checks these functions of the crate in that copy, and returns what is said."""
     (room / "kept").mkdir(exist_ok=True)
     only = [word for name in functions for word in ("--only", name)]
-    made = [*words_over_pages(crate, room), "--incremental", room / "kept", "--allow-holes", *only]
+    start = words("check", crate) if crate == OVER_BUILT else words_over_pages(crate, room)
+    made = [*start, "--incremental", room / "kept", "--allow-holes", *only]
     ran = subprocess.run(made, cwd=room / crate, stdin=subprocess.DEVNULL, capture_output=True, text=True)
     return ran.stdout + ran.stderr
 
@@ -408,9 +413,12 @@ def tried(chosen, room):
     return [outcome(edit, said, room, "tests_pins") for edit in chosen]
 
 
-def tried_by_law(law, chosen):
+def tried_by_law(law, chosen, log):
     """Tries edits by a law in a copy of its crate, one after the other, and says of each what came of it."""
     crate, function = law
+    if crate == OVER_BUILT and not wait_for(libraries_below(crate), log):
+        yield from ((f"{edit.name}: not tried: the libraries below {crate} aren't proved", False) for edit in chosen)
+        return
     with tempfile.TemporaryDirectory() as folder:
         room = Path(folder)
         lay(room, crate, with_code=True)
@@ -459,6 +467,7 @@ def tried_by_pins(chosen, lanes):
 def main():
     given = argparse.ArgumentParser(usage=__doc__.partition("usage: ")[2].partition("\n\n")[0])
     given.add_argument("--lanes", type=int, default=2)
+    given.add_argument("--beside", type=Path)
     given.add_argument("--tenth", action="store_true")
     given.add_argument("names", nargs="*")
     given = given.parse_args()
@@ -472,7 +481,7 @@ def main():
     chosen = [edit for edit in edits() if is_chosen(edit.name)]
     count = rejected = 0
     laws = dict.fromkeys(edit.law for edit in chosen if edit.law)
-    by_law = (row for law in laws for row in tried_by_law(law, [edit for edit in chosen if edit.law == law]))
+    by_law = (row for law in laws for row in tried_by_law(law, [edit for edit in chosen if edit.law == law], given.beside))
     by_pins = [edit for edit in chosen if edit.pins]
     for rows in (tried_by_pins(by_pins, given.lanes) if by_pins else [], by_law):
         for row, is_rejected in rows:
