@@ -18,8 +18,8 @@ A line `law: CRATE FUNCTION` in place of `pins:` names a law that must reject it
 The pins are checked over the pages alone, in a copy of the repository: the libraries keep their types and their pages, and lose
 their functions; each of their lemmas is taken as given, with a hole for its proof. So it is the words that reject an edit, and no
 library needs to be built. First the pins are checked over the pages as they are: each must be proved there. Of a law its crate
-keeps its functions and its lemmas. The laws of `zoned` are functions that call the libraries below it. They are checked over these
-libraries as `rt ci` or `rt check` has built them: beside an `rt ci` that is still running, with its output in FILE, as soon as they are.
+keeps its functions and its lemmas. If the page is of the law's own crate, the libraries below are used as `rt ci` or `rt check` has
+built them: beside an `rt ci` that is still running, with its output in FILE, as soon as they are proved.
 
 Edits are tried together if none of them changes a definition that a pin of another one speaks of, also through other definitions
 and through lemmas of crates/tests_pins. An edit doesn't count if a page can't be read any more, or if a proof misses a name.
@@ -34,6 +34,7 @@ import shutil
 import subprocess
 import sys
 import tempfile
+from collections import defaultdict
 from concurrent.futures import ThreadPoolExecutor
 from dataclasses import dataclass, field
 from functools import lru_cache
@@ -46,8 +47,6 @@ from records import ALL, DEFINITIONS as DEFINITIONS_TRIED, record
 from sources import TOP, imports_of, libraries_below, text_of, uses
 
 DEFINITIONS = TOP / "docs/DEFINITIONS.md"
-# Its laws are checked over the libraries below it as they were built.
-OVER_BUILT = "zoned"
 # A line below a definition: pins, what they say, and the wrong definitions that they reject.
 PINNED = re.compile(r"(?m)^  - ((?:`\w+::\w+`(?:, )?)+): (.*?)(?: Rejects (?:.*))?$")
 BY_LAW = re.compile(r"(?m)(are rejected in a copy of their crate, by a law or by a pin of `zoned_ffi`: ).*$")
@@ -71,6 +70,10 @@ class Edit:
     @property
     def page(self):
         return self.file.removeprefix("crates/")
+
+    def is_over_built(self):
+        """Whether the page is of its law's crate, so that the libraries below are as they were built."""
+        return self.page.startswith(f"{self.law[0]}/")
 
     def applied(self, text):
         """The page with its texts exchanged, or None if one isn't there exactly once."""
@@ -221,11 +224,11 @@ def without_names(text, removed):
     return re.sub(r"(?m)^( *(?:pub(?:\([a-z: ]+\))? )?use )([^;]*);", fewer, text)
 
 
-def lay(room, crate, with_code=False):
+def lay(room, crate, with_code=False, is_over_built=False):
     """Lays a copy of the crate and of the libraries below it: of these only types and pages, and their lemmas are taken as given.
     A crate that calls what lies below needs the code too."""
     removed = set()
-    below = [] if crate == OVER_BUILT else sorted(libraries_below(crate))
+    below = [] if is_over_built else sorted(libraries_below(crate))
     for name in [*below, crate]:
         for part in ("src", "specs", "proofs"):
             if (TOP / "crates" / name / part).is_dir():
@@ -247,11 +250,11 @@ def lay(room, crate, with_code=False):
             path.rmdir()
 
 
-def check(room, crate, functions):
+def check(room, crate, functions, is_over_built=False):
     """Checks these functions of the crate in that copy, and returns what is said."""
     (room / "kept").mkdir(exist_ok=True)
     only = [word for name in functions for word in ("--only", name)]
-    start = words("check", crate) if crate == OVER_BUILT else words_over_pages(crate, room)
+    start = words("check", crate) if is_over_built else words_over_pages(crate, room)
     made = [*start, "--incremental", room / "kept", "--allow-holes", *only]
     ran = subprocess.run(made, cwd=room / crate, stdin=subprocess.DEVNULL, capture_output=True, text=True)
     return ran.stdout + ran.stderr
@@ -413,16 +416,16 @@ def tried(chosen, room):
     return [outcome(edit, said, room, "tests_pins") for edit in chosen]
 
 
-def tried_by_law(law, chosen, log):
+def tried_by_law(law, is_over_built, chosen, log):
     """Tries edits by a law in a copy of its crate, one after the other, and says of each what came of it."""
     crate, function = law
-    if crate == OVER_BUILT and not wait_for(libraries_below(crate), log):
+    if is_over_built and not wait_for(libraries_below(crate), log):
         yield from ((f"{edit.name}: not tried: the libraries below {crate} aren't proved", False) for edit in chosen)
         return
     with tempfile.TemporaryDirectory() as folder:
         room = Path(folder)
-        lay(room, crate, with_code=True)
-        before = verdicts(check(room, crate, [function]), crate)
+        lay(room, crate, True, is_over_built)
+        before = verdicts(check(room, crate, [function], is_over_built), crate)
         is_proved = before and all(map(is_accepted, before.values()))
         for edit in chosen:
             if not is_proved:
@@ -430,7 +433,7 @@ def tried_by_law(law, chosen, log):
                 continue
             text = text_of(TOP / edit.file)
             (room / edit.page).write_text(edit.applied(text))
-            yield outcome(edit, check(room, crate, [function]), room, crate)
+            yield outcome(edit, check(room, crate, [function], is_over_built), room, crate)
             (room / edit.page).write_text(text)
 
 
@@ -480,8 +483,11 @@ def main():
     is_chosen = tenth() if given.tenth else lambda name: not given.names or name in given.names
     chosen = [edit for edit in edits() if is_chosen(edit.name)]
     count = rejected = 0
-    laws = dict.fromkeys(edit.law for edit in chosen if edit.law)
-    by_law = (row for law in laws for row in tried_by_law(law, [edit for edit in chosen if edit.law == law], given.beside))
+    by_laws = defaultdict(list)
+    for edit in chosen:
+        if edit.law:
+            by_laws[edit.law, edit.is_over_built()].append(edit)
+    by_law = (row for law, those in by_laws.items() for row in tried_by_law(*law, those, given.beside))
     by_pins = [edit for edit in chosen if edit.pins]
     for rows in (tried_by_pins(by_pins, given.lanes) if by_pins else [], by_law):
         for row, is_rejected in rows:
