@@ -3,6 +3,7 @@
 import ctypes
 from ctypes import byref, c_int64, c_size_t, c_uint32, c_void_p
 from datetime import date, datetime, timedelta, timezone
+from functools import lru_cache
 from zoneinfo import ZoneInfo
 
 import numpy as np
@@ -250,6 +251,92 @@ def test_days_are_those_of_the_library(name):
         assert zone.ceil(seconds, step).tolist() == by_library("zoned_column_ceils", zone, seconds, number)
     reached = np.array(by_library("zoned_column_reached", zone, seconds))
     assert (zone.day(seconds).date == reached // DAY * DAY).all()
+
+
+@lru_cache(None)
+def shown_by_zoneinfo(name, first, last):
+    """Each minute from one moment of UTC to another, and the local time that zoneinfo shows then."""
+    seconds = np.arange(*(int(np.datetime64(each, "s").astype(int)) for each in (first, last)), 60)
+    there = ZoneInfo(name)
+    moments = (datetime.fromtimestamp(each, timezone.utc).astimezone(there) for each in seconds.tolist())
+    return seconds, np.array([each.replace(tzinfo=None) for each in moments], "M8[s]").view(np.int64)
+
+
+@pytest.mark.parametrize("name, first, last", [
+    ("America/New_York", "2021-10-20", "2021-11-12"),
+    ("America/New_York", "2021-03-01", "2021-03-20"),
+    ("America/St_Johns", "2005-10-20", "2005-11-10"),
+    ("America/Toronto", "1919-03-20", "1919-04-10"),
+    ("America/Sao_Paulo", "2017-10-01", "2017-10-20"),
+    ("Pacific/Apia", "2011-12-20", "2012-01-10"),
+])
+@pytest.mark.parametrize("unit", ["s", "ms", "ns"])
+def test_columns_in_order(name, first, last, unit):
+    """Rows in order of time, many of a day, have the answers of zoneinfo: a day begins at the first minute at which
+    it is midnight there, or later, for the first time. So have the same rows in another order."""
+    seconds, local = shown_by_zoneinfo(name, first, last)
+    numbers = np.maximum.accumulate(local // DAY)
+    begins = np.flatnonzero(np.diff(numbers, prepend=numbers[0]))
+    # The first day of the window has begun before it, and the last one ends after it.
+    rows = np.arange(begins[2], begins[-3])
+    start = seconds[begins[np.searchsorted(begins, rows, "right") - 1]]
+    until = seconds[begins[np.searchsorted(begins, rows, "right")]]
+    pairs = seconds[begins[np.searchsorted(numbers[begins], numbers[rows] // 2 * 2)]]
+    ceils = np.where(start == seconds[rows], start, until)
+    mixed = np.random.default_rng(1).permutation(rows.size)
+    zone, part = Zone(name), np.timedelta64(0 if unit == "s" else 1, unit)
+    for order in (np.arange(rows.size), mixed):
+        times = seconds[rows][order].astype("M8[s]").astype(f"M8[{unit}]")
+        np.testing.assert_array_equal(zone.floor(times, "D").astype("M8[s]").view(np.int64), start[order])
+        np.testing.assert_array_equal(zone.floor(times, "2D").astype("M8[s]").view(np.int64), pairs[order])
+        np.testing.assert_array_equal(zone.ceil(times, "D").astype("M8[s]").view(np.int64), ceils[order])
+        # A part of a second later the start of the day is past.
+        later = ceils if unit == "s" else until
+        np.testing.assert_array_equal(zone.ceil(times + part, "D").astype("M8[s]").view(np.int64), later[order])
+        days = zone.day(times + part)
+        expected = numbers[rows] * DAY, start, until
+        for field, values in zip(days, expected):
+            np.testing.assert_array_equal(field.astype("M8[s]").view(np.int64), values[order])
+        dates = (numbers[rows][order]).astype("M8[D]").astype(f"M8[{unit}]")
+        np.testing.assert_array_equal(zone.start_of_day(dates).astype("M8[s]").view(np.int64), start[order])
+
+
+@pytest.mark.parametrize("name", ["America/New_York", "Europe/London", "Africa/Casablanca", "Asia/Kolkata"])
+def test_months_in_order_beside_pandas(name):
+    """Each hour of six years, of several blocks: the first of a month is that of pandas, where no clock changes at midnight."""
+    column = pd.Series(pd.date_range("2015-01-03", "2021-01-01", freq="1h", tz="UTC")).repeat(2)
+    shown = column.dt.tz_convert(name).dt.tz_localize(None)
+    for step, period in {"MS": "M", "QS": "Q", "YS": "Y", "W": "W-SUN"}.items():
+        begun = shown.dt.to_period(period).dt.to_timestamp()
+        expected = begun.dt.tz_localize(name).dt.tz_convert("UTC")
+        pd.testing.assert_series_equal(Zone(name).floor(column, step), expected, check_freq=False)
+
+
+def test_errors_of_columns_in_order():
+    """The first row whose answer doesn't fit, among many of a day: midnight of 2262-04-12 is too late for nanoseconds."""
+    utc, hour = Zone("UTC"), np.timedelta64(3_600 * 10**9, "ns")
+    times = np.datetime64("2262-04-10T00:00", "ns") + hour * np.arange(47)
+    with pytest.raises(sahvumbi.OutOfRangeError, match="does not fit datetime64.ns") as raised:
+        utc.ceil(times, "D")
+    assert raised.value.row == 25
+    assert (utc.floor(times, "D") == times.astype("M8[D]")).all()
+    with pytest.raises(sahvumbi.OutOfRangeError) as raised:
+        utc.day(times)
+    assert raised.value.row == 24
+    last = 8_210_266_876_799
+    with pytest.raises(sahvumbi.OutOfRangeError, match="outside the years") as raised:
+        utc.ceil(last - DAY + np.arange(0, DAY, 600), "D")
+    assert raised.value.row == 1
+
+
+def test_missing_times_among_rows_in_order():
+    """NaT, the least number, comes first in order of numbers, and last as pandas sorts."""
+    known = pd.Series(pd.date_range("2021-11-06", "2021-11-09", freq="1h", tz="UTC"))
+    begun = known.dt.tz_convert("America/New_York").dt.normalize().dt.tz_convert("UTC")
+    none = pd.Series([pd.NaT], dtype=known.dtype)
+    for before, after in ((none, none[:0]), (none[:0], none)):
+        column, expected = (pd.concat([before, each, after], ignore_index=True) for each in (known, begun))
+        pd.testing.assert_series_equal(NEW_YORK.floor(column, "D"), expected)
 
 
 def test_forms():

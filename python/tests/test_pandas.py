@@ -1,11 +1,14 @@
 """Series: name, index and NaT are kept."""
 
+import pickle
+from types import SimpleNamespace
+
 import numpy as np
 import pandas as pd
 import pytest
 
 import sahvumbi
-from sahvumbi import Zone
+from sahvumbi import Zone, _containers
 
 NEW_YORK = Zone.from_text("EST5EDT,M3.2.0,M11.1.0")
 INDEX = pd.Index(["a", "b", "b"], name="row")
@@ -150,6 +153,48 @@ def test_infer_beside_pandas(key):
     pd.testing.assert_series_equal(zone.localize(local, fold="infer"), instants)
     theirs = local.dt.tz_localize(key, ambiguous="infer").dt.tz_convert("UTC")
     pd.testing.assert_series_equal(zone.localize(local, fold="infer"), theirs)
+
+
+@pytest.mark.parametrize("name", ["when", None])
+def test_answers_by_public_ways(monkeypatch, name):
+    """A pandas that has lost what the quick answers are made by: they are made by its public ways, and are equal."""
+    instants, local_times = INSTANTS.rename(name), LOCALS.rename(name)
+    forms = {"Series": (instants, local_times), "Index": (pd.DatetimeIndex(instants, name=name), pd.DatetimeIndex(local_times, name=name))}
+
+    def answers(instants, local_times):
+        yield NEW_YORK.to_local(instants)
+        yield NEW_YORK.localize(local_times)
+        yield NEW_YORK.localize(local_times, tz="America/New_York")
+        yield NEW_YORK.offsets(instants)
+
+    quick = {form: list(answers(*columns)) for form, columns in forms.items()}
+    arrays = SimpleNamespace(DatetimeArray=None, TimedeltaArray=None)
+    public = {each: getattr(pd, each) for each in ("array", "Index", "DatetimeTZDtype", "__version__")}
+    series = type("Series", (), {})
+    kept = SimpleNamespace(arrays=arrays, DatetimeIndex=lambda *a, **k: pd.DatetimeIndex(*a, **k), Series=series, **public)
+    monkeypatch.setattr(_containers, "sys", SimpleNamespace(modules={"pandas": kept}))
+    for form, columns in forms.items():
+        equal = pd.testing.assert_series_equal if form == "Series" else pd.testing.assert_index_equal
+        for answer, expected in zip(answers(*columns), quick[form]):
+            assert answer.name == name
+            equal(answer, expected)
+
+
+def test_answers_are_what_pandas_makes():
+    """An answer that is made without pandas' checks behaves as one that pandas makes."""
+    made = NEW_YORK.to_local(INSTANTS)
+    pd.testing.assert_series_equal(made, INSTANTS.dt.tz_convert("America/New_York").dt.tz_localize(None))
+    made.loc["c"] = pd.Timestamp("2022-01-01")
+    made.iloc[0] = pd.NaT
+    assert made.isna().tolist() == [True, True, False, False] and made.name == "when"
+    assert made.sort_values().index[0] == "b" and made.dt.year.dropna().tolist() == [2021.0, 2022.0]
+    assert pd.concat([made, made]).size == 8 and made.to_frame().columns.tolist() == ["when"]
+    assert pickle.loads(pickle.dumps(made)).equals(made) and made.rename("then").name == "then"
+    index = NEW_YORK.localize(pd.DatetimeIndex(LOCALS, name="when"))
+    assert index.freq is None and index.name == "when" and index.get_loc(INSTANTS.iloc[2]) == 2
+    assert pickle.loads(pickle.dumps(index)).equals(index) and index.insert(0, pd.NaT).size == 4
+    # What is written to an answer is not written to its question.
+    assert LOCALS.iloc[0] == pd.Timestamp("2021-07-01 08:00:00.5")
 
 
 def test_partitions_of_dask():

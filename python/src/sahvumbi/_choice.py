@@ -162,6 +162,8 @@ def must_have_no_others(call: str, others: dict[str, Any]) -> None:
 def _given(column: Column, fold: Any, is_dst: Any, offset: Any) -> Optional[Given]:
     """What is given for each row, or None."""
     is_word = fold is None or isinstance(fold, str)
+    if is_word and is_dst is None and offset is None:
+        return None
     columns = {"fold": None if is_word else fold, "is_dst": is_dst, "offset": offset}
     found = [name for name, values in columns.items() if values is not None]
     if not found:

@@ -11,7 +11,7 @@ from __future__ import annotations
 import sys
 from datetime import date, datetime, time, timedelta, timezone
 from functools import cached_property
-from typing import Any, Iterator, Optional
+from typing import Any, Iterator, Literal, Optional
 
 import numpy as np
 
@@ -37,9 +37,12 @@ SECONDS = {"m": 60, "h": 3_600, "D": 86_400, "W": 604_800}
 # Numbers of months and years that numpy turns into seconds without leaving 64 bits.
 MOST = {"M": 12 * 292_277_000_000, "Y": 292_277_000_000}
 
+INT64 = np.dtype(np.int64)
 #: The types of numpy that columns have as they are, and their units.
 UNITS: dict[Any, Optional[str]] = {dtype: unit for unit, dtype in TIMES.items()}
-UNITS[np.dtype(np.int64)] = None
+UNITS[INT64] = None
+#: The unit of a type that isn't one of them.
+NO_UNIT = "none"
 
 COLUMNS = "an array or a list of int64 or datetime64, a Series, an Index and a datetime are"
 
@@ -245,6 +248,20 @@ class Block:
     def ends(self) -> tuple[int, int]:
         """The least and the greatest of them."""
         return extremes(self.counted)
+
+    def is_in_order(self) -> bool:
+        """Returns whether each row has a time, and none comes before the one above it."""
+        later, earlier = self.values[1:], self.values[:-1]
+        # Rows in no order show it soon.
+        if (later[:FEW] < earlier[:FEW]).any() or self.is_nat is not None:
+            return False
+        return not (later < earlier).any()
+
+    def counts(self, seconds: Array, side: Literal["left", "right"] = "left") -> Array:
+        """Returns how many rows, which are in order, come before the first of these seconds, between each two of them,
+        and after the last. For 'right' a row at a second comes before it."""
+        places = np.searchsorted(self.values, seconds * self.column.per_second, side)
+        return np.diff(places, prepend=0, append=self.values.size)
 
     def fits_calls(self) -> bool:
         """Returns whether the calls for C that count in units take the rows as they are."""
@@ -490,9 +507,11 @@ def _of_arrow(array: Any, container: Optional[ArrayContainer], may_be_aware: boo
 def _of_array(array: Array, container: Optional[ArrayContainer] = None) -> Column:
     """An array of int64 or datetime64 that the calls take as it is, is not copied."""
     container = container or ArrayContainer(array.shape)
-    if array.dtype in UNITS:
-        return Column(_laid_out(array, array.dtype).view(np.int64), UNITS[array.dtype], container)
-    kind = array.dtype.kind
+    dtype = array.dtype
+    unit = UNITS.get(dtype, NO_UNIT)
+    if unit is not NO_UNIT:
+        return Column(_laid_out(array, dtype).view(INT64), unit, container)
+    kind = dtype.kind
     if kind == "M":
         return _of_datetime64(array, container)
     if kind not in "iu":

@@ -117,8 +117,13 @@ class SeriesContainer(ArrayContainer):
     text = object
 
     def __init__(self, of: Any, has_nat: Optional[bool] = None):
-        super().__init__(of.shape)
         self.of, self.has_nat = of, has_nat
+
+    @property
+    def shape(self) -> tuple[int, ...]:  # type: ignore[override]
+        # Most calls don't ask for it.
+        shape: tuple[int, ...] = self.of.shape
+        return shape
 
     @property
     def length_unit(self) -> str:  # type: ignore[override]
@@ -147,7 +152,7 @@ class SeriesContainer(ArrayContainer):
         return self.plain(_lengths_of_pandas(values))
 
     def plain(self, values: Any) -> Any:
-        return _series_over(values, self.of).__finalize__(self.of)
+        return _series_over(values, self.of)
 
     def table(self, columns: Any) -> Any:
         import pandas
@@ -166,8 +171,7 @@ class IndexContainer(SeriesContainer):
     def times(self, values: Array, unit: Optional[str], zone: Any) -> Any:
         if unit is None:
             return self.numbers(values)
-        made = sys.modules["pandas"].DatetimeIndex._simple_new
-        return made(_times_of_pandas(values, unit, zone), name=self.of.name)
+        return _index_over(_times_of_pandas(values, unit, zone), self.of.name)
 
     def plain(self, values: Any) -> Any:
         import pandas
@@ -364,15 +368,22 @@ class Failures(NamedTuple):
         return as_html(self)
 
 
+# pandas' public constructors look for what these values can't have, and take 5 to 20 times as long as its own ones. They
+# are used if a later pandas has lost those.
+
+
 def _times_of_pandas(values: Array, unit: str, zone: Any) -> Any:
     """Returns the array in which pandas has times, over these numbers: it copies none of them, and looks at none."""
     pandas = sys.modules["pandas"]
-    dtype: Any = TIMES[unit]
-    # The public ways to make one take twenty times as long.
-    made = pandas.arrays.DatetimeArray._simple_new
-    if zone is not None:
-        dtype = _type_in_utc(unit) if zone == "UTC" else pandas.DatetimeTZDtype(unit, zone)
-    return made(values.view(TIMES[unit]), dtype=dtype)
+    times = values.view(TIMES[unit])
+    try:
+        made = pandas.arrays.DatetimeArray._simple_new
+    except AttributeError:
+        plain = pandas.array(times, copy=False)
+        return plain if zone is None else plain.tz_localize("UTC").tz_convert(zone)
+    if zone is None:
+        return made(times, dtype=times.dtype)
+    return made(times, dtype=_type_in_utc(unit) if zone == "UTC" else pandas.DatetimeTZDtype(unit, zone))
 
 
 @lru_cache(None)
@@ -383,20 +394,46 @@ def _type_in_utc(unit: str) -> Any:
 
 def _lengths_of_pandas(values: Array) -> Any:
     """Returns the array in which pandas has lengths of time, over timedelta64."""
-    return sys.modules["pandas"].arrays.TimedeltaArray._simple_new(values, dtype=values.dtype)
+    pandas = sys.modules["pandas"]
+    try:
+        return pandas.arrays.TimedeltaArray._simple_new(values, dtype=values.dtype)
+    except AttributeError:
+        return pandas.array(values, copy=False)
+
+
+def _index_over(times: Any, name: Any) -> Any:
+    """Returns an Index over an array of times."""
+    kind = sys.modules["pandas"].DatetimeIndex
+    try:
+        return kind._simple_new(times, name=name)
+    except AttributeError:
+        return kind(times, name=name)
 
 
 def _series_over(values: Any, of: Any) -> Any:
-    """Returns a Series over values, with the labels of another one.
-
-    The public constructor takes five times as long: it first looks for what these values can't have."""
+    """Returns a Series over values, with the labels of another one, its name, attrs, flags and class."""
     kind = sys.modules["pandas"].Series
-    if type(of) is not kind:
-        return of._constructor(values, index=of.index, name=of.name, copy=False)
+    made = None
+    if type(of) is kind:
+        try:
+            made = _plain_series(kind, values, of)
+        except (AttributeError, TypeError):
+            pass
+    if made is None:
+        made = of._constructor(values, index=of.index, name=of.name, copy=False)
+    elif not of.attrs and of.flags.allows_duplicate_labels:
+        return made
+    return made.__finalize__(of)
+
+
+def _plain_series(kind: Any, values: Any, of: Any) -> Any:
+    """Returns a Series of pandas' own class over values, with the labels and the name of another one."""
     manager = of._mgr.from_array(values, of.index)
-    if hasattr(kind, "_from_mgr"):
-        return kind._from_mgr(manager, manager.axes)
-    return kind(manager, fastpath=True)
+    if not hasattr(kind, "_from_mgr"):
+        return kind(manager, name=of.name, fastpath=True)
+    made = kind._from_mgr(manager, manager.axes)
+    made.name = of.name
+    return made
 
 
 def _nullable(values: Array) -> Any:

@@ -51,10 +51,14 @@ Step = Union[str, timedelta]
 NONE = GREATEST
 # The parts of a column's range, as a power of two.
 PARTS = 14
+# Rows in order are answered by day if there are more than this many of them to a day.
+ROWS_OF_DAY = 4
 # A day that no calendar reaches.
 NO_DAY = 10**9
 EMPTY = "no clock of the zone shows a time of that day"
 OUTSIDE = "the day is outside the years -262143 to 262142"
+#: A second for each row of a block, and None; or one for as many rows, in order, as the second array has for it.
+Stretches = tuple[Array, Optional[Array]]
 
 
 class Days(NamedTuple):
@@ -102,10 +106,10 @@ def days(native: NativeZone, column: Column) -> Any:
     date, start, until = (np.empty(len(column), np.int64) for _ in Days._fields)
     beginnings = Beginnings(native, column)
     for block in _blocks_in_calendar(column):
-        numbers = beginnings.days_at(block.seconds)
-        _write(block, numbers * DAY, date)
-        _write(block, beginnings.of(numbers), start)
-        _write(block, beginnings.of(numbers + 1), until)
+        numbers, counts = beginnings.days_of(block)
+        _write(block, numbers * DAY, date, counts)
+        _write(block, beginnings.of(numbers), start, counts)
+        _write(block, beginnings.of(numbers + 1), until, counts)
     # Each array is let go before the next answer is made.
     start = column.instants(start)
     until = column.instants(until)
@@ -119,7 +123,8 @@ def floored(native: NativeZone, column: Column, step: Step) -> Array:
         return _floored_in_second(column, parsed)
     answers, stretches = np.empty(len(column), np.int64), stretches_of(native, column, parsed)
     for block in _blocks_in_calendar(column):
-        _write(block, stretches.begun(block.seconds), answers)
+        begun, counts = stretches.begun(block)
+        _write(block, begun, answers, counts)
     return answers
 
 
@@ -130,8 +135,8 @@ def ceiled(native: NativeZone, column: Column, step: Step) -> Array:
         return _ceiled_in_second(column, parsed)
     answers, stretches = np.empty(len(column), np.int64), stretches_of(native, column, parsed)
     for block in _blocks_in_calendar(column):
-        # The first step after the unit before the instant.
-        _write(block, stretches.ended((block.counted - 1) // column.per_second), answers)
+        ended, counts = stretches.ended(block)
+        _write(block, ended, answers, counts)
     return answers
 
 
@@ -221,6 +226,17 @@ class Beginnings:
         reached = self.native.first_at_or_after(midnights)
         return np.where(reached["number"] == 0, reached["instant"], NONE)
 
+    def days_of(self, block: Block, before: int = 0) -> tuple[Array, Optional[Array]]:
+        """Returns the day that each instant of a block lies in, or `before` units earlier, 0 or 1; or, of a block
+        in order, the days that it spans, and how many rows lie in each."""
+        per_second = block.column.per_second
+        if block.is_in_order():
+            first, last = self.days_at((block.values[[0, -1]] - before) // per_second).tolist()
+            if (last - first) * ROWS_OF_DAY < block.values.size:
+                days = np.arange(first, last + 1)
+                return days, block.counts(self.of(days[1:]), "right" if before else "left")
+        return self.days_at((block.counted - before) // per_second if before else block.seconds), None
+
     def days_at(self, seconds: Array) -> Array:
         """Returns the day that each second lies in, counted from 1970-01-01: the last one that has begun."""
         days: Array = _local_seconds(self.native, seconds) // DAY
@@ -251,15 +267,15 @@ class Periods:
         self.first = DayTable(column, lambda days: looked_up(step.first_day(days)))
         self.following = DayTable(column, lambda days: looked_up(step.next_first(step.first_day(days))))
 
-    def begun(self, seconds: Array) -> Array:
-        """Returns the first second of the step that each second lies in."""
-        days = self.beginnings.days_at(seconds)
-        return self.beginnings.of(days) if self.is_day else self.first.of(days)
+    def begun(self, block: Block) -> Stretches:
+        """Returns the first second of the step that each instant lies in."""
+        days, counts = self.beginnings.days_of(block)
+        return (self.beginnings.of(days) if self.is_day else self.first.of(days)), counts
 
-    def ended(self, seconds: Array) -> Array:
-        """Returns the first second of the step after that."""
-        days = self.beginnings.days_at(seconds)
-        return self.beginnings.of(days + 1) if self.is_day else self.following.of(days)
+    def ended(self, block: Block) -> Stretches:
+        """Returns the first second of the step after the one that the unit before each instant lies in."""
+        days, counts = self.beginnings.days_of(block, before=1)
+        return (self.beginnings.of(days + 1) if self.is_day else self.following.of(days)), counts
 
 
 class Parts:
@@ -277,23 +293,25 @@ class Parts:
         self.first, self.shift = least - 1, max(0, (greatest - least).bit_length() - PARTS)
         self.is_near = self._parts_near((greatest - self.first >> self.shift) + 1)
 
-    def begun(self, seconds: Array) -> Array:
-        """Returns the first second of the stretch that each second lies in."""
+    def begun(self, block: Block) -> Stretches:
+        """Returns the first second of the stretch that each instant lies in."""
+        seconds = block.seconds
         begun, near = self._multiple(seconds), self._near(seconds)
         if near.size:
             last = np.searchsorted(self.changes.at, seconds[near], "right") - 1
             is_late = begun[near] < self.changes.at[last]
             begun[near[is_late]] = self.changes.begun[last[is_late]]
-        return begun
+        return begun, None
 
-    def ended(self, seconds: Array) -> Array:
-        """Returns the first second of the stretch after that."""
+    def ended(self, block: Block) -> Stretches:
+        """Returns the first second of the stretch after the one that the unit before each instant lies in."""
+        seconds = (block.counted - 1) // block.column.per_second
         ended, near = self._multiple(seconds) + self.step, self._near(seconds)
         if near.size:
             following = np.searchsorted(self.changes.at, seconds[near], "right")
             is_early = ended[near] >= self.changes.at[following]
             ended[near[is_early]] = self.changes.following[following[is_early]]
-        return ended
+        return ended, None
 
     def _multiple(self, seconds: Array) -> Array:
         """When clocks showed a multiple of the step, if they weren't changed since."""
@@ -375,8 +393,15 @@ def _raise_outside(block: Block, places: Array) -> None:
     raise block.column.error(OutOfRangeError, row, OUT_OF_RANGE, OUTSIDE)
 
 
-def _write(block: Block, seconds: Array, answers: Array) -> None:
-    """Writes the rows of a block. Raises at the first row that has no second, or doesn't fit."""
+def _write(block: Block, seconds: Array, answers: Array, counts: Optional[Array] = None) -> None:
+    """Writes a second for each row of a block, or for as many rows as `counts` has for it. Raises at the first row that
+    has no second, or doesn't fit."""
+    if counts is not None:
+        units = np.empty(seconds.size, np.int64)
+        if int(seconds.max()) != NONE and not block.in_units(seconds, units).size:
+            answers[block.rows] = units.repeat(counts)
+            return
+        seconds = seconds.repeat(counts)
     if int(seconds.max()) == NONE:
         _raise_outside(block, np.flatnonzero(seconds == NONE))
     write_seconds(block, seconds, answers)

@@ -7,9 +7,9 @@ handle, so threads may ask one zone at once.
 
 from __future__ import annotations
 
-from ctypes import byref, c_int32, c_int64, c_size_t, c_void_p
+from ctypes import addressof, byref, c_char, c_int32, c_int64, c_size_t, c_void_p
 from datetime import timedelta
-from functools import lru_cache
+from functools import lru_cache, partial
 from typing import TYPE_CHECKING, Any, Callable, NamedTuple, Optional
 
 import numpy as np
@@ -82,6 +82,8 @@ DAYS_OF_STRETCH = 3
 AROUND = 2 * 86_400
 # How many stretches a zone keeps.
 KEPT = 1 << 12
+# A type without bytes, whose `from_buffer` finds where an array begins.
+_NOTHING = c_char * 0
 # Seconds between which a stretch is kept: the calendar lies among them, and 64 bits reach far beyond.
 FAR = 1 << 50
 
@@ -123,7 +125,7 @@ class NativeZone:
         up to the first row that has none, and returns that row.
 
         Units are those of `COLUMN_UNITS`. The least int64 is no time, and stays."""
-        stop = self._rows(LIBRARY.zoned_column_locals, (per_second,), instants, answers)(0)
+        stop = self._written(LIBRARY.zoned_column_locals, (per_second,), *_rows_of(instants, answers), 0)
         return stop and stop.row
 
     # Local times, counted in seconds but for those of `instants`.
@@ -134,7 +136,7 @@ class NativeZone:
         """Returns a call that writes the instant that the choice takes for each local time, from a
         row on and up to the next one that has none, and returns that row, and why."""
         words = gap, fold, per_second
-        return self._rows(LIBRARY.zoned_column_instants, words, local_times, answers)
+        return partial(self._written, LIBRARY.zoned_column_instants, words, *_rows_of(local_times, answers))
 
     def wall_clocks(self, local_times: Array) -> Array:
         """When clocks show each local time, as `WALL_CLOCK`."""
@@ -296,28 +298,35 @@ class NativeZone:
         self._must_be_answered(call(self._zone, *words, *_array(asked), *_array(answers)))
         return answers
 
-    def _rows(
-        self, call: Any, words: tuple[int, ...], asked: Array, answers: Array
-    ) -> Callable[[int], Optional[Stop]]:
-        """Returns what asks about the rows of two arrays of int64, from one of them on."""
-        first, out, size, row = asked.ctypes.data, answers.ctypes.data, asked.size, c_size_t()
+    def _written(
+        self, call: Any, words: tuple[int, ...], asked: int, answers: int, size: int, begin: int
+    ) -> Optional[Stop]:
+        """Has a call write its answers about rows of int64, from a row on and up to the first one that has none.
 
-        def ask(begin: int) -> Optional[Stop]:
-            while begin < size:
-                rows = min(size - begin, ROWS)
-                arrays = first + 8 * begin, rows, out + 8 * begin, rows
-                number = call(self._zone, *words, *arrays, byref(row))
-                if number in ROW_REFUSED:
-                    return Stop(begin + row.value, number)
-                self._must_be_answered(number)
-                begin += rows
-            return None
-
-        return ask
+        `asked` and `answers` are where the rows begin."""
+        row = c_size_t()
+        while begin < size:
+            rows, skipped = min(size - begin, ROWS), 8 * begin
+            number = call(self._zone, *words, asked + skipped, rows, answers + skipped, rows, byref(row))
+            if number in ROW_REFUSED:
+                return Stop(begin + row.value, number)
+            self._must_be_answered(number)
+            begin += rows
+        return None
 
     def _must_be_answered(self, number: int) -> None:
         if number:
             raise ZoneRefusedError(number, self.what)
+
+
+def _rows_of(asked: Array, answers: Array) -> tuple[int, int, int]:
+    """Where the rows of two arrays of int64 begin, and how many there are."""
+    return _address(asked), _address(answers), asked.size
+
+
+def _address(array: Array) -> int:
+    """Where an array of int64 begins. For one that may be written this takes a third of the time."""
+    return addressof(_NOTHING.from_buffer(array)) if array.flags.writeable else array.ctypes.data
 
 
 def _array(array: Array) -> tuple[int, int]:
