@@ -4,7 +4,8 @@
 usage: python/bench/side_by_side.py [--rows N] [--write] [--part NAME ..]
 
 Prints the tables of docs/PYTHON.md, or with --write puts them there, all of them and only on an idle machine. It takes
-three minutes. --part prints some of them: ratios, sizes, values, calls, memory, kinds; and arrow, which needs pyarrow.
+five minutes. --part prints some of them: ratios, sizes, steps, values, calls, memory, kinds; arrow, which needs pyarrow; and
+limits, what the library's calls alone take of calls on 1,000 and 10,000 rows.
 After tools/python_tests.sh this measures and writes them:
 
     PYTHONPATH=python/src /usr/bin/python3 python/bench/side_by_side.py --write
@@ -49,7 +50,9 @@ ZONES = [
     "Pacific/Apia",
 ]
 CALLS = "to_local", "offsets", "types", "localize", "start_of_day"
-PARTS = ["ratios", "sizes", "values", "calls", "memory", "kinds"]
+PARTS = ["ratios", "sizes", "steps", "values", "calls", "memory", "kinds"]
+# pandas 1 and 2 have each its own word.
+HOUR = "H" if pd.__version__ < "2.2" else "h"
 DAY = int(np.datetime64("2021-07-01", "s").astype(int))
 PACKAGES = "python3-tz", "python3-dateutil", "tzdata"
 
@@ -102,6 +105,14 @@ def pandas_instants(local, zone):
     return local.dt.tz_localize(zone, ambiguous="NaT", nonexistent="NaT").dt.tz_convert("UTC")
 
 
+def index_local(instants, zone):
+    return instants.tz_convert(zone).tz_localize(None)
+
+
+def index_instants(local, zone):
+    return local.tz_localize(zone, ambiguous="NaT", nonexistent="NaT").tz_convert("UTC")
+
+
 def differing(ours, theirs):
     """The rows in which two columns differ; NaT is like NaT."""
     ours, theirs = (each.to_numpy("M8[ns]").view(np.int64) for each in (ours, theirs))
@@ -147,28 +158,74 @@ def ratios(rows):
         yield from table(["zone", *names], 4, lines)
 
 
+def pairs_of(form, rows, local):
+    """Each zone and order, with the call here, pandas' and the column, a Series or an Index."""
+    index = form == "a DatetimeIndex"
+    for name in ZONES:
+        zone = Zone(name)
+        for order, seconds in [*orders(rows), ("old among new", with_old_dates(rows))]:
+            column = instants_of(seconds) if local else local_times_of(zone, seconds)
+            column = pd.DatetimeIndex(column) if index else column
+            ours = zone.to_local if local else lambda each, zone=zone: zone.localize(each, gap="nat", fold="nat")
+            theirs = (index_local if index else pandas_local) if local else (index_instants if index else pandas_instants)
+            yield name, order, lambda: ours(column), lambda: theirs(column, name), column
+
+
 def sizes():
     """pandas' time through ours for shorter columns: the least ratio of all orders, also with old dates among new ones."""
     lines = []
     for rows in (1_000, 10_000, 100_000):
-        cells = []
-        for local in (True, False):
-            found = {}
-            for name in ZONES:
-                zone = Zone(name)
-                for order, seconds in [*orders(rows), ("old among new", with_old_dates(rows))]:
-                    column = instants_of(seconds) if local else local_times_of(zone, seconds)
-                    ours = zone.to_local if local else lambda each: zone.localize(each, gap="nat", fold="nat")
-                    theirs = pandas_local if local else pandas_instants
-                    asks = [lambda: ours(column), lambda: theirs(column, name)]
+        for form in ("a Series", "a DatetimeIndex"):
+            cells = []
+            for local in (True, False):
+                found = {}
+                for name, order, *asks, _ in pairs_of(form, rows, local):
                     _, times = timed(asks, 5, calls=max(1, 50_000 // rows))
                     found[times[1] / times[0]] = name, order
-            ratio = min(found)
-            cells += [f"{ratio:.1f} ({', '.join(found[ratio])})", f"{sorted(found)[len(found) // 2]:.1f}"]
-        lines.append(row(f"{rows:,}", *cells))
+                ratio = min(found)
+                cells += [f"{ratio:.1f} ({', '.join(found[ratio])})", f"{sorted(found)[len(found) // 2]:.1f}"]
+            lines.append(row(f"{rows:,}, {form}", *cells))
     yield "### Shorter columns: pandas' time through ours\n"
     yield "The least of six zones and five orders (as above, and one row in a thousand before 1970), and the median.\n"
     yield from table(["rows", "to local times, least", "median", "to instants, least", "median"], 4, lines)
+
+
+def limits():
+    """What a call on a column may take at best: the library's call on an array that is there, and a copy of the column."""
+    lines = []
+    for rows in (1_000, 10_000):
+        for form in ("a Series", "a DatetimeIndex"):
+            for name, order, ours, theirs, column in pairs_of(form, rows, True):
+                native, values, answers = Zone(name)._native, column.to_numpy("M8[ns]").view(np.int64), np.empty(rows, np.int64)
+                asks = [ours, theirs, lambda: native.local_times(10**9, values, answers), values.copy]
+                _, times = timed(asks, 5, calls=max(1, 50_000 // rows))
+                cells = [f"{1e6 * each:.1f} us" for each in times]
+                lines.append(row(f"{rows:,}, {form}", name, order, *cells, f"{times[1] / times[0]:.1f}", f"{times[1] / times[2]:.1f}"))
+    yield "### To local times: what limits the ratio\n"
+    head = ["here", "pandas", "the library's call", "a copy", "pandas' time through ours", "through the library's"]
+    yield from table(["rows", "zone", "order", *head], 6, lines)
+
+
+def steps(rows):
+    """Offsets, days and hours: pandas' time through ours, and ours for a row."""
+    name, lines = ZONES[0], {}
+    zone = Zone(name)
+    for order, seconds in list(orders(rows))[:3]:
+        instants = instants_of(seconds)
+        local = zone.to_local(instants)
+        shown = {"ambiguous": "NaT", "nonexistent": "NaT"}
+        asks = {
+            "`offsets`": (lambda: zone.offsets(instants), lambda: pandas_local(instants, name) - instants.dt.tz_localize(None)),
+            "`floor` to days": (lambda: zone.floor(instants, "D"), lambda: instants.dt.tz_convert(name).dt.floor("D", **shown)),
+            "`floor` to hours": (lambda: zone.floor(instants, "h"), lambda: instants.dt.tz_convert(name).dt.floor(HOUR, **shown)),
+            "`start_of_day`": (lambda: zone.start_of_day(local), lambda: pandas_instants(local.dt.floor("D"), name)),
+        }
+        for call, pair in asks.items():
+            _, times = timed(pair, 3)
+            ours, theirs = (1e9 * each / rows for each in times)
+            lines.setdefault(call, []).append(f"{theirs / ours:.1f} ({ours:.1f} ns of {theirs:.0f})")
+    yield f"### Offsets, days and hours in {name}: pandas' time through ours\n"
+    yield from table(["call on a Series", "in no order", "sorted", "one day"], 3, [row(call, *cells) for call, cells in lines.items()])
 
 
 def with_old_dates(rows):
@@ -377,6 +434,8 @@ def main():
     parts = {
         "ratios": lambda: ratios(given.rows),
         "sizes": sizes,
+        "limits": limits,
+        "steps": lambda: steps(given.rows),
         "values": values,
         "calls": calls,
         "memory": lambda: memory(given.rows),
