@@ -253,6 +253,22 @@ def test_days_are_those_of_the_library(name):
     assert (zone.day(seconds).date == reached // DAY * DAY).all()
 
 
+@pytest.mark.parametrize("name", ["America/New_York", "Australia/Lord_Howe", "America/Toronto", "Pacific/Apia", "Asia/Kolkata"])
+def test_hours_are_those_of_the_library(name):
+    """More than two days from where clocks are set back: a step of the library doesn't begin again there, and here it does."""
+    zone = Zone(name)
+    changes = zone.changes(int(np.datetime64("1890", "s").astype(int)), int(np.datetime64("2110", "s").astype(int)))
+    anywhere = np.random.default_rng(2).integers(-2_200_000_000, 4_100_000_000, 3_000)
+    seconds = np.concatenate([anywhere, *(changes.at + 450 * eighths for eighths in range(-20, 21))])
+    back = np.concatenate([[-(2**40)], changes.at[changes.offset_after < changes.offset_before], [2**40]])
+    places = np.searchsorted(back, seconds, "right")
+    seconds = seconds[(seconds - back[places - 1] > 2 * DAY) & (back[places] - seconds > 2 * DAY)]
+    assert seconds.size > 2_000
+    for step, number in {"15min": 900, "h": 3_600, "6h": 21_600}.items():
+        assert zone.floor(seconds, step).tolist() == by_library("zoned_column_floors", zone, seconds, number)
+        assert zone.ceil(seconds, step).tolist() == by_library("zoned_column_ceils", zone, seconds, number)
+
+
 @lru_cache(None)
 def shown_by_zoneinfo(name, first, last):
     """Each minute from one moment of UTC to another, and the local time that zoneinfo shows then."""
