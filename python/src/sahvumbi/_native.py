@@ -326,7 +326,9 @@ def _rows_of(asked: Array, answers: Array) -> tuple[int, int, int]:
 
 def _address(array: Array) -> int:
     """Where an array of int64 begins. For one that may be written this takes a third of the time."""
-    return addressof(_NOTHING.from_buffer(array)) if array.flags.writeable else array.ctypes.data
+    # Types of older numpy don't have it as a buffer.
+    buffer: Any = array
+    return addressof(_NOTHING.from_buffer(buffer)) if array.flags.writeable else array.ctypes.data
 
 
 def _array(array: Array) -> tuple[int, int]:
