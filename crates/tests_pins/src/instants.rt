@@ -1,11 +1,12 @@
-//! Instants: what clocks with an offset show then, their order, their timestamps, and whole years
-//! between what two clocks show.
+//! Instants: what clocks with an offset show then, also days later, their order, their timestamps, and whole
+//! years between what two clocks show.
 
-ghost use Rattle.std.specs.Prelude.{◌≡◌, neg_ℤ, pos, ℤ};
+ghost use Rattle.std.specs.Prelude.{◌≡◌, neg_ℤ, pos, Option, ℕ, ℤ};
 ghost use Rattle.naive_base.specs.{NaiveDate.{day_of}, Stamp.{IsSubsecond}};
-ghost use Rattle.zoned_time.specs.{Order.{compared}, Years.{IsWholeYears}, Zone.{midnight_of}, Zoned.{local_of}};
+ghost use Rattle.zoned_time.specs.DateTime.{day_shown_by, wall_of, zoned, IsOnlyDaysLater};
+ghost use Rattle.zoned_time.specs.{Order.{compared}, Years.{IsWholeYears, IsYearsSince}, Zone.{midnight_of}, Zoned.{local_of}};
 ghost use Rattle.zoned_time.specs.{Relocal.{instant_of}, Stamps.{micros_of, millis_of, of_micros, of_millis}};
-ghost use Rattle.tests_pins.specs.{Instants.{in_new_york, noon, own_seconds}, Readings.{clock_reading}};
+ghost use Rattle.tests_pins.specs.{Instants.{in_new_york, noon, of_utc, own_seconds, PlainInstant}, Readings.{clock_reading}};
 
 use naive_base::NaiveDate;
 use std::cmp::Ordering;
@@ -84,4 +85,32 @@ pub fn years()
     ensures is_four { IsWholeYears (noon (pos 2004) 2 29 1) (noon (pos 2000) 2 29 1) (pos 4) }
     ensures is_backwards { IsWholeYears (noon (pos 1999) 2 28 0) (noon (pos 2000) 2 29 0)
         (neg_ℤ (pos 2)) }
+{}
+
+/// Nine days after 2022-02-20, day 19043, clocks show 2022-03-01, and six days before it 2022-02-14. By
+/// clocks of UTC it is noon nine days after noon.
+pub fn days_later()
+    ensures later { (d new : PlainInstant) → day_shown_by d ≡ pos 19_043
+        → IsOnlyDaysLater of_utc d (pos 9) (Some new)
+        → day_shown_by new ≡ pos 19_052 }
+    ensures earlier { (d new : PlainInstant) → day_shown_by d ≡ pos 19_043
+        → IsOnlyDaysLater of_utc d (neg_ℤ (pos 6)) (Some new)
+        → day_shown_by new ≡ pos 19_037 }
+    ensures is_later { (d new : PlainInstant) → wall_of d ≡ record { s = pos 1_645_358_400; f = 0 }
+        → (zoned new).utc ≡ record { s = pos 1_646_136_000; f = 0 }
+        → (zoned new).offset ≡ pos 0
+        → IsOnlyDaysLater of_utc d (pos 9) (Some new) }
+{}
+
+/// From noon of 29 February 2000 to that of 29 February 2004 there are four years; backwards there is no
+/// number of years.
+pub fn years_since()
+    ensures four { (n : Option ℕ)
+        → IsYearsSince (noon (pos 2004) 2 29 0) (noon (pos 2000) 2 29 0) n
+        → n ≡ Some 4 }
+    ensures none { (n : Option ℕ)
+        → IsYearsSince (noon (pos 1999) 2 28 0) (noon (pos 2000) 2 29 0) n
+        → n ≡ None }
+    ensures is_four { IsYearsSince (noon (pos 2004) 2 29 0) (noon (pos 2000) 2 29 0) (Some 4) }
+    ensures is_none { IsYearsSince (noon (pos 1999) 2 28 0) (noon (pos 2000) 2 29 0) None }
 {}

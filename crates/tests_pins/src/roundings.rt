@@ -1,10 +1,10 @@
 //! Multiples and digits, as chrono's documentation of rounding has them.
 
-ghost use Rattle.std.specs.Prelude.{◌≡◌, codes, neg_ℤ, pos};
-ghost use Rattle.zoned_round.specs.{Durations.{IsRoundingLength}, Errors.{message, IsRoundingFault}};
+ghost use Rattle.std.specs.Prelude.{◌≡◌, codes, neg_ℤ, pos, Result, ℤ};
+ghost use Rattle.zoned_round.specs.{Durations.{IsRoundedTo, IsRoundingLength}, Errors.{message, IsRoundingFault}};
 ghost use Rattle.zoned_round.specs.Multiples.{multiple_above, multiple_below, nearest_multiple};
 ghost use Rattle.zoned_round.specs.Subseconds.{cut, rounded};
-ghost use Rattle.tests_pins.specs.Readings.{clock_reading};
+ghost use Rattle.tests_pins.specs.{Instants.{IsLater}, Readings.{clock_reading}};
 
 use zoned_round::RoundingError;
 
@@ -51,4 +51,30 @@ pub fn digits()
     ensures leap_second { cut (clock_reading 23 59 59 1_300) 0 ≡ clock_reading 23 59 59 1_000 }
     ensures leap_second_rounded { rounded (clock_reading 23 59 59 1_300) 0
         ≡ clock_reading 23 59 59 1_000 }
+{}
+
+/// 2018-01-11 12:00:00.154 to ten milliseconds is 12:00:00.150, and rounded up 12:00:00.160. A clock an
+/// hour ahead of UTC that shows it is moved to its midnight, which is 23:00 of UTC on the day before.
+pub fn moves()
+    ensures nearest { (answer : Result ℤ RoundingError)
+        → IsRoundedTo nearest_multiple (λ e. e) (IsLater (pos 1_515_672_000_154_000_000))
+        (pos 1_515_672_000_154_000_000) (pos 10_000_000) (pos 1_515_672_000_154_000_000) answer
+        → answer ≡ Ok (pos 1_515_672_000_150_000_000) }
+    ensures above { (answer : Result ℤ RoundingError)
+        → IsRoundedTo multiple_above (λ e. e) (IsLater (pos 1_515_672_000_154_000_000))
+        (pos 1_515_672_000_154_000_000) (pos 10_000_000) (pos 1_515_672_000_154_000_000) answer
+        → answer ≡ Ok (pos 1_515_672_000_160_000_000) }
+    ensures in_zone { (answer : Result ℤ RoundingError)
+        → IsRoundedTo multiple_below (λ e. e) (IsLater (pos 1_515_668_400_154_000_000))
+        (pos 1_515_672_000_154_000_000) (pos 86_400_000_000_000) (pos 1_515_668_400_154_000_000) answer
+        → answer ≡ Ok (pos 1_515_625_200_000_000_000) }
+    ensures is_nearest { IsRoundedTo {E = RoundingError} nearest_multiple (λ e. e) (IsLater (pos 1_515_672_000_154_000_000))
+        (pos 1_515_672_000_154_000_000) (pos 10_000_000) (pos 1_515_672_000_154_000_000)
+        (Ok (pos 1_515_672_000_150_000_000)) }
+    ensures is_above { IsRoundedTo {E = RoundingError} multiple_above (λ e. e) (IsLater (pos 1_515_672_000_154_000_000))
+        (pos 1_515_672_000_154_000_000) (pos 10_000_000) (pos 1_515_672_000_154_000_000)
+        (Ok (pos 1_515_672_000_160_000_000)) }
+    ensures is_in_zone { IsRoundedTo {E = RoundingError} multiple_below (λ e. e) (IsLater (pos 1_515_668_400_154_000_000))
+        (pos 1_515_672_000_154_000_000) (pos 86_400_000_000_000) (pos 1_515_668_400_154_000_000)
+        (Ok (pos 1_515_625_200_000_000_000)) }
 {}
