@@ -11,7 +11,11 @@
 //   print               the length of the text; `text` has the text itself
 //   elsewhere           the second that London's clocks show, as if it were of UTC
 //   daily               the sum of four weeks' instants, as Unix times
+//   date_fields, local_fields                     the digits of 20200102, and of 20200102030405
+//   date_weekday, date_ordinal, date_iso_week     the day of the week from Monday, which is 0; of the year; the digits of 202001
+//   other dates         days, where 0001-01-01 is day 1; local_month_later: the local time, as a Unix time
 //   others              an instant, as a Unix time; `sort` has the instants in order
+// The questions about dates and local date-times, of wall_near, are those of chrono's driver.
 #pragma once
 #include "common.h"
 #include <algorithm>

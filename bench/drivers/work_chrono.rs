@@ -1,5 +1,5 @@
-//! chrono at the questions of crates/bench_instants, with `Local` in New York and with chrono-tz. work.h says what a driver gets
-//! and prints; an answer that there is none is NO_INSTANT.
+//! chrono at the questions of crates/bench_instants, with `Local` in New York and with chrono-tz; and its dates and local date-times,
+//! which need no time zone. work.h says what a driver gets and prints; an answer that there is none is NO_INSTANT.
 #[allow(dead_code)]
 mod timed;
 
@@ -8,6 +8,7 @@ use std::fmt::Display;
 use std::fs::File;
 use std::hint::black_box;
 use std::io::{BufWriter, Write};
+use std::ops::Range;
 use timed::{clock_cost, figure, seconds, took, CHECKED};
 
 const NO_INSTANT: i64 = i64::MIN;
@@ -23,20 +24,32 @@ struct Work {
 }
 
 impl Work {
-    /// Slices of SLICE calls, and of each the least time of some passes.
+    /// The sum of what is asked.
     fn question(&mut self, name: &str, call: impl Fn(usize) -> i64) {
+        self.ask(name, |asked| asked.fold(0_i64, |sum, i| sum.wrapping_add(call(i))));
+    }
+
+    /// The latest of the dates, as a number.
+    fn dates(&mut self, name: &str, call: impl Fn(usize) -> Option<NaiveDate>) {
+        self.ask(name, |asked| match asked.filter_map(|i| call(i)).max() {
+            Some(latest) => latest.num_days_from_ce() as i64,
+            None => NO_INSTANT,
+        });
+    }
+
+    /// Slices of SLICE values, and of each the least time of some passes.
+    fn ask(&mut self, name: &str, call: impl Fn(Range<usize>) -> i64) {
         let mut sum = 0.0;
         for from in (0..CHECKED).step_by(SLICE) {
             let mut least = f64::INFINITY;
             for _ in 0..PASSES {
-                let asked = || _ = black_box((from..from + SLICE).fold(0_i64, |sum, i| sum.wrapping_add(call(i))));
-                least = least.min(took(self.cost, asked));
+                least = least.min(took(self.cost, || _ = black_box(call(black_box(from)..from + SLICE))));
             }
             sum += least;
         }
         figure(self.peer, "New_York", name, "near", (sum / CHECKED as f64, CHECKED));
         for i in 0..CHECKED {
-            self.tell(name, call(i));
+            self.tell(name, call(i..i + 1));
         }
     }
 
@@ -130,6 +143,34 @@ where
     work.sort(&instants);
 }
 
+/// The local times of `wall_near`, as dates and date-times.
+fn time_dates(work: &mut Work, inputs: &str) {
+    let readings: Vec<NaiveDateTime> = seconds(inputs, "wall", "near").into_iter().take(CHECKED).map(date_time).collect();
+    let dates: Vec<NaiveDate> = readings.iter().map(|at| at.date()).collect();
+    let typed: Vec<_> = dates.iter().map(|on| (on.year(), on.month(), on.day())).collect();
+    let ordinals: Vec<_> = dates.iter().map(|on| (on.year(), on.ordinal())).collect();
+    let weeks: Vec<_> = dates.iter().map(|on| (on.iso_week(), on.weekday())).map(|(of, day)| (of.year(), of.week(), day)).collect();
+    let date_digits = |on: &NaiveDate| (on.year() as i64 * 100 + on.month() as i64) * 100 + on.day() as i64;
+
+    work.question("date_fields", |i| date_digits(&dates[i]));
+    work.question("date_weekday", |i| dates[i].weekday().num_days_from_monday() as i64);
+    work.question("date_ordinal", |i| dates[i].ordinal() as i64);
+    work.question("date_iso_week", |i| {
+        let week = dates[i].iso_week();
+        week.year() as i64 * 100 + week.week() as i64
+    });
+    work.dates("date_month_later", |i| dates[i].checked_add_months(Months::new(1)));
+    work.dates("date_in_june", |i| dates[i].with_month(6));
+    work.dates("date_of_month", |i| NaiveDate::from_ymd_opt(typed[i].0, typed[i].1, typed[i].2));
+    work.dates("date_of_year", |i| NaiveDate::from_yo_opt(ordinals[i].0, ordinals[i].1));
+    work.dates("date_of_week", |i| NaiveDate::from_isoywd_opt(weeks[i].0, weeks[i].1, weeks[i].2));
+    work.question("local_fields", |i| digits(&readings[i]));
+    work.ask("local_month_later", |asked| {
+        let latest = asked.filter_map(|i| readings[i].checked_add_months(Months::new(1))).max();
+        latest.map_or(NO_INSTANT, |at| at.timestamp())
+    });
+}
+
 fn main() {
     let words: Vec<String> = std::env::args().collect();
     let [_, inputs, outputs] = &words[..] else { panic!("usage: work_chrono INPUTS OUTPUTS") };
@@ -140,5 +181,7 @@ fn main() {
     time_work(&mut of("chrono_tz"), inputs, chrono_tz::America::New_York, Some(chrono_tz::Europe::London));
     let file = std::fs::canonicalize(format!("{inputs}/zones/New_York")).expect("the zone");
     std::env::set_var("TZ", format!(":{}", file.display()));
-    time_work(&mut of("chrono"), inputs, chrono::Local, None);
+    let mut chrono = of("chrono");
+    time_work(&mut chrono, inputs, chrono::Local, None);
+    time_dates(&mut chrono, inputs);
 }

@@ -1,5 +1,7 @@
 //! The answers, as numbers, and their sums.
 
+use crate::dates;
+use crate::place::Place;
 use crate::question::Question;
 use crate::values::{Pair, Typed, Values};
 use naive_base::{Datelike, Days, Months, NaiveDate, NaiveDateTime, NaiveTime, Timelike};
@@ -10,8 +12,8 @@ use zoned_round::DurationRound;
 use zoned_series::DailySeries;
 use zoned_time::{DateTime, Offset, TimeZone};
 
-// The number for no answer, as of a month later at a local date-time in a gap.
-const NONE: i64 = i64::MIN;
+/// The number for no answer, as of a month later at a local date-time in a gap.
+pub const NONE: i64 = i64::MIN;
 
 // How many days a series has.
 const DAYS: u32 = 28;
@@ -22,9 +24,10 @@ const CHOICE: Choice = Choice {
     fold: FoldChoice::Earliest,
 };
 
-/// The sum of the answers about the values from one place to before another. Each question has a
-/// loop of its own, so that nothing but its answers is timed.
-pub fn sum_of<Tz: TimeZone>(
+/// The sum of the answers about the values from one number to before another; of dates, the latest.
+/// Each question has a loop of its own, so that nothing but its answers is timed, and each place of
+/// the program a copy of it.
+pub fn sum_of<Tz: TimeZone, P: Place>(
     alloc: Global,
     values: &Values<Tz>,
     question: Question,
@@ -38,22 +41,35 @@ where
     let instants = part(&values.instants, from, end);
     let pairs = part(&values.pairs, from, end);
     let readings = part(&values.readings, from, end);
+    let typed = part(&values.typed, from, end);
+    let dates = part(&values.dates, from, end);
     match question {
-        Question::FieldsAt => fields_at(zone, part(&values.seconds, from, end)),
-        Question::Fields => fields(instants),
-        Question::FromFields => from_fields(zone, part(&values.typed, from, end)),
-        Question::MonthLater => months_later(instants),
-        Question::DayLater => days_later(instants),
-        Question::AtNine => at_nine(instants),
-        Question::FiveMinutes => cut(instants, TimeDelta::minutes(5)),
-        Question::WholeDay => cut(instants, TimeDelta::days(1)),
-        Question::Difference => differences(pairs),
-        Question::Order => orders(pairs),
-        Question::Print => printed(alloc, instants),
-        Question::Elsewhere => elsewhere(&values.other, instants),
-        Question::Resolve => resolved(zone, readings),
-        Question::InGap => resolved(zone, part(&values.skipped, from, end)),
-        Question::Daily => daily(zone, readings),
+        Question::FieldsAt => fields_at::<Tz, P>(zone, part(&values.seconds, from, end)),
+        Question::Fields => fields::<Tz, P>(instants),
+        Question::FromFields => from_fields::<Tz, P>(zone, typed),
+        Question::MonthLater => months_later::<Tz, P>(instants),
+        Question::DayLater => days_later::<Tz, P>(instants),
+        Question::AtNine => at_nine::<Tz, P>(instants),
+        Question::FiveMinutes => cut::<Tz, P>(instants, TimeDelta::minutes(5)),
+        Question::WholeDay => cut::<Tz, P>(instants, TimeDelta::days(1)),
+        Question::Difference => differences::<Tz, P>(pairs),
+        Question::Order => orders::<Tz, P>(pairs),
+        Question::Print => printed::<Tz, P>(alloc, instants),
+        Question::Elsewhere => elsewhere::<Tz, P>(&values.other, instants),
+        Question::Resolve => resolved::<Tz, P>(zone, readings),
+        Question::InGap => resolved::<Tz, P>(zone, part(&values.skipped, from, end)),
+        Question::Daily => daily::<Tz, P>(zone, readings),
+        Question::DateFields => dates::fields::<P>(dates),
+        Question::DateWeekday => dates::weekdays::<P>(dates),
+        Question::DateOrdinal => dates::ordinals::<P>(dates),
+        Question::DateIsoWeek => dates::iso_weeks::<P>(dates),
+        Question::DateMonthLater => dates::months_later::<P>(dates),
+        Question::DateInJune => dates::in_june::<P>(dates),
+        Question::DateOfMonth => dates::of_month::<P>(typed),
+        Question::DateOfYear => dates::of_year::<P>(part(&values.ordinals, from, end)),
+        Question::DateOfWeek => dates::of_week::<P>(part(&values.weeks, from, end)),
+        Question::LocalFields => dates::local_fields::<P>(readings),
+        Question::LocalMonthLater => dates::local_months_later::<P>(readings),
     }
 }
 
@@ -61,63 +77,63 @@ fn part<T>(items: &[T], from: usize, end: usize) -> &[T] {
     items.get(from..end).unwrap_or(&[])
 }
 
-fn fields_at<Tz: TimeZone>(zone: &Tz, seconds: &[i64]) -> i64 {
+fn fields_at<Tz: TimeZone, P: Place>(zone: &Tz, seconds: &[i64]) -> i64 {
     let mut sum = 0i64;
     for second in seconds {
-        sum = sum.wrapping_add(number_at(zone, *second));
+        sum = sum.wrapping_add(number_at::<Tz, P>(zone, *second));
     }
     sum
 }
 
-fn fields<Tz: TimeZone>(instants: &[DateTime<Tz>]) -> i64 {
+fn fields<Tz: TimeZone, P: Place>(instants: &[DateTime<Tz>]) -> i64 {
     let mut sum = 0i64;
     for instant in instants {
-        sum = sum.wrapping_add(number_of(instant));
+        sum = sum.wrapping_add(number_of::<Tz, P>(instant));
     }
     sum
 }
 
-fn from_fields<Tz: TimeZone>(zone: &Tz, typed: &[Typed]) -> i64 {
+fn from_fields<Tz: TimeZone, P: Place>(zone: &Tz, typed: &[Typed]) -> i64 {
     let mut sum = 0i64;
     for fields in typed {
-        sum = sum.wrapping_add(second_typed(zone, fields));
+        sum = sum.wrapping_add(second_typed::<Tz, P>(zone, fields));
     }
     sum
 }
 
-fn months_later<Tz: TimeZone>(instants: &[DateTime<Tz>]) -> i64 {
+fn months_later<Tz: TimeZone, P: Place>(instants: &[DateTime<Tz>]) -> i64 {
     let mut sum = 0i64;
     for instant in instants {
-        sum = sum.wrapping_add(second_of(instant.checked_add_months(Months::new(1))));
+        sum = sum.wrapping_add(second_of::<Tz, P>(instant.checked_add_months(Months::new(1))));
     }
     sum
 }
 
-fn days_later<Tz: TimeZone>(instants: &[DateTime<Tz>]) -> i64 {
+fn days_later<Tz: TimeZone, P: Place>(instants: &[DateTime<Tz>]) -> i64 {
     let mut sum = 0i64;
     for instant in instants {
-        sum = sum.wrapping_add(second_of(instant.checked_add_days(Days::new(1))));
+        sum = sum.wrapping_add(second_of::<Tz, P>(instant.checked_add_days(Days::new(1))));
     }
     sum
 }
 
-fn at_nine<Tz: TimeZone>(instants: &[DateTime<Tz>]) -> i64 {
+fn at_nine<Tz: TimeZone, P: Place>(instants: &[DateTime<Tz>]) -> i64 {
     let mut sum = 0i64;
     for instant in instants {
-        sum = sum.wrapping_add(second_of(instant.with_hour(9)));
+        sum = sum.wrapping_add(second_of::<Tz, P>(instant.with_hour(9)));
     }
     sum
 }
 
-fn cut<Tz: TimeZone>(instants: &[DateTime<Tz>], length: TimeDelta) -> i64 {
+fn cut<Tz: TimeZone, P: Place>(instants: &[DateTime<Tz>], length: TimeDelta) -> i64 {
     let mut sum = 0i64;
     for instant in instants {
-        sum = sum.wrapping_add(second_cut(instant, length));
+        sum = sum.wrapping_add(second_cut::<Tz, P>(instant, length));
     }
     sum
 }
 
-fn differences<Tz: TimeZone>(pairs: &[Pair<Tz>]) -> i64 {
+fn differences<Tz: TimeZone, P: Place>(pairs: &[Pair<Tz>]) -> i64 {
     let mut sum = 0i64;
     for pair in pairs {
         sum = sum.wrapping_add(pair.one.signed_duration_since(&pair.other).num_seconds());
@@ -125,7 +141,7 @@ fn differences<Tz: TimeZone>(pairs: &[Pair<Tz>]) -> i64 {
     sum
 }
 
-fn orders<Tz: TimeZone>(pairs: &[Pair<Tz>]) -> i64 {
+fn orders<Tz: TimeZone, P: Place>(pairs: &[Pair<Tz>]) -> i64 {
     let mut sum = 0i64;
     for pair in pairs {
         sum = sum.wrapping_add(i64::from(pair.one < pair.other));
@@ -133,50 +149,50 @@ fn orders<Tz: TimeZone>(pairs: &[Pair<Tz>]) -> i64 {
     sum
 }
 
-fn printed<Tz: TimeZone>(alloc: Global, instants: &[DateTime<Tz>]) -> i64
+fn printed<Tz: TimeZone, P: Place>(alloc: Global, instants: &[DateTime<Tz>]) -> i64
 where
     Tz::Offset: fmt::Display,
 {
     let mut sum = 0i64;
     for instant in instants {
-        sum = sum.wrapping_add(length_printed(alloc, instant));
+        sum = sum.wrapping_add(length_printed::<Tz, P>(alloc, instant));
     }
     sum
 }
 
-fn elsewhere<Tz: TimeZone>(other: &Tz, instants: &[DateTime<Tz>]) -> i64 {
+fn elsewhere<Tz: TimeZone, P: Place>(other: &Tz, instants: &[DateTime<Tz>]) -> i64 {
     let mut sum = 0i64;
     for instant in instants {
-        sum = sum.wrapping_add(second_shown(other, instant));
+        sum = sum.wrapping_add(second_shown::<Tz, P>(other, instant));
     }
     sum
 }
 
-fn resolved<Tz: TimeZone>(zone: &Tz, readings: &[NaiveDateTime]) -> i64 {
+fn resolved<Tz: TimeZone, P: Place>(zone: &Tz, readings: &[NaiveDateTime]) -> i64 {
     let mut sum = 0i64;
     for reading in readings {
-        sum = sum.wrapping_add(second_resolved(zone, reading));
+        sum = sum.wrapping_add(second_resolved::<Tz, P>(zone, reading));
     }
     sum
 }
 
-fn daily<Tz: TimeZone>(zone: &Tz, readings: &[NaiveDateTime]) -> i64 {
+fn daily<Tz: TimeZone, P: Place>(zone: &Tz, readings: &[NaiveDateTime]) -> i64 {
     let mut sum = 0i64;
     for reading in readings {
-        sum = sum.wrapping_add(seconds_daily(*zone, reading));
+        sum = sum.wrapping_add(seconds_daily::<Tz, P>(*zone, reading));
     }
     sum
 }
 
-fn number_at<Tz: TimeZone>(zone: &Tz, second: i64) -> i64 {
+fn number_at<Tz: TimeZone, P: Place>(zone: &Tz, second: i64) -> i64 {
     match zone.timestamp_opt(second, 0) {
-        LocalResult::Single(instant) => number_of(&instant),
+        LocalResult::Single(instant) => number_of::<Tz, P>(&instant),
         _ => NONE,
     }
 }
 
 // A number of the digits of 2020-01-02 03:04:05.
-fn number_of<Tz: TimeZone>(instant: &DateTime<Tz>) -> i64 {
+fn number_of<Tz: TimeZone, P: Place>(instant: &DateTime<Tz>) -> i64 {
     let date = i64::from(instant.year())
         .wrapping_mul(10_000)
         .wrapping_add(i64::from(instant.month()).wrapping_mul(100))
@@ -188,17 +204,17 @@ fn number_of<Tz: TimeZone>(instant: &DateTime<Tz>) -> i64 {
     date.wrapping_mul(1_000_000).wrapping_add(time)
 }
 
-fn second_typed<Tz: TimeZone>(zone: &Tz, typed: &Typed) -> i64 {
+fn second_typed<Tz: TimeZone, P: Place>(zone: &Tz, typed: &Typed) -> i64 {
     let Some(date) = NaiveDate::from_ymd_opt(typed.year, typed.month, typed.day) else {
         return NONE;
     };
     match date.and_hms_opt(typed.hour, typed.minute, typed.second) {
-        Some(reading) => second_resolved(zone, &reading),
+        Some(reading) => second_resolved::<Tz, P>(zone, &reading),
         None => NONE,
     }
 }
 
-fn second_cut<Tz: TimeZone>(instant: &DateTime<Tz>, length: TimeDelta) -> i64 {
+fn second_cut<Tz: TimeZone, P: Place>(instant: &DateTime<Tz>, length: TimeDelta) -> i64 {
     match instant.duration_trunc(length) {
         Ok(cut) => cut.timestamp(),
         Err(_) => NONE,
@@ -206,7 +222,7 @@ fn second_cut<Tz: TimeZone>(instant: &DateTime<Tz>, length: TimeDelta) -> i64 {
 }
 
 // The length of its text.
-fn length_printed<Tz: TimeZone>(alloc: Global, instant: &DateTime<Tz>) -> i64
+fn length_printed<Tz: TimeZone, P: Place>(alloc: Global, instant: &DateTime<Tz>) -> i64
 where
     Tz::Offset: fmt::Display,
 {
@@ -217,31 +233,31 @@ where
 }
 
 // The second that clocks of the other zone show, as if it were of UTC.
-fn second_shown<Tz: TimeZone>(other: &Tz, instant: &DateTime<Tz>) -> i64 {
+fn second_shown<Tz: TimeZone, P: Place>(other: &Tz, instant: &DateTime<Tz>) -> i64 {
     let there = instant.with_timezone(other);
     there
         .timestamp()
         .wrapping_add(i64::from(there.offset().fix().local_minus_utc()))
 }
 
-fn second_resolved<Tz: TimeZone>(zone: &Tz, reading: &NaiveDateTime) -> i64 {
-    second_of(zone.resolve(reading, CHOICE).ok())
+fn second_resolved<Tz: TimeZone, P: Place>(zone: &Tz, reading: &NaiveDateTime) -> i64 {
+    second_of::<Tz, P>(zone.resolve(reading, CHOICE).ok())
 }
 
 // The sum of the instants on four weeks, from the day of the local date-time on.
-fn seconds_daily<Tz: TimeZone>(zone: Tz, reading: &NaiveDateTime) -> i64 {
+fn seconds_daily<Tz: TimeZone, P: Place>(zone: Tz, reading: &NaiveDateTime) -> i64 {
     let Some(half_past_two) = NaiveTime::from_hms_opt(2, 30, 0) else {
         return NONE;
     };
     let series = DailySeries::new(zone, reading.date(), half_past_two, CHOICE);
     let mut sum = 0i64;
     for instant in series.days(DAYS) {
-        sum = sum.wrapping_add(second_of(instant.ok()));
+        sum = sum.wrapping_add(second_of::<Tz, P>(instant.ok()));
     }
     sum
 }
 
-fn second_of<Tz: TimeZone>(instant: Option<DateTime<Tz>>) -> i64 {
+fn second_of<Tz: TimeZone, P: Place>(instant: Option<DateTime<Tz>>) -> i64 {
     match instant {
         Some(instant) => instant.timestamp(),
         None => NONE,

@@ -11,11 +11,14 @@
 //! or other files, it ends with status 1.
 //!
 //! No function has a contract. `values` draws what is asked about, `question` names the questions,
-//! `answers` sums up their answers, and `lookups` asks the zone itself, many times over.
+//! `answers` and `dates` sum up their answers, and `lookups` asks the zone itself, many times over.
+//! The library is called from two places ([`place::Place`]).
 #![tactic(auto)]
 
 mod answers;
+mod dates;
 mod lookups;
+mod place;
 mod question;
 mod timing;
 mod values;
@@ -23,6 +26,7 @@ mod work_error;
 
 use answers::sum_of;
 use lookups::{Lookup, sum_of_lookups};
+use place::Printed;
 use question::Question;
 use std::alloc::Global;
 use std::io::{BufWriter, Write};
@@ -159,7 +163,13 @@ fn print_answers(rt: &HostRuntime, values: &Values<KeptZone>) -> Result<(), Work
     let mut output = BufWriter::new(rt.alloc(), rt.stdout())?;
     for question in Question::ALL {
         for place in 0..values.seconds.len() {
-            let answer = sum_of(rt.alloc(), values, question, place, place + 1);
+            let answer = sum_of::<KeptZone, Printed>(
+                rt.alloc(),
+                values,
+                question,
+                place,
+                place + 1,
+            );
             print_answer(&mut output, question.name(), answer)?;
         }
     }

@@ -1,6 +1,6 @@
 //! The questions.
 
-/// What is asked about instants.
+/// What is asked about instants, and about dates.
 #[derive(Clone, Copy, PartialEq, Eq)]
 pub enum Question {
     /// The date and the time of day that are shown at a Unix time.
@@ -33,10 +33,32 @@ pub enum Question {
     InGap,
     /// The instants of four weeks, at half past two on each day.
     Daily,
+    /// The year, the month and the day of a date.
+    DateFields,
+    /// The day of the week.
+    DateWeekday,
+    /// The day of the year.
+    DateOrdinal,
+    /// The ISO week.
+    DateIsoWeek,
+    /// The date a month later.
+    DateMonthLater,
+    /// The date with June for its month.
+    DateInJune,
+    /// The date of a year, a month and a day.
+    DateOfMonth,
+    /// The date of a year and its day.
+    DateOfYear,
+    /// The date of an ISO week and its day.
+    DateOfWeek,
+    /// The date and the time of day of a local date-time.
+    LocalFields,
+    /// The local date-time a month later.
+    LocalMonthLater,
 }
 
 impl Question {
-    pub const ALL: [Question; 15] = [
+    pub const ALL: [Question; 26] = [
         Question::FieldsAt,
         Question::Fields,
         Question::FromFields,
@@ -52,6 +74,17 @@ impl Question {
         Question::Resolve,
         Question::InGap,
         Question::Daily,
+        Question::DateFields,
+        Question::DateWeekday,
+        Question::DateOrdinal,
+        Question::DateIsoWeek,
+        Question::DateMonthLater,
+        Question::DateInJune,
+        Question::DateOfMonth,
+        Question::DateOfYear,
+        Question::DateOfWeek,
+        Question::LocalFields,
+        Question::LocalMonthLater,
     ];
 
     /// Its name in what is printed.
@@ -72,6 +105,17 @@ impl Question {
             Question::Resolve => "resolve",
             Question::InGap => "in_gap",
             Question::Daily => "daily",
+            Question::DateFields => "date_fields",
+            Question::DateWeekday => "date_weekday",
+            Question::DateOrdinal => "date_ordinal",
+            Question::DateIsoWeek => "date_iso_week",
+            Question::DateMonthLater => "date_month_later",
+            Question::DateInJune => "date_in_june",
+            Question::DateOfMonth => "date_of_month",
+            Question::DateOfYear => "date_of_year",
+            Question::DateOfWeek => "date_of_week",
+            Question::LocalFields => "local_fields",
+            Question::LocalMonthLater => "local_month_later",
         }
     }
 }

@@ -1,6 +1,7 @@
 //! How long answers take.
 
 use crate::answers::sum_of;
+use crate::place::Timed;
 use crate::question::Question;
 use crate::values::Values;
 use crate::work_error::WorkError;
@@ -52,7 +53,7 @@ fn least_of_slice<C: Clock>(
     let (mut least, mut sum) = (u128::MAX, 0i64);
     for _ in 0..PASSES {
         let start = Instant::now(clock)?;
-        sum = sum.wrapping_add(sum_of(alloc, values, question, from, end));
+        sum = sum.wrapping_add(sum_of::<KeptZone, Timed>(alloc, values, question, from, end));
         least = least.min(start.elapsed(clock)?.as_nanos());
     }
     Ok((least, sum))

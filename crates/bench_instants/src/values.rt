@@ -1,6 +1,6 @@
 //! What is asked about: the values that `bench/make_inputs.py` draws for the years 2020 to 2029.
 
-use naive_base::{Datelike, NaiveDateTime, Timelike};
+use naive_base::{Datelike, NaiveDate, NaiveDateTime, Timelike, Weekday};
 use std::alloc::{AllocError, Global};
 use zoned_time::{DateTime, TimeZone};
 
@@ -40,6 +40,21 @@ pub struct Typed {
     pub second: u32,
 }
 
+/// A year and one of its days, counted from 1.
+#[derive(Clone, Copy)]
+pub struct OfYear {
+    pub year: i32,
+    pub ordinal: u32,
+}
+
+/// An ISO week and one of its days.
+#[derive(Clone, Copy)]
+pub struct OfWeek {
+    pub year: i32,
+    pub week: u32,
+    pub weekday: Weekday,
+}
+
 /// Two instants.
 #[derive(Drop)]
 pub struct Pair<Tz: TimeZone> {
@@ -63,6 +78,10 @@ pub struct Values<Tz: TimeZone> {
     pub typed: Vec<Typed>,
     /// Local times that New York's clocks skip.
     pub skipped: Vec<NaiveDateTime>,
+    /// The dates of the readings, as dates and by two of their names.
+    pub dates: Vec<NaiveDate>,
+    pub ordinals: Vec<OfYear>,
+    pub weeks: Vec<OfWeek>,
 }
 
 impl<Tz: TimeZone> Values<Tz> {
@@ -77,6 +96,9 @@ impl<Tz: TimeZone> Values<Tz> {
             readings: Vec::new(alloc),
             typed: Vec::new(alloc),
             skipped: Vec::new(alloc),
+            dates: Vec::new(alloc),
+            ordinals: Vec::new(alloc),
+            weeks: Vec::new(alloc),
         };
         let (mut instants, mut readings) = (Drawn::new(INSTANTS), Drawn::new(READINGS));
         for _ in 0..count {
@@ -98,6 +120,9 @@ impl<Tz: TimeZone> Values<Tz> {
         }
         if let Some(reading) = NaiveDateTime::from_timestamp_opt(local_second, 0) {
             self.typed.push(as_typed(&reading))?;
+            self.dates.push(reading.date())?;
+            self.ordinals.push(of_year(&reading))?;
+            self.weeks.push(of_week(&reading))?;
             self.readings.push(reading)?;
         }
         if let Some(reading) = NaiveDateTime::from_timestamp_opt(skipped(local_second), 0) {
@@ -134,6 +159,22 @@ fn as_typed(reading: &NaiveDateTime) -> Typed {
         hour: reading.hour(),
         minute: reading.minute(),
         second: reading.second(),
+    }
+}
+
+fn of_year(reading: &NaiveDateTime) -> OfYear {
+    OfYear {
+        year: reading.year(),
+        ordinal: reading.ordinal(),
+    }
+}
+
+fn of_week(reading: &NaiveDateTime) -> OfWeek {
+    let week = reading.iso_week();
+    OfWeek {
+        year: week.year(),
+        week: week.week(),
+        weekday: reading.weekday(),
     }
 }
 
