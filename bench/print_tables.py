@@ -24,8 +24,10 @@ PEERS = {
     "hinnant": "date",
     "standard": "libc++",
     "java": "java.time",
+    "go": "Go",
     "glibc": "glibc",
     "cpython": "CPython",
+    "pandas": "pandas",
     "chrono": "chrono",
     "chrono_tz": "chrono-tz",
 }
@@ -35,7 +37,9 @@ PACKAGES = {
     "hinnant": "libhowardhinnant-date-dev",
     "standard": "libc++-22-dev",
     "java": "openjdk-17-jdk-headless",
+    "go": "golang-go",
     "glibc": "libc6",
+    "pandas": "python3-pandas",
     "chrono": "librust-chrono-dev",
     "chrono_tz": "librust-chrono-tz-dev",
 }
@@ -71,6 +75,20 @@ WORK = {
     "in_gap": "`resolve`, in gaps",
     "daily": "a daily series, for each day",
 }
+# The same of dates and local date-times, without a time zone.
+DATES = {
+    "date_fields": "year, month and day of a date",
+    "date_weekday": "day of the week",
+    "date_ordinal": "day of the year",
+    "date_iso_week": "ISO week",
+    "date_month_later": "a month later",
+    "date_in_june": "`with_month(6)`",
+    "date_of_month": "from year, month and day",
+    "date_of_year": "from year and day of the year",
+    "date_of_week": "from ISO week and day of the week",
+    "local_fields": "date and time of day of a `NaiveDateTime`",
+    "local_month_later": "a month later, of a `NaiveDateTime`",
+}
 LINES = {
     "lines": {"zoneq": "`zoneq`", "mawk": "`mawk '{print NF}'`, which only counts words"},
     "lines_at": {"zoneq": "`zoneq`", "mawk": "`mawk` by `strftime`", "GNU date": "GNU `date -f`"},
@@ -85,10 +103,15 @@ ASKED = {"at": "an instant", "wall": "a wall clock", "next": "the next change", 
 # How many instants an answer has.
 SIZES = {"daily": 28}
 GOAL = 0.5
-# The answer of this library if a wall clock shows no time, or several.
+# The answer of this library if a wall clock shows no time, or several, or a month has no such day.
 NO_INSTANT = str(-(1 << 63))
-# The peers whose answers are of another kind than the question's: mktime answers one instant, whatever the wall clock shows.
-NO_ANSWER = {("glibc", "wall")}
+# The peers whose answers are of another kind than the question's: mktime and time.Date answer one instant, whatever the wall clock
+# shows.
+NO_ANSWER = {("glibc", "wall"), ("go", "wall")}
+# How many numbers the answer to a question is, if not one.
+NUMBERS = {"wall": 3, "span": 2}
+# A peer's loop over a column that keeps the span of a row.
+KEPT = "+kept"
 # What a driver prints in place of a time if the peer rejects the zone.
 REFUSED = -1
 SHOWN = ["never", "once", "several times"]
@@ -118,7 +141,7 @@ class Answers:
         """How many answers differ from this library's, of how many, in which years, and one of them; None where none does."""
         theirs = self.numbers(peer, zone, question, years)
         ours = self.numbers(OURS, zone, question, years)
-        size = 3 if question == "wall" else 1
+        size = NUMBERS.get(question, 1)
         count = len(theirs) // size
         places = [i for i in range(count) if theirs[size * i : size * (i + 1)] != ours[size * i : size * (i + 1)]]
         if not places:
@@ -132,6 +155,8 @@ class Answers:
 
     @staticmethod
     def words(question, numbers):
+        if question == "span":
+            return f"{numbers[0]} to {numbers[1]}"
         if question != "wall":
             return str(numbers[0])
         shown, first, last = numbers
@@ -246,50 +271,75 @@ def differences_at_work(outputs, peers):
 
 
 def print_work(outputs):
-    """A row for each thing that is done to instants of New York."""
+    """A row for each thing that is done to instants of New York, and one for each that is done to dates."""
     if not (outputs / "figures").exists():
         return
     read, _ = read_figures(outputs / "figures")
     figures = {key: took / SIZES.get(key[0], 1) for key, took in read.items()}
-    peers = [peer for peer in PEERS if any(key[3] == peer for key in figures)]
-    wrong, none = differences_at_work(outputs, [peer for peer in peers if peer != OURS])
-    print("\n### Instants at work\n")
+    peers = {key[3] for key in figures} - {OURS}
+    wrong, none = differences_at_work(outputs, [peer for peer in PEERS if peer in peers])
+    print_questions("Instants at work", WORK, figures, wrong)
+    for question, count in none.items():
+        print(f"- {title_of(question)}: of {count:,} of 100,000 this library says that there is no answer, or that there are two.")
+    for (question, _, _, peer), (differ, count, theirs, ours) in wrong.items():
+        print(f"- {title_of(question)}: {PEERS[peer]} answers {differ:,} of {count:,} otherwise: {theirs} for {ours}.")
+    print_questions("Dates without a time zone", DATES, figures, wrong)
+
+
+def title_of(question):
+    return WORK.get(question) or f"dates: {DATES[question]}"
+
+
+def print_questions(title, questions, figures, wrong):
+    peers = [peer for peer in PEERS if any(key[0] in questions and key[3] == peer for key in figures)]
+    if OURS not in peers:
+        return
+    print(f"\n### {title}\n")
     print(f"| question | {heads(peers)} | ratio |")
     print("|---|" + "--:|" * (len(peers) + 1))
     rows = []
-    for question, title in WORK.items():
+    for question, words in questions.items():
         cells = [cell(figures, wrong, (question, "near", "New_York", peer)) for peer in peers]
         by = ratio(figures, wrong, question, "near", "New_York")
         cells.append(f"{by[0]:.2f} ({by[1]})" if by else "-")
-        print(f"| {title} | " + " | ".join(cells) + " |")
+        print(f"| {words} | " + " | ".join(cells) + " |")
         if by and by[0] > GOAL:
-            rows.append(f"{title} {above(by)}")
+            rows.append(f"{words} {above(by)}")
     print(f"\nMore than half of the best peer's time: {', '.join(rows) or 'nowhere'}.\n")
-    for question, count in none.items():
-        print(f"- {WORK[question]}: of {count:,} of 100,000 this library says that no instant is shown so, or that two are.")
-    for (question, _, _, peer), (differ, count, theirs, ours) in wrong.items():
-        print(f"- {WORK[question]}: {PEERS[peer]} answers {differ:,} of {count:,} otherwise: {theirs} for {ours}.")
 
 
 def print_columns(path):
-    """A row for each column: the time of a row, by one call of this library, and by a loop over the others."""
+    """A row for each column: the time of a row, by one call of this library, and by the faster loop over each of the others, which
+    is the one that counts; then the times of each loop."""
     if not path.exists():
         return
     figures, wrong = {}, set()
     for line in path.read_text().splitlines():
-        peer, zone, rows, took, _, differ = line.split("\t")
-        key = ("column", rows, zone, peer)
+        way, zone, rows, took, _, differ = line.split("\t")
+        key = ("column", rows, zone, way)
         figures[key] = min(float(took), figures.get(key, float("inf")))
         if differ != "0":
             wrong.add(key)
     peers = [peer for peer in PEERS if any(key[3] == peer for key in figures)]
+    columns = list(dict.fromkeys(key[1:3] for key in figures))
+    slowest_first = sorted(figures, key=figures.get, reverse=True)
+    best = {(*key[:3], key[3].removesuffix(KEPT)): key for key in slowest_first if key[3] != OURS + KEPT}
     print("\n### Columns of instants\n")
     print(f"| zone | rows | {heads(peers)} | ratio |")
     print("| --- | --- |" + " --: |" * (len(peers) + 1))
-    for rows, zone in dict.fromkeys(key[1:3] for key in figures):
-        cells = [cell(figures, wrong, ("column", rows, zone, peer)) for peer in peers]
-        by = ratio(figures, wrong, "column", rows, zone)
+    for rows, zone in columns:
+        found = {peer: best[key] for peer in peers if (key := ("column", rows, zone, peer)) in best}
+        cells = [cell(figures, wrong, found[peer]) + " ²" * found[peer][3].endswith(KEPT) if peer in found else "-" for peer in peers]
+        times = {("column", rows, zone, peer): figures[key] for peer, key in found.items()}
+        by = ratio(times, {(*key[:3], peer) for peer, key in found.items() if key in wrong}, "column", rows, zone)
         cells.append(f"{by[0]:.2f} ({by[1]})" if by else "-")
+        print(f"| {zone} | {rows} | " + " | ".join(cells) + " |")
+    ways = [peer for peer in peers if any(key[3] == peer + KEPT for key in figures)]
+    print("\n### Columns of instants, by each loop\n")
+    print("| zone | rows | " + " | ".join(f"{heads([peer])} | its span kept" for peer in ways) + " |")
+    print("| --- | --- |" + " --: |" * 2 * len(ways))
+    for rows, zone in columns:
+        cells = [cell(figures, wrong, ("column", rows, zone, peer + way)) for peer in ways for way in ("", KEPT)]
         print(f"| {zone} | {rows} | " + " | ".join(cells) + " |")
 
 
@@ -319,8 +369,12 @@ def heads(peers):
     """The peers' names, each with its version."""
 
     def head(peer):
-        version = sys.version.split()[0] if peer == "cpython" else packages().get(PACKAGES.get(peer), "")
-        return f"{PEERS[peer]} {re.split(r'[-+]', version.split(':')[-1])[0]}".strip()
+        version = packages().get(PACKAGES.get(peer), "")
+        if peer == "cpython":
+            version = sys.version.split()[0]
+        elif peer == "go":
+            version = command("go", "env", "GOVERSION").removeprefix("go")
+        return f"{PEERS[peer]} {re.split(r'[-+~]', version.split(':')[-1])[0]}".strip()
 
     return " | ".join(map(head, peers))
 

@@ -2,17 +2,19 @@
 # Times lookups of this library, what it does with instants and its programs, compared with other libraries and programs, and
 # writes the tables into bench/results/, with the date as its name. `bench/write_speed.py` puts them into the documents then.
 #
-# usage: bench/run.sh [PART ..]     of sahvumbi work cctz hinnant standard java glibc cpython chrono lines dumps calls columns kept misses (else all)
+# usage: bench/run.sh [PART ..]     of sahvumbi work columns cctz hinnant standard java go glibc cpython pandas chrono lines dumps calls kept misses (else all)
 #
 # First `rt lib` in crates/zoned_ffi builds the archive, and `rt run` in crates/zoneq, crates/zonedump and crates/bench_instants
 # the programs. Debian has the peers:
-#   apt-get install g++ pkg-config libabsl-dev libhowardhinnant-date-dev openjdk-17-jdk-headless mawk python3 tzdata valgrind \
-#     cargo librust-chrono-dev librust-chrono-tz-dev clang-22 libc++-22-dev
-# A part that lacks something is left out. All times are the processor's. `misses` counts in a simulation, by valgrind.
+#   apt-get install g++ pkg-config libabsl-dev libhowardhinnant-date-dev openjdk-17-jdk-headless golang-go mawk python3 tzdata valgrind \
+#     cargo librust-chrono-dev librust-chrono-tz-dev clang-22 libc++-22-dev python3-pandas
+# A part that lacks something is left out. All times are the processor's. `misses` counts in a simulation, by valgrind. The columns of
+# go and pandas are those that `columns` wrote, so it comes before them.
 #
 #   BENCH_DIR   where inputs, programs and figures are kept (else sahvumbi-bench in the folder for temporary files)
 #   KEEP=1      keep the figures of earlier runs too: of each figure the least of all runs counts
 #   PYTHON      the Python that is timed (else python3)
+#   PANDAS      the Python that has pandas (else Debian's, /usr/bin/python3)
 #   ARCHIVE     the library that is timed (else the one that `rt lib` built)
 #   RESULTS     the file of the tables (else bench/results/DATE.md)
 set -u
@@ -21,14 +23,15 @@ folder=${BENCH_DIR:-${TMPDIR:-/tmp}/sahvumbi-bench}
 kit=$(dirname "$(rt doc)")
 archive=${ARCHIVE:-$here/../crates/zoned_ffi/out/libzoned_ffi.a}
 results=${RESULTS:-$here/results/$(date -u +%Y-%m-%d).md}
-parts=${*:-sahvumbi work cctz hinnant standard java glibc cpython chrono lines dumps calls columns kept misses}
-python=${PYTHON:-python3}
+parts=${*:-sahvumbi work columns cctz hinnant standard java go glibc cpython pandas chrono lines dumps calls kept misses}
+python=${PYTHON:-python3} pandas=${PANDAS:-/usr/bin/python3}
 # As `rt lib` compiles the library.
 processor=x86-64-v2
 compile="${CXX:-g++} -std=c++17 -O2 -march=$processor"
 # The zones of C++20, which g++ 12 lacks, and which libc++ calls experimental.
 standard="${CLANG:-clang++-22} -std=c++20 -stdlib=libc++ -fexperimental-library -O2 -march=$processor -DSTANDARD_ZONES"
 absl=$(pkg-config --cflags --libs absl_time 2> /dev/null)
+crates=/usr/share/cargo/registry
 inputs=$folder/inputs outputs=$folder/outputs
 
 mkdir -p "$outputs/growth" "$outputs/work" "$outputs/columns"
@@ -45,13 +48,22 @@ build() {
     $compile -o "$folder/$name" "$here/drivers/$name.cc" "$@"
 }
 
-# The drivers of chrono and chrono-tz, over the crates that Debian has.
+# The drivers of chrono and chrono-tz, over the crates that Debian has. chrono's reader of TZif files is no public part of the crate,
+# so its files become a module of the driver that times it.
 build_chrono() {
-    mkdir -p "$folder/chrono/src"
-    cp "$here/drivers/chrono.rs" "$here/drivers/work_chrono.rs" "$here/drivers/timed.rs" "$folder/chrono/src/"
+    reader=$(echo "$crates"/chrono-0.4.*/src/offset/local/tz_info)
+    mkdir -p "$folder/chrono/src" && rm -rf "$folder/chrono/src/tz_info" && cp -r "$reader" "$folder/chrono/src/" || return 1
+    cp "$here/drivers/read_chrono_text.rs" "$folder/chrono/src/tz_info/text.rs"
+    echo 'pub(crate) mod text;' >> "$folder/chrono/src/tz_info/mod.rs"
+    for driver in chrono read_chrono work_chrono timed; do cp "$here/drivers/$driver.rs" "$folder/chrono/src/"; done
     cp "$here/drivers/chrono.toml" "$folder/chrono/Cargo.toml"
     (cd "$folder/chrono" && RUSTFLAGS="-C target-cpu=$processor" cargo build --quiet --release --offline --config 'source.crates-io.replace-with="debian"' \
-        --config 'source.debian.directory="/usr/share/cargo/registry"')
+        --config "source.debian.directory=\"$crates\"")
+}
+
+# Go's driver, compiled for the same processors.
+build_go() {
+    (cd "$here/drivers/go" && GO111MODULE=off GOAMD64=v2 go build -o "$folder/go_times" ./*.go)
 }
 
 run() {
@@ -64,9 +76,10 @@ run_both() {
     run "$@" && "$@" "$inputs/growth" "$outputs/growth" >> "$outputs/growth/figures"
 }
 
+# The columns of instants, which `columns` writes into this folder.
 run_columns() {
-    echo "running $1" >&2
-    "$1" >> "$outputs/columns/figures"
+    echo "running $*" >&2
+    "$@" >> "$outputs/columns/figures"
 }
 
 # What is done with instants, by the program that is named.
@@ -111,10 +124,16 @@ for part in $parts; do
         java)
             javac -d "$folder" "$here/drivers/Zones.java" && run_both java -Xmx4g -cp "$folder" Zones && run_java_work
             ;;
+        go)
+            build_go && run_both "$folder/go_times" zones && run_work "$folder/go_times" work &&
+                run_columns "$folder/go_times" columns "$outputs/columns"
+            ;;
         glibc) build glibc && run_both "$folder/glibc" ;;
         cpython) run_both "$python" "$here/drivers/cpython.py" && run_work "$python" "$here/drivers/work_cpython.py" ;;
+        pandas) run_columns "$pandas" "$here/drivers/columns_pandas.py" "$outputs/columns" ;;
         chrono)
-            build_chrono && run "$folder/chrono/target/release/chrono" && run_work "$folder/chrono/target/release/work_chrono"
+            build_chrono && run "$folder/chrono/target/release/chrono" && run "$folder/chrono/target/release/read_chrono" &&
+                run_work "$folder/chrono/target/release/work_chrono"
             ;;
         lines) run python3 "$here/time_lines.py" ;;
         dumps) run python3 "$here/time_dumps.py" ;;
@@ -125,7 +144,7 @@ for part in $parts; do
         columns)
             # shellcheck disable=SC2086
             build columns "$archive" "$kit/c/liblibc_c.a" $absl -ldate-tz -lpthread &&
-                run_columns "$folder/columns"
+                run_columns "$folder/columns" "$outputs/columns"
             ;;
         kept)
             echo "running time_instants.py" >&2 &&

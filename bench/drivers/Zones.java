@@ -150,10 +150,12 @@ public class Zones {
         Instant[] instants = new Instant[at.length], after = new Instant[at.length];
         Arrays.setAll(instants, i -> Instant.ofEpochSecond(at[i]));
         Arrays.setAll(after, i -> Instant.ofEpochSecond(at[i] + 1));
-        ask(outputs, zone, "span", at.length, i -> {
-            sink += second(rules.nextTransition(instants[i]));
-            return second(rules.previousTransition(after[i]));
-        });
+        Call begin = i -> second(rules.previousTransition(after[i])), end = i -> second(rules.nextTransition(instants[i]));
+        int[] told = new int[2 * CHECKED];
+        Arrays.setAll(told, i -> (int) (i % 2 == 0 ? begin : end).at(i / 2));
+        write(outputs, zone, "span", "near", told);
+        time(zone, "span", "near", at.length,
+                i -> second(rules.previousTransition(after[i])) + second(rules.nextTransition(instants[i])));
     }
 
     static void changes(Path inputs, Path outputs, String zone, ZoneRules rules) throws IOException {

@@ -50,10 +50,10 @@ static int64_t second_of(const absl::TimeZone &zone, const absl::TimeZone::Civil
 // A span has a change at each end, if there is one.
 static void time_spans(const Run &run, const std::string &name, const absl::TimeZone &zone) {
     const std::vector<int64_t> instants = run.seconds("at", "near");
-    ask(run, name, "span", "near", instants.size(), [&](size_t i) -> int64_t {
+    ask_span(run, name, instants.size(), [&](size_t i) -> Ends {
         absl::TimeZone::CivilTransition begin, end;
-        if (zone.NextTransition(absl::FromUnixSeconds(instants[i]), &end)) sink = sink + second_of(zone, end);
-        return zone.PrevTransition(absl::FromUnixSeconds(instants[i] + 1), &begin) ? second_of(zone, begin) : 0;
+        return {zone.PrevTransition(absl::FromUnixSeconds(instants[i] + 1), &begin) ? second_of(zone, begin) : 0,
+                zone.NextTransition(absl::FromUnixSeconds(instants[i]), &end) ? second_of(zone, end) : 0};
     });
 }
 

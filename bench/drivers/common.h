@@ -10,8 +10,8 @@
 //   COUNT        how many calls were timed
 // And it writes its answers to the first CHECKED questions, as numbers of 32 bits (of larger ones the low 32 bits), low byte
 // first, into OUTPUTS/PEER.ZONE.QUESTION.YEARS: of an instant the offset; of a local time how often it is shown (2: several
-// times), and the offsets at the first and the last second; the second of the next change; the first second of the span; the
-// Unix time that the offset before the gap gives. What is missing is 0.
+// times), and the offsets at the first and the last second; the second of the next change; the first second of the span, and the
+// first one after it; the Unix time that the offset before the gap gives. What is missing is 0.
 #pragma once
 #include <cstdint>
 #include <cstdio>
@@ -158,4 +158,29 @@ void ask(const Run &run, const std::string &zone, const char *question, const st
     size_t used;
     double took = least_time(count, &used, [&](size_t i) { sink = sink + answer(i); });
     run.figure(zone, question, years, took, used);
+}
+
+// Both ends of a span: its first second, and the first one after it.
+struct Ends {
+    int64_t begin, end;
+};
+
+// The end of a span, or 0 if it is one of a library whose last span ends in the last of its years.
+inline int64_t end_or_none(int64_t end) { return end < 900000000000 ? end : 0; }
+
+// Times span(i) at an instant of 2020 to 2029, and writes the first answers.
+template <class Span> void ask_span(const Run &run, const std::string &zone, size_t count, Span span) {
+    std::vector<int32_t> told;
+    for (size_t i = 0; i < CHECKED; i++) {
+        Ends ends = span(i);
+        told.push_back((int32_t)ends.begin);
+        told.push_back((int32_t)ends.end);
+    }
+    run.answers(zone, "span", "near", told);
+    size_t used;
+    double took = least_time(count, &used, [&](size_t i) {
+        Ends ends = span(i);
+        sink = sink + ends.begin + ends.end;
+    });
+    run.figure(zone, "span", "near", took, used);
 }

@@ -35,8 +35,10 @@ template <class Zone> void time_lookups(const Run &run, const std::string &name,
 
 template <class Zone> void time_spans(const Run &run, const std::string &name, const Zone &zone) {
     const std::vector<int64_t> instants = run.seconds("at", "near");
-    ask(run, name, "span", "near", instants.size(),
-        [&](size_t i) -> int64_t { return zone.get_info(at(instants[i])).begin.time_since_epoch().count(); });
+    ask_span(run, name, instants.size(), [&](size_t i) -> Ends {
+        const auto info = zone.get_info(at(instants[i]));
+        return {info.begin.time_since_epoch().count(), end_or_none(info.end.time_since_epoch().count())};
+    });
 }
 
 template <class Zone> void time_changes(const Run &run, const std::string &name, const Zone &zone) {

@@ -60,10 +60,10 @@ static void time_changes(const Run &run, const std::string &name, const struct z
 
 static void time_spans(const Run &run, const std::string &name, const struct zoned_zone *zone) {
     const std::vector<int64_t> instants = run.seconds("at", "near");
-    ask(run, name, "span", "near", instants.size(), [&](size_t i) {
+    ask_span(run, name, instants.size(), [&](size_t i) -> Ends {
         zoned_span span;
         expect_ok(zoned_zone_span(zone, instants[i], &span));
-        return span.from;
+        return {span.from, end_or_none(span.until)};
     });
 }
 
