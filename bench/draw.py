@@ -28,7 +28,10 @@ RATIOS = [
     },
 ]
 PANELS = 3
-WORK = "Instants at work"
+WORK = {
+    "Instants at work": "The same ratio for work with instants, New York 2020 to 2029, in Rattle",
+    "Dates without a time zone": "The same for dates and local date-times without a time zone, 2020 to 2029, in Rattle",
+}
 GROWTH = {
     "An instant, by the number of transitions": "by instant",
     "A wall clock, by the number of transitions": "by local time",
@@ -216,14 +219,15 @@ def draw_ratios(picture, found):
 
 
 def draw_work(picture, found):
-    if WORK not in found:
-        return
-    rows = found[WORK]
-    top = picture.height + 44
-    picture.text(MARGIN, picture.height + 8, "The same ratio for work with instants, New York 2020 to 2029, in Rattle", "title")
-    labels(picture, top, WORK_LABELS, [row["question"].replace("`", "") for row in rows])
-    width = (WIDTH - 2 * MARGIN - WORK_LABELS) * 0.6
-    picture.height = panel(picture, MARGIN + WORK_LABELS, top, width, "", rows) + 24
+    for title, head in WORK.items():
+        rows = found.get(title, [])
+        if not rows:
+            continue
+        top = picture.height + 44
+        picture.text(MARGIN, picture.height + 8, head, "title")
+        labels(picture, top, WORK_LABELS, [row["question"].replace("`", "") for row in rows])
+        width = (WIDTH - 2 * MARGIN - WORK_LABELS) * 0.6
+        picture.height = panel(picture, MARGIN + WORK_LABELS, top, width, "", rows) + 24
 
 
 def ticks(least, greatest):

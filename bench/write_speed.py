@@ -3,8 +3,8 @@
 
 usage: bench/write_speed.py [RESULTS]     RESULTS is a file of bench/results/, else the latest one
 
-Between `<!-- NAME -->` and `<!-- end -->` of both documents is what is written: PARTS says what. tools/check_documents.py
-checks that it is that of the latest file.
+Between `<!-- NAME -->` and `<!-- end -->` of both documents is what is written: `parts` says what. The rows of a table with ratios
+begin with the greatest. tools/check_documents.py checks that it is that of the latest file.
 """
 
 import re
@@ -23,17 +23,77 @@ CHANGES = {
     "the span of an instant": "A span, 2020 to 2029",
     "the instant of a local time in a gap": "The instant of a local time in a gap, 2020 to 2029",
 }
-DIFFER = "Answers that differ"
+PARSING, WORK, DATES, COLUMNS = "Reading a zone", "Instants at work", "Dates without a time zone", "Columns of instants"
+PROGRAMS, DIFFER = "The programs", "Answers that differ"
 WORDS = {"Sahvumbi": "Sahvumbi's", "the peer": "its answer", "peer": "library", "one of them": "for example", "in the years": "in"}
+
+
+# Rows that are slower than the fastest library, each with the table, a pattern for its question or zone, words for it, and why.
+SLOWER = [
+    (
+        WORK,
+        "from an instant",
+        "fields of an instant",
+        "A `ZonedDateTime` of java.time keeps its local date and time. This library keeps the UTC date-time and the offset, and computes "
+        "the local date-time for each of six fields.",
+    ),
+    (
+        WORK,
+        "seconds between",
+        "seconds between two instants",
+        "A `TimeDelta` is seconds and nanoseconds, computed from both parts of two date-times with a test for leap seconds; date and cctz "
+        "subtract one count from another.",
+    ),
+    (
+        WORK,
+        "which of two|sort a million",
+        "the earlier of two instants; sorting a million",
+        "An instant has 32 bytes, since it refers to its zone and to the type in force; one of chrono's `Local` has 16.",
+    ),
+    (
+        DATES,
+        ".*",
+        "dates and local date-times without a time zone",
+        "A date is kept as the number of its day, and a local date-time as a count of seconds: each field is computed from it. chrono keeps "
+        "the year, the day of the year and what kind of year it is.",
+    ),
+    (
+        COLUMNS,
+        ".*",
+        "columns in the order of time, or in a zone whose clocks never change",
+        "A loop that keeps a span is compiled into the caller: two comparisons and a sum for each row. `zoned_column_locals` also checks "
+        "that each local time fits into 64 bits, and takes rows in any order and unit. The same loop over `zoned_zone_span` takes as long "
+        "as over the other libraries; the file of each date has it.",
+    ),
+    (
+        PARSING,
+        "Text",
+        "parsing a TZ string",
+        "The moments of all kinds of year are computed when the rule is made. chrono and date only parse the string.",
+    ),
+    (
+        PARSING,
+        ".*",
+        "parsing a zone",
+        "The file is checked and indexed before the first question. chrono's reader checks it and has no index; glibc does neither. Of a "
+        "zone with leap seconds the transitions are kept by Unix time too. ([`shapes.txt`](../tools/shapes.txt) has the instructions for "
+        "each byte of a zone that is opened; the gate counts them again.)",
+    ),
+]
 
 
 def latest():
     return sorted((TOP / "bench/results").glob("*.md"))[-1]
 
 
+def ratio_of(row):
+    """A row's ratio, or None if it has none."""
+    return float(row["ratio"].split()[0]) if "(" in row.get("ratio", "") else None
+
+
 def table(rows):
-    """A table as it was printed."""
-    heads = list(rows[0])
+    """A table as it was printed, but with the greatest ratios first; rows without one are the last."""
+    heads, rows = list(rows[0]), sorted(rows, key=lambda row: -(ratio_of(row) or 0))
     numbers = [all(re.match(r"-?(\d[\d.,]*( .*)?)?$", row[head]) for row in rows) for head in heads]
     lines = [heads, ["--:" if number else "---" for number in numbers], *(list(row.values()) for row in rows)]
     return "\n".join("| " + " | ".join(line) + " |" for line in lines)
@@ -41,23 +101,63 @@ def table(rows):
 
 def ratios(found, titles):
     """The least and the greatest ratio of some tables."""
-    numbers = [float(row["ratio"].split()[0]) for title in titles for row in found[title] if "(" in row["ratio"]]
-    return f"{min(numbers):.2f} to {max(numbers):.2f}"
+    return spread(ratio for title in titles for row in found[title] if (ratio := ratio_of(row)) is not None)
+
+
+def spread(numbers):
+    """The least and the greatest of some numbers, or the only one."""
+    least, *_, greatest = [f"{ratio:.2f}" for ratio in sorted(numbers) * 2]
+    return least if least == greatest else f"{least} to {greatest}"
 
 
 def headline(found):
     at, wall = (ratios(found, titles) for titles in LOOKUPS.values())
+    others = {
+        "work with instants": WORK,
+        "clock changes, spans and gaps": list(CHANGES.values()),
+        "columns": COLUMNS,
+        "dates without a time zone": DATES,
+        "parsing a zone": PARSING,
+    }
+    titles = {words: [title] if isinstance(title, str) else title for words, title in others.items()}
+    *first, last = [f"{words} {ratios(found, of)}" for words, of in titles.items() if all(title in found for title in of)]
     return (
         f"With one call for each question, a lookup by instant takes {at} of the time of the fastest library with the same "
-        f"answers, and a lookup by local time {wall}. "
-        f"Parsing a zone takes {ratios(found, ['Reading a zone'])} times as long as in the fastest library, and work with "
-        f"instants {ratios(found, ['Instants at work'])} times; [some rows are slower](#why-some-rows-are-slower)."
+        f"answers, and a lookup by local time {wall}. The others take, as such a ratio: {', '.join(first)}, and {last}. "
+        "[Some rows are slower](#why-some-rows-are-slower)."
     )
+
+
+def slower_rows(found):
+    """Each row that is slower than the fastest library: the table, its question or zone, and the ratio."""
+    titles = [*LOOKUPS["by instant"], *LOOKUPS["by local time"], WORK, *CHANGES.values(), COLUMNS, DATES, PARSING]
+    for title in titles:
+        for row in found.get(title, []):
+            if (ratio := ratio_of(row)) and ratio > 1:
+                yield title, next(iter(row.values())), ratio
+
+
+def reason(title, name):
+    """The words for a row that is slower, and why."""
+    for of_title, pattern, words, why in SLOWER:
+        if of_title == title and re.match(pattern, name):
+            return words, why
+    return f"{title}: {name}", "not known yet"
+
+
+def slower(found):
+    """A table of these rows, the greatest ratio first, with the reason of each."""
+    ratios_of = {}
+    for title, name, ratio in slower_rows(found):
+        ratios_of.setdefault(reason(title, name), []).append(ratio)
+    rows = sorted(ratios_of.items(), key=lambda item: -max(item[1]))
+    lines = ["| row | ratio | why |", "| --- | --- | --- |", *(f"| {words} | {spread(numbers)} | {why} |" for (words, why), numbers in rows)]
+    return "\n".join(lines)
 
 
 def changes(found):
     """The rows of changes, spans and gaps, with the question before."""
-    heads = list(dict.fromkeys(head for title in CHANGES.values() for head in found[title][0]))
+    heads = list(dict.fromkeys(head for title in CHANGES.values() for head in found[title][0] if head != "ratio")) + ["ratio"]
     rows = [{"question": words} | {head: row.get(head, "-") for head in heads} for words, title in CHANGES.items() for row in found[title]]
     return table(rows)
 
@@ -99,9 +199,22 @@ def at_once(text):
     return f" {found[0]}" if found else ""
 
 
+def programs(found):
+    """A row for each other program: its time, and ours for the same work."""
+    work, rows = {}, []
+    for row in found[PROGRAMS]:
+        words, program, took, ratio = row.values()
+        work.setdefault(words, []).append((f"{program}: {took}", ratio))
+    for words, ((ours, _), *others) in work.items():
+        rows += [{"work": words, "Sahvumbi": ours, "other program": other, "ratio": ratio} for other, ratio in others]
+    rows.sort(key=lambda row: -float(row["ratio"]))
+    lines = [list(rows[0]), ["---"] * 3 + ["--:"], *(list(row.values()) for row in rows)]
+    return "\n".join("| " + " | ".join(line) + " |" for line in lines)
+
+
 def listed(found):
     """README's sentence on zonedump."""
-    times = {row["program"]: row["processor's time for each"] for row in found["The programs"]}
+    times = {row["program"]: row["processor's time for each"] for row in found[PROGRAMS]}
     return f"Listing a zone's clock changes from 1900 to 2037 takes `zonedump` {times['`zonedump --zdump`']} and `zdump` {times['`zdump -v`']} on average."
 
 
@@ -113,11 +226,13 @@ def parts(results):
         "headline": lambda: headline(found),
         "by instant": lambda: table(found[AT]),
         "by local time": lambda: table(found[WALL]),
-        "parsing": lambda: table(found["Reading a zone"]),
-        "at work": lambda: table(found["Instants at work"]),
+        "parsing": lambda: table(found[PARSING]),
+        "at work": lambda: table(found[WORK]),
+        "dates": lambda: table(found[DATES]),
         "changes": lambda: changes(found),
-        "columns": lambda: table(found["Columns of instants"]),
-        "programs": lambda: table(found["The programs"]),
+        "columns": lambda: table(found[COLUMNS]),
+        "programs": lambda: programs(found),
+        "slower": lambda: slower(found),
         "listed": lambda: listed(found),
         "differ": lambda: differences(found),
         "measured": lambda: conditions(text, results),
@@ -143,13 +258,11 @@ def main():
     for document in (README, SPEED):
         document.write_text(written(document, results))
     subprocess.run([sys.executable, TOP / "bench/draw.py", results, PICTURE], check=True)
-    slower = [
-        f"{title}: {next(iter(row.values()))}: {row['ratio']}"
-        for title, rows in tables(results.read_text()).items()
-        for row in rows
-        if "(" in row.get("ratio", "") and float(row["ratio"].split()[0]) > 1
-    ]
-    print("slower than the fastest:", *slower, sep="\n  ")
+    rows = [(ratio, title, name) for title, name, ratio in slower_rows(tables(results.read_text()))]
+    print("slower than the fastest:", *(f"{ratio:.2f} {title}: {name}" for ratio, title, name in sorted(rows, reverse=True)), sep="\n  ")
+    lacking = sorted({f"{title}: {name}" for _, title, name in rows if reason(title, name)[1] == "not known yet"})
+    if lacking:
+        sys.exit("SLOWER has no reason for: " + "; ".join(lacking))
 
 
 if __name__ == "__main__":
