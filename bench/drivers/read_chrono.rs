@@ -2,6 +2,7 @@
 //! these files from Debian's source next to this one, and adds read_chrono_text.rs to them. common.h says what a driver prints.
 #[allow(dead_code)]
 mod timed;
+#[allow(warnings)]
 mod tz_info;
 
 // chrono's files name it as one of the crate.
