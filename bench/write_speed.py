@@ -134,7 +134,7 @@ def slower_rows(found):
     for title in titles:
         for row in found.get(title, []):
             if (ratio := ratio_of(row)) and ratio > 1:
-                yield title, next(iter(row.values())), ratio
+                yield title, ", ".join([next(iter(row.values())), *([row["rows"]] if "rows" in row else [])]), ratio
 
 
 def reason(title, name):
