@@ -1,7 +1,8 @@
 //! The answers about dates and local date-times, which need no time zone.
 //!
 //! A date is stored otherwise in each library, so none of its numbers is an answer that costs all of
-//! them the same. The latest of the dates is: it takes a comparison of each.
+//! them the same. The latest of the dates is: it takes a comparison of each. Here days and seconds are
+//! compared, which is what this library stores.
 
 use crate::answers::NONE;
 use crate::place::Place;
@@ -50,53 +51,49 @@ pub fn iso_weeks<P: Place>(dates: &[NaiveDate]) -> i64 {
 
 /// The latest of the dates a month later, counted in days.
 pub fn months_later<P: Place>(dates: &[NaiveDate]) -> i64 {
-    let mut latest = NaiveDate::MIN;
+    let mut latest = NONE;
     for date in dates {
-        latest = later::<P>(latest, date.checked_add_months(Months::new(1)));
+        latest = latest.max(day_of::<P>(date.checked_add_months(Months::new(1))));
     }
-    number_of(latest)
+    latest
 }
 
 /// The latest of the dates with June for their months. `NONE` if none has that day.
 pub fn in_june<P: Place>(dates: &[NaiveDate]) -> i64 {
-    let mut latest = NaiveDate::MIN;
+    let mut latest = NONE;
     for date in dates {
-        latest = later::<P>(latest, date.with_month(6));
+        latest = latest.max(day_of::<P>(date.with_month(6)));
     }
-    number_of(latest)
+    latest
 }
 
 /// The latest of the dates of a year, a month and a day.
 pub fn of_month<P: Place>(typed: &[Typed]) -> i64 {
-    let mut latest = NaiveDate::MIN;
+    let mut latest = NONE;
     for each in typed {
-        latest = later::<P>(
-            latest,
-            NaiveDate::from_ymd_opt(each.year, each.month, each.day),
-        );
+        let date = NaiveDate::from_ymd_opt(each.year, each.month, each.day);
+        latest = latest.max(day_of::<P>(date));
     }
-    number_of(latest)
+    latest
 }
 
 /// The latest of the dates of a year and its day.
 pub fn of_year<P: Place>(ordinals: &[OfYear]) -> i64 {
-    let mut latest = NaiveDate::MIN;
+    let mut latest = NONE;
     for each in ordinals {
-        latest = later::<P>(latest, NaiveDate::from_yo_opt(each.year, each.ordinal));
+        latest = latest.max(day_of::<P>(NaiveDate::from_yo_opt(each.year, each.ordinal)));
     }
-    number_of(latest)
+    latest
 }
 
 /// The latest of the dates of an ISO week and its day.
 pub fn of_week<P: Place>(weeks: &[OfWeek]) -> i64 {
-    let mut latest = NaiveDate::MIN;
+    let mut latest = NONE;
     for each in weeks {
-        latest = later::<P>(
-            latest,
-            NaiveDate::from_isoywd_opt(each.year, each.week, each.weekday),
-        );
+        let date = NaiveDate::from_isoywd_opt(each.year, each.week, each.weekday);
+        latest = latest.max(day_of::<P>(date));
     }
-    number_of(latest)
+    latest
 }
 
 /// The sum of the digits of each local date-time, as 20200102030405.
@@ -117,18 +114,11 @@ pub fn local_fields<P: Place>(readings: &[NaiveDateTime]) -> i64 {
 
 /// The latest of the local date-times a month later, as a Unix time.
 pub fn local_months_later<P: Place>(readings: &[NaiveDateTime]) -> i64 {
-    let mut latest = NaiveDateTime::MIN;
+    let mut latest = NONE;
     for reading in readings {
-        if let Some(moved) = reading.checked_add_months(Months::new(1)) {
-            if moved > latest {
-                latest = moved;
-            }
-        }
+        latest = latest.max(second_of::<P>(reading.checked_add_months(Months::new(1))));
     }
-    if latest == NaiveDateTime::MIN {
-        return NONE;
-    }
-    latest.secs_since_epoch()
+    latest
 }
 
 fn digits<D: Datelike, P: Place>(date: &D) -> i64 {
@@ -138,18 +128,16 @@ fn digits<D: Datelike, P: Place>(date: &D) -> i64 {
         .wrapping_add(i64::from(date.day()))
 }
 
-fn later<P: Place>(latest: NaiveDate, found: Option<NaiveDate>) -> NaiveDate {
-    if let Some(date) = found {
-        if date > latest {
-            return date;
-        }
+fn day_of<P: Place>(found: Option<NaiveDate>) -> i64 {
+    match found {
+        Some(date) => i64::from(date.num_days_from_ce()),
+        None => NONE,
     }
-    latest
 }
 
-fn number_of(latest: NaiveDate) -> i64 {
-    if latest == NaiveDate::MIN {
-        return NONE;
+fn second_of<P: Place>(found: Option<NaiveDateTime>) -> i64 {
+    match found {
+        Some(reading) => reading.secs_since_epoch(),
+        None => NONE,
     }
-    i64::from(latest.num_days_from_ce())
 }
