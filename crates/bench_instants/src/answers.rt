@@ -3,7 +3,7 @@
 use crate::dates;
 use crate::place::Place;
 use crate::question::Question;
-use crate::values::{Pair, Typed, Values};
+use crate::values::{NONE, Pair, Typed, Values};
 use naive_base::{Datelike, Days, Months, NaiveDate, NaiveDateTime, NaiveTime, Timelike};
 use offset_core::{Choice, FoldChoice, GapChoice, LocalResult, TimeDelta};
 use std::alloc::Global;
@@ -11,9 +11,6 @@ use std::fmt;
 use zoned_round::DurationRound;
 use zoned_series::DailySeries;
 use zoned_time::{DateTime, Offset, TimeZone};
-
-/// The number for no answer, as of a month later at a local date-time in a gap.
-pub const NONE: i64 = i64::MIN;
 
 // How many days a series has.
 const DAYS: u32 = 28;

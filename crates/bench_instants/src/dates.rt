@@ -4,9 +4,8 @@
 //! them the same. The latest of the dates is: it takes a comparison of each. Here days and seconds are
 //! compared, which is what this library stores.
 
-use crate::answers::NONE;
 use crate::place::Place;
-use crate::values::{OfWeek, OfYear, Typed};
+use crate::values::{NONE, OfWeek, OfYear, Typed};
 use naive_base::{Datelike, Months, NaiveDate, NaiveDateTime, Timelike};
 
 /// The sum of the digits of each date, as 20200102.

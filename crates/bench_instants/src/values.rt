@@ -4,6 +4,9 @@ use naive_base::{Datelike, NaiveDate, NaiveDateTime, Timelike, Weekday};
 use std::alloc::{AllocError, Global};
 use zoned_time::{DateTime, TimeZone};
 
+/// The number for no answer, as of a month later at a local date-time in a gap.
+pub const NONE: i64 = i64::MIN;
+
 // 2020-01-01 00:00:00, and the seconds from there to 2030-01-01 00:00:00.
 const FIRST: i64 = 1_577_836_800;
 
