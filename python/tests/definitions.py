@@ -101,8 +101,30 @@ def shown_times(seconds):
 
 
 def inferred(candidates):
+    """Each row's instant, run by run; or else the first row that its run doesn't decide. (`candidates` has the first and
+    the last instant of each row, or the only one.) Neighbouring rows are of one run if both were shown several times,
+    and the two stretches from first to last overlap."""
+    found, begin, undecided = [], 0, []
+    for row in range(1, len(candidates) + 1):
+        if row < len(candidates) and all(
+            len(each) > 1 and each[0] < other[-1]
+            for each, other in itertools.permutations(candidates[row - 1 : row + 1])
+        ):
+            continue
+        answers, wrong = inferred_run(candidates[begin:row])
+        found += answers or []
+        if wrong is not None:
+            undecided.append(begin + wrong)
+        begin = row
+    return (None, min(undecided)) if undecided else (found, None)
+
+
+def inferred_run(candidates):
     """Each row's instant if one choice keeps the order, or if several do and in one of them no two
-    neighbours are the same instant; or else the first row that none or two of those in order tell."""
+    neighbours are the same instant; or else the first row that none or two of those in order decide."""
+    if len(candidates) > 1 and max(each[0] for each in candidates) >= min(each[-1] for each in candidates):
+        # Folds that overlap.
+        return None, 0
     for count in range(1, len(candidates) + 1):
         if not choices_in_order(candidates[:count]):
             return None, count - 1

@@ -1,6 +1,7 @@
 """Folds decided row by row, and by the order of the rows of a key."""
 
 import itertools
+import pickle
 from zoneinfo import ZoneInfo
 
 import numpy as np
@@ -203,8 +204,8 @@ def choices_of(zone, clocks):
 
 
 def test_infer_by_all_choices():
-    """Columns of half hours around a fold: one choice keeps the order, or one of them has no row twice, or
-    no answer is given."""
+    """Columns of half hours around a fold: one choice of each run keeps the order, or one of them has no row twice,
+    or no answer is given."""
     random, midnight = np.random.default_rng(0), np.datetime64("2021-11-07T00:30", "s").astype(int)
     counts = dict.fromkeys(["in order", "distinct", "none"], 0)
     for _ in range(3_000):
@@ -245,15 +246,113 @@ def test_infer_in_steps(name, minutes):
     local = np.array([offset_of(theirs, second) for second in instants.astype(int).tolist()], "m8[s]") + instants
     if name == "Australia/Lord_Howe" and minutes == 60:
         # Its clocks go back by half an hour: one of these steps lies in a fold, and none says which.
-        with pytest.raises(sahvumbi.FoldError, match="order of rows doesn't tell"):
+        with pytest.raises(sahvumbi.FoldError, match="order of rows doesn't decide it"):
             zone.localize(local, fold="infer")
         return
     np.testing.assert_array_equal(zone.localize(local, fold="infer"), instants)
     both, keys = np.repeat(local, 2), np.arange(2 * local.size) % 2
     np.testing.assert_array_equal(zone.localize(both, fold="infer", by=keys), np.repeat(instants, 2))
     if minutes == (30 if name == "Australia/Lord_Howe" else 60):
-        with pytest.raises(sahvumbi.FoldError, match="order of rows doesn't tell"):
+        with pytest.raises(sahvumbi.FoldError, match="order of rows doesn't decide it"):
             zone.localize(both, fold="infer")
+
+
+def hours_of_2021():
+    """The hours of New York's year 2021, as zoneinfo shows them, and their instants."""
+    there, begin = ZoneInfo("America/New_York"), 1_609_477_200
+    instants = list(range(begin, begin + 8_760 * 3_600, 3_600))
+    local = [second + offset_of(there, second) for second in instants]
+    return [pd.Series(np.array(each, "M8[s]").astype("M8[ns]")) for each in (local, instants)]
+
+
+def pandas_infers(local, **others):
+    """The answer of pandas, whose own zone is pytz's."""
+    return local.dt.tz_localize("America/New_York", ambiguous="infer", **others).dt.tz_convert("UTC")
+
+
+def test_only_rows_in_folds_decide():
+    """Elsewhere rows may be equal, out of order, or moved to the end of a gap."""
+    local, instants = hours_of_2021()
+    twice = [column.iloc[[0, 0, *range(1, 8_760)]].reset_index(drop=True) for column in (local, instants)]
+    swapped = [column.iloc[[*range(4_500), 4_501, 4_500, *range(4_502, 8_760)]] for column in (local, instants)]
+    for clocks, expected in (twice, swapped):
+        expected = expected.dt.tz_localize("UTC")
+        pd.testing.assert_series_equal(NEW_YORK.localize(clocks, fold="infer"), expected)
+        pd.testing.assert_series_equal(pandas_infers(clocks), expected)
+    # Of the row for 02:00 on 14 March, which no clock showed.
+    place = int((local == "2021-03-14 03:00").to_numpy().argmax())
+    with_gap = pd.concat([local[:place], pd.Series(pd.to_datetime(["2021-03-14 02:00"])), local[place:]], ignore_index=True)
+    expected = pd.concat([instants[:place], instants[place : place + 1], instants[place:]], ignore_index=True).dt.tz_localize("UTC")
+    pd.testing.assert_series_equal(NEW_YORK.localize(with_gap, "after", "infer"), expected)
+    pd.testing.assert_series_equal(pandas_infers(with_gap, nonexistent="shift_forward"), expected)
+
+
+def test_two_years_are_decided_each():
+    clocks = column("2021-11-07T01:00", "2021-11-07T01:00", "2020-11-01T01:00", "2020-11-01T01:00")
+    expected = column("2021-11-07T05:00", "2021-11-07T06:00", "2020-11-01T05:00", "2020-11-01T06:00")
+    np.testing.assert_array_equal(NEW_YORK.localize(clocks, fold="infer"), expected)
+
+
+#: When clocks are set back in 2021 (zdump -v).
+SET_BACK = {
+    "America/New_York": "2021-11-07T06:00",
+    "Europe/Dublin": "2021-10-31T01:00",
+    "Australia/Lord_Howe": "2021-04-03T15:00",
+}
+
+
+@pytest.mark.parametrize("name", SET_BACK)
+def test_infer_as_pandas_does(name):
+    """Instants in order around a fold, some of them twice or without a row, and rows in no order in other months:
+    pandas' answer if it has one, and else an error or the instants themselves."""
+    random, zone, there = np.random.default_rng(5), Zone(name), ZoneInfo(name)
+    middle, counts = np.datetime64(SET_BACK[name], "s").astype(int), {"both": 0, "ours": 0, "none": 0}
+    for _ in range(600):
+        step = int(random.choice([600, 900, 1_800, 3_600]))
+        times = random.choice(3, 18, p=[0.1, 0.85, 0.05])
+        instants = [middle + step * int(place) for place in np.repeat(np.arange(-9, 9), times)]
+        instants += [middle + 86_400 * place for place in random.integers(20, 99, 6).tolist()]
+        shown = np.array([second + offset_of(there, second) for second in instants], "M8[s]")
+        local = pd.Series(shown.astype("M8[ns]"))
+        try:
+            theirs = local.dt.tz_localize(name, ambiguous="infer").dt.tz_convert("UTC")
+        except Exception as error:
+            # pandas 1 and 2 raise pytz's error, and pandas 3 a ValueError.
+            assert type(error).__name__ in ("AmbiguousTimeError", "ValueError"), error
+            theirs = None
+        try:
+            ours = zone.localize(local, fold="infer")
+        except sahvumbi.FoldError:
+            counts["none"] += 1
+            assert theirs is None
+            continue
+        if theirs is None:
+            counts["ours"] += 1
+            assert ours.astype("int64").tolist() == [second * 10**9 for second in instants]
+        else:
+            counts["both"] += 1
+            pd.testing.assert_series_equal(ours, theirs)
+    assert counts["both"] > 200 and counts["none"] > 20 and counts["ours"] > 20, counts
+
+
+def test_why_the_order_does_not_decide():
+    hour = ["2021-11-07T01:00", "2021-11-07T01:30"]
+    for clocks, row, words in (
+        ([hour[0]], 0, "no row in this fold goes back to an earlier time or repeats one"),
+        ([SUMMER, hour[0], "NaT", hour[0], hour[0]], 1, "rows 3 and 4 both repeat the time above, so one of them is the same instant as the row above"),
+        ([hour[1], hour[0], hour[1], hour[0]], 3, "rows 1 and 3 both go back to an earlier time, and clocks are set back once"),
+    ):
+        with pytest.raises(sahvumbi.FoldError) as raised:
+            NEW_YORK.localize(column(*clocks), fold="infer")
+        lies = f"the local time lies in a fold, and the order of rows doesn't decide it: {words}"
+        advice = "pass is_dst=, offset= or fold= for each row, or by= for several series"
+        assert raised.value.words == lies
+        value = column(clocks[row])[0]
+        assert str(raised.value) == f"zone.localize: row {row}: {value}: {lies} (error 22); {advice}"
+        assert str(pickle.loads(pickle.dumps(raised.value))) == str(raised.value)
+    zones = [Zone("UTC"), NEW_YORK]
+    with pytest.raises(sahvumbi.FoldError, match="row 1: .* rows 3 and 4 both repeat"):
+        sahvumbi.localize_many(zones, [0, 1, 0, 1, 1], column(*[hour[0]] * 5), fold="infer")
 
 
 # Series one after another
@@ -295,15 +394,14 @@ def test_infer_by_keys(drawn, data):
 
 
 def test_meters_one_after_another():
-    """Two meters in order, as pandas' 'infer' takes them too, and row by row."""
+    """Two meters, one after another, as pandas' 'infer' takes them too, and row by row."""
     instants = pd.Series(pd.date_range("2018-01-01", "2020-01-01", freq="15min", tz="UTC"))
     local = NEW_YORK.to_local(instants)
     both = pd.concat([local, local], keys=["one", "two"])
     keys = both.index.get_level_values(0)
     expected = pd.concat([instants, instants], keys=["one", "two"])
-    with pytest.raises(sahvumbi.FoldError, match="rows are not in order"):
-        NEW_YORK.localize(both, fold="infer")
-    pd.testing.assert_series_equal(NEW_YORK.localize(both, fold="infer", by=keys), expected)
+    for given_ in ({}, {"by": keys}):
+        pd.testing.assert_series_equal(NEW_YORK.localize(both, fold="infer", **given_), expected)
     mixed = both.iloc[np.argsort(expected.to_numpy(), kind="stable")]
     answer = NEW_YORK.localize(mixed, fold="infer", by=mixed.index.get_level_values(0))
     pd.testing.assert_series_equal(answer, expected[mixed.index])

@@ -134,8 +134,10 @@ def test_errors_name_the_argument_to_change(tmp_path):
         column.sahvumbi.tz_localize("America/New_York")
     with pytest.raises(FoldError, match=r"^zone.localize: 2021-11-07T01:30:00.000000: .*; fold= says what to return$"):
         NEW_YORK.localize(FOLD)
-    with pytest.raises(FoldError, match=r"and is_dst= does not say which it is \(22\)$"):
+    with pytest.raises(FoldError, match=r"and is_dst= does not say which it is \(error 22\)$"):
         NEW_YORK.localize(np.array([FOLD], "M8[s]"), is_dst=pd.array([None], "boolean"))
+    with pytest.raises(FoldError, match=r"^tz_localize: row 0 .* \(error 22\); pass flags as ambiguous=, or use localize with by= for several series$"):
+        pd.Series([FOLD]).sahvumbi.tz_localize("America/New_York", ambiguous="infer")
     with pytest.raises(GapError, match="^localize_many: row 0: "):
         localize_many([NEW_YORK], [0], np.array([GAP], "M8[s]"))
     error = pytest.raises(GapError, column.sahvumbi.tz_localize, "America/New_York").value

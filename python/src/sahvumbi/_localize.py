@@ -2,7 +2,7 @@
 
 from __future__ import annotations
 
-from typing import Any, Callable, Iterator, NamedTuple, Optional
+from typing import Iterator, NamedTuple, Optional
 
 import numpy as np
 
@@ -26,8 +26,6 @@ GAPS = {"shift": GAP_SHIFT_FORWARD, "after": GAP_END, "shift_back": GAP_SHIFT_BA
 FOLDS = {"earliest": FOLD_EARLIEST, "latest": FOLD_LATEST}
 # If fewer rows than these come between two that are left, more of them are left at a time.
 CLOSE = 128
-OUT_OF_ORDER = "rows are not in order of time here, so the order can't decide folds"
-TWO_WAYS = f"{WORDS[FOLD]}, and the order of rows doesn't tell which it is"
 
 
 def localized(native: NativeZone, column: Column, choice: Choice) -> Array:
@@ -217,125 +215,84 @@ class Folds(NamedTuple):
     last: Array
 
 
-class Undecided(NamedTuple):
-    """A row that no order decides, and why."""
-
-    row: int
-    words: str
-
-
 def decide(column: Column, answers: Array, folds: Folds, groups: Optional[Array]) -> None:
-    """Writes the instants of the folds, by the one choice in which no row comes before an earlier
-    row of its group. If several keep this order, it is the one in which no two neighbours are the
-    same instant.
+    """Writes the instants of the folds. `answers` has the first instant of each row, and NaT for those that have no part
+    in the order.
 
-    `answers` has the first instant of each row, and NaT for those that have no part in the order.
-    Raises `FoldError` at the first row in which two choices keep the order and differ, or at the
-    first row up to which none does.
+    A run is neighbouring rows of a group that lie in one fold, in which each first instant comes before each last one.
+    So rows in order of time are first instants up to a row, and last ones from it on: the row that shows an earlier time
+    than the row above or, if none does, the row that repeats the time above. Raises `FoldError` at the first row of a
+    run that has no such row, or at the second one of a run that has two.
     """
-    faults = []
-    for sequence in _sequences(column, answers, folds, groups):
-        instants, fault = _decided(sequence.first, sequence.opens, sequence.last)
-        if fault is None:
-            answers[sequence.rows(sequence.opens)] = instants
-        else:
-            faults.append(Undecided(int(sequence.rows(fault.row)), fault.words))
-    if faults:
-        row, words = min(faults)
-        raise column.error(FoldError, row, FOLD, words)
+    rows, last, places = _in_order(column, answers, folds, groups)
+    first = answers[rows]
+    goes_on = (np.diff(places) == 1) & (first[1:] < last[:-1]) & (first[:-1] < last[1:])
+    run = np.concatenate([[0], np.cumsum(~goes_on)])
+    begins = np.flatnonzero(np.concatenate([[True], ~goes_on]))
+    falls = np.concatenate([[False], goes_on & (first[1:] < first[:-1])])
+    repeats = np.concatenate([[False], goes_on & (first[1:] == first[:-1])])
+    repeats &= np.bincount(run[falls], minlength=begins.size)[run] == 0
+    steps = falls | repeats
+    is_one_fold = np.maximum.reduceat(first, begins) < np.minimum.reduceat(last, begins)
+    is_decided = is_one_fold & (np.bincount(run[steps], minlength=begins.size) == 1)
+    if not is_decided.all():
+        raise _undecided(column, rows, run, begins, falls, steps, is_one_fold, is_decided)
+    turned = np.cumsum(steps)
+    answers[rows] = np.where(turned > turned[begins][run], last, first)
 
 
-class Sequence(NamedTuple):
-    """Rows that are in order: their first instants, the places in them that are open, with the last
-    instants of those, and what gives the rows of places."""
-
-    first: Array
-    opens: Array
-    last: Array
-    rows: Callable[[Any], Any]
-
-
-def _sequences(
+def _in_order(
     column: Column, answers: Array, folds: Folds, groups: Optional[Array]
-) -> Iterator[Sequence]:
-    """The rows of each group that has a fold, but for those without an instant."""
-    left_out = np.flatnonzero(answers == NAT) if column.has_nat else np.empty(0, np.intp)
+) -> tuple[Array, Array, Array]:
+    """The rows of folds, group by group, their last instants, and places, of which two in turn are those of neighbours.
+
+    Rows without an instant have no place."""
+    rows, last = folds
+    left_out = np.flatnonzero(answers == NAT) if column.has_nat else NO_ROWS
     if groups is None:
-        yield _but_for(left_out, answers, folds)
-        return
+        return rows, last, rows - np.searchsorted(left_out, rows)
     order = np.argsort(groups, kind="stable")
     if left_out.size:
         order = order[answers[order] != NAT]
-    ends = np.cumsum(np.bincount(groups[order], minlength=int(groups.max()) + 1))
-    by_group = np.argsort(groups[folds.rows], kind="stable")
-    found, begins = np.unique(groups[folds.rows][by_group], return_index=True)
-    for group, mine in zip(map(int, found), np.split(by_group, begins[1:])):
-        places = order[ends[group - 1] if group else 0 : ends[group]]
-        opens = np.searchsorted(places, folds.rows[mine])
-        yield Sequence(answers[places], opens, folds.last[mine], places.__getitem__)
+    is_open = np.zeros(answers.size, bool)
+    is_open[rows] = True
+    places = np.flatnonzero(is_open[order])
+    in_order = order[places]
+    # The last row of a group and the first one of the next are no neighbours.
+    return in_order, last[np.searchsorted(rows, in_order)], places + groups[in_order]
 
 
-def _but_for(left_out: Array, answers: Array, folds: Folds) -> Sequence:
-    """All rows but those that are left out: a list of the others would be long."""
-    if not left_out.size:
-        return Sequence(answers, folds.rows, folds.last, lambda places: places)
-    # How many rows are kept before each that is left out.
-    kept = left_out - np.arange(left_out.size)
-    return Sequence(
-        np.delete(answers, left_out),
-        folds.rows - np.searchsorted(left_out, folds.rows),
-        folds.last,
-        lambda places: places + np.searchsorted(kept, places, side="right"),
-    )
-
-
-def _decided(first: Array, opens: Array, last: Array) -> tuple[Array, Optional[Undecided]]:
-    """The instants of the open rows, or why there are none.
-
-    Only open rows and the rows beside them are compared; the others are in order or not."""
-    near = np.unique(np.concatenate([opens - 1, opens, opens + 1]))
-    near = near[(near >= 0) & (near < first.size)]
-    places = np.searchsorted(near, opens)
-    first_near = first[near]
-    last_near = first_near.copy()
-    last_near[places] = last
-    earliest, latest, count = _ends(np.less, first_near, last_near)
-    stuck = _steps_back(np.less, first, opens) + near[count : count + 1].tolist()
-    if stuck:
-        return earliest, Undecided(min(stuck), OUT_OF_ORDER)
-    differ = near[earliest != latest]
-    if differ.size and not _steps_back(np.less_equal, first, opens):
-        # Several choices keep the order: does one without two neighbours that are the same instant?
-        earliest, latest, count = _ends(np.less_equal, first_near, last_near)
-    if count < near.size or (earliest != latest).any():
-        return earliest, Undecided(int(differ[0]), TWO_WAYS)
-    return earliest[places], None
-
-
-def _steps_back(falls: Any, first: Array, opens: Array) -> list[int]:
-    """The first row that `falls` behind the row above it, if none of the two is open."""
-    back = falls(first[1:], first[:-1])
-    back[opens[opens > 0] - 1] = back[opens[opens < back.size]] = False
-    return [1 + int(row) for row in np.flatnonzero(back)[:1]]
-
-
-def _ends(falls: Any, first: Array, last: Array) -> tuple[Array, Array, int]:
-    """The least and the greatest choice in which no row `falls` behind those above it, and how many
-    rows have one."""
-    earliest, count = _earliest(falls, first, last)
-    latest, _ = _earliest(falls, -last[::-1], -first[::-1])
-    return earliest, -latest[::-1], count
-
-
-def _earliest(falls: Any, first: Array, last: Array) -> tuple[Array, int]:
-    """The least choice in which no row `falls` behind those above it, and how many rows have one."""
-    chosen, count = first.copy(), first.size
-    while True:
-        reached = np.maximum.accumulate(chosen[:count])
-        behind = 1 + np.flatnonzero(falls(chosen[1:count], reached[:-1]))
-        if not behind.size:
-            return chosen, count
-        stuck = behind[chosen[behind] == last[behind]]
-        if stuck.size:
-            count = int(stuck[0])
-        chosen[behind] = last[behind]
+def _undecided(
+    column: Column,
+    rows: Array,
+    run: Array,
+    begins: Array,
+    falls: Array,
+    steps: Array,
+    is_one_fold: Array,
+    is_decided: Array,
+) -> FoldError:
+    """Returns the error of the first row that the order doesn't decide."""
+    turns = np.flatnonzero(steps)
+    following = np.flatnonzero(run[turns[1:]] == run[turns[:-1]])[::-1]
+    # The first two rows of each run of which one only should be there, if it has two.
+    pairs = np.full((begins.size, 2), -1)
+    pairs[run[turns[following]]] = np.stack([turns[following], turns[following + 1]], 1)
+    named, has_falls = begins.copy(), np.bincount(run[falls], minlength=begins.size) > 0
+    is_out_of_order = is_one_fold & has_falls
+    named[is_out_of_order] = pairs[is_out_of_order, 1]
+    undecided = np.flatnonzero(~is_decided)
+    mine = int(undecided[rows[named[undecided]].argmin()])
+    pair = rows[pairs[mine]] if column.places is None else column.places[rows[pairs[mine]]]
+    if not is_one_fold[mine]:
+        why = "folds of the zone overlap here"
+    elif pairs[mine, 0] < 0:
+        why = "no row in this fold goes back to an earlier time or repeats one"
+    elif has_falls[mine]:
+        why = f"rows {pair[0]} and {pair[1]} both go back to an earlier time, and clocks are set back once"
+    else:
+        why = f"rows {pair[0]} and {pair[1]} both repeat the time above, so one of them is the same instant as the row above"
+    words = f"{WORDS[FOLD]}, and the order of rows doesn't decide it: {why}"
+    error = column.error(FoldError, int(rows[named[mine]]), FOLD, words)
+    error.advice = "pass is_dst=, offset= or fold= for each row, or by= for several series"
+    return error

@@ -75,7 +75,7 @@ class ZoneRefusedError(ZoneError):
 
     def __str__(self) -> str:
         place = "" if self.position is None else f" at offset {self.position}"
-        return f"{self.what}: {self.words} ({self.number}){place}"
+        return f"{self.what}: {self.words} (error {self.number}){place}"
 
 
 class RowError(ZoneError):
@@ -90,6 +90,8 @@ class RowError(ZoneError):
     call: Optional[str] = None
     #: The argument that says what to return for such a row.
     argument: Optional[str] = None
+    #: What to pass instead, if the words are others than those of the number.
+    advice: Optional[str] = None
 
     def __init__(
         self,
@@ -104,8 +106,10 @@ class RowError(ZoneError):
         super().__init__(row, value, number, self.words, label)
 
     def __str__(self) -> str:
-        text = f"{printable(self.value)}: {self.words} ({self.number})"
-        if self.argument is not None and self.words == WORDS[self.number]:
+        text = f"{printable(self.value)}: {self.words} (error {self.number})"
+        if self.advice is not None:
+            text += f"; {self.advice}"
+        elif self.argument is not None and self.words == WORDS[self.number]:
             text += f"; {self.argument}= says what to return"
         if self.row is not None:
             label = "" if self.label is None else f" (label {printable(repr(self.label))})"

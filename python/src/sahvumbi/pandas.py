@@ -132,6 +132,7 @@ class Accessor:
         except (GapError, FoldError) as error:
             error.call = "tz_localize"
             error.argument = "nonexistent" if isinstance(error, GapError) else "ambiguous"
+            error.advice = error.advice and "pass flags as ambiguous=, or use localize with by= for several series"
             raise
 
     def tz_convert(self, zone: ZoneLike) -> Any:

@@ -321,10 +321,10 @@ class Zone:
 
         `fold` says what to return for one that clocks showed several times: 'raise' a `FoldError`;
         'earliest' the first instant that shows it; 'latest' the last one; 'nat' NaT; 'infer' the
-        instant that the order of rows decides. For 'infer' rows are in order of time, and each row
-        is a first or a last instant. If exactly one choice keeps the rows in order, it is used. If
-        several do, the one in which no two neighbouring rows are the same instant is used, if there
-        is exactly one. Otherwise `FoldError` is raised. NaT has no part in the order.
+        instant that the order of rows decides. For 'infer' neighbouring rows in one fold are in order
+        of time. If exactly one of them shows an earlier time than the row above or, if none does,
+        exactly one repeats it, that row and those after it are last instants, and those above it first
+        ones. Otherwise `FoldError` is raised. Rows outside folds and NaT have no part in the order.
         `by`, a column of keys, makes it the order of the rows of each key.
 
         A second column can decide folds row by row: `fold` as an array of 0 for the
@@ -343,7 +343,7 @@ class Zone:
         >>> new_york.localize(skipped)  # doctest: +ELLIPSIS
         Traceback (most recent call last):
         ...
-        sahvumbi.errors.GapError: zone.localize: row 0: 2021-...: the local time lies in a gap (21); ...
+        sahvumbi.errors.GapError: zone.localize: row 0: 2021-...: the local time lies in a gap (error 21); ...
         >>> new_york.localize(skipped, gap="shift")
         array(['2021-03-14T07:30:00', '2021-07-01T16:00:00'],
               dtype='datetime64[s]')
