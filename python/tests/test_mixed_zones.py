@@ -70,9 +70,9 @@ def test_categories():
     want = [19_800, -18_000, 19_801, -17_999]
     for keys in (names, pd.Categorical(names), pd.CategoricalIndex(names), names.astype(str)):
         assert to_local_many(zones, keys, seconds).tolist() == want
-    with pytest.raises(ValueError, match="no key in row 1"):
+    with pytest.raises(ValueError, match="row 1: the zone's name is missing"):
         to_local_many(zones, names.where([True, False, True, True]), seconds)
-    with pytest.raises(ValueError, match="no zone's code in row 0"):
+    with pytest.raises(ValueError, match="row 0: 'b' is not a key of zones"):
         to_local_many({"a": zones["a"]}, names, seconds)
     with pytest.raises(ValueError, match="another index"):
         to_local_many(zones, names[::-1], seconds)
@@ -102,13 +102,13 @@ def test_empty_and_shapes():
 @pytest.mark.parametrize(
     "zones_, codes, error, words",
     [
-        (ZONES, [0, 3], ValueError, "no zone's code in row 1"),
-        (ZONES, [-1, 0], ValueError, "no zone's code in row 0"),
+        (ZONES, [0, 3], ValueError, "row 1: zones has no place 3"),
+        (ZONES, [-1, 0], ValueError, "row 0: zones has no place -1"),
         (ZONES, [0], ValueError, "has the shape"),
-        (ZONES, [0.0, 1.0], TypeError, "places in zones, and not float64"),
-        (ZONES, NAMES[:2], TypeError, "places in zones"),
-        ({"a": ZONES[0]}, ["a", "b"], ValueError, "no zone's code in row 1"),
-        ({"a": ZONES[0]}, ["a", None], ValueError, "no key in row 1"),
+        (ZONES, [0.0, 1.0], TypeError, "codes= must be integers"),
+        (ZONES, NAMES[:2], TypeError, "codes= must be integers"),
+        ({"a": ZONES[0]}, ["a", "b"], ValueError, "row 1: 'b' is not a key of zones"),
+        ({"a": ZONES[0]}, ["a", None], ValueError, "row 1: the zone's name is missing"),
         (["America/New_York"], [0, 0], TypeError, "a str that is no Zone"),
     ],
 )

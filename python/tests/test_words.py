@@ -5,14 +5,16 @@ import inspect
 import pickle
 import re
 from datetime import datetime, timedelta, timezone
+from pathlib import Path
 from typing import get_args
+from zoneinfo import ZoneInfo
 
 import numpy as np
 import pandas as pd
 import pytest
 
 import sahvumbi.pandas  # noqa: F401
-from sahvumbi import Comparison, FoldError, GapError, Zone, ZoneRefusedError, compare, localize_many, moved
+from sahvumbi import Comparison, FoldError, GapError, Zone, ZoneNotFoundError, ZoneRefusedError, compare, localize_many, moved
 from sahvumbi._containers import FoldWord, Gap
 
 NEW_YORK = Zone("America/New_York")
@@ -121,9 +123,19 @@ def test_flags_are_pandas_own():
         ours = local.sahvumbi.tz_localize("Europe/Dublin", ambiguous=flags)
         assert in_utc(ours) == in_utc(theirs) == ["2021-10-31 00:30:00", "2021-10-31 01:30:00"]
     assert in_utc(local.sahvumbi.tz_localize("Europe/Dublin", ambiguous=False)) == ["2021-10-31 01:30:00"] * 2
-    for wrong in (0.5, ["first", "last"], None):
-        with pytest.raises(TypeError, match="ambiguous is raise, NaT, infer, or flags"):
+    for wrong, words in (
+        (None, "^tz_localize: ambiguous is raise, NaT, infer, or flags, and not None$"),
+        (0.5, "^ambiguous= has 0 and 1 or booleans, and not float64$"),
+        (["first", "last"], "^ambiguous= has 0 and 1 or booleans, and not <U5$"),
+        (pd.Series([True, None]), r"^ambiguous= is an object column: astype\('boolean'\)$"),
+        ([True, None], r"^ambiguous= is an object column: pd.array\(.., 'boolean'\)$"),
+    ):
+        with pytest.raises(TypeError, match=words):
             local.sahvumbi.tz_localize("Europe/Dublin", ambiguous=wrong)
+    with pytest.raises(ValueError, match=r"^ambiguous= has the shape \(3,\), and the column \(2,\)$"):
+        local.sahvumbi.tz_localize("Europe/Dublin", ambiguous=[True] * 3)
+    with pytest.raises(FoldError, match=r"^tz_localize: row 1 .* and ambiguous= does not say which it is \(error 22\)$"):
+        local.sahvumbi.tz_localize("Europe/Dublin", ambiguous=pd.Series([True, None]).astype("boolean"))
 
 
 def test_errors_name_the_argument_to_change(tmp_path):
@@ -155,6 +167,54 @@ def test_errors_name_the_argument_to_change(tmp_path):
             ask(nonexistent="NaT")
         with pytest.raises(TypeError, match=rf"^{call}\(\) takes no keyword argument 'bye'$"):
             ask(bye=1)
+
+
+def test_errors_say_what_to_pass(tmp_path):
+    local, zones = pd.Series(pd.to_datetime(["2021-07-01 12:00"] * 3)), {"Europe/Paris": Zone("Europe/Paris")}
+    names = ["Europe/Paris", "Europe/Paris", "Asia/Kolkata"]
+    for codes in (names, pd.Categorical(names)):
+        with pytest.raises(TypeError, match=r"^zones is a list, so codes= must be integers; for names or a Categorical pass a dict \{name: Zone\}$"):
+            localize_many(list(zones.values()), codes, local)
+        with pytest.raises(ValueError, match="^row 2: 'Asia/Kolkata' is not a key of zones$"):
+            localize_many(zones, codes, local)
+    with pytest.raises(ValueError, match="^row 2: zones has no place 7$"):
+        localize_many(list(zones.values()), [0, 0, 7], local)
+    with pytest.raises(ValueError, match="^row 1: the zone's name is missing$"):
+        localize_many(zones, ["Europe/Paris", None, "Europe/Paris"], local)
+    with pytest.raises(TypeError, match="and not ZoneInfo: use Zone.from_zoneinfo$"):
+        Zone(ZoneInfo("Europe/Paris"))
+    with pytest.raises(TypeError, match=r"^is_dst= is an object column: astype\('boolean'\)$"):
+        NEW_YORK.localize(local, is_dst=pd.Series([True, None, False]))
+    with pytest.raises(TypeError, match=r"^fold= is an object column: astype\('Int64'\)$"):
+        NEW_YORK.localize(local, fold=pd.Series([0, None, 1], dtype=object))
+    # A zone that only one folder has.
+    for folder in ("old", "new"):
+        (tmp_path / folder).mkdir()
+        for name in ("Paris", "London") if folder == "old" else ("Paris",):
+            (tmp_path / folder / name).write_bytes(Path(f"/usr/share/zoneinfo/Europe/{name}").read_bytes())
+    compared = compare(tmp_path / "old", tmp_path / "new")
+    assert not compared.moved(local, pd.Categorical(["Paris"] * 3, ["London", "Paris"]))
+    with pytest.raises(ZoneNotFoundError, match="^row 1: no zone has the name 'London' in .*new$"):
+        compared.moved(local, ["Paris", "London", "London"])
+    with pytest.raises(ZoneNotFoundError, match="^no zone has the name 'London' in .*new$"):
+        compared.moved(local, "London")
+
+
+@pytest.mark.parametrize(
+    ("step", "hint"),
+    [
+        *((theirs, f"pandas' '{theirs}' is '{ours}' here") for theirs, ours in {
+            "d": "D", "H": "h", "15T": "15min", "M": "MS", "A": "YS", "ME": "MS", "QE": "QS", "YE": "YS", "AS": "YS", "W-SUN": "W",
+        }.items()),
+        ("2MS", "'MS' has no multiples here"),
+        ("2ME", "'MS' has no multiples here"),
+        ("2W", "'W' has no multiples here"),
+        ("W-MON", "weeks begin on Monday here, 'W'"),
+    ],
+)
+def test_steps_of_pandas(step, hint):
+    with pytest.raises(ValueError, match=f", and not '{step}': {hint}$"):
+        NEW_YORK.floor(pd.Series(pd.to_datetime(["2021-07-01"])), step)
 
 
 def test_texts_and_periods_say_what_to_write():

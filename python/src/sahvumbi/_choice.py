@@ -113,7 +113,7 @@ def chosen(
     if by is not None and word != "infer":
         raise ValueError("by= goes with fold='infer'")
     if errors == "collect" and word == "infer":
-        raise ValueError("errors='collect' does not go with fold='infer', which asks all rows")
+        raise ValueError("errors='collect' does not go with fold='infer': localize with fold='nat'")
     if not column.has_nat and ("nat" in (gap, word) or errors == "collect"):
         kind = "datetime" if column.is_time else "int64"
         words = "gap='nat', fold='nat' and errors='collect' take datetime64"
@@ -174,6 +174,15 @@ def _given(column: Column, fold: Any, is_dst: Any, offset: Any) -> Optional[Give
     values = row_by_row(name, columns[name], column)
     if name == "offset":
         return Given(name, _seconds(values))
+    return Given(name, flags_of(name, values, columns[name]))
+
+
+def flags_of(name: str, values: Array, given: Any) -> Array:
+    """0 and 1 as they are, and -1 where there is none. `given` is what a caller passed."""
+    if values.dtype == object:
+        kind = "Int64" if name == "fold" else "boolean"
+        remedy = f"astype('{kind}')" if hasattr(given, "index") and hasattr(given, "astype") else f"pd.array(.., '{kind}')"
+        raise TypeError(f"{name}= is an object column: {remedy}")
     if values.dtype.kind not in "biu":
         raise TypeError(f"{name}= has 0 and 1 or booleans, and not {values.dtype}")
     is_given = (values == 0) | (values == 1)
@@ -181,7 +190,7 @@ def _given(column: Column, fold: Any, is_dst: Any, offset: Any) -> Optional[Give
         raise ValueError(f"{name}= has 0 and 1, or False and True")
     numbers = np.full(values.shape, -1, np.int8)
     np.copyto(numbers, values, where=is_given, casting="unsafe")
-    return Given(name, numbers)
+    return numbers
 
 
 def _seconds(values: Array) -> Array:
@@ -228,5 +237,6 @@ def factorized(name: str, keys: Any, column: Column) -> tuple[Array, list[Any]]:
     else:
         numbers, found = pandas.factorize(row_by_row(name, keys, column))
     if numbers.size and int(numbers.min()) < 0:
-        raise ValueError(f"{name}= has no key in row {int((numbers < 0).argmax())}")
+        missing = "the key of by=" if name == "by" else "the zone's name"
+        raise ValueError(f"row {int((numbers < 0).argmax())}: {missing} is missing")
     return numbers, list(found)

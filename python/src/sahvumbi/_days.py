@@ -36,10 +36,11 @@ UNITS = {
 }
 #: The months of each step that begins with a month.
 MONTHS = {"MS": 1, "QS": 3, "YS": 12}
-#: What pandas 1 says for some of these.
+#: What pandas says for some of these, in several versions.
 OF_PANDAS = {
-    **{"H": "h", "T": "min", "S": "s", "L": "ms", "U": "us", "N": "ns"},
-    **{"M": "MS", "Q": "QS", "A": "YS", "Y": "YS"},
+    **{"d": "D", "H": "h", "T": "min", "S": "s", "L": "ms", "U": "us", "N": "ns"},
+    **{"M": "MS", "Q": "QS", "A": "YS", "Y": "YS", "AS": "YS"},
+    **{"ME": "MS", "QE": "QS", "YE": "YS", "W-SUN": "W"},
 }
 #: The day of a Monday, counted from 1970-01-01, a Thursday.
 MONDAY = 4
@@ -466,13 +467,23 @@ def step_of(step: Any) -> Parsed:
         raise TypeError(f"step is 'D', 'h', '15min' or a datetime.timedelta, and not {type(step).__name__}")
     if parsed is None:
         shown = printable(repr(step))
-        ours = OF_PANDAS.get(step.lstrip("0123456789")) if isinstance(step, str) else None
-        hint = f": pandas' {shown} is {step[: -1] + ours!r} here" if ours else ""
+        hint = _hint(step) if isinstance(step, str) else ""
         raise ValueError(
             "step is a number of days ('D', '2D', 'W'), a month, quarter or year ('MS', 'QS', 'YS'), "
             f"or a whole part of a day ('h', '15min', '30s') or of a second ('500ms'), and not {shown}{hint}"
         )
     return parsed
+
+
+def _hint(step: str) -> str:
+    """What to pass in place of a word that is no step here, if it is one of pandas or a number of them."""
+    word = step.lstrip("0123456789")
+    count, ours = step[: len(step) - len(word)], OF_PANDAS.get(word, word)
+    if ours in ("W", *MONTHS) and count not in ("", "1"):
+        return f": {ours!r} has no multiples here"
+    if word.startswith("W-") and ours == word:
+        return ": weeks begin on Monday here, 'W'"
+    return f": pandas' {printable(repr(step))} is {count + ours!r} here" if ours != word else ""
 
 
 def _of_word(step: str) -> Parsed | None:

@@ -14,7 +14,7 @@ from ._library import (
     IN_GAP, NEVER, ONCE, OUT_OF_RANGE, SEVERAL_TIMES,
 )
 from ._native import NativeZone
-from .errors import FOLD, GAP, WORDS, FoldError
+from .errors import FOLD, GAP, WORDS, FoldError, RowError
 from .errors import OUT_OF_RANGE as IS_OUT_OF_RANGE
 
 # No offset is as great.
@@ -271,7 +271,7 @@ def _undecided(
     steps: Array,
     is_one_fold: Array,
     is_decided: Array,
-) -> FoldError:
+) -> RowError:
     """Returns the error of the first row that the order doesn't decide."""
     turns = np.flatnonzero(steps)
     following = np.flatnonzero(run[turns[1:]] == run[turns[:-1]])[::-1]

@@ -34,7 +34,8 @@ def zones() -> list[str]:
 def bytes_of_key(key: str) -> bytes:
     """Returns the TZif file of a name. Raises `ZoneNotFoundError` if no zone has the name."""
     if not isinstance(key, str):
-        raise TypeError(f"the name of a zone is a str, and not {type(key).__name__}")
+        remedy = ": use Zone.from_zoneinfo" if isinstance(key, zoneinfo.ZoneInfo) else ""
+        raise TypeError(f"the name of a zone is a str, and not {type(key).__name__}{remedy}")
     found = None
     if _is_name(key):
         found = _of_folders(key)

@@ -119,6 +119,7 @@ def _parts(zones: Zones, codes: Any, column: Column) -> Iterator[tuple[Zone, Arr
 
 def _numbered(zones: Zones, codes: Any, column: Column) -> tuple[list[Zone], Array]:
     """The zones as a list, and the place in it for each row."""
+    found: Any = None
     if isinstance(zones, Mapping):
         places = {key: place for place, key in enumerate(zones)}
         numbers, found = factorized("codes", codes, column)
@@ -127,10 +128,13 @@ def _numbered(zones: Zones, codes: Any, column: Column) -> tuple[list[Zone], Arr
     else:
         codes = row_by_row("codes", codes, column)
         if codes.dtype.kind not in "iu":
-            raise TypeError(f"codes= has places in zones, and not {codes.dtype}")
+            remedy = "for names or a Categorical pass a dict {name: Zone}"
+            raise TypeError(f"zones is a list, so codes= must be integers; {remedy}")
     if codes.size and not 0 <= int(codes.min()) <= int(codes.max()) < len(zones):
         row = int(((codes < 0) | (codes >= len(zones))).argmax())
-        raise ValueError(f"codes= has no zone's code in row {row}")
+        if found is not None:
+            raise ValueError(f"row {row}: {printable(repr(found[numbers[row]]))} is not a key of zones")
+        raise ValueError(f"row {row}: zones has no place {codes[row]}")
     return list(zones.values() if isinstance(zones, Mapping) else zones), codes
 
 
@@ -305,10 +309,20 @@ class Comparison:
         column = taken(local_times, "comparison.moved(s.index, zones)", may_be_aware=False)
         choice = chosen(column, gap, fold, is_dst, offset, by)
         codes, names = factorized("zones", zones, column)
-        before, after = (
-            instants([_zone_in(folder, name) for name in names], codes, column, choice)
-            for folder in (self.old, self.new)
-        )
+        used, codes = np.unique(codes, return_inverse=True)
+        opened: list[list[Zone]] = [[], []]
+        missing: dict[int, str] = {}
+        for place, code in enumerate(used):
+            try:
+                for folder, found in zip((self.old, self.new), opened):
+                    found.append(_zone_in(folder, names[code]))
+            except ZoneNotFoundError as error:
+                missing[place] = str(error)
+        if missing:
+            row = int(np.isin(codes, list(missing)).argmax())
+            where = "" if np.ndim(zones) == 0 else f"row {row}: "
+            raise ZoneNotFoundError(where + missing[int(codes[row])])
+        before, after = (instants(found, codes, column, choice) for found in opened)
         return moved_rows(column, before, after)
 
 

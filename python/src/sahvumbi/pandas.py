@@ -15,12 +15,13 @@ from datetime import timedelta
 from typing import Any, Literal, Union
 from zoneinfo import ZoneInfo
 
-import numpy as np
-from pandas import Series
+from pandas import array
 from pandas.api.extensions import register_index_accessor, register_series_accessor
 
-from ._names import zoneinfo_of
+from ._choice import flags_of, row_by_row
+from ._columns import taken
 from ._days import Step
+from ._names import zoneinfo_of
 from .errors import FoldError, GapError
 from .zone import Zone
 
@@ -105,7 +106,8 @@ class Accessor:
         ambiguous: Union[Literal["raise", "NaT", "infer"], bool, Any] = "raise",
         nonexistent: Union[Literal["raise", "NaT", "shift_forward", "shift_backward"], timedelta] = "raise",
     ) -> Any:
-        """Returns the instants of local times, in the zone, as pandas' `tz_localize` does.
+        """Returns the instants of local times, in the zone, as pandas' `tz_localize` does, with a ZoneInfo in place of
+        pytz's zone.
 
         `ambiguous` is 'raise', 'NaT', 'infer', or flags, one or a column of them: True for the first
         instant, which pandas calls daylight saving time. `nonexistent` is 'raise', 'NaT',
@@ -126,11 +128,12 @@ class Accessor:
             column = column.where(~is_skipped, column + nonexistent)
         else:
             gap = _word("nonexistent", nonexistent, GAPS)
-        fold = _word("ambiguous", ambiguous, FOLDS) if isinstance(ambiguous, str) else _folds(ambiguous)
+        fold = _word("ambiguous", ambiguous, FOLDS) if isinstance(ambiguous, str) else _folds(column, ambiguous)
         try:
             return opened.localize(column, gap, fold, tz=opened)  # type: ignore[call-overload]
         except (GapError, FoldError) as error:
             error.call = "tz_localize"
+            error.words = error.words.replace("and fold= does not", "and ambiguous= does not")
             error.argument = "nonexistent" if isinstance(error, GapError) else "ambiguous"
             error.advice = error.advice and "pass flags as ambiguous=, or use localize with by= for several series"
             raise
@@ -168,14 +171,15 @@ def _word(name: str, word: Any, words: dict[str, str]) -> str:
     return words[word]
 
 
-def _folds(flags: Any) -> Any:
-    """0 for each flag that is true, which means the first instant, and 1 for each that isn't."""
-    if isinstance(flags, Series):
-        return 1 - flags.astype("Int8")
-    array = np.asarray(flags)
-    if array.dtype.kind not in "biu":
-        raise TypeError(f"tz_localize: ambiguous is {', '.join(FOLDS)}, or flags, and not {array.dtype}")
-    return 1 - array.astype(np.int8)
+def _folds(column: Any, flags: Any) -> Any:
+    """0 for each flag that is true, which means the first instant, and 1 for each that isn't; NA stays."""
+    if flags is None:
+        raise TypeError(f"tz_localize: ambiguous is {', '.join(FOLDS)}, or flags, and not None")
+    taken_ = taken(column, "s.index.sahvumbi.tz_localize(zone)", may_be_aware=False)
+    values = flags_of("ambiguous", row_by_row("ambiguous", flags, taken_), flags)
+    folds = array(1 - values, dtype="Int8")
+    folds[values < 0] = None
+    return folds
 
 
 register_series_accessor("sahvumbi")(Accessor)

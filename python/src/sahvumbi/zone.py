@@ -88,7 +88,7 @@ class Zone:
         >>> Zone.from_bytes(b"TZif")
         Traceback (most recent call last):
         ...
-        sahvumbi.errors.ZoneRefusedError: 4 bytes: unexpected end of input (7) at offset 4
+        sahvumbi.errors.ZoneRefusedError: 4 bytes: unexpected end of input (error 7) at offset 4
         """
         read = memoryview(data).tobytes()
         what = f"{len(read)} bytes"
