@@ -241,7 +241,7 @@ def counts():
         "TZif files with one byte changed": byte_changes()[1],
         "random calls by handle from C": int(re.search(r'\["(\d+)", "1"\]', text_of(TOP / "tools/try_handles.py"))[1]),
         "programs that must not compile": len(list((TOP / "tools/refused").glob("*.txt"))),
-        "tests of the Python package": how_often(r"(?m)^ *def test_", sorted((TOP / "python/tests").glob("test_*.py"))),
+        "test functions of the Python package": how_often(r"(?m)^ *def test_", sorted((TOP / "python/tests").glob("test_*.py"))),
     }
 
 

@@ -131,7 +131,7 @@ def table(head, numbers, rows):
 
 
 def ratios(rows):
-    """pandas' time through ours, and ours for a row, in each order."""
+    """pandas' time divided by ours, and ours for a row, in each order."""
     names = [name for name, _ in orders(1)]
     for question in ("to local times", "to instants"):
         lines = []
@@ -154,7 +154,7 @@ def ratios(rows):
                 ours, theirs = (1e9 * each / rows for each in times)
                 cells.append(f"{theirs / ours:.1f} ({ours:.1f} ns of {theirs:.0f})")
             lines.append(row(name, *cells))
-        yield f"### {question[0].upper()}{question[1:]}: pandas' time through ours\n"
+        yield f"### {question[0].upper()}{question[1:]}: pandas' time divided by ours\n"
         yield from table(["zone", *names], 4, lines)
 
 
@@ -172,7 +172,7 @@ def pairs_of(form, rows, local):
 
 
 def sizes():
-    """pandas' time through ours for shorter columns: the least ratio of all orders, also with old dates among new ones."""
+    """pandas' time divided by ours for shorter columns: the least ratio of all orders, also with old dates among new ones."""
     lines = []
     for rows in (1_000, 10_000, 100_000):
         for form in ("a Series", "a DatetimeIndex"):
@@ -185,7 +185,7 @@ def sizes():
                 ratio = min(found)
                 cells += [f"{ratio:.1f} ({', '.join(found[ratio])})", f"{sorted(found)[len(found) // 2]:.1f}"]
             lines.append(row(f"{rows:,}, {form}", *cells))
-    yield "### Shorter columns: pandas' time through ours\n"
+    yield "### Shorter columns: pandas' time divided by ours\n"
     yield "The least of six zones and five orders (as above, and one row in a thousand before 1970), and the median.\n"
     yield from table(["rows", "to local times, least", "median", "to instants, least", "median"], 4, lines)
 
@@ -202,12 +202,12 @@ def limits():
                 cells = [f"{1e6 * each:.1f} us" for each in times]
                 lines.append(row(f"{rows:,}, {form}", name, order, *cells, f"{times[1] / times[0]:.1f}", f"{times[1] / times[2]:.1f}"))
     yield "### To local times: what limits the ratio\n"
-    head = ["here", "pandas", "the library's call", "a copy", "pandas' time through ours", "through the library's"]
+    head = ["here", "pandas", "the library's call", "a copy", "pandas' time divided by ours", "divided by the library's"]
     yield from table(["rows", "zone", "order", *head], 6, lines)
 
 
 def steps(rows):
-    """Offsets, days and hours: pandas' time through ours, and ours for a row."""
+    """Offsets, days and hours: pandas' time divided by ours, and ours for a row."""
     name, lines = ZONES[0], {}
     zone = Zone(name)
     for order, seconds in list(orders(rows))[:3]:
@@ -224,7 +224,7 @@ def steps(rows):
             _, times = timed(pair, 3)
             ours, theirs = (1e9 * each / rows for each in times)
             lines.setdefault(call, []).append(f"{theirs / ours:.1f} ({ours:.1f} ns of {theirs:.0f})")
-    yield f"### Offsets, days and hours in {name}: pandas' time through ours\n"
+    yield f"### Offsets, days and hours in {name}: pandas' time divided by ours\n"
     yield from table(["call on a Series", "in no order", "sorted", "one day"], 3, [row(call, *cells) for call, cells in lines.items()])
 
 
@@ -302,9 +302,9 @@ def values():
     lines = []
     for place, call in enumerate(CALLS):
         found = times[6 * place : 6 * place + 6]
-        cells = [f"{1e6 * own:.1f} us of {1e6 * other:.1f}: {own / other:.2f}" for own, other in zip(found[::2], found[1::2])]
+        cells = [f"{other / own:.2g} ({1e6 * own:.1f} us of {1e6 * other:.1f})" for own, other in zip(found[::2], found[1::2])]
         lines.append(row(f"`{call}`", *cells))
-    yield "### One value: our time through zoneinfo's, or pandas'\n"
+    yield "### One value: zoneinfo's time, or pandas', divided by ours\n"
     yield "The moments are 2021-07-01 12:30 UTC, and 2021-11-08, the day after a clock change.\n"
     yield from table(["call", "a datetime", "a datetime near a change", "a Timestamp, by pandas"], 3, lines)
 

@@ -1,6 +1,7 @@
 """Zones that are kept open: they are closed with the last reference, and threads ask them at once."""
 
 import gc
+import multiprocessing
 import os
 import pickle
 import subprocess
@@ -8,6 +9,7 @@ import sys
 import threading
 
 import numpy as np
+import pytest
 
 from sahvumbi import Zone, _native
 
@@ -97,3 +99,10 @@ def test_a_zone_in_a_forked_child():
     if child == 0:
         os._exit(int(NEW_YORK.offsets([0])[0] != -18_000))
     assert os.waitstatus_to_exitcode(os.waitpid(child, 0)[1]) == 0
+
+
+@pytest.mark.parametrize("method", ["fork", "spawn", "forkserver"])
+def test_processes(method):
+    """A zone goes to each with its bytes. At 1615705200 New York's clocks went from 02:00 to 03:00 (zdump -v)."""
+    with multiprocessing.get_context(method).Pool(2) as pool:
+        assert pool.map(NEW_YORK.offsets, [1_615_705_199, 1_615_705_200]) == [-18_000, -14_400]

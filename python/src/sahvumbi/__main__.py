@@ -28,7 +28,9 @@ def about() -> str:
 def proof() -> str:
     """Returns the record of the proof: what was proved, by which kit. A wheel of a release has it."""
     record = PATH.with_name("proof.json")
-    return record.read_text() if record.exists() else "no record: this isn't the wheel of a release"
+    if record.exists():
+        return record.read_text()
+    return "no record: this isn't the wheel of a release; rt lib in crates/zoned_ffi proves the library, and prints what"
 
 
 def clocks(zone: Zone, instant: int) -> str:
