@@ -338,7 +338,7 @@ def test_infer_as_pandas_does(name):
 def test_why_the_order_does_not_decide():
     hour = ["2021-11-07T01:00", "2021-11-07T01:30"]
     for clocks, row, words in (
-        ([hour[0]], 0, "no row in this fold goes back to an earlier time or repeats one"),
+        ([hour[0]], 0, "none of the neighbouring rows in this fold goes back to an earlier time or repeats one"),
         ([SUMMER, hour[0], "NaT", hour[0], hour[0]], 1, "rows 3 and 4 both repeat the time above, so one of them is the same instant as the row above"),
         ([hour[1], hour[0], hour[1], hour[0]], 3, "rows 1 and 3 both go back to an earlier time, and clocks are set back once"),
     ):

@@ -45,6 +45,8 @@ def test_the_program():
     assert (status, said) == (1, "") and "America/New_York" in wrong
     assert ask("--help")[0] == 0 and "usage" in ask("--help")[1]
     assert ask("--version") == (0, f"sahvumbi {sahvumbi.__version__}\n", "")
+    if not _library.PATH.with_name("proof.json").exists():
+        assert "rt lib in crates/zoned_ffi proves the library" in ask("--proof")[1]
     for words in (["one", "two"], ["--nothing"]):
         status, said, wrong = ask(*words)
         assert (status, said) == (2, "") and wrong.startswith("usage: python -m sahvumbi ")

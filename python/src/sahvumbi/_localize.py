@@ -287,7 +287,7 @@ def _undecided(
     if not is_one_fold[mine]:
         why = "folds of the zone overlap here"
     elif pairs[mine, 0] < 0:
-        why = "no row in this fold goes back to an earlier time or repeats one"
+        why = "none of the neighbouring rows in this fold goes back to an earlier time or repeats one"
     elif has_falls[mine]:
         why = f"rows {pair[0]} and {pair[1]} both go back to an earlier time, and clocks are set back once"
     else:
