@@ -7,7 +7,7 @@
 // equal. It prints a line for each figure, its fields parted by tabs:  PEER  ZONE  ROWS  NANOSECONDS  ASKED  DIFFER
 //   PEER         a library; with `+kept`, by the loop that keeps the span of a row, and asks again only for a row outside it (of this
 //                library too, whose other figure is that of zoned_column_locals)
-//   NANOSECONDS  the processor's time of a row, the least of the passes of 0.3 seconds
+//   NANOSECONDS  the processor's time of a row; a twentieth of the passes of 0.3 seconds took less
 //   ASKED        how many rows it was asked. Of the zones of C++20 each 1,000th, or as many of the first as take a second
 //   DIFFER       how many of its answers are not this library's
 // Into FOLDER it writes the columns, ROWS.i64, and this library's answers, ZONE.ROWS.i64, as numbers of 64 bits; rows and zones have
@@ -35,17 +35,17 @@ typedef std::function<void(const Column &instants, size_t step, Column &locals)>
 
 static int64_t second_of(int64_t instant) { return instant / NANOS - (instant % NANOS < 0); }
 
-// The time of all rows that are asked.
+// The time of all rows that are asked: that which a twentieth of the passes fall below, so that no pass counts in which the clock of
+// a busy virtual machine stood still.
 static double least(const Answer &answer, const Column &instants, size_t step, Column &locals) {
-    double best = 1e300;
-    for (double spent = 0; spent < PASS_NANOSECONDS;) {
+    std::vector<double> times;
+    for (double spent = 0; spent < PASS_NANOSECONDS; spent += times.back()) {
         double start = now();
         answer(instants, step, locals);
-        double took = since(start);
-        best = std::min(best, took);
-        spent += took;
+        times.push_back(since(start));
     }
-    return best;
+    std::sort(times.begin(), times.end());
+    return times[times.size() / 20];
 }
 
 // The local times by the peer's offset at a second, of each row that is asked.

@@ -4,6 +4,7 @@ import (
 	"fmt"
 	"math"
 	"os"
+	"sort"
 	"strings"
 	"time"
 )
@@ -57,21 +58,21 @@ func timeColumns(folder string) {
 			instants, due := numbers(folder+"/"+rows+".i64"), numbers(folder+"/"+short+"."+rows+".i64")
 			locals := make([]int64, len(instants))
 			for way, answer := range ways {
-				least := math.Inf(1)
-				for spent := 0.0; spent < passNanoseconds; {
+				times := []float64{}
+				for spent := 0.0; spent < passNanoseconds; spent += times[len(times)-1] {
 					start := now()
 					answer(zone, instants, locals)
-					took := now() - start - cost
-					least = math.Min(least, took)
-					spent += took
+					times = append(times, math.Max(0, now()-start-cost))
 				}
+				sort.Float64s(times)
+				each := times[len(times)/20] / float64(len(instants))
 				differ := 0
 				for i := range due {
 					if locals[i] != due[i] {
 						differ++
 					}
 				}
-				fmt.Fprintf(os.Stdout, "%s\t%s\t%s\t%.2f\t%d\t%d\n", way, short, rows, least/float64(len(instants)), len(instants), differ)
+				fmt.Fprintf(os.Stdout, "%s\t%s\t%s\t%.2f\t%d\t%d\n", way, short, rows, each, len(instants), differ)
 			}
 		}
 	}
