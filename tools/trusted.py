@@ -137,7 +137,8 @@ def page():
         "## For every public call",
         "",
         f"The {len(book_of(False))} pages of `specs/` that `tools/believed.py` prints as one book, and the ghost members of {len(every)} public traits and "
-        f"impls. [INDEX](INDEX.md) has the words that clauses cite. For one call you need only what `tools/claim.py 'CRATE::MODULE::FUNCTION'` prints.",
+        f"impls. [INDEX](INDEX.md) has the words that clauses cite. For one call you need what `tools/claim.py 'CRATE::MODULE::FUNCTION'` "
+        "prints, and the ghost members of the types of its clause.",
         "",
         *(part for crate in for_users() if any(each.crate == crate for each in every) for part in (
             f"### `{crate}`", "", "| trait or impl | ghost members | in |", "|---|---|---|", *rows_of(each for each in every if each.crate == crate), ""

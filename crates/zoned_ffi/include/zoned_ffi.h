@@ -155,8 +155,9 @@ uint32_t zoned_zone_offsets(const struct zoned_zone *zone,
    no local time, since the zone has no offset there or the sum doesn't fit 64 bits; the rows before it are written. In all other
    cases *row is as it was.
 
-   That row and those after it are as they were. To go on, write ZONED_NO_TIME there and call again from *row + 1. Don't convert in
-   place: answers must not overlap the times that are asked about. This holds for every zoned_column_ call.
+   That row and those after it are as they were. To go on, write ZONED_NO_TIME into locals[*row], and call again for the rows after
+   it: both pointers move on by *row + 1, and the next *row counts from there. Don't convert in place: answers must not overlap the
+   times that are asked about. This holds for every zoned_column_ call.
 
    locals_len is instants_len. */
 uint32_t zoned_column_locals(const struct zoned_zone *zone, int64_t per_second,
