@@ -424,7 +424,7 @@ def tried_by_law(law, is_over_built, chosen, log):
         return
     with tempfile.TemporaryDirectory() as folder:
         room = Path(folder)
-        lay(room, crate, True, is_over_built)
+        lay(room, crate, with_code=True, is_over_built=is_over_built)
         before = verdicts(check(room, crate, [function], is_over_built), crate)
         is_proved = before and all(map(is_accepted, before.values()))
         for edit in chosen:

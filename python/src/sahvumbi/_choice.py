@@ -178,7 +178,7 @@ def _given(column: Column, fold: Any, is_dst: Any, offset: Any) -> Optional[Give
 
 
 def flags_of(name: str, values: Array, given: Any) -> Array:
-    """0 and 1 as they are, and -1 where there is none. `given` is what a caller passed."""
+    """The flags 0 and 1 unchanged, and -1 for a missing one. `given` is what a caller passed."""
     if values.dtype == object:
         kind = "Int64" if name == "fold" else "boolean"
         remedy = f"astype('{kind}')" if hasattr(given, "index") and hasattr(given, "astype") else f"pd.array(.., '{kind}')"
@@ -208,7 +208,7 @@ def _seconds(values: Array) -> Array:
 
 
 def row_by_row(name: str, values: Any, column: Column) -> Array:
-    """An array with a value for each row, in the order of rows; `UNKNOWN` where there is none."""
+    """An array with a value for each row, in the order of rows; `UNKNOWN` for a row without one."""
     pandas = sys.modules.get("pandas")
     container = column.container
     if pandas is not None and isinstance(values, pandas.Series):
