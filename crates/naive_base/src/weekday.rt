@@ -85,7 +85,15 @@ impl Weekday {
         ensures value { result ≡ days_from_monday self.now }
         ensures bound { result < 7 }
     {
-        (self.num_days_from_sunday() + 6) % 7
+        match self {
+            Weekday::Mon => 0,
+            Weekday::Tue => 1,
+            Weekday::Wed => 2,
+            Weekday::Thu => 3,
+            Weekday::Fri => 4,
+            Weekday::Sat => 5,
+            Weekday::Sun => 6,
+        }
     }
 
     /// Returns the days from the Sunday before it, 0 for Sunday to 6 for Saturday.

@@ -98,5 +98,14 @@ times_rise es i j d valid h l =
 pub parted : (es : List LeapSecond) (x : ℤ) → AreLeapSeconds es → IsPartitionedBy (λ e. int_le e.unix_leap_time x) es
 parted es x valid i j d h l t = let r = times_rise es i j d valid h l in grind arith
 
+-- the first n entries have come by x if the last of them has and the next one hasn't
+pub come_here : (es : List LeapSecond) (x : ℤ) (n : ℕ) → AreLeapSeconds es → n ≤ length es → ((d : LeapSecond) → 0 < n → (get_or es (n - 1) d).unix_leap_time ≤ℤ x)
+    → ((d : LeapSecond) → n < length es → x <ℤ (get_or es n d).unix_leap_time) → HaveCome es x n
+come_here es x n valid within since until = record {
+  within = within;
+  before = λ k d l. let r = times_rise es k (n - 1) d valid (omega arith) (omega arith) in let q = since d (omega arith) in omega (arith, ints);
+  after = λ k d a l t. let r = times_rise es n k d valid a l in let q = until d (omega arith) in omega (arith, ints);
+}
+
 pub both_ways : {P Q R : Type 0} → P ↔ Q → R ↔ Q → P ↔ R
 both_ways f g = ((λ p. g.1 (f.0 p)), (λ r. f.1 (g.0 r)))

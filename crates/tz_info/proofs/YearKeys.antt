@@ -2,8 +2,8 @@
 use Rattle.std.proofs.{Math.Dec.{eqb}, lemmas.Bool.{eqb-true}}
 use Rattle.tz_info.proofs.Words.{Bool, List, all_below, and_parts, ap, arith, cond, false, floor_div, floor_mod, floor_mod_parts, floors, get_or, int_le}
 use Rattle.tz_info.proofs.Words.{int_lt, length}
-use Rattle.tz_info.proofs.Words.{ints, is_between, is_leap, kind_place, pos, refl, sym, true, weekday_below, weekday_of, year_start, year_step, ℕ, ℤ}
-use Rattle.tz_info.proofs.Words.{◌*ℤ◌, ◌+ℤ◌, ◌-ℤ◌, ◌&&◌, ◌<◌, ◌∙◌, ◌≡◌, ◌≤ℤ◌}
+use Rattle.tz_info.proofs.Words.{ints, is_between, is_leap, kind_place, nat_le, nat_lt, pos, refl, sym, true, weekday_below, weekday_of, year_start, year_step, ℕ, ℤ}
+use Rattle.tz_info.proofs.Words.{◌*ℤ◌, ◌+ℤ◌, ◌-ℤ◌, ◌%◌, ◌&&◌, ◌<◌, ◌∙◌, ◌≡◌, ◌≤ℤ◌}
 use Rattle.tz_info.specs.Steps.ChangingYears.{dst_near, flips_at, has_flip, is_changing, key_years, leap_place, moment_by, turns_in, year_key, years_near}
 use Rattle.tz_info.specs.Steps.Turns.{dst_by}
 use Rattle.tz_info.specs.declared.{rule.changing.YearsNear.{YearsNear}, rule.moments.Turns.{Turns}}
@@ -205,6 +205,17 @@ each_key = refl
 
 pub own_key : (k : ℕ) → k < 35 → year_key (get_or key_years k (pos 0)) ≡ k
 own_key k h = eqb-true _ k (one_true 35 k (λ k. eqb (year_key (get_or key_years k (pos 0))) k) h each_key)
+
+-- the kind of each key's years: those of the second seven keys are leap years
+abbrev pub kind_by_key : ℕ → ℕ
+kind_by_key k = cond (nat_le 7 k && nat_lt k 14) k (k % 7)
+
+each_kind : all_below 35 (λ k. eqb (kind_by_key k) (kind_place (get_or key_years k (pos 0)))) ≡ true
+unfolding key_years year_start
+each_kind = refl
+
+pub own_kind : (k : ℕ) → k < 35 → kind_by_key k ≡ kind_place (get_or key_years k (pos 0))
+own_kind k h = eqb-true _ _ (one_true 35 k (λ k. eqb (kind_by_key k) (kind_place (get_or key_years k (pos 0)))) h each_kind)
 
 pub key_count : length key_years ≡ 35
 unfolding key_years

@@ -2,8 +2,8 @@
 
 ghost use Rattle.std.specs.{List.{list_any}, Prelude.{◌≡◌}, Str.{is_utf8}};
 ghost use Rattle.tz_base.specs.Fronts.{Gives};
-ghost use Rattle.tz_info.specs.Steps.{ContentReading.{is_zero}, FooterReading.{text_or_none, trimmed}};
-ghost use Rattle.tz_info.specs.Steps.FooterReading.{footer_at, is_between_newlines, is_no_text, rule_in, rule_or_none};
+ghost use Rattle.tz_info.specs.Steps.ContentReading.{is_zero};
+ghost use Rattle.tz_info.specs.Steps.FooterReading.{footer_at, is_between_newlines, is_no_text, text_or_none, trimmed};
 
 use crate::file::contents::byte_or_zero;
 use crate::rule::TransitionRule;
@@ -21,32 +21,21 @@ pub fn read_footer(extended: bool, bytes: &[u8]) -> Result<Option<TransitionRule
     if !is_between_newlines(bytes) {
         return Err(Error::InvalidTzFile(Expected::FooterBetweenNewlines));
     }
-    text_or_none(extended, trimmed(bytes))
+    rule_of_text(extended, trimmed(bytes))
 }
 
-fn text_or_none(extended: bool, text: &[u8]) -> Result<Option<TransitionRule>, Error>
+// The rule of a footer's text, which has none if it is empty.
+#[tactic(auto, unfolding(crate::specs::Steps::FooterReading::rule_in))]
+fn rule_of_text(extended: bool, text: &[u8]) -> Result<Option<TransitionRule>, Error>
     ensures { Gives (λ r. r) result (text_or_none extended text.now) }
 {
     if is_no_text(text) {
         return Err(Error::InvalidTzFile(Expected::TzTextInFooter));
     }
-    rule_or_none(extended, text)
-}
-
-fn rule_or_none(extended: bool, text: &[u8]) -> Result<Option<TransitionRule>, Error>
-    ensures { Gives (λ r. r) result (rule_or_none extended text.now) }
-{
     if text.is_empty() {
         return Ok(None);
     }
-    Ok(Some(read_rule(extended, text)?))
-}
-
-#[tactic(auto, unfolding(crate::specs::Steps::FooterReading::rule_in))]
-fn read_rule(extended: bool, text: &[u8]) -> Result<TransitionRule, Error>
-    ensures { Gives (λ r. r) result (rule_in extended text.now) }
-{
-    Ok(read_all(text, extended)?)
+    Ok(Some(read_all(text, extended)?))
 }
 
 fn is_utf8(bytes: &[u8]) -> bool

@@ -160,7 +160,10 @@ fn with_types(alloc: Global, pieces: &Pieces<'_>, types: Vec<LocalTimeType>) -> 
     ensures { GivesInMemory zone_of_lists result (with_types (pieces_of pieces.now) types.items) }
 {
     check_indicators(pieces.block.standard_wall, pieces.block.ut_local)?;
-    let rule = read_rule(pieces.extended, pieces.footer)?;
+    let rule = match pieces.footer {
+        None => None,
+        Some(footer) => read_footer(pieces.extended, footer)?,
+    };
     with_rule(alloc, pieces, types, rule)
 }
 
@@ -185,13 +188,4 @@ fn with_rule(
         leap_seconds,
         rule,
     })
-}
-
-fn read_rule(extended: bool, footer: Option<&[u8]>) -> Result<Option<TransitionRule>, Error>
-    ensures { Gives (λ r. r) result (footer_of extended (option_map (λ f. f.now) footer.entry)) }
-{
-    match footer {
-        None => Ok(None),
-        Some(bytes) => read_footer(extended, bytes),
-    }
 }

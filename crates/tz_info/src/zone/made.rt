@@ -1,5 +1,6 @@
 //! What a zone keeps for its lookups: its clock changes, and the index of what its clocks show.
 
+pub(super) mod change_list;
 pub(super) mod change_table;
 pub(super) mod extremes;
 pub(super) mod index;

@@ -6,7 +6,7 @@ ghost use Rattle.tz_info.specs.Steps.{Pieces.{zone_in, ArePieces}, WallPieces.{a
 ghost use Rattle.tz_info.specs.{Steps.SegmentEnds.{AreEnds}, Zones.{IsValid}};
 
 use crate::timeline::{Probes, Timed, Timeline};
-use crate::zone::made::change_table::ChangeList;
+use crate::zone::made::change_list::ChangeList;
 use crate::zone::made::one_pass::pieces_in_one_pass;
 use crate::zone::made::pieces::Piece;
 use crate::zone::made::segment_ends::maxima_of;

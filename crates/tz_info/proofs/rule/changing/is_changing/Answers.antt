@@ -6,17 +6,17 @@ use Rattle.tz_info.proofs.rule.changing.is_changing.Goals as goal
 pub returns-then-starts-kind : goal.returns-then-starts-kind
 returns-then-starts-kind c =
     let fy = c.ranges.year in
-    let fs : SFits w64 (slice_index_or c.args.starts.now c.kind_of-kind.result (pos 0)) = search rules in
-    let fe : SFits w64 (slice_index_or c.args.ends.now c.kind_of-kind.result (pos 0)) = search rules in
-    let kind : c.kind_of-kind.result ≡ kind_place c.args.year = simp to_z-of_z at c.kind_of-kind.ensures.place in
+    let fs : SFits w64 (slice_index_or c.args.starts.now c.args.kind (pos 0)) = search rules in
+    let fe : SFits w64 (slice_index_or c.args.ends.now c.args.kind (pos 0)) = search rules in
+    let kind : c.args.kind ≡ kind_place c.args.year = c.requires.kind in
     rw (c.if-calm.true, ← kind, simp to_z-of_z at c.if-starts-kind.true) refl
 
 pub returns-then-calm : goal.returns-then-calm
 returns-then-calm c =
     let fy = c.ranges.year in
-    let fs : SFits w64 (slice_index_or c.args.starts.now c.kind_of-kind.result (pos 0)) = search rules in
-    let fe : SFits w64 (slice_index_or c.args.ends.now c.kind_of-kind.result (pos 0)) = search rules in
-    let kind : c.kind_of-kind.result ≡ kind_place c.args.year = simp to_z-of_z at c.kind_of-kind.ensures.place in
+    let fs : SFits w64 (slice_index_or c.args.starts.now c.args.kind (pos 0)) = search rules in
+    let fe : SFits w64 (slice_index_or c.args.ends.now c.args.kind (pos 0)) = search rules in
+    let kind : c.args.kind ≡ kind_place c.args.year = c.requires.kind in
     simp to_z-of_z (rw (c.if-calm.true, ← kind, simp to_z-of_z at c.if-starts-kind.false) refl)
 
 pub returns : goal.returns

@@ -1,5 +1,5 @@
 use Rattle.tz_info.proofs.{EntryLaws.{never_refused, never_then}, Words.{arith, ints, rules, to_z-of_z, SFits, w64, w128}}
-use Rattle.tz_info.proofs.zone.made.change_table.start_in.Goals as goal
+use Rattle.tz_info.proofs.zone.made.change_list.start_in.Goals as goal
 
 pub returns-then-start : goal.returns-then-start
 returns-then-start c =

@@ -1,7 +1,7 @@
 use Rattle.tz_info.proofs.Words.{arith, inl, inr, refl}
 use Rattle.tz_info.specs.Steps.Entries.{added, idle}
-use Rattle.tz_info.proofs.zone.made.change_table.add.Goals.{then-is_last-via-then-is_last, then-is_last-via-else-is_last+then-not-is_in_force}
-use Rattle.tz_info.proofs.zone.made.change_table.add.Goals as goal
+use Rattle.tz_info.proofs.zone.made.change_list.add.Goals.{then-is_last-via-then-is_last, then-is_last-via-else-is_last+then-not-is_in_force}
+use Rattle.tz_info.proofs.zone.made.change_list.add.Goals as goal
 
 pub returns-then-is_last-clause-added : goal.returns-then-is_last-clause-added
 returns-then-is_last-clause-added c = added c.push_reserved.ensures.items (elim c.then-is_last.branch [

@@ -1,6 +1,6 @@
 use Rattle.tz_info.proofs.{EntryLaws.{one_change, own_entries}, SegmentLaws.{index_next}}
 use Rattle.tz_info.proofs.Words.{Some, arith, index_of, nat_tests, slice_get, slice_get-get_or, zone_in, ◌+◌, ◌-◌, ◌≡◌}
-use Rattle.tz_info.proofs.zone.made.change_table.are_entries.Goals as goal
+use Rattle.tz_info.proofs.zone.made.change_list.are_entries.Goals as goal
 
 pub returns : goal.returns
 returns c = λ _. own_entries (zone_in c.args.lists) c.requires (grind (arith, nat_tests, c.is_empty.ensures, c.if-not-is_empty.false))

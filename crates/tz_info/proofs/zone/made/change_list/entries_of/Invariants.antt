@@ -1,5 +1,5 @@
 use Rattle.tz_info.proofs.{EntryLaws.{AreMadeOf}, Words.{length, vec_capacity, vec_len, zone_in, ◌≡◌, ◌≤◌}}
-use Rattle.tz_info.proofs.zone.made.change_table.entries_of.Given as goal
+use Rattle.tz_info.proofs.zone.made.change_list.entries_of.Given as goal
 
 abbrev pub invariant-loop-place : goal.invariant-loop-place
 invariant-loop-place l = record {

@@ -1,6 +1,6 @@
 use Rattle.tz_info.proofs.EntryLaws.{all_come, kept_named, never_come, turned}
 use Rattle.tz_info.proofs.Words.{SFits, arith, length, refl, rules, to_z-of_z, vec_len, w64, zone_in, ◌≡◌}
-use Rattle.tz_info.proofs.zone.made.change_table.entries_of.Goals as goal
+use Rattle.tz_info.proofs.zone.made.change_list.entries_of.Goals as goal
 
 pub returns-in_default : goal.returns-in_default
 returns-in_default c =

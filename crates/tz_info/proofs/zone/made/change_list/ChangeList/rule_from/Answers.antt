@@ -1,6 +1,6 @@
 use Rattle.tz_info.proofs.Words.{SFits, Transition, ap, arith, ints, length, rules, to_z-of_z, w64, ◌∙◌, ◌≤◌}
 use Rattle.tz_info.proofs.{EntryChanges.{begin_at}, SegmentLaws.{come_from, place_most}}
-use Rattle.tz_info.proofs.zone.made.change_table.ChangeList.rule_from.Goals as goal
+use Rattle.tz_info.proofs.zone.made.change_list.ChangeList.rule_from.Goals as goal
 
 pub returns-then-self-len-clause-begun : goal.returns-then-self-len-clause-begun
 returns-then-self-len-clause-begun c = λ u near.

@@ -1,6 +1,6 @@
 use Rattle.tz_info.proofs.{EntryLaws.{popped}, Words.{arith, length, refl, rules, to_z-of_z, vec_len, ◌≡◌}}
 use Rattle.tz_info.specs.Steps.Entries.{none_there}
-use Rattle.tz_info.proofs.zone.made.change_table.drop_at.Goals as goal
+use Rattle.tz_info.proofs.zone.made.change_list.drop_at.Goals as goal
 
 pub returns-then-ends_at-clause-before : goal.returns-then-ends_at-clause-before
 returns-then-ends_at-clause-before c =
