@@ -1,11 +1,12 @@
 -- What hints say of a search.
 use Rattle.tz_info.proofs.SearchWords.{AreEnds, AreHints, AreMarked, AreNonDecreasing, AreOrdered, AreRaised, AreRaisedUntil}
-use Rattle.tz_info.proofs.SearchWords.{AreStepsUntil, Ends, Hints, IsHinted, IsLastBefore, IsNarrowedTo}
+use Rattle.tz_info.proofs.SearchWords.{AreStepsUntil, Ends, Hints, IsHinted, IsLastBefore, IsNarrowedTo, RiseFromZero}
 use Rattle.tz_info.proofs.SearchWords.{List, Near, ap, arith, cases_eq, cases_lt, div-lt_iff_lt-mul, div-mul-le_self, get_or-set_at, get_or-set_other, inl, inr}
 use Rattle.tz_info.proofs.SearchWords.{ints, item_time, length, length-set, lt-suc_self, max, mul-le-mul_right, nat_abs, nat_cmp, negsuc, ord_max, pos, pow_pos}
 use Rattle.tz_info.proofs.SearchWords.{refl, set, slice_index, stretch_of, suc, sym, ℕ, ℤ, ◌*◌, ◌+ℤ◌, ◌+◌, ◌-ℤ◌, ◌-◌, ◌/◌, ◌<ℤ◌, ◌<◌, ◌^◌, ◌∙◌, ◌≡◌}
 use Rattle.tz_info.proofs.SearchWords.{◌≢◌, ◌≤ℤ◌, ◌≤◌, ◌⊎◌}
 use Rattle.tz_info.proofs.SearchSteps.{not_before}
+use Rattle.std.proofs.lemmas.Nat.{le-div}
 
 -- the seconds of a stretch
 pub before_next : (n m : ℕ) → 0 < m → n < suc (n / m) * m
@@ -89,14 +90,27 @@ pub record Raising (before after : List ℕ) (greatest n : ℕ) : Type 0 where
   pub up_to : (j : ℕ) → j < n → slice_index before j ≤ greatest
   pub is : ((n ≡ 0) × (greatest ≡ 0)) ⊎ ((0 < n) × (greatest ≡ slice_index after (n - 1)))
 
-max_is : (a b : ℕ) → ord_max nat_cmp a b ≡ max a b
-max_is a b = grind arith
+-- the greatest of one number more is that number, unless it is 0
+greatest_with : (before after : List ℕ) (greatest n : ℕ) → Raising before after greatest n → n < length before → RiseFromZero before
+    → 0 < slice_index before n → greatest ≤ slice_index before n
+greatest_with before after greatest n r h rise some = elim r.is [
+  | inl none ↦ let z = none.1 in omega arith
+  | inr g ↦
+      let s = r.raised.some (n - 1) (let p = g.0 in omega arith) in
+      let least = rise n s.0 h (let l = s.1 in omega arith) some in let same = s.2 in let is = g.1 in omega arith
+]
 
-pub raising_more : (before after : List ℕ) (greatest n here : ℕ) → Raising before after greatest n → n < length before
-    → here ≡ ord_max nat_cmp greatest (slice_index after n) → Raising before (set after n here) here (n + 1)
-raising_more before after greatest n here r h is_here =
+pub raising_more : (before after : List ℕ) (greatest n here : ℕ) → Raising before after greatest n → n < length before → RiseFromZero before
+    → (slice_index after n ≡ 0 → here ≡ greatest) × (slice_index after n ≢ 0 → here ≡ slice_index after n)
+    → Raising before (set after n here) here (n + 1)
+raising_more before after greatest n here r h rise is_here =
     let same_here = r.rest n (omega arith) in
-    let e : here ≡ max greatest (slice_index before n) = is_here ∙ max_is greatest (slice_index after n) ∙ ap (max greatest) same_here in
+    let e : here ≡ max greatest (slice_index before n) = elim (cases_eq (slice_index before n) 0) [
+      | inl none ↦ let is = is_here.0 (same_here ∙ none) in omega arith
+      | inr some ↦
+          let is = is_here.1 (λ z. some (sym same_here ∙ z)) in
+          let least = greatest_with before after greatest n r h rise (omega arith) in omega arith
+    ] in
     let long = length-set after n here in
     let at : (b : ℕ) → b ≡ n → slice_index (set after n here) b ≡ here = λ b same. get_or-set_at after n b here 0 same (omega arith) in
     let other : (b : ℕ) → b ≢ n → slice_index (set after n here) b ≡ slice_index after b = λ b differs. get_or-set_other after n b here 0 differs in
@@ -120,6 +134,32 @@ raising_more before after greatest n here r h is_here =
       up_to = grind arith;
       is = inr (omega arith, let i : n + 1 - 1 ≡ n = omega arith in rw i (sym (at n refl)));
     }
+
+-- a later time has no earlier stretch
+stretch_rise : (first x y : ℤ) (shift : ℕ) → first ≤ℤ x → x ≤ℤ y → stretch_of first x shift ≤ stretch_of first y shift
+stretch_rise first x y shift h le =
+    let a = size_of_rise first x h in
+    let b = size_of_rise first y (omega (arith, ints)) in
+    le-div _ (nat_abs (y -ℤ first)) (2 ^ shift) (pow_pos shift) (let d = div-mul-le_self (nat_abs (x -ℤ first)) (2 ^ shift) in omega (arith, ints))
+
+-- later stretches have later items
+pub marks_rise : (times : List ℤ) (first : ℤ) (shift : ℕ) (marked : List ℕ) → AreOrdered times → first ≡ item_time times 0
+    → AreMarked times first shift (length times) marked → RiseFromZero marked
+marks_rise times first shift marked ordered from m b j h le some = elim (m.of_item b h) [
+  | inl z ↦ absurd (omega arith)
+  | inr here ↦ elim (m.of_item j (omega arith)) [
+    | inl z ↦ omega arith
+    | inr earlier ↦ elim (cases_lt (slice_index marked b) (slice_index marked j)) [
+      | inl less ↦
+          let later = not_before times (slice_index marked b) (slice_index marked j) ordered (omega arith) earlier.0 in
+          let least = first_least times first (slice_index marked b) ordered from here.0 in
+          let stretch = stretch_rise first (item_time times (slice_index marked b)) (item_time times (slice_index marked j)) shift least later in
+          let same : b ≡ j = let q = here.1 in let p = earlier.1 in omega arith in
+          let e = ap (λ k. slice_index marked k) same in absurd (omega arith)
+      | inr not_less ↦ omega arith
+    ]
+  ]
+]
 
 -- so none is less than the one before it
 pub raised_rising : (before after : List ℕ) → AreRaised before after → AreNonDecreasing after

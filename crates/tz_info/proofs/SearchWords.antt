@@ -17,7 +17,7 @@ pub use mir.Val.{SFits}
 pub use Rattle.tz_info.specs.Counts.{Counts}
 pub use Rattle.tz_info.specs.Digits.{digits_within}
 unfoldable pub use Rattle.tz_info.specs.Digits.{digits}
-pub use Rattle.tz_info.specs.Steps.Hints.{AreHints, AreMarked, AreNonDecreasing, AreRaised, AreRaisedUntil, AreStepsUntil}
+pub use Rattle.tz_info.specs.Steps.Hints.{AreHints, AreMarked, AreNonDecreasing, AreRaised, AreRaisedUntil, AreStepsUntil, RiseFromZero}
 pub use Rattle.tz_info.specs.Steps.Hints.{IsHinted, IsLastBefore, stretch_of}
 pub use Rattle.tz_info.specs.Steps.Search.{AreEnds, AreOrdered, ArePassed, IsLastOf, IsLeft, IsNarrowedTo, item_time}
 pub use Rattle.tz_info.specs.declared.timeline.hints.Hints.{Hints}

@@ -40,6 +40,10 @@ pub record AreMarked (times : List ℤ) (first : ℤ) (shift n : ℕ) (places : 
       → (slice_index places b ≡ 0) ⊎ ((slice_index places b < n) × (suc (stretch_of first (item_time times (slice_index places b)) shift) ≡ b))
   pub latest : (k : ℕ) → k < n → k ≤ slice_index places (suc (stretch_of first (item_time times k) shift))
 
+-- no number is less than an earlier one, unless it is 0
+abbrev pub RiseFromZero : List ℕ → Type 0
+RiseFromZero numbers = (b j : ℕ) → b < length numbers → j ≤ b → 0 < slice_index numbers b → slice_index numbers j ≤ slice_index numbers b
+
 -- each number of the first n is raised to the greatest up to it
 pub record AreRaisedUntil (before after : List ℕ) (n : ℕ) : Type 0 where
   pub count : length after ≡ length before

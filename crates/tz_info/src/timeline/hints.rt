@@ -7,8 +7,8 @@
 
 ghost use Rattle.std.specs.Prelude.{◌≡◌, ◌<◌, ◌≤◌, ◌+◌, ◌/◌, ◌^◌, ◌≤ℤ◌, ◌-ℤ◌, length, map, pos, slice_index, suc, ⊤};
 ghost use Rattle.std.specs.Prelude.{List, MatchOption, MatchResult, ℕ, ℤ};
-ghost use Rattle.tz_info.specs.Steps.Hints.{stretch_of, AreHints, AreMarked, AreNonDecreasing, AreRaised};
-ghost use Rattle.tz_info.specs.Steps.{Hints.{AreStepsUntil, IsHinted}, Search.{item_time, AreOrdered}};
+ghost use Rattle.tz_info.specs.Steps.Hints.{stretch_of, AreHints, AreMarked, AreNonDecreasing, AreRaised, AreStepsUntil};
+ghost use Rattle.tz_info.specs.Steps.{Hints.{IsHinted, RiseFromZero}, Search.{item_time, AreOrdered}};
 
 use crate::timeline::timed::Timed;
 use std::alloc::{AllocError, Global};
@@ -138,13 +138,16 @@ fn mark<T: Timed>(places: &mut [u32], items: &[T], first: i64, shift: u32)
     }
 }
 
-// Raises each number to the greatest up to it.
+// Raises each number to the greatest up to it. None is less than an earlier one, unless it is 0.
 fn raise(numbers: &mut [u32])
+    requires { RiseFromZero numbers.old }
     ensures { AreRaised numbers.old numbers.new }
 {
     let mut greatest = 0;
     for i in 0..numbers.len() {
-        greatest = max(greatest, numbers[i]);
+        if numbers[i] != 0 {
+            greatest = numbers[i];
+        }
         numbers[i] = greatest;
     }
 }

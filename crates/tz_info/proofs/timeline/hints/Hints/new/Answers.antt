@@ -1,6 +1,6 @@
 use Rattle.tz_info.proofs.SearchWords.{AreRaised, List, SFits, arith, drop, item_time, length, length-map, length-replicate, map, pos, rules, take}
 use Rattle.tz_info.proofs.SearchWords.{take-append-le, take_all, to_z-of_z, w64, ℕ, ◌++◌, ◌+◌, ◌-ℤ◌, ◌-◌, ◌/◌, ◌^◌, ◌∙◌, ◌≡◌}
-use Rattle.tz_info.proofs.{HintLaws.{first_least, hints_made, raised_rising, slots}, SearchSteps.{time_read}, timeline.hints.Hints.new.Given.{Over}}
+use Rattle.tz_info.proofs.{HintLaws.{first_least, hints_made, marks_rise, raised_rising, slots}, SearchSteps.{time_read}, timeline.hints.Hints.new.Given.{Over}}
 use Rattle.tz_info.proofs.timeline.hints.Hints.new.Goals.{After-deref, After-deref_mut}
 use Rattle.tz_info.proofs.timeline.hints.Hints.new.Goals as goal
 
@@ -39,6 +39,21 @@ mark-requires-clause-room g c = λ k h.
 -- what a slice of all numbers was written to
 written : (len : ℕ) (new old : List ℕ) → length new ≡ len → take len (new ++ drop (length new) old) ≡ new
 written len new old e = take-append-le len new (drop (length new) old) (omega arith) ∙ take_all len new (omega arith)
+
+pub raise-requires : goal.raise-requires
+raise-requires g c =
+    let at = (goal.at.raise-requires g c).After-deref_mut in
+    let ff : SFits w64 c.second-first.result = search rules in
+    let long = length-map c.args.items.now g.T.Timed.time in
+    let count = zeros_count g at in
+    let same = c.mark.ensures.length in
+    let size = c.in_ok-places.ensures.len in
+    rw (c.deref_mut-2.ensures.value ∙ written c.in_ok-places.places.len c.mark.new.places _ (omega arith))
+    (marks_rise (map g.T.Timed.time c.args.items.now) c.second-first.result c.shift_for-shift.result c.mark.new.places c.requires (first_is g at)
+    (rw long (simp to_z-of_z at c.mark.ensures.marked)))
+
+pub returns-then-most-count : goal.returns-then-most-count
+returns-then-most-count g c = c.none-then-most-count.ensures (map g.T.Timed.time c.args.items.now)
 
 -- the numbers that were raised are those that were marked
 raised : (g : Over) (c : After-deref g) → length c.deref_mut.result.now ≡ c.seconds_between-span.result / 2 ^ c.shift_for-shift.result + 2
