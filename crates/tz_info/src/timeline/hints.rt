@@ -111,7 +111,9 @@ fn shift_for(span: u64, most: u64) -> u32
     ensures shift { result < 64 }
     ensures stretches { span / 2 ^ result ≤ most + 1 }
 {
-    for shift in 0..63 {
+    // A smaller power leaves more binary digits than `most` has.
+    let first = most.leading_zeros().saturating_sub(span.leading_zeros());
+    for shift in first..63 {
         if span >> shift <= most {
             return shift;
         }
