@@ -30,7 +30,7 @@ pub fn have_indexes(zone: &TimeZone) -> bool
     true
 }
 
-fn push_time(bytes: &mut Vec<u8>, transition: Transition) -> Result<(), AllocError>
+fn push_transition_time(bytes: &mut Vec<u8>, transition: Transition) -> Result<(), AllocError>
     ensures appended { OnOk result (bytes.new.items ≡ bytes.old.items ++ time_bytes transition) }
     ensures sound { OnOk result (HasTimeOf64Bits transition) }
 {
@@ -45,7 +45,7 @@ pub fn push_times(bytes: &mut Vec<u8>, zone: &TimeZone) -> Result<(), AllocError
     ensures sound { OnOk result (All HasTimeOf64Bits zone.now.transitions) }
 {
     for place in 0..zone.transition_count() {
-        push_time(bytes, transition(zone, place))?;
+        push_transition_time(bytes, transition(zone, place))?;
     }
     Ok(())
 }

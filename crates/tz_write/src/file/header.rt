@@ -4,7 +4,7 @@ ghost use Rattle.std.specs.Prelude.{◌≡◌, ◌++◌, OnOk};
 ghost use Rattle.tz_write.specs.FileBytes.{counts_bytes, version_byte, header_bytes, first_half};
 ghost use Rattle.tz_write.specs.Steps.FileParts.{counts_in};
 
-use crate::file::numbers::push_number;
+use crate::file::numbers::push_count;
 use std::alloc::AllocError;
 
 /// How many there are of each thing in the data block that follows. It has no indicators.
@@ -38,12 +38,12 @@ fn version_byte(extended: bool) -> u8
 fn push_counts(bytes: &mut Vec<u8>, sizes: Sizes) -> Result<(), AllocError>
     ensures { OnOk result (bytes.new.items ≡ bytes.old.items ++ counts_bytes (counts_in sizes)) }
 {
-    push_number(bytes, 0)?;
-    push_number(bytes, 0)?;
-    push_number(bytes, sizes.leap_seconds)?;
-    push_number(bytes, sizes.transitions)?;
-    push_number(bytes, sizes.types)?;
-    push_number(bytes, sizes.designations)
+    push_count(bytes, 0)?;
+    push_count(bytes, 0)?;
+    push_count(bytes, sizes.leap_seconds)?;
+    push_count(bytes, sizes.transitions)?;
+    push_count(bytes, sizes.types)?;
+    push_count(bytes, sizes.designations)
 }
 
 /// The first header and its block, which say nothing of the zone: readers of version 2 and 3 pass

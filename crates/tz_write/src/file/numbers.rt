@@ -7,7 +7,7 @@ use std::alloc::AllocError;
 
 /// Appends a count of four bytes.
 #[tactic(auto, unfolding(crate::specs::FileBytes::number_bytes))]
-pub fn push_number(bytes: &mut Vec<u8>, number: u32) -> Result<(), AllocError>
+pub fn push_count(bytes: &mut Vec<u8>, number: u32) -> Result<(), AllocError>
     ensures { OnOk result (bytes.new.items ≡ bytes.old.items ++ number_bytes number) }
 {
     bytes.extend_from_slice(&number.to_be_bytes())

@@ -16,7 +16,7 @@ fn mark_byte(is_dst: bool) -> u8
 }
 
 #[tactic(auto, unfolding(crate::specs::FileBytes::type_bytes))]
-fn push_type(
+fn push_type_record(
     bytes: &mut Vec<u8>,
     designations: &[u8],
     local: &LocalTimeType,
@@ -44,7 +44,7 @@ pub fn push_types(
     ensures sound { OnOk result (All IsType types.now) }
 {
     for local in types {
-        push_type(bytes, designations, local)?;
+        push_type_record(bytes, designations, local)?;
     }
     Ok(())
 }

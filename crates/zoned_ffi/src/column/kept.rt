@@ -95,7 +95,7 @@ pub fn kept_around(question: Question, time: i64) -> Kept
     ensures { IsKept question.entry result }
 {
     let greatest = offsets(&question).1;
-    kept_at(question, second_before(question.unit, time, greatest))
+    kept_at(question, second_at_offset(question.unit, time, greatest))
 }
 
 /// Of the stretch before that one, or of that one if none comes before it.
@@ -104,7 +104,7 @@ pub fn kept_before(question: Question, kept: Kept) -> Kept
     ensures { IsKept question.entry result }
 {
     let greatest = offsets(&question).1;
-    let first = second_before(question.unit, kept.low, greatest);
+    let first = second_at_offset(question.unit, kept.low, greatest);
     kept_at(question, first.wrapping_sub(1)).or(kept)
 }
 
@@ -114,7 +114,7 @@ pub fn kept_after(question: Question, kept: Kept) -> Kept
     ensures { IsKept question.entry result }
 {
     let least = offsets(&question).0;
-    kept_at(question, second_before(question.unit, kept.high, least)).or(kept)
+    kept_at(question, second_at_offset(question.unit, kept.high, least)).or(kept)
 }
 
 // The least offset of the zone and the greatest; of instants both are 0, since no offset moves them.
@@ -129,7 +129,7 @@ fn offsets(question: &Question) -> (i32, i32) {
 }
 
 // The second of the time, less the offset.
-fn second_before(unit: Unit, time: i64, offset: i32) -> i64 {
+fn second_at_offset(unit: Unit, time: i64, offset: i32) -> i64 {
     unit.second_of(time).wrapping_sub(i64::from(offset))
 }
 

@@ -50,7 +50,7 @@ fn put_stretches(
             put_stretch(out, left, right, scale.down_to(&shown))?;
         }
         if !unknown && !(dense && is_dense(scale, changes, place.saturating_add(1))) {
-            put_step(
+            put_vertical(
                 out,
                 right,
                 scale.down_to(&change.before),
@@ -71,7 +71,7 @@ fn put_stretch(out: &mut String, left: u64, right: u64, down: u64) -> Result<(),
     write!(out, "M{left} {down}H{right}")
 }
 
-fn put_step(out: &mut String, across: u64, before: u64, after: u64) -> Result<(), AllocError> {
+fn put_vertical(out: &mut String, across: u64, before: u64, after: u64) -> Result<(), AllocError> {
     if before == after {
         return Ok(());
     }
@@ -174,14 +174,14 @@ pub(super) fn put_names(
     let mut shown = *start;
     for change in changes {
         let right = scale.across(change.at);
-        put_name(out, scale, left, right, &shown)?;
+        put_name_between(out, scale, left, right, &shown)?;
         left = right;
         shown = change.after;
     }
-    put_name(out, scale, left, RIGHT, &shown)
+    put_name_between(out, scale, left, RIGHT, &shown)
 }
 
-fn put_name(
+fn put_name_between(
     out: &mut String,
     scale: Scale,
     left: u64,

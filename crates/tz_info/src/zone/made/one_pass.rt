@@ -8,8 +8,8 @@ ghost use Rattle.tz_info.specs.Steps.{SegmentEnds.{AreEndsRising}, WallPieces.{I
 use crate::zone::lists::kept::Kept;
 use crate::zone::made::pieces::Piece;
 use crate::zone::made::segments::{Lists, Pieces, Segment, cut_of, segment_at};
-use crate::zone::made::shown::Shown;
-use std::alloc::{AllocError, Global};
+use crate::zone::made::shown::{Shown, is_great};
+use std::alloc::Global;
 use tz_base::Error;
 
 // The pieces of the first `count` segments, two for each entry. None where an entry does not cut the
@@ -30,12 +30,15 @@ pub(super) fn pieces_in_one_pass(
         × AreEndsRising lists.entry.types.now entries.now))
         (λ e. e ≡ Error.OutOfMemory) }
 {
+    if is_great(entries.len()) || is_great(lists.types.len()) {
+        return Err(Error::OutOfMemory);
+    }
     let mut pieces = Vec::with_capacity(alloc, entries.len() + count - 1)?;
     let mut latest = i64::MIN;
     let mut before = segment_at(lists.types, entries, 0);
     for place in 1..count {
         let behind = segment_at(lists.types, entries, place);
-        let (first, last) = pieces_at(lists, entries, place, before, behind)?;
+        let (first, last) = pieces_at(lists, entries, place, before, behind);
         if is_crossed(place, latest, first.start) {
             return Ok(None);
         }
@@ -49,7 +52,7 @@ pub(super) fn pieces_in_one_pass(
         if is_crossed(count, latest, end) {
             return Ok(None);
         }
-        let piece = Piece::new(end, Shown::Less)?;
+        let piece = Piece::small(end, Shown::Less);
         pieces.push_reserved(piece);
     }
     Ok(Some(Pieces {
@@ -76,13 +79,14 @@ fn pieces_at(
     place: usize,
     before: Segment,
     behind: Segment,
-) -> Result<(Piece, Piece), AllocError>
+) -> (Piece, Piece)
     requires some { 0 < place }
     requires place { place ≤ length entries.now }
     requires before { IsSegment lists.types.now entries.now (place - 1) before }
     requires behind { IsSegment lists.types.now entries.now place behind }
-    ensures { MatchResult result
-        (λ made. ArePiecesAt lists.entry.types.now entries.now place made.0 made.1) (λ _. ⊤) }
+    requires entries { length entries.now < 1_073_741_824 }
+    requires types { length lists.types.now < 1_073_741_824 }
+    ensures { ArePiecesAt lists.entry.types.now entries.now place result.0 result.1 }
 {
     let end = cut_of(entries, place, before.offset);
     let start = cut_of(entries, place, behind.offset);
@@ -91,7 +95,7 @@ fn pieces_at(
     } else {
         (start, Shown::Several(before.index, behind.index), end)
     };
-    let earlier = Piece::new(first, answer)?;
-    let later = Piece::new(last, Shown::Once(behind.index))?;
-    Ok((earlier, later))
+    let earlier = Piece::small(first, answer);
+    let later = Piece::small(last, Shown::Once(behind.index));
+    (earlier, later)
 }

@@ -25,6 +25,16 @@ impl Piece {
         let answer = Packed::new(shown)?;
         Ok(Piece { start, answer })
     }
+
+    // The piece from there on, whose answer's numbers are small enough.
+    #[inline(always)]
+    pub(super) fn small(start: i64, shown: Shown) -> Piece
+        requires { ¬ (HasGreatNumber shown) }
+        ensures { result ≡ record { start = start; answer = shown } }
+    {
+        let answer = Packed::small(shown);
+        Piece { start, answer }
+    }
 }
 
 // The pieces of earlier seconds and those of later ones, merged: when one of either starts, so does

@@ -1,6 +1,6 @@
 //! What neighbouring segments show of a local time.
 
-ghost use Rattle.std.specs.Prelude.{◌≡◌, ◌<◌, ◌≤◌, ◌⊎◌, MatchResult};
+ghost use Rattle.std.specs.Prelude.{◌≡◌, ◌↔◌, ◌<◌, ◌≤◌, IsTrue, MatchResult};
 ghost use Rattle.tz_info.specs.Steps.Shown.{HasGreatNumber, together, unpacked};
 
 use std::alloc::AllocError;
@@ -44,6 +44,18 @@ impl Packed {
     pub(in crate::zone) fn new(shown: Shown) -> Result<Packed, AllocError>
         ensures { MatchResult result (λ p. p ≡ shown) (λ _. HasGreatNumber shown) }
     {
+        if has_great_number(shown) {
+            return Err(AllocError);
+        }
+        Ok(Packed::small(shown))
+    }
+
+    // What is shown, whose numbers are small enough.
+    #[inline(always)]
+    pub(in crate::zone) fn small(shown: Shown) -> Packed
+        requires { ¬ (HasGreatNumber shown) }
+        ensures { result ≡ shown }
+    {
         match shown {
             Shown::Less => Packed::of(0, 0, 0),
             Shown::Skipped(place) => Packed::of(1, place, 0),
@@ -53,18 +65,16 @@ impl Packed {
     }
 
     #[inline(always)]
-    fn of(kind: u32, first: usize, second: usize) -> Result<Packed, AllocError>
-        requires { kind < 4 }
-        ensures { MatchResult result (λ p. p ≡ unpacked kind first second)
-            (λ _. (1_073_741_824 ≤ first) ⊎ (1_073_741_824 ≤ second)) }
+    fn of(kind: u32, first: usize, second: usize) -> Packed
+        requires kind { kind < 4 }
+        requires first { first < 1_073_741_824 }
+        requires second { second < 1_073_741_824 }
+        ensures { result ≡ unpacked kind first second }
     {
-        if first >= TOO_GREAT || second >= TOO_GREAT {
-            return Err(AllocError);
-        }
-        Ok(Packed {
+        Packed {
             first: first as u32 * 4 + kind,
             second: second as u32,
-        })
+        }
     }
 
     #[inline(always)]
@@ -80,6 +90,26 @@ impl Packed {
             _ => Shown::Several(first, second),
         }
     }
+}
+
+// Whether a number of the answer is too great.
+#[inline(always)]
+fn has_great_number(shown: Shown) -> bool
+    ensures { IsTrue result ↔ HasGreatNumber shown }
+{
+    match shown {
+        Shown::Less => false,
+        Shown::Skipped(number) | Shown::Once(number) => is_great(number),
+        Shown::Several(first, last) => is_great(first) || is_great(last),
+    }
+}
+
+// Whether it isn't packed.
+#[inline(always)]
+pub(super) fn is_great(number: usize) -> bool
+    ensures { IsTrue result ↔ (1_073_741_824 ≤ number) }
+{
+    number >= TOO_GREAT
 }
 
 // What earlier segments and later ones show together.

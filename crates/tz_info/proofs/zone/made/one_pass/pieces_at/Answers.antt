@@ -1,6 +1,20 @@
 use Rattle.tz_info.proofs.{Words.{SFits, arith, inl, inr, ints, refl, rules, to_z-of_z, w64}, OnePass.{pieces_found}}
+use Rattle.std.proofs.lemmas.Option.{slice_get_within}
 use Rattle.tz_info.proofs.zone.made.one_pass.pieces_at.Goals.{else-end-start, then-end-start}
 use Rattle.tz_info.proofs.zone.made.one_pass.pieces_at.Goals as goal
+
+pub small-earlier-requires : goal.small-earlier-requires
+small-earlier-requires c =
+    let least = slice_get_within c.args.lists.types.now c.args.before.index c.requires.before.type c.requires.before.listed in
+    let next = slice_get_within c.args.lists.types.now c.args.behind.index c.requires.behind.type c.requires.behind.listed in
+    elim c.if-end-start.branch [
+      | then-end-start w ↦ rw w.first-is (λ great. absurd (omega arith))
+      | else-end-start w ↦ rw w.first-is (λ great. elim great [ inl i ↦ absurd (omega arith) | inr k ↦ absurd (omega arith) ])
+    ]
+
+pub small-later-requires : goal.small-later-requires
+small-later-requires c = λ great.
+    let next = slice_get_within c.args.lists.types.now c.args.behind.index c.requires.behind.type c.requires.behind.listed in absurd (omega arith)
 
 pub returns : goal.returns
 returns c =
@@ -12,8 +26,8 @@ returns c =
     let starts = simp to_z-of_z at c.cut_of-start.ensures in
     let found = pieces_found c.args.lists.types.now c.args.entries.now c.args.place c.args.before c.args.behind in
     elim c.if-end-start.branch [
-      | then-end-start w ↦ rw (c.in_ok-earlier.ensures, c.in_ok-later.ensures, w.first-is) (simp to_z-of_z
+      | then-end-start w ↦ rw (c.small-earlier.ensures, c.small-later.ensures, w.first-is) (simp to_z-of_z
           (found _ _ c.requires.before c.requires.behind (inl (rw (← ends, ← starts) (record { order = omega (arith, ints); none = refl; next = refl })))))
-      | else-end-start w ↦ rw (c.in_ok-earlier.ensures, c.in_ok-later.ensures, w.first-is) (simp to_z-of_z
+      | else-end-start w ↦ rw (c.small-earlier.ensures, c.small-later.ensures, w.first-is) (simp to_z-of_z
           (found _ _ c.requires.before c.requires.behind (inr (rw (← ends, ← starts) (record { order = omega (arith, ints); both = refl; next = refl })))))
     ]

@@ -1,7 +1,7 @@
 use Rattle.tz_info.proofs.Words.{List, Piece, SFits, add-one, ap, arith, cut_of, inl, ints, length, rules, suc, to_z-of_z, w64, zone_in}
 use Rattle.tz_info.proofs.Words.{[], ◌++◌, ◌-◌, ◌∙◌, ◌∷◌, ◌≡◌, ◌<◌}
 use Rattle.tz_info.proofs.OnePass.{crossed_by, cuts_of, end_before, ends_closed, ends_open, open_first, open_more}
-use Rattle.tz_info.proofs.zone.made.one_pass.pieces_in_one_pass.Goals.{else-count-entries, then-count-entries+else-is_crossed-2+in_ok-piece}
+use Rattle.tz_info.proofs.zone.made.one_pass.pieces_in_one_pass.Goals.{else-count-entries, then-count-entries+else-is_crossed-2}
 use Rattle.tz_info.proofs.zone.made.one_pass.pieces_in_one_pass.Goals as goal
 
 pub loop-place-init : goal.loop-place-init
@@ -16,15 +16,15 @@ loop-place-init c = record {
 
 pub loop-place-preserved : goal.loop-place-preserved
 loop-place-preserved c =
-    let ff : SFits w64 c.in_ok-first.first.start = search rules in
-    let fl : SFits w64 c.in_ok-first.last.start = search rules in
+    let ff : SFits w64 c.pieces_at-first.result.0.start = search rules in
+    let fl : SFits w64 c.pieces_at-first.result.1.start = search rules in
     let strict = simp to_z-of_z at (c.is_crossed.ensures.behind c.if-is_crossed.false) in
-    let out = c.push_reserved-in-loop-place.ensures.items ∙ ap (λ (ps : List Piece). ps ++ (c.in_ok-first.last ∷ [])) c.push_reserved.ensures.items in
+    let out = c.push_reserved-in-loop-place.ensures.items ∙ ap (λ (ps : List Piece). ps ++ (c.pieces_at-first.result.1 ∷ [])) c.push_reserved.ensures.items in
     rw add-one (record {
       pieces =
           simp to_z-of_z (open_more (zone_in c.args.lists) c.args.entries.now c.args.count c.loop-place.place _ c.loop-place.pieces.items _ _
-          c.in_ok-first.first c.in_ok-first.last
-          c.requires.table (omega arith) (omega arith) c.loop-place.invariant.pieces c.in_ok-first.ensures strict out);
+          c.pieces_at-first.result.0 c.pieces_at-first.result.1
+          c.requires.table (omega arith) (omega arith) c.loop-place.invariant.pieces c.pieces_at-first.ensures strict out);
       before = let one : suc c.loop-place.place - 1 ≡ c.loop-place.place = omega arith in rw one c.segment_at-behind.ensures;
       count = omega (arith, c.push_reserved.ensures.len, c.push_reserved-in-loop-place.ensures.len);
       room = omega (arith, c.push_reserved.ensures.capacity, c.push_reserved-in-loop-place.ensures.capacity);
@@ -32,12 +32,12 @@ loop-place-preserved c =
 
 pub returns-then-is_crossed : goal.returns-then-is_crossed
 returns-then-is_crossed c =
-    let ff : SFits w64 c.in_ok-first.first.start = search rules in
+    let ff : SFits w64 c.pieces_at-first.result.0.start = search rules in
     let within = c.requires.table.within in
     let crossed = simp to_z-of_z at (c.is_crossed.ensures.crossed c.if-is_crossed.true) in
-    crossed_by (zone_in c.args.lists) c.args.entries.now c.loop-place.place _ _ _ c.in_ok-first.first.start (omega arith)
+    crossed_by (zone_in c.args.lists) c.args.entries.now c.loop-place.place _ _ _ c.pieces_at-first.result.0.start (omega arith)
     crossed.0 c.loop-place.invariant.pieces
-    (cuts_of c.args.lists.types.now c.args.entries.now c.loop-place.place c.in_ok-first.first c.in_ok-first.last c.in_ok-first.ensures).0 crossed.1
+    (cuts_of c.args.lists.types.now c.args.entries.now c.loop-place.place c.pieces_at-first.result.0 c.pieces_at-first.result.1 c.pieces_at-first.ensures).0 crossed.1
 
 pub returns-then-is_crossed-2 : goal.returns-then-is_crossed-2
 returns-then-is_crossed-2 c =
@@ -62,12 +62,12 @@ returns c =
     let seg = c.loop-place.invariant.before in
     let fo : SFits w64 c.loop-place.before.offset = search rules in
     elim c.if-count-entries.branch [
-      | then-count-entries+else-is_crossed-2+in_ok-piece w ↦
+      | then-count-entries+else-is_crossed-2 w ↦
           let fe : SFits w64 w.cut_of-end.result = search rules in
           let last = w.if-count-entries.true in
           let cut = rw here at (simp to_z-of_z at w.cut_of-end.ensures ∙ ap (λ o. cut_of c.args.entries.now c.args.count o) seg.offset) in
           let strict = rw (here, cut) at (simp to_z-of_z at (w.is_crossed-then-count-entries.ensures.behind w.if-is_crossed-2.false)) in (
-            rw (w.pieces-is, w.push_reserved-then-count-entries.ensures.items, simp to_z-of_z at w.in_ok-piece.ensures, cut, here, c.segment_at.ensures.index)
+            rw (w.pieces-is, w.push_reserved-then-count-entries.ensures.items, simp to_z-of_z at w.small-piece.ensures, cut, here, c.segment_at.ensures.index)
                 (c.loop-place.invariant.pieces.closed (omega arith) seg.type (rw seg.index at seg.listed) seg.is_offset strict),
             ends_closed (zone_in c.args.lists) c.args.entries.now c.loop-place.place _ _ _ c.loop-place.invariant.pieces (omega arith)
                 (rw (← end_before _ _ c.loop-place.place seg.type (omega arith) (rw seg.index at seg.listed)) at strict),
