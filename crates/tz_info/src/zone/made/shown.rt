@@ -1,6 +1,6 @@
 //! What neighbouring segments show of a local time.
 
-ghost use Rattle.std.specs.Prelude.{◌≡◌, ◌↔◌, ◌<◌, ◌≤◌, IsTrue, MatchResult};
+ghost use Rattle.std.specs.Prelude.{◌≡◌, ◌↔◌, ◌⊎◌, ◌<◌, ◌≤◌, IsTrue, MatchResult};
 ghost use Rattle.tz_info.specs.Steps.Shown.{HasGreatNumber, together, unpacked};
 
 use std::alloc::AllocError;
@@ -44,10 +44,11 @@ impl Packed {
     pub(in crate::zone) fn new(shown: Shown) -> Result<Packed, AllocError>
         ensures { MatchResult result (λ p. p ≡ shown) (λ _. HasGreatNumber shown) }
     {
-        if has_great_number(shown) {
+        let (kind, first, second) = numbers(shown);
+        if is_great(first) || is_great(second) {
             return Err(AllocError);
         }
-        Ok(Packed::small(shown))
+        Ok(Packed::of(kind, first, second))
     }
 
     // What is shown, whose numbers are small enough.
@@ -56,12 +57,8 @@ impl Packed {
         requires { ¬ (HasGreatNumber shown) }
         ensures { result ≡ shown }
     {
-        match shown {
-            Shown::Less => Packed::of(0, 0, 0),
-            Shown::Skipped(place) => Packed::of(1, place, 0),
-            Shown::Once(only) => Packed::of(2, only, 0),
-            Shown::Several(first, last) => Packed::of(3, first, last),
-        }
+        let (kind, first, second) = numbers(shown);
+        Packed::of(kind, first, second)
     }
 
     #[inline(always)]
@@ -92,15 +89,19 @@ impl Packed {
     }
 }
 
-// Whether a number of the answer is too great.
+// Which of the four answers it is, and its numbers.
 #[inline(always)]
-fn has_great_number(shown: Shown) -> bool
-    ensures { IsTrue result ↔ HasGreatNumber shown }
+fn numbers(shown: Shown) -> (u32, usize, usize)
+    ensures kind { result.0 < 4 }
+    ensures answer { unpacked result.0 result.1 result.2 ≡ shown }
+    ensures great { HasGreatNumber shown
+        ↔ ((1_073_741_824 ≤ result.1) ⊎ (1_073_741_824 ≤ result.2)) }
 {
     match shown {
-        Shown::Less => false,
-        Shown::Skipped(number) | Shown::Once(number) => is_great(number),
-        Shown::Several(first, last) => is_great(first) || is_great(last),
+        Shown::Less => (0, 0, 0),
+        Shown::Skipped(place) => (1, place, 0),
+        Shown::Once(only) => (2, only, 0),
+        Shown::Several(first, last) => (3, first, last),
     }
 }
 
