@@ -1,13 +1,10 @@
 -- A zone that is UTC, a fixed offset, or a kept zone.
 use Rattle.std.specs.Prelude.{◌≡◌, ℤ, pos}
-use Rattle.zoned.specs.FixedOffset.{seconds_of}
+use Rattle.zoned.specs.{FixedOffset.{seconds_of}, Zone.{Law, Meaning, law_by_seconds}, declared.ZoneOffset.{ZoneOffset}}
+use Rattle.demo_examples.specs.declared.any_zone.{AnyOffset.{AnyOffset}, AnyZone.{AnyZone}}
 use Rattle.zoned.specs.KeptZone as kept
-use Rattle.zoned.specs.Zone.{Law, Meaning, law_by_seconds}
 use Rattle.zoned.specs.ZoneOffset as named
-use Rattle.zoned.specs.declared.ZoneOffset.{ZoneOffset}
-use Rattle.demo_examples.specs.declared.any_zone.AnyOffset.{AnyOffset}
 use Rattle.demo_examples.specs.declared.any_zone.AnyOffset.TheVariants as offsets
-use Rattle.demo_examples.specs.declared.any_zone.AnyZone.{AnyZone}
 use Rattle.demo_examples.specs.declared.any_zone.AnyZone.TheVariants as zones
 
 -- how many seconds clocks are ahead of UTC

@@ -1,8 +1,6 @@
 -- Nepal's clocks.
 use Rattle.std.specs.Prelude.{ℤ, pos}
-use Rattle.zoned.specs.FixedOffset.{seconds_of}
-use Rattle.zoned.specs.Zone.{Meaning, Law, meaning_by_seconds, law_by_seconds}
-use Rattle.zoned.specs.declared.FixedOffset.{FixedOffset}
+use Rattle.zoned.specs.{FixedOffset.{seconds_of}, Zone.{Meaning, Law, meaning_by_seconds, law_by_seconds}, declared.FixedOffset.{FixedOffset}}
 use Rattle.demo_examples.specs.declared.own_zone.Nepal.{Nepal as TheZone}
 
 -- seconds ahead of UTC: 5 hours and 45 minutes

@@ -1,10 +1,7 @@
 -- What an `OddOffset` shows.
 use Rattle.std.specs.Prelude.{ℤ, pos}
 use Rattle.zoned_time.specs.Zone.{Meaning, Law, meaning_by_seconds, law_by_seconds}
-use Rattle.demo_own_zone.specs.Odd.{odd_offset}
-use Rattle.demo_own_zone.specs.declared.offset.OddOffset.{OddOffset}
-use Rattle.demo_own_zone.specs.declared.offset.OddOffset.TheVariants.{Even, Odd}
-use Rattle.demo_own_zone.specs.declared.zone.Odd.{Odd as TheZone}
+use Rattle.demo_own_zone.specs.{Odd.{odd_offset}, declared.{offset.OddOffset.{OddOffset, TheVariants.{Even, Odd}}, zone.Odd.{Odd as TheZone}}}
 
 -- how many seconds clocks are ahead of UTC
 abbrev pub ahead_of : OddOffset → ℤ

@@ -1,21 +1,13 @@
 -- When a schedule runs.
 use Rattle.std.specs.declared.fmt.Debug as debug
 use Rattle.std.specs.Prelude.{ℕ, ℤ, ◌≡◌, ◌≤◌, ⊤, Contains, Option, MatchOption}
-use Rattle.naive_base.specs.DateOf.{day_of_month}
-use Rattle.naive_base.specs.NaiveTime.{second_of}
-use Rattle.naive_base.specs.Weekday.{weekday_of, weekday_number}
-use Rattle.naive_base.specs.declared.time.NaiveTime.{NaiveTime}
+use Rattle.naive_base.specs.{DateOf.{day_of_month}, NaiveTime.{second_of}, Weekday.{weekday_of, weekday_number}, declared.time.NaiveTime.{NaiveTime}}
 use Rattle.naive_plans.specs.DayPlans.{IsPlannedOnItsDay}
-use Rattle.zoned_ref.specs.KeptZone.{law_of}
-use Rattle.zoned_ref.specs.declared.zone_offset.ZoneOffset.{ZoneOffset}
-use Rattle.zoned_time.specs.DateTime.{zoned}
-use Rattle.zoned_time.specs.Fires.{IsZonedNextFire, NoneFiresAfter}
-use Rattle.zoned_time.specs.declared.datetime.Instant.{Instant}
-use Rattle.zoned_time.specs.declared.offset.Offset as offset
-use Rattle.demo_scheduler.specs.declared.job.Job.{Job}
-use Rattle.demo_scheduler.specs.declared.run_days.RunDays.{RunDays}
-use Rattle.demo_scheduler.specs.declared.run_days.RunDays.TheVariants.{Every, Workdays, Weekday, MonthDay}
+use Rattle.zoned_ref.specs.{KeptZone.{law_of}, declared.zone_offset.ZoneOffset.{ZoneOffset}}
+use Rattle.zoned_time.specs.{DateTime.{zoned}, Fires.{IsZonedNextFire, NoneFiresAfter}, declared.datetime.Instant.{Instant}}
+use Rattle.demo_scheduler.specs.declared.{job.Job.{Job}, run_days.RunDays.{RunDays, TheVariants.{Every, Workdays, Weekday, MonthDay}}}
 use Rattle.demo_scheduler.specs.declared.schedule.Schedule.{Schedule}
+use Rattle.zoned_time.specs.declared.offset.Offset as offset
 
 -- the day is a run day
 abbrev pub RunsOn : RunDays → ℤ → Type 0

@@ -1,13 +1,8 @@
 -- Queues of jobs: each job with its last run, and with its next one.
 use Rattle.std.specs.Prelude.{ℕ, ℤ, ◌≡◌, ◌<◌, ◌≤ℤ◌, ◌<ℤ◌, ⊤, List, [], ◌∷◌, ◌++◌, Option, Some, None, MatchOption, option_map, slice_get, slice_set}
 use Rattle.zoned_ref.specs.declared.zone_offset.ZoneOffset.{ZoneOffset}
-use Rattle.zoned_time.specs.DateTime.{zoned}
-use Rattle.zoned_time.specs.Zoned.{Zoned}
-use Rattle.demo_scheduler.specs.Fires.{IsNextRun}
-use Rattle.demo_scheduler.specs.declared.job.Job.{Job}
-use Rattle.demo_scheduler.specs.declared.queue.Fire.{Fire}
-use Rattle.demo_scheduler.specs.declared.queue.Queue.{Queue}
-use Rattle.demo_scheduler.specs.declared.queued.Queued.{Queued}
+use Rattle.zoned_time.specs.{DateTime.{zoned}, Zoned.{Zoned}}
+use Rattle.demo_scheduler.specs.{Fires.{IsNextRun}, declared.{job.Job.{Job}, queue.{Fire.{Fire}, Queue.{Queue}}, queued.Queued.{Queued}}}
 
 -- the queue's jobs, in the order in which they were added
 abbrev pub jobs_of : Queue → List Queued

@@ -1,7 +1,6 @@
 -- Dates and their day numbers.
 use Rattle.std.specs.Prelude.{◌≡◌, ℕ, ◌+◌, ◌-◌, ◌≤◌, ℤ, pos, ◌+ℤ◌}
-use Rattle.gregorian.specs.Year.{is_leap, year_start}
-use Rattle.gregorian.specs.Month.{days_in_month, days_of_months}
+use Rattle.gregorian.specs.{Year.{is_leap, year_start}, Month.{days_in_month, days_of_months}}
 
 -- the calendar has this date
 abbrev pub IsDate : ℤ → ℕ → ℕ → Type 0

@@ -1,10 +1,7 @@
 -- The year and the date of a day, as functions of it. Each is specified by what it is alone: some year that the day lies in, some
 -- date that has its number. `years_law` and `dates_law` prove that there is no other.
 use Rattle.std.specs.Prelude.{ℕ, ℤ, ◌-ℤ◌, unsigned_abs}
-use Rattle.gregorian.specs.Year.{year_start, LiesIn}
-use Rattle.gregorian.specs.Date.{HasDate}
-use Rattle.gregorian.specs.Steps.Years.{some_year}
-use Rattle.gregorian.specs.Steps.Dates.{some_date}
+use Rattle.gregorian.specs.{Year.{year_start, LiesIn}, Date.{HasDate}, Steps.{Years.{some_year}, Dates.{some_date}}}
 
 -- a year that the day lies in
 pub year_with : (day : ℤ) → (y : ℤ) × LiesIn day y

@@ -1,13 +1,9 @@
 -- Dates and times with a field changed, or moved by months or days.
 use Rattle.std.specs.Prelude.{◌≡◌, ℕ, ◌-◌, ◌≤◌, min, ℤ, pos, ◌+ℤ◌, ◌⊎◌, Option, Some, SomeIff, IfSome}
-use Rattle.gregorian.specs.Year.{is_leap, year_start, days_in_year}
-use Rattle.gregorian.specs.Month.{days_in_month}
-use Rattle.naive_base.specs.Months.{month_number, year_of_number, month_of_number}
-use Rattle.gregorian.specs.Date.{IsDate, day_number}
+use Rattle.gregorian.specs.{Year.{is_leap, year_start, days_in_year}, Month.{days_in_month}, Date.{IsDate, day_number}}
 use Rattle.gregorian.specs.DateOf.{year_of, month_of, day_of_month}
-use Rattle.naive_base.specs.Clock.{clock_second, hour_hand, minute_hand, second_hand}
-use Rattle.naive_base.specs.Reading.{Reading, reading_at, second_at}
-use Rattle.naive_base.specs.Range.{IsYearInRange, IsDayInRange}
+use Rattle.naive_base.specs.{Months.{month_number, year_of_number, month_of_number}, Clock.{clock_second, hour_hand, minute_hand, second_hand}}
+use Rattle.naive_base.specs.{Reading.{Reading, reading_at, second_at}, Range.{IsYearInRange, IsDayInRange}}
 
 -- The answer of a call that gives a value something else to show: v, if and only if p holds, and else nothing. `gives` says
 -- what comes of that, and what comes of it shows it.

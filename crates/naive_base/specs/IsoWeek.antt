@@ -3,9 +3,8 @@
 use Rattle.std.specs.Prelude.{◌≡◌, ℕ, ◌+◌, ◌/◌, List, ◌∷◌, ◌++◌, ℤ}
 use Rattle.offset_core.specs.Digits.{in_digits}
 use Rattle.gregorian.specs.DateOf.{year_of, day_of_year}
+use Rattle.naive_base.specs.{Text.{year_text}, declared.iso_week.IsoWeek.{IsoWeek}}
 pub use Rattle.gregorian.specs.Weeks.{IsThursdayOf}
-use Rattle.naive_base.specs.Text.{year_text}
-use Rattle.naive_base.specs.declared.iso_week.IsoWeek.{IsoWeek}
 
 -- what an `IsoWeek` shows: its year, and its number there
 abbrev pub iso_year : IsoWeek → ℤ

@@ -1,8 +1,7 @@
 -- Months counted on over the years, from January of the year 0.
 use Rattle.std.specs.Prelude.{ℕ, ◌+◌, ℤ, pos, ◌+ℤ◌, ◌-ℤ◌, ◌*ℤ◌}
 use Rattle.gregorian.specs.Year.{floor_div, floor_mod}
-use Rattle.naive_base.specs.declared.months_days.Months.{Months}
-use Rattle.naive_base.specs.declared.months_days.Days.{Days}
+use Rattle.naive_base.specs.declared.months_days.{Months.{Months}, Days.{Days}}
 
 -- the number of a month of a year
 abbrev pub month_number : ℤ → ℕ → ℤ

@@ -1,10 +1,7 @@
 -- What a `NaiveDate` shows.
 use Rattle.std.specs.Prelude.{◌≡◌, ℕ, List, ℤ, Option, Some, None, option_map}
-use Rattle.gregorian.specs.Date.{IsDate, day_number}
-use Rattle.gregorian.specs.DateOf.{year_of, month_of, day_of_month}
-use Rattle.naive_base.specs.Range.{IsYearInRange, IsDayInRange}
-use Rattle.naive_base.specs.Text.{date_text}
-use Rattle.naive_base.specs.declared.date.NaiveDate.{NaiveDate}
+use Rattle.gregorian.specs.{Date.{IsDate, day_number}, DateOf.{year_of, month_of, day_of_month}}
+use Rattle.naive_base.specs.{Range.{IsYearInRange, IsDayInRange}, Text.{date_text}, declared.date.NaiveDate.{NaiveDate}}
 
 -- the date's day number
 abbrev pub day_of : NaiveDate → ℤ

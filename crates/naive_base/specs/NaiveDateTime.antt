@@ -1,11 +1,7 @@
 -- What a `NaiveDateTime` shows.
 use Rattle.std.specs.Prelude.{◌≡◌, ℕ, ℤ, List, Option, Some, None, option_map}
-use Rattle.naive_base.specs.Clock.{IsFraction}
-use Rattle.naive_base.specs.Range.{IsInRange}
-use Rattle.naive_base.specs.Reading.{Reading, reading_at, day_at, second_at}
-use Rattle.naive_base.specs.Fields.{TimeOfDay, reading_on}
-use Rattle.naive_base.specs.Text.{reading_text}
-use Rattle.naive_base.specs.declared.datetime.NaiveDateTime.{NaiveDateTime}
+use Rattle.naive_base.specs.{Clock.{IsFraction}, Range.{IsInRange}, Reading.{Reading, reading_at, day_at, second_at}, Fields.{TimeOfDay, reading_on}}
+use Rattle.naive_base.specs.{Text.{reading_text}, declared.datetime.NaiveDateTime.{NaiveDateTime}}
 
 -- the local date-time that a `NaiveDateTime` shows
 abbrev pub reading : NaiveDateTime → Reading

@@ -1,9 +1,6 @@
 -- What a `NaiveTime` shows.
 use Rattle.std.specs.Prelude.{◌≡◌, ℕ, List, Option, Some, None}
-use Rattle.naive_base.specs.Fields.{TimeOfDay}
-use Rattle.naive_base.specs.Clock.{IsFraction}
-use Rattle.naive_base.specs.Text.{time_text}
-use Rattle.naive_base.specs.declared.time.NaiveTime.{NaiveTime}
+use Rattle.naive_base.specs.{Fields.{TimeOfDay}, Clock.{IsFraction}, Text.{time_text}, declared.time.NaiveTime.{NaiveTime}}
 
 -- the time's second of the day
 abbrev pub second_of : NaiveTime → ℕ

@@ -1,8 +1,6 @@
 -- Days by other names than a year, a month and a day of the month, and the whole years between two days.
 use Rattle.std.specs.Prelude.{◌≡◌, ℕ, ◌+◌, ◌/◌, Bool, ◌==◌, nat_lt, ◌&&◌, ◌||◌, if◌then◌else◌, ℤ, pos, ◌-ℤ◌}
-use Rattle.gregorian.specs.DateOf.{year_of, day_of_year, month_of, day_of_month}
-use Rattle.gregorian.specs.Weeks.{IsThursdayOf}
-use Rattle.gregorian.specs.Weekdays.{weekday_of}
+use Rattle.gregorian.specs.{DateOf.{year_of, day_of_year, month_of, day_of_month}, Weeks.{IsThursdayOf}, Weekdays.{weekday_of}}
 
 -- the day is the n-th of its weekday w in the month m of the year y
 pub record IsWeekdayOfMonth (y : ℤ) (m w n : ℕ) (day : ℤ) : Type 0 where

@@ -1,10 +1,7 @@
 -- Runs of days and of weeks.
 use Rattle.std.specs.Prelude.{ℕ, ◌/◌, ℤ, ◌-ℤ◌, int_lt, if◌then◌else◌, unsigned_abs}
-use Rattle.naive_base.specs.Range.{first_day, last_day}
-use Rattle.naive_base.specs.NaiveDate.{day_of}
-use Rattle.naive_base.specs.declared.date.back.NaiveDateDaysBack.{NaiveDateDaysBack}
-use Rattle.naive_base.specs.declared.date.back.NaiveDateWeeksBack.{NaiveDateWeeksBack}
-use Rattle.naive_base.specs.declared.date.days.NaiveDateDaysIterator.{NaiveDateDaysIterator}
+use Rattle.naive_base.specs.{Range.{first_day, last_day}, NaiveDate.{day_of}, declared.date.back.NaiveDateDaysBack.{NaiveDateDaysBack}}
+use Rattle.naive_base.specs.declared.date.{back.NaiveDateWeeksBack.{NaiveDateWeeksBack}, days.NaiveDateDaysIterator.{NaiveDateDaysIterator}}
 use Rattle.naive_base.specs.declared.date.days.NaiveDateWeeksIterator.{NaiveDateWeeksIterator}
 
 -- the day of the next date of a run of days, or of weeks

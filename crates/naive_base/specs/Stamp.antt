@@ -1,8 +1,7 @@
 -- Timestamps: whole seconds since 1970-01-01 00:00:00, and nanoseconds after them.
 use Rattle.std.specs.Prelude.{◌≡◌, ℕ, ◌<◌, ◌≤◌, ℤ}
 use Rattle.gregorian.specs.Year.{floor_mod}
-use Rattle.naive_base.specs.Range.{IsInRange}
-use Rattle.naive_base.specs.Reading.{Reading}
+use Rattle.naive_base.specs.{Range.{IsInRange}, Reading.{Reading}}
 
 -- the local date-time of that many seconds and nanoseconds
 abbrev pub of_secs : ℤ → ℕ → Reading

@@ -1,6 +1,5 @@
 -- What dates, times and local date-times print, as lists of bytes.
-use Rattle.std.specs.Prelude.{ℕ, ◌+◌, ◌-◌, ◌/◌, ◌%◌, ◌==◌, nat_lt, ◌||◌, if◌then◌else◌, List, [], ◌∷◌, ◌++◌, ℤ, pos, unsigned_abs, int_lt}
-use Rattle.std.specs.Fmt.{decimal}
+use Rattle.std.specs.{Prelude.{ℕ, ◌+◌, ◌-◌, ◌/◌, ◌%◌, ◌==◌, nat_lt, ◌||◌, if◌then◌else◌, List, [], ◌∷◌, ◌++◌, ℤ, pos, unsigned_abs, int_lt}, Fmt.{decimal}}
 use Rattle.offset_core.specs.Digits.{in_digits, sign_byte}
 use Rattle.gregorian.specs.DateOf.{year_of, month_of, day_of_month}
 use Rattle.naive_base.specs.Reading.{Reading, day_at, second_at}

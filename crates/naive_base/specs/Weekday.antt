@@ -1,8 +1,7 @@
 -- The days of the week, and their numbers.
 use Rattle.std.specs.Prelude.{ℕ, ◌+◌, ◌%◌, List, codes}
+use Rattle.naive_base.specs.declared.weekday.Weekday.{Weekday, TheVariants.{Mon, Tue, Wed, Thu, Fri, Sat, Sun}}
 pub use Rattle.gregorian.specs.Weekdays.{weekday_of}
-use Rattle.naive_base.specs.declared.weekday.Weekday.{Weekday}
-use Rattle.naive_base.specs.declared.weekday.Weekday.TheVariants.{Mon, Tue, Wed, Thu, Fri, Sat, Sun}
 
 -- the number of a weekday, 0 for Sunday to 6 for Saturday
 abbrev pub weekday_number : Weekday → ℕ

@@ -1,13 +1,9 @@
 -- Which rules RFC 5545 allows, by its section 3.3.10, with which starts and ends.
 use Rattle.std.specs.Prelude.{◌≡◌, ◌≢◌, ◌⊎◌, ⊤, ℕ, zero, suc, ◌≤◌, ℤ, pos, neg_ℤ, ◌≤ℤ◌, ◌<ℤ◌, List, All}
-use Rattle.naive_plans.specs.RecurrenceRules.{IsAbsent}
-use Rattle.naive_plans.specs.declared.recurrence.RecurrenceEnd.{RecurrenceEnd}
+use Rattle.naive_plans.specs.{RecurrenceRules.{IsAbsent}, declared.recurrence.{RecurrenceEnd.{RecurrenceEnd}, RecurrenceError.{RecurrenceError}}}
+use Rattle.naive_plans.specs.declared.rule.{Frequency.TheVariants.{Yearly, Monthly, Weekly, Daily}, NthWeekday.{NthWeekday}, RecurrenceRule.{RecurrenceRule}}
 use Rattle.naive_plans.specs.declared.recurrence.RecurrenceEnd.TheVariants as ends
-use Rattle.naive_plans.specs.declared.recurrence.RecurrenceError.{RecurrenceError}
 use Rattle.naive_plans.specs.declared.recurrence.RecurrenceError.TheVariants as errors
-use Rattle.naive_plans.specs.declared.rule.Frequency.TheVariants.{Yearly, Monthly, Weekly, Daily}
-use Rattle.naive_plans.specs.declared.rule.NthWeekday.{NthWeekday}
-use Rattle.naive_plans.specs.declared.rule.RecurrenceRule.{RecurrenceRule}
 
 -- a start in the years 0 to 9999, which the RFC's four digits can write
 abbrev pub IsInYears : ℤ → Type 0

@@ -2,9 +2,7 @@
 use Rattle.std.specs.Prelude.{◌≡◌, ⊤, ℕ, ◌%◌, ℤ}
 use Rattle.gregorian.specs.DateOf.{day_of_month, day_of_year}
 use Rattle.naive_base.specs.Weekday.{weekday_number, weekday_of}
-use Rattle.naive_plans.specs.DayPlans.{IsPlannedOnItsDay}
-use Rattle.naive_plans.specs.declared.clock_step.ClockStep.{ClockStep}
-use Rattle.naive_plans.specs.declared.clock_step.ClockStep.TheVariants.{Day, Week, Month, Year, Part}
+use Rattle.naive_plans.specs.{DayPlans.{IsPlannedOnItsDay}, declared.clock_step.ClockStep.{ClockStep, TheVariants.{Day, Week, Month, Year, Part}}}
 
 -- a step begins on the day
 abbrev pub BeginsOnDay : ClockStep → ℤ → Type 0

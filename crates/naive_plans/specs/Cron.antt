@@ -1,7 +1,6 @@
 -- Which local times match a line of a crontab.
 use Rattle.std.specs.Prelude.{◌≡◌, ◌⊎◌, ℕ, ◌/◌, ◌%◌, ℤ, Bool, true, false, IsTrue, get_or}
-use Rattle.gregorian.specs.DateOf.{month_of, day_of_month}
-use Rattle.gregorian.specs.Weekdays.{weekday_of}
+use Rattle.gregorian.specs.{DateOf.{month_of, day_of_month}, Weekdays.{weekday_of}}
 use Rattle.naive_plans.specs.declared.cron.Cron.{Cron}
 
 -- of a date's day of the month and its weekday, both match, or with `true` at least one does

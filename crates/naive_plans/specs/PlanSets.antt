@@ -1,7 +1,6 @@
 -- Lists of local times, and plans made of others.
 use Rattle.std.specs.Prelude.{◌≡◌, ◌⊎◌, ℤ, List, Contains}
-use Rattle.naive_base.specs.NaiveDateTime.{reading}
-use Rattle.naive_base.specs.declared.datetime.NaiveDateTime.{NaiveDateTime}
+use Rattle.naive_base.specs.{NaiveDateTime.{reading}, declared.datetime.NaiveDateTime.{NaiveDateTime}}
 
 -- the list has a local time in that second
 pub record HasLocalTime (list : List NaiveDateTime) (l : ℤ) : Type 0 where

@@ -1,14 +1,10 @@
 -- The local times that a rule means, by RFC 5545, section 3.3.10.
 use Rattle.std.specs.Prelude.{◌≡◌, ◌≢◌, ◌⊎◌, ℕ, ◌+◌, ◌-◌, ◌*◌, ◌/◌, ◌%◌, ℤ, pos, neg_ℤ, ◌+ℤ◌, ◌-ℤ◌, ◌*ℤ◌, List, Contains, length}
-use Rattle.gregorian.specs.DateOf.{year_of, month_of, day_of_month, day_of_year}
-use Rattle.gregorian.specs.Month.{days_in_month}
-use Rattle.gregorian.specs.Weekdays.{weekday_of}
+use Rattle.gregorian.specs.{DateOf.{year_of, month_of, day_of_month, day_of_year}, Month.{days_in_month}, Weekdays.{weekday_of}}
 use Rattle.gregorian.specs.Year.{days_in_year, floor_div, floor_mod, is_leap}
 use Rattle.naive_base.specs.Weekday.{weekday_number}
-use Rattle.naive_plans.specs.DayPlans.{IsPlannedOnItsDay}
-use Rattle.naive_plans.specs.declared.rule.Frequency.{Frequency}
-use Rattle.naive_plans.specs.declared.rule.Frequency.TheVariants.{Yearly, Monthly, Weekly, Daily, Hourly, Minutely, Secondly}
-use Rattle.naive_plans.specs.declared.rule.NthWeekday.{NthWeekday}
+use Rattle.naive_plans.specs.{DayPlans.{IsPlannedOnItsDay}, declared.rule.Frequency.{Frequency}}
+use Rattle.naive_plans.specs.declared.rule.{Frequency.TheVariants.{Yearly, Monthly, Weekly, Daily, Hourly, Minutely, Secondly}, NthWeekday.{NthWeekday}}
 use Rattle.naive_plans.specs.declared.rule.RecurrenceRule.{RecurrenceRule}
 
 -- ---- periods

@@ -1,11 +1,8 @@
 -- The local times of a recurrence, by RFC 5545.
 use Rattle.std.specs.Prelude.{◌≡◌, ◌⊎◌, ◌↔◌, ⊤, ℕ, zero, suc, ◌+◌, ◌<◌, ℤ, pos, neg_ℤ, ◌≤ℤ◌, ◌<ℤ◌, Contains}
-use Rattle.naive_base.specs.NaiveDateTime.{reading}
-use Rattle.naive_base.specs.Weekday.{weekday_number}
-use Rattle.naive_plans.specs.RecurrenceRules.{IsAbsent, IsOccasion, period_of}
-use Rattle.naive_plans.specs.declared.rule.RecurrenceRule.{RecurrenceRule}
-use Rattle.naive_plans.specs.declared.recurrence.RecurrenceEnd.{RecurrenceEnd}
-use Rattle.naive_plans.specs.declared.recurrence.RecurrenceEnd.TheVariants.{Never, Count, Until}
+use Rattle.naive_base.specs.{NaiveDateTime.{reading}, Weekday.{weekday_number}}
+use Rattle.naive_plans.specs.{RecurrenceRules.{IsAbsent, IsOccasion, period_of}, declared.rule.RecurrenceRule.{RecurrenceRule}}
+use Rattle.naive_plans.specs.declared.recurrence.RecurrenceEnd.{RecurrenceEnd, TheVariants.{Never, Count, Until}}
 
 -- l is in the set, and n of its members come before it
 abbrev pub HasBefore : (ℤ → Type 0) → ℕ → ℤ → Type 0

@@ -1,17 +1,11 @@
 -- What shows a local time, or the gap that it lies in, and what a choice takes of it: for values of any type, any relation `shows`
 -- between seconds and values (as in WallAnswer), and any property `skips`, which holds of the gap that the local time lies in.
 use Rattle.std.specs.Prelude.{◌≡◌, ℤ, Result, Ok, Err}
-use Rattle.offset_core.specs.WallAnswer.{IsShownOnce, IsShownBetween}
-use Rattle.offset_core.specs.declared.around.Around.{Around}
-use Rattle.offset_core.specs.declared.around.Around.TheVariants.{Single, Ambiguous, Gap}
-use Rattle.offset_core.specs.declared.around.Taken.{Taken}
-use Rattle.offset_core.specs.declared.around.Taken.TheVariants.{Shown, InGap}
-use Rattle.offset_core.specs.declared.choice.Choice.{Choice}
-use Rattle.offset_core.specs.declared.choice.FoldChoice.{FoldChoice}
-use Rattle.offset_core.specs.declared.choice.FoldChoice.TheVariants as folds
-use Rattle.offset_core.specs.declared.choice.GapChoice.{GapChoice}
-use Rattle.offset_core.specs.declared.choice.GapChoice.TheVariants as gaps
+use Rattle.offset_core.specs.{WallAnswer.{IsShownOnce, IsShownBetween}, declared.around.{Around.{Around, TheVariants.{Single, Ambiguous, Gap}}, Taken.{Taken}}}
+use Rattle.offset_core.specs.declared.{around.Taken.TheVariants.{Shown, InGap}, choice.{Choice.{Choice}, FoldChoice.{FoldChoice}, GapChoice.{GapChoice}}}
 use Rattle.offset_core.specs.declared.resolve_error.ResolveError.{ResolveError}
+use Rattle.offset_core.specs.declared.choice.FoldChoice.TheVariants as folds
+use Rattle.offset_core.specs.declared.choice.GapChoice.TheVariants as gaps
 use Rattle.offset_core.specs.declared.resolve_error.ResolveError.TheVariants as reasons
 
 -- exactly one second shows the local time, or several do, or it lies in that gap

@@ -1,7 +1,6 @@
 -- What a `FixedOffset` shows.
 use Rattle.std.specs.Prelude.{◌≡◌, ℕ, List, ℤ, Option, Some, None}
-use Rattle.offset_core.specs.declared.fixed_offset.FixedOffset.{FixedOffset}
-use Rattle.offset_core.specs.Offset.{IsWithinDay, offset_text}
+use Rattle.offset_core.specs.{declared.fixed_offset.FixedOffset.{FixedOffset}, Offset.{IsWithinDay, offset_text}}
 
 -- the seconds that local time is ahead of UTC
 abbrev pub seconds_of : FixedOffset → ℤ

@@ -1,9 +1,6 @@
 -- What a `TimeDelta` prints.
-use Rattle.std.specs.Prelude.{ℕ, zero, suc, ◌/◌, ◌%◌, ◌==◌, if◌then◌else◌, List, [], ◌∷◌, ◌++◌, ℤ, pos, unsigned_abs, int_lt}
-use Rattle.std.specs.Fmt.{decimal}
-use Rattle.offset_core.specs.Digits.{in_digits}
-use Rattle.offset_core.specs.TimeDelta.{nanos_of}
-use Rattle.offset_core.specs.declared.time_delta.TimeDelta.{TimeDelta}
+use Rattle.std.specs.{Prelude.{ℕ, zero, suc, ◌/◌, ◌%◌, ◌==◌, if◌then◌else◌, List, [], ◌∷◌, ◌++◌, ℤ, pos, unsigned_abs, int_lt}, Fmt.{decimal}}
+use Rattle.offset_core.specs.{Digits.{in_digits}, TimeDelta.{nanos_of}, declared.time_delta.TimeDelta.{TimeDelta}}
 
 -- the last k decimal digits of n, without the zeros at their end
 unfoldable pub without_zeros : ℕ → ℕ → List ℕ

@@ -1,9 +1,6 @@
 -- What a `LocalResult` holds, and what comes of asking a function for its values.
-use Rattle.std.specs.Prelude.{◌≡◌, ⊤, ◌++◌, pos, Option}
-use Rattle.std.specs.Prelude.{Some as some, None as none}
-use Rattle.std.specs.Hash.{HashWrites, isize}
-use Rattle.offset_core.specs.declared.local_result.LocalResult.{LocalResult}
-use Rattle.offset_core.specs.declared.local_result.LocalResult.TheVariants.{Single, Ambiguous, None}
+use Rattle.std.specs.{Prelude.{◌≡◌, ⊤, ◌++◌, pos, Option, Some as some, None as none}, Hash.{HashWrites, isize}}
+use Rattle.offset_core.specs.declared.local_result.LocalResult.{LocalResult, TheVariants.{Single, Ambiguous, None}}
 
 -- the only value
 abbrev pub single_of : {T : Type 0} → LocalResult T → Option T

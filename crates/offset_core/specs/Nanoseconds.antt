@@ -1,6 +1,5 @@
 -- Lengths of time, as whole numbers of nanoseconds.
-use Rattle.std.specs.Prelude.{ℕ, ◌<◌, ℤ, pos, neg_ℤ, ◌+ℤ◌, ◌*ℤ◌, ◌≤ℤ◌}
-use Rattle.std.specs.Int.{int_min, int_max}
+use Rattle.std.specs.{Prelude.{ℕ, ◌<◌, ℤ, pos, neg_ℤ, ◌+ℤ◌, ◌*ℤ◌, ◌≤ℤ◌}, Int.{int_min, int_max}}
 
 -- at most the milliseconds of a signed 64-bit number, either way
 abbrev pub FitsTimeDelta : ℤ → Type 0

@@ -1,7 +1,6 @@
 -- The numbers of refusals.
 use Rattle.std.specs.Prelude.{ℕ}
-use Rattle.offset_core.specs.declared.resolve_error.ResolveError.{ResolveError}
-use Rattle.offset_core.specs.declared.resolve_error.ResolveError.TheVariants.{Gap, Fold, OutOfRange}
+use Rattle.offset_core.specs.declared.resolve_error.ResolveError.{ResolveError, TheVariants.{Gap, Fold, OutOfRange}}
 
 -- the number of an error of a choice
 abbrev pub resolve_error_number : ResolveError → ℕ

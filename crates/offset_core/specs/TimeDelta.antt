@@ -1,9 +1,6 @@
 -- What a `TimeDelta` shows.
-use Rattle.std.specs.Prelude.{◌≡◌, ℕ, ◌<◌, List, fold, ℤ, pos, ◌+ℤ◌, ◌*ℤ◌, Option, Some, None}
-use Rattle.std.specs.Prelude.{[], ◌∷◌, ⊤}
-use Rattle.std.specs.Borrow.{Bor}
-use Rattle.offset_core.specs.declared.time_delta.TimeDelta.{TimeDelta}
-use Rattle.offset_core.specs.Nanoseconds.{FitsTimeDelta, nanos_per_second}
+use Rattle.std.specs.{Prelude.{◌≡◌, ℕ, ◌<◌, List, fold, ℤ, pos, ◌+ℤ◌, ◌*ℤ◌, Option, Some, None, [], ◌∷◌, ⊤}, Borrow.{Bor}}
+use Rattle.offset_core.specs.{declared.time_delta.TimeDelta.{TimeDelta}, Nanoseconds.{FitsTimeDelta, nanos_per_second}}
 
 -- the length in nanoseconds
 abbrev pub nanos_of : TimeDelta → ℤ

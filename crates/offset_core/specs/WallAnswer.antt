@@ -2,8 +2,7 @@
 -- where `shows u a` says: the second u shows the time that is asked for, and a is its value.
 -- A zone lets u be any second of 64 bits, and another caller any second of the range that it takes: the relation says.
 use Rattle.std.specs.Prelude.{◌≡◌, ℤ, ◌≤ℤ◌, ◌<ℤ◌}
-use Rattle.offset_core.specs.declared.local_result.LocalResult.{LocalResult}
-use Rattle.offset_core.specs.declared.local_result.LocalResult.TheVariants.{Single, Ambiguous, None}
+use Rattle.offset_core.specs.declared.local_result.LocalResult.{LocalResult, TheVariants.{Single, Ambiguous, None}}
 
 -- exactly one second shows the time, and its value is a
 pub record IsShownOnce {T : Type 0} (shows : ℤ → T → Type 0) (a : T) : Type 0 where

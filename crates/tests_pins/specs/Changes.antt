@@ -1,9 +1,7 @@
 -- Clock changes, and types that differ little.
 use Rattle.std.specs.Prelude.{◌≡◌, ℤ, pos, ◌≤ℤ◌, ◌<ℤ◌, ◌⊎◌, true, false, [], ◌∷◌, Some, None}
-use Rattle.tz_base.specs.LocalTypes.{LocalType}
-use Rattle.tz_base.specs.declared.change.Change.{Change}
-use Rattle.tz_info.specs.Zones.{Zone, plain_zone}
-use Rattle.tz_info.specs.declared.zone.ask.shown_seconds.ShownSeconds.{ShownSeconds}
+use Rattle.tz_base.specs.{LocalTypes.{LocalType}, declared.change.Change.{Change}}
+use Rattle.tz_info.specs.{Zones.{Zone, plain_zone}, declared.zone.ask.shown_seconds.ShownSeconds.{ShownSeconds}}
 use Rattle.tests_pins.specs.NewYork.{est, edt}
 
 -- a change at that second, from one type to another

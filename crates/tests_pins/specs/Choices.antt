@@ -1,8 +1,7 @@
 -- Zones whose clocks are set once, by an hour, and choices.
 use Rattle.std.specs.Prelude.{ℤ, pos}
 use Rattle.std.proofs.Common.{negsuc}
-use Rattle.offset_core.specs.declared.choice.Choice.{Choice}
-use Rattle.offset_core.specs.declared.choice.GapChoice.TheVariants.{Refuse as RefuseGap, ShiftForward}
+use Rattle.offset_core.specs.declared.choice.{Choice.{Choice}, GapChoice.TheVariants.{Refuse as RefuseGap, ShiftForward}}
 use Rattle.offset_core.specs.declared.choice.FoldChoice.TheVariants.{Refuse as RefuseFold, Earliest, Latest}
 use Rattle.naive_base.specs.Reading.{Reading}
 use Rattle.zoned_time.specs.Zone.{Meaning, Law, meaning_by_seconds, law_by_seconds}

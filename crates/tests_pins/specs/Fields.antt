@@ -1,8 +1,6 @@
 -- Days that are given another day, times of day, and days of March 2021.
 use Rattle.std.specs.Prelude.{◌≡◌, ℕ, ℤ, pos, Option}
-use Rattle.naive_base.specs.Clock.{clock_second}
-use Rattle.naive_base.specs.Date.{day_number}
-use Rattle.naive_base.specs.Fields.{TimeOfDay}
+use Rattle.naive_base.specs.{Clock.{clock_second}, Date.{day_number}, Fields.{TimeOfDay}}
 
 -- a day shows itself
 abbrev pub itself : ℤ → ℤ

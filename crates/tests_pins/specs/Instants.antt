@@ -1,10 +1,7 @@
 -- Instants with an offset of five hours behind UTC or of UTC, instants that are only counted, and noons.
 use Rattle.std.specs.Prelude.{◌≡◌, ℕ, ℤ, pos, neg_ℤ, ◌+◌, ◌+ℤ◌, None}
-use Rattle.naive_base.specs.Date.{day_number}
-use Rattle.naive_base.specs.Reading.{Reading, reading_at}
-use Rattle.zoned_time.specs.declared.datetime.Instant.{Instant}
-use Rattle.zoned_time.specs.Zone.{Meaning, meaning_by_seconds}
-use Rattle.zoned_time.specs.Zoned.{Zoned}
+use Rattle.naive_base.specs.{Date.{day_number}, Reading.{Reading, reading_at}}
+use Rattle.zoned_time.specs.{declared.datetime.Instant.{Instant}, Zone.{Meaning, meaning_by_seconds}, Zoned.{Zoned}}
 
 -- an offset is nothing but its seconds
 abbrev pub own_seconds : ℤ → ℤ

@@ -1,10 +1,7 @@
 -- New York's clocks since 2007, by the TZ string `EST5EDT,M3.2.0,M11.1.0`.
 use Rattle.std.specs.Prelude.{pos, neg_ℤ, true, false, [], ◌∷◌, Some}
 use Rattle.tz_base.specs.LocalTypes.{LocalType}
-use Rattle.tz_info.specs.Rules.{Alternate}
-use Rattle.tz_info.specs.Zones.{Zone}
-use Rattle.tz_info.specs.PosixZones.{posix_zone}
-use Rattle.tz_info.specs.declared.rule.day.DayForm.TheVariants.{MonthWeekday}
+use Rattle.tz_info.specs.{Rules.{Alternate}, Zones.{Zone}, PosixZones.{posix_zone}, declared.rule.day.DayForm.TheVariants.{MonthWeekday}}
 use Rattle.tz_info.specs.declared.rule.transition_rule.TransitionRule.{TransitionRule}
 use Rattle.tz_info.specs.declared.rule.transition_rule.TransitionRule.TheVariants as rules
 

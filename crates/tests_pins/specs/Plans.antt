@@ -1,7 +1,6 @@
 -- Plans at times of each day, and lines of a crontab.
 use Rattle.std.specs.Prelude.{◌≡◌, ◌↔◌, ◌⊎◌, ℕ, ℤ, Bool, false, true, IsTrue, List, get_or}
-use Rattle.naive_plans.specs.DayPlans.{IsPlannedOnItsDay}
-use Rattle.naive_plans.specs.declared.cron.Cron.{Cron}
+use Rattle.naive_plans.specs.{DayPlans.{IsPlannedOnItsDay}, declared.cron.Cron.{Cron}}
 
 -- on each day, that second of the day
 abbrev pub daily : ℕ → ℤ → Type 0

@@ -1,7 +1,6 @@
 -- Local date-times on 1970-01-01.
 use Rattle.std.specs.Prelude.{ℕ, ◌*◌, pos}
-use Rattle.naive_base.specs.Clock.{clock_second}
-use Rattle.naive_base.specs.Reading.{Reading}
+use Rattle.naive_base.specs.{Clock.{clock_second}, Reading.{Reading}}
 
 -- that hour, minute and second, and that many milliseconds after it; from 1,000 on they are those of
 -- a leap second

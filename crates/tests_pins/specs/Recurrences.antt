@@ -1,13 +1,7 @@
 -- Rules and local times of examples of RFC 5545, sections 3.3.10, 3.6.1, 3.6.5 and 3.8.5.3.
-use Rattle.std.specs.Prelude.{ℕ, ℤ, pos, neg_ℤ, ◌+ℤ◌, ◌*ℤ◌, List, [], ◌∷◌}
-use Rattle.std.specs.Borrow.{Bor}
-use Rattle.naive_base.specs.Clock.{clock_second}
-use Rattle.naive_base.specs.Date.{day_number}
-use Rattle.naive_base.specs.declared.weekday.Weekday.{Weekday}
-use Rattle.naive_base.specs.declared.weekday.Weekday.TheVariants.{Mon, Tue, Wed, Thu, Fri, Sun}
-use Rattle.naive_plans.specs.declared.rule.Frequency.{Frequency}
-use Rattle.naive_plans.specs.declared.rule.Frequency.TheVariants.{Yearly, Monthly, Weekly, Daily}
-use Rattle.naive_plans.specs.declared.rule.NthWeekday.{NthWeekday}
+use Rattle.std.specs.{Prelude.{ℕ, ℤ, pos, neg_ℤ, ◌+ℤ◌, ◌*ℤ◌, List, [], ◌∷◌}, Borrow.{Bor}}
+use Rattle.naive_base.specs.{Clock.{clock_second}, Date.{day_number}, declared.weekday.Weekday.{Weekday, TheVariants.{Mon, Tue, Wed, Thu, Fri, Sun}}}
+use Rattle.naive_plans.specs.declared.rule.{Frequency.{Frequency, TheVariants.{Yearly, Monthly, Weekly, Daily}}, NthWeekday.{NthWeekday}}
 use Rattle.naive_plans.specs.declared.rule.RecurrenceRule.{RecurrenceRule}
 
 -- ---- local times

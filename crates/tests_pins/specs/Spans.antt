@@ -1,12 +1,8 @@
 -- Spans of New York.
 use Rattle.std.specs.Prelude.{ℤ, pos, neg_ℤ, Option, Some}
-use Rattle.tz_base.specs.LocalTypes.{LocalType}
-use Rattle.tz_base.specs.declared.span.Span.{Span}
+use Rattle.tz_base.specs.{LocalTypes.{LocalType}, declared.span.Span.{Span}}
 use Rattle.tests_pins.specs.NewYork.{est, new_york, new_york_zone}
-use Rattle.tz_info.specs.PosixZones.{posix_zone}
-use Rattle.tz_info.specs.Rules.{Alternate}
-use Rattle.tz_info.specs.SpanSteps.{SpanPlace}
-use Rattle.tz_info.specs.Zones.{Zone}
+use Rattle.tz_info.specs.{PosixZones.{posix_zone}, Rules.{Alternate}, SpanSteps.{SpanPlace}, Zones.{Zone}}
 use Rattle.tz_info.specs.declared.rule.transition_rule.TransitionRule.TheVariants as rules
 
 -- a span of that type, from and until those seconds

@@ -1,7 +1,6 @@
 -- TZ strings, as bytes, and the rules that they spell.
 use Rattle.std.specs.Prelude.{ℕ, pos, neg_ℤ, true, false, List, [], ◌∷◌, Some}
-use Rattle.tz_info.specs.declared.rule.day.DayForm.TheVariants.{Julian1, Julian0, MonthWeekday}
-use Rattle.tz_info.specs.declared.rule.transition_rule.TransitionRule.{TransitionRule}
+use Rattle.tz_info.specs.declared.rule.{day.DayForm.TheVariants.{Julian1, Julian0, MonthWeekday}, transition_rule.TransitionRule.{TransitionRule}}
 use Rattle.tz_info.specs.declared.rule.transition_rule.TransitionRule.TheVariants as rules
 
 -- `EST5EDT,M3.2.0,M11.1.0`

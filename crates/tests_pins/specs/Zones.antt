@@ -1,13 +1,10 @@
 -- Zones with transitions.
 use Rattle.std.specs.Prelude.{ℕ, ℤ, pos, neg_ℤ, Bool, true, false, List, [], ◌∷◌, Option, Some, None}
 use Rattle.tz_base.specs.LocalTypes.{LocalType}
-use Rattle.tz_info.specs.Zones.{Zone}
-use Rattle.tz_info.specs.declared.rule.transition_rule.TransitionRule.{TransitionRule}
-use Rattle.tz_info.specs.declared.rule.transition_rule.TransitionRule.TheVariants as rules
-use Rattle.tz_info.specs.declared.zone.lists.transition.Transition.{Transition}
+use Rattle.tz_info.specs.{Zones.{Zone}, declared.{rule.transition_rule.TransitionRule.{TransitionRule}, zone.lists.transition.Transition.{Transition}}}
 use Rattle.tz_info.specs.PosixZones.{posix_zone}
-use Rattle.tests_pins.specs.LeapSeconds.{utc_leaps}
-use Rattle.tests_pins.specs.Texts.{utc_rule}
+use Rattle.tests_pins.specs.{LeapSeconds.{utc_leaps}, Texts.{utc_rule}}
+use Rattle.tz_info.specs.declared.rule.transition_rule.TransitionRule.TheVariants as rules
 
 -- `LMT`, `HST` of both offsets, `HDT`, `HWT` and `HPT`
 abbrev pub honolulu_type : ℤ → Bool → ℕ → ℕ → LocalType

@@ -1,9 +1,7 @@
 -- What is at the front of bytes: a value with the bytes after it, or an error.
 use Rattle.std.specs.Prelude.{ℕ, ◌+◌, ◌*◌, ◌-◌, nat_eq, nat_lt, nat_le, Bool, true, false, ◌&&◌, if◌then◌else◌, List, [], ◌∷◌, length, take, drop, Result, Ok}
-use Rattle.std.specs.Prelude.{Err, ◌≡◌}
-use Rattle.std.specs.List.{starts_with}
-use Rattle.tz_base.specs.declared.error.Error.{Error}
-use Rattle.tz_base.specs.declared.error.Error.TheVariants.{UnexpectedEnd, MissingTag, ParseInt}
+use Rattle.std.specs.{Prelude.{Err, ◌≡◌}, List.{starts_with}}
+use Rattle.tz_base.specs.declared.error.Error.{Error, TheVariants.{UnexpectedEnd, MissingTag, ParseInt}}
 use Rattle.tz_base.specs.declared.error.Expected.TheVariants.{MoreBytes, Tag, OtherBytes, Digit, NumberWithinItsLimit}
 
 infixl 10 ◌>>=◌

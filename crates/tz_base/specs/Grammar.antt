@@ -4,12 +4,9 @@
 use Rattle.std.specs.Prelude.{ℕ, ◌≡◌, ◌≢◌, ◌<◌, ◌≤◌, ◌-◌, ◌⊎◌, Bool, true, false, if◌then◌else◌, List, [], ◌∷◌, ◌++◌, length, Result, Ok, Err}
 use Rattle.std.specs.Int.{w32, from_be_bytes}
 use Rattle.tz_base.specs.Fronts.{is_digit, value_from, AllOf, NoneFirst, AllDigits, optional_tag_at, tag_at, int_at, exact_at, run_of, after_run}
-use Rattle.tz_base.specs.Fronts as fronts
-use Rattle.tz_base.specs.Refusals.{Refusal, error}
-use Rattle.tz_base.specs.Tests.{Test}
-use Rattle.tz_base.specs.declared.error.Error.{Error}
-use Rattle.tz_base.specs.declared.error.Error.TheVariants.{UnexpectedEnd, MissingTag, ParseInt}
+use Rattle.tz_base.specs.{Refusals.{Refusal, error}, Tests.{Test}, declared.error.Error.{Error, TheVariants.{UnexpectedEnd, MissingTag, ParseInt}}}
 use Rattle.tz_base.specs.declared.error.Expected.TheVariants.{MoreBytes, Tag, OtherBytes, Digit, NumberWithinItsLimit}
+use Rattle.tz_base.specs.Fronts as fronts
 
 pub data Grammar : Type 0 → Type 1 where
   -- no bytes, which spell that value

@@ -1,8 +1,6 @@
 -- Local time types (RFC 8536 section 3.2, "local time type record"; the offset counts east of UTC).
 use Rattle.std.specs.Prelude.{ℕ, ℤ, pos, neg_ℤ, ◌≤ℤ◌, int_le, Bool, false, if◌then◌else◌, List, Option, Some, None}
-use Rattle.tz_base.specs.Names.{expected_of_name}
-use Rattle.tz_base.specs.declared.error.Expected.{Expected}
-use Rattle.tz_base.specs.declared.error.Expected.TheVariants.{OffsetAboveI32Min}
+use Rattle.tz_base.specs.{Names.{expected_of_name}, declared.error.Expected.{Expected, TheVariants.{OffsetAboveI32Min}}}
 
 -- what a local time type shows: seconds east of UTC, whether it is daylight saving time, and its name if it has one
 pub record LocalType : Type 0 where

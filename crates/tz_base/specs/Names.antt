@@ -2,14 +2,9 @@
 -- (POSIX.1 section 8.3). Here they are three to seven letters, digits, `+` or `-` of ASCII; RFC 8536 says that they should
 -- have three to six.
 use Rattle.std.proofs.Common.{ℕ, zero, suc, ◌≡◌, ◌<◌, ◌≤◌, ◌==◌, nat_le, Bool, true, ◌&&◌, ◌||◌, List, [], ◌∷◌, Option, Some, None, length, slice_index, get_or}
-use Rattle.std.proofs.Common.{arith, refl}
-use Rattle.std.specs.Prelude.{if◌then◌else◌, ◌++◌, ◌-◌}
-use Rattle.std.proofs.Math.ListN.{replicate}
-use Rattle.std.specs.List.{list_all}
-use Rattle.std.proofs.lemmas.Bool.Decides.{nat_tests}
-use Rattle.tz_base.specs.Tests.{Test}
-use Rattle.tz_base.specs.declared.error.Expected.{Expected}
-use Rattle.tz_base.specs.declared.error.Expected.TheVariants.{NameOfThreeToSevenBytes, LettersDigitsPlusOrMinusInName}
+use Rattle.std.proofs.{Common.{arith, refl}, Math.ListN.{replicate}, lemmas.Bool.Decides.{nat_tests}}
+use Rattle.std.specs.{Prelude.{if◌then◌else◌, ◌++◌, ◌-◌}, List.{list_all}}
+use Rattle.tz_base.specs.{Tests.{Test}, declared.error.Expected.{Expected, TheVariants.{NameOfThreeToSevenBytes, LettersDigitsPlusOrMinusInName}}}
 
 -- a letter, a digit, a plus or a minus of ASCII
 abbrev pub is_name_byte : ℕ → Bool

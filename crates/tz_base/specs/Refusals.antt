@@ -1,8 +1,7 @@
 -- The errors that a grammar can name: the variants of `Error` that a reader of bytes returns, each with what was expected.
 -- Running out of memory is not one of them.
-use Rattle.tz_base.specs.declared.error.Error.{Error}
+use Rattle.tz_base.specs.declared.error.{Error.{Error}, Expected.{Expected}}
 use Rattle.tz_base.specs.declared.error.Error.TheVariants as errors
-use Rattle.tz_base.specs.declared.error.Expected.{Expected}
 
 pub data Refusal : Type 0 where
   LocalTimeType : Expected → Refusal

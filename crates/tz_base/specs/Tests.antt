@@ -1,8 +1,6 @@
 -- Tests that a reader makes.
-use Rattle.std.specs.Prelude.{ℕ, ◌≤◌, nat_le, Bool, ◌&&◌}
-use Rattle.std.specs.Bool.{Decides}
-use Rattle.std.proofs.Common.{arith}
-use Rattle.std.proofs.lemmas.Bool.Decides.{nat_tests, Decides-and}
+use Rattle.std.specs.{Prelude.{ℕ, ◌≤◌, nat_le, Bool, ◌&&◌}, Bool.{Decides}}
+use Rattle.std.proofs.{Common.{arith}, lemmas.Bool.Decides.{nat_tests, Decides-and}}
 
 -- a test that passes if and only if P holds
 pub record Test (P : Type 0) : Type 0 where

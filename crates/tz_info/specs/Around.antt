@@ -1,12 +1,9 @@
 -- What shows a local time, or the gap that it lies in.
 use Rattle.std.specs.Prelude.{ℤ}
+use Rattle.offset_core.specs.declared.around.Around.{Around, TheVariants.{Single, Ambiguous, Gap}}
+use Rattle.tz_base.specs.{LocalTypes.{LocalType}, declared.change.Change.{Change}}
+use Rattle.tz_info.specs.{Gaps.{HasGap, IsTypeBeforeGap}, WallClocks.{Shows}}
 use Rattle.offset_core.specs.Around as any
-use Rattle.offset_core.specs.declared.around.Around.{Around}
-use Rattle.offset_core.specs.declared.around.Around.TheVariants.{Single, Ambiguous, Gap}
-use Rattle.tz_base.specs.LocalTypes.{LocalType}
-use Rattle.tz_base.specs.declared.change.Change.{Change}
-use Rattle.tz_info.specs.Gaps.{HasGap, IsTypeBeforeGap}
-use Rattle.tz_info.specs.WallClocks.{Shows}
 
 -- a change at which clocks skip the local time
 abbrev pub Skips : (ℤ → LocalType → Type 0) → ℤ → Change → Type 0

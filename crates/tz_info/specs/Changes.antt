@@ -1,8 +1,6 @@
 -- Changes: the seconds at which clocks change to another type of local time.
-use Rattle.std.specs.Prelude.{ℤ, pos, ◌≢◌, ◌-ℤ◌, ◌≤ℤ◌, ◌<ℤ◌, ◌↔◌, FitsSigned, List, AllPairs, Bool, true, false, Contains, Option, MatchOption}
-use Rattle.std.specs.Int.{w64}
-use Rattle.tz_base.specs.LocalTypes.{LocalType}
-use Rattle.tz_base.specs.declared.change.Change.{Change}
+use Rattle.std.specs.{Prelude.{ℤ, pos, ◌≢◌, ◌-ℤ◌, ◌≤ℤ◌, ◌<ℤ◌, ◌↔◌, FitsSigned, List, AllPairs, Bool, true, false, Contains, Option, MatchOption}, Int.{w64}}
+use Rattle.tz_base.specs.{LocalTypes.{LocalType}, declared.change.Change.{Change}}
 
 -- at the second of the change one type is in force, a second before it another one: another offset, mark or name. Both are
 -- seconds of 64 bits

@@ -1,8 +1,7 @@
 -- The data blocks of a TZif file (RFC 8536 section 3.2). The lines of `block` are the parts, in order.
 use Rattle.std.specs.Prelude.{ℕ, ◌+◌, ◌*◌, List}
 use Rattle.tz_base.specs.Grammar.{Grammar, Nothing, Exact, ◌>>=◌}
-use Rattle.tz_info.specs.declared.file.header.Counts.{Counts}
-use Rattle.tz_info.specs.declared.file.block.Block.{Block}
+use Rattle.tz_info.specs.declared.file.{header.Counts.{Counts}, block.Block.{Block}}
 
 -- the parts of a block
 pub record Parts : Type 0 where

@@ -1,15 +1,9 @@
 -- What the parts of a data block say (RFC 8536 section 3.2).
 use Rattle.std.specs.Prelude.{ℕ, ℤ, pos, neg_ℤ, ◌<ℤ◌, ◌≡◌, ◌≢◌, ◌==◌, ◌+◌, nat_lt, Bool, true, false, if◌then◌else◌, List, [], ◌∷◌, ◌++◌, length, take}
-use Rattle.std.specs.Prelude.{slice_index, map, Option, Some, None}
-use Rattle.std.specs.Int.{Width, w32, w64, from_be_bytes, cast_signed}
-use Rattle.tz_base.specs.LocalTypes.{LocalType, expected_of_type}
-use Rattle.tz_base.specs.declared.error.Error.{Error}
-use Rattle.tz_base.specs.declared.error.Error.TheVariants.{InvalidTzFile, LocalTimeType}
-use Rattle.tz_base.specs.declared.error.Expected.{Expected}
-use Rattle.tz_base.specs.declared.error.Expected.TheVariants.{ZeroOrOneAsIsDst, NameWithinDesignations, ZeroByteAfterName}
-use Rattle.tz_base.specs.Names.{IsNameOrNone}
-use Rattle.tz_info.specs.declared.zone.lists.transition.Transition.{Transition}
-use Rattle.tz_info.specs.declared.zone.lists.leap_second.LeapSecond.{LeapSecond}
+use Rattle.std.specs.{Prelude.{slice_index, map, Option, Some, None}, Int.{Width, w32, w64, from_be_bytes, cast_signed}}
+use Rattle.tz_base.specs.{LocalTypes.{LocalType, expected_of_type}, declared.error.Error.{Error, TheVariants.{InvalidTzFile, LocalTimeType}}}
+use Rattle.tz_base.specs.{declared.error.Expected.{Expected, TheVariants.{ZeroOrOneAsIsDst, NameWithinDesignations, ZeroByteAfterName}}, Names.{IsNameOrNone}}
+use Rattle.tz_info.specs.declared.zone.lists.{transition.Transition.{Transition}, leap_second.LeapSecond.{LeapSecond}}
 
 -- a number in two's complement, the highest byte first
 unfoldable pub signed : Width → List ℕ → ℤ

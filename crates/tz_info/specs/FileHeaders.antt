@@ -1,20 +1,12 @@
 -- The headers of a TZif file (RFC 8536 section 3.1). The lines are the fields, in order.
 use Rattle.std.specs.Prelude.{ℕ, ◌≡◌, ◌≢◌, ◌≤◌, ◌==◌, ◌⊎◌, not, ◌&&◌, ◌||◌, Bool, true, false, List, [], ◌∷◌, length, take, drop, if◌then◌else◌}
-use Rattle.std.specs.Bool.{nat_eq}
-use Rattle.std.proofs.Common.{arith, refl, inl, inr}
-use Rattle.std.proofs.lemmas.Bool.Decides.{Decides-eqb, nat_tests}
-use Rattle.std.proofs.lemmas.Slice.Eq.{slice_eq-Decides}
-use Rattle.std.specs.Cmp.Lexicographic.{pointwise}
-use Rattle.tz_base.specs.Grammar.{Grammar, Nothing, Marked, Exact, Refused, Check, Here, At, be_u32, ◌>>=◌, ◌>>◌}
-use Rattle.tz_base.specs.Refusals as refused
-use Rattle.tz_base.specs.Tests.{Test}
-use Rattle.tz_base.specs.declared.error.Expected.TheVariants as expected
-use Rattle.tz_info.specs.declared.file.header.Place.{Place}
-use Rattle.tz_info.specs.declared.file.header.Place.TheVariants.{First, Second}
-use Rattle.tz_info.specs.declared.file.header.Version.{Version}
-use Rattle.tz_info.specs.declared.file.header.Version.TheVariants.{One, Two, Three}
-use Rattle.tz_info.specs.declared.file.header.Counts.{Counts}
+use Rattle.std.specs.{Bool.{nat_eq}, Cmp.Lexicographic.{pointwise}}
+use Rattle.std.proofs.{Common.{arith, refl, inl, inr}, lemmas.{Bool.Decides.{Decides-eqb, nat_tests}, Slice.Eq.{slice_eq-Decides}}}
+use Rattle.tz_base.specs.{Grammar.{Grammar, Nothing, Marked, Exact, Refused, Check, Here, At, be_u32, ◌>>=◌, ◌>>◌}, Tests.{Test}}
+use Rattle.tz_info.specs.declared.file.header.{Place.{Place, TheVariants.{First, Second}}, Version.{Version, TheVariants.{One, Two, Three}}, Counts.{Counts}}
 use Rattle.tz_info.specs.declared.file.header.Header.{Header}
+use Rattle.tz_base.specs.Refusals as refused
+use Rattle.tz_base.specs.declared.error.Expected.TheVariants as expected
 
 -- `TZif`
 abbrev pub magic : List ℕ

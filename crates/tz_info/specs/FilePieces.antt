@@ -1,17 +1,11 @@
 -- The pieces of a TZif file (RFC 8536 section 3).
 use Rattle.std.specs.Prelude.{ℕ, ◌≡◌, Bool, true, false, List, [], Option, Some, None}
-use Rattle.tz_base.specs.Grammar.{Grammar, Nothing, End, Rest, Spells, HasFault, ◌>>=◌, ◌>>◌}
-use Rattle.tz_base.specs.Refusals as refused
-use Rattle.tz_base.specs.declared.error.Error.{Error}
-use Rattle.tz_base.specs.declared.error.Expected.TheVariants as expected
-use Rattle.tz_info.specs.FileHeaders.{header}
-use Rattle.tz_info.specs.FileBlocks.{Parts, block}
-use Rattle.tz_info.specs.declared.file.counts.FileCounts.{FileCounts}
-use Rattle.tz_info.specs.declared.file.header.Place.TheVariants.{First, Second}
-use Rattle.tz_info.specs.declared.file.header.Version.{Version}
-use Rattle.tz_info.specs.declared.file.header.Version.TheVariants.{One, Two, Three}
-use Rattle.tz_info.specs.declared.file.header.Counts.{Counts}
+use Rattle.tz_base.specs.{Grammar.{Grammar, Nothing, End, Rest, Spells, HasFault, ◌>>=◌, ◌>>◌}, declared.error.Error.{Error}}
+use Rattle.tz_info.specs.{FileHeaders.{header}, FileBlocks.{Parts, block}, declared.file.counts.FileCounts.{FileCounts}}
+use Rattle.tz_info.specs.declared.file.header.{Place.TheVariants.{First, Second}, Version.{Version, TheVariants.{One, Two, Three}}, Counts.{Counts}}
 use Rattle.tz_info.specs.declared.file.header.Header.{Header}
+use Rattle.tz_base.specs.Refusals as refused
+use Rattle.tz_base.specs.declared.error.Expected.TheVariants as expected
 
 -- the pieces that say what the zone is: the last block with its counts, the footer, if there is one, and whether its
 -- text has the extensions of RFC 8536 section 3.3.1

@@ -1,24 +1,13 @@
 -- The position of the fault of a TZif file: the number of bytes in front of it (RFC 8536 section 3). A file that is too short
 -- is at fault at its end, and any other at the first byte of the field whose value is rejected.
 use Rattle.std.specs.Prelude.{ℕ, ◌≡◌, ◌≢◌, ◌+◌, ◌*◌, ◌-◌, ◌<◌, ◌≤◌, ◌⊎◌, Bool, List, [], ◌++◌, length, slice_index, Option, Some, None, ◌≤ℤ◌, ℤ}
-use Rattle.std.specs.Char.{is_ascii_whitespace}
-use Rattle.std.specs.List.{prefix_len}
-use Rattle.std.specs.Str.{IsUtf8, IsValidUpTo}
-use Rattle.tz_base.specs.Grammar.{fault_position}
-use Rattle.tz_base.specs.LocalTypes.{LocalType}
-use Rattle.tz_base.specs.declared.error.Error.{Error}
-use Rattle.tz_base.specs.declared.error.Error.TheVariants.{LocalTimeType, InvalidTzFile}
+use Rattle.std.specs.{Char.{is_ascii_whitespace}, List.{prefix_len}, Str.{IsUtf8, IsValidUpTo}}
+use Rattle.tz_base.specs.{Grammar.{fault_position}, LocalTypes.{LocalType}, declared.error.Error.{Error, TheVariants.{LocalTimeType, InvalidTzFile}}}
 use Rattle.tz_base.specs.declared.error.Expected.TheVariants.{OffsetAboveI32Min, ZeroOrOneAsIsDst}
-use Rattle.tz_info.specs.FileBlocks.{Parts}
-use Rattle.tz_info.specs.FileContents.{HasNoZero, IndicatorsAgree, SpellsType, TypeFault, file_time}
-use Rattle.tz_info.specs.FilePieces.{FilePieces, HasPieces, PieceFault, file}
-use Rattle.tz_info.specs.Footers.{HasText, IsBetweenNewlines}
-use Rattle.tz_info.specs.Leaps.{IsFirstLeap, IsNextLeap}
-use Rattle.tz_info.specs.Steps.ContentReading.{record_at, leap_second_of}
-use Rattle.tz_info.specs.TzFiles.{HasRule}
-use Rattle.tz_info.specs.TzGrammar.{IsTextFault, text_fault_position}
-use Rattle.tz_info.specs.declared.file.place.PartPlaces.{PartPlaces}
-use Rattle.tz_info.specs.declared.rule.transition_rule.TransitionRule.{TransitionRule}
+use Rattle.tz_info.specs.{FileBlocks.{Parts}, FileContents.{HasNoZero, IndicatorsAgree, SpellsType, TypeFault, file_time}}
+use Rattle.tz_info.specs.{FilePieces.{FilePieces, HasPieces, PieceFault, file}, Footers.{HasText, IsBetweenNewlines}, Leaps.{IsFirstLeap, IsNextLeap}}
+use Rattle.tz_info.specs.{Steps.ContentReading.{record_at, leap_second_of}, TzFiles.{HasRule}, TzGrammar.{IsTextFault, text_fault_position}}
+use Rattle.tz_info.specs.declared.{file.place.PartPlaces.{PartPlaces}, rule.transition_rule.TransitionRule.{TransitionRule}}
 use Rattle.tz_info.specs.declared.zone.lists.leap_second.LeapSecond.{LeapSecond}
 
 -- k is the first of the numbers below n of which P holds

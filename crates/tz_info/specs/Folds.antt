@@ -1,10 +1,8 @@
 -- Folds: local times that clocks show several times, and the clock change that sets them back. Clock changes of gaps and folds.
 use Rattle.std.specs.Prelude.{ℤ, pos, ◌+ℤ◌, ◌-ℤ◌, ◌≤ℤ◌, ◌<ℤ◌, ◌⊎◌}
 use Rattle.offset_core.specs.WallAnswer.{IsShownBetween}
-use Rattle.tz_base.specs.LocalTypes.{LocalType}
-use Rattle.tz_base.specs.declared.change.Change.{Change}
-use Rattle.tz_info.specs.Around.{Skips}
-use Rattle.tz_info.specs.WallClocks.{Shows}
+use Rattle.tz_base.specs.{LocalTypes.{LocalType}, declared.change.Change.{Change}}
+use Rattle.tz_info.specs.{Around.{Skips}, WallClocks.{Shows}}
 
 -- Several seconds show the local time, and the second `at` is one at which clocks are set back from it, or from a later one: at the
 -- second before, the last such one, they show the local time or more, and from `at` on less, until the last second that shows it. `after` is

@@ -1,12 +1,8 @@
 -- The footer of a TZif file (RFC 8536 section 3.3).
-use Rattle.std.specs.Prelude.{ℕ, ◌≡◌, ◌≢◌, Bool, List, [], ◌∷◌, ◌++◌, slice_index, Option, Some, None}
-use Rattle.std.specs.Str.{IsUtf8}
-use Rattle.tz_base.specs.declared.error.Error.{Error}
-use Rattle.tz_base.specs.declared.error.Error.TheVariants.{InvalidTzFile, Utf8}
+use Rattle.std.specs.{Prelude.{ℕ, ◌≡◌, ◌≢◌, Bool, List, [], ◌∷◌, ◌++◌, slice_index, Option, Some, None}, Str.{IsUtf8}}
+use Rattle.tz_base.specs.declared.error.Error.{Error, TheVariants.{InvalidTzFile, Utf8}}
 use Rattle.tz_base.specs.declared.error.Expected.TheVariants.{FooterInUtf8, FooterBetweenNewlines, TzTextInFooter}
-use Rattle.tz_info.specs.FileContents.{HasNoZero}
-use Rattle.tz_info.specs.Trims.{IsTrimmed}
-use Rattle.tz_info.specs.TzGrammar.{IsTzText, IsTextFault}
+use Rattle.tz_info.specs.{FileContents.{HasNoZero}, Trims.{IsTrimmed}, TzGrammar.{IsTzText, IsTextFault}}
 use Rattle.tz_info.specs.declared.rule.transition_rule.TransitionRule.{TransitionRule}
 
 -- a newline in front and a newline at the end; one alone is both

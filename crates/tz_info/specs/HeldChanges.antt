@@ -1,10 +1,6 @@
 -- Clock changes, spans and seconds with references to the types that the zone holds.
-use Rattle.tz_base.specs.declared.change.Change.{Change}
-use Rattle.tz_base.specs.declared.span.Span.{Span}
-use Rattle.tz_info.specs.declared.change.HeldChange.{HeldChange}
-use Rattle.tz_info.specs.declared.change.HeldSecond.{HeldSecond}
-use Rattle.tz_info.specs.declared.change.HeldSpan.{HeldSpan}
-use Rattle.tz_info.specs.declared.change.TypedSecond.{TypedSecond}
+use Rattle.tz_base.specs.declared.{change.Change.{Change}, span.Span.{Span}}
+use Rattle.tz_info.specs.declared.change.{HeldChange.{HeldChange}, HeldSecond.{HeldSecond}, HeldSpan.{HeldSpan}, TypedSecond.{TypedSecond}}
 
 -- the change with the types themselves
 abbrev pub change_held : HeldChange → Change

@@ -1,13 +1,9 @@
 -- Leap seconds (RFC 8536 section 3.2, "leap-second records"). A Unix time counts seconds from 1970-01-01 00:00:00 UTC
 -- without the leap seconds, a leap time counts them too; an entry's correction is the difference from its leap time on.
 use Rattle.std.specs.Prelude.{ℕ, ◌≡◌, ◌+◌, ◌<◌, List, [], ◌∷◌, length, slice_index_or, take, map, filter, count_by, ℤ, pos, neg_ℤ, ◌+ℤ◌, ◌-ℤ◌, ◌≤ℤ◌, int_le}
-use Rattle.std.specs.Prelude.{int_lt, if◌then◌else◌, ◌⊎◌, FitsSigned}
-use Rattle.std.specs.Int.{w64}
-use Rattle.std.specs.List.{AllAdjacentBelow}
-use Rattle.tz_base.specs.declared.error.Expected.{Expected}
-use Rattle.tz_base.specs.declared.error.Expected.TheVariants.{LeapTimeAboveI64Min, UnixTimeOf64Bits}
-use Rattle.tz_info.specs.Lists.{last_else}
-use Rattle.tz_info.specs.declared.zone.lists.leap_second.LeapSecond.{LeapSecond}
+use Rattle.std.specs.{Prelude.{int_lt, if◌then◌else◌, ◌⊎◌, FitsSigned}, Int.{w64}, List.{AllAdjacentBelow}}
+use Rattle.tz_base.specs.declared.error.Expected.{Expected, TheVariants.{LeapTimeAboveI64Min, UnixTimeOf64Bits}}
+use Rattle.tz_info.specs.{Lists.{last_else}, declared.zone.lists.leap_second.LeapSecond.{LeapSecond}}
 
 -- one second more or one less
 abbrev pub IsOneStep : ℤ → ℤ → Type 0

@@ -1,13 +1,8 @@
 -- How many probes a zone's lookups take: the bounds, each in one place.
 use Rattle.std.specs.Prelude.{ℕ, ℤ, ◌+◌, ◌*◌, ◌<◌, length}
-use Rattle.tz_info.specs.Counts.{Counts, RoseWithin, RoseByPieces}
-use Rattle.tz_info.specs.Digits.{digits}
-use Rattle.tz_info.specs.Windows.{IsWindowCount}
-use Rattle.tz_info.specs.Zones.{Zone}
-use Rattle.offset_core.specs.declared.around.Around.{Around}
-use Rattle.offset_core.specs.declared.around.Around.TheVariants.{Gap}
-use Rattle.tz_base.specs.LocalTypes.{LocalType}
-use Rattle.tz_base.specs.declared.change.Change.{Change}
+use Rattle.tz_info.specs.{Counts.{Counts, RoseWithin, RoseByPieces}, Digits.{digits}, Windows.{IsWindowCount}, Zones.{Zone}}
+use Rattle.offset_core.specs.declared.around.Around.{Around, TheVariants.{Gap}}
+use Rattle.tz_base.specs.{LocalTypes.{LocalType}, declared.change.Change.{Change}}
 
 -- by instant: the probes of one search in the transitions, and one question to the rule
 abbrev pub RoseByInstant : Zone → Counts → Counts → Type 0

@@ -2,9 +2,7 @@
 use Rattle.std.specs.Prelude.{◌≡◌, Bool, if◌then◌else◌, IsTrue, IsFalse, ◌↔◌, ℤ, pos, neg_ℤ, ◌+ℤ◌, ◌-ℤ◌, ◌*ℤ◌, ◌≤ℤ◌, ◌<ℤ◌, ◌⊎◌}
 use Rattle.naive_base.specs.Year.{floor_div, LiesIn}
 use Rattle.tz_base.specs.LocalTypes.{LocalType}
-use Rattle.tz_info.specs.RuleDayOf.{rule_day}
-use Rattle.tz_info.specs.Rules.{Alternate}
-use Rattle.tz_info.specs.declared.rule.day.DayTime.{DayTime}
+use Rattle.tz_info.specs.{RuleDayOf.{rule_day}, Rules.{Alternate}, declared.rule.day.DayTime.{DayTime}}
 
 -- the second at which a clock at that offset shows the day's time in that year
 unfoldable pub moment : DayTime → ℤ → ℤ → ℤ

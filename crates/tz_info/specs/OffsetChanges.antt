@@ -1,7 +1,6 @@
 -- Changes of the offset: the clock changes at which not only the DST flag or the abbreviation changes.
 use Rattle.std.specs.Prelude.{ℤ, ◌≢◌, Bool, true, false, Option, MatchOption}
-use Rattle.tz_base.specs.LocalTypes.{LocalType}
-use Rattle.tz_base.specs.declared.change.Change.{Change}
+use Rattle.tz_base.specs.{LocalTypes.{LocalType}, declared.change.Change.{Change}}
 use Rattle.tz_info.specs.Changes.{IsChange, Precedes}
 
 -- at the second of the change another offset is in force than at the second before it

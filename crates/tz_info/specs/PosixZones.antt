@@ -1,14 +1,7 @@
 -- The zones of TZ strings (POSIX.1 section 8.3, "TZ").
-use Rattle.std.specs.Prelude.{ℕ, pos, ◌≡◌, ◌≢◌, ◌⊎◌, ◌+◌, false, true, List, [], ◌∷◌, Some, MatchOption}
-use Rattle.std.specs.Char.{is_ascii_whitespace}
-use Rattle.std.specs.List.{prefix_len}
-use Rattle.tz_base.specs.Errors.{IsOutOfMemory}
-use Rattle.tz_base.specs.LocalTypes.{LocalType}
-use Rattle.tz_base.specs.declared.error.Error.{Error}
-use Rattle.tz_base.specs.declared.parse_error.ParseError.{ParseError}
-use Rattle.tz_info.specs.Zones.{Zone, plain_zone, zone_of_rule}
-use Rattle.tz_info.specs.Trims.{IsTrimmed}
-use Rattle.tz_info.specs.TzGrammar.{IsTzText, IsTextFault, text_fault_position}
+use Rattle.std.specs.{Prelude.{ℕ, pos, ◌≡◌, ◌≢◌, ◌⊎◌, ◌+◌, false, true, List, [], ◌∷◌, Some, MatchOption}, Char.{is_ascii_whitespace}, List.{prefix_len}}
+use Rattle.tz_base.specs.{Errors.{IsOutOfMemory}, LocalTypes.{LocalType}, declared.{error.Error.{Error}, parse_error.ParseError.{ParseError}}}
+use Rattle.tz_info.specs.{Zones.{Zone, plain_zone, zone_of_rule}, Trims.{IsTrimmed}, TzGrammar.{IsTzText, IsTextFault, text_fault_position}}
 use Rattle.tz_info.specs.declared.rule.transition_rule.TransitionRule.{TransitionRule}
 use Rattle.tz_info.specs.declared.rule.transition_rule.TransitionRule.TheVariants as rules
 

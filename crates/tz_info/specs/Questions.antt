@@ -1,9 +1,6 @@
 -- Questions to a zone's rule, counted.
 use Rattle.std.specs.Prelude.{ℕ, ℤ, ◌≡◌, ◌≢◌, ◌+◌, ◌-ℤ◌, ◌<◌, ◌↔◌, ◌⊎◌, List, length, AllPairs, Contains, Some}
-use Rattle.tz_info.specs.Leaps.{IsLeapTime}
-use Rattle.tz_info.specs.Windows.{rule_offsets}
-use Rattle.tz_info.specs.Zones.{Zone, IsFromLast}
-use Rattle.tz_info.specs.declared.rule.transition_rule.TransitionRule.{TransitionRule}
+use Rattle.tz_info.specs.{Leaps.{IsLeapTime}, Windows.{rule_offsets}, Zones.{Zone, IsFromLast}, declared.rule.transition_rule.TransitionRule.{TransitionRule}}
 
 -- the rule says the type at the second u: the zone has a rule, and no transition comes after the second's leap time
 pub record IsByRule (z : Zone) (u : ℤ) : Type 0 where

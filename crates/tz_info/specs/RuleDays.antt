@@ -1,15 +1,10 @@
 -- The days on which a rule changes the clock (POSIX.1 section 8.3, the forms `Jn`, `n` and `Mm.w.d` of a date).
 use Rattle.std.specs.Prelude.{ℕ, ◌≡◌, ◌≤◌, ◌<◌, ◌+◌, ◌-◌, ◌*◌, nat_le, Bool, ◌&&◌, if◌then◌else◌, true, false, ℤ, pos, ◌+ℤ◌, ◌⊎◌}
-use Rattle.std.proofs.Common.{arith}
-use Rattle.std.proofs.lemmas.Bool.Decides.{nat_tests}
-use Rattle.tz_base.specs.Tests.{Test}
-use Rattle.naive_base.specs.Month.{days_in_month, days_of_months}
-use Rattle.naive_base.specs.Date.{IsDate, day_number}
-use Rattle.naive_base.specs.Weekday.{weekday_of}
-use Rattle.tz_base.specs.declared.error.Expected.{Expected}
+use Rattle.std.proofs.{Common.{arith}, lemmas.Bool.Decides.{nat_tests}}
+use Rattle.tz_base.specs.{Tests.{Test}, declared.error.Expected.{Expected}}
 use Rattle.tz_base.specs.declared.error.Expected.TheVariants.{DayFromJ1ToJ365, DayFrom0To365, MonthFrom1To12, WeekFrom1To5, WeekdayFrom0To6}
-use Rattle.tz_info.specs.declared.rule.day.DayForm.{DayForm}
-use Rattle.tz_info.specs.declared.rule.day.DayForm.TheVariants.{Julian1, Julian0, MonthWeekday}
+use Rattle.naive_base.specs.{Month.{days_in_month, days_of_months}, Date.{IsDate, day_number}, Weekday.{weekday_of}}
+use Rattle.tz_info.specs.declared.rule.day.DayForm.{DayForm, TheVariants.{Julian1, Julian0, MonthWeekday}}
 
 -- the numbers that a date may have
 abbrev pub IsRuleDay : DayForm → Type 0

@@ -1,11 +1,8 @@
 -- When two rules are equal: their types, and the days and times of their changes are.
-use Rattle.std.specs.Prelude.{Bool}
-use Rattle.std.specs.Cmp.{IsEquivalence}
-use Rattle.std.specs.Ordering.{on, eq_of_both}
+use Rattle.std.specs.{Prelude.{Bool}, Cmp.{IsEquivalence}, Ordering.{on, eq_of_both}}
 use Rattle.std.proofs.lemmas.Cmp.{on_equiv, and_equiv}
 use Rattle.tz_base.specs.LocalTypes.{LocalType}
-use Rattle.tz_info.specs.Rules.{Alternate}
-use Rattle.tz_info.specs.declared.rule.day.DayTime.{DayTime}
+use Rattle.tz_info.specs.{Rules.{Alternate}, declared.rule.day.DayTime.{DayTime}}
 
 -- whether two alternate rules are equal, given tests of types and of days with their times
 abbrev pub alternate_eq : (LocalType → LocalType → Bool) → (DayTime → DayTime → Bool) → Alternate → Alternate → Bool

@@ -1,9 +1,7 @@
 -- A rule's type at an instant (POSIX.1 section 8.3).
 use Rattle.std.specs.Prelude.{◌≡◌, ℤ}
 use Rattle.tz_base.specs.LocalTypes.{LocalType}
-use Rattle.tz_info.specs.Rules.{IsAlternateRule}
-use Rattle.tz_info.specs.Moments.{AlternateAt, IsAlternateRefused}
-use Rattle.tz_info.specs.declared.rule.transition_rule.TransitionRule.{TransitionRule}
+use Rattle.tz_info.specs.{Rules.{IsAlternateRule}, Moments.{AlternateAt, IsAlternateRefused}, declared.rule.transition_rule.TransitionRule.{TransitionRule}}
 use Rattle.tz_info.specs.declared.rule.transition_rule.TransitionRule.TheVariants.{Fixed, Alternate}
 
 -- the rule's type at the second u is t

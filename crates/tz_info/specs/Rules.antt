@@ -1,11 +1,8 @@
 -- Rules with two types (POSIX.1 section 8.3: `std`, `dst`, and when each begins).
 use Rattle.std.specs.Prelude.{ℤ, pos, neg_ℤ, ◌<ℤ◌, int_lt, Bool, ◌&&◌, if◌then◌else◌}
 use Rattle.offset_core.specs.Offset.{IsWithinDay}
-use Rattle.tz_base.specs.LocalTypes.{LocalType}
-use Rattle.tz_base.specs.declared.error.Expected.{Expected}
-use Rattle.tz_base.specs.declared.error.Expected.TheVariants.{OffsetsWithinDay, StartWithinWeek, EndWithinWeek}
-use Rattle.tz_info.specs.RuleDays.{IsRuleDay}
-use Rattle.tz_info.specs.declared.rule.day.DayTime.{DayTime}
+use Rattle.tz_base.specs.{LocalTypes.{LocalType}, declared.error.Expected.{Expected, TheVariants.{OffsetsWithinDay, StartWithinWeek, EndWithinWeek}}}
+use Rattle.tz_info.specs.{RuleDays.{IsRuleDay}, declared.rule.day.DayTime.{DayTime}}
 
 -- what an alternate rule shows: its types, and the days and times of day at which daylight saving time starts and ends
 pub record Alternate : Type 0 where

@@ -1,7 +1,6 @@
 -- When clocks show certain local times: the first and the last second of a stretch of local time, such as a day, and the first second at or
 -- after a local time.
-use Rattle.std.specs.Prelude.{ℤ, ◌+ℤ◌, ◌≤ℤ◌, ◌<ℤ◌, FitsSigned, Option, MatchOption}
-use Rattle.std.specs.Int.{w64}
+use Rattle.std.specs.{Prelude.{ℤ, ◌+ℤ◌, ◌≤ℤ◌, ◌<ℤ◌, FitsSigned, Option, MatchOption}, Int.{w64}}
 use Rattle.offset_core.specs.WallAnswer.{IsNeverShown}
 use Rattle.tz_base.specs.LocalTypes.{LocalType}
 use Rattle.tz_info.specs.declared.zone.ask.shown_seconds.ShownSeconds.{ShownSeconds}

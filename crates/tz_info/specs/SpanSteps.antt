@@ -1,11 +1,7 @@
 -- Steps from span to span.
-use Rattle.std.specs.Prelude.{ℤ, pos, ◌≡◌, ◌-ℤ◌, ◌≤ℤ◌, Option, MatchOption, unsigned_abs, unwrap_or}
-use Rattle.std.specs.Iterator.{Count, at_most}
-use Rattle.tz_base.specs.LocalTypes.{LocalType}
-use Rattle.tz_base.specs.declared.span.Span.{Span}
-use Rattle.tz_info.specs.Leaps.{least_time}
-use Rattle.tz_info.specs.Spans.{IsSpanAt}
-use Rattle.tz_info.specs.Zones.{Zone, TypeAt}
+use Rattle.std.specs.{Prelude.{ℤ, pos, ◌≡◌, ◌-ℤ◌, ◌≤ℤ◌, Option, MatchOption, unsigned_abs, unwrap_or}, Iterator.{Count, at_most}}
+use Rattle.tz_base.specs.{LocalTypes.{LocalType}, declared.span.Span.{Span}}
+use Rattle.tz_info.specs.{Leaps.{least_time}, Spans.{IsSpanAt}, Zones.{Zone, TypeAt}}
 
 -- a place in a zone's time, just before the second `at`; after the last second of 64 bits `at` is the number after it
 pub record SpanPlace : Type 0 where

@@ -1,8 +1,6 @@
 -- Spans: the longest stretches of seconds with one type.
-use Rattle.std.specs.Prelude.{ℤ, pos, ◌-ℤ◌, ◌≤ℤ◌, ◌<ℤ◌, FitsSigned, Option, Some, None, IfSome}
-use Rattle.std.specs.Int.{w64}
-use Rattle.tz_base.specs.LocalTypes.{LocalType}
-use Rattle.tz_base.specs.declared.span.Span.{Span}
+use Rattle.std.specs.{Prelude.{ℤ, pos, ◌-ℤ◌, ◌≤ℤ◌, ◌<ℤ◌, FitsSigned, Option, Some, None, IfSome}, Int.{w64}}
+use Rattle.tz_base.specs.{LocalTypes.{LocalType}, declared.span.Span.{Span}}
 
 -- at that second or later, or anywhere
 abbrev pub IsSince : Option ℤ → ℤ → Type 0

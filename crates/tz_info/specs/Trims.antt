@@ -1,6 +1,5 @@
 -- White space at both ends.
-use Rattle.std.specs.Prelude.{◌≡◌, ℕ, List, [], ◌∷◌, ◌++◌, true, false}
-use Rattle.std.specs.Char.{is_ascii_whitespace}
+use Rattle.std.specs.{Prelude.{◌≡◌, ℕ, List, [], ◌∷◌, ◌++◌, true, false}, Char.{is_ascii_whitespace}}
 
 -- spaces, tabs, line feeds, form feeds and carriage returns alone
 abbrev pub IsSpace : List ℕ → Type 0

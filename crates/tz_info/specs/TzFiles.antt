@@ -1,13 +1,9 @@
 -- The lists that the bytes of a TZif file spell (RFC 8536 section 3).
 use Rattle.std.specs.Prelude.{ℕ, ◌≡◌, Bool, List, Option, Some, None}
-use Rattle.tz_base.specs.LocalTypes.{LocalType}
-use Rattle.tz_base.specs.declared.error.Error.{Error}
-use Rattle.tz_base.specs.declared.error.Error.TheVariants.{InvalidTzFile, OutOfMemory}
+use Rattle.tz_base.specs.{LocalTypes.{LocalType}, declared.error.Error.{Error, TheVariants.{InvalidTzFile, OutOfMemory}}}
 use Rattle.tz_base.specs.declared.error.Expected.TheVariants.{StandardTimeWhereTimeIsUt}
-use Rattle.tz_info.specs.Zones.{Zone, ListFault}
-use Rattle.tz_info.specs.FileContents.{SpellTransitions, SpellLeapSeconds, SpellTypes, HasTypeFault, IndicatorsAgree}
-use Rattle.tz_info.specs.Footers.{IsFooter, FooterFault}
-use Rattle.tz_info.specs.FilePieces.{FilePieces, HasPieces, PieceFault}
+use Rattle.tz_info.specs.{Zones.{Zone, ListFault}, FileContents.{SpellTransitions, SpellLeapSeconds, SpellTypes, HasTypeFault, IndicatorsAgree}}
+use Rattle.tz_info.specs.{Footers.{IsFooter, FooterFault}, FilePieces.{FilePieces, HasPieces, PieceFault}}
 use Rattle.tz_info.specs.declared.rule.transition_rule.TransitionRule.{TransitionRule}
 
 -- without a footer there is no rule

@@ -2,24 +2,16 @@
 -- section 3.3.1 if `extended` is true. The lines of a definition are the parts of the string, in order.
 use Rattle.std.specs.Prelude.{ℕ, ℤ, pos, neg_ℤ, ◌+ℤ◌, ◌+◌, ◌*◌, ◌≡◌, ◌≤◌, ◌≤ℤ◌, ◌==◌, nat_le, int_le, Bool, true, false, not, ◌&&◌, ◌||◌, if◌then◌else◌, List}
 use Rattle.std.specs.Prelude.{[], Some}
-use Rattle.std.proofs.Common.{arith}
-use Rattle.std.proofs.lemmas.Bool.Decides.{nat_tests}
-use Rattle.std.proofs.lemmas.Int.{ints}
-use Rattle.tz_base.specs.Names.{IsName, name_test, expected_of_name}
-use Rattle.tz_base.specs.Tests.{Test}
-use Rattle.tz_base.specs.LocalTypes.{LocalType}
+use Rattle.std.proofs.{Common.{arith}, lemmas.{Bool.Decides.{nat_tests}, Int.{ints}}}
+use Rattle.tz_base.specs.{Names.{IsName, name_test, expected_of_name}, Tests.{Test}, LocalTypes.{LocalType}}
 use Rattle.tz_base.specs.Grammar.{Grammar, Nothing, Marked, Optional, Ended, End, Byte, Run, Number, Check, Here, At, ◌>>=◌, ◌>>◌, Spells, HasFault}
-use Rattle.tz_base.specs.Grammar.{fault_position}
+use Rattle.tz_base.specs.{Grammar.{fault_position}, declared.error.Error.{Error}}
+use Rattle.tz_info.specs.{RuleDays.{IsRuleDay, rule_day_test, expected_of_day}, declared.rule.day.DayForm.{DayForm}}
+use Rattle.tz_info.specs.declared.rule.day.{DayForm.TheVariants.{Julian1, Julian0, MonthWeekday}, DayTime.{DayTime}}
+use Rattle.tz_info.specs.declared.rule.transition_rule.TransitionRule.{TransitionRule, TheVariants.{Fixed, Alternate}}
 use Rattle.tz_base.specs.Grammar as grammar
 use Rattle.tz_base.specs.Refusals as refused
-use Rattle.tz_base.specs.declared.error.Error.{Error}
 use Rattle.tz_base.specs.declared.error.Expected.TheVariants as expected
-use Rattle.tz_info.specs.RuleDays.{IsRuleDay, rule_day_test, expected_of_day}
-use Rattle.tz_info.specs.declared.rule.day.DayForm.{DayForm}
-use Rattle.tz_info.specs.declared.rule.day.DayForm.TheVariants.{Julian1, Julian0, MonthWeekday}
-use Rattle.tz_info.specs.declared.rule.day.DayTime.{DayTime}
-use Rattle.tz_info.specs.declared.rule.transition_rule.TransitionRule.{TransitionRule}
-use Rattle.tz_info.specs.declared.rule.transition_rule.TransitionRule.TheVariants.{Fixed, Alternate}
 
 -- ---- bytes of ASCII
 abbrev pub plus : ℕ

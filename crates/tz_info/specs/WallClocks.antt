@@ -1,8 +1,6 @@
 -- Wall clocks: the Unix times at which a clock shows a local time.
-use Rattle.std.specs.Prelude.{◌≡◌, ℤ, ◌+ℤ◌, ◌-ℤ◌, ◌≤ℤ◌, FitsSigned}
-use Rattle.std.specs.Int.{w64}
-use Rattle.offset_core.specs.declared.local_result.LocalResult.{LocalResult}
-use Rattle.offset_core.specs.declared.local_result.LocalResult.TheVariants.{None, Single, Ambiguous}
+use Rattle.std.specs.{Prelude.{◌≡◌, ℤ, ◌+ℤ◌, ◌-ℤ◌, ◌≤ℤ◌, FitsSigned}, Int.{w64}}
+use Rattle.offset_core.specs.declared.local_result.LocalResult.{LocalResult, TheVariants.{None, Single, Ambiguous}}
 use Rattle.tz_base.specs.LocalTypes.{LocalType}
 
 -- at the Unix time u, one of 64 bits, the type t is in force, and a clock of that type shows the local time: the seconds

@@ -1,10 +1,7 @@
 -- Windows: the transitions that come near a local time, for the offsets that a zone has.
 use Rattle.std.specs.Prelude.{ℕ, ◌≡◌, ◌&&◌, List, [], ◌∷◌, ◌++◌, length, map, filter, Contains, All, ℤ, ◌-ℤ◌, ◌≤ℤ◌, int_le, int_lt, Option, Some, None}
 use Rattle.tz_base.specs.LocalTypes.{LocalType}
-use Rattle.tz_info.specs.Leaps.{IsLeapTime}
-use Rattle.tz_info.specs.Zones.{Zone}
-use Rattle.tz_info.specs.declared.rule.transition_rule.TransitionRule.{TransitionRule}
-use Rattle.tz_info.specs.declared.rule.transition_rule.TransitionRule.TheVariants.{Fixed, Alternate}
+use Rattle.tz_info.specs.{Leaps.{IsLeapTime}, Zones.{Zone}, declared.rule.transition_rule.TransitionRule.{TransitionRule, TheVariants.{Fixed, Alternate}}}
 use Rattle.tz_info.specs.declared.zone.lists.transition.Transition.{Transition}
 
 -- the offsets of a rule's types

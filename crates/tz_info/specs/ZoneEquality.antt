@@ -1,14 +1,8 @@
 -- When two zones are equal: their transitions, types, leap seconds and rules are.
-use Rattle.std.specs.Prelude.{Bool}
-use Rattle.std.specs.Cmp.{IsEquivalence}
-use Rattle.std.specs.Cmp.Lexicographic.{pointwise, options_equiv}
-use Rattle.std.specs.Option.{option_eq}
-use Rattle.std.specs.Ordering.{on, eq_of_both}
+use Rattle.std.specs.{Prelude.{Bool}, Cmp.{IsEquivalence, Lexicographic.{pointwise, options_equiv}}, Option.{option_eq}, Ordering.{on, eq_of_both}}
 use Rattle.std.proofs.lemmas.Cmp.{on_equiv, and_equiv, lists_equiv}
 use Rattle.tz_base.specs.LocalTypes.{LocalType}
-use Rattle.tz_info.specs.Zones.{Zone}
-use Rattle.tz_info.specs.declared.rule.transition_rule.TransitionRule.{TransitionRule}
-use Rattle.tz_info.specs.declared.zone.lists.leap_second.LeapSecond.{LeapSecond}
+use Rattle.tz_info.specs.{Zones.{Zone}, declared.{rule.transition_rule.TransitionRule.{TransitionRule}, zone.lists.leap_second.LeapSecond.{LeapSecond}}}
 use Rattle.tz_info.specs.declared.zone.lists.transition.Transition.{Transition}
 
 -- whether two zones are equal, given tests of the items of their lists

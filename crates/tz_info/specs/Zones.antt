@@ -1,17 +1,11 @@
 -- Time zones (RFC 8536 section 3.2: a file's transitions, local time types and leap seconds; section 3.3: its footer's rule).
 use Rattle.std.specs.Prelude.{ℕ, ℤ, ◌≡◌, ◌<◌, ◌-◌, List, [], ◌∷◌, length, map, slice_get, Option, Some, None, IfSome}
-use Rattle.tz_base.specs.LocalTypes.{LocalType, plain_type}
-use Rattle.tz_base.specs.declared.error.Error.{Error}
-use Rattle.tz_base.specs.declared.error.Error.TheVariants.{FindLocalTimeType, TimeZone}
+use Rattle.tz_base.specs.{LocalTypes.{LocalType, plain_type}, declared.error.Error.{Error, TheVariants.{FindLocalTimeType, TimeZone}}}
 use Rattle.tz_base.specs.declared.error.Expected.TheVariants.{AtLeastOneLocalTimeType, LeapSecondsInOrder, LeapTimeOf64Bits, RuleThatAgreesWithLastTransition}
 use Rattle.tz_base.specs.declared.error.Expected.TheVariants.{TransitionTimesThatRise, TypeIndexesWithinTypes, YearThatRuleAnswersIn}
-use Rattle.tz_info.specs.Leaps.{AreLeapSeconds, IsLeapTime, IsLeapTimeRefused, IsUnixTime}
-use Rattle.tz_info.specs.Lists.{last_else}
-use Rattle.tz_info.specs.RuleTypes.{RuleAt, IsRuleRefused, IsRule}
-use Rattle.tz_info.specs.Transitions.{NameTypes, AreRising, AreTransitions, passed}
-use Rattle.tz_info.specs.declared.rule.transition_rule.TransitionRule.{TransitionRule}
-use Rattle.tz_info.specs.declared.zone.lists.leap_second.LeapSecond.{LeapSecond}
-use Rattle.tz_info.specs.declared.zone.lists.transition.Transition.{Transition}
+use Rattle.tz_info.specs.{Leaps.{AreLeapSeconds, IsLeapTime, IsLeapTimeRefused, IsUnixTime}, Lists.{last_else}, RuleTypes.{RuleAt, IsRuleRefused, IsRule}}
+use Rattle.tz_info.specs.{Transitions.{NameTypes, AreRising, AreTransitions, passed}, declared.rule.transition_rule.TransitionRule.{TransitionRule}}
+use Rattle.tz_info.specs.declared.zone.lists.{leap_second.LeapSecond.{LeapSecond}, transition.Transition.{Transition}}
 
 -- what a zone shows: its transitions, its types of local time, its leap seconds, and the rule of its TZ string if it has one
 pub record Zone : Type 0 where

@@ -1,13 +1,9 @@
 -- The amount of daylight saving time in force. A zone says whether it is daylight saving time, not how much: the amount follows from
 -- standard time before and after. If that leaves two amounts, the next use of the same type decides, or else what is usual.
-use Rattle.std.specs.Prelude.{ℤ, pos, ◌≡◌, ◌≢◌, ◌≤ℤ◌, ◌<ℤ◌, ◌⊎◌, int_lt, ◌&&◌, if◌then◌else◌, true, false, Option, Some, None}
-use Rattle.std.specs.Ordering.{int_eq}
-use Rattle.tz_base.specs.LocalTypes.{LocalType}
-use Rattle.tz_base.specs.declared.change.Change.{Change}
-use Rattle.tz_info.specs.Changes.{IsChange}
-use Rattle.tz_info.specs.declared.rule.transition_rule.TransitionRule.{TransitionRule}
-use Rattle.tz_saving.specs.Candidates.{AreCandidates, IsOnly}
-use Rattle.tz_saving.specs.Reach.{IsWithinReach}
+use Rattle.std.specs.{Prelude.{ℤ, pos, ◌≡◌, ◌≢◌, ◌≤ℤ◌, ◌<ℤ◌, ◌⊎◌, int_lt, ◌&&◌, if◌then◌else◌, true, false, Option, Some, None}, Ordering.{int_eq}}
+use Rattle.tz_base.specs.{LocalTypes.{LocalType}, declared.change.Change.{Change}}
+use Rattle.tz_info.specs.{Changes.{IsChange}, declared.rule.transition_rule.TransitionRule.{TransitionRule}}
+use Rattle.tz_saving.specs.{Candidates.{AreCandidates, IsOnly}, Reach.{IsWithinReach}}
 
 -- the first change after u to the type t, if that is within reach
 pub record IsNextUse (in_force : ℤ → LocalType → Type 0) (t : LocalType) (u : ℤ) (c : Change) : Type 0 where

@@ -1,7 +1,6 @@
 -- How many clock changes away standard time, or the next use of a type, may be.
 use Rattle.std.specs.Prelude.{ℕ, zero, suc, ℤ, pos, ◌-ℤ◌, ◌≤ℤ◌, ◌<ℤ◌, ⊤}
-use Rattle.tz_base.specs.LocalTypes.{LocalType}
-use Rattle.tz_base.specs.declared.change.Change.{Change}
+use Rattle.tz_base.specs.{LocalTypes.{LocalType}, declared.change.Change.{Change}}
 use Rattle.tz_info.specs.Changes.{IsChange}
 
 -- at least n clock changes come after the second `from` and no later than `to`

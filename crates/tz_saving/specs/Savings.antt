@@ -2,8 +2,7 @@
 use Rattle.std.specs.Prelude.{ℤ, ◌≡◌, ◌-ℤ◌}
 use Rattle.tz_base.specs.LocalTypes.{LocalType}
 use Rattle.tz_info.specs.Zones.{Zone, TypeAt}
-use Rattle.tz_saving.specs.Amounts.{IsAmount}
-use Rattle.tz_saving.specs.declared.saving.Saving.{Saving}
+use Rattle.tz_saving.specs.{Amounts.{IsAmount}, declared.saving.Saving.{Saving}}
 
 -- the amount in force at the second u, and the offset without it
 pub record IsSavingAt (z : Zone) (u : ℤ) (s : Saving) : Type 0 where

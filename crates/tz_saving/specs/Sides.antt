@@ -1,9 +1,7 @@
 -- Standard time on both sides of a second, within reach.
-use Rattle.std.specs.Prelude.{ℤ, ◌≡◌, ◌≤ℤ◌, ◌<ℤ◌, FitsSigned, false, Option, Some, None, MatchOption}
-use Rattle.std.specs.Int.{w64}
+use Rattle.std.specs.{Prelude.{ℤ, ◌≡◌, ◌≤ℤ◌, ◌<ℤ◌, FitsSigned, false, Option, Some, None, MatchOption}, Int.{w64}}
 use Rattle.tz_base.specs.LocalTypes.{LocalType}
-use Rattle.tz_info.specs.declared.rule.transition_rule.TransitionRule.{TransitionRule}
-use Rattle.tz_info.specs.declared.rule.transition_rule.TransitionRule.TheVariants.{Fixed, Alternate}
+use Rattle.tz_info.specs.declared.rule.transition_rule.TransitionRule.{TransitionRule, TheVariants.{Fixed, Alternate}}
 use Rattle.tz_saving.specs.Reach.{IsWithinReach}
 
 -- the second v of 64 bits is standard: a type of that offset is in force, without the DST flag

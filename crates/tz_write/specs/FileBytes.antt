@@ -1,15 +1,9 @@
 -- The bytes of a TZif file (RFC 8536 section 3), laid as small as the section lets them be: no indicators, and before the block that
 -- says the zone a first one with the least counts.
-use Rattle.std.specs.Prelude.{ℕ, ℤ, Bool, if◌then◌else◌, List, [], ◌∷◌, ◌++◌, length}
-use Rattle.std.specs.Int.{Width, w32, w64, to_be_bytes, cast_unsigned}
-use Rattle.std.specs.List.{flat_map}
+use Rattle.std.specs.{Prelude.{ℕ, ℤ, Bool, if◌then◌else◌, List, [], ◌∷◌, ◌++◌, length}, Int.{Width, w32, w64, to_be_bytes, cast_unsigned}, List.{flat_map}}
 use Rattle.tz_base.specs.LocalTypes.{LocalType}
-use Rattle.tz_info.specs.FileBlocks.{Parts}
-use Rattle.tz_info.specs.FileHeaders.{magic}
-use Rattle.tz_info.specs.Zones.{Zone}
-use Rattle.tz_info.specs.declared.file.header.Counts.{Counts}
-use Rattle.tz_info.specs.declared.zone.lists.leap_second.LeapSecond.{LeapSecond}
-use Rattle.tz_info.specs.declared.zone.lists.transition.Transition.{Transition}
+use Rattle.tz_info.specs.{FileBlocks.{Parts}, FileHeaders.{magic}, Zones.{Zone}, declared.file.header.Counts.{Counts}}
+use Rattle.tz_info.specs.declared.zone.lists.{leap_second.LeapSecond.{LeapSecond}, transition.Transition.{Transition}}
 use Rattle.tz_write.specs.FileDesignations.{name_of, place_of}
 
 -- ---- numbers, the highest byte first

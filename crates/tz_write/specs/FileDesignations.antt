@@ -1,7 +1,6 @@
 -- The designations of a TZif file (RFC 8536 section 3.2): texts that each end before a 0 byte, and the place at which the text of a type begins.
 use Rattle.std.specs.Prelude.{ℕ, suc, ◌<◌, ◌≤◌, Bool, ◌&&◌, ◌==◌, nat_lt, if◌then◌else◌, List, [], ◌∷◌, length, slice_index, All, Option, Some, None}
-use Rattle.std.specs.Bool.{nat_eq}
-use Rattle.std.specs.List.{starts_with}
+use Rattle.std.specs.{Bool.{nat_eq}, List.{starts_with}}
 use Rattle.tz_base.specs.LocalTypes.{LocalType}
 use Rattle.tz_info.specs.FileContents.{StandsAt}
 

@@ -1,8 +1,7 @@
 -- The order of the names in the designations that are written (RFC 8536 section 3.2 leaves it open): the longest first, those of one
 -- length in the order of their types, and none that is there already, even as the end of a longer one. If a name would begin past byte
 -- 255 then, another one is put last.
-use Rattle.std.specs.Prelude.{ℕ, ◌≡◌, ◌<◌, ◌≤◌, ◌+◌, Bool, ◌&&◌, ◌==◌, nat_lt, not, if◌then◌else◌, List, [], ◌∷◌, ◌++◌, length, drop, All}
-use Rattle.std.specs.Bool.{nat_eq}
+use Rattle.std.specs.{Prelude.{ℕ, ◌≡◌, ◌<◌, ◌≤◌, ◌+◌, Bool, ◌&&◌, ◌==◌, nat_lt, not, if◌then◌else◌, List, [], ◌∷◌, ◌++◌, length, drop, All}, Bool.{nat_eq}}
 use Rattle.std.specs.List.{fold, ends_with}
 use Rattle.tz_base.specs.LocalTypes.{LocalType}
 use Rattle.tz_write.specs.FileDesignations.{name_of, place_of, place_limit}

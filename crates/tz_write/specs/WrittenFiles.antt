@@ -1,16 +1,9 @@
 -- Which zones are written as files, and what is written.
-use Rattle.std.specs.Prelude.{ℕ, ◌≡◌, ◌<◌, ◌^◌, Bool, false, List, [], length, slice_index, All, FitsSigned, Option, Some, None}
-use Rattle.std.specs.Int.{w32, w64}
-use Rattle.tz_base.specs.LocalTypes.{LocalType, IsUtOffset}
-use Rattle.tz_base.specs.Names.{IsNameOrNone}
-use Rattle.tz_info.specs.TzFiles.{IsTzFile}
-use Rattle.tz_info.specs.Zones.{Zone}
-use Rattle.tz_info.specs.declared.rule.transition_rule.TransitionRule.{TransitionRule}
-use Rattle.tz_info.specs.declared.zone.lists.leap_second.LeapSecond.{LeapSecond}
-use Rattle.tz_info.specs.declared.zone.lists.transition.Transition.{Transition}
-use Rattle.tz_write.specs.FileBytes.{version_byte, file_bytes}
-use Rattle.tz_write.specs.FileDesignations.{AreNamesIn, AreShortest}
-use Rattle.tz_write.specs.FileLayouts.{IsLaid}
+use Rattle.std.specs.{Prelude.{ℕ, ◌≡◌, ◌<◌, ◌^◌, Bool, false, List, [], length, slice_index, All, FitsSigned, Option, Some, None}, Int.{w32, w64}}
+use Rattle.tz_base.specs.{LocalTypes.{LocalType, IsUtOffset}, Names.{IsNameOrNone}}
+use Rattle.tz_info.specs.{TzFiles.{IsTzFile}, Zones.{Zone}, declared.rule.transition_rule.TransitionRule.{TransitionRule}}
+use Rattle.tz_info.specs.declared.zone.lists.{leap_second.LeapSecond.{LeapSecond}, transition.Transition.{Transition}}
+use Rattle.tz_write.specs.{FileBytes.{version_byte, file_bytes}, FileDesignations.{AreNamesIn, AreShortest}, FileLayouts.{IsLaid}}
 use Rattle.tz_write.specs.WrittenTexts.{CanBeSpelled, AreTimesOf, IsWrittenText}
 
 -- a number of four bytes

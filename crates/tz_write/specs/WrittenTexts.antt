@@ -2,13 +2,8 @@
 -- has the extensions).
 use Rattle.std.specs.Prelude.{ℕ, ◌≡◌, ◌<◌, ◌⊎◌, ℤ, pos, ◌≤ℤ◌, ◌<ℤ◌, Bool, true, false, List, [], ◌∷◌, length, Option, Some, None}
 use Rattle.offset_core.specs.Offset.{IsWithinDay}
-use Rattle.tz_base.specs.Fronts.{is_digit, NoneFirst}
-use Rattle.tz_base.specs.LocalTypes.{LocalType, plain_type}
-use Rattle.tz_base.specs.Names.{IsName}
-use Rattle.tz_info.specs.PosixZones.{types_of, IsPosixZone}
-use Rattle.tz_info.specs.Rules.{IsWithinWeek}
-use Rattle.tz_info.specs.TzGrammar.{colon, IsTzText}
-use Rattle.tz_info.specs.Zones.{Zone}
+use Rattle.tz_base.specs.{Fronts.{is_digit, NoneFirst}, LocalTypes.{LocalType, plain_type}, Names.{IsName}}
+use Rattle.tz_info.specs.{PosixZones.{types_of, IsPosixZone}, Rules.{IsWithinWeek}, TzGrammar.{colon, IsTzText}, Zones.{Zone}}
 use Rattle.tz_info.specs.declared.rule.transition_rule.TransitionRule.{TransitionRule}
 use Rattle.tz_info.specs.declared.rule.transition_rule.TransitionRule.TheVariants as rules
 

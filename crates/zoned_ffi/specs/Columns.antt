@@ -1,18 +1,13 @@
 -- Columns: instants as local times, and local times as instants, counted in a unit.
-use Rattle.std.specs.Prelude.{ℕ, ℤ, ◌≡◌, ◌≢◌, ◌⊎◌, ◌-ℤ◌, ◌*ℤ◌, ◌<◌, ◌≤◌, pos, List, drop, length, take, slice_index_or}
-use Rattle.std.specs.List.{AllZip}
+use Rattle.std.specs.{Prelude.{ℕ, ℤ, ◌≡◌, ◌≢◌, ◌⊎◌, ◌-ℤ◌, ◌*ℤ◌, ◌<◌, ◌≤◌, pos, List, drop, length, take, slice_index_or}, List.{AllZip}}
 use Rattle.gregorian.specs.Year.{floor_div}
 use Rattle.naive_base.specs.Range.{IsInRange}
 use Rattle.tz_base.specs.LocalTypes.{LocalType}
 use Rattle.tz_info.specs.Zones.{Zone}
-use Rattle.zoned_ffi.specs.Resolved.{IsNoneTaken, IsTakenGapEnd, IsTakenType}
-use Rattle.zoned_ffi.specs.WholeSeconds.{IsFound, IsNotFound}
-use Rattle.zoned_ffi.specs.Units.{IsCounted, IsLocal, IsWithout, no_time, per_second}
-use Rattle.zoned_ffi.specs.declared.choice.Choice.{Choice}
-use Rattle.zoned_ffi.specs.declared.column.Way.{Way}
-use Rattle.zoned_ffi.specs.declared.column.Way.TheVariants as ways
-use Rattle.zoned_ffi.specs.declared.unit.Unit.{Unit}
+use Rattle.zoned_ffi.specs.{Resolved.{IsNoneTaken, IsTakenGapEnd, IsTakenType}, WholeSeconds.{IsFound, IsNotFound}}
+use Rattle.zoned_ffi.specs.{Units.{IsCounted, IsLocal, IsWithout, no_time, per_second}, declared.{choice.Choice.{Choice}, column.Way.{Way}, unit.Unit.{Unit}}}
 use Rattle.zoned_ffi.specs.declared.whole_second.WholeSecond.{WholeSecond}
+use Rattle.zoned_ffi.specs.declared.column.Way.TheVariants as ways
 
 -- the second that a time lies in
 abbrev pub second_holding : Unit → ℤ → ℤ

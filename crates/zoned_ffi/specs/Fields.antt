@@ -1,10 +1,7 @@
 -- Dates and times of day as fields.
 use Rattle.std.specs.Prelude.{ℕ, ℤ, ◌≡◌, ◌+ℤ◌, ◌*ℤ◌, pos}
-use Rattle.gregorian.specs.Date.{IsDate, day_number}
-use Rattle.gregorian.specs.Weekdays.{weekday_of}
-use Rattle.gregorian.specs.Year.{year_start}
-use Rattle.naive_base.specs.Clock.{IsClock, clock_second}
-use Rattle.naive_base.specs.Range.{IsInRange}
+use Rattle.gregorian.specs.{Date.{IsDate, day_number}, Weekdays.{weekday_of}, Year.{year_start}}
+use Rattle.naive_base.specs.{Clock.{IsClock, clock_second}, Range.{IsInRange}}
 use Rattle.tz_base.specs.LocalTypes.{LocalType}
 use Rattle.tz_info.specs.Zones.{Zone, TypeAt, IsTypeRefused}
 use Rattle.zoned_ffi.specs.declared.fields.Fields.{Fields}

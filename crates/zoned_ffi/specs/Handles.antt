@@ -1,13 +1,8 @@
 -- The zone that a handle has open, and why a question by a handle is refused.
-use Rattle.std.specs.Prelude.{ℕ, ◌≡◌, ◌≢◌, ◌⊎◌}
-use Rattle.std.specs.Arc.{arc_value}
-use Rattle.std.specs.declared.alloc.Global.{Global}
-use Rattle.std.specs.declared.option.Option.{Option}
-use Rattle.std.specs.declared.option.Option.TheVariants.{None, Some}
+use Rattle.std.specs.{Prelude.{ℕ, ◌≡◌, ◌≢◌, ◌⊎◌}, Arc.{arc_value}, declared.{alloc.Global.{Global}, option.Option.{Option, TheVariants.{None, Some}}}}
 use Rattle.std.specs.declared.sync.Arc.{Arc}
 use Rattle.tz_info.specs.Zones.{Zone}
-use Rattle.zoned_ffi.specs.declared.handle.Handle.{Handle}
-use Rattle.zoned_ffi.specs.declared.lent.Lent.{Lent}
+use Rattle.zoned_ffi.specs.declared.{handle.Handle.{Handle}, lent.Lent.{Lent}}
 
 -- the zone of a share
 abbrev pub shared_zone : Option (Arc Zone Global) → Option Zone

@@ -1,6 +1,5 @@
 -- What is written for instants.
-use Rattle.std.specs.Prelude.{ℤ, ◌≡◌, ◌⊎◌, pos, neg_ℤ, List}
-use Rattle.std.specs.List.{AllZip}
+use Rattle.std.specs.{Prelude.{ℤ, ◌≡◌, ◌⊎◌, pos, neg_ℤ, List}, List.{AllZip}}
 use Rattle.tz_base.specs.LocalTypes.{LocalType, IsUtOffset}
 use Rattle.tz_info.specs.Zones.{Zone, TypeAt, IsTypeRefused}
 

@@ -1,9 +1,6 @@
 -- How bytes are read, by the number of a kind, and the zones that they spell then.
-use Rattle.std.specs.Prelude.{ℕ, ◌≡◌, List}
-use Rattle.std.specs.Str.{IsUtf8}
-use Rattle.tz_info.specs.PosixZones.{IsPosixZone, IsExtendedZone}
-use Rattle.tz_info.specs.TzFiles.{IsTzFile}
-use Rattle.tz_info.specs.Zones.{Zone, IsValid}
+use Rattle.std.specs.{Prelude.{ℕ, ◌≡◌, List}, Str.{IsUtf8}}
+use Rattle.tz_info.specs.{PosixZones.{IsPosixZone, IsExtendedZone}, TzFiles.{IsTzFile}, Zones.{Zone, IsValid}}
 use Rattle.zoned_ffi.specs.declared.kind.Kind.{Kind}
 use Rattle.zoned_ffi.specs.declared.kind.Kind.TheVariants as kinds
 

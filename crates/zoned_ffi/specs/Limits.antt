@@ -1,7 +1,6 @@
 -- Files that are above the limits of a caller.
 use Rattle.std.specs.Prelude.{ℕ, ◌≡◌, ◌<◌, ◌⊎◌, List}
-use Rattle.tz_info.specs.FilePieces.{HasCounts}
-use Rattle.tz_info.specs.declared.file.counts.FileCounts.{FileCounts}
+use Rattle.tz_info.specs.{FilePieces.{HasCounts}, declared.file.counts.FileCounts.{FileCounts}}
 use Rattle.zoned_ffi.specs.Kinds.{kind_number}
 use Rattle.zoned_ffi.specs.declared.kind.Kind.TheVariants as kinds
 

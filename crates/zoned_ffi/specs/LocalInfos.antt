@@ -1,13 +1,9 @@
 -- What is written of a local time: how often clocks show it, and the spans around.
 use Rattle.std.specs.Prelude.{ℤ, ◌≡◌, ◌-ℤ◌, pos}
 use Rattle.offset_core.specs.WallAnswer.{IsShownBetween, IsShownOnce}
-use Rattle.tz_base.specs.LocalTypes.{LocalType}
-use Rattle.tz_base.specs.declared.change.Change.{Change}
-use Rattle.tz_info.specs.Around.{Skips}
-use Rattle.tz_info.specs.WallClocks.{Shows}
-use Rattle.tz_info.specs.Zones.{Zone, TypeAt}
-use Rattle.zoned_ffi.specs.WrittenSpans.{IsWrittenSpanAt}
-use Rattle.zoned_ffi.specs.declared.local_info.WrittenLocalInfo.{WrittenLocalInfo}
+use Rattle.tz_base.specs.{LocalTypes.{LocalType}, declared.change.Change.{Change}}
+use Rattle.tz_info.specs.{Around.{Skips}, WallClocks.{Shows}, Zones.{Zone, TypeAt}}
+use Rattle.zoned_ffi.specs.{WrittenSpans.{IsWrittenSpanAt}, declared.local_info.WrittenLocalInfo.{WrittenLocalInfo}}
 
 -- One second shows the local time, by 1, and both spans are that of this second. Or several do, by 2: the spans are those of the first and
 -- the last of them. Or none does, by 0: the spans are that of the second before the change which skips it, and that of the change.

@@ -5,14 +5,10 @@ use base.Fml.{Fml, Share, ftrue, fex, fsep, flft}
 use denote.RattleType.{RattleType}
 use denote.RawPtr.{Ptr, null_ptr, Testable}
 use denote.Struct.Lending.{lent_at}
-use Rattle.std.specs.Prelude.{◌≡◌, ℕ, [], ◌∷◌}
-use Rattle.std.specs.Box.Ownership.{box_owns}
+use Rattle.std.specs.{Prelude.{◌≡◌, ℕ, [], ◌∷◌}, Box.Ownership.{box_owns}, contracts.impls.GlobalAllocator.TheImpl.{ghosts}, declared.alloc.Global.{Global}}
+use Rattle.std.specs.declared.option.Option.{Option, TheVariants.{None, Some}}
 use Rattle.std.specs.contracts.alloc.Global as heap
-use Rattle.std.specs.contracts.impls.GlobalAllocator.TheImpl.{ghosts}
 use Rattle.std.specs.contracts.sync.Arc as arc
-use Rattle.std.specs.declared.alloc.Global.{Global}
-use Rattle.std.specs.declared.option.Option.{Option}
-use Rattle.std.specs.declared.option.Option.TheVariants.{None, Some}
 use Rattle.tz_info.specs.contracts.zone.time_zone.TimeZone as zone
 
 -- a share of a zone, as it lies in memory

@@ -1,19 +1,11 @@
 -- Why a call is refused, by the number that it returns.
-use Rattle.std.specs.Prelude.{ℕ, ◌≡◌, ◌≤◌, ◌⊎◌, List, true}
-use Rattle.std.specs.Str.{IsUtf8}
-use Rattle.tz_base.specs.Errors.{error_number}
-use Rattle.tz_base.specs.declared.error.Error.{Error}
+use Rattle.std.specs.{Prelude.{ℕ, ◌≡◌, ◌≤◌, ◌⊎◌, List, true}, Str.{IsUtf8}}
+use Rattle.tz_base.specs.{Errors.{error_number}, declared.error.{Error.{Error}, Expected.{Expected}}}
+use Rattle.tz_info.specs.{PosixZones.{IsPosixZone, IsPosixFault, IsExtendedZone}, TzFiles.{IsZoneFault}, TzGrammar.{IsTextFault}, Zones.{Zone}}
+use Rattle.zoned_ffi.specs.{Kinds.{IsKind, kind_number}, declared.{kind.Kind.{Kind}, refusal.Refusal.{Refusal}}}
 use Rattle.tz_base.specs.declared.error.Error.TheVariants as errors
-use Rattle.tz_base.specs.declared.error.Expected.{Expected}
 use Rattle.tz_base.specs.declared.error.Expected.TheVariants as expected
-use Rattle.tz_info.specs.PosixZones.{IsPosixZone, IsPosixFault, IsExtendedZone}
-use Rattle.tz_info.specs.TzFiles.{IsZoneFault}
-use Rattle.tz_info.specs.TzGrammar.{IsTextFault}
-use Rattle.tz_info.specs.Zones.{Zone}
-use Rattle.zoned_ffi.specs.Kinds.{IsKind, kind_number}
-use Rattle.zoned_ffi.specs.declared.kind.Kind.{Kind}
 use Rattle.zoned_ffi.specs.declared.kind.Kind.TheVariants as kinds
-use Rattle.zoned_ffi.specs.declared.refusal.Refusal.{Refusal}
 use Rattle.zoned_ffi.specs.declared.refusal.Refusal.TheVariants as refusals
 
 -- what is wrong with lists that make no zone has a number of its own; each other error keeps its number

@@ -1,28 +1,16 @@
 -- The instants that a choice takes for local times that clocks show never, once or several times.
-use Rattle.std.specs.Prelude.{ℕ, ℤ, ◌≡◌, ◌-ℤ◌, pos, List, Result, Ok, Err}
-use Rattle.std.specs.List.{AllZip}
+use Rattle.std.specs.{Prelude.{ℕ, ℤ, ◌≡◌, ◌-ℤ◌, pos, List, Result, Ok, Err}, List.{AllZip}}
 use Rattle.naive_base.specs.Range.{IsInRange}
-use Rattle.offset_core.specs.Around.{Takes}
-use Rattle.offset_core.specs.ResolveNumbers.{resolve_error_number}
-use Rattle.offset_core.specs.declared.around.Taken.{Taken}
-use Rattle.offset_core.specs.declared.around.Taken.TheVariants.{Shown, InGap}
+use Rattle.offset_core.specs.{Around.{Takes}, ResolveNumbers.{resolve_error_number}, declared.around.Taken.{Taken, TheVariants.{Shown, InGap}}}
+use Rattle.offset_core.specs.declared.{choice.FoldChoice.{FoldChoice}, resolve_error.ResolveError.{ResolveError}}
+use Rattle.tz_base.specs.{LocalTypes.{LocalType}, declared.change.Change.{Change}}
+use Rattle.tz_info.specs.{Around.{Skips}, ShownSeconds.{IsFirstAtOrAfter}, WallClocks.{Shows}, Zones.{Zone, TypeAt}}
+use Rattle.zoned_ffi.specs.{Instants.{IsWrittenOffsetAt}, declared.{choice.{Choice.{Choice}, ChoiceInGap.{ChoiceInGap}}, resolved.Resolved.{Resolved}}}
 use Rattle.offset_core.specs.declared.choice.Choice as any_choice
-use Rattle.offset_core.specs.declared.choice.FoldChoice.{FoldChoice}
 use Rattle.offset_core.specs.declared.choice.FoldChoice.TheVariants as folds
 use Rattle.offset_core.specs.declared.choice.GapChoice as any_gap
 use Rattle.offset_core.specs.declared.choice.GapChoice.TheVariants as any_gaps
-use Rattle.offset_core.specs.declared.resolve_error.ResolveError.{ResolveError}
-use Rattle.tz_base.specs.LocalTypes.{LocalType}
-use Rattle.tz_base.specs.declared.change.Change.{Change}
-use Rattle.tz_info.specs.Around.{Skips}
-use Rattle.tz_info.specs.ShownSeconds.{IsFirstAtOrAfter}
-use Rattle.tz_info.specs.WallClocks.{Shows}
-use Rattle.tz_info.specs.Zones.{Zone, TypeAt}
-use Rattle.zoned_ffi.specs.Instants.{IsWrittenOffsetAt}
-use Rattle.zoned_ffi.specs.declared.choice.Choice.{Choice}
-use Rattle.zoned_ffi.specs.declared.choice.ChoiceInGap.{ChoiceInGap}
 use Rattle.zoned_ffi.specs.declared.choice.ChoiceInGap.TheVariants as gaps
-use Rattle.zoned_ffi.specs.declared.resolved.Resolved.{Resolved}
 
 abbrev pub gap_number : ChoiceInGap → ℕ
 gap_number gaps.Refuse = 0

@@ -1,10 +1,8 @@
 -- Units of time, and local times counted in them.
-use Rattle.std.specs.Prelude.{ℕ, ℤ, ◌≡◌, ◌≢◌, ◌+ℤ◌, ◌*ℤ◌, ◌≤ℤ◌, ◌<ℤ◌, pos, neg_ℤ, FitsSigned}
-use Rattle.std.specs.Int.{w64}
+use Rattle.std.specs.{Prelude.{ℕ, ℤ, ◌≡◌, ◌≢◌, ◌+ℤ◌, ◌*ℤ◌, ◌≤ℤ◌, ◌<ℤ◌, pos, neg_ℤ, FitsSigned}, Int.{w64}}
 use Rattle.gregorian.specs.Year.{floor_div}
 use Rattle.tz_base.specs.LocalTypes.{LocalType}
-use Rattle.tz_info.specs.Zones.{Zone, TypeAt, IsTypeRefused}
-use Rattle.tz_info.specs.declared.zone.ask.offset_stretch.OffsetStretch.{OffsetStretch}
+use Rattle.tz_info.specs.{Zones.{Zone, TypeAt, IsTypeRefused}, declared.zone.ask.offset_stretch.OffsetStretch.{OffsetStretch}}
 use Rattle.zoned_ffi.specs.declared.unit.Unit.{Unit}
 use Rattle.zoned_ffi.specs.declared.unit.Unit.TheVariants as units
 

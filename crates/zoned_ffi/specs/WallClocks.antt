@@ -1,13 +1,9 @@
 -- What is written for wall clocks.
-use Rattle.std.specs.Prelude.{ℤ, ◌≡◌, ◌⊎◌, pos, List}
-use Rattle.std.specs.List.{AllZip}
+use Rattle.std.specs.{Prelude.{ℤ, ◌≡◌, ◌⊎◌, pos, List}, List.{AllZip}}
 use Rattle.naive_base.specs.Range.{IsInRange}
-use Rattle.offset_core.specs.WallAnswer.{IsWallAnswer}
-use Rattle.offset_core.specs.declared.local_result.LocalResult.{LocalResult}
-use Rattle.offset_core.specs.declared.local_result.LocalResult.TheVariants.{None, Single, Ambiguous}
+use Rattle.offset_core.specs.{WallAnswer.{IsWallAnswer}, declared.local_result.LocalResult.{LocalResult, TheVariants.{None, Single, Ambiguous}}}
 use Rattle.tz_base.specs.LocalTypes.{LocalType}
-use Rattle.tz_info.specs.WallClocks.{Shows}
-use Rattle.tz_info.specs.Zones.{Zone, TypeAt}
+use Rattle.tz_info.specs.{WallClocks.{Shows}, Zones.{Zone, TypeAt}}
 use Rattle.zoned_ffi.specs.declared.local_result.WrittenLocalResult.{WrittenLocalResult}
 
 -- a clock of the zone shows the local time at the second u; the answer is that second and the offset in force then

@@ -1,20 +1,12 @@
 -- Whole seconds that are found for instants: the last local time that clocks have shown, and where steps of the local clock begin.
 use Rattle.std.specs.Prelude.{ℕ, ℤ, ◌≡◌, ◌+◌, ◌*ℤ◌, pos}
-use Rattle.naive_base.specs.Range.{IsInRange}
-use Rattle.naive_base.specs.Stamp.{of_secs}
-use Rattle.naive_base.specs.Weekday.{weekday_number}
-use Rattle.naive_plans.specs.ClockSteps.{BeginsStep}
-use Rattle.naive_plans.specs.declared.clock_step.ClockStep.{ClockStep}
-use Rattle.naive_plans.specs.declared.clock_step.ClockStep.TheVariants.{Day, Week, Month, Year, Part}
+use Rattle.naive_base.specs.{Range.{IsInRange}, Stamp.{of_secs}, Weekday.{weekday_number}}
+use Rattle.naive_plans.specs.{ClockSteps.{BeginsStep}, declared.clock_step.ClockStep.{ClockStep, TheVariants.{Day, Week, Month, Year, Part}}}
 use Rattle.tz_info.specs.Zones.{Zone}
 use Rattle.zoned_ref.specs.Offsets.{AreOffsetsOf, IsNarrow}
-use Rattle.zoned_time.specs.Days.{IsInDay}
-use Rattle.zoned_time.specs.Fires.{IsLastFire, IsNextFire, NoneFiresAfter, NoneFiresUntil}
-use Rattle.zoned_time.specs.Reached.{IsReachedAt}
+use Rattle.zoned_time.specs.{Days.{IsInDay}, Fires.{IsLastFire, IsNextFire, NoneFiresAfter, NoneFiresUntil}, Reached.{IsReachedAt}}
 use Rattle.zoned_time.specs.StepBounds.{AreStepBounds, IsStepOutOfRange}
-use Rattle.zoned_ffi.specs.declared.days.WrittenDay.{WrittenDay}
-use Rattle.zoned_ffi.specs.declared.whole_second.WholeSecond.{WholeSecond}
-use Rattle.zoned_ffi.specs.declared.whole_second.WholeSecond.TheVariants.{Reached, Floor, Ceil}
+use Rattle.zoned_ffi.specs.declared.{days.WrittenDay.{WrittenDay}, whole_second.WholeSecond.{WholeSecond, TheVariants.{Reached, Floor, Ceil}}}
 
 -- the number of a step: its seconds, if it is a part of a day; of a week 100,000 more than its weekday, 0 for Sunday
 abbrev pub step_number : ClockStep → ℕ

@@ -1,16 +1,11 @@
 -- What is written of changes of the clocks.
 use Rattle.std.specs.Prelude.{ℕ, ℤ, ◌≡◌, ◌⊎◌, ◌++◌, false, true, List, drop, length, map, take}
 use Rattle.naive_base.specs.Range.{IsInRange}
-use Rattle.tz_info.specs.Changes.{AreChanges, IsFirstChange, IsLastChange}
-use Rattle.offset_core.specs.WallAnswer.{IsShownOnce}
-use Rattle.tz_base.specs.LocalTypes.{LocalType}
-use Rattle.tz_info.specs.Folds.{SkipsOrRepeats}
-use Rattle.tz_info.specs.OffsetChanges.{IsNearestOffsetChange}
-use Rattle.tz_info.specs.WallClocks.{Shows}
+use Rattle.tz_info.specs.{Changes.{AreChanges, IsFirstChange, IsLastChange}, Folds.{SkipsOrRepeats}, OffsetChanges.{IsNearestOffsetChange}, WallClocks.{Shows}}
 use Rattle.tz_info.specs.Zones.{Zone, TypeAt}
-use Rattle.tz_base.specs.declared.change.Change.{Change}
-use Rattle.zoned_ffi.specs.WrittenTypes.{written_type}
-use Rattle.zoned_ffi.specs.declared.changes.WrittenChange.{WrittenChange}
+use Rattle.offset_core.specs.WallAnswer.{IsShownOnce}
+use Rattle.tz_base.specs.{LocalTypes.{LocalType}, declared.change.Change.{Change}}
+use Rattle.zoned_ffi.specs.{WrittenTypes.{written_type}, declared.changes.WrittenChange.{WrittenChange}}
 
 -- how a change is written
 abbrev pub written_change : Change → WrittenChange

@@ -1,8 +1,7 @@
 -- What is written of the standard offset and the amount of daylight saving time.
 use Rattle.std.specs.Prelude.{ℤ, ◌≡◌}
 use Rattle.tz_info.specs.Zones.{Zone}
-use Rattle.tz_saving.specs.Savings.{IsSavingAt}
-use Rattle.tz_saving.specs.declared.saving.Saving.{Saving}
+use Rattle.tz_saving.specs.{Savings.{IsSavingAt}, declared.saving.Saving.{Saving}}
 use Rattle.zoned_ffi.specs.declared.saving.WrittenSaving.{WrittenSaving}
 
 -- how they are written

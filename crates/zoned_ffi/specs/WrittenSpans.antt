@@ -1,10 +1,8 @@
 -- What is written of spans.
 use Rattle.std.specs.Prelude.{ℤ, ◌≡◌, pos, neg_ℤ, unwrap_or}
 use Rattle.tz_base.specs.declared.span.Span.{Span}
-use Rattle.tz_info.specs.Spans.{IsSpanAt}
-use Rattle.tz_info.specs.Zones.{Zone, TypeAt}
-use Rattle.zoned_ffi.specs.WrittenTypes.{written_type}
-use Rattle.zoned_ffi.specs.declared.span.WrittenSpan.{WrittenSpan}
+use Rattle.tz_info.specs.{Spans.{IsSpanAt}, Zones.{Zone, TypeAt}}
+use Rattle.zoned_ffi.specs.{WrittenTypes.{written_type}, declared.span.WrittenSpan.{WrittenSpan}}
 
 -- the least second of 64 bits, and the greatest
 abbrev pub least_second : ℤ

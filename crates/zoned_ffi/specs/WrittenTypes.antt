@@ -1,10 +1,8 @@
 -- What is written of local time types.
-use Rattle.std.specs.Prelude.{ℕ, ℤ, ◌≡◌, ◌⊎◌, pos, List, [], ◌∷◌, ◌++◌, drop, length, Bool, true, false, Option, Some, None}
-use Rattle.std.specs.List.{AllZip}
+use Rattle.std.specs.{Prelude.{ℕ, ℤ, ◌≡◌, ◌⊎◌, pos, List, [], ◌∷◌, ◌++◌, drop, length, Bool, true, false, Option, Some, None}, List.{AllZip}}
 use Rattle.tz_base.specs.LocalTypes.{LocalType}
 use Rattle.tz_info.specs.Zones.{Zone, TypeAt, IsTypeRefused}
-use Rattle.zoned_ffi.specs.Instants.{no_offset}
-use Rattle.zoned_ffi.specs.declared.local_type.WrittenType.{WrittenType}
+use Rattle.zoned_ffi.specs.{Instants.{no_offset}, declared.local_type.WrittenType.{WrittenType}}
 
 -- eight zero bytes
 abbrev pub zeros : List ℕ

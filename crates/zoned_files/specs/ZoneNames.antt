@@ -1,6 +1,5 @@
 -- The names of zones of the tz database, as paths below the folder with its files ("Names of timezones" in the database's file `theory.html`).
-use Rattle.std.specs.Prelude.{ℕ, ◌==◌, nat_le, Bool, true, false, ◌&&◌, ◌||◌, List, [], ◌∷◌, ◌++◌, if◌then◌else◌}
-use Rattle.std.specs.List.{list_all, slice_split}
+use Rattle.std.specs.{Prelude.{ℕ, ◌==◌, nat_le, Bool, true, false, ◌&&◌, ◌||◌, List, [], ◌∷◌, ◌++◌, if◌then◌else◌}, List.{list_all, slice_split}}
 
 -- a byte of a part of a name: a letter or a digit of ASCII, or one of `+`, `-`, `.` and `_`
 abbrev pub is_part_byte : ℕ → Bool

@@ -1,14 +1,10 @@
 -- The instants at which the clocks of a parsed zone show a local date-time.
 use Rattle.std.specs.Prelude.{ℤ, Option, Some as some, None as none}
-use Rattle.offset_core.specs.declared.local_result.LocalResult.{LocalResult}
-use Rattle.offset_core.specs.LocalResult.{map_of}
-use Rattle.offset_core.specs.WallAnswer.{IsWallAnswer}
+use Rattle.offset_core.specs.{declared.local_result.LocalResult.{LocalResult}, LocalResult.{map_of}, WallAnswer.{IsWallAnswer}}
 use Rattle.naive_base.specs.Reading.{Reading}
 use Rattle.tz_base.specs.LocalTypes.{LocalType}
-use Rattle.tz_info.specs.WallClocks.{Shows}
-use Rattle.tz_info.specs.Zones.{Zone, TypeAt}
-use Rattle.zoned_time.specs.Relocal.{AreInstantsOf}
-use Rattle.zoned_time.specs.Zoned.{Zoned}
+use Rattle.tz_info.specs.{WallClocks.{Shows}, Zones.{Zone, TypeAt}}
+use Rattle.zoned_time.specs.{Relocal.{AreInstantsOf}, Zoned.{Zoned}}
 use Rattle.zoned_ref.specs.Offsets.{IsNarrow}
 
 -- the types in force at the first and at the last second of 64 bits at which the clocks of the zone show l

@@ -1,9 +1,7 @@
 -- Why a zone isn't kept, and that it is given back.
 use Rattle.std.specs.Prelude.{◌≡◌}
 use Rattle.tz_info.specs.Zones.{Zone}
-use Rattle.zoned_ref.specs.Offsets.{IsNarrow}
-use Rattle.zoned_ref.specs.declared.keep_error.KeepError.{KeepError}
-use Rattle.zoned_ref.specs.declared.keep_error.KeepError.TheVariants.{WideZone, OutOfMemory}
+use Rattle.zoned_ref.specs.{Offsets.{IsNarrow}, declared.keep_error.KeepError.{KeepError, TheVariants.{WideZone, OutOfMemory}}}
 
 -- the zone that an error has
 abbrev pub given_back : KeepError → Zone

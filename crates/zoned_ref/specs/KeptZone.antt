@@ -2,14 +2,11 @@
 use Rattle.std.specs.Prelude.{ℤ}
 use Rattle.tz_base.specs.declared.change.Change.{Change}
 use Rattle.tz_info.specs.Zones.{Zone}
-use Rattle.zoned_time.specs.DateTime.{zoned}
-use Rattle.zoned_time.specs.Zone.{Law}
-use Rattle.zoned_ref.specs.TimeZoneRef as borrowed
-use Rattle.zoned_ref.specs.ZoneChange.{change_of_instants, AreAround}
-use Rattle.zoned_ref.specs.ZoneOffset.{meaning_of, type_of}
-use Rattle.zoned_ref.specs.ZoneOffset as offsets
-use Rattle.zoned_ref.specs.declared.kept_change.KeptChange.{KeptChange}
+use Rattle.zoned_time.specs.{DateTime.{zoned}, Zone.{Law}}
+use Rattle.zoned_ref.specs.{ZoneChange.{change_of_instants, AreAround}, ZoneOffset.{meaning_of, type_of}, declared.kept_change.KeptChange.{KeptChange}}
 use Rattle.zoned_ref.specs.declared.kept_zone.KeptZone.{KeptZone}
+use Rattle.zoned_ref.specs.TimeZoneRef as borrowed
+use Rattle.zoned_ref.specs.ZoneOffset as offsets
 
 -- the zone that it keeps
 abbrev pub zone_of : KeptZone → Zone

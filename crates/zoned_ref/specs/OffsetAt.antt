@@ -3,8 +3,7 @@
 use Rattle.std.specs.Prelude.{◌≡◌, ℤ, pos}
 use Rattle.tz_info.specs.Zones.{Zone}
 use Rattle.zoned_time.specs.Zone.{IsZoneSecond}
-use Rattle.zoned_ref.specs.Offsets.{HasOffset, HasOffsets}
-use Rattle.zoned_ref.specs.Steps.OffsetAt.{some_offset}
+use Rattle.zoned_ref.specs.{Offsets.{HasOffset, HasOffsets}, Steps.OffsetAt.{some_offset}}
 
 -- an offset with that property
 pub offset_with : (z : Zone) → ∥ HasOffsets z ∥₁ → (u : ℤ) → (k : ℤ) × (IsZoneSecond u → ∥ HasOffset z u k ∥₁) × (¬ (IsZoneSecond u) → k ≡ pos 0)

@@ -2,9 +2,7 @@
 use Rattle.std.specs.Prelude.{◌≡◌, ℤ, List, [], All, Option, Some, None}
 use Rattle.offset_core.specs.Offset.{IsWithinDay}
 use Rattle.tz_base.specs.LocalTypes.{LocalType}
-use Rattle.tz_info.specs.PosixZones.{types_of}
-use Rattle.tz_info.specs.Zones.{Zone, TypeAt}
-use Rattle.tz_info.specs.declared.rule.transition_rule.TransitionRule.{TransitionRule}
+use Rattle.tz_info.specs.{PosixZones.{types_of}, Zones.{Zone, TypeAt}, declared.rule.transition_rule.TransitionRule.{TransitionRule}}
 use Rattle.zoned_time.specs.Zone.{IsZoneSecond}
 
 -- the types of a zone's rule; none without a rule

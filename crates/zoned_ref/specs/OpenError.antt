@@ -1,12 +1,9 @@
 -- Why the bytes of a file give no kept zone.
 use Rattle.std.specs.Prelude.{ℕ, List}
+use Rattle.tz_info.specs.{TzFiles.{IsTzFile, IsZoneFault}, Zones.{Zone, IsValid}}
+use Rattle.zoned_ref.specs.{Offsets.{IsNarrow}, declared.keep_error.{KeepError.{KeepError}, OpenError.{OpenError}}}
 use Rattle.tz_base.specs.declared.error.Error.TheVariants as faults
-use Rattle.tz_info.specs.TzFiles.{IsTzFile, IsZoneFault}
-use Rattle.tz_info.specs.Zones.{Zone, IsValid}
-use Rattle.zoned_ref.specs.Offsets.{IsNarrow}
-use Rattle.zoned_ref.specs.declared.keep_error.KeepError.{KeepError}
 use Rattle.zoned_ref.specs.declared.keep_error.KeepError.TheVariants as kept
-use Rattle.zoned_ref.specs.declared.keep_error.OpenError.{OpenError}
 use Rattle.zoned_ref.specs.declared.keep_error.OpenError.TheVariants as why
 
 -- the bytes have that fault, or memory ran out; or they are the file of a valid zone that is wide

@@ -1,9 +1,8 @@
 -- What a `TimeZoneRef` shows.
 use Rattle.std.specs.Prelude.{ℤ, ◌++◌, length, slice_get, option_map}
-use Rattle.std.specs.Hash as fed
 use Rattle.tz_info.specs.Zones.{Zone}
-use Rattle.zoned_ref.specs.OffsetAt.{offset_at}
-use Rattle.zoned_ref.specs.declared.time_zone_ref.TimeZoneRef.{TimeZoneRef}
+use Rattle.zoned_ref.specs.{OffsetAt.{offset_at}, declared.time_zone_ref.TimeZoneRef.{TimeZoneRef}}
+use Rattle.std.specs.Hash as fed
 
 -- the zone that it borrows
 abbrev pub zone_of : TimeZoneRef → Zone

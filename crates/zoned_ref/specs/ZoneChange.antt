@@ -1,16 +1,10 @@
 -- When the clocks of a zone change, as instants.
 use Rattle.std.specs.Prelude.{◌≡◌, ℤ, pos, ◌-ℤ◌, ◌≤ℤ◌, ◌<ℤ◌}
-use Rattle.naive_base.specs.Range.{first_second, last_second, IsInRange}
-use Rattle.naive_base.specs.Stamp.{of_secs}
-use Rattle.tz_base.specs.LocalTypes.{LocalType}
+use Rattle.naive_base.specs.{Range.{first_second, last_second, IsInRange}, Stamp.{of_secs}}
+use Rattle.tz_base.specs.{LocalTypes.{LocalType}, declared.change.Change.{Change}}
 use Rattle.tz_info.specs.Zones.{Zone, TypeAt}
-use Rattle.tz_base.specs.declared.change.Change.{Change}
-use Rattle.zoned_time.specs.DateTime.{zoned}
-use Rattle.zoned_time.specs.Zone.{Meaning, Law}
-use Rattle.zoned_time.specs.Zoned.{Zoned, IsAt}
-use Rattle.zoned_ref.specs.ZoneOffset.{law_of, type_of}
-use Rattle.zoned_ref.specs.declared.time_zone_ref.TimeZoneRef.{TimeZoneRef}
-use Rattle.zoned_ref.specs.declared.zone_change.ZoneChange.{ZoneChange}
+use Rattle.zoned_time.specs.{DateTime.{zoned}, Zone.{Meaning, Law}, Zoned.{Zoned, IsAt}}
+use Rattle.zoned_ref.specs.{ZoneOffset.{law_of, type_of}, declared.{time_zone_ref.TimeZoneRef.{TimeZoneRef}, zone_change.ZoneChange.{ZoneChange}}}
 
 -- after the second s, up to the last second of the range
 abbrev pub IsAfter : ℤ → ℤ → Type 0

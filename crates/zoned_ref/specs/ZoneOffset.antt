@@ -3,9 +3,7 @@ use Rattle.std.specs.Prelude.{ℤ}
 use Rattle.tz_base.specs.LocalTypes.{LocalType}
 use Rattle.tz_info.specs.Zones.{TypeAt}
 use Rattle.zoned_time.specs.Zone.{Meaning, Law}
-use Rattle.zoned_ref.specs.TimeZoneRef.{zone_of, off_of}
-use Rattle.zoned_ref.specs.declared.time_zone_ref.TimeZoneRef.{TimeZoneRef}
-use Rattle.zoned_ref.specs.declared.zone_offset.ZoneOffset.{ZoneOffset}
+use Rattle.zoned_ref.specs.{TimeZoneRef.{zone_of, off_of}, declared.{time_zone_ref.TimeZoneRef.{TimeZoneRef}, zone_offset.ZoneOffset.{ZoneOffset}}}
 
 -- the type of local time that it is the offset of
 abbrev pub type_of : ZoneOffset → LocalType

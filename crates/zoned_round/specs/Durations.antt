@@ -1,12 +1,7 @@
 -- Values rounded to multiples of a length of time.
-use Rattle.std.specs.Prelude.{◌≡◌, ℕ, ℤ, pos, ◌-ℤ◌, ◌<ℤ◌, unsigned_abs, FitsSigned, Result, Ok, Err}
-use Rattle.std.specs.Int.{w64}
-use Rattle.naive_base.specs.declared.datetime.NaiveDateTime.{NaiveDateTime}
-use Rattle.naive_base.specs.NaiveDateTime.{reading}
-use Rattle.naive_base.specs.Reading.{moved}
-use Rattle.zoned_round.specs.declared.error.RoundingError.{RoundingError}
-use Rattle.zoned_round.specs.Errors.{IsRoundingFault}
-use Rattle.zoned_round.specs.Multiples.{IsItselfOr}
+use Rattle.std.specs.{Prelude.{◌≡◌, ℕ, ℤ, pos, ◌-ℤ◌, ◌<ℤ◌, unsigned_abs, FitsSigned, Result, Ok, Err}, Int.{w64}}
+use Rattle.naive_base.specs.{declared.datetime.NaiveDateTime.{NaiveDateTime}, NaiveDateTime.{reading}, Reading.{moved}}
+use Rattle.zoned_round.specs.{declared.error.RoundingError.{RoundingError}, Errors.{IsRoundingFault}, Multiples.{IsItselfOr}}
 
 -- a span in nanoseconds
 abbrev pub IsRoundingLength : ℤ → Type 0

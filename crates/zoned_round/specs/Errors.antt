@@ -1,7 +1,6 @@
 -- Why a value is not rounded, and what the reasons print.
 use Rattle.std.specs.Prelude.{ℕ, List, codes}
-use Rattle.zoned_round.specs.declared.error.RoundingError.{RoundingError}
-use Rattle.zoned_round.specs.declared.error.RoundingError.TheVariants.{DurationExceedsTimestamp, DurationExceedsLimit, TimestampExceedsLimit}
+use Rattle.zoned_round.specs.declared.error.RoundingError.{RoundingError, TheVariants.{DurationExceedsTimestamp, DurationExceedsLimit, TimestampExceedsLimit}}
 
 -- The span's fault comes first, the stamp's only if the span has none.
 abbrev pub IsRoundingFault : Type 0 → Type 0 → RoundingError → Type 0

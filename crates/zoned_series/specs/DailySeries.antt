@@ -1,9 +1,6 @@
 -- What a `DailySeries` and its `DailyItems` show.
-use Rattle.naive_base.specs.NaiveDate.{day_of}
-use Rattle.naive_base.specs.NaiveTime.{second_of, fraction_of}
-use Rattle.zoned_series.specs.declared.items.DailyItems.{DailyItems}
-use Rattle.zoned_series.specs.declared.series.DailySeries.{DailySeries}
-use Rattle.zoned_series.specs.Series.{Series, Items}
+use Rattle.naive_base.specs.{NaiveDate.{day_of}, NaiveTime.{second_of, fraction_of}}
+use Rattle.zoned_series.specs.{declared.{items.DailyItems.{DailyItems}, series.DailySeries.{DailySeries}}, Series.{Series, Items}}
 
 -- the series that a `DailySeries` shows: its zone, first day, time of day and choice
 abbrev pub series_of : {Z : Type 0} → DailySeries Z → Series Z

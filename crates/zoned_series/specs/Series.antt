@@ -1,14 +1,9 @@
 -- A time of day on each day from a first one on, by the clocks of a zone, under a choice for gaps and folds.
 use Rattle.std.specs.Prelude.{◌≡◌, ℕ, ◌+◌, ◌-◌, ◌<◌, ◌≤◌, ℤ, pos, ◌+ℤ◌, ◌≤ℤ◌, Option, MatchOption, Result, MatchResult}
-use Rattle.offset_core.specs.declared.choice.Choice.{Choice}
-use Rattle.naive_base.specs.Range.{IsDayInRange}
-use Rattle.naive_base.specs.Reading.{Reading, reading_at}
-use Rattle.offset_core.specs.declared.resolve_error.ResolveError.{ResolveError}
-use Rattle.zoned_time.specs.Choice.{IsResolved, IsUnresolved}
-use Rattle.zoned_time.specs.Zone.{Meaning, Law}
-use Rattle.zoned_time.specs.Zoned.{Zoned}
-use Rattle.zoned_series.specs.declared.series_error.SeriesError.{SeriesError}
-use Rattle.zoned_series.specs.declared.series_error.SeriesError.TheVariants.{Date, Resolve}
+use Rattle.offset_core.specs.declared.{choice.Choice.{Choice}, resolve_error.ResolveError.{ResolveError}}
+use Rattle.naive_base.specs.{Range.{IsDayInRange}, Reading.{Reading, reading_at}}
+use Rattle.zoned_time.specs.{Choice.{IsResolved, IsUnresolved}, Zone.{Meaning, Law}, Zoned.{Zoned}}
+use Rattle.zoned_series.specs.declared.series_error.SeriesError.{SeriesError, TheVariants.{Date, Resolve}}
 
 -- days are day numbers, counted from 1970-01-01; second and fraction are those of the time of day
 pub record Series (Z : Type 0) : Type 0 where

@@ -1,19 +1,11 @@
 -- What is taken for a wall clock that clocks show never, once or several times. Seconds count from 1970-01-01 00:00:00.
 use Rattle.std.specs.Prelude.{◌≡◌, ℤ, pos, ◌+ℤ◌, ◌-ℤ◌, ◌≤ℤ◌, ◌<ℤ◌, Option, Some, None, Ok, Err}
-use Rattle.offset_core.specs.declared.choice.Choice.{Choice}
-use Rattle.offset_core.specs.Around.{Takes}
-use Rattle.offset_core.specs.WallAnswer.{IsNeverShown}
-use Rattle.offset_core.specs.declared.around.Around.{Around}
-use Rattle.offset_core.specs.declared.around.Around.TheVariants.{Single, Ambiguous, Gap}
-use Rattle.offset_core.specs.declared.around.Taken.{Taken}
-use Rattle.offset_core.specs.declared.around.Taken.TheVariants.{Shown, InGap}
-use Rattle.offset_core.specs.declared.resolve_error.ResolveError.{ResolveError}
-use Rattle.offset_core.specs.declared.resolve_error.ResolveError.TheVariants.{OutOfRange}
-use Rattle.naive_base.specs.Range.{IsInRange}
-use Rattle.naive_base.specs.Reading.{Reading, behind}
+use Rattle.offset_core.specs.{declared.{choice.Choice.{Choice}, around.Around.{Around}}, Around.{Takes}, WallAnswer.{IsNeverShown}}
+use Rattle.offset_core.specs.declared.around.{Around.TheVariants.{Single, Ambiguous, Gap}, Taken.{Taken, TheVariants.{Shown, InGap}}}
+use Rattle.offset_core.specs.declared.resolve_error.ResolveError.{ResolveError, TheVariants.{OutOfRange}}
 use Rattle.offset_core.specs.declared.local_result.LocalResult.TheVariants.{Single as Once, Ambiguous as Twice}
-use Rattle.zoned_time.specs.Zone.{Meaning, Law, home_law, IsZoneSecond, SameLaw, ShowsByOffset, AreOffsetsFor}
-use Rattle.zoned_time.specs.Zoned.{Zoned, IsAt}
+use Rattle.naive_base.specs.{Range.{IsInRange}, Reading.{Reading, behind}}
+use Rattle.zoned_time.specs.{Zone.{Meaning, Law, home_law, IsZoneSecond, SameLaw, ShowsByOffset, AreOffsetsFor}, Zoned.{Zoned, IsAt}}
 
 -- No clock shows l, `first` is the first second at which one shows more, and k is the offset at the second before it.
 pub record IsBeforeGap (off : ℤ → ℤ) (l k : ℤ) : Type 0 where

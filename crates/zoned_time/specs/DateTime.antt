@@ -2,12 +2,9 @@
 use Rattle.std.specs.declared.fmt.Debug as debug
 use Rattle.zoned_time.specs.declared.offset.Offset as offset
 use Rattle.std.specs.Prelude.{ℕ, ◌<◌, ◌≡◌, ℤ, pos, Option, Some, option_map}
-use Rattle.naive_base.specs.Fields.{TimeOfDay, IsMonthsLater, IsDaysLater, reading_on}
-use Rattle.naive_base.specs.Range.{IsInRange}
+use Rattle.naive_base.specs.{Fields.{TimeOfDay, IsMonthsLater, IsDaysLater, reading_on}, Range.{IsInRange}}
 use Rattle.naive_base.specs.Reading.{Reading, reading_at, day_at, second_at, moved}
-use Rattle.zoned_time.specs.declared.datetime.Instant.{Instant}
-use Rattle.zoned_time.specs.Fields.{IsOnlyWhere}
-use Rattle.zoned_time.specs.Zone.{Meaning, Law, home_law, IsOffsetAt}
+use Rattle.zoned_time.specs.{declared.datetime.Instant.{Instant}, Fields.{IsOnlyWhere}, Zone.{Meaning, Law, home_law, IsOffsetAt}}
 use Rattle.zoned_time.specs.Zoned.{Zoned, shown, local_of, IsAt}
 
 -- the instant's date-time in UTC, and its offset

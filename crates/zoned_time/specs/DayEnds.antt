@@ -1,15 +1,9 @@
 -- Days from their starts: how long one lasts, its last instant, and the first day of a week, a month and a year.
 use Rattle.std.specs.Prelude.{◌≡◌, ℕ, ◌<◌, ℤ, pos, ◌+ℤ◌, ◌-ℤ◌, ◌*ℤ◌, ◌≤ℤ◌, ◌<ℤ◌}
-use Rattle.naive_base.specs.Date.{day_number}
-use Rattle.naive_base.specs.DateOf.{year_of, month_of}
-use Rattle.naive_base.specs.Year.{year_start}
-use Rattle.offset_core.specs.Nanoseconds.{nanos_per_second}
-use Rattle.naive_base.specs.Range.{IsInRange}
-use Rattle.naive_base.specs.Reading.{Reading, IsEarlier}
+use Rattle.naive_base.specs.{Date.{day_number}, DateOf.{year_of, month_of}, Year.{year_start}, Range.{IsInRange}, Reading.{Reading, IsEarlier}}
 use Rattle.naive_base.specs.Weekday.{weekday_of}
-use Rattle.zoned_time.specs.Days.{IsFirstToReach, IsInDay, midnight}
-use Rattle.zoned_time.specs.Zone.{Meaning, Law, IsZoneSecond, IsOffsetAt}
-use Rattle.zoned_time.specs.Zoned.{Zoned}
+use Rattle.offset_core.specs.Nanoseconds.{nanos_per_second}
+use Rattle.zoned_time.specs.{Days.{IsFirstToReach, IsInDay, midnight}, Zone.{Meaning, Law, IsZoneSecond, IsOffsetAt}, Zoned.{Zoned}}
 
 -- the first second at which clocks have reached the midnight that begins a day, and that of the next day
 pub record AreStartsOfDays (off : ℤ → ℤ) (day start next : ℤ) : Type 0 where

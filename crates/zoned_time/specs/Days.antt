@@ -1,10 +1,7 @@
 -- Days of a zone: the first and the last second at which its clocks show a date, and the first instant at or after a local time.
 use Rattle.std.specs.Prelude.{ℤ, pos, ◌+ℤ◌, ◌*ℤ◌, ◌≤ℤ◌, ◌<ℤ◌}
-use Rattle.naive_base.specs.Range.{IsInRange}
-use Rattle.naive_base.specs.Reading.{Reading, reading_at, ahead, IsEarlier}
-use Rattle.naive_base.specs.Stamp.{of_secs}
-use Rattle.zoned_time.specs.Zone.{Meaning, Law, IsZoneSecond, IsOffsetAt}
-use Rattle.zoned_time.specs.Zoned.{Zoned, IsAt}
+use Rattle.naive_base.specs.{Range.{IsInRange}, Reading.{Reading, reading_at, ahead, IsEarlier}, Stamp.{of_secs}}
+use Rattle.zoned_time.specs.{Zone.{Meaning, Law, IsZoneSecond, IsOffsetAt}, Zoned.{Zoned, IsAt}}
 
 -- at the second u, one at which zones have offsets, the clocks of a zone with these offsets show that day
 pub record IsOnDay (off : ℤ → ℤ) (day u : ℤ) : Type 0 where

@@ -1,11 +1,8 @@
 -- Instants whose clocks show something else.
 use Rattle.std.specs.Prelude.{◌≡◌, Option, Some, None}
-use Rattle.offset_core.specs.declared.local_result.LocalResult.{LocalResult}
-use Rattle.offset_core.specs.LocalResult.{single_of}
+use Rattle.offset_core.specs.{declared.local_result.LocalResult.{LocalResult}, LocalResult.{single_of}}
 use Rattle.naive_base.specs.Reading.{Reading}
-use Rattle.zoned_time.specs.Relocal.{IsRelocal}
-use Rattle.zoned_time.specs.Zone.{Meaning, Law}
-use Rattle.zoned_time.specs.Zoned.{Zoned}
+use Rattle.zoned_time.specs.{Relocal.{IsRelocal}, Zone.{Meaning, Law}, Zoned.{Zoned}}
 
 -- the only instant at which the clocks of a zone show l
 pub record IsOnly {O : Type 0} {m : Meaning O} (law : Law m) (l : Reading) (answer : Option (Zoned O)) : Type 0 where

@@ -1,15 +1,9 @@
 -- When a plan fires in a zone. Plans are sets of local times, in whole seconds.
 use Rattle.std.specs.Prelude.{◌≡◌, ℤ, ◌≤ℤ◌, ◌<ℤ◌, List, [], ◌∷◌, Option, MatchOption, ℕ, ◌-ℤ◌, unsigned_abs, int_lt, if◌then◌else◌, ⊤, pos, nat_lt}
 use Rattle.naive_base.specs.Reading.{Reading}
-use Rattle.zoned_time.specs.DateTime.{zoned}
-use Rattle.zoned_time.specs.Days.{IsFirstToReach}
-use Rattle.zoned_time.specs.Nearest.{AreAllOf, IsLastOf, IsNextOf, IsZonedLastOf, IsZonedNextOf, NoneAfter, NoneBetween, NoneUntil}
-use Rattle.zoned_time.specs.Zone.{Meaning, Law}
-use Rattle.zoned_time.specs.Zoned.{Zoned}
-use Rattle.zoned_time.specs.declared.fires.Fires.{Fires}
-use Rattle.zoned_time.specs.declared.policies.FirePolicy.{FirePolicy}
-use Rattle.zoned_time.specs.declared.policies.FoldFires.{FoldFires}
-use Rattle.zoned_time.specs.declared.policies.GapFires.{GapFires}
+use Rattle.zoned_time.specs.{DateTime.{zoned}, Days.{IsFirstToReach}}
+use Rattle.zoned_time.specs.{Nearest.{AreAllOf, IsLastOf, IsNextOf, IsZonedLastOf, IsZonedNextOf, NoneAfter, NoneBetween, NoneUntil}, Zone.{Meaning, Law}}
+use Rattle.zoned_time.specs.{Zoned.{Zoned}, declared.{fires.Fires.{Fires}, policies.{FirePolicy.{FirePolicy}, FoldFires.{FoldFires}, GapFires.{GapFires}}}}
 
 -- the plan fires at the second u: the first second at which clocks show one of its local times or a later one
 pub record IsFire (off : ℤ → ℤ) (plan : ℤ → Type 0) (u : ℤ) : Type 0 where

@@ -1,15 +1,8 @@
 -- Which runs of a plan move if a zone's rules change.
 use Rattle.std.specs.Prelude.{◌≡◌, ◌⊎◌, ℤ, ◌≤ℤ◌, ◌<ℤ◌, ℕ, ◌-ℤ◌, unsigned_abs, int_lt, if◌then◌else◌, Option, MatchOption}
-use Rattle.naive_base.specs.Reading.{Reading}
-use Rattle.naive_base.specs.Stamp.{of_secs}
-use Rattle.zoned_time.specs.DateTime.{zoned}
-use Rattle.zoned_time.specs.Fires.{IsFire}
-use Rattle.zoned_time.specs.Nearest.{NoneBetween}
-use Rattle.zoned_time.specs.Zone.{Meaning, Law}
-use Rattle.zoned_time.specs.Zoned.{Zoned, IsAt}
-use Rattle.zoned_time.specs.declared.moves.Move.{Move}
-use Rattle.zoned_time.specs.declared.moves.Move.TheVariants.{Removed, Added}
-use Rattle.zoned_time.specs.declared.moves.Moves.{Moves}
+use Rattle.naive_base.specs.{Reading.{Reading}, Stamp.{of_secs}}
+use Rattle.zoned_time.specs.{DateTime.{zoned}, Fires.{IsFire}, Nearest.{NoneBetween}, Zone.{Meaning, Law}, Zoned.{Zoned, IsAt}, declared.moves.Move.{Move}}
+use Rattle.zoned_time.specs.declared.moves.{Move.TheVariants.{Removed, Added}, Moves.{Moves}}
 
 -- the plan fires at the second u in a zone with the first offsets, and not in one with the second offsets
 abbrev pub FiresInFirstOnly : (ℤ → ℤ) → (ℤ → ℤ) → (ℤ → Type 0) → ℤ → Type 0

@@ -1,9 +1,7 @@
 -- Seconds of one kind, such as those at which a plan fires: the next one, the last one, and all between two seconds.
 use Rattle.std.specs.Prelude.{ℤ, ◌≤ℤ◌, ◌<ℤ◌, List, [], ◌∷◌}
-use Rattle.naive_base.specs.Range.{IsInRange}
-use Rattle.naive_base.specs.Stamp.{of_secs}
-use Rattle.zoned_time.specs.Zone.{Law, Meaning}
-use Rattle.zoned_time.specs.Zoned.{IsAt, Zoned}
+use Rattle.naive_base.specs.{Range.{IsInRange}, Stamp.{of_secs}}
+use Rattle.zoned_time.specs.{Zone.{Law, Meaning}, Zoned.{IsAt, Zoned}}
 
 -- u is the first of those seconds after t
 pub record IsNextOf (fire : ℤ → Type 0) (t u : ℤ) : Type 0 where

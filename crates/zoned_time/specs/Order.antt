@@ -1,6 +1,5 @@
 -- The order of instants: that of their date-times in UTC.
-use Rattle.std.specs.declared.cmp.Ordering.{Ordering}
-use Rattle.std.specs.Ordering.{on, int_cmp, nat_cmp, then_cmp}
+use Rattle.std.specs.{declared.cmp.Ordering.{Ordering}, Ordering.{on, int_cmp, nat_cmp, then_cmp}}
 use Rattle.naive_base.specs.Reading.{Reading}
 
 -- the order of date-times: by the second, then by the nanoseconds

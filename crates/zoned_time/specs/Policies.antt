@@ -1,11 +1,7 @@
 -- When a plan fires under a policy for local times in gaps and in folds.
 use Rattle.std.specs.Prelude.{◌≡◌, ◌⊎◌, ℤ, ◌+ℤ◌, List}
-use Rattle.zoned_time.specs.Fires.{FiresLeft, IsFire}
-use Rattle.zoned_time.specs.Nearest.{AreAllOf}
-use Rattle.zoned_time.specs.Zone.{IsZoneSecond, Law, Meaning}
-use Rattle.zoned_time.specs.declared.policies.FirePolicy.{FirePolicy}
-use Rattle.zoned_time.specs.declared.policies.FoldFires.{FoldFires}
-use Rattle.zoned_time.specs.declared.policies.GapFires.{GapFires}
+use Rattle.zoned_time.specs.{Fires.{FiresLeft, IsFire}, Nearest.{AreAllOf}, Zone.{IsZoneSecond, Law, Meaning}, declared.policies.FirePolicy.{FirePolicy}}
+use Rattle.zoned_time.specs.declared.policies.{FoldFires.{FoldFires}, GapFires.{GapFires}}
 
 -- at the second u, one at which zones have offsets, clocks show one of the plan's local times
 pub record IsShownFire (off : ℤ → ℤ) (plan : ℤ → Type 0) (u : ℤ) : Type 0 where

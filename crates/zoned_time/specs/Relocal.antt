@@ -1,12 +1,8 @@
 -- Local date-times converted to UTC.
 use Rattle.std.specs.Prelude.{◌≡◌, ℤ, SomeIff}
-use Rattle.offset_core.specs.declared.local_result.LocalResult.{LocalResult}
-use Rattle.offset_core.specs.declared.local_result.LocalResult.TheVariants.{Single, Ambiguous, None}
-use Rattle.offset_core.specs.LocalResult.{IsAndThen}
-use Rattle.naive_base.specs.Range.{IsInRange}
-use Rattle.naive_base.specs.Reading.{Reading, behind}
-use Rattle.zoned_time.specs.Zone.{Meaning, Law, AreOffsetsFor}
-use Rattle.zoned_time.specs.Zoned.{Zoned}
+use Rattle.offset_core.specs.{declared.local_result.LocalResult.{LocalResult, TheVariants.{Single, Ambiguous, None}}, LocalResult.{IsAndThen}}
+use Rattle.naive_base.specs.{Range.{IsInRange}, Reading.{Reading, behind}}
+use Rattle.zoned_time.specs.{Zone.{Meaning, Law, AreOffsetsFor}, Zoned.{Zoned}}
 
 -- the instant at which a clock with this offset shows l
 abbrev pub instant_of : {O : Type 0} → (O → ℤ) → Reading → O → Zoned O

@@ -1,12 +1,8 @@
 -- Timestamps: instants as whole numbers of seconds, milliseconds, microseconds or nanoseconds since 1970-01-01 00:00:00 UTC.
 use Rattle.std.specs.Prelude.{◌/◌, ◌*◌, ℤ, pos, ◌+ℤ◌, ◌*ℤ◌}
-use Rattle.offset_core.specs.declared.local_result.LocalResult.{LocalResult}
-use Rattle.offset_core.specs.declared.local_result.LocalResult.TheVariants.{Single, Ambiguous, None}
-use Rattle.naive_base.specs.Year.{floor_div, floor_mod}
-use Rattle.naive_base.specs.Reading.{Reading}
-use Rattle.zoned_time.specs.declared.utc.Utc.{Utc}
-use Rattle.zoned_time.specs.Zone.{Meaning, Law}
-use Rattle.zoned_time.specs.Zoned.{Zoned, IsAt}
+use Rattle.offset_core.specs.declared.local_result.LocalResult.{LocalResult, TheVariants.{Single, Ambiguous, None}}
+use Rattle.naive_base.specs.{Year.{floor_div, floor_mod}, Reading.{Reading}}
+use Rattle.zoned_time.specs.{declared.utc.Utc.{Utc}, Zone.{Meaning, Law}, Zoned.{Zoned, IsAt}}
 
 -- a date-time's milliseconds, which go on counting past the second of a leap second. (Its nanoseconds are its total.)
 abbrev pub millis_of : Reading → ℤ

@@ -2,9 +2,7 @@
 -- times at which steps begin, or a later one (`IsFire`).
 use Rattle.std.specs.Prelude.{◌⊎◌, ℤ}
 use Rattle.naive_base.specs.Stamp.{of_secs}
-use Rattle.zoned_time.specs.Fires.{IsLastFire, IsNextFire, NoneFiresAfter, NoneFiresUntil}
-use Rattle.zoned_time.specs.Zone.{Meaning, Law}
-use Rattle.zoned_time.specs.Zoned.{Zoned, IsAt}
+use Rattle.zoned_time.specs.{Fires.{IsLastFire, IsNextFire, NoneFiresAfter, NoneFiresUntil}, Zone.{Meaning, Law}, Zoned.{Zoned, IsAt}}
 
 -- the second t lies in the step that begins at the second `begin`, and the next one begins at `end`
 pub record AreStepBounds (off : ℤ → ℤ) (begins : ℤ → Type 0) (t begin end : ℤ) : Type 0 where

@@ -1,7 +1,6 @@
 -- Whole years from one local date-time to another.
 use Rattle.std.specs.Prelude.{◌≡◌, ◌<◌, ◌⊎◌, ℕ, ℤ, pos, ◌+ℤ◌, ◌≤ℤ◌, ◌<ℤ◌, unsigned_abs, Option, SomeIff}
-use Rattle.naive_base.specs.DateOf.{year_of, month_of, day_of_month}
-use Rattle.naive_base.specs.Reading.{Reading, day_at, second_at, IsEarlierTime}
+use Rattle.naive_base.specs.{DateOf.{year_of, month_of, day_of_month}, Reading.{Reading, day_at, second_at, IsEarlierTime}}
 
 -- in its year l comes before m in its own: by month, then day, then time
 abbrev pub IsEarlierInYear : Reading → Reading → Type 0

@@ -1,11 +1,8 @@
 -- Lawful zones: the offsets of a zone, and what its clocks show. Seconds count from 1970-01-01 00:00:00.
 use Rattle.std.specs.Prelude.{◌≡◌, ◌↔◌, ℤ, pos, neg_ℤ, ◌+ℤ◌, ◌-ℤ◌, ◌*ℤ◌, ◌≤ℤ◌}
-use Rattle.offset_core.specs.declared.local_result.LocalResult.{LocalResult}
-use Rattle.offset_core.specs.declared.local_result.LocalResult.TheVariants.{Single, Ambiguous, None}
-use Rattle.offset_core.specs.LocalResult.{map_of}
+use Rattle.offset_core.specs.{declared.local_result.LocalResult.{LocalResult, TheVariants.{Single, Ambiguous, None}}, LocalResult.{map_of}}
 use Rattle.offset_core.specs.WallAnswer.{IsWallAnswer}
-use Rattle.naive_base.specs.declared.date.NaiveDate.{NaiveDate}
-use Rattle.naive_base.specs.NaiveDate.{day_of}
+use Rattle.naive_base.specs.{declared.date.NaiveDate.{NaiveDate}, NaiveDate.{day_of}}
 
 -- the seconds at which a zone has an offset: the range of date-times, widened by two days each way
 abbrev pub IsZoneSecond : ℤ → Type 0

@@ -1,11 +1,7 @@
 -- Zoned date-times: a date-time in UTC, and an offset.
 use Rattle.std.specs.Prelude.{◌≡◌, ℤ, Option, Some, None}
-use Rattle.offset_core.specs.declared.fixed_offset.FixedOffset.{FixedOffset}
-use Rattle.offset_core.specs.FixedOffset.{seconds_of}
-use Rattle.naive_base.specs.declared.datetime.NaiveDateTime.{NaiveDateTime}
-use Rattle.naive_base.specs.NaiveDateTime.{reading}
-use Rattle.naive_base.specs.Range.{IsInRange}
-use Rattle.naive_base.specs.Reading.{Reading, ahead}
+use Rattle.offset_core.specs.{declared.fixed_offset.FixedOffset.{FixedOffset}, FixedOffset.{seconds_of}}
+use Rattle.naive_base.specs.{declared.datetime.NaiveDateTime.{NaiveDateTime}, NaiveDateTime.{reading}, Range.{IsInRange}, Reading.{Reading, ahead}}
 use Rattle.zoned_time.specs.Zone.{Meaning, Law, IsOffsetAt}
 
 -- a date-time in UTC, and an offset

@@ -1,12 +1,7 @@
 -- A line for each change of the clocks.
-use Rattle.std.specs.Prelude.{ℕ, ℤ, List, ◌++◌, codes, ◌-ℤ◌}
-use Rattle.std.specs.Fmt.{signed_decimal}
-use Rattle.std.specs.List.{flat_map}
-use Rattle.naive_base.specs.Reading.{ahead}
-use Rattle.naive_base.specs.Stamp.{of_secs}
-use Rattle.naive_base.specs.Text.{reading_text}
-use Rattle.tz_base.specs.LocalTypes.{LocalType}
-use Rattle.tz_base.specs.declared.change.Change.{Change}
+use Rattle.std.specs.{Prelude.{ℕ, ℤ, List, ◌++◌, codes, ◌-ℤ◌}, Fmt.{signed_decimal}, List.{flat_map}}
+use Rattle.naive_base.specs.{Reading.{ahead}, Stamp.{of_secs}, Text.{reading_text}}
+use Rattle.tz_base.specs.{LocalTypes.{LocalType}, declared.change.Change.{Change}}
 use Rattle.zonedump_lib.specs.Words.{type_words, step_words}
 
 -- what a clock at that offset shows at the second: `2021-03-14 02:00:00`

@@ -1,10 +1,7 @@
 -- A change of the clocks as a JSON value.
-use Rattle.std.specs.Prelude.{ℕ, ℤ, ◌-ℤ◌, int_lt, unsigned_abs, List, [], ◌∷◌, map, Option, Some, None, codes, decimal, if◌then◌else◌}
-use Rattle.std.specs.Fmt.{signed_decimal}
-use Rattle.json.specs.Json.{Json, null, boolean, number, string, array, object, Members, no_members, member}
-use Rattle.json.specs.Value.{items_of}
-use Rattle.tz_base.specs.LocalTypes.{LocalType}
-use Rattle.tz_base.specs.declared.change.Change.{Change}
+use Rattle.std.specs.{Prelude.{ℕ, ℤ, ◌-ℤ◌, int_lt, unsigned_abs, List, [], ◌∷◌, map, Option, Some, None, codes, decimal, if◌then◌else◌}, Fmt.{signed_decimal}}
+use Rattle.json.specs.{Json.{Json, null, boolean, number, string, array, object, Members, no_members, member}, Value.{items_of}}
+use Rattle.tz_base.specs.{LocalTypes.{LocalType}, declared.change.Change.{Change}}
 use Rattle.zonedump_lib.specs.Clocks.{clock_words}
 
 abbrev pub members_from : List (List ℕ × Json) → Members

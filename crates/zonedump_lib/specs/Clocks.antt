@@ -1,9 +1,6 @@
 -- What clocks show.
-use Rattle.std.specs.Prelude.{ℕ, ℤ, int_le, ◌&&◌, Bool, List, if◌then◌else◌}
-use Rattle.std.specs.Fmt.{signed_decimal}
-use Rattle.naive_base.specs.Range.{first_second, last_second}
-use Rattle.naive_base.specs.Stamp.{of_secs}
-use Rattle.naive_base.specs.Text.{reading_text}
+use Rattle.std.specs.{Prelude.{ℕ, ℤ, int_le, ◌&&◌, Bool, List, if◌then◌else◌}, Fmt.{signed_decimal}}
+use Rattle.naive_base.specs.{Range.{first_second, last_second}, Stamp.{of_secs}, Text.{reading_text}}
 
 -- the date and the time of that many seconds after 1970-01-01 00:00:00, or the seconds if the calendar's range doesn't have them
 abbrev pub is_shown : ℤ → Bool

@@ -1,19 +1,9 @@
 -- The differences of two zones in a period, as lines and as a JSON value.
-use Rattle.std.specs.Prelude.{◌≡◌, ℕ, ℤ, ◌-ℤ◌, List, [], ◌∷◌, ◌++◌, Some, codes}
-use Rattle.std.specs.Fmt.{signed_decimal}
-use Rattle.std.specs.List.{flat_map}
-use Rattle.json.specs.Json.{Json, number, string, document}
-use Rattle.json.specs.Print.{print}
-use Rattle.json.specs.Tree.{json_tokens}
-use Rattle.tz_info.specs.Differences.{AreDifferences}
-use Rattle.tz_info.specs.Zones.{Zone, TypeAt}
-use Rattle.tz_info.specs.declared.zone.ask.differences.Difference.{Difference}
-use Rattle.zonedump_lib.specs.ChangeLines.{ended_line}
-use Rattle.zonedump_lib.specs.ChangeValues.{fields, list_value, type_value}
-use Rattle.zonedump_lib.specs.Clocks.{clock_words}
-use Rattle.zonedump_lib.specs.Periods.{bound_value, first_second, second_after}
-use Rattle.zonedump_lib.specs.Words.{type_words}
-use Rattle.zonedump_lib.specs.declared.period.Bound.{Bound}
+use Rattle.std.specs.{Prelude.{◌≡◌, ℕ, ℤ, ◌-ℤ◌, List, [], ◌∷◌, ◌++◌, Some, codes}, Fmt.{signed_decimal}, List.{flat_map}}
+use Rattle.json.specs.{Json.{Json, number, string, document}, Print.{print}, Tree.{json_tokens}}
+use Rattle.tz_info.specs.{Differences.{AreDifferences}, Zones.{Zone, TypeAt}, declared.zone.ask.differences.Difference.{Difference}}
+use Rattle.zonedump_lib.specs.{ChangeLines.{ended_line}, ChangeValues.{fields, list_value, type_value}, Clocks.{clock_words}}
+use Rattle.zonedump_lib.specs.{Periods.{bound_value, first_second, second_after}, Words.{type_words}, declared.period.Bound.{Bound}}
 
 -- the differences of two zones from the first second of a period to its last one in UTC
 abbrev pub AreDifferencesIn : Zone → Zone → Bound → Bound → List Difference → Type 0

@@ -1,7 +1,6 @@
 -- What functions ensure that write JSON.
 use Rattle.std.specs.Prelude.{◌≡◌, List, ◌++◌, OnOk, Result}
-use Rattle.json.specs.Token.{Token}
-use Rattle.json.specs.Written.{Written}
+use Rattle.json.specs.{Token.{Token}, Written.{Written}}
 
 -- those tokens are appended, and what was before stays
 pub record Puts {E : Type 0} (r : Result (Unit {0}) E) (old new : Written) (ts : List Token) : Type 0 where

@@ -1,21 +1,13 @@
 -- What the clocks of a zone do in a period, as a JSON value.
-use Rattle.std.specs.Prelude.{◌≡◌, ℕ, List, [], ◌∷◌, length, Option, Some, None, codes, decimal}
-use Rattle.std.specs.Fmt.{signed_decimal}
-use Rattle.json.specs.Json.{Json, null, number, string, document}
-use Rattle.json.specs.Print.{print}
-use Rattle.json.specs.Tree.{json_tokens}
-use Rattle.tz_info.specs.Changes.{AreChanges}
-use Rattle.tz_info.specs.Zones.{Zone, TypeAt}
+use Rattle.std.specs.{Prelude.{◌≡◌, ℕ, List, [], ◌∷◌, length, Option, Some, None, codes, decimal}, Fmt.{signed_decimal}}
+use Rattle.json.specs.{Json.{Json, null, number, string, document}, Print.{print}, Tree.{json_tokens}}
+use Rattle.tz_info.specs.{Changes.{AreChanges}, Zones.{Zone, TypeAt}, declared.rule.day.{DayForm.{DayForm}, DayTime.{DayTime}}}
+use Rattle.tz_info.specs.declared.{rule.transition_rule.TransitionRule.{TransitionRule}, zone.lists.leap_second.LeapSecond.{LeapSecond}}
 use Rattle.tz_base.specs.declared.change.Change.{Change}
-use Rattle.tz_info.specs.declared.rule.day.DayForm.{DayForm}
-use Rattle.tz_info.specs.declared.rule.day.DayForm.TheVariants as days
-use Rattle.tz_info.specs.declared.rule.day.DayTime.{DayTime}
-use Rattle.tz_info.specs.declared.rule.transition_rule.TransitionRule.{TransitionRule}
-use Rattle.tz_info.specs.declared.rule.transition_rule.TransitionRule.TheVariants as rules
-use Rattle.tz_info.specs.declared.zone.lists.leap_second.LeapSecond.{LeapSecond}
-use Rattle.zonedump_lib.specs.ChangeValues.{change_value, fields, list_value, type_value}
-use Rattle.zonedump_lib.specs.Periods.{bound_value, first_second, second_after}
+use Rattle.zonedump_lib.specs.{ChangeValues.{change_value, fields, list_value, type_value}, Periods.{bound_value, first_second, second_after}}
 use Rattle.zonedump_lib.specs.declared.period.Bound.{Bound}
+use Rattle.tz_info.specs.declared.rule.day.DayForm.TheVariants as days
+use Rattle.tz_info.specs.declared.rule.transition_rule.TransitionRule.TheVariants as rules
 
 -- a day of each year in its form: `J` with n, `n` with n, or `M` with month, week and weekday
 abbrev pub day_value : DayForm → Json

@@ -2,8 +2,7 @@
 use Rattle.std.specs.Prelude.{ℕ, ℤ, pos, neg_ℤ, ◌≤ℤ◌, ◌<ℤ◌, ◌+ℤ◌, ◌*ℤ◌, List, decimal}
 use Rattle.json.specs.Json.{Json, number, string}
 use Rattle.naive_base.specs.NaiveDate.{day_of, printed_date}
-use Rattle.zonedump_lib.specs.Spans.{year_second, year_until}
-use Rattle.zonedump_lib.specs.declared.period.Bound.{Bound}
+use Rattle.zonedump_lib.specs.{Spans.{year_second, year_until}, declared.period.Bound.{Bound}}
 use Rattle.zonedump_lib.specs.declared.period.Bound.TheVariants as bounds
 
 -- the second of Unix time at which the day of that number begins in UTC

@@ -2,13 +2,10 @@
 use Rattle.std.specs.Prelude.{ℕ, ◌==◌, ℤ, pos, List, ◌++◌, Option, Some, None, codes, decimal, int_lt, int_le, ◌&&◌, unsigned_abs, if◌then◌else◌}
 use Rattle.std.specs.Fmt.{signed_decimal}
 use Rattle.naive_base.specs.Text.{time_text}
-use Rattle.tz_info.specs.Rules.{Alternate}
-use Rattle.tz_info.specs.declared.rule.day.DayForm.{DayForm}
-use Rattle.tz_info.specs.declared.rule.day.DayForm.TheVariants as days
-use Rattle.tz_info.specs.declared.rule.day.DayTime.{DayTime}
-use Rattle.tz_info.specs.declared.rule.transition_rule.TransitionRule.{TransitionRule}
-use Rattle.tz_info.specs.declared.rule.transition_rule.TransitionRule.TheVariants as rules
+use Rattle.tz_info.specs.{Rules.{Alternate}, declared.rule.{day.{DayForm.{DayForm}, DayTime.{DayTime}}, transition_rule.TransitionRule.{TransitionRule}}}
 use Rattle.zonedump_lib.specs.Words.{type_words}
+use Rattle.tz_info.specs.declared.rule.day.DayForm.TheVariants as days
+use Rattle.tz_info.specs.declared.rule.transition_rule.TransitionRule.TheVariants as rules
 
 -- a week of a month, if the fifth has the last such weekday
 unfoldable pub week_words : ℕ → List ℕ

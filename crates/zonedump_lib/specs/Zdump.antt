@@ -1,11 +1,8 @@
 -- What `zdump -v` of the tz code prints of a zone in a period.
 use Rattle.std.specs.Prelude.{◌≡◌, ℕ, pos, ◌+ℤ◌, List}
-use Rattle.tz_info.specs.Changes.{AreChanges}
-use Rattle.tz_info.specs.Zones.{Zone, TypeAt}
+use Rattle.tz_info.specs.{Changes.{AreChanges}, Zones.{Zone, TypeAt}}
 use Rattle.tz_base.specs.declared.change.Change.{Change}
-use Rattle.zonedump_lib.specs.Periods.{first_second, second_after}
-use Rattle.zonedump_lib.specs.ZdumpLines.{zdump_text}
-use Rattle.zonedump_lib.specs.declared.period.Bound.{Bound}
+use Rattle.zonedump_lib.specs.{Periods.{first_second, second_after}, ZdumpLines.{zdump_text}, declared.period.Bound.{Bound}}
 
 -- the lines of the zone: the pairs are exactly the changes after the first second of the period, up to the first second after
 -- it, in order

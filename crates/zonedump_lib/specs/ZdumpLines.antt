@@ -1,16 +1,10 @@
 -- What `zdump -v` of the tz code prints of changes: a pair of lines for each, the second before it and its own.
-use Rattle.std.specs.Prelude.{ℕ, ◌==◌, nat_lt, ℤ, pos, ◌-ℤ◌, List, ◌++◌, Bool, true, false, codes, decimal, if◌then◌else◌}
-use Rattle.std.specs.Fmt.{signed_decimal}
+use Rattle.std.specs.{Prelude.{ℕ, ◌==◌, nat_lt, ℤ, pos, ◌-ℤ◌, List, ◌++◌, Bool, true, false, codes, decimal, if◌then◌else◌}, Fmt.{signed_decimal}}
 use Rattle.std.specs.List.{flat_map}
-use Rattle.naive_base.specs.DateOf.{year_of, month_of, day_of_month}
-use Rattle.naive_base.specs.Reading.{Reading, ahead, day_at, second_at}
-use Rattle.naive_base.specs.Stamp.{of_secs}
-use Rattle.naive_base.specs.Text.{time_text}
+use Rattle.naive_base.specs.{DateOf.{year_of, month_of, day_of_month}, Reading.{Reading, ahead, day_at, second_at}, Stamp.{of_secs}, Text.{time_text}}
 use Rattle.naive_base.specs.Weekday.{weekday_of}
-use Rattle.tz_base.specs.LocalTypes.{LocalType}
-use Rattle.tz_base.specs.declared.change.Change.{Change}
-use Rattle.zonedump_lib.specs.ChangeLines.{ended_line}
-use Rattle.zonedump_lib.specs.Words.{name_words}
+use Rattle.tz_base.specs.{LocalTypes.{LocalType}, declared.change.Change.{Change}}
+use Rattle.zonedump_lib.specs.{ChangeLines.{ended_line}, Words.{name_words}}
 
 -- a weekday in three letters, 0 for Sunday
 unfoldable pub short_weekday : ℕ → List ℕ

@@ -1,31 +1,16 @@
 -- What may answer a line, by the latest zone that an earlier line gave, and the zone that the line leaves.
-use Rattle.std.specs.Prelude.{◌≡◌, ℕ, ℤ, List, [], ◌∷◌, ◌++◌, ◌⊎◌, Bool, true, false, Option, Some, None, length, codes, decimal}
-use Rattle.std.specs.Fmt.{signed_decimal}
-use Rattle.offset_core.specs.Offset.{offset_text}
-use Rattle.offset_core.specs.WallAnswer.{IsWallAnswer}
-use Rattle.offset_core.specs.declared.choice.Choice.{Choice}
-use Rattle.offset_core.specs.declared.local_result.LocalResult.{LocalResult}
-use Rattle.offset_core.specs.declared.local_result.LocalResult.TheVariants as results
-use Rattle.naive_base.specs.Reading.{Reading, ahead}
-use Rattle.naive_base.specs.Text.{reading_text}
-use Rattle.tz_base.specs.Errors.{error_number, IsOutOfMemory}
-use Rattle.tz_base.specs.LocalTypes.{LocalType}
-use Rattle.tz_base.specs.declared.error.Error.{Error}
-use Rattle.tz_info.specs.FilePieces.{FilePieces, HasPieces}
-use Rattle.tz_info.specs.PosixZones.{IsPosixZone, IsPosixFault}
-use Rattle.tz_info.specs.TzFiles.{IsTzFile, IsFileFault}
-use Rattle.tz_info.specs.WallClocks.{Shows}
-use Rattle.tz_info.specs.Zones.{Zone, IsValid, TypeAt, IsTypeRefused}
-use Rattle.tz_info.specs.declared.rule.transition_rule.TransitionRule.{TransitionRule}
-use Rattle.tz_info.specs.declared.rule.transition_rule.TransitionRule.TheVariants as rules
-use Rattle.zoned_time.specs.Choice.{IsResolved, IsUnresolved}
-use Rattle.offset_core.specs.ResolveNumbers.{resolve_error_number as resolve_number}
-use Rattle.zoned_time.specs.Zone.{Meaning, Law, meaning_by_seconds, law_by_seconds}
-use Rattle.zoned_time.specs.Zoned.{Zoned}
-use Rattle.offset_core.specs.declared.resolve_error.ResolveError.{ResolveError}
+use Rattle.std.specs.{Prelude.{◌≡◌, ℕ, ℤ, List, [], ◌∷◌, ◌++◌, ◌⊎◌, Bool, true, false, Option, Some, None, length, codes, decimal}, Fmt.{signed_decimal}}
+use Rattle.offset_core.specs.{Offset.{offset_text}, WallAnswer.{IsWallAnswer}, declared.{choice.Choice.{Choice}, local_result.LocalResult.{LocalResult}}}
+use Rattle.offset_core.specs.{ResolveNumbers.{resolve_error_number as resolve_number}, declared.resolve_error.ResolveError.{ResolveError}}
+use Rattle.naive_base.specs.{Reading.{Reading, ahead}, Text.{reading_text}, Stamp.{IsStamp, of_secs}}
+use Rattle.tz_base.specs.{Errors.{error_number, IsOutOfMemory}, LocalTypes.{LocalType}, declared.error.Error.{Error}}
+use Rattle.tz_info.specs.{FilePieces.{FilePieces, HasPieces}, PosixZones.{IsPosixZone, IsPosixFault}, TzFiles.{IsTzFile, IsFileFault}, WallClocks.{Shows}}
+use Rattle.tz_info.specs.{Zones.{Zone, IsValid, TypeAt, IsTypeRefused}, declared.rule.transition_rule.TransitionRule.{TransitionRule}}
+use Rattle.zoned_time.specs.{Choice.{IsResolved, IsUnresolved}, Zone.{Meaning, Law, meaning_by_seconds, law_by_seconds}, Zoned.{Zoned}}
 use Rattle.zoned_ref.specs.Offsets.{IsNarrow, AreOffsetsOf}
-use Rattle.naive_base.specs.Stamp.{IsStamp, of_secs}
 use Rattle.zoneq_lib.specs.Questions.{Query, Text, Data, At, Wall, Resolve, Show, Asks, IsBadLine}
+use Rattle.offset_core.specs.declared.local_result.LocalResult.TheVariants as results
+use Rattle.tz_info.specs.declared.rule.transition_rule.TransitionRule.TheVariants as rules
 
 abbrev pub shown_mark : Bool → List ℕ
 shown_mark true = codes "dst"

@@ -1,8 +1,6 @@
 -- How a program ends after a run.
-use Rattle.std.specs.Prelude.{◌≡◌, ℕ, List, [], ◌++◌, Bool, false, Option, Result, Ok, Err, codes}
-use Rattle.std.specs.Io.KnownBytes.{Appends}
-use Rattle.zoneq_lib.specs.Faults.{fault_text}
-use Rattle.zoneq_lib.specs.declared.run_error.RunError.{RunError}
+use Rattle.std.specs.{Prelude.{◌≡◌, ℕ, List, [], ◌++◌, Bool, false, Option, Result, Ok, Err, codes}, Io.KnownBytes.{Appends}}
+use Rattle.zoneq_lib.specs.{Faults.{fault_text}, declared.run_error.RunError.{RunError}}
 
 -- the exit status of a run
 abbrev pub status_of : Result (Unit {0}) RunError → ℕ

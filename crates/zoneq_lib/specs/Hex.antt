@@ -1,10 +1,7 @@
 -- Bytes in hex digits, of either case.
-use Rattle.std.specs.Prelude.{ℕ, ◌≡◌, ◌+◌, ◌*◌, ◌%◌, ◌==◌, nat_lt, Bool, true, ◌&&◌, List, [], ◌∷◌, length}
-use Rattle.std.specs.Bool.{Decides}
-use Rattle.std.specs.Char.{digit_value}
+use Rattle.std.specs.{Prelude.{ℕ, ◌≡◌, ◌+◌, ◌*◌, ◌%◌, ◌==◌, nat_lt, Bool, true, ◌&&◌, List, [], ◌∷◌, length}, Bool.{Decides}, Char.{digit_value}}
 use Rattle.std.specs.Str.Parse.{AllDigits}
-use Rattle.std.proofs.Common.{refl}
-use Rattle.std.proofs.lemmas.Bool.Decides.{Decides-and, Decides-eqb, Decides-ltb}
+use Rattle.std.proofs.{Common.{refl}, lemmas.Bool.Decides.{Decides-and, Decides-eqb, Decides-ltb}}
 use Rattle.tz_base.specs.Tests.{Test}
 
 -- these are hex digits, two for each byte

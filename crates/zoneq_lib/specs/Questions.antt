@@ -1,24 +1,15 @@
 -- What a line asks. The lines are one grammar: words are parted by exactly one space, and a text is all that follows the
 -- space after `text`.
-use Rattle.std.specs.Prelude.{ℕ, ℤ, pos, neg_ℤ, ◌≤◌, ◌-◌, ◌^◌, Bool, true, false, List, [], ◌∷◌, codes}
-use Rattle.std.specs.Str.{IsUtf8, is_utf8}
+use Rattle.std.specs.{Prelude.{ℕ, ℤ, pos, neg_ℤ, ◌≤◌, ◌-◌, ◌^◌, Bool, true, false, List, [], ◌∷◌, codes}, Str.{IsUtf8, is_utf8}}
 use Rattle.std.proofs.lemmas.Str.{IsUtf8-from_is_utf8, is_utf8-from_IsUtf8}
-use Rattle.offset_core.specs.declared.choice.Choice.{Choice}
-use Rattle.offset_core.specs.declared.choice.GapChoice.{GapChoice}
-use Rattle.offset_core.specs.declared.choice.GapChoice.TheVariants as gaps
-use Rattle.offset_core.specs.declared.choice.FoldChoice.{FoldChoice}
-use Rattle.offset_core.specs.declared.choice.FoldChoice.TheVariants as folds
-use Rattle.naive_base.specs.Clock.{clock_second}
-use Rattle.naive_base.specs.Date.{day_number}
-use Rattle.naive_base.specs.Month.{days_in_month}
-use Rattle.naive_base.specs.Reading.{Reading, reading_at}
-use Rattle.naive_base.specs.Year.{is_leap}
+use Rattle.offset_core.specs.declared.choice.{Choice.{Choice}, GapChoice.{GapChoice}, FoldChoice.{FoldChoice}}
+use Rattle.naive_base.specs.{Clock.{clock_second}, Date.{day_number}, Month.{days_in_month}, Reading.{Reading, reading_at}, Year.{is_leap}}
 use Rattle.tz_base.specs.Grammar.{Grammar, Nothing, Marked, Ended, End, Byte, Number, Rest, Refused, Check, ◌>>=◌, ◌>>◌, Spells}
-use Rattle.tz_base.specs.Refusals.{Refusal, InvalidTzString}
-use Rattle.tz_base.specs.Tests.{Test, at_most, between}
-use Rattle.tz_base.specs.declared.error.Expected.TheVariants.{OtherBytes}
+use Rattle.tz_base.specs.{Refusals.{Refusal, InvalidTzString}, Tests.{Test, at_most, between}, declared.error.Expected.TheVariants.{OtherBytes}}
 use Rattle.tz_info.specs.TzGrammar.{minus, slash}
 use Rattle.zoneq_lib.specs.Hex.{SpellBytes, bytes_test, bytes_of}
+use Rattle.offset_core.specs.declared.choice.GapChoice.TheVariants as gaps
+use Rattle.offset_core.specs.declared.choice.FoldChoice.TheVariants as folds
 
 -- a question: to read a TZ string or the bytes of a TZif file as the zone; for the type in force at a Unix time; for the
 -- types that are in force when a clock shows a local time, the seconds from 1970-01-01 00:00:00 on the clock, every day

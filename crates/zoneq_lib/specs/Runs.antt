@@ -2,9 +2,7 @@
 -- not how the answers were cut into writes.
 use Rattle.std.specs.Prelude.{◌≡◌, ℕ, ◌<◌, ◌^◌, ◌-◌, List, [], ◌++◌, Bool, true, false, Option, None, length}
 use Rattle.tz_info.specs.Zones.{Zone}
-use Rattle.zoneq_lib.specs.Answers.{AnswersLines}
-use Rattle.zoneq_lib.specs.Lines.{IsSplit, ended_lines, last_line}
-use Rattle.zoneq_lib.specs.declared.run_error.RunError.{RunError}
+use Rattle.zoneq_lib.specs.{Answers.{AnswersLines}, Lines.{IsSplit, ended_lines, last_line}, declared.run_error.RunError.{RunError}}
 use Rattle.zoneq_lib.specs.declared.run_error.RunError.TheVariants as errors
 
 -- the output answers each line of the input

@@ -1,12 +1,7 @@
 -- The date of a day, found by taking months away from its year.
 use Rattle.std.proofs.Common.{◌≡◌, ℕ, zero, suc, ◌+◌, ◌-◌, ◌<◌, ◌≤◌, inl, inr, Bool, true, false, nat_lt, if◌then◌else◌, arith, refl, ℤ, pos, ◌+ℤ◌, ◌-ℤ◌, ◌≤ℤ◌}
-use Rattle.std.proofs.Common.{◌<ℤ◌, unsigned_abs}
-use Rattle.std.proofs.lemmas.Bool.{cases_lt}
-use Rattle.std.proofs.lemmas.Bool.Decides.{nat_tests}
-use Rattle.gregorian.specs.Year.{is_leap, days_in_year, year_start}
-use Rattle.gregorian.specs.Month.{days_in_month, days_of_months}
-use Rattle.gregorian.specs.Date.{day_number, HasDate}
-use Rattle.gregorian.specs.Steps.Floor.{floors}
+use Rattle.std.proofs.{Common.{◌<ℤ◌, unsigned_abs}, lemmas.Bool.{cases_lt, Decides.{nat_tests}}}
+use Rattle.gregorian.specs.{Year.{is_leap, days_in_year, year_start}, Month.{days_in_month, days_of_months}, Date.{day_number, HasDate}, Steps.Floor.{floors}}
 use Rattle.gregorian.specs.Steps.Years.{year_step, gap_of, some_year}
 
 -- each month has its days, and all twelve together those of the year

@@ -1,8 +1,7 @@
 -- The ruleset `floors`: what `omega` needs to know of signed numbers, casts, and division and remainder by floors, in forms
 -- that split no case. A signed number is the difference of two natural ones, `up` and `down`.
 use Rattle.std.proofs.Common.{◌≡◌, ℕ, ◌+◌, ◌*◌, ◌<◌, ◌≤◌, ◌^◌, arith, ℤ, pos, negsuc, to_z, of_z, FitsSigned}
-use Rattle.std.specs.Int.{int_div_euclid, int_rem_euclid}
-use Rattle.std.specs.Int.{Width}
+use Rattle.std.specs.Int.{int_div_euclid, int_rem_euclid, Width}
 use mir.Val.{hbits}
 use borrow.Author.Differences.{up, down, fits_out, same_out, Apart-out, lt_T, le_T, lt_not, le_not, lt-true, lt-false, le-true, le-false, true-lt, false-lt}
 use borrow.Author.Differences.{true-le, false-le, not_negative_out, lt_out, le_out, fits_in, same_in, lt_in, le_in, below_in, at_most_in, not_negative_in}

@@ -1,10 +1,8 @@
 -- Each year's days by the rule of leap years, and the year of a day in closed form.
 use Rattle.std.proofs.Common.{◌≡◌, ℕ, ◌+◌, ◌*◌, ◌<◌, arith, ℤ, pos, negsuc, true, false, cond, not, ◌&&◌, ◌||◌, ◌+ℤ◌, ◌-ℤ◌, ◌≤ℤ◌, refl, unsigned_abs, ◌==◌}
-use Rattle.std.proofs.Common.{◌*ℤ◌, ◌<ℤ◌, int_lt}
-use Rattle.std.proofs.lemmas.Bool.Decides.{nat_tests}
+use Rattle.std.proofs.{Common.{◌*ℤ◌, ◌<ℤ◌, int_lt}, lemmas.Bool.Decides.{nat_tests}}
+use Rattle.gregorian.specs.{Year.{floor_div, floor_mod, days_in_year, year_start, LiesIn}, Steps.Floor.{floors}}
 use borrow.Author.Differences.{up, down}
-use Rattle.gregorian.specs.Year.{floor_div, floor_mod, days_in_year, year_start, LiesIn}
-use Rattle.gregorian.specs.Steps.Floor.{floors}
 
 -- what a quotient leaves, as numbers that `omega` reads
 pub floor_mod_parts : (z : ℤ) (n : ℕ) → 0 < n

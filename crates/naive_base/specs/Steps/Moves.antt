@@ -1,9 +1,6 @@
 -- What the code of moves computes with.
 use Rattle.std.specs.Prelude.{ℕ, ℤ, pos, neg_ℤ, ◌≤ℤ◌, Option, SomeIff, min}
-use Rattle.gregorian.specs.Year.{is_leap}
-use Rattle.gregorian.specs.Month.{days_in_month}
-use Rattle.gregorian.specs.Date.{day_number}
-use Rattle.gregorian.specs.DateOf.{day_of_month}
+use Rattle.gregorian.specs.{Year.{is_leap}, Month.{days_in_month}, Date.{day_number}, DateOf.{day_of_month}}
 use Rattle.naive_base.specs.Fields.{MayShow}
 
 -- a length of time and two seconds more at most

@@ -1,10 +1,8 @@
 -- What the walks over local times answer.
 use Rattle.std.specs.Prelude.{◌≡◌, ◌⊎◌, ℕ, ◌<◌, ◌≤◌, ℤ, pos, neg_ℤ, ◌+ℤ◌, ◌-ℤ◌, ◌*ℤ◌, ◌≤ℤ◌, ◌<ℤ◌}
 use Rattle.gregorian.specs.Year.{floor_mod}
-use Rattle.naive_plans.specs.Steps.RuleSteps.{own_period}
-use Rattle.naive_plans.specs.RecurrenceRules.{Counts, HasHour, HasMinute, HasSecond}
-use Rattle.naive_plans.specs.declared.rule.Frequency.TheVariants.{Hourly, Minutely, Secondly}
-use Rattle.naive_plans.specs.declared.rule.RecurrenceRule.{RecurrenceRule}
+use Rattle.naive_plans.specs.{Steps.RuleSteps.{own_period}, RecurrenceRules.{Counts, HasHour, HasMinute, HasSecond}}
+use Rattle.naive_plans.specs.declared.rule.{Frequency.TheVariants.{Hourly, Minutely, Secondly}, RecurrenceRule.{RecurrenceRule}}
 
 -- a second's period counts
 abbrev pub IsCounted : RecurrenceRule → ℤ → ℤ → Type 0

@@ -1,8 +1,6 @@
 -- How many times the days, hours, minutes and seconds of a rule have.
 use Rattle.std.specs.Prelude.{◌≡◌, ◌⊎◌, ℕ, zero, suc, ◌<◌, ℤ, pos, neg_ℤ, ◌<ℤ◌}
-use Rattle.naive_plans.specs.RecurrenceRules.{HasHour, HasMinute, HasSecond}
-use Rattle.naive_plans.specs.Steps.OccasionSteps.{IsPartOfHours}
-use Rattle.naive_plans.specs.declared.rule.Frequency.TheVariants.{Daily}
+use Rattle.naive_plans.specs.{RecurrenceRules.{HasHour, HasMinute, HasSecond}, Steps.OccasionSteps.{IsPartOfHours}, declared.rule.Frequency.TheVariants.{Daily}}
 use Rattle.naive_plans.specs.declared.rule.RecurrenceRule.{RecurrenceRule}
 
 -- the rule's periods are days, hours, minutes or seconds, and each has `n` seconds

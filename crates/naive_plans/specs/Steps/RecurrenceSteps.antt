@@ -1,7 +1,6 @@
 -- What the steps of a recurrence answer.
 use Rattle.std.specs.Prelude.{◌↔◌, ℤ, pos, neg_ℤ, ◌≤ℤ◌, ◌<ℤ◌}
-use Rattle.naive_plans.specs.RecurrenceSets.{IsRuleTime, IsWithinEnd}
-use Rattle.naive_plans.specs.declared.recurrence.RecurrenceEnd.{RecurrenceEnd}
+use Rattle.naive_plans.specs.{RecurrenceSets.{IsRuleTime, IsWithinEnd}, declared.recurrence.RecurrenceEnd.{RecurrenceEnd}}
 use Rattle.naive_plans.specs.declared.rule.RecurrenceRule.{RecurrenceRule}
 
 -- the first of a set that comes after a second, and is not after another one

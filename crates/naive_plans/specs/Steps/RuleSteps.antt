@@ -1,9 +1,7 @@
 -- Steps of the walks over local times.
 use Rattle.std.specs.Prelude.{ℕ, ◌<◌, ◌≤◌, ℤ, pos, neg_ℤ, ◌≤ℤ◌, ◌<ℤ◌, ◌+ℤ◌}
 use Rattle.naive_base.specs.Weekday.{weekday_number}
-use Rattle.naive_plans.specs.RecurrenceRules.{Counts, period_of}
-use Rattle.naive_plans.specs.declared.rule.Frequency.{Frequency}
-use Rattle.naive_plans.specs.declared.rule.Frequency.TheVariants.{Secondly}
+use Rattle.naive_plans.specs.{RecurrenceRules.{Counts, period_of}, declared.rule.Frequency.{Frequency, TheVariants.{Secondly}}}
 use Rattle.naive_plans.specs.declared.rule.RecurrenceRule.{RecurrenceRule}
 
 -- the days of the years -200 to 12000, about, and a week more

@@ -1,7 +1,6 @@
 -- What the steps of unions, exceptions and intersections return.
 use Rattle.std.specs.Prelude.{◌≡◌, ◌⊎◌, ℤ, ◌<ℤ◌, ◌≤ℤ◌, Bool, true, false, Option, Some, None}
-use Rattle.naive_base.specs.NaiveDateTime.{reading}
-use Rattle.naive_base.specs.declared.datetime.NaiveDateTime.{NaiveDateTime}
+use Rattle.naive_base.specs.{NaiveDateTime.{reading}, declared.datetime.NaiveDateTime.{NaiveDateTime}}
 
 -- the earlier of two local times, or the one that is there
 abbrev pub IsEarlierOf : Option NaiveDateTime → Option NaiveDateTime → Option NaiveDateTime → Type 0

@@ -1,8 +1,6 @@
 -- How a name is stored: eight bytes, with zeros after the name.
 use Rattle.std.specs.Prelude.{ℕ, ◌≡◌, ◌-◌, ◌<◌, ◌≤◌, true, List, length, take, slice_index, ◌++◌}
-use Rattle.std.proofs.Common.{arith, get_or, sym, ◌∙◌}
-use Rattle.std.proofs.lemmas.Grind.{same_number_lists, common_steps}
-use Rattle.std.proofs.Math.ListN.{replicate}
+use Rattle.std.proofs.{Common.{arith, get_or, sym, ◌∙◌}, lemmas.Grind.{same_number_lists, common_steps}, Math.ListN.{replicate}}
 use Rattle.tz_base.specs.Names.{is_name_byte, zero_ended}
 
 -- eight bytes hold a name of that length, and zeros after it

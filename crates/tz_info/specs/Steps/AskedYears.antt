@@ -1,12 +1,8 @@
 -- A rule is asked about years: which one is asked, and which one next.
 use Rattle.std.specs.Prelude.{◌≡◌, Bool, true, if◌then◌else◌, ℤ, pos, ◌-ℤ◌}
 use Rattle.tz_base.specs.declared.change.Change.{Change}
-use Rattle.tz_info.specs.Changes.{IsChange, Precedes}
-use Rattle.tz_info.specs.Moments.{AlternateAt, IsRuleYear, IsYearOf, end_in, start_in}
-use Rattle.tz_info.specs.Rules.{Alternate, IsAlternateRule}
-use Rattle.tz_info.specs.Steps.Changes.{IsNearRuleTime, year_at}
-use Rattle.tz_info.specs.Steps.ChangingYears.{is_changing}
-use Rattle.tz_info.specs.Steps.Kinds.{are_calm, seconds_by_kind}
+use Rattle.tz_info.specs.{Changes.{IsChange, Precedes}, Moments.{AlternateAt, IsRuleYear, IsYearOf, end_in, start_in}, Rules.{Alternate, IsAlternateRule}}
+use Rattle.tz_info.specs.Steps.{Changes.{IsNearRuleTime, year_at}, ChangingYears.{is_changing}, Kinds.{are_calm, seconds_by_kind}}
 use Rattle.tz_info.specs.declared.rule.asked.AskedYear.{AskedYear}
 
 -- whether clocks change in the year, by a rule whose types differ

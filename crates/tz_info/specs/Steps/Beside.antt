@@ -1,15 +1,8 @@
 -- What a rule says of a second: the type in force, and the seconds on both sides at which clocks change.
 use Rattle.std.specs.Prelude.{◌≡◌, Bool, true, false, ℤ, MatchOption, Option, option_map}
-use Rattle.tz_base.specs.LocalTypes.{LocalType}
-use Rattle.tz_info.specs.Changes.{HasNoChange, IsChange}
-use Rattle.tz_info.specs.Moments.{AlternateAt, type_when}
-use Rattle.tz_info.specs.Rules.{Alternate}
-use Rattle.tz_info.specs.Changes.{IsNearest}
-use Rattle.tz_info.specs.Steps.Changes.{IsAhead}
-use Rattle.tz_info.specs.Steps.Gaps.{moment_change}
-use Rattle.tz_base.specs.declared.change.Change.{Change}
-use Rattle.tz_info.specs.declared.rule.beside.Beside.{Beside}
-use Rattle.tz_info.specs.declared.rule.moments.Moment.{Moment}
+use Rattle.tz_base.specs.{LocalTypes.{LocalType}, declared.change.Change.{Change}}
+use Rattle.tz_info.specs.{Changes.{HasNoChange, IsChange, IsNearest}, Moments.{AlternateAt, type_when}, Rules.{Alternate}, Steps.Changes.{IsAhead}}
+use Rattle.tz_info.specs.{Steps.Gaps.{moment_change}, declared.rule.{beside.Beside.{Beside}, moments.Moment.{Moment}}}
 
 -- the change at the moment that was found, if one was
 abbrev pub change_found : Alternate → Option Moment → Option Change

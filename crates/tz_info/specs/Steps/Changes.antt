@@ -1,16 +1,10 @@
 -- The way to the next and to the previous change.
-use Rattle.std.specs.Prelude.{ℕ, ◌<◌, length, neg_ℤ, List, [], ◌∷◌, slice_index_or, ℤ, pos, ◌+ℤ◌, ◌-ℤ◌, ◌*ℤ◌, ◌≤ℤ◌, ◌<ℤ◌, ◌↔◌, ◌≡◌}
-use Rattle.std.specs.Prelude.{Option, Some, None, Bool, true, false, FitsSigned, if◌then◌else◌, int_lt}
-use Rattle.std.specs.Int.{w64}
+use Rattle.std.specs.Prelude.{ℕ, ◌<◌, length, neg_ℤ, List, [], ◌∷◌, slice_index_or, ℤ, pos, ◌+ℤ◌, ◌-ℤ◌, ◌*ℤ◌, ◌≤ℤ◌, ◌<ℤ◌, ◌↔◌, ◌≡◌, Option, Some, None, Bool}
+use Rattle.std.specs.{Prelude.{true, false, FitsSigned, if◌then◌else◌, int_lt}, Int.{w64}}
 use Rattle.naive_base.specs.Year.{year_start}
-use Rattle.tz_base.specs.LocalTypes.{LocalType}
-use Rattle.tz_info.specs.Changes.{IsChange}
-use Rattle.tz_info.specs.Leaps.{IsLeapTime}
-use Rattle.tz_info.specs.Moments.{IsRuleTime, IsYearOf, start_in, end_in}
-use Rattle.tz_info.specs.Rules.{Alternate}
-use Rattle.tz_info.specs.Steps.Segments.{segment_of}
-use Rattle.tz_info.specs.Zones.{Zone, IsFromLast}
-use Rattle.tz_base.specs.declared.change.Change.{Change}
+use Rattle.tz_base.specs.{LocalTypes.{LocalType}, declared.change.Change.{Change}}
+use Rattle.tz_info.specs.{Changes.{IsChange}, Leaps.{IsLeapTime}, Moments.{IsRuleTime, IsYearOf, start_in, end_in}, Rules.{Alternate}}
+use Rattle.tz_info.specs.{Steps.Segments.{segment_of}, Zones.{Zone, IsFromLast}}
 
 -- the first second of the year
 abbrev pub new_year : ℤ → ℤ

@@ -1,9 +1,7 @@
 -- The least and the greatest of some offsets, and how they are found.
 use Rattle.std.specs.Prelude.{◌≡◌, ◌⊎◌, List, map, ℤ, ◌≤ℤ◌}
 use Rattle.tz_base.specs.LocalTypes.{LocalType}
-use Rattle.tz_info.specs.Windows.{IsGreatest, IsLeast}
-use Rattle.tz_info.specs.declared.rule.transition_rule.TransitionRule.{TransitionRule}
-use Rattle.tz_info.specs.declared.rule.transition_rule.TransitionRule.TheVariants.{Fixed, Alternate}
+use Rattle.tz_info.specs.{Windows.{IsGreatest, IsLeast}, declared.rule.transition_rule.TransitionRule.{TransitionRule, TheVariants.{Fixed, Alternate}}}
 use Rattle.tz_info.specs.declared.zone.made.extremes.Extremes.{Extremes}
 
 abbrev pub offsets_of : List LocalType → List ℤ

@@ -1,18 +1,9 @@
 -- How the lists of a TZif file are parsed, and what its parser returns.
 use Rattle.std.specs.Prelude.{ℕ, ◌≡◌, ◌⊎◌, ◌*◌, ◌+◌, Result, Ok, Err, List, length, Option, option_map}
-use Rattle.tz_base.specs.LocalTypes.{LocalType}
-use Rattle.tz_base.specs.Fronts.{◌>>=◌}
-use Rattle.tz_base.specs.declared.error.Error.{Error}
-use Rattle.tz_base.specs.declared.error.Error.TheVariants.{OutOfMemory}
-use Rattle.tz_info.specs.Zones.{Zone}
-use Rattle.tz_info.specs.FileBlocks.{parts_of}
-use Rattle.tz_info.specs.FilePieces.{FilePieces, file}
-use Rattle.tz_info.specs.Steps.ContentReading.{values_below, transition_in, leap_second_in, type_in, indicators_of}
-use Rattle.tz_base.specs.Grammar.{read}
-use Rattle.tz_info.specs.Steps.FooterReading.{footer_of}
-use Rattle.tz_info.specs.declared.rule.transition_rule.TransitionRule.{TransitionRule}
-use Rattle.tz_info.specs.declared.file.reader.Pieces.{Pieces}
-use Rattle.tz_info.specs.declared.file.reader.Lists.{Lists}
+use Rattle.tz_base.specs.{LocalTypes.{LocalType}, Fronts.{◌>>=◌}, declared.error.Error.{Error, TheVariants.{OutOfMemory}}, Grammar.{read}}
+use Rattle.tz_info.specs.{Zones.{Zone}, FileBlocks.{parts_of}, FilePieces.{FilePieces, file}}
+use Rattle.tz_info.specs.Steps.{ContentReading.{values_below, transition_in, leap_second_in, type_in, indicators_of}, FooterReading.{footer_of}}
+use Rattle.tz_info.specs.declared.{rule.transition_rule.TransitionRule.{TransitionRule}, file.reader.{Pieces.{Pieces}, Lists.{Lists}}}
 
 abbrev pub pieces_of : Pieces → FilePieces
 pieces_of p = record {

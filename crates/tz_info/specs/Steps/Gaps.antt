@@ -1,12 +1,7 @@
 -- The way to the first second at which clocks show more than a local time that they never show.
 use Rattle.std.specs.Prelude.{◌≡◌, not, ℤ, pos, ◌+ℤ◌, ◌-ℤ◌, ◌≤ℤ◌, ◌<ℤ◌}
-use Rattle.tz_base.specs.LocalTypes.{LocalType}
-use Rattle.tz_base.specs.declared.change.Change.{Change}
-use Rattle.tz_info.specs.Leaps.{IsNear}
-use Rattle.tz_info.specs.Moments.{AlternateAt, type_when}
-use Rattle.tz_info.specs.Rules.{Alternate}
-use Rattle.tz_info.specs.Steps.Runs.{IsWindowOf}
-use Rattle.tz_info.specs.Zones.{Zone, TypeAt}
+use Rattle.tz_base.specs.{LocalTypes.{LocalType}, declared.change.Change.{Change}}
+use Rattle.tz_info.specs.{Leaps.{IsNear}, Moments.{AlternateAt, type_when}, Rules.{Alternate}, Steps.Runs.{IsWindowOf}, Zones.{Zone, TypeAt}}
 use Rattle.tz_info.specs.declared.rule.moments.Moment.{Moment}
 
 -- clocks show less at each near second up to s

@@ -1,12 +1,8 @@
 -- The span after a zone's last clock change.
-use Rattle.std.specs.Prelude.{ℤ, ◌<ℤ◌, ◌≤ℤ◌, FitsSigned}
-use Rattle.std.specs.Int.{w64}
+use Rattle.std.specs.{Prelude.{ℤ, ◌<ℤ◌, ◌≤ℤ◌, FitsSigned}, Int.{w64}}
 use Rattle.naive_base.specs.Range.{IsWide}
 use Rattle.offset_core.specs.WallAnswer.{IsShownOnce}
-use Rattle.tz_info.specs.Changes.{HasNoChange, IsLast}
-use Rattle.tz_info.specs.Spans.{IsSpanAt}
-use Rattle.tz_info.specs.WallClocks.{Shows}
-use Rattle.tz_info.specs.Zones.{Zone, TypeAt}
+use Rattle.tz_info.specs.{Changes.{HasNoChange, IsLast}, Spans.{IsSpanAt}, WallClocks.{Shows}, Zones.{Zone, TypeAt}}
 use Rattle.tz_info.specs.declared.zone.made.last_span.LastSpan.{LastSpan}
 
 -- each later second up to the last that has a type lies in the span; after no later second clocks change, and the change that began

@@ -1,21 +1,12 @@
 -- The pieces of some neighbouring segments, and the search in them.
 use Rattle.std.specs.Prelude.{ℕ, zero, suc, ℤ, ◌≡◌, ◌⊎◌, ◌+◌, ◌-◌, ◌*◌, ◌<◌, ◌≤◌, ◌+ℤ◌, ◌≤ℤ◌, if◌then◌else◌, nat_lt, List, length, Option, None as none}
-use Rattle.std.specs.Prelude.{slice_get, Some as some}
-use Rattle.std.specs.Int.{saturate_signed, w64}
+use Rattle.std.specs.{Prelude.{slice_get, Some as some}, Int.{saturate_signed, w64}}
 use Rattle.naive_base.specs.Range.{IsWide}
-use Rattle.offset_core.specs.declared.local_result.LocalResult.{LocalResult}
-use Rattle.offset_core.specs.declared.local_result.LocalResult.TheVariants.{None, Single, Ambiguous}
-use Rattle.tz_base.specs.LocalTypes.{LocalType, IsUtOffset}
-use Rattle.tz_base.specs.declared.change.Change.{Change}
-use Rattle.tz_info.specs.Steps.Segments.{begin_of, index_of}
-use Rattle.tz_info.specs.Steps.WallPieces.{AreInOrder, IsShownAmong, answer_at}
-use Rattle.tz_info.specs.Zones.{Zone}
-use Rattle.tz_info.specs.declared.zone.made.segments.Segment.{Segment}
-use Rattle.tz_info.specs.declared.zone.made.pieces.Piece.{Piece}
-use Rattle.tz_info.specs.declared.zone.made.segments.Lists.{Lists}
-use Rattle.tz_info.specs.declared.zone.made.shown.Shown.{Shown}
-use Rattle.tz_info.specs.declared.zone.made.shown.Shown.TheVariants.{Skipped, Once, Several}
-use Rattle.tz_info.specs.declared.zone.lists.transition.Transition.{Transition}
+use Rattle.offset_core.specs.declared.local_result.LocalResult.{LocalResult, TheVariants.{None, Single, Ambiguous}}
+use Rattle.tz_base.specs.{LocalTypes.{LocalType, IsUtOffset}, declared.change.Change.{Change}}
+use Rattle.tz_info.specs.{Steps.{Segments.{begin_of, index_of}, WallPieces.{AreInOrder, IsShownAmong, answer_at}}, Zones.{Zone}}
+use Rattle.tz_info.specs.declared.zone.made.{segments.{Segment.{Segment}, Lists.{Lists}}, pieces.Piece.{Piece}, shown.Shown.{Shown}}
+use Rattle.tz_info.specs.declared.zone.{made.shown.Shown.TheVariants.{Skipped, Once, Several}, lists.transition.Transition.{Transition}}
 
 -- the zone of lists that are lent
 abbrev pub zone_in : Lists → Zone

@@ -1,9 +1,6 @@
 -- What the functions that look for the fault of a file hand from one to the next.
 use Rattle.std.specs.Prelude.{ℕ, ◌≡◌, ◌≢◌, Bool, List, slice_index, Option, Some, None}
-use Rattle.tz_info.specs.FileContents.{HasNoZero}
-use Rattle.tz_info.specs.FilePlaces.{IsFooterPlace, IsTextPlace}
-use Rattle.tz_info.specs.Footers.{SaysRule}
-use Rattle.tz_info.specs.TzFiles.{HasRule}
+use Rattle.tz_info.specs.{FileContents.{HasNoZero}, FilePlaces.{IsFooterPlace, IsTextPlace}, Footers.{SaysRule}, TzFiles.{HasRule}}
 use Rattle.tz_info.specs.declared.rule.transition_rule.TransitionRule.{TransitionRule}
 
 -- the position of the fault in the text of a footer, or nothing of a text that says a rule or none

@@ -1,11 +1,6 @@
 -- What a zone keeps in addition to its lists.
-use Rattle.tz_info.specs.Steps.Extremes.{AreExtremes}
-use Rattle.tz_info.specs.Steps.Entries.{AreEntries, Entries}
-use Rattle.tz_info.specs.Steps.LastSpans.{IsLastSpan}
-use Rattle.tz_info.specs.Steps.WallPieces.{WallIndex, IsIndex}
-use Rattle.tz_info.specs.Windows.{offsets}
-use Rattle.tz_info.specs.Zones.{Zone, IsValid, IsRuleOrNone}
-use Rattle.tz_info.specs.declared.zone.made.extremes.Extremes.{Extremes}
+use Rattle.tz_info.specs.Steps.{Extremes.{AreExtremes}, Entries.{AreEntries, Entries}, LastSpans.{IsLastSpan}, WallPieces.{WallIndex, IsIndex}}
+use Rattle.tz_info.specs.{Windows.{offsets}, Zones.{Zone, IsValid, IsRuleOrNone}, declared.zone.made.extremes.Extremes.{Extremes}}
 use Rattle.tz_info.specs.declared.zone.made.last_span.LastSpan.{LastSpan}
 
 -- a valid zone with its least and greatest offset, its index, its entries and its last span, which were made from its lists when it was

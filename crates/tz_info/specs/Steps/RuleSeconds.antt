@@ -1,10 +1,7 @@
 -- A rule's seconds from one second on: the types there, and how often the rule is asked for a local time.
 use Rattle.std.specs.Prelude.{ℕ, ℤ, ◌≡◌, ◌+◌, ◌-ℤ◌, ◌≤ℤ◌, ◌<ℤ◌, ◌⊎◌, Contains, Some}
 use Rattle.tz_base.specs.LocalTypes.{LocalType, IsUtOffset}
-use Rattle.tz_info.specs.Questions.{IsAskedAtEach}
-use Rattle.tz_info.specs.RuleTypes.{RuleAt}
-use Rattle.tz_info.specs.Windows.{rule_offsets}
-use Rattle.tz_info.specs.declared.rule.transition_rule.TransitionRule.{TransitionRule}
+use Rattle.tz_info.specs.{Questions.{IsAskedAtEach}, RuleTypes.{RuleAt}, Windows.{rule_offsets}, declared.rule.transition_rule.TransitionRule.{TransitionRule}}
 
 -- the second u comes at `from` or later, and the rule's type there is t
 pub record TypeFrom (rule : TransitionRule) (from u : ℤ) (t : LocalType) : Type 0 where

@@ -1,10 +1,7 @@
 -- Runs of seconds at which one type is in force.
 use Rattle.std.specs.Prelude.{◌≡◌, Bool, true, false, ℤ, pos, neg_ℤ, ◌-ℤ◌, ◌≤ℤ◌, ◌<ℤ◌, Option, MatchOption}
 use Rattle.tz_base.specs.LocalTypes.{LocalType}
-use Rattle.tz_info.specs.Changes.{Precedes}
-use Rattle.tz_info.specs.Leaps.{IsNear}
-use Rattle.tz_info.specs.Windows.{IsGreatest, IsLeast, offsets}
-use Rattle.tz_info.specs.Zones.{Zone, TypeAt}
+use Rattle.tz_info.specs.{Changes.{Precedes}, Leaps.{IsNear}, Windows.{IsGreatest, IsLeast, offsets}, Zones.{Zone, TypeAt}}
 use Rattle.tz_info.specs.ShownSeconds.{IsFirstWithin, IsLastWithin, ShowsWithin}
 
 -- the type of `at` is in force from the second `at` on and before `end`; if `end` is before `limit`, another type is in force then

@@ -1,10 +1,8 @@
 -- Where segments end on the wall-clock axis, and the first one in which clocks show a local time or a later one.
-use Rattle.std.specs.Prelude.{ℕ, suc, ℤ, pos, ◌≡◌, ◌-◌, ◌<◌, ◌≤◌, ◌-ℤ◌, ◌+ℤ◌, ◌≤ℤ◌}
-use Rattle.std.specs.Prelude.{◌<ℤ◌, ◌↔◌, List, length, Option, None, Some, slice_get, slice_index_or, FitsSigned}
-use Rattle.std.specs.Int.{saturate_signed, w64}
+use Rattle.std.specs.Prelude.{ℕ, suc, ℤ, pos, ◌≡◌, ◌-◌, ◌<◌, ◌≤◌, ◌-ℤ◌, ◌+ℤ◌, ◌≤ℤ◌, ◌<ℤ◌, ◌↔◌, List, length, Option, None, Some, slice_get, slice_index_or}
+use Rattle.std.specs.{Prelude.{FitsSigned}, Int.{saturate_signed, w64}}
 use Rattle.tz_base.specs.LocalTypes.{IsUtOffset, LocalType}
-use Rattle.tz_info.specs.Steps.Segments.{begin_of, index_of}
-use Rattle.tz_info.specs.declared.zone.lists.transition.Transition.{Transition}
+use Rattle.tz_info.specs.{Steps.Segments.{begin_of, index_of}, declared.zone.lists.transition.Transition.{Transition}}
 
 abbrev pub offset_of : Option LocalType → ℤ
 offset_of (Some t) = t.offset

@@ -1,19 +1,11 @@
 -- What the reader of a TZ string hands from one function to the next: the rule of it, and its limits.
-use Rattle.std.specs.Prelude.{ℕ, ℤ, ◌≡◌, ◌+◌, Bool, false, List, Result, Ok, Err, Some}
-use Rattle.std.specs.Char.{is_ascii_whitespace}
-use Rattle.std.specs.List.{prefix_len}
+use Rattle.std.specs.{Prelude.{ℕ, ℤ, ◌≡◌, ◌+◌, Bool, false, List, Result, Ok, Err, Some}, Char.{is_ascii_whitespace}, List.{prefix_len}}
 use Rattle.offset_core.specs.Offset.{IsWithinDay}
-use Rattle.tz_base.specs.Grammar.{read}
-use Rattle.tz_base.specs.LocalTypes.{LocalType}
-use Rattle.tz_base.specs.declared.parse_error.ParseError.{ParseError}
-use Rattle.tz_info.specs.Rules.{Alternate, IsWithinWeek}
-use Rattle.tz_info.specs.Trims.{IsTrimmed}
-use Rattle.tz_info.specs.TzGrammar.{text, text_fault_position, IsTzText, IsTextFault}
-use Rattle.tz_info.specs.declared.rule.day.DayForm.{DayForm}
-use Rattle.tz_info.specs.declared.rule.day.DayTime.{DayTime}
-use Rattle.tz_info.specs.declared.rule.reader.text.Spelled.{Spelled}
-use Rattle.tz_info.specs.declared.rule.reader.text.Spelled.TheVariants as spelled
+use Rattle.tz_base.specs.{Grammar.{read}, LocalTypes.{LocalType}, declared.parse_error.ParseError.{ParseError}}
+use Rattle.tz_info.specs.{Rules.{Alternate, IsWithinWeek}, Trims.{IsTrimmed}, TzGrammar.{text, text_fault_position, IsTzText, IsTextFault}}
+use Rattle.tz_info.specs.declared.rule.{day.{DayForm.{DayForm}, DayTime.{DayTime}}, reader.text.Spelled.{Spelled}}
 use Rattle.tz_info.specs.declared.rule.transition_rule.TransitionRule.{TransitionRule}
+use Rattle.tz_info.specs.declared.rule.reader.text.Spelled.TheVariants as spelled
 use Rattle.tz_info.specs.declared.rule.transition_rule.TransitionRule.TheVariants as rules
 
 -- a day with its time, and the rule of two types and two such days

@@ -1,10 +1,7 @@
 -- From which second on, and up to which one, a zone has a type.
-use Rattle.std.specs.Prelude.{ℤ, pos, ◌≡◌, ◌-ℤ◌, ◌≤ℤ◌, ◌<ℤ◌, FitsSigned, Option, Some, MatchOption}
-use Rattle.std.specs.Int.{w64}
-use Rattle.tz_base.specs.LocalTypes.{LocalType}
-use Rattle.tz_base.specs.declared.change.Change.{Change}
-use Rattle.tz_info.specs.Leaps.{least_time}
-use Rattle.tz_info.specs.Zones.{Zone, TypeAt}
+use Rattle.std.specs.{Prelude.{ℤ, pos, ◌≡◌, ◌-ℤ◌, ◌≤ℤ◌, ◌<ℤ◌, FitsSigned, Option, Some, MatchOption}, Int.{w64}}
+use Rattle.tz_base.specs.{LocalTypes.{LocalType}, declared.change.Change.{Change}}
+use Rattle.tz_info.specs.{Leaps.{least_time}, Zones.{Zone, TypeAt}}
 
 -- the zone has a type at the second u
 abbrev pub IsTyped : Zone → ℤ → Type 0

@@ -1,14 +1,8 @@
 -- The walk's steps: what one segment adds to an answer.
-use Rattle.std.specs.Prelude.{ℕ, ◌≡◌, ℤ, ◌-ℤ◌, ◌≤ℤ◌, ◌<ℤ◌, ◌⊎◌, FitsSigned, Option, Some}
-use Rattle.std.specs.Int.{w64}
-use Rattle.offset_core.specs.declared.local_result.LocalResult.{LocalResult}
-use Rattle.offset_core.specs.declared.local_result.LocalResult.TheVariants.{Single}
+use Rattle.std.specs.{Prelude.{ℕ, ◌≡◌, ℤ, ◌-ℤ◌, ◌≤ℤ◌, ◌<ℤ◌, ◌⊎◌, FitsSigned, Option, Some}, Int.{w64}}
+use Rattle.offset_core.specs.declared.local_result.LocalResult.{LocalResult, TheVariants.{Single}}
 use Rattle.tz_base.specs.LocalTypes.{LocalType}
-use Rattle.tz_info.specs.Leaps.{IsLeapTime, least_time}
-use Rattle.tz_info.specs.Steps.Segments.{segment_of}
-use Rattle.tz_info.specs.Steps.Answers.{joined}
-use Rattle.tz_info.specs.WallClocks.{Shows}
-use Rattle.tz_info.specs.Steps.WallPieces.{ShownAmong}
+use Rattle.tz_info.specs.{Leaps.{IsLeapTime, least_time}, Steps.{Segments.{segment_of}, Answers.{joined}, WallPieces.{ShownAmong}}, WallClocks.{Shows}}
 use Rattle.tz_info.specs.Zones.{Zone, HasType, TypeAt}
 
 -- the type at the second u, which lies in segment i, is t

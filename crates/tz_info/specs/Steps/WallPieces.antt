@@ -1,27 +1,14 @@
 -- The wall-clock axis of a zone in pieces: on each of them the segments between the zone's entries answer alike.
 use Rattle.std.specs.Prelude.{ℕ, ℤ, pos, ◌≡◌, ◌⊎◌, ◌+◌, ◌*◌, ◌<◌, ◌≤◌, ◌+ℤ◌, ◌≤ℤ◌, ◌<ℤ◌, ◌↔◌, int_le, List, length, map, filter, AllPairs, FitsSigned, suc}
-use Rattle.std.specs.Prelude.{Option}
-use Rattle.std.specs.Prelude.{None as none, Some as some}
-use Rattle.std.specs.Int.{w64}
+use Rattle.std.specs.{Prelude.{Option, None as none, Some as some}, Int.{w64}}
 use Rattle.naive_base.specs.Range.{IsWide}
-use Rattle.offset_core.specs.WallAnswer.{IsWallAnswer}
-use Rattle.offset_core.specs.declared.local_result.LocalResult.{LocalResult}
-use Rattle.offset_core.specs.declared.local_result.LocalResult.TheVariants.{None, Single, Ambiguous}
+use Rattle.offset_core.specs.{WallAnswer.{IsWallAnswer}, declared.local_result.LocalResult.{LocalResult, TheVariants.{None, Single, Ambiguous}}}
 use Rattle.tz_base.specs.LocalTypes.{LocalType}
-use Rattle.tz_info.specs.Leaps.{IsLeapTime, IsNear}
-use Rattle.tz_info.specs.Lists.{last_else}
-use Rattle.tz_info.specs.Steps.Entries.{AreEntries, Entries}
-use Rattle.tz_info.specs.Steps.SegmentEnds.{AreEnds}
-use Rattle.tz_info.specs.Steps.Segments.{begin_of, index_of, segment_of, table_count}
-use Rattle.tz_info.specs.Transitions.{AreRising, NameTypes, passed}
-use Rattle.tz_info.specs.WallClocks.{Shows}
-use Rattle.tz_info.specs.Zones.{Zone, HasType, TypeAt}
-use Rattle.tz_info.specs.declared.rule.transition_rule.TransitionRule.{TransitionRule}
-use Rattle.tz_info.specs.declared.zone.lists.leap_second.LeapSecond.{LeapSecond}
-use Rattle.tz_info.specs.declared.zone.made.pieces.Piece.{Piece}
-use Rattle.tz_info.specs.declared.zone.made.shown.Shown.{Shown}
-use Rattle.tz_info.specs.declared.zone.made.shown.Shown.TheVariants.{Less, Skipped, Once, Several}
-use Rattle.tz_info.specs.declared.zone.lists.transition.Transition.{Transition}
+use Rattle.tz_info.specs.{Leaps.{IsLeapTime, IsNear}, Lists.{last_else}, Steps.{Entries.{AreEntries, Entries}, SegmentEnds.{AreEnds}}}
+use Rattle.tz_info.specs.{Steps.Segments.{begin_of, index_of, segment_of, table_count}, Transitions.{AreRising, NameTypes, passed}, WallClocks.{Shows}}
+use Rattle.tz_info.specs.{Zones.{Zone, HasType, TypeAt}, declared.rule.transition_rule.TransitionRule.{TransitionRule}}
+use Rattle.tz_info.specs.declared.zone.{lists.leap_second.LeapSecond.{LeapSecond}, made.{pieces.Piece.{Piece}, shown.Shown.{Shown}}}
+use Rattle.tz_info.specs.declared.zone.{made.shown.Shown.TheVariants.{Less, Skipped, Once, Several}, lists.transition.Transition.{Transition}}
 
 -- the starts of the pieces don't fall
 abbrev pub AreInOrder : List Piece → Type 0

@@ -1,14 +1,8 @@
 -- Walks from a second of daylight saving time to standard time, and to the next use of a type.
-use Rattle.std.specs.Prelude.{ℕ, suc, ℤ, ◌↔◌, ◌≡◌, ◌≤ℤ◌, ◌<ℤ◌, FitsSigned, true, Option, MatchOption}
-use Rattle.std.specs.Int.{w64}
-use Rattle.tz_base.specs.LocalTypes.{LocalType}
-use Rattle.tz_base.specs.declared.change.Change.{Change}
-use Rattle.tz_info.specs.Changes.{IsChange}
-use Rattle.tz_info.specs.declared.rule.transition_rule.TransitionRule.{TransitionRule}
-use Rattle.tz_saving.specs.Amounts.{IsNextUse}
-use Rattle.tz_saving.specs.Candidates.{AreCandidates, IsOnly}
-use Rattle.tz_saving.specs.Reach.{HasChanges, reach}
-use Rattle.tz_saving.specs.Sides.{IsFound}
+use Rattle.std.specs.{Prelude.{ℕ, suc, ℤ, ◌↔◌, ◌≡◌, ◌≤ℤ◌, ◌<ℤ◌, FitsSigned, true, Option, MatchOption}, Int.{w64}}
+use Rattle.tz_base.specs.{LocalTypes.{LocalType}, declared.change.Change.{Change}}
+use Rattle.tz_info.specs.{Changes.{IsChange}, declared.rule.transition_rule.TransitionRule.{TransitionRule}}
+use Rattle.tz_saving.specs.{Amounts.{IsNextUse}, Candidates.{AreCandidates, IsOnly}, Reach.{HasChanges, reach}, Sides.{IsFound}}
 
 -- at the second u a type with the DST flag is in force
 pub record IsFlagged (in_force : ℤ → LocalType → Type 0) (u : ℤ) : Type 0 where

@@ -1,13 +1,8 @@
 -- What the parts of a written file rest on.
 use Rattle.std.specs.Prelude.{◌≡◌, All}
-use Rattle.tz_info.specs.Zones.{Zone}
-use Rattle.tz_info.specs.declared.file.header.Counts.{Counts}
-use Rattle.tz_write.specs.FileBytes.{counts_of, zone_counts}
-use Rattle.tz_write.specs.FileDesignations.{AreShortest}
-use Rattle.tz_write.specs.FileLayouts.{HavePlaces, IsLaid}
-use Rattle.tz_write.specs.WrittenFiles.{HasCounts, HasIndex}
-use Rattle.tz_write.specs.declared.file.header.Sizes.{Sizes}
-use Rattle.tz_write.specs.declared.file.writer.Room.{Room}
+use Rattle.tz_info.specs.{Zones.{Zone}, declared.file.header.Counts.{Counts}}
+use Rattle.tz_write.specs.{FileBytes.{counts_of, zone_counts}, FileDesignations.{AreShortest}, FileLayouts.{HavePlaces, IsLaid}}
+use Rattle.tz_write.specs.{WrittenFiles.{HasCounts, HasIndex}, declared.file.{header.Sizes.{Sizes}, writer.Room.{Room}}}
 
 abbrev pub counts_in : Sizes → Counts
 counts_in s = counts_of s.leap_seconds s.transitions s.types s.designations

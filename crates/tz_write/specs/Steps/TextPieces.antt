@@ -1,17 +1,12 @@
 -- The texts of the pieces of a TZ string.
 use Rattle.std.specs.Prelude.{ℕ, ℤ, pos, int_lt, ◌+ℤ◌, ◌+◌, ◌/◌, ◌%◌, ◌==◌, ◌&&◌, Bool, if◌then◌else◌, List, [], ◌∷◌, ◌++◌, decimal}
-use Rattle.std.specs.Int.RustNames.{unsigned_abs}
-use Rattle.std.specs.Ordering.{int_eq}
-use Rattle.std.specs.List.{list_all}
+use Rattle.std.specs.{Int.RustNames.{unsigned_abs}, Ordering.{int_eq}, List.{list_all}}
 use Rattle.tz_base.specs.LocalTypes.{LocalType}
-use Rattle.tz_info.specs.TzGrammar.{comma, minus, dot, slash, colon, less, greater, letter_J, letter_M, is_letter}
-use Rattle.tz_info.specs.Rules.{Alternate}
-use Rattle.tz_info.specs.declared.rule.day.DayForm.{DayForm}
-use Rattle.tz_info.specs.declared.rule.day.DayForm.TheVariants.{Julian1, Julian0, MonthWeekday}
-use Rattle.tz_info.specs.declared.rule.day.DayTime.{DayTime}
+use Rattle.tz_info.specs.{TzGrammar.{comma, minus, dot, slash, colon, less, greater, letter_J, letter_M, is_letter}, Rules.{Alternate}}
+use Rattle.tz_info.specs.declared.rule.day.{DayForm.{DayForm, TheVariants.{Julian1, Julian0, MonthWeekday}}, DayTime.{DayTime}}
 use Rattle.tz_info.specs.declared.rule.transition_rule.TransitionRule.{TransitionRule}
-use Rattle.tz_info.specs.declared.rule.transition_rule.TransitionRule.TheVariants as rules
 use Rattle.tz_write.specs.FileDesignations.{name_of}
+use Rattle.tz_info.specs.declared.rule.transition_rule.TransitionRule.TheVariants as rules
 
 -- ---- offsets and times
 -- a colon and a number below 100 in two digits

@@ -1,13 +1,8 @@
 -- What a column keeps of stretches of times, and what is asked about its times.
 use Rattle.std.specs.Prelude.{ℕ, ℤ, ◌≡◌, ◌≢◌, ◌+ℤ◌, ◌≤ℤ◌, ◌<ℤ◌, ◌≤◌, ◌<◌, pos, List, All, slice_index_or}
 use Rattle.tz_info.specs.Zones.{Zone}
-use Rattle.zoned_ffi.specs.Columns.{AreAnswered, IsAnswered, IsAnsweredOrNone, IsFirstWithout, IsNotAnswered}
-use Rattle.zoned_ffi.specs.Units.{IsCounted, no_time}
-use Rattle.zoned_ffi.specs.declared.column.Question.{Question}
-use Rattle.zoned_ffi.specs.declared.column.Stop.{Stop}
-use Rattle.zoned_ffi.specs.declared.column.Way.{Way}
-use Rattle.zoned_ffi.specs.declared.column.kept.Kept.{Kept}
-use Rattle.zoned_ffi.specs.declared.unit.Unit.{Unit}
+use Rattle.zoned_ffi.specs.{Columns.{AreAnswered, IsAnswered, IsAnsweredOrNone, IsFirstWithout, IsNotAnswered}, Units.{IsCounted, no_time}}
+use Rattle.zoned_ffi.specs.declared.{column.{Question.{Question}, Stop.{Stop}, Way.{Way}, kept.Kept.{Kept}}, unit.Unit.{Unit}}
 
 -- the answer to a time by a question, and the error if it has no answer
 abbrev pub IsAnsweredBy : Question → ℤ → ℤ → Type 0

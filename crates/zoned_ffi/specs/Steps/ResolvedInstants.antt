@@ -3,13 +3,8 @@ use Rattle.std.specs.Prelude.{ℤ, ◌-ℤ◌, ◌*ℤ◌, ◌≡◌, ◌⊎◌,
 use Rattle.naive_base.specs.Range.{IsInRange}
 use Rattle.tz_base.specs.LocalTypes.{LocalType}
 use Rattle.tz_info.specs.Zones.{Zone}
-use Rattle.zoned_ffi.specs.Instants.{IsWrittenOffsetAt}
-use Rattle.zoned_ffi.specs.Resolved.{IsTakenGapEnd, IsTakenType, unresolved}
-use Rattle.zoned_ffi.specs.Units.{per_second}
-use Rattle.zoned_ffi.specs.declared.choice.Choice.{Choice}
-use Rattle.zoned_ffi.specs.declared.resolved.Resolved.{Resolved}
-use Rattle.zoned_ffi.specs.declared.resolved.Taken.{Taken}
-use Rattle.zoned_ffi.specs.declared.resolved.Taken.TheVariants.{InForce, Shifted, GapEnd}
+use Rattle.zoned_ffi.specs.{Instants.{IsWrittenOffsetAt}, Resolved.{IsTakenGapEnd, IsTakenType, unresolved}, Units.{per_second}}
+use Rattle.zoned_ffi.specs.declared.{choice.Choice.{Choice}, resolved.{Resolved.{Resolved}, Taken.{Taken, TheVariants.{InForce, Shifted, GapEnd}}}}
 use Rattle.zoned_ffi.specs.declared.unit.Unit.{Unit}
 
 -- the second u and an offset, or that u is out of range

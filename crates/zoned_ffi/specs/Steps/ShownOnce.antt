@@ -3,8 +3,7 @@ use Rattle.std.specs.Prelude.{ℤ, ◌≡◌, ◌≤ℤ◌, ◌<ℤ◌}
 use Rattle.naive_base.specs.Range.{IsInRange}
 use Rattle.offset_core.specs.WallAnswer.{IsShownOnce}
 use Rattle.tz_base.specs.LocalTypes.{LocalType, IsUtOffset}
-use Rattle.tz_info.specs.WallClocks.{Shows}
-use Rattle.tz_info.specs.Zones.{Zone, TypeAt}
+use Rattle.tz_info.specs.{WallClocks.{Shows}, Zones.{Zone, TypeAt}}
 use Rattle.zoned_ffi.specs.declared.local_lookups.Held.{Held}
 
 -- the local time is in the calendar's range, and one second shows it, at which that offset is in force

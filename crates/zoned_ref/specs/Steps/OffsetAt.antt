@@ -1,16 +1,12 @@
 -- The offset of a zone made a function of the second: a second has one at most, so that if it has some, that is one to
 -- speak of.
-use Rattle.std.specs.Prelude.{◌≡◌, ℤ, pos, neg_ℤ}
-use Rattle.std.specs.Coded.{Coded-set, coded_ℤ}
-use Rattle.std.specs.Int.Signed.{clash_ℤ}
-use Rattle.std.proofs.Common.{sym, ap, ◌∙◌, refl}
-use Rattle.std.proofs.Math.Logic.{∥∥₁_prop, ∥∥₁_elim}
-use Rattle.std.proofs.lemmas.Int.{by_lt_z}
-use mathlib.Core.HLevel.{Σ_prop_path}
+use Rattle.std.specs.{Prelude.{◌≡◌, ℤ, pos, neg_ℤ}, Coded.{Coded-set, coded_ℤ}, Int.Signed.{clash_ℤ}}
+use Rattle.std.proofs.{Common.{sym, ap, ◌∙◌, refl}, Math.Logic.{∥∥₁_prop, ∥∥₁_elim}, lemmas.Int.{by_lt_z}}
 use Rattle.tz_info.specs.Zones.{Zone}
 use Rattle.tz_info.proofs.ForCallers.{type_once}
 use Rattle.zoned_time.specs.Zone.{IsZoneSecond}
 use Rattle.zoned_ref.specs.Offsets.{HasOffset, HasOffsets}
+use mathlib.Core.HLevel.{Σ_prop_path}
 
 -- a second has at most one offset
 pub one_offset : (z : Zone) (u j k : ℤ) → HasOffset z u j → HasOffset z u k → j ≡ k

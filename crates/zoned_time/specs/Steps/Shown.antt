@@ -1,8 +1,7 @@
 -- Steps of the search for seconds at which clocks show a plan's local times.
 use Rattle.std.specs.Prelude.{◌⊎◌, ℤ, pos, ◌+ℤ◌, ◌-ℤ◌, ◌≤ℤ◌, ◌<ℤ◌}
 use Rattle.naive_base.specs.Range.{IsInRange, IsWide}
-use Rattle.zoned_time.specs.Fires.{IsFire}
-use Rattle.zoned_time.specs.Policies.{IsShownFire}
+use Rattle.zoned_time.specs.{Fires.{IsFire}, Policies.{IsShownFire}}
 
 -- the plan fires at the second u, and clocks show one of its local times
 abbrev pub IsFirstShown : (ℤ → ℤ) → (ℤ → Type 0) → ℤ → Type 0

@@ -1,10 +1,7 @@
 -- What the sides of a change print.
 use Rattle.std.specs.Prelude.{ℕ, List, ◌++◌, codes}
-use Rattle.naive_base.specs.NaiveDateTime.{reading}
-use Rattle.naive_base.specs.Text.{reading_text}
-use Rattle.zonedump_lib.specs.Words.{type_words}
-use Rattle.zonedump_lib.specs.declared.change_lines.Side.{Side}
-use Rattle.zonedump_lib.specs.declared.change_lines.SidesText.{SidesText}
+use Rattle.naive_base.specs.{NaiveDateTime.{reading}, Text.{reading_text}}
+use Rattle.zonedump_lib.specs.{Words.{type_words}, declared.change_lines.{Side.{Side}, SidesText.{SidesText}}}
 
 -- the local date-time, and the type
 abbrev pub side_of : Side → List ℕ

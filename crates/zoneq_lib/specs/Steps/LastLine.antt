@@ -1,9 +1,7 @@
 -- What becomes of the line that no newline ends.
-use Rattle.std.specs.Prelude.{◌≡◌, ℕ, ◌<◌, List, [], ◌∷◌, ◌++◌, ◌⊎◌, Bool, true, false, Option, length, codes}
-use Rattle.std.specs.Io.KnownBytes.{Appends}
+use Rattle.std.specs.{Prelude.{◌≡◌, ℕ, ◌<◌, List, [], ◌∷◌, ◌++◌, ◌⊎◌, Bool, true, false, Option, length, codes}, Io.KnownBytes.{Appends}}
 use Rattle.tz_info.specs.Zones.{Zone}
-use Rattle.zoneq_lib.specs.Answers.{AnswersLine}
-use Rattle.zoneq_lib.specs.declared.run_error.RunError.{RunError}
+use Rattle.zoneq_lib.specs.{Answers.{AnswersLine}, declared.run_error.RunError.{RunError}}
 use Rattle.zoneq_lib.specs.declared.run_error.RunError.TheVariants as errors
 
 -- the answer to the line that ends after the bytes, if there is one

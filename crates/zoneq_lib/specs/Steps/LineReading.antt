@@ -3,8 +3,7 @@ use Rattle.std.specs.Prelude.{◌≡◌, ℕ, ◌==◌, if◌then◌else◌, Lis
 use Rattle.tz_base.specs.Fronts.{run_of, after_run, int_at, exact_at}
 use Rattle.tz_base.specs.Grammar.{Grammar, Nothing, Then, Marked, Ended, Byte, Run, Number, Exact, Rest, Refused, Check, Here, At, is_end}
 use Rattle.tz_base.specs.declared.error.Error.{Error}
-use Rattle.zoneq_lib.specs.declared.bad_line.BadLine.{BadLine}
-use Rattle.zoneq_lib.specs.declared.bad_line.BadLine.TheVariants.{Unfinished, Hopeless}
+use Rattle.zoneq_lib.specs.declared.bad_line.BadLine.{BadLine, TheVariants.{Unfinished, Hopeless}}
 
 infixl 10 ◌>>=◌
 abbrev pub ◌>>=◌ : {A B : Type 0} → Result A BadLine → (A → Result B BadLine) → Result B BadLine

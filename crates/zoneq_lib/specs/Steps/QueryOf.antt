@@ -1,8 +1,6 @@
 -- A question as what a line asks.
 use Rattle.naive_base.specs.NaiveDateTime.{reading}
-use Rattle.zoneq_lib.specs.Hex.{bytes_of}
-use Rattle.zoneq_lib.specs.Questions.{Query, Text, Data, At, Wall, Resolve, Show}
-use Rattle.zoneq_lib.specs.declared.question.Question.{Question}
+use Rattle.zoneq_lib.specs.{Hex.{bytes_of}, Questions.{Query, Text, Data, At, Wall, Resolve, Show}, declared.question.Question.{Question}}
 use Rattle.zoneq_lib.specs.declared.question.Question.TheVariants as questions
 
 -- what a question asks

@@ -1,9 +1,7 @@
 -- What becomes of one line.
-use Rattle.std.specs.Prelude.{◌≡◌, ℕ, List, [], ◌++◌, Bool, true, false, Option, codes}
-use Rattle.std.specs.Io.KnownBytes.{Appends}
+use Rattle.std.specs.{Prelude.{◌≡◌, ℕ, List, [], ◌++◌, Bool, true, false, Option, codes}, Io.KnownBytes.{Appends}}
 use Rattle.tz_info.specs.Zones.{Zone}
-use Rattle.zoneq_lib.specs.Answers.{AnswersLine}
-use Rattle.zoneq_lib.specs.declared.run_error.RunError.{RunError}
+use Rattle.zoneq_lib.specs.{Answers.{AnswersLine}, declared.run_error.RunError.{RunError}}
 use Rattle.zoneq_lib.specs.declared.run_error.RunError.TheVariants as errors
 
 -- a line was answered, and the answer was written
