@@ -8,7 +8,7 @@ ghost use Rattle.tz_info.specs.Steps.{SegmentEnds.{AreEndsRising}, WallPieces.{I
 use crate::zone::lists::kept::Kept;
 use crate::zone::made::pieces::Piece;
 use crate::zone::made::segments::{Lists, Pieces, Segment, cut_of, segment_at};
-use crate::zone::made::shown::{Shown, is_great};
+use crate::zone::made::shown::{Shown, must_be_packed};
 use std::alloc::Global;
 use tz_base::Error;
 
@@ -30,9 +30,8 @@ pub(super) fn pieces_in_one_pass(
         × AreEndsRising lists.entry.types.now entries.now))
         (λ e. e ≡ Error.OutOfMemory) }
 {
-    if is_great(entries.len()) || is_great(lists.types.len()) {
-        return Err(Error::OutOfMemory);
-    }
+    must_be_packed(entries.len())?;
+    must_be_packed(lists.types.len())?;
     let mut pieces = Vec::with_capacity(alloc, entries.len() + count - 1)?;
     let mut latest = i64::MIN;
     let mut before = segment_at(lists.types, entries, 0);

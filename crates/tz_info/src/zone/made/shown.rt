@@ -107,10 +107,20 @@ fn numbers(shown: Shown) -> (u32, usize, usize)
 
 // Whether it isn't packed.
 #[inline(always)]
-pub(super) fn is_great(number: usize) -> bool
+fn is_great(number: usize) -> bool
     ensures { IsTrue result ↔ (1_073_741_824 ≤ number) }
 {
     number >= TOO_GREAT
+}
+
+// Refuses a number of items whose places aren't packed.
+pub(super) fn must_be_packed(count: usize) -> Result<(), AllocError>
+    ensures { MatchResult result (λ _. count < 1_073_741_824) (λ _. 1_073_741_824 ≤ count) }
+{
+    if is_great(count) {
+        return Err(AllocError);
+    }
+    Ok(())
 }
 
 // What earlier segments and later ones show together.
