@@ -1,7 +1,6 @@
 -- When an instant lies in a day: from its start on, and before the next one's.
 use Rattle.std.proofs.Common.{◌≡◌, true, ℤ, pos, ◌+ℤ◌, refl, subst, is_lt}
-use Rattle.std.specs.declared.cmp.Ordering.{Ordering}
-use Rattle.std.specs.declared.cmp.Ordering.TheVariants.{Less, Equal, Greater}
+use Rattle.std.specs.declared.cmp.Ordering.{Ordering, TheVariants.{Less, Equal, Greater}}
 use Rattle.zoned.specs.{Days.{IsFirstInstantFrom, IsInDay, midnight}, Reading.{Reading, IsEarlier}}
 
 abbrev Once : (ℤ → ℤ) → Type 0

@@ -1,11 +1,9 @@
 -- The law of a zone that is a kept one is that of the kept zone, with its offsets wrapped.
 use Rattle.std.proofs.Common.{refl, ◌↔◌}
 use Rattle.zoned.proofs.ForCallers.{IsWrapped}
+use Rattle.zoned.specs.declared.{KeptZone.{KeptZone}, ZoneOffset.{ZoneOffset}}
+use Rattle.demo_examples.specs.{AnyZone.{IsNamed, law_of}, declared.any_zone.AnyOffset.{AnyOffset}}
 use Rattle.zoned.specs.KeptZone as kept
-use Rattle.zoned.specs.declared.KeptZone.{KeptZone}
-use Rattle.zoned.specs.declared.ZoneOffset.{ZoneOffset}
-use Rattle.demo_examples.specs.AnyZone.{IsNamed, law_of}
-use Rattle.demo_examples.specs.declared.any_zone.AnyOffset.{AnyOffset}
 use Rattle.demo_examples.specs.declared.any_zone.AnyOffset.TheVariants as offsets
 use Rattle.demo_examples.specs.declared.any_zone.AnyZone.TheVariants as zones
 

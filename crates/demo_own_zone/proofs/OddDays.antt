@@ -1,7 +1,6 @@
 -- When the clocks of the odd zone reach a local time, and when they show a day.
 use Rattle.demo_own_zone.proofs.Words.{AreEndsOfDay, IsFirstToReach, IsWide, IsWideDay, arith, floor_mod, ints, midnight, odd_offset, pos, ℤ, ◌*ℤ◌, ◌+ℤ◌, ◌-ℤ◌}
-use Rattle.demo_own_zone.proofs.Words.{◌≡◌}
-use Rattle.demo_own_zone.proofs.Walls.{odd_before, two_halves}
+use Rattle.demo_own_zone.proofs.{Words.{◌≡◌}, Walls.{odd_before, two_halves}}
 
 -- an even second is reached a second early
 pub reached_early : (l : ℤ) → IsWide l → floor_mod l 2 ≡ 0 → IsFirstToReach odd_offset l (l -ℤ pos 1)

@@ -1,9 +1,7 @@
 -- The times of a day, one after another: the first that is not before a second.
-use Rattle.std.proofs.Common.{◌≡◌, ◌<◌, ◌≤◌, ◌+◌, ◌⊎◌, ℕ, ℤ, length, get_or, take, sym, subst, inl, inr, arith, Option, Some, None, MatchOption, All}
-use Rattle.std.proofs.Common.{Contains, refl}
+use Rattle.std.proofs.Common.{◌≡◌, ◌<◌, ◌≤◌, ◌+◌, ◌⊎◌, ℕ, ℤ, length, get_or, take, sym, subst, inl, inr, arith, Option, Some, None, MatchOption, All, Contains}
+use Rattle.std.proofs.{Common.{refl}, lemmas.List.{take_all, Elements.{All-more, All-weaker, All-contains, Contains-get_or}}}
 use Rattle.std.specs.Prelude.{⊤}
-use Rattle.std.proofs.lemmas.List.{take_all}
-use Rattle.std.proofs.lemmas.List.Elements.{All-more, All-weaker, All-contains, Contains-get_or}
 use Rattle.naive_base.specs.{NaiveTime.{second_of}, declared.time.NaiveTime.{NaiveTime}}
 use Rattle.naive_base.proofs.Words.{date_is, day_of_month, is_leap, month_bounds, month_of, year_of}
 use Rattle.naive_plans.specs.DayPlans.{HasNoSecondFrom, IsFirstSecondFrom}

@@ -1,11 +1,11 @@
 -- The first run of a list of jobs, one after another.
 use Rattle.std.proofs.Common.{◌≡◌, ◌<◌, ◌≤◌, ◌+◌, ◌⊎◌, ℕ, ℤ, List, length, arith, Option, Some, None, MatchOption, inl, inr, refl, sym, subst, ap, ◌∙◌}
-use Rattle.std.specs.Prelude.{⊤, ◌≤ℤ◌, ◌<ℤ◌, IfSome, option_map, slice_get, slice_index_or, slice_set}
 use Rattle.std.proofs.lemmas.{Bool.{cases_lt}, Option.{slice_get_read, slice_get_within}}
+use Rattle.std.specs.Prelude.{⊤, ◌≤ℤ◌, ◌<ℤ◌, IfSome, option_map, slice_get, slice_index_or, slice_set}
 use Rattle.naive_base.proofs.Words.{ints}
 use Rattle.zoned_time.specs.DateTime.{zoned}
-use Rattle.demo_scheduler.specs.{Fires.{IsNextRun}, declared.queue.Fire.{Fire}}
-use Rattle.demo_scheduler.specs.{Queues.{IsFirstAt, IsFirstRun, IsNoneDue, IsTaken, NoneRuns, next_second}, declared.queued.Queued.{Queued}}
+use Rattle.demo_scheduler.specs.{Fires.{IsNextRun}, declared.queue.Fire.{Fire}, Queues.{IsFirstAt, IsFirstRun, IsNoneDue, IsTaken, NoneRuns, next_second}}
+use Rattle.demo_scheduler.specs.declared.queued.Queued.{Queued}
 
 module _ (jobs : List Queued) where
   -- the job at a place before n runs no earlier than that second, or never again

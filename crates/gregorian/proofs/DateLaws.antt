@@ -2,11 +2,10 @@
 use Rattle.std.proofs.Common.{◌≡◌, ℕ, zero, suc, ◌+◌, ◌-◌, ◌*◌, ◌/◌, ◌%◌, ◌<◌, ◌≤◌, inl, inr, Bool, arith, refl, ℤ, pos, ◌+ℤ◌, ◌-ℤ◌, ◌≤ℤ◌, ◌<ℤ◌}
 use Rattle.std.proofs.lemmas.Bool.{cases_order}
 use Rattle.gregorian.specs.{Year.{is_leap, days_in_year, year_start, LiesIn, IsYear, IsDay}, Month.{days_in_month, days_of_months}, Date.{IsDate, day_number}}
-use Rattle.gregorian.specs.DateOf.{date_with, year_of, day_of_year, month_of, day_of_month}
-pub use Rattle.gregorian.specs.Steps.Dates.{months_step, months_all, place_is}
-use Rattle.gregorian.specs.{Steps.Cycle.{days_of_years}}
+use Rattle.gregorian.specs.{DateOf.{date_with, year_of, day_of_year, month_of, day_of_month}, Steps.Cycle.{days_of_years}}
 use Rattle.gregorian.proofs.{Floor.{floors}, YearLaws.{year_step, lies_in, one_year, starts_rise, day_of_years}, Cycle.{january_start, year_found}}
 use Rattle.gregorian.proofs.MonthDays.{leap_day, leap_at_most, months_early, months_late, march_place, late_day, first_months}
+pub use Rattle.gregorian.specs.Steps.Dates.{months_step, months_all, place_is}
 
 -- Later months begin later.
 

@@ -1,13 +1,11 @@
 -- Dates, times and local date-times print alike only if they are equal: what is printed can be read back.
-use Rattle.std.proofs.Math.Nat.{pow-suc}
-use Rattle.std.proofs.lemmas.Fmt.{decimal_by_steps}
+use Rattle.std.proofs.{Math.Nat.{pow-suc}, lemmas.Fmt.{decimal_by_steps}}
 use Rattle.std.specs.Prelude.{if◌then◌else◌, ◌==◌}
 use Rattle.offset_core.proofs.ForCallers.{clock_of, pair_at}
 use Rattle.naive_base.proofs.Words.{IsWide, IsWideDay, IsWideYear, List, Reading, ap, append_assoc, arith, date_is, date_text, day_at, day_number, day_of_month}
 use Rattle.naive_base.proofs.Words.{decimal, drop, floor_mod_parts, floors, four_digits, get_or, in_digits, is_leap, month_bounds, month_of, nat_tests, neg_ℤ}
 use Rattle.naive_base.proofs.Words.{pos, reading_at, reading_text, second_at, suc, time_text, year_of, year_text, zero, ℕ, ℤ, [], ◌%◌, ◌*◌, ◌++◌, ◌+◌, ◌-◌, ◌/◌}
-use Rattle.naive_base.proofs.Words.{◌<◌, ◌^◌, ◌∙◌, ◌∷◌, ◌≡◌}
-use Rattle.naive_base.proofs.{Ranges.{wide_year}}
+use Rattle.naive_base.proofs.{Words.{◌<◌, ◌^◌, ◌∙◌, ◌∷◌, ◌≡◌}, Ranges.{wide_year}}
 
 -- Numbers and years.
 

@@ -1,10 +1,8 @@
 -- What shows a local time, kind by kind, and what a choice takes of it.
-use Rattle.offset_core.specs.{Around.{HoldsOfEachAround, IsAround, Takes, taken_of}, declared.around.Taken.{Taken}}
-use Rattle.offset_core.specs.{declared.around.Around.{Around}, declared.around.Taken.TheVariants.{InGap, Shown}, declared.choice.Choice.{Choice}}
-use Rattle.offset_core.specs.{declared.around.Around.TheVariants.{Ambiguous, Gap, Single}}
-use Rattle.offset_core.specs.{declared.resolve_error.ResolveError.{ResolveError}}
-use Rattle.offset_core.proofs.Words.{Err, IsNeverShown, MatchResult, Ok, Result, arith, ℤ, ⊤, ◌≡◌}
-use Rattle.offset_core.proofs.WallAnswers.{HasOneValue}
+use Rattle.offset_core.specs.{Around.{HoldsOfEachAround, IsAround, Takes, taken_of}, declared.around.{Taken.{Taken}, Around.{Around}}}
+use Rattle.offset_core.specs.declared.{around.{Taken.TheVariants.{InGap, Shown}, Around.TheVariants.{Ambiguous, Gap, Single}}, choice.Choice.{Choice}}
+use Rattle.offset_core.specs.declared.resolve_error.ResolveError.{ResolveError}
+use Rattle.offset_core.proofs.{Words.{Err, IsNeverShown, MatchResult, Ok, Result, arith, ℤ, ⊤, ◌≡◌}, WallAnswers.{HasOneValue}}
 use Rattle.offset_core.specs.declared.resolve_error.ResolveError.TheVariants as reasons
 
 -- a local time has one answer around it, if a second has one value, and the local time one gap

@@ -1,12 +1,9 @@
 -- Lemmas for the crates above.
 use Rattle.std.proofs.Common.{◌≡◌, arith, Option}
 use Rattle.std.specs.Prelude.{SomeIff, option_map}
-use Rattle.offset_core.specs.declared.local_result.LocalResult.{LocalResult}
-use Rattle.offset_core.specs.LocalResult.{map_of, all_or_none, IsAndThen}
+use Rattle.offset_core.specs.{declared.local_result.LocalResult.{LocalResult}, LocalResult.{map_of, all_or_none, IsAndThen}}
 pub use Rattle.offset_core.proofs.Arounds.{HoldsOfTaken, map_around, map_outcome, map_taken, one_around, one_outcome, taken_holds, taken_in_range}
-pub use Rattle.offset_core.proofs.Arounds.{taken_of_images, taken_right}
-pub use Rattle.offset_core.proofs.FixedOffsets.{one_offset}
-pub use Rattle.offset_core.proofs.Printed.{clock_of, pair_at}
+pub use Rattle.offset_core.proofs.{Arounds.{taken_of_images, taken_right}, FixedOffsets.{one_offset}, Printed.{clock_of, pair_at}}
 pub use Rattle.offset_core.proofs.WallAnswers.{HasOneValue, IsWallAnswer-map_of, one_wall_answer}
 
 -- the values that are there, shown, are the shown ones that are there

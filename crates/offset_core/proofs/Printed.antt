@@ -3,8 +3,7 @@ use Rattle.std.proofs.lemmas.Bool.Decides.{nat_tests}
 use Rattle.std.specs.Prelude.{if◌then◌else◌, ◌==◌}
 use Rattle.offset_core.specs.Digits.{in_digits}
 use Rattle.offset_core.proofs.Words.{FixedOffset, IsWithinDay, List, ap, arith, get_or, ints, neg_ℤ, offset_text, pos, printed_offset, seconds_of}
-use Rattle.offset_core.proofs.Words.{short_clock_text, suc, sym, unsigned_abs, ℕ, ℤ, ◌*◌, ◌+◌, ◌-◌, ◌<◌, ◌∙◌, ◌∷◌, ◌≡◌, []}
-use Rattle.offset_core.proofs.{FixedOffsets.{one_offset}}
+use Rattle.offset_core.proofs.{Words.{short_clock_text, suc, sym, unsigned_abs, ℕ, ℤ, ◌*◌, ◌+◌, ◌-◌, ◌<◌, ◌∙◌, ◌∷◌, ◌≡◌, []}, FixedOffsets.{one_offset}}
 
 -- the number that a text has at a place, in two digits, and 0 past its end
 abbrev pub pair_at : List ℕ → ℕ → ℕ

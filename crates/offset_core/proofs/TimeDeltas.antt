@@ -1,8 +1,6 @@
 -- Lengths of time and their nanoseconds.
-use Rattle.std.specs.Ordering.{int_cmp, nat_cmp, ordering_then}
-use Rattle.offset_core.specs.declared.time_delta.TimeDelta.{TimeDelta}
-use Rattle.std.specs.Prelude.{List, [], ◌∷◌, ◌++◌, fold, ◌+ℤ◌}
-use Rattle.offset_core.specs.{TimeDelta.{SumsFit}, Nanoseconds.{FitsTimeDelta}}
+use Rattle.std.specs.{Ordering.{int_cmp, nat_cmp, ordering_then}, Prelude.{List, [], ◌∷◌, ◌++◌, fold, ◌+ℤ◌}}
+use Rattle.offset_core.specs.{declared.time_delta.TimeDelta.{TimeDelta}, TimeDelta.{SumsFit}, Nanoseconds.{FitsTimeDelta}}
 use Rattle.offset_core.proofs.Words.{AreParts, ap, arith, ints, nanos_of, props, subst, ℕ, ℤ, ◌≡◌}
 
 AreParts-once : (secs : ℤ) (nanos : ℕ) → IsProp (AreParts secs nanos)

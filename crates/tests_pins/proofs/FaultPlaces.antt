@@ -1,21 +1,17 @@
 -- Where small files are at fault, from what their grammar reads.
-use Rattle.std.proofs.Common.{if◌then◌else◌, take, ◌<◌}
-use Rattle.std.proofs.lemmas.Str.{IsUtf8-from_ascii, is_utf8-from_IsUtf8}
+use Rattle.std.proofs.{Common.{if◌then◌else◌, take, ◌<◌}, lemmas.Str.{IsUtf8-from_ascii, is_utf8-from_IsUtf8}}
 use Rattle.std.specs.Str.{IsAscii, IsUtf8, chars, is_utf8}
-use Rattle.tz_base.specs.declared.error.Error.TheVariants.{InvalidTzFile}
-use Rattle.tz_base.specs.declared.error.Expected.TheVariants.{FooterBetweenNewlines}
-use Rattle.tz_base.specs.Grammar.{fault_position}
+use Rattle.tz_base.specs.{declared.error.{Error.TheVariants.{InvalidTzFile}, Expected.TheVariants.{FooterBetweenNewlines}}, Grammar.{fault_position}}
 use Rattle.tz_info.proofs.{FilePlaceOnce.{file_place_once}, FooterLaws.{footer_law}, TrimLaws.{trim_is}, TypeLaws.{type_law}}
 use Rattle.tz_info.proofs.Words.{IsBetweenNewlines, IsFooter, Option, inl, inr, is_between_newlines, record_at, trimmed, type_of_record}
 use Rattle.tz_info.specs.{FileContents.{IndicatorsAgree}, FilePieces.{FilePieces}, Footers.{HasText}, Leaps.{IsFirstLeap}, TzFiles.{HasRule}}
 use Rattle.tz_info.specs.Steps.FooterReading.{text_or_none}
-use Rattle.tz_info.specs.FilePlaces.{ArePartPlaces, AreTypes, HoldsOfNone, In_contents, In_piece, IsContentPlace, IsFilePlace, IsFirstBelow}
-use Rattle.tz_info.specs.FilePlaces.{In_footer, In_indicators, In_lists, IsFooterPlace, IsListPlace, IsOtherLeap, IsOtherPair, IsTypeAt}
-use Rattle.tz_info.specs.FilePlaces.{IsTypePlace, Not_utf8, before_field, footer_bytes, leap_at}
-use Rattle.tz_info.specs.declared.{file.place.PartPlaces.{PartPlaces}, rule.transition_rule.TransitionRule.{TransitionRule}}
+use Rattle.tz_info.specs.FilePlaces.{ArePartPlaces, AreTypes, HoldsOfNone, In_contents, In_piece, IsContentPlace, IsFilePlace, IsFirstBelow, In_footer}
+use Rattle.tz_info.specs.FilePlaces.{In_indicators, In_lists, IsFooterPlace, IsListPlace, IsOtherLeap, IsOtherPair, IsTypeAt, IsTypePlace, Not_utf8}
+use Rattle.tz_info.specs.{FilePlaces.{before_field, footer_bytes, leap_at}, declared.file.place.PartPlaces.{PartPlaces}}
+use Rattle.tz_info.specs.declared.rule.transition_rule.TransitionRule.{TransitionRule}
 use Rattle.tests_pins.proofs.Words.{Err, Error, List, LocalType, None, Ok, Result, arith, false, false≢true, file, lawful, length, read, refl, subst}
-use Rattle.tests_pins.proofs.HonoluluFile.{footer_reads}
-use Rattle.tests_pins.proofs.Words.{IsAscii-cons, IsAscii-nil, Some, ints, pos, suc, zero, ℤ, ℕ, [], ◌+◌, ◌∙◌, ◌∷◌, ◌≡◌}
+use Rattle.tests_pins.proofs.{Words.{IsAscii-cons, IsAscii-nil, Some, ints, pos, suc, zero, ℤ, ℕ, [], ◌+◌, ◌∙◌, ◌∷◌, ◌≡◌}, HonoluluFile.{footer_reads}}
 use Rattle.tests_pins.specs.FaultyFiles.{IsOnlyPlace}
 
 placed : (bytes : List ℕ) (n : ℕ) → IsFilePlace bytes n → IsOnlyPlace bytes n

@@ -1,18 +1,14 @@
 -- Honolulu's file, from what its grammar reads.
-use Rattle.std.proofs.Common.{if◌then◌else◌}
-use Rattle.std.proofs.lemmas.Str.{IsUtf8-from_ascii, is_utf8-from_IsUtf8}
+use Rattle.std.proofs.{Common.{if◌then◌else◌}, lemmas.Str.{IsUtf8-from_ascii, is_utf8-from_IsUtf8}}
 use Rattle.std.specs.Str.{IsAscii}
-use Rattle.tz_base.specs.declared.error.Error.TheVariants.{InvalidTzFile}
-use Rattle.tz_base.specs.declared.error.Expected.TheVariants.{FooterBetweenNewlines}
-use Rattle.tz_info.proofs.{ContentLaws.{transitions_law}, TypeLaws.{types_law}, TzFileLaws.{file_law}}
-use Rattle.tz_info.proofs.Words.{footer_at, is_between_newlines, trimmed}
-use Rattle.tz_info.specs.Steps.FooterReading.{text_or_none}
-use Rattle.tz_info.specs.declared.file.header.Version.TheVariants.{Two}
+use Rattle.tz_base.specs.declared.error.{Error.TheVariants.{InvalidTzFile}, Expected.TheVariants.{FooterBetweenNewlines}}
+use Rattle.tz_info.proofs.{ContentLaws.{transitions_law}, TypeLaws.{types_law}, TzFileLaws.{file_law}, Words.{footer_at, is_between_newlines, trimmed}}
+use Rattle.tz_info.specs.{Steps.FooterReading.{text_or_none}, declared.file.header.Version.TheVariants.{Two}}
 use Rattle.tests_pins.proofs.Words.{Bool, Err, HasPieces, IsAscii-cons, IsAscii-nil, IsTzFile, List, Place, SpellTransitions, SpellTypes, Spells, Version, []}
 use Rattle.tests_pins.proofs.Words.{arith, be_u32, block as a_block, counts, counts_test, designations, false, file as a_file, from_be_bytes}
 use Rattle.tests_pins.proofs.Words.{header as a_header, honolulu, honolulu_file, hst10, hst_footer, inl, inr, lawful, long_times, magic, parts, pieces, refl}
-use Rattle.tests_pins.proofs.Words.{short_times, six_counts, type_indexes, type_records, tzif, version, w32, ℕ, ◌++◌, ◌∷◌, ◌≡◌}
-use Rattle.tests_pins.proofs.{Computed.{files}, FileParts.{parts_are}}
+use Rattle.tests_pins.proofs.{Words.{short_times, six_counts, type_indexes, type_records, tzif, version, w32, ℕ, ◌++◌, ◌∷◌, ◌≡◌}, Computed.{files}}
+use Rattle.tests_pins.proofs.FileParts.{parts_are}
 use Rattle.tests_pins.specs.Honolulu.{honolulu_block, honolulu_header}
 
 -- ---- headers

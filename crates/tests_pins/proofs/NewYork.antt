@@ -1,8 +1,7 @@
 -- New York's clocks from November 2020 to the end of 2021: the type at each second, and which seconds show a local time.
-use Rattle.std.proofs.lemmas.Int.{fits_signed_from_abs}
-use Rattle.tz_info.proofs.{AnswerLaws.{same_answer}, KindLaws.{margin_kept}, RuleDays.{rule_day_closed}, SeasonAnswers.{both_asked}}
-use Rattle.std.proofs.Math.Bool.{beq}
-use Rattle.tz_info.proofs.{SeasonLaws.{season_made}, ZoneLaws.{type_once}}
+use Rattle.std.proofs.{lemmas.Int.{fits_signed_from_abs}, Math.Bool.{beq}}
+use Rattle.tz_info.proofs.{AnswerLaws.{same_answer}, KindLaws.{margin_kept}, RuleDays.{rule_day_closed}, SeasonAnswers.{both_asked}, SeasonLaws.{season_made}}
+use Rattle.tz_info.proofs.ZoneLaws.{type_once}
 use Rattle.tz_info.proofs.Words.{Bool, IsWallAnswer, LocalType, RuleAt, Shows, TypeAt, TypeFrom, are_calm, arith, by_lt_z, closed_day, day_number}
 use Rattle.tz_info.proofs.Words.{days_of_months, end_in, false, ints, is_dst_by_one, joined, least_time, margin_of, moment, neg_ℤ, place_by, places_by_kind}
 use Rattle.tz_info.proofs.Words.{pos, refl, seconds_by_kind, shown_if, start_in, sym, true, type_when, w64, year_start, ℤ, ◌*ℤ◌, ◌+ℤ◌, ◌-ℤ◌, ◌<ℤ◌, ◌≡◌, ◌≤ℤ◌}

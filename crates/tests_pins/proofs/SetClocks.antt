@@ -1,7 +1,6 @@
 -- Clocks that are set once, by an hour, at 1970-01-01 00:00:00 UTC.
-use Rattle.offset_core.specs.{Around.{Takes, taken_in_fold, taken_in_gap}, declared.around.Around.TheVariants.{Ambiguous, Gap, Single}}
-use Rattle.offset_core.specs.{declared.around.Taken.{Taken}, declared.choice.Choice.{Choice}}
-use Rattle.offset_core.specs.declared.around.Taken.TheVariants.{Shown}
+use Rattle.offset_core.specs.{Around.{Takes, taken_in_fold, taken_in_gap}, declared.around.{Around.TheVariants.{Ambiguous, Gap, Single}, Taken.{Taken}}}
+use Rattle.offset_core.specs.declared.{choice.Choice.{Choice}, around.Taken.TheVariants.{Shown}}
 use Rattle.std.proofs.Common.{Ok, Result}
 use Rattle.zoned_time.proofs.ForCallers.{one_taken, taken_once, unresolved_once}
 use Rattle.tests_pins.proofs.Words.{IsBeforeGap, IsShownBetween, IsTaken, Reading, ResolveError, ShowsByOffset, Zoned, arith, first_second, ints, last_second}

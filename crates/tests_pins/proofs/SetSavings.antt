@@ -1,10 +1,9 @@
 -- Amounts of clocks with one stretch of daylight saving time, and how far changes are from one another.
 use Rattle.tz_saving.proofs.{AmountLaws.{one_amount}, SideLaws.{after_once, before_once}}
-use Rattle.tz_saving.proofs.Words.{At_a_second, Change, FitsSigned, HasChanges, IsAfter, IsAmount, IsBefore, IsByCandidates, IsCandidate}
-use Rattle.tz_saving.proofs.Words.{IsChange, IsFirstAfter, IsFound, IsNextCandidate, IsNextUse, IsStandard, LocalType, None, Option}
-use Rattle.tz_saving.proofs.Words.{Some, ap, arith, by_lt_z, false, false≢true, inl, inr, ints, pos, refl, subst, suc, sym, true, w64, zero, ℕ, ℤ}
+use Rattle.tz_saving.proofs.Words.{At_a_second, Change, FitsSigned, HasChanges, IsAfter, IsAmount, IsBefore, IsByCandidates, IsCandidate, IsChange}
+use Rattle.tz_saving.proofs.Words.{IsFirstAfter, IsFound, IsNextCandidate, IsNextUse, IsStandard, LocalType, None, Option, Some, ap, arith, by_lt_z, false}
+use Rattle.tz_saving.proofs.Words.{false≢true, inl, inr, ints, pos, refl, subst, suc, sym, true, w64, zero, ℕ, ℤ, neg_ℤ, ◌-ℤ◌, ◌<ℤ◌, ◌∙◌, ◌≡◌, ◌≤ℤ◌}
 use Rattle.std.specs.Prelude.{◌+ℤ◌}
-use Rattle.tz_saving.proofs.Words.{neg_ℤ, ◌-ℤ◌, ◌<ℤ◌, ◌∙◌, ◌≡◌, ◌≤ℤ◌}
 use Rattle.tests_pins.specs.Savings.{restless, summer, type_of}
 
 -- candidates of one side are those of another one that has the same standard offsets

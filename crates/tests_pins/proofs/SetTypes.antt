@@ -1,7 +1,6 @@
 -- The seconds at which two zones of one type each differ.
 use Rattle.std.specs.Prelude.{AllPairs, Contains, List, [], ◌∷◌, ◌↔◌, ◌≢◌}
-use Rattle.tz_info.specs.Differences.{AreDifferences, IsDifference}
-use Rattle.tz_info.specs.declared.zone.ask.differences.Difference.{Difference}
+use Rattle.tz_info.specs.{Differences.{AreDifferences, IsDifference}, declared.zone.ask.differences.Difference.{Difference}}
 use Rattle.tests_pins.proofs.Words.{LocalType, ap, arith, by_lt_z, ints, pos, refl, subst, sym, ℤ, ◌∙◌, ◌≡◌, ◌≤ℤ◌, ◌<ℤ◌}
 use Rattle.tests_pins.specs.Differences.{always, hour_of}
 

@@ -1,9 +1,7 @@
 -- Types of local time, changes of the clocks and spans are equal by `==` if and only if they are equal.
-use Rattle.std.proofs.Common.{arith, rules, int_eq, ◌≡◌, ◌↔◌, IsTrue, refl, Bool, ◌&&◌}
-use Rattle.std.proofs.lemmas.Bool.Decides.{Decides-and}
+use Rattle.std.proofs.{Common.{arith, rules, int_eq, ◌≡◌, ◌↔◌, IsTrue, refl, Bool, ◌&&◌}, lemmas.Bool.Decides.{Decides-and}}
 use Rattle.std.specs.Option.{option_eq}
-use Rattle.tz_base.specs.{contracts.local_time_type.LocalTimeTypePartialEq.TheImpl.{eq-value as type_eq}, declared.span.Span.{Span}}
-use Rattle.tz_base.specs.declared.change.Change.{Change}
+use Rattle.tz_base.specs.{contracts.local_time_type.LocalTimeTypePartialEq.TheImpl.{eq-value as type_eq}, declared.{span.Span.{Span}, change.Change.{Change}}}
 
 abbrev pub IsExact : {X : Type 0} → (X → X → Bool) → Type 0
 IsExact {X} E = (a b : X) → IsTrue (E a b) ↔ (a ≡ b)

@@ -1,8 +1,8 @@
 -- Errors are equal by `==` if and only if they are equal, and so are errors with their place.
 use Rattle.std.proofs.{Common.{IsTrue, ap, arith, nat_eq, refl, rules, ◌&&◌, ◌↔◌, ◌≡◌}, lemmas.Bool.Decides.{Decides-and}}
 use Rattle.std.specs.{Option.{option_eq}, Prelude.{Option, ℕ}}
-use Rattle.tz_base.specs.{contracts.error.ErrorPartialEq.TheImpl.{eq-value as error_eq}, contracts.error.ExpectedPartialEq.TheImpl.{eq-value as expected_eq}}
-use Rattle.tz_base.specs.{declared.error.Error.{Error}, declared.error.Expected.{Expected}, declared.parse_error.ParseError.{ParseError}}
+use Rattle.tz_base.specs.contracts.error.{ErrorPartialEq.TheImpl.{eq-value as error_eq}, ExpectedPartialEq.TheImpl.{eq-value as expected_eq}}
+use Rattle.tz_base.specs.declared.{error.{Error.{Error}, Expected.{Expected}}, parse_error.ParseError.{ParseError}}
 use Rattle.tz_base.specs.declared.error.Error.TheVariants.{DateTime, FindLocalTimeType, InvalidSlice, InvalidTzFile, InvalidTzString, LocalTimeType, MissingTag}
 use Rattle.tz_base.specs.declared.error.Error.TheVariants.{OutOfMemory, OutOfRange, ParseInt, ProjectDateTime, TimeZone, TransitionRule, UnexpectedEnd}
 use Rattle.tz_base.specs.declared.error.Error.TheVariants.{UnsupportedTzFile, UnsupportedTzString, Utf8}

@@ -1,15 +1,11 @@
 -- What a grammar reads is what it spells, or the error of its fault.
 use Rattle.std.proofs.Common.{Bool, List, Ok, Result, arith, drop, length, take, true, ℕ, [], ◌&&◌, ◌++◌, ◌<◌, ◌==◌, ◌∷◌, ◌≡◌, ◌≤◌, ◌⊎◌}
-use Rattle.std.proofs.{Math.Seq.{take-append_seam}, lemmas.Bool.Decides.{nat_tests}, lemmas.List.{length-append, length-take, take-append-drop}}
-use Rattle.std.proofs.lemmas.Int.{ints}
+use Rattle.std.proofs.{Math.Seq.{take-append_seam}, lemmas.{Bool.Decides.{nat_tests}, List.{length-append, length-take, take-append-drop}, Int.{ints}}}
 use Rattle.std.specs.Bool.{Decides}
 use Rattle.tz_base.specs.{Errors.{error_number}, declared.error.Error.{Error}}
 use Rattle.tz_base.specs.Fronts.{AllOf, NoneFirst, after_run, exact_at, int_at, is_digit, number_within, optional_tag_at, run_of, tag_at, value_from}
 use Rattle.tz_base.specs.Grammar.{At, Byte, ByteFault, Check, Ended, Exact, Grammar, HasFault, Here, IsNumber, IsRun, Marked, Nothing, Number, NumberFault}
-use Rattle.tz_base.specs.Grammar.{Refused, Rest}
-use Rattle.tz_base.specs.Grammar.{Run, Spells, Then, is_end, read}
-use Rattle.tz_base.specs.Refusals.{Refusal, error}
-use Rattle.tz_base.specs.declared.error.Error.TheVariants.{ParseInt}
+use Rattle.tz_base.specs.{Grammar.{Refused, Rest, Run, Spells, Then, is_end, read}, Refusals.{Refusal, error}, declared.error.Error.TheVariants.{ParseInt}}
 use Rattle.tz_base.specs.declared.error.Expected.TheVariants.{Digit, NumberWithinItsLimit}
 use Rattle.tz_base.proofs.{Decided.{Decided, and_then, choice, like, refused}, ReadLaws.{drop_front}}
 

@@ -1,7 +1,7 @@
 -- A name is ASCII, and so it is text.
-use Rattle.std.proofs.{Common.{ℕ, ◌≡◌, ◌<◌, true, List, length, slice_index, arith}, lemmas.Str.{IsUtf8-from_ascii}, lemmas.List.{get_or_default}}
+use Rattle.std.proofs.{Common.{ℕ, ◌≡◌, ◌<◌, true, List, length, slice_index, arith}, lemmas.{Str.{IsUtf8-from_ascii}, List.{get_or_default}}}
+use Rattle.std.proofs.lemmas.{Str.Ascii.{IsAscii-from_all}, Bool.Decides.{nat_tests}}
 use Rattle.std.specs.{List.{All}, Str.{IsUtf8}}
-use Rattle.std.proofs.{lemmas.Str.Ascii.{IsAscii-from_all}, lemmas.Bool.Decides.{nat_tests}}
 use Rattle.tz_base.specs.Names.{is_name_byte, IsName}
 
 name_byte_small : (b : ℕ) → is_name_byte b ≡ true → b < 128

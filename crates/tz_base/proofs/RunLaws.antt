@@ -1,12 +1,10 @@
 -- Longest runs, and the values of digits.
 use Rattle.std.proofs.Common.{Bool, Err, List, Ok, Result, add-one, arith, drop, drop-cons, false, get_or, length, refl, subst, suc, sym, true, ℕ, [], ◌*◌}
-use Rattle.std.proofs.Common.{◌++◌, ◌+◌}
+use Rattle.std.proofs.{Common.{◌++◌, ◌+◌, ◌-◌, ◌<◌, ◌∷◌, ◌≡◌, ◌≤◌}, lemmas.Bool.Decides.{nat_tests}}
 use Rattle.std.specs.Fn.{FnReturnsAt}
-use denote.{Param.Members.{Shared}, Ref.{Bor}}
-use Rattle.std.proofs.Common.{◌-◌, ◌<◌, ◌∷◌, ◌≡◌, ◌≤◌}
-use Rattle.std.proofs.lemmas.Bool.Decides.{nat_tests}
 use Rattle.tz_base.specs.{Fronts.{AllOf, after_run, int_at, is_digit, number_within, run_of, value_from, ◌>>=◌}, declared.error.Error.{Error}}
-use Rattle.tz_base.specs.{declared.error.Error.TheVariants.{ParseInt}, declared.error.Expected.TheVariants.{NumberWithinItsLimit}}
+use Rattle.tz_base.specs.declared.error.{Error.TheVariants.{ParseInt}, Expected.TheVariants.{NumberWithinItsLimit}}
+use denote.{Param.Members.{Shared}, Ref.{Bor}}
 
 pub next_value : (ds : List ℕ) (i n : ℕ) → i < length ds → value_from n (drop i ds) ≡ value_from (10 * n + (get_or ds i 0 - 48)) (drop (i + 1) ds)
 next_value ds i n h = rw (add-one, drop-cons ds i 0) refl

@@ -1,15 +1,11 @@
 -- Answers in the one thing that bytes spell.
 use Rattle.std.proofs.Common.{Err, Ok, Result, inl, ◌⊎◌}
 use Rattle.std.specs.Result.{IsOkAnd}
-use Rattle.tz_base.specs.declared.error.Error.{Error}
-use Rattle.tz_base.specs.declared.error.Error.TheVariants.{OutOfMemory}
-use Rattle.tz_base.specs.Errors.{IsOutOfMemory}
-use Rattle.tz_base.specs.declared.error.Error.TheVariants as errors
-use Rattle.tz_info.specs.FilePieces.{FilePieces, HasPieces}
-use Rattle.tz_info.specs.PosixZones.{IsPosixFault, IsPosixZone}
-use Rattle.tz_info.specs.TzFiles.{In_file, IsFileFault, IsZoneFault, No_memory}
+use Rattle.tz_base.specs.{declared.error.Error.{Error, TheVariants.{OutOfMemory}}, Errors.{IsOutOfMemory}}
+use Rattle.tz_info.specs.{FilePieces.{FilePieces, HasPieces}, PosixZones.{IsPosixFault, IsPosixZone}, TzFiles.{In_file, IsFileFault, IsZoneFault, No_memory}}
 use Rattle.zoned.proofs.Words.{List, Zone, arith, inr, refl, subst, ℕ, ◌≡◌}
 use Rattle.zoned.specs.Headline.{IsAnswerOf}
+use Rattle.tz_base.specs.declared.error.Error.TheVariants as errors
 
 module _ {Z A : Type 0} (spells : Z → Type 0) (fault : Error → Type 0) (answers : Z → A → Type 0) (whole : Type 0)
     (one : (y z : Z) → spells y → spells z → y ≡ z) (one_fault : (d e : Error) → fault d → fault e → d ≡ e)

@@ -4,11 +4,10 @@ pub use Rattle.offset_core.specs.{TimeDelta.{nanos_of}, declared.local_result.Lo
 pub use Rattle.naive_base.specs.Range.{last_second}
 pub use Rattle.tz_base.specs.declared.change.Change.{Change}
 pub use Rattle.tz_info.proofs.Words.{AreChanges}
-pub use Rattle.zoned_time.proofs.{ForCallers.{relocal_shown, resolved_once, stays}, Words.{AreInstantsOf, Each, IsNeverShown, IsRelocal, IsShownBetween}}
-pub use Rattle.zoned_time.{proofs.Words.{IsShownOnce, ShowsByOffset, ahead, home_law_of, wall_of}, specs.DateTime.{IsIn, IsMoved}}
-pub use Rattle.zoned_time.specs.declared.datetime.Instant.{Instant}
-pub use Rattle.zoned_round.proofs.Words.{IsMultiple, floors, moved, multiple_below}
-pub use Rattle.zoned_round.{proofs.Words.{total}}
+pub use Rattle.zoned_time.proofs.ForCallers.{relocal_shown, resolved_once, stays}
+pub use Rattle.zoned_time.proofs.Words.{AreInstantsOf, Each, IsNeverShown, IsRelocal, IsShownBetween, IsShownOnce, ShowsByOffset, ahead, home_law_of, wall_of}
+pub use Rattle.zoned_time.specs.{DateTime.{IsIn, IsMoved}, declared.datetime.Instant.{Instant}}
+pub use Rattle.zoned_round.proofs.Words.{IsMultiple, floors, moved, multiple_below, total}
 pub use Rattle.zoned_ref.proofs.Words.{HasInstant, IsAfter, IsAt, IsFirst, IsInRange, IsNarrow, IsWallAnswer, Law, Meaning, Reading, SomeIff, TypeAt, Zoned}
 pub use Rattle.zoned_ref.proofs.Words.{all_or_none, floor_div, instant_of, map_of, reading, type_once, zoned, ◌-ℤ◌}
 pub use Rattle.tz_write.proofs.Words.{List, MatchOption, Zone, ap, arith, get_or, inr, ints, length, pos, refl, subst, suc, sym, unsigned_abs, zero, ℕ, ℤ, []}

@@ -1,9 +1,6 @@
 -- Lemmas for a zone that hands its lookups on to another zone, and wraps the offsets that it gets.
-use Rattle.offset_core.specs.declared.local_result.LocalResult.{LocalResult}
-use Rattle.offset_core.specs.declared.local_result.LocalResult.TheVariants.{Ambiguous, None as Never, Single}
-use Rattle.offset_core.specs.LocalResult.{map_of}
-use Rattle.zoned_time.specs.Choice.{IsOffsetBeforeGap}
-use Rattle.zoned_time.specs.Zone.{AreOffsetsFor, IsOffsetAt, SameLaw, home_law}
+use Rattle.offset_core.specs.{declared.local_result.LocalResult.{LocalResult, TheVariants.{Ambiguous, None as Never, Single}}, LocalResult.{map_of}}
+use Rattle.zoned_time.specs.{Choice.{IsOffsetBeforeGap}, Zone.{AreOffsetsFor, IsOffsetAt, SameLaw, home_law}}
 use Rattle.zoned.proofs.Words.{Law, Meaning, None, Option, Some, ℤ, ◌≡◌}
 use Rattle.std.proofs.Common.{option_map}
 

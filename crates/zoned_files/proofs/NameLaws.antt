@@ -1,6 +1,5 @@
 -- The place to which the parts of a name lead.
-use Rattle.std.proofs.Common.{ℕ, ◌≡◌, true, List, [], ◌∷◌, ◌++◌, arith}
-use Rattle.std.proofs.lemmas.List.{append_assoc, append-nil}
+use Rattle.std.proofs.{Common.{ℕ, ◌≡◌, true, List, [], ◌∷◌, ◌++◌, arith}, lemmas.List.{append_assoc, append-nil}}
 use Rattle.std.specs.List.{list_all}
 use Rattle.zoned_files.specs.ZoneNames.{is_part, is_zone_name, led_to, parts_of}
 

@@ -2,8 +2,7 @@
 use Rattle.std.proofs.Math.Nat.{one-le-pow, pow-le-pow_right}
 use Rattle.zoned_round.proofs.Words.{IsInRange, Reading, arith, by_lt_z, floors, ints, moved, moved-leap, moved-plain, moved_leap-behind, moved_leap-within}
 use Rattle.zoned_round.proofs.Words.{multiple_below, nanos_per_digit, nearest_multiple, neg_ℤ, of_total, pos, rounded, ℕ, ℤ, ◌*ℤ◌, ◌+ℤ◌, ◌-ℤ◌, ◌-◌, ◌<ℤ◌, ◌<◌}
-use Rattle.zoned_round.proofs.Words.{◌≤ℤ◌, ◌≤◌}
-use Rattle.zoned_round.proofs.Multiples.{nearest-is}
+use Rattle.zoned_round.proofs.{Words.{◌≤ℤ◌, ◌≤◌}, Multiples.{nearest-is}}
 
 -- from this second's start to less than two seconds later
 of_total-next : (s n : ℤ) → neg_ℤ (pos 8_334_601_228_800) ≤ℤ s → (s +ℤ pos 1) ≤ℤ pos 8_210_266_876_799

@@ -1,8 +1,7 @@
 -- Lines one after the other, and the seconds of the changes in a period.
 use Rattle.zonedump_lib.proofs.CitedWords.{All, AreChanges, Bound, Change, Contains-get_or, IsInYears, IsNearYears, IsPeriod, List, LocalType, append_assoc}
-use Rattle.zonedump_lib.proofs.CitedWords.{arith, []}
-use Rattle.zonedump_lib.proofs.CitedWords.{change_lines, change_text, first_second, get_or, ints, length, pos, second_after, ℕ, ℤ, ◌++◌, ◌+ℤ◌, ◌+◌, ◌-◌, ◌∷◌}
-use Rattle.zonedump_lib.proofs.CitedWords.{◌≡◌}
+use Rattle.zonedump_lib.proofs.CitedWords.{arith, [], change_lines, change_text, first_second, get_or, ints, length, pos, second_after, ℕ, ℤ, ◌++◌, ◌+ℤ◌, ◌+◌}
+use Rattle.zonedump_lib.proofs.CitedWords.{◌-◌, ◌∷◌, ◌≡◌}
 use Rattle.std.proofs.lemmas.List.Elements.{All-head, All-tail}
 
 -- four pieces are appended, one by one

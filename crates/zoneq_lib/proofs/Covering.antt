@@ -3,12 +3,11 @@ use Rattle.zoneq_lib.proofs.CitedWords.{All-head, All-nil, All-tail, Answered, A
 use Rattle.zoneq_lib.proofs.CitedWords.{Data, HasNoNewline, IsKeptFor, IsRuleOrNone, IsSplit, IsValid, List, None, Option, Query, Resolve, Show, Some, Text}
 use Rattle.zoneq_lib.proofs.CitedWords.{Wall, Zone, append-nil, append_assoc, arith, cases_eq, codes, ended_lines, file_rule_fits, inl, inr, length}
 use Rattle.zoneq_lib.proofs.CitedWords.{length-append, posix_zone_valid, refl, shown_refusal, shown_type, shown_wall, subst, sym, type_decided, wall_decided, ℕ}
-use Rattle.zoneq_lib.proofs.{CitedWords.{◌++◌, ◌<◌, ◌∷◌, ◌≢◌, []}, Joining.{answered_join, answers_all}, LineLaws.{asks_or_bad, resolved_in_range}}
-use Rattle.zoneq_lib.proofs.Showing.{resolve_covered, show_covered}
-use Rattle.zoneq_lib.proofs.CitedWords.{error_number, text_fault_or_zone}
+use Rattle.zoneq_lib.proofs.{CitedWords.{◌++◌, ◌<◌, ◌∷◌, ◌≢◌, [], error_number, text_fault_or_zone}, Joining.{answered_join, answers_all}}
+use Rattle.zoneq_lib.proofs.{LineLaws.{asks_or_bad, resolved_in_range}, Showing.{resolve_covered, show_covered}}
 use Rattle.tz_base.proofs.Decided.{either}
-use Rattle.tz_base.specs.declared.error.Error.TheVariants as errors
 use Rattle.tz_info.proofs.PosixLaws.{posix_law}
+use Rattle.tz_base.specs.declared.error.Error.TheVariants as errors
 
 -- the zone, if there is one, is valid, and the numbers of its rule are in their limits
 abbrev pub IsGiven : Option Zone → Type 0

@@ -1,8 +1,7 @@
 -- What is read at the front of a line is what it spells, and no line that goes on from a hopeless front spells anything.
-use Rattle.tz_base.{proofs.RunLaws.{value_grows}, specs.declared.error.Error.TheVariants.{ParseInt}}
-use Rattle.tz_base.specs.declared.error.Expected.TheVariants.{NumberWithinItsLimit}
+use Rattle.tz_base.proofs.RunLaws.{value_grows}
+use Rattle.tz_base.specs.{declared.error.{Error.TheVariants.{ParseInt}, Expected.TheVariants.{NumberWithinItsLimit}}, Grammar.{At, Here}}
 use Rattle.zoneq_lib.specs.{Steps.LineReading.{scan}, declared.bad_line.BadLine.TheVariants.{Hopeless, Unfinished}}
-use Rattle.tz_base.specs.Grammar.{At, Here}
 use Rattle.zoneq_lib.proofs.CitedWords.{AllOf, BadLine, Bool, Ended, Err, Error, Exact, Grammar, List, Marked, Number, Ok, Result, Run, Spells, Then}
 use Rattle.zoneq_lib.proofs.CitedWords.{after_byte, append-nil, append_assoc, arith, exact_at, exact_cut, int_at, is_digit, lawful, length-append, length-take}
 use Rattle.zoneq_lib.proofs.CitedWords.{number_within, optional_tag_at, read, refl, run_again, run_of, run_splits, tag_at, take, take-append-drop, value_from}

@@ -1,5 +1,4 @@
-use Rattle.naive_base.proofs.Words.{NaiveDateTime, arith, reading, reading_text, ℕ, [], ◌<◌, ◌≡◌}
-use Rattle.naive_base.proofs.Alike.{day_text-read, reading_text-read, time_text-read}
+use Rattle.naive_base.proofs.{Words.{NaiveDateTime, arith, reading, reading_text, ℕ, [], ◌<◌, ◌≡◌}, Alike.{day_text-read, reading_text-read, time_text-read}}
 use Rattle.naive_base.proofs.Values.{same_date, same_reading, same_time}
 use Rattle.naive_base.proofs.laws.print_law.Goals as goal
 

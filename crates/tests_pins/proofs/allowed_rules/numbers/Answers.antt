@@ -1,5 +1,4 @@
-use Rattle.std.proofs.Common.{rules}
-use Rattle.std.proofs.lemmas.List.Elements.{All-cons, All-nil}
+use Rattle.std.proofs.{Common.{rules}, lemmas.List.Elements.{All-cons, All-nil}}
 use Rattle.naive_base.specs.declared.weekday.Weekday.TheVariants.{Mon}
 use Rattle.tests_pins.specs.Recurrences.{nth}
 use Rattle.tests_pins.proofs.Words.{arith, ints, neg_ℤ, pos}

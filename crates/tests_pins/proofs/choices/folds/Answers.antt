@@ -1,10 +1,8 @@
-use Rattle.offset_core.specs.declared.resolve_error.ResolveError.TheVariants.{Fold}
+use Rattle.offset_core.specs.declared.{resolve_error.ResolveError.TheVariants.{Fold}, around.Taken.TheVariants.{Shown}}
 use Rattle.std.proofs.Common.{Err, Ok, refl}
-use Rattle.offset_core.specs.declared.around.Taken.TheVariants.{Shown}
 use Rattle.zoned_time.proofs.ForCallers.{one_taken, unresolved_once}
 use Rattle.zoned_time.specs.Choice.{refused}
-use Rattle.tests_pins.proofs.Words.{arith, ints, pos, refuse, set_back}
-use Rattle.tests_pins.proofs.SetClocks.{taken_in, takes_fold}
+use Rattle.tests_pins.proofs.{Words.{arith, ints, pos, refuse, set_back}, SetClocks.{taken_in, takes_fold}}
 use Rattle.tests_pins.specs.Choices.{earliest, latest}
 use Rattle.tests_pins.proofs.choices.folds.Goals as goal
 

@@ -1,8 +1,7 @@
-use Rattle.tests_pins.proofs.Words.{LocalType, TypeAt, ap, arith, autumn, inl, inr, ints, new_york_zone, pos, refl, spring}
-use Rattle.tests_pins.proofs.Words.{sym, ℤ, ◌-ℤ◌, ◌∙◌, ◌≡◌}
+use Rattle.tests_pins.proofs.Words.{LocalType, TypeAt, ap, arith, autumn, inl, inr, ints, new_york_zone, pos, refl, spring, sym, ℤ, ◌-ℤ◌, ◌∙◌, ◌≡◌}
+use Rattle.tests_pins.proofs.NewYorkChanges.{autumn_is, one_of_two, spring_is}
 use Rattle.tz_info.specs.OffsetChanges.{IsOffsetChange}
 use Rattle.tests_pins.specs.Changes.{at_epoch, cet, dst_cet}
-use Rattle.tests_pins.proofs.NewYorkChanges.{autumn_is, one_of_two, spring_is}
 use Rattle.tests_pins.proofs.clock_changes.offset_changes.Goals as goal
 
 offset_of : (u : ℤ) (t : LocalType) → at_epoch cet dst_cet u t → t.offset ≡ pos 3_600

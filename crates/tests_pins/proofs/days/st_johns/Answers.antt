@@ -1,6 +1,5 @@
-use Rattle.tests_pins.proofs.Words.{AreEndsOfDay, AreSetAt, IsFirstInstantFrom, IsFirstToReach}
-use Rattle.tests_pins.proofs.Words.{arith, inl, ints, midnight, neg_ℤ, of_secs, pos, refl, ℤ, ◌+ℤ◌, ◌<ℤ◌, ◌≡◌, ◌≤ℤ◌}
-use Rattle.tests_pins.proofs.SetDays.{day_over_the_jump, last_before, length_between, not_earlier_than, set_days}
+use Rattle.tests_pins.proofs.Words.{AreEndsOfDay, AreSetAt, IsFirstInstantFrom, IsFirstToReach, arith, inl, ints, midnight, neg_ℤ, of_secs, pos, refl, ℤ, ◌+ℤ◌}
+use Rattle.tests_pins.proofs.{Words.{◌<ℤ◌, ◌≡◌, ◌≤ℤ◌}, SetDays.{day_over_the_jump, last_before, length_between, not_earlier_than, set_days}}
 use Rattle.tests_pins.proofs.SetFires.{before_set, from_set}
 use Rattle.tests_pins.proofs.days.st_johns.Goals as goal
 

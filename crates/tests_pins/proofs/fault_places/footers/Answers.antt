@@ -1,9 +1,8 @@
-use Rattle.std.proofs.Common.{arith, refl}
-use Rattle.std.proofs.lemmas.Str.{IsUtf8-from_ascii}
+use Rattle.std.proofs.{Common.{arith, refl}, lemmas.Str.{IsUtf8-from_ascii}}
 use Rattle.tz_info.proofs.FooterLaws.{between}
 use Rattle.tz_info.specs.FilePlaces.{Colon, In_string, In_text, No_first, No_last, Zero}
-use Rattle.tests_pins.proofs.Words.{IsAscii-cons, IsAscii-nil, false, false≢true, [], ◌∷◌}
-use Rattle.tests_pins.proofs.{Computed.{files}, FaultPlaces.{ascii_text, in_footer, no_pair, not_utf8, second_of_2}, SpelledTexts.{faulty}}
+use Rattle.tests_pins.proofs.{Words.{IsAscii-cons, IsAscii-nil, false, false≢true, [], ◌∷◌}, Computed.{files}}
+use Rattle.tests_pins.proofs.{FaultPlaces.{ascii_text, in_footer, no_pair, not_utf8, second_of_2}, SpelledTexts.{faulty}}
 use Rattle.tests_pins.proofs.fault_places.footers.Goals as goal
 
 pub returns : goal.returns

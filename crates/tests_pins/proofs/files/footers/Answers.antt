@@ -2,8 +2,7 @@ use Rattle.tz_info.proofs.{FooterLaws.{footer_law}, TrimLaws.{trim_is}}
 use Rattle.tz_info.specs.Footers.FooterFault.{Colon}
 use Rattle.std.proofs.lemmas.Str.{IsUtf8-from_ascii}
 use Rattle.tests_pins.proofs.{Computed.{texts}, HonoluluFile.{footer_reads}}
-use Rattle.tests_pins.proofs.Words.{IsAscii-cons, IsAscii-nil, None, arith, false, hst, hst_footer, refl, [], ◌∷◌}
-use Rattle.tests_pins.proofs.SpelledTexts.{spelled}
+use Rattle.tests_pins.proofs.{Words.{IsAscii-cons, IsAscii-nil, None, arith, false, hst, hst_footer, refl, [], ◌∷◌}, SpelledTexts.{spelled}}
 use Rattle.tz_info.specs.declared.rule.transition_rule.TransitionRule.TheVariants as rules
 use Rattle.tests_pins.proofs.files.footers.Goals as goal
 

@@ -1,5 +1,5 @@
 use Rattle.tz_info.proofs.TzFileLaws.{file_law}
-use Rattle.tz_info.specs.{TzFiles.IsFileFault.{In_piece}, TzFiles.IsZoneFault.{In_file}}
+use Rattle.tz_info.specs.TzFiles.{IsFileFault.{In_piece}, IsZoneFault.{In_file}}
 use Rattle.tests_pins.proofs.{Words.{file, file_with, lawful, refl}, Computed.{files}, SpelledTexts.{never}}
 use Rattle.tests_pins.proofs.honolulu.second_versions.Goals as goal
 

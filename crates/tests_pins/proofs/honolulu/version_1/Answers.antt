@@ -1,5 +1,5 @@
 use Rattle.tz_info.proofs.TzFileLaws.{file_law}
-use Rattle.tz_info.specs.{TzFiles.IsFileFault.{In_piece}, TzFiles.IsZoneFault.{In_file}}
+use Rattle.tz_info.specs.TzFiles.{IsFileFault.{In_piece}, IsZoneFault.{In_file}}
 use Rattle.tests_pins.proofs.{Words.{file, lawful, refl, short_file, [], ◌++◌, ◌∷◌}, Computed.{files}, SpelledTexts.{never}}
 use Rattle.tests_pins.proofs.honolulu.version_1.Goals as goal
 

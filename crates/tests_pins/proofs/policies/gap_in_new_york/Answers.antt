@@ -1,8 +1,6 @@
-use Rattle.zoned_time.specs.{Nearest.{IsNextOf}, Policies.{IsFireBy, IsShownFire}}
-use Rattle.zoned_time.specs.declared.policies.{FirePolicy.{FirePolicy}, GapFires.{GapFires}}
+use Rattle.zoned_time.specs.{Nearest.{IsNextOf}, Policies.{IsFireBy, IsShownFire}, declared.policies.{FirePolicy.{FirePolicy}, GapFires.{GapFires}}}
 use Rattle.tests_pins.specs.Plans.{daily}
-use Rattle.tests_pins.proofs.SetFires.{InSpring, from_set}
-use Rattle.tests_pins.proofs.SetPolicies.{one_next, planned_before, planned_from}
+use Rattle.tests_pins.proofs.{SetFires.{InSpring, from_set}, SetPolicies.{one_next, planned_before, planned_from}}
 use Rattle.tests_pins.proofs.Words.{IsFire, arith, by_lt_z, floors, inl, inr, ints, neg_ℤ, pos, refl, subst, sym, ℤ, ◌+ℤ◌, ◌<ℤ◌, ◌≡◌, ◌≤ℤ◌}
 use Rattle.tests_pins.proofs.policies.gap_in_new_york.Goals as goal
 

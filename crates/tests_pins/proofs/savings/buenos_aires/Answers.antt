@@ -1,6 +1,6 @@
 use Rattle.tests_pins.proofs.SetSavings.{amount_is, no_amount, only_amount}
 use Rattle.tests_pins.specs.Savings.{summer}
-use Rattle.tz_saving.proofs.{Words.{IsAmount, None, arith, neg_ℤ, pos, refl}}
+use Rattle.tz_saving.proofs.Words.{IsAmount, None, arith, neg_ℤ, pos, refl}
 use Rattle.tests_pins.proofs.savings.buenos_aires.Goals as goal
 
 amount_of : IsAmount (summer (pos 938_919_600) (pos 952_052_400) (neg_ℤ (pos 10_800)) (neg_ℤ (pos 10_800)) (neg_ℤ (pos 10_800))) None

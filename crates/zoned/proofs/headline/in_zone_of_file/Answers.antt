@@ -1,5 +1,5 @@
 use Rattle.tz_info.proofs.TzFileLaws.{fault_once, fault_or_zone, one_zone}
-use Rattle.zoned.proofs.{Answered.{answered, refused, of_file_fault}}
+use Rattle.zoned.proofs.Answered.{answered, refused, of_file_fault}
 use Rattle.zoned.proofs.headline.in_zone_of_file.Goals as goal
 
 pub returns-in-Ok : goal.returns-in-Ok

@@ -1,5 +1,5 @@
 use Rattle.tz_info.proofs.PosixLaws.{fault_or_zone, one_posix_fault, one_zone}
-use Rattle.zoned.proofs.{Answered.{answered, refused, of_text_fault}}
+use Rattle.zoned.proofs.Answered.{answered, refused, of_text_fault}
 use Rattle.zoned.proofs.headline.in_zone_of_text.Goals as goal
 
 pub returns-in-Ok : goal.returns-in-Ok

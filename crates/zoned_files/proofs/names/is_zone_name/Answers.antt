@@ -1,5 +1,4 @@
-use Rattle.std.proofs.Common.{lit<, rules, tests}
-use Rattle.std.proofs.lemmas.Iterator.{Search.{all_from_yields_List}, Splits.{YieldsList-from_str_split}}
+use Rattle.std.proofs.{Common.{lit<, rules, tests}, lemmas.Iterator.{Search.{all_from_yields_List}, Splits.{YieldsList-from_str_split}}}
 use Rattle.zoned_files.specs.ZoneNames.{is_part}
 use Rattle.zoned_files.proofs.names.is_zone_name.Goals as goal
 

@@ -1,5 +1,4 @@
-use Rattle.std.proofs.Common.{arith, unsigned_abs, ◌-ℤ◌}
-use Rattle.std.proofs.lemmas.Int.{ints}
+use Rattle.std.proofs.{Common.{arith, unsigned_abs, ◌-ℤ◌}, lemmas.Int.{ints}}
 use Rattle.zoned_series.proofs.laws.plans.Goals as goal
 
 pub returns-clause-no_others : goal.returns-clause-no_others

@@ -1,12 +1,11 @@
 use Rattle.std.proofs.Common.{refl}
 use Rattle.zoned.proofs.ForCallers.{constant_wall, same_itself, wrapped_wall}
-use Rattle.zoned.specs.FixedOffset.{seconds_of}
-use Rattle.zoned.specs.KeptZone as kept
-use Rattle.zoned.specs.declared.LocalResult.{LocalResult}
+use Rattle.zoned.specs.{FixedOffset.{seconds_of}, declared.LocalResult.{LocalResult}}
 use Rattle.demo_examples.specs.AnyZone.{law_of, meaning_of}
+use Rattle.demo_examples.proofs.Wrapped.{named_is_wrapped}
+use Rattle.zoned.specs.KeptZone as kept
 use Rattle.demo_examples.specs.declared.any_zone.AnyOffset.TheVariants as offsets
 use Rattle.demo_examples.specs.declared.any_zone.AnyZone.TheVariants as zones
-use Rattle.demo_examples.proofs.Wrapped.{named_is_wrapped}
 use Rattle.demo_examples.proofs.any_zone.AnyZoneTimeZone.offset_from_local_datetime.Goals as goal
 
 pub returns-in-Fixed : goal.returns-in-Fixed

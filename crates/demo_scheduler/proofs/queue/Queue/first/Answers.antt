@@ -1,6 +1,5 @@
 use Rattle.std.proofs.Common.{FitsSigned, arith, rules, to_z-of_z, w64}
-use Rattle.demo_scheduler.proofs.Waiting.{all, at_place, more_none, more_some}
-use Rattle.demo_scheduler.proofs.queue.Queue.first.Goals.{in-None, in-Some}
+use Rattle.demo_scheduler.proofs.{Waiting.{all, at_place, more_none, more_some}, queue.Queue.first.Goals.{in-None, in-Some}}
 use Rattle.demo_scheduler.proofs.queue.Queue.first.Goals as goal
 
 pub loop-job-preserved : goal.loop-job-preserved

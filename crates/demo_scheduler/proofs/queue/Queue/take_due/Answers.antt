@@ -1,8 +1,6 @@
-use Rattle.std.proofs.Common.{arith, refl}
-use Rattle.std.proofs.lemmas.Option.{slice_get_within}
+use Rattle.std.proofs.{Common.{arith, refl}, lemmas.Option.{slice_get_within}}
 use Rattle.naive_base.proofs.Words.{ints}
-use Rattle.demo_scheduler.proofs.Waiting.{none_due, taken}
-use Rattle.demo_scheduler.proofs.queue.Queue.take_due.Goals.{in-None, in-Some}
+use Rattle.demo_scheduler.proofs.{Waiting.{none_due, taken}, queue.Queue.take_due.Goals.{in-None, in-Some}}
 use Rattle.demo_scheduler.proofs.queue.Queue.take_due.Goals as goal
 
 pub returns-then-timestamp : goal.returns-then-timestamp

@@ -1,5 +1,4 @@
-use Rattle.naive_base.proofs.Words.{arith, to_z-of_z, weekday_number}
-use Rattle.naive_base.proofs.Named.{nth_answer, number_below, only_nth}
+use Rattle.naive_base.proofs.{Words.{arith, to_z-of_z, weekday_number}, Named.{nth_answer, number_below, only_nth}}
 use Rattle.naive_base.proofs.date.NaiveDate.from_weekday_of_month_opt.Goals as goal
 
 pub returns-then-n-eq0-clause-value : goal.returns-then-n-eq0-clause-value

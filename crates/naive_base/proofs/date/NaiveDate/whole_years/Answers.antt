@@ -1,5 +1,4 @@
-use Rattle.naive_base.proofs.Words.{arith, day_of, day_of_month, false, floors, is_earlier_in_year, month_of, true, ◌≡◌}
-use Rattle.naive_base.proofs.Named.{years_early, years_late}
+use Rattle.naive_base.proofs.{Words.{arith, day_of, day_of_month, false, floors, is_earlier_in_year, month_of, true, ◌≡◌}, Named.{years_early, years_late}}
 use Rattle.naive_base.proofs.date.NaiveDate.whole_years.Goals as goal
 
 pub returns-then-is_earlier_in_year : goal.returns-then-is_earlier_in_year

@@ -1,5 +1,4 @@
-use Rattle.naive_base.proofs.Words.{arith, floors, of_z, pos, to_z, to_z-of_z, w64, year_start, ℤ, ◌+ℤ◌, ◌≡◌}
-use Rattle.naive_base.proofs.Named.{found_thursday, only_thursday}
+use Rattle.naive_base.proofs.{Words.{arith, floors, of_z, pos, to_z, to_z-of_z, w64, year_start, ℤ, ◌+ℤ◌, ◌≡◌}, Named.{found_thursday, only_thursday}}
 use Rattle.naive_base.proofs.date.found.thursday_of.Goals as goal
 
 pub returns-then-place-days_in_year-clause-value : goal.returns-then-place-days_in_year-clause-value
