@@ -9,7 +9,7 @@ use crate::values::{NONE, OfWeek, OfYear, Typed};
 use naive_base::{Datelike, Months, NaiveDate, NaiveDateTime, Timelike};
 
 /// The sum of the digits of each date, as 20200102.
-pub fn fields<P: Place>(dates: &[NaiveDate]) -> i64 {
+pub fn date_fields<P: Place>(dates: &[NaiveDate]) -> i64 {
     let mut sum = 0i64;
     for date in dates {
         sum = sum.wrapping_add(digits::<NaiveDate, P>(date));
@@ -49,7 +49,7 @@ pub fn iso_weeks<P: Place>(dates: &[NaiveDate]) -> i64 {
 }
 
 /// The latest of the dates a month later, counted in days.
-pub fn months_later<P: Place>(dates: &[NaiveDate]) -> i64 {
+pub fn dates_months_later<P: Place>(dates: &[NaiveDate]) -> i64 {
     let mut latest = NONE;
     for date in dates {
         latest = latest.max(day_of::<P>(date.checked_add_months(Months::new(1))));
@@ -115,7 +115,7 @@ pub fn local_fields<P: Place>(readings: &[NaiveDateTime]) -> i64 {
 pub fn local_months_later<P: Place>(readings: &[NaiveDateTime]) -> i64 {
     let mut latest = NONE;
     for reading in readings {
-        latest = latest.max(second_of::<P>(reading.checked_add_months(Months::new(1))));
+        latest = latest.max(second_or_none::<P>(reading.checked_add_months(Months::new(1))));
     }
     latest
 }
@@ -134,7 +134,7 @@ fn day_of<P: Place>(found: Option<NaiveDate>) -> i64 {
     }
 }
 
-fn second_of<P: Place>(found: Option<NaiveDateTime>) -> i64 {
+fn second_or_none<P: Place>(found: Option<NaiveDateTime>) -> i64 {
     match found {
         Some(reading) => reading.secs_since_epoch(),
         None => NONE,

@@ -124,8 +124,8 @@ impl<Tz: TimeZone> Values<Tz> {
         if let Some(reading) = NaiveDateTime::from_timestamp_opt(local_second, 0) {
             self.typed.push(as_typed(&reading))?;
             self.dates.push(reading.date())?;
-            self.ordinals.push(of_year(&reading))?;
-            self.weeks.push(of_week(&reading))?;
+            self.ordinals.push(year_form(&reading))?;
+            self.weeks.push(week_form(&reading))?;
             self.readings.push(reading)?;
         }
         if let Some(reading) = NaiveDateTime::from_timestamp_opt(skipped(local_second), 0) {
@@ -165,14 +165,14 @@ fn as_typed(reading: &NaiveDateTime) -> Typed {
     }
 }
 
-fn of_year(reading: &NaiveDateTime) -> OfYear {
+fn year_form(reading: &NaiveDateTime) -> OfYear {
     OfYear {
         year: reading.year(),
         ordinal: reading.ordinal(),
     }
 }
 
-fn of_week(reading: &NaiveDateTime) -> OfWeek {
+fn week_form(reading: &NaiveDateTime) -> OfWeek {
     let week = reading.iso_week();
     OfWeek {
         year: week.year(),
