@@ -1,7 +1,10 @@
 -- A local time has one answer with both sides of its gap.
-use Rattle.tz_info.proofs.Words.{AreTypesAround, Around, Change, HasGap, LocalType, Shows, TypeAt, Zone, arith, ints, one_around, pos, subst, ℤ, ◌-ℤ◌, ◌≡◌}
+use Rattle.tz_info.proofs.{
+  WallLaws.{shown_once},
+  Words.{AreTypesAround, Around, Change, HasGap, LocalType, Shows, TypeAt, Zone, arith, ints, one_around, pos, subst, ℤ, ◌-ℤ◌, ◌≡◌},
+  ZoneLaws.{type_once},
+}
 use Rattle.tz_info.specs.Around.{Skips}
-use Rattle.tz_info.proofs.{WallLaws.{shown_once}, ZoneLaws.{type_once}}
 
 same_sides : (g h : Change) → g.before ≡ h.before → g.after ≡ h.after → g.at ≡ h.at → g ≡ h
 same_sides g h p q r = λ i. record { before = p i; after = q i; at = r i }

@@ -1,12 +1,13 @@
 -- The nearest change of a rule, by questions about two years.
 use Rattle.tz_base.specs.contracts.local_time_type.LocalTimeTypePartialEq.TheImpl.{eq-value as type_eq}
-use Rattle.tz_info.proofs.Words.{Alternate, AlternateAt, AreFrom, Bool, Change, HasNoChange, HasNoneBeyond, IsAhead, IsAlternateRule, IsChange, IsNearest}
-use Rattle.tz_info.proofs.Words.{IsNearestChange, IsNextChanging, IsOfYear, IsRuleYear, IsStretchAhead, IsYearNear, IsYearOf, None, Option, Precedes, Some}
-use Rattle.tz_info.proofs.Words.{arith}
-use Rattle.tz_info.proofs.Words.{NeverChanges, changes_in_year, floor_div, one_year, by_lt_z, false, inl, inr, ints, neg_ℤ, pos, true, type_exact, year_at, ℕ}
-use Rattle.tz_info.proofs.Words.{ℤ, ◌*ℤ◌, ◌+ℤ◌, ◌+◌, ◌-ℤ◌, ◌<◌, ◌≡◌, ◌⊎◌}
-use Rattle.tz_info.proofs.{ChangeSearch.{decided, in_ahead, nearest_moved}, ChangingYears.{none_in, one_in, steady_alike}}
-use Rattle.tz_info.proofs.RuleChanges.{change_again, change_then, cycles_to, later_year, rule_second, same_or_not, seconds_follow, year_on, years_rise}
+use Rattle.tz_info.proofs.{
+  ChangeSearch.{decided, in_ahead, nearest_moved},
+  ChangingYears.{none_in, one_in, steady_alike},
+  RuleChanges.{change_again, change_then, cycles_to, later_year, rule_second, same_or_not, seconds_follow, year_on, years_rise},
+  Words.{Alternate, AlternateAt, AreFrom, Bool, Change, HasNoChange, HasNoneBeyond, IsAhead, IsAlternateRule, IsChange, IsNearest, IsNearestChange},
+  Words.{IsNextChanging, IsOfYear, IsRuleYear, IsStretchAhead, IsYearNear, IsYearOf, NeverChanges, None, Option, Precedes, Some, arith, by_lt_z},
+  Words.{changes_in_year, false, floor_div, inl, inr, ints, neg_ℤ, one_year, pos, true, type_exact, year_at, ℕ, ℤ, ◌*ℤ◌, ◌+ℤ◌, ◌+◌, ◌-ℤ◌, ◌<◌, ◌≡◌, ◌⊎◌},
+}
 
 -- ahead of the second, and the second before lies in the year
 abbrev pub IsAheadIn : Bool → ℤ → ℤ → ℤ → Type 0

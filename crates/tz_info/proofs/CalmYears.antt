@@ -1,12 +1,15 @@
 -- If all moments keep away from the ends of their years, the changes of a year come at its own two moments.
-use Rattle.tz_info.proofs.Words.{Alternate, AlternateAt, Bool, Change, HasNoChange, IsAlternateRule, IsCalmRule, IsChange, IsNearest, IsOfYear, IsRuleYear}
-use Rattle.tz_info.proofs.Words.{IsYearOf, Option, ap, arith, days_at_least, end_in, false, floors, inl, inr, ints, is_dst_by_one, nearer_one}
-use Rattle.tz_info.proofs.Words.{not, pos, refl, start_in}
-use Rattle.tz_info.proofs.Words.{sym, true, turn_of, type_when, year_step, ℤ, ⊎_elim, ◌-ℤ◌, ◌∙◌, ◌≡◌, ◌≢◌, ◌⊎◌}
-use Rattle.tz_info.proofs.ChangeSearch.{IsAsked, asked, nearest_either, nearest_moved}
-use Rattle.tz_info.proofs.ChangingYears.{calm_margin, calm_type, differ_by, none_calm, steady_alike}
-use Rattle.tz_info.proofs.{KindLaws.{IsMargin}, Neighbours.{second_high, second_low}}
-use Rattle.tz_info.proofs.{RuleChanges.{rule_second, same_or_not}, RuleLaws.{alternate_once, rule_time}}
+use Rattle.tz_info.proofs.{
+  ChangeSearch.{IsAsked, asked, nearest_either, nearest_moved},
+  ChangingYears.{calm_margin, calm_type, differ_by, none_calm, steady_alike},
+  KindLaws.{IsMargin},
+  Neighbours.{second_high, second_low},
+  RuleChanges.{rule_second, same_or_not},
+  RuleLaws.{alternate_once, rule_time},
+  Words.{Alternate, AlternateAt, Bool, Change, HasNoChange, IsAlternateRule, IsCalmRule, IsChange, IsNearest, IsOfYear, IsRuleYear, IsYearOf, Option, ap},
+  Words.{arith, days_at_least, end_in, false, floors, inl, inr, ints, is_dst_by_one, nearer_one, not, pos, refl, start_in, sym, true, turn_of, type_when},
+  Words.{year_step, ℤ, ⊎_elim, ◌-ℤ◌, ◌∙◌, ◌≡◌, ◌≢◌, ◌⊎◌},
+}
 
 -- ---- a year's moments lie in it
 record IsInside (year m : ℤ) : Type 0 where

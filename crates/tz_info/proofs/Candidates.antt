@@ -1,10 +1,13 @@
 -- The candidates of a wall clock: each second that shows a local time is that time less the offset of a type in force there.
 use Rattle.offset_core.specs.declared.local_result.LocalResult.TheVariants.{None, Single}
-use Rattle.tz_info.proofs.Words.{Alternate as AlternateRule, AlternateAt, Bool, Contains, FitsSigned, IsAskedLast, IsWallAnswer, LocalResult, LocalType, RuleAt}
-use Rattle.tz_info.proofs.Words.{Shows, Some, TransitionRule, TypeFrom, ap, arith, false, inl, inr, ints, joined, refl, rule_offsets, subst, sym, true}
-use Rattle.tz_info.proofs.Words.{type_when, w64, ℤ, ◌+ℤ◌, ◌-ℤ◌, ◌<ℤ◌, ◌≡◌, ◌≤ℤ◌, ◌⊎◌}
+use Rattle.tz_info.proofs.{
+  AnswerLaws.{same_answer},
+  RuleLaws.{rule_once},
+  Words.{Alternate as AlternateRule, AlternateAt, Bool, Contains, FitsSigned, IsAskedLast, IsWallAnswer, LocalResult, LocalType, RuleAt, Shows, Some},
+  Words.{TransitionRule, TypeFrom, ap, arith, false, inl, inr, ints, joined, refl, rule_offsets, subst, sym, true, type_when, w64, ℤ, ◌+ℤ◌, ◌-ℤ◌, ◌<ℤ◌, ◌≡◌},
+  Words.{◌≤ℤ◌, ◌⊎◌},
+}
 use Rattle.tz_info.specs.declared.rule.transition_rule.TransitionRule.TheVariants.{Alternate, Fixed}
-use Rattle.tz_info.proofs.{AnswerLaws.{same_answer}, RuleLaws.{rule_once}}
 
 -- a second that shows the local time at a type is the local time less the type's offset
 pub shown_at : (u l : ℤ) (t s : LocalType) → u +ℤ t.offset ≡ l → t ≡ s → u ≡ l -ℤ s.offset

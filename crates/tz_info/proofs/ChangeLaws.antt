@@ -1,10 +1,10 @@
 -- At a second there is one change, and so one next change, one previous change and one list of them.
 use Rattle.std.proofs.lemmas.Map.Made.{Contains-tail}
-use Rattle.tz_info.proofs.Words.{AllPairs, AreChanges, Bool, Change, Contains, Contains-append_right, IsTypeBeforeGap, IsChange, IsFirst, IsNearest, List}
-use Rattle.tz_info.proofs.Words.{LocalType, None, Option}
-use Rattle.tz_info.proofs.Words.{Precedes, Some, TypeAt, Zone, ap, arith, by_lt_z, false, ints, pos, refl, subst, suc, sym, true, zero, ℤ, [], ◌-ℤ◌}
-use Rattle.tz_info.proofs.Words.{◌<ℤ◌, ◌∷◌, ◌≡◌, ◌≤ℤ◌}
-use Rattle.tz_info.proofs.ZoneLaws.{type_once}
+use Rattle.tz_info.proofs.{
+  Words.{AllPairs, AreChanges, Bool, Change, Contains, Contains-append_right, IsChange, IsFirst, IsNearest, IsTypeBeforeGap, List, LocalType, None, Option},
+  Words.{Precedes, Some, TypeAt, Zone, [], ap, arith, by_lt_z, false, ints, pos, refl, subst, suc, sym, true, zero, ℤ, ◌-ℤ◌, ◌<ℤ◌, ◌∷◌, ◌≡◌, ◌≤ℤ◌},
+  ZoneLaws.{type_once},
+}
 
 same_parts : (c d : Change) → c.at ≡ d.at → c.before ≡ d.before → c.after ≡ d.after → c ≡ d
 same_parts c d p q r = λ i. record { at = p i; before = q i; after = r i }

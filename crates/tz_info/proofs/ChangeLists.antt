@@ -1,10 +1,14 @@
 -- The list of a stretch's changes: there is no other, and how it begins and ends.
-use Rattle.tz_info.proofs.Words.{AreChanges, Change, Changes, Contains, Contains-append_left, Contains-get_or, Contains-push, Contains-push_cases, HasNoChange}
-use Rattle.tz_info.proofs.Words.{IsChange, IsFirstChange, IsFromUntil, IsInStretch, IsLastChange, IsRuleOrNone, IsValid, List, LocalType, Option, TypeAt, Zone}
-use Rattle.tz_info.proofs.Words.{add-suc, add-zero, all_pairs_push, ap, append-nil, append_assoc, arith, by_lt_z, change_here, changes_in, changes_left}
-use Rattle.tz_info.proofs.Words.{changes_of, get_or, inl, inr, ints, least_time, length, length-append, lt_false, pos, refl, seconds_between, subst}
-use Rattle.tz_info.proofs.Words.{suc, sym, type_or_none, zero, ℕ, ℤ, [], ◌++◌, ◌+ℤ◌, ◌+◌, ◌-ℤ◌, ◌<ℤ◌, ◌<◌, ◌↔◌, ◌∙◌, ◌∷◌, ◌≡◌, ◌≤ℤ◌}
-use Rattle.tz_info.proofs.{ChangeSearch.{InForce, IsOnce}, SecondTypes.{AreTypes, here_listed, types_told}, ZoneLaws.{type_once}}
+use Rattle.tz_info.proofs.{
+  ChangeSearch.{InForce, IsOnce},
+  SecondTypes.{AreTypes, here_listed, types_told},
+  Words.{AreChanges, Change, Changes, Contains, Contains-append_left, Contains-get_or, Contains-push, Contains-push_cases, HasNoChange, IsChange},
+  Words.{IsFirstChange, IsFromUntil, IsInStretch, IsLastChange, IsRuleOrNone, IsValid, List, LocalType, Option, TypeAt, Zone, [], add-suc, add-zero},
+  Words.{all_pairs_push, ap, append-nil, append_assoc, arith, by_lt_z, change_here, changes_in, changes_left, changes_of, get_or, inl, inr, ints, least_time},
+  Words.{length, length-append, lt_false, pos, refl, seconds_between, subst, suc, sym, type_or_none, zero, ℕ, ℤ, ◌++◌, ◌+ℤ◌, ◌+◌, ◌-ℤ◌, ◌<ℤ◌, ◌<◌, ◌↔◌, ◌∙◌},
+  Words.{◌∷◌, ◌≡◌, ◌≤ℤ◌},
+  ZoneLaws.{type_once},
+}
 
 empty : (cs : List Change) → ((c : Change) → Contains cs c → ⊥) → cs ≡ []
 empty [] none = refl

@@ -1,10 +1,11 @@
 -- The first and the last change among seconds, and in a stretch.
 use Rattle.std.specs.Bool.{Decides}
 use Rattle.tz_base.specs.contracts.local_time_type.LocalTimeTypePartialEq.TheImpl.{eq-value as type_eq}
-use Rattle.tz_info.proofs.Words.{Bool, Change, HasNoChange, IfSome, IsAhead, IsChange, IsIdle, IsInStretch, IsNearest, IsOneOf, IsStretchAhead, List, LocalType}
-use Rattle.tz_info.proofs.Words.{MatchOption, None, Option, Precedes, SFits, Some, arith, false, get_or, inl, inr, ints}
-use Rattle.tz_info.proofs.Words.{near_end, nearer_one, pos, refl, subst, suc, sym, true, type_exact, unsigned_abs, w64, zero, ℕ, ℤ, ⊎_elim, ◌+ℤ◌, ◌+◌, ◌-ℤ◌}
-use Rattle.tz_info.proofs.Words.{◌<ℤ◌, ◌∙◌, ◌↔◌, ◌≡◌, ◌≢◌, ◌≤ℤ◌, ◌⊎◌}
+use Rattle.tz_info.proofs.{
+  Words.{Bool, Change, HasNoChange, IfSome, IsAhead, IsChange, IsIdle, IsInStretch, IsNearest, IsOneOf, IsStretchAhead, List, LocalType, MatchOption, None},
+  Words.{Option, Precedes, SFits, Some, arith, false, get_or, inl, inr, ints, near_end, nearer_one, pos, refl, subst, suc, sym, true, type_exact, unsigned_abs},
+  Words.{w64, zero, ℕ, ℤ, ⊎_elim, ◌+ℤ◌, ◌+◌, ◌-ℤ◌, ◌<ℤ◌, ◌↔◌, ◌∙◌, ◌≡◌, ◌≢◌, ◌≤ℤ◌, ◌⊎◌},
+}
 
 abbrev pub InForce : Type 1
 InForce = ℤ → LocalType → Type 0

@@ -1,22 +1,24 @@
 -- A rule of two types changes the clocks in the years in which daylight saving time begins or ends, if the types differ.
-use Rattle.std.proofs.{Math.Bool.{beq}, lemmas.Bool.{cases_Bool}, lemmas.List.Folds.{Any-from_list_any, list_any_at}}
+use Rattle.std.proofs.{Math.Bool.{beq}, lemmas.{Bool.{cases_Bool}, List.Folds.{Any-from_list_any, list_any_at}}}
 use Rattle.std.specs.List.{list_any}
-use Rattle.tz_info.proofs.Words.{Alternate, AlternateAt, Bool, Change, Contains, DayTime, HasNoChange, IsAlternateRule, IsChange, IsRuleDay, IsRuleTime}
-use Rattle.tz_info.proofs.Words.{IsRuleYear, IsYearOf, List, LocalType, NeverChanges, Season, are_calm, arith, by_lt_z, changing_keys, cond}
-use Rattle.tz_info.proofs.Words.{days_at_least, end_in}
-use Rattle.tz_info.proofs.Words.{false, floor_div, floors, get_or, get_or-map, inl, inr, int_le, int_lt, ints, is_dst_by_one, key_years, kind_place, lies_in}
-use Rattle.tz_info.proofs.Words.{lt_false}
-use Rattle.tz_info.proofs.Words.{lt_true, margin_of, moment, moments_near, new_year, not, one_year, days_at_most, cases_lt, get_or_default}
-use Rattle.tz_info.proofs.Words.{get_or-eq_default, length, length-map, ap, pos, refl, seconds_by_kind, start_in, subst, sym, true}
-use Rattle.tz_info.proofs.Words.{type_when, year_of, year_start, year_step, ℕ, ℤ, ◌*ℤ◌, ◌+ℤ◌, ◌-ℤ◌, ◌<ℤ◌, ◌<◌, ◌∙◌, ◌≡◌}
-use Rattle.tz_info.proofs.Words.{◌≢◌, ◌≤ℤ◌, ◌⊎◌}
-use Rattle.tz_info.specs.Steps.ChangingYears.{are_apart, dst_near, flips_at, has_flip, is_changing, moment_by, seconds_near, turns_in, year_key, years_near}
-use Rattle.tz_info.specs.Steps.AskedYears.{changes_in_year}
-use Rattle.tz_info.specs.Steps.Turns.{dst_by}
-use Rattle.tz_info.proofs.{ChangeSearch.{stays}, KindLaws.{IsMargin, kind_found, margin_kept}}
-use Rattle.tz_info.proofs.Neighbours.{dst_by_three, ends_near, second_high, second_low, starts_near}
-use Rattle.tz_info.proofs.{RuleChanges.{change_near, rule_second}, RuleLaws.{alternate_at, alternate_once, rule_time, rule_year}, SeasonLaws.{season_made}}
-use Rattle.tz_info.proofs.YearKeys.{changing_alike, key_below, key_count, own_key, year_bounds}
+use Rattle.tz_info.proofs.{
+  ChangeSearch.{stays},
+  KindLaws.{IsMargin, kind_found, margin_kept},
+  Neighbours.{dst_by_three, ends_near, second_high, second_low, starts_near},
+  RuleChanges.{change_near, rule_second},
+  RuleLaws.{alternate_at, alternate_once, rule_time, rule_year},
+  SeasonLaws.{season_made},
+  Words.{Alternate, AlternateAt, Bool, Change, Contains, DayTime, HasNoChange, IsAlternateRule, IsChange, IsRuleDay, IsRuleTime, IsRuleYear, IsYearOf, List},
+  Words.{LocalType, NeverChanges, Season, ap, are_calm, arith, by_lt_z, cases_lt, changing_keys, cond, days_at_least, days_at_most, end_in, false, floor_div},
+  Words.{floors, get_or, get_or-eq_default, get_or-map, get_or_default, inl, inr, int_le, int_lt, ints, is_dst_by_one, key_years, kind_place, length},
+  Words.{length-map, lies_in, lt_false, lt_true, margin_of, moment, moments_near, new_year, not, one_year, pos, refl, seconds_by_kind, start_in, subst, sym},
+  Words.{true, type_when, year_of, year_start, year_step, ℕ, ℤ, ◌*ℤ◌, ◌+ℤ◌, ◌-ℤ◌, ◌<ℤ◌, ◌<◌, ◌∙◌, ◌≡◌, ◌≢◌, ◌≤ℤ◌, ◌⊎◌},
+  YearKeys.{changing_alike, key_below, key_count, own_key, year_bounds},
+}
+use Rattle.tz_info.specs.{
+  Steps.AskedYears.{changes_in_year},
+  Steps.{ChangingYears.{are_apart, dst_near, flips_at, has_flip, is_changing, moment_by, seconds_near, turns_in, year_key, years_near}, Turns.{dst_by}},
+}
 
 -- ---- a second's type by the moments of years near it
 own_type : (a : Alternate) (year u : ℤ) → IsAlternateRule a → IsYearOf u year → IsRuleYear year

@@ -1,11 +1,13 @@
 -- The laws of transitions, leap seconds and indicators.
-use Rattle.tz_base.specs.{declared.error.Error.TheVariants.{InvalidTzFile}, declared.error.Expected.TheVariants.{StandardTimeWhereTimeIsUt}}
-use Rattle.tz_info.proofs.Words.{Bool, Decided, IndicatorsAgree, LeapSecond, List, Ok, SpellLeapSeconds, SpellTransitions, SpellsLeapSecond, Transition}
-use Rattle.tz_info.proofs.Words.{all_below, ap, arith, cases_lt, done, drop, exact_cut, get_or, get_or-eq_default, indicators_of, inl, inr}
-use Rattle.tz_info.proofs.Words.{leap_second_in, leap_second_of, length, length-take, like, nil_from_length, pair_agrees, refl, said}
-use Rattle.tz_info.proofs.Words.{slice_index, subst, suc, sym, take, take-append-drop, file_time, transition_in, true, values_below, zero, ℕ, [], ◌*◌}
-use Rattle.tz_info.proofs.Words.{◌+◌, ◌<◌, ◌∷◌, ◌≡◌, ◌≢◌}
-use Rattle.tz_info.proofs.{ListLaws.{one_true}, RecordLaws.{behind_first, first_and_more, first_record, next_record, records}}
+use Rattle.tz_base.specs.declared.error.{Error.TheVariants.{InvalidTzFile}, Expected.TheVariants.{StandardTimeWhereTimeIsUt}}
+use Rattle.tz_info.proofs.{
+  ListLaws.{one_true},
+  RecordLaws.{behind_first, first_and_more, first_record, next_record, records},
+  Words.{Bool, Decided, IndicatorsAgree, LeapSecond, List, Ok, SpellLeapSeconds, SpellTransitions, SpellsLeapSecond, Transition, [], all_below, ap, arith},
+  Words.{cases_lt, done, drop, exact_cut, file_time, get_or, get_or-eq_default, indicators_of, inl, inr, leap_second_in, leap_second_of, length, length-take},
+  Words.{like, nil_from_length, pair_agrees, refl, said, slice_index, subst, suc, sym, take, take-append-drop, transition_in, true, values_below, zero, ℕ, ◌*◌},
+  Words.{◌+◌, ◌<◌, ◌∷◌, ◌≡◌, ◌≢◌},
+}
 
 -- ---- transitions
 -- the first one and the others

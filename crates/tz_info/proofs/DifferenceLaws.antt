@@ -1,8 +1,11 @@
 -- The differences of two zones, from one pair of types to the next.
-use Rattle.tz_info.proofs.Words.{AreDifferences, AreListedTo, Contains, Contains-append_left, Contains-get_or, Contains-push, Contains-push_cases, Difference}
-use Rattle.tz_info.proofs.Words.{IsDifference, IsInDifference, IsListedIf, IsPairUntil, IsRunUntil, List, LocalType, TypeAt, Zone, all_pairs_push, arith}
-use Rattle.tz_info.proofs.Words.{by_lt_z, get_or, inl, inr, ints, pos, refl, subst, sym, ℤ, [], ◌-ℤ◌, ◌<ℤ◌, ◌∙◌, ◌∷◌, ◌≡◌, ◌≢◌, ◌≤ℤ◌}
-use Rattle.tz_info.proofs.{ChangeSearch.{InForce}, ZoneLaws.{type_once}}
+use Rattle.tz_info.proofs.{
+  ChangeSearch.{InForce},
+  Words.{AreDifferences, AreListedTo, Contains, Contains-append_left, Contains-get_or, Contains-push, Contains-push_cases, Difference, IsDifference},
+  Words.{IsInDifference, IsListedIf, IsPairUntil, IsRunUntil, List, LocalType, TypeAt, Zone, [], all_pairs_push, arith, by_lt_z, get_or, inl, inr, ints, pos},
+  Words.{refl, subst, sym, ℤ, ◌-ℤ◌, ◌<ℤ◌, ◌∙◌, ◌∷◌, ◌≡◌, ◌≢◌, ◌≤ℤ◌},
+  ZoneLaws.{type_once},
+}
 
 -- ---- two that share a second are the same
 abbrev made : ℤ → ℤ → LocalType → LocalType → Difference

@@ -1,21 +1,23 @@
 -- What a zone's entries say of it: the types in force, the clock changes, and the spans between them.
-use Rattle.tz_info.proofs.Words.{AreRising, Change, HasNoChange, HasType, IsChange, IsFirst, IsFirstChange, IsFromLast, IsInTable, IsLast, IsLastChange}
-use Rattle.tz_info.proofs.Words.{IsLeapTime}
-use Rattle.tz_info.proofs.Words.{IsSpanAt, IsTrue, IsValid, List, LocalType, MatchOption, None, Option, SFits, Some, Transition, TypeAt, Zone, ap, arith}
-use Rattle.tz_info.proofs.Words.{begin_of, by_lt_z, cases_lt}
-use Rattle.tz_info.proofs.Words.{correction_at, get_or, index_of, inl, inr, ints, leap_time_at, least_time, length, passed, pos, refl, segment_of, slice_get}
-use Rattle.tz_info.proofs.Words.{suc, sym, take, w64, zero, ℕ, ℤ, [], ◌+ℤ◌, ◌+◌, ◌-ℤ◌, ◌-◌, ◌<ℤ◌, ◌<◌, ◌↔◌, ◌∙◌, ◌≡◌, ◌≤ℤ◌, ◌≤◌}
-use Rattle.tz_info.proofs.SegmentLaws.{begin_next, come_at_time, come_by_time, index_next, not_later, place_before, place_begin, place_most, segment_most}
-use Rattle.tz_info.proofs.SegmentLaws.{split_at, split_count}
-use Rattle.tz_base.specs.{declared.error.Error.TheVariants.{FindLocalTimeType}, declared.error.Expected.TheVariants.{YearThatRuleAnswersIn}}
-use Rattle.tz_info.proofs.Words.{Err, Error, IsBeforeLast, IsRefusedBy, MatchResult, Ok, Result, RuleOrElse, RuleOrType, TransitionRule, TypeAtLeapTime, false}
-use Rattle.tz_info.proofs.Words.{index_at, true}
-use Rattle.tz_info.proofs.Words.{AreLeapSeconds, Counts, IsLastOf, IsNear, RoseWithin, LeapSecond, digits, digits-more, length-take, nat_tests, ◌==◌, ◌∷◌}
-use Rattle.tz_info.proofs.Prefixes.{last_taken}
-use Rattle.tz_info.proofs.{LeapOrder.{leap_times_answer}, TableSearch.{search_found}, ZoneChanges.{out_before, out_from, refused_on, time_of}}
-use Rattle.tz_info.proofs.{ZoneLaws.{before_or_from_last, inside_listed, last_index_below, leap_time_decided}}
-use Rattle.tz_info.specs.Steps.Entries.{AreEntries, Entries, HaveComeAt, IsBetween, IsCome, IsEntryChange, last_index, most_looks}
-use Rattle.tz_info.specs.declared.zone.made.change_table.{Between.{Between}, Come.{Come}}
+use Rattle.tz_base.specs.declared.error.{Error.TheVariants.{FindLocalTimeType}, Expected.TheVariants.{YearThatRuleAnswersIn}}
+use Rattle.tz_info.proofs.{
+  LeapOrder.{leap_times_answer},
+  Prefixes.{last_taken},
+  SegmentLaws.{begin_next, come_at_time, come_by_time, index_next, not_later, place_before, place_begin, place_most, segment_most, split_at, split_count},
+  TableSearch.{search_found},
+  Words.{AreLeapSeconds, AreRising, Change, Counts, Err, Error, HasNoChange, HasType, IsBeforeLast, IsChange, IsFirst, IsFirstChange, IsFromLast, IsInTable},
+  Words.{IsLast, IsLastChange, IsLastOf, IsLeapTime, IsNear, IsRefusedBy, IsSpanAt, IsTrue, IsValid, LeapSecond, List, LocalType, MatchOption, MatchResult},
+  Words.{None, Ok, Option, Result, RoseWithin, RuleOrElse, RuleOrType, SFits, Some, Transition, TransitionRule, TypeAt, TypeAtLeapTime, Zone, [], ap, arith},
+  Words.{begin_of, by_lt_z, cases_lt, correction_at, digits, digits-more, false, get_or, index_at, index_of, inl, inr, ints, leap_time_at, least_time, length},
+  Words.{length-take, nat_tests, passed, pos, refl, segment_of, slice_get, suc, sym, take, true, w64, zero, ℕ, ℤ, ◌+ℤ◌, ◌+◌, ◌-ℤ◌, ◌-◌, ◌<ℤ◌, ◌<◌, ◌==◌, ◌↔◌},
+  Words.{◌∙◌, ◌∷◌, ◌≡◌, ◌≤ℤ◌, ◌≤◌},
+  ZoneChanges.{out_before, out_from, refused_on, time_of},
+  ZoneLaws.{before_or_from_last, inside_listed, last_index_below, leap_time_decided},
+}
+use Rattle.tz_info.specs.{
+  Steps.Entries.{AreEntries, Entries, HaveComeAt, IsBetween, IsCome, IsEntryChange, last_index, most_looks},
+  declared.zone.made.change_table.{Between.{Between}, Come.{Come}},
+}
 
 abbrev count_at : Entries → ℤ → ℕ
 count_at e u = length (passed e.items u)

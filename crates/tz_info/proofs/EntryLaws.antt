@@ -1,16 +1,16 @@
 -- How the entries of a zone are made, one transition after another.
-use Rattle.std.proofs.Math.Seq.{take-suc}
-use Rattle.std.proofs.lemmas.List.{take-append-le}
-use Rattle.std.proofs.lemmas.List.Elements.{filter-append}
-use Rattle.tz_info.proofs.Words.{AreLeapSeconds, AreRising, Bool, IsFromLast, IsLeapTime, IsLeapTimeRefused, IsValid, LeapSecond, List, SFits, Transition, Zone}
-use Rattle.tz_info.proofs.Words.{all_pairs_push, append-nil, ap, arith, by_lt_z, cases_lt, false, get_or, get_or_append_left, get_or_default, get_or_push}
-use Rattle.tz_info.proofs.Words.{index_of}
-use Rattle.tz_info.proofs.Words.{inl, inr, int_le, ints, last_else, le_false, le_true, length, length_push, map, nat_tests, pos, passed, refl, slice_get}
-use Rattle.tz_info.proofs.Words.{slice_get-get_or, Option, Some, None, suc, sym}
-use Rattle.tz_info.proofs.Words.{take, take_all, true, w64, zero, ℕ, ℤ, [], ◌++◌, ◌+◌, ◌-◌, ◌==◌, ◌<ℤ◌, ◌<◌, ◌↔◌, ◌∙◌, ◌∷◌, ◌≡◌, ◌≢◌, ◌≤ℤ◌, ◌≤◌, ◌⊎◌}
+use Rattle.std.proofs.{Math.Seq.{take-suc}, lemmas.{List.{take-append-le, Elements.{filter-append}}, Option.{slice_get_within}}}
 use Rattle.std.specs.Prelude.{option_to_list}
-use Rattle.std.proofs.lemmas.Option.{slice_get_within}
-use Rattle.tz_info.proofs.{LeapSearch.{own_leap_time}, Prefixes.{last_taken}, SegmentLaws.{come_by_time, not_later, place_most}, ZoneChanges.{refused_on}}
+use Rattle.tz_info.proofs.{
+  LeapSearch.{own_leap_time},
+  Prefixes.{last_taken},
+  SegmentLaws.{come_by_time, not_later, place_most},
+  Words.{AreLeapSeconds, AreRising, Bool, IsFromLast, IsLeapTime, IsLeapTimeRefused, IsValid, LeapSecond, List, None, Option, SFits, Some, Transition, Zone},
+  Words.{[], all_pairs_push, ap, append-nil, arith, by_lt_z, cases_lt, false, get_or, get_or_append_left, get_or_default, get_or_push, index_of, inl, inr},
+  Words.{int_le, ints, last_else, le_false, le_true, length, length_push, map, nat_tests, passed, pos, refl, slice_get, slice_get-get_or, suc, sym, take},
+  Words.{take_all, true, w64, zero, ℕ, ℤ, ◌++◌, ◌+◌, ◌-◌, ◌<ℤ◌, ◌<◌, ◌==◌, ◌↔◌, ◌∙◌, ◌∷◌, ◌≡◌, ◌≢◌, ◌≤ℤ◌, ◌≤◌, ◌⊎◌},
+  ZoneChanges.{refused_on},
+}
 use Rattle.tz_info.specs.Steps.Entries.{AreBefore, AreEntries, EndsAt, IsAdded, IsStartIn, NeverComes, added, idle, last_index, none_there, one_there}
 
 -- ---- lists with one item more

@@ -1,19 +1,21 @@
 -- Values are equal by `==` if and only if they are equal.
+use Rattle.std.proofs.Common.{arith}
 use Rattle.std.specs.Cmp.Lexicographic.{pointwise}
 use Rattle.tz_base.proofs.ChangeEquality.{second_exact}
 use Rattle.tz_base.specs.contracts.local_time_type.LocalTimeTypePartialEq.TheImpl.{eq-value as type_eq}
-use Rattle.tz_info.proofs.Words.{Alternate as AlternateRule, Bool, Difference, IsExact, IsTrue, LeapSecond, List, LocalType, None, Option}
-use Rattle.tz_info.proofs.Words.{ShownSeconds, Some, Transition, TransitionRule, TypedSecond, Zone, and_both, and_left, and_right, ap, int_eq, option_eq, refl}
-use Rattle.tz_info.proofs.Words.{rules, slice_eq-Decides, sym, type_exact, zone_eq, ◌&&◌, ◌↔◌, ◌∙◌, ◌≡◌}
-use Rattle.tz_info.specs.contracts.rule.day.DayTimePartialEq.TheImpl.{eq-value as day_time_eq}
-use Rattle.tz_info.specs.contracts.rule.transition_rule.TransitionRulePartialEq.TheImpl.{eq-value as rule_eq}
-use Rattle.tz_info.specs.contracts.zone.ask.differences.DifferencePartialEq.TheImpl.{eq-value as difference_eq}
-use Rattle.tz_info.specs.contracts.zone.lists.leap_second.LeapSecondPartialEq.TheImpl.{eq-value as leap_eq}
-use Rattle.tz_info.specs.contracts.zone.ask.shown_seconds.ShownSecondsPartialEq.TheImpl.{eq-value as seconds_eq}
-use Rattle.tz_info.specs.contracts.change.TypedSecondPartialEq.TheImpl.{eq-value as second_eq}
-use Rattle.tz_info.specs.contracts.zone.lists.transition.TransitionPartialEq.TheImpl.{eq-value as transition_eq}
-use Rattle.tz_info.specs.declared.rule.transition_rule.TransitionRule.TheVariants.{Alternate, Fixed}
-use Rattle.std.proofs.Common.{arith}
+use Rattle.tz_info.proofs.{
+  Words.{Alternate as AlternateRule, Bool, Difference, IsExact, IsTrue, LeapSecond, List, LocalType, None, Option, ShownSeconds, Some, Transition},
+  Words.{TransitionRule, TypedSecond, Zone, and_both, and_left, and_right, ap, int_eq, option_eq, refl, rules, slice_eq-Decides, sym, type_exact, zone_eq},
+  Words.{◌&&◌, ◌↔◌, ◌∙◌, ◌≡◌},
+}
+use Rattle.tz_info.specs.{
+  contracts.{change.TypedSecondPartialEq.TheImpl.{eq-value as second_eq}, rule.day.DayTimePartialEq.TheImpl.{eq-value as day_time_eq}},
+  contracts.rule.transition_rule.TransitionRulePartialEq.TheImpl.{eq-value as rule_eq},
+  contracts.zone.ask.differences.DifferencePartialEq.TheImpl.{eq-value as difference_eq},
+  contracts.zone.ask.shown_seconds.ShownSecondsPartialEq.TheImpl.{eq-value as seconds_eq},
+  contracts.zone.lists.{leap_second.LeapSecondPartialEq.TheImpl.{eq-value as leap_eq}, transition.TransitionPartialEq.TheImpl.{eq-value as transition_eq}},
+  declared.rule.transition_rule.TransitionRule.TheVariants.{Alternate, Fixed},
+}
 
 list_exact : {X : Type 0} (E : X → X → Bool) → IsExact E → IsExact (pointwise E)
 list_exact E exact xs ys = slice_eq-Decides exact xs ys (pointwise E xs ys) refl

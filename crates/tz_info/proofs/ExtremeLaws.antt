@@ -1,12 +1,14 @@
 -- The least and the greatest of some offsets.
-use Rattle.tz_info.proofs.Words.{All-push, All-contains, AreExtremes, AreJoined, AreJoinedByRule, Contains, Contains-append_left, Contains-append_right}
-use Rattle.tz_info.proofs.Words.{Contains-push, Extremes, IsEnd, IsGreatest, IsLeast, IsTypeOf, IsWindowOf, List, SFits, subst, w32, ◌-ℤ◌, LocalType, None}
-use Rattle.tz_info.proofs.Words.{Option, Some, TransitionRule, TypeAt, Zone, append_assoc, arith, get_or, get_or-map, inl, inr, ints, length, length-map}
-use Rattle.tz_info.proofs.Words.{offsets, offsets_of, refl, rule_offsets, slice_get, slice_get-get_or, sym, ℕ, ℤ, [], ◌++◌, ◌+◌, ◌<◌, ◌∙◌, ◌∷◌, ◌≡◌, ◌≤ℤ◌}
-use Rattle.tz_info.proofs.Words.{◌⊎◌, take, take-suc, add-one}
-use Rattle.tz_info.specs.declared.rule.transition_rule.TransitionRule.TheVariants.{Alternate, Fixed}
 use Rattle.std.proofs.lemmas.List.{map-append}
-use Rattle.tz_info.proofs.{Candidates.{one_of_two}, ZoneLaws.{type_listed}}
+use Rattle.tz_info.proofs.{
+  Candidates.{one_of_two},
+  Words.{All-contains, All-push, AreExtremes, AreJoined, AreJoinedByRule, Contains, Contains-append_left, Contains-append_right, Contains-push, Extremes},
+  Words.{IsEnd, IsGreatest, IsLeast, IsTypeOf, IsWindowOf, List, LocalType, None, Option, SFits, Some, TransitionRule, TypeAt, Zone, [], add-one, append_assoc},
+  Words.{arith, get_or, get_or-map, inl, inr, ints, length, length-map, offsets, offsets_of, refl, rule_offsets, slice_get, slice_get-get_or, subst, sym, take},
+  Words.{take-suc, w32, ℕ, ℤ, ◌++◌, ◌+◌, ◌-ℤ◌, ◌<◌, ◌∙◌, ◌∷◌, ◌≡◌, ◌≤ℤ◌, ◌⊎◌},
+  ZoneLaws.{type_listed},
+}
+use Rattle.tz_info.specs.declared.rule.transition_rule.TransitionRule.TheVariants.{Alternate, Fixed}
 
 pushed : (xs : List ℤ) (x y o : ℤ) → Contains xs x → (y ≡ x) ⊎ (y ≡ o) → Contains (xs ++ o ∷ []) y
 pushed xs x y o c (inl e) = rw e (Contains-append_left xs (o ∷ []) x c)

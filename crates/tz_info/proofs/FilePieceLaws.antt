@@ -1,9 +1,11 @@
 -- The law of the pieces of a file.
 use Rattle.std.proofs.lemmas.Option.{same_Some}
-use Rattle.tz_info.proofs.Words.{Bool, Decided, Err, Error, FileCounts, FilePieces, HasCounts, HasLengths, HasPieces, List, Ok, Option, Parts, PieceFault}
-use Rattle.tz_info.proofs.Words.{Some, Spells, Version, after_first_block, ap, block, value_once}
-use Rattle.tz_info.proofs.Words.{file, first_version, inl, inr, later_version, lawful, made, pieces_at, refl, said, subst, sym, ℕ, [], ◌∙◌, ◌↔◌, ◌≡◌, ◌⊎◌}
-use Rattle.tz_info.specs.{declared.file.header.Counts.{Counts}, declared.file.header.Version.TheVariants.{One, Three, Two}}
+use Rattle.tz_info.proofs.{
+  Words.{Bool, Decided, Err, Error, FileCounts, FilePieces, HasCounts, HasLengths, HasPieces, List, Ok, Option, Parts, PieceFault, Some, Spells, Version, []},
+  Words.{after_first_block, ap, block, file, first_version, inl, inr, later_version, lawful, made, pieces_at, refl, said, subst, sym, value_once, ℕ, ◌↔◌, ◌∙◌},
+  Words.{◌≡◌, ◌⊎◌},
+}
+use Rattle.tz_info.specs.declared.file.header.{Counts.{Counts}, Version.TheVariants.{One, Three, Two}}
 
 -- no byte follows a file
 after_ends : (v : Version) (c : Counts) (b : Parts) (bytes : List ℕ) (p : FilePieces) (rest : List ℕ)

@@ -1,24 +1,30 @@
 -- Where a file is at fault.
 use Rattle.std.specs.{Char.{is_ascii_whitespace}, List.{prefix_len}}
-use Rattle.tz_base.specs.Fronts.{optional_tag_at}
-use Rattle.tz_base.specs.Grammar.{At, Byte, Check, Ended, Grammar, Here, Marked, Nothing, Number, Refused, Rest, Run, Then, be_u32, from_fault, if_read}
-use Rattle.tz_info.proofs.Words.{Bool, Decides-ltb, Err, Error, Exact, FilePieces, HasNoZero, HasPieces, IsBetweenNewlines, IsTrimAscii, IsTrimAsciiStart}
-use Rattle.tz_info.proofs.Words.{IsTrimmed, IsTrue, IsUtf8}
-use Rattle.tz_info.proofs.Words.{List, LocalType, Ok, Option, Parts, Result, Some, Spells, TransitionRule, after_first_block, ap, append-nil, append_assoc}
-use Rattle.tz_info.proofs.Words.{arith, below_more, block, drop, drop_front, exact_at}
-use Rattle.tz_info.proofs.Words.{false, false_unless, file, first_version, inl, inr, ints, is_between_newlines, later_version, length, length-append, nat_lt}
-use Rattle.tz_info.proofs.Words.{nat_tests}
-use Rattle.tz_info.proofs.Words.{read, record_at, refl, slice_index, suc, sym, true, type_of_record, ℕ, ℤ, [], ◌*◌, ◌++◌, ◌+◌, ◌-◌, ◌<ℤ◌, ◌<◌, ◌>>=◌, ◌∙◌, ◌∷◌}
-use Rattle.tz_info.proofs.Words.{◌≡◌, ◌≤◌, ◌↔◌, ◌⊎◌}
-use Rattle.tz_info.proofs.{FooterLaws.{between}, PosixLaws.{string_place_within}, TrimLaws.{fits_behind, front_counted, trims_both}, TypeLaws.{type_law}}
-use Rattle.tz_info.specs.FileHeaders.{header, six_counts, tzif, version, version_1}
-use Rattle.tz_info.specs.FilePieces.{after_header, later_pieces}
-use Rattle.tz_info.specs.FilePlaces.{ArePartPlaces, Colon, HoldsOfNone, In_string, In_text, IsFooterPlace, IsNotLater, IsTextPlace, IsTypeAt, IsTypePlace}
-use Rattle.tz_info.specs.FilePlaces.{No_first, No_last, Not_utf8, Zero, before_field, footer_bytes, in_order, time_at}
-use Rattle.tz_info.specs.{Steps.Places.{SaysSome}, TzFiles.{HasRule}}
-use Rattle.tz_info.specs.declared.file.place.PartPlaces.{PartPlaces}
-use Rattle.tz_info.specs.declared.file.header.{Counts.{Counts}, Header.{Header}, Place.{Place}, Place.TheVariants.{First, Second}, Version.{Version}}
-use Rattle.tz_info.specs.declared.file.header.Version.TheVariants.{One, Three, Two}
+use Rattle.tz_base.specs.{
+  Fronts.{optional_tag_at},
+  Grammar.{At, Byte, Check, Ended, Grammar, Here, Marked, Nothing, Number, Refused, Rest, Run, Then, be_u32, from_fault, if_read},
+}
+use Rattle.tz_info.proofs.{
+  FooterLaws.{between},
+  PosixLaws.{string_place_within},
+  TrimLaws.{fits_behind, front_counted, trims_both},
+  TypeLaws.{type_law},
+  Words.{Bool, Decides-ltb, Err, Error, Exact, FilePieces, HasNoZero, HasPieces, IsBetweenNewlines, IsTrimAscii, IsTrimAsciiStart, IsTrimmed, IsTrue, IsUtf8},
+  Words.{List, LocalType, Ok, Option, Parts, Result, Some, Spells, TransitionRule, [], after_first_block, ap, append-nil, append_assoc, arith, below_more},
+  Words.{block, drop, drop_front, exact_at, false, false_unless, file, first_version, inl, inr, ints, is_between_newlines, later_version, length},
+  Words.{length-append, nat_lt, nat_tests, read, record_at, refl, slice_index, suc, sym, true, type_of_record, ℕ, ℤ, ◌*◌, ◌++◌, ◌+◌, ◌-◌, ◌<ℤ◌, ◌<◌, ◌>>=◌},
+  Words.{◌↔◌, ◌∙◌, ◌∷◌, ◌≡◌, ◌≤◌, ◌⊎◌},
+}
+use Rattle.tz_info.specs.{
+  FileHeaders.{header, six_counts, tzif, version, version_1},
+  FilePieces.{after_header, later_pieces},
+  FilePlaces.{ArePartPlaces, Colon, HoldsOfNone, In_string, In_text, IsFooterPlace, IsNotLater, IsTextPlace, IsTypeAt, IsTypePlace, No_first, No_last},
+  FilePlaces.{Not_utf8, Zero, before_field, footer_bytes, in_order, time_at},
+  Steps.Places.{SaysSome},
+  TzFiles.{HasRule},
+  declared.file.header.{Counts.{Counts}, Header.{Header}, Place.{Place, TheVariants.{First, Second}}, Version.{Version, TheVariants.{One, Three, Two}}},
+  declared.file.place.PartPlaces.{PartPlaces},
+}
 
 -- ---- what is spelled comes first, and what follows after it
 pub front : {X : Type 0} (g : Grammar X) (bytes : List ℕ) (x : X) (rest : List ℕ) → Spells g bytes x rest → (before : List ℕ) × (bytes ≡ before ++ rest)

@@ -1,20 +1,24 @@
 -- A file is at fault at one place.
-use Rattle.std.proofs.lemmas.Str.{utf8_valid_len-IsValidUpTo}
+use Rattle.std.proofs.lemmas.{List.Sums.{prefix_len-le-length}, Str.{utf8_valid_len-IsValidUpTo}}
 use Rattle.std.specs.{Char.{is_ascii_whitespace}, List.{prefix_len}}
-use Rattle.tz_info.proofs.Words.{Bool, Error, FilePieces, HasLengths, HasNoZero, IndicatorsAgree, IsBetweenNewlines, IsFooter, List, None, Option, Some}
-use Rattle.tz_info.proofs.Words.{SaysRule, TransitionRule, TypeFault, ap, apart, arith, cases_lt}
-use Rattle.tz_info.proofs.Words.{fault_once, inl, inr, length, record_at, refl, slice_index, subst, suc, sym, value_once, zero, ℕ, [], ◌*◌, ◌+◌, ◌<◌, ◌∙◌, ◌∷◌}
-use Rattle.tz_info.proofs.Words.{◌≡◌, ◌≢◌, ◌≤◌, ◌⊎◌}
-use Rattle.std.proofs.lemmas.List.Sums.{prefix_len-le-length}
 use Rattle.tz_base.specs.declared.error.{Error.TheVariants.{InvalidTzFile, LocalTimeType}, Expected.TheVariants.{OffsetAboveI32Min, ZeroOrOneAsIsDst}}
-use Rattle.tz_info.proofs.{FilePieceLaws.{has_lengths, pieces_law}, FilePlaceLaws.{footer_within}, FooterLaws.{spelled_law}, TrimLaws.{trim_again}}
-use Rattle.tz_info.proofs.TypeLaws.{type_law}
-use Rattle.tz_info.specs.FilePlaces.{ArePartPlaces, AreTypes, At_index, At_leap, At_rule, At_time, Colon, In_contents, In_footer, In_indicators, In_lists}
-use Rattle.tz_info.specs.FilePlaces.{In_piece, In_string, In_text}
-use Rattle.tz_info.specs.FilePlaces.{In_type, IsContentPlace, IsFilePlace, IsFirstBelow, IsFooterPlace, IsListPlace, IsOtherPair, IsTextPlace, IsTypePlace}
-use Rattle.tz_info.specs.FilePlaces.{No_first, No_last, Not_utf8, Zero, before_field, footer_bytes}
-use Rattle.tz_info.specs.TzFiles.{HasRule}
-use Rattle.tz_info.specs.declared.file.place.PartPlaces.{PartPlaces}
+use Rattle.tz_info.proofs.{
+  FilePieceLaws.{has_lengths, pieces_law},
+  FilePlaceLaws.{footer_within},
+  FooterLaws.{spelled_law},
+  TrimLaws.{trim_again},
+  TypeLaws.{type_law},
+  Words.{Bool, Error, FilePieces, HasLengths, HasNoZero, IndicatorsAgree, IsBetweenNewlines, IsFooter, List, None, Option, SaysRule, Some, TransitionRule},
+  Words.{TypeFault, [], ap, apart, arith, cases_lt, fault_once, inl, inr, length, record_at, refl, slice_index, subst, suc, sym, value_once, zero, ℕ, ◌*◌, ◌+◌},
+  Words.{◌<◌, ◌∙◌, ◌∷◌, ◌≡◌, ◌≢◌, ◌≤◌, ◌⊎◌},
+}
+use Rattle.tz_info.specs.{
+  FilePlaces.{ArePartPlaces, AreTypes, At_index, At_leap, At_rule, At_time, Colon, In_contents, In_footer, In_indicators, In_lists, In_piece, In_string},
+  FilePlaces.{In_text, In_type, IsContentPlace, IsFilePlace, IsFirstBelow, IsFooterPlace, IsListPlace, IsOtherPair, IsTextPlace, IsTypePlace, No_first},
+  FilePlaces.{No_last, Not_utf8, Zero, before_field, footer_bytes},
+  TzFiles.{HasRule},
+  declared.file.place.PartPlaces.{PartPlaces},
+}
 
 -- ---- the first of some numbers
 first_once : (P : ℕ → Type 0) (n j k : ℕ) → IsFirstBelow P n j → IsFirstBelow P n k → j ≡ k

@@ -1,6 +1,8 @@
 -- The numbers of a file's rule are in their limits.
-use Rattle.tz_info.proofs.Words.{Bool, HasRule, IsRuleOrNone, IsTzFile, List, None, Option, SaysRule, Some, TransitionRule, Zone, ℕ}
-use Rattle.tz_info.proofs.TextFits.{text_rule_fits}
+use Rattle.tz_info.proofs.{
+  TextFits.{text_rule_fits},
+  Words.{Bool, HasRule, IsRuleOrNone, IsTzFile, List, None, Option, SaysRule, Some, TransitionRule, Zone, ℕ},
+}
 
 said_rule_fits : (extended : Bool) (text : List ℕ) (rule : Option TransitionRule) → SaysRule extended text rule → IsRuleOrNone rule
 said_rule_fits extended text None says = tt

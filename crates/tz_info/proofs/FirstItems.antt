@@ -1,6 +1,8 @@
 -- Lists whose first n items pass a test and whose others do not, and functions that rise from place to place.
-use Rattle.tz_info.proofs.SearchWords.{Bool, List, add-suc, add-zero, ap, arith, cond, count_by, false, filter, get_or, int_le, int_lt, ints, length, refl, suc}
-use Rattle.tz_info.proofs.SearchWords.{sum_by-cons, take, true, zero, ℕ, ℤ, [], ◌+◌, ◌-◌, ◌<ℤ◌, ◌<◌, ◌∙◌, ◌∷◌, ◌≡◌, ◌≤ℤ◌, ◌≤◌}
+use Rattle.tz_info.proofs.{
+  SearchWords.{Bool, List, [], add-suc, add-zero, ap, arith, cond, count_by, false, filter, get_or, int_le, int_lt, ints, length, refl, suc, sum_by-cons, take},
+  SearchWords.{true, zero, ℕ, ℤ, ◌+◌, ◌-◌, ◌<ℤ◌, ◌<◌, ◌∙◌, ◌∷◌, ◌≡◌, ◌≤ℤ◌, ◌≤◌},
+}
 
 -- the first n items pass
 abbrev pub PassFirst : {X : Type 0} → (X → Bool) → List X → ℕ → Type 0

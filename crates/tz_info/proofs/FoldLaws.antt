@@ -1,10 +1,12 @@
 -- Folds: from the last second that shows a local time back to the change that set clocks back.
-use Rattle.tz_info.proofs.Words.{HasFold, IsInSpan, IsNear, IsSince, IsSpanAt, LocalType, None, SFits, Shows, Some, Span, TypeAt, Zone, ap, arith}
-use Rattle.tz_info.proofs.Words.{by_lt_z, ints, pos}
-use Rattle.tz_info.proofs.Words.{subst, w64, ℤ, ◌+ℤ◌, ◌-ℤ◌, ◌<ℤ◌, ◌≡◌, ◌≤ℤ◌}
 use Rattle.offset_core.specs.WallAnswer.{IsShownBetween}
+use Rattle.tz_info.proofs.{
+  SpanLaws.{until_less},
+  Words.{HasFold, IsInSpan, IsNear, IsSince, IsSpanAt, LocalType, None, SFits, Shows, Some, Span, TypeAt, Zone, ap, arith, by_lt_z, ints, pos, subst, w64, ℤ},
+  Words.{◌+ℤ◌, ◌-ℤ◌, ◌<ℤ◌, ◌≡◌, ◌≤ℤ◌},
+  ZoneLaws.{type_once},
+}
 use Rattle.tz_info.specs.Steps.Folds.{AreEndsOfFold, IsBackTo}
-use Rattle.tz_info.proofs.{SpanLaws.{until_less}, ZoneLaws.{type_once}}
 
 -- the seconds of an answer of two types
 pub ends_of_fold : (z : Zone) (local first last : ℤ) (a b : LocalType) → IsShownBetween (Shows (TypeAt z) local) a b → first ≡ local -ℤ a.offset

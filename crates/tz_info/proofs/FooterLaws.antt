@@ -1,14 +1,14 @@
 -- The law of footers.
-use Rattle.tz_base.specs.declared.error.Error.TheVariants.{InvalidTzFile, Utf8}
-use Rattle.tz_base.specs.declared.error.Expected.TheVariants.{FooterBetweenNewlines, FooterInUtf8, TzTextInFooter}
-use Rattle.tz_info.proofs.Words.{Bool, Colon, Decided, Decides, Decides-eqb, Decides-or, Error, FooterFault, HasNoZero, HasText, In_text}
-use Rattle.tz_info.proofs.Words.{IsBetweenNewlines, IsFooter, IsTextFault, IsTzText, IsUtf8, IsUtf8-from_is_utf8, List, No_newlines, None, Not_utf8, Option}
-use Rattle.tz_info.proofs.Words.{SaysRule, Some, TransitionRule, Zero, arith, choice, done, ends_with, false, false_unless, footer_at, inl}
-use Rattle.tz_info.proofs.Words.{inr, is_between_newlines, is_no_text, is_utf8-from_IsUtf8, is_zero, like, list_any, made, nat_eq, nat_tests, refl}
-use Rattle.tz_info.proofs.Words.{refused, rule_in, rule_or_none, said, slice_index, starts_with, subst, sym, trimmed, ℕ, [], ◌==◌, ◌∷◌, ◌≡◌}
-use Rattle.tz_info.proofs.Words.{◌≢◌, ◌⊎◌}
-use Rattle.std.proofs.{lemmas.Bool.{or_parts, true_from_ne_false}, lemmas.Slice.Eq.{ends_is, starts_is}}
-use Rattle.tz_info.proofs.{TextLaws.{text_law}, TrimLaws.{trim_again, trim_is}}
+use Rattle.std.proofs.lemmas.{Bool.{or_parts, true_from_ne_false}, Slice.Eq.{ends_is, starts_is}}
+use Rattle.tz_base.specs.declared.error.{Error.TheVariants.{InvalidTzFile, Utf8}, Expected.TheVariants.{FooterBetweenNewlines, FooterInUtf8, TzTextInFooter}}
+use Rattle.tz_info.proofs.{
+  TextLaws.{text_law},
+  TrimLaws.{trim_again, trim_is},
+  Words.{Bool, Colon, Decided, Decides, Decides-eqb, Decides-or, Error, FooterFault, HasNoZero, HasText, In_text, IsBetweenNewlines, IsFooter, IsTextFault},
+  Words.{IsTzText, IsUtf8, IsUtf8-from_is_utf8, List, No_newlines, None, Not_utf8, Option, SaysRule, Some, TransitionRule, Zero, [], arith, choice, done},
+  Words.{ends_with, false, false_unless, footer_at, inl, inr, is_between_newlines, is_no_text, is_utf8-from_IsUtf8, is_zero, like, list_any, made, nat_eq},
+  Words.{nat_tests, refl, refused, rule_in, rule_or_none, said, slice_index, starts_with, subst, sym, trimmed, ℕ, ◌==◌, ◌∷◌, ◌≡◌, ◌≢◌, ◌⊎◌},
+}
 
 -- ---- newlines
 pub between : (bytes : List ℕ) → Decides (is_between_newlines bytes) (IsBetweenNewlines bytes)

@@ -1,11 +1,15 @@
 -- Gaps: the first second at which clocks show more than a local time that they never show.
-use Rattle.tz_info.proofs.Words.{AreLess, HasGap, IsFirstAtOrAfter, IsNear, IsNeverShown, IsRefusedBy, IsRuleOrNone}
-use Rattle.tz_info.proofs.Words.{IsTypeRefused, IsValid, IsWindowOf, LocalType, None, Option, RuleOrElse, Shows, Some}
-use Rattle.tz_info.proofs.Words.{TransitionRule, TypeAt, Zone, arith, by_leap_time, by_lt_z, by_rule, floor_div, index_of, inl, inr, ints, length, lies_in, pos}
-use Rattle.tz_info.proofs.Words.{segment_of, slice_get, sym, year_of, ℕ, ℤ, ◌+ℤ◌, ◌-ℤ◌, ◌<ℤ◌, ◌<◌, ◌∙◌, ◌≡◌, ◌≤ℤ◌, ◌⊎◌}
+use Rattle.tz_info.proofs.{
+  ExtremeLaws.{at_least_least, at_most_greatest},
+  LeapOrder.{leap_times_answer},
+  RuleLaws.{rule_year},
+  SegmentLaws.{type_before, type_from},
+  Words.{AreLess, HasGap, IsFirstAtOrAfter, IsNear, IsNeverShown, IsRefusedBy, IsRuleOrNone, IsTypeRefused, IsValid, IsWindowOf, LocalType, None, Option},
+  Words.{RuleOrElse, Shows, Some, TransitionRule, TypeAt, Zone, arith, by_leap_time, by_lt_z, by_rule, floor_div, index_of, inl, inr, ints, length, lies_in},
+  Words.{pos, segment_of, slice_get, sym, year_of, ℕ, ℤ, ◌+ℤ◌, ◌-ℤ◌, ◌<ℤ◌, ◌<◌, ◌∙◌, ◌≡◌, ◌≤ℤ◌, ◌⊎◌},
+  ZoneLaws.{some_once, type_decided},
+}
 use Rattle.tz_info.specs.declared.rule.transition_rule.TransitionRule.TheVariants.{Alternate, Fixed}
-use Rattle.tz_info.proofs.{ExtremeLaws.{at_least_least, at_most_greatest}, LeapOrder.{leap_times_answer}, RuleLaws.{rule_year}}
-use Rattle.tz_info.proofs.{SegmentLaws.{type_before, type_from}, ZoneLaws.{some_once, type_decided}}
 
 abbrev pub IsNever : Zone → ℤ → Type 0
 IsNever z l = IsNeverShown (Shows (TypeAt z) l)

@@ -1,13 +1,15 @@
 -- A rule's moments, counted from the first second of their year, depend on the year's kind alone.
 use Rattle.std.proofs.lemmas.List.FromFn.{get_or-map-range_with_len}
-use Rattle.tz_info.proofs.Words.{Alternate, Bool, DayForm, DayTime, IsAlternateRule, IsRuleDay, List, ap, are_calm, arith, closed_day, cond}
-use Rattle.tz_info.proofs.Words.{day_number, day_time_second, days_of_months, end_in, false, floors, get_or, get_or-map, inr, int_le}
-use Rattle.tz_info.proofs.Words.{is_calm, is_calm_kind, is_leap, kind_place, margin_of, moment, nat_le, nat_tests, neg_ℤ, place_by, places_by_kind}
-use Rattle.tz_info.proofs.Words.{pos, refl, rule_day, second_in, seconds_by_kind, start_in, sym, true, weekday_below, weekday_later, weekday_of}
-use Rattle.tz_info.proofs.Words.{year_start, ℕ, ℤ, ◌%◌, ◌*ℤ◌, ◌+ℤ◌, ◌+◌, ◌-ℤ◌, ◌-◌, ◌<◌, ◌∙◌, ◌≡◌, ◌≤ℤ◌, ◌⊎◌}
-use Rattle.tz_info.specs.Steps.ChangingYears.{AreWithinYears}
-use Rattle.tz_info.specs.declared.rule.day.DayForm.TheVariants.{Julian0, Julian1, MonthWeekday}
-use Rattle.tz_info.proofs.{ListLaws.{one_true}, Neighbours.{IsNear, KeepsMargin, ends_near, near_margin, starts_near}, RuleDays.{rule_day_closed}}
+use Rattle.tz_info.proofs.{
+  ListLaws.{one_true},
+  Neighbours.{IsNear, KeepsMargin, ends_near, near_margin, starts_near},
+  RuleDays.{rule_day_closed},
+  Words.{Alternate, Bool, DayForm, DayTime, IsAlternateRule, IsRuleDay, List, ap, are_calm, arith, closed_day, cond, day_number, day_time_second},
+  Words.{days_of_months, end_in, false, floors, get_or, get_or-map, inr, int_le, is_calm, is_calm_kind, is_leap, kind_place, margin_of, moment, nat_le},
+  Words.{nat_tests, neg_ℤ, place_by, places_by_kind, pos, refl, rule_day, second_in, seconds_by_kind, start_in, sym, true, weekday_below, weekday_later},
+  Words.{weekday_of, year_start, ℕ, ℤ, ◌%◌, ◌*ℤ◌, ◌+ℤ◌, ◌+◌, ◌-ℤ◌, ◌-◌, ◌<◌, ◌∙◌, ◌≡◌, ◌≤ℤ◌, ◌⊎◌},
+}
+use Rattle.tz_info.specs.{Steps.ChangingYears.{AreWithinYears}, declared.rule.day.DayForm.TheVariants.{Julian0, Julian1, MonthWeekday}}
 
 first_of_month : (year : ℤ) (month : ℕ) → day_number year month 1 ≡ year_start year +ℤ pos (days_of_months (is_leap year) (month - 1))
 unfolding day_number

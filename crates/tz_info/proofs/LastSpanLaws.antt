@@ -1,11 +1,14 @@
 -- The last span, and the local times that only one of its seconds shows.
-use Rattle.tz_info.proofs.Words.{AreExtremes, Change, Extremes, HasNoChange, IsLast, IsLastSpan, IsLastTyped, IsShownOnce, IsInSpan, IsSince, IsSpanAt}
-use Rattle.tz_info.proofs.Words.{IsValid, IsWide, LastSpan, LocalType}
-use Rattle.tz_info.proofs.Words.{Option, SFits, Shows, Span, TypeAt, Zone, arith, by_lt_z, false, ints, offsets, pos, saturate_signed, w32, w64, ℤ, ◌+ℤ◌}
-use Rattle.tz_info.proofs.Words.{◌-ℤ◌, ◌<ℤ◌, ◌≡◌}
-use Rattle.tz_info.proofs.Words.{◌≤ℤ◌}
-use Rattle.tz_info.proofs.{ChangeSearch.{nearest_moved}, ExtremeLaws.{at_least_least, at_most_greatest}, LeapStarts.{saturated}}
-use Rattle.tz_info.proofs.{SpanLaws.{no_change_within, until_less}, ZoneLaws.{type_once}}
+use Rattle.tz_info.proofs.{
+  ChangeSearch.{nearest_moved},
+  ExtremeLaws.{at_least_least, at_most_greatest},
+  LeapStarts.{saturated},
+  SpanLaws.{no_change_within, until_less},
+  Words.{AreExtremes, Change, Extremes, HasNoChange, IsInSpan, IsLast, IsLastSpan, IsLastTyped, IsShownOnce, IsSince, IsSpanAt, IsValid, IsWide, LastSpan},
+  Words.{LocalType, Option, SFits, Shows, Span, TypeAt, Zone, arith, by_lt_z, false, ints, offsets, pos, saturate_signed, w32, w64, ℤ, ◌+ℤ◌, ◌-ℤ◌, ◌<ℤ◌, ◌≡◌},
+  Words.{◌≤ℤ◌},
+  ZoneLaws.{type_once},
+}
 
 -- each second later than that one, up to `last`, lies in the span
 abbrev HasAllAfter : Zone → Span → ℤ → ℤ → Type 0

@@ -1,10 +1,12 @@
 -- The type in force at the last transition's second.
-use Rattle.tz_info.proofs.Words.{Agrees, HasType, IfSome, IsLeapTime, IsUnixTime, IsValid, LeapSecond, List, LocalType, None, Option, RuleOrElse, Some}
-use Rattle.tz_info.proofs.Words.{Transition, TransitionRule, TypeAt, Zone, ap, arith, get_or, index_of, last_transition, length, slice_get}
-use Rattle.tz_info.proofs.Words.{slice_get-get_or, sym, ℤ, ◌+◌, ◌-◌, ◌<◌, ◌∙◌, ◌≡◌, ◌≤ℤ◌}
-use Rattle.tz_info.proofs.{SegmentLaws.{come_by_time, index_next, split_at, split_count, type_in_from}, TableSearch.{Between}}
 use Rattle.std.proofs.lemmas.Option.{slice_get_within}
-use Rattle.tz_info.proofs.ZoneLaws.{some_once}
+use Rattle.tz_info.proofs.{
+  SegmentLaws.{come_by_time, index_next, split_at, split_count, type_in_from},
+  TableSearch.{Between},
+  Words.{Agrees, HasType, IfSome, IsLeapTime, IsUnixTime, IsValid, LeapSecond, List, LocalType, None, Option, RuleOrElse, Some, Transition, TransitionRule},
+  Words.{TypeAt, Zone, ap, arith, get_or, index_of, last_transition, length, slice_get, slice_get-get_or, sym, ℤ, ◌+◌, ◌-◌, ◌<◌, ◌∙◌, ◌≡◌, ◌≤ℤ◌},
+  ZoneLaws.{some_once},
+}
 
 some_last : (ts : List Transition) (last : Transition) → last_transition ts ≡ Some last → 0 < length ts
 some_last ts last is = let l = slice_get_within ts (length ts - 1) last is in omega arith

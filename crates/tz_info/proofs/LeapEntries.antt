@@ -1,11 +1,11 @@
 -- What follows for leap seconds from their being valid: the thresholds rise, so the passed entries are the first ones.
 use Rattle.tz_base.specs.declared.error.Expected.TheVariants.{UnixTimeOf64Bits}
-use Rattle.tz_info.proofs.Words.{AreLeapSeconds, IsNextLeap, IsOneStep, LeapSecond, List, add-one, ap, arith}
-use Rattle.tz_info.proofs.Words.{correction_before, corrections, expected_of_leap_time, false_unless, filter_first, get_or}
-use Rattle.tz_info.proofs.Words.{get_or_default, inl, inr, int_le, int_lt, ints, last_else, le_is, least_time, length, lt_false, lt_true}
-use Rattle.tz_info.proofs.Words.{pos, refl, rises, suc, sym, take, thresholds, zero, ℕ, ℤ, [], ◌+ℤ◌, ◌+◌, ◌-ℤ◌, ◌<ℤ◌, ◌<◌, ◌∷◌}
-use Rattle.tz_info.proofs.Words.{◌≡◌, ◌≤ℤ◌, ◌≤◌}
-use Rattle.tz_info.proofs.Prefixes.{last_taken}
+use Rattle.tz_info.proofs.{
+  Prefixes.{last_taken},
+  Words.{AreLeapSeconds, IsNextLeap, IsOneStep, LeapSecond, List, [], add-one, ap, arith, correction_before, corrections, expected_of_leap_time, false_unless},
+  Words.{filter_first, get_or, get_or_default, inl, inr, int_le, int_lt, ints, last_else, le_is, least_time, length, lt_false, lt_true, pos, refl, rises, suc},
+  Words.{sym, take, thresholds, zero, ℕ, ℤ, ◌+ℤ◌, ◌+◌, ◌-ℤ◌, ◌<ℤ◌, ◌<◌, ◌∷◌, ◌≡◌, ◌≤ℤ◌, ◌≤◌},
+}
 
 -- the entries may follow an entry of correction p
 pub record Follow (p : ℤ) (es : List LeapSecond) : Type 0 where

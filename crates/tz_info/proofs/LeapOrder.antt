@@ -1,10 +1,12 @@
 -- Leap times rise weakly with Unix times, none is refused near now, and where corrections count 1, 2, 3 and so on each Unix
 -- time is that of its leap time.
-use Rattle.tz_info.proofs.Words.{AreCounted, AreLeapSeconds, IsLeapTime, IsLeapTimeRefused, IsUnixTime, LeapSecond, List, add-one, ap, arith, by_lt_z, cond}
-use Rattle.tz_info.proofs.Words.{correction_at, corrections, count_by, count_by-le-length, filter, filter_first, get_or, inl, inr, int_le}
-use Rattle.tz_info.proofs.Words.{int_lt, ints, last_else, le_false, le_true, length, mapped_at, neg_ℤ, passed_count, pos, refl, suc}
-use Rattle.tz_info.proofs.Words.{sum_by-cons, sym, take, thresholds, zero, ℕ, ℤ, [], ◌*◌, ◌+ℤ◌, ◌-ℤ◌, ◌<ℤ◌, ◌<◌, ◌∙◌, ◌∷◌, ◌≡◌, ◌≤ℤ◌, ◌≤◌}
-use Rattle.tz_info.proofs.{LeapEntries.{Follow, follow, follow_tail, threshold_apart, threshold_at, threshold_count}, Prefixes.{last_taken}}
+use Rattle.tz_info.proofs.{
+  LeapEntries.{Follow, follow, follow_tail, threshold_apart, threshold_at, threshold_count},
+  Prefixes.{last_taken},
+  Words.{AreCounted, AreLeapSeconds, IsLeapTime, IsLeapTimeRefused, IsUnixTime, LeapSecond, List, [], add-one, ap, arith, by_lt_z, cond, correction_at},
+  Words.{corrections, count_by, count_by-le-length, filter, filter_first, get_or, inl, inr, int_le, int_lt, ints, last_else, le_false, le_true, length},
+  Words.{mapped_at, neg_ℤ, passed_count, pos, refl, suc, sum_by-cons, sym, take, thresholds, zero, ℕ, ℤ, ◌*◌, ◌+ℤ◌, ◌-ℤ◌, ◌<ℤ◌, ◌<◌, ◌∙◌, ◌∷◌, ◌≡◌, ◌≤ℤ◌, ◌≤◌},
+}
 
 -- how many entries after one of correction p are passed at u
 abbrev pub counted_from : ℤ → List LeapSecond → ℤ → ℕ

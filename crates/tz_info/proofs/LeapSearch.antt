@@ -1,12 +1,14 @@
 -- The passed entries, by halves, and the last second that has a leap time.
-use Rattle.std.specs.List.Sorted.{IsPartitionedBy}
 use Rattle.std.proofs.lemmas.Int.{clamps}
-use Rattle.std.specs.Int.{int_min, saturate_signed}
-use Rattle.tz_info.proofs.Words.{AreLeapSeconds, IsLeapTime, LeapSecond, List, SFits, arith, by_lt_z, cases_lt, corrections, false, get_or, inl, inr}
-use Rattle.tz_info.proofs.Words.{int_le, int_lt, ints, le_is, le_true, length, lt_true, mapped_at, passed_count, pos, refl, suc, true, w64, zero}
-use Rattle.tz_info.proofs.Words.{ℕ, ℤ, ◌+ℤ◌, ◌+◌, ◌-ℤ◌, ◌<ℤ◌, ◌<◌, ◌↔◌, ◌∷◌, [], ◌≡◌, ◌≤ℤ◌, ◌≤◌}
-use Rattle.tz_info.proofs.{LeapEntries.{follow, threshold, threshold_at}, LeapOrder.{bounded, split}, Prefixes.{last_taken}}
-use Rattle.tz_info.proofs.LeapStarts.{correction_behind, passed_at_most, times_rise}
+use Rattle.std.specs.{Int.{int_min, saturate_signed}, List.Sorted.{IsPartitionedBy}}
+use Rattle.tz_info.proofs.{
+  LeapEntries.{follow, threshold, threshold_at},
+  LeapOrder.{bounded, split},
+  LeapStarts.{correction_behind, passed_at_most, times_rise},
+  Prefixes.{last_taken},
+  Words.{AreLeapSeconds, IsLeapTime, LeapSecond, List, SFits, [], arith, by_lt_z, cases_lt, corrections, false, get_or, inl, inr, int_le, int_lt, ints, le_is},
+  Words.{le_true, length, lt_true, mapped_at, passed_count, pos, refl, suc, true, w64, zero, ℕ, ℤ, ◌+ℤ◌, ◌+◌, ◌-ℤ◌, ◌<ℤ◌, ◌<◌, ◌↔◌, ◌∷◌, ◌≡◌, ◌≤ℤ◌, ◌≤◌},
+}
 use Rattle.tz_info.specs.Steps.Starts.{IsLastWithLeapTime}
 
 -- the number of passed entries lies from `first` to `high`

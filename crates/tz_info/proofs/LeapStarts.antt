@@ -1,9 +1,13 @@
 -- The first second at which a leap time has come.
 use Rattle.std.specs.List.Sorted.{IsPartitionedBy}
-use Rattle.tz_info.proofs.Words.{AreLeapSeconds, HaveCome, IsLeapTime, IsNear, IsOneStep, LeapSecond, List, arith, by_lt_z, cases_lt, corrections}
-use Rattle.tz_info.proofs.Words.{count_by-le-length, get_or, inl, inr, int_le, ints, last_else, length, passed_count, pos, rises, saturate_signed, suc, take}
-use Rattle.tz_info.proofs.Words.{thresholds, w64, zero, ℕ, ℤ, [], ◌+ℤ◌, ◌-ℤ◌, ◌-◌, ◌<ℤ◌, ◌<◌, ◌↔◌, ◌∷◌, ◌≡◌, ◌≤ℤ◌, ◌≤◌}
-use Rattle.tz_info.proofs.{LeapEntries.{follow, threshold, threshold_at, threshold_count}, LeapOrder.{split}, Prefixes.{last_taken}}
+use Rattle.tz_info.proofs.{
+  LeapEntries.{follow, threshold, threshold_at, threshold_count},
+  LeapOrder.{split},
+  Prefixes.{last_taken},
+  Words.{AreLeapSeconds, HaveCome, IsLeapTime, IsNear, IsOneStep, LeapSecond, List, [], arith, by_lt_z, cases_lt, corrections, count_by-le-length, get_or, inl},
+  Words.{inr, int_le, ints, last_else, length, passed_count, pos, rises, saturate_signed, suc, take, thresholds, w64, zero, ℕ, ℤ, ◌+ℤ◌, ◌-ℤ◌, ◌-◌, ◌<ℤ◌, ◌<◌},
+  Words.{◌↔◌, ◌∷◌, ◌≡◌, ◌≤ℤ◌, ◌≤◌},
+}
 
 -- the correction in force after the first k entries
 abbrev pub correction_behind : List LeapSecond → ℕ → ℤ

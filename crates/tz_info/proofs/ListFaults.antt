@@ -1,13 +1,16 @@
 -- Lists make a zone or have one first fault.
-use Rattle.tz_base.specs.declared.error.Error.TheVariants.{TimeZone}
-use Rattle.tz_base.specs.declared.error.Expected.TheVariants.{AtLeastOneLocalTimeType, LeapSecondsInOrder, RuleThatAgreesWithLastTransition}
-use Rattle.tz_base.specs.declared.error.Expected.TheVariants.{TransitionTimesThatRise, TypeIndexesWithinTypes}
 use Rattle.std.proofs.lemmas.{Bool.Decides.{not_from_Decides}, List.Elements.{All-cons}}
-use Rattle.tz_info.proofs.Words.{All, AllAdjacentBelow, AllPairs, AllPairs-cons, AreLeapSeconds, AreRising, AreTransitions, Bool, Decides, Decides-int_eq}
-use Rattle.tz_info.proofs.Words.{Decides-ltb, Error, IsNextLeap, IsOneStep, IsValid, LeapSecond, List, ListFault, No_type, Not_rising, Other_index}
-use Rattle.tz_info.proofs.Words.{Other_leaps, Other_rule, Transition, Zone, add-one, arith, cases_lt, error_number, false, inl, inr, int_eq, int_lt}
-use Rattle.tz_info.proofs.Words.{length, lt_is, lt_true, pos, refl, suc, sym, true, zero, ℤ, [], ◌+ℤ◌, ◌<ℤ◌, ◌<◌, ◌∙◌, ◌∷◌, ◌≡◌, ◌≤ℤ◌}
-use Rattle.tz_info.proofs.Words.{◌≤◌, ◌⊎◌}
+use Rattle.tz_base.specs.{
+  declared.error.Error.TheVariants.{TimeZone},
+  declared.error.Expected.TheVariants.{AtLeastOneLocalTimeType, LeapSecondsInOrder, RuleThatAgreesWithLastTransition, TransitionTimesThatRise},
+  declared.error.Expected.TheVariants.{TypeIndexesWithinTypes},
+}
+use Rattle.tz_info.proofs.{
+  Words.{All, AllAdjacentBelow, AllPairs, AllPairs-cons, AreLeapSeconds, AreRising, AreTransitions, Bool, Decides, Decides-int_eq, Decides-ltb, Error},
+  Words.{IsNextLeap, IsOneStep, IsValid, LeapSecond, List, ListFault, No_type, Not_rising, Other_index, Other_leaps, Other_rule, Transition, Zone, [], add-one},
+  Words.{arith, cases_lt, error_number, false, inl, inr, int_eq, int_lt, length, lt_is, lt_true, pos, refl, suc, sym, true, zero, ℤ, ◌+ℤ◌, ◌<ℤ◌, ◌<◌, ◌∙◌, ◌∷◌},
+  Words.{◌≡◌, ◌≤ℤ◌, ◌≤◌, ◌⊎◌},
+}
 use Rattle.tz_info.specs.Transitions.{NameTypes}
 
 -- ---- what can be tested holds or does not

@@ -1,8 +1,9 @@
 -- The test of a name says whether a type can have it.
 use Rattle.tz_base.specs.declared.error.Error.TheVariants.{LocalTimeType}
-use Rattle.tz_info.proofs.Words.{Bool, Err, Error, Gives, IsNameOrNone, IsUtOffset, List, LocalTimeType as BadType, LocalType, MatchResult, Ok, Result, Some}
-use Rattle.tz_info.proofs.Words.{arith, checked, expected_of_name, expected_of_type, false_unless, int_le, ints, is_name, name_test, named_type, neg_ℤ, pos}
-use Rattle.tz_info.proofs.Words.{refl, true, ℕ, ℤ, ◌≡◌}
+use Rattle.tz_info.proofs.{
+  Words.{Bool, Err, Error, Gives, IsNameOrNone, IsUtOffset, List, LocalTimeType as BadType, LocalType, MatchResult, Ok, Result, Some, arith, checked},
+  Words.{expected_of_name, expected_of_type, false_unless, int_le, ints, is_name, name_test, named_type, neg_ℤ, pos, refl, true, ℕ, ℤ, ◌≡◌},
+}
 
 above_least : (offset : ℤ) → IsUtOffset offset → int_le (neg_ℤ (pos 2_147_483_647)) offset ≡ true
 above_least offset u = let a = u.0 in grind (arith, ints)

@@ -1,10 +1,11 @@
 -- Only a year's own moments and those of its two neighbours can enclose a second of the year.
-use Rattle.tz_info.proofs.Words.{Alternate, Bool, DayTime, Decides, Decides-or, IsAlternateRule, IsDstAt, IsInSomeYear, IsRuleDay, IsWithinDay, IsWithinWeek}
-use Rattle.tz_info.proofs.Words.{IsYearOf, arith, by_lt_z, cond, days_at_least, end_in, floors, inl, inr, int_le, ints, is_between, is_dst_by_one}
-use Rattle.tz_info.proofs.Words.{is_in_three, moment, neg_ℤ, not, pos, refl, start_in, starts_rise, true, year_start}
-use Rattle.tz_info.proofs.Words.{year_step, ℤ, ⊎_elim, ◌*ℤ◌, ◌+ℤ◌, ◌-ℤ◌, ◌<ℤ◌, ◌≡◌, ◌≤ℤ◌, ◌⊎◌}
 use Rattle.std.proofs.lemmas.Bool.Decides.{Decides-like}
-use Rattle.tz_info.proofs.RuleDays.{day_within}
+use Rattle.tz_info.proofs.{
+  RuleDays.{day_within},
+  Words.{Alternate, Bool, DayTime, Decides, Decides-or, IsAlternateRule, IsDstAt, IsInSomeYear, IsRuleDay, IsWithinDay, IsWithinWeek, IsYearOf, arith, by_lt_z},
+  Words.{cond, days_at_least, end_in, floors, inl, inr, int_le, ints, is_between, is_dst_by_one, is_in_three, moment, neg_ℤ, not, pos, refl, start_in},
+  Words.{starts_rise, true, year_start, year_step, ℤ, ⊎_elim, ◌*ℤ◌, ◌+ℤ◌, ◌-ℤ◌, ◌<ℤ◌, ◌≡◌, ◌≤ℤ◌, ◌⊎◌},
+}
 
 -- the moments of each year lie less than eight days outside of it
 pub record IsNear (moments : ℤ → ℤ) : Type 0 where

@@ -1,8 +1,9 @@
 -- A rule has one type from a second on, until the next moment of three years or the year's end.
-use Rattle.tz_info.proofs.Words.{Alternate, AlternateAt, Bool, IsAlternateRule, IsDstAt, IsInSomeYear, IsRuleYear, IsYearOf, LocalType}
-use Rattle.tz_info.proofs.Words.{arith, end_in, floor_div, floors, one_year, pos, start_in}
-use Rattle.tz_info.proofs.Words.{subst, year_start, ℤ, ⊎_elim, ◌*ℤ◌, ◌+ℤ◌, ◌-ℤ◌, ◌<ℤ◌, ◌≡◌, ◌≤ℤ◌, ◌⊎◌}
-use Rattle.tz_info.proofs.Neighbours.{IsNear, ends_near, not_earlier, not_later, place, second_low, starts_near}
+use Rattle.tz_info.proofs.{
+  Neighbours.{IsNear, ends_near, not_earlier, not_later, place, second_low, starts_near},
+  Words.{Alternate, AlternateAt, Bool, IsAlternateRule, IsDstAt, IsInSomeYear, IsRuleYear, IsYearOf, LocalType, arith, end_in, floor_div, floors, one_year},
+  Words.{pos, start_in, subst, year_start, ℤ, ⊎_elim, ◌*ℤ◌, ◌+ℤ◌, ◌-ℤ◌, ◌<ℤ◌, ◌≡◌, ◌≤ℤ◌, ◌⊎◌},
+}
 
 -- in the year and in its neighbours no moment comes after u and before `next`
 abbrev pub AreOutside : (ℤ → ℤ) → ℤ → ℤ → ℤ → Type 0

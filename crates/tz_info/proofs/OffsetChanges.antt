@@ -1,9 +1,13 @@
 -- Walks from change to change, on and back, up to one at which the offset changes.
-use Rattle.tz_info.proofs.Words.{Alternate as AlternateRule, AlternateAt, Bool, Change, IsBegin, IsChange, IsFirstChange, IsLastChange}
-use Rattle.tz_info.proofs.Words.{IsNearestOffsetChange, IsOffsetChange, IsValid, KeepsOffset, LocalType, SFits, Some, TypeAt, Zone, ap, arith, by_lt_z}
-use Rattle.tz_info.proofs.Words.{cases_lt, false, inl, inr, ints, length, pos, refl, segment_of, sym, true, type_when, w64, ℤ, ◌-ℤ◌, ◌<ℤ◌, ◌∙◌, ◌≡◌, ◌≤ℤ◌}
+use Rattle.tz_info.proofs.{
+  ChangeLaws.{one_change},
+  SegmentLaws.{come_at_time, segment_most},
+  Words.{Alternate as AlternateRule, AlternateAt, Bool, Change, IsBegin, IsChange, IsFirstChange, IsLastChange, IsNearestOffsetChange, IsOffsetChange, IsValid},
+  Words.{KeepsOffset, LocalType, SFits, Some, TypeAt, Zone, ap, arith, by_lt_z, cases_lt, false, inl, inr, ints, length, pos, refl, segment_of, sym, true},
+  Words.{type_when, w64, ℤ, ◌-ℤ◌, ◌<ℤ◌, ◌∙◌, ◌≡◌, ◌≤ℤ◌},
+  ZoneChanges.{last_too, time_of, to_rule},
+}
 use Rattle.tz_info.specs.declared.rule.transition_rule.TransitionRule.TheVariants.{Alternate}
-use Rattle.tz_info.proofs.{ChangeLaws.{one_change}, SegmentLaws.{come_at_time, segment_most}, ZoneChanges.{last_too, time_of, to_rule}}
 
 -- a change that is one that keeps the offset is none of the offset
 kept_one : (z : Zone) (c d : Change) → IsOffsetChange (TypeAt z) d → IsChange (TypeAt z) c → d.at ≡ c.at → c.before.offset ≡ c.after.offset → ⊥

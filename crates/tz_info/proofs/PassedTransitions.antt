@@ -1,9 +1,9 @@
 -- The transitions at or before a leap time, and the type in force there.
-use Rattle.tz_base.specs.{declared.error.Error.TheVariants.{FindLocalTimeType}, declared.error.Expected.TheVariants.{YearThatRuleAnswersIn}}
-use Rattle.tz_info.proofs.Words.{Err, Error, IsFromLast, IsLeapTime, IsRefusedBy, IsTypeError, LocalType}
-use Rattle.tz_info.proofs.Words.{MatchResult, Ok, Result, RuleOrType, TypeAt, TypeAtLeapTime, Zone, arith}
-use Rattle.tz_info.proofs.Words.{by_rule, length, refl, ℤ}
-use Rattle.tz_info.proofs.Words.{◌≡◌}
+use Rattle.tz_base.specs.declared.error.{Error.TheVariants.{FindLocalTimeType}, Expected.TheVariants.{YearThatRuleAnswersIn}}
+use Rattle.tz_info.proofs.{
+  Words.{Err, Error, IsFromLast, IsLeapTime, IsRefusedBy, IsTypeError, LocalType, MatchResult, Ok, Result, RuleOrType, TypeAt, TypeAtLeapTime, Zone, arith},
+  Words.{by_rule, length, refl, ℤ, ◌≡◌},
+}
 pub use Rattle.tz_info.proofs.Words.{nil_from_length as no_items}
 
 -- without transitions the rule is asked, or the zone has no rule

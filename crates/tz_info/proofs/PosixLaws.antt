@@ -1,14 +1,16 @@
 -- The zone of a TZ string.
-use Rattle.tz_info.proofs.Words.{IsTrimAsciiStart, None, Option, Some, ap, option_map, subst, ◌+◌, ◌-◌, Bool, Decided, Err, Error, IfErr, IfOk, IsPosixFault}
-use Rattle.tz_info.proofs.Words.{IsPosixZone, IsTextFault, IsTrimAscii, IsTzText, List, MatchResult, Ok}
-use Rattle.tz_info.proofs.Words.{Result, TransitionRule, Zone, apart, arith, done, false, fault_low, fault_once, inl, inr, length, like, made, nil_from_length}
-use Rattle.tz_info.proofs.Words.{nat_tests, error_number, plain_zone, pos, posix_zone, refl, rule_in, sym, trimmed, true, value_once, ℕ, [], ◌==◌, ◌>>=◌, ◌∙◌}
-use Rattle.tz_info.proofs.Words.{◌∷◌, ◌≡◌, ◌≢◌, ◌≤◌}
-use Rattle.tz_info.proofs.{FooterLaws.{spelled_law}, TextLaws.{text_low}, TrimLaws.{fits_behind, front_counted, trim_again, trim_is, trims_both}}
 use Rattle.std.specs.{Char.{is_ascii_whitespace}, List.{prefix_len}}
-use Rattle.tz_info.specs.TzGrammar.{text_fault_position}
 use Rattle.tz_base.specs.{Errors.{IsOutOfMemory}, declared.parse_error.ParseError.{ParseError}}
-use Rattle.tz_info.specs.{PosixZones.{IsExtendedFaultPlace, IsPlaced, IsPosixFaultPlace}, Steps.Spelled.{IsTrimmedRule}}
+use Rattle.tz_info.proofs.{
+  FooterLaws.{spelled_law},
+  TextLaws.{text_low},
+  TrimLaws.{fits_behind, front_counted, trim_again, trim_is, trims_both},
+  Words.{Bool, Decided, Err, Error, IfErr, IfOk, IsPosixFault, IsPosixZone, IsTextFault, IsTrimAscii, IsTrimAsciiStart, IsTzText, List, MatchResult, None, Ok},
+  Words.{Option, Result, Some, TransitionRule, Zone, [], ap, apart, arith, done, error_number, false, fault_low, fault_once, inl, inr, length, like, made},
+  Words.{nat_tests, nil_from_length, option_map, plain_zone, pos, posix_zone, refl, rule_in, subst, sym, trimmed, true, value_once, ℕ, ◌+◌, ◌-◌, ◌==◌, ◌>>=◌},
+  Words.{◌∙◌, ◌∷◌, ◌≡◌, ◌≢◌, ◌≤◌},
+}
+use Rattle.tz_info.specs.{PosixZones.{IsExtendedFaultPlace, IsPlaced, IsPosixFaultPlace}, Steps.Spelled.{IsTrimmedRule}, TzGrammar.{text_fault_position}}
 
 unfoldable pub zone_in : List ℕ → Result Zone Error
 zone_in [] = Ok (plain_zone (pos 0))

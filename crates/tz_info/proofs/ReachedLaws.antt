@@ -1,15 +1,22 @@
 -- The last local time that clocks have shown up to a second: that of the segment that it lies in, or of the segments before.
-use Rattle.tz_info.proofs.Words.{HasType, IsFirstAtOrAfter, IsGreatest, IsNear, IsUtOffset, IsValid, IsWide, List, LocalType, SFits, Shows, Transition}
-use Rattle.tz_info.proofs.Words.{TypeAt, Zone, ap, arith, begin_of, by_lt_z, cases_lt, index_of, inl, inr, ints, least_time, length, place_at}
-use Rattle.tz_info.proofs.Words.{saturate_signed, suc, top_of, ◌-◌, ◌≤◌, offsets, pos, refl, sym, w32}
-use Rattle.tz_info.proofs.Words.{w64, ℤ, ℕ, ◌+ℤ◌, ◌-ℤ◌, ◌<ℤ◌, ◌<◌, ◌↔◌, ◌≡◌, ◌≤ℤ◌}
-use Rattle.tz_info.specs.{Reached.{IsLastReached}, Transitions.{AreRising}}
-use Rattle.tz_info.specs.Steps.{Entries.{AreEntries, Entries}, SegmentEnds.{IsLatestEnd, IsReached, end_of}, Since.{IsReachedSince}, WallPieces.{IsTable}}
-use Rattle.tz_info.proofs.{EntryChanges.{index_below}, LeapStarts.{saturated}, TableLaws.{table_of, top_least}}
-use Rattle.tz_info.proofs.SegmentEndLaws.{begun_by, come_by, end_at, shows_less}
-use Rattle.tz_info.proofs.SegmentLaws.{come_from, place_before, place_begin, place_most, places_rise}
-use Rattle.tz_info.proofs.WallSegments.{type_there}
-use Rattle.tz_info.proofs.{ExtremeLaws.{at_most_greatest, listed_at_most}, ZoneLaws.{inside_listed}}
+use Rattle.tz_info.proofs.{
+  EntryChanges.{index_below},
+  ExtremeLaws.{at_most_greatest, listed_at_most},
+  LeapStarts.{saturated},
+  SegmentEndLaws.{begun_by, come_by, end_at, shows_less},
+  SegmentLaws.{come_from, place_before, place_begin, place_most, places_rise},
+  TableLaws.{table_of, top_least},
+  WallSegments.{type_there},
+  Words.{HasType, IsFirstAtOrAfter, IsGreatest, IsNear, IsUtOffset, IsValid, IsWide, List, LocalType, SFits, Shows, Transition, TypeAt, Zone, ap, arith},
+  Words.{begin_of, by_lt_z, cases_lt, index_of, inl, inr, ints, least_time, length, offsets, place_at, pos, refl, saturate_signed, suc, sym, top_of, w32, w64},
+  Words.{ℕ, ℤ, ◌+ℤ◌, ◌-ℤ◌, ◌-◌, ◌<ℤ◌, ◌<◌, ◌↔◌, ◌≡◌, ◌≤ℤ◌, ◌≤◌},
+  ZoneLaws.{inside_listed},
+}
+use Rattle.tz_info.specs.{
+  Reached.{IsLastReached},
+  Steps.{Entries.{AreEntries, Entries}, SegmentEnds.{IsLatestEnd, IsReached, end_of}, Since.{IsReachedSince}, WallPieces.{IsTable}},
+  Transitions.{AreRising},
+}
 
 -- ---- the segment of the table in which the second lies
 pub reached_in : (z : Zone) (e : Entries) (k : ℕ) (t l : ℤ) (s : LocalType) → IsValid z → AreEntries z e → place_at e.items t ≡ k → k < top_of z.rule e

@@ -1,7 +1,9 @@
 -- Values read at places, and the records that spell them.
-use Rattle.tz_info.proofs.Words.{AreRecords, Decided, Err, Error, HasRecordFault, List, Ok, Result, ap, append_assoc, arith, bind, done, drop, drop-drop}
-use Rattle.tz_info.proofs.Words.{exact_cut, inl, inr, length, length-append, length-drop, length-take, like, made, nil_from_length, record_at, refl, subst, suc}
-use Rattle.tz_info.proofs.Words.{sym, take, take-append-drop, values_below, zero, ℕ, [], ◌*◌, ◌++◌, ◌+◌, ◌<◌, ◌>>=◌, ◌∙◌, ◌∷◌, ◌≡◌, ◌⊎◌}
+use Rattle.tz_info.proofs.{
+  Words.{AreRecords, Decided, Err, Error, HasRecordFault, List, Ok, Result, [], ap, append_assoc, arith, bind, done, drop, drop-drop, exact_cut, inl, inr},
+  Words.{length, length-append, length-drop, length-take, like, made, nil_from_length, record_at, refl, subst, suc, sym, take, take-append-drop, values_below},
+  Words.{zero, ℕ, ◌*◌, ◌++◌, ◌+◌, ◌<◌, ◌>>=◌, ◌∙◌, ◌∷◌, ◌≡◌, ◌⊎◌},
+}
 
 -- ---- values at places, from the first one on
 front_step : {X : Type 0} (r : Result X Error) (s : Result (List X) Error) (t : Result X Error)

@@ -1,16 +1,17 @@
 -- When a rule's types give way to each other: at its moments and at turns of the year, and every 400 years alike.
-use Rattle.std.proofs.lemmas.Bool.Decides.{Decides-int_eq}
-use Rattle.std.proofs.lemmas.Map.Made.{is_member-Decides}
-use Rattle.std.specs.Ordering.{int_eq}
-use Rattle.std.specs.Set.{is_member}
-use Rattle.tz_info.proofs.Words.{Alternate, AlternateAt, Bool, Change, DayTime, IsAlternateRule, IsChange, IsDstAt, IsEarlierOf}
-use Rattle.tz_info.proofs.Words.{IsInSomeYear, IsLaterOf, IsNearest, IsOfYear, IsOneOf, IsRuleDay, IsRuleTime}
-use Rattle.tz_info.proofs.Words.{Contains, IsRuleYear, IsYearOf, LocalType, Option, Precedes, arith, by_lt_z, end_in, false, floor_div}
-use Rattle.tz_info.proofs.Words.{floors, get_or_default, inl, inr, ints, is_leap, kind_place, length, moment, moments_near, new_year, pos}
-use Rattle.tz_info.proofs.Words.{start_in, starts_rise, true, weekday_of, year_at, year_start, ℕ, ℤ, ◌*ℤ◌, ◌+ℤ◌, ◌+◌, ◌-ℤ◌}
-use Rattle.tz_info.proofs.Words.{◌<ℤ◌, ◌∙◌, ◌≡◌, ◌≤ℤ◌, ◌⊎◌}
-use Rattle.tz_info.proofs.{ChangeSearch.{decided, nearest_moved}, KindLaws.{kind_found}, Neighbours.{second_high, second_low, year_after}}
-use Rattle.tz_info.proofs.{NextMoments.{outside, steady_until}, RuleLaws.{alternate_once, rule_time}}
+use Rattle.std.proofs.lemmas.{Bool.Decides.{Decides-int_eq}, Map.Made.{is_member-Decides}}
+use Rattle.std.specs.{Ordering.{int_eq}, Set.{is_member}}
+use Rattle.tz_info.proofs.{
+  ChangeSearch.{decided, nearest_moved},
+  KindLaws.{kind_found},
+  Neighbours.{second_high, second_low, year_after},
+  NextMoments.{outside, steady_until},
+  RuleLaws.{alternate_once, rule_time},
+  Words.{Alternate, AlternateAt, Bool, Change, Contains, DayTime, IsAlternateRule, IsChange, IsDstAt, IsEarlierOf, IsInSomeYear, IsLaterOf, IsNearest},
+  Words.{IsOfYear, IsOneOf, IsRuleDay, IsRuleTime, IsRuleYear, IsYearOf, LocalType, Option, Precedes, arith, by_lt_z, end_in, false, floor_div, floors},
+  Words.{get_or_default, inl, inr, ints, is_leap, kind_place, length, moment, moments_near, new_year, pos, start_in, starts_rise, true, weekday_of, year_at},
+  Words.{year_start, ℕ, ℤ, ◌*ℤ◌, ◌+ℤ◌, ◌+◌, ◌-ℤ◌, ◌<ℤ◌, ◌∙◌, ◌≡◌, ◌≤ℤ◌, ◌⊎◌},
+}
 
 -- ---- the calendar repeats every 400 years: k times as many years later, or earlier where k is below 0
 leap_again : (y k : ℤ) → is_leap (y +ℤ pos 400 *ℤ k) ≡ is_leap y

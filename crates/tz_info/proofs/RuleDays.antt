@@ -1,9 +1,10 @@
 -- Each year has one day that is the rule's, and the closed form finds it.
-use Rattle.tz_info.proofs.Words.{Bool, DayForm, IsDayOf, IsRuleDay, IsWeekdayInWeek, LiesIn, ap, arith, cases_lt, closed_day, closed_day_is, date_lies}
-use Rattle.tz_info.proofs.Words.{day_number, days_at_least, days_at_most, days_in_month, days_in_year, floors, inl, inr, is_leap, julian_is, julian_place}
-use Rattle.tz_info.proofs.Words.{leap_at_most, months_all, months_step, nat_le, nat_tests, number_after, pos, rule_day, rule_day_with, starts_rise, sym}
-use Rattle.tz_info.proofs.Words.{weekday_at, weekday_below, weekday_is, weekday_of, weekday_place, year_start, year_step, ℕ, ℤ, ◌%◌, ◌&&◌, ◌*◌, ◌+ℤ◌, ◌+◌, ◌-◌}
-use Rattle.tz_info.proofs.Words.{◌<ℤ◌, ◌<◌, ◌∙◌, ◌≡◌, ◌≤ℤ◌, ◌≤◌}
+use Rattle.tz_info.proofs.{
+  Words.{Bool, DayForm, IsDayOf, IsRuleDay, IsWeekdayInWeek, LiesIn, ap, arith, cases_lt, closed_day, closed_day_is, date_lies, day_number, days_at_least},
+  Words.{days_at_most, days_in_month, days_in_year, floors, inl, inr, is_leap, julian_is, julian_place, leap_at_most, months_all, months_step, nat_le},
+  Words.{nat_tests, number_after, pos, rule_day, rule_day_with, starts_rise, sym, weekday_at, weekday_below, weekday_is, weekday_of, weekday_place, year_start},
+  Words.{year_step, ℕ, ℤ, ◌%◌, ◌&&◌, ◌*◌, ◌+ℤ◌, ◌+◌, ◌-◌, ◌<ℤ◌, ◌<◌, ◌∙◌, ◌≡◌, ◌≤ℤ◌, ◌≤◌},
+}
 use Rattle.tz_info.specs.declared.rule.day.DayForm.TheVariants.{Julian0, Julian1, MonthWeekday}
 
 -- the day after 31 December

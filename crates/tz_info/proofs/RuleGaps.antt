@@ -1,14 +1,17 @@
 -- A rule's gaps: if a season's moments decide at both seconds that could show a local time and neither does, one moment lies between them.
 use Rattle.std.specs.Prelude.{⊤}
-use Rattle.tz_info.proofs.Words.{Alternate as AlternateRule, AlternateAt, AreLess, Bool, Change, HasGap, IsAlternateRule, IsDecidedIn, IsNear}
-use Rattle.tz_info.proofs.Words.{IsNeverFrom, IsRuleGap, IsSeason, IsSeasonFor, IsSeasonIn, IsSeasonOf, IsStart, IsTableLess, IsValid, IsWide, IsWindowOf}
-use Rattle.tz_info.proofs.Words.{LocalType, MatchOption}
-use Rattle.tz_info.proofs.Words.{None, Option, Season, Some, TransitionRule, TypeAt, Zone, arith, by_lt_z, cond, false, int_lt, ints, is_dst_by_one, length}
-use Rattle.tz_info.proofs.Words.{not, pos}
-use Rattle.tz_info.proofs.Words.{refl, subst, sym, table_count, true, type_when, ℤ, ◌+ℤ◌, ◌-ℤ◌, ◌<ℤ◌, ◌≡◌, ◌≤ℤ◌}
+use Rattle.tz_info.proofs.{
+  GapLaws.{IsNever, gap_found},
+  RuleLaws.{alternate_once},
+  SeasonAnswers.{amid, greater},
+  WallSegments.{not_begun, rule_begun},
+  Words.{Alternate as AlternateRule, AlternateAt, AreLess, Bool, Change, HasGap, IsAlternateRule, IsDecidedIn, IsNear, IsNeverFrom, IsRuleGap, IsSeason},
+  Words.{IsSeasonFor, IsSeasonIn, IsSeasonOf, IsStart, IsTableLess, IsValid, IsWide, IsWindowOf, LocalType, MatchOption, None, Option, Season, Some},
+  Words.{TransitionRule, TypeAt, Zone, arith, by_lt_z, cond, false, int_lt, ints, is_dst_by_one, length, not, pos, refl, subst, sym, table_count, true},
+  Words.{type_when, ℤ, ◌+ℤ◌, ◌-ℤ◌, ◌<ℤ◌, ◌≡◌, ◌≤ℤ◌},
+  ZoneChanges.{from_rule, to_rule},
+}
 use Rattle.tz_info.specs.declared.rule.transition_rule.TransitionRule.TheVariants.{Alternate}
-use Rattle.tz_info.proofs.{GapLaws.{IsNever, gap_found}, RuleLaws.{alternate_once}, SeasonAnswers.{amid, greater}, WallSegments.{not_begun, rule_begun}}
-use Rattle.tz_info.proofs.ZoneChanges.{from_rule, to_rule}
 
 -- ---- the moment between two seconds
 -- at v it is daylight saving time as `dst` says and at the earlier second u not, and so up to the moment

@@ -1,13 +1,13 @@
 -- A rule has one type at a second, or is refused there, and never both.
 use Rattle.std.proofs.lemmas.Bool.{cases_Bool}
-use Rattle.tz_info.proofs.Words.{Alternate as AlternateRule, AlternateAt, Bool, IsAlternateRefused, IsAlternateRule, IsDstAt, IsRule, IsRuleRefused, IsRuleTime}
-use Rattle.tz_info.proofs.Words.{IsRuleYear, IsYearOf, LiesIn, LocalType, MatchOption, None, Option, RuleAt, Some, TransitionRule, alternate_type, arith}
-use Rattle.tz_info.proofs.Words.{by_lt_z, end_in, floor_div, floors, inl, inr}
-use Rattle.tz_info.proofs.Words.{ints, is_dst_by_three, is_rule_year, lies_in, neg_ℤ, one_year, pos, refl, rule_type, start_in, starts_rise, subst, sym}
-use Rattle.tz_info.proofs.Words.{type_when, year_of, year_start, ℤ}
-use Rattle.tz_info.proofs.Words.{◌+ℤ◌, ◌∙◌, ◌≡◌, ◌≤ℤ◌, ◌⊎◌}
+use Rattle.tz_info.proofs.{
+  Neighbours.{dst_by_three, ends_near, second_high, second_low, starts_near},
+  Words.{Alternate as AlternateRule, AlternateAt, Bool, IsAlternateRefused, IsAlternateRule, IsDstAt, IsRule, IsRuleRefused, IsRuleTime, IsRuleYear, IsYearOf},
+  Words.{LiesIn, LocalType, MatchOption, None, Option, RuleAt, Some, TransitionRule, alternate_type, arith, by_lt_z, end_in, floor_div, floors, inl, inr, ints},
+  Words.{is_dst_by_three, is_rule_year, lies_in, neg_ℤ, one_year, pos, refl, rule_type, start_in, starts_rise, subst, sym, type_when, year_of, year_start, ℤ},
+  Words.{◌+ℤ◌, ◌∙◌, ◌≡◌, ◌≤ℤ◌, ◌⊎◌},
+}
 use Rattle.tz_info.specs.declared.rule.transition_rule.TransitionRule.TheVariants.{Alternate, Fixed}
-use Rattle.tz_info.proofs.Neighbours.{dst_by_three, ends_near, second_high, second_low, starts_near}
 
 -- a rule has one type at a second
 pub alternate_once : (a : AlternateRule) (u : ℤ) (s t : LocalType) → AlternateAt a u s → AlternateAt a u t → s ≡ t

@@ -1,11 +1,14 @@
 -- What the clocks of a rule show from a second on: the last local time up to another second, and the first second at or after a local time.
-use Rattle.tz_info.proofs.Words.{Alternate, AlternateAt, Bool, HasNoChange, IsAhead, IsAlternateRule, IsNear, IsNearestChange, IsUtOffset}
-use Rattle.tz_info.proofs.Words.{IsWide, LocalType, RuleAt, Shows, ShowsAtOrAfter, ap, arith, by_lt_z, false, inl, inr, ints, pos, refl, sym, true}
-use Rattle.tz_info.proofs.Words.{type_when, ℤ, ◌↔◌, ◌+ℤ◌, ◌-ℤ◌, ◌<ℤ◌, ◌∙◌, ◌≡◌, ◌≤ℤ◌, ◌⊎◌}
 use Rattle.tz_base.specs.declared.change.Change.{Change}
-use Rattle.tz_info.specs.Steps.Since.{IsFirstSince, IsReachedSince}
-use Rattle.tz_info.specs.declared.rule.transition_rule.TransitionRule.TheVariants.{Alternate as AlternateRule, Fixed}
-use Rattle.tz_info.proofs.ChangingYears.{still, unchanged}
+use Rattle.tz_info.proofs.{
+  ChangingYears.{still, unchanged},
+  Words.{Alternate, AlternateAt, Bool, HasNoChange, IsAhead, IsAlternateRule, IsNear, IsNearestChange, IsUtOffset, IsWide, LocalType, RuleAt, Shows},
+  Words.{ShowsAtOrAfter, ap, arith, by_lt_z, false, inl, inr, ints, pos, refl, sym, true, type_when, ℤ, ◌+ℤ◌, ◌-ℤ◌, ◌<ℤ◌, ◌↔◌, ◌∙◌, ◌≡◌, ◌≤ℤ◌, ◌⊎◌},
+}
+use Rattle.tz_info.specs.{
+  Steps.Since.{IsFirstSince, IsReachedSince},
+  declared.rule.transition_rule.TransitionRule.TheVariants.{Alternate as AlternateRule, Fixed},
+}
 
 -- ---- the last local time
 -- it is shown at the second

@@ -1,12 +1,13 @@
 -- The segment whose types the rule gives: from the last transition on.
-use Rattle.tz_info.proofs.Words.{IsFirstAtOrAfter, IsLeapTime, IsNear, IsValid, IsWide, LocalType, RuleAt, RuleOrType}
-use Rattle.tz_info.proofs.Words.{SFits, Some, TransitionRule, TypeAt, Zone, arith, begin_of, cases_lt, inl, inr, ints, length, place_at, refl}
-use Rattle.tz_info.proofs.Words.{segment_of, table_count, top_of, w64, ℕ, ℤ, ◌<◌, ◌≡◌, ◌≤ℤ◌, ◌≤◌}
+use Rattle.tz_info.proofs.{
+  SegmentEndLaws.{begun_by, come_by, near_wide, shows_less},
+  SegmentLaws.{segment_at, segment_most, type_from, type_in_from},
+  TableLaws.{same_table, table_of, time_then, top_least},
+  WallSegments.{leap_time_of},
+  Words.{IsFirstAtOrAfter, IsLeapTime, IsNear, IsValid, IsWide, LocalType, RuleAt, RuleOrType, SFits, Some, TransitionRule, TypeAt, Zone, arith, begin_of},
+  Words.{cases_lt, inl, inr, ints, length, place_at, refl, segment_of, table_count, top_of, w64, ℕ, ℤ, ◌<◌, ◌≡◌, ◌≤ℤ◌, ◌≤◌},
+}
 use Rattle.tz_info.specs.Steps.{Entries.{AreEntries, Entries}, SegmentEnds.{IsFirstSegment}, Since.{IsFirstSince, IsReachedSince}}
-use Rattle.tz_info.proofs.SegmentEndLaws.{begun_by, come_by, near_wide, shows_less}
-use Rattle.tz_info.proofs.SegmentLaws.{segment_at, segment_most, type_from, type_in_from}
-use Rattle.tz_info.proofs.TableLaws.{same_table, table_of, time_then, top_least}
-use Rattle.tz_info.proofs.WallSegments.{leap_time_of}
 
 all_of_table : (z : Zone) (rule : TransitionRule) → z.rule ≡ Some rule → table_count z ≡ length z.transitions
 all_of_table z rule is = rw is refl

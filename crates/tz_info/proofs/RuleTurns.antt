@@ -1,9 +1,10 @@
 -- A rule's types and its moments: from which second on a type is in force, and which one a second before.
-use Rattle.tz_info.proofs.Words.{Alternate, AlternateAt, DayTime, IsAlternateRule, IsBetween, IsDayOf, IsDstAt, IsInSomeYear, IsRuleDay, IsRuleYear}
-use Rattle.tz_info.proofs.Words.{IsYearOf, ap, arith, by_lt_z, end_in, false, false≢true, floors, inl, inr, ints, moment, pos, refl, rule_day, start_in, true}
-use Rattle.tz_info.proofs.Words.{ℤ}
-use Rattle.tz_info.proofs.Words.{◌*ℤ◌, ◌+ℤ◌, ◌-ℤ◌, ◌<ℤ◌, ◌≡◌, ◌≤ℤ◌}
-use Rattle.tz_info.proofs.{Neighbours.{by_end, by_start}, RuleDays.{day_rises, one_rule_day, rule_day_is}}
+use Rattle.tz_info.proofs.{
+  Neighbours.{by_end, by_start},
+  RuleDays.{day_rises, one_rule_day, rule_day_is},
+  Words.{Alternate, AlternateAt, DayTime, IsAlternateRule, IsBetween, IsDayOf, IsDstAt, IsInSomeYear, IsRuleDay, IsRuleYear, IsYearOf, ap, arith, by_lt_z},
+  Words.{end_in, false, false≢true, floors, inl, inr, ints, moment, pos, refl, rule_day, start_in, true, ℤ, ◌*ℤ◌, ◌+ℤ◌, ◌-ℤ◌, ◌<ℤ◌, ◌≡◌, ◌≤ℤ◌},
+}
 
 abbrev Rise : (ℤ → ℤ) → Type 0
 Rise f = (x y : ℤ) → x ≤ℤ y → f x ≤ℤ f y

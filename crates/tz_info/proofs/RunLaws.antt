@@ -1,10 +1,13 @@
 -- Runs: what a stretch of time has of a span.
-use Rattle.tz_info.proofs.Words.{Bool, HaveOneTypeFrom, IsNear, IsNextRun, IsOutOfForce, IsRunUntil, LocalType, None, Option, Some}
-use Rattle.tz_info.proofs.Words.{TypeAt, Zone, arith, by_lt_z, false, ints, pos, subst, sym, true, ℤ, ◌-ℤ◌, ◌<ℤ◌, ◌↔◌, ◌≡◌, ◌≤ℤ◌}
 use Rattle.std.specs.Prelude.{IfSome, if◌then◌else◌}
 use Rattle.tz_base.specs.declared.span.Span.{Span}
+use Rattle.tz_info.proofs.{
+  SpanLaws.{since_more},
+  Words.{Bool, HaveOneTypeFrom, IsNear, IsNextRun, IsOutOfForce, IsRunUntil, LocalType, None, Option, Some, TypeAt, Zone, arith, by_lt_z, false, ints, pos},
+  Words.{subst, sym, true, ℤ, ◌-ℤ◌, ◌<ℤ◌, ◌↔◌, ◌≡◌, ◌≤ℤ◌},
+  ZoneLaws.{type_once},
+}
 use Rattle.tz_info.specs.Spans.{IsInSpan, IsSince, IsSpan, IsSpanAt, IsUntil}
-use Rattle.tz_info.proofs.{SpanLaws.{since_more}, ZoneLaws.{type_once}}
 
 -- the seconds from `start` on are those of the limit and of the span, and so are those before `end`
 abbrev pub StartsBy : Option ℤ → ℤ → ℤ → Type 0

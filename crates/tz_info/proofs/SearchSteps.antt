@@ -1,9 +1,11 @@
 -- What each step of a search among items in order of time keeps.
-use Rattle.tz_info.proofs.SearchWords.{AreEnds, AreOrdered, ArePassed, Ends, IsLeft, IsNarrowedTo, List, Near, ap, arith, digits, filter, get_or, int_le, ints}
-use Rattle.tz_info.proofs.SearchWords.{item_time, length, length-map, map, pos, refl, suc, sym, take, zero, ℕ, ℤ, ◌*◌, ◌+◌, ◌-◌, ◌/◌, ◌<ℤ◌, ◌<◌, ◌∙◌, ◌≡◌, ◌≤ℤ◌}
-use Rattle.tz_info.proofs.SearchWords.{◌≤◌}
-use Rattle.tz_info.proofs.{DigitLaws.{digits-half, digits-less, digits-more}, FirstItems.{filter_first, le_false, le_true}}
 use Rattle.std.proofs.lemmas.List.{get_or-map as mapped_at}
+use Rattle.tz_info.proofs.{
+  DigitLaws.{digits-half, digits-less, digits-more},
+  FirstItems.{filter_first, le_false, le_true},
+  SearchWords.{AreEnds, AreOrdered, ArePassed, Ends, IsLeft, IsNarrowedTo, List, Near, ap, arith, digits, filter, get_or, int_le, ints, item_time, length},
+  SearchWords.{length-map, map, pos, refl, suc, sym, take, zero, ℕ, ℤ, ◌*◌, ◌+◌, ◌-◌, ◌/◌, ◌<ℤ◌, ◌<◌, ◌∙◌, ◌≡◌, ◌≤ℤ◌, ◌≤◌},
+}
 
 -- the time of an item that was read
 pub time_read : {A : Type 0} (time : A → ℤ) (items : List A) (place : ℕ) (x : A) → place < length items → x ≡ get_or items place x

@@ -1,11 +1,14 @@
 -- The answer of two seconds at which a season's moments decide.
-use Rattle.std.proofs.Math.Bool.{beq}
 use Rattle.offset_core.specs.declared.local_result.LocalResult.TheVariants.{Ambiguous, None, Single}
-use Rattle.tz_info.proofs.Words.{Alternate as AlternateRule, AlternateAt, Bool, FitsSigned, IsAmidFrom, IsAskedFrom, IsAskedLast, IsAskedSince, IsSeason}
-use Rattle.tz_info.proofs.Words.{IsSeasonFor, IsWallAnswer, LocalResult, LocalType, Season, Shows, TypeFrom, arith, false, int_lt}
-use Rattle.tz_info.proofs.Words.{ints, joined, not, refl, shown_if, sym, true, type_when, w64, ℕ, ℤ, ◌-ℤ◌, ◌≡◌, ◌≢◌, ◌≤ℤ◌, ◌↔◌, ◌⊎◌}
+use Rattle.std.proofs.Math.Bool.{beq}
+use Rattle.tz_info.proofs.{
+  Candidates.{asked_both, asked_found, asked_other, dst_or_std, std_or_dst},
+  QuestionLaws.{asked_dst_std, asked_std_dst},
+  Words.{Alternate as AlternateRule, AlternateAt, Bool, FitsSigned, IsAmidFrom, IsAskedFrom, IsAskedLast, IsAskedSince, IsSeason, IsSeasonFor, IsWallAnswer},
+  Words.{LocalResult, LocalType, Season, Shows, TypeFrom, arith, false, int_lt, ints, joined, not, refl, shown_if, sym, true, type_when, w64, ℕ, ℤ, ◌-ℤ◌, ◌↔◌},
+  Words.{◌≡◌, ◌≢◌, ◌≤ℤ◌, ◌⊎◌},
+}
 use Rattle.tz_info.specs.declared.rule.transition_rule.TransitionRule.TheVariants.{Alternate}
-use Rattle.tz_info.proofs.{Candidates.{asked_both, asked_found, asked_other, dst_or_std, std_or_dst}, QuestionLaws.{asked_dst_std, asked_std_dst}}
 
 joined_none : (a : LocalResult LocalType) → joined a None ≡ a
 joined_none None = refl

@@ -1,7 +1,11 @@
 -- What a season's moments decide.
-use Rattle.tz_info.proofs.Words.{Alternate, IsSeason, IsYearOf, LiesIn, Season, ap, arith, days_at_least, end_in, floor_div, floors, inl, inr, int_le}
-use Rattle.tz_info.proofs.Words.{is_dst_by_one, lies_in, neg_ℤ, one_year, pos, refl, start_in, year_of, year_start, year_step, ℤ, ◌*ℤ◌, ◌+ℤ◌, ◌-ℤ◌, ◌≡◌, ◌⊎◌}
-use Rattle.tz_info.proofs.{KindLaws.{IsMargin}, Neighbours.{IsBeside, dst_by_one}, RuleLaws.{alternate_at, year_found}}
+use Rattle.tz_info.proofs.{
+  KindLaws.{IsMargin},
+  Neighbours.{IsBeside, dst_by_one},
+  RuleLaws.{alternate_at, year_found},
+  Words.{Alternate, IsSeason, IsYearOf, LiesIn, Season, ap, arith, days_at_least, end_in, floor_div, floors, inl, inr, int_le, is_dst_by_one, lies_in, neg_ℤ},
+  Words.{one_year, pos, refl, start_in, year_of, year_start, year_step, ℤ, ◌*ℤ◌, ◌+ℤ◌, ◌-ℤ◌, ◌≡◌, ◌⊎◌},
+}
 
 -- a second eight days or more from the neighbouring years lies in the year
 amid_lies : (u year : ℤ) → IsBeside (neg_ℤ (pos 691_200)) year u → IsYearOf u year

@@ -1,11 +1,13 @@
 -- The type in force at a second, as it is asked for the list of changes, and the change there.
-use Rattle.tz_info.proofs.Words.{Change, HasNoChange, HasType, IsChange, IsLeapTime, IsRefusedBy, IsRuleOrNone, IsTypeRefused, IsValid, List, LocalType}
-use Rattle.tz_info.proofs.Words.{MatchOption, None, Option, RuleOrElse, RuleOrType, SFits, Some, TransitionRule, TypeAt, Zone, all_fit, arith, by_leap_time}
-use Rattle.tz_info.proofs.Words.{by_rule, cases_lt, change_between, change_here, corrections, false, get_or, index_at, inl, inr, ints, is_second, length}
-use Rattle.tz_info.proofs.Words.{nat_lt, nat_tests, passed, passed_count, pos, refl, rule_type_or, slice_get, suc, true, type_at_leap_time, type_exact}
-use Rattle.tz_info.proofs.Words.{type_or_none, w64, zero, ℕ, ℤ, [], ◌+ℤ◌, ◌-ℤ◌, ◌<◌, ◌==◌, ◌∷◌, ◌≡◌, ◌⊎◌}
-use Rattle.tz_info.proofs.{ChangeSearch.{InForce, IsOnce, none_before, none_here}, RuleLaws.{rule_told}}
-use Rattle.tz_info.proofs.ZoneLaws.{before_or_from_last, fits_or_not, inside_listed, last_index_below, leap_time_decided, type_not_refused}
+use Rattle.tz_info.proofs.{
+  ChangeSearch.{InForce, IsOnce, none_before, none_here},
+  RuleLaws.{rule_told},
+  Words.{Change, HasNoChange, HasType, IsChange, IsLeapTime, IsRefusedBy, IsRuleOrNone, IsTypeRefused, IsValid, List, LocalType, MatchOption, None, Option},
+  Words.{RuleOrElse, RuleOrType, SFits, Some, TransitionRule, TypeAt, Zone, [], all_fit, arith, by_leap_time, by_rule, cases_lt, change_between, change_here},
+  Words.{corrections, false, get_or, index_at, inl, inr, ints, is_second, length, nat_lt, nat_tests, passed, passed_count, pos, refl, rule_type_or, slice_get},
+  Words.{suc, true, type_at_leap_time, type_exact, type_or_none, w64, zero, ℕ, ℤ, ◌+ℤ◌, ◌-ℤ◌, ◌<◌, ◌==◌, ◌∷◌, ◌≡◌, ◌⊎◌},
+  ZoneLaws.{before_or_from_last, fits_or_not, inside_listed, last_index_below, leap_time_decided, type_not_refused},
+}
 
 -- ---- tests
 second_true : (u : ℤ) → SFits w64 u → is_second u ≡ true

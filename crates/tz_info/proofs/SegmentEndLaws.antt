@@ -1,15 +1,16 @@
 -- The first second at which clocks show a local time or a later one: that of the first segment that ends later.
-use Rattle.tz_info.proofs.Words.{AreRising, IsFirstAtOrAfter, IsTrue, IsNear, IsRuleOrNone, IsTable, IsUtOffset, IsValid, IsWide}
-use Rattle.tz_info.proofs.Words.{IsWindowOf, List, LocalType, SFits, Some}
-use Rattle.tz_info.proofs.Words.{Transition, TypeAt, Zone, ap, arith, begin_of, by_lt_z, cases_lt, get_or}
-use Rattle.tz_info.proofs.Words.{get_or_append_left, get_or_push, index_of, inl, inr, int_lt, ints, lt_is, lt_true, least_time, length, length_push}
-use Rattle.tz_info.proofs.Words.{place_at, pos, refl, rises, saturate_signed, slice_get, suc, w64, zero, ℕ, ℤ, ◌+ℤ◌, ◌++◌, ◌∷◌}
-use Rattle.tz_info.proofs.Words.{[]}
-use Rattle.tz_info.proofs.Words.{◌-ℤ◌, ◌-◌, ◌<ℤ◌, ◌<◌, ◌↔◌, ◌∙◌, ◌≡◌, ◌≤ℤ◌, ◌≤◌, ◌⊎◌}
+use Rattle.tz_info.proofs.{
+  ExtremeLaws.{at_least_least},
+  GapLaws.{near_type},
+  LeapStarts.{saturated},
+  SegmentLaws.{begin_first, begins_rise, come_from, place_most, places_rise},
+  WallSegments.{near_of, type_there},
+  Words.{AreRising, IsFirstAtOrAfter, IsNear, IsRuleOrNone, IsTable, IsTrue, IsUtOffset, IsValid, IsWide, IsWindowOf, List, LocalType, SFits, Some, Transition},
+  Words.{TypeAt, Zone, [], ap, arith, begin_of, by_lt_z, cases_lt, get_or, get_or_append_left, get_or_push, index_of, inl, inr, int_lt, ints, least_time},
+  Words.{length, length_push, lt_is, lt_true, place_at, pos, refl, rises, saturate_signed, slice_get, suc, w64, zero, ℕ, ℤ, ◌++◌, ◌+ℤ◌, ◌-ℤ◌, ◌-◌, ◌<ℤ◌, ◌<◌},
+  Words.{◌↔◌, ◌∙◌, ◌∷◌, ◌≡◌, ◌≤ℤ◌, ◌≤◌, ◌⊎◌},
+}
 use Rattle.tz_info.specs.Steps.SegmentEnds.{AreEndsRising, AreMaxima, IsFirstOf, IsFirstSegment, IsReached, end_of}
-use Rattle.tz_info.proofs.{ExtremeLaws.{at_least_least}, GapLaws.{near_type}, LeapStarts.{saturated}}
-use Rattle.tz_info.proofs.SegmentLaws.{begin_first, begins_rise, come_from, place_most, places_rise}
-use Rattle.tz_info.proofs.WallSegments.{near_of, type_there}
 
 -- ---- ends
 pub near_wide : (l : ℤ) → IsWide l → IsNear l

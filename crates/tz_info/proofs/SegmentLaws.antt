@@ -1,10 +1,13 @@
 -- Segments: which one a second lies in, and the type in force there.
-use Rattle.tz_info.proofs.Words.{AreLeapSeconds, AreRising, HasType, IsBeforeLast, IsFromLast, IsLeapTime, IsValid, List, LocalType, RuleOrType, Transition}
-use Rattle.tz_info.proofs.Words.{TypeIn, Zone, ap, arith, begin_of, by_lt_z, cases_lt, correction_at, get_or, index_of, inl, inr, ints, least_time}
-use Rattle.tz_info.proofs.Words.{length, length-take, passed, pos, refl, segment_of, suc, sym, take, zero, ℕ, ℤ, [], ◌+ℤ◌, ◌+◌, ◌-ℤ◌, ◌<ℤ◌, ◌<◌, ◌↔◌, ◌∙◌, ◌∷◌}
-use Rattle.tz_info.proofs.Words.{◌≡◌, ◌≤ℤ◌}
-use Rattle.tz_info.proofs.Words.{◌≤◌}
-use Rattle.tz_info.proofs.{LeapOrder.{leap_sums_rise}, PassedTransitions.{no_items}, Prefixes.{last_taken}, TableSearch.{Between, search_found}}
+use Rattle.tz_info.proofs.{
+  LeapOrder.{leap_sums_rise},
+  PassedTransitions.{no_items},
+  Prefixes.{last_taken},
+  TableSearch.{Between, search_found},
+  Words.{AreLeapSeconds, AreRising, HasType, IsBeforeLast, IsFromLast, IsLeapTime, IsValid, List, LocalType, RuleOrType, Transition, TypeIn, Zone, [], ap},
+  Words.{arith, begin_of, by_lt_z, cases_lt, correction_at, get_or, index_of, inl, inr, ints, least_time, length, length-take, passed, pos, refl, segment_of},
+  Words.{suc, sym, take, zero, ℕ, ℤ, ◌+ℤ◌, ◌+◌, ◌-ℤ◌, ◌<ℤ◌, ◌<◌, ◌↔◌, ◌∙◌, ◌∷◌, ◌≡◌, ◌≤ℤ◌, ◌≤◌},
+}
 
 -- no transition comes later than one after it in the list
 pub not_later : (ts : List Transition) (i k : ℕ) (d : Transition) → AreRising ts → i ≤ k → k < length ts

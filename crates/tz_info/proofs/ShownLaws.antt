@@ -1,7 +1,8 @@
 -- What neighbouring segments show of a local time, put together.
-use Rattle.tz_info.proofs.Words.{AreLessAmong, IsSideAmong, Jumps, List, Shown, Transition, Zone, arith, cases_lt, inl, inr, joined, place_at, refl}
-use Rattle.tz_info.proofs.Words.{shown_indexes}
-use Rattle.tz_info.proofs.Words.{together, ℕ, ℤ, ◌<◌, ◌≡◌, ◌≤◌}
+use Rattle.tz_info.proofs.{
+  Words.{AreLessAmong, IsSideAmong, Jumps, List, Shown, Transition, Zone, arith, cases_lt, inl, inr, joined, place_at, refl, shown_indexes, together, ℕ, ℤ},
+  Words.{◌<◌, ◌≡◌, ◌≤◌},
+}
 use Rattle.tz_info.specs.declared.zone.made.shown.Shown.TheVariants.{Less, Once, Several, Skipped}
 
 -- the wall clock's answers are joined

@@ -1,10 +1,12 @@
 -- When clocks show the local times of a stretch: its first and its last second, from run to run, and the first second at or after a local time.
-use Rattle.tz_info.proofs.Words.{AreEndsWithin, AreShownWithin, AreWithin, Bool, HaveOneTypeFrom, IsEndWithin, IsFirstAtOrAfter, IsFirstWithin, Precedes}
-use Rattle.tz_info.proofs.Words.{IsGreatest, IsLeast, IsNeverWithin, IsNextRun, IsWindowOf, IsWithinRun, LocalType, None}
-use Rattle.tz_info.proofs.Words.{Option, SFits, ShownSeconds, ShowsWithin, Some, TypeAt, Zone, arith, by_lt_z, false, ints, offsets, pos}
-use Rattle.tz_info.proofs.Words.{refl, subst, true, unsigned_abs, w64, ℤ, ◌<◌, ◌+ℤ◌, ◌-ℤ◌, ◌<ℤ◌, ◌≡◌, ◌≤ℤ◌}
 use Rattle.std.specs.Prelude.{if◌then◌else◌}
-use Rattle.tz_info.proofs.{ExtremeLaws.{at_least_least, at_most_greatest}, ZoneLaws.{type_once}}
+use Rattle.tz_info.proofs.{
+  ExtremeLaws.{at_least_least, at_most_greatest},
+  Words.{AreEndsWithin, AreShownWithin, AreWithin, Bool, HaveOneTypeFrom, IsEndWithin, IsFirstAtOrAfter, IsFirstWithin, IsGreatest, IsLeast, IsNeverWithin},
+  Words.{IsNextRun, IsWindowOf, IsWithinRun, LocalType, None, Option, Precedes, SFits, ShownSeconds, ShowsWithin, Some, TypeAt, Zone, arith, by_lt_z, false},
+  Words.{ints, offsets, pos, refl, subst, true, unsigned_abs, w64, ℤ, ◌+ℤ◌, ◌-ℤ◌, ◌<ℤ◌, ◌<◌, ◌≡◌, ◌≤ℤ◌},
+  ZoneLaws.{type_once},
+}
 
 -- ---- from run to run, until one shows such a local time
 -- what shows a local time of the stretch lies in the window

@@ -1,16 +1,21 @@
 -- Spans: at each second between two that have a type there is one, and from the last change to the next one it is the same.
-use Rattle.tz_info.proofs.Words.{Agrees, Alternate as AlternateRule, AreLeapSeconds, Change, HasNoChange, IfSome, IsAlternateRefused, IsBeginBy, IsChange}
-use Rattle.tz_info.proofs.Words.{IsEndBy, IsFirstChange}
-use Rattle.tz_info.proofs.Words.{IsFirst, IsFromLast, IsInSpan, IsLast, IsLastChange, IsLeapTime, IsOutOfForce, IsRefusedBy, IsRuleOrNone}
-use Rattle.tz_info.proofs.Words.{IsRuleTime, IsSince, IsSpan, IsSpanAt, IsTypeRefused, IsTyped, IsUnixTime, IsUntil, IsValid, LeapSecond, List, LocalType}
-use Rattle.tz_info.proofs.Words.{None, Option, SFits, Some, Span, Transition, TransitionRule, TypeAt, Zone, ap, arith, by_leap_time, by_lt_z, by_rule, cases_lt}
-use Rattle.tz_info.proofs.Words.{correction_before, floor_div, inl, inr, ints, last_transition, least_time, length, lies_in, neg_ℤ, option_map, passed_count}
-use Rattle.tz_info.proofs.Words.{pos, refl}
-use Rattle.tz_info.proofs.Words.{segment_of, subst, sym, w64, year_of, ℤ, ◌-ℤ◌, ◌-◌, ◌<ℤ◌, ◌<◌, ◌∙◌, ◌≡◌, ◌≤ℤ◌, ◌⊎◌}
+use Rattle.tz_info.proofs.{
+  ChangeSearch.{InForce, Typed, stays},
+  LastType.{last_is},
+  LeapEntries.{before_found, follow},
+  LeapOrder.{none_counted},
+  RuleChanges.{rule_second},
+  RuleLaws.{rule_year},
+  SegmentLaws.{come_at_time, come_by_time, segment_most, segments_rise},
+  Words.{Agrees, Alternate as AlternateRule, AreLeapSeconds, Change, HasNoChange, IfSome, IsAlternateRefused, IsBeginBy, IsChange, IsEndBy, IsFirst},
+  Words.{IsFirstChange, IsFromLast, IsInSpan, IsLast, IsLastChange, IsLeapTime, IsOutOfForce, IsRefusedBy, IsRuleOrNone, IsRuleTime, IsSince, IsSpan, IsSpanAt},
+  Words.{IsTypeRefused, IsTyped, IsUnixTime, IsUntil, IsValid, LeapSecond, List, LocalType, None, Option, SFits, Some, Span, Transition, TransitionRule},
+  Words.{TypeAt, Zone, ap, arith, by_leap_time, by_lt_z, by_rule, cases_lt, correction_before, floor_div, inl, inr, ints, last_transition, least_time, length},
+  Words.{lies_in, neg_ℤ, option_map, passed_count, pos, refl, segment_of, subst, sym, w64, year_of, ℤ, ◌-ℤ◌, ◌-◌, ◌<ℤ◌, ◌<◌, ◌∙◌, ◌≡◌, ◌≤ℤ◌, ◌⊎◌},
+  ZoneChanges.{out_before, out_from, refused_on, time_of, to_rule},
+  ZoneLaws.{inside_listed, type_decided, type_once},
+}
 use Rattle.tz_info.specs.declared.rule.transition_rule.TransitionRule.TheVariants.{Alternate, Fixed}
-use Rattle.tz_info.proofs.{ChangeSearch.{InForce, Typed, stays}, LastType.{last_is}, LeapEntries.{before_found, follow}, LeapOrder.{none_counted}}
-use Rattle.tz_info.proofs.{RuleChanges.{rule_second}, RuleLaws.{rule_year}, SegmentLaws.{come_at_time, come_by_time, segment_most, segments_rise}}
-use Rattle.tz_info.proofs.{ZoneChanges.{out_before, out_from, refused_on, time_of, to_rule}, ZoneLaws.{inside_listed, type_decided, type_once}}
 
 -- ---- between two seconds that have a type each has one
 -- before 1970 no entry has come

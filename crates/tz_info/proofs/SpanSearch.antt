@@ -1,10 +1,14 @@
 -- Spans by a rule of two types.
-use Rattle.tz_info.proofs.Words.{Alternate, AlternateAt, HasNoChange, IsAhead, IsBegin, IsInTable}
-use Rattle.tz_info.proofs.Words.{IsRuleOrNone, IsSecondOfNearest, IsSpanAt, IsValid, LocalType, None, Option, SFits, Some, TypeAt, Zone, arith, false}
-use Rattle.tz_info.proofs.Words.{ints, length, pos, segment_of, sym, true, w64, ℤ, ◌-ℤ◌, ◌<ℤ◌, ◌∙◌, ◌≡◌, ◌≤ℤ◌}
+use Rattle.tz_info.proofs.{
+  ChangeSearch.{nearest_moved},
+  RuleChanges.{rule_second},
+  SegmentLaws.{segments_rise},
+  SpanLaws.{span_between},
+  Words.{Alternate, AlternateAt, HasNoChange, IsAhead, IsBegin, IsInTable, IsRuleOrNone, IsSecondOfNearest, IsSpanAt, IsValid, LocalType, None, Option, SFits},
+  Words.{Some, TypeAt, Zone, arith, false, ints, length, pos, segment_of, sym, true, w64, ℤ, ◌-ℤ◌, ◌<ℤ◌, ◌∙◌, ◌≡◌, ◌≤ℤ◌},
+  ZoneChanges.{begins, from_rule, rule_first, rule_found, rule_is_last},
+}
 use Rattle.tz_info.specs.declared.rule.transition_rule.TransitionRule.TheVariants.{Alternate as AlternateRule}
-use Rattle.tz_info.proofs.{ChangeSearch.{nearest_moved}, RuleChanges.{rule_second}, SegmentLaws.{segments_rise}, SpanLaws.{span_between}}
-use Rattle.tz_info.proofs.ZoneChanges.{begins, from_rule, rule_first, rule_found, rule_is_last}
 
 -- ---- by a rule of two types
 table_over : (z : Zone) (u : ℤ) → IsValid z → segment_of z u ≡ length z.transitions → HasNoChange (TypeAt z) (IsInTable z (λ v. u <ℤ v))

@@ -1,9 +1,10 @@
 -- The numbers of a rule that a TZ string spells are in their limits.
-use Rattle.tz_info.proofs.Words.{Bool, DayForm, DayTime, IsAlternateRule, IsRule, IsRuleDay, IsTzText, IsWithinDay, IsWithinWeek, List, LocalType, Spells}
-use Rattle.tz_info.proofs.Words.{TransitionRule, alternate, arith, date, day, days, dst_offset, duration, false, fixed, given_offset, inl, inr, ints}
-use Rattle.tz_info.proofs.Words.{julian_date, month_date, named, named_type, next_hour, not, offset, optional_time, pos, rule, signed_seconds, subst, sym, text}
-use Rattle.tz_info.proofs.Words.{time, time_limit, true, ℕ, ℤ, ◌+ℤ◌, ◌≡◌, ◌≤ℤ◌, ◌≤◌}
-use Rattle.tz_info.specs.TzGrammar.{numbered_day, checked_day}
+use Rattle.tz_info.proofs.{
+  Words.{Bool, DayForm, DayTime, IsAlternateRule, IsRule, IsRuleDay, IsTzText, IsWithinDay, IsWithinWeek, List, LocalType, Spells, TransitionRule, alternate},
+  Words.{arith, date, day, days, dst_offset, duration, false, fixed, given_offset, inl, inr, ints, julian_date, month_date, named, named_type, next_hour, not},
+  Words.{offset, optional_time, pos, rule, signed_seconds, subst, sym, text, time, time_limit, true, ℕ, ℤ, ◌+ℤ◌, ◌≡◌, ◌≤ℤ◌, ◌≤◌},
+}
+use Rattle.tz_info.specs.TzGrammar.{checked_day, numbered_day}
 
 -- ---- offsets and times
 within_day : (negative : Bool) (h m s : ℕ) → (h ≤ 23) × (m ≤ 59) × (s ≤ 59) → IsWithinDay (signed_seconds negative h m s)

@@ -1,8 +1,9 @@
 -- The law of a whole TZ string, and what it says of a reader.
-use Rattle.tz_info.proofs.Words.{Bool, Decided, Err, Error, IfErr, IfOk, IsOkAnd, IsTextFault, IsTzText, List, Ok, Result, Spells, TransitionRule}
-use Rattle.tz_info.proofs.Words.{alternate, ap, apart, end, fault_low, fault_once, fixed, inl, inr, lawful, named, error_number, read, rule, said, subst, sym}
-use Rattle.tz_info.proofs.Words.{text, value_once, ℕ, ℤ, [], ◌∙◌, ◌≡◌, ◌≤◌}
 use Rattle.tz_base.specs.declared.parse_error.ParseError.{ParseError}
+use Rattle.tz_info.proofs.{
+  Words.{Bool, Decided, Err, Error, IfErr, IfOk, IsOkAnd, IsTextFault, IsTzText, List, Ok, Result, Spells, TransitionRule, [], alternate, ap, apart, end},
+  Words.{error_number, fault_low, fault_once, fixed, inl, inr, lawful, named, read, rule, said, subst, sym, text, value_once, ℕ, ℤ, ◌∙◌, ◌≡◌, ◌≤◌},
+}
 use Rattle.tz_info.specs.Steps.Spelled.{IsParsed}
 
 -- no byte follows a TZ string

@@ -1,10 +1,11 @@
 -- White space at both ends of bytes.
-use Rattle.tz_info.proofs.Words.{BeginsBare, EndsBare, IsAsciiWhitespaceBelow, IsAsciiWhitespaceFrom, IsSpace, IsTrimAscii, IsTrimmed, List, ap, arith}
-use Rattle.tz_info.proofs.Words.{cases_lt, cond, drop, false, inl, inr, is_ascii_whitespace, length, length-take, min, refl, slice_index, subst, suc, sym, take}
-use Rattle.tz_info.proofs.Words.{trimmed, trimmed_back, trimmed_front, true, true≢false, unless_space, zero, ℕ, [], ◌++◌, ◌+◌, ◌-◌, ◌<◌, ◌∙◌, ◌∷◌, ◌≡◌, ◌≤◌}
-use Rattle.tz_info.proofs.Words.{IsTrimAsciiStart, length-append}
 use Rattle.std.proofs.lemmas.List.Sums.{prefix_len-le-length, prefix_len_is}
 use Rattle.std.specs.List.{prefix_len}
+use Rattle.tz_info.proofs.{
+  Words.{BeginsBare, EndsBare, IsAsciiWhitespaceBelow, IsAsciiWhitespaceFrom, IsSpace, IsTrimAscii, IsTrimAsciiStart, IsTrimmed, List, [], ap, arith, cases_lt},
+  Words.{cond, drop, false, inl, inr, is_ascii_whitespace, length, length-append, length-take, min, refl, slice_index, subst, suc, sym, take, trimmed},
+  Words.{trimmed_back, trimmed_front, true, true≢false, unless_space, zero, ℕ, ◌++◌, ◌+◌, ◌-◌, ◌<◌, ◌∙◌, ◌∷◌, ◌≡◌, ◌≤◌},
+}
 
 -- ---- what is trimmed, and how it is found
 space_front : (before rest : List ℕ) → IsSpace before → trimmed_front (before ++ rest) ≡ trimmed_front rest

@@ -1,15 +1,19 @@
 -- Local time types: what is read is spelled, what is spelled is read, and an error is that of the fault.
-use Rattle.tz_base.specs.declared.error.Error.TheVariants.{InvalidTzFile, LocalTimeType, OutOfMemory}
-use Rattle.tz_base.specs.declared.error.Expected.TheVariants.{NameWithinDesignations, ZeroByteAfterName, ZeroOrOneAsIsDst}
-use Rattle.tz_info.proofs.Words.{Bool, Decided, Decides-and, Decides-eqb, Decides-ltb, Err, Error, Gives, HasNoZero, HasTypeFault, IsMark, IsNameOrNone}
-use Rattle.tz_info.proofs.Words.{IsUtOffset, List, LocalType, MatchResult, No_text, None, Ok, Option, Other_mark, Other_type, Result, Some, SpellTypes}
-use Rattle.tz_info.proofs.Words.{SpellsType, StandsAt, TypeFault, ap, arith, bind, bind_err, by_error, choice, cond, designation_at, designation_of}
-use Rattle.tz_info.proofs.Words.{done, drop, drop_front, expected_of_place, expected_of_type, false, false_unless, front_of, guard, inl, inr, int_lt}
-use Rattle.tz_info.proofs.Words.{is_name_or_none, is_zero, least_offset, length, length-append, length-take, like, lt_is, lt_true, mark_in, mark_of, name_test}
-use Rattle.tz_info.proofs.Words.{nat_lt, nat_tests, offset_in, place_in, pos, position_from, record_at, refl, refused, subst, suc, sym, take, take-append-drop}
-use Rattle.tz_info.proofs.Words.{take-append_seam, text_before_zero, true, type_in, type_of, type_of_record, values_below, with_next_type, ℕ, ℤ, [], ◌*◌}
-use Rattle.tz_info.proofs.Words.{◌++◌, ◌+◌, ◌<ℤ◌, ◌<◌, ◌==◌, ◌∙◌, ◌∷◌, ◌≡◌, ◌≤ℤ◌, ◌⊎◌}
-use Rattle.tz_info.proofs.{ListLaws.{first_refusal}, RecordLaws.{records}}
+use Rattle.tz_base.specs.{
+  declared.error.Error.TheVariants.{InvalidTzFile, LocalTimeType, OutOfMemory},
+  declared.error.Expected.TheVariants.{NameWithinDesignations, ZeroByteAfterName, ZeroOrOneAsIsDst},
+}
+use Rattle.tz_info.proofs.{
+  ListLaws.{first_refusal},
+  RecordLaws.{records},
+  Words.{Bool, Decided, Decides-and, Decides-eqb, Decides-ltb, Err, Error, Gives, HasNoZero, HasTypeFault, IsMark, IsNameOrNone, IsUtOffset, List, LocalType},
+  Words.{MatchResult, No_text, None, Ok, Option, Other_mark, Other_type, Result, Some, SpellTypes, SpellsType, StandsAt, TypeFault, [], ap, arith, bind},
+  Words.{bind_err, by_error, choice, cond, designation_at, designation_of, done, drop, drop_front, expected_of_place, expected_of_type, false, false_unless},
+  Words.{front_of, guard, inl, inr, int_lt, is_name_or_none, is_zero, least_offset, length, length-append, length-take, like, lt_is, lt_true, mark_in, mark_of},
+  Words.{name_test, nat_lt, nat_tests, offset_in, place_in, pos, position_from, record_at, refl, refused, subst, suc, sym, take, take-append-drop},
+  Words.{take-append_seam, text_before_zero, true, type_in, type_of, type_of_record, values_below, with_next_type, ℕ, ℤ, ◌*◌, ◌++◌, ◌+◌, ◌<ℤ◌, ◌<◌, ◌==◌, ◌∙◌},
+  Words.{◌∷◌, ◌≡◌, ◌≤ℤ◌, ◌⊎◌},
+}
 
 -- ---- the next 0 byte
 zero_takes : (text : List ℕ) (i n : ℕ) → position_from is_zero i text ≡ Some n

@@ -1,13 +1,16 @@
 -- The seconds at which a zone has a type.
-use Rattle.tz_info.proofs.Words.{AreLeapSeconds, IsFirstTyped, IsFromLast, IsLastTyped, IsSearched, IsLeapTime, IsLeapTimeRefused}
-use Rattle.tz_info.proofs.Words.{IsRefusedBy, IsRuleOrNone, IsTypeRefused}
-use Rattle.tz_info.proofs.Words.{IsAfterTyped, IsTyped, IsValid, LeapSecond, List, None, Option, Some, TransitionRule, Zone, arith, by_leap_time}
-use Rattle.tz_info.proofs.Words.{by_rule, inl, inr, ints, least_time, length, neg_ℤ}
-use Rattle.tz_info.proofs.Words.{SFits, by_lt_z, pos, refl, subst, w64, ℤ, ◌+ℤ◌, ◌-ℤ◌, ◌<ℤ◌, ◌<◌, ◌≡◌, ◌≤ℤ◌}
+use Rattle.tz_info.proofs.{
+  EntryChanges.{near_time},
+  RuleChanges.{rule_second},
+  SegmentLaws.{segment_most, segments_rise},
+  SpanLaws.{all_come, out_of_years, typed_between},
+  Words.{AreLeapSeconds, IsAfterTyped, IsFirstTyped, IsFromLast, IsLastTyped, IsLeapTime, IsLeapTimeRefused, IsRefusedBy, IsRuleOrNone, IsSearched},
+  Words.{IsTypeRefused, IsTyped, IsValid, LeapSecond, List, None, Option, SFits, Some, TransitionRule, Zone, arith, by_leap_time, by_lt_z, by_rule, inl, inr},
+  Words.{ints, least_time, length, neg_ℤ, pos, refl, subst, w64, ℤ, ◌+ℤ◌, ◌-ℤ◌, ◌<ℤ◌, ◌<◌, ◌≡◌, ◌≤ℤ◌},
+  ZoneChanges.{refused_on, to_rule},
+  ZoneLaws.{type_decided},
+}
 use Rattle.tz_info.specs.declared.rule.transition_rule.TransitionRule.TheVariants.{Alternate, Fixed}
-use Rattle.tz_info.proofs.{EntryChanges.{near_time}, RuleChanges.{rule_second}, SegmentLaws.{segment_most, segments_rise}}
-use Rattle.tz_info.proofs.{SpanLaws.{all_come, out_of_years, typed_between}}
-use Rattle.tz_info.proofs.{ZoneChanges.{refused_on, to_rule}, ZoneLaws.{type_decided}}
 
 -- before 1970 each second has a leap time
 early_time : (es : List LeapSecond) (u : ℤ) → AreLeapSeconds es → u <ℤ pos 0 → IsLeapTimeRefused es u → ⊥

@@ -1,14 +1,18 @@
 -- The law of a whole file, and what it says of a reader: a file is a zone's or has one first fault.
-use Rattle.tz_base.specs.{declared.error.Error.TheVariants.{InvalidTzFile, OutOfMemory}, declared.error.Expected.TheVariants.{StandardTimeWhereTimeIsUt}}
-use Rattle.tz_info.proofs.Words.{Bool, ContentFault, Decided, Err, Error, FilePieces, FooterFault, GivesInMemory, HasLengths, HasPieces, HasRule, HasTypeFault}
-use Rattle.tz_info.proofs.Words.{IfErr, IfOk, In_contents, In_file, In_footer, In_indicators, In_piece, In_type, IndicatorsAgree, IsErrAnd, IsFileFault}
-use Rattle.tz_info.proofs.Words.{IsOutOfMemory, IsTzFile, IsValid, IsZoneFault, List, ListFault, Lists, LocalType, No_memory, None, Not_valid, Ok, Option}
-use Rattle.tz_info.proofs.Words.{PieceFault, Reads, Result, SayZone, Some, SpellTransitions, SpellTypes, TimeZone, Transition, TransitionRule, Zone, ap, apart}
-use Rattle.tz_info.proofs.Words.{arith, bind, done, either, error_number, fault_low as low, fault_once as one_fault, file_at, footer_of, inl, inr, like}
-use Rattle.tz_info.proofs.Words.{lists_in, made, pieces_at, refl, subst, sym, value_once, with_rule, with_types, zone_of_lists, ℕ, ◌≡◌, ◌≤◌, ◌⊎◌}
 use Rattle.std.proofs.lemmas.Option.{same_Some}
-use Rattle.tz_info.proofs.{ContentLaws.{indicators_law, leap_seconds_law, transitions_law}, FilePieceLaws.{has_lengths, pieces_law}, TypeLaws.{types_law}}
-use Rattle.tz_info.proofs.{FooterLaws.{footer_law as footer_bytes_law}, ListFaults.{has_list_fault, list_fault_low, list_fault_once, list_fault_or_valid}}
+use Rattle.tz_base.specs.declared.error.{Error.TheVariants.{InvalidTzFile, OutOfMemory}, Expected.TheVariants.{StandardTimeWhereTimeIsUt}}
+use Rattle.tz_info.proofs.{
+  ContentLaws.{indicators_law, leap_seconds_law, transitions_law},
+  FilePieceLaws.{has_lengths, pieces_law},
+  FooterLaws.{footer_law as footer_bytes_law},
+  ListFaults.{has_list_fault, list_fault_low, list_fault_once, list_fault_or_valid},
+  TypeLaws.{types_law},
+  Words.{Bool, ContentFault, Decided, Err, Error, FilePieces, FooterFault, GivesInMemory, HasLengths, HasPieces, HasRule, HasTypeFault, IfErr, IfOk},
+  Words.{In_contents, In_file, In_footer, In_indicators, In_piece, In_type, IndicatorsAgree, IsErrAnd, IsFileFault, IsOutOfMemory, IsTzFile, IsValid},
+  Words.{IsZoneFault, List, ListFault, Lists, LocalType, No_memory, None, Not_valid, Ok, Option, PieceFault, Reads, Result, SayZone, Some, SpellTransitions},
+  Words.{SpellTypes, TimeZone, Transition, TransitionRule, Zone, ap, apart, arith, bind, done, either, error_number, fault_low as low, fault_once as one_fault},
+  Words.{file_at, footer_of, inl, inr, like, lists_in, made, pieces_at, refl, subst, sym, value_once, with_rule, with_types, zone_of_lists, ℕ, ◌≡◌, ◌≤◌, ◌⊎◌},
+}
 
 -- ---- what whole pieces say
 abbrev RuleFault : Bool → Option (List ℕ) → Error → Type 0

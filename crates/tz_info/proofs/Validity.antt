@@ -1,7 +1,9 @@
 -- Whether a rule agrees with the last transition.
-use Rattle.tz_info.proofs.Words.{Agrees, Bool, IsRuleRefused, IsTrue, IsUnixTime, IsUnixTimeRefused, LeapSecond, List, LocalType, RuleAt, Some, Transition}
-use Rattle.tz_info.proofs.Words.{TransitionRule, inl, inr, slice_get, sym, ℤ, ◌↔◌, ◌∙◌, ◌≡◌}
-use Rattle.tz_info.proofs.RuleLaws.{rule_not_refused, rule_once}
+use Rattle.tz_info.proofs.{
+  RuleLaws.{rule_not_refused, rule_once},
+  Words.{Agrees, Bool, IsRuleRefused, IsTrue, IsUnixTime, IsUnixTimeRefused, LeapSecond, List, LocalType, RuleAt, Some, Transition, TransitionRule, inl, inr},
+  Words.{slice_get, sym, ℤ, ◌↔◌, ◌∙◌, ◌≡◌},
+}
 
 unix_time_once : (leaps : List LeapSecond) (x u v : ℤ) → IsUnixTime leaps x u → IsUnixTime leaps x v → u ≡ v
 unix_time_once leaps x u v a b = a.difference ∙ sym b.difference

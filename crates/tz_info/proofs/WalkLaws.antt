@@ -1,14 +1,17 @@
 -- A walk from segment to segment: which seconds it adds, why none lies outside it, and how many transitions it reads.
 use Rattle.offset_core.specs.declared.local_result.LocalResult.TheVariants.{None as Never}
-use Rattle.tz_info.proofs.Words.{AreRising, AreUtOffsets, Bool, Counts, IsNear, IsShownIn, IsStart, IsTried, IsValid, IsWallAnswer, IsWide, IsWindow, List}
-use Rattle.tz_info.proofs.Words.{LocalResult, LocalType, None, Option, RoseByWalk, RoseWithin, RuleAt, Shows, Some, Transition, TransitionRule, TypeAt}
-use Rattle.tz_info.proofs.Words.{TypeFrom, Zone, ap, arith, begin_of, come_between, cases_lt, digits, filter, get_or, get_or_default, index_of}
-use Rattle.tz_info.proofs.Words.{inl, inr, ints, least_time, length, reads_more, refl, segment_of, suc, sym, table_count}
-use Rattle.tz_info.proofs.Words.{true, zero, ℕ, ℤ, [], ⊎_elim, ◌⊎◌, ◌+ℤ◌, ◌+◌, ◌-ℤ◌, ◌<ℤ◌, ◌<◌, ◌∙◌, ◌∷◌, ◌≡◌, ◌≤ℤ◌, ◌≤◌}
-use Rattle.tz_info.proofs.{AnswerLaws.{Parts, behind_answer, same_answer}, Candidates.{offset_of_rule}, ExtremeLaws.{at_least_least, at_most_greatest}}
-use Rattle.tz_info.proofs.{TableSearch.{Between}, WallSegments.{leap_time_of, near_of, offset_here, rule_begun, type_of_table}}
-use Rattle.tz_info.proofs.SegmentLaws.{between_of, later_segment, segment_at, segment_here, segment_is, segments_rise, type_from, type_in_from}
-use Rattle.tz_info.proofs.SegmentLaws.{within_of}
+use Rattle.tz_info.proofs.{
+  AnswerLaws.{Parts, behind_answer, same_answer},
+  Candidates.{offset_of_rule},
+  ExtremeLaws.{at_least_least, at_most_greatest},
+  SegmentLaws.{between_of, later_segment, segment_at, segment_here, segment_is, segments_rise, type_from, type_in_from, within_of},
+  TableSearch.{Between},
+  WallSegments.{leap_time_of, near_of, offset_here, rule_begun, type_of_table},
+  Words.{AreRising, AreUtOffsets, Bool, Counts, IsNear, IsShownIn, IsStart, IsTried, IsValid, IsWallAnswer, IsWide, IsWindow, List, LocalResult, LocalType},
+  Words.{None, Option, RoseByWalk, RoseWithin, RuleAt, Shows, Some, Transition, TransitionRule, TypeAt, TypeFrom, Zone, [], ap, arith, begin_of, cases_lt},
+  Words.{come_between, digits, filter, get_or, get_or_default, index_of, inl, inr, ints, least_time, length, reads_more, refl, segment_of, suc, sym},
+  Words.{table_count, true, zero, ℕ, ℤ, ⊎_elim, ◌+ℤ◌, ◌+◌, ◌-ℤ◌, ◌<ℤ◌, ◌<◌, ◌∙◌, ◌∷◌, ◌≡◌, ◌≤ℤ◌, ◌≤◌, ◌⊎◌},
+}
 use Rattle.tz_info.specs.Steps.Walk.{IsTimeWithin}
 
 -- ---- one segment more

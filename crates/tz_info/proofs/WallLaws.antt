@@ -1,8 +1,9 @@
 -- What follows from a wall clock's answer.
 use Rattle.offset_core.specs.declared.local_result.LocalResult.TheVariants.{Ambiguous, None, Single}
-use Rattle.tz_info.proofs.Words.{AreShown, IsAmongShown, IsWallAnswer, LocalResult, LocalType, Shows, TypeAt, Zone, arith, ints, one_wall_answer, subst, ℤ}
-use Rattle.tz_info.proofs.Words.{◌-ℤ◌, ◌≡◌}
-use Rattle.tz_info.proofs.ZoneLaws.{type_once}
+use Rattle.tz_info.proofs.{
+  Words.{AreShown, IsAmongShown, IsWallAnswer, LocalResult, LocalType, Shows, TypeAt, Zone, arith, ints, one_wall_answer, subst, ℤ, ◌-ℤ◌, ◌≡◌},
+  ZoneLaws.{type_once},
+}
 
 -- a second shows the local time by one type
 pub shown_once : (z : Zone) (local u : ℤ) (s t : LocalType) → Shows (TypeAt z) local u s → Shows (TypeAt z) local u t → s ≡ t

@@ -1,10 +1,11 @@
 -- Pieces of the wall-clock axis: one piece more, and two runs of pieces together.
-use Rattle.tz_info.proofs.Words.{All-push, AreInOrder, AreOrdered, ArePassed, IsLastOf, IsNext, IsStep, List, None as none, Option, Piece, Shown, Some as some}
-use Rattle.tz_info.proofs.Words.{all_pairs_push, answer_at, answer_before, ap, arith, by_lt_z, cases_lt, first_come, get_or, inl, inr, ints, le_false, le_true}
-use Rattle.tz_info.proofs.Words.{length, length-map, length_push, map, none-some, pos, refl, suc, sym, take, take_more, times_ordered, together, unwrap_or}
-use Rattle.tz_info.proofs.Words.{zero, ℕ, ℤ, [], ◌++◌, ◌+◌, ◌-◌, ◌<ℤ◌, ◌<◌, ◌∙◌, ◌∷◌, ◌≡◌, ◌≤ℤ◌, ◌≤◌}
+use Rattle.tz_info.proofs.{
+  Prefixes.{last_taken},
+  Words.{All-push, AreInOrder, AreOrdered, ArePassed, IsLastOf, IsNext, IsStep, List, None as none, Option, Piece, Shown, Some as some, [], all_pairs_push},
+  Words.{answer_at, answer_before, ap, arith, by_lt_z, cases_lt, first_come, get_or, inl, inr, ints, le_false, le_true, length, length-map, length_push, map},
+  Words.{none-some, pos, refl, suc, sym, take, take_more, times_ordered, together, unwrap_or, zero, ℕ, ℤ, ◌++◌, ◌+◌, ◌-◌, ◌<ℤ◌, ◌<◌, ◌∙◌, ◌∷◌, ◌≡◌, ◌≤ℤ◌, ◌≤◌},
+}
 use Rattle.tz_info.specs.declared.zone.made.shown.Shown.TheVariants.{Once}
-use Rattle.tz_info.proofs.Prefixes.{last_taken}
 
 abbrev pub Answer : Type 0
 Answer = Shown

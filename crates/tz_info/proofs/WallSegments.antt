@@ -1,19 +1,21 @@
 -- The segments between transitions and between entries: what one segment answers, and how neighbours' pieces make those of both.
 use Rattle.offset_core.specs.declared.local_result.LocalResult.TheVariants.{Ambiguous, None, Single}
-use Rattle.tz_info.proofs.Words.{AreBelow, AreInOrder, AreListed, ArePieces, AreRising, HasType, IsLeapTime, IsMerged, IsNear, IsShownAmong, IsShownIn, IsStart}
-use Rattle.tz_info.proofs.Words.{IsTable, IsUtOffset, IsValid, IsWallAnswer, IsWide, List, ListedAmong, LocalResult, LocalType, None as none, Option, Piece}
-use Rattle.tz_info.proofs.Words.{SFits}
-use Rattle.tz_info.proofs.Words.{Shown, ShownAmong, Shows, Some as some, Transition, TransitionRule, TypeAt, TypeIn, Zone, all_pairs_push, ap, arith, begin_of}
-use Rattle.tz_info.proofs.Words.{by_lt_z, cases_lt, cut_of, index_of, inl, inr, ints, le_false, le_true, length, nat_tests, place_at, refl, segment_of}
-use Rattle.tz_info.proofs.Words.{shown_indexes}
-use Rattle.tz_info.proofs.Words.{subst, suc, table_count, table_count_by, together, w64, zero, ℕ, ℤ, [], ⊎_elim, ◌+ℤ◌, ◌+◌, ◌-ℤ◌, ◌<ℤ◌, ◌<◌, ◌↔◌, ◌∷◌, ◌≡◌}
-use Rattle.tz_info.proofs.Words.{◌≤ℤ◌, ◌≤◌, ◌⊎◌}
-use Rattle.tz_info.specs.declared.zone.made.shown.Shown.TheVariants.{Less, Once, Skipped}
-use Rattle.tz_info.proofs.{AnswerLaws.{Parts, joined_answer, same_answer}, LeapOrder.{leap_times_answer}, LeapStarts.{saturated, saturated_rise}}
-use Rattle.tz_info.proofs.SegmentLaws.{begins_rise, come_at_time, come_from, place_most, places_rise, segment_most}
-use Rattle.tz_info.proofs.SegmentLaws.{type_before, type_from, type_in_before, type_in_from}
 use Rattle.std.proofs.lemmas.Option.{slice_get_within}
-use Rattle.tz_info.proofs.{ShownLaws.{side_together, wall_together}, TableSearch.{Between}, ZoneLaws.{leap_time_decided}}
+use Rattle.tz_info.proofs.{
+  AnswerLaws.{Parts, joined_answer, same_answer},
+  LeapOrder.{leap_times_answer},
+  LeapStarts.{saturated, saturated_rise},
+  SegmentLaws.{begins_rise, come_at_time, come_from, place_most, places_rise, segment_most, type_before, type_from, type_in_before, type_in_from},
+  ShownLaws.{side_together, wall_together},
+  TableSearch.{Between},
+  Words.{AreBelow, AreInOrder, AreListed, ArePieces, AreRising, HasType, IsLeapTime, IsMerged, IsNear, IsShownAmong, IsShownIn, IsStart, IsTable, IsUtOffset},
+  Words.{IsValid, IsWallAnswer, IsWide, List, ListedAmong, LocalResult, LocalType, None as none, Option, Piece, SFits, Shown, ShownAmong, Shows, Some as some},
+  Words.{Transition, TransitionRule, TypeAt, TypeIn, Zone, [], all_pairs_push, ap, arith, begin_of, by_lt_z, cases_lt, cut_of, index_of, inl, inr, ints},
+  Words.{le_false, le_true, length, nat_tests, place_at, refl, segment_of, shown_indexes, subst, suc, table_count, table_count_by, together, w64, zero, ℕ, ℤ},
+  Words.{⊎_elim, ◌+ℤ◌, ◌+◌, ◌-ℤ◌, ◌<ℤ◌, ◌<◌, ◌↔◌, ◌∷◌, ◌≡◌, ◌≤ℤ◌, ◌≤◌, ◌⊎◌},
+  ZoneLaws.{leap_time_decided},
+}
+use Rattle.tz_info.specs.declared.zone.made.shown.Shown.TheVariants.{Less, Once, Skipped}
 
 -- ---- one segment between transitions
 

@@ -1,9 +1,12 @@
 -- Every wall clock has an answer.
 use Rattle.offset_core.specs.declared.local_result.LocalResult.TheVariants.{None, Single}
-use Rattle.tz_info.proofs.Words.{IsRuleOrNone, IsValid, IsWallAnswer, LocalResult, LocalType, Shows, TypeAt, Zone, arith, by_lt_z, inl, inr, ints}
-use Rattle.tz_info.proofs.Words.{joined, neg_ℤ, pos, subst, suc, zero, ℕ, ℤ, ◌+ℤ◌, ◌<ℤ◌, ◌≡◌, ◌≤ℤ◌, ◌⊎◌}
-use Rattle.tz_info.proofs.{AnswerLaws.{behind_answer, same_answer}, ListFaults.{both_known, equal_known}}
-use Rattle.tz_info.proofs.ZoneLaws.{fits_or_not, type_decided, type_not_refused, type_once}
+use Rattle.tz_info.proofs.{
+  AnswerLaws.{behind_answer, same_answer},
+  ListFaults.{both_known, equal_known},
+  Words.{IsRuleOrNone, IsValid, IsWallAnswer, LocalResult, LocalType, Shows, TypeAt, Zone, arith, by_lt_z, inl, inr, ints, joined, neg_ℤ, pos, subst, suc},
+  Words.{zero, ℕ, ℤ, ◌+ℤ◌, ◌<ℤ◌, ◌≡◌, ◌≤ℤ◌, ◌⊎◌},
+  ZoneLaws.{fits_or_not, type_decided, type_not_refused, type_once},
+}
 
 -- each second shows a type, or shows none
 abbrev IsDecided : (ℤ → LocalType → Type 0) → Type 0

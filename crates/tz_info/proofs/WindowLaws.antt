@@ -1,6 +1,8 @@
 -- A local time has one window, and one count of the transitions in it.
-use Rattle.tz_info.proofs.Words.{All-contains, IsGreatest, IsLeast, IsWindowCount, List, Zone, ap, arith, come_between, correction_at, ints, length, sym, ℕ, ℤ}
-use Rattle.tz_info.proofs.Words.{◌+ℤ◌, ◌-ℤ◌, ◌∙◌, ◌≡◌, ◌≤ℤ◌}
+use Rattle.tz_info.proofs.{
+  Words.{All-contains, IsGreatest, IsLeast, IsWindowCount, List, Zone, ap, arith, come_between, correction_at, ints, length, sym, ℕ, ℤ, ◌+ℤ◌, ◌-ℤ◌, ◌∙◌, ◌≡◌},
+  Words.{◌≤ℤ◌},
+}
 
 greatest_once : (xs : List ℤ) (g h : ℤ) → IsGreatest xs g → IsGreatest xs h → g ≡ h
 greatest_once xs g h a b =

@@ -1,13 +1,15 @@
 -- Years of one key have changes at the same places.
 use Rattle.std.proofs.{Math.Dec.{eqb}, lemmas.Bool.{eqb-true}}
-use Rattle.tz_info.proofs.Words.{Bool, List, all_below, and_parts, ap, arith, cond, false, floor_div, floor_mod, floor_mod_parts, floors, get_or, int_le}
-use Rattle.tz_info.proofs.Words.{int_lt, length}
-use Rattle.tz_info.proofs.Words.{ints, is_between, is_leap, kind_place, pos, refl, sym, true, weekday_below, weekday_of, year_start, year_step, ℕ, ℤ}
-use Rattle.tz_info.proofs.Words.{◌*ℤ◌, ◌+ℤ◌, ◌-ℤ◌, ◌&&◌, ◌<◌, ◌∙◌, ◌≡◌, ◌≤ℤ◌}
-use Rattle.tz_info.specs.Steps.ChangingYears.{dst_near, flips_at, has_flip, is_changing, key_years, leap_place, moment_by, turns_in, year_key, years_near}
-use Rattle.tz_info.specs.Steps.Turns.{dst_by}
-use Rattle.tz_info.specs.declared.{rule.changing.YearsNear.{YearsNear}, rule.moments.Turns.{Turns}}
-use Rattle.tz_info.proofs.ListLaws.{one_true}
+use Rattle.tz_info.proofs.{
+  ListLaws.{one_true},
+  Words.{Bool, List, all_below, and_parts, ap, arith, cond, false, floor_div, floor_mod, floor_mod_parts, floors, get_or, int_le, int_lt, ints, is_between},
+  Words.{is_leap, kind_place, length, pos, refl, sym, true, weekday_below, weekday_of, year_start, year_step, ℕ, ℤ, ◌&&◌, ◌*ℤ◌, ◌+ℤ◌, ◌-ℤ◌, ◌<◌, ◌∙◌, ◌≡◌},
+  Words.{◌≤ℤ◌},
+}
+use Rattle.tz_info.specs.{
+  Steps.{ChangingYears.{dst_near, flips_at, has_flip, is_changing, key_years, leap_place, moment_by, turns_in, year_key, years_near}, Turns.{dst_by}},
+  declared.rule.{changing.YearsNear.{YearsNear}, moments.Turns.{Turns}},
+}
 
 -- ---- the same seconds, all as much later
 between_later : (x y u k : ℤ) → is_between (x +ℤ k) (y +ℤ k) (u +ℤ k) ≡ is_between x y u

@@ -1,16 +1,20 @@
 -- When a zone's types change: at its transitions, and after them when the rule's types do.
 use Rattle.std.proofs.lemmas.List.Sums.{sum_by-le-sum_by}
-use Rattle.tz_info.proofs.Words.{Alternate as AlternateRule, AlternateAt, AreLeapSeconds, Change, Bool}
-use Rattle.tz_info.proofs.Words.{HasNoChange, false, true, HaveCome, IsAhead, IsBegin, IsChangeByRule, IsChange, IsFirst, IsFirstChange, IsInTable}
-use Rattle.tz_info.proofs.Words.{IsLast, IsLastChange, IsLeapTime, IsLeapTimeRefused, IsNearest, IsOutOfForce, IsRuleTime, IsValid, LeapSecond, List, LocalType}
-use Rattle.tz_info.proofs.Words.{Option, RuleOrType, SFits, Some, TypeAt, Zone, arith, cases_lt, cond}
-use Rattle.tz_info.proofs.Words.{get_or, inl, inr, int_le, ints, length, nat_tests, passed_count, pos, refl, segment_of, suc, sym}
-use Rattle.tz_info.proofs.Words.{thresholds, w64, zero, ℕ, ℤ, ◌-ℤ◌, ◌-◌, ◌<ℤ◌, ◌<◌, ◌↔◌, ◌∙◌, ◌≡◌, ◌≤ℤ◌, ◌≤◌, ◌⊎◌}
+use Rattle.tz_info.proofs.{
+  ChangeSearch.{nearest_moved},
+  GapLaws.{HasOneType, one_type},
+  LeapEntries.{follow, threshold_at},
+  LeapOrder.{bounded},
+  LeapStarts.{correction_behind, reached_later, times_rise},
+  RuleChanges.{rule_second},
+  SegmentLaws.{come_at_time, later_segment, segment_at, segment_most, segments_rise, type_from, type_in_from},
+  Words.{Alternate as AlternateRule, AlternateAt, AreLeapSeconds, Bool, Change, HasNoChange, HaveCome, IsAhead, IsBegin, IsChange, IsChangeByRule, IsFirst},
+  Words.{IsFirstChange, IsInTable, IsLast, IsLastChange, IsLeapTime, IsLeapTimeRefused, IsNearest, IsOutOfForce, IsRuleTime, IsValid, LeapSecond, List},
+  Words.{LocalType, Option, RuleOrType, SFits, Some, TypeAt, Zone, arith, cases_lt, cond, false, get_or, inl, inr, int_le, ints, length, nat_tests},
+  Words.{passed_count, pos, refl, segment_of, suc, sym, thresholds, true, w64, zero, ℕ, ℤ, ◌-ℤ◌, ◌-◌, ◌<ℤ◌, ◌<◌, ◌↔◌, ◌∙◌, ◌≡◌, ◌≤ℤ◌, ◌≤◌, ◌⊎◌},
+  ZoneLaws.{leap_time_decided, type_once},
+}
 use Rattle.tz_info.specs.declared.rule.transition_rule.TransitionRule.TheVariants.{Alternate}
-use Rattle.tz_info.proofs.{ChangeSearch.{nearest_moved}, GapLaws.{HasOneType, one_type}, LeapEntries.{follow, threshold_at}, LeapOrder.{bounded}}
-use Rattle.tz_info.proofs.{LeapStarts.{correction_behind, reached_later, times_rise}, RuleChanges.{rule_second}}
-use Rattle.tz_info.proofs.SegmentLaws.{come_at_time, later_segment, segment_at, segment_most, segments_rise, type_from, type_in_from}
-use Rattle.tz_info.proofs.ZoneLaws.{leap_time_decided, type_once}
 
 -- ---- which seconds have a leap time
 one_counted : (t u v : ℤ) → u ≤ℤ v → cond (int_le t u) 1 0 ≤ cond (int_le t v) 1 0

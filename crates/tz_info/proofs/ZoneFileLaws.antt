@@ -1,8 +1,10 @@
 -- The zone of a file: of the lists that are read, those that make a valid zone.
 use Rattle.tz_base.specs.declared.error.Error.TheVariants.{OutOfMemory}
-use Rattle.tz_info.proofs.Words.{Err, Error, FilePieces, HasPieces, IfErr, IfOk, In_file, IsTzFile, IsValid, IsZoneFault, List, ListFault, MatchResult}
-use Rattle.tz_info.proofs.Words.{No_memory, Not_valid, Ok, Result, TimeZone, Zone, inl, inr, subst, sym, ℕ, ◌∙◌, ◌≡◌, ◌⊎◌}
-use Rattle.tz_info.proofs.TzFileLaws.{one_zone}
+use Rattle.tz_info.proofs.{
+  TzFileLaws.{one_zone},
+  Words.{Err, Error, FilePieces, HasPieces, IfErr, IfOk, In_file, IsTzFile, IsValid, IsZoneFault, List, ListFault, MatchResult, No_memory, Not_valid, Ok},
+  Words.{Result, TimeZone, Zone, inl, inr, subst, sym, ℕ, ◌∙◌, ◌≡◌, ◌⊎◌},
+}
 
 -- what making a zone of lists answers
 abbrev pub Makes : Zone → Result TimeZone Error → Type 0

@@ -1,12 +1,14 @@
 -- At each second a zone has one type, of its list or of its rule, or it is refused, and never both.
-use Rattle.tz_info.proofs.Words.{HasType, IsBeforeLast, IsFromLast, IsLeapTime, IsLeapTimeRefused, IsRefusedBy, IsRuleOrNone}
-use Rattle.tz_info.proofs.Words.{IsTypeOf, IsTypeRefused, IsValid, LeapSecond, List, LocalType, None, Option, RuleOrElse, SFits, Some, Transition}
-use Rattle.tz_info.proofs.Words.{TransitionRule, TypeAt, Zone, arith, by_leap_time, by_lt_z, by_rule, cases_lt, correction_at, corrections}
-use Rattle.tz_info.proofs.Words.{count_by-le-length, get_or, index_at, inl, inr, int_le, ints, last_else, le_false, le_true, length, length-filter, map}
-use Rattle.tz_info.proofs.Words.{error_number, passed, passed_count, pos, refl, slice_get, suc, sym, type_error, w64, zero, zone_of_rule, ℕ, ℤ, [], ⊎_elim}
-use Rattle.tz_info.proofs.Words.{◌+ℤ◌, ◌<◌, ◌∙◌, ◌∷◌, ◌≡◌, ◌≤◌, ◌⊎◌}
 use Rattle.std.proofs.lemmas.Option.{slice_get_cases, slice_get_within}
-use Rattle.tz_info.proofs.{RuleLaws.{rule_decided, rule_once}, SegmentLaws.{passed_here}}
+use Rattle.tz_info.proofs.{
+  RuleLaws.{rule_decided, rule_once},
+  SegmentLaws.{passed_here},
+  Words.{HasType, IsBeforeLast, IsFromLast, IsLeapTime, IsLeapTimeRefused, IsRefusedBy, IsRuleOrNone, IsTypeOf, IsTypeRefused, IsValid, LeapSecond, List},
+  Words.{LocalType, None, Option, RuleOrElse, SFits, Some, Transition, TransitionRule, TypeAt, Zone, [], arith, by_leap_time, by_lt_z, by_rule, cases_lt},
+  Words.{correction_at, corrections, count_by-le-length, error_number, get_or, index_at, inl, inr, int_le, ints, last_else, le_false, le_true, length},
+  Words.{length-filter, map, passed, passed_count, pos, refl, slice_get, suc, sym, type_error, w64, zero, zone_of_rule, ℕ, ℤ, ⊎_elim, ◌+ℤ◌, ◌<◌, ◌∙◌, ◌∷◌, ◌≡◌},
+  Words.{◌≤◌, ◌⊎◌},
+}
 
 passed_at_most : (z : Zone) (x : ℤ) → length (passed z.transitions x) ≤ length z.transitions
 passed_at_most z x =

@@ -1,5 +1,4 @@
-use Rattle.tz_info.proofs.Words.{ap, arith, length, pieces_of}
-use Rattle.tz_info.proofs.FilePlaceLaws.{fit}
+use Rattle.tz_info.proofs.{FilePlaceLaws.{fit}, Words.{ap, arith, length, pieces_of}}
 use Rattle.tz_info.proofs.file.place.part_places.Goals as goal
 
 pub overflow_sub-footer : goal.overflow_sub-footer

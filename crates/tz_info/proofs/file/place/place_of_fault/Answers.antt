@@ -1,5 +1,4 @@
-use Rattle.tz_info.proofs.Words.{pieces_of}
-use Rattle.tz_info.proofs.FilePieceLaws.{has_lengths, pieces_law}
+use Rattle.tz_info.proofs.{FilePieceLaws.{has_lengths, pieces_law}, Words.{pieces_of}}
 use Rattle.tz_info.specs.FilePlaces.{In_contents, In_piece}
 use Rattle.tz_info.proofs.file.place.place_of_fault.Goals as goal
 

@@ -1,6 +1,6 @@
-use Rattle.tz_info.proofs.{Words.{SFits, arith, ints, w64, ◌-ℤ◌, ◌≡◌}, QuestionLaws.{asked_fixed}}
-use Rattle.tz_info.proofs.{Candidates.{asked_found, asked_one, one_fixed}, rule.wall_clock.answer_of_one.Goals.{After-second_showing}}
+use Rattle.tz_info.proofs.{Candidates.{asked_found, asked_one, one_fixed}, QuestionLaws.{asked_fixed}, Words.{SFits, arith, ints, w64, ◌-ℤ◌, ◌≡◌}}
 use Rattle.tz_info.proofs.rule.wall_clock.answer_of_one.Goals as goal
+use Rattle.tz_info.proofs.rule.wall_clock.answer_of_one.Goals.{After-second_showing}
 
 -- the second that is asked fits, and is the one of the type's offset
 second : (c : After-second_showing) → SFits w64 c.args.local × SFits w64 c.args.from × SFits w64 (c.args.local -ℤ c.args.only.now.offset)

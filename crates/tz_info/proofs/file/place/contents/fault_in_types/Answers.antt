@@ -1,5 +1,4 @@
-use Rattle.tz_info.proofs.Words.{arith, pieces_of}
-use Rattle.tz_info.proofs.FilePlaceLaws.{next_type, type_place}
+use Rattle.tz_info.proofs.{FilePlaceLaws.{next_type, type_place}, Words.{arith, pieces_of}}
 use Rattle.tz_info.proofs.file.place.contents.fault_in_types.Goals as goal
 
 pub loop-k-preserved : goal.loop-k-preserved

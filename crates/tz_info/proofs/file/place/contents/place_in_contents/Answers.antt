@@ -1,5 +1,4 @@
-use Rattle.tz_info.proofs.Words.{List, Option, ap, arith, length, ℕ}
-use Rattle.tz_info.proofs.FilePlaceLaws.{footer_within}
+use Rattle.tz_info.proofs.{FilePlaceLaws.{footer_within}, Words.{List, Option, ap, arith, length, ℕ}}
 use Rattle.tz_info.specs.FilePlaces.{In_footer, In_indicators, In_lists, In_type, footer_bytes}
 use Rattle.tz_info.proofs.file.place.contents.place_in_contents.Goals as goal
 

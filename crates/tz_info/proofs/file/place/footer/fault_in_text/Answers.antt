@@ -1,5 +1,4 @@
-use Rattle.tz_info.proofs.Words.{Err, Ok, Some, sym, ◌∙◌}
-use Rattle.tz_info.proofs.{FilePlaceLaws.{no_zero}, PosixLaws.{not_empty}, TextLaws.{fault_by, found_by}}
+use Rattle.tz_info.proofs.{FilePlaceLaws.{no_zero}, PosixLaws.{not_empty}, TextLaws.{fault_by, found_by}, Words.{Err, Ok, Some, sym, ◌∙◌}}
 use Rattle.tz_info.specs.FilePlaces.{Colon, In_string, Zero}
 use Rattle.tz_info.proofs.file.place.footer.fault_in_text.Goals as goal
 

@@ -1,5 +1,4 @@
-use Rattle.tz_info.proofs.Words.{arith, refl, sym, ◌∙◌}
-use Rattle.tz_info.proofs.FilePlaceLaws.{is_between, not_between, text_fits, text_place, text_says}
+use Rattle.tz_info.proofs.{FilePlaceLaws.{is_between, not_between, text_fits, text_place, text_says}, Words.{arith, refl, sym, ◌∙◌}}
 use Rattle.tz_info.specs.FilePlaces.{No_first, No_last}
 use Rattle.tz_info.proofs.file.place.footer.fault_in_utf8.Goals as goal
 

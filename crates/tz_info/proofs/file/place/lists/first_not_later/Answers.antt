@@ -1,5 +1,4 @@
-use Rattle.tz_info.proofs.Words.{arith, ints, pieces_of}
-use Rattle.tz_info.proofs.FilePlaceLaws.{next_later}
+use Rattle.tz_info.proofs.{FilePlaceLaws.{next_later}, Words.{arith, ints, pieces_of}}
 use Rattle.tz_info.proofs.file.place.lists.first_not_later.Goals as goal
 
 pub loop-k-preserved : goal.loop-k-preserved

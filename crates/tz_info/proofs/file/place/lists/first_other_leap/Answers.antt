@@ -1,5 +1,4 @@
-use Rattle.tz_info.proofs.Words.{arith, pieces_of}
-use Rattle.tz_info.proofs.FilePlaceLaws.{next_false}
+use Rattle.tz_info.proofs.{FilePlaceLaws.{next_false}, Words.{arith, pieces_of}}
 use Rattle.tz_info.specs.FilePlaces.{IsOtherLeap}
 use Rattle.tz_info.proofs.file.place.lists.first_other_leap.Goals as goal
 

@@ -1,5 +1,4 @@
-use Rattle.tz_info.proofs.Words.{ap, length, sym}
-use Rattle.tz_info.proofs.FilePlaceLaws.{first_left, later_again}
+use Rattle.tz_info.proofs.{FilePlaceLaws.{first_left, later_again}, Words.{ap, length, sym}}
 use Rattle.tz_info.proofs.file.place.pieces.left_after_block.Goals as goal
 
 pub returns-in-One : goal.returns-in-One

@@ -1,5 +1,4 @@
-use Rattle.tz_info.proofs.Words.{sym}
-use Rattle.tz_info.proofs.FilePlaceLaws.{version_fault}
+use Rattle.tz_info.proofs.{FilePlaceLaws.{version_fault}, Words.{sym}}
 use Rattle.tz_info.proofs.file.place.pieces.left_from_version.Goals as goal
 
 pub returns-in-Err : goal.returns-in-Err

@@ -1,5 +1,4 @@
-use Rattle.tz_info.proofs.Words.{ap, length, sym, ◌∙◌}
-use Rattle.tz_info.proofs.FilePlaceLaws.{rest_bad, rest_left}
+use Rattle.tz_info.proofs.{FilePlaceLaws.{rest_bad, rest_left}, Words.{ap, length, sym, ◌∙◌}}
 use Rattle.tz_info.specs.FileBlocks.{parts_of}
 use Rattle.tz_info.proofs.file.place.pieces.left_of_block.Goals as goal
 

@@ -1,5 +1,4 @@
-use Rattle.tz_info.proofs.Words.{ap, length, sym, ◌∙◌}
-use Rattle.tz_info.proofs.FilePlaceLaws.{file_bad, file_left}
+use Rattle.tz_info.proofs.{FilePlaceLaws.{file_bad, file_left}, Words.{ap, length, sym, ◌∙◌}}
 use Rattle.tz_info.proofs.file.place.pieces.left_of_file.Goals as goal
 
 pub returns-in-Ok : goal.returns-in-Ok

@@ -1,5 +1,4 @@
-use Rattle.tz_info.proofs.Words.{ap, length, sym, ◌∙◌}
-use Rattle.tz_info.proofs.FilePlaceLaws.{later_bad, later_left}
+use Rattle.tz_info.proofs.{FilePlaceLaws.{later_bad, later_left}, Words.{ap, length, sym, ◌∙◌}}
 use Rattle.tz_info.proofs.file.place.pieces.left_of_later.Goals as goal
 
 pub returns-in-Ok : goal.returns-in-Ok

@@ -1,5 +1,4 @@
-use Rattle.tz_info.proofs.Words.{ap, length, sym}
-use Rattle.tz_info.proofs.FilePlaceLaws.{magic_left, magic_short}
+use Rattle.tz_info.proofs.{FilePlaceLaws.{magic_left, magic_short}, Words.{ap, length, sym}}
 use Rattle.tz_info.proofs.file.place.pieces.left_of_magic.Goals as goal
 
 pub returns-then-bytes-lt4 : goal.returns-then-bytes-lt4

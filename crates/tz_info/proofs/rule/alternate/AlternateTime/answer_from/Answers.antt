@@ -1,10 +1,12 @@
-use Rattle.tz_info.proofs.Words.{Bool, SFits, TypeFrom, and_parts, arith, ints, not, rules, to_z-of_z, type_when, w32, w64}
-use Rattle.tz_info.proofs.Words.{◌∙◌, ◌≡◌, ◌≢◌, ◌≤ℤ◌}
+use Rattle.tz_info.proofs.{
+  Candidates.{asked_both, asked_one, one_second},
+  QuestionLaws.{asked_once},
+  SeasonAnswers.{alike, asked_in_turn, either, greater, season_for, std_too},
+  Words.{Bool, SFits, TypeFrom, and_parts, arith, ints, not, rules, to_z-of_z, type_when, w32, w64, ◌∙◌, ◌≡◌, ◌≢◌, ◌≤ℤ◌},
+}
 use Rattle.tz_info.specs.declared.rule.transition_rule.TransitionRule.TheVariants.{Alternate}
-use Rattle.tz_info.proofs.{Candidates.{asked_both, asked_one, one_second}, QuestionLaws.{asked_once}}
-use Rattle.tz_info.proofs.SeasonAnswers.{alike, asked_in_turn, either, greater, season_for, std_too}
-use Rattle.tz_info.proofs.rule.alternate.AlternateTime.answer_from.Goals.{After-offset-last}
 use Rattle.tz_info.proofs.rule.alternate.AlternateTime.answer_from.Goals as goal
+use Rattle.tz_info.proofs.rule.alternate.AlternateTime.answer_from.Goals.{After-offset-last}
 
 -- what was given fits, and so do the offsets, which are those of the rule's types, the greater one first
 offsets : (c : After-offset-last)

@@ -1,5 +1,4 @@
-use Rattle.tz_info.proofs.Words.{changing_keys, seconds_by_kind, to_z-of_z, ◌≡◌}
-use Rattle.tz_info.proofs.ChangingYears.{by_key}
+use Rattle.tz_info.proofs.{ChangingYears.{by_key}, Words.{changing_keys, seconds_by_kind, to_z-of_z, ◌≡◌}}
 use Rattle.tz_info.specs.Steps.ChangingYears.{year_key}
 use Rattle.tz_info.proofs.rule.alternate.AlternateTime.changes_in_year.Goals as goal
 

@@ -1,10 +1,11 @@
 use Rattle.std.proofs.lemmas.Int.{clamps}
-use Rattle.tz_info.proofs.RuleReached.{IsGreater, changed_first, still_first}
-use Rattle.tz_info.proofs.Words.{IsNear, SFits, ap, arith, change_held, inl, inr, ints, by_lt_z, rules, to_z-of_z, w32, w64, ℤ, ◌-ℤ◌, ◌<ℤ◌, ◌↔◌, ◌∙◌, ◌≡◌, ◌≤ℤ◌}
-use Rattle.tz_info.proofs.Words.{LocalType}
-use Rattle.tz_info.proofs.rule.alternate.AlternateTime.first_since.Goals.{After-max-low, After-max-shown}
-use Rattle.tz_info.proofs.rule.alternate.AlternateTime.first_since.Goals.{in_default-via-in-Some+else-change-shown, in_default-via-in_default}
+use Rattle.tz_info.proofs.{
+  RuleReached.{IsGreater, changed_first, still_first},
+  Words.{IsNear, LocalType, SFits, ap, arith, by_lt_z, change_held, inl, inr, ints, rules, to_z-of_z, w32, w64, ℤ, ◌-ℤ◌, ◌<ℤ◌, ◌↔◌, ◌∙◌, ◌≡◌, ◌≤ℤ◌},
+}
 use Rattle.tz_info.proofs.rule.alternate.AlternateTime.first_since.Goals as goal
+use Rattle.tz_info.proofs.rule.alternate.AlternateTime.first_since.Goals.{After-max-low, After-max-shown, in_default-via-in-Some+else-change-shown}
+use Rattle.tz_info.proofs.rule.alternate.AlternateTime.first_since.Goals.{in_default-via-in_default}
 
 -- the greater of the two offsets
 greater : (c : After-max-low) → IsGreater c.args.self.now c.max-greatest.result

@@ -1,5 +1,4 @@
-use Rattle.tz_info.proofs.Words.{SFits, arith, ints, rules, to_z-of_z, w64}
-use Rattle.tz_info.proofs.{ChangingYears.{calm_margin, calm_type}, Neighbours.{second_high, second_low}}
+use Rattle.tz_info.proofs.{ChangingYears.{calm_margin, calm_type}, Neighbours.{second_high, second_low}, Words.{SFits, arith, ints, rules, to_z-of_z, w64}}
 use Rattle.tz_info.proofs.rule.alternate.AlternateTime.is_dst_in_year.Goals as goal
 
 pub returns-then-is_calm : goal.returns-then-is_calm

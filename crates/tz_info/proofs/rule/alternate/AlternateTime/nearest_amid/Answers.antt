@@ -1,5 +1,7 @@
-use Rattle.tz_info.proofs.Words.{SFits, ap, change_found, of_z, rules, sym, to_z, to_z-of_z, w64, ◌∙◌, ◌≡◌}
-use Rattle.tz_info.proofs.CalmYears.{nearest_of_two, none_of_alike, none_of_one}
+use Rattle.tz_info.proofs.{
+  CalmYears.{nearest_of_two, none_of_alike, none_of_one},
+  Words.{SFits, ap, change_found, of_z, rules, sym, to_z, to_z-of_z, w64, ◌∙◌, ◌≡◌},
+}
 use Rattle.tz_info.proofs.rule.alternate.AlternateTime.nearest_amid.Goals as goal
 
 pub returns-then-asked : goal.returns-then-asked

@@ -1,8 +1,11 @@
-use Rattle.tz_base.specs.{declared.error.Expected.TheVariants.{EndWithinWeek}}
-use Rattle.tz_info.proofs.Words.{Alternate, DayTime, IsAlternate, IsWithinDay, IsWithinWeek, LocalType, SFits, arith, expected_of_alternate, ints, lt_true}
-use Rattle.tz_info.proofs.Words.{neg_ℤ, pos, refl, rules, seconds_by_kind, subst, to_z-of_z, true, w64, ℤ, ◌<ℤ◌, ◌≡◌}
+use Rattle.tz_base.specs.declared.error.Expected.TheVariants.{EndWithinWeek}
+use Rattle.tz_info.proofs.{
+  KindLaws.{within_years},
+  Neighbours.{near_years},
+  Words.{Alternate, DayTime, IsAlternate, IsWithinDay, IsWithinWeek, LocalType, SFits, arith, expected_of_alternate, ints, lt_true, neg_ℤ, pos, refl, rules},
+  Words.{seconds_by_kind, subst, to_z-of_z, true, w64, ℤ, ◌<ℤ◌, ◌≡◌},
+}
 use Rattle.tz_info.specs.Rules.{is_strictly_within}
-use Rattle.tz_info.proofs.{KindLaws.{within_years}, Neighbours.{near_years}}
 use Rattle.tz_info.proofs.rule.alternate.AlternateTime.new.Goals as goal
 
 shown : LocalType → LocalType → DayTime → DayTime → Alternate

@@ -1,6 +1,9 @@
 use Rattle.std.proofs.lemmas.Int.{clamps}
-use Rattle.tz_info.proofs.{RuleChanges.{rule_second}, RuleReached.{changed_reached, still_reached}}
-use Rattle.tz_info.proofs.Words.{SFits, arith, change_held, ints, pos, rules, to_z-of_z, w64, ◌-ℤ◌}
+use Rattle.tz_info.proofs.{
+  RuleChanges.{rule_second},
+  RuleReached.{changed_reached, still_reached},
+  Words.{SFits, arith, change_held, ints, pos, rules, to_z-of_z, w64, ◌-ℤ◌},
+}
 use Rattle.tz_info.proofs.rule.alternate.AlternateTime.reached_since.Goals as goal
 
 pub shown_at-requires : goal.shown_at-requires

@@ -1,9 +1,9 @@
-use Rattle.tz_info.proofs.Words.{Alternate, Bool, IsInStretch, SFits, end_in, false, refl, rules, start_in, sym, to_z-of_z, true, turn_of, w64, ℤ, ◌∙◌, ◌≡◌}
-use Rattle.tz_info.proofs.Words.{◌≢◌}
-use Rattle.tz_info.proofs.Words.{cond}
-use Rattle.tz_info.proofs.CalmYears.{turn_change}
-use Rattle.tz_info.proofs.rule.alternate.AlternateTime.turn_within.Goals.{After-moment-at}
+use Rattle.tz_info.proofs.{
+  CalmYears.{turn_change},
+  Words.{Alternate, Bool, IsInStretch, SFits, cond, end_in, false, refl, rules, start_in, sym, to_z-of_z, true, turn_of, w64, ℤ, ◌∙◌, ◌≡◌, ◌≢◌},
+}
 use Rattle.tz_info.proofs.rule.alternate.AlternateTime.turn_within.Goals as goal
+use Rattle.tz_info.proofs.rule.alternate.AlternateTime.turn_within.Goals.{After-moment-at}
 
 turn_is : (a : Alternate) (to_dst : Bool) (year start end : ℤ) → start ≡ start_in a year → end ≡ end_in a year → cond to_dst start end ≡ turn_of a to_dst year
 turn_is a true year start end s e = s

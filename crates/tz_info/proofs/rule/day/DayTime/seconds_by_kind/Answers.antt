@@ -1,6 +1,8 @@
 use Rattle.std.proofs.lemmas.List.{map-append, take_more_set}
-use Rattle.tz_info.proofs.Words.{SFits, ap, arith, day_time_second, length, length-set, map, refl, rules, seconds_by_kind, sym, take_all, take_more, to_z-of_z}
-use Rattle.tz_info.proofs.Words.{w64, ◌<◌, ◌∙◌, ◌≡◌, ◌≤◌}
+use Rattle.tz_info.proofs.{
+  Words.{SFits, ap, arith, day_time_second, length, length-set, map, refl, rules, seconds_by_kind, sym, take_all, take_more, to_z-of_z, w64, ◌<◌, ◌∙◌, ◌≡◌},
+  Words.{◌≤◌},
+}
 use Rattle.tz_info.proofs.rule.day.DayTime.seconds_by_kind.Goals as goal
 
 pub loop-kind-preserved : goal.loop-kind-preserved

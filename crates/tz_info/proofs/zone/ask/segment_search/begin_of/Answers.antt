@@ -1,5 +1,4 @@
-use Rattle.tz_info.proofs.Words.{SFits, arith, rules, sym, to_z-of_z, w64, ◌+◌, ◌-◌, ◌≡◌}
-use Rattle.tz_info.proofs.SegmentLaws.{begin_first}
+use Rattle.tz_info.proofs.{SegmentLaws.{begin_first}, Words.{SFits, arith, rules, sym, to_z-of_z, w64, ◌+◌, ◌-◌, ◌≡◌}}
 use Rattle.tz_info.proofs.zone.ask.segment_search.begin_of.Goals as goal
 
 pub returns-then-place-eq0-clause-begin : goal.returns-then-place-eq0-clause-begin

@@ -1,5 +1,4 @@
-use Rattle.tz_info.proofs.Words.{SFits, arith, ints, length, refl, rules, slice_get_read, sym, to_z-of_z, w32, w64, ◌+◌, ◌-◌, ◌∙◌, ◌≡◌}
-use Rattle.tz_info.proofs.OnePass.{end_before}
+use Rattle.tz_info.proofs.{OnePass.{end_before}, Words.{SFits, arith, ints, length, refl, rules, slice_get_read, sym, to_z-of_z, w32, w64, ◌+◌, ◌-◌, ◌∙◌, ◌≡◌}}
 use Rattle.tz_info.proofs.zone.ask.segment_search.end_at.Goals as goal
 
 pub returns-clause-end : goal.returns-clause-end

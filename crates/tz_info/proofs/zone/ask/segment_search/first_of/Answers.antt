@@ -1,5 +1,4 @@
-use Rattle.tz_info.proofs.Words.{SFits, length, refl, rules, slice_get_read, to_z-of_z, w32, w64, ◌-ℤ◌, ◌≡◌}
-use Rattle.tz_info.proofs.{SegmentEndLaws.{first_of_made}}
+use Rattle.tz_info.proofs.{SegmentEndLaws.{first_of_made}, Words.{SFits, length, refl, rules, slice_get_read, to_z-of_z, w32, w64, ◌-ℤ◌, ◌≡◌}}
 use Rattle.tz_info.proofs.zone.ask.segment_search.first_of.Goals as goal
 
 pub returns-clause-first : goal.returns-clause-first

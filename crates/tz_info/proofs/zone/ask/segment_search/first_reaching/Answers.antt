@@ -1,5 +1,8 @@
-use Rattle.tz_info.proofs.Words.{arith, digits-le, false≢true, length, suc, sym, to_z-of_z, ◌+◌, ◌-◌, ◌/◌, ◌≡◌, ◌∙◌}
-use Rattle.tz_info.proofs.{DigitLaws.{digits-less}, SegmentEndLaws.{first_found, never_reached}}
+use Rattle.tz_info.proofs.{
+  DigitLaws.{digits-less},
+  SegmentEndLaws.{first_found, never_reached},
+  Words.{arith, digits-le, false≢true, length, suc, sym, to_z-of_z, ◌+◌, ◌-◌, ◌/◌, ◌∙◌, ◌≡◌},
+}
 use Rattle.tz_info.proofs.zone.ask.segment_search.first_reaching.Goals as goal
 
 pub loop-count-init : goal.loop-count-init

@@ -1,5 +1,4 @@
-use Rattle.tz_info.proofs.Words.{SFits, rules, to_z-of_z, w64}
-use Rattle.tz_info.proofs.SegmentEndLaws.{by_test}
+use Rattle.tz_info.proofs.{SegmentEndLaws.{by_test}, Words.{SFits, rules, to_z-of_z, w64}}
 use Rattle.tz_info.proofs.zone.ask.segment_search.is_reached.Goals as goal
 
 pub returns-clause-reached : goal.returns-clause-reached

@@ -1,5 +1,7 @@
-use Rattle.tz_info.proofs.Words.{SFits, arith, get_or, get_or_default, pos, rules, to_z-of_z, w64, ◌-◌, ◌∙◌, ◌≡◌}
-use Rattle.tz_info.proofs.SegmentEndLaws.{reached_latest, reached_plain}
+use Rattle.tz_info.proofs.{
+  SegmentEndLaws.{reached_latest, reached_plain},
+  Words.{SFits, arith, get_or, get_or_default, pos, rules, to_z-of_z, w64, ◌-◌, ◌∙◌, ◌≡◌},
+}
 use Rattle.tz_info.proofs.zone.ask.segment_search.latest_end.Goals as goal
 
 pub latest_end-requires-clause-place : goal.latest_end-requires-clause-place

@@ -1,6 +1,8 @@
-use Rattle.tz_info.proofs.LeapSearch.{last_with_leap_time, none_refused, refused_more, refuses_by_entry}
-use Rattle.tz_info.proofs.{Prefixes.{last_taken}}
-use Rattle.tz_info.proofs.Words.{LeapSecond, SFits, add-one, arith, get_or, ints, length, pos, refl, rules, sym, to_z, to_z-of_z, w32, w64, w128, ◌-ℤ◌, ◌≡◌}
+use Rattle.tz_info.proofs.{
+  LeapSearch.{last_with_leap_time, none_refused, refused_more, refuses_by_entry},
+  Prefixes.{last_taken},
+  Words.{LeapSecond, SFits, add-one, arith, get_or, ints, length, pos, refl, rules, sym, to_z, to_z-of_z, w128, w32, w64, ◌-ℤ◌, ◌≡◌},
+}
 use Rattle.tz_info.proofs.zone.lists.leap_seconds.last_with_leap_time.Goals as goal
 
 abbrev none : LeapSecond

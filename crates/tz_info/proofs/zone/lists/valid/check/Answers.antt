@@ -1,8 +1,9 @@
-use Rattle.tz_info.proofs.Words.{All, Bool, List, LocalType, No_type, Not_rising, Other_index, Other_leaps, Other_rule, arith, false, length, nat_tests, true}
-use Rattle.tz_info.proofs.Words.{◌<◌}
-use Rattle.tz_info.proofs.Words.{Transition, get_or-map, length-map, map, ◌==◌, ◌≡◌}
 use Rattle.std.proofs.lemmas.List.Elements.{All-map}
-use Rattle.tz_info.proofs.ListFaults.{with_fault}
+use Rattle.tz_info.proofs.{
+  ListFaults.{with_fault},
+  Words.{All, Bool, List, LocalType, No_type, Not_rising, Other_index, Other_leaps, Other_rule, Transition, arith, false, get_or-map, length, length-map, map},
+  Words.{nat_tests, true, ◌<◌, ◌==◌, ◌≡◌},
+}
 use Rattle.tz_info.proofs.zone.lists.valid.check.Goals as goal
 
 some : (types : List LocalType) (b : Bool) → b ≡ (length types == 0) → b ≡ false → 0 < length types

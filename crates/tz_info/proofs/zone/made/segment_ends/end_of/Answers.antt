@@ -1,5 +1,4 @@
-use Rattle.tz_info.proofs.Words.{SFits, ap, cut_of, rules, sym, to_z-of_z, w64, ◌∙◌}
-use Rattle.tz_info.proofs.OnePass.{end_before}
+use Rattle.tz_info.proofs.{OnePass.{end_before}, Words.{SFits, ap, cut_of, rules, sym, to_z-of_z, w64, ◌∙◌}}
 use Rattle.tz_info.proofs.zone.made.segment_ends.end_of.Goals as goal
 
 pub returns : goal.returns

@@ -1,5 +1,4 @@
-use Rattle.tz_info.proofs.Words.{SFits, arith, least_time, refl, rules, suc, to_z-of_z, w64, ◌+◌, ◌≡◌}
-use Rattle.tz_info.proofs.SegmentEndLaws.{all_maxima, maxima_more, no_maxima}
+use Rattle.tz_info.proofs.{SegmentEndLaws.{all_maxima, maxima_more, no_maxima}, Words.{SFits, arith, least_time, refl, rules, suc, to_z-of_z, w64, ◌+◌, ◌≡◌}}
 use Rattle.tz_info.proofs.zone.made.segment_ends.maxima_of.Goals as goal
 
 pub loop-place-init : goal.loop-place-init

@@ -1,5 +1,8 @@
-use Rattle.tz_info.proofs.{TableLaws.{table_below, table_typed}, Words.{IsValid, Zone, ap, sym, to_z-of_z, ◌∙◌}}
-use Rattle.tz_info.proofs.WallSegments.{all_segments, table_alone, table_first}
+use Rattle.tz_info.proofs.{
+  TableLaws.{table_below, table_typed},
+  WallSegments.{all_segments, table_alone, table_first},
+  Words.{IsValid, Zone, ap, sym, to_z-of_z, ◌∙◌},
+}
 use Rattle.tz_info.proofs.zone.time_zone.TimeZone.answer_behind.Goals as goal
 
 pub types_of-table-requires : goal.types_of-table-requires

@@ -1,8 +1,9 @@
-use Rattle.tz_info.proofs.Words.{SFits, arith, by_lt_z, ints, pos, rules, span_held, to_z-of_z, w64, ◌+ℤ◌, ◌-ℤ◌, ◌<ℤ◌}
-use Rattle.tz_info.proofs.Words.{◌≤ℤ◌}
-use Rattle.tz_info.proofs.FoldLaws.{begins, begins_at, fold_at, goes_back}
-use Rattle.tz_info.proofs.zone.time_zone.TimeZone.change_back.Goals.{After-has_reached}
+use Rattle.tz_info.proofs.{
+  FoldLaws.{begins, begins_at, fold_at, goes_back},
+  Words.{SFits, arith, by_lt_z, ints, pos, rules, span_held, to_z-of_z, w64, ◌+ℤ◌, ◌-ℤ◌, ◌<ℤ◌, ◌≤ℤ◌},
+}
 use Rattle.tz_info.proofs.zone.time_zone.TimeZone.change_back.Goals as goal
+use Rattle.tz_info.proofs.zone.time_zone.TimeZone.change_back.Goals.{After-has_reached}
 
 pub unreachable-requires : goal.unreachable-requires
 unreachable-requires c =

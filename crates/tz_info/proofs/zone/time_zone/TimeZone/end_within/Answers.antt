@@ -1,7 +1,6 @@
-use Rattle.tz_info.proofs.Words.{SFits, arith, ints, rules, to_z-of_z, w32, w64, ◌-ℤ◌, ◌≡◌}
-use Rattle.tz_info.proofs.zone.time_zone.TimeZone.end_within.Goals.{After-second_showing-before}
-use Rattle.tz_info.proofs.ShownSecondLaws.{found_in_run, goes_on, leaves_less, none_left}
+use Rattle.tz_info.proofs.{ShownSecondLaws.{found_in_run, goes_on, leaves_less, none_left}, Words.{SFits, arith, ints, rules, to_z-of_z, w32, w64, ◌-ℤ◌, ◌≡◌}}
 use Rattle.tz_info.proofs.zone.time_zone.TimeZone.end_within.Goals as goal
+use Rattle.tz_info.proofs.zone.time_zone.TimeZone.end_within.Goals.{After-second_showing-before}
 
 -- the seconds between which a clock of the run's type shows a local time of the stretch
 between : (c : After-second_showing-before)

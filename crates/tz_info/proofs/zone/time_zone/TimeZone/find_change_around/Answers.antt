@@ -1,8 +1,7 @@
-use Rattle.tz_info.proofs.Words.{SFits, inr, rules, to_z-of_z, w32, w64}
+use Rattle.tz_info.proofs.{FoldLaws.{ends_of_fold}, Words.{SFits, inr, rules, to_z-of_z, w32, w64}}
 use Rattle.tz_info.specs.Steps.Folds.{AreEndsOfFold}
-use Rattle.tz_info.proofs.FoldLaws.{ends_of_fold}
-use Rattle.tz_info.proofs.zone.time_zone.TimeZone.find_change_around.Goals.{After-second_showing-last}
 use Rattle.tz_info.proofs.zone.time_zone.TimeZone.find_change_around.Goals as goal
+use Rattle.tz_info.proofs.zone.time_zone.TimeZone.find_change_around.Goals.{After-second_showing-last}
 
 -- the first and the last second that show the local time
 ends : (c : After-second_showing-last) → AreEndsOfFold c.args.self.now c.args.local.secs c.second_showing-first.result c.second_showing-last.result

@@ -1,5 +1,8 @@
-use Rattle.tz_info.proofs.Words.{Bor, LocalType, arith, by_leap_time, refl, to_z-of_z, ◌≡◌}
-use Rattle.tz_info.proofs.{PassedTransitions.{with_transitions, without_transitions}, QuestionLaws.{asked_at_time, asked_without}}
+use Rattle.tz_info.proofs.{
+  PassedTransitions.{with_transitions, without_transitions},
+  QuestionLaws.{asked_at_time, asked_without},
+  Words.{Bor, LocalType, arith, by_leap_time, refl, to_z-of_z, ◌≡◌},
+}
 use Rattle.tz_info.proofs.zone.time_zone.TimeZone.find_local_time_type_counted.Goals as goal
 
 pub returns-then-has_no_transition-clause-found : goal.returns-then-has_no_transition-clause-found

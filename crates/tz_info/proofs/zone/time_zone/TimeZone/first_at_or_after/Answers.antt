@@ -1,10 +1,15 @@
+use Rattle.tz_info.proofs.{
+  DigitLaws.{digits-less},
+  EntryChanges.{rose_less, rose_then},
+  RuleSegments.{first_by_rule},
+  SegmentEndLaws.{begun_near, first_there},
+  TableLaws.{reach_of, table_of, top_least},
+  Words.{HasReach, IsRuleOrNone, IsValid, SFits, Zone, ap, arith, cases_eq, digits, digits-more, inl, inr, length, rules, to_z-of_z, top_of, w32, w64, ℕ, ◌*◌},
+  Words.{◌+◌, ◌<◌, ◌≤◌},
+}
 use Rattle.tz_info.specs.Steps.{Entries.{AreEntries}, SegmentEnds.{IsFirstSegment}}
-use Rattle.tz_info.proofs.Words.{HasReach, IsRuleOrNone, IsValid, SFits, Zone, ap, arith, begin_of, cases_eq, digits, digits-more}
-use Rattle.tz_info.proofs.Words.{inl, inr, length, rules, to_z-of_z, top_of, w32, w64, ℕ, ◌*◌, ◌+◌, ◌<◌, ◌≤◌}
-use Rattle.tz_info.proofs.{DigitLaws.{digits-less}, EntryChanges.{rose_less, rose_then}, RuleSegments.{first_by_rule}}
-use Rattle.tz_info.proofs.{SegmentEndLaws.{begun_near, first_there}, TableLaws.{reach_of, table_of, top_least}}
-use Rattle.tz_info.proofs.zone.time_zone.TimeZone.first_at_or_after.Goals.{After-first_reaching-place}
 use Rattle.tz_info.proofs.zone.time_zone.TimeZone.first_at_or_after.Goals as goal
+use Rattle.tz_info.proofs.zone.time_zone.TimeZone.first_at_or_after.Goals.{After-first_reaching-place}
 
 -- the zone's entries, and the first segment that ends later
 entries : (c : After-first_reaching-place) → AreEntries c.args.self.now c.self.inside.changes

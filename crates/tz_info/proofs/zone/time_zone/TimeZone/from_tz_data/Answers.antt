@@ -1,5 +1,8 @@
-use Rattle.tz_info.proofs.{Words.{Err, err_from_is_err_and, zone_of_lists}, TzFileLaws.{fault, found, memory, named, only}}
-use Rattle.tz_info.proofs.ZoneFileLaws.{made_fault, made_found, made_memory, made_only}
+use Rattle.tz_info.proofs.{
+  TzFileLaws.{fault, found, memory, named, only},
+  Words.{Err, err_from_is_err_and, zone_of_lists},
+  ZoneFileLaws.{made_fault, made_found, made_memory, made_only},
+}
 use Rattle.tz_info.proofs.zone.time_zone.TimeZone.from_tz_data.Goals as goal
 
 pub returns-clause-found : goal.returns-clause-found

@@ -1,5 +1,4 @@
-use Rattle.tz_info.proofs.Words.{IsValid, SFits, ap, arith, ints, rules, sym, to_z-of_z, w128, w32, w64, ◌∙◌, ◌≡◌}
-use Rattle.tz_info.proofs.OffsetChanges.{rule_keeps}
+use Rattle.tz_info.proofs.{OffsetChanges.{rule_keeps}, Words.{SFits, arith, ints, rules, to_z-of_z, w128, w32, w64, ◌≡◌}}
 use Rattle.tz_info.proofs.zone.time_zone.TimeZone.last_of_offsets.Goals as goal
 
 pub returns-then-begin : goal.returns-then-begin

@@ -1,5 +1,4 @@
-use Rattle.tz_info.proofs.Words.{SFits, arith, change_held, false≢true, ints, rules, sym, to_z-of_z, w64, ◌∙◌}
-use Rattle.tz_info.proofs.OffsetChanges.{found_on, goes_on}
+use Rattle.tz_info.proofs.{OffsetChanges.{found_on, goes_on}, Words.{SFits, arith, change_held, false≢true, ints, rules, sym, to_z-of_z, w64, ◌∙◌}}
 use Rattle.tz_info.proofs.zone.time_zone.TimeZone.next_offset_change.Goals as goal
 
 pub returns-else-keeps_offset : goal.returns-else-keeps_offset

@@ -1,5 +1,7 @@
-use Rattle.tz_info.proofs.Words.{IsPosixZone, err_from_is_err_and, inl, inr, refl}
-use Rattle.tz_info.proofs.PosixLaws.{fault_of_text, fault_or_zone, fault_placed, is_empty, only_found, refused_memory, zone_found, zone_memory, zone_of_text}
+use Rattle.tz_info.proofs.{
+  PosixLaws.{fault_of_text, fault_or_zone, fault_placed, is_empty, only_found, refused_memory, zone_found, zone_memory, zone_of_text},
+  Words.{IsPosixZone, err_from_is_err_and, inl, inr, refl},
+}
 use Rattle.tz_info.proofs.zone.time_zone.TimeZone.parse_posix_tz.Goals as goal
 
 pub returns-clause-found : goal.returns-clause-found

@@ -1,5 +1,7 @@
-use Rattle.tz_info.proofs.Words.{SFits, arith, change_held, false≢true, ints, pos, rules, sym, to_z-of_z, w64, ◌-ℤ◌, ◌∙◌}
-use Rattle.tz_info.proofs.OffsetChanges.{found_back, goes_back}
+use Rattle.tz_info.proofs.{
+  OffsetChanges.{found_back, goes_back},
+  Words.{SFits, arith, change_held, false≢true, ints, pos, rules, sym, to_z-of_z, w64, ◌-ℤ◌, ◌∙◌},
+}
 use Rattle.tz_info.proofs.zone.time_zone.TimeZone.previous_offset_change.Goals as goal
 
 pub returns-else-keeps_offset : goal.returns-else-keeps_offset

@@ -1,11 +1,14 @@
+use Rattle.tz_info.proofs.{
+  EntryChanges.{rose_less, rose_then},
+  ReachedLaws.{at_end, at_segment, from_least, reached_in},
+  RuleSegments.{reached_by_rule},
+  SegmentLaws.{begin_first, come_from},
+  Words.{AreRising, IsValid, List, RoseWithin, SFits, Transition, TypeAt, Zone, ap, arith, begin_of, cases_lt, digits, digits-more, inl, inr, ints, least_time},
+  Words.{length, place_at, pos, refl, rules, slice_get_read, sym, to_z, to_z-of_z, w32, w64, ℤ, ◌+◌, ◌-ℤ◌, ◌≡◌, ◌≤ℤ◌, ◌≤◌},
+}
 use Rattle.tz_info.specs.Steps.{Entries.{AreEntries}, SegmentEnds.{IsLatestEnd}, Since.{IsReachedSince}}
-use Rattle.tz_info.proofs.{EntryChanges.{rose_less, rose_then}, ReachedLaws.{at_end, at_segment, from_least, reached_in}, RuleSegments.{reached_by_rule}}
-use Rattle.tz_info.proofs.SegmentLaws.{begin_first, come_from}
-use Rattle.tz_info.proofs.Words.{AreRising, IsValid, List, RoseWithin, SFits, Transition, TypeAt, Zone, ap, arith, begin_of, cases_lt, digits, digits-more}
-use Rattle.tz_info.proofs.Words.{inl, inr, ints, least_time, length, place_at, pos, refl, rules, slice_get_read, sym, to_z, to_z-of_z, w32, w64, ℤ, ◌+◌, ◌-ℤ◌}
-use Rattle.tz_info.proofs.Words.{◌≡◌, ◌≤ℤ◌, ◌≤◌}
-use Rattle.tz_info.proofs.zone.time_zone.TimeZone.reached_at.Goals.{After-latest_end-end, in-None, in-Some}
 use Rattle.tz_info.proofs.zone.time_zone.TimeZone.reached_at.Goals as goal
+use Rattle.tz_info.proofs.zone.time_zone.TimeZone.reached_at.Goals.{After-latest_end-end, in-None, in-Some}
 
 -- the segment of a second has begun
 begun : (ts : List Transition) (u : ℤ) → AreRising ts → SFits w64 u → place_at ts u ≤ length ts → begin_of ts (place_at ts u) ≤ℤ u

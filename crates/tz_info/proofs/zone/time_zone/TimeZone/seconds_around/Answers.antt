@@ -1,5 +1,4 @@
-use Rattle.tz_info.proofs.Words.{SFits, arith, ints, rules, to_z-of_z, w32, w64, ◌-ℤ◌, ◌≡◌}
-use Rattle.tz_info.proofs.{ExtremeLaws.{window_made}, ShownSecondLaws.{all_within}}
+use Rattle.tz_info.proofs.{ExtremeLaws.{window_made}, ShownSecondLaws.{all_within}, Words.{SFits, arith, ints, rules, to_z-of_z, w32, w64, ◌-ℤ◌, ◌≡◌}}
 use Rattle.tz_info.proofs.zone.time_zone.TimeZone.seconds_around.Goals as goal
 
 pub returns : goal.returns

@@ -1,5 +1,7 @@
-use Rattle.tz_info.proofs.Words.{IsValid, SFits, arith, length, slice_get, Some, vec_len, rules, slice_get_read, to_z-of_z, w64, ◌≡◌}
-use Rattle.tz_info.proofs.EntryChanges.{index_between, span_between}
+use Rattle.tz_info.proofs.{
+  EntryChanges.{index_between, span_between},
+  Words.{IsValid, SFits, Some, arith, length, rules, slice_get, slice_get_read, to_z-of_z, vec_len, w64, ◌≡◌},
+}
 use Rattle.tz_info.specs.Steps.Entries.{AreEntries}
 use Rattle.tz_info.proofs.zone.time_zone.TimeZone.span_by_place.Goals as goal
 

@@ -1,7 +1,13 @@
-use Rattle.tz_info.proofs.{Words.{IsShownIn, IsStart, IsValid, SFits, Shows, TypeFrom, length, rules, to_z-of_z, w64}, AnswerLaws.{joined_answer}}
-use Rattle.tz_info.proofs.{QuestionLaws.{asked_by_zone}, RuleGaps.{season_in}, TableLaws.{start_begun}, WalkLaws.{with_rule}}
-use Rattle.tz_info.proofs.zone.time_zone.TimeZone.try_rule.Goals.{After-rule_from}
+use Rattle.tz_info.proofs.{
+  AnswerLaws.{joined_answer},
+  QuestionLaws.{asked_by_zone},
+  RuleGaps.{season_in},
+  TableLaws.{start_begun},
+  WalkLaws.{with_rule},
+  Words.{IsShownIn, IsStart, IsValid, SFits, Shows, TypeFrom, length, rules, to_z-of_z, w64},
+}
 use Rattle.tz_info.proofs.zone.time_zone.TimeZone.try_rule.Goals as goal
+use Rattle.tz_info.proofs.zone.time_zone.TimeZone.try_rule.Goals.{After-rule_from}
 
 -- what was given fits, and the rule is asked from one second on
 begun : (c : After-rule_from)

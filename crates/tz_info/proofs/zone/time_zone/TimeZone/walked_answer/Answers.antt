@@ -1,11 +1,14 @@
-use Rattle.tz_info.proofs.Words.{Counts, IsShownIn, IsValid, IsWallAnswer, IsWindow, SFits, Some, Transition, ap, arith, digits-le, inl, ints, length, map_of}
-use Rattle.tz_info.proofs.Words.{rules}
-use Rattle.tz_info.proofs.Words.{Zone, sym, table_count, to_z-of_z, w32, w64, ◌+◌, ◌∙◌, ◌≡◌, ◌≤◌}
-use Rattle.tz_info.proofs.{QuestionLaws.{asked_for_window}, SegmentLaws.{begin_next, between_passed, index_next}, TableSearch.{Between}}
-use Rattle.tz_info.proofs.WallSegments.{all_segments}
-use Rattle.tz_info.proofs.WalkLaws.{none_before, none_behind, one_look, rose_by_walk, tried_segment, walked_more}
-use Rattle.tz_info.proofs.zone.time_zone.TimeZone.walked_answer.Goals.{After-passed_count-first, After-try_until-answer}
+use Rattle.tz_info.proofs.{
+  QuestionLaws.{asked_for_window},
+  SegmentLaws.{begin_next, between_passed, index_next},
+  TableSearch.{Between},
+  WalkLaws.{none_before, none_behind, one_look, rose_by_walk, tried_segment, walked_more},
+  WallSegments.{all_segments},
+  Words.{Counts, IsShownIn, IsValid, IsWallAnswer, IsWindow, SFits, Some, Transition, Zone, ap, arith, digits-le, inl, ints, length, map_of, rules, sym},
+  Words.{table_count, to_z-of_z, w32, w64, ◌+◌, ◌∙◌, ◌≡◌, ◌≤◌},
+}
 use Rattle.tz_info.proofs.zone.time_zone.TimeZone.walked_answer.Goals as goal
+use Rattle.tz_info.proofs.zone.time_zone.TimeZone.walked_answer.Goals.{After-passed_count-first, After-try_until-answer}
 
 -- the table has all segments but the rule's, which is the last
 table_most : (z : Zone) → length z.transitions ≤ table_count z
