@@ -5,8 +5,8 @@ use Rattle.tz_base.proofs.ChangeEquality.{second_exact}
 use Rattle.tz_base.specs.contracts.local_time_type.LocalTimeTypePartialEq.TheImpl.{eq-value as type_eq}
 use Rattle.tz_info.proofs.{
   Words.{Alternate as AlternateRule, Bool, Difference, IsExact, IsTrue, LeapSecond, List, LocalType, None, Option, ShownSeconds, Some, Transition},
-  Words.{TransitionRule, TypedSecond, Zone, and_both, and_left, and_right, ap, int_eq, option_eq, refl, rules, slice_eq-Decides, sym, type_exact, zone_eq},
-  Words.{◌&&◌, ◌↔◌, ◌∙◌, ◌≡◌},
+  Words.{TransitionRule, TypedSecond, Zone, and_both, and_left, and_right, ap, option_eq, refl, rules, slice_eq-Decides, sym, type_exact, zone_eq, ◌&&◌, ◌↔◌},
+  Words.{◌∙◌, ◌≡◌},
 }
 use Rattle.tz_info.specs.{
   contracts.{change.TypedSecondPartialEq.TheImpl.{eq-value as second_eq}, rule.day.DayTimePartialEq.TheImpl.{eq-value as day_time_eq}},
@@ -68,24 +68,24 @@ abbrev of_zone : List Transition × (List LocalType × (List LeapSecond × Optio
 of_zone p = record { transitions = p.0; types = p.1.0; leaps = p.1.1.0; rule = p.1.1.1 }
 
 pub zone_exact : (a b : Zone) → IsTrue (zone_eq transition_eq.it type_eq.it leap_eq.it rule_eq.it a b) ↔ (a ≡ b)
-zone_exact = by_parts (pair_eq (pointwise transition_eq.it) (pair_eq (pointwise type_eq.it) (pair_eq (pointwise leap_eq.it) (option_eq rule_eq.it))))
-    zone_parts of_zone (λ z. refl)
-    (pair_exact (pointwise transition_eq.it) (pair_eq (pointwise type_eq.it) (pair_eq (pointwise leap_eq.it) (option_eq rule_eq.it)))
-    (list_exact transition_eq.it transition_exact)
-    (pair_exact (pointwise type_eq.it) (pair_eq (pointwise leap_eq.it) (option_eq rule_eq.it)) (list_exact type_eq.it type_exact)
-    (pair_exact (pointwise leap_eq.it) (option_eq rule_eq.it) (list_exact leap_eq.it leap_exact) (option_exact rule_eq.it rule_exact))))
+zone_exact = by_parts _
+    _ of_zone (λ z. refl)
+    (pair_exact _ _
+    (list_exact _ transition_exact)
+    (pair_exact _ _ (list_exact _ type_exact)
+    (pair_exact _ _ (list_exact _ leap_exact) (option_exact _ rule_exact))))
 
 -- ---- seconds with types, and differences
 pub typed_second_exact : IsExact second_eq.it
-typed_second_exact = by_parts (pair_eq int_eq type_eq.it) (λ (s : TypedSecond). (s.at, s.local_time_type)) (λ p. record { at = p.0; local_time_type = p.1 })
-    (λ s. refl) (pair_exact int_eq type_eq.it second_exact type_exact)
+typed_second_exact = by_parts _ (λ (s : TypedSecond). (s.at, s.local_time_type)) (λ p. record { at = p.0; local_time_type = p.1 })
+    (λ s. refl) (pair_exact _ _ second_exact type_exact)
 
 pub shown_seconds_exact : IsExact seconds_eq.it
-shown_seconds_exact = by_parts (pair_eq second_eq.it second_eq.it) (λ (s : ShownSeconds). (s.first, s.last)) (λ p. record { first = p.0; last = p.1 })
-    (λ s. refl) (pair_exact second_eq.it second_eq.it typed_second_exact typed_second_exact)
+shown_seconds_exact = by_parts _ (λ (s : ShownSeconds). (s.first, s.last)) (λ p. record { first = p.0; last = p.1 })
+    (λ s. refl) (pair_exact _ _ typed_second_exact typed_second_exact)
 
 pub difference_exact : IsExact difference_eq.it
-difference_exact = by_parts (pair_eq int_eq (pair_eq int_eq (pair_eq type_eq.it type_eq.it))) (λ (d : Difference). (d.from, (d.until, (d.old, d.new))))
+difference_exact = by_parts _ (λ (d : Difference). (d.from, (d.until, (d.old, d.new))))
     (λ p. record { from = p.0; until = p.1.0; old = p.1.1.0; new = p.1.1.1 }) (λ d. refl)
-    (pair_exact int_eq (pair_eq int_eq (pair_eq type_eq.it type_eq.it)) second_exact
-    (pair_exact int_eq (pair_eq type_eq.it type_eq.it) second_exact (pair_exact type_eq.it type_eq.it type_exact type_exact)))
+    (pair_exact _ _ second_exact
+    (pair_exact _ _ second_exact (pair_exact _ _ type_exact type_exact)))

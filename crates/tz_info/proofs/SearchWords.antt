@@ -17,3 +17,6 @@ pub use Rattle.tz_info.specs.{
   declared.timeline.{Ends.{Ends}, hints.{Hints.{Hints}, Near.{Near}}},
 }
 unfoldable pub use Rattle.tz_info.specs.Digits.{digits}
+
+-- linear arithmetic on numbers with and without a sign
+pub ruleset linear = (arith, ints)

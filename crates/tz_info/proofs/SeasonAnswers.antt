@@ -5,8 +5,8 @@ use Rattle.tz_info.proofs.{
   Candidates.{asked_both, asked_found, asked_other, dst_or_std, std_or_dst},
   QuestionLaws.{asked_dst_std, asked_std_dst},
   Words.{Alternate as AlternateRule, AlternateAt, Bool, FitsSigned, IsAmidFrom, IsAskedFrom, IsAskedLast, IsAskedSince, IsSeason, IsSeasonFor, IsWallAnswer},
-  Words.{LocalResult, LocalType, Season, Shows, TypeFrom, arith, false, int_lt, ints, joined, not, refl, shown_if, sym, true, type_when, w64, ℕ, ℤ, ◌-ℤ◌, ◌↔◌},
-  Words.{◌≡◌, ◌≢◌, ◌≤ℤ◌, ◌⊎◌},
+  Words.{LocalResult, LocalType, Season, Shows, TypeFrom, arith, false, int_lt, joined, linear, not, refl, shown_if, sym, true, type_when, w64, ℕ, ℤ, ◌-ℤ◌},
+  Words.{◌↔◌, ◌≡◌, ◌≢◌, ◌≤ℤ◌, ◌⊎◌},
 }
 use Rattle.tz_info.specs.declared.rule.transition_rule.TransitionRule.TheVariants.{Alternate}
 
@@ -22,8 +22,8 @@ pub record IsKnown (from l o : ℤ) : Type 0 where
 
 -- ---- the type of the greater offset first, of daylight saving time or of standard time
 pub greater : (a : AlternateRule) (dst : Bool) → dst ≡ int_lt a.std.offset a.dst.offset → (type_when a (not dst)).offset ≤ℤ (type_when a dst).offset
-greater a true e = grind (arith, ints)
-greater a false e = grind (arith, ints)
+greater a true e = grind arith
+greater a false e = grind arith
 
 pub alike : (a : AlternateRule) (dst : Bool) → ((type_when a dst).offset ≡ (type_when a (not dst)).offset) ↔ (a.std.offset ≡ a.dst.offset)
 alike a true = ((λ e. sym e), (λ e. sym e))
@@ -36,24 +36,24 @@ std_too a false e = refl
 -- the second is that of the one type or of the other one
 pub either : (a : AlternateRule) (from l : ℤ) (dst : Bool) (u : ℤ) (t : LocalType) → Shows (TypeFrom (Alternate a) from) l u t
     → (u ≡ l -ℤ (type_when a dst).offset) ⊎ (u ≡ l -ℤ (type_when a (not dst)).offset)
-either a from l true u t s = dst_or_std a from l u t s
-either a from l false u t s = std_or_dst a from l u t s
+either a _ l true u t s = dst_or_std a _ l u t s
+either a from l false u t s = std_or_dst a _ l u t s
 
 pub asked_in_turn : (a : AlternateRule) (from l : ℤ) (dst : Bool) (p q r : ℕ) → a.std.offset ≢ a.dst.offset
     → IsAskedSince from (l -ℤ (type_when a dst).offset) p q
     → IsAskedSince from (l -ℤ (type_when a (not dst)).offset) q r → IsAskedFrom (Alternate a) from l p r
-asked_in_turn a from l true p q r other h k = asked_dst_std a from l p q r other h k
-asked_in_turn a from l false p q r other h k = asked_std_dst a from l p q r other h k
+asked_in_turn a _ l true p q r other h k = asked_dst_std a _ l p q r other h k
+asked_in_turn a from l false p q r other h k = asked_std_dst a _ l p q r other h k
 
 -- the season decides at both seconds that could show the local time
 pub amid : (a : AlternateRule) (s : Season) (from l : ℤ) (dst : Bool) → IsSeasonFor a from l s → IsAmidFrom s from (l -ℤ (type_when a dst).offset)
-amid a s from l true h = h.daylight
+amid a s _ l true h = h.daylight
 amid a s from l false h = h.standard
 
 pub season_for : (a : AlternateRule) (s : Season) (from l : ℤ) (dst : Bool) → IsSeason a s → IsAmidFrom s from (l -ℤ (type_when a dst).offset)
     → IsAmidFrom s from (l -ℤ (type_when a (not dst)).offset) → IsSeasonFor a from l s
-season_for a s from l true season first last = record { season = season; standard = last; daylight = first }
-season_for a s from l false season first last = record { season = season; standard = first; daylight = last }
+season_for a s from l true season first last = grind (linear, first)
+season_for a s from l false season first last = grind (linear, first)
 
 -- ---- the answer
 -- the second of the one type was asked, whether or not it is daylight saving time
@@ -61,10 +61,10 @@ asked_side : (a : AlternateRule) (from l : ℤ) (dst b : Bool) (before : LocalRe
     → a.std.offset ≢ a.dst.offset
     → AlternateAt a (l -ℤ (type_when a dst).offset) (type_when a b)
     → IsAskedLast (TypeFrom (Alternate a) from) l (type_when a dst).offset before (joined before (shown_if (beq b dst) (type_when a dst)))
-asked_side a from l true true before k other at = asked_found (Alternate a) from l a.dst.offset a.dst before k.fits k.since at refl
-asked_side a from l true false before k other at = rw (joined_none before) (asked_other (Alternate a) from l a.dst.offset a.std before at other)
-asked_side a from l false true before k other at = rw (joined_none before) (asked_other (Alternate a) from l a.std.offset a.dst before at (λ e. other (sym e)))
-asked_side a from l false false before k other at = asked_found (Alternate a) from l a.std.offset a.std before k.fits k.since at refl
+asked_side a from l true true _ k other at = asked_found _ _ l _ _ _ k.fits k.since at refl
+asked_side a from l true false before k other at = rw (joined_none _) (asked_other _ _ l _ _ _ at other)
+asked_side a from l false true before k other at = rw (joined_none before) (asked_other (Alternate a) from l _ _ before at (λ e. other (sym e)))
+asked_side a from l false false before k other at = asked_found (Alternate a) _ l _ _ before k.fits k.since at refl
 
 -- both seconds were asked
 pub both_asked : (a : AlternateRule) (from l : ℤ) (dst b c : Bool) → a.std.offset ≢ a.dst.offset → (type_when a (not dst)).offset ≤ℤ (type_when a dst).offset
@@ -74,6 +74,6 @@ pub both_asked : (a : AlternateRule) (from l : ℤ) (dst b c : Bool) → a.std.o
     (joined (shown_if (beq b dst) (type_when a dst)) (shown_if (beq c (not dst)) (type_when a (not dst))))
 both_asked a from l dst b c other order first last at_first at_last =
     let differ : (type_when a dst).offset ≢ (type_when a (not dst)).offset = λ e. other ((alike a dst).0 e) in
-    asked_both (TypeFrom (Alternate a) from) l (type_when a dst).offset (type_when a (not dst)).offset (shown_if (beq b dst) (type_when a dst)) _
-    (omega (arith, ints)) (either a from l dst) (asked_side a from l dst b None first other at_first)
-    (asked_side a from l (not dst) c (shown_if (beq b dst) (type_when a dst)) last other at_last)
+    asked_both _ l _ _ _ _
+    (omega linear) (either a _ l dst) (asked_side a _ l dst b _ first other at_first)
+    (asked_side a _ l _ c _ last other at_last)

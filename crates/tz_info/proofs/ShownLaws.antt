@@ -23,7 +23,7 @@ wall_together (Several g h) (Several i m) = refl
 
 less_joined : (z : Zone) (ts : List Transition) (low middle high : ℕ) (l : ℤ) → AreLessAmong z ts low middle l → AreLessAmong z ts middle high l
     → AreLessAmong z ts low high l
-less_joined z ts low middle high l a b u t near from below k = elim (cases_lt (place_at ts u) middle) [
+less_joined z ts low middle _ l a b u t near from below k = elim (cases_lt (place_at ts u) middle) [
   | inl h ↦ a u t near from h k
   | inr g ↦ b u t near (omega arith) below k
 ]
@@ -31,7 +31,7 @@ less_joined z ts low middle high l a b u t near from below k = elim (cases_lt (p
 -- of more segments the jump is the first one before which clocks show less
 moved : (z : Zone) (ts : List Transition) (low high from below : ℕ) (l : ℤ) (j : ℕ) → AreLessAmong z ts from j l → j < below
     → Jumps z ts low high l j → Jumps z ts from below l j
-moved z ts low high from below l j less inside a = record {
+moved z ts low _ _ _ l j less inside a = record {
   some = a.some;
   inside = inside;
   less = less;
@@ -43,12 +43,12 @@ moved z ts low high from below l j less inside a = record {
 
 pub side_together : (z : Zone) (ts : List Transition) (low middle high : ℕ) (l : ℤ) (a b : Shown) → middle ≤ high → IsSideAmong z ts low middle l a
     → IsSideAmong z ts middle high l b → IsSideAmong z ts low high l (together a b)
-side_together z ts low middle high l Less Less h a b = less_joined z ts low middle high l a b
-side_together z ts low middle high l Less (Skipped k) h a b = moved z ts middle high low high l k (less_joined z ts low middle k l a b.less) b.inside b
+side_together z ts low middle _ l Less Less h a b = less_joined z ts low _ _ l a b
+side_together z ts low middle high l Less (Skipped k) h a b = moved z ts _ _ low _ l k (less_joined z ts low _ k l a b.less) b.inside b
 side_together z ts low middle high l Less (Once i) h a b = tt
 side_together z ts low middle high l Less (Several i m) h a b = tt
-side_together z ts low middle high l (Skipped j) Less h a b = moved z ts low middle low high l j a.less (let i = a.inside in omega arith) a
-side_together z ts low middle high l (Skipped j) (Skipped k) h a b = moved z ts low middle low high l j a.less (let i = a.inside in omega arith) a
+side_together z ts low middle high l (Skipped j) Less h a b = moved z ts low _ low _ l j a.less (let i = a.inside in omega arith) a
+side_together z ts low middle high l (Skipped j) (Skipped k) h a b = moved z ts low _ low _ l j a.less (let i = a.inside in omega arith) a
 side_together z ts low middle high l (Skipped j) (Once i) h a b = tt
 side_together z ts low middle high l (Skipped j) (Several i m) h a b = tt
 side_together z ts low middle high l (Once f) Less h a b = tt

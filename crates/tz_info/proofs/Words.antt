@@ -56,9 +56,9 @@ pub use Rattle.tz_info.proofs.{
   FirstItems.{count_first, count_least, filter_first, le_false, le_is, le_is_not, le_true, lt_false, lt_is, lt_true, rises},
   SearchSteps.{first_come, times_ordered},
   SearchWords.{AreOrdered, ArePassed, Bool, Counts, IsLastOf, List, SFits, [], add-suc, add-zero, ap, arith, cases_eq, cases_lt, cond, count_by, drop, false},
-  SearchWords.{filter, get_or, get_or-set_at, get_or-set_other, inl, inr, int_le, int_lt, ints, length, length-map, length-set, map, negsuc, option_map, pos},
-  SearchWords.{refl, rules, set, slice_index, suc, sum_by-cons, sym, take, to_z-of_z, true, w64, zero, ℕ, ℤ, ◌*◌, ◌+ℤ◌, ◌+◌, ◌-ℤ◌, ◌-◌, ◌/◌, ◌<ℤ◌, ◌<◌, ◌∙◌},
-  SearchWords.{◌∷◌, ◌≡◌, ◌≢◌, ◌≤ℤ◌, ◌≤◌, ◌⊎◌},
+  SearchWords.{filter, get_or, get_or-set_at, get_or-set_other, inl, inr, int_le, int_lt, ints, length, length-map, length-set, linear, map, negsuc},
+  SearchWords.{option_map, pos, refl, rules, set, slice_index, suc, sum_by-cons, sym, take, to_z-of_z, true, w64, zero, ℕ, ℤ, ◌*◌, ◌+ℤ◌, ◌+◌, ◌-ℤ◌, ◌-◌, ◌/◌},
+  SearchWords.{◌<ℤ◌, ◌<◌, ◌∙◌, ◌∷◌, ◌≡◌, ◌≢◌, ◌≤ℤ◌, ◌≤◌, ◌⊎◌},
 }
 pub use Rattle.tz_info.specs.{
   Around.{AreTypesAround},

@@ -11,12 +11,7 @@ returns-in-Some-fault_in_indicators c = In_indicators c.in-Some-fault_in_indicat
 pub overflow_add-result-in-Some-fault_in_footer : goal.overflow_add-result-in-Some-fault_in_footer
 overflow_add-result-in-Some-fault_in_footer c =
     let f = c.in-Some-fault_in_footer.ensures in
-    omega (
-      arith,
-      footer_within c.args.pieces.now.extended f.0 c.in-Some-fault_in_footer.place f.2,
-      ap (λ (o : Option (List ℕ)). length (footer_bytes o)) f.1,
-      c.requires.places.footer,
-    )
+    omega (arith, footer_within _ f.0 _ f.2, ap (λ (o : Option (List ℕ)). length (footer_bytes o)) f.1)
 
 pub returns-in-Some-fault_in_footer : goal.returns-in-Some-fault_in_footer
 returns-in-Some-fault_in_footer c =

@@ -17,7 +17,7 @@ loop-kind-preserved c =
     let next = simp to_z-of_z at c.second_at.ensures in
     record {
       whole = rw length-set whole;
-      found = simp to_z-of_z (rw (take_more_set l.seconds l.kind c.second_at.result b, take_more places l.kind 0 h, map-append, found, next) refl);
+      found = simp to_z-of_z (rw (take_more_set l.seconds l.kind c.second_at.result b, take_more places l.kind 0 h, map-append, found, next));
     }
 
 pub returns : goal.returns
@@ -25,7 +25,6 @@ unfolding seconds_by_kind
 returns c =
     let fo = c.ranges.offset in
     let l = c.loop-kind in let places = c.places_by_kind-places.result in
-    let whole = l.invariant.whole in
     let all : l.kind ≡ 14 = omega arith in
     let s : length l.seconds ≤ 14 = omega arith in
     let p : length places ≤ 14 = search rules in

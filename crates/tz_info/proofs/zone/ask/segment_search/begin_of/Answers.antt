@@ -7,6 +7,5 @@ returns-then-place-eq0-clause-begin c = let zero = c.if-place-eq0.true in rw zer
 pub returns-clause-begin : goal.returns-clause-begin
 returns-clause-begin c =
     let fs : SFits w64 c.entry-entry.result.at = search rules in
-    let some = c.if-place-eq0.false in
     let same : (c.args.place - 1) + 1 ≡ c.args.place = omega arith in
     simp to_z-of_z (rw same at c.entry-entry.ensures.entry.at)

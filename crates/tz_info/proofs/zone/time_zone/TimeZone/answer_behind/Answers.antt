@@ -11,18 +11,18 @@ types_of-table-requires c = rw (c.deref.ensures.value, ap (λ (z : Zone). z.type
 pub returns-in-None-clause-found : goal.returns-in-None-clause-found
 returns-in-None-clause-found c =
     let listed = rw (c.deref.ensures.value, ap (λ (z : Zone). z.types) c.self.view_is) at c.types_of-table.ensures in
-    table_alone c.args.self.now c.args.local _ (rw (← c.self.view_is) c.self.invariant.valid) (ap (λ (z : Zone). z.rule) (sym c.self.view_is) ∙ c.in-None.is)
+    table_alone _ _ _ (rw (← c.self.view_is) c.self.invariant.valid) (ap (λ (z : Zone). z.rule) (sym c.self.view_is) ∙ c.in-None.is)
     (table_typed _ _ _ _ (rw (← c.self.view_is) c.self.invariant.valid) listed c.requires.shown)
 
 pub try_rule-requires-clause-seen : goal.try_rule-requires-clause-seen
 try_rule-requires-clause-seen c =
     let fl = c.ranges.local in
     let listed = rw (c.deref.ensures.value, ap (λ (z : Zone). z.types) c.self.view_is) at c.types_of-table.ensures in
-    simp to_z-of_z (table_first c.args.self.now c.in-Some.rule _ _ (ap (λ (z : Zone). z.rule) (sym c.self.view_is) ∙ c.in-Some.is)
+    simp to_z-of_z (table_first _ _ _ _ (ap (λ (z : Zone). z.rule) (sym c.self.view_is) ∙ c.in-Some.is)
     (table_typed _ _ _ _ (rw (← c.self.view_is) c.self.invariant.valid) listed c.requires.shown))
 
 pub returns-in-Some-clause-found : goal.returns-in-Some-clause-found
 returns-in-Some-clause-found c =
     let fl = c.ranges.local in
     let valid : IsValid c.args.self.now = rw (← c.self.view_is) c.self.invariant.valid in
-    all_segments c.args.self.now c.args.local _ valid.transitions.rising (simp to_z-of_z at c.try_rule.ensures.found)
+    all_segments _ _ _ valid.transitions.rising (simp to_z-of_z at c.try_rule.ensures.found)

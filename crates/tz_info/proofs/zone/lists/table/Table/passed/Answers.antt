@@ -5,4 +5,4 @@ pub returns-clause-passed : goal.returns-clause-passed
 returns-clause-passed c =
     let fv = c.ranges.leap_time in
     let come = simp to_z-of_z at c.passed.ensures.passed in
-    rw (← c.self.view_is) (first_come (λ (t : Transition). t.unix_leap_time) c.self.inside.entries c.args.leap_time c.passed.result.count come)
+    rw (← c.self.view_is) (first_come (λ (t : Transition). t.unix_leap_time) _ _ _ come)
