@@ -52,8 +52,8 @@ turn_change a year to_dst rule calm is_rule types apart =
     record {
       fits = omega (linear, here);
       fits_before = omega (linear, there);
-      before = rw dst.1 at (calm_type a _ _ rule margin there low (omega linear));
-      after = rw dst.0 at (calm_type a year m rule margin here (omega linear) (omega linear));
+      before = rw dst.1 at (calm_type a rule margin _ _ there low (omega linear));
+      after = rw dst.0 at (calm_type a rule margin year m here (omega linear) (omega linear));
       differ = differ_by a _ _ types refl;
     }
 
@@ -70,8 +70,8 @@ at_moments a _ d rule calm is of_second = elim (same_or_not _ _) [
     | inr other ↦
         let margin = calm_margin a rule calm in
         let low = second_low _ _ of_second in let high = second_high _ _ of_second in
-        let before = calm_type a _ _ rule margin (rule_second a _ _ is.before) low (omega linear) in
-        let after = calm_type a _ _ rule margin (rule_second a _ _ is.after) (omega linear) (omega linear) in
+        let before = calm_type a rule margin _ _ (rule_second a _ _ is.before) low (omega linear) in
+        let after = calm_type a rule margin _ _ (rule_second a _ _ is.after) (omega linear) (omega linear) in
         let alike = dst_alike _ _ _ apart other in
         absurd (is.differ (alternate_once a _ _ _ is.before before ∙ ap (type_when a) alike
         ∙ sym (alternate_once a _ _ _ is.after after)))

@@ -28,38 +28,38 @@ asked_both at l o p one two less both (inl (e, none)) g = grind arith
 asked_both at l o p one two less both (inr (s, k, e)) (inl (f, none)) = grind arith
 asked_both at l o p one two less both (inr (s, k, e)) (inr (t, m, f)) = grind linear
 
--- ---- a rule's
-one_of : (a : AlternateRule) (t : LocalType) (dst : Bool) → t ≡ type_when a dst → (t ≡ a.std) ⊎ (t ≡ a.dst)
-one_of a t true e = inr e
-one_of a t false e = inl e
+pub one_fixed : (f : LocalType) (from l u : ℤ) (t : LocalType) → Shows (TypeFrom (Fixed f) from) l u t → u ≡ l -ℤ f.offset
+one_fixed f _ l u t s = shown_at u l t f s.shown s.type.type
 
--- an alternate rule has its standard type or its daylight saving type
-pub one_of_two : (a : AlternateRule) (u : ℤ) (t : LocalType) → AlternateAt a u t → (t ≡ a.std) ⊎ (t ≡ a.dst)
-one_of_two a u t k = one_of a t _ k.shown
+-- a rule and a type
+module _ (a : AlternateRule) (t : LocalType) where
+  -- ---- a rule's
+  one_of : (dst : Bool) → t ≡ type_when a dst → (t ≡ a.std) ⊎ (t ≡ a.dst)
+  one_of true e = inr e
+  one_of false e = inl e
+
+  -- an alternate rule has its standard type or its daylight saving type
+  pub one_of_two : (u : ℤ) → AlternateAt a u t → (t ≡ a.std) ⊎ (t ≡ a.dst)
+  one_of_two u k = one_of _ k.shown
+
+  pub std_or_dst : (from l u : ℤ) → Shows (TypeFrom (Alternate a) from) l u t → (u ≡ l -ℤ a.std.offset) ⊎ (u ≡ l -ℤ a.dst.offset)
+  std_or_dst _ l u s = grind (arith, shown_at)
+
+  pub dst_or_std : (from l u : ℤ) → Shows (TypeFrom (Alternate a) from) l u t → (u ≡ l -ℤ a.dst.offset) ⊎ (u ≡ l -ℤ a.std.offset)
+  dst_or_std _ l u s = elim (std_or_dst _ l u s) [ inl e ↦ inr e | inr e ↦ inl e ]
 
 -- the offset of a rule's type is one of the rule's offsets
 pub offset_of_rule : (rule : TransitionRule) (u : ℤ) (t : LocalType) → RuleAt rule u t → Contains (rule_offsets (Some rule)) t.offset
 offset_of_rule (Fixed f) u t k = grind linear
-offset_of_rule (Alternate a) u t k = elim (one_of_two a u t k) [
+offset_of_rule (Alternate a) u t k = elim (one_of_two a t u k) [
   | inl e ↦ (0, omega arith, sym (ap (λ (x : LocalType). x.offset) e))
   | inr e ↦ (1, omega arith, sym (ap (λ (x : LocalType). x.offset) e))
 ]
 
-pub one_fixed : (f : LocalType) (from l u : ℤ) (t : LocalType) → Shows (TypeFrom (Fixed f) from) l u t → u ≡ l -ℤ f.offset
-one_fixed f _ l u t s = shown_at u l t f s.shown s.type.type
-
-pub std_or_dst : (a : AlternateRule) (from l u : ℤ) (t : LocalType) → Shows (TypeFrom (Alternate a) from) l u t
-    → (u ≡ l -ℤ a.std.offset) ⊎ (u ≡ l -ℤ a.dst.offset)
-std_or_dst a _ l u t s = grind (arith, shown_at)
-
-pub dst_or_std : (a : AlternateRule) (from l u : ℤ) (t : LocalType) → Shows (TypeFrom (Alternate a) from) l u t
-    → (u ≡ l -ℤ a.dst.offset) ⊎ (u ≡ l -ℤ a.std.offset)
-dst_or_std a _ l u t s = elim (std_or_dst a _ l u t s) [ inl e ↦ inr e | inr e ↦ inl e ]
-
 -- if both offsets are equal
 pub one_second : (a : AlternateRule) (from l : ℤ) → a.std.offset ≡ a.dst.offset → (u : ℤ) (t : LocalType)
     → Shows (TypeFrom (Alternate a) from) l u t → u ≡ l -ℤ a.std.offset
-one_second a from l same u t s = elim (std_or_dst a _ l u t s) [
+one_second a from l same u t s = elim (std_or_dst a t _ l u s) [
   | inl e ↦ e
   | inr e ↦ omega linear
 ]

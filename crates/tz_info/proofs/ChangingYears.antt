@@ -142,39 +142,39 @@ season_of a year = record {
   turns = turns_in (start_in a) (end_in a) year;
 }
 
-pub calm_type : (a : Alternate) (year u : ℤ) → IsAlternateRule a → IsMargin a (pos 172_800) → IsRuleTime u → new_year year ≤ℤ u → u ≤ℤ new_year (year +ℤ pos 1)
-    → AlternateAt a u (type_when a (is_dst_by_one (start_in a year) (end_in a year) u))
-calm_type a year u rule margin time low high =
-    let step = year_step year in let most = days_at_most year in
-    (season_made a _ _ _ _ margin refl refl refl refl refl).decided u time
-    (omega (arith, floors), omega (arith, floors))
-
 never_dst : (s e u : ℤ) → s ≡ e → is_dst_by_one s e u ≡ false
 never_dst s e u h = grind arith
-
-pub none_calm : (a : Alternate) (year : ℤ) (d : Change) → IsAlternateRule a → IsMargin a (pos 172_800) → start_in a year ≡ end_in a year
-    → IsChange (AlternateAt a) d → IsYearOf (d.at -ℤ pos 1) year → ⊥
-none_calm a year d rule margin one is of_second =
-    let low = second_low _ _ of_second in let high = second_high _ _ of_second in
-    let before = calm_type a _ _ rule margin (rule_second a _ _ is.before) low (omega linear) in
-    let after = calm_type a year _ rule margin (rule_second a _ _ is.after) (omega linear) (omega linear) in
-    is.differ (alternate_once a _ _ _ is.before (rw (never_dst _ _ _ one) at before)
-    ∙ sym (alternate_once a _ _ _ is.after (rw (never_dst _ _ _ one) at after)))
 
 turned : (s e : ℤ) → s ≢ e → is_dst_by_one s e (s -ℤ pos 1) ≡ not (is_dst_by_one s e s)
 turned s e apart = grind linear
 
-one_calm : (a : Alternate) (year : ℤ) → IsAlternateRule a → IsMargin a (pos 172_800) → IsRuleYear year → a.std ≢ a.dst → start_in a year ≢ end_in a year
-    → (d : Change) × IsChangeIn a year d
-one_calm a year rule margin inside types apart =
-    let u = start_in a year in
-    let low = margin.start.low year in let high = margin.start.high year in
-    let step = year_step year in let least = days_at_least year in
-    let of_before : IsYearOf (u -ℤ pos 1) year = (omega (arith, floors), omega (arith, floors)) in
-    let of_second : IsYearOf u year = (omega (arith, floors), omega (arith, floors)) in
-    change_made a _ u _ _ types (turned u _ apart) of_before
-    (calm_type a _ _ rule margin (rule_time _ _ of_before inside) (omega (arith, floors)) (omega (arith, floors)))
-    (calm_type a _ u rule margin (rule_time u _ of_second inside) (omega (arith, floors)) (omega (arith, floors)))
+-- a rule with a margin of two days
+module _ (a : Alternate) (rule : IsAlternateRule a) (margin : IsMargin a (pos 172_800)) where
+  pub calm_type : (year u : ℤ) → IsRuleTime u → new_year year ≤ℤ u → u ≤ℤ new_year (year +ℤ pos 1)
+      → AlternateAt a u (type_when a (is_dst_by_one (start_in a year) (end_in a year) u))
+  calm_type year u time low high =
+      let step = year_step year in let most = days_at_most year in
+      (season_made a _ _ _ _ margin refl refl refl refl refl).decided u time
+      (omega (arith, floors), omega (arith, floors))
+
+  pub none_calm : (year : ℤ) (d : Change) → start_in a year ≡ end_in a year → IsChange (AlternateAt a) d → IsYearOf (d.at -ℤ pos 1) year → ⊥
+  none_calm year d one is of_second =
+      let low = second_low _ _ of_second in let high = second_high _ _ of_second in
+      let before = calm_type _ _ (rule_second a _ _ is.before) low (omega linear) in
+      let after = calm_type year _ (rule_second a _ _ is.after) (omega linear) (omega linear) in
+      is.differ (alternate_once a _ _ _ is.before (rw (never_dst _ _ _ one) at before)
+      ∙ sym (alternate_once a _ _ _ is.after (rw (never_dst _ _ _ one) at after)))
+
+  one_calm : (year : ℤ) → IsRuleYear year → a.std ≢ a.dst → start_in a year ≢ end_in a year → (d : Change) × IsChangeIn a year d
+  one_calm year inside types apart =
+      let u = start_in a year in
+      let low = margin.start.low year in let high = margin.start.high year in
+      let step = year_step year in let least = days_at_least year in
+      let of_before : IsYearOf (u -ℤ pos 1) year = (omega (arith, floors), omega (arith, floors)) in
+      let of_second : IsYearOf u year = (omega (arith, floors), omega (arith, floors)) in
+      change_made a _ u _ _ types (turned u _ apart) of_before
+      (calm_type _ _ (rule_time _ _ of_before inside) (omega (arith, floors)) (omega (arith, floors)))
+      (calm_type _ u (rule_time u _ of_second inside) (omega (arith, floors)) (omega (arith, floors)))
 
 -- ---- by the seconds of kinds
 apart_moved : (x y v w k : ℤ) → k +ℤ x ≡ v → k +ℤ y ≡ w → are_apart x y ≡ are_apart v w
@@ -195,40 +195,37 @@ starts_of a = seconds_by_kind a.start a.std.offset
 abbrev ends_of : Alternate → List ℤ
 ends_of a = seconds_by_kind a.end a.dst.offset
 
-near_by_kind : (a : Alternate) (year : ℤ) → IsAlternateRule a
-    → years_near (moment_by (starts_of a)) (moment_by (ends_of a)) year ≡ years_near (start_in a) (end_in a) year
-near_by_kind a year rule = grind (linear, starts_of, by_kind, ends_of)
+-- a rule in one year
+module _ (a : Alternate) (rule : IsAlternateRule a) where
+  near_by_kind : (year : ℤ) → years_near (moment_by (starts_of a)) (moment_by (ends_of a)) year ≡ years_near (start_in a) (end_in a) year
+  near_by_kind year = grind (linear, starts_of, by_kind, ends_of)
 
-same_kind : (a : Alternate) (year : ℤ) → IsAlternateRule a
-    → are_apart (get_or (starts_of a) (kind_place year) (pos 0)) (get_or (ends_of a) (kind_place year) (pos 0)) ≡ are_apart (start_in a year) (end_in a year)
-same_kind a year rule =
-    let s = by_kind _ _ _ rule.start_day in let e = by_kind _ _ _ rule.end_day in
-    apart_moved _ _ (start_in a year) (end_in a year)
-    (pos 86_400 *ℤ year_start year) s e
+  same_kind : (year : ℤ)
+      → are_apart (get_or (starts_of a) (kind_place year) (pos 0)) (get_or (ends_of a) (kind_place year) (pos 0)) ≡ are_apart (start_in a year) (end_in a year)
+  same_kind year =
+      let s = by_kind _ _ _ rule.start_day in let e = by_kind _ _ _ rule.end_day in
+      apart_moved _ _ (start_in a year) (end_in a year)
+      (pos 86_400 *ℤ year_start year) s e
 
-none_by : (a : Alternate) (year : ℤ) (d : Change) (calm : Bool) → IsAlternateRule a → are_calm (starts_of a) (ends_of a) ≡ calm
-    → is_changing (starts_of a) (ends_of a) calm year ≡ false
-    → IsChange (AlternateAt a) d → IsYearOf (d.at -ℤ pos 1) year → ⊥
-none_by a year d true rule calm none is of_second =
-    none_calm a _ d rule (calm_margin a rule calm) (are_one _ _ (rw (same_kind a _ rule) at none)) is of_second
-none_by a year d false rule calm none is of_second =
-    none_near a _ d rule (ap (λ y. has_flip y) (sym (near_by_kind a year rule)) ∙ none) is of_second
+  none_by : (year : ℤ) (d : Change) (calm : Bool) → are_calm (starts_of a) (ends_of a) ≡ calm → is_changing (starts_of a) (ends_of a) calm year ≡ false
+      → IsChange (AlternateAt a) d → IsYearOf (d.at -ℤ pos 1) year → ⊥
+  none_by year d true calm none is of_second =
+      none_calm a rule (calm_margin a rule calm) _ d (are_one _ _ (rw (same_kind _) at none)) is of_second
+  none_by year d false calm none is of_second =
+      none_near a _ d rule (ap (λ y. has_flip y) (sym (near_by_kind year)) ∙ none) is of_second
 
-pub none_in : (a : Alternate) (year : ℤ) (d : Change) → IsAlternateRule a → changes_in_year a year ≡ false → IsChange (AlternateAt a) d
-    → IsYearOf (d.at -ℤ pos 1) year → ⊥
-none_in a _ d rule none is of_second = none_by a _ d _ rule refl none is of_second
+  pub none_in : (year : ℤ) (d : Change) → changes_in_year a year ≡ false → IsChange (AlternateAt a) d → IsYearOf (d.at -ℤ pos 1) year → ⊥
+  none_in _ d none is of_second = none_by _ d _ refl none is of_second
 
-one_by : (a : Alternate) (year : ℤ) (calm : Bool) → IsAlternateRule a → IsRuleYear year → IsRuleYear (year +ℤ pos 1) → a.std ≢ a.dst
-    → are_calm (starts_of a) (ends_of a) ≡ calm
-    → is_changing (starts_of a) (ends_of a) calm year ≡ true → (d : Change) × IsChangeIn a year d
-one_by a year true rule inside next types calm some =
-    one_calm a _ rule (calm_margin a rule calm) inside types (are_two _ _ (rw (same_kind a _ rule) at some))
-one_by a year false rule inside next types calm some =
-    one_near a _ rule inside next types (ap (λ y. has_flip y) (sym (near_by_kind a year rule)) ∙ some)
+  one_by : (year : ℤ) (calm : Bool) → IsRuleYear year → IsRuleYear (year +ℤ pos 1) → a.std ≢ a.dst → are_calm (starts_of a) (ends_of a) ≡ calm
+      → is_changing (starts_of a) (ends_of a) calm year ≡ true → (d : Change) × IsChangeIn a year d
+  one_by year true inside next types calm some =
+      one_calm a rule (calm_margin a rule calm) _ inside types (are_two _ _ (rw (same_kind _) at some))
+  one_by year false inside next types calm some =
+      one_near a _ rule inside next types (ap (λ y. has_flip y) (sym (near_by_kind year)) ∙ some)
 
-pub one_in : (a : Alternate) (year : ℤ) → IsAlternateRule a → IsRuleYear year → IsRuleYear (year +ℤ pos 1) → a.std ≢ a.dst → changes_in_year a year ≡ true
-    → (d : Change) × IsChangeIn a year d
-one_in a _ rule inside next types some = one_by a _ _ rule inside next types refl some
+  pub one_in : (year : ℤ) → IsRuleYear year → IsRuleYear (year +ℤ pos 1) → a.std ≢ a.dst → changes_in_year a year ≡ true → (d : Change) × IsChangeIn a year d
+  one_in _ inside next types some = one_by _ _ inside next types refl some
 
 -- ---- by the year's key
 abbrev keys_of : Alternate → List Bool
@@ -246,31 +243,6 @@ by_key a year =
     ∙ sym (changing_alike _ _ _ (get_or key_years (year_key year) (pos 0)) year
     (own_key _ below))
 
--- ---- from one second to another, if clocks don't change between them
--- at each second of the rule's years some type is in force
-typed : (a : Alternate) (u : ℤ) → IsAlternateRule a → IsRuleTime u → (t : LocalType) × AlternateAt a u t
-typed a u rule time =
-    let of_second = lies_in (floor_div u 86_400) in
-    (_, own_type a _ u rule of_second (rule_year u _ of_second time))
-
--- the type stays
-pub still : (a : Alternate) (u v : ℤ) (t : LocalType) → IsAlternateRule a → HasNoChange (AlternateAt a) (λ w. (u <ℤ w) × (w ≤ℤ v)) → AlternateAt a u t
-    → IsRuleTime v → u ≤ℤ v → AlternateAt a v t
-still a u v t rule none h last le =
-    let first = rule_second a u t h in
-    stays _ u v t (omega linear) (omega linear) le none
-    (λ w low high. typed a w rule (omega linear, omega linear)) h
-
-pub unchanged : (a : Alternate) (u v : ℤ) (s t : LocalType) → IsAlternateRule a → HasNoChange (AlternateAt a) (λ w. (u <ℤ w) × (w ≤ℤ v)) → AlternateAt a u s
-    → AlternateAt a v t → u ≤ℤ v → s ≡ t
-unchanged a u v s t rule none h k le = alternate_once a v s t (still a u v s rule none h (rule_second a v t k) le) k
-
--- a rule that never changes the clocks has one type
-steady : (a : Alternate) → IsAlternateRule a → HasNoChange (AlternateAt a) (λ w. Unit {0}) → NeverChanges a
-steady a rule none u v s t h k =
-    by_lt_z v u (λ l. sym (unchanged a v u t s rule (λ d is i. none d is tt) k h (omega linear)))
-    (λ m. unchanged a u v s t rule (λ d is i. none d is tt) h k m)
-
 none_of_all : (keys : List Bool) (k : ℕ) → list_any (λ b. b) keys ≡ false → get_or keys k false ≡ false
 none_of_all keys k none = elim (cases_Bool (get_or keys k false)) [
   | inl on ↦ absurd (elim (cases_lt k (length keys)) [
@@ -279,10 +251,6 @@ none_of_all keys k none = elim (cases_Bool (get_or keys k false)) [
   ])
   | inr off ↦ off
 ]
-
-pub steady_without : (a : Alternate) → IsAlternateRule a → list_any (λ b. b) (keys_of a) ≡ false → NeverChanges a
-steady_without a rule none = steady a rule (λ d is i.
-    none_in a _ d rule (sym (by_key a is.before.year) ∙ none_of_all (keys_of a) _ none) is is.before.of_second)
 
 std_either : (a : Alternate) (dst : Bool) → a.std ≡ a.dst → type_when a dst ≡ a.std
 std_either a true same = sym same
@@ -295,13 +263,42 @@ key_total : (a : Alternate) → length (keys_of a) ≡ 35
 unfolding changing_keys
 key_total a = length-map key_years (is_changing (starts_of a) (ends_of a) (are_calm (starts_of a) (ends_of a))) ∙ key_count
 
-pub unsteady : (a : Alternate) → IsAlternateRule a → a.std ≢ a.dst → list_any (λ b. b) (keys_of a) ≡ true → NeverChanges a → ⊥
-unsteady a rule types some never =
-    let (k, b, below, at, on) = Any-from_list_any (λ b. b) (keys_of a) some in
-    let few = rw (key_total a) at below in
-    let bound = year_bounds k few in
-    let e = get_or_default (keys_of a) k false b below ∙ at ∙ on in
-    let year = get_or key_years k (pos 0) in
-    let (d, c) = one_in a year rule (omega linear, omega linear) (omega linear, omega linear) types
-    (sym (key_at _ _ k few) ∙ e) in
-    c.is.differ (never (d.at -ℤ pos 1) d.at d.before d.after c.is.before c.is.after)
+-- a rule
+module _ (a : Alternate) (rule : IsAlternateRule a) where
+  -- ---- from one second to another, if clocks don't change between them
+  -- at each second of the rule's years some type is in force
+  typed : (u : ℤ) → IsRuleTime u → (t : LocalType) × AlternateAt a u t
+  typed u time =
+      let of_second = lies_in (floor_div u 86_400) in
+      (_, own_type a _ u rule of_second (rule_year u _ of_second time))
+
+  -- the type stays
+  pub still : (u v : ℤ) (t : LocalType) → HasNoChange (AlternateAt a) (λ w. (u <ℤ w) × (w ≤ℤ v)) → AlternateAt a u t → IsRuleTime v → u ≤ℤ v → AlternateAt a v t
+  still u v t none h last le =
+      let first = rule_second a u t h in
+      stays _ u v t (omega linear) (omega linear) le none
+      (λ w low high. typed w (omega linear, omega linear)) h
+
+  pub unchanged : (u v : ℤ) (s t : LocalType) → HasNoChange (AlternateAt a) (λ w. (u <ℤ w) × (w ≤ℤ v)) → AlternateAt a u s → AlternateAt a v t → u ≤ℤ v → s ≡ t
+  unchanged u v s t none h k le = alternate_once a v s t (still u v s none h (rule_second a v t k) le) k
+
+  -- a rule that never changes the clocks has one type
+  steady : HasNoChange (AlternateAt a) (λ w. Unit {0}) → NeverChanges a
+  steady none u v s t h k =
+      by_lt_z v u (λ l. sym (unchanged v u t s (λ d is i. none d is tt) k h (omega linear)))
+      (λ m. unchanged u v s t (λ d is i. none d is tt) h k m)
+
+  pub steady_without : list_any (λ b. b) (keys_of a) ≡ false → NeverChanges a
+  steady_without none = steady (λ d is i.
+      none_in a rule _ d (sym (by_key a is.before.year) ∙ none_of_all (keys_of a) _ none) is is.before.of_second)
+
+  pub unsteady : a.std ≢ a.dst → list_any (λ b. b) (keys_of a) ≡ true → NeverChanges a → ⊥
+  unsteady types some never =
+      let (k, b, below, at, on) = Any-from_list_any (λ b. b) (keys_of a) some in
+      let few = rw (key_total a) at below in
+      let bound = year_bounds k few in
+      let e = get_or_default (keys_of a) k false b below ∙ at ∙ on in
+      let year = get_or key_years k (pos 0) in
+      let (d, c) = one_in a rule year (omega linear, omega linear) (omega linear, omega linear) types
+      (sym (key_at _ _ k few) ∙ e) in
+      c.is.differ (never (d.at -ℤ pos 1) d.at d.before d.after c.is.before c.is.after)

@@ -14,23 +14,22 @@ made u v s t = record { from = u; until = v; old = s; new = t }
 the_same : (u v a b : ℤ) (s t m n : LocalType) → u ≡ a → v ≡ b → s ≡ m → t ≡ n → made u v s t ≡ made a b m n
 the_same u v a b s t m n e g h k = cc
 
-not_earlier : (z w : Zone) (from until u : ℤ) (d e : Difference) → IsDifference (TypeAt z) (TypeAt w) from until d
-    → IsDifference (TypeAt z) (TypeAt w) from until e
-    → d.old ≡ e.old → d.new ≡ e.new → IsInDifference u d → IsInDifference u e → d.from ≤ℤ e.from
-not_earlier z w _ _ u d e h k old new i j = by_lt_z e.from d.from
-    (λ less.
-    let types = k.each (d.from -ℤ pos 1) (omega linear) (omega linear) in
-    absurd (h.begins (omega linear) (subst (TypeAt z (d.from -ℤ pos 1)) (sym old) types.0) (subst (TypeAt w (d.from -ℤ pos 1)) (sym new) types.1)))
-    (λ m. m)
+-- two differences of the same zones that share a second
+module _ (z w : Zone) (from until u : ℤ) (d e : Difference) (h : IsDifference (TypeAt z) (TypeAt w) from until d)
+    (k : IsDifference (TypeAt z) (TypeAt w) from until e) (old : d.old ≡ e.old) (new : d.new ≡ e.new) (i : IsInDifference u d) (j : IsInDifference u e) where
+  not_earlier : d.from ≤ℤ e.from
+  not_earlier = by_lt_z e.from d.from
+      (λ less.
+      let types = k.each (d.from -ℤ pos 1) (omega linear) (omega linear) in
+      absurd (h.begins (omega linear) (subst (TypeAt z (d.from -ℤ pos 1)) (sym old) types.0) (subst (TypeAt w (d.from -ℤ pos 1)) (sym new) types.1)))
+      (λ m. m)
 
-not_later : (z w : Zone) (from until u : ℤ) (d e : Difference) → IsDifference (TypeAt z) (TypeAt w) from until d
-    → IsDifference (TypeAt z) (TypeAt w) from until e
-    → d.old ≡ e.old → d.new ≡ e.new → IsInDifference u d → IsInDifference u e → e.until ≤ℤ d.until
-not_later z w _ _ u d e h k old new i j = by_lt_z d.until e.until
-    (λ less.
-    let types = k.each d.until (omega linear) less in
-    absurd (h.ends (omega linear) (subst (TypeAt z d.until) (sym old) types.0) (subst (TypeAt w d.until) (sym new) types.1)))
-    (λ m. m)
+  not_later : e.until ≤ℤ d.until
+  not_later = by_lt_z d.until e.until
+      (λ less.
+      let types = k.each d.until (omega linear) less in
+      absurd (h.ends (omega linear) (subst (TypeAt z d.until) (sym old) types.0) (subst (TypeAt w d.until) (sym new) types.1)))
+      (λ m. m)
 
 equal : (u v : ℤ) → u ≤ℤ v → v ≤ℤ u → u ≡ v
 equal u v h k = omega linear

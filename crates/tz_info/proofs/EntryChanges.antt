@@ -171,34 +171,9 @@ pub looks_most : (m n : ℕ) → 0 < n → m ≤ n → most_looks m ≤ digits n
 looks_most zero n some h = let k = digits-more 1 n some in let e = digits_one in omega arith
 looks_most (suc m) n some h = digits-more _ n h
 
--- ---- how many have come at an entry's second, and just before it
-count_then : (e : Entries) (k : ℕ) (d : Transition) → AreRising e.items → k < length e.items → count_at e (get_or e.items k d).unix_leap_time ≡ k + 1
-count_then e k d rising h = rw (← begin_next _ k d h) (place_begin _ _ rising (omega arith) (omega arith))
-
-count_before : (e : Entries) (k : ℕ) (d : Transition) → AreRising e.items → k < length e.items → count_at e ((get_or e.items k d).unix_leap_time -ℤ pos 1) ≡ k
-count_before e k d rising h = let same : suc k ≡ k + 1 = omega arith in rw (← begin_next _ k d h, ← same) (place_before _ k rising h)
-
 -- a second before one with a leap time has one
 earlier_time : (z : Zone) (u v y : ℤ) → IsValid z → u ≤ℤ v → IsLeapTime z.leaps v y → (x : ℤ) × IsLeapTime z.leaps u x
 earlier_time z u v y valid h l = elim (leap_time_decided z.leaps u) [ inl x ↦ x | inr r ↦ absurd (refused_on _ u v y valid.leaps h r l) ]
-
--- ---- the change that an entry makes
-pub entry_change : (z : Zone) (e : Entries) (k : ℕ) (c : Change) → IsValid z → AreEntries z e → k < length e.items → k + 1 < e.all
-    → IsEntryChange z.types e.items k (Some c) → IsChange (TypeAt z) c
-entry_change z e k c valid made some more (at, fits, not_least, before, after) =
-    let d : Transition = record { unix_leap_time = c.at; type_index = 0 } in
-    let is = at d in
-    let (x, l) = made.leap_time k d some in
-    let l2 = rw (← is) at l in
-    let fits_before : SFits w64 (c.at -ℤ pos 1) = omega linear in
-    let (y, m) = earlier_time z _ _ x valid (omega linear) l2 in
-    record {
-      fits = fits;
-      fits_before = fits_before;
-      before = type_amid z e _ y k _ made fits_before m (rw is (count_before e k d made.rising some)) (omega arith) before;
-      after = type_amid z e _ x _ _ made fits l2 (rw is (count_then e k d made.rising some)) more after;
-      differ = λ q. made.differ k some more (after ∙ sym (ap (λ (t : LocalType). Some t) q) ∙ sym before);
-    }
 
 -- a change before the last transition comes with an entry
 pub table_change : (z : Zone) (e : Entries) (d : Change) → IsValid z → AreEntries z e → IsChange (TypeAt z) d
@@ -236,18 +211,43 @@ table_change z e d valid made is table =
           absurd (is.differ (some_same (sym s ∙ t)))
     ]
 
--- before an entry comes some transition has not
-in_table : (z : Zone) (e : Entries) (k : ℕ) (c : Change) → IsValid z → AreEntries z e → k < length e.items → IsChange (TypeAt z) c
-    → ((d : Transition) → c.at ≡ (get_or e.items k d).unix_leap_time)
-    → segment_of z (c.at -ℤ pos 1) < length z.transitions
-in_table z e k c valid made some is at =
-    let l = time_of z _ _ (omega arith) is.before in
-    let d : Transition = record { unix_leap_time = c.at; type_index = 0 } in
-    let n : count_at e (c.at -ℤ pos 1) ≡ k = rw (at d) (count_before e k d made.rising some) in
-    let last = made.come (c.at -ℤ pos 1) is.before.leap_time is.fits_before l in
-    let seg = come_at_time z (c.at -ℤ pos 1) is.before.leap_time l in
-    let most = segment_most z (c.at -ℤ pos 1) valid.transitions.rising in
-    elim (cases_lt (segment_of z (c.at -ℤ pos 1)) (length z.transitions)) [ inl b ↦ b | inr m ↦ omega arith ]
+-- an entry of a list
+module _ (e : Entries) (k : ℕ) (h : k < length e.items) where
+  -- ---- how many have come at an entry's second, and just before it
+  count_then : (d : Transition) → AreRising e.items → count_at e (get_or e.items k d).unix_leap_time ≡ k + 1
+  count_then d rising = rw (← begin_next _ k d h) (place_begin _ _ rising (omega arith) (omega arith))
+
+  count_before : (d : Transition) → AreRising e.items → count_at e ((get_or e.items k d).unix_leap_time -ℤ pos 1) ≡ k
+  count_before d rising = let same : suc k ≡ k + 1 = omega arith in rw (← begin_next _ k d h, ← same) (place_before _ k rising h)
+
+  -- ---- the change that an entry makes
+  pub entry_change : (z : Zone) (c : Change) → IsValid z → AreEntries z e → k + 1 < e.all → IsEntryChange z.types e.items k (Some c) → IsChange (TypeAt z) c
+  entry_change z c valid made more (at, fits, not_least, before, after) =
+      let d : Transition = record { unix_leap_time = c.at; type_index = 0 } in
+      let is = at d in
+      let (x, l) = made.leap_time k d h in
+      let l2 = rw (← is) at l in
+      let fits_before : SFits w64 (c.at -ℤ pos 1) = omega linear in
+      let (y, m) = earlier_time z _ _ x valid (omega linear) l2 in
+      record {
+        fits = fits;
+        fits_before = fits_before;
+        before = type_amid z e _ y k _ made fits_before m (rw is (count_before d made.rising)) (omega arith) before;
+        after = type_amid z e _ x _ _ made fits l2 (rw is (count_then d made.rising)) more after;
+        differ = λ q. made.differ k h more (after ∙ sym (ap (λ (t : LocalType). Some t) q) ∙ sym before);
+      }
+
+  -- before an entry comes some transition has not
+  in_table : (z : Zone) (c : Change) → IsValid z → AreEntries z e → IsChange (TypeAt z) c → ((d : Transition) → c.at ≡ (get_or e.items k d).unix_leap_time)
+      → segment_of z (c.at -ℤ pos 1) < length z.transitions
+  in_table z c valid made is at =
+      let l = time_of z _ _ (omega arith) is.before in
+      let d : Transition = record { unix_leap_time = c.at; type_index = 0 } in
+      let n : count_at e (c.at -ℤ pos 1) ≡ k = rw (at d) (count_before d made.rising) in
+      let last = made.come (c.at -ℤ pos 1) is.before.leap_time is.fits_before l in
+      let seg = come_at_time z (c.at -ℤ pos 1) is.before.leap_time l in
+      let most = segment_most z (c.at -ℤ pos 1) valid.transitions.rising in
+      elim (cases_lt (segment_of z (c.at -ℤ pos 1)) (length z.transitions)) [ inl b ↦ b | inr m ↦ omega arith ]
 
 -- ---- the next change of the table
 pub next_none : (z : Zone) (e : Entries) (after : ℤ) → IsValid z → AreEntries z e → count_at e after ≡ length e.items
@@ -268,7 +268,7 @@ next_found z e after c valid made some is at =
       is = is;
       inside = record {
         inside = by_lt_z after c.at (λ q. q) (λ q. let r = (come_by e n t after made.rising some).1 (omega linear) in absurd (omega arith));
-        table = in_table z e n c valid made some is at;
+        table = in_table e n some z c valid made is at;
       };
       nearest = λ d is_d inside.
           let (k, below, time) = table_change z e d valid made is_d inside.table in
@@ -287,7 +287,7 @@ next_by_entry z e after None valid made some more fits least =
     let own = least t in
     let r = (come_by e _ t after made.rising some).1 (omega linear) in omega arith
 next_by_entry z e after (Some c) valid made some more fits h =
-    let (at, _, _, _, _) = h in next_found z e _ c valid made some (entry_change z e _ c valid made some more h) at
+    let (at, _, _, _, _) = h in next_found z e _ c valid made some (entry_change e _ some z c valid made more h) at
 
 pub next_by_last : (z : Zone) (e : Entries) (after second : ℤ) (r : Option Change) → IsValid z → AreEntries z e → count_at e after < length e.items
     → e.all ≤ count_at e after + 1
@@ -310,80 +310,78 @@ abbrev pub AreIdleBehind : Zone → Entries → ℤ → ℕ → Type 0
 AreIdleBehind z e last k = (j : ℕ) → k ≤ j → j < count_at e last → (d : Change) → IsChange (TypeAt z) d
     → ((t : Transition) → (get_or e.items j t).unix_leap_time ≡ d.at) → ⊥
 
-pub previous_none : (z : Zone) (e : Entries) (last : ℤ) → IsValid z → AreEntries z e → AreIdleBehind z e last 0
-    → HasNoChange (TypeAt z) (IsInTable z (λ u. u ≤ℤ last))
-previous_none z e _ valid made idle d is inside =
-    let t : Transition = record { unix_leap_time = pos 0; type_index = 0 } in
-    let (k, below, time) = table_change z e d valid made is inside.table in
-    let other = time t in
-    idle k (omega arith) ((come_by e k t _ made.rising below).1 (omega linear)) d is time
+-- a zone, its entries and the last second
+module _ (z : Zone) (e : Entries) where
+  pub previous_none : (last : ℤ) → IsValid z → AreEntries z e → AreIdleBehind z e last 0 → HasNoChange (TypeAt z) (IsInTable z (λ u. u ≤ℤ last))
+  previous_none _ valid made idle d is inside =
+      let t : Transition = record { unix_leap_time = pos 0; type_index = 0 } in
+      let (k, below, time) = table_change z e d valid made is inside.table in
+      let other = time t in
+      idle k (omega arith) ((come_by e k t _ made.rising below).1 (omega linear)) d is time
 
-previous_found : (z : Zone) (e : Entries) (last : ℤ) (k : ℕ) (c : Change) → IsValid z → AreEntries z e → k < count_at e last
-    → AreIdleBehind z e last (k + 1) → IsChange (TypeAt z) c
-    → ((d : Transition) → c.at ≡ (get_or e.items k d).unix_leap_time) → IsLastChange (TypeAt z) (IsInTable z (λ u. u ≤ℤ last)) c
-previous_found z e last k c valid made come idle is at =
-    let t : Transition = record { unix_leap_time = pos 0; type_index = 0 } in
-    let most = count_most e last made.rising in
-    let own = at t in
-    record {
-      is = is;
-      inside = record {
-        inside = let r = (come_by e k t _ made.rising (omega arith)).0 come in omega linear;
-        table = in_table z e k c valid made (omega arith) is at;
-      };
-      nearest = λ d is_d inside.
-          let (j, below, time) = table_change z e d valid made is_d inside.table in
-          let other = time t in
-          let there = (come_by e j t _ made.rising below).1 (omega linear) in
-          elim (cases_lt k j) [
-            | inl b ↦ absurd (idle j (omega arith) there d is_d time)
-            | inr m ↦ let r = not_later _ j k t made.rising m (omega arith) in omega linear
-          ];
-    }
+  previous_found : (last : ℤ) (k : ℕ) (c : Change) → IsValid z → AreEntries z e → k < count_at e last → AreIdleBehind z e last (k + 1) → IsChange (TypeAt z) c
+      → ((d : Transition) → c.at ≡ (get_or e.items k d).unix_leap_time) → IsLastChange (TypeAt z) (IsInTable z (λ u. u ≤ℤ last)) c
+  previous_found last k c valid made come idle is at =
+      let t : Transition = record { unix_leap_time = pos 0; type_index = 0 } in
+      let most = count_most e last made.rising in
+      let own = at t in
+      record {
+        is = is;
+        inside = record {
+          inside = let r = (come_by e k t _ made.rising (omega arith)).0 come in omega linear;
+          table = in_table e k (omega arith) z c valid made is at;
+        };
+        nearest = λ d is_d inside.
+            let (j, below, time) = table_change z e d valid made is_d inside.table in
+            let other = time t in
+            let there = (come_by e j t _ made.rising below).1 (omega linear) in
+            elim (cases_lt k j) [
+              | inl b ↦ absurd (idle j (omega arith) there d is_d time)
+              | inr m ↦ let r = not_later _ j k t made.rising m (omega arith) in omega linear
+            ];
+      }
 
--- an entry at the least second makes none, nor do those before it
-least_idle : (z : Zone) (e : Entries) (last : ℤ) (k : ℕ) → AreEntries z e → k < count_at e last → AreIdleBehind z e last (k + 1)
-    → ((d : Transition) → (get_or e.items k d).unix_leap_time ≡ least_time)
-    → AreIdleBehind z e last 0
-least_idle z e last k made come idle least j _ below d is time =
-    let t : Transition = record { unix_leap_time = pos 0; type_index = 0 } in
-    let most = count_most e last made.rising in
-    let own = least t in let other = time t in
-    elim (cases_lt k j) [
-      | inl b ↦ idle j (omega arith) below d is time
-      | inr m ↦ let r = not_later _ j k t made.rising m (omega arith) in omega linear
-    ]
+  -- an entry at the least second makes none, nor do those before it
+  least_idle : (last : ℤ) (k : ℕ) → AreEntries z e → k < count_at e last → AreIdleBehind z e last (k + 1)
+      → ((d : Transition) → (get_or e.items k d).unix_leap_time ≡ least_time) → AreIdleBehind z e last 0
+  least_idle last k made come idle least j _ below d is time =
+      let t : Transition = record { unix_leap_time = pos 0; type_index = 0 } in
+      let most = count_most e last made.rising in
+      let own = least t in let other = time t in
+      elim (cases_lt k j) [
+        | inl b ↦ idle j (omega arith) below d is time
+        | inr m ↦ let r = not_later _ j k t made.rising m (omega arith) in omega linear
+      ]
 
-pub previous_by_entry : (z : Zone) (e : Entries) (last : ℤ) (k : ℕ) (r : Option Change) → IsValid z → AreEntries z e → k < count_at e last → k + 1 < e.all
-    → AreIdleBehind z e last (k + 1)
-    → IsEntryChange z.types e.items k r → IsLast (TypeAt z) (IsInTable z (λ u. u ≤ℤ last)) r
-previous_by_entry z e _ k None valid made come more idle least = previous_none z e _ valid made (least_idle z e _ k made come idle least)
-previous_by_entry z e last k (Some c) valid made come more idle h =
-    let (at, _, _, _, _) = h in previous_found z e _ k c valid made come idle (entry_change z e k c valid made (omega arith) more h) at
+  pub previous_by_entry : (last : ℤ) (k : ℕ) (r : Option Change) → IsValid z → AreEntries z e → k < count_at e last → k + 1 < e.all
+      → AreIdleBehind z e last (k + 1) → IsEntryChange z.types e.items k r → IsLast (TypeAt z) (IsInTable z (λ u. u ≤ℤ last)) r
+  previous_by_entry _ k None valid made come more idle least = previous_none _ valid made (least_idle _ k made come idle least)
+  previous_by_entry last k (Some c) valid made come more idle h =
+      let (at, _, _, _, _) = h in previous_found _ k c valid made come idle (entry_change e k (omega arith) z c valid made more h) at
 
-pub none_behind : (z : Zone) (e : Entries) (last : ℤ) (k : ℕ) → count_at e last ≡ k → AreIdleBehind z e last k
-none_behind z e _ k all j low high d is time = omega arith
+  pub none_behind : (last : ℤ) (k : ℕ) → count_at e last ≡ k → AreIdleBehind z e last k
+  none_behind _ k all j low high d is time = omega arith
 
--- if the last one that has come makes none
-pub idle_more : (z : Zone) (e : Entries) (last second : ℤ) (k : ℕ) → count_at e last ≡ k + 1 → ((d : Transition) → second ≡ (get_or e.items k d).unix_leap_time)
-    → HasNoChange (TypeAt z) (λ u. u ≡ second) → AreIdleBehind z e last k
-idle_more z e _ _ k all at none j low high d is time =
-    let t : Transition = record { unix_leap_time = pos 0; type_index = 0 } in
-    let same : j ≡ k = omega arith in none d is (sym (time t) ∙ ap (λ i. (get_or e.items i t).unix_leap_time) same ∙ sym (at t))
+  -- if the last one that has come makes none
+  pub idle_more : (last second : ℤ) (k : ℕ) → count_at e last ≡ k + 1 → ((d : Transition) → second ≡ (get_or e.items k d).unix_leap_time)
+      → HasNoChange (TypeAt z) (λ u. u ≡ second) → AreIdleBehind z e last k
+  idle_more _ _ k all at none j low high d is time =
+      let t : Transition = record { unix_leap_time = pos 0; type_index = 0 } in
+      let same : j ≡ k = omega arith in none d is (sym (time t) ∙ ap (λ i. (get_or e.items i t).unix_leap_time) same ∙ sym (at t))
 
-pub previous_at : (z : Zone) (e : Entries) (last second : ℤ) (k : ℕ) (c : Change) → IsValid z → AreEntries z e → count_at e last ≡ k + 1
-    → ((d : Transition) → second ≡ (get_or e.items k d).unix_leap_time)
-    → IsChange (TypeAt z) c → c.at ≡ second → IsLastChange (TypeAt z) (IsInTable z (λ u. u ≤ℤ last)) c
-previous_at z e _ _ k c valid made all at is there =
-    previous_found z e _ k c valid made (omega arith) (none_behind z e _ _ all) is (λ d. there ∙ at d)
+  pub previous_at : (last second : ℤ) (k : ℕ) (c : Change) → IsValid z → AreEntries z e → count_at e last ≡ k + 1
+      → ((d : Transition) → second ≡ (get_or e.items k d).unix_leap_time) → IsChange (TypeAt z) c → c.at ≡ second
+      → IsLastChange (TypeAt z) (IsInTable z (λ u. u ≤ℤ last)) c
+  previous_at _ _ k c valid made all at is there =
+      previous_found _ k c valid made (omega arith) (none_behind _ _ all) is (λ d. there ∙ at d)
 
--- ---- between two entries
-pub index_below : (z : Zone) (e : Entries) (k : ℕ) → IsValid z → AreEntries z e → k ≤ length e.items → index_of e.items k < length z.types
-index_below z e zero valid made h = valid.some
-index_below z e (suc k) valid made h =
-    let t : Transition = record { unix_leap_time = pos 0; type_index = 0 } in
-    let same : suc k ≡ k + 1 = omega arith in
-    rw (same, index_next e.items k t (omega arith)) (made.indexes k t (omega arith))
+  -- ---- between two entries
+  pub index_below : (k : ℕ) → IsValid z → AreEntries z e → k ≤ length e.items → index_of e.items k < length z.types
+  index_below zero valid made h = valid.some
+  index_below (suc k) valid made h =
+      let t : Transition = record { unix_leap_time = pos 0; type_index = 0 } in
+      let same : suc k ≡ k + 1 = omega arith in
+      rw (same, index_next e.items k t (omega arith)) (made.indexes k t (omega arith))
 
 -- at each second from the one entry on, and before the other, that many have come
 count_amid : (e : Entries) (u v : ℤ) (b : Between) → AreRising e.items → (h : IsBetween e u b) → b.from ≤ℤ v → v <ℤ b.until → count_at e v ≡ h.place
@@ -462,9 +460,9 @@ span_between z e u b t valid made h is fits low high has =
       span = record {
         some = (u, record { fits = fits; since = since; until = before });
         each = λ v i. type_between z e u v b t valid made h i.fits i.since i.until has;
-        begins = out_before z (record { at = b.from; before = r; after = t }) (entry_change z e (k - 1) _ valid made (omega arith) (omega arith)
+        begins = out_before z (record { at = b.from; before = r; after = t }) (entry_change e (k - 1) (omega arith) z _ valid made (omega arith)
             (begin, low, (λ q. omega linear), has_r, ap (λ i. slice_get z.types (index_of e.items i)) same ∙ own));
-        ends = out_from z (record { at = b.until; before = t; after = s }) (entry_change z e k _ valid made inside more
+        ends = out_from z (record { at = b.until; before = t; after = s }) (entry_change e k inside z _ valid made more
             (h.until, high, (λ q. omega linear), own, has_s));
       };
     }

@@ -269,15 +269,15 @@ not_between _ is b = let t = (between _).1 b in cc
 pub is_between : (bytes : List ℕ) → is_between_newlines bytes ≡ true → IsBetweenNewlines bytes
 is_between _ = (between _).0
 
-pub text_place : (extended : Bool) (bytes start text : List ℕ) (n : ℕ) → IsUtf8 bytes → IsBetweenNewlines bytes → IsTrimAsciiStart bytes start
-    → IsTrimAscii bytes text → IsTextPlace extended text n
-    → IsFooterPlace extended bytes ((length bytes - length start) + n)
-text_place _ _ _ text n utf8 newlines s t place =
-    rw (space_is _ _ s) (In_text text n (record { utf8 = utf8; newlines = newlines; trimmed = trims_both _ _ t }) place)
+-- the position of a fault in a footer's text
+module _ (extended : Bool) (bytes start text : List ℕ) (n : ℕ) (s : IsTrimAsciiStart bytes start) (t : IsTrimAscii bytes text)
+    (place : IsTextPlace extended text n) where
+  pub text_place : IsUtf8 bytes → IsBetweenNewlines bytes → IsFooterPlace extended bytes ((length bytes - length start) + n)
+  text_place utf8 newlines =
+      rw (space_is _ _ s) (In_text text n (record { utf8 = utf8; newlines = newlines; trimmed = trims_both _ _ t }) place)
 
-pub text_fits : (extended : Bool) (bytes start text : List ℕ) (n : ℕ) → IsTrimAsciiStart bytes start → IsTrimAscii bytes text → IsTextPlace extended text n
-    → (length bytes - length start) + n ≤ length bytes
-text_fits _ _ _ _ n s t place = rw (space_is _ _ s) (in_text _ _ _ n (trims_both _ _ t) place)
+  pub text_fits : (length bytes - length start) + n ≤ length bytes
+  text_fits = rw (space_is _ _ s) (in_text _ _ _ n (trims_both _ _ t) place)
 
 pub text_says : (extended : Bool) (bytes text : List ℕ) → IsUtf8 bytes → IsBetweenNewlines bytes → IsTrimAscii bytes text → SaysSome extended text
     → (rule : Option TransitionRule) × HasRule extended (Some bytes) rule

@@ -115,47 +115,47 @@ rule_says : (extended : Bool) (footer : Option (List ℕ)) (bytes : List ℕ) (r
     → HasRule extended footer rule → IsFooterPlace extended bytes n → ⊥
 rule_says extended _ _ rule n is has place = footer_says _ _ _ n (subst (λ f. HasRule extended f rule) is has) place
 
--- ---- the lists
-lists_once : (p : FilePieces) (q r : PartPlaces) (m n : ℕ) → ArePartPlaces p q → ArePartPlaces p r → q.end ≡ r.end
-    → IsListPlace p q m → IsListPlace p r n → m ≡ n
-lists_once p q r m n a b e (At_index j f) (At_index k g) = omega (arith, first_once _ _ j k f g)
-lists_once p q r m n a b e (At_index j f) (At_time k none g) = absurd (none j f.below f.here)
-lists_once p q r m n a b e (At_index j f) (At_leap k none t g) = absurd (none j f.below f.here)
-lists_once p q r m n a b e (At_index j f) (At_rule none t l) = absurd (none j f.below f.here)
-lists_once p q r m n a b e (At_time j none f) (At_index k g) = absurd (none k g.below g.here)
-lists_once p q r m n a b e (At_time j none f) (At_time k other g) = rw (first_once _ _ j k f g) (omega arith)
-lists_once p q r m n a b e (At_time j none f) (At_leap k other t g) = absurd (t j f.below f.here)
-lists_once p q r m n a b e (At_time j none f) (At_rule other t l) = absurd (t j f.below f.here)
-lists_once p q r m n a b e (At_leap j none t f) (At_index k g) = absurd (none k g.below g.here)
-lists_once p q r m n a b e (At_leap j none t f) (At_time k other g) = absurd (t k g.below g.here)
-lists_once p q r m n a b e (At_leap j none t f) (At_leap k other u g) = rw (first_once _ _ j k f g) (omega arith)
-lists_once p q r m n a b e (At_leap j none t f) (At_rule other u l) = absurd (l j f.below f.here)
-lists_once p q r m n a b e (At_rule none t l) (At_index k g) = absurd (none k g.below g.here)
-lists_once p q r m n a b e (At_rule none t l) (At_time k other g) = absurd (t k g.below g.here)
-lists_once p q r m n a b e (At_rule none t l) (At_leap k other u g) = absurd (l k g.below g.here)
-lists_once p q r m n a b e (At_rule none t l) (At_rule other u o) = omega arith
+-- the positions of a file's parts, given twice
+module _ (p : FilePieces) (q r : PartPlaces) (a : ArePartPlaces p q) (b : ArePartPlaces p r) (e : q.end ≡ r.end) where
+  -- ---- the lists
+  lists_once : (m n : ℕ) → IsListPlace p q m → IsListPlace p r n → m ≡ n
+  lists_once m n (At_index j f) (At_index k g) = omega (arith, first_once _ _ j k f g)
+  lists_once m n (At_index j f) (At_time k none g) = absurd (none j f.below f.here)
+  lists_once m n (At_index j f) (At_leap k none t g) = absurd (none j f.below f.here)
+  lists_once m n (At_index j f) (At_rule none t l) = absurd (none j f.below f.here)
+  lists_once m n (At_time j none f) (At_index k g) = absurd (none k g.below g.here)
+  lists_once m n (At_time j none f) (At_time k other g) = rw (first_once _ _ j k f g) (omega arith)
+  lists_once m n (At_time j none f) (At_leap k other t g) = absurd (t j f.below f.here)
+  lists_once m n (At_time j none f) (At_rule other t l) = absurd (t j f.below f.here)
+  lists_once m n (At_leap j none t f) (At_index k g) = absurd (none k g.below g.here)
+  lists_once m n (At_leap j none t f) (At_time k other g) = absurd (t k g.below g.here)
+  lists_once m n (At_leap j none t f) (At_leap k other u g) = rw (first_once _ _ j k f g) (omega arith)
+  lists_once m n (At_leap j none t f) (At_rule other u l) = absurd (l j f.below f.here)
+  lists_once m n (At_rule none t l) (At_index k g) = absurd (none k g.below g.here)
+  lists_once m n (At_rule none t l) (At_time k other g) = absurd (t k g.below g.here)
+  lists_once m n (At_rule none t l) (At_leap k other u g) = absurd (l k g.below g.here)
+  lists_once m n (At_rule none t l) (At_rule other u o) = omega arith
 
--- ---- the whole
-content_once : (p : FilePieces) (q r : PartPlaces) (m n : ℕ) → ArePartPlaces p q → ArePartPlaces p r → q.end ≡ r.end → IsContentPlace p q m
-    → IsContentPlace p r n → m ≡ n
-content_once p q r m n a b e (In_type j f) (In_type k g) = omega (arith, type_once p j k f g)
-content_once p q r m n a b e (In_type j f) (In_indicators k t g) = absurd (types_spelled p j t f)
-content_once p q r m n a b e (In_type j f) (In_footer bytes k t i s g) = absurd (types_spelled p j t f)
-content_once p q r m n a b e (In_type j f) (In_lists rule k t i h g) = absurd (types_spelled p j t f)
-content_once p q r m n a b e (In_indicators j t f) (In_type k g) = absurd (types_spelled p k t g)
-content_once p q r m n a b e (In_indicators j t f) (In_indicators k u g) = omega (arith, first_once _ _ j k f g)
-content_once p q r m n a b e (In_indicators j t f) (In_footer bytes k u i s g) = absurd (pairs_agree p _ j i f)
-content_once p q r m n a b e (In_indicators j t f) (In_lists rule k u i h g) = absurd (pairs_agree p _ j i f)
-content_once p q r m n a b e (In_footer bytes j t i s f) (In_type k g) = absurd (types_spelled p k t g)
-content_once p q r m n a b e (In_footer bytes j t i s f) (In_indicators k u g) = absurd (pairs_agree p _ k i g)
-content_once p q r m n a b e (In_footer bytes j t i s f) (In_footer other k u h o g) =
-    let same : bytes ≡ other = cc in
-    omega (arith, footer_once _ _ j k (subst (λ x. IsFooterPlace p.extended x j) same f) g)
-content_once p q r m n a b e (In_footer bytes j t i s f) (In_lists rule k u h o g) = absurd (rule_says _ _ _ _ j s o f)
-content_once p q r m n a b e (In_lists rule j t i h f) (In_type k g) = absurd (types_spelled p k t g)
-content_once p q r m n a b e (In_lists rule j t i h f) (In_indicators k u g) = absurd (pairs_agree p _ k i g)
-content_once p q r m n a b e (In_lists rule j t i h f) (In_footer bytes k u o s g) = absurd (rule_says _ _ _ _ k s h g)
-content_once p q r m n a b e (In_lists rule j t i h f) (In_lists other k u o w g) = lists_once p q r j k a b e f g
+  -- ---- the whole
+  content_once : (m n : ℕ) → IsContentPlace p q m → IsContentPlace p r n → m ≡ n
+  content_once m n (In_type j f) (In_type k g) = omega (arith, type_once p j k f g)
+  content_once m n (In_type j f) (In_indicators k t g) = absurd (types_spelled p j t f)
+  content_once m n (In_type j f) (In_footer bytes k t i s g) = absurd (types_spelled p j t f)
+  content_once m n (In_type j f) (In_lists rule k t i h g) = absurd (types_spelled p j t f)
+  content_once m n (In_indicators j t f) (In_type k g) = absurd (types_spelled p k t g)
+  content_once m n (In_indicators j t f) (In_indicators k u g) = omega (arith, first_once _ _ j k f g)
+  content_once m n (In_indicators j t f) (In_footer bytes k u i s g) = absurd (pairs_agree p _ j i f)
+  content_once m n (In_indicators j t f) (In_lists rule k u i h g) = absurd (pairs_agree p _ j i f)
+  content_once m n (In_footer bytes j t i s f) (In_type k g) = absurd (types_spelled p k t g)
+  content_once m n (In_footer bytes j t i s f) (In_indicators k u g) = absurd (pairs_agree p _ k i g)
+  content_once m n (In_footer bytes j t i s f) (In_footer other k u h o g) =
+      let same : bytes ≡ other = cc in
+      omega (arith, footer_once _ _ j k (subst (λ x. IsFooterPlace p.extended x j) same f) g)
+  content_once m n (In_footer bytes j t i s f) (In_lists rule k u h o g) = absurd (rule_says _ _ _ _ j s o f)
+  content_once m n (In_lists rule j t i h f) (In_type k g) = absurd (types_spelled p k t g)
+  content_once m n (In_lists rule j t i h f) (In_indicators k u g) = absurd (pairs_agree p _ k i g)
+  content_once m n (In_lists rule j t i h f) (In_footer bytes k u o s g) = absurd (rule_says _ _ _ _ k s h g)
+  content_once m n (In_lists rule j t i h f) (In_lists other k u o w g) = lists_once j k f g
 
 pub file_place_once : (bytes : List ℕ) (m n : ℕ) → IsFilePlace bytes m → IsFilePlace bytes n → m ≡ n
 file_place_once _ m n (In_piece d f) (In_piece e g) = refl
@@ -163,7 +163,7 @@ file_place_once bytes m n (In_piece d f) (In_contents p q k has are end g) = abs
 file_place_once bytes m n (In_contents p q j has are end f) (In_piece e g) = absurd (apart (pieces_law _) p e has g)
 file_place_once bytes m n (In_contents p q j has are end f) (In_contents o r k had were last g) =
     let same = value_once (pieces_law _) p o has had in
-    content_once o q r j k (subst (λ x. ArePartPlaces x q) same are) were (end ∙ sym last) (subst (λ x. IsContentPlace x q j) same f) g
+    content_once o q r (subst (λ x. ArePartPlaces x q) same are) were (end ∙ sym last) j k (subst (λ x. IsContentPlace x q j) same f) g
 
 -- ---- it is in the file, or at its end
 field_low : (e : Error) → before_field e ≤ 5

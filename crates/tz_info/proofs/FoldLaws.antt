@@ -49,16 +49,16 @@ first_outside z _ first _ end s ends back at since =
     let less = not_more z _ _ _ end _ ends back at.in_force_then in
     omega linear
 
--- so the span of `end` begins after it
-pub begins : (z : Zone) (local first last end : ℤ) (s : Span) → AreEndsOfFold z local first last → IsBackTo z local first last end → IsSpanAt (TypeAt z) end s
-    → s.from ≡ None → ⊥
-begins z _ _ _ end s ends back at none = first_outside z _ _ _ end s ends back at (rw none tt)
+-- a fold's ends, the second at which the clocks go back, and the span there
+module _ (z : Zone) (local first last end : ℤ) (s : Span) (ends : AreEndsOfFold z local first last) (back : IsBackTo z local first last end)
+    (at : IsSpanAt (TypeAt z) end s) where
+  -- so the span of `end` begins after it
+  pub begins : s.from ≡ None → ⊥
+  begins none = first_outside z _ _ _ end s ends back at (rw none tt)
 
-pub begins_at : (z : Zone) (local first last end from : ℤ) (s : Span) → AreEndsOfFold z local first last → IsBackTo z local first last end
-    → IsSpanAt (TypeAt z) end s
-    → s.from ≡ Some from → (first <ℤ from) × (from ≤ℤ end)
-begins_at z local first _ end from s ends back at is =
-    (by_lt_z first from (λ l. l) (λ m. absurd (first_outside z _ _ _ end s ends back at (rw is m))), rw is at at.inside.since)
+  pub begins_at : (from : ℤ) → s.from ≡ Some from → (first <ℤ from) × (from ≤ℤ end)
+  begins_at from is =
+      (by_lt_z first from (λ l. l) (λ m. absurd (first_outside z _ _ _ end s ends back at (rw is m))), rw is at at.inside.since)
 
 -- and from its begin on clocks show less
 less_from : (z : Zone) (local first last end from : ℤ) (s : Span) → AreEndsOfFold z local first last → IsBackTo z local first last end
@@ -66,7 +66,7 @@ less_from : (z : Zone) (local first last end from : ℤ) (s : Span) → AreEndsO
     → IsNear first → IsNear last → s.from ≡ Some from → (u : ℤ) (t : LocalType) → from ≤ℤ u → u <ℤ last → TypeAt z u t → (u +ℤ t.offset) <ℤ local
 less_from z _ _ _ end _ s ends back at near_first near_last is = λ u t since before here. by_lt_z u end
     (λ l.
-    let begun = begins_at z _ _ _ end _ s ends back at is in
+    let begun = begins_at z _ _ _ end s ends back at _ is in
     let inside : IsInSpan s u = record {
       fits = omega linear;
       since = rw is since;
@@ -77,44 +77,42 @@ less_from z _ _ _ end _ s ends back at near_first near_last is = λ u t since be
     omega linear)
     (λ m. back.less u t m before here)
 
--- the change at its begin is the one looked for, if clocks show the local time or more before it
-pub fold_at : (z : Zone) (local first last end from : ℤ) (s : Span) (before : LocalType) → AreEndsOfFold z local first last → IsBackTo z local first last end
-    → IsSpanAt (TypeAt z) end s → IsNear first → IsNear last → s.from ≡ Some from → TypeAt z (from -ℤ pos 1) before → local ≤ℤ
-    ((from -ℤ pos 1) +ℤ before.offset)
-    → HasFold (TypeAt z) local before s.local_time_type from
-fold_at z local _ _ end from s _ ends back at near_first near_last is earlier reached =
-    let begun = begins_at z _ _ _ end _ s ends back at is in let not_later = back.not_later in let inside : IsInSpan s from = record {
-      fits = omega (linear, begun.0, begun.1);
-      since = rw is (omega linear);
-      until = by_lt_z from end (λ l. until_less _ _ end at.inside.until (omega linear))
-          (λ m. let same : end ≡ from = omega (linear, begun.1) in rw (← same) at.inside.until);
-    } in record {
-      first_type = ends.first_type;
-      last_type = ends.last_type;
-      several = ends.several;
-      not_later = omega (linear, begun.1);
-      here = at.span.each from inside;
-      earlier = earlier;
-      reached = reached;
-      less = λ u t since until. less_from z _ _ _ end _ s ends back at near_first near_last is u t since (omega linear);
-    }
+-- a fold's near ends, the second at which the clocks go back, and the span there
+module _ (z : Zone) (local first last end from : ℤ) (s : Span) (before : LocalType) (ends : AreEndsOfFold z local first last)
+    (back : IsBackTo z local first last end) (at : IsSpanAt (TypeAt z) end s) (near_first : IsNear first) (near_last : IsNear last) (is : s.from ≡ Some from)
+    (earlier : TypeAt z (from -ℤ pos 1) before) where
+  -- the change at its begin is the one looked for, if clocks show the local time or more before it
+  pub fold_at : local ≤ℤ ((from -ℤ pos 1) +ℤ before.offset) → HasFold (TypeAt z) local before s.local_time_type from
+  fold_at reached =
+      let begun = begins_at z _ _ _ end s ends back at _ is in let not_later = back.not_later in let inside : IsInSpan s from = record {
+        fits = omega (linear, begun.0, begun.1);
+        since = rw is (omega linear);
+        until = by_lt_z from end (λ l. until_less _ _ end at.inside.until (omega linear))
+            (λ m. let same : end ≡ from = omega (linear, begun.1) in rw (← same) at.inside.until);
+      } in record {
+        first_type = ends.first_type;
+        last_type = ends.last_type;
+        several = ends.several;
+        not_later = omega (linear, begun.1);
+        here = at.span.each from inside;
+        earlier = earlier;
+        reached = reached;
+        less = λ u t since until. less_from z _ _ _ end _ s ends back at near_first near_last is u t since (omega linear);
+      }
 
--- else the search goes on before it
-pub goes_back : (z : Zone) (local first last end from : ℤ) (s : Span) (before : LocalType) → AreEndsOfFold z local first last → IsBackTo z local first last end
-    → IsSpanAt (TypeAt z) end s → IsNear first → IsNear last → s.from ≡ Some from → TypeAt z (from -ℤ pos 1) before → ((from -ℤ pos 1) +ℤ before.offset) <ℤ
-    local
-    → IsBackTo z local first last (from -ℤ pos 1)
-goes_back z local first last end from s before ends back at near_first near_last is earlier less =
-    let begun = begins_at z local _ _ end _ s ends back at is in let not_later = back.not_later in record {
-      after_first = by_lt_z first (from -ℤ pos 1) (λ l. l) (λ m.
-          let same : ends.several.first ≡ from -ℤ pos 1 = omega linear in
-          let offset = same_offset z _ _ _ (subst (λ (u : ℤ). TypeAt z u ends.first_type) same ends.several.at_first.type)
-          earlier in
-          omega linear);
-      not_later = omega linear;
-      less = λ u t since until here. by_lt_z u from
-          (λ l.
-          let same : from -ℤ pos 1 ≡ u = omega linear in
-          let offset = same_offset z u t _ here (subst (λ (u : ℤ). TypeAt z u before) same earlier) in omega linear)
-          (λ m. less_from z _ _ _ end _ s ends back at near_first near_last is u t m until here);
-    }
+  -- else the search goes on before it
+  pub goes_back : ((from -ℤ pos 1) +ℤ before.offset) <ℤ local → IsBackTo z local first last (from -ℤ pos 1)
+  goes_back less =
+      let begun = begins_at z local _ _ end s ends back at _ is in let not_later = back.not_later in record {
+        after_first = by_lt_z first (from -ℤ pos 1) (λ l. l) (λ m.
+            let same : ends.several.first ≡ from -ℤ pos 1 = omega linear in
+            let offset = same_offset z _ _ _ (subst (λ (u : ℤ). TypeAt z u ends.first_type) same ends.several.at_first.type)
+            earlier in
+            omega linear);
+        not_later = omega linear;
+        less = λ u t since until here. by_lt_z u from
+            (λ l.
+            let same : from -ℤ pos 1 ≡ u = omega linear in
+            let offset = same_offset z u t _ here (subst (λ (u : ℤ). TypeAt z u before) same earlier) in omega linear)
+            (λ m. less_from z _ _ _ end _ s ends back at near_first near_last is u t m until here);
+      }

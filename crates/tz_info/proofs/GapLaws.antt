@@ -52,8 +52,8 @@ HasOneType z i = (i < length z.transitions) ⊎ (IsSteady z.rule × (i ≡ lengt
 pub one_type : (z : Zone) (i : ℕ) (u v : ℤ) (s t : LocalType) → IsValid z → HasOneType z i → segment_of z u ≡ i → segment_of z v ≡ i → TypeAt z u s
     → TypeAt z v t → s ≡ t
 one_type z i u v s t valid (inl h) a b k m = some_once _ s t
-    (type_before z i u s valid.transitions.rising (record { type = k; segment = a }) h)
-    (type_before z i v t valid.transitions.rising (record { type = m; segment = b }) h)
+    (type_before z u s valid.transitions.rising i (record { type = k; segment = a }) h)
+    (type_before z v t valid.transitions.rising i (record { type = m; segment = b }) h)
 one_type z i u v s t valid (inr (steady, e)) a b k m = steady_once _ _ u v s t steady
     (type_from z u s valid.transitions.rising (record { type = k; segment = a ∙ e }))
     (type_from z v t valid.transitions.rising (record { type = m; segment = b ∙ e }))

@@ -42,37 +42,37 @@ pub record Before (es : List LeapSecond) (x v : ℤ) (i : ℕ) : Type 0 where
   pub value : v ≡ last_else (pos 0) (corrections (take i es))
   pub before : (k : ℕ) (d : LeapSecond) → k < i → (get_or es k d).unix_leap_time <ℤ x
 
-pub before_found : (es : List LeapSecond) (i : ℕ) (d : LeapSecond) (x v : ℤ) → AreLeapSeconds es → i ≤ length es → Before es x v i
-    → (i < length es → x ≤ℤ (get_or es i d).unix_leap_time) → v ≡ correction_before es x
-before_found es i d x v valid h p stops =
-    let e = filter_first (λ (e : LeapSecond). int_lt e.unix_leap_time x) es i h
-    (λ k f l. lt_true _ x (p.before k f l))
-    (λ k f l m.
-    let r = rises (λ j. (get_or es j f).unix_leap_time) _ (λ j b. let t = ((follow es valid).next j f (omega arith)).later in
-    omega linear) i k l m in
-    let g = ap (λ (e : LeapSecond). e.unix_leap_time) (get_or_default es i f d (omega arith)) in
-    lt_false _ x (omega linear)) in
-    rw e p.value
+-- leap seconds in order
+module _ (es : List LeapSecond) (d : LeapSecond) (valid : AreLeapSeconds es) where
+  pub before_found : (i : ℕ) (x v : ℤ) → i ≤ length es → Before es x v i → (i < length es → x ≤ℤ (get_or es i d).unix_leap_time) → v ≡ correction_before es x
+  before_found i x v h p stops =
+      let e = filter_first (λ (e : LeapSecond). int_lt e.unix_leap_time x) es i h
+      (λ k f l. lt_true _ x (p.before k f l))
+      (λ k f l m.
+      let r = rises (λ j. (get_or es j f).unix_leap_time) _ (λ j b. let t = ((follow es valid).next j f (omega arith)).later in
+      omega linear) i k l m in
+      let g = ap (λ (e : LeapSecond). e.unix_leap_time) (get_or_default es i f d (omega arith)) in
+      lt_false _ x (omega linear)) in
+      rw e p.value
 
--- the correction before the first entry's own time, and before a later one's
-pub before_first : (es : List LeapSecond) (d : LeapSecond) → AreLeapSeconds es → 0 < length es → correction_before es (get_or es 0 d).unix_leap_time ≡ pos 0
-before_first es d valid h =
-    sym (before_found es 0 d _ _ valid (omega arith)
-    (record { value = refl; before = λ k f l. absurd (omega arith) }) (λ _. omega linear))
+  -- the correction before the first entry's own time, and before a later one's
+  pub before_first : 0 < length es → correction_before es (get_or es 0 d).unix_leap_time ≡ pos 0
+  before_first h =
+      sym (before_found 0 _ _ (omega arith)
+      (record { value = refl; before = λ k f l. absurd (omega arith) }) (λ _. omega linear))
 
-pub before_later : (es : List LeapSecond) (k : ℕ) (d : LeapSecond) → AreLeapSeconds es → k + 1 < length es
-    → correction_before es (get_or es (k + 1) d).unix_leap_time ≡ (get_or es k d).correction
-before_later es k d valid h =
-    let x = (get_or es (k + 1) d).unix_leap_time in
-    sym (before_found es (k + 1) d x _ valid (omega arith) (record {
-      value = rw (add-one, last_taken (λ (e : LeapSecond). e.correction) _ es k d (omega arith));
-      before = λ j f l.
-          let r = rises (λ i. (get_or es i d).unix_leap_time) (length es) (λ i b. let t = ((follow es valid).next i d (omega arith)).later in
-          omega linear) j k (omega arith) (omega arith) in
-          let n = (valid.next k d (omega arith)).later in
-          let g = ap (λ (e : LeapSecond). e.unix_leap_time) (get_or_default es j f d (omega arith)) in
-          omega linear;
-    }) (λ _. omega linear))
+  pub before_later : (k : ℕ) → k + 1 < length es → correction_before es (get_or es (k + 1) d).unix_leap_time ≡ (get_or es k d).correction
+  before_later k h =
+      let x = (get_or es (k + 1) d).unix_leap_time in
+      sym (before_found (k + 1) x _ (omega arith) (record {
+        value = rw (add-one, last_taken (λ (e : LeapSecond). e.correction) _ es k d (omega arith));
+        before = λ j f l.
+            let r = rises (λ i. (get_or es i d).unix_leap_time) (length es) (λ i b. let t = ((follow es valid).next i d (omega arith)).later in
+            omega linear) j k (omega arith) (omega arith) in
+            let n = (valid.next k d (omega arith)).later in
+            let g = ap (λ (e : LeapSecond). e.unix_leap_time) (get_or_default es j f d (omega arith)) in
+            omega linear;
+      }) (λ _. omega linear))
 
 -- a leap time of 64 bits but the least lacks a Unix time only if that leaves 64 bits
 pub above_least : (x : ℤ) → least_time ≤ℤ x → ¬ (x ≡ least_time) → expected_of_leap_time x ≡ UnixTimeOf64Bits

@@ -12,17 +12,25 @@ use Rattle.tz_info.proofs.{
 abbrev pub counted_from : ℤ → List LeapSecond → ℤ → ℕ
 counted_from p es u = count_by (λ t. int_le t u) (thresholds p es)
 
--- the next threshold comes later
-tail_later : (p : ℤ) (e : LeapSecond) (es : List LeapSecond) → Follow p (e ∷ es) → (d : LeapSecond) → 0 < length es
-    → ((e.unix_leap_time -ℤ p) +ℤ pos 2_419_198) ≤ℤ ((get_or es 0 d).unix_leap_time -ℤ e.correction)
-tail_later p e es f d h = threshold_apart e _ p (f.next 0 d (omega arith)) (f.step e (omega arith))
+abbrev summed : ℤ → List LeapSecond → ℤ → ℤ
+summed p es u = u +ℤ last_else p (corrections (take (counted_from p es u) es))
 
-counted : (p u : ℤ) (e : LeapSecond) (es : List LeapSecond) → (e.unix_leap_time -ℤ p) ≤ℤ u → counted_from p (e ∷ es) u ≡ suc (counted_from e.correction es u)
-counted p u e es h = sum_by-cons (λ t. cond (int_le t u) 1 0) (e.unix_leap_time -ℤ p) (thresholds e.correction es)
-    ∙ rw (le_true _ u h) (omega arith)
+-- a leap second and those after it
+module _ (p : ℤ) (e : LeapSecond) (es : List LeapSecond) where
+  -- the next threshold comes later
+  tail_later : Follow p (e ∷ es) → (d : LeapSecond) → 0 < length es
+      → ((e.unix_leap_time -ℤ p) +ℤ pos 2_419_198) ≤ℤ ((get_or es 0 d).unix_leap_time -ℤ e.correction)
+  tail_later f d h = threshold_apart e _ p (f.next 0 d (omega arith)) (f.step e (omega arith))
 
-not_counted : (p u : ℤ) (e : LeapSecond) (es : List LeapSecond) → u <ℤ (e.unix_leap_time -ℤ p) → counted_from p (e ∷ es) u ≡ counted_from e.correction es u
-not_counted p u e es h = grind (linear, le_false)
+  counted : (u : ℤ) → (e.unix_leap_time -ℤ p) ≤ℤ u → counted_from p (e ∷ es) u ≡ suc (counted_from e.correction es u)
+  counted u h = sum_by-cons (λ t. cond (int_le t u) 1 0) (e.unix_leap_time -ℤ p) (thresholds e.correction es)
+      ∙ rw (le_true _ u h) (omega arith)
+
+  not_counted : (u : ℤ) → u <ℤ (e.unix_leap_time -ℤ p) → counted_from p (e ∷ es) u ≡ counted_from e.correction es u
+  not_counted u h = grind (linear, le_false)
+
+  summed_counted : (u : ℤ) → (e.unix_leap_time -ℤ p) ≤ℤ u → summed p (e ∷ es) u ≡ summed e.correction es u
+  summed_counted u h = rw (counted u h)
 
 -- where u lies before the first threshold no entry is passed
 pub none_counted : (p u : ℤ) (es : List LeapSecond) → Follow p es
@@ -30,13 +38,7 @@ pub none_counted : (p u : ℤ) (es : List LeapSecond) → Follow p es
 none_counted p u [] f h = refl
 none_counted p u (e ∷ es) f h =
     let here = h e (omega arith) in
-    not_counted p u e es here ∙ none_counted _ u es (follow_tail p e es f) (λ d l. let t = tail_later p e es f d l in omega linear)
-
-abbrev summed : ℤ → List LeapSecond → ℤ → ℤ
-summed p es u = u +ℤ last_else p (corrections (take (counted_from p es u) es))
-
-summed_counted : (p u : ℤ) (e : LeapSecond) (es : List LeapSecond) → (e.unix_leap_time -ℤ p) ≤ℤ u → summed p (e ∷ es) u ≡ summed e.correction es u
-summed_counted p u e es h = rw (counted p u e es h)
+    not_counted p e es u here ∙ none_counted _ u es (follow_tail p e es f) (λ d l. let t = tail_later p e es f d l in omega linear)
 
 summed_none : (p u : ℤ) (es : List LeapSecond) → Follow p es
     → ((d : LeapSecond) → 0 < length es → u <ℤ ((get_or es 0 d).unix_leap_time -ℤ p)) → summed p es u ≡ u +ℤ p
@@ -51,9 +53,9 @@ sums_rise p u v (e ∷ es) f h = by_lt_z u (e.unix_leap_time -ℤ p)
     let t = follow_tail p e es f in
     let r = sums_rise _ _ v es t above in
     let q = summed_none _ (e.unix_leap_time -ℤ p) es t (λ d l. let t = tail_later p e es f d l in omega linear) in
-    rw (summed_none p u _ f (λ d l. below), summed_counted p v e es above)
+    rw (summed_none p u _ f (λ d l. below), summed_counted p e es v above)
     (elim (f.step e (omega arith)) [ inl k ↦ omega linear | inr k ↦ omega linear ])))
-    (λ above. rw (summed_counted p u e es above, summed_counted p v e es (omega linear)) (sums_rise e.correction u v es (follow_tail p e es f) h))
+    (λ above. rw (summed_counted p e es u above, summed_counted p e es v (omega linear)) (sums_rise e.correction u v es (follow_tail p e es f) h))
 
 pub leap_sums_rise : (es : List LeapSecond) (u v : ℤ) → AreLeapSeconds es → u ≤ℤ v → (u +ℤ correction_at es u) ≤ℤ (v +ℤ correction_at es v)
 leap_sums_rise es u v valid h = sums_rise _ u v es (follow es valid) h
@@ -79,7 +81,7 @@ bounded p a u (e ∷ es) zero f h l =
     let above = was_counted p u e es _ f l in let t = h e (omega arith) in let d = f.step e (omega arith) in grind linear
 bounded p a u (e ∷ es) (suc k) f h l =
     let above = was_counted p u e es _ f l in let t = h e (omega arith) in let d = f.step e (omega arith) in
-    let c = counted p u e es above in
+    let c = counted p e es u above in
     grind (
       arith,
       ints,
@@ -104,12 +106,12 @@ pub split : (p u : ℤ) (es : List LeapSecond) (k : ℕ) → Follow p es → k <
 split p u [] k f h = absurd (omega arith)
 split p u (e ∷ es) zero f h = by_lt_z u (e.unix_leap_time -ℤ p)
     (λ below. let z = none_counted p u _ f (λ d m. below) in record { passed = λ l. absurd (omega arith); not_passed = λ l. below })
-    (λ above. let c = counted p u e es above in record { passed = λ l. above; not_passed = λ l. absurd (omega arith) })
+    (λ above. let c = counted p e es u above in record { passed = λ l. above; not_passed = λ l. absurd (omega arith) })
 split p u (e ∷ es) (suc k) f h =
     let r = split _ u es k (follow_tail p e es f) (omega arith) in
     by_lt_z u (e.unix_leap_time -ℤ p)
     (λ below.
-    let c = not_counted p u e es below in let z = none_counted p u _ f (λ d m. below) in
+    let c = not_counted p e es u below in let z = none_counted p u _ f (λ d m. below) in
     record { passed = λ l. omega arith; not_passed = λ l. r.not_passed (omega arith) })
     (λ above. grind (arith, counted))
 

@@ -24,7 +24,7 @@ all_between es u n e = let m = passed_at_most es u in record { least = omega ari
 -- no entry comes before 1970
 pub since_epoch : (es : List LeapSecond) (k : ℕ) (d : LeapSecond) → AreLeapSeconds es → k < length es → pos 0 ≤ℤ (get_or es k d).unix_leap_time
 since_epoch es k d valid h =
-    let f = (valid.first d (omega arith)).since_epoch in let r = times_rise es 0 k d valid (omega arith) h in omega linear
+    let f = (valid.first d (omega arith)).since_epoch in let r = times_rise es d valid 0 k (omega arith) h in omega linear
 
 -- a sum held within 64 bits is on the same side of a number of 64 bits but the least as the sum itself
 le_saturated : (l s : ℤ) → SFits w64 l → pos 0 ≤ℤ l → (l ≤ℤ saturate_signed w64 s) ↔ (l ≤ℤ s)
@@ -133,7 +133,7 @@ pub lt_is_not : (a b : ℤ) → int_lt a b ≡ false → b ≤ℤ a
 lt_is_not a b h = by_lt_z a b (λ l. let t = lt_true a b l in cc) (λ m. m)
 
 pub parted_before : (es : List LeapSecond) (x : ℤ) → AreLeapSeconds es → IsPartitionedBy (λ e. int_lt e.unix_leap_time x) es
-parted_before es x valid i j d h l t = let r = times_rise es i j d valid h l in
+parted_before es x valid i j d h l t = let r = times_rise es d valid i j h l in
     earlier (get_or es i d).unix_leap_time (get_or es j d).unix_leap_time x r t where
       earlier : (a b x : ℤ) → a ≤ℤ b → int_lt b x ≡ true → int_lt a x ≡ true
       earlier a b x h t = grind arith

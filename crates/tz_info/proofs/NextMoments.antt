@@ -17,31 +17,31 @@ outside _ _ u _ before here after y low high = grind (arith, place)
 same_year : (u v next year : ℤ) → IsYearOf u year → u ≤ℤ v → v <ℤ next → next ≤ℤ (pos 86_400 *ℤ year_start (year +ℤ pos 1)) → IsYearOf v year
 same_year u v _ _ of_u from before end = (omega (arith, floors), omega (arith, floors))
 
--- what encloses the one second encloses the other
-on : (firsts lasts : ℤ → ℤ) (year u v next : ℤ) → IsNear firsts → IsNear lasts → IsYearOf u year → u ≤ℤ v → v <ℤ next → AreOutside lasts year u next
-    → IsInSomeYear firsts lasts u → IsInSomeYear firsts lasts v
-on firsts lasts year u v _ near_first near_last of_u from before out (y, a, b) =
-    let low = not_earlier _ u _ y near_last of_u b in
-    let high = not_later _ u _ y near_first of_u a in
-    (y, omega (arith, floors), ⊎_elim (λ h. omega (arith, floors)) (λ h. omega (arith, floors)) (out y low high))
+-- moments of each year near it, and two seconds before the next
+module _ (firsts lasts : ℤ → ℤ) (year u v next : ℤ) (near_first : IsNear firsts) (near_last : IsNear lasts) (from : u ≤ℤ v) (before : v <ℤ next) where
+  -- what encloses the one second encloses the other
+  on : IsYearOf u year → AreOutside lasts year u next → IsInSomeYear firsts lasts u → IsInSomeYear firsts lasts v
+  on of_u out (y, a, b) =
+      let low = not_earlier _ u _ y near_last of_u b in
+      let high = not_later _ u _ y near_first of_u a in
+      (y, omega (arith, floors), ⊎_elim (λ h. omega (arith, floors)) (λ h. omega (arith, floors)) (out y low high))
 
-back : (firsts lasts : ℤ → ℤ) (year u v next : ℤ) → IsNear firsts → IsNear lasts → IsYearOf v year → u ≤ℤ v → v <ℤ next → AreOutside firsts year u next
-    → IsInSomeYear firsts lasts v → IsInSomeYear firsts lasts u
-back firsts lasts year u v _ near_first near_last of_v from before out (y, a, b) =
-    let low = not_earlier _ v _ y near_last of_v b in
-    let high = not_later _ v _ y near_first of_v a in
-    (y, ⊎_elim (λ h. h) (λ h. omega (arith, floors)) (out y low high), omega (arith, floors))
+  back : IsYearOf v year → AreOutside firsts year u next → IsInSomeYear firsts lasts v → IsInSomeYear firsts lasts u
+  back of_v out (y, a, b) =
+      let low = not_earlier _ v _ y near_last of_v b in
+      let high = not_later _ v _ y near_first of_v a in
+      (y, ⊎_elim (λ h. h) (λ h. omega (arith, floors)) (out y low high), omega (arith, floors))
 
 dst_on : (starts ends : ℤ → ℤ) (year u v next : ℤ) (dst : Bool) → IsNear starts → IsNear ends → IsYearOf u year → IsYearOf v year → u ≤ℤ v → v <ℤ next
     → AreOutside starts year u next → AreOutside ends year u next → IsDstAt starts ends year u dst → IsDstAt starts ends year v dst
 dst_on _ _ _ u v _ dst near_start near_end of_u of_v from before out_start out_end h = record {
   start_first = λ order. let k = h.start_first order in (
-    λ t. on _ _ _ u v _ near_start near_end of_u from before out_end (k.0 t),
-    λ s. k.1 (back _ _ _ u v _ near_start near_end of_v from before out_start s),
+    λ t. on _ _ _ u v _ near_start near_end from before of_u out_end (k.0 t),
+    λ s. k.1 (back _ _ _ u v _ near_start near_end from before of_v out_start s),
   );
   end_first = λ order. let k = h.end_first order in (
-    λ t. on _ _ _ u v _ near_end near_start of_u from before out_start (k.0 t),
-    λ s. k.1 (back _ _ _ u v _ near_end near_start of_v from before out_end s),
+    λ t. on _ _ _ u v _ near_end near_start from before of_u out_start (k.0 t),
+    λ s. k.1 (back _ _ _ u v _ near_end near_start from before of_v out_end s),
   );
 }
 

@@ -36,8 +36,8 @@ pub rule_keeps : (z : Zone) (a : AlternateRule) (begin : ℤ) → IsValid z → 
 rule_keeps z a _ valid rule h same d is later =
     let change = is.is in
     let all = has_begun z _ _ _ valid h change.fits_before change.before (omega linear) in
-    let before = to_rule z a _ _ valid rule all change.before in
-    let after = to_rule z a _ _ valid rule (last_too z _ valid all) change.after in
+    let before = to_rule z a _ _ rule valid all change.before in
+    let after = to_rule z a _ _ rule valid (last_too z _ valid all) change.after in
     is.other (offset_by_rule a _ _ same before ∙ sym (offset_by_rule a _ _ same after))
 
 -- ---- walks

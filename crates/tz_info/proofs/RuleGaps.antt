@@ -98,31 +98,31 @@ pub season_in : (z : Zone) (rule : TransitionRule) (from l : ℤ) (s : Option Se
 season_in z _ _ l None is start h = h
 season_in z rule from l (Some s) is start h = (from, start, rw is h)
 
--- by the rule no near second shows the local time
-never_from : (z : Zone) (a : AlternateRule) (l from : ℤ) → IsValid z → z.rule ≡ Some (Alternate a)
-    → IsStart z.transitions z.leaps (length z.transitions) from → IsNever z l → IsNeverFrom a from l
-never_from z a l _ valid rule start never u t near since k shown =
-    never u t
-    (record { fits = omega linear; type = from_rule z a u t valid rule ((rule_begun z u _ valid near start).1 since) k; shown = shown })
+-- a local time that a zone never shows, after the second from which its rule answers
+module _ (z : Zone) (a : AlternateRule) (l from : ℤ) (valid : IsValid z) (rule : z.rule ≡ Some (Alternate a))
+    (start : IsStart z.transitions z.leaps (length z.transitions) from) (never : IsNever z l) where
+  -- by the rule no near second shows the local time
+  never_from : IsNeverFrom a from l
+  never_from u t near since k shown =
+      never u t
+      (record { fits = omega linear; type = from_rule z a u t rule valid ((rule_begun z u _ valid near start).1 since) k; shown = shown })
 
--- the rule's gap is the zone's, if clocks show less before the rule begins
-gap_by_rule : (z : Zone) (a : AlternateRule) (l low high from : ℤ) (c : Change) → IsValid z → z.rule ≡ Some (Alternate a)
-    → IsStart z.transitions z.leaps (length z.transitions) from → IsNever z l → IsWindowOf z l l low high
-    → IsTableLess z l → IsRuleGap a from l c → HasGap (TypeAt z) l c.before c.after c.at
-gap_by_rule z a l low _ from c valid rule start never reach all g =
-    let since = g.since in
-    let count : table_count z ≡ length z.transitions = rw rule in
-    let by : (u : ℤ) (t : LocalType) → IsNear u → from ≤ℤ u → AlternateAt a u t → TypeAt z u t =
-    λ u t near h k. from_rule z a u t valid rule ((rule_begun z u _ valid near start).1 h) k in
-    let less : AreLess z l (c.at -ℤ pos 1) = λ u near before t k. by_lt_z u from
-    (λ h. let m = (not_begun z _ _ u valid start near).1 h in all u t near (omega arith) k)
-    (λ h. g.less u t h (omega linear) (to_rule z a u t valid rule ((rule_begun z u _ valid near start).1 h) k)) in
-    gap_found z l low _ _ _ _ never reach g.near less (by c.at c.after g.near (omega linear) g.after) g.more
-    (by (c.at -ℤ pos 1) c.before g.near_before since g.before)
+  -- the rule's gap is the zone's, if clocks show less before the rule begins
+  gap_by_rule : (low high : ℤ) (c : Change) → IsWindowOf z l l low high → IsTableLess z l → IsRuleGap a from l c → HasGap (TypeAt z) l c.before c.after c.at
+  gap_by_rule low _ c reach all g =
+      let since = g.since in
+      let count : table_count z ≡ length z.transitions = rw rule in
+      let by : (u : ℤ) (t : LocalType) → IsNear u → from ≤ℤ u → AlternateAt a u t → TypeAt z u t =
+      λ u t near h k. from_rule z a u t rule valid ((rule_begun z u _ valid near start).1 h) k in
+      let less : AreLess z l (c.at -ℤ pos 1) = λ u near before t k. by_lt_z u from
+      (λ h. let m = (not_begun z _ _ u valid start near).1 h in all u t near (omega arith) k)
+      (λ h. g.less u t h (omega linear) (to_rule z a u t rule valid ((rule_begun z u _ valid near start).1 h) k)) in
+      gap_found z l low _ _ _ _ never reach g.near less (by c.at c.after g.near (omega linear) g.after) g.more
+      (by (c.at -ℤ pos 1) c.before g.near_before since g.before)
 
 -- so is that of a season of the zone
 pub gap_by_season : (z : Zone) (a : AlternateRule) (l low high : ℤ) (s : Season) (c : Change) → IsValid z → z.rule ≡ Some (Alternate a) → IsSeasonIn z l s
     → IsNever z l → IsWindowOf z l l low high → IsTableLess z l
     → ((from : ℤ) → IsSeasonFor a from l s → IsNeverFrom a from l → IsRuleGap a from l c) → HasGap (TypeAt z) l c.before c.after c.at
 gap_by_season z a l low _ s c valid rule (from, start, season) never reach all made =
-    gap_by_rule z a l low _ _ c valid rule start never reach all (made from (rw rule at season) (never_from z a l _ valid rule start never))
+    gap_by_rule z a l _ valid rule start never low _ c reach all (made from (rw rule at season) (never_from z a l _ valid rule start never))

@@ -47,7 +47,7 @@ pub still_reached : (a : Alternate) (begin t l : ℤ) (s : LocalType) → IsAlte
     → l ≡ t +ℤ s.offset → HasNoChange (AlternateAt a) (λ w. (begin <ℤ w) × (w ≤ℤ t)) → IsReachedSince (AlternateAt a) begin t l
 still_reached a _ t l s rule wide order here offset is none = reached_now _ _ t l s wide order here offset is
     (λ m u r from come shows.
-    let same = unchanged a u t r s rule (λ d change i. none d change (omega linear, i.1)) shows.type here come in
+    let same = unchanged a rule u t r s (λ d change i. none d change (omega linear, i.1)) shows.type here come in
     let less = shows_less _ m u t r s shows same come in omega linear)
 
 -- of two types that differ each type of the rule is one
@@ -70,7 +70,7 @@ at_most : (a : Alternate) (c : Change) (t m u : ℤ) (s r : LocalType) → IsAlt
     → (m ≤ℤ (t +ℤ s.offset)) ⊎ (m ≤ℤ ((c.at -ℤ pos 1) +ℤ c.before.offset))
 at_most a c t m u s r rule here last come shows =
     let since : (v : ℤ) (x : LocalType) → c.at ≤ℤ v → v ≤ℤ t → AlternateAt a v x → x ≡ s = λ v x from until there.
-    unchanged a v t x s rule (λ d change i. let k = last.nearest d change i.1 in let j = i.0 in omega (linear, from)) there here until in
+    unchanged a rule v t x s (λ d change i. let k = last.nearest d change i.1 in let j = i.0 in omega (linear, from)) there here until in
     by_lt_z u c.at
     (λ earlier.
     elim (before_or_after a c u r last.is.before last.is.after last.is.differ shows.type) [
@@ -161,7 +161,7 @@ module _ (a : Alternate) (begin local g low : ℤ) (rule : IsAlternateRule a) (g
         → shown ≤ℤ v
     shown_from v r from shows none =
         let come = less_before v r from shows in
-        let e = ap (λ (x : LocalType). x.offset) (unchanged a low v s r rule none here shows.type come) in let reached = shows.reached in
+        let e = ap (λ (x : LocalType). x.offset) (unchanged a rule low v s r none here shows.type come) in let reached = shows.reached in
         (shown_is v).1 (come, omega (linear, e, reached))
 
     -- if they don't change up to then, it is that second
@@ -174,7 +174,7 @@ module _ (a : Alternate) (begin local g low : ℤ) (rule : IsAlternateRule a) (g
           from = from.0;
           shown = record {
             fits = omega (linear, near);
-            type = still a low shown s rule none here (omega (linear, near), omega (linear, near)) least.0;
+            type = still a rule low shown s none here (omega (linear, near), omega (linear, near)) least.0;
             reached = omega (linear, least);
           };
           first = λ v r begun shows. by_lt_z v shown
@@ -192,7 +192,7 @@ module _ (a : Alternate) (begin local g low : ℤ) (rule : IsAlternateRule a) (g
         let none : (v : ℤ) → v <ℤ c.at → HasNoChange (AlternateAt a) (λ w. (low <ℤ w) × (w ≤ℤ v)) = λ v less d change i.
         let k = next.nearest d change i.0 in let j = i.1 in omega (linear, k, j, less) in
         let before : s ≡ c.before =
-        unchanged a low (c.at -ℤ pos 1) s c.before rule (none (c.at -ℤ pos 1) (omega linear)) here next.is.before (omega (linear, inside)) in
+        unchanged a rule low (c.at -ℤ pos 1) s c.before (none (c.at -ℤ pos 1) (omega linear)) here next.is.before (omega (linear, inside)) in
         let (b, is) = of_greater a g greater in
         let reached : g ≡ c.after.offset = elim (two_types a b next.is.before.dst next.is.after.dst
         (λ same. next.is.differ (next.is.before.shown ∙ same ∙ sym next.is.after.shown))) [

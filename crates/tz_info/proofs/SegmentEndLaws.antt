@@ -101,69 +101,66 @@ pub come_by : (ts : List Transition) (k : ℕ) (v : ℤ) → AreRising ts → k 
 come_by ts zero v _ within begun = omega arith
 come_by ts (suc k) v rising within begun = (come_from ts _ v rising (omega arith) within).1 begun
 
--- a near second shows the local time or a later one, so that the segment has begun by then
-pub begun_near : (z : Zone) (ts : List Transition) (top k : ℕ) (l low high : ℤ) → IsValid z → IsRuleOrNone z.rule → IsTable z ts top → k ≤ top
-    → IsWide l → IsWindowOf z l l low high
-    → IsFirstSegment z.types ts l k → begin_of ts k ≤ℤ pos 10_000_000_000_000
-begun_near z ts top k l low high valid limits table own wide reach first =
-    let near_high = reach.near_high in let (latest, here) = near_type z high valid limits near_high in
-    let least = at_least_least z _ _ latest reach.least here in
-    let fits : SFits w64 high = omega linear in
-    elim (cases_lt (place_at ts high) k) [
-      | inl before ↦ let less = shows_less z ts top k l high latest table first.within (near_wide l wide) first.before fits before (omega arith) here in
-          omega linear
-      | inr come ↦ let begun = begun_by ts k high table.rising first.within come fits in omega linear
-    ]
+-- the first segment that reaches a local time
+module _ (z : Zone) (ts : List Transition) (top k : ℕ) (l : ℤ) (table : IsTable z ts top) (wide : IsWide l) (first : IsFirstSegment z.types ts l k) where
+  -- a near second shows the local time or a later one, so that the segment has begun by then
+  pub begun_near : (low high : ℤ) → IsValid z → IsRuleOrNone z.rule → k ≤ top → IsWindowOf z l l low high → begin_of ts k ≤ℤ pos 10_000_000_000_000
+  begun_near low high valid limits own reach =
+      let near_high = reach.near_high in let (latest, here) = near_type z high valid limits near_high in
+      let least = at_least_least z _ _ latest reach.least here in
+      let fits : SFits w64 high = omega linear in
+      elim (cases_lt (place_at ts high) k) [
+        | inl before ↦ let less = shows_less z ts top k l high latest table first.within (near_wide l wide) first.before fits before (omega arith) here in
+            omega linear
+        | inr come ↦ let begun = begun_by ts k high table.rising first.within come fits in omega linear
+      ]
 
--- and the next one has not
-before_next : (z : Zone) (ts : List Transition) (top k : ℕ) (l at : ℤ) (t : LocalType) → IsTable z ts top → IsWide l → IsFirstSegment z.types ts l k
-    → IsFirstOf z.types ts k l at t → k < length ts
-    → at <ℤ begin_of ts (suc k)
-before_next z ts top k l at t table wide first is inner =
-    let next = begin_of ts (suc k) in
-    let sat = saturated _ l (near_wide l wide) in
-    let end = end_at _ ts k t is.listed in
-    let ends : l <ℤ (next +ℤ t.offset) = by_lt_z l (next +ℤ t.offset) (λ m. m) (λ m. let s = sat.1 m in omega linear) in
-    let rise : begin_of ts k <ℤ next = elim (cases_lt 0 k) [
-      | inl some ↦ begins_rise ts k table.rising some inner
-      | inr none ↦ let e : k ≡ 0 = omega arith in let f = begin_first ts in let g : begin_of ts k ≡ least_time = rw e f in omega linear
-    ] in
-    let before = (is.from (next -ℤ pos 1)).1 (omega linear, omega linear) in omega linear
+  -- and the next one has not
+  before_next : (at : ℤ) (t : LocalType) → IsFirstOf z.types ts k l at t → k < length ts → at <ℤ begin_of ts (suc k)
+  before_next at t is inner =
+      let next = begin_of ts (suc k) in
+      let sat = saturated _ l (near_wide l wide) in
+      let end = end_at _ ts k t is.listed in
+      let ends : l <ℤ (next +ℤ t.offset) = by_lt_z l (next +ℤ t.offset) (λ m. m) (λ m. let s = sat.1 m in omega linear) in
+      let rise : begin_of ts k <ℤ next = elim (cases_lt 0 k) [
+        | inl some ↦ begins_rise ts k table.rising some inner
+        | inr none ↦ let e : k ≡ 0 = omega arith in let f = begin_first ts in let g : begin_of ts k ≡ least_time = rw e f in omega linear
+      ] in
+      let before = (is.from (next -ℤ pos 1)).1 (omega linear, omega linear) in omega linear
 
--- the first second of the first segment that ends later
-pub first_there : (z : Zone) (ts : List Transition) (top k : ℕ) (l low high at : ℤ) (t : LocalType) → IsValid z → IsRuleOrNone z.rule → IsTable z ts top
-    → k < top → IsWide l → IsWindowOf z l l low high
-    → IsFirstSegment z.types ts l k → IsFirstOf z.types ts k l at t → IsFirstAtOrAfter (TypeAt z) l at t
-first_there z ts top k l low high at t valid limits table own wide reach first is =
-    let near = near_of l _ wide is.offset in let b = near.1 in
-    let (since, from) = (is.from at).0 (omega linear) in
-    let begun = begun_near z ts top k l low high valid limits table (omega (arith, own)) wide reach first in
-    let most : at ≤ℤ pos 10_000_000_000_000 = (is.from (pos 10_000_000_000_000)).1 (begun, omega linear) in
-    let near_at : IsNear at = (omega linear, omega linear) in
-    let fits : SFits w64 at = omega linear in
-    let come = come_by ts k at table.rising first.within since in
-    let within = place_most ts at table.rising in
-    let here : place_at ts at ≡ k = elim (cases_lt k (place_at ts at)) [
-      | inl beyond ↦
-          let n = before_next z ts top k l at t table wide first is (omega arith) in
-          let c = (come_from ts (suc k) at table.rising (omega arith) (omega arith)).0 beyond in omega linear
-      | inr not ↦ omega arith
-    ] in
-    record {
-      shown = record { fits = fits; type = table.in_force at t near_at (omega arith) (rw here is.listed); reached = omega linear };
-      first = λ v s h. by_lt_z v at
-          (λ earlier.
-          let rise = places_rise ts v at table.rising (omega linear) in
-          elim (cases_lt (place_at ts v) k) [
-            | inl before ↦ let less = shows_less z ts top k l v s table first.within (near_wide l wide) first.before h.fits before (omega arith) h.type in
-                omega linear
-            | inr same ↦
-                let one = ap (λ (x : LocalType). x.offset) (type_there z ts top k v s t table own h.fits is.listed (omega arith) h.type) in
-                let b = begun_by ts k v table.rising first.within same h.fits in
-                (is.from v).1 (b, omega linear)
-          ])
-          (λ m. m);
-    }
+  -- the first second of the first segment that ends later
+  pub first_there : (low high at : ℤ) (t : LocalType) → IsValid z → IsRuleOrNone z.rule → k < top → IsWindowOf z l l low high → IsFirstOf z.types ts k l at t
+      → IsFirstAtOrAfter (TypeAt z) l at t
+  first_there low high at t valid limits own reach is =
+      let near = near_of l _ wide is.offset in let b = near.1 in
+      let (since, from) = (is.from at).0 (omega linear) in
+      let begun = begun_near low high valid limits (omega (arith, own)) reach in
+      let most : at ≤ℤ pos 10_000_000_000_000 = (is.from (pos 10_000_000_000_000)).1 (begun, omega linear) in
+      let near_at : IsNear at = (omega linear, omega linear) in
+      let fits : SFits w64 at = omega linear in
+      let come = come_by ts k at table.rising first.within since in
+      let within = place_most ts at table.rising in
+      let here : place_at ts at ≡ k = elim (cases_lt k (place_at ts at)) [
+        | inl beyond ↦
+            let n = before_next at t is (omega arith) in
+            let c = (come_from ts (suc k) at table.rising (omega arith) (omega arith)).0 beyond in omega linear
+        | inr not ↦ omega arith
+      ] in
+      record {
+        shown = record { fits = fits; type = table.in_force at t near_at (omega arith) (rw here is.listed); reached = omega linear };
+        first = λ v s h. by_lt_z v at
+            (λ earlier.
+            let rise = places_rise ts v at table.rising (omega linear) in
+            elim (cases_lt (place_at ts v) k) [
+              | inl before ↦ let less = shows_less z ts top k l v s table first.within (near_wide l wide) first.before h.fits before (omega arith) h.type in
+                  omega linear
+              | inr same ↦
+                  let one = ap (λ (x : LocalType). x.offset) (type_there z ts top k v s t table own h.fits is.listed (omega arith) h.type) in
+                  let b = begun_by ts k v table.rising first.within same h.fits in
+                  (is.from v).1 (b, omega linear)
+            ])
+            (λ m. m);
+      }
 
 -- ---- making the latest ends
 -- those of the first segments

@@ -17,15 +17,18 @@ not_later ts i k d r h l = elim (cases_lt i k) [
   | inr m ↦ let e : i ≡ k = omega arith in rw e (omega linear)
 ]
 
-first_come : (t : Transition) (ts : List Transition) (x : ℤ) (n : ℕ) → t.unix_leap_time ≤ℤ x → Between ts x n n → (k : ℕ) (d : Transition) → k < suc n
-    → (get_or (t ∷ ts) k d).unix_leap_time ≤ℤ x
-first_come t ts x n h b zero d l = h
-first_come t ts x n h b (suc k) d l = b.below k d (omega arith)
+-- a second between two neighbours of a list
+module _ (ts : List Transition) (x : ℤ) (n : ℕ) (b : Between ts x n n) where
+  first_come : (t : Transition) → t.unix_leap_time ≤ℤ x → (k : ℕ) (d : Transition) → k < suc n → (get_or (t ∷ ts) k d).unix_leap_time ≤ℤ x
+  first_come t h zero d l = h
+  first_come t h (suc k) d l = b.below k d (omega arith)
 
-others_later : (t : Transition) (ts : List Transition) (x : ℤ) (n : ℕ) → Between ts x n n → (k : ℕ) (d : Transition) → suc n ≤ k → k < length (t ∷ ts)
-    → x <ℤ (get_or (t ∷ ts) k d).unix_leap_time
-others_later t ts x n b zero d a l = absurd (omega arith)
-others_later t ts x n b (suc k) d a l = grind linear
+  others_later : (t : Transition) (k : ℕ) (d : Transition) → suc n ≤ k → k < length (t ∷ ts) → x <ℤ (get_or (t ∷ ts) k d).unix_leap_time
+  others_later t zero d a l = absurd (omega arith)
+  others_later t (suc k) d a l = grind linear
+
+  pub split_count : length (passed ts x) ≡ n
+  split_count = rw (search_found ts x n n (omega arith) b) (simp length-take (omega arith))
 
 -- transitions that rise are split by a leap time
 pub split_at : (ts : List Transition) (x : ℤ) → AreRising ts → (n : ℕ) × Between ts x n n
@@ -43,10 +46,7 @@ split_at (t ∷ ts) x r = by_lt_z x t.unix_leap_time
     ))
     (λ come.
     let p = split_at ts x (λ i j d h l. r (suc i) (suc j) d (omega arith) (omega arith)) in
-    let b = p.1 in (suc p.0, record { ordered = omega arith; within = omega arith; below = first_come t ts x p.0 come b; above = others_later t ts x p.0 b }))
-
-pub split_count : (ts : List Transition) (x : ℤ) (n : ℕ) → Between ts x n n → length (passed ts x) ≡ n
-split_count ts x n b = rw (search_found ts x n n (omega arith) b) (simp length-take (omega arith))
+    let b = p.1 in (suc p.0, record { ordered = omega arith; within = omega arith; below = first_come ts x p.0 b t come; above = others_later ts x p.0 b t }))
 
 pub between_passed : (ts : List Transition) (x : ℤ) (n : ℕ) → AreRising ts → n ≤ length ts → passed ts x ≡ take n ts → Between ts x n n
 between_passed ts x n r h e =
@@ -157,26 +157,25 @@ come_by_time ts x k d rising h =
       (λ c. elim (cases_lt k p.0) [ inl l ↦ omega arith | inr m ↦ let q = p.1.above k d m h in omega linear ]),
     )
 
-taken_in : (z : Zone) (i : ℕ) (u : ℤ) (t : LocalType) → AreRising z.transitions → (k : TypeIn z i u t)
-    → passed z.transitions k.type.leap_time ≡ take i z.transitions
-taken_in z i u t r k = passed_here z u _ k.type.of_second
-    ∙ search_found _ _ i i (omega arith) (segment_at z u i r k.segment)
+-- a type at a second of a zone whose transitions rise
+module _ (z : Zone) (u : ℤ) (t : LocalType) (r : AreRising z.transitions) where
+  taken_in : (i : ℕ) (k : TypeIn z i u t) → passed z.transitions k.type.leap_time ≡ take i z.transitions
+  taken_in i k = passed_here z u _ k.type.of_second
+      ∙ search_found _ _ i i (omega arith) (segment_at z u i r k.segment)
 
--- before the last transition the segment's type is in force
-pub type_before : (z : Zone) (i : ℕ) (u : ℤ) (t : LocalType) → AreRising z.transitions → TypeIn z i u t → i < length z.transitions
-    → HasType z (index_of z.transitions i) t
-type_before z i u t r k h =
-    let e = taken_in z i u t r k in
-    let n : IsBeforeLast z k.type.leap_time = rw e (simp length-take (omega arith)) in
-    rw e at (k.type.in_force.before_last n)
+  -- before the last transition the segment's type is in force
+  pub type_before : (i : ℕ) → TypeIn z i u t → i < length z.transitions → HasType z (index_of z.transitions i) t
+  type_before i k h =
+      let e = taken_in i k in
+      let n : IsBeforeLast z k.type.leap_time = rw e (simp length-take (omega arith)) in
+      rw e at (k.type.in_force.before_last n)
 
--- from the last transition on the rule's, or without a rule the segment's
-pub type_from : (z : Zone) (u : ℤ) (t : LocalType) → AreRising z.transitions → TypeIn z (length z.transitions) u t
-    → RuleOrType z u (index_of z.transitions (length z.transitions)) t
-type_from z u t r k =
-    let e = taken_in z _ u t r k in
-    let n : IsFromLast z k.type.leap_time = rw e (simp length-take (omega arith)) in
-    rw e at (k.type.in_force.from_last n)
+  -- from the last transition on the rule's, or without a rule the segment's
+  pub type_from : TypeIn z (length z.transitions) u t → RuleOrType z u (index_of z.transitions (length z.transitions)) t
+  type_from k =
+      let e = taken_in _ k in
+      let n : IsFromLast z k.type.leap_time = rw e (simp length-take (omega arith)) in
+      rw e at (k.type.in_force.from_last n)
 
 pub type_in_before : (z : Zone) (i : ℕ) (u x : ℤ) (t : LocalType) → IsLeapTime z.leaps u x → Between z.transitions x i i → i < length z.transitions
     → HasType z (index_of z.transitions i) t → TypeIn z i u t

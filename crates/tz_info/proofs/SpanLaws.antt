@@ -27,7 +27,7 @@ early es v x valid h l =
 
 early_unix : (es : List LeapSecond) (x u : ℤ) → AreLeapSeconds es → x <ℤ pos 0 → IsUnixTime es x u → u ≡ x
 early_unix es x u valid h is =
-    let none : pos 0 ≡ correction_before es x = before_found es 0 (record { unix_leap_time = pos 0; correction = pos 0 }) x _ valid (omega arith)
+    let none : pos 0 ≡ correction_before es x = before_found es (record { unix_leap_time = pos 0; correction = pos 0 }) valid 0 x _ (omega arith)
     (record { value = refl; before = λ k d l. absurd (omega arith) })
     (λ some. let f = (valid.first (record { unix_leap_time = pos 0; correction = pos 0 }) some).since_epoch in omega linear) in
     omega linear
@@ -35,37 +35,36 @@ early_unix es x u valid h is =
 last_of : (ts : List Transition) → 0 < length ts → (t : Transition) × (last_transition ts ≡ Some t)
 last_of ts h = inside_listed ts _ (omega arith)
 
--- before the years of a rule of two types its zone's last transition has not come
-not_before : (z : Zone) (a : AlternateRule) (v y : ℤ) → IsValid z → z.rule ≡ Some (Alternate a) → 0 < length z.transitions → IsLeapTime z.leaps v y
-    → segment_of z v ≡ length z.transitions → v <ℤ neg_ℤ (pos 67_768_100_504_812_800) → ⊥
-not_before z a v y valid rule some l all h =
-    let last = last_of _ some in
-    let agrees = rw (rule, last.1) at valid.agrees in
-    let within : IsRuleTime agrees.unix_time = rule_second a _ _ agrees.of_rule in
-    let count = come_at_time z v y l in
-    let come = (come_by_time _ y (length z.transitions - 1) last.0 valid.transitions.rising (omega arith)).0 (omega arith) in
-    let is = last_is z.transitions last.0 last.1 in
-    let time : last.0.unix_leap_time ≤ℤ y = rw is at come in
-    let same = early z.leaps v y valid.leaps (omega linear) l in
-    let unix = early_unix _ _ _ valid.leaps (omega linear) agrees.of_transition in
-    omega linear
+-- a second after all transitions of a zone with a rule
+module _ (z : Zone) (a : AlternateRule) (v : ℤ) (valid : IsValid z) (rule : z.rule ≡ Some (Alternate a)) (all : segment_of z v ≡ length z.transitions) where
+  -- before the years of a rule of two types its zone's last transition has not come
+  not_before : (y : ℤ) → 0 < length z.transitions → IsLeapTime z.leaps v y → v <ℤ neg_ℤ (pos 67_768_100_504_812_800) → ⊥
+  not_before y some l h =
+      let last = last_of _ some in
+      let agrees = rw (rule, last.1) at valid.agrees in
+      let within : IsRuleTime agrees.unix_time = rule_second a _ _ agrees.of_rule in
+      let count = come_at_time z v y l in
+      let come = (come_by_time _ y (length z.transitions - 1) last.0 valid.transitions.rising (omega arith)).0 (omega arith) in
+      let is = last_is z.transitions last.0 last.1 in
+      let time : last.0.unix_leap_time ≤ℤ y = rw is at come in
+      let same = early z.leaps v y valid.leaps (omega linear) l in
+      let unix = early_unix _ _ _ valid.leaps (omega linear) agrees.of_transition in
+      omega linear
 
-not_before_second : (z : Zone) (a : AlternateRule) (u v y : ℤ) (t : LocalType) → IsValid z → z.rule ≡ Some (Alternate a)
-    → (0 < length z.transitions → IsLeapTime z.leaps v y) → segment_of z v ≡ length z.transitions → u ≤ℤ v → TypeAt z u t
-    → v <ℤ neg_ℤ (pos 67_768_100_504_812_800) → ⊥
-not_before_second z a u v y t valid rule l all h k low = elim (cases_lt 0 (length z.transitions)) [
-  | inl some ↦ not_before z a v y valid rule some (l some) all low
-  | inr none ↦
+  not_before_second : (u y : ℤ) (t : LocalType) → (0 < length z.transitions → IsLeapTime z.leaps v y) → u ≤ℤ v → TypeAt z u t
+      → v <ℤ neg_ℤ (pos 67_768_100_504_812_800) → ⊥
+  not_before_second u y t l h k low = elim (cases_lt 0 (length z.transitions)) [
+    | inl some ↦ not_before y some (l some) low
+    | inr none ↦
+        let m = segment_most z u valid.transitions.rising in
+        let within = rule_second a u t (to_rule z a u t rule valid (omega arith) k) in grind arith
+  ]
+
+  not_behind_second : (u : ℤ) (t : LocalType) → v ≤ℤ u → TypeAt z u t → pos 67_767_976_170_460_799 <ℤ v → ⊥
+  not_behind_second u t h k high =
       let m = segment_most z u valid.transitions.rising in
-      let within = rule_second a u t (to_rule z a u t valid rule (omega arith) k) in grind arith
-]
-
-not_behind_second : (z : Zone) (a : AlternateRule) (v u : ℤ) (t : LocalType) → IsValid z → z.rule ≡ Some (Alternate a) → segment_of z v ≡ length z.transitions
-    → v ≤ℤ u → TypeAt z u t → pos 67_767_976_170_460_799 <ℤ v → ⊥
-not_behind_second z a v u t valid rule all h k high =
-    let m = segment_most z u valid.transitions.rising in
-    let r = segments_rise z v u valid.transitions.rising valid.leaps h in
-    let within = rule_second a u t (to_rule z a u t valid rule (omega arith) k) in grind arith
+      let r = segments_rise z v u valid.transitions.rising valid.leaps h in
+      let within = rule_second a u t (to_rule z a u t rule valid (omega arith) k) in grind arith
 
 pub out_of_years : (u : ℤ) → IsAlternateRefused u → (u <ℤ neg_ℤ (pos 67_768_100_504_812_800)) ⊎ (pos 67_767_976_170_460_799 <ℤ u)
 out_of_years u refused = by_lt_z u (neg_ℤ (pos 67_768_100_504_812_800))
@@ -79,33 +78,34 @@ out_of_years u refused = by_lt_z u (neg_ℤ (pos 67_768_100_504_812_800))
 pub all_come : (z : Zone) (v x : ℤ) → IsValid z → (0 < length z.transitions → IsLeapTime z.leaps v x) → IsFromLast z x → segment_of z v ≡ length z.transitions
 all_come z v x _ l last = grind (arith, come_at_time, segment_most)
 
-rule_between : (rule : Option TransitionRule) (z : Zone) (a b v x : ℤ) (s t : LocalType) → z.rule ≡ rule → IsValid z
-    → (0 < length z.transitions → IsLeapTime z.leaps v x) → IsFromLast z x → a ≤ℤ v → v ≤ℤ b → TypeAt z a s → TypeAt z b t → IsRefusedBy rule v → ⊥
-rule_between None z a b v x s t is valid l last low high h k refused = refused
-rule_between (Some (Fixed f)) z a b v x s t is valid l last low high h k refused = refused
-rule_between (Some (Alternate r)) z a b v x s t is valid l last low high h k refused =
-    let all = all_come z v x valid l last in
-    elim (out_of_years v refused) [
-      | inl early ↦ not_before_second z r a v x s valid is l all low h early
-      | inr late ↦ not_behind_second z r v b t valid is all high k late
-    ]
+-- two seconds with types in a valid zone, and one between them
+module _ (z : Zone) (a b v : ℤ) (s t : LocalType) (valid : IsValid z) (low : a ≤ℤ v) (high : v ≤ℤ b) (h : TypeAt z a s) (k : TypeAt z b t) where
+  rule_between : (rule : Option TransitionRule) (x : ℤ) → z.rule ≡ rule → (0 < length z.transitions → IsLeapTime z.leaps v x) → IsFromLast z x
+      → IsRefusedBy rule v → ⊥
+  rule_between None x is l last refused = refused
+  rule_between (Some (Fixed f)) x is l last refused = refused
+  rule_between (Some (Alternate r)) x is l last refused =
+      let all = all_come z v x valid l last in
+      elim (out_of_years v refused) [
+        | inl early ↦ not_before_second z r v valid is all a x s l low h early
+        | inr late ↦ not_behind_second z r v valid is all b t high k late
+      ]
 
-pub typed_between : (z : Zone) (a b v : ℤ) (s t : LocalType) → IsValid z → IsRuleOrNone z.rule → a ≤ℤ v → v ≤ℤ b → TypeAt z a s → TypeAt z b t
-    → Typed (TypeAt z) v
-typed_between z a b v s t valid limits low high h k = elim (type_decided z v valid limits) [
-  | inl found ↦ found
-  | inr refused ↦ absurd (between refused)
-] where
-  between : IsTypeRefused z v → ⊥
-  between (by_leap_time some r) = refused_on _ v b _ valid.leaps high r (time_of z b t some k)
-  between (by_rule x of_second last r) = rule_between _ z a b v x s t refl valid of_second last low high h k r
+  pub typed_between : IsRuleOrNone z.rule → Typed (TypeAt z) v
+  typed_between limits = elim (type_decided z v valid limits) [
+    | inl found ↦ found
+    | inr refused ↦ absurd (between refused)
+  ] where
+    between : IsTypeRefused z v → ⊥
+    between (by_leap_time some r) = refused_on _ v b _ valid.leaps high r (time_of z b t some k)
+    between (by_rule x of_second last r) = rule_between _ x refl of_second last r
 
 -- ---- from the last change up to u to the first one after it
 -- if no change comes between two seconds that have types, these are the same
 pub no_change : (z : Zone) (u v : ℤ) (s t : LocalType) → IsValid z → IsRuleOrNone z.rule → SFits w64 u → SFits w64 v → u ≤ℤ v
     → HasNoChange (TypeAt z) (λ w. (u <ℤ w) × (w ≤ℤ v)) → TypeAt z u s → TypeAt z v t → s ≡ t
 no_change z u v s t valid limits fits fits_end h none k l =
-    type_once z v s t (stays _ u v s fits fits_end h none (λ w since until. typed_between z u v w s t valid limits since until k l) k) l
+    type_once z v s t (stays _ u v s fits fits_end h none (λ w since until. typed_between z u v w s t valid since until k l limits) k) l
 
 abbrev pub seconds_of : Option Change → Option ℤ
 seconds_of found = option_map (λ c. c.at) found
@@ -156,7 +156,7 @@ low_of z u t None (Some x) valid limits fits h last k = record {
   low = x;
   typed = k.typed;
   since = by_lt_z u x
-      (λ l. absurd (k.before (typed_between z u x _ t _ valid limits (omega linear) (omega linear) h k.typed.1))) (λ m. m);
+      (λ l. absurd (k.before (typed_between z u x _ t _ valid (omega linear) (omega linear) h k.typed.1 limits))) (λ m. m);
   later = λ v f since. (since, tt);
   begins = record { fits = k.fits; out = λ at. k.before (t, at) };
 }
@@ -175,7 +175,7 @@ high_of z u t None None valid limits fits h next k =
 high_of z u t None (Some x) valid limits fits h next k = record {
   high = x -ℤ pos 1;
   typed = k.typed;
-  before = by_lt_z u x (λ l. l) (λ m. absurd (k.after (typed_between z _ u x _ t valid limits (omega linear) m k.typed.1 h)));
+  before = by_lt_z u x (λ l. l) (λ m. absurd (k.after (typed_between z _ u x _ t valid (omega linear) m k.typed.1 h limits)));
   earlier = λ v f until. (omega linear, tt);
   ends = record { fits = k.fits; out = λ at. k.after (t, at) };
 }
@@ -204,7 +204,7 @@ span_between z u t _ _ from until valid limits fits h before after begin end =
         some = (u, inside);
         each = λ v i.
             let (from, since) = low.later v i.fits i.since in let (up_to, until) = high.earlier v i.fits i.until in
-            let (s, k) = typed_between z _ _ v _ _ valid limits from up_to low.typed.1 high.typed.1 in
+            let (s, k) = typed_between z _ _ v _ _ valid from up_to low.typed.1 high.typed.1 limits in
             let same = by_lt_z v u
             (λ l. no_change z v u s t valid limits i.fits fits (omega linear) (idle_since _ u v _ before since) k h)
             (λ m. sym (no_change z u v t s valid limits fits i.fits m (idle_until _ u v _ after until) h k)) in
@@ -235,21 +235,20 @@ no_change_within z s d h i j is =
     is.differ (type_once z _ _ _ is.before (h.each (d.at -ℤ pos 1) i)
     ∙ type_once z _ _ _ (h.each d.at j) is.after)
 
--- an end of one of two spans that share a second, and have one type, lies outside the other
-begin_outside : (z : Zone) (a b : Span) (u x : ℤ) → a.local_time_type ≡ b.local_time_type → IsSpan (TypeAt z) a → IsSpan (TypeAt z) b → IsInSpan a u
-    → IsInSpan b u → a.from ≡ Some x
-    → IsSince b.from (x -ℤ pos 1) → ⊥
-begin_outside z a b u x same h k i j is since =
-    let end = rw is at h.begins in let from : x ≤ℤ u = rw is at i.since in
-    end.out (rw (← same) at (k.each (x -ℤ pos 1)
-    (record { fits = end.fits; since = since; until = until_less _ _ u j.until (omega linear) })))
+-- two spans of one type, with a second in each
+module _ (z : Zone) (a b : Span) (u x : ℤ) (same : a.local_time_type ≡ b.local_time_type) (h : IsSpan (TypeAt z) a) (k : IsSpan (TypeAt z) b)
+    (i : IsInSpan a u) (j : IsInSpan b u) where
+  -- an end of one of two spans that share a second, and have one type, lies outside the other
+  begin_outside : a.from ≡ Some x → IsSince b.from (x -ℤ pos 1) → ⊥
+  begin_outside is since =
+      let end = rw is at h.begins in let from : x ≤ℤ u = rw is at i.since in
+      end.out (rw (← same) at (k.each (x -ℤ pos 1)
+      (record { fits = end.fits; since = since; until = until_less _ _ u j.until (omega linear) })))
 
-end_outside : (z : Zone) (a b : Span) (u x : ℤ) → a.local_time_type ≡ b.local_time_type → IsSpan (TypeAt z) a → IsSpan (TypeAt z) b → IsInSpan a u
-    → IsInSpan b u → a.until ≡ Some x
-    → IsUntil b.until x → ⊥
-end_outside z a b u x same h k i j is until =
-    let end = rw is at h.ends in let before : u <ℤ x = rw is at i.until in
-    end.out (rw (← same) at (k.each x (record { fits = end.fits; since = since_more _ u x j.since (omega linear); until = until })))
+  end_outside : a.until ≡ Some x → IsUntil b.until x → ⊥
+  end_outside is until =
+      let end = rw is at h.ends in let before : u <ℤ x = rw is at i.until in
+      end.out (rw (← same) at (k.each x (record { fits = end.fits; since = since_more _ u x j.since (omega linear); until = until })))
 
 same_begin : (p q : Option ℤ) → ((x : ℤ) → p ≡ Some x → IsSince q (x -ℤ pos 1) → ⊥) → ((x : ℤ) → q ≡ Some x → IsSince p (x -ℤ pos 1) → ⊥) → p ≡ q
 same_begin None None h k = refl

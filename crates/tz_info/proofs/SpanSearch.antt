@@ -31,5 +31,5 @@ span_of_rule z a u begin from until t previous valid limits fits rule h at (Some
     (record { is = is.is; inside = (late, up_to); nearest = λ d is_d inside. is.nearest d is_d inside.1 }) in
     let first = rule_found z a true u begin (Some d) valid rule h (nearest_moved true _ _ _ (λ v.
     (begin <ℤ v) × IsAhead true u v) (Some d) (λ d is_d l. (is_d, l.1)) (λ d is_d l. (is_d, (omega linear, l))) nearest) in
-    span_between z u t (Some c) (Some d) (Some from) (Some until) valid limits fits (from_rule z a u t valid rule all at)
+    span_between z u t (Some c) (Some d) (Some from) (Some until) valid limits fits (from_rule z a u t rule valid all at)
     (rule_is_last z (λ v. v ≤ℤ u) c valid last) (rule_first z (λ v. u <ℤ v) (Some d) valid (table_over z u valid all) first) (sym same) ends

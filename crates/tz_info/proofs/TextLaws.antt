@@ -25,26 +25,27 @@ text_law extended bytes = said (lawful (text extended) bytes)
     (λ p h. let none = text_ends _ _ p.0 p.1 h in (subst (Spells (text extended) bytes p.0) none h, none))
     (λ p h. subst (Spells (text extended) bytes p.0) (sym h.1) h.0)
 
--- a text with a fault spells no rule, and has no other fault
-pub refused_or_spelled : (extended : Bool) (bytes : List ℕ) (e : Error) (r : TransitionRule) → IsTextFault extended bytes e → IsTzText extended bytes r → ⊥
-refused_or_spelled extended bytes e r fault spelled = apart (lawful (text extended) bytes) (r, []) e spelled fault
+-- the bytes of a TZ string, with or without the extension
+module _ (extended : Bool) (bytes : List ℕ) where
+  -- a text with a fault spells no rule, and has no other fault
+  pub refused_or_spelled : (e : Error) (r : TransitionRule) → IsTextFault extended bytes e → IsTzText extended bytes r → ⊥
+  refused_or_spelled e r fault spelled = apart (lawful (text extended) bytes) (r, []) e spelled fault
 
-pub one_fault : (extended : Bool) (bytes : List ℕ) (d e : Error) → IsTextFault extended bytes d → IsTextFault extended bytes e → d ≡ e
-one_fault extended bytes = fault_once (lawful (text extended) bytes)
+  pub one_fault : (d e : Error) → IsTextFault extended bytes d → IsTextFault extended bytes e → d ≡ e
+  one_fault = fault_once (lawful (text extended) bytes)
 
--- it is not running out of memory
-pub text_low : (extended : Bool) (bytes : List ℕ) (e : Error) → IsTextFault extended bytes e → error_number e ≤ 16
-text_low extended bytes = fault_low (lawful (text extended) bytes)
+  -- it is not running out of memory
+  pub text_low : (e : Error) → IsTextFault extended bytes e → error_number e ≤ 16
+  text_low = fault_low (lawful (text extended) bytes)
 
--- no bytes spell two rules
-pub one_rule : (extended : Bool) (bytes : List ℕ) (a b : TransitionRule) → IsTzText extended bytes a → IsTzText extended bytes b → a ≡ b
-one_rule extended bytes a b p q = ap (λ r. r.0) (value_once (lawful (text extended) bytes) (a, []) (b, []) p q)
+  -- no bytes spell two rules
+  pub one_rule : (a b : TransitionRule) → IsTzText extended bytes a → IsTzText extended bytes b → a ≡ b
+  one_rule a b p q = ap (λ r. r.0) (value_once (lawful (text extended) bytes) (a, []) (b, []) p q)
 
--- ---- what a reader of a whole text answers
-pub found_by : (extended : Bool) (bytes : List ℕ) (r : Result TransitionRule ParseError) → IsParsed extended bytes r
-    → IfOk r (λ rule. IsTzText extended bytes rule)
-found_by extended bytes (Ok rule) (rest, g) = ((text_law _ _).takes (rule, rest) g).0
-found_by extended bytes (Err e) g = tt
+  -- ---- what a reader of a whole text answers
+  pub found_by : (r : Result TransitionRule ParseError) → IsParsed extended bytes r → IfOk r (λ rule. IsTzText extended bytes rule)
+  found_by (Ok rule) (rest, g) = ((text_law _ _).takes (rule, rest) g).0
+  found_by (Err e) g = tt
 
 pub only_by : (extended : Bool) (bytes : List ℕ) (r : Result TransitionRule ParseError) → IsParsed extended bytes r → (rule : TransitionRule)
     → IsTzText extended bytes rule → IsOkAnd r (λ y. y ≡ rule)

@@ -17,40 +17,41 @@ early_time : (es : List LeapSecond) (u : ℤ) → AreLeapSeconds es → u <ℤ p
 early_time es u valid before refused =
     refused_on es u _ _ valid (omega linear) refused (near_time es (pos 0) valid (omega arith, omega arith))
 
--- if the first second of 64 bits has no type, the first one that has is that of the rule's years
-first_by : (rule : Option TransitionRule) (z : Zone) (x : ℤ) → z.rule ≡ rule → IsValid z → IsRuleOrNone z.rule
-    → (0 < length z.transitions → IsLeapTime z.leaps least_time x) → IsFromLast z x
-    → IsRefusedBy rule least_time → IsFirstTyped z (neg_ℤ (pos 67_768_100_504_812_800))
-first_by None z x is valid limits l last refused = absurd refused
-first_by (Some (Fixed f)) z x is valid limits l last refused = absurd refused
-first_by (Some (Alternate a)) z x is valid limits l last refused = record {
-  fits = omega arith;
-  typed = elim (type_decided z (neg_ℤ (pos 67_768_100_504_812_800)) valid limits) [ inl typed ↦ typed | inr refused ↦ absurd (in_years refused) ];
-  before = λ typed.
-      let u = neg_ℤ (pos 67_768_100_504_812_800) -ℤ pos 1 in
-      let all = all_come z _ x valid l last in
-      let rise = segments_rise z least_time u valid.transitions.rising valid.leaps (omega arith) in
-      let most = segment_most z u valid.transitions.rising in
-      let within = rule_second a u _ (to_rule z a u typed.0 valid is (omega arith) typed.1) in
-      omega arith;
-} where
-  in_years : IsTypeRefused z (neg_ℤ (pos 67_768_100_504_812_800)) → ⊥
-  in_years (by_leap_time some r) = early_time z.leaps _ valid.leaps (omega arith) r
-  in_years (by_rule y m n r) =
-      elim (out_of_years (neg_ℤ (pos 67_768_100_504_812_800)) (rw is at r)) [ inl early ↦ omega arith | inr late ↦ omega arith ]
+-- a valid zone whose rule is in limits
+module _ (z : Zone) (valid : IsValid z) (limits : IsRuleOrNone z.rule) where
+  -- if the first second of 64 bits has no type, the first one that has is that of the rule's years
+  first_by : (rule : Option TransitionRule) (x : ℤ) → z.rule ≡ rule → (0 < length z.transitions → IsLeapTime z.leaps least_time x) → IsFromLast z x
+      → IsRefusedBy rule least_time → IsFirstTyped z (neg_ℤ (pos 67_768_100_504_812_800))
+  first_by None x is l last refused = absurd refused
+  first_by (Some (Fixed f)) x is l last refused = absurd refused
+  first_by (Some (Alternate a)) x is l last refused = record {
+    fits = omega arith;
+    typed = elim (type_decided z (neg_ℤ (pos 67_768_100_504_812_800)) valid limits) [ inl typed ↦ typed | inr refused ↦ absurd (in_years refused) ];
+    before = λ typed.
+        let u = neg_ℤ (pos 67_768_100_504_812_800) -ℤ pos 1 in
+        let all = all_come z _ x valid l last in
+        let rise = segments_rise z least_time u valid.transitions.rising valid.leaps (omega arith) in
+        let most = segment_most z u valid.transitions.rising in
+        let within = rule_second a u _ (to_rule z a u typed.0 is valid (omega arith) typed.1) in
+        omega arith;
+  } where
+    in_years : IsTypeRefused z (neg_ℤ (pos 67_768_100_504_812_800)) → ⊥
+    in_years (by_leap_time some r) = early_time z.leaps _ valid.leaps (omega arith) r
+    in_years (by_rule y m n r) =
+        elim (out_of_years (neg_ℤ (pos 67_768_100_504_812_800)) (rw is at r)) [ inl early ↦ omega arith | inr late ↦ omega arith ]
 
-pub first_typed : (z : Zone) → IsValid z → IsRuleOrNone z.rule → IsTypeRefused z least_time → IsFirstTyped z (neg_ℤ (pos 67_768_100_504_812_800))
-first_typed z valid limits (by_leap_time some refused) = absurd (early_time _ _ valid.leaps (omega arith) refused)
-first_typed z valid limits (by_rule x l last refused) = first_by _ z x refl valid limits l last refused
+  pub first_typed : IsTypeRefused z least_time → IsFirstTyped z (neg_ℤ (pos 67_768_100_504_812_800))
+  first_typed (by_leap_time some refused) = absurd (early_time _ _ valid.leaps (omega arith) refused)
+  first_typed (by_rule x l last refused) = first_by _ x refl l last refused
 
--- ---- the last one
-pub last_typed : (z : Zone) (known end : ℤ) → IsValid z → IsRuleOrNone z.rule → IsSearched z known end → end ≤ℤ (known +ℤ pos 1) → IsLastTyped z known
-last_typed z _ end valid limits h most = record {
-  typed = h.typed;
-  none = λ v fits later there.
-      h.not (typed_between z _ v end _ _ valid limits (omega linear) (omega linear) h.typed.1 there.1);
-  far = h.far;
-}
+  -- ---- the last one
+  pub last_typed : (known end : ℤ) → IsSearched z known end → end ≤ℤ (known +ℤ pos 1) → IsLastTyped z known
+  last_typed _ end h most = record {
+    typed = h.typed;
+    none = λ v fits later there.
+        h.not (typed_between z _ v end _ _ valid (omega linear) (omega linear) h.typed.1 there.1 limits);
+    far = h.far;
+  }
 
 -- after it none has
 pub after_typed : (z : Zone) (last : ℤ) → SFits w64 last → IsLastTyped z last → (last ≡ pos 9_223_372_036_854_775_807 → ⊥) → IsAfterTyped z (last +ℤ pos 1)

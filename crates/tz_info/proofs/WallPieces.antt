@@ -129,15 +129,17 @@ step_count xs ys i j i_after j_after start (inr s) = omega arith
 pub starts_in_order : (ps : List Piece) → AreInOrder ps → AreOrdered (map (λ (p : Piece). p.start) ps)
 starts_in_order ps order = times_ordered (λ (p : Piece). p.start) ps (record { start = pos 0; answer = Once 0 }) (λ i j h l. order i j _ h l)
 
--- the last of the pieces that have started answers, and `b` does if none has
-started : (b : Answer) (ps : List Piece) (l : ℤ) (n : ℕ) → ArePassed (map (λ (p : Piece). p.start) ps) l n → answer_at b ps l ≡ answer_before b (take n ps)
-started b ps l n passed = ap (answer_before b) (first_come (λ (p : Piece). p.start) ps l n passed)
+-- pieces of which n have begun at a local time
+module _ (b : Answer) (ps : List Piece) (l : ℤ) (n : ℕ) (passed : ArePassed (map (λ (p : Piece). p.start) ps) l n) where
+  -- the last of the pieces that have started answers, and `b` does if none has
+  started : answer_at b ps l ≡ answer_before b (take n ps)
+  started = ap (answer_before b) (first_come (λ (p : Piece). p.start) ps l n passed)
 
-pub none_answers : (b : Answer) (ps : List Piece) (l : ℤ) (n : ℕ) → ArePassed (map (λ (p : Piece). p.start) ps) l n → IsLastOf ps n none → b ≡ answer_at b ps l
-none_answers b ps l n passed latest = elim (cases_lt 0 n) [
-  | inl h ↦ let s = latest.some h in absurd (none-some s.0 s.1)
-  | inr g ↦ let e : n ≡ 0 = omega arith in sym (started b ps l n passed ∙ rw e)
-]
+  pub none_answers : IsLastOf ps n none → b ≡ answer_at b ps l
+  none_answers latest = elim (cases_lt 0 n) [
+    | inl h ↦ let s = latest.some h in absurd (none-some s.0 s.1)
+    | inr g ↦ let e : n ≡ 0 = omega arith in sym (started ∙ rw e)
+  ]
 
 pub latest_answers : (b : Answer) (ps : List Piece) (l : ℤ) (n : ℕ) (p : Piece) → ArePassed (map (λ (p : Piece). p.start) ps) l n
     → IsLastOf ps n (some p) → p.answer ≡ answer_at b ps l

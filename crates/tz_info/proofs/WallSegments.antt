@@ -31,7 +31,7 @@ listed_once z i s t h k = cc
 pub type_in_table : (z : Zone) (k : ℕ) (u : ℤ) (t : LocalType) → AreRising z.transitions → k < table_count z → TypeIn z k u t
     → HasType z (index_of z.transitions k) t
 type_in_table z k u t rising own a = elim (own_segment z.rule k _ own) [
-  | inl h ↦ type_before z k u t rising a h
+  | inl h ↦ type_before z u t rising k a h
   | inr (ruleless, e) ↦ rw e (rw ruleless at (type_from z u t rising (rw e at a)))
 ]
 
@@ -43,14 +43,15 @@ type_of_table z k u x t own time b has = elim (own_segment z.rule k _ own) [
   | inr (ruleless, e) ↦ rw e (type_in_from z u x t time (rw e at b) (rw ruleless (rw e at has)))
 ]
 
-pub type_here : (z : Zone) (k : ℕ) (u : ℤ) (f t : LocalType) → IsValid z → k < table_count z → HasType z (index_of z.transitions k) t
-    → segment_of z u ≡ k → TypeAt z u f → f ≡ t
-type_here z k u f t valid own has e h =
-    listed_once z _ f t (type_in_table z k u f valid.transitions.rising own (record { type = h; segment = e })) has
+-- a second of the segment k, which has the type t
+module _ (z : Zone) (k : ℕ) (u : ℤ) (f t : LocalType) (valid : IsValid z) (own : k < table_count z) (has : HasType z (index_of z.transitions k) t)
+    (e : segment_of z u ≡ k) (h : TypeAt z u f) where
+  pub type_here : f ≡ t
+  type_here =
+      listed_once z _ f t (type_in_table z k u f valid.transitions.rising own (record { type = h; segment = e })) has
 
-pub offset_here : (z : Zone) (k : ℕ) (u : ℤ) (f t : LocalType) → IsValid z → k < table_count z → HasType z (index_of z.transitions k) t → segment_of z u ≡ k
-    → TypeAt z u f → f.offset ≡ t.offset
-offset_here z k u f t valid own has e h = ap (λ (x : LocalType). x.offset) (type_here z k u f t valid own has e h)
+  pub offset_here : f.offset ≡ t.offset
+  offset_here = ap (λ (x : LocalType). x.offset) (type_here)
 
 pub leap_time_of : (z : Zone) (u : ℤ) → IsValid z → IsNear u → (x : ℤ) × IsLeapTime z.leaps u x
 leap_time_of z u valid near = ⊎_elim (λ x. x) (λ r. absurd (leap_times_answer _ u valid.leaps near.0 near.1 r)) (leap_time_decided _ u)
@@ -58,17 +59,19 @@ leap_time_of z u valid near = ⊎_elim (λ x. x) (λ r. absurd (leap_times_answe
 pub near_of : (l o : ℤ) → IsWide l → IsUtOffset o → IsNear (l -ℤ o)
 near_of l o wide h = grind linear
 
--- of the near seconds, those from the start on lie in the segment or in a later one
-pub begun : (z : Zone) (k : ℕ) (s u : ℤ) → IsValid z → IsStart z.transitions z.leaps k s → IsNear u → (k ≤ segment_of z u) ↔ (s ≤ℤ u)
-begun z k s u valid start near = let time = leap_time_of z u valid near in rw (come_at_time z u _ time.1) at (start u time.0 near time.1)
+-- a near second, and the start of the segment k
+module _ (z : Zone) (k : ℕ) (s u : ℤ) (valid : IsValid z) (start : IsStart z.transitions z.leaps k s) (near : IsNear u) where
+  -- of the near seconds, those from the start on lie in the segment or in a later one
+  pub begun : (k ≤ segment_of z u) ↔ (s ≤ℤ u)
+  begun = let time = leap_time_of z u valid near in rw (come_at_time z u _ time.1) at (start u time.0 near time.1)
 
--- and those before it in an earlier one
-pub not_begun : (z : Zone) (k : ℕ) (s u : ℤ) → IsValid z → IsStart z.transitions z.leaps k s → IsNear u → (segment_of z u < k) ↔ (u <ℤ s)
-not_begun z k s u valid start near =
-    let b = begun z k s u valid start near in (
-      (λ h. by_lt_z u s (λ m. m) (λ m. absurd (omega arith))),
-      (λ h. ⊎_elim (λ m. m) (λ m. omega linear) (cases_lt (segment_of z u) k)),
-    )
+  -- and those before it in an earlier one
+  pub not_begun : (segment_of z u < k) ↔ (u <ℤ s)
+  not_begun =
+      let b = begun in (
+        (λ h. by_lt_z u s (λ m. m) (λ m. absurd (omega arith))),
+        (λ h. ⊎_elim (λ m. m) (λ m. omega linear) (cases_lt (segment_of z u) k)),
+      )
 
 -- ---- two neighbouring sets of segments between entries
 
@@ -94,7 +97,7 @@ shown_joined : (z : Zone) (ts : List Transition) (low middle high : ℕ) (l : �
     → IsShownAmong z ts low middle l a → IsShownAmong z ts middle high l b → IsShownAmong z ts low high l (together a b)
 shown_joined z ts low _ _ l a b rising h k x y = record {
   wall = rw (wall_together a b) (joined_answer _ _ _ _ _ (parts_listed z ts low _ _ l rising h k) x.wall y.wall);
-  side = side_together z ts low _ _ l a b k x.side y.side;
+  side = side_together z ts low l _ _ a b k x.side y.side;
 }
 
 pub pieces_joined : (z : Zone) (ts : List Transition) (low middle high : ℕ) (bx by : Shown) (xs ys out : List Piece) → AreRising ts → low < middle
@@ -108,13 +111,6 @@ pub type_there : (z : Zone) (ts : List Transition) (top k : ℕ) (u : ℤ) (f t 
     → HasType z (index_of ts k) t → place_at ts u ≡ k → TypeAt z u f → f ≡ t
 type_there z ts top k u f t table own fits has e h = listed_once z _ f t (rw e at (table.listed u f fits (omega arith) h)) has
 
-second_of : (z : Zone) (ts : List Transition) (top k : ℕ) (l v : ℤ) (j : ℕ) (t : LocalType) → IsTable z ts top → k < top → HasType z (index_of ts k) t
-    → ListedAmong z ts k (suc k) l v j → v ≡ l -ℤ t.offset
-second_of z ts top k l v j t table own has a =
-    let e = ap (λ (x : LocalType). x.offset)
-    (type_there z ts top k v _ t table own a.shows.fits has (omega arith) a.shows.type) in
-    omega linear
-
 -- the one second that could show the local time by the type of that offset lies in or after the segment if and only if the cut has come
 cut_begun : (ts : List Transition) (k : ℕ) (l o : ℤ) → AreRising ts → 0 < k → k ≤ length ts → IsUtOffset o → IsWide l
     → (k ≤ place_at ts (l -ℤ o)) ↔ (cut_of ts k o ≤ℤ l)
@@ -126,6 +122,49 @@ cut_begun ts k l o rising inner within offset wide =
 
 near_fits : (u : ℤ) → IsNear u → SFits w64 u
 near_fits u near = omega linear
+
+-- a segment of a table, and its type
+module _ (z : Zone) (ts : List Transition) (top k : ℕ) (l : ℤ) (t : LocalType) (table : IsTable z ts top) (own : k < top)
+    (has : HasType z (index_of ts k) t) where
+  second_of : (v : ℤ) (j : ℕ) → ListedAmong z ts k (suc k) l v j → v ≡ l -ℤ t.offset
+  second_of v j a =
+      let e = ap (λ (x : LocalType). x.offset)
+      (type_there z ts top k v _ t table own a.shows.fits has (omega arith) a.shows.type) in
+      omega linear
+
+  -- if it comes after the segment's end, its clocks show less
+  shown_behind : k < length ts → IsUtOffset t.offset → IsWide l → cut_of ts (suc k) t.offset ≤ℤ l → IsShownAmong z ts k (suc k) l Less
+  shown_behind inner offset wide h =
+      let passed = (cut_begun ts (suc k) l _ table.rising (omega arith) (omega arith) offset wide).1 h in
+      record {
+        wall = λ v j m. let below = rw (second_of v j m) at m.below in omega arith;
+        side = λ u f near from below here.
+            let e = ap (λ (x : LocalType). x.offset) (type_there z ts top k u f t table own (near_fits u near) has (omega arith) here) in
+            by_lt_z (u +ℤ f.offset) l (λ m. m) (λ m. let r = places_rise ts (l -ℤ t.offset) u table.rising (omega linear) in absurd (omega arith));
+      }
+
+  -- if it comes before its beginning, clocks jump over it there
+  shown_before : 0 < k → IsUtOffset t.offset → IsWide l → l <ℤ cut_of ts k t.offset → IsShownAmong z ts k (suc k) l (Skipped k)
+  shown_before inner offset wide h =
+      let cut = cut_begun ts k l _ table.rising inner (omega arith) offset wide in
+      let later =
+      ⊎_elim (λ m. m) (λ m. absurd (omega linear)) (cases_lt (place_at ts (l -ℤ t.offset)) k) in
+      let near : IsNear l = let b = wide.1 in (omega linear, omega linear) in
+      let s = saturated (begin_of ts k +ℤ t.offset) l near in
+      record {
+        wall = λ v j m. let from = rw (second_of v j m) at m.from in absurd (omega arith);
+        side = record {
+          some = inner;
+          inside = omega arith;
+          less = λ u f near from below here. absurd (omega arith);
+          seen = l -ℤ t.offset;
+          near = near_of l _ wide offset;
+          later = later;
+          more = λ f is.
+              let e = ap (λ (x : LocalType). x.offset) (listed_once z _ f t is has) in
+              by_lt_z l (begin_of ts k +ℤ f.offset) (λ m. m) (λ m. absurd (omega linear));
+        };
+      }
 
 -- if the local time lies between the segment's cuts, it shows it once
 pub shown_inside : (z : Zone) (ts : List Transition) (top k : ℕ) (l : ℤ) (i : ℕ) (t : LocalType) → IsTable z ts top → k < top → i ≡ index_of ts k
@@ -156,45 +195,9 @@ shown_inside z ts top k l i t table own is has offset wide from until =
               below = high;
               listed = has;
             };
-        only = λ v j h. second_of z ts top k l v j t table own (rw is at has) h;
+        only = λ v j h. second_of z ts top k l t table own (rw is at has) v j h;
       };
       side = tt;
-    }
-
--- if it comes after the segment's end, its clocks show less
-shown_behind : (z : Zone) (ts : List Transition) (top k : ℕ) (l : ℤ) (t : LocalType) → IsTable z ts top → k < top → k < length ts → HasType z (index_of ts k) t
-    → IsUtOffset t.offset → IsWide l → cut_of ts (suc k) t.offset ≤ℤ l → IsShownAmong z ts k (suc k) l Less
-shown_behind z ts top k l t table own inner has offset wide h =
-    let passed = (cut_begun ts (suc k) l _ table.rising (omega arith) (omega arith) offset wide).1 h in
-    record {
-      wall = λ v j m. let below = rw (second_of z ts top k l v j t table own has m) at m.below in omega arith;
-      side = λ u f near from below here.
-          let e = ap (λ (x : LocalType). x.offset) (type_there z ts top k u f t table own (near_fits u near) has (omega arith) here) in
-          by_lt_z (u +ℤ f.offset) l (λ m. m) (λ m. let r = places_rise ts (l -ℤ t.offset) u table.rising (omega linear) in absurd (omega arith));
-    }
-
--- if it comes before its beginning, clocks jump over it there
-shown_before : (z : Zone) (ts : List Transition) (top k : ℕ) (l : ℤ) (t : LocalType) → IsTable z ts top → k < top → 0 < k → HasType z (index_of ts k) t
-    → IsUtOffset t.offset → IsWide l → l <ℤ cut_of ts k t.offset → IsShownAmong z ts k (suc k) l (Skipped k)
-shown_before z ts top k l t table own inner has offset wide h =
-    let cut = cut_begun ts k l _ table.rising inner (omega arith) offset wide in
-    let later =
-    ⊎_elim (λ m. m) (λ m. absurd (omega linear)) (cases_lt (place_at ts (l -ℤ t.offset)) k) in
-    let near : IsNear l = let b = wide.1 in (omega linear, omega linear) in
-    let s = saturated (begin_of ts k +ℤ t.offset) l near in
-    record {
-      wall = λ v j m. let from = rw (second_of z ts top k l v j t table own has m) at m.from in absurd (omega arith);
-      side = record {
-        some = inner;
-        inside = omega arith;
-        less = λ u f near from below here. absurd (omega arith);
-        seen = l -ℤ t.offset;
-        near = near_of l _ wide offset;
-        later = later;
-        more = λ f is.
-            let e = ap (λ (x : LocalType). x.offset) (listed_once z _ f t is has) in
-            by_lt_z l (begin_of ts k +ℤ f.offset) (λ m. m) (λ m. absurd (omega linear));
-      };
     }
 
 -- ---- the pieces of one segment
@@ -216,7 +219,7 @@ first_pieces z ts top i t table own n is has offset =
       some = λ e. omega arith;
       answers = λ l wide. by_lt_z l b
           (λ before. rw (le_false b l before) (shown_inside z ts top 0 l i t table own is has offset wide (λ h. absurd (omega arith)) (λ h. before)))
-          (λ behind. rw (le_true b l behind) (shown_behind z ts top 0 l t table own n (rw is at has) offset wide behind));
+          (λ behind. rw (le_true b l behind) (shown_behind z ts top 0 l t table own (rw is at has) n offset wide behind));
     }
 
 -- the last segment, which has no end
@@ -230,7 +233,7 @@ last_pieces z ts top (suc k) i t table own later n is has offset =
       most = grind arith;
       some = λ e. omega arith;
       answers = λ l wide. by_lt_z l a
-          (λ before. rw (le_false a l before) (shown_before z ts top _ l t table own later (rw is at has) offset wide before))
+          (λ before. rw (le_false a l before) (shown_before z ts top _ l t table own (rw is at has) later offset wide before))
           (λ behind. rw (le_true a l behind) (shown_inside z ts top _ l i t table own is has offset wide (λ h w. behind) (λ h. absurd (omega arith))));
     }
 
@@ -250,10 +253,10 @@ inner_pieces z ts top (suc k) i t table own later n is has offset =
       some = λ e. omega arith;
       answers = λ l wide. by_lt_z l a
           (λ before. rw (le_false a l before, le_false b l (omega linear))
-          (shown_before z ts top _ l t table own later (rw is at has) offset wide before))
+          (shown_before z ts top _ l t table own (rw is at has) later offset wide before))
           (λ from. by_lt_z l b
           (λ until. rw (le_true a l from, le_false b l until) (shown_inside z ts top _ l i t table own is has offset wide (λ h w. from) (λ h. until)))
-          (λ behind. rw (le_true a l from, le_true b l behind) (shown_behind z ts top _ l t table own n (rw is at has) offset wide behind)));
+          (λ behind. rw (le_true a l from, le_true b l behind) (shown_behind z ts top _ l t table own (rw is at has) n offset wide behind)));
     }
 
 -- ---- the types of indexes

@@ -139,17 +139,18 @@ weeks s t e =
 weekday_on : (s q : ℤ) → weekday_of (s +ℤ pos 7 *ℤ q) ≡ weekday_of s
 weekday_on s q = grind arith
 
-kind_same : (x y : ℤ) (q : ℤ) → is_leap x ≡ is_leap y → year_start y ≡ year_start x +ℤ pos 7 *ℤ q → kind_place y ≡ kind_place x
-kind_same x y q leap start = rw (← leap, start, weekday_on _ q)
+-- two years whose starts are whole weeks apart
+module _ (x y q : ℤ) (leap : is_leap x ≡ is_leap y) (start : year_start y ≡ year_start x +ℤ pos 7 *ℤ q) where
+  kind_same : kind_place y ≡ kind_place x
+  kind_same = rw (← leap, start, weekday_on _ q)
 
-moment_moved : (seconds : List ℤ) (x y q : ℤ) → is_leap x ≡ is_leap y → year_start y ≡ year_start x +ℤ pos 7 *ℤ q
-    → moment_by seconds y ≡ moment_by seconds x +ℤ pos 86_400 *ℤ (pos 7 *ℤ q)
-moment_moved _ x y q leap start = rw (kind_same x y q leap start) (omega linear)
+  moment_moved : (seconds : List ℤ) → moment_by seconds y ≡ moment_by seconds x +ℤ pos 86_400 *ℤ (pos 7 *ℤ q)
+  moment_moved _ = rw (kind_same) (omega linear)
 
-turns_moved : (starts ends : List ℤ) (x y q : ℤ) → is_leap x ≡ is_leap y → year_start y ≡ year_start x +ℤ pos 7 *ℤ q
-    → turns_in (moment_by starts) (moment_by ends) y ≡ moved (turns_in (moment_by starts) (moment_by ends) x) (pos 86_400 *ℤ (pos 7 *ℤ q))
-unfolding moved
-turns_moved _ _ x y q leap start = rw (moment_moved _ x y q leap start, moment_moved _ x y q leap start)
+  turns_moved : (starts ends : List ℤ)
+      → turns_in (moment_by starts) (moment_by ends) y ≡ moved (turns_in (moment_by starts) (moment_by ends) x) (pos 86_400 *ℤ (pos 7 *ℤ q))
+  unfolding moved
+  turns_moved _ _ = rw (moment_moved _, moment_moved _)
 
 -- the years before and after them begin as many weeks later too
 record StartsAlike (x y q : ℤ) : Type 0 where
@@ -160,34 +161,35 @@ record StartsAlike (x y q : ℤ) : Type 0 where
 next_alike : (x y q : ℤ) → is_leap x ≡ is_leap y → year_start y ≡ year_start x +ℤ pos 7 *ℤ q → year_start (y +ℤ pos 1) ≡ year_start (x +ℤ pos 1) +ℤ pos 7 *ℤ q
 next_alike x y q leap start = let a = year_step x in let b = rw (← leap) at (year_step y) in omega (arith, floors)
 
-starts_alike : (x y q : ℤ) → LeapsAlike x y → year_start y ≡ year_start x +ℤ pos 7 *ℤ q → StartsAlike x y q
-starts_alike x y q leaps start =
-    let after = next_alike x y q leaps.here start in
-    let e : (x +ℤ pos 1) +ℤ pos 1 ≡ x +ℤ pos 2 = omega linear in
-    let f : (y +ℤ pos 1) +ℤ pos 1 ≡ y +ℤ pos 2 = omega linear in
-    let g : (x -ℤ pos 1) +ℤ pos 1 ≡ x = omega linear in
-    let h : (y -ℤ pos 1) +ℤ pos 1 ≡ y = omega linear in
-    let a = rw g at (year_step (x -ℤ pos 1)) in let b = rw (h, ← leaps.before) at (year_step (y -ℤ pos 1)) in
-    record { before = omega (arith, floors); after = after; later = rw (e, f) at (next_alike _ _ q leaps.after after) }
+-- two years whose starts are whole weeks apart
+module _ (x y q : ℤ) (leaps : LeapsAlike x y) (start : year_start y ≡ year_start x +ℤ pos 7 *ℤ q) where
+  starts_alike : StartsAlike x y q
+  starts_alike =
+      let after = next_alike x y q leaps.here start in
+      let e : (x +ℤ pos 1) +ℤ pos 1 ≡ x +ℤ pos 2 = omega linear in
+      let f : (y +ℤ pos 1) +ℤ pos 1 ≡ y +ℤ pos 2 = omega linear in
+      let g : (x -ℤ pos 1) +ℤ pos 1 ≡ x = omega linear in
+      let h : (y -ℤ pos 1) +ℤ pos 1 ≡ y = omega linear in
+      let a = rw g at (year_step (x -ℤ pos 1)) in let b = rw (h, ← leaps.before) at (year_step (y -ℤ pos 1)) in
+      record { before = omega (arith, floors); after = after; later = rw (e, f) at (next_alike _ _ q leaps.after after) }
 
-near_alike : (starts ends : List ℤ) (x y q : ℤ) → LeapsAlike x y → year_start y ≡ year_start x +ℤ pos 7 *ℤ q
-    → years_near (moment_by starts) (moment_by ends) y ≡ all_moved (years_near (moment_by starts) (moment_by ends) x) (pos 86_400 *ℤ (pos 7 *ℤ q))
-unfolding all_moved
-near_alike starts ends x y q leaps start =
-    let s = starts_alike x y q leaps start in
-    let first : pos 86_400 *ℤ year_start y ≡ pos 86_400 *ℤ year_start x +ℤ pos 86_400 *ℤ (pos 7 *ℤ q) = rw start (omega linear) in
-    let next : pos 86_400 *ℤ year_start (y +ℤ pos 1) ≡ pos 86_400 *ℤ year_start (x +ℤ pos 1) +ℤ pos 86_400 *ℤ (pos 7 *ℤ q) = rw s.after (omega linear) in
-    let a = turns_moved starts ends _ _ q leaps.before s.before in
-    let b = turns_moved starts ends x y q leaps.here start in
-    let c = turns_moved starts ends _ _ q leaps.after s.after in
-    let d = turns_moved starts ends (x +ℤ pos 2) (y +ℤ pos 2) q leaps.later s.later in
-    rw (a, b, c, d, first, next)
+  near_alike : (starts ends : List ℤ)
+      → years_near (moment_by starts) (moment_by ends) y ≡ all_moved (years_near (moment_by starts) (moment_by ends) x) (pos 86_400 *ℤ (pos 7 *ℤ q))
+  unfolding all_moved
+  near_alike starts ends =
+      let s = starts_alike in
+      let first : pos 86_400 *ℤ year_start y ≡ pos 86_400 *ℤ year_start x +ℤ pos 86_400 *ℤ (pos 7 *ℤ q) = rw start (omega linear) in
+      let next : pos 86_400 *ℤ year_start (y +ℤ pos 1) ≡ pos 86_400 *ℤ year_start (x +ℤ pos 1) +ℤ pos 86_400 *ℤ (pos 7 *ℤ q) = rw s.after (omega linear) in
+      let a = turns_moved _ _ q leaps.before s.before starts ends in
+      let b = turns_moved x y q leaps.here start starts ends in
+      let c = turns_moved _ _ q leaps.after s.after starts ends in
+      let d = turns_moved (x +ℤ pos 2) (y +ℤ pos 2) q leaps.later s.later starts ends in
+      rw (a, b, c, d, first, next)
 
-by_calm : (starts ends : List ℤ) (calm : Bool) (x y q : ℤ) → LeapsAlike x y → year_start y ≡ year_start x +ℤ pos 7 *ℤ q
-    → is_changing starts ends calm y ≡ is_changing starts ends calm x
-by_calm _ _ true x y q leaps start = rw (kind_same x y q leaps.here start)
-by_calm starts ends false x y q leaps start = ap (λ n. has_flip n) (near_alike _ _ x y q leaps start)
-    ∙ has_moved _ _
+  by_calm : (starts ends : List ℤ) (calm : Bool) → is_changing starts ends calm y ≡ is_changing starts ends calm x
+  by_calm _ _ true = rw (kind_same x y q leaps.here start)
+  by_calm starts ends false = ap (λ n. has_flip n) (near_alike _ _)
+      ∙ has_moved _ _
 
 -- they change alike
 pub changing_alike : (starts ends : List ℤ) (calm : Bool) (x y : ℤ) → year_key x ≡ year_key y → is_changing starts ends calm y ≡ is_changing starts ends calm x
@@ -195,7 +197,7 @@ changing_alike _ _ _ x y e =
     let (places, weekday) = leap_places x y e in
     let leaps = leaps_alike x y places in
     let (q, start) = weeks _ _ weekday in
-    by_calm _ _ _ x y q leaps start
+    by_calm x y q leaps start _ _ _
 
 -- the year of each key has that key
 each_key : all_below 35 (λ k. eqb (year_key (get_or key_years k (pos 0))) k) ≡ true

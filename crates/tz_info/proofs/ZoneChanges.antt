@@ -59,26 +59,25 @@ pub steady : (z : Zone) (within : ℤ → Type 0) → IsValid z → ((a : Altern
     → HasNoChange (TypeAt z) (IsChangeByRule z within)
 steady z _ valid not d is inside = grind (arith, changes_segment, segment_most)
 
-pub to_rule : (z : Zone) (a : AlternateRule) (u : ℤ) (t : LocalType) → IsValid z → z.rule ≡ Some (Alternate a) → segment_of z u ≡ length z.transitions
-    → TypeAt z u t → AlternateAt a u t
-to_rule z a u t valid rule e k = rw rule at (type_from z u t valid.transitions.rising (record { type = k; segment = e }))
+-- a second at which the zone's rule answers
+module _ (z : Zone) (a : AlternateRule) (u : ℤ) (t : LocalType) (rule : z.rule ≡ Some (Alternate a)) where
+  pub to_rule : IsValid z → segment_of z u ≡ length z.transitions → TypeAt z u t → AlternateAt a u t
+  to_rule valid e k = rw rule at (type_from z u t valid.transitions.rising (record { type = k; segment = e }))
 
-of_rule_or : (z : Zone) (a : AlternateRule) (u : ℤ) (i : ℕ) (t : LocalType) → z.rule ≡ Some (Alternate a) → AlternateAt a u t → RuleOrType z u i t
-of_rule_or z a u i t rule k = rw rule k
+  of_rule_or : (i : ℕ) → AlternateAt a u t → RuleOrType z u i t
+  of_rule_or i k = rw rule k
 
-by_rule_alone : (z : Zone) (a : AlternateRule) (u : ℤ) (t : LocalType) → z.rule ≡ Some (Alternate a) → length z.transitions ≡ 0
-    → AlternateAt a u t → TypeAt z u t
-by_rule_alone z a u t rule none k = grind arith
+  by_rule_alone : length z.transitions ≡ 0 → AlternateAt a u t → TypeAt z u t
+  by_rule_alone none k = grind arith
 
-pub from_rule : (z : Zone) (a : AlternateRule) (u : ℤ) (t : LocalType) → IsValid z → z.rule ≡ Some (Alternate a) → segment_of z u ≡ length z.transitions
-    → AlternateAt a u t → TypeAt z u t
-from_rule z a u t valid rule e k = elim (cases_lt 0 (length z.transitions)) [
-  | inl some ↦
-      let x = rule_leap_time _ u valid.leaps (rule_second a u t k) in
-      let b = segment_at z u _ valid.transitions.rising e in
-      (type_in_from z u x.0 t x.1 (rw (← x.1.sum) at b) (of_rule_or z a u _ t rule k)).type
-  | inr none ↦ by_rule_alone z a u t rule (omega arith) k
-]
+  pub from_rule : IsValid z → segment_of z u ≡ length z.transitions → AlternateAt a u t → TypeAt z u t
+  from_rule valid e k = elim (cases_lt 0 (length z.transitions)) [
+    | inl some ↦
+        let x = rule_leap_time _ u valid.leaps (rule_second a u t k) in
+        let b = segment_at z u _ valid.transitions.rising e in
+        (type_in_from z u x.0 t x.1 (rw (← x.1.sum) at b) (of_rule_or _ k)).type
+    | inr none ↦ by_rule_alone (omega arith) k
+  ]
 
 -- `begin` comes no later than a second with a type at which all have come
 pub begun : (z : Zone) (begin u : ℤ) (t : LocalType) → IsValid z → IsBegin z begin → SFits w64 u → TypeAt z u t → segment_of z u ≡ length z.transitions
@@ -109,8 +108,8 @@ by_rule z a begin d valid rule h = (
         record {
           fits = is.fits;
           fits_before = is.fits_before;
-          before = from_rule z a _ _ valid rule e is.before;
-          after = from_rule z a _ _ valid rule (last_too z _ valid e) is.after;
+          before = from_rule z a _ _ rule valid e is.before;
+          after = from_rule z a _ _ rule valid (last_too z _ valid e) is.after;
           differ = is.differ;
         },
         e,
@@ -179,11 +178,11 @@ reached_exactly es x u y p q (suc m) d valid h some e f l =
     let one : suc m - 1 ≡ m = omega arith in
     let t = threshold_at (pos 0) es m d (pos 0) (omega arith) in
     let g : p ≡ correction_behind es m = rw one at e in
-    let r = reached_later es x u y m d valid h l in
+    let r = reached_later es d valid x u y m h l in
     rw (one, f) ((λ k. let s = r.0 k in (omega linear, s.1)), (λ k. r.1 (omega linear, k.1)))
 
 pub entry_late : (es : List LeapSecond) (i : ℕ) (d : LeapSecond) → AreLeapSeconds es → i < length es → pos 0 ≤ℤ (get_or es i d).unix_leap_time
-entry_late es i d valid h = let r = times_rise es 0 i d valid (omega arith) h in let f = (valid.first d (omega arith)).since_epoch in omega linear
+entry_late es i d valid h = let r = times_rise es d valid 0 i (omega arith) h in let f = (valid.first d (omega arith)).since_epoch in omega linear
 
 -- ---- at the ends of a span
 pub out_before : (z : Zone) (c : Change) → IsChange (TypeAt z) c → IsOutOfForce (TypeAt z) c.after (c.at -ℤ pos 1)

@@ -21,9 +21,9 @@ pub returns-in-Some : goal.returns-in-Some
 returns-in-Some c = (
   c.args.bytes.now,
   refl,
-  text_place _ _ _ _ _ c.requires
-      (is_between _ (sym c.is_between_newlines.ensures ∙ c.if-not-is_between_newlines.false)) c.trim_ascii_start-start.ensures.value
-      c.trim_ascii.ensures.value c.in-Some.ensures,
+  text_place _ _ _ _ _ c.trim_ascii_start-start.ensures.value
+      c.trim_ascii.ensures.value c.in-Some.ensures
+      c.requires (is_between _ (sym c.is_between_newlines.ensures ∙ c.if-not-is_between_newlines.false)),
 )
 
 pub returns-in-None : goal.returns-in-None

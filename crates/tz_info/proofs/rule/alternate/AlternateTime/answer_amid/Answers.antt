@@ -55,12 +55,12 @@ returns c =
     cc (simp to_z-of_z at c.answer_of_two.ensures, is) in
     record {
       season = c.requires.season;
-      found = rw two (both_asked a c.args.from c.args.local dst _ _ c.requires.other order (record { fits = rw by_first at f1; since = sooner.since })
+      found = rw two (both_asked a c.args.local c.requires.other c.args.from dst _ _ order (record { fits = rw by_first at f1; since = sooner.since })
           (record { fits = rw by_last at f2; since = later.since }) (rw by_first at (simp to_z-of_z at c.is_dst_amid.ensures))
           (rw by_last at (simp to_z-of_z at c.is_dst_amid-2.ensures)));
       cost = search rules;
-      counted = asked_in_turn a _ _ dst _ _
-          _ c.requires.other
+      counted = asked_in_turn a _ c.requires.other _ dst _
+          _ _
           (inl (sooner.since, ap (λ (p : Counts). p.rule_questions) c.count_question.ensures))
           (inl (later.since, ap (λ (p : Counts). p.rule_questions) c.count_question-2.ensures));
     }

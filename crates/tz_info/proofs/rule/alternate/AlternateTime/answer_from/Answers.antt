@@ -61,7 +61,7 @@ returns c =
           (either a _ _ dst) (rw first at (simp to_z-of_z at c.ask-one.ensures.asked))
           (rw last at (simp to_z-of_z at c.ask.ensures.asked));
       cost = search rules;
-      counted = asked_in_turn a _ _ dst _ _ _ other (rw first at (simp to_z-of_z at c.ask-one.ensures.counted))
+      counted = asked_in_turn a _ other _ dst _ _ _ (rw first at (simp to_z-of_z at c.ask-one.ensures.counted))
           (rw last at (simp to_z-of_z at c.ask.ensures.counted));
       rule = search rules;
     }

@@ -8,7 +8,7 @@ returns-then-is_calm c =
     let calm = c.is_calm.ensures c.if-is_calm.true in
     let low = second_low _ _ c.requires.year in let high = second_high _ _ c.requires.year in
     rw (simp to_z-of_z at c.is_dst.ensures, asked.start, asked.end)
-    (calm_type a _ _ asked.rule (calm_margin a asked.rule calm) c.requires.time low (omega linear))
+    (calm_type a asked.rule (calm_margin a asked.rule calm) _ _ c.requires.time low (omega linear))
 
 pub returns-else-is_calm : goal.returns-else-is_calm
 returns-else-is_calm c = let fs = c.ranges.second in simp to_z-of_z at c.is_dst_at.ensures

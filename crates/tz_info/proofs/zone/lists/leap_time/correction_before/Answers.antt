@@ -12,5 +12,5 @@ returns c =
     let fx = c.ranges.leap_time in
     let fr : SFits w32 c.correction_after.result = search rules in
     let b = simp to_z-of_z at c.entries_before.ensures in
-    simp to_z-of_z (before_found _ _ _ _ _ c.requires b.within
+    simp to_z-of_z (before_found _ _ c.requires _ _ _ b.within
     (record { value = c.correction_after.ensures; before = b.before }) (b.from none))

@@ -14,8 +14,8 @@ type_at-before-requires c =
     let fl = c.ranges.local in let ff = c.ranges.first in let fe = c.ranges.last in
     let fa : SFits w64 c.in-Some.at = search rules in
     let back = simp to_z-of_z at c.loop-at.invariant in
-    let begun = begins_at _ _ _ _ _ _ _ c.requires.ends back
-    c.near_span_at-span.ensures c.in-Some.is in
+    let begun = begins_at _ _ _ _ _ _ c.requires.ends back c.near_span_at-span.ensures
+    _ c.in-Some.is in
     simp to_z-of_z (omega linear, omega linear)
 
 -- the second before the change, and that its type and its place are those of the code
@@ -26,8 +26,8 @@ before c =
     let fl = c.ranges.local in let ff = c.ranges.first in let fe = c.ranges.last in
     let fa : SFits w64 c.in-Some.at = search rules in
     let back = simp to_z-of_z at c.loop-at.invariant in
-    let begun = begins_at _ _ _ _ _ _ _ c.requires.ends back
-    c.near_span_at-span.ensures c.in-Some.is in
+    let begun = begins_at _ _ _ _ _ _ c.requires.ends back c.near_span_at-span.ensures
+    _ c.in-Some.is in
     (fl, ff, fe, fa, omega linear, begun.0, omega linear)
 
 pub returns-then-has_reached : goal.returns-then-has_reached
@@ -43,8 +43,8 @@ pub loop-at-smaller : goal.loop-at-smaller
 loop-at-smaller c =
     let (fl, ff, fe, fa, fb, later, most) = before (goal.at.loop-at-smaller c).After-has_reached in
     let back = simp to_z-of_z at c.loop-at.invariant in
-    let begun = begins_at _ _ _ _ _ _ _ c.requires.ends back
-    c.near_span_at-span.ensures c.in-Some.is in
+    let begun = begins_at _ _ _ _ _ _ c.requires.ends back c.near_span_at-span.ensures
+    _ c.in-Some.is in
     simp to_z-of_z (omega linear)
 
 pub loop-at-preserved : goal.loop-at-preserved

@@ -41,9 +41,9 @@ returns-in_default-clause-found c =
     let limits : IsRuleOrNone z.rule = rw (← c.self.view_is) c.self.invariant.limits in
     let own = rw (ap (λ (z : Zone). z.rule) c.self.view_is) at c.in_default.ensures in
     let is = rw (c.deref-in_default.ensures.value, ap (λ (z : Zone). z.types) c.self.view_is) at (simp to_z-of_z at c.first_of.ensures.first) in
-    first_there z _ _ _ _ _ _
-    _ _
-    (valid d) limits (table_of z _ (valid d) (entries d)) own c.requires.local (reach d).2 (first d) is
+    first_there z _ _ _ _ (table_of z _ (valid d) (entries d)) c.requires.local
+    (first d) _
+    _ _ _ (valid d) limits own (reach d).2 is
 
 pub first_since-requires-clause-near : goal.first_since-requires-clause-near
 first_since-requires-clause-near c =
@@ -52,8 +52,8 @@ first_since-requires-clause-near c =
     let z = c.args.self.now in
     let limits : IsRuleOrNone z.rule = rw (← c.self.view_is) c.self.invariant.limits in
     simp to_z-of_z (rw c.begin_of-begin.ensures.begin (begun_near z _ _
-    _ _ _ _ (valid d) limits (table_of z _ (valid d) (entries d))
-    (let top = top_least z.rule c.self.inside.changes (entries d).more in omega arith) c.requires.local (reach d).2 (first d)))
+    _ _ (table_of z _ (valid d) (entries d)) c.requires.local (first d) _ _
+    (valid d) limits (let top = top_least z.rule c.self.inside.changes (entries d).more in omega arith) (reach d).2))
 
 pub returns-clause-found : goal.returns-clause-found
 returns-clause-found c =

@@ -21,4 +21,4 @@ loop-known-init c =
 pub returns : goal.returns
 returns c =
     let h = c.loop-known.invariant.0 in
-    last_typed _ _ _ (rw (← c.self.view_is) c.self.invariant.valid) (rw (← c.self.view_is) c.self.invariant.limits) h (omega linear)
+    last_typed _ (rw (← c.self.view_is) c.self.invariant.valid) (rw (← c.self.view_is) c.self.invariant.limits) _ _ h (omega linear)
