@@ -15,8 +15,8 @@ one_gap z l g h a b =
     let more = b.least g.at (record { type = g.after; here = a.here; more = a.more }) in
     let same : g.at ≡ h.at = omega linear in
     same_sides g h
-    (type_once z _ _ _ (subst (λ (u : ℤ). TypeAt z (u -ℤ pos 1) g.before) same a.earlier) b.earlier)
-    (type_once z _ _ _ (subst (λ (u : ℤ). TypeAt z u g.after) same a.here) b.here)
+    (type_once z _ _ _ (subst (λ u. TypeAt z (u -ℤ pos 1) g.before) same a.earlier) b.earlier)
+    (type_once z _ _ _ (subst (λ u. TypeAt z u g.after) same a.here) b.here)
     same
 
 pub one_answer_around : (z : Zone) (l : ℤ) (a b : Around LocalType Change) → AreTypesAround (TypeAt z) l a → AreTypesAround (TypeAt z) l b → a ≡ b

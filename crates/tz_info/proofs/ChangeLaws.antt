@@ -11,8 +11,8 @@ same_parts c d p q r = λ i. record { at = p i; before = q i; after = r i }
 
 pub one_change : (z : Zone) (c d : Change) → IsChange (TypeAt z) c → IsChange (TypeAt z) d → c.at ≡ d.at → c ≡ d
 one_change z c d a b same = same_parts c d same
-    (type_once z _ _ _ (subst (λ (u : ℤ). TypeAt z (u -ℤ pos 1) c.before) same a.before) b.before)
-    (type_once z _ _ _ (subst (λ (u : ℤ). TypeAt z u c.after) same a.after) b.after)
+    (type_once z _ _ _ (subst (λ u. TypeAt z (u -ℤ pos 1) c.before) same a.before) b.before)
+    (type_once z _ _ _ (subst (λ u. TypeAt z u c.after) same a.after) b.after)
 
 -- ---- the nearest one
 each_way : (w : Bool) (x y : ℤ) → Precedes w x y → Precedes w y x → x ≡ y
@@ -34,7 +34,7 @@ at_front : (c : Change) (cs : List Change) → Contains (c ∷ cs) c
 at_front c cs = (0, omega arith, refl)
 
 later : (c d : Change) (cs : List Change) → Rise (c ∷ cs) → Contains cs d → c.at <ℤ d.at
-later c d cs rise h = subst (λ (x : Change). c.at <ℤ x.at) h.2 (rise 0 (suc h.0) d (omega arith) (omega arith))
+later c d cs rise h = subst (λ x. c.at <ℤ x.at) h.2 (rise 0 (suc h.0) d (omega arith) (omega arith))
 
 not_before : (c d : Change) (cs : List Change) → Rise (c ∷ cs) → Contains (c ∷ cs) d → c.at ≤ℤ d.at
 not_before c d cs rise (zero, l, same) = grind linear
@@ -47,7 +47,7 @@ rest_rises c cs rise = λ i j d l m. rise (suc i) (suc j) d (omega arith) (omega
 rest_same : (c : Change) (cs ds : List Change) → Rise (c ∷ cs) → ((x : Change) → Contains (c ∷ cs) x → Contains (c ∷ ds) x) → (x : Change)
     → Contains cs x → Contains ds x
 rest_same c cs ds rise same x h = Contains-tail c ds x
-    (λ e. let l = subst (λ (y : Change). c.at <ℤ y.at) (sym e) (later c x cs rise h) in omega linear)
+    (λ e. let l = subst (λ y. c.at <ℤ y.at) (sym e) (later c x cs rise h) in omega linear)
     (same x (Contains-append_right (c ∷ []) cs x h))
 
 one_list : (z : Zone) (a b : List Change) → Rise a → Rise b → ((c : Change) → Contains a c → IsChange (TypeAt z) c)
@@ -60,9 +60,9 @@ one_list z (c ∷ cs) (d ∷ ds) p q are_a are_b to from =
     let l = not_before d c ds q (to c (at_front c cs)) in
     let m = not_before c d cs p (from d (at_front d ds)) in
     let same = one_change z c d (are_a c (at_front c cs)) (are_b d (at_front d ds)) (omega linear) in
-    let to' = subst (λ (x : Change). (y : Change) → Contains (c ∷ cs) y → Contains (x ∷ ds) y) (sym same) to in
-    let from' = subst (λ (x : Change). (y : Change) → Contains (x ∷ ds) y → Contains (c ∷ cs) y) (sym same) from in
-    let q' = subst (λ (x : Change). Rise (x ∷ ds)) (sym same) q in
+    let to' = subst (λ x. (y : Change) → Contains (c ∷ cs) y → Contains (x ∷ ds) y) (sym same) to in
+    let from' = subst (λ x. (y : Change) → Contains (x ∷ ds) y → Contains (c ∷ cs) y) (sym same) from in
+    let q' = subst (λ x. Rise (x ∷ ds)) (sym same) q in
     let rest = one_list z cs ds (rest_rises c cs p) (rest_rises c ds q') (λ x h. are_a x (Contains-append_right (c ∷ []) cs x h))
     (λ x h. are_b x (Contains-append_right (d ∷ []) ds x h)) (rest_same c cs ds p to') (rest_same c ds cs q' from') in
     λ i. same i ∷ rest i
@@ -91,7 +91,7 @@ front_is_first z _ until c cs h =
 -- ---- the type before a gap
 pub one_type_before_gap : (z : Zone) (l : ℤ) (s t : LocalType) → IsTypeBeforeGap (TypeAt z) l s → IsTypeBeforeGap (TypeAt z) l t → s ≡ t
 one_type_before_gap z l s t a b =
-    let less = a.least b.first b.more in
-    let more = b.least a.first a.more in
+    let less = a.least _ b.more in
+    let more = b.least _ a.more in
     let same : a.first ≡ b.first = omega linear in
-    type_once z _ s t (subst (λ (u : ℤ). TypeAt z (u -ℤ pos 1) s) same a.before) b.before
+    type_once z _ s t (subst (λ u. TypeAt z (u -ℤ pos 1) s) same a.before) b.before

@@ -30,12 +30,12 @@ then_here f from last c cs apart is at low h = record {
   each = λ d. (
     λ inside. elim (Contains-push_cases cs c d inside) [
       | inl earlier ↦ let k = (h.each d).0 earlier in let l = k.1.1 in (k.0, (k.1.0, omega linear))
-      | inr same ↦ subst (λ (x : Change). IsChange f x × IsFromUntil from (last +ℤ pos 1) x.at) same
+      | inr same ↦ subst (λ x. IsChange f x × IsFromUntil from (last +ℤ pos 1) x.at) same
           (is, (omega linear, omega linear))
     ],
     λ k. by_lt_z d.at last
         (λ less. Contains-append_left cs (c ∷ []) d ((h.each d).1 (k.0, (k.1.0, less))))
-        (λ more. let l = k.1.1 in subst (λ (x : Change). Contains (cs ++ c ∷ []) x) (apart c d is k.0 (omega linear)) (Contains-push cs c)),
+        (λ more. let l = k.1.1 in subst (λ x. Contains (cs ++ c ∷ []) x) (apart c d is k.0 (omega linear)) (Contains-push cs c)),
   );
 }
 
@@ -61,7 +61,7 @@ changes_made f types from (suc n) once told =
     let last = from +ℤ pos n in
     let earlier = changes_made f _ from n once told in
     let end : last +ℤ pos 1 ≡ from +ℤ pos (suc n) = omega linear in
-    subst (λ (until : ℤ). AreChanges f from until (changes_in types from n ++ change_here types last)) end (elim (here_listed f types last once told) [
+    subst (λ until. AreChanges f from until (changes_in types from n ++ change_here types last)) end (elim (here_listed f types last once told) [
       | inl none ↦ rw none.0 (rw (append-nil (changes_in types from n)) (same_without f from last (changes_in types from n) none.1 earlier))
       | inr one ↦ rw one.1 (then_here f _ _ _ _ (apart f once) one.2 one.3 (omega linear) earlier)
     ])
@@ -81,7 +81,7 @@ once_of z u s t h k = type_once z u s t h k
 pub changes_are : (z : Zone) (from until : ℤ) → IsValid z → IsRuleOrNone z.rule → AreChanges (TypeAt z) from until (changes_of z from until)
 unfolding changes_of
 changes_are z from until valid limits = by_lt_z from until
-    (λ less. subst (λ (u : ℤ). AreChanges (TypeAt z) from u (changes_in (type_or_none z) from (seconds_between from until)))
+    (λ less. subst (λ u. AreChanges (TypeAt z) from u (changes_in (type_or_none z) from (seconds_between from until)))
     (until_is from _ (omega linear))
     (changes_made _ _ _ _ (once_of z) (types_told z valid limits)))
     (λ late. rw (none_between _ _ late)

@@ -32,12 +32,12 @@ transitions_law (suc n) w times [] l m = absurd (omega arith)
 transitions_law (suc n) w times (i ∷ is) l m =
     let sizes = behind_first n w _ l in
     like (first_and_more n _ _ _
-    (ap (λ (b : List ℕ). Ok (record { unix_leap_time = file_time w b; type_index = i })) (first_record w _))
-    (λ k. ap (λ (b : List ℕ). Ok (record { unix_leap_time = file_time w b; type_index = slice_index is k })) (next_record w _ k))
+    (ap (λ b. Ok (record { unix_leap_time = file_time w b; type_index = i })) (first_record w _))
+    (λ k. ap (λ b. Ok (record { unix_leap_time = file_time w b; type_index = slice_index is k })) (next_record w _ k))
     (done (record { unix_leap_time = file_time w (take w times); type_index = i }))
     (transitions_law n w _ is sizes.1 (omega arith)))
     (λ ts h. subst (SpellTransitions w times (i ∷ is)) h.2.2 (record {
-      times_are = (take w times, drop w times, sym (take-append-drop w times), sizes.0, ap (λ (t : Transition). t.unix_leap_time) h.1, h.2.1.times_are);
+      times_are = (take w times, drop w times, sym (take-append-drop w times), sizes.0, ap (λ t. t.unix_leap_time) h.1, h.2.1.times_are);
       indexes_are = cc;
     }))
     (λ ts h. first_transition w _ i is ts h)

@@ -4,9 +4,8 @@ use Rattle.std.specs.Cmp.Lexicographic.{pointwise}
 use Rattle.tz_base.proofs.ChangeEquality.{second_exact}
 use Rattle.tz_base.specs.contracts.local_time_type.LocalTimeTypePartialEq.TheImpl.{eq-value as type_eq}
 use Rattle.tz_info.proofs.{
-  Words.{Alternate as AlternateRule, Bool, Difference, IsExact, IsTrue, LeapSecond, List, LocalType, None, Option, ShownSeconds, Some, Transition},
-  Words.{TransitionRule, TypedSecond, Zone, and_both, and_left, and_right, ap, option_eq, refl, rules, slice_eq-Decides, sym, type_exact, zone_eq, ◌&&◌, ◌↔◌},
-  Words.{◌∙◌, ◌≡◌},
+  Words.{Alternate as AlternateRule, Bool, IsExact, IsTrue, LeapSecond, List, LocalType, None, Option, Some, Transition, TransitionRule, Zone, and_both},
+  Words.{and_left, and_right, ap, option_eq, refl, rules, slice_eq-Decides, sym, type_exact, zone_eq, ◌&&◌, ◌↔◌, ◌∙◌, ◌≡◌},
 }
 use Rattle.tz_info.specs.{
   contracts.{change.TypedSecondPartialEq.TheImpl.{eq-value as second_eq}, rule.day.DayTimePartialEq.TheImpl.{eq-value as day_time_eq}},
@@ -33,7 +32,7 @@ pair_eq E F p q = E p.0 q.0 && F p.1 q.1
 pub pair_exact : {X Y : Type 0} (E : X → X → Bool) (F : Y → Y → Bool) → IsExact E → IsExact F → IsExact (pair_eq E F)
 pair_exact {X = X} {Y = Y} E F e f p q = (
   λ h. λ i. ((e p.0 q.0).0 (and_left (E p.0 q.0) (F p.1 q.1) h) i, (f p.1 q.1).0 (and_right (E p.0 q.0) (F p.1 q.1) h) i),
-  λ k. and_both (E p.0 q.0) (F p.1 q.1) ((e p.0 q.0).1 (ap (λ (r : X × Y). r.0) k)) ((f p.1 q.1).1 (ap (λ (r : X × Y). r.1) k)),
+  λ k. and_both (E p.0 q.0) (F p.1 q.1) ((e p.0 q.0).1 (ap (λ r. r.0) k)) ((f p.1 q.1).1 (ap (λ r. r.1) k)),
 )
 
 pub by_parts : {X Y : Type 0} (E : Y → Y → Bool) (to : X → Y) (from : Y → X) → ((x : X) → from (to x) ≡ x) → IsExact E → (a b : X)
@@ -77,15 +76,15 @@ zone_exact = by_parts _
 
 -- ---- seconds with types, and differences
 pub typed_second_exact : IsExact second_eq.it
-typed_second_exact = by_parts _ (λ (s : TypedSecond). (s.at, s.local_time_type)) (λ p. record { at = p.0; local_time_type = p.1 })
+typed_second_exact = by_parts _ (λ s. (s.at, s.local_time_type)) (λ p. record { at = p.0; local_time_type = p.1 })
     (λ s. refl) (pair_exact _ _ second_exact type_exact)
 
 pub shown_seconds_exact : IsExact seconds_eq.it
-shown_seconds_exact = by_parts _ (λ (s : ShownSeconds). (s.first, s.last)) (λ p. record { first = p.0; last = p.1 })
+shown_seconds_exact = by_parts _ (λ s. (s.first, s.last)) (λ p. record { first = p.0; last = p.1 })
     (λ s. refl) (pair_exact _ _ typed_second_exact typed_second_exact)
 
 pub difference_exact : IsExact difference_eq.it
-difference_exact = by_parts _ (λ (d : Difference). (d.from, (d.until, (d.old, d.new))))
+difference_exact = by_parts _ (λ d. (d.from, (d.until, (d.old, d.new))))
     (λ p. record { from = p.0; until = p.1.0; old = p.1.1.0; new = p.1.1.1 }) (λ d. refl)
     (pair_exact _ _ second_exact
     (pair_exact _ _ second_exact (pair_exact _ _ type_exact type_exact)))

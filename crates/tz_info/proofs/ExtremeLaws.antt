@@ -28,7 +28,7 @@ joined xs e o r a j = record {
 }
 
 type_among : (types : List LocalType) (k : ℕ) (d : LocalType) → k < length types → Contains (offsets_of types) (get_or types k d).offset
-type_among types k d h = (k, simp length-map (h), get_or-map (λ (t : LocalType). t.offset) types k d (get_or types k d).offset h)
+type_among types k d h = (k, simp length-map (h), get_or-map (λ t. t.offset) types k d (get_or types k d).offset h)
 
 -- of the first type alone, and of one type more
 pub first_type : (types : List LocalType) (d : LocalType) (e : Extremes) → 0 < length types → e.greatest ≡ (get_or types 0 d).offset
@@ -69,20 +69,20 @@ listed_among types k t h e =
 
 pub in_force_among : (z : Zone) (u : ℤ) (t : LocalType) → TypeAt z u t → Contains (offsets z.types z.rule) t.offset
 in_force_among z u t a = elim (type_listed z u t a) [
-  | inl i ↦ Contains-append_left (offsets_of z.types) (rule_offsets z.rule) t.offset (listed_among _ i.0 t i.1 i.2)
-  | inr h ↦ Contains-append_right (offsets_of z.types) (rule_offsets z.rule) t.offset (rule_among _ u t h)
+  | inl i ↦ Contains-append_left (offsets_of z.types) (rule_offsets z.rule) _ (listed_among _ i.0 t i.1 i.2)
+  | inr h ↦ Contains-append_right (offsets_of z.types) (rule_offsets z.rule) _ (rule_among _ u t h)
 ]
 
 pub at_most_greatest : (z : Zone) (u g : ℤ) (t : LocalType) → IsGreatest (offsets z.types z.rule) g → TypeAt z u t → t.offset ≤ℤ g
-at_most_greatest z u g t h a = All-contains (λ x. x ≤ℤ g) (offsets _ z.rule) t.offset h.most (in_force_among z u t a)
+at_most_greatest z u g t h a = All-contains (λ x. x ≤ℤ g) (offsets _ z.rule) _ h.most (in_force_among z u t a)
 
 pub listed_at_most : (z : Zone) (i : ℕ) (g : ℤ) (t : LocalType) → IsGreatest (offsets z.types z.rule) g → i < length z.types → slice_get z.types i ≡ Some t
     → t.offset ≤ℤ g
-listed_at_most z i g t h below has = All-contains (λ x. x ≤ℤ g) (offsets _ z.rule) t.offset h.most
-    (Contains-append_left (offsets_of z.types) (rule_offsets z.rule) t.offset (listed_among _ i t below has))
+listed_at_most z i g t h below has = All-contains (λ x. x ≤ℤ g) (offsets _ z.rule) _ h.most
+    (Contains-append_left (offsets_of z.types) (rule_offsets z.rule) _ (listed_among _ i t below has))
 
 pub at_least_least : (z : Zone) (u g : ℤ) (t : LocalType) → IsLeast (offsets z.types z.rule) g → TypeAt z u t → g ≤ℤ t.offset
-at_least_least z u g t h a = All-contains (λ x. g ≤ℤ x) (offsets _ z.rule) t.offset h.fewest (in_force_among z u t a)
+at_least_least z u g t h a = All-contains (λ x. g ≤ℤ x) (offsets _ z.rule) _ h.fewest (in_force_among z u t a)
 
 -- the seconds by the greatest offset and by the least
 pub window_made : (z : Zone) (from until g h : ℤ) → IsEnd from → IsEnd until → SFits w32 g → SFits w32 h → IsGreatest (offsets z.types z.rule) g

@@ -38,8 +38,8 @@ counted bytes p d c read m n = (
   λ k.
       let one = value_once (pieces_law _) p k.pieces ((pieces_law _).takes p read) k.has in
       ap Some (same_counts c d
-      (m ∙ ap (λ (x : FilePieces). x.counts.transitions) one ∙ sym k.transitions_are)
-      (n ∙ ap (λ (x : FilePieces). x.counts.leap_seconds) one ∙ sym k.leap_seconds_are)),
+      (m ∙ ap (λ x. x.counts.transitions) one ∙ sym k.transitions_are)
+      (n ∙ ap (λ x. x.counts.leap_seconds) one ∙ sym k.leap_seconds_are)),
 )
 
 -- bytes of which a piece is missing or has a fault have none
@@ -51,7 +51,7 @@ of_block : (w : ℕ) (x : Bool) (c : Counts) (bytes : List ℕ) (b : Parts) (res
     → Spells (block w c) bytes b rest → HasLengths (record { extended = x; time_size = w; counts = c; parts = b; footer = o })
 unfolding block
 of_block w x c _ b _ o k (_, _, times, (_, _, indexes, (_, _, types, (_, _, _, (_, _, leaps, (_, _, _, (_, _, _, (value, _)))))))) =
-    subst (λ (y : Parts). HasLengths (record { extended = x; time_size = w; counts = c; parts = y; footer = o })) (sym value)
+    subst (λ y. HasLengths (record { extended = x; time_size = w; counts = c; parts = y; footer = o })) (sym value)
     (record { time_size = k; times = times.1; type_indexes = indexes.1; types = types.1; leap_seconds = leaps.1 })
 
 after_lengths : (v : Version) (c : Counts) (b : Parts) (start bytes : List ℕ) (p : FilePieces) (rest : List ℕ) → Spells (block 4 c) start b bytes

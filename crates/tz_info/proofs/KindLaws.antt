@@ -95,7 +95,7 @@ calm_year a starts ends year rule e f all =
     (kind_parts (is_leap year) _ (weekday_below (year_start year))).0 all) in
     let start : get_or starts (kind_place year) (pos 0) ≡ second_in a.start a.std.offset year =
     rw e (kind_found _ _ _ _ rule.start_day) in
-    let end : get_or ends (kind_place year) (pos 0) ≡ second_in a.end a.dst.offset year = rw f (kind_found _ _ _ _ rule.end_day) in
+    let end : get_or ends (kind_place year) (pos 0) ≡ second_in a.end _ year = rw f (kind_found _ _ _ _ rule.end_day) in
     rw (start, end) at calm
 
 shifted : (x y base : ℤ) → int_le (x -ℤ base) (y -ℤ base) ≡ int_le x y

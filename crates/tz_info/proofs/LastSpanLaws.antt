@@ -63,7 +63,7 @@ last_spans z last e valid extremes low high fits last_fits typed h after local_a
     let inside : IsInSpan last.span u = record { fits = is; since = after u is l; until = until_less _ u _ h.inside.until most } in
     record { in_force_then = h.span.each u inside; inside = inside; span = h.span } in
     let none : (u : ℤ) → SFits w64 u → last.after <ℤ u → HasNoChange (TypeAt z) (λ v. u <ℤ v) = λ u fits_u l d change later.
-    by_lt_z last.last d.at (λ beyond. none_last d change beyond) (λ within.
+    by_lt_z _ d.at (λ beyond. none_last d change beyond) (λ within.
     let this = each (d.at -ℤ pos 1) change.fits_before (omega linear) (omega linear) in
     let that = each d.at change.fits (omega linear) within in
     no_change_within z _ d h.span this.inside that.inside change) in

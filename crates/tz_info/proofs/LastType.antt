@@ -41,5 +41,5 @@ last_type z last u x t valid is unix time come has =
     let between = rw all at p.1 in
     let same : length ts ≡ (length ts - 1) + 1 = omega arith in
     let index =
-    ap (λ k. index_of ts k) same ∙ index_next ts _ _ (omega arith) ∙ ap (λ (d : Transition). d.type_index) e in
+    ap (λ k. index_of ts k) same ∙ index_next ts _ _ (omega arith) ∙ ap (λ d. d.type_index) e in
     (type_in_from z u x t time between (rw index (said _ _ _ ts _ u t valid.agrees is unix has))).type

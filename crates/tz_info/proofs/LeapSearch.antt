@@ -54,8 +54,8 @@ leap_time_fits es u x f l = by_count (passed_count es u) refl where
   by_count (suc m) e =
       let d : LeapSecond = record { unix_leap_time = pos 0; correction = pos 0 } in
       let within = passed_at_most es u in
-      let s = rw (e, last_taken (λ (e : LeapSecond). e.correction) _ es m d (omega arith)) at l.sum in
-      let t = rw (mapped_at (λ (e : LeapSecond). e.correction) es m d (pos 0) (omega arith)) at (l.fits m (omega arith)) in
+      let s = rw (e, last_taken (λ e. e.correction) _ es m d (omega arith)) at l.sum in
+      let t = rw (mapped_at (λ e. e.correction) es m d (pos 0) (omega arith)) at (l.fits m (omega arith)) in
       rw s t
 
 -- ---- the last second that has a leap time
@@ -69,7 +69,7 @@ pub refuses_by_entry : (es : List LeapSecond) (k : ℕ) (d : LeapSecond) (by bef
     → (by ≤ℤ u) ↔ Refuses es k u
 refuses_by_entry es k d by _ u h e first =
     let t = threshold_at (pos 0) es k d (pos 0) h in
-    rw (mapped_at (λ (e : LeapSecond). e.correction) es k d (pos 0) h, t, ← e) first
+    rw (mapped_at (λ e. e.correction) es k d (pos 0) h, t, ← e) first
 
 -- one of the first k entries refuses each second from that one on, and none an earlier one
 pub record AreRefusedFrom (es : List LeapSecond) (k : ℕ) (refused : ℤ) : Type 0 where

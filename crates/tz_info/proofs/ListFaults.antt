@@ -125,7 +125,7 @@ has_list_fault z bad = elim (cases_lt 0 (length z.types)) [
     | inl indexes ↦ elim (pairs_known earlier_known _) [
       | inr other ↦ (TimeZone TransitionTimesThatRise, Not_rising some indexes other)
       | inl rising ↦
-          let transitions : AreTransitions (length z.types) z.transitions = record { indexes = indexes; rising = rising } in
+          let transitions : AreTransitions (length z.types) _ = record { indexes = indexes; rising = rising } in
           elim (leaps_known _) [
             | inr other ↦ (TimeZone LeapSecondsInOrder, Other_leaps some transitions other)
             | inl leaps ↦ (

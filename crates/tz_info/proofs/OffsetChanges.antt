@@ -13,7 +13,7 @@ use Rattle.tz_info.specs.declared.rule.transition_rule.TransitionRule.TheVariant
 kept_one : (z : Zone) (c d : Change) → IsOffsetChange (TypeAt z) d → IsChange (TypeAt z) c → d.at ≡ c.at → c.before.offset ≡ c.after.offset → ⊥
 kept_one z c d h is same kept =
     let one = one_change z d c h.is is same in
-    h.other (ap (λ (x : Change). x.before.offset) one ∙ kept ∙ sym (ap (λ (x : Change). x.after.offset) one))
+    h.other (ap (λ x. x.before.offset) one ∙ kept ∙ sym (ap (λ x. x.after.offset) one))
 
 -- ---- a rule whose two types have one offset
 -- all transitions have come at a second with a type from `begin` on

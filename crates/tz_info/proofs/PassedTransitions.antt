@@ -11,14 +11,14 @@ pub without_transitions : {T : Type 0} (view : T → LocalType) (z : Zone) (u : 
     → MatchResult r (λ t. RuleOrType z u 0 (view t)) (λ e. (e ≡ FindLocalTimeType YearThatRuleAnswersIn) × IsRefusedBy z.rule u)
     → MatchResult r (λ t. TypeAt z u (view t)) (IsTypeError z u)
 without_transitions _ z u (Ok t) e k =
-    let f = no_items z.transitions e in
+    let f = no_items _ e in
     record {
       leap_time = u;
       of_second = λ p. absurd (omega arith);
       in_force = record { before_last = λ q. absurd (omega arith); from_last = λ _. rw f k };
     }
 without_transitions view z u (Err x) e k =
-    let f = no_items z.transitions e in
+    let f = no_items _ e in
     (by_rule u (λ p. absurd (omega arith)) (rw f) k.1, k.0)
 
 -- with transitions the second's leap time is asked

@@ -13,7 +13,7 @@ has_type (rules.Alternate a) = omega arith
 -- types and a rule, without transitions and leap seconds, make a zone if there is a type
 pub posix_zone_valid : (text : List ℕ) (zone : Zone) → IsPosixZone text zone → IsValid zone × IsRuleOrNone zone.rule
 posix_zone_valid _ _ h = elim h [
-  | inl a ↦ subst (λ (y : Zone). IsValid y × IsRuleOrNone y.rule) (sym a.1) (zone_of_rule_valid _ _ (omega arith), tt)
-  | inr a ↦ subst (λ (y : Zone). IsValid y × IsRuleOrNone y.rule) (sym a.zone)
+  | inl a ↦ subst (λ y. IsValid y × IsRuleOrNone y.rule) (sym a.1) (zone_of_rule_valid _ _ (omega arith), tt)
+  | inr a ↦ subst (λ y. IsValid y × IsRuleOrNone y.rule) (sym a.zone)
       (zone_of_rule_valid _ _ (has_type _), text_rule_fits _ _ _ a.spells)
 ]

@@ -139,8 +139,8 @@ asked_none z l p e = grind (linear, nowhere)
 pub asked_for_window : (z : Zone) (l low high : ℤ) (n : ℕ) (d : Transition) (p q : ℕ) → IsValid z → IsWindow z l low high → n < length z.transitions
     → high <ℤ (get_or z.transitions n d).unix_leap_time → q ≡ p → IsAskedFor z l p q
 asked_for_window z l low _ n d p q valid w h later e = nowhere _ p q (λ u k.
-    let among = Contains-append_right (offsets_of z.types) (rule_offsets z.rule) k.offset k.of_rule in
-    let least = All-contains (λ x. w.least ≤ℤ x) (offsets _ z.rule) k.offset w.is_least.fewest among in
+    let among = Contains-append_right (offsets_of z.types) (rule_offsets z.rule) _ k.of_rule in
+    let least = All-contains (λ x. w.least ≤ℤ x) (offsets _ z.rule) _ w.is_least.fewest among in
     let most = window_most z l low _ n d u _ valid w h later least (omega linear) in grind (arith, by_rule_segment)) e
 
 -- ---- by instant
@@ -157,7 +157,7 @@ either None = inr refl
 pub asked_without : (z : Zone) (u : ℤ) (p q : ℕ) → length z.transitions ≡ 0 → ((rule : TransitionRule) → z.rule ≡ Some rule → q ≡ p + 1)
     → (z.rule ≡ None → q ≡ p) → IsAskedAt z u p q
 asked_without z u p q e asked unasked =
-    let f = no_items z.transitions e in
+    let f = no_items _ e in
     asked_at_time z u u p q (λ h. absurd (omega arith)) (elim (either z.rule) [
       | inl k ↦ inl (k.0, k.1, rw f, asked k.0 k.1)
       | inr n ↦ inr (inl (n, unasked n))

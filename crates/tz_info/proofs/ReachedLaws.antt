@@ -38,7 +38,7 @@ reached_in z e k t l s valid made place own has wide offset is =
           let low = come_by _ k u made.rising within from in
           let high = places_rise _ u t made.rising come in
           let same = type_there z _ _ k u r s table own shows.fits has (omega (arith, place)) shows.type in
-          let o = ap (λ (x : LocalType). x.offset) same in let shown = shows.shown in omega (linear, o, shown, come, is);
+          let o = ap (λ x. x.offset) same in let shown = shows.shown in omega (linear, o, shown, come, is);
       least = omega (linear, is, offset);
     }
 
@@ -61,7 +61,7 @@ shows_before z ts top k t _ end g m u s table within own wide fit greatest lates
     let shown = shows.shown in let most = at_most_greatest z u g s greatest shows.type in
     let near : IsNear m = (omega (linear, wide), omega linear) in
     let fits : SFits w64 m = omega (linear, near) in
-    let none : IsReached z.types ts k m → ⊥ = λ r. let less = (latest m fits).1 r in omega (linear, less, beyond) in
+    let none : IsReached _ ts k m → ⊥ = λ r. let less = (latest m fits).1 r in omega (linear, less, beyond) in
     let less = shows_less z ts top k m u s table within near none shows.fits before (omega arith) shows.type in
     omega (linear, less, shown)
 
@@ -89,7 +89,7 @@ shown_by z e j k t end g valid made fit greatest inside within wide begun low la
     let (s, has) = inside_listed _ _ below in
     let most = listed_at_most z _ g s greatest below has in
     let order = begins_within _ (suc j) k made.rising (omega arith) inside within in
-    let next : ℤ = begin_of e.items (suc j) in
+    let next : ℤ = begin_of _ (suc j) in
     let limit : IsNear (t +ℤ pos 2_147_483_648) = (omega (linear, wide), omega (linear, wide)) in
     let ahead = (saturated (next +ℤ s.offset) _ limit).1 (omega (linear, order, begun, most, fit)) in
     let ends : (end -ℤ pos 1) <ℤ saturate_signed w64 (next +ℤ s.offset) = rw (end_at _ _ j s has) at later in
@@ -149,7 +149,7 @@ none_later : (z : Zone) (e : Entries) (k : ℕ) (t reached end g l m u : ℤ) (s
     → IsGreatest (offsets z.types z.rule) g → k ≤ length e.items → IsWide t → IsReachedSince (TypeAt z) (begin_of e.items k) t reached
     → IsLatestEnd z.types e.items k end → reached ≤ℤ l → end ≤ℤ (l +ℤ pos 1) → u ≤ℤ t → Shows (TypeAt z) m u s → m ≤ℤ l
 none_later z e k t _ end g l m u s valid made fit greatest within wide since latest low high come shows = by_lt_z l m
-    (λ more. elim (cases_lt (place_at e.items u) k) [
+    (λ more. elim (cases_lt (place_at _ u) k) [
       | inl before ↦
           let top = top_least z.rule e made.more in
           absurd (shows_before z _ _ k t _ end g m u s (table_of z e valid made) within (omega arith) wide fit

@@ -24,7 +24,7 @@ pub first_come : {A : Type 0} (time : A → ℤ) (items : List A) (v : ℤ) (n :
     → filter (λ (x : A). int_le (time x) v) items ≡ take n items
 first_come {A = A} time items v n come =
     let same = length-map items time in
-    filter_first (λ (x : A). int_le (time x) v) _ n (omega arith)
+    filter_first (λ x. int_le (time x) v) _ n (omega arith)
     (λ k d l. let e = mapped_at time items k d (pos 0) (omega arith) in le_true _ v (rw e at (come.before k l)))
     (λ k d l m. let e = mapped_at time items k d (pos 0) m in le_false _ v (rw e at (come.behind k l (omega arith))))
 

@@ -18,7 +18,7 @@ one_order : (a : Alternate) (margin year own u : ℤ) → IsBeside margin year u
     → (margin ≡ neg_ℤ (pos 691_200)) ⊎ ((v w : ℤ) → int_le (start_in a v) (end_in a v) ≡ int_le (start_in a w) (end_in a w))
     → int_le (start_in a own) (end_in a own) ≡ int_le (start_in a year) (end_in a year)
 one_order a _ year own u beside of_second (inl e) =
-    ap (λ (y : ℤ). int_le (start_in a y) (end_in a y)) (one_year (floor_div u 86_400) own year of_second (amid_lies u _ (rw e at beside)))
+    ap (λ y. int_le (start_in a y) (end_in a y)) (one_year (floor_div u 86_400) own year of_second (amid_lies u _ (rw e at beside)))
 one_order a margin year own u beside of_second (inr same) = same own year
 
 pub season_made : (a : Alternate) (margin year first : ℤ) (s : Season) → IsMargin a margin → first ≡ year_start year → s.from ≡ pos 86_400 *ℤ first -ℤ margin

@@ -67,7 +67,7 @@ named_fits std dst x y m n d e _ end s t a b p q = record {
 days_fit : (extended : Bool) (bytes : List ℕ) (d : DayTime × DayTime) (rest : List ℕ) → Spells (days extended) bytes d rest → Fits d.0 × Fits d.1
 unfolding days
 days_fit _ _ d _ (start, _, p, (_, at_end, _, (end, at, q, (value, _)))) =
-    subst (λ (y : DayTime × DayTime). Fits y.0 × Fits y.1) (sym value) (day_fits _ _ _ _ p, day_fits _ _ end at q)
+    subst (λ y. Fits y.0 × Fits y.1) (sym value) (day_fits _ _ _ _ p, day_fits _ _ end at q)
 
 pub text_rule_fits : (extended : Bool) (bytes : List ℕ) (r : TransitionRule) → IsTzText extended bytes r → IsRule r
 unfolding text rule fixed alternate named

@@ -35,7 +35,7 @@ answer_before p decided start none (suc n) =
         earlier.0,
         same_answer _ _ _ old (λ u t h. elim (only u t h) [
           | inl i ↦ i
-          | inr e ↦ absurd (missing t (subst (λ (w : ℤ). p w t) e h.0))
+          | inr e ↦ absurd (missing t (subst (λ w. p w t) e h.0))
         ]) earlier.1,
       )
     ]
@@ -46,7 +46,7 @@ shown_or_not z local valid rule u = elim (type_decided z u valid rule) [
   | inl found ↦ elim (both_known (fits_or_not u) (equal_known (u +ℤ found.0.offset) local)) [
     | inl shown ↦ inl (found.0, record { fits = shown.0; type = found.1; shown = shown.1 })
     | inr other ↦ inr (λ t h. let same = type_once z u t _ h.type found.1 in
-        other (h.fits, subst (λ (f : LocalType). u +ℤ f.offset ≡ local) same h.shown))
+        other (h.fits, subst (λ f. u +ℤ f.offset ≡ local) same h.shown))
   ]
   | inr refused ↦ inr (λ t h. type_not_refused z u t h.type refused)
 ]

@@ -15,4 +15,4 @@ window_count_once z local j k a b =
     let leap : ℤ → ℤ = λ o. (local -ℤ o) +ℤ correction_at z.leaps (local -ℤ o) in
     let low = v.is_low.sum ∙ ap leap (greatest_once _ _ _ v.is_greatest w.is_greatest) ∙ sym w.is_low.sum in
     let high = v.is_high.sum ∙ ap leap (least_once _ _ _ v.is_least w.is_least) ∙ sym w.is_high.sum in
-    a.count ∙ ap (λ x. length (come_between z.transitions x a.high)) low ∙ ap (λ y. length (come_between z.transitions b.low y)) high ∙ sym b.count
+    a.count ∙ ap (λ x. length (come_between _ x a.high)) low ∙ ap (λ y. length (come_between _ b.low y)) high ∙ sym b.count

@@ -13,8 +13,8 @@ passed_at_most : (z : Zone) (x : ℤ) → length (passed z.transitions x) ≤ le
 passed_at_most z x =
     omega (
       arith,
-      length-filter (λ (t : Transition). int_le t.unix_leap_time x) z.transitions,
-      count_by-le-length (λ (t : Transition). int_le t.unix_leap_time x) z.transitions,
+      length-filter (λ t. int_le t.unix_leap_time x) z.transitions,
+      count_by-le-length (λ t. int_le t.unix_leap_time x) z.transitions,
     )
 
 pub before_or_from_last : (z : Zone) (x : ℤ) → IsBeforeLast z x ⊎ IsFromLast z x
@@ -47,12 +47,12 @@ inside_listed xs i h = ⊎_elim (λ found. (found.0, found.2)) (λ past. absurd 
 or_else_listed : (rule : Option TransitionRule) (z : Zone) (u : ℤ) (i : ℕ) (t : LocalType) → RuleOrElse rule u (HasType z i t) t
     → ((k : ℕ) × (k < length z.types) × HasType z k t) ⊎ IsTypeOf rule u t
 or_else_listed (Some rule) z u i t h = inr h
-or_else_listed None z u i t h = inl (i, slice_get_within z.types i t h, h)
+or_else_listed None z u i t h = inl (i, slice_get_within _ i t h, h)
 
 -- a type in force is in the list or is the rule's
 pub type_listed : (z : Zone) (u : ℤ) (t : LocalType) → TypeAt z u t → ((k : ℕ) × (k < length z.types) × HasType z k t) ⊎ IsTypeOf z.rule u t
 type_listed z u t a = ⊎_elim
-    (λ h. let k = a.in_force.before_last h in inl (index_at z a.leap_time, slice_get_within z.types (index_at z a.leap_time) t k, k))
+    (λ h. let k = a.in_force.before_last h in inl (index_at z a.leap_time, slice_get_within _ (index_at z a.leap_time) t k, k))
     (λ h. or_else_listed _ z u _ t (a.in_force.from_last h))
     (before_or_from_last z _)
 

@@ -10,7 +10,7 @@ place_in_contents-requires-clause-lengths c = has_lengths _ _ ((pieces_law _).ta
 
 pub returns-in-Ok : goal.returns-in-Ok
 returns-in-Ok c =
-    In_contents (pieces_of c.in-Ok.pieces) c.part_places.result _ ((pieces_law _).takes _ c.in-Ok.ensures.pieces) c.part_places.ensures.places
+    In_contents (pieces_of c.in-Ok.pieces) _ _ ((pieces_law _).takes _ c.in-Ok.ensures.pieces) c.part_places.ensures.places
     c.part_places.ensures.end c.place_in_contents.ensures
 
 pub returns-in-Err : goal.returns-in-Err

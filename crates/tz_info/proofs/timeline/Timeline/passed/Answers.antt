@@ -10,7 +10,7 @@ use Rattle.tz_info.proofs.timeline.Timeline.passed.Goals.{After-self}
 -- what was given fits, and the first time, the last one and the hints are those of the items
 kept : (g : Over) (c : After-self g) → SFits w64 c.args.second × (length (map g.T.Timed.time c.args.self.now) ≡ length c.args.self.now)
     × AreEnds (map g.T.Timed.time c.args.self.now) c.self.inside.ends × AreHints (map g.T.Timed.time c.args.self.now) c.self.inside.hints
-kept g c = (c.ranges.second, length-map c.args.self.now g.T.Timed.time, rw (← c.self.view_is) c.self.invariant.1, rw (← c.self.view_is) c.self.invariant.2)
+kept g c = (c.ranges.second, length-map _ g.T.Timed.time, rw (← c.self.view_is) c.self.invariant.1, rw (← c.self.view_is) c.self.invariant.2)
 
 pub read-requires-clause-room : goal.read-requires-clause-room
 read-requires-clause-room g c =

@@ -1,4 +1,4 @@
-use Rattle.tz_info.proofs.{SearchSteps.{digits-halved, digits-three, near_one, one_step, two_steps}, SearchWords.{Counts, ap, arith, ◌∙◌}}
+use Rattle.tz_info.proofs.{SearchSteps.{digits-halved, digits-three, near_one, one_step, two_steps}, SearchWords.{ap, arith, ◌∙◌}}
 use Rattle.tz_info.proofs.timeline.Timeline.passed_near.Goals as goal
 use Rattle.tz_info.proofs.timeline.Timeline.passed_near.Goals.{else-left-gt1, then-left-gt1+else-left-gt1-2, then-left-gt1+then-left-gt1-2}
 
@@ -20,18 +20,18 @@ pub loop-left-init : goal.loop-left-init
 loop-left-init g c =
     let most = two_steps _ c.narrowed-left.result.count _ c.requires.near.some c.requires.narrow c.requires.many
     (omega arith) in
-    let two = c.narrowed-left.ensures.cost ∙ ap (λ (p : Counts). g.T.Timed.counted p 1) c.narrowed-once.ensures.cost
-    ∙ g.met.T.Timed.counts_up c.args.probes.now 1 1 in
+    let two = c.narrowed-left.ensures.cost ∙ ap (λ p. g.T.Timed.counted p 1) c.narrowed-once.ensures.cost
+    ∙ g.met.T.Timed.counts_up _ 1 1 in
     elim c.if-left-gt1.branch [
       | then-left-gt1+then-left-gt1-2 w ↦
-          let three = w.narrowed-left-then-left-gt1.ensures.cost ∙ ap (λ (p : Counts). g.T.Timed.counted p 1) two
-          ∙ g.met.T.Timed.counts_up c.args.probes.now 2 1 in
-          let four = w.narrowed-left-then-left-gt1-2.ensures.cost ∙ ap (λ (p : Counts). g.T.Timed.counted p 1) three
-          ∙ g.met.T.Timed.counts_up c.args.probes.now 3 1 in
+          let three = w.narrowed-left-then-left-gt1.ensures.cost ∙ ap (λ p. g.T.Timed.counted p 1) two
+          ∙ g.met.T.Timed.counts_up _ 2 1 in
+          let four = w.narrowed-left-then-left-gt1-2.ensures.cost ∙ ap (λ p. g.T.Timed.counted p 1) three
+          ∙ g.met.T.Timed.counts_up _ 3 1 in
           record { near = grind arith; looks = 4; most = grind (arith, one_step); counts = w.probes-is ∙ four }
       | then-left-gt1+else-left-gt1-2 w ↦
-          let three = w.narrowed-left-then-left-gt1.ensures.cost ∙ ap (λ (p : Counts). g.T.Timed.counted p 1) two
-          ∙ g.met.T.Timed.counts_up c.args.probes.now 2 1 in
+          let three = w.narrowed-left-then-left-gt1.ensures.cost ∙ ap (λ p. g.T.Timed.counted p 1) two
+          ∙ g.met.T.Timed.counts_up _ 2 1 in
           record { near = grind arith; looks = 3; most = grind (arith, one_step); counts = w.probes-is ∙ three }
       | else-left-gt1 w ↦ record { near = grind arith; looks = 2; most = grind arith; counts = w.probes-is ∙ two }
     ]

@@ -6,7 +6,7 @@ pub returns-then-byte_or_zero-eq58 : goal.returns-then-byte_or_zero-eq58
 returns-then-byte_or_zero-eq58 c = Colon (sym c.byte_or_zero.ensures ∙ c.if-byte_or_zero-eq58.true)
 
 pub returns-in-Some : goal.returns-in-Some
-returns-in-Some c = Zero c.in-Some.place (λ e. c.if-byte_or_zero-eq58.false (c.byte_or_zero.ensures ∙ e)) c.in-Some.ensures
+returns-in-Some c = Zero _ (λ e. c.if-byte_or_zero-eq58.false (c.byte_or_zero.ensures ∙ e)) c.in-Some.ensures
 
 pub returns-in-Ok : goal.returns-in-Ok
 returns-in-Ok c = record {

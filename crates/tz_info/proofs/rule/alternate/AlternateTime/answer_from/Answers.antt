@@ -34,7 +34,7 @@ answer_amid-requires-clause-season c =
     let (dst, fl, ff, gf, gl, first, last, order) = offsets (goal.at.answer_amid-requires-clause-season c).After-offset-last in
     let f2 : SFits w64 c.second_showing-by_first.result = search rules in
     let f3 : SFits w64 c.second_showing.result = search rules in
-    let both = and_parts c.decides.result c.decides-then-from-by_first.result c.if-decides.true in
+    let both = and_parts _ _ c.if-decides.true in
     let by_first = rw first at (simp to_z-of_z at c.second_showing-by_first.ensures.value) in
     let by_last = rw last at (simp to_z-of_z at c.second_showing.ensures.value) in
     simp to_z-of_z (season_for _ _ _ _ dst c.season-season.ensures

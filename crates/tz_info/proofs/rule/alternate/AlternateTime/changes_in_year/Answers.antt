@@ -7,6 +7,6 @@ returns-clause-value c =
     let fy = c.ranges.year in
     let a = c.args.self.now in
     let key = simp to_z-of_z at c.year_key.ensures.value in
-    let keys : c.self.inside.changing ≡ changing_keys (seconds_by_kind a.start a.std.offset) (seconds_by_kind a.end a.dst.offset) = rw
+    let keys : c.self.inside.changing ≡ changing_keys (seconds_by_kind a.start _) (seconds_by_kind a.end _) = rw
     (← c.self.view_is) c.self.invariant.4 in
     rw (key, keys) (by_key a c.args.year)

@@ -1,7 +1,7 @@
 use Rattle.std.proofs.lemmas.Int.{clamps}
 use Rattle.tz_info.proofs.{
   RuleReached.{IsGreater, changed_first, still_first},
-  Words.{IsNear, LocalType, SFits, ap, by_lt_z, change_held, inl, inr, linear, rules, to_z-of_z, w64, ℤ, ◌-ℤ◌, ◌<ℤ◌, ◌↔◌, ◌∙◌, ◌≤ℤ◌},
+  Words.{IsNear, SFits, ap, by_lt_z, change_held, inl, inr, linear, rules, to_z-of_z, w64, ℤ, ◌-ℤ◌, ◌<ℤ◌, ◌↔◌, ◌∙◌, ◌≤ℤ◌},
 }
 use Rattle.tz_info.proofs.rule.alternate.AlternateTime.first_since.Goals as goal
 use Rattle.tz_info.proofs.rule.alternate.AlternateTime.first_since.Goals.{After-max-low, After-max-shown, in_default-via-in-Some+else-change-shown}
@@ -10,8 +10,8 @@ use Rattle.tz_info.proofs.rule.alternate.AlternateTime.first_since.Goals.{in_def
 -- the greater of the two offsets
 greater : (c : After-max-low) → IsGreater c.args.self.now c.max-greatest.result
 greater c =
-    let std = c.offset.ensures.value ∙ ap (λ (t : LocalType). t.offset) c.std.ensures.value in
-    let dst = c.offset-2.ensures.value ∙ ap (λ (t : LocalType). t.offset) c.dst.ensures.value in
+    let std = c.offset.ensures.value ∙ ap (λ t. t.offset) c.std.ensures.value in
+    let dst = c.offset-2.ensures.value ∙ ap (λ t. t.offset) c.dst.ensures.value in
     record {
       std = omega linear;
       dst = omega (linear, clamps, dst);
@@ -23,7 +23,7 @@ low : (c : After-max-low) → SFits w64 c.max-low.result × IsNear c.max-low.res
     × ((u : ℤ) → (c.max-low.result ≤ℤ u) ↔ ((c.args.begin ≤ℤ u) × ((c.args.local -ℤ c.max-greatest.result) ≤ℤ u)))
 low c =
     let fl = c.ranges.local in
-    let fm : SFits w64 c.max-low.result = search rules in
+    let fm : SFits w64 _ = search rules in
     let is = simp to_z-of_z at c.second_showing.ensures.value in
     let near = simp to_z-of_z at c.second_showing.ensures.near in
     let begin = c.requires.near in (
@@ -45,7 +45,7 @@ shown : (c : After-max-shown) → IsNear c.max-low.result → SFits w64 c.max-lo
     × ((u : ℤ) → (c.max-shown.result ≤ℤ u) ↔ ((c.max-low.result ≤ℤ u) × ((c.args.local -ℤ c.type_and_change.result.0.now.offset) ≤ℤ u)))
 shown c near fm =
     let fl = c.ranges.local in
-    let ft : SFits w64 c.max-shown.result = search rules in
+    let ft : SFits w64 _ = search rules in
     let is = rw c.offset-3.ensures.value at (simp to_z-of_z at c.second_showing-2.ensures.value) in
     let near_shown = rw c.offset-3.ensures.value at (simp to_z-of_z at c.second_showing-2.ensures.near) in (
       ft,
@@ -65,7 +65,7 @@ returns-in-Some-clause-first c =
     let next = rw c.in-Some.is at (simp to_z-of_z at c.type_and_change.ensures.nearest) in
     let on = simp to_z-of_z at c.if-change-shown.true in
     let come : c.in-Some.change.at ≤ℤ c.max-shown.result = omega linear in
-    simp to_z-of_z (changed_first c.args.self.now c.args.begin c.args.local c.max-greatest.result c.max-low.result c.type_and_change.ensures.rule (greater d)
+    simp to_z-of_z (changed_first _ c.args.begin c.args.local _ _ c.type_and_change.ensures.rule (greater d)
     low_is c.type_and_change.result.0.now (simp to_z-of_z at c.type_and_change.ensures.in_force) c.max-shown.result shown_is
     (change_held c.in-Some.change) near near_shown next come)
 
@@ -74,7 +74,7 @@ returns-in_default-clause-first c =
     let d = (goal.at.returns-in_default-clause-first c).After-max-low in
     let (fm, near, low_is) = low d in
     let (ft, near_shown, shown_is) = shown (goal.at.returns-in_default-clause-first c).After-max-shown near fm in
-    simp to_z-of_z (still_first c.args.self.now c.args.begin c.args.local c.max-greatest.result c.max-low.result c.type_and_change.ensures.rule (greater d)
+    simp to_z-of_z (still_first _ c.args.begin c.args.local _ _ c.type_and_change.ensures.rule (greater d)
     low_is c.type_and_change.result.0.now (simp to_z-of_z at c.type_and_change.ensures.in_force) c.max-shown.result shown_is near near_shown
     (elim c.in_default.branch [
       | in_default-via-in-Some+else-change-shown w ↦

@@ -12,7 +12,7 @@ turn_is a false year start end s e = e
 at : (c : After-moment-at) → SFits w64 c.moment-at.result × (c.moment-at.result ≡ turn_of c.args.self.now c.args.to_dst c.args.asked.year)
 at c =
     let asked = c.requires.asked in
-    let fm : SFits w64 c.moment-at.result = search rules in
+    let fm : SFits w64 _ = search rules in
     (fm, c.moment-at.ensures ∙ turn_is c.args.self.now _ _ _ _ asked.start asked.end)
 
 pub returns-then-has : goal.returns-then-has

@@ -17,7 +17,7 @@ loop-kind-preserved c =
     let next = simp to_z-of_z at c.second_at.ensures in
     record {
       whole = rw length-set whole;
-      found = simp to_z-of_z (rw (take_more_set l.seconds l.kind c.second_at.result b, take_more places l.kind 0 h, map-append, found, next));
+      found = simp to_z-of_z (rw (take_more_set l.seconds l.kind _ b, take_more places l.kind 0 h, map-append, found, next));
     }
 
 pub returns : goal.returns
@@ -30,4 +30,4 @@ returns c =
     let p : length places ≤ 14 = search rules in
     let found = rw all at (simp to_z-of_z at l.invariant.found) in
     rw (← c.places_by_kind-places.ensures.value) (sym (take_all 14 l.seconds s) ∙ found
-    ∙ ap (map (day_time_second c.args.self.now c.args.offset)) (take_all 14 places p))
+    ∙ ap (map (day_time_second c.args.self.now _)) (take_all 14 places p))

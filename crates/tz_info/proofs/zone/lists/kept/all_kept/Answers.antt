@@ -15,4 +15,4 @@ loop-transition-preserved c = record {
 }
 
 pub returns : goal.returns
-returns c = c.loop-transition.invariant.all ∙ take_all c.loop-transition.transition-index c.args.transitions.now (omega arith)
+returns c = c.loop-transition.invariant.all ∙ take_all c.loop-transition.transition-index _ (omega arith)

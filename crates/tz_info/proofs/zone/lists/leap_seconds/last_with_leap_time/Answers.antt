@@ -22,7 +22,7 @@ loop-entry-preserved c =
     (c.refused_by.ensures.first u)) (simp to_z-of_z at c.min-refused.ensures.value) in
     simp to_z-of_z (record {
       refused = more;
-      before = sym (rw add-one (last_taken (λ (e : LeapSecond). e.correction) _ _ _ _ c.loop-entry-test.true));
+      before = sym (rw add-one (last_taken (λ e. e.correction) _ _ _ _ c.loop-entry-test.true));
     })
 
 pub returns : goal.returns

@@ -1,8 +1,8 @@
-use Rattle.tz_info.proofs.{LeapStarts.{parted}, Words.{IsPartitionPoint-from_clause, LeapSecond, arith, int_le, rules}}
+use Rattle.tz_info.proofs.{LeapStarts.{parted}, Words.{IsPartitionPoint-from_clause, arith, int_le, rules}}
 use Rattle.tz_info.proofs.zone.lists.starts.entries_come.Goals as goal
 
 pub returns : goal.returns
 returns c =
-    let point = IsPartitionPoint-from_clause (λ (e : LeapSecond). int_le e.unix_leap_time c.args.leap_time) _ _ c.partition_point.ensures.partitioned
+    let point = IsPartitionPoint-from_clause (λ e. int_le e.unix_leap_time c.args.leap_time) _ _ c.partition_point.ensures.partitioned
     (parted _ _ c.requires) (λ a r q k. search rules) in
     grind arith

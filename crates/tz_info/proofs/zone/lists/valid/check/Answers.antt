@@ -1,8 +1,8 @@
 use Rattle.std.proofs.lemmas.List.Elements.{All-map}
 use Rattle.tz_info.proofs.{
   ListFaults.{with_fault},
-  Words.{All, Bool, List, LocalType, No_type, Not_rising, Other_index, Other_leaps, Other_rule, Transition, arith, false, get_or-map, length, length-map, map},
-  Words.{true, ◌<◌, ◌==◌, ◌≡◌},
+  Words.{All, Bool, List, LocalType, No_type, Not_rising, Other_index, Other_leaps, Other_rule, arith, false, get_or-map, length, length-map, map, true, ◌<◌},
+  Words.{◌==◌, ◌≡◌},
 }
 use Rattle.tz_info.proofs.zone.lists.valid.check.Goals as goal
 
@@ -22,12 +22,12 @@ pub returns-then-not-name_types : goal.returns-then-not-name_types
 returns-then-not-name_types g c =
     with_fault (Other_index (some _ _ c.is_empty.ensures c.if-is_empty.false)
     (λ h. let t = c.name_types.ensures.1
-    (all_of_map (λ (t : Transition). t.type_index < length c.args.types.now) _ _ h) in
+    (all_of_map (λ t. t.type_index < length c.args.types.now) _ _ h) in
     cc))
 
 pub returns-then-not-are_transitions : goal.returns-then-not-are_transitions
 returns-then-not-are_transitions g c =
-    let indexes = All-map (λ (t : Transition). t.type_index < length c.args.types.now) g.T.AsTransition.transition c.args.transitions.now
+    let indexes = All-map (λ t. t.type_index < length c.args.types.now) g.T.AsTransition.transition _
     (c.name_types.ensures.0 c.if-not-name_types.false) in
     with_fault (Not_rising (some _ _ c.is_empty.ensures c.if-is_empty.false) indexes
     (λ h. let t = c.are_transitions.ensures.1 (record { indexes = indexes; rising = h }) in cc))

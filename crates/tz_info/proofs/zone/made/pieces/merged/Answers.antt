@@ -1,4 +1,4 @@
-use Rattle.tz_info.proofs.{WallPieces.{merging_more, step_count}, Words.{SFits, ap, arith, rules, to_z-of_z, w64, ℕ, ◌+◌, ◌∙◌}}
+use Rattle.tz_info.proofs.{WallPieces.{merging_more, step_count}, Words.{SFits, ap, arith, rules, to_z-of_z, w64, ◌+◌, ◌∙◌}}
 use Rattle.tz_info.proofs.zone.made.pieces.merged.Goals as goal
 
 pub loop-step-preserved : goal.loop-step-preserved
@@ -10,7 +10,7 @@ loop-step-preserved c =
           (c.together-answer.ensures ∙ rw (c.answer_before.ensures, c.answer_before-in-loop-step.ensures))
           (rw (simp to_z-of_z at c.in_ok-piece.ensures) at c.in_ok-push.ensures.items);
       step = step_count _ _ _ _ _ _ _ c.next_start-start.ensures
-          ∙ ap (λ (n : ℕ). n + 1) c.loop-step.invariant.step;
+          ∙ ap (λ n. n + 1) c.loop-step.invariant.step;
     }
 
 pub next_start-start-requires-clause-some : goal.next_start-start-requires-clause-some

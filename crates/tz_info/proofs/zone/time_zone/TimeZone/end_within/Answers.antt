@@ -9,8 +9,8 @@ between : (c : After-second_showing-before)
     × (c.second_showing-before.result ≡ c.args.until -ℤ c.next_run.result.1.now.offset)
 between c =
     let ff = c.ranges.from in let fu = c.ranges.until in
-    let fs : SFits w64 c.second_showing-since.result = search rules in
-    let fb : SFits w64 c.second_showing-before.result = search rules in
+    let fs : SFits w64 _ = search rules in
+    let fb : SFits w64 _ = search rules in
     let g1 : SFits w32 c.offset.result = search rules in
     let g2 : SFits w32 c.offset-in-loop-left.result = search rules in
     let since = rw c.offset.ensures.value at (simp to_z-of_z at c.second_showing-since.ensures.value) in

@@ -1,14 +1,14 @@
 use Rattle.tz_info.proofs.{
   PassedTransitions.{with_transitions, without_transitions},
   QuestionLaws.{asked_at_time, asked_without},
-  Words.{Bor, LocalType, arith, by_leap_time, refl, to_z-of_z, ◌≡◌},
+  Words.{arith, by_leap_time, refl, to_z-of_z, ◌≡◌},
 }
 use Rattle.tz_info.proofs.zone.time_zone.TimeZone.find_local_time_type_counted.Goals as goal
 
 pub returns-then-has_no_transition-clause-found : goal.returns-then-has_no_transition-clause-found
 returns-then-has_no_transition-clause-found c =
     let fu = c.ranges.unix_time in
-    without_transitions (λ (t : Bor LocalType). t.now) _ _ _
+    without_transitions (λ t. t.now) _ _ _
     (c.has_no_transition.ensures.0 c.if-has_no_transition.true) (simp to_z-of_z at c.rule_or_type.ensures.found)
 
 pub returns-then-has_no_transition-clause-questions : goal.returns-then-has_no_transition-clause-questions
@@ -20,7 +20,7 @@ pub returns-in-Some-clause-found : goal.returns-in-Some-clause-found
 returns-in-Some-clause-found c =
     let fu = c.ranges.unix_time in
     let come = simp to_z-of_z at c.in-Some.ensures.come in
-    with_transitions (λ (t : Bor LocalType). t.now) _ _ _ _ come.of_second
+    with_transitions (λ t. t.now) _ _ _ _ come.of_second
     (simp to_z-of_z at c.type_after.ensures.found)
 
 pub returns-in-Some-clause-questions : goal.returns-in-Some-clause-questions

@@ -26,7 +26,7 @@ reach c =
 first : (c : After-first_reaching-place) → IsFirstSegment c.args.self.now.types c.self.inside.changes.items c.args.local c.first_reaching-place.result
 first c =
     let fl = c.ranges.local in
-    rw (c.deref.ensures.value, ap (λ (z : Zone). z.types) c.self.view_is) at (simp to_z-of_z at c.first_reaching-place.ensures.first)
+    rw (c.deref.ensures.value, ap (λ z. z.types) c.self.view_is) at (simp to_z-of_z at c.first_reaching-place.ensures.first)
 
 -- the probes of the search are fewer than the bound, if there is an entry
 fewer : (n m : ℕ) → n ≤ m → digits n ≤ 2 * digits m × (0 < n → digits n + 1 ≤ 2 * digits m)
@@ -61,16 +61,16 @@ returns-clause-found c =
     let fl = c.ranges.local in
     let fb : SFits w64 c.begin_of-begin.result.1 = search rules in
     let z = c.args.self.now in
-    let is = rw (ap (λ (z : Zone). z.rule) c.self.view_is) at c.in-Some.ensures in
-    first_by_rule z c.self.inside.changes c.in-Some.rule.now c.first_reaching-place.result (valid d) (entries d) is.0 (first d).within is.1
-    c.args.local c.first_since.result.at c.first_since.result.local_time_type.now c.requires.local (first d)
+    let is = rw (ap (λ z. z.rule) c.self.view_is) at c.in-Some.ensures in
+    first_by_rule z c.self.inside.changes _ _ (valid d) (entries d) is.0 (first d).within is.1
+    c.args.local c.first_since.result.at _ c.requires.local (first d)
     (rw c.begin_of-begin.ensures.begin at (simp to_z-of_z at c.first_since.ensures.first))
 
 pub returns-in_default-clause-cost : goal.returns-in_default-clause-cost
 returns-in_default-clause-cost c =
     let d = (goal.at.returns-in_default-clause-cost c).After-first_reaching-place in
     let bound = fewer _ _ (entries d).few in
-    elim (cases_eq c.first_reaching-place.result 0) [
+    elim (cases_eq _ 0) [
       | inl none ↦ rw (c.first_of.ensures.free none) (rose_less _ _ _ _ _ _ c.first_reaching-place.ensures.cost bound.0 (omega arith))
       | inr some ↦ rose_less _ _ _ _ _ _ (rose_then _ _ _ _ _ _ _ c.first_reaching-place.ensures.cost c.first_of.ensures.cost)
           (bound.1 (omega arith)) (omega arith)
@@ -80,7 +80,7 @@ pub returns-clause-cost : goal.returns-clause-cost
 returns-clause-cost c =
     let d = (goal.at.returns-clause-cost c).After-first_reaching-place in
     let bound = fewer _ _ (entries d).few in
-    elim (cases_eq c.first_reaching-place.result 0) [
+    elim (cases_eq _ 0) [
       | inl none ↦ rose_less _ _ _ _ _ _ (rose_then _ _ _ _ _ _ _ c.first_reaching-place.ensures.cost
           (rw (c.begin_of-begin.ensures.free none) at c.first_since.ensures.cost)) (omega arith) (omega arith)
       | inr some ↦ rose_less _ _ _ _ _ _ (rose_then _ _ _ _ _ _ _ (rose_then _ _ _ _ _ _ _ c.first_reaching-place.ensures.cost c.begin_of-begin.ensures.cost)

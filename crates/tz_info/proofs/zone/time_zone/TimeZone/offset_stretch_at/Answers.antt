@@ -33,7 +33,7 @@ returns-in-Some-clause-each c =
     let low : SFits w64 c.in-Some.between.from = search rules in
     let high : SFits w64 c.in-Some.between.until = search rules in
     let h = simp to_z-of_z at c.in-Some.ensures in
-    let has : slice_get z.types c.in-Some.between.index ≡ Some c.index.result.now = let below =
+    let has : slice_get _ c.in-Some.between.index ≡ Some c.index.result.now = let below =
     index_between z e _ _ valid list h in grind (arith, slice_get_read) in
     let offset : SFits w32 c.offset.result = search rules in
     simp to_z-of_z

@@ -5,7 +5,7 @@ pub returns-else-keeps_offset : goal.returns-else-keeps_offset
 returns-else-keeps_offset c =
     let fa = c.ranges.before_or_at in
     let (order, kept) = simp to_z-of_z at c.changes.invariant in
-    rw c.copied.ensures (found_back c.args.self.now c.args.before_or_at _ order kept (change_held c.in_ok-change.change) c.in_ok-change.ensures
+    rw c.copied.ensures (found_back _ c.args.before_or_at _ order kept (change_held c.in_ok-change.change) c.in_ok-change.ensures
     (λ e. false≢true (sym c.if-keeps_offset.false ∙ c.keeps_offset.ensures.1 e)))
 
 pub changes-smaller : goal.changes-smaller

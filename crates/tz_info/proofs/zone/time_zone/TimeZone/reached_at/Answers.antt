@@ -3,8 +3,8 @@ use Rattle.tz_info.proofs.{
   ReachedLaws.{at_end, at_segment, from_least, reached_in},
   RuleSegments.{reached_by_rule},
   SegmentLaws.{begin_first, come_from},
-  Words.{AreRising, IsValid, List, RoseWithin, SFits, Transition, TypeAt, Zone, ap, arith, begin_of, cases_lt, digits, digits-more, inl, inr, least_time},
-  Words.{length, linear, place_at, pos, refl, rules, slice_get_read, sym, to_z, to_z-of_z, w32, w64, ℤ, ◌+◌, ◌-ℤ◌, ◌≡◌, ◌≤ℤ◌, ◌≤◌},
+  Words.{AreRising, IsValid, List, RoseWithin, SFits, Transition, TypeAt, ap, arith, begin_of, cases_lt, digits, digits-more, inl, inr, least_time, length},
+  Words.{linear, place_at, pos, refl, rules, slice_get_read, sym, to_z, to_z-of_z, w32, w64, ℤ, ◌+◌, ◌-ℤ◌, ◌≡◌, ◌≤ℤ◌, ◌≤◌},
 }
 use Rattle.tz_info.specs.Steps.{Entries.{AreEntries}, SegmentEnds.{IsLatestEnd}, Since.{IsReachedSince}}
 use Rattle.tz_info.proofs.zone.time_zone.TimeZone.reached_at.Goals as goal
@@ -39,17 +39,17 @@ since c =
     elim c.match-rule_at.branch [
       | in-Some w ↦
           let fr : SFits w64 w.reached_since-reached.result = search rules in
-          let is = rw (ap (λ (z : Zone). z.rule) c.self.view_is) at w.in-Some.ensures in
+          let is = rw (ap (λ z. z.rule) c.self.view_is) at w.in-Some.ensures in
           rw w.reached-is (simp to_z-of_z (reached_by_rule z c.self.inside.changes w.in-Some.rule.now c.count-place.result valid made is.0
           c.count-place.ensures.within is.1 c.args.second w.reached_since-reached.result
           (rw c.begin_of-index.ensures.begin at (simp to_z-of_z at w.reached_since-reached.ensures.reached))))
       | in-None w ↦
           let fr : SFits w64 w.shown_at-reached.result = search rules in
-          let own = rw (ap (λ (z : Zone). z.rule) c.self.view_is) at w.in-None.ensures in
+          let own = rw (ap (λ z. z.rule) c.self.view_is) at w.in-None.ensures in
           let below = rw c.deref.ensures.value at c.begin_of-index.ensures.below in
           let has = slice_get_read c.self.inside.local_types.items _ c.begin_of-index.result.0 w.index.result.now refl below w.index.ensures in
           rw w.reached-is (simp to_z-of_z (reached_in z _ _ _ _
-          _ valid made (sym place) own (rw (c.begin_of-index.ensures.index, ap (λ (z : Zone). z.types) c.self.view_is) at has)
+          _ valid made (sym place) own (rw (c.begin_of-index.ensures.index, ap (λ z. z.types) c.self.view_is) at has)
           c.requires.second w.shown_at-reached.ensures.offset (simp to_z-of_z at w.shown_at-reached.ensures.shown)))
     ]
 
@@ -67,17 +67,17 @@ returns-then-place-eq0-clause-reached c =
     elim c.match-rule_at.branch [
       | in-Some w ↦
           let fr : SFits w64 w.reached_since-reached.result = search rules in
-          let is = rw (ap (λ (z : Zone). z.rule) c.self.view_is) at w.in-Some.ensures in
+          let is = rw (ap (λ z. z.rule) c.self.view_is) at w.in-Some.ensures in
           rw w.reached-is (simp to_z-of_z (reached_by_rule z c.self.inside.changes w.in-Some.rule.now c.count-place.result valid made is.0
           c.count-place.ensures.within is.1 c.args.second w.reached_since-reached.result
           (rw c.begin_of-index.ensures.begin at (simp to_z-of_z at w.reached_since-reached.ensures.reached))))
       | in-None w ↦
           let fr : SFits w64 w.shown_at-reached.result = search rules in
-          let own = rw (ap (λ (z : Zone). z.rule) c.self.view_is) at w.in-None.ensures in
+          let own = rw (ap (λ z. z.rule) c.self.view_is) at w.in-None.ensures in
           let below = rw c.deref.ensures.value at c.begin_of-index.ensures.below in
           let has = slice_get_read c.self.inside.local_types.items _ c.begin_of-index.result.0 w.index.result.now refl below w.index.ensures in
           rw w.reached-is (simp to_z-of_z (reached_in z _ _ _ _
-          _ valid made (sym place) own (rw (c.begin_of-index.ensures.index, ap (λ (z : Zone). z.types) c.self.view_is) at has)
+          _ valid made (sym place) own (rw (c.begin_of-index.ensures.index, ap (λ z. z.types) c.self.view_is) at has)
           c.requires.second w.shown_at-reached.ensures.offset (simp to_z-of_z at w.shown_at-reached.ensures.shown)))
     ] in
     from_least z _ _ (rw first at reached)
@@ -112,7 +112,7 @@ pub returns-else-reached-end-clause-cost : goal.returns-else-reached-end-clause-
 returns-else-reached-end-clause-cost c = ended (goal.at.returns-else-reached-end-clause-cost c).After-latest_end-end
 
 latest : (c : After-latest_end-end) → IsLatestEnd c.args.self.now.types c.self.inside.changes.items c.count-place.result c.latest_end-end.result
-latest c = rw (c.deref-2.ensures.value, ap (λ (z : Zone). z.types) c.self.view_is) at c.latest_end-end.ensures.end
+latest c = rw (c.deref-2.ensures.value, ap (λ z. z.types) c.self.view_is) at c.latest_end-end.ensures.end
 
 pub returns-then-reached-end-clause-reached : goal.returns-then-reached-end-clause-reached
 returns-then-reached-end-clause-reached c =

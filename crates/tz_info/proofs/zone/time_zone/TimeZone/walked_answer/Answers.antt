@@ -4,8 +4,8 @@ use Rattle.tz_info.proofs.{
   TableSearch.{Between},
   WalkLaws.{none_before, none_behind, one_look, rose_by_walk, tried_segment, walked_more},
   WallSegments.{all_segments},
-  Words.{Counts, IsShownIn, IsValid, IsWallAnswer, IsWindow, SFits, Some, Transition, Zone, ap, arith, digits-le, inl, length, linear, map_of, rules, sym},
-  Words.{table_count, to_z-of_z, w32, w64, ◌+◌, ◌∙◌, ◌≡◌, ◌≤◌},
+  Words.{IsShownIn, IsValid, IsWallAnswer, IsWindow, SFits, Some, Zone, ap, arith, digits-le, inl, length, linear, map_of, rules, sym, table_count, to_z-of_z},
+  Words.{w32, w64, ◌+◌, ◌∙◌, ◌≡◌, ◌≤◌},
 }
 use Rattle.tz_info.proofs.zone.time_zone.TimeZone.walked_answer.Goals as goal
 use Rattle.tz_info.proofs.zone.time_zone.TimeZone.walked_answer.Goals.{After-passed_count-first, After-try_until-answer}
@@ -49,7 +49,7 @@ tried c =
     let next = c.transition-next.ensures.item in
     tried_segment z _ _ _ _ _ _ (rw (← c.self.view_is) c.self.invariant.valid) (omega arith)
     (omega arith) i.begin
-    (inl (c.transition-next.result, omega arith, ap (λ (t : Transition). Some t.unix_leap_time) next))
+    (inl (c.transition-next.result, omega arith, ap (λ t. Some t.unix_leap_time) next))
     (rw i.index at (simp to_z-of_z at c.try_until-answer.ensures)) (simp to_z-of_z at i.found)
 
 pub latest-current-requires-clause-room : goal.latest-current-requires-clause-room
@@ -87,7 +87,7 @@ returns-then-high-next c =
     let (window, split) = begun at.After-passed_count-first in
     let z = c.args.self.now in let valid : IsValid z = rw (← c.self.view_is) c.self.invariant.valid in let walked = simp to_z-of_z at
     c.loop-place.invariant.walked in
-    let time = ap (λ (t : Transition). t.unix_leap_time) c.transition-next.ensures.item in
+    let time = ap (λ t. t.unix_leap_time) c.transition-next.ensures.item in
     record {
       found = none_behind z c.args.local _ _ c.loop-place.place c.transition-next.result _ valid
           window (omega arith) (omega linear) (tried at.After-try_until-answer);
@@ -95,7 +95,7 @@ returns-then-high-next c =
           window split (omega arith) walked (omega arith) (one_look _ _ c.transition-next.ensures.cost);
       counted = asked_for_window z _ _ c.leap_time_near-high.result c.loop-place.place c.transition-next.result _ _
           valid window (omega arith) (omega linear)
-          (ap (λ (p : Counts). p.rule_questions) c.transition-next.ensures.cost ∙ walked.questions);
+          (ap (λ p. p.rule_questions) c.transition-next.ensures.cost ∙ walked.questions);
     }
 
 pub loop-place-preserved : goal.loop-place-preserved
@@ -105,8 +105,8 @@ loop-place-preserved c =
     let ts = c.args.self.now.transitions in let place = c.loop-place.place in let item = c.transition-next.ensures.item in
     record {
       found = simp to_z-of_z (tried (goal.at.loop-place-preserved c).After-try_until-answer);
-      begin = ap (λ (t : Transition). t.unix_leap_time) item ∙ sym (begin_next ts place _ (omega arith));
-      index = ap (λ (t : Transition). t.type_index) item ∙ sym (index_next ts _ _ (omega arith));
+      begin = ap (λ t. t.unix_leap_time) item ∙ sym (begin_next ts place _ (omega arith));
+      index = ap (λ t. t.type_index) item ∙ sym (index_next ts _ _ (omega arith));
       listed = c.transition-next.ensures.index;
       walked =
           simp to_z-of_z (walked_more _ _ _ _ _ _ _ _ (omega arith)
