@@ -28,9 +28,6 @@ asked_both at l o p one two less both (inl (e, none)) g = grind arith
 asked_both at l o p one two less both (inr (s, k, e)) (inl (f, none)) = grind arith
 asked_both at l o p one two less both (inr (s, k, e)) (inr (t, m, f)) = grind linear
 
-pub one_fixed : (f : LocalType) (from l u : ℤ) (t : LocalType) → Shows (TypeFrom (Fixed f) from) l u t → u ≡ l -ℤ f.offset
-one_fixed f _ l u t s = shown_at u l t f s.shown s.type.type
-
 -- a rule and a type
 module _ (a : AlternateRule) (t : LocalType) where
   -- ---- a rule's

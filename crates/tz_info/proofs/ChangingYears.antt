@@ -9,9 +9,9 @@ use Rattle.tz_info.proofs.{
   RuleLaws.{alternate_at, alternate_once, rule_time, rule_year},
   SeasonLaws.{season_made},
   Words.{Alternate, AlternateAt, Bool, Change, Contains, DayTime, HasNoChange, IsAlternateRule, IsChange, IsRuleDay, IsRuleTime, IsRuleYear, IsYearOf, List},
-  Words.{LocalType, NeverChanges, Season, ap, are_calm, arith, by_lt_z, cases_lt, changing_keys, cond, days_at_least, days_at_most, end_in, false, floor_div},
-  Words.{floors, get_or, get_or-eq_default, get_or-map, get_or_default, inl, inr, int_le, int_lt, is_dst_by_one, key_years, kind_place, length, length-map},
-  Words.{lies_in, linear, lt_false, lt_true, margin_of, moment, moments_near, new_year, not, one_year, pos, refl, seconds_by_kind, start_in, subst, sym, true},
+  Words.{LocalType, NeverChanges, ap, are_calm, arith, by_lt_z, cases_lt, changing_keys, cond, days_at_least, days_at_most, end_in, false, floor_div, floors},
+  Words.{get_or, get_or-eq_default, get_or-map, get_or_default, inl, inr, int_le, int_lt, is_dst_by_one, key_years, kind_place, length, length-map, lies_in},
+  Words.{linear, lt_false, lt_true, margin_of, moment, moments_near, new_year, not, one_year, pos, refl, seconds_by_kind, start_in, subst, sym, true},
   Words.{type_when, year_start, year_step, ℕ, ℤ, ◌*ℤ◌, ◌+ℤ◌, ◌-ℤ◌, ◌<ℤ◌, ◌<◌, ◌∙◌, ◌≡◌, ◌≢◌, ◌≤ℤ◌, ◌⊎◌},
   YearKeys.{changing_alike, key_below, key_count, own_key, year_bounds},
 }
@@ -134,13 +134,6 @@ pub calm_margin : (a : Alternate) → IsAlternateRule a → are_calm (seconds_by
     → IsMargin a (pos 172_800)
 unfolding margin_of
 calm_margin a rule calm = margin_kept a _ rule (rw calm)
-
-abbrev season_of : Alternate → ℤ → Season
-season_of a year = record {
-  from = pos 86_400 *ℤ year_start year -ℤ pos 172_800;
-  until = pos 86_400 *ℤ year_start year +ℤ pos 31_536_000 +ℤ pos 172_800;
-  turns = turns_in (start_in a) (end_in a) year;
-}
 
 never_dst : (s e u : ℤ) → s ≡ e → is_dst_by_one s e u ≡ false
 never_dst s e u h = grind arith

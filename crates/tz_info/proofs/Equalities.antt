@@ -60,9 +60,6 @@ transition_exact a b = search rules
 leap_exact : IsExact leap_eq.it
 leap_exact a b = search rules
 
-abbrev zone_parts : Zone → List Transition × (List LocalType × (List LeapSecond × Option TransitionRule))
-zone_parts z = (z.transitions, (z.types, (z.leaps, z.rule)))
-
 abbrev of_zone : List Transition × (List LocalType × (List LeapSecond × Option TransitionRule)) → Zone
 of_zone p = record { transitions = p.0; types = p.1.0; leaps = p.1.1.0; rule = p.1.1.1 }
 

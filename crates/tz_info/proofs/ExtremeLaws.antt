@@ -30,12 +30,7 @@ joined xs e o r a j = record {
 type_among : (types : List LocalType) (k : ℕ) (d : LocalType) → k < length types → Contains (offsets_of types) (get_or types k d).offset
 type_among types k d h = (k, simp length-map (h), get_or-map (λ t. t.offset) types k d (get_or types k d).offset h)
 
--- of the first type alone, and of one type more
-pub first_type : (types : List LocalType) (d : LocalType) (e : Extremes) → 0 < length types → e.greatest ≡ (get_or types 0 d).offset
-    → e.least ≡ (get_or types 0 d).offset → AreExtremes (offsets_of (take 1 types)) e
-first_type [] d e h g l = absurd (omega arith)
-first_type (t ∷ ts) d e h g l = grind arith
-
+-- of one type more
 pub next_type : (types : List LocalType) (n : ℕ) (d : LocalType) (e r : Extremes) → n < length types → AreExtremes (offsets_of (take n types)) e
     → AreJoined e (get_or types n d).offset r → AreExtremes (offsets_of (take (n + 1) types)) r
 next_type types n d e r h a j = rw (add-one, take-suc types n d h, map-append) (joined _ e _ r a j)

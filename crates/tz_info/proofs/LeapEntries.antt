@@ -1,10 +1,9 @@
 -- What follows for leap seconds from their being valid: the thresholds rise, so the passed entries are the first ones.
-use Rattle.tz_base.specs.declared.error.Expected.TheVariants.{UnixTimeOf64Bits}
 use Rattle.tz_info.proofs.{
   Prefixes.{last_taken},
-  Words.{AreLeapSeconds, IsNextLeap, IsOneStep, LeapSecond, List, [], add-one, ap, arith, correction_before, corrections, expected_of_leap_time, false_unless},
-  Words.{filter_first, get_or, get_or_default, int_le, int_lt, last_else, least_time, length, linear, lt_false, lt_true, pos, refl, rises, suc, sym, take},
-  Words.{thresholds, zero, ℕ, ℤ, ◌+ℤ◌, ◌+◌, ◌-ℤ◌, ◌<ℤ◌, ◌<◌, ◌∷◌, ◌≡◌, ◌≤ℤ◌, ◌≤◌},
+  Words.{AreLeapSeconds, IsNextLeap, IsOneStep, LeapSecond, List, [], add-one, ap, arith, correction_before, corrections, filter_first, get_or, get_or_default},
+  Words.{int_lt, last_else, length, linear, lt_false, lt_true, pos, refl, rises, suc, sym, take, thresholds, zero, ℕ, ℤ, ◌+ℤ◌, ◌+◌, ◌-ℤ◌, ◌<ℤ◌, ◌<◌, ◌∷◌, ◌≡◌},
+  Words.{◌≤ℤ◌, ◌≤◌},
 }
 
 -- the entries may follow an entry of correction p
@@ -73,7 +72,3 @@ module _ (es : List LeapSecond) (d : LeapSecond) (valid : AreLeapSeconds es) whe
             let g = ap (λ (e : LeapSecond). e.unix_leap_time) (get_or_default es j f d (omega arith)) in
             omega linear;
       }) (λ _. omega linear))
-
--- a leap time of 64 bits but the least lacks a Unix time only if that leaves 64 bits
-pub above_least : (x : ℤ) → least_time ≤ℤ x → ¬ (x ≡ least_time) → expected_of_leap_time x ≡ UnixTimeOf64Bits
-above_least x low other = rw (false_unless (int_le x least_time) (λ t. other (omega linear)))

@@ -6,9 +6,8 @@ use Rattle.tz_info.proofs.{
   LeapOrder.{bounded, split},
   LeapStarts.{correction_behind, passed_at_most, times_rise},
   Prefixes.{last_taken},
-  Words.{AreLeapSeconds, IsLeapTime, LeapSecond, List, SFits, [], arith, by_lt_z, cases_lt, corrections, false, get_or, inl, inr, int_le, int_lt, le_is},
-  Words.{le_true, length, linear, lt_true, mapped_at, passed_count, pos, refl, suc, true, w64, zero, ℕ, ℤ, ◌+ℤ◌, ◌+◌, ◌-ℤ◌, ◌<ℤ◌, ◌<◌, ◌↔◌, ◌∷◌, ◌≡◌, ◌≤ℤ◌},
-  Words.{◌≤◌},
+  Words.{AreLeapSeconds, IsLeapTime, LeapSecond, List, SFits, [], arith, by_lt_z, cases_lt, corrections, get_or, inl, inr, int_le, int_lt, le_is, le_true},
+  Words.{length, linear, mapped_at, passed_count, pos, refl, suc, true, w64, zero, ℕ, ℤ, ◌+ℤ◌, ◌+◌, ◌-ℤ◌, ◌<ℤ◌, ◌<◌, ◌↔◌, ◌∷◌, ◌≡◌, ◌≤ℤ◌, ◌≤◌},
 }
 use Rattle.tz_info.specs.Steps.Starts.{IsLastWithLeapTime}
 
@@ -129,9 +128,6 @@ last_with_leap_time es _ _ valid r e = record {
 }
 
 -- ---- the entries before a leap time
-pub lt_is_not : (a b : ℤ) → int_lt a b ≡ false → b ≤ℤ a
-lt_is_not a b h = by_lt_z a b (λ l. let t = lt_true a b l in cc) (λ m. m)
-
 pub parted_before : (es : List LeapSecond) (x : ℤ) → AreLeapSeconds es → IsPartitionedBy (λ e. int_lt e.unix_leap_time x) es
 parted_before es x valid i j d h l t = let r = times_rise es d valid i j h l in
     earlier (get_or es i d).unix_leap_time (get_or es j d).unix_leap_time x r t where

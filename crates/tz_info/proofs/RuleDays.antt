@@ -43,9 +43,6 @@ rule_day_closed form year fits =
 julian_at_most : (leap : Bool) (n : ℕ) → n ≤ 365 → julian_place leap n ≤ 365
 julian_at_most leap n high = omega (arith, leap_at_most (leap && nat_le 60 n))
 
-julian_below : (year : ℤ) (n : ℕ) → 1 ≤ n → n ≤ 365 → julian_place (is_leap year) n < days_in_year year
-julian_below _ n low high = grind arith
-
 -- the rule's day is a date of its year, if it is no plain day number
 weekday_lies : (year : ℤ) (month week weekday : ℕ) → IsRuleDay (MonthWeekday month week weekday)
     → LiesIn (closed_day (MonthWeekday month week weekday) year) year
