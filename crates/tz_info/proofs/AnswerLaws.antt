@@ -5,7 +5,7 @@ use Rattle.tz_info.proofs.Words.{IsWallAnswer, LocalResult, arith, joined, linea
 -- p and q take the same seconds
 pub same_answer : {T : Type 0} (p q : ℤ → T → Type 0) (a : LocalResult T) → ((u : ℤ) (t : T) → p u t → q u t) → ((u : ℤ) (t : T) → q u t → p u t)
     → IsWallAnswer p a → IsWallAnswer q a
-same_answer p q None to from h = λ u t k. h u t (from u t k)
+same_answer p q None to from h = grind linear
 same_answer p q (Single a) to from h = record { second = h.second; shown = to _ _ h.shown; only = λ u t k. h.only u t (from u t k) }
 same_answer p q (Ambiguous a b) to from h = grind arith
 

@@ -21,8 +21,8 @@ each_way false x y h k = omega linear
 
 pub one_nearest : (w : Bool) (z : Zone) (within : ℤ → Type 0) (a b : Option Change) → IsNearest w (TypeAt z) within a → IsNearest w (TypeAt z) within b → a ≡ b
 one_nearest w z _ None None h k = refl
-one_nearest w z within None (Some d) h k = absurd (h d k.is k.inside)
-one_nearest w z within (Some c) None h k = absurd (k c h.is h.inside)
+one_nearest w z within None (Some d) h k = grind linear
+one_nearest w z within (Some c) None h k = grind linear
 one_nearest w z within (Some c) (Some d) h k = ap Some (one_change z c d h.is k.is
     (each_way w _ _ (h.nearest d k.is k.inside) (k.nearest c h.is h.inside)))
 

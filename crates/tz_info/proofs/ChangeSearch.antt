@@ -32,7 +32,7 @@ nearest_moved w f g p q (Some c) to from h = grind arith
 -- of the nearest change of some seconds and that of others the one that comes first is the nearest one of all
 pub nearest_either : (w : Bool) (f : InForce) (p q : ℤ → Type 0) (found other : Option Change) → IsNearest w f p found → IsNearest w f q other
     → IsNearest w f (λ u. p u ⊎ q u) (nearer_one w found other)
-nearest_either w f p q None None h k = λ d is. ⊎_elim (h d is) (k d is)
+nearest_either w f p q None None h k = grind linear
 nearest_either w f p q None (Some d) h k = record { is = k.is; inside = inr k.inside; nearest = λ e is. ⊎_elim (λ i. absurd (h e is i)) (k.nearest e is) }
 nearest_either w f p q (Some c) None h k = record { is = h.is; inside = inl h.inside; nearest = λ e is. ⊎_elim (h.nearest e is) (λ i. absurd (k e is i)) }
 nearest_either true f p q (Some c) (Some d) h k = grind linear
@@ -48,7 +48,7 @@ IsAsked f after last second other = MatchOption other (IsIdle f after last secon
 
 pub asked : (w : Bool) (f : InForce) (after last second : ℤ) (other : Option Change) → IsAsked f after last second other
     → IsNearest w f (λ u. (second ≡ u) × IsInStretch after last u) other
-asked w f _ _ _ None h = λ d is k. h d is (sym k.0) k.1
+asked w f _ _ _ None h = grind linear
 asked w f after last second (Some c) h = record { is = h.0; inside = (sym h.1, rw h.1 h.2); nearest = λ d is k. precedes_itself w _ _ (h.1 ∙ k.0) }
 
 -- one second more
@@ -84,7 +84,7 @@ ahead_within false after last u k = k.1
 pub nearest_within : (w : Bool) (f : InForce) (after last : ℤ) (found r : Option Change) → IsNearest w f (IsAhead w (near_end w after last)) found
     → MatchOption r (IfSome found (λ c. IsInStretch after last c.at → ⊥)) (λ c. IsInStretch after last c.at × (found ≡ Some c))
     → IsNearest w f (IsInStretch after last) r
-nearest_within w f after _ None None h out = λ d is k. h d is (ahead_within w _ _ _ k)
+nearest_within w f after _ None None h out = grind (linear, ahead_within)
 nearest_within w f after last (Some c) None h out = λ d is k. grind arith
 nearest_within w f after last found (Some c) h within = grind arith
 
@@ -107,10 +107,10 @@ change_made f second s t (Some c) once fits fits_before h k e =
 
 -- no type is in force a second before, or at the second
 pub none_before : (f : InForce) (second : ℤ) → ((t : LocalType) → f (second -ℤ pos 1) t → ⊥) → HasNoChange f (λ u. u ≡ second)
-none_before f _ without d is at = without d.before (rw at at is.before)
+none_before f _ without d is at = grind (linear, at)
 
 pub none_here : (f : InForce) (second : ℤ) → ((t : LocalType) → f second t → ⊥) → HasNoChange f (λ u. u ≡ second)
-none_here f _ without d is at = without d.after (rw at at is.after)
+none_here f _ without d is at = grind (linear, at)
 
 -- ---- without a change the type stays
 -- some type is in force at the second
@@ -119,7 +119,7 @@ Typed f u = (t : LocalType) × f u t
 
 pub decided : (P : Type 0) (b : Bool) → Decides b P → P ⊎ (P → ⊥)
 decided P true d = inl (d.0 refl)
-decided P false d = inr (λ p. let e = d.1 p in cc)
+decided P false d = grind linear
 
 -- from one second to the next
 step_up : (f : InForce) (v w : ℤ) (s t : LocalType) → v ≡ w -ℤ pos 1 → SFits w64 v → SFits w64 w → HasNoChange f (λ x. x ≡ w) → f v s → f w t → s ≡ t

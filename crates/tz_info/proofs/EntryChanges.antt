@@ -97,7 +97,7 @@ pub at_last : {T : Type 0} (view : T → LocalType) (z : Zone) (u : ℤ) (c : Co
     (λ e. (e ≡ FindLocalTimeType YearThatRuleAnswersIn) × IsFromLast z (leap_time_at z u) × IsRefusedBy z.rule u)
 at_last _ z u c (Ok t) h all k =
     record { before_last = λ q. absurd (omega arith); from_last = λ _. or_same _ z u _ _ _ h.named k }
-at_last view z u c (Err e) h all k = (k.0, h.all.0 (grind arith), k.1)
+at_last view z u c (Err e) h all k = grind linear
 
 pub type_amid : (z : Zone) (e : Entries) (u x : ℤ) (n : ℕ) (t : LocalType) → AreEntries z e → SFits w64 u → IsLeapTime z.leaps u x
     → count_at e u ≡ n → n < e.all
@@ -156,19 +156,13 @@ unfolding digits
 digits_one = refl
 
 pub rose_less : (a b : Counts) (m n p q : ℕ) → RoseWithin a b m p → m ≤ n → p ≤ q → RoseWithin a b n q
-rose_less a b m n p q rose less fewer = record {
-  reads_kept = rose.reads_kept;
-  reads_most = omega arith;
-  questions_kept = rose.questions_kept;
-  questions_most = omega arith;
-  pieces_same = rose.pieces_same;
-}
+rose_less a b m n p q rose less fewer = grind linear
 
 pub rose_then : (a b c : Counts) (m n p q : ℕ) → RoseWithin a b m p → RoseWithin b c n q → RoseWithin a c (m + n) (p + q)
 rose_then a b c m n p q one two = grind linear
 
 pub looks_most : (m n : ℕ) → 0 < n → m ≤ n → most_looks m ≤ digits n
-looks_most zero n some h = let k = digits-more 1 n some in let e = digits_one in omega arith
+looks_most zero n some h = grind (linear, digits-more, some, digits_one)
 looks_most (suc m) n some h = digits-more _ n h
 
 -- a second before one with a leap time has one

@@ -231,7 +231,7 @@ one_more z old kept entries k s t entry is_last valid more item made start befor
 -- those that have come are all, if and only if each has
 all_passed : (ts : List Transition) (x : ℤ) → AreRising ts → length (passed ts x) ≡ length ts → (k : ℕ) (d : Transition) → k < length ts
     → (get_or ts k d).unix_leap_time ≤ℤ x
-all_passed ts x rising e k d h = (come_by_time ts x k d rising h).0 (omega arith)
+all_passed ts x rising e k d h = grind (linear, come_by_time)
 
 from_last : (z : Zone) (entries : List Transition) (u x : ℤ) → IsValid z → AreMadeOf z entries (length z.transitions) → IsLeapTime z.leaps u x
     → IsFromLast z x ↔ (length (passed entries u) ≡ length entries)

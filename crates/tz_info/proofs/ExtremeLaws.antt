@@ -50,7 +50,7 @@ rule_joined _ _ _ e r is h j = rw is (by_rule _ _ e r h j)
 -- ---- the offset of a type in force is one of them
 pub rule_among : (rule : Option TransitionRule) (u : ℤ) (t : LocalType) → IsTypeOf rule u t → Contains (rule_offsets rule) t.offset
 rule_among None u t h = absurd h
-rule_among (Some (Fixed f)) u t h = rw h (0, omega arith, refl)
+rule_among (Some (Fixed f)) u t h = grind linear
 rule_among (Some (Alternate a)) u t h = elim (one_of_two a t u h) [
   | inl e ↦ rw e (0, omega arith, refl)
   | inr e ↦ rw e (1, omega arith, refl)

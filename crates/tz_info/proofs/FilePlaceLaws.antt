@@ -212,10 +212,10 @@ version_fault Second (b ∷ bs) e h = grind arith
 
 -- ---- what the loops keep
 pub next_none : (P : ℕ → Type 0) (n : ℕ) → HoldsOfNone P n → ¬ (P n) → HoldsOfNone P (n + 1)
-next_none P n before here = below_more (λ k. ¬ (P k)) n before here
+next_none P n before here = grind (linear, before)
 
 pub next_false : (P : ℕ → Type 0) (n : ℕ) (b : Bool) → HoldsOfNone P n → IsTrue b ↔ P n → b ≡ false → HoldsOfNone P (n + 1)
-next_false P n b none is other = next_none P n none (λ h. let t = is.1 h in cc)
+next_false P n b none is other = grind (linear, next_none, none)
 
 pub next_type : (p : FilePieces) (k : ℕ) (t : LocalType) → ((j : ℕ) → j < k → IsTypeAt p j)
     → type_of_record p.parts.designations (record_at 6 p.parts.types k) ≡ Ok t

@@ -27,12 +27,7 @@ same_offset z u s t a b = ap (λ (x : LocalType). x.offset) (type_once z u s t a
 -- at `end` clocks show the local time or less
 not_more : (z : Zone) (local first last end : ℤ) (t : LocalType) → AreEndsOfFold z local first last → IsBackTo z local first last end → TypeAt z end t
     → (end +ℤ t.offset) ≤ℤ local
-not_more z _ _ last end t ends back here = by_lt_z end last
-    (λ l. let less = back.less end t (omega linear) l here in omega linear)
-    (λ m.
-    let same : ends.several.last ≡ end = omega linear in
-    let offset = same_offset z end _ t (subst (λ (u : ℤ). TypeAt z u ends.last_type) same ends.several.at_last.type) here in
-    omega linear)
+not_more z _ _ last end t ends back here = grind (linear, same_offset)
 
 -- the first second doesn't lie in the span of `end`
 first_outside : (z : Zone) (local first last end : ℤ) (s : Span) → AreEndsOfFold z local first last → IsBackTo z local first last end

@@ -145,7 +145,7 @@ most_by_rule a g true h = h.dst
 most_by_rule a g false h = h.std
 
 of_greater : (a : Alternate) (g : ℤ) → IsGreater a g → (b : Bool) × (g ≡ (type_when a b).offset)
-of_greater a g h = elim h.is [ inl e ↦ (false, e) | inr e ↦ (true, e) ]
+of_greater a g h = grind linear
 
 -- clocks show less before the later of the begin and the first second at the greater offset
 module _ (a : Alternate) (begin local g low : ℤ) (rule : IsAlternateRule a) (greater : IsGreater a g)

@@ -110,7 +110,7 @@ digits-four = refl
 
 -- a search among four items or more may take three looks
 pub digits-three : (n : ℕ) → 4 ≤ n → 3 ≤ digits n
-digits-three n h = let m = digits-more 4 n h in omega (arith, digits-four)
+digits-three n h = grind (linear, digits-more, digits-four)
 
 -- two steps among at most half of the items leave room for one look and the steps that are left
 pub two_steps : (count left n : ℕ) → 0 < count → 2 * count ≤ n → 4 ≤ n → left ≡ (count - count / 2) - (count - count / 2) / 2

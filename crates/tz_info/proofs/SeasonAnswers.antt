@@ -26,7 +26,7 @@ greater a true e = grind arith
 greater a false e = grind arith
 
 pub alike : (a : AlternateRule) (dst : Bool) → ((type_when a dst).offset ≡ (type_when a (not dst)).offset) ↔ (a.std.offset ≡ a.dst.offset)
-alike a true = ((λ e. sym e), (λ e. sym e))
+alike a true = grind linear
 alike a false = ((λ e. e), (λ e. e))
 
 pub std_too : (a : AlternateRule) (dst : Bool) → a.std.offset ≡ a.dst.offset → (type_when a dst).offset ≡ a.std.offset

@@ -43,7 +43,7 @@ reached_latest _ ts _ k l made some within fits =
     rw e at (made.reached (k - 1) (pos 0) l (omega arith) fits)
 
 pub by_test : {P : Type 0} → (a b : ℤ) → (a <ℤ b) ↔ P → IsTrue (int_lt a b) ↔ P
-by_test a b is = ((λ h. is.0 (lt_is a b h)), (λ p. lt_true a b (is.1 p)))
+by_test a b is = grind (linear, lt_is, lt_true)
 
 -- of one segment more
 pub reached_more : (types : List LocalType) (ts : List Transition) (k : ℕ) (l : ℤ)

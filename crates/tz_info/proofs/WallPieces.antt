@@ -65,16 +65,7 @@ pub record Merging (join : Answer → Answer → Answer) (bx : Answer) (xs : Lis
 -- so are those of ys and those of xs
 merging_turned : (join : Join) (bx : Answer) (xs : List Piece) (by : Answer) (ys out : List Piece) (i j : ℕ) → Merging join bx xs by ys out i j
     → Merging (turned join) by ys bx xs out j i
-merging_turned _ bx xs by ys out i j m = record {
-  in_x = m.in_y;
-  in_y = m.in_x;
-  ordered = m.ordered;
-  count = omega arith;
-  ahead_x = m.ahead_y;
-  ahead_y = m.ahead_x;
-  started = λ l h. let s = m.started l h in (s.1, s.0);
-  answers = m.answers;
-}
+merging_turned _ bx xs by ys out i j m = grind linear
 
 -- the next piece is that of xs
 merging_x : (join : Join) (bx : Answer) (xs : List Piece) (by : Answer) (ys out : List Piece) (i j : ℕ) (p : Piece) → AreInOrder xs

@@ -78,7 +78,7 @@ record LeapsAlike (x y : ℤ) : Type 0 where
   later : is_leap (x +ℤ pos 2) ≡ is_leap (y +ℤ pos 2)
 
 leap_fourth : (z : ℤ) → is_leap z ≡ true → floor_mod z 4 ≡ 0
-leap_fourth z h = eqb-true (floor_mod z 4) 0 (and_parts _ _ h).0
+leap_fourth z h = grind linear
 
 one_leap : (z w : ℤ) (n : ℕ) → w ≡ z +ℤ pos n → 0 < n → n < 4 → is_leap z ≡ true → is_leap w ≡ true → ⊥
 one_leap z w n e low high h k = grind (linear, leap_fourth)

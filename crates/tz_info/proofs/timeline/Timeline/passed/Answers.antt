@@ -3,9 +3,9 @@ use Rattle.tz_info.proofs.{
   SearchSteps.{all_passed, digits-halved, none_passed},
   SearchWords.{AreEnds, AreHints, SFits, arith, length, length-map, linear, map, pow_pos, rules, to_z-of_z, w64, ◌≡◌},
   timeline.Timeline.passed.Given.{Over},
+  timeline.Timeline.passed.Goals.{After-self},
 }
 use Rattle.tz_info.proofs.timeline.Timeline.passed.Goals as goal
-use Rattle.tz_info.proofs.timeline.Timeline.passed.Goals.{After-self}
 
 -- what was given fits, and the first time, the last one and the hints are those of the items
 kept : (g : Over) (c : After-self g) → SFits w64 c.args.second × (length (map g.T.Timed.time c.args.self.now) ≡ length c.args.self.now)

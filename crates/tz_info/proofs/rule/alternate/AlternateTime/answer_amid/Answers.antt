@@ -2,9 +2,9 @@ use Rattle.std.proofs.Math.Bool.{beq}
 use Rattle.tz_info.proofs.{
   SeasonAnswers.{amid, asked_in_turn, both_asked, greater},
   Words.{Bool, Bor, Counts, LocalType, SFits, ap, inl, int_lt, joined, map_of, not, refl, rules, shown_if, to_z-of_z, type_when, w32, w64, ◌-ℤ◌, ◌∙◌, ◌≡◌},
+  rule.alternate.AlternateTime.answer_amid.Goals.{After-second_showing-by_last},
 }
 use Rattle.tz_info.proofs.rule.alternate.AlternateTime.answer_amid.Goals as goal
-use Rattle.tz_info.proofs.rule.alternate.AlternateTime.answer_amid.Goals.{After-second_showing-by_last}
 
 -- what was given fits, and so do the seconds that are asked, that of the greater offset first
 seconds : (c : After-second_showing-by_last) → (dst : Bool) × SFits w64 c.args.local × SFits w64 c.args.from

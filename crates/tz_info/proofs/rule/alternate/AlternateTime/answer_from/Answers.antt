@@ -3,9 +3,9 @@ use Rattle.tz_info.proofs.{
   QuestionLaws.{asked_once},
   SeasonAnswers.{alike, asked_in_turn, either, season_for, std_too},
   Words.{Bool, SFits, and_parts, arith, linear, not, rules, to_z-of_z, type_when, w32, w64, ◌∙◌, ◌≡◌, ◌≢◌, ◌≤ℤ◌},
+  rule.alternate.AlternateTime.answer_from.Goals.{After-offset-last},
 }
 use Rattle.tz_info.proofs.rule.alternate.AlternateTime.answer_from.Goals as goal
-use Rattle.tz_info.proofs.rule.alternate.AlternateTime.answer_from.Goals.{After-offset-last}
 
 -- what was given fits, and so do the offsets, which are those of the rule's types, the greater one first
 offsets : (c : After-offset-last)

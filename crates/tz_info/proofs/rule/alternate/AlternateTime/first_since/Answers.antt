@@ -2,9 +2,9 @@ use Rattle.std.proofs.lemmas.Int.{clamps}
 use Rattle.tz_info.proofs.{
   RuleReached.{IsGreater, changed_first, still_first},
   Words.{IsNear, SFits, ap, by_lt_z, change_held, inl, inr, linear, rules, to_z-of_z, w64, ℤ, ◌-ℤ◌, ◌<ℤ◌, ◌↔◌, ◌∙◌, ◌≤ℤ◌},
+  rule.alternate.AlternateTime.first_since.Goals.{After-max-low, After-max-shown, in_default-via-in-Some+else-change-shown},
 }
 use Rattle.tz_info.proofs.rule.alternate.AlternateTime.first_since.Goals as goal
-use Rattle.tz_info.proofs.rule.alternate.AlternateTime.first_since.Goals.{After-max-low, After-max-shown, in_default-via-in-Some+else-change-shown}
 use Rattle.tz_info.proofs.rule.alternate.AlternateTime.first_since.Goals.{in_default-via-in_default}
 
 -- the greater of the two offsets

@@ -1,9 +1,9 @@
 use Rattle.tz_info.proofs.{
   CalmYears.{turn_change},
   Words.{Alternate, Bool, SFits, cond, end_in, false, refl, rules, start_in, sym, to_z-of_z, true, turn_of, w64, ℤ, ◌∙◌, ◌≡◌, ◌≢◌},
+  rule.alternate.AlternateTime.turn_within.Goals.{After-moment-at},
 }
 use Rattle.tz_info.proofs.rule.alternate.AlternateTime.turn_within.Goals as goal
-use Rattle.tz_info.proofs.rule.alternate.AlternateTime.turn_within.Goals.{After-moment-at}
 
 turn_is : (a : Alternate) (to_dst : Bool) (year start end : ℤ) → start ≡ start_in a year → end ≡ end_in a year → cond to_dst start end ≡ turn_of a to_dst year
 turn_is a true _ _ end s e = s

@@ -2,9 +2,9 @@ use Rattle.tz_info.proofs.{
   LeapStarts.{both_ways, reached_first},
   Words.{HaveCome, LeapSecond, SFits, arith, get_or, linear, pos, rules, to_z-of_z, w128, w32, w64, ℤ, ◌-ℤ◌, ◌-◌, ◌↔◌, ◌≤ℤ◌},
   ZoneChanges.{entry_late, reached_exactly},
+  zone.lists.starts.first_second.Goals.{After-later},
 }
 use Rattle.tz_info.proofs.zone.lists.starts.first_second.Goals as goal
-use Rattle.tz_info.proofs.zone.lists.starts.first_second.Goals.{After-later}
 
 abbrev none : LeapSecond
 none = record { unix_leap_time = pos 0; correction = pos 0 }

@@ -5,10 +5,10 @@ use Rattle.tz_info.proofs.{
   SegmentEndLaws.{begun_near, first_there},
   TableLaws.{reach_of, table_of, top_least},
   Words.{HasReach, IsRuleOrNone, IsValid, SFits, Zone, ap, arith, cases_eq, digits, digits-more, inl, inr, rules, to_z-of_z, w32, w64, ℕ, ◌*◌, ◌+◌, ◌<◌, ◌≤◌},
+  zone.time_zone.TimeZone.first_at_or_after.Goals.{After-first_reaching-place},
 }
 use Rattle.tz_info.specs.Steps.{Entries.{AreEntries}, SegmentEnds.{IsFirstSegment}}
 use Rattle.tz_info.proofs.zone.time_zone.TimeZone.first_at_or_after.Goals as goal
-use Rattle.tz_info.proofs.zone.time_zone.TimeZone.first_at_or_after.Goals.{After-first_reaching-place}
 
 -- the zone's entries, and the first segment that ends later
 entries : (c : After-first_reaching-place) → AreEntries c.args.self.now c.self.inside.changes

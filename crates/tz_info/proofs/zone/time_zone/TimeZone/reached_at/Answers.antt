@@ -5,10 +5,10 @@ use Rattle.tz_info.proofs.{
   SegmentLaws.{begin_first, come_from},
   Words.{AreRising, IsValid, List, RoseWithin, SFits, Transition, TypeAt, ap, arith, begin_of, cases_lt, digits, digits-more, inl, inr, least_time, length},
   Words.{linear, place_at, pos, refl, rules, slice_get_read, sym, to_z, to_z-of_z, w32, w64, ℤ, ◌+◌, ◌-ℤ◌, ◌≡◌, ◌≤ℤ◌, ◌≤◌},
+  zone.time_zone.TimeZone.reached_at.Goals.{After-latest_end-end, in-None, in-Some},
 }
 use Rattle.tz_info.specs.Steps.{Entries.{AreEntries}, SegmentEnds.{IsLatestEnd}, Since.{IsReachedSince}}
 use Rattle.tz_info.proofs.zone.time_zone.TimeZone.reached_at.Goals as goal
-use Rattle.tz_info.proofs.zone.time_zone.TimeZone.reached_at.Goals.{After-latest_end-end, in-None, in-Some}
 
 -- the segment of a second has begun
 begun : (ts : List Transition) (u : ℤ) → AreRising ts → SFits w64 u → place_at ts u ≤ length ts → begin_of ts (place_at ts u) ≤ℤ u

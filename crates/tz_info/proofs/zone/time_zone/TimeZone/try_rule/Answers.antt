@@ -5,9 +5,9 @@ use Rattle.tz_info.proofs.{
   TableLaws.{start_begun},
   WalkLaws.{with_rule},
   Words.{IsStart, IsValid, SFits, length, rules, to_z-of_z, w64},
+  zone.time_zone.TimeZone.try_rule.Goals.{After-rule_from},
 }
 use Rattle.tz_info.proofs.zone.time_zone.TimeZone.try_rule.Goals as goal
-use Rattle.tz_info.proofs.zone.time_zone.TimeZone.try_rule.Goals.{After-rule_from}
 
 -- what was given fits, and the rule is asked from one second on
 begun : (c : After-rule_from)

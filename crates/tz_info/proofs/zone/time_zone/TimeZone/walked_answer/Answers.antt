@@ -6,9 +6,9 @@ use Rattle.tz_info.proofs.{
   WallSegments.{all_segments},
   Words.{IsShownIn, IsValid, IsWallAnswer, IsWindow, SFits, Some, Zone, ap, arith, digits-le, inl, length, linear, map_of, rules, sym, table_count, to_z-of_z},
   Words.{w32, w64, ◌+◌, ◌∙◌, ◌≡◌, ◌≤◌},
+  zone.time_zone.TimeZone.walked_answer.Goals.{After-passed_count-first, After-try_until-answer},
 }
 use Rattle.tz_info.proofs.zone.time_zone.TimeZone.walked_answer.Goals as goal
-use Rattle.tz_info.proofs.zone.time_zone.TimeZone.walked_answer.Goals.{After-passed_count-first, After-try_until-answer}
 
 -- the table has all segments but the rule's, which is the last
 table_most : (z : Zone) → length z.transitions ≤ table_count z
