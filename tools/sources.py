@@ -129,9 +129,14 @@ class Clause:
 def imports_of(text):
     """What names mean under the imports of a text: name -> (page, name there)."""
     found = {}
-    for each in re.findall(r"(?m)^[ \t]*(?:ghost )?(?:pub )?use ([\w.+-]+(?:\.\{.*\})?(?: as \S+?)?);?\s*$", text):
+    for each in re.findall(r"(?m)^[ \t]*(?:ghost )?(?:pub )?use ([\w.+-]+(?:\.\{.*\})?(?: as \S+?)?);?\s*$", on_one_line(text)):
         found |= imported("", each)
     return found
+
+
+def on_one_line(text):
+    """The same text with each group of imports on one line."""
+    return re.sub(r"(?m)^(.*\buse .*\{)\n((?:  .*\n)+)\}", lambda group: group[1] + " ".join(group[2].split()).rstrip(",") + "}", text)
 
 
 def imported(page, each):

@@ -102,7 +102,7 @@ wall l low high =
     same_answer (Shows (TypeFrom new_york_rule least_time) l) (Shows (TypeAt new_york_zone) l) _
     (λ u t s. record { fits = s.fits; type = type_of_rule u t s.type.type; shown = s.shown })
     (λ u t s. record { fits = s.fits; shown = s.shown; type = record { type = s.type.in_force.from_last refl; since = let f = s.fits in omega (arith, ints) } })
-    (both_asked new_york least_time l true (is_summer (l -ℤ edt.offset)) (is_summer (l -ℤ est.offset)) (λ e. omega (arith, ints, e)) (omega (arith, ints))
+    (both_asked new_york l (λ e. omega (arith, ints, e)) least_time true (is_summer (l -ℤ edt.offset)) (is_summer (l -ℤ est.offset)) (omega (arith, ints))
     (record { fits = fits_signed_from_abs w64 (l -ℤ edt.offset) (omega (arith, ints)); since = omega (arith, ints) })
     (record { fits = fits_signed_from_abs w64 (l -ℤ est.offset) (omega (arith, ints)); since = omega (arith, ints) })
     (rule_at (l -ℤ edt.offset) (omega (arith, ints)) (omega (arith, ints))) (rule_at (l -ℤ est.offset) (omega (arith, ints)) (omega (arith, ints))))

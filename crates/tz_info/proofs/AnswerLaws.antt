@@ -1,11 +1,11 @@
 -- Answers of wall clocks: equal sets of seconds, and two sets of which one comes before the other.
 use Rattle.offset_core.specs.declared.local_result.LocalResult.TheVariants.{Ambiguous, None, Single}
-use Rattle.tz_info.proofs.Words.{IsWallAnswer, LocalResult, arith, ints, joined, ℤ, ⊎_elim, ◌<ℤ◌, ◌≡◌, ◌≤ℤ◌, ◌⊎◌}
+use Rattle.tz_info.proofs.Words.{IsWallAnswer, LocalResult, arith, joined, linear, ℤ, ⊎_elim, ◌<ℤ◌, ◌≡◌, ◌≤ℤ◌, ◌⊎◌}
 
 -- p and q take the same seconds
 pub same_answer : {T : Type 0} (p q : ℤ → T → Type 0) (a : LocalResult T) → ((u : ℤ) (t : T) → p u t → q u t) → ((u : ℤ) (t : T) → q u t → p u t)
     → IsWallAnswer p a → IsWallAnswer q a
-same_answer p q None to from h = λ u t k. h u t (from u t k)
+same_answer p q None to from h = grind linear
 same_answer p q (Single a) to from h = record { second = h.second; shown = to _ _ h.shown; only = λ u t k. h.only u t (from u t k) }
 same_answer p q (Ambiguous a b) to from h = grind arith
 
@@ -37,17 +37,17 @@ both p q r f l m n a b c d o x y = record {
   several = o.order f n a d x.at_first y.at_last;
   at_first = o.first f a x.at_first;
   at_last = o.last n d y.at_last;
-  not_before = λ u t k. ⊎_elim (x.not_before u t) (λ h. let e = o.order f u a t x.at_first h in omega (arith, ints)) (o.all u t k);
-  not_after = λ u t k. ⊎_elim (λ h. let e = o.order u n t d h y.at_last in omega (arith, ints)) (y.not_after u t) (o.all u t k);
+  not_before = λ u t k. ⊎_elim (x.not_before u t) (λ h. let e = o.order f u a t x.at_first h in omega linear) (o.all u t k);
+  not_after = λ u t k. ⊎_elim (λ h. let e = o.order u n t d h y.at_last in omega linear) (y.not_after u t) (o.all u t k);
 }
 
 -- where q takes none
 first_alone : {T : Type 0} (p q r : ℤ → T → Type 0) (a : LocalResult T) → Parts p q r → IsWallAnswer p a → IsWallAnswer q None → IsWallAnswer r a
-first_alone p q r a o x y = same_answer p r a o.first (λ u t k. ⊎_elim (λ h. h) (λ h. absurd (y u t h)) (o.all u t k)) x
+first_alone p q r a o x y = grind (linear, same_answer)
 
 pub joined_answer : {T : Type 0} (p q r : ℤ → T → Type 0) (a b : LocalResult T) → Parts p q r → IsWallAnswer p a
     → IsWallAnswer q b → IsWallAnswer r (joined a b)
-joined_answer p q r None b o x y = same_answer q r b o.last (λ u t k. ⊎_elim (λ h. absurd (x u t h)) (λ h. h) (o.all u t k)) y
+joined_answer p q r None b o x y = grind (linear, same_answer)
 joined_answer p q r (Single a) None o x y = first_alone p q r (Single a) o x y
 joined_answer p q r (Single a) (Single c) o x y = both p q r _ _ _ _ a a c c o (of_one p a x) (of_one q c y)
 joined_answer p q r (Single a) (Ambiguous c d) o x y = both p q r _ _ _ _ a a c d o (of_one p a x) (of_several q c d y)
@@ -59,4 +59,4 @@ joined_answer p q r (Ambiguous a b) (Ambiguous c d) o x y = both p q r _ _ _ _ a
 pub behind_answer : {T : Type 0} (p q : ℤ → T → Type 0) (c : ℤ) (t : T) (answer : LocalResult T) → ((u : ℤ) (f : T) → p u f → q u f)
     → ((u : ℤ) (f : T) → q u f → p u f ⊎ (u ≡ c)) → q c t → ((u : ℤ) (f : T) → p u f → u <ℤ c) → IsWallAnswer p answer
     → IsWallAnswer q (joined answer (Single t))
-behind_answer p q c t answer old only h below s = grind arith
+behind_answer p q c t _ old only h below s = grind arith

@@ -1,7 +1,10 @@
 -- A local time has one answer with both sides of its gap.
-use Rattle.tz_info.proofs.Words.{AreTypesAround, Around, Change, HasGap, LocalType, Shows, TypeAt, Zone, arith, ints, one_around, pos, subst, ℤ, ◌-ℤ◌, ◌≡◌}
+use Rattle.tz_info.proofs.{
+  WallLaws.{shown_once},
+  Words.{AreTypesAround, Around, Change, HasGap, LocalType, Shows, TypeAt, Zone, linear, one_around, pos, subst, ℤ, ◌-ℤ◌, ◌≡◌},
+  ZoneLaws.{type_once},
+}
 use Rattle.tz_info.specs.Around.{Skips}
-use Rattle.tz_info.proofs.{WallLaws.{shown_once}, ZoneLaws.{type_once}}
 
 same_sides : (g h : Change) → g.before ≡ h.before → g.after ≡ h.after → g.at ≡ h.at → g ≡ h
 same_sides g h p q r = λ i. record { before = p i; after = q i; at = r i }
@@ -10,10 +13,10 @@ one_gap : (z : Zone) (l : ℤ) (g h : Change) → HasGap (TypeAt z) l g.before g
 one_gap z l g h a b =
     let less = a.least h.at (record { type = h.after; here = b.here; more = b.more }) in
     let more = b.least g.at (record { type = g.after; here = a.here; more = a.more }) in
-    let same : g.at ≡ h.at = omega (arith, ints) in
+    let same : g.at ≡ h.at = omega linear in
     same_sides g h
-    (type_once z (h.at -ℤ pos 1) g.before h.before (subst (λ (u : ℤ). TypeAt z (u -ℤ pos 1) g.before) same a.earlier) b.earlier)
-    (type_once z h.at g.after h.after (subst (λ (u : ℤ). TypeAt z u g.after) same a.here) b.here)
+    (type_once z _ _ _ (subst (λ u. TypeAt z (u -ℤ pos 1) g.before) same a.earlier) b.earlier)
+    (type_once z _ _ _ (subst (λ u. TypeAt z u g.after) same a.here) b.here)
     same
 
 pub one_answer_around : (z : Zone) (l : ℤ) (a b : Around LocalType Change) → AreTypesAround (TypeAt z) l a → AreTypesAround (TypeAt z) l b → a ≡ b

@@ -1,20 +1,23 @@
 -- The candidates of a wall clock: each second that shows a local time is that time less the offset of a type in force there.
 use Rattle.offset_core.specs.declared.local_result.LocalResult.TheVariants.{None, Single}
-use Rattle.tz_info.proofs.Words.{Alternate as AlternateRule, AlternateAt, Bool, Contains, FitsSigned, IsAskedLast, IsWallAnswer, LocalResult, LocalType, RuleAt}
-use Rattle.tz_info.proofs.Words.{Shows, Some, TransitionRule, TypeFrom, ap, arith, false, inl, inr, ints, joined, refl, rule_offsets, subst, sym, true}
-use Rattle.tz_info.proofs.Words.{type_when, w64, ℤ, ◌+ℤ◌, ◌-ℤ◌, ◌<ℤ◌, ◌≡◌, ◌≤ℤ◌, ◌⊎◌}
+use Rattle.tz_info.proofs.{
+  AnswerLaws.{same_answer},
+  RuleLaws.{rule_once},
+  Words.{Alternate as AlternateRule, AlternateAt, Bool, Contains, FitsSigned, IsAskedLast, IsWallAnswer, LocalResult, LocalType, RuleAt, Shows, Some},
+  Words.{TransitionRule, TypeFrom, ap, arith, false, inl, inr, joined, linear, refl, rule_offsets, sym, true, type_when, w64, ℤ, ◌+ℤ◌, ◌-ℤ◌, ◌<ℤ◌, ◌≡◌, ◌≤ℤ◌},
+  Words.{◌⊎◌},
+}
 use Rattle.tz_info.specs.declared.rule.transition_rule.TransitionRule.TheVariants.{Alternate, Fixed}
-use Rattle.tz_info.proofs.{AnswerLaws.{same_answer}, RuleLaws.{rule_once}}
 
 -- a second that shows the local time at a type is the local time less the type's offset
 pub shown_at : (u l : ℤ) (t s : LocalType) → u +ℤ t.offset ≡ l → t ≡ s → u ≡ l -ℤ s.offset
-shown_at u l t s h e = let k = ap (λ (x : LocalType). x.offset) e in omega (arith, ints)
+shown_at u l t s h e = grind linear
 
 -- ---- all candidates, none before them
 -- one
 pub asked_one : (at : ℤ → LocalType → Type 0) (l o : ℤ) (after : LocalResult LocalType) → ((u : ℤ) (t : LocalType) → Shows at l u t → u ≡ l -ℤ o)
     → IsAskedLast at l o None after → IsWallAnswer (Shows at l) after
-asked_one at l o after only (inl (e, none)) = rw e (λ u t k. none t (subst (λ (w : ℤ). Shows at l w t) (only u t k) k))
+asked_one at l o after only (inl (e, none)) = grind (linear, none, at, only)
 asked_one at l o after only (inr (t, k, e)) = rw e (record { second = l -ℤ o; shown = k; only = only })
 
 -- two, the greater offset first, since its second is the earlier one
@@ -23,62 +26,54 @@ pub asked_both : (at : ℤ → LocalType → Type 0) (l o p : ℤ) (one two : Lo
     → IsWallAnswer (Shows at l) two
 asked_both at l o p one two less both (inl (e, none)) g = grind arith
 asked_both at l o p one two less both (inr (s, k, e)) (inl (f, none)) = grind arith
-asked_both at l o p one two less both (inr (s, k, e)) (inr (t, m, f)) = grind (arith, ints)
+asked_both at l o p one two less both (inr (s, k, e)) (inr (t, m, f)) = grind linear
 
--- ---- a rule's
-one_of : (a : AlternateRule) (t : LocalType) (dst : Bool) → t ≡ type_when a dst → (t ≡ a.std) ⊎ (t ≡ a.dst)
-one_of a t true e = inr e
-one_of a t false e = inl e
+-- a rule and a type
+module _ (a : AlternateRule) (t : LocalType) where
+  -- ---- a rule's
+  one_of : (dst : Bool) → t ≡ type_when a dst → (t ≡ a.std) ⊎ (t ≡ a.dst)
+  one_of true e = inr e
+  one_of false e = inl e
 
--- an alternate rule has its standard type or its daylight saving type
-pub one_of_two : (a : AlternateRule) (u : ℤ) (t : LocalType) → AlternateAt a u t → (t ≡ a.std) ⊎ (t ≡ a.dst)
-one_of_two a u t k = one_of a t k.dst k.shown
+  -- an alternate rule has its standard type or its daylight saving type
+  pub one_of_two : (u : ℤ) → AlternateAt a u t → (t ≡ a.std) ⊎ (t ≡ a.dst)
+  one_of_two u k = one_of _ k.shown
+
+  pub std_or_dst : (from l u : ℤ) → Shows (TypeFrom (Alternate a) from) l u t → (u ≡ l -ℤ a.std.offset) ⊎ (u ≡ l -ℤ a.dst.offset)
+  std_or_dst _ l u s = grind (arith, shown_at)
+
+  pub dst_or_std : (from l u : ℤ) → Shows (TypeFrom (Alternate a) from) l u t → (u ≡ l -ℤ a.dst.offset) ⊎ (u ≡ l -ℤ a.std.offset)
+  dst_or_std _ l u s = elim (std_or_dst _ l u s) [ inl e ↦ inr e | inr e ↦ inl e ]
 
 -- the offset of a rule's type is one of the rule's offsets
 pub offset_of_rule : (rule : TransitionRule) (u : ℤ) (t : LocalType) → RuleAt rule u t → Contains (rule_offsets (Some rule)) t.offset
-offset_of_rule (Fixed f) u t k = (0, omega arith, sym (ap (λ (x : LocalType). x.offset) k))
-offset_of_rule (Alternate a) u t k = elim (one_of_two a u t k) [
+offset_of_rule (Fixed f) u t k = grind linear
+offset_of_rule (Alternate a) u t k = elim (one_of_two a t u k) [
   | inl e ↦ (0, omega arith, sym (ap (λ (x : LocalType). x.offset) e))
   | inr e ↦ (1, omega arith, sym (ap (λ (x : LocalType). x.offset) e))
 ]
 
-pub one_fixed : (f : LocalType) (from l u : ℤ) (t : LocalType) → Shows (TypeFrom (Fixed f) from) l u t → u ≡ l -ℤ f.offset
-one_fixed f from l u t s = shown_at u l t f s.shown s.type.type
-
-pub std_or_dst : (a : AlternateRule) (from l u : ℤ) (t : LocalType) → Shows (TypeFrom (Alternate a) from) l u t
-    → (u ≡ l -ℤ a.std.offset) ⊎ (u ≡ l -ℤ a.dst.offset)
-std_or_dst a from l u t s = grind (arith, shown_at)
-
-pub dst_or_std : (a : AlternateRule) (from l u : ℤ) (t : LocalType) → Shows (TypeFrom (Alternate a) from) l u t
-    → (u ≡ l -ℤ a.dst.offset) ⊎ (u ≡ l -ℤ a.std.offset)
-dst_or_std a from l u t s = elim (std_or_dst a from l u t s) [ inl e ↦ inr e | inr e ↦ inl e ]
-
 -- if both offsets are equal
 pub one_second : (a : AlternateRule) (from l : ℤ) → a.std.offset ≡ a.dst.offset → (u : ℤ) (t : LocalType)
     → Shows (TypeFrom (Alternate a) from) l u t → u ≡ l -ℤ a.std.offset
-one_second a from l same u t s = elim (std_or_dst a from l u t s) [
+one_second a from l same u t s = elim (std_or_dst a t _ l u s) [
   | inl e ↦ e
-  | inr e ↦ omega (arith, ints)
+  | inr e ↦ omega linear
 ]
 
 -- the rule's type decides at a candidate
 pub asked_found : (rule : TransitionRule) (from l o : ℤ) (t : LocalType) (before : LocalResult LocalType) → FitsSigned w64 (l -ℤ o) → from ≤ℤ (l -ℤ o)
     → RuleAt rule (l -ℤ o) t → t.offset ≡ o → IsAskedLast (TypeFrom rule from) l o before (joined before (Single t))
-asked_found rule from l o t before fits since k e =
-    inr (t, record { fits = fits; type = record { type = k; since = since }; shown = omega (arith, ints) }, refl)
+asked_found _ _ l o t _ fits since k e =
+    inr (t, record { fits = fits; type = record { type = k; since = since }; shown = omega linear }, refl)
 
 pub asked_other : (rule : TransitionRule) (from l o : ℤ) (t : LocalType) (before : LocalResult LocalType) → RuleAt rule (l -ℤ o) t → (t.offset ≡ o → ⊥)
     → IsAskedLast (TypeFrom rule from) l o before before
-asked_other rule from l o t before k other =
-    inl (
-      refl,
-      λ f s. let e = rule_once rule (l -ℤ o) f t s.type.type k in let g = ap (λ (x : LocalType). x.offset) e in
-          let h = s.shown in other (omega (arith, ints)),
-    )
+asked_other rule from l o t before k other = grind (linear, rule_once, other)
 
 -- from the first second of 64 bits on all that show the local time are asked
 pub from_least : (rule : TransitionRule) (from l : ℤ) (answer : LocalResult LocalType) → ((u : ℤ) → FitsSigned w64 u → from ≤ℤ u)
     → IsWallAnswer (Shows (TypeFrom rule from) l) answer → IsWallAnswer (Shows (RuleAt rule) l) answer
-from_least rule from l answer all s =
-    same_answer (Shows (TypeFrom rule from) l) (Shows (RuleAt rule) l) answer (λ u t k. record { fits = k.fits; type = k.type.type; shown = k.shown })
+from_least _ _ l _ all s =
+    same_answer _ _ _ (λ u t k. record { fits = k.fits; type = k.type.type; shown = k.shown })
     (λ u t k. record { fits = k.fits; type = record { type = k.type; since = all u k.fits }; shown = k.shown }) s

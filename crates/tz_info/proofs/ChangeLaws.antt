@@ -1,30 +1,30 @@
 -- At a second there is one change, and so one next change, one previous change and one list of them.
 use Rattle.std.proofs.lemmas.Map.Made.{Contains-tail}
-use Rattle.tz_info.proofs.Words.{AllPairs, AreChanges, Bool, Change, Contains, Contains-append_right, IsTypeBeforeGap, IsChange, IsFirst, IsNearest, List}
-use Rattle.tz_info.proofs.Words.{LocalType, None, Option}
-use Rattle.tz_info.proofs.Words.{Precedes, Some, TypeAt, Zone, ap, arith, by_lt_z, false, ints, pos, refl, subst, suc, sym, true, zero, ℤ, [], ◌-ℤ◌}
-use Rattle.tz_info.proofs.Words.{◌<ℤ◌, ◌∷◌, ◌≡◌, ◌≤ℤ◌}
-use Rattle.tz_info.proofs.ZoneLaws.{type_once}
+use Rattle.tz_info.proofs.{
+  Words.{AllPairs, AreChanges, Bool, Change, Contains, Contains-append_right, IsChange, IsFirst, IsNearest, IsTypeBeforeGap, List, LocalType, None, Option},
+  Words.{Precedes, Some, TypeAt, Zone, [], ap, arith, by_lt_z, false, linear, pos, refl, subst, suc, sym, true, zero, ℤ, ◌-ℤ◌, ◌<ℤ◌, ◌∷◌, ◌≡◌, ◌≤ℤ◌},
+  ZoneLaws.{type_once},
+}
 
 same_parts : (c d : Change) → c.at ≡ d.at → c.before ≡ d.before → c.after ≡ d.after → c ≡ d
 same_parts c d p q r = λ i. record { at = p i; before = q i; after = r i }
 
 pub one_change : (z : Zone) (c d : Change) → IsChange (TypeAt z) c → IsChange (TypeAt z) d → c.at ≡ d.at → c ≡ d
 one_change z c d a b same = same_parts c d same
-    (type_once z (d.at -ℤ pos 1) c.before d.before (subst (λ (u : ℤ). TypeAt z (u -ℤ pos 1) c.before) same a.before) b.before)
-    (type_once z d.at c.after d.after (subst (λ (u : ℤ). TypeAt z u c.after) same a.after) b.after)
+    (type_once z _ _ _ (subst (λ u. TypeAt z (u -ℤ pos 1) c.before) same a.before) b.before)
+    (type_once z _ _ _ (subst (λ u. TypeAt z u c.after) same a.after) b.after)
 
 -- ---- the nearest one
 each_way : (w : Bool) (x y : ℤ) → Precedes w x y → Precedes w y x → x ≡ y
-each_way true x y h k = omega (arith, ints)
-each_way false x y h k = omega (arith, ints)
+each_way true x y h k = omega linear
+each_way false x y h k = omega linear
 
 pub one_nearest : (w : Bool) (z : Zone) (within : ℤ → Type 0) (a b : Option Change) → IsNearest w (TypeAt z) within a → IsNearest w (TypeAt z) within b → a ≡ b
-one_nearest w z within None None h k = refl
-one_nearest w z within None (Some d) h k = absurd (h d k.is k.inside)
-one_nearest w z within (Some c) None h k = absurd (k c h.is h.inside)
+one_nearest w z _ None None h k = refl
+one_nearest w z within None (Some d) h k = grind linear
+one_nearest w z within (Some c) None h k = grind linear
 one_nearest w z within (Some c) (Some d) h k = ap Some (one_change z c d h.is k.is
-    (each_way w c.at d.at (h.nearest d k.is k.inside) (k.nearest c h.is h.inside)))
+    (each_way w _ _ (h.nearest d k.is k.inside) (k.nearest c h.is h.inside)))
 
 -- ---- lists
 abbrev Rise : List Change → Type 0
@@ -34,41 +34,41 @@ at_front : (c : Change) (cs : List Change) → Contains (c ∷ cs) c
 at_front c cs = (0, omega arith, refl)
 
 later : (c d : Change) (cs : List Change) → Rise (c ∷ cs) → Contains cs d → c.at <ℤ d.at
-later c d cs rise h = subst (λ (x : Change). c.at <ℤ x.at) h.2 (rise 0 (suc h.0) d (omega arith) (omega (arith, h.1)))
+later c d cs rise h = subst (λ x. c.at <ℤ x.at) h.2 (rise 0 (suc h.0) d (omega arith) (omega arith))
 
 not_before : (c d : Change) (cs : List Change) → Rise (c ∷ cs) → Contains (c ∷ cs) d → c.at ≤ℤ d.at
-not_before c d cs rise (zero, l, same) = subst (λ (x : Change). c.at ≤ℤ x.at) same (omega (arith, ints))
-not_before c d cs rise (suc k, l, same) = let m = later c d cs rise (k, omega (arith, l), same) in omega (arith, ints, m)
+not_before c d cs rise (zero, l, same) = grind linear
+not_before c d cs rise (suc k, l, same) = let m = later c d cs rise (k, omega arith, same) in omega linear
 
 rest_rises : (c : Change) (cs : List Change) → Rise (c ∷ cs) → Rise cs
-rest_rises c cs rise = λ i j d l m. rise (suc i) (suc j) d (omega (arith, l)) (omega (arith, m))
+rest_rises c cs rise = λ i j d l m. rise (suc i) (suc j) d (omega arith) (omega arith)
 
 -- two lists with the same items and the same first item have the same rest
 rest_same : (c : Change) (cs ds : List Change) → Rise (c ∷ cs) → ((x : Change) → Contains (c ∷ cs) x → Contains (c ∷ ds) x) → (x : Change)
     → Contains cs x → Contains ds x
 rest_same c cs ds rise same x h = Contains-tail c ds x
-    (λ e. let l = subst (λ (y : Change). c.at <ℤ y.at) (sym e) (later c x cs rise h) in absurd (omega (arith, ints, l)))
+    (λ e. let l = subst (λ y. c.at <ℤ y.at) (sym e) (later c x cs rise h) in omega linear)
     (same x (Contains-append_right (c ∷ []) cs x h))
 
 one_list : (z : Zone) (a b : List Change) → Rise a → Rise b → ((c : Change) → Contains a c → IsChange (TypeAt z) c)
     → ((c : Change) → Contains b c → IsChange (TypeAt z) c)
     → ((c : Change) → Contains a c → Contains b c) → ((c : Change) → Contains b c → Contains a c) → a ≡ b
 one_list z [] [] p q are_a are_b to from = refl
-one_list z [] (d ∷ ds) p q are_a are_b to from = let h = from d (at_front d ds) in absurd (omega (arith, h.1))
-one_list z (c ∷ cs) [] p q are_a are_b to from = let h = to c (at_front c cs) in absurd (omega (arith, h.1))
+one_list z [] (d ∷ ds) p q are_a are_b to from = let h = from d (at_front d ds) in absurd (omega arith)
+one_list z (c ∷ cs) [] p q are_a are_b to from = let h = to c (at_front c cs) in absurd (omega arith)
 one_list z (c ∷ cs) (d ∷ ds) p q are_a are_b to from =
     let l = not_before d c ds q (to c (at_front c cs)) in
     let m = not_before c d cs p (from d (at_front d ds)) in
-    let same : c ≡ d = one_change z c d (are_a c (at_front c cs)) (are_b d (at_front d ds)) (omega (arith, ints, l, m)) in
-    let to' = subst (λ (x : Change). (y : Change) → Contains (c ∷ cs) y → Contains (x ∷ ds) y) (sym same) to in
-    let from' = subst (λ (x : Change). (y : Change) → Contains (x ∷ ds) y → Contains (c ∷ cs) y) (sym same) from in
-    let q' = subst (λ (x : Change). Rise (x ∷ ds)) (sym same) q in
-    let rest : cs ≡ ds = one_list z cs ds (rest_rises c cs p) (rest_rises c ds q') (λ x h. are_a x (Contains-append_right (c ∷ []) cs x h))
+    let same = one_change z c d (are_a c (at_front c cs)) (are_b d (at_front d ds)) (omega linear) in
+    let to' = subst (λ x. (y : Change) → Contains (c ∷ cs) y → Contains (x ∷ ds) y) (sym same) to in
+    let from' = subst (λ x. (y : Change) → Contains (x ∷ ds) y → Contains (c ∷ cs) y) (sym same) from in
+    let q' = subst (λ x. Rise (x ∷ ds)) (sym same) q in
+    let rest = one_list z cs ds (rest_rises c cs p) (rest_rises c ds q') (λ x h. are_a x (Contains-append_right (c ∷ []) cs x h))
     (λ x h. are_b x (Contains-append_right (d ∷ []) ds x h)) (rest_same c cs ds p to') (rest_same c ds cs q' from') in
     λ i. same i ∷ rest i
 
 pub one_list_of_changes : (z : Zone) (from until : ℤ) (a b : List Change) → AreChanges (TypeAt z) from until a → AreChanges (TypeAt z) from until b → a ≡ b
-one_list_of_changes z from until a b h k = one_list z a b h.rising k.rising
+one_list_of_changes z _ _ a b h k = one_list z a b h.rising k.rising
     (λ c inside. ((h.each c).0 inside).0)
     (λ c inside. ((k.each c).0 inside).0)
     (λ c inside. (k.each c).1 ((h.each c).0 inside))
@@ -77,21 +77,21 @@ one_list_of_changes z from until a b h k = one_list z a b h.rising k.rising
 -- the front of a list is the first change at or after its first second
 pub front_is_first : (z : Zone) (from until : ℤ) (c : Change) (cs : List Change) → AreChanges (TypeAt z) from until (c ∷ cs)
     → IsFirst (TypeAt z) (λ u. (from -ℤ pos 1) <ℤ u) (Some c)
-front_is_first z from until c cs h =
+front_is_first z _ until c cs h =
     let here = (h.each c).0 (at_front c cs) in
     let low = here.1.0 in
     record {
       is = here.0;
-      inside = omega (arith, ints, low);
+      inside = omega (linear, low);
       nearest = λ d is inside. by_lt_z {P = c.at ≤ℤ d.at} d.at until
-          (λ before. not_before c d cs h.rising ((h.each d).1 (is, (omega (arith, ints, inside), before))))
-          (λ from_on. let high = here.1.1 in omega (arith, ints, high, from_on));
+          (λ before. not_before c d cs h.rising ((h.each d).1 (is, (omega linear, before))))
+          (λ from_on. omega linear);
     }
 
 -- ---- the type before a gap
 pub one_type_before_gap : (z : Zone) (l : ℤ) (s t : LocalType) → IsTypeBeforeGap (TypeAt z) l s → IsTypeBeforeGap (TypeAt z) l t → s ≡ t
 one_type_before_gap z l s t a b =
-    let less = a.least b.first b.more in
-    let more = b.least a.first a.more in
-    let same : a.first ≡ b.first = omega (arith, ints, less, more) in
-    type_once z (b.first -ℤ pos 1) s t (subst (λ (u : ℤ). TypeAt z (u -ℤ pos 1) s) same a.before) b.before
+    let less = a.least _ b.more in
+    let more = b.least _ a.more in
+    let same : a.first ≡ b.first = omega linear in
+    type_once z _ s t (subst (λ u. TypeAt z (u -ℤ pos 1) s) same a.before) b.before

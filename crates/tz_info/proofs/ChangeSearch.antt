@@ -1,46 +1,46 @@
 -- The first and the last change among seconds, and in a stretch.
 use Rattle.std.specs.Bool.{Decides}
-use Rattle.tz_base.specs.contracts.local_time_type.LocalTimeTypePartialEq.TheImpl.{eq-value as type_eq}
-use Rattle.tz_info.proofs.Words.{Bool, Change, HasNoChange, IfSome, IsAhead, IsChange, IsIdle, IsInStretch, IsNearest, IsOneOf, IsStretchAhead, List, LocalType}
-use Rattle.tz_info.proofs.Words.{MatchOption, None, Option, Precedes, SFits, Some, arith, false, get_or, inl, inr, ints}
-use Rattle.tz_info.proofs.Words.{near_end, nearer_one, pos, refl, subst, suc, sym, true, type_exact, unsigned_abs, w64, zero, ℕ, ℤ, ⊎_elim, ◌+ℤ◌, ◌+◌, ◌-ℤ◌}
-use Rattle.tz_info.proofs.Words.{◌<ℤ◌, ◌∙◌, ◌↔◌, ◌≡◌, ◌≢◌, ◌≤ℤ◌, ◌⊎◌}
+use Rattle.tz_info.proofs.{
+  Words.{Bool, Change, HasNoChange, IfSome, IsAhead, IsChange, IsIdle, IsInStretch, IsNearest, IsOneOf, IsStretchAhead, List, LocalType, MatchOption, None},
+  Words.{Option, Precedes, SFits, Some, arith, false, get_or, inl, inr, linear, near_end, nearer_one, pos, refl, subst, suc, sym, true, type_exact},
+  Words.{unsigned_abs, w64, zero, ℕ, ℤ, ⊎_elim, ◌+ℤ◌, ◌+◌, ◌-ℤ◌, ◌<ℤ◌, ◌↔◌, ◌∙◌, ◌≡◌, ◌≢◌, ◌≤ℤ◌, ◌⊎◌},
+}
 
 abbrev pub InForce : Type 1
 InForce = ℤ → LocalType → Type 0
 
 pub none_of : (f : InForce) (seconds : List ℤ) (after last : ℤ) → HasNoChange f (IsOneOf seconds 0 after last)
-none_of f seconds after last d is one = let b = one.below in omega arith
+none_of f _ _ _ d is one = omega arith
 
 -- one of the first n, or the one at place n
 one_more : (seconds : List ℤ) (n : ℕ) (after last u : ℤ) → IsOneOf seconds (n + 1) after last u
     → IsOneOf seconds n after last u ⊎ ((get_or seconds n (pos 0) ≡ u) × IsInStretch after last u)
-one_more seconds n after last u one = grind arith
+one_more _ n _ _ u one = grind arith
 
 one_still : (seconds : List ℤ) (n : ℕ) (after last u : ℤ) → IsOneOf seconds n after last u ⊎ ((get_or seconds n (pos 0) ≡ u) × IsInStretch after last u)
     → IsOneOf seconds (n + 1) after last u
-one_still seconds n after last u (inl one) = let b = one.below in record { place = one.place; below = omega arith; is = one.is; inside = one.inside }
+one_still _ n _ _ u (inl one) = record { place = one.place; below = omega arith; is = one.is; inside = one.inside }
 one_still seconds n after last u (inr here) = record { place = n; below = omega arith; is = here.0; inside = here.1 }
 
 -- the same changes, by other conditions
 pub nearest_moved : (w : Bool) (f g : InForce) (p q : ℤ → Type 0) (found : Option Change) → ((d : Change) → IsChange g d → q d.at → IsChange f d × p d.at)
     → ((d : Change) → IsChange f d → p d.at → IsChange g d × q d.at)
     → IsNearest w f p found → IsNearest w g q found
-nearest_moved w f g p q None to from h = λ d is k. let m = to d is k in h d m.0 m.1
+nearest_moved w f g p q None to from h = grind linear
 nearest_moved w f g p q (Some c) to from h = grind arith
 
 -- of the nearest change of some seconds and that of others the one that comes first is the nearest one of all
 pub nearest_either : (w : Bool) (f : InForce) (p q : ℤ → Type 0) (found other : Option Change) → IsNearest w f p found → IsNearest w f q other
     → IsNearest w f (λ u. p u ⊎ q u) (nearer_one w found other)
-nearest_either w f p q None None h k = λ d is. ⊎_elim (h d is) (k d is)
+nearest_either w f p q None None h k = grind linear
 nearest_either w f p q None (Some d) h k = record { is = k.is; inside = inr k.inside; nearest = λ e is. ⊎_elim (λ i. absurd (h e is i)) (k.nearest e is) }
 nearest_either w f p q (Some c) None h k = record { is = h.is; inside = inl h.inside; nearest = λ e is. ⊎_elim (h.nearest e is) (λ i. absurd (k e is i)) }
-nearest_either true f p q (Some c) (Some d) h k = grind (arith, ints)
-nearest_either false f p q (Some c) (Some d) h k = grind (arith, ints)
+nearest_either true f p q (Some c) (Some d) h k = grind linear
+nearest_either false f p q (Some c) (Some d) h k = grind linear
 
 precedes_itself : (w : Bool) (x y : ℤ) → x ≡ y → Precedes w x y
-precedes_itself true x y e = omega (arith, ints)
-precedes_itself false x y e = omega (arith, ints)
+precedes_itself true x y e = omega linear
+precedes_itself false x y e = omega linear
 
 -- one second, of which is known whether it has a change in the stretch
 abbrev pub IsAsked : InForce → ℤ → ℤ → ℤ → Option Change → Type 0
@@ -48,49 +48,49 @@ IsAsked f after last second other = MatchOption other (IsIdle f after last secon
 
 pub asked : (w : Bool) (f : InForce) (after last second : ℤ) (other : Option Change) → IsAsked f after last second other
     → IsNearest w f (λ u. (second ≡ u) × IsInStretch after last u) other
-asked w f after last second None h = λ d is k. h d is (sym k.0) k.1
-asked w f after last second (Some c) h = record { is = h.0; inside = (sym h.1, rw h.1 h.2); nearest = λ d is k. precedes_itself w c.at d.at (h.1 ∙ k.0) }
+asked w f _ _ _ None h = grind linear
+asked w f after last second (Some c) h = record { is = h.0; inside = (sym h.1, rw h.1 h.2); nearest = λ d is k. precedes_itself w _ _ (h.1 ∙ k.0) }
 
 -- one second more
 pub nearest_more : (w : Bool) (f : InForce) (seconds : List ℤ) (n : ℕ) (after last : ℤ) (found other : Option Change)
     → IsAsked f after last (get_or seconds n (pos 0)) other
     → IsNearest w f (IsOneOf seconds n after last) found → IsNearest w f (IsOneOf seconds (n + 1) after last) (nearer_one w found other)
-nearest_more w f seconds n after last found other told h =
-    nearest_moved w f f _ (IsOneOf seconds (n + 1) after last) (nearer_one w found other)
-    (λ d is k. (is, one_more seconds n after last d.at k))
-    (λ d is k. (is, one_still seconds n after last d.at k))
-    (nearest_either w f (IsOneOf seconds n after last) _ found other h (asked w f after last (get_or seconds n (pos 0)) other told))
+nearest_more w f _ n _ _ _ _ told h =
+    nearest_moved w f f _ _ _
+    (λ d is k. (is, one_more _ n _ _ _ k))
+    (λ d is k. (is, one_still _ n _ _ _ k))
+    (nearest_either w f _ _ _ _ h (asked w f _ _ _ _ told))
 
 -- the stretch ahead of a second
 pub in_ahead : (w : Bool) (begin s after last u : ℤ) → SFits w64 u → IsStretchAhead w begin s after last
     → IsInStretch after last u ↔ ((begin <ℤ u) × IsAhead w s u)
-in_ahead true begin s after last u fits e =
-    let l = e.0 (u -ℤ pos 1) in grind (arith, ints)
-in_ahead false begin s after last u fits e = let l = e.0 in grind arith
+in_ahead true _ s _ _ u fits e =
+    let l = e.0 (u -ℤ pos 1) in grind linear
+in_ahead false begin s after last u fits e = grind arith
 
 -- its nearest change is the nearest one ahead of the second, of those after `begin`
 pub nearest_ahead : (w : Bool) (f : InForce) (begin s after last : ℤ) (found : Option Change) → IsStretchAhead w begin s after last
     → IsNearest w f (IsInStretch after last) found → IsNearest w f (λ u. (begin <ℤ u) × IsAhead w s u) found
-nearest_ahead w f begin s after last found e = nearest_moved w f f (IsInStretch after last) (λ u. (begin <ℤ u) × IsAhead w s u) found
-    (λ d is k. (is, (in_ahead w begin s after last d.at is.fits e).1 k))
-    (λ d is k. (is, (in_ahead w begin s after last d.at is.fits e).0 k))
+nearest_ahead w f begin s _ _ _ e = nearest_moved w f f _ (λ u. (begin <ℤ u) × IsAhead w s u) _
+    (λ d is k. (is, (in_ahead w _ s _ _ _ is.fits e).1 k))
+    (λ d is k. (is, (in_ahead w _ s _ _ _ is.fits e).0 k))
 
 -- the seconds of a stretch are ahead of its near end, and so are those before a second of it
 ahead_within : (w : Bool) (after last u : ℤ) → IsInStretch after last u → IsAhead w (near_end w after last) u
-ahead_within true after last u k = k.0
+ahead_within true _ _ u k = k.0
 ahead_within false after last u k = k.1
 
 -- the nearest change ahead of a stretch's near end is its nearest one, if it lies in it
 pub nearest_within : (w : Bool) (f : InForce) (after last : ℤ) (found r : Option Change) → IsNearest w f (IsAhead w (near_end w after last)) found
     → MatchOption r (IfSome found (λ c. IsInStretch after last c.at → ⊥)) (λ c. IsInStretch after last c.at × (found ≡ Some c))
     → IsNearest w f (IsInStretch after last) r
-nearest_within w f after last None None h out = λ d is k. h d is (ahead_within w after last d.at k)
+nearest_within w f after _ None None h out = grind (linear, ahead_within)
 nearest_within w f after last (Some c) None h out = λ d is k. grind arith
 nearest_within w f after last found (Some c) h within = grind arith
 
 -- an empty stretch has none
 pub none_in_empty : (f : InForce) (after last : ℤ) → last ≤ℤ after → HasNoChange f (IsInStretch after last)
-none_in_empty f after last h d is k = let a = k.0 in let b = k.1 in omega (arith, ints)
+none_in_empty f _ _ h d is k = omega linear
 
 -- ---- the change at one second
 -- at each second one type is in force
@@ -101,16 +101,16 @@ pub change_made : (f : InForce) (second : ℤ) (s t : LocalType) (r : Option Cha
     → f (second -ℤ pos 1) s → f second t
     → MatchOption r (s ≡ t) (λ c. (s ≢ t) × (c ≡ record { at = second; before = s; after = t }))
     → MatchOption r (HasNoChange f (λ u. u ≡ second)) (λ c. IsChange f c × (c.at ≡ second))
-change_made f second s t None once fits fits_before h k e = grind arith
+change_made f _ s t None once fits fits_before h k e = grind arith
 change_made f second s t (Some c) once fits fits_before h k e =
     rw e.1 (record { fits = fits; fits_before = fits_before; before = h; after = k; differ = e.0 }, refl)
 
 -- no type is in force a second before, or at the second
 pub none_before : (f : InForce) (second : ℤ) → ((t : LocalType) → f (second -ℤ pos 1) t → ⊥) → HasNoChange f (λ u. u ≡ second)
-none_before f second without d is at = without d.before (rw at at is.before)
+none_before f _ without d is at = grind (linear, at)
 
 pub none_here : (f : InForce) (second : ℤ) → ((t : LocalType) → f second t → ⊥) → HasNoChange f (λ u. u ≡ second)
-none_here f second without d is at = without d.after (rw at at is.after)
+none_here f _ without d is at = grind (linear, at)
 
 -- ---- without a change the type stays
 -- some type is in force at the second
@@ -119,11 +119,11 @@ Typed f u = (t : LocalType) × f u t
 
 pub decided : (P : Type 0) (b : Bool) → Decides b P → P ⊎ (P → ⊥)
 decided P true d = inl (d.0 refl)
-decided P false d = inr (λ p. let e = d.1 p in cc)
+decided P false d = grind linear
 
 -- from one second to the next
 step_up : (f : InForce) (v w : ℤ) (s t : LocalType) → v ≡ w -ℤ pos 1 → SFits w64 v → SFits w64 w → HasNoChange f (λ x. x ≡ w) → f v s → f w t → s ≡ t
-step_up f v w s t e fits fits_next none h k = elim (decided (s ≡ t) (type_eq.it s t) (type_exact s t)) [
+step_up f v w s t e fits fits_next none h k = elim (decided _ _ (type_exact s t)) [
   | inl same ↦ same
   | inr differ ↦
       let c : Change = record { at = w; before = s; after = t } in
@@ -133,15 +133,15 @@ step_up f v w s t e fits fits_next none h k = elim (decided (s ≡ t) (type_eq.i
 -- n seconds later
 steps_up : (f : InForce) (u v : ℤ) (t : LocalType) (n : ℕ) → v ≡ u +ℤ pos n → SFits w64 u → SFits w64 v → HasNoChange f (λ w. (u <ℤ w) × (w ≤ℤ v))
     → ((w : ℤ) → u ≤ℤ w → w ≤ℤ v → Typed f w) → f u t → f v t
-steps_up f u v t zero e fits fits_end none typed h = let same : u ≡ v = omega (arith, ints) in subst (λ w. f w t) same h
+steps_up f u v t zero e fits fits_end none typed h = grind linear
 steps_up f u v t (suc n) e fits fits_end none typed h =
-    let fits_n : SFits w64 (v -ℤ pos 1) = omega (arith, ints) in
-    let before = steps_up f u (v -ℤ pos 1) t n (omega (arith, ints)) fits fits_n (λ d is k. let a = k.0 in let b = k.1 in
-    none d is (a, omega (arith, ints))) (λ w low high. typed w low (omega (arith, ints))) h in
-    let next = typed v (omega (arith, ints)) (omega (arith, ints)) in
-    let same = step_up f (v -ℤ pos 1) v t next.0 refl fits_n fits_end (λ d is k. none d is (omega (arith, ints), omega (arith, ints))) before next.1 in
+    let fits_n : SFits w64 (v -ℤ pos 1) = omega linear in
+    let before = steps_up f u (v -ℤ pos 1) t n (omega linear) fits fits_n (λ d is k. let a = k.0 in none d is (a, omega linear))
+    (λ w low high. typed w low (omega linear)) h in
+    let next = typed v (omega linear) (omega linear) in
+    let same = step_up f _ v t _ refl fits_n fits_end (λ d is k. none d is (omega linear, omega linear)) before next.1 in
     subst (f v) (sym same) next.1
 
 pub stays : (f : InForce) (u v : ℤ) (t : LocalType) → SFits w64 u → SFits w64 v → u ≤ℤ v → HasNoChange f (λ w. (u <ℤ w) × (w ≤ℤ v))
     → ((w : ℤ) → u ≤ℤ w → w ≤ℤ v → Typed f w) → f u t → f v t
-stays f u v t fits fits_end h none typed k = steps_up f u v t (unsigned_abs (v -ℤ u)) (omega (arith, ints)) fits fits_end none typed k
+stays f u v t fits fits_end h none typed k = steps_up f u v t (unsigned_abs (v -ℤ u)) (omega linear) fits fits_end none typed k

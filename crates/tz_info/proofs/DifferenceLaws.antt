@@ -1,8 +1,11 @@
 -- The differences of two zones, from one pair of types to the next.
-use Rattle.tz_info.proofs.Words.{AreDifferences, AreListedTo, Contains, Contains-append_left, Contains-get_or, Contains-push, Contains-push_cases, Difference}
-use Rattle.tz_info.proofs.Words.{IsDifference, IsInDifference, IsListedIf, IsPairUntil, IsRunUntil, List, LocalType, TypeAt, Zone, all_pairs_push, arith}
-use Rattle.tz_info.proofs.Words.{by_lt_z, get_or, inl, inr, ints, pos, refl, subst, sym, ℤ, [], ◌-ℤ◌, ◌<ℤ◌, ◌∙◌, ◌∷◌, ◌≡◌, ◌≢◌, ◌≤ℤ◌}
-use Rattle.tz_info.proofs.{ChangeSearch.{InForce}, ZoneLaws.{type_once}}
+use Rattle.tz_info.proofs.{
+  ChangeSearch.{InForce},
+  Words.{AreDifferences, AreListedTo, Contains, Contains-append_left, Contains-get_or, Contains-push, Contains-push_cases, Difference, IsDifference},
+  Words.{IsInDifference, IsListedIf, IsPairUntil, IsRunUntil, List, LocalType, TypeAt, Zone, [], all_pairs_push, by_lt_z, get_or, inl, inr, linear, pos, subst},
+  Words.{sym, ℤ, ◌-ℤ◌, ◌<ℤ◌, ◌∙◌, ◌∷◌, ◌≡◌, ◌≢◌, ◌≤ℤ◌},
+  ZoneLaws.{type_once},
+}
 
 -- ---- two that share a second are the same
 abbrev made : ℤ → ℤ → LocalType → LocalType → Difference
@@ -11,67 +14,63 @@ made u v s t = record { from = u; until = v; old = s; new = t }
 the_same : (u v a b : ℤ) (s t m n : LocalType) → u ≡ a → v ≡ b → s ≡ m → t ≡ n → made u v s t ≡ made a b m n
 the_same u v a b s t m n e g h k = cc
 
-not_earlier : (z w : Zone) (from until u : ℤ) (d e : Difference) → IsDifference (TypeAt z) (TypeAt w) from until d
-    → IsDifference (TypeAt z) (TypeAt w) from until e
-    → d.old ≡ e.old → d.new ≡ e.new → IsInDifference u d → IsInDifference u e → d.from ≤ℤ e.from
-not_earlier z w from until u d e h k old new i j = by_lt_z e.from d.from
-    (λ less.
-    let low = k.low in let in_d = i.0 in let in_e = j.1 in
-    let types = k.each (d.from -ℤ pos 1) (omega (arith, ints)) (omega (arith, ints)) in
-    absurd (h.begins (omega (arith, ints)) (subst (TypeAt z (d.from -ℤ pos 1)) (sym old) types.0) (subst (TypeAt w (d.from -ℤ pos 1)) (sym new) types.1)))
-    (λ m. m)
+-- two differences of the same zones that share a second
+module _ (z w : Zone) (from until u : ℤ) (d e : Difference) (h : IsDifference (TypeAt z) (TypeAt w) from until d)
+    (k : IsDifference (TypeAt z) (TypeAt w) from until e) (old : d.old ≡ e.old) (new : d.new ≡ e.new) (i : IsInDifference u d) (j : IsInDifference u e) where
+  not_earlier : d.from ≤ℤ e.from
+  not_earlier = by_lt_z e.from d.from
+      (λ less.
+      let types = k.each (d.from -ℤ pos 1) (omega linear) (omega linear) in
+      absurd (h.begins (omega linear) (subst (TypeAt z (d.from -ℤ pos 1)) (sym old) types.0) (subst (TypeAt w (d.from -ℤ pos 1)) (sym new) types.1)))
+      (λ m. m)
 
-not_later : (z w : Zone) (from until u : ℤ) (d e : Difference) → IsDifference (TypeAt z) (TypeAt w) from until d
-    → IsDifference (TypeAt z) (TypeAt w) from until e
-    → d.old ≡ e.old → d.new ≡ e.new → IsInDifference u d → IsInDifference u e → e.until ≤ℤ d.until
-not_later z w from until u d e h k old new i j = by_lt_z d.until e.until
-    (λ less.
-    let high = k.high in let in_d = i.1 in let in_e = j.0 in
-    let types = k.each d.until (omega (arith, ints)) less in
-    absurd (h.ends (omega (arith, ints)) (subst (TypeAt z d.until) (sym old) types.0) (subst (TypeAt w d.until) (sym new) types.1)))
-    (λ m. m)
+  not_later : e.until ≤ℤ d.until
+  not_later = by_lt_z d.until e.until
+      (λ less.
+      let types = k.each d.until (omega linear) less in
+      absurd (h.ends (omega linear) (subst (TypeAt z d.until) (sym old) types.0) (subst (TypeAt w d.until) (sym new) types.1)))
+      (λ m. m)
 
 equal : (u v : ℤ) → u ≤ℤ v → v ≤ℤ u → u ≡ v
-equal u v h k = omega (arith, ints)
+equal u v h k = omega linear
 
 pub one_difference : (z w : Zone) (from until u : ℤ) (d e : Difference) → IsDifference (TypeAt z) (TypeAt w) from until d
     → IsDifference (TypeAt z) (TypeAt w) from until e
     → IsInDifference u d → IsInDifference u e → d ≡ e
-one_difference z w from until u d e h k i j =
+one_difference z w _ _ u d e h k i j =
     let types = h.each u i.0 i.1 in
     let others = k.each u j.0 j.1 in
-    let old = type_once z u d.old e.old types.0 others.0 in
-    let new = type_once w u d.new e.new types.1 others.1 in
-    the_same d.from d.until e.from e.until d.old d.new e.old e.new
-    (equal d.from e.from (not_earlier z w from until u d e h k old new i j) (not_earlier z w from until u e d k h (sym old) (sym new) j i))
-    (equal d.until e.until (not_later z w from until u e d k h (sym old) (sym new) j i) (not_later z w from until u d e h k old new i j)) old new
+    let old = type_once z u _ _ types.0 others.0 in
+    let new = type_once w u _ _ types.1 others.1 in
+    the_same _ _ _ _ _ _ _ _
+    (equal _ _ (not_earlier z w _ _ u d e h k old new i j) (not_earlier z w _ _ u e d k h (sym old) (sym new) j i))
+    (equal _ _ (not_later z w _ _ u e d k h (sym old) (sym new) j i) (not_later z w _ _ u d e h k old new i j)) old new
 
 -- ---- both zones keep their types
 pub pair_until : (f g : InForce) (at limit own end : ℤ) → IsRunUntil f at limit own → IsRunUntil g at own end → IsPairUntil f g at limit end
-pair_until f g at limit own end one other = grind (arith, ints)
+pair_until f g at _ own end one other = grind linear
 
 -- ---- from pair to pair
 -- the pair of two seconds
 turned_at : (z w : Zone) (from until at end : ℤ) (s t : LocalType) → IsPairUntil (TypeAt z) (TypeAt w) at until end → TypeAt z at s → TypeAt w at t
     → end <ℤ until → (m n : LocalType) → TypeAt z end m → TypeAt w end n → TypeAt z (end -ℤ pos 1) m → TypeAt w (end -ℤ pos 1) n → ⊥
-turned_at z w from until at end s t pair h k less m n a b c d =
-    let same : m ≡ s = type_once z (end -ℤ pos 1) m s c (pair.one (end -ℤ pos 1) (omega (arith, ints)) (omega (arith, ints)) s h) in
-    let same_other : n ≡ t = type_once w (end -ℤ pos 1) n t d (pair.other (end -ℤ pos 1) (omega (arith, ints)) (omega (arith, ints)) t k) in
+turned_at z w _ _ at end s t pair h k less m n a b c d =
+    let same = type_once z _ m s c (pair.one (end -ℤ pos 1) (omega linear) (omega linear) s h) in
+    let same_other = type_once w _ n t d (pair.other (end -ℤ pos 1) (omega linear) (omega linear) t k) in
     pair.turns less s t h k (subst (TypeAt z end) same a) (subst (TypeAt w end) same_other b)
 
 -- what is made of a pair that differs
 is_difference : (z w : Zone) (from until at end : ℤ) (s t : LocalType) (ds : List Difference) → AreListedTo (TypeAt z) (TypeAt w) from until at ds
     → IsPairUntil (TypeAt z) (TypeAt w) at until end
     → TypeAt z at s → TypeAt w at t → s ≢ t → IsDifference (TypeAt z) (TypeAt w) from until (made at end s t)
-is_difference z w from until at end s t ds h pair k l differ =
-    let later = pair.later in let most = pair.most in
+is_difference z w _ _ at end s t ds h pair k l differ =
     record {
       low = h.reached;
       some = pair.later;
       high = pair.most;
       differ = differ;
       each = λ u low high. (pair.one u low high s k, pair.other u low high t l);
-      begins = λ less m n. h.turned less (omega (arith, ints)) s t k l m n;
+      begins = λ less m n. h.turned less (omega linear) s t k l m n;
       ends = λ less m n. pair.turns less s t k l m n;
     }
 
@@ -79,28 +78,28 @@ pub listed_more : (z w : Zone) (from until at end : ℤ) (s t : LocalType) (ds e
     → IsPairUntil (TypeAt z) (TypeAt w) at until end
     → TypeAt z at s → TypeAt w at t → IsListedIf ds (made at end s t) es → AreListedTo (TypeAt z) (TypeAt w) from until end es
 listed_more z w from until at end s t ds es h pair k l (inl (same, is)) =
-    let later = pair.later in let reached = h.reached in
+    let reached = h.reached in
     rw is (record {
-      reached = omega (arith, ints);
+      reached = omega linear;
       rising = h.rising;
-      each = λ d inside. let e = h.each d inside in let b = e.1 in (e.0, omega (arith, ints));
+      each = λ d inside. let e = h.each d inside in let b = e.1 in (e.0, omega linear);
       covered = λ u m n low high a b differ. by_lt_z u at
           (λ less. h.covered u m n low less a b differ)
           (λ more.
           let one = type_once z u m s a (pair.one u more high s k) in
           let other = type_once w u n t b (pair.other u more high t l) in
           absurd (differ (one ∙ same ∙ sym other)));
-      turned = λ _ less m n a b c d. turned_at z w from until at end s t pair k l less m n a b c d;
+      turned = λ _ less m n a b c d. turned_at z w from _ at end s t pair k l less m n a b c d;
     })
 listed_more z w from until at end s t ds es h pair k l (inr (differ, is)) =
-    let later = pair.later in let reached = h.reached in
-    let new = is_difference z w from until at end s t ds h pair k l differ in
+    let reached = h.reached in
+    let new = is_difference z w _ _ at end s t ds h pair k l differ in
     rw is (record {
-      reached = omega (arith, ints);
+      reached = omega linear;
       rising = all_pairs_push (λ d e. d.until ≤ℤ e.from) ds (made at end s t) h.rising (λ i d below. (h.each (get_or ds i d) (Contains-get_or ds i d below)).1);
       each = λ d inside. elim (Contains-push_cases ds (made at end s t) d inside) [
-        | inl earlier ↦ let e = h.each d earlier in let b = e.1 in (e.0, omega (arith, ints))
-        | inr same ↦ subst (λ (x : Difference). IsDifference (TypeAt z) (TypeAt w) from until x × (x.until ≤ℤ end)) same (new, omega (arith, ints))
+        | inl earlier ↦ let e = h.each d earlier in let b = e.1 in (e.0, omega linear)
+        | inr same ↦ subst (λ (x : Difference). IsDifference (TypeAt z) (TypeAt w) from until x × (x.until ≤ℤ end)) same (new, omega linear)
       ];
       covered = λ u m n low high a b apart. by_lt_z u at
           (λ less. let d = h.covered u m n low less a b apart in (d.0, Contains-append_left ds (made at end s t ∷ []) d.0 d.1, d.2))
@@ -110,22 +109,21 @@ listed_more z w from until at end s t ds es h pair k l (inr (differ, is)) =
 
 -- a pair that begins at the second `at`
 pub listed_pair : (ds es : List Difference) (d : Difference) (at : ℤ) → d.from ≡ at → IsListedIf ds d es → IsListedIf ds (made at d.until d.old d.new) es
-listed_pair ds es d at from h =
-    subst (λ (x : Difference). IsListedIf ds x es) (the_same d.from d.until at d.until d.old d.new d.old d.new from refl refl refl) h
+listed_pair ds es d at from h = grind (linear, the_same, at)
 
 -- at the end of the window all are listed
 pub all_listed : (z w : Zone) (from until at : ℤ) (ds : List Difference) → AreListedTo (TypeAt z) (TypeAt w) from until at ds → until ≤ℤ at
     → AreDifferences (TypeAt z) (TypeAt w) from until ds
-all_listed z w from until at ds h over = record {
+all_listed z w _ _ at ds h over = record {
   rising = h.rising;
   each = λ d. (
     λ inside. (h.each d inside).0,
     λ is.
         let some = is.some in let high = is.high in
-        let types = is.each d.from (omega (arith, ints)) some in
-        let found = h.covered d.from d.old d.new is.low (omega (arith, ints)) types.0 types.1 is.differ in
-        let same = one_difference z w from until d.from found.0 d (h.each found.0 found.1).0 is found.2 (omega (arith, ints), some) in
+        let types = is.each d.from (omega linear) some in
+        let found = h.covered d.from d.old d.new is.low (omega linear) types.0 types.1 is.differ in
+        let same = one_difference z w _ _ _ _ d (h.each found.0 found.1).0 is found.2 (omega linear, some) in
         subst (Contains ds) same found.1,
   );
-  covered = λ u s t low high. h.covered u s t low (omega (arith, ints));
+  covered = λ u s t low high. h.covered u s t low (omega linear);
 }

@@ -5,20 +5,20 @@ use Rattle.tz_info.proofs.SearchWords.{ap, arith, digits, digits_within, refl, s
 enough : (f g m : ℕ) → m ≤ f → m ≤ g → digits_within f m ≡ digits_within g m
 enough zero zero m h k = refl
 enough zero (suc g) zero h k = refl
-enough zero (suc g) (suc m) h k = absurd (omega arith)
+enough zero (suc g) (suc m) h k = omega arith
 enough (suc f) zero zero h k = refl
-enough (suc f) zero (suc m) h k = absurd (omega arith)
+enough (suc f) zero (suc m) h k = omega arith
 enough (suc f) (suc g) zero h k = refl
-enough (suc f) (suc g) (suc m) h k = ap suc (enough f g (suc m / 2) (omega arith) (omega arith))
+enough (suc f) (suc g) (suc m) h k = ap suc (enough f g _ (omega arith) (omega arith))
 
 pub digits-half : (m : ℕ) → digits (suc m) ≡ suc (digits (suc m / 2))
 unfolding digits
-digits-half m = ap suc (enough m (suc m / 2) (suc m / 2) (omega arith) (omega arith))
+digits-half m = ap suc (enough m _ _ (omega arith) (omega arith))
 
 within_more : (f m n : ℕ) → m ≤ n → digits_within f m ≤ digits_within f n
 within_more zero m n h = omega arith
 within_more (suc f) zero n h = omega arith
-within_more (suc f) (suc m) zero h = absurd (omega arith)
+within_more (suc f) (suc m) zero h = omega arith
 within_more (suc f) (suc m) (suc n) h = let k = within_more f (suc m / 2) (suc n / 2) (omega arith) in omega arith
 
 pub digits-more : (m n : ℕ) → m ≤ n → digits m ≤ digits n
@@ -27,8 +27,8 @@ digits-more m n h = let e = enough m n m (omega arith) h in let k = within_more 
 
 -- half or less has a digit less
 pub digits-less : (m n : ℕ) → 0 < n → m ≤ n / 2 → digits m + 1 ≤ digits n
-digits-less m zero p h = absurd (omega arith)
-digits-less m (suc n) p h = let e = digits-half n in let k = digits-more m (suc n / 2) h in omega arith
+digits-less m zero p h = omega arith
+digits-less m (suc n) p h = let e = digits-half n in let k = digits-more m _ h in omega arith
 
 within-le : (f m : ℕ) → digits_within f m ≤ f
 within-le zero m = omega arith

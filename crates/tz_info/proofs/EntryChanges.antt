@@ -1,27 +1,29 @@
 -- What a zone's entries say of it: the types in force, the clock changes, and the spans between them.
-use Rattle.tz_info.proofs.Words.{AreRising, Change, HasNoChange, HasType, IsChange, IsFirst, IsFirstChange, IsFromLast, IsInTable, IsLast, IsLastChange}
-use Rattle.tz_info.proofs.Words.{IsLeapTime}
-use Rattle.tz_info.proofs.Words.{IsSpanAt, IsTrue, IsValid, List, LocalType, MatchOption, None, Option, SFits, Some, Transition, TypeAt, Zone, ap, arith}
-use Rattle.tz_info.proofs.Words.{begin_of, by_lt_z, cases_lt}
-use Rattle.tz_info.proofs.Words.{correction_at, get_or, index_of, inl, inr, ints, leap_time_at, least_time, length, passed, pos, refl, segment_of, slice_get}
-use Rattle.tz_info.proofs.Words.{suc, sym, take, w64, zero, ℕ, ℤ, [], ◌+ℤ◌, ◌+◌, ◌-ℤ◌, ◌-◌, ◌<ℤ◌, ◌<◌, ◌↔◌, ◌∙◌, ◌≡◌, ◌≤ℤ◌, ◌≤◌}
-use Rattle.tz_info.proofs.SegmentLaws.{begin_next, come_at_time, come_by_time, index_next, not_later, place_before, place_begin, place_most, segment_most}
-use Rattle.tz_info.proofs.SegmentLaws.{split_at, split_count}
-use Rattle.tz_base.specs.{declared.error.Error.TheVariants.{FindLocalTimeType}, declared.error.Expected.TheVariants.{YearThatRuleAnswersIn}}
-use Rattle.tz_info.proofs.Words.{Err, Error, IsBeforeLast, IsRefusedBy, MatchResult, Ok, Result, RuleOrElse, RuleOrType, TransitionRule, TypeAtLeapTime, false}
-use Rattle.tz_info.proofs.Words.{index_at, true}
-use Rattle.tz_info.proofs.Words.{AreLeapSeconds, Counts, IsLastOf, IsNear, RoseWithin, LeapSecond, digits, digits-more, length-take, nat_tests, ◌==◌, ◌∷◌}
-use Rattle.tz_info.proofs.Prefixes.{last_taken}
-use Rattle.tz_info.proofs.{LeapOrder.{leap_times_answer}, TableSearch.{search_found}, ZoneChanges.{out_before, out_from, refused_on, time_of}}
-use Rattle.tz_info.proofs.{ZoneLaws.{before_or_from_last, inside_listed, last_index_below, leap_time_decided}}
-use Rattle.tz_info.specs.Steps.Entries.{AreEntries, Entries, HaveComeAt, IsBetween, IsCome, IsEntryChange, last_index, most_looks}
-use Rattle.tz_info.specs.declared.zone.made.change_table.{Between.{Between}, Come.{Come}}
+use Rattle.tz_base.specs.declared.error.{Error.TheVariants.{FindLocalTimeType}, Expected.TheVariants.{YearThatRuleAnswersIn}}
+use Rattle.tz_info.proofs.{
+  LeapOrder.{leap_times_answer},
+  Prefixes.{last_taken},
+  SegmentLaws.{begin_next, come_at_time, come_by_time, index_next, not_later, place_before, place_begin, place_most, segment_most, split_at, split_count},
+  TableSearch.{search_found},
+  Words.{AreLeapSeconds, AreRising, Change, Counts, Err, Error, HasNoChange, HasType, IsBeforeLast, IsChange, IsFirst, IsFirstChange, IsFromLast, IsInTable},
+  Words.{IsLast, IsLastChange, IsLastOf, IsLeapTime, IsNear, IsRefusedBy, IsSpanAt, IsTrue, IsValid, LeapSecond, List, LocalType, MatchOption, MatchResult},
+  Words.{None, Ok, Option, Result, RoseWithin, RuleOrElse, RuleOrType, SFits, Some, Transition, TransitionRule, TypeAt, TypeAtLeapTime, Zone, [], ap, arith},
+  Words.{begin_of, by_lt_z, cases_lt, correction_at, digits, digits-more, false, get_or, index_of, inl, inr, leap_time_at, least_time, length, length-take},
+  Words.{linear, passed, pos, refl, segment_of, slice_get, suc, sym, take, true, w64, zero, ℕ, ℤ, ◌+ℤ◌, ◌+◌, ◌-ℤ◌, ◌-◌, ◌<ℤ◌, ◌<◌, ◌==◌, ◌↔◌, ◌∙◌, ◌∷◌, ◌≡◌},
+  Words.{◌≤ℤ◌, ◌≤◌},
+  ZoneChanges.{out_before, out_from, refused_on, time_of},
+  ZoneLaws.{before_or_from_last, inside_listed, last_index_below, leap_time_decided},
+}
+use Rattle.tz_info.specs.{
+  Steps.Entries.{AreEntries, Entries, HaveComeAt, IsBetween, IsCome, IsEntryChange, last_index, most_looks},
+  declared.zone.made.change_table.{Between.{Between}, Come.{Come}},
+}
 
 abbrev count_at : Entries → ℤ → ℕ
 count_at e u = length (passed e.items u)
 
 count_most : (e : Entries) (u : ℤ) → AreRising e.items → count_at e u ≤ length e.items
-count_most e u rising = place_most e.items u rising
+count_most e u rising = place_most _ u rising
 
 some_same : {a b : LocalType} → Some a ≡ Some b → a ≡ b
 some_same e = cc
@@ -29,13 +31,13 @@ some_same e = cc
 -- an entry is among those that have come if and only if its time has
 come_by : (e : Entries) (k : ℕ) (d : Transition) (u : ℤ) → AreRising e.items → k < length e.items
     → (k < count_at e u) ↔ ((get_or e.items k d).unix_leap_time ≤ℤ u)
-come_by e k d u rising h = let c = come_by_time e.items u k d rising h in ((λ l. c.0 (omega arith)), (λ l. let q = c.1 l in omega arith))
+come_by e k d u rising h = grind (linear, come_by_time)
 
 pub index_there : (e : Entries) (u : ℤ) → AreRising e.items → last_index (passed e.items u) ≡ index_of e.items (count_at e u)
 index_there e u rising =
-    let p = split_at e.items u rising in
-    let n = split_count e.items u p.0 p.1 in
-    let first : passed e.items u ≡ take (count_at e u) e.items = rw n (search_found e.items u p.0 p.0 (omega arith) p.1) in
+    let p = split_at _ u rising in
+    let n = split_count _ u p.0 p.1 in
+    let first : passed e.items u ≡ take (count_at e u) e.items = rw n (search_found _ u p.0 p.0 (omega arith) p.1) in
     ap (λ (s : List Transition). last_index s) first
 
 -- n entries have come if the last of them has and the next one hasn't
@@ -44,18 +46,17 @@ pub count_here : (ts : List Transition) (u : ℤ) (n : ℕ) → AreRising ts →
 count_here ts u n rising within since until = sym (split_count ts u n (record {
   ordered = omega arith;
   within = omega arith;
-  below = λ k d l. let m = not_later ts k (n - 1) d rising (omega arith) (omega arith) in let q = since d (omega arith) in omega (arith, ints);
-  above = λ k d a l. let m = not_later ts n k d rising a l in let q = until d (omega arith) in omega (arith, ints);
+  below = λ k d l. let m = not_later ts k (n - 1) d rising (omega arith) (omega arith) in let q = since d (omega arith) in omega linear;
+  above = λ k d a l. let m = not_later ts n k d rising a l in let q = until d (omega arith) in omega linear;
 }))
 
 pub none_passed : (ts : List Transition) (u : ℤ) → length ts ≡ 0 → 0 ≡ length (passed ts u)
-none_passed [] u none = refl
-none_passed (t ∷ ts) u none = absurd (omega arith)
+none_passed [] u _ = refl
+none_passed (t ∷ ts) u none = omega arith
 
 pub begin_at : (ts : List Transition) (k : ℕ) (d : Transition) → 0 < k → k ≤ length ts → (get_or ts (k - 1) d).unix_leap_time ≡ begin_of ts k
 begin_at ts zero d some within = absurd (omega arith)
-begin_at ts (suc k) d some within = let e : suc k ≡ k + 1 = omega arith in let p : suc k - 1 ≡ k = omega arith in
-    rw (e, begin_next ts k d (omega arith), ← e, p) refl
+begin_at ts (suc k) d some within = grind (linear, begin_next)
 
 -- ---- which seconds have a leap time
 pub own_time : (es : List LeapSecond) (u x : ℤ) → IsLeapTime es u x → IsLeapTime es u (u +ℤ correction_at es u)
@@ -73,16 +74,16 @@ have_come z e u c valid made fits l come =
       of_second = l;
       all = ((λ t. last.1 (come.all.0 t)), (λ q. come.all.1 (last.0 q)));
       named = made.named u (leap_time_at z u) fits l ∙ ap (λ i. slice_get z.types i) (sym come.index);
-      below = rw come.index (last_index_below e.items u 0 (length z.types) valid.some made.indexes);
+      below = rw come.index (last_index_below _ u 0 _ valid.some made.indexes);
     }
 
 -- some have not come
 pub at_entry : (z : Zone) (u : ℤ) (c : Come) (t : LocalType) → HaveComeAt z u c → c.are_all ≡ false → HasType z c.index t
     → TypeAtLeapTime z u (leap_time_at z u) t
-at_entry z u c t h not has = record { before_last = λ _. h.named ∙ has; from_last = λ q. let a = h.all.1 q in absurd (grind arith) }
+at_entry z u c t h not has = record { before_last = λ _. h.named ∙ has; from_last = λ q. grind arith }
 
 pub not_last : (z : Zone) (u : ℤ) (c : Come) → HaveComeAt z u c → c.are_all ≡ false → IsBeforeLast z (leap_time_at z u)
-not_last z u c h not = elim (before_or_from_last z (leap_time_at z u)) [ inl b ↦ b | inr q ↦ let a = h.all.1 q in absurd (grind arith) ]
+not_last z u c h not = grind (linear, before_or_from_last)
 
 or_same : (rule : Option TransitionRule) (z : Zone) (u : ℤ) (i j : ℕ) (t : LocalType) → slice_get z.types i ≡ slice_get z.types j
     → RuleOrElse rule u (HasType z j t) t → RuleOrElse rule u (HasType z i t) t
@@ -94,10 +95,9 @@ pub at_last : {T : Type 0} (view : T → LocalType) (z : Zone) (u : ℤ) (c : Co
     → MatchResult r (λ t. RuleOrType z u c.index (view t)) (λ e. (e ≡ FindLocalTimeType YearThatRuleAnswersIn) × IsRefusedBy z.rule u)
     → MatchResult r (λ t. TypeAtLeapTime z u (leap_time_at z u) (view t))
     (λ e. (e ≡ FindLocalTimeType YearThatRuleAnswersIn) × IsFromLast z (leap_time_at z u) × IsRefusedBy z.rule u)
-at_last view z u c (Ok t) h all k =
-    let last = h.all.0 (grind arith) in
-    record { before_last = λ q. absurd (omega arith); from_last = λ _. or_same z.rule z u (index_at z (leap_time_at z u)) c.index (view t) h.named k }
-at_last view z u c (Err e) h all k = (k.0, h.all.0 (grind arith), k.1)
+at_last _ z u c (Ok t) h all k =
+    record { before_last = λ q. absurd (omega arith); from_last = λ _. or_same _ z u _ _ _ h.named k }
+at_last view z u c (Err e) h all k = grind linear
 
 pub type_amid : (z : Zone) (e : Entries) (u x : ℤ) (n : ℕ) (t : LocalType) → AreEntries z e → SFits w64 u → IsLeapTime z.leaps u x
     → count_at e u ≡ n → n < e.all
@@ -123,7 +123,7 @@ amid_type z e u n t valid made fits some count more h =
     let seg = come_at_time z u x l in
     let before : length (passed z.transitions x) < length z.transitions = elim (cases_lt (length (passed z.transitions x)) (length z.transitions)) [
       | inl b ↦ b
-      | inr m ↦ let q = last.0 (omega arith) in absurd (omega arith)
+      | inr m ↦ omega arith
     ] in
     sym (made.named u x fits l ∙ ap (λ i. slice_get z.types i) (index_there e u made.rising) ∙ ap (λ k. slice_get z.types (index_of e.items k)) count)
     ∙ h.in_force.before_last before
@@ -132,12 +132,12 @@ amid_type z e u n t valid made fits some count more h =
 pub is_come : (e : Entries) (u : ℤ) (n : ℕ) (latest : Option Transition) (c : Come) → n ≤ length e.items
     → passed e.items u ≡ take n e.items → IsLastOf e.items n latest
     → MatchOption latest (c.index ≡ 0) (λ t. c.index ≡ t.type_index) → c.are_all ≡ (n == e.all) → IsCome e u c
-is_come e u n latest c within come last index all =
+is_come e u n _ c within come last index all =
     let many : length (passed e.items u) ≡ n = ap length come ∙ (simp length-take (omega arith)) in
     record {
-      all = rw (many, all) ((λ t. grind (arith, nat_tests)), (λ q. grind (arith, nat_tests)));
+      all = rw (many, all) ((λ t. grind arith), (λ q. grind arith));
       index = rw come
-          (named_by e.items n latest c.index within last index);
+          (named_by _ n _ _ within last index);
     }
   where
     named_by : (ts : List Transition) (n : ℕ) (latest : Option Transition) (i : ℕ) → n ≤ length ts → IsLastOf ts n latest
@@ -156,58 +156,18 @@ unfolding digits
 digits_one = refl
 
 pub rose_less : (a b : Counts) (m n p q : ℕ) → RoseWithin a b m p → m ≤ n → p ≤ q → RoseWithin a b n q
-rose_less a b m n p q rose less fewer = let most = rose.reads_most in let asked = rose.questions_most in record {
-  reads_kept = rose.reads_kept;
-  reads_most = omega arith;
-  questions_kept = rose.questions_kept;
-  questions_most = omega arith;
-  pieces_same = rose.pieces_same;
-}
+rose_less a b m n p q rose less fewer = grind linear
 
 pub rose_then : (a b c : Counts) (m n p q : ℕ) → RoseWithin a b m p → RoseWithin b c n q → RoseWithin a c (m + n) (p + q)
-rose_then a b c m n p q one two =
-    let k1 = one.reads_kept in let k2 = two.reads_kept in let m1 = one.reads_most in let m2 = two.reads_most in
-    let l1 = one.questions_kept in let l2 = two.questions_kept in let q1 = one.questions_most in let q2 = two.questions_most in
-    record {
-      reads_kept = omega arith;
-      reads_most = omega arith;
-      questions_kept = omega arith;
-      questions_most = omega arith;
-      pieces_same = two.pieces_same ∙ one.pieces_same;
-    }
+rose_then a b c m n p q one two = grind linear
 
 pub looks_most : (m n : ℕ) → 0 < n → m ≤ n → most_looks m ≤ digits n
-looks_most zero n some h = let k = digits-more 1 n some in let e = digits_one in omega arith
-looks_most (suc m) n some h = digits-more (suc m) n h
-
--- ---- how many have come at an entry's second, and just before it
-count_then : (e : Entries) (k : ℕ) (d : Transition) → AreRising e.items → k < length e.items → count_at e (get_or e.items k d).unix_leap_time ≡ k + 1
-count_then e k d rising h = rw (← begin_next e.items k d h) (place_begin e.items (k + 1) rising (omega arith) (omega arith))
-
-count_before : (e : Entries) (k : ℕ) (d : Transition) → AreRising e.items → k < length e.items → count_at e ((get_or e.items k d).unix_leap_time -ℤ pos 1) ≡ k
-count_before e k d rising h = let same : suc k ≡ k + 1 = omega arith in rw (← begin_next e.items k d h, ← same) (place_before e.items k rising h)
+looks_most zero n some h = grind (linear, digits-more, some, digits_one)
+looks_most (suc m) n some h = digits-more _ n h
 
 -- a second before one with a leap time has one
 earlier_time : (z : Zone) (u v y : ℤ) → IsValid z → u ≤ℤ v → IsLeapTime z.leaps v y → (x : ℤ) × IsLeapTime z.leaps u x
-earlier_time z u v y valid h l = elim (leap_time_decided z.leaps u) [ inl x ↦ x | inr r ↦ absurd (refused_on z.leaps u v y valid.leaps h r l) ]
-
--- ---- the change that an entry makes
-pub entry_change : (z : Zone) (e : Entries) (k : ℕ) (c : Change) → IsValid z → AreEntries z e → k < length e.items → k + 1 < e.all
-    → IsEntryChange z.types e.items k (Some c) → IsChange (TypeAt z) c
-entry_change z e k c valid made some more (at, fits, not_least, before, after) =
-    let d : Transition = record { unix_leap_time = c.at; type_index = 0 } in
-    let is = at d in
-    let (x, l) = made.leap_time k d some in
-    let l2 : IsLeapTime z.leaps c.at x = rw (← is) at l in
-    let fits_before : SFits w64 (c.at -ℤ pos 1) = omega (arith, ints) in
-    let (y, m) = earlier_time z (c.at -ℤ pos 1) c.at x valid (omega (arith, ints)) l2 in
-    record {
-      fits = fits;
-      fits_before = fits_before;
-      before = type_amid z e (c.at -ℤ pos 1) y k c.before made fits_before m (rw is (count_before e k d made.rising some)) (omega arith) before;
-      after = type_amid z e c.at x (k + 1) c.after made fits l2 (rw is (count_then e k d made.rising some)) more after;
-      differ = λ q. made.differ k some more (after ∙ sym (ap (λ (t : LocalType). Some t) q) ∙ sym before);
-    }
+earlier_time z u v y valid h l = elim (leap_time_decided z.leaps u) [ inl x ↦ x | inr r ↦ absurd (refused_on _ u v y valid.leaps h r l) ]
 
 -- a change before the last transition comes with an entry
 pub table_change : (z : Zone) (e : Entries) (d : Change) → IsValid z → AreEntries z e → IsChange (TypeAt z) d
@@ -217,12 +177,11 @@ table_change z e d valid made is table =
     let u = d.at -ℤ pos 1 in
     let m = count_at e u in let n = count_at e d.at in
     let some : 0 < length z.transitions = omega arith in
-    let l = time_of z u d.before some is.before in
-    let seg = come_at_time z u is.before.leap_time l in
+    let l = time_of z u _ some is.before in
+    let seg = come_at_time z u _ l in
     let last = made.come u is.before.leap_time is.fits_before l in
     let most = count_most e u made.rising in
     let most_n = count_most e d.at made.rising in
-    let more = made.more in
     let amid : m < e.all = elim (cases_lt m e.all) [ inl b ↦ b | inr b ↦ let q = last.1 (omega arith) in absurd (omega arith) ] in
     elim (cases_lt m n) [
       | inl b ↦ (
@@ -230,7 +189,7 @@ table_change z e d valid made is table =
         omega arith,
         λ t.
             let a = (come_by e m t d.at made.rising (omega arith)).0 b in
-            by_lt_z u (get_or e.items m t).unix_leap_time (λ q. omega (arith, ints))
+            by_lt_z u (get_or e.items m t).unix_leap_time (λ q. omega linear)
             (λ q. let r = (come_by e m t u made.rising (omega arith)).1 q in absurd (omega arith)),
       )
       | inr b ↦
@@ -238,7 +197,7 @@ table_change z e d valid made is table =
             | inl g ↦
                 let t : Transition = record { unix_leap_time = pos 0; type_index = 0 } in
                 let a = (come_by e n t u made.rising (omega arith)).0 g in
-                let r = (come_by e n t d.at made.rising (omega arith)).1 (omega (arith, ints)) in absurd (omega arith)
+                let r = (come_by e n t d.at made.rising (omega arith)).1 (omega linear) in absurd (omega arith)
             | inr g ↦ omega arith
           ] in
           let s = amid_type z e u m d.before valid made is.fits_before some refl amid is.before in
@@ -246,19 +205,43 @@ table_change z e d valid made is table =
           absurd (is.differ (some_same (sym s ∙ t)))
     ]
 
--- before an entry comes some transition has not
-in_table : (z : Zone) (e : Entries) (k : ℕ) (c : Change) → IsValid z → AreEntries z e → k < length e.items → IsChange (TypeAt z) c
-    → ((d : Transition) → c.at ≡ (get_or e.items k d).unix_leap_time)
-    → segment_of z (c.at -ℤ pos 1) < length z.transitions
-in_table z e k c valid made some is at =
-    let few = made.few in let more = made.more in
-    let l = time_of z (c.at -ℤ pos 1) c.before (omega arith) is.before in
-    let d : Transition = record { unix_leap_time = c.at; type_index = 0 } in
-    let n : count_at e (c.at -ℤ pos 1) ≡ k = rw (at d) (count_before e k d made.rising some) in
-    let last = made.come (c.at -ℤ pos 1) is.before.leap_time is.fits_before l in
-    let seg = come_at_time z (c.at -ℤ pos 1) is.before.leap_time l in
-    let most = segment_most z (c.at -ℤ pos 1) valid.transitions.rising in
-    elim (cases_lt (segment_of z (c.at -ℤ pos 1)) (length z.transitions)) [ inl b ↦ b | inr m ↦ let q = last.0 (omega arith) in absurd (omega arith) ]
+-- an entry of a list
+module _ (e : Entries) (k : ℕ) (h : k < length e.items) where
+  -- ---- how many have come at an entry's second, and just before it
+  count_then : (d : Transition) → AreRising e.items → count_at e (get_or e.items k d).unix_leap_time ≡ k + 1
+  count_then d rising = rw (← begin_next _ k d h) (place_begin _ _ rising (omega arith) (omega arith))
+
+  count_before : (d : Transition) → AreRising e.items → count_at e ((get_or e.items k d).unix_leap_time -ℤ pos 1) ≡ k
+  count_before d rising = let same : suc k ≡ k + 1 = omega arith in rw (← begin_next _ k d h, ← same) (place_before _ k rising h)
+
+  -- ---- the change that an entry makes
+  pub entry_change : (z : Zone) (c : Change) → IsValid z → AreEntries z e → k + 1 < e.all → IsEntryChange z.types e.items k (Some c) → IsChange (TypeAt z) c
+  entry_change z c valid made more (at, fits, not_least, before, after) =
+      let d : Transition = record { unix_leap_time = c.at; type_index = 0 } in
+      let is = at d in
+      let (x, l) = made.leap_time k d h in
+      let l2 = rw (← is) at l in
+      let fits_before : SFits w64 (c.at -ℤ pos 1) = omega linear in
+      let (y, m) = earlier_time z _ _ x valid (omega linear) l2 in
+      record {
+        fits = fits;
+        fits_before = fits_before;
+        before = type_amid z e _ y k _ made fits_before m (rw is (count_before d made.rising)) (omega arith) before;
+        after = type_amid z e _ x _ _ made fits l2 (rw is (count_then d made.rising)) more after;
+        differ = λ q. made.differ k h more (after ∙ sym (ap (λ (t : LocalType). Some t) q) ∙ sym before);
+      }
+
+  -- before an entry comes some transition has not
+  in_table : (z : Zone) (c : Change) → IsValid z → AreEntries z e → IsChange (TypeAt z) c → ((d : Transition) → c.at ≡ (get_or e.items k d).unix_leap_time)
+      → segment_of z (c.at -ℤ pos 1) < length z.transitions
+  in_table z c valid made is at =
+      let l = time_of z _ _ (omega arith) is.before in
+      let d : Transition = record { unix_leap_time = c.at; type_index = 0 } in
+      let n : count_at e (c.at -ℤ pos 1) ≡ k = rw (at d) (count_before d made.rising) in
+      let last = made.come (c.at -ℤ pos 1) is.before.leap_time is.fits_before l in
+      let seg = come_at_time z (c.at -ℤ pos 1) is.before.leap_time l in
+      let most = segment_most z (c.at -ℤ pos 1) valid.transitions.rising in
+      elim (cases_lt (segment_of z (c.at -ℤ pos 1)) (length z.transitions)) [ inl b ↦ b | inr m ↦ omega arith ]
 
 -- ---- the next change of the table
 pub next_none : (z : Zone) (e : Entries) (after : ℤ) → IsValid z → AreEntries z e → count_at e after ≡ length e.items
@@ -266,9 +249,8 @@ pub next_none : (z : Zone) (e : Entries) (after : ℤ) → IsValid z → AreEntr
 next_none z e after valid made all d is inside =
     let (k, some, at) = table_change z e d valid made is inside.table in
     let t : Transition = record { unix_leap_time = pos 0; type_index = 0 } in
-    let later = inside.inside in
     let time = at t in
-    let a = (come_by e k t after made.rising some).0 (omega arith) in omega (arith, ints)
+    let a = (come_by e k t after made.rising some).0 (omega arith) in omega linear
 
 next_found : (z : Zone) (e : Entries) (after : ℤ) (c : Change) → IsValid z → AreEntries z e → count_at e after < length e.items → IsChange (TypeAt z) c
     → ((d : Transition) → c.at ≡ (get_or e.items (count_at e after) d).unix_leap_time) → IsFirstChange (TypeAt z) (IsInTable z (λ u. after <ℤ u)) c
@@ -279,16 +261,15 @@ next_found z e after c valid made some is at =
     record {
       is = is;
       inside = record {
-        inside = by_lt_z after c.at (λ q. q) (λ q. let r = (come_by e n t after made.rising some).1 (omega (arith, ints)) in absurd (omega arith));
-        table = in_table z e n c valid made some is at;
+        inside = by_lt_z after c.at (λ q. q) (λ q. let r = (come_by e n t after made.rising some).1 (omega linear) in absurd (omega arith));
+        table = in_table e n some z c valid made is at;
       };
       nearest = λ d is_d inside.
           let (k, below, time) = table_change z e d valid made is_d inside.table in
           let other = time t in
-          let later = inside.inside in
           elim (cases_lt k n) [
-            | inl b ↦ let r = (come_by e k t after made.rising below).0 b in absurd (omega (arith, ints))
-            | inr m ↦ let r = not_later e.items n k t made.rising m below in omega (arith, ints)
+            | inl b ↦ let r = (come_by e k t after made.rising below).0 b in omega linear
+            | inr m ↦ let r = not_later _ n k t made.rising m below in omega linear
           ];
     }
 
@@ -298,26 +279,24 @@ pub next_by_entry : (z : Zone) (e : Entries) (after : ℤ) (r : Option Change) �
 next_by_entry z e after None valid made some more fits least =
     let t : Transition = record { unix_leap_time = pos 0; type_index = 0 } in
     let own = least t in
-    let r = (come_by e (count_at e after) t after made.rising some).1 (omega (arith, ints)) in absurd (omega arith)
+    let r = (come_by e _ t after made.rising some).1 (omega linear) in omega arith
 next_by_entry z e after (Some c) valid made some more fits h =
-    let (at, _, _, _, _) = h in next_found z e after c valid made some (entry_change z e (count_at e after) c valid made some more h) at
+    let (at, _, _, _, _) = h in next_found z e _ c valid made some (entry_change e _ some z c valid made more h) at
 
 pub next_by_last : (z : Zone) (e : Entries) (after second : ℤ) (r : Option Change) → IsValid z → AreEntries z e → count_at e after < length e.items
     → e.all ≤ count_at e after + 1
     → ((d : Transition) → second ≡ (get_or e.items (count_at e after) d).unix_leap_time)
     → MatchOption r (HasNoChange (TypeAt z) (λ u. u ≡ second)) (λ c. IsChange (TypeAt z) c × (c.at ≡ second))
     → IsFirst (TypeAt z) (IsInTable z (λ u. after <ℤ u)) r
-next_by_last z e after second None valid made some last at none = λ d is inside.
+next_by_last z e after _ None valid made some last at none = λ d is inside.
     let t : Transition = record { unix_leap_time = pos 0; type_index = 0 } in
     let (k, below, time) = table_change z e d valid made is inside.table in
     let other = time t in
-    let later = inside.inside in
-    let more = made.more in
     elim (cases_lt k (count_at e after)) [
-      | inl b ↦ let r = (come_by e k t after made.rising below).0 b in omega (arith, ints)
+      | inl b ↦ let r = (come_by e k t _ made.rising below).0 b in omega linear
       | inr m ↦ let same : k ≡ count_at e after = omega arith in none d is (sym other ∙ ap (λ i. (get_or e.items i t).unix_leap_time) same ∙ sym (at t))
     ]
-next_by_last z e after second (Some c) valid made some last at h = next_found z e after c valid made some h.0 (λ d. h.1 ∙ at d)
+next_by_last z e after second (Some c) valid made some last at h = next_found z e _ c valid made some h.0 (λ d. h.1 ∙ at d)
 
 -- ---- the previous change of the table
 -- of the entries that have come, those after the first k make no change
@@ -325,84 +304,78 @@ abbrev pub AreIdleBehind : Zone → Entries → ℤ → ℕ → Type 0
 AreIdleBehind z e last k = (j : ℕ) → k ≤ j → j < count_at e last → (d : Change) → IsChange (TypeAt z) d
     → ((t : Transition) → (get_or e.items j t).unix_leap_time ≡ d.at) → ⊥
 
-pub previous_none : (z : Zone) (e : Entries) (last : ℤ) → IsValid z → AreEntries z e → AreIdleBehind z e last 0
-    → HasNoChange (TypeAt z) (IsInTable z (λ u. u ≤ℤ last))
-previous_none z e last valid made idle d is inside =
-    let t : Transition = record { unix_leap_time = pos 0; type_index = 0 } in
-    let (k, below, time) = table_change z e d valid made is inside.table in
-    let other = time t in
-    let up_to = inside.inside in
-    idle k (omega arith) ((come_by e k t last made.rising below).1 (omega (arith, ints))) d is time
+-- a zone, its entries and the last second
+module _ (z : Zone) (e : Entries) where
+  pub previous_none : (last : ℤ) → IsValid z → AreEntries z e → AreIdleBehind z e last 0 → HasNoChange (TypeAt z) (IsInTable z (λ u. u ≤ℤ last))
+  previous_none _ valid made idle d is inside =
+      let t : Transition = record { unix_leap_time = pos 0; type_index = 0 } in
+      let (k, below, time) = table_change z e d valid made is inside.table in
+      let other = time t in
+      idle k (omega arith) ((come_by e k t _ made.rising below).1 (omega linear)) d is time
 
-previous_found : (z : Zone) (e : Entries) (last : ℤ) (k : ℕ) (c : Change) → IsValid z → AreEntries z e → k < count_at e last
-    → AreIdleBehind z e last (k + 1) → IsChange (TypeAt z) c
-    → ((d : Transition) → c.at ≡ (get_or e.items k d).unix_leap_time) → IsLastChange (TypeAt z) (IsInTable z (λ u. u ≤ℤ last)) c
-previous_found z e last k c valid made come idle is at =
-    let t : Transition = record { unix_leap_time = pos 0; type_index = 0 } in
-    let most = count_most e last made.rising in
-    let own = at t in
-    record {
-      is = is;
-      inside = record {
-        inside = let r = (come_by e k t last made.rising (omega arith)).0 come in omega (arith, ints);
-        table = in_table z e k c valid made (omega arith) is at;
-      };
-      nearest = λ d is_d inside.
-          let (j, below, time) = table_change z e d valid made is_d inside.table in
-          let other = time t in
-          let up_to = inside.inside in
-          let there = (come_by e j t last made.rising below).1 (omega (arith, ints)) in
-          elim (cases_lt k j) [
-            | inl b ↦ absurd (idle j (omega arith) there d is_d time)
-            | inr m ↦ let r = not_later e.items j k t made.rising m (omega arith) in omega (arith, ints)
-          ];
-    }
+  previous_found : (last : ℤ) (k : ℕ) (c : Change) → IsValid z → AreEntries z e → k < count_at e last → AreIdleBehind z e last (k + 1) → IsChange (TypeAt z) c
+      → ((d : Transition) → c.at ≡ (get_or e.items k d).unix_leap_time) → IsLastChange (TypeAt z) (IsInTable z (λ u. u ≤ℤ last)) c
+  previous_found last k c valid made come idle is at =
+      let t : Transition = record { unix_leap_time = pos 0; type_index = 0 } in
+      let most = count_most e last made.rising in
+      let own = at t in
+      record {
+        is = is;
+        inside = record {
+          inside = let r = (come_by e k t _ made.rising (omega arith)).0 come in omega linear;
+          table = in_table e k (omega arith) z c valid made is at;
+        };
+        nearest = λ d is_d inside.
+            let (j, below, time) = table_change z e d valid made is_d inside.table in
+            let other = time t in
+            let there = (come_by e j t _ made.rising below).1 (omega linear) in
+            elim (cases_lt k j) [
+              | inl b ↦ absurd (idle j (omega arith) there d is_d time)
+              | inr m ↦ let r = not_later _ j k t made.rising m (omega arith) in omega linear
+            ];
+      }
 
--- an entry at the least second makes none, nor do those before it
-least_idle : (z : Zone) (e : Entries) (last : ℤ) (k : ℕ) → AreEntries z e → k < count_at e last → AreIdleBehind z e last (k + 1)
-    → ((d : Transition) → (get_or e.items k d).unix_leap_time ≡ least_time)
-    → AreIdleBehind z e last 0
-least_idle z e last k made come idle least j _ below d is time =
-    let t : Transition = record { unix_leap_time = pos 0; type_index = 0 } in
-    let most = count_most e last made.rising in
-    let own = least t in let other = time t in
-    let before = is.fits_before in
-    elim (cases_lt k j) [
-      | inl b ↦ idle j (omega arith) below d is time
-      | inr m ↦ let r = not_later e.items j k t made.rising m (omega arith) in absurd (omega (arith, ints))
-    ]
+  -- an entry at the least second makes none, nor do those before it
+  least_idle : (last : ℤ) (k : ℕ) → AreEntries z e → k < count_at e last → AreIdleBehind z e last (k + 1)
+      → ((d : Transition) → (get_or e.items k d).unix_leap_time ≡ least_time) → AreIdleBehind z e last 0
+  least_idle last k made come idle least j _ below d is time =
+      let t : Transition = record { unix_leap_time = pos 0; type_index = 0 } in
+      let most = count_most e last made.rising in
+      let own = least t in let other = time t in
+      elim (cases_lt k j) [
+        | inl b ↦ idle j (omega arith) below d is time
+        | inr m ↦ let r = not_later _ j k t made.rising m (omega arith) in omega linear
+      ]
 
-pub previous_by_entry : (z : Zone) (e : Entries) (last : ℤ) (k : ℕ) (r : Option Change) → IsValid z → AreEntries z e → k < count_at e last → k + 1 < e.all
-    → AreIdleBehind z e last (k + 1)
-    → IsEntryChange z.types e.items k r → IsLast (TypeAt z) (IsInTable z (λ u. u ≤ℤ last)) r
-previous_by_entry z e last k None valid made come more idle least = previous_none z e last valid made (least_idle z e last k made come idle least)
-previous_by_entry z e last k (Some c) valid made come more idle h =
-    let most = count_most e last made.rising in
-    let (at, _, _, _, _) = h in previous_found z e last k c valid made come idle (entry_change z e k c valid made (omega arith) more h) at
+  pub previous_by_entry : (last : ℤ) (k : ℕ) (r : Option Change) → IsValid z → AreEntries z e → k < count_at e last → k + 1 < e.all
+      → AreIdleBehind z e last (k + 1) → IsEntryChange z.types e.items k r → IsLast (TypeAt z) (IsInTable z (λ u. u ≤ℤ last)) r
+  previous_by_entry _ k None valid made come more idle least = previous_none _ valid made (least_idle _ k made come idle least)
+  previous_by_entry last k (Some c) valid made come more idle h =
+      let (at, _, _, _, _) = h in previous_found _ k c valid made come idle (entry_change e k (omega arith) z c valid made more h) at
 
-pub none_behind : (z : Zone) (e : Entries) (last : ℤ) (k : ℕ) → count_at e last ≡ k → AreIdleBehind z e last k
-none_behind z e last k all j low high d is time = absurd (omega arith)
+  pub none_behind : (last : ℤ) (k : ℕ) → count_at e last ≡ k → AreIdleBehind z e last k
+  none_behind _ k all j low high d is time = omega arith
 
--- if the last one that has come makes none
-pub idle_more : (z : Zone) (e : Entries) (last second : ℤ) (k : ℕ) → count_at e last ≡ k + 1 → ((d : Transition) → second ≡ (get_or e.items k d).unix_leap_time)
-    → HasNoChange (TypeAt z) (λ u. u ≡ second) → AreIdleBehind z e last k
-idle_more z e last second k all at none j low high d is time =
-    let t : Transition = record { unix_leap_time = pos 0; type_index = 0 } in
-    let same : j ≡ k = omega arith in none d is (sym (time t) ∙ ap (λ i. (get_or e.items i t).unix_leap_time) same ∙ sym (at t))
+  -- if the last one that has come makes none
+  pub idle_more : (last second : ℤ) (k : ℕ) → count_at e last ≡ k + 1 → ((d : Transition) → second ≡ (get_or e.items k d).unix_leap_time)
+      → HasNoChange (TypeAt z) (λ u. u ≡ second) → AreIdleBehind z e last k
+  idle_more _ _ k all at none j low high d is time =
+      let t : Transition = record { unix_leap_time = pos 0; type_index = 0 } in
+      let same : j ≡ k = omega arith in none d is (sym (time t) ∙ ap (λ i. (get_or e.items i t).unix_leap_time) same ∙ sym (at t))
 
-pub previous_at : (z : Zone) (e : Entries) (last second : ℤ) (k : ℕ) (c : Change) → IsValid z → AreEntries z e → count_at e last ≡ k + 1
-    → ((d : Transition) → second ≡ (get_or e.items k d).unix_leap_time)
-    → IsChange (TypeAt z) c → c.at ≡ second → IsLastChange (TypeAt z) (IsInTable z (λ u. u ≤ℤ last)) c
-previous_at z e last second k c valid made all at is there =
-    previous_found z e last k c valid made (omega arith) (none_behind z e last (k + 1) all) is (λ d. there ∙ at d)
+  pub previous_at : (last second : ℤ) (k : ℕ) (c : Change) → IsValid z → AreEntries z e → count_at e last ≡ k + 1
+      → ((d : Transition) → second ≡ (get_or e.items k d).unix_leap_time) → IsChange (TypeAt z) c → c.at ≡ second
+      → IsLastChange (TypeAt z) (IsInTable z (λ u. u ≤ℤ last)) c
+  previous_at _ _ k c valid made all at is there =
+      previous_found _ k c valid made (omega arith) (none_behind _ _ all) is (λ d. there ∙ at d)
 
--- ---- between two entries
-pub index_below : (z : Zone) (e : Entries) (k : ℕ) → IsValid z → AreEntries z e → k ≤ length e.items → index_of e.items k < length z.types
-index_below z e zero valid made h = valid.some
-index_below z e (suc k) valid made h =
-    let t : Transition = record { unix_leap_time = pos 0; type_index = 0 } in
-    let same : suc k ≡ k + 1 = omega arith in
-    rw (same, index_next e.items k t (omega arith)) (made.indexes k t (omega arith))
+  -- ---- between two entries
+  pub index_below : (k : ℕ) → IsValid z → AreEntries z e → k ≤ length e.items → index_of e.items k < length z.types
+  index_below zero valid made h = valid.some
+  index_below (suc k) valid made h =
+      let t : Transition = record { unix_leap_time = pos 0; type_index = 0 } in
+      let same : suc k ≡ k + 1 = omega arith in
+      rw (same, index_next e.items k t (omega arith)) (made.indexes k t (omega arith))
 
 -- at each second from the one entry on, and before the other, that many have come
 count_amid : (e : Entries) (u v : ℤ) (b : Between) → AreRising e.items → (h : IsBetween e u b) → b.from ≤ℤ v → v <ℤ b.until → count_at e v ≡ h.place
@@ -411,13 +384,12 @@ count_amid e u v b rising h from until =
     let k = h.place in
     let end = h.until t in
     elim (cases_lt k (count_at e v)) [
-      | inl m ↦ let r = (come_by e k t v rising h.some).0 m in absurd (omega (arith, ints))
+      | inl m ↦ let r = (come_by e k t v rising h.some).0 m in omega linear
       | inr m ↦ elim (cases_lt (count_at e v) k) [
         | inl g ↦
             let same : (k - 1) + 1 ≡ k = omega arith in
-            let some = h.some in
-            let begin = h.from ∙ ap (λ i. begin_of e.items i) (sym same) ∙ begin_next e.items (k - 1) t (omega arith) in
-            let r = (come_by e (k - 1) t v rising (omega arith)).1 (omega (arith, ints)) in absurd (omega arith)
+            let begin = h.from ∙ ap (λ i. begin_of e.items i) (sym same) ∙ begin_next _ (k - 1) t (omega arith) in
+            let r = (come_by e (k - 1) t v rising (omega arith)).1 (omega linear) in omega arith
         | inr g ↦ omega arith
       ]
     ]
@@ -429,34 +401,33 @@ type_between z e u v b t valid made h fits from until has =
     let d : Transition = record { unix_leap_time = pos 0; type_index = 0 } in
     let (x, l) = made.leap_time h.place d h.some in
     let end = h.until d in
-    let (y, m) = earlier_time z v (get_or e.items h.place d).unix_leap_time x valid (omega (arith, ints)) l in
-    let more = made.more in let some = h.some in
-    type_amid z e v y h.place t made fits m (count_amid e u v b made.rising h from until) (omega arith) (rw h.index at has)
+    let (y, m) = earlier_time z v _ x valid (omega linear) l in
+    type_amid z e v y _ t made fits m (count_amid e u v b made.rising h from until) (omega arith) (rw h.index at has)
 
 pub stretch_between : (z : Zone) (e : Entries) (u v : ℤ) (b : Between) (t : LocalType) → IsValid z → AreEntries z e → IsBetween e u b
     → SFits w64 b.from → SFits w64 b.until
     → HasType z b.index t → b.from ≤ℤ v → v <ℤ b.until → TypeAt z v t
-stretch_between z e u v b t valid made h low high has from until = type_between z e u v b t valid made h (omega (arith, ints)) from until has
+stretch_between z e u v b t valid made h low high has from until = type_between z e u v b t valid made h (omega linear) from until has
 
 pub index_between : (z : Zone) (e : Entries) (u : ℤ) (b : Between) → IsValid z → AreEntries z e → IsBetween e u b → b.index < length z.types
-index_between z e u b valid made h = let some = h.some in rw h.index (index_below z e h.place valid made (omega arith))
+index_between z e u b valid made h = rw h.index (index_below z e _ valid made (omega arith))
 
 -- the second of which they are asked is one of them
 since_place : (e : Entries) (u from : ℤ) (k : ℕ) → AreRising e.items → k ≤ length e.items → k ≡ count_at e u
     → from ≡ begin_of e.items k → SFits w64 u → from ≤ℤ u
-since_place e u from zero rising few come begin fits = omega (arith, ints)
+since_place e u _ zero rising few come begin fits = omega linear
 since_place e u from (suc j) rising few come begin fits =
     let d : Transition = record { unix_leap_time = pos 0; type_index = 0 } in
     let same : suc j ≡ j + 1 = omega arith in
-    let first = begin ∙ ap (λ i. begin_of e.items i) same ∙ begin_next e.items j d (omega arith) in
-    let r = (come_by e j d u rising (omega arith)).0 (omega arith) in omega (arith, ints)
+    let first = begin ∙ ap (λ i. begin_of e.items i) same ∙ begin_next _ j d (omega arith) in
+    let r = (come_by e j d u rising (omega arith)).0 (omega arith) in omega linear
 
 pub inside_between : (z : Zone) (e : Entries) (u : ℤ) (b : Between) → AreEntries z e → IsBetween e u b → SFits w64 u → (b.from ≤ℤ u) × (u <ℤ b.until)
 inside_between z e u b made h fits =
     let d : Transition = record { unix_leap_time = pos 0; type_index = 0 } in
     let come = h.come in let inside = h.some in let end = h.until d in (
-      since_place e u b.from h.place made.rising (omega arith) come h.from fits,
-      by_lt_z u b.until (λ q. q) (λ q. let r = (come_by e h.place d u made.rising inside).1 (omega (arith, ints)) in absurd (omega arith)),
+      since_place e u _ _ made.rising (omega arith) come h.from fits,
+      by_lt_z u b.until (λ q. q) (λ q. let r = (come_by e _ d u made.rising inside).1 (omega linear) in absurd (omega arith)),
     )
 
 pub span_between : (z : Zone) (e : Entries) (u : ℤ) (b : Between) (t : LocalType) → IsValid z → AreEntries z e → IsBetween e u b → IsTrue b.is_span
@@ -467,16 +438,15 @@ span_between z e u b t valid made h is fits low high has =
     let (some, not_least, more) = h.span is in
     let k = h.place in let inside = h.some in
     let same : (k - 1) + 1 ≡ k = omega arith in
-    let few = made.few in
     let end = h.until d in
     let begin : (f : Transition) → b.from ≡ (get_or e.items (k - 1) f).unix_leap_time =
     λ f. h.from ∙ ap (λ i. begin_of e.items i) (sym same) ∙ begin_next e.items (k - 1) f (omega arith) in
-    let come = h.come in let begin_d = begin d in
-    let since : b.from ≤ℤ u = let r = (come_by e (k - 1) d u made.rising (omega arith)).0 (omega arith) in omega (arith, ints) in
+    let begin_d = begin d in
+    let since : b.from ≤ℤ u = let r = (come_by e (k - 1) d u made.rising (omega arith)).0 (omega arith) in omega linear in
     let before : u <ℤ b.until =
-    by_lt_z u b.until (λ q. q) (λ q. let r = (come_by e k d u made.rising inside).1 (omega (arith, ints)) in absurd (omega arith)) in
-    let (r, has_r) = inside_listed z.types (index_of e.items (k - 1)) (index_below z e (k - 1) valid made (omega arith)) in
-    let (s, has_s) = inside_listed z.types (index_of e.items (k + 1)) (index_below z e (k + 1) valid made (omega arith)) in
+    by_lt_z u b.until (λ q. q) (λ q. let r = (come_by e k d u made.rising inside).1 (omega linear) in absurd (omega arith)) in
+    let (r, has_r) = inside_listed _ _ (index_below z e _ valid made (omega arith)) in
+    let (s, has_s) = inside_listed _ _ (index_below z e _ valid made (omega arith)) in
     let own : slice_get z.types (index_of e.items k) ≡ Some t = rw h.index at has in
     record {
       in_force_then = type_between z e u u b t valid made h fits since before has;
@@ -484,9 +454,9 @@ span_between z e u b t valid made h is fits low high has =
       span = record {
         some = (u, record { fits = fits; since = since; until = before });
         each = λ v i. type_between z e u v b t valid made h i.fits i.since i.until has;
-        begins = out_before z (record { at = b.from; before = r; after = t }) (entry_change z e (k - 1) _ valid made (omega arith) (omega arith)
-            (begin, low, (λ q. omega (arith, ints)), has_r, ap (λ i. slice_get z.types (index_of e.items i)) same ∙ own));
-        ends = out_from z (record { at = b.until; before = t; after = s }) (entry_change z e k _ valid made inside more
-            (h.until, high, (λ q. omega (arith, ints)), own, has_s));
+        begins = out_before z (record { at = b.from; before = r; after = t }) (entry_change e (k - 1) (omega arith) z _ valid made (omega arith)
+            (begin, low, (λ q. omega linear), has_r, ap (λ i. slice_get z.types (index_of e.items i)) same ∙ own));
+        ends = out_from z (record { at = b.until; before = t; after = s }) (entry_change e k inside z _ valid made more
+            (h.until, high, (λ q. omega linear), own, has_s));
       };
     }

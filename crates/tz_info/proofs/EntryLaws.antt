@@ -1,16 +1,16 @@
 -- How the entries of a zone are made, one transition after another.
-use Rattle.std.proofs.Math.Seq.{take-suc}
-use Rattle.std.proofs.lemmas.List.{take-append-le}
-use Rattle.std.proofs.lemmas.List.Elements.{filter-append}
-use Rattle.tz_info.proofs.Words.{AreLeapSeconds, AreRising, Bool, IsFromLast, IsLeapTime, IsLeapTimeRefused, IsValid, LeapSecond, List, SFits, Transition, Zone}
-use Rattle.tz_info.proofs.Words.{all_pairs_push, append-nil, ap, arith, by_lt_z, cases_lt, false, get_or, get_or_append_left, get_or_default, get_or_push}
-use Rattle.tz_info.proofs.Words.{index_of}
-use Rattle.tz_info.proofs.Words.{inl, inr, int_le, ints, last_else, le_false, le_true, length, length_push, map, nat_tests, pos, passed, refl, slice_get}
-use Rattle.tz_info.proofs.Words.{slice_get-get_or, Option, Some, None, suc, sym}
-use Rattle.tz_info.proofs.Words.{take, take_all, true, w64, zero, ℕ, ℤ, [], ◌++◌, ◌+◌, ◌-◌, ◌==◌, ◌<ℤ◌, ◌<◌, ◌↔◌, ◌∙◌, ◌∷◌, ◌≡◌, ◌≢◌, ◌≤ℤ◌, ◌≤◌, ◌⊎◌}
+use Rattle.std.proofs.{Math.Seq.{take-suc}, lemmas.{List.{take-append-le, Elements.{filter-append}}, Option.{slice_get_within}}}
 use Rattle.std.specs.Prelude.{option_to_list}
-use Rattle.std.proofs.lemmas.Option.{slice_get_within}
-use Rattle.tz_info.proofs.{LeapSearch.{own_leap_time}, Prefixes.{last_taken}, SegmentLaws.{come_by_time, not_later, place_most}, ZoneChanges.{refused_on}}
+use Rattle.tz_info.proofs.{
+  LeapSearch.{own_leap_time},
+  Prefixes.{last_taken},
+  SegmentLaws.{come_by_time, not_later, place_most},
+  Words.{AreLeapSeconds, AreRising, Bool, IsFromLast, IsLeapTime, IsLeapTimeRefused, IsValid, LeapSecond, List, None, Option, SFits, Some, Transition, Zone},
+  Words.{[], all_pairs_push, ap, append-nil, arith, by_lt_z, cases_lt, false, get_or, get_or_append_left, get_or_default, get_or_push, index_of, inl, inr},
+  Words.{int_le, last_else, le_false, le_true, length, length_push, linear, map, nat_tests, passed, pos, refl, slice_get, slice_get-get_or, suc, sym, take},
+  Words.{take_all, true, w64, zero, ℕ, ℤ, ◌++◌, ◌+◌, ◌-◌, ◌<ℤ◌, ◌<◌, ◌==◌, ◌↔◌, ◌∙◌, ◌∷◌, ◌≡◌, ◌≢◌, ◌≤ℤ◌, ◌≤◌, ◌⊎◌},
+  ZoneChanges.{refused_on},
+}
 use Rattle.tz_info.specs.Steps.Entries.{AreBefore, AreEntries, EndsAt, IsAdded, IsStartIn, NeverComes, added, idle, last_index, none_there, one_there}
 
 -- ---- lists with one item more
@@ -38,11 +38,7 @@ pub passed_first : (ts : List Transition) (k : ℕ) (x : ℤ) → ((i : ℕ) (d 
 passed_first [] zero x h = refl
 passed_first [] (suc k) x h = refl
 passed_first (t ∷ ts) zero x h = passed_none (t ∷ ts) x (λ i d l. h i d (omega arith) l)
-passed_first (t ∷ ts) (suc k) x h =
-    let e = passed_first ts k x (λ i d l m. h (suc i) d (omega arith) (omega arith)) in
-    by_lt_z x t.unix_leap_time
-    (λ l. rw (le_false t.unix_leap_time x l) e)
-    (λ m. rw (le_true t.unix_leap_time x m) (ap (λ (s : List Transition). t ∷ s) e))
+passed_first (t ∷ ts) (suc k) x h = grind (linear, le_false, le_true, passed_first ts k x (λ i d l m. h (suc i) d (omega arith) (omega arith)))
 
 -- ---- the entries of the first k transitions
 pub record AreMadeOf (z : Zone) (entries : List Transition) (k : ℕ) : Type 0 where
@@ -89,9 +85,9 @@ kept_of z entries kept k s more made until (none_there e other) = rw e (record {
   earlier = λ j d h. elim (cases_lt (j + 1) (length entries)) [
     | inl m ↦
         let last = until (length entries - 1) d (omega arith) in
-        let r = made.rising j (length entries - 1) d (omega arith) (omega arith) in omega (arith, ints)
+        let r = made.rising j (length entries - 1) d (omega arith) (omega arith) in omega linear
     | inr m ↦ let a = until j d h in let b : ¬ ((get_or entries j d).unix_leap_time ≡ s) =
-        λ e2. other (get_or entries j d, ap (λ n. slice_get entries n) (sub_one (omega arith)) ∙ slice_get-get_or entries j d h, e2) in omega (arith, ints)
+        λ e2. other (get_or entries j d, ap (λ n. slice_get entries n) (sub_one (omega arith)) ∙ slice_get-get_or entries j d h, e2) in omega linear
   ];
   same = λ u h. refl;
   differ = λ j h. made.differ j h (inr more);
@@ -124,10 +120,10 @@ pub one_more : (z : Zone) (old kept entries : List Transition) (k : ℕ) (s : �
 one_more z old kept entries k s t entry is_last valid more item made start before at index not_last is_one change =
     let until : (j : ℕ) (d : Transition) → j < length old → (get_or old j d).unix_leap_time ≤ℤ s = λ j d h.
     let (y, l) = start.leap_time in
-    let come = (start.reached s y l).1 (omega (arith, ints)) in
+    let come = (start.reached s y l).1 (omega linear) in
     made.until s y l (λ i e below.
     let r = valid.transitions.rising i k e below more in
-    let g = ap (λ (a : Transition). a.unix_leap_time) (get_or_default z.transitions k e t more ∙ sym item) in omega (arith, ints)) j d h in
+    let g = ap (λ (a : Transition). a.unix_leap_time) (get_or_default z.transitions k e t more ∙ sym item) in omega linear) j d h in
     let k_of = kept_of z old kept k s more made until before in
     more_of z old kept entries k s t entry is_last valid more item made start k_of at index not_last is_one change
   where
@@ -142,7 +138,7 @@ one_more z old kept entries k s t entry is_last valid more item made start befor
         → IsStartIn z.leaps t.unix_leap_time s → AreKept z old kept s → IsLeapTime z.leaps u x → u <ℤ s
         → slice_get z.types (last_index (passed (take (k + 1) z.transitions) x)) ≡ slice_get z.types (last_index (passed kept u))
     named_before z old kept k s u x t more item made start kp l early =
-        let late : x <ℤ t.unix_leap_time = by_lt_z x t.unix_leap_time (λ h. h) (λ h. let a = (start.reached u x l).0 h in absurd (omega (arith, ints))) in
+        let late : x <ℤ t.unix_leap_time = by_lt_z x t.unix_leap_time (λ h. h) (λ h. let a = (start.reached u x l).0 h in absurd (omega linear)) in
         rw (one_taken z k t more item, passed_out (take k z.transitions) t x late, ← kp.same u early) (made.named u x l)
 
     named_from : (z : Zone) (k : ℕ) (s u x : ℤ) (t : Transition) → k < length z.transitions → t ≡ get_or z.transitions k t
@@ -167,11 +163,11 @@ one_more z old kept entries k s t entry is_last valid more item made start befor
       named = λ u x l. by_lt_z u s
           (λ early. named_before z old kept k s u x t more item made start kp l early)
           (λ late.
-          let all = passed_all kept u (λ j d h. let a = kp.earlier j d h in omega (arith, ints)) in
+          let all = passed_all kept u (λ j d h. let a = kp.earlier j d h in omega linear) in
           rw (named_from z k s u x t more item start l late, all, ← index) same);
       leap_time = kp.leap_time;
       until = λ u y l come j d h.
-          let a = (start.reached u y l).0 (come_in z k t y more item come) in let b = kp.earlier j d h in omega (arith, ints);
+          let a = (start.reached u y l).0 (come_in z k t y more item come) in let b = kp.earlier j d h in omega linear;
       last = λ i d e2 all. let m = not_last not in absurd (omega arith);
       some = λ h all. let m = not_last not in absurd (omega arith);
       differ = λ j h m. kp.differ j h;
@@ -207,7 +203,7 @@ one_more z old kept entries k s t entry is_last valid more item made start befor
           until = λ u y l come j d h.
               let a = (start.reached u y l).0 (come_in z k t y more item come) in
               elim (cases_lt j (length kept)) [
-                | inl b ↦ rw (item_of j d b) (let c = kp.earlier j d b in omega (arith, ints))
+                | inl b ↦ rw (item_of j d b) (let c = kp.earlier j d b in omega linear)
                 | inr m ↦ let z2 : j ≡ length kept = omega arith in rw (z2, own d, at) a
               ];
           last = λ i d e2 all u y l come.
@@ -235,7 +231,7 @@ one_more z old kept entries k s t entry is_last valid more item made start befor
 -- those that have come are all, if and only if each has
 all_passed : (ts : List Transition) (x : ℤ) → AreRising ts → length (passed ts x) ≡ length ts → (k : ℕ) (d : Transition) → k < length ts
     → (get_or ts k d).unix_leap_time ≤ℤ x
-all_passed ts x rising e k d h = (come_by_time ts x k d rising h).0 (omega arith)
+all_passed ts x rising e k d h = grind (linear, come_by_time)
 
 from_last : (z : Zone) (entries : List Transition) (u x : ℤ) → IsValid z → AreMadeOf z entries (length z.transitions) → IsLeapTime z.leaps u x
     → IsFromLast z x ↔ (length (passed entries u) ≡ length entries)
@@ -249,7 +245,7 @@ from_last z entries u x valid made l = (
         let last : (d : Transition) → (get_or z.transitions k d).unix_leap_time ≤ℤ x =
         λ d. made.last k d (omega arith) refl u x l (all_passed entries u made.rising come) in
         ap length (passed_all z.transitions x (λ i d h.
-        let n = not_later z.transitions i k d valid.transitions.rising (omega arith) (omega arith) in let m = last d in omega (arith, ints)))
+        let n = not_later z.transitions i k d valid.transitions.rising (omega arith) (omega arith) in let m = last d in omega linear))
     | inr none ↦ let m = place_most z.transitions x valid.transitions.rising in omega arith
   ],
 )
@@ -280,7 +276,7 @@ never_come z entries k all t valid more item never a made =
     passed_first z.transitions k x (λ i d low h.
     let late = never u x f l in
     let g = ap (λ (b : Transition). b.unix_leap_time) (get_or_default z.transitions k d t more ∙ sym item) in
-    let n = not_later z.transitions k i d valid.transitions.rising low h in omega (arith, ints)) in
+    let n = not_later z.transitions k i d valid.transitions.rising low h in omega linear) in
     rw a (record {
       listed = refl;
       rising = made.rising;
@@ -294,8 +290,8 @@ never_come z entries k all t valid more item never a made =
         λ come.
             let late = never u x f l in
             let c = all_passed z.transitions x valid.transitions.rising come k t more in
-            let g = ap (λ (b : Transition). b.unix_leap_time) item in absurd (omega (arith, ints)),
-        λ come. let m = place_most entries u made.rising in absurd (omega arith),
+            let g = ap (λ (b : Transition). b.unix_leap_time) item in omega linear,
+        λ come. let m = place_most entries u made.rising in omega arith,
       );
       leap_time = made.leap_time;
       differ = λ j h m. made.differ j h (inr more);
@@ -307,10 +303,7 @@ AreChanges z n = (k : ℕ) → k + 1 < n → slice_get z.types (index_of z.trans
 
 pub one_change : (z : Zone) (n : ℕ) → 0 < n → AreChanges z n
     → slice_get z.types (index_of z.transitions n) ≢ slice_get z.types (index_of z.transitions (n - 1)) → AreChanges z (n + 1)
-one_change z n some h last k below = elim (cases_lt (k + 1) n) [
-  | inl m ↦ h k m
-  | inr m ↦ let e : k + 1 ≡ n = omega arith in let p : n - 1 ≡ k = omega arith in rw (e, ← p) last
-]
+one_change z n some h last k below = grind linear
 
 pub own_entries : (z : Zone) → IsValid z → length z.leaps ≡ 0 → AreChanges z (length z.transitions)
     → AreEntries z (record { items = z.transitions; all = length z.transitions; transitions = z.transitions })
@@ -329,13 +322,13 @@ own_entries z valid none differ = record {
 }
   where
     same : (leaps : List LeapSecond) (u x : ℤ) → length leaps ≡ 0 → IsLeapTime leaps u x → x ≡ u
-    same [] u x none l = let s = l.sum in omega (arith, ints)
+    same [] u x none l = let s = l.sum in omega linear
     same (e ∷ es) u x none l = absurd (omega arith)
 
 -- ---- the second at which a transition comes
 pub never_then : (leaps : List LeapSecond) (x start : ℤ) → ((u y : ℤ) → IsLeapTime leaps u y → (x ≤ℤ y) ↔ (start ≤ℤ u))
     → pos 9_223_372_036_854_775_807 <ℤ start → NeverComes leaps x
-never_then leaps x start reached late u y f l = by_lt_z y x (λ h. h) (λ h. let a = (reached u y l).0 h in absurd (omega (arith, ints)))
+never_then leaps x start reached late u y f l = by_lt_z y x (λ h. h) (λ h. let a = (reached u y l).0 h in absurd (omega linear))
 
 pub never_refused : (leaps : List LeapSecond) (x start : ℤ) → AreLeapSeconds leaps → ((u y : ℤ) → IsLeapTime leaps u y → (x ≤ℤ y) ↔ (start ≤ℤ u))
     → IsLeapTimeRefused leaps start

@@ -1,19 +1,20 @@
 -- Values are equal by `==` if and only if they are equal.
+use Rattle.std.proofs.Common.{arith}
 use Rattle.std.specs.Cmp.Lexicographic.{pointwise}
 use Rattle.tz_base.proofs.ChangeEquality.{second_exact}
 use Rattle.tz_base.specs.contracts.local_time_type.LocalTimeTypePartialEq.TheImpl.{eq-value as type_eq}
-use Rattle.tz_info.proofs.Words.{Alternate as AlternateRule, Bool, Difference, IsExact, IsTrue, LeapSecond, List, LocalType, None, Option}
-use Rattle.tz_info.proofs.Words.{ShownSeconds, Some, Transition, TransitionRule, TypedSecond, Zone, and_both, and_left, and_right, ap, int_eq, option_eq, refl}
-use Rattle.tz_info.proofs.Words.{rules, slice_eq-Decides, sym, type_exact, zone_eq, ◌&&◌, ◌↔◌, ◌∙◌, ◌≡◌}
-use Rattle.tz_info.specs.contracts.rule.day.DayTimePartialEq.TheImpl.{eq-value as day_time_eq}
-use Rattle.tz_info.specs.contracts.rule.transition_rule.TransitionRulePartialEq.TheImpl.{eq-value as rule_eq}
-use Rattle.tz_info.specs.contracts.zone.ask.differences.DifferencePartialEq.TheImpl.{eq-value as difference_eq}
-use Rattle.tz_info.specs.contracts.zone.lists.leap_second.LeapSecondPartialEq.TheImpl.{eq-value as leap_eq}
-use Rattle.tz_info.specs.contracts.zone.ask.shown_seconds.ShownSecondsPartialEq.TheImpl.{eq-value as seconds_eq}
-use Rattle.tz_info.specs.contracts.change.TypedSecondPartialEq.TheImpl.{eq-value as second_eq}
-use Rattle.tz_info.specs.contracts.zone.lists.transition.TransitionPartialEq.TheImpl.{eq-value as transition_eq}
-use Rattle.tz_info.specs.declared.rule.transition_rule.TransitionRule.TheVariants.{Alternate, Fixed}
-use Rattle.std.proofs.Common.{arith}
+use Rattle.tz_info.proofs.{
+  Words.{Alternate as AlternateRule, Bool, IsExact, IsTrue, LeapSecond, List, LocalType, None, Option, Some, Transition, TransitionRule, Zone, and_both},
+  Words.{and_left, and_right, ap, option_eq, refl, rules, slice_eq-Decides, sym, type_exact, zone_eq, ◌&&◌, ◌↔◌, ◌∙◌, ◌≡◌},
+}
+use Rattle.tz_info.specs.{
+  contracts.{change.TypedSecondPartialEq.TheImpl.{eq-value as second_eq}, rule.day.DayTimePartialEq.TheImpl.{eq-value as day_time_eq}},
+  contracts.rule.transition_rule.TransitionRulePartialEq.TheImpl.{eq-value as rule_eq},
+  contracts.zone.ask.differences.DifferencePartialEq.TheImpl.{eq-value as difference_eq},
+  contracts.zone.ask.shown_seconds.ShownSecondsPartialEq.TheImpl.{eq-value as seconds_eq},
+  contracts.zone.lists.{leap_second.LeapSecondPartialEq.TheImpl.{eq-value as leap_eq}, transition.TransitionPartialEq.TheImpl.{eq-value as transition_eq}},
+  declared.rule.transition_rule.TransitionRule.TheVariants.{Alternate, Fixed},
+}
 
 list_exact : {X : Type 0} (E : X → X → Bool) → IsExact E → IsExact (pointwise E)
 list_exact E exact xs ys = slice_eq-Decides exact xs ys (pointwise E xs ys) refl
@@ -31,7 +32,7 @@ pair_eq E F p q = E p.0 q.0 && F p.1 q.1
 pub pair_exact : {X Y : Type 0} (E : X → X → Bool) (F : Y → Y → Bool) → IsExact E → IsExact F → IsExact (pair_eq E F)
 pair_exact {X = X} {Y = Y} E F e f p q = (
   λ h. λ i. ((e p.0 q.0).0 (and_left (E p.0 q.0) (F p.1 q.1) h) i, (f p.1 q.1).0 (and_right (E p.0 q.0) (F p.1 q.1) h) i),
-  λ k. and_both (E p.0 q.0) (F p.1 q.1) ((e p.0 q.0).1 (ap (λ (r : X × Y). r.0) k)) ((f p.1 q.1).1 (ap (λ (r : X × Y). r.1) k)),
+  λ k. and_both (E p.0 q.0) (F p.1 q.1) ((e p.0 q.0).1 (ap (λ r. r.0) k)) ((f p.1 q.1).1 (ap (λ r. r.1) k)),
 )
 
 pub by_parts : {X Y : Type 0} (E : Y → Y → Bool) (to : X → Y) (from : Y → X) → ((x : X) → from (to x) ≡ x) → IsExact E → (a b : X)
@@ -59,31 +60,28 @@ transition_exact a b = search rules
 leap_exact : IsExact leap_eq.it
 leap_exact a b = search rules
 
-abbrev zone_parts : Zone → List Transition × (List LocalType × (List LeapSecond × Option TransitionRule))
-zone_parts z = (z.transitions, (z.types, (z.leaps, z.rule)))
-
 abbrev of_zone : List Transition × (List LocalType × (List LeapSecond × Option TransitionRule)) → Zone
 of_zone p = record { transitions = p.0; types = p.1.0; leaps = p.1.1.0; rule = p.1.1.1 }
 
 pub zone_exact : (a b : Zone) → IsTrue (zone_eq transition_eq.it type_eq.it leap_eq.it rule_eq.it a b) ↔ (a ≡ b)
-zone_exact = by_parts (pair_eq (pointwise transition_eq.it) (pair_eq (pointwise type_eq.it) (pair_eq (pointwise leap_eq.it) (option_eq rule_eq.it))))
-    zone_parts of_zone (λ z. refl)
-    (pair_exact (pointwise transition_eq.it) (pair_eq (pointwise type_eq.it) (pair_eq (pointwise leap_eq.it) (option_eq rule_eq.it)))
-    (list_exact transition_eq.it transition_exact)
-    (pair_exact (pointwise type_eq.it) (pair_eq (pointwise leap_eq.it) (option_eq rule_eq.it)) (list_exact type_eq.it type_exact)
-    (pair_exact (pointwise leap_eq.it) (option_eq rule_eq.it) (list_exact leap_eq.it leap_exact) (option_exact rule_eq.it rule_exact))))
+zone_exact = by_parts _
+    _ of_zone (λ z. refl)
+    (pair_exact _ _
+    (list_exact _ transition_exact)
+    (pair_exact _ _ (list_exact _ type_exact)
+    (pair_exact _ _ (list_exact _ leap_exact) (option_exact _ rule_exact))))
 
 -- ---- seconds with types, and differences
 pub typed_second_exact : IsExact second_eq.it
-typed_second_exact = by_parts (pair_eq int_eq type_eq.it) (λ (s : TypedSecond). (s.at, s.local_time_type)) (λ p. record { at = p.0; local_time_type = p.1 })
-    (λ s. refl) (pair_exact int_eq type_eq.it second_exact type_exact)
+typed_second_exact = by_parts _ (λ s. (s.at, s.local_time_type)) (λ p. record { at = p.0; local_time_type = p.1 })
+    (λ s. refl) (pair_exact _ _ second_exact type_exact)
 
 pub shown_seconds_exact : IsExact seconds_eq.it
-shown_seconds_exact = by_parts (pair_eq second_eq.it second_eq.it) (λ (s : ShownSeconds). (s.first, s.last)) (λ p. record { first = p.0; last = p.1 })
-    (λ s. refl) (pair_exact second_eq.it second_eq.it typed_second_exact typed_second_exact)
+shown_seconds_exact = by_parts _ (λ s. (s.first, s.last)) (λ p. record { first = p.0; last = p.1 })
+    (λ s. refl) (pair_exact _ _ typed_second_exact typed_second_exact)
 
 pub difference_exact : IsExact difference_eq.it
-difference_exact = by_parts (pair_eq int_eq (pair_eq int_eq (pair_eq type_eq.it type_eq.it))) (λ (d : Difference). (d.from, (d.until, (d.old, d.new))))
+difference_exact = by_parts _ (λ d. (d.from, (d.until, (d.old, d.new))))
     (λ p. record { from = p.0; until = p.1.0; old = p.1.1.0; new = p.1.1.1 }) (λ d. refl)
-    (pair_exact int_eq (pair_eq int_eq (pair_eq type_eq.it type_eq.it)) second_exact
-    (pair_exact int_eq (pair_eq type_eq.it type_eq.it) second_exact (pair_exact type_eq.it type_eq.it type_exact type_exact)))
+    (pair_exact _ _ second_exact
+    (pair_exact _ _ second_exact (pair_exact _ _ type_exact type_exact)))

@@ -1,12 +1,14 @@
 -- The least and the greatest of some offsets.
-use Rattle.tz_info.proofs.Words.{All-push, All-contains, AreExtremes, AreJoined, AreJoinedByRule, Contains, Contains-append_left, Contains-append_right}
-use Rattle.tz_info.proofs.Words.{Contains-push, Extremes, IsEnd, IsGreatest, IsLeast, IsTypeOf, IsWindowOf, List, SFits, subst, w32, ◌-ℤ◌, LocalType, None}
-use Rattle.tz_info.proofs.Words.{Option, Some, TransitionRule, TypeAt, Zone, append_assoc, arith, get_or, get_or-map, inl, inr, ints, length, length-map}
-use Rattle.tz_info.proofs.Words.{offsets, offsets_of, refl, rule_offsets, slice_get, slice_get-get_or, sym, ℕ, ℤ, [], ◌++◌, ◌+◌, ◌<◌, ◌∙◌, ◌∷◌, ◌≡◌, ◌≤ℤ◌}
-use Rattle.tz_info.proofs.Words.{◌⊎◌, take, take-suc, add-one}
-use Rattle.tz_info.specs.declared.rule.transition_rule.TransitionRule.TheVariants.{Alternate, Fixed}
 use Rattle.std.proofs.lemmas.List.{map-append}
-use Rattle.tz_info.proofs.{Candidates.{one_of_two}, ZoneLaws.{type_listed}}
+use Rattle.tz_info.proofs.{
+  Candidates.{one_of_two},
+  Words.{All-contains, All-push, AreExtremes, AreJoined, AreJoinedByRule, Contains, Contains-append_left, Contains-append_right, Contains-push, Extremes},
+  Words.{IsEnd, IsGreatest, IsLeast, IsTypeOf, IsWindowOf, List, LocalType, None, Option, SFits, Some, TransitionRule, TypeAt, Zone, [], add-one, append_assoc},
+  Words.{arith, get_or, get_or-map, inl, inr, length, length-map, linear, offsets, offsets_of, refl, rule_offsets, slice_get, slice_get-get_or, subst, sym},
+  Words.{take, take-suc, w32, ℕ, ℤ, ◌++◌, ◌+◌, ◌-ℤ◌, ◌<◌, ◌∙◌, ◌∷◌, ◌≡◌, ◌≤ℤ◌, ◌⊎◌},
+  ZoneLaws.{type_listed},
+}
+use Rattle.tz_info.specs.declared.rule.transition_rule.TransitionRule.TheVariants.{Alternate, Fixed}
 
 pushed : (xs : List ℤ) (x y o : ℤ) → Contains xs x → (y ≡ x) ⊎ (y ≡ o) → Contains (xs ++ o ∷ []) y
 pushed xs x y o c (inl e) = rw e (Contains-append_left xs (o ∷ []) x c)
@@ -16,45 +18,40 @@ pushed xs x y o c (inr e) = rw e (Contains-push xs o)
 pub joined : (xs : List ℤ) (e : Extremes) (o : ℤ) (r : Extremes) → AreExtremes xs e → AreJoined e o r → AreExtremes (xs ++ o ∷ []) r
 joined xs e o r a j = record {
   greatest = record {
-    among = pushed xs e.greatest r.greatest o a.greatest.among j.greatest_from;
-    most = All-push (λ x. x ≤ℤ r.greatest) xs o (λ k d l. let h = a.greatest.most k d l in let m = j.most in omega (arith, ints)) j.most_here;
+    among = pushed xs _ _ o a.greatest.among j.greatest_from;
+    most = All-push (λ x. x ≤ℤ r.greatest) xs o (λ k d l. let h = a.greatest.most k d l in omega linear) j.most_here;
   };
   least = record {
-    among = pushed xs e.least r.least o a.least.among j.least_from;
-    fewest = All-push (λ x. r.least ≤ℤ x) xs o (λ k d l. let h = a.least.fewest k d l in let m = j.fewest in omega (arith, ints)) j.fewest_here;
+    among = pushed xs _ _ o a.least.among j.least_from;
+    fewest = All-push (λ x. r.least ≤ℤ x) xs o (λ k d l. let h = a.least.fewest k d l in omega linear) j.fewest_here;
   };
 }
 
 type_among : (types : List LocalType) (k : ℕ) (d : LocalType) → k < length types → Contains (offsets_of types) (get_or types k d).offset
-type_among types k d h = (k, simp length-map (h), get_or-map (λ (t : LocalType). t.offset) types k d (get_or types k d).offset h)
+type_among types k d h = (k, simp length-map (h), get_or-map (λ t. t.offset) types k d (get_or types k d).offset h)
 
--- of the first type alone, and of one type more
-pub first_type : (types : List LocalType) (d : LocalType) (e : Extremes) → 0 < length types → e.greatest ≡ (get_or types 0 d).offset
-    → e.least ≡ (get_or types 0 d).offset → AreExtremes (offsets_of (take 1 types)) e
-first_type [] d e h g l = absurd (omega arith)
-first_type (t ∷ ts) d e h g l = grind arith
-
+-- of one type more
 pub next_type : (types : List LocalType) (n : ℕ) (d : LocalType) (e r : Extremes) → n < length types → AreExtremes (offsets_of (take n types)) e
     → AreJoined e (get_or types n d).offset r → AreExtremes (offsets_of (take (n + 1) types)) r
-next_type types n d e r h a j = rw (add-one, take-suc types n d h, map-append) (joined (offsets_of (take n types)) e (get_or types n d).offset r a j)
+next_type types n d e r h a j = rw (add-one, take-suc types n d h, map-append) (joined _ e _ r a j)
 
 -- ---- with the rule's
 by_rule : (types : List LocalType) (rule : TransitionRule) (e r : Extremes) → AreExtremes (offsets_of types) e → AreJoinedByRule e rule r
     → AreExtremes (offsets types (Some rule)) r
-by_rule types (Fixed t) e r h j = joined (offsets_of types) e t.offset r h j
+by_rule _ (Fixed t) e r h j = joined _ e _ r h j
 by_rule types (Alternate a) e r h (one, f, g) =
-    let s = joined (offsets_of types ++ a.std.offset ∷ []) one a.dst.offset r (joined (offsets_of types) e a.std.offset one h f) g in
+    let s = joined _ one _ r (joined _ e _ one h f) g in
     rw append_assoc at s
 
 pub rule_joined : (types : List LocalType) (rule : Option TransitionRule) (some : TransitionRule) (e r : Extremes) → rule ≡ Some some
     → AreExtremes (offsets_of types) e → AreJoinedByRule e some r → AreExtremes (offsets types rule) r
-rule_joined types rule some e r is h j = rw is (by_rule types some e r h j)
+rule_joined _ _ _ e r is h j = rw is (by_rule _ _ e r h j)
 
 -- ---- the offset of a type in force is one of them
 pub rule_among : (rule : Option TransitionRule) (u : ℤ) (t : LocalType) → IsTypeOf rule u t → Contains (rule_offsets rule) t.offset
 rule_among None u t h = absurd h
-rule_among (Some (Fixed f)) u t h = rw h (0, omega arith, refl)
-rule_among (Some (Alternate a)) u t h = elim (one_of_two a u t h) [
+rule_among (Some (Fixed f)) u t h = grind linear
+rule_among (Some (Alternate a)) u t h = elim (one_of_two a t u h) [
   | inl e ↦ rw e (0, omega arith, refl)
   | inr e ↦ rw e (1, omega arith, refl)
 ]
@@ -63,33 +60,33 @@ listed_among : (types : List LocalType) (k : ℕ) (t : LocalType) → k < length
 listed_among types k t h e =
     let g : Some (get_or types k t) ≡ Some t = sym (slice_get-get_or types k t h) ∙ e in
     let s : get_or types k t ≡ t = cc in
-    rw s at (type_among types k t h)
+    rw s at (type_among _ k t h)
 
 pub in_force_among : (z : Zone) (u : ℤ) (t : LocalType) → TypeAt z u t → Contains (offsets z.types z.rule) t.offset
 in_force_among z u t a = elim (type_listed z u t a) [
-  | inl i ↦ Contains-append_left (offsets_of z.types) (rule_offsets z.rule) t.offset (listed_among z.types i.0 t i.1 i.2)
-  | inr h ↦ Contains-append_right (offsets_of z.types) (rule_offsets z.rule) t.offset (rule_among z.rule u t h)
+  | inl i ↦ Contains-append_left (offsets_of z.types) (rule_offsets z.rule) _ (listed_among _ i.0 t i.1 i.2)
+  | inr h ↦ Contains-append_right (offsets_of z.types) (rule_offsets z.rule) _ (rule_among _ u t h)
 ]
 
 pub at_most_greatest : (z : Zone) (u g : ℤ) (t : LocalType) → IsGreatest (offsets z.types z.rule) g → TypeAt z u t → t.offset ≤ℤ g
-at_most_greatest z u g t h a = All-contains (λ x. x ≤ℤ g) (offsets z.types z.rule) t.offset h.most (in_force_among z u t a)
+at_most_greatest z u g t h a = All-contains (λ x. x ≤ℤ g) (offsets _ z.rule) _ h.most (in_force_among z u t a)
 
 pub listed_at_most : (z : Zone) (i : ℕ) (g : ℤ) (t : LocalType) → IsGreatest (offsets z.types z.rule) g → i < length z.types → slice_get z.types i ≡ Some t
     → t.offset ≤ℤ g
-listed_at_most z i g t h below has = All-contains (λ x. x ≤ℤ g) (offsets z.types z.rule) t.offset h.most
-    (Contains-append_left (offsets_of z.types) (rule_offsets z.rule) t.offset (listed_among z.types i t below has))
+listed_at_most z i g t h below has = All-contains (λ x. x ≤ℤ g) (offsets _ z.rule) _ h.most
+    (Contains-append_left (offsets_of z.types) (rule_offsets z.rule) _ (listed_among _ i t below has))
 
 pub at_least_least : (z : Zone) (u g : ℤ) (t : LocalType) → IsLeast (offsets z.types z.rule) g → TypeAt z u t → g ≤ℤ t.offset
-at_least_least z u g t h a = All-contains (λ x. g ≤ℤ x) (offsets z.types z.rule) t.offset h.fewest (in_force_among z u t a)
+at_least_least z u g t h a = All-contains (λ x. g ≤ℤ x) (offsets _ z.rule) _ h.fewest (in_force_among z u t a)
 
 -- the seconds by the greatest offset and by the least
 pub window_made : (z : Zone) (from until g h : ℤ) → IsEnd from → IsEnd until → SFits w32 g → SFits w32 h → IsGreatest (offsets z.types z.rule) g
     → IsLeast (offsets z.types z.rule) h → IsWindowOf z from until (from -ℤ g) (until -ℤ h)
-window_made z from until g h first last fits_g fits_h greatest least = record {
-  greatest = subst (IsGreatest (offsets z.types z.rule)) (back from g) greatest;
-  least = subst (IsLeast (offsets z.types z.rule)) (back until h) least;
-  near_low = (omega (arith, ints, first), omega (arith, ints, first));
-  near_high = (omega (arith, ints, last), omega (arith, ints, last));
+window_made z _ _ g h first last fits_g fits_h greatest least = record {
+  greatest = subst (IsGreatest (offsets _ z.rule)) (back _ g) greatest;
+  least = subst (IsLeast (offsets _ z.rule)) (back _ h) least;
+  near_low = (omega linear, omega (linear, first));
+  near_high = (omega linear, omega (linear, last));
 } where
   back : (x y : ℤ) → y ≡ x -ℤ (x -ℤ y)
-  back x y = omega (arith, ints)
+  back x y = omega linear

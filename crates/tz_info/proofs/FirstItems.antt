@@ -1,6 +1,8 @@
 -- Lists whose first n items pass a test and whose others do not, and functions that rise from place to place.
-use Rattle.tz_info.proofs.SearchWords.{Bool, List, add-suc, add-zero, ap, arith, cond, count_by, false, filter, get_or, int_le, int_lt, ints, length, refl, suc}
-use Rattle.tz_info.proofs.SearchWords.{sum_by-cons, take, true, zero, ℕ, ℤ, [], ◌+◌, ◌-◌, ◌<ℤ◌, ◌<◌, ◌∙◌, ◌∷◌, ◌≡◌, ◌≤ℤ◌, ◌≤◌}
+use Rattle.tz_info.proofs.{
+  SearchWords.{Bool, List, [], ap, arith, cond, count_by, false, filter, get_or, int_le, int_lt, length, linear, refl, suc, sum_by-cons, take, true, zero, ℕ},
+  SearchWords.{ℤ, ◌+◌, ◌-◌, ◌<ℤ◌, ◌<◌, ◌∙◌, ◌∷◌, ◌≡◌, ◌≤ℤ◌, ◌≤◌},
+}
 
 -- the first n items pass
 abbrev pub PassFirst : {X : Type 0} → (X → Bool) → List X → ℕ → Type 0
@@ -32,36 +34,36 @@ count_first p (x ∷ xs) (suc n) h passes fails =
 
 pub count_least : {X : Type 0} (p : X → Bool) (xs : List X) (n : ℕ) → n ≤ length xs → PassFirst p xs n → n ≤ count_by p xs
 count_least p xs zero h passes = omega arith
-count_least p [] (suc n) h passes = absurd (omega arith)
+count_least p [] (suc n) h passes = omega arith
 count_least p (x ∷ xs) (suc n) h passes =
     let rest = count_least p xs n (omega arith) (λ k d l. passes (suc k) d (omega arith)) in
     rw (sum_by-cons (λ x. cond (p x) 1 0) x xs, passes 0 x (omega arith)) (omega arith)
 
 rises_by : (f : ℕ → ℤ) (n : ℕ) → ((i : ℕ) → suc i < n → f i ≤ℤ f (suc i)) → (i k : ℕ) → i + k < n → f i ≤ℤ f (i + k)
-rises_by f n step i zero h = rw add-zero (omega (arith, ints))
-rises_by f n step i (suc k) h = rw add-suc (let r = rises_by f n step i k (omega arith) in let s = step (i + k) (omega arith) in omega (arith, ints))
+rises_by f n step i zero h = grind linear
+rises_by f n step i (suc k) h = grind (linear, rises_by f n step i k (omega arith))
 
 -- what does not fall from place to place does not fall
 pub rises : (f : ℕ → ℤ) (n : ℕ) → ((i : ℕ) → suc i < n → f i ≤ℤ f (suc i)) → (i k : ℕ) → i ≤ k → k < n → f i ≤ℤ f k
 rises f n step i k h l = let e : i + (k - i) ≡ k = omega arith in rw e at (rises_by f n step i (k - i) (omega arith))
 
 pub le_true : (a b : ℤ) → a ≤ℤ b → int_le a b ≡ true
-le_true a b h = grind (arith, ints)
+le_true a b h = grind arith
 
 pub le_false : (a b : ℤ) → b <ℤ a → int_le a b ≡ false
-le_false a b h = grind (arith, ints)
+le_false a b h = grind arith
 
 pub le_is : (a b : ℤ) → int_le a b ≡ true → a ≤ℤ b
-le_is a b h = grind (arith, ints)
+le_is a b h = grind arith
 
 pub le_is_not : (a b : ℤ) → int_le a b ≡ false → ¬ (a ≤ℤ b)
 le_is_not a b h l = let t = le_true a b l in cc
 
 pub lt_true : (a b : ℤ) → a <ℤ b → int_lt a b ≡ true
-lt_true a b h = grind (arith, ints)
+lt_true a b h = grind arith
 
 pub lt_is : (a b : ℤ) → int_lt a b ≡ true → a <ℤ b
-lt_is a b h = grind (arith, ints)
+lt_is a b h = grind arith
 
 pub lt_false : (a b : ℤ) → b ≤ℤ a → int_lt a b ≡ false
-lt_false a b h = grind (arith, ints)
+lt_false a b h = grind arith

@@ -1,22 +1,24 @@
 -- Folds: from the last second that shows a local time back to the change that set clocks back.
-use Rattle.tz_info.proofs.Words.{HasFold, IsInSpan, IsNear, IsSince, IsSpanAt, LocalType, None, SFits, Shows, Some, Span, TypeAt, Zone, ap, arith}
-use Rattle.tz_info.proofs.Words.{by_lt_z, ints, pos}
-use Rattle.tz_info.proofs.Words.{subst, w64, ℤ, ◌+ℤ◌, ◌-ℤ◌, ◌<ℤ◌, ◌≡◌, ◌≤ℤ◌}
 use Rattle.offset_core.specs.WallAnswer.{IsShownBetween}
+use Rattle.tz_info.proofs.{
+  SpanLaws.{until_less},
+  Words.{HasFold, IsInSpan, IsNear, IsSince, IsSpanAt, LocalType, None, SFits, Shows, Some, Span, TypeAt, Zone, ap, by_lt_z, linear, pos, subst, w64, ℤ, ◌+ℤ◌},
+  Words.{◌-ℤ◌, ◌<ℤ◌, ◌≡◌, ◌≤ℤ◌},
+  ZoneLaws.{type_once},
+}
 use Rattle.tz_info.specs.Steps.Folds.{AreEndsOfFold, IsBackTo}
-use Rattle.tz_info.proofs.{SpanLaws.{until_less}, ZoneLaws.{type_once}}
 
 -- the seconds of an answer of two types
 pub ends_of_fold : (z : Zone) (local first last : ℤ) (a b : LocalType) → IsShownBetween (Shows (TypeAt z) local) a b → first ≡ local -ℤ a.offset
     → last ≡ local -ℤ b.offset
     → AreEndsOfFold z local first last
-ends_of_fold z local first last a b several is_first is_last =
-    let at_first = several.at_first.shown in let at_last = several.at_last.shown in record {
+ends_of_fold z _ _ _ a b several is_first is_last =
+    record {
       first_type = a;
       last_type = b;
       several = several;
-      is_first = omega (arith, ints);
-      is_last = omega (arith, ints);
+      is_first = omega linear;
+      is_last = omega linear;
     }
 
 same_offset : (z : Zone) (u : ℤ) (s t : LocalType) → TypeAt z u s → TypeAt z u t → s.offset ≡ t.offset
@@ -25,98 +27,87 @@ same_offset z u s t a b = ap (λ (x : LocalType). x.offset) (type_once z u s t a
 -- at `end` clocks show the local time or less
 not_more : (z : Zone) (local first last end : ℤ) (t : LocalType) → AreEndsOfFold z local first last → IsBackTo z local first last end → TypeAt z end t
     → (end +ℤ t.offset) ≤ℤ local
-not_more z local first last end t ends back here = by_lt_z end last
-    (λ l. let less = back.less end t (omega (arith, ints)) l here in omega (arith, ints))
-    (λ m.
-    let not_later = back.not_later in let is_last = ends.is_last in let shown = ends.several.at_last.shown in
-    let same : ends.several.last ≡ end = omega (arith, ints) in
-    let offset = same_offset z end ends.last_type t (subst (λ (u : ℤ). TypeAt z u ends.last_type) same ends.several.at_last.type) here in
-    omega (arith, ints))
+not_more z _ _ last end t ends back here = grind (linear, same_offset)
 
 -- the first second doesn't lie in the span of `end`
 first_outside : (z : Zone) (local first last end : ℤ) (s : Span) → AreEndsOfFold z local first last → IsBackTo z local first last end
     → IsSpanAt (TypeAt z) end s
     → IsSince s.from first → ⊥
-first_outside z local first last end s ends back at since =
-    let first_shows = ends.several.at_first in let is_first = ends.is_first in let shown = first_shows.shown in let after = back.after_first in
-    let inside : IsInSpan s first = record {
+first_outside z _ first _ end s ends back at since =
+    let first_shows = ends.several.at_first in let is_first = ends.is_first in let inside : IsInSpan s first = record {
       fits = subst (λ (u : ℤ). SFits w64 u) is_first first_shows.fits;
       since = since;
-      until = until_less s.until first end at.inside.until (omega (arith, ints));
+      until = until_less _ _ end at.inside.until (omega linear);
     } in
     let there = subst (λ (u : ℤ). TypeAt z u ends.first_type) is_first first_shows.type in
-    let offset = same_offset z first ends.first_type s.local_time_type there (at.span.each first inside) in
-    let less = not_more z local first last end s.local_time_type ends back at.in_force_then in
-    omega (arith, ints)
+    let offset = same_offset z _ _ _ there (at.span.each first inside) in
+    let less = not_more z _ _ _ end _ ends back at.in_force_then in
+    omega linear
 
--- so the span of `end` begins after it
-pub begins : (z : Zone) (local first last end : ℤ) (s : Span) → AreEndsOfFold z local first last → IsBackTo z local first last end → IsSpanAt (TypeAt z) end s
-    → s.from ≡ None → ⊥
-begins z local first last end s ends back at none = first_outside z local first last end s ends back at (rw none tt)
+-- a fold's ends, the second at which the clocks go back, and the span there
+module _ (z : Zone) (local first last end : ℤ) (s : Span) (ends : AreEndsOfFold z local first last) (back : IsBackTo z local first last end)
+    (at : IsSpanAt (TypeAt z) end s) where
+  -- so the span of `end` begins after it
+  pub begins : s.from ≡ None → ⊥
+  begins none = first_outside z _ _ _ end s ends back at (rw none tt)
 
-pub begins_at : (z : Zone) (local first last end from : ℤ) (s : Span) → AreEndsOfFold z local first last → IsBackTo z local first last end
-    → IsSpanAt (TypeAt z) end s
-    → s.from ≡ Some from → (first <ℤ from) × (from ≤ℤ end)
-begins_at z local first last end from s ends back at is =
-    (by_lt_z first from (λ l. l) (λ m. absurd (first_outside z local first last end s ends back at (rw is m))), rw is at at.inside.since)
+  pub begins_at : (from : ℤ) → s.from ≡ Some from → (first <ℤ from) × (from ≤ℤ end)
+  begins_at from is =
+      (by_lt_z first from (λ l. l) (λ m. absurd (first_outside z _ _ _ end s ends back at (rw is m))), rw is at at.inside.since)
 
 -- and from its begin on clocks show less
 less_from : (z : Zone) (local first last end from : ℤ) (s : Span) → AreEndsOfFold z local first last → IsBackTo z local first last end
     → IsSpanAt (TypeAt z) end s
     → IsNear first → IsNear last → s.from ≡ Some from → (u : ℤ) (t : LocalType) → from ≤ℤ u → u <ℤ last → TypeAt z u t → (u +ℤ t.offset) <ℤ local
-less_from z local first last end from s ends back at near_first near_last is = λ u t since before here. by_lt_z u end
+less_from z _ _ _ end _ s ends back at near_first near_last is = λ u t since before here. by_lt_z u end
     (λ l.
-    let begun = begins_at z local first last end from s ends back at is in
+    let begun = begins_at z _ _ _ end s ends back at _ is in
     let inside : IsInSpan s u = record {
-      fits = omega (arith, ints, near_first, near_last, begun.0);
+      fits = omega linear;
       since = rw is since;
-      until = until_less s.until u end at.inside.until (omega (arith, ints));
+      until = until_less _ u end at.inside.until (omega linear);
     } in
-    let offset = same_offset z u t s.local_time_type here (at.span.each u inside) in
-    let less = not_more z local first last end s.local_time_type ends back at.in_force_then in
-    omega (arith, ints))
+    let offset = same_offset z u t _ here (at.span.each u inside) in
+    let less = not_more z _ _ _ end _ ends back at.in_force_then in
+    omega linear)
     (λ m. back.less u t m before here)
 
--- the change at its begin is the one looked for, if clocks show the local time or more before it
-pub fold_at : (z : Zone) (local first last end from : ℤ) (s : Span) (before : LocalType) → AreEndsOfFold z local first last → IsBackTo z local first last end
-    → IsSpanAt (TypeAt z) end s → IsNear first → IsNear last → s.from ≡ Some from → TypeAt z (from -ℤ pos 1) before → local ≤ℤ
-    ((from -ℤ pos 1) +ℤ before.offset)
-    → HasFold (TypeAt z) local before s.local_time_type from
-fold_at z local first last end from s before ends back at near_first near_last is earlier reached =
-    let begun = begins_at z local first last end from s ends back at is in let not_later = back.not_later in let is_last = ends.is_last in
-    let inside : IsInSpan s from = record {
-      fits = omega (arith, ints, near_first, near_last, begun.0, begun.1);
-      since = rw is (omega (arith, ints));
-      until = by_lt_z from end (λ l. until_less s.until from end at.inside.until (omega (arith, ints)))
-          (λ m. let same : end ≡ from = omega (arith, ints, begun.1) in rw (← same) at.inside.until);
-    } in record {
-      first_type = ends.first_type;
-      last_type = ends.last_type;
-      several = ends.several;
-      not_later = omega (arith, ints, begun.1);
-      here = at.span.each from inside;
-      earlier = earlier;
-      reached = reached;
-      less = λ u t since until. less_from z local first last end from s ends back at near_first near_last is u t since (omega (arith, ints));
-    }
+-- a fold's near ends, the second at which the clocks go back, and the span there
+module _ (z : Zone) (local first last end from : ℤ) (s : Span) (before : LocalType) (ends : AreEndsOfFold z local first last)
+    (back : IsBackTo z local first last end) (at : IsSpanAt (TypeAt z) end s) (near_first : IsNear first) (near_last : IsNear last) (is : s.from ≡ Some from)
+    (earlier : TypeAt z (from -ℤ pos 1) before) where
+  -- the change at its begin is the one looked for, if clocks show the local time or more before it
+  pub fold_at : local ≤ℤ ((from -ℤ pos 1) +ℤ before.offset) → HasFold (TypeAt z) local before s.local_time_type from
+  fold_at reached =
+      let begun = begins_at z _ _ _ end s ends back at _ is in let not_later = back.not_later in let inside : IsInSpan s from = record {
+        fits = omega (linear, begun.0, begun.1);
+        since = rw is (omega linear);
+        until = by_lt_z from end (λ l. until_less _ _ end at.inside.until (omega linear))
+            (λ m. let same : end ≡ from = omega (linear, begun.1) in rw (← same) at.inside.until);
+      } in record {
+        first_type = ends.first_type;
+        last_type = ends.last_type;
+        several = ends.several;
+        not_later = omega (linear, begun.1);
+        here = at.span.each from inside;
+        earlier = earlier;
+        reached = reached;
+        less = λ u t since until. less_from z _ _ _ end _ s ends back at near_first near_last is u t since (omega linear);
+      }
 
--- else the search goes on before it
-pub goes_back : (z : Zone) (local first last end from : ℤ) (s : Span) (before : LocalType) → AreEndsOfFold z local first last → IsBackTo z local first last end
-    → IsSpanAt (TypeAt z) end s → IsNear first → IsNear last → s.from ≡ Some from → TypeAt z (from -ℤ pos 1) before → ((from -ℤ pos 1) +ℤ before.offset) <ℤ
-    local
-    → IsBackTo z local first last (from -ℤ pos 1)
-goes_back z local first last end from s before ends back at near_first near_last is earlier less =
-    let begun = begins_at z local first last end from s ends back at is in let not_later = back.not_later in let is_first = ends.is_first in
-    let after = begun.0 in let until_end = begun.1 in let shown = ends.several.at_first.shown in record {
-      after_first = by_lt_z first (from -ℤ pos 1) (λ l. l) (λ m.
-          let same : ends.several.first ≡ from -ℤ pos 1 = omega (arith, ints) in
-          let offset = same_offset z (from -ℤ pos 1) ends.first_type before (subst (λ (u : ℤ). TypeAt z u ends.first_type) same ends.several.at_first.type)
-          earlier in
-          absurd (omega (arith, ints)));
-      not_later = omega (arith, ints);
-      less = λ u t since until here. by_lt_z u from
-          (λ l.
-          let same : from -ℤ pos 1 ≡ u = omega (arith, ints) in
-          let offset = same_offset z u t before here (subst (λ (u : ℤ). TypeAt z u before) same earlier) in omega (arith, ints))
-          (λ m. less_from z local first last end from s ends back at near_first near_last is u t m until here);
-    }
+  -- else the search goes on before it
+  pub goes_back : ((from -ℤ pos 1) +ℤ before.offset) <ℤ local → IsBackTo z local first last (from -ℤ pos 1)
+  goes_back less =
+      let begun = begins_at z local _ _ end s ends back at _ is in let not_later = back.not_later in record {
+        after_first = by_lt_z first (from -ℤ pos 1) (λ l. l) (λ m.
+            let same : ends.several.first ≡ from -ℤ pos 1 = omega linear in
+            let offset = same_offset z _ _ _ (subst (λ (u : ℤ). TypeAt z u ends.first_type) same ends.several.at_first.type)
+            earlier in
+            omega linear);
+        not_later = omega linear;
+        less = λ u t since until here. by_lt_z u from
+            (λ l.
+            let same : from -ℤ pos 1 ≡ u = omega linear in
+            let offset = same_offset z u t _ here (subst (λ (u : ℤ). TypeAt z u before) same earlier) in omega linear)
+            (λ m. less_from z _ _ _ end _ s ends back at near_first near_last is u t m until here);
+      }

@@ -1,52 +1,51 @@
 -- The law of footers.
-use Rattle.tz_base.specs.declared.error.Error.TheVariants.{InvalidTzFile, Utf8}
-use Rattle.tz_base.specs.declared.error.Expected.TheVariants.{FooterBetweenNewlines, FooterInUtf8, TzTextInFooter}
-use Rattle.tz_info.proofs.Words.{Bool, Colon, Decided, Decides, Decides-eqb, Decides-or, Error, FooterFault, HasNoZero, HasText, In_text}
-use Rattle.tz_info.proofs.Words.{IsBetweenNewlines, IsFooter, IsTextFault, IsTzText, IsUtf8, IsUtf8-from_is_utf8, List, No_newlines, None, Not_utf8, Option}
-use Rattle.tz_info.proofs.Words.{SaysRule, Some, TransitionRule, Zero, arith, choice, done, ends_with, false, false_unless, footer_at, inl}
-use Rattle.tz_info.proofs.Words.{inr, is_between_newlines, is_no_text, is_utf8-from_IsUtf8, is_zero, like, list_any, made, nat_eq, nat_tests, refl}
-use Rattle.tz_info.proofs.Words.{refused, rule_in, rule_or_none, said, slice_index, starts_with, subst, sym, trimmed, ℕ, [], ◌==◌, ◌∷◌, ◌≡◌}
-use Rattle.tz_info.proofs.Words.{◌≢◌, ◌⊎◌}
-use Rattle.std.proofs.{lemmas.Bool.{or_parts, true_from_ne_false}, lemmas.Slice.Eq.{ends_is, starts_is}}
-use Rattle.tz_info.proofs.{TextLaws.{text_law}, TrimLaws.{trim_again, trim_is}}
+use Rattle.std.proofs.lemmas.{Bool.{or_parts, true_from_ne_false}, Slice.Eq.{ends_is}}
+use Rattle.tz_base.specs.declared.error.{Error.TheVariants.{InvalidTzFile, Utf8}, Expected.TheVariants.{FooterBetweenNewlines, FooterInUtf8, TzTextInFooter}}
+use Rattle.tz_info.proofs.{
+  TextLaws.{text_law},
+  TrimLaws.{trim_again, trim_is},
+  Words.{Bool, Colon, Decided, Decides, Decides-eqb, Decides-or, Error, FooterFault, HasNoZero, HasText, In_text, IsBetweenNewlines, IsFooter, IsTextFault},
+  Words.{IsTzText, IsUtf8, IsUtf8-from_is_utf8, List, No_newlines, None, Not_utf8, Option, SaysRule, Some, TransitionRule, Zero, [], arith, choice, done},
+  Words.{ends_with, false, false_unless, footer_at, inl, inr, is_between_newlines, is_no_text, is_utf8-from_IsUtf8, is_zero, like, list_any, made, nat_eq},
+  Words.{refl, refused, rule_in, rule_or_none, said, slice_index, subst, sym, trimmed, ℕ, ◌==◌, ◌∷◌, ◌≡◌, ◌≢◌, ◌⊎◌},
+}
 
 -- ---- newlines
 pub between : (bytes : List ℕ) → Decides (is_between_newlines bytes) (IsBetweenNewlines bytes)
 between bytes =
-    let (to, from) = starts_is {E = nat_eq} Decides-eqb bytes (10 ∷ []) (starts_with nat_eq bytes (10 ∷ [])) refl in
     let (to_last, from_last) = ends_is {E = nat_eq} Decides-eqb bytes (10 ∷ []) (ends_with nat_eq bytes (10 ∷ [])) refl in grind arith
 
 -- ---- the text
 no_zero_is : (text : List ℕ) → list_any is_zero text ≡ false → HasNoZero text
 no_zero_is [] h = tt
-no_zero_is (b ∷ bs) h = let p = or_parts (b == 0) (list_any is_zero bs) h in let e = p.0 in ((λ z. grind (arith, nat_tests)), no_zero_is bs p.1)
+no_zero_is (b ∷ bs) h = let p = or_parts (b == 0) (list_any is_zero bs) h in ((λ z. grind arith), no_zero_is bs p.1)
 
 no_zero_again : (text : List ℕ) → HasNoZero text → list_any is_zero text ≡ false
 no_zero_again [] h = refl
-no_zero_again (b ∷ bs) h = let n = h.0 in let e : (b == 0) ≡ false = grind (arith, nat_tests) in rw e (no_zero_again bs h.1)
+no_zero_again (b ∷ bs) h = let e : (b == 0) ≡ false = grind arith in rw e (no_zero_again bs h.1)
 
 pub spelled_law : (extended : Bool) (text : List ℕ) → Decided TransitionRule (rule_in extended text) (IsTzText extended text) (IsTextFault extended text)
 unfolding rule_in
-spelled_law extended text = said (made (λ p. p.0) (text_law extended text))
+spelled_law extended text = said (made (λ p. p.0) (text_law _ _))
     (λ rule h. subst (IsTzText extended text) h.2 h.1.0)
     (λ rule h. ((rule, []), (h, refl), refl))
 
 -- no text is no rule
 none_said : (extended : Bool) (rule : Option TransitionRule) → SaysRule extended [] rule → None ≡ rule
-none_said extended None h = refl
+none_said _ None h = refl
 none_said extended (Some rule) h = absurd (h.0 refl)
 
 some_said : (extended : Bool) (b : ℕ) (bs : List ℕ) (rule : Option TransitionRule) → SaysRule extended (b ∷ bs) rule
     → (r : TransitionRule) × IsTzText extended (b ∷ bs) r × (Some r ≡ rule)
-some_said extended b bs None h = cc
+some_said _ b bs None h = cc
 some_said extended b bs (Some rule) h = (rule, h.1, refl)
 
 rule_law : (extended : Bool) (text : List ℕ)
     → Decided (Option TransitionRule) (rule_or_none extended text) (SaysRule extended text) (λ n. (text ≢ []) × IsTextFault extended text n)
-rule_law extended [] = like (done None) (λ rule e. subst (SaysRule extended []) e refl) (none_said extended) (λ n h. absurd h) (λ n h. absurd (h.0 refl))
-rule_law extended (b ∷ bs) = like (made (λ r. Some r) (spelled_law extended (b ∷ bs)))
+rule_law extended [] = like (done None) (λ rule e. subst (SaysRule extended []) e refl) (none_said _) (λ n h. absurd h) (λ n h. absurd (h.0 refl))
+rule_law extended (b ∷ bs) = like (made (λ r. Some r) (spelled_law _ _))
     (λ rule h. subst (SaysRule extended (b ∷ bs)) h.2 ((λ e. cc), h.1))
-    (some_said extended b bs)
+    (some_said _ b bs)
     (λ n h. ((λ e. cc), h))
     (λ n h. h.1)
 
@@ -55,13 +54,13 @@ abbrev IsNoText : List ℕ → Type 0
 IsNoText text = (slice_index text 0 ≡ 58) ⊎ ¬ (HasNoZero text)
 
 has_zero : (text : List ℕ) → Decides (list_any is_zero text) (¬ (HasNoZero text))
-has_zero text = (λ t n. let f = no_zero_again text n in cc, λ n. true_from_ne_false (list_any is_zero text) (λ f. n (no_zero_is text f)))
+has_zero text = (λ t n. let f = no_zero_again _ n in cc, λ n. true_from_ne_false (list_any is_zero text) (λ f. n (no_zero_is _ f)))
 
 no_text : (text : List ℕ) → Decides (is_no_text text) (IsNoText text)
-no_text text = Decides-or (slice_index text 0 == 58) (list_any is_zero text) (Decides-eqb (slice_index text 0) 58) (has_zero text)
+no_text text = Decides-or (slice_index text 0 == 58) (list_any is_zero text) (Decides-eqb (slice_index text 0) 58) (has_zero _)
 
 no_zero : (text : List ℕ) → ¬ (IsNoText text) → HasNoZero text
-no_zero text h = no_zero_is text (false_unless (list_any is_zero text) (λ t. h (inr ((has_zero text).0 t))))
+no_zero text h = no_zero_is _ (false_unless (list_any is_zero text) (λ t. h (inr ((has_zero _).0 t))))
 
 -- ---- the whole
 abbrev ReadFault : Bool → List ℕ → List ℕ → Error → Type 0
@@ -76,35 +75,35 @@ fault_is extended bytes n (inr u) = subst (FooterFault extended bytes) (sym u.1)
 fault_is extended bytes n (inl u) = elim u.1 [
   | inr b ↦ subst (FooterFault extended bytes) (sym b.1) (No_newlines u.0 b.0)
   | inl b ↦
-      let has : HasText bytes (trimmed bytes) = record { utf8 = u.0; newlines = b.0; trimmed = trim_is bytes } in
+      let has : HasText bytes (trimmed bytes) = record { utf8 = u.0; newlines = b.0; trimmed = trim_is _ } in
       elim b.1 [
         | inl k ↦ subst (FooterFault extended bytes) (sym k.1)
             (elim k.0 [ inl colon ↦ Colon (trimmed bytes) has colon | inr zero ↦ Zero (trimmed bytes) has zero ])
-        | inr k ↦ In_text (trimmed bytes) n has (λ e. k.0 (inl e)) (no_zero (trimmed bytes) k.0) k.1.0 k.1.1
+        | inr k ↦ In_text (trimmed bytes) n has (λ e. k.0 (inl e)) (no_zero _ k.0) k.1.0 k.1.1
       ]
 ]
 
 in_text : (extended : Bool) (bytes text : List ℕ) (n : Error) → HasText bytes text
     → (IsNoText text × (n ≡ InvalidTzFile TzTextInFooter)) ⊎ (¬ (IsNoText text) × ((text ≢ []) × IsTextFault extended text n))
     → ReadFault extended bytes (trimmed bytes) n
-in_text extended bytes text n has fault = rw (trim_again bytes text has.trimmed) (inl (has.utf8, inl (has.newlines, fault)))
+in_text _ _ _ n has fault = rw (trim_again _ _ has.trimmed) (inl (has.utf8, inl (has.newlines, fault)))
 
 is_text : (text : List ℕ) → slice_index text 0 ≢ 58 → HasNoZero text → ¬ (IsNoText text)
-is_text text colon zero h = elim h [ inl c ↦ colon c | inr z ↦ z zero ]
+is_text _ colon zero h = elim h [ inl c ↦ colon c | inr z ↦ z zero ]
 
 fault_again : (extended : Bool) (bytes : List ℕ) (n : Error) → FooterFault extended bytes n → ReadFault extended bytes (trimmed bytes) n
-fault_again extended bytes n (Not_utf8 bad) = inr (bad, refl)
+fault_again _ _ n (Not_utf8 bad) = inr (bad, refl)
 fault_again extended bytes n (No_newlines utf8 bad) = inl (utf8, inr (bad, refl))
-fault_again extended bytes n (Colon text has colon) = in_text extended bytes text (InvalidTzFile TzTextInFooter) has (inl (inl colon, refl))
-fault_again extended bytes n (Zero text has zero) = in_text extended bytes text (InvalidTzFile TzTextInFooter) has (inl (inr zero, refl))
-fault_again extended bytes n (In_text text m has colon zero some fault) = in_text extended bytes text m has (inr (is_text text colon zero, (some, fault)))
+fault_again extended bytes n (Colon text has colon) = in_text _ _ _ _ has (inl (inl colon, refl))
+fault_again extended bytes n (Zero text has zero) = in_text _ _ _ _ has (inl (inr zero, refl))
+fault_again extended bytes n (In_text text m has colon zero some fault) = in_text _ _ _ m has (inr (is_text _ colon zero, (some, fault)))
 
 pub footer_law : (extended : Bool) (bytes : List ℕ)
     → Decided (Option TransitionRule) (footer_at extended bytes) (IsFooter extended bytes) (FooterFault extended bytes)
 unfolding footer_at
-footer_law extended bytes = like
+footer_law _ bytes = like
     (choice (IsUtf8-from_is_utf8 bytes, is_utf8-from_IsUtf8 bytes)
-    (choice (between bytes) (choice (no_text (trimmed bytes)) (refused (InvalidTzFile TzTextInFooter) (omega arith)) (rule_law extended (trimmed bytes)))
+    (choice (between _) (choice (no_text _) (refused (InvalidTzFile TzTextInFooter) (omega arith)) (rule_law _ _))
     (refused (InvalidTzFile FooterBetweenNewlines) (omega arith))) (refused (Utf8 FooterInUtf8) (omega arith)))
     (λ rule h. elim h [
       | inl u ↦ elim u.1 [
@@ -112,9 +111,9 @@ footer_law extended bytes = like
           | inl k ↦ absurd k.1
           | inr k ↦ record {
             text = trimmed bytes;
-            has_text = record { utf8 = u.0; newlines = b.0; trimmed = trim_is bytes };
+            has_text = record { utf8 = u.0; newlines = b.0; trimmed = trim_is _ };
             no_colon = λ e. k.0 (inl e);
-            no_zero = no_zero (trimmed bytes) k.0;
+            no_zero = no_zero _ k.0;
             says = k.1;
           }
         ]
@@ -122,7 +121,7 @@ footer_law extended bytes = like
       ]
       | inr u ↦ absurd u.1
     ])
-    (λ rule h. rw (trim_again bytes h.text h.has_text.trimmed)
-    (inl (h.has_text.utf8, inl (h.has_text.newlines, inr (is_text h.text h.no_colon h.no_zero, h.says)))))
-    (fault_is extended bytes)
-    (fault_again extended bytes)
+    (λ rule h. rw (trim_again _ _ h.has_text.trimmed)
+    (inl (h.has_text.utf8, inl (h.has_text.newlines, inr (is_text _ h.no_colon h.no_zero, h.says)))))
+    (fault_is _ _)
+    (fault_again _ _)

@@ -1,11 +1,15 @@
 -- Gaps: the first second at which clocks show more than a local time that they never show.
-use Rattle.tz_info.proofs.Words.{AreLess, HasGap, IsFirstAtOrAfter, IsNear, IsNeverShown, IsRefusedBy, IsRuleOrNone}
-use Rattle.tz_info.proofs.Words.{IsTypeRefused, IsValid, IsWindowOf, LocalType, None, Option, RuleOrElse, Shows, Some}
-use Rattle.tz_info.proofs.Words.{TransitionRule, TypeAt, Zone, arith, by_leap_time, by_lt_z, by_rule, floor_div, index_of, inl, inr, ints, length, lies_in, pos}
-use Rattle.tz_info.proofs.Words.{segment_of, slice_get, sym, year_of, ℕ, ℤ, ◌+ℤ◌, ◌-ℤ◌, ◌<ℤ◌, ◌<◌, ◌∙◌, ◌≡◌, ◌≤ℤ◌, ◌⊎◌}
+use Rattle.tz_info.proofs.{
+  ExtremeLaws.{at_least_least, at_most_greatest},
+  LeapOrder.{leap_times_answer},
+  RuleLaws.{rule_year},
+  SegmentLaws.{type_before, type_from},
+  Words.{AreLess, HasGap, IsFirstAtOrAfter, IsNear, IsNeverShown, IsRefusedBy, IsRuleOrNone, IsTypeRefused, IsValid, IsWindowOf, LocalType, None, Option},
+  Words.{RuleOrElse, Shows, Some, TransitionRule, TypeAt, Zone, by_leap_time, by_lt_z, by_rule, floor_div, inl, inr, length, lies_in, linear, pos, segment_of},
+  Words.{sym, year_of, ℕ, ℤ, ◌+ℤ◌, ◌-ℤ◌, ◌<ℤ◌, ◌<◌, ◌∙◌, ◌≡◌, ◌≤ℤ◌, ◌⊎◌},
+  ZoneLaws.{some_once, type_decided},
+}
 use Rattle.tz_info.specs.declared.rule.transition_rule.TransitionRule.TheVariants.{Alternate, Fixed}
-use Rattle.tz_info.proofs.{ExtremeLaws.{at_least_least, at_most_greatest}, LeapOrder.{leap_times_answer}, RuleLaws.{rule_year}}
-use Rattle.tz_info.proofs.{SegmentLaws.{type_before, type_from}, ZoneLaws.{some_once, type_decided}}
 
 abbrev pub IsNever : Zone → ℤ → Type 0
 IsNever z l = IsNeverShown (Shows (TypeAt z) l)
@@ -15,12 +19,12 @@ near_rule : (rule : Option TransitionRule) (u : ℤ) → IsNear u → IsRefusedB
 near_rule (Some (Fixed t)) u near h = h
 near_rule (Some (Alternate a)) u near h =
     let lies = lies_in (floor_div u 86_400) in
-    h (year_of (floor_div u 86_400)) lies (rule_year u (year_of (floor_div u 86_400)) lies (omega (arith, ints, near), omega (arith, ints, near)))
+    h (year_of (floor_div u 86_400)) lies (rule_year u _ lies (omega linear, omega (linear, near)))
 near_rule None u near h = h
 
 pub near_not_refused : (z : Zone) (u : ℤ) → IsValid z → IsNear u → IsTypeRefused z u → ⊥
-near_not_refused z u valid near (by_leap_time some refused) = leap_times_answer z.leaps u valid.leaps near.0 near.1 refused
-near_not_refused z u valid near (by_rule x of_second last refused) = near_rule z.rule u near refused
+near_not_refused z u valid near (by_leap_time some refused) = leap_times_answer _ u valid.leaps near.0 near.1 refused
+near_not_refused z u valid near (by_rule x _ _ refused) = near_rule _ u near refused
 
 pub near_type : (z : Zone) (u : ℤ) → IsValid z → IsRuleOrNone z.rule → IsNear u → (t : LocalType) × TypeAt z u t
 near_type z u valid limits near = elim (type_decided z u valid limits) [
@@ -47,10 +51,10 @@ HasOneType z i = (i < length z.transitions) ⊎ (IsSteady z.rule × (i ≡ lengt
 
 pub one_type : (z : Zone) (i : ℕ) (u v : ℤ) (s t : LocalType) → IsValid z → HasOneType z i → segment_of z u ≡ i → segment_of z v ≡ i → TypeAt z u s
     → TypeAt z v t → s ≡ t
-one_type z i u v s t valid (inl h) a b k m = some_once (slice_get z.types (index_of z.transitions i)) s t
-    (type_before z i u s valid.transitions.rising (record { type = k; segment = a }) h)
-    (type_before z i v t valid.transitions.rising (record { type = m; segment = b }) h)
-one_type z i u v s t valid (inr (steady, e)) a b k m = steady_once z.rule (slice_get z.types (index_of z.transitions (length z.transitions))) u v s t steady
+one_type z i u v s t valid (inl h) a b k m = some_once _ s t
+    (type_before z u s valid.transitions.rising i (record { type = k; segment = a }) h)
+    (type_before z v t valid.transitions.rising i (record { type = m; segment = b }) h)
+one_type z i u v s t valid (inr (steady, e)) a b k m = steady_once _ _ u v s t steady
     (type_from z u s valid.transitions.rising (record { type = k; segment = a ∙ e }))
     (type_from z v t valid.transitions.rising (record { type = m; segment = b ∙ e }))
 
@@ -58,23 +62,23 @@ one_type z i u v s t valid (inr (steady, e)) a b k m = steady_once z.rule (slice
 -- at `high` clocks show the local time or a later one
 pub not_less : (z : Zone) (l low high s : ℤ) → IsValid z → IsRuleOrNone z.rule → IsWindowOf z l l low high → AreLess z l s → high ≤ℤ s → ⊥
 not_less z l low high s valid limits reach all h =
-    let t = near_type z high valid limits reach.near_high in
+    let t = near_type z _ valid limits reach.near_high in
     let a = all high reach.near_high h t.0 t.1 in
-    let b = at_least_least z high (l -ℤ high) t.0 reach.least t.1 in
-    omega (arith, ints)
+    let b = at_least_least z _ _ t.0 reach.least t.1 in
+    omega linear
 
 -- ---- the first second that shows more
 -- if all near seconds before c show less, it is the first that shows more
 pub gap_found : (z : Zone) (l low high c : ℤ) (s t : LocalType) → IsNever z l → IsWindowOf z l l low high → IsNear c → AreLess z l (c -ℤ pos 1)
     → TypeAt z c s → l <ℤ (c +ℤ s.offset) → TypeAt z (c -ℤ pos 1) t → HasGap (TypeAt z) l t s c
-gap_found z l low high c s t never reach far all here more before = record {
+gap_found z l low _ c s t never reach far all here more before = record {
   never = never;
   here = here;
   more = more;
   least = λ u m. by_lt_z u c
       (λ h.
-      let g = at_most_greatest z u (l -ℤ low) m.type reach.greatest m.here in
-      let near_u : IsNear u = (omega (arith, ints, reach.near_low), omega (arith, ints, far)) in grind (arith, ints))
+      let g = at_most_greatest z u _ _ reach.greatest m.here in
+      let near_u : IsNear u = (omega linear, omega linear) in grind linear)
       (λ h. h);
   earlier = before;
 }
@@ -85,21 +89,20 @@ pub first_near : (z : Zone) (l low high u : ℤ) (t : LocalType) → IsValid z �
     → (low ≤ℤ u) × (u ≤ℤ high)
 first_near z l low high u t valid limits reach first =
     let near = reach.near_high in
-    let s = near_type z high valid limits near in
-    let least = at_least_least z high (l -ℤ high) s.0 reach.least s.1 in
-    let most = at_most_greatest z u (l -ℤ low) t reach.greatest first.shown.type in
+    let s = near_type z _ valid limits near in
+    let least = at_least_least z _ _ s.0 reach.least s.1 in
+    let most = at_most_greatest z u _ t reach.greatest first.shown.type in
     let reached = first.shown.reached in
-    (omega (arith, ints), first.first high s.0 (record { fits = omega (arith, ints, near); type = s.1; reached = omega (arith, ints) }))
+    (omega linear, first.first high s.0 (record { fits = omega linear; type = s.1; reached = omega linear }))
 
 pub gap_at_first : (z : Zone) (l low high u : ℤ) (t before : LocalType) → IsNever z l → IsWindowOf z l l low high → low ≤ℤ u → u ≤ℤ high
     → IsFirstAtOrAfter (TypeAt z) l u t → TypeAt z (u -ℤ pos 1) before → HasGap (TypeAt z) l before t u
-gap_at_first z l low high u t before never reach since most first earlier =
-    let near_low = reach.near_low in let near_high = reach.near_high in
-    let near : IsNear u = (omega (arith, ints), omega (arith, ints)) in
+gap_at_first z l low _ u t _ never reach since most first earlier =
+    let near : IsNear u = (omega linear, omega linear) in
     let reached = first.shown.reached in
-    gap_found z l low high u t before never reach near
+    gap_found z l low _ u t _ never reach near
     (λ v near_v h s k. by_lt_z (v +ℤ s.offset) l (λ m. m)
-    (λ m. let f = first.first v s (record { fits = omega (arith, ints, near_v); type = k; reached = m }) in absurd (omega (arith, ints))))
+    (λ m. let f = first.first v s (record { fits = omega linear; type = k; reached = m }) in omega linear))
     first.shown.type
-    (by_lt_z l (u +ℤ t.offset) (λ m. m) (λ m. absurd (never u t (record { fits = first.shown.fits; type = first.shown.type; shown = omega (arith, ints) }))))
+    (by_lt_z l (u +ℤ t.offset) (λ m. m) (λ m. absurd (never u t (record { fits = first.shown.fits; type = first.shown.type; shown = omega linear }))))
     earlier

@@ -1,17 +1,18 @@
 -- The type in force at the last transition's second.
-use Rattle.tz_info.proofs.Words.{Agrees, HasType, IfSome, IsLeapTime, IsUnixTime, IsValid, LeapSecond, List, LocalType, None, Option, RuleOrElse, Some}
-use Rattle.tz_info.proofs.Words.{Transition, TransitionRule, TypeAt, Zone, ap, arith, get_or, index_of, last_transition, length, slice_get}
-use Rattle.tz_info.proofs.Words.{slice_get-get_or, sym, ℤ, ◌+◌, ◌-◌, ◌<◌, ◌∙◌, ◌≡◌, ◌≤ℤ◌}
-use Rattle.tz_info.proofs.{SegmentLaws.{come_by_time, index_next, split_at, split_count, type_in_from}, TableSearch.{Between}}
 use Rattle.std.proofs.lemmas.Option.{slice_get_within}
-use Rattle.tz_info.proofs.ZoneLaws.{some_once}
+use Rattle.tz_info.proofs.{
+  SegmentLaws.{come_by_time, index_next, split_at, split_count, type_in_from},
+  Words.{Agrees, HasType, IfSome, IsLeapTime, IsUnixTime, IsValid, LeapSecond, List, LocalType, None, Option, RuleOrElse, Some, Transition, TransitionRule},
+  Words.{TypeAt, Zone, ap, arith, get_or, index_of, last_transition, length, slice_get, slice_get-get_or, sym, ℤ, ◌+◌, ◌-◌, ◌<◌, ◌∙◌, ◌≡◌, ◌≤ℤ◌},
+  ZoneLaws.{some_once},
+}
 
 some_last : (ts : List Transition) (last : Transition) → last_transition ts ≡ Some last → 0 < length ts
 some_last ts last is = let l = slice_get_within ts (length ts - 1) last is in omega arith
 
 pub last_is : (ts : List Transition) (last : Transition) → last_transition ts ≡ Some last → get_or ts (length ts - 1) last ≡ last
 last_is ts last is =
-    let h = some_last ts last is in
+    let h = some_last ts _ is in
     let g : Some (get_or ts (length ts - 1) last) ≡ Some last = sym (slice_get-get_or ts (length ts - 1) last (omega arith)) ∙ is in
     cc
 
@@ -19,27 +20,26 @@ last_is ts last is =
 said : (rule : Option TransitionRule) (types : List LocalType) (leaps : List LeapSecond) (ts : List Transition) (last : Transition) (u : ℤ) (t : LocalType)
     → IfSome rule (λ r. IfSome (last_transition ts) (Agrees types leaps r)) → last_transition ts ≡ Some last → IsUnixTime leaps last.unix_leap_time u
     → slice_get types last.type_index ≡ Some t → RuleOrElse rule u (slice_get types last.type_index ≡ Some t) t
-said None types leaps ts last u t agrees is unix has = has
+said None _ _ ts _ u t agrees is unix has = has
 said (Some r) types leaps ts last u t agrees is unix has =
-    let a : Agrees types leaps r last = rw is at agrees in
-    let same : a.unix_time ≡ u = a.of_transition.difference ∙ sym unix.difference in
-    rw (same, some_once (slice_get types last.type_index) a.type t a.listed has) at a.of_rule
+    let a = rw is at agrees in
+    let same = a.of_transition.difference ∙ sym unix.difference in
+    rw (same, some_once _ _ t a.listed has) at a.of_rule
 
 -- if the last transition has come by its second, its type is in force there
 pub last_type : (z : Zone) (last : Transition) (u x : ℤ) (t : LocalType) → IsValid z → last_transition z.transitions ≡ Some last
     → IsUnixTime z.leaps last.unix_leap_time u → IsLeapTime z.leaps u x → last.unix_leap_time ≤ℤ x → HasType z last.type_index t → TypeAt z u t
 last_type z last u x t valid is unix time come has =
-    let ts : List Transition = z.transitions in
+    let ts = z.transitions in
     let rising = valid.transitions.rising in
-    let h = some_last ts last is in
-    let e = last_is ts last is in
+    let h = some_last ts _ is in
+    let e = last_is ts _ is in
     let p = split_at ts x rising in
     let n = split_count ts x p.0 p.1 in
-    let w = p.1.within in
     let passed = (come_by_time ts x (length ts - 1) last rising (omega arith)).1 (rw e come) in
     let all : p.0 ≡ length ts = omega arith in
-    let between : Between ts x (length ts) (length ts) = rw all at p.1 in
+    let between = rw all at p.1 in
     let same : length ts ≡ (length ts - 1) + 1 = omega arith in
-    let index : index_of ts (length ts) ≡ last.type_index =
-    ap (λ k. index_of ts k) same ∙ index_next ts (length ts - 1) last (omega arith) ∙ ap (λ (d : Transition). d.type_index) e in
-    (type_in_from z u x t time between (rw index (said z.rule z.types z.leaps ts last u t valid.agrees is unix has))).type
+    let index =
+    ap (λ k. index_of ts k) same ∙ index_next ts _ _ (omega arith) ∙ ap (λ d. d.type_index) e in
+    (type_in_from z u x t time between (rw index (said _ _ _ ts _ u t valid.agrees is unix has))).type

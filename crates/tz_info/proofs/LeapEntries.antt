@@ -1,11 +1,10 @@
 -- What follows for leap seconds from their being valid: the thresholds rise, so the passed entries are the first ones.
-use Rattle.tz_base.specs.declared.error.Expected.TheVariants.{UnixTimeOf64Bits}
-use Rattle.tz_info.proofs.Words.{AreLeapSeconds, IsNextLeap, IsOneStep, LeapSecond, List, add-one, ap, arith}
-use Rattle.tz_info.proofs.Words.{correction_before, corrections, expected_of_leap_time, false_unless, filter_first, get_or}
-use Rattle.tz_info.proofs.Words.{get_or_default, inl, inr, int_le, int_lt, ints, last_else, le_is, least_time, length, lt_false, lt_true}
-use Rattle.tz_info.proofs.Words.{pos, refl, rises, suc, sym, take, thresholds, zero, ℕ, ℤ, [], ◌+ℤ◌, ◌+◌, ◌-ℤ◌, ◌<ℤ◌, ◌<◌, ◌∷◌}
-use Rattle.tz_info.proofs.Words.{◌≡◌, ◌≤ℤ◌, ◌≤◌}
-use Rattle.tz_info.proofs.Prefixes.{last_taken}
+use Rattle.tz_info.proofs.{
+  Prefixes.{last_taken},
+  Words.{AreLeapSeconds, IsNextLeap, IsOneStep, LeapSecond, List, [], add-one, ap, arith, correction_before, corrections, filter_first, get_or, get_or_default},
+  Words.{int_lt, last_else, length, linear, lt_false, lt_true, pos, refl, rises, suc, sym, take, thresholds, zero, ℕ, ℤ, ◌+ℤ◌, ◌+◌, ◌-ℤ◌, ◌<ℤ◌, ◌<◌, ◌∷◌, ◌≡◌},
+  Words.{◌≤ℤ◌, ◌≤◌},
+}
 
 -- the entries may follow an entry of correction p
 pub record Follow (p : ℤ) (es : List LeapSecond) : Type 0 where
@@ -20,18 +19,18 @@ follow_tail p e es f = grind arith
 
 pub threshold_count : (p : ℤ) (es : List LeapSecond) → length (thresholds p es) ≡ length es
 threshold_count p [] = refl
-threshold_count p (e ∷ es) = ap suc (threshold_count e.correction es)
+threshold_count p (e ∷ es) = ap suc (threshold_count _ es)
 
 pub threshold_at : (p : ℤ) (es : List LeapSecond) (k : ℕ) (d : LeapSecond) (z : ℤ) → k < length es
     → get_or (thresholds p es) k z ≡ (get_or es k d).unix_leap_time -ℤ last_else p (corrections (take k es))
 threshold_at p [] k d z h = absurd (omega arith)
 threshold_at p (e ∷ es) zero d z h = refl
-threshold_at p (e ∷ es) (suc k) d z h = threshold_at e.correction es k d z (omega arith)
+threshold_at p (e ∷ es) (suc k) d z h = threshold_at _ es k d z (omega arith)
 
 -- two thresholds are 28 days apart but for two seconds
 pub threshold_apart : (a b : LeapSecond) (p : ℤ) → IsNextLeap a b → IsOneStep p a.correction
     → ((a.unix_leap_time -ℤ p) +ℤ pos 2_419_198) ≤ℤ (b.unix_leap_time -ℤ a.correction)
-threshold_apart a b p n s = let l = n.later in elim s [ inl e ↦ omega (arith, ints) | inr e ↦ omega (arith, ints) ]
+threshold_apart a b p n s = grind linear
 
 -- the threshold of the entry at place k
 abbrev pub threshold : List LeapSecond → ℕ → ℤ
@@ -42,38 +41,34 @@ pub record Before (es : List LeapSecond) (x v : ℤ) (i : ℕ) : Type 0 where
   pub value : v ≡ last_else (pos 0) (corrections (take i es))
   pub before : (k : ℕ) (d : LeapSecond) → k < i → (get_or es k d).unix_leap_time <ℤ x
 
-pub before_found : (es : List LeapSecond) (i : ℕ) (d : LeapSecond) (x v : ℤ) → AreLeapSeconds es → i ≤ length es → Before es x v i
-    → (i < length es → x ≤ℤ (get_or es i d).unix_leap_time) → v ≡ correction_before es x
-before_found es i d x v valid h p stops =
-    let e = filter_first (λ (e : LeapSecond). int_lt e.unix_leap_time x) es i h
-    (λ k f l. lt_true _ x (p.before k f l))
-    (λ k f l m.
-    let r = rises (λ j. (get_or es j f).unix_leap_time) (length es) (λ j b. let t = ((follow es valid).next j f (omega arith)).later in
-    omega (arith, ints)) i k l m in
-    let g = ap (λ (e : LeapSecond). e.unix_leap_time) (get_or_default es i f d (omega arith)) in
-    lt_false (get_or es k f).unix_leap_time x (omega (arith, ints))) in
-    rw e p.value
+-- leap seconds in order
+module _ (es : List LeapSecond) (d : LeapSecond) (valid : AreLeapSeconds es) where
+  pub before_found : (i : ℕ) (x v : ℤ) → i ≤ length es → Before es x v i → (i < length es → x ≤ℤ (get_or es i d).unix_leap_time) → v ≡ correction_before es x
+  before_found i x v h p stops =
+      let e = filter_first (λ (e : LeapSecond). int_lt e.unix_leap_time x) es i h
+      (λ k f l. lt_true _ x (p.before k f l))
+      (λ k f l m.
+      let r = rises (λ j. (get_or es j f).unix_leap_time) _ (λ j b. let t = ((follow es valid).next j f (omega arith)).later in
+      omega linear) i k l m in
+      let g = ap (λ (e : LeapSecond). e.unix_leap_time) (get_or_default es i f d (omega arith)) in
+      lt_false _ x (omega linear)) in
+      rw e p.value
 
--- the correction before the first entry's own time, and before a later one's
-pub before_first : (es : List LeapSecond) (d : LeapSecond) → AreLeapSeconds es → 0 < length es → correction_before es (get_or es 0 d).unix_leap_time ≡ pos 0
-before_first es d valid h =
-    sym (before_found es 0 d (get_or es 0 d).unix_leap_time (pos 0) valid (omega arith)
-    (record { value = refl; before = λ k f l. absurd (omega arith) }) (λ _. omega (arith, ints)))
+  -- the correction before the first entry's own time, and before a later one's
+  pub before_first : 0 < length es → correction_before es (get_or es 0 d).unix_leap_time ≡ pos 0
+  before_first h =
+      sym (before_found 0 _ _ (omega arith)
+      (record { value = refl; before = λ k f l. absurd (omega arith) }) (λ _. omega linear))
 
-pub before_later : (es : List LeapSecond) (k : ℕ) (d : LeapSecond) → AreLeapSeconds es → k + 1 < length es
-    → correction_before es (get_or es (k + 1) d).unix_leap_time ≡ (get_or es k d).correction
-before_later es k d valid h =
-    let x : ℤ = (get_or es (k + 1) d).unix_leap_time in
-    sym (before_found es (k + 1) d x (get_or es k d).correction valid (omega arith) (record {
-      value = rw (add-one, last_taken (λ (e : LeapSecond). e.correction) (pos 0) es k d (omega arith)) refl;
-      before = λ j f l.
-          let r = rises (λ i. (get_or es i d).unix_leap_time) (length es) (λ i b. let t = ((follow es valid).next i d (omega arith)).later in
-          omega (arith, ints)) j k (omega arith) (omega arith) in
-          let n = (valid.next k d (omega arith)).later in
-          let g = ap (λ (e : LeapSecond). e.unix_leap_time) (get_or_default es j f d (omega arith)) in
-          omega (arith, ints);
-    }) (λ _. omega (arith, ints)))
-
--- a leap time of 64 bits but the least lacks a Unix time only if that leaves 64 bits
-pub above_least : (x : ℤ) → least_time ≤ℤ x → ¬ (x ≡ least_time) → expected_of_leap_time x ≡ UnixTimeOf64Bits
-above_least x low other = rw (false_unless (int_le x least_time) (λ t. let at_most = le_is x least_time t in other (omega (arith, ints)))) refl
+  pub before_later : (k : ℕ) → k + 1 < length es → correction_before es (get_or es (k + 1) d).unix_leap_time ≡ (get_or es k d).correction
+  before_later k h =
+      let x = (get_or es (k + 1) d).unix_leap_time in
+      sym (before_found (k + 1) x _ (omega arith) (record {
+        value = rw (add-one, last_taken (λ (e : LeapSecond). e.correction) _ es k d (omega arith));
+        before = λ j f l.
+            let r = rises (λ i. (get_or es i d).unix_leap_time) (length es) (λ i b. let t = ((follow es valid).next i d (omega arith)).later in
+            omega linear) j k (omega arith) (omega arith) in
+            let n = (valid.next k d (omega arith)).later in
+            let g = ap (λ (e : LeapSecond). e.unix_leap_time) (get_or_default es j f d (omega arith)) in
+            omega linear;
+      }) (λ _. omega linear))

@@ -1,27 +1,36 @@
 -- Leap times rise weakly with Unix times, none is refused near now, and where corrections count 1, 2, 3 and so on each Unix
 -- time is that of its leap time.
-use Rattle.tz_info.proofs.Words.{AreCounted, AreLeapSeconds, IsLeapTime, IsLeapTimeRefused, IsUnixTime, LeapSecond, List, add-one, ap, arith, by_lt_z, cond}
-use Rattle.tz_info.proofs.Words.{correction_at, corrections, count_by, count_by-le-length, filter, filter_first, get_or, inl, inr, int_le}
-use Rattle.tz_info.proofs.Words.{int_lt, ints, last_else, le_false, le_true, length, mapped_at, neg_ℤ, passed_count, pos, refl, suc}
-use Rattle.tz_info.proofs.Words.{sum_by-cons, sym, take, thresholds, zero, ℕ, ℤ, [], ◌*◌, ◌+ℤ◌, ◌-ℤ◌, ◌<ℤ◌, ◌<◌, ◌∙◌, ◌∷◌, ◌≡◌, ◌≤ℤ◌, ◌≤◌}
-use Rattle.tz_info.proofs.{LeapEntries.{Follow, follow, follow_tail, threshold_apart, threshold_at, threshold_count}, Prefixes.{last_taken}}
+use Rattle.tz_info.proofs.{
+  LeapEntries.{Follow, follow, follow_tail, threshold_apart, threshold_at, threshold_count},
+  Prefixes.{last_taken},
+  Words.{AreCounted, AreLeapSeconds, IsLeapTime, IsLeapTimeRefused, IsUnixTime, LeapSecond, List, [], add-one, ap, arith, by_lt_z, cond, correction_at},
+  Words.{corrections, count_by, count_by-le-length, filter, filter_first, get_or, inl, inr, int_le, int_lt, ints, last_else, le_false, le_true, length, linear},
+  Words.{mapped_at, neg_ℤ, passed_count, pos, refl, suc, sum_by-cons, sym, take, thresholds, zero, ℕ, ℤ, ◌*◌, ◌+ℤ◌, ◌-ℤ◌, ◌<ℤ◌, ◌<◌, ◌∙◌, ◌∷◌, ◌≡◌, ◌≤ℤ◌, ◌≤◌},
+}
 
 -- how many entries after one of correction p are passed at u
 abbrev pub counted_from : ℤ → List LeapSecond → ℤ → ℕ
 counted_from p es u = count_by (λ t. int_le t u) (thresholds p es)
 
--- the next threshold comes later
-tail_later : (p : ℤ) (e : LeapSecond) (es : List LeapSecond) → Follow p (e ∷ es) → (d : LeapSecond) → 0 < length es
-    → ((e.unix_leap_time -ℤ p) +ℤ pos 2_419_198) ≤ℤ ((get_or es 0 d).unix_leap_time -ℤ e.correction)
-tail_later p e es f d h = threshold_apart e (get_or es 0 d) p (f.next 0 d (omega arith)) (f.step e (omega arith))
+abbrev summed : ℤ → List LeapSecond → ℤ → ℤ
+summed p es u = u +ℤ last_else p (corrections (take (counted_from p es u) es))
 
-counted : (p u : ℤ) (e : LeapSecond) (es : List LeapSecond) → (e.unix_leap_time -ℤ p) ≤ℤ u → counted_from p (e ∷ es) u ≡ suc (counted_from e.correction es u)
-counted p u e es h = sum_by-cons (λ t. cond (int_le t u) 1 0) (e.unix_leap_time -ℤ p) (thresholds e.correction es)
-    ∙ rw (le_true (e.unix_leap_time -ℤ p) u h) (omega arith)
+-- a leap second and those after it
+module _ (p : ℤ) (e : LeapSecond) (es : List LeapSecond) where
+  -- the next threshold comes later
+  tail_later : Follow p (e ∷ es) → (d : LeapSecond) → 0 < length es
+      → ((e.unix_leap_time -ℤ p) +ℤ pos 2_419_198) ≤ℤ ((get_or es 0 d).unix_leap_time -ℤ e.correction)
+  tail_later f d h = threshold_apart e _ p (f.next 0 d (omega arith)) (f.step e (omega arith))
 
-not_counted : (p u : ℤ) (e : LeapSecond) (es : List LeapSecond) → u <ℤ (e.unix_leap_time -ℤ p) → counted_from p (e ∷ es) u ≡ counted_from e.correction es u
-not_counted p u e es h = sum_by-cons (λ t. cond (int_le t u) 1 0) (e.unix_leap_time -ℤ p) (thresholds e.correction es)
-    ∙ rw (le_false (e.unix_leap_time -ℤ p) u h) (omega arith)
+  counted : (u : ℤ) → (e.unix_leap_time -ℤ p) ≤ℤ u → counted_from p (e ∷ es) u ≡ suc (counted_from e.correction es u)
+  counted u h = sum_by-cons (λ t. cond (int_le t u) 1 0) (e.unix_leap_time -ℤ p) (thresholds e.correction es)
+      ∙ rw (le_true _ u h) (omega arith)
+
+  not_counted : (u : ℤ) → u <ℤ (e.unix_leap_time -ℤ p) → counted_from p (e ∷ es) u ≡ counted_from e.correction es u
+  not_counted u h = grind (linear, le_false)
+
+  summed_counted : (u : ℤ) → (e.unix_leap_time -ℤ p) ≤ℤ u → summed p (e ∷ es) u ≡ summed e.correction es u
+  summed_counted u h = rw (counted u h)
 
 -- where u lies before the first threshold no entry is passed
 pub none_counted : (p u : ℤ) (es : List LeapSecond) → Follow p es
@@ -29,40 +38,34 @@ pub none_counted : (p u : ℤ) (es : List LeapSecond) → Follow p es
 none_counted p u [] f h = refl
 none_counted p u (e ∷ es) f h =
     let here = h e (omega arith) in
-    not_counted p u e es here ∙ none_counted e.correction u es (follow_tail p e es f) (λ d l. let t = tail_later p e es f d l in omega (arith, ints))
-
-abbrev summed : ℤ → List LeapSecond → ℤ → ℤ
-summed p es u = u +ℤ last_else p (corrections (take (counted_from p es u) es))
-
-summed_counted : (p u : ℤ) (e : LeapSecond) (es : List LeapSecond) → (e.unix_leap_time -ℤ p) ≤ℤ u → summed p (e ∷ es) u ≡ summed e.correction es u
-summed_counted p u e es h = rw (counted p u e es h) refl
+    not_counted p e es u here ∙ none_counted _ u es (follow_tail p e es f) (λ d l. let t = tail_later p e es f d l in omega linear)
 
 summed_none : (p u : ℤ) (es : List LeapSecond) → Follow p es
     → ((d : LeapSecond) → 0 < length es → u <ℤ ((get_or es 0 d).unix_leap_time -ℤ p)) → summed p es u ≡ u +ℤ p
-summed_none p u es f h = rw (none_counted p u es f h) refl
+summed_none p u es f h = rw (none_counted p u es f h)
 
 sums_rise : (p u v : ℤ) (es : List LeapSecond) → Follow p es → u ≤ℤ v → summed p es u ≤ℤ summed p es v
-sums_rise p u v [] f h = omega (arith, ints)
+sums_rise p u v [] f h = omega linear
 sums_rise p u v (e ∷ es) f h = by_lt_z u (e.unix_leap_time -ℤ p)
     (λ below. by_lt_z v (e.unix_leap_time -ℤ p)
-    (λ under. rw (summed_none p u (e ∷ es) f (λ d l. below), summed_none p v (e ∷ es) f (λ d l. under)) (omega (arith, ints)))
+    (λ under. rw (summed_none p u _ f (λ d l. below), summed_none p v _ f (λ d l. under)) (omega linear))
     (λ above.
     let t = follow_tail p e es f in
-    let r = sums_rise e.correction (e.unix_leap_time -ℤ p) v es t above in
-    let q = summed_none e.correction (e.unix_leap_time -ℤ p) es t (λ d l. let t = tail_later p e es f d l in omega (arith, ints)) in
-    rw (summed_none p u (e ∷ es) f (λ d l. below), summed_counted p v e es above)
-    (elim (f.step e (omega arith)) [ inl k ↦ omega (arith, ints) | inr k ↦ omega (arith, ints) ])))
-    (λ above. rw (summed_counted p u e es above, summed_counted p v e es (omega (arith, ints))) (sums_rise e.correction u v es (follow_tail p e es f) h))
+    let r = sums_rise _ _ v es t above in
+    let q = summed_none _ (e.unix_leap_time -ℤ p) es t (λ d l. let t = tail_later p e es f d l in omega linear) in
+    rw (summed_none p u _ f (λ d l. below), summed_counted p e es v above)
+    (elim (f.step e (omega arith)) [ inl k ↦ omega linear | inr k ↦ omega linear ])))
+    (λ above. rw (summed_counted p e es u above, summed_counted p e es v (omega linear)) (sums_rise e.correction u v es (follow_tail p e es f) h))
 
 pub leap_sums_rise : (es : List LeapSecond) (u v : ℤ) → AreLeapSeconds es → u ≤ℤ v → (u +ℤ correction_at es u) ≤ℤ (v +ℤ correction_at es v)
-leap_sums_rise es u v valid h = sums_rise (pos 0) u v es (follow es valid) h
+leap_sums_rise es u v valid h = sums_rise _ u v es (follow es valid) h
 
 pub leap_times_rise : (es : List LeapSecond) (u v x y : ℤ) → AreLeapSeconds es → u ≤ℤ v → IsLeapTime es u x → IsLeapTime es v y → x ≤ℤ y
-leap_times_rise es u v x y valid h a b = rw (a.sum, b.sum) (sums_rise (pos 0) u v es (follow es valid) h)
+leap_times_rise es u v x y valid h a b = rw (a.sum, b.sum) (sums_rise _ u v es (follow es valid) h)
 
 was_counted : (p u : ℤ) (e : LeapSecond) (es : List LeapSecond) (k : ℕ) → Follow p (e ∷ es) → k < counted_from p (e ∷ es) u → (e.unix_leap_time -ℤ p) ≤ℤ u
 was_counted p u e es k f l = by_lt_z u (e.unix_leap_time -ℤ p)
-    (λ below. let z = none_counted p u (e ∷ es) f (λ d m. below) in absurd (omega arith))
+    (λ below. let z = none_counted p u _ f (λ d m. below) in absurd (omega arith))
     (λ above. above)
 
 -- the k-th passed entry lies k steps on, and its correction is at most k + 1 away
@@ -75,14 +78,14 @@ pub bounded : (p a u : ℤ) (es : List LeapSecond) (k : ℕ) → Follow p es →
     → k < counted_from p es u → Bounded p a u es k
 bounded p a u [] k f h l = absurd (omega arith)
 bounded p a u (e ∷ es) zero f h l =
-    let above = was_counted p u e es zero f l in let t = h e (omega arith) in let d = f.step e (omega arith) in grind (arith, ints)
+    let above = was_counted p u e es _ f l in let t = h e (omega arith) in let d = f.step e (omega arith) in grind linear
 bounded p a u (e ∷ es) (suc k) f h l =
-    let above = was_counted p u e es (suc k) f l in let t = h e (omega arith) in let d = f.step e (omega arith) in
-    let c = counted p u e es above in
+    let above = was_counted p u e es _ f l in let t = h e (omega arith) in let d = f.step e (omega arith) in
+    let c = counted p e es u above in
     grind (
       arith,
       ints,
-      bounded e.correction (a +ℤ pos 2_419_198) u es k (follow_tail p e es f) (λ g m. let w = tail_later p e es f g m in omega (
+      bounded _ (a +ℤ pos 2_419_198) u es k (follow_tail p e es f) (λ g m. let w = tail_later p e es f g m in omega (
         arith,
         ints,
       )) (omega arith),
@@ -91,8 +94,8 @@ bounded p a u (e ∷ es) (suc k) f h l =
 pub leap_times_answer : (es : List LeapSecond) (u : ℤ) → AreLeapSeconds es → neg_ℤ (pos 10_000_000_000_000) ≤ℤ u
     → u ≤ℤ pos 10_000_000_000_000 → IsLeapTimeRefused es u → ⊥
 leap_times_answer es u valid low high r =
-    let b = bounded (pos 0) (pos 0) u es r.place (follow es valid) (λ d l. let f = (valid.first d l).since_epoch in omega (arith, ints)) r.passed in
-    let a = b.later in grind arith
+    let b = bounded _ (pos 0) u es _ (follow es valid) (λ d l. let f = (valid.first d l).since_epoch in omega linear) r.passed in
+    grind arith
 
 -- the passed entries are those whose thresholds are not above u
 pub record Split (p u : ℤ) (es : List LeapSecond) (k : ℕ) : Type 0 where
@@ -102,14 +105,14 @@ pub record Split (p u : ℤ) (es : List LeapSecond) (k : ℕ) : Type 0 where
 pub split : (p u : ℤ) (es : List LeapSecond) (k : ℕ) → Follow p es → k < length es → Split p u es k
 split p u [] k f h = absurd (omega arith)
 split p u (e ∷ es) zero f h = by_lt_z u (e.unix_leap_time -ℤ p)
-    (λ below. let z = none_counted p u (e ∷ es) f (λ d m. below) in record { passed = λ l. absurd (omega arith); not_passed = λ l. below })
-    (λ above. let c = counted p u e es above in record { passed = λ l. above; not_passed = λ l. absurd (omega arith) })
+    (λ below. let z = none_counted p u _ f (λ d m. below) in record { passed = λ l. absurd (omega arith); not_passed = λ l. below })
+    (λ above. let c = counted p e es u above in record { passed = λ l. above; not_passed = λ l. absurd (omega arith) })
 split p u (e ∷ es) (suc k) f h =
-    let r = split e.correction u es k (follow_tail p e es f) (omega arith) in
+    let r = split _ u es k (follow_tail p e es f) (omega arith) in
     by_lt_z u (e.unix_leap_time -ℤ p)
     (λ below.
-    let c = not_counted p u e es below in let z = none_counted p u (e ∷ es) f (λ d m. below) in
-    record { passed = λ l. absurd (omega arith); not_passed = λ l. r.not_passed (omega arith) })
+    let c = not_counted p e es u below in let z = none_counted p u _ f (λ d m. below) in
+    record { passed = λ l. omega arith; not_passed = λ l. r.not_passed (omega arith) })
     (λ above. grind (arith, counted))
 
 -- the correction of the last of the first k entries is k
@@ -126,13 +129,12 @@ leap_time_undone es u x v valid c a b =
     let n = passed_count es u in
     let m = threshold_count (pos 0) es in
     let l = count_by-le-length (λ t. int_le t u) (thresholds (pos 0) es) in
-    let q = counted_correction es n c (omega arith) in
     let f : filter (λ (e : LeapSecond). int_lt e.unix_leap_time x) es ≡ take n es =
     filter_first (λ (e : LeapSecond). int_lt e.unix_leap_time x) es n (omega arith)
     (λ k d j.
-    let t = (split (pos 0) u es k (follow es valid) (omega arith)).passed j in
-    let w = threshold_at (pos 0) es k d (pos 0) (omega arith) in grind (arith, ints, counted_correction))
+    let t = (split _ u es k (follow es valid) (omega arith)).passed j in
+    let w = threshold_at (pos 0) es k d (pos 0) (omega arith) in grind (linear, counted_correction))
     (λ k d j i.
     let t = (split (pos 0) u es k (follow es valid) i).not_passed j in
-    let w = threshold_at (pos 0) es k d (pos 0) i in grind (arith, ints, counted_correction)) in
+    let w = threshold_at (pos 0) es k d (pos 0) i in grind (linear, counted_correction)) in
     grind arith

@@ -1,12 +1,14 @@
 -- The passed entries, by halves, and the last second that has a leap time.
-use Rattle.std.specs.List.Sorted.{IsPartitionedBy}
 use Rattle.std.proofs.lemmas.Int.{clamps}
-use Rattle.std.specs.Int.{int_min, saturate_signed}
-use Rattle.tz_info.proofs.Words.{AreLeapSeconds, IsLeapTime, LeapSecond, List, SFits, arith, by_lt_z, cases_lt, corrections, false, get_or, inl, inr}
-use Rattle.tz_info.proofs.Words.{int_le, int_lt, ints, le_is, le_true, length, lt_true, mapped_at, passed_count, pos, refl, suc, true, w64, zero}
-use Rattle.tz_info.proofs.Words.{ℕ, ℤ, ◌+ℤ◌, ◌+◌, ◌-ℤ◌, ◌<ℤ◌, ◌<◌, ◌↔◌, ◌∷◌, [], ◌≡◌, ◌≤ℤ◌, ◌≤◌}
-use Rattle.tz_info.proofs.{LeapEntries.{follow, threshold, threshold_at}, LeapOrder.{bounded, split}, Prefixes.{last_taken}}
-use Rattle.tz_info.proofs.LeapStarts.{correction_behind, passed_at_most, times_rise}
+use Rattle.std.specs.{Int.{int_min, saturate_signed}, List.Sorted.{IsPartitionedBy}}
+use Rattle.tz_info.proofs.{
+  LeapEntries.{follow, threshold, threshold_at},
+  LeapOrder.{bounded, split},
+  LeapStarts.{correction_behind, passed_at_most, times_rise},
+  Prefixes.{last_taken},
+  Words.{AreLeapSeconds, IsLeapTime, LeapSecond, List, SFits, [], arith, by_lt_z, cases_lt, corrections, get_or, inl, inr, int_le, int_lt, le_is, le_true},
+  Words.{length, linear, mapped_at, passed_count, pos, refl, suc, true, w64, zero, ℕ, ℤ, ◌+ℤ◌, ◌+◌, ◌-ℤ◌, ◌<ℤ◌, ◌<◌, ◌↔◌, ◌∷◌, ◌≡◌, ◌≤ℤ◌, ◌≤◌},
+}
 use Rattle.tz_info.specs.Steps.Starts.{IsLastWithLeapTime}
 
 -- the number of passed entries lies from `first` to `high`
@@ -21,16 +23,14 @@ all_between es u n e = let m = passed_at_most es u in record { least = omega ari
 -- no entry comes before 1970
 pub since_epoch : (es : List LeapSecond) (k : ℕ) (d : LeapSecond) → AreLeapSeconds es → k < length es → pos 0 ≤ℤ (get_or es k d).unix_leap_time
 since_epoch es k d valid h =
-    let f = (valid.first d (omega arith)).since_epoch in let r = times_rise es 0 k d valid (omega arith) h in omega (arith, ints)
+    let f = (valid.first d (omega arith)).since_epoch in let r = times_rise es d valid 0 k (omega arith) h in omega linear
 
 -- a sum held within 64 bits is on the same side of a number of 64 bits but the least as the sum itself
 le_saturated : (l s : ℤ) → SFits w64 l → pos 0 ≤ℤ l → (l ≤ℤ saturate_signed w64 s) ↔ (l ≤ℤ s)
-le_saturated l s fits some = ((λ h. grind (arith, ints)), (λ h. grind (arith, ints)))
+le_saturated l s fits some = grind linear
 
 pub by_saturated : {P : Type 0} (l s r : ℤ) → SFits w64 l → pos 0 ≤ℤ l → r ≡ saturate_signed w64 s → (int_le l s ≡ true) ↔ P → (int_le l r ≡ true) ↔ P
-by_saturated l s r fits some e p =
-    let same = le_saturated l s fits some in
-    rw e ((λ t. p.0 (le_true l s (same.0 (le_is l (saturate_signed w64 s) t)))), (λ h. le_true l (saturate_signed w64 s) (same.1 (le_is l s (p.1 h)))))
+by_saturated l s r fits some e p = grind (linear, le_saturated, fits, some, le_true, le_is)
 
 -- an entry is passed if and only if its time has come with the correction before it
 pub passed_here : (es : List LeapSecond) (u v : ℤ) (k : ℕ) (d : LeapSecond) → AreLeapSeconds es → k < length es → v ≡ correction_behind es k
@@ -38,23 +38,23 @@ pub passed_here : (es : List LeapSecond) (u v : ℤ) (k : ℕ) (d : LeapSecond) 
 passed_here es u v k d valid h e =
     let s = split (pos 0) u es k (follow es valid) h in
     let t = threshold_at (pos 0) es k d (pos 0) h in (
-      λ come. let c = le_is (get_or es k d).unix_leap_time (u +ℤ v) come in elim (cases_lt k (passed_count es u)) [
+      λ come. elim (cases_lt k (passed_count es u)) [
         | inl l ↦ l
-        | inr m ↦ let n = s.not_passed m in absurd (omega (arith, ints))
+        | inr m ↦ omega linear
       ],
-      λ l. let p = s.passed l in le_true (get_or es k d).unix_leap_time (u +ℤ v) (omega (arith, ints)),
+      λ l. le_true _ (u +ℤ v) (omega linear),
     )
 
 -- a leap time of a second of 64 bits is one of 64 bits
 pub leap_time_fits : (es : List LeapSecond) (u x : ℤ) → SFits w64 u → IsLeapTime es u x → SFits w64 x
 leap_time_fits es u x f l = by_count (passed_count es u) refl where
   by_count : (n : ℕ) → passed_count es u ≡ n → SFits w64 x
-  by_count zero e = let s = rw e at l.sum in omega (arith, ints)
+  by_count zero e = let s = rw e at l.sum in omega linear
   by_count (suc m) e =
       let d : LeapSecond = record { unix_leap_time = pos 0; correction = pos 0 } in
       let within = passed_at_most es u in
-      let s = rw (e, last_taken (λ (e : LeapSecond). e.correction) (pos 0) es m d (omega arith)) at l.sum in
-      let t = rw (mapped_at (λ (e : LeapSecond). e.correction) es m d (pos 0) (omega arith)) at (l.fits m (omega arith)) in
+      let s = rw (e, last_taken (λ e. e.correction) _ es m d (omega arith)) at l.sum in
+      let t = rw (mapped_at (λ e. e.correction) es m d (pos 0) (omega arith)) at (l.fits m (omega arith)) in
       rw s t
 
 -- ---- the last second that has a leap time
@@ -66,9 +66,9 @@ Refuses es k u = (threshold es k ≤ℤ u) × (pos 9_223_372_036_854_775_808 ≤
 pub refuses_by_entry : (es : List LeapSecond) (k : ℕ) (d : LeapSecond) (by before u : ℤ) → k < length es → before ≡ correction_behind es k
     → (by ≤ℤ u) ↔ ((((get_or es k d).unix_leap_time -ℤ before) ≤ℤ u) × (pos 9_223_372_036_854_775_808 ≤ℤ (u +ℤ (get_or es k d).correction)))
     → (by ≤ℤ u) ↔ Refuses es k u
-refuses_by_entry es k d by before u h e first =
+refuses_by_entry es k d by _ u h e first =
     let t = threshold_at (pos 0) es k d (pos 0) h in
-    rw (mapped_at (λ (e : LeapSecond). e.correction) es k d (pos 0) h, t, ← e) first
+    rw (mapped_at (λ e. e.correction) es k d (pos 0) h, t, ← e) first
 
 -- one of the first k entries refuses each second from that one on, and none an earlier one
 pub record AreRefusedFrom (es : List LeapSecond) (k : ℕ) (refused : ℤ) : Type 0 where
@@ -79,9 +79,9 @@ pub record AreRefusedFrom (es : List LeapSecond) (k : ℕ) (refused : ℤ) : Typ
 
 pub none_refused : (es : List LeapSecond) → AreRefusedFrom es 0 (pos 9_223_372_036_854_775_808)
 none_refused es = record {
-  late = omega (arith, ints);
-  most = omega (arith, ints);
-  some = λ u h l. absurd (omega (arith, ints));
+  late = omega arith;
+  most = omega arith;
+  some = λ u h l. absurd (omega linear);
   only = λ u j l. absurd (omega arith);
 }
 
@@ -89,58 +89,52 @@ none_refused es = record {
 pub refused_more : (es : List LeapSecond) (k : ℕ) (old by new : ℤ) → AreRefusedFrom es k old → pos 4_611_686_018_427_387_904 ≤ℤ by
     → ((u : ℤ) → (by ≤ℤ u) ↔ Refuses es k u) → new ≡ int_min old by → AreRefusedFrom es (k + 1) new
 refused_more es k old by new r late refuses e =
-    let low = r.late in let high = r.most in
     record {
-      late = omega (arith, ints, clamps);
-      most = omega (arith, ints, clamps);
+      late = omega (linear, clamps);
+      most = omega (linear, clamps);
       some = λ u h l. by_lt_z u old
-          (λ before. (k, omega arith, (refuses u).0 (omega (arith, ints, clamps))))
+          (λ before. (k, omega arith, (refuses u).0 (omega (linear, clamps))))
           (λ from. let (j, less, is) = r.some u from l in (j, omega arith, is));
       only = λ u j less is. elim (cases_lt j k) [
-        | inl b ↦ let o = r.only u j b is in omega (arith, ints, clamps)
-        | inr m ↦ let same : j ≡ k = omega arith in let o = (refuses u).1 (rw same at is) in omega (arith, ints, clamps)
+        | inl b ↦ let o = r.only u j b is in omega (linear, clamps)
+        | inr m ↦ let same : j ≡ k = omega arith in let o = (refuses u).1 (rw same at is) in omega (linear, clamps)
       ];
     }
 
 -- and then the second before it is the last one with a leap time
 pub last_with_leap_time : (es : List LeapSecond) (refused last : ℤ) → AreLeapSeconds es → AreRefusedFrom es (length es) refused
     → last ≡ refused -ℤ pos 1 → IsLastWithLeapTime es last
-last_with_leap_time es refused last valid r e = record {
+last_with_leap_time es _ _ valid r e = record {
   has = λ u least h. record {
     sum = refl;
     fits = λ k l.
         let m = passed_at_most es u in
-        let t = (split (pos 0) u es k (follow es valid) (omega arith)).passed l in
-        let b = bounded (pos 0) (pos 0) u es k (follow es valid) (λ d n. let f = (valid.first d n).since_epoch in omega (arith, ints)) l in
-        let later = b.later in let low = b.least in
+        let t = (split _ u es k (follow es valid) (omega arith)).passed l in
+        let b = bounded _ (pos 0) u es k (follow es valid) (λ d n. let f = (valid.first d n).since_epoch in omega linear) l in
         by_lt_z (u +ℤ get_or (corrections es) k (pos 0)) (pos 9_223_372_036_854_775_808)
-        (λ within. omega (arith, ints))
-        (λ beyond. let o = r.only u k (omega arith) (t, beyond) in absurd (omega (arith, ints)));
+        (λ within. omega linear)
+        (λ beyond. let o = r.only u k (omega arith) (t, beyond) in omega linear);
   };
   refused = λ u h l.
-      let (j, less, is) = r.some u (omega (arith, ints)) (omega (arith, ints)) in
-      let from = is.0 in let beyond = is.1 in
+      let (j, less, is) = r.some u (omega linear) (omega linear) in
       record {
         place = j;
         passed = elim (cases_lt j (passed_count es u)) [
           | inl b ↦ b
-          | inr m ↦ let n = (split (pos 0) u es j (follow es valid) less).not_passed m in absurd (omega (arith, ints))
+          | inr m ↦ let n = (split _ u es j (follow es valid) less).not_passed m in omega linear
         ];
-        leaves = λ f. omega (arith, ints);
+        leaves = λ f. omega linear;
       };
 }
 
 -- ---- the entries before a leap time
-pub lt_is_not : (a b : ℤ) → int_lt a b ≡ false → b ≤ℤ a
-lt_is_not a b h = by_lt_z a b (λ l. let t = lt_true a b l in cc) (λ m. m)
-
 pub parted_before : (es : List LeapSecond) (x : ℤ) → AreLeapSeconds es → IsPartitionedBy (λ e. int_lt e.unix_leap_time x) es
-parted_before es x valid i j d h l t = let r = times_rise es i j d valid h l in
+parted_before es x valid i j d h l t = let r = times_rise es d valid i j h l in
     earlier (get_or es i d).unix_leap_time (get_or es j d).unix_leap_time x r t where
       earlier : (a b x : ℤ) → a ≤ℤ b → int_lt b x ≡ true → int_lt a x ≡ true
-      earlier a b x h t = grind (arith, ints)
+      earlier a b x h t = grind arith
 
 -- without leap seconds the leap time of a second is that second
 pub own_leap_time : (es : List LeapSecond) (u : ℤ) → length es ≡ 0 → IsLeapTime es u u
-own_leap_time [] u none = record { sum = omega (arith, ints); fits = λ k h. absurd (omega arith) }
+own_leap_time [] u none = record { sum = omega linear; fits = λ k h. omega arith }
 own_leap_time (e ∷ es) u none = absurd (omega arith)

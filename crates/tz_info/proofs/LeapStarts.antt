@@ -1,54 +1,88 @@
 -- The first second at which a leap time has come.
 use Rattle.std.specs.List.Sorted.{IsPartitionedBy}
-use Rattle.tz_info.proofs.Words.{AreLeapSeconds, HaveCome, IsLeapTime, IsNear, IsOneStep, LeapSecond, List, arith, by_lt_z, cases_lt, corrections}
-use Rattle.tz_info.proofs.Words.{count_by-le-length, get_or, inl, inr, int_le, ints, last_else, length, passed_count, pos, rises, saturate_signed, suc, take}
-use Rattle.tz_info.proofs.Words.{thresholds, w64, zero, ℕ, ℤ, [], ◌+ℤ◌, ◌-ℤ◌, ◌-◌, ◌<ℤ◌, ◌<◌, ◌↔◌, ◌∷◌, ◌≡◌, ◌≤ℤ◌, ◌≤◌}
-use Rattle.tz_info.proofs.{LeapEntries.{follow, threshold, threshold_at, threshold_count}, LeapOrder.{split}, Prefixes.{last_taken}}
+use Rattle.tz_info.proofs.{
+  LeapEntries.{follow, threshold, threshold_at, threshold_count},
+  LeapOrder.{split},
+  Prefixes.{last_taken},
+  Words.{AreLeapSeconds, HaveCome, IsLeapTime, IsNear, IsOneStep, LeapSecond, List, [], arith, by_lt_z, cases_lt, corrections, count_by-le-length, get_or, inl},
+  Words.{inr, int_le, last_else, length, linear, passed_count, pos, rises, saturate_signed, suc, take, thresholds, w64, zero, ℕ, ℤ, ◌+ℤ◌, ◌-ℤ◌, ◌-◌, ◌<ℤ◌, ◌<◌},
+  Words.{◌↔◌, ◌∷◌, ◌≡◌, ◌≤ℤ◌, ◌≤◌},
+}
 
 -- the correction in force after the first k entries
 abbrev pub correction_behind : List LeapSecond → ℕ → ℤ
 correction_behind es k = last_else (pos 0) (corrections (take k es))
 
-one_step : (es : List LeapSecond) (k : ℕ) (d : LeapSecond) → AreLeapSeconds es → k < length es
-    → IsOneStep (correction_behind es k) (correction_behind es (suc k))
-one_step es zero d valid h = rw (last_taken (λ (e : LeapSecond). e.correction) (pos 0) es zero d h) ((follow es valid).step d (omega arith))
-one_step es (suc k) d valid h =
-    rw (last_taken (λ (e : LeapSecond). e.correction) (pos 0) es (suc k) d h, last_taken (λ (e : LeapSecond). e.correction) (pos 0) es k d (omega arith))
-    (((follow es valid).next k d h).step)
-
 pub passed_at_most : (es : List LeapSecond) (u : ℤ) → passed_count es u ≤ length es
 passed_at_most es u = omega (arith, count_by-le-length (λ t. int_le t u) (thresholds (pos 0) es), threshold_count (pos 0) es)
-
--- fewer entries are passed at u than come by x
-below_law : (es : List LeapSecond) (x u y : ℤ) (n : ℕ) (d : LeapSecond) → AreLeapSeconds es → HaveCome es x n → IsLeapTime es u y
-    → passed_count es u < n → y <ℤ x
-below_law es x u y n d valid h l less =
-    let c = passed_count es u in
-    let s = (split (pos 0) u es c (follow es valid) (omega arith)).not_passed (omega arith) in
-    let t = threshold_at (pos 0) es c d (pos 0) (omega arith) in grind arith
-
--- more entries are passed at u than come by x
-above_law : (es : List LeapSecond) (x u y : ℤ) (n c : ℕ) (d : LeapSecond) → AreLeapSeconds es → HaveCome es x n → IsLeapTime es u y
-    → passed_count es u ≡ suc c → n ≤ c → x ≤ℤ y
-above_law es x u y n c d valid h l is more =
-    let m = passed_at_most es u in
-    let s = (split (pos 0) u es c (follow es valid) (omega arith)).passed (omega arith) in
-    let t = threshold_at (pos 0) es c d (pos 0) (omega arith) in
-    let a : x <ℤ (get_or es c d).unix_leap_time = by_lt_z x (get_or es c d).unix_leap_time (λ k. k) (λ k. absurd (h.after c d more (omega arith) k)) in
-    let e : y ≡ u +ℤ correction_behind es (suc c) = rw is at l.sum in
-    elim (one_step es c d valid (omega arith)) [ inl k ↦ omega (arith, ints) | inr k ↦ omega (arith, ints) ]
-
--- and then x less the correction in force at x comes before u
-above_start : (es : List LeapSecond) (x u : ℤ) (n : ℕ) (d : LeapSecond) → AreLeapSeconds es → HaveCome es x n → n < passed_count es u
-    → (x -ℤ correction_behind es n) ≤ℤ u
-above_start es x u n d valid h more =
-    let m = passed_at_most es u in
-    let s = (split (pos 0) u es n (follow es valid) (omega arith)).passed more in
-    let t = threshold_at (pos 0) es n d (pos 0) (omega arith) in grind arith
 
 pub no_first : {X : Type 0} (xs : List X) (n : ℕ) → n < length xs → X
 no_first [] n h = absurd (omega arith)
 no_first (x ∷ xs) n h = x
+
+-- a number limited to 64 bits is on the same side of each second near now
+pub saturated : (v u : ℤ) → IsNear u → (saturate_signed w64 v ≤ℤ u) ↔ (v ≤ℤ u)
+saturated v u near = grind linear
+
+pub saturated_rise : (v w : ℤ) → v ≤ℤ w → saturate_signed w64 v ≤ℤ saturate_signed w64 w
+saturated_rise v w h = grind arith
+
+-- leap seconds in order
+module _ (es : List LeapSecond) (d : LeapSecond) (valid : AreLeapSeconds es) where
+  one_step : (k : ℕ) → k < length es → IsOneStep (correction_behind es k) (correction_behind es (suc k))
+  one_step zero h = rw (last_taken (λ (e : LeapSecond). e.correction) _ es _ d h) ((follow es valid).step d (omega arith))
+  one_step (suc k) h =
+      rw (last_taken (λ (e : LeapSecond). e.correction) _ es _ d h, last_taken (λ (e : LeapSecond). e.correction) _ es k d (omega arith))
+      (((follow es valid).next k d h).step)
+
+  -- fewer entries are passed at u than come by x
+  below_law : (x u y : ℤ) (n : ℕ) → HaveCome es x n → IsLeapTime es u y → passed_count es u < n → y <ℤ x
+  below_law x u y n h l less =
+      let c = passed_count es u in
+      let s = (split _ u es c (follow es valid) (omega arith)).not_passed (omega arith) in
+      let t = threshold_at (pos 0) es c d (pos 0) (omega arith) in grind arith
+
+  -- more entries are passed at u than come by x
+  above_law : (x u y : ℤ) (n c : ℕ) → HaveCome es x n → IsLeapTime es u y → passed_count es u ≡ suc c → n ≤ c → x ≤ℤ y
+  above_law x u y n c h l is more =
+      let m = passed_at_most es u in
+      let s = (split _ u es c (follow es valid) (omega arith)).passed (omega arith) in
+      let t = threshold_at (pos 0) es c d (pos 0) (omega arith) in
+      let a : x <ℤ (get_or es c d).unix_leap_time = by_lt_z x (get_or es c d).unix_leap_time (λ k. k) (λ k. absurd (h.after c d more (omega arith) k)) in
+      let e : y ≡ u +ℤ correction_behind es (suc c) = rw is at l.sum in
+      elim (one_step c (omega arith)) [ inl k ↦ omega linear | inr k ↦ omega linear ]
+
+  -- and then x less the correction in force at x comes before u
+  above_start : (x u : ℤ) (n : ℕ) → HaveCome es x n → n < passed_count es u → (x -ℤ correction_behind es n) ≤ℤ u
+  above_start x u n h more =
+      let m = passed_at_most es u in
+      let s = (split _ u es n (follow es valid) (omega arith)).passed more in
+      let t = threshold_at (pos 0) es n d (pos 0) (omega arith) in grind arith
+
+  -- else at the later of two seconds: the one at which the latest entry is passed, and the one that its correction leads back to
+  pub reached_later : (x u y : ℤ) (n : ℕ) → HaveCome es x (suc n) → IsLeapTime es u y
+      → (x ≤ℤ y) ↔ ((threshold es n ≤ℤ u) × ((x -ℤ correction_behind es (suc n)) ≤ℤ u))
+  reached_later x u y n h l =
+      elim (cases_lt (passed_count es u) (suc n)) [
+        | inl less ↦
+            let s = (split _ u es n (follow es valid) (omega arith)).not_passed (omega arith) in
+            let b = below_law x u y _ h l less in
+            ((λ k. omega linear), (λ k. omega linear))
+        | inr from ↦
+            let s = (split _ u es n (follow es valid) (omega arith)).passed (omega arith) in
+            elim (cases_lt (suc n) (passed_count es u)) [
+              | inl more ↦
+                  let a = above_law x u y _ (passed_count es u - 1) h l (omega arith) (omega arith) in
+                  let b = above_start x u _ h more in
+                  ((λ _. (s, b)), (λ _. a))
+              | inr most ↦
+                  let z : passed_count es u ≡ suc n = omega arith in grind linear
+            ]
+      ]
+
+  pub times_rise : (i j : ℕ) → i ≤ j → j < length es → (get_or es i d).unix_leap_time ≤ℤ (get_or es j d).unix_leap_time
+  times_rise i j h l =
+      rises (λ k. (get_or es k d).unix_leap_time) _ (λ k b. let t = ((follow es valid).next k d b).later in omega linear) i j h l
 
 -- if none has come, the leap time is reached at the same number
 pub reached_first : (es : List LeapSecond) (x u y : ℤ) → AreLeapSeconds es → HaveCome es x 0 → IsLeapTime es u y → (x ≤ℤ y) ↔ (x ≤ℤ u)
@@ -56,47 +90,14 @@ reached_first es x u y valid h l = elim (cases_lt 0 (passed_count es u)) [
   | inl more ↦
       let m = passed_at_most es u in
       let d = no_first es 0 (omega arith) in
-      let a = above_law es x u y 0 (passed_count es u - 1) d valid h l (omega arith) (omega arith) in
-      let b = above_start es x u 0 d valid h more in
-      ((λ _. omega (arith, ints)), (λ _. a))
+      let a = above_law es d valid x u y 0 (passed_count es u - 1) h l (omega arith) (omega arith) in
+      let b = above_start es d valid x u 0 h more in
+      ((λ _. omega linear), (λ _. a))
   | inr none ↦ grind arith
 ]
 
--- else at the later of two seconds: the one at which the latest entry is passed, and the one that its correction leads back to
-pub reached_later : (es : List LeapSecond) (x u y : ℤ) (n : ℕ) (d : LeapSecond) → AreLeapSeconds es → HaveCome es x (suc n) → IsLeapTime es u y
-    → (x ≤ℤ y) ↔ ((threshold es n ≤ℤ u) × ((x -ℤ correction_behind es (suc n)) ≤ℤ u))
-reached_later es x u y n d valid h l =
-    elim (cases_lt (passed_count es u) (suc n)) [
-      | inl less ↦
-          let s = (split (pos 0) u es n (follow es valid) (omega arith)).not_passed (omega arith) in
-          let b = below_law es x u y (suc n) d valid h l less in
-          ((λ k. absurd (omega (arith, ints))), (λ k. absurd (let q = k.0 in omega (arith, ints))))
-      | inr from ↦
-          let s = (split (pos 0) u es n (follow es valid) (omega arith)).passed (omega arith) in
-          elim (cases_lt (suc n) (passed_count es u)) [
-            | inl more ↦
-                let a = above_law es x u y (suc n) (passed_count es u - 1) d valid h l (omega arith) (omega arith) in
-                let b = above_start es x u (suc n) d valid h more in
-                ((λ _. (s, b)), (λ _. a))
-            | inr most ↦
-                let z : passed_count es u ≡ suc n = omega arith in grind (arith, ints)
-          ]
-    ]
-
--- a number limited to 64 bits is on the same side of each second near now
-pub saturated : (v u : ℤ) → IsNear u → (saturate_signed w64 v ≤ℤ u) ↔ (v ≤ℤ u)
-saturated v u near = let a = near.0 in let b = near.1 in ((λ k. grind (arith, ints)), (λ k. grind (arith, ints)))
-
-pub saturated_rise : (v w : ℤ) → v ≤ℤ w → saturate_signed w64 v ≤ℤ saturate_signed w64 w
-saturated_rise v w h = grind (arith, ints)
-
-pub times_rise : (es : List LeapSecond) (i j : ℕ) (d : LeapSecond) → AreLeapSeconds es → i ≤ j → j < length es
-    → (get_or es i d).unix_leap_time ≤ℤ (get_or es j d).unix_leap_time
-times_rise es i j d valid h l =
-    rises (λ k. (get_or es k d).unix_leap_time) (length es) (λ k b. let t = ((follow es valid).next k d b).later in omega (arith, ints)) i j h l
-
 pub parted : (es : List LeapSecond) (x : ℤ) → AreLeapSeconds es → IsPartitionedBy (λ e. int_le e.unix_leap_time x) es
-parted es x valid i j d h l t = let r = times_rise es i j d valid h l in grind arith
+parted es x valid i j d h l t = let r = times_rise es d valid i j h l in grind arith
 
 -- the first n entries have come by x if the last of them has and the next one hasn't
 pub come_here : (es : List LeapSecond) (x : ℤ) (n : ℕ) → AreLeapSeconds es → n ≤ length es → ((d : LeapSecond) → 0 < n → (get_or es (n - 1) d).unix_leap_time ≤ℤ x)

@@ -1,13 +1,15 @@
 -- Lists make a zone or have one first fault.
-use Rattle.tz_base.specs.declared.error.Error.TheVariants.{TimeZone}
-use Rattle.tz_base.specs.declared.error.Expected.TheVariants.{AtLeastOneLocalTimeType, LeapSecondsInOrder, RuleThatAgreesWithLastTransition}
-use Rattle.tz_base.specs.declared.error.Expected.TheVariants.{TransitionTimesThatRise, TypeIndexesWithinTypes}
 use Rattle.std.proofs.lemmas.{Bool.Decides.{not_from_Decides}, List.Elements.{All-cons}}
-use Rattle.tz_info.proofs.Words.{All, AllAdjacentBelow, AllPairs, AllPairs-cons, AreLeapSeconds, AreRising, AreTransitions, Bool, Decides, Decides-int_eq}
-use Rattle.tz_info.proofs.Words.{Decides-ltb, Error, IsNextLeap, IsOneStep, IsValid, LeapSecond, List, ListFault, No_type, Not_rising, Other_index}
-use Rattle.tz_info.proofs.Words.{Other_leaps, Other_rule, Transition, Zone, add-one, arith, cases_lt, error_number, false, inl, inr, int_eq, int_lt}
-use Rattle.tz_info.proofs.Words.{length, lt_is, lt_true, pos, refl, suc, sym, true, zero, ℤ, [], ◌+ℤ◌, ◌<ℤ◌, ◌<◌, ◌∙◌, ◌∷◌, ◌≡◌, ◌≤ℤ◌}
-use Rattle.tz_info.proofs.Words.{◌≤◌, ◌⊎◌}
+use Rattle.tz_base.specs.{
+  declared.error.Error.TheVariants.{TimeZone},
+  declared.error.Expected.TheVariants.{AtLeastOneLocalTimeType, LeapSecondsInOrder, RuleThatAgreesWithLastTransition, TransitionTimesThatRise},
+  declared.error.Expected.TheVariants.{TypeIndexesWithinTypes},
+}
+use Rattle.tz_info.proofs.{
+  Words.{All, AllAdjacentBelow, AllPairs, AllPairs-cons, AreLeapSeconds, AreRising, AreTransitions, Bool, Decides, Decides-int_eq, Decides-ltb, Error},
+  Words.{IsNextLeap, IsOneStep, IsValid, LeapSecond, List, ListFault, No_type, Not_rising, Other_index, Other_leaps, Other_rule, Transition, Zone, [], add-one},
+  Words.{arith, cases_lt, error_number, false, inl, inr, length, lt_is, lt_true, pos, refl, suc, sym, true, zero, ℤ, ◌<ℤ◌, ◌<◌, ◌∙◌, ◌∷◌, ◌≡◌, ◌≤ℤ◌, ◌≤◌, ◌⊎◌},
+}
 use Rattle.tz_info.specs.Transitions.{NameTypes}
 
 -- ---- what can be tested holds or does not
@@ -19,7 +21,7 @@ known true d = inl (d.0 refl)
 known false d = inr (not_from_Decides false d refl)
 
 pub equal_known : (a b : ℤ) → Known (a ≡ b)
-equal_known a b = known (int_eq a b) (Decides-int_eq a b)
+equal_known a b = known _ (Decides-int_eq a b)
 
 pub both_known : {P Q : Type 0} → Known P → Known Q → Known (P × Q)
 both_known (inl p) (inl q) = inl (p, q)
@@ -32,44 +34,44 @@ like_known to from (inr none) = inr (λ q. none (from q))
 
 -- ---- of each element, and of each and the next
 all_known : {X : Type 0} {P : X → Type 0} → ((x : X) → Known (P x)) → (xs : List X) → Known (All P xs)
-all_known each [] = inl (λ k d l. absurd (omega (arith, l)))
+all_known each [] = inl (λ k d l. absurd (omega arith))
 all_known {P = P} each (x ∷ xs) = like_known
-    (λ h. All-cons P x xs h.0 h.1) (λ h. (h 0 x (omega arith), λ k d l. h (suc k) d (omega (arith, l)))) (both_known (each x) (all_known each xs))
+    (λ h. All-cons P x xs h.0 h.1) (λ h. (h 0 x (omega arith), λ k d l. h (suc k) d (omega arith))) (both_known (each x) (all_known each xs))
 
 pairs_known : {X : Type 0} {R : X → X → Type 0} → ((x y : X) → Known (R x y)) → (xs : List X) → Known (AllPairs R xs)
-pairs_known each [] = inl (λ i j d l m. absurd (omega (arith, m)))
+pairs_known each [] = inl (λ i j d l m. absurd (omega arith))
 pairs_known {R = R} each (x ∷ xs) = like_known (λ h. AllPairs-cons R x xs h.0 h.1)
-    (λ h. (λ k d l. h 0 (suc k) d (omega arith) (omega (arith, l)), λ i j d l m. h (suc i) (suc j) d (omega (arith, l)) (omega (arith, m))))
+    (λ h. (λ k d l. h 0 (suc k) d (omega arith) (omega arith), λ i j d l m. h (suc i) (suc j) d (omega arith) (omega arith)))
     (both_known (all_known (each x) xs) (pairs_known each xs))
 
 adjacent_known : {X : Type 0} {R : X → X → Type 0} → ((x y : X) → Known (R x y)) → (xs : List X) → Known (AllAdjacentBelow R xs (length xs))
-adjacent_known each [] = inl (λ k d l. absurd (omega (arith, l)))
-adjacent_known each (x ∷ []) = inl (λ k d l. absurd (omega (arith, l)))
+adjacent_known each [] = inl (λ k d l. absurd (omega arith))
+adjacent_known each (x ∷ []) = inl (λ k d l. absurd (omega arith))
 adjacent_known {R = R} each (x ∷ y ∷ ys) = like_known
-    (λ h. next_front R x y ys h.0 h.1) (λ h. (h 0 x (omega arith), λ k d l. rw add-one (rw add-one at (h (suc k) d (omega (arith, l))))))
+    (λ h. next_front R x y ys h.0 h.1) (λ h. (h 0 x (omega arith), λ k d l. rw add-one (rw add-one at (h (suc k) d (omega arith)))))
     (both_known (each x y) (adjacent_known each (y ∷ ys)))
   where
     next_front : {X : Type 0} (R : X → X → Type 0) (x y : X) (ys : List X) → R x y → AllAdjacentBelow R (y ∷ ys) (length (y ∷ ys))
         → AllAdjacentBelow R (x ∷ y ∷ ys) (length (x ∷ y ∷ ys))
     next_front R x y ys first more zero d l = first
-    next_front R x y ys first more (suc k) d l = rw add-one (rw add-one at (more k d (omega (arith, l))))
+    next_front R x y ys first more (suc k) d l = rw add-one (rw add-one at (more k d (omega arith)))
 
 -- ---- transitions and leap seconds
 earlier_known : (a b : Transition) → Known (a.unix_leap_time <ℤ b.unix_leap_time)
-earlier_known a b = known (int_lt a.unix_leap_time b.unix_leap_time) (lt_is a.unix_leap_time b.unix_leap_time, lt_true a.unix_leap_time b.unix_leap_time)
+earlier_known a b = known _ (lt_is _ _, lt_true _ _)
 
 later_and_step_known : (earliest time a b : ℤ) → Known ((earliest ≤ℤ time) × IsOneStep a b)
-later_and_step_known earliest time a b = grind arith
+later_and_step_known _ _ a b = grind arith
 
 leaps_known : (leaps : List LeapSecond) → Known (AreLeapSeconds leaps)
-leaps_known [] = inl (record { first = λ d l. absurd (omega (arith, l)); next = λ k d l. absurd (omega (arith, l)) })
+leaps_known [] = inl (record { first = λ d l. absurd (omega arith); next = λ k d l. absurd (omega arith) })
 leaps_known (e ∷ es) = like_known (λ h. record { first = λ d l. record { since_epoch = h.0.0; step = h.0.1 }; next = h.1 })
     (λ h. let first = h.first e (omega arith) in ((first.since_epoch, first.step), h.next))
-    (both_known (later_and_step_known (pos 0) e.unix_leap_time (pos 0) e.correction) (adjacent_known next_known (e ∷ es)))
+    (both_known (later_and_step_known _ _ (pos 0) _) (adjacent_known next_known (e ∷ es)))
   where
     next_known : (a b : LeapSecond) → Known (IsNextLeap a b)
     next_known a b = like_known (λ h. record { later = h.0; step = h.1 }) (λ h. (h.later, h.step))
-        (later_and_step_known (a.unix_leap_time +ℤ pos 2_419_199) b.unix_leap_time a.correction b.correction)
+        (later_and_step_known _ _ a.correction b.correction)
 
 -- ---- the first fault
 pub list_fault_or_valid : (z : Zone) (e : Error) → ListFault z e → IsValid z → ⊥
@@ -117,14 +119,14 @@ list_fault_once z d e f g = one_stage (one_stage (one_stage (one_stage (λ a b. 
 
 pub has_list_fault : (z : Zone) → ¬ (IsValid z) → (e : Error) × ListFault z e
 has_list_fault z bad = elim (cases_lt 0 (length z.types)) [
-  | inr none ↦ (TimeZone AtLeastOneLocalTimeType, No_type (λ l. absurd (omega (arith, l, none))))
-  | inl some ↦ elim (all_known (λ t. known _ (Decides-ltb t.type_index (length z.types))) z.transitions) [
+  | inr none ↦ (TimeZone AtLeastOneLocalTimeType, No_type (λ l. omega arith))
+  | inl some ↦ elim (all_known (λ t. known _ (Decides-ltb t.type_index (length z.types))) _) [
     | inr other ↦ (TimeZone TypeIndexesWithinTypes, Other_index some other)
-    | inl indexes ↦ elim (pairs_known earlier_known z.transitions) [
+    | inl indexes ↦ elim (pairs_known earlier_known _) [
       | inr other ↦ (TimeZone TransitionTimesThatRise, Not_rising some indexes other)
       | inl rising ↦
-          let transitions : AreTransitions (length z.types) z.transitions = record { indexes = indexes; rising = rising } in
-          elim (leaps_known z.leaps) [
+          let transitions : AreTransitions (length z.types) _ = record { indexes = indexes; rising = rising } in
+          elim (leaps_known _) [
             | inr other ↦ (TimeZone LeapSecondsInOrder, Other_leaps some transitions other)
             | inl leaps ↦ (
               TimeZone RuleThatAgreesWithLastTransition,

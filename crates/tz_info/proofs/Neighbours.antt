@@ -1,10 +1,11 @@
 -- Only a year's own moments and those of its two neighbours can enclose a second of the year.
-use Rattle.tz_info.proofs.Words.{Alternate, Bool, DayTime, Decides, Decides-or, IsAlternateRule, IsDstAt, IsInSomeYear, IsRuleDay, IsWithinDay, IsWithinWeek}
-use Rattle.tz_info.proofs.Words.{IsYearOf, arith, by_lt_z, cond, days_at_least, end_in, floors, inl, inr, int_le, ints, is_between, is_dst_by_one}
-use Rattle.tz_info.proofs.Words.{is_in_three, moment, neg_ℤ, not, pos, refl, start_in, starts_rise, true, year_start}
-use Rattle.tz_info.proofs.Words.{year_step, ℤ, ⊎_elim, ◌*ℤ◌, ◌+ℤ◌, ◌-ℤ◌, ◌<ℤ◌, ◌≡◌, ◌≤ℤ◌, ◌⊎◌}
 use Rattle.std.proofs.lemmas.Bool.Decides.{Decides-like}
-use Rattle.tz_info.proofs.RuleDays.{day_within}
+use Rattle.tz_info.proofs.{
+  RuleDays.{day_within},
+  Words.{Alternate, Bool, DayTime, Decides, Decides-or, IsAlternateRule, IsDstAt, IsInSomeYear, IsRuleDay, IsWithinDay, IsWithinWeek, IsYearOf, arith, by_lt_z},
+  Words.{cond, days_at_least, end_in, floors, inl, inr, int_le, is_between, is_dst_by_one, is_in_three, linear, moment, neg_ℤ, not, pos, refl, start_in},
+  Words.{starts_rise, true, year_start, year_step, ℤ, ⊎_elim, ◌*ℤ◌, ◌+ℤ◌, ◌-ℤ◌, ◌<ℤ◌, ◌≡◌, ◌≤ℤ◌, ◌⊎◌},
+}
 
 -- the moments of each year lie less than eight days outside of it
 pub record IsNear (moments : ℤ → ℤ) : Type 0 where
@@ -13,16 +14,16 @@ pub record IsNear (moments : ℤ → ℤ) : Type 0 where
 
 pub near_years : (t : DayTime) (offset : ℤ) → IsRuleDay t.day → IsWithinWeek t.time → IsWithinDay offset → IsNear (moment t offset)
 unfolding moment
-near_years t offset fits week day = record {
-  low = λ year. let within = day_within t.day year fits in omega (arith, floors);
-  high = λ year. let within = day_within t.day year fits in omega (arith, floors);
+near_years t _ fits week day = record {
+  low = λ year. let within = day_within _ year fits in omega (arith, floors);
+  high = λ year. let within = day_within _ year fits in omega (arith, floors);
 }
 
 pub starts_near : (a : Alternate) → IsAlternateRule a → IsNear (start_in a)
-starts_near a h = near_years a.start a.std.offset h.start_day h.within.start_time h.within.std_offset
+starts_near a h = grind (linear, near_years)
 
 pub ends_near : (a : Alternate) → IsAlternateRule a → IsNear (end_in a)
-ends_near a h = near_years a.end a.dst.offset h.end_day h.within.end_time h.within.dst_offset
+ends_near a h = grind (linear, near_years)
 
 -- a later year begins at least 365 days later
 pub year_after : (a b : ℤ) → a <ℤ b → (year_start a +ℤ pos 365) ≤ℤ year_start b
@@ -34,43 +35,42 @@ year_after a b h =
 -- two years later at least 730 days later
 pub two_years_after : (a b : ℤ) → (a +ℤ pos 1) <ℤ b → (year_start a +ℤ pos 730) ≤ℤ year_start b
 two_years_after a b h =
-    let step = year_after a (a +ℤ pos 1) (omega (arith, floors)) in let next = year_after (a +ℤ pos 1) b h in
+    let step = year_after a (a +ℤ pos 1) (omega (arith, floors)) in let next = year_after _ b h in
     omega (arith, floors)
 
 -- a second of the year comes from the year's first day on, and before the next year
 pub second_low : (u year : ℤ) → IsYearOf u year → (pos 86_400 *ℤ year_start year) ≤ℤ u
-second_low u year h = omega (arith, floors, h.0)
+second_low u _ h = omega (arith, floors)
 
 pub second_high : (u year : ℤ) → IsYearOf u year → u <ℤ (pos 86_400 *ℤ year_start (year +ℤ pos 1))
-second_high u year h = omega (arith, floors, h.1)
+second_high u _ h = omega (arith, floors)
 
 pub not_earlier : (lasts : ℤ → ℤ) (u year other : ℤ) → IsNear lasts → IsYearOf u year → u <ℤ lasts other → (year -ℤ pos 1) ≤ℤ other
-not_earlier lasts u year other near of_second before = by_lt_z other (year -ℤ pos 1)
+not_earlier _ u year other near of_second before = by_lt_z other (year -ℤ pos 1)
     (λ less.
     let far = two_years_after other year (omega (arith, floors)) in
-    let high = near.high other in let low = second_low u year of_second in
-    absurd (omega (arith, floors)))
+    let high = near.high other in omega (arith, floors))
     (λ h. h)
 
 pub not_later : (firsts : ℤ → ℤ) (u year other : ℤ) → IsNear firsts → IsYearOf u year → firsts other ≤ℤ u → other ≤ℤ (year +ℤ pos 1)
-not_later firsts u year other near of_second from = by_lt_z (year +ℤ pos 1) other
+not_later _ u year other near of_second from = by_lt_z (year +ℤ pos 1) other
     (λ more.
-    let far = year_after (year +ℤ pos 1) other more in
-    let low = near.low other in grind (arith, ints, floors))
+    let far = year_after _ _ more in
+    let low = near.low other in grind (linear, floors))
     (λ h. h)
 
 -- moments that enclose a second are those of one of three years
 pub place : (year other : ℤ) → (year -ℤ pos 1) ≤ℤ other → other ≤ℤ (year +ℤ pos 1) → (other ≡ year -ℤ pos 1) ⊎ ((other ≡ year) ⊎ (other ≡ year +ℤ pos 1))
-place year other low high = grind arith
+place _ _ low high = grind arith
 
 between_true : (first last u : ℤ) → first ≤ℤ u → u <ℤ last → is_between first last u ≡ true
-between_true first last u from before = grind (arith, ints)
+between_true _ _ u from before = grind arith
 
 between_is : (first last u : ℤ) → is_between first last u ≡ true → (first ≤ℤ u) × (u <ℤ last)
-between_is first last u h = grind (arith, ints)
+between_is _ _ u h = grind arith
 
 between : (first last u : ℤ) → Decides (is_between first last u) ((first ≤ℤ u) × (u <ℤ last))
-between first last u = (between_is first last u, λ h. between_true first last u h.0 h.1)
+between _ _ u = (between_is _ _ u, λ h. between_true _ _ u h.0 h.1)
 
 by_three : (firsts lasts : ℤ → ℤ) (year u : ℤ) → IsNear firsts → IsNear lasts → IsYearOf u year
     → Decides (is_in_three firsts lasts year u) (IsInSomeYear firsts lasts u)
@@ -80,7 +80,7 @@ by_three firsts lasts year u near_first near_last of_second = Decides-like _
     let (other, from, before) = some in
     let here : (z : ℤ) → other ≡ z → (firsts z ≤ℤ u) × (u <ℤ lasts z) = λ z same. rw (← same) (from, before) in
     ⊎_elim (λ same. inl (inl (here _ same))) (⊎_elim (λ same. inl (inr (here _ same))) (λ same. inr (here _ same)))
-    (place year other (not_earlier lasts u year other near_last of_second before) (not_later firsts u year other near_first of_second from)))
+    (place _ _ (not_earlier _ u _ _ near_last of_second before) (not_later firsts u _ _ near_first of_second from)))
     (Decides-or _ _ (Decides-or _ _ (between _ _ u) (between _ _ u)) (between _ _ u))
 
 -- the moments of each year keep that margin from its ends
@@ -89,7 +89,7 @@ pub record KeepsMargin (moments : ℤ → ℤ) (margin : ℤ) : Type 0 where
   pub high : (year : ℤ) → moments year ≤ℤ (pos 86_400 *ℤ (year_start year +ℤ pos 365) -ℤ margin)
 
 pub near_margin : (moments : ℤ → ℤ) → IsNear moments → KeepsMargin moments (neg_ℤ (pos 691_200))
-near_margin moments near = grind arith
+near_margin _ near = grind arith
 
 -- the second lies no further outside the year than its neighbours' moments lie inside theirs
 abbrev pub IsBeside : ℤ → ℤ → ℤ → Type 0
@@ -99,42 +99,41 @@ IsBeside margin year u =
 -- there only the year's own moments can enclose it
 own_year : (firsts lasts : ℤ → ℤ) (margin year u other : ℤ) → KeepsMargin firsts margin → KeepsMargin lasts margin → IsBeside margin year u → firsts other ≤ℤ u
     → u <ℤ lasts other → other ≡ year
-own_year firsts lasts margin year u other first last beside from before =
-    let here = beside.0 in let there = beside.1 in
+own_year _ _ _ year u other first last beside from before =
     by_lt_z other year
-    (λ less. let after = year_after other year less in let high = last.high other in absurd (omega (arith, floors)))
+    (λ less. let after = year_after _ _ less in let high = last.high other in omega (arith, floors))
     (λ not_less. by_lt_z year other
-    (λ more. let after = year_after year other more in let low = first.low other in absurd (omega (arith, floors)))
+    (λ more. let after = year_after _ _ more in let low = first.low other in omega (arith, floors))
     (λ not_more. omega (arith, floors)))
 
 -- a test that finds what some year has, with the start first or the end first
 pub by_start : (starts ends : ℤ → ℤ) (year u : ℤ) (dst : Bool) → starts year ≤ℤ ends year → (dst ≡ true → IsInSomeYear starts ends u)
     → (IsInSomeYear starts ends u → dst ≡ true) → IsDstAt starts ends year u dst
-by_start starts ends year u dst order found all = grind arith
+by_start _ _ _ u dst order found all = grind arith
 
 pub by_end : (starts ends : ℤ → ℤ) (year u : ℤ) (dst std : Bool) → ends year <ℤ starts year → dst ≡ not std → (std ≡ true → IsInSomeYear ends starts u)
     → (IsInSomeYear ends starts u → std ≡ true) → IsDstAt starts ends year u dst
-by_end starts ends year u dst std order is found all = grind arith
+by_end _ _ _ u dst std order is found all = grind arith
 
 by_own : (firsts lasts : ℤ → ℤ) (margin year u : ℤ) → KeepsMargin firsts margin → KeepsMargin lasts margin → IsBeside margin year u
     → Decides (is_between (firsts year) (lasts year) u) (IsInSomeYear firsts lasts u)
-by_own firsts lasts margin year u first last beside = Decides-like _ (λ h. (year, h.0, h.1))
-    (λ some. let (other, from, before) = some in rw (← own_year firsts lasts margin year u other first last beside from before) (from, before)) (between _ _ u)
+by_own _ _ _ year u first last beside = Decides-like _ (λ h. (year, h.0, h.1))
+    (λ some. let (other, from, before) = some in rw (← own_year _ _ _ _ u _ first last beside from before) (from, before)) (between _ _ u)
 
 -- such tests decide, where moments come in their order in the second's own year
 dst_by : (starts ends : ℤ → ℤ) (year own u : ℤ) (dst first last : Bool) → int_le (starts own) (ends own) ≡ int_le (starts year) (ends year)
     → dst ≡ cond (int_le (starts year) (ends year)) first (not last)
     → Decides first (IsInSomeYear starts ends u) → Decides last (IsInSomeYear ends starts u) → IsDstAt starts ends own u dst
-dst_by starts ends year own u dst first last same is on off = grind arith
+dst_by _ _ _ own u dst _ _ same is on off = grind arith
 
 pub dst_by_one : (starts ends : ℤ → ℤ) (margin year own u : ℤ) (dst : Bool) → KeepsMargin starts margin → KeepsMargin ends margin → IsBeside margin year u
     → int_le (starts own) (ends own) ≡ int_le (starts year) (ends year) → dst ≡ is_dst_by_one (starts year) (ends year) u → IsDstAt starts ends own u dst
-dst_by_one starts ends margin year own u dst start end beside same is =
-    dst_by starts ends year own u dst _ _ same is (by_own starts ends margin year u start end beside) (by_own ends starts margin year u end start beside)
+dst_by_one _ _ _ _ own u dst start end beside same is =
+    dst_by _ _ _ own u dst _ _ same is (by_own _ _ _ _ u start end beside) (by_own _ _ _ _ u end start beside)
 
 -- the moments of three years decide everywhere
 pub dst_by_three : (starts ends : ℤ → ℤ) (year u : ℤ) (dst : Bool) → IsNear starts → IsNear ends → IsYearOf u year
     → dst ≡ cond (int_le (starts year) (ends year)) (is_in_three starts ends year u) (not (is_in_three ends starts year u)) → IsDstAt starts ends year u dst
-dst_by_three starts ends year u dst near_start near_end of_second is =
-    dst_by starts ends year year u dst _ _ refl is (by_three starts ends year u near_start near_end of_second)
-    (by_three ends starts year u near_end near_start of_second)
+dst_by_three _ _ _ u dst near_start near_end of_second is =
+    dst_by _ _ _ _ u dst _ _ refl is (by_three _ _ _ u near_start near_end of_second)
+    (by_three _ _ _ u near_end near_start of_second)

@@ -1,22 +1,26 @@
 -- Walks from change to change, on and back, up to one at which the offset changes.
-use Rattle.tz_info.proofs.Words.{Alternate as AlternateRule, AlternateAt, Bool, Change, IsBegin, IsChange, IsFirstChange, IsLastChange}
-use Rattle.tz_info.proofs.Words.{IsNearestOffsetChange, IsOffsetChange, IsValid, KeepsOffset, LocalType, SFits, Some, TypeAt, Zone, ap, arith, by_lt_z}
-use Rattle.tz_info.proofs.Words.{cases_lt, false, inl, inr, ints, length, pos, refl, segment_of, sym, true, type_when, w64, ℤ, ◌-ℤ◌, ◌<ℤ◌, ◌∙◌, ◌≡◌, ◌≤ℤ◌}
+use Rattle.tz_info.proofs.{
+  ChangeLaws.{one_change},
+  SegmentLaws.{come_at_time, segment_most},
+  Words.{Alternate as AlternateRule, AlternateAt, Bool, Change, IsBegin, IsChange, IsFirstChange, IsLastChange, IsNearestOffsetChange, IsOffsetChange, IsValid},
+  Words.{KeepsOffset, LocalType, SFits, Some, TypeAt, Zone, ap, arith, by_lt_z, cases_lt, false, inl, inr, length, linear, pos, refl, segment_of, sym, true},
+  Words.{type_when, w64, ℤ, ◌-ℤ◌, ◌<ℤ◌, ◌∙◌, ◌≡◌, ◌≤ℤ◌},
+  ZoneChanges.{last_too, time_of, to_rule},
+}
 use Rattle.tz_info.specs.declared.rule.transition_rule.TransitionRule.TheVariants.{Alternate}
-use Rattle.tz_info.proofs.{ChangeLaws.{one_change}, SegmentLaws.{come_at_time, segment_most}, ZoneChanges.{last_too, time_of, to_rule}}
 
 -- a change that is one that keeps the offset is none of the offset
 kept_one : (z : Zone) (c d : Change) → IsOffsetChange (TypeAt z) d → IsChange (TypeAt z) c → d.at ≡ c.at → c.before.offset ≡ c.after.offset → ⊥
 kept_one z c d h is same kept =
     let one = one_change z d c h.is is same in
-    h.other (ap (λ (x : Change). x.before.offset) one ∙ kept ∙ sym (ap (λ (x : Change). x.after.offset) one))
+    h.other (ap (λ x. x.before.offset) one ∙ kept ∙ sym (ap (λ x. x.after.offset) one))
 
 -- ---- a rule whose two types have one offset
 -- all transitions have come at a second with a type from `begin` on
 has_begun : (z : Zone) (begin u : ℤ) (t : LocalType) → IsValid z → IsBegin z begin → SFits w64 u → TypeAt z u t → begin ≤ℤ u
     → segment_of z u ≡ length z.transitions
-has_begun z begin u t valid h fits k from = elim (cases_lt 0 (length z.transitions)) [
-  | inl some ↦ let l = time_of z u t some k in sym (come_at_time z u k.leap_time l) ∙ (h.comes u k.leap_time fits l).1 from
+has_begun z _ u t valid h fits k from = elim (cases_lt 0 (length z.transitions)) [
+  | inl some ↦ let l = time_of z u t some k in sym (come_at_time z u _ l) ∙ (h.comes u k.leap_time fits l).1 from
   | inr none ↦ let m = segment_most z u valid.transitions.rising in omega arith
 ]
 
@@ -25,16 +29,16 @@ of_two a true same = sym same
 of_two a false same = refl
 
 offset_by_rule : (a : AlternateRule) (u : ℤ) (t : LocalType) → a.std.offset ≡ a.dst.offset → AlternateAt a u t → t.offset ≡ a.std.offset
-offset_by_rule a u t same k = ap (λ (x : LocalType). x.offset) k.shown ∙ of_two a k.dst same
+offset_by_rule a u t same k = grind (linear, of_two)
 
 pub rule_keeps : (z : Zone) (a : AlternateRule) (begin : ℤ) → IsValid z → z.rule ≡ Some (Alternate a) → IsBegin z begin → a.std.offset ≡ a.dst.offset
     → KeepsOffset (TypeAt z) (λ u. begin <ℤ u)
-rule_keeps z a begin valid rule h same d is later =
+rule_keeps z a _ valid rule h same d is later =
     let change = is.is in
-    let all = has_begun z begin (d.at -ℤ pos 1) d.before valid h change.fits_before change.before (omega (arith, ints)) in
-    let before = to_rule z a (d.at -ℤ pos 1) d.before valid rule all change.before in
-    let after = to_rule z a d.at d.after valid rule (last_too z d.at valid all) change.after in
-    is.other (offset_by_rule a (d.at -ℤ pos 1) d.before same before ∙ sym (offset_by_rule a d.at d.after same after))
+    let all = has_begun z _ _ _ valid h change.fits_before change.before (omega linear) in
+    let before = to_rule z a _ _ rule valid all change.before in
+    let after = to_rule z a _ _ rule valid (last_too z _ valid all) change.after in
+    is.other (offset_by_rule a _ _ same before ∙ sym (offset_by_rule a _ _ same after))
 
 -- ---- walks
 module _ (z : Zone) (after reached : ℤ) (order : after ≤ℤ reached) (kept : KeepsOffset (TypeAt z) (λ u. (after <ℤ u) × (u ≤ℤ reached))) where
@@ -43,14 +47,14 @@ module _ (z : Zone) (after reached : ℤ) (order : after ≤ℤ reached) (kept :
       → IsNearestOffsetChange true (TypeAt z) (λ u. after <ℤ u) c
   found_on c next other = let inside = next.inside in record {
     is = record { is = next.is; other = other };
-    inside = omega (arith, ints);
+    inside = omega linear;
     nearest = λ d is later. by_lt_z reached d.at (λ l. next.nearest d is.is l) (λ m. absurd (kept d is (later, m)));
   }
 
   pub goes_on : (c : Change) → IsFirstChange (TypeAt z) (λ u. reached <ℤ u) c → c.before.offset ≡ c.after.offset
       → KeepsOffset (TypeAt z) (λ u. (after <ℤ u) × (u ≤ℤ c.at))
   goes_on c next same d is inside = by_lt_z reached d.at
-      (λ l. let least = next.nearest d is.is l in let most = inside.1 in kept_one z c d is next.is (omega (arith, ints)) same)
+      (λ l. let least = next.nearest d is.is l in let most = inside.1 in kept_one z c d is next.is (omega linear) same)
       (λ m. kept d is (inside.0, m))
 
 module _ (z : Zone) (last reached : ℤ) (order : reached ≤ℤ last) (kept : KeepsOffset (TypeAt z) (λ u. (reached <ℤ u) × (u ≤ℤ last))) where
@@ -59,7 +63,7 @@ module _ (z : Zone) (last reached : ℤ) (order : reached ≤ℤ last) (kept : K
       → IsNearestOffsetChange false (TypeAt z) (λ u. u ≤ℤ last) c
   found_back c next other = let inside = next.inside in record {
     is = record { is = next.is; other = other };
-    inside = omega (arith, ints);
+    inside = omega linear;
     nearest = λ d is earlier. by_lt_z reached d.at (λ l. absurd (kept d is (l, earlier))) (λ m. next.nearest d is.is m);
   }
 
@@ -67,4 +71,4 @@ module _ (z : Zone) (last reached : ℤ) (order : reached ≤ℤ last) (kept : K
       → KeepsOffset (TypeAt z) (λ u. ((c.at -ℤ pos 1) <ℤ u) × (u ≤ℤ last))
   goes_back c next same d is inside = by_lt_z reached d.at
       (λ l. kept d is (l, inside.1))
-      (λ m. let most = next.nearest d is.is m in let least = inside.0 in kept_one z c d is next.is (omega (arith, ints)) same)
+      (λ m. let most = next.nearest d is.is m in let least = inside.0 in kept_one z c d is next.is (omega linear) same)

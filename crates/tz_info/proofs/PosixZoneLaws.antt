@@ -1,7 +1,9 @@
 -- What a TZ string gives is a zone whose rule's numbers are in their limits.
-use Rattle.tz_info.proofs.Words.{IsPosixZone, IsRuleOrNone, IsValid, List, None, Some, TransitionRule, Zone, arith, false, inl, inr, length, subst, sym}
-use Rattle.tz_info.proofs.Words.{types_of, ℕ, ◌<◌}
-use Rattle.tz_info.proofs.{TextFits.{text_rule_fits}, ZoneLaws.{zone_of_rule_valid}}
+use Rattle.tz_info.proofs.{
+  TextFits.{text_rule_fits},
+  Words.{IsPosixZone, IsRuleOrNone, IsValid, List, TransitionRule, Zone, arith, inl, inr, length, subst, sym, types_of, ℕ, ◌<◌},
+  ZoneLaws.{zone_of_rule_valid},
+}
 use Rattle.tz_info.specs.declared.rule.transition_rule.TransitionRule.TheVariants as rules
 
 has_type : (rule : TransitionRule) → 0 < length (types_of rule)
@@ -10,8 +12,8 @@ has_type (rules.Alternate a) = omega arith
 
 -- types and a rule, without transitions and leap seconds, make a zone if there is a type
 pub posix_zone_valid : (text : List ℕ) (zone : Zone) → IsPosixZone text zone → IsValid zone × IsRuleOrNone zone.rule
-posix_zone_valid text zone h = elim h [
-  | inl a ↦ subst (λ (y : Zone). IsValid y × IsRuleOrNone y.rule) (sym a.1) (zone_of_rule_valid _ None (omega arith), tt)
-  | inr a ↦ subst (λ (y : Zone). IsValid y × IsRuleOrNone y.rule) (sym a.zone)
-      (zone_of_rule_valid (types_of a.rule) (Some a.rule) (has_type a.rule), text_rule_fits false a.trimmed a.rule a.spells)
+posix_zone_valid _ _ h = elim h [
+  | inl a ↦ subst (λ y. IsValid y × IsRuleOrNone y.rule) (sym a.1) (zone_of_rule_valid _ _ (omega arith), tt)
+  | inr a ↦ subst (λ y. IsValid y × IsRuleOrNone y.rule) (sym a.zone)
+      (zone_of_rule_valid _ _ (has_type _), text_rule_fits _ _ _ a.spells)
 ]

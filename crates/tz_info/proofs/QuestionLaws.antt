@@ -1,54 +1,59 @@
 -- Questions to a zone's rule: at which seconds it is asked, and how often for a local time.
-use Rattle.tz_info.proofs.Words.{All-contains, AllPairs-cons, Alternate as AlternateRule, AreUtOffsets, Contains, Contains-append_right, IsAskedAt}
-use Rattle.tz_info.proofs.Words.{IsAskedAtEach, IsAskedAtLeapTime, IsAskedFor, IsAskedFrom, IsAskedSince, IsByRuleFor, IsLeapTime, IsNear, IsSecondFrom}
-use Rattle.tz_info.proofs.Words.{IsStart, IsValid, IsWide, IsWindow, LocalType, None, Option, Some, Transition, TransitionRule, Zone, ap, arith, get_or, inl}
-use Rattle.tz_info.proofs.Words.{inr, ints, length, none-some, offsets, offsets_of, refl, rule_offsets, segment_of, suc, sym, zero, ℕ, ℤ, [], ⊎_elim}
-use Rattle.tz_info.proofs.Words.{◌+◌, ◌-ℤ◌, ◌<ℤ◌, ◌<◌, ◌↔◌, ◌∙◌, ◌∷◌, ◌≡◌, ◌≢◌, ◌≤ℤ◌, ◌⊎◌}
-use Rattle.tz_info.specs.{Questions.{IsByRule}, declared.rule.transition_rule.TransitionRule.TheVariants.{Alternate, Fixed}}
 use Rattle.std.proofs.lemmas.List.Elements.{Contains-append_cases, Contains-get_or}
-use Rattle.tz_info.proofs.{ListFaults.{equal_known}, PassedTransitions.{no_items}, SegmentLaws.{come_at_time, come_by_then}}
-use Rattle.tz_info.proofs.{WalkLaws.{window_most}, WallSegments.{leap_time_of, near_of, rule_begun}, ZoneLaws.{same_passed}}
+use Rattle.tz_info.proofs.{
+  ListFaults.{equal_known},
+  PassedTransitions.{no_items},
+  SegmentLaws.{come_at_time, come_by_then},
+  WalkLaws.{window_most},
+  WallSegments.{leap_time_of, near_of, rule_begun},
+  Words.{All-contains, AllPairs-cons, Alternate as AlternateRule, AreUtOffsets, Contains, Contains-append_right, IsAskedAt, IsAskedAtEach, IsAskedAtLeapTime},
+  Words.{IsAskedFor, IsAskedFrom, IsAskedSince, IsByRuleFor, IsLeapTime, IsNear, IsSecondFrom, IsStart, IsValid, IsWide, IsWindow, LocalType, None, Option},
+  Words.{Some, Transition, TransitionRule, Zone, [], ap, arith, get_or, inl, inr, length, linear, offsets, offsets_of, refl, rule_offsets, segment_of, suc},
+  Words.{sym, zero, ℕ, ℤ, ⊎_elim, ◌+◌, ◌-ℤ◌, ◌<ℤ◌, ◌<◌, ◌↔◌, ◌∙◌, ◌∷◌, ◌≡◌, ◌≢◌, ◌≤ℤ◌, ◌⊎◌},
+  ZoneLaws.{same_passed},
+}
+use Rattle.tz_info.specs.{Questions.{IsByRule}, declared.rule.transition_rule.TransitionRule.TheVariants.{Alternate, Fixed}}
 
 -- ---- from which second on the rule is asked
 by_rule_there : (z : Zone) (u : ℤ) (rule : TransitionRule) → IsValid z → z.rule ≡ Some rule → IsNear u → segment_of z u ≡ length z.transitions → IsByRule z u
 by_rule_there z u rule valid is near there =
     let time = leap_time_of z u valid near in
-    record { rule = rule; of_zone = is; leap_time = time.0; of_second = λ _. time.1; from_last = come_at_time z u time.0 time.1 ∙ there }
+    record { rule = rule; of_zone = is; leap_time = time.0; of_second = λ _. time.1; from_last = come_at_time z u _ time.1 ∙ there }
 
 by_rule_segment : (z : Zone) (u : ℤ) → IsByRule z u → segment_of z u ≡ length z.transitions
-by_rule_segment z u a = sym (come_by_then z u a.leap_time a.of_second) ∙ a.from_last
+by_rule_segment z u a = grind (linear, come_by_then)
 
 -- a zone asks its rule from `start` on
 seconds_by_rule : (z : Zone) (rule : TransitionRule) (start l : ℤ) → IsValid z → z.rule ≡ Some rule → IsStart z.transitions z.leaps (length z.transitions) start
     → IsWide l → AreUtOffsets rule → (u : ℤ) → IsSecondFrom rule start l u ↔ IsByRuleFor z l u
-seconds_by_rule z rule start l valid is begun wide offsets u = (
+seconds_by_rule z _ _ l valid is begun wide offsets u = (
   (λ k.
-      let near : IsNear u = rw k.of_second (near_of l k.offset wide (offsets k.offset k.of_rule)) in
+      let near : IsNear u = rw k.of_second (near_of l _ wide (offsets _ k.of_rule)) in
       record {
         offset = k.offset;
         of_rule = rw is k.of_rule;
         of_second = k.of_second;
-        by_rule = by_rule_there z u rule valid is near
-            ((rule_begun z u start valid near begun).1 k.since);
+        by_rule = by_rule_there z u _ valid is near
+            ((rule_begun z u _ valid near begun).1 k.since);
       }),
   (λ k.
       let of_rule = rw is at k.of_rule in
-      let near : IsNear u = rw k.of_second (near_of l k.offset wide (offsets k.offset of_rule)) in
+      let near : IsNear u = rw k.of_second (near_of l _ wide (offsets _ of_rule)) in
       record {
         offset = k.offset;
         of_rule = of_rule;
         of_second = k.of_second;
-        since = (rule_begun z u start valid near begun).0
+        since = (rule_begun z u _ valid near begun).0
             (by_rule_segment z u k.by_rule);
       }),
 )
 
 pub asked_by_zone : (z : Zone) (rule : TransitionRule) (start l : ℤ) (p q : ℕ) → IsValid z → z.rule ≡ Some rule
     → IsStart z.transitions z.leaps (length z.transitions) start → IsWide l → AreUtOffsets rule → IsAskedFrom rule start l p q → IsAskedFor z l p q
-asked_by_zone z rule start l p q valid is begun wide offsets k = record {
+asked_by_zone z _ _ l p q valid is begun wide offsets k = record {
   seconds = k.seconds;
   once = k.once;
-  each = λ u. let same = seconds_by_rule z rule start l valid is begun wide offsets u in let e = k.each u in ((λ c. same.0 (e.0 c)), (λ c. e.1 (same.1 c)));
+  each = λ u. let same = seconds_by_rule z _ _ l valid is begun wide offsets u in let e = k.each u in ((λ c. same.0 (e.0 c)), (λ c. e.1 (same.1 c)));
   count = k.count;
 }
 
@@ -62,7 +67,7 @@ in_two a b u (suc zero, h, e) = inr (sym e)
 in_two a b u (suc (suc k), h, e) = absurd (omega arith)
 
 nowhere : (asks : ℤ → Type 0) (p q : ℕ) → ((u : ℤ) → asks u → ⊥) → q ≡ p → IsAskedAtEach asks p q
-nowhere asks p q none e = grind arith
+nowhere _ p q none e = grind arith
 
 -- one question more if the second is taken
 abbrev IsAskedIf : (ℤ → Type 0) → ℤ → ℕ → ℕ → Type 0
@@ -70,80 +75,79 @@ IsAskedIf asks u p q = (asks u × (q ≡ p + 1)) ⊎ ((asks u → ⊥) × (q ≡
 
 -- and then those at the other seconds
 asked_more : (asks : ℤ → Type 0) (c : ℤ) (p q r : ℕ) → IsAskedIf asks c p q → IsAskedAtEach (λ u. asks u × (u ≢ c)) q r → IsAskedAtEach asks p r
-asked_more asks c p q r (inl (k, e)) others = record {
+asked_more _ c p q r (inl (k, e)) others = record {
   seconds = c ∷ others.seconds;
   once = AllPairs-cons (λ u v. u ≢ v) c others.seconds (λ i d h g. ((others.each _).0 (Contains-get_or others.seconds i d h)).1 (sym g)) others.once;
   each = λ u. (
     (λ i. ⊎_elim (λ g. rw (in_one c u g) k) (λ g. ((others.each u).0 g).0) (Contains-append_cases (c ∷ []) others.seconds u i)),
     (λ i. ⊎_elim (λ g. (0, omega arith, sym g)) (λ other. Contains-append_right (c ∷ []) others.seconds u ((others.each u).1 (i, other))) (equal_known u c)),
   );
-  count = let n = others.count in omega arith;
+  count = omega arith;
 }
 asked_more asks c p q r (inr (none, e)) others = grind arith
 
 one_second : (asks : ℤ → Type 0) (c : ℤ) (p q : ℕ) → ((u : ℤ) → asks u → u ≡ c) → IsAskedIf asks c p q → IsAskedAtEach asks p q
-one_second asks c p q only k = asked_more asks c p q q k (nowhere (λ u. asks u × (u ≢ c)) q q (λ u h. h.1 (only u h.0)) refl)
+one_second asks c p q only k = asked_more _ c p q q k (nowhere (λ u. asks u × (u ≢ c)) q q (λ u h. h.1 (only u h.0)) refl)
 
 -- two, the one asked after the other
 two_seconds : (asks : ℤ → Type 0) (c d : ℤ) (p q r : ℕ) → c ≢ d → ((u : ℤ) → asks u → (u ≡ c) ⊎ (u ≡ d)) → IsAskedIf asks c p q
     → IsAskedIf asks d q r → IsAskedAtEach asks p r
-two_seconds asks c d p q r other both j k = asked_more asks c p q r j (one_second (λ u. asks u × (u ≢ c)) d q r
+two_seconds asks c d p q r other both j k = asked_more _ c p q r j (one_second (λ u. asks u × (u ≢ c)) d q r
     (λ u h. ⊎_elim (λ e. absurd (h.1 e)) (λ e. e) (both u h.0))
     (⊎_elim (λ h. inl ((h.0, λ e. other (sym e)), h.1)) (λ h. inr (λ i. h.0 i.0, h.1)) k))
 
 -- ---- those of a rule
 asked_since : (rule : TransitionRule) (from l o : ℤ) (p q : ℕ) → Contains (rule_offsets (Some rule)) o → IsAskedSince from (l -ℤ o) p q
     → IsAskedIf (IsSecondFrom rule from l) (l -ℤ o) p q
-asked_since rule from l o p q of_rule (inl (since, e)) = inl (record { offset = o; of_rule = of_rule; of_second = refl; since = since }, e)
-asked_since rule from l o p q of_rule (inr (early, e)) = inr ((λ k. let since = k.since in absurd (omega (arith, ints))), e)
+asked_since rule from l o p q of_rule (inl (since, e)) = grind (linear, since)
+asked_since rule from l o p q of_rule (inr (early, e)) = grind linear
 
 pub asked_fixed : (f : LocalType) (from l : ℤ) (p q : ℕ) → IsAskedSince from (l -ℤ f.offset) p q → IsAskedFrom (Fixed f) from l p q
-asked_fixed f from l p q asked = one_second (IsSecondFrom (Fixed f) from l) (l -ℤ f.offset) p q
-    (λ u k. let e = in_one f.offset k.offset k.of_rule in
-    k.of_second ∙ ap (λ o. l -ℤ o) e) (asked_since (Fixed f) from l f.offset p q (0, omega arith, refl) asked)
+asked_fixed f _ l p q asked = one_second _ _ p q
+    (λ u k. let e = in_one _ _ k.of_rule in
+    k.of_second ∙ ap (λ o. l -ℤ o) e) (asked_since _ _ l _ p q (0, omega arith, refl) asked)
 
 std_or_dst : (a : AlternateRule) (from l u : ℤ) → IsSecondFrom (Alternate a) from l u → (u ≡ l -ℤ a.std.offset) ⊎ (u ≡ l -ℤ a.dst.offset)
-std_or_dst a from l u k = grind arith
+std_or_dst a _ l u k = grind arith
 
 pub asked_std_dst : (a : AlternateRule) (from l : ℤ) (p q r : ℕ) → a.std.offset ≢ a.dst.offset → IsAskedSince from (l -ℤ a.std.offset) p q
     → IsAskedSince from (l -ℤ a.dst.offset) q r → IsAskedFrom (Alternate a) from l p r
 asked_std_dst a from l p q r other std dst =
-    two_seconds (IsSecondFrom (Alternate a) from l) (l -ℤ a.std.offset) (l -ℤ a.dst.offset) p q r (λ e. other (omega (arith, ints))) (std_or_dst a from l)
-    (asked_since (Alternate a) from l a.std.offset p q (0, omega arith, refl) std)
-    (asked_since (Alternate a) from l a.dst.offset q r (1, omega arith, refl) dst)
+    two_seconds _ _ _ p q r (λ e. other (omega linear)) (std_or_dst a _ l)
+    (asked_since _ _ l _ p q (0, omega arith, refl) std)
+    (asked_since _ _ l _ q r (1, omega arith, refl) dst)
 
 pub asked_dst_std : (a : AlternateRule) (from l : ℤ) (p q r : ℕ) → a.std.offset ≢ a.dst.offset → IsAskedSince from (l -ℤ a.dst.offset) p q
     → IsAskedSince from (l -ℤ a.std.offset) q r → IsAskedFrom (Alternate a) from l p r
 asked_dst_std a from l p q r other dst std =
-    two_seconds (IsSecondFrom (Alternate a) from l) (l -ℤ a.dst.offset) (l -ℤ a.std.offset) p q r (λ e. other (omega (arith, ints)))
-    (λ u k. elim (std_or_dst a from l u k) [ inl e ↦ inr e | inr e ↦ inl e ])
-    (asked_since (Alternate a) from l a.dst.offset p q (1, omega arith, refl) dst)
-    (asked_since (Alternate a) from l a.std.offset q r (0, omega arith, refl) std)
+    two_seconds _ _ _ p q r (λ e. other (omega linear))
+    (λ u k. elim (std_or_dst a _ l u k) [ inl e ↦ inr e | inr e ↦ inl e ])
+    (asked_since _ _ l _ p q (1, omega arith, refl) dst)
+    (asked_since _ _ l _ q r (0, omega arith, refl) std)
 
 -- if both offsets are equal
 pub asked_once : (a : AlternateRule) (from l : ℤ) (p q : ℕ) → a.std.offset ≡ a.dst.offset → IsAskedSince from (l -ℤ a.std.offset) p q
     → IsAskedFrom (Alternate a) from l p q
-asked_once a from l p q same std = one_second (IsSecondFrom (Alternate a) from l) (l -ℤ a.std.offset) p q (λ u k.
-    grind arith) (asked_since (Alternate a) from l a.std.offset p q (0, omega arith, refl) std)
+asked_once a from l p q same std = one_second _ _ p q (λ u k.
+    grind arith) (asked_since _ _ l _ p q (0, omega arith, refl) std)
 
 -- ---- none, without a rule
 pub asked_none : (z : Zone) (l : ℤ) (p : ℕ) → z.rule ≡ None → IsAskedFor z l p p
-asked_none z l p e = nowhere (IsByRuleFor z l) p p (λ u k. none-some k.by_rule.rule (sym e ∙ k.by_rule.of_zone)) refl
+asked_none z l p e = grind (linear, nowhere)
 
 -- ---- none, if a transition comes after all of the local time's window
 pub asked_for_window : (z : Zone) (l low high : ℤ) (n : ℕ) (d : Transition) (p q : ℕ) → IsValid z → IsWindow z l low high → n < length z.transitions
     → high <ℤ (get_or z.transitions n d).unix_leap_time → q ≡ p → IsAskedFor z l p q
-asked_for_window z l low high n d p q valid w h later e = nowhere (IsByRuleFor z l) p q (λ u k.
-    let among = Contains-append_right (offsets_of z.types) (rule_offsets z.rule) k.offset k.of_rule in
-    let least = All-contains (λ x. w.least ≤ℤ x) (offsets z.types z.rule) k.offset w.is_least.fewest among in
-    let most = window_most z l low high n d u k.offset valid w h later least (omega (arith, ints)) in grind (arith, by_rule_segment)) e
+asked_for_window z l low _ n d p q valid w h later e = nowhere _ p q (λ u k.
+    let among = Contains-append_right (offsets_of z.types) (rule_offsets z.rule) _ k.of_rule in
+    let least = All-contains (λ x. w.least ≤ℤ x) (offsets _ z.rule) _ w.is_least.fewest among in
+    let most = window_most z l low _ n d u _ valid w h later least (omega linear) in grind (arith, by_rule_segment)) e
 
 -- ---- by instant
 pub asked_at_time : (z : Zone) (u x : ℤ) (p q : ℕ) → (0 < length z.transitions → IsLeapTime z.leaps u x) → IsAskedAtLeapTime z x p q → IsAskedAt z u p q
 asked_at_time z u x p q time (inl (rule, is, from, e)) = inl (record { rule = rule; of_zone = is; leap_time = x; of_second = time; from_last = from }, e)
-asked_at_time z u x p q time (inr (inl (none, e))) = inr ((λ a. let s = a.of_zone in cc), e)
-asked_at_time z u x p q time (inr (inr (before, e))) =
-    inr ((λ a. let from_last = a.from_last in let same = ap length (same_passed z u a.leap_time x a.of_second time) in absurd (omega arith)), e)
+asked_at_time z u x p q time (inr (inl (none, e))) = inr ((λ a. cc), e)
+asked_at_time z u x p q time (inr (inr (before, e))) = grind (linear, same_passed)
 
 either : (o : Option TransitionRule) → ((rule : TransitionRule) × (o ≡ Some rule)) ⊎ (o ≡ None)
 either (Some rule) = inl (rule, refl)
@@ -152,8 +156,8 @@ either None = inr refl
 pub asked_without : (z : Zone) (u : ℤ) (p q : ℕ) → length z.transitions ≡ 0 → ((rule : TransitionRule) → z.rule ≡ Some rule → q ≡ p + 1)
     → (z.rule ≡ None → q ≡ p) → IsAskedAt z u p q
 asked_without z u p q e asked unasked =
-    let f = no_items z.transitions e in
+    let f = no_items _ e in
     asked_at_time z u u p q (λ h. absurd (omega arith)) (elim (either z.rule) [
-      | inl k ↦ inl (k.0, k.1, rw f refl, asked k.0 k.1)
+      | inl k ↦ inl (k.0, k.1, rw f, asked k.0 k.1)
       | inr n ↦ inr (inl (n, unasked n))
     ])

@@ -1,9 +1,10 @@
 -- Each year has one day that is the rule's, and the closed form finds it.
-use Rattle.tz_info.proofs.Words.{Bool, DayForm, IsDayOf, IsRuleDay, IsWeekdayInWeek, LiesIn, ap, arith, cases_lt, closed_day, closed_day_is, date_lies}
-use Rattle.tz_info.proofs.Words.{day_number, days_at_least, days_at_most, days_in_month, days_in_year, floors, inl, inr, is_leap, julian_is, julian_place}
-use Rattle.tz_info.proofs.Words.{leap_at_most, months_all, months_step, nat_le, nat_tests, number_after, pos, rule_day, rule_day_with, starts_rise, sym}
-use Rattle.tz_info.proofs.Words.{weekday_at, weekday_below, weekday_is, weekday_of, weekday_place, year_start, year_step, ℕ, ℤ, ◌%◌, ◌&&◌, ◌*◌, ◌+ℤ◌, ◌+◌, ◌-◌}
-use Rattle.tz_info.proofs.Words.{◌<ℤ◌, ◌<◌, ◌∙◌, ◌≡◌, ◌≤ℤ◌, ◌≤◌}
+use Rattle.tz_info.proofs.{
+  Words.{Bool, DayForm, IsDayOf, IsRuleDay, IsWeekdayInWeek, LiesIn, ap, arith, cases_lt, closed_day, closed_day_is, date_lies, day_number, days_at_least},
+  Words.{days_at_most, days_in_month, days_in_year, floors, inl, inr, is_leap, julian_is, julian_place, leap_at_most, months_all, months_step, nat_le},
+  Words.{number_after, pos, rule_day, rule_day_with, starts_rise, sym, weekday_at, weekday_below, weekday_is, weekday_of, weekday_place, year_start, year_step},
+  Words.{ℕ, ℤ, ◌%◌, ◌&&◌, ◌*◌, ◌+ℤ◌, ◌+◌, ◌-◌, ◌<ℤ◌, ◌<◌, ◌∙◌, ◌≡◌, ◌≤ℤ◌, ◌≤◌},
+}
 use Rattle.tz_info.specs.declared.rule.day.DayForm.TheVariants.{Julian0, Julian1, MonthWeekday}
 
 -- the day after 31 December
@@ -13,13 +14,13 @@ behind_december year = omega (arith, floors, months_step (is_leap year) 12 (omeg
 
 same_week : (first week a b weekday : ℕ) → (first + (a - 1)) % 7 ≡ weekday → (first + (b - 1)) % 7 ≡ weekday → first < 7 → 7 * (week - 1) + 1 ≤ a → a ≤ 7 * week
     → 7 * (week - 1) + 1 ≤ b → b ≤ 7 * week → a ≡ b
-same_week first week a b weekday h k low c d e f = omega arith
+same_week _ _ a b _ h k low c d e f = omega arith
 
 one_weekday : (year : ℤ) (month week weekday a b : ℕ) → week ≤ 5 → IsWeekdayInWeek year month week weekday a → IsWeekdayInWeek year month week weekday b → a ≡ b
-one_weekday year month week weekday a b most h k =
+one_weekday year month week _ a b most h k =
     elim (cases_lt week 5) [
       | inl lt ↦
-          same_week (weekday_of (day_number year month 1)) week a b weekday
+          same_week _ _ a b _
           (sym (weekday_at year month a h.date.2) ∙ h.falls) (sym (weekday_at year month b k.date.2) ∙ k.falls)
           (weekday_below (day_number year month 1)) (h.in_week lt).0 (h.in_week lt).1 (k.in_week lt).0 (k.in_week lt).1
       | inr ge ↦ omega (arith, h.last (omega arith) b k.date k.falls, k.last (omega arith) a h.date h.falls)
@@ -29,7 +30,7 @@ pub one_rule_day : (form : DayForm) (year a b : ℤ) → IsRuleDay form → IsDa
 one_rule_day (Julian1 n) year a b fits h k = h.3 ∙ sym (julian_is year n h.0 h.1 h.2) ∙ julian_is year n k.0 k.1 k.2 ∙ sym k.3
 one_rule_day (Julian0 n) year a b fits h k = h ∙ sym k
 one_rule_day (MonthWeekday month week weekday) year a b fits h k =
-    h.2 ∙ ap (day_number year month) (one_weekday year month week weekday h.0 k.0 fits.3 h.1 k.1) ∙ sym k.2
+    h.2 ∙ ap (day_number year month) (one_weekday _ _ _ _ h.0 k.0 fits.3 h.1 k.1) ∙ sym k.2
 
 pub rule_day_is : (form : DayForm) (year : ℤ) → IsRuleDay form → IsDayOf form year (rule_day form year)
 unfolding rule_day
@@ -37,13 +38,10 @@ rule_day_is form year fits = (rule_day_with form year).1 fits
 
 pub rule_day_closed : (form : DayForm) (year : ℤ) → IsRuleDay form → rule_day form year ≡ closed_day form year
 rule_day_closed form year fits =
-    one_rule_day form year (rule_day form year) (closed_day form year) fits (rule_day_is form year fits) (closed_day_is form year fits)
+    one_rule_day _ _ _ _ fits (rule_day_is _ _ fits) (closed_day_is form year fits)
 
 julian_at_most : (leap : Bool) (n : ℕ) → n ≤ 365 → julian_place leap n ≤ 365
 julian_at_most leap n high = omega (arith, leap_at_most (leap && nat_le 60 n))
-
-julian_below : (year : ℤ) (n : ℕ) → 1 ≤ n → n ≤ 365 → julian_place (is_leap year) n < days_in_year year
-julian_below year n low high = grind (arith, nat_tests)
 
 -- the rule's day is a date of its year, if it is no plain day number
 weekday_lies : (year : ℤ) (month week weekday : ℕ) → IsRuleDay (MonthWeekday month week weekday)
@@ -60,11 +58,11 @@ unfolding closed_day
 closed_within (Julian1 n) year fits = let most = julian_at_most (is_leap year) n fits.1 in (omega (arith, floors), omega (arith, floors))
 closed_within (Julian0 n) year fits = (omega (arith, floors), omega (arith, floors))
 closed_within (MonthWeekday month week weekday) year fits =
-    let lies = weekday_lies year month week weekday fits in
+    let lies = weekday_lies year _ _ _ fits in
     let next = year_step year in grind (arith, days_at_most, floors)
 
 pub day_within : (form : DayForm) (year : ℤ) → IsRuleDay form → (year_start year ≤ℤ rule_day form year) × (rule_day form year ≤ℤ (year_start year +ℤ pos 365))
-day_within form year fits = rw (rule_day_closed form year fits) (closed_within form year fits)
+day_within _ _ fits = rw (rule_day_closed _ _ fits) (closed_within _ _ fits)
 
 -- a later year begins at least a year later
 later_start : (a b : ℤ) → a <ℤ b → (year_start a +ℤ pos (days_in_year a)) ≤ℤ year_start b
@@ -75,12 +73,12 @@ later_start a b h =
 closed_rises : (form : DayForm) (a b : ℤ) → IsRuleDay form → a <ℤ b → closed_day form a <ℤ closed_day form b
 unfolding closed_day
 closed_rises (Julian1 n) a b fits h =
-    let next = later_start a b h in grind (arith, julian_below, floors)
+    let next = later_start a b h in grind (arith, floors)
 closed_rises (Julian0 n) a b fits h = let next = later_start a b h in let least = days_at_least a in omega (arith, floors)
 closed_rises (MonthWeekday month week weekday) a b fits h =
     let next = later_start a b h in let step = year_step a in
-    let here = weekday_lies a month week weekday fits in let there = weekday_lies b month week weekday fits in
+    let here = weekday_lies a _ _ _ fits in let there = weekday_lies b _ _ _ fits in
     omega (arith, floors)
 
 pub day_rises : (form : DayForm) (a b : ℤ) → IsRuleDay form → a <ℤ b → rule_day form a <ℤ rule_day form b
-day_rises form a b fits h = rw (rule_day_closed form a fits, rule_day_closed form b fits) (closed_rises form a b fits h)
+day_rises _ a b fits h = rw (rule_day_closed _ a fits, rule_day_closed _ b fits) (closed_rises _ a b fits h)

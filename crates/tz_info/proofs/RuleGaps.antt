@@ -1,14 +1,17 @@
 -- A rule's gaps: if a season's moments decide at both seconds that could show a local time and neither does, one moment lies between them.
 use Rattle.std.specs.Prelude.{⊤}
-use Rattle.tz_info.proofs.Words.{Alternate as AlternateRule, AlternateAt, AreLess, Bool, Change, HasGap, IsAlternateRule, IsDecidedIn, IsNear}
-use Rattle.tz_info.proofs.Words.{IsNeverFrom, IsRuleGap, IsSeason, IsSeasonFor, IsSeasonIn, IsSeasonOf, IsStart, IsTableLess, IsValid, IsWide, IsWindowOf}
-use Rattle.tz_info.proofs.Words.{LocalType, MatchOption}
-use Rattle.tz_info.proofs.Words.{None, Option, Season, Some, TransitionRule, TypeAt, Zone, arith, by_lt_z, cond, false, int_lt, ints, is_dst_by_one, length}
-use Rattle.tz_info.proofs.Words.{not, pos}
-use Rattle.tz_info.proofs.Words.{refl, subst, sym, table_count, true, type_when, ℤ, ◌+ℤ◌, ◌-ℤ◌, ◌<ℤ◌, ◌≡◌, ◌≤ℤ◌}
+use Rattle.tz_info.proofs.{
+  GapLaws.{IsNever, gap_found},
+  RuleLaws.{alternate_once},
+  SeasonAnswers.{amid, greater},
+  WallSegments.{not_begun, rule_begun},
+  Words.{Alternate as AlternateRule, AlternateAt, AreLess, Bool, Change, HasGap, IsAlternateRule, IsDecidedIn, IsNear, IsNeverFrom, IsRuleGap, IsSeason},
+  Words.{IsSeasonFor, IsSeasonIn, IsSeasonOf, IsStart, IsTableLess, IsValid, IsWide, IsWindowOf, LocalType, MatchOption, None, Option, Season, Some},
+  Words.{TransitionRule, TypeAt, Zone, arith, by_lt_z, cond, false, int_lt, is_dst_by_one, length, linear, not, pos, refl, subst, sym, table_count, true},
+  Words.{type_when, ℤ, ◌+ℤ◌, ◌-ℤ◌, ◌<ℤ◌, ◌≡◌, ◌≤ℤ◌},
+  ZoneChanges.{from_rule, to_rule},
+}
 use Rattle.tz_info.specs.declared.rule.transition_rule.TransitionRule.TheVariants.{Alternate}
-use Rattle.tz_info.proofs.{GapLaws.{IsNever, gap_found}, RuleLaws.{alternate_once}, SeasonAnswers.{amid, greater}, WallSegments.{not_begun, rule_begun}}
-use Rattle.tz_info.proofs.ZoneChanges.{from_rule, to_rule}
 
 -- ---- the moment between two seconds
 -- at v it is daylight saving time as `dst` says and at the earlier second u not, and so up to the moment
@@ -20,8 +23,8 @@ record Turns (start end u v moment : ℤ) (dst : Bool) : Type 0 where
 
 turns : (start end u v : ℤ) (dst : Bool) → u <ℤ v → is_dst_by_one start end u ≡ not dst
     → is_dst_by_one start end v ≡ not (not dst) → Turns start end u v (cond dst start end) dst
-turns start end u v true h a b = grind (arith, ints)
-turns start end u v false h a b = grind (arith, ints)
+turns _ end u v true h a b = grind linear
+turns start end u v false h a b = grind linear
 
 -- ---- the types there
 other : (b dst : Bool) → (b ≡ dst → ⊥) → b ≡ not dst
@@ -33,25 +36,25 @@ other false false h = absurd (h refl)
 at : (a : AlternateRule) (s : Season) (u : ℤ) (dst : Bool) → IsSeason a s → IsNear u → IsDecidedIn s u → is_dst_by_one s.turns.start s.turns.end u ≡ dst
     → AlternateAt a u (type_when a dst)
 at a s u dst season near decided e =
-    subst (λ b. AlternateAt a u (type_when a b)) e (season.decided u (omega (arith, ints, near), omega (arith, ints, near)) decided)
+    subst (λ b. AlternateAt a u (type_when a b)) e (season.decided u (omega linear, omega (linear, near)) decided)
 
 -- at the one that would show it by the one type the other one is in force
 other_at : (a : AlternateRule) (s : Season) (from l : ℤ) (dst : Bool) → IsSeasonFor a from l s → IsNear (l -ℤ (type_when a dst).offset) → IsNeverFrom a from l
     → is_dst_by_one s.turns.start s.turns.end (l -ℤ (type_when a dst).offset) ≡ not dst
-other_at a s from l dst h near never =
-    let u = l -ℤ (type_when a dst).offset in let k = amid a s from l dst h in
-    other (is_dst_by_one s.turns.start s.turns.end u) dst (λ e. never u (type_when a dst) near k.since (at a s u dst h.season near k.decided e)
-    (omega (arith, ints)))
+other_at a s _ l dst h near never =
+    let u = l -ℤ (type_when a dst).offset in let k = amid a s _ l dst h in
+    other _ dst (λ e. never u (type_when a dst) near k.since (at a s u dst h.season near k.decided e)
+    (omega linear))
 
 most_offset : (a : AlternateRule) (b c : Bool) → (type_when a (not b)).offset ≤ℤ (type_when a b).offset → (type_when a c).offset ≤ℤ (type_when a b).offset
-most_offset a true true h = omega (arith, ints)
+most_offset a true true h = omega linear
 most_offset a true false h = h
 most_offset a false true h = h
-most_offset a false false h = omega (arith, ints)
+most_offset a false false h = omega linear
 
 near_by : (a : AlternateRule) (l : ℤ) (dst : Bool) → IsAlternateRule a → IsWide l → IsNear (l -ℤ (type_when a dst).offset)
-near_by a l true rule wide = let o = rule.within.dst_offset in (omega (arith, ints, wide), omega (arith, ints, wide))
-near_by a l false rule wide = let o = rule.within.std_offset in (omega (arith, ints, wide), omega (arith, ints, wide))
+near_by a l true rule wide = grind linear
+near_by a l false rule wide = grind linear
 
 -- ---- the gap at the moment from which on the type of the greater offset is in force, since its second comes first
 pub gap_at : (a : AlternateRule) (s : Season) (from l : ℤ) (dst : Bool) → IsAlternateRule a → IsWide l → dst ≡ int_lt a.std.offset a.dst.offset
@@ -60,67 +63,66 @@ pub gap_at : (a : AlternateRule) (s : Season) (from l : ℤ) (dst : Bool) → Is
 gap_at a s from l dst rule wide is h never =
     let order = greater a dst is in
     let u = l -ℤ (type_when a dst).offset in let v = l -ℤ (type_when a (not dst)).offset in
-    let amid_u = amid a s from l dst h in let amid_v = amid a s from l (not dst) h in
-    let since = amid_u.since in let low = amid_u.decided.0 in let high = amid_v.decided.1 in
-    let near_u = near_by a l dst rule wide in let near_v = near_by a l (not dst) rule wide in
-    let at_u = other_at a s from l dst h near_u never in let at_v = other_at a s from l (not dst) h near_v never in
+    let amid_u = amid a s _ l dst h in let amid_v = amid a s from l (not dst) h in
+    let since = amid_u.since in let near_u = near_by a l dst rule wide in let near_v = near_by a l _ rule wide in
+    let at_u = other_at a s _ l dst h near_u never in let at_v = other_at a s _ l _ h near_v never in
     by_lt_z u v
     (λ less.
-    let t = turns s.turns.start s.turns.end u v dst less at_u at_v in
-    let moment : ℤ = cond dst s.turns.start s.turns.end in
-    let later = t.later in let most = t.most in
-    let near : (w : ℤ) → u ≤ℤ w → w ≤ℤ v → IsNear w = λ w h k. (omega (arith, ints, near_u), omega (arith, ints, near_v)) in
+    let t = turns _ _ u v dst less at_u at_v in
+    let moment = cond dst s.turns.start s.turns.end in
+    let most = t.most in
+    let near : (w : ℤ) → u ≤ℤ w → w ≤ℤ v → IsNear w = λ w h k. (omega linear, omega (linear, near_v)) in
     let lesser : (w : ℤ) → u ≤ℤ w → w <ℤ moment → AlternateAt a w (type_when a (not dst)) =
-    λ w k m. at a s w (not dst) h.season (near w k (omega (arith, ints))) (omega (arith, ints), omega (arith, ints)) (t.before w k m) in
+    λ w k m. at a s w _ h.season (near w k (omega linear)) (omega linear, omega linear) (t.before w k m) in
     record {
-      near = near moment (omega (arith, ints)) most;
-      near_before = near (moment -ℤ pos 1) (omega (arith, ints)) (omega (arith, ints));
-      since = omega (arith, ints);
-      before = lesser (moment -ℤ pos 1) (omega (arith, ints)) (omega (arith, ints));
-      after = at a s moment dst h.season (near moment (omega (arith, ints)) most) (omega (arith, ints), omega (arith, ints)) t.here;
-      more = omega (arith, ints);
+      near = near _ (omega linear) most;
+      near_before = near _ (omega linear) (omega linear);
+      since = omega linear;
+      before = lesser (moment -ℤ pos 1) (omega linear) (omega linear);
+      after = at a s _ dst h.season (near _ (omega linear) most) (omega linear, omega linear) t.here;
+      more = omega linear;
       less = λ w f since_w k is. by_lt_z w u
           (λ b.
-          let e = subst (λ (x : LocalType). x.offset ≤ℤ (type_when a dst).offset) (sym is.shown) (most_offset a dst is.dst order) in
-          omega (arith, ints))
+          let e = subst (λ (x : LocalType). x.offset ≤ℤ (type_when a dst).offset) (sym is.shown) (most_offset a dst _ order) in
+          omega linear)
           (λ b.
-          let e = alternate_once a w (type_when a (not dst)) f (lesser w b k) is in
-          subst (λ (x : LocalType). (w +ℤ x.offset) <ℤ l) e (omega (arith, ints)));
+          let e = alternate_once a w _ f (lesser w b k) is in
+          subst (λ (x : LocalType). (w +ℤ x.offset) <ℤ l) e (omega linear));
     })
-    (λ not_less. absurd (never u (type_when a (not dst)) near_u since (at a s u (not dst) h.season near_u amid_u.decided at_u) (omega (arith, ints))))
+    (λ not_less. absurd (never u (type_when a (not dst)) near_u since (at a s u _ h.season near_u amid_u.decided at_u) (omega linear)))
 
 -- ---- of a zone with the rule
 -- the season of the rule is the zone's
 pub season_in : (z : Zone) (rule : TransitionRule) (from l : ℤ) (s : Option Season) → z.rule ≡ Some rule
     → IsStart z.transitions z.leaps (length z.transitions) from → MatchOption s ⊤ (IsSeasonOf (Some rule) from l) → MatchOption s ⊤ (IsSeasonIn z l)
-season_in z rule from l None is start h = h
+season_in z _ _ l None is start h = h
 season_in z rule from l (Some s) is start h = (from, start, rw is h)
 
--- by the rule no near second shows the local time
-never_from : (z : Zone) (a : AlternateRule) (l from : ℤ) → IsValid z → z.rule ≡ Some (Alternate a)
-    → IsStart z.transitions z.leaps (length z.transitions) from → IsNever z l → IsNeverFrom a from l
-never_from z a l from valid rule start never u t near since k shown =
-    never u t
-    (record { fits = omega (arith, ints, near); type = from_rule z a u t valid rule ((rule_begun z u from valid near start).1 since) k; shown = shown })
+-- a local time that a zone never shows, after the second from which its rule answers
+module _ (z : Zone) (a : AlternateRule) (l from : ℤ) (valid : IsValid z) (rule : z.rule ≡ Some (Alternate a))
+    (start : IsStart z.transitions z.leaps (length z.transitions) from) (never : IsNever z l) where
+  -- by the rule no near second shows the local time
+  never_from : IsNeverFrom a from l
+  never_from u t near since k shown =
+      never u t
+      (record { fits = omega linear; type = from_rule z a u t rule valid ((rule_begun z u _ valid near start).1 since) k; shown = shown })
 
--- the rule's gap is the zone's, if clocks show less before the rule begins
-gap_by_rule : (z : Zone) (a : AlternateRule) (l low high from : ℤ) (c : Change) → IsValid z → z.rule ≡ Some (Alternate a)
-    → IsStart z.transitions z.leaps (length z.transitions) from → IsNever z l → IsWindowOf z l l low high
-    → IsTableLess z l → IsRuleGap a from l c → HasGap (TypeAt z) l c.before c.after c.at
-gap_by_rule z a l low high from c valid rule start never reach all g =
-    let since = g.since in
-    let count : table_count z ≡ length z.transitions = rw rule refl in
-    let by : (u : ℤ) (t : LocalType) → IsNear u → from ≤ℤ u → AlternateAt a u t → TypeAt z u t =
-    λ u t near h k. from_rule z a u t valid rule ((rule_begun z u from valid near start).1 h) k in
-    let less : AreLess z l (c.at -ℤ pos 1) = λ u near before t k. by_lt_z u from
-    (λ h. let m = (not_begun z (length z.transitions) from u valid start near).1 h in all u t near (omega arith) k)
-    (λ h. g.less u t h (omega (arith, ints)) (to_rule z a u t valid rule ((rule_begun z u from valid near start).1 h) k)) in
-    gap_found z l low high c.at c.after c.before never reach g.near less (by c.at c.after g.near (omega (arith, ints)) g.after) g.more
-    (by (c.at -ℤ pos 1) c.before g.near_before since g.before)
+  -- the rule's gap is the zone's, if clocks show less before the rule begins
+  gap_by_rule : (low high : ℤ) (c : Change) → IsWindowOf z l l low high → IsTableLess z l → IsRuleGap a from l c → HasGap (TypeAt z) l c.before c.after c.at
+  gap_by_rule low _ c reach all g =
+      let since = g.since in
+      let count : table_count z ≡ length z.transitions = rw rule in
+      let by : (u : ℤ) (t : LocalType) → IsNear u → from ≤ℤ u → AlternateAt a u t → TypeAt z u t =
+      λ u t near h k. from_rule z a u t rule valid ((rule_begun z u _ valid near start).1 h) k in
+      let less : AreLess z l (c.at -ℤ pos 1) = λ u near before t k. by_lt_z u from
+      (λ h. let m = (not_begun z _ _ u valid start near).1 h in all u t near (omega arith) k)
+      (λ h. g.less u t h (omega linear) (to_rule z a u t rule valid ((rule_begun z u _ valid near start).1 h) k)) in
+      gap_found z l low _ _ _ _ never reach g.near less (by c.at c.after g.near (omega linear) g.after) g.more
+      (by (c.at -ℤ pos 1) c.before g.near_before since g.before)
 
 -- so is that of a season of the zone
 pub gap_by_season : (z : Zone) (a : AlternateRule) (l low high : ℤ) (s : Season) (c : Change) → IsValid z → z.rule ≡ Some (Alternate a) → IsSeasonIn z l s
     → IsNever z l → IsWindowOf z l l low high → IsTableLess z l
     → ((from : ℤ) → IsSeasonFor a from l s → IsNeverFrom a from l → IsRuleGap a from l c) → HasGap (TypeAt z) l c.before c.after c.at
-gap_by_season z a l low high s c valid rule (from, start, season) never reach all made =
-    gap_by_rule z a l low high from c valid rule start never reach all (made from (rw rule at season) (never_from z a l from valid rule start never))
+gap_by_season z a l low _ s c valid rule (from, start, season) never reach all made =
+    gap_by_rule z a l _ valid rule start never low _ c reach all (made from (rw rule at season) (never_from z a l _ valid rule start never))

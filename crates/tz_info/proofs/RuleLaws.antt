@@ -1,13 +1,13 @@
 -- A rule has one type at a second, or is refused there, and never both.
 use Rattle.std.proofs.lemmas.Bool.{cases_Bool}
-use Rattle.tz_info.proofs.Words.{Alternate as AlternateRule, AlternateAt, Bool, IsAlternateRefused, IsAlternateRule, IsDstAt, IsRule, IsRuleRefused, IsRuleTime}
-use Rattle.tz_info.proofs.Words.{IsRuleYear, IsYearOf, LiesIn, LocalType, MatchOption, None, Option, RuleAt, Some, TransitionRule, alternate_type, arith}
-use Rattle.tz_info.proofs.Words.{by_lt_z, end_in, floor_div, floors, inl, inr}
-use Rattle.tz_info.proofs.Words.{ints, is_dst_by_three, is_rule_year, lies_in, neg_ℤ, one_year, pos, refl, rule_type, start_in, starts_rise, subst, sym}
-use Rattle.tz_info.proofs.Words.{type_when, year_of, year_start, ℤ}
-use Rattle.tz_info.proofs.Words.{◌+ℤ◌, ◌∙◌, ◌≡◌, ◌≤ℤ◌, ◌⊎◌}
+use Rattle.tz_info.proofs.{
+  Neighbours.{dst_by_three, ends_near, starts_near},
+  Words.{Alternate as AlternateRule, AlternateAt, Bool, IsAlternateRefused, IsAlternateRule, IsDstAt, IsRule, IsRuleRefused, IsRuleTime, IsRuleYear, IsYearOf},
+  Words.{LiesIn, LocalType, MatchOption, None, Option, RuleAt, Some, TransitionRule, alternate_type, arith, by_lt_z, end_in, floor_div, floors, inl, inr},
+  Words.{is_dst_by_three, is_rule_year, lies_in, linear, neg_ℤ, one_year, pos, refl, rule_type, start_in, starts_rise, subst, sym, type_when, year_of},
+  Words.{year_start, ℤ, ◌+ℤ◌, ◌∙◌, ◌≡◌, ◌⊎◌},
+}
 use Rattle.tz_info.specs.declared.rule.transition_rule.TransitionRule.TheVariants.{Alternate, Fixed}
-use Rattle.tz_info.proofs.Neighbours.{dst_by_three, ends_near, second_high, second_low, starts_near}
 
 -- a rule has one type at a second
 pub alternate_once : (a : AlternateRule) (u : ℤ) (s t : LocalType) → AlternateAt a u s → AlternateAt a u t → s ≡ t
@@ -20,7 +20,7 @@ rule_once (Alternate a) u s t h k = alternate_once a u s t h k
 
 pub rule_not_refused : (rule : TransitionRule) (u : ℤ) (t : LocalType) → RuleAt rule u t → IsRuleRefused rule u → ⊥
 rule_not_refused (Fixed fixed) u t h refused = refused
-rule_not_refused (Alternate a) u t h refused = refused h.year h.of_second h.inside
+rule_not_refused (Alternate a) u t h refused = grind linear
 
 refused_at : (u year : ℤ) → IsYearOf u year → (IsRuleYear year → ⊥) → IsAlternateRefused u
 refused_at u year of_second out = λ other h inside. out (subst IsRuleYear (one_year (floor_div u 86_400) other year h of_second) inside)
@@ -33,8 +33,8 @@ alternate_told a u limits =
     let of_second = lies_in (floor_div u 86_400) in
     elim (cases_Bool (is_rule_year year)) [
       | inl test ↦
-          let inside : IsRuleYear year = (grind (arith, ints), grind (arith, ints)) in
-          let when = dst_by_three (start_in a) (end_in a) year u _ (starts_near a limits) (ends_near a limits) of_second refl in
+          let inside : IsRuleYear year = (grind arith, grind arith) in
+          let when = dst_by_three _ _ _ u _ (starts_near a limits) (ends_near a limits) of_second refl in
           rw test (record {
             year = year;
             of_second = of_second;
@@ -43,7 +43,7 @@ alternate_told a u limits =
             when = when;
             shown = refl;
           })
-      | inr test ↦ rw test (refused_at u year of_second (λ h. let low = h.0 in let high = h.1 in grind (arith, ints)))
+      | inr test ↦ rw test (refused_at u _ of_second (λ h. grind arith))
     ]
 
 pub rule_told : (rule : TransitionRule) (u : ℤ) → IsRule rule → MatchOption (rule_type rule u) (IsRuleRefused rule u) (RuleAt rule u)
@@ -56,7 +56,7 @@ decided P Q None h = inr h
 decided P Q (Some t) h = inl (t, h)
 
 pub rule_decided : (rule : TransitionRule) (u : ℤ) → IsRule rule → ((t : LocalType) × RuleAt rule u t) ⊎ IsRuleRefused rule u
-rule_decided rule u h = decided (IsRuleRefused rule u) (RuleAt rule u) (rule_type rule u) (rule_told rule u h)
+rule_decided _ u h = decided _ _ _ (rule_told _ u h)
 
 first_start : year_start (neg_ℤ (pos 2_147_483_646)) ≡ neg_ℤ (pos 784_353_015_102)
 unfolding year_start
@@ -69,34 +69,32 @@ last_start = refl
 -- the seconds of the years that a rule answers in
 pub rule_time : (u year : ℤ) → IsYearOf u year → IsRuleYear year → IsRuleTime u
 rule_time u year of_second inside =
-    let low = second_low u year of_second in let high = second_high u year of_second in
     let first = starts_rise (neg_ℤ (pos 2_147_483_646)) year inside.0 in
-    let last = starts_rise (year +ℤ pos 1) (pos 2_147_483_646) (omega (arith, floors, inside.1)) in
+    let last = starts_rise (year +ℤ pos 1) (pos 2_147_483_646) (omega (arith, floors)) in
     (omega (arith, floors, first_start), omega (arith, floors, last_start))
 
 pub rule_year : (u year : ℤ) → IsYearOf u year → IsRuleTime u → IsRuleYear year
 rule_year u year of_second within =
-    let low = second_low u year of_second in let high = second_high u year of_second in
-    let from : neg_ℤ (pos 2_147_483_646) ≤ℤ year = by_lt_z year (neg_ℤ (pos 2_147_483_646))
+    let from = by_lt_z year (neg_ℤ (pos 2_147_483_646))
     (λ less. let before = starts_rise (year +ℤ pos 1) (neg_ℤ (pos 2_147_483_646)) (omega (arith, floors)) in
-    absurd (omega (arith, floors, first_start, within.0)))
+    omega (arith, floors, first_start))
     (λ h. h) in
-    let to : year ≤ℤ pos 2_147_483_645 = by_lt_z (pos 2_147_483_645) year
-    (λ more. let behind = starts_rise (pos 2_147_483_646) year (omega (arith, floors)) in absurd (omega (arith, floors, last_start, within.1)))
+    let to = by_lt_z (pos 2_147_483_645) year
+    (λ more. let behind = starts_rise (pos 2_147_483_646) year (omega (arith, floors)) in omega (arith, floors, last_start))
     (λ h. h) in
     (from, to)
 
 -- outside of them an alternate rule is refused
 pub refused_outside : (u : ℤ) → (IsRuleTime u → ⊥) → IsAlternateRefused u
-refused_outside u out = λ year of_second inside. out (rule_time u year of_second inside)
+refused_outside u out = λ year of_second inside. out (rule_time u _ of_second inside)
 
 -- the year of the second's day is the second's year, and a rule answers in it
 pub year_found : (u day year : ℤ) → day ≡ floor_div u 86_400 → year ≡ year_of day → IsRuleTime u → LiesIn day year × IsRuleYear year
 year_found u day year at_day at_year within =
     let lies : LiesIn day year = rw at_year (lies_in day) in
-    (lies, rule_year u year (rw at_day at lies) within)
+    (lies, rule_year u _ (rw at_day at lies) within)
 
 -- the type at a second whose day and year are known
 pub alternate_at : (a : AlternateRule) (u day year : ℤ) (dst : Bool) → day ≡ floor_div u 86_400 → LiesIn day year → IsRuleYear year
     → IsDstAt (start_in a) (end_in a) year u dst → AlternateAt a u (type_when a dst)
-alternate_at a u day year dst at_day lies inside when = grind arith
+alternate_at a u day _ dst at_day lies inside when = grind arith

@@ -1,18 +1,19 @@
 -- The segment whose types the rule gives: from the last transition on.
-use Rattle.tz_info.proofs.Words.{IsFirstAtOrAfter, IsLeapTime, IsNear, IsValid, IsWide, LocalType, RuleAt, RuleOrType}
-use Rattle.tz_info.proofs.Words.{SFits, Some, TransitionRule, TypeAt, Zone, arith, begin_of, cases_lt, inl, inr, ints, length, place_at, refl}
-use Rattle.tz_info.proofs.Words.{segment_of, table_count, top_of, w64, ℕ, ℤ, ◌<◌, ◌≡◌, ◌≤ℤ◌, ◌≤◌}
+use Rattle.tz_info.proofs.{
+  SegmentEndLaws.{begun_by, come_by, near_wide, shows_less},
+  SegmentLaws.{segment_at, segment_most, type_from, type_in_from},
+  TableLaws.{same_table, table_of, time_then, top_least},
+  WallSegments.{leap_time_of},
+  Words.{IsFirstAtOrAfter, IsLeapTime, IsNear, IsValid, IsWide, LocalType, RuleAt, RuleOrType, SFits, Some, TransitionRule, TypeAt, Zone, arith, begin_of},
+  Words.{cases_lt, inl, inr, length, linear, place_at, segment_of, table_count, top_of, w64, ℕ, ℤ, ◌<◌, ◌≡◌, ◌≤ℤ◌, ◌≤◌},
+}
 use Rattle.tz_info.specs.Steps.{Entries.{AreEntries, Entries}, SegmentEnds.{IsFirstSegment}, Since.{IsFirstSince, IsReachedSince}}
-use Rattle.tz_info.proofs.SegmentEndLaws.{begun_by, come_by, near_wide, shows_less}
-use Rattle.tz_info.proofs.SegmentLaws.{segment_at, segment_most, type_from, type_in_from}
-use Rattle.tz_info.proofs.TableLaws.{same_table, table_of, time_then, top_least}
-use Rattle.tz_info.proofs.WallSegments.{leap_time_of}
 
 all_of_table : (z : Zone) (rule : TransitionRule) → z.rule ≡ Some rule → table_count z ≡ length z.transitions
-all_of_table z rule is = rw is refl
+all_of_table z _ is = rw is
 
 of_rule_or : (z : Zone) (rule : TransitionRule) (u : ℤ) (i : ℕ) (t : LocalType) → z.rule ≡ Some rule → RuleAt rule u t → RuleOrType z u i t
-of_rule_or z rule u i t is k = rw is k
+of_rule_or z _ u i t is k = rw is k
 
 module _ (z : Zone) (e : Entries) (rule : TransitionRule) (k : ℕ) (valid : IsValid z) (made : AreEntries z e) (is : z.rule ≡ Some rule)
     (within : k ≤ length e.items) (beyond : top_of z.rule e ≤ k) where
@@ -36,7 +37,7 @@ module _ (z : Zone) (e : Entries) (rule : TransitionRule) (k : ℕ) (valid : IsV
   from_rule : (u : ℤ) (t : LocalType) → begin_of e.items k ≤ℤ u → IsNear u → RuleAt rule u t → TypeAt z u t
   from_rule u t from near here =
       let (x, l) = leap_time_of z u valid near in
-      let fits : SFits w64 u = omega (arith, ints, near) in
+      let fits : SFits w64 u = omega (linear, near) in
       let b = segment_at z u (length z.transitions) valid.transitions.rising (all_come u from fits (λ _. (x, l))) in
       (type_in_from z u x t l (rw (← l.sum) at b) (of_rule_or z rule u _ t is here)).type
 
@@ -64,7 +65,7 @@ module _ (z : Zone) (e : Entries) (rule : TransitionRule) (k : ℕ) (valid : IsV
           | inl before ↦
               let less = shows_less z e.items (top_of z.rule e) k l v s (table_of z e valid made) within (near_wide l wide) first.before shows.fits before
               (omega (arith, before, within, top)) shows.type in
-              let reached = shows.reached in absurd (omega (arith, ints, less, reached))
+              let reached = shows.reached in absurd (omega (linear, less, reached))
           | inr not ↦
               let from = begun_by e.items k v made.rising within (omega (arith, not)) shows.fits in
               h.first v s from (record { fits = shows.fits; type = to_rule v s from shows.fits shows.type; reached = shows.reached })

@@ -1,76 +1,77 @@
 -- A rule's types and its moments: from which second on a type is in force, and which one a second before.
-use Rattle.tz_info.proofs.Words.{Alternate, AlternateAt, DayTime, IsAlternateRule, IsBetween, IsDayOf, IsDstAt, IsInSomeYear, IsRuleDay, IsRuleYear}
-use Rattle.tz_info.proofs.Words.{IsYearOf, ap, arith, by_lt_z, end_in, false, false≢true, floors, inl, inr, ints, moment, pos, refl, rule_day, start_in, true}
-use Rattle.tz_info.proofs.Words.{ℤ}
-use Rattle.tz_info.proofs.Words.{◌*ℤ◌, ◌+ℤ◌, ◌-ℤ◌, ◌<ℤ◌, ◌≡◌, ◌≤ℤ◌}
-use Rattle.tz_info.proofs.{Neighbours.{by_end, by_start}, RuleDays.{day_rises, one_rule_day, rule_day_is}}
+use Rattle.tz_info.proofs.{
+  Neighbours.{by_end, by_start},
+  RuleDays.{day_rises, one_rule_day, rule_day_is},
+  Words.{Alternate, AlternateAt, DayTime, IsAlternateRule, IsBetween, IsDayOf, IsDstAt, IsInSomeYear, IsRuleDay, IsRuleYear, IsYearOf, ap, arith, by_lt_z},
+  Words.{end_in, false, false≢true, floors, inl, inr, linear, moment, pos, refl, rule_day, start_in, true, ℤ, ◌*ℤ◌, ◌+ℤ◌, ◌-ℤ◌, ◌<ℤ◌, ◌≡◌, ◌≤ℤ◌},
+}
 
 abbrev Rise : (ℤ → ℤ) → Type 0
 Rise f = (x y : ℤ) → x ≤ℤ y → f x ≤ℤ f y
 
 moments_rise : (t : DayTime) (offset : ℤ) → IsRuleDay t.day → Rise (moment t offset)
 unfolding moment
-moments_rise t offset fits x y h =
+moments_rise t _ fits x y h =
     by_lt_z x y
-    (λ l. let r = day_rises t.day x y fits l in omega (arith, floors))
-    (λ l. let e : x ≡ y = omega (arith, ints) in let g = ap (rule_day t.day) e in omega (arith, floors))
+    (λ l. let r = day_rises _ x y fits l in omega (arith, floors))
+    (λ l. let e : x ≡ y = omega linear in let g = ap (rule_day t.day) e in omega (arith, floors))
 
 -- the second at which a clock shows the day's time is the year's moment
 moment_is : (t : DayTime) (offset year day u : ℤ) → IsRuleDay t.day → IsDayOf t.day year day
     → (u +ℤ offset) ≡ (pos 86_400 *ℤ day +ℤ t.time) → u ≡ moment t offset year
 unfolding moment
-moment_is t offset year day u fits of_year shown =
-    let e : day ≡ rule_day t.day year = one_rule_day t.day year day (rule_day t.day year) fits of_year (rule_day_is t.day year fits) in
+moment_is t _ year day u fits of_year shown =
+    let e : day ≡ rule_day t.day year = one_rule_day _ _ day _ fits of_year (rule_day_is _ _ fits) in
     omega (arith, floors)
 
 left_out : (f g : ℤ → ℤ) (year u : ℤ) → Rise f → Rise g → u ≡ f year → g (year -ℤ pos 1) <ℤ f year → IsInSomeYear f g (u -ℤ pos 1) → ⊥
 left_out f g year u rf rg e h (y, a, b) =
     by_lt_z y year
-    (λ l. let r = rg y (year -ℤ pos 1) (omega (arith, ints)) in absurd (omega (arith, ints)))
-    (λ l. let r = rf year y (omega (arith, ints)) in absurd (omega (arith, ints)))
+    (λ l. let r = rg y (year -ℤ pos 1) (omega linear) in omega linear)
+    (λ l. let r = rf year y (omega linear) in omega linear)
 
 right_out : (f g : ℤ → ℤ) (year u : ℤ) → Rise f → Rise g → u ≡ f year → f year <ℤ g (year +ℤ pos 1) → IsInSomeYear g f u → ⊥
 right_out f g year u rf rg e h (y, a, b) =
     by_lt_z year y
-    (λ l. let r = rg (year +ℤ pos 1) y (omega (arith, ints)) in absurd (omega (arith, ints)))
-    (λ l. let r = rf y year (omega (arith, ints)) in absurd (omega (arith, ints)))
+    (λ l. let r = rg (year +ℤ pos 1) y (omega linear) in omega linear)
+    (λ l. let r = rf y year (omega linear) in omega linear)
 
 -- at a start that comes between ends daylight saving time begins
 begins : (f g : ℤ → ℤ) (year u : ℤ) → Rise f → Rise g → u ≡ f year → IsBetween g f year → IsDstAt f g year u true × IsDstAt f g year (u -ℤ pos 1) false
 begins f g year u rf rg e (inl (before, after)) = (
-  by_start f g year u true (omega (arith, ints)) (λ _. (year, omega (arith, ints), omega (arith, ints))) (λ _. refl),
-  by_start f g year (u -ℤ pos 1) false (omega (arith, ints)) (λ t. absurd (false≢true t)) (λ k. absurd (left_out f g year u rf rg e before k)),
+  by_start f g _ u _ (omega linear) (λ _. (year, omega linear, omega linear)) (λ _. refl),
+  by_start f g _ _ _ (omega linear) (λ t. absurd (false≢true t)) (λ k. absurd (left_out f g _ u rf rg e before k)),
 )
 begins f g year u rf rg e (inr (before, after)) = (
-  by_end f g year u true false before refl (λ t. absurd (false≢true t)) (λ k. absurd (right_out f g year u rf rg e after k)),
-  by_end f g year (u -ℤ pos 1) false true before refl (λ _. (year, omega (arith, ints), omega (arith, ints))) (λ _. refl),
+  by_end f g _ u _ _ before refl (λ t. absurd (false≢true t)) (λ k. absurd (right_out f g _ u rf rg e after k)),
+  by_end f g _ _ _ _ before refl (λ _. (year, omega linear, omega linear)) (λ _. refl),
 )
 
 -- and at an end that comes between starts it is over
 is_over : (f g : ℤ → ℤ) (year u : ℤ) → Rise f → Rise g → u ≡ g year → IsBetween f g year → IsDstAt f g year u false × IsDstAt f g year (u -ℤ pos 1) true
 is_over f g year u rf rg e (inl (before, after)) = (
-  by_end f g year u false true after refl (λ _. (year, omega (arith, ints), omega (arith, ints))) (λ _. refl),
-  by_end f g year (u -ℤ pos 1) true false after refl (λ t. absurd (false≢true t)) (λ k. absurd (left_out g f year u rg rf e before k)),
+  by_end f g _ u _ _ after refl (λ _. (year, omega linear, omega linear)) (λ _. refl),
+  by_end f g _ _ _ _ after refl (λ t. absurd (false≢true t)) (λ k. absurd (left_out g f _ u rg rf e before k)),
 )
 is_over f g year u rf rg e (inr (before, after)) = (
-  by_start f g year u false (omega (arith, ints)) (λ t. absurd (false≢true t)) (λ k. absurd (right_out g f year u rg rf e after k)),
-  by_start f g year (u -ℤ pos 1) true (omega (arith, ints)) (λ _. (year, omega (arith, ints), omega (arith, ints))) (λ _. refl),
+  by_start f g _ u _ (omega linear) (λ t. absurd (false≢true t)) (λ k. absurd (right_out g f _ u rg rf e after k)),
+  by_start f g _ _ _ (omega linear) (λ _. (year, omega linear, omega linear)) (λ _. refl),
 )
 
 pub starts : (a : Alternate) (year day u : ℤ) → IsAlternateRule a → IsRuleYear year → IsDayOf a.start.day year day
     → (u +ℤ a.std.offset) ≡ (pos 86_400 *ℤ day +ℤ a.start.time) → IsBetween (end_in a) (start_in a) year
     → (IsYearOf u year → AlternateAt a u a.dst) × (IsYearOf (u -ℤ pos 1) year → AlternateAt a (u -ℤ pos 1) a.std)
 starts a year day u rule inside of_year clock between =
-    let e : u ≡ start_in a year = moment_is a.start a.std.offset year day u rule.start_day of_year clock in
-    let rs : Rise (start_in a) = moments_rise a.start a.std.offset rule.start_day in
-    let re : Rise (end_in a) = moments_rise a.end a.dst.offset rule.end_day in
+    let e = moment_is _ _ _ day u rule.start_day of_year clock in
+    let rs = moments_rise _ _ rule.start_day in
+    let re = moments_rise _ _ rule.end_day in
     let sides = begins (start_in a) (end_in a) year u rs re e between in grind arith
 
 pub ends : (a : Alternate) (year day u : ℤ) → IsAlternateRule a → IsRuleYear year → IsDayOf a.end.day year day
     → (u +ℤ a.dst.offset) ≡ (pos 86_400 *ℤ day +ℤ a.end.time) → IsBetween (start_in a) (end_in a) year
     → (IsYearOf u year → AlternateAt a u a.std) × (IsYearOf (u -ℤ pos 1) year → AlternateAt a (u -ℤ pos 1) a.dst)
 ends a year day u rule inside of_year clock between =
-    let e : u ≡ end_in a year = moment_is a.end a.dst.offset year day u rule.end_day of_year clock in
-    let rs : Rise (start_in a) = moments_rise a.start a.std.offset rule.start_day in
-    let re : Rise (end_in a) = moments_rise a.end a.dst.offset rule.end_day in
+    let e = moment_is _ _ _ day u rule.end_day of_year clock in
+    let rs = moments_rise _ _ rule.start_day in
+    let re = moments_rise _ _ rule.end_day in
     let sides = is_over (start_in a) (end_in a) year u rs re e between in grind arith

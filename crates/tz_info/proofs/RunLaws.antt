@@ -1,10 +1,13 @@
 -- Runs: what a stretch of time has of a span.
-use Rattle.tz_info.proofs.Words.{Bool, HaveOneTypeFrom, IsNear, IsNextRun, IsOutOfForce, IsRunUntil, LocalType, None, Option, Some}
-use Rattle.tz_info.proofs.Words.{TypeAt, Zone, arith, by_lt_z, false, ints, pos, subst, sym, true, ℤ, ◌-ℤ◌, ◌<ℤ◌, ◌↔◌, ◌≡◌, ◌≤ℤ◌}
 use Rattle.std.specs.Prelude.{IfSome, if◌then◌else◌}
 use Rattle.tz_base.specs.declared.span.Span.{Span}
+use Rattle.tz_info.proofs.{
+  SpanLaws.{since_more},
+  Words.{Bool, HaveOneTypeFrom, IsNear, IsNextRun, IsOutOfForce, IsRunUntil, LocalType, None, Option, Some, TypeAt, Zone, by_lt_z, false, linear, pos, subst},
+  Words.{sym, true, ℤ, ◌-ℤ◌, ◌<ℤ◌, ◌↔◌, ◌≡◌, ◌≤ℤ◌},
+  ZoneLaws.{type_once},
+}
 use Rattle.tz_info.specs.Spans.{IsInSpan, IsSince, IsSpan, IsSpanAt, IsUntil}
-use Rattle.tz_info.proofs.{SpanLaws.{since_more}, ZoneLaws.{type_once}}
 
 -- the seconds from `start` on are those of the limit and of the span, and so are those before `end`
 abbrev pub StartsBy : Option ℤ → ℤ → ℤ → Type 0
@@ -15,46 +18,46 @@ EndsBy until limit end = (u : ℤ) → (u <ℤ end) ↔ ((u <ℤ limit) × IsUnt
 
 pub one_type : (z : Zone) (s : Span) (low high start end : ℤ) → IsNear low → IsNear high → IsSpan (TypeAt z) s → StartsBy s.from low start
     → EndsBy s.until high end → HaveOneTypeFrom (TypeAt z) start end s.local_time_type
-one_type z s low high start end near near_high is starts ends u from until =
+one_type z s low _ _ end near near_high is starts ends u from until =
     let (after, since) = (starts u).0 from in let (ahead, before) = (ends u).0 until in
-    is.each u (record { fits = omega (arith, ints, near, near_high); since = since; until = before })
+    is.each u (record { fits = omega linear; since = since; until = before })
 
 -- the part of a window that has its first second, or its last one
 pub next_run : (w : Bool) (s : Span) (low high start end : ℤ) → low <ℤ high → IsInSpan s (if w then low else high -ℤ pos 1) → StartsBy s.from low start
     → EndsBy s.until high end → IsNextRun w low high start end
-next_run true s low high start end some here starts ends =
-    let first = (starts low).1 (omega (arith, ints), here.since) in let from = ((starts start).0 (omega (arith, ints))).0 in
-    let last = ((ends (end -ℤ pos 1)).0 (omega (arith, ints))).0 in
-    (omega (arith, ints), (ends low).1 (some, here.until), omega (arith, ints))
+next_run true s low _ start end some here starts ends =
+    let first = (starts low).1 (omega linear, here.since) in let from = ((starts start).0 (omega linear)).0 in
+    let last = ((ends (end -ℤ pos 1)).0 (omega linear)).0 in
+    (omega linear, (ends low).1 (some, here.until), omega linear)
 next_run false s low high start end some here starts ends =
-    let last = (ends (high -ℤ pos 1)).1 (omega (arith, ints), here.until) in let until = ((ends (end -ℤ pos 1)).0 (omega (arith, ints))).0 in
-    let first = (starts (high -ℤ pos 1)).1 (omega (arith, ints), here.since) in
-    (omega (arith, ints), ((starts start).0 (omega (arith, ints))).0, omega (arith, ints))
+    let last = (ends (high -ℤ pos 1)).1 (omega linear, here.until) in let until = ((ends (end -ℤ pos 1)).0 (omega linear)).0 in
+    let first = (starts _).1 (omega linear, here.since) in
+    (omega linear, ((starts _).0 (omega linear)).0, omega linear)
 
 -- a span that ends before the limit ends when its type is out of force
 turned : (z : Zone) (until : Option ℤ) (limit end : ℤ) (f : LocalType) → IfSome until (IsOutOfForce (TypeAt z) f) → EndsBy until limit end → end <ℤ limit
     → TypeAt z end f → ⊥
-turned z None limit end f out ends less here = let beyond = (ends end).1 (less, tt) in omega (arith, ints)
+turned z None limit end f out ends less here = grind (linear, ends)
 turned z (Some at) limit end f out ends less here = by_lt_z end at
-    (λ l. let beyond = (ends end).1 (less, l) in omega (arith, ints))
-    (λ m. by_lt_z at end (λ l. let before = ((ends at).0 l).1 in omega (arith, ints))
-    (λ n. let same : end ≡ at = omega (arith, ints) in out.out (rw same at here)))
+    (λ l. let beyond = (ends end).1 (less, l) in omega linear)
+    (λ m. by_lt_z at end (λ l. let before = ((ends at).0 l).1 in omega linear)
+    (λ n. let same : end ≡ at = omega linear in out.out (rw same at here)))
 
 pub run_until : (z : Zone) (s : Span) (at limit end : ℤ) → IsNear at → IsNear limit → at <ℤ limit → IsSpanAt (TypeAt z) at s → EndsBy s.until limit end
     → IsRunUntil (TypeAt z) at limit end
 run_until z s at limit end near near_limit ahead here ends =
-    let its : (t : LocalType) → TypeAt z at t → s.local_time_type ≡ t = λ t k. type_once z at s.local_time_type t here.in_force_then k in
+    let its : (t : LocalType) → TypeAt z at t → s.local_time_type ≡ t = λ t k. type_once z at _ t here.in_force_then k in
     record {
       later = (ends at).1 (ahead, here.inside.until);
-      most = by_lt_z limit end (λ l. let before = ((ends limit).0 l).0 in absurd (omega (arith, ints))) (λ l. l);
+      most = by_lt_z limit end (λ l. let before = ((ends _).0 l).0 in omega linear) (λ l. l);
       same = λ u from until t k.
           let (before, within) = (ends u).0 until in
           subst (TypeAt z u) (its t k)
-          (here.span.each u (record { fits = omega (arith, ints, near, near_limit); since = since_more s.from at u here.inside.since from; until = within }));
-      turns = λ less t k l. turned z s.until limit end s.local_time_type here.span.ends ends less (subst (TypeAt z end) (sym (its t k)) l);
+          (here.span.each u (record { fits = omega linear; since = since_more _ at u here.inside.since from; until = within }));
+      turns = λ less t k l. turned z _ limit end _ here.span.ends ends less (subst (TypeAt z end) (sym (its t k)) l);
     }
 
 -- the first second of a near interval, or its last one, is near
 pub near_end : (forward : Bool) (low high : ℤ) → IsNear low → IsNear high → low <ℤ high → IsNear (if forward then low else high -ℤ pos 1)
-near_end true low high near_low near_high some = near_low
-near_end false low high near_low near_high some = (omega (arith, ints, near_low), omega (arith, ints, near_high))
+near_end true low _ near_low near_high some = near_low
+near_end false low high near_low near_high some = grind linear

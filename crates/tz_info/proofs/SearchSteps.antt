@@ -1,9 +1,11 @@
 -- What each step of a search among items in order of time keeps.
-use Rattle.tz_info.proofs.SearchWords.{AreEnds, AreOrdered, ArePassed, Ends, IsLeft, IsNarrowedTo, List, Near, ap, arith, digits, filter, get_or, int_le, ints}
-use Rattle.tz_info.proofs.SearchWords.{item_time, length, length-map, map, pos, refl, suc, sym, take, zero, ℕ, ℤ, ◌*◌, ◌+◌, ◌-◌, ◌/◌, ◌<ℤ◌, ◌<◌, ◌∙◌, ◌≡◌, ◌≤ℤ◌}
-use Rattle.tz_info.proofs.SearchWords.{◌≤◌}
-use Rattle.tz_info.proofs.{DigitLaws.{digits-half, digits-less, digits-more}, FirstItems.{filter_first, le_false, le_true}}
 use Rattle.std.proofs.lemmas.List.{get_or-map as mapped_at}
+use Rattle.tz_info.proofs.{
+  DigitLaws.{digits-half, digits-less, digits-more},
+  FirstItems.{filter_first, le_false, le_true},
+  SearchWords.{AreEnds, AreOrdered, ArePassed, Ends, IsLeft, IsNarrowedTo, List, Near, ap, arith, digits, filter, get_or, int_le, item_time, length},
+  SearchWords.{length-map, linear, map, pos, refl, suc, sym, take, zero, ℕ, ℤ, ◌*◌, ◌+◌, ◌-◌, ◌/◌, ◌<ℤ◌, ◌<◌, ◌∙◌, ◌≡◌, ◌≤ℤ◌, ◌≤◌},
+}
 
 -- the time of an item that was read
 pub time_read : {A : Type 0} (time : A → ℤ) (items : List A) (place : ℕ) (x : A) → place < length items → x ≡ get_or items place x
@@ -15,91 +17,91 @@ pub times_ordered : {A : Type 0} (time : A → ℤ) (items : List A) (x : A)
     → ((i j : ℕ) → i < j → j < length items → time (get_or items i x) ≤ℤ time (get_or items j x)) → AreOrdered (map time items)
 times_ordered time items x order i j d h l =
     let same = length-map items time in
-    let o = order i j h (omega arith) in grind (arith, ints, mapped_at)
+    let o = order i j h (omega arith) in grind (arith, mapped_at)
 
 -- the items that have come are the first n
 pub first_come : {A : Type 0} (time : A → ℤ) (items : List A) (v : ℤ) (n : ℕ) → ArePassed (map time items) v n
     → filter (λ (x : A). int_le (time x) v) items ≡ take n items
 first_come {A = A} time items v n come =
     let same = length-map items time in
-    filter_first (λ (x : A). int_le (time x) v) items n (omega arith)
+    filter_first (λ x. int_le (time x) v) _ n (omega arith)
     (λ k d l. let e = mapped_at time items k d (pos 0) (omega arith) in le_true _ v (rw e at (come.before k l)))
     (λ k d l m. let e = mapped_at time items k d (pos 0) m in le_false _ v (rw e at (come.behind k l (omega arith))))
 
 -- no time comes before an earlier one
 pub not_before : (times : List ℤ) (i k : ℕ) → AreOrdered times → i ≤ k → k < length times → item_time times i ≤ℤ item_time times k
-not_before times i k ordered h l = grind arith
+not_before _ i k ordered h l = grind arith
 
 -- all have come once the last has
 pub all_passed : (times : List ℤ) (v : ℤ) (n : ℕ) (ends : Ends) → AreOrdered times → n ≡ length times → 0 < n → AreEnds times ends
     → ends.last ≤ℤ v → ArePassed times v n
-all_passed times v n ends ordered e some are le =
+all_passed times v n _ ordered e some are le =
     record {
       within = omega arith;
-      before = λ k h. let m = not_before times k (length times - 1) ordered (omega arith) (omega arith) in omega (arith, ints);
+      before = λ k h. let m = not_before _ k (length times - 1) ordered (omega arith) (omega arith) in omega linear;
       behind = λ k h l. absurd (omega arith);
     }
 
 -- and none if the first has not
 pub none_passed : (times : List ℤ) (v : ℤ) (ends : Ends) → AreOrdered times → 0 < length times → AreEnds times ends → v <ℤ ends.first → ArePassed times v 0
-none_passed times v ends ordered some are lt =
+none_passed times v _ ordered some are lt =
     record {
       within = omega arith;
       before = λ k h. absurd (omega arith);
-      behind = λ k h l. let m = not_before times 0 k ordered (omega arith) l in omega (arith, ints);
+      behind = λ k h l. let m = not_before _ 0 k ordered (omega arith) l in omega linear;
     }
 
 -- a look at one that has come
 pub left_later : (times : List ℤ) (v : ℤ) (first middle high : ℕ) → IsLeft times v first high → middle < high → item_time times middle ≤ℤ v
     → IsLeft times v (middle + 1) high
-left_later times v first middle high left h le = let w = left.within in record {
+left_later times v _ middle _ left h le = let w = left.within in record {
   ordered = left.ordered;
   rising = omega arith;
   within = w;
   fits = left.fits;
-  before = λ k l. let m = not_before times k middle left.ordered (omega arith) (omega arith) in omega (arith, ints);
+  before = λ k l. let m = not_before _ k middle left.ordered (omega arith) (omega arith) in omega linear;
   behind = left.behind;
 }
 
 -- and at one that has not
 pub left_earlier : (times : List ℤ) (v : ℤ) (first middle high : ℕ) → IsLeft times v first high → first ≤ middle → middle < high
     → v <ℤ item_time times middle → IsLeft times v first middle
-left_earlier times v first middle high left h l lt = let w = left.within in record {
+left_earlier times v _ middle _ left h l lt = record {
   ordered = left.ordered;
   rising = h;
   within = omega arith;
-  fits = omega (arith, left.fits);
+  fits = omega arith;
   before = left.before;
-  behind = λ k m n. let o = not_before times middle k left.ordered m n in omega (arith, ints);
+  behind = λ k m n. let o = not_before _ _ k left.ordered m n in omega linear;
 }
 
 -- the same among neighbours, the first of which has come
 pub near_later : (times : List ℤ) (v : ℤ) (near after : Near) → IsNarrowedTo times v near → near.first ≤ after.first → after.first < near.first + near.count
     → after.first + after.count ≡ near.first + near.count → item_time times after.first ≤ℤ v → IsNarrowedTo times v after
-near_later times v near after n h l e le = grind arith
+near_later _ v _ _ n h l e le = grind arith
 
 pub near_earlier : (times : List ℤ) (v : ℤ) (near after : Near) (middle : ℕ) → IsNarrowedTo times v near → after.first ≡ near.first → 0 < after.count
     → middle ≤ after.first + after.count → middle < near.first + near.count → after.first + after.count ≤ near.first + near.count
     → v <ℤ item_time times middle → IsNarrowedTo times v after
-near_earlier times v near after middle n e some m l h lt = let w = n.within in record {
+near_earlier times v _ _ middle n e some m l h lt = record {
   ordered = n.ordered;
   some = some;
   within = omega arith;
-  fits = omega (arith, n.fits);
+  fits = omega arith;
   come = rw e n.come;
-  behind = λ k a b. let o = not_before times middle k n.ordered (omega arith) b in omega (arith, ints);
+  behind = λ k a b. let o = not_before _ middle k n.ordered (omega arith) b in omega linear;
 }
 
 pub near_one : (times : List ℤ) (v : ℤ) (near : Near) → near.count ≤ 1 → IsNarrowedTo times v near → ArePassed times v (near.first + 1)
-near_one times v near h n = let w = n.within in let s = n.some in record {
+near_one times v near h n = record {
   within = omega arith;
-  before = λ k l. let m = not_before times k near.first n.ordered (omega arith) (omega arith) in let c = n.come in omega (arith, ints);
+  before = λ k l. let m = not_before _ k near.first n.ordered (omega arith) (omega arith) in omega linear;
   behind = λ k l m. n.behind k (omega arith) m;
 }
 
 -- a halving costs a look
 pub digits-halved : (n : ℕ) → 0 < n → digits n ≡ digits (n / 2) + 1
-digits-halved zero h = absurd (omega arith)
+digits-halved zero h = omega arith
 digits-halved (suc n) h = let e = digits-half n in omega arith
 
 digits-four : digits 4 ≡ 3
@@ -108,13 +110,13 @@ digits-four = refl
 
 -- a search among four items or more may take three looks
 pub digits-three : (n : ℕ) → 4 ≤ n → 3 ≤ digits n
-digits-three n h = let m = digits-more 4 n h in omega (arith, digits-four)
+digits-three n h = grind (linear, digits-more, digits-four)
 
 -- two steps among at most half of the items leave room for one look and the steps that are left
 pub two_steps : (count left n : ℕ) → 0 < count → 2 * count ≤ n → 4 ≤ n → left ≡ (count - count / 2) - (count - count / 2) / 2
     → 2 + digits (left - 1) + 1 ≤ digits n
-two_steps count left n some narrow many e = grind (arith, digits-halved, digits-less)
+two_steps _ _ n some narrow many e = grind (arith, digits-halved, digits-less)
 
 -- a step among more than one takes a look
 pub one_step : (count left : ℕ) → 1 < count → left ≡ count - count / 2 → digits (left - 1) + 1 ≤ digits (count - 1)
-one_step count left some e = grind (arith, digits-halved)
+one_step _ _ some e = grind (arith, digits-halved)

@@ -1,31 +1,33 @@
 -- The type in force at a second, as it is asked for the list of changes, and the change there.
-use Rattle.tz_info.proofs.Words.{Change, HasNoChange, HasType, IsChange, IsLeapTime, IsRefusedBy, IsRuleOrNone, IsTypeRefused, IsValid, List, LocalType}
-use Rattle.tz_info.proofs.Words.{MatchOption, None, Option, RuleOrElse, RuleOrType, SFits, Some, TransitionRule, TypeAt, Zone, all_fit, arith, by_leap_time}
-use Rattle.tz_info.proofs.Words.{by_rule, cases_lt, change_between, change_here, corrections, false, get_or, index_at, inl, inr, ints, is_second, length}
-use Rattle.tz_info.proofs.Words.{nat_lt, nat_tests, passed, passed_count, pos, refl, rule_type_or, slice_get, suc, true, type_at_leap_time, type_exact}
-use Rattle.tz_info.proofs.Words.{type_or_none, w64, zero, ℕ, ℤ, [], ◌+ℤ◌, ◌-ℤ◌, ◌<◌, ◌==◌, ◌∷◌, ◌≡◌, ◌⊎◌}
-use Rattle.tz_info.proofs.{ChangeSearch.{InForce, IsOnce, none_before, none_here}, RuleLaws.{rule_told}}
-use Rattle.tz_info.proofs.ZoneLaws.{before_or_from_last, fits_or_not, inside_listed, last_index_below, leap_time_decided, type_not_refused}
+use Rattle.tz_info.proofs.{
+  ChangeSearch.{InForce, IsOnce, none_before, none_here},
+  RuleLaws.{rule_told},
+  Words.{Change, HasNoChange, HasType, IsChange, IsLeapTime, IsRefusedBy, IsRuleOrNone, IsTypeRefused, IsValid, List, LocalType, MatchOption, None, Option},
+  Words.{RuleOrElse, RuleOrType, SFits, Some, TransitionRule, TypeAt, Zone, [], all_fit, arith, by_leap_time, by_rule, cases_lt, change_between, change_here},
+  Words.{false, get_or, index_at, inl, inr, is_second, length, linear, nat_lt, passed, pos, refl, rule_type_or, slice_get, suc, true, type_at_leap_time},
+  Words.{type_exact, type_or_none, w64, zero, ℕ, ℤ, ◌+ℤ◌, ◌-ℤ◌, ◌<◌, ◌==◌, ◌∷◌, ◌≡◌, ◌⊎◌},
+  ZoneLaws.{before_or_from_last, fits_or_not, inside_listed, last_index_below, leap_time_decided, type_not_refused},
+}
 
 -- ---- tests
 second_true : (u : ℤ) → SFits w64 u → is_second u ≡ true
-second_true u fits = grind (arith, ints)
+second_true u fits = grind arith
 
 second_false : (u : ℤ) → (SFits w64 u → ⊥) → is_second u ≡ false
-second_false u out = grind (arith, ints)
+second_false u out = grind arith
 
 all_true : (cs : List ℤ) (u : ℤ) (n : ℕ) → ((k : ℕ) → k < n → SFits w64 (u +ℤ get_or cs k (pos 0))) → all_fit cs u n ≡ true
 all_true cs u zero h = refl
-all_true cs u (suc n) h = rw (second_true (u +ℤ get_or cs n (pos 0)) (h n (omega arith)), all_true cs u n (λ k l. h k (omega arith))) refl
+all_true cs u (suc n) h = rw (second_true _ (h n (omega arith)), all_true cs u n (λ k l. h k (omega arith)))
 
 all_false : (cs : List ℤ) (u : ℤ) (n k : ℕ) → k < n → (SFits w64 (u +ℤ get_or cs k (pos 0)) → ⊥) → all_fit cs u n ≡ false
 all_false cs u zero k l out = absurd (omega arith)
 all_false cs u (suc n) k l out = elim (fits_or_not (u +ℤ get_or cs n (pos 0))) [
-  | inl fits ↦ rw (second_true (u +ℤ get_or cs n (pos 0)) fits) (elim (cases_lt k n) [
+  | inl fits ↦ rw (second_true _ fits) (elim (cases_lt k n) [
     | inl below ↦ all_false cs u n k below out
     | inr above ↦ let e : k ≡ n = omega arith in absurd (out (rw e fits))
   ])
-  | inr none ↦ rw (second_false (u +ℤ get_or cs n (pos 0)) none) refl
+  | inr none ↦ rw (second_false _ none)
 ]
 
 -- ---- a zone's type, or why it has none
@@ -39,35 +41,35 @@ moved P R Q S (Some t) f g h = g t h
 
 or_told : (rule : Option TransitionRule) (z : Zone) (u : ℤ) (i : ℕ) → i < length z.types → IsRuleOrNone rule
     → MatchOption (rule_type_or rule u (slice_get z.types i)) (IsRefusedBy rule u) (λ t. RuleOrElse rule u (HasType z i t) t)
-or_told (Some rule) z u i h limits = rule_told rule u limits
-or_told None z u i h limits = let t = inside_listed z.types i h in itself ⊥ (slice_get z.types i) t.0 t.1
+or_told (Some rule) z u i h limits = rule_told _ u limits
+or_told None z u i h limits = let t = inside_listed _ i h in itself ⊥ _ t.0 t.1
 
 at_leap_time : (z : Zone) (u x : ℤ) → IsValid z → IsRuleOrNone z.rule → (0 < length z.transitions → IsLeapTime z.leaps u x)
     → MatchOption (type_at_leap_time z u x) (IsTypeRefused z u) (TypeAt z u)
 at_leap_time z u x valid limits of_second =
     let i = index_at z x in
-    let below = last_index_below z.transitions x 0 (length z.types) valid.some valid.transitions.indexes in
+    let below = last_index_below _ x 0 _ valid.some valid.transitions.indexes in
     elim (before_or_from_last z x) [
       | inl before ↦
-          let t = inside_listed z.types i below in
-          let test : nat_lt (length (passed z.transitions x)) (length z.transitions) ≡ true = grind (arith, nat_tests) in
+          let t = inside_listed _ i below in
+          let test : nat_lt (length (passed z.transitions x)) (length z.transitions) ≡ true = grind arith in
           rw (test, t.1) (record { leap_time = x; of_second = of_second; in_force = record { before_last = λ _. t.1; from_last = λ l. absurd (omega arith) } })
       | inr last ↦
-          let test : nat_lt (length (passed z.transitions x)) (length z.transitions) ≡ false = grind (arith, nat_tests) in
-          rw test (moved (IsRefusedBy z.rule u) (IsTypeRefused z u) (λ t. RuleOrType z u i t) (TypeAt z u) (rule_type_or z.rule u (slice_get z.types i))
+          let test : nat_lt (length (passed z.transitions x)) (length z.transitions) ≡ false = grind arith in
+          rw test (moved _ _ (λ t. RuleOrType z u i t) _ _
           (λ refused. by_rule x of_second last refused)
           (λ t h. record { leap_time = x; of_second = of_second; in_force = record { before_last = λ l. absurd (omega arith); from_last = λ _. h } })
-          (or_told z.rule z u i below limits))
+          (or_told _ z u i below limits))
     ]
 
 type_told : (z : Zone) (u : ℤ) → IsValid z → IsRuleOrNone z.rule → MatchOption (type_or_none z u) (IsTypeRefused z u) (TypeAt z u)
 unfolding type_or_none
 type_told z u valid limits = elim (cases_lt 0 (length z.transitions)) [
   | inl some ↦
-      let test : (length z.transitions == 0) ≡ false = grind (arith, nat_tests) in
+      let test : (length z.transitions == 0) ≡ false = grind arith in
       elim (leap_time_decided z.leaps u) [
         | inl x ↦ grind (arith, all_true, at_leap_time)
-        | inr r ↦ rw (test, all_false (corrections z.leaps) u (passed_count z.leaps u) r.place r.passed r.leaves) (by_leap_time some r)
+        | inr r ↦ rw (test, all_false _ u _ _ r.passed r.leaves) (by_leap_time some r)
       ]
   | inr none ↦ grind (arith, at_leap_time)
 ]
@@ -77,7 +79,7 @@ abbrev pub AreTypes : InForce → (ℤ → Option LocalType) → Type 0
 AreTypes f types = (u : ℤ) → MatchOption (types u) ((t : LocalType) → f u t → ⊥) (f u)
 
 pub types_told : (z : Zone) → IsValid z → IsRuleOrNone z.rule → AreTypes (TypeAt z) (type_or_none z)
-types_told z valid limits u = moved (IsTypeRefused z u) _ (TypeAt z u) _ (type_or_none z u) (λ refused t h. type_not_refused z u t h refused) (λ t h. h)
+types_told z valid limits u = moved _ _ _ _ (type_or_none z u) (λ refused t h. type_not_refused z u t h refused) (λ t h. h)
     (type_told z u valid limits)
 
 -- ---- the change at a second
@@ -93,4 +95,4 @@ between_types f u (Some s) None once fits fits_before h k = inl (refl, none_here
 between_types f u (Some s) (Some t) once fits fits_before h k = grind (arith, type_exact)
 
 pub here_listed : (f : InForce) (types : ℤ → Option LocalType) (u : ℤ) → IsOnce f → AreTypes f types → IsListed f u (change_here types u)
-here_listed f types u once told = grind (arith, ints, between_types, second_true)
+here_listed f _ u once told = grind (linear, between_types, second_true)

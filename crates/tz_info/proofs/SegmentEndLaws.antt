@@ -1,81 +1,80 @@
 -- The first second at which clocks show a local time or a later one: that of the first segment that ends later.
-use Rattle.tz_info.proofs.Words.{AreRising, IsFirstAtOrAfter, IsTrue, IsNear, IsRuleOrNone, IsTable, IsUtOffset, IsValid, IsWide}
-use Rattle.tz_info.proofs.Words.{IsWindowOf, List, LocalType, SFits, Some}
-use Rattle.tz_info.proofs.Words.{Transition, TypeAt, Zone, ap, arith, begin_of, by_lt_z, cases_lt, get_or}
-use Rattle.tz_info.proofs.Words.{get_or_append_left, get_or_push, index_of, inl, inr, int_lt, ints, lt_is, lt_true, least_time, length, length_push}
-use Rattle.tz_info.proofs.Words.{place_at, pos, refl, rises, saturate_signed, slice_get, suc, w64, zero, ℕ, ℤ, ◌+ℤ◌, ◌++◌, ◌∷◌}
-use Rattle.tz_info.proofs.Words.{[]}
-use Rattle.tz_info.proofs.Words.{◌-ℤ◌, ◌-◌, ◌<ℤ◌, ◌<◌, ◌↔◌, ◌∙◌, ◌≡◌, ◌≤ℤ◌, ◌≤◌, ◌⊎◌}
+use Rattle.tz_info.proofs.{
+  ExtremeLaws.{at_least_least},
+  GapLaws.{near_type},
+  LeapStarts.{saturated},
+  SegmentLaws.{begin_first, begins_rise, come_from, place_most, places_rise},
+  WallSegments.{near_of, type_there},
+  Words.{AreRising, IsFirstAtOrAfter, IsNear, IsRuleOrNone, IsTable, IsTrue, IsUtOffset, IsValid, IsWide, IsWindowOf, List, LocalType, SFits, Some, Transition},
+  Words.{TypeAt, Zone, [], ap, arith, begin_of, by_lt_z, cases_lt, get_or, get_or_append_left, get_or_push, index_of, inl, inr, int_lt, least_time, length},
+  Words.{length_push, linear, lt_is, lt_true, place_at, pos, rises, saturate_signed, slice_get, suc, w64, zero, ℕ, ℤ, ◌++◌, ◌+ℤ◌, ◌-ℤ◌, ◌-◌, ◌<ℤ◌, ◌<◌, ◌↔◌},
+  Words.{◌∙◌, ◌∷◌, ◌≡◌, ◌≤ℤ◌, ◌≤◌, ◌⊎◌},
+}
 use Rattle.tz_info.specs.Steps.SegmentEnds.{AreEndsRising, AreMaxima, IsFirstOf, IsFirstSegment, IsReached, end_of}
-use Rattle.tz_info.proofs.{ExtremeLaws.{at_least_least}, GapLaws.{near_type}, LeapStarts.{saturated}}
-use Rattle.tz_info.proofs.SegmentLaws.{begin_first, begins_rise, come_from, place_most, places_rise}
-use Rattle.tz_info.proofs.WallSegments.{near_of, type_there}
 
 -- ---- ends
 pub near_wide : (l : ℤ) → IsWide l → IsNear l
-near_wide l wide = let a = wide.0 in let b = wide.1 in (omega (arith, ints), omega (arith, ints))
+near_wide l wide = grind linear
 
 pub end_at : (types : List LocalType) (ts : List Transition) (j : ℕ) (t : LocalType) → slice_get types (index_of ts j) ≡ Some t
     → end_of types ts (suc j) ≡ saturate_signed w64 (begin_of ts (suc j) +ℤ t.offset)
-end_at types ts j t has = let e : suc j - 1 ≡ j = omega arith in rw (e, has) refl
+end_at types ts j t has = grind linear
 
 ends_rise : (types : List LocalType) (ts : List Transition) (j k : ℕ) → AreEndsRising types ts → 0 < j → j ≤ k → k ≤ length ts
     → end_of types ts j ≤ℤ end_of types ts k
-ends_rise types ts zero k rising some order within = absurd (omega arith)
+ends_rise _ ts zero k rising some order within = absurd (omega arith)
 ends_rise types ts (suc j) zero rising some order within = absurd (omega arith)
 ends_rise types ts (suc j) (suc k) rising some order within =
-    rises (λ i. end_of types ts (suc i)) (length ts) (λ i h. let r = rising (suc i) (omega arith) h in omega (arith, ints)) j k (omega arith) (omega arith)
+    rises (λ i. end_of types ts (suc i)) _ (λ i h. let r = rising (suc i) (omega arith) h in omega linear) j k (omega arith) (omega arith)
 
 -- if the ends rise the last one decides
 pub reached_plain : (types : List LocalType) (ts : List Transition) (k : ℕ) (l : ℤ) → AreEndsRising types ts → 0 < k → k ≤ length ts
     → (l <ℤ end_of types ts k) ↔ IsReached types ts k l
-reached_plain types ts k l rising some within = (
+reached_plain _ ts k l rising some within = (
   λ h. record { by = k; some = some; within = omega arith; later = h },
-  λ r. let later = r.later in let rise = ends_rise types ts r.by k rising r.some r.within within in omega (arith, ints),
+  λ r. let rise = ends_rise _ ts _ k rising r.some r.within within in omega linear,
 )
 
 -- else the latest one
 pub reached_latest : (types : List LocalType) (ts : List Transition) (maxima : List ℤ) (k : ℕ) (l : ℤ) → AreMaxima types ts maxima → 0 < k → k ≤ length ts
     → SFits w64 l → (l <ℤ get_or maxima (k - 1) (pos 0)) ↔ IsReached types ts k l
-reached_latest types ts maxima k l made some within fits =
+reached_latest _ ts _ k l made some within fits =
     let e : suc (k - 1) ≡ k = omega arith in
-    let n = made.count in
     rw e at (made.reached (k - 1) (pos 0) l (omega arith) fits)
 
 pub by_test : {P : Type 0} → (a b : ℤ) → (a <ℤ b) ↔ P → IsTrue (int_lt a b) ↔ P
-by_test a b is = ((λ h. is.0 (lt_is a b h)), (λ p. lt_true a b (is.1 p)))
+by_test a b is = grind (linear, lt_is, lt_true)
 
 -- of one segment more
 pub reached_more : (types : List LocalType) (ts : List Transition) (k : ℕ) (l : ℤ)
     → IsReached types ts (suc k) l ↔ (IsReached types ts k l ⊎ (l <ℤ end_of types ts (suc k)))
-reached_more types ts k l = (
+reached_more _ ts k l = (
   λ r. elim (cases_lt k r.by) [
-    | inl last ↦ let w = r.within in let e : r.by ≡ suc k = omega arith in inr (rw e at r.later)
+    | inl last ↦ let e : r.by ≡ suc k = omega arith in inr (rw e at r.later)
     | inr earlier ↦ inl (record { by = r.by; some = r.some; within = earlier; later = r.later })
   ],
   λ s. elim s [
-    | inl r ↦ let w = r.within in record { by = r.by; some = r.some; within = omega arith; later = r.later }
+    | inl r ↦ record { by = r.by; some = r.some; within = omega arith; later = r.later }
     | inr later ↦ record { by = suc k; some = omega arith; within = omega arith; later = later }
   ],
 )
 
 pub never_reached : (types : List LocalType) (ts : List Transition) (l : ℤ) → IsReached types ts 0 l → ⊥
-never_reached types ts l r = let s = r.some in let w = r.within in omega arith
+never_reached _ ts l r = omega arith
 
 -- the later of the segment's begin and the second that shows the local time by its type
 pub first_of_made : (types : List LocalType) (ts : List Transition) (k i : ℕ) (l at begin shown : ℤ) (t : LocalType) → i ≡ index_of ts k
     → slice_get types i ≡ Some t → IsUtOffset t.offset
     → begin ≡ begin_of ts k → shown ≡ l -ℤ t.offset → ((u : ℤ) → (at ≤ℤ u) ↔ ((begin ≤ℤ u) × (shown ≤ℤ u))) → IsFirstOf types ts k l at t
-first_of_made types ts k i l at begin shown t is listed offset begins shows from =
-    record { listed = rw is at listed; offset = offset; from = rw (begins, shows) at from }
+first_of_made types ts k i l at begin shown t is listed offset begins shows from = grind (linear, at, begins)
 
 -- the search has come to the first segment
 pub first_found : (types : List LocalType) (ts : List Transition) (l : ℤ) (k : ℕ) → k ≤ length ts → (IsReached types ts k l → ⊥)
     → (k < length ts → IsReached types ts (suc k) l) → IsFirstSegment types ts l k
-first_found types ts l k within before here = record {
+first_found _ ts l k within before here = record {
   within = within;
   before = before;
-  here = λ h. elim ((reached_more types ts k l).0 (here h)) [ inl r ↦ absurd (before r) | inr later ↦ later ];
+  here = λ h. elim ((reached_more _ ts k l).0 (here h)) [ inl r ↦ absurd (before r) | inr later ↦ later ];
 }
 
 -- ---- seconds
@@ -84,92 +83,84 @@ pub shows_less : (z : Zone) (ts : List Transition) (top k : ℕ) (l v : ℤ) (s 
     → (IsReached z.types ts k l → ⊥) → SFits w64 v
     → place_at ts v < k → place_at ts v < top → TypeAt z v s → (v +ℤ s.offset) <ℤ l
 shows_less z ts top k l v s table within near none fits before own here =
-    let j : ℕ = place_at ts v in
+    let j = place_at ts v in
     let has = table.listed v s fits own here in
     let sat = saturated (begin_of ts (suc j) +ℤ s.offset) l near in
     let come = come_from ts (suc j) v table.rising (omega arith) (omega arith) in
-    let end = end_at z.types ts j s has in
+    let end = end_at _ ts j s has in
     by_lt_z l (saturate_signed w64 (begin_of ts (suc j) +ℤ s.offset))
     (λ more. absurd (none (record { by = suc j; some = omega arith; within = omega arith; later = rw end more })))
     (λ less.
-    let b = sat.0 less in
-    by_lt_z v (begin_of ts (suc j)) (λ m. omega (arith, ints)) (λ m. let c = come.1 m in absurd (omega arith)))
+    by_lt_z v (begin_of ts (suc j)) (λ m. omega linear) (λ m. absurd (omega arith)))
 
 pub begun_by : (ts : List Transition) (k : ℕ) (v : ℤ) → AreRising ts → k ≤ length ts → k ≤ place_at ts v → SFits w64 v → begin_of ts k ≤ℤ v
-begun_by ts zero v rising within come fits = rw (begin_first ts) (omega (arith, ints))
-begun_by ts (suc k) v rising within come fits = (come_from ts (suc k) v rising (omega arith) within).0 come
+begun_by ts zero v rising within come fits = rw (begin_first ts) (omega linear)
+begun_by ts (suc k) v rising within come fits = (come_from ts _ v rising (omega arith) within).0 come
 
 pub come_by : (ts : List Transition) (k : ℕ) (v : ℤ) → AreRising ts → k ≤ length ts → begin_of ts k ≤ℤ v → k ≤ place_at ts v
-come_by ts zero v rising within begun = omega arith
-come_by ts (suc k) v rising within begun = (come_from ts (suc k) v rising (omega arith) within).1 begun
+come_by ts zero v _ within begun = omega arith
+come_by ts (suc k) v rising within begun = (come_from ts _ v rising (omega arith) within).1 begun
 
--- a near second shows the local time or a later one, so that the segment has begun by then
-pub begun_near : (z : Zone) (ts : List Transition) (top k : ℕ) (l low high : ℤ) → IsValid z → IsRuleOrNone z.rule → IsTable z ts top → k ≤ top
-    → IsWide l → IsWindowOf z l l low high
-    → IsFirstSegment z.types ts l k → begin_of ts k ≤ℤ pos 10_000_000_000_000
-begun_near z ts top k l low high valid limits table own wide reach first =
-    let near_high = reach.near_high in let a = near_high.0 in let b = near_high.1 in
-    let (latest, here) = near_type z high valid limits near_high in
-    let least = at_least_least z high (l -ℤ high) latest reach.least here in
-    let fits : SFits w64 high = omega (arith, ints) in
-    elim (cases_lt (place_at ts high) k) [
-      | inl before ↦ let less = shows_less z ts top k l high latest table first.within (near_wide l wide) first.before fits before (omega arith) here in
-          absurd (omega (arith, ints))
-      | inr come ↦ let begun = begun_by ts k high table.rising first.within come fits in omega (arith, ints)
-    ]
+-- the first segment that reaches a local time
+module _ (z : Zone) (ts : List Transition) (top k : ℕ) (l : ℤ) (table : IsTable z ts top) (wide : IsWide l) (first : IsFirstSegment z.types ts l k) where
+  -- a near second shows the local time or a later one, so that the segment has begun by then
+  pub begun_near : (low high : ℤ) → IsValid z → IsRuleOrNone z.rule → k ≤ top → IsWindowOf z l l low high → begin_of ts k ≤ℤ pos 10_000_000_000_000
+  begun_near low high valid limits own reach =
+      let near_high = reach.near_high in let (latest, here) = near_type z high valid limits near_high in
+      let least = at_least_least z _ _ latest reach.least here in
+      let fits : SFits w64 high = omega linear in
+      elim (cases_lt (place_at ts high) k) [
+        | inl before ↦ let less = shows_less z ts top k l high latest table first.within (near_wide l wide) first.before fits before (omega arith) here in
+            omega linear
+        | inr come ↦ let begun = begun_by ts k high table.rising first.within come fits in omega linear
+      ]
 
--- and the next one has not
-before_next : (z : Zone) (ts : List Transition) (top k : ℕ) (l at : ℤ) (t : LocalType) → IsTable z ts top → IsWide l → IsFirstSegment z.types ts l k
-    → IsFirstOf z.types ts k l at t → k < length ts
-    → at <ℤ begin_of ts (suc k)
-before_next z ts top k l at t table wide first is inner =
-    let next : ℤ = begin_of ts (suc k) in
-    let sat = saturated (next +ℤ t.offset) l (near_wide l wide) in
-    let end = end_at z.types ts k t is.listed in
-    let later : l <ℤ saturate_signed w64 (next +ℤ t.offset) = rw end at (first.here inner) in
-    let near = near_of l t.offset wide is.offset in let a = near.0 in
-    let ends : l <ℤ (next +ℤ t.offset) = by_lt_z l (next +ℤ t.offset) (λ m. m) (λ m. let s = sat.1 m in absurd (omega (arith, ints))) in
-    let rise : begin_of ts k <ℤ next = elim (cases_lt 0 k) [
-      | inl some ↦ begins_rise ts k table.rising some inner
-      | inr none ↦ let e : k ≡ 0 = omega arith in let f = begin_first ts in let g : begin_of ts k ≡ least_time = rw e f in omega (arith, ints)
-    ] in
-    let before = (is.from (next -ℤ pos 1)).1 (omega (arith, ints), omega (arith, ints)) in omega (arith, ints)
+  -- and the next one has not
+  before_next : (at : ℤ) (t : LocalType) → IsFirstOf z.types ts k l at t → k < length ts → at <ℤ begin_of ts (suc k)
+  before_next at t is inner =
+      let next = begin_of ts (suc k) in
+      let sat = saturated _ l (near_wide l wide) in
+      let end = end_at _ ts k t is.listed in
+      let ends : l <ℤ (next +ℤ t.offset) = by_lt_z l (next +ℤ t.offset) (λ m. m) (λ m. let s = sat.1 m in omega linear) in
+      let rise : begin_of ts k <ℤ next = elim (cases_lt 0 k) [
+        | inl some ↦ begins_rise ts k table.rising some inner
+        | inr none ↦ let e : k ≡ 0 = omega arith in let f = begin_first ts in let g : begin_of ts k ≡ least_time = rw e f in omega linear
+      ] in
+      let before = (is.from (next -ℤ pos 1)).1 (omega linear, omega linear) in omega linear
 
--- the first second of the first segment that ends later
-pub first_there : (z : Zone) (ts : List Transition) (top k : ℕ) (l low high at : ℤ) (t : LocalType) → IsValid z → IsRuleOrNone z.rule → IsTable z ts top
-    → k < top → IsWide l → IsWindowOf z l l low high
-    → IsFirstSegment z.types ts l k → IsFirstOf z.types ts k l at t → IsFirstAtOrAfter (TypeAt z) l at t
-first_there z ts top k l low high at t valid limits table own wide reach first is =
-    let near = near_of l t.offset wide is.offset in let a = near.0 in let b = near.1 in
-    let (since, from) = (is.from at).0 (omega (arith, ints)) in
-    let begun = begun_near z ts top k l low high valid limits table (omega (arith, own)) wide reach first in
-    let most : at ≤ℤ pos 10_000_000_000_000 = (is.from (pos 10_000_000_000_000)).1 (begun, omega (arith, ints)) in
-    let near_at : IsNear at = (omega (arith, ints), omega (arith, ints)) in
-    let fits : SFits w64 at = omega (arith, ints) in
-    let come = come_by ts k at table.rising first.within since in
-    let within = place_most ts at table.rising in
-    let here : place_at ts at ≡ k = elim (cases_lt k (place_at ts at)) [
-      | inl beyond ↦
-          let n = before_next z ts top k l at t table wide first is (omega arith) in
-          let c = (come_from ts (suc k) at table.rising (omega arith) (omega arith)).0 beyond in absurd (omega (arith, ints))
-      | inr not ↦ omega arith
-    ] in
-    record {
-      shown = record { fits = fits; type = table.in_force at t near_at (omega arith) (rw here is.listed); reached = omega (arith, ints) };
-      first = λ v s h. by_lt_z v at
-          (λ earlier.
-          let rise = places_rise ts v at table.rising (omega (arith, ints)) in
-          let r = h.reached in
-          elim (cases_lt (place_at ts v) k) [
-            | inl before ↦ let less = shows_less z ts top k l v s table first.within (near_wide l wide) first.before h.fits before (omega arith) h.type in
-                absurd (omega (arith, ints))
-            | inr same ↦
-                let one = ap (λ (x : LocalType). x.offset) (type_there z ts top k v s t table own h.fits is.listed (omega arith) h.type) in
-                let b = begun_by ts k v table.rising first.within same h.fits in
-                (is.from v).1 (b, omega (arith, ints))
-          ])
-          (λ m. m);
-    }
+  -- the first second of the first segment that ends later
+  pub first_there : (low high at : ℤ) (t : LocalType) → IsValid z → IsRuleOrNone z.rule → k < top → IsWindowOf z l l low high → IsFirstOf z.types ts k l at t
+      → IsFirstAtOrAfter (TypeAt z) l at t
+  first_there low high at t valid limits own reach is =
+      let near = near_of l _ wide is.offset in let b = near.1 in
+      let (since, from) = (is.from at).0 (omega linear) in
+      let begun = begun_near low high valid limits (omega (arith, own)) reach in
+      let most : at ≤ℤ pos 10_000_000_000_000 = (is.from (pos 10_000_000_000_000)).1 (begun, omega linear) in
+      let near_at : IsNear at = (omega linear, omega linear) in
+      let fits : SFits w64 at = omega linear in
+      let come = come_by ts k at table.rising first.within since in
+      let within = place_most ts at table.rising in
+      let here : place_at ts at ≡ k = elim (cases_lt k (place_at ts at)) [
+        | inl beyond ↦
+            let n = before_next at t is (omega arith) in
+            let c = (come_from ts (suc k) at table.rising (omega arith) (omega arith)).0 beyond in omega linear
+        | inr not ↦ omega arith
+      ] in
+      record {
+        shown = record { fits = fits; type = table.in_force at t near_at (omega arith) (rw here is.listed); reached = omega linear };
+        first = λ v s h. by_lt_z v at
+            (λ earlier.
+            let rise = places_rise ts v at table.rising (omega linear) in
+            elim (cases_lt (place_at ts v) k) [
+              | inl before ↦ let less = shows_less z ts top k l v s table first.within (near_wide l wide) first.before h.fits before (omega arith) h.type in
+                  omega linear
+              | inr same ↦
+                  let one = ap (λ (x : LocalType). x.offset) (type_there z ts top k v s t table own h.fits is.listed (omega arith) h.type) in
+                  let b = begun_by ts k v table.rising first.within same h.fits in
+                  (is.from v).1 (b, omega linear)
+            ])
+            (λ m. m);
+      }
 
 -- ---- making the latest ends
 -- those of the first segments
@@ -179,26 +170,19 @@ pub record AreMaximaOf (types : List LocalType) (ts : List Transition) (k : ℕ)
   pub all : (l : ℤ) → SFits w64 l → (l <ℤ latest) ↔ IsReached types ts k l
 
 pub no_maxima : (types : List LocalType) (ts : List Transition) (latest : ℤ) → latest ≡ least_time → AreMaximaOf types ts 0 [] latest
-no_maxima types ts latest e = record {
-  count = refl;
-  reached = λ i d l h fits. absurd (omega arith);
-  all = λ l fits. ((λ h. absurd (omega (arith, ints))), (λ r. absurd (never_reached types ts l r)));
-}
+no_maxima types ts latest e = grind (linear, never_reached)
 
 later_than : (l a b m : ℤ) → (m ≤ℤ l) ↔ ((a ≤ℤ l) × (b ≤ℤ l)) → (l <ℤ m) ↔ ((l <ℤ a) ⊎ (l <ℤ b))
-later_than l a b m is = (
-  λ h. by_lt_z l a (λ k. inl k) (λ k. by_lt_z l b (λ n. inr n) (λ n. let e = is.1 (k, n) in absurd (omega (arith, ints)))),
-  λ s. by_lt_z l m (λ k. k) (λ k. let (a_by, b_by) = is.0 k in elim s [ inl n ↦ absurd (omega (arith, ints)) | inr n ↦ absurd (omega (arith, ints)) ]),
-)
+later_than l a b m is = grind linear
 
 pub maxima_more : (types : List LocalType) (ts : List Transition) (k : ℕ) (maxima out : List ℤ) (latest next : ℤ) → AreMaximaOf types ts k maxima latest
     → ((u : ℤ) → (next ≤ℤ u) ↔ ((latest ≤ℤ u) × (end_of types ts (suc k) ≤ℤ u))) → out ≡ maxima ++ (next ∷ []) → AreMaximaOf types ts (suc k) out next
 maxima_more types ts k maxima out latest next made is e =
     let count = made.count in
-    let latest_is : (l : ℤ) → (l <ℤ next) ↔ ((l <ℤ latest) ⊎ (l <ℤ end_of types ts (suc k))) = λ l. later_than l latest (end_of types ts (suc k)) next (is l) in
+    let latest_is : (l : ℤ) → (l <ℤ next) ↔ ((l <ℤ latest) ⊎ (l <ℤ end_of types ts (suc k))) = λ l. later_than l _ _ _ (is l) in
     let more : (l : ℤ) → SFits w64 l → (l <ℤ next) ↔ IsReached types ts (suc k) l = λ l fits. (
-      (λ h. (reached_more types ts k l).1 (elim ((latest_is l).0 h) [ inl a ↦ inl ((made.all l fits).0 a) | inr b ↦ inr b ])),
-      (λ r. (latest_is l).1 (elim ((reached_more types ts k l).0 r) [ inl a ↦ inl ((made.all l fits).1 a) | inr b ↦ inr b ])),
+      (λ h. (reached_more _ ts k l).1 (elim ((latest_is l).0 h) [ inl a ↦ inl ((made.all l fits).0 a) | inr b ↦ inr b ])),
+      (λ r. (latest_is l).1 (elim ((reached_more _ ts k l).0 r) [ inl a ↦ inl ((made.all l fits).1 a) | inr b ↦ inr b ])),
     ) in
     rw e (record {
       count = length_push maxima next ∙ (omega arith);
@@ -211,9 +195,9 @@ maxima_more types ts k maxima out latest next made is e =
 
 pub all_maxima : (types : List LocalType) (ts : List Transition) (k : ℕ) (maxima : List ℤ) (latest : ℤ) → k ≡ length ts
     → AreMaximaOf types ts k maxima latest → AreMaxima types ts maxima
-all_maxima types ts k maxima latest e made = record {
+all_maxima _ ts k _ _ e made = record {
   count = made.count ∙ e;
-  reached = λ i d l h fits. let c = made.count in made.reached i d l (omega arith) fits;
+  reached = λ i d l h fits. made.reached i d l (omega arith) fits;
 }
 
 -- ---- the count of looks

@@ -1,93 +1,91 @@
 -- When clocks show the local times of a stretch: its first and its last second, from run to run, and the first second at or after a local time.
-use Rattle.tz_info.proofs.Words.{AreEndsWithin, AreShownWithin, AreWithin, Bool, HaveOneTypeFrom, IsEndWithin, IsFirstAtOrAfter, IsFirstWithin, Precedes}
-use Rattle.tz_info.proofs.Words.{IsGreatest, IsLeast, IsNeverWithin, IsNextRun, IsWindowOf, IsWithinRun, LocalType, None}
-use Rattle.tz_info.proofs.Words.{Option, SFits, ShownSeconds, ShowsWithin, Some, TypeAt, Zone, arith, by_lt_z, false, ints, offsets, pos}
-use Rattle.tz_info.proofs.Words.{refl, subst, true, unsigned_abs, w64, ℤ, ◌<◌, ◌+ℤ◌, ◌-ℤ◌, ◌<ℤ◌, ◌≡◌, ◌≤ℤ◌}
 use Rattle.std.specs.Prelude.{if◌then◌else◌}
-use Rattle.tz_info.proofs.{ExtremeLaws.{at_least_least, at_most_greatest}, ZoneLaws.{type_once}}
+use Rattle.tz_info.proofs.{
+  ExtremeLaws.{at_least_least, at_most_greatest},
+  Words.{AreEndsWithin, AreShownWithin, AreWithin, Bool, HaveOneTypeFrom, IsEndWithin, IsFirstAtOrAfter, IsFirstWithin, IsGreatest, IsLeast, IsNeverWithin},
+  Words.{IsNextRun, IsWindowOf, IsWithinRun, LocalType, None, Option, Precedes, SFits, ShownSeconds, ShowsWithin, Some, TypeAt, Zone, arith, by_lt_z, false},
+  Words.{linear, offsets, pos, refl, subst, true, unsigned_abs, w64, ℤ, ◌+ℤ◌, ◌-ℤ◌, ◌<ℤ◌, ◌<◌, ◌≡◌, ◌≤ℤ◌},
+  ZoneLaws.{type_once},
+}
 
 -- ---- from run to run, until one shows such a local time
 -- what shows a local time of the stretch lies in the window
 pub all_within : (z : Zone) (from until low high : ℤ) → IsWindowOf z from until low high → AreWithin z from until low high
-all_within z from until low high w = record {
+all_within z _ _ low _ w = record {
   near_low = w.near_low;
   near_high = w.near_high;
   within = λ u t h.
-      let most = at_most_greatest z u (from -ℤ low) t w.greatest h.type in let fewest = at_least_least z u (until -ℤ high) t w.least h.type in
-      let since = h.since in grind (arith, ints);
+      let most = at_most_greatest z u _ t w.greatest h.type in let fewest = at_least_least z u _ t w.least h.type in
+      grind linear;
 }
 
 pub none_left : (z : Zone) (from until low high : ℤ) → AreWithin z from until low high → high ≤ℤ low → IsNeverWithin (TypeAt z) from until
-none_left z from until low high all h u t k = let w = all.within u t k in let a = w.0 in let b = w.1 in omega (arith, ints)
+none_left z from until low high all h u t k = grind linear
 
 -- in a run a second shows a local time of the stretch if and only if it lies between two seconds
 in_run : (z : Zone) (from until start end u : ℤ) (s t : LocalType) → HaveOneTypeFrom (TypeAt z) start end t → start ≤ℤ u → u <ℤ end
     → ShowsWithin (TypeAt z) from until u s → IsWithinRun start end (from -ℤ t.offset) (until -ℤ t.offset) u
-in_run z from until start end u s t type low high h =
-    let k = subst (ShowsWithin (TypeAt z) from until u) (type_once z u s t h.type (type u low high)) h in grind (arith, ints)
+in_run z from until _ end u s t type low high h =
+    let k = subst (ShowsWithin (TypeAt z) from until u) (type_once z u s t h.type (type u low high)) h in grind linear
 
 to_run : (z : Zone) (from until start end u : ℤ) (t : LocalType) → SFits w64 u → TypeAt z u t → IsWithinRun start end (from -ℤ t.offset) (until -ℤ t.offset) u
     → ShowsWithin (TypeAt z) from until u t
-to_run z from until start end u t fits here h = grind (arith, ints)
+to_run z _ _ _ end u t fits here h = grind linear
 
 -- what the next run leaves, if it has none
 pub goes_on : (w : Bool) (z : Zone) (from until low high start end : ℤ) (t : LocalType) → AreWithin z from until low high → IsNextRun w low high start end
     → HaveOneTypeFrom (TypeAt z) start end t → ((u : ℤ) → IsWithinRun start end (from -ℤ t.offset) (until -ℤ t.offset) u → ⊥)
     → AreWithin z from until (if w then end else low) (if w then high else start)
-goes_on true z from until low high start end t all run type none =
-    let begins = run.0 in let some = run.1 in let most = run.2 in
+goes_on true z _ _ low high start end t all run type none =
     record {
-      near_low = (omega (arith, ints, all.near_low), omega (arith, ints, all.near_high));
+      near_low = (omega linear, omega (linear, all.near_high));
       near_high = all.near_high;
       within = λ u s h. let (since, before) = all.within u s h in
-          (by_lt_z u end (λ l. absurd (none u (in_run z from until start end u s t type (omega (arith, ints)) l h))) (λ m. m), before);
+          (by_lt_z u end (λ l. absurd (none u (in_run z _ _ _ end u s t type (omega linear) l h))) (λ m. m), before);
     }
 goes_on false z from until low high start end t all run type none =
-    let ends = run.0 in let least = run.1 in let some = run.2 in
     record {
       near_low = all.near_low;
-      near_high = (omega (arith, ints, all.near_low), omega (arith, ints, all.near_high));
+      near_high = (omega (linear, all.near_low), omega (linear, all.near_high));
       within = λ u s h. let (since, before) = all.within u s h in
-          (since, by_lt_z u start (λ l. l) (λ m. absurd (none u (in_run z from until start end u s t type m (omega (arith, ints)) h))));
+          (since, by_lt_z u start (λ l. l) (λ m. absurd (none u (in_run z from until start end u s t type m (omega linear) h))));
     }
 
 -- it leaves less
 pub leaves_less : (w : Bool) (low high start end : ℤ) → low <ℤ high → IsNextRun w low high start end
     → unsigned_abs ((if w then high else start) -ℤ (if w then end else low)) < unsigned_abs (high -ℤ low)
-leaves_less true low high start end h run = let some = run.1 in let most = run.2 in omega (arith, ints)
-leaves_less false low high start end h run = let least = run.1 in let some = run.2 in omega (arith, ints)
+leaves_less true low _ _ end h run = omega linear
+leaves_less false low high start end h run = omega linear
 
 -- the first such second of the next run is the first of all, or the last one the last of all
 pub found_in_run : (w : Bool) (z : Zone) (from until low high start end u : ℤ) (t : LocalType) → SFits w64 u → AreWithin z from until low high
     → IsNextRun w low high start end → HaveOneTypeFrom (TypeAt z) start end t → IsWithinRun start end (from -ℤ t.offset) (until -ℤ t.offset) u
     → ((v : ℤ) → IsWithinRun start end (from -ℤ t.offset) (until -ℤ t.offset) v → Precedes w u v)
     → IsEndWithin w (TypeAt z) from until u t
-found_in_run true z from until low high start end u t fits all run type is least = record {
-  shown = to_run z from until start end u t fits (type u is.low is.high) is;
-  first = λ v s h. let (since, before) = all.within v s h in let begins = run.0 in by_lt_z v end
-      (λ l. least v (in_run z from until start end v s t type (omega (arith, ints)) l h))
-      (λ m. let b = is.high in omega (arith, ints));
+found_in_run true z from _ low high _ end u t fits all run type is least = record {
+  shown = to_run z _ _ _ end u t fits (type u is.low is.high) is;
+  first = λ v s h. let (since, before) = all.within v s h in by_lt_z v end
+      (λ l. least v (in_run z _ _ _ end v s t type (omega linear) l h))
+      (λ m. omega linear);
 }
 found_in_run false z from until low high start end u t fits all run type is greatest = record {
-  shown = to_run z from until start end u t fits (type u is.low is.high) is;
-  last = λ v s h. let (since, before) = all.within v s h in let ends = run.0 in by_lt_z v start
-      (λ l. let b = is.low in omega (arith, ints))
-      (λ m. greatest v (in_run z from until start end v s t type m (omega (arith, ints)) h));
+  shown = to_run z _ _ _ end u t fits (type u is.low is.high) is;
+  last = λ v s h. let (since, before) = all.within v s h in by_lt_z v start
+      (λ l. omega linear)
+      (λ m. greatest v (in_run z _ _ _ end v s t type m (omega linear) h));
 }
 
 -- ---- there is no other answer
 -- of two seconds none comes before the other
 one_end : (z : Zone) (u v : ℤ) (s t : LocalType) → TypeAt z u s → TypeAt z v t → u ≤ℤ v → v ≤ℤ u → (u ≡ v) × (s ≡ t)
-one_end z u v s t here there h k = let same : u ≡ v = omega (arith, ints) in (same, type_once z v s t (rw same at here) there)
+one_end z u v s t here there h k = let same : u ≡ v = omega linear in (same, type_once z v s t (rw same at here) there)
 
 pub one_answer : (z : Zone) (from until : ℤ) (a b : Option ShownSeconds) → AreShownWithin (TypeAt z) from until a
     → AreShownWithin (TypeAt z) from until b → a ≡ b
-one_answer z from until None None h k = refl
-one_answer z from until None (Some b) h k = absurd (h b.first.at b.first.local_time_type k.first.shown)
-one_answer z from until (Some a) None h k = absurd (k a.first.at a.first.local_time_type h.first.shown)
+one_answer z _ _ None None h k = refl
+one_answer z from until None (Some b) h k = grind linear
+one_answer z from until (Some a) None h k = grind linear
 one_answer z from until (Some a) (Some b) h k =
-    let (first, type) = one_end z a.first.at b.first.at a.first.local_time_type b.first.local_time_type h.first.shown.type k.first.shown.type
-    (h.first.first _ _ k.first.shown) (k.first.first _ _ h.first.shown) in
     grind (arith, one_end)
 
 -- ---- if one type is in force near the stretch
@@ -97,39 +95,38 @@ IsAllOf z low high t = (u : ℤ) → low ≤ℤ u → u <ℤ high → TypeAt z u
 -- a second that shows a local time of the stretch does so by that type
 by_type : (z : Zone) (from until greatest least u : ℤ) (s t : LocalType) → IsGreatest (offsets z.types z.rule) greatest → IsLeast (offsets z.types z.rule) least
     → IsAllOf z (from -ℤ greatest) (until -ℤ least) t → ShowsWithin (TypeAt z) from until u s → ShowsWithin (TypeAt z) from until u t
-by_type z from until greatest least u s t g l all h =
-    let most = at_most_greatest z u greatest s g h.type in let fewest = at_least_least z u least s l h.type in
-    let since = h.since in let before = h.before in
-    subst (ShowsWithin (TypeAt z) from until u) (type_once z u s t h.type (all u (omega (arith, ints)) (omega (arith, ints)))) h
+by_type z from until _ _ u s t g l all h =
+    let most = at_most_greatest z u _ s g h.type in let fewest = at_least_least z u _ s l h.type in
+    subst (ShowsWithin (TypeAt z) from until u) (type_once z u s t h.type (all u (omega linear) (omega linear))) h
 
 pub ordinary : (z : Zone) (from until greatest least : ℤ) (t : LocalType) (s : ShownSeconds) → SFits w64 (from -ℤ t.offset)
     → SFits w64 ((until -ℤ t.offset) -ℤ pos 1) → IsGreatest (offsets z.types z.rule) greatest → IsLeast (offsets z.types z.rule) least
     → IsAllOf z (from -ℤ greatest) (until -ℤ least) t → AreEndsWithin (TypeAt z) from until s
     → (s.first.at ≡ from -ℤ t.offset) × ((s.last.at +ℤ pos 1) ≡ until -ℤ t.offset)
-ordinary z from until greatest least t s fits fits_last g l all h =
-    let first = by_type z from until greatest least s.first.at s.first.local_time_type t g l all h.first.shown in
-    let last = by_type z from until greatest least s.last.at s.last.local_time_type t g l all h.last.shown in
-    let most = at_most_greatest z s.first.at greatest t g first.type in let fewest = at_least_least z s.first.at least t l first.type in
-    let since = first.since in let first_before = first.before in let before = last.before in
+ordinary z from until _ _ t s fits fits_last g l all h =
+    let first = by_type z _ _ _ _ _ _ t g l all h.first.shown in
+    let last = by_type z _ _ _ _ _ _ t g l all h.last.shown in
+    let most = at_most_greatest z _ _ t g first.type in let fewest = at_least_least z _ _ t l first.type in
+    let since = first.since in let before = last.before in
     let low = h.first.first (from -ℤ t.offset) t
-    (record { fits = fits; type = all _ (omega (arith, ints)) (omega (arith, ints)); since = omega (arith, ints); before = omega (arith, ints) }) in
+    (record { fits = fits; type = all _ (omega linear) (omega linear); since = omega linear; before = omega linear }) in
     let high = h.last.last ((until -ℤ t.offset) -ℤ pos 1) t
-    (record { fits = fits_last; type = all _ (omega (arith, ints)) (omega (arith, ints)); since = omega (arith, ints); before = omega (arith, ints) }) in
-    (omega (arith, ints), omega (arith, ints))
+    (record { fits = fits_last; type = all _ (omega linear) (omega linear); since = omega linear; before = omega linear }) in
+    (omega linear, omega linear)
 
 -- ---- laws of the first second at or after a local time
 pub one_first : (z : Zone) (local u v : ℤ) (s t : LocalType) → IsFirstAtOrAfter (TypeAt z) local u s → IsFirstAtOrAfter (TypeAt z) local v t → (u ≡ v) × (s ≡ t)
-one_first z local u v s t h k = one_end z u v s t h.shown.type k.shown.type (h.first v t k.shown) (k.first u s h.shown)
+one_first z local u v s t h k = grind (linear, one_end)
 
 pub first_rises : (z : Zone) (local later u v : ℤ) (s t : LocalType) → local ≤ℤ later → IsFirstAtOrAfter (TypeAt z) local u s
     → IsFirstAtOrAfter (TypeAt z) later v t → u ≤ℤ v
-first_rises z local later u v s t rise h k = let reached = k.shown.reached in
-    h.first v t (record { fits = k.shown.fits; type = k.shown.type; reached = omega (arith, ints) })
+first_rises z _ _ u v s t rise h k = let reached = k.shown.reached in
+    h.first v t (record { fits = k.shown.fits; type = k.shown.type; reached = omega linear })
 
 pub first_is_within : (z : Zone) (from until u : ℤ) (t : LocalType) → IsFirstAtOrAfter (TypeAt z) from u t → (u +ℤ t.offset) <ℤ until
     → IsFirstWithin (TypeAt z) from until u t
-first_is_within z from until u t h before = grind arith
+first_is_within z _ _ u t h before = grind arith
 
 pub none_within : (z : Zone) (from until u v : ℤ) (s t : LocalType) → from ≤ℤ until → IsNeverWithin (TypeAt z) from until → IsFirstAtOrAfter (TypeAt z) from u s
     → IsFirstAtOrAfter (TypeAt z) until v t → u ≡ v
-none_within z from until u v s t ordered never h k = grind (arith, ints)
+none_within z _ _ u v s t ordered never h k = grind linear

@@ -1,66 +1,70 @@
 -- Spans: at each second between two that have a type there is one, and from the last change to the next one it is the same.
-use Rattle.tz_info.proofs.Words.{Agrees, Alternate as AlternateRule, AreLeapSeconds, Change, HasNoChange, IfSome, IsAlternateRefused, IsBeginBy, IsChange}
-use Rattle.tz_info.proofs.Words.{IsEndBy, IsFirstChange}
-use Rattle.tz_info.proofs.Words.{IsFirst, IsFromLast, IsInSpan, IsLast, IsLastChange, IsLeapTime, IsOutOfForce, IsRefusedBy, IsRuleOrNone}
-use Rattle.tz_info.proofs.Words.{IsRuleTime, IsSince, IsSpan, IsSpanAt, IsTypeRefused, IsTyped, IsUnixTime, IsUntil, IsValid, LeapSecond, List, LocalType}
-use Rattle.tz_info.proofs.Words.{None, Option, SFits, Some, Span, Transition, TransitionRule, TypeAt, Zone, ap, arith, by_leap_time, by_lt_z, by_rule, cases_lt}
-use Rattle.tz_info.proofs.Words.{correction_before, floor_div, inl, inr, ints, last_transition, least_time, length, lies_in, neg_ℤ, option_map, passed_count}
-use Rattle.tz_info.proofs.Words.{pos, refl}
-use Rattle.tz_info.proofs.Words.{segment_of, subst, sym, w64, year_of, ℤ, ◌-ℤ◌, ◌-◌, ◌<ℤ◌, ◌<◌, ◌∙◌, ◌≡◌, ◌≤ℤ◌, ◌⊎◌}
+use Rattle.tz_info.proofs.{
+  ChangeSearch.{InForce, Typed, stays},
+  LastType.{last_is},
+  LeapEntries.{before_found, follow},
+  LeapOrder.{none_counted},
+  RuleChanges.{rule_second},
+  RuleLaws.{rule_year},
+  SegmentLaws.{come_at_time, come_by_time, segment_most, segments_rise},
+  Words.{Alternate as AlternateRule, AreLeapSeconds, Change, HasNoChange, IfSome, IsAlternateRefused, IsBeginBy, IsChange, IsEndBy, IsFirst, IsFirstChange},
+  Words.{IsFromLast, IsInSpan, IsLast, IsLastChange, IsLeapTime, IsOutOfForce, IsRefusedBy, IsRuleOrNone, IsRuleTime, IsSince, IsSpan, IsSpanAt, IsTypeRefused},
+  Words.{IsTyped, IsUnixTime, IsUntil, IsValid, LeapSecond, List, LocalType, None, Option, SFits, Some, Span, Transition, TransitionRule, TypeAt, Zone, ap},
+  Words.{arith, by_leap_time, by_lt_z, by_rule, cases_lt, correction_before, floor_div, inl, inr, last_transition, least_time, length, lies_in, linear, neg_ℤ},
+  Words.{option_map, pos, refl, segment_of, subst, sym, w64, year_of, ℤ, ◌-ℤ◌, ◌-◌, ◌<ℤ◌, ◌<◌, ◌∙◌, ◌≡◌, ◌≤ℤ◌, ◌⊎◌},
+  ZoneChanges.{out_before, out_from, refused_on, time_of, to_rule},
+  ZoneLaws.{inside_listed, type_decided, type_once},
+}
 use Rattle.tz_info.specs.declared.rule.transition_rule.TransitionRule.TheVariants.{Alternate, Fixed}
-use Rattle.tz_info.proofs.{ChangeSearch.{InForce, Typed, stays}, LastType.{last_is}, LeapEntries.{before_found, follow}, LeapOrder.{none_counted}}
-use Rattle.tz_info.proofs.{RuleChanges.{rule_second}, RuleLaws.{rule_year}, SegmentLaws.{come_at_time, come_by_time, segment_most, segments_rise}}
-use Rattle.tz_info.proofs.{ZoneChanges.{out_before, out_from, refused_on, time_of, to_rule}, ZoneLaws.{inside_listed, type_decided, type_once}}
 
 -- ---- between two seconds that have a type each has one
 -- before 1970 no entry has come
 early : (es : List LeapSecond) (v x : ℤ) → AreLeapSeconds es → v <ℤ pos 0 → IsLeapTime es v x → x ≡ v
 early es v x valid h l =
-    let none : passed_count es v ≡ 0 = none_counted (pos 0) v es (follow es valid) (λ d k. let f = (valid.first d k).since_epoch in omega (arith, ints)) in
+    let none = none_counted _ v es (follow es valid) (λ d k. let f = (valid.first d k).since_epoch in omega linear) in
     let s = rw none at l.sum in
-    omega (arith, ints)
+    omega linear
 
 early_unix : (es : List LeapSecond) (x u : ℤ) → AreLeapSeconds es → x <ℤ pos 0 → IsUnixTime es x u → u ≡ x
 early_unix es x u valid h is =
-    let none : pos 0 ≡ correction_before es x = before_found es 0 (record { unix_leap_time = pos 0; correction = pos 0 }) x (pos 0) valid (omega arith)
+    let none : pos 0 ≡ correction_before es x = before_found es (record { unix_leap_time = pos 0; correction = pos 0 }) valid 0 x _ (omega arith)
     (record { value = refl; before = λ k d l. absurd (omega arith) })
-    (λ some. let f = (valid.first (record { unix_leap_time = pos 0; correction = pos 0 }) some).since_epoch in omega (arith, ints)) in
-    omega (arith, ints)
+    (λ some. let f = (valid.first (record { unix_leap_time = pos 0; correction = pos 0 }) some).since_epoch in omega linear) in
+    omega linear
 
 last_of : (ts : List Transition) → 0 < length ts → (t : Transition) × (last_transition ts ≡ Some t)
-last_of ts h = inside_listed ts (length ts - 1) (omega arith)
+last_of ts h = inside_listed ts _ (omega arith)
 
--- before the years of a rule of two types its zone's last transition has not come
-not_before : (z : Zone) (a : AlternateRule) (v y : ℤ) → IsValid z → z.rule ≡ Some (Alternate a) → 0 < length z.transitions → IsLeapTime z.leaps v y
-    → segment_of z v ≡ length z.transitions → v <ℤ neg_ℤ (pos 67_768_100_504_812_800) → ⊥
-not_before z a v y valid rule some l all h =
-    let last = last_of z.transitions some in
-    let agrees : Agrees z.types z.leaps (Alternate a) last.0 = rw (rule, last.1) at valid.agrees in
-    let within : IsRuleTime agrees.unix_time = rule_second a agrees.unix_time agrees.type agrees.of_rule in
-    let count = come_at_time z v y l in
-    let come = (come_by_time z.transitions y (length z.transitions - 1) last.0 valid.transitions.rising (omega arith)).0 (omega arith) in
-    let is = last_is z.transitions last.0 last.1 in
-    let time : last.0.unix_leap_time ≤ℤ y = rw is at come in
-    let same = early z.leaps v y valid.leaps (omega (arith, ints)) l in
-    let unix = early_unix z.leaps last.0.unix_leap_time agrees.unix_time valid.leaps (omega (arith, ints)) agrees.of_transition in
-    omega (arith, ints)
+-- a second after all transitions of a zone with a rule
+module _ (z : Zone) (a : AlternateRule) (v : ℤ) (valid : IsValid z) (rule : z.rule ≡ Some (Alternate a)) (all : segment_of z v ≡ length z.transitions) where
+  -- before the years of a rule of two types its zone's last transition has not come
+  not_before : (y : ℤ) → 0 < length z.transitions → IsLeapTime z.leaps v y → v <ℤ neg_ℤ (pos 67_768_100_504_812_800) → ⊥
+  not_before y some l h =
+      let last = last_of _ some in
+      let agrees = rw (rule, last.1) at valid.agrees in
+      let within : IsRuleTime agrees.unix_time = rule_second a _ _ agrees.of_rule in
+      let count = come_at_time z v y l in
+      let come = (come_by_time _ y (length z.transitions - 1) last.0 valid.transitions.rising (omega arith)).0 (omega arith) in
+      let is = last_is z.transitions last.0 last.1 in
+      let time : last.0.unix_leap_time ≤ℤ y = rw is at come in
+      let same = early z.leaps v y valid.leaps (omega linear) l in
+      let unix = early_unix _ _ _ valid.leaps (omega linear) agrees.of_transition in
+      omega linear
 
-not_before_second : (z : Zone) (a : AlternateRule) (u v y : ℤ) (t : LocalType) → IsValid z → z.rule ≡ Some (Alternate a)
-    → (0 < length z.transitions → IsLeapTime z.leaps v y) → segment_of z v ≡ length z.transitions → u ≤ℤ v → TypeAt z u t
-    → v <ℤ neg_ℤ (pos 67_768_100_504_812_800) → ⊥
-not_before_second z a u v y t valid rule l all h k low = elim (cases_lt 0 (length z.transitions)) [
-  | inl some ↦ not_before z a v y valid rule some (l some) all low
-  | inr none ↦
+  not_before_second : (u y : ℤ) (t : LocalType) → (0 < length z.transitions → IsLeapTime z.leaps v y) → u ≤ℤ v → TypeAt z u t
+      → v <ℤ neg_ℤ (pos 67_768_100_504_812_800) → ⊥
+  not_before_second u y t l h k low = elim (cases_lt 0 (length z.transitions)) [
+    | inl some ↦ not_before y some (l some) low
+    | inr none ↦
+        let m = segment_most z u valid.transitions.rising in
+        let within = rule_second a u t (to_rule z a u t rule valid (omega arith) k) in grind arith
+  ]
+
+  not_behind_second : (u : ℤ) (t : LocalType) → v ≤ℤ u → TypeAt z u t → pos 67_767_976_170_460_799 <ℤ v → ⊥
+  not_behind_second u t h k high =
       let m = segment_most z u valid.transitions.rising in
-      let within = rule_second a u t (to_rule z a u t valid rule (omega arith) k) in grind arith
-]
-
-not_behind_second : (z : Zone) (a : AlternateRule) (v u : ℤ) (t : LocalType) → IsValid z → z.rule ≡ Some (Alternate a) → segment_of z v ≡ length z.transitions
-    → v ≤ℤ u → TypeAt z u t → pos 67_767_976_170_460_799 <ℤ v → ⊥
-not_behind_second z a v u t valid rule all h k high =
-    let m = segment_most z u valid.transitions.rising in
-    let r = segments_rise z v u valid.transitions.rising valid.leaps h in
-    let within = rule_second a u t (to_rule z a u t valid rule (omega arith) k) in grind arith
+      let r = segments_rise z v u valid.transitions.rising valid.leaps h in
+      let within = rule_second a u t (to_rule z a u t rule valid (omega arith) k) in grind arith
 
 pub out_of_years : (u : ℤ) → IsAlternateRefused u → (u <ℤ neg_ℤ (pos 67_768_100_504_812_800)) ⊎ (pos 67_767_976_170_460_799 <ℤ u)
 out_of_years u refused = by_lt_z u (neg_ℤ (pos 67_768_100_504_812_800))
@@ -68,39 +72,40 @@ out_of_years u refused = by_lt_z u (neg_ℤ (pos 67_768_100_504_812_800))
     (λ from. by_lt_z (pos 67_767_976_170_460_799) u
     (λ high. inr high)
     (λ until. let lies = lies_in (floor_div u 86_400) in
-    absurd (refused (year_of (floor_div u 86_400)) lies (rule_year u (year_of (floor_div u 86_400)) lies (from, until)))))
+    absurd (refused (year_of (floor_div u 86_400)) lies (rule_year u _ lies (from, until)))))
 
 -- all transitions have come by the leap time of the second
 pub all_come : (z : Zone) (v x : ℤ) → IsValid z → (0 < length z.transitions → IsLeapTime z.leaps v x) → IsFromLast z x → segment_of z v ≡ length z.transitions
-all_come z v x valid l last = grind (arith, come_at_time, segment_most)
+all_come z v x _ l last = grind (arith, come_at_time, segment_most)
 
-rule_between : (rule : Option TransitionRule) (z : Zone) (a b v x : ℤ) (s t : LocalType) → z.rule ≡ rule → IsValid z
-    → (0 < length z.transitions → IsLeapTime z.leaps v x) → IsFromLast z x → a ≤ℤ v → v ≤ℤ b → TypeAt z a s → TypeAt z b t → IsRefusedBy rule v → ⊥
-rule_between None z a b v x s t is valid l last low high h k refused = refused
-rule_between (Some (Fixed f)) z a b v x s t is valid l last low high h k refused = refused
-rule_between (Some (Alternate r)) z a b v x s t is valid l last low high h k refused =
-    let all = all_come z v x valid l last in
-    elim (out_of_years v refused) [
-      | inl early ↦ not_before_second z r a v x s valid is l all low h early
-      | inr late ↦ not_behind_second z r v b t valid is all high k late
-    ]
+-- two seconds with types in a valid zone, and one between them
+module _ (z : Zone) (a b v : ℤ) (s t : LocalType) (valid : IsValid z) (low : a ≤ℤ v) (high : v ≤ℤ b) (h : TypeAt z a s) (k : TypeAt z b t) where
+  rule_between : (rule : Option TransitionRule) (x : ℤ) → z.rule ≡ rule → (0 < length z.transitions → IsLeapTime z.leaps v x) → IsFromLast z x
+      → IsRefusedBy rule v → ⊥
+  rule_between None x is l last refused = refused
+  rule_between (Some (Fixed f)) x is l last refused = refused
+  rule_between (Some (Alternate r)) x is l last refused =
+      let all = all_come z v x valid l last in
+      elim (out_of_years v refused) [
+        | inl early ↦ not_before_second z r v valid is all a x s l low h early
+        | inr late ↦ not_behind_second z r v valid is all b t high k late
+      ]
 
-pub typed_between : (z : Zone) (a b v : ℤ) (s t : LocalType) → IsValid z → IsRuleOrNone z.rule → a ≤ℤ v → v ≤ℤ b → TypeAt z a s → TypeAt z b t
-    → Typed (TypeAt z) v
-typed_between z a b v s t valid limits low high h k = elim (type_decided z v valid limits) [
-  | inl found ↦ found
-  | inr refused ↦ absurd (between refused)
-] where
-  between : IsTypeRefused z v → ⊥
-  between (by_leap_time some r) = refused_on z.leaps v b k.leap_time valid.leaps high r (time_of z b t some k)
-  between (by_rule x of_second last r) = rule_between z.rule z a b v x s t refl valid of_second last low high h k r
+  pub typed_between : IsRuleOrNone z.rule → Typed (TypeAt z) v
+  typed_between limits = elim (type_decided z v valid limits) [
+    | inl found ↦ found
+    | inr refused ↦ absurd (between refused)
+  ] where
+    between : IsTypeRefused z v → ⊥
+    between (by_leap_time some r) = refused_on _ v b _ valid.leaps high r (time_of z b t some k)
+    between (by_rule x of_second last r) = rule_between _ x refl of_second last r
 
 -- ---- from the last change up to u to the first one after it
 -- if no change comes between two seconds that have types, these are the same
 pub no_change : (z : Zone) (u v : ℤ) (s t : LocalType) → IsValid z → IsRuleOrNone z.rule → SFits w64 u → SFits w64 v → u ≤ℤ v
     → HasNoChange (TypeAt z) (λ w. (u <ℤ w) × (w ≤ℤ v)) → TypeAt z u s → TypeAt z v t → s ≡ t
 no_change z u v s t valid limits fits fits_end h none k l =
-    type_once z v s t (stays (TypeAt z) u v s fits fits_end h none (λ w since until. typed_between z u v w s t valid limits since until k l) k) l
+    type_once z v s t (stays _ u v s fits fits_end h none (λ w since until. typed_between z u v w s t valid since until k l limits) k) l
 
 abbrev pub seconds_of : Option Change → Option ℤ
 seconds_of found = option_map (λ c. c.at) found
@@ -108,25 +113,24 @@ seconds_of found = option_map (λ c. c.at) found
 idle_since : (f : InForce) (u v : ℤ) (last : Option Change) → IsLast f (λ w. w ≤ℤ u) last → IsSince (seconds_of last) v
     → HasNoChange f (λ w. (v <ℤ w) × (w ≤ℤ u))
 idle_since f u v None h since d is i = h d is i.1
-idle_since f u v (Some c) h since d is i = let l = h.nearest d is i.1 in let a = i.0 in omega (arith, ints)
+idle_since f u v (Some c) h since d is i = grind linear
 
 idle_until : (f : InForce) (u v : ℤ) (next : Option Change) → IsFirst f (λ w. u <ℤ w) next → IsUntil (seconds_of next) v
     → HasNoChange f (λ w. (u <ℤ w) × (w ≤ℤ v))
 idle_until f u v None h until d is i = h d is i.0
-idle_until f u v (Some c) h until d is i = let l = h.nearest d is i.0 in let b = i.1 in omega (arith, ints)
+idle_until f u v (Some c) h until d is i = grind linear
 
 last_type : (z : Zone) (u : ℤ) (t : LocalType) (c : Change) → IsValid z → IsRuleOrNone z.rule → SFits w64 u → TypeAt z u t
     → IsLastChange (TypeAt z) (λ v. v ≤ℤ u) c → c.after ≡ t
 last_type z u t c valid limits fits h last =
-    no_change z c.at u c.after t valid limits last.is.fits fits last.inside
-    (λ d is i. let l = last.nearest d is i.1 in let a = i.0 in omega (arith, ints)) last.is.after h
+    no_change z _ u _ t valid limits last.is.fits fits last.inside
+    (λ d is i. let l = last.nearest d is i.1 in omega linear) last.is.after h
 
 next_type : (z : Zone) (u : ℤ) (t : LocalType) (c : Change) → IsValid z → IsRuleOrNone z.rule → SFits w64 u → TypeAt z u t
     → IsFirstChange (TypeAt z) (λ v. u <ℤ v) c → t ≡ c.before
 next_type z u t c valid limits fits h next =
-    let inside = next.inside in
-    no_change z u (c.at -ℤ pos 1) t c.before valid limits fits next.is.fits_before (omega (arith, ints))
-    (λ d is i. let l = next.nearest d is i.0 in let b = i.1 in omega (arith, ints)) h next.is.before
+    no_change z u _ t _ valid limits fits next.is.fits_before (omega linear)
+    (λ d is i. let l = next.nearest d is i.0 in omega linear) h next.is.before
 
 -- ---- a span goes from the last change or the first second with a type to the next change or the last second with a type
 -- a second with a type, from which on the span's seconds come, and up to which they come
@@ -147,12 +151,12 @@ record IsHigh (z : Zone) (u : ℤ) (t : LocalType) (next : Option Change) (until
 low_of : (z : Zone) (u : ℤ) (t : LocalType) (last : Option Change) (from : Option ℤ) → IsValid z → IsRuleOrNone z.rule → SFits w64 u → TypeAt z u t
     → IsLast (TypeAt z) (λ v. v ≤ℤ u) last → IsBeginBy z last from → IsLow z u t last from
 low_of z u t None None valid limits fits h last k =
-    record { low = least_time; typed = k; since = tt; later = λ v f since. (omega (arith, ints), tt); begins = tt }
+    record { low = least_time; typed = k; since = tt; later = λ v f since. (omega linear, tt); begins = tt }
 low_of z u t None (Some x) valid limits fits h last k = record {
   low = x;
   typed = k.typed;
   since = by_lt_z u x
-      (λ l. absurd (k.before (typed_between z u x (x -ℤ pos 1) t k.typed.0 valid limits (omega (arith, ints)) (omega (arith, ints)) h k.typed.1))) (λ m. m);
+      (λ l. absurd (k.before (typed_between z u x _ t _ valid (omega linear) (omega linear) h k.typed.1 limits))) (λ m. m);
   later = λ v f since. (since, tt);
   begins = record { fits = k.fits; out = λ at. k.before (t, at) };
 }
@@ -167,19 +171,19 @@ low_of z u t (Some c) from valid limits fits h last k = rw k (record {
 high_of : (z : Zone) (u : ℤ) (t : LocalType) (next : Option Change) (until : Option ℤ) → IsValid z → IsRuleOrNone z.rule → SFits w64 u → TypeAt z u t
     → IsFirst (TypeAt z) (λ v. u <ℤ v) next → IsEndBy z next until → IsHigh z u t next until
 high_of z u t None None valid limits fits h next k =
-    record { high = pos 9_223_372_036_854_775_807; typed = k; before = tt; earlier = λ v f until. (omega (arith, ints), tt); ends = tt }
+    record { high = pos 9_223_372_036_854_775_807; typed = k; before = tt; earlier = λ v f until. (omega linear, tt); ends = tt }
 high_of z u t None (Some x) valid limits fits h next k = record {
   high = x -ℤ pos 1;
   typed = k.typed;
-  before = by_lt_z u x (λ l. l) (λ m. absurd (k.after (typed_between z (x -ℤ pos 1) u x k.typed.0 t valid limits (omega (arith, ints)) m k.typed.1 h)));
-  earlier = λ v f until. (omega (arith, ints), tt);
+  before = by_lt_z u x (λ l. l) (λ m. absurd (k.after (typed_between z _ u x _ t valid (omega linear) m k.typed.1 h limits)));
+  earlier = λ v f until. (omega linear, tt);
   ends = record { fits = k.fits; out = λ at. k.after (t, at) };
 }
 high_of z u t (Some c) until valid limits fits h next k = rw k (record {
   high = c.at -ℤ pos 1;
   typed = (c.before, next.is.before);
   before = next.inside;
-  earlier = λ v f until. (omega (arith, ints), until);
+  earlier = λ v f until. (omega linear, until);
   ends = rw (← next_type z u t c valid limits fits h next) at (out_from z c next.is);
 })
 
@@ -190,9 +194,9 @@ pub span_between : (z : Zone) (u : ℤ) (t : LocalType) (last next : Option Chan
     → TypeAt z u t
     → IsLast (TypeAt z) (λ v. v ≤ℤ u) last → IsFirst (TypeAt z) (λ v. u <ℤ v) next → IsBeginBy z last from → IsEndBy z next until
     → IsSpanAt (TypeAt z) u (record { local_time_type = t; from = from; until = until })
-span_between z u t last next from until valid limits fits h before after begin end =
-    let low = low_of z u t last from valid limits fits h before begin in
-    let high = high_of z u t next until valid limits fits h after end in
+span_between z u t _ _ from until valid limits fits h before after begin end =
+    let low = low_of z u t _ _ valid limits fits h before begin in
+    let high = high_of z u t _ _ valid limits fits h after end in
     let inside : IsInSpan (span_of t from until) u = record { fits = fits; since = low.since; until = high.before } in record {
       in_force_then = h;
       inside = inside;
@@ -200,10 +204,10 @@ span_between z u t last next from until valid limits fits h before after begin e
         some = (u, inside);
         each = λ v i.
             let (from, since) = low.later v i.fits i.since in let (up_to, until) = high.earlier v i.fits i.until in
-            let (s, k) = typed_between z low.low high.high v low.typed.0 high.typed.0 valid limits from up_to low.typed.1 high.typed.1 in
-            let same : s ≡ t = by_lt_z v u
-            (λ l. no_change z v u s t valid limits i.fits fits (omega (arith, ints)) (idle_since (TypeAt z) u v last before since) k h)
-            (λ m. sym (no_change z u v t s valid limits fits i.fits m (idle_until (TypeAt z) u v next after until) h k)) in
+            let (s, k) = typed_between z _ _ v _ _ valid from up_to low.typed.1 high.typed.1 limits in
+            let same = by_lt_z v u
+            (λ l. no_change z v u s t valid limits i.fits fits (omega linear) (idle_since _ u v _ before since) k h)
+            (λ m. sym (no_change z u v t s valid limits fits i.fits m (idle_until _ u v _ after until) h k)) in
             subst (TypeAt z v) same k;
         begins = low.begins;
         ends = high.ends;
@@ -213,77 +217,76 @@ span_between z u t last next from until valid limits fits h before after begin e
 -- ---- a second lies in one span
 pub since_more : (from : Option ℤ) (u v : ℤ) → IsSince from u → u ≤ℤ v → IsSince from v
 since_more None u v h l = tt
-since_more (Some from) u v h l = omega (arith, ints)
+since_more (Some from) u v h l = omega linear
 
 pub until_less : (until : Option ℤ) (u v : ℤ) → IsUntil until v → u ≤ℤ v → IsUntil until u
 until_less None u v h l = tt
-until_less (Some until) u v h l = omega (arith, ints)
+until_less (Some until) u v h l = omega linear
 
 same_parts : (s t : LocalType) (p q x y : Option ℤ) → s ≡ t → p ≡ q → x ≡ y → span_of s p x ≡ span_of t q y
 same_parts s t p q x y e f g = cc
 
 same_span : (a b : Span) → a.local_time_type ≡ b.local_time_type → a.from ≡ b.from → a.until ≡ b.until → a ≡ b
-same_span a b e f g = same_parts a.local_time_type b.local_time_type a.from b.from a.until b.until e f g
+same_span a b e f g = same_parts _ _ _ _ _ _ e f g
 
 -- between two seconds of a span no change comes
 pub no_change_within : (z : Zone) (s : Span) (d : Change) → IsSpan (TypeAt z) s → IsInSpan s (d.at -ℤ pos 1) → IsInSpan s d.at → IsChange (TypeAt z) d → ⊥
 no_change_within z s d h i j is =
-    is.differ (type_once z (d.at -ℤ pos 1) d.before s.local_time_type is.before (h.each (d.at -ℤ pos 1) i)
-    ∙ type_once z d.at s.local_time_type d.after (h.each d.at j) is.after)
+    is.differ (type_once z _ _ _ is.before (h.each (d.at -ℤ pos 1) i)
+    ∙ type_once z _ _ _ (h.each d.at j) is.after)
 
--- an end of one of two spans that share a second, and have one type, lies outside the other
-begin_outside : (z : Zone) (a b : Span) (u x : ℤ) → a.local_time_type ≡ b.local_time_type → IsSpan (TypeAt z) a → IsSpan (TypeAt z) b → IsInSpan a u
-    → IsInSpan b u → a.from ≡ Some x
-    → IsSince b.from (x -ℤ pos 1) → ⊥
-begin_outside z a b u x same h k i j is since =
-    let end = rw is at h.begins in let from : x ≤ℤ u = rw is at i.since in
-    end.out (rw (← same) at (k.each (x -ℤ pos 1)
-    (record { fits = end.fits; since = since; until = until_less b.until (x -ℤ pos 1) u j.until (omega (arith, ints)) })))
+-- two spans of one type, with a second in each
+module _ (z : Zone) (a b : Span) (u x : ℤ) (same : a.local_time_type ≡ b.local_time_type) (h : IsSpan (TypeAt z) a) (k : IsSpan (TypeAt z) b)
+    (i : IsInSpan a u) (j : IsInSpan b u) where
+  -- an end of one of two spans that share a second, and have one type, lies outside the other
+  begin_outside : a.from ≡ Some x → IsSince b.from (x -ℤ pos 1) → ⊥
+  begin_outside is since =
+      let end = rw is at h.begins in let from : x ≤ℤ u = rw is at i.since in
+      end.out (rw (← same) at (k.each (x -ℤ pos 1)
+      (record { fits = end.fits; since = since; until = until_less _ _ u j.until (omega linear) })))
 
-end_outside : (z : Zone) (a b : Span) (u x : ℤ) → a.local_time_type ≡ b.local_time_type → IsSpan (TypeAt z) a → IsSpan (TypeAt z) b → IsInSpan a u
-    → IsInSpan b u → a.until ≡ Some x
-    → IsUntil b.until x → ⊥
-end_outside z a b u x same h k i j is until =
-    let end = rw is at h.ends in let before : u <ℤ x = rw is at i.until in
-    end.out (rw (← same) at (k.each x (record { fits = end.fits; since = since_more b.from u x j.since (omega (arith, ints)); until = until })))
+  end_outside : a.until ≡ Some x → IsUntil b.until x → ⊥
+  end_outside is until =
+      let end = rw is at h.ends in let before : u <ℤ x = rw is at i.until in
+      end.out (rw (← same) at (k.each x (record { fits = end.fits; since = since_more _ u x j.since (omega linear); until = until })))
 
 same_begin : (p q : Option ℤ) → ((x : ℤ) → p ≡ Some x → IsSince q (x -ℤ pos 1) → ⊥) → ((x : ℤ) → q ≡ Some x → IsSince p (x -ℤ pos 1) → ⊥) → p ≡ q
 same_begin None None h k = refl
 same_begin None (Some y) h k = absurd (k y refl tt)
 same_begin (Some x) None h k = absurd (h x refl tt)
 same_begin (Some x) (Some y) h k =
-    let l : x ≤ℤ y = by_lt_z y x (λ l. absurd (h x refl (omega (arith, ints)))) (λ m. m) in
-    let m : y ≤ℤ x = by_lt_z x y (λ l. absurd (k y refl (omega (arith, ints)))) (λ m. m) in
-    ap Some (omega (arith, ints))
+    let l = by_lt_z y x (λ l. absurd (h x refl (omega linear))) (λ m. m) in
+    let m : y ≤ℤ x = by_lt_z x y (λ l. absurd (k y refl (omega linear))) (λ m. m) in
+    ap Some (omega linear)
 
 same_end : (p q : Option ℤ) → ((x : ℤ) → p ≡ Some x → IsUntil q x → ⊥) → ((x : ℤ) → q ≡ Some x → IsUntil p x → ⊥) → p ≡ q
 same_end None None h k = refl
 same_end None (Some y) h k = absurd (k y refl tt)
 same_end (Some x) None h k = absurd (h x refl tt)
 same_end (Some x) (Some y) h k =
-    let l : y ≤ℤ x = by_lt_z x y (λ l. absurd (h x refl l)) (λ m. m) in
+    let l = by_lt_z x y (λ l. absurd (h x refl l)) (λ m. m) in
     let m : x ≤ℤ y = by_lt_z y x (λ l. absurd (k y refl l)) (λ m. m) in
-    ap Some (omega (arith, ints))
+    ap Some (omega linear)
 
 pub span_once : (z : Zone) (a b : Span) (u : ℤ) → IsSpan (TypeAt z) a → IsSpan (TypeAt z) b → IsInSpan a u → IsInSpan b u → a ≡ b
 span_once z a b u h k i j =
-    let same = type_once z u a.local_time_type b.local_time_type (h.each u i) (k.each u j) in
+    let same = type_once z u _ _ (h.each u i) (k.each u j) in
     same_span a b same
-    (same_begin a.from b.from (λ x. begin_outside z a b u x same h k i j) (λ x. begin_outside z b a u x (sym same) k h j i))
-    (same_end a.until b.until (λ x. end_outside z a b u x same h k i j) (λ x. end_outside z b a u x (sym same) k h j i))
+    (same_begin _ _ (λ x. begin_outside z a b u x same h k i j) (λ x. begin_outside z b a u x (sym same) k h j i))
+    (same_end _ _ (λ x. end_outside z a b u x same h k i j) (λ x. end_outside z b a u x (sym same) k h j i))
 
 -- ---- at an end of a span clocks change, if the zone has a type beyond it
 pub begin_changes : (z : Zone) (s : Span) (u : ℤ) (t : LocalType) → IsSpan (TypeAt z) s → s.from ≡ Some u → TypeAt z (u -ℤ pos 1) t
     → IsChange (TypeAt z) (record { at = u; before = t; after = s.local_time_type })
 begin_changes z s u t h is before =
     let (v, i) = h.some in
-    let end = rw is at h.begins in let from : u ≤ℤ v = rw is at i.since in
-    let fits = i.fits in let low = end.fits in let here : SFits w64 u = omega (arith, ints) in
+    let end = rw is at h.begins in let from = rw is at i.since in
+    let here : SFits w64 u = omega linear in
     record {
       fits = here;
       fits_before = end.fits;
       before = before;
-      after = h.each u (record { fits = here; since = rw is (omega (arith, ints)); until = until_less s.until u v i.until from });
+      after = h.each u (record { fits = here; since = rw is (omega linear); until = until_less _ u v i.until from });
       differ = λ e. end.out (subst (TypeAt z (u -ℤ pos 1)) e before);
     }
 
@@ -291,13 +294,13 @@ pub end_changes : (z : Zone) (s : Span) (u : ℤ) (t : LocalType) → IsSpan (Ty
     → IsChange (TypeAt z) (record { at = u; before = s.local_time_type; after = t })
 end_changes z s u t h is after =
     let (v, i) = h.some in
-    let end = rw is at h.ends in let until : v <ℤ u = rw is at i.until in
-    let fits = i.fits in let high = end.fits in let there : SFits w64 (u -ℤ pos 1) = omega (arith, ints) in
+    let end = rw is at h.ends in let until = rw is at i.until in
+    let there : SFits w64 (u -ℤ pos 1) = omega linear in
     record {
       fits = end.fits;
       fits_before = there;
       before = h.each (u -ℤ pos 1)
-          (record { fits = there; since = since_more s.from v (u -ℤ pos 1) i.since (omega (arith, ints)); until = rw is (omega (arith, ints)) });
+          (record { fits = there; since = since_more _ v _ i.since (omega linear); until = rw is (omega linear) });
       after = after;
       differ = λ e. end.out (subst (TypeAt z u) (sym e) after);
     }

@@ -1,34 +1,35 @@
 -- Spans by a rule of two types.
-use Rattle.tz_info.proofs.Words.{Alternate, AlternateAt, HasNoChange, IsAhead, IsBegin, IsInTable}
-use Rattle.tz_info.proofs.Words.{IsRuleOrNone, IsSecondOfNearest, IsSpanAt, IsValid, LocalType, None, Option, SFits, Some, TypeAt, Zone, arith, false}
-use Rattle.tz_info.proofs.Words.{ints, length, pos, segment_of, sym, true, w64, ℤ, ◌-ℤ◌, ◌<ℤ◌, ◌∙◌, ◌≡◌, ◌≤ℤ◌}
+use Rattle.tz_info.proofs.{
+  ChangeSearch.{nearest_moved},
+  RuleChanges.{rule_second},
+  SegmentLaws.{segments_rise},
+  SpanLaws.{span_between},
+  Words.{Alternate, AlternateAt, HasNoChange, IsAhead, IsBegin, IsInTable, IsRuleOrNone, IsSecondOfNearest, IsSpanAt, IsValid, LocalType, None, Option, SFits},
+  Words.{Some, TypeAt, Zone, false, length, linear, segment_of, sym, true, w64, ℤ, ◌<ℤ◌, ◌∙◌, ◌≡◌, ◌≤ℤ◌},
+  ZoneChanges.{begins, from_rule, rule_first, rule_found, rule_is_last},
+}
 use Rattle.tz_info.specs.declared.rule.transition_rule.TransitionRule.TheVariants.{Alternate as AlternateRule}
-use Rattle.tz_info.proofs.{ChangeSearch.{nearest_moved}, RuleChanges.{rule_second}, SegmentLaws.{segments_rise}, SpanLaws.{span_between}}
-use Rattle.tz_info.proofs.ZoneChanges.{begins, from_rule, rule_first, rule_found, rule_is_last}
 
 -- ---- by a rule of two types
 table_over : (z : Zone) (u : ℤ) → IsValid z → segment_of z u ≡ length z.transitions → HasNoChange (TypeAt z) (IsInTable z (λ v. u <ℤ v))
-table_over z u valid all d is inside =
-    let i = inside.inside in let t = inside.table in
-    let r = segments_rise z u (d.at -ℤ pos 1) valid.transitions.rising valid.leaps (omega (arith, ints)) in
-    omega arith
+table_over z u valid all d is inside = grind (linear, segments_rise)
 
 -- from its last change up to u, if that comes after `begin`, to its next one
 pub span_of_rule : (z : Zone) (a : Alternate) (u begin from until : ℤ) (t : LocalType) (previous : Option ℤ) → IsValid z → IsRuleOrNone z.rule → SFits w64 u
     → z.rule ≡ Some (AlternateRule a) → IsBegin z begin → AlternateAt a u t → IsSecondOfNearest false (AlternateAt a) (IsAhead false u) previous
     → (begin <ℤ from) × (previous ≡ Some from) → IsSecondOfNearest true (AlternateAt a) (IsAhead true u) (Some until)
     → IsSpanAt (TypeAt z) u (record { local_time_type = t; from = Some from; until = Some until })
-span_of_rule z a u begin from until t previous valid limits fits rule h at (None, is, e) after next = let same = after.1 in cc
+span_of_rule z a u _ _ _ t _ valid limits fits rule h at (None, is, e) after next = let same = after.1 in cc
 span_of_rule z a u begin from until t previous valid limits fits rule h at (Some c, is, e) after (None, nearest, ends) = cc
 span_of_rule z a u begin from until t previous valid limits fits rule h at (Some c, is, e) after (Some d, nearest, ends) =
-    let same : Some c.at ≡ Some from = sym e ∙ after.1 in
+    let same = sym e ∙ after.1 in
     let at_from : from ≡ c.at = cc in
-    let late : begin <ℤ c.at = rw at_from at after.0 in
+    let late = rw at_from at after.0 in
     let up_to = is.inside in
-    let all = begins z begin u valid h (rule_second a u t at) (omega (arith, ints)) in
-    let last = rule_found z a false u begin (Some c) valid rule h
+    let all = begins z _ u valid h (rule_second a u t at) (omega linear) in
+    let last = rule_found z a false u _ (Some c) valid rule h
     (record { is = is.is; inside = (late, up_to); nearest = λ d is_d inside. is.nearest d is_d inside.1 }) in
-    let first = rule_found z a true u begin (Some d) valid rule h (nearest_moved true (AlternateAt a) (AlternateAt a) (IsAhead true u) (λ v.
-    (begin <ℤ v) × IsAhead true u v) (Some d) (λ d is_d l. (is_d, l.1)) (λ d is_d l. (is_d, (omega (arith, ints), l))) nearest) in
-    span_between z u t (Some c) (Some d) (Some from) (Some until) valid limits fits (from_rule z a u t valid rule all at)
+    let first = rule_found z a true u begin (Some d) valid rule h (nearest_moved true _ _ _ (λ v.
+    (begin <ℤ v) × IsAhead true u v) (Some d) (λ d is_d l. (is_d, l.1)) (λ d is_d l. (is_d, (omega linear, l))) nearest) in
+    span_between z u t (Some c) (Some d) (Some from) (Some until) valid limits fits (from_rule z a u t rule valid all at)
     (rule_is_last z (λ v. v ≤ℤ u) c valid last) (rule_first z (λ v. u <ℤ v) (Some d) valid (table_over z u valid all) first) (sym same) ends

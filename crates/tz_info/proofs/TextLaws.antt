@@ -1,56 +1,58 @@
 -- The law of a whole TZ string, and what it says of a reader.
-use Rattle.tz_info.proofs.Words.{Bool, Decided, Err, Error, IfErr, IfOk, IsOkAnd, IsTextFault, IsTzText, List, Ok, Result, Spells, TransitionRule}
-use Rattle.tz_info.proofs.Words.{alternate, ap, apart, end, fault_low, fault_once, fixed, inl, inr, lawful, named, error_number, read, rule, said, subst, sym}
-use Rattle.tz_info.proofs.Words.{text, value_once, ℕ, ℤ, [], ◌∙◌, ◌≡◌, ◌≤◌}
 use Rattle.tz_base.specs.declared.parse_error.ParseError.{ParseError}
+use Rattle.tz_info.proofs.{
+  Words.{Bool, Decided, Err, Error, IfErr, IfOk, IsOkAnd, IsTextFault, IsTzText, List, Ok, Result, Spells, TransitionRule, [], alternate, ap, apart, end},
+  Words.{error_number, fault_low, fault_once, fixed, inl, inr, lawful, named, read, rule, said, subst, sym, text, value_once, ℕ, ℤ, ◌∙◌, ◌≡◌, ◌≤◌},
+}
 use Rattle.tz_info.specs.Steps.Spelled.{IsParsed}
 
 -- no byte follows a TZ string
 rule_ends : (extended : Bool) (at name : List ℕ) (east : ℤ) (bytes : List ℕ) (r : TransitionRule) (rest : List ℕ)
     → Spells (rule extended at name east) bytes r rest → rest ≡ []
 unfolding rule fixed alternate named end
-rule_ends extended at name east bytes r rest (inl (none, (_, _, std, (_, e)))) = sym e ∙ sym std.2 ∙ none
-rule_ends extended at name east bytes r rest (inr (_, (_, _, _, (_, _, _, (_, _, _, (_, _, inl (none, (_, at_end)), (_, _, std, (_, _, dst, (_, e))))))))) =
+rule_ends _ at _ _ _ r _ (inl (none, (_, _, std, (_, e)))) = sym e ∙ sym std.2 ∙ none
+rule_ends _ at name east bytes r rest (inr (_, (_, _, _, (_, _, _, (_, _, _, (_, _, inl (none, (_, at_end)), (_, _, std, (_, _, dst, (_, e))))))))) =
     sym e ∙ sym dst.2 ∙ sym std.2 ∙ sym at_end ∙ none
 rule_ends extended at name east bytes r rest (inr (_, (_, _, _, (_, _, _, (_, _, _, (_, _, inr (_, never), _)))))) = absurd never
 
 text_ends : (extended : Bool) (bytes : List ℕ) (r : TransitionRule) (rest : List ℕ) → Spells (text extended) bytes r rest → rest ≡ []
 unfolding text
-text_ends extended bytes r rest (name, _, _, (east, after, _, h)) = rule_ends extended bytes name east after r rest h
+text_ends _ _ r _ (name, _, _, (east, after, _, h)) = rule_ends _ _ _ _ _ r _ h
 
 pub text_law : (extended : Bool) (bytes : List ℕ)
     → Decided (TransitionRule × List ℕ) (read (text extended) bytes) (λ p. IsTzText extended bytes p.0 × (p.1 ≡ [])) (IsTextFault extended bytes)
 text_law extended bytes = said (lawful (text extended) bytes)
-    (λ p h. let none = text_ends extended bytes p.0 p.1 h in (subst (Spells (text extended) bytes p.0) none h, none))
+    (λ p h. let none = text_ends _ _ p.0 p.1 h in (subst (Spells (text extended) bytes p.0) none h, none))
     (λ p h. subst (Spells (text extended) bytes p.0) (sym h.1) h.0)
 
--- a text with a fault spells no rule, and has no other fault
-pub refused_or_spelled : (extended : Bool) (bytes : List ℕ) (e : Error) (r : TransitionRule) → IsTextFault extended bytes e → IsTzText extended bytes r → ⊥
-refused_or_spelled extended bytes e r fault spelled = apart (lawful (text extended) bytes) (r, []) e spelled fault
+-- the bytes of a TZ string, with or without the extension
+module _ (extended : Bool) (bytes : List ℕ) where
+  -- a text with a fault spells no rule, and has no other fault
+  pub refused_or_spelled : (e : Error) (r : TransitionRule) → IsTextFault extended bytes e → IsTzText extended bytes r → ⊥
+  refused_or_spelled e r fault spelled = apart (lawful (text extended) bytes) (r, []) e spelled fault
 
-pub one_fault : (extended : Bool) (bytes : List ℕ) (d e : Error) → IsTextFault extended bytes d → IsTextFault extended bytes e → d ≡ e
-one_fault extended bytes = fault_once (lawful (text extended) bytes)
+  pub one_fault : (d e : Error) → IsTextFault extended bytes d → IsTextFault extended bytes e → d ≡ e
+  one_fault = fault_once (lawful (text extended) bytes)
 
--- it is not running out of memory
-pub text_low : (extended : Bool) (bytes : List ℕ) (e : Error) → IsTextFault extended bytes e → error_number e ≤ 16
-text_low extended bytes = fault_low (lawful (text extended) bytes)
+  -- it is not running out of memory
+  pub text_low : (e : Error) → IsTextFault extended bytes e → error_number e ≤ 16
+  text_low = fault_low (lawful (text extended) bytes)
 
--- no bytes spell two rules
-pub one_rule : (extended : Bool) (bytes : List ℕ) (a b : TransitionRule) → IsTzText extended bytes a → IsTzText extended bytes b → a ≡ b
-one_rule extended bytes a b p q = ap (λ r. r.0) (value_once (lawful (text extended) bytes) (a, []) (b, []) p q)
+  -- no bytes spell two rules
+  pub one_rule : (a b : TransitionRule) → IsTzText extended bytes a → IsTzText extended bytes b → a ≡ b
+  one_rule a b p q = ap (λ r. r.0) (value_once (lawful (text extended) bytes) (a, []) (b, []) p q)
 
--- ---- what a reader of a whole text answers
-pub found_by : (extended : Bool) (bytes : List ℕ) (r : Result TransitionRule ParseError) → IsParsed extended bytes r
-    → IfOk r (λ rule. IsTzText extended bytes rule)
-found_by extended bytes (Ok rule) (rest, g) = ((text_law extended bytes).takes (rule, rest) g).0
-found_by extended bytes (Err e) g = tt
+  -- ---- what a reader of a whole text answers
+  pub found_by : (r : Result TransitionRule ParseError) → IsParsed extended bytes r → IfOk r (λ rule. IsTzText extended bytes rule)
+  found_by (Ok rule) (rest, g) = ((text_law _ _).takes (rule, rest) g).0
+  found_by (Err e) g = tt
 
 pub only_by : (extended : Bool) (bytes : List ℕ) (r : Result TransitionRule ParseError) → IsParsed extended bytes r → (rule : TransitionRule)
     → IsTzText extended bytes rule → IsOkAnd r (λ y. y ≡ rule)
-only_by extended bytes (Ok y) g rule h = one_rule extended bytes y rule (found_by extended bytes (Ok y) g) h
-only_by extended bytes (Err e) g rule h = refused_or_spelled extended bytes _ rule ((text_law extended bytes).fails _ g.0) h
+only_by extended bytes (Ok y) g _ h = one_rule _ _ y _ (found_by _ _ (Ok y) g) h
+only_by extended bytes (Err e) g rule h = refused_or_spelled extended _ _ _ ((text_law _ _).fails _ g.0) h
 
 pub fault_by : (extended : Bool) (bytes : List ℕ) (r : Result TransitionRule ParseError) → IsParsed extended bytes r
     → IfErr r (λ e. IsTextFault extended bytes e.error)
-fault_by extended bytes (Ok y) g = tt
-fault_by extended bytes (Err e) g = (text_law extended bytes).fails e.error g.0
+fault_by _ _ (Ok y) g = tt
+fault_by extended bytes (Err e) g = (text_law _ _).fails e.error g.0

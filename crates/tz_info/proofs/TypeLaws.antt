@@ -1,15 +1,19 @@
 -- Local time types: what is read is spelled, what is spelled is read, and an error is that of the fault.
-use Rattle.tz_base.specs.declared.error.Error.TheVariants.{InvalidTzFile, LocalTimeType, OutOfMemory}
-use Rattle.tz_base.specs.declared.error.Expected.TheVariants.{NameWithinDesignations, ZeroByteAfterName, ZeroOrOneAsIsDst}
-use Rattle.tz_info.proofs.Words.{Bool, Decided, Decides-and, Decides-eqb, Decides-ltb, Err, Error, Gives, HasNoZero, HasTypeFault, IsMark, IsNameOrNone}
-use Rattle.tz_info.proofs.Words.{IsUtOffset, List, LocalType, MatchResult, No_text, None, Ok, Option, Other_mark, Other_type, Result, Some, SpellTypes}
-use Rattle.tz_info.proofs.Words.{SpellsType, StandsAt, TypeFault, ap, arith, bind, bind_err, by_error, choice, cond, designation_at, designation_of}
-use Rattle.tz_info.proofs.Words.{done, drop, drop_front, expected_of_place, expected_of_type, false, false_unless, front_of, guard, inl, inr, int_lt}
-use Rattle.tz_info.proofs.Words.{is_name_or_none, is_zero, least_offset, length, length-append, length-take, like, lt_is, lt_true, mark_in, mark_of, name_test}
-use Rattle.tz_info.proofs.Words.{nat_lt, nat_tests, offset_in, place_in, pos, position_from, record_at, refl, refused, subst, suc, sym, take, take-append-drop}
-use Rattle.tz_info.proofs.Words.{take-append_seam, text_before_zero, true, type_in, type_of, type_of_record, values_below, with_next_type, ℕ, ℤ, [], ◌*◌}
-use Rattle.tz_info.proofs.Words.{◌++◌, ◌+◌, ◌<ℤ◌, ◌<◌, ◌==◌, ◌∙◌, ◌∷◌, ◌≡◌, ◌≤ℤ◌, ◌⊎◌}
-use Rattle.tz_info.proofs.{ListLaws.{first_refusal}, RecordLaws.{records}}
+use Rattle.tz_base.specs.{
+  declared.error.Error.TheVariants.{InvalidTzFile, LocalTimeType, OutOfMemory},
+  declared.error.Expected.TheVariants.{NameWithinDesignations, ZeroByteAfterName, ZeroOrOneAsIsDst},
+}
+use Rattle.tz_info.proofs.{
+  ListLaws.{first_refusal},
+  RecordLaws.{records},
+  Words.{Bool, Decided, Decides-and, Decides-eqb, Decides-ltb, Err, Error, Gives, HasNoZero, HasTypeFault, IsMark, IsNameOrNone, IsUtOffset, List, LocalType},
+  Words.{MatchResult, No_text, None, Ok, Option, Other_mark, Other_type, Result, Some, SpellTypes, SpellsType, StandsAt, TypeFault, [], ap, arith, bind},
+  Words.{bind_err, by_error, choice, cond, designation_at, designation_of, done, drop, drop_front, expected_of_place, expected_of_type, false, false_unless},
+  Words.{front_of, guard, inl, inr, int_lt, is_name_or_none, is_zero, least_offset, length, length-append, length-take, like, lt_is, lt_true, mark_in, mark_of},
+  Words.{name_test, nat_lt, offset_in, place_in, pos, position_from, record_at, refl, refused, subst, suc, sym, take, take-append-drop, take-append_seam},
+  Words.{text_before_zero, true, type_in, type_of, type_of_record, values_below, with_next_type, ℕ, ℤ, ◌*◌, ◌++◌, ◌+◌, ◌<ℤ◌, ◌<◌, ◌==◌, ◌∙◌, ◌∷◌, ◌≡◌, ◌≤ℤ◌},
+  Words.{◌⊎◌},
+}
 
 -- ---- the next 0 byte
 zero_takes : (text : List ℕ) (i n : ℕ) → position_from is_zero i text ≡ Some n
@@ -17,30 +21,29 @@ zero_takes : (text : List ℕ) (i n : ℕ) → position_from is_zero i text ≡ 
 zero_takes [] i n h = cc
 zero_takes (b ∷ bs) i n h = elim (b == 0) as (λ t. (b == 0) ≡ t → cond t (Some i) (position_from is_zero (i + 1) bs) ≡ Some n
     → (m : ℕ) × (n ≡ i + m) × (after : List ℕ) × (b ∷ bs ≡ take m (b ∷ bs) ++ (0 ∷ after)) × HasNoZero (take m (b ∷ bs))) [
-      | true ↦ λ t k. let z : b ≡ 0 = grind (arith, nat_tests) in let e : i ≡ n = cc in (0, omega arith, bs, rw z refl, tt)
-      | false ↦ λ t k. let r = zero_takes bs (i + 1) n k in let e = r.1 in
-          (suc r.0, omega arith, r.2, ap (λ s. b ∷ s) r.3, ((λ z. grind (arith, nat_tests)), r.4))
+      | true ↦ λ t k. let z : b ≡ 0 = grind arith in let e : i ≡ n = cc in (0, omega arith, bs, rw z, tt)
+      | false ↦ λ t k. let r = zero_takes bs _ n k in (suc r.0, omega arith, r.2, ap (λ s. b ∷ s) r.3, ((λ z. grind arith), r.4))
     ] refl h
 
 zero_again : (text after : List ℕ) (i : ℕ) → HasNoZero text → position_from is_zero i (text ++ (0 ∷ after)) ≡ Some (i + length text)
-zero_again [] after i h = ap (λ n. Some n) (omega arith)
+zero_again [] _ i h = ap (λ n. Some n) (omega arith)
 zero_again (b ∷ bs) after i h = grind (arith, zero_again bs after (i + 1) h.1)
 
 -- ---- the text at a place
 front_law : (text : List ℕ) (o : Option ℕ)
     → Decided (List ℕ) (front_of text o) (λ x. (n : ℕ) × (o ≡ Some n) × (take n text ≡ x)) (λ e. (o ≡ None) × (e ≡ InvalidTzFile ZeroByteAfterName))
-front_law text None = like (refused (InvalidTzFile ZeroByteAfterName) (omega arith)) (λ x h. absurd h) (λ x h. let e = h.1 in
+front_law _ None = like (refused (InvalidTzFile ZeroByteAfterName) (omega arith)) (λ x h. absurd h) (λ x h. let e = h.1 in
     cc) (λ e h. (refl, h)) (λ e h. h.1)
 front_law text (Some n) = like (done (take n text)) (λ x h. (n, refl, h)) (λ x h. let same : n ≡ h.0 = let e = h.1 in cc in
-    rw same h.2) (λ e h. absurd h) (λ e h. let f = h.0 in cc)
+    rw same h.2) (λ e h. absurd h) (λ e h. cc)
 
 abbrev Place : List ℕ → ℕ → Option ℕ
 Place names i = position_from is_zero 0 (drop i names)
 
 text_takes : (names : List ℕ) (i n : ℕ) (x : List ℕ) → i < length names → Place names i ≡ Some n → take n (drop i names) ≡ x → StandsAt names i x
 text_takes names i n x inside e same =
-    let r = zero_takes (drop i names) 0 n e in
-    let m : r.0 ≡ n = let e = r.1 in omega arith in
+    let r = zero_takes _ 0 n e in
+    let m : r.0 ≡ n = omega arith in
     let same : take r.0 (drop i names) ≡ x = rw m same in
     record {
       before = take i names;
@@ -56,27 +59,27 @@ text_again names i x s =
     let after : drop i names ≡ x ++ (0 ∷ s.after) = rw (s.whole, ← s.at) (drop_front s.before (x ++ (0 ∷ s.after))) in
     let inside = ap length s.whole ∙ length-append s.before (x ++ (0 ∷ s.after)) in
     let behind = length-append x (0 ∷ s.after) in (
-      omega (arith, s.at, inside, behind),
-      rw after (zero_again x s.after 0 s.ends ∙ ap (λ n. Some n) (omega arith)),
+      omega arith,
+      rw after (zero_again x _ 0 s.ends ∙ ap (λ n. Some n) (omega arith)),
       rw after (take-append_seam x (0 ∷ s.after)),
     )
 
 -- what is expected of the place, whether it lies within the names or not
 place_inside : (names : List ℕ) (i : ℕ) → i < length names → expected_of_place names i ≡ ZeroByteAfterName
-place_inside names i inside = rw ((Decides-ltb i (length names)).1 inside) refl
+place_inside names i inside = rw ((Decides-ltb i (length names)).1 inside)
 
 place_outside : (names : List ℕ) (i : ℕ) → ¬ (i < length names) → expected_of_place names i ≡ NameWithinDesignations
-place_outside names i outside = rw (false_unless (nat_lt i (length names)) (λ t. outside ((Decides-ltb i (length names)).0 t))) refl
+place_outside names i outside = rw (false_unless (nat_lt i (length names)) (λ t. outside ((Decides-ltb i (length names)).0 t)))
 
 text_law : (names : List ℕ) (i : ℕ)
     → Decided (List ℕ) (designation_at names i) (StandsAt names i)
     (λ e. ((text : List ℕ) → ¬ (StandsAt names i text)) × (e ≡ InvalidTzFile (expected_of_place names i)))
 unfolding designation_at text_before_zero
 text_law names i = by_error (InvalidTzFile (expected_of_place names i))
-    (choice (Decides-ltb i (length names)) (front_law (drop i names) (Place names i)) (refused (InvalidTzFile NameWithinDesignations) (omega arith)))
-    (λ x h. elim h [ inl k ↦ text_takes names i k.1.0 x k.0 k.1.1 k.1.2 | inr k ↦ absurd k.1 ])
-    (λ x s. let t = text_again names i x s in inl (t.0, (length x, t.1, t.2)))
-    (λ e h. elim h [ inl k ↦ k.1.1 ∙ ap InvalidTzFile (sym (place_inside names i k.0)) | inr k ↦ k.1 ∙ ap InvalidTzFile (sym (place_outside names i k.0)) ])
+    (choice (Decides-ltb i (length names)) (front_law _ _) (refused (InvalidTzFile NameWithinDesignations) (omega arith)))
+    (λ x h. elim h [ inl k ↦ text_takes _ i _ x k.0 k.1.1 k.1.2 | inr k ↦ absurd k.1 ])
+    (λ x s. let t = text_again _ i x s in inl (t.0, (length x, t.1, t.2)))
+    (λ e h. elim h [ inl k ↦ k.1.1 ∙ ap InvalidTzFile (sym (place_inside _ i k.0)) | inr k ↦ k.1 ∙ ap InvalidTzFile (sym (place_outside _ i k.0)) ])
 
 -- ---- a type
 named_is : (o : Option (List ℕ)) → is_name_or_none o ≡ true → IsNameOrNone o
@@ -88,7 +91,7 @@ named_again None h = refl
 named_again (Some text) h = (name_test text).decides.1 h
 
 mark_again : (b : ℕ) (d : Bool) → IsMark b d → ((b ≡ 0) × (false ≡ d)) ⊎ (¬ (b ≡ 0) × ((b ≡ 1) × (true ≡ d)))
-mark_again b true h = inr (λ z. absurd (omega arith), (h, refl))
+mark_again b true h = inr (λ z. omega arith, (h, refl))
 mark_again b false h = inl (h, refl)
 
 mark_law : (b : ℕ) → Decided Bool (mark_of b) (IsMark b) (λ e. ((d : Bool) → ¬ (IsMark b d)) × (e ≡ InvalidTzFile ZeroOrOneAsIsDst))
@@ -115,36 +118,36 @@ fault_is names bytes e (inr m) = elim m.2 [
 ]
 
 fault_again : (names bytes : List ℕ) (e : Error) → TypeFault names bytes e → ReadFault names bytes e
-fault_again names bytes e (Other_mark none) = inl (none, refl)
+fault_again _ _ e (Other_mark none) = inl (none, refl)
 fault_again names bytes e (No_text dst mark none) = inr (dst, mark, inl (none, refl))
 fault_again names bytes e (Other_type dst text mark stands bad) = inr (dst, mark, inr (text, stands, (bad, refl)))
 
 pub type_law : (names bytes : List ℕ) → Decided LocalType (type_of_record names bytes) (SpellsType names bytes) (TypeFault names bytes)
 unfolding type_of_record type_of
-type_law names bytes = like
-    (bind (mark_law (mark_in bytes)) (λ dst _. bind (text_law names (place_in bytes)) (λ text _.
+type_law _ bytes = like
+    (bind (mark_law _) (λ dst _. bind (text_law _ _) (λ text _.
     guard (record { offset = offset_in bytes; dst = dst; name = designation_of text })
     (LocalTimeType (expected_of_type (offset_in bytes) (designation_of text))) (omega arith)
     (Decides-and (int_lt least_offset (offset_in bytes)) (is_name_or_none (designation_of text))
-    (lt_is least_offset (offset_in bytes), lt_true least_offset (offset_in bytes)) (named_is (designation_of text), named_again (designation_of text))))))
+    (lt_is _ _, lt_true _ _) (named_is _, named_again _)))))
     (λ t h. grind arith)
-    (λ t p. (t.dst, p.mark, (p.text, p.stands, ((rw p.offset p.above_least, rw p.name p.name_fits), rw (p.offset, p.name) refl))))
-    (fault_is names bytes)
-    (fault_again names bytes)
+    (λ t p. (t.dst, p.mark, (p.text, p.stands, ((rw p.offset p.above_least, rw p.name p.name_fits), rw (p.offset, p.name)))))
+    (fault_is _ _)
+    (fault_again _ _)
 
 -- ---- all types
 pub types_law : (n : ℕ) (names part : List ℕ) → length part ≡ n * 6
     → Decided (List LocalType) (values_below n (type_in names part)) (SpellTypes names part) (HasTypeFault names part)
-types_law n names part l = records n 6 part (omega arith) l (λ bytes _. type_law names bytes)
+types_law n _ _ l = records n 6 _ (omega arith) l (λ bytes _. type_law _ _)
 
 -- an error at the next record is that of all
 pub next_refused : (n k : ℕ) (names part : List ℕ) (types : List LocalType) (e : Error) → k < n → values_below k (type_in names part) ≡ Ok types
     → (e ≡ OutOfMemory) ⊎ (with_next_type names (record_at 6 part k) types ≡ Err e) → (e ≡ OutOfMemory) ⊎ (values_below n (type_in names part) ≡ Err e)
-next_refused n k names part types e b h r = elim r [
+next_refused n k names part _ e b h r = elim r [
   | inl m ↦ inl m
   | inr m ↦ elim (bind_err (type_of_record names (record_at 6 part k)) _ e m) [
-    | inl q ↦ inr (first_refusal n k (type_in names part) types e b h q)
-    | inr q ↦ let a = q.2 in cc
+    | inl q ↦ inr (first_refusal n k _ _ e b h q)
+    | inr q ↦ cc
   ]
 ]
 
@@ -155,5 +158,5 @@ pub type_answers : (offset : ℤ) (dst : Bool) (text : List ℕ) (name : Option 
     (λ e. (e ≡ LocalTimeType (expected_of_type offset name)) × ¬ (IsUtOffset offset × IsNameOrNone name))
     → Gives (λ t. t) r (type_of offset dst text)
 unfolding type_of
-type_answers offset dst text name (Ok t) low high same h = grind (arith, named_again)
+type_answers _ dst _ _ (Ok t) low high same h = grind (arith, named_again)
 type_answers offset dst text name (Err e) low high same h = grind (arith, named_is)

@@ -1,57 +1,61 @@
 -- The seconds at which a zone has a type.
-use Rattle.tz_info.proofs.Words.{AreLeapSeconds, IsFirstTyped, IsFromLast, IsLastTyped, IsSearched, IsLeapTime, IsLeapTimeRefused}
-use Rattle.tz_info.proofs.Words.{IsRefusedBy, IsRuleOrNone, IsTypeRefused}
-use Rattle.tz_info.proofs.Words.{IsAfterTyped, IsTyped, IsValid, LeapSecond, List, None, Option, Some, TransitionRule, Zone, arith, by_leap_time}
-use Rattle.tz_info.proofs.Words.{by_rule, inl, inr, ints, least_time, length, neg_ℤ}
-use Rattle.tz_info.proofs.Words.{SFits, by_lt_z, pos, refl, subst, w64, ℤ, ◌+ℤ◌, ◌-ℤ◌, ◌<ℤ◌, ◌<◌, ◌≡◌, ◌≤ℤ◌}
+use Rattle.tz_info.proofs.{
+  EntryChanges.{near_time},
+  RuleChanges.{rule_second},
+  SegmentLaws.{segment_most, segments_rise},
+  SpanLaws.{all_come, out_of_years, typed_between},
+  Words.{AreLeapSeconds, IsAfterTyped, IsFirstTyped, IsFromLast, IsLastTyped, IsLeapTime, IsLeapTimeRefused, IsRefusedBy, IsRuleOrNone, IsSearched},
+  Words.{IsTypeRefused, IsTyped, IsValid, LeapSecond, List, None, Option, SFits, Some, TransitionRule, Zone, arith, by_leap_time, by_lt_z, by_rule, inl, inr},
+  Words.{least_time, length, linear, neg_ℤ, pos, refl, subst, w64, ℤ, ◌+ℤ◌, ◌-ℤ◌, ◌<ℤ◌, ◌<◌, ◌≡◌, ◌≤ℤ◌},
+  ZoneChanges.{refused_on, to_rule},
+  ZoneLaws.{type_decided},
+}
 use Rattle.tz_info.specs.declared.rule.transition_rule.TransitionRule.TheVariants.{Alternate, Fixed}
-use Rattle.tz_info.proofs.{EntryChanges.{near_time}, RuleChanges.{rule_second}, SegmentLaws.{segment_most, segments_rise}}
-use Rattle.tz_info.proofs.{SpanLaws.{all_come, out_of_years, typed_between}}
-use Rattle.tz_info.proofs.{ZoneChanges.{refused_on, to_rule}, ZoneLaws.{type_decided}}
 
 -- before 1970 each second has a leap time
 early_time : (es : List LeapSecond) (u : ℤ) → AreLeapSeconds es → u <ℤ pos 0 → IsLeapTimeRefused es u → ⊥
 early_time es u valid before refused =
-    refused_on es u (pos 0) _ valid (omega (arith, ints)) refused (near_time es (pos 0) valid (omega (arith, ints), omega (arith, ints)))
+    refused_on es u _ _ valid (omega linear) refused (near_time es (pos 0) valid (omega arith, omega arith))
 
--- if the first second of 64 bits has no type, the first one that has is that of the rule's years
-first_by : (rule : Option TransitionRule) (z : Zone) (x : ℤ) → z.rule ≡ rule → IsValid z → IsRuleOrNone z.rule
-    → (0 < length z.transitions → IsLeapTime z.leaps least_time x) → IsFromLast z x
-    → IsRefusedBy rule least_time → IsFirstTyped z (neg_ℤ (pos 67_768_100_504_812_800))
-first_by None z x is valid limits l last refused = absurd refused
-first_by (Some (Fixed f)) z x is valid limits l last refused = absurd refused
-first_by (Some (Alternate a)) z x is valid limits l last refused = record {
-  fits = omega (arith, ints);
-  typed = elim (type_decided z (neg_ℤ (pos 67_768_100_504_812_800)) valid limits) [ inl typed ↦ typed | inr refused ↦ absurd (in_years refused) ];
-  before = λ typed.
-      let u = neg_ℤ (pos 67_768_100_504_812_800) -ℤ pos 1 in
-      let all = all_come z least_time x valid l last in
-      let rise = segments_rise z least_time u valid.transitions.rising valid.leaps (omega (arith, ints)) in
-      let most = segment_most z u valid.transitions.rising in
-      let within = rule_second a u typed.0 (to_rule z a u typed.0 valid is (omega arith) typed.1) in
-      let low = within.0 in omega (arith, ints);
-} where
-  in_years : IsTypeRefused z (neg_ℤ (pos 67_768_100_504_812_800)) → ⊥
-  in_years (by_leap_time some r) = early_time z.leaps _ valid.leaps (omega (arith, ints)) r
-  in_years (by_rule y m n r) =
-      elim (out_of_years (neg_ℤ (pos 67_768_100_504_812_800)) (rw is at r)) [ inl early ↦ omega (arith, ints) | inr late ↦ omega (arith, ints) ]
+-- a valid zone whose rule is in limits
+module _ (z : Zone) (valid : IsValid z) (limits : IsRuleOrNone z.rule) where
+  -- if the first second of 64 bits has no type, the first one that has is that of the rule's years
+  first_by : (rule : Option TransitionRule) (x : ℤ) → z.rule ≡ rule → (0 < length z.transitions → IsLeapTime z.leaps least_time x) → IsFromLast z x
+      → IsRefusedBy rule least_time → IsFirstTyped z (neg_ℤ (pos 67_768_100_504_812_800))
+  first_by None x is l last refused = absurd refused
+  first_by (Some (Fixed f)) x is l last refused = absurd refused
+  first_by (Some (Alternate a)) x is l last refused = record {
+    fits = omega arith;
+    typed = elim (type_decided z (neg_ℤ (pos 67_768_100_504_812_800)) valid limits) [ inl typed ↦ typed | inr refused ↦ absurd (in_years refused) ];
+    before = λ typed.
+        let u = neg_ℤ (pos 67_768_100_504_812_800) -ℤ pos 1 in
+        let all = all_come z _ x valid l last in
+        let rise = segments_rise z least_time u valid.transitions.rising valid.leaps (omega arith) in
+        let most = segment_most z u valid.transitions.rising in
+        let within = rule_second a u _ (to_rule z a u typed.0 is valid (omega arith) typed.1) in
+        omega arith;
+  } where
+    in_years : IsTypeRefused z (neg_ℤ (pos 67_768_100_504_812_800)) → ⊥
+    in_years (by_leap_time some r) = early_time z.leaps _ valid.leaps (omega arith) r
+    in_years (by_rule y m n r) =
+        elim (out_of_years (neg_ℤ (pos 67_768_100_504_812_800)) (rw is at r)) [ inl early ↦ omega arith | inr late ↦ omega arith ]
 
-pub first_typed : (z : Zone) → IsValid z → IsRuleOrNone z.rule → IsTypeRefused z least_time → IsFirstTyped z (neg_ℤ (pos 67_768_100_504_812_800))
-first_typed z valid limits (by_leap_time some refused) = absurd (early_time z.leaps least_time valid.leaps (omega (arith, ints)) refused)
-first_typed z valid limits (by_rule x l last refused) = first_by z.rule z x refl valid limits l last refused
+  pub first_typed : IsTypeRefused z least_time → IsFirstTyped z (neg_ℤ (pos 67_768_100_504_812_800))
+  first_typed (by_leap_time some refused) = absurd (early_time _ _ valid.leaps (omega arith) refused)
+  first_typed (by_rule x l last refused) = first_by _ x refl l last refused
 
--- ---- the last one
-pub last_typed : (z : Zone) (known end : ℤ) → IsValid z → IsRuleOrNone z.rule → IsSearched z known end → end ≤ℤ (known +ℤ pos 1) → IsLastTyped z known
-last_typed z known end valid limits h most = record {
-  typed = h.typed;
-  none = λ v fits later there.
-      h.not (typed_between z known v end h.typed.0 there.0 valid limits (omega (arith, ints, h.less)) (omega (arith, ints)) h.typed.1 there.1);
-  far = h.far;
-}
+  -- ---- the last one
+  pub last_typed : (known end : ℤ) → IsSearched z known end → end ≤ℤ (known +ℤ pos 1) → IsLastTyped z known
+  last_typed _ end h most = record {
+    typed = h.typed;
+    none = λ v fits later there.
+        h.not (typed_between z _ v end _ _ valid (omega linear) (omega linear) h.typed.1 there.1 limits);
+    far = h.far;
+  }
 
 -- after it none has
 pub after_typed : (z : Zone) (last : ℤ) → SFits w64 last → IsLastTyped z last → (last ≡ pos 9_223_372_036_854_775_807 → ⊥) → IsAfterTyped z (last +ℤ pos 1)
 after_typed z last fits h not =
-    let next : SFits w64 (last +ℤ pos 1) = by_lt_z last (pos 9_223_372_036_854_775_807) (λ l. omega (arith, ints)) (λ m. absurd (not (omega (arith, ints)))) in
-    let back : last ≡ (last +ℤ pos 1) -ℤ pos 1 = omega (arith, ints) in
-    record { fits = next; typed = subst (IsTyped z) back h.typed; after = h.none (last +ℤ pos 1) next (omega (arith, ints)) }
+    let next = by_lt_z last (pos 9_223_372_036_854_775_807) (λ l. omega linear) (λ m. absurd (not (omega linear))) in
+    let back : last ≡ (last +ℤ pos 1) -ℤ pos 1 = omega linear in
+    record { fits = next; typed = subst (IsTyped z) back h.typed; after = h.none (last +ℤ pos 1) next (omega linear) }

@@ -1,31 +1,33 @@
 -- Whether a rule agrees with the last transition.
-use Rattle.tz_info.proofs.Words.{Agrees, Bool, IsRuleRefused, IsTrue, IsUnixTime, IsUnixTimeRefused, LeapSecond, List, LocalType, RuleAt, Some, Transition}
-use Rattle.tz_info.proofs.Words.{TransitionRule, inl, inr, slice_get, sym, ℤ, ◌↔◌, ◌∙◌, ◌≡◌}
-use Rattle.tz_info.proofs.RuleLaws.{rule_not_refused, rule_once}
+use Rattle.tz_info.proofs.{
+  RuleLaws.{rule_not_refused, rule_once},
+  Words.{Agrees, Bool, IsRuleRefused, IsTrue, IsUnixTime, IsUnixTimeRefused, LeapSecond, List, LocalType, RuleAt, Some, Transition, TransitionRule, inl, inr},
+  Words.{slice_get, sym, ℤ, ◌↔◌, ◌∙◌, ◌≡◌},
+}
 
 unix_time_once : (leaps : List LeapSecond) (x u v : ℤ) → IsUnixTime leaps x u → IsUnixTime leaps x v → u ≡ v
-unix_time_once leaps x u v a b = a.difference ∙ sym b.difference
-
--- whether the rule agrees is whether its type there and the listed one are the same
-pub agrees_if_same : (types : List LocalType) (leaps : List LeapSecond) (rule : TransitionRule) (last : Transition) (u : ℤ) (s t : LocalType) (same : Bool)
-    → IsUnixTime leaps last.unix_leap_time u → RuleAt rule u s → slice_get types last.type_index ≡ Some t → IsTrue same ↔ (s ≡ t)
-    → IsTrue same ↔ Agrees types leaps rule last
-agrees_if_same types leaps rule last u s t same of_last of_rule listed e = (
-  λ h. record { unix_time = u; of_transition = of_last; type = s; of_rule = of_rule; listed = rw (e.0 h) listed },
-  λ h. e.1 (
-      let time = unix_time_once leaps last.unix_leap_time u h.unix_time of_last h.of_transition in
-      let r = rule_once rule u s h.type of_rule (rw time h.of_rule) in
-      let q : Some t ≡ Some h.type = sym listed ∙ h.listed in
-      cc),
-)
+unix_time_once _ x u v a b = a.difference ∙ sym b.difference
 
 pub differs_without_time : (types : List LocalType) (leaps : List LeapSecond) (rule : TransitionRule) (last : Transition)
     → IsUnixTimeRefused leaps last.unix_leap_time → Agrees types leaps rule last → ⊥
-differs_without_time types leaps rule last (inl least) h = h.of_transition.not_least least
+differs_without_time _ _ _ _ (inl least) h = h.of_transition.not_least least
 differs_without_time types leaps rule last (inr out) h = let e = h.of_transition.difference in out (rw e at h.of_transition.fits)
 
-pub differs_without_rule : (types : List LocalType) (leaps : List LeapSecond) (rule : TransitionRule) (last : Transition) (u : ℤ)
-    → IsUnixTime leaps last.unix_leap_time u → IsRuleRefused rule u → Agrees types leaps rule last → ⊥
-differs_without_rule types leaps rule last u of_last refused h =
-    let e = unix_time_once leaps last.unix_leap_time u h.unix_time of_last h.of_transition in
-    rule_not_refused rule u h.type (rw e h.of_rule) refused
+-- a rule, and what it must agree with
+module _ (types : List LocalType) (leaps : List LeapSecond) (rule : TransitionRule) (last : Transition) (u : ℤ)
+    (of_last : IsUnixTime leaps last.unix_leap_time u) where
+  -- whether the rule agrees is whether its type there and the listed one are the same
+  pub agrees_if_same : (s t : LocalType) (same : Bool) → RuleAt rule u s → slice_get types last.type_index ≡ Some t → IsTrue same ↔ (s ≡ t)
+      → IsTrue same ↔ Agrees types leaps rule last
+  agrees_if_same s t _ of_rule listed e = (
+    λ h. record { unix_time = u; of_transition = of_last; type = s; of_rule = of_rule; listed = rw (e.0 h) listed },
+    λ h. e.1 (
+        let time = unix_time_once _ _ u _ of_last h.of_transition in
+        let r = rule_once rule u s h.type of_rule (rw time h.of_rule) in
+        cc),
+  )
+
+  pub differs_without_rule : IsRuleRefused rule u → Agrees types leaps rule last → ⊥
+  differs_without_rule refused h =
+      let e = unix_time_once _ _ u _ of_last h.of_transition in
+      rule_not_refused rule u h.type (rw e h.of_rule) refused

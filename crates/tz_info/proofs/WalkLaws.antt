@@ -1,14 +1,17 @@
 -- A walk from segment to segment: which seconds it adds, why none lies outside it, and how many transitions it reads.
 use Rattle.offset_core.specs.declared.local_result.LocalResult.TheVariants.{None as Never}
-use Rattle.tz_info.proofs.Words.{AreRising, AreUtOffsets, Bool, Counts, IsNear, IsShownIn, IsStart, IsTried, IsValid, IsWallAnswer, IsWide, IsWindow, List}
-use Rattle.tz_info.proofs.Words.{LocalResult, LocalType, None, Option, RoseByWalk, RoseWithin, RuleAt, Shows, Some, Transition, TransitionRule, TypeAt}
-use Rattle.tz_info.proofs.Words.{TypeFrom, Zone, ap, arith, begin_of, come_between, cases_lt, digits, filter, get_or, get_or_default, index_of}
-use Rattle.tz_info.proofs.Words.{inl, inr, ints, least_time, length, reads_more, refl, segment_of, suc, sym, table_count}
-use Rattle.tz_info.proofs.Words.{true, zero, ℕ, ℤ, [], ⊎_elim, ◌⊎◌, ◌+ℤ◌, ◌+◌, ◌-ℤ◌, ◌<ℤ◌, ◌<◌, ◌∙◌, ◌∷◌, ◌≡◌, ◌≤ℤ◌, ◌≤◌}
-use Rattle.tz_info.proofs.{AnswerLaws.{Parts, behind_answer, same_answer}, Candidates.{offset_of_rule}, ExtremeLaws.{at_least_least, at_most_greatest}}
-use Rattle.tz_info.proofs.{TableSearch.{Between}, WallSegments.{leap_time_of, near_of, offset_here, rule_begun, type_of_table}}
-use Rattle.tz_info.proofs.SegmentLaws.{between_of, later_segment, segment_at, segment_here, segment_is, segments_rise, type_from, type_in_from}
-use Rattle.tz_info.proofs.SegmentLaws.{within_of}
+use Rattle.tz_info.proofs.{
+  AnswerLaws.{Parts, behind_answer, same_answer},
+  Candidates.{offset_of_rule},
+  ExtremeLaws.{at_least_least, at_most_greatest},
+  SegmentLaws.{between_of, later_segment, segment_at, segment_here, segment_is, segments_rise, type_from, type_in_from, within_of},
+  TableSearch.{Between},
+  WallSegments.{leap_time_of, near_of, offset_here, rule_begun, type_of_table},
+  Words.{AreRising, AreUtOffsets, Bool, Counts, IsNear, IsShownIn, IsStart, IsTried, IsValid, IsWallAnswer, IsWide, IsWindow, List, LocalResult, LocalType},
+  Words.{None, Option, RoseByWalk, RoseWithin, RuleAt, Shows, Some, Transition, TransitionRule, TypeAt, TypeFrom, Zone, [], ap, arith, begin_of, cases_lt},
+  Words.{come_between, digits, filter, get_or, get_or_default, index_of, inl, inr, least_time, length, linear, reads_more, refl, segment_of, suc, sym},
+  Words.{table_count, true, zero, ℕ, ℤ, ⊎_elim, ◌+ℤ◌, ◌+◌, ◌-ℤ◌, ◌<ℤ◌, ◌<◌, ◌∙◌, ◌∷◌, ◌≡◌, ◌≤ℤ◌, ◌≤◌, ◌⊎◌},
+}
 use Rattle.tz_info.specs.Steps.Walk.{IsTimeWithin}
 
 -- ---- one segment more
@@ -21,9 +24,9 @@ IsNextAt z i until = ((d : Transition) × (i < length z.transitions) × (until �
 tested : (z : Zone) (i : ℕ) (since x : ℤ) (until : Option ℤ) → AreRising z.transitions → i ≤ length z.transitions
     → since ≡ begin_of z.transitions i → IsNextAt z i until
     → (IsTimeWithin since until x → Between z.transitions x i i) × (least_time ≤ℤ x → Between z.transitions x i i → IsTimeWithin since until x)
-tested z i since x until r w b (inl (d, h, e)) = (
-  λ t. between_of z.transitions i x r w (record { since = rw b at t.from; until = λ f l. rw (get_or_default z.transitions i f d l) (t.before _ e) }),
-  λ f t. let k = within_of z.transitions i x f t in
+tested z i _ x _ r w b (inl (d, h, e)) = (
+  λ t. between_of _ i x r w (record { since = rw b at t.from; until = λ f l. rw (get_or_default z.transitions i f d l) (t.before _ e) }),
+  λ f t. let k = within_of _ i x f t in
       record { from = rw b k.since; before = λ end is. let same : (get_or z.transitions i d).unix_leap_time ≡ end = cc in rw same at (k.until d h) },
 )
 tested z i since x until r w b (inr (h, e)) = grind (arith, between_of, within_of)
@@ -33,25 +36,25 @@ pub tried_segment : (z : Zone) (l : ℤ) (i : ℕ) (since : ℤ) (until : Option
     → i < table_count z → since ≡ begin_of z.transitions i
     → IsNextAt z i until → IsTried z l (index_of z.transitions i) since until before after → IsWallAnswer (IsShownIn z l i) before
     → IsWallAnswer (IsShownIn z l (i + 1)) after
-tried_segment z l i since until before after valid inside own begin next k s =
+tried_segment z l i _ _ _ _ valid inside own begin next k s =
     let rising = valid.transitions.rising in
-    let c : ℤ = l -ℤ k.type.offset in
-    let test = tested z i since k.leap_time until rising inside begin next in
+    let c = l -ℤ k.type.offset in
+    let test = tested z i _ _ _ rising inside begin next in
     let old : (u : ℤ) (f : LocalType) → IsShownIn z l i u f → IsShownIn z l (i + 1) u f =
     λ u f h. record { shows = h.shows; from = omega arith; below = let b = h.below in omega arith } in
     let only : (u : ℤ) (f : LocalType) → IsShownIn z l (i + 1) u f → IsShownIn z l i u f ⊎ ((u ≡ c) × (segment_of z u ≡ i)) = λ u f h. ⊎_elim
     (λ m. inl (record { shows = h.shows; from = omega arith; below = m }))
     (λ m.
-    let e : segment_of z u ≡ i = let b = h.below in omega arith in
-    let o = offset_here z i u f k.type valid own k.candidate.listed e h.shows.type in grind (arith, ints))
+    let e : segment_of z u ≡ i = omega arith in
+    let o = offset_here z i u f _ valid own k.candidate.listed e h.shows.type in grind linear)
     (cases_lt (segment_of z u) i) in
     ⊎_elim
     (λ h.
-    let there = type_of_table z i c k.leap_time k.type own k.candidate.of_second (test.0 h.0) k.candidate.listed in
-    rw h.1 (behind_answer (IsShownIn z l i) (IsShownIn z l (i + 1)) c k.type before old (λ u f m. ⊎_elim (λ a. inl a) (λ a. inr a.0) (only u f m))
-    (record { shows = record { fits = k.candidate.fits; type = there.type; shown = omega (arith, ints) }; from = omega arith; below = omega arith })
-    (λ u f m. later_segment z u c valid (let b = m.below in omega arith)) s))
-    (λ h. rw h.1 (same_answer (IsShownIn z l i) (IsShownIn z l (i + 1)) before old (λ u f m. ⊎_elim (λ a. a)
+    let there = type_of_table z i c _ _ own k.candidate.of_second (test.0 h.0) k.candidate.listed in
+    rw h.1 (behind_answer _ _ c _ _ old (λ u f m. ⊎_elim (λ a. inl a) (λ a. inr a.0) (only u f m))
+    (record { shows = record { fits = k.candidate.fits; type = there.type; shown = omega linear }; from = omega arith; below = omega arith })
+    (λ u f m. later_segment z u c valid (omega arith)) s))
+    (λ h. rw h.1 (same_answer _ _ _ old (λ u f m. ⊎_elim (λ a. a)
     (λ a. absurd (h.0 (test.1 k.candidate.leap_fits (rw (sym k.candidate.of_second.sum) at (segment_at z c i rising (rw a.0 at a.1)))))) (only u f m)) s))
     k.tried
 
@@ -60,15 +63,15 @@ tried_segment z l i since until before after valid inside own begin next k s =
 pub with_rule : (z : Zone) (rule : TransitionRule) (start l : ℤ) → IsValid z → z.rule ≡ Some rule → IsStart z.transitions z.leaps (length z.transitions) start
     → IsWide l → AreUtOffsets rule
     → Parts (IsShownIn z l (length z.transitions)) (Shows (TypeFrom rule start) l) (IsShownIn z l (length z.transitions + 1))
-with_rule z rule start l valid is begun wide offsets = record {
+with_rule z rule _ l valid is begun wide offsets = record {
   first = λ u t k. record { shows = k.shows; from = omega arith; below = let b = k.below in omega arith };
   last = λ u t k.
       let near = near u t k.type.type k.shown in
-      let there = (rule_begun z u start valid near begun).1 k.type.since in
+      let there = (rule_begun z u _ valid near begun).1 k.type.since in
       let time = leap_time_of z u valid near in
-      let b : Between z.transitions time.0 (length z.transitions) (length z.transitions) =
-      rw (sym time.1.sum) at (segment_at z u (length z.transitions) valid.transitions.rising there) in
-      let type = type_in_from z u time.0 t time.1 b (rw is k.type.type) in
+      let b =
+      rw (sym time.1.sum) at (segment_at z u _ valid.transitions.rising there) in
+      let type = type_in_from z u _ t time.1 b (rw is k.type.type) in
       record { shows = record { fits = k.fits; type = type.type; shown = k.shown }; from = omega arith; below = omega arith };
   all = λ u t k. elim (cases_lt (segment_of z u) (length z.transitions)) [
     | inl h ↦ inl (record { shows = k.shows; from = omega arith; below = h })
@@ -78,40 +81,40 @@ with_rule z rule start l valid is begun wide offsets = record {
         inr
         (record {
           fits = k.shows.fits;
-          type = record { type = type; since = (rule_begun z u start valid (near u t type k.shows.shown) begun).0 there };
+          type = record { type = type; since = (rule_begun z u _ valid (near u t type k.shows.shown) begun).0 there };
           shown =
               k.shows.shown;
         })
   ];
   order = λ u v s t a b. later_segment z u v valid (
-      let there = (rule_begun z v start valid (near v t b.type.type b.shown) begun).1 b.type.since in omega arith);
+      let there = (rule_begun z v _ valid (near v t b.type.type b.shown) begun).1 b.type.since in omega arith);
 } where
   near : (u : ℤ) (t : LocalType) → RuleAt rule u t → u +ℤ t.offset ≡ l → IsNear u
-  near u t k e = let n = near_of l t.offset wide (offsets t.offset (offset_of_rule rule u t k)) in let g : l -ℤ t.offset ≡ u = omega (arith, ints) in rw g at n
+  near u t k e = let n = near_of l _ wide (offsets _ (offset_of_rule _ u t k)) in let g : l -ℤ t.offset ≡ u = omega linear in rw g at n
 
 -- ---- nothing lies outside
 pub none_before : (z : Zone) (l low high : ℤ) (n : ℕ) → IsValid z → IsWindow z l low high → Between z.transitions low n n → IsWallAnswer (IsShownIn z l n) Never
-none_before z l low high n valid w b = λ u t k.
-    let o = at_most_greatest z u w.greatest t w.is_greatest k.shows.type in
-    let g : (l -ℤ w.greatest) ≤ℤ u = omega (arith, ints) in
-    let r = segments_rise z (l -ℤ w.greatest) u valid.transitions.rising valid.leaps g in
-    let e = segment_is z (l -ℤ w.greatest) n (rw w.is_low.sum at b) in grind arith
+none_before z l low _ n valid w b = λ u t k.
+    let o = at_most_greatest z u _ t w.is_greatest k.shows.type in
+    let g : (l -ℤ w.greatest) ≤ℤ u = omega linear in
+    let r = segments_rise z _ u valid.transitions.rising valid.leaps g in
+    let e = segment_is z _ n (rw w.is_low.sum at b) in grind arith
 
 -- a second that shows the local time by the least offset or a greater one lies at or before a transition's segment that comes after the window
 pub window_most : (z : Zone) (l low high : ℤ) (n : ℕ) (d : Transition) (u o : ℤ) → IsValid z → (w : IsWindow z l low high) → n < length z.transitions
     → high <ℤ (get_or z.transitions n d).unix_leap_time → w.least ≤ℤ o → u +ℤ o ≡ l → segment_of z u ≤ n
-window_most z l low high n d u o valid w h later least e =
-    let r = segments_rise z u (l -ℤ w.least) valid.transitions.rising valid.leaps (omega (arith, ints)) in grind (arith, segment_here)
+window_most z l low _ n d u o valid w h later least e =
+    let r = segments_rise z u (l -ℤ w.least) valid.transitions.rising valid.leaps (omega linear) in grind (arith, segment_here)
 
 pub none_behind : (z : Zone) (l low high : ℤ) (n : ℕ) (d : Transition) (answer : LocalResult LocalType) → IsValid z → IsWindow z l low high
     → n < length z.transitions → high <ℤ (get_or z.transitions n d).unix_leap_time → IsWallAnswer (IsShownIn z l (n + 1)) answer
     → IsWallAnswer (Shows (TypeAt z) l) answer
-none_behind z l low high n d answer valid w h later s = same_answer (IsShownIn z l (n + 1)) (Shows (TypeAt z) l) answer (λ u t k. k.shows)
+none_behind z l low _ n d _ valid w h later s = same_answer _ _ _ (λ u t k. k.shows)
     (λ u t k. record {
       shows = k;
       from = omega arith;
-      below = let most = window_most z l low high n d u t.offset valid w h later
-          (at_least_least z u w.least t w.is_least k.type) k.shown in omega arith;
+      below = let most = window_most z l low _ n d u _ valid w h later
+          (at_least_least z u _ t w.is_least k.type) k.shown in omega arith;
     }) s
 
 window_least : {X : Type 0} (p : X → Bool) (xs : List X) (a b : ℕ) → b ≤ length xs → ((k : ℕ) (d : X) → a ≤ k → k < b → p (get_or xs k d) ≡ true)
@@ -127,7 +130,7 @@ window_least p (x ∷ xs) (suc a) (suc b) h all =
 -- the transitions walked through lie in the window
 pub walked_most : (ts : List Transition) (low high : ℤ) (first place : ℕ) → Between ts low first first → place ≤ length ts
     → ((k : ℕ) (d : Transition) → first ≤ k → k < place → (get_or ts k d).unix_leap_time ≤ℤ high) → place ≤ first + length (come_between ts low high)
-walked_most ts low high first place b w inside = grind (arith, window_least)
+walked_most ts low _ _ _ b w inside = grind (arith, window_least)
 
 -- the walk has come to that place: the transitions from the first on lie in the window, and one search and a look at each of them were counted
 pub record Walked (z : Zone) (high : ℤ) (first place : ℕ) (a b : Counts) : Type 0 where
@@ -140,29 +143,28 @@ pub record Walked (z : Zone) (high : ℤ) (first place : ℕ) (a b : Counts) : T
 
 pub walked_more : (z : Zone) (high : ℤ) (first place : ℕ) (x : Transition) (a b c : Counts) → place < length z.transitions → Walked z high first place a b
     → x ≡ get_or z.transitions place x → x.unix_leap_time ≤ℤ high → c ≡ reads_more b 1 → Walked z high first (place + 1) a c
-walked_more z high first place x a b c within w item le cost = rw cost (record {
+walked_more z _ _ place x a b c within w item le cost = rw cost (record {
   inside = λ k d l m. elim (cases_lt k place) [
     | inl i ↦ w.inside k d l i
     | inr i ↦
         let same : k ≡ place = omega arith in
         let g = ap (λ (t : Transition). t.unix_leap_time) (get_or_default z.transitions place d x within ∙ sym item) in
-        rw same (omega (arith, ints))
+        rw same (omega linear)
   ];
   kept = omega arith;
   most = omega arith;
   questions = w.questions;
   pieces = w.pieces;
-  looked = λ h. let l = w.looked h in omega arith;
+  looked = λ h. omega arith;
 })
 
 pub one_look : (b c : Counts) → c ≡ reads_more b 1 → RoseWithin b c 1 2
-one_look b c cost =
-    rw cost (record { reads_kept = omega arith; reads_most = omega arith; questions_kept = omega arith; questions_most = omega arith; pieces_same = refl })
+one_look b c cost = grind (linear, cost)
 
 pub rose_by_walk : (z : Zone) (l low high : ℤ) (first place n : ℕ) (a b c : Counts) → IsWindow z l low high → Between z.transitions low first first
     → place ≤ length z.transitions → Walked z high first place a b → n ≤ 1 → RoseWithin b c n 2 → RoseByWalk z l a c
-rose_by_walk z l low high first place n a b c window split within w one r =
-    let walked = walked_most z.transitions low high first place split within w.inside in
+rose_by_walk z l low high _ _ n a b c window split within w one r =
+    let walked = walked_most _ low _ _ _ split within w.inside in
     record {
       window = length (come_between z.transitions low high);
       counted = record { low = low; high = high; window = window; count = refl };
@@ -175,5 +177,5 @@ rose_by_walk z l low high first place n a b c window split within w one r =
             pieces_same = r.pieces_same
                 ∙ w.pieces;
           };
-      least = λ h. let k = w.looked h in omega arith;
+      least = λ h. omega arith;
     }

@@ -1,35 +1,34 @@
 -- What follows from a wall clock's answer.
 use Rattle.offset_core.specs.declared.local_result.LocalResult.TheVariants.{Ambiguous, None, Single}
-use Rattle.tz_info.proofs.Words.{AreShown, IsAmongShown, IsWallAnswer, LocalResult, LocalType, Shows, TypeAt, Zone, arith, ints, one_wall_answer, subst, ℤ}
-use Rattle.tz_info.proofs.Words.{◌-ℤ◌, ◌≡◌}
-use Rattle.tz_info.proofs.ZoneLaws.{type_once}
+use Rattle.tz_info.proofs.{
+  Words.{AreShown, IsAmongShown, IsWallAnswer, LocalResult, LocalType, Shows, TypeAt, Zone, linear, one_wall_answer, ℤ, ◌-ℤ◌, ◌≡◌},
+  ZoneLaws.{type_once},
+}
 
 -- a second shows the local time by one type
 pub shown_once : (z : Zone) (local u : ℤ) (s t : LocalType) → Shows (TypeAt z) local u s → Shows (TypeAt z) local u t → s ≡ t
-shown_once z local u s t a b = type_once z u s t a.type b.type
+shown_once z _ u s t a b = type_once z u s t a.type b.type
 
 pub one_wall_clock : (z : Zone) (local : ℤ) (a b : LocalResult LocalType) → IsWallAnswer (Shows (TypeAt z) local) a
     → IsWallAnswer (Shows (TypeAt z) local) b → a ≡ b
-one_wall_clock z local = one_wall_answer (Shows (TypeAt z) local) (shown_once z local)
+one_wall_clock z local = one_wall_answer (Shows (TypeAt z) local) (shown_once z _)
 
 second_is : (z : Zone) (local u : ℤ) (t : LocalType) → Shows (TypeAt z) local u t → u ≡ local -ℤ t.offset
-second_is z local u t s = let e = s.shown in omega (arith, ints)
+second_is z _ u t s = omega linear
 
 there : (z : Zone) (local u : ℤ) (t : LocalType) → Shows (TypeAt z) local u t → Shows (TypeAt z) local (local -ℤ t.offset) t
-there z local u t s = subst (λ (w : ℤ). Shows (TypeAt z) local w t) (second_is z local u t s) s
+there z local u t s = grind (linear, second_is)
 
 pub are_shown : (z : Zone) (local : ℤ) (answer : LocalResult LocalType) → IsWallAnswer (Shows (TypeAt z) local) answer → AreShown (TypeAt z) local answer
-are_shown z local None h = tt
-are_shown z local (Single t) h = there z local h.second t h.shown
-are_shown z local (Ambiguous a b) h = (there z local h.first a h.at_first, there z local h.last b h.at_last)
+are_shown z _ None h = tt
+are_shown z local (Single t) h = there z _ _ t h.shown
+are_shown z local (Ambiguous a b) h = grind (linear, there)
 
 pub is_among_shown : (z : Zone) (local u : ℤ) (t : LocalType) (answer : LocalResult LocalType) → Shows (TypeAt z) local u t
     → IsWallAnswer (Shows (TypeAt z) local) answer → IsAmongShown local u answer
-is_among_shown z local u t None s h = h u t s
-is_among_shown z local u t (Single a) s h = let e = h.only u t s in let g = second_is z local h.second a h.shown in omega (arith, ints)
+is_among_shown z _ u t None s h = h u t s
+is_among_shown z local u t (Single a) s h = grind (linear, second_is)
 is_among_shown z local u t (Ambiguous a b) s h =
-    let first = second_is z local h.first a h.at_first in
-    let last = second_is z local h.last b h.at_last in
     let low = h.not_before u t s in
     let high = h.not_after u t s in
-    (omega (arith, ints), omega (arith, ints))
+    (omega linear, omega linear)

@@ -1,9 +1,11 @@
 -- Every wall clock has an answer.
-use Rattle.offset_core.specs.declared.local_result.LocalResult.TheVariants.{None, Single}
-use Rattle.tz_info.proofs.Words.{IsRuleOrNone, IsValid, IsWallAnswer, LocalResult, LocalType, Shows, TypeAt, Zone, arith, by_lt_z, inl, inr, ints}
-use Rattle.tz_info.proofs.Words.{joined, neg_ℤ, pos, subst, suc, zero, ℕ, ℤ, ◌+ℤ◌, ◌<ℤ◌, ◌≡◌, ◌≤ℤ◌, ◌⊎◌}
-use Rattle.tz_info.proofs.{AnswerLaws.{behind_answer, same_answer}, ListFaults.{both_known, equal_known}}
-use Rattle.tz_info.proofs.ZoneLaws.{fits_or_not, type_decided, type_not_refused, type_once}
+use Rattle.tz_info.proofs.{
+  AnswerLaws.{behind_answer, same_answer},
+  ListFaults.{both_known, equal_known},
+  Words.{IsRuleOrNone, IsValid, IsWallAnswer, LocalResult, LocalType, Shows, TypeAt, Zone, by_lt_z, inl, inr, joined, linear, neg_ℤ, pos, subst, suc, zero, ℕ},
+  Words.{ℤ, ◌+ℤ◌, ◌<ℤ◌, ◌≡◌, ◌≤ℤ◌, ◌⊎◌},
+  ZoneLaws.{fits_or_not, type_decided, type_not_refused, type_once},
+}
 
 -- each second shows a type, or shows none
 abbrev IsDecided : (ℤ → LocalType → Type 0) → Type 0
@@ -16,24 +18,24 @@ Before p end u t = p u t × (u <ℤ end)
 -- where p takes no second before the start, those before each later end have an answer
 answer_before : (p : ℤ → LocalType → Type 0) → IsDecided p → (start : ℤ) → ((u : ℤ) (t : LocalType) → p u t → start ≤ℤ u) → (n : ℕ)
     → (answer : LocalResult LocalType) × IsWallAnswer (Before p (start +ℤ pos n)) answer
-answer_before p decided start none zero = (None, λ u t h. let l = none u t h.0 in let r = h.1 in absurd (omega (arith, ints, l, r)))
+answer_before p decided start none zero = grind (linear, none)
 answer_before p decided start none (suc n) =
     let earlier = answer_before p decided start none n in
     let last = start +ℤ pos n in
     let end = start +ℤ pos (suc n) in
-    let old : (u : ℤ) (t : LocalType) → Before p last u t → Before p end u t = λ u t h. let r = h.1 in (h.0, omega (arith, ints, r)) in
+    let old : (u : ℤ) (t : LocalType) → Before p last u t → Before p end u t = λ u t h. let r = h.1 in (h.0, omega (linear, r)) in
     let only : (u : ℤ) (t : LocalType) → Before p end u t → Before p last u t ⊎ (u ≡ last) = λ u t h. let r = h.1 in
-    by_lt_z u last (λ less. inl (h.0, less)) (λ more. inr (omega (arith, ints, r, more))) in
+    by_lt_z u last (λ less. inl (h.0, less)) (λ more. inr (omega (linear, r, more))) in
     elim (decided last) [
       | inl found ↦ (
-        joined earlier.0 (Single found.0),
-        behind_answer (Before p last) (Before p end) last found.0 earlier.0 old only (found.1, omega (arith, ints)) (λ u f h. h.1) earlier.1,
+        joined earlier.0 _,
+        behind_answer _ _ _ _ _ old only (found.1, omega linear) (λ u f h. h.1) earlier.1,
       )
       | inr missing ↦ (
         earlier.0,
-        same_answer (Before p last) (Before p end) earlier.0 old (λ u t h. elim (only u t h) [
+        same_answer _ _ _ old (λ u t h. elim (only u t h) [
           | inl i ↦ i
-          | inr e ↦ absurd (missing t (subst (λ (w : ℤ). p w t) e h.0))
+          | inr e ↦ absurd (missing t (subst (λ w. p w t) e h.0))
         ]) earlier.1,
       )
     ]
@@ -43,8 +45,8 @@ shown_or_not : (z : Zone) (local : ℤ) → IsValid z → IsRuleOrNone z.rule �
 shown_or_not z local valid rule u = elim (type_decided z u valid rule) [
   | inl found ↦ elim (both_known (fits_or_not u) (equal_known (u +ℤ found.0.offset) local)) [
     | inl shown ↦ inl (found.0, record { fits = shown.0; type = found.1; shown = shown.1 })
-    | inr other ↦ inr (λ t h. let same = type_once z u t found.0 h.type found.1 in
-        other (h.fits, subst (λ (f : LocalType). u +ℤ f.offset ≡ local) same h.shown))
+    | inr other ↦ inr (λ t h. let same = type_once z u t _ h.type found.1 in
+        other (h.fits, subst (λ f. u +ℤ f.offset ≡ local) same h.shown))
   ]
   | inr refused ↦ inr (λ t h. type_not_refused z u t h.type refused)
 ]
@@ -53,6 +55,5 @@ pub wall_decided : (z : Zone) (local : ℤ) → IsValid z → IsRuleOrNone z.rul
 wall_decided z local valid rule =
     let shows = Shows (TypeAt z) local in
     let start = neg_ℤ (pos 9_223_372_036_854_775_808) in
-    let before = answer_before shows (shown_or_not z local valid rule) start (λ u t h. let f = h.fits in omega (arith, ints)) 18_446_744_073_709_551_616 in
-    let end = start +ℤ pos 18_446_744_073_709_551_616 in
-    (before.0, same_answer (Before shows end) shows before.0 (λ u t h. h.0) (λ u t h. let f = h.fits in (h, omega (arith, ints))) before.1)
+    let before = answer_before shows (shown_or_not z _ valid rule) start (λ u t h. omega linear) 18_446_744_073_709_551_616 in
+    (before.0, same_answer _ _ _ (λ u t h. h.0) (λ u t h. (h, omega linear)) before.1)

@@ -1,24 +1,18 @@
 -- A local time has one window, and one count of the transitions in it.
-use Rattle.tz_info.proofs.Words.{All-contains, IsGreatest, IsLeast, IsWindowCount, List, Zone, ap, arith, come_between, correction_at, ints, length, sym, ℕ, ℤ}
-use Rattle.tz_info.proofs.Words.{◌+ℤ◌, ◌-ℤ◌, ◌∙◌, ◌≡◌, ◌≤ℤ◌}
+use Rattle.tz_info.proofs.Words.{IsGreatest, IsLeast, IsWindowCount, List, Zone, ap, come_between, correction_at, length, linear, sym, ℕ, ℤ, ◌+ℤ◌, ◌-ℤ◌, ◌∙◌}
+use Rattle.tz_info.proofs.Words.{◌≡◌}
 
 greatest_once : (xs : List ℤ) (g h : ℤ) → IsGreatest xs g → IsGreatest xs h → g ≡ h
-greatest_once xs g h a b =
-    let p = All-contains (λ x. x ≤ℤ h) xs g b.most a.among in
-    let q = All-contains (λ x. x ≤ℤ g) xs h a.most b.among in
-    omega (arith, ints)
+greatest_once xs g h a b = grind linear
 
 least_once : (xs : List ℤ) (g h : ℤ) → IsLeast xs g → IsLeast xs h → g ≡ h
-least_once xs g h a b =
-    let p = All-contains (λ x. h ≤ℤ x) xs g b.fewest a.among in
-    let q = All-contains (λ x. g ≤ℤ x) xs h a.fewest b.among in
-    omega (arith, ints)
+least_once xs g h a b = grind linear
 
 pub window_count_once : (z : Zone) (local : ℤ) (j k : ℕ) → IsWindowCount z local j → IsWindowCount z local k → j ≡ k
 window_count_once z local j k a b =
     let v = a.window in
     let w = b.window in
     let leap : ℤ → ℤ = λ o. (local -ℤ o) +ℤ correction_at z.leaps (local -ℤ o) in
-    let low = v.is_low.sum ∙ ap leap (greatest_once _ v.greatest w.greatest v.is_greatest w.is_greatest) ∙ sym w.is_low.sum in
-    let high = v.is_high.sum ∙ ap leap (least_once _ v.least w.least v.is_least w.is_least) ∙ sym w.is_high.sum in
-    a.count ∙ ap (λ x. length (come_between z.transitions x a.high)) low ∙ ap (λ y. length (come_between z.transitions b.low y)) high ∙ sym b.count
+    let low = v.is_low.sum ∙ ap leap (greatest_once _ _ _ v.is_greatest w.is_greatest) ∙ sym w.is_low.sum in
+    let high = v.is_high.sum ∙ ap leap (least_once _ _ _ v.is_least w.is_least) ∙ sym w.is_high.sum in
+    a.count ∙ ap (λ x. length (come_between _ x a.high)) low ∙ ap (λ y. length (come_between _ b.low y)) high ∙ sym b.count

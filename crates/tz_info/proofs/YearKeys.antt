@@ -1,23 +1,25 @@
 -- Years of one key have changes at the same places.
 use Rattle.std.proofs.{Math.Dec.{eqb}, lemmas.Bool.{eqb-true}}
-use Rattle.tz_info.proofs.Words.{Bool, List, all_below, and_parts, ap, arith, cond, false, floor_div, floor_mod, floor_mod_parts, floors, get_or, int_le}
-use Rattle.tz_info.proofs.Words.{int_lt, length}
-use Rattle.tz_info.proofs.Words.{ints, is_between, is_leap, kind_place, nat_le, nat_lt, pos, refl, sym, true, weekday_below, weekday_of, year_start, year_step, ℕ, ℤ}
-use Rattle.tz_info.proofs.Words.{◌*ℤ◌, ◌+ℤ◌, ◌-ℤ◌, ◌%◌, ◌&&◌, ◌<◌, ◌∙◌, ◌≡◌, ◌≤ℤ◌}
-use Rattle.tz_info.specs.Steps.ChangingYears.{dst_near, flips_at, has_flip, is_changing, key_years, leap_place, moment_by, turns_in, year_key, years_near}
-use Rattle.tz_info.specs.Steps.Turns.{dst_by}
-use Rattle.tz_info.specs.declared.{rule.changing.YearsNear.{YearsNear}, rule.moments.Turns.{Turns}}
-use Rattle.tz_info.proofs.ListLaws.{one_true}
+use Rattle.tz_info.proofs.{
+  ListLaws.{one_true},
+  Words.{Bool, List, all_below, and_parts, ap, arith, cond, false, floor_div, floor_mod, floor_mod_parts, floors, get_or, int_le, int_lt, is_between, is_leap},
+  Words.{kind_place, length, linear, nat_le, nat_lt, pos, refl, sym, true, weekday_below, weekday_of, year_start, year_step, ℕ, ℤ, ◌%◌, ◌&&◌, ◌*ℤ◌, ◌+ℤ◌},
+  Words.{◌-ℤ◌, ◌<◌, ◌∙◌, ◌≡◌, ◌≤ℤ◌},
+}
+use Rattle.tz_info.specs.{
+  Steps.{ChangingYears.{dst_near, flips_at, has_flip, is_changing, key_years, leap_place, moment_by, turns_in, year_key, years_near}, Turns.{dst_by}},
+  declared.rule.{changing.YearsNear.{YearsNear}, moments.Turns.{Turns}},
+}
 
 -- ---- the same seconds, all as much later
 between_later : (x y u k : ℤ) → is_between (x +ℤ k) (y +ℤ k) (u +ℤ k) ≡ is_between x y u
-between_later x y u k = grind (arith, ints)
+between_later x y u k = grind linear
 
 le_later : (x y k : ℤ) → int_le (x +ℤ k) (y +ℤ k) ≡ int_le x y
-le_later x y k = grind (arith, ints)
+le_later x y k = grind arith
 
 lt_later : (x y k : ℤ) → int_lt (x +ℤ k) (y +ℤ k) ≡ int_lt x y
-lt_later x y k = grind (arith, ints)
+lt_later x y k = grind arith
 
 moved : Turns → ℤ → Turns
 moved t k = record { start = t.start +ℤ k; end = t.end +ℤ k }
@@ -26,14 +28,14 @@ dst_moved : (a b c : Turns) (u k : ℤ) → dst_by (moved a k) (moved b k) (move
 unfolding moved
 dst_moved a b c u k =
     rw (
-      le_later b.start b.end k,
-      between_later a.start a.end u k,
-      between_later b.start b.end u k,
-      between_later c.start c.end u k,
-      between_later a.end a.start u k,
-      between_later b.end b.start u k,
-      between_later c.end c.start u k,
-    ) refl
+      le_later _ _ k,
+      between_later _ _ u k,
+      between_later _ _ u k,
+      between_later _ _ u k,
+      between_later _ _ u k,
+      between_later _ _ u k,
+      between_later _ _ u k,
+    )
 
 all_moved : YearsNear → ℤ → YearsNear
 all_moved y k = record {
@@ -47,26 +49,26 @@ all_moved y k = record {
 
 near_moved : (y : YearsNear) (u k : ℤ) → dst_near (all_moved y k) (u +ℤ k) ≡ dst_near y u
 unfolding all_moved
-near_moved y u k = rw (lt_later u y.next k, dst_moved y.before y.here y.after u k, dst_moved y.here y.after y.later u k) refl
+near_moved y u k = rw (lt_later u _ k, dst_moved _ _ _ u k, dst_moved _ _ _ u k)
 
 flip_moved : (y : YearsNear) (u k : ℤ) → flips_at (all_moved y k) (u +ℤ k) ≡ flips_at y u
 unfolding all_moved
 flip_moved y u k =
-    let e : (u +ℤ k) -ℤ pos 1 ≡ (u -ℤ pos 1) +ℤ k = omega (arith, ints) in
-    rw (e, le_later u y.first k, lt_later y.next u k, near_moved y u k, near_moved y (u -ℤ pos 1) k) refl
+    let e : (u +ℤ k) -ℤ pos 1 ≡ (u -ℤ pos 1) +ℤ k = omega linear in
+    rw (e, le_later u _ k, lt_later _ u k, near_moved y u k, near_moved y _ k)
 
 has_moved : (y : YearsNear) (k : ℤ) → has_flip (all_moved y k) ≡ has_flip y
 unfolding all_moved moved
 has_moved y k =
     rw (
-      flip_moved y y.before.start k,
-      flip_moved y y.before.end k,
-      flip_moved y y.here.start k,
-      flip_moved y y.here.end k,
-      flip_moved y y.after.start k,
-      flip_moved y y.after.end k,
-      flip_moved y y.next k,
-    ) refl
+      flip_moved y _ k,
+      flip_moved y _ k,
+      flip_moved y _ k,
+      flip_moved y _ k,
+      flip_moved y _ k,
+      flip_moved y _ k,
+      flip_moved y _ k,
+    )
 
 -- ---- years of one key
 -- one of four years is a leap year at most
@@ -77,12 +79,10 @@ record LeapsAlike (x y : ℤ) : Type 0 where
   later : is_leap (x +ℤ pos 2) ≡ is_leap (y +ℤ pos 2)
 
 leap_fourth : (z : ℤ) → is_leap z ≡ true → floor_mod z 4 ≡ 0
-leap_fourth z h = eqb-true (floor_mod z 4) 0 (and_parts _ _ h).0
+leap_fourth z h = grind linear
 
 one_leap : (z w : ℤ) (n : ℕ) → w ≡ z +ℤ pos n → 0 < n → n < 4 → is_leap z ≡ true → is_leap w ≡ true → ⊥
-one_leap z w n e low high h k =
-    let a = leap_fourth z h in let b = leap_fourth w k in
-    let c = floor_mod_parts z 4 (omega arith) in let d = floor_mod_parts w 4 (omega arith) in omega (arith, ints)
+one_leap z w n e low high h k = grind (linear, leap_fourth)
 
 -- at most one of these tests holds, so its place gives the result of each
 abbrev place_of : Bool → Bool → Bool → Bool → ℕ
@@ -113,44 +113,45 @@ solo_at false false false false h = (refl, refl, refl, refl)
 leaps_solo : (x : ℤ) → IsSolo (is_leap (x -ℤ pos 1)) (is_leap x) (is_leap (x +ℤ pos 1)) (is_leap (x +ℤ pos 2))
 unfolding IsSolo
 leaps_solo x = (
-  one_leap (x -ℤ pos 1) x 1 (omega (arith, ints)) (omega arith) (omega arith),
-  one_leap (x -ℤ pos 1) (x +ℤ pos 1) 2 (omega (arith, ints)) (omega arith) (omega arith),
-  one_leap (x -ℤ pos 1) (x +ℤ pos 2) 3 (omega (arith, ints)) (omega arith) (omega arith),
-  one_leap x (x +ℤ pos 1) 1 refl (omega arith) (omega arith),
-  one_leap x (x +ℤ pos 2) 2 refl (omega arith) (omega arith),
-  one_leap (x +ℤ pos 1) (x +ℤ pos 2) 1 (omega (arith, ints)) (omega arith) (omega arith),
+  one_leap (x -ℤ pos 1) x 1 (omega linear) (omega arith) (omega arith),
+  one_leap (x -ℤ pos 1) (x +ℤ pos 1) 2 (omega linear) (omega arith) (omega arith),
+  one_leap (x -ℤ pos 1) (x +ℤ pos 2) 3 (omega linear) (omega arith) (omega arith),
+  one_leap x _ 1 refl (omega arith) (omega arith),
+  one_leap x _ 2 refl (omega arith) (omega arith),
+  one_leap (x +ℤ pos 1) (x +ℤ pos 2) 1 (omega linear) (omega arith) (omega arith),
 )
 
 leaps_alike : (x y : ℤ) → leap_place x ≡ leap_place y → LeapsAlike x y
 leaps_alike x y e =
-    let a = solo_at (is_leap (x -ℤ pos 1)) (is_leap x) (is_leap (x +ℤ pos 1)) (is_leap (x +ℤ pos 2)) (leaps_solo x) in
-    let b = solo_at (is_leap (y -ℤ pos 1)) (is_leap y) (is_leap (y +ℤ pos 1)) (is_leap (y +ℤ pos 2)) (leaps_solo y) in
+    let a = solo_at _ _ _ _ (leaps_solo x) in
+    let b = solo_at _ _ _ _ (leaps_solo y) in
     let at : (k : ℕ) → test_at k (leap_place x) ≡ test_at k (leap_place y) = λ k. ap (λ n. test_at k n) e in
     record { before = a.0 ∙ at 0 ∙ sym b.0; here = a.1 ∙ at 1 ∙ sym b.1; after = a.2 ∙ at 2 ∙ sym b.2; later = a.3 ∙ at 3 ∙ sym b.3 }
 
 leap_places : (x y : ℤ) → year_key x ≡ year_key y → (leap_place x ≡ leap_place y) × (weekday_of (year_start x) ≡ weekday_of (year_start y))
-leap_places x y e = grind (arith, floors)
+leap_places x y e = grind arith
 
 -- the one year's days are those of the other one, whole weeks later
 weeks : (s t : ℤ) → weekday_of s ≡ weekday_of t → (q : ℤ) × (t ≡ s +ℤ pos 7 *ℤ q)
 weeks s t e =
     let a = floor_mod_parts (s +ℤ pos 4) 7 (omega arith) in let b = floor_mod_parts (t +ℤ pos 4) 7 (omega arith) in
-    (floor_div (t +ℤ pos 4) 7 -ℤ floor_div (s +ℤ pos 4) 7, omega (arith, ints))
+    (floor_div (t +ℤ pos 4) 7 -ℤ floor_div (s +ℤ pos 4) 7, omega linear)
 
 weekday_on : (s q : ℤ) → weekday_of (s +ℤ pos 7 *ℤ q) ≡ weekday_of s
 weekday_on s q = grind arith
 
-kind_same : (x y : ℤ) (q : ℤ) → is_leap x ≡ is_leap y → year_start y ≡ year_start x +ℤ pos 7 *ℤ q → kind_place y ≡ kind_place x
-kind_same x y q leap start = rw (← leap, start, weekday_on (year_start x) q) refl
+-- two years whose starts are whole weeks apart
+module _ (x y q : ℤ) (leap : is_leap x ≡ is_leap y) (start : year_start y ≡ year_start x +ℤ pos 7 *ℤ q) where
+  kind_same : kind_place y ≡ kind_place x
+  kind_same = rw (← leap, start, weekday_on _ q)
 
-moment_moved : (seconds : List ℤ) (x y q : ℤ) → is_leap x ≡ is_leap y → year_start y ≡ year_start x +ℤ pos 7 *ℤ q
-    → moment_by seconds y ≡ moment_by seconds x +ℤ pos 86_400 *ℤ (pos 7 *ℤ q)
-moment_moved seconds x y q leap start = rw (kind_same x y q leap start) (omega (arith, ints))
+  moment_moved : (seconds : List ℤ) → moment_by seconds y ≡ moment_by seconds x +ℤ pos 86_400 *ℤ (pos 7 *ℤ q)
+  moment_moved _ = rw (kind_same) (omega linear)
 
-turns_moved : (starts ends : List ℤ) (x y q : ℤ) → is_leap x ≡ is_leap y → year_start y ≡ year_start x +ℤ pos 7 *ℤ q
-    → turns_in (moment_by starts) (moment_by ends) y ≡ moved (turns_in (moment_by starts) (moment_by ends) x) (pos 86_400 *ℤ (pos 7 *ℤ q))
-unfolding moved
-turns_moved starts ends x y q leap start = rw (moment_moved starts x y q leap start, moment_moved ends x y q leap start) refl
+  turns_moved : (starts ends : List ℤ)
+      → turns_in (moment_by starts) (moment_by ends) y ≡ moved (turns_in (moment_by starts) (moment_by ends) x) (pos 86_400 *ℤ (pos 7 *ℤ q))
+  unfolding moved
+  turns_moved _ _ = rw (moment_moved _, moment_moved _)
 
 -- the years before and after them begin as many weeks later too
 record StartsAlike (x y q : ℤ) : Type 0 where
@@ -161,42 +162,43 @@ record StartsAlike (x y q : ℤ) : Type 0 where
 next_alike : (x y q : ℤ) → is_leap x ≡ is_leap y → year_start y ≡ year_start x +ℤ pos 7 *ℤ q → year_start (y +ℤ pos 1) ≡ year_start (x +ℤ pos 1) +ℤ pos 7 *ℤ q
 next_alike x y q leap start = let a = year_step x in let b = rw (← leap) at (year_step y) in omega (arith, floors)
 
-starts_alike : (x y q : ℤ) → LeapsAlike x y → year_start y ≡ year_start x +ℤ pos 7 *ℤ q → StartsAlike x y q
-starts_alike x y q leaps start =
-    let after = next_alike x y q leaps.here start in
-    let e : (x +ℤ pos 1) +ℤ pos 1 ≡ x +ℤ pos 2 = omega (arith, ints) in
-    let f : (y +ℤ pos 1) +ℤ pos 1 ≡ y +ℤ pos 2 = omega (arith, ints) in
-    let g : (x -ℤ pos 1) +ℤ pos 1 ≡ x = omega (arith, ints) in
-    let h : (y -ℤ pos 1) +ℤ pos 1 ≡ y = omega (arith, ints) in
-    let a = rw g at (year_step (x -ℤ pos 1)) in let b = rw (h, ← leaps.before) at (year_step (y -ℤ pos 1)) in
-    record { before = omega (arith, floors); after = after; later = rw (e, f) at (next_alike (x +ℤ pos 1) (y +ℤ pos 1) q leaps.after after) }
+-- two years whose starts are whole weeks apart
+module _ (x y q : ℤ) (leaps : LeapsAlike x y) (start : year_start y ≡ year_start x +ℤ pos 7 *ℤ q) where
+  starts_alike : StartsAlike x y q
+  starts_alike =
+      let after = next_alike x y q leaps.here start in
+      let e : (x +ℤ pos 1) +ℤ pos 1 ≡ x +ℤ pos 2 = omega linear in
+      let f : (y +ℤ pos 1) +ℤ pos 1 ≡ y +ℤ pos 2 = omega linear in
+      let g : (x -ℤ pos 1) +ℤ pos 1 ≡ x = omega linear in
+      let h : (y -ℤ pos 1) +ℤ pos 1 ≡ y = omega linear in
+      let a = rw g at (year_step (x -ℤ pos 1)) in let b = rw (h, ← leaps.before) at (year_step (y -ℤ pos 1)) in
+      record { before = omega (arith, floors); after = after; later = rw (e, f) at (next_alike _ _ q leaps.after after) }
 
-near_alike : (starts ends : List ℤ) (x y q : ℤ) → LeapsAlike x y → year_start y ≡ year_start x +ℤ pos 7 *ℤ q
-    → years_near (moment_by starts) (moment_by ends) y ≡ all_moved (years_near (moment_by starts) (moment_by ends) x) (pos 86_400 *ℤ (pos 7 *ℤ q))
-unfolding all_moved
-near_alike starts ends x y q leaps start =
-    let s = starts_alike x y q leaps start in
-    let first : pos 86_400 *ℤ year_start y ≡ pos 86_400 *ℤ year_start x +ℤ pos 86_400 *ℤ (pos 7 *ℤ q) = rw start (omega (arith, ints)) in
-    let next : pos 86_400 *ℤ year_start (y +ℤ pos 1) ≡ pos 86_400 *ℤ year_start (x +ℤ pos 1) +ℤ pos 86_400 *ℤ (pos 7 *ℤ q) = rw s.after (omega (arith, ints)) in
-    let a = turns_moved starts ends (x -ℤ pos 1) (y -ℤ pos 1) q leaps.before s.before in
-    let b = turns_moved starts ends x y q leaps.here start in
-    let c = turns_moved starts ends (x +ℤ pos 1) (y +ℤ pos 1) q leaps.after s.after in
-    let d = turns_moved starts ends (x +ℤ pos 2) (y +ℤ pos 2) q leaps.later s.later in
-    rw (a, b, c, d, first, next) refl
+  near_alike : (starts ends : List ℤ)
+      → years_near (moment_by starts) (moment_by ends) y ≡ all_moved (years_near (moment_by starts) (moment_by ends) x) (pos 86_400 *ℤ (pos 7 *ℤ q))
+  unfolding all_moved
+  near_alike starts ends =
+      let s = starts_alike in
+      let first : pos 86_400 *ℤ year_start y ≡ pos 86_400 *ℤ year_start x +ℤ pos 86_400 *ℤ (pos 7 *ℤ q) = rw start (omega linear) in
+      let next : pos 86_400 *ℤ year_start (y +ℤ pos 1) ≡ pos 86_400 *ℤ year_start (x +ℤ pos 1) +ℤ pos 86_400 *ℤ (pos 7 *ℤ q) = rw s.after (omega linear) in
+      let a = turns_moved _ _ q leaps.before s.before starts ends in
+      let b = turns_moved x y q leaps.here start starts ends in
+      let c = turns_moved _ _ q leaps.after s.after starts ends in
+      let d = turns_moved (x +ℤ pos 2) (y +ℤ pos 2) q leaps.later s.later starts ends in
+      rw (a, b, c, d, first, next)
 
-by_calm : (starts ends : List ℤ) (calm : Bool) (x y q : ℤ) → LeapsAlike x y → year_start y ≡ year_start x +ℤ pos 7 *ℤ q
-    → is_changing starts ends calm y ≡ is_changing starts ends calm x
-by_calm starts ends true x y q leaps start = rw (kind_same x y q leaps.here start) refl
-by_calm starts ends false x y q leaps start = ap (λ n. has_flip n) (near_alike starts ends x y q leaps start)
-    ∙ has_moved (years_near (moment_by starts) (moment_by ends) x) (pos 86_400 *ℤ (pos 7 *ℤ q))
+  by_calm : (starts ends : List ℤ) (calm : Bool) → is_changing starts ends calm y ≡ is_changing starts ends calm x
+  by_calm _ _ true = rw (kind_same x y q leaps.here start)
+  by_calm starts ends false = ap (λ n. has_flip n) (near_alike _ _)
+      ∙ has_moved _ _
 
 -- they change alike
 pub changing_alike : (starts ends : List ℤ) (calm : Bool) (x y : ℤ) → year_key x ≡ year_key y → is_changing starts ends calm y ≡ is_changing starts ends calm x
-changing_alike starts ends calm x y e =
+changing_alike _ _ _ x y e =
     let (places, weekday) = leap_places x y e in
     let leaps = leaps_alike x y places in
-    let (q, start) = weeks (year_start x) (year_start y) weekday in
-    by_calm starts ends calm x y q leaps start
+    let (q, start) = weeks _ _ weekday in
+    by_calm x y q leaps start _ _ _
 
 -- the year of each key has that key
 each_key : all_below 35 (λ k. eqb (year_key (get_or key_years k (pos 0))) k) ≡ true
@@ -230,7 +232,7 @@ year_bounds k h =
     let at = get_or key_years k (pos 0) in
     let (low, high) = and_parts (int_le (pos 2000) at) (int_le at (pos 2299))
     (one_true 35 k (λ k. int_le (pos 2000) (get_or key_years k (pos 0)) && int_le (get_or key_years k (pos 0)) (pos 2299)) h each_bound) in
-    (grind (arith, ints), grind (arith, ints))
+    (grind arith, grind arith)
 
 place_below : (a b c d : Bool) → place_of a b c d < 5
 place_below true b c d = omega arith

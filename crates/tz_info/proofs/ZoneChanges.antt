@@ -1,26 +1,29 @@
 -- When a zone's types change: at its transitions, and after them when the rule's types do.
 use Rattle.std.proofs.lemmas.List.Sums.{sum_by-le-sum_by}
-use Rattle.tz_info.proofs.Words.{Alternate as AlternateRule, AlternateAt, AreLeapSeconds, Change, Bool}
-use Rattle.tz_info.proofs.Words.{HasNoChange, false, true, HaveCome, IsAhead, IsBegin, IsChangeByRule, IsChange, IsFirst, IsFirstChange, IsInTable}
-use Rattle.tz_info.proofs.Words.{IsLast, IsLastChange, IsLeapTime, IsLeapTimeRefused, IsNearest, IsOutOfForce, IsRuleTime, IsValid, LeapSecond, List, LocalType}
-use Rattle.tz_info.proofs.Words.{Option, RuleOrType, SFits, Some, TypeAt, Zone, arith, cases_lt, cond}
-use Rattle.tz_info.proofs.Words.{get_or, inl, inr, int_le, ints, length, nat_tests, passed_count, pos, refl, segment_of, suc, sym}
-use Rattle.tz_info.proofs.Words.{thresholds, w64, zero, ℕ, ℤ, ◌-ℤ◌, ◌-◌, ◌<ℤ◌, ◌<◌, ◌↔◌, ◌∙◌, ◌≡◌, ◌≤ℤ◌, ◌≤◌, ◌⊎◌}
+use Rattle.tz_info.proofs.{
+  ChangeSearch.{nearest_moved},
+  GapLaws.{HasOneType, one_type},
+  LeapEntries.{follow, threshold_at},
+  LeapOrder.{bounded},
+  LeapStarts.{correction_behind, reached_later, times_rise},
+  RuleChanges.{rule_second},
+  SegmentLaws.{come_at_time, later_segment, segment_at, segment_most, segments_rise, type_from, type_in_from},
+  Words.{Alternate as AlternateRule, AlternateAt, AreLeapSeconds, Bool, Change, HasNoChange, HaveCome, IsAhead, IsBegin, IsChange, IsChangeByRule, IsFirst},
+  Words.{IsFirstChange, IsInTable, IsLast, IsLastChange, IsLeapTime, IsLeapTimeRefused, IsNearest, IsOutOfForce, IsRuleTime, IsValid, LeapSecond, List},
+  Words.{LocalType, Option, RuleOrType, SFits, Some, TypeAt, Zone, arith, cases_lt, cond, get_or, inl, inr, int_le, length, linear, passed_count, pos, refl},
+  Words.{segment_of, suc, sym, thresholds, w64, zero, ℕ, ℤ, ◌-ℤ◌, ◌-◌, ◌<ℤ◌, ◌<◌, ◌↔◌, ◌∙◌, ◌≡◌, ◌≤ℤ◌, ◌≤◌, ◌⊎◌},
+  ZoneLaws.{leap_time_decided, type_once},
+}
 use Rattle.tz_info.specs.declared.rule.transition_rule.TransitionRule.TheVariants.{Alternate}
-use Rattle.tz_info.proofs.{ChangeSearch.{nearest_moved}, GapLaws.{HasOneType, one_type}, LeapEntries.{follow, threshold_at}, LeapOrder.{bounded}}
-use Rattle.tz_info.proofs.{LeapStarts.{correction_behind, reached_later, times_rise}, RuleChanges.{rule_second}}
-use Rattle.tz_info.proofs.SegmentLaws.{come_at_time, later_segment, segment_at, segment_most, segments_rise, type_from, type_in_from}
-use Rattle.tz_info.proofs.ZoneLaws.{leap_time_decided, type_once}
 
 -- ---- which seconds have a leap time
 one_counted : (t u v : ℤ) → u ≤ℤ v → cond (int_le t u) 1 0 ≤ cond (int_le t v) 1 0
-one_counted t u v h = grind (arith, ints, nat_tests)
+one_counted t u v h = grind arith
 
 -- before a second with a leap time each has one
 pub refused_on : (es : List LeapSecond) (u v y : ℤ) → AreLeapSeconds es → u ≤ℤ v → IsLeapTimeRefused es u → IsLeapTime es v y → ⊥
 refused_on es u v y valid h r l =
-    let b = bounded (pos 0) (pos 0) u es r.place (follow es valid) (λ d k. let f = (valid.first d k).since_epoch in omega (arith, ints)) r.passed in
-    let a = b.later in let n = b.least in
+    let b = bounded _ (pos 0) u es _ (follow es valid) (λ d k. let f = (valid.first d k).since_epoch in omega linear) r.passed in
     let more : passed_count es u ≤ passed_count es v =
     sum_by-le-sum_by (λ t. cond (int_le t u) 1 0) (λ t. cond (int_le t v) 1 0) (thresholds (pos 0) es) (λ t. one_counted t u v h) in grind arith
 
@@ -29,9 +32,8 @@ pub rule_leap_time : (es : List LeapSecond) (u : ℤ) → AreLeapSeconds es → 
 rule_leap_time es u valid within = elim (leap_time_decided es u) [
   | inl x ↦ x
   | inr r ↦
-      let low = within.0 in let high = within.1 in
-      let b = bounded (pos 0) (pos 0) u es r.place (follow es valid) (λ d l. let f = (valid.first d l).since_epoch in omega (arith, ints)) r.passed in
-      let a = b.later in let m = b.most in grind arith
+      let b = bounded _ (pos 0) u es _ (follow es valid) (λ d l. let f = (valid.first d l).since_epoch in omega linear) r.passed in
+      grind arith
 ]
 
 -- ---- segments
@@ -44,8 +46,8 @@ changes_segment : (z : Zone) (d : Change) → IsValid z → IsChange (TypeAt z) 
 changes_segment z d valid is one = elim (cases_lt (segment_of z (d.at -ℤ pos 1)) (segment_of z d.at)) [
   | inl l ↦ l
   | inr m ↦
-      let r = segments_rise z (d.at -ℤ pos 1) d.at valid.transitions.rising valid.leaps (omega (arith, ints)) in
-      absurd (is.differ (one_type z (segment_of z (d.at -ℤ pos 1)) (d.at -ℤ pos 1) d.at d.before d.after valid one refl (omega arith) is.before is.after))
+      let r = segments_rise z (d.at -ℤ pos 1) d.at valid.transitions.rising valid.leaps (omega linear) in
+      absurd (is.differ (one_type z _ _ _ _ _ valid one refl (omega arith) is.before is.after))
 ]
 
 -- ---- after the last transition
@@ -55,44 +57,43 @@ last_too z u valid e = grind (arith, segments_rise, segment_most)
 -- without a rule of two types nothing changes there
 pub steady : (z : Zone) (within : ℤ → Type 0) → IsValid z → ((a : AlternateRule) → z.rule ≡ Some (Alternate a) → ⊥)
     → HasNoChange (TypeAt z) (IsChangeByRule z within)
-steady z within valid not d is inside = grind (arith, changes_segment, segment_most)
+steady z _ valid not d is inside = grind (arith, changes_segment, segment_most)
 
-pub to_rule : (z : Zone) (a : AlternateRule) (u : ℤ) (t : LocalType) → IsValid z → z.rule ≡ Some (Alternate a) → segment_of z u ≡ length z.transitions
-    → TypeAt z u t → AlternateAt a u t
-to_rule z a u t valid rule e k = rw rule at (type_from z u t valid.transitions.rising (record { type = k; segment = e }))
+-- a second at which the zone's rule answers
+module _ (z : Zone) (a : AlternateRule) (u : ℤ) (t : LocalType) (rule : z.rule ≡ Some (Alternate a)) where
+  pub to_rule : IsValid z → segment_of z u ≡ length z.transitions → TypeAt z u t → AlternateAt a u t
+  to_rule valid e k = rw rule at (type_from z u t valid.transitions.rising (record { type = k; segment = e }))
 
-of_rule_or : (z : Zone) (a : AlternateRule) (u : ℤ) (i : ℕ) (t : LocalType) → z.rule ≡ Some (Alternate a) → AlternateAt a u t → RuleOrType z u i t
-of_rule_or z a u i t rule k = rw rule k
+  of_rule_or : (i : ℕ) → AlternateAt a u t → RuleOrType z u i t
+  of_rule_or i k = rw rule k
 
-by_rule_alone : (z : Zone) (a : AlternateRule) (u : ℤ) (t : LocalType) → z.rule ≡ Some (Alternate a) → length z.transitions ≡ 0
-    → AlternateAt a u t → TypeAt z u t
-by_rule_alone z a u t rule none k = grind arith
+  by_rule_alone : length z.transitions ≡ 0 → AlternateAt a u t → TypeAt z u t
+  by_rule_alone none k = grind arith
 
-pub from_rule : (z : Zone) (a : AlternateRule) (u : ℤ) (t : LocalType) → IsValid z → z.rule ≡ Some (Alternate a) → segment_of z u ≡ length z.transitions
-    → AlternateAt a u t → TypeAt z u t
-from_rule z a u t valid rule e k = elim (cases_lt 0 (length z.transitions)) [
-  | inl some ↦
-      let x = rule_leap_time z.leaps u valid.leaps (rule_second a u t k) in
-      let b = segment_at z u (length z.transitions) valid.transitions.rising e in
-      (type_in_from z u x.0 t x.1 (rw (← x.1.sum) at b) (of_rule_or z a u _ t rule k)).type
-  | inr none ↦ by_rule_alone z a u t rule (omega arith) k
-]
+  pub from_rule : IsValid z → segment_of z u ≡ length z.transitions → AlternateAt a u t → TypeAt z u t
+  from_rule valid e k = elim (cases_lt 0 (length z.transitions)) [
+    | inl some ↦
+        let x = rule_leap_time _ u valid.leaps (rule_second a u t k) in
+        let b = segment_at z u _ valid.transitions.rising e in
+        (type_in_from z u x.0 t x.1 (rw (← x.1.sum) at b) (of_rule_or _ k)).type
+    | inr none ↦ by_rule_alone (omega arith) k
+  ]
 
 -- `begin` comes no later than a second with a type at which all have come
 pub begun : (z : Zone) (begin u : ℤ) (t : LocalType) → IsValid z → IsBegin z begin → SFits w64 u → TypeAt z u t → segment_of z u ≡ length z.transitions
     → begin ≤ℤ u
-begun z begin u t valid h fits k e = elim (cases_lt 0 (length z.transitions)) [
-  | inl some ↦ let l = time_of z u t some k in (h.comes u k.leap_time fits l).0 (come_at_time z u k.leap_time l ∙ e)
-  | inr none ↦ let b = h.alone (omega arith) in omega (arith, ints)
+begun z _ u t valid h fits k e = elim (cases_lt 0 (length z.transitions)) [
+  | inl some ↦ let l = time_of z u t some k in (h.comes u k.leap_time fits l).0 (come_at_time z u _ l ∙ e)
+  | inr none ↦ omega linear
 ]
 
 pub begins : (z : Zone) (begin u : ℤ) → IsValid z → IsBegin z begin → IsRuleTime u → begin ≤ℤ u → segment_of z u ≡ length z.transitions
-begins z begin u valid h within from =
+begins z _ u valid h within from =
     let m = segment_most z u valid.transitions.rising in
     elim (cases_lt 0 (length z.transitions)) [
       | inl some ↦
-          let x = rule_leap_time z.leaps u valid.leaps within in
-          sym (come_at_time z u x.0 x.1) ∙ (h.comes u x.0 (omega (arith, ints, within)) x.1).1 from
+          let x = rule_leap_time _ u valid.leaps within in
+          sym (come_at_time z u x.0 x.1) ∙ (h.comes u x.0 (omega linear) x.1).1 from
       | inr none ↦ omega arith
     ]
 
@@ -101,15 +102,14 @@ by_rule : (z : Zone) (a : AlternateRule) (begin : ℤ) (d : Change) → IsValid 
     → (IsChange (TypeAt z) d × (segment_of z (d.at -ℤ pos 1) ≡ length z.transitions)) ↔ (IsChange (AlternateAt a) d × (begin <ℤ d.at))
 by_rule z a begin d valid rule h = (
   λ k.
-      let is = k.0 in let b = begun z begin (d.at -ℤ pos 1) d.before valid h is.fits_before is.before k.1 in grind (arith, to_rule, last_too),
+      let is = k.0 in let b = begun z _ _ _ valid h is.fits_before is.before k.1 in grind (arith, to_rule, last_too),
   λ k.
-      let is = k.0 in let l = k.1 in
-      let e = begins z begin (d.at -ℤ pos 1) valid h (rule_second a (d.at -ℤ pos 1) d.before is.before) (omega (arith, ints)) in (
+      let is = k.0 in let e = begins z _ (d.at -ℤ pos 1) valid h (rule_second a (d.at -ℤ pos 1) _ is.before) (omega linear) in (
         record {
           fits = is.fits;
           fits_before = is.fits_before;
-          before = from_rule z a (d.at -ℤ pos 1) d.before valid rule e is.before;
-          after = from_rule z a d.at d.after valid rule (last_too z d.at valid e) is.after;
+          before = from_rule z a _ _ rule valid e is.before;
+          after = from_rule z a _ _ rule valid (last_too z _ valid e) is.after;
           differ = is.differ;
         },
         e,
@@ -118,56 +118,55 @@ by_rule z a begin d valid rule h = (
 
 pub rule_found : (z : Zone) (a : AlternateRule) (w : Bool) (s begin : ℤ) (found : Option Change) → IsValid z → z.rule ≡ Some (Alternate a) → IsBegin z begin
     → IsNearest w (AlternateAt a) (λ u. (begin <ℤ u) × IsAhead w s u) found → IsNearest w (TypeAt z) (IsChangeByRule z (IsAhead w s)) found
-rule_found z a w s begin found valid rule h =
-    nearest_moved w (AlternateAt a) (TypeAt z) (λ u. (begin <ℤ u) × IsAhead w s u) (IsChangeByRule z (IsAhead w s)) found
-    (λ d is inside. let k = (by_rule z a begin d valid rule h).0 (is, inside.by_rule) in (k.0, (k.1, inside.inside)))
-    (λ d is inside. let k = (by_rule z a begin d valid rule h).1 (is, inside.0) in (k.0, record { inside = inside.1; by_rule = k.1 }))
+rule_found z a w s begin _ valid rule h =
+    nearest_moved w _ _ (λ u. (begin <ℤ u) × IsAhead w s u) _ _
+    (λ d is inside. let k = (by_rule z a _ d valid rule h).0 (is, inside.by_rule) in (k.0, (k.1, inside.inside)))
+    (λ d is inside. let k = (by_rule z a _ d valid rule h).1 (is, inside.0) in (k.0, record { inside = inside.1; by_rule = k.1 }))
 
 -- if none of those seconds comes after `begin`, no change comes at one after the last transition
 pub none_begun : (z : Zone) (within : ℤ → Type 0) (begin : ℤ) → IsValid z → IsBegin z begin → ((u : ℤ) → SFits w64 u → within u → u ≤ℤ begin)
     → HasNoChange (TypeAt z) (IsChangeByRule z within)
-none_begun z within begin valid h most d is inside =
-    let b = begun z begin (d.at -ℤ pos 1) d.before valid h is.fits_before is.before inside.by_rule in grind arith
+none_begun z _ _ valid h most d is inside =
+    let b = begun z _ _ _ valid h is.fits_before is.before inside.by_rule in grind arith
 
 -- ---- the table's changes come before the rule's
 in_either : (z : Zone) (within : ℤ → Type 0) (u : ℤ) → IsValid z → within u → IsInTable z within u ⊎ IsChangeByRule z within u
-in_either z within u valid inside = grind (arith, segment_most)
+in_either z _ u valid inside = grind (arith, segment_most)
 
 table_sooner : (z : Zone) (within : ℤ → Type 0) (u v : ℤ) → IsValid z → IsInTable z within u → IsChangeByRule z within v → u ≤ℤ v
-table_sooner z within u v valid t r =
-    let l = t.table in let m = r.by_rule in
+table_sooner z _ u v valid t r =
     let k = later_segment z (u -ℤ pos 1) (v -ℤ pos 1) valid (omega arith) in
-    omega (arith, ints)
+    omega linear
 
 pub table_first : (z : Zone) (within : ℤ → Type 0) (c : Change) → IsValid z → IsFirstChange (TypeAt z) (IsInTable z within) c
     → IsFirstChange (TypeAt z) within c
 table_first z within c valid h = record {
   is = h.is;
   inside = h.inside.inside;
-  nearest = λ d is inside. elim (in_either z within d.at valid inside) [ inl t ↦ h.nearest d is t | inr r ↦ table_sooner z within c.at d.at valid h.inside r ];
+  nearest = λ d is inside. elim (in_either z _ _ valid inside) [ inl t ↦ h.nearest d is t | inr r ↦ table_sooner z _ _ _ valid h.inside r ];
 }
 
 pub rule_first : (z : Zone) (within : ℤ → Type 0) (found : Option Change) → IsValid z → HasNoChange (TypeAt z) (IsInTable z within)
     → IsFirst (TypeAt z) (IsChangeByRule z within) found → IsFirst (TypeAt z) within found
-rule_first z within found valid none =
-    nearest_moved true (TypeAt z) (TypeAt z) (IsChangeByRule z within) within found
-    (λ d is inside. elim (in_either z within d.at valid inside) [ inl t ↦ absurd (none d is t) | inr r ↦ (is, r) ])
+rule_first z _ _ valid none =
+    nearest_moved _ _ _ _ _ _
+    (λ d is inside. elim (in_either z _ _ valid inside) [ inl t ↦ absurd (none d is t) | inr r ↦ (is, r) ])
     (λ d is inside. (is, inside.inside))
 
 -- ---- the rule's changes come after the table's
 pub rule_is_last : (z : Zone) (within : ℤ → Type 0) (c : Change) → IsValid z → IsLastChange (TypeAt z) (IsChangeByRule z within) c
     → IsLastChange (TypeAt z) within c
-rule_is_last z within c valid h = record {
+rule_is_last z _ c valid h = record {
   is = h.is;
   inside = h.inside.inside;
-  nearest = λ d is inside. elim (in_either z within d.at valid inside) [ inl t ↦ table_sooner z within d.at c.at valid t h.inside | inr r ↦ h.nearest d is r ];
+  nearest = λ d is inside. elim (in_either z _ _ valid inside) [ inl t ↦ table_sooner z _ _ _ valid t h.inside | inr r ↦ h.nearest d is r ];
 }
 
 pub table_is_last : (z : Zone) (within : ℤ → Type 0) (found : Option Change) → IsValid z → HasNoChange (TypeAt z) (IsChangeByRule z within)
     → IsLast (TypeAt z) (IsInTable z within) found → IsLast (TypeAt z) within found
-table_is_last z within found valid none =
-    nearest_moved false (TypeAt z) (TypeAt z) (IsInTable z within) within found
-    (λ d is inside. elim (in_either z within d.at valid inside) [ inl t ↦ (is, t) | inr r ↦ absurd (none d is r) ])
+table_is_last z _ _ valid none =
+    nearest_moved _ _ _ _ _ _
+    (λ d is inside. elim (in_either z _ _ valid inside) [ inl t ↦ (is, t) | inr r ↦ absurd (none d is r) ])
     (λ d is inside. (is, inside.inside))
 
 -- ---- the first second at which a leap time has come
@@ -179,15 +178,15 @@ reached_exactly es x u y p q (suc m) d valid h some e f l =
     let one : suc m - 1 ≡ m = omega arith in
     let t = threshold_at (pos 0) es m d (pos 0) (omega arith) in
     let g : p ≡ correction_behind es m = rw one at e in
-    let r = reached_later es x u y m d valid h l in
-    rw (one, f) ((λ k. let s = r.0 k in let a = s.0 in (omega (arith, ints), s.1)), (λ k. let a = k.0 in r.1 (omega (arith, ints), k.1)))
+    let r = reached_later es d valid x u y m h l in
+    rw (one, f) ((λ k. let s = r.0 k in (omega linear, s.1)), (λ k. r.1 (omega linear, k.1)))
 
 pub entry_late : (es : List LeapSecond) (i : ℕ) (d : LeapSecond) → AreLeapSeconds es → i < length es → pos 0 ≤ℤ (get_or es i d).unix_leap_time
-entry_late es i d valid h = let r = times_rise es 0 i d valid (omega arith) h in let f = (valid.first d (omega arith)).since_epoch in omega (arith, ints)
+entry_late es i d valid h = let r = times_rise es d valid 0 i (omega arith) h in let f = (valid.first d (omega arith)).since_epoch in omega linear
 
 -- ---- at the ends of a span
 pub out_before : (z : Zone) (c : Change) → IsChange (TypeAt z) c → IsOutOfForce (TypeAt z) c.after (c.at -ℤ pos 1)
-out_before z c is = record { fits = is.fits_before; out = λ k. is.differ (type_once z (c.at -ℤ pos 1) c.before c.after is.before k) }
+out_before z c is = record { fits = is.fits_before; out = λ k. is.differ (type_once z _ _ _ is.before k) }
 
 pub out_from : (z : Zone) (c : Change) → IsChange (TypeAt z) c → IsOutOfForce (TypeAt z) c.before c.at
-out_from z c is = record { fits = is.fits; out = λ k. is.differ (type_once z c.at c.before c.after k is.after) }
+out_from z c is = record { fits = is.fits; out = λ k. is.differ (type_once z _ _ _ k is.after) }

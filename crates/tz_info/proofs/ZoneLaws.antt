@@ -1,24 +1,24 @@
 -- At each second a zone has one type, of its list or of its rule, or it is refused, and never both.
-use Rattle.tz_info.proofs.Words.{HasType, IsBeforeLast, IsFromLast, IsLeapTime, IsLeapTimeRefused, IsRefusedBy, IsRuleOrNone}
-use Rattle.tz_info.proofs.Words.{IsTypeOf, IsTypeRefused, IsValid, LeapSecond, List, LocalType, None, Option, RuleOrElse, SFits, Some, Transition}
-use Rattle.tz_info.proofs.Words.{TransitionRule, TypeAt, Zone, arith, by_leap_time, by_lt_z, by_rule, cases_lt, correction_at, corrections}
-use Rattle.tz_info.proofs.Words.{count_by-le-length, get_or, index_at, inl, inr, int_le, ints, last_else, le_false, le_true, length, length-filter, map}
-use Rattle.tz_info.proofs.Words.{error_number, passed, passed_count, pos, refl, slice_get, suc, sym, type_error, w64, zero, zone_of_rule, ℕ, ℤ, [], ⊎_elim}
-use Rattle.tz_info.proofs.Words.{◌+ℤ◌, ◌<◌, ◌∙◌, ◌∷◌, ◌≡◌, ◌≤◌, ◌⊎◌}
 use Rattle.std.proofs.lemmas.Option.{slice_get_cases, slice_get_within}
-use Rattle.tz_info.proofs.{RuleLaws.{rule_decided, rule_once}, SegmentLaws.{passed_here}}
+use Rattle.tz_info.proofs.{
+  RuleLaws.{rule_decided, rule_once},
+  SegmentLaws.{passed_here},
+  Words.{HasType, IsBeforeLast, IsFromLast, IsLeapTime, IsLeapTimeRefused, IsRefusedBy, IsRuleOrNone, IsTypeOf, IsTypeRefused, IsValid, LeapSecond, List},
+  Words.{LocalType, None, Option, RuleOrElse, SFits, Some, Transition, TransitionRule, TypeAt, Zone, [], arith, by_leap_time, by_lt_z, by_rule, cases_lt},
+  Words.{correction_at, corrections, count_by-le-length, error_number, get_or, index_at, inl, inr, int_le, last_else, le_false, le_true, length, length-filter},
+  Words.{linear, map, passed, pos, refl, slice_get, suc, sym, type_error, w64, zero, zone_of_rule, ℕ, ℤ, ⊎_elim, ◌+ℤ◌, ◌<◌, ◌∙◌, ◌∷◌, ◌≡◌, ◌≤◌, ◌⊎◌},
+}
 
 passed_at_most : (z : Zone) (x : ℤ) → length (passed z.transitions x) ≤ length z.transitions
 passed_at_most z x =
     omega (
       arith,
-      length-filter (λ (t : Transition). int_le t.unix_leap_time x) z.transitions,
-      count_by-le-length (λ (t : Transition). int_le t.unix_leap_time x) z.transitions,
+      length-filter (λ t. int_le t.unix_leap_time x) z.transitions,
+      count_by-le-length (λ t. int_le t.unix_leap_time x) z.transitions,
     )
 
 pub before_or_from_last : (z : Zone) (x : ℤ) → IsBeforeLast z x ⊎ IsFromLast z x
-before_or_from_last z x = let l = passed_at_most z x in
-    ⊎_elim (λ h. inl h) (λ h. inr (omega arith)) (cases_lt (length (passed z.transitions x)) (length z.transitions))
+before_or_from_last z x = grind (linear, passed_at_most)
 
 -- two leap times of a second pass the same transitions
 pub same_passed : (z : Zone) (u x y : ℤ) → (0 < length z.transitions → IsLeapTime z.leaps u x) → (0 < length z.transitions → IsLeapTime z.leaps u y)
@@ -30,48 +30,48 @@ some_once o s t h k = cc
 
 or_else_once : (rule : Option TransitionRule) (o : Option LocalType) (u : ℤ) (s t : LocalType) → RuleOrElse rule u (o ≡ Some s) s
     → RuleOrElse rule u (o ≡ Some t) t → s ≡ t
-or_else_once (Some rule) o u s t h k = rule_once rule u s t h k
+or_else_once (Some rule) o u s t h k = rule_once _ u s t h k
 or_else_once None o u s t h k = some_once o s t h k
 
 pub type_once : (z : Zone) (u : ℤ) (s t : LocalType) → TypeAt z u s → TypeAt z u t → s ≡ t
-type_once z u s t a b = grind (arith, ints, same_passed, or_else_once, before_or_from_last)
+type_once z u s t a b = grind (linear, same_passed, or_else_once, before_or_from_last)
 
 pub type_not_refused : (z : Zone) (u : ℤ) (t : LocalType) → TypeAt z u t → IsTypeRefused z u → ⊥
-type_not_refused z u t a (by_leap_time some r) = r.leaves ((a.of_second some).fits r.place r.passed)
+type_not_refused z u t a (by_leap_time some r) = grind (linear, some)
 type_not_refused z u t a (by_rule x of_second last refused) = grind (arith, same_passed)
 
 -- an item of a list
 pub inside_listed : {X : Type 0} (xs : List X) (i : ℕ) → i < length xs → (x : X) × (slice_get xs i ≡ Some x)
-inside_listed xs i h = ⊎_elim (λ found. (found.0, found.2)) (λ past. let beyond = past.0 in absurd (omega arith)) (slice_get_cases xs i).1
+inside_listed xs i h = ⊎_elim (λ found. (found.0, found.2)) (λ past. absurd (omega arith)) (slice_get_cases xs i).1
 
 or_else_listed : (rule : Option TransitionRule) (z : Zone) (u : ℤ) (i : ℕ) (t : LocalType) → RuleOrElse rule u (HasType z i t) t
     → ((k : ℕ) × (k < length z.types) × HasType z k t) ⊎ IsTypeOf rule u t
 or_else_listed (Some rule) z u i t h = inr h
-or_else_listed None z u i t h = inl (i, slice_get_within z.types i t h, h)
+or_else_listed None z u i t h = inl (i, slice_get_within _ i t h, h)
 
 -- a type in force is in the list or is the rule's
 pub type_listed : (z : Zone) (u : ℤ) (t : LocalType) → TypeAt z u t → ((k : ℕ) × (k < length z.types) × HasType z k t) ⊎ IsTypeOf z.rule u t
 type_listed z u t a = ⊎_elim
-    (λ h. let k = a.in_force.before_last h in inl (index_at z a.leap_time, slice_get_within z.types (index_at z a.leap_time) t k, k))
-    (λ h. or_else_listed z.rule z u (index_at z a.leap_time) t (a.in_force.from_last h))
-    (before_or_from_last z a.leap_time)
+    (λ h. let k = a.in_force.before_last h in inl (index_at z a.leap_time, slice_get_within _ (index_at z a.leap_time) t k, k))
+    (λ h. or_else_listed _ z u _ t (a.in_force.from_last h))
+    (before_or_from_last z _)
 
 pub fits_or_not : (a : ℤ) → SFits w64 a ⊎ (SFits w64 a → ⊥)
 fits_or_not a = grind arith
 
 -- all of n numbers fit 64 bits, or one does not
 all_fit_or_not : (f : ℕ → ℤ) (n : ℕ) → ((k : ℕ) → k < n → SFits w64 (f k)) ⊎ ((k : ℕ) × (k < n) × (SFits w64 (f k) → ⊥))
-all_fit_or_not f zero = inl (λ k h. absurd (omega arith))
+all_fit_or_not f zero = inl (λ k h. omega arith)
 all_fit_or_not f (suc n) = elim (all_fit_or_not f n) [
-  | inl all ↦ elim (fits_or_not (f n)) [
+  | inl all ↦ elim (fits_or_not _) [
     | inl here ↦ inl (λ k h. elim (cases_lt k n) [ inl l ↦ all k l | inr g ↦ let e : k ≡ n = omega arith in rw e here ])
     | inr out ↦ inr (n, omega arith, out)
   ]
-  | inr some ↦ inr (some.0, let l = some.1 in omega arith, some.2)
+  | inr some ↦ inr (some.0, omega arith, some.2)
 ]
 
 pub leap_time_decided : (leaps : List LeapSecond) (u : ℤ) → ((x : ℤ) × IsLeapTime leaps u x) ⊎ IsLeapTimeRefused leaps u
-leap_time_decided leaps u = elim (all_fit_or_not (λ k. u +ℤ get_or (corrections leaps) k (pos 0)) (passed_count leaps u)) [
+leap_time_decided leaps u = elim (all_fit_or_not (λ k. u +ℤ get_or (corrections leaps) k (pos 0)) _) [
   | inl all ↦ inl (u +ℤ correction_at leaps u, record { sum = refl; fits = all })
   | inr some ↦ inr (record { place = some.0; passed = some.1; leaves = some.2 })
 ]
@@ -81,23 +81,23 @@ pub last_index_below : (ts : List Transition) (x : ℤ) (d n : ℕ) → d < n �
     → last_else d (map (λ t. t.type_index) (passed ts x)) < n
 last_index_below [] x d n h all = h
 last_index_below (t ∷ ts) x d n h all = by_lt_z x t.unix_leap_time
-    (λ later. rw (le_false t.unix_leap_time x later) (last_index_below ts x d n h (λ k e l. all (suc k) e (omega arith))))
-    (λ come. rw (le_true t.unix_leap_time x come) (last_index_below ts x t.type_index n (all 0 t (omega arith)) (λ k e l. all (suc k) e (omega arith))))
+    (λ later. rw (le_false _ x later) (last_index_below ts x d n h (λ k e l. all (suc k) e (omega arith))))
+    (λ come. rw (le_true _ x come) (last_index_below ts x _ n (all 0 t (omega arith)) (λ k e l. all (suc k) e (omega arith))))
 
 or_else_decided : (rule : Option TransitionRule) (z : Zone) (u : ℤ) (i : ℕ) → i < length z.types → IsRuleOrNone rule
     → ((t : LocalType) × RuleOrElse rule u (HasType z i t) t) ⊎ IsRefusedBy rule u
-or_else_decided (Some rule) z u i h limits = rule_decided rule u limits
-or_else_decided None z u i h limits = inl (inside_listed z.types i h)
+or_else_decided (Some rule) z u i h limits = rule_decided _ u limits
+or_else_decided None z u i h limits = inl (inside_listed _ i h)
 
 decided_at : (z : Zone) (u x : ℤ) → IsValid z → IsRuleOrNone z.rule → (0 < length z.transitions → IsLeapTime z.leaps u x)
     → ((t : LocalType) × TypeAt z u t) ⊎ IsTypeRefused z u
 decided_at z u x valid limits of_second =
-    let below = last_index_below z.transitions x 0 (length z.types) valid.some valid.transitions.indexes in
+    let below = last_index_below _ x 0 _ valid.some valid.transitions.indexes in
     elim (before_or_from_last z x) [
       | inl before ↦
-          let t = inside_listed z.types (index_at z x) below in
+          let t = inside_listed _ _ below in
           inl (t.0, record { leap_time = x; of_second = of_second; in_force = record { before_last = λ _. t.1; from_last = λ l. absurd (omega arith) } })
-      | inr last ↦ elim (or_else_decided z.rule z u (index_at z x) below limits) [
+      | inr last ↦ elim (or_else_decided _ z u _ below limits) [
         | inl t ↦ inl
             (t.0, record { leap_time = x; of_second = of_second; in_force = record { before_last = λ l. absurd (omega arith); from_last = λ _. t.1 } })
         | inr refused ↦ inr (by_rule x of_second last refused)
@@ -106,7 +106,7 @@ decided_at z u x valid limits of_second =
 
 pub type_error_number : (z : Zone) (u : ℤ) (refused : IsTypeRefused z u) → error_number (type_error refused) ≡ 2
 type_error_number z u (by_leap_time some refused) = refl
-type_error_number z u (by_rule x of_second last refused) = refl
+type_error_number z u (by_rule x _ _ _) = refl
 
 pub type_decided : (z : Zone) (u : ℤ) → IsValid z → IsRuleOrNone z.rule → ((t : LocalType) × TypeAt z u t) ⊎ IsTypeRefused z u
 type_decided z u valid limits = elim (cases_lt 0 (length z.transitions)) [
@@ -119,5 +119,5 @@ type_decided z u valid limits = elim (cases_lt 0 (length z.transitions)) [
 
 -- a rule and types without transitions make a zone
 pub zone_of_rule_valid : (types : List LocalType) (rule : Option TransitionRule) → 0 < length types → IsValid (zone_of_rule types rule)
-zone_of_rule_valid types (Some rule) some = record { some = some; transitions = search arith; leaps = search arith; agrees = tt }
-zone_of_rule_valid types None some = record { some = some; transitions = search arith; leaps = search arith; agrees = tt }
+zone_of_rule_valid types (Some rule) some = grind (linear, some)
+zone_of_rule_valid types None some = grind (linear, some)

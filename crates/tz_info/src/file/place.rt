@@ -45,6 +45,7 @@ fn place_in_pieces(bytes: &[u8]) -> usize
 }
 
 // The parts follow one another, and the footer ends the file.
+#[tactic(auto, using(crate::proofs::FilePlaceLaws::fit))]
 fn part_places(bytes: &[u8], pieces: &Pieces<'_>) -> PartPlaces
     requires { HasPieces bytes.now (pieces_of pieces.now) }
     ensures places { ArePartPlaces (pieces_of pieces.now) result }

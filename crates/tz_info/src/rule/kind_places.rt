@@ -41,6 +41,7 @@ fn same_places(common: u32, leap: u32) -> [u32; 14]
 }
 
 // The places of the weekday in that week of the month.
+#[tactic(auto, unfolding(crate::specs::Steps::KindPlaces::places_by_kind, crate::specs::Steps::KindPlaces::place_by))]
 fn weekday_places(month: u32, week: u32, weekday: u32) -> [u32; 14]
     requires month_in { IsInRange 1 12 month }
     requires week_in { IsInRange 1 5 week }

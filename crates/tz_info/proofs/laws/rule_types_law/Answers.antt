@@ -8,5 +8,5 @@ returns c =
       apart = rule_not_refused;
       decided = rule_decided;
       times = λ u year of_second.
-          (rule_time u year of_second, rule_year u year of_second);
+          (rule_time u _ of_second, rule_year u _ of_second);
     }

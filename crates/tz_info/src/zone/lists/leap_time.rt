@@ -39,6 +39,7 @@ fn is_passed(entries: &[LeapSecond], place: usize, unix_time: i64) -> bool
 }
 
 // The correction after the first `count` entries.
+#[tactic(auto, using(crate::proofs::SearchWords::ints, crate::proofs::Prefixes::last_taken))]
 pub(super) fn correction_after(entries: &[LeapSecond], count: usize) -> i32
     requires { count ≤ length entries.now }
     ensures { result ≡ last_else (pos 0) (corrections (take count entries.now)) }

@@ -6,9 +6,9 @@ not_magic : (bytes : List ℕ) (x : List ℕ × List ℕ) → HasOtherMagic byte
 not_magic bytes x h k m = let t = (lawful (Exact 4) bytes).takes x k in h.1 ((exact_cut 4 bytes x.0 x.1 t.0 t.1).0 ∙ (magic_test x.0).decides.0 m)
 
 pub returns-in_err-front-clause-magic : goal.returns-in_err-front-clause-magic
-returns-in_err-front-clause-magic c = λ h. absurd (omega (arith, h.0, ((lawful (Exact 4) c.args.cursor.now).fails _ c.in_err-front.ensures.value).0))
+returns-in_err-front-clause-magic c = λ h. absurd (omega (arith, ((lawful (Exact 4) _).fails _ c.in_err-front.ensures.value).0))
 
 pub returns-clause-magic : goal.returns-clause-magic
 returns-clause-magic c =
-    λ h. not_magic c.args.cursor.now _ h c.in_ok-front.ensures.value
+    λ h. not_magic _ _ h c.in_ok-front.ensures.value
     (not-false (is_magic c.in_ok-front.front.now) (sym (rw c.as_slice.ensures at c.ne.ensures) ∙ c.if-ne.false))

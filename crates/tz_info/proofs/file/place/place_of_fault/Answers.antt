@@ -1,18 +1,17 @@
-use Rattle.tz_info.proofs.Words.{pieces_of}
-use Rattle.tz_info.proofs.FilePieceLaws.{has_lengths, pieces_law}
+use Rattle.tz_info.proofs.{FilePieceLaws.{has_lengths, pieces_law}, Words.{pieces_of}}
 use Rattle.tz_info.specs.FilePlaces.{In_contents, In_piece}
 use Rattle.tz_info.proofs.file.place.place_of_fault.Goals as goal
 
 pub part_places-requires : goal.part_places-requires
-part_places-requires c = (pieces_law c.args.bytes.now).takes _ c.in-Ok.ensures.pieces
+part_places-requires c = (pieces_law _).takes _ c.in-Ok.ensures.pieces
 
 pub place_in_contents-requires-clause-lengths : goal.place_in_contents-requires-clause-lengths
-place_in_contents-requires-clause-lengths c = has_lengths c.args.bytes.now _ ((pieces_law c.args.bytes.now).takes _ c.in-Ok.ensures.pieces)
+place_in_contents-requires-clause-lengths c = has_lengths _ _ ((pieces_law _).takes _ c.in-Ok.ensures.pieces)
 
 pub returns-in-Ok : goal.returns-in-Ok
 returns-in-Ok c =
-    In_contents (pieces_of c.in-Ok.pieces) c.part_places.result _ ((pieces_law c.args.bytes.now).takes _ c.in-Ok.ensures.pieces) c.part_places.ensures.places
+    In_contents (pieces_of c.in-Ok.pieces) _ _ ((pieces_law _).takes _ c.in-Ok.ensures.pieces) c.part_places.ensures.places
     c.part_places.ensures.end c.place_in_contents.ensures
 
 pub returns-in-Err : goal.returns-in-Err
-returns-in-Err c = rw c.place_in_pieces.ensures (In_piece _ ((pieces_law c.args.bytes.now).fails _ c.in-Err.ensures.pieces))
+returns-in-Err c = rw c.place_in_pieces.ensures (In_piece _ ((pieces_law _).fails _ c.in-Err.ensures.pieces))

@@ -1,12 +1,12 @@
-use Rattle.tz_info.proofs.{Words.{err_from_is_err_and, pieces_of}, FilePieceLaws.{has_lengths, pieces_law}, TzFileLaws.{no_pieces, reads}}
+use Rattle.tz_info.proofs.{FilePieceLaws.{has_lengths, pieces_law}, TzFileLaws.{no_pieces, reads}, Words.{err_from_is_err_and}}
 use Rattle.tz_info.proofs.file.reader.read_lists.Goals as goal
 
 pub lists_of-requires : goal.lists_of-requires
-lists_of-requires c = has_lengths c.args.bytes.now _ ((pieces_law c.args.bytes.now).takes _ c.in_ok-pieces.ensures.pieces)
+lists_of-requires c = has_lengths _ _ ((pieces_law _).takes _ c.in_ok-pieces.ensures.pieces)
 
 pub returns-clause-lists : goal.returns-clause-lists
-returns-clause-lists c = reads c.args.bytes.now (pieces_of c.in_ok-pieces.pieces) c.lists_of.result c.in_ok-pieces.ensures.pieces c.lists_of.ensures
+returns-clause-lists c = reads _ _ _ c.in_ok-pieces.ensures.pieces c.lists_of.ensures
 
 pub returns-in_err-pieces-clause-lists : goal.returns-in_err-pieces-clause-lists
 returns-in_err-pieces-clause-lists c = let p = err_from_is_err_and c.from_residual.result c.from_residual.ensures.1 in
-    rw (p.1, p.2) (no_pieces c.args.bytes.now _ c.in_err-pieces.ensures.pieces)
+    rw (p.1, p.2) (no_pieces _ _ c.in_err-pieces.ensures.pieces)

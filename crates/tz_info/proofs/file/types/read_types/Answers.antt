@@ -4,5 +4,5 @@ use Rattle.tz_info.proofs.file.types.read_types.Goals as goal
 pub returns-in_err-read_next : goal.returns-in_err-read_next
 returns-in_err-read_next c =
     let p = err_from_is_err_and c.from_residual-in_err-read_next.result c.from_residual-in_err-read_next.ensures.1 in
-    rw (p.1, p.2) (next_refused c.args.count c.loop-k.k c.args.designations.now c.args.part.now _ _ c.loop-k-test.true c.loop-k.invariant
+    rw (p.1, p.2) (next_refused _ _ _ _ _ _ c.loop-k-test.true c.loop-k.invariant
     (rw c.record_at.ensures.value at c.in_err-read_next.ensures))

@@ -1,52 +1,48 @@
-use Rattle.tz_info.proofs.SearchWords.{AreEnds, AreHints, SFits, arith, ints, length, length-map, map, pow_pos, rules, to_z-of_z, w64, ◌≡◌}
-use Rattle.tz_info.proofs.{HintLaws.{near_hinted}, SearchSteps.{all_passed, digits-halved, none_passed}, timeline.Timeline.passed.Given.{Over}}
-use Rattle.tz_info.proofs.timeline.Timeline.passed.Goals.{After-self}
+use Rattle.tz_info.proofs.{
+  HintLaws.{near_hinted},
+  SearchSteps.{all_passed, digits-halved, none_passed},
+  SearchWords.{AreEnds, AreHints, SFits, arith, length, length-map, linear, map, pow_pos, rules, to_z-of_z, w64, ◌≡◌},
+  timeline.Timeline.passed.Given.{Over},
+  timeline.Timeline.passed.Goals.{After-self},
+}
 use Rattle.tz_info.proofs.timeline.Timeline.passed.Goals as goal
 
 -- what was given fits, and the first time, the last one and the hints are those of the items
 kept : (g : Over) (c : After-self g) → SFits w64 c.args.second × (length (map g.T.Timed.time c.args.self.now) ≡ length c.args.self.now)
     × AreEnds (map g.T.Timed.time c.args.self.now) c.self.inside.ends × AreHints (map g.T.Timed.time c.args.self.now) c.self.inside.hints
-kept g c = (c.ranges.second, length-map c.args.self.now g.T.Timed.time, rw (← c.self.view_is) c.self.invariant.1, rw (← c.self.view_is) c.self.invariant.2)
+kept g c = (c.ranges.second, length-map _ g.T.Timed.time, rw (← c.self.view_is) c.self.invariant.1, rw (← c.self.view_is) c.self.invariant.2)
 
 pub read-requires-clause-room : goal.read-requires-clause-room
 read-requires-clause-room g c =
-    let n = c.len-count.ensures.count in
-    let some = digits-halved (length c.args.self.now) (omega arith) in grind (arith, ints)
+    let some = digits-halved (length c.args.self.now) (omega arith) in grind arith
 
 pub returns-then-self-second-clause-passed : goal.returns-then-self-second-clause-passed
 returns-then-self-second-clause-passed g c =
     let (fv, long, ends, hints) = kept g (goal.at.returns-then-self-second-clause-passed g c).After-self in
-    let last : SFits w64 c.self.inside.ends.last = search rules in
-    let n = c.len-count.ensures.count in
-    all_passed _ c.args.second c.len-count.result c.self.inside.ends c.len-count.ensures.ordered (omega arith) (omega arith) ends (omega (arith, ints))
+    all_passed _ _ _ _ c.len-count.ensures.ordered (omega arith) (omega arith) ends (omega linear)
 
 pub returns-then-self-second-clause-cost : goal.returns-then-self-second-clause-cost
-returns-then-self-second-clause-cost g c = λ h. let some = digits-halved (length c.args.self.now) h in grind (arith, ints)
+returns-then-self-second-clause-cost g c = λ h. let some = digits-halved _ h in grind arith
 
 pub count_look-requires : goal.count_look-requires
 count_look-requires g c =
-    let n = c.len-count.ensures.count in
-    let some = digits-halved (length c.args.self.now) (omega arith) in grind (arith, ints)
+    let some = digits-halved (length c.args.self.now) (omega arith) in grind arith
 
 pub returns-then-second-self-clause-passed : goal.returns-then-second-self-clause-passed
 returns-then-second-self-clause-passed g c =
     let (fv, long, ends, hints) = kept g (goal.at.returns-then-second-self-clause-passed g c).After-self in
-    let first : SFits w64 c.self.inside.ends.first = search rules in
-    let n = c.len-count.ensures.count in
-    none_passed _ c.args.second c.self.inside.ends c.len-count.ensures.ordered (omega arith) ends (omega (arith, ints))
+    none_passed _ _ _ c.len-count.ensures.ordered (omega arith) ends (omega linear)
 
 pub returns-then-second-self-clause-cost : goal.returns-then-second-self-clause-cost
-returns-then-second-self-clause-cost g c = λ h. let some = digits-halved (length c.args.self.now) h in grind (arith, ints)
+returns-then-second-self-clause-cost g c = λ h. let some = digits-halved _ h in grind arith
 
 pub passed_near-requires-clause-near : goal.passed_near-requires-clause-near
 passed_near-requires-clause-near g c =
     let (fv, long, ends, hints) = kept g (goal.at.passed_near-requires-clause-near g c).After-self in
     let first : SFits w64 c.self.inside.ends.first = search rules in
-    let last : SFits w64 c.self.inside.ends.last = search rules in
-    let n = c.len-count.ensures.count in
     let between = simp to_z-of_z at c.seconds_between.ensures in
-    simp to_z-of_z (near_hinted _ c.args.second c.self.inside.hints c.self.inside.ends c.seconds_between.result c.in-Some.near c.len-count.ensures.ordered
-    (omega arith) (omega arith) ends hints (omega (arith, ints)) between (pow_pos c.self.inside.hints.shift) c.in-Some.ensures)
+    simp to_z-of_z (near_hinted _ _ _ _ _ _ c.len-count.ensures.ordered
+    (omega arith) (omega arith) ends hints (omega linear) between (pow_pos c.self.inside.hints.shift) c.in-Some.ensures)
 
 pub passed_by_halves-requires-clause-left : goal.passed_by_halves-requires-clause-left
-passed_by_halves-requires-clause-left g c = grind (arith, ints, kept, to_z-of_z)
+passed_by_halves-requires-clause-left g c = grind (arith, kept)

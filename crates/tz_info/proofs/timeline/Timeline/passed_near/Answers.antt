@@ -1,50 +1,48 @@
-use Rattle.tz_info.proofs.{SearchWords.{Counts, ap, arith, length, to_z-of_z, ◌∙◌}, SearchSteps.{digits-halved, digits-three, near_one, one_step, two_steps}}
+use Rattle.tz_info.proofs.{SearchSteps.{digits-halved, digits-three, near_one, one_step, two_steps}, SearchWords.{ap, arith, ◌∙◌}}
 use Rattle.tz_info.proofs.timeline.Timeline.passed_near.Goals as goal
-use Rattle.tz_info.proofs.timeline.Timeline.passed_near.Goals.{then-left-gt1+then-left-gt1-2, then-left-gt1+else-left-gt1-2, else-left-gt1}
+use Rattle.tz_info.proofs.timeline.Timeline.passed_near.Goals.{else-left-gt1, then-left-gt1+else-left-gt1-2, then-left-gt1+then-left-gt1-2}
 
 pub narrowed-once-requires-clause-room : goal.narrowed-once-requires-clause-room
-narrowed-once-requires-clause-room g c = let three = digits-three (length c.args.self.now) c.requires.many in grind arith
+narrowed-once-requires-clause-room g c = let three = digits-three _ c.requires.many in grind arith
 
 pub narrowed-left-requires-clause-room : goal.narrowed-left-requires-clause-room
-narrowed-left-requires-clause-room g c = let three = digits-three (length c.args.self.now) c.requires.many in grind arith
+narrowed-left-requires-clause-room g c = let three = digits-three _ c.requires.many in grind arith
 
 pub narrowed-left-requires-then-left-gt1-clause-room : goal.narrowed-left-requires-then-left-gt1-clause-room
-narrowed-left-requires-then-left-gt1-clause-room g c = let three = digits-three (length c.args.self.now) c.requires.many in
-    grind (arith, g.met.T.Timed.counts_looks)
+narrowed-left-requires-then-left-gt1-clause-room g c = let three = digits-three _ c.requires.many in
+    grind arith
 
 pub narrowed-left-requires-then-left-gt1-2-clause-room : goal.narrowed-left-requires-then-left-gt1-2-clause-room
 narrowed-left-requires-then-left-gt1-2-clause-room g c =
-    let most = two_steps c.args.near.count c.narrowed-left.result.count (length c.args.self.now) c.requires.near.some c.requires.narrow c.requires.many
-    (let once = c.narrowed-once.ensures.count in let twice = c.narrowed-left.ensures.count in omega arith) in
-    grind (arith, one_step, digits-halved, g.met.T.Timed.counts_looks)
+    grind (arith, digits-halved)
 
 pub loop-left-init : goal.loop-left-init
 loop-left-init g c =
-    let most = two_steps c.args.near.count c.narrowed-left.result.count (length c.args.self.now) c.requires.near.some c.requires.narrow c.requires.many
-    (let once = c.narrowed-once.ensures.count in let twice = c.narrowed-left.ensures.count in omega arith) in
-    let two = c.narrowed-left.ensures.cost ∙ ap (λ (p : Counts). g.T.Timed.counted p 1) c.narrowed-once.ensures.cost
-    ∙ g.met.T.Timed.counts_up c.args.probes.now 1 1 in
+    let most = two_steps _ c.narrowed-left.result.count _ c.requires.near.some c.requires.narrow c.requires.many
+    (omega arith) in
+    let two = c.narrowed-left.ensures.cost ∙ ap (λ p. g.T.Timed.counted p 1) c.narrowed-once.ensures.cost
+    ∙ g.met.T.Timed.counts_up _ 1 1 in
     elim c.if-left-gt1.branch [
       | then-left-gt1+then-left-gt1-2 w ↦
-          let three = w.narrowed-left-then-left-gt1.ensures.cost ∙ ap (λ (p : Counts). g.T.Timed.counted p 1) two
-          ∙ g.met.T.Timed.counts_up c.args.probes.now 2 1 in
-          let four = w.narrowed-left-then-left-gt1-2.ensures.cost ∙ ap (λ (p : Counts). g.T.Timed.counted p 1) three
-          ∙ g.met.T.Timed.counts_up c.args.probes.now 3 1 in
+          let three = w.narrowed-left-then-left-gt1.ensures.cost ∙ ap (λ p. g.T.Timed.counted p 1) two
+          ∙ g.met.T.Timed.counts_up _ 2 1 in
+          let four = w.narrowed-left-then-left-gt1-2.ensures.cost ∙ ap (λ p. g.T.Timed.counted p 1) three
+          ∙ g.met.T.Timed.counts_up _ 3 1 in
           record { near = grind arith; looks = 4; most = grind (arith, one_step); counts = w.probes-is ∙ four }
       | then-left-gt1+else-left-gt1-2 w ↦
-          let three = w.narrowed-left-then-left-gt1.ensures.cost ∙ ap (λ (p : Counts). g.T.Timed.counted p 1) two
-          ∙ g.met.T.Timed.counts_up c.args.probes.now 2 1 in
+          let three = w.narrowed-left-then-left-gt1.ensures.cost ∙ ap (λ p. g.T.Timed.counted p 1) two
+          ∙ g.met.T.Timed.counts_up _ 2 1 in
           record { near = grind arith; looks = 3; most = grind (arith, one_step); counts = w.probes-is ∙ three }
       | else-left-gt1 w ↦ record { near = grind arith; looks = 2; most = grind arith; counts = w.probes-is ∙ two }
     ]
 
 pub loop-left-preserved : goal.loop-left-preserved
-loop-left-preserved g c = let inv = c.loop-left.invariant in grind (arith, one_step)
+loop-left-preserved g c = grind (arith, one_step)
 
 pub returns-clause-passed : goal.returns-clause-passed
 returns-clause-passed g c =
     let fv = c.ranges.second in
-    let near = simp to_z-of_z at c.loop-left.invariant.near in grind (arith, near_one)
+    grind (arith, near_one)
 
 pub returns-clause-cost : goal.returns-clause-cost
-returns-clause-cost g c = let inv = c.loop-left.invariant in grind arith
+returns-clause-cost g c = grind arith

@@ -1,9 +1,8 @@
-use Rattle.tz_info.proofs.Words.{arith, pieces_of}
-use Rattle.tz_info.proofs.FilePlaceLaws.{next_type, type_place}
+use Rattle.tz_info.proofs.{FilePlaceLaws.{next_type, type_place}, Words.{arith, pieces_of}}
 use Rattle.tz_info.proofs.file.place.contents.fault_in_types.Goals as goal
 
 pub loop-k-preserved : goal.loop-k-preserved
-loop-k-preserved c = next_type (pieces_of c.args.pieces.now) c.loop-k.k c.in_default.field-0 c.loop-k.invariant
+loop-k-preserved c = next_type (pieces_of c.args.pieces.now) _ _ c.loop-k.invariant
     (rw c.record_at.ensures.value at c.in_default.ensures)
 
 pub returns : goal.returns
@@ -11,5 +10,5 @@ returns c = λ k l. c.loop-k.invariant k (omega arith)
 
 pub returns-in-Err : goal.returns-in-Err
 returns-in-Err c =
-    rw c.before_field.ensures (type_place (pieces_of c.args.pieces.now) c.loop-k.k c.in-Err.error c.loop-k-test.true c.loop-k.invariant
+    rw c.before_field.ensures (type_place _ _ _ c.loop-k-test.true c.loop-k.invariant
     (rw c.record_at.ensures.value at c.in-Err.ensures))

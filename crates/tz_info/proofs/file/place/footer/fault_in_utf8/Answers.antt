@@ -1,5 +1,4 @@
-use Rattle.tz_info.proofs.Words.{arith, refl, sym, ◌∙◌}
-use Rattle.tz_info.proofs.FilePlaceLaws.{is_between, not_between, text_fits, text_place, text_says}
+use Rattle.tz_info.proofs.{FilePlaceLaws.{is_between, not_between, text_fits, text_place, text_says}, Words.{arith, refl, sym, ◌∙◌}}
 use Rattle.tz_info.specs.FilePlaces.{No_first, No_last}
 use Rattle.tz_info.proofs.file.place.footer.fault_in_utf8.Goals as goal
 
@@ -11,23 +10,23 @@ returns-then-not-is_between_newlines c = (
   c.args.bytes.now,
   refl,
   No_last c.requires (sym c.byte_or_zero.ensures ∙ c.if-byte_or_zero-ne10.false)
-      (not_between c.args.bytes.now (sym c.is_between_newlines.ensures ∙ c.if-not-is_between_newlines.true)),
+      (not_between _ (sym c.is_between_newlines.ensures ∙ c.if-not-is_between_newlines.true)),
 )
 
 pub overflow_add-result : goal.overflow_add-result
 overflow_add-result c =
-    let l = text_fits c.args.extended c.args.bytes.now _ _ _ c.trim_ascii_start-start.ensures.value c.trim_ascii.ensures.value c.in-Some.ensures in omega arith
+    let l = text_fits _ _ _ _ _ c.trim_ascii_start-start.ensures.value c.trim_ascii.ensures.value c.in-Some.ensures in omega arith
 
 pub returns-in-Some : goal.returns-in-Some
 returns-in-Some c = (
   c.args.bytes.now,
   refl,
-  text_place c.args.extended c.args.bytes.now _ _ _ c.requires
-      (is_between c.args.bytes.now (sym c.is_between_newlines.ensures ∙ c.if-not-is_between_newlines.false)) c.trim_ascii_start-start.ensures.value
-      c.trim_ascii.ensures.value c.in-Some.ensures,
+  text_place _ _ _ _ _ c.trim_ascii_start-start.ensures.value
+      c.trim_ascii.ensures.value c.in-Some.ensures
+      c.requires (is_between _ (sym c.is_between_newlines.ensures ∙ c.if-not-is_between_newlines.false)),
 )
 
 pub returns-in-None : goal.returns-in-None
 returns-in-None c =
-    text_says c.args.extended c.args.bytes.now _ c.requires
-    (is_between c.args.bytes.now (sym c.is_between_newlines.ensures ∙ c.if-not-is_between_newlines.false)) c.trim_ascii.ensures.value c.in-None.ensures
+    text_says _ _ _ c.requires
+    (is_between _ (sym c.is_between_newlines.ensures ∙ c.if-not-is_between_newlines.false)) c.trim_ascii.ensures.value c.in-None.ensures

@@ -1,7 +1,6 @@
-use Rattle.tz_info.proofs.Words.{arith, ints, pieces_of}
-use Rattle.tz_info.proofs.FilePlaceLaws.{next_later}
+use Rattle.tz_info.proofs.{FilePlaceLaws.{next_later}, Words.{linear, pieces_of}}
 use Rattle.tz_info.proofs.file.place.lists.first_not_later.Goals as goal
 
 pub loop-k-preserved : goal.loop-k-preserved
-loop-k-preserved c = next_later (pieces_of c.args.pieces.now) c.loop-k.k c.time_at.result c.time_at-in-loop-k.result c.loop-k.invariant c.time_at.ensures
-    c.time_at-in-loop-k.ensures (omega (arith, ints))
+loop-k-preserved c = next_later (pieces_of c.args.pieces.now) _ _ _ c.loop-k.invariant c.time_at.ensures
+    c.time_at-in-loop-k.ensures (omega linear)

@@ -1,10 +1,8 @@
-use Rattle.tz_info.proofs.Words.{arith, pieces_of}
-use Rattle.tz_info.proofs.FilePlaceLaws.{next_false}
-use Rattle.tz_info.specs.FilePlaces.{IsOtherLeap}
+use Rattle.tz_info.proofs.{FilePlaceLaws.{next_false}, Words.{arith}}
 use Rattle.tz_info.proofs.file.place.lists.first_other_leap.Goals as goal
 
 pub loop-k-preserved : goal.loop-k-preserved
-loop-k-preserved c = next_false (IsOtherLeap (pieces_of c.args.pieces.now)) c.loop-k.k c.is_other_leap.result c.loop-k.invariant
+loop-k-preserved c = next_false _ _ _ c.loop-k.invariant
     c.is_other_leap.ensures c.if-is_other_leap.false
 
 pub returns : goal.returns

@@ -1,10 +1,9 @@
-use Rattle.tz_info.proofs.Words.{ap, length, sym, ◌∙◌}
-use Rattle.tz_info.proofs.FilePlaceLaws.{file_bad, file_left}
+use Rattle.tz_info.proofs.{FilePlaceLaws.{file_bad, file_left}, Words.{ap, length, sym, ◌∙◌}}
 use Rattle.tz_info.proofs.file.place.pieces.left_of_file.Goals as goal
 
 pub returns-in-Ok : goal.returns-in-Ok
 returns-in-Ok c = (rw c.remaining.ensures at c.left_of_block.ensures)
-    ∙ ap length (sym (file_left c.args.bytes.now _ _ (rw c.new-cursor.ensures at c.in-Ok.ensures.header)))
+    ∙ ap length (sym (file_left _ _ _ (rw c.new-cursor.ensures at c.in-Ok.ensures.header)))
 
 pub returns-in-Err : goal.returns-in-Err
-returns-in-Err c = c.left_of_header.ensures ∙ ap length (sym (file_bad c.args.bytes.now _ (rw c.new-cursor.ensures at c.in-Err.ensures.header)))
+returns-in-Err c = c.left_of_header.ensures ∙ ap length (sym (file_bad _ _ (rw c.new-cursor.ensures at c.in-Err.ensures.header)))

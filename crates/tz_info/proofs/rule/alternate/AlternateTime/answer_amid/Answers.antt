@@ -1,8 +1,9 @@
 use Rattle.std.proofs.Math.Bool.{beq}
-use Rattle.tz_info.proofs.Words.{Bool, Bor, Counts, LocalType, SFits, ap, inl, int_lt, joined, map_of, not, refl, rules, shown_if, to_z-of_z, type_when, w32}
-use Rattle.tz_info.proofs.Words.{w64, ◌-ℤ◌, ◌∙◌, ◌≡◌}
-use Rattle.tz_info.proofs.SeasonAnswers.{amid, asked_in_turn, both_asked, greater}
-use Rattle.tz_info.proofs.rule.alternate.AlternateTime.answer_amid.Goals.{After-second_showing-by_last}
+use Rattle.tz_info.proofs.{
+  SeasonAnswers.{amid, asked_in_turn, both_asked, greater},
+  Words.{Bool, Bor, Counts, LocalType, SFits, ap, inl, int_lt, joined, map_of, not, refl, rules, shown_if, to_z-of_z, type_when, w32, w64, ◌-ℤ◌, ◌∙◌, ◌≡◌},
+  rule.alternate.AlternateTime.answer_amid.Goals.{After-second_showing-by_last},
+}
 use Rattle.tz_info.proofs.rule.alternate.AlternateTime.answer_amid.Goals as goal
 
 -- what was given fits, and so do the seconds that are asked, that of the greater offset first
@@ -32,12 +33,12 @@ seconds c =
 pub is_dst_amid-requires-clause-decides : goal.is_dst_amid-requires-clause-decides
 is_dst_amid-requires-clause-decides c =
     let (dst, fl, ff, f1, f2, is, first, last, by_first, by_last) = seconds c in
-    simp to_z-of_z (rw by_first (amid c.args.self.now c.args.season c.args.from c.args.local dst c.requires.season).decided)
+    simp to_z-of_z (rw by_first (amid _ _ _ _ dst c.requires.season).decided)
 
 pub is_dst_amid-requires-2-clause-decides : goal.is_dst_amid-requires-2-clause-decides
 is_dst_amid-requires-2-clause-decides c =
     let (dst, fl, ff, f1, f2, is, first, last, by_first, by_last) = seconds (goal.at.is_dst_amid-requires-2-clause-decides c).After-second_showing-by_last in
-    simp to_z-of_z (rw by_last (amid c.args.self.now c.args.season c.args.from c.args.local (not dst) c.requires.season).decided)
+    simp to_z-of_z (rw by_last (amid _ _ _ _ _ c.requires.season).decided)
 
 pub returns : goal.returns
 returns c =
@@ -46,20 +47,20 @@ returns c =
     let g1 : SFits w32 c.offset.result = search rules in let g2 : SFits w32 c.offset-2.result = search rules in
     let es = c.offset.ensures.value ∙ ap (λ (t : LocalType). t.offset) c.std.ensures.value in
     let ed = c.offset-2.ensures.value ∙ ap (λ (t : LocalType). t.offset) c.dst.ensures.value in
-    let order = greater a dst (is ∙ rw (es, ed) refl) in
+    let order = greater a dst (is ∙ rw (es, ed)) in
     let sooner = amid a c.args.season c.args.from c.args.local dst c.requires.season in
-    let later = amid a c.args.season c.args.from c.args.local (not dst) c.requires.season in
+    let later = amid a _ _ _ _ c.requires.season in
     let two : map_of (λ (r : Bor LocalType). r.now) c.answer_of_two.result
-    ≡ joined (shown_if (beq c.is_dst_amid.result dst) (type_when a dst)) (shown_if (beq c.is_dst_amid-2.result (not dst)) (type_when a (not dst))) =
-    cc (simp to_z-of_z at c.answer_of_two.ensures, is, first, last) in
+    ≡ joined (shown_if (beq c.is_dst_amid.result dst) (type_when a dst)) _ =
+    cc (simp to_z-of_z at c.answer_of_two.ensures, is) in
     record {
       season = c.requires.season;
-      found = rw two (both_asked a c.args.from c.args.local dst _ _ c.requires.other order (record { fits = rw by_first at f1; since = sooner.since })
+      found = rw two (both_asked a c.args.local c.requires.other c.args.from dst _ _ order (record { fits = rw by_first at f1; since = sooner.since })
           (record { fits = rw by_last at f2; since = later.since }) (rw by_first at (simp to_z-of_z at c.is_dst_amid.ensures))
           (rw by_last at (simp to_z-of_z at c.is_dst_amid-2.ensures)));
       cost = search rules;
-      counted = asked_in_turn a c.args.from c.args.local dst c.args.probes.now.rule_questions c.count_question.new.self.rule_questions
-          c.count_question-2.new.self.rule_questions c.requires.other
+      counted = asked_in_turn a _ c.requires.other _ dst _
+          _ _
           (inl (sooner.since, ap (λ (p : Counts). p.rule_questions) c.count_question.ensures))
           (inl (later.since, ap (λ (p : Counts). p.rule_questions) c.count_question-2.ensures));
     }

@@ -1,7 +1,6 @@
-use Rattle.tz_info.proofs.{Words.{SFits, arith, ints, to_z-of_z, w32, w64, ◌-ℤ◌, ◌≡◌}, Candidates.{asked_found, asked_other}}
-use Rattle.tz_info.specs.declared.rule.transition_rule.TransitionRule.TheVariants.{Alternate}
-use Rattle.tz_info.proofs.rule.alternate.AlternateTime.ask.Goals.{After-offset}
+use Rattle.tz_info.proofs.{Candidates.{asked_found, asked_other}, Words.{SFits, arith, linear, to_z-of_z, w32, w64, ◌-ℤ◌, ◌≡◌}}
 use Rattle.tz_info.proofs.rule.alternate.AlternateTime.ask.Goals as goal
+use Rattle.tz_info.proofs.rule.alternate.AlternateTime.ask.Goals.{After-offset}
 
 -- what was given fits, and so do the second and the offset of the type there
 known : (c : After-offset)
@@ -10,21 +9,17 @@ known : (c : After-offset)
     × (c.second_showing-second.result ≡ c.args.local -ℤ c.args.offset)
 known c =
     let fl = c.ranges.local in let fo = c.ranges.offset in
-    let low = c.requires.local.0 in let high = c.requires.local.1 in
     let is = simp to_z-of_z at c.second_showing-second.ensures.value in
-    let b = c.offset.ensures.bound in let v = c.offset.ensures.value in
-    (fl, fo, c.ranges.from, omega (arith, ints), omega (arith, ints), omega (arith, ints), is)
+    (fl, fo, c.ranges.from, omega linear, omega arith, omega arith, is)
 
 pub returns-then-offset-clause-asked : goal.returns-then-offset-clause-asked
 returns-then-offset-clause-asked c =
     let (fl, fo, ff, fits, fs, ft, is) = known (goal.at.returns-then-offset-clause-asked c).After-offset in
-    let v = c.offset.ensures.value in
-    rw c.joined.ensures (asked_found (Alternate c.args.self.now) c.args.from c.args.local c.args.offset c.type_at-found.result.now _ fits (omega (arith, ints))
-    (rw is at (simp to_z-of_z at c.type_at-found.ensures)) (omega (arith, ints)))
+    rw c.joined.ensures (asked_found _ _ _ _ _ _ fits (omega linear)
+    (rw is at (simp to_z-of_z at c.type_at-found.ensures)) (omega linear))
 
 pub returns-clause-asked : goal.returns-clause-asked
 returns-clause-asked c =
     let (fl, fo, ff, fits, fs, ft, is) = known (goal.at.returns-clause-asked c).After-offset in
-    let v = c.offset.ensures.value in
-    asked_other (Alternate c.args.self.now) c.args.from c.args.local c.args.offset c.type_at-found.result.now _
-    (rw is at (simp to_z-of_z at c.type_at-found.ensures)) (λ e. omega (arith, ints))
+    asked_other _ _ _ _ _ _
+    (rw is at (simp to_z-of_z at c.type_at-found.ensures)) (λ e. omega linear)

@@ -17,6 +17,6 @@ returns-clause-found c =
     let a = c.args.self.now in
     record {
       in_force = simp to_z-of_z at c.is_dst_in_year.ensures;
-      previous = (change_found a c.moment_from-previous.result, simp to_z-of_z at c.moment_from-previous.ensures.nearest, c.second_of.ensures a);
-      next = (change_found a c.moment_from-next.result, simp to_z-of_z at c.moment_from-next.ensures.nearest, c.second_of-2.ensures a);
+      previous = (change_found a _, simp to_z-of_z at c.moment_from-previous.ensures.nearest, c.second_of.ensures a);
+      next = (change_found a _, simp to_z-of_z at c.moment_from-next.ensures.nearest, c.second_of-2.ensures a);
     }

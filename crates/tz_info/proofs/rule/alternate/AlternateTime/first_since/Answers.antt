@@ -1,67 +1,58 @@
 use Rattle.std.proofs.lemmas.Int.{clamps}
-use Rattle.tz_info.proofs.RuleReached.{IsGreater, changed_first, still_first}
-use Rattle.tz_info.proofs.Words.{IsNear, SFits, ap, arith, change_held, inl, inr, ints, by_lt_z, rules, to_z-of_z, w32, w64, ℤ, ◌-ℤ◌, ◌<ℤ◌, ◌↔◌, ◌∙◌, ◌≡◌, ◌≤ℤ◌}
-use Rattle.tz_info.proofs.Words.{LocalType}
-use Rattle.tz_info.proofs.rule.alternate.AlternateTime.first_since.Goals.{After-max-low, After-max-shown}
-use Rattle.tz_info.proofs.rule.alternate.AlternateTime.first_since.Goals.{in_default-via-in-Some+else-change-shown, in_default-via-in_default}
+use Rattle.tz_info.proofs.{
+  RuleReached.{IsGreater, changed_first, still_first},
+  Words.{IsNear, SFits, ap, by_lt_z, change_held, inl, inr, linear, rules, to_z-of_z, w64, ℤ, ◌-ℤ◌, ◌<ℤ◌, ◌↔◌, ◌∙◌, ◌≤ℤ◌},
+  rule.alternate.AlternateTime.first_since.Goals.{After-max-low, After-max-shown, in_default-via-in-Some+else-change-shown},
+}
 use Rattle.tz_info.proofs.rule.alternate.AlternateTime.first_since.Goals as goal
+use Rattle.tz_info.proofs.rule.alternate.AlternateTime.first_since.Goals.{in_default-via-in_default}
 
 -- the greater of the two offsets
 greater : (c : After-max-low) → IsGreater c.args.self.now c.max-greatest.result
 greater c =
-    let f1 : SFits w32 c.offset.result = search rules in
-    let f2 : SFits w32 c.offset-2.result = search rules in
-    let fg : SFits w32 c.max-greatest.result = search rules in
-    let std = c.offset.ensures.value ∙ ap (λ (t : LocalType). t.offset) c.std.ensures.value in
-    let dst = c.offset-2.ensures.value ∙ ap (λ (t : LocalType). t.offset) c.dst.ensures.value in
-    let value = c.max-greatest.ensures.value in
+    let std = c.offset.ensures.value ∙ ap (λ t. t.offset) c.std.ensures.value in
+    let dst = c.offset-2.ensures.value ∙ ap (λ t. t.offset) c.dst.ensures.value in
     record {
-      std = omega (arith, ints, clamps, std);
-      dst = omega (arith, ints, clamps, dst);
-      is = by_lt_z c.offset.result c.offset-2.result (λ l. inr (omega (arith, ints, clamps, l, dst))) (λ m. inl (omega (arith, ints, clamps, m, std)));
+      std = omega linear;
+      dst = omega (linear, clamps, dst);
+      is = by_lt_z c.offset.result c.offset-2.result (λ l. inr (omega (linear, clamps))) (λ m. inl (omega (linear, clamps, m, std)));
     }
 
 -- the first second that may show it, which is near
 low : (c : After-max-low) → SFits w64 c.max-low.result × IsNear c.max-low.result
     × ((u : ℤ) → (c.max-low.result ≤ℤ u) ↔ ((c.args.begin ≤ℤ u) × ((c.args.local -ℤ c.max-greatest.result) ≤ℤ u)))
 low c =
-    let fb = c.ranges.begin in let fl = c.ranges.local in
-    let fg : SFits w32 c.max-greatest.result = search rules in
-    let fs : SFits w64 c.second_showing.result = search rules in
-    let fm : SFits w64 c.max-low.result = search rules in
-    let is : c.second_showing.result ≡ c.args.local -ℤ c.max-greatest.result = simp to_z-of_z at c.second_showing.ensures.value in
-    let near : IsNear (c.args.local -ℤ c.max-greatest.result) = simp to_z-of_z at c.second_showing.ensures.near in
-    let value = c.max-low.ensures.value in
+    let fl = c.ranges.local in
+    let fm : SFits w64 _ = search rules in
+    let is = simp to_z-of_z at c.second_showing.ensures.value in
+    let near = simp to_z-of_z at c.second_showing.ensures.near in
     let begin = c.requires.near in (
       fm,
-      (omega (arith, ints, clamps, is, near), omega (arith, ints, clamps, is, near, begin)),
+      (omega (linear, clamps), omega (linear, clamps)),
       λ u. (
-        (λ h. (omega (arith, ints, clamps, is), omega (arith, ints, clamps, is))),
-        (λ both. let a = both.0 in let b = both.1 in omega (arith, ints, clamps, is)),
+        (λ h. (omega (linear, clamps, is), omega (linear, clamps, is))),
+        (λ both. omega (linear, clamps, is)),
       ),
     )
 
 pub type_and_change-requires-clause-time : goal.type_and_change-requires-clause-time
 type_and_change-requires-clause-time c =
     let (fm, near, is) = low (goal.at.type_and_change-requires-clause-time c).After-max-low in
-    simp to_z-of_z (omega (arith, ints, near), omega (arith, ints, near))
+    simp to_z-of_z (omega linear, omega (linear, near))
 
 -- the second at which the type in force then shows it, which is near too
 shown : (c : After-max-shown) → IsNear c.max-low.result → SFits w64 c.max-low.result → SFits w64 c.max-shown.result × IsNear c.max-shown.result
     × ((u : ℤ) → (c.max-shown.result ≤ℤ u) ↔ ((c.max-low.result ≤ℤ u) × ((c.args.local -ℤ c.type_and_change.result.0.now.offset) ≤ℤ u)))
 shown c near fm =
     let fl = c.ranges.local in
-    let fo : SFits w32 c.offset-3.result = search rules in
-    let fs : SFits w64 c.second_showing-2.result = search rules in
-    let ft : SFits w64 c.max-shown.result = search rules in
+    let ft : SFits w64 _ = search rules in
     let is = rw c.offset-3.ensures.value at (simp to_z-of_z at c.second_showing-2.ensures.value) in
-    let near_shown = rw c.offset-3.ensures.value at (simp to_z-of_z at c.second_showing-2.ensures.near) in
-    let value = simp to_z-of_z at c.max-shown.ensures.value in (
+    let near_shown = rw c.offset-3.ensures.value at (simp to_z-of_z at c.second_showing-2.ensures.near) in (
       ft,
-      (omega (arith, ints, clamps, is, near, near_shown), omega (arith, ints, clamps, is, near, near_shown)),
+      (omega (linear, clamps, near_shown), omega (linear, clamps, is, near)),
       λ u. (
-        (λ h. (omega (arith, ints, clamps, is), omega (arith, ints, clamps, is))),
-        (λ both. let a = both.0 in let b = both.1 in omega (arith, ints, clamps, is)),
+        (λ h. (omega (linear, clamps, is), omega (linear, clamps, is))),
+        (λ both. omega (linear, clamps, is)),
       ),
     )
 
@@ -70,12 +61,11 @@ returns-in-Some-clause-first c =
     let d = (goal.at.returns-in-Some-clause-first c).After-max-low in
     let (fm, near, low_is) = low d in
     let (ft, near_shown, shown_is) = shown (goal.at.returns-in-Some-clause-first c).After-max-shown near fm in
-    let fb = c.ranges.begin in let fl = c.ranges.local in
     let fa : SFits w64 c.in-Some.change.at = search rules in
     let next = rw c.in-Some.is at (simp to_z-of_z at c.type_and_change.ensures.nearest) in
     let on = simp to_z-of_z at c.if-change-shown.true in
-    let come : c.in-Some.change.at ≤ℤ c.max-shown.result = omega (arith, ints, on) in
-    simp to_z-of_z (changed_first c.args.self.now c.args.begin c.args.local c.max-greatest.result c.max-low.result c.type_and_change.ensures.rule (greater d)
+    let come : c.in-Some.change.at ≤ℤ c.max-shown.result = omega linear in
+    simp to_z-of_z (changed_first _ c.args.begin c.args.local _ _ c.type_and_change.ensures.rule (greater d)
     low_is c.type_and_change.result.0.now (simp to_z-of_z at c.type_and_change.ensures.in_force) c.max-shown.result shown_is
     (change_held c.in-Some.change) near near_shown next come)
 
@@ -84,16 +74,15 @@ returns-in_default-clause-first c =
     let d = (goal.at.returns-in_default-clause-first c).After-max-low in
     let (fm, near, low_is) = low d in
     let (ft, near_shown, shown_is) = shown (goal.at.returns-in_default-clause-first c).After-max-shown near fm in
-    let fb = c.ranges.begin in let fl = c.ranges.local in
-    simp to_z-of_z (still_first c.args.self.now c.args.begin c.args.local c.max-greatest.result c.max-low.result c.type_and_change.ensures.rule (greater d)
+    simp to_z-of_z (still_first _ c.args.begin c.args.local _ _ c.type_and_change.ensures.rule (greater d)
     low_is c.type_and_change.result.0.now (simp to_z-of_z at c.type_and_change.ensures.in_force) c.max-shown.result shown_is near near_shown
     (elim c.in_default.branch [
       | in_default-via-in-Some+else-change-shown w ↦
           let fa : SFits w64 w.in-Some.change.at = search rules in
           let next = rw w.in-Some.is at (simp to_z-of_z at c.type_and_change.ensures.nearest) in
           let off = simp to_z-of_z at w.if-change-shown.false in
-          let beyond : c.max-shown.result <ℤ w.in-Some.change.at = omega (arith, ints, off) in
-          λ d is i. let k = next.nearest d is i.0 in let j = i.1 in omega (arith, ints, k, j, beyond)
+          let beyond : c.max-shown.result <ℤ w.in-Some.change.at = omega linear in
+          λ d is i. let k = next.nearest d is i.0 in let j = i.1 in omega linear
       | in_default-via-in_default w ↦
           let none = rw w.in_default.is at (simp to_z-of_z at c.type_and_change.ensures.nearest) in
           λ d is i. none d is i.0

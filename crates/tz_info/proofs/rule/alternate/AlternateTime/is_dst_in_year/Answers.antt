@@ -1,5 +1,4 @@
-use Rattle.tz_info.proofs.Words.{SFits, arith, ints, rules, to_z-of_z, w64}
-use Rattle.tz_info.proofs.{ChangingYears.{calm_margin, calm_type}, Neighbours.{second_high, second_low}}
+use Rattle.tz_info.proofs.{ChangingYears.{calm_margin, calm_type}, Neighbours.{second_high, second_low}, Words.{linear, to_z-of_z}}
 use Rattle.tz_info.proofs.rule.alternate.AlternateTime.is_dst_in_year.Goals as goal
 
 pub returns-then-is_calm : goal.returns-then-is_calm
@@ -7,11 +6,9 @@ returns-then-is_calm c =
     let fs = c.ranges.second in
     let a = c.args.self.now in let asked = c.requires.asked in
     let calm = c.is_calm.ensures c.if-is_calm.true in
-    let low = second_low c.args.second c.args.asked.year c.requires.year in let high = second_high c.args.second c.args.asked.year c.requires.year in
-    let start : SFits w64 c.args.asked.turns.start = search rules in
-    let end : SFits w64 c.args.asked.turns.end = search rules in
+    let low = second_low _ _ c.requires.year in let high = second_high _ _ c.requires.year in
     rw (simp to_z-of_z at c.is_dst.ensures, asked.start, asked.end)
-    (calm_type a c.args.asked.year c.args.second asked.rule (calm_margin a asked.rule calm) c.requires.time low (omega (arith, ints)))
+    (calm_type a asked.rule (calm_margin a asked.rule calm) _ _ c.requires.time low (omega linear))
 
 pub returns-else-is_calm : goal.returns-else-is_calm
 returns-else-is_calm c = let fs = c.ranges.second in simp to_z-of_z at c.is_dst_at.ensures

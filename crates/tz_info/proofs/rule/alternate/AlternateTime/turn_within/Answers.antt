@@ -1,36 +1,30 @@
-use Rattle.tz_info.proofs.Words.{Alternate, Bool, IsInStretch, SFits, end_in, false, refl, rules, start_in, sym, to_z-of_z, true, turn_of, w64, ℤ, ◌∙◌, ◌≡◌}
-use Rattle.tz_info.proofs.Words.{◌≢◌}
-use Rattle.tz_info.proofs.Words.{cond}
-use Rattle.tz_info.proofs.CalmYears.{turn_change}
-use Rattle.tz_info.proofs.rule.alternate.AlternateTime.turn_within.Goals.{After-moment-at}
+use Rattle.tz_info.proofs.{
+  CalmYears.{turn_change},
+  Words.{Alternate, Bool, SFits, cond, end_in, false, refl, rules, start_in, sym, to_z-of_z, true, turn_of, w64, ℤ, ◌∙◌, ◌≡◌, ◌≢◌},
+  rule.alternate.AlternateTime.turn_within.Goals.{After-moment-at},
+}
 use Rattle.tz_info.proofs.rule.alternate.AlternateTime.turn_within.Goals as goal
 
 turn_is : (a : Alternate) (to_dst : Bool) (year start end : ℤ) → start ≡ start_in a year → end ≡ end_in a year → cond to_dst start end ≡ turn_of a to_dst year
-turn_is a true year start end s e = s
+turn_is a true _ _ end s e = s
 turn_is a false year start end s e = e
 
 at : (c : After-moment-at) → SFits w64 c.moment-at.result × (c.moment-at.result ≡ turn_of c.args.self.now c.args.to_dst c.args.asked.year)
 at c =
     let asked = c.requires.asked in
-    let fs : SFits w64 c.args.asked.turns.start = search rules in
-    let fe : SFits w64 c.args.asked.turns.end = search rules in
-    let fm : SFits w64 c.moment-at.result = search rules in
-    (fm, c.moment-at.ensures ∙ turn_is c.args.self.now c.args.to_dst c.args.asked.year c.args.asked.turns.start c.args.asked.turns.end asked.start asked.end)
+    let fm : SFits w64 _ = search rules in
+    (fm, c.moment-at.ensures ∙ turn_is c.args.self.now _ _ _ _ asked.start asked.end)
 
 pub returns-then-has : goal.returns-then-has
 returns-then-has c =
     let (fm, is) = at (goal.at.returns-then-has c).After-moment-at in
     let asked = c.requires.asked in let a = c.args.self.now in
-    let fa : SFits w64 c.args.stretch.after = search rules in
-    let fl : SFits w64 c.args.stretch.last = search rules in
-    let inside : IsInStretch c.args.stretch.after c.args.stretch.last c.moment-at.result = (simp to_z-of_z at c.has.ensures).0 c.if-has.true in
+    let inside = (simp to_z-of_z at c.has.ensures).0 c.if-has.true in
     let apart : start_in a c.args.asked.year ≢ end_in a c.args.asked.year = λ e. c.requires.apart (asked.start ∙ e ∙ sym asked.end) in
-    simp to_z-of_z (rw is (turn_change a c.args.asked.year c.args.to_dst asked.rule c.requires.calm asked.inside c.requires.types apart, refl, rw is at inside))
+    simp to_z-of_z (rw is (turn_change a _ _ asked.rule c.requires.calm asked.inside c.requires.types apart, refl, rw is at inside))
 
 pub returns-else-has : goal.returns-else-has
 returns-else-has c =
     let (fm, is) = at (goal.at.returns-else-has c).After-moment-at in
-    let fa : SFits w64 c.args.stretch.after = search rules in
-    let fl : SFits w64 c.args.stretch.last = search rules in
     λ d change here inside.
-    let on = (simp to_z-of_z at c.has.ensures).1 (rw is (rw here at inside)) in let off = c.if-has.false in cc
+    let on = (simp to_z-of_z at c.has.ensures).1 (rw is (rw here at inside)) in cc

@@ -3,7 +3,7 @@ use Rattle.tz_info.proofs.rule.day.RuleDay.unix_time.Goals as goal
 
 pub returns-clause-value : goal.returns-clause-value
 returns-clause-value c =
-    let at_day = c.ranges.day_time in let in_range = c.ranges.year in
+    let in_range = c.ranges.year in
     let value = simp to_z-of_z at c.number_in.ensures.value in
-    let day = rule_day_closed c.args.self.now c.args.year c.number_in.ensures.rule in
+    let day = rule_day_closed _ c.args.year c.number_in.ensures.rule in
     omega (arith, floors)

@@ -5,5 +5,5 @@ pub returns-in-Alternate-clause-reached : goal.returns-in-Alternate-clause-reach
 returns-in-Alternate-clause-reached c =
     let fb = c.ranges.begin in let fs = c.ranges.second in
     let fr : SFits w64 c.reached_since.result = search rules in
-    rw c.in-Alternate.is (simp to_z-of_z (alternate_reached c.in-Alternate.alternate c.args.begin c.args.second c.reached_since.result
+    rw c.in-Alternate.is (simp to_z-of_z (alternate_reached _ _ _ _
     (simp to_z-of_z at c.reached_since.ensures.reached)))

@@ -1,5 +1,4 @@
-use Rattle.tz_info.proofs.Words.{SFits, length, refl, rules, slice_get_read, to_z-of_z, w32, w64, ◌-ℤ◌, ◌≡◌}
-use Rattle.tz_info.proofs.{SegmentEndLaws.{first_of_made}}
+use Rattle.tz_info.proofs.{SegmentEndLaws.{first_of_made}, Words.{SFits, length, refl, rules, slice_get_read, to_z-of_z, w32, w64}}
 use Rattle.tz_info.proofs.zone.ask.segment_search.first_of.Goals as goal
 
 pub returns-clause-first : goal.returns-clause-first
@@ -10,9 +9,9 @@ returns-clause-first c =
     let fs : SFits w64 c.second_showing-shown.result = search rules in
     let fo : SFits w32 c.offset.result = search rules in
     let b = c.begin_of-index.ensures in
-    let shown : c.second_showing-shown.result ≡ c.args.local -ℤ c.index-types-index.result.offset =
+    let shown =
     rw c.offset.ensures.value at (simp to_z-of_z at c.second_showing-shown.ensures.value) in
     let has = slice_get_read c.args.types.now (length c.args.types.now) c.begin_of-index.result.0 c.index-types-index.result refl
     b.below c.index-types-index.is in
-    simp to_z-of_z (first_of_made _ _ _ _ c.args.local c.later.result _ _ c.index-types-index.result b.index has c.offset.ensures.bound
+    simp to_z-of_z (first_of_made _ _ _ _ _ _ _ _ _ b.index has c.offset.ensures.bound
     b.begin shown (simp to_z-of_z at c.later.ensures))

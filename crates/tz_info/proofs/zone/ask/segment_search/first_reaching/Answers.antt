@@ -1,5 +1,8 @@
-use Rattle.tz_info.proofs.Words.{arith, digits-le, false≢true, length, suc, sym, to_z-of_z, ◌+◌, ◌-◌, ◌/◌, ◌≡◌, ◌∙◌}
-use Rattle.tz_info.proofs.{DigitLaws.{digits-less}, SegmentEndLaws.{first_found, never_reached}}
+use Rattle.tz_info.proofs.{
+  DigitLaws.{digits-less},
+  SegmentEndLaws.{first_found, never_reached},
+  Words.{arith, digits-le, false≢true, length, suc, sym, to_z-of_z, ◌+◌, ◌-◌, ◌/◌, ◌∙◌, ◌≡◌},
+}
 use Rattle.tz_info.proofs.zone.ask.segment_search.first_reaching.Goals as goal
 
 pub loop-count-init : goal.loop-count-init
@@ -7,7 +10,7 @@ loop-count-init c =
     let fl = c.ranges.local in let n = c.len-count.ensures in
     simp to_z-of_z (record {
       within = omega arith;
-      before = never_reached c.args.types.now c.args.changes.now.items c.args.local;
+      before = never_reached _ _ _;
       here = λ h. absurd (omega arith);
       kept = omega arith;
       most = rw n (omega arith);
@@ -17,21 +20,15 @@ loop-count-init c =
 
 pub is_reached-requires-clause-room : goal.is_reached-requires-clause-room
 is_reached-requires-clause-room c =
-    let some = c.loop-count-test.true in
-    let less = digits-less 0 c.loop-count.count (omega arith) (omega arith) in
-    let fits = c.len-count.type_inv in let n = c.len-count.ensures in let le = digits-le (length c.args.changes.now.items) in
-    let most = c.loop-count.invariant.most in let room = c.requires.room.reads in omega arith
+    let le = digits-le (length c.args.changes.now.items) in
+    omega arith
 
 pub loop-count-preserved-then-is_reached : goal.loop-count-preserved-then-is_reached
 loop-count-preserved-then-is_reached c =
     let fl = c.ranges.local in
     let l = c.loop-count in let inv = l.invariant in
-    let some = c.loop-count-test.true in
     let less = digits-less (l.count / 2) l.count (omega arith) (omega arith) in
-    let cost = c.is_reached.ensures.cost in
-    let rose = cost.reads_kept in let rose_most = cost.reads_most in
-    let asked = cost.questions_kept in let asked_most = cost.questions_most in let looked = cost.pieces_same in
-    let within = inv.within in let kept = inv.kept in let most = inv.most in let same = inv.questions in let same_pieces = inv.pieces in
+    let within = inv.within in let kept = inv.kept in let most = inv.most in
     let next : (l.first + l.count / 2) + 1 ≡ suc (l.first + l.count / 2) = omega arith in
     simp to_z-of_z (record {
       within = omega arith;
@@ -47,12 +44,8 @@ pub loop-count-preserved : goal.loop-count-preserved
 loop-count-preserved c =
     let fl = c.ranges.local in
     let l = c.loop-count in let inv = l.invariant in
-    let some = c.loop-count-test.true in
     let less = digits-less ((l.count - l.count / 2) - 1) l.count (omega arith) (omega arith) in
-    let cost = c.is_reached.ensures.cost in
-    let rose = cost.reads_kept in let rose_most = cost.reads_most in
-    let asked = cost.questions_kept in let asked_most = cost.questions_most in let looked = cost.pieces_same in
-    let within = inv.within in let kept = inv.kept in let most = inv.most in let same = inv.questions in let same_pieces = inv.pieces in
+    let within = inv.within in let kept = inv.kept in let most = inv.most in
     let sum : ((l.first + l.count / 2) + 1) + ((l.count - l.count / 2) - 1) ≡ l.first + l.count = omega arith in
     simp to_z-of_z (record {
       within = omega arith;
@@ -68,14 +61,12 @@ pub returns : goal.returns
 returns c =
     let fl = c.ranges.local in
     let l = c.loop-count in let inv = l.invariant in
-    let done = c.loop-count-test.false in
-    let within = inv.within in let kept = inv.kept in let most = inv.most in let same = inv.questions in let same_pieces = inv.pieces in
-    let none : l.count ≡ 0 = omega arith in
+    let kept = inv.kept in let same_pieces = inv.pieces in
     let sum : l.first + l.count ≡ l.first = omega arith in
     let here = simp to_z-of_z at inv.here in
     record {
-      first = first_found _ _ _ l.first (omega arith) (simp to_z-of_z at inv.before) (λ h. rw sum at (here (omega arith)));
-      room = let fits = c.len-count.type_inv in let n = c.len-count.ensures in let le = digits-le (length c.args.changes.now.items) in
+      first = first_found _ _ _ _ (omega arith) (simp to_z-of_z at inv.before) (λ h. rw sum at (here (omega arith)));
+      room = let le = digits-le (length c.args.changes.now.items) in
           let r = c.requires.room.reads in omega arith;
       cost = record { reads_kept = kept; reads_most = omega arith; questions_kept = omega arith; questions_most = omega arith; pieces_same = same_pieces };
     }

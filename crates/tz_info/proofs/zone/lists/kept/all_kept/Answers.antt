@@ -1,4 +1,4 @@
-use Rattle.tz_info.proofs.Words.{add-one, arith, pos, refl, take-suc, take_all, ◌∙◌}
+use Rattle.tz_info.proofs.Words.{add-one, arith, pos, take-suc, take_all, ◌∙◌}
 use Rattle.tz_info.proofs.zone.lists.kept.all_kept.Goals as goal
 
 pub loop-transition-preserved : goal.loop-transition-preserved
@@ -9,10 +9,10 @@ loop-transition-preserved c = record {
     c.push_reserved.ensures.items,
     c.loop-transition.invariant.all,
     c.in_ok-entry.ensures,
-  ) refl;
-  count = omega (arith, c.push_reserved.ensures.len);
-  room = omega (arith, c.push_reserved.ensures.capacity);
+  );
+  count = omega arith;
+  room = omega arith;
 }
 
 pub returns : goal.returns
-returns c = c.loop-transition.invariant.all ∙ take_all c.loop-transition.transition-index c.args.transitions.now (omega arith)
+returns c = c.loop-transition.invariant.all ∙ take_all c.loop-transition.transition-index _ (omega arith)

@@ -5,12 +5,12 @@ abbrev none : LeapSecond
 none = record { unix_leap_time = pos 0; correction = pos 0 }
 
 pub correction_after-requires : goal.correction_after-requires
-correction_after-requires c = let w = c.entries_before.ensures.within in omega arith
+correction_after-requires c = omega arith
 
 pub returns : goal.returns
 returns c =
     let fx = c.ranges.leap_time in
     let fr : SFits w32 c.correction_after.result = search rules in
     let b = simp to_z-of_z at c.entries_before.ensures in
-    simp to_z-of_z (before_found c.args.entries.now c.entries_before.result none c.args.leap_time c.correction_after.result c.requires b.within
+    simp to_z-of_z (before_found _ _ c.requires _ _ _ b.within
     (record { value = c.correction_after.ensures; before = b.before }) (b.from none))

@@ -1,8 +1,8 @@
-use Rattle.tz_info.proofs.{Words.{IsPartitionPoint-from_clause, LeapSecond, arith, int_lt, ints, lt_is, rules}, LeapSearch.{lt_is_not, parted_before}}
+use Rattle.tz_info.proofs.{LeapSearch.{parted_before}, Words.{IsPartitionPoint-from_clause, arith, int_lt, rules}}
 use Rattle.tz_info.proofs.zone.lists.leap_time.entries_before.Goals as goal
 
 pub returns : goal.returns
 returns c =
-    let point = IsPartitionPoint-from_clause (λ (e : LeapSecond). int_lt e.unix_leap_time c.args.leap_time) _ _ c.partition_point.ensures.partitioned
-    (parted_before _ c.args.leap_time c.requires) (λ a r q k. search rules) in
-    grind (arith, ints, lt_is, lt_is_not, c.partition_point.ensures.bound)
+    let point = IsPartitionPoint-from_clause (λ e. int_lt e.unix_leap_time c.args.leap_time) _ _ c.partition_point.ensures.partitioned
+    (parted_before _ _ c.requires) (λ a r q k. search rules) in
+    grind arith

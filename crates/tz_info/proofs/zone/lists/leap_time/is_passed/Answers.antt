@@ -1,4 +1,4 @@
-use Rattle.tz_info.proofs.{Words.{LeapSecond, SFits, arith, get_or, ints, pos, rules, to_z-of_z, w32, w64}, LeapSearch.{by_saturated, passed_here, since_epoch}}
+use Rattle.tz_info.proofs.{LeapSearch.{by_saturated, passed_here, since_epoch}, Words.{LeapSecond, SFits, arith, get_or, pos, rules, to_z-of_z, w32, w64}}
 use Rattle.tz_info.proofs.zone.lists.leap_time.is_passed.Goals as goal
 
 abbrev none : LeapSecond
@@ -8,10 +8,10 @@ pub returns : goal.returns
 returns c =
     let fu = c.ranges.unix_time in
     let fb : SFits w32 c.correction_after-correction.result = search rules in
-    let fd : SFits w64 c.correction_after-correction.result = omega (arith, ints) in
+    let fd : SFits w64 c.correction_after-correction.result = omega arith in
     let fs : SFits w64 c.saturating_add.result = search rules in
     let ft : SFits w64 (get_or c.args.entries.now c.args.place none).unix_leap_time = search rules in
-    let here = passed_here c.args.entries.now c.args.unix_time c.correction_after-correction.result c.args.place none c.requires.leaps c.requires.place
+    let here = passed_here _ _ _ _ _ c.requires.leaps c.requires.place
     c.correction_after-correction.ensures in
-    simp to_z-of_z (by_saturated (get_or c.args.entries.now c.args.place none).unix_leap_time _ c.saturating_add.result ft
-    (since_epoch c.args.entries.now c.args.place none c.requires.leaps c.requires.place) (simp to_z-of_z at c.saturating_add.ensures) here)
+    simp to_z-of_z (by_saturated _ _ _ ft
+    (since_epoch _ _ _ c.requires.leaps c.requires.place) (simp to_z-of_z at c.saturating_add.ensures) here)

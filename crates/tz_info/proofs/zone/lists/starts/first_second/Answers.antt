@@ -1,5 +1,9 @@
-use Rattle.tz_info.proofs.Words.{HaveCome, LeapSecond, SFits, arith, get_or, ints, pos, rules, to_z-of_z, w128, w32, w64, ℤ, ◌-ℤ◌, ◌-◌, ◌↔◌, ◌≤ℤ◌}
-use Rattle.tz_info.proofs.{LeapStarts.{both_ways, reached_first}, ZoneChanges.{entry_late, reached_exactly}, zone.lists.starts.first_second.Goals.{After-later}}
+use Rattle.tz_info.proofs.{
+  LeapStarts.{both_ways, reached_first},
+  Words.{HaveCome, LeapSecond, SFits, arith, get_or, linear, pos, rules, to_z-of_z, w128, w32, w64, ℤ, ◌-ℤ◌, ◌-◌, ◌↔◌, ◌≤ℤ◌},
+  ZoneChanges.{entry_late, reached_exactly},
+  zone.lists.starts.first_second.Goals.{After-later},
+}
 use Rattle.tz_info.proofs.zone.lists.starts.first_second.Goals as goal
 
 abbrev none : LeapSecond
@@ -8,9 +12,9 @@ none = record { unix_leap_time = pos 0; correction = pos 0 }
 pub returns-then-come-eq0-clause-reached : goal.returns-then-come-eq0-clause-reached
 returns-then-come-eq0-clause-reached c = λ u y l.
     let fx = c.ranges.leap_time in
-    let fw : SFits w128 c.args.leap_time = omega (arith, ints) in
-    let no_entry : HaveCome c.args.leaps.now c.args.leap_time 0 = rw c.if-come-eq0.true at (simp to_z-of_z at c.entries_come-come.ensures) in
-    simp to_z-of_z (reached_first c.args.leaps.now c.args.leap_time u y c.requires no_entry l)
+    let fw : SFits w128 c.args.leap_time = omega arith in
+    let no_entry = rw c.if-come-eq0.true at (simp to_z-of_z at c.entries_come-come.ensures) in
+    simp to_z-of_z (reached_first _ _ u y c.requires no_entry l)
 
 -- the later one of the entry's own second and of the leap time led back
 latest : (c : goal.After-later) → SFits w128 c.later.result × HaveCome c.args.leaps.now c.args.leap_time c.entries_come-come.result
@@ -19,28 +23,25 @@ latest : (c : goal.After-later) → SFits w128 c.later.result × HaveCome c.args
     × ((c.args.leap_time -ℤ c.correction_after-2.result) ≤ℤ u)))
 latest c =
     let fx = c.ranges.leap_time in
-    let fw : SFits w128 c.args.leap_time = omega (arith, ints) in
+    let fw : SFits w128 c.args.leap_time = omega arith in
     let ft : SFits w64 (get_or c.args.leaps.now (c.entries_come-come.result - 1) none).unix_leap_time = search rules in
     let f1 : SFits w32 c.correction_after.result = search rules in
     let f2 : SFits w32 c.correction_after-2.result = search rules in
-    let gt : SFits w128 (get_or c.args.leaps.now (c.entries_come-come.result - 1) none).unix_leap_time = omega (arith, ints) in
-    let g1 : SFits w128 c.correction_after.result = omega (arith, ints) in
-    let g2 : SFits w128 c.correction_after-2.result = omega (arith, ints) in
-    let g3 : SFits w128 ((get_or c.args.leaps.now (c.entries_come-come.result - 1) none).unix_leap_time -ℤ c.correction_after.result) = omega (arith, ints) in
-    let g4 : SFits w128 (c.args.leap_time -ℤ c.correction_after-2.result) = omega (arith, ints) in
+    let gt : SFits w128 (get_or c.args.leaps.now (c.entries_come-come.result - 1) none).unix_leap_time = omega arith in
+    let g1 : SFits w128 c.correction_after.result = omega arith in
+    let g2 : SFits w128 c.correction_after-2.result = omega arith in
+    let g3 : SFits w128 ((get_or c.args.leaps.now (c.entries_come-come.result - 1) none).unix_leap_time -ℤ c.correction_after.result) = omega linear in
+    let g4 : SFits w128 (c.args.leap_time -ℤ c.correction_after-2.result) = omega linear in
     let fl : SFits w128 c.later.result = search rules in
     (fl, simp to_z-of_z at c.entries_come-come.ensures, simp to_z-of_z at c.later.ensures)
 
 pub returns : goal.returns
 returns c =
     let (fl, come, is) = latest (goal.at.returns c).After-later in
-    let fx = c.ranges.leap_time in
-    let w = come.within in
-    let late = entry_late c.args.leaps.now (c.entries_come-come.result - 1) none c.requires (omega arith) in
-    let least = ((is c.later.result).0 (omega (arith, ints))).0 in
-    let f1 : SFits w32 c.correction_after.result = search rules in
+    let late = entry_late _ (c.entries_come-come.result - 1) none c.requires (omega arith) in
+    let least = ((is c.later.result).0 (omega linear)).0 in
     simp to_z-of_z (record {
-      reached = λ u y l. both_ways (reached_exactly c.args.leaps.now c.args.leap_time u y _ _ c.entries_come-come.result none c.requires come (omega arith)
+      reached = λ u y l. both_ways (reached_exactly _ _ u y _ _ _ _ c.requires come (omega arith)
           c.correction_after.ensures c.correction_after-2.ensures l) (is u);
-      bound = omega (arith, ints);
+      bound = omega linear;
     })

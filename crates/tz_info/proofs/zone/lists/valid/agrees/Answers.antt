@@ -5,9 +5,9 @@ pub returns-in-Ok-find_local_time_type : goal.returns-in-Ok-find_local_time_type
 returns-in-Ok-find_local_time_type c =
     let fl : SFits w64 c.args.last.unix_leap_time = search rules in
     let ft : SFits w64 c.in-Ok.time = search rules in
-    agrees_if_same c.args.types.now c.args.leaps.now c.args.rule.now c.args.last c.in-Ok.time c.in-Ok-find_local_time_type.local.now
-    c.index-types-last.result c.is_same_type.result
-    (simp to_z-of_z at c.in-Ok.ensures)
+    agrees_if_same _ _ _ _ _ (simp to_z-of_z at c.in-Ok.ensures)
+    _ _
+    _
     (simp to_z-of_z at c.in-Ok-find_local_time_type.ensures)
     (slice_get_read c.args.types.now _ c.args.last.type_index _ refl c.requires.index c.index-types-last.is)
     c.is_same_type.ensures

@@ -1,4 +1,4 @@
-use Rattle.tz_info.proofs.Words.{SFits, arith, ints, rules, to_z-of_z, w32, w64}
+use Rattle.tz_info.proofs.Words.{SFits, arith, rules, to_z-of_z, w32, w64}
 use Rattle.tz_info.proofs.zone.lists.valid.is_next.Goals as goal
 
 pub returns-then-is_far_enough : goal.returns-then-is_far_enough
@@ -12,4 +12,4 @@ returns-then-is_far_enough c =
     (λ t. record { later = far.0 c.if-is_far_enough.true; step = step.0 t }, λ n. step.1 n.step)
 
 pub returns-else-is_far_enough : goal.returns-else-is_far_enough
-returns-else-is_far_enough c = grind (arith, ints, c.is_far_enough.ensures)
+returns-else-is_far_enough c = grind arith

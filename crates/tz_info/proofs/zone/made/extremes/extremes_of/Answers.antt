@@ -6,5 +6,5 @@ returns-in-None-clause-extremes c = rw (c.in-None.is, append-nil) c.extremes_of_
 
 pub returns-in-Some-clause-extremes : goal.returns-in-Some-clause-extremes
 returns-in-Some-clause-extremes c =
-    rule_joined c.args.types.now c.args.rule.now c.in-Some.rule c.extremes_of_types-found.result c.with_rule.result c.in-Some.is
+    rule_joined _ _ _ _ _ c.in-Some.is
     c.extremes_of_types-found.ensures c.with_rule.ensures.joined

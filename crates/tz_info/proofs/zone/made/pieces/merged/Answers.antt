@@ -1,17 +1,17 @@
-use Rattle.tz_info.proofs.{Words.{SFits, ap, arith, refl, rules, to_z-of_z, w64, ℕ, ◌+◌, ◌∙◌}, WallPieces.{merging_more, step_count}}
+use Rattle.tz_info.proofs.{WallPieces.{merging_more, step_count}, Words.{SFits, ap, arith, rules, to_z-of_z, w64, ◌+◌, ◌∙◌}}
 use Rattle.tz_info.proofs.zone.made.pieces.merged.Goals as goal
 
 pub loop-step-preserved : goal.loop-step-preserved
 loop-step-preserved c =
     let fits : SFits w64 c.next_start-start.result.0 = search rules in
     record {
-      merging = merging_more _ _ _ _ c.loop-step.pieces.items _ c.loop-step.i c.loop-step.j _ _ c.next_start-start.result.0 c.together-answer.result
+      merging = merging_more _ _ _ _ _ _ _ _ _ _ _ _
           c.requires.first c.requires.last c.loop-step.invariant.merging c.next_start-start.ensures
-          (c.together-answer.ensures ∙ rw (c.answer_before.ensures, c.answer_before-in-loop-step.ensures) refl)
+          (c.together-answer.ensures ∙ rw (c.answer_before.ensures, c.answer_before-in-loop-step.ensures))
           (rw (simp to_z-of_z at c.in_ok-piece.ensures) at c.in_ok-push.ensures.items);
-      step = step_count _ _ c.loop-step.i c.loop-step.j _ _ c.next_start-start.result.0 c.next_start-start.ensures
-          ∙ ap (λ (n : ℕ). n + 1) c.loop-step.invariant.step;
+      step = step_count _ _ _ _ _ _ _ c.next_start-start.ensures
+          ∙ ap (λ n. n + 1) c.loop-step.invariant.step;
     }
 
 pub next_start-start-requires-clause-some : goal.next_start-start-requires-clause-some
-next_start-start-requires-clause-some c = let s = c.loop-step.invariant.step in omega arith
+next_start-start-requires-clause-some c = omega arith

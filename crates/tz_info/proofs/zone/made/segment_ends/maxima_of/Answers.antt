@@ -1,10 +1,9 @@
-use Rattle.tz_info.proofs.Words.{SFits, arith, least_time, refl, rules, suc, to_z-of_z, w64, ◌+◌, ◌≡◌}
-use Rattle.tz_info.proofs.SegmentEndLaws.{all_maxima, maxima_more, no_maxima}
+use Rattle.tz_info.proofs.{SegmentEndLaws.{all_maxima, maxima_more, no_maxima}, Words.{SFits, arith, refl, rules, suc, to_z-of_z, w64, ◌+◌, ◌≡◌}}
 use Rattle.tz_info.proofs.zone.made.segment_ends.maxima_of.Goals as goal
 
 pub loop-place-init : goal.loop-place-init
 loop-place-init c = record {
-  maxima = rw c.in_ok-maxima.ensures.items (no_maxima c.args.types.now c.args.entries.now least_time refl);
+  maxima = rw c.in_ok-maxima.ensures.items (no_maxima _ _ _ refl);
   count = omega (arith, c.in_ok-maxima.ensures.len);
   room = omega (arith, c.in_ok-maxima.ensures.exact);
 }
@@ -18,15 +17,13 @@ loop-place-preserved c =
     record {
       maxima =
           rw one
-          (simp to_z-of_z (maxima_more c.args.types.now c.args.entries.now c.loop-place.place c.loop-place.maxima.items _ _
-          c.later-latest.result c.loop-place.invariant.maxima
+          (simp to_z-of_z (maxima_more _ _ _ _ _ _
+          _ c.loop-place.invariant.maxima
           (rw one at (rw c.end_of.ensures at (simp to_z-of_z at c.later-latest.ensures))) (simp to_z-of_z at c.push_reserved.ensures.items)));
-      count = omega (arith, c.push_reserved.ensures.len);
-      room = omega (arith, c.push_reserved.ensures.capacity);
+      count = omega arith;
+      room = omega arith;
     }
 
 pub returns : goal.returns
 returns c =
-    let until = c.loop-place.auto.place-end in
-    let far = c.loop-place-test.false in
-    all_maxima c.args.types.now c.args.entries.now c.loop-place.place c.loop-place.maxima.items _ (omega arith) c.loop-place.invariant.maxima
+    all_maxima _ _ _ _ _ (omega arith) c.loop-place.invariant.maxima

@@ -7,13 +7,6 @@ returns c =
     let fa : SFits w64 c.second_before.result = search rules in let fl : SFits w64 c.second_before-2.result = search rules in
     simp to_z-of_z
     (all_left
-    (record {
-      zone = c.args.self;
-      after = c.second_before.result;
-      last = c.second_before-2.result;
-      near_after = 18_446_744_073_709_551_615;
-      near_last =
-          18_446_744_073_709_551_615;
-    }) c.args.from c.args.until
+    _ _ _
     (rw (← c.self.view_is) c.self.invariant.valid) (rw (← c.self.view_is) c.self.invariant.limits)
     (simp to_z-of_z at c.second_before.ensures) (simp to_z-of_z at c.second_before-2.ensures))

@@ -5,7 +5,7 @@ pub returns-then-has_leap_time-clause-come : goal.returns-then-has_leap_time-cla
 returns-then-has_leap_time-clause-come c =
     let fu = c.ranges.unix_time in
     let time = simp to_z-of_z at (c.has_leap_time.ensures.yes c.if-has_leap_time.true) in
-    rw (← c.self.view_is) (have_come _ c.self.inside.changes c.args.unix_time c.come.result c.self.invariant.valid c.self.invariant.list fu time
+    rw (← c.self.view_is) (have_come _ _ _ _ c.self.invariant.valid c.self.invariant.list fu time
     (simp to_z-of_z at c.come.ensures.come))
 
 pub returns-then-has_leap_time-clause-cost : goal.returns-then-has_leap_time-clause-cost

@@ -1,9 +1,8 @@
-use Rattle.tz_info.proofs.FilePieceLaws.{counted, uncounted}
-use Rattle.tz_info.proofs.Words.{none-some, pieces_of, refl}
+use Rattle.tz_info.proofs.{FilePieceLaws.{counted, uncounted}, Words.{none-some, refl}}
 use Rattle.tz_info.proofs.zone.time_zone.TimeZone.file_counts.Goals as goal
 
 pub returns-in-Ok : goal.returns-in-Ok
-returns-in-Ok c d = counted c.args.bytes.now (pieces_of c.in-Ok.pieces) _ d c.in-Ok.ensures.pieces refl refl
+returns-in-Ok c d = counted _ _ _ d c.in-Ok.ensures.pieces refl refl
 
 pub returns-in-Err : goal.returns-in-Err
-returns-in-Err c d = (λ e. absurd (none-some d e), λ k. absurd (uncounted c.args.bytes.now _ d c.in-Err.ensures.pieces k))
+returns-in-Err c d = (λ e. absurd (none-some d e), λ k. absurd (uncounted _ _ d c.in-Err.ensures.pieces k))

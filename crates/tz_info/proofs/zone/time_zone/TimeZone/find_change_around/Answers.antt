@@ -1,8 +1,7 @@
-use Rattle.tz_info.proofs.Words.{SFits, inr, rules, to_z-of_z, w32, w64}
+use Rattle.tz_info.proofs.{FoldLaws.{ends_of_fold}, Words.{SFits, inr, rules, to_z-of_z, w32, w64}}
 use Rattle.tz_info.specs.Steps.Folds.{AreEndsOfFold}
-use Rattle.tz_info.proofs.FoldLaws.{ends_of_fold}
-use Rattle.tz_info.proofs.zone.time_zone.TimeZone.find_change_around.Goals.{After-second_showing-last}
 use Rattle.tz_info.proofs.zone.time_zone.TimeZone.find_change_around.Goals as goal
+use Rattle.tz_info.proofs.zone.time_zone.TimeZone.find_change_around.Goals.{After-second_showing-last}
 
 -- the first and the last second that show the local time
 ends : (c : After-second_showing-last) → AreEndsOfFold c.args.self.now c.args.local.secs c.second_showing-first.result c.second_showing-last.result
@@ -12,7 +11,7 @@ ends c =
     let local = c.secs_since_epoch-local.ensures in
     let first = rw c.offset.ensures.value at (simp to_z-of_z at c.second_showing-first.ensures.value) in
     let last = rw c.offset-in-Ambiguous.ensures.value at (simp to_z-of_z at c.second_showing-last.ensures.value) in
-    ends_of_fold c.args.self.now c.args.local.secs _ _ c.in-Ambiguous.first c.in-Ambiguous.last c.in-Ambiguous.ensures (rw local at first) (rw local at last)
+    ends_of_fold _ _ _ _ _ _ c.in-Ambiguous.ensures (rw local at first) (rw local at last)
 
 pub change_back-requires-clause-ends : goal.change_back-requires-clause-ends
 change_back-requires-clause-ends c =

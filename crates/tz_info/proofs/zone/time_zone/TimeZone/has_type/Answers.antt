@@ -5,4 +5,4 @@ pub returns-in-Err : goal.returns-in-Err
 returns-in-Err c =
     let fs = c.ranges.second in
     let e = simp to_z-of_z at c.in-Err.ensures in
-    ((λ t. absurd (search rules)), (λ typed. absurd (type_not_refused c.args.self.now c.args.second typed.0 typed.1 e.0)))
+    ((λ t. absurd (search rules)), (λ typed. absurd (type_not_refused _ _ _ typed.1 e.0)))

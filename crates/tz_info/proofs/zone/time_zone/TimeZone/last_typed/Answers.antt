@@ -1,4 +1,4 @@
-use Rattle.tz_info.proofs.{Words.{SFits, arith, ints, pos, rules, to_z-of_z, w64}, GapLaws.{near_type}, TypedLaws.{last_typed}}
+use Rattle.tz_info.proofs.{GapLaws.{near_type}, TypedLaws.{last_typed}, Words.{SFits, arith, linear, rules, to_z-of_z, w64}}
 use Rattle.tz_info.proofs.zone.time_zone.TimeZone.last_typed.Goals as goal
 
 pub loop-known-init : goal.loop-known-init
@@ -8,19 +8,17 @@ loop-known-init c =
     let far = e.1 in
     simp to_z-of_z (
       record {
-        typed = near_type c.args.self.now (pos 10_000_000_000_000)
+        typed = near_type _ _
             (rw (← c.self.view_is) c.self.invariant.valid) (rw (← c.self.view_is) c.self.invariant.limits)
-            (omega (arith, ints), omega (arith, ints));
+            (omega arith, omega arith);
         not = e.0;
-        far = omega (arith, ints);
+        far = omega arith;
         less = far;
       },
-      omega (arith, ints),
+      omega arith,
     )
 
 pub returns : goal.returns
 returns c =
     let h = c.loop-known.invariant.0 in
-    let less = h.less in
-    let over = c.loop-known-test.false in
-    last_typed c.args.self.now _ _ (rw (← c.self.view_is) c.self.invariant.valid) (rw (← c.self.view_is) c.self.invariant.limits) h (omega (arith, ints))
+    last_typed _ (rw (← c.self.view_is) c.self.invariant.valid) (rw (← c.self.view_is) c.self.invariant.limits) _ _ h (omega linear)

@@ -1,5 +1,7 @@
-use Rattle.tz_info.proofs.Words.{IsValid, SFits, arith, length, slice_get, Some, vec_len, rules, slice_get_read, to_z-of_z, w64, ◌≡◌}
-use Rattle.tz_info.proofs.EntryChanges.{index_between, span_between}
+use Rattle.tz_info.proofs.{
+  EntryChanges.{index_between, span_between},
+  Words.{IsValid, SFits, Some, arith, length, rules, slice_get, slice_get_read, to_z-of_z, vec_len, w64, ◌≡◌},
+}
 use Rattle.tz_info.specs.Steps.Entries.{AreEntries}
 use Rattle.tz_info.proofs.zone.time_zone.TimeZone.span_by_place.Goals as goal
 
@@ -7,7 +9,7 @@ pub index-requires : goal.index-requires
 index-requires c =
     let fu = c.ranges.unix_time in
     let n : vec_len c.self.inside.local_types ≡ length c.self.inside.local_types.items = search rules in
-    rw n (index_between _ c.self.inside.changes c.args.unix_time c.in-Some.between c.self.invariant.valid c.self.invariant.list
+    rw n (index_between _ _ _ _ c.self.invariant.valid c.self.invariant.list
     (simp to_z-of_z at c.in-Some.ensures))
 
 pub returns : goal.returns
@@ -21,5 +23,5 @@ returns c =
     let high : SFits w64 c.in-Some.between.until = search rules in
     let h = simp to_z-of_z at c.in-Some.ensures in
     let has : slice_get z.types c.in-Some.between.index ≡ Some c.index.result.now = let below =
-    index_between z e c.args.unix_time c.in-Some.between valid list h in grind (arith, slice_get_read, c.self.view_is, c.index.ensures) in
-    simp to_z-of_z (span_between z e c.args.unix_time c.in-Some.between c.index.result.now valid list h (grind (arith, c.if-not-between.false)) fu low high has)
+    index_between z e _ _ valid list h in grind (arith, slice_get_read) in
+    simp to_z-of_z (span_between z e _ _ _ valid list h (grind arith) fu low high has)

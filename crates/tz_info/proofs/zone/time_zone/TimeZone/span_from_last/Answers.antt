@@ -9,6 +9,6 @@ returns c =
     let fw : SFits w128 c.rule_begin.result = search rules in
     let beside = simp to_z-of_z at c.in-Some-beside.ensures.found in
     simp to_z-of_z (rw c.type_when.ensures (span_of_rule
-    c.args.self.now c.in-Some.turns.now c.args.unix_time c.rule_begin.result c.in-Some-if_after.from c.in-Some-next.until _ _
+    _ _ _ _ _ _ _ _
     (rw (← c.self.view_is) c.self.invariant.valid) (rw (← c.self.view_is) c.self.invariant.limits) fu c.in-Some.ensures
     c.rule_begin.ensures.begin beside.in_force beside.previous (simp to_z-of_z at c.in-Some-if_after.ensures) (rw c.in-Some-next.is at beside.next)))

@@ -1,4 +1,4 @@
-use Rattle.tz_info.proofs.{EntryChanges.{looks_most}, Words.{Zone, ap, arith, ints, length, to_z-of_z}}
+use Rattle.tz_info.proofs.{EntryChanges.{looks_most}, Words.{arith, linear, to_z-of_z}}
 use Rattle.tz_info.proofs.zone.time_zone.TimeZone.table_answer.Goals as goal
 
 pub returns-clause-shown : goal.returns-clause-shown
@@ -8,8 +8,7 @@ returns-clause-shown c =
     (_, c.self.invariant.list, (c.self.invariant.index.answers c.args.local c.requires.local).wall)
 
 pub returns-clause-cost : goal.returns-clause-cost
-returns-clause-cost c = grind (arith, ints, looks_most, c.self.view_is, c.self.invariant.index.most, c.self.invariant.list.few, c.answer.ensures.cost)
+returns-clause-cost c = grind (arith, looks_most)
 
 pub returns-clause-looked : goal.returns-clause-looked
-returns-clause-looked c = λ some. let n = ap (λ (z : Zone). length z.transitions) c.self.view_is in
-    c.answer.ensures.looked (c.self.invariant.index.some (omega arith))
+returns-clause-looked c = grind (linear, c.answer.ensures.looked, c.self.invariant.index.some)

@@ -1,6 +1,12 @@
-use Rattle.tz_info.proofs.{Words.{IsShownIn, IsStart, IsValid, SFits, Shows, TypeFrom, length, rules, to_z-of_z, w64}, AnswerLaws.{joined_answer}}
-use Rattle.tz_info.proofs.{QuestionLaws.{asked_by_zone}, RuleGaps.{season_in}, TableLaws.{start_begun}, WalkLaws.{with_rule}}
-use Rattle.tz_info.proofs.zone.time_zone.TimeZone.try_rule.Goals.{After-rule_from}
+use Rattle.tz_info.proofs.{
+  AnswerLaws.{joined_answer},
+  QuestionLaws.{asked_by_zone},
+  RuleGaps.{season_in},
+  TableLaws.{start_begun},
+  WalkLaws.{with_rule},
+  Words.{IsStart, IsValid, SFits, length, rules, to_z-of_z, w64},
+  zone.time_zone.TimeZone.try_rule.Goals.{After-rule_from},
+}
 use Rattle.tz_info.proofs.zone.time_zone.TimeZone.try_rule.Goals as goal
 
 -- what was given fits, and the rule is asked from one second on
@@ -19,20 +25,20 @@ returns-clause-found c =
     let (fl, ff, start) = begun (goal.at.returns-clause-found c).After-rule_from in
     let z = c.args.self.now in
     let valid : IsValid z = rw (← c.self.view_is) c.self.invariant.valid in
-    rw c.joined.ensures (joined_answer (IsShownIn z c.args.local (length z.transitions))
-    (Shows (TypeFrom c.args.rule.now c.rule_from.result) c.args.local) _ _ _
-    (with_rule z c.args.rule.now c.rule_from.result c.args.local valid c.requires.rule start c.requires.local c.answer_from-season.ensures.offsets)
+    rw c.joined.ensures (joined_answer _
+    _ _ _ _
+    (with_rule z _ _ _ valid c.requires.rule start c.requires.local c.answer_from-season.ensures.offsets)
     c.requires.seen (simp to_z-of_z at c.answer_from-season.ensures.found))
 
 pub returns-clause-counted : goal.returns-clause-counted
 returns-clause-counted c =
     let (fl, ff, start) = begun (goal.at.returns-clause-counted c).After-rule_from in
-    asked_by_zone c.args.self.now c.args.rule.now c.rule_from.result c.args.local _ _ (rw (← c.self.view_is) c.self.invariant.valid) c.requires.rule start
+    asked_by_zone _ _ _ _ _ _ (rw (← c.self.view_is) c.self.invariant.valid) c.requires.rule start
     c.requires.local c.answer_from-season.ensures.offsets
     (simp to_z-of_z at c.answer_from-season.ensures.counted)
 
 pub returns-clause-season : goal.returns-clause-season
 returns-clause-season c =
     let (fl, ff, start) = begun (goal.at.returns-clause-season c).After-rule_from in
-    season_in c.args.self.now c.args.rule.now c.rule_from.result c.args.local c.answer_from-season.result.0 c.requires.rule start
+    season_in c.args.self.now _ _ _ _ c.requires.rule start
     (simp to_z-of_z at c.answer_from-season.ensures.season)

@@ -20,5 +20,5 @@ returns-else-is_within c =
       leap_time = _;
       candidate = simp to_z-of_z
           at c.candidate-time.ensures;
-      tried = inr (λ i. let t = within.1 i in let f = c.if-is_within.false in cc, refl);
+      tried = inr (λ i. let t = within.1 i in cc, refl);
     }

@@ -5,4 +5,4 @@ pub unreachable-requires : goal.unreachable-requires
 unreachable-requires c =
     let fs = c.ranges.second in
     let refused = simp to_z-of_z at c.in-Err.ensures in
-    near_not_refused c.args.self.now c.args.second (rw (← c.self.view_is) c.self.invariant.valid) c.requires refused.0
+    near_not_refused _ _ (rw (← c.self.view_is) c.self.invariant.valid) c.requires refused.0

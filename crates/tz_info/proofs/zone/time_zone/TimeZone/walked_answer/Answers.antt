@@ -1,10 +1,13 @@
-use Rattle.tz_info.proofs.Words.{Counts, IsShownIn, IsValid, IsWallAnswer, IsWindow, SFits, Some, Transition, ap, arith, digits-le, inl, ints, length, map_of}
-use Rattle.tz_info.proofs.Words.{rules}
-use Rattle.tz_info.proofs.Words.{Zone, sym, table_count, to_z-of_z, w32, w64, ◌+◌, ◌∙◌, ◌≡◌, ◌≤◌}
-use Rattle.tz_info.proofs.{QuestionLaws.{asked_for_window}, SegmentLaws.{begin_next, between_passed, index_next}, TableSearch.{Between}}
-use Rattle.tz_info.proofs.WallSegments.{all_segments}
-use Rattle.tz_info.proofs.WalkLaws.{none_before, none_behind, one_look, rose_by_walk, tried_segment, walked_more}
-use Rattle.tz_info.proofs.zone.time_zone.TimeZone.walked_answer.Goals.{After-passed_count-first, After-try_until-answer}
+use Rattle.tz_info.proofs.{
+  QuestionLaws.{asked_for_window},
+  SegmentLaws.{begin_next, between_passed, index_next},
+  TableSearch.{Between},
+  WalkLaws.{none_before, none_behind, one_look, rose_by_walk, tried_segment, walked_more},
+  WallSegments.{all_segments},
+  Words.{IsShownIn, IsValid, IsWallAnswer, IsWindow, SFits, Some, Zone, ap, arith, digits-le, inl, length, linear, map_of, rules, sym, table_count, to_z-of_z},
+  Words.{w32, w64, ◌+◌, ◌∙◌, ◌≡◌, ◌≤◌},
+  zone.time_zone.TimeZone.walked_answer.Goals.{After-passed_count-first, After-try_until-answer},
+}
 use Rattle.tz_info.proofs.zone.time_zone.TimeZone.walked_answer.Goals as goal
 
 -- the table has all segments but the rule's, which is the last
@@ -21,10 +24,9 @@ begun c =
     let fe : SFits w32 c.self.inside.extremes.least = search rules in
     let low = simp to_z-of_z at c.second_showing.ensures.value in
     let high = simp to_z-of_z at c.second_showing-2.ensures.value in
-    let ug : SFits w64 c.second_showing.result = omega (arith, ints) in
-    let uh : SFits w64 c.second_showing-2.result = omega (arith, ints) in
-    let fw : SFits w64 c.leap_time_near-low.result = search rules in
-    let fh : SFits w64 c.leap_time_near-high.result = search rules in (
+    let ug : SFits w64 c.second_showing.result = omega arith in
+    let uh : SFits w64 c.second_showing-2.result = omega arith in
+    let fw : SFits w64 c.leap_time_near-low.result = search rules in (
       record {
         greatest = c.self.inside.extremes.greatest;
         least = c.self.inside.extremes.least;
@@ -33,7 +35,7 @@ begun c =
         is_low = rw low at (simp to_z-of_z at c.leap_time_near-low.ensures);
         is_high = rw high at (simp to_z-of_z at c.leap_time_near-high.ensures);
       },
-      between_passed c.args.self.now.transitions c.leap_time_near-low.result c.passed_count-first.result valid.transitions.rising
+      between_passed _ _ _ valid.transitions.rising
           c.passed_count-first.ensures.within (simp to_z-of_z at c.passed_count-first.ensures.passed),
     )
 
@@ -45,14 +47,13 @@ tried c =
     let fn : SFits w64 c.transition-next.result.unix_leap_time = search rules in
     let z = c.args.self.now in let i = c.loop-place.invariant in let own = table_most z in
     let next = c.transition-next.ensures.item in
-    tried_segment z c.args.local c.loop-place.place c.loop-place.current.unix_leap_time _ _ _ (rw (← c.self.view_is) c.self.invariant.valid) (omega arith)
+    tried_segment z _ _ _ _ _ _ (rw (← c.self.view_is) c.self.invariant.valid) (omega arith)
     (omega arith) i.begin
-    (inl (c.transition-next.result, omega arith, ap (λ (t : Transition). Some t.unix_leap_time) next))
+    (inl (c.transition-next.result, omega arith, ap (λ t. Some t.unix_leap_time) next))
     (rw i.index at (simp to_z-of_z at c.try_until-answer.ensures)) (simp to_z-of_z at i.found)
 
 pub latest-current-requires-clause-room : goal.latest-current-requires-clause-room
-latest-current-requires-clause-room c = let k = c.passed_count-first.ensures.cost in let n = c.transition_count-count.ensures in
-    omega (arith, digits-le (length c.args.self.now.transitions))
+latest-current-requires-clause-room c = omega (arith, digits-le (length c.args.self.now.transitions))
 
 pub loop-place-init : goal.loop-place-init
 loop-place-init c =
@@ -61,7 +62,7 @@ loop-place-init c =
     let p = c.passed_count-first.ensures.cost in let q = c.latest-current.ensures.cost in
     record {
       found =
-          simp to_z-of_z (none_before c.args.self.now c.args.local c.leap_time_near-low.result c.leap_time_near-high.result c.passed_count-first.result
+          simp to_z-of_z (none_before _ _ _ _ _
           (rw (← c.self.view_is) c.self.invariant.valid) window split);
       begin = c.latest-current.ensures.begin;
       index = c.latest-current.ensures.index;
@@ -72,13 +73,12 @@ loop-place-init c =
         most = omega arith;
         questions = omega arith;
         pieces = q.pieces_same ∙ p.pieces_same;
-        looked = λ h. let l = c.passed_count-first.ensures.looked h in let m = q.reads_kept in omega arith;
+        looked = λ h. omega arith;
       };
     }
 
 pub transition-next-requires-clause-room : goal.transition-next-requires-clause-room
-transition-next-requires-clause-room c = let k = c.loop-place.invariant.walked.most in let n = c.transition_count-count.ensures in
-    let r = c.requires.room.reads in omega (arith, digits-le (length c.args.self.now.transitions))
+transition-next-requires-clause-room c = omega (arith, digits-le (length c.args.self.now.transitions))
 
 pub returns-then-high-next : goal.returns-then-high-next
 returns-then-high-next c =
@@ -87,33 +87,30 @@ returns-then-high-next c =
     let (window, split) = begun at.After-passed_count-first in
     let z = c.args.self.now in let valid : IsValid z = rw (← c.self.view_is) c.self.invariant.valid in let walked = simp to_z-of_z at
     c.loop-place.invariant.walked in
-    let fn : SFits w64 c.transition-next.result.unix_leap_time = search rules in
-    let time = ap (λ (t : Transition). t.unix_leap_time) c.transition-next.ensures.item in
+    let time = ap (λ t. t.unix_leap_time) c.transition-next.ensures.item in
     record {
-      found = none_behind z c.args.local c.leap_time_near-low.result c.leap_time_near-high.result c.loop-place.place c.transition-next.result _ valid
-          window (omega arith) (omega (arith, ints)) (tried at.After-try_until-answer);
-      cost = rose_by_walk z c.args.local c.leap_time_near-low.result c.leap_time_near-high.result c.passed_count-first.result c.loop-place.place 1 _ _ _
+      found = none_behind z c.args.local _ _ c.loop-place.place c.transition-next.result _ valid
+          window (omega arith) (omega linear) (tried at.After-try_until-answer);
+      cost = rose_by_walk z c.args.local _ _ _ _ 1 _ _ _
           window split (omega arith) walked (omega arith) (one_look _ _ c.transition-next.ensures.cost);
-      counted = asked_for_window z c.args.local c.leap_time_near-low.result c.leap_time_near-high.result c.loop-place.place c.transition-next.result _ _
-          valid window (omega arith) (omega (arith, ints))
-          (ap (λ (p : Counts). p.rule_questions) c.transition-next.ensures.cost ∙ walked.questions);
+      counted = asked_for_window z _ _ c.leap_time_near-high.result c.loop-place.place c.transition-next.result _ _
+          valid window (omega arith) (omega linear)
+          (ap (λ p. p.rule_questions) c.transition-next.ensures.cost ∙ walked.questions);
     }
 
 pub loop-place-preserved : goal.loop-place-preserved
 loop-place-preserved c =
     let fl = c.ranges.local in
     let fh : SFits w64 c.leap_time_near-high.result = search rules in
-    let fn : SFits w64 c.transition-next.result.unix_leap_time = search rules in
-    let ts = c.args.self.now.transitions in let place = c.loop-place.place in let next = c.transition-next.result in
-    let item = c.transition-next.ensures.item in
+    let ts = c.args.self.now.transitions in let place = c.loop-place.place in let item = c.transition-next.ensures.item in
     record {
       found = simp to_z-of_z (tried (goal.at.loop-place-preserved c).After-try_until-answer);
-      begin = ap (λ (t : Transition). t.unix_leap_time) item ∙ sym (begin_next ts place next (omega arith));
-      index = ap (λ (t : Transition). t.type_index) item ∙ sym (index_next ts place next (omega arith));
+      begin = ap (λ t. t.unix_leap_time) item ∙ sym (begin_next ts place _ (omega arith));
+      index = ap (λ t. t.type_index) item ∙ sym (index_next ts _ _ (omega arith));
       listed = c.transition-next.ensures.index;
       walked =
-          simp to_z-of_z (walked_more c.args.self.now c.leap_time_near-high.result c.passed_count-first.result place next _ _ _ (omega arith)
-          (simp to_z-of_z at c.loop-place.invariant.walked) item (omega (arith, ints)) c.transition-next.ensures.cost);
+          simp to_z-of_z (walked_more _ _ _ _ _ _ _ _ (omega arith)
+          (simp to_z-of_z at c.loop-place.invariant.walked) item (omega linear) c.transition-next.ensures.cost);
     }
 
 pub try_last-requires-clause-seen : goal.try_last-requires-clause-seen
@@ -128,8 +125,8 @@ returns c =
     let fh : SFits w64 c.leap_time_near-high.result = search rules in
     let (window, split) = begun (goal.at.returns c).After-passed_count-first in
     record {
-      found = all_segments c.args.self.now c.args.local _ valid.transitions.rising (simp to_z-of_z at c.try_last.ensures.found);
-      cost = rose_by_walk c.args.self.now c.args.local c.leap_time_near-low.result c.leap_time_near-high.result c.passed_count-first.result
-          c.loop-place.place 0 _ _ _ window split (omega arith) (simp to_z-of_z at c.loop-place.invariant.walked) (omega arith) c.try_last.ensures.cost;
+      found = all_segments _ _ _ valid.transitions.rising (simp to_z-of_z at c.try_last.ensures.found);
+      cost = rose_by_walk _ _ _ _ _
+          _ 0 _ _ _ window split (omega arith) (simp to_z-of_z at c.loop-place.invariant.walked) (omega arith) c.try_last.ensures.cost;
       counted = rw c.loop-place.invariant.walked.questions at (simp to_z-of_z at c.try_last.ensures.counted);
     }

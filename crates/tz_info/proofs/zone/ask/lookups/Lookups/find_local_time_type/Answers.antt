@@ -1,8 +1,8 @@
-use Rattle.tz_info.proofs.Words.{arith, err_from_is_err_and, ints, to_z-of_z}
+use Rattle.tz_info.proofs.Words.{err_from_is_err_and, linear, to_z-of_z}
 use Rattle.tz_info.proofs.zone.ask.lookups.Lookups.find_local_time_type.Goals as goal
 
 pub returns-clause-found : goal.returns-clause-found
-returns-clause-found c = grind (arith, ints)
+returns-clause-found c = grind linear
 
 pub returns-in_err-find_local_time_type-clause-found : goal.returns-in_err-find_local_time_type-clause-found
 returns-in_err-find_local_time_type-clause-found c =

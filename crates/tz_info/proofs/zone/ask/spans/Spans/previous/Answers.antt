@@ -1,14 +1,13 @@
-use Rattle.tz_info.proofs.Words.{SFits, SpanPlace, ap, arith, ints, pos, rules, to_z-of_z, w128, ◌-ℤ◌, ◌∙◌}
+use Rattle.tz_info.proofs.Words.{SFits, ap, arith, linear, pos, rules, to_z-of_z, w128, ◌-ℤ◌, ◌∙◌}
 use Rattle.tz_info.proofs.zone.ask.spans.Spans.previous.Goals as goal
 
 pub returns : goal.returns
 returns c =
-    let place = c.span_of.invariant in
-    let fi : SFits w128 c.span_of.inside.at = omega (arith, ints, place.0, place.1) in
-    let fa : SFits w128 (c.span_of.inside.at -ℤ pos 1) = omega (arith, ints, place.0, place.1) in
+    let fi : SFits w128 c.span_of.inside.at = omega arith in
+    let fa : SFits w128 (c.span_of.inside.at -ℤ pos 1) = omega linear in
     let fe : SFits w128 c.begin_of-self-inside.result = search rules in
     record {
-      zone = ap (λ (p : SpanPlace). p.zone) (c.self.view_is ∙ c.in_ok-span.ensures.place);
-      span = rw c.copied.ensures (rw (ap (λ (p : SpanPlace). p.at) c.span_of.view_is) at (simp to_z-of_z at c.in_ok-span.ensures.found));
+      zone = ap (λ p. p.zone) (c.self.view_is ∙ c.in_ok-span.ensures.place);
+      span = rw c.copied.ensures (rw (ap (λ p. p.at) c.span_of.view_is) at (simp to_z-of_z at c.in_ok-span.ensures.found));
       at = rw c.copied.ensures (simp to_z-of_z c.begin_of-self-inside.ensures.begin);
     }
