@@ -41,7 +41,6 @@ loop-left-preserved g c = grind (arith, one_step)
 
 pub returns-clause-passed : goal.returns-clause-passed
 returns-clause-passed g c =
-    let fv = c.ranges.second in
     grind (arith, near_one)
 
 pub returns-clause-cost : goal.returns-clause-cost

@@ -52,7 +52,7 @@ returns c =
     let later = amid a _ _ _ _ c.requires.season in
     let two : map_of (λ (r : Bor LocalType). r.now) c.answer_of_two.result
     ≡ joined (shown_if (beq c.is_dst_amid.result dst) (type_when a dst)) _ =
-    cc (simp to_z-of_z at c.answer_of_two.ensures, is) in
+    cc (simp to_z-of_z at c.answer_of_two.ensures) in
     record {
       season = c.requires.season;
       found = rw two (both_asked a c.args.local c.requires.other c.args.from dst _ _ order (record { fits = rw by_first at f1; since = sooner.since })

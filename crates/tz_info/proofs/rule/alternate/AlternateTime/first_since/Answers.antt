@@ -24,9 +24,7 @@ low : (c : After-max-low) → SFits w64 c.max-low.result × IsNear c.max-low.res
 low c =
     let fl = c.ranges.local in
     let fm : SFits w64 _ = search rules in
-    let is = simp to_z-of_z at c.second_showing.ensures.value in
-    let near = simp to_z-of_z at c.second_showing.ensures.near in
-    let begin = c.requires.near in (
+    let is = simp to_z-of_z at c.second_showing.ensures.value in (
       fm,
       (omega (linear, clamps), omega (linear, clamps)),
       λ u. (
@@ -38,7 +36,7 @@ low c =
 pub type_and_change-requires-clause-time : goal.type_and_change-requires-clause-time
 type_and_change-requires-clause-time c =
     let (fm, near, is) = low (goal.at.type_and_change-requires-clause-time c).After-max-low in
-    simp to_z-of_z (omega linear, omega (linear, near))
+    simp to_z-of_z (omega linear, omega linear)
 
 -- the second at which the type in force then shows it, which is near too
 shown : (c : After-max-shown) → IsNear c.max-low.result → SFits w64 c.max-low.result → SFits w64 c.max-shown.result × IsNear c.max-shown.result
@@ -66,7 +64,7 @@ returns-in-Some-clause-first c =
     let on = simp to_z-of_z at c.if-change-shown.true in
     let come : c.in-Some.change.at ≤ℤ c.max-shown.result = omega linear in
     simp to_z-of_z (changed_first _ c.args.begin c.args.local _ _ c.type_and_change.ensures.rule (greater d)
-    low_is c.type_and_change.result.0.now (simp to_z-of_z at c.type_and_change.ensures.in_force) c.max-shown.result shown_is
+    low_is _ (simp to_z-of_z at c.type_and_change.ensures.in_force) _ shown_is
     (change_held c.in-Some.change) near near_shown next come)
 
 pub returns-in_default-clause-first : goal.returns-in_default-clause-first
@@ -75,7 +73,7 @@ returns-in_default-clause-first c =
     let (fm, near, low_is) = low d in
     let (ft, near_shown, shown_is) = shown (goal.at.returns-in_default-clause-first c).After-max-shown near fm in
     simp to_z-of_z (still_first _ c.args.begin c.args.local _ _ c.type_and_change.ensures.rule (greater d)
-    low_is c.type_and_change.result.0.now (simp to_z-of_z at c.type_and_change.ensures.in_force) c.max-shown.result shown_is near near_shown
+    low_is _ (simp to_z-of_z at c.type_and_change.ensures.in_force) _ shown_is near near_shown
     (elim c.in_default.branch [
       | in_default-via-in-Some+else-change-shown w ↦
           let fa : SFits w64 w.in-Some.change.at = search rules in

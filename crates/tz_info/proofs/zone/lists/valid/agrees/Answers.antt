@@ -9,5 +9,5 @@ returns-in-Ok-find_local_time_type c =
     _ _
     _
     (simp to_z-of_z at c.in-Ok-find_local_time_type.ensures)
-    (slice_get_read c.args.types.now _ c.args.last.type_index _ refl c.requires.index c.index-types-last.is)
+    (slice_get_read _ _ c.args.last.type_index _ refl c.requires.index c.index-types-last.is)
     c.is_same_type.ensures

@@ -9,7 +9,7 @@ returns-else-keeps_offset c =
     (λ e. false≢true (sym c.if-keeps_offset.false ∙ c.keeps_offset.ensures.1 e)))
 
 pub changes-smaller : goal.changes-smaller
-changes-smaller c = grind (linear, to_z-of_z, c.in_ok-change.ensures.is.fits_before, c.in_ok-change.ensures.inside)
+changes-smaller c = grind (linear, to_z-of_z)
 
 pub changes-preserved : goal.changes-preserved
 changes-preserved c =

@@ -125,7 +125,7 @@ returns-then-reached-end-clause-reached c =
     let place = simp to_z-of_z at c.count-place.ensures.count in
     let less = simp to_z-of_z at c.if-reached-end.true in
     let reached = since d in
-    let ft : SFits w64 (c.latest_end-end.result -ℤ pos 1) = let least = reached.least in omega linear in
+    let ft : SFits w64 (c.latest_end-end.result -ℤ pos 1) = omega linear in
     simp to_z-of_z (at_end z _ _ _ _ _
     _ (rw (← c.self.view_is) c.self.invariant.valid) made fg (rw (← c.self.view_is) c.self.invariant.extremes.greatest)
     c.count-place.ensures.within c.requires.second
@@ -135,7 +135,6 @@ returns-then-reached-end-clause-reached c =
 pub returns-else-reached-end-clause-reached : goal.returns-else-reached-end-clause-reached
 returns-else-reached-end-clause-reached c =
     let d = (goal.at.returns-else-reached-end-clause-reached c).After-latest_end-end in
-    let fe : SFits w64 c.latest_end-end.result = search rules in
     let fg : SFits w32 c.self.inside.extremes.greatest = search rules in
     let z = c.args.self.now in
     at_segment z c.self.inside.changes _ _ _ _

@@ -6,7 +6,7 @@ returns-in-Fixed-clause-joined c = grind arith
 
 pub returns-in-Alternate-clause-joined : goal.returns-in-Alternate-clause-joined
 returns-in-Alternate-clause-joined c =
-    let fs : SFits w32 c.offset-in-Alternate.result = let v = c.offset-in-Alternate.ensures.value in omega arith in
+    let fs : SFits w32 c.offset-in-Alternate.result = omega arith in
     let fd : SFits w32 c.offset-in-Alternate-2.result = omega arith in
     rw c.in-Alternate.is (
       c.with-one.result,
