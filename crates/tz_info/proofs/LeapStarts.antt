@@ -104,8 +104,8 @@ pub come_here : (es : List LeapSecond) (x : ℤ) (n : ℕ) → AreLeapSeconds es
     → ((d : LeapSecond) → n < length es → x <ℤ (get_or es n d).unix_leap_time) → HaveCome es x n
 come_here es x n valid within since until = record {
   within = within;
-  before = λ k d l. let r = times_rise es k (n - 1) d valid (omega arith) (omega arith) in let q = since d (omega arith) in omega linear;
-  after = λ k d a l t. let r = times_rise es n k d valid a l in let q = until d (omega arith) in omega linear;
+  before = λ k d l. let r = times_rise es d valid k (n - 1) (omega arith) (omega arith) in let q = since d (omega arith) in omega linear;
+  after = λ k d a l t. let r = times_rise es d valid n k a l in let q = until d (omega arith) in omega linear;
 }
 
 pub both_ways : {P Q R : Type 0} → P ↔ Q → R ↔ Q → P ↔ R

@@ -5,6 +5,7 @@ pub mod SearchSteps
 pub mod HintLaws
 pub mod Words
 pub mod Ranges
+pub mod Fits
 pub mod RuleDays
 pub mod Neighbours
 pub mod RuleLaws

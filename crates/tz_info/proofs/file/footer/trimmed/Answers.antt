@@ -1,4 +1,4 @@
-use Rattle.tz_info.proofs.{Words.{sym}, TrimLaws.{trim_again, trims_both}}
+use Rattle.tz_info.proofs.{TrimLaws.{trim_again, trims_both}, Words.sym}
 use Rattle.tz_info.proofs.file.footer.trimmed.Goals as goal
 
 pub returns : goal.returns

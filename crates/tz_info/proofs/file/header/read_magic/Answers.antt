@@ -1,4 +1,4 @@
-use Rattle.tz_info.proofs.Words.{HasOtherMagic, List, Ok, exact_at, exact_cut, magic_test, true, ℕ, ◌≡◌, Exact, arith, is_magic, lawful, not-false, sym, ◌∙◌}
+use Rattle.tz_info.proofs.Words.{Exact, HasOtherMagic, List, Ok, arith, exact_at, exact_cut, is_magic, lawful, magic_test, not-false, sym, true, ℕ, ◌∙◌, ◌≡◌}
 use Rattle.tz_info.proofs.file.header.read_magic.Goals as goal
 
 -- four other bytes are at the front
@@ -11,4 +11,4 @@ returns-in_err-front-clause-magic c = λ h. absurd (omega (arith, ((lawful (Exac
 pub returns-clause-magic : goal.returns-clause-magic
 returns-clause-magic c =
     λ h. not_magic _ _ h c.in_ok-front.ensures.value
-    (not-false (is_magic c.in_ok-front.front.now) (sym (rw c.as_slice.ensures at c.ne.ensures) ∙ c.if-ne.false))
+    (not-false _ (sym (rw c.as_slice.ensures at c.ne.ensures) ∙ c.if-ne.false))

@@ -1,5 +1,4 @@
-use Rattle.tz_info.proofs.{FilePieceLaws.{has_lengths, pieces_law}, Words.{pieces_of}}
-use Rattle.tz_info.specs.FilePlaces.{In_contents, In_piece}
+use Rattle.tz_info.{proofs.FilePieceLaws.{has_lengths, pieces_law}, specs.FilePlaces.{In_contents, In_piece}}
 use Rattle.tz_info.proofs.file.place.place_of_fault.Goals as goal
 
 pub part_places-requires : goal.part_places-requires
@@ -10,7 +9,7 @@ place_in_contents-requires-clause-lengths c = has_lengths _ _ ((pieces_law _).ta
 
 pub returns-in-Ok : goal.returns-in-Ok
 returns-in-Ok c =
-    In_contents (pieces_of c.in-Ok.pieces) _ _ ((pieces_law _).takes _ c.in-Ok.ensures.pieces) c.part_places.ensures.places
+    In_contents _ c.part_places.result _ ((pieces_law _).takes _ c.in-Ok.ensures.pieces) c.part_places.ensures.places
     c.part_places.ensures.end c.place_in_contents.ensures
 
 pub returns-in-Err : goal.returns-in-Err

@@ -1,4 +1,4 @@
-use Rattle.tz_info.proofs.{FilePieceLaws.{has_lengths, pieces_law}, TzFileLaws.{no_pieces, reads}, Words.{err_from_is_err_and}}
+use Rattle.tz_info.proofs.{FilePieceLaws.{has_lengths, pieces_law}, TzFileLaws.{no_pieces, reads}, Words.arith}
 use Rattle.tz_info.proofs.file.reader.read_lists.Goals as goal
 
 pub lists_of-requires : goal.lists_of-requires
@@ -8,5 +8,4 @@ pub returns-clause-lists : goal.returns-clause-lists
 returns-clause-lists c = reads _ _ _ c.in_ok-pieces.ensures.pieces c.lists_of.ensures
 
 pub returns-in_err-pieces-clause-lists : goal.returns-in_err-pieces-clause-lists
-returns-in_err-pieces-clause-lists c = let p = err_from_is_err_and c.from_residual.result c.from_residual.ensures.1 in
-    rw (p.1, p.2) (no_pieces _ _ c.in_err-pieces.ensures.pieces)
+returns-in_err-pieces-clause-lists c = grind (arith, no_pieces)

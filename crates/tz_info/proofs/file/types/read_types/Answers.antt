@@ -1,4 +1,4 @@
-use Rattle.tz_info.proofs.{Words.{err_from_is_err_and}, TypeLaws.{next_refused}}
+use Rattle.tz_info.proofs.{TypeLaws.next_refused, Words.err_from_is_err_and}
 use Rattle.tz_info.proofs.file.types.read_types.Goals as goal
 
 pub returns-in_err-read_next : goal.returns-in_err-read_next

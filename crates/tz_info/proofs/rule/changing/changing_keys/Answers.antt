@@ -1,26 +1,23 @@
 use Rattle.std.proofs.lemmas.List.{map-append, take_more_set}
-use Rattle.tz_info.proofs.Words.{SFits, ap, are_calm, arith, changing_keys, get_or, key_years, length, length-set, map, pos, refl, rules, sym, take_all}
-use Rattle.tz_info.proofs.Words.{take_more, to_z-of_z}
-use Rattle.tz_info.proofs.Words.{w32, ◌<◌, ◌∙◌, ◌≡◌, ◌≤◌}
-use Rattle.tz_info.proofs.YearKeys.{key_count, year_bounds}
+use Rattle.tz_info.proofs.{Fits.fits, YearKeys.{key_count, year_bounds}}
+use Rattle.tz_info.proofs.Words.{SFits, ap, arith, changing_keys, get_or, key_years, length, length-set, map, pos, refl, rules, sym, take_all, take_more, w32}
+use Rattle.tz_info.proofs.Words.{◌<◌, ◌∙◌, ◌≡◌, ◌≤◌}
 use Rattle.tz_info.specs.Steps.ChangingYears.{is_changing}
 use Rattle.tz_info.proofs.rule.changing.changing_keys.Goals as goal
 
 pub is_changing-requires-clause-year : goal.is_changing-requires-clause-year
 is_changing-requires-clause-year c =
-    let b = year_bounds c.loop-key.key (omega arith) in
     let f : SFits w32 (get_or c.key_years-years.result c.loop-key.key (pos 0)) = search rules in
-    simp to_z-of_z (rw c.key_years-years.ensures b)
+    simp fits (rw c.key_years-years.ensures (year_bounds _ (omega arith)))
 
 pub loop-key-preserved : goal.loop-key-preserved
 loop-key-preserved c =
-    let l = c.loop-key in let years = c.key_years-years.result in
-    let whole = l.invariant.whole in
-    let b : l.key < length l.changing = omega arith in
+    let l = c.loop-key in let whole = l.invariant.whole in
+    let b : l.key < length _ = omega arith in
     let h : l.key < length key_years = omega (arith, key_count) in
-    let f : SFits w32 (get_or years l.key (pos 0)) = search rules in
-    let next : c.is_changing.result ≡ is_changing c.args.starts.now c.args.ends.now (are_calm c.args.starts.now c.args.ends.now)
-    (get_or key_years l.key (pos 0)) = rw (c.are_calm-calm.ensures, c.key_years-years.ensures) at (simp to_z-of_z at c.is_changing.ensures) in
+    let f : SFits w32 (get_or c.key_years-years.result l.key (pos 0)) = search rules in
+    let next : c.is_changing.result ≡ is_changing _ _ _
+    (get_or key_years _ _) = rw (c.are_calm-calm.ensures, c.key_years-years.ensures) at (simp fits at c.is_changing.ensures) in
     record {
       whole = rw length-set whole;
       found = rw (take_more_set l.changing l.key c.is_changing.result b, take_more key_years l.key (pos 0) h, map-append, l.invariant.found, next) refl;
@@ -33,5 +30,5 @@ returns c =
     let all : l.key ≡ 35 = omega arith in
     let s : length l.changing ≤ 35 = omega arith in
     let p : length key_years ≤ 35 = omega (arith, key_count) in
-    sym (take_all 35 l.changing s) ∙ (rw all at l.invariant.found)
-    ∙ ap (map (is_changing c.args.starts.now c.args.ends.now (are_calm c.args.starts.now c.args.ends.now))) (take_all 35 key_years p)
+    sym (take_all 35 _ s) ∙ (rw all at l.invariant.found)
+    ∙ ap (map _) (take_all 35 key_years p)

@@ -1,5 +1,4 @@
-use Rattle.tz_info.proofs.Words.{are_calm, key_years, length, map, take, ◌≡◌}
-use Rattle.tz_info.specs.Steps.ChangingYears.{is_changing}
+use Rattle.tz_info.{proofs.Words.{are_calm, key_years, length, map, take, ◌≡◌}, specs.Steps.ChangingYears.is_changing}
 use Rattle.tz_info.proofs.rule.changing.changing_keys.Given as goal
 
 abbrev pub invariant-loop-key : goal.invariant-loop-key

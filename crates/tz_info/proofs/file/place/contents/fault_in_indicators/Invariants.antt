@@ -1,5 +1,4 @@
-use Rattle.tz_info.proofs.Words.{pieces_of}
-use Rattle.tz_info.specs.FilePlaces.{HoldsOfNone, IsOtherPair}
+use Rattle.tz_info.{proofs.Words.pieces_of, specs.FilePlaces.{HoldsOfNone, IsOtherPair}}
 use Rattle.tz_info.proofs.file.place.contents.fault_in_indicators.Given as goal
 
 abbrev pub invariant-loop-k : goal.invariant-loop-k

@@ -9,6 +9,4 @@ pub returns : goal.returns
 returns c = λ k l. c.loop-k.invariant k (omega arith)
 
 pub returns-in-Err : goal.returns-in-Err
-returns-in-Err c =
-    rw c.before_field.ensures (type_place _ _ _ c.loop-k-test.true c.loop-k.invariant
-    (rw c.record_at.ensures.value at c.in-Err.ensures))
+returns-in-Err c = grind (arith, type_place)

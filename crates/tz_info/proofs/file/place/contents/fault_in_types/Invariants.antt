@@ -1,5 +1,4 @@
-use Rattle.tz_info.proofs.Words.{pieces_of, ℕ, ◌<◌}
-use Rattle.tz_info.specs.FilePlaces.{IsTypeAt}
+use Rattle.tz_info.{proofs.Words.{pieces_of, ℕ, ◌<◌}, specs.FilePlaces.IsTypeAt}
 use Rattle.tz_info.proofs.file.place.contents.fault_in_types.Given as goal
 
 abbrev pub invariant-loop-k : goal.invariant-loop-k

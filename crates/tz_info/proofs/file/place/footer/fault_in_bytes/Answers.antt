@@ -1,5 +1,4 @@
-use Rattle.tz_info.proofs.Words.{refl}
-use Rattle.tz_info.specs.FilePlaces.{Not_utf8}
+use Rattle.tz_info.{proofs.Words.refl, specs.FilePlaces.Not_utf8}
 use Rattle.tz_info.proofs.file.place.footer.fault_in_bytes.Goals as goal
 
 pub returns-in-Err : goal.returns-in-Err

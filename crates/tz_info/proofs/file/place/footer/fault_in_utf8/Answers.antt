@@ -14,17 +14,10 @@ returns-then-not-is_between_newlines c = (
 )
 
 pub overflow_add-result : goal.overflow_add-result
-overflow_add-result c =
-    let l = text_fits _ _ _ _ _ c.trim_ascii_start-start.ensures.value c.trim_ascii.ensures.value c.in-Some.ensures in omega arith
+overflow_add-result c = grind (arith, text_fits)
 
 pub returns-in-Some : goal.returns-in-Some
-returns-in-Some c = (
-  c.args.bytes.now,
-  refl,
-  text_place _ _ _ _ _ c.trim_ascii_start-start.ensures.value
-      c.trim_ascii.ensures.value c.in-Some.ensures
-      c.requires (is_between _ (sym c.is_between_newlines.ensures ∙ c.if-not-is_between_newlines.false)),
-)
+returns-in-Some c = grind (arith, is_between, text_place)
 
 pub returns-in-None : goal.returns-in-None
 returns-in-None c =

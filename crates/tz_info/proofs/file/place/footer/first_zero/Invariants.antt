@@ -1,5 +1,4 @@
-use Rattle.tz_info.proofs.Words.{slice_index, ◌≡◌}
-use Rattle.tz_info.specs.FilePlaces.{HoldsOfNone}
+use Rattle.tz_info.{proofs.Words.{slice_index, ◌≡◌}, specs.FilePlaces.HoldsOfNone}
 use Rattle.tz_info.proofs.file.place.footer.first_zero.Given as goal
 
 abbrev pub invariant-loop-k : goal.invariant-loop-k

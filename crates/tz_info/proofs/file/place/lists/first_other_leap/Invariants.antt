@@ -1,5 +1,4 @@
-use Rattle.tz_info.proofs.Words.{pieces_of}
-use Rattle.tz_info.specs.FilePlaces.{HoldsOfNone, IsOtherLeap}
+use Rattle.tz_info.{proofs.Words.pieces_of, specs.FilePlaces.{HoldsOfNone, IsOtherLeap}}
 use Rattle.tz_info.proofs.file.place.lists.first_other_leap.Given as goal
 
 abbrev pub invariant-loop-k : goal.invariant-loop-k

@@ -1,5 +1,4 @@
-use Rattle.tz_info.proofs.FilePlaceLaws.{space_is}
-use Rattle.tz_info.specs.FilePlaces.{At_index, At_leap, At_rule, At_time}
+use Rattle.tz_info.{proofs.FilePlaceLaws.space_is, specs.FilePlaces.{At_index, At_leap, At_rule, At_time}}
 use Rattle.tz_info.proofs.file.place.lists.place_in_lists.Goals as goal
 
 pub returns-in-Some : goal.returns-in-Some

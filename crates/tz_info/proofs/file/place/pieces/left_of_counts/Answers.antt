@@ -1,4 +1,4 @@
-use Rattle.tz_info.proofs.{FilePlaceLaws.{counts_short}, Words.{ap, length, sym}}
+use Rattle.tz_info.proofs.{FilePlaceLaws.counts_short, Words.{ap, length, sym}}
 use Rattle.tz_info.proofs.file.place.pieces.left_of_counts.Goals as goal
 
 pub returns-in-Err : goal.returns-in-Err

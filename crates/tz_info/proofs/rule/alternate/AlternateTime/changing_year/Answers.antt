@@ -1,6 +1,5 @@
-use Rattle.tz_info.proofs.Words.{IsRuleYear, SFits, arith, changes_in_year, false, ints, refl, rules, sym, to_z-of_z, w32, w64, year_at, ◌∙◌}
-use Rattle.tz_info.proofs.Words.{◌≡◌}
-use Rattle.tz_info.proofs.AskedYears.{beyond_first, from_first, from_next, never_at_all, never_beyond, none_out}
+use Rattle.tz_info.proofs.{AskedYears.{beyond_first, from_next, never_at_all, never_beyond, none_out}, Fits.fits}
+use Rattle.tz_info.proofs.Words.{IsRuleYear, SFits, arith, changes_in_year, false, ints, refl, rules, sym, w32, w64, year_at, ◌∙◌, ◌≡◌}
 use Rattle.tz_info.proofs.rule.alternate.AlternateTime.changing_year.Goals.{Else-not-is_rule_year}
 use Rattle.tz_info.proofs.rule.alternate.AlternateTime.changing_year.Goals as goal
 
@@ -11,60 +10,54 @@ inside : (c : Else-not-is_rule_year)
 inside c =
     let ff = c.ranges.first in
     let fy : SFits w64 c.year_at-year.result = search rules in
-    let i = (simp to_z-of_z at c.is_rule_year.ensures).0 (rw c.if-not-is_rule_year.false refl) in
-    let i0 = i.0 in let i1 = i.1 in
-    (fy, omega (arith, ints), simp to_z-of_z at c.year_at-year.ensures, i)
+    let i = (simp fits at c.is_rule_year.ensures).0 (rw c.if-not-is_rule_year.false refl) in
+    (fy, omega (arith, ints), simp fits at c.year_at-year.ensures, i)
 
 pub returns-then-never_changes : goal.returns-then-never_changes
-returns-then-never_changes c = λ d is y of_year beyond. never_at_all c.args.self.now d (c.never_changes.ensures.0 c.if-never_changes.true) is
-
-pub loop-step-init : goal.loop-step-init
-loop-step-init c =
-    let ff = c.ranges.first in
-    simp to_z-of_z (from_first c.args.self.now c.args.forward c.args.first)
+returns-then-never_changes c = λ d is y of_year beyond. never_at_all _ d (c.never_changes.ensures.0 c.if-never_changes.true) is
 
 pub returns-then-not-is_rule_year : goal.returns-then-not-is_rule_year
 returns-then-not-is_rule_year c =
     let ff = c.ranges.first in
-    let fy : SFits w64 c.year_at-year.result = search rules in
-    none_out c.args.self.now c.args.forward c.args.first c.loop-step.step c.requires
-    (λ i. let t = (simp to_z-of_z at c.is_rule_year.ensures).1 (rw (simp to_z-of_z at c.year_at-year.ensures) i) in let f = c.if-not-is_rule_year.true in cc)
-    (simp to_z-of_z at c.loop-step.invariant)
+    let fy = c.year_at-year.type_inv in
+    none_out _ _ _ _ c.requires
+    (λ i. let t = (simp fits at c.is_rule_year.ensures).1 (rw (simp fits at c.year_at-year.ensures) i) in cc)
+    (simp fits at c.loop-step.invariant)
 
 pub overflow_cast-year : goal.overflow_cast-year
 overflow_cast-year c =
-    let (fy, fn, e, i) = inside (goal.at.overflow_cast-year c).Else-not-is_rule_year in simp to_z-of_z fn
+    let (fy, fn, e, i) = inside (goal.at.overflow_cast-year c).Else-not-is_rule_year in simp fits fn
 
 pub overflow_cast-result : goal.overflow_cast-result
 overflow_cast-result c =
-    let (fy, fn, e, i) = inside (goal.at.overflow_cast-result c).Else-not-is_rule_year in simp to_z-of_z fn
+    let (fy, fn, e, i) = inside (goal.at.overflow_cast-result c).Else-not-is_rule_year in simp fits fn
 
 pub changes_in_year-requires : goal.changes_in_year-requires
-changes_in_year-requires c = let (fy, fn, e, i) = inside (goal.at.changes_in_year-requires c).Else-not-is_rule_year in simp to_z-of_z i
+changes_in_year-requires c = let (fy, fn, e, i) = inside (goal.at.changes_in_year-requires c).Else-not-is_rule_year in simp fits i
 
 pub returns-then-changes_in_year : goal.returns-then-changes_in_year
 returns-then-changes_in_year c =
     let ff = c.ranges.first in
     let (fy, fn, e, i) = inside (goal.at.returns-then-changes_in_year c).Else-not-is_rule_year in
-    simp to_z-of_z (record {
+    simp fits (record {
       inside = i;
-      beyond = rw e (beyond_first c.args.forward c.args.first c.loop-step.step (omega (arith, c.loop-step.auto.step)));
-      from = rw e (simp to_z-of_z at c.loop-step.invariant);
-      changes = sym (simp to_z-of_z at c.changes_in_year.ensures.value) ∙ c.if-changes_in_year.true;
+      beyond = rw e (beyond_first _ _ _ (omega arith));
+      from = rw e (simp fits at c.loop-step.invariant);
+      changes = sym (simp fits at c.changes_in_year.ensures.value) ∙ c.if-changes_in_year.true;
     })
 
 pub loop-step-preserved : goal.loop-step-preserved
 loop-step-preserved c =
     let ff = c.ranges.first in
     let (fy, fn, e, i) = inside (goal.at.loop-step-preserved c).Else-not-is_rule_year in
-    let none : changes_in_year c.args.self.now c.year_at-year.result ≡ false = sym (simp to_z-of_z at c.changes_in_year.ensures.value)
+    let none : changes_in_year c.args.self.now c.year_at-year.result ≡ false = sym (simp fits at c.changes_in_year.ensures.value)
     ∙ c.if-changes_in_year.false in
-    simp to_z-of_z (from_next c.args.self.now c.args.forward c.args.first c.loop-step.step c.changes_in_year.ensures.rule (rw e at none)
-    (simp to_z-of_z at c.loop-step.invariant))
+    simp fits (from_next _ _ _ _ c.changes_in_year.ensures.rule (rw e at none)
+    (simp fits at c.loop-step.invariant))
 
 pub returns : goal.returns
 returns c =
     let ff = c.ranges.first in
     let e : c.loop-step.step ≡ 401 = omega arith in
-    never_beyond c.args.self.now c.args.forward c.args.first (rw (← c.self.view_is) c.self.invariant.0) c.requires
-    (rw e at (simp to_z-of_z at c.loop-step.invariant))
+    never_beyond _ _ _ (rw (← c.self.view_is) c.self.invariant.0) c.requires
+    (rw e at (simp fits at c.loop-step.invariant))

@@ -4,16 +4,15 @@ use Rattle.tz_info.proofs.rule.alternate.AlternateTime.never_changes.Goals as go
 
 pub returns-then-not-self : goal.returns-then-not-self
 returns-then-not-self c =
-    let never = steady_without _ c.self.invariant.0 (sym c.self.invariant.5 ∙ c.if-not-self.true) in
-    rw (← c.self.view_is) (λ _. never, λ _. refl)
+    rw (← c.self.view_is) (λ _. (steady_without _ c.self.invariant.0 (sym c.self.invariant.5 ∙ c.if-not-self.true)), λ _. refl)
 
 pub returns : goal.returns
 returns c =
-    let some = sym c.self.invariant.5 ∙ c.if-not-self.false in
     rw (← c.self.view_is) (
       λ same. steady_alike _ (c.is_same_type.ensures.0 same),
-      λ never. elim (cases_Bool c.is_same_type.result) [
+      λ never. elim (cases_Bool _) [
         | inl on ↦ on
-        | inr off ↦ absurd (unsteady _ c.self.invariant.0 (λ e. let yes = c.is_same_type.ensures.1 e in cc) some never)
+        | inr off ↦ absurd (unsteady _ c.self.invariant.0 (λ e. let yes = c.is_same_type.ensures.1 e in cc)
+            (sym c.self.invariant.5 ∙ c.if-not-self.false) never)
       ],
     )

@@ -1,5 +1,5 @@
-use Rattle.tz_info.proofs.Words.{SFits, Season, ap, arith, floors, pos, refl, sym, to_z-of_z, w64, year_of, year_start, ◌*ℤ◌, ◌+ℤ◌, ◌-ℤ◌, ◌∙◌, ◌≡◌}
-use Rattle.tz_info.proofs.{KindLaws.{IsMargin, margin_kept}, SeasonLaws.{own_start, season_made}}
+use Rattle.tz_info.proofs.{Fits.fits, KindLaws.{IsMargin, margin_kept}, SeasonLaws.{own_start, season_made}}
+use Rattle.tz_info.proofs.Words.{SFits, Season, ap, arith, floors, pos, refl, sym, w64, year_of, year_start, ◌*ℤ◌, ◌+ℤ◌, ◌-ℤ◌, ◌∙◌, ◌≡◌}
 use Rattle.tz_info.proofs.rule.alternate.AlternateTime.season.Goals.{After-first_of_year-first, After-self}
 use Rattle.tz_info.proofs.rule.alternate.AlternateTime.season.Goals as goal
 
@@ -8,50 +8,48 @@ begun : (c : After-first_of_year-first) → SFits w64 c.args.unix_time × SFits 
     × (c.first_of_year-first.result ≡ year_start (year_of c.day_of-day.result)) × (year_of c.first_of_year-first.result ≡ year_of c.day_of-day.result)
 begun c =
     let at_second = c.ranges.unix_time in
-    let at_day : SFits w64 c.day_of-day.result = omega (arith, floors, c.day_of-day.ensures.bound) in
-    let begins : c.first_of_year-first.result ≡ year_start (year_of c.day_of-day.result) = simp to_z-of_z at c.first_of_year-first.ensures.value in
-    (at_second, at_day, omega (arith, floors, c.first_of_year-first.ensures.bound), begins, ap year_of begins ∙ own_start (year_of c.day_of-day.result))
+    let at_day : SFits w64 c.day_of-day.result = omega (arith, floors) in
+    let begins : c.first_of_year-first.result ≡ year_start _ = simp fits at c.first_of_year-first.ensures.value in
+    (at_second, at_day, omega (arith, floors), begins, ap year_of begins ∙ own_start _)
 
 kept : (c : After-self) → IsMargin c.args.self.now c.self.inside.margin
-kept c = rw (← c.self.view_is) (margin_kept _ c.self.inside.margin c.self.invariant.0 c.self.invariant.3)
+kept c = rw (← c.self.view_is) (margin_kept _ _ c.self.invariant.0 c.self.invariant.3)
 
 pub turns_from-requires-clause-first : goal.turns_from-requires-clause-first
 turns_from-requires-clause-first c =
     let (at_second, at_day, at_first, begins, own) = begun (goal.at.turns_from-requires-clause-first c).After-first_of_year-first in
-    simp to_z-of_z (begins ∙ ap year_start (sym own))
+    simp fits (begins ∙ ap year_start (sym own))
 
 pub turns_from-requires-clause-kind : goal.turns_from-requires-clause-kind
 turns_from-requires-clause-kind c =
     let (at_second, at_day, at_first, begins, own) = begun (goal.at.turns_from-requires-clause-kind c).After-first_of_year-first in
-    let leap = simp to_z-of_z at c.year_day_of-place.ensures.leap in
-    let weekday = simp to_z-of_z at c.year_day_of-place.ensures.first in
-    simp to_z-of_z (rw own (rw (leap, weekday) at c.kind_by.ensures.value))
+    let leap = simp fits at c.year_day_of-place.ensures.leap in
+    let weekday = simp fits at c.year_day_of-place.ensures.first in
+    simp fits (rw own (rw (leap, weekday) at c.kind_by.ensures.value))
 
 pub overflow_sub-result : goal.overflow_sub-result
 overflow_sub-result c = let bound = (kept (goal.at.overflow_sub-result c).After-self).bound in
-    omega (arith, floors, bound.0, bound.1, c.first_of_year-first.ensures.bound)
+    omega (arith, floors)
 
 pub overflow_add-result-2 : goal.overflow_add-result-2
 overflow_add-result-2 c = let bound = (kept (goal.at.overflow_add-result-2 c).After-self).bound in
-    omega (arith, floors, bound.0, bound.1, c.first_of_year-first.ensures.bound)
+    omega (arith, floors)
 
 pub returns : goal.returns
 returns c =
     let at = goal.at.returns c in
     let (at_second, at_day, at_first, begins, own) = begun at.After-first_of_year-first in
     let k = kept at.After-self in
-    let bound = c.first_of_year-first.ensures.bound in
     let margin = c.self.inside.margin in
-    let least = k.bound.0 in let most = k.bound.1 in
     let at_margin : SFits w64 margin = omega (arith, floors) in
-    let at_midnight : SFits w64 (pos 86_400 *ℤ c.first_of_year-first.result) = omega (arith, floors, bound) in
-    let at_from : SFits w64 (pos 86_400 *ℤ c.first_of_year-first.result -ℤ margin) = omega (arith, floors, bound) in
-    let at_end : SFits w64 (pos 86_400 *ℤ c.first_of_year-first.result +ℤ pos 31_536_000) = omega (arith, floors, bound) in
-    let at_until : SFits w64 (pos 86_400 *ℤ c.first_of_year-first.result +ℤ pos 31_536_000 +ℤ margin) = omega (arith, floors, bound) in
+    let at_midnight : SFits w64 (pos 86_400 *ℤ c.first_of_year-first.result) = omega (arith, floors) in
+    let at_from : SFits w64 (pos 86_400 *ℤ c.first_of_year-first.result -ℤ margin) = omega (arith, floors) in
+    let at_end : SFits w64 (pos 86_400 *ℤ c.first_of_year-first.result +ℤ pos 31_536_000) = omega (arith, floors) in
+    let at_until : SFits w64 (pos 86_400 *ℤ c.first_of_year-first.result +ℤ pos 31_536_000 +ℤ margin) = omega (arith, floors) in
     let season : Season = record {
       from = pos 86_400 *ℤ c.first_of_year-first.result -ℤ margin;
       until = pos 86_400 *ℤ c.first_of_year-first.result +ℤ pos 31_536_000 +ℤ margin;
       turns = c.turns_from.result;
     } in
-    simp to_z-of_z (season_made c.args.self.now margin (year_of c.first_of_year-first.result) c.first_of_year-first.result season k
-    (begins ∙ ap year_start (sym own)) refl refl (simp to_z-of_z at c.turns_from.ensures.start) (simp to_z-of_z at c.turns_from.ensures.end))
+    simp fits (season_made c.args.self.now margin (year_of c.first_of_year-first.result) c.first_of_year-first.result season k
+    (begins ∙ ap year_start (sym own)) refl refl (simp fits at c.turns_from.ensures.start) (simp fits at c.turns_from.ensures.end))

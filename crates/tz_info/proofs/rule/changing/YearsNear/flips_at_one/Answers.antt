@@ -1,16 +1,15 @@
 use Rattle.std.proofs.lemmas.List.Folds.{list_any_at, list_any_more}
-use Rattle.tz_info.proofs.Words.{SFits, arith, get_or, pos, refl, rules, sym, to_z-of_z, w64, ◌∙◌}
-use Rattle.tz_info.specs.Steps.ChangingYears.{flips_at}
+use Rattle.tz_info.{proofs.{Fits.fits, Words.{SFits, arith, get_or, pos, refl, rules, sym, w64, ◌∙◌}}, specs.Steps.ChangingYears.flips_at}
 use Rattle.tz_info.proofs.rule.changing.YearsNear.flips_at_one.Goals as goal
 
 pub returns-then-flips_at : goal.returns-then-flips_at
 returns-then-flips_at c =
     let fs : SFits w64 (get_or c.args.seconds.now c.loop-second.second-index (pos 0)) = search rules in
-    sym (list_any_at (flips_at c.args.self) c.args.seconds.now c.loop-second.second-index (pos 0) (omega arith)
-    (sym (simp to_z-of_z at c.flips_at.ensures) ∙ c.if-flips_at.true))
+    sym (list_any_at _ c.args.seconds.now c.loop-second.second-index (pos 0) (omega arith)
+    (sym (simp fits at c.flips_at.ensures) ∙ c.if-flips_at.true))
 
 pub loop-second-preserved : goal.loop-second-preserved
 loop-second-preserved c =
     let fs : SFits w64 (get_or c.args.seconds.now c.loop-second.second-index (pos 0)) = search rules in
-    list_any_more (flips_at c.args.self) c.args.seconds.now c.loop-second.second-index (pos 0) (omega arith)
-    ∙ rw (c.loop-second.invariant, sym (simp to_z-of_z at c.flips_at.ensures) ∙ c.if-flips_at.false) refl
+    list_any_more _ _ c.loop-second.second-index (pos 0) (omega arith)
+    ∙ rw (c.loop-second.invariant, sym (simp fits at c.flips_at.ensures) ∙ c.if-flips_at.false) refl

@@ -1,4 +1,4 @@
-use Rattle.tz_info.proofs.Words.{SFits, rules, to_z-of_z, w64}
+use Rattle.tz_info.proofs.{Fits.fits, Words.{SFits, rules, w64}}
 use Rattle.tz_info.proofs.rule.changing.YearsNear.has_flip.Goals as goal
 
 pub returns : goal.returns
@@ -10,4 +10,4 @@ returns c =
     let f4 : SFits w64 c.args.self.after.start = search rules in
     let f5 : SFits w64 c.args.self.after.end = search rules in
     let f6 : SFits w64 c.args.self.next = search rules in
-    simp to_z-of_z at c.flips_at_one.ensures
+    simp fits at c.flips_at_one.ensures

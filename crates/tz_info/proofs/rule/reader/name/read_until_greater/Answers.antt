@@ -1,5 +1,4 @@
-use Rattle.tz_info.proofs.Words.{ap, is_not_greater, not, runs_are, tested, ◌==◌}
-use Rattle.tz_info.specs.TzGrammar.{greater}
+use Rattle.tz_info.{proofs.Words.{ap, is_not_greater, not, runs_are, tested, ◌==◌}, specs.TzGrammar.greater}
 use Rattle.tz_info.proofs.rule.reader.name.read_until_greater.Goals as goal
 
 pub returns : goal.returns

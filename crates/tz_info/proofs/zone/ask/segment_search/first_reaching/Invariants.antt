@@ -1,5 +1,4 @@
-use Rattle.tz_info.proofs.Words.{digits, length, suc, ◌+◌, ◌<◌, ◌≡◌, ◌≤◌}
-use Rattle.tz_info.specs.Steps.SegmentEnds.{IsReached}
+use Rattle.tz_info.{proofs.Words.{digits, length, suc, ◌+◌, ◌<◌, ◌≡◌, ◌≤◌}, specs.Steps.SegmentEnds.IsReached}
 use Rattle.tz_info.proofs.zone.ask.segment_search.first_reaching.Given as goal
 
 abbrev pub invariant-loop-count : goal.invariant-loop-count

@@ -1,8 +1,5 @@
-use Rattle.tz_info.proofs.{Words.{append-nil}, ExtremeLaws.{rule_joined}}
+use Rattle.tz_info.proofs.ExtremeLaws.{rule_joined}
 use Rattle.tz_info.proofs.zone.made.extremes.extremes_of.Goals as goal
-
-pub returns-in-None-clause-extremes : goal.returns-in-None-clause-extremes
-returns-in-None-clause-extremes c = rw (c.in-None.is, append-nil) c.extremes_of_types-found.ensures
 
 pub returns-in-Some-clause-extremes : goal.returns-in-Some-clause-extremes
 returns-in-Some-clause-extremes c =

@@ -1,4 +1,4 @@
-use Rattle.tz_info.proofs.{Words.{together, ◌+◌, ◌≡◌}, WallPieces.{Merging}}
+use Rattle.tz_info.proofs.{WallPieces.Merging, Words.{together, ◌+◌, ◌≡◌}}
 use Rattle.tz_info.proofs.zone.made.pieces.merged.Given as goal
 
 abbrev pub invariant-loop-step : goal.invariant-loop-step

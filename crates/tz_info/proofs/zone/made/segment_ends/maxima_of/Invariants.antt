@@ -1,4 +1,4 @@
-use Rattle.tz_info.proofs.{Words.{length, vec_capacity, vec_len, ◌≡◌}, SegmentEndLaws.{AreMaximaOf}}
+use Rattle.tz_info.proofs.{SegmentEndLaws.AreMaximaOf, Words.{length, vec_capacity, vec_len, ◌≡◌}}
 use Rattle.tz_info.proofs.zone.made.segment_ends.maxima_of.Given as goal
 
 abbrev pub invariant-loop-place : goal.invariant-loop-place

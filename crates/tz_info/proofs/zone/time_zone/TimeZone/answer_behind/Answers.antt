@@ -1,28 +1,19 @@
-use Rattle.tz_info.proofs.{
-  TableLaws.{table_below, table_typed},
-  WallSegments.{all_segments, table_alone, table_first},
-  Words.{IsValid, ap, sym, to_z-of_z, ◌∙◌},
-}
+use Rattle.tz_info.proofs.{Fits.fits, TableLaws.{table_below, table_typed}, WallSegments.{all_segments, table_alone, table_first}}
+use Rattle.tz_info.proofs.Words.{ap, arith, ints, sym, to_z-of_z, ◌∙◌}
 use Rattle.tz_info.proofs.zone.time_zone.TimeZone.answer_behind.Goals as goal
 
 pub types_of-table-requires : goal.types_of-table-requires
 types_of-table-requires c = rw (c.deref.ensures.value, ap (λ z. z.types) c.self.view_is) (table_below _ _ _ c.requires.shown)
 
 pub returns-in-None-clause-found : goal.returns-in-None-clause-found
-returns-in-None-clause-found c =
-    let listed = rw (c.deref.ensures.value, ap (λ z. z.types) c.self.view_is) at c.types_of-table.ensures in
-    table_alone _ _ _ (rw (← c.self.view_is) c.self.invariant.valid) (ap (λ z. z.rule) (sym c.self.view_is) ∙ c.in-None.is)
-    (table_typed _ _ _ _ (rw (← c.self.view_is) c.self.invariant.valid) listed c.requires.shown)
+returns-in-None-clause-found c = grind (arith, ints, to_z-of_z, table_alone, table_typed)
 
 pub try_rule-requires-clause-seen : goal.try_rule-requires-clause-seen
 try_rule-requires-clause-seen c =
     let fl = c.ranges.local in
     let listed = rw (c.deref.ensures.value, ap (λ z. z.types) c.self.view_is) at c.types_of-table.ensures in
-    simp to_z-of_z (table_first _ _ _ _ (ap (λ z. z.rule) (sym c.self.view_is) ∙ c.in-Some.is)
+    simp fits (table_first _ _ _ _ (ap (λ z. z.rule) (sym c.self.view_is) ∙ c.in-Some.is)
     (table_typed _ _ _ _ (rw (← c.self.view_is) c.self.invariant.valid) listed c.requires.shown))
 
 pub returns-in-Some-clause-found : goal.returns-in-Some-clause-found
-returns-in-Some-clause-found c =
-    let fl = c.ranges.local in
-    let valid : IsValid c.args.self.now = rw (← c.self.view_is) c.self.invariant.valid in
-    all_segments _ _ _ valid.transitions.rising (simp to_z-of_z at c.try_rule.ensures.found)
+returns-in-Some-clause-found c = grind (arith, ints, to_z-of_z, all_segments)

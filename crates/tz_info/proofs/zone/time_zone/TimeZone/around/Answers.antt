@@ -1,6 +1,6 @@
-use Rattle.tz_info.proofs.Words.{HasReach, IsRuleOrNone, IsShownAmong, IsValid, SFits, Zone, ap, arith, length, rules, to_z-of_z, top_of, w32, ◌≡◌}
-use Rattle.tz_info.proofs.TableLaws.{gap_by_index, reach_of, rose_by_wall}
-use Rattle.tz_info.specs.{Looks.{RoseByWallClock}, Steps.Entries.{AreEntries}}
+use Rattle.tz_info.proofs.{Fits.fits, TableLaws.{gap_by_index, reach_of, rose_by_wall}}
+use Rattle.tz_info.proofs.Words.{HasReach, IsRuleOrNone, IsShownAmong, SFits, ap, arith, length, rules, top_of, w32, ◌≡◌}
+use Rattle.tz_info.specs.{Looks.RoseByWallClock, Steps.Entries.AreEntries}
 use Rattle.tz_info.proofs.zone.time_zone.TimeZone.around.Goals.{After-answer-shown, After-answer_behind-season}
 use Rattle.tz_info.proofs.zone.time_zone.TimeZone.around.Goals as goal
 
@@ -9,7 +9,7 @@ said : (c : After-answer-shown)
     → IsShownAmong c.args.self.now c.self.inside.changes.items 0 (top_of c.args.self.now.rule c.self.inside.changes) c.args.local c.answer-shown.result
 said c =
     let fl = c.ranges.local in
-    rw (simp to_z-of_z at c.answer-shown.ensures.answer, ← c.self.view_is) (c.self.invariant.index.answers c.args.local c.requires.local)
+    rw (simp fits at c.answer-shown.ensures.answer, ← c.self.view_is) (c.self.invariant.index.answers c.args.local c.requires.local)
 
 entries : (c : After-answer-shown) → AreEntries c.args.self.now c.self.inside.changes
 entries c = rw (← c.self.view_is) c.self.invariant.list
@@ -18,14 +18,14 @@ pub answer_behind-season-requires-clause-shown : goal.answer_behind-season-requi
 answer_behind-season-requires-clause-shown c =
     let fl = c.ranges.local in
     let d = (goal.at.answer_behind-season-requires-clause-shown c).After-answer-shown in
-    simp to_z-of_z (c.self.inside.changes, entries d, (said d).wall)
+    simp fits (c.self.inside.changes, entries d, (said d).wall)
 
 pub gap_at-requires-clause-reach : goal.gap_at-requires-clause-reach
 gap_at-requires-clause-reach c =
     let fl = c.ranges.local in
     let fg : SFits w32 c.self.inside.extremes.greatest = search rules in
     let fh : SFits w32 c.self.inside.extremes.least = search rules in
-    simp to_z-of_z (reach_of _ _ c.self.inside.extremes c.requires.local fg fh (rw (← c.self.view_is) c.self.invariant.extremes))
+    simp fits (reach_of _ _ _ c.requires.local fg fh (rw (← c.self.view_is) c.self.invariant.extremes))
 
 pub gap_at-requires-clause-jump : goal.gap_at-requires-clause-jump
 gap_at-requires-clause-jump c =
@@ -34,20 +34,20 @@ gap_at-requires-clause-jump c =
     let fg : SFits w32 c.self.inside.extremes.greatest = search rules in
     let fh : SFits w32 c.self.inside.extremes.least = search rules in
     let reach : HasReach c.args.self.now c.args.local =
-    reach_of _ _ c.self.inside.extremes c.requires.local fg fh (rw (← c.self.view_is) c.self.invariant.extremes) in
-    let valid : IsValid c.args.self.now = rw (← c.self.view_is) c.self.invariant.valid in
+    reach_of _ _ _ c.requires.local fg fh (rw (← c.self.view_is) c.self.invariant.extremes) in
     let limits : IsRuleOrNone c.args.self.now.rule = rw (← c.self.view_is) c.self.invariant.limits in
-    let never = rw c.in-None.is at (simp to_z-of_z at c.answer_behind-season.ensures.found) in
-    let jump = rw (c.deref.ensures.value, ap (λ (z : Zone). z.types) c.self.view_is) at c.jump-jump.ensures.jump in
-    simp to_z-of_z (gap_by_index c.args.self.now c.self.inside.changes c.args.local reach.0 reach.1 c.answer-shown.result _ valid limits
-    (entries d) never reach.2 (said d) jump)
+    simp fits (gap_by_index _ _ _ reach.0 reach.1 _ _ (rw c.self.view_is at c.self.invariant.valid) limits
+    (entries d) (rw c.in-None.is at (simp fits at c.answer_behind-season.ensures.found)) reach.2 (said d) (rw (
+      c.deref.ensures.value,
+      ap
+          (λ z. z.types) c.self.view_is,
+    ) at c.jump-jump.ensures.jump))
 
 -- one search, and questions to the rule
 cost : (c : After-answer_behind-season) → RoseByWallClock c.args.self.now c.args.probes.now c.answer_behind-season.new.probes
 cost c =
-    let n = ap (λ (z : Zone). length z.transitions) c.self.view_is in
-    let most = c.self.invariant.index.most in let few = c.self.invariant.list.few in
-    rose_by_wall c.args.self.now _ _ _ _ (omega arith) c.answer-shown.ensures.cost
+    let n = ap (λ z. length z.transitions) c.self.view_is in
+    rose_by_wall _ _ _ _ _ (omega arith) c.answer-shown.ensures.cost
     (λ some. c.answer-shown.ensures.looked (c.self.invariant.index.some (omega arith))) c.answer_behind-season.ensures.cost
 
 pub returns-in-None-clause-cost : goal.returns-in-None-clause-cost
@@ -62,8 +62,6 @@ returns-in-Ambiguous-clause-cost c = (_, cost (goal.at.returns-in-Ambiguous-clau
 pub returns-in-None-clause-questions : goal.returns-in-None-clause-questions
 returns-in-None-clause-questions c =
     let fl = c.ranges.local in
-    let kept = c.answer-shown.ensures.cost.questions_kept in let most = c.answer-shown.ensures.cost.questions_most in
-    let kept_by = c.jump-jump.ensures.cost.questions_kept in let most_by = c.jump-jump.ensures.cost.questions_most in
     let same : c.answer-shown.new.probes.rule_questions ≡ c.args.probes.now.rule_questions = omega arith in
     let after : c.jump-jump.new.probes.rule_questions ≡ c.answer_behind-season.new.probes.rule_questions = omega arith in
-    rw after (rw same at (simp to_z-of_z at c.answer_behind-season.ensures.counted))
+    rw after (rw same at (simp fits at c.answer_behind-season.ensures.counted))

@@ -1,5 +1,4 @@
-use Rattle.tz_info.proofs.Words.{unsigned_abs, ◌-ℤ◌}
-use Rattle.tz_info.specs.Steps.Folds.{IsBackTo}
+use Rattle.tz_info.{proofs.Words.{unsigned_abs, ◌-ℤ◌}, specs.Steps.Folds.IsBackTo}
 use Rattle.tz_info.proofs.zone.time_zone.TimeZone.change_back.Given as goal
 
 abbrev pub invariant-loop-at : goal.invariant-loop-at

@@ -1,14 +1,12 @@
-use Rattle.tz_info.proofs.{Words.{arith, to_z-of_z}, EntryChanges.{have_come, looks_most, rose_less}}
+use Rattle.tz_info.proofs.{EntryChanges.{have_come, looks_most, rose_less}, Fits.fits, Words.arith}
 use Rattle.tz_info.proofs.zone.time_zone.TimeZone.come_at.Goals as goal
 
 pub returns-then-has_leap_time-clause-come : goal.returns-then-has_leap_time-clause-come
 returns-then-has_leap_time-clause-come c =
     let fu = c.ranges.unix_time in
-    let time = simp to_z-of_z at (c.has_leap_time.ensures.yes c.if-has_leap_time.true) in
+    let time = simp fits at (c.has_leap_time.ensures.yes c.if-has_leap_time.true) in
     rw (← c.self.view_is) (have_come _ _ _ _ c.self.invariant.valid c.self.invariant.list fu time
-    (simp to_z-of_z at c.come.ensures.come))
+    (simp fits at c.come.ensures.come))
 
 pub returns-then-has_leap_time-clause-cost : goal.returns-then-has_leap_time-clause-cost
-returns-then-has_leap_time-clause-cost c =
-    let some = rw (← c.self.view_is) at c.requires.some in
-    rw (← c.self.view_is) (rose_less _ _ _ _ 0 0 c.come.ensures.cost (looks_most _ _ some c.self.invariant.list.few) (omega arith))
+returns-then-has_leap_time-clause-cost c = grind (arith, looks_most, rose_less)

@@ -1,6 +1,7 @@
-use Rattle.tz_info.proofs.{ShownSecondLaws.{found_in_run, goes_on, leaves_less, none_left}, Words.{SFits, linear, rules, to_z-of_z, w32, w64, ◌-ℤ◌, ◌≡◌}}
-use Rattle.tz_info.proofs.zone.time_zone.TimeZone.end_within.Goals as goal
+use Rattle.tz_info.proofs.{Fits.fits, ShownSecondLaws.{found_in_run, goes_on, leaves_less, none_left}}
+use Rattle.tz_info.proofs.Words.{SFits, arith, ints, rules, to_z-of_z, w64, ◌-ℤ◌, ◌≡◌}
 use Rattle.tz_info.proofs.zone.time_zone.TimeZone.end_within.Goals.{After-second_showing-before}
+use Rattle.tz_info.proofs.zone.time_zone.TimeZone.end_within.Goals as goal
 
 -- the seconds between which a clock of the run's type shows a local time of the stretch
 between : (c : After-second_showing-before)
@@ -9,36 +10,34 @@ between : (c : After-second_showing-before)
     × (c.second_showing-before.result ≡ c.args.until -ℤ c.next_run.result.1.now.offset)
 between c =
     let ff = c.ranges.from in let fu = c.ranges.until in
-    let fs : SFits w64 _ = search rules in
-    let fb : SFits w64 _ = search rules in
-    let g1 : SFits w32 c.offset.result = search rules in
-    let g2 : SFits w32 c.offset-in-loop-left.result = search rules in
-    let since = rw c.offset.ensures.value at (simp to_z-of_z at c.second_showing-since.ensures.value) in
-    (ff, fu, fs, fb, since, rw c.offset-in-loop-left.ensures.value at (simp to_z-of_z at c.second_showing-before.ensures.value))
-
-pub loop-left-init : goal.loop-left-init
-loop-left-init c = let ff = c.ranges.from in simp to_z-of_z (simp to_z-of_z at c.seconds_around-left.ensures)
+    let fs : SFits w64 c.second_showing-since.result = search rules in
+    let fb : SFits w64 c.second_showing-before.result = search rules in
+    let g1 = c.offset.type_inv in
+    let g2 = c.offset-in-loop-left.type_inv in
+    let since = rw c.offset.ensures.value at (simp fits at c.second_showing-since.ensures.value) in
+    (ff, fu, fs, fb, since, rw c.offset-in-loop-left.ensures.value at (simp fits at c.second_showing-before.ensures.value))
 
 pub loop-left-smaller : goal.loop-left-smaller
 loop-left-smaller c =
-    rw (c.without-left.ensures.low, c.without-left.ensures.high) (leaves_less _ _ _ _ _ (omega linear) c.next_run.ensures.run)
+    let l = c.loop-left.left in
+    rw (c.without-left.ensures.low, c.without-left.ensures.high) (leaves_less _ _ _ _ _ (omega (arith, ints)) c.next_run.ensures.run)
 
 pub loop-left-preserved : goal.loop-left-preserved
 loop-left-preserved c =
     let (ff, fu, fs, fb, since, before) = between (goal.at.loop-left-preserved c).After-second_showing-before in
-    let none = rw (since, before) at (simp to_z-of_z at c.in_default.ensures) in
-    simp to_z-of_z (rw (c.without-left.ensures.low, c.without-left.ensures.high) (goes_on _ _ _ _ _ _
-    _ _ _ (simp to_z-of_z at c.loop-left.invariant) c.next_run.ensures.run c.next_run.ensures.one_type none))
+    let l = c.loop-left.left in let run = c.next_run.result.0 in
+    let none = rw (since, before) at (simp fits at c.in_default.ensures) in
+    simp fits (rw (c.without-left.ensures.low, c.without-left.ensures.high) (goes_on _ _ _ _ _ _
+    _ _ _ (simp fits at c.loop-left.invariant) c.next_run.ensures.run c.next_run.ensures.one_type none))
 
 pub returns-in-Some : goal.returns-in-Some
 returns-in-Some c =
     let (ff, fu, fs, fb, since, before) = between (goal.at.returns-in-Some c).After-second_showing-before in
+    let l = c.loop-left.left in let run = c.next_run.result.0 in
     let fi : SFits w64 c.in-Some.at = search rules in
-    let found = rw (since, before) at (simp to_z-of_z at c.in-Some.ensures) in
-    simp to_z-of_z (found_in_run _ _ _ _ _ _ _ _ _ _ fi
-    (simp to_z-of_z at c.loop-left.invariant) c.next_run.ensures.run c.next_run.ensures.one_type found.0 found.1)
+    let found = rw (since, before) at (simp fits at c.in-Some.ensures) in
+    simp fits (found_in_run _ _ _ _ _ _ _ _ _ _ fi
+    (simp fits at c.loop-left.invariant) c.next_run.ensures.run c.next_run.ensures.one_type found.0 found.1)
 
 pub returns : goal.returns
-returns c =
-    let ff = c.ranges.from in let fu = c.ranges.until in
-    none_left _ _ _ _ _ (simp to_z-of_z at c.loop-left.invariant) (omega linear)
+returns c = grind (arith, ints, to_z-of_z, none_left)

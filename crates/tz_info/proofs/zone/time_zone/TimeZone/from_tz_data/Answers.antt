@@ -1,8 +1,5 @@
-use Rattle.tz_info.proofs.{
-  TzFileLaws.{fault, found, memory, named, only},
-  Words.{Err, err_from_is_err_and},
-  ZoneFileLaws.{made_fault, made_found, made_memory, made_only},
-}
+use Rattle.tz_info.proofs.{TzFileLaws.{fault, found, memory, named, only}, ZoneFileLaws.{made_fault, made_found, made_memory, made_only}}
+use Rattle.tz_info.proofs.Words.{Err, arith, err_from_is_err_and, zone_of_lists}
 use Rattle.tz_info.proofs.zone.time_zone.TimeZone.from_tz_data.Goals as goal
 
 pub returns-clause-found : goal.returns-clause-found
@@ -19,22 +16,20 @@ returns-clause-fault c = made_fault _ _ _
 
 pub returns-clause-first : goal.returns-clause-first
 returns-clause-first c =
-    let spelled = found _ c.in_ok-lists.lists c.in_ok-lists.ensures.lists in
+    let lists = zone_of_lists c.in_ok-lists.lists in let spelled = found _ c.in_ok-lists.lists c.in_ok-lists.ensures.lists in
     let makes = c.into_zone.ensures in
-    named _ _ (made_found _ _ _ spelled makes)
-    (made_fault _ _ _ spelled makes)
+    named _ _ (made_found _ lists _ spelled makes)
+    (made_fault _ lists _ spelled makes)
 
 pub returns-clause-memory : goal.returns-clause-memory
-returns-clause-memory c = made_memory _ _ _
-    (found _ c.in_ok-lists.lists c.in_ok-lists.ensures.lists)
+returns-clause-memory c = grind (arith, found, made_memory)
 
 pub returns-in_err-lists-clause-only : goal.returns-in_err-lists-clause-only
 returns-in_err-lists-clause-only c z file valid =
-    let p = err_from_is_err_and c.from_residual.result c.from_residual.ensures.1 in rw (p.1, p.2) (only _ _ c.in_err-lists.ensures.lists z file)
+    let p = err_from_is_err_and c.from_residual.result c.from_residual.ensures.1 in rw (p.1, p.2) (only _ _ c.in_err-lists.ensures.lists _ file)
 
 pub returns-in_err-lists-clause-fault : goal.returns-in_err-lists-clause-fault
-returns-in_err-lists-clause-fault c =
-    let p = err_from_is_err_and c.from_residual.result c.from_residual.ensures.1 in rw (p.1, p.2) (fault _ _ c.in_err-lists.ensures.lists)
+returns-in_err-lists-clause-fault c = grind (arith, fault)
 
 pub returns-in_err-lists-clause-first : goal.returns-in_err-lists-clause-first
 returns-in_err-lists-clause-first c =

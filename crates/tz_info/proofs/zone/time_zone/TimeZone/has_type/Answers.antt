@@ -1,8 +1,7 @@
-use Rattle.tz_info.proofs.{Words.{rules, to_z-of_z}, ZoneLaws.{type_not_refused}}
+use Rattle.tz_info.proofs.{Fits.fits, ZoneLaws.type_not_refused, Words.rules}
 use Rattle.tz_info.proofs.zone.time_zone.TimeZone.has_type.Goals as goal
 
 pub returns-in-Err : goal.returns-in-Err
 returns-in-Err c =
     let fs = c.ranges.second in
-    let e = simp to_z-of_z at c.in-Err.ensures in
-    ((λ t. absurd (search rules)), (λ typed. absurd (type_not_refused _ _ _ typed.1 e.0)))
+    ((λ t. absurd (search rules)), (λ typed. absurd (type_not_refused _ _ typed.0 typed.1 (simp fits at c.in-Err.ensures).0)))

@@ -1,27 +1,21 @@
-use Rattle.tz_info.proofs.{OffsetChanges.{found_on, goes_on}, Words.{SFits, change_held, false≢true, linear, rules, sym, to_z-of_z, w64, ◌∙◌}}
+use Rattle.tz_info.proofs.{Fits.fits, OffsetChanges.{found_on, goes_on}, Words.{SFits, arith, false≢true, ints, rules, sym, w64, ◌∙◌}}
 use Rattle.tz_info.proofs.zone.time_zone.TimeZone.next_offset_change.Goals as goal
 
 pub returns-else-keeps_offset : goal.returns-else-keeps_offset
 returns-else-keeps_offset c =
     let fa = c.ranges.after in
-    let (order, kept) = simp to_z-of_z at c.changes.invariant in
-    rw c.copied.ensures (found_on _ c.args.after _ order kept (change_held c.in_ok-change.change) c.in_ok-change.ensures
+    let (order, kept) = simp fits at c.changes.invariant in
+    rw c.copied.ensures (found_on _ _ _ order kept _ c.in_ok-change.ensures
     (λ e. false≢true (sym c.if-keeps_offset.false ∙ c.keeps_offset.ensures.1 e)))
-
-pub changes-smaller : goal.changes-smaller
-changes-smaller c =
-    let fc : SFits w64 c.in_ok-change.change.at = search rules in
-    let later = c.in_ok-change.ensures.inside in
-    simp to_z-of_z (omega linear)
 
 pub changes-preserved : goal.changes-preserved
 changes-preserved c =
     let fa = c.ranges.after in
     let fc : SFits w64 c.in_ok-change.change.at = search rules in
-    let (order, kept) = simp to_z-of_z at c.changes.invariant in
+    let (order, kept) = simp fits at c.changes.invariant in
     let later = c.in_ok-change.ensures.inside in
-    simp to_z-of_z (
-      omega linear,
+    simp fits (
+      omega (arith, ints),
       goes_on _ _ _ order kept _ c.in_ok-change.ensures
           (c.keeps_offset.ensures.0 c.if-keeps_offset.true),
     )

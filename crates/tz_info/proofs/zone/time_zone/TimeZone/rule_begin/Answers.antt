@@ -1,8 +1,8 @@
-use Rattle.tz_info.proofs.{TableLaws.{begin_by}, Words.{SFits, rules, to_z-of_z, w128}}
+use Rattle.tz_info.proofs.{Fits.fits, TableLaws.begin_by}
 use Rattle.tz_info.proofs.zone.time_zone.TimeZone.rule_begin.Goals as goal
 
 pub returns-clause-begin : goal.returns-clause-begin
 returns-clause-begin c =
-    let fs : SFits w128 c.rule_begin.result = search rules in
+    let fs = c.rule_begin.type_inv in
     rw (← c.self.view_is)
-    (simp to_z-of_z (begin_by _ c.self.inside.changes _ c.self.invariant.valid c.self.invariant.list c.rule_begin.ensures.bound c.rule_begin.ensures.begun))
+    (simp fits (begin_by _ _ _ c.self.invariant.valid c.self.invariant.list c.rule_begin.ensures.bound c.rule_begin.ensures.begun))

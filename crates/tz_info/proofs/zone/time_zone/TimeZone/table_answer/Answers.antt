@@ -1,14 +1,11 @@
-use Rattle.tz_info.proofs.{EntryChanges.{looks_most}, Words.{arith, linear, to_z-of_z}}
+use Rattle.tz_info.proofs.{EntryChanges.looks_most, Fits.fits, Words.{arith, ints}}
 use Rattle.tz_info.proofs.zone.time_zone.TimeZone.table_answer.Goals as goal
 
 pub returns-clause-shown : goal.returns-clause-shown
 returns-clause-shown c =
     let fl = c.ranges.local in
-    rw (simp to_z-of_z at c.answer.ensures.answer, ← c.self.view_is)
+    rw (simp fits at c.answer.ensures.answer, ← c.self.view_is)
     (_, c.self.invariant.list, (c.self.invariant.index.answers c.args.local c.requires.local).wall)
 
 pub returns-clause-cost : goal.returns-clause-cost
-returns-clause-cost c = grind (arith, looks_most)
-
-pub returns-clause-looked : goal.returns-clause-looked
-returns-clause-looked c = grind linear
+returns-clause-cost c = grind (arith, ints, looks_most)

@@ -1,4 +1,4 @@
-use Rattle.tz_info.proofs.Words.{SFits, inl, inr, refl, rules, to_z-of_z, w64}
+use Rattle.tz_info.proofs.{Fits.fits, Words.{SFits, inl, inr, refl, rules, w64}}
 use Rattle.tz_info.proofs.zone.time_zone.TimeZone.try_until.Goals as goal
 
 pub returns-then-is_within : goal.returns-then-is_within
@@ -6,19 +6,23 @@ returns-then-is_within c =
     let fl = c.ranges.local in
     let fx : SFits w64 c.candidate-time.result.1 = search rules in
     let fs : SFits w64 c.args.current.unix_leap_time = search rules in
-    let within = simp to_z-of_z at c.is_within.ensures in
-    record { type = _; leap_time = _; candidate = simp to_z-of_z at c.candidate-time.ensures; tried = inl (within.0 c.if-is_within.true, c.joined.ensures) }
+    record {
+      type = _;
+      leap_time = _;
+      candidate = simp fits at c.candidate-time.ensures;
+      tried = inl
+          ((simp fits at c.is_within.ensures).0 c.if-is_within.true, c.joined.ensures);
+    }
 
 pub returns-else-is_within : goal.returns-else-is_within
 returns-else-is_within c =
     let fl = c.ranges.local in
     let fx : SFits w64 c.candidate-time.result.1 = search rules in
     let fs : SFits w64 c.args.current.unix_leap_time = search rules in
-    let within = simp to_z-of_z at c.is_within.ensures in
     record {
       type = _;
       leap_time = _;
-      candidate = simp to_z-of_z
+      candidate = simp fits
           at c.candidate-time.ensures;
-      tried = inr (λ i. let t = within.1 i in cc, refl);
+      tried = inr (λ i. let t = (simp fits at c.is_within.ensures).1 i in cc, refl);
     }

@@ -1,4 +1,4 @@
-use Rattle.tz_info.proofs.{Words.{IsShownIn, IsWallAnswer, begin_of, index_of, length, map_of, ◌<◌, ◌≡◌}, WalkLaws.{Walked}}
+use Rattle.tz_info.proofs.{WalkLaws.Walked, Words.{IsShownIn, IsWallAnswer, begin_of, index_of, length, map_of, ◌<◌, ◌≡◌}}
 use Rattle.tz_info.proofs.zone.time_zone.TimeZone.walked_answer.Given as goal
 
 abbrev pub invariant-loop-place : goal.invariant-loop-place

@@ -1,5 +1,4 @@
-use Rattle.tz_info.proofs.{Words.{arith, digits-le, ints}}
-use Rattle.tz_info.proofs.WallPieces.{latest_answers, none_answers}
+use Rattle.tz_info.proofs.{WallPieces.{latest_answers, none_answers}, Words.{arith, digits-le, ints}}
 use Rattle.tz_info.proofs.zone.made.index.Index.answer.Goals as goal
 
 pub returns-in-Some-clause-answer : goal.returns-in-Some-clause-answer
@@ -9,4 +8,4 @@ pub returns-in-None-clause-answer : goal.returns-in-None-clause-answer
 returns-in-None-clause-answer c = grind (arith, ints, none_answers)
 
 pub passed-requires : goal.passed-requires
-passed-requires c = grind (arith, ints, digits-le, c.len.ensures, c.self.view_is, c.self.inside.pieces)
+passed-requires c = grind (arith, ints, digits-le)
