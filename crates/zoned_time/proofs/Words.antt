@@ -50,3 +50,6 @@ pub use Rattle.zoned_time.specs.Zone.{law_by_seconds, meaning_by_seconds, second
 pub use Rattle.zoned_time.specs.Zoned.{IsAt, Zoned, in_seconds, local_of, shown}
 pub use Rattle.offset_core.specs.declared.resolve_error.ResolveError.{ResolveError}
 pub use Rattle.zoned_time.specs.declared.utc.Utc.{Utc}
+
+-- the laws of numbers without a sign and with one
+pub ruleset numbers = (arith, ints)
