@@ -1,9 +1,9 @@
 -- The search backward for seconds at which clocks show a plan's local times.
 use Rattle.zoned_time.specs.Fires.{second_before}
-use Rattle.zoned_time.proofs.Words.{AreAllQuietUntil, AreQuietUntil, HasNoneUntil, IsAt, IsEither, IsFire, IsFirstShown, IsInRange, IsLastPlannedIn, IsLastUntil}
-use Rattle.zoned_time.proofs.Words.{IsOffsetStretch, IsPastUntil, IsShownFire, IsWide, IsZoneSecond, IsZonedLastFire, IsZonedLastOf, Law, MatchOption, Meaning}
-use Rattle.zoned_time.proofs.Words.{NoneUntil, NoneUntilPlannedIn, None, Option, Reading, Some, Zoned, by_lt_z, numbers, of_secs, pos, subst, sym, ℤ, ◌+ℤ◌, ◌-ℤ◌}
-use Rattle.zoned_time.proofs.Words.{◌<ℤ◌, ◌↔◌, ◌≡◌, ◌≤ℤ◌}
+use Rattle.zoned_time.proofs.Words.{AreAllQuietUntil, AreQuietUntil, HasNoneUntil, IsAt, IsEither, IsFire, IsFirstShown, IsInRange, IsLastPlannedIn}
+use Rattle.zoned_time.proofs.Words.{IsLastUntil, IsOffsetStretch, IsPastUntil, IsShownFire, IsWide, IsZonedLastFire, IsZonedLastOf, IsZoneSecond, Law}
+use Rattle.zoned_time.proofs.Words.{MatchOption, Meaning, None, NoneUntil, NoneUntilPlannedIn, Option, Reading, Some, Zoned, by_lt_z, numbers, of_secs, pos}
+use Rattle.zoned_time.proofs.Words.{subst, sym, ℤ, ◌+ℤ◌, ◌-ℤ◌, ◌<ℤ◌, ◌↔◌, ◌≡◌, ◌≤ℤ◌}
 use Rattle.zoned_time.proofs.{DayStarts.{StayWithinDay}, ShownFires.{in_stretch, shows_wide}}
 
 -- fires of a zone with that law, up to the second t, at which clocks show a local time of the plan

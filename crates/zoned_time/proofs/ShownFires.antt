@@ -1,8 +1,8 @@
 -- Fires at which clocks show a plan's local times, and the search for them from stretch to stretch.
-use Rattle.zoned_time.proofs.Words.{AreAllQuiet, AreQuiet, HasNoneAfter, IsAt, IsEither, IsFirstPlannedIn, IsFirstShown, IsInRange, IsNextAfter, IsOffsetStretch}
-use Rattle.zoned_time.proofs.Words.{IsPast, IsShownFire, IsWide, IsZoneSecond, IsZonedNextFire, IsZonedNextOf, Law, MatchOption, Meaning, NoneAfter}
-use Rattle.zoned_time.proofs.Words.{NoneFiresAfter, NonePlannedIn, None, Option, Some, Zoned, by_lt_z, numbers, of_secs, pos, subst, sym, ℤ, ◌+ℤ◌, ◌-ℤ◌, ◌<ℤ◌}
-use Rattle.zoned_time.proofs.Words.{◌↔◌, ◌≡◌, ◌≤ℤ◌}
+use Rattle.zoned_time.proofs.Words.{AreAllQuiet, AreQuiet, HasNoneAfter, IsAt, IsEither, IsFirstPlannedIn, IsFirstShown, IsInRange, IsNextAfter}
+use Rattle.zoned_time.proofs.Words.{IsOffsetStretch, IsPast, IsShownFire, IsWide, IsZonedNextFire, IsZonedNextOf, IsZoneSecond, Law, MatchOption, Meaning, None}
+use Rattle.zoned_time.proofs.Words.{NoneAfter, NoneFiresAfter, NonePlannedIn, Option, Some, Zoned, by_lt_z, numbers, of_secs, pos, subst, sym, ℤ, ◌+ℤ◌, ◌-ℤ◌}
+use Rattle.zoned_time.proofs.Words.{◌<ℤ◌, ◌↔◌, ◌≡◌, ◌≤ℤ◌}
 use Rattle.zoned_time.proofs.DayStarts.{StayWithinDay}
 
 -- fires after the second t of a zone with that law, at which clocks show a local time of the plan

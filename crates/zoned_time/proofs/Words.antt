@@ -53,3 +53,6 @@ pub use Rattle.zoned_time.specs.declared.utc.Utc.{Utc}
 
 -- the laws of numbers without a sign and with one
 pub ruleset numbers = (arith, ints)
+
+-- a number that fits a width is its bits there, read back
+pub ruleset casts = (arith, to_z-of_z)
