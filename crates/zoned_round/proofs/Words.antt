@@ -11,3 +11,6 @@ pub use Rattle.zoned_round.specs.Laws.{IsGreatestWith, IsLeastWith, IsMultiple, 
 pub use Rattle.zoned_round.specs.Multiples.{IsItselfOr, multiple_above, multiple_below, nearest_multiple}
 pub use Rattle.zoned_round.specs.Subseconds.{nanos_per_digit, rounded}
 pub use Rattle.zoned_round.specs.declared.error.RoundingError.{RoundingError}
+
+-- the laws of numbers without a sign and with one
+pub ruleset numbers = (arith, ints)
