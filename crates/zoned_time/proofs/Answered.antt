@@ -26,7 +26,7 @@ module _ (off : ℤ → ℤ) (l : ℤ) (day : (u : ℤ) → IsZoneSecond u → I
   gap_has_offset never =
       let start : ℤ = l -ℤ pos 86_399 in let end : ℤ = l +ℤ pos 86_400 in let end_day = day end (omega numbers, omega numbers) in
       let found = first_from (λ (u : ℤ). l <ℤ (u +ℤ off u)) (λ u. less_or_not l (u +ℤ off u)) 172_799 start end (omega numbers) (omega numbers) in
-      let c = found.0 in let from = found.1 in let to = found.2 in (
+      let c = found.0 in (
         off (c -ℤ pos 1),
         record {
           never = never;

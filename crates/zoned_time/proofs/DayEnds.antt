@@ -2,8 +2,8 @@
 use Rattle.zoned_time.proofs.Words.{AreStartsOfDays, HasNoEnd, IsAt, IsDateOn, IsDaysLater, IsEarlier, IsEndOfDay, IsFirstInstantFrom, IsFirstOutOfRange}
 use Rattle.zoned_time.proofs.Words.{IsFirstToReach, IsGapEnd, IsInDay, IsInRange, IsNeverShown, IsShownBetween, IsShownOnce, IsWideDay, IsZonedEnd}
 use Rattle.zoned_time.proofs.Words.{IsZoneSecond, Law, MatchOption, Meaning, NaiveDate, None, NonePassed, Option, Reading, ShowsByOffset, Some, Zoned, arith}
-use Rattle.zoned_time.proofs.Words.{behind, by_lt_z, day_of, first_day, inl, last_day, midnight, neg_ℤ, numbers, of_secs, pos, refl, ℕ, ℤ, ◌+ℤ◌, ◌-ℤ◌, ◌<ℤ◌}
-use Rattle.zoned_time.proofs.Words.{◌<◌, ◌≡◌, ◌≤ℤ◌}
+use Rattle.zoned_time.proofs.Words.{behind, by_lt_z, day_of, first_day, inl, last_day, midnight, neg_ℤ, numbers, of_secs, pos, refl, rules, ℕ, ℤ, ◌+ℤ◌, ◌-ℤ◌}
+use Rattle.zoned_time.proofs.Words.{◌<ℤ◌, ◌<◌, ◌≡◌, ◌≤ℤ◌}
 use Rattle.zoned_time.proofs.{DayStarts.{StayWithinDay, first_until, in_day, one_first}}
 use Rattle.zoned_time.proofs.Days.{first_instant, first_whole, out_of_range, to_reached}
 
@@ -27,10 +27,10 @@ module _ {off : ℤ → ℤ} {day start next : ℤ} (h : AreStartsOfDays off day
   -- a day of one second or more has this end, and no other
   pub one_end : {r : Reading} → IsEndOfDay off day r → (start <ℤ next) × (r.s ≡ next -ℤ pos 1)
   one_end {r = r} k =
-      let within = starts_are k.in_day in let some : start <ℤ next = omega (numbers, within) in let own = end_of_day some in (
+      let within = starts_are k.in_day in let some : start <ℤ next = omega numbers in let own = end_of_day some in (
         some,
         by_lt_z r.s (next -ℤ pos 1) (λ less. absurd (k.last (of_secs (next -ℤ pos 1) 999_999_999) own.in_day own.no_leap (inl less)))
-            (λ more. omega (numbers, within)),
+            (λ more. omega numbers),
       )
 
   pub empty_day : start ≡ next → HasNoEnd off day
@@ -59,16 +59,16 @@ module _ (off : ℤ → ℤ) where
         next = next;
         starts = k.in_day.starts;
         ends = k.in_day.ends;
-        not_before = λ e. let started = k.in_day.not_before in grind numbers;
-        before = inl (omega (numbers, near, reached));
-      }) (omega arith) (inl (omega (numbers, inside)))
+        not_before = λ e. grind numbers;
+        before = inl (omega numbers);
+      }) (omega arith) (inl (omega numbers))
 
   -- a midnight before the range comes before the range in each zone
   too_early : (day : ℤ) → StayWithinDay off → day <ℤ first_day → IsFirstOutOfRange off (midnight day)
   too_early day within early =
       let inside : IsZoneSecond (neg_ℤ (pos 8_334_601_228_801)) = (omega numbers, omega numbers) in
       let near = within (neg_ℤ (pos 8_334_601_228_801)) inside in
-      let found = first_until {l = (midnight day).s} {v = neg_ℤ (pos 8_334_601_228_801)} (record { in_zone = inside; reached = omega (numbers, near) }) in
+      let found = first_until {l = (midnight day).s} {v = neg_ℤ (pos 8_334_601_228_801)} (record { in_zone = inside; reached = omega numbers }) in
       out_of_range {l = midnight day} found.1 (λ range. omega (numbers, range))
 
   -- ---- the day n days before that of a date
@@ -84,16 +84,16 @@ module _ (off : ℤ → ℤ) (l a : Reading) where
   first_shown : (u k : ℤ) → ShowsByOffset off l.s u k → NonePassed off l.s (l.s -ℤ k) → ((v : ℤ) → ShowsByOffset off l.s v (off v) → u ≤ℤ v)
       → IsFirstInstantFrom off l a → a ≡ behind l k
   first_shown u k h none least first =
-      let back : u ≡ l.s -ℤ k = omega (numbers, h.shown) in let there : (u +ℤ off u) ≡ l.s = omega (numbers, h.shown, h.offset) in
-      let inside = h.in_zone in let before = rw (← back) at none in let reaches : IsFirstToReach off l.s u = grind numbers in
+      let back : u ≡ l.s -ℤ k = omega numbers in let there : (u +ℤ off u) ≡ l.s = omega numbers in
+      let before = rw (← back) at none in let reaches : IsFirstToReach off l.s u = grind numbers in
       one_first first (first_instant (rw back at reaches) (inl (rw back at there, refl)))
 
   pub first_of_one : (k : ℤ) → IsShownOnce (ShowsByOffset off l.s) k → NonePassed off l.s (l.s -ℤ k) → IsFirstInstantFrom off l a → a ≡ behind l k
-  first_of_one k h none first = first_shown h.second k h.shown none (λ v s. let same = h.only v (off v) s in omega numbers) first
+  first_of_one k h none first = search (rules, numbers, first_shown)
 
   pub first_of_fold : (k last : ℤ) → IsShownBetween (ShowsByOffset off l.s) k last → NonePassed off l.s (l.s -ℤ k) → IsFirstInstantFrom off l a
       → a ≡ behind l k
-  first_of_fold k last h none first = first_shown h.first k h.at_first none (λ v s. h.not_before v (off v) s) first
+  first_of_fold k last h none first = search (rules, numbers, first_shown)
 
   pub not_later : (u k : ℤ) → ShowsByOffset off l.s u k → IsFirstInstantFrom off l a → ¬ (IsEarlier (behind l k) a)
   not_later u k h first = grind (numbers, first.first (behind l k))
@@ -101,8 +101,8 @@ module _ (off : ℤ → ℤ) (l a : Reading) where
   pub gap_end : IsNeverShown (ShowsByOffset off l.s) → IsFirstInstantFrom off l a → IsGapEnd off l.s a
   gap_end never h =
       let reached = to_reached h.shown in
-      let past : l.s <ℤ (a.s +ℤ off a.s) = by_lt_z l.s (a.s +ℤ off a.s) (λ less. less) (λ not. let there = reached.reached in
-      absurd (never a.s (off a.s) (record { in_zone = h.shown.in_zone; offset = refl; shown = omega numbers }))) in
+      let past : l.s <ℤ (a.s +ℤ off a.s) = by_lt_z l.s (a.s +ℤ off a.s) (λ less. less)
+      (λ not. absurd (never a.s (off a.s) (record { in_zone = h.shown.in_zone; offset = refl; shown = omega numbers }))) in
       record {
         whole = let first = h.first (of_secs a.s 0) (record { in_zone = h.shown.in_zone; not_before = λ e. grind numbers }) in grind numbers;
         before = λ u inside less. by_lt_z (u +ℤ off u) l.s (λ c. c) (λ more. by_lt_z l.s (u +ℤ off u)

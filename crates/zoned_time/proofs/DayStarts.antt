@@ -55,7 +55,7 @@ StayWithinDay off = (u : ℤ) → IsZoneSecond u → IsWithinDay (off u)
 -- clocks that show l or more at the second v did so first at some second
 pub first_until : {off : ℤ → ℤ} {l v : ℤ} → HasReached off l v → (u : ℤ) × IsFirstToReach off l u × (u ≤ℤ v)
 first_until {off = off} {l = l} {v = v} h =
-    let inside = h.in_zone in let start : ℤ = neg_ℤ (pos 8_334_601_401_600) in
+    let start : ℤ = neg_ℤ (pos 8_334_601_401_600) in
     let found = first_from (λ u. l ≤ℤ (u +ℤ off u)) (λ u. grind numbers) (unsigned_abs (v -ℤ start)) start v (omega numbers) h.reached in grind numbers
 
 pub in_day : {off : ℤ → ℤ} {r : Reading} {day start next : ℤ} → IsFirstToReach off (midnight day).s start → IsFirstToReach off (midnight (day +ℤ pos 1)).s next
@@ -77,14 +77,13 @@ module _ {off : ℤ → ℤ} (within : StayWithinDay off) where
       → IsFirstToReach off (midnight day).s start → start ≤ℤ r.s → (d : ℤ) × IsInDay off d r
   climb r zero day start range low far h started = grind numbers
   climb r (suc n) day start range low far h started =
-      let near = within start h.reached.in_zone in let reached = h.reached.reached in
-      let next = reaches (midnight (day +ℤ pos 1)).s (omega numbers) (omega (numbers, near, range)) in
+      let near = within start h.reached.in_zone in let next = reaches (midnight (day +ℤ pos 1)).s (omega numbers) (omega numbers) in
       by_lt_z r.s next.0 (λ less. (day, in_day h next.1 started less))
       (λ later. climb r n (day +ℤ pos 1) next.0 range (omega numbers) (omega numbers) next.1 later)
 
   pub some_day : (r : Reading) → IsInRange r.s → (d : ℤ) × IsInDay off d r
   some_day r range =
       let inside : IsZoneSecond r.s = (omega numbers, omega numbers) in let near = within r.s inside in let day = floor_div (r.s +ℤ off r.s) 86_400 in
-      let start = reaches (midnight day).s (omega (numbers, floors, range, near)) (omega (numbers, floors, range, near)) in
-      climb r 3 day start.0 range (omega (numbers, floors, range, near)) (omega (numbers, floors, range, near)) start.1
+      let start = reaches (midnight day).s (omega (numbers, floors)) (omega (numbers, floors)) in
+      climb r 3 day start.0 range (omega (numbers, floors)) (omega (numbers, floors)) start.1
       (start.1.first r.s (record { in_zone = inside; reached = omega (numbers, floors) }))

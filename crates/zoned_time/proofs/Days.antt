@@ -2,7 +2,7 @@
 use Rattle.zoned_time.proofs.Words.{AreEndsOfDay, AreInstantsOfDay, HasInstant, HasReached, IsAt, IsFirstInstantFrom, IsFirstOutOfRange}
 use Rattle.zoned_time.proofs.Words.{IsFirstSecondOutOfRange, IsFirstToReach, IsFixed, IsInRange, IsInstantFrom, IsNoDay, IsOnDay, IsZonedAtOrAfter}
 use Rattle.zoned_time.proofs.Words.{IsZonedFirst, IsZoneSecond, Law, MatchOption, Meaning, None, Option, Reading, Some, SomeIff, Zoned, ap, arith, floor_div}
-use Rattle.zoned_time.proofs.Words.{floors, instant_of, numbers, of_secs, option_map, pos, ℤ, ◌*ℤ◌, ◌+ℤ◌, ◌-ℤ◌, ◌<ℤ◌, ◌∙◌, ◌≡◌, ◌≤ℤ◌, ◌⊎◌}
+use Rattle.zoned_time.proofs.Words.{instant_of, numbers, of_secs, option_map, pos, rules, ℤ, ◌*ℤ◌, ◌+ℤ◌, ◌-ℤ◌, ◌<ℤ◌, ◌∙◌, ◌≡◌, ◌≤ℤ◌, ◌⊎◌}
 
 -- ---- days
 pub instants_of_day : {O : Type 0} {m : Meaning O} (law : Law m) (day u v : ℤ) (d e : Zoned O) → AreEndsOfDay law.off day u v → IsAt law (of_secs u 0) d
@@ -14,7 +14,7 @@ no_day = grind arith
 
 -- the day that the clocks show at a second
 on_own_day : (off : ℤ → ℤ) (u : ℤ) → IsZoneSecond u → IsOnDay off (floor_div (u +ℤ off u) 86_400) u
-on_own_day off u inside = record { in_zone = inside; since = omega (numbers, floors); before = omega (numbers, floors) }
+on_own_day off u inside = search (rules, numbers)
 
 pub day_of_told : {O T : Type 0} {m : Meaning O} (law : Law m) (first last : T → Zoned O) (u day : ℤ) (found : Option T) → IsInRange u
     → day ≡ floor_div (u +ℤ law.off u) 86_400

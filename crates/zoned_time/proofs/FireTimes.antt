@@ -100,7 +100,7 @@ none_between = grind numbers
 module _ (a b : ℤ → Type 0) (there : (v : ℤ) → a v → b v) (back : (v : ℤ) → b v → a v) (until : ℤ) where
   pub same_all : (t : ℤ) (us : List ℤ) → AreAllOf a t until us → AreAllOf b t until us
   same_all t [] h = λ v it after not_after. h v (back v it) after not_after
-  same_all t (u ∷ us) h = (grind (arith, there, back), h.1, same_all u us h.2)
+  same_all t (u ∷ us) h = (grind arith, h.1, same_all u us h.2)
 
 -- the usual policy
 module _ (off : ℤ → ℤ) (plan : ℤ → Type 0) where

@@ -113,7 +113,7 @@ pub shown_found_last : {O T : Type 0} {m : Meaning O} (law : Law m) (plan : ℤ 
 shown_found_last law plan told None within range past stretch last h = λ v inside it come.
     let most = found_last_in within past stretch last v inside it come in h (omega numbers, omega numbers)
 shown_found_last law plan {u = u} told (Some d) within range past stretch last h =
-    let is : (told d).utc.s ≡ u = grind (numbers, h.1.utc) in let in_range = h.0 in let inside : IsZoneSecond u = (omega numbers, omega numbers) in
+    let is : (told d).utc.s ≡ u = grind numbers in let inside : IsZoneSecond u = (omega numbers, omega numbers) in
     let same = stretch.same u inside last.not_before (omega numbers) in
     let shown : IsShownFire law.off plan u = record { in_zone = inside; planned = subst (λ (o : ℤ). plan (u +ℤ o)) (sym same) last.planned } in
     record {

@@ -2,7 +2,8 @@
 use Rattle.zoned_time.specs.Fires.{NoneFiresBetween}
 use Rattle.zoned_time.specs.Moves.{FiresInFirstOnly, IsMove, IsNextMove, NoneMovesBefore}
 use Rattle.zoned_time.specs.declared.moves.Move.TheVariants.{Added, Removed}
-use Rattle.zoned_time.proofs.Words.{IsAt, IsFire, IsNextFire, IsZonedNextFire, Law, Meaning, Zoned, arith, inl, inr, numbers, of_secs, ℤ, ◌<ℤ◌, ◌≡◌, ◌≤ℤ◌}
+use Rattle.zoned_time.proofs.Words.{IsAt, IsFire, IsNextFire, IsZonedNextFire, Law, Meaning, Zoned, arith, inl, inr, numbers, of_secs, rules, ℤ, ◌<ℤ◌, ◌≡◌}
+use Rattle.zoned_time.proofs.Words.{◌≤ℤ◌}
 
 -- none moves after the second t up to a later one
 pub record IsPassed (old new : ℤ → ℤ) (plan : ℤ → Type 0) (t from : ℤ) : Type 0 where
@@ -33,16 +34,7 @@ module _ {D E O P : Type 0} {m : Meaning O} {n : Meaning P} (old : Law m) (new :
 pub only_first : {O : Type 0} {m : Meaning O} {law : Law m} {other : ℤ → ℤ} {plan : ℤ → Type 0} {t from until : ℤ} {d : Zoned O}
     → IsPassed law.off other plan t from → IsZonedNextFire law plan from d → d.utc.s ≤ℤ until → ((v : ℤ) → IsFire other plan v → from <ℤ v → d.utc.s <ℤ v)
     → IsFirstMove law other plan t until d
-only_first {d = d} h next come none = record {
-  moved = (next.next.fires, λ both. let more = none d.utc.s both next.next.after in omega numbers);
-  after = omega numbers;
-  not_after = come;
-  none_skipped = λ v move past. elim move [
-    | inl one ↦ next.next.none_skipped v one.0 (h.left v (inl one) past)
-    | inr one ↦ let more = none v one.0 (h.left v (inr one) past) in omega numbers
-  ];
-  at = next.at;
-}
+only_first h next come none = search (rules, numbers)
 
 -- the other zone has no run from one second up to s
 module _ {other : ℤ → ℤ} {plan : ℤ → Type 0} {from s : ℤ} where
@@ -62,8 +54,8 @@ both_run {u = u} {w = w} h a b not_less not_more =
       later = omega (numbers, after, later);
       left = λ v move past. elim move [
         | inl one ↦ let least = a.none_skipped v one.0 (h.left v (inl one) past) in let other : u ≡ v → ⊥ = λ is. one.1 (rw is at in_new) in
-            grind (numbers, least, other)
+            grind numbers
         | inr one ↦ let least = b.none_skipped v one.0 (h.left v (inr one) past) in let other : u ≡ v → ⊥ = λ is. one.1 (rw is at a.fires) in
-            grind (numbers, least, other, same)
+            grind numbers
       ];
     }

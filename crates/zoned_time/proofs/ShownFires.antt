@@ -94,7 +94,7 @@ pub shown_found : {O T : Type 0} {m : Meaning O} (law : Law m) (plan : ℤ → T
 shown_found law plan told None within range past stretch first h = λ v inside it later.
     let least = found_in within past stretch first v inside it later in h (omega numbers, omega numbers)
 shown_found law plan {u = u} told (Some d) within range past stretch first h =
-    let is : (told d).utc.s ≡ u = grind (numbers, h.1.utc) in let in_range = h.0 in let inside : IsZoneSecond u = (omega numbers, omega numbers) in
+    let is : (told d).utc.s ≡ u = grind numbers in let inside : IsZoneSecond u = (omega numbers, omega numbers) in
     let same = stretch.same u inside (omega numbers) first.before in
     let shown : IsShownFire law.off plan u = record { in_zone = inside; planned = subst (λ (o : ℤ). plan (u +ℤ o)) (sym same) first.planned } in
     record {

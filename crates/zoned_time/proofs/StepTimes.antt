@@ -28,25 +28,25 @@ module _ {off : ℤ → ℤ} {begins : ℤ → Type 0} {t : ℤ} where
   once h k =
       let up = h.begin_is.none_skipped _ k.begin_is.fires k.begin_is.not_after in let down = k.begin_is.none_skipped _ h.begin_is.fires h.begin_is.not_after in
       let more = h.end_is.none_skipped _ k.end_is.fires k.end_is.after in let less = k.end_is.none_skipped _ h.end_is.fires h.end_is.after in
-      (omega (numbers, up, down), omega (numbers, more, less))
+      (omega numbers, omega numbers)
 
   pub lengths_add : {a b c d : ℤ} → AreStepBounds off begins t a b → AreStepBounds off begins b c d → (c ≡ b) × ((b -ℤ a) +ℤ (d -ℤ c) ≡ d -ℤ a)
   lengths_add h k =
-      let most = k.begin_is.none_skipped _ h.end_is.fires (omega numbers) in let until = k.begin_is.not_after in (
-        omega (numbers, most, until),
-        omega (numbers, most, until),
+      let most = k.begin_is.none_skipped _ h.end_is.fires (omega numbers) in (
+        omega numbers,
+        omega numbers,
       )
 
 -- ---- days
 first_whole_second : {off : ℤ → ℤ} {l r : Reading} → IsFirstInstantFrom off l r → l.f ≡ 0 → IsFirstToReach off l.s r.s
 first_whole_second h none = record {
   reached = to_reached h.shown;
-  first = λ v reached. let not_before = h.first (of_secs v 0) (record { in_zone = reached.in_zone; not_before = grind (numbers, reached.reached) }) in
-      grind (numbers, not_before);
+  first = λ v reached. let not_before = h.first (of_secs v 0) (record { in_zone = reached.in_zone; not_before = grind numbers }) in
+      grind numbers;
 }
 
 first_is_whole : {off : ℤ → ℤ} {l r : Reading} → IsFirstInstantFrom off l r → l.f ≡ 0 → r.f ≡ 0
-first_is_whole h none = let same = one_first h (first_whole none (first_whole_second h none)) in grind (arith, same)
+first_is_whole h none = let same = one_first h (first_whole none (first_whole_second h none)) in grind arith
 
 -- a day from a to b, where its midnight and the next one come
 module _ {off : ℤ → ℤ} (day : ℤ) {a : Reading} (starts : IsFirstInstantFrom off (midnight day) a) where
@@ -61,31 +61,31 @@ module _ {off : ℤ → ℤ} (day : ℤ) {a : Reading} (starts : IsFirstInstantF
   midnight_or_later : {v : ℤ} {b : Reading} → IsFirstInstantFrom off (midnight (day +ℤ pos 1)) b → (fire : IsFire off (BeginsStep Day) v)
       → (v <ℤ b.s → v ≤ℤ a.s) × (a.s <ℤ v → b.s ≤ℤ v)
   midnight_or_later ends fire =
-      let begin = first_whole_second starts refl in let end = first_whole_second ends refl in let midnights = fire.planned.at in (
+      let begin = first_whole_second starts refl in let end = first_whole_second ends refl in (
         λ before. by_lt_z (midnight day).s fire.local
-            (λ later. absurd (let most = first_rises (omega (numbers, floors, midnights, later)) end fire.first in omega (numbers, most, before)))
+            (λ later. absurd (let most = first_rises (omega (numbers, floors)) end fire.first in omega numbers))
             (λ not. first_rises (omega numbers) fire.first begin),
         λ after. by_lt_z (midnight day).s fire.local
-            (λ later. first_rises (omega (numbers, floors, midnights, later)) end fire.first)
-            (λ not. absurd (let most = first_rises (omega numbers) fire.first begin in omega (numbers, most, after))),
+            (λ later. first_rises (omega (numbers, floors)) end fire.first)
+            (λ not. absurd (let most = first_rises (omega numbers) fire.first begin in omega numbers)),
       )
 
 pub day_is_step : (off : ℤ → ℤ) (day : ℤ) (r a b : Reading) → IsInDay off day r → IsFirstInstantFrom off (midnight day) a
     → IsFirstInstantFrom off (midnight (day +ℤ pos 1)) b → AreStepBounds off (BeginsStep Day) r.s a.s b.s
 day_is_step off day r a b h starts ends =
     let start = one_first h.starts starts in let next = one_first h.ends ends in
-    let low : a.s ≤ℤ r.s = grind (numbers, h.not_before, start) in let whole = first_is_whole ends refl in
-    let high : r.s <ℤ b.s = grind (numbers, h.before, next, whole) in
+    let low : a.s ≤ℤ r.s = grind numbers in let whole = first_is_whole ends refl in
+    let high : r.s <ℤ b.s = grind (numbers, whole) in
     record {
       begin_is = record {
         fires = day_fires day starts;
         not_after = low;
-        none_skipped = λ v fire come. (midnight_or_later day starts ends fire).0 (omega (numbers, come, high));
+        none_skipped = λ v fire come. (midnight_or_later day starts ends fire).0 (omega numbers);
       };
       end_is = record {
         fires = day_fires (day +ℤ pos 1) ends;
         after = high;
-        none_skipped = λ v fire later. (midnight_or_later day starts ends fire).1 (omega (numbers, later, low));
+        none_skipped = λ v fire later. (midnight_or_later day starts ends fire).1 (omega numbers);
       };
     }
 

@@ -13,8 +13,6 @@ pub returns : goal.returns
 returns g c =
     let high = a_day_after g (goal.at.returns g c).After-overflowing_add_offset in
     let fn : SFits w64 c.secs_since_epoch-second.result = search rules in let ft : SFits w64 c.timestamp.result = search rules in
-    let is = c.secs_since_epoch-second.ensures in let wide = c.in_ok-last.last.in_range.0 in let range = c.args.from.now.in_range in
-    let fd : SFits w64 (c.secs_since_epoch-second.result +ℤ pos 86_400) = omega (numbers, is, wide) in
-    let earlier = simp to_z-of_z at c.if-second-timestamp.false in let now = c.timestamp.ensures in
-    quiet_then (λ d. (zoned d).utc.s) c.utc_at.result (omega (numbers, is, wide), omega (numbers, is, wide, earlier, now, range))
-    (rw is (quiet_from high (omega (numbers, is, earlier, now)) c.in_ok-last.ensures)) (simp to_z-of_z at c.utc_at.ensures)
+    let is = c.secs_since_epoch-second.ensures in let fd : SFits w64 (c.secs_since_epoch-second.result +ℤ pos 86_400) = omega numbers in
+    let earlier = simp to_z-of_z at c.if-second-timestamp.false in quiet_then (λ d. (zoned d).utc.s) c.utc_at.result (omega numbers, omega numbers)
+    (rw is (quiet_from high (omega numbers) c.in_ok-last.ensures)) (simp to_z-of_z at c.utc_at.ensures)

@@ -1,4 +1,4 @@
-use Rattle.zoned_time.proofs.Words.{IsFirstShown, IsPastUntil, SFits, arith, numbers, pos, refl, rules, sym, to_z-of_z, w64, ◌-ℤ◌, ◌∙◌, ◌≡◌}
+use Rattle.zoned_time.proofs.Words.{IsFirstShown, IsPastUntil, SFits, arith, numbers, pos, refl, rules, sym, to_z-of_z, w64, ◌-ℤ◌, ◌∙◌}
 use Rattle.zoned_time.proofs.LastShown.{below_range, last_first_shown, not_shown_last}
 use Rattle.zoned_time.proofs.last_fires.last_first_shown.Goals.{Else-is_at_planned}
 use Rattle.zoned_time.proofs.last_fires.last_first_shown.Goals as goal
@@ -15,19 +15,15 @@ past : (g : _) (c : Else-is_at_planned g) → IsPastUntil (IsFirstShown (g.Tz.Ti
 past g c =
     let own = sym (g.met.Tz.TimeZone.told c.in_ok-fire.fire.offset) ∙ c.in_ok-fire.ensures.at.offset.there in
     not_shown_last c.fires.invariant c.in_ok-fire.ensures
-    (λ has. let yes = c.if-is_at_planned.ensures.1 (rw (← own) at has) in grind (arith, yes, c.if-is_at_planned.false))
+    (λ has. let yes = c.if-is_at_planned.ensures.1 (rw (← own) at has) in grind arith)
 
 pub returns-in_err-from : goal.returns-in_err-from
 returns-in_err-from g c =
-    let fits : SFits w64 c.timestamp.result = search rules in
-    rw c.from_residual-in_err-from.ensures (below_range c.args.until.now.in_range (past g (goal.at.returns-in_err-from g c).Else-is_at_planned)
-    (rw c.timestamp.ensures at (simp to_z-of_z at c.in_err-from.ensures)))
+    let before = past g (goal.at.returns-in_err-from g c).Else-is_at_planned in search (rules, to_z-of_z, below_range)
 
 pub fires-preserved : goal.fires-preserved
 fires-preserved g c =
-    let fits : SFits w64 c.timestamp.result = search rules in let is = c.timestamp.ensures in let there = (simp to_z-of_z at c.in_ok-from.ensures).1 in
-    let same : c.in_ok-from.from.datetime.secs ≡ c.in_ok-fire.fire.datetime.secs -ℤ pos 1 = omega (numbers, is, there) in
-    rw same (past g (goal.at.fires-preserved g c).Else-is_at_planned)
+    let before = past g (goal.at.fires-preserved g c).Else-is_at_planned in search (rules, to_z-of_z)
 
 pub fires-smaller : goal.fires-smaller
 fires-smaller g c =

@@ -22,8 +22,8 @@ returns-in_err-last g c =
 pub last_planned_in-requires : goal.last_planned_in-requires
 last_planned_in-requires g c =
     let fits : SFits w32 c.offset_stretch_at-stretch.result.offset = search rules in
-    let s = stretch g (goal.at.last_planned_in-requires g c).After-offset_stretch_at-stretch in let range = c.in_ok-last.last.in_range in
-    let inside : IsZoneSecond c.in_ok-last.last.datetime.secs = (omega (numbers, range), omega (numbers, range)) in
+    let s = stretch g (goal.at.last_planned_in-requires g c).After-offset_stretch_at-stretch in
+    let inside : IsZoneSecond c.in_ok-last.last.datetime.secs = (omega numbers, omega numbers) in
     simp to_z-of_z (subst IsWithinDay (s.same _ inside s.not_before s.before) (g.met.Tz.TimeZone.within_day c.args.zone.now _ inside))
 
 pub returns-in-Some : goal.returns-in-Some

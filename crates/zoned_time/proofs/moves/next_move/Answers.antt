@@ -25,5 +25,5 @@ pub runs-preserved : goal.runs-preserved
 runs-preserved g c =
     let same : c.to_utc-from.result.datetime.secs ≡ c.in-Some.run'.datetime.secs = search rules in
     rw same (both_run c.runs.invariant c.in-Some.ensures.0.next c.in-Some-in_new.ensures.0.next
-    (λ less. let yes = c.if-is_before.ensures.1 less in grind (arith, yes, c.if-is_before.false))
-    (λ less. let yes = c.if-is_before-2.ensures.1 less in grind (arith, yes, c.if-is_before-2.false)))
+    (λ less. let yes = c.if-is_before.ensures.1 less in grind arith)
+    (λ less. let yes = c.if-is_before-2.ensures.1 less in grind arith))

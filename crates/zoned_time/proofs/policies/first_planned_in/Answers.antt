@@ -9,18 +9,17 @@ local_is g c = grind numbers
 pub returns-then-second-until : goal.returns-then-second-until
 returns-then-second-until g c =
     let local = local_is g (goal.at.returns-then-second-until g c).After-overflowing_add_offset-local in
-    let is = c.secs_since_epoch.ensures in let wide = c.in_ok-next.next.in_range.0 in let day = c.requires in
-    let fn : SFits w64 c.secs_since_epoch.result = search rules in let fo : SFits w32 c.args.offset = search rules in
-    let fk : SFits w64 c.args.offset = omega (numbers, day) in
-    let fd : SFits w64 (c.secs_since_epoch.result -ℤ c.args.offset) = omega (numbers, is, wide, day) in
+    let is = c.secs_since_epoch.ensures in let wide = c.in_ok-next.next.in_range.0 in let fn : SFits w64 c.secs_since_epoch.result = search rules in
+    let fo : SFits w32 c.args.offset = search rules in
+    let fk : SFits w64 c.args.offset = omega numbers in
+    let fd : SFits w64 (c.secs_since_epoch.result -ℤ c.args.offset) = omega numbers in
     let before = simp to_z-of_z at c.if-second-until.true in
-    simp to_z-of_z (rw is (first_in local wide c.in_ok-next.ensures (omega (numbers, is, before))))
+    simp to_z-of_z (rw is (first_in local wide c.in_ok-next.ensures (omega numbers)))
 
 pub returns-else-second-until : goal.returns-else-second-until
 returns-else-second-until g c =
     let local = local_is g (goal.at.returns-else-second-until g c).After-overflowing_add_offset-local in
-    let is = c.secs_since_epoch.ensures in let wide = c.in_ok-next.next.in_range.0 in let day = c.requires in
     let fn : SFits w64 c.secs_since_epoch.result = search rules in let fo : SFits w32 c.args.offset = search rules in
-    let fk : SFits w64 c.args.offset = omega (numbers, day) in
-    let fd : SFits w64 (c.secs_since_epoch.result -ℤ c.args.offset) = omega (numbers, is, wide, day) in
-    let beyond = simp to_z-of_z at c.if-second-until.false in none_in _ local c.in_ok-next.ensures (omega (numbers, is, beyond))
+    let fk : SFits w64 c.args.offset = omega numbers in
+    let fd : SFits w64 (c.secs_since_epoch.result -ℤ c.args.offset) = omega numbers in
+    let beyond = simp to_z-of_z at c.if-second-until.false in none_in _ local c.in_ok-next.ensures (omega numbers)

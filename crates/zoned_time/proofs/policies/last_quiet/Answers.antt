@@ -14,8 +14,6 @@ pub returns : goal.returns
 returns g c =
     let low = a_day_before g (goal.at.returns g c).After-overflowing_add_offset in
     let fn : SFits w64 c.secs_since_epoch-second.result = search rules in let ft : SFits w64 c.timestamp.result = search rules in
-    let is = c.secs_since_epoch-second.ensures in let wide = c.in_ok-next.next.in_range.0 in let range = c.args.from.now.in_range in
-    let fd : SFits w64 (c.secs_since_epoch-second.result -ℤ pos 86_400) = omega (numbers, is, wide) in
-    let later = simp to_z-of_z at c.if-second-timestamp.false in let now = c.timestamp.ensures in
-    quiet_at (λ d. (zoned d).utc.s) c.utc_at.result (omega (numbers, is, wide, later, now, range), omega (numbers, is, wide))
-    (rw is (quiet_until low (omega (numbers, is, later, now)) c.in_ok-next.ensures)) (simp to_z-of_z at c.utc_at.ensures)
+    let is = c.secs_since_epoch-second.ensures in let fd : SFits w64 (c.secs_since_epoch-second.result -ℤ pos 86_400) = omega numbers in
+    let later = simp to_z-of_z at c.if-second-timestamp.false in quiet_at (λ d. (zoned d).utc.s) c.utc_at.result (omega numbers, omega numbers)
+    (rw is (quiet_until low (omega numbers) c.in_ok-next.ensures)) (simp to_z-of_z at c.utc_at.ensures)

@@ -11,4 +11,4 @@ fires-preserved g c =
     let own = sym (g.met.Tz.TimeZone.told c.in_ok-fire.fire.offset) ∙ c.in_ok-fire.ensures.at.offset.there in
     let same : c.to_utc-from.result.datetime.secs ≡ c.in_ok-fire.fire.datetime.secs = search rules in
     rw same (not_shown c.fires.invariant c.in_ok-fire.ensures
-    (λ has. let yes = c.if-shows_planned.ensures.1 (rw (← own) at has) in grind (arith, yes, c.if-shows_planned.false)))
+    (λ has. let yes = c.if-shows_planned.ensures.1 (rw (← own) at has) in grind arith))

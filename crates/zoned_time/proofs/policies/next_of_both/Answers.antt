@@ -9,7 +9,7 @@ pub returns-in_default-shown : goal.returns-in_default-shown
 returns-in_default-shown g c = search (rules, only_fire)
 
 pub returns-then-timestamp : goal.returns-then-timestamp
-returns-then-timestamp g c = pass_first c.in-Some-shown.ensures c.in-Some.ensures (search (rules, to_z-of_z))
+returns-then-timestamp g c = search (rules, to_z-of_z, pass_first)
 
 pub returns-else-timestamp : goal.returns-else-timestamp
 returns-else-timestamp g c =

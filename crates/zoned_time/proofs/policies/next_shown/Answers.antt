@@ -22,8 +22,8 @@ returns-in_err-quiet g c =
 pub first_planned_in-requires : goal.first_planned_in-requires
 first_planned_in-requires g c =
     let fits : SFits w32 c.offset_stretch_at-stretch.result.offset = search rules in
-    let s = stretch g (goal.at.first_planned_in-requires g c).After-offset_stretch_at-stretch in let range = c.in_ok-quiet.quiet.in_range in
-    let inside : IsZoneSecond (c.in_ok-quiet.quiet.datetime.secs +ℤ pos 1) = (omega (numbers, range), omega (numbers, range)) in
+    let s = stretch g (goal.at.first_planned_in-requires g c).After-offset_stretch_at-stretch in
+    let inside : IsZoneSecond (c.in_ok-quiet.quiet.datetime.secs +ℤ pos 1) = (omega numbers, omega numbers) in
     simp to_z-of_z (subst IsWithinDay (s.same _ inside s.not_before s.before) (g.met.Tz.TimeZone.within_day c.args.zone.now _ inside))
 
 pub returns-in-Some : goal.returns-in-Some
@@ -37,8 +37,7 @@ pub returns-in_err-from : goal.returns-in_err-from
 returns-in_err-from g c =
     let fo : SFits w32 c.offset_stretch_at-stretch.result.offset = search rules in let fu : SFits w64 c.offset_stretch_at-stretch.result.until = search rules in
     let begin = (goal.at.returns-in_err-from g c).After-offset_stretch_at-stretch in let s = stretch g begin in
-    let before = s.before in let range = c.in_ok-quiet.quiet.in_range in
-    let fd : SFits w64 (c.offset_stretch_at-stretch.result.until -ℤ pos 1) = omega (numbers, before, range, fu) in
+    let fd : SFits w64 (c.offset_stretch_at-stretch.result.until -ℤ pos 1) = omega numbers in
     rw c.from_residual-in_err-from.ensures (beyond_range c.args.after.now.in_range (stretch_past (g.met.Tz.TimeZone.within_day c.args.zone.now)
     (past g begin) s (simp to_z-of_z at c.in_default.ensures)) (simp to_z-of_z at c.in_err-from.ensures))
 
@@ -46,8 +45,7 @@ pub stretches-preserved : goal.stretches-preserved
 stretches-preserved g c =
     let fo : SFits w32 c.offset_stretch_at-stretch.result.offset = search rules in let fu : SFits w64 c.offset_stretch_at-stretch.result.until = search rules in
     let begin = (goal.at.stretches-preserved g c).After-offset_stretch_at-stretch in let s = stretch g begin in
-    let before = s.before in let range = c.in_ok-quiet.quiet.in_range in
-    let fd : SFits w64 (c.offset_stretch_at-stretch.result.until -ℤ pos 1) = omega (numbers, before, range, fu) in
+    let fd : SFits w64 (c.offset_stretch_at-stretch.result.until -ℤ pos 1) = omega numbers in
     rw (simp to_z-of_z at c.in_ok-from.ensures).1 (stretch_past (g.met.Tz.TimeZone.within_day c.args.zone.now) (past g begin) s
     (simp to_z-of_z at c.in_default.ensures))
 

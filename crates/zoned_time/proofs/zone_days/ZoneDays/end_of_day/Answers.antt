@@ -4,9 +4,8 @@ use Rattle.zoned_time.proofs.zone_days.ZoneDays.end_of_day.Goals as goal
 
 pub returns-in_err-start : goal.returns-in_err-start
 returns-in_err-start g c =
-    let wide = c.args.date.in_range in
     let late : last_day <ℤ day_of c.args.date = by_lt_z last_day (day_of c.args.date) (λ less. less)
-    (λ not. absurd (c.in_err-start.ensures (omega (numbers, wide), omega (numbers, wide)))) in
+    (λ not. absurd (c.in_err-start.ensures (omega numbers, omega numbers))) in
     rw c.from_residual.ensures (end_of_last_day _ _ (g.met.Self.TimeZone.within_day c.args.self.now) late)
 
 pub returns-then-start-next : goal.returns-then-start-next

@@ -9,10 +9,9 @@ returns-in_err-whole g c =
 pub returns-then-secs_since_epoch : goal.returns-then-secs_since_epoch
 returns-then-secs_since_epoch g c =
     let whole = c.in_ok-whole.ensures in let wall = ap (λ (r : Reading). r.s) c.naive_local.ensures in
-    let a = c.secs_since_epoch.ensures in let b = c.secs_since_epoch-2.ensures in let same = c.if-secs_since_epoch.true in
     told_exact (g.Self.TimeZone.law c.args.self.now) (reading c.args.local.now) (zoned c.in_ok-whole.whole).utc.s g.Self.Offset.Offset.seconds
     (zoned c.in_ok-whole.whole) (λ d. zoned d) c.from_local_opt.result
-    g.met.Self.TimeZone.told whole.first c.in_ok-whole.whole.in_range whole.at (omega (numbers, wall, a, b, same))
+    g.met.Self.TimeZone.told whole.first c.in_ok-whole.whole.in_range whole.at (omega numbers)
     (rw c.offset.ensures at c.from_local_opt.ensures)
 
 pub returns-else-secs_since_epoch : goal.returns-else-secs_since_epoch

@@ -7,9 +7,8 @@ returns-in_err-until g c = search (rules, to_z-of_z, before_whole, none_before_f
 
 pub returns : goal.returns
 returns g c =
-    let r = (zoned c.args.before.now).utc in let is = c.timestamp.ensures in let range = c.args.before.now.in_range in
-    let fs : SFits w64 c.timestamp.result = search rules in let fd : SFits w64 (c.timestamp.result -ℤ pos 1) = omega (numbers, is, range) in
-    let none = c.timestamp_subsec_nanos.ensures in let test = c.if-timestamp_subsec_nanos-gt0.false in
+    let r = (zoned c.args.before.now).utc in let fs : SFits w64 c.timestamp.result = search rules in
+    let fd : SFits w64 (c.timestamp.result -ℤ pos 1) = omega numbers in
     let told = simp to_z-of_z at c.in_ok-until.ensures in
-    let at : (zoned c.in_ok-until.until).utc.s ≡ r.s -ℤ pos 1 = grind (numbers, told.1, is) in
-    rw (before_whole r (omega (arith, none, test))) (rw at at c.last_fire-2.ensures)
+    let at : (zoned c.in_ok-until.until).utc.s ≡ r.s -ℤ pos 1 = grind numbers in
+    rw (before_whole r (omega arith)) (rw at at c.last_fire-2.ensures)

@@ -6,4 +6,4 @@ pub returns : goal.returns
 returns g c =
     let day = day_of c.args.date in let first = day -ℤ pos c.days_since.result in let start = c.args.start in
     let on = week_start day first (weekday_number start) (number_below start) (rw (← c.weekday.ensures, ← c.days_since.ensures.value) (omega numbers)) in
-    (first, record { on = on; not_after = omega numbers; within = omega (numbers, c.days_since.ensures.bound) }, c.start_of_earlier_day.ensures)
+    (first, record { on = on; not_after = omega numbers; within = omega numbers }, c.start_of_earlier_day.ensures)
