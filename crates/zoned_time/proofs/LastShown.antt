@@ -2,8 +2,8 @@
 use Rattle.zoned_time.specs.Fires.{second_before}
 use Rattle.zoned_time.proofs.Words.{AreAllQuietUntil, AreQuietUntil, HasNoneUntil, IsAt, IsEither, IsFire, IsFirstShown, IsInRange, IsLastPlannedIn}
 use Rattle.zoned_time.proofs.Words.{IsLastUntil, IsOffsetStretch, IsPastUntil, IsShownFire, IsWide, IsZonedLastFire, IsZonedLastOf, IsZoneSecond, Law}
-use Rattle.zoned_time.proofs.Words.{MatchOption, Meaning, None, NoneUntil, NoneUntilPlannedIn, Option, Reading, Some, Zoned, by_lt_z, numbers, of_secs, pos}
-use Rattle.zoned_time.proofs.Words.{subst, sym, ℤ, ◌+ℤ◌, ◌-ℤ◌, ◌<ℤ◌, ◌↔◌, ◌≡◌, ◌≤ℤ◌}
+use Rattle.zoned_time.proofs.Words.{MatchOption, Meaning, None, NoneUntil, NoneUntilPlannedIn, Option, Reading, Some, Zoned, by_lt_z, numbers, of_secs, pos, ℤ}
+use Rattle.zoned_time.proofs.Words.{◌+ℤ◌, ◌-ℤ◌, ◌<ℤ◌, ◌↔◌, ◌≡◌, ◌≤ℤ◌}
 use Rattle.zoned_time.proofs.{DayStarts.{StayWithinDay}, ShownFires.{in_stretch, shows_wide}}
 
 -- fires of a zone with that law, up to the second t, at which clocks show a local time of the plan
@@ -115,7 +115,7 @@ shown_found_last law plan told None within range past stretch last h = λ v insi
 shown_found_last law plan {u = u} told (Some d) within range past stretch last h =
     let is : (told d).utc.s ≡ u = grind numbers in let inside : IsZoneSecond u = (omega numbers, omega numbers) in
     let same = stretch.same u inside last.not_before (omega numbers) in
-    let shown : IsShownFire law.off plan u = record { in_zone = inside; planned = subst (λ (o : ℤ). plan (u +ℤ o)) (sym same) last.planned } in
+    let shown : IsShownFire law.off plan u = record { in_zone = inside; planned = rw same last.planned } in
     record {
       last = rw is (record {
         fires = shown;

@@ -1,8 +1,8 @@
 -- Fires at which clocks show a plan's local times, and the search for them from stretch to stretch.
 use Rattle.zoned_time.proofs.Words.{AreAllQuiet, AreQuiet, HasNoneAfter, IsAt, IsEither, IsFirstPlannedIn, IsFirstShown, IsInRange, IsNextAfter}
 use Rattle.zoned_time.proofs.Words.{IsOffsetStretch, IsPast, IsShownFire, IsWide, IsZonedNextFire, IsZonedNextOf, IsZoneSecond, Law, MatchOption, Meaning, None}
-use Rattle.zoned_time.proofs.Words.{NoneAfter, NoneFiresAfter, NonePlannedIn, Option, Some, Zoned, by_lt_z, numbers, of_secs, pos, subst, sym, ℤ, ◌+ℤ◌, ◌-ℤ◌}
-use Rattle.zoned_time.proofs.Words.{◌<ℤ◌, ◌↔◌, ◌≡◌, ◌≤ℤ◌}
+use Rattle.zoned_time.proofs.Words.{NoneAfter, NoneFiresAfter, NonePlannedIn, Option, Some, Zoned, by_lt_z, numbers, of_secs, pos, ℤ, ◌+ℤ◌, ◌-ℤ◌, ◌<ℤ◌, ◌↔◌}
+use Rattle.zoned_time.proofs.Words.{◌≡◌, ◌≤ℤ◌}
 use Rattle.zoned_time.proofs.DayStarts.{StayWithinDay}
 
 -- fires after the second t of a zone with that law, at which clocks show a local time of the plan
@@ -96,7 +96,7 @@ shown_found law plan told None within range past stretch first h = λ v inside i
 shown_found law plan {u = u} told (Some d) within range past stretch first h =
     let is : (told d).utc.s ≡ u = grind numbers in let inside : IsZoneSecond u = (omega numbers, omega numbers) in
     let same = stretch.same u inside (omega numbers) first.before in
-    let shown : IsShownFire law.off plan u = record { in_zone = inside; planned = subst (λ (o : ℤ). plan (u +ℤ o)) (sym same) first.planned } in
+    let shown : IsShownFire law.off plan u = record { in_zone = inside; planned = rw same first.planned } in
     record {
       next = rw is (record {
         fires = shown;

@@ -1,7 +1,7 @@
 -- Wall clocks of a zone whose offsets are nothing but seconds, and of one whose offset never changes.
 use Rattle.offset_core.specs.declared.local_result.LocalResult.TheVariants.{Single}
 use Rattle.zoned_time.proofs.Words.{AreOffsetsFor, Each, IsBeforeGap, IsOffsetBeforeGap, IsShownOnce, IsWallAnswer, IsWide, IsWithinDay, LocalResult, Meaning}
-use Rattle.zoned_time.proofs.Words.{None as none, SameLaw, ShowsByOffset, Some, arith, home_law, law_by_seconds, map_of, numbers, refl, ℤ, ◌+ℤ◌, ◌-ℤ◌, ◌≡◌}
+use Rattle.zoned_time.proofs.Words.{None as none, SameLaw, ShowsByOffset, Some, arith, home_law, law_by_seconds, map_of, numbers, refl, ℤ, ◌-ℤ◌, ◌≡◌}
 
 -- the offsets of the seconds that show a wall clock are in force then, where an offset is only its seconds
 pub wall_by_seconds : {O : Type 0} {m : Meaning O} (off : ℤ → ℤ) (l : ℤ) (offsets : LocalResult O)
@@ -19,7 +19,7 @@ pub shown_once : (k l : ℤ) → IsWithinDay k → IsWide l → IsShownOnce (Sho
 shown_once k l day wide = record {
   second = l -ℤ k;
   shown = record { in_zone = (omega numbers, omega numbers); offset = refl; shown = omega numbers };
-  only = λ u j s. let j_is : j ≡ k = s.offset in let back : u +ℤ j ≡ l = s.shown in omega numbers;
+  only = λ u j s. omega numbers;
 }
 
 -- so the answer is the offset itself

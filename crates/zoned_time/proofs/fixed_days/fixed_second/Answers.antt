@@ -5,7 +5,6 @@ pub returns : goal.returns
 returns g c =
     let local = c.args.local.now in let here : IsZoneSecond local.secs = (omega numbers, omega numbers) in
     let within = g.met.Tz.TimeZone.within_day c.args.zone.now local.secs here in
-    let is : c.secs_since_epoch.result ≡ local.secs = c.secs_since_epoch.ensures in
     let ahead : c.local_minus_utc.result ≡ (g.Tz.TimeZone.law c.args.zone.now).off local.secs =
     c.local_minus_utc.ensures ∙ c.fix-offset.ensures ∙ sym (g.met.Tz.TimeZone.told c.offset_from_utc_datetime.result)
     ∙ c.offset_from_utc_datetime.ensures.there in
