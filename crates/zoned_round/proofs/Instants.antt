@@ -1,38 +1,38 @@
 -- Values that went some way, as instants.
-use Rattle.zoned_round.proofs.Words.{IsGone, IsItselfOr, IsRoundingFault, Reading, RoundingError, arith, floor_mod_parts, floors, moved, numbers, of_total, pos}
-use Rattle.zoned_round.proofs.Words.{total, total-moved, ℕ, ℤ, ◌+ℤ◌, ◌<◌, ◌≡◌, ◌≤ℤ◌}
+use Rattle.zoned_round.proofs.Words.{IsGone, IsItselfOr, IsRoundingFault, Reading, RoundingError, arith, moved, numbers, of_total, pos, total, total-moved, ℕ}
+use Rattle.zoned_round.proofs.Words.{ℤ, ◌+ℤ◌, ◌<◌, ◌≡◌, ◌≤ℤ◌}
 
 -- and so is one that goes back, out of a leap second too
 total-of : (n : ℤ) → total (of_total n) ≡ n
-total-of n = grind (arith, floors, floor_mod_parts)
+total-of = grind numbers
 
 total-back : (r : Reading) (way : ℤ) → r.f < 2_000_000_000 → way ≤ℤ pos 0 → total (moved r way) ≡ total r +ℤ way
-total-back r way short back = grind (numbers, floors, total-of)
+total-back = grind (numbers, total-of)
 
 -- values that show an instant and move like it
 module _ {T : Type 0} (instant : T → Reading) (IsMoved : ℤ → T → Type 0) (value : T) where
   -- outside leap seconds a value is that much later
   pub total-gone : (answer : T) (way : ℤ) → ((d : ℤ) (new : T) → IsMoved d new → instant new ≡ moved (instant value) d)
       → (instant value).f < 1_000_000_000 → IsGone IsMoved way value answer → total (instant answer) ≡ total (instant value) +ℤ way
-  total-gone answer way moves plain gone = grind (numbers, floors, total-moved)
+  total-gone = grind (numbers, total-moved)
 
   pub gone-back : (answer : T) (way : ℤ) → ((d : ℤ) (new : T) → IsMoved d new → instant new ≡ moved (instant value) d)
       → (instant value).f < 2_000_000_000 → way ≤ℤ pos 0 → IsGone IsMoved way value answer → total (instant answer) ≡ total (instant value) +ℤ way
-  gone-back answer way moves short back gone = grind (numbers, floors, total-back)
+  gone-back = grind (numbers, total-back)
 
   -- two values that were moved alike show one local date-time
   pub gone-once : (a b : T) (way : ℤ) → ((d : ℤ) (new : T) → IsMoved d new → instant new ≡ moved (instant value) d)
       → IsGone IsMoved way value a → IsGone IsMoved way value b → instant a ≡ instant b
-  gone-once a b way moves h k = grind numbers
+  gone-once = grind numbers
 
 -- what holds of the value and of each that went from it
 pub gone-in : {T : Type 0} (P : T → Type 0) (IsMoved : ℤ → T → Type 0) (value answer : T) (way : ℤ)
     → P value → ((d : ℤ) (new : T) → IsMoved d new → P new) → IsGone IsMoved way value answer → P answer
-gone-in P IsMoved value answer way here moves gone = grind numbers
+gone-in = grind numbers
 
 pub itself-in : {T : Type 0} (P Other : T → Type 0) (value answer : T) (n : ℕ)
     → P value → ((new : T) → Other new → P new) → IsItselfOr (n ≡ 0) Other value answer → P answer
-itself-in P Other value answer n here moves h = grind arith
+itself-in = grind numbers
 
 -- reasons to refuse a value
 module _ (p q : Type 0) where

@@ -1,20 +1,20 @@
 -- How far the multiples of a span are from a number.
-use Rattle.zoned_round.proofs.Words.{arith, floor_mod_parts, floors, multiple_above, multiple_below, nearest_multiple, neg_ℤ, numbers, pos, unsigned_abs, ℕ, ℤ}
-use Rattle.zoned_round.proofs.Words.{◌+ℤ◌, ◌-ℤ◌, ◌<ℤ◌, ◌<◌, ◌≡◌, ◌≤ℤ◌, ◌⊎◌}
+use Rattle.zoned_round.proofs.Words.{floors, multiple_above, multiple_below, nearest_multiple, neg_ℤ, numbers, pos, unsigned_abs, ℕ, ℤ, ◌+ℤ◌, ◌-ℤ◌, ◌<ℤ◌, ◌<◌}
+use Rattle.zoned_round.proofs.Words.{◌≡◌, ◌≤ℤ◌, ◌⊎◌}
 
 module _ (n : ℤ) (span : ℕ) where
   -- the multiple below is less than a span away
   pub below-near : 0 < span → (multiple_below n span ≤ℤ n) × (n <ℤ (multiple_below n span +ℤ pos span))
-  below-near some = let parts = floor_mod_parts n span some in (omega (arith, floors), omega (arith, floors))
+  below-near = grind numbers
 
   -- the one above is the one below if that is the value, and else one span further
   pub above-is : 0 < span
       → ((multiple_above n span ≡ multiple_below n span) × (n ≡ multiple_below n span))
       ⊎ ((multiple_above n span ≡ multiple_below n span +ℤ pos span) × (multiple_below n span <ℤ n))
-  above-is some = grind numbers
+  above-is = grind numbers
 
   pub above-near : 0 < span → (n ≤ℤ multiple_above n span) × (multiple_above n span <ℤ (n +ℤ pos span))
-  above-near some = grind numbers
+  above-near = grind numbers
 
   -- the nearest is one of the two, and at most half a span away
   pub nearest-is : ((nearest_multiple n span ≡ multiple_below n span) × ((n -ℤ multiple_below n span) <ℤ (multiple_above n span -ℤ n)))

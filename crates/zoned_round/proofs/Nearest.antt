@@ -1,18 +1,18 @@
 -- The multiples about a number are the greatest, the least and the nearest of all multiples.
 use Rattle.std.proofs.Math.Nat.{mul-le-mul_right}
-use Rattle.zoned_round.proofs.Words.{IsGreatestWith, IsLeastWith, IsMultiple, apart, arith, by_lt_z, down, floor_div, floors, inl, inr, multiple_above}
-use Rattle.zoned_round.proofs.Words.{multiple_below, nearest_multiple, numbers, pos, up, ℕ, ℤ, ◌*ℤ◌, ◌+ℤ◌, ◌+◌, ◌<ℤ◌, ◌<◌, ◌∙◌, ◌≡◌, ◌≤ℤ◌, ◌≤◌}
+use Rattle.zoned_round.proofs.Words.{IsGreatestWith, IsLeastWith, IsMultiple, apart, arith, by_lt_z, floor_div, floors, inl, inr, multiple_above}
+use Rattle.zoned_round.proofs.Words.{multiple_below, nearest_multiple, numbers, pos, ℕ, ℤ, ◌*ℤ◌, ◌+ℤ◌, ◌<ℤ◌, ◌<◌, ◌∙◌, ◌≡◌, ◌≤ℤ◌, ◌≤◌}
 use Rattle.zoned_round.proofs.Multiples.{above-is, above-near, below-near, nearest-is}
 
 -- products by a span, in the order of their factors
 scaled : (a b : ℤ) (span : ℕ) → a ≤ℤ b → (a *ℤ pos span) ≤ℤ (b *ℤ pos span)
-scaled a b span h = let e : up a + down b ≤ up b + down a = omega (arith, floors) in grind (numbers, floors, mul-le-mul_right span e)
+scaled = grind (numbers, mul-le-mul_right)
 
 next-is : (q : ℤ) (span : ℕ) → (q *ℤ pos span +ℤ pos span) ≡ (q +ℤ pos 1) *ℤ pos span
-next-is q span = grind (numbers, floors)
+next-is = grind numbers
 
 scaled-next : (a b : ℤ) (span : ℕ) → a <ℤ b → (a *ℤ pos span +ℤ pos span) ≤ℤ (b *ℤ pos span)
-scaled-next a b span h = rw (next-is a span) (scaled (a +ℤ pos 1) b span (omega (arith, floors)))
+scaled-next = grind (numbers, next-is, scaled)
 
 -- the multiples of a span about n
 module _ (n : ℤ) (span : ℕ) (some : 0 < span) where
