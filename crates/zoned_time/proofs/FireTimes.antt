@@ -37,8 +37,7 @@ module _ {off : ℤ → ℤ} {plan : ℤ → Type 0} {t local : ℤ} (within : S
   }
 
   pub none_fires_after : HasNoneAfter plan local → NoneFiresAfter off plan t
-  none_fires_after none v inside fire later = none fire.local (fire_is_wide within inside fire.first) fire.planned
-      (by_lt_z local fire.local (λ less. less) (λ not. let come = (adjoint fire.first reached).1 not in omega numbers))
+  none_fires_after = grind (numbers, fire_is_wide, adjoint)
 
   pub last_fire : {l u : ℤ} → IsLastUntil plan local l → IsWide l → IsFirstToReach off l u → IsLastFire off plan t u
   last_fire {l = l} last wide first = record {
@@ -52,7 +51,7 @@ module _ {off : ℤ → ℤ} {plan : ℤ → Type 0} {t local : ℤ} (within : S
   }
 
   pub none_fires_until : HasNoneUntil plan local → NoneFiresUntil off plan t
-  none_fires_until none v inside fire come = none fire.local (fire_is_wide within inside fire.first) fire.planned ((adjoint fire.first reached).0 come)
+  none_fires_until = grind (numbers, fire_is_wide, adjoint)
 
 module _ {off : ℤ → ℤ} {plan : ℤ → Type 0} {t u : ℤ} (range : IsInRange t) where
   fires_beyond : IsNextFire off plan t u → (IsInRange u → ⊥) → NoneFiresAfter off plan t

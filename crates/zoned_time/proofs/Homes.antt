@@ -1,6 +1,6 @@
 -- What zones of the same law give, and zones of the same offsets in seconds.
-use Rattle.zoned_time.proofs.Words.{AreOffsetsFor, IsAt, IsFirstInstantFrom, IsFirstOutOfRange, IsInDay, IsInRange, IsOffsetAt, IsRelocal, IsZonedAtOrAfter}
-use Rattle.zoned_time.proofs.Words.{Law, LocalResult, MatchOption, Meaning, Option, Reading, SameLaw, SameOffsets, Zoned, arith, midnight, numbers, pos}
+use Rattle.zoned_time.proofs.Words.{AreOffsetsFor, IsAt, IsFirstInstantFrom, IsFirstOutOfRange, IsInDay, IsInRange, IsRelocal, IsZonedAtOrAfter, Law}
+use Rattle.zoned_time.proofs.Words.{LocalResult, MatchOption, Meaning, Option, Reading, SameLaw, SameOffsets, Zoned, arith, midnight, numbers, pos}
 use Rattle.zoned_time.proofs.Words.{seconds_alone, ℤ, ◌+ℤ◌}
 
 -- a law is the same as itself
@@ -9,10 +9,7 @@ same_itself = grind arith
 
 -- a zone, and one of the same law
 module _ {O : Type 0} {m : Meaning O} (law home : Law m) (same : SameLaw law home) where
-  -- the offset at a second, and at an instant
-  pub offset_home : (u : ℤ) (o : O) → IsInRange u → IsOffsetAt law u o → IsOffsetAt home u o
-  offset_home = grind arith
-
+  -- the offset at an instant
   pub at_home : (r : Reading) (d : Zoned O) → IsInRange r.s → IsAt law r d → IsAt home r d
   at_home = grind arith
 

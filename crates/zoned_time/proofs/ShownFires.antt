@@ -83,9 +83,7 @@ module _ {off : ℤ → ℤ} {plan : ℤ → Type 0} {t from : ℤ} (within : St
 
   found_in : {start until k u : ℤ} → IsOffsetStretch off (from +ℤ pos 1) start until k → IsFirstPlannedIn plan from until k u
       → (v : ℤ) → IsInRange v → IsShownFire off plan v → t <ℤ v → u ≤ℤ v
-  found_in stretch found v inside it later = by_lt_z v _
-      (λ less. let after = past.none v inside it later in let shown = in_stretch within stretch inside it (omega numbers) (omega numbers) in
-      found.least v shown.0 shown.1 after) (λ not. not)
+  found_in stretch found v inside it later = let after = past.none v inside it later in grind (numbers, in_stretch within stretch inside it)
 
 pub shown_found : {O T : Type 0} {m : Meaning O} (law : Law m) (plan : ℤ → Type 0) {t q from until k u : ℤ} (told : T → Zoned O) (found : Option T)
     → StayWithinDay law.off → IsInRange t → IsPast (IsShownFire law.off plan) t q → IsOffsetStretch law.off (q +ℤ pos 1) from until k

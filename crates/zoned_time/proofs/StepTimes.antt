@@ -1,41 +1,38 @@
 -- Steps of the local clock divide time.
 use Rattle.naive_plans.specs.{ClockSteps.{BeginsStep}, declared.clock_step.ClockStep.TheVariants.{Day}}
-use Rattle.zoned_time.specs.{Fires.{second_before}, StepBounds.{AreStepBounds}}
+use Rattle.zoned_time.specs.{Fires.{second_before}, Nearest.{IsLastOf, IsNextOf}, StepBounds.{AreStepBounds}}
 use Rattle.zoned_time.proofs.Words.{IsAt, IsFire, IsFirstInstantFrom, IsFirstToReach, IsInDay, IsInRange, IsLastFire, IsZonedNextFire, Law, MatchOption}
 use Rattle.zoned_time.proofs.Words.{Meaning, None, NoneFiresAfter, NoneFiresUntil, Option, Reading, Some, Zoned, arith, by_lt_z, floors, midnight, numbers}
 use Rattle.zoned_time.proofs.Words.{of_secs, pos, refl, ℤ, ◌*ℤ◌, ◌+ℤ◌, ◌-ℤ◌, ◌<ℤ◌, ◌≡◌, ◌≤ℤ◌}
 use Rattle.zoned_time.proofs.{Days.{first_whole, to_reached}, DayStarts.{one_first}, FireTimes.{first_rises}}
 
+-- seconds of one kind: the last one up to the second t, and the next one
+module _ {fire : ℤ → Type 0} {t : ℤ} where
+  stays_last : {v begin end : ℤ} → IsLastOf fire t begin → IsNextOf fire t end → begin ≤ℤ v → v <ℤ end → IsLastOf fire v begin
+  stays_last = grind numbers
+
+  stays_next : {v begin end : ℤ} → IsLastOf fire t begin → IsNextOf fire t end → begin ≤ℤ v → v <ℤ end → IsNextOf fire v end
+  stays_next = grind numbers
+
+  last_once : {a c : ℤ} → IsLastOf fire t a → IsLastOf fire t c → a ≡ c
+  last_once = grind numbers
+
+  next_once : {b d : ℤ} → IsNextOf fire t b → IsNextOf fire t d → b ≡ d
+  next_once = grind numbers
+
+  next_last : {b c : ℤ} → IsNextOf fire t b → IsLastOf fire b c → c ≡ b
+  next_last = grind numbers
+
 -- steps that begin at these local times
 module _ {off : ℤ → ℤ} {begins : ℤ → Type 0} {t : ℤ} where
   pub whole : {v begin end : ℤ} → AreStepBounds off begins t begin end → begin ≤ℤ v → v <ℤ end → AreStepBounds off begins v begin end
-  whole h low high = record {
-    begin_is = record {
-      fires = h.begin_is.fires;
-      not_after = low;
-      none_skipped = λ u fire come. by_lt_z t u (λ later. absurd (let least = h.end_is.none_skipped u fire later in omega numbers))
-          (λ not. h.begin_is.none_skipped u fire not);
-    };
-    end_is = record {
-      fires = h.end_is.fires;
-      after = high;
-      none_skipped = λ u fire later. by_lt_z t u (λ after. h.end_is.none_skipped u fire after)
-          (λ not. absurd (let most = h.begin_is.none_skipped u fire not in omega numbers));
-    };
-  }
+  whole h low high = record { begin_is = stays_last h.begin_is h.end_is low high; end_is = stays_next h.begin_is h.end_is low high }
 
   pub once : {a b c d : ℤ} → AreStepBounds off begins t a b → AreStepBounds off begins t c d → (a ≡ c) × (b ≡ d)
-  once h k =
-      let up = h.begin_is.none_skipped _ k.begin_is.fires k.begin_is.not_after in let down = k.begin_is.none_skipped _ h.begin_is.fires h.begin_is.not_after in
-      let more = h.end_is.none_skipped _ k.end_is.fires k.end_is.after in let less = k.end_is.none_skipped _ h.end_is.fires h.end_is.after in
-      (omega numbers, omega numbers)
+  once h k = (last_once h.begin_is k.begin_is, next_once h.end_is k.end_is)
 
   pub lengths_add : {a b c d : ℤ} → AreStepBounds off begins t a b → AreStepBounds off begins b c d → (c ≡ b) × ((b -ℤ a) +ℤ (d -ℤ c) ≡ d -ℤ a)
-  lengths_add h k =
-      let most = k.begin_is.none_skipped _ h.end_is.fires (omega numbers) in (
-        omega numbers,
-        omega numbers,
-      )
+  lengths_add h k = let same = next_last h.end_is k.begin_is in (same, omega numbers)
 
 -- ---- days
 first_whole_second : {off : ℤ → ℤ} {l r : Reading} → IsFirstInstantFrom off l r → l.f ≡ 0 → IsFirstToReach off l.s r.s

@@ -1,4 +1,4 @@
-use Rattle.zoned_time.proofs.Words.{SFits, numbers, pos, rules, to_z-of_z, w64, zoned, ℤ, ◌-ℤ◌, ◌≤ℤ◌}
+use Rattle.zoned_time.proofs.Words.{SFits, numbers, pos, rules, to_z-of_z, w64, zoned, ◌-ℤ◌, ◌≤ℤ◌}
 use Rattle.zoned_time.proofs.ShownFires.{all_quiet, quiet_at, quiet_until}
 use Rattle.zoned_time.proofs.policies.last_quiet.Goals.{After-overflowing_add_offset}
 use Rattle.zoned_time.proofs.policies.last_quiet.Goals as goal
