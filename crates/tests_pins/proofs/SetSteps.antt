@@ -26,6 +26,6 @@ pub bounds : (off : ℤ → ℤ) (begins : ℤ → Type 0) (t l first next u v :
     → IsLastUntil begins l first → IsWide first → IsFirstToReach off first u → IsNextAfter begins l next → IsWide next → IsFirstToReach off next v
     → AreStepBounds off begins t u v
 bounds off begins t l first next u v within range reached last wide_first at_first after wide_next at_next = record {
-  begin_is = last_fire off begins t l first u within range reached last wide_first at_first;
-  end_is = next_fire off begins t l next v within range reached after wide_next at_next;
+  begin_is = last_fire within range reached last wide_first at_first;
+  end_is = next_fire within range reached after wide_next at_next;
 }

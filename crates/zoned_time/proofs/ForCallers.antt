@@ -1,7 +1,7 @@
 -- Lemmas for the crates above.
 pub use Rattle.zoned_time.proofs.Answered.{choice_decided}
-pub use Rattle.zoned_time.proofs.Homes.{same_itself, same_through, offset_home, at_home, offsets_home, relocal_home}
-pub use Rattle.zoned_time.proofs.Instants.{told_in_seconds, relocal_once, given_some}
+pub use Rattle.zoned_time.proofs.Homes.{same_itself, at_home, offsets_home, relocal_home}
+pub use Rattle.zoned_time.proofs.Instants.{relocal_once}
 pub use Rattle.zoned_time.proofs.Relocals.{relocal_shown}
 -- of a zone whose offsets are nothing but seconds
 pub use Rattle.zoned_time.proofs.Walls.{wall_by_seconds, gap_by_seconds}

@@ -1,6 +1,6 @@
 -- What is put together in a buffer and written at once.
 use Rattle.zoned_time.proofs.Words.{DisplaysOnOk, Error, Formatter, List, None, Option, Result, Some, WritesOnOk, WritesText, ap, arith, contents_after_writes}
-use Rattle.zoned_time.proofs.Words.{option_map, subst, ℕ, [], ◌++?◌, ◌++◌, ◌∙◌, ◌∷◌, ◌≡◌}
+use Rattle.zoned_time.proofs.Words.{option_map, subst, [], ℕ, ◌++?◌, ◌++◌, ◌∙◌, ◌∷◌, ◌≡◌}
 
 -- a buffer that takes each piece
 abbrev pub Appends : List ℕ → List ℕ → List ℕ → Type 0

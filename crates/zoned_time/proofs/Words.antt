@@ -4,7 +4,7 @@ pub use Rattle.std.proofs.lemmas.Fmt.{contents_after_writes}
 pub use Rattle.std.specs.Fmt.{DisplaysOnOk, WritesOnOk, WritesText, ◌++?◌}
 pub use Rattle.std.specs.declared.fmt.Error.{Error}
 pub use Rattle.std.specs.declared.fmt.Formatter.{Formatter}
-pub use Rattle.offset_core.proofs.ForCallers.{HasOneValue, HoldsOfTaken, and_then_told, map_all, map_around, map_outcome, map_taken, one_offset, one_outcome}
+pub use Rattle.offset_core.proofs.ForCallers.{HasOneValue, HoldsOfTaken, and_then_told, map_around, map_outcome, map_taken, one_offset, one_outcome}
 pub use Rattle.offset_core.proofs.ForCallers.{one_wall_answer, taken_holds, taken_of_images}
 pub use Rattle.offset_core.specs.Around.{HoldsOfEachAround, Takes, taken_of}
 pub use Rattle.offset_core.specs.FixedOffset.{seconds_of}
@@ -24,7 +24,7 @@ unfoldable pub use Rattle.naive_base.proofs.Words.{day_number, day_of_month, mon
 pub use Rattle.naive_base.specs.Clock.{clock_second}
 pub use Rattle.naive_base.specs.Fields.{IsDaysLater, IsGiven}
 pub use Rattle.naive_base.specs.Range.{first_day, last_day}
-pub use Rattle.naive_base.specs.Reading.{ahead, behind}
+pub use Rattle.naive_base.specs.Reading.{behind}
 pub use Rattle.naive_base.specs.Stamp.{of_secs}
 pub use Rattle.naive_base.specs.declared.date.NaiveDate.{NaiveDate}
 pub use Rattle.zoned_time.specs.Choice.{AreOffsetsAround, IsBeforeGap, IsOffsetBeforeGap, IsResolved, IsTaken, IsUnresolved, offset_taken, out_of_range}
@@ -33,13 +33,13 @@ pub use Rattle.zoned_time.specs.DateTime.{home_law_of, wall_of, zoned}
 pub use Rattle.zoned_time.specs.DayEnds.{AreStartsOfDays, HasNoEnd, IsEndOfDay, IsGapEnd, IsZonedEnd, NonePassed, first_day_of_year, first_of_month}
 pub use Rattle.zoned_time.specs.Days.{AreEndsOfDay, AreInstantsOfDay, HasReached, IsFirstInstantFrom, IsFirstOutOfRange, IsFirstToReach, IsInDay, IsInstantFrom}
 pub use Rattle.zoned_time.specs.Days.{IsFirstSecondOutOfRange, IsNeverOnDay, IsNoDay, IsOnDay, IsZonedAtOrAfter, IsZonedFirst, midnight}
-pub use Rattle.zoned_time.specs.Fields.{IsOnly, IsOnlyWhere}
+pub use Rattle.zoned_time.specs.Fields.{IsOnlyWhere}
 pub use Rattle.naive_plans.specs.Plans.{HasNoneAfter, HasNoneUntil, IsLastUntil, IsNextAfter}
 pub use Rattle.zoned_time.specs.Fires.{AreFires, IsFire, IsLastFire, IsNextFire, IsZonedLastFire, IsZonedNextFire, NoneFiresAfter, NoneFiresUntil, RiseFrom}
 pub use Rattle.zoned_time.specs.Reached.{IsReachedAt}
 pub use Rattle.zoned_time.specs.Steps.Passed.{HasPassed}
-pub use Rattle.zoned_time.specs.Nearest.{AreAllOf, IsLastOf, IsNextOf, IsZonedLastOf, IsZonedNextOf, NoneAfter, NoneBetween, NoneUntil}
-pub use Rattle.zoned_time.specs.Policies.{AreFiresBy, IsFireBy, IsShownFire}
+pub use Rattle.zoned_time.specs.Nearest.{AreAllOf, IsZonedLastOf, IsZonedNextOf, NoneAfter, NoneBetween, NoneUntil}
+pub use Rattle.zoned_time.specs.Policies.{IsFireBy, IsShownFire}
 pub use Rattle.zoned_time.specs.Steps.Shown.{AreAllQuiet, AreAllQuietUntil, AreQuiet, AreQuietUntil, IsEither, IsFirstPlannedIn, IsFirstShown}
 pub use Rattle.zoned_time.specs.Steps.Shown.{IsLastPlannedIn, IsPast, IsPastUntil, NonePlannedIn, NoneUntilPlannedIn}
 pub use Rattle.zoned_time.specs.Stretches.{IsOffsetStretch}
@@ -50,3 +50,9 @@ pub use Rattle.zoned_time.specs.Zone.{law_by_seconds, meaning_by_seconds, second
 pub use Rattle.zoned_time.specs.Zoned.{IsAt, Zoned, in_seconds, local_of, shown}
 pub use Rattle.offset_core.specs.declared.resolve_error.ResolveError.{ResolveError}
 pub use Rattle.zoned_time.specs.declared.utc.Utc.{Utc}
+
+-- the laws of numbers without a sign and with one
+pub ruleset numbers = (arith, ints)
+
+-- a number that fits a width is its bits there, read back
+pub ruleset casts = (arith, to_z-of_z)

@@ -45,6 +45,7 @@ fn reached_offset<Tz: ZoneDays>(zone: &Tz, utc: NaiveDateTime) -> i32
 
 // The same by the other calls of the zone. If clocks haven't been set for two days, it is the
 // offset in force: they are less than a day away from UTC.
+#[tactic(auto, using(crate::proofs::Words::casts, crate::proofs::Words::numbers))]
 fn offset_by_search<Tz: ZoneDays>(zone: &Tz, utc: NaiveDateTime) -> i32
     requires { IsInRange (reading utc).s }
     ensures within { IsWithinDay result }
@@ -106,6 +107,7 @@ fn offset_by_bisection<Tz: ZoneDays>(zone: &Tz, utc: NaiveDateTime, passed: i32)
 }
 
 // The half of a bracket that still has the answer between its ends.
+#[tactic(auto, using(crate::proofs::Words::casts))]
 fn halved<Tz: ZoneDays>(zone: &Tz, utc: NaiveDateTime, bracket: Bracket) -> Bracket
     requires range { IsInRange (reading utc).s }
     requires some { (bracket.passed +ℤ pos 1) <ℤ bracket.ahead }

@@ -132,6 +132,7 @@ pub trait TimeZone: Sized + Copy {
     ///
     /// As in the table: [`ResolveError::Gap`], [`ResolveError::Fold`], and
     /// [`ResolveError::OutOfRange`] if the UTC date-time of the selected instant is out of range.
+    #[tactic(auto, using(crate::proofs::Choices::refused_of))]
     final fn resolve(
         &self,
         local: &NaiveDateTime,

@@ -37,5 +37,5 @@ day off set =
 pub returns : goal.returns
 returns c = record {
   day = day;
-  only = λ off begin end set h. once off (BeginsStep Day) (pos 1_130_641_320) begin end (pos 1_130_639_400) (pos 1_130_729_400) h (day off set);
+  only = λ off begin end set h. once h (day off set);
 }

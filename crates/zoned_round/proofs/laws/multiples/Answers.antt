@@ -5,6 +5,6 @@ pub returns : goal.returns
 returns c = record {
   below = below-greatest;
   above = above-least;
-  nearest = λ n m span some k. rw (k.1) ((nearest-of_all n k.0 span some).0);
-  tie = λ n m span some k same. rw (k.1) ((nearest-of_all n k.0 span some).1 (rw (k.1) at same));
+  nearest = λ n m span some k. rw k.1 ((nearest-of_all n span some k.0).0);
+  tie = λ n m span some k same. rw k.1 ((nearest-of_all n span some k.0).1 (rw k.1 at same));
 }

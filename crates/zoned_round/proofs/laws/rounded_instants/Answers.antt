@@ -1,4 +1,4 @@
-use Rattle.zoned_round.proofs.{Words.{arith, floors, ints, total, ℤ}, Instants.{total-gone}, Multiples.{way-down, way-near, way-up}}
+use Rattle.zoned_round.proofs.{Words.{arith, floors, numbers, total, ℤ}, Instants.{total-gone}, Multiples.{way-down, way-near, way-up}}
 use Rattle.zoned_round.proofs.laws.rounded_instants.Goals as goal
 
 pub returns : goal.returns
@@ -12,5 +12,5 @@ returns g c =
       up = λ value answer span plain rounded.
           let at = gone value answer _ plain rounded.2 in let way = way-up (total (T.clock value)) span rounded.0.0 in
           (omega (arith, floors), omega (arith, floors));
-      round = λ value down up near span plain below above rounded. grind (arith, ints, floors, way-near);
+      round = λ value down up near span plain below above rounded. grind (numbers, floors, way-near);
     }

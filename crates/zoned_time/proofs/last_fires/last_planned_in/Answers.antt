@@ -1,31 +1,21 @@
-use Rattle.zoned_time.proofs.Words.{Reading, SFits, ap, arith, ints, rules, to_z-of_z, w32, w64, ◌+ℤ◌, ◌-ℤ◌, ◌≡◌}
-use Rattle.zoned_time.proofs.LastShown.{last_in, none_last_in}
+use Rattle.zoned_time.proofs.{LastShown.{last_in, none_last_in}, Words.{SFits, numbers, rules, to_z-of_z, w32, w64, ◌+ℤ◌, ◌-ℤ◌, ◌≡◌}}
 use Rattle.zoned_time.proofs.last_fires.last_planned_in.Goals.{After-overflowing_add_offset-local}
 use Rattle.zoned_time.proofs.last_fires.last_planned_in.Goals as goal
 
 -- the local time that a clock with that offset shows at the given second
 local_is : (g : _) (c : After-overflowing_add_offset-local g) → c.overflowing_add_offset-local.result.secs ≡ c.args.until.now.datetime.secs +ℤ c.args.offset
-local_is g c =
-    let fits : SFits w32 c.args.offset = search rules in
-    let a = ap (λ (r : Reading). r.s) c.overflowing_add_offset-local.ensures in let b = ap (λ (r : Reading). r.s) c.naive_utc.ensures in
-    let e = simp to_z-of_z at c.east.ensures in omega (arith, ints, a, b, e)
+local_is g c = grind numbers
 
 pub returns-else-second-from : goal.returns-else-second-from
 returns-else-second-from g c =
-    let fn : SFits w64 c.secs_since_epoch.result = search rules in let fo : SFits w32 c.args.offset = search rules in
-    let is = c.secs_since_epoch.ensures in let wide = c.in_ok-last.last.in_range.0 in let day = c.requires in
-    let fk : SFits w64 c.args.offset = omega (arith, ints, day) in
-    let fd : SFits w64 (c.secs_since_epoch.result -ℤ c.args.offset) = omega (arith, ints, is, wide, day) in
+    let local = local_is g (goal.at.returns-else-second-from g c).After-overflowing_add_offset-local in
+    let is = c.secs_since_epoch.ensures in let wide = c.in_ok-last.last.in_range.0 in let fn : SFits w64 c.secs_since_epoch.result = search rules in
+    let fo : SFits w32 c.args.offset = search rules in
+    let fk : SFits w64 c.args.offset = omega numbers in
+    let fd : SFits w64 (c.secs_since_epoch.result -ℤ c.args.offset) = omega numbers in
     let after = simp to_z-of_z at c.if-second-from.false in
-    simp to_z-of_z (rw is (last_in _ _ _ _ _ _ (local_is g (goal.at.returns-else-second-from g c).After-overflowing_add_offset-local) wide
-    c.in_ok-last.ensures (omega (arith, ints, is, after))))
+    simp to_z-of_z (rw is (last_in local wide c.in_ok-last.ensures (omega numbers)))
 
 pub returns-then-second-from : goal.returns-then-second-from
 returns-then-second-from g c =
-    let fn : SFits w64 c.secs_since_epoch.result = search rules in let fo : SFits w32 c.args.offset = search rules in
-    let is = c.secs_since_epoch.ensures in let wide = c.in_ok-last.last.in_range.0 in let day = c.requires in
-    let fk : SFits w64 c.args.offset = omega (arith, ints, day) in
-    let fd : SFits w64 (c.secs_since_epoch.result -ℤ c.args.offset) = omega (arith, ints, is, wide, day) in
-    let beyond = simp to_z-of_z at c.if-second-from.true in
-    none_last_in _ _ _ _ _ _ (local_is g (goal.at.returns-then-second-from g c).After-overflowing_add_offset-local)
-    c.in_ok-last.ensures (omega (arith, ints, is, beyond))
+    let local = local_is g (goal.at.returns-then-second-from g c).After-overflowing_add_offset-local in search (rules, to_z-of_z, none_last_in)

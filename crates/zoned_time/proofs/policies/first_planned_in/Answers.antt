@@ -1,31 +1,25 @@
-use Rattle.zoned_time.proofs.Words.{Reading, SFits, ap, arith, ints, rules, to_z-of_z, w32, w64, ◌+ℤ◌, ◌-ℤ◌, ◌≡◌}
-use Rattle.zoned_time.proofs.ShownFires.{first_in, none_in}
+use Rattle.zoned_time.proofs.{ShownFires.{first_in, none_in}, Words.{SFits, numbers, rules, to_z-of_z, w32, w64, ◌+ℤ◌, ◌-ℤ◌, ◌≡◌}}
 use Rattle.zoned_time.proofs.policies.first_planned_in.Goals.{After-overflowing_add_offset-local}
 use Rattle.zoned_time.proofs.policies.first_planned_in.Goals as goal
 
 -- the local time that a clock with that offset shows at the given second
 local_is : (g : _) (c : After-overflowing_add_offset-local g) → c.overflowing_add_offset-local.result.secs ≡ c.args.after.now.datetime.secs +ℤ c.args.offset
-local_is g c =
-    let fits : SFits w32 c.args.offset = search rules in
-    let a = ap (λ (r : Reading). r.s) c.overflowing_add_offset-local.ensures in let b = ap (λ (r : Reading). r.s) c.naive_utc.ensures in
-    let e = simp to_z-of_z at c.east.ensures in omega (arith, ints, a, b, e)
+local_is g c = grind numbers
 
 pub returns-then-second-until : goal.returns-then-second-until
 returns-then-second-until g c =
-    let fn : SFits w64 c.secs_since_epoch.result = search rules in let fo : SFits w32 c.args.offset = search rules in
-    let is = c.secs_since_epoch.ensures in let wide = c.in_ok-next.next.in_range.0 in let day = c.requires in
-    let fk : SFits w64 c.args.offset = omega (arith, ints, day) in
-    let fd : SFits w64 (c.secs_since_epoch.result -ℤ c.args.offset) = omega (arith, ints, is, wide, day) in
+    let local = local_is g (goal.at.returns-then-second-until g c).After-overflowing_add_offset-local in
+    let is = c.secs_since_epoch.ensures in let wide = c.in_ok-next.next.in_range.0 in let fn : SFits w64 c.secs_since_epoch.result = search rules in
+    let fo : SFits w32 c.args.offset = search rules in
+    let fk : SFits w64 c.args.offset = omega numbers in
+    let fd : SFits w64 (c.secs_since_epoch.result -ℤ c.args.offset) = omega numbers in
     let before = simp to_z-of_z at c.if-second-until.true in
-    simp to_z-of_z (rw is (first_in _ _ _ _ _ _ (local_is g (goal.at.returns-then-second-until g c).After-overflowing_add_offset-local) wide
-    c.in_ok-next.ensures (omega (arith, ints, is, before))))
+    simp to_z-of_z (rw is (first_in local wide c.in_ok-next.ensures (omega numbers)))
 
 pub returns-else-second-until : goal.returns-else-second-until
 returns-else-second-until g c =
+    let local = local_is g (goal.at.returns-else-second-until g c).After-overflowing_add_offset-local in
     let fn : SFits w64 c.secs_since_epoch.result = search rules in let fo : SFits w32 c.args.offset = search rules in
-    let is = c.secs_since_epoch.ensures in let wide = c.in_ok-next.next.in_range.0 in let day = c.requires in
-    let fk : SFits w64 c.args.offset = omega (arith, ints, day) in
-    let fd : SFits w64 (c.secs_since_epoch.result -ℤ c.args.offset) = omega (arith, ints, is, wide, day) in
-    let beyond = simp to_z-of_z at c.if-second-until.false in
-    none_in _ _ _ _ _ _ (local_is g (goal.at.returns-else-second-until g c).After-overflowing_add_offset-local)
-    c.in_ok-next.ensures (omega (arith, ints, is, beyond))
+    let fk : SFits w64 c.args.offset = omega numbers in
+    let fd : SFits w64 (c.secs_since_epoch.result -ℤ c.args.offset) = omega numbers in
+    let beyond = simp to_z-of_z at c.if-second-until.false in none_in _ local c.in_ok-next.ensures (omega numbers)

@@ -1,4 +1,4 @@
-use Rattle.zoned_time.proofs.Words.{IsShownFire, IsPast, pos, unsigned_abs, zoned, ◌-ℤ◌}
+use Rattle.zoned_time.proofs.Words.{IsPast, IsShownFire, pos, unsigned_abs, zoned, ◌-ℤ◌}
 use Rattle.zoned_time.proofs.policies.next_shown.Given as goal
 
 abbrev pub invariant-stretches : goal.invariant-stretches

@@ -1,4 +1,4 @@
-use Rattle.zoned_time.proofs.Words.{HasPassed, SFits, arith, ints, pos, rules, subst, to_z-of_z, w32, ℤ, ◌+ℤ◌}
+use Rattle.zoned_time.proofs.Words.{HasPassed, SFits, numbers, pos, rules, subst, to_z-of_z, w32, ℤ, ◌+ℤ◌}
 use Rattle.zoned_time.proofs.ReachedTimes.{last_passed, none_a_day_ahead}
 use Rattle.zoned_time.proofs.reached.offset_by_bisection.Goals as goal
 
@@ -6,18 +6,18 @@ pub loop-bracket-init : goal.loop-bracket-init
 loop-bracket-init g c =
     let fits : SFits w32 c.args.passed = search rules in
     simp to_z-of_z (record {
-      some = omega (arith, ints, c.requires.within);
+      some = omega numbers;
       within = c.requires.within;
-      end = omega (arith, ints);
+      end = omega numbers;
       passed = c.requires.passed;
-      ahead = none_a_day_ahead (g.Tz.TimeZone.law c.args.zone.now).off c.args.utc.secs (g.met.Tz.TimeZone.within_day c.args.zone.now);
+      ahead = none_a_day_ahead c.args.utc.secs (g.met.Tz.TimeZone.within_day c.args.zone.now);
     })
 
 pub returns-clause-reached : goal.returns-clause-reached
 returns-clause-reached g c =
     let bracket = c.loop-bracket.bracket in let inv = c.loop-bracket.invariant in
     let fp : SFits w32 bracket.passed = search rules in let fa : SFits w32 bracket.ahead = search rules in
-    let fm : SFits w32 (bracket.passed +ℤ pos 1) = omega (arith, ints, inv.within) in
+    let fm : SFits w32 (bracket.passed +ℤ pos 1) = omega numbers in
     let over = simp to_z-of_z at c.loop-bracket-test.false in
-    simp to_z-of_z (last_passed _ c.args.utc.secs _ inv.passed (λ h. inv.ahead
-    (subst (λ (l : ℤ). HasPassed (g.Tz.TimeZone.law c.args.zone.now).off l c.args.utc.secs) (omega (arith, ints, over, inv.some)) h)))
+    simp to_z-of_z (last_passed inv.passed (λ h. inv.ahead
+    (subst (λ (l : ℤ). HasPassed (g.Tz.TimeZone.law c.args.zone.now).off l c.args.utc.secs) (omega numbers) h)))

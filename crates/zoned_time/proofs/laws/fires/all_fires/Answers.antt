@@ -4,7 +4,7 @@ use Rattle.zoned_time.proofs.laws.fires.all_fires.Goals as goal
 
 pub returns : goal.returns
 returns g c = record {
-  fires = λ zone plan t until us h. each_fires (IsFire (g.Tz.TimeZone.law zone).off (g.P.Plan.planned plan)) t until us h;
-  none_skipped = λ zone plan t until us h. none_skipped (IsFire (g.Tz.TimeZone.law zone).off (g.P.Plan.planned plan)) t until us h;
-  none_doubled = λ zone plan t until us h. none_doubled (IsFire (g.Tz.TimeZone.law zone).off (g.P.Plan.planned plan)) t until us h;
+  fires = λ zone plan t until. each_fires (IsFire (g.Tz.TimeZone.law zone).off (g.P.Plan.planned plan)) until t;
+  none_skipped = λ zone plan t until. none_skipped (IsFire (g.Tz.TimeZone.law zone).off (g.P.Plan.planned plan)) until t;
+  none_doubled = λ zone plan t until. none_doubled (IsFire (g.Tz.TimeZone.law zone).off (g.P.Plan.planned plan)) until t;
 }

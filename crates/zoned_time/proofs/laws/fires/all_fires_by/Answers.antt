@@ -5,13 +5,9 @@ use Rattle.zoned_time.proofs.laws.fires.all_fires_by.Goals as goal
 
 pub returns : goal.returns
 returns g c = record {
-  fires = λ zone plan policy t until us h. let fire = IsFireBy policy (g.Tz.TimeZone.law zone).off (g.P.Plan.planned plan) in (
-    each_fires fire t until us h,
-    none_skipped fire t until us h,
-    none_doubled fire t until us h,
-  );
-  usual = λ zone plan t until us. let off = (g.Tz.TimeZone.law zone).off in let planned = g.P.Plan.planned plan in (
-    same_all (IsFireBy usual_policy off planned) (IsFire off planned) t until us (fires_usual off planned) (usual_fires off planned),
-    same_all (IsFire off planned) (IsFireBy usual_policy off planned) t until us (usual_fires off planned) (fires_usual off planned),
-  );
+  fires = λ zone plan policy t until us h. let fire = IsFireBy policy (g.Tz.TimeZone.law zone).off (g.P.Plan.planned plan) in
+      (each_fires fire until t us h, none_skipped fire until t us h, none_doubled fire until t us h);
+  usual = λ zone plan t until us. let off = (g.Tz.TimeZone.law zone).off in let planned = g.P.Plan.planned plan in
+      let by = IsFireBy usual_policy off planned in let there = fires_usual off planned in let back = usual_fires off planned in
+      (same_all by (IsFire off planned) there back until t us, same_all (IsFire off planned) by back there until t us);
 }

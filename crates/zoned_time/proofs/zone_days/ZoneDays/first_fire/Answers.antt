@@ -1,11 +1,8 @@
-use Rattle.zoned_time.proofs.Words.{zoned}
-use Rattle.zoned_time.proofs.StepTimes.{first_later, first_now}
+use Rattle.zoned_time.proofs.{StepTimes.{first_later, first_now}, Words.{rules, to_z-of_z, zoned}}
 use Rattle.zoned_time.proofs.zone_days.ZoneDays.first_fire.Goals as goal
 
 pub returns-in-Some : goal.returns-in-Some
-returns-in-Some g c =
-    let (fire, whole, at) = c.in-Some.ensures in
-    first_now (g.Self.TimeZone.law c.args.self.now) (g.P.Plan.planned c.args.plan.now) (zoned c.args.from.now).utc (zoned c.in-Some.now) fire whole at
+returns-in-Some g c = search (rules, to_z-of_z, first_now)
 
 pub returns : goal.returns
 returns g c =

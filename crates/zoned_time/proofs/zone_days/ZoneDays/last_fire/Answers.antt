@@ -1,16 +1,12 @@
-use Rattle.zoned_time.proofs.Words.{zoned}
-use Rattle.zoned_time.proofs.FireTimes.{none_fires_until, last_found}
+use Rattle.zoned_time.proofs.{FireTimes.{none_fires_until, last_found}, Words.{zoned}}
 use Rattle.zoned_time.proofs.zone_days.ZoneDays.last_fire.Goals as goal
 
 pub returns-in_err-local : goal.returns-in_err-local
 returns-in_err-local g c =
-    rw c.from_residual.ensures (none_fires_until (g.Self.TimeZone.law c.args.self.now).off (g.P.Plan.planned c.args.plan.now)
-    (zoned c.args.until.now).utc.s c.reached.result.secs
-    (g.met.Self.TimeZone.within_day c.args.self.now) c.reached.ensures.reached c.in_err-local.ensures)
+    rw c.from_residual.ensures (none_fires_until (g.met.Self.TimeZone.within_day c.args.self.now) c.args.until.now.in_range c.reached.ensures.reached
+    c.in_err-local.ensures)
 
 pub returns : goal.returns
 returns g c =
-    last_found (g.Self.TimeZone.law c.args.self.now) (g.P.Plan.planned c.args.plan.now)
-    (zoned c.args.until.now).utc.s c.reached.result.secs c.in_ok-local.local.secs (λ d. zoned d) c.whole_second_at_or_after.result
-    (g.met.Self.TimeZone.within_day c.args.self.now) c.args.until.now.in_range
+    last_found _ _ (λ d. zoned d) c.whole_second_at_or_after.result (g.met.Self.TimeZone.within_day c.args.self.now) c.args.until.now.in_range
     c.reached.ensures.reached c.in_ok-local.ensures c.in_ok-local.local.in_range.0 c.whole_second_at_or_after.ensures

@@ -1,25 +1,14 @@
-use Rattle.zoned_time.proofs.Words.{SFits, arith, ints, pos, rules, to_z-of_z, w64, zoned, ◌-ℤ◌, ◌≡◌}
+use Rattle.zoned_time.proofs.Words.{SFits, arith, numbers, pos, rules, to_z-of_z, w64, zoned, ◌-ℤ◌, ◌≡◌}
 use Rattle.zoned_time.proofs.FireTimes.{before_whole, none_before_first}
 use Rattle.zoned_time.proofs.zone_days.ZoneDays.previous_fire.Goals as goal
 
 pub returns-in_err-until : goal.returns-in_err-until
-returns-in_err-until g c =
-    let r = (zoned c.args.before.now).utc in let is = c.timestamp.ensures in let range = c.args.before.now.in_range in
-    let fs : SFits w64 c.timestamp.result = search rules in
-    let fd : SFits w64 (c.timestamp.result -ℤ pos 1) = omega (arith, ints, is, range) in
-    let none = c.timestamp_subsec_nanos.ensures in let test = c.if-timestamp_subsec_nanos-gt0.false in
-    let zero : r.f ≡ 0 = omega (arith, none, test) in
-    let out = rw is at (simp to_z-of_z at c.in_err-until.ensures) in
-    rw (c.from_residual.ensures, before_whole r zero) (none_before_first (g.Self.TimeZone.law c.args.self.now).off
-    (g.P.Plan.planned c.args.plan.now) r.s range (λ inside. out (inside, (omega arith, λ more. absurd (omega arith)))))
+returns-in_err-until g c = search (rules, to_z-of_z, before_whole, none_before_first)
 
 pub returns : goal.returns
 returns g c =
-    let r = (zoned c.args.before.now).utc in let is = c.timestamp.ensures in let range = c.args.before.now.in_range in
-    let fs : SFits w64 c.timestamp.result = search rules in
-    let fd : SFits w64 (c.timestamp.result -ℤ pos 1) = omega (arith, ints, is, range) in
-    let none = c.timestamp_subsec_nanos.ensures in let test = c.if-timestamp_subsec_nanos-gt0.false in
-    let zero : r.f ≡ 0 = omega (arith, none, test) in
+    let r = (zoned c.args.before.now).utc in let fs : SFits w64 c.timestamp.result = search rules in
+    let fd : SFits w64 (c.timestamp.result -ℤ pos 1) = omega numbers in
     let told = simp to_z-of_z at c.in_ok-until.ensures in
-    let at : (zoned c.in_ok-until.until).utc.s ≡ r.s -ℤ pos 1 = grind (arith, ints, told.1, is) in
-    rw (before_whole r zero) (rw at at c.last_fire-2.ensures)
+    let at : (zoned c.in_ok-until.until).utc.s ≡ r.s -ℤ pos 1 = grind numbers in
+    rw (before_whole r (omega arith)) (rw at at c.last_fire-2.ensures)

@@ -1,5 +1,5 @@
-use Rattle.zoned_time.proofs.Words.{arith, ints}
+use Rattle.zoned_time.proofs.Words.{numbers}
 use Rattle.zoned_time.proofs.datetime.calendar.DateTime+Tz.checked_sub_months.Goals as goal
 
 pub returns-in_err-checked_sub_months : goal.returns-in_err-checked_sub_months
-returns-in_err-checked_sub_months g c = grind (arith, ints)
+returns-in_err-checked_sub_months g c = grind numbers
