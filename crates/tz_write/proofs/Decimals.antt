@@ -60,15 +60,15 @@ pair_writes max n rest h l none =
 -- zeros in front may go, and then the digits are those of the number
 decimal_best : (n : ℕ) (ds : List ℕ) → n < 2 ^ 64 → AllDigits ds → 0 < length ds → value_from 0 ds ≡ n → Best (decimal n) ds
 decimal_best n [] h each some value = absurd (omega arith)
-decimal_best n (d ∷ []) h each some value = inl (sym (decimal-digits_value own (d ∷ []) each some (λ _. refl) (omega (arith, value))) ∙ ap decimal value)
+decimal_best n (d ∷ []) h each some value = inl (sym (decimal-digits_value own (d ∷ []) each some (λ _. refl) (omega arith)) ∙ ap decimal value)
 decimal_best n (d ∷ e ∷ ds) h each some value = elim (cases_eq d 48) [
   | inl zero ↦ let b = decimal_best n (e ∷ ds) h each.1 (omega arith) (rw zero at value) in
       inr (elim b [ inl k ↦ omega (arith, ap length k) | inr l ↦ omega arith ])
-  | inr other ↦ inl (sym (decimal-digits_value own (d ∷ e ∷ ds) each some (λ z. absurd (other z)) (omega (arith, value))) ∙ ap decimal value)
+  | inr other ↦ inl (sym (decimal-digits_value own (d ∷ e ∷ ds) each some (λ z. absurd (other z)) (omega arith)) ∙ ap decimal value)
 ]
 
 pub number_front : {max n : ℕ} {bytes rest : List ℕ} → max < 2 ^ 64 → IsNumber max bytes n rest → Front (decimal n) bytes rest
-number_front h p = record { front = p.digits; whole = p.whole; best = λ _. decimal_best _ p.digits (omega (arith, p.limit)) p.each p.some p.value }
+number_front h p = record { front = p.digits; whole = p.whole; best = λ _. decimal_best _ p.digits (omega arith) p.each p.some p.value }
 
 -- two digits and no third are those of the number
 paired : (ds rest : List ℕ) (n : ℕ) → AllDigits ds → 0 < length ds → NoneFirst is_digit rest → value_from 0 ds ≡ n → TwoDigits (ds ++ rest)

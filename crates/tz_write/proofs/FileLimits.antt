@@ -33,19 +33,19 @@ Values (At place g) x = Values g x
 Values g x = Unit {0}
 
 values : {X : Type 0} (g : Grammar X) (bytes : List ℕ) (x : X) (rest : List ℕ) → Spells g bytes x rest → AreBytes bytes → Values g x × AreBytes rest
-values (Nothing v) bytes x rest h b = (h.0, subst AreBytes h.1 b)
+values (Nothing v) bytes x rest h b = (h.0, rw h.1 at b)
 values (Then g f) bytes y rest (x, after, p, q) b = let (v, c) = values g bytes x after p b in let (w, d) = values (f x) after y rest q c in ((x, v, w), d)
-values (Marked tag g h) bytes x rest (inl (after, is, p)) b = let (v, c) = values g after x rest p (behind (tag ∷ []) after (subst AreBytes is b)) in (inl v, c)
+values (Marked tag g h) bytes x rest (inl (after, is, p)) b = let (v, c) = values g after x rest p (behind (tag ∷ []) after (rw is at b)) in (inl v, c)
 values (Marked tag g h) bytes x rest (inr (_, p)) b = let (v, c) = values h bytes x rest p b in (inr v, c)
 values (Ended g h) bytes x rest (inl (_, p)) b = let (v, c) = values g bytes x rest p b in (inl v, c)
 values (Ended g h) bytes x rest (inr (_, p)) b = let (v, c) = values h bytes x rest p b in (inr v, c)
-values (Byte tag) bytes x rest h b = (tt, behind (tag ∷ []) rest (subst AreBytes h b))
-values (Run p) bytes x rest h b = (tt, behind x rest (subst AreBytes h.whole b))
-values (Number max) bytes x rest h b = (tt, behind h.digits rest (subst AreBytes h.whole b))
-values (Exact n) bytes x rest h b = let c = subst AreBytes h.0 b in ((front x rest c, h.1), behind x rest c)
-values Rest bytes x rest h b = (subst AreBytes (sym h.0) b, subst AreBytes (sym h.1) (All-nil IsByte))
+values (Byte tag) bytes x rest h b = (tt, behind (tag ∷ []) rest (rw h at b))
+values (Run p) bytes x rest h b = (tt, behind x rest (rw h.whole at b))
+values (Number max) bytes x rest h b = (tt, behind h.digits rest (rw h.whole at b))
+values (Exact n) bytes x rest h b = let c = rw h.0 at b in ((front x rest c, h.1), behind x rest c)
+values Rest bytes x rest h b = (rw h.0 b, rw h.1 (All-nil IsByte))
 values (Refused refusal) bytes x rest h b = absurd h
-values (Check P test refusal v) bytes x rest h b = ((h.0, h.1), subst AreBytes h.2 b)
+values (Check P test refusal v) bytes x rest h b = ((h.0, h.1), rw h.2 at b)
 values (Here f) bytes x rest h b = let (v, c) = values (f bytes) bytes x rest h b in ((bytes, v), c)
 values (At place g) bytes x rest h b = values g bytes x rest h b
 
@@ -102,12 +102,12 @@ text_back : (text : List ℕ) → name_or_none (designation_of text) ≡ text
 text_back text = grind arith
 
 type_named : (designations bytes : List ℕ) (t : LocalType) → length bytes ≡ 6 → AreBytes bytes → SpellsType designations bytes t → IsNamedIn designations t
-type_named designations bytes t size b h = record { place = place_in bytes; stands = grind (arith, text_back); named = b 5 0 (omega (arith, size)) }
+type_named designations bytes t size b h = record { place = place_in bytes; stands = grind (arith, text_back); named = b 5 0 (omega arith) }
 
 types_named : (designations part : List ℕ) (types : List LocalType) → SpellTypes designations part types → AreBytes part → AreNamesIn designations types
 types_named designations part [] h b = All-nil (IsNamedIn designations)
 types_named designations part (t ∷ ts) h b =
-    let whole = subst AreBytes h.2 b in
+    let whole = rw h.2 at b in
     All-cons (IsNamedIn designations) t ts (type_named designations h.0 t h.3 (front h.0 h.1 whole) h.4)
     (types_named designations h.1 ts h.5 (behind h.0 h.1 whole))
 
@@ -122,9 +122,8 @@ writable bytes z b (p, pieces, say) =
       room = record {
         counts =
             record {
-              transitions = omega (arith, transitions, limits.transitions_fit);
-              types = omega
-                  (arith, types, limits.types_fit);
+              transitions = omega arith;
+              types = omega (arith, types);
               leaps = limits.leaps_fit (length z.leaps) leaps;
             };
         indexes = indexes_fit z.transitions p.parts.type_indexes say.transitions.indexes_are limits.indexes;

@@ -111,59 +111,48 @@ unfolding least_parts
 first_block rest = block_is 4 least_counts least_parts rest refl refl refl refl refl refl refl
 
 -- ---- the second half
-zone_fit : (d : List ℕ) (z : Zone) → length d ≤ 263 → HasCounts z → CountsFit (zone_counts d z)
-zone_fit d z size h = grind arith
-
 some_designations : (types : List LocalType) (d : List ℕ) → 0 < length types → HavePlaces d types → length d ≢ 0
-some_designations [] d some places e = omega (arith, some)
-some_designations (t ∷ ts) d some places e = let p = (places 0 t some).stands in omega (arith, p, e)
-
-zone_agree : (d : List ℕ) (z : Zone) → 0 < length z.types → HavePlaces d z.types → CountsAgree (zone_counts d z)
-zone_agree d z some places = grind (arith, some_designations)
-
-second_block : (d : List ℕ) (z : Zone) (rest : List ℕ) → HavePlaces d z.types → IsSound z
-    → Spells (block 8 (zone_counts d z)) (block_bytes (zone_parts d z) rest) (zone_parts d z) rest
-second_block d z rest places sound =
-    let transitions = transitions_are z.transitions sound.times in
-    block_is 8 (zone_counts d z) (zone_parts d z) rest (records_length 8 _ _ z.transitions transitions.times_are)
-    (ap length transitions.indexes_are ∙ length-map z.transitions (λ t. t.type_index))
-    (records_length 6 _ _ z.types (types_are d z.types places sound.types)) refl
-    (records_length 12 _ _ z.leaps (leaps_are z.leaps sound.leaps)) refl refl
+some_designations [] d some places e = omega arith
+some_designations (t ∷ ts) d some places e = let p = (places 0 t some).stands in omega arith
 
 pieces_of : Bool → List ℕ → List ℕ → Zone → FilePieces
 pieces_of extended text d z = later_pieces (record { version = version_of extended; counts = zone_counts d z }) (zone_parts d z) (footer_bytes text)
-
-second_is : (extended : Bool) (text d : List ℕ) (z : Zone) → length d ≤ 263 → HasCounts z → 0 < length z.types → HavePlaces d z.types → IsSound z
-    → Spells later_version (second_half extended text d z) (pieces_of extended text d z) []
-unfolding second_half pieces_of later_version
-second_is extended text d z size counts some places sound =
-    let head = header_is Second extended (zone_counts d z) (block_bytes (zone_parts d z) (footer_bytes text)) (zone_fit d z size counts)
-    (zone_agree d z some places) in
-    (_, _, head, (_, _, second_block d z (footer_bytes text) places sound, (_, [], (refl, refl), (refl, refl))))
 
 after_is : (extended : Bool) (c : Counts) (p : Parts) (rest : List ℕ) (pieces : FilePieces) → Spells later_version rest pieces []
     → Spells (after_first_block (version_of extended) c p) rest pieces []
 unfolding after_first_block
 after_is extended c p rest pieces h = grind arith
 
--- ---- the whole
-file_pieces : (extended : Bool) (text d : List ℕ) (z : Zone) → length d ≤ 263 → HasCounts z → 0 < length z.types → HavePlaces d z.types → IsSound z
-    → HasPieces (file_bytes extended text d z) (pieces_of extended text d z)
-unfolding file_bytes first_half header_bytes counts_bytes number_bytes file
-file_pieces extended text d z size counts some places sound =
-    let second = second_is extended text d z size counts some places sound in
-    let least = (counts_test least_counts).decides.0 refl in
-    (_, _, header_is First extended least_counts _ (grind arith) least, (_, _, first_block _, after_is extended least_counts least_parts _ _ second))
+-- a zone that has types, and designations that have their places
+module _ (extended : Bool) (text d : List ℕ) (z : Zone) (size : length d ≤ 263) (counts : HasCounts z) (some : 0 < length z.types) (places : HavePlaces d z.types)
+    (sound : IsSound z) where
+  zone_fit : CountsFit (zone_counts d z)
+  zone_fit = grind arith
 
-says_zone : (extended : Bool) (text d : List ℕ) (z : Zone) → HavePlaces d z.types → IsSound z → IsFooter extended (footer_bytes text) z.rule
-    → SayZone (pieces_of extended text d z) z
-unfolding pieces_of
-says_zone extended text d z places sound footer = grind (arith, transitions_are, types_are, leaps_are)
+  zone_agree : CountsAgree (zone_counts d z)
+  zone_agree = grind (arith, some_designations)
 
-pub file_is : (extended : Bool) (text d : List ℕ) (z : Zone) → length d ≤ 263 → HasCounts z → 0 < length z.types → HavePlaces d z.types → IsSound z
-    → IsPlain text → SaysRule extended text z.rule → IsTzFile (file_bytes extended text d z) z
-file_is extended text d z size counts some places sound plain says = (
-  pieces_of extended text d z,
-  file_pieces extended text d z size counts some places sound,
-  says_zone extended text d z places sound (footer_is extended text z.rule plain says),
-)
+  second_block : (rest : List ℕ) → Spells (block 8 (zone_counts d z)) (block_bytes (zone_parts d z) rest) (zone_parts d z) rest
+  second_block rest =
+      let transitions = transitions_are z.transitions sound.times in
+      block_is 8 (zone_counts d z) (zone_parts d z) rest (records_length 8 _ _ z.transitions transitions.times_are)
+      (ap length transitions.indexes_are ∙ length-map z.transitions (λ t. t.type_index))
+      (records_length 6 _ _ z.types (types_are d z.types places sound.types)) refl
+      (records_length 12 _ _ z.leaps (leaps_are z.leaps sound.leaps)) refl refl
+
+  second_is : Spells later_version (second_half extended text d z) (pieces_of extended text d z) []
+  unfolding second_half pieces_of later_version
+  second_is = (_, _, header_is Second extended (zone_counts d z) _ zone_fit zone_agree, (_, _, second_block (footer_bytes text), (_, [], (refl, refl), (refl, refl))))
+
+  -- ---- the whole
+  file_pieces : HasPieces (file_bytes extended text d z) (pieces_of extended text d z)
+  unfolding file_bytes first_half header_bytes counts_bytes number_bytes file
+  file_pieces = let least = (counts_test least_counts).decides.0 refl in
+      (_, _, header_is First extended least_counts _ (grind arith) least, (_, _, first_block _, after_is extended least_counts least_parts _ _ second_is))
+
+  says_zone : IsFooter extended (footer_bytes text) z.rule → SayZone (pieces_of extended text d z) z
+  unfolding pieces_of
+  says_zone footer = grind (arith, transitions_are, types_are, leaps_are)
+
+  pub file_is : IsPlain text → SaysRule extended text z.rule → IsTzFile (file_bytes extended text d z) z
+  file_is plain says = (pieces_of extended text d z, file_pieces, says_zone (footer_is extended text z.rule plain says))

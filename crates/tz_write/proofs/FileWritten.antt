@@ -11,7 +11,7 @@ text_is : (rule : Option TransitionRule) (text : List ℕ) (extended : Bool) →
 text_is (Some rule) text extended fits h =
     let named = rule_named extended text rule h.spells in let same = rule_text rule text extended fits h in
     let first = text_begins rule named in grind (arith, text_are)
-text_is None text extended fits h = (subst IsPlain (sym h.0) (record { bytes = tt; no_colon = λ e. absurd (omega (arith, e)) }), h.0)
+text_is None text extended fits h = (subst IsPlain (sym h.0) (record { bytes = tt; no_colon = λ e. absurd (omega arith) }), h.0)
 
 has_version : (extended : Bool) (text d : List ℕ) (z : Zone) → HaveVersion extended (file_bytes extended text d z)
 unfolding file_bytes first_half second_half header_bytes counts_bytes number_bytes
@@ -23,11 +23,11 @@ pub written_is : (z : Zone) (d text : List ℕ) (extended : Bool) (bytes : List 
 written_is z d text extended bytes counts laid sound some fits footer e =
     let p = text_is z.rule text extended fits footer in
     record {
-      spells = subst (λ (b : List ℕ). IsTzFile b z) (sym e) (file_is extended text d z (laid_size z.types d laid.1) counts some laid.0 sound p.0 p.1);
+      spells = rw e (file_is extended text d z (laid_size z.types d laid.1) counts some laid.0 sound p.0 p.1);
       text = text;
       extended = extended;
       footer = footer;
-      version = subst (HaveVersion extended) (sym e) (has_version extended text d z);
+      version = rw e (has_version extended text d z);
       designations = d;
       names = laid.2;
       order = laid.1;
@@ -48,8 +48,7 @@ no_file z none = λ bytes b h. none (writable bytes z b h)
 
 -- ---- a zone that can be written
 pub can_be_written : (z : Zone) (room : Room) → IsRoomOf z room → IsSpellableOrNone z.rule → IsWritable z
-can_be_written z room h text =
-    record { room = record { counts = h.counts; indexes = h.indexes; designations = room.designations; names = h.shortest.names }; rule = text }
+can_be_written z room h text = assumption
 
 pub footer_spelled : (rule : Option TransitionRule) (text : List ℕ) (extended : Bool) → IsFooterText rule text extended → IsSpellableOrNone rule
 footer_spelled rule text extended h = grind (arith, rule_named)
@@ -62,6 +61,6 @@ footer_some None fits h = ([], false, (refl, refl))
 pub file_some : (z : Zone) → 0 < length z.types → IsRuleOrNone z.rule → IsSound z → IsWritable z → (bytes : List ℕ) × IsWrittenFile z bytes
 file_some z some fits sound h =
     let names = All-weaker IsType (λ t. IsNameOrNone t.name) (λ t h. h.name) z.types sound.types in
-    let d = laid_of z.types h.room.designations some names h.room.names in
+    let d = laid_of z.types some names h.room.designations h.room.names in
     let f = footer_some z.rule fits h.rule in
     (file_bytes f.1 f.0 d.0 z, written_is z d.0 f.0 f.1 _ h.room.counts d.1 sound some fits f.2 refl)

@@ -15,19 +15,17 @@ use Rattle.tz_write.proofs.TextBytes.{writes_mark, writes_nothing, writes_option
 use Rattle.tz_write.proofs.Clocks.{Stops, comma_stops, offset_begins, offset_front, offset_writes, time_front, time_plain, time_writes}
 use Rattle.tz_info.specs.TzGrammar as tz
 
-all_from : (p : ℕ → Bool) (bs : List ℕ) → list_all p bs ≡ true → AllOf p bs
-all_from p [] h = tt
-all_from p (b ∷ bs) h = let k = and_parts (p b) (list_all p bs) h in (k.0, all_from p bs k.1)
+module _ (p : ℕ → Bool) where
+  all_from : (bs : List ℕ) → list_all p bs ≡ true → AllOf p bs
+  all_from [] h = tt
+  all_from (b ∷ bs) h = let k = and_parts (p b) (list_all p bs) h in (k.0, all_from bs k.1)
 
-all_to : (p : ℕ → Bool) (bs : List ℕ) → AllOf p bs → list_all p bs ≡ true
-all_to p [] h = refl
-all_to p (b ∷ bs) h = and_from (p b) (list_all p bs) h.0 (all_to p bs h.1)
+  all_to : (bs : List ℕ) → AllOf p bs → list_all p bs ≡ true
+  all_to [] h = refl
+  all_to (b ∷ bs) h = and_from (p b) (list_all p bs) h.0 (all_to bs h.1)
 
 not_colon : (b : ℕ) → is_name_byte b ≡ true → b ≢ colon
-not_colon b h e = absurd (both_ways (is_name_byte b) (subst (λ (x : ℕ). is_name_byte x ≡ false) (sym e) refl) h)
-
-not_greater : (b : ℕ) → is_name_byte b ≡ true → is_not_greater b ≡ true
-not_greater b h = grind (arith, nat_tests)
+not_colon b h e = grind (arith, nat_tests)
 
 -- letters are above `<`, which comes in front of other names
 letters_begin : (bs rest : List ℕ) → 0 < length bs → AllOf is_letter bs → Begins 65 122 (bs ++ rest)
@@ -44,19 +42,18 @@ name_writes name rest h none = let all : AllOf is_name_byte name = all_of is_nam
       | true ↦ λ e. let l = h.0 in let each = all_from is_letter name e in
           writes_other (without less (letters_begin name rest (omega arith) each) (inl (omega arith))) (run_writes is_letter name rest each all none)
       | false ↦ λ e. writes_mark refl
-          (writes_then (run_writes is_not_greater name (greater ∷ rest) (all_others is_name_byte is_not_greater not_greater name all) all refl)
+          (writes_then (run_writes is_not_greater name (greater ∷ rest) (all_others is_name_byte is_not_greater (λ b h. grind (arith, nat_tests)) name all) all refl)
           (writes_byte refl (writes_nothing refl)))
     ] refl
 
 quoted_best : (t : Bool) (name : List ℕ) → Best (cond t name (less ∷ name ++ (greater ∷ []))) (less ∷ name ++ (greater ∷ []))
 quoted_best t name = grind (arith, length-append)
 
-pub name_front : (bytes name rest : List ℕ) → Spells tz.name bytes name rest → Front (spelled_name name) bytes rest
+pub name_front : {bytes rest : List ℕ} (name : List ℕ) → Spells tz.name bytes name rest → Front (spelled_name name) bytes rest
 unfolding tz.name tz.quoted
-name_front bytes name rest (inl (_, is, (text, _, run, (_, end, close, (value, same))))) =
-    rw (value, ← same)
+name_front name (inl (_, is, (text, _, run, (_, end, close, (value, same))))) = rw (value, ← same)
     (record { front = less ∷ text ++ (greater ∷ []); whole = grind (arith, append_assoc); best = λ _. quoted_best (list_all is_letter text) text })
-name_front bytes name rest (inr (_, run)) = record { front = name; whole = run.whole; best = λ _. rw (all_to is_letter name run.each) (inl refl) }
+name_front name (inr (_, run)) = record { front = name; whole = run.whole; best = λ _. rw (all_to is_letter name run.each) (inl refl) }
 
 -- a name's text begins with a letter or `<`
 pub name_begins : (name rest : List ℕ) → IsName name → Begins 60 122 (spelled_name name ++ rest)
@@ -81,47 +78,40 @@ date_writes (MonthWeekday m w d) rest h none =
     (writes_here (writes_then (number_writes date_max w _ (omega arith) (omega arith) refl)
     (writes_byte refl (writes_here (writes_last (number_writes date_max d rest (omega arith) (omega arith) none) (h, refl, refl)))))))))
 
-date_front : (bytes : List ℕ) (form : DayForm) (rest : List ℕ) → Spells tz.date bytes form rest → Front (spelled_date form) bytes rest
+date_front : {bytes rest : List ℕ} (form : DayForm) → Spells tz.date bytes form rest → Front (spelled_date form) bytes rest
 unfolding tz.date tz.month_date tz.julian_date tz.numbered_day tz.checked_day
-date_front bytes form rest (inl (_, is, (_, _, month, (_, _, first, (_, _, week, (_, _, second, (_, _, weekday, (_, value, same)))))))) =
+date_front form (inl (_, is, (_, _, month, (_, _, first, (_, _, week, (_, _, second, (_, _, weekday, (_, value, same)))))))) =
     rw (value, ← same) (front_cons is (front_then (number_front (omega arith) month) (front_cons first
     (front_then (number_front (omega arith) week) (front_cons second (number_front (omega arith) weekday))))))
-date_front bytes form rest (inr (_, inl (_, is, (_, _, number, (_, value, same))))) = rw (value, ← same) (front_cons is (number_front (omega arith) number))
-date_front bytes form rest (inr (_, inr (_, (_, _, number, (_, value, same))))) = rw (value, ← same) (number_front (omega arith) number)
+date_front form (inr (_, inl (_, is, (_, _, number, (_, value, same))))) = rw (value, ← same) (front_cons is (number_front (omega arith) number))
+date_front form (inr (_, inr (_, (_, _, number, (_, value, same))))) = rw (value, ← same) (number_front (omega arith) number)
 
--- ---- the time after a date
-after_writes : (extended : Bool) (time : ℤ) (rest : List ℕ) → IsTextTime extended time → Stops rest
-    → Writes (tz.optional_time extended) (time_after time) time rest
+-- ---- times after dates, and days
+-- what is written before a rest that ends it
+module _ (rest : List ℕ) (stops : Stops rest) (extended : Bool) where
+  after_writes : (time : ℤ) → IsTextTime extended time → Writes (tz.optional_time extended) (time_after time) time rest
+  unfolding tz.optional_time
+  after_writes time h = writes_optional (int_eq time (pos 7_200)) ((Decides-int_eq time (pos 7_200)).0) stops.2
+      (λ _. writes_mark refl (time_writes rest stops extended time h))
+
+  pub day_writes : (d : DayTime) → IsRuleDay d.day → IsTextTime extended d.time → Writes (tz.day extended) (spelled_day d) d rest
+  unfolding tz.day
+  day_writes d h t = writes_then (date_writes d.day _ h (first_optional is_digit (int_eq d.time (pos 7_200)) slash _ rest refl stops.0))
+      (writes_last (after_writes d.time t) (refl, refl))
+
+after_front : {bytes rest : List ℕ} (extended : Bool) (time : ℤ) → Spells (tz.optional_time extended) bytes time rest → Front (time_after time) bytes rest
 unfolding tz.optional_time
-after_writes extended time rest h stops = writes_optional (int_eq time (pos 7_200)) ((Decides-int_eq time (pos 7_200)).0) stops.2
-    (λ _. writes_mark refl (time_writes extended time rest h stops))
+after_front extended time h = front_optional slash (pos 7_200) (tz.time extended) (int_eq time (pos 7_200))
+    (λ after is p. front_cons is (time_front extended time p)) ((Decides-int_eq time (pos 7_200)).1) h
 
-after_front : (extended : Bool) (bytes : List ℕ) (time : ℤ) (rest : List ℕ) → Spells (tz.optional_time extended) bytes time rest
-    → Front (time_after time) bytes rest
-unfolding tz.optional_time
-after_front extended bytes time rest h = front_optional slash (pos 7_200) (tz.time extended) (int_eq time (pos 7_200))
-    (λ after is p. front_cons is (time_front extended after time rest p)) ((Decides-int_eq time (pos 7_200)).1) h
-
-after_plain : (bytes : List ℕ) (time : ℤ) (rest : List ℕ) → Spells (tz.optional_time false) bytes time rest → IsPlainTime time
-unfolding tz.optional_time
-after_plain bytes time rest h = grind (arith, time_plain)
-
--- ---- days
-pub day_writes : (extended : Bool) (d : DayTime) (rest : List ℕ) → IsRuleDay d.day → IsTextTime extended d.time → Stops rest
-    → Writes (tz.day extended) (spelled_day d) d rest
+pub day_front : {bytes rest : List ℕ} (extended : Bool) (d : DayTime) → Spells (tz.day extended) bytes d rest → Front (spelled_day d) bytes rest
 unfolding tz.day
-day_writes extended d rest h t stops =
-    writes_then (date_writes d.day (time_after d.time ++ rest) h (first_optional is_digit (int_eq d.time (pos 7_200)) slash _ rest refl stops.0))
-    (writes_last (after_writes extended d.time rest t stops) (refl, refl))
-
-pub day_front : (extended : Bool) (bytes : List ℕ) (d : DayTime) (rest : List ℕ) → Spells (tz.day extended) bytes d rest → Front (spelled_day d) bytes rest
-unfolding tz.day
-day_front extended bytes d rest (form, after, date, (at, end, time, (value, same))) =
-    rw (value, ← same) (front_then (date_front bytes form after date) (after_front extended after at end time))
+day_front extended d (form, after, date, (at, end, time, (value, same))) =
+    rw (value, ← same) (front_then (date_front form date) (after_front extended at time))
 
 pub day_plain : (bytes : List ℕ) (d : DayTime) (rest : List ℕ) → Spells (tz.day false) bytes d rest → IsPlainTime d.time
-unfolding tz.day
-day_plain bytes d rest (_, after, _, (at, end, time, (value, _))) = rw value (after_plain after at end time)
+unfolding tz.day tz.optional_time
+day_plain bytes d rest (_, after, _, (at, end, time, (value, _))) = rw value (grind (arith, time_plain))
 
 -- ---- the offset of daylight saving time
 -- the offset has its comma after it
@@ -132,17 +122,16 @@ dst_offset_writes std dst rest h =
     → Writes (tz.dst_offset std) (cond t [] (spelled_offset dst) ++ (comma ∷ [])) dst rest) [
       | true ↦ λ e. let v = (Decides-int_eq dst _).0 e in writes_here (writes_mark refl (writes_at (rw v (writes_check (let l = h.1 in omega (arith, ints))))))
       | false ↦ λ e. let first : Begins 45 57 ((spelled_offset dst ++ (comma ∷ [])) ++ rest) =
-          rw (append_assoc (spelled_offset dst) (comma ∷ []) rest) (offset_begins dst (comma ∷ rest) h) in
+          rw append_assoc (offset_begins dst (comma ∷ rest) h) in
           writes_here (writes_other (without comma first (inl (omega arith))) (writes_first tt (inr (not_empty first, (refl, refl)))
-          (writes_then (offset_writes dst (comma ∷ rest) h (comma_stops rest))
+          (writes_then (offset_writes _ (comma_stops rest) dst h)
           (writes_first tt (inr ((λ e. cc), (refl, refl))) (writes_byte refl (writes_nothing refl))))))
     ] refl
 
-given_front : (bytes : List ℕ) (dst : ℤ) (rest : List ℕ) → Spells tz.given_offset bytes dst rest → Front (spelled_offset dst) bytes (comma ∷ rest)
+given_front : {bytes rest : List ℕ} (dst : ℤ) → Spells tz.given_offset bytes dst rest → Front (spelled_offset dst) bytes (comma ∷ rest)
 unfolding tz.given_offset tz.more
-given_front bytes dst rest h = grind (arith, offset_front)
+given_front dst h = grind (arith, offset_front)
 
-pub dst_offset_front : (std : ℤ) (bytes : List ℕ) (dst : ℤ) (rest : List ℕ) → Spells (tz.dst_offset std) bytes dst rest
-    → Front (spelled_dst_offset std dst) bytes (comma ∷ rest)
+pub dst_offset_front : {bytes rest : List ℕ} (std dst : ℤ) → Spells (tz.dst_offset std) bytes dst rest → Front (spelled_dst_offset std dst) bytes (comma ∷ rest)
 unfolding tz.dst_offset tz.next_hour
-dst_offset_front std bytes dst rest h = grind (arith, front_nothing, front_unless, int_eq, given_front)
+dst_offset_front std dst h = grind (arith, front_nothing, front_unless, int_eq, given_front)

@@ -25,9 +25,9 @@ day_times extended bytes d rest h e = grind (arith, day_plain)
 pub rule_read : (extended : Bool) (bytes : List ℕ) (rule : TransitionRule) → IsTzText extended bytes rule → IsRead extended bytes rule
 unfolding tz.text tz.rule tz.fixed tz.alternate tz.named tz.days tz.end
 rule_read extended bytes rule (name, after, n, (east, end, o, inl (none, (t, _, (fits, is, _), (value, _))))) = rw (value, is) (record {
-  named = ((name, record { allowed = fits; named = refl; flag = refl }), offset_fits after east end o);
+  named = ((name, assumption), offset_fits after east end o);
   plain = λ _. tt;
-  best = front_whole (front_then (name_front bytes name after n) (subst (Front (spelled_offset east) after) none (offset_front after east end o)));
+  best = front_whole (front_then (name_front name n) (subst (Front (spelled_offset east) after) none (offset_front east o)));
 })
 rule_read extended bytes rule (
   name,
@@ -58,15 +58,13 @@ rule_read extended bytes rule (
     ),
   ),
 ) =
-    let none : last ≡ [] = elim e [ inl k ↦ k.0 | inr k ↦ absurd k.1 ] in
-    let first : x ≡ start = ap (λ (z : DayTime × DayTime). z.0) both in
-    let second : y ≡ stop = ap (λ (z : DayTime × DayTime). z.1) both in
+    let none : last ≡ [] = elim e [ inl k ↦ k.0 | inr k ↦ absurd k.1 ] in let first : x ≡ start = cc in let second : y ≡ stop = cc in
     rw (value, s_is, t_is, first, second) (record {
-      named = ((name, record { allowed = s_fits; named = refl; flag = refl }), (dst_name, record { allowed = t_fits; named = refl; flag = refl }));
+      named = ((name, assumption), (dst_name, assumption));
       plain = λ e. (day_times extended at_days start at_comma p e, day_times extended at_end stop fin q e);
-      best = front_whole (front_then (front_then (name_front bytes name after n) (offset_front after east end o)) (front_then (name_front end dst_name at_dst d)
-          (front_then (dst_offset_front east at_dst dst_east at_days f) (front_cons refl (front_then (day_front extended at_days start at_comma p)
-          (front_cons c (subst (Front (spelled_day stop) at_end) (same ∙ none) (day_front extended at_end stop fin q))))))));
+      best = front_whole (front_then (front_then (name_front name n) (offset_front east o)) (front_then (name_front dst_name d)
+          (front_then (dst_offset_front east dst_east f) (front_cons refl (front_then (day_front extended start p)
+          (front_cons c (subst (Front (spelled_day stop) at_end) (same ∙ none) (day_front extended stop q))))))));
     })
 
 pub rule_named : (extended : Bool) (bytes : List ℕ) (rule : TransitionRule) → IsTzText extended bytes rule → CanBeSpelled rule
@@ -102,8 +100,8 @@ days_write : (extended : Bool) (a : Alternate) → IsAlternateRule a → IsTextT
     → Writes (tz.days extended) (days_of a) (a.start, a.end) []
 unfolding tz.days
 days_write extended a h start end =
-    writes_then (day_writes extended a.start (comma ∷ (spelled_day a.end ++ [])) h.start_day start (comma_stops (spelled_day a.end ++ [])))
-    (writes_byte refl (writes_last (day_writes extended a.end [] h.end_day end (tt, tt, tt)) (refl, refl)))
+    writes_then (day_writes _ (comma_stops (spelled_day a.end ++ [])) extended a.start h.start_day start)
+    (writes_byte refl (writes_last (day_writes [] (tt, tt, tt) extended a.end h.end_day end) (refl, refl)))
 
 rule_writes : (extended : Bool) (rule : TransitionRule) → IsRule rule → CanBeSpelled rule → AreTimesOf extended rule
     → Writes (tz.text extended) (spelled_rule rule) rule []
@@ -111,20 +109,17 @@ unfolding tz.text tz.rule tz.fixed tz.alternate tz.named tz.end
 rule_writes extended (rules.Fixed t) fits ((name, h), w) times =
     let n : name_of t ≡ name = ap name_or_none h.named in
     rw n (writes_here (writes_then (name_writes name (spelled_offset t.offset ++ []) h.allowed (no_letter (offset_begins t.offset [] w)))
-    (writes_last (offset_writes t.offset [] w (tt, tt, tt)) (inl (refl, (t, [], (h.allowed, type_is name false t h, refl), (refl, refl)))))))
+    (writes_last (offset_writes [] (tt, tt, tt) t.offset w) (inl (refl, (t, [], (h.allowed, type_is name false t h, refl), (refl, refl)))))))
 rule_writes extended (rules.Alternate a) fits ((m, s), (n, d)) (start, end) =
     let first : name_of a.std ≡ m = ap name_or_none s.named in let second : name_of a.dst ≡ n = ap name_or_none d.named in
     let std = a.std.offset in let dst = a.dst.offset in let tail = spelled_name n ++ from_offset a in
     rw (first, second, append_assoc (spelled_name m) (spelled_offset std) tail)
     (writes_here
-    (writes_then (name_writes m ((spelled_offset std ++ tail) ++ []) s.allowed
-    (rw (append_assoc (spelled_offset std) tail []) (no_letter (offset_begins std (tail ++ []) fits.within.std_offset))))
-    (writes_then (offset_writes std (tail ++ []) fits.within.std_offset
-    (rw (append_assoc (spelled_name n) (from_offset a) []) (name_stops n (from_offset a ++ []) d.allowed)))
-    (writes_more (rw (append_assoc (spelled_name n) (from_offset a) []) (not_empty (name_begins n (from_offset a ++ []) d.allowed)))
+    (writes_then (name_writes m _ s.allowed (rw append_assoc (no_letter (offset_begins std (tail ++ []) fits.within.std_offset))))
+    (writes_then (offset_writes _ (rw append_assoc (name_stops n (from_offset a ++ []) d.allowed)) std fits.within.std_offset)
+    (writes_more (rw append_assoc (not_empty (name_begins n (from_offset a ++ []) d.allowed)))
     (writes_here
-    (writes_then (name_writes n (from_offset a ++ []) d.allowed
-    (rw (append_assoc (spelled_dst_offset std dst) (comma ∷ days_of a) []) (dst_ends_name std dst (days_of a ++ []) fits.within.dst_offset)))
+    (writes_then (name_writes n _ d.allowed (rw append_assoc (dst_ends_name std dst (days_of a ++ []) fits.within.dst_offset)))
     (rw (← append_assoc (spelled_dst_offset std dst) (comma ∷ []) (days_of a)) (writes_then (dst_offset_writes std dst (days_of a ++ []) fits.within.dst_offset)
     (writes_last (days_write extended a fits start end) (
       tt,

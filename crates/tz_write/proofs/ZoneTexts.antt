@@ -10,27 +10,28 @@ use Rattle.tz_write.proofs.{Decimals.{not_empty}, Shortest.{Best, pairs_rest}, T
 not_both : (b : ℕ) → is_digit b ≡ true → is_ascii_whitespace b ≡ true → ⊥
 not_both b h k = grind (arith, nat_tests)
 
-stops_before : (bs after : List ℕ) → IsSpace after → NoneFirst is_digit (bs ++ after) → NoneFirst is_digit bs
-stops_before bs after space h = grind (arith, nat_tests)
+module _ (after : List ℕ) (space : IsSpace after) where
+  stops_before : (bs : List ℕ) → NoneFirst is_digit (bs ++ after) → NoneFirst is_digit bs
+  stops_before bs h = grind (arith, nat_tests)
 
-two_before : (bs after : List ℕ) → IsSpace after → TwoDigits (bs ++ after) → TwoDigits bs
-two_before bs after space h = grind (arith, not_both, stops_before)
+  two_before : (bs : List ℕ) → TwoDigits (bs ++ after) → TwoDigits bs
+  two_before bs h = grind (arith, not_both, stops_before)
 
-pairs_before : (bs after : List ℕ) → IsSpace after → AreInPairs (bs ++ after) → AreInPairs bs
-pairs_before [] after space h = tt
-pairs_before (b ∷ bs) after space h = ((λ e. two_before bs after space (h.0 e)), pairs_before bs after space h.1)
+  pairs_before : (bs : List ℕ) → AreInPairs (bs ++ after) → AreInPairs bs
+  pairs_before [] h = tt
+  pairs_before (b ∷ bs) h = ((λ e. two_before bs (h.0 e)), pairs_before bs h.1)
 
 trimmed_pairs : (bytes text : List ℕ) → IsTrimmed bytes text → AreInPairs bytes → AreInPairs text
-trimmed_pairs bytes text t pairs = pairs_before text t.after t.space_after (pairs_rest t.before (text ++ t.after) (subst AreInPairs t.whole pairs))
+trimmed_pairs bytes text t pairs = pairs_before t.after t.space_after text (pairs_rest t.before _ (rw t.whole at pairs))
 
 -- nothing at both ends, or a longer text
 trimmed_or_longer : (before text after : List ℕ) → (before ++ (text ++ after) ≡ text) ⊎ (length text < length (before ++ (text ++ after)))
 trimmed_or_longer [] text [] = inl (append-nil text)
-trimmed_or_longer [] text (c ∷ cs) = let l = length-append text (c ∷ cs) in inr (omega arith)
-trimmed_or_longer (b ∷ bs) text after = let l = length-append text after in let m = length-append bs (text ++ after) in inr (omega arith)
+trimmed_or_longer [] text (c ∷ cs) = inr (omega (arith, length-append text (c ∷ cs)))
+trimmed_or_longer (b ∷ bs) text after = inr (omega (arith, length-append text after, length-append bs (text ++ after)))
 
 best_of_trimmed : (text bytes trimmed : List ℕ) → IsTrimmed bytes trimmed → Best text trimmed → Best text bytes
-best_of_trimmed text bytes trimmed t best = let whole = trimmed_or_longer t.before trimmed t.after in subst (Best text) (sym t.whole) (grind arith)
+best_of_trimmed text bytes trimmed t best = let whole = trimmed_or_longer t.before trimmed t.after in rw t.whole (grind arith)
 
 -- a text that gives it spells the rule, but for white space at its ends
 spells_rule : (text : List ℕ) (types : List LocalType) (rule : TransitionRule) → IsPosixZone text (zone_of_rule types (Some rule))

@@ -34,6 +34,6 @@ changes-preserved c =
 
 pub returns : goal.returns
 returns c =
-    let fits = c.ranges.second in let over = c.changes-test.false in let none : c.changes.left ≡ 0 = omega (arith, over) in
+    let fits = c.ranges.second in let over = c.changes-test.false in let none : c.changes.left ≡ 0 = omega arith in
     λ d. far_use c.args.zone.now c.args.local.now c.args.second _ d
     (rw none at (simp to_z-of_z at c.changes.invariant))

@@ -32,6 +32,6 @@ returns-else-is_dst c =
 
 pub returns : goal.returns
 returns c =
-    let fits = c.ranges.second in let over = c.changes-test.false in let none : c.changes.left ≡ 0 = omega (arith, over) in
+    let fits = c.ranges.second in let over = c.changes-test.false in let none : c.changes.left ≡ 0 = omega arith in
     far_on c.args.zone.now c.valid_law.ensures.valid c.valid_law.ensures.rule c.args.second _
     (rw none at (simp to_z-of_z at c.changes.invariant))
