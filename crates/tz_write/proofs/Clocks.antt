@@ -56,12 +56,12 @@ module _ (rest : List ℕ) (stops : Stops rest) where
   unfolding tz.optional_minutes tz.minutes_seconds
   minutes_writes m s a b = let stop = first_optional is_digit (s == 0) colon _ rest refl stops.0 in
       writes_optional ((m == 0) && (s == 0)) (grind (arith, nat_tests)) stops.1 (λ _. writes_colon (two_digits m _ (omega arith) stop)
-      (writes_then (pair_writes clock_max m _ (omega arith) (omega arith) stop) (writes_last (seconds_writes s b) (refl, refl))))
+      (writes_then (pair_writes clock_max m _ (omega arith) stop (omega arith)) (writes_last (seconds_writes s b) (refl, refl))))
 
   hours_writes : (h m s : ℕ) → h ≤ clock_max → m ≤ 59 → s ≤ 59 → Writes tz.hours_minutes_seconds (spelled_hands h m s) (h, m, s) rest
   unfolding tz.hours_minutes_seconds
   hours_writes h m s l a b =
-      writes_then (number_writes clock_max h _ (omega arith) l (first_optional is_digit ((m == 0) && (s == 0)) colon _ rest refl stops.0))
+      writes_then (number_writes clock_max h _ l (first_optional is_digit ((m == 0) && (s == 0)) colon _ rest refl stops.0) (omega arith))
       (writes_last (minutes_writes m s a b) (refl, refl))
 
   -- n seconds are z, but for the sign

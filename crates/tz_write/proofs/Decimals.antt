@@ -14,7 +14,7 @@ is_digit_of : (d : ℕ) → d < 10 → is_digit (48 + d) ≡ true
 is_digit_of d h = grind (arith, nat_tests)
 
 digit_within : (b : ℕ) → is_digit b ≡ true → (48 ≤ b) × (b ≤ 57)
-digit_within b h = (grind (arith, nat_tests), grind (arith, nat_tests))
+digit_within b h = grind (arith, nat_tests)
 
 -- ---- what comes first
 -- the bytes begin with one between those two
@@ -25,14 +25,15 @@ pub record Begins (low high : ℕ) (bytes : List ℕ) : Type 0 where
   pub above : low ≤ first
   pub below : first ≤ high
 
-pub without : {low high : ℕ} {bytes : List ℕ} (t : ℕ) → Begins low high bytes → (t < low) ⊎ (high < t) → Without t bytes
-without t f other = let above = f.above in let below = f.below in rw f.is (λ e. elim other [ inl l ↦ absurd (omega arith) | inr l ↦ absurd (omega arith) ])
+module _ {low high : ℕ} {bytes : List ℕ} where
+  pub without : (t : ℕ) → Begins low high bytes → (t < low) ⊎ (high < t) → Without t bytes
+  without t f other = let above = f.above in let below = f.below in rw f.is (λ e. elim other [ inl l ↦ absurd (omega arith) | inr l ↦ absurd (omega arith) ])
 
-pub none_first : {low high : ℕ} {bytes : List ℕ} (p : ℕ → Bool) → ((b : ℕ) → low ≤ b → b ≤ high → p b ≡ false) → Begins low high bytes → NoneFirst p bytes
-none_first p each f = rw f.is (each f.first f.above f.below)
+  pub none_first : (p : ℕ → Bool) → ((b : ℕ) → low ≤ b → b ≤ high → p b ≡ false) → Begins low high bytes → NoneFirst p bytes
+  none_first p each f = rw f.is (each f.first f.above f.below)
 
-pub not_empty : {low high : ℕ} {bytes : List ℕ} → Begins low high bytes → bytes ≢ []
-not_empty f = λ e. let is = f.is in cc
+  pub not_empty : Begins low high bytes → bytes ≢ []
+  not_empty f = λ e. let is = f.is in cc
 
 pub digits_begin : (ds rest : List ℕ) → AllDigits ds → 0 < length ds → Begins 48 57 (ds ++ rest)
 digits_begin [] rest each some = absurd (omega arith)
@@ -42,19 +43,18 @@ pub number_begins : (n : ℕ) (rest : List ℕ) → n < 2 ^ 64 → Begins 48 57 
 number_begins n rest h = digits_begin (decimal n) rest (digits_decimal own n h) (decimal_nonempty n h)
 
 -- ---- what they spell
-digits_write : (max n : ℕ) (ds rest : List ℕ) → AllDigits ds → 0 < length ds → value_from 0 ds ≡ n → n ≤ max → NoneFirst is_digit rest
-    → Writes (Number max) ds n rest
-digits_write max n ds rest each some value l none = grind (arith, digits_are, pairs_over)
-
-pub number_writes : (max n : ℕ) (rest : List ℕ) → n < 2 ^ 64 → n ≤ max → NoneFirst is_digit rest → Writes (Number max) (decimal n) n rest
-number_writes max n rest h l none = digits_write max n (decimal n) rest (digits_decimal own n h) (decimal_nonempty n h) (digits_value-decimal own n h) l none
-
 pub two_digits : (n : ℕ) (rest : List ℕ) → n < 100 → NoneFirst is_digit rest → TwoDigits ((48 + n / 10) ∷ (48 + n % 10) ∷ rest)
 two_digits n rest h none = (is_digit_of (n / 10) (omega arith), is_digit_of (n % 10) (omega arith), none)
 
-pub pair_writes : (max n : ℕ) (rest : List ℕ) → n < 100 → n ≤ max → NoneFirst is_digit rest → Writes (Number max) ((48 + n / 10) ∷ (48 + n % 10) ∷ []) n rest
-pair_writes max n rest h l none =
-    digits_write max n ((48 + n / 10) ∷ (48 + n % 10) ∷ []) rest (let d = two_digits n [] h tt in (d.0, (d.1, tt))) (omega arith) (omega arith) l none
+module _ (max n : ℕ) (rest : List ℕ) (l : n ≤ max) (none : NoneFirst is_digit rest) where
+  digits_write : (ds : List ℕ) → AllDigits ds → 0 < length ds → value_from 0 ds ≡ n → Writes (Number max) ds n rest
+  digits_write ds each some value = grind (arith, digits_are, pairs_over)
+
+  pub number_writes : n < 2 ^ 64 → Writes (Number max) (decimal n) n rest
+  number_writes h = digits_write (decimal n) (digits_decimal own n h) (decimal_nonempty n h) (digits_value-decimal own n h)
+
+  pub pair_writes : n < 100 → Writes (Number max) ((48 + n / 10) ∷ (48 + n % 10) ∷ []) n rest
+  pair_writes h = let d = two_digits n [] h tt in digits_write ((48 + n / 10) ∷ (48 + n % 10) ∷ []) (d.0, (d.1, tt)) (omega arith) (omega arith)
 
 -- ---- no fewer digits do
 -- zeros in front may go, and then the digits are those of the number

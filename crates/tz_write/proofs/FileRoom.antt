@@ -79,17 +79,17 @@ place_kept text (b ∷ bs) more h = grind (arith, nat_tests, still_begins text (
 
 -- the text is in the designations, or it isn't
 abbrev pub In : List ℕ → List ℕ → Type 0
-In designations text = place_of text designations < length designations
+In bytes text = place_of text bytes < length bytes
 
 abbrev pub Out : List ℕ → List ℕ → Type 0
-Out designations text = length designations ≤ place_of text designations
+Out bytes text = length bytes ≤ place_of text bytes
 
 -- the text and its 0 byte are put at the end
 abbrev pub added : List ℕ → List ℕ → List ℕ
-added designations text = designations ++ (text ++ 0 ∷ [])
+added bytes text = bytes ++ (text ++ 0 ∷ [])
 
-in_longer : (designations more text : List ℕ) → In designations text → In (designations ++ more) text
-in_longer designations more text h = grind (arith, place_kept, length-append)
+in_longer : (bytes more text : List ℕ) → In bytes text → In (bytes ++ more) text
+in_longer bytes more text h = grind (arith, place_kept, length-append)
 
 -- a text comes no later than there
 pub place_of_stands : (bytes text : List ℕ) (s : Stands bytes text) → place_of text bytes ≤ length s.before
@@ -105,39 +105,39 @@ end_stands s h = record { before = s.before ++ h.front; after = s.after; whole =
 abbrev pub ends_nothing : (text : List ℕ) → Ends text []
 ends_nothing text = record { front = text; is = sym (append-nil text) }
 
--- designations, and a text that may be put in
-module _ (designations text : List ℕ) where
-  abbrev pub put_stands : Stands (added designations text) text
-  put_stands = record { before = designations; after = []; whole = refl }
+-- the bytes of designations, and a text that may be put in
+module _ (bytes text : List ℕ) where
+  abbrev pub put_stands : Stands (added bytes text) text
+  put_stands = record { before = bytes; after = []; whole = refl }
 
-  pub place_of_put : (other : List ℕ) → Ends text other → place_of other (added designations text) + length other ≤ length designations + length text
+  pub place_of_put : (other : List ℕ) → Ends text other → place_of other (added bytes text) + length other ≤ length bytes + length text
   place_of_put other h = let low = place_of_stands _ other (end_stands put_stands h) in grind (arith, length-append)
 
-  pub put_in : (other : List ℕ) → Ends text other → In (added designations text) other
+  pub put_in : (other : List ℕ) → Ends text other → In (added bytes text) other
   put_in other h = stands_in _ other (end_stands put_stands h)
 
-  pub in_stands : HasNoZero text → In designations text → Stands designations text
-  in_stands none l = let s = has_text text designations none l in grind arith
+  pub in_stands : HasNoZero text → In bytes text → Stands bytes text
+  in_stands none l = let s = has_text text bytes none l in grind arith
 
   -- what a text that is there ends with is there too
-  pub end_in : (other : List ℕ) → HasNoZero text → Ends text other → In designations text → In designations other
-  end_in other none h l = stands_in designations other (end_stands (in_stands none l) h)
+  pub end_in : (other : List ℕ) → HasNoZero text → Ends text other → In bytes text → In bytes other
+  end_in other none h l = stands_in bytes other (end_stands (in_stands none l) h)
 
   -- a text that isn't there is put in if there is room for it; else all stays as it is
-  pub put_is : Out designations text → length designations + length text < 263 → with_text designations text ≡ added designations text
+  pub put_is : Out bytes text → length bytes + length text < 263 → with_text bytes text ≡ added bytes text
   unfolding with_text
-  put_is out room = rw (le-ltb _ _ out, lt-ltb (length designations + length text) 263 room) refl
+  put_is out room = rw (le-ltb _ _ out, lt-ltb (length bytes + length text) 263 room) refl
 
-  pub by_text : (P : List ℕ → Type 0) → P designations → (Out designations text → length designations + length text < 263 → P (added designations text))
-      → P (with_text designations text)
+  pub by_text : (P : List ℕ → Type 0) → P bytes → (Out bytes text → length bytes + length text < 263 → P (added bytes text))
+      → P (with_text bytes text)
   unfolding with_text
   by_text P same put = grind arith
 
-  pub kept : (other : List ℕ) → In designations other → In (with_text designations text) other
-  kept other h = by_text (λ d. In d other) h (λ _ _. in_longer designations (text ++ 0 ∷ []) other h)
+  pub kept : (other : List ℕ) → In bytes other → In (with_text bytes text) other
+  kept other h = by_text (λ d. In d other) h (λ _ _. in_longer bytes (text ++ 0 ∷ []) other h)
 
   -- a text for which there is room is put in
-  pub put : (Out designations text → length designations + length text < 263) → In (with_text designations text) text
+  pub put : (Out bytes text → length bytes + length text < 263) → In (with_text bytes text) text
   put room = grind (arith, kept, put_is, put_in)
 
 -- ---- the texts of types
@@ -147,20 +147,20 @@ Turn last size t = (length (name_of t) ≡ size) × (Ends last (name_of t) → �
 
 -- what holds of designations, whatever types are put in
 module _ (P : List ℕ → Type 0) (last : List ℕ) (size : ℕ) where
-  by_turn : (designations : List ℕ) (t : LocalType) → P designations → (Turn last size t → P (with_text designations (name_of t)))
-      → P (with_text_of last size designations t)
-  by_turn designations t same put = grind (arith, ends_decided)
+  by_turn : (bytes : List ℕ) (t : LocalType) → P bytes → (Turn last size t → P (with_text bytes (name_of t)))
+      → P (with_text_of last size bytes t)
+  by_turn bytes t same put = grind (arith, ends_decided)
 
-  by_types : (types : List LocalType) (designations : List ℕ) → All (λ t. (d : List ℕ) → P d → P (with_text_of last size d t)) types → P designations
-      → P (with_texts last size designations types)
+  by_types : (types : List LocalType) (bytes : List ℕ) → All (λ t. (d : List ℕ) → P d → P (with_text_of last size d t)) types → P bytes
+      → P (with_texts last size bytes types)
   unfolding with_texts
-  by_types [] designations step h = h
-  by_types (t ∷ ts) designations step h =
-      by_types ts (with_text_of last size designations t) (λ i d l. step (suc i) d (omega arith)) (step 0 t (omega arith) designations h)
+  by_types [] bytes step h = h
+  by_types (t ∷ ts) bytes step h =
+      by_types ts (with_text_of last size bytes t) (λ i d l. step (suc i) d (omega arith)) (step 0 t (omega arith) bytes h)
 
-  keeps_all : ((d text : List ℕ) → P d → P (with_text d text)) → (types : List LocalType) (designations : List ℕ) → P designations
-      → P (with_texts last size designations types)
-  keeps_all step types designations h = by_types types designations (λ i e l d k. by_turn d (get_or types i e) k (λ _. step d _ k)) h
+  keeps_all : ((d text : List ℕ) → P d → P (with_text d text)) → (types : List LocalType) (bytes : List ℕ) → P bytes
+      → P (with_texts last size bytes types)
+  keeps_all step types bytes h = by_types types bytes (λ i e l d k. by_turn d (get_or types i e) k (λ _. step d _ k)) h
 
 pub before_keeps : (P : List ℕ → Type 0) → ((d text : List ℕ) → P d → P (with_text d text)) → (last : List ℕ) (types : List LocalType)
     → P [] → P (before_last last types)
@@ -187,27 +187,27 @@ module _ (last text y b a c d : List ℕ) (free : Ends last text → ⊥) (apart
 module _ (last others : List ℕ) where
   -- what is left of the others when the texts in the designations are cut out of them: the texts that are to come, of
   -- at most that size or at the end of the last one, are still there
-  pub record Room (designations : List ℕ) (size : ℕ) : Type 0 where
+  pub record Room (bytes : List ℕ) (size : ℕ) : Type 0 where
     pub left : List ℕ
-    pub fits : length designations + length left ≤ length others
-    pub rest : (text : List ℕ) → HasNoZero text → (length text ≤ size) ⊎ Ends last text → Stands others text → Out designations text → Stands left text
+    pub fits : length bytes + length left ≤ length others
+    pub rest : (text : List ℕ) → HasNoZero text → (length text ≤ size) ⊎ Ends last text → Stands others text → Out bytes text → Stands left text
 
-  smaller : (designations : List ℕ) (size : ℕ) → Room designations (suc size) → Room designations size
-  smaller designations size r = grind arith
+  smaller : (bytes : List ℕ) (size : ℕ) → Room bytes (suc size) → Room bytes size
+  smaller bytes size r = grind arith
 
   -- a text that isn't there has room
-  pub room_of : (designations text : List ℕ) (size : ℕ) → Room designations size → HasNoZero text → (length text ≤ size) ⊎ Ends last text
-      → Stands others text → Out designations text → length designations + length text + 1 ≤ length others
-  room_of designations text size r none small stands out = grind (arith, length-append)
+  pub room_of : (bytes text : List ℕ) (size : ℕ) → Room bytes size → HasNoZero text → (length text ≤ size) ⊎ Ends last text
+      → Stands others text → Out bytes text → length bytes + length text + 1 ≤ length others
+  room_of bytes text size r none small stands out = grind (arith, length-append)
 
   -- the text of the type has no 0 byte, and is in the others if it is to be put in
   pub record Given (t : LocalType) : Type 0 where
     pub none : HasNoZero (name_of t)
     pub stands : (Ends last (name_of t) → ⊥) → Stands others (name_of t)
 
-  put_room : (designations : List ℕ) (size : ℕ) (t : LocalType) → Given t → Room designations size → Turn last size t → Out designations (name_of t)
-      → Room (added designations (name_of t)) size
-  put_room designations size t g r turn out =
+  put_room : (bytes : List ℕ) (size : ℕ) (t : LocalType) → Given t → Room bytes size → Turn last size t → Out bytes (name_of t)
+      → Room (added bytes (name_of t)) size
+  put_room bytes size t g r turn out =
       let text = name_of t in let s = r.rest text g.none (inl (omega arith)) (g.stands turn.1) out in record {
         left = s.before ++ s.after;
         fits = omega (
@@ -216,45 +216,45 @@ module _ (last others : List ℕ) where
           length-append s.before (text ++ (0 ∷ s.after)),
           length-append text (0 ∷ s.after),
           length-append s.before s.after,
-          length-append designations (text ++ 0 ∷ []),
+          length-append bytes (text ++ 0 ∷ []),
           length-append text (0 ∷ []),
         );
         rest = λ y nothing small there still.
-            let q = r.rest y nothing small there (let l = in_longer designations (text ++ 0 ∷ []) y in grind arith) in
-            cut last text y s.before s.after q.before q.after turn.1 (λ e. absurd (omega (arith, put_in designations text y e))) (rw (← turn.0) at small)
+            let q = r.rest y nothing small there (let l = in_longer bytes (text ++ 0 ∷ []) y in grind arith) in
+            cut last text y s.before s.after q.before q.after turn.1 (λ e. absurd (omega (arith, put_in bytes text y e))) (rw (← turn.0) at small)
             (meet s.before text s.after q.before y q.after g.none nothing (sym s.whole ∙ q.whole));
       }
 
-  type_room : (designations : List ℕ) (size : ℕ) (t : LocalType) → Given t → Room designations size → Room (with_text_of last size designations t) size
-  type_room designations size t g r = by_turn (λ d. Room d size) last size designations t r (λ turn.
-      by_text designations (name_of t) (λ d. Room d size) r (λ out room. put_room designations size t g r turn out))
+  type_room : (bytes : List ℕ) (size : ℕ) (t : LocalType) → Given t → Room bytes size → Room (with_text_of last size bytes t) size
+  type_room bytes size t g r = by_turn (λ d. Room d size) last size bytes t r (λ turn.
+      by_text bytes (name_of t) (λ d. Room d size) r (λ out room. put_room bytes size t g r turn out))
 
-  put_all : (size : ℕ) (types : List LocalType) (designations : List ℕ) → length others ≤ 263 → All Given types → Room designations size
-      → All (λ t. Turn last size t → In (with_texts last size designations types) (name_of t)) types
+  put_all : (size : ℕ) (types : List LocalType) (bytes : List ℕ) → length others ≤ 263 → All Given types → Room bytes size
+      → All (λ t. Turn last size t → In (with_texts last size bytes types) (name_of t)) types
   unfolding with_texts
-  put_all size [] designations short g r i d l turn = absurd (omega arith)
-  put_all size (t ∷ ts) designations short g r (suc i) d l turn =
-      put_all size ts (with_text_of last size designations t) short (λ k e m. g (suc k) e (omega arith))
-      (type_room designations size t (g 0 t (omega arith)) r) i d (omega arith) turn
-  put_all size (t ∷ ts) designations short g r zero d l turn =
-      let given = g 0 t (omega arith) in let out = room_of designations (name_of t) size r given.none (inl (omega arith)) (given.stands turn.1) in
-      let first : In (with_text_of last size designations t) (name_of t) = grind (arith, put, ends_decided, eq-eqb) in
-      keeps_all (λ d. In d (name_of t)) last size (λ d other. kept d other (name_of t)) ts (with_text_of last size designations t) first
+  put_all size [] bytes short g r i d l turn = absurd (omega arith)
+  put_all size (t ∷ ts) bytes short g r (suc i) d l turn =
+      put_all size ts (with_text_of last size bytes t) short (λ k e m. g (suc k) e (omega arith))
+      (type_room bytes size t (g 0 t (omega arith)) r) i d (omega arith) turn
+  put_all size (t ∷ ts) bytes short g r zero d l turn =
+      let given = g 0 t (omega arith) in let out = room_of bytes (name_of t) size r given.none (inl (omega arith)) (given.stands turn.1) in
+      let first : In (with_text_of last size bytes t) (name_of t) = grind (arith, put, ends_decided, eq-eqb) in
+      keeps_all (λ d. In d (name_of t)) last size (λ d other. kept d other (name_of t)) ts (with_text_of last size bytes t) first
 
   -- ---- in front of the last
   -- the others have room for the texts of that size, and the longer ones have been put in
-  pub record Passed (types : List LocalType) (size : ℕ) (designations : List ℕ) : Type 0 where
-    pub room : Room designations size
+  pub record Passed (types : List LocalType) (size : ℕ) (bytes : List ℕ) : Type 0 where
+    pub room : Room bytes size
     pub inside : length others ≤ 263
-        → All (λ t. size ≤ length (name_of t) → length (name_of t) ≤ 7 → (Ends last (name_of t) → ⊥) → In designations (name_of t)) types
+        → All (λ t. size ≤ length (name_of t) → length (name_of t) ≤ 7 → (Ends last (name_of t) → ⊥) → In bytes (name_of t)) types
 
   module _ (types : List LocalType) (g : All Given types) where
-    pass : (size : ℕ) (designations : List ℕ) → Passed types (suc size) designations → Passed types size (with_texts last size designations types)
-    pass size designations p = let r = smaller designations size p.room in record {
-      room = by_types (λ d. Room d size) last size types designations (λ i e l d k. type_room d size (get_or types i e) (g i e l) k) r;
+    pass : (size : ℕ) (bytes : List ℕ) → Passed types (suc size) bytes → Passed types size (with_texts last size bytes types)
+    pass size bytes p = let r = smaller bytes size p.room in record {
+      room = by_types (λ d. Room d size) last size types bytes (λ i e l d k. type_room d size (get_or types i e) (g i e l) k) r;
       inside = λ short i e l low high free.
-          let all = put_all size types designations short g r i e l in
-          let keep = keeps_all (λ d. In d (name_of (get_or types i e))) last size (λ d other. kept d other _) types designations in grind (arith, cases_lt);
+          let all = put_all size types bytes short g r i e l in
+          let keep = keeps_all (λ d. In d (name_of (get_or types i e))) last size (λ d other. kept d other _) types bytes in grind (arith, cases_lt);
     }
 
     pub before_passed : Passed types 3 (before_last last types)
@@ -263,7 +263,7 @@ module _ (last others : List ℕ) where
 
 -- ---- a 0 byte is in designations that have bytes
 abbrev pub Filled : List ℕ → Type 0
-Filled designations = (designations ≡ []) ⊎ In designations []
+Filled bytes = (bytes ≡ []) ⊎ In bytes []
 
 pub before_filled : (last : List ℕ) (types : List LocalType) → Filled (before_last last types)
 before_filled last types = before_keeps Filled (λ d text h. by_text d text Filled h (λ _ _. inr (put_in d text [] (ends_nothing text)))) last types (inl refl)

@@ -20,18 +20,8 @@ unfolding counts_bytes number_bytes six_counts
 counts_are c rest (a, b, d, e, f, g) = (
   _,
   _,
-  number_is c.ut_local _ a,
-  (
-    _,
-    _,
-    number_is c.standard_wall _ b,
-    (
-      _,
-      _,
-      number_is c.leap_seconds _ d,
-      (_, _, number_is c.transitions _ e, (_, _, number_is c.types _ f, (_, _, number_is c.designations _ g, (refl, refl)))),
-    ),
-  ),
+  number_is _ _ a,
+  (_, _, number_is _ _ b, (_, _, number_is _ _ d, (_, _, number_is _ _ e, (_, _, number_is _ _ f, (_, _, number_is _ _ g, (refl, refl)))))),
 )
 
 abbrev pub version_of : Bool → Version

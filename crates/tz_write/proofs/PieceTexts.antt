@@ -35,16 +35,18 @@ letters_begin (b ∷ bs) rest some each = grind arith
 run_writes : (p : ℕ → Bool) (name rest : List ℕ) → AllOf p name → AllOf is_name_byte name → NoneFirst p rest → Writes (Run p) name name rest
 run_writes p name rest each all none = grind (arith, nat_tests, names_are, pairs_over, not_colon)
 
+-- a name of letters is its own text, and any other has marks around it
+by_letters : (P : List ℕ → Type 0) (name : List ℕ) → (AllOf is_letter name → P name) → P (less ∷ name ++ (greater ∷ [])) → P (spelled_name name)
+by_letters P name letters others = grind (arith, all_from)
+
 pub name_writes : (name rest : List ℕ) → IsName name → NoneFirst is_letter rest → Writes tz.name (spelled_name name) name rest
 unfolding tz.name tz.quoted
-name_writes name rest h none = let all : AllOf is_name_byte name = all_of is_name_byte name h.2 in
-    elim (list_all is_letter name) as (λ t. list_all is_letter name ≡ t → Writes tz.name (cond t name (less ∷ name ++ (greater ∷ []))) name rest) [
-      | true ↦ λ e. let l = h.0 in let each = all_from is_letter name e in
-          writes_other (without less (letters_begin name rest (omega arith) each) (inl (omega arith))) (run_writes is_letter name rest each all none)
-      | false ↦ λ e. writes_mark refl
-          (writes_then (run_writes is_not_greater name (greater ∷ rest) (all_others is_name_byte is_not_greater (λ b h. grind (arith, nat_tests)) name all) all refl)
-          (writes_byte refl (writes_nothing refl)))
-    ] refl
+name_writes name rest h none = let all : AllOf is_name_byte name = all_of is_name_byte name h.2 in let l = h.0 in
+    by_letters (λ s. Writes tz.name s name rest) name
+    (λ each. writes_other (without less (letters_begin name rest (omega arith) each) (inl (omega arith))) (run_writes is_letter name rest each all none))
+    (writes_mark refl
+    (writes_then (run_writes is_not_greater name (greater ∷ rest) (all_others is_name_byte is_not_greater (λ b h. grind (arith, nat_tests)) name all) all refl)
+    (writes_byte refl (writes_nothing refl))))
 
 quoted_best : (t : Bool) (name : List ℕ) → Best (cond t name (less ∷ name ++ (greater ∷ []))) (less ∷ name ++ (greater ∷ []))
 quoted_best t name = grind (arith, length-append)
@@ -57,26 +59,24 @@ name_front name (inr (_, run)) = record { front = name; whole = run.whole; best 
 
 -- a name's text begins with a letter or `<`
 pub name_begins : (name rest : List ℕ) → IsName name → Begins 60 122 (spelled_name name ++ rest)
-name_begins name rest h =
-    elim (list_all is_letter name) as (λ t. list_all is_letter name ≡ t → Begins 60 122 (cond t name (less ∷ name ++ (greater ∷ [])) ++ rest)) [
-      | true ↦ λ e. let l = h.0 in let f = letters_begin name rest (omega arith) (all_from is_letter name e) in grind arith
-      | false ↦ λ e. record { first = less; others = (name ++ (greater ∷ [])) ++ rest; is = refl; above = omega arith; below = omega arith }
-    ] refl
+name_begins name rest h = let l = h.0 in by_letters (λ s. Begins 60 122 (s ++ rest)) name
+    (λ each. let f = letters_begin name rest (omega arith) each in grind arith)
+    (record { first = less; others = (name ++ (greater ∷ [])) ++ rest; is = refl; above = omega arith; below = omega arith })
 
 -- ---- dates
 date_writes : (form : DayForm) (rest : List ℕ) → IsRuleDay form → NoneFirst is_digit rest → Writes tz.date (spelled_date form) form rest
 unfolding tz.date tz.month_date tz.julian_date tz.numbered_day tz.checked_day
 date_writes (Julian1 n) rest h none = let l = h.1 in
     writes_other (λ e. absurd (omega arith))
-    (writes_mark refl (writes_here (writes_last (number_writes day_max n rest (omega arith) (omega arith) none) (h, refl, refl))))
+    (writes_mark refl (writes_here (writes_last (number_writes day_max n rest (omega arith) none (omega arith)) (h, refl, refl))))
 date_writes (Julian0 n) rest h none = let first = number_begins n rest (omega arith) in
     writes_other (without letter_M first (inr (omega arith))) (writes_other (without letter_J first (inr (omega arith)))
-    (writes_here (writes_last (number_writes day_max n rest (omega arith) (omega arith) none) (h, refl, refl))))
+    (writes_here (writes_last (number_writes day_max n rest (omega arith) none (omega arith)) (h, refl, refl))))
 date_writes (MonthWeekday m w d) rest h none =
     let a = h.1 in let b = h.3 in let c = h.4 in
-    writes_mark refl (writes_here (writes_then (number_writes date_max m _ (omega arith) (omega arith) refl) (writes_byte refl
-    (writes_here (writes_then (number_writes date_max w _ (omega arith) (omega arith) refl)
-    (writes_byte refl (writes_here (writes_last (number_writes date_max d rest (omega arith) (omega arith) none) (h, refl, refl)))))))))
+    writes_mark refl (writes_here (writes_then (number_writes date_max m _ (omega arith) refl (omega arith)) (writes_byte refl
+    (writes_here (writes_then (number_writes date_max w _ (omega arith) refl (omega arith))
+    (writes_byte refl (writes_here (writes_last (number_writes date_max d rest (omega arith) none (omega arith)) (h, refl, refl)))))))))
 
 date_front : {bytes rest : List ℕ} (form : DayForm) → Spells tz.date bytes form rest → Front (spelled_date form) bytes rest
 unfolding tz.date tz.month_date tz.julian_date tz.numbered_day tz.checked_day

@@ -29,37 +29,11 @@ rule_read extended bytes rule (name, after, n, (east, end, o, inl (none, (t, _, 
   plain = λ _. tt;
   best = front_whole (front_then (name_front name n) (subst (Front (spelled_offset east) after) none (offset_front east o)));
 })
-rule_read extended bytes rule (
-  name,
-  after,
-  n,
-  (
-    east,
-    end,
-    o,
-    inr (
-      _,
-      (
-        dst_name,
-        at_dst,
-        d,
-        (
-          dst_east,
-          at_days,
-          f,
-          (
-            (x, y),
-            last,
-            (start, at_comma, p, (_, at_end, c, (stop, fin, q, (both, same)))),
-            (_, _, e, (s, _, (s_fits, s_is, _), (t, _, (t_fits, t_is, _), (value, _)))),
-          ),
-        ),
-      ),
-    ),
-  ),
-) =
-    let none : last ≡ [] = elim e [ inl k ↦ k.0 | inr k ↦ absurd k.1 ] in let first : x ≡ start = cc in let second : y ≡ stop = cc in
-    rw (value, s_is, t_is, first, second) (record {
+rule_read extended bytes rule (name, after, n, (east, end, o, inr (_, (dst_name, at_dst, d, (dst_east, at_days, f, (days, last, said, ends)))))) =
+    let (start, at_comma, p, (_, at_end, c, (stop, fin, q, (both, same)))) = said in
+    let (_, _, e, (s, _, (s_fits, s_is, _), (t, _, (t_fits, t_is, _), (value, _)))) = ends in
+    let none : last ≡ [] = elim e [ inl k ↦ k.0 | inr k ↦ absurd k.1 ] in
+    rw (value, s_is, t_is, both) (record {
       named = ((name, assumption), (dst_name, assumption));
       plain = λ e. (day_times extended at_days start at_comma p e, day_times extended at_end stop fin q e);
       best = front_whole (front_then (front_then (name_front name n) (offset_front east o)) (front_then (name_front dst_name d)
@@ -129,27 +103,9 @@ rule_writes extended (rules.Alternate a) fits ((m, s), (n, d)) (start, end) =
     ))))))))))
 
 -- ---- rules
-pub times_extended : (rule : TransitionRule) → IsRule rule → AreTimesOf true rule
-times_extended rule fits = grind (arith, ints, nat_tests)
-
-pub rule_spelled : (extended : Bool) (rule : TransitionRule) → IsRule rule → CanBeSpelled rule → AreTimesOf extended rule
-    → IsTzText extended (spelled_rule rule) rule
-rule_spelled extended rule fits h times = grind (arith, ints, nat_tests, append-nil, rule_writes)
-
-pub rule_pairs : (rule : TransitionRule) → IsRule rule → CanBeSpelled rule → AreInPairs (spelled_rule rule)
-rule_pairs rule fits h = subst AreInPairs (append-nil (spelled_rule rule)) ((rule_writes true rule fits h (times_extended rule fits)).pairs tt)
-
-pub text_are : (rule : TransitionRule) → IsRule rule → CanBeSpelled rule → AreTextBytes (spelled_rule rule)
-text_are rule fits h = (rule_writes true rule fits h (times_extended rule fits)).bytes
-
 -- it begins with a letter or `<`
 pub text_begins : (rule : TransitionRule) → CanBeSpelled rule → Begins 60 122 (spelled_rule rule)
 text_begins rule named = grind (arith, name_begins, append_assoc)
-
--- the text has extensions if one without doesn't have room for the times
-pub written : (rule : TransitionRule) (plain : Bool) → IsRule rule → CanBeSpelled rule → ((plain ≡ true) ↔ AreTimesOf false rule)
-    → IsWrittenText rule (spelled_rule rule) (not plain)
-written rule plain fits h is = grind (arith, rule_spelled, rule_pairs, rule_read)
 
 -- each of two is the shortest
 pub both_shortest : (s t : List ℕ) → (t ≡ s) ⊎ (length s < length t) → (s ≡ t) ⊎ (length t < length s) → s ≡ t
@@ -165,22 +121,40 @@ both_plain start end = grind (arith, ints)
 plain_times : (rule : TransitionRule) → (AreTimesOf false rule) ⊎ (AreTimesOf false rule → ⊥)
 plain_times rule = grind (arith, both_plain)
 
-text_is : (rule : TransitionRule) → IsRule rule → CanBeSpelled rule → (needed : Bool) × IsWrittenText rule (spelled_rule rule) needed
-text_is rule fits named = elim (plain_times rule) [
-  | inl p ↦ (false, written rule true fits named ((λ e. p), λ h. refl))
-  | inr n ↦ (true, written rule false fits named ((λ e. absurd (both_ways false refl e)), λ h. absurd (n h)))
-]
+module _ (rule : TransitionRule) (fits : IsRule rule) where
+  pub times_extended : AreTimesOf true rule
+  times_extended = grind (arith, ints, nat_tests)
 
-pub text_some : (rule : TransitionRule) → IsRule rule → CanBeSpelled rule → (text : List ℕ) × (needed : Bool) × IsWrittenText rule text needed
-text_some rule fits named = let s = text_is rule fits named in (spelled_rule rule, s.0, s.1)
+  module _ (named : CanBeSpelled rule) where
+    pub rule_spelled : (extended : Bool) → AreTimesOf extended rule → IsTzText extended (spelled_rule rule) rule
+    rule_spelled extended times = grind (arith, ints, nat_tests, append-nil, rule_writes)
 
-pub rule_text : (rule : TransitionRule) (text : List ℕ) (extended : Bool) → IsRule rule → IsWrittenText rule text extended → text ≡ spelled_rule rule
-rule_text rule text extended fits h = grind (arith, ints, nat_tests, text_is, rule_named, text_once)
+    pub rule_pairs : AreInPairs (spelled_rule rule)
+    rule_pairs = rw append-nil at ((rule_writes true rule fits named times_extended).pairs tt)
 
--- a text has extensions if the rule's times need them
-pub extensions : (rule : TransitionRule) (text : List ℕ) (extended : Bool) → IsRule rule → IsWrittenText rule text extended
-    → (extended ≡ true) ↔ (¬ (AreTimesOf false rule))
-extensions rule text extended fits h = grind (arith, rule_spelled, rule_named, both_ways, rule_read)
+    pub text_are : AreTextBytes (spelled_rule rule)
+    text_are = (rule_writes true rule fits named times_extended).bytes
+
+    -- the text has extensions if one without doesn't have room for the times
+    pub written : (plain : Bool) → ((plain ≡ true) ↔ AreTimesOf false rule) → IsWrittenText rule (spelled_rule rule) (not plain)
+    written plain is = grind (arith, rule_spelled, rule_pairs, rule_read)
+
+    text_is : (needed : Bool) × IsWrittenText rule (spelled_rule rule) needed
+    text_is = elim (plain_times rule) [
+      | inl p ↦ (false, written true ((λ e. p), λ h. refl))
+      | inr n ↦ (true, written false ((λ e. absurd (both_ways false refl e)), λ h. absurd (n h)))
+    ]
+
+    pub text_some : (text : List ℕ) × (needed : Bool) × IsWrittenText rule text needed
+    text_some = let s = text_is in (spelled_rule rule, s.0, s.1)
+
+  module _ (text : List ℕ) (extended : Bool) (h : IsWrittenText rule text extended) where
+    pub rule_text : text ≡ spelled_rule rule
+    rule_text = grind (arith, ints, nat_tests, text_is, rule_named, text_once)
+
+    -- a text has extensions if the rule's times need them
+    pub extensions : (extended ≡ true) ↔ (¬ (AreTimesOf false rule))
+    extensions = grind (arith, rule_spelled, rule_named, both_ways, rule_read)
 
 -- what a law says of the text of a rule
 pub ruleset rule_laws = (extensions, rule_named, text_once, text_some)

@@ -42,7 +42,7 @@ pub written_zone : (types : List LocalType) (rule : TransitionRule) → IsRule r
     → IsWrittenZone (zone_of_rule types (Some rule)) (spelled_rule rule)
 written_zone types rule fits h =
     let named = h.1.0 in
-    let text = rule_spelled false rule fits named h.1.1 in
+    let text = rule_spelled rule fits named false h.1.1 in
     let first = not_empty (text_begins rule named) in
     let trims = trimmed_text (spelled_rule rule) (text_are rule fits named) in
     record {
