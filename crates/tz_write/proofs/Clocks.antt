@@ -1,11 +1,11 @@
 -- The texts of offsets and of times of day.
+use Rattle.tz_write.specs.Steps.TextPieces.{is_negative, is_positive, spelled_hands, spelled_minutes, spelled_seconds, spelled_signed}
 use Rattle.tz_base.specs.Grammar.{Number, Then}
-use Rattle.tz_write.proofs.Words.{Bool, IsPlainTime, IsTextTime, IsWithinDay, List, NoneFirst, Spells, Without, ap, append_assoc, arith, both_ways, clock_max}
-use Rattle.tz_write.proofs.Words.{spelled_clock, spelled_hands, colon, comma, cond, decimal, false, inl, inr, ints, is_digit, is_negative, is_positive, le-ltb}
-use Rattle.tz_write.proofs.Words.{minus, spelled_minutes, nat_tests, neg_ℤ, not, spelled_offset, spelled_pair, plus, pos, refl, slash, spelled_seconds}
-use Rattle.tz_write.proofs.Words.{spelled_signed, time_limit, spelled_time, true, unsigned_abs, ℕ, ℤ, ◌%◌, ◌&&◌, ◌*◌, ◌++◌, ◌+◌, ◌/◌, ◌<ℤ◌, ◌<◌, ◌==◌, ◌∙◌, ◌∷◌}
-use Rattle.tz_write.proofs.Words.{◌≡◌, ◌≤◌}
-use Rattle.tz_write.proofs.Decimals.{Begins, number_begins, number_front, number_writes, pair_front, pair_writes, two_digits, without}
+use Rattle.tz_write.proofs.Words.{Bool, IsPlainTime, IsTextTime, IsWithinDay, List, NoneFirst, Spells, Without, append_assoc, arith, both_ways, clock_max}
+use Rattle.tz_write.proofs.Words.{spelled_clock, colon, comma, cond, false, inr, ints, is_digit, le-ltb, minus, nat_tests, neg_ℤ, not, spelled_offset}
+use Rattle.tz_write.proofs.Words.{spelled_pair, pos, refl, slash, time_limit, spelled_time, true, unsigned_abs, ℕ, ℤ, ◌%◌, ◌&&◌, ◌*◌, ◌++◌, ◌+◌, ◌/◌, ◌<ℤ◌}
+use Rattle.tz_write.proofs.Words.{◌<◌, ◌==◌, ◌∷◌, ◌≡◌, ◌≤◌}
+use Rattle.tz_write.proofs.Decimals.{Begins, number_begins, number_front, number_writes, pair_front, pair_writes, two_digits}
 use Rattle.tz_write.proofs.Shortest.{Front, front_cons, front_longer, front_optional, front_then}
 use Rattle.tz_write.proofs.TextBytes.{writes_here}
 use Rattle.tz_write.proofs.TextBytes.{Writes, first_optional, writes_colon, writes_first, writes_last, writes_mark, writes_nothing, writes_optional}
@@ -17,7 +17,7 @@ abbrev pub Stops : List ℕ → Type 0
 Stops rest = NoneFirst is_digit rest × Without colon rest × Without slash rest
 
 pub comma_stops : (rest : List ℕ) → Stops (comma ∷ rest)
-comma_stops rest = (refl, (λ e. absurd (omega arith)), (λ e. absurd (omega arith)))
+comma_stops rest = grind (arith, nat_tests)
 
 -- ---- numbers with a sign
 abbrev signed : Bool → ℕ → ℤ
@@ -36,15 +36,12 @@ time_within extended time h = grind (arith, hours_within, le-ltb)
 
 clock_begins : (n : ℕ) (rest : List ℕ) → n / 3600 < 1000 → Begins 48 57 (spelled_clock n ++ rest)
 unfolding spelled_clock
-clock_begins n rest l = rw append_assoc (number_begins (n / 3600) _ (omega arith))
+clock_begins n rest l = grind (arith, append_assoc, number_begins)
 
 -- an offset begins with a digit or a minus
 pub offset_begins : (east : ℤ) (rest : List ℕ) → IsWithinDay east → Begins 45 57 (spelled_offset east ++ rest)
 unfolding spelled_offset
-offset_begins east rest h = elim (is_positive east) as (λ t. Begins 45 57 (spelled_signed t (unsigned_abs east) ++ rest)) [
-  | true ↦ record { first = minus; others = spelled_clock (unsigned_abs east) ++ rest; is = refl; above = omega arith; below = omega arith }
-  | false ↦ let f = clock_begins (unsigned_abs east) rest (omega (arith, hours_within 24 east h)) in grind arith
-]
+offset_begins east rest h = grind (arith, clock_begins, hours_within)
 
 -- ---- what is written before a rest that ends it
 module _ (rest : List ℕ) (stops : Stops rest) where
@@ -61,7 +58,7 @@ module _ (rest : List ℕ) (stops : Stops rest) where
   hours_writes : (h m s : ℕ) → h ≤ clock_max → m ≤ 59 → s ≤ 59 → Writes tz.hours_minutes_seconds (spelled_hands h m s) (h, m, s) rest
   unfolding tz.hours_minutes_seconds
   hours_writes h m s l a b =
-      writes_then (number_writes clock_max h _ l (first_optional is_digit ((m == 0) && (s == 0)) colon _ rest refl stops.0) (omega arith))
+      writes_then (number_writes clock_max h _ l (grind (arith, nat_tests)) (omega arith))
       (writes_last (minutes_writes m s a b) (refl, refl))
 
   -- n seconds are z, but for the sign
@@ -78,9 +75,9 @@ module _ (rest : List ℕ) (stops : Stops rest) where
         → Writes (Then (tz.time_sign signs) (λ m. tz.duration limit (f m))) (spelled_signed negative n) z rest
     unfolding tz.time_sign tz.sign
     signed_writes true f true may v =
-        writes_then (writes_other (λ e. absurd (omega arith)) (writes_mark refl (writes_nothing refl))) (duration_writes (f true) v)
+        writes_then (writes_other (grind arith) (writes_mark refl (writes_nothing refl))) (duration_writes (f true) v)
     signed_writes true f false may v = let first = clock_begins n rest (omega arith) in
-        writes_first false (inr (without plus first (inl (omega arith)), inr (without minus first (inl (omega arith)), (refl, refl))))
+        writes_first false (inr (grind arith, inr (grind arith, (refl, refl))))
         (duration_writes (f false) v)
     signed_writes false f true may v = let e = may refl in cc
     signed_writes false f false may v = writes_first false (refl, refl) (duration_writes (f false) v)
@@ -108,7 +105,8 @@ minutes_given after m s e (x, behind, minutes, (y, end, seconds, (value, same)))
 
 minutes_front : {bytes rest : List ℕ} (m s : ℕ) → Spells tz.optional_minutes bytes (m, s) rest → Front (spelled_minutes m s) bytes rest
 unfolding tz.optional_minutes
-minutes_front m s h = front_optional colon (0, 0) tz.minutes_seconds ((m == 0) && (s == 0)) (λ after is p. minutes_given after m s is p) (grind (arith, nat_tests)) h
+minutes_front m s h =
+    front_optional colon (0, 0) tz.minutes_seconds ((m == 0) && (s == 0)) (λ after is p. minutes_given after m s is p) (grind (arith, nat_tests)) h
 
 hours_front : {bytes rest : List ℕ} (h m s : ℕ) → Spells tz.hours_minutes_seconds bytes (h, m, s) rest → Front (spelled_hands h m s) bytes rest
 unfolding tz.hours_minutes_seconds
@@ -118,8 +116,7 @@ hours_front h m s (x, after, hours, ((y, z), end, others, (value, same))) =
 duration_front : {bytes rest : List ℕ} (limit : ℕ) (negative : Bool) (z : ℤ) → Spells (tz.duration limit negative) bytes z rest
     → Front (spelled_clock (unsigned_abs z)) bytes rest
 unfolding spelled_clock tz.duration
-duration_front limit negative z ((h, m, s), after, spelled, ((c, a, b), value, same)) =
-    let n : unsigned_abs z ≡ 3600 * h + 60 * m + s = ap unsigned_abs value ∙ abs_signed negative _ in let front = hours_front h m s spelled in grind arith
+duration_front limit negative z h = grind (arith, abs_signed, hours_front)
 
 -- there is a minus if one is needed, and otherwise nothing
 sign_front : {text bytes unsigned rest : List ℕ} (signs needed negative : Bool) → Spells (tz.time_sign signs) bytes negative unsigned

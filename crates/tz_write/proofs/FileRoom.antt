@@ -1,8 +1,8 @@
 -- Texts in designations, and how much room those take: each text that is put in has bytes of its own in any others that have the texts.
-use Rattle.tz_write.proofs.Words.{All, Decides, Decides-eqb, HasNoZero, List, LocalType, ℕ, ap, append-nil, append_assoc, arith, before_last, begins, cases_lt, ends}
-use Rattle.tz_write.proofs.Words.{ends_is, eq-eqb, fold, get_or, get_or_at, inl, inr, le-ltb, length, length-append, lt-ltb, name_of, nat_eq, nat_tests}
-use Rattle.tz_write.proofs.Words.{place_of, refl, starts_is, starts_with, suc, sym, true, with_text, with_text_of, with_texts, zero, [], ◌++◌, ◌+◌, ◌<◌, ◌∙◌}
-use Rattle.tz_write.proofs.Words.{◌∷◌, ◌≡◌, ◌≤◌, ◌⊎◌}
+use Rattle.tz_write.proofs.Words.{All, Decides, Decides-eqb, HasNoZero, List, LocalType, ℕ, ap, append-nil, append_assoc, arith, before_last, begins}
+use Rattle.tz_write.proofs.Words.{cases_lt, ends, ends_is, eq-eqb, get_or, get_or_at, inl, inr, length, length-append, name_of, nat_eq, nat_tests, place_of}
+use Rattle.tz_write.proofs.Words.{refl, starts_is, starts_with, suc, sym, true, with_text, with_text_of, with_texts, zero, [], ◌++◌, ◌+◌, ◌<◌, ◌∙◌, ◌∷◌, ◌≡◌}
+use Rattle.tz_write.proofs.Words.{◌≤◌, ◌⊎◌}
 use Rattle.tz_write.proofs.FileRecords.{begins_is, has_text}
 
 -- a text and its 0 byte are in the bytes
@@ -24,7 +24,7 @@ pub data Meeting (b x a c y d : List ℕ) : Type 0 where
   Has_end : (m : List ℕ) → y ≡ m ++ x → a ≡ d → Meeting b x a c y d
 
 -- in front of the first 0 byte is one text
-pub same_text : (x a y d : List ℕ) → HasNoZero x → HasNoZero y → x ++ (0 ∷ a) ≡ y ++ (0 ∷ d) → (x ≡ y) × (a ≡ d)
+same_text : (x a y d : List ℕ) → HasNoZero x → HasNoZero y → x ++ (0 ∷ a) ≡ y ++ (0 ∷ d) → (x ≡ y) × (a ≡ d)
 same_text [] a [] d n k e = (refl, cc)
 same_text [] a (y ∷ ys) d n k e = absurd (k.0 (cc))
 same_text (x ∷ xs) a [] d n k e = absurd (n.0 (cc))
@@ -64,7 +64,7 @@ begins_again text rest =
     let starts = (starts_is {E = nat_eq} Decides-eqb (text ++ (0 ∷ rest)) text (starts_with nat_eq (text ++ (0 ∷ rest)) text) refl).1 (0 ∷ rest) refl in
     grind (arith, nat_tests, length-append, get_or_at)
 
-pub place_behind : (text front rest : List ℕ) → place_of text (front ++ (text ++ (0 ∷ rest))) ≤ length front
+place_behind : (text front rest : List ℕ) → place_of text (front ++ (text ++ (0 ∷ rest))) ≤ length front
 place_behind [] [] rest = grind (arith, nat_tests, begins_again [] rest)
 place_behind (c ∷ cs) [] rest = grind (arith, nat_tests, begins_again (c ∷ cs) rest)
 place_behind text (b ∷ bs) rest = grind (arith, nat_tests, place_behind text bs rest)
@@ -96,7 +96,7 @@ pub place_of_stands : (bytes text : List ℕ) (s : Stands bytes text) → place_
 place_of_stands bytes text s = grind (arith, place_behind)
 
 stands_in : (bytes text : List ℕ) → Stands bytes text → In bytes text
-stands_in bytes text s = grind (arith, place_of_stands, length-append)
+stands_in bytes text s = grind (arith, place_behind, length-append)
 
 -- the end of a text that is there
 abbrev pub end_stands : {bytes text other : List ℕ} → Stands bytes text → Ends text other → Stands bytes other
@@ -114,19 +114,19 @@ module _ (bytes text : List ℕ) where
   place_of_put other h = let low = place_of_stands _ other (end_stands put_stands h) in grind (arith, length-append)
 
   pub put_in : (other : List ℕ) → Ends text other → In (added bytes text) other
-  put_in other h = stands_in _ other (end_stands put_stands h)
+  put_in other h = grind (arith, stands_in, end_stands, put_stands)
 
   pub in_stands : HasNoZero text → In bytes text → Stands bytes text
   in_stands none l = let s = has_text text bytes none l in grind arith
 
   -- what a text that is there ends with is there too
   pub end_in : (other : List ℕ) → HasNoZero text → Ends text other → In bytes text → In bytes other
-  end_in other none h l = stands_in bytes other (end_stands (in_stands none l) h)
+  end_in other none h l = grind (arith, stands_in, end_stands, in_stands)
 
   -- a text that isn't there is put in if there is room for it; else all stays as it is
   pub put_is : Out bytes text → length bytes + length text < 263 → with_text bytes text ≡ added bytes text
   unfolding with_text
-  put_is out room = rw (le-ltb _ _ out, lt-ltb (length bytes + length text) 263 room) refl
+  put_is out room = grind (arith, nat_tests)
 
   pub by_text : (P : List ℕ → Type 0) → P bytes → (Out bytes text → length bytes + length text < 263 → P (added bytes text))
       → P (with_text bytes text)
@@ -192,9 +192,6 @@ module _ (last others : List ℕ) where
     pub fits : length bytes + length left ≤ length others
     pub rest : (text : List ℕ) → HasNoZero text → (length text ≤ size) ⊎ Ends last text → Stands others text → Out bytes text → Stands left text
 
-  smaller : (bytes : List ℕ) (size : ℕ) → Room bytes (suc size) → Room bytes size
-  smaller bytes size r = grind arith
-
   -- a text that isn't there has room
   pub room_of : (bytes text : List ℕ) (size : ℕ) → Room bytes size → HasNoZero text → (length text ≤ size) ⊎ Ends last text
       → Stands others text → Out bytes text → length bytes + length text + 1 ≤ length others
@@ -210,15 +207,7 @@ module _ (last others : List ℕ) where
   put_room bytes size t g r turn out =
       let text = name_of t in let s = r.rest text g.none (inl (omega arith)) (g.stands turn.1) out in record {
         left = s.before ++ s.after;
-        fits = omega (
-          arith,
-          ap length s.whole,
-          length-append s.before (text ++ (0 ∷ s.after)),
-          length-append text (0 ∷ s.after),
-          length-append s.before s.after,
-          length-append bytes (text ++ 0 ∷ []),
-          length-append text (0 ∷ []),
-        );
+        fits = grind (arith, length-append);
         rest = λ y nothing small there still.
             let q = r.rest y nothing small there (let l = in_longer bytes (text ++ 0 ∷ []) y in grind arith) in
             cut last text y s.before s.after q.before q.after turn.1 (λ e. absurd (omega (arith, put_in bytes text y e))) (rw (← turn.0) at small)
@@ -250,7 +239,7 @@ module _ (last others : List ℕ) where
 
   module _ (types : List LocalType) (g : All Given types) where
     pass : (size : ℕ) (bytes : List ℕ) → Passed types (suc size) bytes → Passed types size (with_texts last size bytes types)
-    pass size bytes p = let r = smaller bytes size p.room in record {
+    pass size bytes p = let r : Room bytes size = let wider = p.room in grind arith in record {
       room = by_types (λ d. Room d size) last size types bytes (λ i e l d k. type_room d size (get_or types i e) (g i e l) k) r;
       inside = λ short i e l low high free.
           let all = put_all size types bytes short g r i e l in

@@ -1,8 +1,8 @@
 -- What is written of a zone.
-use Rattle.tz_write.proofs.Words.{All-weaker, Bool, HasCounts, IsRoomOf, IsSpellableOrNone, HaveVersion, IsFooterText, IsInNoFile, IsNameOrNone, IsRuleOrNone}
-use Rattle.tz_write.proofs.Words.{IsSound, IsType, IsTzFile, IsWritable, IsWrittenFile, List, NeedsExtensions, None, Option, Room, SaysRule, Some}
-use Rattle.tz_write.proofs.Words.{TransitionRule, Zone, arith, both_ways, ◌↔◌, counts_bytes, false, file_bytes, first_half, header_bytes, length, number_bytes}
-use Rattle.tz_write.proofs.Words.{refl, second_half, subst, sym, true, ℕ, [], ◌<◌, ◌≡◌}
+use Rattle.tz_write.specs.WrittenFiles.{HaveVersion, IsFooterText, IsInNoFile, IsSpellableOrNone, IsWrittenFile, NeedsExtensions}
+use Rattle.tz_write.proofs.Words.{Bool, HasCounts, IsRoomOf, IsRuleOrNone, IsSound, IsWritable, List, None, Option, Room, SaysRule, Some, TransitionRule}
+use Rattle.tz_write.proofs.Words.{Zone, arith, both_ways, ◌↔◌, counts_bytes, false, file_bytes, first_half, header_bytes, length, number_bytes, refl}
+use Rattle.tz_write.proofs.Words.{second_half, true, ℕ, [], ◌<◌, ◌≡◌}
 use Rattle.tz_write.proofs.{FileLayouts.{AreLaid, laid_of, laid_size}, FileLimits.{writable}, FileSpelled.{IsPlain, file_is}}
 use Rattle.tz_write.proofs.{RuleTexts.{extensions, rule_named, rule_text, text_are, text_begins, text_some}}
 
@@ -16,10 +16,7 @@ module _ (rule : Option TransitionRule) (text : List ℕ) (extended : Bool) (foo
 
 text_is : (rule : Option TransitionRule) (text : List ℕ) (extended : Bool) → IsRuleOrNone rule → IsFooterText rule text extended
     → IsPlain text × SaysRule extended text rule
-text_is (Some rule) text extended fits h =
-    let named = rule_named extended text rule h.spells in let same = rule_text rule fits text extended h in
-    let first = text_begins rule named in grind (arith, text_are)
-text_is None text extended fits h = (rw h.0 (record { bytes = tt; no_colon = λ e. absurd (omega arith) }), h.0)
+text_is rule text extended fits h = grind (arith, rule_named, rule_text, text_begins, text_are)
 
 footer_some : (rule : Option TransitionRule) → IsRuleOrNone rule → IsSpellableOrNone rule
     → (text : List ℕ) × (extended : Bool) × IsFooterText rule text extended

@@ -1,12 +1,12 @@
 -- The text of a rule: it spells the rule, and each other one is longer.
 use Rattle.tz_write.proofs.Words.{Alternate, AreInPairs, AreTimesOf, Bool, CanBeSpelled, DayTime, IsAlternateRule, IsName, IsNamed, IsPlainTime, IsRule}
-use Rattle.tz_write.proofs.Words.{IsTextTime, IsTzText, IsWithinDay, IsWrittenText, List, LocalType, NoneFirst, Spells, TransitionRule}
-use Rattle.tz_write.proofs.Words.{ap, append-nil, append_assoc, arith, both_ways, comma, cond, spelled_day, spelled_dst_offset, false, inl, inr, int_eq, ints}
-use Rattle.tz_write.proofs.Words.{is_digit, is_letter, length, name_of, name_or_none, spelled_name, named_type, nat_tests, not, offset_fits, spelled_offset}
-use Rattle.tz_write.proofs.Words.{pos, refl, subst, spelled_rule, true, ℕ, ℤ, [], ◌++◌, ◌+ℤ◌, ◌<◌, ◌↔◌, ◌∙◌, ◌∷◌, ◌≡◌, ◌⊎◌}
-use Rattle.tz_write.proofs.{Clocks.{Stops, comma_stops, offset_begins, offset_front, offset_writes}, Decimals.{Begins, none_first, not_empty, without}}
-use Rattle.tz_write.proofs.PieceTexts.{day_front, day_plain, day_writes, dst_offset_front, dst_offset_writes, name_begins, name_front, name_writes}
-use Rattle.tz_write.proofs.Shortest.{Best, Front, front_cons, front_then, front_whole}
+use Rattle.tz_write.proofs.Words.{IsTextTime, IsTzText, IsWithinDay, IsWrittenText, List, LocalType, NoneFirst, Spells, TransitionRule, ap, append-nil}
+use Rattle.tz_write.proofs.Words.{append_assoc, arith, both_ways, comma, spelled_day, spelled_dst_offset, false, inl, inr, ints, is_letter, length, name_of}
+use Rattle.tz_write.proofs.Words.{name_or_none, spelled_name, named_type, nat_tests, not, offset_fits, spelled_offset, refl, spelled_rule, true, ℕ, ℤ, []}
+use Rattle.tz_write.proofs.Words.{◌++◌, ◌<◌, ◌↔◌, ◌∙◌, ◌∷◌, ◌≡◌, ◌⊎◌}
+use Rattle.tz_write.proofs.{Clocks.{Stops, comma_stops, offset_begins, offset_front, offset_writes}, Decimals.{Begins}}
+use Rattle.tz_write.proofs.PieceTexts.{by_hour, day_front, day_plain, day_writes, dst_offset_front, dst_offset_writes, name_begins, name_front, name_writes}
+use Rattle.tz_write.proofs.Shortest.{Best, front_cons, front_then, front_whole}
 use Rattle.tz_write.proofs.TextBytes.{writes_here}
 use Rattle.tz_write.proofs.TextBytes.{AreTextBytes, Writes, writes_byte, writes_last, writes_more, writes_then}
 use Rattle.tz_info.specs.TzGrammar as tz
@@ -27,7 +27,7 @@ unfolding tz.text tz.rule tz.fixed tz.alternate tz.named tz.days tz.end
 rule_read extended bytes rule (name, after, n, (east, end, o, inl (none, (t, _, (fits, is, _), (value, _))))) = rw (value, is) (record {
   named = ((name, assumption), offset_fits after east end o);
   plain = λ _. tt;
-  best = front_whole (front_then (name_front name n) (subst (Front (spelled_offset east) after) none (offset_front east o)));
+  best = front_whole (front_then (name_front name n) (rw none at (offset_front east o)));
 })
 rule_read extended bytes rule (name, after, n, (east, end, o, inr (_, (dst_name, at_dst, d, (dst_east, at_days, f, (days, last, said, ends)))))) =
     let (start, at_comma, p, (_, at_end, c, (stop, fin, q, (both, same)))) = said in
@@ -35,10 +35,10 @@ rule_read extended bytes rule (name, after, n, (east, end, o, inr (_, (dst_name,
     let none : last ≡ [] = elim e [ inl k ↦ k.0 | inr k ↦ absurd k.1 ] in
     rw (value, s_is, t_is, both) (record {
       named = ((name, assumption), (dst_name, assumption));
-      plain = λ e. (day_times extended at_days start at_comma p e, day_times extended at_end stop fin q e);
+      plain = λ e. (day_times _ _ start _ p e, day_times _ _ stop _ q e);
       best = front_whole (front_then (front_then (name_front name n) (offset_front east o)) (front_then (name_front dst_name d)
           (front_then (dst_offset_front east dst_east f) (front_cons refl (front_then (day_front extended start p)
-          (front_cons c (subst (Front (spelled_day stop) at_end) (same ∙ none) (day_front extended stop q))))))));
+          (front_cons c (rw (same ∙ none) at (day_front extended stop q))))))));
     })
 
 pub rule_named : (extended : Bool) (bytes : List ℕ) (rule : TransitionRule) → IsTzText extended bytes rule → CanBeSpelled rule
@@ -54,21 +54,15 @@ from_offset a = spelled_dst_offset a.std.offset a.dst.offset ++ (comma ∷ days_
 
 -- the type that the parts say
 type_is : (name : List ℕ) (dst : Bool) (t : LocalType) → IsNamed name dst t → t ≡ named_type name dst t.offset
-type_is name dst t h = rw (← h.flag, ← h.named) refl
+type_is name dst t h = grind arith
 
 -- no letter follows a name, and no digit or colon an offset
-no_letter : {low : ℕ} {rest : List ℕ} → Begins low 57 rest → NoneFirst is_letter rest
-no_letter first = none_first is_letter (λ b l h. grind (arith, nat_tests)) first
-
 name_stops : (name rest : List ℕ) → IsName name → Stops (spelled_name name ++ rest)
-name_stops name rest h = let first = name_begins name rest h in
-    (none_first is_digit (λ b l k. grind (arith, nat_tests)) first, without 58 first (inl (omega arith)), without 47 first (inl (omega arith)))
+name_stops name rest h = let first = name_begins name rest h in grind (arith, nat_tests)
 
 dst_ends_name : (std dst : ℤ) (rest : List ℕ) → IsWithinDay dst → NoneFirst is_letter (spelled_dst_offset std dst ++ (comma ∷ rest))
-dst_ends_name std dst rest h = elim (int_eq dst (std +ℤ pos 3_600)) as (λ t. NoneFirst is_letter (cond t [] (spelled_offset dst) ++ (comma ∷ rest))) [
-  | true ↦ refl
-  | false ↦ no_letter (offset_begins dst (comma ∷ rest) h)
-]
+dst_ends_name std dst rest h =
+    by_hour (λ s. NoneFirst is_letter (s ++ (comma ∷ rest))) std dst (λ _. refl) (grind (arith, nat_tests, offset_begins dst (comma ∷ rest) h))
 
 days_write : (extended : Bool) (a : Alternate) → IsAlternateRule a → IsTextTime extended a.start.time → IsTextTime extended a.end.time
     → Writes (tz.days extended) (days_of a) (a.start, a.end) []
@@ -81,19 +75,18 @@ rule_writes : (extended : Bool) (rule : TransitionRule) → IsRule rule → CanB
     → Writes (tz.text extended) (spelled_rule rule) rule []
 unfolding tz.text tz.rule tz.fixed tz.alternate tz.named tz.end
 rule_writes extended (rules.Fixed t) fits ((name, h), w) times =
-    let n : name_of t ≡ name = ap name_or_none h.named in
-    rw n (writes_here (writes_then (name_writes name (spelled_offset t.offset ++ []) h.allowed (no_letter (offset_begins t.offset [] w)))
-    (writes_last (offset_writes [] (tt, tt, tt) t.offset w) (inl (refl, (t, [], (h.allowed, type_is name false t h, refl), (refl, refl)))))))
+    rw h.named (writes_here (writes_then (name_writes name (spelled_offset t.offset ++ []) h.allowed (grind (arith, nat_tests, offset_begins)))
+    (writes_last (offset_writes [] (tt, tt, tt) t.offset w) (grind (arith, type_is)))))
 rule_writes extended (rules.Alternate a) fits ((m, s), (n, d)) (start, end) =
     let first : name_of a.std ≡ m = ap name_or_none s.named in let second : name_of a.dst ≡ n = ap name_or_none d.named in
     let std = a.std.offset in let dst = a.dst.offset in let tail = spelled_name n ++ from_offset a in
     rw (first, second, append_assoc (spelled_name m) (spelled_offset std) tail)
     (writes_here
-    (writes_then (name_writes m _ s.allowed (rw append_assoc (no_letter (offset_begins std (tail ++ []) fits.within.std_offset))))
-    (writes_then (offset_writes _ (rw append_assoc (name_stops n (from_offset a ++ []) d.allowed)) std fits.within.std_offset)
-    (writes_more (rw append_assoc (not_empty (name_begins n (from_offset a ++ []) d.allowed)))
+    (writes_then (name_writes m _ s.allowed (grind (arith, nat_tests, append_assoc, offset_begins)))
+    (writes_then (offset_writes _ (grind (arith, append_assoc, name_stops)) std fits.within.std_offset)
+    (writes_more (grind (arith, append_assoc, name_begins))
     (writes_here
-    (writes_then (name_writes n _ d.allowed (rw append_assoc (dst_ends_name std dst (days_of a ++ []) fits.within.dst_offset)))
+    (writes_then (name_writes n _ d.allowed (grind (arith, append_assoc, dst_ends_name)))
     (rw (← append_assoc (spelled_dst_offset std dst) (comma ∷ []) (days_of a)) (writes_then (dst_offset_writes std dst (days_of a ++ []) fits.within.dst_offset)
     (writes_last (days_write extended a fits start end) (
       tt,
@@ -127,13 +120,13 @@ module _ (rule : TransitionRule) (fits : IsRule rule) where
 
   module _ (named : CanBeSpelled rule) where
     pub rule_spelled : (extended : Bool) → AreTimesOf extended rule → IsTzText extended (spelled_rule rule) rule
-    rule_spelled extended times = grind (arith, ints, nat_tests, append-nil, rule_writes)
+    rule_spelled extended times = grind (arith, append-nil, rule_writes)
 
     pub rule_pairs : AreInPairs (spelled_rule rule)
     rule_pairs = rw append-nil at ((rule_writes true rule fits named times_extended).pairs tt)
 
     pub text_are : AreTextBytes (spelled_rule rule)
-    text_are = (rule_writes true rule fits named times_extended).bytes
+    text_are = grind (arith, rule_writes, times_extended)
 
     -- the text has extensions if one without doesn't have room for the times
     pub written : (plain : Bool) → ((plain ≡ true) ↔ AreTimesOf false rule) → IsWrittenText rule (spelled_rule rule) (not plain)
@@ -150,7 +143,7 @@ module _ (rule : TransitionRule) (fits : IsRule rule) where
 
   module _ (text : List ℕ) (extended : Bool) (h : IsWrittenText rule text extended) where
     pub rule_text : text ≡ spelled_rule rule
-    rule_text = grind (arith, ints, nat_tests, text_is, rule_named, text_once)
+    rule_text = grind (arith, text_is, text_once, rule_named)
 
     -- a text has extensions if the rule's times need them
     pub extensions : (extended ≡ true) ↔ (¬ (AreTimesOf false rule))

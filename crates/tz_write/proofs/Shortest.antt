@@ -27,10 +27,10 @@ best_nothing (b ∷ bs) = inr (omega arith)
 
 module _ {bytes rest : List ℕ} where
   pub front_nothing : bytes ≡ rest → Front [] bytes rest
-  front_nothing e = record { front = []; whole = e; best = λ _. inl refl }
+  front_nothing e = grind arith
 
   front_any : {a : List ℕ} → Front a bytes rest → Front [] bytes rest
-  front_any p = record { front = p.front; whole = p.whole; best = λ _. best_nothing p.front }
+  front_any p = grind (arith, best_nothing)
 
   front_byte : {t : ℕ} → bytes ≡ t ∷ rest → Front (t ∷ []) bytes rest
   front_byte {t = t} e = record { front = t ∷ []; whole = e; best = λ _. inl refl }

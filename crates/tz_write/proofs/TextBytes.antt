@@ -1,8 +1,8 @@
 -- Texts that spell a value, made of their pieces. Their bytes are letters, digits, and those of `+ - , . / : < >`: so they are ASCII, and
 -- have no white space.
 use Rattle.tz_base.specs.{Grammar.{At, Byte, Check, Ended, Grammar, Here, Marked, Nothing, Optional, Then}, Refusals.{Refusal}, Tests.{Test}}
-use Rattle.tz_write.proofs.Words.{AllDigits, AllOf, AreInPairs, BeginsBare, Bool, EndsBare, IsTrimmed, List, Spells, TwoDigits, Without, and_parts, append-nil}
-use Rattle.tz_write.proofs.Words.{HasNoZero, NoneFirst, append_assoc, arith, colon, comma, cond, dot, false, greater, inl, inr, is_ascii_whitespace, is_digit}
+use Rattle.tz_write.proofs.Words.{AllDigits, AllOf, AreInPairs, BeginsBare, Bool, EndsBare, IsTrimmed, List, Spells, TwoDigits, Without, append-nil}
+use Rattle.tz_write.proofs.Words.{HasNoZero, NoneFirst, append_assoc, arith, colon, comma, cond, dot, false, greater, is_ascii_whitespace, is_digit}
 use Rattle.tz_write.proofs.Words.{is_name_byte, less, nat_tests, not, refl, slash, sym, true, ℕ, [], ◌&&◌, ◌++◌, ◌==◌, ◌||◌, ◌∷◌, ◌<◌, ◌≡◌, ◌≢◌}
 
 -- a letter, a digit or one of the signs
@@ -14,7 +14,7 @@ AreTextBytes = AllOf is_text_byte
 
 -- what holds of each byte
 module _ (p : ℕ → Bool) where
-  pub all_append : (a b : List ℕ) → AllOf p a → AllOf p b → AllOf p (a ++ b)
+  all_append : (a b : List ℕ) → AllOf p a → AllOf p b → AllOf p (a ++ b)
   all_append [] b h k = k
   all_append (x ∷ xs) b h k = (h.0, all_append xs b h.1 k)
 
@@ -60,25 +60,25 @@ sign_is t h = grind (arith, nat_tests)
 -- x is spelled before that rest
 module _ {X : Type 0} {x : X} {rest : List ℕ} where
   pub writes_nothing : {v : X} → x ≡ v → Writes (Nothing v) [] x rest
-  writes_nothing same = record { spelled = (same, refl); bytes = tt; pairs = λ r. r }
+  writes_nothing same = grind arith
 
   pub writes_check : {P : Type 0} {test : Test P} {refusal : Refusal} → P → Writes (Check P test refusal x) [] x rest
-  writes_check h = record { spelled = (h, refl, refl); bytes = tt; pairs = λ r. r }
+  writes_check h = grind arith
 
   -- the text a spells it
   module _ {a : List ℕ} where
     pub writes_then : {Y : Type 0} {g : Grammar Y} {f : Y → Grammar X} {b : List ℕ} {y : Y} → Writes g b y (a ++ rest) → Writes (f y) a x rest
         → Writes (Then g f) (b ++ a) x rest
-    writes_then {b = b} {y = y} p q = grind (arith, nat_tests, append_assoc, all_append)
+    writes_then p q = grind (arith, nat_tests, append_assoc, all_append)
 
     -- what comes last has no bytes
     pub writes_last : {Y : Type 0} {g : Grammar Y} {f : Y → Grammar X} {y : Y} → Writes g a y rest → Spells (f y) rest x rest → Writes (Then g f) a x rest
-    writes_last {y = y} p q = record { spelled = (y, rest, p.spelled, q); bytes = p.bytes; pairs = p.pairs }
+    writes_last p q = grind arith
 
     -- what comes first has none either
     pub writes_first : {Y : Type 0} {g : Grammar Y} {f : Y → Grammar X} (y : Y) → Spells g (a ++ rest) y (a ++ rest) → Writes (f y) a x rest
         → Writes (Then g f) a x rest
-    writes_first y p q = record { spelled = (y, a ++ rest, p, q.spelled); bytes = q.bytes; pairs = q.pairs }
+    writes_first y p q = grind arith
 
     -- a fault has a place, and what is spelled has none
     pub writes_here : {f : List ℕ → Grammar X} → Writes (f (a ++ rest)) a x rest → Writes (Here f) a x rest
@@ -88,20 +88,20 @@ module _ {X : Type 0} {x : X} {rest : List ℕ} where
     writes_at p = assumption
 
     pub writes_byte : {t : ℕ} {f : Unit {0} → Grammar X} → is_sign t ≡ true → Writes (f tt) a x rest → Writes (Then (Byte t) f) (t ∷ a) x rest
-    writes_byte {t = t} sign p = grind (arith, nat_tests, sign_is)
+    writes_byte sign p = grind (arith, nat_tests, sign_is)
 
     module _ {g h : Grammar X} where
       pub writes_mark : {t : ℕ} → is_sign t ≡ true → Writes g a x rest → Writes (Marked t g h) (t ∷ a) x rest
-      writes_mark {t = t} sign p = grind (arith, nat_tests, sign_is)
+      writes_mark sign p = grind (arith, nat_tests, sign_is)
 
       pub writes_colon : TwoDigits (a ++ rest) → Writes g a x rest → Writes (Marked colon g h) (colon ∷ a) x rest
-      writes_colon two p = record { spelled = inl (a ++ rest, refl, p.spelled); bytes = (refl, p.bytes); pairs = λ r. ((λ _. two), p.pairs r) }
+      writes_colon two p = grind arith
 
       pub writes_other : {t : ℕ} → Without t (a ++ rest) → Writes h a x rest → Writes (Marked t g h) a x rest
-      writes_other none p = record { spelled = inr (none, p.spelled); bytes = p.bytes; pairs = p.pairs }
+      writes_other none p = grind arith
 
       pub writes_more : a ++ rest ≢ [] → Writes h a x rest → Writes (Ended g h) a x rest
-      writes_more some p = record { spelled = inr (some, p.spelled); bytes = p.bytes; pairs = p.pairs }
+      writes_more some p = grind arith
 
     -- a piece that may be left out, and is if the test passes
     pub writes_optional : {tag : ℕ} {v : X} {g : Grammar X} (b : Bool) → (b ≡ true → x ≡ v) → Without tag rest
