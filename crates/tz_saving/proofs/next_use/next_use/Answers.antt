@@ -1,4 +1,4 @@
-use Rattle.tz_saving.proofs.Words.{SFits, change_held, false≢true, refl, rules, sym, to_z-of_z, w64, ◌∙◌, arith, ◌≡◌}
+use Rattle.tz_saving.proofs.Words.{SFits, change_held, refl, rules, to_z-of_z, w64, arith, ◌≡◌}
 use Rattle.tz_saving.proofs.Walks.{far_use, unused, unused_from, unused_on, used_on}
 use Rattle.tz_saving.proofs.next_use.next_use.Goals as goal
 
@@ -28,7 +28,7 @@ changes-preserved c =
     let fa : SFits w64 c.in-Some.change.at = search rules in
     simp to_z-of_z (unused_on c.args.zone.now c.args.local.now c.args.second _ (change_held c.in-Some.change) _ c.changes-test.true
     (simp to_z-of_z at c.changes.invariant)
-    c.in-Some.ensures (λ e. false≢true (sym c.if-is_same_type.false ∙ c.is_same_type.ensures.1 e)))
+    c.in-Some.ensures (λ e. let same = c.is_same_type.ensures.1 e in cc))
 
 pub returns : goal.returns
 returns c =

@@ -1,4 +1,4 @@
-use Rattle.tz_saving.proofs.Words.{SFits, change_held, rules, sym, to_z-of_z, w32, w64, ◌∙◌, arith, ◌≡◌}
+use Rattle.tz_saving.proofs.Words.{SFits, change_held, rules, to_z-of_z, w32, w64, arith, ◌≡◌}
 use Rattle.tz_saving.proofs.Walks.{far_on, found_on, goes_on, none_on, starts_on}
 use Rattle.tz_saving.proofs.sides.first_standard_after.Goals as goal
 
@@ -17,7 +17,7 @@ changes-preserved c =
     let fits = c.ranges.second in
     let fa : SFits w64 c.in-Some.change.at = search rules in
     simp to_z-of_z (goes_on c.args.zone.now c.args.second _ c.valid_law.ensures.valid c.valid_law.ensures.rule _ c.changes-test.true
-    (change_held c.in-Some.change) (simp to_z-of_z at c.changes.invariant) c.in-Some.ensures (sym c.is_dst.ensures ∙ c.if-is_dst.true))
+    (change_held c.in-Some.change) (simp to_z-of_z at c.changes.invariant) c.in-Some.ensures (cc))
 
 pub returns-else-is_dst : goal.returns-else-is_dst
 returns-else-is_dst c =
@@ -26,7 +26,7 @@ returns-else-is_dst c =
     simp to_z-of_z (rw c.offset.ensures.value
     (found_on c.args.zone.now c.args.second _ c.valid_law.ensures.valid c.valid_law.ensures.rule _ c.changes-test.true (change_held c.in-Some.change)
     (simp to_z-of_z at c.changes.invariant) c.in-Some.ensures
-    (sym c.is_dst.ensures ∙ c.if-is_dst.false)))
+    (cc)))
 
 pub returns : goal.returns
 returns c =

@@ -1,4 +1,4 @@
-use Rattle.tz_saving.proofs.Words.{SFits, change_held, pos, rules, sym, to_z-of_z, w32, w64, ◌-ℤ◌, ◌∙◌, arith, ◌≡◌}
+use Rattle.tz_saving.proofs.Words.{SFits, change_held, pos, rules, to_z-of_z, w32, w64, ◌-ℤ◌, arith, ◌≡◌}
 use Rattle.tz_saving.proofs.Walks.{far_back, found_back, goes_back, none_back, starts_back}
 use Rattle.tz_saving.proofs.sides.standard_before.Goals as goal
 
@@ -17,7 +17,7 @@ changes-preserved c =
     let fits = c.ranges.second in
     let back = goes_back c.args.zone.now c.args.second _ c.valid_law.ensures.valid c.valid_law.ensures.rule _ c.changes-test.true (change_held c.in-Some.change)
     (simp to_z-of_z at c.changes.invariant) c.in-Some.ensures
-    (sym c.is_dst.ensures ∙ c.if-is_dst.true) in
+    (cc) in
     let fa : SFits w64 c.in-Some.change.at = search rules in
     let fb : SFits w64 (c.in-Some.change.at -ℤ pos 1) = back.here.fits in
     simp to_z-of_z back
@@ -29,7 +29,7 @@ returns-else-is_dst c =
     simp to_z-of_z (rw c.offset.ensures.value
     (found_back c.args.zone.now c.args.second _ c.valid_law.ensures.valid c.valid_law.ensures.rule _ c.changes-test.true (change_held c.in-Some.change)
     (simp to_z-of_z at c.changes.invariant) c.in-Some.ensures
-    (sym c.is_dst.ensures ∙ c.if-is_dst.false)))
+    (cc)))
 
 pub returns : goal.returns
 returns c =
