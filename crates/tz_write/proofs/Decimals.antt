@@ -2,8 +2,8 @@
 use Rattle.std.proofs.lemmas.Fmt.{decimal-digits_value, decimal_nonempty, digits_decimal, digits_value-decimal}
 use Rattle.std.proofs.lemmas.Str.Parse.{IsNumeralModel, numerals_by_fold}
 use Rattle.tz_base.specs.Grammar.{Number}
-use Rattle.tz_write.proofs.Words.{AllDigits, IsNumber, List, NoneFirst, TwoDigits, ap, arith, both_ways, cases_eq, colon, decimal, inl, inr, is_digit, length}
-use Rattle.tz_write.proofs.Words.{nat_tests, spelled_pair, refl, rules, sym, true, value_from, ℕ, [], ◌%◌, ◌++◌, ◌+◌, ◌/◌, ◌<◌, ◌^◌, ◌∙◌, ◌∷◌, ◌≡◌, ◌≤◌}
+use Rattle.tz_write.proofs.Words.{AllDigits, IsNumber, List, NoneFirst, TwoDigits, arith, both_ways, cases_eq, colon, decimal, inl, inr, is_digit, length}
+use Rattle.tz_write.proofs.Words.{nat_tests, spelled_pair, refl, rules, true, value_from, ℕ, [], ◌%◌, ◌++◌, ◌+◌, ◌/◌, ◌<◌, ◌^◌, ◌∷◌, ◌≡◌, ◌≤◌}
 use Rattle.tz_write.proofs.{Shortest.{Best, Front}, TextBytes.{Writes, digits_are, pairs_over}}
 
 own : IsNumeralModel AllDigits (value_from 0)
@@ -43,10 +43,10 @@ module _ (max n : ℕ) (rest : List ℕ) (l : n ≤ max) (none : NoneFirst is_di
 -- zeros in front may go, and then the digits are those of the number
 decimal_best : (n : ℕ) (ds : List ℕ) → n < 2 ^ 64 → AllDigits ds → 0 < length ds → value_from 0 ds ≡ n → Best (decimal n) ds
 decimal_best n [] h each some value = absurd (omega arith)
-decimal_best n (d ∷ []) h each some value = inl (sym (decimal-digits_value own (d ∷ []) each some (λ _. refl) (omega arith)) ∙ ap decimal value)
+decimal_best n (d ∷ []) h each some value = inl (cc (decimal-digits_value own (d ∷ []) each some (λ _. refl) (omega arith)))
 decimal_best n (d ∷ e ∷ ds) h each some value = elim (cases_eq d 48) [
   | inl zero ↦ let b = decimal_best n (e ∷ ds) h each.1 (omega arith) (rw zero at value) in inr (grind arith)
-  | inr other ↦ inl (sym (decimal-digits_value own (d ∷ e ∷ ds) each some (λ z. absurd (other z)) (omega arith)) ∙ ap decimal value)
+  | inr other ↦ inl (cc (decimal-digits_value own (d ∷ e ∷ ds) each some (λ z. absurd (other z)) (omega arith)))
 ]
 
 pub number_front : {max n : ℕ} {bytes rest : List ℕ} → max < 2 ^ 64 → IsNumber max bytes n rest → Front (decimal n) bytes rest

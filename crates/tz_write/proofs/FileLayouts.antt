@@ -3,8 +3,8 @@ use Rattle.tz_write.specs.FileLayouts.{ArePlaced, In_order, IsFirstPlaced, IsLai
 use Rattle.tz_write.proofs.Words.{All, All-cons, All-nil, All-weaker, AreNamesIn, AreNotPlacedBefore, AreShortest, Bool, Decides, Decides-by_and, HasNoZero}
 use Rattle.tz_write.proofs.Words.{HasPlace, HavePlaces, IsNameOrNone, IsNamedIn, List, LocalType, MatchOption, Option, StandsAt, ap, append_assoc, arith}
 use Rattle.tz_write.proofs.Words.{before_last, before_zero, cases_lt, drop-append_seam, ends, get_or, inl, inr, laid, length, length-append, list_all}
-use Rattle.tz_write.proofs.Words.{name_of, nat_lt, nat_tests, nil_from_length, place_of, refl, suc, sym, with_text, zero, ℕ, [], ◌&&◌, ◌*◌, ◌++◌, ◌+◌, ◌<◌}
-use Rattle.tz_write.proofs.Words.{◌∙◌, ◌∷◌, ◌≡◌, ◌≤◌, ◌⊎◌}
+use Rattle.tz_write.proofs.Words.{name_of, nat_lt, nat_tests, nil_from_length, place_of, refl, suc, with_text, zero, ℕ, [], ◌&&◌, ◌*◌, ◌++◌, ◌+◌, ◌<◌, ◌∷◌}
+use Rattle.tz_write.proofs.Words.{◌≡◌, ◌≤◌, ◌⊎◌}
 use borrow.Author.Count.{below_more}
 use Rattle.tz_write.proofs.FileRoom.{Behind, Ends, Given, Has_end, In, In_front, Is_end, Room, Stands, before_filled, before_keeps, before_passed, by_text}
 use Rattle.tz_write.proofs.FileRoom.{Filled, Out, added, end_in, end_stands, ends_decided, ends_nothing, in_stands, kept, meet, no_front}
@@ -102,9 +102,9 @@ module _ (others : List ℕ) (m : LocalType) (sm : Served others m) where
   unfolding key_in
   where_is t st top =
       let a = sm.stands in let b = st.stands in let m_size = at_size a in let t_size = at_size b in
-      elim (meet a.before (name_of m) a.after b.before (name_of t) b.after a.ends b.ends (sym a.whole ∙ b.whole)) [
+      elim (meet a.before (name_of m) a.after b.before (name_of t) b.after a.ends b.ends (cc)) [
         | In_front e h ↦ inl (record { before = b.before; after = e; whole = h })
-        | Behind e h ↦ absurd (omega (arith, ap length h, length-append e (name_of t ++ (0 ∷ b.after)), length-append (name_of t) (0 ∷ b.after)))
+        | Behind e h ↦ absurd (grind (arith, length-append))
         | Is_end f h l ↦ inr (record { ends = record { front = f; is = h }; at = omega (arith, ap length l) })
         | Has_end f h l ↦ grind (arith, no_front)
       ]
@@ -155,7 +155,7 @@ module _ (others : List ℕ) (m : LocalType) (sm : Served others m) where
     in_order_in i d l =
         let whole = added sm.stands.before (name_of m) in
         let stands : All (λ t. Stands whole (name_of t)) types = λ i d l. stands_with (get_or types i d) (places i d l) in
-        let short : length whole ≤ 263 = omega (arith, length-append sm.stands.before (name_of m ++ 0 ∷ []), length-append (name_of m) (0 ∷ [])) in
+        let short : length whole ≤ 263 = grind (arith, length-append) in
         let t = get_or types i d in let size = (s i d l).size in
         let p = before_passed [] whole types (λ i d l. record { none = (s i d l).stands.ends; stands = λ free. stands i d l }) in
         elim size.1 [
@@ -249,8 +249,7 @@ module _ (types : List LocalType) (some : 0 < length types) (names : AreNames ty
 
 -- ---- they have room
 size_with : (bytes text : List ℕ) → length bytes ≤ 263 → length (with_text bytes text) ≤ 263
-size_with bytes text h = by_text bytes text (λ d. length d ≤ 263) h
-    (λ _ room. omega (arith, length-append bytes (text ++ 0 ∷ []), length-append text (0 ∷ [])))
+size_with bytes text h = by_text bytes text (λ d. length d ≤ 263) h (λ _ room. grind (arith, length-append))
 
 size_laid : (last : List ℕ) (types : List LocalType) → length (laid last types) ≤ 263
 unfolding laid

@@ -5,10 +5,10 @@ use Rattle.tz_base.proofs.RunLaws.{all_of}
 use Rattle.tz_write.proofs.TextBytes.{names_are, no_zeros}
 use Rattle.tz_write.proofs.Words.{All, All-more, Fits-of_z, HasNoZero, HasPlace, IsEntry, IsNameOrNone, HasTimeOf64Bits, IsType, LeapSecond, List, LocalType}
 use Rattle.tz_write.proofs.Words.{Option, SpellTransitions, SpellTypes, Spells, SpellsLeapSecond, StandsAt, Transition, and_parts, ap, arith, be_u32, begins}
-use Rattle.tz_write.proofs.Words.{cast_unsigned, cond, drop, drop_more, eqb-true, false, flat_map, flat_map_more, from_be_bytes-to_be_bytes_4}
-use Rattle.tz_write.proofs.Words.{from_be_bytes-to_be_bytes_8, get_or, index_bytes, leap_bytes, length, length-append, ltb-true, name_or_none, nat_eq, nat_lt}
-use Rattle.tz_write.proofs.Words.{number_bytes, place_of, refl, signed, signed_bytes, starts_is, starts_with, suc, sym, take, time_bytes, true, type_bytes, ℕ}
-use Rattle.tz_write.proofs.Words.{ℤ, [], ◌*◌, ◌++◌, ◌+◌, ◌<◌, ◌^◌, ◌∙◌, ◌∷◌, ◌≡◌}
+use Rattle.tz_write.proofs.Words.{cond, drop, drop_more, eqb-true, false, flat_map, flat_map_more, from_be_bytes-to_be_bytes_4, from_be_bytes-to_be_bytes_8}
+use Rattle.tz_write.proofs.Words.{get_or, index_bytes, leap_bytes, length, length-append, ltb-true, name_or_none, number_bytes, place_of, refl, signed}
+use Rattle.tz_write.proofs.Words.{signed_bytes, starts_is, starts_with, suc, sym, take, time_bytes, true, type_bytes, ℕ, ℤ, [], ◌*◌, ◌++◌, ◌+◌, ◌<◌, ◌^◌, ◌∙◌}
+use Rattle.tz_write.proofs.Words.{◌∷◌, ◌≡◌}
 
 -- a count
 pub number_is : (n : ℕ) (rest : List ℕ) → n < 2 ^ 32 → Spells be_u32 (number_bytes n ++ rest) n rest
@@ -18,11 +18,11 @@ number_is n rest h = (number_bytes n, rest, (refl, refl), (sym (from_be_bytes-to
 -- numbers in two's complement
 signed_32 : (z : ℤ) → FitsSigned w32 z → signed w32 (signed_bytes w32 z) ≡ z
 unfolding signed signed_bytes
-signed_32 z h = rw (from_be_bytes-to_be_bytes_4 (cast_unsigned w32 z) (omega (arith, Fits-of_z {w = w32} h))) (to_z-of_z w32 z h)
+signed_32 z h = grind (arith, from_be_bytes-to_be_bytes_4, Fits-of_z {w = w32} h, to_z-of_z)
 
 signed_64 : (z : ℤ) → FitsSigned w64 z → signed w64 (signed_bytes w64 z) ≡ z
 unfolding signed signed_bytes
-signed_64 z h = rw (from_be_bytes-to_be_bytes_8 (cast_unsigned w64 z) (omega (arith, Fits-of_z {w = w64} h))) (to_z-of_z w64 z h)
+signed_64 z h = grind (arith, from_be_bytes-to_be_bytes_8, Fits-of_z {w = w64} h, to_z-of_z)
 
 -- ---- records laid end to end
 module _ {X : Type 0} (size : ℕ) (Spells : List ℕ → X → Type 0) where
@@ -51,7 +51,7 @@ leaps_are leaps h = grind (arith, records_are, leap_is)
 -- ---- the place of a text
 pub begins_is : (text bytes : List ℕ) → begins text bytes ≡ true → bytes ≡ text ++ (0 ∷ drop (length text + 1) bytes)
 unfolding begins
-begins_is text bytes h = grind (arith, and_parts, starts_with, nat_eq, nat_lt, starts_is, drop_more, ltb-true, eqb-true)
+begins_is text bytes h = grind (arith, and_parts, starts_with, starts_is, drop_more, ltb-true, eqb-true)
 
 pub has_text : (text designations : List ℕ) → HasNoZero text → place_of text designations < length designations
     → StandsAt designations (place_of text designations) text

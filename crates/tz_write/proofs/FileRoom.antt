@@ -1,8 +1,8 @@
 -- Texts in designations, and how much room those take: each text that is put in has bytes of its own in any others that have the texts.
 use Rattle.tz_write.proofs.Words.{All, Decides, Decides-eqb, HasNoZero, List, LocalType, ℕ, ap, append-nil, append_assoc, arith, before_last, begins}
 use Rattle.tz_write.proofs.Words.{cases_lt, ends, ends_is, eq-eqb, get_or, get_or_at, inl, inr, length, length-append, name_of, nat_eq, nat_tests, place_of}
-use Rattle.tz_write.proofs.Words.{refl, starts_is, starts_with, suc, sym, true, with_text, with_text_of, with_texts, zero, [], ◌++◌, ◌+◌, ◌<◌, ◌∙◌, ◌∷◌, ◌≡◌}
-use Rattle.tz_write.proofs.Words.{◌≤◌, ◌⊎◌}
+use Rattle.tz_write.proofs.Words.{refl, starts_is, starts_with, suc, sym, true, with_text, with_text_of, with_texts, zero, [], ◌++◌, ◌+◌, ◌<◌, ◌∷◌, ◌≡◌, ◌≤◌}
+use Rattle.tz_write.proofs.Words.{◌⊎◌}
 use Rattle.tz_write.proofs.FileRecords.{begins_is, has_text}
 
 -- a text and its 0 byte are in the bytes
@@ -170,7 +170,7 @@ before_keeps P step last types h = let all = λ (n : ℕ). keeps_all P last n st
 -- ---- room in other bytes
 pub no_front : (m text : List ℕ) → length (m ++ text) ≤ length text → m ++ text ≡ text
 no_front [] text l = refl
-no_front (x ∷ xs) text l = absurd (omega (arith, length-append xs text))
+no_front (x ∷ xs) text l = grind (arith, length-append)
 
 -- y between c and d is left when the text between b and a is cut out
 module _ (last text y b a c d : List ℕ) (free : Ends last text → ⊥) (apart : Ends text y → ⊥) (small : (length y ≤ length text) ⊎ Ends last y) where
@@ -179,7 +179,7 @@ module _ (last text y b a c d : List ℕ) (free : Ends last text → ⊥) (apart
   cut (Behind e h) = record { before = b ++ e; after = d; whole = cc (append_assoc b e (y ++ (0 ∷ d))) }
   cut (Is_end m h l) = absurd (apart (record { front = m; is = h }))
   cut (Has_end m h l) = elim small [
-    | inl s ↦ absurd (apart (record { front = []; is = sym (h ∙ no_front m text (omega (arith, ap length h))) }))
+    | inl s ↦ absurd (apart (record { front = []; is = cc (no_front m text (omega (arith, ap length h))) }))
     | inr k ↦ absurd (free (record { front = k.front ++ m; is = cc (append_assoc k.front m text) }))
   ]
 
@@ -211,7 +211,7 @@ module _ (last others : List ℕ) where
         rest = λ y nothing small there still.
             let q = r.rest y nothing small there (let l = in_longer bytes (text ++ 0 ∷ []) y in grind arith) in
             cut last text y s.before s.after q.before q.after turn.1 (λ e. absurd (omega (arith, put_in bytes text y e))) (rw (← turn.0) at small)
-            (meet s.before text s.after q.before y q.after g.none nothing (sym s.whole ∙ q.whole));
+            (meet s.before text s.after q.before y q.after g.none nothing (cc));
       }
 
   type_room : (bytes : List ℕ) (size : ℕ) (t : LocalType) → Given t → Room bytes size → Room (with_text_of last size bytes t) size

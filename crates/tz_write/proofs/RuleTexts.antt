@@ -58,7 +58,7 @@ type_is name dst t h = grind arith
 
 -- no letter follows a name, and no digit or colon an offset
 name_stops : (name rest : List ℕ) → IsName name → Stops (spelled_name name ++ rest)
-name_stops name rest h = let first = name_begins name rest h in grind (arith, nat_tests)
+name_stops name rest h = grind (arith, nat_tests, name_begins)
 
 dst_ends_name : (std dst : ℤ) (rest : List ℕ) → IsWithinDay dst → NoneFirst is_letter (spelled_dst_offset std dst ++ (comma ∷ rest))
 dst_ends_name std dst rest h =
@@ -134,8 +134,8 @@ module _ (rule : TransitionRule) (fits : IsRule rule) where
 
     text_is : (needed : Bool) × IsWrittenText rule (spelled_rule rule) needed
     text_is = elim (plain_times rule) [
-      | inl p ↦ (false, written true ((λ e. p), λ h. refl))
-      | inr n ↦ (true, written false ((λ e. absurd (both_ways false refl e)), λ h. absurd (n h)))
+      | inl p ↦ (false, grind (arith, written true))
+      | inr n ↦ (true, grind (arith, written false))
     ]
 
     pub text_some : (text : List ℕ) × (needed : Bool) × IsWrittenText rule text needed

@@ -4,7 +4,7 @@ pub use Rattle.std.proofs.lemmas.Bool.{and_from, both_ways, cases_eq, eq-eqb, eq
 pub use Rattle.std.proofs.lemmas.{List.{drop_more, flat_map_more, get_or_append_left, get_or_at}}
 pub use Rattle.std.proofs.lemmas.List.{Elements.{All-cons, All-more, All-nil, All-tail, All-weaker}, Sums.{fold_more}}
 pub use Rattle.std.proofs.lemmas.{Nat.{from_be_bytes-to_be_bytes_4, from_be_bytes-to_be_bytes_8}, Result.{on_err_weaker}, Slice.Eq.{ends_is, starts_is}}
-pub use Rattle.std.{proofs.lemmas.Str.{IsUtf8-from_ascii, Ascii.{IsAscii-from_all}}, specs.{Bool.{Decides}, Int.{cast_unsigned}, List.{flat_map}}}
+pub use Rattle.std.{proofs.lemmas.Str.{IsUtf8-from_ascii, Ascii.{IsAscii-from_all}}, specs.{Bool.{Decides}, List.{flat_map}}}
 pub use Rattle.std.specs.List.{fold}
 pub use Rattle.naive_base.proofs.Words.{decimal, ◌^◌}
 pub use Rattle.tz_base.specs.{Fronts.{AllDigits, AllOf, NoneFirst, is_digit, value_from}, Grammar.{IsNumber, Without}, Names.{IsName, is_name_byte}}

@@ -27,8 +27,8 @@ trimmed_pairs bytes text t pairs = grind (arith, pairs_before, pairs_rest)
 -- nothing at both ends, or a longer text
 trimmed_or_longer : (before text after : List ℕ) → (before ++ (text ++ after) ≡ text) ⊎ (length text < length (before ++ (text ++ after)))
 trimmed_or_longer [] text [] = inl (append-nil text)
-trimmed_or_longer [] text (c ∷ cs) = inr (omega (arith, length-append text (c ∷ cs)))
-trimmed_or_longer (b ∷ bs) text after = inr (omega (arith, length-append text after, length-append bs (text ++ after)))
+trimmed_or_longer [] text (c ∷ cs) = inr (grind (arith, length-append))
+trimmed_or_longer (b ∷ bs) text after = inr (grind (arith, length-append))
 
 best_of_trimmed : (text bytes trimmed : List ℕ) → IsTrimmed bytes trimmed → Best text trimmed → Best text bytes
 best_of_trimmed text bytes trimmed t best = grind (arith, trimmed_or_longer)
