@@ -3,9 +3,9 @@ use Rattle.tz_write.specs.FileBytes.{block_bytes, footer_bytes, least_block, lea
 use Rattle.tz_info.specs.declared.file.header.{Place.TheVariants.{First, Second}, Version.TheVariants.{Three, Two}}
 use Rattle.tz_write.proofs.Words.{All, All-cons, All-nil, Bool, Counts, CountsAgree, FilePieces, HasCounts, HasPieces, HavePlaces, IsAscii-from_all, IsFooter}
 use Rattle.tz_write.proofs.Words.{IsSound, IsTzFile, IsUtf8-from_ascii, List, LocalType, Option, Parts, Place, SayZone, SaysRule, Spells, TransitionRule}
-use Rattle.tz_write.proofs.Words.{Version, Zone, ℕ, after_first_block, ap, arith, block, counts_bytes, counts_test, false, file, file_bytes, first_half}
-use Rattle.tz_write.proofs.Words.{get_or, header, header_bytes, later_pieces, later_version, length, length-map, magic, number_bytes, refl, second_half}
-use Rattle.tz_write.proofs.Words.{six_counts, true, tzif, version, [], ◌++◌, ◌<◌, ◌^◌, ◌∙◌, ◌∷◌, ◌≢◌, ◌≤◌}
+use Rattle.tz_write.proofs.Words.{Version, Zone, ℕ, after_first_block, arith, block, counts_bytes, counts_test, false, file, file_bytes, first_half, get_or}
+use Rattle.tz_write.proofs.Words.{header, header_bytes, later_pieces, later_version, length, length-map, magic, number_bytes, refl, second_half, six_counts}
+use Rattle.tz_write.proofs.Words.{true, tzif, version, [], ◌++◌, ◌<◌, ◌^◌, ◌∷◌, ◌≢◌, ◌≤◌}
 use Rattle.tz_write.proofs.{FileRecords.{leaps_are, number_is, records_length, transitions_are, types_are}, TextBytes.{AreTextBytes, begins_bare, ends_bare}}
 use Rattle.tz_write.proofs.TextBytes.{limits, no_zeros}
 
@@ -101,10 +101,8 @@ module _ (extended : Bool) (text d : List ℕ) (z : Zone) (size : length d ≤ 2
   second_block : (rest : List ℕ) → Spells (block 8 (zone_counts d z)) (block_bytes (zone_parts d z) rest) (zone_parts d z) rest
   unfolding block
   second_block rest =
-      let transitions = transitions_are z.transitions sound.times in let times = records_length 8 _ _ z.transitions transitions.times_are in
-      let indexes = ap length transitions.indexes_are ∙ length-map z.transitions (λ t. t.type_index) in
-      let types = records_length 6 _ _ z.types (types_are d z.types places sound.types) in
-      let leaps = records_length 12 _ _ z.leaps (leaps_are z.leaps sound.leaps) in grind arith
+      let transitions = transitions_are z.transitions sound.times in let types = types_are d z.types places sound.types in
+      let leaps = leaps_are z.leaps sound.leaps in grind (arith, records_length, length-map)
 
   second_is : Spells later_version (second_half extended text d z) (pieces_of extended text d z) []
   unfolding second_half pieces_of later_version

@@ -61,8 +61,7 @@ name_stops : (name rest : List ℕ) → IsName name → Stops (spelled_name name
 name_stops name rest h = grind (arith, nat_tests, name_begins)
 
 dst_ends_name : (std dst : ℤ) (rest : List ℕ) → IsWithinDay dst → NoneFirst is_letter (spelled_dst_offset std dst ++ (comma ∷ rest))
-dst_ends_name std dst rest h =
-    by_hour (λ s. NoneFirst is_letter (s ++ (comma ∷ rest))) std dst (λ _. refl) (grind (arith, nat_tests, offset_begins dst (comma ∷ rest) h))
+dst_ends_name std dst rest h = grind (arith, nat_tests, offset_begins, by_hour (λ s. NoneFirst is_letter (s ++ (comma ∷ rest))))
 
 days_write : (extended : Bool) (a : Alternate) → IsAlternateRule a → IsTextTime extended a.start.time → IsTextTime extended a.end.time
     → Writes (tz.days extended) (days_of a) (a.start, a.end) []
