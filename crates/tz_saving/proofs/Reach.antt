@@ -1,6 +1,7 @@
 -- Counts of clock changes: a walk from change to change uses up one at each step.
 use Rattle.tz_saving.proofs.Words.{Change, HasChanges, IsChange, IsFirstChange, IsLastChange, LocalType, arith, ints, pos, suc, zero, ℕ, ℤ, ◌-ℤ◌, ◌<ℤ◌, ◌≤ℤ◌}
 
+-- f says which type is in force at a second
 module _ (f : ℤ → LocalType → Type 0) where
   up_to : (n : ℕ) (v a b : ℤ) → a ≤ℤ b → HasChanges f n v a → HasChanges f n v b
   unfolding HasChanges

@@ -5,6 +5,7 @@ use Rattle.tz_saving.proofs.Words.{IsUnusedTo, IsValid, IsWithinReach, LocalType
 use Rattle.tz_saving.proofs.Words.{reach, refl, suc, true, type_once, w64, ℕ, ℤ, ◌-◌, ◌-ℤ◌, ◌<◌, ◌<ℤ◌, ◌≡◌, ◌≤ℤ◌}
 use Rattle.tz_saving.proofs.Reach.{back_adds, back_drops, has_none, has_one, on_adds, on_drops}
 
+-- in the zone z
 module _ (z : Zone) where
   -- the first change after r, and the last one up to r
   abbrev IsNext : ℤ → Change → Type 0
@@ -20,6 +21,7 @@ module _ (z : Zone) where
   flagged_one : (u v : ℤ) (t : LocalType) → IsFlagged (TypeAt z) u → u ≡ v → TypeAt z v t → t.dst ≡ true
   flagged_one u v t h e k = let same = type_once z u t h.type (rw e k) h.in_force_then in cc
 
+  -- at the second u the type t is in force, and has the flag
   module _ (u : ℤ) (t : LocalType) (fits : FitsSigned w64 u) (k : TypeAt z u t) (flag : t.dst ≡ true) where
     flagged : IsFlagged (TypeAt z) u
     flagged = record { fits = fits; type = t; in_force_then = k; flag = flag }
@@ -47,6 +49,7 @@ module _ (z : Zone) (u r : ℤ) where
     found_near : IsWithinReach (TypeAt z) u c.at
     found_near k = has_none (TypeAt z) (left - 1) c.at c.at (omega (arith, ints)) ((left_on c.at).1 k)
 
+  -- the zone is valid, and so is its rule
   module _ (valid : IsValid z) (limits : IsRuleOrNone z.rule) where
     -- ---- back
     -- if no change comes up to the second reached, each type has the flag
@@ -56,6 +59,7 @@ module _ (z : Zone) (u r : ℤ) where
         (λ l. let same = no_change z v r t h.type valid limits fits h.fits (omega (arith, ints)) none k h.in_force_then in cc)
         (λ m. w.within.each v t fits m to k)
 
+    -- some changes are left, and c is the last one up to r
     module _ (left : ℕ) (some : 0 < left) (c : Change) (h : IsBackTo (TypeAt z) left u r) (last : IsPrevious z r c) where
       since_change : (v : ℤ) (t : LocalType) → FitsSigned w64 v → v ≤ℤ u → c.at ≤ℤ v → TypeAt z v t → t.dst ≡ true
       since_change v t fits to from k = idle_back h v t fits to (grind (arith, ints)) k
@@ -98,6 +102,7 @@ module _ (z : Zone) (u r : ℤ) where
         (λ l. let same = no_change z r v h.type t valid limits h.fits fits (omega (arith, ints)) none h.in_force_then k in cc)
         (λ m. w.within.each v t fits from m k)
 
+    -- some changes are left, and c is the first one after r
     module _ (left : ℕ) (some : 0 < left) (c : Change) (h : IsOnTo (TypeAt z) left u r) (next : IsNext z r c) where
       until_change : (v : ℤ) (t : LocalType) → FitsSigned w64 v → u ≤ℤ v → v <ℤ c.at → TypeAt z v t → t.dst ≡ true
       until_change v t fits from until k = idle_on h v t fits from (grind (arith, ints)) k

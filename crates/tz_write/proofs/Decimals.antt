@@ -29,6 +29,7 @@ number_begins n rest h = digits_begin (decimal n) rest (digits_decimal own n h) 
 pub two_digits : (n : ℕ) (rest : List ℕ) → n < 100 → NoneFirst is_digit rest → TwoDigits ((48 + n / 10) ∷ (48 + n % 10) ∷ rest)
 two_digits n rest h none = grind (arith, nat_tests)
 
+-- the number n is within its limit, and no digit follows it
 module _ (max n : ℕ) (rest : List ℕ) (l : n ≤ max) (none : NoneFirst is_digit rest) where
   digits_write : (ds : List ℕ) → AllDigits ds → 0 < length ds → value_from 0 ds ≡ n → Writes (Number max) ds n rest
   digits_write ds each some value = grind (arith, digits_are, pairs_over)

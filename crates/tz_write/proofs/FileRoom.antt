@@ -237,6 +237,7 @@ module _ (last others : List ℕ) where
     pub inside : length others ≤ 263
         → All (λ t. size ≤ length (name_of t) → length (name_of t) ≤ 7 → (Ends last (name_of t) → ⊥) → In bytes (name_of t)) types
 
+  -- the others have the texts of all these types
   module _ (types : List LocalType) (g : All Given types) where
     pass : (size : ℕ) (bytes : List ℕ) → Passed types (suc size) bytes → Passed types size (with_texts last size bytes types)
     pass size bytes p = let r : Room bytes size = let wider = p.room in grind arith in record {

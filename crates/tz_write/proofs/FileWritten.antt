@@ -6,6 +6,7 @@ use Rattle.tz_write.proofs.Words.{second_half, true, ℕ, [], ◌<◌, ◌≡◌
 use Rattle.tz_write.proofs.{FileLayouts.{AreLaid, laid_of, laid_size}, FileLimits.{writable}, FileSpelled.{IsPlain, file_is}}
 use Rattle.tz_write.proofs.{RuleTexts.{extensions, rule_named, rule_text, text_are, text_begins, text_some}}
 
+-- that text is the footer of that rule
 module _ (rule : Option TransitionRule) (text : List ℕ) (extended : Bool) (footer : IsFooterText rule text extended) where
   pub footer_spelled : IsSpellableOrNone rule
   footer_spelled = grind (arith, rule_named)

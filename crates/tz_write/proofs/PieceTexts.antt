@@ -15,6 +15,7 @@ use Rattle.tz_write.proofs.TextBytes.{writes_mark, writes_nothing, writes_option
 use Rattle.tz_write.proofs.Clocks.{Stops, comma_stops, offset_begins, offset_front, offset_writes, time_front, time_plain, time_writes}
 use Rattle.tz_info.specs.TzGrammar as tz
 
+-- the test p passes on each byte
 module _ (p : ℕ → Bool) where
   all_from : (bs : List ℕ) → list_all p bs ≡ true → AllOf p bs
   all_from [] h = tt

@@ -113,10 +113,12 @@ both_plain start end = grind (arith, ints)
 plain_times : (rule : TransitionRule) → (AreTimesOf false rule) ⊎ (AreTimesOf false rule → ⊥)
 plain_times rule = grind (arith, both_plain)
 
+-- a rule that a zone can have
 module _ (rule : TransitionRule) (fits : IsRule rule) where
   pub times_extended : AreTimesOf true rule
   times_extended = grind (arith, ints, nat_tests)
 
+  -- some text spells it
   module _ (named : CanBeSpelled rule) where
     pub rule_spelled : (extended : Bool) → AreTimesOf extended rule → IsTzText extended (spelled_rule rule) rule
     rule_spelled extended times = grind (arith, append-nil, rule_writes)
@@ -140,6 +142,7 @@ module _ (rule : TransitionRule) (fits : IsRule rule) where
     pub text_some : (text : List ℕ) × (needed : Bool) × IsWrittenText rule text needed
     text_some = let s = text_is in (spelled_rule rule, s.0, s.1)
 
+  -- that text is written of it
   module _ (text : List ℕ) (extended : Bool) (h : IsWrittenText rule text extended) where
     pub rule_text : text ≡ spelled_rule rule
     rule_text = grind (arith, text_is, text_once, rule_named)

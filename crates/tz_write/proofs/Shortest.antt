@@ -25,6 +25,7 @@ best_nothing : (x : List ℕ) → Best [] x
 best_nothing [] = inl refl
 best_nothing (b ∷ bs) = inr (omega arith)
 
+-- the bytes, and the rest after their front
 module _ {bytes rest : List ℕ} where
   pub front_nothing : bytes ≡ rest → Front [] bytes rest
   front_nothing e = grind arith
@@ -35,6 +36,7 @@ module _ {bytes rest : List ℕ} where
   front_byte : {t : ℕ} → bytes ≡ t ∷ rest → Front (t ∷ []) bytes rest
   front_byte {t = t} e = record { front = t ∷ []; whole = e; best = λ _. inl refl }
 
+  -- it is the text a, or longer
   module _ {a : List ℕ} where
     pub front_then : {b middle : List ℕ} → Front a bytes middle → Front b middle rest → Front (a ++ b) bytes rest
     front_then p q = record { front = p.front ++ q.front; whole = grind (arith, append_assoc); best = grind (arith, best_append, pairs_rest) }

@@ -90,6 +90,7 @@ module _ {X : Type 0} {x : X} {rest : List ℕ} where
     pub writes_byte : {t : ℕ} {f : Unit {0} → Grammar X} → is_sign t ≡ true → Writes (f tt) a x rest → Writes (Then (Byte t) f) (t ∷ a) x rest
     writes_byte sign p = grind (arith, nat_tests, sign_is)
 
+    -- either of two grammars may come
     module _ {g h : Grammar X} where
       pub writes_mark : {t : ℕ} → is_sign t ≡ true → Writes g a x rest → Writes (Marked t g h) (t ∷ a) x rest
       writes_mark sign p = grind (arith, nat_tests, sign_is)

@@ -10,6 +10,7 @@ use Rattle.tz_write.proofs.{Shortest.{Best, pairs_rest}, TextBytes.{trimmed_text
 not_both : (b : ℕ) → is_digit b ≡ true → is_ascii_whitespace b ≡ true → ⊥
 not_both b h k = grind (arith, nat_tests)
 
+-- only white space comes after
 module _ (after : List ℕ) (space : IsSpace after) where
   stops_before : (bs : List ℕ) → NoneFirst is_digit (bs ++ after) → NoneFirst is_digit bs
   stops_before bs h = grind (arith, nat_tests)
