@@ -1,15 +1,14 @@
 -- The words that this crate's proofs cite, passed on from the crates below and from specs/.
-pub use Rattle.std.specs.Prelude.{FitsSigned, suc, zero, ℕ, ◌-◌, ◌<◌, ◌↔◌}
+pub use Rattle.std.specs.Prelude.{FitsSigned, suc, zero, ℕ, ◌-◌, ◌<◌}
 pub use Rattle.offset_core.specs.Offset.{IsWithinDay}
-pub use Rattle.tz_info.proofs.Words.{Bool, Change, HasNoChange, IsFirst, IsFirstChange, IsLast, IsLastChange, IsRuleOrNone, IsValid, LocalType, None}
+pub use Rattle.tz_info.proofs.Words.{Change, HasNoChange, IsFirst, IsFirstChange, IsLast, IsLastChange, IsRuleOrNone, IsValid, LocalType, None}
 pub use Rattle.tz_info.proofs.Words.{Option, Some, TypeAt, Zone, ap, arith, by_lt_z, false, false≢true, inl, inr, ints, neg_ℤ, pos, refl}
-pub use Rattle.tz_info.proofs.Words.{SFits, rules, subst, sym, to_z-of_z, true, unsigned_abs, w32, w64, ℤ, ◌-ℤ◌, ◌<ℤ◌, ◌∙◌, ◌≡◌, ◌≢◌, ◌≤ℤ◌}
+pub use Rattle.tz_info.proofs.Words.{SFits, rules, subst, sym, to_z-of_z, true, w32, w64, ℤ, ◌-ℤ◌, ◌<ℤ◌, ◌∙◌, ◌≡◌, ◌≢◌, ◌≤ℤ◌}
 pub use Rattle.tz_info.proofs.{ChangeLaws.{one_change}, SpanLaws.{no_change}, ZoneLaws.{type_once}}
 pub use Rattle.tz_info.specs.declared.rule.transition_rule.TransitionRule.{TransitionRule}
 pub use Rattle.tz_info.specs.Changes.{IsChange}
 pub use Rattle.tz_info.specs.HeldChanges.{change_held}
-pub use Rattle.tz_info.specs.declared.rule.transition_rule.TransitionRule.TheVariants.{Alternate, Fixed}
-pub use Rattle.tz_saving.specs.Amounts.{IsAmount, IsByCandidates, IsFlaggedAmount, IsNextCandidate, IsNextUse, IsOfTwo, usual}
+pub use Rattle.tz_saving.specs.Amounts.{IsAmount, IsByCandidates, IsFlaggedAmount, IsNextCandidate, IsNextUse, IsOfTwo}
 pub use Rattle.tz_saving.specs.Amounts.IsOfTwo.{Both, Of_next, Usual}
 pub use Rattle.tz_saving.specs.Candidates.{AreCandidates, IsOnly, IsCandidate}
 pub use Rattle.tz_saving.specs.Reach.{IsWithinReach, reach}

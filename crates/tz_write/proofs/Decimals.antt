@@ -2,73 +2,56 @@
 use Rattle.std.proofs.lemmas.Fmt.{decimal-digits_value, decimal_nonempty, digits_decimal, digits_value-decimal}
 use Rattle.std.proofs.lemmas.Str.Parse.{IsNumeralModel, numerals_by_fold}
 use Rattle.tz_base.specs.Grammar.{Number}
-use Rattle.tz_write.proofs.Words.{AllDigits, Bool, IsNumber, List, NoneFirst, TwoDigits, Without, ap, arith, both_ways, cases_eq, colon, decimal, false, inl}
-use Rattle.tz_write.proofs.Words.{inr, is_digit, length, nat_tests, spelled_pair, refl, rules, sym, true, value_from, ℕ, [], ◌%◌, ◌++◌, ◌+◌, ◌/◌, ◌<◌, ◌^◌, ◌∙◌}
-use Rattle.tz_write.proofs.Words.{◌∷◌, ◌≡◌, ◌≢◌, ◌≤◌, ◌⊎◌}
+use Rattle.tz_write.proofs.Words.{AllDigits, IsNumber, List, NoneFirst, TwoDigits, arith, both_ways, cases_eq, colon, decimal, inl, inr, is_digit, length}
+use Rattle.tz_write.proofs.Words.{nat_tests, spelled_pair, refl, rules, true, value_from, ℕ, [], ◌%◌, ◌++◌, ◌+◌, ◌/◌, ◌<◌, ◌^◌, ◌∷◌, ◌≡◌, ◌≤◌}
 use Rattle.tz_write.proofs.{Shortest.{Best, Front}, TextBytes.{Writes, digits_are, pairs_over}}
 
 own : IsNumeralModel AllDigits (value_from 0)
 own = numerals_by_fold AllDigits (search rules) value_from (search rules)
 
-is_digit_of : (d : ℕ) → d < 10 → is_digit (48 + d) ≡ true
-is_digit_of d h = grind (arith, nat_tests)
-
 digit_within : (b : ℕ) → is_digit b ≡ true → (48 ≤ b) × (b ≤ 57)
-digit_within b h = (grind (arith, nat_tests), grind (arith, nat_tests))
+digit_within b h = grind (arith, nat_tests)
 
 -- ---- what comes first
 -- the bytes begin with one between those two
-pub record Begins (low high : ℕ) (bytes : List ℕ) : Type 0 where
-  pub first : ℕ
-  pub others : List ℕ
-  pub is : bytes ≡ first ∷ others
-  pub above : low ≤ first
-  pub below : first ≤ high
+abbrev pub Begins : ℕ → ℕ → List ℕ → Type 0
+Begins low high [] = ⊥
+Begins low high (first ∷ others) = (low ≤ first) × (first ≤ high)
 
-pub without : {low high : ℕ} {bytes : List ℕ} (t : ℕ) → Begins low high bytes → (t < low) ⊎ (high < t) → Without t bytes
-without t f other = let above = f.above in let below = f.below in rw f.is (λ e. elim other [ inl l ↦ absurd (omega arith) | inr l ↦ absurd (omega arith) ])
-
-pub none_first : {low high : ℕ} {bytes : List ℕ} (p : ℕ → Bool) → ((b : ℕ) → low ≤ b → b ≤ high → p b ≡ false) → Begins low high bytes → NoneFirst p bytes
-none_first p each f = rw f.is (each f.first f.above f.below)
-
-pub not_empty : {low high : ℕ} {bytes : List ℕ} → Begins low high bytes → bytes ≢ []
-not_empty f = λ e. let is = f.is in cc
-
-pub digits_begin : (ds rest : List ℕ) → AllDigits ds → 0 < length ds → Begins 48 57 (ds ++ rest)
+digits_begin : (ds rest : List ℕ) → AllDigits ds → 0 < length ds → Begins 48 57 (ds ++ rest)
 digits_begin [] rest each some = absurd (omega arith)
-digits_begin (d ∷ ds) rest each some = let (l, m) = digit_within d each.0 in record { first = d; others = ds ++ rest; is = refl; above = l; below = m }
+digits_begin (d ∷ ds) rest each some = digit_within d each.0
 
 pub number_begins : (n : ℕ) (rest : List ℕ) → n < 2 ^ 64 → Begins 48 57 (decimal n ++ rest)
 number_begins n rest h = digits_begin (decimal n) rest (digits_decimal own n h) (decimal_nonempty n h)
 
 -- ---- what they spell
-digits_write : (max n : ℕ) (ds rest : List ℕ) → AllDigits ds → 0 < length ds → value_from 0 ds ≡ n → n ≤ max → NoneFirst is_digit rest
-    → Writes (Number max) ds n rest
-digits_write max n ds rest each some value l none = grind (arith, digits_are, pairs_over)
-
-pub number_writes : (max n : ℕ) (rest : List ℕ) → n < 2 ^ 64 → n ≤ max → NoneFirst is_digit rest → Writes (Number max) (decimal n) n rest
-number_writes max n rest h l none = digits_write max n (decimal n) rest (digits_decimal own n h) (decimal_nonempty n h) (digits_value-decimal own n h) l none
-
 pub two_digits : (n : ℕ) (rest : List ℕ) → n < 100 → NoneFirst is_digit rest → TwoDigits ((48 + n / 10) ∷ (48 + n % 10) ∷ rest)
-two_digits n rest h none = (is_digit_of (n / 10) (omega arith), is_digit_of (n % 10) (omega arith), none)
+two_digits n rest h none = grind (arith, nat_tests)
 
-pub pair_writes : (max n : ℕ) (rest : List ℕ) → n < 100 → n ≤ max → NoneFirst is_digit rest → Writes (Number max) ((48 + n / 10) ∷ (48 + n % 10) ∷ []) n rest
-pair_writes max n rest h l none =
-    digits_write max n ((48 + n / 10) ∷ (48 + n % 10) ∷ []) rest (let d = two_digits n [] h tt in (d.0, (d.1, tt))) (omega arith) (omega arith) l none
+-- the number n is within its limit, and no digit follows it
+module _ (max n : ℕ) (rest : List ℕ) (l : n ≤ max) (none : NoneFirst is_digit rest) where
+  digits_write : (ds : List ℕ) → AllDigits ds → 0 < length ds → value_from 0 ds ≡ n → Writes (Number max) ds n rest
+  digits_write ds each some value = grind (arith, digits_are, pairs_over)
+
+  pub number_writes : n < 2 ^ 64 → Writes (Number max) (decimal n) n rest
+  number_writes h = digits_write (decimal n) (digits_decimal own n h) (decimal_nonempty n h) (digits_value-decimal own n h)
+
+  pub pair_writes : n < 100 → Writes (Number max) ((48 + n / 10) ∷ (48 + n % 10) ∷ []) n rest
+  pair_writes h = let d = two_digits n [] h tt in digits_write ((48 + n / 10) ∷ (48 + n % 10) ∷ []) (d.0, (d.1, tt)) (omega arith) (omega arith)
 
 -- ---- no fewer digits do
 -- zeros in front may go, and then the digits are those of the number
 decimal_best : (n : ℕ) (ds : List ℕ) → n < 2 ^ 64 → AllDigits ds → 0 < length ds → value_from 0 ds ≡ n → Best (decimal n) ds
 decimal_best n [] h each some value = absurd (omega arith)
-decimal_best n (d ∷ []) h each some value = inl (sym (decimal-digits_value own (d ∷ []) each some (λ _. refl) (omega (arith, value))) ∙ ap decimal value)
+decimal_best n (d ∷ []) h each some value = inl (cc (decimal-digits_value own (d ∷ []) each some (λ _. refl) (omega arith)))
 decimal_best n (d ∷ e ∷ ds) h each some value = elim (cases_eq d 48) [
-  | inl zero ↦ let b = decimal_best n (e ∷ ds) h each.1 (omega arith) (rw zero at value) in
-      inr (elim b [ inl k ↦ omega (arith, ap length k) | inr l ↦ omega arith ])
-  | inr other ↦ inl (sym (decimal-digits_value own (d ∷ e ∷ ds) each some (λ z. absurd (other z)) (omega (arith, value))) ∙ ap decimal value)
+  | inl zero ↦ let b = decimal_best n (e ∷ ds) h each.1 (omega arith) (rw zero at value) in inr (grind arith)
+  | inr other ↦ inl (cc (decimal-digits_value own (d ∷ e ∷ ds) each some (λ z. absurd (other z)) (omega arith)))
 ]
 
 pub number_front : {max n : ℕ} {bytes rest : List ℕ} → max < 2 ^ 64 → IsNumber max bytes n rest → Front (decimal n) bytes rest
-number_front h p = record { front = p.digits; whole = p.whole; best = λ _. decimal_best _ p.digits (omega (arith, p.limit)) p.each p.some p.value }
+number_front h p = grind (arith, decimal_best)
 
 -- two digits and no third are those of the number
 paired : (ds rest : List ℕ) (n : ℕ) → AllDigits ds → 0 < length ds → NoneFirst is_digit rest → value_from 0 ds ≡ n → TwoDigits (ds ++ rest)

@@ -1,10 +1,10 @@
 -- What every file's zone has room for.
 use Rattle.tz_info.specs.{declared.file.header.Place.TheVariants.{Second}, declared.file.header.Version.TheVariants.{One}}
-use Rattle.tz_write.proofs.Words.{All, All-cons, All-nil, All-tail, AreBytes, AreNamesIn, Bool, Counts, FilePieces, HasIndex, HasPieces, HasRule}
-use Rattle.tz_write.proofs.Words.{IsSpellableOrNone, Header, IsNamedIn, IsTzFile, IsWritable, List, LocalType, Option, Parts, Place, SpellTypes, Spells}
-use Rattle.tz_write.proofs.Words.{SpellsLeapSecond, SpellsType, Transition, TransitionRule, Version, Zone, after_first_block, ap, arith, be_u32, block}
-use Rattle.tz_write.proofs.Words.{designation_of, file, first_version, get_or_append_left, header, inl, inr, later_version, length, length-append, length-map}
-use Rattle.tz_write.proofs.Words.{map, name_or_none, place_in, six_counts, subst, sym, ℕ, [], ◌*◌, ◌++◌, ◌+◌, ◌/◌, ◌<◌, ◌^◌, ◌∙◌, ◌∷◌, ◌≡◌, ◌⊎◌}
+use Rattle.tz_write.proofs.Words.{All-cons, All-nil, All-tail, AreBytes, AreNamesIn, Bool, Counts, FilePieces, HasPieces, Header, IsNamedIn, IsTzFile}
+use Rattle.tz_write.proofs.Words.{IsWritable, List, LocalType, Option, Parts, Place, SpellTypes, Spells, SpellsLeapSecond, SpellsType, Transition, Version}
+use Rattle.tz_write.proofs.Words.{Zone, after_first_block, ap, arith, be_u32, block, designation_of, file, first_version, get_or_append_left, header, inl}
+use Rattle.tz_write.proofs.Words.{inr, later_version, length, length-append, length-map, name_or_none, place_in, six_counts, subst, ℕ, [], ◌*◌, ◌++◌, ◌+◌}
+use Rattle.tz_write.proofs.Words.{◌<◌, ◌^◌, ◌∙◌, ◌∷◌, ◌≡◌, ◌⊎◌}
 use Rattle.tz_write.proofs.{FileRecords.{records_length}, FileSpelled.{CountsFit}, RuleTexts.{rule_named}}
 use Rattle.std.proofs.{Math.Nat.{mul-div_cancel}, lemmas.List.{get_or-map}}
 use Rattle.tz_base.specs.Grammar.{At, Byte, Check, Ended, Exact, Grammar, Here, Marked, Nothing, Number, Refused, Rest, Run, Then}
@@ -17,7 +17,7 @@ behind [] b h = h
 behind (x ∷ xs) b h = behind xs b (All-tail IsByte x (xs ++ b) h)
 
 front : (a b : List ℕ) → AreBytes (a ++ b) → AreBytes a
-front a b h = λ k d l. subst IsByte (get_or_append_left a b d k l) (h k d (omega (arith, length-append a b)))
+front a b h k d l = grind (arith, get_or_append_left, length-append)
 
 -- ---- the values that a grammar spells in bytes
 abbrev Values : {X : Type 0} → Grammar X → X → Type 0
@@ -33,19 +33,19 @@ Values (At place g) x = Values g x
 Values g x = Unit {0}
 
 values : {X : Type 0} (g : Grammar X) (bytes : List ℕ) (x : X) (rest : List ℕ) → Spells g bytes x rest → AreBytes bytes → Values g x × AreBytes rest
-values (Nothing v) bytes x rest h b = (h.0, subst AreBytes h.1 b)
+values (Nothing v) bytes x rest h b = (h.0, rw h.1 at b)
 values (Then g f) bytes y rest (x, after, p, q) b = let (v, c) = values g bytes x after p b in let (w, d) = values (f x) after y rest q c in ((x, v, w), d)
-values (Marked tag g h) bytes x rest (inl (after, is, p)) b = let (v, c) = values g after x rest p (behind (tag ∷ []) after (subst AreBytes is b)) in (inl v, c)
+values (Marked tag g h) bytes x rest (inl (after, is, p)) b = let (v, c) = values g after x rest p (behind (tag ∷ []) after (rw is at b)) in (inl v, c)
 values (Marked tag g h) bytes x rest (inr (_, p)) b = let (v, c) = values h bytes x rest p b in (inr v, c)
 values (Ended g h) bytes x rest (inl (_, p)) b = let (v, c) = values g bytes x rest p b in (inl v, c)
 values (Ended g h) bytes x rest (inr (_, p)) b = let (v, c) = values h bytes x rest p b in (inr v, c)
-values (Byte tag) bytes x rest h b = (tt, behind (tag ∷ []) rest (subst AreBytes h b))
-values (Run p) bytes x rest h b = (tt, behind x rest (subst AreBytes h.whole b))
-values (Number max) bytes x rest h b = (tt, behind h.digits rest (subst AreBytes h.whole b))
-values (Exact n) bytes x rest h b = let c = subst AreBytes h.0 b in ((front x rest c, h.1), behind x rest c)
-values Rest bytes x rest h b = (subst AreBytes (sym h.0) b, subst AreBytes (sym h.1) (All-nil IsByte))
+values (Byte tag) bytes x rest h b = (tt, behind (tag ∷ []) rest (rw h at b))
+values (Run p) bytes x rest h b = (tt, behind x rest (rw h.whole at b))
+values (Number max) bytes x rest h b = (tt, behind h.digits rest (rw h.whole at b))
+values (Exact n) bytes x rest h b = let c = rw h.0 at b in ((front x rest c, h.1), behind x rest c)
+values Rest bytes x rest h b = (rw h.0 b, rw h.1 (All-nil IsByte))
 values (Refused refusal) bytes x rest h b = absurd h
-values (Check P test refusal v) bytes x rest h b = ((h.0, h.1), subst AreBytes h.2 b)
+values (Check P test refusal v) bytes x rest h b = ((h.0, h.1), rw h.2 at b)
 values (Here f) bytes x rest h b = let (v, c) = values (f bytes) bytes x rest h b in ((bytes, v), c)
 values (At place g) bytes x rest h b = values g bytes x rest h b
 
@@ -60,7 +60,7 @@ header_fits place h (_, _, (_, _, (_, _, (_, (c, (i, j, (k, l, (m, n, (o, p, (q,
 
 -- ---- blocks and pieces
 same_factor : (a b c : ℕ) → 0 < c → a * c ≡ b * c → a ≡ b
-same_factor a b c p h = sym (mul-div_cancel a p) ∙ (ap (λ n. n / c) h ∙ mul-div_cancel b p)
+same_factor a b c p h = grind (arith, mul-div_cancel)
 
 -- the numbers of transitions, types and leap seconds fit their fields
 record Limits (p : FilePieces) : Type 0 where
@@ -90,46 +90,33 @@ pieces_limits : (bytes : List ℕ) (p : FilePieces) → HasPieces bytes p → Ar
 unfolding file
 pieces_limits bytes p h b = grind (arith, values, after_limits, header_fits)
 
--- ---- lists
-indexes_fit : (ts : List Transition) (indexes : List ℕ) → indexes ≡ map (λ t. t.type_index) ts → AreBytes indexes → All HasIndex ts
-indexes_fit ts indexes e b = λ i d l. subst IsByte (get_or-map (λ (t : Transition). t.type_index) ts i d 0 l) (grind (arith, length-map))
-
-rule_spelled : (extended : Bool) (footer : Option (List ℕ)) (rule : Option TransitionRule) → HasRule extended footer rule → IsSpellableOrNone rule
-rule_spelled extended footer rule h = grind (arith, rule_named)
-
 -- ---- names
 text_back : (text : List ℕ) → name_or_none (designation_of text) ≡ text
 text_back text = grind arith
 
 type_named : (designations bytes : List ℕ) (t : LocalType) → length bytes ≡ 6 → AreBytes bytes → SpellsType designations bytes t → IsNamedIn designations t
-type_named designations bytes t size b h = record { place = place_in bytes; stands = grind (arith, text_back); named = b 5 0 (omega (arith, size)) }
+type_named designations bytes t size b h = record { place = place_in bytes; stands = grind (arith, text_back); named = b 5 0 (omega arith) }
 
 types_named : (designations part : List ℕ) (types : List LocalType) → SpellTypes designations part types → AreBytes part → AreNamesIn designations types
 types_named designations part [] h b = All-nil (IsNamedIn designations)
 types_named designations part (t ∷ ts) h b =
-    let whole = subst AreBytes h.2 b in
+    let whole = rw h.2 at b in
     All-cons (IsNamedIn designations) t ts (type_named designations h.0 t h.3 (front h.0 h.1 whole) h.4)
     (types_named designations h.1 ts h.5 (behind h.0 h.1 whole))
 
 pub writable : (bytes : List ℕ) (z : Zone) → AreBytes bytes → IsTzFile bytes z → IsWritable z
 writable bytes z b (p, pieces, say) =
     let limits = pieces_limits bytes p pieces b in
-    let transitions : length p.parts.type_indexes ≡ length z.transitions =
-    ap length say.transitions.indexes_are ∙ length-map z.transitions (λ t. t.type_index) in
+    let indexes = ap length say.transitions.indexes_are ∙ length-map z.transitions (λ t. t.type_index) in
     let types = records_length 6 (SpellsType p.parts.designations) p.parts.types z.types say.types in
     let leaps = records_length (p.time_size + 4) (SpellsLeapSecond p.time_size) p.parts.leap_seconds z.leaps say.leaps in
     record {
       room = record {
-        counts =
-            record {
-              transitions = omega (arith, transitions, limits.transitions_fit);
-              types = omega
-                  (arith, types, limits.types_fit);
-              leaps = limits.leaps_fit (length z.leaps) leaps;
-            };
-        indexes = indexes_fit z.transitions p.parts.type_indexes say.transitions.indexes_are limits.indexes;
+        counts = record { transitions = omega arith; types = omega arith; leaps = limits.leaps_fit (length z.leaps) leaps };
+        indexes = λ i d l. subst IsByte (get_or-map (λ (t : Transition). t.type_index) z.transitions i d 0 l)
+            ((rw say.transitions.indexes_are at limits.indexes) i 0 (omega (arith, length-map z.transitions (λ t. t.type_index))));
         designations = p.parts.designations;
         names = types_named p.parts.designations p.parts.types z.types say.types limits.types;
       };
-      rule = rule_spelled p.extended p.footer z.rule say.rule;
+      rule = let rule = say.rule in grind (arith, rule_named);
     }

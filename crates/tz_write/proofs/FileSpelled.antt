@@ -1,11 +1,11 @@
 -- The file that is written spells the zone.
+use Rattle.tz_write.specs.FileBytes.{block_bytes, footer_bytes, least_block, least_counts, unused, version_byte, zone_counts, zone_parts}
 use Rattle.tz_info.specs.declared.file.header.{Place.TheVariants.{First, Second}, Version.TheVariants.{Three, Two}}
 use Rattle.tz_write.proofs.Words.{All, All-cons, All-nil, Bool, Counts, CountsAgree, FilePieces, HasCounts, HasPieces, HavePlaces, IsAscii-from_all, IsFooter}
 use Rattle.tz_write.proofs.Words.{IsSound, IsTzFile, IsUtf8-from_ascii, List, LocalType, Option, Parts, Place, SayZone, SaysRule, Spells, TransitionRule}
-use Rattle.tz_write.proofs.Words.{Version, Zone, ℕ, after_first_block, ap, arith, block, block_bytes, counts_bytes, counts_test, false, file, file_bytes}
-use Rattle.tz_write.proofs.Words.{first_half, footer_bytes, get_or, header, header_bytes, later_pieces, later_version, least_block, least_counts, length}
-use Rattle.tz_write.proofs.Words.{length-map, magic, number_bytes, refl, second_half, six_counts, true, tzif, unused, version, version_byte, zone_counts}
-use Rattle.tz_write.proofs.Words.{zone_parts, [], ◌*◌, ◌++◌, ◌+◌, ◌<◌, ◌^◌, ◌∙◌, ◌∷◌, ◌≡◌, ◌≢◌, ◌≤◌}
+use Rattle.tz_write.proofs.Words.{Version, Zone, ℕ, after_first_block, arith, block, counts_bytes, counts_test, false, file, file_bytes, first_half, get_or}
+use Rattle.tz_write.proofs.Words.{header, header_bytes, later_pieces, later_version, length, length-map, magic, number_bytes, refl, second_half, six_counts}
+use Rattle.tz_write.proofs.Words.{true, tzif, version, [], ◌++◌, ◌<◌, ◌^◌, ◌∷◌, ◌≢◌, ◌≤◌}
 use Rattle.tz_write.proofs.{FileRecords.{leaps_are, number_is, records_length, transitions_are, types_are}, TextBytes.{AreTextBytes, begins_bare, ends_bare}}
 use Rattle.tz_write.proofs.TextBytes.{limits, no_zeros}
 
@@ -20,18 +20,8 @@ unfolding counts_bytes number_bytes six_counts
 counts_are c rest (a, b, d, e, f, g) = (
   _,
   _,
-  number_is c.ut_local _ a,
-  (
-    _,
-    _,
-    number_is c.standard_wall _ b,
-    (
-      _,
-      _,
-      number_is c.leap_seconds _ d,
-      (_, _, number_is c.transitions _ e, (_, _, number_is c.types _ f, (_, _, number_is c.designations _ g, (refl, refl)))),
-    ),
-  ),
+  number_is _ _ a,
+  (_, _, number_is _ _ b, (_, _, number_is _ _ d, (_, _, number_is _ _ e, (_, _, number_is _ _ f, (_, _, number_is _ _ g, (refl, refl)))))),
 )
 
 abbrev pub version_of : Bool → Version
@@ -42,19 +32,14 @@ version_is : (place : Place) (extended : Bool) (rest : List ℕ) → Spells (ver
 unfolding version
 version_is place extended rest = grind arith
 
-pub header_is : (place : Place) (extended : Bool) (c : Counts) (rest : List ℕ) → CountsFit c → CountsAgree c
+header_is : (place : Place) (extended : Bool) (c : Counts) (rest : List ℕ) → CountsFit c → CountsAgree c
     → Spells (header place) (header_bytes extended c ++ rest) (record { version = version_of extended; counts = c }) rest
 unfolding header_bytes header tzif
 header_is place extended c rest fit agree = (
   tt,
   _,
   (magic, _, (refl, refl), (refl, refl, refl)),
-  (
-    version_of extended,
-    _,
-    version_is place extended (unused ++ (counts_bytes c ++ rest)),
-    (unused, counts_bytes c ++ rest, (refl, refl), (c, rest, counts_are c rest fit, (agree, refl, refl))),
-  ),
+  (_, _, version_is place extended (unused ++ (counts_bytes c ++ rest)), (unused, _, (refl, refl), (_, _, counts_are c rest fit, (agree, refl, refl)))),
 )
 
 -- ---- footers
@@ -67,25 +52,15 @@ ascii : (text : List ℕ) → AreTextBytes text → All (λ b. b < 128) (text ++
 ascii [] h = All-cons (λ b. b < 128) 10 [] (omega arith) (All-nil (λ b. b < 128))
 ascii (b ∷ bs) h = All-cons (λ b. b < 128) b (bs ++ 10 ∷ []) (limits b h.0).1 (ascii bs h.1)
 
-pub footer_is : (extended : Bool) (text : List ℕ) (rule : Option TransitionRule) → IsPlain text → SaysRule extended text rule
+footer_is : (extended : Bool) (text : List ℕ) (rule : Option TransitionRule) → IsPlain text → SaysRule extended text rule
     → IsFooter extended (footer_bytes text) rule
-footer_is extended text rule p says = record {
+footer_is extended text rule p says = let first = begins_bare text p.bytes in let last = ends_bare text p.bytes in record {
   text = text;
   has_text = record {
     utf8 = IsUtf8-from_ascii (footer_bytes text)
         (IsAscii-from_all (footer_bytes text) (All-cons (λ b. b < 128) 10 (text ++ 10 ∷ []) (omega arith) (ascii text p.bytes)));
     newlines = record { after_first = text ++ 10 ∷ []; before_last = 10 ∷ text; starts = refl; ends = refl };
-    trimmed =
-        record {
-          before = 10 ∷ [];
-          after = 10 ∷ [];
-          whole = refl;
-          space_before = (refl, tt);
-          space_after = (refl, tt);
-          first = begins_bare text
-              p.bytes;
-          last = ends_bare text p.bytes;
-        };
+    trimmed = record { before = 10 ∷ []; after = 10 ∷ []; whole = refl; space_before = (refl, tt); space_after = (refl, tt); first = first; last = last };
   };
   no_colon = p.no_colon;
   no_zero = no_zeros text p.bytes;
@@ -97,73 +72,52 @@ least_parts : Parts
 least_parts =
     record { times = []; type_indexes = []; types = 0 ∷ 0 ∷ 0 ∷ 0 ∷ 0 ∷ 0 ∷ []; designations = 0 ∷ []; leap_seconds = []; standard_wall = []; ut_local = [] }
 
--- parts of the lengths that the counts announce, end to end, are a block
-block_is : (w : ℕ) (c : Counts) (p : Parts) (rest : List ℕ) → length p.times ≡ c.transitions * w → length p.type_indexes ≡ c.transitions
-    → length p.types ≡ c.types * 6 → length p.designations ≡ c.designations
-    → length p.leap_seconds ≡ c.leap_seconds * (w + 4) → length p.standard_wall ≡ c.standard_wall → length p.ut_local ≡ c.ut_local
-    → Spells (block w c) (block_bytes p rest) p rest
-unfolding block
-block_is w c p rest h i j k l m n =
-    (_, _, (refl, h), (_, _, (refl, i), (_, _, (refl, j), (_, _, (refl, k), (_, _, (refl, l), (_, _, (refl, m), (_, _, (refl, n), (refl, refl))))))))
-
 first_block : (rest : List ℕ) → Spells (block 4 least_counts) (least_block ++ rest) least_parts rest
-unfolding least_parts
-first_block rest = block_is 4 least_counts least_parts rest refl refl refl refl refl refl refl
+unfolding least_parts block
+first_block rest = grind arith
 
 -- ---- the second half
-zone_fit : (d : List ℕ) (z : Zone) → length d ≤ 263 → HasCounts z → CountsFit (zone_counts d z)
-zone_fit d z size h = grind arith
-
 some_designations : (types : List LocalType) (d : List ℕ) → 0 < length types → HavePlaces d types → length d ≢ 0
-some_designations [] d some places e = omega (arith, some)
-some_designations (t ∷ ts) d some places e = let p = (places 0 t some).stands in omega (arith, p, e)
-
-zone_agree : (d : List ℕ) (z : Zone) → 0 < length z.types → HavePlaces d z.types → CountsAgree (zone_counts d z)
-zone_agree d z some places = grind (arith, some_designations)
-
-second_block : (d : List ℕ) (z : Zone) (rest : List ℕ) → HavePlaces d z.types → IsSound z
-    → Spells (block 8 (zone_counts d z)) (block_bytes (zone_parts d z) rest) (zone_parts d z) rest
-second_block d z rest places sound =
-    let transitions = transitions_are z.transitions sound.times in
-    block_is 8 (zone_counts d z) (zone_parts d z) rest (records_length 8 _ _ z.transitions transitions.times_are)
-    (ap length transitions.indexes_are ∙ length-map z.transitions (λ t. t.type_index))
-    (records_length 6 _ _ z.types (types_are d z.types places sound.types)) refl
-    (records_length 12 _ _ z.leaps (leaps_are z.leaps sound.leaps)) refl refl
+some_designations [] d some places e = omega arith
+some_designations (t ∷ ts) d some places e = let p = (places 0 t some).stands in omega arith
 
 pieces_of : Bool → List ℕ → List ℕ → Zone → FilePieces
 pieces_of extended text d z = later_pieces (record { version = version_of extended; counts = zone_counts d z }) (zone_parts d z) (footer_bytes text)
-
-second_is : (extended : Bool) (text d : List ℕ) (z : Zone) → length d ≤ 263 → HasCounts z → 0 < length z.types → HavePlaces d z.types → IsSound z
-    → Spells later_version (second_half extended text d z) (pieces_of extended text d z) []
-unfolding second_half pieces_of later_version
-second_is extended text d z size counts some places sound =
-    let head = header_is Second extended (zone_counts d z) (block_bytes (zone_parts d z) (footer_bytes text)) (zone_fit d z size counts)
-    (zone_agree d z some places) in
-    (_, _, head, (_, _, second_block d z (footer_bytes text) places sound, (_, [], (refl, refl), (refl, refl))))
 
 after_is : (extended : Bool) (c : Counts) (p : Parts) (rest : List ℕ) (pieces : FilePieces) → Spells later_version rest pieces []
     → Spells (after_first_block (version_of extended) c p) rest pieces []
 unfolding after_first_block
 after_is extended c p rest pieces h = grind arith
 
--- ---- the whole
-file_pieces : (extended : Bool) (text d : List ℕ) (z : Zone) → length d ≤ 263 → HasCounts z → 0 < length z.types → HavePlaces d z.types → IsSound z
-    → HasPieces (file_bytes extended text d z) (pieces_of extended text d z)
-unfolding file_bytes first_half header_bytes counts_bytes number_bytes file
-file_pieces extended text d z size counts some places sound =
-    let second = second_is extended text d z size counts some places sound in
-    let least = (counts_test least_counts).decides.0 refl in
-    (_, _, header_is First extended least_counts _ (grind arith) least, (_, _, first_block _, after_is extended least_counts least_parts _ _ second))
+-- a zone that has types, and designations that have their places
+module _ (extended : Bool) (text d : List ℕ) (z : Zone) (size : length d ≤ 263) (counts : HasCounts z) (some : 0 < length z.types)
+    (places : HavePlaces d z.types) (sound : IsSound z) where
+  zone_fit : CountsFit (zone_counts d z)
+  zone_fit = grind arith
 
-says_zone : (extended : Bool) (text d : List ℕ) (z : Zone) → HavePlaces d z.types → IsSound z → IsFooter extended (footer_bytes text) z.rule
-    → SayZone (pieces_of extended text d z) z
-unfolding pieces_of
-says_zone extended text d z places sound footer = grind (arith, transitions_are, types_are, leaps_are)
+  zone_agree : CountsAgree (zone_counts d z)
+  zone_agree = grind (arith, some_designations)
 
-pub file_is : (extended : Bool) (text d : List ℕ) (z : Zone) → length d ≤ 263 → HasCounts z → 0 < length z.types → HavePlaces d z.types → IsSound z
-    → IsPlain text → SaysRule extended text z.rule → IsTzFile (file_bytes extended text d z) z
-file_is extended text d z size counts some places sound plain says = (
-  pieces_of extended text d z,
-  file_pieces extended text d z size counts some places sound,
-  says_zone extended text d z places sound (footer_is extended text z.rule plain says),
-)
+  second_block : (rest : List ℕ) → Spells (block 8 (zone_counts d z)) (block_bytes (zone_parts d z) rest) (zone_parts d z) rest
+  unfolding block
+  second_block rest =
+      let transitions = transitions_are z.transitions sound.times in let types = types_are d z.types places sound.types in
+      let leaps = leaps_are z.leaps sound.leaps in grind (arith, records_length, length-map)
+
+  second_is : Spells later_version (second_half extended text d z) (pieces_of extended text d z) []
+  unfolding second_half pieces_of later_version
+  second_is =
+      (_, _, header_is Second extended (zone_counts d z) _ zone_fit zone_agree, (_, _, second_block (footer_bytes text), (_, [], (refl, refl), (refl, refl))))
+
+  -- ---- the whole
+  file_pieces : HasPieces (file_bytes extended text d z) (pieces_of extended text d z)
+  unfolding file_bytes first_half header_bytes counts_bytes number_bytes file
+  file_pieces = let least = (counts_test least_counts).decides.0 refl in
+      (_, _, header_is First extended least_counts _ (grind arith) least, (_, _, first_block _, after_is extended least_counts least_parts _ _ second_is))
+
+  says_zone : IsFooter extended (footer_bytes text) z.rule → SayZone (pieces_of extended text d z) z
+  unfolding pieces_of
+  says_zone footer = grind (arith, transitions_are, types_are, leaps_are)
+
+  pub file_is : IsPlain text → SaysRule extended text z.rule → IsTzFile (file_bytes extended text d z) z
+  file_is plain says = let pieces = file_pieces in grind (arith, says_zone, footer_is)

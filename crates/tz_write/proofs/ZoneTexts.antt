@@ -1,36 +1,38 @@
 -- The text of a zone: it gives the zone, and each other one is longer.
 use Rattle.tz_write.proofs.Words.{AreInPairs, HasZoneText, IsNoPosixZone, IsOfText, IsPosixZone, IsRule, IsRuleOrNone, IsSpace, IsTrimmed, IsTzText}
 use Rattle.tz_write.proofs.Words.{IsWrittenZone, List, LocalType, None, NoneFirst, OnErr, Option, Result, Some, TransitionRule, TwoDigits, Zone, append-nil}
-use Rattle.tz_write.proofs.Words.{arith, false, inl, inr, is_ascii_whitespace, is_digit, length, length-append, nat_tests, subst, sym, spelled_rule, true}
-use Rattle.tz_write.proofs.Words.{types_of, zone_of_rule, ℕ, [], ◌++◌, ◌<◌, ◌∷◌, ◌≡◌, ◌⊎◌}
+use Rattle.tz_write.proofs.Words.{arith, false, inl, inr, is_ascii_whitespace, is_digit, length, length-append, nat_tests, spelled_rule, true, types_of}
+use Rattle.tz_write.proofs.Words.{zone_of_rule, ℕ, [], ◌++◌, ◌<◌, ◌∷◌, ◌≡◌, ◌⊎◌}
 use Rattle.tz_write.proofs.RuleTexts.{both_shortest, rule_pairs, rule_read, rule_spelled, text_are, text_begins}
-use Rattle.tz_write.proofs.{Decimals.{not_empty}, Shortest.{Best, pairs_rest}, TextBytes.{trimmed_text}}
+use Rattle.tz_write.proofs.{Shortest.{Best, pairs_rest}, TextBytes.{trimmed_text}}
 
 -- ---- white space at the ends
 not_both : (b : ℕ) → is_digit b ≡ true → is_ascii_whitespace b ≡ true → ⊥
 not_both b h k = grind (arith, nat_tests)
 
-stops_before : (bs after : List ℕ) → IsSpace after → NoneFirst is_digit (bs ++ after) → NoneFirst is_digit bs
-stops_before bs after space h = grind (arith, nat_tests)
+-- only white space comes after
+module _ (after : List ℕ) (space : IsSpace after) where
+  stops_before : (bs : List ℕ) → NoneFirst is_digit (bs ++ after) → NoneFirst is_digit bs
+  stops_before bs h = grind (arith, nat_tests)
 
-two_before : (bs after : List ℕ) → IsSpace after → TwoDigits (bs ++ after) → TwoDigits bs
-two_before bs after space h = grind (arith, not_both, stops_before)
+  two_before : (bs : List ℕ) → TwoDigits (bs ++ after) → TwoDigits bs
+  two_before bs h = grind (arith, not_both, stops_before)
 
-pairs_before : (bs after : List ℕ) → IsSpace after → AreInPairs (bs ++ after) → AreInPairs bs
-pairs_before [] after space h = tt
-pairs_before (b ∷ bs) after space h = ((λ e. two_before bs after space (h.0 e)), pairs_before bs after space h.1)
+  pairs_before : (bs : List ℕ) → AreInPairs (bs ++ after) → AreInPairs bs
+  pairs_before [] h = tt
+  pairs_before (b ∷ bs) h = ((λ e. two_before bs (h.0 e)), pairs_before bs h.1)
 
 trimmed_pairs : (bytes text : List ℕ) → IsTrimmed bytes text → AreInPairs bytes → AreInPairs text
-trimmed_pairs bytes text t pairs = pairs_before text t.after t.space_after (pairs_rest t.before (text ++ t.after) (subst AreInPairs t.whole pairs))
+trimmed_pairs bytes text t pairs = grind (arith, pairs_before, pairs_rest)
 
 -- nothing at both ends, or a longer text
 trimmed_or_longer : (before text after : List ℕ) → (before ++ (text ++ after) ≡ text) ⊎ (length text < length (before ++ (text ++ after)))
 trimmed_or_longer [] text [] = inl (append-nil text)
-trimmed_or_longer [] text (c ∷ cs) = let l = length-append text (c ∷ cs) in inr (omega arith)
-trimmed_or_longer (b ∷ bs) text after = let l = length-append text after in let m = length-append bs (text ++ after) in inr (omega arith)
+trimmed_or_longer [] text (c ∷ cs) = inr (grind (arith, length-append))
+trimmed_or_longer (b ∷ bs) text after = inr (grind (arith, length-append))
 
 best_of_trimmed : (text bytes trimmed : List ℕ) → IsTrimmed bytes trimmed → Best text trimmed → Best text bytes
-best_of_trimmed text bytes trimmed t best = let whole = trimmed_or_longer t.before trimmed t.after in subst (Best text) (sym t.whole) (grind arith)
+best_of_trimmed text bytes trimmed t best = grind (arith, trimmed_or_longer)
 
 -- a text that gives it spells the rule, but for white space at its ends
 spells_rule : (text : List ℕ) (types : List LocalType) (rule : TransitionRule) → IsPosixZone text (zone_of_rule types (Some rule))
@@ -41,8 +43,8 @@ pub written_zone : (types : List LocalType) (rule : TransitionRule) → IsRule r
     → IsWrittenZone (zone_of_rule types (Some rule)) (spelled_rule rule)
 written_zone types rule fits h =
     let named = h.1.0 in
-    let text = rule_spelled false rule fits named h.1.1 in
-    let first = not_empty (text_begins rule named) in
+    let text = rule_spelled rule fits named false h.1.1 in
+    let first = text_begins rule named in
     let trims = trimmed_text (spelled_rule rule) (text_are rule fits named) in
     record {
       gives = grind arith;
@@ -57,7 +59,7 @@ pub given : (text : List ℕ) (z : Zone) → IsPosixZone text z → IsOfText z
 given text z gives = grind (arith, rule_read)
 
 pub no_zone_text : (types : List LocalType) (rule : Option TransitionRule) → ¬ (HasZoneText types rule) → IsNoPosixZone (zone_of_rule types rule)
-no_zone_text types rule none = λ text gives. none ((given text (zone_of_rule types rule) gives).rule)
+no_zone_text types rule none text gives = none ((given text (zone_of_rule types rule) gives).rule)
 
 -- ---- transitions and leap seconds
 pub zone_is : (z : Zone) (types : List LocalType) (rule : Option TransitionRule) → (z.transitions ≡ []) × (z.leaps ≡ []) → types ≡ z.types

@@ -1,4 +1,4 @@
-use Rattle.tz_saving.proofs.Words.{SFits, arith, false≢true, ints, sym, to_z-of_z, w32, w64, ◌-ℤ◌, ◌∙◌}
+use Rattle.tz_saving.proofs.Words.{SFits, arith, ints, to_z-of_z, w32, w64, ◌-ℤ◌}
 use Rattle.tz_saving.proofs.SideLaws.{no_candidate, candidate_is}
 use Rattle.tz_saving.proofs.candidates.candidate.Goals as goal
 
@@ -18,4 +18,4 @@ returns-else-is_amount c =
     let wo : SFits w64 c.args.offset = omega (arith, ints) in let ws : SFits w64 c.args.standard = omega (arith, ints) in
     let wd : SFits w64 (c.args.offset -ℤ c.args.standard) = omega (arith, ints) in
     no_candidate c.args.offset c.args.standard
-    (λ k. false≢true (sym c.if-is_amount.false ∙ (simp to_z-of_z at c.is_amount.ensures).1 k))
+    (λ k. let same = (simp to_z-of_z at c.is_amount.ensures).1 k in cc)

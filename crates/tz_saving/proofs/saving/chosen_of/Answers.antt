@@ -1,4 +1,4 @@
-use Rattle.tz_saving.proofs.Words.{SFits, Usual, false≢true, rules, sym, to_z-of_z, w32, ◌∙◌}
+use Rattle.tz_saving.proofs.Words.{SFits, Usual, rules, to_z-of_z, w32}
 use Rattle.tz_saving.proofs.saving.chosen_of.Goals as goal
 
 pub returns-else-is_value-2 : goal.returns-else-is_value-2
@@ -6,6 +6,6 @@ returns-else-is_value-2 c =
     let fe = c.ranges.early in let fl = c.ranges.late in
     let fu : SFits w32 c.usual_of.result = search rules in
     simp to_z-of_z (Usual c.requires
-    (λ e. false≢true (sym c.if-is_value.false ∙ (simp to_z-of_z at c.is_value.ensures).1 e))
-    (λ e. false≢true (sym c.if-is_value-2.false ∙ (simp to_z-of_z at c.is_value-else-is_value.ensures).1 e))
+    (λ e. let same = (simp to_z-of_z at c.is_value.ensures).1 e in cc)
+    (λ e. let same = (simp to_z-of_z at c.is_value-else-is_value.ensures).1 e in cc)
     (simp to_z-of_z at c.usual_of.ensures))

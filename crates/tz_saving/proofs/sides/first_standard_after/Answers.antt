@@ -1,5 +1,5 @@
-use Rattle.tz_saving.proofs.Words.{IsFirstAfter, SFits, TypeAt, change_held, rules, subst, sym, to_z-of_z, w32, w64, ◌∙◌, arith, ◌≡◌}
-use Rattle.tz_saving.proofs.Walks.{far_on, found_on, goes_on, none_on, some_on, starts_on}
+use Rattle.tz_saving.proofs.Words.{SFits, change_held, rules, to_z-of_z, w32, w64, arith, ◌≡◌}
+use Rattle.tz_saving.proofs.Walks.{far_on, found_on, goes_on, none_on, starts_on}
 use Rattle.tz_saving.proofs.sides.first_standard_after.Goals as goal
 
 pub changes-init : goal.changes-init
@@ -9,29 +9,27 @@ changes-init c =
 
 pub returns-in_default : goal.returns-in_default
 returns-in_default c =
-    let fits = c.ranges.second in
-    none_on c.args.zone.now c.valid_law.ensures.valid c.valid_law.ensures.rule c.args.second _ c.changes.left
-    (simp to_z-of_z at c.changes.invariant) c.in_default.ensures
+    none_on c.args.zone.now c.args.second _ c.valid_law.ensures.valid c.valid_law.ensures.rule
+    (simp (to_z-of_z, c.ranges.second) at c.changes.invariant) c.in_default.ensures
 
 pub changes-preserved : goal.changes-preserved
 changes-preserved c =
     let fits = c.ranges.second in
     let fa : SFits w64 c.in-Some.change.at = search rules in
-    simp to_z-of_z (goes_on c.args.zone.now c.valid_law.ensures.valid c.valid_law.ensures.rule c.args.second _ _ (change_held c.in-Some.change)
-    (some_on c.args.zone.now c.changes.left c.args.second _ c.changes-test.true (simp to_z-of_z at c.changes.invariant)) c.in-Some.ensures
-    (sym c.is_dst.ensures ∙ c.if-is_dst.true))
+    simp to_z-of_z (goes_on c.args.zone.now c.args.second _ c.valid_law.ensures.valid c.valid_law.ensures.rule _ c.changes-test.true
+    (change_held c.in-Some.change) (simp to_z-of_z at c.changes.invariant) c.in-Some.ensures (cc))
 
 pub returns-else-is_dst : goal.returns-else-is_dst
 returns-else-is_dst c =
     let fits = c.ranges.second in
     let fo : SFits w32 c.offset.result = search rules in
-    simp to_z-of_z (subst (IsFirstAfter (TypeAt c.args.zone.now) c.args.second) (sym c.offset.ensures.value)
-    (found_on c.args.zone.now c.valid_law.ensures.valid c.valid_law.ensures.rule c.args.second _ _ (change_held c.in-Some.change)
-    (some_on c.args.zone.now c.changes.left c.args.second _ c.changes-test.true (simp to_z-of_z at c.changes.invariant)) c.in-Some.ensures
-    (sym c.is_dst.ensures ∙ c.if-is_dst.false)))
+    simp to_z-of_z (rw c.offset.ensures.value
+    (found_on c.args.zone.now c.args.second _ c.valid_law.ensures.valid c.valid_law.ensures.rule _ c.changes-test.true (change_held c.in-Some.change)
+    (simp to_z-of_z at c.changes.invariant) c.in-Some.ensures
+    (cc)))
 
 pub returns : goal.returns
 returns c =
-    let fits = c.ranges.second in let over = c.changes-test.false in let none : c.changes.left ≡ 0 = omega (arith, over) in
-    far_on c.args.zone.now c.valid_law.ensures.valid c.valid_law.ensures.rule c.args.second _
-    (rw none at (simp to_z-of_z at c.changes.invariant))
+    let none : c.changes.left ≡ 0 = omega arith in
+    far_on c.args.zone.now c.args.second _ c.valid_law.ensures.valid c.valid_law.ensures.rule
+    (rw none at (simp (to_z-of_z, c.ranges.second) at c.changes.invariant))

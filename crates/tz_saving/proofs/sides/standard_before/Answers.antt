@@ -1,5 +1,5 @@
-use Rattle.tz_saving.proofs.Words.{IsBefore, SFits, TypeAt, change_held, pos, rules, subst, sym, to_z-of_z, w32, w64, ◌-ℤ◌, ◌∙◌, arith, ◌≡◌}
-use Rattle.tz_saving.proofs.Walks.{far_back, found_back, goes_back, none_back, some_back, starts_back}
+use Rattle.tz_saving.proofs.Words.{SFits, change_held, pos, rules, to_z-of_z, w32, w64, ◌-ℤ◌, arith, ◌≡◌}
+use Rattle.tz_saving.proofs.Walks.{far_back, found_back, goes_back, none_back, starts_back}
 use Rattle.tz_saving.proofs.sides.standard_before.Goals as goal
 
 pub changes-init : goal.changes-init
@@ -9,16 +9,15 @@ changes-init c =
 
 pub returns-in_default : goal.returns-in_default
 returns-in_default c =
-    let fits = c.ranges.second in
-    λ offset. none_back c.args.zone.now c.valid_law.ensures.valid c.valid_law.ensures.rule c.args.second _ c.changes.left offset
-    (simp to_z-of_z at c.changes.invariant) c.in_default.ensures
+    λ offset. none_back c.args.zone.now c.args.second _ c.valid_law.ensures.valid c.valid_law.ensures.rule offset
+    (simp (to_z-of_z, c.ranges.second) at c.changes.invariant) c.in_default.ensures
 
 pub changes-preserved : goal.changes-preserved
 changes-preserved c =
     let fits = c.ranges.second in
-    let back = goes_back c.args.zone.now c.valid_law.ensures.valid c.valid_law.ensures.rule c.args.second _ _ (change_held c.in-Some.change)
-    (some_back c.args.zone.now c.changes.left c.args.second _ c.changes-test.true (simp to_z-of_z at c.changes.invariant)) c.in-Some.ensures
-    (sym c.is_dst.ensures ∙ c.if-is_dst.true) in
+    let back = goes_back c.args.zone.now c.args.second _ c.valid_law.ensures.valid c.valid_law.ensures.rule _ c.changes-test.true (change_held c.in-Some.change)
+    (simp to_z-of_z at c.changes.invariant) c.in-Some.ensures
+    (cc) in
     let fa : SFits w64 c.in-Some.change.at = search rules in
     let fb : SFits w64 (c.in-Some.change.at -ℤ pos 1) = back.here.fits in
     simp to_z-of_z back
@@ -27,13 +26,13 @@ pub returns-else-is_dst : goal.returns-else-is_dst
 returns-else-is_dst c =
     let fits = c.ranges.second in
     let fo : SFits w32 c.offset.result = search rules in
-    simp to_z-of_z (subst (IsBefore (TypeAt c.args.zone.now) c.args.second) (sym c.offset.ensures.value)
-    (found_back c.args.zone.now c.valid_law.ensures.valid c.valid_law.ensures.rule c.args.second _ _ (change_held c.in-Some.change)
-    (some_back c.args.zone.now c.changes.left c.args.second _ c.changes-test.true (simp to_z-of_z at c.changes.invariant)) c.in-Some.ensures
-    (sym c.is_dst.ensures ∙ c.if-is_dst.false)))
+    simp to_z-of_z (rw c.offset.ensures.value
+    (found_back c.args.zone.now c.args.second _ c.valid_law.ensures.valid c.valid_law.ensures.rule _ c.changes-test.true (change_held c.in-Some.change)
+    (simp to_z-of_z at c.changes.invariant) c.in-Some.ensures
+    (cc)))
 
 pub returns : goal.returns
 returns c =
-    let fits = c.ranges.second in let over = c.changes-test.false in let none : c.changes.left ≡ 0 = omega (arith, over) in
-    λ offset. far_back c.args.zone.now c.valid_law.ensures.valid c.valid_law.ensures.rule c.args.second _ offset
-    (rw none at (simp to_z-of_z at c.changes.invariant))
+    let none : c.changes.left ≡ 0 = omega arith in
+    λ offset. far_back c.args.zone.now c.args.second _ c.valid_law.ensures.valid c.valid_law.ensures.rule offset
+    (rw none at (simp (to_z-of_z, c.ranges.second) at c.changes.invariant))

@@ -7,8 +7,8 @@ here : (text bs : List ℕ) (i : ℕ) (t : Bool) → i < length bs → begins te
 here text bs i t l h = let e = drop_more bs i 0 l in let k = rw e at h in rw (e, k) refl
 
 pub returns-then-begins : goal.returns-then-begins
-returns-then-begins c = omega (arith, here c.args.text.now c.args.designations.now c.loop-place.place true c.loop-place-test.true (cc), c.loop-place.invariant)
+returns-then-begins c = omega (arith, here c.args.text.now c.args.designations.now c.loop-place.place true c.loop-place-test.true (cc))
 
 pub loop-place-preserved : goal.loop-place-preserved
 loop-place-preserved c =
-    omega (arith, here c.args.text.now c.args.designations.now c.loop-place.place false c.loop-place-test.true (cc), c.loop-place.invariant)
+    omega (arith, here c.args.text.now c.args.designations.now c.loop-place.place false c.loop-place-test.true (cc))

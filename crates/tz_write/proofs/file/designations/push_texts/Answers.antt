@@ -1,4 +1,4 @@
-use Rattle.tz_write.proofs.Words.{All-more, IsNameOrNone, ap, fold, fold_more, sym, take, with_text_of, ◌∙◌}
+use Rattle.tz_write.proofs.Words.{All-more, IsNameOrNone, fold_more, with_text_of}
 use Rattle.tz_write.proofs.file.designations.push_texts.Goals as goal
 
 pub loop-local-preserved : goal.loop-local-preserved
@@ -6,10 +6,7 @@ loop-local-preserved c =
     let types = c.args.types.now in let i = c.loop-local.local-index in let t = c.local-item.result in
     let put = with_text_of c.args.last.now c.args.size in
     record {
-      put = c.push_text_of.ensures.put
-          ∙ (ap (λ d. put d t) c.loop-local.invariant.put
-          ∙ (ap (λ x. put (fold put c.args.designations.now (take i types)) x) c.local-item.is
-          ∙ sym (fold_more put c.args.designations.now types i t c.loop-local-test.true)));
+      put = cc (fold_more put c.args.designations.now types i t c.loop-local-test.true);
       sound = All-more (λ t. IsNameOrNone t.name) types i t c.loop-local-test.true c.loop-local.invariant.sound
           (rw (← c.local-item.is) c.push_text_of.ensures.sound);
     }

@@ -6,7 +6,7 @@ returns c =
     let named = c.can_be_spelled.ensures.answer.0 (search rules) in
     record {
       written = rw c.in_ok-text.ensures
-          (written c.args.self.now c.is_plain.result c.can_be_spelled.ensures.rule named c.is_plain.ensures);
+          (written c.args.self.now c.can_be_spelled.ensures.rule named c.is_plain.result c.is_plain.ensures);
       reason = named;
       memory = tt;
     }
@@ -14,11 +14,8 @@ returns c =
 pub returns-in_err-text-clause-memory : goal.returns-in_err-text-clause-memory
 returns-in_err-text-clause-memory c =
     let rule = c.args.self.now in let fits = c.can_be_spelled.ensures.rule in
-    on_err c.from_residual.result _ (
-      true,
-      spelled_rule rule,
-      rule_spelled true rule fits (c.can_be_spelled.ensures.answer.0 (search rules)) (times_extended rule fits),
-    )
+    on_err c.from_residual.result _
+    (true, spelled_rule rule, rule_spelled rule fits (c.can_be_spelled.ensures.answer.0 (search rules)) true (times_extended rule fits))
 
 pub returns-then-not-can_be_spelled : goal.returns-then-not-can_be_spelled
 returns-then-not-can_be_spelled c = grind (arith, rule_named)
