@@ -2,8 +2,7 @@
 use Rattle.tz_info.proofs.TextLaws.{one_fault as string_fault_once}
 use Rattle.tz_info.specs.TzFiles.IsZoneFault.{In_file as Of_file}
 use Rattle.zoned_ffi.proofs.Words.{IsErrorOfKind, IsExtendedFault, IsFault, IsFileError, IsStringError, Kind, List, ap, arith, detail_number, error_number}
-use Rattle.zoned_ffi.proofs.Words.{file_fault_once}
-use Rattle.zoned_ffi.proofs.Words.{inl, inr, refl, text_fault_once, ℕ, ◌≡◌, ◌⊎◌}
+use Rattle.zoned_ffi.proofs.Words.{file_fault_once, inl, inr, refl, text_fault_once, ℕ, ◌≡◌, ◌⊎◌}
 use Rattle.zoned_ffi.specs.{Refusals.IsFileError.{In_file}}
 use Rattle.zoned_ffi.specs.{Refusals.IsStringError.{In_text, No_memory, Not_utf8}}
 

@@ -6,7 +6,6 @@ use Rattle.zoned_ffi.specs.{Kinds.{kind_number}, Refusals.IsErrorOfKind.{Unknown
 use Rattle.zoned_ffi.specs.Refusals.IsStringError.{Not_utf8}
 use Rattle.tz_info.specs.{PosixZones.{IsExtendedZone}, TzGrammar.{IsTextFault}}
 use Rattle.tz_base.specs.declared.error.Error.TheVariants as errors
-use Rattle.tz_base.specs.declared.error.Expected.TheVariants as expected
 use Rattle.zoned_ffi.specs.declared.kind.Kind.TheVariants as kinds
 
 -- the number of a text's error is that of its fault
@@ -25,10 +24,7 @@ pub reader_number : (e : Error) → IsReaderNumber (error_number e)
 reader_number e = grind arith
 
 pub detail_in_range : (e : Error) → IsReaderNumber (detail_number e)
-detail_in_range (errors.TimeZone expected.TypeIndexesWithinTypes) = grind arith
-detail_in_range (errors.TimeZone expected.TransitionTimesThatRise) = grind arith
-detail_in_range (errors.TimeZone expected.LeapSecondsInOrder) = grind arith
-detail_in_range (errors.TimeZone expected.RuleThatAgreesWithLastTransition) = grind arith
+detail_in_range (errors.TimeZone what) = grind arith
 detail_in_range e = grind arith
 
 -- if there is no memory for a zone that is spelled, that is the fault

@@ -67,7 +67,8 @@ module _ (z : Zone) (off : ℤ → ℤ) (has : AreOffsetsOf z off) where
       record { offset = grind arith; in_force = stand }
 
   pub stand_within : {T : Type 0} (w : Bool) (change : T → Change) (s : ℤ) → IsInRange s → (found : Option T)
-      → IsNearest w (TypeAt z) (IsTold w s) (option_map change found) → StandWithin z off s (λ u. Precedes w s u × IfSome found (λ c. IsAhead w u (change c).at))
+      → IsNearest w (TypeAt z) (IsTold w s) (option_map change found)
+      → StandWithin z off s (λ u. Precedes w s u × IfSome found (λ c. IsAhead w u (change c).at))
   stand_within w change s here found h = λ u there within.
       alike s u here there (λ t. stands w s u t here there within.0 (none_between w s here change (TypeAt z) u found there h within.1))
 

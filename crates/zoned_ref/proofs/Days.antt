@@ -89,4 +89,5 @@ pub zoned_first : {O T : Type 0} {m : Meaning O} (law : Law m) (l u : ℤ) (p : 
     → MatchOption found (IsFirstSecondOutOfRange law.off l) (λ d. IsZonedFirst law l (told d))
 zoned_first law l u p told None first h = (u, first, h)
 zoned_first law l u p told (Some d) first h =
-    let same : (told d).utc.s ≡ u = ap (λ (r : Reading). r.s) h.1.utc in record { first = rw same first; at = subst (λ (v : ℤ). IsAt law (of_secs v 0) (told d)) (sym same) h.1 }
+    let same : (told d).utc.s ≡ u = ap (λ (r : Reading). r.s) h.1.utc in
+    record { first = rw same first; at = subst (λ (v : ℤ). IsAt law (of_secs v 0) (told d)) (sym same) h.1 }

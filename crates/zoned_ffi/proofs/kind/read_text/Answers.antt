@@ -9,4 +9,4 @@ pub returns-in-Err-clause-only : goal.returns-in-Err-clause-only
 returns-in-Err-clause-only c = λ z spelled. c.in-Err.ensures.only z (rw c.in-Ok.ensures.cases.0 spelled.1)
 
 pub returns-in-Err-clause-fault : goal.returns-in-Err-clause-fault
-returns-in-Err-clause-fault c = let fault = text_refused c.in-Ok.text.now c.in-Err.error in grind (arith, fault)
+returns-in-Err-clause-fault c = let fault = text_refused c.in-Ok.text.now c.in-Err.error in grind arith

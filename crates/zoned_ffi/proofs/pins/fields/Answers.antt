@@ -13,7 +13,7 @@ returns-clause-leap_day c = record {
 }
 
 pub returns-clause-no_day : goal.returns-clause-no_day
-returns-clause-no_day c = IsNoLocalOf.no_date_time (λ h. let last = h.date.3 in absurd (omega (arith, last)))
+returns-clause-no_day c = IsNoLocalOf.no_date_time (λ h. absurd (omega arith))
 
 pub returns-clause-no_time : goal.returns-clause-no_time
-returns-clause-no_time c = IsNoLocalOf.no_date_time (λ h. let hour = h.time.0 in absurd (omega (arith, hour)))
+returns-clause-no_time c = IsNoLocalOf.no_date_time (λ h. absurd (omega arith))

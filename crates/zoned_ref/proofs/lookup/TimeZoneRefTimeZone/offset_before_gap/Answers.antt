@@ -5,7 +5,8 @@ pub new-requires : goal.new-requires
 new-requires c = before_within _ _ _ c.zone.ensures.narrow c.in-Gap.ensures
 
 pub returns-in-Gap-clause-offset : goal.returns-in-Gap-clause-offset
-returns-in-Gap-clause-offset c = gap_given c.args.self.now _ c.new.result (rw c.zone.ensures.zone at c.zone.ensures.offsets) c.args.local.now.in_range.0 c.new.ensures.zone
+returns-in-Gap-clause-offset c =
+    gap_given c.args.self.now _ c.new.result (rw c.zone.ensures.zone at c.zone.ensures.offsets) c.args.local.now.in_range.0 c.new.ensures.zone
     (rw (c.new.ensures.local_type, ← c.zone.ensures.zone) c.in-Gap.ensures)
 
 pub returns-in-Single-clause-offset : goal.returns-in-Single-clause-offset

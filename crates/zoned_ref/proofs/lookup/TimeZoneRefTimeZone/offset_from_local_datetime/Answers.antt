@@ -3,7 +3,8 @@ use Rattle.zoned_ref.proofs.Walls.{offsets_given}
 use Rattle.zoned_ref.proofs.lookup.TimeZoneRefTimeZone.offset_from_local_datetime.Goals as goal
 
 pub returns-in-Single-clause-offsets : goal.returns-in-Single-clause-offsets
-returns-in-Single-clause-offsets c = offsets_given c.args.self.now _ (Single c.new.result) (rw c.zone.ensures.zone at c.zone.ensures.offsets) c.args.local.now.in_range.0 c.new.ensures.zone
+returns-in-Single-clause-offsets c =
+    offsets_given c.args.self.now _ (Single c.new.result) (rw c.zone.ensures.zone at c.zone.ensures.offsets) c.args.local.now.in_range.0 c.new.ensures.zone
     (rw (c.new.ensures.local_type, ← c.zone.ensures.zone) c.in-Single.ensures)
 
 pub returns-in-Ambiguous-clause-offsets : goal.returns-in-Ambiguous-clause-offsets

@@ -17,7 +17,8 @@ pub new-requires-in-Gap : goal.new-requires-in-Gap
 new-requires-in-Gap c = before_within _ _ _ c.zone.ensures.narrow c.in-Gap.ensures
 
 pub returns-in-Single-clause-offsets : goal.returns-in-Single-clause-offsets
-returns-in-Single-clause-offsets c = offsets_given c.args.self.now _ (Single c.new.result) (rw c.zone.ensures.zone at c.zone.ensures.offsets) c.args.local.now.in_range.0 c.new.ensures.zone
+returns-in-Single-clause-offsets c =
+    offsets_given c.args.self.now _ (Single c.new.result) (rw c.zone.ensures.zone at c.zone.ensures.offsets) c.args.local.now.in_range.0 c.new.ensures.zone
     (rw (c.new.ensures.local_type, ← c.zone.ensures.zone) c.in-Single.ensures)
 
 pub returns-in-Ambiguous-clause-offsets : goal.returns-in-Ambiguous-clause-offsets
@@ -26,7 +27,8 @@ returns-in-Ambiguous-clause-offsets c = let first = c.new-in-Ambiguous in let la
     (first.ensures.zone, last.ensures.zone) (rw (first.ensures.local_type, last.ensures.local_type, ← c.zone.ensures.zone) c.in-Ambiguous.ensures)
 
 pub returns-in-Gap-clause-offsets : goal.returns-in-Gap-clause-offsets
-returns-in-Gap-clause-offsets c = gap_given c.args.self.now _ c.new-in-Gap.result (rw c.zone.ensures.zone at c.zone.ensures.offsets) c.args.local.now.in_range.0 c.new-in-Gap.ensures.zone
+returns-in-Gap-clause-offsets c =
+    gap_given c.args.self.now _ c.new-in-Gap.result (rw c.zone.ensures.zone at c.zone.ensures.offsets) c.args.local.now.in_range.0 c.new-in-Gap.ensures.zone
     (rw (c.new-in-Gap.ensures.local_type, ← c.zone.ensures.zone) c.in-Gap.ensures)
 
 pub returns-in-Single-clause-local_types : goal.returns-in-Single-clause-local_types

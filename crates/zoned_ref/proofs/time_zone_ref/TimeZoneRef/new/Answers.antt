@@ -2,7 +2,8 @@ use Rattle.zoned_ref.proofs.{Words.{arith, sym, ◌∙◌}, Offsets.{are_offsets
 use Rattle.zoned_ref.proofs.time_zone_ref.TimeZoneRef.new.Goals as goal
 
 pub invariant_of-result : goal.invariant_of-result
-invariant_of-result c = record { narrow = c.is_narrow.ensures.0 c.if-is_narrow.true; offsets = ∣ c.has_offsets.ensures ∣₁; within_day = grind (arith, offsets_within) }
+invariant_of-result c =
+    record { narrow = c.is_narrow.ensures.0 c.if-is_narrow.true; offsets = ∣ c.has_offsets.ensures ∣₁; within_day = grind (arith, offsets_within) }
 
 pub returns-then-is_narrow-clause-offsets : goal.returns-then-is_narrow-clause-offsets
 returns-then-is_narrow-clause-offsets c = grind (arith, are_offsets)

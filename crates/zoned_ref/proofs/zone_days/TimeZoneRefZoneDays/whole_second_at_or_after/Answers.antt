@@ -11,4 +11,5 @@ pub returns : goal.returns
 returns c =
     let fa : SFits w64 c.held_first_at_or_after-found.result.at = search rules in let found = c.held_first_at_or_after-found in
     zoned_first _ _ found.result.at (λ d. type_of (zoned d).offset ≡ found.result.local_time_type.now) (λ d. zoned d) c.instant_of.result
-    (first_to_reach _ _ c.zone-zone.ensures.narrow c.zone-zone.ensures.offsets _ _ _ c.args.local.now.in_range.0 found.ensures) (simp to_z-of_z at c.instant_of.ensures)
+    (first_to_reach _ _ c.zone-zone.ensures.narrow c.zone-zone.ensures.offsets _ _ _ c.args.local.now.in_range.0 found.ensures)
+    (simp to_z-of_z at c.instant_of.ensures)
