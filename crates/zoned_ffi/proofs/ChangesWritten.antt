@@ -1,9 +1,8 @@
 -- The changes of a stretch: how many there can be, and how they are written into a room.
-use Rattle.zoned_ffi.proofs.Words.{AreChanges, AreFirstWritten, Change, Contains-get_or, Fits, Fits64, List, TypeAt, WrittenChange, Zone}
+use Rattle.zoned_ffi.proofs.Words.{AreChanges, AreFirstWritten, Change, Contains-get_or, Fits, Fits64, List, TypeAt, WrittenChange, Zone, append-nil, arith}
+use Rattle.zoned_ffi.proofs.Words.{get_or, ints, length, length-map, map, map-append, pos, refl, slice_set, suc, take, take-append_seam, take_all, w64}
+use Rattle.zoned_ffi.proofs.Words.{written_change, written_into, zero, ℕ, ℤ, [], ◌++◌, ◌+ℤ◌, ◌+◌, ◌<◌, ◌∷◌, ◌≡◌, ◌≤ℤ◌, ◌≤◌, ◌⊎◌}
 use Rattle.std.proofs.Math.Seq.{take-nil}
-use Rattle.zoned_ffi.proofs.Words.{append-nil, arith, get_or, ints, length, length-map, map, map-append, pos, refl, slice_set, suc}
-use Rattle.zoned_ffi.proofs.Words.{take, take-append_seam, take_all, w64, written_change, written_into, zero, ℕ, ℤ, [], ◌++◌, ◌+ℤ◌, ◌+◌, ◌<◌, ◌∷◌}
-use Rattle.zoned_ffi.proofs.Words.{◌≡◌, ◌≤ℤ◌, ◌≤◌, ◌⊎◌}
 
 -- one more element is written at the place after the others, if there is room
 pub into_more : {A : Type 0} (new : List A) (x : A) (room : List A) → slice_set (written_into new room) (length new) x ≡ written_into (new ++ (x ∷ [])) room

@@ -1,13 +1,11 @@
 -- Answers to a column's times: by a lookup, and by what is kept of a stretch.
-use Rattle.zoned_ffi.proofs.Words.{All-contains, AreKeptTimes, Choice, Fits64, IsCounted, IsGreatest, IsInRange, IsInstantOf, IsInstantTaken, IsKeptOf}
-use Rattle.zoned_ffi.proofs.Words.{IsLeast, IsLocal, IsNoInstant, IsOffsetStretch, IsRowNumber, IsShownOnce, IsTakenAs, IsWithout, Kept, LieWithin}
-use Rattle.zoned_ffi.proofs.Words.{List, LocalType, MatchOption, None, OffsetStretch, Option, Shows, Some, Taken, TypeAt, Unit, Zone, ap, arith}
-use Rattle.zoned_ffi.proofs.Words.{first_second, floor_div, floors, get_or, ints, neg_ℤ, offsets, per_second, pos, refl, second_holding, subst}
-use Rattle.zoned_ffi.proofs.Words.{taken_instant, uncounted, ℕ, ℤ, ◌*ℤ◌, ◌+ℤ◌, ◌+◌, ◌-ℤ◌, ◌<ℤ◌, ◌≡◌, ◌≤ℤ◌, AreWritten, drop, length, take, take_all, ◌∙◌, ◌≤◌}
-use Rattle.zoned_ffi.proofs.Slices.{same_behind}
-use Rattle.zoned_ffi.specs.{Steps.KeptTimes.{IsStop}, declared.column.{Question.{Question}, Stop.{Stop}}}
-use Rattle.zoned_ffi.proofs.Resolving.{none_is, taken_once}
-use Rattle.zoned_ffi.specs.{declared.column.Way.TheVariants.{ToInstants, ToLocal}, declared.resolved.Taken.TheVariants.{GapEnd, InForce, Shifted}}
+use Rattle.zoned_ffi.proofs.Words.{All-contains, AreKeptTimes, Choice, Fits64, IsCounted, IsGreatest, IsInRange, IsInstantOf, IsInstantTaken, IsKeptOf, IsLeast}
+use Rattle.zoned_ffi.proofs.Words.{IsLocal, IsNoInstant, IsOffsetStretch, IsRowNumber, IsShownOnce, IsTakenAs, IsWithout, Kept, LieWithin, List, LocalType}
+use Rattle.zoned_ffi.proofs.Words.{MatchOption, None, OffsetStretch, Option, Shows, Some, Taken, TypeAt, Unit, Zone, ap, arith, first_second, floor_div, floors}
+use Rattle.zoned_ffi.proofs.Words.{get_or, ints, neg_ℤ, offsets, per_second, pos, refl, second_holding, subst, taken_instant, uncounted, ℕ, ℤ, ◌*ℤ◌, ◌+ℤ◌, ◌+◌}
+use Rattle.zoned_ffi.proofs.{Words.{◌-ℤ◌, ◌<ℤ◌, ◌≡◌, ◌≤ℤ◌, AreWritten, drop, length, take, take_all, ◌∙◌, ◌≤◌}, Slices.{same_behind}, Resolving.{none_is}}
+use Rattle.zoned_ffi.{proofs.Resolving.{taken_once}, specs.{Steps.KeptTimes.{IsStop}, declared.column.{Question.{Question}, Stop.{Stop}}}}
+use Rattle.zoned_ffi.specs.declared.{column.Way.TheVariants.{ToInstants, ToLocal}, resolved.Taken.TheVariants.{GapEnd, InForce, Shifted}}
 use Rattle.tz_info.proofs.{ExtremeLaws.{at_least_least, at_most_greatest}, ForCallers.{type_once}}
 
 abbrev pub least : ℤ

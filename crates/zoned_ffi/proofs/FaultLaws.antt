@@ -1,14 +1,12 @@
 -- The position of the fault of a TZ string or a file.
-use Rattle.std.specs.Option.{unwrap_or}
-use Rattle.std.specs.Prelude.{MatchOption, Option, Some, None, Result, Ok, Err, IfOk, IfErr, true, ℕ, ◌≡◌, ◌⊎◌, List}
+use Rattle.std.specs.{Option.{unwrap_or}, Prelude.{MatchOption, Option, Some, None, Result, Ok, Err, IfOk, IfErr, true, ℕ, ◌≡◌, ◌⊎◌, List}}
 use Rattle.tz_base.specs.declared.{error.Error.{Error}, parse_error.ParseError.{ParseError}}
-use Rattle.tz_info.proofs.{ForCallers.{file_fault_or_zone, string_fault_or_rule}, TzFileLaws.{fault_low}}
-use Rattle.tz_info.specs.{FilePlaces.{IsFilePlace}, PosixZones.{IsExtendedFaultPlace, IsExtendedZone, IsPlaced, IsPosixFaultPlace}, TzGrammar.{IsTextFault}}
-use Rattle.tz_info.specs.{TzFiles.{IsTzFile}, Zones.{IsValid}}
-use Rattle.tz_info.specs.TzFiles.IsZoneFault.{In_file as Of_file, No_memory as Of_memory}
+use Rattle.tz_info.{proofs.{ForCallers.{file_fault_or_zone, string_fault_or_rule}, TzFileLaws.{fault_low}}, specs.FilePlaces.{IsFilePlace}}
+use Rattle.tz_info.specs.{PosixZones.{IsExtendedFaultPlace, IsExtendedZone, IsPlaced, IsPosixFaultPlace}, TzGrammar.{IsTextFault}, TzFiles.{IsTzFile}}
+use Rattle.tz_info.specs.{TzFiles.IsZoneFault.{In_file as Of_file, No_memory as Of_memory}, Zones.{IsValid}}
 use Rattle.zoned_ffi.proofs.Words.{IsOutOfMemory, IsPosixFault, IsPosixZone, IsUtf8, IsZoneFault, Zone, arith, inl, inr, refl}
-use Rattle.zoned_ffi.specs.{FaultPlaces.{IsFaultPosition, no_position, position_of}, Kinds.{IsKind}}
-use Rattle.zoned_ffi.specs.FaultPlaces.IsFaultPosition.{File_zone, In_file, In_string, In_text, No_kind, No_memory, String_zone, Text_zone}
+use Rattle.zoned_ffi.specs.FaultPlaces.{IsFaultPosition, no_position, position_of, IsFaultPosition.{File_zone, In_file, In_string, In_text, No_kind, No_memory}}
+use Rattle.zoned_ffi.specs.{FaultPlaces.IsFaultPosition.{String_zone, Text_zone}, Kinds.{IsKind}}
 
 -- of some bytes
 module _ (bytes : List ℕ) where

@@ -1,7 +1,6 @@
 -- A handle by value: what it owns taken out of it, and put into one. Assumes `Logic`.
 use Rattle.core.proofs.{alloc.Calls.{handle_tells}, cell.Inside.{Good}}
-use Rattle.std.specs.{contracts.impls.GlobalAllocator.TheImpl.{ghosts}, declared.alloc.Global.{Global}, declared.option.Option.{Option}}
-use Rattle.std.specs.declared.option.Option.TheVariants.{None, Some}
+use Rattle.std.specs.{contracts.impls.GlobalAllocator.TheImpl.{ghosts}, declared.{alloc.Global.{Global}, option.Option.{Option, TheVariants.{None, Some}}}}
 use Rattle.std_alloc.proofs.ResultValues.{and_tt}
 use Rattle.zoned_ffi.proofs.Words.{Goal, Item, Laws, List, Logic, Ptr, RattleType, RawPtr, SProp, Seq, Step, T, Testable, Ura, Val, Valss, WT, block_ptr, boxed}
 use Rattle.zoned_ffi.proofs.Words.{dealloc_token-Testable, ent, fact_use, feq_i, feq_l, fjoin, fpack, fpick, fsplit, fst∗, full_share, given, guard, guard_i}

@@ -2,9 +2,8 @@
 use Rattle.std.specs.Int.{saturate_signed}
 use Rattle.offset_core.specs.declared.local_result.LocalResult.TheVariants.{Single}
 use Rattle.zoned_ffi.proofs.Words.{Choice, Fits64, IsGreatest, IsLeast, IsResolvedAt, IsResolvedStamp, IsUtOffset, IsWallClockAt, OffsetStretch, Resolved}
-use Rattle.zoned_ffi.proofs.Words.{IsOffsetStretch, WrittenLocalResult, Zone, arith, first_second, inl, ints, offsets, pos, told_of, w64}
-use Rattle.zoned_ffi.proofs.Words.{ℤ, ◌+ℤ◌, ◌-ℤ◌, ◌<ℤ◌, ◌≡◌, ◌≤ℤ◌}
-use Rattle.zoned_ffi.proofs.{Columns.{once_shown}, Resolving.{in_force, resolved_by, taken_once}, Telling.{told_answer}}
+use Rattle.zoned_ffi.proofs.Words.{IsOffsetStretch, WrittenLocalResult, Zone, arith, first_second, inl, ints, offsets, pos, told_of, w64, ℤ, ◌+ℤ◌, ◌-ℤ◌, ◌<ℤ◌}
+use Rattle.zoned_ffi.proofs.{Words.{◌≡◌, ◌≤ℤ◌}, Columns.{once_shown}, Resolving.{in_force, resolved_by, taken_once}, Telling.{told_answer}}
 use Rattle.zoned_ffi.specs.{Steps.ShownOnce.{IsHeldOf, IsOnceBy}, declared.local_lookups.Held.{Held}}
 
 abbrev pub end_second : ℤ

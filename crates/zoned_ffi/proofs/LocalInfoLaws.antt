@@ -1,9 +1,7 @@
 -- The spans around a local time.
-use Rattle.zoned_ffi.proofs.Words.{LocalType, Shows, TypeAt, Zone, arith, ints, pos, subst, ℤ, ◌-ℤ◌, ◌≡◌, IsShownOnce}
+use Rattle.zoned_ffi.{proofs.Words.{LocalType, Shows, TypeAt, Zone, arith, ints, pos, subst, ℤ, ◌-ℤ◌, ◌≡◌, IsShownOnce}, specs.LocalInfos.{IsLocalInfo}}
+use Rattle.zoned_ffi.specs.{WrittenSpans.{IsWrittenSpanAt}, declared.local_info.WrittenLocalInfo.{WrittenLocalInfo}}
 use Rattle.offset_core.specs.WallAnswer.{IsShownBetween}
-use Rattle.zoned_ffi.specs.LocalInfos.{IsLocalInfo}
-use Rattle.zoned_ffi.specs.WrittenSpans.{IsWrittenSpanAt}
-use Rattle.zoned_ffi.specs.declared.local_info.WrittenLocalInfo.{WrittenLocalInfo}
 
 -- a local time of a zone
 module _ (z : Zone) (local : ℤ) where

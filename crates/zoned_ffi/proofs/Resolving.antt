@@ -1,6 +1,6 @@
 -- What a choice takes, in terms of instants.
-use Rattle.offset_core.specs.{declared.around.Around.{Around}, declared.around.Taken.{Taken as Found}}
-use Rattle.offset_core.specs.{declared.around.Around.TheVariants.{Gap, Single}, declared.resolve_error.ResolveError.{ResolveError}}
+use Rattle.offset_core.specs.declared.around.{Around.{Around, TheVariants.{Gap, Single}}, Taken.{Taken as Found, TheVariants.{InGap, Shown}}}
+use Rattle.offset_core.specs.declared.{resolve_error.ResolveError.{ResolveError}, choice.{FoldChoice.{FoldChoice}, GapChoice.{GapChoice}}}
 use Rattle.tz_base.specs.declared.change.Change.{Change}
 use Rattle.tz_info.specs.Around.{AreTypesAround, map_both}
 use Rattle.zoned_ffi.proofs.Words.{Choice, IsFirstAtOrAfter, IsTakenGapEnd, IsNoneTaken, IsInRange, IsWrittenOffsetAt, IsReachedAt, IsResolvedAt, IsShownOnce}
@@ -8,9 +8,7 @@ use Rattle.zoned_ffi.proofs.Words.{arith, IsResolvedStamp, IsTakenType, IsTakenA
 use Rattle.zoned_ffi.proofs.Words.{+ℤ-neg_ℤ_cancel, ap, sym, ◌∙◌, ◌-ℤ◌, Err, Ok, Result, TakesOf, policy_of, refl, taken_in_range, taken_of, ℕ, ◌≡◌, ◌≢◌, ◌⊎◌}
 use Rattle.zoned_ffi.specs.declared.resolved.Taken.TheVariants.{InForce}
 use Rattle.zoned_ffi.specs.declared.choice.ChoiceInGap.TheVariants as in_gap
-use Rattle.offset_core.specs.declared.around.Taken.TheVariants.{InGap, Shown}
 use Rattle.offset_core.specs.declared.choice.Choice as any_choice
-use Rattle.offset_core.specs.declared.choice.{FoldChoice.{FoldChoice}, GapChoice.{GapChoice}}
 use Rattle.offset_core.specs.declared.choice.FoldChoice.TheVariants as folds
 use Rattle.offset_core.specs.declared.choice.GapChoice.TheVariants as gaps
 use Rattle.offset_core.specs.declared.resolve_error.ResolveError.TheVariants as reasons

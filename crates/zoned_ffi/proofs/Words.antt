@@ -1,10 +1,8 @@
 -- The words that this crate's proofs cite, passed on from std, from the crates below and from specs/.
 pub use Rattle.std.proofs.{Common.{Err, Fits, None, Ok, Option, Result, Some, lit<, slice_set, take_all, ◌-◌}, GlobalToken.{dealloc_token-Testable}}
 pub use Rattle.std.proofs.{Math.IntN.{+ℤ-neg_ℤ_cancel}, ResultValues.{and_tt}, alloc.{Calls.{handle_tells}, Shapes.{after}}, cell.Inside.{Good}}
-pub use Rattle.std.proofs.lemmas.{Bool.{and_parts}, List.{Elements.{All-contains, All-replicate, All-set}}}
-pub use Rattle.std.proofs.lemmas.List.{drop-drop, drop-set-lt}
-pub use Rattle.std.proofs.{lemmas.List.{length-set, map-append}, option.Made.{Some-of, none_of}, raw_atomic.Walks.{leaves, proved, proved_at}}
-pub use Rattle.std.specs.{List.{AllZip}, Prelude.{drop}}
+pub use Rattle.std.proofs.lemmas.{Bool.{and_parts}, List.{drop-drop, drop-set-lt, length-set, map-append, Elements.{All-contains, All-replicate, All-set}}}
+pub use Rattle.std.{proofs.{option.Made.{Some-of, none_of}, raw_atomic.Walks.{leaves, proved, proved_at}}, specs.{List.{AllZip}, Prelude.{drop}}}
 pub use Rattle.core.specs.declared.alloc.Allocator.{Ghosts}
 pub use Rattle.std_alloc.specs.Box.Ownership.{box_owns}
 pub use base.{Fml.{Fml, Incl-refl, Lft, Share, fbor, fdead, fex, flft, fsep, fshr_bor, ftrue, fupd, fwand}, Fraction.{full_share}, Logic.{SProp, emp, ent}}
@@ -29,34 +27,29 @@ pub use types.Kit.{Step, assume, at_ret, await, by, done, feq_i, feq_l, fjoin, f
 pub use types.{Kit.{qed, raw, rewrite, some, split, split3, step, suffices, updating, use0, use1, use2, !, ‵, ◌$◌, ◌∵◌, ◌⊛◌}, Logic.{Logic, sem}, Match.{live}}
 pub use types.{Part.{agg, look_in, sub, whole}, Run.{addr, and_then, bin, blocks, branches, enter, exec, first, fld, lit, load, no_more, of_opd, returns}}
 pub use types.{Run.{returns_within, skips, stop}, Tokens.{bor_fracture, bor_open, obor_alter}}
-pub use Rattle.offset_core.proofs.ForCallers.{IsWallAnswer-map_of, taken_in_range, taken_right}
-pub use Rattle.offset_core.specs.{Around.{taken_of}, declared.local_result.LocalResult.{LocalResult}}
-pub use Rattle.offset_core.specs.WallAnswer.{IsShownOnce}
+pub use Rattle.offset_core.{proofs.ForCallers.{IsWallAnswer-map_of, taken_in_range, taken_right}, specs.Around.{taken_of}}
+pub use Rattle.offset_core.specs.{declared.local_result.LocalResult.{LocalResult}, WallAnswer.{IsShownOnce}}
 pub use Rattle.naive_base.{proofs.Words.{IsInRange}, specs.Range.{first_second}}
 pub use Rattle.tz_base.specs.declared.{change.Change.{Change}, error.Error.{Error}}
-pub use Rattle.tz_info.proofs.{ForCallers.{file_fault_once, text_fault_once}, Words.{AreChanges, Bor, Contains-get_or, FitsSigned, IfErr}}
-pub use Rattle.tz_info.proofs.Words.{IsFirstAtOrAfter, IsOutOfMemory, IsPosixFault, IsPosixZone, IsUtOffset, IsUtf8}
-pub use Rattle.tz_info.proofs.Words.{IsWallAnswer, IsZoneFault, List, LocalType, MatchOption, Shows, TypeAt, Zone, ap, append-nil, append_assoc}
-pub use Rattle.tz_info.proofs.Words.{arith, floor_div, floors, get_or, inl, inr, ints, length, length-append, length-map, map, neg_ℤ, error_number}
-pub use Rattle.tz_info.proofs.Words.{pos, refl, rules, subst, suc, sym, take, take-append_seam, to_z-of_z, true, w128, w32, w64, zero}
-pub use Rattle.tz_info.proofs.Words.{ℕ, ℤ, [], ◌&&◌, ◌*ℤ◌, ◌*◌, ◌++◌, ◌+ℤ◌, ◌+◌, ◌-ℤ◌, ◌<ℤ◌, ◌<◌, ◌↔◌, ◌∙◌, ◌∷◌, ◌≡◌, ◌≢◌, ◌≤ℤ◌, ◌≤◌, ◌⊎◌}
+pub use Rattle.tz_info.proofs.{ForCallers.{file_fault_once, text_fault_once}, Words.{AreChanges, Bor, Contains-get_or, FitsSigned, IfErr, IsFirstAtOrAfter}}
+pub use Rattle.tz_info.proofs.Words.{IsOutOfMemory, IsPosixFault, IsPosixZone, IsUtOffset, IsUtf8, IsWallAnswer, IsZoneFault, List, LocalType, MatchOption}
+pub use Rattle.tz_info.proofs.Words.{Shows, TypeAt, Zone, ap, append-nil, append_assoc, arith, floor_div, floors, get_or, inl, inr, ints, length, length-append}
+pub use Rattle.tz_info.proofs.Words.{length-map, map, neg_ℤ, error_number, pos, refl, rules, subst, suc, sym, take, take-append_seam, to_z-of_z, true, w128}
+pub use Rattle.tz_info.proofs.Words.{w32, w64, zero, ℕ, ℤ, [], ◌&&◌, ◌*ℤ◌, ◌*◌, ◌++◌, ◌+ℤ◌, ◌+◌, ◌-ℤ◌, ◌<ℤ◌, ◌<◌, ◌↔◌, ◌∙◌, ◌∷◌, ◌≡◌, ◌≢◌, ◌≤ℤ◌, ◌≤◌, ◌⊎◌}
 pub use Rattle.tz_info.specs.{Windows.{IsGreatest, IsLeast, offsets}, declared.rule.transition_rule.TransitionRule.{TransitionRule}}
-pub use Rattle.tz_info.specs.{FilePieces.{HasCounts}, declared.{file.counts.FileCounts.{FileCounts}, zone.ask.offset_stretch.OffsetStretch.{OffsetStretch}}}
+pub use Rattle.tz_info.specs.{declared.{file.counts.FileCounts.{FileCounts}, zone.ask.offset_stretch.OffsetStretch.{OffsetStretch}}, FilePieces.{HasCounts}}
 unfoldable pub use Rattle.tz_info.proofs.Words.{changes_left}
-pub use Rattle.zoned_ffi.specs.Columns.{IsInstantOf, IsInstantTaken, IsNoInstant, IsRowNumber}
-pub use Rattle.zoned_ffi.specs.{Columns.{second_holding}, Instants.{AreOffsetsAt, IsWrittenOffsetAt}, Kinds.{IsZoneOf, SpellsZone}}
-pub use Rattle.zoned_ffi.specs.Limits.{IsAboveLimits}
-pub use Rattle.zoned_ffi.specs.{Owned.{boxed, held, lent, loan, shared_row}, Refusals.{IsErrorOfKind, IsExtendedFault, IsFault, IsFileError, IsReaderNumber}}
-pub use Rattle.zoned_ffi.specs.Refusals.{IsStringError, refusal_number, detail_number}
-pub use Rattle.zoned_ffi.specs.Resolved.{AreReached, AreResolved, IsNoneTaken, IsReachedAt, IsResolvedAt}
-pub use Rattle.zoned_ffi.specs.{Resolved.{IsTakenGapEnd, IsTakenType, TakesOf, policy_of}, Steps.KeptTimes.{AreKept, AreKeptTimes, AreWritten}}
-pub use Rattle.zoned_ffi.specs.Steps.{KeptTimes.{IsKept, IsKeptOf, IsWritten, LieWithin}, ResolvedInstants.{IsResolvedStamp}}
+pub use Rattle.zoned_ffi.specs.{Columns.{IsInstantOf, IsInstantTaken, IsNoInstant, IsRowNumber, second_holding}, Instants.{AreOffsetsAt, IsWrittenOffsetAt}}
+pub use Rattle.zoned_ffi.specs.{Kinds.{IsZoneOf, SpellsZone}, Limits.{IsAboveLimits}, Owned.{boxed, held, lent, loan, shared_row}, Refusals.{IsErrorOfKind}}
+pub use Rattle.zoned_ffi.specs.Refusals.{IsExtendedFault, IsFault, IsFileError, IsReaderNumber, IsStringError, refusal_number, detail_number}
+pub use Rattle.zoned_ffi.specs.Resolved.{AreReached, AreResolved, IsNoneTaken, IsReachedAt, IsResolvedAt, IsTakenGapEnd, IsTakenType, TakesOf, policy_of}
+pub use Rattle.zoned_ffi.specs.Steps.{KeptTimes.{AreKept, AreKeptTimes, AreWritten, IsKept, IsKeptOf, IsWritten, LieWithin}, ResolvedInstants.{IsResolvedStamp}}
 pub use Rattle.zoned_ffi.specs.{Steps.{ResolvedInstants.{IsTakenAs, taken_instant}, Told.{told_of}}, Texts.{IsSaidOf, IsTextOf}, Units.{IsCounted, IsLocal}}
-pub use Rattle.zoned_ffi.specs.{Units.{IsOffsetStretch, IsWithout, no_type, per_second, uncounted}, WallClocks.{AreWallClocks}}
-pub use Rattle.zoned_ffi.specs.{WallClocks.{IsWallClockAt, ShowsAt}, WrittenChanges.{AreFirstWritten, written_change, written_into}}
-pub use Rattle.zoned_ffi.specs.{WrittenTypes.{AreWrittenTypesAt, IsWrittenTypeAt}, declared.{changes.WrittenChange.{WrittenChange}, choice.Choice.{Choice}}}
-pub use Rattle.zoned_ffi.specs.declared.{column.{kept.Kept.{Kept}}, kind.Kind.{Kind}, refusal.Refusal.{Refusal}}
-pub use Rattle.zoned_ffi.specs.declared.{resolved.{Resolved.{Resolved}, Taken.{Taken}}, unit.Unit.{Unit}, local_result.WrittenLocalResult.{WrittenLocalResult}}
+pub use Rattle.zoned_ffi.specs.{Units.{IsOffsetStretch, IsWithout, no_type, per_second, uncounted}, WallClocks.{AreWallClocks, IsWallClockAt, ShowsAt}}
+pub use Rattle.zoned_ffi.specs.{WrittenChanges.{AreFirstWritten, written_change, written_into}, WrittenTypes.{AreWrittenTypesAt, IsWrittenTypeAt}}
+pub use Rattle.zoned_ffi.specs.declared.{changes.WrittenChange.{WrittenChange}, choice.Choice.{Choice}, column.kept.Kept.{Kept}, kind.Kind.{Kind}}
+pub use Rattle.zoned_ffi.specs.declared.{refusal.Refusal.{Refusal}, resolved.{Resolved.{Resolved}, Taken.{Taken}}, unit.Unit.{Unit}}
+pub use Rattle.zoned_ffi.specs.declared.local_result.WrittenLocalResult.{WrittenLocalResult}
 
 -- a signed number fits 64 bits
 abbrev pub Fits64 : ℤ → Type 0

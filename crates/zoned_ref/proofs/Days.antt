@@ -1,11 +1,10 @@
 -- When clocks show certain local times: by the types in force as by their offsets.
-use Rattle.zoned_ref.proofs.Words.{AreEndsOfDay, AreEndsWithin, AreOffsetsOf, HasReached, IsFirstAtOrAfter, IsFirstToReach, IsNarrow, IsNeverOnDay}
-use Rattle.zoned_ref.proofs.Words.{IsAt, IsFirstSecondOutOfRange, IsInRange, IsNeverWithin, IsOffsetStretch, IsOnDay, IsReachedAt, IsWithinDay, IsZonedFirst}
-use Rattle.zoned_ref.proofs.Words.{Law, MatchOption, Meaning, None, Option, Reading, Some, Zoned, of_secs, refl, subst}
-use Rattle.tz_info.specs.Reached.{IsLastReached}
-use Rattle.zoned_ref.proofs.Words.{IsWide, IsWideDay, IsZoneSecond, LocalType, ShownSeconds, ShowsWithin, TypeAt, Zone, ap, arith, ints}
-use Rattle.zoned_ref.proofs.Words.{pos, sym, type_once, ℤ, ◌*ℤ◌, ◌+ℤ◌, ◌-ℤ◌, ◌<ℤ◌, ◌∙◌, ◌≡◌, ◌≤ℤ◌}
+use Rattle.zoned_ref.proofs.Words.{AreEndsOfDay, AreEndsWithin, AreOffsetsOf, HasReached, IsFirstAtOrAfter, IsFirstToReach, IsNarrow, IsNeverOnDay, IsAt}
+use Rattle.zoned_ref.proofs.Words.{IsFirstSecondOutOfRange, IsInRange, IsNeverWithin, IsOffsetStretch, IsOnDay, IsReachedAt, IsWithinDay, IsZonedFirst, Law}
+use Rattle.zoned_ref.proofs.Words.{MatchOption, Meaning, None, Option, Reading, Some, Zoned, of_secs, refl, subst, IsWide, IsWideDay, IsZoneSecond, LocalType}
+use Rattle.zoned_ref.proofs.Words.{ShownSeconds, ShowsWithin, TypeAt, Zone, ap, arith, ints, pos, sym, type_once, ℤ, ◌*ℤ◌, ◌+ℤ◌, ◌-ℤ◌, ◌<ℤ◌, ◌∙◌, ◌≡◌, ◌≤ℤ◌}
 use Rattle.zoned_ref.proofs.Offsets.{type_within}
+use Rattle.tz_info.specs.Reached.{IsLastReached}
 
 abbrev OnDayByType : Zone → ℤ → ℤ → LocalType → Type 0
 OnDayByType z day u t = ShowsWithin (TypeAt z) (pos 86_400 *ℤ day) (pos 86_400 *ℤ day +ℤ pos 86_400) u t

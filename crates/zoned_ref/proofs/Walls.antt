@@ -1,9 +1,8 @@
 -- The wall clock's answer over all seconds of 64 bits is the one over the range that zones answer in: whoever shows a
 -- local date-time is less than a day away from it.
 use Rattle.zoned_ref.proofs.Words.{AreOffsetsOf, IsNarrow, IsWallAnswer, IsWallAnswer-map_of, IsWide, IsWithinDay, LocalResult, LocalType, SameLaw, TimeZoneRef}
-use Rattle.zoned_ref.proofs.Words.{TypeAt, Zone, ZoneOffset, arith, home_law, ints, law_of, map_of, meaning_of, off_of, same_itself, type_of}
-use Rattle.zoned_ref.proofs.Words.{zone_of, ℤ, ◌-ℤ◌, ◌≡◌}
-use Rattle.zoned_ref.proofs.{Days.{same_offset}, Offsets.{type_within}}
+use Rattle.zoned_ref.proofs.Words.{TypeAt, Zone, ZoneOffset, arith, home_law, ints, law_of, map_of, meaning_of, off_of, same_itself, type_of, zone_of, ℤ, ◌-ℤ◌}
+use Rattle.zoned_ref.proofs.{Words.{◌≡◌}, Days.{same_offset}, Offsets.{type_within}}
 use Rattle.tz_info.specs.WallClocks as types
 use Rattle.zoned_time.specs.Zone as offsets
 

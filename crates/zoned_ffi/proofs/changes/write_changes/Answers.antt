@@ -1,5 +1,4 @@
-use Rattle.zoned_ffi.proofs.Words.{append_assoc, arith, inl, inr, length-append, to_z-of_z}
-use Rattle.zoned_ffi.proofs.ChangesWritten.{first_written, more_written, place_fits}
+use Rattle.zoned_ffi.proofs.{Words.{append_assoc, arith, inl, inr, length-append, to_z-of_z}, ChangesWritten.{first_written, more_written, place_fits}}
 use Rattle.zoned_ffi.proofs.changes.write_changes.Goals as goal
 
 pub overflow_add-count : goal.overflow_add-count

@@ -1,5 +1,4 @@
-use Rattle.zoned_ffi.proofs.Words.{All-replicate, IsKept, arith, refl, rules, sym, ◌*◌}
-use Rattle.zoned_ffi.proofs.{Columns.{last_block, stop_behind}, Slices.{same_behind}}
+use Rattle.zoned_ffi.proofs.{Words.{All-replicate, IsKept, arith, refl, rules, sym, ◌*◌}, Columns.{last_block, stop_behind}, Slices.{same_behind}}
 use Rattle.zoned_ffi.proofs.column.write_long.Goals as goal
 
 pub returns-in-Some : goal.returns-in-Some

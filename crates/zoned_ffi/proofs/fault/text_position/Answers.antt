@@ -1,6 +1,4 @@
-use Rattle.zoned_ffi.proofs.Words.{arith}
-use Rattle.zoned_ffi.proofs.FaultLaws.{text_place}
-use Rattle.zoned_ffi.specs.FaultPlaces.IsFaultPosition.{Not_utf8}
+use Rattle.zoned_ffi.{proofs.{Words.{arith}, FaultLaws.{text_place}}, specs.FaultPlaces.IsFaultPosition.{Not_utf8}}
 use Rattle.zoned_ffi.proofs.fault.text_position.Goals as goal
 
 pub returns-in-Err : goal.returns-in-Err

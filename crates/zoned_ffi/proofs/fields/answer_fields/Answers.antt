@@ -1,6 +1,4 @@
-use Rattle.zoned_ffi.proofs.Words.{arith, refl, to_z-of_z}
-use Rattle.zoned_ffi.proofs.FieldLaws.{kept_inside}
-use Rattle.zoned_ffi.specs.Fields.{AreNoFieldsAt}
+use Rattle.zoned_ffi.{proofs.{Words.{arith, refl, to_z-of_z}, FieldLaws.{kept_inside}}, specs.Fields.{AreNoFieldsAt}}
 use Rattle.zoned_ffi.proofs.fields.answer_fields.Goals as goal
 
 pub returns-in-Err-clause-refused : goal.returns-in-Err-clause-refused

@@ -1,5 +1,4 @@
-use Rattle.zoned_ffi.proofs.Words.{arith}
-use Rattle.zoned_ffi.proofs.{Reading.{text_refused}}
+use Rattle.zoned_ffi.proofs.{Words.{arith}, Reading.{text_refused}}
 use Rattle.zoned_ffi.proofs.kind.read_text.Goals as goal
 
 pub returns-in-Ok-from_posix_tz-clause-only : goal.returns-in-Ok-from_posix_tz-clause-only

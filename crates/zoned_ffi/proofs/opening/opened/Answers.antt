@@ -1,4 +1,4 @@
-use Rattle.zoned_ffi.proofs.{Reading.{no_memory_refused}}
+use Rattle.zoned_ffi.proofs.Reading.{no_memory_refused}
 use Rattle.zoned_ffi.proofs.opening.opened.Goals as goal
 
 pub returns-in-None-clause-fault : goal.returns-in-None-clause-fault

@@ -1,6 +1,4 @@
-use Rattle.zoned_ffi.specs.Columns.{by_gap_end, by_offset, outside}
-use Rattle.zoned_ffi.specs.Units.{no_type}
-use Rattle.zoned_ffi.proofs.Words.{arith, inl, ints, pos, refl}
+use Rattle.zoned_ffi.{specs.{Columns.{by_gap_end, by_offset, outside}, Units.{no_type}}, proofs.Words.{arith, inl, ints, pos, refl}}
 use Rattle.zoned_ffi.proofs.pins.columns.Goals as goal
 
 pub returns-clause-gap_end : goal.returns-clause-gap_end

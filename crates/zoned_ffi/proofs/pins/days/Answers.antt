@@ -1,5 +1,4 @@
-use Rattle.zoned_ffi.proofs.Words.{arith, ints}
-use Rattle.zoned_ffi.specs.WholeSeconds.{IsNoDayAt}
+use Rattle.zoned_ffi.{proofs.Words.{arith, ints}, specs.WholeSeconds.{IsNoDayAt}}
 use Rattle.zoned_ffi.proofs.pins.days.Goals as goal
 
 pub returns-clause-outside : goal.returns-clause-outside

@@ -1,6 +1,5 @@
 use Rattle.gregorian.specs.{Date.{day_number}, Month.{days_of_months}, Year.{year_start}}
-use Rattle.zoned_ffi.proofs.Words.{arith, refl}
-use Rattle.zoned_ffi.specs.Fields.{IsNoLocalOf}
+use Rattle.zoned_ffi.{proofs.Words.{arith, refl}, specs.Fields.{IsNoLocalOf}}
 use Rattle.zoned_ffi.proofs.pins.fields.Goals as goal
 
 pub returns-clause-leap_day : goal.returns-clause-leap_day

@@ -1,5 +1,4 @@
-use Rattle.zoned_ffi.proofs.Words.{arith, ints}
-use Rattle.zoned_ffi.specs.{Columns.{IsNoWholeSecondOf}, WholeSeconds.{IsNotFound}}
+use Rattle.zoned_ffi.{proofs.Words.{arith, ints}, specs.{Columns.{IsNoWholeSecondOf}, WholeSeconds.{IsNotFound}}}
 use Rattle.zoned_ffi.proofs.pins.whole_seconds.Goals as goal
 
 pub returns-clause-outside : goal.returns-clause-outside

@@ -1,5 +1,4 @@
-use Rattle.zoned_ffi.proofs.Words.{arith}
-use Rattle.zoned_ffi.proofs.RuleStringLaws.{none_by, spelled_by, unspelled_by}
+use Rattle.zoned_ffi.proofs.{Words.{arith}, RuleStringLaws.{none_by, spelled_by, unspelled_by}}
 use Rattle.zoned_ffi.proofs.rule_string.rule_string.Goals as goal
 
 pub returns-in_default : goal.returns-in_default

@@ -1,5 +1,4 @@
-use Rattle.zoned_ffi.proofs.Words.{arith}
-use Rattle.zoned_ffi.proofs.{Words.{IsSaidOf}, Sayings.{says}}
+use Rattle.zoned_ffi.proofs.{Words.{arith, IsSaidOf}, Sayings.{says}}
 use Rattle.zoned_ffi.proofs.texts.text_of.Goals as goal
 
 pub returns-in-15 : goal.returns-in-15

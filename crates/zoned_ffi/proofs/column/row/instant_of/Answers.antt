@@ -1,5 +1,4 @@
-use Rattle.zoned_ffi.proofs.Words.{Fits64, IsNoInstant, None, Some, ap, arith, rules, to_z-of_z}
-use Rattle.zoned_ffi.proofs.Columns.{instant_told}
+use Rattle.zoned_ffi.proofs.{Words.{Fits64, IsNoInstant, None, Some, ap, arith, rules, to_z-of_z}, Columns.{instant_told}}
 use Rattle.zoned_ffi.proofs.column.row.instant_of.Goals as goal
 
 pub returns-in-Some-instant_taken : goal.returns-in-Some-instant_taken

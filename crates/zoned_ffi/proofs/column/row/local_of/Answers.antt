@@ -1,5 +1,4 @@
-use Rattle.zoned_ffi.proofs.Words.{Fits64, FitsSigned, ap, no_type, per_second, pos, rules, to_z-of_z, w32, ℤ, ◌*ℤ◌, ◌∙◌}
-use Rattle.zoned_ffi.proofs.Columns.{looked_up}
+use Rattle.zoned_ffi.proofs.{Words.{Fits64, FitsSigned, ap, no_type, per_second, pos, rules, to_z-of_z, w32, ℤ, ◌*ℤ◌, ◌∙◌}, Columns.{looked_up}}
 use Rattle.zoned_ffi.proofs.column.row.local_of.Goals as goal
 
 pub returns-in-Ok : goal.returns-in-Ok

@@ -1,5 +1,4 @@
-use Rattle.zoned_ffi.proofs.Words.{arith, Fits64, FitsSigned, rules, to_z-of_z, w128, ◌∙◌}
-use Rattle.zoned_ffi.specs.Columns.{IsNoWholeSecondOf}
+use Rattle.zoned_ffi.{proofs.Words.{arith, Fits64, FitsSigned, rules, to_z-of_z, w128, ◌∙◌}, specs.Columns.{IsNoWholeSecondOf}}
 use Rattle.zoned_ffi.proofs.column.row.whole_second_of.Goals as goal
 
 pub returns-in-Some : goal.returns-in-Some

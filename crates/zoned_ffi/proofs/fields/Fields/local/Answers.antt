@@ -1,7 +1,6 @@
 use Rattle.naive_base.specs.Clock.{clock_second}
 use Rattle.zoned_ffi.proofs.Words.{Fits64, FitsSigned, IsInRange, arith, ints, pos, refl, rules, subst, sym, to_z-of_z, w32, ◌*ℤ◌, ◌+ℤ◌, ◌≡◌}
-use Rattle.zoned_ffi.proofs.FieldLaws.{local_is}
-use Rattle.zoned_ffi.specs.Fields.{IsNoLocalOf, local_of_fields}
+use Rattle.zoned_ffi.{proofs.FieldLaws.{local_is}, specs.Fields.{IsNoLocalOf, local_of_fields}}
 use Rattle.zoned_ffi.proofs.fields.Fields.local.Goals as goal
 
 pub returns-then-not-are_date_time : goal.returns-then-not-are_date_time

@@ -1,5 +1,4 @@
-use Rattle.zoned_ffi.proofs.Words.{arith}
-use Rattle.zoned_ffi.proofs.{Words.{Fits64, FitsSigned, refl, rules, to_z-of_z, w32}, FieldLaws.{fields_are}}
+use Rattle.zoned_ffi.proofs.{Words.{arith, Fits64, FitsSigned, refl, rules, to_z-of_z, w32}, FieldLaws.{fields_are}}
 use Rattle.zoned_ffi.proofs.fields.Fields.of.Goals as goal
 
 pub returns : goal.returns

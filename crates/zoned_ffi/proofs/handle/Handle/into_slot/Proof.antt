@@ -1,11 +1,10 @@
 -- `into_slot` tests the pointer, and gives the slot back if there is one.
 use Rattle.std.specs.{contracts.impls.GlobalAllocator.TheImpl.{ghosts}, declared.option.Option.TheVariants.{None, Some}}
 use Rattle.zoned_ffi.proofs.Words.{Goes-dropped, Good, List, Ptr, RattleType, SProp, Some-of, Stays, Val, WpFn, after, agg, alloc_all, and_then, and_tt, ap}
-use Rattle.zoned_ffi.proofs.Words.{at_ret, bin, block_ptr, branches, by, emp, enter, env, exec, fact, fact_i, first, fjoin, fld, free_all, fsep, fsplit}
-use Rattle.zoned_ffi.proofs.Words.{ftrue, get, get_in, keep, layout, leaves, lit, lit<, live, look_at, move, no_more, none_of, nothing, null_ptr, of_opd}
-use Rattle.zoned_ffi.proofs.Words.{pass_all, plain, proved_at, ptr_val, qed, raw, refl, returns, sets, sets_last, split, stay_dropped, stop, sub}
-use Rattle.zoned_ffi.proofs.Words.{suffices, tables, tests_null, type_at, use0, use1, vcons, vnil, vptr, walk_of, whole, yes, !, [], ‵, ◌$◌, ◌++◌, ◌∙◌}
-use Rattle.zoned_ffi.proofs.Words.{◌∵◌, ◌∷◌, ◌≡◌, ◌⊛◌}
+use Rattle.zoned_ffi.proofs.Words.{at_ret, bin, block_ptr, branches, by, emp, enter, env, exec, fact, fact_i, first, fjoin, fld, free_all, fsep, fsplit, ftrue}
+use Rattle.zoned_ffi.proofs.Words.{get, get_in, keep, layout, leaves, lit, lit<, live, look_at, move, no_more, none_of, nothing, null_ptr, of_opd, pass_all}
+use Rattle.zoned_ffi.proofs.Words.{plain, proved_at, ptr_val, qed, raw, refl, returns, sets, sets_last, split, stay_dropped, stop, sub, suffices, tables}
+use Rattle.zoned_ffi.proofs.Words.{tests_null, type_at, use0, use1, vcons, vnil, vptr, walk_of, whole, yes, !, [], ‵, ◌$◌, ◌++◌, ◌∙◌, ◌∵◌, ◌∷◌, ◌≡◌, ◌⊛◌}
 use Rattle.zoned_ffi.proofs.{Handles.{Hd, LZ, R, Z, handle_out, null_fits, null_fits_word, null_or_block}, Slots.{Slot, same_run, slot_fits, slot_in, two}}
 use Rattle.zoned_ffi.proofs.handle.Handle.into_slot.Statement.{statement}
 use Rattle.zoned_ffi.specs.contracts.handle.Handle.into_slot as f

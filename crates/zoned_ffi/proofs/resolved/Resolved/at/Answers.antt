@@ -1,5 +1,4 @@
-use Rattle.zoned_ffi.proofs.Words.{Fits64, FitsSigned, IsResolvedAt, ap, rules, to_z-of_z, w32}
-use Rattle.zoned_ffi.proofs.Resolving.{ended_by, resolved_by}
+use Rattle.zoned_ffi.proofs.{Words.{Fits64, FitsSigned, IsResolvedAt, ap, rules, to_z-of_z, w32}, Resolving.{ended_by, resolved_by}}
 use Rattle.zoned_ffi.proofs.resolved.Resolved.at.Goals as goal
 
 pub returns-in-Ok-InForce : goal.returns-in-Ok-InForce

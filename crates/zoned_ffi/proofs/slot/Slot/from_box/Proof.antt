@@ -2,13 +2,12 @@
 use Rattle.core.proofs.alloc.Calls.{Goes-blank, handle_tells}
 use Rattle.std_alloc.proofs.{BoxSteps.Steps.{box_in, box_out}, boxed.Box.into_raw_with_allocator.Met.{met}}
 use Rattle.zoned_ffi.proofs.Words.{List, Ptr, RattleType, RawPtr, SProp, Stays, Tuple, Val, WpFn, a_type, agg, alloc_all, and_then, ap, await, block_ptr}
-use Rattle.zoned_ffi.proofs.Words.{bounded, by, calls_at, dcons, dnil, emp, enter, fact, fact_i, feq_l, fjoin, fld, flft, fpick, framed, free_all, fsep}
-use Rattle.zoned_ffi.proofs.Words.{fsplit, fst∗, ftrue, get, get_in, heard, id⊢, in_a_block, inst_fn, join, keep, lands_as, later, layout, leaves, look_at}
-use Rattle.zoned_ffi.proofs.Words.{move, never, no, no_more, nothing, null_ptr, of_list, of_opd, only, owns, param, param_laws, pass_all, pick, plain}
-use Rattle.zoned_ffi.proofs.Words.{proved_at, ptr_val, qed, raw, refl, returns, rewrite, sem, sets, some, split, split3, stay_dropped, stop, sub}
-use Rattle.zoned_ffi.proofs.Words.{suffices, tables, triple_of, types_at, use0, use1, vptr, vstruct, walk_of, whole, !, [], ‵, ◌$◌, ◌++◌, ◌∙◌, ◌∵◌, ◌∷◌}
-use Rattle.zoned_ffi.proofs.Words.{◌≡◌, ◌⊛◌}
-use Rattle.zoned_ffi.proofs.{Slots.{block, same_run, slot_fits, slot_in, two}, slot.Slot.from_box.Statement.{statement}}
+use Rattle.zoned_ffi.proofs.Words.{bounded, by, calls_at, dcons, dnil, emp, enter, fact, fact_i, feq_l, fjoin, fld, flft, fpick, framed, free_all, fsep, fsplit}
+use Rattle.zoned_ffi.proofs.Words.{fst∗, ftrue, get, get_in, heard, id⊢, in_a_block, inst_fn, join, keep, lands_as, later, layout, leaves, look_at, move, never}
+use Rattle.zoned_ffi.proofs.Words.{no, no_more, nothing, null_ptr, of_list, of_opd, only, owns, param, param_laws, pass_all, pick, plain, proved_at, ptr_val}
+use Rattle.zoned_ffi.proofs.Words.{qed, raw, refl, returns, rewrite, sem, sets, some, split, split3, stay_dropped, stop, sub, suffices, tables, triple_of}
+use Rattle.zoned_ffi.proofs.{Words.{types_at, use0, use1, vptr, vstruct, walk_of, whole, !, [], ‵, ◌$◌, ◌++◌, ◌∙◌, ◌∵◌, ◌∷◌, ◌≡◌, ◌⊛◌}, Slots.{block, same_run}}
+use Rattle.zoned_ffi.proofs.{Slots.{slot_fits, slot_in, two}, slot.Slot.from_box.Statement.{statement}}
 use mir.Raw.{raw as bare}
 use types.Kit.{drop}
 use Rattle.std_alloc.proofs.BoxSteps.Form as box

@@ -1,13 +1,12 @@
 -- `into_box` takes the slot apart, and makes the box of its parts.
-use Rattle.core.proofs.{alloc.Calls.{Goes-blank}, alloc.Shapes.{after}, cell.Inside.{Good}}
+use Rattle.core.proofs.{alloc.{Calls.{Goes-blank}, Shapes.{after}}, cell.Inside.{Good}}
 use Rattle.std_alloc.proofs.{BoxSteps.Steps.{box_in, box_out}, boxed.Box.from_raw.Met.{met}}
 use Rattle.zoned_ffi.proofs.Words.{Lasts, List, RattleType, SProp, Stays, Val, WpFn, a_type, alloc_all, and_then, ap, at_ret, await, block_ptr, blocks, bounded}
-use Rattle.zoned_ffi.proofs.Words.{by, calls_at_last, dcons, dnil, enter, env, exec, fact, feq_i, first, fjoin, fld, flft, framed, free_all, fsplit, ftrue}
-use Rattle.zoned_ffi.proofs.Words.{get, get_in, id⊢, inst_fn, join, keep, lands_last, lasts, later, layout, leaves, look_at, move, no, no_more, nothing, of_opd}
+use Rattle.zoned_ffi.proofs.Words.{by, calls_at_last, dcons, dnil, enter, env, exec, fact, feq_i, first, fjoin, fld, flft, framed, free_all, fsplit, ftrue, get}
+use Rattle.zoned_ffi.proofs.Words.{get_in, id⊢, inst_fn, join, keep, lands_last, lasts, later, layout, leaves, look_at, move, no, no_more, nothing, of_opd}
 use Rattle.zoned_ffi.proofs.Words.{only, owns, param, param_laws, pass_all, pick, plain, proved_at, qed, raw, refl, returns, rewrite, sets, some, split, split3}
 use Rattle.zoned_ffi.proofs.Words.{stay_dropped, stop, sub, subst, suffices, sym, tables, triple_of, types_at, use1, vptr, walk_of, whole, !, [], ‵, ◌$◌, ◌++◌}
-use Rattle.zoned_ffi.proofs.Words.{◌∵◌, ◌∷◌, ◌≡◌, ◌⊑◌, ◌⊛◌}
-use Rattle.zoned_ffi.proofs.{Slots.{Slot, same_run, slot_fits, slot_out, two}, slot.Slot.into_box.Statement.{statement}}
+use Rattle.zoned_ffi.proofs.{Words.{◌∵◌, ◌∷◌, ◌≡◌, ◌⊑◌, ◌⊛◌}, Slots.{Slot, same_run, slot_fits, slot_out, two}, slot.Slot.into_box.Statement.{statement}}
 use types.Kit.{drop}
 use Rattle.std_alloc.proofs.BoxSteps.Form as box
 use Rattle.std_alloc.specs.contracts.boxed.Box.from_raw as made

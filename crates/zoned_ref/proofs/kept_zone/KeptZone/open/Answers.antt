@@ -1,14 +1,8 @@
-use Rattle.zoned_ref.proofs.Words.{arith}
+use Rattle.zoned_ref.{proofs.Words.{arith}, specs.{KeepError.{IsRefused}, Offsets.{IsNarrow}, OpenError.{IsNotOpened, reason_of}}}
+use Rattle.zoned_ref.specs.declared.keep_error.KeepError.{KeepError, TheVariants.{OutOfMemory, WideZone}}
 use Rattle.std.proofs.Common.{List, ℕ, ◌≡◌}
+use Rattle.tz_info.specs.{TzFiles.{IsTzFile, IsZoneFault.{No_memory}}, Zones.{IsValid, Zone}}
 use Rattle.tz_base.specs.declared.error.Error.TheVariants as faults
-use Rattle.tz_info.specs.TzFiles.{IsTzFile}
-use Rattle.tz_info.specs.TzFiles.IsZoneFault.{No_memory}
-use Rattle.tz_info.specs.Zones.{IsValid, Zone}
-use Rattle.zoned_ref.specs.KeepError.{IsRefused}
-use Rattle.zoned_ref.specs.Offsets.{IsNarrow}
-use Rattle.zoned_ref.specs.OpenError.{IsNotOpened, reason_of}
-use Rattle.zoned_ref.specs.declared.keep_error.KeepError.{KeepError}
-use Rattle.zoned_ref.specs.declared.keep_error.KeepError.TheVariants.{OutOfMemory, WideZone}
 use Rattle.zoned_ref.specs.declared.keep_error.OpenError.TheVariants as why
 use Rattle.zoned_ref.proofs.kept_zone.KeptZone.open.Goals as goal
 

@@ -1,5 +1,4 @@
-use Rattle.zoned_ref.proofs.Words.{SFits, arith, change_of, ints, to_z-of_z, true, w64, zone_of, zoned}
-use Rattle.zoned_ref.proofs.{Changes.{nearest_told, none_told, stand_within}}
+use Rattle.zoned_ref.proofs.{Words.{SFits, arith, change_of, ints, to_z-of_z, true, w64, zone_of, zoned}, Changes.{nearest_told, none_told, stand_within}}
 use Rattle.zoned_ref.proofs.time_zone_ref.TimeZoneRef.next_change.Goals as goal
 
 pub returns-clause-change : goal.returns-clause-change

@@ -1,5 +1,4 @@
-use Rattle.zoned_ref.proofs.Words.{SFits, arith, change_of, ints, to_z-of_z, false, w64, zone_of, zoned}
-use Rattle.zoned_ref.proofs.{Changes.{nearest_told, none_told, stand_within}}
+use Rattle.zoned_ref.proofs.{Words.{SFits, arith, change_of, ints, to_z-of_z, false, w64, zone_of, zoned}, Changes.{nearest_told, none_told, stand_within}}
 use Rattle.zoned_ref.proofs.time_zone_ref.TimeZoneRef.previous_change.Goals as goal
 
 pub returns-clause-change : goal.returns-clause-change

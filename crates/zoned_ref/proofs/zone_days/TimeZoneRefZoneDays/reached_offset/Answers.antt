@@ -1,6 +1,5 @@
 use Rattle.zoned_ref.proofs.Words.{IsReachedAt, IsWithinDay, SFits, arith, ints, off_of, reading, rules, to_z-of_z, w32, w64, ◌+ℤ◌, ◌-ℤ◌}
-use Rattle.zoned_ref.proofs.Days.{reached_ahead}
-use Rattle.zoned_ref.proofs.zone_days.TimeZoneRefZoneDays.reached_offset.Goals.{After-secs_since_epoch}
+use Rattle.zoned_ref.proofs.{Days.{reached_ahead}, zone_days.TimeZoneRefZoneDays.reached_offset.Goals.{After-secs_since_epoch}}
 use Rattle.zoned_ref.proofs.zone_days.TimeZoneRefZoneDays.reached_offset.Goals as goal
 
 -- how far the local time is ahead
