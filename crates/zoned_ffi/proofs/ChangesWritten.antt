@@ -1,6 +1,7 @@
 -- The changes of a stretch: how many there can be, and how they are written into a room.
-use Rattle.zoned_ffi.proofs.Words.{AreChanges, AreFirstWritten, Change, Contains-get_or, Fits, Fits64, List, TypeAt, WrittenChange, Zone, append-nil, arith}
-use Rattle.zoned_ffi.proofs.Words.{get_or, ints, length, length-map, map, map-append, pos, refl, slice_set, suc, take, take-append_seam, take_all, w64}
+use Rattle.tz_info.proofs.Words.{Contains-get_or, append-nil, length-map, take-append_seam}
+use Rattle.zoned_ffi.proofs.Words.{AreChanges, AreFirstWritten, Change, Fits, Fits64, List, TypeAt, WrittenChange, Zone, arith}
+use Rattle.zoned_ffi.proofs.Words.{get_or, ints, length, map, map-append, pos, refl, slice_set, suc, take, take_all, w64}
 use Rattle.zoned_ffi.proofs.Words.{written_change, written_into, zero, ℕ, ℤ, [], ◌++◌, ◌+ℤ◌, ◌+◌, ◌<◌, ◌∷◌, ◌≡◌, ◌≤ℤ◌, ◌≤◌, ◌⊎◌}
 use Rattle.std.proofs.Math.Seq.{take-nil}
 

@@ -1,11 +1,11 @@
 -- Answers to a column's times: by a lookup, and by what is kept of a stretch.
-use Rattle.zoned_ffi.proofs.Words.{All-contains, AreKeptTimes, Choice, Fits64, IsCounted, IsGreatest, IsInRange, IsInstantOf, IsInstantTaken, IsKeptOf, IsLeast}
-use Rattle.zoned_ffi.proofs.Words.{IsLocal, IsNoInstant, IsOffsetStretch, IsRowNumber, IsShownOnce, IsTakenAs, IsWithout, Kept, LieWithin, List, LocalType}
-use Rattle.zoned_ffi.proofs.Words.{MatchOption, None, OffsetStretch, Option, Shows, Some, Taken, TypeAt, Unit, Zone, ap, arith, first_second, floor_div, floors}
-use Rattle.zoned_ffi.proofs.Words.{get_or, ints, neg_ℤ, offsets, per_second, pos, refl, second_holding, subst, taken_instant, uncounted, ℕ, ℤ, ◌*ℤ◌, ◌+ℤ◌, ◌+◌}
-use Rattle.zoned_ffi.proofs.{Words.{◌-ℤ◌, ◌<ℤ◌, ◌≡◌, ◌≤ℤ◌, AreWritten, drop, length, take, take_all, ◌∙◌, ◌≤◌}, Slices.{same_behind}, Resolving.{none_is}}
-use Rattle.zoned_ffi.{proofs.Resolving.{taken_once}, specs.{Steps.KeptTimes.{IsStop}, declared.column.{Question.{Question}, Stop.{Stop}}}}
-use Rattle.zoned_ffi.specs.declared.{column.Way.TheVariants.{ToInstants, ToLocal}, resolved.Taken.TheVariants.{GapEnd, InForce, Shifted}}
+use Rattle.zoned_ffi.specs.{Columns.{IsInstantOf, IsInstantTaken, IsRowNumber, second_holding}, Steps.KeptTimes.{IsKeptOf, LieWithin, IsStop}}
+use Rattle.zoned_ffi.specs.{Units.{IsCounted, IsLocal, IsWithout, uncounted}, declared.column.{Question.{Question}, Stop.{Stop}, Way.TheVariants.{ToInstants}}}
+use Rattle.zoned_ffi.{specs.declared.{column.Way.TheVariants.{ToLocal}, resolved.Taken.TheVariants.{GapEnd, InForce, Shifted}}, proofs.Words.{All-contains}}
+use Rattle.zoned_ffi.proofs.Words.{AreKeptTimes, Choice, Fits64, IsGreatest, IsInRange, IsLeast, IsNoInstant, IsOffsetStretch, IsShownOnce, IsTakenAs, Kept}
+use Rattle.zoned_ffi.proofs.Words.{List, LocalType, MatchOption, None, OffsetStretch, Option, Shows, Some, Taken, TypeAt, Unit, Zone, ap, arith, first_second}
+use Rattle.zoned_ffi.proofs.Words.{floor_div, floors, get_or, ints, neg_ℤ, offsets, per_second, pos, refl, subst, taken_instant, ℕ, ℤ, ◌*ℤ◌, ◌+ℤ◌, ◌+◌, ◌-ℤ◌}
+use Rattle.zoned_ffi.proofs.{Words.{◌<ℤ◌, ◌≡◌, ◌≤ℤ◌, AreWritten, drop, length, take, take_all, ◌∙◌, ◌≤◌}, Slices.{same_behind}, Resolving.{none_is, taken_once}}
 use Rattle.tz_info.proofs.{ExtremeLaws.{at_least_least, at_most_greatest}, ForCallers.{type_once}}
 
 abbrev pub least : ℤ

@@ -1,8 +1,8 @@
 -- Files above the limits of a caller.
 use Rattle.std.proofs.lemmas.Option.{none-some, same_Some}
-use Rattle.zoned_ffi.proofs.Words.{FileCounts, HasCounts, IsAboveLimits, List, None, Some, arith, inl, inr, refl, ap, sym, ℕ, ◌<◌, ◌↔◌, ◌∙◌, ◌≡◌, ◌⊎◌}
+use Rattle.tz_info.proofs.{Words.{◌↔◌, FilePieces, value_once}, FilePieceLaws.{pieces_law}}
+use Rattle.zoned_ffi.proofs.Words.{FileCounts, HasCounts, IsAboveLimits, List, None, Some, arith, inl, inr, refl, ap, sym, ℕ, ◌<◌, ◌∙◌, ◌≡◌, ◌⊎◌}
 use Rattle.zoned_ffi.specs.Kinds.{kind_number}
-use Rattle.tz_info.proofs.{FilePieceLaws.{pieces_law}, Words.{FilePieces, value_once}}
 use Rattle.zoned_ffi.specs.declared.kind.Kind.TheVariants as kinds
 
 module _ (kind : ℕ) (bytes : List ℕ) (m n : ℕ) where

@@ -1,8 +1,8 @@
 -- What comes of parsing, as a call reports it.
 use Rattle.zoned_ffi.proofs.Words.{Error, IfErr, IsErrorOfKind, IsExtendedFault, IsFault, IsFileError, IsOutOfMemory, IsPosixFault, detail_number, IsPosixZone}
-use Rattle.zoned_ffi.proofs.Words.{IsReaderNumber, IsStringError, IsUtf8, IsZoneFault, IsZoneOf, Kind, List, Refusal, Result, SpellsZone, Zone, arith}
-use Rattle.zoned_ffi.{proofs.Words.{error_number, inl, inr, refusal_number, true, ℕ, ◌≡◌, ◌⊎◌}, specs.Kinds.{kind_number}}
-use Rattle.zoned_ffi.specs.Refusals.{IsErrorOfKind.{Unknown_kind}, IsFileError.{In_file}, IsStringError.{Not_utf8}}
+use Rattle.zoned_ffi.proofs.Words.{IsStringError, IsUtf8, IsZoneFault, Kind, List, Refusal, Result, Zone, arith, error_number, inl, inr, true, ℕ, ◌≡◌, ◌⊎◌}
+use Rattle.zoned_ffi.specs.{Kinds.{IsZoneOf, SpellsZone, kind_number}, Refusals.{IsReaderNumber, refusal_number, IsErrorOfKind.{Unknown_kind}}}
+use Rattle.zoned_ffi.specs.Refusals.{IsFileError.{In_file}, IsStringError.{Not_utf8}}
 use Rattle.tz_info.specs.{PosixZones.{IsExtendedZone}, TzGrammar.{IsTextFault}}
 use Rattle.tz_base.specs.declared.error.Error.TheVariants as errors
 use Rattle.zoned_ffi.specs.declared.kind.Kind.TheVariants as kinds

@@ -2,11 +2,11 @@
 use Rattle.offset_core.specs.declared.around.{Around.{Around, TheVariants.{Gap, Single}}, Taken.{Taken as Found, TheVariants.{InGap, Shown}}}
 use Rattle.offset_core.specs.declared.{resolve_error.ResolveError.{ResolveError}, choice.{FoldChoice.{FoldChoice}, GapChoice.{GapChoice}}}
 use Rattle.tz_base.specs.declared.change.Change.{Change}
-use Rattle.tz_info.specs.Around.{AreTypesAround, map_both}
-use Rattle.zoned_ffi.proofs.Words.{Choice, IsFirstAtOrAfter, IsTakenGapEnd, IsNoneTaken, IsInRange, IsWrittenOffsetAt, IsReachedAt, IsResolvedAt, IsShownOnce}
-use Rattle.zoned_ffi.proofs.Words.{arith, IsResolvedStamp, IsTakenType, IsTakenAs, IsUtOffset, LocalType, Resolved, Shows, TypeAt, Zone, inl, inr, ℤ}
-use Rattle.zoned_ffi.proofs.Words.{+ℤ-neg_ℤ_cancel, ap, sym, ◌∙◌, ◌-ℤ◌, Err, Ok, Result, TakesOf, policy_of, refl, taken_in_range, taken_of, ℕ, ◌≡◌, ◌≢◌, ◌⊎◌}
-use Rattle.zoned_ffi.specs.declared.resolved.Taken.TheVariants.{InForce}
+use Rattle.tz_info.{specs.Around.{AreTypesAround, map_both}, proofs.Words.{IsFirstAtOrAfter, ◌≢◌}}
+use Rattle.zoned_ffi.{specs.{Resolved.{IsNoneTaken, IsTakenGapEnd, TakesOf}, declared.resolved.Taken.TheVariants.{InForce}}, proofs.Words.{Choice, IsInRange}}
+use Rattle.zoned_ffi.proofs.Words.{IsWrittenOffsetAt, IsReachedAt, IsResolvedAt, IsShownOnce, arith, IsResolvedStamp, IsTakenType, IsTakenAs, IsUtOffset}
+use Rattle.zoned_ffi.proofs.Words.{LocalType, Resolved, Shows, TypeAt, Zone, inl, inr, ℤ, +ℤ-neg_ℤ_cancel, ap, sym, ◌∙◌, ◌-ℤ◌, Err, Ok, Result, policy_of, refl}
+use Rattle.zoned_ffi.proofs.Words.{taken_in_range, taken_of, ℕ, ◌≡◌, ◌⊎◌}
 use Rattle.zoned_ffi.specs.declared.choice.ChoiceInGap.TheVariants as in_gap
 use Rattle.offset_core.specs.declared.choice.Choice as any_choice
 use Rattle.offset_core.specs.declared.choice.FoldChoice.TheVariants as folds
@@ -53,8 +53,7 @@ module _ (z : Zone) (local : ℤ) (choice : Choice) where
       (r o : Result (Found T G) ResolveError)
       → AreTypesAround (TypeAt z) local (map_both f g a) → p ≡ policy_of choice → r ≡ taken_of p a → r ≡ o → TakesOf z local choice (images f g o)
   taken_as f g a p r o right policy found is =
-      let of_policy = ap (λ q. taken_of q (map_both f g a)) (sym policy) in
-      record { around = map_both f g a; right = right; taken = of_policy ∙ taken_images f g p.gap p.fold a ∙ ap (images f g) (sym found ∙ is) }
+      record { around = map_both f g a; right = right; taken = cc (taken_images f g p.gap p.fold a) }
 
   -- a local time that one second shows is taken by every choice
   pub taken_once : (t : LocalType) → IsShownOnce (Shows (TypeAt z) local) t → IsTakenType z local choice t

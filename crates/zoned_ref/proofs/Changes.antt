@@ -1,8 +1,8 @@
 -- The changes of a zone's types as instants, and that clocks keep their type between them.
-use Rattle.tz_info.specs.Steps.Changes.{IsAheadUpTo as IsBetween}
-use Rattle.zoned_ref.proofs.Words.{AreAround, AreOffsetsOf, Bool, Change, HasNoChange, IfSome, IsAfter, IsAhead, IsAt, IsInRange, IsNearest, IsNearestChange}
-use Rattle.zoned_ref.proofs.Words.{IsUpTo, Law, LocalType, MatchOption, Meaning, Option, Precedes, StandAlike, StandWithin, TypeAt, Zone, Zoned, arith}
-use Rattle.zoned_ref.proofs.Words.{change_of_instants, false, ints, of_secs, option_map, pos, stays, subst, true, type_once, ℤ, ◌-ℤ◌, ◌≡◌, ◌≤ℤ◌}
+use Rattle.tz_info.{specs.Steps.Changes.{IsAheadUpTo as IsBetween}, proofs.Words.{HasNoChange, IfSome, IsAhead, IsNearest, IsNearestChange, Precedes}}
+use Rattle.zoned_ref.{specs.ZoneChange.{AreAround, IsUpTo, StandAlike, StandWithin, change_of_instants}, proofs.Words.{AreOffsetsOf, Bool, Change, IsAfter}}
+use Rattle.zoned_ref.proofs.Words.{IsAt, IsInRange, Law, LocalType, MatchOption, Meaning, Option, TypeAt, Zone, Zoned, arith, false, ints, of_secs, option_map}
+use Rattle.zoned_ref.proofs.Words.{pos, stays, subst, true, type_once, ℤ, ◌-ℤ◌, ◌≡◌, ◌≤ℤ◌}
 
 -- ---- the nearest change that instants show
 -- in that direction from the second s on, as far as both its seconds are in range

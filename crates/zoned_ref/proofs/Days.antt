@@ -1,10 +1,9 @@
 -- When clocks show certain local times: by the types in force as by their offsets.
-use Rattle.zoned_ref.proofs.Words.{AreEndsOfDay, AreEndsWithin, AreOffsetsOf, HasReached, IsFirstAtOrAfter, IsFirstToReach, IsNarrow, IsNeverOnDay, IsAt}
-use Rattle.zoned_ref.proofs.Words.{IsFirstSecondOutOfRange, IsInRange, IsNeverWithin, IsOffsetStretch, IsOnDay, IsReachedAt, IsWithinDay, IsZonedFirst, Law}
-use Rattle.zoned_ref.proofs.Words.{MatchOption, Meaning, None, Option, Reading, Some, Zoned, of_secs, refl, subst, IsWide, IsWideDay, IsZoneSecond, LocalType}
-use Rattle.zoned_ref.proofs.Words.{ShownSeconds, ShowsWithin, TypeAt, Zone, ap, arith, ints, pos, sym, type_once, ℤ, ◌*ℤ◌, ◌+ℤ◌, ◌-ℤ◌, ◌<ℤ◌, ◌∙◌, ◌≡◌, ◌≤ℤ◌}
-use Rattle.zoned_ref.proofs.Offsets.{type_within}
-use Rattle.tz_info.specs.Reached.{IsLastReached}
+use Rattle.tz_info.{proofs.Words.{AreEndsWithin, IsFirstAtOrAfter, IsNeverWithin, ShowsWithin}, specs.Reached.{IsLastReached}}
+use Rattle.zoned_time.proofs.Words.{HasReached, IsFirstToReach, IsFirstSecondOutOfRange, IsZonedFirst, IsOffsetStretch, IsOnDay, IsWideDay, ◌<ℤ◌}
+use Rattle.zoned_ref.proofs.Words.{AreEndsOfDay, AreOffsetsOf, IsNarrow, IsNeverOnDay, IsAt, IsInRange, IsReachedAt, IsWithinDay, Law, MatchOption, Meaning}
+use Rattle.zoned_ref.proofs.Words.{None, Option, Reading, Some, Zoned, of_secs, refl, subst, IsWide, IsZoneSecond, LocalType, ShownSeconds, TypeAt, Zone, ap}
+use Rattle.zoned_ref.proofs.{Words.{arith, ints, pos, sym, type_once, ℤ, ◌*ℤ◌, ◌+ℤ◌, ◌-ℤ◌, ◌∙◌, ◌≡◌, ◌≤ℤ◌}, Offsets.{type_within}}
 
 abbrev OnDayByType : Zone → ℤ → ℤ → LocalType → Type 0
 OnDayByType z day u t = ShowsWithin (TypeAt z) (pos 86_400 *ℤ day) (pos 86_400 *ℤ day +ℤ pos 86_400) u t

@@ -1,7 +1,7 @@
 -- A zone is narrow if its least and its greatest offset are less than a day away from UTC.
-use Rattle.zoned_ref.proofs.Words.{All, All-append, All-contains, All-contains_itself, All-map, Contains-append_left, Contains-append_right, IsGreatest}
-use Rattle.zoned_ref.proofs.Words.{IsLeast, IsNarrow, IsWithinDay, List, LocalType, Option, TransitionRule, Zone, arith, get_or, get_or-map, ints, length-map}
-use Rattle.zoned_ref.proofs.Words.{map, offsets, rule_offsets, rule_types, subst, ℤ, ◌++◌, ◌≡◌}
+use Rattle.tz_info.proofs.Words.{All-contains, Contains-append_left, Contains-append_right, IsGreatest, IsLeast, length-map, map, offsets, rule_offsets}
+use Rattle.zoned_ref.proofs.Words.{All, All-append, All-contains_itself, All-map, IsNarrow, IsWithinDay, List, LocalType, Option, TransitionRule, Zone, arith}
+use Rattle.zoned_ref.proofs.Words.{get_or, get_or-map, ints, rule_types, subst, ℤ, ◌++◌, ◌≡◌}
 
 abbrev of_types : List LocalType → List ℤ
 of_types types = map (λ t. t.offset) types

@@ -1,11 +1,11 @@
 -- A valid zone has one offset at each second that zones answer in.
 use Rattle.std.proofs.Math.Logic.{∥∥₁_elim}
-use Rattle.tz_info.specs.declared.rule.transition_rule.TransitionRule.TheVariants.{Alternate, Fixed}
-use Rattle.zoned_ref.proofs.Words.{All, Alternate as AlternateRule, AreOffsetsOf, Bool, Coded-set, HasOffset, HasOffsets, HasOneOffset, IsNarrow, IsRefusedBy}
-use Rattle.zoned_ref.proofs.Words.{IsRuleOrNone, IsTypeOf, IsTypeRefused, IsValid, IsWithinDay, IsZoneSecond, List, LocalType, None, Option, Some}
-use Rattle.zoned_ref.proofs.Words.{TransitionRule, TypeAt, Zone, arith, by_leap_time, by_rule, coded_ℤ, floor_div, inl, inr, ints, leap_times_answer, lies_in}
-use Rattle.zoned_ref.proofs.Words.{offset_at, offset_with, one_offset, refl, rule_types, rule_year, slice_get, subst, suc, type_decided, type_listed, type_when}
-use Rattle.zoned_ref.proofs.Words.{zero, ℕ, ℤ, [], ◌∙◌, ◌∷◌, ◌≡◌}
+use Rattle.tz_info.{specs.declared.rule.transition_rule.TransitionRule.TheVariants.{Alternate, Fixed}, proofs.Words.{Alternate as AlternateRule, IsRefusedBy}}
+use Rattle.tz_info.proofs.{Words.{IsTypeOf, IsTypeRefused, by_leap_time, by_rule, slice_get, type_when}, ForCallers.{leap_times_answer, rule_year, type_listed}}
+use Rattle.zoned_ref.{specs.Offsets.{HasOffset, HasOffsets, HasOneOffset}, proofs.Words.{All, AreOffsetsOf, Bool, Coded-set}}
+use Rattle.zoned_ref.proofs.Words.{IsNarrow, IsRuleOrNone, IsValid, IsWithinDay, IsZoneSecond, List, LocalType, None, Option, Some, TransitionRule, TypeAt}
+use Rattle.zoned_ref.proofs.Words.{Zone, arith, coded_ℤ, floor_div, inl, inr, ints, lies_in, offset_at, offset_with, one_offset, refl, rule_types, subst, suc}
+use Rattle.zoned_ref.proofs.Words.{type_decided, zero, ℕ, ℤ, [], ◌∙◌, ◌∷◌, ◌≡◌}
 
 -- a rule answers in the years of the range
 rule_not_refused : (rule : Option TransitionRule) (u : ℤ) → IsZoneSecond u → IsRefusedBy rule u → ⊥

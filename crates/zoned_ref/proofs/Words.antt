@@ -4,21 +4,15 @@ pub use Rattle.std.specs.Coded.{coded_ℤ}
 pub use Rattle.offset_core.{proofs.ForCallers.{IsWallAnswer-map_of}, specs.declared.{choice.Choice.{Choice}, local_result.LocalResult.{LocalResult}}}
 pub use Rattle.offset_core.specs.declared.resolve_error.ResolveError.{ResolveError}
 pub use Rattle.tz_base.specs.declared.change.Change.{Change}
-pub use Rattle.tz_info.proofs.ForCallers.{leap_times_answer, one_nearest, rule_year, stays, type_decided, type_listed, type_not_refused, type_once}
-pub use Rattle.tz_info.proofs.{ForCallers.{wall_decided}, Words.{All, All-append, All-contains, Alternate, AreEndsWithin, Bool, Contains-append_left}}
-pub use Rattle.tz_info.proofs.Words.{Contains-append_right, FitsSigned, HasNoChange, IfSome, IsAhead, IsFirst, IsFirstAtOrAfter, IsGreatest, IsLeast, IsNearest}
-pub use Rattle.tz_info.proofs.Words.{IsNearestChange, IsNeverWithin, Precedes, IsRefusedBy, IsRuleOrNone, IsTypeOf, IsTypeRefused, IsValid, LocalType}
-pub use Rattle.tz_info.proofs.Words.{ShowsWithin, TypeAt, Zone, by_leap_time, by_rule, false, get_or, length, length-map, lies_in, map, offsets, rule_offsets}
-pub use Rattle.tz_info.{proofs.Words.{slice_get, true, type_when}, specs.declared.rule.transition_rule.TransitionRule.{TransitionRule}}
-pub use Rattle.tz_info.specs.declared.zone.ask.shown_seconds.ShownSeconds.{ShownSeconds}
-pub use Rattle.zoned_time.proofs.{ForCallers.{choice_decided, same_itself}, Words.{AreEndsOfDay, HasInstant, HasReached, IsAt, IsBeforeGap, IsFirstToReach}}
-pub use Rattle.zoned_time.proofs.Words.{IsInRange, IsNeverOnDay, IsOffsetBeforeGap, IsFirstSecondOutOfRange, IsReachedAt, IsZonedFirst, IsOffsetStretch}
-pub use Rattle.zoned_time.proofs.Words.{IsOnDay, IsTaken, IsUnresolved, IsWallAnswer, IsWide, IsWideDay, IsWithinDay, IsZoneSecond, Law, List, MatchOption}
-pub use Rattle.zoned_time.proofs.Words.{Meaning, Reading, SFits, SameLaw, SomeIff, Zoned, all_or_none, ap, arith, floor_div, home_law, in_seconds, inl, inr}
-pub use Rattle.zoned_time.proofs.Words.{instant_of, ints, map_of, of_secs, one_wall_answer, option_map, pos, reading, refl, rules, seconds_of, subst, suc, sym}
-pub use Rattle.zoned_time.proofs.Words.{to_z-of_z, w32, w64, zero, zoned, ℕ, ℤ, [], ◌*ℤ◌, ◌++◌, ◌+ℤ◌, ◌-ℤ◌, ◌∙◌, ◌<ℤ◌, ◌∷◌, ◌≡◌, ◌≤ℤ◌, ◌⊎◌}
+pub use Rattle.tz_info.proofs.{ForCallers.{one_nearest, stays, type_decided, type_not_refused, type_once, wall_decided}, Words.{All, All-append, Bool}}
+pub use Rattle.tz_info.proofs.Words.{FitsSigned, IsFirst, IsRuleOrNone, IsValid, LocalType, TypeAt, Zone, false, get_or, length, lies_in, true}
+pub use Rattle.tz_info.specs.declared.{rule.transition_rule.TransitionRule.{TransitionRule}, zone.ask.shown_seconds.ShownSeconds.{ShownSeconds}}
+pub use Rattle.zoned_time.proofs.{ForCallers.{choice_decided, same_itself}, Words.{AreEndsOfDay, HasInstant, IsAt, IsBeforeGap, IsInRange, IsNeverOnDay}}
+pub use Rattle.zoned_time.proofs.Words.{IsOffsetBeforeGap, IsReachedAt, IsTaken, IsUnresolved, IsWallAnswer, IsWide, IsWithinDay, IsZoneSecond, Law, List}
+pub use Rattle.zoned_time.proofs.Words.{MatchOption, Meaning, Reading, SFits, SameLaw, SomeIff, Zoned, all_or_none, ap, arith, floor_div, home_law, in_seconds}
+pub use Rattle.zoned_time.proofs.Words.{inl, inr, instant_of, ints, map_of, of_secs, one_wall_answer, option_map, pos, reading, refl, rules, seconds_of, subst}
+pub use Rattle.zoned_time.proofs.Words.{suc, sym, to_z-of_z, w32, w64, zero, zoned, ℕ, ℤ, [], ◌*ℤ◌, ◌++◌, ◌+ℤ◌, ◌-ℤ◌, ◌∙◌, ◌∷◌, ◌≡◌, ◌≤ℤ◌, ◌⊎◌}
 unfoldable pub use Rattle.zoned_time.proofs.Words.{year_of}
-pub use Rattle.zoned_ref.specs.{Instants.{AreInstantsAt, AreTypesFor}, OffsetAt.{offset_at, offset_with}, Offsets.{AreOffsetsOf, HasOffset, HasOffsets}}
-pub use Rattle.zoned_ref.specs.{Offsets.{HasOneOffset, IsNarrow, rule_types}, Steps.OffsetAt.{one_offset}, TimeZoneRef.{off_of, zone_of}}
-pub use Rattle.zoned_ref.specs.{ZoneChange.{AreAround, IsAfter, IsUpTo, StandAlike, StandWithin, change_of, change_of_instants}, ZoneOffset.{law_of}}
-pub use Rattle.zoned_ref.specs.{ZoneOffset.{meaning_of, type_of}, declared.{time_zone_ref.TimeZoneRef.{TimeZoneRef}, zone_offset.ZoneOffset.{ZoneOffset}}}
+pub use Rattle.zoned_ref.specs.{OffsetAt.{offset_at, offset_with}, Offsets.{AreOffsetsOf, IsNarrow, rule_types}, Steps.OffsetAt.{one_offset}}
+pub use Rattle.zoned_ref.specs.{TimeZoneRef.{off_of, zone_of}, ZoneChange.{IsAfter, change_of}, ZoneOffset.{law_of, meaning_of, type_of}}
+pub use Rattle.zoned_ref.specs.declared.{time_zone_ref.TimeZoneRef.{TimeZoneRef}, zone_offset.ZoneOffset.{ZoneOffset}}

@@ -5,7 +5,7 @@ use Rattle.zoned_ffi.proofs.pins.fields.Goals as goal
 pub returns-clause-leap_day : goal.returns-clause-leap_day
 unfolding day_number year_start days_of_months
 returns-clause-leap_day c = record {
-  date_time = record { date = (omega arith, omega arith, omega arith, omega arith); time = (omega arith, omega arith, omega arith) };
+  date_time = record { date = grind arith; time = grind arith };
   names = refl;
   weekday = refl;
   day_of_year = refl;

@@ -5,4 +5,4 @@ pub returns-clause-no_rule : goal.returns-clause-no_rule
 returns-clause-no_rule c = IsRuleString.no_rule
 
 pub returns-clause-spelled : goal.returns-clause-spelled
-returns-clause-spelled c = λ rule text written. IsRuleString.spelled rule text true written
+returns-clause-spelled c rule text written = IsRuleString.spelled rule text true written
