@@ -5,7 +5,7 @@ pub use Rattle.offset_core.{proofs.ForCallers.{IsWallAnswer-map_of}, specs.decla
 pub use Rattle.offset_core.specs.declared.resolve_error.ResolveError.{ResolveError}
 pub use Rattle.tz_base.specs.declared.change.Change.{Change}
 pub use Rattle.tz_info.proofs.{ForCallers.{one_nearest, stays, type_decided, type_not_refused, type_once, wall_decided}, Words.{All, All-append, Bool}}
-pub use Rattle.tz_info.proofs.Words.{FitsSigned, IsFirst, IsRuleOrNone, IsValid, LocalType, TypeAt, Zone, false, get_or, length, lies_in, true}
+pub use Rattle.tz_info.proofs.Words.{FitsSigned, IsFirst, IsRuleOrNone, IsValid, LocalType, TypeAt, Zone, false, get_or, length, lies_in, true, ◌<◌, ◌≢◌}
 pub use Rattle.tz_info.specs.declared.{rule.transition_rule.TransitionRule.{TransitionRule}, zone.ask.shown_seconds.ShownSeconds.{ShownSeconds}}
 pub use Rattle.zoned_time.proofs.{ForCallers.{choice_decided, same_itself}, Words.{AreEndsOfDay, HasInstant, IsAt, IsBeforeGap, IsInRange, IsNeverOnDay}}
 pub use Rattle.zoned_time.proofs.Words.{IsOffsetBeforeGap, IsReachedAt, IsTaken, IsUnresolved, IsWallAnswer, IsWide, IsWithinDay, IsZoneSecond, Law, List}
